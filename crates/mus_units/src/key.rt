@@ -1,0 +1,35 @@
+use crate::pitch::{Alter, Letter};
+use crate::text::Row;
+
+/// An entry of a key signature.
+#[derive(Clone, Copy, Debug, PartialEq, Eq)]
+pub struct Sign {
+    pub letter: Letter,
+    pub alter: Alter,
+}
+
+/// A key signature: its entries in the order in which they are drawn, at most
+/// one per letter.
+#[derive(Debug, Drop)]
+pub struct Key {
+    pub signs: Row<Sign>,
+}
+
+/// A meter. `Common` and `Cut` are the signs C and C with a stroke, which
+/// count as 4/4 and 2/2.
+#[derive(Clone, Copy, Debug, PartialEq, Eq)]
+pub enum Meter {
+    Free,
+    Common,
+    Cut,
+    Ratio { num: u8, den: u8 },
+}
+
+/// How far a sign before a note reaches to later notes of its measure: not at
+/// all, to its own letter and octave, or to its letter in every octave.
+#[derive(Clone, Copy, Debug, PartialEq, Eq)]
+pub enum Spread {
+    Not,
+    Octave,
+    Pitch,
+}

@@ -1,0 +1,25 @@
+//! The plain types of the engraver, and what is computed from them alone.
+//!
+//! Lists of bytes and of values that contracts see as lists; note values and
+//! their ticks; pitches and their heights on a staff; keys and meters; heads,
+//! bars and decorations as written; the names of glyphs.
+#![tactic(auto)]
+
+pub mod glyph;
+pub mod key;
+pub mod note;
+pub mod parts;
+pub mod pitch;
+pub mod text;
+pub mod value;
+
+pub use glyph::{Glyph, Size, Way};
+pub use key::{Key, Meter, Sign, Spread};
+pub use note::{Bar, Deco, Head, Wish};
+pub use parts::{parts_of, value_of};
+pub use pitch::{Alter, Clef, Letter, Pitch, height};
+pub use text::{Memory, Row, Text};
+pub use value::{Base, Frac, Value, WHOLE, ticks_of};
+
+#[cfg(test)]
+mod tests;

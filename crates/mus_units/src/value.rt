@@ -1,0 +1,64 @@
+ghost use Rattle.std.specs.Prelude.{◌≡◌, ◌≤◌};
+ghost use Rattle.mus_units.specs.Value.{base_length, value_length};
+
+/// The ticks of a whole note, 2^15 * 3^4 * 5^2 * 7^2, so that every length with
+/// tuplets two deep is a whole number of ticks.
+pub const WHOLE: u64 = 3_251_404_800;
+
+/// A fraction as written, not reduced.
+#[derive(Clone, Copy, Debug, PartialEq, Eq)]
+pub struct Frac {
+    pub num: u64,
+    pub den: u64,
+}
+
+/// The length of a note without dots, from two whole notes to a 64th.
+#[derive(Clone, Copy, Debug, PartialEq, Eq)]
+pub enum Base {
+    Breve,
+    Whole,
+    Half,
+    Quarter,
+    Eighth,
+    N16,
+    N32,
+    N64,
+}
+
+/// A base with up to three dots: its length is the base and its halves, one for
+/// each dot.
+#[derive(Clone, Copy, Debug, PartialEq, Eq)]
+pub struct Value {
+    pub base: Base,
+    pub dots: u8,
+}
+
+/// The ticks of a base.
+fn base_ticks(base: Base) -> u64
+    ensures { result ≡ base_length base }
+{
+    match base {
+        Base::Breve => 2 * WHOLE,
+        Base::Whole => WHOLE,
+        Base::Half => WHOLE / 2,
+        Base::Quarter => WHOLE / 4,
+        Base::Eighth => WHOLE / 8,
+        Base::N16 => WHOLE / 16,
+        Base::N32 => WHOLE / 32,
+        Base::N64 => WHOLE / 64,
+    }
+}
+
+/// The length of a value in ticks. Takes no memory.
+pub fn ticks_of(v: Value) -> u64
+    requires { v.dots ≤ 3 }
+    ensures { result ≡ value_length v }
+{
+    let base = base_ticks(v.base);
+    match v.dots {
+        0 => base,
+        1 => base + base / 2,
+        2 => base + base / 2 + base / 4,
+        _ => base + base / 2 + base / 4 + base / 8,
+    }
+}
