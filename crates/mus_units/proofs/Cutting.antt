@@ -33,6 +33,7 @@ pub cut_more : (all : ℕ) (so_far next : List Value) (left rest : ℕ) (v : Val
 cut_more all so_far next left rest v cut longest some less is = rw (is, less) (record { goes = goes; only = only }) where
   goes : (vs : List Value) → ArePartsOf (left - units_of v) vs → ArePartsOf all ((so_far ++ v ∷ []) ++ vs)
   goes vs h = subst (ArePartsOf all) (sym (append_assoc so_far (v ∷ []) vs)) (cut.goes (v ∷ vs) (longest, h))
+
   by_list : (vs ws : List Value) → length vs ≡ length so_far + length ws → ArePartsOf left ws → (us : List Value) × (length vs ≡ length (so_far ++ v ∷ []) + length us) × ArePartsOf (left - units_of v) us
   by_list vs [] e h = absurd (omega arith)
   by_list vs (w ∷ us) e h =
@@ -40,6 +41,7 @@ cut_more all so_far next left rest v cut longest some less is = rw (is, less) (r
       let one = length-append so_far (v ∷ []) in
       let sum : length vs ≡ length (so_far ++ v ∷ []) + length us = omega arith in
       (us, sum, subst (λ u. ArePartsOf (left - u) us) same h.1)
+
   only : (vs : List Value) → ArePartsOf all vs → (us : List Value) × (length vs ≡ length (so_far ++ v ∷ []) + length us) × ArePartsOf (left - units_of v) us
   only vs h = let c = cut.only vs h in by_list vs c.0 c.1 c.2
 
@@ -48,8 +50,10 @@ pub none_fits : (num den all left : ℕ) (so_far vs : List Value) → ((left oth
 none_fits num den all left so_far vs only is cut some short h = by_list c.0 c.2 where
   same : h.parts.0 ≡ all
   same = only h.parts.0 all h.parts.1 is
+
   c : (ws : List Value) × (length vs ≡ length so_far + length ws) × ArePartsOf left ws
   c = cut.only vs (subst (λ l. ArePartsOf l vs) same h.parts.2)
+
   by_list : (ws : List Value) → ArePartsOf left ws → ⊥
   by_list [] e = let k = e in omega arith
   by_list (w ∷ ws) e = let k = value_some w in let m = e.0.within in omega arith
@@ -59,8 +63,10 @@ pub eight_few : (num den all left : ℕ) (so_far vs : List Value) → ((left oth
 eight_few num den all left so_far vs only is cut some eight h = by_list c.0 c.1 c.2 where
   same : h.parts.0 ≡ all
   same = only h.parts.0 all h.parts.1 is
+
   c : (ws : List Value) × (length vs ≡ length so_far + length ws) × ArePartsOf left ws
   c = cut.only vs (subst (λ l. ArePartsOf l vs) same h.parts.2)
+
   by_list : (ws : List Value) → length vs ≡ length so_far + length ws → ArePartsOf left ws → ⊥
   by_list [] e p = let k = p in omega arith
   by_list (w ∷ ws) e p = let few = h.few in omega arith
@@ -69,8 +75,10 @@ pub parts_made : (num den all left : ℕ) (so_far : List Value) → all * den �
 parts_made num den all left so_far is some cut none few = record { some = by_list so_far made; few = few; parts = (all, is, made) } where
   made : ArePartsOf all so_far
   made = subst (ArePartsOf all) (append-nil so_far) (cut.goes [] none)
+
   none_of : all ≡ 0 → ⊥
   none_of k = let m : 0 * den ≡ 512 * num = subst (λ a. a * den ≡ 512 * num) k is in omega arith
+
   by_list : (vs : List Value) → ArePartsOf all vs → 1 ≤ length vs
   by_list [] e = let k : all ≡ 0 = e in absurd (none_of k)
   by_list (v ∷ vs) e = omega arith

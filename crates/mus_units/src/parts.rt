@@ -3,9 +3,9 @@ ghost use Rattle.mus_units.specs.declared.value.Value.{Value};
 ghost use Rattle.mus_units.specs.Parts.{IsValueOf, IsPartsOf, IsLongest, base_units, units_of, ArePartsOf};
 ghost use Rattle.mus_units.specs.Value.{with_dots};
 
-use std::alloc::Global;
 use crate::text::{Memory, Row};
 use crate::value::{Base, Value};
+use std::alloc::Global;
 
 /// The 512ths of a whole note in a base.
 fn units_of_base(base: Base) -> u64
@@ -107,7 +107,11 @@ fn whole_units(num: u64, den: u64) -> Option<u128>
 {
     let all = 512 * u128::from(num);
     let den = u128::from(den);
-    if all % den == 0 { Some(all / den) } else { None }
+    if all % den == 0 {
+        Some(all / den)
+    } else {
+        None
+    }
 }
 
 /// The value whose length is `num / den` of a whole note. None exactly where no

@@ -1,0 +1,24 @@
+-- Good lines and tunes: what each call that takes one asks, and each that makes one gives.
+use Rattle.std.specs.Prelude.{◌≡◌, ◌≤◌, ◌<◌, ◌+◌, ◌^◌, ⊤, ℕ, List, [], ◌∷◌, length, sum, map}
+use Rattle.abc_lines.specs.declared.book.Line.{Line}
+use Rattle.abc_lines.specs.declared.book.TuneText.{TuneText}
+
+-- a line has at most 2^30 bytes
+abbrev pub IsGoodLine : Line → Type 0
+IsGoodLine line = length line.text ≤ 2 ^ 30
+
+-- each line stands behind the one before it
+abbrev pub NumbersRise : List Line → Type 0
+NumbersRise [] = ⊤
+NumbersRise (line ∷ []) = ⊤
+NumbersRise (line ∷ next ∷ lines) = (line.number < next.number) × NumbersRise (next ∷ lines)
+
+-- the bytes of all lines together
+abbrev pub size_of : List Line → ℕ
+size_of lines = sum (map (λ line. length line.text) lines)
+
+-- a tune has at least one line, its lines' numbers rise, and they have at most 2^30 bytes together
+pub record IsGoodTune (tune : TuneText) : Type 0 where
+  pub some : 1 ≤ length tune.lines
+  pub rise : NumbersRise tune.lines
+  pub small : size_of tune.lines ≤ 2 ^ 30
