@@ -1,0 +1,21 @@
+//! Sources of bytes and sinks for them, which count their faults.
+//!
+//! Two traits, forms over memory that give and take in pieces and fail where
+//! they are told to, adapters over real streams, and reading and writing of a
+//! whole text with the cause of every failure.
+#![tactic(auto)]
+
+pub mod memory;
+pub mod reading;
+pub mod standard;
+pub mod traits;
+pub mod writing;
+
+pub use memory::{MemSink, MemSource};
+pub use reading::{ReadError, read_all};
+pub use standard::{StdSink, StdSource};
+pub use traits::{Failed, Sink, Source};
+pub use writing::{WriteError, write_all};
+
+#[cfg(test)]
+mod tests;

@@ -1,0 +1,12 @@
+use Rattle.std.proofs.Common.{rules, subst, sym}
+use Rattle.glyph_paths.specs.Outlines.{outline_of}
+use Rattle.glyph_paths.specs.Bounds.{AreBounds, bounds_in}
+use Rattle.glyph_paths.proofs.BoundLaws.{bounds_are}
+use Rattle.glyph_paths.proofs.bounds.bounds_of.Goals as goal
+
+pub returns-clause-value : goal.returns-clause-value
+unfolding bounds_in
+returns-clause-value c = search rules
+
+pub returns-clause-bounds : goal.returns-clause-bounds
+returns-clause-bounds c = subst (AreBounds (outline_of c.args.g)) (sym (returns-clause-value c)) (bounds_are c.args.g)

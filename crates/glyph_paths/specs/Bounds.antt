@@ -1,0 +1,69 @@
+-- The bounds of a glyph: the least and greatest abscissa and ordinate over all points of its path, control points
+-- included, and all 0 where the path has no point.
+use Rattle.std.specs.Prelude.{◌≡◌, ◌≤ℤ◌, ◌⊎◌, ℤ, pos, List, [], ◌∷◌, All, Contains}
+use Rattle.std.specs.Int.{int_min, int_max}
+use Rattle.std.specs.List.{flat_map, fold}
+use Rattle.mus_units.specs.declared.glyph.Glyph.{Glyph}
+use Rattle.glyph_paths.specs.declared.paths.PathOp.{PathOp}
+use Rattle.glyph_paths.specs.declared.paths.PathOp.TheVariants as ops
+use Rattle.glyph_paths.specs.declared.bounds.Bounds.{Bounds}
+use Rattle.glyph_paths.specs.declared.bounds.Axis.{Axis}
+use Rattle.glyph_paths.specs.declared.bounds.Axis.TheVariants as axes
+use Rattle.glyph_paths.specs.declared.bounds.End.{End}
+use Rattle.glyph_paths.specs.declared.bounds.End.TheVariants as ends
+use Rattle.glyph_paths.specs.Outlines.{outline_of}
+
+-- one coordinate of a point
+unfoldable pub coordinate : Axis → ℤ → ℤ → ℤ
+coordinate axes.Abscissa x y = x
+coordinate axes.Ordinate x y = y
+
+-- a coordinate of each point of a step, control points included
+abbrev pub along : Axis → PathOp → List ℤ
+along axis (ops.Move x y) = coordinate axis x y ∷ []
+along axis (ops.Line x y) = coordinate axis x y ∷ []
+along axis (ops.Curve a b c d x y) = coordinate axis a b ∷ coordinate axis c d ∷ coordinate axis x y ∷ []
+along axis ops.Fill = []
+along axis ops.Stroke = []
+
+-- a coordinate of each point of a path
+unfoldable pub coordinates : Axis → List PathOp → List ℤ
+coordinates axis steps = flat_map (along axis) steps
+
+-- the least of some numbers is one of them, and none is less; without any it is 0
+abbrev pub IsLeast : List ℤ → ℤ → Type 0
+IsLeast zs z = All (λ other. z ≤ℤ other) zs × (Contains zs z ⊎ ((zs ≡ []) × (z ≡ pos 0)))
+
+-- the greatest of some numbers likewise
+abbrev pub IsGreatest : List ℤ → ℤ → Type 0
+IsGreatest zs z = All (λ other. other ≤ℤ z) zs × (Contains zs z ⊎ ((zs ≡ []) × (z ≡ pos 0)))
+
+-- what the bounds of a path are
+pub record AreBounds (steps : List PathOp) (bounds : Bounds) : Type 0 where
+  pub left : IsLeast (coordinates axes.Abscissa steps) bounds.left
+  pub low : IsLeast (coordinates axes.Ordinate steps) bounds.low
+  pub right : IsGreatest (coordinates axes.Abscissa steps) bounds.right
+  pub high : IsGreatest (coordinates axes.Ordinate steps) bounds.high
+
+-- The same as a function, for the definitions of the crates above.
+unfoldable pub further : End → ℤ → ℤ → ℤ
+further ends.Least = int_min
+further ends.Greatest = int_max
+
+abbrev pub furthest : End → ℤ → List ℤ → ℤ
+furthest end first zs = fold (further end) first zs
+
+abbrev pub first_or_zero : List ℤ → ℤ
+first_or_zero [] = pos 0
+first_or_zero (z ∷ zs) = z
+
+unfoldable pub extent : End → Axis → List PathOp → ℤ
+extent end axis steps = furthest end (first_or_zero (coordinates axis steps)) (coordinates axis steps)
+
+unfoldable pub bounds_in : Glyph → Bounds
+bounds_in glyph = record {
+  left = extent ends.Least axes.Abscissa (outline_of glyph);
+  low = extent ends.Least axes.Ordinate (outline_of glyph);
+  right = extent ends.Greatest axes.Abscissa (outline_of glyph);
+  high = extent ends.Greatest axes.Ordinate (outline_of glyph);
+}

@@ -1,0 +1,4 @@
+pub mod Outlines
+pub mod Names
+pub mod Bounds
+pub mod Procedure
