@@ -1,6 +1,6 @@
 ghost use Rattle.std.specs.Prelude.{◌≡◌, ◌≤◌, ◌<◌, ◌^◌, ◌*◌, ◌+◌, ◌-◌, ℕ, ◌/◌, List, ◌++◌, ◌∷◌, [], IfOk, OnOk, OnErr, OnSome, MatchOption, IsSome, Some, None};
 ghost use Rattle.mus_units.specs.declared.value.Value.{Value};
-ghost use Rattle.mus_units.specs.Parts.{IsValueOf, IsPartsOf, IsLongest, base_units, units_of, ArePartsOf};
+ghost use Rattle.mus_units.specs.Parts.{IsValueOf, IsPartsOf, IsLongest, base_units, units_of, parts_list};
 ghost use Rattle.mus_units.specs.Value.{with_dots};
 
 use crate::text::{Memory, Row};
@@ -142,7 +142,8 @@ pub fn parts_of(alloc: Global, num: u64, den: u64) -> Result<Option<Row<Value>>,
     requires above { 1 ≤ den }
     requires near { num ≤ 2 ^ 56 }
     requires high { den ≤ 2 ^ 56 }
-    ensures { IfOk result (λ r. MatchOption r ((vs : List Value) → IsPartsOf num den vs → ⊥) (λ vs. IsPartsOf num den vs)) }
+    ensures parts { IfOk result (λ r. MatchOption r ((vs : List Value) → IsPartsOf num den vs → ⊥) (λ vs. IsPartsOf num den vs)) }
+    ensures list { IfOk result (λ r. r ≡ parts_list num den) }
 {
     let mut parts = Row::new(alloc);
     let Some(all) = whole_units(num, den) else {

@@ -1,4 +1,5 @@
-use Rattle.std.proofs.Common.{◌≡◌, ◌≤◌, length}
+use Rattle.std.proofs.Common.{◌≡◌, ◌≤◌, ◌-◌, ◌++◌, length, option_map}
+use Rattle.mus_units.specs.Parts.{cut_in}
 use Rattle.mus_units.proofs.Cutting.{IsCut}
 use Rattle.mus_units.proofs.parts.parts_of.Given as goal
 
@@ -8,4 +9,5 @@ invariant-loop-i l = record {
   count : length l.parts ≡ l.i;
   few : l.i ≤ 8;
   small : l.left ≤ l.all;
+  list : option_map (λ vs. l.parts ++ vs) (cut_in (8 - l.i) l.left) ≡ cut_in 8 l.all;
 }
