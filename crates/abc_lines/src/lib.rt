@@ -7,6 +7,8 @@
 
 pub mod book;
 pub mod fault;
+pub mod kind;
 
 pub use book::{Book, Line, TuneText};
 pub use fault::{Fault, FaultKind, TuneError};
+pub use kind::{LineKind, field_text, kind_of};
