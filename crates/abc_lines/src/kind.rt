@@ -113,7 +113,8 @@ pub(crate) fn behind_blanks(text: &[u8]) -> &[u8]
     text.split_at(blanks_at_front(text)).1
 }
 
-fn blanks_at_front(text: &[u8]) -> usize
+/// How many spaces and tabs stand first.
+pub(crate) fn blanks_at_front(text: &[u8]) -> usize
     ensures value { result ≡ prefix_len is_blank text.now }
     ensures within { result ≤ length text.now }
 {
