@@ -1,7 +1,8 @@
 -- Good lines and tunes: what each call that takes one asks, and each that makes one gives.
-use Rattle.std.specs.Prelude.{◌≡◌, ◌≤◌, ◌<◌, ◌+◌, ◌^◌, ⊤, ℕ, List, [], ◌∷◌, length, sum, map}
+use Rattle.std.specs.Prelude.{◌≤◌, ◌<◌, ◌^◌, ⊤, ℕ, List, [], ◌∷◌, length, sum, map, All}
 use Rattle.abc_lines.specs.declared.book.Line.{Line}
 use Rattle.abc_lines.specs.declared.book.TuneText.{TuneText}
+use Rattle.abc_lines.specs.declared.book.Book.{Book}
 
 -- a line has at most 2^30 bytes
 abbrev pub IsGoodLine : Line → Type 0
@@ -22,3 +23,9 @@ pub record IsGoodTune (tune : TuneText) : Type 0 where
   pub some : 1 ≤ length tune.lines
   pub rise : NumbersRise tune.lines
   pub small : size_of tune.lines ≤ 2 ^ 30
+
+-- a file header whose lines' numbers rise and that has at most 2^30 bytes, and good tunes
+pub record IsGoodBook (book : Book) : Type 0 where
+  pub header_rises : NumbersRise book.header
+  pub header_small : size_of book.header ≤ 2 ^ 30
+  pub tunes : All IsGoodTune book.tunes

@@ -1,1 +1,5 @@
+pub mod Books
+pub mod Forward
 pub mod Good
+pub mod Kinds
+pub mod Lines

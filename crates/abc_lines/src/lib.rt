@@ -6,7 +6,12 @@
 #![tactic(auto)]
 
 pub mod book;
+pub mod cut;
 pub mod fault;
+pub mod kind;
+pub mod reading;
 
 pub use book::{Book, Line, TuneText};
+pub use cut::cut_book;
 pub use fault::{Fault, FaultKind, TuneError};
+pub use kind::{LineKind, field_text, kind_of};

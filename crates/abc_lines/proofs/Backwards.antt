@@ -1,0 +1,145 @@
+-- Going forwards lists the lines that belong by looking backwards.
+use Rattle.std.proofs.Common.{◌≡◌, ℕ, suc, ◌+◌, ◌≤◌, ◌<◌, Bool, true, false, cond, eqb, List, [], ◌∷◌, ◌++◌, length, Option, Some, None, refl, sym, ap, ◌∙◌, subst, arith}
+use Rattle.std.specs.Prelude.{◌||◌, not, ◌&&◌}
+use Rattle.std.proofs.lemmas.Bool.{cond_both, eqb-true, eq-eqb, ne_eqb}
+use Rattle.abc_lines.specs.declared.book.Line.{Line}
+use Rattle.abc_lines.specs.declared.book.TuneText.{TuneText}
+use Rattle.abc_lines.specs.declared.book.Book.{Book}
+use Rattle.abc_lines.specs.declared.reading.Reading.{Reading}
+use Rattle.abc_lines.specs.Books.{begins_tune, is_empty, is_end_of_part, is_in_header, tune_of, is_number, belongs_to, line_at, when, listed, tune_at, tunes_behind, book_of_lines}
+use Rattle.abc_lines.specs.Forward.{part_from, tune_from, tunes_from, book_from}
+
+pub part-nil : (number : ℕ) → part_from number [] ≡ []
+unfolding part_from
+part-nil number = refl
+
+pub part-cons : (number : ℕ) (line : Reading) (more : List Reading) → part_from number (line ∷ more) ≡ cond (is_end_of_part line) [] (line_at number line more ++ part_from (suc number) more)
+unfolding part_from
+part-cons number line more = refl
+
+pub tunes-nil : (ordinal number : ℕ) → tunes_from ordinal number [] ≡ []
+unfolding tunes_from
+tunes-nil ordinal number = refl
+
+pub tunes-cons : (ordinal number : ℕ) (line : Reading) (more : List Reading) →
+    tunes_from ordinal number (line ∷ more) ≡ cond (begins_tune line) (tune_from ordinal number line more ∷ tunes_from (suc ordinal) (suc number) more) (tunes_from ordinal (suc number) more)
+unfolding tunes_from
+tunes-cons ordinal number line more = refl
+
+abbrev tune_of_lines : ℕ → List Line → TuneText
+tune_of_lines ordinal lines = record { ordinal = ordinal; lines = lines }
+
+book_parts : (h g : List Line) (t u : List TuneText) → h ≡ g → t ≡ u → ◌≡◌ {A = Book} (record { header = h; tunes = t }) (record { header = g; tunes = u })
+book_parts h g t u e f = rw (e, f) refl
+
+and_no : (a b : Bool) → b ≡ false → (a && b) ≡ false
+and_no true b h = h
+and_no false b h = refl
+
+and-false : (a : Bool) → (a && false) ≡ false
+and-false true = refl
+and-false false = refl
+
+or-true : (a : Bool) → (a || true) ≡ true
+or-true true = refl
+or-true false = refl
+
+or-false : (a : Bool) → (a || false) ≡ a
+or-false true = refl
+or-false false = refl
+
+-- a place is within the header or it is behind it
+header-done : (before more : List Reading) → is_in_header before ≡ false → listed is_in_header before more ≡ []
+header-done before [] h = refl
+header-done before (line ∷ more) h =
+    let here : is_in_header (line ∷ before) ≡ false = and_no (not (is_end_of_part line)) (is_in_header before) h in
+    rw here (header-done (line ∷ before) more here)
+
+header-step : (before more : List Reading) (line : Reading) (e : Bool) → is_end_of_part line ≡ e → is_in_header before ≡ true →
+    (is_in_header (line ∷ before) ≡ true → listed is_in_header (line ∷ before) more ≡ part_from (suc (suc (length before))) more) →
+    listed is_in_header before (line ∷ more) ≡ part_from (suc (length before)) (line ∷ more)
+header-step before more line true is h next =
+    let here : is_in_header (line ∷ before) ≡ false = rw is refl in
+    rw (here, part-cons, is) (header-done (line ∷ before) more here)
+header-step before more line false is h next =
+    let here : is_in_header (line ∷ before) ≡ true = rw is h in
+    rw (here, part-cons, is) (ap (λ ls. line_at (suc (length before)) line more ++ ls) (next here))
+
+pub header-listed : (before more : List Reading) → is_in_header before ≡ true → listed is_in_header before more ≡ part_from (suc (length before)) more
+header-listed before [] h = sym (part-nil _)
+header-listed before (line ∷ more) h = header-step before more line (is_end_of_part line) refl h (header-listed (line ∷ before) more)
+
+-- a tune begins at or before the line
+tune_within : (lines : List Reading) (number : ℕ) → belongs_to number lines ≡ true → number ≤ length lines
+tune_within [] number h = absurd cc
+tune_within (line ∷ before) number h =
+    cond_both (begins_tune line) (Some (suc (length before))) (cond (is_empty line) None (tune_of before)) (λ t. is_number number t ≡ true → number ≤ suc (length before))
+    (λ e is. omega (arith, eqb-true _ _ is))
+    (λ e. cond_both (is_empty line) None (tune_of before) (λ t. is_number number t ≡ true → number ≤ suc (length before))
+      (λ f is. absurd cc)
+      (λ f is. omega (arith, tune_within before number is)))
+    h
+
+not_yet : (lines : List Reading) (number : ℕ) → length lines < number → belongs_to number lines ≡ false
+not_yet lines number later = by_cases (belongs_to number lines) refl
+  where
+    by_cases : (b : Bool) → belongs_to number lines ≡ b → b ≡ false
+    by_cases true e = absurd (omega (arith, later, tune_within lines number e))
+    by_cases false e = refl
+
+-- a line behind the beginning of a tune begins another one, ends it or stays in it
+later_line : (before : List Reading) (line : Reading) (number : ℕ) → number ≤ length before → (b : Bool) → belongs_to number before ≡ b →
+    belongs_to number (line ∷ before) ≡ (not (is_end_of_part line) && b)
+later_line before line number within b is =
+    cond_both (begins_tune line) (Some (suc (length before))) (cond (is_empty line) None (tune_of before)) (λ t. is_number number t ≡ (not (is_empty line || begins_tune line) && b))
+    (λ e. rw (e, or-true (is_empty line), ne_eqb (suc (length before)) number (omega (arith, within))) refl)
+    (λ e. rw (e, or-false (is_empty line)) (
+      cond_both (is_empty line) None (tune_of before) (λ t. is_number number t ≡ (not (is_empty line) && b))
+      (λ f. rw f refl) (λ f. rw f is)))
+
+tune-done : (before more : List Reading) (number : ℕ) → number ≤ length before → belongs_to number before ≡ false → listed (belongs_to number) before more ≡ []
+tune-done before [] number within h = refl
+tune-done before (line ∷ more) number within h =
+    let here : belongs_to number (line ∷ before) ≡ false = later_line before line number within false h ∙ and-false (not (is_end_of_part line)) in
+    rw here (tune-done (line ∷ before) more number (omega (arith, within)) here)
+
+tune-step : (before more : List Reading) (line : Reading) (number : ℕ) (e : Bool) → is_end_of_part line ≡ e → number ≤ length before → belongs_to number before ≡ true →
+    (belongs_to number (line ∷ before) ≡ true → listed (belongs_to number) (line ∷ before) more ≡ part_from (suc (suc (length before))) more) →
+    listed (belongs_to number) before (line ∷ more) ≡ part_from (suc (length before)) (line ∷ more)
+tune-step before more line number true is within h next =
+    let here : belongs_to number (line ∷ before) ≡ false = later_line before line number within true h ∙ rw is refl in
+    rw (here, part-cons, is) (tune-done (line ∷ before) more number (omega (arith, within)) here)
+tune-step before more line number false is within h next =
+    let here : belongs_to number (line ∷ before) ≡ true = later_line before line number within true h ∙ rw is refl in
+    rw (here, part-cons, is) (ap (λ ls. line_at (suc (length before)) line more ++ ls) (next here))
+
+tune-listed : (before more : List Reading) (number : ℕ) → number ≤ length before → belongs_to number before ≡ true → listed (belongs_to number) before more ≡ part_from (suc (length before)) more
+tune-listed before [] number within h = sym (part-nil _)
+tune-listed before (line ∷ more) number within h =
+    tune-step before more line number (is_end_of_part line) refl within h (tune-listed (line ∷ before) more number (omega (arith, within)))
+
+-- where all lines have come to `more` behind `before`: no later tune has a line among those
+abbrev Comes : (all before more : List Reading) → Type 0
+Comes all before more = (number : ℕ) → length before < number → listed (belongs_to number) [] all ≡ listed (belongs_to number) before more
+
+comes-on : (all before more : List Reading) (line : Reading) → Comes all before (line ∷ more) → Comes all (line ∷ before) more
+comes-on all before more line comes = λ number later. comes number (omega (arith, later)) ∙ rw (not_yet (line ∷ before) number later) refl
+
+begins : (all before more : List Reading) (line : Reading) (ordinal : ℕ) → begins_tune line ≡ true → Comes all before (line ∷ more) →
+    tune_at all ordinal (suc (length before)) ≡ tune_from ordinal (suc (length before)) line more
+begins all before more line ordinal is comes =
+    let number : ℕ = suc (length before) in
+    let here : belongs_to (suc (length before)) (line ∷ before) ≡ true = rw is (eq-eqb _ _ refl) in
+    ap (tune_of_lines ordinal) (comes (suc (length before)) (omega arith) ∙ rw here (ap (λ ls. line_at (suc (length before)) line more ++ ls) (tune-listed (line ∷ before) more (suc (length before)) (omega arith) here)))
+
+tunes-listed : (all before more : List Reading) (ordinal : ℕ) → Comes all before more → tunes_behind all ordinal before more ≡ tunes_from ordinal (suc (length before)) more
+tunes-listed all before [] ordinal comes = sym (tunes-nil _ _)
+tunes-listed all before (line ∷ more) ordinal comes =
+    rw tunes-cons (cond_both (begins_tune line) (tune_at all ordinal (suc (length before)) ∷ tunes_behind all (suc ordinal) (line ∷ before) more) (tunes_behind all ordinal (line ∷ before) more)
+    (λ tunes. tunes ≡ cond (begins_tune line) (tune_from ordinal (suc (length before)) line more ∷ tunes_from (suc ordinal) (suc (suc (length before))) more) (tunes_from ordinal (suc (suc (length before))) more))
+    (λ e. rw (e, begins all before more line ordinal e comes, tunes-listed all (line ∷ before) more (suc ordinal) (comes-on all before more line comes)) refl)
+    (λ e. rw (e, tunes-listed all (line ∷ before) more ordinal (comes-on all before more line comes)) refl))
+
+-- the book, found by going forwards
+pub forwards : (all : List Reading) → book_of_lines all ≡ book_from all
+forwards all = book_parts _ _ _ _ (header-listed [] all refl) (tunes-listed all [] all 1 (λ number later. refl))

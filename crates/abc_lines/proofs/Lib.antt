@@ -1,0 +1,4 @@
+pub mod Backwards
+pub mod GoodLaws
+pub mod LineLaws
+pub mod Stages

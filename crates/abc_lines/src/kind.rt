@@ -1,0 +1,124 @@
+ghost use Rattle.std.specs.Prelude.{◌≡◌, ◌≤◌, length, drop};
+ghost use Rattle.std.specs.List.{prefix_len};
+ghost use Rattle.abc_lines.specs.Kinds.{is_blank, is_letter, is_music_letter, begins_bar, is_field, is_percent_line, field_kind, kind_of, behind_blanks, field_text};
+
+use crate::book::Line;
+
+/// What a line is by its first bytes. A field has a letter and a colon first, a
+/// directive `%%` or `I:`, and every other line is music. A letter of A to G, a
+/// to g, x, y or z before `:|` or `::` is music too.
+#[derive(Clone, Copy, Debug, PartialEq, Eq)]
+pub enum LineKind {
+    Field { letter: u8 },
+    Directive,
+    Music,
+}
+
+/// What a line is. Takes no memory.
+pub fn kind_of(line: &Line) -> LineKind
+    ensures { result ≡ kind_of line.now.text }
+{
+    let text = line.text.as_slice();
+    if is_percent_line(text) {
+        return LineKind::Directive;
+    }
+    match text.split_first() {
+        Some((letter, _)) if is_field(text) => field_kind(*letter),
+        _ => LineKind::Music,
+    }
+}
+
+/// The text of a field or a directive: what stands behind its first two bytes
+/// and the spaces and tabs there. Takes no memory.
+pub fn field_text(line: &Line) -> &[u8]
+    ensures { result.now ≡ field_text line.now.text }
+{
+    behind_blanks(behind_two(line.text.as_slice()))
+}
+
+fn field_kind(letter: u8) -> LineKind
+    ensures { result ≡ field_kind letter }
+{
+    if letter == b'I' {
+        LineKind::Directive
+    } else {
+        LineKind::Field { letter }
+    }
+}
+
+/// Whether two percent signs stand first.
+pub(crate) fn is_percent_line(text: &[u8]) -> bool
+    ensures { result ≡ is_percent_line text.now }
+{
+    let Some((first, rest)) = text.split_first() else {
+        return false;
+    };
+    let Some((second, _)) = rest.split_first() else {
+        return false;
+    };
+    *first == b'%' && *second == b'%'
+}
+
+/// Whether a letter and a colon stand first, and not a letter of music before a
+/// bar.
+pub(crate) fn is_field(text: &[u8]) -> bool
+    ensures { result ≡ is_field text.now }
+{
+    let Some((letter, rest)) = text.split_first() else {
+        return false;
+    };
+    let Some((colon, rest)) = rest.split_first() else {
+        return false;
+    };
+    is_letter(*letter) && *colon == b':' && !(is_music_letter(*letter) && begins_bar(rest))
+}
+
+fn is_letter(byte: u8) -> bool
+    ensures { result ≡ is_letter byte }
+{
+    (byte >= b'A' && byte <= b'Z') || (byte >= b'a' && byte <= b'z')
+}
+
+fn is_music_letter(byte: u8) -> bool
+    ensures { result ≡ is_music_letter byte }
+{
+    (byte >= b'A' && byte <= b'G')
+        || (byte >= b'a' && byte <= b'g')
+        || (byte >= b'x' && byte <= b'z')
+}
+
+fn begins_bar(text: &[u8]) -> bool
+    ensures { result ≡ begins_bar text.now }
+{
+    match text.split_first() {
+        Some((first, _)) => *first == b'|' || *first == b':',
+        None => false,
+    }
+}
+
+/// What stands behind the first two bytes.
+pub(crate) fn behind_two(text: &[u8]) -> &[u8]
+    ensures { result.now ≡ drop 2 text.now }
+{
+    match text.split_at_checked(2) {
+        Some((_, rest)) => rest,
+        None => &[],
+    }
+}
+
+/// What stands behind the spaces and tabs at the front.
+pub(crate) fn behind_blanks(text: &[u8]) -> &[u8]
+    ensures { result.now ≡ behind_blanks text.now }
+{
+    text.split_at(blanks_at_front(text)).1
+}
+
+/// How many spaces and tabs stand first.
+pub(crate) fn blanks_at_front(text: &[u8]) -> usize
+    ensures value { result ≡ prefix_len is_blank text.now }
+    ensures within { result ≤ length text.now }
+{
+    text.iter()
+        .take_while(|byte| **byte == b' ' || **byte == b'\t')
+        .count()
+}

@@ -1,0 +1,162 @@
+ghost use Rattle.std.specs.Prelude.{◌≡◌, ◌≤◌, ◌-◌, ◌+◌, length, take, map, true, false, IfOk};
+ghost use Rattle.std.specs.List.{suffix_len, position_or_len};
+ghost use Rattle.std.specs.Str.{chars};
+ghost use Rattle.abc_lines.specs.Kinds.{is_blank};
+ghost use Rattle.abc_lines.specs.Lines.{is_end, without_mark, without_return, narrow, in_latin, comment_len, trimmed, without_comment, is_empty_text, written, reading_of, reading, first_line};
+
+use crate::kind::{blanks_at_front, is_percent_line};
+use bstr::ByteSlice;
+use mus_units::{Memory, Text};
+use std::alloc::{AllocError, Global};
+
+/// What is read of one line of the input.
+#[derive(Debug, Drop)]
+pub enum Reading {
+    /// Spaces and tabs alone.
+    Empty,
+    /// A comment alone, which is passed over.
+    Comment,
+    /// Text in Latin-1, without comment.
+    Written(Text),
+}
+
+/// The input without the byte order mark at its start.
+pub(crate) fn without_mark(bytes: &[u8]) -> &[u8]
+    ensures { result.now ≡ without_mark bytes.now }
+{
+    if bytes.starts_with(&[239, 187, 191]) {
+        bytes.split_at(3).1
+    } else {
+        bytes
+    }
+}
+
+/// The first line without its line end, and what follows it.
+#[tactic(auto, unfolding(crate::specs::Lines::first_line))]
+pub(crate) fn first_line(bytes: &[u8]) -> (&[u8], &[u8])
+    ensures { (result.0.now, result.1.now) ≡ first_line bytes.now }
+{
+    let (line, rest) = bytes.split_at(line_len(bytes));
+    match rest.split_first() {
+        None => (line, rest),
+        Some((_, rest)) => (line, rest),
+    }
+}
+
+fn line_len(bytes: &[u8]) -> usize
+    ensures value { result ≡ position_or_len is_end bytes.now }
+    ensures within { result ≤ length bytes.now }
+{
+    bytes.iter().take_while(|byte| **byte != b'\n').count()
+}
+
+/// What is read of a line.
+#[tactic(auto, unfolding(crate::specs::Lines::reading))]
+pub(crate) fn read_line(alloc: Global, line: &[u8]) -> Result<Reading, Memory>
+    ensures { IfOk result (λ it. it ≡ reading line.now) }
+{
+    let text = in_latin(alloc, without_return(line))?;
+    read_text(alloc, text.as_slice())
+}
+
+fn read_text(alloc: Global, text: &[u8]) -> Result<Reading, Memory>
+    ensures { IfOk result (λ it. it ≡ reading_of text.now) }
+{
+    if is_empty_text(text) {
+        return Ok(Reading::Empty);
+    }
+    if is_percent_line(text) {
+        return Ok(Reading::Written(Text::from_slice(alloc, text)?));
+    }
+    written(alloc, without_comment(text))
+}
+
+fn written(alloc: Global, text: &[u8]) -> Result<Reading, Memory>
+    ensures { IfOk result (λ it. it ≡ written text.now) }
+{
+    if text.len() == 0 {
+        return Ok(Reading::Comment);
+    }
+    Ok(Reading::Written(Text::from_slice(alloc, text)?))
+}
+
+fn is_empty_text(text: &[u8]) -> bool
+    ensures { result ≡ is_empty_text text.now }
+{
+    blanks_at_front(text) == text.len()
+}
+
+fn without_return(line: &[u8]) -> &[u8]
+    ensures { result.now ≡ without_return line.now }
+{
+    if line.ends_with(&[b'\r']) {
+        line.split_at(line.len() - 1).0
+    } else {
+        line
+    }
+}
+
+#[tactic(auto, unfolding(crate::specs::Lines::in_latin))]
+fn in_latin(alloc: Global, line: &[u8]) -> Result<Text, Memory>
+    ensures { IfOk result (λ it. it ≡ in_latin line.now) }
+{
+    match line.to_str() {
+        Ok(text) => Ok(Text {
+            bytes: narrowed(alloc, text)?,
+        }),
+        Err(_) => Text::from_slice(alloc, line),
+    }
+}
+
+fn narrowed(alloc: Global, text: &str) -> Result<Vec<u8>, AllocError>
+    ensures { IfOk result (λ it. it.items ≡ map narrow (chars text.now)) }
+{
+    text.chars().map(|character| narrow(character)).collect(alloc)
+}
+
+fn narrow(character: char) -> u8
+    ensures { result ≡ narrow character }
+{
+    if character as u32 <= 255 {
+        character as u32 as u8
+    } else {
+        b'?'
+    }
+}
+
+#[tactic(auto, unfolding(crate::specs::Lines::without_comment))]
+fn without_comment(text: &[u8]) -> &[u8]
+    ensures { result.now ≡ without_comment text.now }
+{
+    trimmed(text.split_at(comment_len(text)).0)
+}
+
+fn comment_len(text: &[u8]) -> usize
+    ensures value { result ≡ comment_len false text.now }
+    ensures within { result ≤ length text.now }
+{
+    let mut escaped = false;
+    for (i, byte) in text.iter().enumerate() {
+        if *byte == b'%' && !escaped {
+            return i;
+        }
+        escaped = *byte == b'\\';
+    }
+    text.len()
+}
+
+fn trimmed(text: &[u8]) -> &[u8]
+    ensures { result.now ≡ trimmed text.now }
+{
+    text.split_at(text.len() - blanks_at_end(text)).0
+}
+
+fn blanks_at_end(text: &[u8]) -> usize
+    ensures value { result ≡ suffix_len is_blank text.now }
+    ensures within { result ≤ length text.now }
+{
+    text.iter()
+        .rev()
+        .take_while(|byte| **byte == b' ' || **byte == b'\t')
+        .count()
+}
