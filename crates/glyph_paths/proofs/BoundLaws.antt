@@ -1,13 +1,15 @@
 -- The running least and greatest are the least and the greatest.
-use Rattle.std.proofs.Common.{◌≡◌, refl, sym, ℤ, pos, List, [], ◌∷◌, ◌⊎◌, inl, inr, arith}
-use Rattle.std.specs.List.{All, Contains}
-use Rattle.std.proofs.lemmas.Int.{fold-int_min_bounds, fold-int_min_reached, fold-int_max_bounds, fold-int_max_reached}
+use Rattle.std.proofs.Common.{◌≡◌, refl, sym, subst, ℕ, zero, suc, ◌<◌, length, slice_index_or, ℤ, pos, negsuc, int_le, Bool, true, ◌&&◌, List, [], ◌∷◌, ◌⊎◌, inl, inr, arith}
+use Rattle.std.specs.List.{Contains, list_all}
+use Rattle.std.proofs.lemmas.Int.{ints, fold-int_min_bounds, fold-int_min_reached, fold-int_max_bounds, fold-int_max_reached}
 use Rattle.std.proofs.lemmas.List.Elements.{All-nil}
+use Rattle.std.proofs.lemmas.Bool.Decides.{nat_tests}
 use Rattle.mus_units.specs.declared.glyph.Glyph.{Glyph}
+use Rattle.mus_units.specs.declared.glyph.Glyph.TheVariants as glyphs
 use Rattle.glyph_paths.specs.declared.bounds.End.TheVariants as ends
 use Rattle.glyph_paths.specs.declared.bounds.Axis.TheVariants as axes
 use Rattle.glyph_paths.specs.Outlines.{outline_of}
-use Rattle.glyph_paths.specs.Bounds.{IsLeast, IsGreatest, AreBounds, further, furthest, first_or_zero, coordinates, extent, bounds_in}
+use Rattle.glyph_paths.specs.Bounds.{IsClose, AreClose, coordinate, IsLeast, IsGreatest, AreBounds, further, furthest, first_or_zero, coordinates, extent, bounds_in}
 
 at_front : (z r : ℤ) (zs : List ℤ) → (r ≡ z) ⊎ Contains (z ∷ zs) r → Contains (z ∷ zs) r
 at_front z r zs (inl e) = (0, omega arith, sym e)
@@ -31,3 +33,80 @@ bounds_are g = record {
   right = greatest_is (coordinates axes.Abscissa (outline_of g));
   high = greatest_is (coordinates axes.Ordinate (outline_of g));
 }
+
+-- Every point is close, glyph by glyph; so are the least and the greatest of them.
+is_close : ℤ → Bool
+is_close z = int_le (negsuc 1999) z && int_le z (pos 2000)
+
+points_close : (g : Glyph) → (list_all is_close (coordinates axes.Abscissa (outline_of g)) && list_all is_close (coordinates axes.Ordinate (outline_of g))) ≡ true
+unfolding coordinates coordinate is_close
+points_close glyphs.Hb = refl
+points_close glyphs.Hw = refl
+points_close glyphs.Hh = refl
+points_close glyphs.Hq = refl
+points_close glyphs.Gh = refl
+points_close glyphs.Dt = refl
+points_close glyphs.Lg = refl
+points_close glyphs.Fu = refl
+points_close glyphs.Fd = refl
+points_close glyphs.Gf = refl
+points_close glyphs.Gs = refl
+points_close glyphs.Sr = refl
+points_close glyphs.Sl = refl
+points_close glyphs.R0 = refl
+points_close glyphs.R1 = refl
+points_close glyphs.R2 = refl
+points_close glyphs.R4 = refl
+points_close glyphs.R8 = refl
+points_close glyphs.Ax = refl
+points_close glyphs.As = refl
+points_close glyphs.An = refl
+points_close glyphs.Af = refl
+points_close glyphs.Ag = refl
+points_close glyphs.Cg = refl
+points_close glyphs.Cf = refl
+points_close glyphs.Cc = refl
+points_close glyphs.Bt = refl
+points_close glyphs.Bw = refl
+points_close glyphs.Bf = refl
+points_close glyphs.Bi = refl
+points_close glyphs.Bb = refl
+points_close glyphs.Bo = refl
+points_close glyphs.Dl = refl
+points_close glyphs.Dr = refl
+points_close glyphs.Nn = refl
+points_close glyphs.Ks = refl
+points_close glyphs.Kr = refl
+points_close glyphs.Kf = refl
+points_close glyphs.Ka = refl
+points_close glyphs.Km = refl
+points_close glyphs.Kc = refl
+points_close glyphs.Kp = refl
+points_close glyphs.Kg = refl
+points_close glyphs.Kt = refl
+points_close glyphs.Ku = refl
+points_close glyphs.Kd = refl
+points_close glyphs.Kn = refl
+
+close_at : (zs : List ℤ) → list_all is_close zs ≡ true → (k : ℕ) (z : ℤ) → k < length zs → slice_index_or zs k z ≡ z → IsClose z
+unfolding is_close
+close_at [] h k z lt e = absurd (omega arith)
+close_at (x ∷ zs) h zero z lt e = subst IsClose e (grind (arith, ints), grind (arith, ints))
+close_at (x ∷ zs) h (suc k) z lt e = close_at zs (grind (arith, ints)) k z (omega arith) e
+
+close_of : (zs : List ℤ) → list_all is_close zs ≡ true → (z : ℤ) → Contains zs z ⊎ ((zs ≡ []) × (z ≡ pos 0)) → IsClose z
+close_of zs h z (inr e) = (omega (arith, ints, e.1), omega (arith, ints, e.1))
+close_of zs h z (inl c) = close_at zs h c.0 z c.1 c.2
+
+pub bounds_are_close : (g : Glyph) → AreClose (bounds_in g)
+bounds_are_close g =
+    let are = bounds_are g in
+    let points = points_close g in
+    let across : list_all is_close (coordinates axes.Abscissa (outline_of g)) ≡ true = grind (arith, nat_tests) in
+    let up : list_all is_close (coordinates axes.Ordinate (outline_of g)) ≡ true = grind (arith, nat_tests) in
+    record {
+      left = close_of (coordinates axes.Abscissa (outline_of g)) across (bounds_in g).left are.left.1;
+      low = close_of (coordinates axes.Ordinate (outline_of g)) up (bounds_in g).low are.low.1;
+      right = close_of (coordinates axes.Abscissa (outline_of g)) across (bounds_in g).right are.right.1;
+      high = close_of (coordinates axes.Ordinate (outline_of g)) up (bounds_in g).high are.high.1;
+    }

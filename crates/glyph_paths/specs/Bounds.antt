@@ -1,6 +1,6 @@
 -- The bounds of a glyph: the least and greatest abscissa and ordinate over all points of its path, control points
 -- included, and all 0 where the path has no point.
-use Rattle.std.specs.Prelude.{◌≡◌, ◌≤ℤ◌, ◌⊎◌, ℤ, pos, List, [], ◌∷◌, All, Contains}
+use Rattle.std.specs.Prelude.{◌≡◌, ◌≤ℤ◌, ◌⊎◌, ℤ, pos, negsuc, List, [], ◌∷◌, All, Contains}
 use Rattle.std.specs.Int.{int_min, int_max}
 use Rattle.std.specs.List.{flat_map, fold}
 use Rattle.mus_units.specs.declared.glyph.Glyph.{Glyph}
@@ -44,6 +44,16 @@ pub record AreBounds (steps : List PathOp) (bounds : Bounds) : Type 0 where
   pub low : IsLeast (coordinates axes.Ordinate steps) bounds.low
   pub right : IsGreatest (coordinates axes.Abscissa steps) bounds.right
   pub high : IsGreatest (coordinates axes.Ordinate steps) bounds.high
+
+-- no point of a glyph is further than 2000 from where it is drawn
+abbrev pub IsClose : ℤ → Type 0
+IsClose z = (negsuc 1999 ≤ℤ z) × (z ≤ℤ pos 2000)
+
+pub record AreClose (bounds : Bounds) : Type 0 where
+  pub left : IsClose bounds.left
+  pub low : IsClose bounds.low
+  pub right : IsClose bounds.right
+  pub high : IsClose bounds.high
 
 -- The same as a function, for the definitions of the crates above.
 unfoldable pub further : End → ℤ → ℤ → ℤ

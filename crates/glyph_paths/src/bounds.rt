@@ -1,6 +1,6 @@
 ghost use Rattle.std.specs.Prelude.{◌≡◌, ◌∷◌, []};
 ghost use Rattle.glyph_paths.specs.Outlines.{outline_of};
-ghost use Rattle.glyph_paths.specs.Bounds.{coordinate, further, furthest, along, extent, first_or_zero, coordinates, bounds_in, AreBounds};
+ghost use Rattle.glyph_paths.specs.Bounds.{coordinate, further, furthest, along, extent, first_or_zero, coordinates, bounds_in, AreBounds, AreClose};
 
 use crate::paths::{PathOp, outline};
 use mus_units::Glyph;
@@ -135,6 +135,7 @@ fn end_of(end: End, axis: Axis, ops: &[PathOp]) -> i32
 pub fn bounds_of(g: Glyph) -> Bounds
     ensures value { result ≡ bounds_in g }
     ensures bounds { AreBounds (outline_of g) result }
+    ensures close { AreClose result }
 {
     let ops = outline(g);
     Bounds {
