@@ -1,0 +1,114 @@
+-- The text of items, pages and documents, each line ended by an LF.
+use Rattle.std.specs.Prelude.{◌≡◌, ℕ, ℤ, pos, ◌+◌, ◌+ℤ◌, List, [], ◌∷◌, ◌++◌, length, codes, decimal}
+use Rattle.std.specs.List.{flat_map}
+use Rattle.mus_units.specs.declared.glyph.Size.{Size}
+use Rattle.glyph_paths.specs.Procedure.{numbers}
+use Rattle.ps_text.specs.Fields.{in_parentheses}
+use Rattle.ps_text.specs.Line.{mark_line}
+use Rattle.ps_text.specs.Names.{size_name}
+use Rattle.ps_text.specs.Prolog.{prolog}
+use Rattle.ps_text.specs.Range.{IsSheet}
+use Rattle.ps_text.specs.declared.marks.PageMark.{PageMark}
+use Rattle.ps_text.specs.declared.sheet.Staff.{Staff}
+use Rattle.ps_text.specs.declared.sheet.Item.{Item}
+use Rattle.ps_text.specs.declared.sheet.Item.TheVariants as items
+use Rattle.ps_text.specs.declared.sheet.Page.{Page}
+use Rattle.ps_text.specs.declared.sheet.Sheet.{Sheet}
+
+-- the text of a numbered thing for each of a list, the first with the number k
+abbrev pub numbered : {A : Type 0} → (ℕ → A → List ℕ) → ℕ → List A → List ℕ
+numbered f k [] = []
+numbered f k (x ∷ xs) = f k x ++ numbered f (k + 1) xs
+
+-- a mark's line
+unfoldable pub mark_text : ℤ → PageMark → List ℕ
+mark_text y m = mark_line y m ++ 10 ∷ []
+
+-- the marks of a staff at y
+unfoldable pub marks_text : ℤ → List PageMark → List ℕ
+marks_text y ms = flat_map (mark_text y) ms
+
+-- the line that draws the five lines of a staff
+unfoldable pub rules_line : ℕ → ℤ → List ℕ
+rules_line width y =
+    let w = pos width in
+    numbers (w ∷ pos 2000 ∷ w ∷ pos 1500 ∷ w ∷ pos 1000 ∷ w ∷ pos 500 ∷ w ∷ pos 0 ∷ pos 0 ∷ y ∷ []) ++ codes "sf"
+
+unfoldable pub staff_line : ℕ → List ℕ
+staff_line k = codes "% staff " ++ decimal k
+
+-- staff k of a system, from 0, and its marks
+unfoldable pub staff_text : ℕ → Staff → List ℕ
+staff_text k s = staff_line k ++ 10 ∷ rules_line s.width s.y ++ 10 ∷ marks_text s.y s.marks
+
+-- the base of the last of some staves
+abbrev pub last_base : Staff → List Staff → ℤ
+last_base s [] = s.y
+last_base s (t ∷ rest) = last_base t rest
+
+-- the line that joins staves, from its top to its foot
+unfoldable pub join_line : ℤ → ℤ → List ℕ
+join_line top foot = numbers (pos 0 ∷ top ∷ pos 0 ∷ foot ∷ []) ++ codes "vl"
+
+-- two or more staves are joined, from 2000 above the first base to the last
+abbrev pub join_text : List Staff → List ℕ
+join_text [] = []
+join_text (s ∷ []) = []
+join_text (s ∷ t ∷ rest) = join_line (s.y +ℤ pos 2000) (last_base t rest) ++ 10 ∷ []
+
+unfoldable pub system_line : ℕ → ℕ → List ℕ
+system_line a b = codes "% system " ++ decimal a ++ 32 ∷ decimal b
+
+unfoldable pub system_text : ℕ → ℕ → List Staff → List ℕ
+system_text a b staves = system_line a b ++ 10 ∷ join_text staves ++ numbered staff_text 0 staves
+
+unfoldable pub title_line : ℤ → ℤ → Size → List ℕ → List ℕ
+title_line x y size words = in_parentheses words ++ numbers (pos 0 ∷ pos 0 ∷ x ∷ y ∷ []) ++ size_name size
+
+unfoldable pub title_text : ℤ → ℤ → Size → List ℕ → List ℕ
+title_text x y size words = title_line x y size words ++ 10 ∷ []
+
+unfoldable pub tune_line : ℕ → List ℕ
+tune_line ordinal = codes "% tune " ++ decimal ordinal
+
+unfoldable pub tune_text : ℕ → List ℕ
+tune_text ordinal = tune_line ordinal ++ 10 ∷ []
+
+abbrev pub item_text : Item → List ℕ
+item_text (items.Tune ordinal) = tune_text ordinal
+item_text (items.Title x y size words) = title_text x y size words
+item_text (items.System a b staves) = system_text a b staves
+
+unfoldable pub items_text : List Item → List ℕ
+items_text items = flat_map item_text items
+
+unfoldable pub heading_line : ℕ → List ℕ
+heading_line k = codes "%%Page: " ++ decimal k ++ 32 ∷ decimal k
+
+-- the two lines that begin page k
+unfoldable pub heading_text : ℕ → List ℕ
+heading_text k = heading_line k ++ codes "\npg\n"
+
+-- the two lines that end a page
+unfoldable pub closing : List ℕ
+closing = codes "grestore\nshowpage\n"
+
+-- page k, from 1
+unfoldable pub page_text : ℕ → Page → List ℕ
+page_text k p = heading_text k ++ items_text p.items ++ closing
+
+-- the line that tells how many pages there are
+unfoldable pub count_line : ℕ → List ℕ
+count_line n = codes "%%Pages: " ++ decimal n
+
+-- the end of a document of n pages
+unfoldable pub trailer : ℕ → List ℕ
+trailer n = codes "%%Trailer\n" ++ count_line n ++ codes "\n%%EOF\n"
+
+unfoldable pub document : Sheet → List ℕ
+document s = prolog s.frame ++ numbered page_text 1 s.pages ++ trailer (length s.pages)
+
+-- a sheet spells a text
+pub record Spells (s : Sheet) (text : List ℕ) : Type 0 where
+  pub good : IsSheet s
+  pub spelled : document s ≡ text

@@ -1,0 +1,6 @@
+pub mod Fields
+pub mod Names
+pub mod Range
+pub mod Line
+pub mod Prolog
+pub mod Document

@@ -1,0 +1,142 @@
+ghost use Rattle.std.specs.Prelude.{◌≡◌, ◌+ℤ◌, ◌↔◌, ◌≤◌, IsTrue};
+ghost use Rattle.std.specs.List.{list_all};
+ghost use Rattle.ps_text.specs.Range.{IsNear, IsNumber, IsOffset, IsWords, IsEnd, IsPlaced, IsStem, IsStretch, IsSpan, is_shown};
+
+const LARGEST: i64 = 1_099_511_627_776;
+
+/// Whether a number may stand on a page: within 2^40 of 0.
+pub fn is_page_number(z: i64) -> bool
+    ensures { IsTrue result ↔ IsNumber z }
+{
+    -LARGEST <= z && z <= LARGEST
+}
+
+/// Whether two numbers may stand on a page.
+pub fn are_page_numbers(x: i64, y: i64) -> bool
+    ensures { IsTrue result ↔ (IsNumber x × IsNumber y) }
+{
+    is_page_number(x) && is_page_number(y)
+}
+
+#[tactic(auto, unfolding(crate::specs::Range::is_shown))]
+fn is_shown_byte(b: u8) -> bool
+    ensures { result ≡ is_shown b }
+{
+    matches!(b, 32..=126 | 160..=255)
+}
+
+fn are_shown(words: &[u8]) -> bool
+    ensures { result ≡ list_all is_shown words.now }
+{
+    words.iter().all(|b| is_shown_byte(*b))
+}
+
+fn can_hold(len: usize) -> bool
+    ensures { IsTrue result ↔ ((1 ≤ len) × (len ≤ 60)) }
+{
+    1 <= len && len <= 60
+}
+
+/// Whether words may stand on a page: 1 to 60 bytes, each 20 to 7E or A0 to FF.
+pub fn can_show(words: &[u8]) -> bool
+    ensures { IsTrue result ↔ IsWords words.now }
+{
+    are_shown(words) && can_hold(words.len())
+}
+
+/// Whether a number may be an offset of a mark: a signed one of 32 bits.
+pub fn is_offset(z: i64) -> bool
+    ensures { IsTrue result ↔ IsOffset z }
+{
+    -2_147_483_648 <= z && z <= 2_147_483_647
+}
+
+/// Whether two numbers may be offsets of a mark.
+fn are_offsets(dx: i64, dy: i64) -> bool
+    ensures { IsTrue result ↔ (IsOffset dx × IsOffset dy) }
+{
+    is_offset(dx) && is_offset(dy)
+}
+
+/// A number of a page moved by one or two offsets.
+pub fn moved(z: i64, by: i64) -> i64
+    requires from { IsNear z }
+    requires by { IsOffset by }
+    ensures { result ≡ z +ℤ by }
+{
+    z + by
+}
+
+/// Whether the two points of an end of a beam or an arc may stand on a page.
+fn are_points(y: i64, height: i64, rise: i64) -> bool
+    requires base { IsNumber y }
+    requires height { IsOffset height }
+    requires rise { IsOffset rise }
+    ensures { IsTrue result ↔ (IsNumber (y +ℤ height) × IsNumber ((y +ℤ height) +ℤ rise)) }
+{
+    let point = moved(y, height);
+    let above = moved(point, rise);
+    are_page_numbers(point, above)
+}
+
+/// Whether an end of a beam or an arc may stand on a page.
+fn is_end(y: i64, height: i64, rise: i64) -> bool
+    requires base { IsNumber y }
+    requires rise { IsOffset rise }
+    ensures { IsTrue result ↔ IsEnd y height rise }
+{
+    is_offset(height) && are_points(y, height, rise)
+}
+
+/// Whether both ends of a beam or an arc may stand on a page.
+fn are_ends(y: i64, from: i64, to: i64, rise: i64) -> bool
+    requires base { IsNumber y }
+    requires rise { IsOffset rise }
+    ensures { IsTrue result ↔ (IsEnd y from rise × IsEnd y to rise) }
+{
+    is_end(y, from, rise) && is_end(y, to, rise)
+}
+
+/// Whether a beam or an arc may go from one abscissa to another.
+fn is_stretch(x1: i64, x2: i64) -> bool
+    ensures { IsTrue result ↔ IsStretch x1 x2 }
+{
+    are_page_numbers(x1, x2) && x1 < x2
+}
+
+fn is_base_and_rise(y: i64, rise: i64) -> bool
+    ensures { IsTrue result ↔ (IsNumber y × IsOffset rise) }
+{
+    is_page_number(y) && is_offset(rise)
+}
+
+/// Whether a beam or an arc on a staff at `y` may stand on a page.
+pub fn is_span(y: i64, x1: i64, x2: i64, from: i64, to: i64, rise: i64) -> bool
+    ensures { IsTrue result ↔ IsSpan y x1 x2 from to rise }
+{
+    if !is_base_and_rise(y, rise) {
+        return false;
+    }
+    is_stretch(x1, x2) && are_ends(y, from, to, rise)
+}
+
+/// Whether a glyph or words at `x`, with offsets, may stand on a staff at `y`.
+pub fn is_placed(y: i64, x: i64, dx: i64, dy: i64) -> bool
+    ensures { IsTrue result ↔ IsPlaced y x dx dy }
+{
+    are_page_numbers(y, x) && are_offsets(dx, dy)
+}
+
+/// Whether words at `x`, with offsets, may stand on a staff at `y`.
+pub fn is_words_mark(y: i64, x: i64, dx: i64, dy: i64, words: &[u8]) -> bool
+    ensures { IsTrue result ↔ (IsPlaced y x dx dy × IsWords words.now) }
+{
+    is_placed(y, x, dx, dy) && can_show(words)
+}
+
+/// Whether a stem at `x` may stand on a staff at `y`.
+pub fn is_stem(y: i64, x: i64, dx: i64, from: i64, to: i64) -> bool
+    ensures { IsTrue result ↔ IsStem y x dx from to }
+{
+    is_placed(y, x, dx, from) && is_offset(to)
+}

@@ -1,0 +1,263 @@
+ghost use Rattle.std.specs.Prelude.{◌≡◌, ◌++◌, ◌↔◌, ◌≤ℤ◌, ◌+ℤ◌, ◌-ℤ◌, pos, IfOk, OnOk, IsTrue, MatchOption};
+ghost use Rattle.ps_text.specs.Line.{mark_line, points, ends_of, quarter, glyph_line, words_line, stem_line, beam_line, arc_line};
+ghost use Rattle.ps_text.specs.Range.{IsPageMark, IsSpan, IsStretch};
+
+use crate::fields::put_words;
+use crate::marks::PageMark;
+use crate::names::{size_name_of, way_name_of};
+use crate::range::{is_placed, is_span, is_stem, is_words_mark, moved};
+use glyph_paths::{name_of, put_numbers};
+use mus_units::{Glyph, Memory, Size, Text, Way};
+use std::alloc::Global;
+
+#[tactic(auto, using(crate::proofs::Signs::as_passed), unfolding(crate::specs::Line::glyph_line))]
+fn put_glyph(out: &mut Text, glyph: Glyph, x: i64, dx: i64, dy: i64, y: i64) -> Result<(), Memory>
+    ensures { OnOk result (out.new ≡ out.old ++ glyph_line glyph x dx dy y) }
+{
+    put_numbers(out, &[dx, dy, x, y])?;
+    out.append(name_of(glyph))
+}
+
+#[tactic(auto, using(crate::proofs::Signs::as_passed), unfolding(crate::specs::Line::words_line))]
+fn put_words_mark(
+    out: &mut Text,
+    size: Size,
+    x: i64,
+    dx: i64,
+    dy: i64,
+    words: &[u8],
+    y: i64,
+) -> Result<(), Memory>
+    ensures { OnOk result (out.new ≡ out.old ++ words_line size x dx dy words.now y) }
+{
+    put_words(out, words)?;
+    put_numbers(out, &[dx, dy, x, y])?;
+    out.append(size_name_of(size))
+}
+
+#[tactic(auto, using(crate::proofs::Signs::as_passed), unfolding(crate::specs::Line::stem_line))]
+fn put_stem(out: &mut Text, x: i64, dx: i64, from: i64, to: i64, y: i64) -> Result<(), Memory>
+    ensures { OnOk result (out.new ≡ out.old ++ stem_line x dx from to y) }
+{
+    put_numbers(out, &[dx, to, dx, from, x, y])?;
+    out.append(b"st")
+}
+
+/// The points at the two ends of a beam or an arc, and those above them.
+#[derive(Clone, Copy, Debug, PartialEq, Eq)]
+pub struct Ends {
+    pub left: i64,
+    pub left_above: i64,
+    pub right: i64,
+    pub right_above: i64,
+}
+
+#[tactic(auto, using(crate::proofs::Signs::as_passed), unfolding(crate::specs::Line::ends_of))]
+fn ends_of(y: i64, x1: i64, x2: i64, from: i64, to: i64, rise: i64) -> Ends
+    requires { IsSpan y x1 x2 from to rise }
+    ensures { result ≡ ends_of y from to rise }
+{
+    let left = moved(y, from);
+    let right = moved(y, to);
+    Ends {
+        left,
+        left_above: moved(left, rise),
+        right,
+        right_above: moved(right, rise),
+    }
+}
+
+/// Adds the four points of a beam or an arc: the one above the left end, at
+/// `p`, the one above the right end, at `q`, the right end and the left one.
+#[tactic(auto, using(crate::proofs::Signs::as_passed), unfolding(crate::specs::Line::points))]
+fn put_points(out: &mut Text, p: i64, q: i64, x1: i64, x2: i64, e: &Ends) -> Result<(), Memory>
+    ensures { OnOk result (out.new ≡ out.old ++ points p q x1 x2 e.now) }
+{
+    put_numbers(
+        out,
+        &[p, e.left_above, q, e.right_above, x2, e.right, x1, e.left],
+    )
+}
+
+#[tactic(auto, using(crate::proofs::Signs::as_passed), unfolding(crate::specs::Line::beam_line))]
+fn put_beam(
+    out: &mut Text,
+    way: Way,
+    x1: i64,
+    x2: i64,
+    from: i64,
+    to: i64,
+    y: i64,
+) -> Result<(), Memory>
+    requires { IsSpan y x1 x2 from to (pos 250) }
+    ensures { OnOk result (out.new ≡ out.old ++ beam_line way x1 x2 from to y) }
+{
+    let ends = ends_of(y, x1, x2, from, to, 250);
+    put_points(out, x1, x2, x1, x2, &ends)?;
+    out.append(way_name_of(way))
+}
+
+/// A quarter of the way from one abscissa to another.
+fn quarter(x1: i64, x2: i64) -> i64
+    requires { IsStretch x1 x2 }
+    ensures value { result ≡ quarter x1 x2 }
+    ensures low { pos 0 ≤ℤ result }
+    ensures high { result ≤ℤ pos 2199023255552 }
+{
+    (x2 - x1) / 4
+}
+
+fn after_start(x1: i64, x2: i64) -> i64
+    requires { IsStretch x1 x2 }
+    ensures { result ≡ x1 +ℤ quarter x1 x2 }
+{
+    x1 + quarter(x1, x2)
+}
+
+fn before_end(x1: i64, x2: i64) -> i64
+    requires { IsStretch x1 x2 }
+    ensures { result ≡ x2 -ℤ quarter x1 x2 }
+{
+    x2 - quarter(x1, x2)
+}
+
+#[tactic(auto, using(crate::proofs::Signs::as_passed), unfolding(crate::specs::Line::arc_line))]
+fn put_arc(
+    out: &mut Text,
+    x1: i64,
+    x2: i64,
+    from: i64,
+    to: i64,
+    bulge: i64,
+    y: i64,
+) -> Result<(), Memory>
+    requires { IsSpan y x1 x2 from to bulge }
+    ensures { OnOk result (out.new ≡ out.old ++ arc_line x1 x2 from to bulge y) }
+{
+    let p = after_start(x1, x2);
+    let q = before_end(x1, x2);
+    let ends = ends_of(y, x1, x2, from, to, bulge);
+    put_points(out, p, q, x1, x2, &ends)?;
+    out.append(b"ac")
+}
+
+/// Adds the line of a mark on a staff at `y`, without the LF that ends it.
+#[tactic(auto, using(crate::proofs::Signs::as_passed))]
+pub fn put_op(out: &mut Text, y: i64, m: &PageMark) -> Result<(), Memory>
+    requires { IsPageMark y m.now }
+    ensures { OnOk result (out.new ≡ out.old ++ mark_line y m.now) }
+{
+    match m {
+        PageMark::Glyph { glyph, x, dx, dy } => put_glyph(
+            out,
+            *glyph,
+            *x,
+            i64::from(*dx),
+            i64::from(*dy),
+            y,
+        ),
+        PageMark::Words {
+            size,
+            x,
+            dx,
+            dy,
+            text,
+        } => put_words_mark(
+            out,
+            *size,
+            *x,
+            i64::from(*dx),
+            i64::from(*dy),
+            text.as_slice(),
+            y,
+        ),
+        PageMark::Stem { x, dx, from, to } => put_stem(
+            out,
+            *x,
+            i64::from(*dx),
+            i64::from(*from),
+            i64::from(*to),
+            y,
+        ),
+        PageMark::Beam {
+            way,
+            x1,
+            x2,
+            from,
+            to,
+        } => put_beam(out, *way, *x1, *x2, i64::from(*from), i64::from(*to), y),
+        PageMark::Arc {
+            x1,
+            x2,
+            from,
+            to,
+            bulge,
+        } => put_arc(
+            out,
+            *x1,
+            *x2,
+            i64::from(*from),
+            i64::from(*to),
+            i64::from(*bulge),
+            y,
+        ),
+    }
+}
+
+/// Whether a mark may stand on a staff at `y`.
+#[tactic(auto, using(crate::proofs::Signs::as_passed))]
+pub fn is_page_mark(y: i64, m: &PageMark) -> bool
+    ensures { IsTrue result ↔ IsPageMark y m.now }
+{
+    match m {
+        PageMark::Glyph { x, dx, dy, .. } => is_placed(y, *x, i64::from(*dx), i64::from(*dy)),
+        PageMark::Words {
+            x,
+            dx,
+            dy,
+            text,
+            ..
+        } => is_words_mark(y, *x, i64::from(*dx), i64::from(*dy), text.as_slice()),
+        PageMark::Stem { x, dx, from, to } => is_stem(
+            y,
+            *x,
+            i64::from(*dx),
+            i64::from(*from),
+            i64::from(*to),
+        ),
+        PageMark::Beam {
+            x1,
+            x2,
+            from,
+            to,
+            ..
+        } => is_span(y, *x1, *x2, i64::from(*from), i64::from(*to), 250),
+        PageMark::Arc {
+            x1,
+            x2,
+            from,
+            to,
+            bulge,
+        } => is_span(
+            y,
+            *x1,
+            *x2,
+            i64::from(*from),
+            i64::from(*to),
+            i64::from(*bulge),
+        ),
+    }
+}
+
+/// The line of a mark on a staff at `y`, without the LF that ends it, or
+/// `None` exactly where the mark may not stand on that staff.
+pub fn write_op(alloc: Global, m: &PageMark, y: i64) -> Result<Option<Text>, Memory>
+    ensures { IfOk result (λ op. MatchOption op (¬ IsPageMark y m.now) (λ line. IsPageMark y m.now × (line ≡ mark_line y m.now))) }
+{
+    if !is_page_mark(y, m) {
+        return Ok(None);
+    }
+    let mut line = Text::new(alloc);
+    put_op(&mut line, y, m)?;
+    Ok(Some(line))
+}
