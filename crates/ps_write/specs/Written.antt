@@ -1,0 +1,51 @@
+-- What a step of a writer, or a whole document, gave to a sink.
+use Rattle.std.specs.Prelude.{◌≡◌, ℕ, ◌+◌, ◌^◌, ◌<◌, ◌≤◌, length, take, List, [], ◌∷◌, Option, Result, Ok, Err, ⊤}
+use Rattle.std.specs.Io.KnownBytes.{Appends}
+use Rattle.eng_io.specs.Causes.{Rose}
+use Rattle.ps_text.specs.Document.{page_text}
+use Rattle.ps_text.specs.declared.sheet.Page.{Page}
+use Rattle.ps_write.specs.declared.steps.DocError.{DocError}
+use Rattle.ps_write.specs.declared.steps.DocError.TheVariants as errors
+use Rattle.ps_write.specs.declared.steps.DocWriter.{DocWriter}
+
+-- exactly the first bytes that the error counts went out, or, for want of
+-- memory, a front of the text
+abbrev pub WroteFront : Option (List ℕ) → Option (List ℕ) → List ℕ → DocError → Type 0
+WroteFront old new text (errors.Write e) = Appends old new (take e.written text) × (e.written ≤ length text)
+WroteFront old new text errors.Memory = (n : ℕ) × Appends old new (take n text) × (n ≤ length text)
+
+-- the whole text went out, or a front of it
+abbrev pub Wrote : {T : Type 0} → Option (List ℕ) → Option (List ℕ) → List ℕ → Result T DocError → Type 0
+Wrote old new text (Ok _) = Appends old new text
+Wrote old new text (Err e) = WroteFront old new text e
+
+-- a write fails only where the sink's count of faults rose, and any other answer
+-- leaves the count as it was
+abbrev pub Counted : {T : Type 0} → ℕ → ℕ → Result T DocError → Type 0
+Counted before now (Ok _) = now ≡ before
+Counted before now (Err (errors.Write e)) = Rose before now
+Counted before now (Err errors.Memory) = now ≡ before
+
+-- the bytes written by an error, after those before, are fewer than 2^64
+abbrev pub FitsError : ℕ → DocError → Type 0
+FitsError before (errors.Write e) = before + e.written < 2 ^ 64
+FitsError before errors.Memory = ⊤
+
+abbrev pub FitsAfter : {T : Type 0} → ℕ → Result T DocError → Type 0
+FitsAfter before (Ok _) = ⊤
+FitsAfter before (Err e) = FitsError before e
+
+-- a writer that has so many pages, and a text after so many bytes
+pub record IsNext (pages before : ℕ) (text : List ℕ) (w : DocWriter) : Type 0 where
+  pub pages_now : w.pages ≡ pages
+  pub written_now : w.written ≡ before + length text
+
+-- an error of a step that began after some bytes, told for the whole
+abbrev pub counted_from : ℕ → DocError → DocError
+counted_from before (errors.Write e) = errors.Write (record { written = before + e.written })
+counted_from before errors.Memory = errors.Memory
+
+-- pages, the first with the number k, went out one after another
+abbrev pub WrotePages : ℕ → List Page → Option (List ℕ) → Option (List ℕ) → Type 0
+WrotePages k [] old new = new ≡ old
+WrotePages k (p ∷ ps) old new = (mid : Option (List ℕ)) × Appends old mid (page_text k p) × WrotePages (k + 1) ps mid new

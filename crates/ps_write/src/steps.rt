@@ -1,0 +1,125 @@
+ghost use Rattle.std.specs.Prelude.{◌≡◌, ◌+◌, ◌-◌, ◌^◌, ◌<◌, length, IfOk};
+ghost use Rattle.ps_text.specs.Document.{page_text, trailer};
+ghost use Rattle.ps_text.specs.Prolog.{prolog};
+ghost use Rattle.ps_text.specs.Range.{IsFrame, IsPage};
+ghost use Rattle.ps_write.specs.Written.{Wrote, Counted, FitsAfter, IsNext};
+
+use eng_io::{Sink, WriteError, write_all};
+use mus_units::{Memory, Text};
+use ps_text::{Frame, Page, put_page, put_prolog, put_trailer};
+use std::alloc::Global;
+use thiserror::Error;
+
+/// Why a document was not written to its end.
+#[derive(Clone, Copy, Debug, PartialEq, Eq, Error)]
+pub enum DocError {
+    /// The sink failed, and exactly the first `written` bytes of the call's text
+    /// went out.
+    #[error("a document was cut off")]
+    Write(WriteError),
+    /// Memory ran out; the sink has a front of the call's text.
+    #[error("out of memory")]
+    Memory,
+}
+
+/// A document on its way: how many pages and how many bytes were written.
+#[derive(Debug, Drop)]
+pub struct DocWriter {
+    pub pages: u32,
+    pub written: u64,
+}
+
+/// Writes a piece after `before` bytes of a document, and tells how many bytes
+/// of it there are then.
+fn send<O: Sink>(sink: &mut O, piece: &[u8], before: u64) -> Result<u64, DocError>
+    ensures wrote { Wrote (O.taken sink.old) (O.taken sink.new) piece.now result }
+    ensures counts { Counted (O.faults sink.old) (O.faults sink.new) result }
+    ensures fits { FitsAfter before result }
+    ensures sum { IfOk result (λ n. n ≡ before + length piece.now) }
+{
+    let Some(after) = before.checked_add(piece.len() as u64) else {
+        return Err(DocError::Memory);
+    };
+    match write_all(sink, piece) {
+        Ok(()) => Ok(after),
+        Err(e) => Err(DocError::Write(e)),
+    }
+}
+
+fn prolog_bytes(alloc: Global, frame: &Frame) -> Result<Text, Memory>
+    ensures { IfOk result (λ text. text ≡ prolog frame.now) }
+{
+    let mut text = Text::new(alloc);
+    put_prolog(alloc, &mut text, frame)?;
+    Ok(text)
+}
+
+fn page_bytes(alloc: Global, k: u64, p: &Page) -> Result<Text, Memory>
+    requires { IsPage p.now }
+    ensures { IfOk result (λ text. text ≡ page_text k p.now) }
+{
+    let mut text = Text::new(alloc);
+    put_page(&mut text, k, p)?;
+    Ok(text)
+}
+
+fn trailer_bytes(alloc: Global, n: u64) -> Result<Text, Memory>
+    ensures { IfOk result (λ text. text ≡ trailer n) }
+{
+    let mut text = Text::new(alloc);
+    put_trailer(&mut text, n)?;
+    Ok(text)
+}
+
+/// Writes the prolog of a document, up to and with the line `%%EndProlog`. Write
+/// comes only where the sink's count of faults rose, Ok only where it didn't and
+/// the whole text went out.
+pub fn begin<O: Sink>(alloc: Global, frame: &Frame, sink: &mut O) -> Result<DocWriter, DocError>
+    requires { IsFrame frame.now }
+    ensures wrote { Wrote (O.taken sink.old) (O.taken sink.new) (prolog frame.now) result }
+    ensures counts { Counted (O.faults sink.old) (O.faults sink.new) result }
+    ensures writer { IfOk result (λ w. IsNext 0 0 (prolog frame.now) w) }
+{
+    let Ok(text) = prolog_bytes(alloc, frame) else {
+        return Err(DocError::Memory);
+    };
+    let written = send(sink, text.as_slice(), 0)?;
+    Ok(DocWriter { pages: 0, written })
+}
+
+/// Writes the next page. It may not be the last page that a document can number.
+pub fn page<O: Sink>(
+    alloc: Global,
+    w: DocWriter,
+    p: &Page,
+    sink: &mut O,
+) -> Result<DocWriter, DocError>
+    requires good { IsPage p.now }
+    requires few { w.pages < 2 ^ 32 - 1 }
+    ensures wrote { Wrote (O.taken sink.old) (O.taken sink.new) (page_text (w.pages + 1) p.now) result }
+    ensures counts { Counted (O.faults sink.old) (O.faults sink.new) result }
+    ensures fits { FitsAfter w.written result }
+    ensures writer { IfOk result (λ v. IsNext (w.pages + 1) w.written (page_text (w.pages + 1) p.now) v) }
+{
+    let Ok(text) = page_bytes(alloc, u64::from(w.pages) + 1, p) else {
+        return Err(DocError::Memory);
+    };
+    let written = send(sink, text.as_slice(), w.written)?;
+    Ok(DocWriter {
+        pages: w.pages + 1,
+        written,
+    })
+}
+
+/// Writes the end of a document, with the number of its pages.
+pub fn finish<O: Sink>(alloc: Global, w: DocWriter, sink: &mut O) -> Result<(), DocError>
+    ensures wrote { Wrote (O.taken sink.old) (O.taken sink.new) (trailer w.pages) result }
+    ensures counts { Counted (O.faults sink.old) (O.faults sink.new) result }
+    ensures fits { FitsAfter w.written result }
+{
+    let Ok(text) = trailer_bytes(alloc, u64::from(w.pages)) else {
+        return Err(DocError::Memory);
+    };
+    send(sink, text.as_slice(), w.written)?;
+    Ok(())
+}
