@@ -1,10 +1,10 @@
 -- The steps that take an input apart find the title and the letters exactly where it is of the form.
-use Rattle.std.proofs.Common.{◌≡◌, refl, sym, ◌∙◌, ap, subst, ℕ, zero, suc, ◌+◌, ◌≤◌, ◌<◌, Bool, true, false, cond, ◌&&◌, ◌==◌, nat_eq, nat_le, List, [], ◌∷◌, ◌++◌, length, take, drop, codes, Option, Some, None, option_map, MatchOption, arith, add-one, add_comm, take-append-drop}
+use Rattle.std.proofs.Common.{◌≡◌, refl, sym, ◌∙◌, ap, subst, ℕ, ◌+◌, ◌≤◌, Bool, true, false, cond, ◌&&◌, ◌==◌, nat_eq, nat_le, List, [], ◌∷◌, ◌++◌, length, take, drop, codes, Option, Some, None, option_map, MatchOption, arith, add-one, add_comm, take-append-drop}
 use Rattle.std.proofs.Math.Seq.{take-append_seam, drop-append_seam}
 use Rattle.std.proofs.lemmas.List.{nil_from_length}
 use Rattle.std.proofs.lemmas.List.Folds.{length-prefix_len}
 use Rattle.std.proofs.lemmas.Bool.Decides.{nat_tests}
-use Rattle.std.specs.List.{prefix_len, list_all, starts_with}
+use Rattle.std.specs.List.{prefix_len, list_all}
 use lib.Pointwise.{pointwise}
 use Rattle.set_tune.specs.Plain.{is_letter}
 use Rattle.abcps.specs.Form.{is_title_letter, IsWord, IsForm, behind, word_of, title_word, letter_word, ◌>>=◌, at_end, from_bar, from_measure, from_key, from_title, form_of}

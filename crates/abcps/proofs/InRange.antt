@@ -1,19 +1,17 @@
 -- The sheet of an input of the form may be written: all its numbers and words are in range.
-use Rattle.std.proofs.Common.{◌≡◌, ℕ, ◌+◌, ◌-◌, ◌*◌, ◌/◌, ◌<◌, ◌≤◌, ℤ, pos, negsuc, ◌+ℤ◌, ◌-ℤ◌, ◌≤ℤ◌, ◌<ℤ◌, Bool, true, false, ◌&&◌, List, [], ◌∷◌, length, refl, arith}
+use Rattle.std.proofs.Common.{◌≡◌, ℕ, ℤ, pos, negsuc, ◌+ℤ◌, ◌-ℤ◌, ◌≤ℤ◌, Bool, true, false, ◌&&◌, List, [], ◌∷◌, refl, arith}
 use Rattle.std.proofs.lemmas.Int.{ints, clamps}
 use Rattle.std.proofs.lemmas.Bool.Decides.{nat_tests}
 use Rattle.std.proofs.lemmas.List.Elements.{All-from_recursion}
 use Rattle.std.specs.Int.{int_max}
 use Rattle.std.specs.List.{AllByRecursion, list_all}
-use Rattle.mus_units.specs.declared.glyph.Glyph.{Glyph}
-use Rattle.glyph_paths.specs.Bounds.{bounds_in}
 use Rattle.glyph_paths.proofs.BoundLaws.{bounds_are_close}
 use Rattle.ps_text.specs.declared.marks.PageMark.{PageMark}
 use Rattle.ps_text.specs.declared.marks.PageMark.TheVariants as marks
 use Rattle.ps_text.specs.declared.sheet.Staff.{Staff}
 use Rattle.ps_text.specs.declared.sheet.Item.{Item}
 use Rattle.ps_text.specs.declared.sheet.Item.TheVariants as items
-use Rattle.ps_text.specs.Range.{is_shown, IsNumber, IsOffset, IsWords, IsEnd, IsPageMark, IsStaff, IsSystem, IsTitle, IsOrdinal, IsItem, IsPage, IsFrame, IsSheet}
+use Rattle.ps_text.specs.Range.{is_shown, IsNumber, IsOffset, IsEnd, IsPageMark, IsStaff, IsSystem, IsOrdinal, IsItem, IsPage, IsSheet}
 use Rattle.set_tune.specs.Plain.{plain_marks, plain_staff}
 use Rattle.set_tune.specs.Near.{IsNear, IsEarly, IsNearMark}
 use Rattle.abcps.specs.Form.{is_title_letter, IsWord}

@@ -1,5 +1,5 @@
 -- The one form of input that is set so far: a tune with a title of letters, the key C, and one measure of letters.
-use Rattle.std.specs.Prelude.{◌≡◌, ◌≤◌, ℕ, Bool, ◌&&◌, ◌||◌, ◌==◌, nat_eq, nat_le, if◌then◌else◌, List, [], ◌∷◌, ◌++◌, length, take, drop, codes, IsTrue, Option, Some, None}
+use Rattle.std.specs.Prelude.{◌≡◌, ◌≤◌, ℕ, Bool, ◌&&◌, ◌||◌, ◌==◌, nat_eq, nat_le, if◌then◌else◌, List, ◌++◌, length, take, drop, codes, IsTrue, Option, Some, None}
 use Rattle.std.specs.List.{starts_with, prefix_len, list_all}
 use Rattle.set_tune.specs.Plain.{is_letter}
 

@@ -1,5 +1,5 @@
 -- What a run promises, one fact for each name.
-use Rattle.std.specs.Prelude.{◌≡◌, ◌≢◌, ◌⊎◌, ◌≤◌, ◌↔◌, ℕ, List, [], ◌∷◌, length, codes, Some}
+use Rattle.std.specs.Prelude.{◌≡◌, ◌≢◌, ◌⊎◌, ◌≤◌, ◌↔◌, ℕ, List, length, codes, Some}
 use Rattle.eng_io.specs.Causes.{Rose}
 use Rattle.ps_text.specs.Document.{document}
 use Rattle.abcps.specs.Form.{IsForm}

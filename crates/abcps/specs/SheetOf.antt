@@ -1,6 +1,6 @@
 -- The sheet that a title and a measure of letters call for: one page of the default paper, with the tune line, the
 -- title in the middle above, and the staff as one system below it.
-use Rattle.std.specs.Prelude.{ℕ, ℤ, pos, ◌+◌, ◌-◌, ◌*◌, ◌/◌, ◌+ℤ◌, ◌-ℤ◌, List, [], ◌∷◌, length}
+use Rattle.std.specs.Prelude.{ℕ, ℤ, pos, ◌-◌, ◌*◌, ◌/◌, ◌+ℤ◌, ◌-ℤ◌, List, [], ◌∷◌, length}
 use Rattle.std.specs.Int.{int_max}
 use Rattle.mus_units.specs.declared.glyph.Size.{Size}
 use Rattle.mus_units.specs.declared.glyph.Size.TheVariants as sizes

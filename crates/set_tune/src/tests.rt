@@ -4,6 +4,7 @@ use ps_text::PageMark;
 use std::test::*;
 
 #[test]
+#[tactic(auto, unfolding(crate::specs::Plain::is_letter))]
 fn sets_one_letter(rt: HostRuntime) -> Result<(), Fail> {
     let Ok(staff) = set_plain(rt.alloc(), b"c") else {
         return Ok(assert!(rt; false));

@@ -1,4 +1,4 @@
-use Rattle.std.proofs.Common.{ap, ◌∙◌, sym, arith, List, [], ◌∷◌, ◌≡◌}
+use Rattle.std.proofs.Common.{ap, ◌∙◌, sym, arith, [], ◌∷◌}
 use Rattle.std.specs.String.{string_bytes}
 use Rattle.abcps.proofs.Words.{one_item}
 use Rattle.abcps.proofs.running.is_listed.Goals as goal
