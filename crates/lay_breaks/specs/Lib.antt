@@ -1,0 +1,5 @@
+pub mod Breaking
+pub mod Table
+pub mod Answers
+pub mod Rows
+pub mod Sample
