@@ -2,4 +2,5 @@ pub mod Breaking
 pub mod Table
 pub mod Answers
 pub mod Rows
+pub mod Spans
 pub mod Sample

@@ -32,3 +32,13 @@ pub trait Costs {
     /// Bar 0 isn't forced.
     ghost begins_free: { (s : Self) → is_forced s 0 ≡ false };
 }
+
+/// A span that fits, and what it costs.
+#[derive(Clone, Copy, Debug, PartialEq, Eq)]
+pub struct Span {
+    /// The bar after which it begins.
+    pub a: u32,
+    /// The bar with which it ends, past `a`.
+    pub b: u32,
+    pub badness: u64,
+}

@@ -10,7 +10,7 @@ pub mod costs;
 mod table;
 
 pub use breaking::{BreakError, Breaking, least, one_is_chosen};
-pub use costs::Costs;
+pub use costs::{Costs, Span};
 
 #[cfg(test)]
 mod tests;

@@ -86,6 +86,7 @@ fn agrees(alloc: Global, case: &Case) -> bool {
 
 #[test]
 fn small_rows(rt: HostRuntime) {
+    one_is_chosen();
     // no bar; three bars that spans of at most two bars reach at the same cost, without and with a forced bar;
     // blocks of heights 8000, 500, 5000, 9000 on pages of height 10000, where the last page costs nothing
     let cases = [
