@@ -1,0 +1,20 @@
+-- The laws of listings.
+use Rattle.std.specs.Prelude.{◌≡◌, ℕ, List, [], ◌++◌, ◌↔◌}
+use Rattle.lay_cert.specs.Listing.{Entry, IsListing}
+use Rattle.lay_cert.specs.Places.{IsFirstFault, IsGoodThroughout}
+
+-- a text is a listing exactly where each of its lines is good and the last is `end`
+abbrev pub GoodByLines : Type 0
+GoodByLines = (text : List ℕ) (es : List Entry) → IsListing text es ↔ IsGoodThroughout text es
+
+-- a text tells one list of entries
+abbrev pub TellsOne : Type 0
+TellsOne = (text : List ℕ) (es fs : List Entry) → IsListing text es → IsListing text fs → es ≡ fs
+
+-- a text with a first fault is no listing
+abbrev pub FaultsTellNone : Type 0
+FaultsTellNone = (text : List ℕ) (number : ℕ) (es : List Entry) → IsFirstFault text number → IsListing text es → ⊥
+
+-- what continues a listing is none
+abbrev pub NoPrefix : Type 0
+NoPrefix = (text more : List ℕ) (es fs : List Entry) → IsListing text es → IsListing (text ++ more) fs → more ≡ []
