@@ -44,17 +44,17 @@ listed_small n last (s ∷ ss) h a b =
       | false ↦ listed_small n (Some s) ss h.1 a b
     ]
 
-ends_are : (a b : ℕ) (s : Span) → has_ends a b s ≡ true → (s.a ≡ a) × (s.b ≡ b)
+pub ends_are : (a b : ℕ) (s : Span) → has_ends a b s ≡ true → (s.a ≡ a) × (s.b ≡ b)
 ends_are a b s e = grind (arith, nat_tests)
 
-has_these : (a b : ℕ) (s : Span) → s.a ≡ a → s.b ≡ b → has_ends a b s ≡ true
+pub has_these : (a b : ℕ) (s : Span) → s.a ≡ a → s.b ≡ b → has_ends a b s ≡ true
 has_these a b s e f = grind (arith, nat_tests)
 
 -- the list behind s has the span, or s is it
-listed_more : (a b : ℕ) (s : Span) (ss : List Span) → IsSome (listed ss a b) → IsSome (listed (s ∷ ss) a b)
+pub listed_more : (a b : ℕ) (s : Span) (ss : List Span) → IsSome (listed ss a b) → IsSome (listed (s ∷ ss) a b)
 listed_more a b s ss h = elim (has_ends a b s) as (λ t. IsSome (if t then Some s.badness else listed ss a b)) [ true ↦ refl | false ↦ h ]
 
-listed_first : (a b : ℕ) (s : Span) (ss : List Span) → s.a ≡ a → s.b ≡ b → IsSome (listed (s ∷ ss) a b)
+pub listed_first : (a b : ℕ) (s : Span) (ss : List Span) → s.a ≡ a → s.b ≡ b → IsSome (listed (s ∷ ss) a b)
 listed_first a b s ss e f = rw (has_these a b s e f) refl
 
 -- where a span is listed, the span with one bar less is, or it is the one before the list

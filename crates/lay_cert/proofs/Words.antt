@@ -23,11 +23,11 @@ decimal_lacks b n out l = decimal_by_steps (λ n ds. Lacks b ds)
     other d (inl h) l e = omega arith
     other d (inr h) l e = omega arith
 
-abbrev head_of : List ℕ → ℕ
+abbrev pub head_of : List ℕ → ℕ
 head_of [] = 0
 head_of (x ∷ xs) = x
 
-abbrev tail_of : List ℕ → List ℕ
+abbrev pub tail_of : List ℕ → List ℕ
 tail_of [] = []
 tail_of (x ∷ xs) = xs
 

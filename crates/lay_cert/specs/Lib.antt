@@ -1,5 +1,6 @@
 pub mod Lines
 pub mod Listing
 pub mod Places
+pub mod Told
 pub mod Laws
 pub mod Verdicts
