@@ -74,21 +74,40 @@ may_lack (proving es e) (line.Potential bar least) m g =
 may_lack p l m g = absurd m
 
 -- texts that begin with other bytes are apart
-apart : (a b : List ℕ) → (head_of a == head_of b) ≡ false → a ≡ b → ⊥
+pub apart : (a b : List ℕ) → (head_of a == head_of b) ≡ false → a ≡ b → ⊥
 apart a b n e = true≢false (sym (eq-eqb (head_of a) (head_of b) (ap head_of e)) ∙ n)
 
 abbrev span_of : ℕ → ℕ → ℕ → Span
 span_of a b badness = record { a = a; b = b; badness = badness }
 
+-- lines of one kind with the same text tell the same
+pub tune_alone : (tune bars t b : ℕ) → tune < 2 ^ 64 → bars < 2 ^ 64 → t < 2 ^ 64 → b < 2 ^ 64
+    → line_text (line.Tune tune bars) ≡ line_text (line.Tune t b) → (tune ≡ t) × (bars ≡ b)
+tune_alone tune bars t b la lb ka kb e =
+    let r = after_prefix (codes "tune ") (line_text (line.Tune tune bars)) (decimal tune ++ (32 ∷ (codes "measures " ++ decimal bars))) (decimal t ++ (32 ∷ (codes "measures " ++ decimal b)))
+    (tune_text tune bars) (e ∙ tune_text t b) in
+    let f = one_field tune t _ (codes "measures " ++ decimal bars) (codes "measures " ++ decimal b) la ka refl r in
+    (f.0, decimal_injective bars b lb kb (after_prefix (codes "measures ") (codes "measures " ++ decimal bars) (decimal bars) (decimal b) refl f.1))
+
+pub span_alone : (s t : Span) → s.a < 2 ^ 64 → s.b < 2 ^ 64 → s.badness < 2 ^ 64 → t.a < 2 ^ 64 → t.b < 2 ^ 64 → t.badness < 2 ^ 64
+    → line_text (line.OneSpan s) ≡ line_text (line.OneSpan t) → s ≡ t
+span_alone s t ha hb hc ka kb kc e =
+    let r = after_prefix (codes "span ") (line_text (line.OneSpan s)) (decimal s.a ++ (32 ∷ (decimal s.b ++ (32 ∷ decimal s.badness)))) (decimal t.a ++ (32 ∷ (decimal t.b ++ (32 ∷ decimal t.badness))))
+    (span_text s) (e ∙ span_text t) in
+    let a = one_field s.a t.a _ (decimal s.b ++ (32 ∷ decimal s.badness)) (decimal t.b ++ (32 ∷ decimal t.badness)) ha ka refl r in
+    let b = one_field s.b t.b _ (decimal s.badness) (decimal t.badness) hb kb refl a.1 in
+    let c = decimal_injective s.badness t.badness hc kc b.1 in
+    ap (λ a. span_of a s.b s.badness) a.0 ∙ (ap (λ b. span_of t.a b s.badness) b.0 ∙ ap (λ c. span_of t.a t.b c) c)
+
+pub choice_alone : (bar b : ℕ) → bar < 2 ^ 64 → b < 2 ^ 64 → line_text (line.Choose bar) ≡ line_text (line.Choose b) → bar ≡ b
+choice_alone bar b l k e = decimal_injective bar b l k (after_prefix (codes "choose ") (line_text (line.Choose bar)) (decimal bar) (decimal b) refl e)
+
 same_tune : (es : List Entry) (tune bars : ℕ) (m : Line) → MayCome (between es) (line.Tune tune bars) → MayCome (between es) m
     → line_text (line.Tune tune bars) ≡ line_text m → line.Tune tune bars ≡ m
 same_tune es tune bars (line.Tune t b) h k e =
     let la = h.1 in let lb = h.2 in let ka = k.1 in let kb = k.2 in
-    let r = after_prefix (codes "tune ") (line_text (line.Tune tune bars)) (decimal tune ++ (32 ∷ (codes "measures " ++ decimal bars))) (decimal t ++ (32 ∷ (codes "measures " ++ decimal b)))
-    (tune_text tune bars) (e ∙ tune_text t b) in
-    let f = one_field tune t _ (codes "measures " ++ decimal bars) (codes "measures " ++ decimal b) (omega arith) (omega arith) refl r in
-    let d = decimal_injective bars b (omega arith) (omega arith) (after_prefix (codes "measures ") (codes "measures " ++ decimal bars) (decimal bars) (decimal b) refl f.1) in
-    ap (λ t. line.Tune t bars) f.0 ∙ ap (λ b. line.Tune t b) d
+    let f = tune_alone tune bars t b (omega arith) (omega arith) (omega arith) (omega arith) e in
+    ap (λ t. line.Tune t bars) f.0 ∙ ap (λ b. line.Tune t b) f.1
 same_tune es tune bars line.End h k e = absurd (apart _ _ refl e)
 same_tune es tune bars m h k e = absurd k
 
@@ -101,15 +120,7 @@ same_span : (es : List Entry) (x : Entry) (s : Span) (m : Line) → x.bars ≤ 4
     → line_text (line.OneSpan s) ≡ line_text m → line.OneSpan s ≡ m
 same_span es x s (line.OneSpan t) f h k e =
     let ha = h.1.rises in let hb = h.1.within in let hc = h.1.small in let ka = k.1.rises in let kb = k.1.within in let kc = k.1.small in
-    let r = after_prefix (codes "span ") (line_text (line.OneSpan s)) (decimal s.a ++ (32 ∷ (decimal s.b ++ (32 ∷ decimal s.badness)))) (decimal t.a ++ (32 ∷ (decimal t.b ++ (32 ∷ decimal t.badness))))
-    (span_text s) (e ∙ span_text t) in
-    let a = one_field s.a t.a _ (decimal s.b ++ (32 ∷ decimal s.badness)) (decimal t.b ++ (32 ∷ decimal t.badness)) (omega arith) (omega arith) refl r in
-    let b = one_field s.b t.b _ (decimal s.badness) (decimal t.badness) (omega arith) (omega arith) refl a.1 in
-    let c = decimal_injective s.badness t.badness (omega arith) (omega arith) b.1 in
-    ap line.OneSpan (same a.0 b.0 c)
-  where
-    same : s.a ≡ t.a → s.b ≡ t.b → s.badness ≡ t.badness → s ≡ t
-    same a b c = ap (λ a. span_of a s.b s.badness) a ∙ (ap (λ b. span_of t.a b s.badness) b ∙ ap (λ c. span_of t.a t.b c) c)
+    ap line.OneSpan (span_alone s t (omega arith) (omega arith) (omega arith) (omega arith) (omega arith) (omega arith) e)
 same_span es x s (line.Choose b) f h k e = absurd (apart _ _ refl e)
 same_span es x s (line.Total t) f h k e = absurd (apart _ _ refl e)
 same_span es x s m f h k e = absurd k
@@ -120,7 +131,7 @@ same_choice es x bar (line.Choose b) g h k e =
     let w = (listed_within x.bars None x.spans (last_from 0 x.breaks) bar g.1.spans h).1 in
     let v = (listed_within x.bars None x.spans (last_from 0 x.breaks) b g.1.spans k).1 in
     let f = g.1.few in
-    ap line.Choose (decimal_injective bar b (omega arith) (omega arith) (after_prefix (codes "choose ") (line_text (line.Choose bar)) (decimal bar) (decimal b) refl e))
+    ap line.Choose (choice_alone bar b (omega arith) (omega arith) e)
 same_choice es x bar (line.OneSpan s) g h k e = absurd (apart _ _ refl e)
 same_choice es x bar (line.Total t) g h k e = absurd (apart _ _ refl e)
 same_choice es x bar m g h k e = absurd k

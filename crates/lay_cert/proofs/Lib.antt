@@ -5,3 +5,7 @@ pub mod Steps
 pub mod Through
 pub mod Sums
 pub mod Alone
+pub mod Indexing
+pub mod Put
+pub mod Kept
+pub mod Judging

@@ -12,7 +12,7 @@ use Rattle.lay_cert.specs.declared.lines.Line.TheVariants as line
 use Rattle.lay_cert.proofs.Grown.{push_on, push_last_span, push_last, push_tune}
 use Rattle.lay_cert.proofs.Steps.{leads_both}
 
-abbrev begun_with : ℕ → ℕ → List Span → List ℕ → Entry
+abbrev pub begun_with : ℕ → ℕ → List Span → List ℕ → Entry
 begun_with k n spans breaks = record { tune = k; bars = n; spans = spans; breaks = breaks; total = 0; potentials = [] }
 
 abbrev told : Entry → List (Option ℕ) → Entry

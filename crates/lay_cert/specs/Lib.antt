@@ -4,3 +4,6 @@ pub mod Places
 pub mod Told
 pub mod Laws
 pub mod Verdicts
+pub mod Indexed
+pub mod Stands
+pub mod Answers

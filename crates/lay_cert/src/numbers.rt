@@ -72,7 +72,7 @@ fn field(bytes: &[u8]) -> Option<(u32, &[u8])>
 /// The number and the bars of a tune's first line.
 pub fn read_tune(bytes: &[u8]) -> Option<(u32, u32)>
     ensures { MatchOption result ((tune bars : ℕ) → tune < 2 ^ 32 → bars < 2 ^ 32 → bytes.now ≡ line_text (line.Tune tune bars) → ⊥)
-        (λ z. bytes.now ≡ line_text (line.Tune z.0 z.1)) }
+        (λ z. (bytes.now ≡ line_text (line.Tune z.0 z.1)) × (z.0 < 2 ^ 32) × (z.1 < 2 ^ 32)) }
 {
     let rest = strip(b"tune ", bytes)?;
     let (tune, rest) = field(rest)?;
@@ -83,7 +83,7 @@ pub fn read_tune(bytes: &[u8]) -> Option<(u32, u32)>
 /// The span of a span's line.
 pub fn read_span(bytes: &[u8]) -> Option<Span>
     ensures { MatchOption result ((s : Span) → s.a < 2 ^ 32 → s.b < 2 ^ 32 → s.badness < 2 ^ 64 → bytes.now ≡ line_text (line.OneSpan s) → ⊥)
-        (λ s. bytes.now ≡ line_text (line.OneSpan s)) }
+        (λ s. (bytes.now ≡ line_text (line.OneSpan s)) × (s.a < 2 ^ 32) × (s.b < 2 ^ 32) × (s.badness < 2 ^ 64)) }
 {
     let rest = strip(b"span ", bytes)?;
     let (a, rest) = field(rest)?;
@@ -95,7 +95,7 @@ pub fn read_span(bytes: &[u8]) -> Option<Span>
 /// The bar of a break's line.
 pub fn read_choice(bytes: &[u8]) -> Option<u32>
     ensures { MatchOption result ((bar : ℕ) → bar < 2 ^ 32 → bytes.now ≡ line_text (line.Choose bar) → ⊥)
-        (λ bar. bytes.now ≡ line_text (line.Choose bar)) }
+        (λ bar. (bytes.now ≡ line_text (line.Choose bar)) × (bar < 2 ^ 32)) }
 {
     small_number(strip(b"choose ", bytes)?)
 }
