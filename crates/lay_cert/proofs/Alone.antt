@@ -1,20 +1,20 @@
 -- A text is cut into good lines in one way.
-use Rattle.std.proofs.Common.{◌≡◌, ◌≢◌, ℕ, zero, suc, ◌+◌, ◌*◌, ◌<◌, ◌≤◌, ◌^◌, ◌==◌, Bool, true, false, List, [], ◌∷◌, ◌++◌, length, Option, Some, None, IsSome, refl, sym, ◌∙◌, ap, subst, arith, inl, inr, codes, decimal, if◌then◌else◌}
+use Rattle.std.proofs.Common.{◌≡◌, ℕ, ◌<◌, ◌≤◌, ◌^◌, ◌==◌, Bool, true, false, List, [], ◌∷◌, ◌++◌, Option, Some, None, refl, sym, ◌∙◌, ap, subst, arith, inl, codes, decimal, if◌then◌else◌}
 use Rattle.std.proofs.lemmas.Bool.{true≢false, eq-eqb}
 use Rattle.std.proofs.lemmas.Fmt.{decimal_injective}
-use mathlib.Core.List.{append_assoc, append-nil}
-use Rattle.lay_breaks.specs.Breaking.{last_from, sum_from, IsPotential}
+use mathlib.Core.List.{append_assoc}
+use Rattle.lay_breaks.specs.Breaking.{last_from, IsPotential}
 use Rattle.lay_breaks.specs.Spans.{AreSpans, listed}
 use Rattle.lay_breaks.specs.declared.costs.Span.{Span}
 use Rattle.lay_cert.specs.Lines.{line_text, lines_then, sum_text, Lacks}
-use Rattle.lay_cert.specs.Listing.{Entry, EntriesFrom, none_forced, IsListing, listing_lines}
-use Rattle.lay_cert.specs.Places.{Place, begun, between, choosing, proving, ended, MayCome, next, Leads, IsStuck, IsFirstFault, IsGoodThroughout}
-use Rattle.lay_cert.specs.Told.{IsGood, lines_of}
+use Rattle.lay_cert.specs.Listing.{Entry, none_forced, IsListing, listing_lines}
+use Rattle.lay_cert.specs.Places.{Place, begun, between, choosing, proving, ended, MayCome, next, Leads, IsStuck}
+use Rattle.lay_cert.specs.Told.{IsGood}
 use Rattle.lay_cert.specs.Laws.{GoodByLines, TellsOne, FaultsTellNone, NoPrefix}
 use Rattle.lay_cert.specs.declared.lines.Line.{Line}
 use Rattle.lay_cert.specs.declared.lines.Line.TheVariants as line
 use Rattle.lay_cert.proofs.Words.{lacks_both, decimal_lacks, one_cut, one_field, after_prefix, head_of}
-use Rattle.lay_cert.proofs.Forms.{span_text, tune_text, potential_text}
+use Rattle.lay_cert.proofs.Forms.{span_text, tune_text}
 use Rattle.lay_cert.proofs.Grown.{listed_within}
 use Rattle.lay_cert.proofs.Sums.{total_within, least_within, one_potential}
 use Rattle.lay_cert.proofs.Steps.{step_good, leads_good, leads_lines}

@@ -1,5 +1,5 @@
 -- The text of a line, each part in front of what follows it.
-use Rattle.std.proofs.Common.{◌≡◌, ℕ, List, [], ◌∷◌, ◌++◌, ap, sym, codes, decimal, refl}
+use Rattle.std.proofs.Common.{◌≡◌, ℕ, ◌∷◌, ◌++◌, ap, codes, decimal, refl}
 use mathlib.Core.List.{append_assoc}
 use Rattle.lay_breaks.specs.declared.costs.Span.{Span}
 use Rattle.lay_cert.specs.Lines.{line_text, sum_text}

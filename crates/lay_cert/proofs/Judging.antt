@@ -1,17 +1,15 @@
 -- A step of the checker is one line, and its end is the end of the listing or the first fault.
-use Rattle.std.proofs.Common.{◌≡◌, ◌≢◌, ℕ, suc, ◌+◌, ◌*◌, ◌^◌, ◌<◌, ◌≤◌, ◌⊎◌, inl, inr, Bool, true, false, List, [], ◌∷◌, ◌++◌, length, Option, Some, None, IsSome, is_some, refl, sym, ◌∙◌, ap, subst, arith, slice_index_or, if◌then◌else◌, ◌==◌}
+use Rattle.std.proofs.Common.{◌≡◌, ◌≢◌, ℕ, suc, ◌+◌, ◌^◌, ◌<◌, ◌≤◌, ◌⊎◌, inl, inr, true, false, List, [], ◌∷◌, ◌++◌, length, Option, Some, None, is_some, refl, sym, ◌∙◌, ap, subst, arith, slice_index_or, if◌then◌else◌, ◌==◌}
 use Rattle.std.proofs.lemmas.Bool.{true≢false, eq-eqb, ne_eqb}
 use Rattle.std.proofs.lemmas.List.{length-append}
-use mathlib.Core.List.{append_assoc}
-use Rattle.lay_breaks.specs.Breaking.{last_from, sum_from, IsPotential}
+use Rattle.lay_breaks.specs.Breaking.{last_from, IsPotential}
 use Rattle.lay_breaks.specs.Spans.{MayFollow, listed}
 use Rattle.lay_breaks.specs.declared.costs.Span.{Span}
 use Rattle.lay_cert.specs.Lines.{line_text, lines_then, Lacks}
 use Rattle.lay_cert.specs.Listing.{Entry, IsListing, none_forced}
 use Rattle.lay_cert.specs.Places.{Place, begun, between, choosing, proving, ended, MayCome, next, Leads, IsStuck, IsFirstFault, last_tune_from, last_span_from}
-use Rattle.lay_cert.specs.Told.{IsGood}
 use Rattle.lay_cert.specs.Verdicts.{AreVerdicts, IsVerdict}
-use Rattle.lay_cert.specs.Stands.{IsChoosing, IsKept, Proves, Stands, NoneMayCome, IsStep, entry_of}
+use Rattle.lay_cert.specs.Stands.{IsChoosing, Proves, Stands, NoneMayCome, IsStep, entry_of}
 use Rattle.lay_cert.specs.Answers.{IsJudged}
 use Rattle.lay_cert.specs.declared.lines.Line.{Line}
 use Rattle.lay_cert.specs.declared.lines.Line.TheVariants as line
@@ -227,12 +225,17 @@ proved_one es js e v raw known h last is =
       is,
       potential_here es e v h,
       subst (λ t. Stands (stage.Proving (record { tune = v.tune; bars = v.bars; potentials = v.potentials; next = v.next + 1; verdict = v.verdict })) js
-          (if t then between (es ++ one_more e p ∷ []) else proving es (one_more e p))) (sym (ne_eqb (length e.potentials) e.bars part))
-          (known, record {
-            kept = record { few = h.kept.few; some_left = omega arith; one_each = h.kept.one_each };
-            tune = h.tune; bars = h.bars; next = let m = length-append e.potentials (p ∷ []) in omega (arith, m);
-            verdict = verdict_on v.verdict h.verdict; potentials = h.potentials;
-          }),
+          (if t then between (es ++ one_more e p ∷ []) else proving es (one_more e p))) (sym (ne_eqb (length e.potentials) e.bars part)) (
+            known,
+            record {
+              kept = record { few = h.kept.few; some_left = omega arith; one_each = h.kept.one_each };
+              tune = h.tune;
+              bars = h.bars;
+              next = let m = length-append e.potentials (p ∷ []) in omega (arith, m);
+              verdict = verdict_on v.verdict h.verdict;
+              potentials = h.potentials;
+            },
+          ),
     )
   where
     verdict_on : (w : Verdict) → IsVerdict e w → IsVerdict (one_more e (slice_index_or v.potentials v.next None)) w

@@ -1,5 +1,5 @@
 -- What the checker keeps while spans and breaks are told.
-use Rattle.std.proofs.Common.{◌≡◌, ◌≢◌, ℕ, ◌+◌, ◌*◌, ◌^◌, ◌<◌, ◌≤◌, Bool, true, false, List, [], ◌∷◌, ◌++◌, length, Option, Some, None, IsSome, IfSome, is_some, unwrap_or, refl, sym, ◌∙◌, ap, subst, arith, inl, inr, slice_set, Vec}
+use Rattle.std.proofs.Common.{◌≡◌, ◌≢◌, ℕ, ◌+◌, ◌^◌, ◌<◌, ◌≤◌, List, [], ◌∷◌, ◌++◌, length, Option, Some, None, IsSome, is_some, unwrap_or, refl, sym, ◌∙◌, ap, subst, arith, inl, inr, slice_set, Vec}
 use Rattle.std.specs.Global.{Global}
 use Rattle.std.proofs.lemmas.Bool.{true≢false, cases_eq}
 use Rattle.std.proofs.lemmas.List.{length-set}
@@ -56,7 +56,11 @@ kept_break c bar cost h e =
     let s = push_sum (listed c.spans) 0 bar c.breaks in
     let t = h.total in
     record {
-      few = h.few; spans = h.spans; last = h.last; one_each = h.one_each; indexed = h.indexed;
+      few = h.few;
+      spans = h.spans;
+      last = h.last;
+      one_each = h.one_each;
+      indexed = h.indexed;
       at = sym (push_last 0 bar c.breaks);
       choice = push_legal (listed c.spans) c.breaks bar h.choice w.0 some;
       total = omega (arith, s, p, t);

@@ -1,10 +1,11 @@
 -- The text of lines, one after the other.
-use Rattle.std.proofs.Common.{◌≡◌, ℕ, suc, ◌+◌, ◌<◌, List, [], ◌∷◌, ◌++◌, length, map, take, drop, Option, None, refl, sym, ◌∙◌, ap, arith, slice_index_or}
+use Rattle.std.proofs.Common.{◌≡◌, ℕ, ◌+◌, ◌<◌, List, [], ◌∷◌, ◌++◌, length, map, take, Option, None, refl, sym, ◌∙◌, ap, arith, slice_index_or}
 use Rattle.std.proofs.Common.{rules}
 use Rattle.std.proofs.lemmas.List.{take_more, length-take}
-use mathlib.Core.List.{append_assoc, append-nil}
+use mathlib.Core.List.{append_assoc}
 use Rattle.lay_cert.specs.Lines.{line_text, lines_then}
-use Rattle.lay_cert.specs.Listing.{potential_lines}
+use Rattle.lay_cert.specs.Laws.{InParts}
+use Rattle.lay_cert.specs.Listing.{Entry, entry_lines, all_lines, entries_text, potential_lines}
 use Rattle.lay_cert.specs.declared.lines.Line.{Line}
 use Rattle.lay_cert.specs.declared.lines.Line.TheVariants as line
 use Rattle.lay_cert.proofs.Grown.{push_potential, push_map}
@@ -56,3 +57,13 @@ put_whole old one two three four five t m ss cs ps a b c d e =
     let y = put_both old two three (t ∷ ss) cs x c in
     let z = put_both old three four ((t ∷ ss) ++ cs) (m ∷ []) y d in
     put_both old four five (((t ∷ ss) ++ cs) ++ m ∷ []) ps z e ∙ ap (λ ls. old ++ lines_then ls []) (append_assoc ((t ∷ ss) ++ cs) (m ∷ []) ps)
+
+entries_are : (es : List Entry) → lines_then (all_lines es) [] ≡ entries_text es
+entries_are [] = refl
+entries_are (e ∷ es) = lines_both (entry_lines e) (all_lines es) ∙ ap (λ t. lines_then (entry_lines e) [] ++ t) (entries_are es)
+
+pub in_parts : InParts
+in_parts es =
+    lines_both (line.Listing ∷ all_lines es) (line.End ∷ [])
+    ∙ ap (λ t. t ++ lines_then (line.End ∷ []) []) (lines_both (line.Listing ∷ []) (all_lines es)
+    ∙ ap (λ t. lines_then (line.Listing ∷ []) [] ++ t) (entries_are es))

@@ -1,20 +1,19 @@
 -- A line that may come keeps what holds of the entries told, and is the next of their lines.
-use Rattle.std.proofs.Common.{◌≡◌, ℕ, zero, suc, ◌+◌, ◌<◌, ◌≤◌, ◌^◌, ◌==◌, Bool, true, false, List, [], ◌∷◌, ◌++◌, length, map, Option, Some, None, IsSome, refl, sym, ◌∙◌, ap, subst, arith, inl, inr, if◌then◌else◌, slice_index_or}
+use Rattle.std.proofs.Common.{◌≡◌, ℕ, ◌+◌, ◌<◌, ◌≤◌, ◌==◌, Bool, true, false, List, [], ◌∷◌, ◌++◌, length, map, Option, None, refl, sym, ◌∙◌, ap, subst, arith, inl, inr, if◌then◌else◌, slice_index_or}
 use Rattle.std.proofs.lemmas.Bool.{cases_lt, true≢false}
 use Rattle.std.proofs.lemmas.Bool.Decides.{nat_tests}
 use Rattle.std.proofs.lemmas.List.{length-append, get_or_append_left}
 use Rattle.std.proofs.Math.Seq.{get_or-append_seam}
 use mathlib.Core.List.{append_assoc, append-nil}
-use Rattle.lay_breaks.specs.Breaking.{IsLegal, last_from, sum_from, IsPotential}
-use Rattle.lay_breaks.specs.Spans.{MayFollow, SpansFrom, AreSpans, listed}
+use Rattle.lay_breaks.specs.Breaking.{IsLegal, last_from, IsPotential}
+use Rattle.lay_breaks.specs.Spans.{listed}
 use Rattle.lay_breaks.specs.declared.costs.Span.{Span}
-use Rattle.lay_cert.specs.Listing.{Entry, IsEntry, EntriesFrom, none_forced, entry_lines, all_lines, listing_lines, potential_lines, IsListing}
-use Rattle.lay_cert.specs.Lines.{lines_then}
-use Rattle.lay_cert.specs.Places.{Place, begun, between, choosing, proving, ended, MayCome, next, Leads, last_tune_from, last_span_from, with_potential}
+use Rattle.lay_cert.specs.Listing.{Entry, IsEntry, none_forced, entry_lines, all_lines, potential_lines}
+use Rattle.lay_cert.specs.Places.{Place, begun, between, choosing, proving, MayCome, next, Leads, last_tune_from}
 use Rattle.lay_cert.specs.Told.{IsBegun, IsProving, IsGood, lines_of, begun_lines}
 use Rattle.lay_cert.specs.declared.lines.Line.{Line}
 use Rattle.lay_cert.specs.declared.lines.Line.TheVariants as line
-use Rattle.lay_cert.proofs.Grown.{push_map, push_potential, push_entry, push_entries, push_span, push_last, push_legal, push_on, listed_within}
+use Rattle.lay_cert.proofs.Grown.{push_map, push_potential, push_entry, push_entries, push_span, push_legal, listed_within}
 
 -- an entry in the making with one more potential
 abbrev pub one_more : Entry → Option ℕ → Entry
@@ -83,7 +82,10 @@ step_good (between es) line.End m h = h
 step_good (choosing es e) (line.OneSpan s) m h = (
   h.0,
   record {
-    past = h.1.past; numbered = h.1.numbered; few = h.1.few; spans = push_span e.bars None e.spans s h.1.spans m.1;
+    past = h.1.past;
+    numbered = h.1.numbered;
+    few = h.1.few;
+    spans = push_span e.bars None e.spans s h.1.spans m.1;
     choice = subst (λ bs. IsLegal (listed (e.spans ++ s ∷ [])) none_forced bs (last_from 0 bs)) (sym m.0)
         (record { rises = tt; ends = refl; every_forced = λ f le t. absurd (true≢false (sym t)); fits = tt });
   },
@@ -95,7 +97,10 @@ step_good (choosing es e) (line.Total total) m h = (
   h.0,
   record {
     begun = record { past = h.1.past; numbered = h.1.numbered; few = h.1.few; spans = h.1.spans; choice = h.1.choice };
-    ends = m.0; total = m.1; some_left = omega arith; potentials = λ i l. absurd (omega arith);
+    ends = m.0;
+    total = m.1;
+    some_left = omega arith;
+    potentials = λ i l. absurd (omega arith);
   },
 )
 step_good (proving es e) (line.Potential bar least) m h =

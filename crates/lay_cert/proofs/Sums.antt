@@ -1,6 +1,6 @@
 -- How large the sums of a listing are, and that each is one.
-use Rattle.std.proofs.Common.{◌≡◌, ℕ, ◌+◌, ◌*◌, ◌^◌, ◌<◌, ◌≤◌, Bool, List, [], ◌∷◌, Option, Some, None, IfSome, unwrap_or, refl, sym, ◌∙◌, ap, arith}
-use Rattle.lay_breaks.specs.Breaking.{RisesFrom, last_from, sum_from, IsLegal, IsPotential, IsLeastSum}
+use Rattle.std.proofs.Common.{◌≡◌, ℕ, ◌+◌, ◌*◌, ◌^◌, ◌≤◌, Bool, List, [], ◌∷◌, Option, Some, None, IfSome, unwrap_or, refl, ap, arith}
+use Rattle.lay_breaks.specs.Breaking.{RisesFrom, last_from, sum_from, IsLegal, IsPotential}
 use Rattle.lay_breaks.specs.Spans.{AreSpans, listed, listed_small}
 use Rattle.lay_cert.specs.Listing.{none_forced}
 

@@ -1,5 +1,5 @@
 -- What the answers of the checker say.
-use Rattle.std.specs.Prelude.{◌≡◌, ℕ, List}
+use Rattle.std.specs.Prelude.{ℕ, List}
 use Rattle.lay_cert.specs.Listing.{Entry, IsListing}
 use Rattle.lay_cert.specs.Places.{IsFirstFault}
 use Rattle.lay_cert.specs.Verdicts.{AreVerdicts}

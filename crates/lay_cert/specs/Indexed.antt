@@ -1,5 +1,5 @@
 -- Where the spans from each bar begin in the list of spans, and what is found by it.
-use Rattle.std.specs.Prelude.{◌≡◌, ℕ, ◌+◌, ◌-◌, ◌<◌, ◌≤◌, ◌^◌, Bool, List, length, Option, Some, None, IfSome, option_and_then, if◌then◌else◌, slice_get, slice_index, refl}
+use Rattle.std.specs.Prelude.{◌≡◌, ℕ, ◌+◌, ◌-◌, ◌≤◌, ◌^◌, List, length, Option, Some, None, IfSome, option_and_then, if◌then◌else◌, slice_get, slice_index, refl}
 use Rattle.lay_breaks.specs.Spans.{has_ends, listed}
 use Rattle.lay_breaks.specs.declared.costs.Span.{Span}
 

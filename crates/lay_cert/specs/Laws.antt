@@ -1,6 +1,8 @@
 -- The laws of listings.
-use Rattle.std.specs.Prelude.{◌≡◌, ℕ, List, [], ◌++◌, ◌↔◌}
-use Rattle.lay_cert.specs.Listing.{Entry, IsListing}
+use Rattle.std.specs.Prelude.{◌≡◌, ℕ, List, [], ◌∷◌, ◌++◌, ◌↔◌}
+use Rattle.lay_cert.specs.Lines.{lines_then}
+use Rattle.lay_cert.specs.Listing.{Entry, IsListing, listing_lines, entries_text}
+use Rattle.lay_cert.specs.declared.lines.Line.TheVariants as line
 use Rattle.lay_cert.specs.Places.{IsFirstFault, IsGoodThroughout}
 
 -- a text is a listing exactly where each of its lines is good and the last is `end`
@@ -18,3 +20,7 @@ FaultsTellNone = (text : List ℕ) (number : ℕ) (es : List Entry) → IsFirstF
 -- what continues a listing is none
 abbrev pub NoPrefix : Type 0
 NoPrefix = (text more : List ℕ) (es fs : List Entry) → IsListing text es → IsListing (text ++ more) fs → more ≡ []
+
+-- a listing is its first line, the lines of each entry, and its last line
+abbrev pub InParts : Type 0
+InParts = (es : List Entry) → lines_then (listing_lines es) [] ≡ lines_then (line.Listing ∷ []) [] ++ entries_text es ++ lines_then (line.End ∷ []) []

@@ -1,5 +1,5 @@
 -- The lines of a listing, as they are printed.
-use Rattle.std.specs.Prelude.{ℕ, ◌≢◌, ◌<◌, ◌^◌, List, [], ◌∷◌, ◌++◌, Option, Some, None, codes, decimal, MatchOption}
+use Rattle.std.specs.Prelude.{ℕ, ◌≢◌, List, [], ◌∷◌, ◌++◌, Option, Some, None, codes, decimal}
 use Rattle.lay_cert.specs.declared.lines.Line.{Line}
 use Rattle.lay_cert.specs.declared.lines.Line.TheVariants.{Listing, Tune, OneSpan, Choose, Total, Potential, End}
 

@@ -1,6 +1,6 @@
 -- What a listing is: for each tune the spans that fit among its bars, a choice of breaks, their total, and the potential of each bar.
 -- A breaking of a tune's listing is a rising list of bars that ends with the last and whose spans are all listed. No bar is forced.
-use Rattle.std.specs.Prelude.{◌≡◌, ℕ, ◌+◌, ◌<◌, ◌≤◌, ◌^◌, Bool, false, List, [], ◌∷◌, ◌++◌, length, Option, Some, None, map, slice_index_or}
+use Rattle.std.specs.Prelude.{◌≡◌, ℕ, ◌+◌, ◌<◌, ◌≤◌, ◌^◌, Bool, false, List, [], ◌∷◌, ◌++◌, length, Option, None, map, slice_index_or}
 use Rattle.lay_breaks.specs.Breaking.{IsLegal, sum_from, IsPotential}
 use Rattle.lay_breaks.specs.Spans.{AreSpans, listed}
 use Rattle.lay_breaks.specs.declared.costs.Span.{Span}
@@ -49,6 +49,11 @@ all_lines (e ∷ es) = entry_lines e ++ all_lines es
 -- the lines of the whole listing
 abbrev pub listing_lines : List Entry → List Line
 listing_lines es = line.Listing ∷ all_lines es ++ line.End ∷ []
+
+-- the lines of the entries, as text
+abbrev pub entries_text : List Entry → List ℕ
+entries_text [] = []
+entries_text (e ∷ es) = lines_then (entry_lines e) [] ++ entries_text es
 
 -- the text tells these entries
 pub record IsListing (text : List ℕ) (es : List Entry) : Type 0 where

@@ -1,5 +1,5 @@
 -- How the checker keeps what the lines so far have told.
-use Rattle.std.specs.Prelude.{◌≡◌, ℕ, ◌+◌, ◌<◌, ◌≤◌, List, [], length, Option, None, MatchOption, slice_index_or}
+use Rattle.std.specs.Prelude.{◌≡◌, ℕ, ◌+◌, ◌≤◌, List, [], length, Option, None, MatchOption, slice_index_or}
 use Rattle.lay_breaks.specs.Breaking.{IsLegal, last_from, sum_from, IsPotential}
 use Rattle.lay_breaks.specs.Spans.{AreSpans, listed}
 use Rattle.lay_cert.specs.Indexed.{IsIndexed}

@@ -1,5 +1,5 @@
 -- What holds of the entries that the lines so far have told, and which lines those are.
-use Rattle.std.specs.Prelude.{◌≡◌, ℕ, ◌<◌, ◌≤◌, ◌^◌, List, [], ◌∷◌, ◌++◌, length, Option, None, map, slice_index_or}
+use Rattle.std.specs.Prelude.{◌≡◌, ℕ, ◌<◌, ◌≤◌, ◌^◌, List, [], ◌∷◌, ◌++◌, length, None, map, slice_index_or}
 use Rattle.lay_breaks.specs.Breaking.{IsLegal, last_from, sum_from, IsPotential}
 use Rattle.lay_breaks.specs.Spans.{AreSpans, listed}
 use Rattle.lay_cert.specs.Listing.{Entry, EntriesFrom, none_forced, entry_lines, all_lines, listing_lines}

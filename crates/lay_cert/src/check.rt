@@ -13,7 +13,9 @@ use std::alloc::Global;
 #[derive(Debug, Drop)]
 pub enum Verdict {
     /// No breaking of the listed spans has a smaller total.
-    Least { total: u64 },
+    Least {
+        total: u64,
+    },
     /// The breaking that is chosen over the listed spans has a smaller total, `better`.
     NotLeast {
         total: u64,
@@ -81,23 +83,19 @@ pub fn check_listing(alloc: Global, bytes: &[u8]) -> Result<Row<Judged>, CertErr
 /// those before it, and the last is `end`.
 pub fn good_by_lines()
     ensures { GoodByLines }
-{
-}
+{}
 
 /// The law that a text lists one thing.
 pub fn tells_one()
     ensures { TellsOne }
-{
-}
+{}
 
 /// The law that a text with a line that isn't good is no listing.
 pub fn faults_tell_none()
     ensures { FaultsTellNone }
-{
-}
+{}
 
 /// The law that no proper prefix of a listing is a listing.
 pub fn no_prefix_is_a_listing()
     ensures { NoPrefix }
-{
-}
+{}

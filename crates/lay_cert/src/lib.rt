@@ -12,9 +12,12 @@ mod numbers;
 mod place;
 pub mod write;
 
-pub use check::{CertError, Judged, Verdict, check_listing, faults_tell_none, good_by_lines, no_prefix_is_a_listing, tells_one};
+pub use check::{
+    CertError, Judged, Verdict, check_listing, faults_tell_none, good_by_lines,
+    no_prefix_is_a_listing, tells_one,
+};
 pub use lines::Line;
-pub use write::{put_end, put_entry, put_heading};
+pub use write::{in_parts, put_end, put_entry, put_heading};
 
 #[cfg(test)]
 mod tests;

@@ -234,11 +234,13 @@ fn prove(alloc: Global, choosing: Choosing) -> Result<Proving, Memory>
         firsts,
     };
     match least(alloc, &costs, bars) {
-        Ok(Breaking {
-            breaks,
-            total: better,
-            potentials,
-        }) => Ok(Proving {
+        Ok(
+            Breaking {
+                breaks,
+                total: better,
+                potentials,
+            },
+        ) => Ok(Proving {
             tune,
             bars,
             potentials,

@@ -1,4 +1,5 @@
 ghost use Rattle.std.specs.Prelude.{◌≡◌, ◌+◌, ◌++◌, ◌∷◌, [], ℕ, List, Option, map, length, ◌<◌, ◌^◌, OnOk};
+ghost use Rattle.lay_cert.specs.Laws.{InParts};
 ghost use Rattle.lay_cert.specs.Lines.{line_text, lines_then};
 ghost use Rattle.lay_cert.specs.Listing.{entry_lines, potential_lines};
 ghost use Rattle.lay_cert.specs.declared.lines.Line.TheVariants as line;
@@ -62,8 +63,14 @@ pub fn put_entry(
     breaking: &Breaking,
 ) -> Result<(), Memory>
     requires few { length breaking.now.potentials < 2 ^ 32 }
-    ensures { OnOk result (out.new ≡ out.old ++ lines_then (entry_lines (record { tune = tune; bars = bars; spans = spans.now;
-        breaks = breaking.now.breaks; total = breaking.now.total; potentials = breaking.now.potentials })) []) }
+    ensures { OnOk result (out.new ≡ out.old ++ lines_then (entry_lines (record {
+      tune = tune;
+      bars = bars;
+      spans = spans.now;
+      breaks = breaking.now.breaks;
+      total = breaking.now.total;
+      potentials = breaking.now.potentials;
+    })) []) }
 {
     put_line(out, Line::Tune { tune, bars })?;
     put_spans(out, spans)?;
@@ -84,3 +91,8 @@ pub fn put_end(out: &mut Text) -> Result<(), Memory>
 {
     put_line(out, Line::End)
 }
+
+/// The law that a listing is its first line, the lines of each tune, and its last line.
+pub fn in_parts()
+    ensures { InParts }
+{}

@@ -1,4 +1,4 @@
-use Rattle.std.proofs.Common.{◌≡◌, ◌<◌, ◌^◌, ◌++◌, ◌∷◌, ℕ, List, codes, decimal, Some, None, sym, ◌∙◌, ap, arith, inl, inr}
+use Rattle.std.proofs.Common.{sym, ◌∙◌}
 use Rattle.lay_cert.proofs.Words.{cut_some, cut_none}
 use Rattle.lay_cert.proofs.numbers.cut_at.Goals as goal
 

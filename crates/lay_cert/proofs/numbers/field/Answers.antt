@@ -1,4 +1,4 @@
-use Rattle.std.proofs.Common.{◌≡◌, ◌<◌, ◌^◌, ◌++◌, ◌∷◌, [], ℕ, List, codes, decimal, Some, None, sym, ◌∙◌, ap, arith, inl, inr}
+use Rattle.std.proofs.Common.{decimal, sym, ◌∙◌, arith, inl}
 use Rattle.lay_cert.proofs.Words.{one_cut, lacks_none, decimal_lacks}
 use Rattle.lay_cert.proofs.numbers.field.Goals as goal
 

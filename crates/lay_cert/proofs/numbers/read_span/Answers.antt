@@ -1,5 +1,4 @@
-use Rattle.std.proofs.Common.{◌≡◌, ◌<◌, ◌^◌, ◌++◌, ◌∷◌, [], ℕ, List, codes, decimal, Some, None, sym, ◌∙◌, ap, arith, inl, inr}
-use Rattle.lay_breaks.specs.declared.costs.Span.{Span}
+use Rattle.std.proofs.Common.{◌++◌, ◌∷◌, codes, decimal, ◌∙◌, arith}
 use Rattle.lay_cert.proofs.Forms.{span_text}
 use Rattle.lay_cert.proofs.Words.{one_field, after_prefix}
 use Rattle.lay_cert.proofs.numbers.read_span.Goals as goal

@@ -1,4 +1,4 @@
-use Rattle.std.proofs.Common.{◌≡◌, ◌<◌, ◌^◌, ◌++◌, ◌∷◌, [], ℕ, List, codes, decimal, Some, None, sym, ◌∙◌, ap, arith, inl, inr}
+use Rattle.std.proofs.Common.{◌++◌, ◌∷◌, codes, decimal, ◌∙◌, arith}
 use Rattle.lay_cert.proofs.Forms.{tune_text}
 use Rattle.lay_cert.proofs.Words.{one_field, after_prefix}
 use Rattle.lay_cert.proofs.numbers.read_tune.Goals as goal

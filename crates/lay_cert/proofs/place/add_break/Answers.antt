@@ -1,4 +1,4 @@
-use Rattle.std.proofs.Common.{ap, sym, subst, ◌+◌, arith}
+use Rattle.std.proofs.Common.{sym, subst, ◌+◌, arith}
 use Rattle.lay_cert.specs.Stands.{IsChoosing}
 use Rattle.lay_cert.proofs.Kept.{total_fits, kept_break}
 use Rattle.lay_cert.proofs.place.add_break.Goals as goal

@@ -1,6 +1,6 @@
-use Rattle.std.proofs.Common.{◌≡◌, ◌<◌, ◌≤◌, [], ap, sym, ◌∙◌, refl, subst, inl, inr}
+use Rattle.std.proofs.Common.{◌<◌, ◌≤◌, [], subst, inl, inr}
 use Rattle.lay_cert.specs.declared.lines.Line.TheVariants as line
-use Rattle.lay_cert.proofs.Judging.{none_unread, none_refused, entry_same}
+use Rattle.lay_cert.proofs.Judging.{none_refused, entry_same}
 use Rattle.lay_cert.proofs.place.after_entry.Goals as goal
 
 pub returns-then-branch-clause-step : goal.returns-then-branch-clause-step
@@ -19,6 +19,9 @@ returns-clause-step c es js e v =
       line.Tune c.in-Some.tune c.in-Some.bars,
       r.0,
       (subst (λ k. k < c.in-Some.tune) e c.if-tune-last.false, r.1, c.if-bars-gt4000.false),
-      (v, c.in_ok-open_entry.ensures.sound,
-      entry_same c.in_ok-open_entry.field-0 c.in-Some.tune c.in-Some.bars [] [] m.0 m.1 m.2 m.3),
+      (
+        v,
+        c.in_ok-open_entry.ensures.sound,
+        entry_same c.in_ok-open_entry.field-0 c.in-Some.tune c.in-Some.bars [] [] m.0 m.1 m.2 m.3,
+      ),
     )

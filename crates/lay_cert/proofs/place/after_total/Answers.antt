@@ -1,4 +1,4 @@
-use Rattle.std.proofs.Common.{◌≡◌, [], ◌∷◌, ◌++◌, None, Some, ap, sym, ◌∙◌, refl, subst, slice_index_or}
+use Rattle.std.proofs.Common.{None, Some, ap, sym, ◌∙◌, subst, slice_index_or}
 use Rattle.lay_cert.specs.Lines.{line_text}
 use Rattle.lay_cert.specs.Places.{proving}
 use Rattle.lay_cert.specs.Stands.{IsStep}

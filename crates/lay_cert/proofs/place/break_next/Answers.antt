@@ -1,4 +1,4 @@
-use Rattle.std.proofs.Common.{◌≡◌, [], ◌∷◌, ◌++◌, ap, sym, ◌∙◌, refl, is_some}
+use Rattle.std.proofs.Common.{[], ◌∷◌, ◌++◌, ap, sym, ◌∙◌, refl, is_some}
 use Rattle.lay_breaks.specs.Spans.{listed}
 use Rattle.lay_cert.specs.declared.lines.Line.TheVariants as line
 use Rattle.lay_cert.proofs.Judging.{none_break, entry_same}
@@ -12,8 +12,11 @@ returns-in_ok-add_break-in-Some-clause-step c es js v =
       line.Choose c.args.bar,
       refl,
       ap is_some (ap (λ a. listed k.spans a c.args.bar) (sym at) ∙ (sym c.next_cost.ensures ∙ c.in-Some.is)),
-      (v, c.in_ok-add_break-in-Some.ensures.sound,
-      entry_same c.in_ok-add_break-in-Some.field-0 k.tune k.bars k.spans (k.breaks ++ c.args.bar ∷ []) m.0 m.1 m.2 m.3),
+      (
+        v,
+        c.in_ok-add_break-in-Some.ensures.sound,
+        entry_same c.in_ok-add_break-in-Some.field-0 k.tune k.bars k.spans (k.breaks ++ c.args.bar ∷ []) m.0 m.1 m.2 m.3,
+      ),
     )
 
 pub returns-in-None-clause-step : goal.returns-in-None-clause-step

@@ -1,4 +1,4 @@
-use Rattle.std.proofs.Common.{◌≡◌, ◌≤◌, ap, ◌∙◌, sym, arith, length, subst}
+use Rattle.std.proofs.Common.{ap, ◌∙◌, arith, length}
 use Rattle.lay_cert.specs.Indexed.{looked_up}
 use Rattle.lay_cert.proofs.Kept.{listed_past, at_within}
 use Rattle.lay_cert.proofs.Indexing.{agrees}

@@ -1,4 +1,3 @@
-use Rattle.std.proofs.Common.{◌≡◌, ap, sym, ◌∙◌, refl}
 use Rattle.lay_breaks.specs.Spans.{listed_stops}
 use Rattle.lay_cert.proofs.Indexing.{agrees}
 use Rattle.lay_cert.proofs.Kept.{small_cost}

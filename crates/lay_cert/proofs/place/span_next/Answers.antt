@@ -1,4 +1,4 @@
-use Rattle.std.proofs.Common.{◌≡◌, ◌==◌, [], ◌∷◌, ◌++◌, None, length, ap, sym, ◌∙◌, refl, subst}
+use Rattle.std.proofs.Common.{◌≡◌, ◌==◌, [], ◌∷◌, ◌++◌, length, ap, sym, ◌∙◌, refl, subst}
 use Rattle.std.proofs.lemmas.Bool.{true≢false}
 use Rattle.lay_breaks.specs.Spans.{MayFollow}
 use Rattle.lay_cert.specs.declared.lines.Line.TheVariants as line
@@ -23,6 +23,9 @@ returns-clause-step c es js v =
       line.OneSpan c.args.span,
       refl,
       (none, subst (λ o. MayFollow k.bars o c.args.span) c.requires.sound.last (c.may_follow.ensures.yes c.if-not-may_follow.false)),
-      (v, c.in_ok-add_span.ensures.sound,
-      entry_same c.in_ok-add_span.field-0 k.tune k.bars (k.spans ++ c.args.span ∷ []) k.breaks m.0 m.1 m.2 m.3),
+      (
+        v,
+        c.in_ok-add_span.ensures.sound,
+        entry_same c.in_ok-add_span.field-0 k.tune k.bars (k.spans ++ c.args.span ∷ []) k.breaks m.0 m.1 m.2 m.3,
+      ),
     )

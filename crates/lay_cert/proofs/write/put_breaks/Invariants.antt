@@ -1,6 +1,5 @@
 use Rattle.std.proofs.Common.{◌≡◌, ◌++◌, [], map, take}
 use Rattle.lay_cert.specs.Lines.{lines_then}
-use Rattle.lay_cert.specs.Listing.{potential_lines}
 use Rattle.lay_cert.specs.declared.lines.Line.TheVariants as line
 use Rattle.lay_cert.proofs.write.put_breaks.Given as goal
 

@@ -1,4 +1,4 @@
-use Rattle.std.proofs.Common.{◌≡◌, ◌++◌, ap, ◌∙◌, map, []}
+use Rattle.std.proofs.Common.{◌++◌, ap, ◌∙◌, map, []}
 use Rattle.lay_cert.specs.Lines.{lines_then}
 use Rattle.lay_cert.specs.Listing.{potential_lines}
 use Rattle.lay_cert.specs.declared.lines.Line.TheVariants as line

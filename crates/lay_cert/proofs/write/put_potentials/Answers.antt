@@ -1,4 +1,4 @@
-use Rattle.std.proofs.Common.{◌+◌, ◌≡◌, arith}
+use Rattle.std.proofs.Common.{arith}
 use Rattle.lay_cert.proofs.Put.{put_next_potential}
 use Rattle.lay_cert.proofs.write.put_potentials.Goals as goal
 

@@ -1,7 +1,6 @@
-use Rattle.std.proofs.Common.{◌≡◌, ◌++◌, [], map, take}
+use Rattle.std.proofs.Common.{◌≡◌, ◌++◌, [], take}
 use Rattle.lay_cert.specs.Lines.{lines_then}
 use Rattle.lay_cert.specs.Listing.{potential_lines}
-use Rattle.lay_cert.specs.declared.lines.Line.TheVariants as line
 use Rattle.lay_cert.proofs.write.put_potentials.Given as goal
 
 abbrev pub invariant-loop-least : goal.invariant-loop-least
