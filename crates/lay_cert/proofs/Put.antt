@@ -1,10 +1,11 @@
 -- The text of lines, one after the other.
-use Rattle.std.proofs.Common.{◌≡◌, ℕ, ◌+◌, ◌<◌, List, [], ◌∷◌, ◌++◌, length, map, take, Option, None, refl, sym, ◌∙◌, ap, arith, slice_index_or}
+use Rattle.std.proofs.Common.{decimal, ◌≡◌, ℕ, ◌+◌, ◌<◌, List, [], ◌∷◌, ◌++◌, length, map, take, Option, None, refl, sym, ◌∙◌, ap, arith, slice_index_or}
 use Rattle.std.proofs.Common.{rules}
 use Rattle.std.proofs.lemmas.List.{take_more, length-take}
-use mathlib.Core.List.{append_assoc}
+use mathlib.Core.List.{append_assoc, append-nil}
 use Rattle.lay_cert.specs.Lines.{line_text, lines_then}
 use Rattle.lay_cert.specs.Laws.{InParts}
+use Rattle.lay_cert.specs.Reports.{bars_text}
 use Rattle.lay_cert.specs.Listing.{Entry, entry_lines, all_lines, entries_text, potential_lines}
 use Rattle.lay_cert.specs.declared.lines.Line.{Line}
 use Rattle.lay_cert.specs.declared.lines.Line.TheVariants as line
@@ -67,3 +68,14 @@ in_parts es =
     lines_both (line.Listing ∷ all_lines es) (line.End ∷ [])
     ∙ ap (λ t. t ++ lines_then (line.End ∷ []) []) (lines_both (line.Listing ∷ []) (all_lines es)
     ∙ ap (λ t. lines_then (line.Listing ∷ []) [] ++ t) (entries_are es))
+
+bars_more : (bs : List ℕ) (b : ℕ) → bars_text (bs ++ b ∷ []) ≡ bars_text bs ++ (32 ∷ decimal b)
+bars_more [] b = append-nil (32 ∷ decimal b)
+bars_more (x ∷ bs) b = ap (λ t. 32 ∷ decimal x ++ t) (bars_more bs b) ∙ sym (append_assoc (32 ∷ decimal x) (bars_text bs) (32 ∷ decimal b))
+
+-- one more bar put
+pub put_next_bar : (bs : List ℕ) (i : ℕ) (old now new : List ℕ) → i < length bs → now ≡ old ++ bars_text (take i bs)
+    → new ≡ now ++ (32 ∷ decimal (slice_index_or bs i 0)) → new ≡ old ++ bars_text (take (i + 1) bs)
+put_next_bar bs i old now new l e f =
+    f ∙ (ap (λ t. t ++ (32 ∷ decimal (slice_index_or bs i 0))) e ∙ (append_assoc old (bars_text (take i bs)) (32 ∷ decimal (slice_index_or bs i 0))
+    ∙ (ap (λ t. old ++ t) (sym (bars_more (take i bs) (slice_index_or bs i 0))) ∙ ap (λ t. old ++ bars_text t) (sym (take_more bs i 0 l)))))

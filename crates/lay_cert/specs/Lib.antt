@@ -7,3 +7,4 @@ pub mod Verdicts
 pub mod Indexed
 pub mod Stands
 pub mod Answers
+pub mod Reports

@@ -10,6 +10,7 @@ mod costs;
 pub mod lines;
 mod numbers;
 mod place;
+pub mod report;
 pub mod write;
 
 pub use check::{
@@ -17,6 +18,7 @@ pub use check::{
     no_prefix_is_a_listing, tells_one,
 };
 pub use lines::Line;
+pub use report::put_verdict;
 pub use write::{in_parts, put_end, put_entry, put_heading};
 
 #[cfg(test)]

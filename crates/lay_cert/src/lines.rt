@@ -25,7 +25,8 @@ pub enum Line {
     End,
 }
 
-fn put_number(out: &mut Text, number: u64) -> Result<(), Memory>
+/// Puts a number at the end of the text, in decimal.
+pub fn put_number(out: &mut Text, number: u64) -> Result<(), Memory>
     ensures { OnOk result (out.new ≡ out.old ++ decimal number) }
 {
     out.append(Buffer::new().format(number).as_bytes())

@@ -56,19 +56,13 @@ potential 2 7
 end
 ";
 
-/// Whether the verdict on a tune is Least, with no breaks, or NotLeast with these.
-fn says(judged: &Judged, tune: u32, total: u64, better: u64, breaks: &[u32]) -> bool {
-    if judged.tune != tune {
-        return false;
+/// The lines of the verdicts.
+fn report(alloc: Global, judged: &Row<Judged>) -> Result<Text, Memory> {
+    let mut out = Text::new(alloc);
+    for one in judged.as_slice().iter() {
+        put_verdict(&mut out, one)?;
     }
-    match &judged.verdict {
-        Verdict::Least { total: found } => *found == total && breaks.is_empty(),
-        Verdict::NotLeast {
-            total: found,
-            better: least,
-            breaks: bars,
-        } => *found == total && *least == better && bars.as_slice() == breaks,
-    }
+    Ok(out)
 }
 
 #[test]
@@ -77,20 +71,18 @@ fn verdicts(rt: HostRuntime) {
     tells_one();
     faults_tell_none();
     no_prefix_is_a_listing();
-    let cases: [(&[u8], usize, u32, u64, u64, &[u32]); 3] = [
-        (LISTING, 1, 1, 10, 0, &[]),
-        (CHEAPER, 1, 1, 12, 10, &[2, 3]),
-        (TWO, 2, 4294967295, 1099511627776, 7, &[2]),
+    let cases: [(&[u8], &[u8]); 3] = [
+        (LISTING, b"least 1 10\n"),
+        (CHEAPER, b"notleast 1 12 10 2 3\n"),
+        (TWO, b"least 2 0\nnotleast 4294967295 1099511627776 7 2\n"),
     ];
-    for (text, count, tune, total, better, breaks) in cases.iter() {
-        match check_listing(rt.alloc(), text) {
-            Ok(judged) => {
-                assert_eq!(rt; judged.len(), *count);
-                match judged.as_slice().last() {
-                    Some(last) => assert!(rt; says(last, *tune, *total, *better, breaks)),
-                    None => assert!(rt; false),
-                }
-            }
+    for (text, lines) in cases.iter() {
+        let Ok(judged) = check_listing(rt.alloc(), text) else {
+            assert!(rt; false);
+            return;
+        };
+        match report(rt.alloc(), &judged) {
+            Ok(told) => assert_eq!(rt; told.as_slice(), *lines),
             Err(_) => assert!(rt; false),
         }
     }
