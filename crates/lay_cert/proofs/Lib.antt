@@ -9,3 +9,4 @@ pub mod Indexing
 pub mod Put
 pub mod Kept
 pub mod Judging
+pub mod Unforced

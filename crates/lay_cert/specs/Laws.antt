@@ -1,7 +1,8 @@
 -- The laws of listings.
-use Rattle.std.specs.Prelude.{◌≡◌, ℕ, List, [], ◌∷◌, ◌++◌, ◌↔◌}
+use Rattle.std.specs.Prelude.{◌≡◌, ℕ, ◌<◌, Bool, true, false, Option, None, List, [], ◌∷◌, ◌++◌, ◌↔◌}
+use Rattle.lay_breaks.specs.Breaking.{IsLegal}
 use Rattle.lay_cert.specs.Lines.{lines_then}
-use Rattle.lay_cert.specs.Listing.{Entry, IsListing, listing_lines, entries_text}
+use Rattle.lay_cert.specs.Listing.{Entry, IsListing, listing_lines, entries_text, none_forced}
 use Rattle.lay_cert.specs.declared.lines.Line.TheVariants as line
 use Rattle.lay_cert.specs.Places.{IsFirstFault, IsGoodThroughout}
 
@@ -24,3 +25,9 @@ NoPrefix = (text more : List ℕ) (es fs : List Entry) → IsListing text es →
 -- a listing is its first line, the lines of each entry, and its last line
 abbrev pub InParts : Type 0
 InParts = (es : List Entry) → lines_then (listing_lines es) [] ≡ lines_then (line.Listing ∷ []) [] ++ entries_text es ++ lines_then (line.End ∷ []) []
+
+-- where no span passes a forced bar, the legal breakings are those of the same spans with no bar forced
+abbrev pub ForcedBySpans : Type 0
+ForcedBySpans = (cost : ℕ → ℕ → Option ℕ) (forced : ℕ → Bool) → forced 0 ≡ false
+    → ((a f b : ℕ) → a < f → f < b → forced f ≡ true → cost a b ≡ None)
+    → (breaks : List ℕ) (i : ℕ) → IsLegal cost forced breaks i ↔ IsLegal cost none_forced breaks i

@@ -185,6 +185,7 @@ fn written(alloc: Global) -> Result<Text, Memory> {
 #[test]
 fn written_out(rt: HostRuntime) {
     in_parts();
+    forced_by_spans();
     match written(rt.alloc()) {
         Ok(text) => assert_eq!(rt; text.as_slice(), LISTING),
         Err(_) => assert!(rt; false),

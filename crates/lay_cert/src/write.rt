@@ -1,5 +1,5 @@
 ghost use Rattle.std.specs.Prelude.{◌≡◌, ◌+◌, ◌++◌, ◌∷◌, [], ℕ, List, Option, map, length, ◌<◌, ◌^◌, OnOk};
-ghost use Rattle.lay_cert.specs.Laws.{InParts};
+ghost use Rattle.lay_cert.specs.Laws.{InParts, ForcedBySpans};
 ghost use Rattle.lay_cert.specs.Lines.{line_text, lines_then};
 ghost use Rattle.lay_cert.specs.Listing.{entry_lines, potential_lines};
 ghost use Rattle.lay_cert.specs.declared.lines.Line.TheVariants as line;
@@ -95,4 +95,10 @@ pub fn put_end(out: &mut Text) -> Result<(), Memory>
 /// The law that a listing is its first line, the lines of each tune, and its last line.
 pub fn in_parts()
     ensures { InParts }
+{}
+
+/// The law that where no span passes a forced bar, the legal breakings are the
+/// breakings of those spans: a listing need not tell which bars are forced.
+pub fn forced_by_spans()
+    ensures { ForcedBySpans }
 {}
