@@ -1,0 +1,3 @@
+pub mod MeterLaws
+pub mod NumberLaws
+pub mod WordLaws
