@@ -1,3 +1,4 @@
+pub mod GoodLaws
 pub mod MeterLaws
 pub mod NumberLaws
 pub mod WordLaws

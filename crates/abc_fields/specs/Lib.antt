@@ -1,8 +1,12 @@
+pub mod Defaults
 pub mod Directives
+pub mod Fields
+pub mod Good
 pub mod Keys
 pub mod Last
 pub mod Lengths
 pub mod Meters
 pub mod Numbers
+pub mod Papers
 pub mod Voices
 pub mod Words

@@ -1,6 +1,7 @@
 ghost use Rattle.std.specs.Prelude.{◌≡◌, ◌≤◌, ◌<◌, ◌==◌, IfSome, IsTrue, length, codes, [], ◌∷◌};
 ghost use Rattle.abc_fields.specs.Numbers.{number_of};
 ghost use Rattle.abc_fields.specs.Words.{behind};
+ghost use Rattle.abc_fields.specs.Good.{IsGoodMeter, IsGoodUnit};
 ghost use Rattle.abc_fields.specs.Meters.{is_halving, below_of, below_behind, plus, added, sum_of, ratio, plain_ratio, wrapped_ratio, ratio_of, meter_at, meter_of, one_over, unit_at, unit_of, default_unit};
 
 use crate::numbers::{behind_one, cut_at, number_of};
@@ -8,8 +9,16 @@ use crate::words::{behind, is_same, trimmed};
 use mus_units::{Frac, Meter};
 
 /// The meter that a text is, if it is one.
-#[tactic(auto, unfolding(crate::specs::Meters::meter_of))]
+
 pub(crate) fn read_meter(text: &[u8]) -> Option<Meter>
+    ensures value { result ≡ meter_of text.now }
+    ensures good { IfSome result (λ m. IsGoodMeter m) }
+{
+    meter_of(text)
+}
+
+#[tactic(auto, unfolding(crate::specs::Meters::meter_of))]
+fn meter_of(text: &[u8]) -> Option<Meter>
     ensures { result ≡ meter_of text.now }
 {
     meter_at(trimmed(text))
@@ -125,8 +134,16 @@ fn is_halving(number: u64) -> bool
 }
 
 /// The unit length that a text is, if it is one.
-#[tactic(auto, unfolding(crate::specs::Meters::unit_of))]
+
 pub(crate) fn read_unit(text: &[u8]) -> Option<Frac>
+    ensures value { result ≡ unit_of text.now }
+    ensures good { IfSome result (λ u. IsGoodUnit u) }
+{
+    unit_of(text)
+}
+
+#[tactic(auto, unfolding(crate::specs::Meters::unit_of))]
+fn unit_of(text: &[u8]) -> Option<Frac>
     ensures { result ≡ unit_of text.now }
 {
     unit_at(trimmed(text))
@@ -150,7 +167,8 @@ fn unit_at(text: &[u8]) -> Option<Frac>
 /// The unit length without an `L:` line: a sixteenth where the meter is below
 /// 3/4, else an eighth.
 pub(crate) fn default_unit(meter: Meter) -> Frac
-    ensures { result ≡ default_unit meter }
+    ensures value { result ≡ default_unit meter }
+    ensures good { IsGoodUnit result }
 {
     match meter {
         Meter::Ratio { num, den } if 4 * u32::from(num) < 3 * u32::from(den) => {

@@ -1,4 +1,4 @@
-ghost use Rattle.std.specs.Prelude.{◌≡◌, negsuc, pos, ◌≤ℤ◌, ℕ, ◌==◌, IfOk, map, take, reverse, not, filter};
+ghost use Rattle.std.specs.Prelude.{◌≡◌, ℕ, ◌==◌, IfOk, map, take, reverse, not, filter};
 ghost use Rattle.mus_units.specs.Pitch.{number_of};
 ghost use Rattle.mus_units.specs.declared.pitch.Alter.TheVariants as alters;
 ghost use Rattle.mus_pitch.specs.Circle.{signs_of, signed, sharp_order};
@@ -18,10 +18,8 @@ const SHARP_ORDER: [Letter; 7] = [
     Letter::B,
 ];
 
-/// The key of a number of sharps of -7 to 7, negative for flats.
+/// The key of a number of sharps, negative for flats: it has at most seven signs.
 pub fn key_of(alloc: Global, sharps: i8) -> Result<Key, Memory>
-    requires low { negsuc 6 ≤ℤ sharps }
-    requires high { sharps ≤ℤ pos 7 }
     ensures value { IfOk result (λ key. key.signs ≡ signs_of sharps) }
     ensures good { IfOk result (λ key. IsGoodKey key) }
 {
