@@ -2,6 +2,7 @@ pub mod Defaults
 pub mod Directives
 pub mod Fields
 pub mod Good
+pub mod Headers
 pub mod Keys
 pub mod Last
 pub mod Lengths
@@ -9,4 +10,5 @@ pub mod Meters
 pub mod Numbers
 pub mod Papers
 pub mod Voices
+pub mod Voicing
 pub mod Words

@@ -125,7 +125,7 @@ fn line_spread(line: &Line) -> Option<Spread>
 
 /// The text of a field, where the line is one of that letter.
 #[tactic(auto, unfolding(crate::specs::Defaults::text_of))]
-fn text_of(letter: u8, line: &Line) -> Option<&[u8]>
+pub(crate) fn text_of(letter: u8, line: &Line) -> Option<&[u8]>
     ensures { option_copied result ≡ text_of letter line.now.text }
 {
     match kind_of(line) {

@@ -6,10 +6,12 @@
 pub mod defaults;
 pub mod directive;
 pub mod field;
+pub mod header;
 pub mod key;
 mod length;
 pub mod meter;
 mod numbers;
 pub mod paper;
 pub mod voice;
+mod voicing;
 mod words;
