@@ -72,8 +72,18 @@ pub(crate) fn voices_of(
 ) -> Result<Row<VoiceDef>, Memory>
     ensures { IfOk result (λ row. row ≡ map (voice_from fields.now) ids.now) }
 {
+    voices_for(alloc, ids.set.as_slice(), fields)
+}
+
+fn voices_for(
+    alloc: Global,
+    ids: &[Vec<u8>],
+    fields: &[Field],
+) -> Result<Row<VoiceDef>, Memory>
+    ensures { IfOk result (λ row. row ≡ map (λ id. voice_from fields.now id.items) ids.now) }
+{
     let mut voices = Row::new(alloc);
-    for id in ids.set.as_slice() {
+    for id in ids {
         voices.push(voice_from(alloc, fields, id.as_slice())?)?;
     }
     Ok(voices)

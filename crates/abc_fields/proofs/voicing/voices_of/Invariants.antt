@@ -1,6 +1,0 @@
-use Rattle.std.proofs.Common.{◌≡◌, take, map}
-use Rattle.abc_fields.specs.Voicing.{voice_from}
-use Rattle.abc_fields.proofs.voicing.voices_of.Given as goal
-
-abbrev pub invariant-loop-id : goal.invariant-loop-id
-invariant-loop-id l = l.voices ≡ map (λ id. voice_from l.fields id.items) (take l.id-index l.id-items)
