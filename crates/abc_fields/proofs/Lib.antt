@@ -1,4 +1,5 @@
 pub mod GoodLaws
+pub mod HeaderLaws
 pub mod MeterLaws
 pub mod NumberLaws
 pub mod VoiceLaws

@@ -26,7 +26,7 @@ use Rattle.abc_fields.specs.declared.field.Field.{Field}
 use Rattle.abc_fields.specs.declared.field.Field.TheVariants as fields
 use Rattle.abc_fields.specs.declared.header.Header.{Header}
 use Rattle.abc_fields.specs.Defaults.{text_of}
-use Rattle.abc_fields.specs.Fields.{field_of}
+use Rattle.abc_fields.specs.Fields.{field_of, IsGoodField}
 use Rattle.abc_fields.specs.Good.{IsGoodMeter, IsGoodUnit}
 use Rattle.abc_fields.specs.Keys.{key_over}
 use Rattle.abc_fields.specs.Last.{last_of}
@@ -164,11 +164,23 @@ abbrev pub IsHeaderFault : TuneText → TuneError → Type 0
 IsHeaderFault tune errors.Memory = ⊤
 IsHeaderFault tune (errors.Fault fault) = header_fault tune ≡ Some fault
 
--- at most 16 voices with distinct ids of 1 to 20 bytes, good values, and a body within the tune
-pub record IsGoodHeader (tune : TuneText) (header : Header) : Type 0 where
+-- each of a list
+abbrev pub AllGood : List Field → Type 0
+AllGood [] = ⊤
+AllGood (f ∷ fs) = IsGoodField f × AllGood fs
+
+-- no two voices have one id
+abbrev pub AreDistinct : List VoiceDef → Type 0
+AreDistinct defs = (id : List ℕ) → count_by (λ (def : VoiceDef). bytes_eq id def.id) defs ≤ 1
+
+-- good values, and at most 16 voices with distinct ids
+pub record HasGoodValues (header : Header) : Type 0 where
   pub key : IsGoodKey header.key
   pub meter : IsGoodMeter header.meter
   pub unit : IsGoodUnit header.unit
   pub few : length header.voices ≤ 16
-  pub distinct : (id : List ℕ) → count_by (λ (def : VoiceDef). bytes_eq def.id id) header.voices ≤ 1
-  pub body : header.body ≤ length tune.lines
+  pub distinct : AreDistinct header.voices
+
+-- the body begins within the tune, or at its end
+abbrev pub IsGoodHeader : TuneText → Header → Type 0
+IsGoodHeader tune header = HasGoodValues header × (header.body ≤ length tune.lines)

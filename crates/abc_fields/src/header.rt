@@ -5,10 +5,10 @@ ghost use Rattle.mus_pitch.specs.Signs.{IsGoodKey};
 ghost use Rattle.abc_lines.specs.Good.{IsGoodTune};
 ghost use Rattle.abc_fields.specs.Fields.{field_of, IsGoodField};
 ghost use Rattle.abc_fields.specs.Good.{IsGoodMeter, IsGoodUnit, IsGoodDefaults, GoodUnitIn};
-ghost use Rattle.abc_fields.specs.Keys.{key_over};
+ghost use Rattle.abc_fields.specs.Keys.{key_over, IsGoodKeyText};
 ghost use Rattle.abc_fields.specs.Last.{last_of};
 ghost use Rattle.abc_fields.specs.Voicing.{with_id, ids_after, ids_of, clef_for, wish_for, voice_from, voices_of};
-ghost use Rattle.abc_fields.specs.Headers.{is_key_line, key_place, title_in, composer_in, tempo_in, key_in, meter_in, unit_in, breaks_in, spread_in, key_signs, key_clef, unit_by, meter_from, header_of, fields_of, line_fault, no_key, first_fault, header_fault, first_line, head_lines, IsHeaderOf, IsHeaderFault, IsGoodHeader};
+ghost use Rattle.abc_fields.specs.Headers.{is_key_line, key_place, title_in, composer_in, tempo_in, key_in, meter_in, unit_in, breaks_in, spread_in, key_signs, key_clef, unit_by, meter_from, header_of, fields_of, line_fault, fault_at, no_key, first_fault, header_fault, first_line, head_lines, IsHeaderOf, IsHeaderFault, AllGood, HasGoodValues, IsGoodHeader};
 
 use crate::defaults::{Defaults, text_of};
 use crate::directive::Breaks;
@@ -52,6 +52,7 @@ pub fn read_header(
     requires defaults { IsGoodDefaults defaults.now }
     ensures value { IfOk result (λ header. IsHeaderOf tune.now defaults.now header) }
     ensures none { IfOk result (λ header. header_fault tune.now ≡ None) }
+    ensures good { IfOk result (λ header. IsGoodHeader tune.now header) }
     ensures fault { IfErr result (λ e. IsHeaderFault tune.now e) }
 {
     match header_or_fault(alloc, tune, defaults) {
@@ -70,6 +71,7 @@ fn header_or_fault(
     requires { IsGoodDefaults defaults.now }
     ensures value { IfOk result (λ read. IfOk read (λ header. IsHeaderOf tune.now defaults.now header)) }
     ensures none { IfOk result (λ read. IfOk read (λ header. header_fault tune.now ≡ None)) }
+    ensures good { IfOk result (λ read. IfOk read (λ header. IsGoodHeader tune.now header)) }
     ensures fault { IfOk result (λ read. IfErr read (λ fault. header_fault tune.now ≡ Some fault)) }
 {
     let lines = tune.lines.as_slice();
@@ -122,6 +124,7 @@ fn read_head(
     requires { IsGoodDefaults defaults.now }
     ensures value { IfOk result (λ read. IfOk read (λ header. header ≡ header_of (fields_of lines.now) defaults.now (length lines.now))) }
     ensures none { IfOk result (λ read. IfOk read (λ header. first_fault [] lines.now ≡ None)) }
+    ensures good { IfOk result (λ read. IfOk read (λ header. HasGoodValues header)) }
     ensures fault { IfOk result (λ read. IfErr read (λ fault. first_fault [] lines.now ≡ Some fault)) }
 {
     match read_fields(alloc, lines)? {
@@ -138,27 +141,66 @@ struct Read {
 }
 
 /// The fields of lines, or the first fault among them.
+
 fn read_fields(alloc: Global, lines: &[Line]) -> Result<Result<Read, Fault>, Memory>
     ensures fields { IfOk result (λ read. IfOk read (λ r. r.fields ≡ fields_of lines.now)) }
     ensures ids { IfOk result (λ read. IfOk read (λ r. r.ids ≡ ids_of (fields_of lines.now))) }
     ensures none { IfOk result (λ read. IfOk read (λ r. first_fault [] lines.now ≡ None)) }
+    ensures good { IfOk result (λ read. IfOk read (λ r. AllGood r.fields)) }
+    ensures few { IfOk result (λ read. IfOk read (λ r. length r.ids ≤ 16)) }
     ensures fault { IfOk result (λ read. IfErr read (λ fault. first_fault [] lines.now ≡ Some fault)) }
 {
     let mut ids = VoiceIds::new(alloc);
     let mut fields = Row::new(alloc);
     for line in lines {
-        let field = match field_at(alloc, line) {
-            Ok(field) => field,
-            Err(FieldError::Fault(kind)) => return Ok(Err(line_fault(kind, line))),
-            Err(FieldError::Memory) => return Err(Memory),
-        };
-        mention(alloc, &mut ids, &field)?;
-        if ids.len() > 16 {
-            return Ok(Err(line_fault(FaultKind::TooManyVoices, line)));
+        match read_line(alloc, &mut ids, line)? {
+            Ok(field) => fields.push(field)?,
+            Err(fault) => return Ok(Err(fault)),
         }
-        fields.push(field)?;
     }
     Ok(Ok(Read { fields, ids }))
+}
+
+/// The field of a line, which may mention one voice more, or the line's fault.
+fn read_line(
+    alloc: Global,
+    ids: &mut VoiceIds,
+    line: &Line,
+) -> Result<Result<Field, Fault>, Memory>
+    ensures field { IfOk result (λ read. IfOk read (λ f. field_of line.now.text ≡ Ok f)) }
+    ensures ids { IfOk result (λ read. IfOk read (λ f. ids.new ≡ ids_after ids.old f)) }
+    ensures none { IfOk result (λ read. IfOk read (λ f. fault_at ids.old line.now (Ok f) ≡ None)) }
+    ensures good { IfOk result (λ read. IfOk read (λ f. IsGoodField f)) }
+    ensures few { IfOk result (λ read. IfOk read (λ f. length ids.new ≤ 16)) }
+    ensures fault { IfOk result (λ read. IfErr read (λ fault. fault_at ids.old line.now (field_of line.now.text) ≡ Some fault)) }
+{
+    match field_at(alloc, line) {
+        Ok(field) => noted(alloc, ids, line, field),
+        Err(FieldError::Fault(kind)) => Ok(Err(line_fault(kind, line))),
+        Err(FieldError::Memory) => Err(Memory),
+    }
+}
+
+/// A field whose voice is noted, or a fault where it is the seventeenth.
+fn noted(
+    alloc: Global,
+    ids: &mut VoiceIds,
+    line: &Line,
+    field: Field,
+) -> Result<Result<Field, Fault>, Memory>
+    requires { IsGoodField field }
+    ensures field { IfOk result (λ read. IfOk read (λ f. f ≡ field)) }
+    ensures ids { IfOk result (λ read. IfOk read (λ f. ids.new ≡ ids_after ids.old f)) }
+    ensures none { IfOk result (λ read. IfOk read (λ f. fault_at ids.old line.now (Ok f) ≡ None)) }
+    ensures good { IfOk result (λ read. IfOk read (λ f. IsGoodField f)) }
+    ensures few { IfOk result (λ read. IfOk read (λ f. length ids.new ≤ 16)) }
+    ensures fault { IfOk result (λ read. IfErr read (λ fault. fault_at ids.old line.now (Ok field) ≡ Some fault)) }
+{
+    mention(alloc, ids, &field)?;
+    if ids.len() > 16 {
+        return Ok(Err(line_fault(FaultKind::TooManyVoices, line)));
+    }
+    Ok(Ok(field))
 }
 
 /// A fault at the first column of a line.
@@ -179,11 +221,15 @@ fn header_of(
     defaults: &Defaults,
     body: usize,
 ) -> Result<Header, Memory>
-    requires { read.now.ids ≡ ids_of read.now.fields }
-    ensures { IfOk result (λ header. header ≡ header_of read.now.fields defaults.now body) }
+    requires ids { read.now.ids ≡ ids_of read.now.fields }
+    requires few { length read.now.ids ≤ 16 }
+    requires good { AllGood read.now.fields }
+    requires defaults { IsGoodDefaults defaults.now }
+    ensures value { IfOk result (λ header. header ≡ header_of read.now.fields defaults.now body) }
+    ensures good { IfOk result (λ header. HasGoodValues header) }
 {
     let fields = read.fields.as_slice();
-    let meter = last_meter(fields).unwrap_or(defaults.meter);
+    let meter = meter_from(fields, defaults);
     let Ok(body) = u32::try_from(body) else {
         return Err(Memory);
     };
@@ -194,7 +240,7 @@ fn header_of(
         key: key_of(alloc, fields)?,
         clef: clef_of(fields),
         meter,
-        unit: unit_by(last_unit(fields), defaults.unit, meter),
+        unit: unit_from(fields, defaults, meter),
         voices: voices_of(alloc, &read.ids, fields)?,
         breaks: last_breaks(fields).unwrap_or(defaults.breaks),
         spread: last_spread(fields).unwrap_or(defaults.spread),
@@ -202,9 +248,47 @@ fn header_of(
     })
 }
 
+/// The tune's last meter, else the file's.
+fn meter_from(fields: &[Field], defaults: &Defaults) -> Meter
+    requires good { AllGood fields.now }
+    requires defaults { IsGoodDefaults defaults.now }
+    ensures value { result ≡ meter_from fields.now defaults.now }
+    ensures good { IsGoodMeter result }
+{
+    good_meter(fields).unwrap_or(defaults.meter)
+}
+
+fn good_meter(fields: &[Field]) -> Option<Meter>
+    requires { AllGood fields.now }
+    ensures value { result ≡ last_of meter_in fields.now }
+    ensures good { IfSome result (λ m. IsGoodMeter m) }
+{
+    last_meter(fields)
+}
+
+fn unit_from(fields: &[Field], defaults: &Defaults, meter: Meter) -> Frac
+    requires good { AllGood fields.now }
+    requires defaults { IsGoodDefaults defaults.now }
+    ensures value { result ≡ unit_by (last_of unit_in fields.now) defaults.now.unit meter }
+    ensures good { IsGoodUnit result }
+{
+    unit_by(good_unit(fields), defaults.unit, meter)
+}
+
+fn good_unit(fields: &[Field]) -> Option<Frac>
+    requires { AllGood fields.now }
+    ensures value { result ≡ last_of unit_in fields.now }
+    ensures good { GoodUnitIn result }
+{
+    last_unit(fields)
+}
+
 /// The tune's last unit, else the file's, else by the tune's meter.
 fn unit_by(own: Option<Frac>, other: Option<Frac>, meter: Meter) -> Frac
-    ensures { result ≡ unit_by own other meter }
+    requires own { GoodUnitIn own }
+    requires other { GoodUnitIn other }
+    ensures value { result ≡ unit_by own other meter }
+    ensures good { IsGoodUnit result }
 {
     match own {
         Some(unit) => unit,
@@ -262,9 +346,11 @@ fn tempo_text(fields: &[Field]) -> Option<&[u8]>
 
 /// The header's key, laid on no sign.
 fn key_of(alloc: Global, fields: &[Field]) -> Result<Key, Memory>
-    ensures { IfOk result (λ key. key.signs ≡ key_signs (last_of key_in fields.now)) }
+    requires { AllGood fields.now }
+    ensures value { IfOk result (λ key. key.signs ≡ key_signs (last_of key_in fields.now)) }
+    ensures good { IfOk result (λ key. IsGoodKey key) }
 {
-    match last_key(fields) {
+    match good_key(fields) {
         Some(text) => whole_key(alloc, text),
         None => Ok(Key {
             signs: Row::new(alloc),
@@ -273,12 +359,12 @@ fn key_of(alloc: Global, fields: &[Field]) -> Result<Key, Memory>
 }
 
 fn whole_key(alloc: Global, text: &KeyText) -> Result<Key, Memory>
-    ensures { IfOk result (λ key. key.signs ≡ key_over [] text.now) }
+    requires { IsGoodKeyText text.now }
+    ensures value { IfOk result (λ key. key.signs ≡ key_over [] text.now) }
+    ensures good { IfOk result (λ key. IsGoodKey key) }
 {
     match &text.key {
-        Some(key) => Ok(Key {
-            signs: Row::from_slice(alloc, key.signs.as_slice())?,
-        }),
+        Some(key) => same_key(alloc, key),
         None => lay(
             alloc,
             &Key {
@@ -289,6 +375,15 @@ fn whole_key(alloc: Global, text: &KeyText) -> Result<Key, Memory>
     }
 }
 
+fn same_key(alloc: Global, key: &Key) -> Result<Key, Memory>
+    requires { IsGoodKey key.now }
+    ensures value { IfOk result (λ new. new.signs ≡ key.now.signs) }
+    ensures good { IfOk result (λ new. IsGoodKey new) }
+{
+    let signs = Row::from_slice(alloc, key.signs.as_slice())?;
+    Ok(Key { signs })
+}
+
 /// The header's clef, treble where none is named.
 fn clef_of(fields: &[Field]) -> Clef
     ensures { result ≡ key_clef (last_of key_in fields.now) }
@@ -297,6 +392,14 @@ fn clef_of(fields: &[Field]) -> Clef
         Some(text) => text.clef.unwrap_or(Clef::Treble),
         None => Clef::Treble,
     }
+}
+
+fn good_key(fields: &[Field]) -> Option<&KeyText>
+    requires { AllGood fields.now }
+    ensures value { option_copied result ≡ last_of key_in fields.now }
+    ensures good { IfSome result (λ text. IsGoodKeyText text.now) }
+{
+    last_key(fields)
 }
 
 fn last_key(fields: &[Field]) -> Option<&KeyText>
