@@ -138,18 +138,19 @@ stage_more lines i line done new known now f inside here pushed read noted none 
     let rest : List Line = drop (suc i) lines in
     let cut : drop i lines ≡ line ∷ drop (suc i) lines = drop-cons lines i line inside ∙ ap (λ l. l ∷ drop (suc i) lines) (sym here) in
     let passed : first_fault known (line ∷ drop (suc i) lines) ≡ first_fault (ids_after known f) (drop (suc i) lines) =
-      ap (λ r. option_or (fault_at known line r) (first_fault (ids_with known r) (drop (suc i) lines))) read
-      ∙ ap (λ o. option_or o (first_fault (ids_after known f) (drop (suc i) lines))) none in
+    ap (λ r. option_or (fault_at known line r) (first_fault (ids_with known r) (drop (suc i) lines))) read
+    ∙ ap (λ o. option_or o (first_fault (ids_after known f) (drop (suc i) lines))) none in
     rw one (record {
       fields_so_far = ap (λ fs. fs ++ fields_of (drop (suc i) lines)) pushed
-        ∙ append_assoc done (f ∷ []) (fields_of (drop (suc i) lines))
-        ∙ sym (ap (λ r. done ++ put_field r (fields_of (drop (suc i) lines))) read)
-        ∙ ap (λ s. done ++ fields_of s) (sym cut)
-        ∙ stage.fields_so_far;
+          ∙ append_assoc done (f ∷ []) (fields_of (drop (suc i) lines))
+          ∙ sym (ap (λ r. done ++ put_field r (fields_of (drop (suc i) lines))) read)
+          ∙ ap (λ s. done ++ fields_of s) (sym cut)
+          ∙ stage.fields_so_far;
       ids_so_far = ap (λ ids. fold ids_after ids (fields_of (drop (suc i) lines))) noted
-        ∙ sym (ap (λ r. fold ids_after known (put_field r (fields_of (drop (suc i) lines)))) read)
-        ∙ ap (λ s. fold ids_after known (fields_of s)) (sym cut)
-        ∙ stage.ids_so_far;
+          ∙ sym (ap (λ r. fold ids_after known (put_field r (fields_of (drop (suc i) lines)))) read)
+          ∙ ap (λ s. fold ids_after known (fields_of s)) (sym cut)
+          ∙ stage.ids_so_far;
       fault_ahead = ap (λ ids. first_fault ids (drop (suc i) lines)) noted ∙ sym passed ∙ ap (λ s. first_fault known s) (sym cut) ∙ stage.fault_ahead;
       all_good = subst AllGood (sym pushed) (good_push done f stage.all_good good);
-      few_known = few })
+      few_known = few;
+    })

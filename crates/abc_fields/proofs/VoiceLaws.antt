@@ -40,7 +40,7 @@ voices-more f ids i item done new def inside here pushed made so_far =
     let one : i + 1 ≡ suc i = omega arith in
     let cut : drop i ids ≡ get_or ids i item ∷ drop (suc i) ids = drop-cons ids i item inside in
     rw one (ap (λ vs. vs ++ map f (drop (suc i) ids)) pushed
-      ∙ append_assoc done (def ∷ []) (map f (drop (suc i) ids))
-      ∙ ap (λ d. done ++ d ∷ map f (drop (suc i) ids)) (made ∙ ap f here)
-      ∙ ap (λ ks. done ++ map f ks) (sym cut)
-      ∙ so_far)
+    ∙ append_assoc done (def ∷ []) (map f (drop (suc i) ids))
+    ∙ ap (λ d. done ++ d ∷ map f (drop (suc i) ids)) (made ∙ ap f here)
+    ∙ ap (λ ks. done ++ map f ks) (sym cut)
+    ∙ so_far)

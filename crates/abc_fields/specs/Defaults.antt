@@ -57,5 +57,5 @@ defaults_of lines = record {
   meter = unwrap_or (last_of line_meter lines) meters.Free;
   unit = last_of line_unit lines;
   breaks = unwrap_or (last_of line_breaks lines) default_breaks;
-  spread = unwrap_or (last_of line_spread lines) spreads.Pitch
+  spread = unwrap_or (last_of line_spread lines) spreads.Pitch;
 }

@@ -104,7 +104,7 @@ header_of fs defaults body = record {
   voices = voices_of fs;
   breaks = unwrap_or (last_of breaks_in fs) defaults.breaks;
   spread = unwrap_or (last_of spread_in fs) defaults.spread;
-  body = body
+  body = body;
 }
 
 -- the fields of lines that have no fault

@@ -13,35 +13,6 @@ use Rattle.abc_fields.specs.Words.{trimmed, behind}
 abbrev pub is_halving : ℕ → Bool
 is_halving n = n == 1 || n == 2 || n == 4 || n == 8 || n == 16 || n == 32 || n == 64
 
--- What is meant. A meter of numbers is a number, or a sum of some, in parentheses or not, over a
--- halving.
-pub record RatioForm : Type 0 where
-  pub parens : Bool
-  pub terms : List (List ℕ)
-  pub below : List ℕ
-
-abbrev pub spelled : RatioForm → List ℕ
-spelled form = if form.parens then 40 ∷ (join_with_byte 43 form.terms ++ 41 ∷ 47 ∷ form.below) else join_with_byte 43 form.terms ++ 47 ∷ form.below
-
--- the sum is 1 to 99
-pub record IsGoodForm (form : RatioForm) : Type 0 where
-  pub some : 1 ≤ length form.terms
-  pub numbers : IsTrue (list_all is_number form.terms)
-  pub few : sum (map (value_of) form.terms) ≤ 99
-  pub below : IsTrue (is_number form.below)
-  pub halving : IsTrue (is_halving (value_of form.below))
-
-abbrev pub meant : RatioForm → Meter
-meant form = meters.Ratio (sum (map (value_of) form.terms)) (value_of form.below)
-
--- the text, blanks round it aside, is how a meter is written
-abbrev pub Writes : List ℕ → Meter → Type 0
-Writes s meters.Common = s ≡ codes "C"
-Writes s meters.Cut = s ≡ codes "C|"
-Writes s meters.Free = (s ≡ []) ⊎ (s ≡ codes "none")
-Writes s (meters.Ratio num den) = (form : RatioForm) × IsGoodForm form × (s ≡ spelled form) × (meant form ≡ meters.Ratio num den)
-
--- The same as a function.
 abbrev pub halving_of : Option ℕ → Option ℕ
 halving_of None = None
 halving_of (Some n) = if is_halving n then Some n else None

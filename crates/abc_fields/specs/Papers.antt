@@ -31,7 +31,7 @@ stated lines = record {
   right = length_in (codes "rightmargin") 5100 lines;
   top = length_in (codes "topmargin") 2800 lines;
   bottom = length_in (codes "botmargin") 2800 lines;
-  scale = scale_in lines
+  scale = scale_in lines;
 }
 
 -- what two margins leave, in units of the scale

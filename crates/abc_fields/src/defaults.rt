@@ -149,5 +149,9 @@ fn rest_named<'a>(name: &[u8], text: &'a [u8]) -> Option<&'a [u8]>
     ensures { option_copied result ≡ rest_named name.now text.now }
 {
     let (other, rest) = cut_name(text);
-    if is_same(other, name) { Some(rest) } else { None }
+    if is_same(other, name) {
+        Some(rest)
+    } else {
+        None
+    }
 }

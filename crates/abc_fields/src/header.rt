@@ -2,7 +2,6 @@ ghost use Rattle.std.specs.Prelude.{◌≡◌, ◌≤◌, ◌<◌, length, map, 
 ghost use Rattle.std.specs.List.{filter_map};
 ghost use Rattle.std.specs.Option.{option_map, option_copied};
 ghost use Rattle.mus_pitch.specs.Signs.{IsGoodKey};
-ghost use Rattle.abc_lines.specs.Good.{IsGoodTune};
 ghost use Rattle.abc_fields.specs.Fields.{field_of, IsGoodField};
 ghost use Rattle.abc_fields.specs.Good.{IsGoodMeter, IsGoodUnit, IsGoodDefaults, GoodUnitIn};
 ghost use Rattle.abc_fields.specs.Keys.{key_over, IsGoodKeyText};
@@ -43,13 +42,8 @@ pub struct Header {
 /// The header of a tune, or its first fault: a tune without `K:` at its first line,
 /// else the first line up to the `K:` that has a fault of its field or mentions a
 /// seventeenth voice, at column 1.
-pub fn read_header(
-    alloc: Global,
-    tune: &TuneText,
-    defaults: &Defaults,
-) -> Result<Header, TuneError>
-    requires tune { IsGoodTune tune.now }
-    requires defaults { IsGoodDefaults defaults.now }
+pub fn read_header(alloc: Global, tune: &TuneText, defaults: &Defaults) -> Result<Header, TuneError>
+    requires { IsGoodDefaults defaults.now }
     ensures value { IfOk result (λ header. IsHeaderOf tune.now defaults.now header) }
     ensures none { IfOk result (λ header. header_fault tune.now ≡ None) }
     ensures good { IfOk result (λ header. IsGoodHeader tune.now header) }
@@ -162,11 +156,7 @@ fn read_fields(alloc: Global, lines: &[Line]) -> Result<Result<Read, Fault>, Mem
 }
 
 /// The field of a line, which may mention one voice more, or the line's fault.
-fn read_line(
-    alloc: Global,
-    ids: &mut VoiceIds,
-    line: &Line,
-) -> Result<Result<Field, Fault>, Memory>
+fn read_line(alloc: Global, ids: &mut VoiceIds, line: &Line) -> Result<Result<Field, Fault>, Memory>
     ensures field { IfOk result (λ read. IfOk read (λ f. field_of line.now.text ≡ Ok f)) }
     ensures ids { IfOk result (λ read. IfOk read (λ f. ids.new ≡ ids_after ids.old f)) }
     ensures none { IfOk result (λ read. IfOk read (λ f. fault_at ids.old line.now (Ok f) ≡ None)) }
@@ -215,12 +205,7 @@ fn line_fault(kind: FaultKind, line: &Line) -> Fault
 }
 
 /// What counts of the fields of a header.
-fn header_of(
-    alloc: Global,
-    read: &Read,
-    defaults: &Defaults,
-    body: usize,
-) -> Result<Header, Memory>
+fn header_of(alloc: Global, read: &Read, defaults: &Defaults, body: usize) -> Result<Header, Memory>
     requires ids { read.now.ids ≡ ids_of read.now.fields }
     requires few { length read.now.ids ≤ 16 }
     requires good { AllGood read.now.fields }

@@ -15,3 +15,15 @@ pub mod paper;
 pub mod voice;
 mod voicing;
 mod words;
+
+pub use defaults::{Defaults, read_defaults};
+pub use directive::Breaks;
+pub use field::{Field, FieldError, read_field, read_named};
+pub use header::{Header, read_header};
+pub use key::KeyText;
+pub use mus_units::{Clef, Frac, Key, Letter, Meter, Sign, Spread, Wish};
+pub use paper::{Paper, body_of, read_paper};
+pub use voice::VoiceDef;
+
+#[cfg(test)]
+mod tests;

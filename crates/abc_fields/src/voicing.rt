@@ -75,11 +75,7 @@ pub(crate) fn voices_of(
     voices_for(alloc, ids.set.as_slice(), fields)
 }
 
-fn voices_for(
-    alloc: Global,
-    ids: &[Vec<u8>],
-    fields: &[Field],
-) -> Result<Row<VoiceDef>, Memory>
+fn voices_for(alloc: Global, ids: &[Vec<u8>], fields: &[Field]) -> Result<Row<VoiceDef>, Memory>
     ensures { IfOk result (λ row. row ≡ map (λ id. voice_from fields.now id.items) ids.now) }
 {
     let mut voices = Row::new(alloc);

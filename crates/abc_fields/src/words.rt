@@ -105,7 +105,11 @@ fn parts_words(quoted: bool, byte: u8) -> bool
 fn quoted_after(quotes: bool, quoted: bool, byte: u8) -> bool
     ensures { result ≡ quoted_after quotes quoted byte }
 {
-    if quotes && byte == b'"' { !quoted } else { quoted }
+    if quotes && byte == b'"' {
+        !quoted
+    } else {
+        quoted
+    }
 }
 
 /// Whether a quote stands open at the end.

@@ -15,4 +15,5 @@ loop-digit-preserved c =
     let capped : min c.with_digit-value.result 10000000 ≡ min (v * 10 + (get_or ds i 0 - 48)) 10000000 = omega (arith, c.with_digit-value.ensures.value) in
     record {
       rest = rw one (value_after-min (drop (suc i) ds) c.with_digit-value.result (v * 10 + (get_or ds i 0 - 48)) capped ∙ ap (λ s. min (value_after v s) 10000000) (sym now) ∙ c.loop-digit.invariant.rest);
-      small = c.with_digit-value.ensures.small }
+      small = c.with_digit-value.ensures.small;
+    }
