@@ -1,0 +1,24 @@
+-- Terms of a sum: the first of them, and those behind it.
+use Rattle.std.proofs.Common.{◌≡◌, refl, ap, sym, ◌∙◌, ℕ, suc, ◌+◌, List, [], ◌∷◌, Bool, true, false, not, take, drop, arith}
+use Rattle.std.specs.Prelude.{◌==◌}
+use Rattle.std.specs.List.{slice_split, onto_first, prefix_len}
+use Rattle.abc_fields.specs.Numbers.{place_of, before, from_first}
+use Rattle.abc_fields.specs.Meters.{terms_after, sum_of, added}
+
+abbrev is_plus : ℕ → Bool
+is_plus b = b == 43
+
+split_more : (b : ℕ) (s : List ℕ) (plus : Bool) → (b == 43) ≡ plus
+    → slice_split is_plus s ≡ take (place_of 43 s) s ∷ terms_after (drop (place_of 43 s) s)
+    → slice_split is_plus (b ∷ s) ≡ take (place_of 43 (b ∷ s)) (b ∷ s) ∷ terms_after (drop (place_of 43 (b ∷ s)) (b ∷ s))
+split_more b s true e same = rw e refl
+split_more b s false e same = let more : 1 + place_of 43 s ≡ suc (place_of 43 s) = omega arith in rw (e, more, same) refl
+
+pub split-terms : (s : List ℕ) → slice_split is_plus s ≡ take (place_of 43 s) s ∷ terms_after (drop (place_of 43 s) s)
+split-terms [] = refl
+split-terms (b ∷ s) = split_more b s (b == 43) refl (split-terms s)
+
+-- the terms are the first of them and those behind it
+pub split_cut : (s : List ℕ) → slice_split is_plus s ≡ before 43 s ∷ terms_after (from_first 43 s)
+unfolding before from_first
+split_cut s = split-terms s

@@ -1,0 +1,11 @@
+use Rattle.std.proofs.Common.{◌≡◌, ◌++◌, length}
+use Rattle.std.specs.Option.{option_map}
+use Rattle.abc_fields.specs.Words.{words_of}
+use Rattle.abc_fields.specs.Keys.{key_words}
+use Rattle.abc_fields.proofs.key.key_words.Given as goal
+
+abbrev pub invariant-loop-word : goal.invariant-loop-word
+invariant-loop-word l = option_map (λ ks. l.words ++ ks) (key_words (words_of l.rest)) ≡ key_words (words_of l.text)
+
+abbrev pub decreases-loop-word : goal.decreases-loop-word
+decreases-loop-word l = length (words_of l.rest)

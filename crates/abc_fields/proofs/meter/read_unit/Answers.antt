@@ -1,0 +1,8 @@
+use Rattle.std.proofs.Common.{subst, sym}
+use Rattle.std.specs.Prelude.{IfSome}
+use Rattle.abc_fields.specs.Good.{IsGoodUnit}
+use Rattle.abc_fields.proofs.GoodLaws.{unit_good}
+use Rattle.abc_fields.proofs.meter.read_unit.Goals as goal
+
+pub returns-clause-good : goal.returns-clause-good
+returns-clause-good c = subst (λ o. IfSome o (λ u. IsGoodUnit u)) (sym c.unit_of.ensures) (unit_good c.args.text.now)

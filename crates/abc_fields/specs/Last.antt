@@ -1,0 +1,8 @@
+-- The last of a list that names something.
+use Rattle.std.specs.Prelude.{List, [], ◌∷◌, Option, Some, None}
+use Rattle.std.specs.Option.{option_or}
+
+-- a later one counts before an earlier one
+abbrev pub last_of : {X Y : Type 0} → (X → Option Y) → List X → Option Y
+last_of f [] = None
+last_of f (x ∷ xs) = option_or (last_of f xs) (f x)

@@ -1,0 +1,14 @@
+pub mod Defaults
+pub mod Directives
+pub mod Fields
+pub mod Good
+pub mod Headers
+pub mod Keys
+pub mod Last
+pub mod Lengths
+pub mod Meters
+pub mod Numbers
+pub mod Papers
+pub mod Voices
+pub mod Voicing
+pub mod Words

@@ -1,0 +1,83 @@
+-- Meters and unit lengths: how they are written and what they mean.
+use Rattle.std.specs.Prelude.{◌≡◌, ℕ, ◌+◌, ◌*◌, ◌≤◌, List, [], ◌∷◌, ◌++◌, Bool, true, false, ◌==◌, ◌&&◌, ◌||◌, not, nat_le, nat_lt, length, map, sum, take, drop, codes, Option, Some, None, IsTrue, if◌then◌else◌, ◌⊎◌}
+use Rattle.std.specs.List.{list_all, slice_split, join_with_byte}
+use Rattle.std.specs.Option.{option_and_then}
+use Rattle.std.specs.Str.{bytes_eq}
+use Rattle.mus_units.specs.declared.key.Meter.{Meter}
+use Rattle.mus_units.specs.declared.key.Meter.TheVariants as meters
+use Rattle.mus_units.specs.declared.value.Frac.{Frac}
+use Rattle.abc_fields.specs.Numbers.{is_number, number_of, value_of, before, from_first, behind_one}
+use Rattle.abc_fields.specs.Words.{trimmed, behind}
+
+-- the halvings that a meter and a unit may name
+abbrev pub is_halving : ℕ → Bool
+is_halving n = n == 1 || n == 2 || n == 4 || n == 8 || n == 16 || n == 32 || n == 64
+
+abbrev pub halving_of : Option ℕ → Option ℕ
+halving_of None = None
+halving_of (Some n) = if is_halving n then Some n else None
+
+-- a number on top of a total, where both are at most 99
+abbrev pub plus : ℕ → Option ℕ → Option ℕ
+plus total None = None
+plus total (Some n) = if nat_le (total + n) 99 then Some (total + n) else None
+
+-- the sum of numbers on top of what came before
+abbrev pub added : ℕ → List (List ℕ) → Option ℕ
+added total [] = Some total
+added total (term ∷ terms) = option_and_then (λ n. added n terms) (plus total (number_of term))
+
+unfoldable pub sum_of : List ℕ → Option ℕ
+sum_of s = added 0 (slice_split (λ b. b == 43) s)
+
+-- the terms behind a first one
+abbrev pub terms_after : List ℕ → List (List ℕ)
+terms_after [] = []
+terms_after (b ∷ s) = slice_split (λ c. c == 43) s
+
+abbrev pub ratio : Option ℕ → Option ℕ → Option Meter
+ratio None den = None
+ratio (Some num) None = None
+ratio (Some num) (Some den) = Some (meters.Ratio num den)
+
+abbrev pub below_of : List ℕ → Option ℕ
+below_of s = halving_of (number_of s)
+
+abbrev pub below_behind : Option (List ℕ) → Option ℕ
+below_behind None = None
+below_behind (Some s) = below_of s
+
+unfoldable pub plain_ratio : List ℕ → Option Meter
+plain_ratio s = ratio (sum_of (before 47 s)) (below_of (behind_one (from_first 47 s)))
+
+unfoldable pub wrapped_ratio : List ℕ → Option Meter
+wrapped_ratio s = ratio (sum_of (before 41 s)) (below_behind (behind (codes "/") (behind_one (from_first 41 s))))
+
+abbrev pub ratio_by : List ℕ → Option (List ℕ) → Option Meter
+ratio_by s None = plain_ratio s
+ratio_by s (Some inside) = wrapped_ratio inside
+
+unfoldable pub ratio_of : List ℕ → Option Meter
+ratio_of s = ratio_by s (behind (codes "(") s)
+
+unfoldable pub meter_at : List ℕ → Option Meter
+meter_at s = if bytes_eq s (codes "C") then Some meters.Common else (if bytes_eq s (codes "C|") then Some meters.Cut else (if bytes_eq s (codes "none") then Some meters.Free else (if bytes_eq s [] then Some meters.Free else ratio_of s)))
+
+unfoldable pub meter_of : List ℕ → Option Meter
+meter_of text = meter_at (trimmed text)
+
+abbrev pub one_over : Option ℕ → Option Frac
+one_over None = None
+one_over (Some n) = Some (record { num = 1; den = n })
+
+-- a unit length is 1, or 1 over a halving
+unfoldable pub unit_at : List ℕ → Option Frac
+unit_at s = if bytes_eq s (codes "1") then Some (record { num = 1; den = 1 }) else one_over (below_behind (behind (codes "1/") s))
+
+unfoldable pub unit_of : List ℕ → Option Frac
+unit_of text = unit_at (trimmed text)
+
+-- without a unit: a sixteenth where the meter is below 3/4, else an eighth
+abbrev pub default_unit : Meter → Frac
+default_unit (meters.Ratio num den) = if nat_lt (4 * num) (3 * den) then record { num = 1; den = 16 } else record { num = 1; den = 8 }
+default_unit _ = record { num = 1; den = 8 }

@@ -1,0 +1,3 @@
+pub mod Alteration
+pub mod Circle
+pub mod Signs

@@ -1,0 +1,16 @@
+//! Keys by the circle of fifths, and the alteration that a note has.
+//!
+//! A tonic and its mode have a number of sharps, that number has a signature, and signs are laid
+//! on a signature. A note's alteration is its own sign, one written before it, or its key's.
+#![tactic(auto)]
+
+pub mod alteration;
+pub mod circle;
+pub mod signs;
+
+pub use alteration::in_force;
+pub use circle::{Mode, signature};
+pub use signs::{key_of, lay};
+
+#[cfg(test)]
+mod tests;
