@@ -1,12 +1,12 @@
 -- Going forwards lists the lines that belong by looking backwards.
-use Rattle.std.proofs.Common.{◌≡◌, ℕ, suc, ◌+◌, ◌≤◌, ◌<◌, Bool, true, false, cond, eqb, List, [], ◌∷◌, ◌++◌, length, Option, Some, None, refl, sym, ap, ◌∙◌, subst, arith}
+use Rattle.std.proofs.Common.{◌≡◌, ℕ, suc, ◌≤◌, ◌<◌, Bool, true, false, cond, List, [], ◌∷◌, ◌++◌, length, Some, None, refl, sym, ap, ◌∙◌, arith}
 use Rattle.std.specs.Prelude.{◌||◌, not, ◌&&◌}
 use Rattle.std.proofs.lemmas.Bool.{cond_both, eqb-true, eq-eqb, ne_eqb}
 use Rattle.abc_lines.specs.declared.book.Line.{Line}
 use Rattle.abc_lines.specs.declared.book.TuneText.{TuneText}
 use Rattle.abc_lines.specs.declared.book.Book.{Book}
 use Rattle.abc_lines.specs.declared.reading.Reading.{Reading}
-use Rattle.abc_lines.specs.Books.{begins_tune, is_empty, is_end_of_part, is_in_header, tune_of, is_number, belongs_to, line_at, when, listed, tune_at, tunes_behind, book_of_lines}
+use Rattle.abc_lines.specs.Books.{begins_tune, is_empty, is_end_of_part, is_in_header, tune_of, is_number, belongs_to, line_at, listed, tune_at, tunes_behind, book_of_lines}
 use Rattle.abc_lines.specs.Forward.{part_from, tune_from, tunes_from, book_from}
 
 pub part-nil : (number : ℕ) → part_from number [] ≡ []
@@ -76,8 +76,8 @@ tune_within (line ∷ before) number h =
     cond_both (begins_tune line) (Some (suc (length before))) (cond (is_empty line) None (tune_of before)) (λ t. is_number number t ≡ true → number ≤ suc (length before))
     (λ e is. omega (arith, eqb-true _ _ is))
     (λ e. cond_both (is_empty line) None (tune_of before) (λ t. is_number number t ≡ true → number ≤ suc (length before))
-      (λ f is. absurd cc)
-      (λ f is. omega (arith, tune_within before number is)))
+    (λ f is. absurd cc)
+    (λ f is. omega (arith, tune_within before number is)))
     h
 
 not_yet : (lines : List Reading) (number : ℕ) → length lines < number → belongs_to number lines ≡ false
@@ -94,8 +94,8 @@ later_line before line number within b is =
     cond_both (begins_tune line) (Some (suc (length before))) (cond (is_empty line) None (tune_of before)) (λ t. is_number number t ≡ (not (is_empty line || begins_tune line) && b))
     (λ e. rw (e, or-true (is_empty line), ne_eqb (suc (length before)) number (omega (arith, within))) refl)
     (λ e. rw (e, or-false (is_empty line)) (
-      cond_both (is_empty line) None (tune_of before) (λ t. is_number number t ≡ (not (is_empty line) && b))
-      (λ f. rw f refl) (λ f. rw f is)))
+    cond_both (is_empty line) None (tune_of before) (λ t. is_number number t ≡ (not (is_empty line) && b))
+    (λ f. rw f refl) (λ f. rw f is)))
 
 tune-done : (before more : List Reading) (number : ℕ) → number ≤ length before → belongs_to number before ≡ false → listed (belongs_to number) before more ≡ []
 tune-done before [] number within h = refl

@@ -1,21 +1,20 @@
 -- The book that is found is good: numbers rise, and the lines of a part are no longer than the input.
-use Rattle.std.proofs.Common.{◌≡◌, ℕ, zero, suc, ◌+◌, ◌-◌, ◌≤◌, ◌<◌, ◌^◌, Bool, true, false, cond, eqb, List, [], ◌∷◌, ◌++◌, length, take, drop, refl, sym, ap, ◌∙◌, subst, arith, zero-add}
-use Rattle.std.specs.Prelude.{map, sum, not, ◌&&◌, ◌||◌, All, ⊤, nat_eq}
-use Rattle.std.specs.List.{starts_with, slice_split, onto_first, ends_with, prefix_len, suffix_len}
+use Rattle.std.proofs.Common.{◌≡◌, ℕ, zero, suc, ◌+◌, ◌-◌, ◌≤◌, ◌^◌, Bool, true, false, cond, eqb, List, [], ◌∷◌, ◌++◌, length, take, drop, refl, ap, ◌∙◌, subst, arith}
+use Rattle.std.specs.Prelude.{map, sum, ◌&&◌, All, nat_eq}
+use Rattle.std.specs.List.{starts_with, ends_with, prefix_len, suffix_len}
 use Rattle.std.specs.Str.{is_utf8, chars}
 use Rattle.std.proofs.lemmas.Str.{encodes-chars, length-le-encodes, IsUtf8-from_is_utf8}
 use Rattle.std.proofs.lemmas.Bool.{cond_both, eqb-true, and_parts}
 use Rattle.std.proofs.lemmas.List.{length-append, length-drop, map-append}
 use Rattle.std.proofs.lemmas.List.Sums.{sum_by-append}
-
 use Rattle.std.proofs.lemmas.List.Elements.{All-cons}
 use Rattle.abc_lines.specs.declared.book.Line.{Line}
 use Rattle.abc_lines.specs.declared.book.TuneText.{TuneText}
 use Rattle.abc_lines.specs.declared.reading.Reading.{Reading}
 use Rattle.abc_lines.specs.declared.reading.Reading.TheVariants.{Empty, Comment, Written}
 use Rattle.abc_lines.specs.Kinds.{is_blank, is_field, is_percent_line, field_text}
-use Rattle.abc_lines.specs.Lines.{is_end, lines_of, without_last_empty, without_mark, without_return, narrow, in_latin, comment_len, trimmed, without_comment, is_empty_text, written, reading_of, reading, readings, byte_order_mark, first_line}
-use Rattle.abc_lines.specs.Books.{begins_tune, is_empty, is_end_of_part, is_joining, goes_on, added, joined, whole_text, line_of_text, line_at, book_of, book_of_lines}
+use Rattle.abc_lines.specs.Lines.{without_mark, without_return, narrow, in_latin, comment_len, without_comment, is_empty_text, written, reading, readings, byte_order_mark, first_line}
+use Rattle.abc_lines.specs.Books.{begins_tune, is_end_of_part, is_joining, goes_on, added, joined, whole_text, line_at, book_of}
 use Rattle.abc_lines.specs.Forward.{part_from, tune_from, tunes_from, book_from}
 use Rattle.abc_lines.specs.Good.{IsGoodTune, IsGoodBook, NumbersRise, size_of}
 use Rattle.abc_lines.proofs.LineLaws.{first_line_off, readings-nil}
@@ -118,11 +117,11 @@ part-le number (line ∷ more) =
     let others = part-le (suc number) more in
     cond_both (goes_on line) (added line ++ joined more) [] (λ t. length t + size_of (part_from number (line ∷ more)) ≤ text_len line + total more)
     (λ e. rw part-cons (cond_both {A = List Line} (is_end_of_part line) [] (line_at number line more ++ part_from (suc number) more) (λ ls. length (added line ++ joined more) + size_of ls ≤ text_len line + total more)
-      (λ f. omega (arith, length-append (added line) (joined more), added-le line e, others))
-      (λ f. rw (line-none number line more e) (omega (arith, length-append (added line) (joined more), added-le line e, others)))))
+    (λ f. omega (arith, length-append (added line) (joined more), added-le line e, others))
+    (λ f. rw (line-none number line more e) (omega (arith, length-append (added line) (joined more), added-le line e, others)))))
     (λ e. rw part-cons (cond_both {A = List Line} (is_end_of_part line) [] (line_at number line more ++ part_from (suc number) more) (λ ls. 0 + size_of ls ≤ text_len line + total more)
-      (λ f. omega arith)
-      (λ f. omega (arith, size-append (line_at number line more) (part_from (suc number) more), line-le number line more, others))))
+    (λ f. omega arith)
+    (λ f. omega (arith, size-append (line_at number line more) (part_from (suc number) more), line-le number line more, others))))
 
 -- numbers rise from a number on
 abbrev RisesFrom : ℕ → List Line → Type 0

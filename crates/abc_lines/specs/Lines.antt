@@ -1,6 +1,6 @@
 -- The lines of an input: its pieces between line ends, without the carriage return at the end,
 -- each in Latin-1 and without its comment.
-use Rattle.std.specs.Prelude.{◌-◌, ◌+◌, ◌&&◌, not, ℕ, List, [], ◌∷◌, length, Bool, true, false, ◌==◌, if◌then◌else◌, take, drop, map, nat_eq, nat_le}
+use Rattle.std.specs.Prelude.{◌-◌, ◌+◌, ◌&&◌, not, ℕ, List, [], ◌∷◌, length, Bool, false, ◌==◌, if◌then◌else◌, take, drop, map, nat_eq, nat_le}
 use Rattle.std.specs.List.{slice_split, suffix_len, position_or_len, prefix_len, starts_with, ends_with}
 use Rattle.std.specs.Str.{is_utf8, chars}
 use Rattle.abc_lines.specs.declared.reading.Reading.{Reading}

@@ -111,7 +111,9 @@ fn in_latin(alloc: Global, line: &[u8]) -> Result<Text, Memory>
 fn narrowed(alloc: Global, text: &str) -> Result<Vec<u8>, AllocError>
     ensures { IfOk result (λ it. it.items ≡ map narrow (chars text.now)) }
 {
-    text.chars().map(|character| narrow(character)).collect(alloc)
+    text.chars()
+        .map(|character| narrow(character))
+        .collect(alloc)
 }
 
 fn narrow(character: char) -> u8

@@ -1,1 +1,1 @@
-mod BoundLaws
+pub mod BoundLaws

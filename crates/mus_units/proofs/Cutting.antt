@@ -1,5 +1,5 @@
 -- Cutting a length into parts, one by one.
-use Rattle.std.proofs.Common.{◌≡◌, refl, sym, subst, ap, ℕ, zero, suc, ◌+◌, ◌*◌, ◌-◌, ◌≤◌, ◌<◌, List, [], ◌∷◌, ◌++◌, length, length-append, append_assoc, append-nil, arith}
+use Rattle.std.proofs.Common.{◌≡◌, sym, subst, ℕ, ◌+◌, ◌*◌, ◌-◌, ◌≤◌, ◌<◌, List, [], ◌∷◌, ◌++◌, length, length-append, append_assoc, append-nil, arith}
 use Rattle.mus_units.specs.declared.value.Value.{Value}
 use Rattle.mus_units.specs.Parts.{units_of, IsLongest, ArePartsOf, IsPartsOf}
 use Rattle.mus_units.proofs.Longest.{value_short, value_some}

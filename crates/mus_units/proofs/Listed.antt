@@ -6,7 +6,7 @@ use Rattle.std.proofs.Math.Nat.{mul-div_cancel}
 use Rattle.mus_units.specs.declared.value.Base.{Base}
 use Rattle.mus_units.specs.declared.value.Base.TheVariants as bases
 use Rattle.mus_units.specs.declared.value.Value.{Value}
-use Rattle.mus_units.specs.Parts.{units_of, IsLongest, all_values, dotted, longest_within, cut_in, cut_next, parts_list}
+use Rattle.mus_units.specs.Parts.{units_of, IsLongest, all_values, dotted, longest_within, cut_in, parts_list}
 
 abbrev IsIn : {A : Type 0} → List A → A → Type 0
 IsIn [] v = ⊥

@@ -36,7 +36,11 @@ fn finds_values_and_parts(rt: HostRuntime) -> Result<(), Fail> {
             Err(_) => assert!(rt; false),
         }
     }
-    assert_eq!(rt; ticks_of(value(Base::Quarter, 1)), WHOLE / 8 * 3);
+    let dotted = Value {
+        base: Base::Quarter,
+        dots: 1,
+    };
+    assert_eq!(rt; ticks_of(dotted), WHOLE / 8 * 3);
     Ok(())
 }
 

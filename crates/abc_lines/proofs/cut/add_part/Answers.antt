@@ -1,6 +1,6 @@
-use Rattle.std.proofs.Common.{rules, arith}
+use Rattle.std.proofs.Common.{rules}
 use Rattle.abc_lines.proofs.LineLaws.{line_off}
-use Rattle.abc_lines.proofs.Stages.{Part, part-begins, part-next, part-stops, part-ends}
+use Rattle.abc_lines.proofs.Stages.{part-begins, part-next, part-stops, part-ends}
 use Rattle.abc_lines.proofs.cut.add_part.Goals as goal
 
 pub lines-init : goal.lines-init

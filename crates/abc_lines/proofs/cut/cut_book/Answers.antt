@@ -1,9 +1,4 @@
-use Rattle.std.proofs.Common.{◌≡◌, rules, sym, ◌∙◌, List, subst}
-use Rattle.abc_lines.specs.declared.book.Line.{Line}
-use Rattle.abc_lines.specs.declared.book.TuneText.{TuneText}
-use Rattle.abc_lines.specs.declared.book.Book.{Book}
-use Rattle.abc_lines.specs.Forward.{book_from, part_from, tunes_from}
-use Rattle.abc_lines.specs.Lines.{readings, without_mark}
+use Rattle.std.proofs.Common.{sym, ◌∙◌, subst}
 use Rattle.abc_lines.specs.Good.{IsGoodBook}
 use Rattle.abc_lines.proofs.GoodLaws.{good, book-is}
 use Rattle.abc_lines.proofs.Stages.{book_found}

@@ -1,4 +1,4 @@
-use Rattle.std.proofs.Common.{rules, arith, ◌++◌}
+use Rattle.std.proofs.Common.{rules, ◌++◌}
 use Rattle.abc_lines.specs.Books.{joined}
 use Rattle.abc_lines.specs.Lines.{readings}
 use Rattle.abc_lines.proofs.LineLaws.{line_off}

@@ -1,5 +1,3 @@
-use Rattle.std.proofs.Common.{◌≡◌, IfOk, rules, ◌∙◌, sym}
-use Rattle.abc_lines.specs.Lines.{in_latin}
 use Rattle.abc_lines.proofs.LineLaws.{latin-text, latin-other}
 use Rattle.abc_lines.proofs.reading.in_latin.Goals as goal
 

@@ -1,0 +1,4 @@
+mod FormLaws
+mod InRange
+mod Words
+mod Promised

@@ -1,0 +1,5 @@
+pub mod Form
+pub mod SheetOf
+pub mod Outcome
+pub mod Promises
+pub mod Status

@@ -1,0 +1,47 @@
+ghost use Rattle.std.specs.Prelude.{◌≡◌};
+ghost use Rattle.abcps.specs.Status.{number_of};
+
+/// How a run ended.
+#[derive(Clone, Copy, Debug, PartialEq, Eq)]
+pub enum Status {
+    /// All was done and written.
+    Done,
+    /// All was written, and some tune has a fault.
+    SomeRefused,
+    /// The words are in no listed form.
+    Usage,
+    /// The input failed.
+    ReadFault,
+    /// A sink failed.
+    WriteFault,
+    /// Memory ran out.
+    Memory,
+    /// The input is no document, or no listing.
+    NotPages,
+    /// The input has more bytes than the limit.
+    TooLong,
+    /// A choice that was judged isn't least.
+    NotLeast,
+    /// The input isn't of a form that is built yet.
+    Unbuilt,
+}
+
+impl Status {
+    /// The number with which the program exits: 0 for done, and so on in order.
+    pub fn number(self) -> u8
+        ensures { result ≡ number_of self }
+    {
+        match self {
+            Status::Done => 0,
+            Status::SomeRefused => 1,
+            Status::Usage => 2,
+            Status::ReadFault => 3,
+            Status::WriteFault => 4,
+            Status::Memory => 5,
+            Status::NotPages => 6,
+            Status::TooLong => 7,
+            Status::NotLeast => 8,
+            Status::Unbuilt => 9,
+        }
+    }
+}

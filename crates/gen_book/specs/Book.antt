@@ -1,0 +1,58 @@
+-- The generated book of n tunes. Each tune has its number, a title, common time, eighths, one of four keys, and 16 lines
+-- of four measures; its letters come from a number that begins as the tune's.
+use Rattle.std.specs.Prelude.{ℕ, zero, suc, ◌+◌, ◌*◌, ◌/◌, ◌%◌, ◌^◌, List, [], ◌∷◌, ◌++◌, codes, decimal, slice_index}
+
+-- the number behind a number
+unfoldable pub next : ℕ → ℕ
+next s = (s * 1103515245 + 12345) % 2 ^ 31
+
+-- the letter of a number, one of seven
+unfoldable pub letter_of : ℕ → ℕ
+letter_of s = slice_index (codes "GABcdef") ((s / 65536) % 7)
+
+-- the number so many steps behind a number
+abbrev pub steps : ℕ → ℕ → ℕ
+steps zero s = s
+steps (suc k) s = next (steps k s)
+
+-- the four letters behind a number
+unfoldable pub half_behind : ℕ → List ℕ
+half_behind s = letter_of (steps 1 s) ∷ letter_of (steps 2 s) ∷ letter_of (steps 3 s) ∷ letter_of (steps 4 s) ∷ []
+
+-- a measure: four letters, a space, four letters, a bar
+unfoldable pub measure_behind : ℕ → List ℕ
+measure_behind s = half_behind s ++ 32 ∷ half_behind (steps 4 s) ++ 124 ∷ []
+
+-- so many measures, with nothing between
+abbrev pub measures_behind : ℕ → ℕ → List ℕ
+measures_behind zero s = []
+measures_behind (suc k) s = measure_behind s ++ measures_behind k (steps 8 s)
+
+-- a line of four measures
+unfoldable pub line_behind : ℕ → List ℕ
+line_behind s = measures_behind 4 s ++ 10 ∷ []
+
+-- so many lines
+abbrev pub lines_behind : ℕ → ℕ → List ℕ
+lines_behind zero s = []
+lines_behind (suc k) s = line_behind s ++ lines_behind k (steps 32 s)
+
+-- the key of a tune by its number: C, G, D, F in turn
+unfoldable pub key_of : ℕ → ℕ
+key_of i = slice_index (codes "CGDF") (i % 4)
+
+-- the lines of a tune before its music
+unfoldable pub heading : ℕ → List ℕ
+heading i = codes "X:" ++ decimal i ++ codes "\nT:Tune " ++ decimal i ++ codes "\nM:4/4\nL:1/8\nK:" ++ key_of i ∷ 10 ∷ []
+
+-- a tune, and the empty line behind it
+unfoldable pub tune : ℕ → List ℕ
+tune i = heading i ++ lines_behind 16 i ++ 10 ∷ []
+
+-- so many tunes, the first with the number i
+abbrev pub tunes : ℕ → ℕ → List ℕ
+tunes zero i = []
+tunes (suc k) i = tune i ++ tunes k (i + 1)
+
+unfoldable pub book : ℕ → List ℕ
+book n = tunes n 1

@@ -1,0 +1,152 @@
+ghost use Rattle.std.specs.Prelude.{◌≡◌, ◌≤◌, ◌<◌, ◌^◌, ◌++◌, ◌∷◌, [], OnOk, IfOk, decimal};
+ghost use Rattle.gen_book.specs.Book.{next, letter_of, steps, half_behind, measure_behind, measures_behind, line_behind, lines_behind, key_of, heading, tune, tunes, book};
+
+use itoa::Buffer;
+use mus_units::{Memory, Text};
+use std::alloc::Global;
+
+const LETTERS: [u8; 7] = *b"GABcdef";
+
+const KEYS: [u8; 4] = *b"CGDF";
+
+/// The number behind a number.
+#[tactic(auto, unfolding(crate::specs::Book::next))]
+fn next_of(s: u64) -> u64
+    requires { s < 2 ^ 31 }
+    ensures value { result ≡ next s }
+    ensures small { result < 2 ^ 31 }
+{
+    (s * 1_103_515_245 + 12_345) % 2_147_483_648
+}
+
+/// The letter of a number.
+#[tactic(auto, unfolding(crate::specs::Book::letter_of))]
+fn letter(s: u64) -> u8
+    ensures { result ≡ letter_of s }
+{
+    LETTERS[(s / 65_536 % 7) as usize]
+}
+
+/// Adds the letter behind a number, and gives the number behind.
+fn put_letter(out: &mut Text, s: u64) -> Result<u64, Memory>
+    requires { s < 2 ^ 31 }
+    ensures text { OnOk result (out.new ≡ out.old ++ letter_of (next s) ∷ []) }
+    ensures value { IfOk result (λ t. t ≡ next s) }
+    ensures small { IfOk result (λ t. t < 2 ^ 31) }
+{
+    let t = next_of(s);
+    out.push(letter(t))?;
+    Ok(t)
+}
+
+/// Adds four letters.
+#[tactic(auto, unfolding(crate::specs::Book::half_behind))]
+fn put_half(out: &mut Text, s: u64) -> Result<u64, Memory>
+    requires { s < 2 ^ 31 }
+    ensures text { OnOk result (out.new ≡ out.old ++ half_behind s) }
+    ensures value { IfOk result (λ t. t ≡ steps 4 s) }
+    ensures small { IfOk result (λ t. t < 2 ^ 31) }
+{
+    let first = put_letter(out, s)?;
+    let second = put_letter(out, first)?;
+    let third = put_letter(out, second)?;
+    put_letter(out, third)
+}
+
+/// Adds a measure.
+#[tactic(auto, unfolding(crate::specs::Book::measure_behind))]
+fn put_measure(out: &mut Text, s: u64) -> Result<u64, Memory>
+    requires { s < 2 ^ 31 }
+    ensures text { OnOk result (out.new ≡ out.old ++ measure_behind s) }
+    ensures value { IfOk result (λ t. t ≡ steps 8 s) }
+    ensures small { IfOk result (λ t. t < 2 ^ 31) }
+{
+    let half = put_half(out, s)?;
+    out.push(b' ')?;
+    let whole = put_half(out, half)?;
+    out.push(b'|')?;
+    Ok(whole)
+}
+
+/// Adds a line of four measures.
+#[tactic(auto, unfolding(crate::specs::Book::line_behind))]
+fn put_line(out: &mut Text, s: u64) -> Result<u64, Memory>
+    requires { s < 2 ^ 31 }
+    ensures text { OnOk result (out.new ≡ out.old ++ line_behind s) }
+    ensures value { IfOk result (λ t. t ≡ steps 32 s) }
+    ensures small { IfOk result (λ t. t < 2 ^ 31) }
+{
+    let first = put_measure(out, s)?;
+    let second = put_measure(out, first)?;
+    let third = put_measure(out, second)?;
+    let fourth = put_measure(out, third)?;
+    out.push(b'\n')?;
+    Ok(fourth)
+}
+
+/// Adds the sixteen lines of a tune.
+fn put_lines(out: &mut Text, i: u32) -> Result<(), Memory>
+    requires { i ≤ 500 }
+    ensures { OnOk result (out.new ≡ out.old ++ lines_behind 16 i) }
+{
+    let mut s = u64::from(i);
+    for k in 0_usize..16 {
+        s = put_line(out, s)?;
+    }
+    Ok(())
+}
+
+/// Adds a number.
+fn put_number(out: &mut Text, i: u32) -> Result<(), Memory>
+    ensures { OnOk result (out.new ≡ out.old ++ decimal i) }
+{
+    let mut buffer = Buffer::new();
+    out.append(buffer.format(i).as_bytes())
+}
+
+/// The letter of a tune's key.
+#[tactic(auto, unfolding(crate::specs::Book::key_of))]
+fn key(i: u32) -> u8
+    ensures { result ≡ key_of i }
+{
+    KEYS[(i % 4) as usize]
+}
+
+/// Adds the lines of a tune before its music.
+#[tactic(auto, unfolding(crate::specs::Book::heading))]
+fn put_heading(out: &mut Text, i: u32) -> Result<(), Memory>
+    ensures { OnOk result (out.new ≡ out.old ++ heading i) }
+{
+    out.append(b"X:")?;
+    put_number(out, i)?;
+    out.append(b"\nT:Tune ")?;
+    put_number(out, i)?;
+    out.append(b"\nM:4/4\nL:1/8\nK:")?;
+    out.push(key(i))?;
+    out.push(b'\n')
+}
+
+/// Adds a tune.
+#[tactic(auto, unfolding(crate::specs::Book::tune))]
+fn put_tune(out: &mut Text, i: u32) -> Result<(), Memory>
+    requires { i ≤ 500 }
+    ensures { OnOk result (out.new ≡ out.old ++ tune i) }
+{
+    put_heading(out, i)?;
+    put_lines(out, i)?;
+    out.push(b'\n')
+}
+
+/// The generated book of 1 to 500 tunes, in ABC notation.
+#[tactic(auto, unfolding(crate::specs::Book::book))]
+pub fn make(alloc: Global, n: u32) -> Result<Text, Memory>
+    requires some { 1 ≤ n }
+    requires few { n ≤ 500 }
+    ensures { IfOk result (λ text. text ≡ book n) }
+{
+    let mut out = Text::new(alloc);
+    for i in 1..n + 1 {
+        put_tune(&mut out, i)?;
+    }
+    Ok(out)
+}

@@ -1,0 +1,6 @@
+pub mod Breaking
+pub mod Table
+pub mod Answers
+pub mod Rows
+pub mod Spans
+pub mod Sample

@@ -1,0 +1,15 @@
+-- The text of a line, each part in front of what follows it.
+use Rattle.std.proofs.Common.{◌≡◌, ℕ, ◌∷◌, ◌++◌, ap, codes, decimal, refl}
+use mathlib.Core.List.{append_assoc}
+use Rattle.lay_breaks.specs.declared.costs.Span.{Span}
+use Rattle.lay_cert.specs.Lines.{line_text, sum_text}
+use Rattle.lay_cert.specs.declared.lines.Line.TheVariants as line
+
+pub span_text : (s : Span) → line_text (line.OneSpan s) ≡ codes "span " ++ (decimal s.a ++ (32 ∷ (decimal s.b ++ (32 ∷ decimal s.badness))))
+span_text s = ap (λ t. codes "span " ++ t) (append_assoc (decimal s.a) (32 ∷ decimal s.b) (32 ∷ decimal s.badness))
+
+pub tune_text : (tune bars : ℕ) → line_text (line.Tune tune bars) ≡ codes "tune " ++ (decimal tune ++ (32 ∷ (codes "measures " ++ decimal bars)))
+tune_text tune bars = ap (λ t. codes "tune " ++ t) (append_assoc (decimal tune) (32 ∷ codes "measures ") (decimal bars))
+
+pub potential_text : (bar : ℕ) (least : _) → line_text (line.Potential bar least) ≡ codes "potential " ++ (decimal bar ++ (32 ∷ sum_text least))
+potential_text bar least = refl

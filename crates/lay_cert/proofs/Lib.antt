@@ -1,0 +1,12 @@
+pub mod Words
+pub mod Forms
+pub mod Grown
+pub mod Steps
+pub mod Through
+pub mod Sums
+pub mod Alone
+pub mod Indexing
+pub mod Put
+pub mod Kept
+pub mod Judging
+pub mod Unforced

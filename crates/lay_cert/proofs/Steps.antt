@@ -1,0 +1,173 @@
+-- A line that may come keeps what holds of the entries told, and is the next of their lines.
+use Rattle.std.proofs.Common.{◌≡◌, ℕ, ◌+◌, ◌<◌, ◌≤◌, ◌==◌, Bool, true, false, List, [], ◌∷◌, ◌++◌, length, map, Option, None, refl, sym, ◌∙◌, ap, subst, arith, inl, inr, if◌then◌else◌, slice_index_or}
+use Rattle.std.proofs.lemmas.Bool.{cases_lt, true≢false}
+use Rattle.std.proofs.lemmas.Bool.Decides.{nat_tests}
+use Rattle.std.proofs.lemmas.List.{length-append, get_or_append_left}
+use Rattle.std.proofs.Math.Seq.{get_or-append_seam}
+use mathlib.Core.List.{append_assoc, append-nil}
+use Rattle.lay_breaks.specs.Breaking.{IsLegal, last_from, IsPotential}
+use Rattle.lay_breaks.specs.Spans.{listed}
+use Rattle.lay_breaks.specs.declared.costs.Span.{Span}
+use Rattle.lay_cert.specs.Listing.{Entry, IsEntry, none_forced, entry_lines, all_lines, potential_lines}
+use Rattle.lay_cert.specs.Places.{Place, begun, between, choosing, proving, MayCome, next, Leads, last_tune_from}
+use Rattle.lay_cert.specs.Told.{IsBegun, IsProving, IsGood, lines_of, begun_lines}
+use Rattle.lay_cert.specs.declared.lines.Line.{Line}
+use Rattle.lay_cert.specs.declared.lines.Line.TheVariants as line
+use Rattle.lay_cert.proofs.Grown.{push_map, push_potential, push_entry, push_entries, push_span, push_legal, listed_within}
+
+-- an entry in the making with one more potential
+abbrev pub one_more : Entry → Option ℕ → Entry
+one_more e p = record { tune = e.tune; bars = e.bars; spans = e.spans; breaks = e.breaks; total = e.total; potentials = e.potentials ++ p ∷ [] }
+
+push_length : (xs : List (Option ℕ)) (x : Option ℕ) → length (xs ++ x ∷ []) ≡ length xs + 1
+push_length xs x = length-append xs (x ∷ [])
+
+-- the potentials told are those of the first bars
+push_known : (P : ℕ → Option ℕ → Type 0) (ps : List (Option ℕ)) (p : Option ℕ)
+    → ((i : ℕ) → i < length ps → P i (slice_index_or ps i None)) → P (length ps) p
+    → (i : ℕ) → i < length ps + 1 → P i (slice_index_or (ps ++ p ∷ []) i None)
+push_known P ps p h k i l = elim (cases_lt i (length ps)) [
+  | inl lt ↦ subst (λ q. P i q) (sym (get_or_append_left ps (p ∷ []) None i lt)) (h i lt)
+  | inr ge ↦ let e : length ps ≡ i = omega arith in
+      subst (λ i. P i (slice_index_or (ps ++ p ∷ []) i None)) e (subst (λ q. P (length ps) q) (sym (get_or-append_seam ps p [] None)) k)
+]
+
+begun_more : (k : ℕ) (e : Entry) (p : Option ℕ) → IsBegun k e → IsBegun k (one_more e p)
+begun_more k e p h = record { past = h.past; numbered = h.numbered; few = h.few; spans = h.spans; choice = h.choice }
+
+whole : (k : ℕ) (e : Entry) (p : Option ℕ) → IsProving k e → length e.potentials ≡ e.bars
+    → IsPotential (listed e.spans) none_forced (length e.potentials) p → IsEntry (one_more e p)
+whole k e p h is known = record {
+  numbered = h.begun.numbered;
+  few = h.begun.few;
+  spans = h.begun.spans;
+  choice = subst (λ i. IsLegal (listed e.spans) none_forced e.breaks i) h.ends h.begun.choice;
+  total = h.total;
+  one_each = push_length e.potentials p ∙ ap (λ n. n + 1) is;
+  potentials = λ i l. push_known (IsPotential (listed e.spans) none_forced) e.potentials p h.potentials known i (omega (arith, is));
+}
+
+part : (k : ℕ) (e : Entry) (p : Option ℕ) → IsProving k e → length e.potentials < e.bars
+    → IsPotential (listed e.spans) none_forced (length e.potentials) p → IsProving k (one_more e p)
+part k e p h l known = record {
+  begun = begun_more k e p h.begun;
+  ends = h.ends;
+  total = h.total;
+  some_left = let n = push_length e.potentials p in omega arith;
+  potentials = λ i m. let n = push_length e.potentials p in push_known (IsPotential (listed e.spans) none_forced) e.potentials p h.potentials known i (omega arith);
+}
+
+-- by whether the potential is that of the last bar
+potential_cases : (e : Entry) (P : Bool → Type 0) → (length e.potentials ≡ e.bars → P true) → (length e.potentials < e.bars → P false)
+    → length e.potentials ≤ e.bars → P (length e.potentials == e.bars)
+potential_cases e P f g le = at (length e.potentials == e.bars) refl
+  where
+    at : (t : Bool) → (length e.potentials == e.bars) ≡ t → P t
+    at true is = f (equal is)
+      where
+        equal : (length e.potentials == e.bars) ≡ true → length e.potentials ≡ e.bars
+        equal is = grind (arith, nat_tests)
+    at false is = g (less is)
+      where
+        less : (length e.potentials == e.bars) ≡ false → length e.potentials < e.bars
+        less is = grind (arith, nat_tests)
+
+pub step_good : (p : Place) (l : Line) → MayCome p l → IsGood p → IsGood (next p l)
+step_good begun line.Listing m h = tt
+step_good (between es) (line.Tune tune bars) m h = (
+  h,
+  record { past = m.0; numbered = m.1; few = m.2; spans = tt; choice = record { rises = tt; ends = refl; every_forced = λ f le t. absurd (true≢false (sym t)); fits = tt } },
+)
+step_good (between es) line.End m h = h
+step_good (choosing es e) (line.OneSpan s) m h = (
+  h.0,
+  record {
+    past = h.1.past;
+    numbered = h.1.numbered;
+    few = h.1.few;
+    spans = push_span e.bars None e.spans s h.1.spans m.1;
+    choice = subst (λ bs. IsLegal (listed (e.spans ++ s ∷ [])) none_forced bs (last_from 0 bs)) (sym m.0)
+        (record { rises = tt; ends = refl; every_forced = λ f le t. absurd (true≢false (sym t)); fits = tt });
+  },
+)
+step_good (choosing es e) (line.Choose bar) m h =
+    let w = listed_within e.bars None e.spans (last_from 0 e.breaks) bar h.1.spans m in
+    (h.0, record { past = h.1.past; numbered = h.1.numbered; few = h.1.few; spans = h.1.spans; choice = push_legal (listed e.spans) e.breaks bar h.1.choice w.0 m })
+step_good (choosing es e) (line.Total total) m h = (
+  h.0,
+  record {
+    begun = record { past = h.1.past; numbered = h.1.numbered; few = h.1.few; spans = h.1.spans; choice = h.1.choice };
+    ends = m.0;
+    total = m.1;
+    some_left = omega arith;
+    potentials = λ i l. absurd (omega arith);
+  },
+)
+step_good (proving es e) (line.Potential bar least) m h =
+    let known = subst (λ i. IsPotential (listed e.spans) none_forced i least) m.0 m.1 in
+    potential_cases e (λ t. IsGood (if t then between (es ++ one_more e least ∷ []) else proving es (one_more e least)))
+    (λ is. push_entries 0 es (one_more e least) h.0 h.1.begun.past (whole (last_tune_from 0 es) e least h.1 is known))
+    (λ l. (h.0, part (last_tune_from 0 es) e least h.1 l known)) h.1.some_left
+step_good p l m h = absurd m
+
+-- one more line behind the entries told
+behind : (es : List Entry) (xs ys : List Line) (l : Line) → xs ≡ ys ++ l ∷ []
+    → (line.Listing ∷ all_lines es) ++ xs ≡ ((line.Listing ∷ all_lines es) ++ ys) ++ l ∷ []
+behind es xs ys l e = ap (λ t. (line.Listing ∷ all_lines es) ++ t) e ∙ sym (append_assoc (line.Listing ∷ all_lines es) ys (l ∷ []))
+
+begun_span : (tune bars : ℕ) (spans : List Span) (breaks : List ℕ) (s : Span) → breaks ≡ []
+    → line.Tune tune bars ∷ map line.OneSpan (spans ++ s ∷ []) ++ map line.Choose breaks
+    ≡ (line.Tune tune bars ∷ map line.OneSpan spans ++ map line.Choose breaks) ++ line.OneSpan s ∷ []
+begun_span tune bars spans breaks s e =
+    subst (λ bs. line.Tune tune bars ∷ map line.OneSpan (spans ++ s ∷ []) ++ map line.Choose bs
+    ≡ (line.Tune tune bars ∷ map line.OneSpan spans ++ map line.Choose bs) ++ line.OneSpan s ∷ []) (sym e)
+    (ap (λ t. line.Tune tune bars ∷ t) (append-nil (map line.OneSpan (spans ++ s ∷ []))
+    ∙ (push_map line.OneSpan spans s ∙ ap (λ t. t ++ line.OneSpan s ∷ []) (sym (append-nil (map line.OneSpan spans))))))
+
+begun_break : (tune bars : ℕ) (spans : List Span) (breaks : List ℕ) (bar : ℕ)
+    → line.Tune tune bars ∷ map line.OneSpan spans ++ map line.Choose (breaks ++ bar ∷ [])
+    ≡ (line.Tune tune bars ∷ map line.OneSpan spans ++ map line.Choose breaks) ++ line.Choose bar ∷ []
+begun_break tune bars spans breaks bar =
+    ap (λ t. line.Tune tune bars ∷ map line.OneSpan spans ++ t) (push_map line.Choose breaks bar)
+    ∙ sym (append_assoc (line.Tune tune bars ∷ map line.OneSpan spans) (map line.Choose breaks) (line.Choose bar ∷ []))
+
+proved_more : (e : Entry) (bar : ℕ) (least : Option ℕ) → bar ≡ length e.potentials
+    → entry_lines (one_more e least) ≡ entry_lines e ++ line.Potential bar least ∷ []
+proved_more e bar least is =
+    let at : 0 + length e.potentials ≡ bar = omega arith in
+    let more = push_potential 0 e.potentials least ∙ ap (λ i. potential_lines 0 e.potentials ++ line.Potential i least ∷ []) at in
+    ap (λ t. begun_lines e ++ line.Total e.total ∷ t) more
+    ∙ sym (append_assoc (begun_lines e) (line.Total e.total ∷ potential_lines 0 e.potentials) (line.Potential bar least ∷ []))
+
+pub step_lines : (p : Place) (l : Line) → MayCome p l → IsGood p → lines_of (next p l) ≡ lines_of p ++ l ∷ []
+step_lines begun line.Listing m h = refl
+step_lines (between es) (line.Tune tune bars) m h = refl
+step_lines (between es) line.End m h = refl
+step_lines (choosing es e) (line.OneSpan s) m h = behind es _ (begun_lines e) (line.OneSpan s) (begun_span e.tune e.bars e.spans e.breaks s m.0)
+step_lines (choosing es e) (line.Choose bar) m h = behind es _ (begun_lines e) (line.Choose bar) (begun_break e.tune e.bars e.spans e.breaks bar)
+step_lines (choosing es e) (line.Total total) m h = sym (append_assoc (line.Listing ∷ all_lines es) (begun_lines e) (line.Total total ∷ []))
+step_lines (proving es e) (line.Potential bar least) m h =
+    let told = behind es (entry_lines (one_more e least)) (entry_lines e) (line.Potential bar least) (proved_more e bar least m.0) in
+    potential_cases e
+    (λ t. lines_of (if t then between (es ++ one_more e least ∷ []) else proving es (one_more e least)) ≡ ((line.Listing ∷ all_lines es) ++ entry_lines e) ++ line.Potential bar least ∷ [])
+    (λ is. ap (λ t. line.Listing ∷ t) (push_entry es (one_more e least)) ∙ told)
+    (λ l. told) h.1.some_left
+step_lines p l m h = absurd m
+
+pub leads_good : (p : Place) (ls : List Line) (q : Place) → Leads p ls q → IsGood p → IsGood q
+leads_good p [] q h g = subst IsGood h g
+leads_good p (l ∷ ls) q h g = leads_good (next p l) ls q h.1 (step_good p l h.0 g)
+
+pub leads_lines : (p : Place) (ls : List Line) (q : Place) → Leads p ls q → IsGood p → lines_of q ≡ lines_of p ++ ls
+leads_lines p [] q h g = ap lines_of (sym h) ∙ sym (append-nil (lines_of p))
+leads_lines p (l ∷ ls) q h g =
+    leads_lines (next p l) ls q h.1 (step_good p l h.0 g)
+    ∙ (ap (λ t. t ++ ls) (step_lines p l h.0 g) ∙ append_assoc (lines_of p) (l ∷ []) ls)
+
+pub leads_more : (p : Place) (ls : List Line) (q : Place) (l : Line) → Leads p ls q → MayCome q l → Leads p (ls ++ l ∷ []) (next q l)
+leads_more p [] q l h m = (subst (λ p. MayCome p l) (sym h) m, ap (λ p. next p l) h)
+leads_more p (k ∷ ls) q l h m = (h.0, leads_more (next p k) ls q l h.1 m)
+
+pub leads_both : (p : Place) (ls : List Line) (q : Place) (ms : List Line) (r : Place) → Leads p ls q → Leads q ms r → Leads p (ls ++ ms) r
+leads_both p [] q ms r h k = subst (λ q. Leads q ms r) (sym h) k
+leads_both p (l ∷ ls) q ms r h k = (h.0, leads_both (next p l) ls q ms r h.1 k)

@@ -1,0 +1,10 @@
+pub mod Lines
+pub mod Listing
+pub mod Places
+pub mod Told
+pub mod Laws
+pub mod Verdicts
+pub mod Indexed
+pub mod Stands
+pub mod Answers
+pub mod Reports

@@ -1,0 +1,101 @@
+ghost use Rattle.std.specs.Prelude.{◌≡◌, ◌++◌, ◌∷◌, [], codes, decimal, OnOk, IfOk, Decides};
+ghost use Rattle.lay_cert.specs.Lines.{line_text, sum_text};
+
+use itoa::Buffer;
+use lay_breaks::Span;
+use mus_units::{Memory, Text};
+use std::alloc::Global;
+
+/// A line of a listing.
+#[derive(Clone, Copy, Debug, PartialEq, Eq)]
+pub enum Line {
+    /// The first.
+    Listing,
+    /// A tune's first: its number in the book, and how many bars it has.
+    Tune { tune: u32, bars: u32 },
+    /// A span that fits.
+    OneSpan(Span),
+    /// A break of the choice.
+    Choose { bar: u32 },
+    /// What the spans of the choice cost together.
+    Total { total: u64 },
+    /// The least sum of listed spans from 0 to a bar, or `None` where there is none.
+    Potential { bar: u32, least: Option<u64> },
+    /// The last.
+    End,
+}
+
+/// Puts a number at the end of the text, in decimal.
+pub fn put_number(out: &mut Text, number: u64) -> Result<(), Memory>
+    ensures { OnOk result (out.new ≡ out.old ++ decimal number) }
+{
+    out.append(Buffer::new().format(number).as_bytes())
+}
+
+fn put_sum(out: &mut Text, sum: Option<u64>) -> Result<(), Memory>
+    ensures { OnOk result (out.new ≡ out.old ++ sum_text sum) }
+{
+    match sum {
+        Some(sum) => put_number(out, sum),
+        None => out.append(b"none"),
+    }
+}
+
+fn put_tune(out: &mut Text, tune: u32, bars: u32) -> Result<(), Memory>
+    ensures { OnOk result (out.new ≡ out.old ++ codes "tune " ++ decimal tune ++ 32 ∷ codes "measures " ++ decimal bars) }
+{
+    out.append(b"tune ")?;
+    put_number(out, tune as u64)?;
+    out.append(b" measures ")?;
+    put_number(out, bars as u64)
+}
+
+fn put_span(out: &mut Text, span: Span) -> Result<(), Memory>
+    ensures { OnOk result (out.new ≡ out.old ++ codes "span " ++ decimal span.a ++ 32 ∷ decimal span.b ++ 32 ∷ decimal span.badness) }
+{
+    out.append(b"span ")?;
+    put_number(out, span.a as u64)?;
+    out.push(b' ')?;
+    put_number(out, span.b as u64)?;
+    out.push(b' ')?;
+    put_number(out, span.badness)
+}
+
+fn put_potential(out: &mut Text, bar: u32, least: Option<u64>) -> Result<(), Memory>
+    ensures { OnOk result (out.new ≡ out.old ++ codes "potential " ++ decimal bar ++ 32 ∷ sum_text least) }
+{
+    out.append(b"potential ")?;
+    put_number(out, bar as u64)?;
+    out.push(b' ')?;
+    put_sum(out, least)
+}
+
+/// Puts a line at the end of the text, without a line feed.
+pub fn put_text(out: &mut Text, line: Line) -> Result<(), Memory>
+    ensures { OnOk result (out.new ≡ out.old ++ line_text line) }
+{
+    match line {
+        Line::Listing => out.append(b"listing 1"),
+        Line::Tune { tune, bars } => put_tune(out, tune, bars),
+        Line::OneSpan(span) => put_span(out, span),
+        Line::Choose { bar } => {
+            out.append(b"choose ")?;
+            put_number(out, bar as u64)
+        }
+        Line::Total { total } => {
+            out.append(b"total ")?;
+            put_number(out, total)
+        }
+        Line::Potential { bar, least } => put_potential(out, bar, least),
+        Line::End => out.append(b"end"),
+    }
+}
+
+/// Whether the bytes are the text of the line.
+pub fn is_line(alloc: Global, bytes: &[u8], line: Line) -> Result<bool, Memory>
+    ensures { IfOk result (λ r. Decides r (bytes.now ≡ line_text line)) }
+{
+    let mut text = Text::new(alloc);
+    put_text(&mut text, line)?;
+    Ok(text.as_slice() == bytes)
+}

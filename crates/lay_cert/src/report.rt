@@ -1,0 +1,61 @@
+ghost use Rattle.std.specs.Prelude.{◌≡◌, [], ◌++◌, ◌∷◌, codes, decimal, OnOk};
+ghost use Rattle.lay_cert.specs.Reports.{bars_text, verdict_text};
+
+use crate::check::{Judged, Verdict};
+use crate::lines::put_number;
+use mus_units::{Memory, Text};
+
+fn put_bars(out: &mut Text, bars: &[u32]) -> Result<(), Memory>
+    ensures { OnOk result (out.new ≡ out.old ++ bars_text bars.now) }
+{
+    for bar in bars.iter() {
+        out.push(b' ')?;
+        put_number(out, *bar as u64)?;
+    }
+    Ok(())
+}
+
+fn put_least(out: &mut Text, tune: u32, total: u64) -> Result<(), Memory>
+    ensures { OnOk result (out.new ≡ out.old ++ codes "least " ++ decimal tune ++ 32 ∷ decimal total) }
+{
+    out.append(b"least ")?;
+    put_number(out, tune as u64)?;
+    out.push(b' ')?;
+    put_number(out, total)
+}
+
+fn put_not_least(
+    out: &mut Text,
+    tune: u32,
+    total: u64,
+    better: u64,
+    breaks: &[u32],
+) -> Result<(), Memory>
+    ensures { OnOk result (out.new ≡ out.old ++ codes "notleast " ++ decimal tune ++ 32 ∷ decimal total ++ 32 ∷ decimal better ++ bars_text breaks.now ++ 10 ∷ []) }
+{
+    out.append(b"notleast ")?;
+    put_number(out, tune as u64)?;
+    out.push(b' ')?;
+    put_number(out, total)?;
+    out.push(b' ')?;
+    put_number(out, better)?;
+    put_bars(out, breaks)?;
+    out.push(b'\n')
+}
+
+/// Puts the line of a verdict and its line feed at the end of the text.
+pub fn put_verdict(out: &mut Text, judged: &Judged) -> Result<(), Memory>
+    ensures { OnOk result (out.new ≡ out.old ++ verdict_text judged.now.tune judged.now.verdict) }
+{
+    match &judged.verdict {
+        Verdict::Least { total } => {
+            put_least(out, judged.tune, *total)?;
+            out.push(b'\n')
+        }
+        Verdict::NotLeast {
+            total,
+            better,
+            breaks,
+        } => put_not_least(out, judged.tune, *total, *better, breaks.as_slice()),
+    }
+}

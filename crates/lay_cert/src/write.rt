@@ -1,0 +1,104 @@
+ghost use Rattle.std.specs.Prelude.{◌≡◌, ◌+◌, ◌++◌, ◌∷◌, [], ℕ, List, Option, map, length, ◌<◌, ◌^◌, OnOk};
+ghost use Rattle.lay_cert.specs.Laws.{InParts, ForcedBySpans};
+ghost use Rattle.lay_cert.specs.Lines.{line_text, lines_then};
+ghost use Rattle.lay_cert.specs.Listing.{entry_lines, potential_lines};
+ghost use Rattle.lay_cert.specs.declared.lines.Line.TheVariants as line;
+
+use crate::lines::{Line, put_text};
+use lay_breaks::{Breaking, Span};
+use mus_units::{Memory, Text};
+
+/// Puts a line and its line feed at the end of the text.
+pub fn put_line(out: &mut Text, line: Line) -> Result<(), Memory>
+    ensures { OnOk result (out.new ≡ out.old ++ lines_then (line ∷ []) []) }
+{
+    put_text(out, line)?;
+    out.push(b'\n')
+}
+
+fn put_spans(out: &mut Text, spans: &[Span]) -> Result<(), Memory>
+    ensures { OnOk result (out.new ≡ out.old ++ lines_then (map line.OneSpan spans.now) []) }
+{
+    for span in spans.iter() {
+        put_line(out, Line::OneSpan(*span))?;
+    }
+    Ok(())
+}
+
+fn put_breaks(out: &mut Text, breaks: &[u32]) -> Result<(), Memory>
+    ensures { OnOk result (out.new ≡ out.old ++ lines_then (map line.Choose breaks.now) []) }
+{
+    for bar in breaks.iter() {
+        put_line(out, Line::Choose { bar: *bar })?;
+    }
+    Ok(())
+}
+
+fn put_potentials(out: &mut Text, potentials: &[Option<u64>]) -> Result<(), Memory>
+    requires { length potentials.now < 2 ^ 32 }
+    ensures { OnOk result (out.new ≡ out.old ++ lines_then (potential_lines 0 potentials.now) []) }
+{
+    let mut bar: u32 = 0;
+    for least in potentials.iter() {
+        put_line(out, Line::Potential { bar, least: *least })?;
+        bar += 1;
+    }
+    Ok(())
+}
+
+/// Puts the first line of a listing.
+pub fn put_heading(out: &mut Text) -> Result<(), Memory>
+    ensures { OnOk result (out.new ≡ out.old ++ lines_then (line.Listing ∷ []) []) }
+{
+    put_line(out, Line::Listing)
+}
+
+/// Puts the lines of one tune: its number and bars, the spans that fit by where
+/// they begin and then by where they end, and what was chosen among them.
+pub fn put_entry(
+    out: &mut Text,
+    tune: u32,
+    bars: u32,
+    spans: &[Span],
+    breaking: &Breaking,
+) -> Result<(), Memory>
+    requires few { length breaking.now.potentials < 2 ^ 32 }
+    ensures { OnOk result (out.new ≡ out.old ++ lines_then (entry_lines (record {
+      tune = tune;
+      bars = bars;
+      spans = spans.now;
+      breaks = breaking.now.breaks;
+      total = breaking.now.total;
+      potentials = breaking.now.potentials;
+    })) []) }
+{
+    put_line(out, Line::Tune { tune, bars })?;
+    put_spans(out, spans)?;
+    put_breaks(out, breaking.breaks.as_slice())?;
+    put_line(
+        out,
+        Line::Total {
+            total: breaking.total,
+        },
+    )?;
+    put_potentials(out, breaking.potentials.as_slice())?;
+    Ok(())
+}
+
+/// Puts the last line of a listing.
+pub fn put_end(out: &mut Text) -> Result<(), Memory>
+    ensures { OnOk result (out.new ≡ out.old ++ lines_then (line.End ∷ []) []) }
+{
+    put_line(out, Line::End)
+}
+
+/// The law that a listing is its first line, the lines of each tune, and its last line.
+pub fn in_parts()
+    ensures { InParts }
+{}
+
+/// The law that where no span passes a forced bar, the legal breakings are the
+/// breakings of those spans: a listing need not tell which bars are forced.
+pub fn forced_by_spans()
+    ensures { ForcedBySpans }
+{}

@@ -1,0 +1,81 @@
+-- The end of the columns, and how it grows with the force.
+use Rattle.std.proofs.Common.{◌≡◌, ℕ, ◌+◌, ◌-◌, ◌<◌, ◌≤◌, ℤ, pos, ◌+ℤ◌, ◌≤ℤ◌, ◌<ℤ◌, List, Option, None, Some, true, false, MatchBool, option_map, unwrap_or, slice_get, arith, sym, ◌∙◌, subst}
+use Rattle.std.specs.Int.Signed.{le_z}
+use Rattle.std.proofs.lemmas.Int.{ints, by_lt_z}
+use Rattle.std.proofs.lemmas.Option.{same_Some}
+use Rattle.lay_springs.specs.declared.traits.Reach.{Reach}
+use Rattle.lay_springs.specs.Place.{reach_at, length_at, StandApart}
+use Rattle.lay_springs.specs.Fit.{IsEndOf, EndsAt, Fits, Passes}
+use Rattle.lay_springs.proofs.Clear.{below_or_at}
+use Rattle.lay_springs.proofs.Placing.{reach_is}
+
+pub match_le : (P Q : Type 0) (a b : ℤ) → (a ≤ℤ b → P) → (b <ℤ a → Q) → MatchBool (le_z a b) P Q
+match_le P Q a b below above =
+    by_lt_z b a
+    (λ lt. let f : le_z a b ≡ false = grind (arith, ints) in subst (λ t. MatchBool t P Q) (sym f) (above lt))
+    (λ le. let t : le_z a b ≡ true = grind (arith, ints) in subst (λ t. MatchBool t P Q) (sym t) (below le))
+
+pub end_more : (reach : ℕ → Option Reach) (lane : ℕ) (at old new : ℤ) (r : Reach) → reach lane ≡ Some r
+    → old ≤ℤ new → (at +ℤ pos r.right) ≤ℤ new → ((v : ℤ) → old ≤ℤ v → (at +ℤ pos r.right) ≤ℤ v → new ≤ℤ v)
+    → IsEndOf reach lane at old → IsEndOf reach (lane + 1) at new
+end_more reach lane at old new r er le reached least h = record {
+  past = let p = h.past in omega (arith, ints);
+  reaches = λ k u lt eu.
+      below_or_at (λ k. reach k ≡ Some u → (at +ℤ pos u.right) ≤ℤ new) k lane lt
+      (λ lt eu. let d = h.reaches k u lt eu in omega (arith, ints))
+      (λ eu. let b : r ≡ u = same_Some r u (sym er ∙ eu) in rw (← b) reached)
+      eu;
+  least = λ v p q. least v (h.least v p (λ k u lt eu. q k u (omega arith) eu)) (q lane r (omega arith) er);
+}
+
+pub end_read : {C : Type 0} (reach : C → ℕ → Option Reach) (cols : List C) (lanes i : ℕ) (c : C) (at e : ℤ)
+    → slice_get cols i ≡ Some c → IsEndOf (reach c) lanes at e → IsEndOf (reach_at reach cols i) lanes at e
+end_read reach cols lanes i c at e ec h = record {
+  past = h.past;
+  reaches = λ k r l er. h.reaches k r l (sym (reach_is reach cols i c ec k) ∙ er);
+  least = λ v p q. h.least v p (λ k r l er. q k r l (reach_is reach cols i c ec k ∙ er));
+}
+
+pub fits_or_passes : (n : ℕ) (reach : ℕ → ℕ → Option Reach) (gaps : List ℕ) (spring : ℕ → ℕ → ℕ) (width force : ℕ) (e e' w : ℤ)
+    → e' ≡ e → w ≡ pos width → EndsAt n reach gaps spring force e
+    → MatchBool (le_z e' w) (Fits n reach gaps spring width force) (Passes n reach gaps spring width force)
+fits_or_passes n reach gaps spring width force e e' w same is h =
+    match_le (Fits n reach gaps spring width force) (Passes n reach gaps spring width force) e' w
+    (λ le. (e, h, omega (arith, ints)))
+    (λ lt. (e, h, omega (arith, ints)))
+
+-- springs that are no longer let the columns stand where longer ones do
+pub apart_down : (n : ℕ) (reach : ℕ → ℕ → Option Reach) (gaps : List ℕ) (weak strong : ℕ → ℕ) (x : List ℤ)
+    → ((i : ℕ) → weak i ≤ strong i) → StandApart n reach gaps strong x → StandApart n reach gaps weak x
+apart_down n reach gaps weak strong x le h = record {
+  begins = h.begins;
+  head = h.head;
+  lanes = h.lanes;
+  steps = h.steps;
+  springs = λ i l. let s = h.springs i l in let k = le i in omega (arith, ints);
+}
+
+-- the end doesn't fall as the force rises
+pub end_down : (n : ℕ) (reach : ℕ → ℕ → Option Reach) (gaps : List ℕ) (spring : ℕ → ℕ → ℕ) (f g : ℕ) (d e : ℤ) → 0 < n
+    → ((i : ℕ) → spring f i ≤ spring g i)
+    → EndsAt n reach gaps spring f d → EndsAt n reach gaps spring g e → d ≤ℤ e
+end_down n reach gaps spring f g d e some le a b =
+    let last = a.place.least b.x (apart_down n reach gaps (spring f) (spring g) b.x le b.place.apart) (n - 1) (omega arith) in
+    a.end.least e (let p = b.end.past in omega (arith, ints))
+    (λ k r l er. let q = b.end.reaches k r l er in omega (arith, ints))
+
+pub never_both : (n : ℕ) (reach : ℕ → ℕ → Option Reach) (gaps : List ℕ) (spring : ℕ → ℕ → ℕ) (width f g : ℕ) → 0 < n
+    → ((i : ℕ) → spring f i ≤ spring g i)
+    → Passes n reach gaps spring width f → Fits n reach gaps spring width g → ⊥
+never_both n reach gaps spring width f g some le p q =
+    let d = end_down n reach gaps spring f g p.0 q.0 some le p.1 q.1 in
+    let a = p.2 in let b = q.2 in omega (arith, ints)
+
+-- the springs of a list of columns grow with the force
+pub length_rises : {C : Type 0} (len : C → ℕ → ℕ) (cols : List C) (f g : ℕ) → ((c : C) → len c f ≤ len c g)
+    → (i : ℕ) → length_at len cols f i ≤ length_at len cols g i
+length_rises len cols f g le i = at (slice_get cols i)
+  where
+    at : (o : _) → unwrap_or (option_map (λ c. len c f) o) 0 ≤ unwrap_or (option_map (λ c. len c g) o) 0
+    at None = omega arith
+    at (Some c) = le c

@@ -1,0 +1,102 @@
+-- What stands furthest right in each lane.
+use Rattle.std.proofs.Common.{◌≡◌, ℕ, ◌+◌, ◌*◌, ◌^◌, ◌<◌, ◌≤◌, inl, inr, ℤ, pos, negsuc, ◌+ℤ◌, ◌≤ℤ◌, List, length, Option, None, Some, IfSome, slice_index, slice_index_or, sym, ◌∙◌, arith, refl}
+use Rattle.std.proofs.lemmas.Int.{ints}
+use Rattle.std.proofs.lemmas.Option.{same_Some, none-some}
+use Rattle.lay_springs.specs.declared.traits.Reach.{Reach}
+use Rattle.lay_springs.specs.Place.{IsClear, StandApart, IsPlacedTo, IsFront, IsPast, Advances}
+use Rattle.lay_springs.proofs.Clear.{below_or_at}
+
+abbrev at : List ℤ → ℕ → ℤ
+at x k = slice_index_or x k (pos 0)
+
+pub past_more : (reach : ℕ → Option Reach) (gaps : List ℕ) (lane : ℕ) (front : List ℤ) (old new : ℤ) (s : Reach) → reach lane ≡ Some s
+    → old ≤ℤ new → (at front lane +ℤ pos (slice_index gaps lane + s.left)) ≤ℤ new
+    → IsPast reach gaps lane front old → IsPast reach gaps (lane + 1) front new
+past_more reach gaps lane front old new s es l m h k u lt eu =
+    below_or_at (λ k. reach k ≡ Some u → pos 0 ≤ℤ at front k → (at front k +ℤ pos (slice_index gaps k + u.left)) ≤ℤ new) k lane lt
+    (λ lt eu p. let d = h k u lt eu p in omega (arith, ints))
+    (λ eu p. let b : s ≡ u = same_Some s u (sym es ∙ eu) in rw (← b) m)
+    eu
+
+module _ (n : ℕ) (reach : ℕ → ℕ → Option Reach) (gaps : List ℕ) (spring : ℕ → ℕ) (j : ℕ) (x front : List ℤ)
+    (placed : IsPlacedTo n j reach gaps spring x) (fronts : IsFront j reach (length gaps) x front) where
+  pub front_clear : (v : ℤ) → IsPast (reach j) gaps (length gaps) front v
+      → (i : ℕ) → i < j → IsClear (reach i) (reach j) gaps (length gaps) (at x i) v
+  front_clear v past i l lane r s lt er es =
+      let c = fronts.covers lane i r lt l er in
+      let low = (placed.small i l).0 in
+      let p = past lane s lt es (omega (arith, ints)) in
+      omega (arith, ints)
+
+  pub front_below : (y : List ℤ) → j < n → StandApart n reach gaps spring y → IsPast (reach j) gaps (length gaps) front (at y j)
+  front_below y l h lane s lt es some =
+      let k = fronts.stands lane lt some in
+      let e = k.4 in
+      let c = h.lanes k.0 j k.2 l lane k.1 s lt k.3 es in
+      let b = placed.least y h k.0 k.2 in
+      omega (arith, ints)
+
+  pub past_bound : ((k lane : ℕ) → lane < length gaps → IfSome (reach k lane) (λ r. (r.left ≤ 1048576) × (r.right ≤ 1048576)))
+      → ((lane : ℕ) → lane < length gaps → slice_index gaps lane ≤ 1048576)
+      → IsPast (reach j) gaps (length gaps) front (pos (1048576 + 3145728 * j))
+  past_bound near narrow lane s lt es some =
+      let k = fronts.stands lane lt some in
+      let l = k.2 in
+      let e = k.4 in
+      let high = (placed.small k.0 k.2).1 in
+      let right = (rw k.3 at (near k.0 lane lt)).1 in
+      let left = (rw es at (near j lane lt)).0 in
+      let gap = narrow lane lt in
+      omega (arith, ints)
+
+module _ (reach : ℕ → ℕ → Option Reach) (lanes j : ℕ) (v : ℤ) where
+  -- one lane, where column j stands at v
+  one_covers : (o : Option Reach) (old new : ℤ) → Advances o v old new → old ≤ℤ new
+  one_covers None old new h = omega (arith, ints)
+  one_covers (Some r) old new h = h.0
+
+  one_small : (o : Option Reach) (old new : ℤ) → IfSome o (λ r. (r.left ≤ 1048576) × (r.right ≤ 1048576)) → v ≤ℤ pos (2 ^ 60)
+      → old ≤ℤ pos (2 ^ 61) → Advances o v old new → new ≤ℤ pos (2 ^ 61)
+  one_small None old new near l s h = omega (arith, ints)
+  one_small (Some r) old new near l s h =
+      let a = near.1 in elim h.2 [ inl e ↦ omega (arith, ints) | inr e ↦ omega (arith, ints) ]
+
+  here_covers : (o : Option Reach) (r : Reach) (old new : ℤ) → o ≡ Some r → Advances o v old new → (v +ℤ pos r.right) ≤ℤ new
+  here_covers None r old new e h = absurd (none-some r e)
+  here_covers (Some s) r old new e h = let b : s ≡ r = same_Some s r e in rw (← b) h.1
+
+  module _ (x x' front front' : List ℤ) (same : (k : ℕ) → k < j → at x' k ≡ at x k) (here : at x' j ≡ v) (high : v ≤ℤ pos (2 ^ 60))
+      (near : (lane : ℕ) → lane < lanes → IfSome (reach j lane) (λ r. (r.left ≤ 1048576) × (r.right ≤ 1048576)))
+      (advances : (lane : ℕ) → lane < lanes → Advances (reach j lane) v (at front lane) (at front' lane))
+      (fronts : IsFront j reach lanes x front) where
+    pub front_more : IsFront (j + 1) reach lanes x' front'
+    front_more = record {
+      covers = λ lane k r lt l e. below_or_at (λ k. reach k lane ≡ Some r → (at x' k +ℤ pos r.right) ≤ℤ at front' lane) k j l
+          (λ l e. let c = fronts.covers lane k r lt l e in let s = same k l in let u = one_covers (reach j lane) _ _ (advances lane lt) in omega (arith, ints))
+          (λ e. rw here (here_covers (reach j lane) r _ _ e (advances lane lt)))
+          e;
+      stands = λ lane lt some. stood lane lt (reach j lane) refl (advances lane lt) some;
+      small = λ lane lt. one_small (reach j lane) _ _ (near lane lt) high (fronts.small lane lt) (advances lane lt);
+    }
+      where
+        old : (lane : ℕ) → lane < lanes → at front' lane ≡ at front lane → pos 0 ≤ℤ at front' lane
+            → (k : ℕ) × (r : Reach) × (k < j + 1) × (reach k lane ≡ Some r) × (at front' lane ≡ (at x' k +ℤ pos r.right))
+        old lane lt e some =
+            let k = fronts.stands lane lt (rw e at some) in
+            (k.0, k.1, (let l = k.2 in omega arith), k.3, rw (same k.0 k.2) (e ∙ k.4))
+
+        stood : (lane : ℕ) → lane < lanes → (o : Option Reach) → reach j lane ≡ o → Advances o v (at front lane) (at front' lane) → pos 0 ≤ℤ at front' lane
+            → (k : ℕ) × (r : Reach) × (k < j + 1) × (reach k lane ≡ Some r) × (at front' lane ≡ (at x' k +ℤ pos r.right))
+        stood lane lt None e h some = old lane lt h some
+        stood lane lt (Some r) e h some = elim h.2 [
+          | inl q ↦ old lane lt q some
+          | inr q ↦ (j, r, omega arith, e, rw here q)
+        ]
+
+pub front_start : (reach : ℕ → ℕ → Option Reach) (lanes : ℕ) (x front : List ℤ) → ((lane : ℕ) → lane < lanes → at front lane ≡ negsuc 0)
+    → IsFront 0 reach lanes x front
+front_start reach lanes x front h = record {
+  covers = λ lane k r lt l e. absurd (omega arith);
+  stands = λ lane lt some. let e = h lane lt in absurd (omega (arith, ints));
+  small = λ lane lt. let e = h lane lt in omega (arith, ints);
+}

@@ -1,0 +1,125 @@
+-- One column more is placed.
+use Rattle.std.proofs.Common.{◌≡◌, ℕ, ◌+◌, ◌*◌, ◌<◌, ◌≢◌, ℤ, pos, ◌+ℤ◌, ◌≤ℤ◌, List, length, Option, None, Some, IfSome, option_and_then, slice_get, slice_index_or, slice_set, sym, ◌∙◌, arith, subst, refl, get_or-set_same, get_or-set_other}
+use Rattle.std.proofs.lemmas.Int.{ints}
+use Rattle.lay_springs.specs.declared.traits.Reach.{Reach}
+use Rattle.lay_springs.specs.Place.{reach_at, length_at, IsClear, IsInside, IsPast, StandApart, IsPlacedTo}
+use Rattle.lay_springs.proofs.Clear.{below_or_at}
+
+-- the abscissa of a column
+abbrev at : List ℤ → ℕ → ℤ
+at x k = slice_index_or x k (pos 0)
+
+module _ (n : ℕ) (reach : ℕ → ℕ → Option Reach) (gaps : List ℕ) (spring : ℕ → ℕ) where
+  pub placed_first : (x : List ℤ) (v : ℤ) → 0 < n → 0 < length x → pos 0 ≤ℤ v → IsInside (reach 0) (length gaps) v
+      → ((w : ℤ) → pos 0 ≤ℤ w → IsInside (reach 0) (length gaps) w → v ≤ℤ w) → v ≤ℤ pos 1048576
+      → IsPlacedTo n 1 reach gaps spring (slice_set x 0 v)
+  placed_first x v some room begins inside least small = record {
+    apart = record {
+      begins = λ _. rw here begins;
+      head = λ _. rw here inside;
+      lanes = λ i j lt le. absurd (omega arith);
+      steps = λ i l. absurd (omega arith);
+      springs = λ i l. absurd (omega arith);
+    };
+    least = λ y h k l. let z : 0 ≡ k = omega arith in
+        subst (λ k. at (slice_set x 0 v) k ≤ℤ at y k) z (rw here (least (at y 0) (h.begins some) (h.head some)));
+    small = λ k l. let z : 0 ≡ k = omega arith in
+        subst (λ k. (pos 0 ≤ℤ at (slice_set x 0 v) k) × (at (slice_set x 0 v) k ≤ℤ pos (1048576 + 3145728 * k))) z (rw here (begins, small));
+  }
+    where
+      here : at (slice_set x 0 v) 0 ≡ v
+      here = get_or-set_same x 0 v (pos 0) room
+
+  -- column j is placed at v
+  pub placed_more : (x : List ℤ) (j : ℕ) (v : ℤ) → 0 < j → j < length x → IsPlacedTo n j reach gaps spring x
+      → ((i : ℕ) → i + 1 ≡ j → (at x i +ℤ pos 100) ≤ℤ v)
+      → ((i : ℕ) → i + 1 ≡ j → (at x i +ℤ pos (spring i)) ≤ℤ v)
+      → ((i : ℕ) → i < j → IsClear (reach i) (reach j) gaps (length gaps) (at x i) v)
+      → ((y : List ℤ) → StandApart n reach gaps spring y → v ≤ℤ at y j)
+      → (pos 0 ≤ℤ v) × (v ≤ℤ pos (1048576 + 3145728 * j))
+      → IsPlacedTo n (j + 1) reach gaps spring (slice_set x j v)
+  placed_more x j v pos_j room h step spr clear least small = record {
+    apart = record {
+      begins = λ _. rw (same 0 pos_j) (h.apart.begins pos_j);
+      head = λ _. rw (same 0 pos_j) (h.apart.head pos_j);
+      lanes = λ i k lt le. below_or_at (λ k. i < k → IsClear (reach i) (reach k) gaps (length gaps) (at x' i) (at x' k)) k j le
+          (λ l lt. rw (same i (omega arith), same k l) (h.apart.lanes i k lt l))
+          (λ lt. rw (same i lt, here) (clear i lt)) lt;
+      steps = λ i l. below_or_at (λ k. k ≡ i + 1 → (at x' i +ℤ pos 100) ≤ℤ at x' k) (i + 1) j l
+          (λ l e. rw (same i (omega arith), same (i + 1) l) (h.apart.steps i l))
+          (λ e. rw (same i (omega arith), here) (step i (sym e))) refl;
+      springs = λ i l. below_or_at (λ k. k ≡ i + 1 → (at x' i +ℤ pos (spring i)) ≤ℤ at x' k) (i + 1) j l
+          (λ l e. rw (same i (omega arith), same (i + 1) l) (h.apart.springs i l))
+          (λ e. rw (same i (omega arith), here) (spr i (sym e))) refl;
+    };
+    least = λ y a k l. below_or_at (λ k. at x' k ≤ℤ at y k) k j l
+        (λ l. rw (same k l) (h.least y a k l))
+        (rw here (least y a));
+    small = λ k l. below_or_at (λ k. (pos 0 ≤ℤ at x' k) × (at x' k ≤ℤ pos (1048576 + 3145728 * k))) k j l
+        (λ l. rw (same k l) (h.small k l))
+        (rw here small);
+  }
+    where
+      x' : List ℤ
+      x' = slice_set x j v
+
+      same : (k : ℕ) → k < j → at (slice_set x j v) k ≡ at x k
+      same k l = let ne : k ≢ j = omega arith in get_or-set_other x j k v (pos 0) ne
+
+      here : at (slice_set x j v) j ≡ v
+      here = get_or-set_same x j v (pos 0) room
+
+-- what is at a column that was read
+pub reach_is : {C : Type 0} (reach : C → ℕ → Option Reach) (cols : List C) (i : ℕ) (c : C) → slice_get cols i ≡ Some c
+    → (lane : ℕ) → reach_at reach cols i lane ≡ reach c lane
+reach_is reach cols i c e lane = rw e refl
+
+pub length_is : {C : Type 0} (len : C → ℕ → ℕ) (cols : List C) (force i : ℕ) (c : C) → slice_get cols i ≡ Some c
+    → length_at len cols force i ≡ len c force
+length_is len cols force i c e = rw e refl
+
+pub clear_read : {C : Type 0} (reach : C → ℕ → Option Reach) (cols : List C) (gaps : List ℕ) (lanes i j : ℕ) (c d : C) (x v : ℤ)
+    → slice_get cols i ≡ Some c → slice_get cols j ≡ Some d
+    → IsClear (reach c) (reach d) gaps lanes x v → IsClear (reach_at reach cols i) (reach_at reach cols j) gaps lanes x v
+clear_read reach cols gaps lanes i j c d x v ec ed h lane r s l er es =
+    h lane r s l (sym (reach_is reach cols i c ec lane) ∙ er) (sym (reach_is reach cols j d ed lane) ∙ es)
+
+pub clear_written : {C : Type 0} (reach : C → ℕ → Option Reach) (cols : List C) (gaps : List ℕ) (lanes i j : ℕ) (c d : C) (x v : ℤ)
+    → slice_get cols i ≡ Some c → slice_get cols j ≡ Some d
+    → IsClear (reach_at reach cols i) (reach_at reach cols j) gaps lanes x v → IsClear (reach c) (reach d) gaps lanes x v
+clear_written reach cols gaps lanes i j c d x v ec ed h lane r s l er es =
+    h lane r s l (reach_is reach cols i c ec lane ∙ er) (reach_is reach cols j d ed lane ∙ es)
+
+-- a column further right stays clear
+pub clear_past : (first second : ℕ → Option Reach) (gaps : List ℕ) (lanes : ℕ) (x v w : ℤ) → v ≤ℤ w
+    → IsClear first second gaps lanes x v → IsClear first second gaps lanes x w
+clear_past first second gaps lanes x v w le h lane r s l er es = let k = h lane r s l er es in omega (arith, ints)
+
+pub clear_before : (first second : ℕ → Option Reach) (gaps : List ℕ) (lanes : ℕ) (x y v : ℤ) → x ≤ℤ y
+    → IsClear first second gaps lanes y v → IsClear first second gaps lanes x v
+clear_before first second gaps lanes x y v le h lane r s l er es = let k = h lane r s l er es in omega (arith, ints)
+
+pub inside_read : {C : Type 0} (reach : C → ℕ → Option Reach) (cols : List C) (lanes i : ℕ) (c : C) (v : ℤ)
+    → slice_get cols i ≡ Some c → IsInside (reach c) lanes v → IsInside (reach_at reach cols i) lanes v
+inside_read reach cols lanes i c v ec h lane s l es = h lane s l (sym (reach_is reach cols i c ec lane) ∙ es)
+
+pub inside_written : {C : Type 0} (reach : C → ℕ → Option Reach) (cols : List C) (lanes i : ℕ) (c : C) (v : ℤ)
+    → slice_get cols i ≡ Some c → IsInside (reach_at reach cols i) lanes v → IsInside (reach c) lanes v
+inside_written reach cols lanes i c v ec h lane s l es = h lane s l (reach_is reach cols i c ec lane ∙ es)
+
+pub past_read : {C : Type 0} (reach : C → ℕ → Option Reach) (cols : List C) (gaps : List ℕ) (lanes i : ℕ) (c : C) (front : List ℤ) (v : ℤ)
+    → slice_get cols i ≡ Some c → IsPast (reach c) gaps lanes front v → IsPast (reach_at reach cols i) gaps lanes front v
+past_read reach cols gaps lanes i c front v ec h lane s l es p = h lane s l (sym (reach_is reach cols i c ec lane) ∙ es) p
+
+pub past_written : {C : Type 0} (reach : C → ℕ → Option Reach) (cols : List C) (gaps : List ℕ) (lanes i : ℕ) (c : C) (front : List ℤ) (v : ℤ)
+    → slice_get cols i ≡ Some c → IsPast (reach_at reach cols i) gaps lanes front v → IsPast (reach c) gaps lanes front v
+past_written reach cols gaps lanes i c front v ec h lane s l es p = h lane s l (reach_is reach cols i c ec lane ∙ es) p
+
+-- what holds of the reaches of each column holds of those of a list
+pub near_at : {C : Type 0} (reach : C → ℕ → Option Reach) (cols : List C) (P : Reach → Type 0) (lane : ℕ)
+    → ((c : C) → IfSome (reach c lane) P) → (k : ℕ) → IfSome (reach_at reach cols k lane) P
+near_at reach cols P lane h k = at_col (slice_get cols k)
+  where
+    at_col : (o : _) → IfSome (option_and_then (λ c. reach c lane) o) P
+    at_col None = tt
+    at_col (Some c) = h c

@@ -1,0 +1,16 @@
+-- Only one list is the place.
+use Rattle.std.proofs.Common.{◌≡◌, ℕ, ℤ, pos, List, Option, sym, ◌∙◌, arith}
+use Rattle.std.proofs.lemmas.List.{ext_get_or}
+use Rattle.std.proofs.lemmas.Int.{ints}
+use Rattle.lay_springs.specs.declared.traits.Reach.{Reach}
+use Rattle.lay_springs.specs.Place.{IsPlace}
+
+pub one_place : (n : ℕ) (reach : ℕ → ℕ → Option Reach) (gaps : List ℕ) (spring : ℕ → ℕ) (x y : List ℤ)
+    → IsPlace n reach gaps spring x → IsPlace n reach gaps spring y → x ≡ y
+one_place n reach gaps spring x y h k =
+    let c = h.count in
+    ext_get_or (pos 0) x y (h.count ∙ sym k.count)
+    (λ i l.
+    let a = h.least y k.apart i (omega arith) in
+    let b = k.least x h.apart i (omega arith) in
+    omega (arith, ints))

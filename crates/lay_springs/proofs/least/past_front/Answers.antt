@@ -1,0 +1,20 @@
+use Rattle.std.proofs.Common.{◌≡◌, Some, arith, sym, ◌∙◌}
+use Rattle.std.proofs.lemmas.Int.{ints}
+use Rattle.lay_springs.proofs.Fronts.{past_more}
+use Rattle.lay_springs.proofs.least.past_front.Goals as goal
+
+pub loop-lane-preserved : goal.loop-lane-preserved
+loop-lane-preserved g c =
+    let here : g.C.Spaced.reach_of c.args.col.now c.loop-lane.lane ≡ Some c.in-Some.s = sym c.reach.ensures ∙ c.in-Some.is in
+    let i = c.loop-lane.invariant in
+    let e = c.larger-next.ensures in
+    let high = c.requires.small c.loop-lane.lane (omega arith) in
+    record {
+      kept = omega (arith, ints);
+      clear = past_more _ _ _ _ _ _ _ here (omega (arith, ints)) (omega (arith, ints)) i.clear;
+      least = λ v b h.
+          let old = i.least v b (λ k u lt eu p. h k u (omega arith) eu p) in
+          let now = h c.loop-lane.lane _ (omega arith) here (omega (arith, ints)) in
+          let l = e.least v (omega (arith, ints)) (omega (arith, ints)) in
+          omega (arith, ints);
+    }

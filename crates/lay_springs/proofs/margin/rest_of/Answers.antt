@@ -1,0 +1,34 @@
+use Rattle.std.proofs.Common.{◌≡◌, ◌-◌, ℤ, pos, length, Some, slice_get, slice_index_or, arith, refl, to_z, of_z, w64}
+use Rattle.std.proofs.lemmas.Int.{ints}
+use Rattle.std.proofs.lemmas.Option.{slice_get_read}
+use Rattle.lay_springs.specs.Place.{reach_at}
+use Rattle.lay_springs.specs.Fit.{IsEndOf}
+use Rattle.lay_springs.proofs.Ends.{end_read}
+use Rattle.lay_springs.proofs.margin.rest_of.Goals as goal
+use Rattle.lay_springs.proofs.margin.rest_of.Goals.{After-end_of}
+
+ends : (g : _) (c : After-end_of g) → IsEndOf (reach_at g.C.Spaced.reach_of c.args.cols.now (length c.args.cols.now - 1)) (length c.args.gaps.now)
+    (slice_index_or c.args.at.now (length c.args.cols.now - 1) (pos 0)) c.end_of.result
+ends g c =
+    let at : ℤ = slice_index_or c.args.at.now (length c.args.cols.now - 1) (pos 0) in
+    let same : to_z w64 (of_z w64 at) ≡ at = omega (arith, ints) in
+    let col : slice_get c.args.cols.now (length c.args.cols.now - 1) ≡ Some c.index-cols-last.result =
+    slice_get_read c.args.cols.now (length c.args.cols.now) (length c.args.cols.now - 1) c.index-cols-last.result refl (let s = c.requires.some in omega arith) c.index-cols-last.is in
+    end_read g.C.Spaced.reach_of c.args.cols.now (length c.args.gaps.now) (length c.args.cols.now - 1) c.index-cols-last.result at c.end_of.result col
+    (rw same at c.end_of.ensures)
+
+pub overflow_cast-result : goal.overflow_cast-result
+overflow_cast-result g c =
+    let from = c.from.ensures in
+    let e = ends g (goal.at.overflow_cast-result g c).After-end_of in
+    let past = e.past in
+    let le = c.requires.fits c.end_of.result e in
+    omega (arith, ints)
+
+pub returns : goal.returns
+returns g c =
+    let from = c.from.ensures in
+    let e = ends g (goal.at.returns g c).After-end_of in
+    let past = e.past in
+    let le = c.requires.fits c.end_of.result e in
+    (c.end_of.result, e, omega (arith, ints))

@@ -1,0 +1,42 @@
+use Rattle.std.proofs.Common.{length, arith, refl}
+use Rattle.std.proofs.lemmas.Int.{ints}
+use Rattle.lay_springs.specs.Place.{reach_at, length_at}
+use Rattle.lay_springs.proofs.Ends.{end_down}
+use Rattle.lay_springs.proofs.Moved.{set_apart}
+use Rattle.lay_springs.proofs.margin.set.Goals as goal
+
+pub rest_of-rest-requires-clause-fits : goal.rest_of-rest-requires-clause-fits
+rest_of-rest-requires-clause-fits g c = λ e end.
+    let f = c.requires.fits in
+    let d = end_down (length c.args.cols.now) (reach_at g.C.Spaced.reach_of c.args.cols.now) c.args.gaps.now (length_at g.C.Spring.length_of c.args.cols.now) c.args.force c.args.force e f.0 c.requires.some
+    (λ i. omega arith) (record { x = c.settle.new.at; place = c.settle.ensures.place; end = end }) f.1 in
+    let w = f.2 in
+    omega (arith, ints)
+
+pub returns-then-cols-eq1-clause-set : goal.returns-then-cols-eq1-clause-set
+returns-then-cols-eq1-clause-set g c = record {
+  x = c.settle.new.at;
+  place = c.settle.ensures.place;
+  count = c.settle.ensures.place.count;
+  alone = λ _. refl;
+  moved = λ l. absurd (omega arith);
+}
+
+pub returns-clause-set : goal.returns-clause-set
+returns-clause-set g c =
+    let r = c.rest_of-rest.ensures in
+    record {
+      x = c.settle.new.at;
+      place = c.settle.ensures.place;
+      count = omega arith;
+      alone = λ l. absurd (omega arith);
+      moved = λ l. (r.0, c.rest_of-rest.result, r.1, r.2, λ k l. rw (c.settle.ensures.place.count) at (c.spread.ensures k (omega arith)));
+    }
+
+pub returns-then-cols-eq1-clause-apart : goal.returns-then-cols-eq1-clause-apart
+returns-then-cols-eq1-clause-apart g c =
+    set_apart (length c.args.cols.now) (reach_at g.C.Spaced.reach_of c.args.cols.now) c.args.gaps.now (length_at g.C.Spring.length_of c.args.cols.now) c.args.width c.args.force _ c.requires.some (returns-then-cols-eq1-clause-set g c)
+
+pub returns-clause-apart : goal.returns-clause-apart
+returns-clause-apart g c =
+    set_apart (length c.args.cols.now) (reach_at g.C.Spaced.reach_of c.args.cols.now) c.args.gaps.now (length_at g.C.Spring.length_of c.args.cols.now) c.args.width c.args.force _ c.requires.some (returns-clause-set g c)

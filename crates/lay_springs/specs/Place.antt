@@ -1,0 +1,64 @@
+-- Where columns stand: the least list of abscissas that keeps them apart.
+use Rattle.std.specs.Prelude.{◌≡◌, ℕ, ◌+◌, ◌*◌, ◌^◌, ◌⊎◌, MatchOption, ◌<◌, ℤ, pos, ◌+ℤ◌, ◌≤ℤ◌, List, length, Option, Some, option_map, option_and_then, unwrap_or, slice_get, slice_index, slice_index_or}
+use Rattle.lay_springs.specs.declared.traits.Reach.{Reach}
+
+-- the reach of column i in a lane
+abbrev pub reach_at : {C : Type 0} → (C → ℕ → Option Reach) → List C → ℕ → ℕ → Option Reach
+reach_at reach cols i lane = option_and_then (λ c. reach c lane) (slice_get cols i)
+
+-- the length of the spring at column i
+abbrev pub length_at : {C : Type 0} → (C → ℕ → ℕ) → List C → ℕ → ℕ → ℕ
+length_at len cols force i = unwrap_or (option_map (λ c. len c force) (slice_get cols i)) 0
+
+-- a column at v is clear of a column before it that stands at `at`: in each lane in which both stand, its gap is between them
+abbrev pub IsClear : (ℕ → Option Reach) → (ℕ → Option Reach) → List ℕ → ℕ → ℤ → ℤ → Type 0
+IsClear first second gaps lanes at v = (lane : ℕ) (r s : Reach) → lane < lanes → first lane ≡ Some r → second lane ≡ Some s
+    → (at +ℤ pos (r.right + slice_index gaps lane + s.left)) ≤ℤ v
+
+-- a column at v begins at 0 or past it, in each lane too
+abbrev pub IsInside : (ℕ → Option Reach) → ℕ → ℤ → Type 0
+IsInside reach lanes v = (lane : ℕ) (s : Reach) → lane < lanes → reach lane ≡ Some s → pos s.left ≤ℤ v
+
+-- the first n columns, at the first n abscissas of x, stand apart
+pub record StandApart (n : ℕ) (reach : ℕ → ℕ → Option Reach) (gaps : List ℕ) (spring : ℕ → ℕ) (x : List ℤ) : Type 0 where
+  pub begins : 0 < n → pos 0 ≤ℤ slice_index_or x 0 (pos 0)
+  pub head : 0 < n → IsInside (reach 0) (length gaps) (slice_index_or x 0 (pos 0))
+  pub lanes : (i j : ℕ) → i < j → j < n → IsClear (reach i) (reach j) gaps (length gaps) (slice_index_or x i (pos 0)) (slice_index_or x j (pos 0))
+  -- neighbors stand 100 apart
+  pub steps : (i : ℕ) → i + 1 < n → (slice_index_or x i (pos 0) +ℤ pos 100) ≤ℤ slice_index_or x (i + 1) (pos 0)
+  -- and as far apart as the spring between them is long
+  pub springs : (i : ℕ) → i + 1 < n → (slice_index_or x i (pos 0) +ℤ pos (spring i)) ≤ℤ slice_index_or x (i + 1) (pos 0)
+
+-- no list that keeps n columns apart is below the first j abscissas of x
+abbrev pub IsBelowAll : ℕ → ℕ → (ℕ → ℕ → Option Reach) → List ℕ → (ℕ → ℕ) → List ℤ → Type 0
+IsBelowAll n j reach gaps spring x = (y : List ℤ) → StandApart n reach gaps spring y
+    → (k : ℕ) → k < j → slice_index_or x k (pos 0) ≤ℤ slice_index_or y k (pos 0)
+
+-- x is the pointwise least of the lists that keep the columns apart
+pub record IsPlace (n : ℕ) (reach : ℕ → ℕ → Option Reach) (gaps : List ℕ) (spring : ℕ → ℕ) (x : List ℤ) : Type 0 where
+  pub count : length x ≡ n
+  pub apart : StandApart n reach gaps spring x
+  pub least : IsBelowAll n n reach gaps spring x
+
+-- the first j of n columns are placed
+pub record IsPlacedTo (n j : ℕ) (reach : ℕ → ℕ → Option Reach) (gaps : List ℕ) (spring : ℕ → ℕ) (x : List ℤ) : Type 0 where
+  pub apart : StandApart j reach gaps spring x
+  pub least : IsBelowAll n j reach gaps spring x
+  pub small : (k : ℕ) → k < j → (pos 0 ≤ℤ slice_index_or x k (pos 0)) × (slice_index_or x k (pos 0) ≤ℤ pos (1048576 + 3145728 * k))
+
+-- front has for each lane the greatest abscissa plus right reach of the first j columns in it, or a number below 0 where none stands in it
+pub record IsFront (j : ℕ) (reach : ℕ → ℕ → Option Reach) (lanes : ℕ) (x front : List ℤ) : Type 0 where
+  pub covers : (lane k : ℕ) (r : Reach) → lane < lanes → k < j → reach k lane ≡ Some r
+      → (slice_index_or x k (pos 0) +ℤ pos r.right) ≤ℤ slice_index_or front lane (pos 0)
+  pub stands : (lane : ℕ) → lane < lanes → pos 0 ≤ℤ slice_index_or front lane (pos 0)
+      → (k : ℕ) × (r : Reach) × (k < j) × (reach k lane ≡ Some r) × (slice_index_or front lane (pos 0) ≡ (slice_index_or x k (pos 0) +ℤ pos r.right))
+  pub small : (lane : ℕ) → lane < lanes → slice_index_or front lane (pos 0) ≤ℤ pos (2 ^ 61)
+
+-- a column at v is clear of what stands before it in each lane
+abbrev pub IsPast : (ℕ → Option Reach) → List ℕ → ℕ → List ℤ → ℤ → Type 0
+IsPast reach gaps lanes front v = (lane : ℕ) (s : Reach) → lane < lanes → reach lane ≡ Some s → pos 0 ≤ℤ slice_index_or front lane (pos 0)
+    → (slice_index_or front lane (pos 0) +ℤ pos (slice_index gaps lane + s.left)) ≤ℤ v
+
+-- what a column at `at` does to the front of a lane
+abbrev pub Advances : Option Reach → ℤ → ℤ → ℤ → Type 0
+Advances o at old new = MatchOption o (new ≡ old) (λ r. (old ≤ℤ new) × ((at +ℤ pos r.right) ≤ℤ new) × ((new ≡ old) ⊎ (new ≡ (at +ℤ pos r.right))))

@@ -1,0 +1,19 @@
+//! Columns held apart by rods and pressed apart by springs.
+//!
+//! The pointwise least list of abscissas at a force, the greatest force at which
+//! columns end within a width, and the abscissas set to the width, for every type
+//! that tells its reaches and the length of its spring.
+#![tactic(auto)]
+
+pub mod forces;
+pub mod least;
+pub mod margin;
+pub mod traits;
+
+pub use forces::{fit, longer_fits_less};
+pub use least::place;
+pub use margin::{Placed, justify};
+pub use traits::{Reach, Spaced, Spring};
+
+#[cfg(test)]
+mod tests;

@@ -1,0 +1,129 @@
+ghost use Rattle.std.specs.Prelude.{◌≡◌, ◌+◌, ◌*◌, ◌^◌, ◌<◌, ◌≤◌, ◌-◌, ◌/◌, ℕ, ℤ, pos, ◌+ℤ◌, ◌≤ℤ◌, true, false, IfOk, length, slice_index, slice_index_or};
+ghost use Rattle.lay_springs.specs.Fit.{IsEndOf, Fits, IsSet, is_ragged, counted};
+ghost use Rattle.lay_springs.specs.Place.{reach_at, length_at, IsPlace, StandApart};
+
+use crate::forces::end_of;
+use crate::least::{place, settle};
+use crate::traits::{Spaced, Spring};
+use mus_units::{Memory, Row};
+use std::alloc::Global;
+
+/// Where columns stand, in u, and the force that counts. A ragged system ends where
+/// its force leaves it.
+#[derive(Debug, Drop)]
+pub struct Placed {
+    pub force: u16,
+    pub ragged: bool,
+    pub at: Row<i64>,
+}
+
+/// Moves each abscissa right by its part of `rest`.
+fn spread(at: &mut [i64], rest: u32)
+    requires some { 1 < length at.old }
+    requires few { length at.old ≤ 200000 }
+    requires small { (k : ℕ) → k < length at.old
+        → (pos 0 ≤ℤ slice_index_or at.old k (pos 0)) × (slice_index_or at.old k (pos 0) ≤ℤ pos (2 ^ 60)) }
+    ensures { (k : ℕ) → k < length at.old
+        → slice_index_or at.new k (pos 0) ≡ (slice_index_or at.old k (pos 0) +ℤ pos (rest * k / (length at.old - 1))) }
+{
+    let last = at.len() - 1;
+    for k in 0..at.len() {
+        at[k] += share(rest, k, last);
+    }
+}
+
+/// The part of `rest` that falls to place k of `last`.
+fn share(rest: u32, k: usize, last: usize) -> i64
+    requires some { 0 < last }
+    requires within { k ≤ last }
+    requires few { last ≤ 200000 }
+    ensures value { result ≡ pos (rest * k / last) }
+    ensures bound { result ≤ℤ pos rest }
+{
+    (u64::from(rest) * k as u64 / last as u64) as i64
+}
+
+/// What the width leaves past the end.
+fn rest_of<C: Spaced>(cols: &[C], gaps: &[u32], width: u32, at: &[i64]) -> u32
+    requires some { 0 < length cols.now }
+    requires lanes { length gaps.now < 2 ^ 32 }
+    requires room { length at.now ≡ length cols.now }
+    requires begins { pos 0 ≤ℤ slice_index_or at.now (length cols.now - 1) (pos 0) }
+    requires small { slice_index_or at.now (length cols.now - 1) (pos 0) ≤ℤ pos (2 ^ 60) }
+    requires fits { (e : ℤ) → IsEndOf (reach_at C.reach_of cols.now (length cols.now - 1)) (length gaps.now)
+        (slice_index_or at.now (length cols.now - 1) (pos 0)) e → e ≤ℤ pos width }
+    ensures { (e : ℤ) × IsEndOf (reach_at C.reach_of cols.now (length cols.now - 1)) (length gaps.now)
+        (slice_index_or at.now (length cols.now - 1) (pos 0)) e × ((e +ℤ pos result) ≡ pos width) }
+{
+    let last = cols.len() - 1;
+    (i64::from(width) - end_of(&cols[last], gaps.len(), at[last])) as u32
+}
+
+/// Places the columns and sets them to the width.
+fn set<C: Spaced + Spring>(
+    cols: &[C],
+    gaps: &[u32],
+    width: u32,
+    force: u16,
+    at: &mut [i64],
+    front: &mut [i64],
+)
+    requires some { 0 < length cols.now }
+    requires few { length cols.now ≤ 200000 }
+    requires lanes { length gaps.now < 2 ^ 32 }
+    requires narrow { (lane : ℕ) → lane < length gaps.now → slice_index gaps.now lane ≤ 2 ^ 20 }
+    requires room { length at.old ≡ length cols.now }
+    requires one_each { length front.old ≡ length gaps.now }
+    requires fits { Fits (length cols.now) (reach_at C.reach_of cols.now) gaps.now (length_at C.length_of cols.now) width force }
+    ensures set { IsSet (length cols.now) (reach_at C.reach_of cols.now) gaps.now (length_at C.length_of cols.now) width force at.new }
+    ensures apart { StandApart (length cols.now) (reach_at C.reach_of cols.now) gaps.now (length_at C.length_of cols.now force) at.new }
+{
+    settle(cols, gaps, force, at, front);
+    if cols.len() == 1 {
+        return;
+    }
+    let rest = rest_of(cols, gaps, width, at);
+    spread(at, rest);
+}
+
+/// The columns at the force that `fit` gave, set to the width: column k of n moves
+/// right by `rest * k / (n - 1)`, where `rest` is what the width leaves past the end. A
+/// last system at a force of 256 or more is ragged, and stands as placed at 256.
+pub fn justify<C: Spaced + Spring>(
+    alloc: Global,
+    cols: &[C],
+    gaps: &[u32],
+    width: u32,
+    force: u16,
+    last: bool,
+) -> Result<Placed, Memory>
+    requires some { 0 < length cols.now }
+    requires few { length cols.now ≤ 200000 }
+    requires lanes { length gaps.now < 2 ^ 32 }
+    requires narrow { (lane : ℕ) → lane < length gaps.now → slice_index gaps.now lane ≤ 2 ^ 20 }
+    requires fits { Fits (length cols.now) (reach_at C.reach_of cols.now) gaps.now (length_at C.length_of cols.now) width force }
+    ensures ragged { IfOk result (λ p. p.ragged ≡ is_ragged last force) }
+    ensures force { IfOk result (λ p. p.force ≡ counted last force) }
+    ensures loose { IfOk result (λ p. p.ragged ≡ true
+        → IsPlace (length cols.now) (reach_at C.reach_of cols.now) gaps.now (length_at C.length_of cols.now p.force) p.at) }
+    ensures set { IfOk result (λ p. p.ragged ≡ false
+        → IsSet (length cols.now) (reach_at C.reach_of cols.now) gaps.now (length_at C.length_of cols.now) width p.force p.at) }
+    ensures apart { IfOk result (λ p. StandApart (length cols.now) (reach_at C.reach_of cols.now) gaps.now (length_at C.length_of cols.now p.force) p.at) }
+{
+    if last && force >= 256 {
+        let at = place(alloc, cols, gaps, 256)?;
+        return Ok(Placed {
+            force: 256,
+            ragged: true,
+            at,
+        });
+    }
+    let mut at = vec![in alloc; 0; cols.len()]?;
+    let mut front = vec![in alloc; 0; gaps.len()]?;
+    set(cols, gaps, width, force, &mut at, &mut front);
+    Ok(Placed {
+        force,
+        ragged: false,
+        at: Row { items: at },
+    })
+}

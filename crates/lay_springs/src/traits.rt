@@ -1,0 +1,44 @@
+ghost use Rattle.std.specs.Prelude.{◌≡◌, ◌^◌, ◌<◌, ◌≤◌, ℕ, Option, IfSome};
+
+/// How far a column reaches to the left and to the right of its abscissa in a
+/// lane, in u.
+#[derive(Clone, Copy, Debug, PartialEq, Eq)]
+pub struct Reach {
+    pub left: u32,
+    pub right: u32,
+}
+
+/// A column that is kept apart from others by rods, lane by lane.
+pub trait Spaced {
+    ghost use Rattle.lay_springs.specs.declared.traits.Reach.{Reach};
+
+    // the reach in a lane, where the column stands in it
+    ghost reach_of: { Self → ℕ → Option Reach };
+
+    /// The reach in a lane; None exactly where the column doesn't stand in it. Takes no
+    /// memory.
+    fn reach(&self, lane: u32) -> Option<Reach>
+        ensures { result ≡ reach_of self.now lane };
+
+    // no reach passes 2^20
+    ghost is_near: { (c : Self) (lane : ℕ) → lane < 2 ^ 32 → IfSome (reach_of c lane) (λ r. (r.left ≤ 2 ^ 20) × (r.right ≤ 2 ^ 20)) };
+}
+
+/// A column from which a spring leads to the next.
+pub trait Spring {
+    // the length at a force
+    ghost length_of: { Self → ℕ → ℕ };
+
+    /// The length of the spring at a force, in u. Takes no memory.
+    fn length(&self, force: u16) -> u32
+        ensures { result ≡ length_of self.now force };
+
+    // it doesn't fall as the force rises
+    ghost rises: { (c : Self) (f g : ℕ) → f ≤ g → g < 2 ^ 16 → length_of c f ≤ length_of c g };
+
+    // it is at most 2^20
+    ghost is_short: { (c : Self) (f : ℕ) → f < 2 ^ 16 → length_of c f ≤ 2 ^ 20 };
+
+    // at force 0 it is 0
+    ghost at_rest: { (c : Self) → length_of c 0 ≡ 0 };
+}
