@@ -1,2 +1,5 @@
+pub mod Numbers
 pub mod Ranges
+pub mod Shown
 pub mod Signs
+pub mod Taken

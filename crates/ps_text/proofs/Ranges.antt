@@ -1,5 +1,5 @@
 -- Tests of ranges, put together.
-use Rattle.std.proofs.Common.{◌≡◌, ℤ, pos, ◌+ℤ◌, Bool, true, IsTrue, ◌↔◌, refl}
+use Rattle.std.proofs.Common.{ℤ, ◌+ℤ◌, Bool, IsTrue, ◌↔◌}
 use Rattle.ps_text.specs.Range.{IsNumber, IsOffset, IsPlaced, IsStem, IsEnd, IsStretch, IsSpan}
 
 -- two tests for the two parts of a fact, where the first came out true

@@ -4,3 +4,5 @@ pub mod Range
 pub mod Line
 pub mod Prolog
 pub mod Document
+pub mod Scanning
+pub mod Ranks

@@ -1,6 +1,6 @@
 -- What may stand on a page: the range of each number, and for each type the
 -- values that have a text.
-use Rattle.std.specs.Prelude.{◌≡◌, ℕ, ℤ, pos, negsuc, ◌+◌, ◌^◌, ◌<◌, ◌≤◌, ◌+ℤ◌, ◌<ℤ◌, ◌≤ℤ◌, Bool, ◌&&◌, ◌||◌, nat_le, IsTrue, List, [], ◌∷◌, length, All, ⊤}
+use Rattle.std.specs.Prelude.{ℕ, ℤ, pos, negsuc, ◌^◌, ◌<◌, ◌≤◌, ◌+ℤ◌, ◌<ℤ◌, ◌≤ℤ◌, Bool, ◌&&◌, ◌||◌, nat_le, IsTrue, List, [], ◌∷◌, length, All, ⊤}
 use Rattle.std.specs.List.{list_all}
 use Rattle.ps_text.specs.declared.marks.PageMark.{PageMark}
 use Rattle.ps_text.specs.declared.marks.PageMark.TheVariants as marks

@@ -11,7 +11,9 @@ pub mod marks;
 pub mod names;
 pub mod prolog;
 pub mod range;
+pub mod scanning;
 pub mod sheet;
+pub mod words;
 pub mod writing;
 
 pub use document::{put_page, put_trailer};

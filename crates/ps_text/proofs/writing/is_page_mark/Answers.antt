@@ -1,6 +1,6 @@
-use Rattle.std.proofs.Common.{◌≡◌, ℤ, arith}
+use Rattle.std.proofs.Common.{◌≡◌, arith}
 use Rattle.std.proofs.lemmas.Int.{ints, to_z-of_z}
-use mir.Syntax.{w64, w32}
+use mir.Syntax.{w64}
 use Rattle.ps_text.proofs.writing.is_page_mark.Goals as goal
 
 pub returns-in-Glyph : goal.returns-in-Glyph

@@ -1,0 +1,61 @@
+ghost use Rattle.std.specs.Prelude.{◌≡◌, ℕ, ℤ, ◌<◌, ◌≤◌, ◌++◌, List, Some, None, IfOk, IfSome, IsNone, IsSomeAnd, length, true};
+ghost use Rattle.std.specs.Fmt.{signed_decimal};
+ghost use Rattle.std.specs.List.{AllByRecursion, prefix_len, list_all};
+ghost use Rattle.glyph_paths.specs.Procedure.{numbers};
+ghost use Rattle.ps_text.specs.Range.{IsNumber};
+ghost use Rattle.ps_text.specs.Scanning.{is_field, ReadsNumber};
+
+use mus_units::{Memory, Row};
+use std::alloc::Global;
+
+/// How many bytes stand before the first space.
+fn field_len(bytes: &[u8]) -> usize
+    ensures value { result ≡ prefix_len is_field bytes.now }
+    ensures bound { result ≤ length bytes.now }
+{
+    bytes.iter().take_while(|b| **b != b' ').count()
+}
+
+/// The number that these bytes are; they may spell it in another way than a
+/// page does.
+fn parsed(bytes: &[u8]) -> Option<i64>
+    ensures { (z : ℤ) → IsNumber z → bytes.now ≡ signed_decimal z → result ≡ Some z }
+{
+    let Ok(text) = std::str::from_utf8(bytes) else {
+        return None;
+    };
+    match text.parse::<i64>() {
+        Ok(z) => Some(z),
+        Err(_) => None,
+    }
+}
+
+/// The number before the first space, and what follows that.
+pub fn take_number(bytes: &[u8]) -> Option<(i64, &[u8])>
+    ensures shorter { IfSome result (λ r. length r.1.now < length bytes.now) }
+    ensures reads { (z : ℤ) (rest : List ℕ) → ReadsNumber z rest bytes.now → IsSomeAnd result (λ r. (r.0 ≡ z) × (r.1.now ≡ rest)) }
+    ensures last { list_all is_field bytes.now ≡ true → IsNone result }
+{
+    let (front, rest) = bytes.split_at(field_len(bytes));
+    match rest {
+        [] => None,
+        [_, after @ ..] => {
+            let z = parsed(front)?;
+            Some((z, after))
+        }
+    }
+}
+
+/// The numbers at the front of these bytes, each with a space after it, and
+/// what follows them.
+pub fn take_numbers(alloc: Global, bytes: &[u8]) -> Result<(Row<i64>, &[u8]), Memory>
+    ensures { IfOk result (λ r. (zs : List ℤ) (name : List ℕ) → AllByRecursion IsNumber zs → list_all is_field name ≡ true → bytes.now ≡ numbers zs ++ name → (r.0 ≡ zs) × (r.1.now ≡ name)) }
+{
+    let mut zs = Row::new(alloc);
+    let mut rest = bytes;
+    while let Some((z, after)) = take_number(rest) {
+        zs.push(z)?;
+        rest = after;
+    }
+    Ok((zs, rest))
+}
