@@ -1,16 +1,13 @@
 -- What is read as a meter or a unit length has good numbers.
-use Rattle.std.proofs.Common.{◌≡◌, refl, ap, sym, ◌∙◌, ℕ, zero, suc, ◌+◌, ◌*◌, ◌-◌, ◌≤◌, List, [], ◌∷◌, Bool, true, false, length, arith, subst}
-use Rattle.std.specs.Prelude.{⊤, Option, Some, None, IsTrue, IfSome, nat_le, not, ◌&&◌, codes, ◌==◌, if◌then◌else◌}
-use Rattle.std.specs.List.{slice_split, list_all}
+use Rattle.std.proofs.Common.{◌≡◌, refl, sym, ℕ, ◌+◌, ◌*◌, ◌-◌, ◌≤◌, List, [], ◌∷◌, Bool, true, false, arith, subst}
+use Rattle.std.specs.Prelude.{Option, Some, None, IsTrue, IfSome, nat_le, not, codes, ◌==◌, if◌then◌else◌}
 use Rattle.std.specs.Option.{option_and_then}
 use Rattle.std.specs.Str.{bytes_eq}
 use Rattle.std.proofs.lemmas.Bool.{and_parts, leb-true}
 use Rattle.std.proofs.lemmas.Bool.Decides.{nat_tests}
-use Rattle.mus_units.specs.declared.key.Meter.{Meter}
 use Rattle.mus_units.specs.declared.key.Meter.TheVariants as meters
-use Rattle.mus_units.specs.declared.value.Frac.{Frac}
 use Rattle.abc_fields.specs.Good.{IsGoodMeter, IsGoodUnit}
-use Rattle.abc_fields.specs.Numbers.{is_digit, is_number, begins_zero, value_after, value_of, number_of, before, from_first, behind_one}
+use Rattle.abc_fields.specs.Numbers.{is_digit, is_number, value_after, value_of, number_of, before, from_first, behind_one}
 use Rattle.abc_fields.specs.Words.{trimmed, behind}
 use Rattle.abc_fields.specs.Meters.{is_halving, halving_of, plus, added, terms_after, sum_of, ratio, below_of, below_behind, plain_ratio, wrapped_ratio, ratio_by, ratio_of, meter_at, meter_of, one_over, unit_at, unit_of}
 use Rattle.abc_fields.proofs.MeterLaws.{split_cut}

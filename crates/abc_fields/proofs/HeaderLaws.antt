@@ -1,12 +1,11 @@
 -- What good fields give is good, and the ids that fields mention are distinct.
 use Rattle.std.proofs.Common.{◌≡◌, refl, ap, sym, ◌∙◌, ℕ, suc, ◌+◌, ◌≤◌, List, [], ◌∷◌, ◌++◌, Bool, true, false, map, length, arith, subst, cond, Bor, ◌<◌, get_or, drop, drop-cons, append_assoc}
-use Rattle.std.specs.Prelude.{⊤, Option, Some, None, IfSome, if◌then◌else◌, count_by, fold, ◌||◌, Result, Ok}
+use Rattle.std.specs.Prelude.{Option, Some, None, IfSome, if◌then◌else◌, count_by, fold, Ok}
 use Rattle.std.specs.List.{list_any}
 use Rattle.std.specs.Option.{option_or, option_copied}
 use Rattle.std.specs.Str.{bytes_eq}
 use Rattle.std.proofs.lemmas.List.Sums.{sum_by-cons}
 use Rattle.std.proofs.lemmas.Slice.Eq.{bytes_eq-Decides}
-use Rattle.mus_units.specs.declared.key.Meter.{Meter}
 use Rattle.mus_units.specs.declared.value.Frac.{Frac}
 use Rattle.abc_lines.specs.declared.book.Line.{Line}
 use Rattle.abc_fields.specs.declared.field.Field.{Field}
@@ -18,7 +17,7 @@ use Rattle.abc_fields.specs.Good.{IsGoodMeter, IsGoodUnit, GoodUnitIn}
 use Rattle.abc_fields.specs.Keys.{IsGoodKeyText}
 use Rattle.abc_fields.specs.Last.{last_of}
 use Rattle.abc_fields.specs.Headers.{AllGood, AreDistinct, key_in, meter_in, unit_in, fields_of, put_field, first_fault, fault_at, ids_with}
-use Rattle.abc_fields.specs.Voicing.{with_id, ids_after, ids_of, voice_from, voices_of}
+use Rattle.abc_fields.specs.Voicing.{ids_after, ids_of, voice_from, voices_of}
 
 or-some : {X : Type 0} (P : X → Type 0) (a b : Option X) → IfSome a P → IfSome b P → IfSome (option_or a b) P
 or-some P None b ha hb = hb

@@ -1,9 +1,9 @@
 -- Terms of a sum: the first of them, and those behind it.
-use Rattle.std.proofs.Common.{◌≡◌, refl, ap, sym, ◌∙◌, ℕ, suc, ◌+◌, List, [], ◌∷◌, Bool, true, false, not, take, drop, arith}
+use Rattle.std.proofs.Common.{◌≡◌, refl, ℕ, suc, ◌+◌, List, [], ◌∷◌, Bool, true, false, take, drop, arith}
 use Rattle.std.specs.Prelude.{◌==◌}
-use Rattle.std.specs.List.{slice_split, onto_first, prefix_len}
+use Rattle.std.specs.List.{slice_split}
 use Rattle.abc_fields.specs.Numbers.{place_of, before, from_first}
-use Rattle.abc_fields.specs.Meters.{terms_after, sum_of, added}
+use Rattle.abc_fields.specs.Meters.{terms_after}
 
 abbrev is_plus : ℕ → Bool
 is_plus b = b == 43

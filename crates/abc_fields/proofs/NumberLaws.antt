@@ -1,9 +1,9 @@
 -- Values of digits: below a limit they are kept by a sum that stops at it.
-use Rattle.std.proofs.Common.{◌≡◌, refl, ℕ, zero, suc, ◌+◌, ◌*◌, ◌-◌, ◌≤◌, ◌<◌, List, [], ◌∷◌, Bool, true, false, length, arith}
-use Rattle.std.specs.Prelude.{min, ◌&&◌, nat_le, not}
+use Rattle.std.proofs.Common.{◌≡◌, ℕ, ◌+◌, ◌*◌, ◌-◌, ◌≤◌, ◌<◌, List, [], ◌∷◌, true, length, arith}
+use Rattle.std.specs.Prelude.{min}
 use Rattle.std.specs.List.{list_all}
 use Rattle.std.proofs.lemmas.Bool.{and_parts, leb-true}
-use Rattle.abc_fields.specs.Numbers.{is_digit, begins_zero, is_number, value_after, value_of}
+use Rattle.abc_fields.specs.Numbers.{is_digit, is_number, value_after, value_of}
 
 -- values that are one below the limit stay so
 pub value_after-min : (ds : List ℕ) (x y : ℕ) → min x 10000000 ≡ min y 10000000 → min (value_after x ds) 10000000 ≡ min (value_after y ds) 10000000

@@ -1,5 +1,5 @@
 -- What the file header sets for every tune: the last good value of each kind counts.
-use Rattle.std.specs.Prelude.{◌≡◌, ℕ, List, [], ◌∷◌, Bool, true, false, ◌==◌, if◌then◌else◌, codes, Option, Some, None, unwrap_or}
+use Rattle.std.specs.Prelude.{ℕ, List, true, false, ◌==◌, if◌then◌else◌, codes, Option, Some, None, unwrap_or}
 use Rattle.std.specs.Option.{option_and_then}
 use Rattle.std.specs.Str.{bytes_eq}
 use Rattle.mus_units.specs.declared.key.Meter.{Meter}

@@ -1,5 +1,5 @@
 -- Directives: their name, and what those that bear on breaks and on signs say.
-use Rattle.std.specs.Prelude.{◌≡◌, ℕ, List, [], ◌∷◌, Bool, true, false, ◌||◌, not, if◌then◌else◌, take, drop, codes, Option, Some, None}
+use Rattle.std.specs.Prelude.{ℕ, List, Bool, ◌||◌, not, if◌then◌else◌, take, drop, codes, Option, Some, None}
 use Rattle.std.specs.List.{prefix_len, list_any}
 use Rattle.std.specs.Str.{bytes_eq}
 use Rattle.mus_units.specs.declared.key.Spread.{Spread}

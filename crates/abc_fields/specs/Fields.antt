@@ -1,6 +1,6 @@
 -- What a line says: its field, or its fault. The function that the code follows; what is meant is
 -- in FieldSpelling.
-use Rattle.std.specs.Prelude.{◌≡◌, ℕ, List, [], ◌∷◌, Bool, ◌==◌, if◌then◌else◌, codes, Option, Some, None, Result, Ok, Err, ⊤, ◌≤◌, length}
+use Rattle.std.specs.Prelude.{◌≡◌, ℕ, List, ◌==◌, if◌then◌else◌, codes, Option, Some, None, Result, Ok, Err, ⊤}
 use Rattle.std.specs.Str.{bytes_eq}
 use Rattle.mus_units.specs.declared.key.Meter.{Meter}
 use Rattle.mus_units.specs.declared.key.Spread.{Spread}
@@ -8,7 +8,6 @@ use Rattle.mus_units.specs.declared.value.Frac.{Frac}
 use Rattle.abc_lines.specs.declared.book.Line.{Line}
 use Rattle.abc_lines.specs.declared.fault.FaultKind.{FaultKind}
 use Rattle.abc_lines.specs.declared.fault.FaultKind.TheVariants as faults
-use Rattle.abc_lines.specs.declared.fault.Fault.{Fault}
 use Rattle.abc_lines.specs.declared.fault.TuneError.{TuneError}
 use Rattle.abc_lines.specs.declared.fault.TuneError.TheVariants as errors
 use Rattle.abc_lines.specs.declared.kind.LineKind.{LineKind}

@@ -1,5 +1,5 @@
 -- Good meters and unit lengths: the numbers that they may have.
-use Rattle.std.specs.Prelude.{◌≡◌, ℕ, ◌≤◌, ⊤, IsTrue, Option, Some, None}
+use Rattle.std.specs.Prelude.{◌≡◌, ◌≤◌, ⊤, IsTrue, Option, Some, None}
 use Rattle.mus_units.specs.declared.key.Meter.{Meter}
 use Rattle.mus_units.specs.declared.key.Meter.TheVariants as meters
 use Rattle.mus_units.specs.declared.value.Frac.{Frac}

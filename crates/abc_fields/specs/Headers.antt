@@ -1,11 +1,10 @@
 -- The header of a tune: what counts of its lines up to the first `K:`, and its first fault.
-use Rattle.std.specs.Prelude.{◌≡◌, ℕ, suc, ◌+◌, ◌≤◌, ◌<◌, List, [], ◌∷◌, Bool, true, false, nat_lt, if◌then◌else◌, length, take, map, position, Option, Some, None, Result, Ok, Err, is_some, unwrap_or, ⊤, count_by}
+use Rattle.std.specs.Prelude.{◌≡◌, ℕ, ◌+◌, ◌≤◌, List, [], ◌∷◌, Bool, nat_lt, if◌then◌else◌, length, take, position, Option, Some, None, Result, Ok, Err, is_some, unwrap_or, ⊤, count_by}
 use Rattle.std.specs.List.{filter_map}
-use Rattle.std.specs.Option.{option_or, option_map}
+use Rattle.std.specs.Option.{option_or}
 use Rattle.std.specs.Str.{bytes_eq}
 use Rattle.mus_units.specs.declared.pitch.Clef.{Clef}
 use Rattle.mus_units.specs.declared.pitch.Clef.TheVariants as clefs
-use Rattle.mus_units.specs.declared.key.Key.{Key}
 use Rattle.mus_units.specs.declared.key.Meter.{Meter}
 use Rattle.mus_units.specs.declared.key.Sign.{Sign}
 use Rattle.mus_units.specs.declared.key.Spread.{Spread}
@@ -31,7 +30,7 @@ use Rattle.abc_fields.specs.Good.{IsGoodMeter, IsGoodUnit}
 use Rattle.abc_fields.specs.Keys.{key_over}
 use Rattle.abc_fields.specs.Last.{last_of}
 use Rattle.abc_fields.specs.Meters.{default_unit}
-use Rattle.abc_fields.specs.Voicing.{ids_after, ids_of, voices_of}
+use Rattle.abc_fields.specs.Voicing.{ids_after, voices_of}
 
 -- the place of the first `K:`
 abbrev pub is_key_line : Line → Bool

@@ -1,6 +1,6 @@
 -- What a key's text says: which signs, and which clef.
-use Rattle.std.specs.Prelude.{◌≡◌, ℕ, ℤ, pos, List, [], ◌∷◌, Bool, true, false, ◌==◌, ◌&&◌, ◌||◌, ⊤, not, nat_eq, nat_le, if◌then◌else◌, length, take, drop, codes, Option, Some, None, ◌-◌}
-use Rattle.std.specs.List.{list_any, filter_map, starts_with, ends_with, after_last}
+use Rattle.std.specs.Prelude.{ℕ, ℤ, pos, List, [], ◌∷◌, Bool, true, false, ◌==◌, ◌||◌, ⊤, nat_eq, if◌then◌else◌, length, take, codes, Option, Some, None, ◌-◌}
+use Rattle.std.specs.List.{list_any, filter_map, ends_with, after_last}
 use Rattle.std.specs.Option.{option_map, option_and_then, option_or}
 use Rattle.std.specs.Str.{bytes_eq}
 use Rattle.mus_units.specs.declared.pitch.Letter.{Letter}

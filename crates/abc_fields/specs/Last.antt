@@ -1,5 +1,5 @@
 -- The last of a list that names something.
-use Rattle.std.specs.Prelude.{List, [], ◌∷◌, Option, Some, None}
+use Rattle.std.specs.Prelude.{List, [], ◌∷◌, Option, None}
 use Rattle.std.specs.Option.{option_or}
 
 -- a later one counts before an earlier one

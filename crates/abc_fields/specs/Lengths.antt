@@ -1,7 +1,7 @@
 -- Lengths of paper and its scale: numbers with up to two decimals, and a unit.
-use Rattle.std.specs.Prelude.{◌≡◌, ℕ, ◌+◌, ◌-◌, ◌*◌, ◌/◌, ◌≤◌, ◌<◌, List, [], ◌∷◌, ◌++◌, Bool, true, false, ◌==◌, ◌&&◌, not, nat_le, nat_lt, if◌then◌else◌, length, take, drop, codes, Option, Some, None, IsTrue}
-use Rattle.std.specs.List.{prefix_len, list_all}
-use Rattle.std.specs.Option.{option_map, option_and_then}
+use Rattle.std.specs.Prelude.{ℕ, ◌+◌, ◌-◌, ◌*◌, ◌/◌, List, [], ◌∷◌, Bool, ◌&&◌, nat_le, if◌then◌else◌, take, drop, codes, Option, Some, None}
+use Rattle.std.specs.List.{prefix_len}
+use Rattle.std.specs.Option.{option_and_then}
 use Rattle.std.specs.Str.{bytes_eq}
 use Rattle.abc_fields.specs.Numbers.{is_digit, value_of}
 use Rattle.abc_fields.specs.Words.{behind}

@@ -1,12 +1,12 @@
 -- Meters and unit lengths: how they are written and what they mean.
-use Rattle.std.specs.Prelude.{◌≡◌, ℕ, ◌+◌, ◌*◌, ◌≤◌, List, [], ◌∷◌, ◌++◌, Bool, true, false, ◌==◌, ◌&&◌, ◌||◌, not, nat_le, nat_lt, length, map, sum, take, drop, codes, Option, Some, None, IsTrue, if◌then◌else◌, ◌⊎◌}
-use Rattle.std.specs.List.{list_all, slice_split, join_with_byte}
+use Rattle.std.specs.Prelude.{ℕ, ◌+◌, ◌*◌, List, [], ◌∷◌, Bool, ◌==◌, ◌||◌, nat_le, nat_lt, codes, Option, Some, None, if◌then◌else◌}
+use Rattle.std.specs.List.{slice_split}
 use Rattle.std.specs.Option.{option_and_then}
 use Rattle.std.specs.Str.{bytes_eq}
 use Rattle.mus_units.specs.declared.key.Meter.{Meter}
 use Rattle.mus_units.specs.declared.key.Meter.TheVariants as meters
 use Rattle.mus_units.specs.declared.value.Frac.{Frac}
-use Rattle.abc_fields.specs.Numbers.{is_number, number_of, value_of, before, from_first, behind_one}
+use Rattle.abc_fields.specs.Numbers.{number_of, before, from_first, behind_one}
 use Rattle.abc_fields.specs.Words.{trimmed, behind}
 
 -- the halvings that a meter and a unit may name

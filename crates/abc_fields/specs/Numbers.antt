@@ -1,5 +1,5 @@
 -- Numbers as they are written: those of music, and those of paper with hundredths.
-use Rattle.std.specs.Prelude.{ℕ, ◌+◌, ◌-◌, ◌*◌, take, drop, List, [], ◌∷◌, Bool, true, false, ◌==◌, ◌&&◌, ◌||◌, not, nat_le, length, Option, Some, None, if◌then◌else◌}
+use Rattle.std.specs.Prelude.{ℕ, ◌+◌, ◌-◌, ◌*◌, take, drop, List, [], ◌∷◌, Bool, false, ◌==◌, ◌&&◌, not, nat_le, length, Option, Some, None, if◌then◌else◌}
 use Rattle.std.specs.List.{list_all, prefix_len}
 
 abbrev pub is_digit : ℕ → Bool

@@ -1,5 +1,5 @@
 -- The paper: the last good value of each directive counts, and the body is what the margins leave.
-use Rattle.std.specs.Prelude.{◌≡◌, ℕ, ◌+◌, ◌-◌, ◌*◌, ◌/◌, ◌≤◌, List, Bool, ◌&&◌, nat_le, if◌then◌else◌, codes, Option, Some, None, unwrap_or}
+use Rattle.std.specs.Prelude.{ℕ, ◌+◌, ◌-◌, ◌*◌, ◌/◌, ◌≤◌, List, Bool, ◌&&◌, nat_le, if◌then◌else◌, codes, Option, unwrap_or}
 use Rattle.std.specs.Option.{option_and_then}
 use Rattle.abc_lines.specs.declared.book.Line.{Line}
 use Rattle.abc_fields.specs.declared.paper.Paper.{Paper}

@@ -1,5 +1,5 @@
 -- What a voice's text says: its id, its clef and the way of its stems.
-use Rattle.std.specs.Prelude.{◌≡◌, ℕ, List, [], ◌∷◌, Bool, true, false, ◌&&◌, not, nat_le, if◌then◌else◌, length, codes, Option, Some, None, is_some, unwrap_or}
+use Rattle.std.specs.Prelude.{ℕ, List, [], ◌∷◌, Bool, false, ◌&&◌, not, nat_le, if◌then◌else◌, length, codes, Option, Some, None, is_some, unwrap_or}
 use Rattle.std.specs.Option.{option_map, option_and_then}
 use Rattle.std.specs.Str.{bytes_eq}
 use Rattle.mus_units.specs.declared.pitch.Clef.{Clef}

@@ -1,7 +1,6 @@
-use Rattle.std.proofs.Common.{◌≡◌, ◌≤◌, drop}
-use Rattle.std.specs.Prelude.{IfSome}
+use Rattle.std.proofs.Common.{◌≡◌, drop}
 use Rattle.std.specs.Option.{option_or}
-use Rattle.abc_fields.specs.Good.{IsGoodMeter, GoodUnitIn}
+use Rattle.abc_fields.specs.Good.{GoodUnitIn}
 use Rattle.abc_fields.specs.Last.{last_of}
 use Rattle.abc_fields.specs.Defaults.{line_unit}
 use Rattle.abc_fields.proofs.defaults.last_unit.Given as goal

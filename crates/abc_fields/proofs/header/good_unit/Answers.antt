@@ -1,5 +1,4 @@
 use Rattle.std.proofs.Common.{subst, sym}
-use Rattle.std.specs.Prelude.{IfSome}
 use Rattle.abc_fields.specs.Good.{GoodUnitIn}
 use Rattle.abc_fields.proofs.HeaderLaws.{last_unit-good}
 use Rattle.abc_fields.proofs.header.good_unit.Goals as goal

@@ -1,5 +1,5 @@
 use Rattle.std.proofs.Common.{◌≡◌, drop}
-use Rattle.std.specs.Option.{option_or, option_copied}
+use Rattle.std.specs.Option.{option_or}
 use Rattle.abc_fields.specs.Last.{last_of}
 use Rattle.abc_fields.specs.Headers.{meter_in}
 use Rattle.abc_fields.proofs.header.last_meter.Given as goal

@@ -1,5 +1,5 @@
-use Rattle.std.proofs.Common.{◌≡◌, ◌<◌, arith, length}
-use Rattle.abc_fields.proofs.HeaderLaws.{Stage, stage_more}
+use Rattle.std.proofs.Common.{◌<◌, arith, length}
+use Rattle.abc_fields.proofs.HeaderLaws.{stage_more}
 use Rattle.abc_fields.proofs.header.read_fields.Goals as goal
 
 pub loop-line-preserved : goal.loop-line-preserved

@@ -1,6 +1,6 @@
-use Rattle.std.proofs.Common.{◌≡◌, ℕ, suc, ◌∷◌, ◌+◌, ◌*◌, ◌-◌, ◌≤◌, List, drop, get_or, arith, add-one, drop-cons, subst, sym, ◌∙◌, ap, length, ◌<◌}
+use Rattle.std.proofs.Common.{◌≡◌, ℕ, suc, ◌∷◌, ◌+◌, ◌*◌, ◌-◌, List, drop, get_or, arith, drop-cons, sym, ◌∙◌, ap, length, ◌<◌}
 use Rattle.std.specs.Prelude.{min}
-use Rattle.abc_fields.specs.Numbers.{value_after, value_of}
+use Rattle.abc_fields.specs.Numbers.{value_after}
 use Rattle.abc_fields.proofs.NumberLaws.{value_after-min}
 use Rattle.abc_fields.proofs.numbers.capped_value.Goals as goal
 

@@ -1,7 +1,6 @@
 use Rattle.std.proofs.Common.{◌≡◌, ◌≤◌, drop}
 use Rattle.std.specs.Prelude.{IfSome}
 use Rattle.std.specs.Option.{option_or}
-use Rattle.abc_fields.specs.Good.{IsGoodMeter, GoodUnitIn}
 use Rattle.abc_fields.specs.Last.{last_of}
 use Rattle.abc_fields.specs.Papers.{line_scale}
 use Rattle.abc_fields.proofs.paper.last_scale.Given as goal

@@ -1,5 +1,5 @@
 use Rattle.std.proofs.Common.{◌≡◌, drop}
-use Rattle.std.specs.Option.{option_or, option_copied}
+use Rattle.std.specs.Option.{option_or}
 use Rattle.abc_fields.specs.Last.{last_of}
 use Rattle.abc_fields.specs.Voicing.{clef_for}
 use Rattle.abc_fields.proofs.voicing.last_clef.Given as goal

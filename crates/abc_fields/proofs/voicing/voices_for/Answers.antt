@@ -1,4 +1,4 @@
-use Rattle.std.proofs.Common.{◌≡◌, ◌∙◌, ap, arith, length, ◌<◌}
+use Rattle.std.proofs.Common.{◌∙◌, ap, arith, length, ◌<◌}
 use Rattle.abc_fields.specs.Voicing.{voice_from}
 use Rattle.abc_fields.proofs.VoiceLaws.{voices-more}
 use Rattle.abc_fields.proofs.voicing.voices_for.Goals as goal
