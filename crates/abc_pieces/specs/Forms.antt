@@ -54,8 +54,14 @@ abbrev pub is_plus_byte : ℕ → Bool
 is_plus_byte b = not (one_of (43 ∷ 32 ∷ 9 ∷ 124 ∷ []) b)
 
 -- ` * ; ? @ # \ and the letters that mean nothing: h to t, w, I J K N Q R U V W
+abbrev pub is_passed_sign : ℕ → Bool
+is_passed_sign b = one_of (96 ∷ 42 ∷ 59 ∷ 63 ∷ 64 ∷ 35 ∷ 92 ∷ []) b
+
+abbrev pub is_passed_letter : ℕ → Bool
+is_passed_letter b = one_of (119 ∷ 73 ∷ 74 ∷ 75 ∷ 78 ∷ 81 ∷ 82 ∷ 85 ∷ 86 ∷ 87 ∷ []) b
+
 abbrev pub is_passed : ℕ → Bool
-is_passed b = one_of (96 ∷ 42 ∷ 59 ∷ 63 ∷ 64 ∷ 35 ∷ 92 ∷ 119 ∷ 73 ∷ 74 ∷ 75 ∷ 78 ∷ 81 ∷ 82 ∷ 85 ∷ 86 ∷ 87 ∷ []) b || (nat_le 104 b && nat_le b 116)
+is_passed b = is_passed_sign b || is_passed_letter b || (nat_le 104 b && nat_le b 116)
 
 abbrev pub arrow : Bool → ℕ
 arrow right = if right then 62 else 60

@@ -1,5 +1,5 @@
 -- Reading the longest piece: between the pieces as they are defined and the code.
-use Rattle.std.specs.Prelude.{ℕ, zero, suc, List, [], ◌∷◌, length, map, Bool, true, false, ◌==◌, ◌||◌, ◌&&◌, nat_le, if◌then◌else◌, Option, Some, None, option_map}
+use Rattle.std.specs.Prelude.{◌≤◌, ℕ, zero, suc, List, [], ◌∷◌, length, map, Bool, true, false, ◌==◌, ◌||◌, ◌&&◌, nat_le, if◌then◌else◌, Option, Some, None, option_map}
 use Rattle.abc_pieces.specs.Runs.{span, span_all, run_off, begins, is_digit, is_blank, one_of}
 use Rattle.abc_pieces.specs.Bars.{form_at}
 use Rattle.abc_pieces.specs.Lengths.{length_at, number_at}
@@ -191,3 +191,9 @@ shown bang p = option_map (λ x. seen (token_of bang x.found) x.after x.rest.now
 
 abbrev pub meaning : Read → Option (Option Token × Before × List ℕ)
 meaning z = option_map (λ x. seen (meant x.0) (after x.0) x.1) z
+
+-- the text of a chord or a grace has at most so many bytes
+abbrev pub found_within : Found → ℕ → Type 0
+found_within (found.Chord inside len) most = length inside.now ≤ most
+found_within (found.Grace slash inside) most = length inside.now ≤ most
+found_within _ most = Unit {0}
