@@ -219,3 +219,9 @@ abbrev pub IsAllowed : Before → Form → Type 0
 IsAllowed before (ending_form bracket digit more) = (bracket || is_bar before) ≡ true
 IsAllowed before (broken_form right count) = is_broken right before ≡ false
 IsAllowed before _ = Unit {0}
+
+-- the piece stands at the front of s behind such a piece, with rest behind it
+pub record StandsAt (bang : Bool) (before : Before) (f : Form) (s rest : List ℕ) : Type 0 where
+  pub good : IsGood bang f
+  pub allowed : IsAllowed before f
+  pub cut : s ≡ spelled f rest

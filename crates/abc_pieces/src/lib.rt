@@ -13,3 +13,5 @@ pub mod note;
 pub mod piece;
 pub mod token;
 pub mod tuplet;
+
+pub use token::{Before, Flaw, Found, GraceChord, Len, Opening, Token};
