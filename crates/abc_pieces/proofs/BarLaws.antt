@@ -1,11 +1,10 @@
 -- Reading a bar gives the longest.
-use Rattle.std.proofs.Common.{◌≡◌, ℕ, zero, suc, ◌+◌, ◌≤◌, ◌<◌, Bool, true, false, cond, eqb, ltb, List, [], ◌∷◌, length, refl, sym, ap, subst, ◌∙◌, arith, zero-add, Option, Some, None, ◌⊎◌, inl, inr, add-zero}
-use Rattle.std.specs.Prelude.{◌||◌, option_map, IfSome, IfNone}
-use Rattle.mus_units.specs.declared.note.Bar.{Bar}
+use Rattle.std.proofs.Common.{◌≡◌, ℕ, zero, suc, ◌+◌, ◌≤◌, ◌<◌, Bool, true, false, cond, eqb, ltb, List, ◌∷◌, length, refl, sym, ap, subst, ◌∙◌, arith, Option, Some, None, ◌⊎◌, inl, inr, add-zero}
+use Rattle.std.specs.Prelude.{◌||◌}
 use Rattle.std.proofs.lemmas.Bool.{cond_both, eqb-true, ne_eqb, le-ltb, ltb-false}
 use Rattle.abc_pieces.specs.Runs.{copies, maybe, run_off, skip, begins}
 use Rattle.abc_pieces.proofs.RunLaws.{Lacks, run_off-takes, skip-takes, run_off-copies, run_off-lacks, skip-lacks, skip-maybe, skip-yes, length-run_off, length-skip, run_off-less, skip-less, begins_wider}
-use Rattle.abc_pieces.specs.Bars.{BarForm, signs, colons, spelled, IsGood, meant, form_at}
+use Rattle.abc_pieces.specs.Bars.{BarForm, signs, colons, spelled, IsGood, form_at}
 
 -- what is read stands at the front
 pub record Takes (s : List ℕ) (x : BarForm × List ℕ) : Type 0 where
@@ -139,11 +138,11 @@ behind_colons x h =
     elim (run_off-less 58 x) [
       | inl colon ↦ on 58 x refl colon.1
       | inr none ↦ elim (skip-less 91 x) [
-          | inl bracket ↦ on 91 x refl bracket.1
-          | inr bare ↦ on 124 x refl (
-              let h1 : begins (λ b. eqb b 124) (skip 91 x).1 ≡ true = subst (λ (p : ℕ × List ℕ). begins (λ b. eqb b 124) (skip 91 p.1).1 ≡ true) none h in
-              subst (λ (p : Bool × List ℕ). begins (λ b. eqb b 124) p.1 ≡ true) bare h1)
-        ]
+        | inl bracket ↦ on 91 x refl bracket.1
+        | inr bare ↦ on 124 x refl (
+            let h1 : begins (λ b. eqb b 124) (skip 91 x).1 ≡ true = subst (λ (p : ℕ × List ℕ). begins (λ b. eqb b 124) (skip 91 p.1).1 ≡ true) none h in
+            subst (λ (p : Bool × List ℕ). begins (λ b. eqb b 124) p.1 ≡ true) bare h1)
+      ]
     ]
 
 colons-reaches : (m : ℕ) (x : List ℕ) → Reaches (colons (suc (suc m))) x (form_at (copies (suc (suc m)) 58 x))

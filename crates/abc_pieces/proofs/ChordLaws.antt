@@ -1,15 +1,15 @@
 -- Reading a chord gives the longest, and where there is none its fault is found.
-use Rattle.std.proofs.Common.{◌≡◌, ℕ, zero, suc, ◌+◌, ◌≤◌, ◌<◌, Bool, true, false, cond, eqb, List, [], ◌∷◌, ◌++◌, length, Option, Some, None, refl, sym, ap, ◌∙◌, subst, arith, inl, inr, ◌⊎◌, append-nil, add-one}
-use Rattle.std.specs.Prelude.{◌||◌, ◌&&◌, not, IfSome, option_map, map}
+use Rattle.std.proofs.Common.{◌≡◌, ℕ, ◌+◌, ◌<◌, Bool, true, false, eqb, List, [], ◌∷◌, ◌++◌, length, Option, Some, None, refl, sym, ap, ◌∙◌, arith, inl, inr, ◌⊎◌, append-nil, add-one}
+use Rattle.std.specs.Prelude.{◌&&◌, IfSome}
 use Rattle.std.specs.List.{list_all}
-use Rattle.std.proofs.lemmas.Bool.{cond_both, and_parts, eqb-true, not-false, eq-eqb}
+use Rattle.std.proofs.lemmas.Bool.{cond_both, and_parts, eqb-true, not-false}
 use Rattle.std.proofs.lemmas.List.{length-append}
 use Rattle.abc_lines.specs.declared.fault.FaultKind.TheVariants.{BadByte, Unclosed}
 use Rattle.abc_pieces.specs.declared.token.Flaw.{Flaw}
 use Rattle.abc_pieces.specs.Runs.{span_all, begins}
-use Rattle.abc_pieces.specs.Lengths.{LengthForm, length_then, length_at, IsLength}
+use Rattle.abc_pieces.specs.Lengths.{LengthForm, length_then, length_at}
 use Rattle.abc_pieces.specs.Parts.{walk, is_done}
-use Rattle.abc_pieces.specs.Items.{Inner, InnerParts, InnerFlawed, inner_at}
+use Rattle.abc_pieces.specs.Items.{InnerFlawed, inner_at}
 use Rattle.abc_pieces.specs.Chords.{ChordForm, is_inside, has_head, chord_then, IsChord, ChordFault, chord_unclosed, chord_flawed, chord_headless, chord_of, chord_closed, chord_at}
 use Rattle.abc_pieces.proofs.SpanLaws.{span_all-takes, span_all-pass, span_all-after, span_all-append, span_all-stops}
 use Rattle.abc_pieces.proofs.LengthLaws.{length_at-takes, length_at-reaches}
@@ -29,9 +29,10 @@ chord_of-takes bang s inside rest cut clear =
     let len = length_at rest in
     cond_both {A = Option (ChordForm × List ℕ)} (is_done w && has_head w.0) (Some (record { inside = inside; parts = w.0; length = len.0 }, len.1)) None (TakesChord bang s)
     (λ e. let p = and_parts (is_done w) (has_head w.0) e in
-    let l = length_at-takes rest in
-    (record { open_to_the_bracket = clear; parts = parts_of_walk (inner_reader bang) inside (eqb-true (length w.1) 0 p.0); head = p.1; length = l.1 },
-     cut ∙ ap (λ t. inside ++ (93 ∷ t)) l.0))
+    let l = length_at-takes rest in (
+      record { open_to_the_bracket = clear; parts = parts_of_walk (inner_reader bang) inside (eqb-true (length w.1) 0 p.0); head = p.1; length = l.1 },
+      cut ∙ ap (λ t. inside ++ (93 ∷ t)) l.0,
+    ))
     (λ e. tt)
 
 chord_closed-takes : (bang : Bool) (s inside rest : List ℕ) → s ≡ inside ++ rest → list_all is_inside inside ≡ true → begins is_inside rest ≡ false → TakesChord bang s (chord_closed bang inside rest)
@@ -55,9 +56,11 @@ chord-reads bang f x good =
 
 pub chord_at-reaches : (bang : Bool) (f : ChordForm) (x : List ℕ) → IsChord bang f →
     (z : ChordForm × List ℕ) × (chord_at bang (chord_then f x) ≡ Some z) × ((length z.1 < length x) ⊎ (z ≡ (f, x)))
-chord_at-reaches bang f x good =
-    (chord_with f (length_at (length_then f.length x)), chord-reads bang f x good,
-     elim (length_at-reaches f.length x good.length) [ | inl shorter ↦ inl shorter.0 | inr same ↦ inr (ap (chord_with f) same) ])
+chord_at-reaches bang f x good = (
+  chord_with f (length_at (length_then f.length x)),
+  chord-reads bang f x good,
+  elim (length_at-reaches f.length x good.length) [ inl shorter ↦ inl shorter.0 | inr same ↦ inr (ap (chord_with f) same) ],
+)
 
 pub chord-longer : (f : ChordForm) (x : List ℕ) → length x < length (chord_then f x)
 chord-longer f x = omega (arith, length-append f.inside (93 ∷ length_then f.length x), length-length_then f.length x)
@@ -77,8 +80,7 @@ pub chord-split : (s w r rest : List ℕ) (b : ℕ) → two w r ≡ span_all is_
 chord-split s w r rest b cut is =
     let front : w ≡ (span_all is_inside s).0 = ap (λ (p : List ℕ × List ℕ). p.0) cut in
     let back : b ∷ rest ≡ (span_all is_inside s).1 = sym is ∙ ap (λ (p : List ℕ × List ℕ). p.1) cut in
-    let mark : b ≡ 93 = bracket_is b rest (ap (begins is_inside) back ∙ span_all-after is_inside s) in
-    (
+    let mark : b ≡ 93 = bracket_is b rest (ap (begins is_inside) back ∙ span_all-after is_inside s) in (
       span_all-takes is_inside s ∙ ap (λ t. t ++ (span_all is_inside s).1) (sym front) ∙ ap (λ t. w ++ t) (sym back) ∙ ap (λ x. w ++ (x ∷ rest)) mark,
       ap (λ t. list_all is_inside t) front ∙ span_all-pass is_inside s,
     )

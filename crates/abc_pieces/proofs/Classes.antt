@@ -1,8 +1,8 @@
 -- What the class of a byte tells of it, and the class of each first byte.
-use Rattle.std.proofs.Common.{◌≡◌, ℕ, zero, suc, ◌≤◌, ◌<◌, Bool, true, false, cond, eqb, leb, List, [], ◌∷◌, refl, sym, ap, ◌∙◌, subst, arith, inl, inr, ◌⊎◌}
+use Rattle.std.proofs.Common.{◌≡◌, ℕ, ◌≤◌, ◌<◌, Bool, true, false, cond, eqb, leb, [], ◌∷◌, refl, subst, arith, inl, inr}
 use Rattle.std.specs.Prelude.{◌||◌, ◌&&◌, not}
 use Rattle.std.proofs.lemmas.Bool.{cond_both, eqb-true, leb-true, or_cases, and_parts, both_ways}
-use Rattle.abc_pieces.specs.Runs.{is_digit, is_blank, is_letter, one_of}
+use Rattle.abc_pieces.specs.Runs.{is_digit, is_blank, is_letter}
 use Rattle.abc_pieces.specs.declared.token.Class.{Class}
 use Rattle.abc_pieces.specs.declared.token.Class.TheVariants as class
 use Rattle.abc_pieces.specs.Decorations.{is_deco_letter}
@@ -140,9 +140,9 @@ passed_below : (b : ℕ) → is_passed b ≡ true → b < 127
 passed_below b h =
     elim (or_cases (is_passed_sign b || is_passed_letter b) (leb 104 b && leb b 116) h) [
       | inl listed ↦ elim (or_cases (is_passed_sign b) (is_passed_letter b) listed) [
-          | inl sign ↦ below_all (96 ∷ 42 ∷ 59 ∷ 63 ∷ 64 ∷ 35 ∷ 92 ∷ []) 127 b refl sign
-          | inr letter ↦ below_all (119 ∷ 73 ∷ 74 ∷ 75 ∷ 78 ∷ 81 ∷ 82 ∷ 85 ∷ 86 ∷ 87 ∷ []) 127 b refl letter
-        ]
+        | inl sign ↦ below_all (96 ∷ 42 ∷ 59 ∷ 63 ∷ 64 ∷ 35 ∷ 92 ∷ []) 127 b refl sign
+        | inr letter ↦ below_all (119 ∷ 73 ∷ 74 ∷ 75 ∷ 78 ∷ 81 ∷ 82 ∷ 85 ∷ 86 ∷ 87 ∷ []) 127 b refl letter
+      ]
       | inr letter ↦ (let p = and_parts (leb 104 b) (leb b 116) letter in let high : b ≤ 116 = leb-true b 116 p.1 in omega arith)
     ]
 

@@ -1,30 +1,29 @@
 -- Reading a part of a grace group, and a group, gives the longest; where there is none its fault
 -- is found.
-use Rattle.std.proofs.Common.{◌≡◌, ℕ, zero, suc, ◌+◌, ◌≤◌, ◌<◌, Bool, true, false, cond, eqb, List, [], ◌∷◌, ◌++◌, length, Option, Some, None, refl, sym, ap, ◌∙◌, subst, arith, inl, inr, ◌⊎◌, append_assoc, append-nil, add-one}
-use Rattle.std.specs.Prelude.{◌||◌, ◌&&◌, not, IfSome, option_map, map, MatchBool, MatchOption}
+use Rattle.std.proofs.Common.{◌≡◌, ℕ, ◌+◌, ◌≤◌, ◌<◌, Bool, true, false, eqb, List, [], ◌∷◌, ◌++◌, length, Option, Some, None, refl, sym, ap, ◌∙◌, subst, arith, inl, inr, ◌⊎◌, append_assoc, append-nil, add-one}
+use Rattle.std.specs.Prelude.{not, IfSome, option_map, MatchOption}
 use Rattle.std.specs.List.{list_all}
-use Rattle.std.proofs.lemmas.Bool.{cond_both, and_parts, eqb-true, not-false, eq-eqb, ne_eqb, or_cases, both_ways}
+use Rattle.std.proofs.lemmas.Bool.{cond_both, and_parts, eqb-true, not-false, ne_eqb, or_cases}
 use Rattle.std.proofs.lemmas.List.{length-append}
 use Rattle.mus_units.specs.declared.pitch.Alter.{Alter}
 use Rattle.mus_units.specs.declared.pitch.Alter.TheVariants.{Flat2, Flat, Natural, Sharp, Sharp2}
 use Rattle.mus_units.specs.declared.pitch.Letter.{Letter}
 use Rattle.mus_units.specs.declared.pitch.Letter.TheVariants.{C, D, E, F, G, A, B}
-use Rattle.abc_lines.specs.declared.fault.FaultKind.TheVariants.{BadByte, BadLength, Unclosed}
+use Rattle.abc_lines.specs.declared.fault.FaultKind.TheVariants.{Unclosed}
 use Rattle.abc_pieces.specs.declared.token.Flaw.{Flaw}
 use Rattle.abc_pieces.specs.declared.token.GraceChord.{GraceChord}
 use Rattle.abc_pieces.specs.declared.token.GraceItem.{GraceItem}
 use Rattle.abc_pieces.specs.declared.token.GraceItem.TheVariants as found
 use Rattle.abc_pieces.specs.Runs.{maybe, skip, span_all, begins, one_of}
 use Rattle.abc_pieces.specs.Lengths.{length_then}
-use Rattle.abc_pieces.specs.Notes.{NoteForm, sign_then, letter_byte}
+use Rattle.abc_pieces.specs.Notes.{sign_then, letter_byte}
 use Rattle.abc_pieces.specs.Decorations.{is_deco_letter}
-use Rattle.abc_pieces.specs.Parts.{stuck_here, stuck_later, IsFlaw, walk, is_done, goes_on_length, length_at_place}
-use Rattle.abc_pieces.specs.Items.{Inner, note_inside, letter_inside, named_inside, tie_inside, slur_inside, passed_inside, lone_inside, inner_then, IsInner, StandsInside, inner_at, is_passed_inside, is_letter_inside}
-use Rattle.abc_pieces.specs.Chords.{ChordForm, chord_then, IsChord, ChordFault, chord_at, at_most}
-use Rattle.abc_pieces.specs.Graces.{GracePart, single, chorded, grace_part_then, IsGracePart, StandsInGrace, part_has_length, GraceForm, is_in_grace, is_slash_byte, grace_then, IsGrace, body_of_part, body_of, IsGraceOwn, GraceFlawed, GraceFault, grace_unclosed, grace_flawed, chorded_read, single_read, grace_part_at, grace_of, grace_closed, grace_at, bodied, body_of_item, item_has_length, body_inside, IsPartFlaw, goes_on_first, item_within}
-use Rattle.abc_pieces.proofs.RunLaws.{Lacks, skip-takes, skip-maybe, skip-lacks, length-skip}
+use Rattle.abc_pieces.specs.Parts.{stuck_here, stuck_later, walk, is_done, length_at_place}
+use Rattle.abc_pieces.specs.Items.{Inner, note_inside, letter_inside, named_inside, tie_inside, slur_inside, passed_inside, lone_inside, inner_then, IsInner, StandsInside, inner_at, is_letter_inside}
+use Rattle.abc_pieces.specs.Chords.{ChordForm, chord_then, ChordFault, chord_at, at_most}
+use Rattle.abc_pieces.specs.Graces.{GracePart, single, chorded, grace_part_then, IsGracePart, StandsInGrace, part_has_length, GraceForm, is_in_grace, is_slash_byte, grace_then, IsGrace, body_of_part, IsGraceOwn, GraceFlawed, GraceFault, grace_unclosed, grace_flawed, chorded_read, single_read, grace_part_at, grace_closed, grace_at, bodied, body_inside, IsPartFlaw, item_within}
+use Rattle.abc_pieces.proofs.RunLaws.{Lacks, skip-takes, skip-lacks}
 use Rattle.abc_pieces.proofs.SpanLaws.{span_all-takes, span_all-pass, span_all-after, span_all-append, span_all-stops}
-use Rattle.abc_pieces.proofs.ItemLaws.{implied, below_all}
 use Rattle.abc_pieces.proofs.PartLaws.{Reader, less, longest_of, none_of, walk-none, walk-some, parts_of_walk, walk_of_parts}
 use Rattle.abc_pieces.proofs.InnerLaws.{inner_reader, inner-longer}
 use Rattle.abc_pieces.proofs.ChordLaws.{TakesChord, chord_at-takes, chord_at-reaches, chord-longer}
@@ -123,10 +122,10 @@ PartReaches bang p s x = (z : GracePart × List ℕ) × (grace_part_at bang s �
 part-reaches : (bang : Bool) (p : GracePart) (x : List ℕ) → IsGracePart bang p → PartReaches bang p (grace_part_then p x) x
 part-reaches bang (single f) x good =
     let o = (inner_reader bang).reaches f (inner_then f x) x (record { good = good; cut = refl }) in
-    (single_read o.0, single_at bang f x good ∙ ap (option_map single_read) o.1, elim o.2 [ | inl shorter ↦ inl shorter | inr same ↦ inr (ap single_read same) ])
+    (single_read o.0, single_at bang f x good ∙ ap (option_map single_read) o.1, elim o.2 [ inl shorter ↦ inl shorter | inr same ↦ inr (ap single_read same) ])
 part-reaches bang (chorded f) x good =
     let o = chord_at-reaches bang f x good in
-    (chorded_read o.0, at_bracket bang (chord_then f x) ∙ ap (option_map chorded_read) o.1, elim o.2 [ | inl shorter ↦ inl shorter | inr same ↦ inr (ap chorded_read same) ])
+    (chorded_read o.0, at_bracket bang (chord_then f x) ∙ ap (option_map chorded_read) o.1, elim o.2 [ inl shorter ↦ inl shorter | inr same ↦ inr (ap chorded_read same) ])
 
 part-longer : (p : GracePart) (x : List ℕ) → length x < length (grace_part_then p x)
 part-longer (single f) x = inner-longer f x
@@ -214,8 +213,7 @@ pub group-stuck : (bang : Bool) (w : List ℕ) (before : Option ℕ) (rest : Lis
     (is_done (walk (grace_part_at bang) w) ≡ false) × GraceFlawed bang None w flaw × (flaw.left ≤ length w)
 group-stuck bang w before rest flaw stage some none is within =
     let stops : walk (grace_part_at bang) rest ≡ ([], rest) = walk-none (part_reader bang) rest none in
-    let left : (walk (grace_part_at bang) w).1 ≡ rest = sym stage.left ∙ ap (λ (z : List GracePart × List ℕ). z.1) stops in
-    (
+    let left : (walk (grace_part_at bang) w).1 ≡ rest = sym stage.left ∙ ap (λ (z : List GracePart × List ℕ). z.1) stops in (
       rw left (ne_eqb (length rest) 0 some),
       stage.flaw flaw (stuck_at bang before rest flaw none is),
       flaw_small before flaw.left (length rest) (length w) stage.small stage.behind stage.within within,
@@ -262,8 +260,10 @@ grace_closed-takes bang slash s inside [] cut clear stops first = tt
 grace_closed-takes bang slash s inside (b ∷ rest) cut clear stops first =
     let w = walk (grace_part_at bang) inside in
     cond_both {A = Option (GraceForm × List ℕ)} (is_done w) (Some (record { slash = slash; inside = inside; parts = w.0 }, rest)) None (λ r. IfSome r (λ z. IsGrace bang z.0 × (s ≡ grace_then z.0 z.1)))
-    (λ e. (record { open_to_the_brace = clear; parts = parts_of_walk (part_reader bang) inside (eqb-true (length w.1) 0 e); slash_is_read = first },
-           cut ∙ ap (λ x. maybe slash 47 (inside ++ (x ∷ rest))) (brace_is b rest stops)))
+    (λ e. (
+      record { open_to_the_brace = clear; parts = parts_of_walk (part_reader bang) inside (eqb-true (length w.1) 0 e); slash_is_read = first },
+      cut ∙ ap (λ x. maybe slash 47 (inside ++ (x ∷ rest))) (brace_is b rest stops),
+    ))
     (λ e. tt)
 
 pub grace_at-takes : (bang : Bool) (s : List ℕ) → TakesGrace bang s (grace_at bang s)
@@ -273,7 +273,7 @@ grace_at-takes bang s =
     let inside = span_all is_in_grace slash.1 in
     let cut : slash.1 ≡ inside.0 ++ inside.1 = span_all-takes is_in_grace slash.1 in
     grace_closed-takes bang slash.0 s inside.0 inside.1 (skip-takes 47 s ∙ ap (maybe slash.0 47) cut) (span_all-pass is_in_grace slash.1) (span_all-after is_in_grace slash.1)
-      (λ e. first_of is_slash_byte inside.0 inside.1 (ap (begins is_slash_byte) (sym cut) ∙ no_slash s e))
+    (λ e. first_of is_slash_byte inside.0 inside.1 (ap (begins is_slash_byte) (sym cut) ∙ no_slash s e))
 
 lacks_slash : (w x : List ℕ) → begins is_slash_byte w ≡ false → Lacks 47 (w ++ (125 ∷ x))
 lacks_slash [] x h = refl
@@ -326,7 +326,7 @@ grace-flawed bang slash s t w r rest b flaw at cut is flawed =
     let mark : b ≡ 125 = brace_is b rest (ap (begins is_in_grace) back ∙ span_all-after is_in_grace t) in
     let parts : t ≡ w ++ (125 ∷ rest) = span_all-takes is_in_grace t ∙ ap (λ u. u ++ (span_all is_in_grace t).1) (sym front) ∙ ap (λ u. w ++ u) (sym back) ∙ ap (λ x. w ++ (x ∷ rest)) mark in
     let first : slash ≡ false → begins is_slash_byte w ≡ false = λ e.
-        first_of is_slash_byte w (125 ∷ rest) (ap (begins is_slash_byte) (sym parts ∙ ap (λ (p : Bool × List ℕ). p.1) at) ∙ no_slash s (sym (ap (λ (p : Bool × List ℕ). p.0) at) ∙ e)) in
+    first_of is_slash_byte w (125 ∷ rest) (ap (begins is_slash_byte) (sym parts ∙ ap (λ (p : Bool × List ℕ). p.1) at) ∙ no_slash s (sym (ap (λ (p : Bool × List ℕ). p.0) at) ∙ e)) in
     rw add-one (grace_flawed s slash w rest flaw (line ∙ ap (maybe slash 47) parts) first (ap (λ u. list_all is_in_grace u) front ∙ span_all-pass is_in_grace t) flawed)
 
 -- where the inside is good there is a group

@@ -1,7 +1,7 @@
 -- The inside of a chord as loops read it.
-use Rattle.std.proofs.Common.{◌≡◌, ℕ, zero, suc, ◌+◌, ◌≤◌, ◌<◌, Bool, true, false, cond, eqb, List, [], ◌∷◌, ◌++◌, length, Option, Some, None, refl, sym, ap, ◌∙◌, subst, arith, inl, inr, ◌⊎◌, append_assoc, append-nil}
-use Rattle.std.specs.Prelude.{◌||◌, ◌&&◌, IfSome, option_map, map, MatchBool}
-use Rattle.std.proofs.lemmas.Bool.{cond_both, ne_eqb, eq-eqb}
+use Rattle.std.proofs.Common.{◌≡◌, ℕ, zero, suc, ◌+◌, ◌≤◌, ◌<◌, Bool, true, false, List, [], ◌∷◌, ◌++◌, length, Option, Some, None, refl, sym, ap, ◌∙◌, subst, arith, inl, inr, append_assoc, append-nil}
+use Rattle.std.specs.Prelude.{◌||◌, option_map, MatchBool}
+use Rattle.std.proofs.lemmas.Bool.{cond_both, ne_eqb}
 use Rattle.std.proofs.lemmas.List.{length-append}
 use Rattle.mus_units.specs.declared.note.Head.{Head}
 use Rattle.mus_units.specs.declared.note.Deco.{Deco}
@@ -11,14 +11,13 @@ use Rattle.mus_units.specs.declared.pitch.Alter.TheVariants.{Flat2, Flat, Natura
 use Rattle.abc_lines.specs.declared.fault.FaultKind.TheVariants.{BadByte, BadLength}
 use Rattle.abc_pieces.specs.declared.token.Flaw.{Flaw}
 use Rattle.abc_pieces.specs.declared.token.Len.{Len}
-use Rattle.abc_pieces.specs.declared.token.Item.{Item}
 use Rattle.abc_pieces.specs.Runs.{copies, maybe}
 use Rattle.abc_pieces.specs.Lengths.{LengthForm, whole, over, halved, length_then}
 use Rattle.abc_pieces.specs.Notes.{NoteForm, note_then, sign_then, letter_byte}
-use Rattle.abc_pieces.specs.Parts.{Parts, Flawed, stuck_here, stuck_later, IsFlaw, walk, is_done, goes_on_length, length_at_place}
-use Rattle.abc_pieces.specs.Items.{Inner, note_inside, letter_inside, named_inside, tie_inside, slur_inside, passed_inside, lone_inside, inner_then, StandsInside, Sense, says_note, says_letter, says_name, says_tie, says_nothing, sense, is_note, has_length, IsBadByte, InnerParts, InnerFlawed, inner_at, sense_of, sensed, inner_flaw}
-use Rattle.abc_pieces.specs.Chords.{has_head, is_tied, tied_if, heads_of, deco_of, decos_of, senses, last_head, tie_last, given_head, next_last, heads_after, at_most}
-use Rattle.abc_pieces.proofs.ItemLaws.{TakesInner, inner_at-takes, inner_at-reaches}
+use Rattle.abc_pieces.specs.Parts.{stuck_here, stuck_later, IsFlaw, walk, is_done, goes_on_length, length_at_place}
+use Rattle.abc_pieces.specs.Items.{Inner, note_inside, letter_inside, named_inside, tie_inside, slur_inside, passed_inside, lone_inside, inner_then, StandsInside, Sense, says_note, says_letter, says_name, says_tie, says_nothing, sense, is_note, has_length, IsBadByte, InnerFlawed, inner_at, sensed, inner_flaw}
+use Rattle.abc_pieces.specs.Chords.{has_head, is_tied, tied_if, heads_of, deco_of, decos_of, senses, last_head, given_head, next_last, heads_after, at_most}
+use Rattle.abc_pieces.proofs.ItemLaws.{inner_at-takes, inner_at-reaches}
 use Rattle.abc_pieces.proofs.PartLaws.{Reader, less, longest_of, none_of, walk-none, walk-some}
 
 -- ---- a part has a byte
@@ -69,7 +68,7 @@ inner_reader bang = record {
   takes = inner_at-takes bang;
   reaches = λ f s x stands.
       let o = inner_at-reaches bang f x stands.good in
-      ((o.part, o.rest), ap (inner_at bang) stands.cut ∙ o.is, elim o.ends [ | inl shorter ↦ inl shorter | inr same ↦ inr (inner_same o.part f o.rest x same) ]);
+      ((o.part, o.rest), ap (inner_at bang) stands.cut ∙ o.is, elim o.ends [ inl shorter ↦ inl shorter | inr same ↦ inr (inner_same o.part f o.rest x same) ]);
   longer = λ f s x stands. rw stands.cut (inner-longer f x);
 }
 
@@ -128,7 +127,7 @@ inside-next bang w head new note before place rest behind item stage f noted new
       left = sym (ap (λ (z : List Inner × List ℕ). z.1) step) ∙ stage.left;
       heads =
           let joined : ((head || note) || has_head (walk (inner_at bang) behind).0) ≡ (head || has_head (walk (inner_at bang) rest).0) =
-              or_assoc head note (has_head (walk (inner_at bang) behind).0) ∙ ap (λ b. head || (b || has_head (walk (inner_at bang) behind).0)) is ∙ ap (λ (z : List Inner × List ℕ). head || has_head z.0) (sym step) in
+          or_assoc head note (has_head (walk (inner_at bang) behind).0) ∙ ap (λ b. head || (b || has_head (walk (inner_at bang) behind).0)) is ∙ ap (λ (z : List Inner × List ℕ). head || has_head z.0) (sym step) in
           rw newly (joined ∙ stage.heads);
       flaw = λ flaw h. stage.flaw flaw (stuck_later before rest f.part behind flaw (longest_of (inner_reader bang) rest (f.part, behind) f.at) (subst (λ b. InnerFlawed bang (length_at_place b (length rest)) behind flaw) is h));
       within = omega (arith, stage.within, inner_less bang rest item behind f);
@@ -155,8 +154,7 @@ inside-stuck bang w head before byte here rest t flaw stage cut place none is =
     let left : (walk (inner_at bang) w).1 ≡ rest = sym stage.left ∙ ap (λ (z : List Inner × List ℕ). z.1) stops in
     let none_here : inner_at bang (byte ∷ t) ≡ None = subst (λ (x : List ℕ). inner_at bang x ≡ None) cut none in
     let here_is : here ≡ suc (length t) = place ∙ ap length cut in
-    let stuck : InnerFlawed bang before (byte ∷ t) flaw = stuck_here before byte t flaw (none_of (inner_reader bang) (byte ∷ t) none_here) (rw (is, here_is) (flaw_here before byte t)) in
-    (
+    let stuck : InnerFlawed bang before (byte ∷ t) flaw = stuck_here before byte t flaw (none_of (inner_reader bang) (byte ∷ t) none_here) (rw (is, here_is) (flaw_here before byte t)) in (
       rw (left, cut) (ne_eqb (suc (length t)) 0 (omega arith)),
       stage.flaw flaw (rw cut stuck),
       rw is (flaw_small before byte here (length w) stage.small (omega (arith, place, stage.within))),

@@ -1,8 +1,8 @@
 -- Reading a part of a chord or a grace gives the longest.
-use Rattle.std.proofs.Common.{◌≡◌, ℕ, zero, suc, ◌+◌, ◌≤◌, ◌<◌, Bool, true, false, cond, eqb, ltb, List, [], ◌∷◌, ◌++◌, length, Option, Some, None, refl, sym, ap, ◌∙◌, subst, arith, inl, inr, ◌⊎◌}
-use Rattle.std.specs.Prelude.{◌||◌, ◌&&◌, not, IfSome, option_map, nat_lt}
+use Rattle.std.proofs.Common.{◌≡◌, ℕ, ◌≤◌, ◌<◌, Bool, true, false, cond, eqb, ltb, List, [], ◌∷◌, ◌++◌, length, Option, Some, None, refl, ap, ◌∙◌, subst, arith, inl, inr, ◌⊎◌}
+use Rattle.std.specs.Prelude.{◌||◌, not, IfSome, option_map}
 use Rattle.std.specs.List.{list_all}
-use Rattle.std.proofs.lemmas.Bool.{cond_both, or_left, or_right, or_cases, and_parts, eqb-true, ne_eqb, both_ways, eq-eqb, not-false, agree_below, agree_below_at, ltb-true}
+use Rattle.std.proofs.lemmas.Bool.{cond_both, or_right, or_cases, and_parts, eqb-true, agree_below, agree_below_at, ltb-true}
 use Rattle.std.proofs.lemmas.List.{append-nil, length-append}
 use Rattle.mus_units.specs.declared.pitch.Alter.{Alter}
 use Rattle.mus_units.specs.declared.pitch.Alter.TheVariants.{Flat2, Flat, Natural, Sharp, Sharp2}
@@ -10,13 +10,13 @@ use Rattle.mus_units.specs.declared.pitch.Letter.{Letter}
 use Rattle.mus_units.specs.declared.pitch.Letter.TheVariants.{C, D, E, F, G, A, B}
 use Rattle.abc_pieces.specs.declared.token.ItemClass.{ItemClass}
 use Rattle.abc_pieces.specs.declared.token.ItemClass.TheVariants as class
-use Rattle.abc_pieces.specs.Runs.{maybe, one_of, begins, span_all, copies}
-use Rattle.abc_pieces.specs.Lengths.{LengthForm, whole, over, halved, length_then}
+use Rattle.abc_pieces.specs.Runs.{one_of, span_all}
+use Rattle.abc_pieces.specs.Lengths.{length_then}
 use Rattle.abc_pieces.specs.Notes.{NoteForm, note_then, sign_then, letter_byte, note_at, IsNote}
 use Rattle.abc_pieces.specs.Decorations.{is_deco_letter, is_name_byte}
 use Rattle.abc_pieces.specs.Items.{Inner, note_inside, letter_inside, named_inside, tie_inside, slur_inside, passed_inside, lone_inside, inner_then, IsName, is_passed_inside, is_letter_inside, IsInner, StandsInside, ReadInner, inner_read, closed_name, name_at, is_note_byte, item_class, dot_inside, named_or, inner_by_class, inner_at}
-use Rattle.abc_pieces.proofs.SpanLaws.{span_all-takes, span_all-pass, span_all-after, span_all-append, span_all-stops}
-use Rattle.abc_pieces.proofs.NoteLaws.{TakesNote, NoteStops, note_at-takes, note_at-reaches}
+use Rattle.abc_pieces.proofs.SpanLaws.{span_all-takes, span_all-pass, span_all-append, span_all-stops}
+use Rattle.abc_pieces.proofs.NoteLaws.{TakesNote, note_at-takes, note_at-reaches}
 
 abbrev pair : List ℕ → List ℕ → List ℕ × List ℕ
 pair a b = (a, b)
@@ -106,8 +106,8 @@ dot-takes bang (b ∷ s) =
     cond_both (eqb b 40) (inner_read slur_inside s) (cond (eqb b 45) (inner_read (tie_inside true) s) (inner_read (letter_inside 46) (b ∷ s))) (TakesInner bang (46 ∷ b ∷ s))
     (λ e. record { good = tt; cut = ap (λ x. 46 ∷ x ∷ s) (eqb-true b 40 e) })
     (λ e. cond_both (eqb b 45) (inner_read (tie_inside true) s) (inner_read (letter_inside 46) (b ∷ s)) (TakesInner bang (46 ∷ b ∷ s))
-      (λ f. record { good = tt; cut = ap (λ x. 46 ∷ x ∷ s) (eqb-true b 45 f) })
-      (λ f. record { good = refl; cut = refl }))
+    (λ f. record { good = tt; cut = ap (λ x. 46 ∷ x ∷ s) (eqb-true b 45 f) })
+    (λ f. record { good = refl; cut = refl }))
 
 bang-takes : (bang : Bool) (s : List ℕ) (r : Option (List ℕ × List ℕ)) → bang ≡ false → IfSome r (λ z. IsName z.0 × (s ≡ z.0 ++ (33 ∷ z.1))) → TakesInner bang (33 ∷ s) (named_or r s)
 bang-takes bang s None off t = record { good = off; cut = refl }
@@ -170,7 +170,7 @@ note-reaches f x good =
       part = note_inside r.0.0;
       rest = r.0.1;
       is = ap noted r.1;
-      ends = elim r.2 [ | inl shorter ↦ inl shorter.0 | inr is ↦ inr (ap (λ z. inner_read (note_inside z.0) z.1) is) ];
+      ends = elim r.2 [ inl shorter ↦ inl shorter.0 | inr is ↦ inr (ap (λ z. inner_read (note_inside z.0) z.1) is) ];
     }
 
 at_class : (bang : Bool) (b : ℕ) (s : List ℕ) (c : ItemClass) → item_class b ≡ c → inner_at bang (b ∷ s) ≡ inner_by_class c bang b s
@@ -219,8 +219,8 @@ dot-reaches (b ∷ x) =
     cond_both (eqb b 40) (inner_read slur_inside x) (cond (eqb b 45) (inner_read (tie_inside true) x) (inner_read (letter_inside 46) (b ∷ x))) (ReachesInner (b ∷ x) (letter_inside 46))
     (λ e. record { part = slur_inside; rest = x; is = refl; ends = inl (omega arith) })
     (λ e. cond_both (eqb b 45) (inner_read (tie_inside true) x) (inner_read (letter_inside 46) (b ∷ x)) (ReachesInner (b ∷ x) (letter_inside 46))
-      (λ f. record { part = tie_inside true; rest = x; is = refl; ends = inl (omega arith) })
-      (λ f. same (b ∷ x) (letter_inside 46)))
+    (λ f. record { part = tie_inside true; rest = x; is = refl; ends = inl (omega arith) })
+    (λ f. same (b ∷ x) (letter_inside 46)))
 
 letter-reaches : (bang : Bool) (b : ℕ) (x : List ℕ) → is_letter_inside b ≡ true → ReachesInner x (letter_inside b) (inner_at bang (b ∷ x))
 letter-reaches bang b x h =

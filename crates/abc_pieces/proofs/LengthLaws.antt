@@ -1,11 +1,9 @@
 -- Reading a length gives the longest.
-use Rattle.std.proofs.Common.{◌≡◌, ℕ, zero, suc, ◌+◌, ◌*◌, ◌-◌, ◌≤◌, ◌<◌, Bool, true, false, cond, eqb, List, [], ◌∷◌, ◌++◌, length, take, get_or, refl, sym, ap, subst, ◌∙◌, arith, zero-add, add-zero, inl, inr, ◌⊎◌}
+use Rattle.std.proofs.Common.{◌≡◌, ℕ, zero, suc, ◌+◌, ◌-◌, ◌≤◌, ◌<◌, Bool, true, false, eqb, List, [], ◌∷◌, ◌++◌, length, refl, ap, subst, ◌∙◌, arith, inl, inr, ◌⊎◌}
 use Rattle.std.specs.Prelude.{◌||◌}
 use Rattle.std.specs.List.{list_all}
-use Rattle.std.specs.Char.{digit_value}
-use Rattle.std.specs.Str.Parse.{digits_value}
-use Rattle.std.proofs.lemmas.Bool.{cond_both, and_parts, eqb-true, ne_eqb, both_ways, leb-true, or_left, or_right}
-use Rattle.std.proofs.lemmas.List.{append-nil, append_assoc}
+use Rattle.std.proofs.lemmas.Bool.{cond_both, and_parts, eqb-true, ne_eqb, both_ways, or_left, or_right}
+use Rattle.std.proofs.lemmas.List.{append-nil}
 use Rattle.abc_pieces.specs.Runs.{copies, span, begins, is_digit}
 use Rattle.abc_pieces.proofs.SpanLaws.{span-takes, span-pass, span-length, span-stops, span-less, span-append, length-span}
 use Rattle.abc_pieces.proofs.Bounds.{digit_range}
@@ -68,9 +66,9 @@ count-reads n (d ∷ ds) x good = number-reads n (d ∷ ds) x good
 -- before a byte that is no digit the number is read as it stands
 pub count-stops : (n : ℕ) (c : List ℕ) (k : ℕ) (x : List ℕ) → is_digit k ≡ false → IsCount n c → number_at n (c ++ (k ∷ x)) ≡ (c, k ∷ x)
 count-stops n c k x other good = elim (count-reads n c (k ∷ x) good) [
-    | inl shorter ↦ absurd (both_ways (is_digit k) other shorter.1)
-    | inr same ↦ same
-  ]
+  | inl shorter ↦ absurd (both_ways (is_digit k) other shorter.1)
+  | inr same ↦ same
+]
 
 abbrev read_as : LengthForm → List ℕ → LengthForm × List ℕ
 read_as f x = (f, x)
@@ -113,7 +111,7 @@ length_at-takes s =
     let count = number_at 4 s in
     let sl = span is_slash 6 count.1 in
     below-takes s count.0 count.1 sl.0 sl.1 (number_at 4 sl.1).0 (number_at 4 sl.1).1
-      (number-takes 4 s) (number-count 4 s) (span-takes is_slash 6 count.1) (span-pass is_slash 6 count.1) (span-length is_slash 6 count.1) (number-takes 4 sl.1) (number-count 4 sl.1)
+    (number-takes 4 s) (number-count 4 s) (span-takes is_slash 6 count.1) (span-pass is_slash 6 count.1) (span-length is_slash 6 count.1) (number-takes 4 sl.1) (number-count 4 sl.1)
 
 -- ---- the longest
 
@@ -170,10 +168,10 @@ no_slash d ds x good = let r = digit_range d (and_parts _ _ good.digits).0 in ne
 over-reaches : (count : List ℕ) (d : ℕ) (ds x : List ℕ) → IsNumber 4 (d ∷ ds) → Stops goes_on x (over count (d ∷ ds)) (from_count count (47 ∷ ((d ∷ ds) ++ x)))
 over-reaches count d ds x good =
     rw (one_slash count ((d ∷ ds) ++ x) (no_slash d ds x good), number-reads-as 4 (d ∷ ds) x good)
-      (elim (span-less is_digit (4 - length (d ∷ ds)) x) [
-        | inl shorter ↦ inl (shorter.0, either_left x shorter.1)
-        | inr same ↦ inr (rw same (ap (λ t. read_as (over count (d ∷ t)) x) (append-nil ds)))
-      ])
+    (elim (span-less is_digit (4 - length (d ∷ ds)) x) [
+      | inl shorter ↦ inl (shorter.0, either_left x shorter.1)
+      | inr same ↦ inr (rw same (ap (λ t. read_as (over count (d ∷ t)) x) (append-nil ds)))
+    ])
 
 -- a number was read, so it is below the slash
 below-one : (count x : List ℕ) (be : List ℕ × List ℕ) → x ≡ be.0 ++ be.1 → length be.1 < length x → length (below_at count (47 ∷ [], x) be).1 < length x
@@ -210,9 +208,9 @@ halved-reaches count k x some few =
 -- the law: a length that is read is as long as each that stands there
 pub length_at-reaches : (f : LengthForm) (x : List ℕ) → IsLength f → Stops goes_on x f (length_at (length_then f x))
 length_at-reaches (whole count) x good = rw length_at-is (elim (count-reads 4 count x good) [
-      | inl shorter ↦ inl (omega (arith, shorter.0, length-from (number_at 4 (count ++ x)).0 (number_at 4 (count ++ x)).1), either_left x shorter.1)
-      | inr same ↦ rw same (whole-reaches count x)
-    ])
+  | inl shorter ↦ inl (omega (arith, shorter.0, length-from (number_at 4 (count ++ x)).0 (number_at 4 (count ++ x)).1), either_left x shorter.1)
+  | inr same ↦ rw same (whole-reaches count x)
+])
 length_at-reaches (over count []) x good = absurd (omega (arith, good.1.some))
 length_at-reaches (over count (d ∷ ds)) x good = rw (length_at-is, count-slash count ((d ∷ ds) ++ x) good.0) (over-reaches count d ds x good.1)
 length_at-reaches (halved count zero) x good = absurd (omega (arith, good.1))

@@ -1,7 +1,6 @@
 -- Reading a note gives the longest.
-use Rattle.std.proofs.Common.{◌≡◌, ℕ, zero, suc, ◌+◌, ◌≤◌, ◌<◌, Bool, true, false, cond, eqb, List, [], ◌∷◌, ◌++◌, length, Option, Some, None, refl, sym, ap, subst, ◌∙◌, arith, inl, inr, ◌⊎◌}
+use Rattle.std.proofs.Common.{◌≡◌, ℕ, zero, suc, ◌≤◌, ◌<◌, Bool, true, false, cond, eqb, List, [], ◌∷◌, ◌++◌, length, Option, Some, None, refl, ap, subst, ◌∙◌, arith, inl, inr, ◌⊎◌}
 use Rattle.std.specs.Prelude.{◌||◌, IfSome}
-use Rattle.std.specs.List.{list_all}
 use Rattle.std.proofs.lemmas.Bool.{cond_both, eqb-true, or_left, or_right, or_from, ne_eqb, and_parts, both_ways}
 use Rattle.std.proofs.lemmas.List.{append-nil}
 use Rattle.mus_units.specs.declared.pitch.Alter.{Alter}
@@ -9,8 +8,8 @@ use Rattle.mus_units.specs.declared.pitch.Alter.TheVariants.{Flat2, Flat, Natura
 use Rattle.mus_units.specs.declared.pitch.Letter.{Letter}
 use Rattle.mus_units.specs.declared.pitch.Letter.TheVariants.{C, D, E, F, G, A, B}
 use Rattle.abc_pieces.specs.Runs.{skip, span_all, begins, is_mark, is_digit}
-use Rattle.abc_pieces.proofs.RunLaws.{skip-takes, skip-yes, skip-lacks}
-use Rattle.abc_pieces.proofs.SpanLaws.{span_all-takes, span_all-pass, span_all-less, span_all-append, length-span_all}
+use Rattle.abc_pieces.proofs.RunLaws.{skip-takes}
+use Rattle.abc_pieces.proofs.SpanLaws.{span_all-takes, span_all-pass, span_all-less, span_all-append}
 use Rattle.abc_pieces.specs.Lengths.{LengthForm, whole, over, halved, length_then, length_at, IsLength, IsNumber}
 use Rattle.abc_pieces.proofs.Bounds.{digit_range}
 use Rattle.abc_pieces.specs.Notes.{NoteForm, sign_then, letter_byte, note_then, IsNote, sign_at, upper_at, lower_at, either_letter, letter_at, note_from, note_behind, note_at}
@@ -35,18 +34,18 @@ sign_at-takes s =
     let level : R = (Some Natural, plain.1) in
     let bare : R = (None, s) in
     cond_both {A = R} up.0 (cond up_two.0 two_up one_up) (cond down.0 (cond down_two.0 two_down one_down) (cond plain.0 level bare)) P
-      (λ u. let e : s ≡ 94 ∷ up.1 = skip-takes 94 s ∙ rw u refl in
-            cond_both {A = R} up_two.0 two_up one_up P
-              (λ t. e ∙ ap (λ x. 94 ∷ x) (skip-takes 94 up.1 ∙ rw t refl))
-              (λ t. e))
-      (λ u. cond_both {A = R} down.0 (cond down_two.0 two_down one_down) (cond plain.0 level bare) P
-              (λ d. let e : s ≡ 95 ∷ down.1 = skip-takes 95 s ∙ rw d refl in
-                    cond_both {A = R} down_two.0 two_down one_down P
-                      (λ t. e ∙ ap (λ x. 95 ∷ x) (skip-takes 95 down.1 ∙ rw t refl))
-                      (λ t. e))
-              (λ d. cond_both {A = R} plain.0 level bare P
-                      (λ n. skip-takes 61 s ∙ rw n refl)
-                      (λ n. refl)))
+    (λ u. let e : s ≡ 94 ∷ up.1 = skip-takes 94 s ∙ rw u refl in
+    cond_both {A = R} up_two.0 two_up one_up P
+    (λ t. e ∙ ap (λ x. 94 ∷ x) (skip-takes 94 up.1 ∙ rw t refl))
+    (λ t. e))
+    (λ u. cond_both {A = R} down.0 (cond down_two.0 two_down one_down) (cond plain.0 level bare) P
+    (λ d. let e : s ≡ 95 ∷ down.1 = skip-takes 95 s ∙ rw d refl in
+    cond_both {A = R} down_two.0 two_down one_down P
+    (λ t. e ∙ ap (λ x. 95 ∷ x) (skip-takes 95 down.1 ∙ rw t refl))
+    (λ t. e))
+    (λ d. cond_both {A = R} plain.0 level bare P
+    (λ n. skip-takes 61 s ∙ rw n refl)
+    (λ n. refl)))
 
 -- a byte that is no sign
 pub record NoSign (b : ℕ) : Type 0 where
@@ -128,9 +127,10 @@ from-takes s sign b rest (Some l) e is =
     let marks = span_all is_mark rest in
     let len = length_at marks.1 in
     let p = length_at-takes marks.1 in
-    let behind : rest ≡ marks.0 ++ length_then len.0 len.1 = span_all-takes is_mark rest ∙ ap (λ t. marks.0 ++ t) p.0 in
-    (e ∙ ap (λ t. sign_then sign (t ∷ rest)) is ∙ ap (λ t. sign_then sign (letter_byte l.0 l.1 ∷ t)) behind,
-     record { marks = span_all-pass is_mark rest; length = p.1 })
+    let behind : rest ≡ marks.0 ++ length_then len.0 len.1 = span_all-takes is_mark rest ∙ ap (λ t. marks.0 ++ t) p.0 in (
+      e ∙ ap (λ t. sign_then sign (t ∷ rest)) is ∙ ap (λ t. sign_then sign (letter_byte l.0 l.1 ∷ t)) behind,
+      record { marks = span_all-pass is_mark rest; length = p.1 },
+    )
 
 behind-takes : (s : List ℕ) (sign : Option Alter) (rest : List ℕ) → s ≡ sign_then sign rest → TakesNote s (note_behind sign rest)
 behind-takes s sign [] e = tt
@@ -147,7 +147,6 @@ note_goes_on b = is_mark b || goes_on b
 -- a reading ended before x, where x begins so; or it is this one
 abbrev pub NoteStops : List ℕ → NoteForm → Option (NoteForm × List ℕ) → Type 0
 NoteStops x f read = (z : NoteForm × List ℕ) × (read ≡ Some z) × (((length z.1 < length x) × (begins note_goes_on x ≡ true)) ⊎ (z ≡ (f, x)))
-
 
 digit_no_mark : (d : ℕ) → is_digit d ≡ true → is_mark d ≡ false
 digit_no_mark d h =
@@ -204,17 +203,18 @@ marks-read : (f : NoteForm) (x : List ℕ) → IsNote f → Ends x f (finish f.s
 marks-read f x good =
     let y = length_then f.length x in
     rw (span_all-append is_mark f.marks y good.marks)
-      (elim (span_all-less is_mark y) [
-        | inl shorter ↦
-            elim (length_no_mark f.length x good.length) [
-              | inl other ↦ absurd (both_ways (begins is_mark y) other shorter.1)
-              | inr empty ↦ inl (
-                  let less : length (span_all is_mark y).1 < length x = subst (λ (t : List ℕ). length (span_all is_mark y).1 < length t) empty shorter.0 in
-                  (omega (arith, less, length-finish f.sign f.low f.letter (f.marks ++ (span_all is_mark y).0, (span_all is_mark y).1)),
-                   mark_first x (subst (λ (t : List ℕ). begins is_mark t ≡ true) empty shorter.1)))
-            ]
-        | inr same ↦ rw (same, append-nil) (exact f x good)
-      ])
+    (elim (span_all-less is_mark y) [
+      | inl shorter ↦
+          elim (length_no_mark f.length x good.length) [
+            | inl other ↦ absurd (both_ways (begins is_mark y) other shorter.1)
+            | inr empty ↦ inl (
+                let less : length (span_all is_mark y).1 < length x = subst (λ (t : List ℕ). length (span_all is_mark y).1 < length t) empty shorter.0 in (
+                  omega (arith, less, length-finish f.sign f.low f.letter (f.marks ++ (span_all is_mark y).0, (span_all is_mark y).1)),
+                  mark_first x (subst (λ (t : List ℕ). begins is_mark t ≡ true) empty shorter.1),
+                ))
+          ]
+      | inr same ↦ rw (same, append-nil) (exact f x good)
+    ])
 
 pub note_at-reaches : (f : NoteForm) (x : List ℕ) → IsNote f → NoteStops x f (note_at (note_then f x))
 note_at-reaches f x good =

@@ -1,6 +1,6 @@
 -- A reader that gives what stands at the front, and gives as much as any part that stands there,
 -- reads the one list of longest parts.
-use Rattle.std.proofs.Common.{◌≡◌, ℕ, zero, suc, ◌+◌, ◌≤◌, ◌<◌, Bool, true, false, List, [], ◌∷◌, ◌++◌, length, Option, Some, None, refl, sym, ap, ◌∙◌, subst, arith, inl, inr, ◌⊎◌}
+use Rattle.std.proofs.Common.{◌≡◌, ℕ, zero, suc, ◌≤◌, ◌<◌, List, [], ◌∷◌, length, Option, Some, None, refl, sym, ap, ◌∙◌, subst, arith, inl, inr, ◌⊎◌}
 use Rattle.std.specs.Prelude.{IfSome}
 use Rattle.abc_pieces.specs.Parts.{IsLongest, HasNone, Parts, no_part, then_part, walk_on, walk_from, walk}
 
@@ -25,7 +25,7 @@ module _ {I : Type 0} {Stands : I → List ℕ → List ℕ → Type 0} {at : Li
     longest = λ other behind stands.
         let o = r.reaches other s behind stands in
         let same : z ≡ o.0 = some_is z o.0 (sym e ∙ o.1) in
-        elim o.2 [ | inl shorter ↦ rw same (omega (arith, shorter)) | inr equal ↦ rw (same, equal) (omega arith) ];
+        elim o.2 [ inl shorter ↦ rw same (omega (arith, shorter)) | inr equal ↦ rw (same, equal) (omega arith) ];
   }
 
   pub none_of : (s : List ℕ) → at s ≡ None → HasNone I Stands s

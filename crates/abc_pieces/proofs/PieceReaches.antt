@@ -1,26 +1,26 @@
 -- A piece that is read is as long as each that stands there.
-use Rattle.std.proofs.Common.{◌≡◌, ℕ, zero, suc, ◌+◌, ◌-◌, ◌≤◌, ◌<◌, Bool, true, false, cond, eqb, List, [], ◌∷◌, ◌++◌, length, Option, Some, None, refl, sym, ap, ◌∙◌, subst, arith, inl, inr, ◌⊎◌}
+use Rattle.std.proofs.Common.{◌≡◌, ℕ, zero, suc, ◌+◌, ◌-◌, ◌≤◌, ◌<◌, Bool, true, false, cond, eqb, List, [], ◌∷◌, ◌++◌, length, Option, Some, None, refl, ap, ◌∙◌, subst, arith, inl, inr, ◌⊎◌}
 use Rattle.std.specs.Prelude.{◌||◌, ◌&&◌, not, option_map, IfSome}
 use Rattle.std.specs.List.{list_all}
-use Rattle.std.proofs.lemmas.Bool.{cond_both, or_left, or_right, or_cases, and_parts, eqb-true, ne_eqb, both_ways, eq-eqb, not-false}
+use Rattle.std.proofs.lemmas.Bool.{cond_both, or_cases, and_parts, eqb-true, ne_eqb, both_ways, eq-eqb}
 use Rattle.std.proofs.lemmas.List.{append-nil, length-append}
 use Rattle.mus_units.specs.declared.pitch.Alter.{Alter}
 use Rattle.mus_units.specs.declared.pitch.Alter.TheVariants.{Flat2, Flat, Natural, Sharp, Sharp2}
 use Rattle.mus_units.specs.declared.pitch.Letter.{Letter}
 use Rattle.mus_units.specs.declared.pitch.Letter.TheVariants.{C, D, E, F, G, A, B}
-use Rattle.abc_pieces.specs.Runs.{copies, maybe, span, span_all, is_digit, is_blank, is_letter, begins}
+use Rattle.abc_pieces.specs.Runs.{copies, maybe, span, span_all, is_digit, is_blank, is_letter}
 use Rattle.abc_pieces.proofs.SpanLaws.{span-append, span-less, span_all-append, span_all-less, span_all-stops, span_all-takes}
 use Rattle.abc_pieces.specs.Bars.{BarForm, signs, colons, form_at, spelled as bar_then, IsGood as IsBar}
 use Rattle.abc_pieces.proofs.BarLaws.{TakesIf as TakesBarIf, form_at-takes, form_at-reaches}
 use Rattle.abc_pieces.specs.Lengths.{LengthForm, length_then, length_at, IsLength, IsCount, number_at}
-use Rattle.abc_pieces.specs.Notes.{NoteForm, note_then, sign_then, letter_byte, note_at, IsNote}
+use Rattle.abc_pieces.specs.Notes.{NoteForm, note_then, sign_then, letter_byte, IsNote}
 use Rattle.abc_pieces.specs.Decorations.{is_deco_letter}
 use Rattle.abc_pieces.specs.Items.{IsName, name_at, is_letter_inside}
-use Rattle.abc_pieces.specs.Chords.{ChordForm, chord_then, chord_at, is_inside, IsChord}
-use Rattle.abc_pieces.specs.Graces.{GraceForm, grace_then, grace_at, IsGrace}
+use Rattle.abc_pieces.specs.Chords.{ChordForm, chord_then, is_inside, IsChord}
+use Rattle.abc_pieces.specs.Graces.{GraceForm, grace_then, IsGrace}
 use Rattle.abc_pieces.specs.Tuplets.{TupletForm, tuplet_then, tuplet_at, IsTuplet}
 use Rattle.abc_pieces.proofs.LengthLaws.{length_at-reaches, count-reads}
-use Rattle.abc_pieces.proofs.NoteLaws.{NoteStops, note_at-reaches}
+use Rattle.abc_pieces.proofs.NoteLaws.{note_at-reaches}
 use Rattle.abc_pieces.proofs.ItemLaws.{name_at-takes, name_at-reads}
 use Rattle.abc_pieces.proofs.InnerLaws.{length-copies_then, length-maybe, length-length_then, note-longer}
 use Rattle.abc_pieces.proofs.ChordLaws.{chord_at-reaches, chord-longer}
@@ -29,10 +29,9 @@ use Rattle.abc_pieces.proofs.TupletLaws.{TakesTuplet, tuplet_at-takes, tuplet_at
 use Rattle.abc_pieces.specs.declared.token.Before.{Before}
 use Rattle.abc_pieces.specs.declared.token.Class.{Class}
 use Rattle.abc_pieces.specs.declared.token.Class.TheVariants as class
-use Rattle.abc_pieces.specs.declared.token.Opening.{Opening}
 use Rattle.abc_pieces.specs.declared.token.Opening.TheVariants as opens
-use Rattle.abc_pieces.specs.Forms.{Form, note_form, rest_form, gap_form, measures_form, chord_form, grace_form, tuplet_form, slur_form, close_form, tie_form, broken_form, bar_form, ending_form, letter_form, named_form, says_form, inline_form, cut_form, space_form, passed_form, lone_form, plus_form, spelled, IsGood, IsAllowed, is_ending, is_text, is_plus_byte, is_passed, arrow, rest_byte, measures_byte, is_bar, is_broken, opening, is_cut}
-use Rattle.abc_pieces.specs.Reading.{Read, read, class_of, note_read, rest_read, gap_read, measures_read, bar_read, chord_read, grace_read, tuplet_read, or_else, ending_read, broken_read, closed, says_read, plus_closed, plus_read, inline_read, space_read, named_or_lone, bang_read, dot_behind, dot_read, opened, by_class, piece_at}
+use Rattle.abc_pieces.specs.Forms.{Form, note_form, rest_form, gap_form, measures_form, chord_form, grace_form, tuplet_form, slur_form, close_form, tie_form, broken_form, bar_form, ending_form, letter_form, named_form, says_form, inline_form, cut_form, space_form, passed_form, lone_form, plus_form, spelled, IsGood, IsAllowed, is_ending, is_text, is_plus_byte, is_passed, arrow, rest_byte, measures_byte, is_broken, opening, is_cut}
+use Rattle.abc_pieces.specs.Reading.{Read, read, class_of, note_read, rest_read, gap_read, measures_read, bar_read, chord_read, grace_read, tuplet_read, or_else, ending_read, broken_read, says_read, plus_closed, plus_read, inline_read, space_read, named_or_lone, bang_read, dot_behind, dot_read, opened, by_class, piece_at}
 use Rattle.abc_pieces.proofs.Classes.{digit_below, digit_class, blank_class, letter_class, passed_class, letter_apart}
 use Rattle.abc_pieces.proofs.PieceTakes.{opening-behind}
 
@@ -57,9 +56,10 @@ unfolding note_read
 note-reaches f x good =
     let r = note_at-reaches f x good in
     record {
-      form = note_form r.0.0; rest = r.0.1;
+      form = note_form r.0.0;
+      rest = r.0.1;
       is = ap (option_map (λ (z : NoteForm × List ℕ). pair (note_form z.0) z.1)) r.1;
-      ends = elim r.2 [ | inl shorter ↦ inl shorter.0 | inr equal ↦ inr (ap (λ z. read (note_form z.0) z.1) equal) ];
+      ends = elim r.2 [ inl shorter ↦ inl shorter.0 | inr equal ↦ inr (ap (λ z. read (note_form z.0) z.1) equal) ];
     }
 
 bar-reaches : (f : BarForm) (x : List ℕ) → IsBar f → Reaches x (bar_form f) (bar_read (bar_then f x))
@@ -67,9 +67,10 @@ unfolding bar_read
 bar-reaches f x good =
     let r = form_at-reaches f x good in
     record {
-      form = bar_form r.0.0; rest = r.0.1;
+      form = bar_form r.0.0;
+      rest = r.0.1;
       is = ap (option_map (λ (z : BarForm × List ℕ). pair (bar_form z.0) z.1)) r.1;
-      ends = elim r.2 [ | inl shorter ↦ inl shorter.0 | inr equal ↦ inr (ap (λ z. read (bar_form z.0) z.1) equal) ];
+      ends = elim r.2 [ inl shorter ↦ inl shorter.0 | inr equal ↦ inr (ap (λ z. read (bar_form z.0) z.1) equal) ];
     }
 
 either-reaches : (x : List ℕ) (f : Form) (r other : Read) → Reaches x f r → Reaches x f (or_else r other)
@@ -88,28 +89,29 @@ rest-reaches : (seen : Bool) (len : LengthForm) (x : List ℕ) → IsLength len 
 unfolding rest_read
 rest-reaches seen len x good =
     let z = length_at (length_then len x) in
-    record { form = rest_form seen z.0; rest = z.1; is = rw seen_is refl; ends = elim (length_at-reaches len x good) [ | inl shorter ↦ inl shorter.0 | inr equal ↦ inr (rw equal refl) ] }
+    record { form = rest_form seen z.0; rest = z.1; is = rw seen_is refl; ends = elim (length_at-reaches len x good) [ inl shorter ↦ inl shorter.0 | inr equal ↦ inr (rw equal refl) ] }
 
 gap-reaches : (len : LengthForm) (x : List ℕ) → IsLength len → Reaches x (gap_form len) (gap_read (length_then len x))
 unfolding gap_read
 gap-reaches len x good =
     let z = length_at (length_then len x) in
-    record { form = gap_form z.0; rest = z.1; is = refl; ends = elim (length_at-reaches len x good) [ | inl shorter ↦ inl shorter.0 | inr equal ↦ inr (rw equal refl) ] }
+    record { form = gap_form z.0; rest = z.1; is = refl; ends = elim (length_at-reaches len x good) [ inl shorter ↦ inl shorter.0 | inr equal ↦ inr (rw equal refl) ] }
 
 measures-reaches : (seen : Bool) (count x : List ℕ) → IsCount 3 count → Reaches x (measures_form seen count) (measures_read (measures_byte seen) (count ++ x))
 unfolding measures_read
 measures-reaches seen count x good =
     let z = number_at 3 (count ++ x) in
-    record { form = measures_form seen z.0; rest = z.1; is = rw whole_is refl; ends = elim (count-reads 3 count x good) [ | inl shorter ↦ inl shorter.0 | inr equal ↦ inr (rw equal refl) ] }
+    record { form = measures_form seen z.0; rest = z.1; is = rw whole_is refl; ends = elim (count-reads 3 count x good) [ inl shorter ↦ inl shorter.0 | inr equal ↦ inr (rw equal refl) ] }
 
 chord-reaches : (bang : Bool) (f : ChordForm) (x : List ℕ) → IsChord bang f → Reaches x (chord_form f) (chord_read bang (chord_then f x))
 unfolding chord_read
 chord-reaches bang f x good =
     let r = chord_at-reaches bang f x good in
     record {
-      form = chord_form r.0.0; rest = r.0.1;
+      form = chord_form r.0.0;
+      rest = r.0.1;
       is = ap (option_map (λ (z : ChordForm × List ℕ). pair (chord_form z.0) z.1)) r.1;
-      ends = elim r.2 [ | inl shorter ↦ inl shorter | inr equal ↦ inr (ap (λ z. read (chord_form z.0) z.1) equal) ];
+      ends = elim r.2 [ inl shorter ↦ inl shorter | inr equal ↦ inr (ap (λ z. read (chord_form z.0) z.1) equal) ];
     }
 
 grace-reaches : (bang : Bool) (f : GraceForm) (x : List ℕ) → IsGrace bang f → Reaches x (grace_form f) (grace_read bang (grace_then f x))
@@ -121,9 +123,10 @@ unfolding tuplet_read
 tuplet-reaches f x good =
     let r = tuplet_at-reaches f x good in
     record {
-      form = tuplet_form r.0.0; rest = r.0.1;
+      form = tuplet_form r.0.0;
+      rest = r.0.1;
       is = ap (option_map (λ (z : TupletForm × List ℕ). pair (tuplet_form z.0) z.1)) r.1;
-      ends = elim r.2 [ | inl shorter ↦ inl shorter | inr equal ↦ inr (ap (λ z. read (tuplet_form z.0) z.1) equal) ];
+      ends = elim r.2 [ inl shorter ↦ inl shorter | inr equal ↦ inr (ap (λ z. read (tuplet_form z.0) z.1) equal) ];
     }
 
 slur_or : (x : List ℕ) (r : Option (TupletForm × List ℕ)) → TakesTuplet x r → Reaches x (slur_form false) (or_else (option_map (λ (z : TupletForm × List ℕ). pair (tuplet_form z.0) z.1) r) (read (slur_form false) x))
@@ -139,9 +142,10 @@ unfolding ending_read
 ending-reaches bracket d more x digit pass =
     let m = span_all is_ending x in
     record {
-      form = ending_form bracket d (more ++ m.0); rest = m.1;
+      form = ending_form bracket d (more ++ m.0);
+      rest = m.1;
       is = rw (digit, span_all-append is_ending more x pass) refl;
-      ends = elim (span_all-less is_ending x) [ | inl shorter ↦ inl shorter.0 | inr equal ↦ inr (rw (equal, append-nil) refl) ];
+      ends = elim (span_all-less is_ending x) [ inl shorter ↦ inl shorter.0 | inr equal ↦ inr (rw (equal, append-nil) refl) ];
     }
 
 space-reaches : (b : ℕ) (more x : List ℕ) → list_all is_blank more ≡ true → Reaches x (space_form b more) (space_read b (more ++ x))
@@ -149,9 +153,10 @@ unfolding space_read
 space-reaches b more x pass =
     let m = span_all is_blank x in
     record {
-      form = space_form b (more ++ m.0); rest = m.1;
+      form = space_form b (more ++ m.0);
+      rest = m.1;
       is = rw (span_all-append is_blank more x pass) refl;
-      ends = elim (span_all-less is_blank x) [ | inl shorter ↦ inl shorter.0 | inr equal ↦ inr (rw (equal, append-nil) refl) ];
+      ends = elim (span_all-less is_blank x) [ inl shorter ↦ inl shorter.0 | inr equal ↦ inr (rw (equal, append-nil) refl) ];
     }
 
 says-reaches : (text x : List ℕ) → list_all is_text text ≡ true → Reaches x (says_form text) (says_read (text ++ (34 ∷ x)))
@@ -232,7 +237,7 @@ broken-reaches before right k x allowed few =
       form = broken_form right (suc (length (own ++ m.0)));
       rest = m.1;
       is = rw (arrow_is right, allowed, spanned) refl;
-      ends = elim (span-less p n x) [ | inl shorter ↦ inl shorter.0 | inr equal ↦ inr (rw (equal, append-nil, length-copies b k) refl) ];
+      ends = elim (span-less p n x) [ inl shorter ↦ inl shorter.0 | inr equal ↦ inr (rw (equal, append-nil, length-copies b k) refl) ];
     }
 
 -- ---- by the first byte
@@ -380,8 +385,8 @@ behind_dot (b ∷ x) other t =
     cond_both (eqb b 40) (read (slur_form true) x) (cond (eqb b 45) (read (tie_form true) x) other) (Reaches (b ∷ x) (letter_form 46))
     (λ e. record { form = slur_form true; rest = x; is = refl; ends = inl (omega arith) })
     (λ e. cond_both (eqb b 45) (read (tie_form true) x) other (Reaches (b ∷ x) (letter_form 46))
-      (λ f. record { form = tie_form true; rest = x; is = refl; ends = inl (omega arith) })
-      (λ f. t))
+    (λ f. record { form = tie_form true; rest = x; is = refl; ends = inl (omega arith) })
+    (λ f. t))
 
 dot-reaches : (x : List ℕ) → Reaches x (letter_form 46) (dot_read x)
 unfolding dot_read

@@ -1,12 +1,12 @@
 -- The piece that is read is the longest, and equal bytes are one piece only.
-use Rattle.std.proofs.Common.{◌≡◌, ℕ, ◌<◌, Bool, List, [], ◌∷◌, length, Option, Some, None, refl, sym, ap, ◌∙◌, subst, arith, inl, inr, ◌⊎◌}
+use Rattle.std.proofs.Common.{◌≡◌, ℕ, Bool, List, [], Some, None, sym, ap, ◌∙◌, arith, inl, inr}
 use Rattle.std.specs.Prelude.{IfSome}
 use Rattle.abc_pieces.specs.declared.token.Before.{Before}
 use Rattle.abc_pieces.specs.Forms.{Form, spelled, IsGood, IsAllowed, StandsAt}
 use Rattle.abc_pieces.specs.Reading.{Read, read, piece_at}
 use Rattle.abc_pieces.proofs.PartLaws.{Reader}
-use Rattle.abc_pieces.proofs.PieceTakes.{Takes, Stands, piece_at-takes}
-use Rattle.abc_pieces.proofs.PieceReaches.{Reaches, piece_at-reaches, longer}
+use Rattle.abc_pieces.proofs.PieceTakes.{Takes, piece_at-takes}
+use Rattle.abc_pieces.proofs.PieceReaches.{piece_at-reaches, longer}
 
 abbrev with_rest : Form → List ℕ → Form × List ℕ
 with_rest f x = (f, x)
@@ -23,7 +23,7 @@ piece_reader bang before = record {
   takes = λ s. stands bang before s (piece_at bang before s) (piece_at-takes bang before s);
   reaches = λ f s x t.
       let o = piece_at-reaches bang before f x t.good t.allowed in
-      ((o.form, o.rest), ap (piece_at bang before) t.cut ∙ o.is, elim o.ends [ | inl shorter ↦ inl shorter | inr same ↦ inr (some_is o.form f o.rest x same) ]);
+      ((o.form, o.rest), ap (piece_at bang before) t.cut ∙ o.is, elim o.ends [ inl shorter ↦ inl shorter | inr same ↦ inr (some_is o.form f o.rest x same) ]);
   longer = λ f s x t. rw t.cut (longer bang f x t.good);
 }
 

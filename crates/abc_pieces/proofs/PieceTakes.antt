@@ -1,17 +1,16 @@
 -- A piece that is read stands at the front.
-use Rattle.std.proofs.Common.{◌≡◌, ℕ, zero, suc, ◌+◌, ◌≤◌, ◌<◌, Bool, true, false, cond, eqb, List, [], ◌∷◌, ◌++◌, length, Option, Some, None, refl, sym, ap, ◌∙◌, subst, arith, inl, inr, ◌⊎◌}
-use Rattle.std.specs.Prelude.{◌||◌, ◌&&◌, IfSome, not, option_map}
+use Rattle.std.proofs.Common.{◌≡◌, ℕ, suc, Bool, true, false, cond, eqb, List, [], ◌∷◌, ◌++◌, length, Option, Some, None, refl, sym, ap, ◌∙◌, arith}
+use Rattle.std.specs.Prelude.{◌&&◌, IfSome, option_map}
 use Rattle.std.specs.List.{list_all}
-use Rattle.std.proofs.lemmas.Bool.{cond_both, or_left, or_right, and_parts, eqb-true, not-false, eq-eqb, both_ways}
-use Rattle.abc_pieces.specs.Runs.{copies, maybe, span, span_all, is_digit, is_blank, is_letter, begins}
+use Rattle.std.proofs.lemmas.Bool.{cond_both, or_left, or_right, and_parts, eqb-true, not-false, eq-eqb}
+use Rattle.abc_pieces.specs.Runs.{copies, span, span_all, is_digit, is_blank, is_letter, begins}
 use Rattle.abc_pieces.proofs.SpanLaws.{span-takes, span-pass, span-length, span_all-takes, span_all-pass, span_all-after}
 use Rattle.abc_pieces.specs.Bars.{BarForm, form_at}
-use Rattle.abc_pieces.proofs.BarLaws.{Takes as TakesBar, TakesIf as TakesBarIf, form_at-takes}
-use Rattle.abc_pieces.specs.Lengths.{length_at, number_at}
+use Rattle.abc_pieces.proofs.BarLaws.{TakesIf as TakesBarIf, form_at-takes}
 use Rattle.abc_pieces.specs.Notes.{NoteForm, note_at}
 use Rattle.abc_pieces.specs.Decorations.{is_deco_letter}
-use Rattle.abc_pieces.specs.Items.{IsName, name_at, is_letter_inside}
-use Rattle.abc_pieces.specs.Chords.{ChordForm, chord_then, chord_at, is_inside}
+use Rattle.abc_pieces.specs.Items.{IsName, name_at}
+use Rattle.abc_pieces.specs.Chords.{ChordForm, chord_at, is_inside}
 use Rattle.abc_pieces.specs.Graces.{GraceForm, grace_at}
 use Rattle.abc_pieces.specs.Tuplets.{TupletForm, tuplet_at}
 use Rattle.abc_pieces.proofs.LengthLaws.{length_at-takes, number-takes, number-count}
@@ -25,7 +24,7 @@ use Rattle.abc_pieces.specs.declared.token.Class.{Class}
 use Rattle.abc_pieces.specs.declared.token.Class.TheVariants as class
 use Rattle.abc_pieces.specs.declared.token.Opening.{Opening}
 use Rattle.abc_pieces.specs.declared.token.Opening.TheVariants as opens
-use Rattle.abc_pieces.specs.Forms.{Form, note_form, rest_form, gap_form, measures_form, chord_form, grace_form, tuplet_form, slur_form, close_form, tie_form, broken_form, bar_form, ending_form, letter_form, named_form, says_form, inline_form, cut_form, space_form, passed_form, lone_form, plus_form, spelled, IsGood, IsAllowed, is_ending, is_text, is_plus_byte, is_passed, arrow, rest_byte, measures_byte, is_bar, is_broken, opening, is_cut}
+use Rattle.abc_pieces.specs.Forms.{Form, note_form, chord_form, grace_form, tuplet_form, slur_form, tie_form, broken_form, bar_form, ending_form, letter_form, says_form, inline_form, passed_form, plus_form, spelled, IsGood, IsAllowed, is_ending, is_text, is_plus_byte, is_passed, arrow, rest_byte, measures_byte, is_bar, is_broken, opening}
 use Rattle.abc_pieces.specs.Reading.{Read, read, class_of, note_read, rest_read, gap_read, measures_read, bar_read, chord_read, grace_read, tuplet_read, or_else, ending_read, broken_read, closed, says_read, plus_closed, plus_read, inline_read, space_read, named_or_lone, bang_read, dot_behind, dot_read, opened, by_class, piece_at}
 use Rattle.abc_pieces.proofs.Classes.{Fact, fact}
 
@@ -116,10 +115,10 @@ inline-takes bang before (l ∷ t) o =
     cond_both {A = Opening} (eqb l 124) opens.Bar (cond (is_digit l) opens.Ending (cond (is_letter l && begins (λ b. eqb b 58) t) opens.Inline opens.Chord)) (λ k. k ≡ opens.Inline → Takes bang before (91 ∷ l ∷ t) (inline_read (l ∷ t)))
     (λ e h. absurd cc)
     (λ e. cond_both {A = Opening} (is_digit l) opens.Ending (cond (is_letter l && begins (λ b. eqb b 58) t) opens.Inline opens.Chord) (λ k. k ≡ opens.Inline → Takes bang before (91 ∷ l ∷ t) (inline_read (l ∷ t)))
-      (λ f h. absurd cc)
-      (λ f. cond_both {A = Opening} (is_letter l && begins (λ b. eqb b 58) t) opens.Inline opens.Chord (λ k. k ≡ opens.Inline → Takes bang before (91 ∷ l ∷ t) (inline_read (l ∷ t)))
-        (λ g h. let p = and_parts (is_letter l) (begins (λ b. eqb b 58) t) g in inline_first bang before l t p.0 p.1)
-        (λ g h. absurd cc)))
+    (λ f h. absurd cc)
+    (λ f. cond_both {A = Opening} (is_letter l && begins (λ b. eqb b 58) t) opens.Inline opens.Chord (λ k. k ≡ opens.Inline → Takes bang before (91 ∷ l ∷ t) (inline_read (l ∷ t)))
+    (λ g h. let p = and_parts (is_letter l) (begins (λ b. eqb b 58) t) g in inline_first bang before l t p.0 p.1)
+    (λ g h. absurd cc)))
     o
 
 opened-takes : (o : Opening) (bang : Bool) (before : Before) (s : List ℕ) → opening s ≡ o → Takes bang before (91 ∷ s) (opened o bang s)
@@ -212,8 +211,8 @@ dot_behind-takes bang before (b ∷ s) other t =
     cond_both (eqb b 40) (read (slur_form true) s) (cond (eqb b 45) (read (tie_form true) s) other) (Takes bang before (46 ∷ b ∷ s))
     (λ e. record { good = tt; allowed = tt; cut = ap (λ x. 46 ∷ x ∷ s) (eqb-true b 40 e) })
     (λ e. cond_both (eqb b 45) (read (tie_form true) s) other (Takes bang before (46 ∷ b ∷ s))
-      (λ f. record { good = tt; allowed = tt; cut = ap (λ x. 46 ∷ x ∷ s) (eqb-true b 45 f) })
-      (λ f. t))
+    (λ f. record { good = tt; allowed = tt; cut = ap (λ x. 46 ∷ x ∷ s) (eqb-true b 45 f) })
+    (λ f. t))
 
 dot-takes : (bang : Bool) (before : Before) (s : List ℕ) → Takes bang before (46 ∷ s) (dot_read s)
 unfolding dot_read

@@ -1,5 +1,5 @@
 -- Reading a tuplet gives the longest.
-use Rattle.std.proofs.Common.{◌≡◌, ℕ, zero, suc, ◌+◌, ◌≤◌, ◌<◌, Bool, true, false, cond, List, [], ◌∷◌, ◌++◌, length, Option, Some, None, refl, sym, ap, ◌∙◌, subst, arith, inl, inr, ◌⊎◌}
+use Rattle.std.proofs.Common.{◌≡◌, ℕ, ◌≤◌, ◌<◌, true, List, [], ◌∷◌, ◌++◌, length, Option, Some, None, refl, ap, ◌∙◌, arith, inl, inr, ◌⊎◌}
 use Rattle.std.specs.Prelude.{IfSome}
 use Rattle.std.proofs.lemmas.Bool.{cond_both}
 use Rattle.std.proofs.lemmas.List.{length-append}
@@ -22,8 +22,10 @@ q-takes p s t digit cut =
     let r = number_at 2 colon.1 in
     let whole : s ≡ p ∷ 58 ∷ (q.0 ++ q.1) = cut ∙ ap (λ u. p ∷ 58 ∷ u) (number-takes 1 t) in
     cond_both {A = TupletForm × List ℕ} colon.0 (with_r p q.0 r.0, r.1) (with_q p q.0, q.1) (Good s)
-    (λ e. ((digit, number-count 1 t, number-count 2 colon.1),
-           whole ∙ ap (λ u. p ∷ 58 ∷ (q.0 ++ u)) (skip-takes 58 q.1 ∙ ap (λ b. maybe b 58 colon.1) e ∙ ap (λ u. 58 ∷ u) (number-takes 2 colon.1))))
+    (λ e. (
+      (digit, number-count 1 t, number-count 2 colon.1),
+      whole ∙ ap (λ u. p ∷ 58 ∷ (q.0 ++ u)) (skip-takes 58 q.1 ∙ ap (λ b. maybe b 58 colon.1) e ∙ ap (λ u. 58 ∷ u) (number-takes 2 colon.1)),
+    ))
     (λ e. ((digit, number-count 1 t), whole))
 
 p-takes : (p : ℕ) (t : List ℕ) → is_tuplet_digit p ≡ true → Good (p ∷ t) (behind_p p t)
@@ -86,7 +88,7 @@ r-reads p q r x good = rw (count-stops 1 q 58 (r ++ x) refl good, skip-yes 58 (r
 
 r-reaches : (p : ℕ) (q r x : List ℕ) → IsCount 1 q → IsCount 2 r → Ends x (with_r p q r) (behind_q p (number_at 1 (q ++ (58 ∷ (r ++ x)))))
 r-reaches p q r x good small =
-    rw (r-reads p q r x good) (elim (count-reads 2 r x small) [ | inl shorter ↦ inl shorter.0 | inr same ↦ inr (rw same refl) ])
+    rw (r-reads p q r x good) (elim (count-reads 2 r x small) [ inl shorter ↦ inl shorter.0 | inr same ↦ inr (rw same refl) ])
 
 at_digit : (p : ℕ) (t : List ℕ) → is_tuplet_digit p ≡ true → tuplet_at (p ∷ t) ≡ Some (behind_p p t)
 unfolding tuplet_at

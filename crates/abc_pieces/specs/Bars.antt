@@ -1,5 +1,5 @@
 -- What a bar is, and reading one.
-use Rattle.std.specs.Prelude.{◌≡◌, ℕ, zero, suc, ◌≤◌, List, length, Bool, true, false, ◌&&◌, ◌||◌, not, nat_lt, ◌==◌, if◌then◌else◌, Option, Some, None}
+use Rattle.std.specs.Prelude.{ℕ, ◌≤◌, List, Bool, true, false, ◌&&◌, ◌||◌, not, nat_lt, ◌==◌, if◌then◌else◌, Option, Some, None}
 use Rattle.mus_units.specs.declared.note.Bar.{Bar}
 use Rattle.abc_pieces.specs.Runs.{copies, maybe, run_off, skip}
 

@@ -1,6 +1,6 @@
 -- A chord: what stands between its brackets, which is read part by part, and the length behind
 -- them. It ends at the first closing bracket.
-use Rattle.std.specs.Prelude.{◌≡◌, ◌≤◌, ◌+◌, ℕ, suc, List, [], ◌∷◌, ◌++◌, length, map, Bool, true, false, not, ◌==◌, ◌||◌, ◌&&◌, if◌then◌else◌, Option, Some, None, option_map}
+use Rattle.std.specs.Prelude.{◌≡◌, ◌≤◌, ◌+◌, ℕ, suc, List, [], ◌∷◌, ◌++◌, length, map, Bool, true, false, not, ◌==◌, ◌||◌, ◌&&◌, if◌then◌else◌, Option, Some, None}
 use Rattle.std.specs.List.{list_all}
 use Rattle.mus_units.specs.declared.note.Head.{Head}
 use Rattle.mus_units.specs.declared.note.Deco.{Deco}
@@ -71,9 +71,9 @@ decos_of (part ∷ more) = deco_of part ++ decos_of more
 pub data ChordFault (bang : Bool) : List ℕ → Flaw → Type 0 where
   chord_unclosed : (text : List ℕ) → list_all is_inside text ≡ true → ChordFault bang text (record { kind = Unclosed; left = suc (length text) })
   chord_flawed : (text inside rest : List ℕ) (flaw : Flaw) → text ≡ inside ++ (93 ∷ rest) → list_all is_inside inside ≡ true → InnerFlawed bang None inside flaw →
-    ChordFault bang text (record { kind = flaw.kind; left = flaw.left + suc (length rest) })
+      ChordFault bang text (record { kind = flaw.kind; left = flaw.left + suc (length rest) })
   chord_headless : (text inside rest : List ℕ) (parts : List Inner) → text ≡ inside ++ (93 ∷ rest) → list_all is_inside inside ≡ true → InnerParts bang inside parts → has_head parts ≡ false →
-    ChordFault bang text (record { kind = BadByte; left = suc (length text) })
+      ChordFault bang text (record { kind = BadByte; left = suc (length text) })
 
 -- ---- reading, between these and the code
 

@@ -1,6 +1,6 @@
 -- Decorations: the letters that name one, and what each name says. Dynamic marks stand below the
 -- staff and fingers above it; a name that is not known draws nothing.
-use Rattle.std.specs.Prelude.{ℕ, List, [], ◌∷◌, Bool, true, false, ◌==◌, ◌||◌, ◌&&◌, not, if◌then◌else◌, nat_eq, codes, nat_le}
+use Rattle.std.specs.Prelude.{ℕ, List, [], ◌∷◌, Bool, false, ◌==◌, ◌||◌, not, if◌then◌else◌, nat_eq, codes}
 use lib.Pointwise.{pointwise}
 use Rattle.mus_units.specs.declared.note.Deco.{Deco}
 use Rattle.mus_units.specs.declared.note.Deco.TheVariants.{Ks, Kr, Kf, Ka, Km, Kc, Kp, Kg, Kt, Ku, Kd, Kn, Below, Above, Quiet}

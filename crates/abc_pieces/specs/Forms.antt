@@ -1,6 +1,6 @@
 -- The pieces of a music line: the bytes of each kind, what it says, and what it tells of the next.
 -- A piece is the spelling of a token, or one item that is passed over.
-use Rattle.std.specs.Prelude.{◌≡◌, ℕ, zero, suc, ◌≤◌, List, [], ◌∷◌, ◌++◌, length, map, Bool, true, false, not, ◌==◌, ◌&&◌, ◌||◌, nat_le, if◌then◌else◌, Option, Some, None}
+use Rattle.std.specs.Prelude.{◌≡◌, ℕ, ◌≤◌, List, [], ◌∷◌, ◌++◌, map, Bool, true, false, not, ◌==◌, ◌&&◌, ◌||◌, nat_le, if◌then◌else◌, Option, Some, None}
 use Rattle.std.specs.List.{list_all}
 use Rattle.abc_pieces.specs.Runs.{copies, maybe, one_of, begins, is_digit, is_blank, is_letter}
 use Rattle.abc_pieces.specs.Bars.{BarForm, spelled as bar_then, IsGood as IsBar, meant as bar_of}

@@ -1,8 +1,8 @@
 -- A grace group: a slash or none, and notes and chords up to the first closing brace.
-use Rattle.std.specs.Prelude.{◌≡◌, ◌≤◌, ◌+◌, ℕ, suc, List, [], ◌∷◌, ◌++◌, length, map, Bool, true, false, not, ◌==◌, ◌||◌, ◌&&◌, if◌then◌else◌, Option, Some, None, option_map, MatchBool}
+use Rattle.std.specs.Prelude.{◌≡◌, ◌≤◌, ◌+◌, ℕ, suc, List, [], ◌∷◌, ◌++◌, length, map, Bool, true, false, not, ◌==◌, if◌then◌else◌, Option, Some, None, option_map, MatchBool}
 use Rattle.std.specs.List.{list_all}
 use Rattle.mus_units.specs.declared.note.Head.{Head}
-use Rattle.abc_lines.specs.declared.fault.FaultKind.TheVariants.{BadByte, Unclosed}
+use Rattle.abc_lines.specs.declared.fault.FaultKind.TheVariants.{Unclosed}
 use Rattle.abc_pieces.specs.declared.token.Flaw.{Flaw}
 use Rattle.abc_pieces.specs.declared.token.GraceChord.{GraceChord}
 use Rattle.abc_pieces.specs.declared.token.GraceItem.{GraceItem}
@@ -91,7 +91,7 @@ GraceFlawed bang before text flaw = Flawed GracePart (StandsInGrace bang) part_h
 pub data GraceFault (bang : Bool) : List ℕ → Flaw → Type 0 where
   grace_unclosed : (text : List ℕ) → list_all is_in_grace text ≡ true → GraceFault bang text (record { kind = Unclosed; left = suc (length text) })
   grace_flawed : (text : List ℕ) (slash : Bool) (inside rest : List ℕ) (flaw : Flaw) → text ≡ maybe slash 47 (inside ++ (125 ∷ rest)) → (slash ≡ false → begins is_slash_byte inside ≡ false) →
-    list_all is_in_grace inside ≡ true → GraceFlawed bang None inside flaw → GraceFault bang text (record { kind = flaw.kind; left = flaw.left + suc (length rest) })
+      list_all is_in_grace inside ≡ true → GraceFlawed bang None inside flaw → GraceFault bang text (record { kind = flaw.kind; left = flaw.left + suc (length rest) })
 
 -- ---- reading, between these and the code
 

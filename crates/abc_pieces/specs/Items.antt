@@ -1,9 +1,8 @@
 -- What may stand within a chord or a grace: notes, decorations, ties, and what is passed over
 -- there, which is blanks, slurs and a lone exclamation mark.
-use Rattle.std.specs.Prelude.{◌≡◌, ◌≤◌, ℕ, List, [], ◌∷◌, ◌++◌, length, Bool, true, false, ◌==◌, ◌||◌, ◌&&◌, if◌then◌else◌, Option, Some, None, option_map}
+use Rattle.std.specs.Prelude.{◌≡◌, ◌≤◌, ℕ, List, [], ◌∷◌, ◌++◌, length, Bool, true, false, ◌==◌, ◌||◌, if◌then◌else◌, Option, Some, None, option_map}
 use Rattle.std.specs.List.{list_all}
 use Rattle.mus_units.specs.declared.note.Head.{Head}
-use Rattle.mus_units.specs.declared.note.Deco.{Deco}
 use Rattle.abc_lines.specs.declared.fault.FaultKind.TheVariants.{BadByte, BadLength}
 use Rattle.abc_pieces.specs.declared.token.Flaw.{Flaw}
 use Rattle.abc_pieces.specs.declared.token.Len.{Len}
@@ -11,10 +10,10 @@ use Rattle.abc_pieces.specs.declared.token.Item.{Item}
 use Rattle.abc_pieces.specs.declared.token.Item.TheVariants as item
 use Rattle.abc_pieces.specs.declared.token.ItemClass.{ItemClass}
 use Rattle.abc_pieces.specs.declared.token.ItemClass.TheVariants as class
-use Rattle.abc_pieces.specs.Runs.{maybe, one_of, begins, is_note_letter, span_all}
+use Rattle.abc_pieces.specs.Runs.{maybe, one_of, is_note_letter, span_all}
 use Rattle.abc_pieces.specs.Lengths.{len_of}
 use Rattle.abc_pieces.specs.Notes.{NoteForm, note_then, IsNote, head_of, note_at}
-use Rattle.abc_pieces.specs.Decorations.{is_deco_letter, is_name_byte, deco_of_letter}
+use Rattle.abc_pieces.specs.Decorations.{is_deco_letter, is_name_byte}
 use Rattle.abc_pieces.specs.Parts.{Parts, Flawed, goes_on_length}
 
 pub data Inner : Type 0 where

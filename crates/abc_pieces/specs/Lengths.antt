@@ -1,9 +1,9 @@
 -- Numbers and lengths: their bytes, what they mean, and reading them.
-use Rattle.std.specs.Prelude.{◌≡◌, ℕ, zero, suc, ◌≤◌, ◌^◌, ◌-◌, List, [], ◌∷◌, ◌++◌, length, Bool, true, false, ◌==◌, ◌||◌, if◌then◌else◌, Option, Some, None}
+use Rattle.std.specs.Prelude.{◌≡◌, ℕ, zero, suc, ◌≤◌, ◌^◌, List, [], ◌∷◌, ◌++◌, length, Bool, true, false, ◌==◌, if◌then◌else◌}
 use Rattle.std.specs.List.{list_all}
 use Rattle.std.specs.Str.Parse.{digits_value}
 use Rattle.abc_pieces.specs.declared.token.Len.{Len}
-use Rattle.abc_pieces.specs.Runs.{copies, run_off, span, begins, is_digit}
+use Rattle.abc_pieces.specs.Runs.{copies, span, begins, is_digit}
 
 -- the digits of a number: at least one, at most `most`, and no zero in front
 pub record IsNumber (most : ℕ) (ds : List ℕ) : Type 0 where

@@ -1,5 +1,5 @@
 -- A note, and reading one.
-use Rattle.std.specs.Prelude.{◌≡◌, ℕ, zero, suc, ℤ, pos, ◌+ℤ◌, ◌-ℤ◌, List, [], ◌∷◌, ◌++◌, Bool, true, false, ◌==◌, ◌||◌, if◌then◌else◌, Option, Some, None, option_map, option_and_then, count_by}
+use Rattle.std.specs.Prelude.{◌≡◌, ℕ, ℤ, pos, ◌+ℤ◌, ◌-ℤ◌, List, [], ◌∷◌, ◌++◌, Bool, true, false, ◌==◌, if◌then◌else◌, Option, Some, None, count_by}
 use Rattle.std.specs.List.{list_all}
 use Rattle.mus_units.specs.declared.pitch.Alter.{Alter}
 use Rattle.mus_units.specs.declared.pitch.Alter.TheVariants.{Flat2, Flat, Natural, Sharp, Sharp2}

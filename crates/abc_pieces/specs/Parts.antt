@@ -2,7 +2,7 @@
 -- is, and the first place where it has none. `Stands part text rest` says that the part stands at
 -- the front of the text, with the rest behind it.
 use Rattle.std.specs.Prelude.{◌≡◌, ◌≤◌, ℕ, zero, suc, List, [], ◌∷◌, length, Bool, true, false, ◌||◌, ◌==◌, Option, Some, None, MatchBool}
-use Rattle.abc_lines.specs.declared.fault.FaultKind.TheVariants.{BadByte, BadLength}
+use Rattle.abc_lines.specs.declared.fault.FaultKind.TheVariants.{BadLength}
 use Rattle.abc_pieces.specs.declared.token.Flaw.{Flaw}
 use Rattle.abc_pieces.specs.Runs.{is_digit}
 
@@ -37,7 +37,7 @@ length_at_place false left = None
 pub data Flawed (I : Type 0) (Stands : I → List ℕ → List ℕ → Type 0) (is_lengthy : I → Bool) (Own : List ℕ → Flaw → Type 0) : Option ℕ → List ℕ → Flaw → Type 0 where
   stuck_here : (before : Option ℕ) (byte : ℕ) (rest : List ℕ) (flaw : Flaw) → HasNone I Stands (byte ∷ rest) → IsFlaw Own before byte rest flaw → Flawed I Stands is_lengthy Own before (byte ∷ rest) flaw
   stuck_later : (before : Option ℕ) (text : List ℕ) (part : I) (rest : List ℕ) (flaw : Flaw) → IsLongest I Stands text part rest →
-    Flawed I Stands is_lengthy Own (length_at_place (is_lengthy part) (length text)) rest flaw → Flawed I Stands is_lengthy Own before text flaw
+      Flawed I Stands is_lengthy Own (length_at_place (is_lengthy part) (length text)) rest flaw → Flawed I Stands is_lengthy Own before text flaw
 
 -- ---- reading, between these and the code
 

@@ -1,11 +1,11 @@
 -- Reading the longest piece: between the pieces as they are defined and the code.
-use Rattle.std.specs.Prelude.{◌≤◌, ℕ, zero, suc, List, [], ◌∷◌, length, map, Bool, true, false, ◌==◌, ◌||◌, ◌&&◌, nat_le, if◌then◌else◌, Option, Some, None, option_map}
-use Rattle.abc_pieces.specs.Runs.{span, span_all, run_off, begins, is_digit, is_blank, one_of}
+use Rattle.std.specs.Prelude.{◌≤◌, ℕ, suc, List, [], ◌∷◌, length, Bool, true, false, ◌==◌, ◌||◌, if◌then◌else◌, Option, Some, None, option_map}
+use Rattle.abc_pieces.specs.Runs.{span, span_all, is_digit, is_blank}
 use Rattle.abc_pieces.specs.Bars.{form_at}
 use Rattle.abc_pieces.specs.Lengths.{length_at, number_at}
 use Rattle.abc_pieces.specs.Notes.{note_at}
 use Rattle.abc_pieces.specs.Decorations.{is_deco_letter, deco_of_letter, deco_of_name}
-use Rattle.abc_pieces.specs.Items.{is_note_byte, name_at, inner_at}
+use Rattle.abc_pieces.specs.Items.{is_note_byte, name_at}
 use Rattle.abc_pieces.specs.Chords.{chord_at, is_inside, heads_of, decos_of, senses}
 use Rattle.abc_pieces.specs.Graces.{grace_at, grace_part_at, body_of}
 use Rattle.abc_pieces.specs.Parts.{walk}

@@ -1,5 +1,5 @@
 -- A tuplet: its p, and q and r behind colons, each of which may be left empty.
-use Rattle.std.specs.Prelude.{◌≡◌, ◌-◌, ℕ, List, [], ◌∷◌, ◌++◌, Bool, true, false, ◌&&◌, nat_le, if◌then◌else◌, Option, Some, None}
+use Rattle.std.specs.Prelude.{◌≡◌, ◌-◌, ℕ, List, [], ◌∷◌, ◌++◌, Bool, true, ◌&&◌, nat_le, if◌then◌else◌, Option, Some, None}
 use Rattle.std.specs.Str.Parse.{digits_value}
 use Rattle.abc_pieces.specs.Runs.{skip}
 use Rattle.abc_pieces.specs.Lengths.{IsCount, number_at}

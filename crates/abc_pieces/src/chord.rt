@@ -114,7 +114,11 @@ pub fn read_heads(alloc: Global, bang: bool, inside: &[u8]) -> Result<Row<(Head,
 }
 
 /// The heads inside a chord, without ties, in the order of the text.
-pub(crate) fn read_plain_heads(alloc: Global, bang: bool, inside: &[u8]) -> Result<Row<Head>, Memory>
+pub(crate) fn read_plain_heads(
+    alloc: Global,
+    bang: bool,
+    inside: &[u8],
+) -> Result<Row<Head>, Memory>
     requires { length inside.now ≤ 2 ^ 30 }
     ensures { IfOk result (λ heads. heads ≡ heads_in (senses bang inside.now)) }
 {

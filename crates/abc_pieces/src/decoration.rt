@@ -98,7 +98,11 @@ fn is_dynamic(name: &[u8]) -> bool
 fn is_finger(name: &[u8]) -> bool
     ensures { result ≡ is_finger name.now }
 {
-    is_word(name, b"1") || is_word(name, b"2") || is_word(name, b"3") || is_word(name, b"4") || is_word(name, b"5")
+    is_word(name, b"1")
+        || is_word(name, b"2")
+        || is_word(name, b"3")
+        || is_word(name, b"4")
+        || is_word(name, b"5")
 }
 
 fn is_word(name: &[u8], word: &[u8]) -> bool

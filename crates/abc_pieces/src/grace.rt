@@ -122,12 +122,7 @@ pub(crate) fn grace_at(bang: bool, bytes: &[u8]) -> Option<Grace<'_>>
     grace_closed(bang, slash, inside, rest)
 }
 
-fn grace_closed<'a>(
-    bang: bool,
-    slash: bool,
-    inside: &'a [u8],
-    rest: &'a [u8],
-) -> Option<Grace<'a>>
+fn grace_closed<'a>(bang: bool, slash: bool, inside: &'a [u8], rest: &'a [u8]) -> Option<Grace<'a>>
     requires { length inside.now ≤ 2 ^ 30 }
     ensures read { option_map (λ x. grace_shown x.slash (body_inside bang x.inside.now) x.inside.now x.rest.now) result ≡ option_map (λ z. grace_shown z.0.slash (body_of z.0.parts) z.0.inside z.1) (grace_closed bang slash inside.now rest.now) }
     ensures same { IfSome result (λ x. x.inside.now ≡ inside.now) }

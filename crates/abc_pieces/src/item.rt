@@ -24,13 +24,7 @@ pub fn item_at(bang: bool, bytes: &[u8]) -> Option<(Item<'_>, &[u8])>
         ItemClass::Letter => Some((Item::Letter(*first), rest)),
         ItemClass::Tie => Some((Item::Tie, rest)),
         ItemClass::Passed => Some((Item::Passed, rest)),
-        ItemClass::Bang => {
-            if bang {
-                None
-            } else {
-                Some(named_or(rest))
-            }
-        }
+        ItemClass::Bang => { if bang { None } else { Some(named_or(rest)) } }
         ItemClass::Nothing => None,
     }
 }
@@ -75,7 +69,11 @@ fn closed_name<'a>(name: &'a [u8], rest: &'a [u8]) -> Option<(&'a [u8], &'a [u8]
 {
     name.split_first()?;
     let (mark, rest) = rest.split_first()?;
-    if *mark == b'!' { Some((name, rest)) } else { None }
+    if *mark == b'!' {
+        Some((name, rest))
+    } else {
+        None
+    }
 }
 
 fn name_len(bytes: &[u8]) -> usize

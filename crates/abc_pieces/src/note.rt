@@ -5,8 +5,8 @@ ghost use Rattle.abc_pieces.specs.Runs.{is_mark};
 ghost use Rattle.abc_pieces.specs.Lengths.{len_of};
 ghost use Rattle.abc_pieces.specs.Notes.{sign_at, letter_at, octave_of, note_at, head_of, note_read};
 
-use crate::length::length_at;
 use crate::bytes::{marks_off, skip};
+use crate::length::length_at;
 use crate::token::Len;
 use mus_units::{Alter, Head, Letter, Pitch};
 

@@ -19,21 +19,47 @@ pub struct GraceChord {
 /// V alone. In a `Tuplet` an absent q or r is 0.
 #[derive(Debug, Drop)]
 pub enum Token {
-    Note { head: Head, len: Len },
-    Rest { seen: bool, len: Len },
-    Measures { seen: bool, count: u16 },
-    Chord { heads: Row<(Head, Len)>, decos: Row<Deco>, len: Len },
-    Grace { slash: bool, body: Row<GraceChord> },
-    Tuplet { p: u8, q: u8, r: u8 },
+    Note {
+        head: Head,
+        len: Len,
+    },
+    Rest {
+        seen: bool,
+        len: Len,
+    },
+    Measures {
+        seen: bool,
+        count: u16,
+    },
+    Chord {
+        heads: Row<(Head, Len)>,
+        decos: Row<Deco>,
+        len: Len,
+    },
+    Grace {
+        slash: bool,
+        body: Row<GraceChord>,
+    },
+    Tuplet {
+        p: u8,
+        q: u8,
+        r: u8,
+    },
     SlurOn,
     SlurOff,
     Tie,
-    Broken { right: bool, dots: u8 },
+    Broken {
+        right: bool,
+        dots: u8,
+    },
     Bar(Bar),
     Ending(Text),
     Deco(Deco),
     Says(Text),
-    Inline { letter: u8, text: Text },
+    Inline {
+        letter: u8,
+        text: Text,
+    },
     Cut,
     Space,
 }

@@ -77,8 +77,8 @@ step bang line so_far new before at here s t next rest stage h place is =
           let all : List Placed = put (meant f.form) (column n (length s)) ts in
           let one = stage.tokens all (goes before s f.form rest ts all l (subst (λ b. Tokens bang n b rest ts) f.tells more) refl) in
           let joined : so_far ++ all ≡ new ++ ts =
-              ap (λ us. so_far ++ us) (ap (λ o. put o (column n (length s)) ts) (sym f.token) ∙ put_append t (column n (length s)) ts) ∙ sym (append_assoc so_far (put t (column n (length s)) []) ts)
-                ∙ ap (λ c. (so_far ++ put t c []) ++ ts) (sym place) ∙ ap (λ us. us ++ ts) (sym is) in
+          ap (λ us. so_far ++ us) (ap (λ o. put o (column n (length s)) ts) (sym f.token) ∙ put_append t (column n (length s)) ts) ∙ sym (append_assoc so_far (put t (column n (length s)) []) ts)
+          ∙ ap (λ c. (so_far ++ put t c []) ++ ts) (sym place) ∙ ap (λ us. us ++ ts) (sym is) in
           subst (λ us. TokensOf bang line us) joined one;
       flaw = λ flaw more. stage.flaw flaw (later before at s f.form rest flaw l (subst (λ b. Faulty bang b (length s) rest flaw) f.tells more));
       within = omega (arith, shorter, stage.within);

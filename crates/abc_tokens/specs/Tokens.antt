@@ -32,7 +32,7 @@ put (Some t) at ts = record { token = t; column = at } ∷ ts
 pub data Tokens (bang : Bool) (n : ℕ) : Before → List ℕ → List Placed → Type 0 where
   ends : (before : Before) → Tokens bang n before [] []
   goes : (before : Before) (s : List ℕ) (f : Form) (rest : List ℕ) (ts all : List Placed) → IsLongest Form (StandsAt bang before) s f rest → Tokens bang n (after f) rest ts →
-    all ≡ put (meant f) (column n (length s)) ts → Tokens bang n before s all
+      all ≡ put (meant f) (column n (length s)) ts → Tokens bang n before s all
 
 -- a byte that goes on the piece before it, and so makes that piece a fault
 abbrev pub kind_if : Bool → FaultKind → Option FaultKind
@@ -62,9 +62,9 @@ IsBracketFlaw opens.Chord bang byte s flaw = ChordFault bang s flaw
 abbrev pub IsOwnFlaw : Bool → ℕ → List ℕ → Flaw → Type 0
 IsOwnFlaw bang byte s flaw =
     MatchBool (byte == 34) (IsHere Unclosed (byte ∷ s) flaw)
-      (MatchBool (byte == 91) (IsBracketFlaw (opening s) bang byte s flaw)
-      (MatchBool (byte == 123) (GraceFault bang s flaw)
-      (IsHere BadByte (byte ∷ s) flaw)))
+    (MatchBool (byte == 91) (IsBracketFlaw (opening s) bang byte s flaw)
+    (MatchBool (byte == 123) (GraceFault bang s flaw)
+    (IsHere BadByte (byte ∷ s) flaw)))
 
 abbrev pub IsLineFlaw : Bool → Before → ℕ → ℕ → List ℕ → Flaw → Type 0
 IsLineFlaw bang before at byte s flaw = MatchOption (kind_behind before byte) (IsOwnFlaw bang byte s flaw) (λ kind. flaw ≡ record { kind = kind; left = at })

@@ -9,3 +9,6 @@ pub use abc_pieces::{GraceChord, Len, Token};
 pub use mus_units::{Bar, Deco, Head};
 pub use reader::read_music;
 pub use token::Placed;
+
+#[cfg(test)]
+mod tests;

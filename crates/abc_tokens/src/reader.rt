@@ -89,7 +89,10 @@ fn kind_behind(before: Before, byte: u8) -> Option<FaultKind>
     match before {
         Before::Bar => None,
         Before::Broken { right } => {
-            kind_if(byte == if right { b'>' } else { b'<' }, FaultKind::BadLength)
+            kind_if(
+                byte == if right { b'>' } else { b'<' },
+                FaultKind::BadLength,
+            )
         }
         Before::Lengthy => kind_if(byte.is_ascii_digit() || byte == b'/', FaultKind::BadLength),
         Before::Paren => kind_if(byte.is_ascii_digit(), FaultKind::BadTuplet),

@@ -1,4 +1,4 @@
-use Rattle.std.proofs.Common.{rules, arith, ◌∙◌, None}
+use Rattle.std.proofs.Common.{arith, ◌∙◌, None}
 use Rattle.abc_pieces.specs.Items.{sense_of}
 use Rattle.abc_pieces.specs.Chords.{heads_after, senses}
 use Rattle.abc_pieces.proofs.InnerLaws.{heads-next, heads-end, heads-are, found_inner, none_inner, inner_less}
@@ -19,4 +19,4 @@ parts-preserved c =
 pub returns : goal.returns
 returns c =
     heads-end c.args.bang c.parts.heads c.add_last.new.heads (heads_after None (senses c.args.bang c.args.inside.now)) c.parts.last c.parts.rest.now (none_inner c.args.bang c.parts.rest.now c.in_default.ensures) c.in_ok-add_last.ensures c.parts.invariant.heads
-      ∙ heads-are (senses c.args.bang c.args.inside.now)
+    ∙ heads-are (senses c.args.bang c.args.inside.now)

@@ -1,4 +1,4 @@
-use Rattle.std.proofs.Common.{rules, arith}
+use Rattle.std.proofs.Common.{arith}
 use Rattle.abc_pieces.specs.Items.{sense_of}
 use Rattle.abc_pieces.specs.Chords.{senses}
 use Rattle.abc_pieces.specs.Graces.{heads_in}

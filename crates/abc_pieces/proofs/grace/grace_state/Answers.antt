@@ -17,7 +17,7 @@ parts-smaller c =
 pub parts-preserved : goal.parts-preserved
 parts-preserved c =
     group-next c.args.bang c.args.inside.now (body_of_item c.args.bang c.in-Some.part) c.has_length.result c.parts.before c.place_if-before.result c.parts.rest.now c.in-Some.behind.now c.parts.invariant
-      (found_part c.args.bang c.parts.rest.now (body_of_item c.args.bang c.in-Some.part) c.has_length.result c.in-Some.behind.now (rw c.has_length.ensures c.in-Some.ensures.read)) c.place_if-before.ensures
+    (found_part c.args.bang c.parts.rest.now (body_of_item c.args.bang c.in-Some.part) c.has_length.result c.in-Some.behind.now (rw c.has_length.ensures c.in-Some.ensures.read)) c.place_if-before.ensures
 
 pub returns : goal.returns
 returns c = group-ends c.args.bang c.args.inside.now c.parts.before c.parts.rest.now c.parts.invariant (search rules)

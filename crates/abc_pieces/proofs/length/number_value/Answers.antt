@@ -1,8 +1,7 @@
-use Rattle.std.proofs.Common.{ℕ, ◌≡◌, ◌<◌, ◌≤◌, ◌-◌, ◌+◌, ◌*◌, ◌∙◌, ap, sym, arith, refl, add-one, get_or, take}
+use Rattle.std.proofs.Common.{ℕ, ◌≡◌, ◌<◌, ◌≤◌, ◌-◌, ◌+◌, ◌*◌, arith, refl, add-one, get_or, take}
 use Rattle.std.specs.Str.Parse.{digits_value}
 use Rattle.std.specs.Char.{digit_value}
 use Rattle.std.proofs.lemmas.Int.Digits.{digits_value_more}
-use Rattle.abc_pieces.specs.Lengths.{limit_at}
 use Rattle.abc_pieces.proofs.Bounds.{limit_step, digit_range, digit_at, digit_value-is}
 use Rattle.abc_pieces.proofs.length.number_value.Goals as goal
 

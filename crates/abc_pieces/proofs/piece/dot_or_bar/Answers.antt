@@ -1,4 +1,4 @@
-use Rattle.std.proofs.Common.{rules, refl}
+use Rattle.std.proofs.Common.{refl}
 use Rattle.abc_pieces.specs.Reading.{bar_read, token_of}
 use Rattle.abc_pieces.proofs.PieceText.{letter_or_bar}
 use Rattle.abc_pieces.proofs.piece.dot_or_bar.Goals as goal

@@ -1,4 +1,4 @@
-use Rattle.std.proofs.Common.{sym, ◌∙◌, rules, refl}
+use Rattle.std.proofs.Common.{rules}
 use Rattle.abc_pieces.proofs.PieceText.{ending_is}
 use Rattle.abc_pieces.proofs.piece.ending.Goals as goal
 

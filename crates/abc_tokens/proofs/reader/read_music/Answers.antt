@@ -15,7 +15,7 @@ fault_at-requires-clause-within c =
 pub returns-in_default-piece_at-clause-fault : goal.returns-in_default-piece_at-clause-fault
 returns-in_default-piece_at-clause-fault c =
     error_at c.args.bang c.args.line.now c.as_slice-text.result.now c.pieces.out c.pieces.before c.pieces.at c.in-Some.first.now c.pieces.rest.now c.in-Some.behind.now c.line_flaw-flaw.result c.fault_at.result
-      c.as_slice-text.ensures c.pieces.invariant.stage (search rules) c.in_default-piece_at.ensures.read c.line_flaw-flaw.ensures.flaw c.fault_at.ensures
+    c.as_slice-text.ensures c.pieces.invariant.stage (search rules) c.in_default-piece_at.ensures.read c.line_flaw-flaw.ensures.flaw c.fault_at.ensures
 
 pub pieces-smaller : goal.pieces-smaller
 pieces-smaller c = consumes c.args.bang c.pieces.before c.pieces.rest.now (token_of c.args.bang c.in-Some-piece_at.piece.found) c.in-Some-piece_at.piece.after c.in-Some-piece_at.piece.rest.now c.in-Some-piece_at.ensures.read
