@@ -1,0 +1,160 @@
+-- What the class of a byte tells of it, and the class of each first byte.
+use Rattle.std.proofs.Common.{◌≡◌, ℕ, ◌≤◌, ◌<◌, Bool, true, false, cond, eqb, leb, [], ◌∷◌, refl, subst, arith, inl, inr}
+use Rattle.std.specs.Prelude.{◌||◌, ◌&&◌, not}
+use Rattle.std.proofs.lemmas.Bool.{cond_both, eqb-true, leb-true, or_cases, and_parts, both_ways}
+use Rattle.abc_pieces.specs.Runs.{is_digit, is_blank, is_letter}
+use Rattle.abc_pieces.specs.declared.token.Class.{Class}
+use Rattle.abc_pieces.specs.declared.token.Class.TheVariants as class
+use Rattle.abc_pieces.specs.Decorations.{is_deco_letter}
+use Rattle.abc_pieces.specs.Items.{is_note_byte}
+use Rattle.abc_pieces.specs.Forms.{is_passed, is_passed_sign, is_passed_letter, arrow, rest_byte, measures_byte}
+use Rattle.abc_pieces.specs.Reading.{class_of}
+use Rattle.abc_pieces.proofs.ItemLaws.{implied, below_all}
+
+abbrev pub Fact : Class → ℕ → Type 0
+Fact class.Note b = Unit {0}
+Fact class.Rest b = b ≡ rest_byte (eqb b 122)
+Fact class.Gap b = b ≡ 121
+Fact class.Measures b = b ≡ measures_byte (eqb b 90)
+Fact class.Bar b = Unit {0}
+Fact class.Dot b = b ≡ 46
+Fact class.Bracket b = b ≡ 91
+Fact class.Brace b = b ≡ 123
+Fact class.Paren b = b ≡ 40
+Fact class.Close b = b ≡ 41
+Fact class.Tie b = b ≡ 45
+Fact class.Digit b = is_digit b ≡ true
+Fact class.Broken b = b ≡ arrow (eqb b 62)
+Fact class.Quote b = b ≡ 34
+Fact class.Bang b = b ≡ 33
+Fact class.Plus b = b ≡ 43
+Fact class.Blank b = is_blank b ≡ true
+Fact class.Letter b = is_deco_letter b ≡ true
+Fact class.Dollar b = b ≡ 36
+Fact class.Passed b = is_passed b ≡ true
+Fact class.Nothing b = Unit {0}
+
+two : (b c d : ℕ) → (eqb b c || eqb b d) ≡ true → b ≡ cond (eqb b c) c d
+two b c d h = cond_both (eqb b c) c d (λ n. b ≡ n)
+    (λ e. eqb-true b c e)
+    (λ e. elim (or_cases _ _ h) [ inl same ↦ absurd (both_ways _ e same) | inr other ↦ eqb-true b d other ])
+
+pub fact : (b : ℕ) → Fact (class_of b) b
+unfolding class_of
+fact b =
+    let P : Class → Type 0 = λ c. Fact c b in
+    let c19 : Class = cond (is_passed b) class.Passed class.Nothing in
+    let c18 : Class = cond (eqb b 36) class.Dollar c19 in
+    let c17 : Class = cond (is_deco_letter b) class.Letter c18 in
+    let c16 : Class = cond (is_blank b) class.Blank c17 in
+    let c15 : Class = cond (eqb b 43) class.Plus c16 in
+    let c14 : Class = cond (eqb b 33) class.Bang c15 in
+    let c13 : Class = cond (eqb b 34) class.Quote c14 in
+    let c12 : Class = cond (eqb b 62 || eqb b 60) class.Broken c13 in
+    let c11 : Class = cond (is_digit b) class.Digit c12 in
+    let c10 : Class = cond (eqb b 45) class.Tie c11 in
+    let c9 : Class = cond (eqb b 41) class.Close c10 in
+    let c8 : Class = cond (eqb b 40) class.Paren c9 in
+    let c7 : Class = cond (eqb b 123) class.Brace c8 in
+    let c6 : Class = cond (eqb b 91) class.Bracket c7 in
+    let c5 : Class = cond (eqb b 46) class.Dot c6 in
+    let c4 : Class = cond (eqb b 58 || eqb b 124) class.Bar c5 in
+    let c3 : Class = cond (eqb b 90 || eqb b 88) class.Measures c4 in
+    let c2 : Class = cond (eqb b 121) class.Gap c3 in
+    let c1 : Class = cond (eqb b 122 || eqb b 120) class.Rest c2 in
+    cond_both (is_note_byte b) class.Note c1 P (λ e. tt) (λ e.
+    cond_both (eqb b 122 || eqb b 120) class.Rest c2 P (two b 122 120) (λ e.
+    cond_both (eqb b 121) class.Gap c3 P (eqb-true b 121) (λ e.
+    cond_both (eqb b 90 || eqb b 88) class.Measures c4 P (two b 90 88) (λ e.
+    cond_both (eqb b 58 || eqb b 124) class.Bar c5 P (λ e. tt) (λ e.
+    cond_both (eqb b 46) class.Dot c6 P (eqb-true b 46) (λ e.
+    cond_both (eqb b 91) class.Bracket c7 P (eqb-true b 91) (λ e.
+    cond_both (eqb b 123) class.Brace c8 P (eqb-true b 123) (λ e.
+    cond_both (eqb b 40) class.Paren c9 P (eqb-true b 40) (λ e.
+    cond_both (eqb b 41) class.Close c10 P (eqb-true b 41) (λ e.
+    cond_both (eqb b 45) class.Tie c11 P (eqb-true b 45) (λ e.
+    cond_both (is_digit b) class.Digit c12 P (λ e. e) (λ e.
+    cond_both (eqb b 62 || eqb b 60) class.Broken c13 P (two b 62 60) (λ e.
+    cond_both (eqb b 34) class.Quote c14 P (eqb-true b 34) (λ e.
+    cond_both (eqb b 33) class.Bang c15 P (eqb-true b 33) (λ e.
+    cond_both (eqb b 43) class.Plus c16 P (eqb-true b 43) (λ e.
+    cond_both (is_blank b) class.Blank c17 P (λ e. e) (λ e.
+    cond_both (is_deco_letter b) class.Letter c18 P (λ e. e) (λ e.
+    cond_both (eqb b 36) class.Dollar c19 P (eqb-true b 36) (λ e.
+    cond_both (is_passed b) class.Passed class.Nothing P (λ e. e) (λ e. tt))))))))))))))))))))
+
+pub fact_of : (b : ℕ) (c : Class) → class_of b ≡ c → Fact c b
+fact_of b c e = subst (λ k. Fact k b) e (fact b)
+
+abbrev is_Digit : Class → Bool
+is_Digit class.Digit = true
+is_Digit _ = false
+
+abbrev is_Blank : Class → Bool
+is_Blank class.Blank = true
+is_Blank _ = false
+
+abbrev is_Letter : Class → Bool
+is_Letter class.Letter = true
+is_Letter _ = false
+
+abbrev is_Passed : Class → Bool
+is_Passed class.Passed = true
+is_Passed _ = false
+
+Digit-is : (c : Class) → is_Digit c ≡ true → c ≡ class.Digit
+Digit-is class.Digit h = refl
+Digit-is _ h = absurd cc
+
+Blank-is : (c : Class) → is_Blank c ≡ true → c ≡ class.Blank
+Blank-is class.Blank h = refl
+Blank-is _ h = absurd cc
+
+Letter-is : (c : Class) → is_Letter c ≡ true → c ≡ class.Letter
+Letter-is class.Letter h = refl
+Letter-is _ h = absurd cc
+
+Passed-is : (c : Class) → is_Passed c ≡ true → c ≡ class.Passed
+Passed-is class.Passed h = refl
+Passed-is _ h = absurd cc
+
+pub digit_below : (b : ℕ) → is_digit b ≡ true → b < 58
+digit_below b h = let p = and_parts _ _ h in let high = leb-true b 57 p.1 in omega arith
+
+pub digit_class : (b : ℕ) → is_digit b ≡ true → class_of b ≡ class.Digit
+unfolding class_of
+digit_class b h = Digit-is (class_of b) (implied is_digit (λ x. is_Digit (class_of x)) 58 b refl (digit_below b h) h)
+
+blank_below : (b : ℕ) → is_blank b ≡ true → b < 58
+blank_below b h = elim (or_cases _ _ h) [ inl space ↦ (let e = eqb-true b 32 space in omega arith) | inr tab ↦ (let e = eqb-true b 9 tab in omega arith) ]
+
+pub blank_class : (b : ℕ) → is_blank b ≡ true → class_of b ≡ class.Blank
+unfolding class_of
+blank_class b h = Blank-is (class_of b) (implied is_blank (λ x. is_Blank (class_of x)) 58 b refl (blank_below b h) h)
+
+pub letter_class : (b : ℕ) → is_deco_letter b ≡ true → class_of b ≡ class.Letter
+unfolding class_of
+letter_class b h = Letter-is (class_of b) (implied is_deco_letter (λ x. is_Letter (class_of x)) 127 b refl (below_all (126 ∷ 72 ∷ 76 ∷ 77 ∷ 79 ∷ 80 ∷ 83 ∷ 84 ∷ 117 ∷ 118 ∷ []) 127 b refl h) h)
+
+passed_below : (b : ℕ) → is_passed b ≡ true → b < 127
+passed_below b h =
+    elim (or_cases (is_passed_sign b || is_passed_letter b) (leb 104 b && leb b 116) h) [
+      | inl listed ↦ elim (or_cases (is_passed_sign b) (is_passed_letter b) listed) [
+        | inl sign ↦ below_all (96 ∷ 42 ∷ 59 ∷ 63 ∷ 64 ∷ 35 ∷ 92 ∷ []) 127 b refl sign
+        | inr letter ↦ below_all (119 ∷ 73 ∷ 74 ∷ 75 ∷ 78 ∷ 81 ∷ 82 ∷ 85 ∷ 86 ∷ 87 ∷ []) 127 b refl letter
+      ]
+      | inr letter ↦ (let p = and_parts (leb 104 b) (leb b 116) letter in let high : b ≤ 116 = leb-true b 116 p.1 in omega arith)
+    ]
+
+pub passed_class : (b : ℕ) → is_passed b ≡ true → class_of b ≡ class.Passed
+unfolding class_of
+passed_class b h = Passed-is (class_of b) (implied is_passed (λ x. is_Passed (class_of x)) 127 b refl (passed_below b h) h)
+
+-- a letter is no digit and no bar sign
+pub letter_apart : (b : ℕ) → is_letter b ≡ true → (not (eqb b 124) && not (is_digit b)) ≡ true
+letter_apart b h =
+    let below : b < 123 = elim (or_cases (leb 65 b && leb b 90) (leb 97 b && leb b 122) h) [
+      | inl high ↦ (let p = and_parts (leb 65 b) (leb b 90) high in let e : b ≤ 90 = leb-true b 90 p.1 in omega arith)
+      | inr low ↦ (let p = and_parts (leb 97 b) (leb b 122) low in let e : b ≤ 122 = leb-true b 122 p.1 in omega arith)
+    ] in
+    implied is_letter (λ x. not (eqb x 124) && not (is_digit x)) 123 b refl below h

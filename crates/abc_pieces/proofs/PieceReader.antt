@@ -1,0 +1,40 @@
+-- The piece that is read is the longest, and equal bytes are one piece only.
+use Rattle.std.proofs.Common.{◌≡◌, ℕ, Bool, List, [], Some, None, sym, ap, ◌∙◌, arith, inl, inr}
+use Rattle.std.specs.Prelude.{IfSome}
+use Rattle.abc_pieces.specs.declared.token.Before.{Before}
+use Rattle.abc_pieces.specs.Forms.{Form, spelled, IsGood, IsAllowed, StandsAt}
+use Rattle.abc_pieces.specs.Reading.{Read, read, piece_at}
+use Rattle.abc_pieces.proofs.PartLaws.{Reader}
+use Rattle.abc_pieces.proofs.PieceTakes.{Takes, piece_at-takes}
+use Rattle.abc_pieces.proofs.PieceReaches.{piece_at-reaches, longer}
+
+abbrev with_rest : Form → List ℕ → Form × List ℕ
+with_rest f x = (f, x)
+
+some_is : (f g : Form) (x y : List ℕ) → read f x ≡ read g y → with_rest f x ≡ with_rest g y
+some_is f g x y e = cc
+
+stands : (bang : Bool) (before : Before) (s : List ℕ) (r : Read) → Takes bang before s r → IfSome r (λ z. StandsAt bang before z.0 s z.1)
+stands bang before s None t = tt
+stands bang before s (Some z) t = record { good = t.good; allowed = t.allowed; cut = t.cut }
+
+pub piece_reader : (bang : Bool) (before : Before) → Reader Form (StandsAt bang before) (piece_at bang before)
+piece_reader bang before = record {
+  takes = λ s. stands bang before s (piece_at bang before s) (piece_at-takes bang before s);
+  reaches = λ f s x t.
+      let o = piece_at-reaches bang before f x t.good t.allowed in
+      ((o.form, o.rest), ap (piece_at bang before) t.cut ∙ o.is, elim o.ends [ inl shorter ↦ inl shorter | inr same ↦ inr (some_is o.form f o.rest x same) ]);
+  longer = λ f s x t. rw t.cut (longer bang f x t.good);
+}
+
+whole_read : (bang : Bool) (before : Before) (f : Form) → IsGood bang f → IsAllowed before f → piece_at bang before (spelled f []) ≡ read f []
+whole_read bang before f good allowed =
+    let r = piece_at-reaches bang before f [] good allowed in
+    elim r.ends [
+      | inl shorter ↦ absurd (omega (arith, shorter))
+      | inr same ↦ r.is ∙ same
+    ]
+
+-- equal bytes behind equal pieces are one piece
+pub one_piece : (bang : Bool) (before : Before) (f g : Form) → IsGood bang f → IsAllowed before f → IsGood bang g → IsAllowed before g → spelled f [] ≡ spelled g [] → f ≡ g
+one_piece bang before f g a b c d e = ap (λ (z : Form × List ℕ). z.0) (some_is f g [] [] (sym (whole_read bang before f a b) ∙ ap (piece_at bang before) e ∙ whole_read bang before g c d))

@@ -1,0 +1,52 @@
+-- What a bar is, and reading one.
+use Rattle.std.specs.Prelude.{ℕ, ◌≤◌, List, Bool, true, false, ◌&&◌, ◌||◌, not, nat_lt, ◌==◌, if◌then◌else◌, Option, Some, None}
+use Rattle.mus_units.specs.declared.note.Bar.{Bar}
+use Rattle.abc_pieces.specs.Runs.{copies, maybe, run_off, skip}
+
+-- a bar with bar signs, or colons alone
+pub data BarForm : Type 0 where
+  signs : (dot : Bool) (before : ℕ) (bracket : Bool) (lines : ℕ) (close : Bool) (after : ℕ) → BarForm
+  colons : (n : ℕ) → BarForm
+
+-- its bytes, and what follows them
+abbrev pub spelled : BarForm → List ℕ → List ℕ
+spelled (signs dot before bracket lines close after) rest =
+    maybe dot 46 (copies before 58 (maybe bracket 91 (copies lines 124 (maybe close 93 (copies after 58 rest)))))
+spelled (colons n) rest = copies n 58 rest
+
+abbrev pub IsGood : BarForm → Type 0
+IsGood (signs dot before bracket lines close after) = 1 ≤ lines
+IsGood (colons n) = 2 ≤ n
+
+-- `[|]` and nothing else
+abbrev pub is_alone : Bool → ℕ → Bool → ℕ → Bool → ℕ → Bool
+is_alone dot before bracket lines close after = not dot && before == 0 && bracket && lines == 1 && close && after == 0
+
+abbrev pub meant : BarForm → Bar
+meant (signs dot before bracket lines close after) =
+    let alone = is_alone dot before bracket lines close after in
+    record {
+      end = nat_lt 0 before;
+      start = nat_lt 0 after;
+      last = close && not alone;
+      initial = bracket && not alone;
+      double = nat_lt 1 lines;
+      dotted = dot;
+      unseen = alone;
+    }
+meant (colons n) = record { end = true; start = true; last = false; initial = false; double = false; dotted = false; unseen = false }
+
+-- reading from left to right
+unfoldable pub form_at : List ℕ → Option (BarForm × List ℕ)
+form_at bytes =
+    let dot = skip 46 bytes in
+    let before = run_off 58 dot.1 in
+    let bracket = skip 91 before.1 in
+    let lines = run_off 124 bracket.1 in
+    let close = skip 93 lines.1 in
+    let after = run_off 58 close.1 in
+    if lines.0 == 0 then (if dot.0 || nat_lt before.0 2 then None else Some (colons before.0, before.1))
+    else Some (signs dot.0 before.0 bracket.0 lines.0 close.0 after.0, after.1)
+
+abbrev pub bar_read : Bar → List ℕ → Bar × List ℕ
+bar_read bar rest = (bar, rest)

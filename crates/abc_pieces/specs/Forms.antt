@@ -1,0 +1,227 @@
+-- The pieces of a music line: the bytes of each kind, what it says, and what it tells of the next.
+-- A piece is the spelling of a token, or one item that is passed over.
+use Rattle.std.specs.Prelude.{◌≡◌, ℕ, ◌≤◌, List, [], ◌∷◌, ◌++◌, map, Bool, true, false, not, ◌==◌, ◌&&◌, ◌||◌, nat_le, if◌then◌else◌, Option, Some, None}
+use Rattle.std.specs.List.{list_all}
+use Rattle.abc_pieces.specs.Runs.{copies, maybe, one_of, begins, is_digit, is_blank, is_letter}
+use Rattle.abc_pieces.specs.Bars.{BarForm, spelled as bar_then, IsGood as IsBar, meant as bar_of}
+use Rattle.abc_pieces.specs.Lengths.{LengthForm, length_then, IsLength, len_of, IsCount, count_of}
+use Rattle.abc_pieces.specs.Notes.{NoteForm, note_then, IsNote, head_of}
+use Rattle.abc_pieces.specs.Decorations.{deco_of_letter, deco_of_name}
+use Rattle.abc_pieces.specs.Items.{IsName, is_letter_inside, sense}
+use Rattle.abc_pieces.specs.Chords.{ChordForm, chord_then, IsChord, heads_of, decos_of, is_inside}
+use Rattle.abc_pieces.specs.Graces.{GraceForm, grace_then, IsGrace, body_of}
+use Rattle.abc_pieces.specs.Tuplets.{TupletForm, tuplet_then, IsTuplet, p_of, q_of, r_of}
+use Rattle.abc_pieces.specs.declared.token.Token.{Token}
+use Rattle.abc_pieces.specs.declared.token.Token.TheVariants as token
+use Rattle.abc_pieces.specs.declared.token.Before.{Before}
+use Rattle.abc_pieces.specs.declared.token.Before.TheVariants as behind
+use Rattle.abc_pieces.specs.declared.token.Opening.{Opening}
+use Rattle.abc_pieces.specs.declared.token.Opening.TheVariants as opens
+
+pub data Form : Type 0 where
+  note_form : NoteForm → Form
+  rest_form : (seen : Bool) → LengthForm → Form
+  gap_form : LengthForm → Form
+  measures_form : (seen : Bool) (count : List ℕ) → Form
+  chord_form : ChordForm → Form
+  grace_form : GraceForm → Form
+  tuplet_form : TupletForm → Form
+  slur_form : (dotted : Bool) → Form
+  close_form : Form
+  tie_form : (dotted : Bool) → Form
+  broken_form : (right : Bool) (count : ℕ) → Form
+  bar_form : BarForm → Form
+  ending_form : (bracket : Bool) (digit : ℕ) (more : List ℕ) → Form
+  letter_form : (byte : ℕ) → Form
+  named_form : (name : List ℕ) → Form
+  says_form : (text : List ℕ) → Form
+  inline_form : (letter : ℕ) (text : List ℕ) → Form
+  cut_form : (byte : ℕ) → Form
+  space_form : (blank : ℕ) (more : List ℕ) → Form
+  passed_form : (byte : ℕ) → Form
+  lone_form : Form
+  plus_form : (text : List ℕ) → Form
+
+-- digits, commas and hyphens
+abbrev pub is_ending : ℕ → Bool
+is_ending b = is_digit b || b == 44 || b == 45
+
+abbrev pub is_text : ℕ → Bool
+is_text b = not (b == 34)
+
+-- between two plus signs: no plus sign, blank or bar sign
+abbrev pub is_plus_byte : ℕ → Bool
+is_plus_byte b = not (one_of (43 ∷ 32 ∷ 9 ∷ 124 ∷ []) b)
+
+-- ` * ; ? @ # \ and the letters that mean nothing: h to t, w, I J K N Q R U V W
+abbrev pub is_passed_sign : ℕ → Bool
+is_passed_sign b = one_of (96 ∷ 42 ∷ 59 ∷ 63 ∷ 64 ∷ 35 ∷ 92 ∷ []) b
+
+abbrev pub is_passed_letter : ℕ → Bool
+is_passed_letter b = one_of (119 ∷ 73 ∷ 74 ∷ 75 ∷ 78 ∷ 81 ∷ 82 ∷ 85 ∷ 86 ∷ 87 ∷ []) b
+
+abbrev pub is_passed : ℕ → Bool
+is_passed b = is_passed_sign b || is_passed_letter b || (nat_le 104 b && nat_le b 116)
+
+abbrev pub arrow : Bool → ℕ
+arrow right = if right then 62 else 60
+
+abbrev pub rest_byte : Bool → ℕ
+rest_byte seen = if seen then 122 else 120
+
+abbrev pub measures_byte : Bool → ℕ
+measures_byte seen = if seen then 90 else 88
+
+abbrev pub bracket_then : Bool → List ℕ → List ℕ
+bracket_then true s = 91 ∷ s
+bracket_then false s = s
+
+-- the bytes of a piece, and what follows them
+abbrev pub spelled : Form → List ℕ → List ℕ
+spelled (note_form f) x = note_then f x
+spelled (rest_form seen len) x = rest_byte seen ∷ length_then len x
+spelled (gap_form len) x = 121 ∷ length_then len x
+spelled (measures_form seen count) x = measures_byte seen ∷ (count ++ x)
+spelled (chord_form f) x = 91 ∷ chord_then f x
+spelled (grace_form f) x = 123 ∷ grace_then f x
+spelled (tuplet_form f) x = 40 ∷ tuplet_then f x
+spelled (slur_form dotted) x = maybe dotted 46 (40 ∷ x)
+spelled close_form x = 41 ∷ x
+spelled (tie_form dotted) x = maybe dotted 46 (45 ∷ x)
+spelled (broken_form right count) x = copies count (arrow right) x
+spelled (bar_form f) x = bar_then f x
+spelled (ending_form bracket digit more) x = bracket_then bracket (digit ∷ (more ++ x))
+spelled (letter_form byte) x = byte ∷ x
+spelled (named_form name) x = 33 ∷ (name ++ (33 ∷ x))
+spelled (says_form text) x = 34 ∷ (text ++ (34 ∷ x))
+spelled (inline_form letter text) x = 91 ∷ letter ∷ 58 ∷ (text ++ (93 ∷ x))
+spelled (cut_form byte) x = byte ∷ x
+spelled (space_form blank more) x = blank ∷ (more ++ x)
+spelled (passed_form byte) x = byte ∷ x
+spelled lone_form x = 33 ∷ x
+spelled (plus_form text) x = 43 ∷ (text ++ (43 ∷ x))
+
+-- what stands behind an opening bracket: a bar sign makes a bar, a digit an ending, a letter and
+-- a colon an inline field; all else is a chord
+abbrev pub opening : List ℕ → Opening
+opening [] = opens.Chord
+opening (byte ∷ rest) =
+    if byte == 124 then opens.Bar
+    else (if is_digit byte then opens.Ending
+    else (if is_letter byte && begins (λ b. b == 58) rest then opens.Inline
+    else opens.Chord))
+
+-- a dollar sign, and where it is a line break an exclamation mark
+abbrev pub is_cut : Bool → ℕ → Bool
+is_cut bang byte = byte == 36 || (bang && byte == 33)
+
+abbrev pub IsGood : Bool → Form → Type 0
+IsGood bang (note_form f) = IsNote f
+IsGood bang (rest_form seen len) = IsLength len
+IsGood bang (gap_form len) = IsLength len
+IsGood bang (measures_form seen count) = IsCount 3 count
+IsGood bang (chord_form f) = IsChord bang f × (opening (chord_then f []) ≡ opens.Chord)
+IsGood bang (grace_form f) = IsGrace bang f
+IsGood bang (tuplet_form f) = IsTuplet f
+IsGood bang (slur_form dotted) = Unit {0}
+IsGood bang close_form = Unit {0}
+IsGood bang (tie_form dotted) = Unit {0}
+IsGood bang (broken_form right count) = (1 ≤ count) × (count ≤ 3)
+IsGood bang (bar_form f) = IsBar f
+IsGood bang (ending_form bracket digit more) = (is_digit digit ≡ true) × (list_all is_ending more ≡ true)
+IsGood bang (letter_form byte) = is_letter_inside byte ≡ true
+IsGood bang (named_form name) = (bang ≡ false) × IsName name
+IsGood bang (says_form text) = list_all is_text text ≡ true
+IsGood bang (inline_form letter text) = (is_letter letter ≡ true) × (list_all is_inside text ≡ true)
+IsGood bang (cut_form byte) = is_cut bang byte ≡ true
+IsGood bang (space_form blank more) = (is_blank blank ≡ true) × (list_all is_blank more ≡ true)
+IsGood bang (passed_form byte) = (is_passed byte || byte == 43) ≡ true
+IsGood bang lone_form = bang ≡ false
+IsGood bang (plus_form text) = list_all is_plus_byte text ≡ true
+
+-- K, L, M and V
+abbrev pub is_kept_field : ℕ → Bool
+is_kept_field letter = one_of (75 ∷ 76 ∷ 77 ∷ 86 ∷ []) letter
+
+abbrev pub inline_token : ℕ → List ℕ → Option Token
+inline_token letter text = if is_kept_field letter then Some (token.Inline letter text) else None
+
+-- the token that a piece spells, if it spells one
+abbrev pub meant : Form → Option Token
+meant (note_form f) = Some (token.Note (head_of f) (len_of f.length))
+meant (rest_form seen len) = Some (token.Rest seen (len_of len))
+meant (gap_form len) = None
+meant (measures_form seen count) = Some (token.Measures seen (count_of count))
+meant (chord_form f) = let said = map sense f.parts in Some (token.Chord (heads_of said) (decos_of said) (len_of f.length))
+meant (grace_form f) = Some (token.Grace f.slash (body_of f.parts))
+meant (tuplet_form f) = Some (token.Tuplet (p_of f) (q_of f) (r_of f))
+meant (slur_form dotted) = Some token.SlurOn
+meant close_form = Some token.SlurOff
+meant (tie_form dotted) = Some token.Tie
+meant (broken_form right count) = Some (token.Broken right count)
+meant (bar_form f) = Some (token.Bar (bar_of f))
+meant (ending_form bracket digit more) = Some (token.Ending (digit ∷ more))
+meant (letter_form byte) = Some (token.Deco (deco_of_letter byte))
+meant (named_form name) = Some (token.Deco (deco_of_name name))
+meant (says_form text) = Some (token.Says text)
+meant (inline_form letter text) = inline_token letter text
+meant (cut_form byte) = Some token.Cut
+meant (space_form blank more) = Some token.Space
+meant (passed_form byte) = None
+meant lone_form = None
+meant (plus_form text) = None
+
+-- what a piece tells of the next
+abbrev pub after : Form → Before
+after (note_form f) = behind.Lengthy
+after (rest_form seen len) = behind.Lengthy
+after (gap_form len) = behind.Lengthy
+after (measures_form seen count) = behind.Other
+after (chord_form f) = behind.Lengthy
+after (grace_form f) = behind.Other
+after (tuplet_form f) = behind.Paren
+after (slur_form dotted) = if dotted then behind.Other else behind.Paren
+after close_form = behind.Other
+after (tie_form dotted) = behind.Other
+after (broken_form right count) = behind.Broken right
+after (bar_form f) = behind.Bar
+after (ending_form bracket digit more) = behind.Other
+after (letter_form byte) = behind.Other
+after (named_form name) = behind.Other
+after (says_form text) = behind.Other
+after (inline_form letter text) = behind.Other
+after (cut_form byte) = behind.Other
+after (space_form blank more) = behind.Other
+after (passed_form byte) = behind.Other
+after lone_form = behind.Other
+after (plus_form text) = behind.Other
+
+abbrev pub is_bar : Before → Bool
+is_bar behind.Bar = true
+is_bar (behind.Broken right) = false
+is_bar behind.Lengthy = false
+is_bar behind.Paren = false
+is_bar behind.Other = false
+
+abbrev pub same_way : Bool → Bool → Bool
+same_way true right = right
+same_way false right = not right
+
+abbrev pub is_broken : Bool → Before → Bool
+is_broken right behind.Bar = false
+is_broken right (behind.Broken other) = same_way right other
+is_broken right behind.Lengthy = false
+is_broken right behind.Paren = false
+is_broken right behind.Other = false
+
+-- digits are an ending only after a bar, and an arrow stands behind no arrow of its way
+abbrev pub IsAllowed : Before → Form → Type 0
+IsAllowed before (ending_form bracket digit more) = (bracket || is_bar before) ≡ true
+IsAllowed before (broken_form right count) = is_broken right before ≡ false
+IsAllowed before _ = Unit {0}
+
+-- the piece stands at the front of s behind such a piece, with rest behind it
+pub record StandsAt (bang : Bool) (before : Before) (f : Form) (s rest : List ℕ) : Type 0 where
+  pub good : IsGood bang f
+  pub allowed : IsAllowed before f
+  pub cut : s ≡ spelled f rest

@@ -1,0 +1,57 @@
+-- Bytes at the front of a list.
+use Rattle.std.specs.Prelude.{ℕ, zero, suc, List, [], ◌∷◌, Bool, true, false, ◌==◌, ◌&&◌, ◌||◌, nat_le, if◌then◌else◌, take, drop}
+use Rattle.std.specs.List.{prefix_len}
+
+-- the byte n times, and then the rest
+abbrev pub copies : ℕ → ℕ → List ℕ → List ℕ
+copies zero byte rest = rest
+copies (suc n) byte rest = byte ∷ copies n byte rest
+
+-- the byte or nothing, and then the rest
+abbrev pub maybe : Bool → ℕ → List ℕ → List ℕ
+maybe true byte rest = byte ∷ rest
+maybe false byte rest = rest
+
+-- how often the byte stands at the front, and what follows
+unfoldable pub run_off : ℕ → List ℕ → ℕ × List ℕ
+run_off byte s = (prefix_len (λ x. x == byte) s, drop (prefix_len (λ x. x == byte) s) s)
+
+-- whether the byte stands at the front, and what follows
+unfoldable pub skip : ℕ → List ℕ → Bool × List ℕ
+skip byte [] = (false, [])
+skip byte (x ∷ s) = if x == byte then (true, s) else (false, x ∷ s)
+
+-- the bytes at the front that pass, at most limit of them, and what follows
+unfoldable pub span : (ℕ → Bool) → ℕ → List ℕ → List ℕ × List ℕ
+span p limit s = (take (prefix_len p (take limit s)) s, drop (prefix_len p (take limit s)) s)
+
+-- all the bytes at the front that pass, and what follows
+unfoldable pub span_all : (ℕ → Bool) → List ℕ → List ℕ × List ℕ
+span_all p s = (take (prefix_len p s) s, drop (prefix_len p s) s)
+
+-- the byte is one of these
+abbrev pub one_of : List ℕ → ℕ → Bool
+one_of [] byte = false
+one_of (x ∷ xs) byte = byte == x || one_of xs byte
+
+-- the first byte passes
+abbrev pub begins : (ℕ → Bool) → List ℕ → Bool
+begins p [] = false
+begins p (x ∷ s) = p x
+
+abbrev pub is_digit : ℕ → Bool
+is_digit b = nat_le 48 b && nat_le b 57
+
+abbrev pub is_mark : ℕ → Bool
+is_mark b = b == 39 || b == 44
+
+abbrev pub is_blank : ℕ → Bool
+is_blank b = b == 32 || b == 9
+
+-- A to Z, a to z
+abbrev pub is_letter : ℕ → Bool
+is_letter b = (nat_le 65 b && nat_le b 90) || (nat_le 97 b && nat_le b 122)
+
+-- A to G, a to g
+abbrev pub is_note_letter : ℕ → Bool
+is_note_letter b = (nat_le 65 b && nat_le b 71) || (nat_le 97 b && nat_le b 103)

@@ -1,0 +1,60 @@
+-- A tuplet: its p, and q and r behind colons, each of which may be left empty.
+use Rattle.std.specs.Prelude.{◌≡◌, ◌-◌, ℕ, List, [], ◌∷◌, ◌++◌, Bool, true, ◌&&◌, nat_le, if◌then◌else◌, Option, Some, None}
+use Rattle.std.specs.Str.Parse.{digits_value}
+use Rattle.abc_pieces.specs.Runs.{skip}
+use Rattle.abc_pieces.specs.Lengths.{IsCount, number_at}
+
+pub data TupletForm : Type 0 where
+  bare : (p : ℕ) → TupletForm
+  with_q : (p : ℕ) (q : List ℕ) → TupletForm
+  with_r : (p : ℕ) (q r : List ℕ) → TupletForm
+
+-- 2 to 9
+abbrev pub is_tuplet_digit : ℕ → Bool
+is_tuplet_digit byte = nat_le 50 byte && nat_le byte 57
+
+-- what stands behind the parenthesis, and what follows
+abbrev pub tuplet_then : TupletForm → List ℕ → List ℕ
+tuplet_then (bare p) rest = p ∷ rest
+tuplet_then (with_q p q) rest = p ∷ 58 ∷ (q ++ rest)
+tuplet_then (with_r p q r) rest = p ∷ 58 ∷ (q ++ (58 ∷ (r ++ rest)))
+
+-- q is 1 to 9 and r 1 to 99
+abbrev pub IsTuplet : TupletForm → Type 0
+IsTuplet (bare p) = is_tuplet_digit p ≡ true
+IsTuplet (with_q p q) = (is_tuplet_digit p ≡ true) × IsCount 1 q
+IsTuplet (with_r p q r) = (is_tuplet_digit p ≡ true) × IsCount 1 q × IsCount 2 r
+
+abbrev pub value_or_zero : List ℕ → ℕ
+value_or_zero [] = 0
+value_or_zero (digit ∷ more) = digits_value 10 (digit ∷ more)
+
+abbrev pub p_of : TupletForm → ℕ
+p_of (bare p) = p - 48
+p_of (with_q p q) = p - 48
+p_of (with_r p q r) = p - 48
+
+abbrev pub q_of : TupletForm → ℕ
+q_of (bare p) = 0
+q_of (with_q p q) = value_or_zero q
+q_of (with_r p q r) = value_or_zero q
+
+abbrev pub r_of : TupletForm → ℕ
+r_of (bare p) = 0
+r_of (with_q p q) = 0
+r_of (with_r p q r) = value_or_zero r
+
+-- ---- reading, between these and the code
+
+abbrev pub behind_q : ℕ → List ℕ × List ℕ → TupletForm × List ℕ
+behind_q p q = let colon = skip 58 q.1 in let r = number_at 2 colon.1 in if colon.0 then (with_r p q.0 r.0, r.1) else (with_q p q.0, q.1)
+
+abbrev pub behind_p : ℕ → List ℕ → TupletForm × List ℕ
+behind_p p rest = let colon = skip 58 rest in if colon.0 then behind_q p (number_at 1 colon.1) else (bare p, rest)
+
+unfoldable pub tuplet_at : List ℕ → Option (TupletForm × List ℕ)
+tuplet_at [] = None
+tuplet_at (p ∷ rest) = if is_tuplet_digit p then Some (behind_p p rest) else None
+
+abbrev pub tuplet_shown : ℕ → ℕ → ℕ → List ℕ → ℕ × ℕ × ℕ × List ℕ
+tuplet_shown p q r rest = (p, q, r, rest)

@@ -1,0 +1,522 @@
+ghost use Rattle.std.specs.Prelude.{◌≡◌, ◌≤◌, ◌^◌, ◌∷◌, false, ℕ, List, Bool, Some, None, length, take, ◌==◌, IfSome};
+ghost use Rattle.std.specs.List.{prefix_len};
+ghost use Rattle.abc_pieces.specs.declared.token.Before.TheVariants.{Other};
+ghost use Rattle.abc_pieces.specs.Chords.{is_inside};
+ghost use Rattle.abc_pieces.specs.Forms.{is_bar, is_broken, is_ending, is_text, is_plus_byte, is_passed, is_passed_sign, is_passed_letter, opening, letter_form, slur_form};
+ghost use Rattle.abc_pieces.specs.Reading.{class_of, piece_at, note_read, rest_read, gap_read, measures_read, bar_read, chord_read, grace_read, tuplet_read, ending_read, broken_read, says_read, plus_read, inline_read, space_read, bang_read, dot_read, opened, or_else, read, shown, meaning, found_within};
+ghost use Rattle.abc_pieces.specs.Runs.{is_digit, is_blank, is_letter, begins};
+
+use crate::bar::read_bar;
+use crate::chord::{bracketed, chord_at};
+use crate::grace::grace_at;
+use crate::item::{is_deco_letter, is_note_byte, name_at};
+use crate::length::{count_of, length_at, number_at};
+use crate::note::note_at;
+use crate::token::{Before, Class, Found, Opening};
+use crate::tuplet::tuplet_at;
+
+/// What stands at the front, what it tells of the next piece, and what follows.
+#[derive(Clone, Copy)]
+pub struct Piece<'a> {
+    pub found: Found<'a>,
+    pub after: Before,
+    pub rest: &'a [u8],
+}
+
+/// The piece at the front, as long as it can be, behind a piece that tells
+/// `before`. `bang` says that `!` is a line break.
+#[tactic(auto, unfolding(crate::specs::Reading::piece_at))]
+pub fn piece_at(bang: bool, before: Before, bytes: &[u8]) -> Option<Piece<'_>>
+    requires { length bytes.now ≤ 2 ^ 30 }
+    ensures read { shown bang result ≡ meaning (piece_at bang before bytes.now) }
+    ensures within { IfSome result (λ x. found_within x.found (length bytes.now)) }
+{
+    let (first, rest) = bytes.split_first()?;
+    match class_of(*first) {
+        Class::Note => note(bytes),
+        Class::Rest => Some(rest_piece(*first, rest)),
+        Class::Gap => Some(gap(rest)),
+        Class::Measures => Some(measures(*first, rest)),
+        Class::Bar => bar_piece(bytes),
+        Class::Dot => dot(bytes, rest),
+        Class::Bracket => bracket(bang, bytes, rest),
+        Class::Brace => grace(bang, rest),
+        Class::Paren => Some(paren(rest)),
+        Class::Close => Some(plain(Found::SlurOff, rest)),
+        Class::Tie => Some(plain(Found::Tie, rest)),
+        Class::Digit => { if is_bar(before) { ending(bytes) } else { None } }
+        Class::Broken => broken(before, *first, rest),
+        Class::Quote => says(rest),
+        Class::Bang => Some(bang_piece(bang, rest)),
+        Class::Plus => Some(plus(rest)),
+        Class::Blank => Some(space(rest)),
+        Class::Letter => Some(plain(Found::Letter(*first), rest)),
+        Class::Dollar => Some(plain(Found::Cut, rest)),
+        Class::Passed => Some(plain(Found::Passed, rest)),
+        Class::Nothing => None,
+    }
+}
+
+fn plain<'a>(found: Found<'a>, rest: &'a [u8]) -> Piece<'a>
+    ensures found { result.found ≡ found.entry }
+    ensures rest { result.rest.now ≡ rest.now }
+    ensures after { result.after ≡ Other }
+{
+    Piece {
+        found,
+        after: Before::Other,
+        rest,
+    }
+}
+
+#[tactic(auto, unfolding(crate::specs::Reading::class_of))]
+fn class_of(byte: u8) -> Class
+    ensures { result ≡ class_of byte }
+{
+    if is_note_byte(byte) {
+        Class::Note
+    } else if byte == b'z' || byte == b'x' {
+        Class::Rest
+    } else if byte == b'y' {
+        Class::Gap
+    } else if byte == b'Z' || byte == b'X' {
+        Class::Measures
+    } else if byte == b':' || byte == b'|' {
+        Class::Bar
+    } else if byte == b'.' {
+        Class::Dot
+    } else if byte == b'[' {
+        Class::Bracket
+    } else if byte == b'{' {
+        Class::Brace
+    } else if byte == b'(' {
+        Class::Paren
+    } else if byte == b')' {
+        Class::Close
+    } else if byte == b'-' {
+        Class::Tie
+    } else if is_digit(byte) {
+        Class::Digit
+    } else if byte == b'>' || byte == b'<' {
+        Class::Broken
+    } else if byte == b'"' {
+        Class::Quote
+    } else if byte == b'!' {
+        Class::Bang
+    } else if byte == b'+' {
+        Class::Plus
+    } else if byte == b' ' || byte == b'\t' {
+        Class::Blank
+    } else if is_deco_letter(byte) {
+        Class::Letter
+    } else if byte == b'$' {
+        Class::Dollar
+    } else if is_passed(byte) {
+        Class::Passed
+    } else {
+        Class::Nothing
+    }
+}
+
+fn is_digit(byte: u8) -> bool
+    ensures { result ≡ is_digit byte }
+{
+    byte >= b'0' && byte <= b'9'
+}
+
+fn is_letter(byte: u8) -> bool
+    ensures { result ≡ is_letter byte }
+{
+    (byte >= b'A' && byte <= b'Z') || (byte >= b'a' && byte <= b'z')
+}
+
+fn is_passed(byte: u8) -> bool
+    ensures { result ≡ is_passed byte }
+{
+    is_passed_sign(byte) || is_passed_letter(byte) || (byte >= b'h' && byte <= b't')
+}
+
+fn is_passed_sign(byte: u8) -> bool
+    ensures { result ≡ is_passed_sign byte }
+{
+    byte == b'`'
+        || byte == b'*'
+        || byte == b';'
+        || byte == b'?'
+        || byte == b'@'
+        || byte == b'#'
+        || byte == b'\\'
+}
+
+fn is_passed_letter(byte: u8) -> bool
+    ensures { result ≡ is_passed_letter byte }
+{
+    byte == b'w'
+        || byte == b'I'
+        || byte == b'J'
+        || byte == b'K'
+        || byte == b'N'
+        || byte == b'Q'
+        || byte == b'R'
+        || byte == b'U'
+        || byte == b'V'
+        || byte == b'W'
+}
+
+fn is_bar(before: Before) -> bool
+    ensures { result ≡ is_bar before }
+{
+    match before {
+        Before::Bar => true,
+        _ => false,
+    }
+}
+
+fn is_broken(right: bool, before: Before) -> bool
+    ensures { result ≡ is_broken right before }
+{
+    match before {
+        Before::Broken { right: other } => right == other,
+        _ => false,
+    }
+}
+
+#[tactic(auto, unfolding(crate::specs::Reading::note_read))]
+fn note(bytes: &[u8]) -> Option<Piece<'_>>
+    requires { length bytes.now ≤ 2 ^ 30 }
+    ensures read { (bang : Bool) → shown bang result ≡ meaning (note_read bytes.now) }
+    ensures within { (n : ℕ) → IfSome result (λ x. found_within x.found n) }
+{
+    let (head, len, rest) = note_at(bytes)?;
+    Some(Piece {
+        found: Found::Note { head, len },
+        after: Before::Lengthy,
+        rest,
+    })
+}
+
+#[tactic(auto, unfolding(crate::specs::Reading::rest_read))]
+fn rest_piece(first: u8, bytes: &[u8]) -> Piece<'_>
+    ensures read { (bang : Bool) → shown bang (Some result) ≡ meaning (rest_read first bytes.now) }
+    ensures within { (n : ℕ) → found_within result.found n }
+{
+    let (len, rest) = length_at(bytes);
+    Piece {
+        found: Found::Rest {
+            seen: first == b'z',
+            len,
+        },
+        after: Before::Lengthy,
+        rest,
+    }
+}
+
+#[tactic(auto, unfolding(crate::specs::Reading::gap_read))]
+fn gap(bytes: &[u8]) -> Piece<'_>
+    ensures read { (bang : Bool) → shown bang (Some result) ≡ meaning (gap_read bytes.now) }
+    ensures within { (n : ℕ) → found_within result.found n }
+{
+    let (_, rest) = length_at(bytes);
+    Piece {
+        found: Found::Passed,
+        after: Before::Lengthy,
+        rest,
+    }
+}
+
+#[tactic(auto, unfolding(crate::specs::Reading::measures_read))]
+fn measures(first: u8, bytes: &[u8]) -> Piece<'_>
+    ensures read { (bang : Bool) → shown bang (Some result) ≡ meaning (measures_read first bytes.now) }
+    ensures within { (n : ℕ) → found_within result.found n }
+{
+    let (digits, rest) = number_at(3, bytes);
+    Piece {
+        found: Found::Measures {
+            seen: first == b'Z',
+            count: count_of(digits),
+        },
+        after: Before::Other,
+        rest,
+    }
+}
+
+#[tactic(auto, unfolding(crate::specs::Reading::bar_read))]
+fn bar_piece(bytes: &[u8]) -> Option<Piece<'_>>
+    ensures read { (bang : Bool) → shown bang result ≡ meaning (bar_read bytes.now) }
+    ensures within { (n : ℕ) → IfSome result (λ x. found_within x.found n) }
+{
+    let (bar, rest) = read_bar(bytes)?;
+    Some(Piece {
+        found: Found::Bar(bar),
+        after: Before::Bar,
+        rest,
+    })
+}
+
+/// A piece that begins with a dot; `rest` stands behind the dot.
+#[tactic(auto, unfolding(crate::specs::Reading::dot_read))]
+fn dot<'a>(bytes: &'a [u8], rest: &'a [u8]) -> Option<Piece<'a>>
+    requires { bytes.now ≡ 46 ∷ rest.now }
+    ensures read { (bang : Bool) → shown bang result ≡ meaning (dot_read rest.now) }
+    ensures within { (n : ℕ) → IfSome result (λ x. found_within x.found n) }
+{
+    match rest.split_first() {
+        Some((second, behind)) if *second == b'(' => Some(plain(Found::SlurOn, behind)),
+        Some((second, behind)) if *second == b'-' => Some(plain(Found::Tie, behind)),
+        _ => Some(dot_or_bar(bytes, rest)),
+    }
+}
+
+fn dot_or_bar<'a>(bytes: &'a [u8], rest: &'a [u8]) -> Piece<'a>
+    ensures read { (bang : Bool) → shown bang (Some result) ≡ meaning (or_else (bar_read bytes.now) (read (letter_form 46) rest.now)) }
+    ensures within { (n : ℕ) → found_within result.found n }
+{
+    match bar_piece(bytes) {
+        Some(piece) => piece,
+        None => plain(Found::Letter(b'.'), rest),
+    }
+}
+
+/// A piece that begins with a bracket; `rest` stands behind the bracket.
+fn bracket<'a>(bang: bool, bytes: &'a [u8], rest: &'a [u8]) -> Option<Piece<'a>>
+    requires cut { bytes.now ≡ 91 ∷ rest.now }
+    requires small { length bytes.now ≤ 2 ^ 30 }
+    ensures read { shown bang result ≡ meaning (opened (opening rest.now) bang rest.now) }
+    ensures within { IfSome result (λ x. found_within x.found (length bytes.now)) }
+{
+    match opening(rest) {
+        Opening::Bar => bar_piece(bytes),
+        Opening::Ending => ending(rest),
+        Opening::Inline => inline(rest),
+        Opening::Chord => chord(bang, rest),
+    }
+}
+
+/// What stands behind an opening bracket.
+pub fn opening(bytes: &[u8]) -> Opening
+    ensures { result ≡ opening bytes.now }
+{
+    let Some((first, rest)) = bytes.split_first() else {
+        return Opening::Chord;
+    };
+    if *first == b'|' {
+        Opening::Bar
+    } else if is_digit(*first) {
+        Opening::Ending
+    } else if is_letter(*first) && begins_colon(rest) {
+        Opening::Inline
+    } else {
+        Opening::Chord
+    }
+}
+
+fn begins_colon(bytes: &[u8]) -> bool
+    ensures { result ≡ begins (λ b. b == 58) bytes.now }
+{
+    match bytes.split_first() {
+        Some((first, _)) => *first == b':',
+        None => false,
+    }
+}
+
+#[tactic(auto, unfolding(crate::specs::Reading::chord_read))]
+fn chord(bang: bool, bytes: &[u8]) -> Option<Piece<'_>>
+    requires { length bytes.now ≤ 2 ^ 30 }
+    ensures read { shown bang result ≡ meaning (chord_read bang bytes.now) }
+    ensures within { IfSome result (λ x. found_within x.found (length bytes.now)) }
+{
+    let chord = chord_at(bang, bytes)?;
+    Some(Piece {
+        found: Found::Chord {
+            inside: chord.inside,
+            len: chord.len,
+        },
+        after: Before::Lengthy,
+        rest: chord.rest,
+    })
+}
+
+#[tactic(auto, unfolding(crate::specs::Reading::grace_read))]
+fn grace(bang: bool, bytes: &[u8]) -> Option<Piece<'_>>
+    requires { length bytes.now ≤ 2 ^ 30 }
+    ensures read { shown bang result ≡ meaning (grace_read bang bytes.now) }
+    ensures within { IfSome result (λ x. found_within x.found (length bytes.now)) }
+{
+    let group = grace_at(bang, bytes)?;
+    Some(plain(
+        Found::Grace {
+            slash: group.slash,
+            inside: group.inside,
+        },
+        group.rest,
+    ))
+}
+
+/// A piece that begins with a parenthesis.
+#[tactic(auto, unfolding(crate::specs::Reading::tuplet_read))]
+fn paren(bytes: &[u8]) -> Piece<'_>
+    ensures read { (bang : Bool) → shown bang (Some result) ≡ meaning (or_else (tuplet_read bytes.now) (read (slur_form false) bytes.now)) }
+    ensures within { (n : ℕ) → found_within result.found n }
+{
+    match tuplet_at(bytes) {
+        Some(tuplet) => Piece {
+            found: Found::Tuplet {
+                p: tuplet.p,
+                q: tuplet.q,
+                r: tuplet.r,
+            },
+            after: Before::Paren,
+            rest: tuplet.rest,
+        },
+        None => Piece {
+            found: Found::SlurOn,
+            after: Before::Paren,
+            rest: bytes,
+        },
+    }
+}
+
+#[tactic(auto, unfolding(crate::specs::Reading::ending_read))]
+fn ending(bytes: &[u8]) -> Option<Piece<'_>>
+    ensures read { (bang bracket : Bool) → shown bang result ≡ meaning (ending_read bracket bytes.now) }
+    ensures within { (n : ℕ) → IfSome result (λ x. found_within x.found n) }
+{
+    let (first, rest) = bytes.split_first()?;
+    if !is_digit(*first) {
+        return None;
+    }
+    let (text, rest) = bytes.split_at(1 + ending_len(rest));
+    Some(plain(Found::Ending(text), rest))
+}
+
+fn ending_len(bytes: &[u8]) -> usize
+    ensures value { result ≡ prefix_len is_ending bytes.now }
+    ensures within { result ≤ length bytes.now }
+{
+    bytes
+        .iter()
+        .take_while(|b| (**b >= b'0' && **b <= b'9') || **b == b',' || **b == b'-')
+        .count()
+}
+
+#[tactic(auto, unfolding(crate::specs::Reading::broken_read, crate::specs::Runs::span))]
+fn broken(before: Before, first: u8, bytes: &[u8]) -> Option<Piece<'_>>
+    ensures read { (bang : Bool) → shown bang result ≡ meaning (broken_read before first bytes.now) }
+    ensures within { (n : ℕ) → IfSome result (λ x. found_within x.found n) }
+{
+    let right = first == b'>';
+    if is_broken(right, before) {
+        return None;
+    }
+    let more = same_count(first, bytes);
+    let rest = bytes.split_at(more).1;
+    let dots = more as u8 + 1;
+    Some(Piece {
+        found: Found::Broken { right, dots },
+        after: Before::Broken { right },
+        rest,
+    })
+}
+
+fn same_count(byte: u8, bytes: &[u8]) -> usize
+    ensures value { result ≡ prefix_len (λ x. x == byte) (take 2 bytes.now) }
+    ensures within { result ≤ length bytes.now }
+    ensures few { result ≤ 2 }
+{
+    bytes.iter().take(2).take_while(|b| **b == byte).count()
+}
+
+#[tactic(auto, unfolding(crate::specs::Reading::says_read, crate::specs::Runs::span_all))]
+fn says(bytes: &[u8]) -> Option<Piece<'_>>
+    ensures read { (bang : Bool) → shown bang result ≡ meaning (says_read bytes.now) }
+    ensures within { (n : ℕ) → IfSome result (λ x. found_within x.found n) }
+{
+    let (text, rest) = bytes.split_at(text_len(bytes));
+    let (_, rest) = rest.split_first()?;
+    Some(plain(Found::Says(text), rest))
+}
+
+fn text_len(bytes: &[u8]) -> usize
+    ensures value { result ≡ prefix_len is_text bytes.now }
+    ensures within { result ≤ length bytes.now }
+{
+    bytes.iter().take_while(|b| **b != b'"').count()
+}
+
+/// An inline field, which the bytes begin.
+#[tactic(auto, unfolding(crate::specs::Reading::inline_read))]
+fn inline(bytes: &[u8]) -> Option<Piece<'_>>
+    ensures read { (bang : Bool) → shown bang result ≡ meaning (inline_read bytes.now) }
+    ensures within { (n : ℕ) → IfSome result (λ x. found_within x.found n) }
+{
+    let (letter, rest) = bytes.split_first()?;
+    let (_, rest) = rest.split_first()?;
+    let (text, rest) = bracketed(rest);
+    let (_, rest) = rest.split_first()?;
+    Some(plain(
+        Found::Inline {
+            letter: *letter,
+            text,
+        },
+        rest,
+    ))
+}
+
+/// A piece that begins with an exclamation mark.
+#[tactic(auto, unfolding(crate::specs::Reading::bang_read))]
+fn bang_piece(bang: bool, bytes: &[u8]) -> Piece<'_>
+    ensures read { shown bang (Some result) ≡ meaning (bang_read bang bytes.now) }
+    ensures within { (n : ℕ) → found_within result.found n }
+{
+    if bang {
+        return plain(Found::Cut, bytes);
+    }
+    match name_at(bytes) {
+        Some((name, rest)) => plain(Found::Named(name), rest),
+        None => plain(Found::Passed, bytes),
+    }
+}
+
+/// A piece that begins with a plus sign.
+#[tactic(auto, unfolding(crate::specs::Reading::plus_read, crate::specs::Runs::span_all))]
+fn plus(bytes: &[u8]) -> Piece<'_>
+    ensures read { (bang : Bool) → shown bang (Some result) ≡ meaning (plus_read bytes.now) }
+    ensures within { (n : ℕ) → found_within result.found n }
+{
+    let behind = bytes.split_at(plus_len(bytes)).1;
+    match behind.split_first() {
+        Some((mark, rest)) if *mark == b'+' => plain(Found::Passed, rest),
+        _ => plain(Found::Passed, bytes),
+    }
+}
+
+fn plus_len(bytes: &[u8]) -> usize
+    ensures value { result ≡ prefix_len is_plus_byte bytes.now }
+    ensures within { result ≤ length bytes.now }
+{
+    bytes.iter().take_while(|b| is_plus_byte(**b)).count()
+}
+
+fn is_plus_byte(byte: u8) -> bool
+    ensures { result ≡ is_plus_byte byte }
+{
+    !(byte == b'+' || byte == b' ' || byte == b'\t' || byte == b'|')
+}
+
+#[tactic(auto, unfolding(crate::specs::Reading::space_read, crate::specs::Runs::span_all))]
+fn space(bytes: &[u8]) -> Piece<'_>
+    ensures read { (bang : Bool) (b : ℕ) → shown bang (Some result) ≡ meaning (space_read b bytes.now) }
+    ensures within { (n : ℕ) → found_within result.found n }
+{
+    plain(Found::Space, bytes.split_at(blank_len(bytes)).1)
+}
+
+fn blank_len(bytes: &[u8]) -> usize
+    ensures value { result ≡ prefix_len is_blank bytes.now }
+    ensures within { result ≤ length bytes.now }
+{
+    bytes
+        .iter()
+        .take_while(|b| **b == b' ' || **b == b'\t')
+        .count()
+}

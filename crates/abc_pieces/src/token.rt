@@ -1,0 +1,173 @@
+use abc_lines::FaultKind;
+use mus_units::{Bar, Deco, Head, Row, Text};
+
+/// A length as written, in units, not reduced: `A//` is 1/4.
+#[derive(Clone, Copy, Debug, PartialEq, Eq)]
+pub struct Len {
+    pub num: u32,
+    pub den: u32,
+}
+
+/// The heads of one note or chord of a grace group, in the order of the text.
+#[derive(Debug, Drop)]
+pub struct GraceChord {
+    pub heads: Row<Head>,
+}
+
+/// What a piece of a music line says. `Cut` is `$`, or `!` where that is a line
+/// break; `Says` is the text between quotes; `Inline` has the letters K, L, M and
+/// V alone. In a `Tuplet` an absent q or r is 0.
+#[derive(Debug, Drop)]
+pub enum Token {
+    Note {
+        head: Head,
+        len: Len,
+    },
+    Rest {
+        seen: bool,
+        len: Len,
+    },
+    Measures {
+        seen: bool,
+        count: u16,
+    },
+    Chord {
+        heads: Row<(Head, Len)>,
+        decos: Row<Deco>,
+        len: Len,
+    },
+    Grace {
+        slash: bool,
+        body: Row<GraceChord>,
+    },
+    Tuplet {
+        p: u8,
+        q: u8,
+        r: u8,
+    },
+    SlurOn,
+    SlurOff,
+    Tie,
+    Broken {
+        right: bool,
+        dots: u8,
+    },
+    Bar(Bar),
+    Ending(Text),
+    Deco(Deco),
+    Says(Text),
+    Inline {
+        letter: u8,
+        text: Text,
+    },
+    Cut,
+    Space,
+}
+
+/// A fault of a line, and how many bytes are left of the line from its place on.
+#[derive(Clone, Copy, Debug, PartialEq, Eq)]
+pub struct Flaw {
+    pub kind: FaultKind,
+    pub left: usize,
+}
+
+/// What the piece before tells of the next: `Lengthy` has a length, `Paren` is a
+/// slur's beginning or a tuplet, which digits may not follow.
+#[derive(Clone, Copy, Debug, PartialEq, Eq)]
+pub enum Before {
+    Bar,
+    Broken { right: bool },
+    Lengthy,
+    Paren,
+    Other,
+}
+
+/// A token that isn't copied from its line. The text of a chord or a grace is
+/// what stands between its brackets.
+#[derive(Clone, Copy)]
+pub enum Found<'a> {
+    Note { head: Head, len: Len },
+    Rest { seen: bool, len: Len },
+    Measures { seen: bool, count: u16 },
+    Chord { inside: &'a [u8], len: Len },
+    Grace { slash: bool, inside: &'a [u8] },
+    Tuplet { p: u8, q: u8, r: u8 },
+    SlurOn,
+    SlurOff,
+    Tie,
+    Broken { right: bool, dots: u8 },
+    Bar(Bar),
+    Ending(&'a [u8]),
+    Letter(u8),
+    Named(&'a [u8]),
+    Says(&'a [u8]),
+    Inline { letter: u8, text: &'a [u8] },
+    Cut,
+    Space,
+    Passed,
+}
+
+/// What a piece may be, by its first byte.
+#[derive(Clone, Copy, Debug, PartialEq, Eq)]
+pub enum Class {
+    Note,
+    Rest,
+    Gap,
+    Measures,
+    Bar,
+    Dot,
+    Bracket,
+    Brace,
+    Paren,
+    Close,
+    Tie,
+    Digit,
+    Broken,
+    Quote,
+    Bang,
+    Plus,
+    Blank,
+    Letter,
+    Dollar,
+    Passed,
+    Nothing,
+}
+
+/// What stands behind an opening bracket.
+#[derive(Clone, Copy, Debug, PartialEq, Eq)]
+pub enum Opening {
+    Bar,
+    Ending,
+    Inline,
+    Chord,
+}
+
+/// What a piece within a chord or a grace says.
+#[derive(Clone, Copy)]
+pub enum Item<'a> {
+    Note { head: Head, len: Len },
+    Letter(u8),
+    Named(&'a [u8]),
+    Tie,
+    Passed,
+}
+
+/// A part of a grace group: as within a chord, or a chord, of which it has the
+/// text between the brackets.
+#[derive(Clone, Copy)]
+pub enum GraceItem<'a> {
+    Part(Item<'a>),
+    Chord(&'a [u8]),
+}
+
+/// What a piece within a chord or a grace may be, by its first byte.
+#[derive(Clone, Copy, Debug, PartialEq, Eq)]
+pub enum ItemClass {
+    Note,
+    Dot,
+    Letter,
+    Tie,
+    Passed,
+    Bang,
+    Nothing,
+}

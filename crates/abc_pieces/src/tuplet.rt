@@ -1,0 +1,100 @@
+ghost use Rattle.std.specs.Prelude.{◌≡◌, ◌≤◌, ◌-◌, option_map, length, true};
+ghost use Rattle.std.specs.List.{list_all};
+ghost use Rattle.abc_pieces.specs.Runs.{is_digit};
+ghost use Rattle.abc_pieces.specs.Tuplets.{is_tuplet_digit, p_of, q_of, r_of, tuplet_at, behind_p, behind_q, value_or_zero, tuplet_shown};
+
+use crate::bytes::skip;
+use crate::length::number_at;
+
+/// The numbers of a tuplet, 0 where one is absent, and what follows it.
+#[derive(Clone, Copy)]
+pub struct Tuplet<'a> {
+    pub p: u8,
+    pub q: u8,
+    pub r: u8,
+    pub rest: &'a [u8],
+}
+
+/// The tuplet behind a parenthesis.
+#[tactic(auto, unfolding(crate::specs::Tuplets::tuplet_at))]
+pub(crate) fn tuplet_at(bytes: &[u8]) -> Option<Tuplet<'_>>
+    ensures { option_map (λ x. tuplet_shown x.p x.q x.r x.rest.now) result ≡ option_map (λ z. tuplet_shown (p_of z.0) (q_of z.0) (r_of z.0) z.1) (tuplet_at bytes.now) }
+{
+    let (p, rest) = bytes.split_first()?;
+    if is_tuplet_digit(*p) {
+        Some(behind_p(*p, rest))
+    } else {
+        None
+    }
+}
+
+fn behind_p(p: u8, bytes: &[u8]) -> Tuplet<'_>
+    requires { is_tuplet_digit p ≡ true }
+    ensures { let z = behind_p p bytes.now in tuplet_shown result.p result.q result.r result.rest.now ≡ tuplet_shown (p_of z.0) (q_of z.0) (r_of z.0) z.1 }
+{
+    let (colon, rest) = skip(b':', bytes);
+    if colon {
+        let (q, rest) = number_at(1, rest);
+        behind_q(p, q, rest)
+    } else {
+        Tuplet {
+            p: p - b'0',
+            q: 0,
+            r: 0,
+            rest: bytes,
+        }
+    }
+}
+
+fn behind_q<'a>(p: u8, q: &'a [u8], bytes: &'a [u8]) -> Tuplet<'a>
+    requires p { is_tuplet_digit p ≡ true }
+    requires few { length q.now ≤ 2 }
+    requires digits { list_all is_digit q.now ≡ true }
+    ensures { let z = behind_q p (q.now, bytes.now) in tuplet_shown result.p result.q result.r result.rest.now ≡ tuplet_shown (p_of z.0) (q_of z.0) (r_of z.0) z.1 }
+{
+    let (colon, rest) = skip(b':', bytes);
+    if colon {
+        let (r, rest) = number_at(2, rest);
+        Tuplet {
+            p: p - b'0',
+            q: small_value(q),
+            r: small_value(r),
+            rest,
+        }
+    } else {
+        Tuplet {
+            p: p - b'0',
+            q: small_value(q),
+            r: 0,
+            rest: bytes,
+        }
+    }
+}
+
+fn is_tuplet_digit(byte: u8) -> bool
+    ensures { result ≡ is_tuplet_digit byte }
+{
+    byte >= b'2' && byte <= b'9'
+}
+
+/// The value of up to two digits, 0 of none.
+fn small_value(digits: &[u8]) -> u8
+    requires few { length digits.now ≤ 2 }
+    requires digits { list_all is_digit digits.now ≡ true }
+    ensures { result ≡ value_or_zero digits.now }
+{
+    let Some((first, more)) = digits.split_first() else {
+        return 0;
+    };
+    match more.split_first() {
+        None => digit(*first),
+        Some((second, _)) => digit(*first) * 10 + digit(*second),
+    }
+}
+
+fn digit(byte: u8) -> u8
+    ensures value { result ≡ byte - 48 }
+    ensures small { is_digit byte ≡ true → result ≤ 9 }
+{
+    byte.saturating_sub(b'0')
+}

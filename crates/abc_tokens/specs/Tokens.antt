@@ -1,0 +1,91 @@
+-- The tokens of a music line: piece by piece, each the longest that stands at the front of what is
+-- left; and the first fault of a line that has no such list.
+use Rattle.std.specs.Prelude.{◌≡◌, ℕ, suc, ◌+◌, ◌-◌, List, [], ◌∷◌, length, Bool, true, false, ◌==◌, ◌||◌, if◌then◌else◌, Option, Some, None, MatchBool, MatchOption}
+use Rattle.abc_lines.specs.declared.book.Line.{Line}
+use Rattle.abc_lines.specs.declared.fault.Fault.{Fault}
+use Rattle.abc_lines.specs.declared.fault.FaultKind.{FaultKind}
+use Rattle.abc_lines.specs.declared.fault.FaultKind.TheVariants.{BadByte, Unclosed, BadLength, BadTuplet}
+use Rattle.abc_lines.specs.declared.fault.TuneError.{TuneError}
+use Rattle.abc_lines.specs.declared.fault.TuneError.TheVariants as error
+use Rattle.abc_pieces.specs.Runs.{is_digit}
+use Rattle.abc_pieces.specs.Parts.{IsLongest, HasNone, goes_on_length}
+use Rattle.abc_pieces.specs.Chords.{ChordFault}
+use Rattle.abc_pieces.specs.Graces.{GraceFault}
+use Rattle.abc_pieces.specs.Forms.{Form, StandsAt, meant, after, arrow, opening}
+use Rattle.abc_pieces.specs.declared.token.Token.{Token}
+use Rattle.abc_pieces.specs.declared.token.Flaw.{Flaw}
+use Rattle.abc_pieces.specs.declared.token.Before.{Before}
+use Rattle.abc_pieces.specs.declared.token.Before.TheVariants as behind
+use Rattle.abc_pieces.specs.declared.token.Opening.{Opening}
+use Rattle.abc_pieces.specs.declared.token.Opening.TheVariants as opens
+use Rattle.abc_tokens.specs.declared.token.Placed.{Placed}
+
+-- where s begins in a line of n bytes that ends with it
+abbrev pub column : ℕ → ℕ → ℕ
+column n left = n + 1 - left
+
+abbrev pub put : Option Token → ℕ → List Placed → List Placed
+put None at ts = ts
+put (Some t) at ts = record { token = t; column = at } ∷ ts
+
+-- the tokens of what is left of a line of n bytes, behind such a piece
+pub data Tokens (bang : Bool) (n : ℕ) : Before → List ℕ → List Placed → Type 0 where
+  ends : (before : Before) → Tokens bang n before [] []
+  goes : (before : Before) (s : List ℕ) (f : Form) (rest : List ℕ) (ts all : List Placed) → IsLongest Form (StandsAt bang before) s f rest → Tokens bang n (after f) rest ts →
+      all ≡ put (meant f) (column n (length s)) ts → Tokens bang n before s all
+
+-- a byte that goes on the piece before it, and so makes that piece a fault
+abbrev pub kind_if : Bool → FaultKind → Option FaultKind
+kind_if goes_on kind = if goes_on then Some kind else None
+
+abbrev pub kind_behind : Before → ℕ → Option FaultKind
+kind_behind behind.Bar byte = None
+kind_behind (behind.Broken right) byte = kind_if (byte == arrow right) BadLength
+kind_behind behind.Lengthy byte = kind_if (goes_on_length byte) BadLength
+kind_behind behind.Paren byte = kind_if (is_digit byte) BadTuplet
+kind_behind behind.Other byte = None
+
+-- a fault of this kind at the first of the bytes
+abbrev pub IsHere : FaultKind → List ℕ → Flaw → Type 0
+IsHere kind s flaw = flaw ≡ record { kind = kind; left = length s }
+
+-- behind a bracket: an inline field that is not closed, or the fault of a chord; a bar sign and a
+-- digit always make a piece there
+abbrev pub IsBracketFlaw : Opening → Bool → ℕ → List ℕ → Flaw → Type 0
+IsBracketFlaw opens.Bar bang byte s flaw = IsHere BadByte (byte ∷ s) flaw
+IsBracketFlaw opens.Ending bang byte s flaw = IsHere BadByte (byte ∷ s) flaw
+IsBracketFlaw opens.Inline bang byte s flaw = IsHere Unclosed (byte ∷ s) flaw
+IsBracketFlaw opens.Chord bang byte s flaw = ChordFault bang s flaw
+
+-- a byte at which no piece stands: a quote that is not closed, what a bracket or a brace opens, or
+-- the byte itself
+abbrev pub IsOwnFlaw : Bool → ℕ → List ℕ → Flaw → Type 0
+IsOwnFlaw bang byte s flaw =
+    MatchBool (byte == 34) (IsHere Unclosed (byte ∷ s) flaw)
+    (MatchBool (byte == 91) (IsBracketFlaw (opening s) bang byte s flaw)
+    (MatchBool (byte == 123) (GraceFault bang s flaw)
+    (IsHere BadByte (byte ∷ s) flaw)))
+
+abbrev pub IsLineFlaw : Bool → Before → ℕ → ℕ → List ℕ → Flaw → Type 0
+IsLineFlaw bang before at byte s flaw = MatchOption (kind_behind before byte) (IsOwnFlaw bang byte s flaw) (λ kind. flaw ≡ record { kind = kind; left = at })
+
+-- the first fault: no piece stands where reading the longest pieces has come to. The piece before
+-- it stands so many bytes from the end as `at` says.
+pub data Faulty (bang : Bool) : Before → ℕ → List ℕ → Flaw → Type 0 where
+  stuck : (before : Before) (at byte : ℕ) (s : List ℕ) (flaw : Flaw) → HasNone Form (StandsAt bang before) (byte ∷ s) → IsLineFlaw bang before at byte s flaw → Faulty bang before at (byte ∷ s) flaw
+  later : (before : Before) (at : ℕ) (s : List ℕ) (f : Form) (rest : List ℕ) (flaw : Flaw) → IsLongest Form (StandsAt bang before) s f rest → Faulty bang (after f) (length s) rest flaw → Faulty bang before at s flaw
+
+-- the tokens of a music line
+abbrev pub TokensOf : Bool → List ℕ → List Placed → Type 0
+TokensOf bang text ts = Tokens bang (length text) behind.Other text ts
+
+abbrev pub FlawOf : Bool → List ℕ → Flaw → Type 0
+FlawOf bang text flaw = Faulty bang behind.Other 0 text flaw
+
+abbrev pub fault_at : Line → Flaw → Fault
+fault_at line flaw = record { kind = flaw.kind; line = line.number; column = column (length line.text) flaw.left }
+
+-- a fault is the first of the line, and comes only where no list is; Memory is free
+abbrev pub IsErrorOf : Bool → Line → TuneError → Type 0
+IsErrorOf bang line error.Memory = Unit {0}
+IsErrorOf bang line (error.Fault fault) = (flaw : Flaw) × FlawOf bang line.text flaw × (fault ≡ fault_at line flaw) × ((ts : List Placed) → TokensOf bang line.text ts → ⊥)

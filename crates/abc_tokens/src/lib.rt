@@ -1,0 +1,14 @@
+//! The tokens of a music line, with the columns where they begin, or the first
+//! fault of the line.
+#![tactic(auto)]
+
+pub mod reader;
+pub mod token;
+
+pub use abc_pieces::{GraceChord, Len, Token};
+pub use mus_units::{Bar, Deco, Head};
+pub use reader::read_music;
+pub use token::Placed;
+
+#[cfg(test)]
+mod tests;

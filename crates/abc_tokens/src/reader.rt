@@ -1,0 +1,212 @@
+ghost use Rattle.std.specs.Prelude.{◌≡◌, ◌≢◌, ◌≤◌, ◌<◌, ◌+◌, ◌-◌, ◌^◌, ◌++◌, ◌∷◌, ℕ, List, length, IfOk, IfErr, OnOk, [], None};
+ghost use Rattle.abc_lines.specs.Good.{IsGoodLine};
+ghost use Rattle.abc_pieces.specs.Chords.{chord_at};
+ghost use Rattle.abc_pieces.specs.Forms.{opening, is_kept_field};
+ghost use Rattle.abc_pieces.specs.declared.token.Opening.TheVariants.{Chord};
+ghost use Rattle.abc_pieces.specs.Reading.{piece_at, token_of, found_within};
+ghost use Rattle.abc_tokens.specs.declared.token.Placed.{Placed};
+ghost use Rattle.abc_tokens.specs.Tokens.{TokensOf, IsErrorOf, column, put, fault_at, kind_behind, kind_if, IsBracketFlaw, IsLineFlaw, IsOwnFlaw};
+
+use crate::token::Placed;
+use abc_lines::{Fault, FaultKind, Line, TuneError};
+use abc_pieces::chord::{chord_fault, read_decos, read_heads};
+use abc_pieces::decoration::{deco_of_letter, deco_of_name};
+use abc_pieces::grace::{grace_fault, read_body};
+use abc_pieces::piece::{opening, piece_at};
+use abc_pieces::{Before, Flaw, Found, Opening, Token};
+use mus_units::{Memory, Row, Text};
+use std::alloc::Global;
+
+/// The tokens of a music line with their columns, or the first fault of the line.
+/// `bang` says that `!` is a line break. Linear in the line.
+pub fn read_music(alloc: Global, line: &Line, bang: bool) -> Result<Row<Placed>, TuneError>
+    requires { IsGoodLine line.now }
+    // What is read is the list of tokens.
+    ensures found { IfOk result (λ tokens. TokensOf bang line.now.text tokens) }
+    // There is no other list.
+    ensures only { IfOk result (λ tokens. (others : List Placed) → TokensOf bang line.now.text others → tokens ≡ others) }
+    // A fault is the first, and comes only where there is no list.
+    ensures fault { IfErr result (λ e. IsErrorOf bang line.now e) }
+{
+    let text = line.text.as_slice();
+    let mut out = Row::new(alloc);
+    let mut rest = text;
+    let mut before = Before::Other;
+    let mut at = 0;
+    'pieces: while let Some((first, behind)) = rest.split_first() {
+        let here = rest.len();
+        let Some(piece) = piece_at(bang, before, rest) else {
+            let flaw = line_flaw(bang, before, at, *first, behind);
+            return Err(TuneError::Fault(fault_at(line, flaw)));
+        };
+        let Ok(()) = add(alloc, &mut out, bang, piece.found, column(text.len(), here)) else {
+            return Err(TuneError::Memory);
+        };
+        rest = piece.rest;
+        before = piece.after;
+        at = here;
+    }
+    Ok(out)
+}
+
+fn column(n: usize, left: usize) -> u32
+    requires short { n ≤ 2 ^ 30 }
+    requires within { left ≤ n + 1 }
+    ensures { result ≡ column n left }
+{
+    (n + 1 - left) as u32
+}
+
+fn fault_at(line: &Line, flaw: Flaw) -> Fault
+    requires short { IsGoodLine line.now }
+    requires within { flaw.left ≤ length line.now.text + 1 }
+    ensures { result ≡ fault_at line.now flaw }
+{
+    Fault {
+        kind: flaw.kind,
+        line: line.number,
+        column: column(line.text.len(), flaw.left),
+    }
+}
+
+/// The fault where no piece stands: `first` and then `behind` are left, and the
+/// piece before begins `at` bytes from the end.
+fn line_flaw(bang: bool, before: Before, at: usize, first: u8, behind: &[u8]) -> Flaw
+    requires small { length behind.now < 2 ^ 30 }
+    requires none { piece_at bang before (first ∷ behind.now) ≡ None }
+    ensures flaw { IsLineFlaw bang before at first behind.now result }
+    ensures within { (n : ℕ) → at ≤ n → length behind.now < n → result.left ≤ n }
+{
+    match kind_behind(before, first) {
+        Some(kind) => Flaw { kind, left: at },
+        None => own_flaw(bang, before, first, behind),
+    }
+}
+
+fn kind_behind(before: Before, byte: u8) -> Option<FaultKind>
+    ensures { result ≡ kind_behind before byte }
+{
+    match before {
+        Before::Bar => None,
+        Before::Broken { right } => {
+            kind_if(
+                byte == if right { b'>' } else { b'<' },
+                FaultKind::BadLength,
+            )
+        }
+        Before::Lengthy => kind_if(byte.is_ascii_digit() || byte == b'/', FaultKind::BadLength),
+        Before::Paren => kind_if(byte.is_ascii_digit(), FaultKind::BadTuplet),
+        Before::Other => None,
+    }
+}
+
+fn kind_if(goes_on: bool, kind: FaultKind) -> Option<FaultKind>
+    ensures { result ≡ kind_if goes_on kind }
+{
+    if goes_on { Some(kind) } else { None }
+}
+
+fn own_flaw(bang: bool, before: Before, first: u8, behind: &[u8]) -> Flaw
+    requires small { length behind.now < 2 ^ 30 }
+    requires none { piece_at bang before (first ∷ behind.now) ≡ None }
+    ensures flaw { IsOwnFlaw bang first behind.now result }
+    ensures within { result.left ≤ length behind.now + 1 }
+{
+    if first == b'"' {
+        Flaw {
+            kind: FaultKind::Unclosed,
+            left: behind.len() + 1,
+        }
+    } else if first == b'[' {
+        bracket_flaw(bang, behind)
+    } else if first == b'{' {
+        grace_fault(bang, behind)
+    } else {
+        Flaw {
+            kind: FaultKind::BadByte,
+            left: behind.len() + 1,
+        }
+    }
+}
+
+fn bracket_flaw(bang: bool, behind: &[u8]) -> Flaw
+    requires small { length behind.now < 2 ^ 30 }
+    requires none { opening behind.now ≡ Chord → chord_at bang behind.now ≡ None }
+    ensures flaw { IsBracketFlaw (opening behind.now) bang 91 behind.now result }
+    ensures within { result.left ≤ length behind.now + 1 }
+{
+    match opening(behind) {
+        Opening::Bar | Opening::Ending => Flaw {
+            kind: FaultKind::BadByte,
+            left: behind.len() + 1,
+        },
+        Opening::Inline => Flaw {
+            kind: FaultKind::Unclosed,
+            left: behind.len() + 1,
+        },
+        Opening::Chord => chord_fault(bang, behind),
+    }
+}
+
+fn add(
+    alloc: Global,
+    out: &mut Row<Placed>,
+    bang: bool,
+    found: Found<'_>,
+    column: u32,
+) -> Result<(), Memory>
+    requires { found_within found (2 ^ 30) }
+    ensures { OnOk result (out.new ≡ out.old ++ put (token_of bang found.entry) column []) }
+{
+    match token(alloc, bang, found)? {
+        Some(token) => out.push(Placed { token, column }),
+        None => Ok(()),
+    }
+}
+
+fn token(alloc: Global, bang: bool, found: Found<'_>) -> Result<Option<Token>, Memory>
+    requires { found_within found (2 ^ 30) }
+    ensures { IfOk result (λ t. t ≡ token_of bang found.entry) }
+{
+    Ok(Some(match found {
+        Found::Note { head, len } => Token::Note { head, len },
+        Found::Rest { seen, len } => Token::Rest { seen, len },
+        Found::Measures { seen, count } => Token::Measures { seen, count },
+        Found::Chord { inside, len } => {
+            let heads = read_heads(alloc, bang, inside)?;
+            let decos = read_decos(alloc, bang, inside)?;
+            Token::Chord { heads, decos, len }
+        }
+        Found::Grace { slash, inside } => {
+            let body = read_body(alloc, bang, inside)?;
+            Token::Grace { slash, body }
+        }
+        Found::Tuplet { p, q, r } => Token::Tuplet { p, q, r },
+        Found::SlurOn => Token::SlurOn,
+        Found::SlurOff => Token::SlurOff,
+        Found::Tie => Token::Tie,
+        Found::Broken { right, dots } => Token::Broken { right, dots },
+        Found::Bar(bar) => Token::Bar(bar),
+        Found::Ending(text) => Token::Ending(Text::from_slice(alloc, text)?),
+        Found::Letter(byte) => Token::Deco(deco_of_letter(byte)),
+        Found::Named(name) => Token::Deco(deco_of_name(alloc, name)?),
+        Found::Says(text) => Token::Says(Text::from_slice(alloc, text)?),
+        Found::Inline { letter, text } => {
+            if !is_kept_field(letter) {
+                return Ok(None);
+            }
+            let text = Text::from_slice(alloc, text)?;
+            Token::Inline { letter, text }
+        }
+        Found::Cut => Token::Cut,
+        Found::Space => Token::Space,
+        Found::Passed => return Ok(None),
+    }))
+}
+
+/// Whether an inline field of this letter is kept.
+fn is_kept_field(letter: u8) -> bool
+    ensures { result ≡ is_kept_field letter }
+{
+    letter == b'K' || letter == b'L' || letter == b'M' || letter == b'V'
+}
