@@ -3,3 +3,4 @@ pub mod Ranges
 pub mod Shown
 pub mod Signs
 pub mod Taken
+pub mod FoundMarks

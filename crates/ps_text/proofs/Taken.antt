@@ -54,7 +54,7 @@ numbers_nil : (name : List ℕ) → numbers [] ++ name ≡ name
 unfolding numbers
 numbers_nil name = refl
 
-numbers_cons : (z : ℤ) (zs : List ℤ) (name : List ℕ) → numbers (z ∷ zs) ++ name ≡ signed_decimal z ++ 32 ∷ (numbers zs ++ name)
+pub numbers_cons : (z : ℤ) (zs : List ℤ) (name : List ℕ) → numbers (z ∷ zs) ++ name ≡ signed_decimal z ++ 32 ∷ (numbers zs ++ name)
 unfolding numbers
 numbers_cons z zs name = simp append_assoc
 

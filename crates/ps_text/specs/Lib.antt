@@ -6,3 +6,4 @@ pub mod Prolog
 pub mod Document
 pub mod Scanning
 pub mod Ranks
+pub mod Reading

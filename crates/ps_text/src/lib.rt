@@ -11,6 +11,7 @@ pub mod marks;
 pub mod names;
 pub mod prolog;
 pub mod range;
+pub mod reading;
 pub mod scanning;
 pub mod sheet;
 pub mod words;
@@ -19,6 +20,7 @@ pub mod writing;
 pub use document::{put_page, put_trailer};
 pub use marks::PageMark;
 pub use prolog::put_prolog;
+pub use reading::read_op;
 pub use sheet::{Frame, Item, Page, Sheet, Staff};
 pub use writing::write_op;
 

@@ -1,4 +1,4 @@
-use crate::{Frame, Page, PageMark, put_page, put_prolog, put_trailer, write_op};
+use crate::{Frame, Page, PageMark, put_page, put_prolog, put_trailer, read_op, write_op};
 use mus_units::{Glyph, Memory, Row, Size, Text, Way};
 use std::alloc::Global;
 use std::test::*;
@@ -51,11 +51,22 @@ fn arc(x1: i64, x2: i64, bulge: i32) -> PageMark {
     }
 }
 
-/// Whether a mark on a staff at `y` has this line, or none where the line is
-/// empty.
+/// Whether a line on a staff at `y` is read as a mark that has this line.
+fn is_read_back(alloc: Global, line: &[u8], y: i64) -> Result<bool, Memory> {
+    let Some(m) = read_op(alloc, line, y)? else {
+        return Ok(false);
+    };
+    match write_op(alloc, &m, y)? {
+        Some(text) => Ok(text.as_slice() == line),
+        None => Ok(false),
+    }
+}
+
+/// Whether a mark on a staff at `y` has this line and the line is read back, or
+/// no line where it is empty.
 fn has_line(alloc: Global, m: &PageMark, y: i64, line: &[u8]) -> Result<bool, Memory> {
     match write_op(alloc, m, y)? {
-        Some(text) => Ok(text.as_slice() == line),
+        Some(text) => Ok(text.as_slice() == line && is_read_back(alloc, line, y)?),
         None => Ok(line.is_empty()),
     }
 }
@@ -104,6 +115,34 @@ fn all_lines(alloc: Global) -> Result<bool, Memory> {
 #[test]
 fn writes_marks(rt: HostRuntime) -> Result<(), Fail> {
     assert!(rt; matches!(all_lines(rt.alloc()), Ok(true)));
+    Ok(())
+}
+
+#[test]
+fn refuses_other_lines(rt: HostRuntime) -> Result<(), Fail> {
+    for line in [
+        b"200  500 0 72200 cg".as_slice(),
+        b"0200 500 0 72200 cg",
+        b"+200 500 0 72200 cg",
+        b"-0 500 0 72200 cg",
+        b"200 500 0 72201 cg",
+        b"200 500 0 72200 zz",
+        b"200 500 0 72200 cg ",
+        b"2147483648 500 0 72200 cg",
+        b"280 2000 281 -500 1950 72200 st",
+        b"1950 74200 5250 74200 5250 73951 1950 73950 bu",
+        b"5250 74200 1950 74200 1950 73950 5250 73950 bu",
+        b"() 0 0 0 72200 t1",
+        b"(a) 0 0 0 72200 t3",
+        b"(a)  0 0 0 72200 t1",
+        b"(\\141) 0 0 0 72200 t1",
+        b"",
+    ] {
+        match read_op(rt.alloc(), line, 72_200) {
+            Ok(read) => assert!(rt; read.is_none()),
+            Err(_) => assert!(rt; false),
+        }
+    }
     Ok(())
 }
 

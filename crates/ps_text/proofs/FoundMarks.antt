@@ -1,0 +1,411 @@
+-- A mark is found again from its numbers and its name.
+use Rattle.std.proofs.Common.{Result, Ok, Err, IfOk, cond, int_div, ◌<◌, ◌≤◌, ◌^◌, suc, ◌≡◌, refl, sym, ◌∙◌, subst, ℕ, ℤ, pos, negsuc, ◌+ℤ◌, ◌-ℤ◌, ◌≤ℤ◌, Bool, true, false, not, ◌&&◌, List, [], ◌∷◌, ◌++◌, append_assoc, length, codes, Option, Some, None, IsTrue, arith}
+use Rattle.std.proofs.lemmas.Int.{ints}
+use Rattle.std.proofs.lemmas.Fmt.{decimal_is_IsNumeral}
+use Rattle.std.specs.Fmt.{decimal, signed_decimal}
+use Rattle.std.specs.Str.Parse.{AllDigits}
+use Rattle.std.specs.Int.RustNames.{FitsSigned}
+use lib.Signed.{mag}
+use mir.Syntax.{w64}
+use Rattle.ps_text.specs.Fields.{shown, in_parentheses}
+use Rattle.std.specs.Str.{bytes_eq}
+use Rattle.std.specs.List.{list_all, AllByRecursion, flat_map}
+use Rattle.mus_units.specs.declared.glyph.Glyph.{Glyph}
+use Rattle.mus_units.specs.declared.glyph.Glyph.TheVariants as glyphs
+use Rattle.mus_units.specs.declared.glyph.Size.{Size}
+use Rattle.mus_units.specs.declared.glyph.Size.TheVariants as sizes
+use Rattle.mus_units.specs.declared.glyph.Way.{Way}
+use Rattle.mus_units.specs.declared.glyph.Way.TheVariants as ways
+use Rattle.glyph_paths.specs.Names.{glyph_name, glyphs_in_order}
+use Rattle.glyph_paths.specs.Procedure.{numbers}
+use Rattle.ps_text.specs.declared.marks.PageMark.{PageMark}
+use Rattle.ps_text.specs.declared.marks.PageMark.TheVariants as marks
+use Rattle.ps_text.specs.Names.{size_name, way_name}
+use Rattle.ps_text.specs.Range.{IsNumber, IsOffset, IsPageMark, is_shown}
+use Rattle.ps_text.specs.Line.{mark_line, glyph_line, stem_line, beam_line, arc_line, words_line, points, ends_of, quarter}
+use Rattle.ps_text.specs.Scanning.{is_field}
+use Rattle.ps_text.proofs.Taken.{numbers_cons}
+use Rattle.ps_text.specs.Reading.{is_small, glyph_named, glyph_at, glyph_from, words_at, words_from, stem_at, stem_from, offset_from, beam_from, arc_from, mark_from}
+
+pub small_low : (z : ℤ) → is_small z ≡ true → negsuc 2147483647 ≤ℤ z
+unfolding is_small
+small_low z h = grind (arith, ints)
+
+pub small_high : (z : ℤ) → is_small z ≡ true → z ≤ℤ pos 2147483647
+unfolding is_small
+small_high z h = grind (arith, ints)
+
+pub offset_small : (z : ℤ) → IsOffset z → is_small z ≡ true
+unfolding is_small
+offset_small z h = (let low = h.low in let high = h.high in grind (arith, ints))
+
+-- an offset is a number of a page
+pub offset_number : (z : ℤ) → IsOffset z → IsNumber z
+offset_number z h = record { low = omega (arith, ints, h.low); high = omega (arith, ints, h.high) }
+
+-- a number that isn't one of 64 bits isn't one of 32
+mag_small : (z : ℤ) → negsuc 2147483647 ≤ℤ z → z ≤ℤ pos 2147483647 → mag z < 2 ^ 63
+mag_small (pos n) low high = omega (arith, ints)
+mag_small (negsuc n) low high = omega (arith, ints)
+
+pub too_far : (z y : ℤ) → (FitsSigned w64 (z -ℤ y) → ⊥) → None ≡ offset_from z y
+unfolding offset_from
+too_far z y none = by_test (is_small (z -ℤ y)) refl
+  where
+    by_test : (b : Bool) → is_small (z -ℤ y) ≡ b → None ≡ cond b (Some (z -ℤ y)) None
+    by_test true e = absurd (none (record { sfits = mag_small (z -ℤ y) (small_low (z -ℤ y) e) (small_high (z -ℤ y) e) }))
+    by_test false e = refl
+
+-- what is taken off again
+back : (y z : ℤ) → ((y +ℤ z) -ℤ y) ≡ z
+back y z = omega (arith, ints)
+
+-- the names of glyphs are none of the other names, and each names its glyph
+is_no_other : List ℕ → Bool
+is_no_other name = not (bytes_eq name (codes "st")) && (not (bytes_eq name (codes "ac")) && (not (bytes_eq name (codes "bu")) && (not (bytes_eq name (codes "bd")) && not (bytes_eq name (codes "gb")))))
+
+no_other : (g : Glyph) → is_no_other (glyph_name g) ≡ true
+unfolding is_no_other
+no_other glyphs.Hb = refl
+no_other glyphs.Hw = refl
+no_other glyphs.Hh = refl
+no_other glyphs.Hq = refl
+no_other glyphs.Gh = refl
+no_other glyphs.Dt = refl
+no_other glyphs.Lg = refl
+no_other glyphs.Fu = refl
+no_other glyphs.Fd = refl
+no_other glyphs.Gf = refl
+no_other glyphs.Gs = refl
+no_other glyphs.Sr = refl
+no_other glyphs.Sl = refl
+no_other glyphs.R0 = refl
+no_other glyphs.R1 = refl
+no_other glyphs.R2 = refl
+no_other glyphs.R4 = refl
+no_other glyphs.R8 = refl
+no_other glyphs.Ax = refl
+no_other glyphs.As = refl
+no_other glyphs.An = refl
+no_other glyphs.Af = refl
+no_other glyphs.Ag = refl
+no_other glyphs.Cg = refl
+no_other glyphs.Cf = refl
+no_other glyphs.Cc = refl
+no_other glyphs.Bt = refl
+no_other glyphs.Bw = refl
+no_other glyphs.Bf = refl
+no_other glyphs.Bi = refl
+no_other glyphs.Bb = refl
+no_other glyphs.Bo = refl
+no_other glyphs.Dl = refl
+no_other glyphs.Dr = refl
+no_other glyphs.Nn = refl
+no_other glyphs.Ks = refl
+no_other glyphs.Kr = refl
+no_other glyphs.Kf = refl
+no_other glyphs.Ka = refl
+no_other glyphs.Km = refl
+no_other glyphs.Kc = refl
+no_other glyphs.Kp = refl
+no_other glyphs.Kg = refl
+no_other glyphs.Kt = refl
+no_other glyphs.Ku = refl
+no_other glyphs.Kd = refl
+no_other glyphs.Kn = refl
+
+pub named : (g : Glyph) → glyph_named (glyph_name g) ≡ Some g
+unfolding glyph_named glyphs_in_order
+named glyphs.Hb = refl
+named glyphs.Hw = refl
+named glyphs.Hh = refl
+named glyphs.Hq = refl
+named glyphs.Gh = refl
+named glyphs.Dt = refl
+named glyphs.Lg = refl
+named glyphs.Fu = refl
+named glyphs.Fd = refl
+named glyphs.Gf = refl
+named glyphs.Gs = refl
+named glyphs.Sr = refl
+named glyphs.Sl = refl
+named glyphs.R0 = refl
+named glyphs.R1 = refl
+named glyphs.R2 = refl
+named glyphs.R4 = refl
+named glyphs.R8 = refl
+named glyphs.Ax = refl
+named glyphs.As = refl
+named glyphs.An = refl
+named glyphs.Af = refl
+named glyphs.Ag = refl
+named glyphs.Cg = refl
+named glyphs.Cf = refl
+named glyphs.Cc = refl
+named glyphs.Bt = refl
+named glyphs.Bw = refl
+named glyphs.Bf = refl
+named glyphs.Bi = refl
+named glyphs.Bb = refl
+named glyphs.Bo = refl
+named glyphs.Dl = refl
+named glyphs.Dr = refl
+named glyphs.Nn = refl
+named glyphs.Ks = refl
+named glyphs.Kr = refl
+named glyphs.Kf = refl
+named glyphs.Ka = refl
+named glyphs.Km = refl
+named glyphs.Kc = refl
+named glyphs.Kp = refl
+named glyphs.Kg = refl
+named glyphs.Kt = refl
+named glyphs.Ku = refl
+named glyphs.Kd = refl
+named glyphs.Kn = refl
+
+is_false : (b : Bool) → not b ≡ true → b ≡ false
+is_false true h = cc
+is_false false h = refl
+
+both : (a b : Bool) → (a && b) ≡ true → (a ≡ true) × (b ≡ true)
+both true b h = (refl, h)
+both false b h = cc
+
+by_glyph : (y : ℤ) (zs : List ℤ) (name : List ℕ) → is_no_other name ≡ true → mark_from y zs name ≡ glyph_from zs (glyph_named name)
+unfolding mark_from is_no_other
+by_glyph y zs name h =
+    let a = both (not (bytes_eq name (codes "st"))) (not (bytes_eq name (codes "ac")) && (not (bytes_eq name (codes "bu")) && (not (bytes_eq name (codes "bd")) && not (bytes_eq name (codes "gb"))))) h in
+    let b = both (not (bytes_eq name (codes "ac"))) (not (bytes_eq name (codes "bu")) && (not (bytes_eq name (codes "bd")) && not (bytes_eq name (codes "gb")))) a.1 in
+    let c = both (not (bytes_eq name (codes "bu"))) (not (bytes_eq name (codes "bd")) && not (bytes_eq name (codes "gb"))) b.1 in
+    let d = both (not (bytes_eq name (codes "bd"))) (not (bytes_eq name (codes "gb"))) c.1 in
+    rw (is_false _ a.0, is_false _ b.0, is_false _ c.0, is_false _ d.0, is_false _ d.1) refl
+
+pub glyph_found : (y x dx dy : ℤ) (g : Glyph) → IsOffset dx → IsOffset dy → mark_from y (dx ∷ dy ∷ x ∷ y ∷ []) (glyph_name g) ≡ Some (marks.Glyph g x dx dy)
+unfolding glyph_at
+glyph_found y x dx dy g a b = by_glyph y (dx ∷ dy ∷ x ∷ y ∷ []) (glyph_name g) (no_other g) ∙ rw (named g, offset_small dx a, offset_small dy b) refl
+
+pub stem_found : (y x dx from to : ℤ) → IsOffset dx → IsOffset from → IsOffset to → mark_from y (dx ∷ to ∷ dx ∷ from ∷ x ∷ y ∷ []) (codes "st") ≡ Some (marks.Stem x dx from to)
+unfolding mark_from stem_from stem_at
+stem_found y x dx from to a b c = rw (offset_small dx a, offset_small from b, offset_small to c) refl
+
+offset_back : (y z : ℤ) → IsOffset z → offset_from (y +ℤ z) y ≡ Some z
+unfolding offset_from
+offset_back y z h = rw (back y z, offset_small z h) refl
+
+beam_back : (way : Way) (y x1 x2 from to p q r s : ℤ) → IsOffset from → IsOffset to → beam_from way y (p ∷ q ∷ r ∷ s ∷ x2 ∷ (y +ℤ to) ∷ x1 ∷ (y +ℤ from) ∷ []) ≡ Some (marks.Beam way x1 x2 from to)
+unfolding beam_from
+beam_back way y x1 x2 from to p q r s a b = rw (offset_back y from a, offset_back y to b) refl
+
+pub beam_found : (way : Way) (y x1 x2 from to p q r s : ℤ) → IsOffset from → IsOffset to → mark_from y (p ∷ q ∷ r ∷ s ∷ x2 ∷ (y +ℤ to) ∷ x1 ∷ (y +ℤ from) ∷ []) (way_name way) ≡ Some (marks.Beam way x1 x2 from to)
+unfolding mark_from
+beam_found ways.Up y x1 x2 from to p q r s a b = beam_back ways.Up y x1 x2 from to p q r s a b
+beam_found ways.Down y x1 x2 from to p q r s a b = beam_back ways.Down y x1 x2 from to p q r s a b
+beam_found ways.Grace y x1 x2 from to p q r s a b = beam_back ways.Grace y x1 x2 from to p q r s a b
+
+pub arc_found : (y x1 x2 from to bulge p q s : ℤ) → IsOffset from → IsOffset to → IsOffset bulge
+    → mark_from y (p ∷ ((y +ℤ from) +ℤ bulge) ∷ q ∷ s ∷ x2 ∷ (y +ℤ to) ∷ x1 ∷ (y +ℤ from) ∷ []) (codes "ac") ≡ Some (marks.Arc x1 x2 from to bulge)
+unfolding mark_from arc_from
+arc_found y x1 x2 from to bulge p q s a b c = rw (offset_back y from a, offset_back y to b, offset_back (y +ℤ from) bulge c) refl
+
+pub words_found : (size : Size) (y x dx dy : ℤ) (words : List ℕ) → IsOffset dx → IsOffset dy → words_from words (dx ∷ dy ∷ x ∷ y ∷ []) (size_name size) ≡ Some (marks.Words size x dx dy words)
+unfolding words_from words_at
+words_found sizes.Small y x dx dy words a b = rw (offset_small dx a, offset_small dy b) refl
+words_found sizes.Big y x dx dy words a b = rw (offset_small dx a, offset_small dy b) refl
+
+-- no number begins with an opening parenthesis
+digits_open : (xs t rest : List ℕ) → 1 ≤ length xs → AllDigits 10 xs → xs ++ t ≡ 40 ∷ rest → ⊥
+digits_open [] t rest some all e = absurd (omega arith)
+digits_open (x ∷ xs) t rest some all e = let is : x ≡ 40 = cc in let d = rw is at all.0 in omega (arith, d)
+
+minus_open : (ds t rest : List ℕ) → (45 ∷ ds) ++ t ≡ 40 ∷ rest → ⊥
+minus_open ds t rest e = cc
+
+natural_open : (n : ℕ) (ds t rest : List ℕ) → n < 2 ^ 64 → ds ≡ decimal n → ds ++ t ≡ 40 ∷ rest → ⊥
+natural_open n ds t rest h is e = (let d = (decimal_is_IsNumeral n h).0 in digits_open ds t rest (subst (λ xs. 1 ≤ length xs) (sym is) d.0) (subst (AllDigits 10) (sym is) d.1) e)
+
+number_open : (z : ℤ) (t rest : List ℕ) → IsNumber z → signed_decimal z ++ t ≡ 40 ∷ rest → ⊥
+number_open (pos n) t rest h e = natural_open n (decimal n) t rest (omega (arith, ints, h.high)) refl e
+number_open (negsuc n) t rest h e = minus_open (decimal (suc n)) t rest e
+
+numbers_open : (z : ℤ) (zs : List ℤ) (name rest : List ℕ) → IsNumber z → numbers (z ∷ zs) ++ name ≡ 40 ∷ rest → ⊥
+numbers_open z zs name rest h e = number_open z (32 ∷ (numbers zs ++ name)) rest h (sym (numbers_cons z zs name) ∙ e)
+
+-- the numbers and the name of a mark that has no words
+abbrev mark_numbers : ℤ → PageMark → List ℤ
+mark_numbers y (marks.Glyph glyph x dx dy) = dx ∷ dy ∷ x ∷ y ∷ []
+mark_numbers y (marks.Words size x dx dy words) = dx ∷ dy ∷ x ∷ y ∷ []
+mark_numbers y (marks.Stem x dx from to) = dx ∷ to ∷ dx ∷ from ∷ x ∷ y ∷ []
+mark_numbers y (marks.Beam way x1 x2 from to) = x1 ∷ ((y +ℤ from) +ℤ pos 250) ∷ x2 ∷ ((y +ℤ to) +ℤ pos 250) ∷ x2 ∷ (y +ℤ to) ∷ x1 ∷ (y +ℤ from) ∷ []
+mark_numbers y (marks.Arc x1 x2 from to bulge) = (x1 +ℤ quarter x1 x2) ∷ ((y +ℤ from) +ℤ bulge) ∷ (x2 -ℤ quarter x1 x2) ∷ ((y +ℤ to) +ℤ bulge) ∷ x2 ∷ (y +ℤ to) ∷ x1 ∷ (y +ℤ from) ∷ []
+
+abbrev mark_name : PageMark → List ℕ
+mark_name (marks.Glyph glyph x dx dy) = glyph_name glyph
+mark_name (marks.Words size x dx dy words) = size_name size
+mark_name (marks.Stem x dx from to) = codes "st"
+mark_name (marks.Beam way x1 x2 from to) = way_name way
+mark_name (marks.Arc x1 x2 from to bulge) = codes "ac"
+
+abbrev IsWordless : PageMark → Type 0
+IsWordless (marks.Words size x dx dy words) = ⊥
+IsWordless _ = Unit {0}
+
+wordless_line : (y : ℤ) (m : PageMark) → IsWordless m → mark_line y m ≡ numbers (mark_numbers y m) ++ mark_name m
+unfolding glyph_line stem_line beam_line arc_line points ends_of
+wordless_line y (marks.Glyph glyph x dx dy) h = refl
+wordless_line y (marks.Words size x dx dy words) h = absurd h
+wordless_line y (marks.Stem x dx from to) h = refl
+wordless_line y (marks.Beam way x1 x2 from to) h = refl
+wordless_line y (marks.Arc x1 x2 from to bulge) h = refl
+
+-- a quarter of a distance is within it
+quarter_in : (d : ℤ) → pos 0 ≤ℤ d → (pos 0 ≤ℤ int_div d (pos 4)) × (int_div d (pos 4) ≤ℤ d)
+quarter_in (pos n) h = (omega (arith, ints), omega (arith, ints))
+quarter_in (negsuc n) h = absurd (omega (arith, ints))
+
+wordless_numbers : (y : ℤ) (m : PageMark) → IsPageMark y m → AllByRecursion IsNumber (mark_numbers y m)
+wordless_numbers y (marks.Glyph glyph x dx dy) h = (offset_number dx h.across, (offset_number dy h.above, (h.anchor, (h.base, tt))))
+wordless_numbers y (marks.Words size x dx dy words) h = (offset_number dx h.0.across, (offset_number dy h.0.above, (h.0.anchor, (h.0.base, tt))))
+wordless_numbers y (marks.Stem x dx from to) h =
+    (offset_number dx h.start.across, (offset_number to h.end, (offset_number dx h.start.across, (offset_number from h.start.above, (h.start.anchor, (h.start.base, tt))))))
+wordless_numbers y (marks.Beam way x1 x2 from to) h =
+    (h.stretch.first, (h.left.above, (h.stretch.last, (h.right.above, (h.stretch.last, (h.right.point, (h.stretch.first, (h.left.point, tt))))))))
+wordless_numbers y (marks.Arc x1 x2 from to bulge) h =
+    let q = quarter_in (x2 -ℤ x1) (omega (arith, ints, h.stretch.rising)) in
+    let inner : IsNumber (x1 +ℤ quarter x1 x2) = record { low = omega (arith, ints, q.0, h.stretch.first.low); high = omega (arith, ints, q.1, h.stretch.last.high) } in
+    let outer : IsNumber (x2 -ℤ quarter x1 x2) = record { low = omega (arith, ints, q.1, h.stretch.first.low); high = omega (arith, ints, q.0, h.stretch.last.high) } in
+    (inner, (h.left.above, (outer, (h.right.above, (h.stretch.last, (h.right.point, (h.stretch.first, (h.left.point, tt))))))))
+
+glyph_is_field : (g : Glyph) → list_all is_field (glyph_name g) ≡ true
+glyph_is_field glyphs.Hb = refl
+glyph_is_field glyphs.Hw = refl
+glyph_is_field glyphs.Hh = refl
+glyph_is_field glyphs.Hq = refl
+glyph_is_field glyphs.Gh = refl
+glyph_is_field glyphs.Dt = refl
+glyph_is_field glyphs.Lg = refl
+glyph_is_field glyphs.Fu = refl
+glyph_is_field glyphs.Fd = refl
+glyph_is_field glyphs.Gf = refl
+glyph_is_field glyphs.Gs = refl
+glyph_is_field glyphs.Sr = refl
+glyph_is_field glyphs.Sl = refl
+glyph_is_field glyphs.R0 = refl
+glyph_is_field glyphs.R1 = refl
+glyph_is_field glyphs.R2 = refl
+glyph_is_field glyphs.R4 = refl
+glyph_is_field glyphs.R8 = refl
+glyph_is_field glyphs.Ax = refl
+glyph_is_field glyphs.As = refl
+glyph_is_field glyphs.An = refl
+glyph_is_field glyphs.Af = refl
+glyph_is_field glyphs.Ag = refl
+glyph_is_field glyphs.Cg = refl
+glyph_is_field glyphs.Cf = refl
+glyph_is_field glyphs.Cc = refl
+glyph_is_field glyphs.Bt = refl
+glyph_is_field glyphs.Bw = refl
+glyph_is_field glyphs.Bf = refl
+glyph_is_field glyphs.Bi = refl
+glyph_is_field glyphs.Bb = refl
+glyph_is_field glyphs.Bo = refl
+glyph_is_field glyphs.Dl = refl
+glyph_is_field glyphs.Dr = refl
+glyph_is_field glyphs.Nn = refl
+glyph_is_field glyphs.Ks = refl
+glyph_is_field glyphs.Kr = refl
+glyph_is_field glyphs.Kf = refl
+glyph_is_field glyphs.Ka = refl
+glyph_is_field glyphs.Km = refl
+glyph_is_field glyphs.Kc = refl
+glyph_is_field glyphs.Kp = refl
+glyph_is_field glyphs.Kg = refl
+glyph_is_field glyphs.Kt = refl
+glyph_is_field glyphs.Ku = refl
+glyph_is_field glyphs.Kd = refl
+glyph_is_field glyphs.Kn = refl
+
+name_is_field : (m : PageMark) → list_all is_field (mark_name m) ≡ true
+name_is_field (marks.Glyph glyph x dx dy) = glyph_is_field glyph
+name_is_field (marks.Words sizes.Small x dx dy words) = refl
+name_is_field (marks.Words sizes.Big x dx dy words) = refl
+name_is_field (marks.Stem x dx from to) = refl
+name_is_field (marks.Beam ways.Up x1 x2 from to) = refl
+name_is_field (marks.Beam ways.Down x1 x2 from to) = refl
+name_is_field (marks.Beam ways.Grace x1 x2 from to) = refl
+name_is_field (marks.Arc x1 x2 from to bulge) = refl
+
+wordless_found : (y : ℤ) (m : PageMark) → IsWordless m → IsPageMark y m → mark_from y (mark_numbers y m) (mark_name m) ≡ Some m
+wordless_found y (marks.Glyph glyph x dx dy) w h = glyph_found y x dx dy glyph h.across h.above
+wordless_found y (marks.Words size x dx dy words) w h = absurd w
+wordless_found y (marks.Stem x dx from to) w h = stem_found y x dx from to h.start.across h.start.above h.end
+wordless_found y (marks.Beam way x1 x2 from to) w h = beam_found way y x1 x2 from to x1 ((y +ℤ from) +ℤ pos 250) x2 ((y +ℤ to) +ℤ pos 250) h.left.offset h.right.offset
+wordless_found y (marks.Arc x1 x2 from to bulge) w h =
+    arc_found y x1 x2 from to bulge (x1 +ℤ quarter x1 x2) (x2 -ℤ quarter x1 x2) ((y +ℤ to) +ℤ bulge) h.left.offset h.right.offset h.rises
+
+words_text : (size : Size) (x dx dy y : ℤ) (words rest : List ℕ) → words_line size x dx dy words y ≡ 40 ∷ rest
+    → rest ≡ flat_map shown words ++ 41 ∷ 32 ∷ (numbers (dx ∷ dy ∷ x ∷ y ∷ []) ++ size_name size)
+unfolding words_line in_parentheses
+words_text size x dx dy y words rest e =
+    let line : 40 ∷ (flat_map shown words ++ 41 ∷ 32 ∷ (numbers (dx ∷ dy ∷ x ∷ y ∷ []) ++ size_name size)) ≡ 40 ∷ rest = sym (simp append_assoc) ∙ e in
+    cc
+
+is_wordless : (y : ℤ) (m : PageMark) (first : ℕ) (rest : List ℕ) → (first ≡ 40 → ⊥) → mark_line y m ≡ first ∷ rest → IsWordless m
+unfolding words_line in_parentheses
+is_wordless y (marks.Glyph glyph x dx dy) first rest other e = tt
+is_wordless y (marks.Words size x dx dy words) first rest other e = other (cc)
+is_wordless y (marks.Stem x dx from to) first rest other e = tt
+is_wordless y (marks.Beam way x1 x2 from to) first rest other e = tt
+is_wordless y (marks.Arc x1 x2 from to bulge) first rest other e = tt
+
+wordless_open : (y : ℤ) (m : PageMark) (rest : List ℕ) → IsWordless m → IsPageMark y m → mark_line y m ≡ 40 ∷ rest → ⊥
+wordless_open y (marks.Glyph glyph x dx dy) rest w h e = numbers_open dx (dy ∷ x ∷ y ∷ []) (glyph_name glyph) rest (offset_number dx h.across) (sym (wordless_line y (marks.Glyph glyph x dx dy) w) ∙ e)
+wordless_open y (marks.Words size x dx dy words) rest w h e = w
+wordless_open y (marks.Stem x dx from to) rest w h e = numbers_open dx (to ∷ dx ∷ from ∷ x ∷ y ∷ []) (codes "st") rest (offset_number dx h.start.across) (sym (wordless_line y (marks.Stem x dx from to) w) ∙ e)
+wordless_open y (marks.Beam way x1 x2 from to) rest w h e =
+    (let all = wordless_numbers y (marks.Beam way x1 x2 from to) h in numbers_open x1 _ (way_name way) rest all.0 (sym (wordless_line y (marks.Beam way x1 x2 from to) w) ∙ e))
+wordless_open y (marks.Arc x1 x2 from to bulge) rest w h e =
+    (let all = wordless_numbers y (marks.Arc x1 x2 from to bulge) h in numbers_open (x1 +ℤ quarter x1 x2) _ (codes "ac") rest all.0 (sym (wordless_line y (marks.Arc x1 x2 from to bulge) w) ∙ e))
+
+-- what is found behind an opening parenthesis
+pub found_words : (y : ℤ) (line rest : List ℕ) (o : Option PageMark) → line ≡ 40 ∷ rest
+    → ((words : List ℕ) (zs : List ℤ) (name : List ℕ) → IsTrue (list_all is_shown words) → AllByRecursion IsNumber zs → list_all is_field name ≡ true
+    → rest ≡ flat_map shown words ++ 41 ∷ 32 ∷ (numbers zs ++ name) → o ≡ words_from words zs name)
+    → (m : PageMark) → IsPageMark y m → mark_line y m ≡ line → o ≡ Some m
+found_words y line rest o is reads (marks.Words size x dx dy words) h e =
+    let all = wordless_numbers y (marks.Words size x dx dy words) h in
+    reads words (dx ∷ dy ∷ x ∷ y ∷ []) (size_name size) h.1.shown all (name_is_field (marks.Words size x dx dy words)) (words_text size x dx dy y words rest (e ∙ is))
+    ∙ words_found size y x dx dy words h.0.across h.0.above
+found_words y line rest o is reads (marks.Glyph glyph x dx dy) h e = absurd (wordless_open y (marks.Glyph glyph x dx dy) rest tt h (e ∙ is))
+found_words y line rest o is reads (marks.Stem x dx from to) h e = absurd (wordless_open y (marks.Stem x dx from to) rest tt h (e ∙ is))
+found_words y line rest o is reads (marks.Beam way x1 x2 from to) h e = absurd (wordless_open y (marks.Beam way x1 x2 from to) rest tt h (e ∙ is))
+found_words y line rest o is reads (marks.Arc x1 x2 from to bulge) h e = absurd (wordless_open y (marks.Arc x1 x2 from to bulge) rest tt h (e ∙ is))
+
+-- what is found in another line
+pub found_wordless : (y : ℤ) (line rest : List ℕ) (first : ℕ) (o : Option PageMark) → line ≡ first ∷ rest → (first ≡ 40 → ⊥)
+    → ((zs : List ℤ) (name : List ℕ) → AllByRecursion IsNumber zs → list_all is_field name ≡ true → line ≡ numbers zs ++ name → o ≡ mark_from y zs name)
+    → (m : PageMark) → IsPageMark y m → mark_line y m ≡ line → o ≡ Some m
+found_wordless y line rest first o is not reads m h e =
+    let w = is_wordless y m first rest not (e ∙ is) in
+    reads (mark_numbers y m) (mark_name m) (wordless_numbers y m h) (name_is_field m) (sym e ∙ wordless_line y m w) ∙ wordless_found y m w h
+
+-- no line of a mark is empty
+not_empty : (xs ys : List ℕ) (b : ℕ) → xs ++ b ∷ ys ≡ [] → ⊥
+not_empty [] ys b e = cc
+not_empty (x ∷ xs) ys b e = cc
+
+numbers_some : (z : ℤ) (zs : List ℤ) (name : List ℕ) → numbers (z ∷ zs) ++ name ≡ [] → ⊥
+numbers_some z zs name e = not_empty (signed_decimal z) (numbers zs ++ name) 32 (sym (numbers_cons z zs name) ∙ e)
+
+pub line_some : (y : ℤ) (m : PageMark) → mark_line y m ≡ [] → ⊥
+unfolding words_line in_parentheses
+line_some y (marks.Words size x dx dy words) e = cc
+line_some y (marks.Glyph glyph x dx dy) e = numbers_some dx (dy ∷ x ∷ y ∷ []) (glyph_name glyph) (sym (wordless_line y (marks.Glyph glyph x dx dy) tt) ∙ e)
+line_some y (marks.Stem x dx from to) e = numbers_some dx (to ∷ dx ∷ from ∷ x ∷ y ∷ []) (codes "st") (sym (wordless_line y (marks.Stem x dx from to) tt) ∙ e)
+line_some y (marks.Beam way x1 x2 from to) e = numbers_some x1 _ (way_name way) (sym (wordless_line y (marks.Beam way x1 x2 from to) tt) ∙ e)
+line_some y (marks.Arc x1 x2 from to bulge) e = numbers_some (x1 +ℤ quarter x1 x2) _ (codes "ac") (sym (wordless_line y (marks.Arc x1 x2 from to bulge) tt) ∙ e)
+
+-- what follows from a fact of an answer
+pub if_ok : {T E : Type 0} (r : Result T E) (P Q : T → Type 0) → ((x : T) → P x → Q x) → IfOk r P → IfOk r Q
+if_ok (Ok x) P Q f h = f x h
+if_ok (Err e) P Q f h = h
