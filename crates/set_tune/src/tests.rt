@@ -11,13 +11,13 @@ fn sets_one_letter(rt: HostRuntime) -> Result<(), Fail> {
     };
     assert_eq!(rt; staff.width, 49_300);
     let mut anchors = Vec::new(rt.alloc());
-    let mut flags = 0;
+    let mut flags = Vec::new(rt.alloc());
     for mark in staff.marks.as_slice() {
         match mark {
             PageMark::Glyph { glyph, x, .. } => {
                 anchors.push(*x)?;
                 if *glyph == Glyph::Fd {
-                    flags += 1;
+                    flags.push(*x)?;
                 }
             }
             PageMark::Beam { .. } => assert!(rt; false),
@@ -25,6 +25,6 @@ fn sets_one_letter(rt: HostRuntime) -> Result<(), Fail> {
         }
     }
     assert_eq!(rt; anchors.as_slice(), [0, 1800, 1800, 2900].as_slice());
-    assert_eq!(rt; flags, 1);
+    assert_eq!(rt; flags.as_slice(), [1800].as_slice());
     Ok(())
 }
