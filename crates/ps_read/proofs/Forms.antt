@@ -1,0 +1,73 @@
+-- The text of a line, each part in front of what follows it, and that its numbers may stand on a page.
+use Rattle.std.proofs.Common.{◌≡◌, ℕ, ℤ, pos, ◌≤◌, ◌^◌, true, ◌+◌, ◌/◌, ◌%◌, ◌<◌, List, [], ◌∷◌, ◌++◌, Option, Some, None, is_some, refl, sym, ◌∙◌, ap, arith, codes, decimal}
+use Rattle.std.proofs.lemmas.Bool.{true≢false}
+use Rattle.std.proofs.lemmas.Fmt.{decimal_by_steps}
+use Rattle.std.specs.List.{flat_map, list_all}
+use Rattle.std.proofs.lemmas.Int.{ints}
+use mathlib.Core.List.{append_assoc}
+use Rattle.mus_units.specs.declared.glyph.Size.{Size}
+use Rattle.mus_units.specs.declared.glyph.Size.TheVariants as sizes
+use Rattle.glyph_paths.specs.Procedure.{numbers}
+use Rattle.ps_text.specs.Document.{rules_line, join_line, title_line}
+use Rattle.ps_text.specs.Fields.{shown, in_parentheses}
+use Rattle.ps_text.specs.Names.{size_name}
+use Rattle.ps_text.specs.Prolog.{page_line, page_start, page_end, scaling, percent}
+use Rattle.ps_text.specs.declared.prolog.TheConstants.{PAGE_START}
+use Rattle.ps_text.specs.Range.{IsNumber}
+use Rattle.ps_text.specs.Scanning.{is_field}
+
+abbrev pub title_numbers : ℤ → ℤ → List ℤ
+title_numbers x y = pos 0 ∷ pos 0 ∷ x ∷ y ∷ []
+
+pub title_form : (x y : ℤ) (size : Size) (words : List ℕ)
+    → title_line x y size words ≡ codes "(" ++ (flat_map shown words ++ (41 ∷ (32 ∷ (numbers (title_numbers x y) ++ size_name size))))
+unfolding title_line in_parentheses
+title_form x y size words = simp append_assoc
+
+pub small_number : (n : ℕ) → n ≤ 2 ^ 31 → IsNumber (pos n)
+small_number n l = record { low = omega (arith, ints); high = omega (arith, ints, l) }
+
+pub size_is_field : (size : Size) → list_all is_field (size_name size) ≡ true
+size_is_field sizes.Small = refl
+size_is_field sizes.Big = refl
+
+pub join_form : (top foot : ℤ) → join_line top foot ≡ numbers (pos 0 ∷ top ∷ pos 0 ∷ foot ∷ []) ++ codes "vl"
+unfolding join_line
+join_form top foot = refl
+
+abbrev pub rules_numbers : ℕ → ℤ → List ℤ
+rules_numbers w y = pos w ∷ pos 2000 ∷ pos w ∷ pos 1500 ∷ pos w ∷ pos 1000 ∷ pos w ∷ pos 500 ∷ pos w ∷ pos 0 ∷ pos 0 ∷ y ∷ []
+
+pub rules_form : (w : ℕ) (y : ℤ) → rules_line w y ≡ numbers (rules_numbers w y) ++ codes "sf"
+unfolding rules_line
+rules_form w y = refl
+
+abbrev pub after_bottom : ℕ → List ℕ
+after_bottom s = percent s ++ (32 ∷ (percent s ++ page_end))
+
+pub page_form : (l b s : ℕ) → page_line l b s ≡ PAGE_START.now ++ (decimal l ++ (32 ∷ (decimal b ++ (32 ∷ (codes "translate " ++ after_bottom s)))))
+unfolding page_line page_start scaling
+page_form l b s =
+    let f = percent s in let d = decimal l in let g = decimal b in let t = codes " translate " in
+    append_assoc PAGE_START.now (d ++ 32 ∷ g ++ t ++ f ++ 32 ∷ f) page_end
+    ∙ ap (λ v. PAGE_START.now ++ v)
+    (append_assoc (d ++ 32 ∷ g ++ t ++ f) (32 ∷ f) page_end
+    ∙ (append_assoc (d ++ 32 ∷ g ++ t) f (32 ∷ (f ++ page_end)) ∙ (append_assoc (d ++ 32 ∷ g) t (after_bottom s) ∙ append_assoc d (32 ∷ g) (t ++ after_bottom s))))
+
+-- a number of one digit, and a percent
+decimal_small : (d : ℕ) → d < 10 → decimal d ≡ (48 + d) ∷ []
+decimal_small d l = decimal_by_steps (λ n ds. n < 10 → ds ≡ (48 + n) ∷ []) (λ n h k. refl) (λ n ds ge h k. absurd (omega (arith, ge, k))) d (omega (arith, l)) l
+
+pub percent_bytes : (p : ℕ) (rest : List ℕ) → p ≤ 150 → percent p ++ rest ≡ (48 + p / 100) ∷ 46 ∷ (48 + p / 10 % 10) ∷ (48 + p % 10) ∷ rest
+unfolding percent
+percent_bytes p rest l = ap (λ s. (s ++ 46 ∷ (48 + p / 10 % 10) ∷ (48 + p % 10) ∷ []) ++ rest) (decimal_small (p / 100) (omega arith))
+
+pub not_some : {A : Type 0} (x : A) → ◌≡◌ {A = Option A} None (Some x) → ⊥
+not_some x e = true≢false (sym (ap is_some e))
+
+pub three : (a b c x y z : ℕ) → a ≡ x → b ≡ y → ◌≡◌ {A = Option ℕ} (Some c) (Some z) → ◌≡◌ {A = Option (ℕ × ℕ × ℕ)} (Some (a, b, c)) (Some (x, y, z))
+three a b c x y z e f g = ap {B = Option (ℕ × ℕ × ℕ)} (λ a. Some (a, b, c)) e ∙ (ap {B = Option (ℕ × ℕ × ℕ)} (λ b. Some (x, b, c)) f ∙ ap pack g)
+  where
+    pack : Option ℕ → Option (ℕ × ℕ × ℕ)
+    pack None = None
+    pack (Some c) = Some (x, y, c)

@@ -1,0 +1,157 @@
+-- What holds before each line is read, and what follows at the end.
+use Rattle.std.proofs.Common.{◌≡◌, ◌≢◌, ℕ, suc, ◌+◌, ◌≤◌, ◌==◌, true, false, List, [], ◌∷◌, ◌++◌, length, refl, sym, ◌∙◌, ap, subst, arith}
+use Rattle.std.proofs.lemmas.Bool.{true≢false, ne_eqb}
+use Rattle.std.proofs.lemmas.List.{length-append}
+use Rattle.ps_text.specs.Document.{Spells}
+use Rattle.ps_text.specs.declared.sheet.Sheet.{Sheet}
+use Rattle.ps_read.specs.Lines.{Line, line_text, lines_then, Lacks}
+use Rattle.ps_read.specs.Places.{MayCome, next, Leads}
+use Rattle.ps_read.specs.Answers.{IsGoodThroughout, IsFirstFault, IsRead}
+use Rattle.ps_read.specs.Steps.{Any, NoneOf, IsNextOf}
+use Rattle.ps_read.specs.declared.place.Place.{Place}
+use Rattle.ps_read.specs.declared.place.Place.TheVariants as at
+use Rattle.ps_read.proofs.Words.{one_cut, lacks_none}
+use Rattle.ps_read.proofs.Heads.{may_lack}
+use Rattle.ps_read.proofs.Telling.{leads_tell}
+use Rattle.ps_read.proofs.Through.{document_way}
+
+lines_push : (ls : List Line) (l : Line) (rest : List ℕ) → lines_then (ls ++ l ∷ []) rest ≡ lines_then ls (line_text l ++ 10 ∷ rest)
+lines_push [] l rest = refl
+lines_push (k ∷ ls) l rest = ap (λ t. line_text k ++ 10 ∷ t) (lines_push ls l rest)
+
+leads_more : (p : Place) (ls : List Line) (q : Place) (l : Line) → Leads p ls q → MayCome q l → Leads p (ls ++ l ∷ []) (next q l)
+leads_more p [] q l h m = (subst (λ p. MayCome p l) (sym h) m, ap (λ p. next p l) h)
+leads_more p (k ∷ ls) q l h m = (h.0, leads_more (next p k) ls q l h.1 m)
+
+nothing : (s t : List ℕ) (b : ℕ) → [] ≡ s ++ b ∷ t → ⊥
+nothing s t b e = let n = ap length e in let k = length-append s (b ∷ t) in omega (arith, n, k)
+
+-- good lines that pass through a text are at least as many as others that begin it
+as_many : (p q x y : Place) (ls ms : List Line) (rest : List ℕ) → Leads p ls q → Leads x ms y → lines_then ls rest ≡ lines_then ms [] → length ls ≤ length ms
+as_many p q x y [] ms rest h k e = omega arith
+as_many p q x y (l ∷ ls) [] rest h k e = absurd (nothing (line_text l) (lines_then ls rest) 10 (sym e))
+as_many p q x y (l ∷ ls) (m ∷ ms) rest h k e =
+    let c = one_cut 10 (line_text l) (line_text m) (lines_then ls rest) (lines_then ms []) (may_lack p l h.0) (may_lack x m k.0) e in
+    let n = as_many (next p l) q (next x m) y ls ms rest h.1 k.1 c.1 in
+    omega (arith, n)
+
+-- the ways of good lines from a place on through what is left
+abbrev pub WaysOn : List ℕ → ℕ → Place → List ℕ → Type 0
+WaysOn text count p rest = (ms : List Line) (r : List ℕ) (q : Place) → text ≡ lines_then ms r → Leads at.Begun ms q → count ≤ length ms
+    → (ks : List Line) × (rest ≡ lines_then ks r) × Leads p ks q × (length ms ≡ count + length ks)
+
+-- the lines so far lead to the place, and each way of good lines through so many lines passes there
+pub record IsReading (text : List ℕ) (p : Place) (rest : List ℕ) (number : ℕ) : Type 0 where
+  pub lines : List Line
+  pub so_far : text ≡ lines_then lines rest
+  pub leads : Leads at.Begun lines p
+  pub counted : number ≡ length lines + 1
+  pub ways : WaysOn text (length lines) p rest
+
+pub reading_first : (text : List ℕ) → IsReading text at.Begun text 1
+reading_first text = record { lines = []; so_far = refl; leads = refl; counted = refl; ways = λ ms r q e l n. (ms, e, l, omega arith) }
+
+-- behind one more line
+ways_more : (text : List ℕ) (count : ℕ) (p t : Place) (rest raw behind : List ℕ) → WaysOn text count p rest → rest ≡ raw ++ 10 ∷ behind → Lacks 10 raw
+    → IsNextOf Any p raw t → WaysOn text (count + 1) t behind
+ways_more text count p t rest raw behind ways cut lacks step ms r q e l n = let w = ways ms r q e l (omega (arith, n)) in at w.0 w.1 w.2 w.3
+  where
+    at : (ks : List Line) → rest ≡ lines_then ks r → Leads p ks q → length ms ≡ count + length ks
+        → (js : List Line) × (behind ≡ lines_then js r) × Leads t js q × (length ms ≡ count + 1 + length js)
+    at [] f h k = absurd (omega (arith, n, k))
+    at (j ∷ js) f h k =
+        let c = one_cut 10 raw (line_text j) behind (lines_then js r) lacks (may_lack p j h.0) (sym cut ∙ f) in (
+          js,
+          c.1,
+          subst (λ p. Leads p js q) (step.only j tt c.0 h.0) h.1,
+          omega (arith, k),
+        )
+
+pub reading_more : (text : List ℕ) (p t : Place) (rest raw behind : List ℕ) (number : ℕ) → IsReading text p rest number
+    → rest ≡ raw ++ 10 ∷ behind → Lacks 10 raw → IsNextOf Any p raw t → IsReading text t behind (number + 1)
+reading_more text p t rest raw behind number h cut lacks step =
+    let l = step.line in
+    let more = h.lines ++ l ∷ [] in
+    let k = length-append h.lines (l ∷ []) in
+    let n = h.counted in
+    let e : length h.lines + 1 ≡ length more = omega (arith, k) in
+    record {
+      lines = more;
+      so_far = h.so_far ∙ (ap (λ r. lines_then h.lines r) (cut ∙ ap (λ r. r ++ 10 ∷ behind) step.spelled) ∙ sym (lines_push h.lines l behind));
+      leads = subst (λ q. Leads at.Begun more q) (step.only l tt step.spelled step.may) (leads_more at.Begun h.lines p l h.leads step.may);
+      counted = omega (arith, k, n);
+      ways = subst (λ c. WaysOn text c t behind) e (ways_more text (length h.lines) p t rest raw behind h.ways cut lacks step);
+    }
+
+-- no good line comes next, nor is this the end
+pub record IsStuck (p : Place) (rest : List ℕ) : Type 0 where
+  pub line : (l : Line) (more : List ℕ) → rest ≡ line_text l ++ 10 ∷ more → MayCome p l → ⊥
+  pub last : (s : Sheet) → rest ≡ [] → p ≡ at.Ended s → ⊥
+
+pub stuck_at_line : (p : Place) (rest raw behind : List ℕ) → rest ≡ raw ++ 10 ∷ behind → Lacks 10 raw → NoneOf Any p raw → IsStuck p rest
+stuck_at_line p rest raw behind cut lacks none = record {
+  line = λ l more e m. none l tt (one_cut 10 raw (line_text l) behind more lacks (may_lack p l m) (sym cut ∙ e)).0 m;
+  last = λ s e is. nothing raw behind 10 (sym e ∙ cut);
+}
+
+pub stuck_at_end : (p : Place) (rest : List ℕ) → Lacks 10 rest → ((s : Sheet) → rest ≡ [] → p ≡ at.Ended s → ⊥) → IsStuck p rest
+stuck_at_end p rest lacks f = record { line = λ l more e m. lacks_none 10 (line_text l) more rest lacks e; last = f }
+
+-- the cause of a fault
+pub first_fault : (text : List ℕ) (p : Place) (rest : List ℕ) (number : ℕ) → IsReading text p rest number → IsStuck p rest
+    → IsFirstFault text number × ((s : Sheet) → Spells s text → ⊥)
+first_fault text p rest number h stuck = (
+  record {
+    before = length h.lines;
+    good = record { lines = h.lines; rest = rest; place = p; parted = h.so_far; leads = h.leads; counted = refl };
+    after = h.counted;
+    bad = λ g. let c = g.counted in
+        let w = h.ways g.lines g.rest g.place g.parted g.leads (omega (arith, c)) in
+        let n = w.3 in
+        one_on g.rest g.place w.0 w.1 w.2 (omega (arith, c, n));
+    unfinished = λ s k. whole s k;
+  },
+  λ s k. let w = document_way s k.good in whole s (w.0, sym k.spelled ∙ w.1, w.2),
+)
+  where
+    one_on : (r : List ℕ) (q : Place) (ks : List Line) → rest ≡ lines_then ks r → Leads p ks q → 1 ≤ length ks → ⊥
+    one_on r q [] e l n = omega (arith, n)
+    one_on r q (k ∷ ks) e l n = stuck.line k (lines_then ks r) e l.0
+
+    end_on : (s : Sheet) (ks : List Line) → rest ≡ lines_then ks [] → Leads p ks (at.Ended s) → ⊥
+    end_on s [] e l = stuck.last s e l
+    end_on s (k ∷ ks) e l = stuck.line k (lines_then ks []) e l.0
+
+    whole : (s : Sheet) → IsGoodThroughout text s → ⊥
+    whole s k =
+        let n = as_many at.Begun p at.Begun (at.Ended s) h.lines k.0 rest h.leads k.2 (sym h.so_far ∙ k.1) in
+        let w = h.ways k.0 [] (at.Ended s) k.1 k.2 n in
+        end_on s w.0 w.1 w.2
+
+-- the sheet at the end
+pub read_all : (text : List ℕ) (s : Sheet) (rest : List ℕ) (number : ℕ) → IsReading text (at.Ended s) rest number → rest ≡ [] → IsRead text s
+read_all text s rest number h e =
+    let so_far : text ≡ lines_then h.lines [] = h.so_far ∙ ap (λ r. lines_then h.lines r) e in
+    let k = leads_tell at.Begun (at.Ended s) h.lines [] h.leads refl in
+    record {
+      spells = record { good = k.good; spelled = k.spelled ∙ sym so_far };
+      only = λ t g. let w = document_way t g.good in
+          let n = as_many at.Begun (at.Ended s) at.Begun (at.Ended t) h.lines w.0 rest h.leads w.2 (sym h.so_far ∙ (sym g.spelled ∙ w.1)) in
+          let v = h.ways w.0 [] (at.Ended t) (sym g.spelled ∙ w.1) w.2 n in
+          last t v.0 v.1 v.2;
+    }
+  where
+    sheet_of : Place → Sheet
+    sheet_of (at.Ended t) = t
+    sheet_of p = s
+
+    last : (t : Sheet) (ks : List Line) → rest ≡ lines_then ks [] → Leads (at.Ended s) ks (at.Ended t) → t ≡ s
+    last t [] f l = sym (ap sheet_of l)
+    last t (k ∷ ks) f l = absurd l.0
+
+pub no_length : (xs : List ℕ) → (length xs == 0) ≡ true → xs ≡ []
+no_length [] e = refl
+no_length (x ∷ xs) e = absurd (true≢false (sym e ∙ more (length xs)))
+  where
+    more : (n : ℕ) → (suc n == 0) ≡ false
+    more n = let ne : suc n ≢ 0 = omega arith in ne_eqb (suc n) 0 ne

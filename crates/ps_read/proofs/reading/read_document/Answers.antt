@@ -1,0 +1,42 @@
+use Rattle.std.proofs.Common.{◌==◌, ◌∷◌, length, ap, sym, ◌∙◌, subst, arith}
+use Rattle.std.proofs.lemmas.List.{length-append}
+use Rattle.std.proofs.lemmas.Bool.{true≢false}
+use Rattle.ps_read.specs.Steps.{IsStep}
+use Rattle.ps_read.proofs.Walked.{IsReading, first_fault, stuck_at_line, stuck_at_end, reading_more, read_all, no_length}
+use Rattle.ps_read.proofs.reading.read_document.Goals as goal
+
+pub returns-in_default-2-clause-cause : goal.returns-in_default-2-clause-cause
+returns-in_default-2-clause-cause c =
+    let l = c.loop-raw in let cut = c.in-Some.ensures in
+    first_fault c.args.b.now l.place l.rest.now l.line l.invariant.reading
+    (stuck_at_line l.place l.rest.now c.in-Some.raw.now c.in-Some.behind.now cut.0 cut.1
+    (subst (λ o. IsStep l.place c.in-Some.raw.now o) c.in_default-2.is c.in_ok-next.ensures))
+
+pub loop-raw-preserved : goal.loop-raw-preserved
+loop-raw-preserved c =
+    let l = c.loop-raw in let cut = c.in-Some.ensures in
+    let n = ap length cut.0 in let k = length-append c.in-Some.raw.now (10 ∷ c.in-Some.behind.now) in let room = l.invariant.room in record {
+      reading = reading_more c.args.b.now l.place c.in-Some-2.next l.rest.now c.in-Some.raw.now c.in-Some.behind.now l.line l.invariant.reading cut.0 cut.1
+          (subst (λ o. IsStep l.place c.in-Some.raw.now o) c.in-Some-2.is c.in_ok-next.ensures);
+      room = omega (arith, n, k, room);
+    }
+
+pub returns-then-not-is_empty-clause-cause : goal.returns-then-not-is_empty-clause-cause
+returns-then-not-is_empty-clause-cause c =
+    let l = c.loop-raw in
+    first_fault c.args.b.now l.place l.rest.now l.line l.invariant.reading (stuck_at_end l.place l.rest.now c.in_default.ensures
+    (λ s e is. true≢false (sym (c.is_empty.ensures ∙ ap (λ xs. length xs == 0) e) ∙ c.if-not-is_empty.true)))
+
+pub returns-in-Ended-clause-sheet : goal.returns-in-Ended-clause-sheet
+returns-in-Ended-clause-sheet c =
+    let l = c.loop-raw in
+    read_all c.args.b.now c.in-Ended.sheet l.rest.now l.line (subst (λ p. IsReading c.args.b.now p l.rest.now l.line) c.in-Ended.is l.invariant.reading)
+    (no_length l.rest.now (sym c.is_empty.ensures ∙ c.if-not-is_empty.false))
+
+pub returns : goal.returns
+returns c =
+    let l = c.loop-raw in record {
+      sheet = tt;
+      cause = first_fault c.args.b.now l.place l.rest.now l.line l.invariant.reading
+          (stuck_at_end l.place l.rest.now c.in_default.ensures (λ s e is. c.in_default-place.not-Ended s is));
+    }

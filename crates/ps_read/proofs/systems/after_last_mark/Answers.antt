@@ -1,0 +1,15 @@
+use Rattle.std.proofs.Common.{◌+◌, ◌∙◌, ap}
+use Rattle.ps_text.specs.Document.{staff_line}
+use Rattle.ps_read.proofs.Stepping.{on_next_staff, none_next_staff, some_join, none_join}
+use Rattle.ps_read.proofs.systems.after_last_mark.Goals as goal
+
+pub returns-then-is_none : goal.returns-then-is_none
+returns-then-is_none c =
+    let e = c.in_ok-is_next_staff.ensures.0 c.if-not-branch.false ∙ ap (λ n. staff_line (n + 1)) c.len.ensures in
+    none_next_staff c.args.system c.args.staff c.args.raw.now e (none_join c.args.system.join c.is_none.result c.is_none.ensures c.if-is_none.true)
+
+pub returns : goal.returns
+returns c =
+    let e = c.in_ok-is_next_staff.ensures.0 c.if-not-branch.false ∙ ap (λ n. staff_line (n + 1)) c.len.ensures in
+    on_next_staff c.args.system c.args.staff c.args.raw.now c.in_ok-with_staff.field-0 e (some_join c.args.system.join c.is_none.result c.is_none.ensures c.if-is_none.false)
+    c.in_ok-with_staff.ensures

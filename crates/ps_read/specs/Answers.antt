@@ -1,0 +1,41 @@
+-- What the answers of the reader say.
+use Rattle.std.specs.Prelude.{◌≡◌, ℕ, ◌+◌, List, [], length}
+use Rattle.ps_text.specs.Document.{Spells}
+use Rattle.ps_text.specs.declared.sheet.Sheet.{Sheet}
+use Rattle.ps_read.specs.Lines.{Line, lines_then}
+use Rattle.ps_read.specs.Places.{Leads}
+use Rattle.ps_read.specs.declared.place.Place.{Place}
+use Rattle.ps_read.specs.declared.place.Place.TheVariants as at
+use Rattle.ps_read.specs.declared.reading.PagesError.{PagesError}
+use Rattle.ps_read.specs.declared.reading.PagesError.TheVariants.{NotPages, Memory}
+
+-- a text begins with so many good lines
+pub record GoodLines (text : List ℕ) (count : ℕ) : Type 0 where
+  pub lines : List Line
+  pub rest : List ℕ
+  pub place : Place
+  pub parted : text ≡ lines_then lines rest
+  pub leads : Leads at.Begun lines place
+  pub counted : count ≡ length lines
+
+-- each line of the text is good, and the last is `%%EOF`: the lines tell this sheet
+abbrev pub IsGoodThroughout : List ℕ → Sheet → Type 0
+IsGoodThroughout text s = (ls : List Line) × (text ≡ lines_then ls []) × Leads at.Begun ls (at.Ended s)
+
+-- the lines before this one are good, and this one isn't, or isn't there; and the text doesn't end with `%%EOF`
+pub record IsFirstFault (text : List ℕ) (number : ℕ) : Type 0 where
+  pub before : ℕ
+  pub good : GoodLines text before
+  pub after : number ≡ before + 1
+  pub bad : GoodLines text (before + 1) → ⊥
+  pub unfinished : (s : Sheet) → IsGoodThroughout text s → ⊥
+
+-- the sheet is the one that spells the text
+pub record IsRead (text : List ℕ) (s : Sheet) : Type 0 where
+  pub spells : Spells s text
+  pub only : (t : Sheet) → Spells t text → t ≡ s
+
+-- NotPages tells the first line that isn't good, and that no sheet spells the text; Memory nothing
+abbrev pub IsCause : List ℕ → PagesError → Type 0
+IsCause text (NotPages line) = IsFirstFault text line × ((s : Sheet) → Spells s text → ⊥)
+IsCause text Memory = Unit {0}

@@ -1,0 +1,18 @@
+//! Pages, read: the one sheet that spells a document, or the first line that
+//! isn't good by the lines before it.
+//!
+//! A document is read line by line, in time linear in its length.
+#![tactic(auto)]
+
+mod lines;
+mod numbers;
+mod pages;
+mod place;
+mod prolog;
+mod reading;
+mod systems;
+
+pub use reading::{PagesError, good_by_lines, no_prefix_is_a_document, read_document};
+
+#[cfg(test)]
+mod tests;

@@ -1,0 +1,119 @@
+ghost use Rattle.std.specs.Prelude.{◌≡◌, ◌+◌, ◌<◌, ◌^◌, length, IfOk, Decides};
+ghost use Rattle.ps_text.specs.Document.{heading_line};
+ghost use Rattle.ps_read.specs.Steps.{IsStep, IsStepOf, IsItemLine, IsSystemLine};
+ghost use Rattle.ps_read.specs.declared.place.Place.TheVariants as at;
+
+use crate::lines::{Title, is_count, is_heading, is_text, read_title};
+use crate::numbers::{one, pair};
+use crate::place::{OpenPage, OpenSystem, Place, with_item, with_page};
+use mus_units::{Memory, Row};
+use ps_text::{Item, Sheet};
+use std::alloc::Global;
+
+/// Whether the line numbers the page behind so many.
+fn is_next_heading(alloc: Global, raw: &[u8], pages: usize) -> Result<bool, Memory>
+    ensures { IfOk result (λ r. Decides r ((pages + 1 < 2 ^ 32) × (raw.now ≡ heading_line (pages + 1)))) }
+{
+    if pages >= u32::MAX as usize {
+        return Ok(false);
+    }
+    is_heading(alloc, raw, pages as u64 + 1)
+}
+
+pub fn after_page(alloc: Global, sheet: Sheet, raw: &[u8]) -> Result<Option<Place>, Memory>
+    ensures { IfOk result (IsStep (at.Between sheet) raw.now) }
+{
+    if is_text(raw, b"%%Trailer") {
+        return Ok(Some(Place::Trailer(sheet)));
+    }
+    if is_next_heading(alloc, raw, sheet.pages.len())? {
+        return Ok(Some(Place::Headed(sheet)));
+    }
+    Ok(None)
+}
+
+pub fn after_heading(alloc: Global, sheet: Sheet, raw: &[u8]) -> Option<Place>
+    ensures { IsStep (at.Headed sheet) raw.now result }
+{
+    if is_text(raw, b"pg") {
+        Some(Place::Items(OpenPage {
+            sheet,
+            items: Row::new(alloc),
+        }))
+    } else {
+        None
+    }
+}
+
+fn system_line(alloc: Global, page: OpenPage, raw: &[u8]) -> Option<Place>
+    ensures { IsStepOf IsSystemLine (at.Items page) raw.now result }
+{
+    match pair(b"% system ", raw) {
+        Some((a, b)) if a < b => Some(Place::System(OpenSystem {
+            page,
+            a,
+            b,
+            join: None,
+            staves: Row::new(alloc),
+        })),
+        _ => None,
+    }
+}
+
+/// Any line but a title that may come after an item.
+pub fn item_line(alloc: Global, page: OpenPage, raw: &[u8]) -> Result<Option<Place>, Memory>
+    ensures { IfOk result (IsStepOf IsItemLine (at.Items page) raw.now) }
+{
+    if is_text(raw, b"grestore") {
+        return Ok(Some(Place::Closed(page)));
+    }
+    match one(b"% tune ", raw) {
+        Some(0) => Ok(None),
+        Some(ordinal) => {
+            let page = with_item(page, Item::Tune { ordinal })?;
+            Ok(Some(Place::Items(page)))
+        }
+        None => Ok(system_line(alloc, page, raw)),
+    }
+}
+
+pub fn after_item(alloc: Global, page: OpenPage, raw: &[u8]) -> Result<Option<Place>, Memory>
+    ensures { IfOk result (IsStep (at.Items page) raw.now) }
+{
+    match read_title(alloc, raw)? {
+        Some(Title { x, y, size, text }) => {
+            let page = with_item(page, Item::Title { x, y, size, text })?;
+            Ok(Some(Place::Items(page)))
+        }
+        None => item_line(alloc, page, raw),
+    }
+}
+
+pub fn after_items(page: OpenPage, raw: &[u8]) -> Result<Option<Place>, Memory>
+    ensures { IfOk result (IsStep (at.Closed page) raw.now) }
+{
+    if !is_text(raw, b"showpage") {
+        return Ok(None);
+    }
+    let sheet = with_page(page)?;
+    Ok(Some(Place::Between(sheet)))
+}
+
+pub fn after_trailer(alloc: Global, sheet: Sheet, raw: &[u8]) -> Result<Option<Place>, Memory>
+    ensures { IfOk result (IsStep (at.Trailer sheet) raw.now) }
+{
+    if is_count(alloc, raw, sheet.pages.len() as u64)? {
+        return Ok(Some(Place::Counted(sheet)));
+    }
+    Ok(None)
+}
+
+pub fn after_count(sheet: Sheet, raw: &[u8]) -> Option<Place>
+    ensures { IsStep (at.Counted sheet) raw.now result }
+{
+    if is_text(raw, b"%%EOF") {
+        Some(Place::Ended(sheet))
+    } else {
+        None
+    }
+}

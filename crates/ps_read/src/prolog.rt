@@ -1,0 +1,181 @@
+ghost use Rattle.std.specs.Prelude.{◌≡◌, ◌<◌, ◌^◌, ◌++◌, ℕ, List, Some, MatchOption, IfOk, IfSome, Decides, ◌+◌, ◌/◌, ◌%◌, [], ◌≤◌};
+ghost use Rattle.glyph_paths.specs.Names.{glyphs_in_order};
+ghost use Rattle.ps_text.specs.Prolog.{percent, page_line, glyph_lines, last_text};
+ghost use Rattle.ps_read.specs.Places.{after_prolog};
+ghost use Rattle.ps_read.specs.Lines.{Lacks, IsFirstLine, behind_line};
+ghost use Rattle.ps_read.specs.Steps.{IsStep};
+ghost use Rattle.ps_read.specs.declared.place.Place.TheVariants as at;
+
+use crate::lines::is_text;
+use crate::numbers::{field, pair, strip};
+use crate::place::Place;
+use glyph_paths::all_glyphs;
+use mus_units::{Memory, Row, Text};
+use ps_text::prolog::{BOX, LAST, PAGE_START, PROCEDURES, put_glyphs, put_page_line};
+use ps_text::{Frame, Sheet};
+use std::alloc::Global;
+
+/// What stands behind the line, where that is the first of the text.
+fn behind<'a>(line: &[u8], text: &'a [u8]) -> Option<&'a [u8]>
+    requires { Lacks 10 line.now }
+    ensures { MatchOption result (IsFirstLine line.now text.now → ⊥) (λ rest. IsFirstLine line.now text.now × (rest.now ≡ behind_line line.now text.now)) }
+{
+    match strip(line, text) {
+        Some([b'\n', rest @ ..]) => Some(rest),
+        _ => None,
+    }
+}
+
+pub fn after_nothing(raw: &[u8]) -> Option<Place>
+    ensures { IsStep at.Begun raw.now result }
+{
+    if is_text(raw, b"%!PS-Adobe-3.0") {
+        Some(Place::Titled)
+    } else {
+        None
+    }
+}
+
+pub fn after_title(alloc: Global, raw: &[u8]) -> Result<Option<Place>, Memory>
+    ensures { IfOk result (IsStep at.Titled raw.now) }
+{
+    match pair(BOX, raw) {
+        Some((wide, high)) => {
+            let rest = Text::from_slice(alloc, PROCEDURES)?;
+            Ok(Some(Place::Boxed { wide, high, rest }))
+        }
+        None => Ok(None),
+    }
+}
+
+/// The percent that three digits tell.
+fn percent_of(a: u8, b: u8, c: u8) -> Option<u16>
+    ensures { (p : ℕ) → p ≤ 150 → a ≡ 48 + p / 100 → b ≡ 48 + p / 10 % 10 → c ≡ 48 + p % 10 → result ≡ Some p }
+{
+    if !(b'0' <= a && a <= b'1') {
+        return None;
+    }
+    if !(b'0' <= b && b <= b'9') {
+        return None;
+    }
+    if !(b'0' <= c && c <= b'9') {
+        return None;
+    }
+    Some(u16::from(a - b'0') * 100 + u16::from(b - b'0') * 10 + u16::from(c - b'0'))
+}
+
+/// The percent that these bytes may begin with.
+fn scan_percent(bytes: &[u8]) -> Option<u16>
+    ensures { (p : ℕ) (rest : List ℕ) → p ≤ 150 → bytes.now ≡ percent p ++ rest → result ≡ Some p }
+{
+    match bytes {
+        [hundreds, _, tens, ones, ..] => percent_of(*hundreds, *tens, *ones),
+        _ => None,
+    }
+}
+
+/// The margins and the scale that a line may tell.
+fn scan_page_line(raw: &[u8]) -> Option<(u32, u32, u16)>
+    ensures small { IfSome result (λ r. (r.0 < 2 ^ 32) × (r.1 < 2 ^ 32)) }
+    ensures told { (left bottom scale : ℕ) → left < 2 ^ 32 → bottom < 2 ^ 32 → scale ≤ 150 → raw.now ≡ page_line left bottom scale → result ≡ Some (left, bottom, scale) }
+{
+    let rest = strip(PAGE_START, raw)?;
+    let (left, rest) = field(rest)?;
+    let (bottom, rest) = field(rest)?;
+    let rest = strip(b"translate ", rest)?;
+    let scale = scan_percent(rest)?;
+    Some((left, bottom, scale))
+}
+
+fn is_page_line(alloc: Global, raw: &[u8], frame: &Frame) -> Result<bool, Memory>
+    ensures { IfOk result (λ r. Decides r (raw.now ≡ page_line frame.now.left frame.now.bottom frame.now.scale)) }
+{
+    let mut line = Text::new(alloc);
+    put_page_line(&mut line, frame.left, frame.bottom, frame.scale)?;
+    Ok(line.as_slice() == raw)
+}
+
+/// The end of the prolog, from behind the line that tells the scale.
+fn last_lines(alloc: Global) -> Result<Text, Memory>
+    ensures { IfOk result (λ t. t ≡ glyph_lines glyphs_in_order ++ last_text) }
+{
+    let mut rest = Text::new(alloc);
+    put_glyphs(alloc, &mut rest, all_glyphs())?;
+    rest.append(LAST)?;
+    Ok(rest)
+}
+
+fn page_start(alloc: Global, wide: u32, high: u32, raw: &[u8]) -> Result<Option<Place>, Memory>
+    ensures { IfOk result (IsStep (at.Boxed wide high []) raw.now) }
+{
+    let Some((left, bottom, scale)) = scan_page_line(raw) else {
+        return Ok(None);
+    };
+    let frame = Frame {
+        wide,
+        high,
+        left,
+        bottom,
+        scale,
+    };
+    if scale < 40 || 150 < scale {
+        return Ok(None);
+    }
+    if !is_page_line(alloc, raw, &frame)? {
+        return Ok(None);
+    }
+    let rest = last_lines(alloc)?;
+    Ok(Some(Place::Framed { frame, rest }))
+}
+
+pub fn after_box(
+    alloc: Global,
+    wide: u32,
+    high: u32,
+    rest: Text,
+    raw: &[u8],
+) -> Result<Option<Place>, Memory>
+    requires { Lacks 10 raw.now }
+    ensures { IfOk result (IsStep (at.Boxed wide high rest) raw.now) }
+{
+    if rest.as_slice().is_empty() {
+        return page_start(alloc, wide, high, raw);
+    }
+    match behind(raw, rest.as_slice()) {
+        Some(more) => {
+            let rest = Text::from_slice(alloc, more)?;
+            Ok(Some(Place::Boxed { wide, high, rest }))
+        }
+        None => Ok(None),
+    }
+}
+
+fn after_prolog(alloc: Global, frame: Frame, rest: &[u8]) -> Result<Place, Memory>
+    ensures { IfOk result (λ p. p ≡ after_prolog frame rest.now) }
+{
+    match rest {
+        [] => Ok(Place::Between(Sheet {
+            frame,
+            pages: Row::new(alloc),
+        })),
+        _ => {
+            let rest = Text::from_slice(alloc, rest)?;
+            Ok(Place::Framed { frame, rest })
+        }
+    }
+}
+
+pub fn after_frame(
+    alloc: Global,
+    frame: Frame,
+    rest: Text,
+    raw: &[u8],
+) -> Result<Option<Place>, Memory>
+    requires { Lacks 10 raw.now }
+    ensures { IfOk result (IsStep (at.Framed frame rest) raw.now) }
+{
+    match behind(raw, rest.as_slice()) {
+        Some(more) => Ok(Some(after_prolog(alloc, frame, more)?)),
+        None => Ok(None),
+    }
+}

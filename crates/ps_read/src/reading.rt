@@ -1,0 +1,97 @@
+ghost use Rattle.std.specs.Prelude.{IfOk, IfErr, ◌≡◌};
+ghost use Rattle.ps_read.specs.Answers.{IsRead, IsCause};
+ghost use Rattle.ps_read.specs.Laws.{GoodByLines, NoPrefix};
+ghost use Rattle.ps_read.specs.Lines.{Lacks};
+ghost use Rattle.ps_read.specs.Steps.{IsStep};
+ghost use Rattle.ps_read.specs.declared.reading.PagesError.TheVariants as answer;
+
+use crate::numbers::cut_at;
+use crate::pages::{
+    after_count, after_heading, after_item, after_items, after_page, after_trailer,
+};
+use crate::place::Place;
+use crate::prolog::{after_box, after_frame, after_nothing, after_title};
+use crate::systems::{after_mark, after_staff, after_system};
+use mus_units::Memory;
+use ps_text::Sheet;
+use std::alloc::Global;
+
+/// Why there is no sheet.
+#[derive(Clone, Copy, Debug, PartialEq, Eq)]
+pub enum PagesError {
+    /// The bytes are no document; `line` is the first that isn't good by the
+    /// lines before it, or one past the last where the text ends early.
+    NotPages { line: u64 },
+    /// Memory ran out.
+    Memory,
+}
+
+impl From<Memory> for PagesError {
+    ghost from_gives = { λ _ e. e ≡ answer.Memory };
+
+    fn from(_: Memory) -> Self {
+        PagesError::Memory
+    }
+}
+
+/// The place behind the line, or `None` where the line isn't good.
+fn step(alloc: Global, place: Place, raw: &[u8]) -> Result<Option<Place>, Memory>
+    requires { Lacks 10 raw.now }
+    ensures { IfOk result (IsStep place raw.now) }
+{
+    match place {
+        Place::Begun => Ok(after_nothing(raw)),
+        Place::Titled => after_title(alloc, raw),
+        Place::Boxed { wide, high, rest } => after_box(alloc, wide, high, rest, raw),
+        Place::Framed { frame, rest } => after_frame(alloc, frame, rest, raw),
+        Place::Between(sheet) => after_page(alloc, sheet, raw),
+        Place::Headed(sheet) => Ok(after_heading(alloc, sheet, raw)),
+        Place::Items(page) => after_item(alloc, page, raw),
+        Place::System(system) => after_system(alloc, system, raw),
+        Place::Staff(system) => after_staff(alloc, system, raw),
+        Place::Marks { system, staff } => after_mark(alloc, system, staff, raw),
+        Place::Closed(page) => after_items(page, raw),
+        Place::Trailer(sheet) => after_trailer(alloc, sheet, raw),
+        Place::Counted(sheet) => Ok(after_count(sheet, raw)),
+        Place::Ended(_) => Ok(None),
+    }
+}
+
+/// The sheet that the bytes spell.
+///
+/// A last piece without an LF is a line that isn't good. Each line is read
+/// once.
+pub fn read_document(alloc: Global, b: &[u8]) -> Result<Sheet, PagesError>
+    ensures sheet { IfOk result (IsRead b.now) }
+    ensures cause { IfErr result (IsCause b.now) }
+{
+    let mut place = Place::Begun;
+    let mut rest = b;
+    let mut line: u64 = 1;
+    while let Some((raw, behind)) = cut_at(b'\n', rest) {
+        let Some(next) = step(alloc, place, raw)? else {
+            return Err(PagesError::NotPages { line });
+        };
+        place = next;
+        rest = behind;
+        line += 1;
+    }
+    if !rest.is_empty() {
+        return Err(PagesError::NotPages { line });
+    }
+    match place {
+        Place::Ended(sheet) => Ok(sheet),
+        _ => Err(PagesError::NotPages { line }),
+    }
+}
+
+/// The law that a sheet spells a text exactly where each of its lines is good
+/// by those before it, and the last is `%%EOF`.
+pub fn good_by_lines()
+    ensures { GoodByLines }
+{}
+
+/// The law that no proper prefix of a document is a document.
+pub fn no_prefix_is_a_document()
+    ensures { NoPrefix }
+{}
