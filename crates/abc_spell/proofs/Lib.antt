@@ -1,1 +1,6 @@
+pub mod Bars
+pub mod Exact
+pub mod Groups
+pub mod Names
+pub mod Numbers
 pub mod Writing
