@@ -1,3 +1,4 @@
+pub mod Again
 pub mod Bars
 pub mod Exact
 pub mod Groups

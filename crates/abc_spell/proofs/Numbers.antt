@@ -24,7 +24,7 @@ use Rattle.abc_spell.specs.Plain.{is_small, marks_of, number_or_empty}
 abbrev AreDigits : List ℕ → Type 0
 AreDigits ds = list_all is_digit ds ≡ true
 
-digit_from : (b : ℕ) → (48 ≤ b) × (b ≤ 57) → is_digit b ≡ true
+pub digit_from : (b : ℕ) → (48 ≤ b) × (b ≤ 57) → is_digit b ≡ true
 digit_from b r = and_from (leb 48 b) (leb b 57) (le-leb 48 b r.0) (le-leb b 57 r.1)
 
 digit_to : (b : ℕ) → is_digit b ≡ true → (48 ≤ b) × (b ≤ 57)

@@ -3,7 +3,7 @@
 -- ending is an opening bracket and its text, a decoration is its first name between exclamation
 -- marks, a tuplet leaves a number that it lacks empty, and a bar has as few colons and bar signs as
 -- its features allow. Each spelling is written in front of what follows it.
-use Rattle.std.specs.Prelude.{◌≡◌, ℕ, ℤ, pos, negsuc, ◌+◌, ◌-◌, List, [], ◌∷◌, ◌++◌, map, Bool, true, false, not, ◌==◌, ◌&&◌, nat_le, if◌then◌else◌, replicate, codes}
+use Rattle.std.specs.Prelude.{◌≡◌, ℕ, ℤ, pos, negsuc, ◌+◌, ◌-◌, List, [], ◌∷◌, ◌++◌, Bool, true, false, not, ◌==◌, ◌&&◌, nat_le, if◌then◌else◌, replicate, codes}
 use Rattle.std.specs.Fmt.{decimal}
 use Rattle.mus_units.specs.declared.note.Bar.{Bar}
 use Rattle.mus_units.specs.declared.note.Deco.{Deco}
@@ -16,8 +16,6 @@ use Rattle.abc_pieces.specs.declared.token.Token.TheVariants as token
 use Rattle.abc_pieces.specs.Runs.{copies, maybe}
 use Rattle.abc_pieces.specs.Notes.{sign_then, letter_byte}
 use Rattle.abc_pieces.specs.Forms.{arrow, rest_byte, measures_byte}
-use Rattle.abc_tokens.specs.declared.token.Placed.{Placed}
-use Rattle.abc_tokens.specs.Tokens.{TokensOf}
 
 -- one after the other, and what follows them
 abbrev pub all_then : {A : Type 0} → (A → List ℕ → List ℕ) → List A → List ℕ → List ℕ

@@ -1,6 +1,7 @@
-ghost use Rattle.std.specs.Prelude.{◌≡◌, OnOk, IfOk};
+ghost use Rattle.std.specs.Prelude.{◌≡◌, OnOk, IfOk, false};
 ghost use Rattle.abc_pieces.specs.Runs.{copies};
 ghost use Rattle.abc_pieces.specs.Forms.{arrow};
+ghost use Rattle.abc_spell.specs.Again.{IsReadable, ReadsAs};
 ghost use Rattle.abc_spell.specs.Plain.{Puts, token_then, next_then, plain_text};
 
 use crate::bar::{put_bar, put_if};
@@ -15,6 +16,13 @@ use std::alloc::Global;
 /// again.
 pub fn spell(alloc: Global, tokens: &[Token]) -> Result<Text, Memory>
     ensures text { IfOk result (λ text. text ≡ plain_text tokens.now) }
+    ensures again { IsReadable tokens.now → IfOk result (λ text. ReadsAs false text tokens.now) }
+{
+    plain_text(alloc, tokens)
+}
+
+fn plain_text(alloc: Global, tokens: &[Token]) -> Result<Text, Memory>
+    ensures { IfOk result (λ text. text ≡ plain_text tokens.now) }
 {
     let mut out = Text::new(alloc);
     let Some((first, others)) = tokens.split_first() else {
