@@ -1,7 +1,6 @@
 -- A plain spelling is read as its tokens.
-use Rattle.std.proofs.Common.{◌≡◌, ℕ, zero, suc, ◌+◌, ◌-◌, ◌≤◌, ◌<◌, Bool, true, false, cond, eqb, List, [], ◌∷◌, ◌++◌, length, Option, Some, None, refl, sym, ap, ◌∙◌, subst, arith}
-use Rattle.std.specs.Prelude.{Result, Ok, Err, IfOk, IfSome, map, ◌&&◌}
-use Rattle.std.specs.List.{list_all}
+use Rattle.std.proofs.Common.{◌≡◌, ℕ, ◌-◌, ◌≤◌, Bool, true, false, eqb, List, [], ◌∷◌, ◌++◌, length, Option, Some, None, refl, sym, ap, ◌∙◌, subst, arith}
+use Rattle.std.specs.Prelude.{Result, Ok, Err, IfOk, IfSome, map}
 use Rattle.std.specs.Fmt.{decimal}
 use Rattle.std.specs.Str.Parse.{digits_value}
 use Rattle.std.proofs.lemmas.Fmt.{decimal_digit}
@@ -16,14 +15,14 @@ use Rattle.abc_pieces.specs.declared.token.Len.{Len}
 use Rattle.abc_pieces.specs.declared.token.Token.{Token}
 use Rattle.abc_pieces.specs.declared.token.Token.TheVariants as token
 use Rattle.abc_pieces.specs.Runs.{maybe, is_digit}
-use Rattle.abc_pieces.specs.Lengths.{LengthForm, IsCount, IsNumber, count_of, len_of, IsLength}
+use Rattle.abc_pieces.specs.Lengths.{LengthForm, IsCount, count_of, len_of, IsLength}
 use Rattle.abc_pieces.specs.Notes.{NoteForm, IsNote, head_of}
 use Rattle.abc_pieces.specs.Bars.{BarForm, meant as bar_of}
-use Rattle.abc_pieces.specs.Items.{Inner, sense, IsName}
+use Rattle.abc_pieces.specs.Items.{sense}
 use Rattle.abc_pieces.specs.Decorations.{deco_of_letter, deco_of_name}
-use Rattle.abc_pieces.specs.Chords.{ChordForm, heads_of, decos_of, tied_if}
+use Rattle.abc_pieces.specs.Chords.{ChordForm, heads_of, decos_of}
 use Rattle.abc_pieces.specs.Graces.{GraceForm, body_of}
-use Rattle.abc_pieces.specs.Tuplets.{TupletForm, bare, with_q, with_r, IsTuplet, is_tuplet_digit, value_or_zero}
+use Rattle.abc_pieces.specs.Tuplets.{bare, with_q, with_r, IsTuplet, is_tuplet_digit, value_or_zero}
 use Rattle.abc_pieces.specs.Forms.{Form, note_form, rest_form, gap_form, measures_form, chord_form, grace_form, tuplet_form, slur_form, close_form, tie_form, broken_form, bar_form, ending_form, letter_form, named_form, says_form, inline_form, cut_form, space_form, passed_form, lone_form, plus_form, spelled, meant, after, IsGood, StandsAt, is_kept_field, inline_token}
 use Rattle.abc_pieces.specs.Reading.{read, piece_at, class_of}
 use Rattle.abc_pieces.specs.Parts.{IsLongest}
@@ -31,14 +30,14 @@ use Rattle.abc_pieces.proofs.Bounds.{digit_value-is}
 use Rattle.abc_pieces.proofs.PartLaws.{longest_of}
 use Rattle.abc_pieces.proofs.PieceReader.{piece_reader}
 use Rattle.abc_tokens.specs.declared.token.Placed.{Placed}
-use Rattle.abc_tokens.specs.Tokens.{Tokens, ends, goes, column, put, TokensOf}
-use Rattle.abc_spell.specs.Plain.{all_then, len_then, number_or_empty, tuplet_then, name_of, token_then, next_then, plain_text}
+use Rattle.abc_tokens.specs.Tokens.{Tokens, ends, goes, column, put}
+use Rattle.abc_spell.specs.Plain.{all_then, len_then, number_or_empty, name_of, token_then, next_then, plain_text}
 use Rattle.abc_spell.specs.Again.{ReadsAs, IsReadable}
-use Rattle.abc_spell.proofs.Numbers.{Again, digit_from, digits_again, count_again, is_count, count_means, GoodLen, len_form, len_again, head_form, head_good, head_means}
+use Rattle.abc_spell.proofs.Numbers.{digit_from, digits_again, count_again, is_count, count_means, len_form, len_again, head_form, head_good, head_means}
 use Rattle.abc_spell.proofs.Bars.{plain_bar, same_bar}
 use Rattle.abc_spell.proofs.Names.{GoodDeco, letter_good, name_good}
 use Rattle.abc_spell.proofs.Exact.{Stops, at_end, at_quote, IsExact, note_piece, rest_piece, measures_piece, tuplet_piece, slur_piece, close_piece, tie_piece, cut_piece, broken_piece, bar_piece, ending_piece, named_piece, says_piece, inline_piece, space_piece, chord_piece, grace_piece}
-use Rattle.abc_spell.proofs.Groups.{GoodHeads, GoodDecos, GoodBody, plain_chord, chord_spell, chord_heads, chord_decos, chord_good, chord_opens, heads_from, decos_from, some_heads, plain_grace, grace_spell, body_means, grace_good, body_from}
+use Rattle.abc_spell.proofs.Groups.{plain_chord, chord_spell, chord_heads, chord_decos, chord_good, chord_opens, heads_from, decos_from, some_heads, plain_grace, grace_spell, body_means, grace_good, body_from}
 
 -- a piece that is the plain spelling of the token, and is read as itself
 pub record IsPlain (t : Token) : Type 0 where

@@ -1,14 +1,14 @@
 -- Where a backquote or nothing follows, a piece in its plain spelling is read as itself.
-use Rattle.std.proofs.Common.{◌≡◌, ℕ, zero, suc, ◌+◌, ◌-◌, ◌≤◌, ◌<◌, Bool, true, false, cond, eqb, List, [], ◌∷◌, ◌++◌, length, Option, Some, None, refl, sym, ap, ◌∙◌, subst, arith, inl, inr, ◌⊎◌}
-use Rattle.std.specs.Prelude.{◌||◌, ◌&&◌, not, option_map}
+use Rattle.std.proofs.Common.{◌≡◌, ℕ, zero, suc, ◌≤◌, Bool, true, false, eqb, List, [], ◌∷◌, ◌++◌, length, Option, Some, None, refl, sym, ap, ◌∙◌, arith, inl, inr}
+use Rattle.std.specs.Prelude.{not, option_map}
 use Rattle.std.specs.List.{list_all}
-use Rattle.std.proofs.lemmas.Bool.{or_cases, and_parts, eqb-true, ne_eqb, both_ways}
+use Rattle.std.proofs.lemmas.Bool.{and_parts, ne_eqb, both_ways}
 use Rattle.std.proofs.lemmas.List.{append-nil}
 use Rattle.mus_units.specs.declared.pitch.Alter.{Alter}
 use Rattle.mus_units.specs.declared.pitch.Alter.TheVariants.{Flat2, Flat, Natural, Sharp, Sharp2}
 use Rattle.mus_units.specs.declared.pitch.Letter.{Letter}
 use Rattle.mus_units.specs.declared.pitch.Letter.TheVariants.{C, D, E, F, G, A, B}
-use Rattle.abc_pieces.specs.Runs.{copies, maybe, span, span_all, begins, is_digit, is_blank, is_letter, one_of}
+use Rattle.abc_pieces.specs.Runs.{copies, maybe, span, span_all, begins, is_digit, is_blank, is_letter}
 use Rattle.abc_pieces.proofs.RunLaws.{skip-yes}
 use Rattle.abc_pieces.proofs.SpanLaws.{span-cons, span-zero, span-stops, span_all-append, span_all-stops}
 use Rattle.abc_pieces.specs.Bars.{BarForm, signs, colons, form_at, spelled as bar_then, IsGood as IsBar}
@@ -17,20 +17,20 @@ use Rattle.abc_pieces.specs.Lengths.{LengthForm, length_then, length_at, IsLengt
 use Rattle.abc_pieces.proofs.LengthLaws.{goes_on, length_at-reaches, count-reads, count-stops}
 use Rattle.abc_pieces.specs.Notes.{NoteForm, note_then, sign_then, letter_byte, IsNote, note_at}
 use Rattle.abc_pieces.proofs.NoteLaws.{note_goes_on, note_at-reaches}
-use Rattle.abc_pieces.specs.Items.{IsName, name_at, is_note_byte, inner_at}
+use Rattle.abc_pieces.specs.Items.{IsName, is_note_byte}
 use Rattle.abc_pieces.proofs.ItemLaws.{name_at-reads}
 use Rattle.abc_pieces.proofs.InnerLaws.{inner_reader}
 use Rattle.abc_pieces.proofs.PartLaws.{walk_of_parts}
 use Rattle.abc_pieces.specs.Chords.{ChordForm, chord_then, is_inside, IsChord, chord_at}
-use Rattle.abc_pieces.specs.Graces.{GraceForm, grace_then, IsGrace, is_slash_byte}
+use Rattle.abc_pieces.specs.Graces.{GraceForm, IsGrace, is_slash_byte}
 use Rattle.abc_pieces.proofs.GraceLaws.{grace-reads}
-use Rattle.abc_pieces.specs.Tuplets.{TupletForm, with_r, tuplet_then, tuplet_at, IsTuplet}
+use Rattle.abc_pieces.specs.Tuplets.{with_r, tuplet_then, tuplet_at, IsTuplet}
 use Rattle.abc_pieces.proofs.Classes.{digit_below, letter_apart}
 use Rattle.abc_pieces.proofs.PieceTakes.{opening-behind}
 use Rattle.abc_pieces.specs.declared.token.Before.{Before}
 use Rattle.abc_pieces.specs.declared.token.Before.TheVariants as behind
 use Rattle.abc_pieces.specs.declared.token.Opening.TheVariants as opens
-use Rattle.abc_pieces.specs.Forms.{Form, note_form, rest_form, measures_form, chord_form, grace_form, tuplet_form, slur_form, close_form, tie_form, broken_form, bar_form, ending_form, letter_form, named_form, says_form, inline_form, cut_form, space_form, spelled, is_ending, is_text, arrow, rest_byte, measures_byte, opening}
+use Rattle.abc_pieces.specs.Forms.{Form, note_form, rest_form, measures_form, chord_form, grace_form, tuplet_form, slur_form, close_form, tie_form, broken_form, bar_form, ending_form, letter_form, named_form, says_form, inline_form, cut_form, space_form, spelled, is_ending, is_text, arrow, opening}
 use Rattle.abc_pieces.specs.Reading.{Read, read, class_of, note_read, rest_read, measures_read, bar_read, chord_read, grace_read, tuplet_read, or_else, ending_read, broken_read, says_read, inline_read, space_read, bang_read, dot_read, opened, piece_at}
 
 pub data Stops : List ℕ → Type 0 where

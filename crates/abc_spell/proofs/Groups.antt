@@ -1,9 +1,9 @@
 -- Chords and grace groups in their plain spelling are read as themselves.
-use Rattle.std.proofs.Common.{◌≡◌, ℕ, zero, suc, ◌+◌, ◌-◌, ◌≤◌, ◌<◌, Bool, true, false, cond, eqb, List, [], ◌∷◌, ◌++◌, length, Option, Some, None, refl, sym, ap, ◌∙◌, subst, arith, inl, inr, ◌⊎◌, append_assoc, append-nil}
-use Rattle.std.specs.Prelude.{◌||◌, ◌&&◌, not, option_map, map, ℤ}
+use Rattle.std.proofs.Common.{◌≡◌, ℕ, zero, suc, ◌≤◌, Bool, true, false, eqb, List, [], ◌∷◌, ◌++◌, length, Option, Some, None, refl, sym, ap, ◌∙◌, arith, inl, inr, append_assoc}
+use Rattle.std.specs.Prelude.{◌||◌, ◌&&◌, not, option_map, map}
 use Rattle.std.specs.List.{list_all}
 use Rattle.std.specs.Fmt.{decimal}
-use Rattle.std.proofs.lemmas.Bool.{or_cases, and_parts, and_from, eqb-true, ne_eqb, both_ways}
+use Rattle.std.proofs.lemmas.Bool.{or_cases, and_parts, and_from, eqb-true, ne_eqb}
 use Rattle.std.proofs.lemmas.List.Folds.{list_all-append}
 use Rattle.mus_units.specs.declared.note.Deco.{Deco}
 use Rattle.mus_units.specs.declared.note.Head.{Head}
@@ -15,24 +15,23 @@ use Rattle.abc_pieces.specs.declared.token.GraceChord.{GraceChord}
 use Rattle.abc_pieces.specs.declared.token.Len.{Len}
 use Rattle.abc_pieces.specs.declared.token.Opening.TheVariants as opens
 use Rattle.abc_pieces.specs.Runs.{copies, maybe, begins, is_digit, is_mark}
-use Rattle.abc_pieces.specs.Lengths.{LengthForm, whole, over, halved, length_then, IsLength, len_of}
+use Rattle.abc_pieces.specs.Lengths.{LengthForm, whole, over, halved, length_then, len_of}
 use Rattle.abc_pieces.proofs.LengthLaws.{goes_on, count-digits}
 use Rattle.abc_pieces.specs.Notes.{NoteForm, note_then, sign_then, letter_byte, IsNote, head_of, note_at}
 use Rattle.abc_pieces.proofs.NoteLaws.{note_goes_on}
-use Rattle.abc_pieces.specs.Decorations.{deco_of_name}
-use Rattle.abc_pieces.specs.Items.{Inner, note_inside, letter_inside, named_inside, tie_inside, slur_inside, passed_inside, lone_inside, inner_then, IsInner, IsName, StandsInside, sense, InnerParts, inner_at, item_class, is_note_byte}
+use Rattle.abc_pieces.specs.Items.{Inner, note_inside, letter_inside, named_inside, tie_inside, slur_inside, passed_inside, lone_inside, inner_then, IsInner, IsName, sense, InnerParts, inner_at, item_class, is_note_byte}
 use Rattle.abc_pieces.proofs.ItemLaws.{name_at-reads}
 use Rattle.abc_pieces.proofs.InnerLaws.{inner_reader}
 use Rattle.abc_pieces.proofs.PartLaws.{longest_of}
 use Rattle.abc_pieces.proofs.Bounds.{digit_range}
-use Rattle.abc_pieces.specs.Parts.{Parts, no_part, then_part, IsLongest}
-use Rattle.abc_pieces.specs.Chords.{ChordForm, chord_then, is_inside, has_head, IsChord, is_tied, tied_if, heads_of, decos_of, chord_at}
-use Rattle.abc_pieces.specs.Graces.{GracePart, single, chorded, grace_part_then, IsGracePart, StandsInGrace, GraceParts, GraceForm, grace_then, is_in_grace, is_slash_byte, IsGrace, heads_in, body_of, grace_part_at, single_read, chorded_read}
+use Rattle.abc_pieces.specs.Parts.{no_part, then_part}
+use Rattle.abc_pieces.specs.Chords.{ChordForm, chord_then, is_inside, has_head, IsChord, is_tied, tied_if, heads_of, decos_of}
+use Rattle.abc_pieces.specs.Graces.{GracePart, single, chorded, grace_part_then, IsGracePart, GraceParts, GraceForm, is_in_grace, is_slash_byte, IsGrace, heads_in, body_of, grace_part_at, single_read, chorded_read}
 use Rattle.abc_pieces.proofs.GraceLaws.{part_reader}
 use Rattle.abc_pieces.specs.Forms.{opening}
 use Rattle.abc_spell.specs.Plain.{all_then, len_then, marks_of, is_small, head_then, chord_head_then, name_of, deco_then, heads_then, grace_chord_then}
 use Rattle.abc_spell.proofs.Numbers.{GoodLen, len_form, len_again, head_form, head_good, head_means, good_marks}
-use Rattle.abc_spell.proofs.Names.{GoodDeco, InChord, letter_good, name_in_chord}
+use Rattle.abc_spell.proofs.Names.{InChord, letter_good, name_in_chord}
 use Rattle.abc_spell.proofs.Exact.{First, first_is, note_exact, chord_exact}
 
 -- ---- lists of bytes that pass

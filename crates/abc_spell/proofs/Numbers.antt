@@ -1,23 +1,23 @@
 -- Numbers, lengths and octaves in their plain spelling are read as themselves.
-use Rattle.std.proofs.Common.{◌≡◌, ℕ, zero, suc, ◌+◌, ◌-◌, ◌*◌, ◌^◌, ◌≤◌, ◌<◌, Bool, true, false, cond, eqb, leb, List, [], ◌∷◌, ◌++◌, length, get_or, refl, sym, ap, ◌∙◌, subst, arith, inl, inr, ◌⊎◌}
-use Rattle.std.specs.Prelude.{ℤ, pos, negsuc, ◌+ℤ◌, ◌-ℤ◌, replicate, count_by}
+use Rattle.std.proofs.Common.{◌≡◌, ℕ, zero, suc, ◌+◌, ◌-◌, ◌^◌, ◌≤◌, ◌<◌, Bool, true, false, cond, eqb, leb, List, [], ◌∷◌, length, get_or, refl, sym, ap, ◌∙◌, subst, arith}
+use Rattle.std.specs.Prelude.{ℤ, pos, negsuc, ◌-ℤ◌, replicate, count_by}
 use Rattle.std.specs.List.{list_all}
 use Rattle.std.specs.Fmt.{decimal}
-use Rattle.std.specs.Str.Parse.{AllDigits, digits_value}
+use Rattle.std.specs.Str.Parse.{digits_value}
 use Rattle.std.proofs.lemmas.Fmt.{decimal-digits_value}
 use Rattle.std.proofs.lemmas.Str.Parse.{IsNumeralModel, IsDigitsTest, numerals_by_value}
 use Rattle.std.proofs.lemmas.Int.Digits.{digits_value-lt}
 use Rattle.std.proofs.lemmas.List.Folds.{sum_by-replicate}
 use Rattle.std.proofs.lemmas.Int.{ints}
-use Rattle.std.proofs.lemmas.Bool.{cond_both, both_ways, leb-true, leb-false, le-leb, and_from, and_parts, ne_eqb, eq-eqb}
+use Rattle.std.proofs.lemmas.Bool.{cond_both, both_ways, leb-true, leb-false, le-leb, and_from, and_parts, eq-eqb}
 use Rattle.mus_units.specs.declared.note.Head.{Head}
 use Rattle.abc_pieces.specs.declared.token.Len.{Len}
 use Rattle.abc_pieces.specs.Runs.{begins, is_digit, is_mark}
-use Rattle.abc_pieces.specs.Lengths.{LengthForm, whole, over, halved, length_then, IsNumber, IsCount, IsLength, count_of, len_of}
+use Rattle.abc_pieces.specs.Lengths.{LengthForm, whole, over, halved, IsNumber, IsCount, IsLength, count_of, len_of}
 use Rattle.abc_pieces.specs.Notes.{NoteForm, octave_of, head_of, IsNote}
 use Rattle.abc_pieces.specs.Chords.{tied_if}
 use Rattle.abc_pieces.proofs.Bounds.{digit_range}
-use Rattle.abc_spell.specs.Plain.{is_small, marks_of, number_or_empty}
+use Rattle.abc_spell.specs.Plain.{is_small, marks_of}
 
 -- ---- numbers
 

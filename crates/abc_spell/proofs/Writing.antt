@@ -1,7 +1,7 @@
 -- Writing a list one by one.
-use Rattle.std.proofs.Common.{◌≡◌, ℕ, zero, suc, ◌+◌, ◌≤◌, ◌<◌, List, [], ◌∷◌, ◌++◌, length, get_or, drop, refl, sym, ap, ◌∙◌, arith, replicate}
+use Rattle.std.proofs.Common.{◌≡◌, ℕ, zero, suc, ◌+◌, ◌≤◌, ◌<◌, List, [], ◌∷◌, ◌++◌, length, get_or, drop, refl, sym, ap, ◌∙◌, replicate}
 use Rattle.std.specs.Prelude.{Result, Ok, Err, OnOk}
-use Rattle.std.proofs.lemmas.List.{append_assoc, append-nil, drop_more, drop_all}
+use Rattle.std.proofs.lemmas.List.{append_assoc, drop_more, drop_all}
 use Rattle.abc_pieces.specs.declared.token.Token.{Token}
 use Rattle.abc_pieces.specs.Runs.{copies}
 use Rattle.abc_spell.specs.Plain.{all_then, next_then, token_then, plain_text, Puts}

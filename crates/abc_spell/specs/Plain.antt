@@ -3,7 +3,7 @@
 -- ending is an opening bracket and its text, a decoration is its first name between exclamation
 -- marks, a tuplet leaves a number that it lacks empty, and a bar has as few colons and bar signs as
 -- its features allow. Each spelling is written in front of what follows it.
-use Rattle.std.specs.Prelude.{◌≡◌, ℕ, ℤ, pos, negsuc, ◌+◌, ◌-◌, List, [], ◌∷◌, ◌++◌, Bool, true, false, not, ◌==◌, ◌&&◌, nat_le, if◌then◌else◌, replicate, codes}
+use Rattle.std.specs.Prelude.{◌≡◌, ℕ, ℤ, pos, negsuc, ◌+◌, ◌-◌, List, [], ◌∷◌, ◌++◌, Bool, false, not, ◌==◌, ◌&&◌, nat_le, if◌then◌else◌, replicate, codes}
 use Rattle.std.specs.Fmt.{decimal}
 use Rattle.mus_units.specs.declared.note.Bar.{Bar}
 use Rattle.mus_units.specs.declared.note.Deco.{Deco}
