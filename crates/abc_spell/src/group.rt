@@ -1,5 +1,6 @@
 ghost use Rattle.std.specs.Prelude.{◌≡◌, OnOk};
-ghost use Rattle.abc_spell.specs.Plain.{Puts, all_then, name_of, deco_then, head_then, chord_head_then, heads_then, grace_chord_then, colon_then, tuplet_then};
+ghost use Rattle.abc_pieces.specs.declared.token.Token.TheVariants.{Chord, Grace, Tuplet};
+ghost use Rattle.abc_spell.specs.Plain.{Puts, all_then, name_of, deco_then, head_then, chord_head_then, heads_then, grace_chord_then, colon_then, token_then};
 
 use crate::bar::put_if;
 use crate::note::{put_head, put_len, put_number, put_number_or_nothing};
@@ -39,8 +40,7 @@ pub fn put_deco(out: &mut Text, deco: &Deco) -> Result<(), Memory>
     out.push(b'!')
 }
 
-/// Adds the decorations of a chord.
-pub fn put_decos(out: &mut Text, decos: &[Deco]) -> Result<(), Memory>
+fn put_decos(out: &mut Text, decos: &[Deco]) -> Result<(), Memory>
     ensures { OnOk result (Puts out.old out.new (all_then deco_then decos.now)) }
 {
     for deco in decos {
@@ -58,9 +58,7 @@ fn put_chord_head(alloc: Global, out: &mut Text, pair: &(Head, Len)) -> Result<(
     put_if(out, head.tied, b'-')
 }
 
-/// Adds the heads of a chord, each with its length, and a hyphen where it is
-/// tied.
-pub fn put_chord_heads(alloc: Global, out: &mut Text, heads: &[(Head, Len)]) -> Result<(), Memory>
+fn put_chord_heads(alloc: Global, out: &mut Text, heads: &[(Head, Len)]) -> Result<(), Memory>
     ensures { OnOk result (Puts out.old out.new (all_then chord_head_then heads.now)) }
 {
     for pair in heads {
@@ -89,8 +87,7 @@ fn put_grace_chord(out: &mut Text, heads: &[Head]) -> Result<(), Memory>
     out.push(b']')
 }
 
-/// Adds the notes and chords of a grace group.
-pub fn put_body(out: &mut Text, body: &[GraceChord]) -> Result<(), Memory>
+fn put_body(out: &mut Text, body: &[GraceChord]) -> Result<(), Memory>
     ensures { OnOk result (Puts out.old out.new (all_then grace_chord_then body.now)) }
 {
     for chord in body {
@@ -106,11 +103,39 @@ fn put_colon(alloc: Global, out: &mut Text, number: u8) -> Result<(), Memory>
     put_number_or_nothing(alloc, out, u32::from(number))
 }
 
-/// Adds the numbers of a tuplet, and nothing for a later one that is 0.
+/// Adds a tuplet, with nothing for a later number that is 0.
 pub fn put_tuplet(alloc: Global, out: &mut Text, p: u8, q: u8, r: u8) -> Result<(), Memory>
-    ensures { OnOk result (Puts out.old out.new (tuplet_then p q r)) }
+    ensures { OnOk result (Puts out.old out.new (token_then (Tuplet p q r))) }
 {
+    out.push(b'(')?;
     put_number(alloc, out, u32::from(p))?;
     put_colon(alloc, out, q)?;
     put_colon(alloc, out, r)
+}
+
+/// Adds a chord: its decorations, its heads, and its length behind the bracket.
+pub fn put_chord(
+    alloc: Global,
+    out: &mut Text,
+    heads: &[(Head, Len)],
+    decos: &[Deco],
+    len: Len,
+) -> Result<(), Memory>
+    ensures { OnOk result (Puts out.old out.new (token_then (Chord heads.now decos.now len))) }
+{
+    out.push(b'[')?;
+    put_decos(out, decos)?;
+    put_chord_heads(alloc, out, heads)?;
+    out.push(b']')?;
+    put_len(alloc, out, len)
+}
+
+/// Adds a grace group.
+pub fn put_grace(out: &mut Text, slash: bool, body: &[GraceChord]) -> Result<(), Memory>
+    ensures { OnOk result (Puts out.old out.new (token_then (Grace slash body.now))) }
+{
+    out.push(b'{')?;
+    put_if(out, slash, b'/')?;
+    put_body(out, body)?;
+    out.push(b'}')
 }

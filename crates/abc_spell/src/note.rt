@@ -1,7 +1,8 @@
 ghost use Rattle.std.specs.Prelude.{◌≡◌, ◌∷◌, ◌++◌, [], OnOk, replicate};
 ghost use Rattle.std.specs.Fmt.{decimal};
 ghost use Rattle.abc_pieces.specs.Notes.{sign_then, letter_byte};
-ghost use Rattle.abc_spell.specs.Plain.{Puts, len_then, pitch_then, head_then, is_small, number_or_empty};
+ghost use Rattle.abc_pieces.specs.declared.token.Token.TheVariants.{Note, Rest, Measures};
+ghost use Rattle.abc_spell.specs.Plain.{Puts, len_then, pitch_then, head_then, is_small, number_or_empty, token_then};
 
 use abc_tokens::Len;
 use mus_units::{Alter, Head, Letter, Memory, Text};
@@ -98,4 +99,28 @@ pub fn put_head(out: &mut Text, head: Head) -> Result<(), Memory>
 {
     put_sign(out, head.sign)?;
     put_pitch(out, head)
+}
+
+/// Adds a note.
+pub fn put_note(alloc: Global, out: &mut Text, head: Head, len: Len) -> Result<(), Memory>
+    ensures { OnOk result (Puts out.old out.new (token_then (Note head len))) }
+{
+    put_head(out, head)?;
+    put_len(alloc, out, len)
+}
+
+/// Adds a rest, seen or unseen.
+pub fn put_rest(alloc: Global, out: &mut Text, seen: bool, len: Len) -> Result<(), Memory>
+    ensures { OnOk result (Puts out.old out.new (token_then (Rest seen len))) }
+{
+    out.push(if seen { b'z' } else { b'x' })?;
+    put_len(alloc, out, len)
+}
+
+/// Adds whole measures of rest, seen or unseen.
+pub fn put_measures(alloc: Global, out: &mut Text, seen: bool, count: u16) -> Result<(), Memory>
+    ensures { OnOk result (Puts out.old out.new (token_then (Measures seen count))) }
+{
+    out.push(if seen { b'Z' } else { b'X' })?;
+    put_number(alloc, out, u32::from(count))
 }

@@ -1,12 +1,13 @@
 ghost use Rattle.std.specs.Prelude.{◌≡◌, OnOk, IfOk, false};
 ghost use Rattle.abc_pieces.specs.Runs.{copies};
 ghost use Rattle.abc_pieces.specs.Forms.{arrow};
+ghost use Rattle.abc_pieces.specs.declared.token.Token.TheVariants.{Ending, Says, Inline};
 ghost use Rattle.abc_spell.specs.Again.{IsReadable, ReadsAs};
 ghost use Rattle.abc_spell.specs.Plain.{Puts, token_then, next_then, plain_text};
 
-use crate::bar::{put_bar, put_if};
-use crate::group::{put_body, put_chord_heads, put_deco, put_decos, put_tuplet};
-use crate::note::{put_copies, put_head, put_len, put_number};
+use crate::bar::put_bar;
+use crate::group::{put_chord, put_deco, put_grace, put_tuplet};
+use crate::note::{put_copies, put_measures, put_note, put_rest};
 use abc_tokens::Token;
 use mus_units::{Memory, Text};
 use std::alloc::Global;
@@ -46,60 +47,51 @@ fn put_token(alloc: Global, out: &mut Text, token: &Token) -> Result<(), Memory>
     ensures { OnOk result (Puts out.old out.new (token_then token.now)) }
 {
     match token {
-        Token::Note { head, len } => {
-            put_head(out, *head)?;
-            put_len(alloc, out, *len)
-        }
-        Token::Rest { seen, len } => {
-            out.push(if *seen { b'z' } else { b'x' })?;
-            put_len(alloc, out, *len)
-        }
-        Token::Measures { seen, count } => {
-            out.push(if *seen { b'Z' } else { b'X' })?;
-            put_number(alloc, out, u32::from(*count))
-        }
+        Token::Note { head, len } => put_note(alloc, out, *head, *len),
+        Token::Rest { seen, len } => put_rest(alloc, out, *seen, *len),
+        Token::Measures { seen, count } => put_measures(alloc, out, *seen, *count),
         Token::Chord { heads, decos, len } => {
-            out.push(b'[')?;
-            put_decos(out, decos.as_slice())?;
-            put_chord_heads(alloc, out, heads.as_slice())?;
-            out.push(b']')?;
-            put_len(alloc, out, *len)
+            put_chord(alloc, out, heads.as_slice(), decos.as_slice(), *len)
         }
-        Token::Grace { slash, body } => {
-            out.push(b'{')?;
-            put_if(out, *slash, b'/')?;
-            put_body(out, body.as_slice())?;
-            out.push(b'}')
-        }
-        Token::Tuplet { p, q, r } => {
-            out.push(b'(')?;
-            put_tuplet(alloc, out, *p, *q, *r)
-        }
+        Token::Grace { slash, body } => put_grace(out, *slash, body.as_slice()),
+        Token::Tuplet { p, q, r } => put_tuplet(alloc, out, *p, *q, *r),
         Token::SlurOn => out.push(b'('),
         Token::SlurOff => out.push(b')'),
         Token::Tie => out.push(b'-'),
         Token::Broken { right, dots } => put_arrows(out, *right, *dots),
         Token::Bar(bar) => put_bar(out, *bar),
-        Token::Ending(text) => {
-            out.push(b'[')?;
-            out.append(text.as_slice())
-        }
+        Token::Ending(text) => put_ending(out, text.as_slice()),
         Token::Deco(deco) => put_deco(out, deco),
-        Token::Says(text) => {
-            out.push(b'"')?;
-            out.append(text.as_slice())?;
-            out.push(b'"')
-        }
-        Token::Inline { letter, text } => {
-            out.push(b'[')?;
-            out.push(*letter)?;
-            out.push(b':')?;
-            out.append(text.as_slice())?;
-            out.push(b']')
-        }
+        Token::Says(text) => put_quoted(out, text.as_slice()),
+        Token::Inline { letter, text } => put_inline(out, *letter, text.as_slice()),
         Token::Cut => out.push(b'$'),
         Token::Space => out.push(b' '),
     }
+}
+
+fn put_ending(out: &mut Text, text: &[u8]) -> Result<(), Memory>
+    ensures { OnOk result (Puts out.old out.new (token_then (Ending text.now))) }
+{
+    out.push(b'[')?;
+    out.append(text)
+}
+
+fn put_quoted(out: &mut Text, text: &[u8]) -> Result<(), Memory>
+    ensures { OnOk result (Puts out.old out.new (token_then (Says text.now))) }
+{
+    out.push(b'"')?;
+    out.append(text)?;
+    out.push(b'"')
+}
+
+fn put_inline(out: &mut Text, letter: u8, text: &[u8]) -> Result<(), Memory>
+    ensures { OnOk result (Puts out.old out.new (token_then (Inline letter text.now))) }
+{
+    out.push(b'[')?;
+    out.push(letter)?;
+    out.push(b':')?;
+    out.append(text)?;
+    out.push(b']')
 }
 
 fn put_arrows(out: &mut Text, right: bool, count: u8) -> Result<(), Memory>
