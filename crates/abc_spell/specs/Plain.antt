@@ -1,0 +1,128 @@
+-- The one plain spelling of each token: a length is its two numbers with a slash between, an octave
+-- is written by commas or primes alone, a space is one space, a line break is a dollar sign, an
+-- ending is an opening bracket and its text, a decoration is its first name between exclamation
+-- marks, a tuplet leaves a number that it lacks empty, and a bar has as few colons and bar signs as
+-- its features allow. Each spelling is written in front of what follows it.
+use Rattle.std.specs.Prelude.{◌≡◌, ℕ, ℤ, pos, negsuc, ◌+◌, ◌-◌, List, [], ◌∷◌, ◌++◌, Bool, false, not, ◌==◌, ◌&&◌, nat_le, if◌then◌else◌, replicate, codes}
+use Rattle.std.specs.Fmt.{decimal}
+use Rattle.mus_units.specs.declared.note.Bar.{Bar}
+use Rattle.mus_units.specs.declared.note.Deco.{Deco}
+use Rattle.mus_units.specs.declared.note.Deco.TheVariants.{Ks, Kr, Kf, Ka, Km, Kc, Kp, Kg, Kt, Ku, Kd, Kn, Below, Above, Quiet}
+use Rattle.mus_units.specs.declared.note.Head.{Head}
+use Rattle.abc_pieces.specs.declared.token.GraceChord.{GraceChord}
+use Rattle.abc_pieces.specs.declared.token.Len.{Len}
+use Rattle.abc_pieces.specs.declared.token.Token.{Token}
+use Rattle.abc_pieces.specs.declared.token.Token.TheVariants as token
+use Rattle.abc_pieces.specs.Runs.{copies, maybe}
+use Rattle.abc_pieces.specs.Notes.{sign_then, letter_byte}
+use Rattle.abc_pieces.specs.Forms.{arrow, rest_byte, measures_byte}
+
+-- one after the other, and what follows them
+abbrev pub all_then : {A : Type 0} → (A → List ℕ → List ℕ) → List A → List ℕ → List ℕ
+all_then one_then [] x = x
+all_then one_then (a ∷ more) x = one_then a (all_then one_then more x)
+
+abbrev pub len_then : Len → List ℕ → List ℕ
+len_then len x = decimal len.num ++ (47 ∷ (decimal len.den ++ x))
+
+-- from octave 5 on a small letter and primes, else a capital and commas
+abbrev pub is_small : ℤ → Bool
+is_small (pos n) = nat_le 5 n
+is_small (negsuc n) = false
+
+abbrev pub marks_of : ℤ → List ℕ
+marks_of (pos n) = if nat_le 5 n then replicate (n - 5) 39 else replicate (4 - n) 44
+marks_of (negsuc n) = replicate (n + 5) 44
+
+abbrev pub pitch_then : Head → List ℕ → List ℕ
+pitch_then head x = letter_byte (is_small head.pitch.octave) head.pitch.letter ∷ (marks_of head.pitch.octave ++ x)
+
+abbrev pub head_then : Head → List ℕ → List ℕ
+head_then head x = sign_then head.sign (pitch_then head x)
+
+-- a head of a chord, with a hyphen where it is tied
+abbrev pub chord_head_then : Head × Len → List ℕ → List ℕ
+chord_head_then h x = head_then h.0 (len_then h.1 (maybe h.0.tied 45 x))
+
+-- the first name of a decoration that has a glyph, and a text's own name
+abbrev pub name_of : Deco → List ℕ
+name_of Ks = codes "staccato"
+name_of Kr = codes "roll"
+name_of Kf = codes "fermata"
+name_of Ka = codes "accent"
+name_of Km = codes "lowermordent"
+name_of Kc = codes "coda"
+name_of Kp = codes "uppermordent"
+name_of Kg = codes "segno"
+name_of Kt = codes "trill"
+name_of Ku = codes "upbow"
+name_of Kd = codes "downbow"
+name_of Kn = codes "tenuto"
+name_of (Below text) = text
+name_of (Above text) = text
+name_of (Quiet text) = text
+
+abbrev pub deco_then : Deco → List ℕ → List ℕ
+deco_then deco x = 33 ∷ (name_of deco ++ (33 ∷ x))
+
+-- several heads of a grace group stand between brackets
+abbrev pub heads_then : List Head → List ℕ → List ℕ
+heads_then [] x = 91 ∷ 93 ∷ x
+heads_then (head ∷ []) x = head_then head x
+heads_then (head ∷ second ∷ more) x = 91 ∷ all_then head_then (head ∷ second ∷ more) (93 ∷ x)
+
+abbrev pub grace_chord_then : GraceChord → List ℕ → List ℕ
+grace_chord_then chord x = heads_then chord.heads x
+
+-- an absent number is left empty
+abbrev pub number_or_empty : ℕ → List ℕ
+number_or_empty n = if n == 0 then [] else decimal n
+
+abbrev pub colon_then : ℕ → List ℕ → List ℕ
+colon_then n x = 58 ∷ (number_or_empty n ++ x)
+
+abbrev pub tuplet_then : ℕ → ℕ → ℕ → List ℕ → List ℕ
+tuplet_then p q r x = decimal p ++ colon_then q (colon_then r x)
+
+-- repeat dots on both sides and no other feature
+abbrev pub is_colons : Bar → Bool
+is_colons b = b.end && b.start && not b.last && not b.initial && not b.double && not b.dotted
+
+abbrev pub signs_then : Bar → List ℕ → List ℕ
+signs_then b x = maybe b.dotted 46 (maybe b.end 58 (maybe b.initial 91 (124 ∷ maybe b.double 124 (maybe b.last 93 (maybe b.start 58 x)))))
+
+abbrev pub bar_then : Bar → List ℕ → List ℕ
+bar_then b x = if b.unseen then 91 ∷ 124 ∷ 93 ∷ x else (if is_colons b then 58 ∷ 58 ∷ x else signs_then b x)
+
+-- the plain spelling of a token, and what follows it
+abbrev pub token_then : Token → List ℕ → List ℕ
+token_then (token.Note head len) x = head_then head (len_then len x)
+token_then (token.Rest seen len) x = rest_byte seen ∷ len_then len x
+token_then (token.Measures seen count) x = measures_byte seen ∷ (decimal count ++ x)
+token_then (token.Chord heads decos len) x = 91 ∷ all_then deco_then decos (all_then chord_head_then heads (93 ∷ len_then len x))
+token_then (token.Grace slash body) x = 123 ∷ maybe slash 47 (all_then grace_chord_then body (125 ∷ x))
+token_then (token.Tuplet p q r) x = 40 ∷ tuplet_then p q r x
+token_then token.SlurOn x = 40 ∷ x
+token_then token.SlurOff x = 41 ∷ x
+token_then token.Tie x = 45 ∷ x
+token_then (token.Broken right dots) x = copies dots (arrow right) x
+token_then (token.Bar b) x = bar_then b x
+token_then (token.Ending text) x = 91 ∷ (text ++ x)
+token_then (token.Deco deco) x = deco_then deco x
+token_then (token.Says text) x = 34 ∷ (text ++ (34 ∷ x))
+token_then (token.Inline letter text) x = 91 ∷ letter ∷ 58 ∷ (text ++ (93 ∷ x))
+token_then token.Cut x = 36 ∷ x
+token_then token.Space x = 32 ∷ x
+
+-- a backquote, and a token behind it
+abbrev pub next_then : Token → List ℕ → List ℕ
+next_then t x = 96 ∷ token_then t x
+
+-- the plain spelling of tokens: a backquote between two
+abbrev pub plain_text : List Token → List ℕ
+plain_text [] = []
+plain_text (t ∷ more) = token_then t (all_then next_then more [])
+
+-- the bytes were put at the end, whatever follows
+abbrev pub Puts : List ℕ → List ℕ → (List ℕ → List ℕ) → Type 0
+Puts old new put_then = (x : List ℕ) → new ++ x ≡ old ++ put_then x
