@@ -1,11 +1,13 @@
 pub mod Defaults
 pub mod Directives
+pub mod FieldSpelling
 pub mod Fields
 pub mod Good
 pub mod Headers
 pub mod Keys
 pub mod Last
 pub mod Lengths
+pub mod MeterSpelling
 pub mod Meters
 pub mod Numbers
 pub mod Papers
