@@ -30,20 +30,12 @@ use Rattle.abc_fields.specs.Meters.{meter_of, unit_of}
 use Rattle.abc_fields.specs.Voices.{voice_of}
 use Rattle.abc_fields.specs.Fields.{key_field, meter_field, unit_field, voice_field, written_field, named_field, breaks_field, spread_field, directive_field, field_by, field_of, Refuses, IsFaultOfLine}
 use Rattle.abc_fields.specs.MeterSpelling.{SaysMeter, SaysUnit}
-use Rattle.abc_fields.specs.FieldSpelling.{SaysKey, SaysVoice, SaysBreaks, SaysSpread, is_known, NamedSays, DirectiveBreaks, DirectiveSpread, DirectiveSays, KindSays, Says, NamedBad, KindBad, IsBad, NamedRefuses, IsBadLine}
+use Rattle.abc_fields.specs.FieldSpelling.{SaysBreaks, SaysSpread, is_known, NamedSays, DirectiveBreaks, DirectiveSpread, DirectiveSays, KindSays, Says, NamedBad, KindBad, IsBad, NamedRefuses, IsBadLine}
+use Rattle.abc_fields.specs.KeySpelling.{SaysKey}
+use Rattle.abc_fields.specs.VoiceSpelling.{SaysVoice}
+use Rattle.abc_fields.proofs.KeyForms.{key-says, key-read}
 use Rattle.abc_fields.proofs.MeterForms.{none_is_some, meter-says, meter-read, unit-says, unit-read}
-
-key-says : (text : List ℕ) (key : KeyText) → key_of text ≡ Some key → SaysKey text key
-key-says text key h = h
-
-key-read : (text : List ℕ) (key : KeyText) → SaysKey text key → key_of text ≡ Some key
-key-read text key says = says
-
-voice-says : (text : List ℕ) (voice : VoiceDef) → voice_of text ≡ Some voice → SaysVoice text voice
-voice-says text voice h = h
-
-voice-read : (text : List ℕ) (voice : VoiceDef) → SaysVoice text voice → voice_of text ≡ Some voice
-voice-read text voice says = says
+use Rattle.abc_fields.proofs.VoiceForms.{voice-says, voice-read}
 
 abbrev Reading : Type 0
 Reading = Result Field FaultKind

@@ -1,7 +1,7 @@
 -- What a line says, one case for each kind of field: the letter or the directive that it has, and
 -- how its text is written. Where a text with the letter of a key, a meter, a unit length or a
 -- voice is in no good form of that letter, the line is a fault.
-use Rattle.std.specs.Prelude.{◌≡◌, ℕ, List, Bool, ⊤, ◌==◌, ◌||◌, IsTrue, not, codes, Some}
+use Rattle.std.specs.Prelude.{◌≡◌, ℕ, List, Bool, ⊤, ◌==◌, ◌||◌, IsTrue, not, codes}
 use Rattle.mus_units.specs.declared.key.Meter.{Meter}
 use Rattle.mus_units.specs.declared.key.Spread.{Spread}
 use Rattle.mus_units.specs.declared.key.Spread.TheVariants as spreads
@@ -22,16 +22,9 @@ use Rattle.abc_fields.specs.declared.field.Field.TheVariants as fields
 use Rattle.abc_fields.specs.declared.field.FieldError.{FieldError}
 use Rattle.abc_fields.specs.declared.field.FieldError.TheVariants as refusals
 use Rattle.abc_fields.specs.Directives.{name_of, rest_of, has_word, names_breaks}
-use Rattle.abc_fields.specs.Keys.{key_of}
+use Rattle.abc_fields.specs.KeySpelling.{SaysKey}
 use Rattle.abc_fields.specs.MeterSpelling.{SaysMeter, SaysUnit}
-use Rattle.abc_fields.specs.Voices.{voice_of}
-
--- A key and a voice are what the reading of their words gives.
-abbrev pub SaysKey : List ℕ → KeyText → Type 0
-SaysKey text key = key_of text ≡ Some key
-
-abbrev pub SaysVoice : List ℕ → VoiceDef → Type 0
-SaysVoice text voice = voice_of text ≡ Some voice
+use Rattle.abc_fields.specs.VoiceSpelling.{SaysVoice}
 
 -- Line breaks: at least one of the four words stands among the words of the text, and each
 -- of the three breaks is on where its word does; `<none>` adds none, and other words are passed over.

@@ -4,6 +4,7 @@ pub mod FieldSpelling
 pub mod Fields
 pub mod Good
 pub mod Headers
+pub mod KeySpelling
 pub mod Keys
 pub mod Last
 pub mod Lengths
@@ -11,6 +12,7 @@ pub mod MeterSpelling
 pub mod Meters
 pub mod Numbers
 pub mod Papers
+pub mod VoiceSpelling
 pub mod Voices
 pub mod Voicing
 pub mod Words
