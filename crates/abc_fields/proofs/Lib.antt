@@ -1,3 +1,4 @@
+pub mod FaultLaws
 pub mod FieldForms
 pub mod GoodLaws
 pub mod HeaderLaws

@@ -3,6 +3,7 @@ pub mod Directives
 pub mod FieldSpelling
 pub mod Fields
 pub mod Good
+pub mod HeaderFaults
 pub mod Headers
 pub mod KeySpelling
 pub mod Keys
