@@ -1,6 +1,6 @@
 -- The fault that is found line by line, with the ids of voices carried along, is the first fault.
 use Rattle.std.proofs.Common.{◌≡◌, refl, sym, ap, ◌∙◌, subst, ℕ, ◌<◌, List, [], ◌∷◌, ◌++◌, Bool, true, false, length, append_assoc, inl, inr}
-use Rattle.std.specs.Prelude.{◌⊎◌, nat_lt, if◌then◌else◌, fold, Option, Some, None, Result, Ok, Err, IfOk, IfErr, unwrap_or}
+use Rattle.std.specs.Prelude.{nat_lt, if◌then◌else◌, fold, Option, Some, None, Result, Ok, Err, IfOk, IfErr, unwrap_or}
 use Rattle.std.specs.Option.{option_or}
 use Rattle.std.proofs.lemmas.Bool.{ltb-true, lt-ltb}
 use Rattle.std.proofs.lemmas.List.{append-nil}
@@ -14,8 +14,7 @@ use Rattle.abc_lines.specs.declared.fault.TuneError.TheVariants as errors
 use Rattle.abc_fields.specs.declared.field.Field.{Field}
 use Rattle.abc_fields.specs.declared.header.Header.{Header}
 use Rattle.abc_fields.specs.Fields.{field_of}
-use Rattle.abc_fields.specs.FieldSpelling.{Says, IsBad}
-use Rattle.abc_fields.specs.HeaderFaults.{HasBadText, HasVoiceTooMany, IsFaultBehind, AreClear, IsFirstFault, IsFaultBy, IsFaultOfHeader, IsClearBy, IsClearHeader, IsHeaderRefusal}
+use Rattle.abc_fields.specs.HeaderFaults.{IsFaultBehind, AreClear, IsFirstFault, IsFaultBy, IsFaultOfHeader, IsClearBy, IsClearHeader, IsHeaderRefusal}
 use Rattle.abc_fields.specs.Headers.{key_place, put_field, fields_of, line_fault, fault_at, ids_with, first_fault, head_lines, no_key, fault_by, header_fault, IsHeaderFault}
 use Rattle.abc_fields.specs.Voicing.{ids_after, ids_of}
 use Rattle.abc_fields.proofs.FieldForms.{line-says, line-read, line-bad, line-refused}

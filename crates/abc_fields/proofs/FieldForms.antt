@@ -1,7 +1,7 @@
 -- The function that the code follows and the relation that is meant agree: a line reads as a field
 -- exactly where it says it, and is refused exactly where it says nothing.
-use Rattle.std.proofs.Common.{◌≡◌, refl, sym, ap, ◌∙◌, subst, ℕ, List, [], ◌∷◌, Bool, true, false}
-use Rattle.std.specs.Prelude.{◌==◌, ◌||◌, not, Option, Some, None, Result, Ok, Err, IfOk, IfErr, unwrap_or, codes, if◌then◌else◌}
+use Rattle.std.proofs.Common.{◌≡◌, refl, sym, ap, ◌∙◌, subst, ℕ, List, Bool, true, false}
+use Rattle.std.specs.Prelude.{◌==◌, ◌||◌, Option, Some, None, Result, Ok, Err, IfOk, IfErr, unwrap_or, codes}
 use Rattle.std.specs.Str.{bytes_eq}
 use Rattle.std.proofs.lemmas.Bool.{eqb-true, not-true}
 use Rattle.std.proofs.lemmas.Slice.Eq.{bytes_eq-Decides}
@@ -30,7 +30,7 @@ use Rattle.abc_fields.specs.Meters.{meter_of, unit_of}
 use Rattle.abc_fields.specs.Voices.{voice_of}
 use Rattle.abc_fields.specs.Fields.{key_field, meter_field, unit_field, voice_field, written_field, named_field, breaks_field, spread_field, directive_field, field_by, field_of, Refuses, IsFaultOfLine}
 use Rattle.abc_fields.specs.MeterSpelling.{SaysMeter, SaysUnit}
-use Rattle.abc_fields.specs.FieldSpelling.{SaysBreaks, SaysSpread, is_known, NamedSays, DirectiveBreaks, DirectiveSpread, DirectiveSays, KindSays, Says, NamedBad, KindBad, IsBad, NamedRefuses, IsBadLine}
+use Rattle.abc_fields.specs.FieldSpelling.{SaysBreaks, SaysSpread, is_known, NamedSays, DirectiveSays, KindSays, Says, NamedBad, KindBad, IsBad, NamedRefuses, IsBadLine}
 use Rattle.abc_fields.specs.KeySpelling.{SaysKey}
 use Rattle.abc_fields.specs.VoiceSpelling.{SaysVoice}
 use Rattle.abc_fields.proofs.KeyForms.{key-says, key-read}

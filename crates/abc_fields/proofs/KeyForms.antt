@@ -1,34 +1,28 @@
 -- A text reads as a key exactly where a good form of it spells the words of the text.
-use Rattle.std.proofs.Common.{◌≡◌, refl, sym, ap, ◌∙◌, subst, ℕ, ◌+◌, ◌-◌, ◌≤◌, List, [], ◌∷◌, ◌++◌, Bool, true, false, map, arith, inl, inr}
-use Rattle.std.specs.Prelude.{◌==◌, ◌||◌, ◌&&◌, ◌⊎◌, pos, Option, Some, None, unwrap_or, codes, if◌then◌else◌, ⊤}
+use Rattle.std.proofs.Common.{◌≡◌, refl, sym, ap, ◌∙◌, subst, ℕ, List, [], ◌∷◌, Bool, true, false, map, inl, inr}
+use Rattle.std.specs.Prelude.{◌==◌, ◌&&◌, ◌⊎◌, pos, Option, Some, None, codes}
 use Rattle.std.specs.Char.{to_ascii_lowercase}
-use Rattle.std.specs.List.{list_any}
 use Rattle.std.specs.Option.{option_map, option_and_then, option_or}
 use Rattle.std.specs.Str.{bytes_eq}
 use Rattle.std.proofs.lemmas.Bool.{eqb-true, eqb-false, ne_eqb}
 use Rattle.std.proofs.lemmas.Slice.Eq.{bytes_eq-Decides}
-use Rattle.mus_units.specs.declared.key.Sign.{Sign}
 use Rattle.mus_units.specs.declared.pitch.Alter.{Alter}
 use Rattle.mus_units.specs.declared.pitch.Alter.TheVariants as alters
-use Rattle.mus_units.specs.declared.pitch.Clef.{Clef}
-use Rattle.mus_units.specs.declared.pitch.Clef.TheVariants as clefs
 use Rattle.mus_units.specs.declared.pitch.Letter.{Letter}
 use Rattle.mus_units.specs.declared.pitch.Letter.TheVariants as letters
 use Rattle.mus_pitch.specs.declared.circle.Mode.{Mode}
 use Rattle.mus_pitch.specs.declared.circle.Mode.TheVariants as modes
 use Rattle.abc_fields.specs.declared.key.KeyText.{KeyText}
 use Rattle.abc_fields.specs.declared.key.KeyWord.{KeyWord}
-use Rattle.abc_fields.specs.declared.key.KeyWord.TheVariants as words
 use Rattle.abc_fields.specs.declared.key.Start.{Start}
 use Rattle.abc_fields.specs.declared.key.Start.TheVariants as starts
 use Rattle.abc_fields.specs.declared.key.Tonic.{Tonic}
-use Rattle.abc_fields.specs.Keys.{natural_of, letter_of, letter_alone, signed, sign_of, clef_of, by_name, by_clef, by_sign, key_word, key_words, major_like, minor_like, mode_named, mode_by_three, mode_of, start_of, start_with, with_next_mode, without_mode, by_mode, mode_on, altered, tonic_of, by_tonic, fixed_start, by_fixed, first_words, key_by, key_from, key_of}
-use Rattle.abc_fields.specs.VoiceSpelling.{ClefForm, plain_clef, above_clef, below_clef, clef_spelled, clef_meant}
-use Rattle.abc_fields.specs.Words.{words_of, behind}
-use Rattle.abc_fields.specs.KeySpelling.{letter_byte, letter_spelled, alter_spelled, KeyWordForm, exp_word, sign_word, clef_word, name_word, passed_word, word_spelled, IsPassed, IsGoodWord, AreGoodWords, word_meant, ModeName, maj_name, ion_name, mix_name, lyd_name, min_name, aeo_name, dor_name, phr_name, loc_name, three_letters, mode_of_name, ModeForm, minor_form, named_form, mode_spelled, IsGoodMode, mode_meant, Accident, plain_tonic, sharp_tonic, flat_tonic, accident_spelled, accident_meant, tonic_spelled, KeyHead, empty_head, none_head, bagpipe_head, signed_bagpipe_head, tonic_head, written_head, parted_head, kept_head, head_spelled, NoMode, BeginsNoKey, BeginOther, IsGoodHead, head_meant, SaysKey}
+use Rattle.abc_fields.specs.Keys.{natural_of, signed, key_words, major_like, minor_like, mode_named, mode_by_three, mode_of, start_of, start_with, with_next_mode, without_mode, by_mode, mode_on, altered, tonic_of, fixed_start, first_words, key_by, key_from, key_of}
+use Rattle.abc_fields.specs.Words.{words_of}
+use Rattle.abc_fields.specs.KeySpelling.{letter_byte, word_spelled, ModeName, maj_name, ion_name, mix_name, lyd_name, min_name, aeo_name, dor_name, phr_name, loc_name, three_letters, mode_of_name, ModeForm, minor_form, named_form, mode_spelled, IsGoodMode, mode_meant, Accident, plain_tonic, sharp_tonic, flat_tonic, accident_spelled, accident_meant, tonic_spelled, KeyHead, empty_head, none_head, bagpipe_head, signed_bagpipe_head, tonic_head, written_head, parted_head, kept_head, head_spelled, NoMode, BeginsNoKey, BeginOther, IsGoodHead, head_meant, SaysKey}
 use Rattle.abc_fields.proofs.MeterForms.{none_is_some}
 use Rattle.abc_fields.proofs.VoiceForms.{same_text}
-use Rattle.abc_fields.proofs.KeyWordForms.{natural-takes, AreWordsOf, words-take, words-read}
+use Rattle.abc_fields.proofs.KeyWordForms.{natural-takes, words-take, words-read}
 
 -- Modes.
 

@@ -1,7 +1,7 @@
 -- A text reads as a meter exactly where a good form of that meter spells it; likewise unit lengths.
 use Rattle.std.proofs.Common.{◌≡◌, refl, sym, ap, ◌∙◌, subst, ℕ, suc, ◌+◌, ◌≤◌, ◌<◌, List, [], ◌∷◌, ◌++◌, Bool, true, false, length, take, drop, arith, inl, inr}
-use Rattle.std.specs.Prelude.{◌==◌, ◌⊎◌, not, nat_eq, nat_le, Option, Some, None, unwrap_or, codes, if◌then◌else◌}
-use Rattle.std.specs.List.{list_all, join_with_byte, slice_split, starts_with, onto_first}
+use Rattle.std.specs.Prelude.{◌==◌, ◌⊎◌, not, nat_eq, nat_le, Option, Some, None, unwrap_or, codes}
+use Rattle.std.specs.List.{list_all, join_with_byte, slice_split, starts_with}
 use Rattle.std.specs.Str.{bytes_eq}
 use Rattle.std.proofs.lemmas.Bool.{and_parts, leb-true, le-leb, eqb-true, ne_eqb}
 use Rattle.std.proofs.lemmas.List.{take-append-drop}
@@ -14,8 +14,8 @@ use Rattle.mus_units.specs.declared.key.Meter.TheVariants as meters
 use Rattle.mus_units.specs.declared.value.Frac.{Frac}
 use Rattle.abc_fields.specs.Numbers.{is_digit, is_number, value_of, number_of, place_of, before, from_first, behind_one}
 use Rattle.abc_fields.specs.Words.{trimmed, behind}
-use Rattle.abc_fields.specs.Meters.{is_halving, halving_of, plus, added, sum_of, ratio, below_of, below_behind, plain_ratio, wrapped_ratio, ratio_by, ratio_of, meter_at, meter_of, one_over, unit_at, unit_of}
-use Rattle.abc_fields.specs.MeterSpelling.{MeterForm, common_form, cut_form, none_form, empty_form, sum_form, wrapped_form, sum_spelled, meter_spelled, value_sum, IsGoodSum, IsGoodMeterForm, meter_meant, WritesMeter, SaysMeter, UnitForm, whole_form, over_form, unit_spelled, IsGoodUnitForm, unit_meant, WritesUnit, SaysUnit}
+use Rattle.abc_fields.specs.Meters.{is_halving, halving_of, added, sum_of, ratio, below_of, below_behind, plain_ratio, wrapped_ratio, ratio_by, ratio_of, meter_at, meter_of, one_over, unit_at, unit_of}
+use Rattle.abc_fields.specs.MeterSpelling.{MeterForm, common_form, cut_form, none_form, empty_form, sum_form, wrapped_form, meter_spelled, value_sum, IsGoodSum, IsGoodMeterForm, meter_meant, WritesMeter, SaysMeter, UnitForm, whole_form, over_form, unit_spelled, IsGoodUnitForm, unit_meant, WritesUnit, SaysUnit}
 
 abbrev is_plus : ℕ → Bool
 is_plus b = b == 43

@@ -1,7 +1,7 @@
 -- A text reads as a clef, and as a voice, exactly where a good form of it spells it.
 use Rattle.std.proofs.Common.{◌≡◌, refl, sym, ap, ◌∙◌, subst, ℕ, suc, ◌+◌, ◌-◌, ◌≤◌, List, [], ◌∷◌, ◌++◌, Bool, true, false, length, take, drop, map, arith}
-use Rattle.std.specs.Prelude.{◌&&◌, not, nat_eq, nat_le, Option, Some, None, unwrap_or, codes, if◌then◌else◌, ⊤}
-use Rattle.std.specs.List.{list_all, starts_with, ends_with, prefix_len}
+use Rattle.std.specs.Prelude.{not, nat_eq, nat_le, Option, Some, None, unwrap_or, codes}
+use Rattle.std.specs.List.{list_all, ends_with, prefix_len}
 use Rattle.std.specs.Option.{option_map, option_and_then}
 use Rattle.std.specs.Str.{bytes_eq}
 use Rattle.std.proofs.lemmas.Bool.{and_parts, leb-true, le-leb}
@@ -18,7 +18,7 @@ use Rattle.abc_fields.specs.declared.voice.VoiceWord.{VoiceWord}
 use Rattle.abc_fields.specs.declared.voice.VoiceWord.TheVariants as words
 use Rattle.abc_fields.specs.Keys.{named_clef, has_octave, without_octave, clef_of}
 use Rattle.abc_fields.specs.Voices.{wish_of, named_or_passed, by_stem, by_clef, voice_word, voice_words, voice_def, is_good_voice, voice_by_id, voice_of}
-use Rattle.abc_fields.specs.Words.{is_empty, quoted_after, parts_words, word_len, word_and_rest, next_word, properties_of, ends_quoted, behind}
+use Rattle.abc_fields.specs.Words.{is_empty, quoted_after, word_len, word_and_rest, next_word, properties_of, ends_quoted, behind}
 use Rattle.abc_fields.specs.VoiceSpelling.{ClefForm, plain_clef, above_clef, below_clef, clef_name, clef_spelled, clef_meant, PropertyForm, clef_property, name_property, stem_property, other_property, way_name, property_spelled, IsOther, IsGoodProperty, AreGoodProperties, property_meant, Parts, IsFirstWord, SaysVoice}
 use Rattle.abc_fields.proofs.MeterForms.{none_is_some, behind-takes}
 use Rattle.abc_fields.proofs.WordLaws.{BeginsWord, BeginsBlank, behind-cons, behind-begins, word-stops}
