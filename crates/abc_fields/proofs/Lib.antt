@@ -1,3 +1,4 @@
+pub mod BlankLaws
 pub mod FaultLaws
 pub mod FieldForms
 pub mod GoodLaws

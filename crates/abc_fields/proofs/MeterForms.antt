@@ -12,10 +12,12 @@ use Rattle.std.proofs.Math.Seq.{take-append_seam, drop-append_seam}
 use Rattle.mus_units.specs.declared.key.Meter.{Meter}
 use Rattle.mus_units.specs.declared.key.Meter.TheVariants as meters
 use Rattle.mus_units.specs.declared.value.Frac.{Frac}
+use Rattle.abc_lines.specs.Kinds.{is_blank}
 use Rattle.abc_fields.specs.Numbers.{is_digit, is_number, value_of, number_of, place_of, before, from_first, behind_one}
 use Rattle.abc_fields.specs.Words.{trimmed, behind}
 use Rattle.abc_fields.specs.Meters.{is_halving, halving_of, added, sum_of, ratio, below_of, below_behind, plain_ratio, wrapped_ratio, ratio_by, ratio_of, meter_at, meter_of, one_over, unit_at, unit_of}
 use Rattle.abc_fields.specs.MeterSpelling.{MeterForm, common_form, cut_form, none_form, empty_form, sum_form, wrapped_form, meter_spelled, value_sum, IsGoodSum, IsGoodMeterForm, meter_meant, WritesMeter, SaysMeter, UnitForm, whole_form, over_form, unit_spelled, IsGoodUnitForm, unit_meant, WritesUnit, SaysUnit}
+use Rattle.abc_fields.proofs.BlankLaws.{trimmed-between, between-trimmed}
 
 abbrev is_plus : ℕ → Bool
 is_plus b = b == 43
@@ -390,15 +392,49 @@ form-read (wrapped_form terms below) good = wrapped-sum-read terms below good
 meter_at-reaches : (s : List ℕ) (meter : Meter) → WritesMeter s meter → meter_at s ≡ Some meter
 meter_at-reaches s meter w = ap meter_at w.spelled ∙ form-read w.form w.good ∙ ap Some w.meant
 
+-- No form has a blank.
+
+abbrev unblank : List ℕ → Bool
+unblank s = list_all (λ b. not (is_blank b)) s
+
+digits-unblank : (s : List ℕ) → list_all is_digit s ≡ true → unblank s ≡ true
+digits-unblank [] all = refl
+digits-unblank (b ∷ s) all =
+    let parts = and_parts _ _ all in
+    let no_space : (b == 32) ≡ false = digit_not 32 b (inl (omega arith)) parts.0 in
+    let no_tab : (b == 9) ≡ false = digit_not 9 b (inl (omega arith)) parts.0 in
+    let more : unblank s ≡ true = digits-unblank s parts.1 in
+    rw (no_space, no_tab, more) refl
+
+unblank-append : (s t : List ℕ) → unblank s ≡ true → unblank t ≡ true → unblank (s ++ t) ≡ true
+unblank-append s t one two = list_all-append (λ b. not (is_blank b)) s t ∙ rw (one, two) refl
+
+sum-unblank : (terms : List (List ℕ)) → list_all is_number terms ≡ true → unblank (join_with_byte 43 terms) ≡ true
+sum-unblank [] all = refl
+sum-unblank (term ∷ []) all = digits-unblank term (number-digits term (and_parts _ _ all).0)
+sum-unblank (term ∷ next ∷ terms) all =
+    let parts = and_parts _ _ all in
+    unblank-append term (43 ∷ join_with_byte 43 (next ∷ terms)) (digits-unblank term (number-digits term parts.0)) (sum-unblank (next ∷ terms) parts.1)
+
+form-unblank : (form : MeterForm) → IsGoodMeterForm form → unblank (meter_spelled form) ≡ true
+form-unblank common_form good = refl
+form-unblank cut_form good = refl
+form-unblank none_form good = refl
+form-unblank empty_form good = refl
+form-unblank (sum_form terms below) good = unblank-append (join_with_byte 43 terms) (47 ∷ below) (sum-unblank terms good.numbers) (digits-unblank below (number-digits below good.number))
+form-unblank (wrapped_form terms below) good = unblank-append (join_with_byte 43 terms) (41 ∷ 47 ∷ below) (sum-unblank terms good.numbers) (digits-unblank below (number-digits below good.number))
+
 -- a text reads as a meter only where a good form of it spells the text
 pub meter-says : (text : List ℕ) (meter : Meter) → meter_of text ≡ Some meter → SaysMeter text meter
 unfolding meter_of
-meter-says text meter h = meter_at-takes (trimmed text) meter h
+meter-says text meter h = record { core = trimmed text; between = trimmed-between text; writes = meter_at-takes (trimmed text) meter h }
 
 -- and wherever one does
 pub meter-read : (text : List ℕ) (meter : Meter) → SaysMeter text meter → meter_of text ≡ Some meter
 unfolding meter_of
-meter-read text meter says = meter_at-reaches (trimmed text) meter says
+meter-read text meter says =
+    let whole : unblank says.core ≡ true = ap unblank says.writes.spelled ∙ form-unblank says.writes.form says.writes.good in
+    ap meter_at (between-trimmed text says.core whole says.between) ∙ meter_at-reaches says.core meter says.writes
 
 -- Unit lengths.
 
@@ -427,12 +463,21 @@ unfolding unit_at behind
 unit-form-read whole_form good = refl
 unit-form-read (over_form below) good = ap one_over (below-reaches below good.0 good.1)
 
+unit-unblank : (form : UnitForm) → IsGoodUnitForm form → unblank (unit_spelled form) ≡ true
+unit-unblank whole_form good = refl
+unit-unblank (over_form below) good = digits-unblank below (number-digits below good.0)
+
 -- a text reads as a unit length only where a good form of it spells the text
 pub unit-says : (text : List ℕ) (unit : Frac) → unit_of text ≡ Some unit → SaysUnit text unit
 unfolding unit_of
-unit-says text unit h = unit_if (trimmed text) unit (bytes_eq (trimmed text) (codes "1")) refl h
+unit-says text unit h = record { core = trimmed text; between = trimmed-between text; writes = unit_if (trimmed text) unit (bytes_eq (trimmed text) (codes "1")) refl h }
 
 -- and wherever one does
 pub unit-read : (text : List ℕ) (unit : Frac) → SaysUnit text unit → unit_of text ≡ Some unit
 unfolding unit_of
-unit-read text unit says = ap unit_at says.spelled ∙ unit-form-read says.form says.good ∙ ap Some says.meant
+unit-read text unit says =
+    let whole : unblank says.core ≡ true = ap unblank says.writes.spelled ∙ unit-unblank says.writes.form says.writes.good in
+    ap unit_at (between-trimmed text says.core whole says.between)
+    ∙ ap unit_at says.writes.spelled
+    ∙ unit-form-read says.writes.form says.writes.good
+    ∙ ap Some says.writes.meant

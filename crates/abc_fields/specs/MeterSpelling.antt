@@ -5,8 +5,8 @@ use Rattle.std.specs.List.{list_all, join_with_byte}
 use Rattle.mus_units.specs.declared.key.Meter.{Meter}
 use Rattle.mus_units.specs.declared.key.Meter.TheVariants as meters
 use Rattle.mus_units.specs.declared.value.Frac.{Frac}
+use Rattle.abc_lines.specs.Kinds.{is_blank}
 use Rattle.abc_fields.specs.Numbers.{is_number, value_of}
-use Rattle.abc_fields.specs.Words.{trimmed}
 use Rattle.abc_fields.specs.Meters.{is_halving}
 
 -- A meter is C, C with a bar line, the word none or nothing; or numbers with a plus sign between
@@ -70,9 +70,19 @@ pub record WritesMeter (s : List ℕ) (meter : Meter) : Type 0 where
   pub spelled : s ≡ meter_spelled form
   pub meant : meter_meant form ≡ meter
 
--- the text, blanks round it aside, says the meter
-abbrev pub SaysMeter : List ℕ → Meter → Type 0
-SaysMeter text meter = WritesMeter (trimmed text) meter
+-- the text is this, between blanks or not
+pub record IsBetweenBlanks (text core : List ℕ) : Type 0 where
+  pub front : List ℕ
+  pub back : List ℕ
+  pub front_blank : IsTrue (list_all is_blank front)
+  pub back_blank : IsTrue (list_all is_blank back)
+  pub cut : text ≡ front ++ (core ++ back)
+
+-- the text, blanks round it aside, is how the meter is written
+pub record SaysMeter (text : List ℕ) (meter : Meter) : Type 0 where
+  pub core : List ℕ
+  pub between : IsBetweenBlanks text core
+  pub writes : WritesMeter core meter
 
 -- A unit length is 1, or 1 over a number.
 pub data UnitForm : Type 0 where
@@ -100,6 +110,8 @@ pub record WritesUnit (s : List ℕ) (unit : Frac) : Type 0 where
   pub spelled : s ≡ unit_spelled form
   pub meant : unit_meant form ≡ unit
 
--- the text, blanks round it aside, says the unit length
-abbrev pub SaysUnit : List ℕ → Frac → Type 0
-SaysUnit text unit = WritesUnit (trimmed text) unit
+-- the text, blanks round it aside, is how the unit length is written
+pub record SaysUnit (text : List ℕ) (unit : Frac) : Type 0 where
+  pub core : List ℕ
+  pub between : IsBetweenBlanks text core
+  pub writes : WritesUnit core unit
