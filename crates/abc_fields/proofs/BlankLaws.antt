@@ -9,7 +9,7 @@ use Rattle.std.proofs.lemmas.List.Sums.{suffix_len-le-length}
 use Rattle.std.proofs.Math.Seq.{take-append_seam}
 use Rattle.abc_lines.specs.Kinds.{is_blank, behind_blanks}
 use Rattle.abc_fields.specs.Words.{trimmed}
-use Rattle.abc_fields.specs.MeterSpelling.{IsBetweenBlanks}
+use Rattle.abc_fields.specs.WordSpelling.{IsBetweenBlanks}
 use Rattle.abc_fields.proofs.WordLaws.{behind-cons}
 
 -- How many at the end pass a test.

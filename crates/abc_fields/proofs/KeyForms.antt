@@ -22,6 +22,7 @@ use Rattle.abc_fields.specs.Words.{words_of}
 use Rattle.abc_fields.specs.KeySpelling.{letter_byte, word_spelled, ModeName, maj_name, ion_name, mix_name, lyd_name, min_name, aeo_name, dor_name, phr_name, loc_name, three_letters, mode_of_name, ModeForm, minor_form, named_form, mode_spelled, IsGoodMode, mode_meant, Accident, plain_tonic, sharp_tonic, flat_tonic, accident_spelled, accident_meant, tonic_spelled, KeyHead, empty_head, none_head, bagpipe_head, signed_bagpipe_head, tonic_head, written_head, parted_head, kept_head, head_spelled, NoMode, BeginsNoKey, BeginOther, IsGoodHead, head_meant, SaysKey}
 use Rattle.abc_fields.proofs.MeterForms.{none_is_some}
 use Rattle.abc_fields.proofs.VoiceForms.{same_text}
+use Rattle.abc_fields.proofs.WordForms.{words-spelled, words-of-spelled}
 use Rattle.abc_fields.proofs.KeyWordForms.{natural-takes, words-take, words-read}
 
 -- Modes.
@@ -367,7 +368,7 @@ key_said text key head (Some ks) e h =
       forms = all.forms;
       good_head = subst (λ ws. IsGoodHead head.head ws) all.spelled head.good;
       good = all.good;
-      spelled = head.spelled ∙ ap (head_spelled head.head) all.spelled;
+      spelled = words-spelled (head_spelled head.head (map word_spelled all.forms)) text (head.spelled ∙ ap (head_spelled head.head) all.spelled);
       meant = ap (λ xs. key_by (start_with (head_meant head.head) xs) xs) all.meant ∙ h;
     }
 
@@ -385,7 +386,7 @@ key-says text key h = key_begun text key (has_head (words_of text)) h
 pub key-read : (text : List ℕ) (key : KeyText) → SaysKey text key → key_of text ≡ Some key
 unfolding key_of
 key-read text key says =
-    ap (λ ws. key_of_begun (first_words ws)) says.spelled
+    ap (λ ws. key_of_begun (first_words ws)) (words-of-spelled (head_spelled says.head (map word_spelled says.forms)) text says.spelled)
     ∙ ap key_of_begun (head-read says.head (map word_spelled says.forms) says.good_head)
     ∙ ap (key_from (head_meant says.head)) (words-read says.forms says.good)
     ∙ says.meant

@@ -10,4 +10,5 @@ pub mod MeterLaws
 pub mod NumberLaws
 pub mod VoiceForms
 pub mod VoiceLaws
+pub mod WordForms
 pub mod WordLaws

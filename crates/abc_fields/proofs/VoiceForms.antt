@@ -19,9 +19,10 @@ use Rattle.abc_fields.specs.declared.voice.VoiceWord.TheVariants as words
 use Rattle.abc_fields.specs.Keys.{named_clef, has_octave, without_octave, clef_of}
 use Rattle.abc_fields.specs.Voices.{wish_of, named_or_passed, by_stem, by_clef, voice_word, voice_words, voice_def, is_good_voice, voice_by_id, voice_of}
 use Rattle.abc_fields.specs.Words.{is_empty, quoted_after, word_len, word_and_rest, next_word, properties_of, ends_quoted, behind}
-use Rattle.abc_fields.specs.VoiceSpelling.{ClefForm, plain_clef, above_clef, below_clef, clef_name, clef_spelled, clef_meant, PropertyForm, clef_property, name_property, stem_property, other_property, way_name, property_spelled, IsOther, IsGoodProperty, AreGoodProperties, property_meant, Parts, IsFirstWord, SaysVoice}
+use Rattle.abc_fields.specs.WordSpelling.{IsFirstWord}
+use Rattle.abc_fields.specs.VoiceSpelling.{ClefForm, plain_clef, above_clef, below_clef, clef_name, clef_spelled, clef_meant, PropertyForm, clef_property, name_property, stem_property, other_property, way_name, property_spelled, IsOther, IsGoodProperty, AreGoodProperties, property_meant, SaysVoice}
 use Rattle.abc_fields.proofs.MeterForms.{none_is_some, behind-takes}
-use Rattle.abc_fields.proofs.WordLaws.{BeginsWord, BeginsBlank, behind-cons, behind-begins, word-stops}
+use Rattle.abc_fields.proofs.WordForms.{both, first-takes, first-read}
 
 pub same_text : (s t : List ℕ) → bytes_eq s t ≡ true → s ≡ t
 same_text s t e = (bytes_eq-Decides s t).0 e
@@ -236,108 +237,6 @@ properties-take (w ∷ ws) read h = words_case w ws read (voice_word w) (voice_w
 properties-read : (forms : List PropertyForm) → AreGoodProperties forms → voice_words (map property_spelled forms) ≡ Some (map property_meant forms)
 properties-read [] good = refl
 properties-read (form ∷ forms) good = rw (property-read form good.0, properties-read forms good.1) refl
-
--- The first word.
-
-front-passes : (p : ℕ → Bool) (s : List ℕ) → list_all p (take (prefix_len p s) s) ≡ true
-front-passes p [] = refl
-front-passes p (b ∷ s) = passes_if p b s (p b) refl (front-passes p s)
-  where
-    passes_if : (p : ℕ → Bool) (b : ℕ) (s : List ℕ) (does : Bool) → p b ≡ does → list_all p (take (prefix_len p s) s) ≡ true → list_all p (take (prefix_len p (b ∷ s)) (b ∷ s)) ≡ true
-    passes_if p b s false e all = rw e refl
-    passes_if p b s true e all = let more : 1 + prefix_len p s ≡ suc (prefix_len p s) = omega arith in rw (e, more) (rw (e, all) refl)
-
--- the code's word is what stands before the first blank
-word-plain : (b : ℕ) (quoted : Bool) → quoted_after false quoted b ≡ quoted
-word-plain b quoted = refl
-
-whole_more : (b : ℕ) (s : List ℕ) (parts : Bool) → is_blank b ≡ parts → list_all (λ c. not (is_blank c)) (take (word_len false false s) s) ≡ true → list_all (λ c. not (is_blank c)) (take (word_len false false (b ∷ s)) (b ∷ s)) ≡ true
-whole_more b s true e all = rw e refl
-whole_more b s false e all = rw e (rw (e, all) refl)
-
-word-whole : (s : List ℕ) → list_all (λ c. not (is_blank c)) (take (word_len false false s) s) ≡ true
-word-whole [] = refl
-word-whole (b ∷ s) = whole_more b s (is_blank b) refl (word-whole s)
-
-parts_blank : (s : List ℕ) → BeginsBlank s → Parts s
-parts_blank [] begins = tt
-parts_blank (b ∷ s) begins = begins
-
-word-some : (b : ℕ) (s : List ℕ) → is_blank b ≡ false → not (is_empty (take (word_len false false (b ∷ s)) (b ∷ s))) ≡ true
-word-some b s e = rw e refl
-
-some_pair : (a b : List ℕ × List ℕ) → Some a ≡ Some b → a ≡ b
-some_pair a b h = ap (λ o. unwrap_or o b) h
-
-first_if : (text t id rest : List ℕ) → behind_blanks text ≡ t → BeginsWord t → word_and_rest false t ≡ Some (id, rest) → IsFirstWord text id rest
-first_if text [] id rest e begins h = absurd (none_is_some (id, rest) h)
-first_if text (b ∷ s) id rest e begins h =
-    let same = some_pair (take (word_len false false (b ∷ s)) (b ∷ s), drop (word_len false false (b ∷ s)) (b ∷ s)) (id, rest) h in
-    let word : take (word_len false false (b ∷ s)) (b ∷ s) ≡ id = ap (λ p. p.0) same in
-    let left : drop (word_len false false (b ∷ s)) (b ∷ s) ≡ rest = ap (λ p. p.1) same in
-    record {
-      blanks = take (prefix_len is_blank text) text;
-      blank = front-passes is_blank text;
-      some = subst (λ w. not (is_empty w) ≡ true) word (word-some b s begins);
-      whole = subst (λ w. list_all (λ c. not (is_blank c)) w ≡ true) word (word-whole (b ∷ s));
-      parted = subst Parts left (parts_blank (drop (word_len false false (b ∷ s)) (b ∷ s)) (word-stops false false (b ∷ s)));
-      cut =
-          sym (take-append-drop (prefix_len is_blank text) text)
-          ∙ ap (λ x. take (prefix_len is_blank text) text ++ x) (e ∙ sym (take-append-drop (word_len false false (b ∷ s)) (b ∷ s)) ∙ ap (λ x. x ++ drop (word_len false false (b ∷ s)) (b ∷ s)) word ∙ ap (λ x. id ++ x) left);
-    }
-
-first-takes : (text id rest : List ℕ) → next_word false text ≡ Some (id, rest) → IsFirstWord text id rest
-unfolding next_word
-first-takes text id rest h = first_if text (behind_blanks text) id rest refl (behind-begins text) h
-
-blanks-passed : (blanks s : List ℕ) → list_all is_blank blanks ≡ true → behind_blanks (blanks ++ s) ≡ behind_blanks s
-blanks-passed [] s all = refl
-blanks-passed (b ∷ blanks) s all = let parts = and_parts _ _ all in behind-cons b (blanks ++ s) parts.0 ∙ blanks-passed blanks s parts.1
-
-word-stays : (b : ℕ) (s : List ℕ) → is_blank b ≡ false → behind_blanks (b ∷ s) ≡ b ∷ s
-word-stays b s e = rw e refl
-
-stops-here : (rest : List ℕ) → Parts rest → word_len false false rest ≡ 0
-stops-here [] parts = refl
-stops-here (b ∷ s) parts = let blank : is_blank b ≡ true = parts in rw blank refl
-
-word-length : (word rest : List ℕ) → list_all (λ b. not (is_blank b)) word ≡ true → Parts rest → word_len false false (word ++ rest) ≡ length word
-word-length [] rest whole parts = stops-here rest parts
-word-length (b ∷ word) rest whole parts =
-    let tests = and_parts _ _ whole in
-    let here : is_blank b ≡ false = not_blank b (is_blank b) refl tests.0 in
-    let more : word_len false false (word ++ rest) ≡ length word = word-length word rest tests.1 parts in
-    rw (here, more) refl
-  where
-    not_blank : (b : ℕ) (blank : Bool) → is_blank b ≡ blank → not (is_blank b) ≡ true → is_blank b ≡ false
-    not_blank b true e h = let wrong : not true ≡ true = rw e at h in cc
-    not_blank b false e h = e
-
-abbrev cut_off : ℕ → List ℕ → Option (List ℕ × List ℕ)
-cut_off n s = Some (take n s, drop n s)
-
-abbrev both : List ℕ → List ℕ → Option (List ℕ × List ℕ)
-both a b = Some (a, b)
-
-word-first : (word rest : List ℕ) → not (is_empty word) ≡ true → list_all (λ b. not (is_blank b)) word ≡ true → Parts rest → word_and_rest false (behind_blanks (word ++ rest)) ≡ both word rest
-word-first [] rest some whole parts = cc
-word-first (b ∷ word) rest some whole parts =
-    let here : is_blank b ≡ false = unblank b (is_blank b) refl (and_parts _ _ whole).0 in
-    ap (word_and_rest false) (word-stays b (word ++ rest) here)
-    ∙ ap (λ n. cut_off n (b ∷ (word ++ rest))) (word-length (b ∷ word) rest whole parts)
-    ∙ ap (λ t. both t (drop (length (b ∷ word)) ((b ∷ word) ++ rest))) (take-append_seam (b ∷ word) rest)
-    ∙ ap (λ t. both (b ∷ word) t) (drop-append_seam (b ∷ word) rest)
-  where
-    unblank : (b : ℕ) (blank : Bool) → is_blank b ≡ blank → not (is_blank b) ≡ true → is_blank b ≡ false
-    unblank b true e h = let wrong : not true ≡ true = rw e at h in cc
-    unblank b false e h = e
-
-first-read : (text word rest : List ℕ) → IsFirstWord text word rest → next_word false text ≡ both word rest
-unfolding next_word
-first-read text word rest first =
-    ap (λ t. word_and_rest false (behind_blanks t)) first.cut
-    ∙ ap (word_and_rest false) (blanks-passed first.blanks (word ++ rest) first.blank)
-    ∙ word-first word rest first.some first.whole first.parted
 
 -- Voices.
 

@@ -15,7 +15,7 @@ use Rattle.abc_fields.specs.declared.key.Start.{Start}
 use Rattle.abc_fields.specs.declared.key.Start.TheVariants as starts
 use Rattle.abc_fields.specs.Keys.{start_of, start_with, key_by}
 use Rattle.abc_fields.specs.VoiceSpelling.{ClefForm, clef_spelled, clef_meant}
-use Rattle.abc_fields.specs.Words.{words_of}
+use Rattle.abc_fields.specs.WordSpelling.{HasWords}
 
 -- A to G; a small letter stands 32 further
 abbrev pub letter_byte : Letter → ℕ
@@ -215,5 +215,5 @@ pub record SaysKey (text : List ℕ) (key : KeyText) : Type 0 where
   pub forms : List KeyWordForm
   pub good_head : IsGoodHead head (map word_spelled forms)
   pub good : AreGoodWords forms
-  pub spelled : words_of text ≡ head_spelled head (map word_spelled forms)
+  pub spelled : HasWords text (head_spelled head (map word_spelled forms))
   pub meant : key_by (start_with (head_meant head) (map word_meant forms)) (map word_meant forms) ≡ Some key

@@ -16,4 +16,5 @@ pub mod Papers
 pub mod VoiceSpelling
 pub mod Voices
 pub mod Voicing
+pub mod WordSpelling
 pub mod Words

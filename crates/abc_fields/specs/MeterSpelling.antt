@@ -5,9 +5,9 @@ use Rattle.std.specs.List.{list_all, join_with_byte}
 use Rattle.mus_units.specs.declared.key.Meter.{Meter}
 use Rattle.mus_units.specs.declared.key.Meter.TheVariants as meters
 use Rattle.mus_units.specs.declared.value.Frac.{Frac}
-use Rattle.abc_lines.specs.Kinds.{is_blank}
 use Rattle.abc_fields.specs.Numbers.{is_number, value_of}
 use Rattle.abc_fields.specs.Meters.{is_halving}
+use Rattle.abc_fields.specs.WordSpelling.{IsBetweenBlanks}
 
 -- A meter is C, C with a bar line, the word none or nothing; or numbers with a plus sign between
 -- each two, over a number, with or without parentheses round what stands above.
@@ -69,14 +69,6 @@ pub record WritesMeter (s : List ℕ) (meter : Meter) : Type 0 where
   pub good : IsGoodMeterForm form
   pub spelled : s ≡ meter_spelled form
   pub meant : meter_meant form ≡ meter
-
--- the text is this, between blanks or not
-pub record IsBetweenBlanks (text core : List ℕ) : Type 0 where
-  pub front : List ℕ
-  pub back : List ℕ
-  pub front_blank : IsTrue (list_all is_blank front)
-  pub back_blank : IsTrue (list_all is_blank back)
-  pub cut : text ≡ front ++ (core ++ back)
 
 -- the text, blanks round it aside, is how the meter is written
 pub record SaysMeter (text : List ℕ) (meter : Meter) : Type 0 where

@@ -1,17 +1,16 @@
 -- How clefs and voices are written: each form with its spelling, when it is good, and what it
 -- means.
 use Rattle.std.specs.Prelude.{◌≡◌, ℕ, ◌≤◌, List, [], ◌∷◌, ◌++◌, false, IsTrue, ⊤, not, length, map, codes}
-use Rattle.std.specs.List.{list_all}
 use Rattle.mus_units.specs.declared.pitch.Clef.{Clef}
 use Rattle.mus_units.specs.declared.pitch.Clef.TheVariants as clefs
 use Rattle.mus_units.specs.declared.note.Wish.{Wish}
 use Rattle.mus_units.specs.declared.note.Wish.TheVariants as wishes
-use Rattle.abc_lines.specs.Kinds.{is_blank}
 use Rattle.abc_fields.specs.declared.voice.VoiceDef.{VoiceDef}
 use Rattle.abc_fields.specs.declared.voice.VoiceWord.{VoiceWord}
 use Rattle.abc_fields.specs.declared.voice.VoiceWord.TheVariants as words
 use Rattle.abc_fields.specs.Voices.{voice_def}
-use Rattle.abc_fields.specs.Words.{is_empty, properties_of, ends_quoted}
+use Rattle.abc_fields.specs.WordSpelling.{IsFirstWord}
+use Rattle.abc_fields.specs.Words.{properties_of, ends_quoted}
 
 -- A clef is its name; an octave above or below may stand behind it, and counts for nothing.
 pub data ClefForm : Type 0 where
@@ -73,20 +72,6 @@ property_meant (clef_property clef) = words.Names (clef_meant clef)
 property_meant (name_property clef) = words.Names (clef_meant clef)
 property_meant (stem_property way) = words.Asks way
 property_meant (other_property word) = words.Passed
-
--- nothing follows, or a blank does
-abbrev pub Parts : List ℕ → Type 0
-Parts [] = ⊤
-Parts (b ∷ s) = IsTrue (is_blank b)
-
--- the text is this word, behind blanks or not, and this rest
-pub record IsFirstWord (text word rest : List ℕ) : Type 0 where
-  pub blanks : List ℕ
-  pub blank : IsTrue (list_all is_blank blanks)
-  pub some : IsTrue (not (is_empty word))
-  pub whole : IsTrue (list_all (λ b. not (is_blank b)) word)
-  pub parted : Parts rest
-  pub cut : text ≡ blanks ++ (word ++ rest)
 
 -- A voice is an id of at most 20 bytes, the first word of the text, and properties, which are
 -- parted at blanks outside quotes; no quote stands open behind the id. Of several clefs the last
