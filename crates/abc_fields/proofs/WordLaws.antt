@@ -9,7 +9,7 @@ blank_passed : (quotes : Bool) (b : ℕ) (s : List ℕ) → is_blank b ≡ true 
 unfolding words_in
 blank_passed quotes b s e = rw e refl
 
-behind-cons : (b : ℕ) (s : List ℕ) → is_blank b ≡ true → behind_blanks (b ∷ s) ≡ behind_blanks s
+pub behind-cons : (b : ℕ) (s : List ℕ) → is_blank b ≡ true → behind_blanks (b ∷ s) ≡ behind_blanks s
 behind-cons b s e = rw e (let more : 1 + prefix_len is_blank s ≡ suc (prefix_len is_blank s) = omega arith in rw more refl)
 
 behind_more : (quotes : Bool) (b : ℕ) (s : List ℕ) (blank : Bool) → is_blank b ≡ blank → words_in quotes s ≡ words_in quotes (behind_blanks s)
@@ -21,7 +21,7 @@ words-behind : (quotes : Bool) (s : List ℕ) → words_in quotes s ≡ words_in
 words-behind quotes [] = refl
 words-behind quotes (b ∷ s) = behind_more quotes b s (is_blank b) refl (words-behind quotes s)
 
-abbrev BeginsWord : List ℕ → Type 0
+abbrev pub BeginsWord : List ℕ → Type 0
 BeginsWord [] = ⊤
 BeginsWord (b ∷ s) = is_blank b ≡ false
 
@@ -29,7 +29,7 @@ begins_more : (b : ℕ) (s : List ℕ) (blank : Bool) → is_blank b ≡ blank �
 begins_more b s true e begins = subst BeginsWord (sym (behind-cons b s e)) begins
 begins_more b s false e begins = rw e e
 
-behind-begins : (s : List ℕ) → BeginsWord (behind_blanks s)
+pub behind-begins : (s : List ℕ) → BeginsWord (behind_blanks s)
 behind-begins [] = tt
 behind-begins (b ∷ s) = begins_more b s (is_blank b) refl (behind-begins s)
 
@@ -48,7 +48,7 @@ pieces-cut : (quotes quoted : Bool) (s : List ℕ) → pieces quotes quoted s �
 pieces-cut quotes quoted [] = refl
 pieces-cut quotes quoted (b ∷ s) = cut_more quotes quoted b s (parts_words quoted b) refl (pieces-cut quotes (quoted_after quotes quoted b) s)
 
-abbrev BeginsBlank : List ℕ → Type 0
+abbrev pub BeginsBlank : List ℕ → Type 0
 BeginsBlank [] = ⊤
 BeginsBlank (b ∷ s) = is_blank b ≡ true
 
@@ -61,7 +61,7 @@ stops_more : (quotes quoted : Bool) (b : ℕ) (s : List ℕ) (parts : Bool) → 
 stops_more quotes quoted b s true e begins = rw e (left_of_and (is_blank b) (not quoted) e)
 stops_more quotes quoted b s false e begins = rw e begins
 
-word-stops : (quotes quoted : Bool) (s : List ℕ) → BeginsBlank (drop (word_len quotes quoted s) s)
+pub word-stops : (quotes quoted : Bool) (s : List ℕ) → BeginsBlank (drop (word_len quotes quoted s) s)
 word-stops quotes quoted [] = tt
 word-stops quotes quoted (b ∷ s) = stops_more quotes quoted b s (parts_words quoted b) refl (word-stops quotes (quoted_after quotes quoted b) s)
 

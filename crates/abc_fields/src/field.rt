@@ -5,6 +5,7 @@ ghost use Rattle.abc_fields.specs.Keys.{key_of};
 ghost use Rattle.abc_fields.specs.Meters.{meter_of, unit_of};
 ghost use Rattle.abc_fields.specs.Voices.{voice_of};
 ghost use Rattle.abc_fields.specs.Fields.{key_field, meter_field, unit_field, voice_field, written_field, named_field, breaks_field, spread_field, directive_field, field_of, IsGoodField, Refuses, IsFaultOfLine};
+ghost use Rattle.abc_fields.specs.FieldSpelling.{Says, NamedSays, NamedRefuses, IsBadLine};
 
 use crate::directive::{Breaks, cut_name, read_breaks, read_spread};
 use crate::key::{KeyText, read_key};
@@ -51,6 +52,17 @@ impl From<Memory> for FieldError {
 /// What a line says. A line that begins `K:`, `M:`, `L:` or `V:` and is in no good
 /// form is a fault at its column 1.
 pub fn read_field(alloc: Global, line: &Line) -> Result<Field, TuneError>
+    ensures says { IfOk result (λ field. Says line.now.text field) }
+    ensures bad { IfErr result (λ e. IsBadLine line.now e) }
+    ensures value { IfOk result (λ field. field_of line.now.text ≡ Ok field) }
+    ensures good { IfOk result (λ field. IsGoodField field) }
+    ensures fault { IfErr result (λ e. IsFaultOfLine line.now e) }
+{
+    line_field(alloc, line)
+}
+
+/// The field of a line, or its fault with its place.
+fn line_field(alloc: Global, line: &Line) -> Result<Field, TuneError>
     ensures value { IfOk result (λ field. field_of line.now.text ≡ Ok field) }
     ensures good { IfOk result (λ field. IsGoodField field) }
     ensures fault { IfErr result (λ e. IsFaultOfLine line.now e) }
@@ -73,7 +85,7 @@ pub(crate) fn field_at(alloc: Global, line: &Line) -> Result<Field, FieldError>
     ensures fault { IfErr result (λ e. Refuses (field_of line.now.text) e) }
 {
     match kind_of(line) {
-        LineKind::Field { letter } => read_named(alloc, letter, field_text(line)),
+        LineKind::Field { letter } => named_field(alloc, letter, field_text(line)),
         LineKind::Directive => Ok(read_directive(field_text(line))),
         LineKind::Music => Ok(Field::Other),
     }
@@ -81,8 +93,19 @@ pub(crate) fn field_at(alloc: Global, line: &Line) -> Result<Field, FieldError>
 
 /// The field of a letter and a text, as a line has it and as `[K:..]`, `[M:..]`,
 /// `[L:..]` and `[V:..]` have it within a music line.
-#[tactic(auto, unfolding(crate::specs::Fields::named_field))]
 pub fn read_named(alloc: Global, letter: u8, text: &[u8]) -> Result<Field, FieldError>
+    ensures says { IfOk result (λ field. NamedSays letter text.now field) }
+    ensures bad { IfErr result (λ e. NamedRefuses letter text.now e) }
+    ensures value { IfOk result (λ field. named_field letter text.now ≡ Ok field) }
+    ensures good { IfOk result (λ field. IsGoodField field) }
+    ensures fault { IfErr result (λ e. Refuses (named_field letter text.now) e) }
+{
+    named_field(alloc, letter, text)
+}
+
+/// The field of a letter and a text, by the letter.
+#[tactic(auto, unfolding(crate::specs::Fields::named_field))]
+fn named_field(alloc: Global, letter: u8, text: &[u8]) -> Result<Field, FieldError>
     ensures value { IfOk result (λ field. named_field letter text.now ≡ Ok field) }
     ensures good { IfOk result (λ field. IsGoodField field) }
     ensures fault { IfErr result (λ e. Refuses (named_field letter text.now) e) }

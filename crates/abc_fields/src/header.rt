@@ -7,6 +7,7 @@ ghost use Rattle.abc_fields.specs.Good.{IsGoodMeter, IsGoodUnit, IsGoodDefaults,
 ghost use Rattle.abc_fields.specs.Keys.{key_over, IsGoodKeyText};
 ghost use Rattle.abc_fields.specs.Last.{last_of};
 ghost use Rattle.abc_fields.specs.Voicing.{with_id, ids_after, ids_of, clef_for, wish_for, voice_from, voices_of};
+ghost use Rattle.abc_fields.specs.HeaderFaults.{IsClearHeader, IsHeaderRefusal};
 ghost use Rattle.abc_fields.specs.Headers.{is_key_line, key_place, title_in, composer_in, tempo_in, key_in, meter_in, unit_in, breaks_in, spread_in, key_signs, key_clef, unit_by, meter_from, header_of, fields_of, line_fault, fault_at, no_key, first_fault, header_fault, first_line, head_lines, IsHeaderOf, IsHeaderFault, AllGood, HasGoodValues, IsGoodHeader};
 
 use crate::defaults::{Defaults, text_of};
@@ -43,6 +44,19 @@ pub struct Header {
 /// else the first line up to the `K:` that has a fault of its field or mentions a
 /// seventeenth voice, at column 1.
 pub fn read_header(alloc: Global, tune: &TuneText, defaults: &Defaults) -> Result<Header, TuneError>
+    requires { IsGoodDefaults defaults.now }
+    ensures value { IfOk result (λ header. IsHeaderOf tune.now defaults.now header) }
+    ensures clear { IfOk result (λ header. IsClearHeader tune.now) }
+    ensures none { IfOk result (λ header. header_fault tune.now ≡ None) }
+    ensures good { IfOk result (λ header. IsGoodHeader tune.now header) }
+    ensures first { IfErr result (λ e. IsHeaderRefusal tune.now e) }
+    ensures fault { IfErr result (λ e. IsHeaderFault tune.now e) }
+{
+    tune_header(alloc, tune, defaults)
+}
+
+/// The header of a tune, or why there is none.
+fn tune_header(alloc: Global, tune: &TuneText, defaults: &Defaults) -> Result<Header, TuneError>
     requires { IsGoodDefaults defaults.now }
     ensures value { IfOk result (λ header. IsHeaderOf tune.now defaults.now header) }
     ensures none { IfOk result (λ header. header_fault tune.now ≡ None) }

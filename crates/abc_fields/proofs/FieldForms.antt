@@ -1,0 +1,411 @@
+-- The function that the code follows and the relation that is meant agree: a line reads as a field
+-- exactly where it says it, and is refused exactly where it says nothing.
+use Rattle.std.proofs.Common.{◌≡◌, refl, sym, ap, ◌∙◌, subst, ℕ, List, Bool, true, false}
+use Rattle.std.specs.Prelude.{◌==◌, ◌||◌, Option, Some, None, Result, Ok, Err, IfOk, IfErr, unwrap_or, codes}
+use Rattle.std.specs.Str.{bytes_eq}
+use Rattle.std.proofs.lemmas.Bool.{eqb-true, not-true}
+use Rattle.std.proofs.lemmas.Slice.Eq.{bytes_eq-Decides}
+use Rattle.mus_units.specs.declared.key.Meter.{Meter}
+use Rattle.mus_units.specs.declared.key.Spread.{Spread}
+use Rattle.mus_units.specs.declared.key.Spread.TheVariants as spreads
+use Rattle.mus_units.specs.declared.value.Frac.{Frac}
+use Rattle.abc_lines.specs.declared.book.Line.{Line}
+use Rattle.abc_lines.specs.declared.fault.FaultKind.{FaultKind}
+use Rattle.abc_lines.specs.declared.fault.FaultKind.TheVariants as faults
+use Rattle.abc_lines.specs.declared.fault.TuneError.{TuneError}
+use Rattle.abc_lines.specs.declared.fault.TuneError.TheVariants as errors
+use Rattle.abc_lines.specs.declared.kind.LineKind.{LineKind}
+use Rattle.abc_lines.specs.declared.kind.LineKind.TheVariants as kinds
+use Rattle.abc_lines.specs.Kinds.{kind_of, field_text}
+use Rattle.abc_fields.specs.declared.directive.Breaks.{Breaks}
+use Rattle.abc_fields.specs.declared.key.KeyText.{KeyText}
+use Rattle.abc_fields.specs.declared.voice.VoiceDef.{VoiceDef}
+use Rattle.abc_fields.specs.declared.field.Field.{Field}
+use Rattle.abc_fields.specs.declared.field.Field.TheVariants as fields
+use Rattle.abc_fields.specs.declared.field.FieldError.{FieldError}
+use Rattle.abc_fields.specs.declared.field.FieldError.TheVariants as refusals
+use Rattle.abc_fields.specs.Directives.{name_of, rest_of, has_word, names_breaks, breaks_of, spread_of}
+use Rattle.abc_fields.specs.Keys.{key_of}
+use Rattle.abc_fields.specs.Meters.{meter_of, unit_of}
+use Rattle.abc_fields.specs.Voices.{voice_of}
+use Rattle.abc_fields.specs.Fields.{key_field, meter_field, unit_field, voice_field, written_field, named_field, breaks_field, spread_field, directive_field, field_by, field_of, Refuses, IsFaultOfLine}
+use Rattle.abc_fields.specs.MeterSpelling.{SaysMeter, SaysUnit}
+use Rattle.abc_fields.specs.FieldSpelling.{SaysBreaks, SaysSpread, is_known, NamedSays, DirectiveSays, KindSays, Says, NamedBad, KindBad, IsBad, NamedRefuses, IsBadLine}
+use Rattle.abc_fields.specs.KeySpelling.{SaysKey}
+use Rattle.abc_fields.specs.VoiceSpelling.{SaysVoice}
+use Rattle.abc_fields.proofs.KeyForms.{key-says, key-read}
+use Rattle.abc_fields.proofs.MeterForms.{none_is_some, meter-says, meter-read, unit-says, unit-read}
+use Rattle.abc_fields.proofs.VoiceForms.{voice-says, voice-read}
+
+abbrev Reading : Type 0
+Reading = Result Field FaultKind
+
+abbrev field_or : Field → Reading → Field
+field_or else_field (Ok field) = field
+field_or else_field (Err kind) = else_field
+
+abbrev kind_or : FaultKind → Reading → FaultKind
+kind_or other (Ok field) = other
+kind_or other (Err kind) = kind
+
+abbrev IsField : Reading → Type 0
+IsField (Ok field) = Unit {0}
+IsField (Err kind) = ⊥
+
+ok_is_err : (field : Field) (kind : FaultKind) → ◌≡◌ {A = Reading} (Ok field) (Err kind) → ⊥
+ok_is_err field kind e = subst IsField e tt
+
+err_is_ok : (field : Field) (kind : FaultKind) → ◌≡◌ {A = Reading} (Err kind) (Ok field) → ⊥
+err_is_ok field kind e = subst IsField (sym e) tt
+
+ok_same : (field read : Field) → ◌≡◌ {A = Reading} (Ok field) (Ok read) → field ≡ read
+ok_same field read e = ap (field_or field) e
+
+err_same : (kind other : FaultKind) → ◌≡◌ {A = Reading} (Err kind) (Err other) → kind ≡ other
+err_same kind other e = ap (kind_or kind) e
+
+-- A letter and a text that read as a field say it.
+
+says-at : (letter : ℕ) (text : List ℕ) (read field : Field) → NamedSays letter text read → ◌≡◌ {A = Reading} (Ok read) (Ok field) → NamedSays letter text field
+says-at letter text read field says h = subst (λ f. NamedSays letter text f) (ok_same read field h) says
+
+key_case : (letter : ℕ) (text : List ℕ) (field : Field) (o : Option KeyText) → letter ≡ 75 → key_of text ≡ o → key_field o ≡ Ok field → NamedSays letter text field
+key_case letter text field None is e h = absurd (err_is_ok field faults.BadKey h)
+key_case letter text field (Some key) is e h = says-at letter text (fields.Key key) field (is, key-says text key e) h
+
+meter_case : (letter : ℕ) (text : List ℕ) (field : Field) (o : Option Meter) → letter ≡ 77 → meter_of text ≡ o → meter_field o ≡ Ok field → NamedSays letter text field
+meter_case letter text field None is e h = absurd (err_is_ok field faults.BadMeter h)
+meter_case letter text field (Some meter) is e h = says-at letter text (fields.Meter meter) field (is, meter-says text meter e) h
+
+unit_case : (letter : ℕ) (text : List ℕ) (field : Field) (o : Option Frac) → letter ≡ 76 → unit_of text ≡ o → unit_field o ≡ Ok field → NamedSays letter text field
+unit_case letter text field None is e h = absurd (err_is_ok field faults.BadUnit h)
+unit_case letter text field (Some unit) is e h = says-at letter text (fields.Unit unit) field (is, unit-says text unit e) h
+
+voice_case : (letter : ℕ) (text : List ℕ) (field : Field) (o : Option VoiceDef) → letter ≡ 86 → voice_of text ≡ o → voice_field o ≡ Ok field → NamedSays letter text field
+voice_case letter text field None is e h = absurd (err_is_ok field faults.BadVoice h)
+voice_case letter text field (Some voice) is e h = says-at letter text (fields.Voice voice) field (is, voice-says text voice e) h
+
+record Unread (letter : ℕ) : Type 0 where
+  key : (letter == 75) ≡ false
+  meter : (letter == 77) ≡ false
+  unit : (letter == 76) ≡ false
+  voice : (letter == 86) ≡ false
+
+written_says : (letter : ℕ) (text : List ℕ) (w t c q : Bool) → Unread letter → (letter == 119) ≡ w → (letter == 84) ≡ t → (letter == 67) ≡ c → (letter == 81) ≡ q
+    → NamedSays letter text (written_field letter text)
+written_says letter text true t c q un e f g h = rw e (eqb-true letter 119 e, refl)
+written_says letter text false true c q un e f g h = rw (e, f) (eqb-true letter 84 f, refl)
+written_says letter text false false true q un e f g h = rw (e, f, g) (eqb-true letter 67 g, refl)
+written_says letter text false false false true un e f g h = rw (e, f, g, h) (eqb-true letter 81 h, refl)
+written_says letter text false false false false un e f g h = rw (e, f, g, h) (rw (un.key, un.meter, un.unit, un.voice, e, f, g, h) refl)
+
+named_if : (letter : ℕ) (text : List ℕ) (field : Field) (k m l v : Bool) → (letter == 75) ≡ k → (letter == 77) ≡ m → (letter == 76) ≡ l → (letter == 86) ≡ v
+    → named_field letter text ≡ Ok field → NamedSays letter text field
+unfolding named_field
+named_if letter text field true m l v e f g d h = key_case letter text field (key_of text) (eqb-true letter 75 e) refl (rw e at h)
+named_if letter text field false true l v e f g d h = meter_case letter text field (meter_of text) (eqb-true letter 77 f) refl (rw (e, f) at h)
+named_if letter text field false false true v e f g d h = unit_case letter text field (unit_of text) (eqb-true letter 76 g) refl (rw (e, f, g) at h)
+named_if letter text field false false false true e f g d h = voice_case letter text field (voice_of text) (eqb-true letter 86 d) refl (rw (e, f, g, d) at h)
+named_if letter text field false false false false e f g d h =
+    says-at letter text (written_field letter text) field
+    (written_says letter text (letter == 119) (letter == 84) (letter == 67) (letter == 81) (record { key = e; meter = f; unit = g; voice = d }) refl refl refl refl)
+    (rw (e, f, g, d) at h)
+
+pub named-says : (letter : ℕ) (text : List ℕ) (field : Field) → named_field letter text ≡ Ok field → NamedSays letter text field
+named-says letter text field h = named_if letter text field (letter == 75) (letter == 77) (letter == 76) (letter == 86) refl refl refl refl h
+
+-- What a letter and a text say is read.
+
+named-key : (text : List ℕ) → named_field 75 text ≡ key_field (key_of text)
+unfolding named_field
+named-key text = refl
+
+named-meter : (text : List ℕ) → named_field 77 text ≡ meter_field (meter_of text)
+unfolding named_field
+named-meter text = refl
+
+named-unit : (text : List ℕ) → named_field 76 text ≡ unit_field (unit_of text)
+unfolding named_field
+named-unit text = refl
+
+named-voice : (text : List ℕ) → named_field 86 text ≡ voice_field (voice_of text)
+unfolding named_field
+named-voice text = refl
+
+named-words : (text : List ℕ) → named_field 119 text ≡ Ok (fields.Words text)
+unfolding named_field
+named-words text = refl
+
+named-title : (text : List ℕ) → named_field 84 text ≡ Ok (fields.Title text)
+unfolding named_field
+named-title text = refl
+
+named-composer : (text : List ℕ) → named_field 67 text ≡ Ok (fields.Composer text)
+unfolding named_field
+named-composer text = refl
+
+named-tempo : (text : List ℕ) → named_field 81 text ≡ Ok (fields.Tempo text)
+unfolding named_field
+named-tempo text = refl
+
+or-false : (p q : Bool) → (p || q) ≡ false → (p ≡ false) × (q ≡ false)
+or-false true q e = cc
+or-false false q e = (refl, e)
+
+named-other : (letter : ℕ) (text : List ℕ) → is_known letter ≡ false → named_field letter text ≡ Ok fields.Other
+unfolding named_field
+named-other letter text un =
+    let parts = or-false ((letter == 75 || letter == 77) || (letter == 76 || letter == 86)) ((letter == 119 || letter == 84) || (letter == 67 || letter == 81)) un in
+    let read = or-false (letter == 75 || letter == 77) (letter == 76 || letter == 86) parts.0 in
+    let one = or-false (letter == 75) (letter == 77) read.0 in
+    let two = or-false (letter == 76) (letter == 86) read.1 in
+    let kept = or-false (letter == 119 || letter == 84) (letter == 67 || letter == 81) parts.1 in
+    let three = or-false (letter == 119) (letter == 84) kept.0 in
+    let four = or-false (letter == 67) (letter == 81) kept.1 in
+    rw (one.0, one.1, two.0, two.1, three.0, three.1, four.0, four.1) refl
+
+pub named-read : (letter : ℕ) (text : List ℕ) (field : Field) → NamedSays letter text field → named_field letter text ≡ Ok field
+named-read letter text (fields.Key key) says = ap (λ b. named_field b text) says.0 ∙ named-key text ∙ ap key_field (key-read text key says.1)
+named-read letter text (fields.Meter meter) says = ap (λ b. named_field b text) says.0 ∙ named-meter text ∙ ap meter_field (meter-read text meter says.1)
+named-read letter text (fields.Unit unit) says = ap (λ b. named_field b text) says.0 ∙ named-unit text ∙ ap unit_field (unit-read text unit says.1)
+named-read letter text (fields.Voice voice) says = ap (λ b. named_field b text) says.0 ∙ named-voice text ∙ ap voice_field (voice-read text voice says.1)
+named-read letter text (fields.Words words) says = ap (λ b. named_field b text) says.0 ∙ named-words text ∙ ap (λ t. Ok (fields.Words t)) (sym says.1)
+named-read letter text (fields.Title title) says = ap (λ b. named_field b text) says.0 ∙ named-title text ∙ ap (λ t. Ok (fields.Title t)) (sym says.1)
+named-read letter text (fields.Composer composer) says = ap (λ b. named_field b text) says.0 ∙ named-composer text ∙ ap (λ t. Ok (fields.Composer t)) (sym says.1)
+named-read letter text (fields.Tempo tempo) says = ap (λ b. named_field b text) says.0 ∙ named-tempo text ∙ ap (λ t. Ok (fields.Tempo t)) (sym says.1)
+named-read letter text (fields.Breaks breaks) says = absurd says
+named-read letter text (fields.Spread spread) says = absurd says
+named-read letter text fields.Other says = named-other letter text (not-true (is_known letter) says)
+
+-- A letter and a text that are refused are in no good form of that letter.
+
+bad-at : (letter : ℕ) (text : List ℕ) (read kind : FaultKind) → NamedBad letter text read → ◌≡◌ {A = Reading} (Err read) (Err kind) → NamedBad letter text kind
+bad-at letter text read kind bad h = subst (λ k. NamedBad letter text k) (err_same read kind h) bad
+
+bad_key : (letter : ℕ) (text : List ℕ) (kind : FaultKind) (o : Option KeyText) → letter ≡ 75 → key_of text ≡ o → key_field o ≡ Err kind → NamedBad letter text kind
+bad_key letter text kind (Some key) is e h = absurd (ok_is_err (fields.Key key) kind h)
+bad_key letter text kind None is e h = bad-at letter text faults.BadKey kind (is, λ key says. none_is_some key (sym e ∙ key-read text key says)) h
+
+bad_meter : (letter : ℕ) (text : List ℕ) (kind : FaultKind) (o : Option Meter) → letter ≡ 77 → meter_of text ≡ o → meter_field o ≡ Err kind → NamedBad letter text kind
+bad_meter letter text kind (Some meter) is e h = absurd (ok_is_err (fields.Meter meter) kind h)
+bad_meter letter text kind None is e h = bad-at letter text faults.BadMeter kind (is, λ meter says. none_is_some meter (sym e ∙ meter-read text meter says)) h
+
+bad_unit : (letter : ℕ) (text : List ℕ) (kind : FaultKind) (o : Option Frac) → letter ≡ 76 → unit_of text ≡ o → unit_field o ≡ Err kind → NamedBad letter text kind
+bad_unit letter text kind (Some unit) is e h = absurd (ok_is_err (fields.Unit unit) kind h)
+bad_unit letter text kind None is e h = bad-at letter text faults.BadUnit kind (is, λ unit says. none_is_some unit (sym e ∙ unit-read text unit says)) h
+
+bad_voice : (letter : ℕ) (text : List ℕ) (kind : FaultKind) (o : Option VoiceDef) → letter ≡ 86 → voice_of text ≡ o → voice_field o ≡ Err kind → NamedBad letter text kind
+bad_voice letter text kind (Some voice) is e h = absurd (ok_is_err (fields.Voice voice) kind h)
+bad_voice letter text kind None is e h = bad-at letter text faults.BadVoice kind (is, λ voice says. none_is_some voice (sym e ∙ voice-read text voice says)) h
+
+bad_if : (letter : ℕ) (text : List ℕ) (kind : FaultKind) (k m l v : Bool) → (letter == 75) ≡ k → (letter == 77) ≡ m → (letter == 76) ≡ l → (letter == 86) ≡ v
+    → named_field letter text ≡ Err kind → NamedBad letter text kind
+unfolding named_field
+bad_if letter text kind true m l v e f g d h = bad_key letter text kind (key_of text) (eqb-true letter 75 e) refl (rw e at h)
+bad_if letter text kind false true l v e f g d h = bad_meter letter text kind (meter_of text) (eqb-true letter 77 f) refl (rw (e, f) at h)
+bad_if letter text kind false false true v e f g d h = bad_unit letter text kind (unit_of text) (eqb-true letter 76 g) refl (rw (e, f, g) at h)
+bad_if letter text kind false false false true e f g d h = bad_voice letter text kind (voice_of text) (eqb-true letter 86 d) refl (rw (e, f, g, d) at h)
+bad_if letter text kind false false false false e f g d h = absurd (ok_is_err (written_field letter text) kind (rw (e, f, g, d) at h))
+
+pub named-bad : (letter : ℕ) (text : List ℕ) (kind : FaultKind) → named_field letter text ≡ Err kind → NamedBad letter text kind
+named-bad letter text kind h = bad_if letter text kind (letter == 75) (letter == 77) (letter == 76) (letter == 86) refl refl refl refl h
+
+-- Text of such a letter in no good form is refused.
+
+refused_key : (text : List ℕ) (o : Option KeyText) → key_of text ≡ o → ((key : KeyText) → SaysKey text key → ⊥) → key_field o ≡ Err faults.BadKey
+refused_key text None e bad = refl
+refused_key text (Some key) e bad = absurd (bad key (key-says text key e))
+
+refused_meter : (text : List ℕ) (o : Option Meter) → meter_of text ≡ o → ((meter : Meter) → SaysMeter text meter → ⊥) → meter_field o ≡ Err faults.BadMeter
+refused_meter text None e bad = refl
+refused_meter text (Some meter) e bad = absurd (bad meter (meter-says text meter e))
+
+refused_unit : (text : List ℕ) (o : Option Frac) → unit_of text ≡ o → ((unit : Frac) → SaysUnit text unit → ⊥) → unit_field o ≡ Err faults.BadUnit
+refused_unit text None e bad = refl
+refused_unit text (Some unit) e bad = absurd (bad unit (unit-says text unit e))
+
+refused_voice : (text : List ℕ) (o : Option VoiceDef) → voice_of text ≡ o → ((voice : VoiceDef) → SaysVoice text voice → ⊥) → voice_field o ≡ Err faults.BadVoice
+refused_voice text None e bad = refl
+refused_voice text (Some voice) e bad = absurd (bad voice (voice-says text voice e))
+
+pub named-refused : (letter : ℕ) (text : List ℕ) (kind : FaultKind) → NamedBad letter text kind → named_field letter text ≡ Err kind
+named-refused letter text faults.BadKey bad = ap (λ b. named_field b text) bad.0 ∙ named-key text ∙ refused_key text (key_of text) refl bad.1
+named-refused letter text faults.BadMeter bad = ap (λ b. named_field b text) bad.0 ∙ named-meter text ∙ refused_meter text (meter_of text) refl bad.1
+named-refused letter text faults.BadUnit bad = ap (λ b. named_field b text) bad.0 ∙ named-unit text ∙ refused_unit text (unit_of text) refl bad.1
+named-refused letter text faults.BadVoice bad = ap (λ b. named_field b text) bad.0 ∙ named-voice text ∙ refused_voice text (voice_of text) refl bad.1
+named-refused letter text _ bad = absurd bad
+
+-- Directives.
+
+same_name : (name word : List ℕ) → bytes_eq name word ≡ true → name ≡ word
+same_name name word e = (bytes_eq-Decides name word).0 e
+
+is_name : (name word : List ℕ) → name ≡ word → bytes_eq name word ≡ true
+is_name name word e = (bytes_eq-Decides name word).1 e
+
+not_name : (name word : List ℕ) → bytes_eq name word ≡ false → name ≡ word → ⊥
+not_name name word e is = let yes : bytes_eq name word ≡ true = is_name name word is in cc
+
+breaks_if : (text : List ℕ) (breaks : Breaks) (some : Bool) → names_breaks text ≡ some → breaks_of text ≡ Some breaks → SaysBreaks text breaks
+unfolding breaks_of
+breaks_if text breaks false e h = absurd (none_is_some breaks (rw e at h))
+breaks_if text breaks true e h =
+    let same : record { eol = has_word text (codes "<EOL>"); dollar = has_word text (codes "$"); bang = has_word text (codes "!") } ≡ breaks = ap (λ o. unwrap_or o breaks) (rw e at h) in
+    record { some = e; eol = ap (λ b. b.eol) (sym same); dollar = ap (λ b. b.dollar) (sym same); bang = ap (λ b. b.bang) (sym same) }
+
+pub breaks-says : (text : List ℕ) (breaks : Breaks) → breaks_of text ≡ Some breaks → SaysBreaks text breaks
+breaks-says text breaks h = breaks_if text breaks (names_breaks text) refl h
+
+breaks-named : (text : List ℕ) → names_breaks text ≡ true → breaks_of text ≡ Some (record { eol = has_word text (codes "<EOL>"); dollar = has_word text (codes "$"); bang = has_word text (codes "!") })
+unfolding breaks_of
+breaks-named text e = rw e refl
+
+pub breaks-read : (text : List ℕ) (breaks : Breaks) → SaysBreaks text breaks → breaks_of text ≡ Some breaks
+breaks-read text breaks says =
+    breaks-named text says.some
+    ∙ ap (λ b. Some (record { eol = b; dollar = has_word text (codes "$"); bang = has_word text (codes "!") })) (sym says.eol)
+    ∙ ap (λ b. Some (record { eol = breaks.eol; dollar = b; bang = has_word text (codes "!") })) (sym says.dollar)
+    ∙ ap (λ b. Some (record { eol = breaks.eol; dollar = breaks.dollar; bang = b })) (sym says.bang)
+
+spread-at : (text : List ℕ) (read spread : Spread) → SaysSpread text read → Some read ≡ Some spread → SaysSpread text spread
+spread-at text read spread says h = subst (λ s. SaysSpread text s) (ap (λ o. unwrap_or o read) h) says
+
+spread_if : (text : List ℕ) (spread : Spread) (none octave pitch : Bool) → bytes_eq text (codes "not") ≡ none → bytes_eq text (codes "octave") ≡ octave → bytes_eq text (codes "pitch") ≡ pitch
+    → spread_of text ≡ Some spread → SaysSpread text spread
+unfolding spread_of
+spread_if text spread true octave pitch e f g h = spread-at text spreads.Not spread (same_name text (codes "not") e) (rw e at h)
+spread_if text spread false true pitch e f g h = spread-at text spreads.Octave spread (same_name text (codes "octave") f) (rw (e, f) at h)
+spread_if text spread false false true e f g h = spread-at text spreads.Pitch spread (same_name text (codes "pitch") g) (rw (e, f, g) at h)
+spread_if text spread false false false e f g h = absurd (none_is_some spread (rw (e, f, g) at h))
+
+pub spread-says : (text : List ℕ) (spread : Spread) → spread_of text ≡ Some spread → SaysSpread text spread
+spread-says text spread h = spread_if text spread (bytes_eq text (codes "not")) (bytes_eq text (codes "octave")) (bytes_eq text (codes "pitch")) refl refl refl h
+
+spread-not : spread_of (codes "not") ≡ Some spreads.Not
+unfolding spread_of
+spread-not = refl
+
+spread-octave : spread_of (codes "octave") ≡ Some spreads.Octave
+unfolding spread_of
+spread-octave = refl
+
+spread-pitch : spread_of (codes "pitch") ≡ Some spreads.Pitch
+unfolding spread_of
+spread-pitch = refl
+
+pub spread-read : (text : List ℕ) (spread : Spread) → SaysSpread text spread → spread_of text ≡ Some spread
+spread-read text spreads.Not says = ap spread_of says ∙ spread-not
+spread-read text spreads.Octave says = ap spread_of says ∙ spread-octave
+spread-read text spreads.Pitch says = ap spread_of says ∙ spread-pitch
+
+two_names : (name : List ℕ) → name ≡ codes "linebreak" → name ≡ codes "propagate-accidentals" → ⊥
+two_names name one two = let same : bytes_eq (codes "linebreak") (codes "propagate-accidentals") ≡ true = is_name (codes "linebreak") (codes "propagate-accidentals") (sym one ∙ two) in cc
+
+breaks_case : (name rest : List ℕ) (o : Option Breaks) → name ≡ codes "linebreak" → breaks_of rest ≡ o → DirectiveSays name rest (breaks_field o)
+breaks_case name rest None is e = (λ breaks says. none_is_some breaks (sym e ∙ breaks-read rest breaks says.1), λ spread says. two_names name is says.0)
+breaks_case name rest (Some breaks) is e = (is, breaks-says rest breaks e)
+
+spread_case : (name rest : List ℕ) (o : Option Spread) → bytes_eq name (codes "linebreak") ≡ false → name ≡ codes "propagate-accidentals" → spread_of rest ≡ o → DirectiveSays name rest (spread_field o)
+spread_case name rest None differs is e = (λ breaks says. not_name name (codes "linebreak") differs says.0, λ spread says. none_is_some spread (sym e ∙ spread-read rest spread says.1))
+spread_case name rest (Some spread) differs is e = (is, spread-says rest spread e)
+
+directive_if : (name rest : List ℕ) (linebreak propagate : Bool) → bytes_eq name (codes "linebreak") ≡ linebreak → bytes_eq name (codes "propagate-accidentals") ≡ propagate
+    → DirectiveSays name rest (directive_field name rest)
+unfolding directive_field
+directive_if name rest true propagate e f = rw e (breaks_case name rest (breaks_of rest) (same_name name (codes "linebreak") e) refl)
+directive_if name rest false true e f = rw (e, f) (spread_case name rest (spread_of rest) e (same_name name (codes "propagate-accidentals") f) refl)
+directive_if name rest false false e f = rw (e, f) (λ breaks says. not_name name (codes "linebreak") e says.0, λ spread says. not_name name (codes "propagate-accidentals") f says.0)
+
+-- a directive says what it reads as
+pub directive-says : (name rest : List ℕ) → DirectiveSays name rest (directive_field name rest)
+directive-says name rest = directive_if name rest (bytes_eq name (codes "linebreak")) (bytes_eq name (codes "propagate-accidentals")) refl refl
+
+-- and it says nothing else
+one_breaks : (rest : List ℕ) (one two : Breaks) → SaysBreaks rest one → SaysBreaks rest two → one ≡ two
+one_breaks rest one two says says_two = ap (λ o. unwrap_or o one) (sym (breaks-read rest one says) ∙ breaks-read rest two says_two)
+
+one_spread : (rest : List ℕ) (one two : Spread) → SaysSpread rest one → SaysSpread rest two → one ≡ two
+one_spread rest one two says says_two = ap (λ o. unwrap_or o one) (sym (spread-read rest one says) ∙ spread-read rest two says_two)
+
+pub directive-one : (name rest : List ℕ) (one two : Field) → DirectiveSays name rest one → DirectiveSays name rest two → one ≡ two
+directive-one name rest (fields.Breaks one) (fields.Breaks two) a b = ap (λ x. fields.Breaks x) (one_breaks rest one two a.1 b.1)
+directive-one name rest (fields.Breaks one) (fields.Spread two) a b = absurd (two_names name a.0 b.0)
+directive-one name rest (fields.Breaks one) fields.Other a b = absurd (b.0 one a)
+directive-one name rest (fields.Spread one) (fields.Breaks two) a b = absurd (two_names name b.0 a.0)
+directive-one name rest (fields.Spread one) (fields.Spread two) a b = ap (λ x. fields.Spread x) (one_spread rest one two a.1 b.1)
+directive-one name rest (fields.Spread one) fields.Other a b = absurd (b.1 one a)
+directive-one name rest fields.Other (fields.Breaks two) a b = absurd (a.0 two b)
+directive-one name rest fields.Other (fields.Spread two) a b = absurd (a.1 two b)
+directive-one name rest fields.Other fields.Other a b = refl
+directive-one name rest (fields.Breaks one) _ a b = absurd b
+directive-one name rest (fields.Spread one) _ a b = absurd b
+directive-one name rest fields.Other _ a b = absurd b
+directive-one name rest _ two a b = absurd a
+
+-- Lines.
+
+kind-says : (line : List ℕ) (kind : LineKind) (field : Field) → field_by line kind ≡ Ok field → KindSays line kind field
+kind-says line (kinds.Field letter) field h = named-says letter (field_text line) field h
+kind-says line kinds.Directive field h = subst (λ f. DirectiveSays (name_of (field_text line)) (rest_of (field_text line)) f) (ok_same (directive_field (name_of (field_text line)) (rest_of (field_text line))) field h) (directive-says (name_of (field_text line)) (rest_of (field_text line)))
+kind-says line kinds.Music field h = sym (ok_same fields.Other field h)
+
+-- a line reads as a field only where it says it
+pub line-says : (line : List ℕ) (field : Field) → field_of line ≡ Ok field → Says line field
+unfolding field_of
+line-says line field h = kind-says line (kind_of line) field h
+
+kind-read : (line : List ℕ) (kind : LineKind) (field : Field) → KindSays line kind field → field_by line kind ≡ Ok field
+kind-read line (kinds.Field letter) field says = named-read letter (field_text line) field says
+kind-read line kinds.Directive field says = ap Ok (directive-one (name_of (field_text line)) (rest_of (field_text line)) (directive_field (name_of (field_text line)) (rest_of (field_text line))) field (directive-says (name_of (field_text line)) (rest_of (field_text line))) says)
+kind-read line kinds.Music field says = ap Ok (sym says)
+
+-- and wherever it does
+pub line-read : (line : List ℕ) (field : Field) → Says line field → field_of line ≡ Ok field
+unfolding field_of
+line-read line field says = kind-read line (kind_of line) field says
+
+kind-bad : (line : List ℕ) (kind : LineKind) (fault : FaultKind) → field_by line kind ≡ Err fault → KindBad line kind fault
+kind-bad line (kinds.Field letter) fault h = named-bad letter (field_text line) fault h
+kind-bad line kinds.Directive fault h = ok_is_err (directive_field (name_of (field_text line)) (rest_of (field_text line))) fault h
+kind-bad line kinds.Music fault h = ok_is_err fields.Other fault h
+
+-- a line is refused only where its text is in no good form
+pub line-bad : (line : List ℕ) (fault : FaultKind) → field_of line ≡ Err fault → IsBad line fault
+unfolding field_of
+line-bad line fault h = kind-bad line (kind_of line) fault h
+
+kind-refused : (line : List ℕ) (kind : LineKind) (fault : FaultKind) → KindBad line kind fault → field_by line kind ≡ Err fault
+kind-refused line (kinds.Field letter) fault bad = named-refused letter (field_text line) fault bad
+kind-refused line kinds.Directive fault bad = absurd bad
+kind-refused line kinds.Music fault bad = absurd bad
+
+-- and wherever it is
+pub line-refused : (line : List ℕ) (fault : FaultKind) → IsBad line fault → field_of line ≡ Err fault
+unfolding field_of
+line-refused line fault bad = kind-refused line (kind_of line) fault bad
+
+-- The same of what a call answers.
+
+pub named_answers : (letter : ℕ) (text : List ℕ) (answer : Result Field FieldError) → IfOk answer (λ field. named_field letter text ≡ Ok field) → IfOk answer (λ field. NamedSays letter text field)
+named_answers letter text (Ok field) h = named-says letter text field h
+named_answers letter text (Err e) h = tt
+
+named_refusals : (letter : ℕ) (text : List ℕ) (e : FieldError) → Refuses (named_field letter text) e → NamedRefuses letter text e
+named_refusals letter text refusals.Memory h = tt
+named_refusals letter text (refusals.Fault kind) h = named-bad letter text kind h
+
+pub named_refuses : (letter : ℕ) (text : List ℕ) (answer : Result Field FieldError) → IfErr answer (λ e. Refuses (named_field letter text) e) → IfErr answer (λ e. NamedRefuses letter text e)
+named_refuses letter text (Ok field) h = tt
+named_refuses letter text (Err e) h = named_refusals letter text e h
+
+pub line_answers : (line : List ℕ) (answer : Result Field TuneError) → IfOk answer (λ field. field_of line ≡ Ok field) → IfOk answer (λ field. Says line field)
+line_answers line (Ok field) h = line-says line field h
+line_answers line (Err e) h = tt
+
+line_faults : (line : Line) (e : TuneError) → IsFaultOfLine line e → IsBadLine line e
+line_faults line errors.Memory h = tt
+line_faults line (errors.Fault fault) h = (line-bad line.text fault.kind h.0, h.1, h.2)
+
+pub line_refuses : (line : Line) (answer : Result Field TuneError) → IfErr answer (λ e. IsFaultOfLine line e) → IfErr answer (λ e. IsBadLine line e)
+line_refuses line (Ok field) h = tt
+line_refuses line (Err e) h = line_faults line e h

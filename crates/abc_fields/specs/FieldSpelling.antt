@@ -1,0 +1,110 @@
+-- What a line says, one case for each kind of field: the letter or the directive that it has, and
+-- how its text is written. Where a text with the letter of a key, a meter, a unit length or a
+-- voice is in no good form of that letter, the line is a fault.
+use Rattle.std.specs.Prelude.{◌≡◌, ℕ, List, Bool, ⊤, ◌==◌, ◌||◌, IsTrue, not, codes}
+use Rattle.mus_units.specs.declared.key.Meter.{Meter}
+use Rattle.mus_units.specs.declared.key.Spread.{Spread}
+use Rattle.mus_units.specs.declared.key.Spread.TheVariants as spreads
+use Rattle.mus_units.specs.declared.value.Frac.{Frac}
+use Rattle.abc_lines.specs.declared.book.Line.{Line}
+use Rattle.abc_lines.specs.declared.fault.FaultKind.{FaultKind}
+use Rattle.abc_lines.specs.declared.fault.FaultKind.TheVariants as faults
+use Rattle.abc_lines.specs.declared.fault.TuneError.{TuneError}
+use Rattle.abc_lines.specs.declared.fault.TuneError.TheVariants as errors
+use Rattle.abc_lines.specs.declared.kind.LineKind.{LineKind}
+use Rattle.abc_lines.specs.declared.kind.LineKind.TheVariants as kinds
+use Rattle.abc_lines.specs.Kinds.{kind_of, field_text}
+use Rattle.abc_fields.specs.declared.directive.Breaks.{Breaks}
+use Rattle.abc_fields.specs.declared.key.KeyText.{KeyText}
+use Rattle.abc_fields.specs.declared.voice.VoiceDef.{VoiceDef}
+use Rattle.abc_fields.specs.declared.field.Field.{Field}
+use Rattle.abc_fields.specs.declared.field.Field.TheVariants as fields
+use Rattle.abc_fields.specs.declared.field.FieldError.{FieldError}
+use Rattle.abc_fields.specs.declared.field.FieldError.TheVariants as refusals
+use Rattle.abc_fields.specs.Directives.{name_of, rest_of, has_word, names_breaks}
+use Rattle.abc_fields.specs.KeySpelling.{SaysKey}
+use Rattle.abc_fields.specs.MeterSpelling.{SaysMeter, SaysUnit}
+use Rattle.abc_fields.specs.VoiceSpelling.{SaysVoice}
+
+-- Line breaks: at least one of the four words stands among the words of the text, and each
+-- of the three breaks is on where its word does; `<none>` adds none, and other words are passed over.
+pub record SaysBreaks (text : List ℕ) (breaks : Breaks) : Type 0 where
+  pub some : IsTrue (names_breaks text)
+  pub eol : breaks.eol ≡ has_word text (codes "<EOL>")
+  pub dollar : breaks.dollar ≡ has_word text (codes "$")
+  pub bang : breaks.bang ≡ has_word text (codes "!")
+
+-- how far signs reach, by its name
+abbrev pub SaysSpread : List ℕ → Spread → Type 0
+SaysSpread text spreads.Not = text ≡ codes "not"
+SaysSpread text spreads.Octave = text ≡ codes "octave"
+SaysSpread text spreads.Pitch = text ≡ codes "pitch"
+
+-- the letters of the fields that say something: K, M, L, V, w, T, C, Q
+abbrev pub is_known : ℕ → Bool
+is_known letter = (letter == 75 || letter == 77) || (letter == 76 || letter == 86) || ((letter == 119 || letter == 84) || (letter == 67 || letter == 81))
+
+-- What a field of that letter and text says. K:, M:, L: and V: are read; w:, T:, C: and Q: are kept
+-- as written; a field of another letter says nothing here.
+abbrev pub NamedSays : ℕ → List ℕ → Field → Type 0
+NamedSays letter text (fields.Key key) = (letter ≡ 75) × SaysKey text key
+NamedSays letter text (fields.Meter meter) = (letter ≡ 77) × SaysMeter text meter
+NamedSays letter text (fields.Unit unit) = (letter ≡ 76) × SaysUnit text unit
+NamedSays letter text (fields.Voice voice) = (letter ≡ 86) × SaysVoice text voice
+NamedSays letter text (fields.Words words) = (letter ≡ 119) × (words ≡ text)
+NamedSays letter text (fields.Title title) = (letter ≡ 84) × (title ≡ text)
+NamedSays letter text (fields.Composer composer) = (letter ≡ 67) × (composer ≡ text)
+NamedSays letter text (fields.Tempo tempo) = (letter ≡ 81) × (tempo ≡ text)
+NamedSays letter text (fields.Breaks breaks) = ⊥
+NamedSays letter text (fields.Spread spread) = ⊥
+NamedSays letter text fields.Other = IsTrue (not (is_known letter))
+
+abbrev pub DirectiveBreaks : List ℕ → List ℕ → Breaks → Type 0
+DirectiveBreaks name rest breaks = (name ≡ codes "linebreak") × SaysBreaks rest breaks
+
+abbrev pub DirectiveSpread : List ℕ → List ℕ → Spread → Type 0
+DirectiveSpread name rest spread = (name ≡ codes "propagate-accidentals") × SaysSpread rest spread
+
+-- What a directive of that name says with what follows the name; one of another name or in
+-- another form says nothing.
+abbrev pub DirectiveSays : List ℕ → List ℕ → Field → Type 0
+DirectiveSays name rest (fields.Breaks breaks) = DirectiveBreaks name rest breaks
+DirectiveSays name rest (fields.Spread spread) = DirectiveSpread name rest spread
+DirectiveSays name rest fields.Other = ((breaks : Breaks) → DirectiveBreaks name rest breaks → ⊥) × ((spread : Spread) → DirectiveSpread name rest spread → ⊥)
+DirectiveSays name rest _ = ⊥
+
+-- what a line of that kind says; a music line says nothing here
+abbrev pub KindSays : List ℕ → LineKind → Field → Type 0
+KindSays text (kinds.Field letter) field = NamedSays letter (field_text text) field
+KindSays text kinds.Directive field = DirectiveSays (name_of (field_text text)) (rest_of (field_text text)) field
+KindSays text kinds.Music field = field ≡ fields.Other
+
+-- the line says the field
+abbrev pub Says : List ℕ → Field → Type 0
+Says line field = KindSays line (kind_of line) field
+
+-- The text of that letter is in no good form of it, so that it is this fault.
+abbrev pub NamedBad : ℕ → List ℕ → FaultKind → Type 0
+NamedBad letter text faults.BadKey = (letter ≡ 75) × ((key : KeyText) → SaysKey text key → ⊥)
+NamedBad letter text faults.BadMeter = (letter ≡ 77) × ((meter : Meter) → SaysMeter text meter → ⊥)
+NamedBad letter text faults.BadUnit = (letter ≡ 76) × ((unit : Frac) → SaysUnit text unit → ⊥)
+NamedBad letter text faults.BadVoice = (letter ≡ 86) × ((voice : VoiceDef) → SaysVoice text voice → ⊥)
+NamedBad letter text _ = ⊥
+
+abbrev pub KindBad : List ℕ → LineKind → FaultKind → Type 0
+KindBad text (kinds.Field letter) kind = NamedBad letter (field_text text) kind
+KindBad text _ kind = ⊥
+
+-- the line says nothing, and is this fault
+abbrev pub IsBad : List ℕ → FaultKind → Type 0
+IsBad line kind = KindBad line (kind_of line) kind
+
+-- why a letter and a text say nothing: the fault that they are, or want of memory
+abbrev pub NamedRefuses : ℕ → List ℕ → FieldError → Type 0
+NamedRefuses letter text refusals.Memory = ⊤
+NamedRefuses letter text (refusals.Fault kind) = NamedBad letter text kind
+
+-- why a line says nothing: the fault that it is, which stands at its column 1, or want of memory
+abbrev pub IsBadLine : Line → TuneError → Type 0
+IsBadLine line errors.Memory = ⊤
+IsBadLine line (errors.Fault fault) = IsBad line.text fault.kind × (fault.line ≡ line.number) × (fault.column ≡ 1)
