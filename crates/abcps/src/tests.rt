@@ -117,3 +117,39 @@ fn an_input_is_too_long(rt: HostRuntime) -> Result<(), Fail> {
     assert_eq!(rt; output.taken().len() + errors.taken().len(), 0);
     Ok(())
 }
+
+const SHOWN: &[u8] =
+    b"frame 595 842 5100 2800 100\npage 1\ntune 1\ntitle t2 24170 76800 (A)\nsystem 0 1\nstaff 0 72200 49300\nglyph cg 0 200 500\nglyph lg 1950 0 -500\nglyph hq 1950 0 -500\nstem 1950 280 -500 2000\nglyph hq 3050 0 -250\nstem 3050 280 -250 2000\nglyph hq 4150 0 0\nstem 4150 280 0 2000\nglyph hq 5250 0 250\nstem 5250 280 250 2000\nglyph bt 6350 0 0\nbeam bu 1950 5250 1750 1750\npages 1\n";
+
+fn document_of(rt: HostRuntime, book: &[u8]) -> Result<MemSink, AllocError> {
+    let words = words(rt.alloc(), "set")?;
+    let mut input = source(rt.alloc(), book, &[])?;
+    let mut output = sink(rt.alloc(), 1000, &[])?;
+    let mut errors = sink(rt.alloc(), 1000, &[])?;
+    let _ = run(rt.alloc(), &words, &mut input, &mut output, &mut errors);
+    Ok(output)
+}
+
+#[test]
+fn inspects_what_was_set(rt: HostRuntime) -> Result<(), Fail> {
+    let document = document_of(rt, ONE_MEASURE)?;
+    let whole = document.taken();
+    let ten = b"%!PS-Adobe-3.0\n%%BoundingBox: 0 0 595 842\n".as_slice();
+    let cut = &whole[..whole.len().saturating_sub(1)];
+    for (bytes, wanted, shown, line) in [
+        (whole, Status::Done, SHOWN, b"".as_slice()),
+        (ten, Status::NotPages, b"", b"not pages at line 3\n"),
+        (cut, Status::NotPages, b"", b"not pages at line 94\n"),
+        (b"", Status::NotPages, b"", b"not pages at line 1\n"),
+    ] {
+        let words = words(rt.alloc(), "inspect")?;
+        let mut input = source(rt.alloc(), bytes, &[])?;
+        let mut output = sink(rt.alloc(), 100, &[])?;
+        let mut errors = sink(rt.alloc(), 3, &[])?;
+        let status = run(rt.alloc(), &words, &mut input, &mut output, &mut errors);
+        assert_eq!(rt; status, wanted);
+        assert_eq!(rt; output.taken(), shown);
+        assert_eq!(rt; errors.taken(), line);
+    }
+    Ok(())
+}

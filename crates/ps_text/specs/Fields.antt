@@ -15,3 +15,7 @@ shown b = if is_special b then 92 ∷ b ∷ []
 -- words in parentheses, with a space after them
 unfoldable pub in_parentheses : List ℕ → List ℕ
 in_parentheses words = 40 ∷ flat_map shown words ++ 41 ∷ 32 ∷ []
+
+-- words in parentheses, and nothing after them
+unfoldable pub quoted : List ℕ → List ℕ
+quoted words = 40 ∷ flat_map shown words ++ 41 ∷ []

@@ -31,7 +31,7 @@ fn put_marks(out: &mut Text, y: i64, marks: &[PageMark]) -> Result<(), Memory>
 }
 
 #[tactic(auto, unfolding(crate::specs::Document::rules_line))]
-fn put_rules(out: &mut Text, width: u32, y: i64) -> Result<(), Memory>
+pub fn put_rules(out: &mut Text, width: u32, y: i64) -> Result<(), Memory>
     ensures { OnOk result (out.new ≡ out.old ++ rules_line width y) }
 {
     let w = i64::from(width);
@@ -40,7 +40,7 @@ fn put_rules(out: &mut Text, width: u32, y: i64) -> Result<(), Memory>
 }
 
 #[tactic(auto, unfolding(crate::specs::Document::staff_line))]
-fn put_staff_line(out: &mut Text, k: u64) -> Result<(), Memory>
+pub fn put_staff_line(out: &mut Text, k: u64) -> Result<(), Memory>
     ensures { OnOk result (out.new ≡ out.old ++ staff_line k) }
 {
     out.append(b"% staff ")?;
@@ -73,7 +73,7 @@ fn put_staves(out: &mut Text, staves: &[Staff]) -> Result<(), Memory>
 }
 
 #[tactic(auto, unfolding(crate::specs::Document::join_line))]
-fn put_join_line(out: &mut Text, top: i64, foot: i64) -> Result<(), Memory>
+pub fn put_join_line(out: &mut Text, top: i64, foot: i64) -> Result<(), Memory>
     ensures { OnOk result (out.new ≡ out.old ++ join_line top foot) }
 {
     put_numbers(out, &[0, top, 0, foot])?;
@@ -127,7 +127,13 @@ fn put_system(out: &mut Text, a: u32, b: u32, staves: &[Staff]) -> Result<(), Me
 }
 
 #[tactic(auto, unfolding(crate::specs::Document::title_line))]
-fn put_title_line(out: &mut Text, x: i64, y: i64, size: Size, words: &[u8]) -> Result<(), Memory>
+pub fn put_title_line(
+    out: &mut Text,
+    x: i64,
+    y: i64,
+    size: Size,
+    words: &[u8],
+) -> Result<(), Memory>
     ensures { OnOk result (out.new ≡ out.old ++ title_line x y size words.now) }
 {
     put_words(out, words)?;
@@ -175,7 +181,7 @@ fn put_items(out: &mut Text, items: &[Item]) -> Result<(), Memory>
 }
 
 #[tactic(auto, unfolding(crate::specs::Document::heading_line))]
-fn put_heading_line(out: &mut Text, k: u64) -> Result<(), Memory>
+pub fn put_heading_line(out: &mut Text, k: u64) -> Result<(), Memory>
     ensures { OnOk result (out.new ≡ out.old ++ heading_line k) }
 {
     out.append(b"%%Page: ")?;
@@ -211,7 +217,7 @@ pub fn put_page(out: &mut Text, k: u64, p: &Page) -> Result<(), Memory>
 }
 
 #[tactic(auto, unfolding(crate::specs::Document::count_line))]
-fn put_count_line(out: &mut Text, n: u64) -> Result<(), Memory>
+pub fn put_count_line(out: &mut Text, n: u64) -> Result<(), Memory>
     ensures { OnOk result (out.new ≡ out.old ++ count_line n) }
 {
     out.append(b"%%Pages: ")?;

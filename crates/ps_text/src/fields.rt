@@ -1,5 +1,5 @@
-ghost use Rattle.std.specs.Prelude.{◌≡◌, ◌++◌, OnOk, decimal};
-ghost use Rattle.ps_text.specs.Fields.{shown, in_parentheses};
+ghost use Rattle.std.specs.Prelude.{◌≡◌, ◌++◌, OnOk, decimal, flat_map};
+ghost use Rattle.ps_text.specs.Fields.{shown, quoted, in_parentheses};
 
 use itoa::Buffer;
 use mus_units::{Memory, Text};
@@ -31,15 +31,32 @@ fn put_shown(out: &mut Text, b: u8) -> Result<(), Memory>
     Ok(())
 }
 
+/// Adds each byte of words as a page shows it.
+fn put_each(out: &mut Text, words: &[u8]) -> Result<(), Memory>
+    ensures { OnOk result (out.new ≡ out.old ++ flat_map shown words.now) }
+{
+    for b in words {
+        put_shown(out, *b)?;
+    }
+    Ok(())
+}
+
+/// Adds words in parentheses.
+#[tactic(auto, unfolding(crate::specs::Fields::quoted))]
+pub fn put_quoted(out: &mut Text, words: &[u8]) -> Result<(), Memory>
+    ensures { OnOk result (out.new ≡ out.old ++ quoted words.now) }
+{
+    out.push(b'(')?;
+    put_each(out, words)?;
+    out.push(b')')
+}
+
 /// Adds words in parentheses, with a space after them.
 #[tactic(auto, unfolding(crate::specs::Fields::in_parentheses))]
 pub fn put_words(out: &mut Text, words: &[u8]) -> Result<(), Memory>
     ensures { OnOk result (out.new ≡ out.old ++ in_parentheses words.now) }
 {
     out.push(b'(')?;
-    for b in words {
-        put_shown(out, *b)?;
-    }
-    out.append(b") ")?;
-    Ok(())
+    put_each(out, words)?;
+    out.append(b") ")
 }

@@ -103,7 +103,7 @@ fn put_scaling(out: &mut Text, left: u32, bottom: u32, scale: u16) -> Result<(),
 }
 
 #[tactic(auto, unfolding(crate::specs::Prolog::page_line))]
-fn put_page_line(out: &mut Text, left: u32, bottom: u32, scale: u16) -> Result<(), Memory>
+pub fn put_page_line(out: &mut Text, left: u32, bottom: u32, scale: u16) -> Result<(), Memory>
     ensures { OnOk result (out.new ≡ out.old ++ page_line left bottom scale) }
 {
     out.append(page_start_bytes())?;
@@ -113,7 +113,7 @@ fn put_page_line(out: &mut Text, left: u32, bottom: u32, scale: u16) -> Result<(
 
 /// Adds the lines that define glyphs.
 #[tactic(auto, unfolding(crate::specs::Prolog::glyph_lines))]
-fn put_glyphs(alloc: Global, out: &mut Text, glyphs: &[Glyph]) -> Result<(), Memory>
+pub fn put_glyphs(alloc: Global, out: &mut Text, glyphs: &[Glyph]) -> Result<(), Memory>
     ensures { OnOk result (out.new ≡ out.old ++ glyph_lines glyphs.now) }
 {
     for g in glyphs {

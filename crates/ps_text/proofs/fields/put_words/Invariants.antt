@@ -1,7 +1,0 @@
-use Rattle.std.proofs.Common.{◌≡◌, ◌++◌, ◌∷◌, take}
-use Rattle.std.specs.List.{flat_map}
-use Rattle.ps_text.specs.Fields.{shown}
-use Rattle.ps_text.proofs.fields.put_words.Given as goal
-
-abbrev pub invariant-loop-b : goal.invariant-loop-b
-invariant-loop-b l = l.out ≡ l.fn.out ++ 40 ∷ flat_map shown (take l.b-index l.words)
