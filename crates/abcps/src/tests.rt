@@ -134,11 +134,12 @@ fn document_of(rt: HostRuntime, book: &[u8]) -> Result<MemSink, AllocError> {
 fn inspects_what_was_set(rt: HostRuntime) -> Result<(), Fail> {
     let document = document_of(rt, ONE_MEASURE)?;
     let whole = document.taken();
-    let ten = b"%!PS-Adobe-3.0\n%%BoundingBox: 0 0 595 842\n".as_slice();
+    let ten =
+        b"%!PS-Adobe-3.0\n%%BoundingBox: 0 0 595 842\n%%LanguageLevel: 2\n%%Pages: (atend)\n%%EndComments\n%%BeginProlog\n/m {moveto} def\n/l {lineto} def\n/c {curveto} def\n/h {closepath fill} def\n".as_slice();
     let cut = &whole[..whole.len().saturating_sub(1)];
     for (bytes, wanted, shown, line) in [
         (whole, Status::Done, SHOWN, b"".as_slice()),
-        (ten, Status::NotPages, b"", b"not pages at line 3\n"),
+        (ten, Status::NotPages, b"", b"not pages at line 11\n"),
         (cut, Status::NotPages, b"", b"not pages at line 94\n"),
         (b"", Status::NotPages, b"", b"not pages at line 1\n"),
     ] {
