@@ -1,4 +1,3 @@
 mod FormLaws
 mod InRange
-mod Words
 mod Promised
