@@ -1,8 +1,8 @@
 -- A text without the blanks at its ends is what stands between blanks in it.
-use Rattle.std.proofs.Common.{◌≡◌, refl, sym, ap, ◌∙◌, subst, ℕ, suc, ◌+◌, ◌-◌, ◌<◌, List, [], ◌∷◌, ◌++◌, Bool, true, false, length, take, drop, arith, cond, length-append}
+use Rattle.std.proofs.Common.{◌≡◌, refl, sym, ap, ◌∙◌, ℕ, suc, ◌+◌, ◌-◌, List, [], ◌∷◌, ◌++◌, Bool, true, false, length, take, drop, arith, cond, length-append}
 use Rattle.std.specs.Prelude.{◌==◌, not, reverse}
 use Rattle.std.specs.List.{list_all, prefix_len, suffix_len}
-use Rattle.std.proofs.lemmas.Bool.{and_parts, eqb-true, eqb-false, ne_eqb, not-true}
+use Rattle.std.proofs.lemmas.Bool.{and_parts, eqb-true, eqb-false, not-true}
 use Rattle.std.proofs.lemmas.List.{take-append-drop, append-nil, reverse-append, length-reverse}
 use Rattle.std.proofs.lemmas.List.Folds.{prefix_len-append}
 use Rattle.std.proofs.lemmas.List.Sums.{suffix_len-le-length}

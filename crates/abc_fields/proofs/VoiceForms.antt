@@ -1,28 +1,26 @@
 -- A text reads as a clef, and as a voice, exactly where a good form of it spells it.
-use Rattle.std.proofs.Common.{◌≡◌, refl, sym, ap, ◌∙◌, subst, ℕ, suc, ◌+◌, ◌-◌, ◌≤◌, List, [], ◌∷◌, ◌++◌, Bool, true, false, length, take, drop, map, arith}
+use Rattle.std.proofs.Common.{◌≡◌, refl, sym, ap, ◌∙◌, ℕ, ◌-◌, ◌≤◌, List, [], ◌∷◌, ◌++◌, Bool, true, false, length, take, drop, map}
 use Rattle.std.specs.Prelude.{not, nat_eq, nat_le, Option, Some, None, unwrap_or, codes}
-use Rattle.std.specs.List.{list_all, ends_with, prefix_len}
+use Rattle.std.specs.List.{ends_with}
 use Rattle.std.specs.Option.{option_map, option_and_then}
 use Rattle.std.specs.Str.{bytes_eq}
 use Rattle.std.proofs.lemmas.Bool.{and_parts, leb-true, le-leb}
 use Rattle.std.proofs.lemmas.List.{take-append-drop}
 use Rattle.std.proofs.lemmas.Slice.Eq.{bytes_eq-Decides}
-use Rattle.std.proofs.Math.Seq.{take-append_seam, drop-append_seam}
 use Rattle.mus_units.specs.declared.pitch.Clef.{Clef}
 use Rattle.mus_units.specs.declared.pitch.Clef.TheVariants as clefs
 use Rattle.mus_units.specs.declared.note.Wish.{Wish}
 use Rattle.mus_units.specs.declared.note.Wish.TheVariants as wishes
-use Rattle.abc_lines.specs.Kinds.{is_blank, behind_blanks}
 use Rattle.abc_fields.specs.declared.voice.VoiceDef.{VoiceDef}
 use Rattle.abc_fields.specs.declared.voice.VoiceWord.{VoiceWord}
 use Rattle.abc_fields.specs.declared.voice.VoiceWord.TheVariants as words
 use Rattle.abc_fields.specs.Keys.{named_clef, has_octave, without_octave, clef_of}
 use Rattle.abc_fields.specs.Voices.{wish_of, named_or_passed, by_stem, by_clef, voice_word, voice_words, voice_def, is_good_voice, voice_by_id, voice_of}
-use Rattle.abc_fields.specs.Words.{is_empty, quoted_after, word_len, word_and_rest, next_word, properties_of, ends_quoted, behind}
+use Rattle.abc_fields.specs.Words.{next_word, properties_of, ends_quoted, behind}
 use Rattle.abc_fields.specs.WordSpelling.{IsFirstWord}
 use Rattle.abc_fields.specs.VoiceSpelling.{ClefForm, plain_clef, above_clef, below_clef, clef_name, clef_spelled, clef_meant, PropertyForm, clef_property, name_property, stem_property, other_property, way_name, property_spelled, IsOther, IsGoodProperty, AreGoodProperties, property_meant, SaysVoice}
 use Rattle.abc_fields.proofs.MeterForms.{none_is_some, behind-takes}
-use Rattle.abc_fields.proofs.WordForms.{both, first-takes, first-read}
+use Rattle.abc_fields.proofs.WordForms.{first-takes, first-read}
 
 pub same_text : (s t : List ℕ) → bytes_eq s t ≡ true → s ≡ t
 same_text s t e = (bytes_eq-Decides s t).0 e

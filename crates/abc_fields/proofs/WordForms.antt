@@ -1,12 +1,12 @@
 -- The words that are read one after another are those of the text, with blanks between them.
-use Rattle.std.proofs.Common.{◌≡◌, refl, sym, ap, ◌∙◌, subst, ℕ, suc, ◌+◌, List, [], ◌∷◌, ◌++◌, Bool, true, false, length, take, drop, arith}
+use Rattle.std.proofs.Common.{◌≡◌, refl, sym, ap, ◌∙◌, subst, ℕ, List, [], ◌∷◌, ◌++◌, Bool, true, false, length, take, drop}
 use Rattle.std.specs.Prelude.{not, Option, Some, None, unwrap_or}
 use Rattle.std.specs.List.{list_all, prefix_len}
 use Rattle.std.proofs.lemmas.Bool.{and_parts}
 use Rattle.std.proofs.lemmas.List.{take-append-drop, append-nil}
 use Rattle.std.proofs.Math.Seq.{take-append_seam, drop-append_seam}
 use Rattle.abc_lines.specs.Kinds.{is_blank, behind_blanks}
-use Rattle.abc_fields.specs.Words.{is_empty, quoted_after, word_len, word_and_rest, next_word, words_of, words_in, words_after}
+use Rattle.abc_fields.specs.Words.{is_empty, quoted_after, word_len, word_and_rest, next_word, words_of, words_after}
 use Rattle.abc_fields.specs.WordSpelling.{Parts, IsFirstWord, HasWords}
 use Rattle.abc_fields.proofs.BlankLaws.{front-passes, blanks-passed}
 use Rattle.abc_fields.proofs.MeterForms.{none_is_some}
