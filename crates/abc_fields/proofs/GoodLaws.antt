@@ -6,10 +6,10 @@ use Rattle.std.specs.Str.{bytes_eq}
 use Rattle.std.proofs.lemmas.Bool.{and_parts, leb-true}
 use Rattle.std.proofs.lemmas.Bool.Decides.{nat_tests}
 use Rattle.mus_units.specs.declared.key.Meter.TheVariants as meters
-use Rattle.abc_fields.specs.Good.{IsGoodMeter, IsGoodUnit}
 use Rattle.abc_fields.specs.Numbers.{is_digit, is_number, value_after, value_of, number_of, before, from_first, behind_one}
 use Rattle.abc_fields.specs.Words.{trimmed, behind}
-use Rattle.abc_fields.specs.Meters.{is_halving, halving_of, plus, added, terms_after, sum_of, ratio, below_of, below_behind, plain_ratio, wrapped_ratio, ratio_by, ratio_of, meter_at, meter_of, one_over, unit_at, unit_of}
+use Rattle.mus_units.specs.Good.{IsGoodMeter, IsGoodUnit, is_halving}
+use Rattle.abc_fields.specs.Meters.{halving_of, plus, added, terms_after, sum_of, ratio, below_of, below_behind, plain_ratio, wrapped_ratio, ratio_by, ratio_of, meter_at, meter_of, one_over, unit_at, unit_of}
 use Rattle.abc_fields.proofs.MeterLaws.{split_cut}
 
 value_after-grows : (ds : List ℕ) (n : ℕ) → n ≤ value_after n ds

@@ -13,7 +13,8 @@ use Rattle.abc_fields.specs.declared.field.Field.TheVariants as fields
 use Rattle.abc_fields.specs.declared.key.KeyText.{KeyText}
 use Rattle.abc_fields.specs.declared.voice.VoiceDef.{VoiceDef}
 use Rattle.abc_fields.specs.Fields.{IsGoodField, field_of}
-use Rattle.abc_fields.specs.Good.{IsGoodMeter, IsGoodUnit, GoodUnitIn}
+use Rattle.mus_units.specs.Good.{IsGoodMeter, IsGoodUnit}
+use Rattle.abc_fields.specs.Good.{GoodUnitIn}
 use Rattle.abc_fields.specs.Keys.{IsGoodKeyText}
 use Rattle.abc_fields.specs.Last.{last_of}
 use Rattle.abc_fields.specs.Headers.{AllGood, AreDistinct, key_in, meter_in, unit_in, fields_of, put_field, first_fault, fault_at, ids_with}

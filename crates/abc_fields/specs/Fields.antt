@@ -21,7 +21,7 @@ use Rattle.abc_fields.specs.declared.field.Field.TheVariants as fields
 use Rattle.abc_fields.specs.declared.field.FieldError.{FieldError}
 use Rattle.abc_fields.specs.declared.field.FieldError.TheVariants as refusals
 use Rattle.abc_fields.specs.Directives.{name_of, rest_of, breaks_of, spread_of}
-use Rattle.abc_fields.specs.Good.{IsGoodMeter, IsGoodUnit}
+use Rattle.mus_units.specs.Good.{IsGoodMeter, IsGoodUnit}
 use Rattle.abc_fields.specs.Keys.{key_of, IsGoodKeyText}
 use Rattle.abc_fields.specs.Meters.{meter_of, unit_of}
 use Rattle.abc_fields.specs.Voices.{voice_of}

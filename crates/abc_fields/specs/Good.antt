@@ -4,16 +4,7 @@ use Rattle.mus_units.specs.declared.key.Meter.{Meter}
 use Rattle.mus_units.specs.declared.key.Meter.TheVariants as meters
 use Rattle.mus_units.specs.declared.value.Frac.{Frac}
 use Rattle.abc_fields.specs.declared.defaults.Defaults.{Defaults}
-use Rattle.abc_fields.specs.Meters.{is_halving}
-
--- 1 to 99 over 1, 2, 4, 8, 16, 32 or 64
-abbrev pub IsGoodMeter : Meter → Type 0
-IsGoodMeter (meters.Ratio num den) = (1 ≤ num) × (num ≤ 99) × IsTrue (is_halving den)
-IsGoodMeter _ = ⊤
-
--- 1 over 1, 2, 4, 8, 16, 32 or 64
-abbrev pub IsGoodUnit : Frac → Type 0
-IsGoodUnit unit = (unit.num ≡ 1) × IsTrue (is_halving unit.den)
+use Rattle.mus_units.specs.Good.{IsGoodMeter, IsGoodUnit}
 
 -- the defaults of a file header have good values
 abbrev pub GoodUnitIn : Option Frac → Type 0

@@ -9,7 +9,6 @@ use Rattle.mus_units.specs.declared.key.Meter.{Meter}
 use Rattle.mus_units.specs.declared.key.Sign.{Sign}
 use Rattle.mus_units.specs.declared.key.Spread.{Spread}
 use Rattle.mus_units.specs.declared.value.Frac.{Frac}
-use Rattle.mus_pitch.specs.Signs.{IsGoodKey}
 use Rattle.abc_lines.specs.declared.book.Line.{Line}
 use Rattle.abc_lines.specs.declared.book.TuneText.{TuneText}
 use Rattle.abc_lines.specs.declared.fault.FaultKind.{FaultKind}
@@ -26,7 +25,7 @@ use Rattle.abc_fields.specs.declared.field.Field.TheVariants as fields
 use Rattle.abc_fields.specs.declared.header.Header.{Header}
 use Rattle.abc_fields.specs.Defaults.{text_of}
 use Rattle.abc_fields.specs.Fields.{field_of, IsGoodField}
-use Rattle.abc_fields.specs.Good.{IsGoodMeter, IsGoodUnit}
+use Rattle.mus_units.specs.Good.{IsGoodKey, IsGoodMeter, IsGoodUnit}
 use Rattle.abc_fields.specs.Keys.{key_over}
 use Rattle.abc_fields.specs.Last.{last_of}
 use Rattle.abc_fields.specs.Meters.{default_unit}

@@ -13,7 +13,8 @@ use Rattle.mus_units.specs.declared.key.Sign.{Sign}
 use Rattle.mus_pitch.specs.declared.circle.Mode.{Mode}
 use Rattle.mus_pitch.specs.declared.circle.Mode.TheVariants as modes
 use Rattle.mus_pitch.specs.Circle.{signature_of, signs_of}
-use Rattle.mus_pitch.specs.Signs.{laid, IsGoodKey}
+use Rattle.mus_units.specs.Good.{IsGoodKey}
+use Rattle.mus_pitch.specs.Signs.{laid}
 use Rattle.mus_units.specs.declared.key.Key.{Key}
 use Rattle.abc_fields.specs.declared.key.Tonic.{Tonic}
 use Rattle.abc_fields.specs.Last.{last_of}

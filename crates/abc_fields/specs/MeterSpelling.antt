@@ -6,7 +6,7 @@ use Rattle.mus_units.specs.declared.key.Meter.{Meter}
 use Rattle.mus_units.specs.declared.key.Meter.TheVariants as meters
 use Rattle.mus_units.specs.declared.value.Frac.{Frac}
 use Rattle.abc_fields.specs.Numbers.{is_number, value_of}
-use Rattle.abc_fields.specs.Meters.{is_halving}
+use Rattle.mus_units.specs.Good.{is_halving}
 use Rattle.abc_fields.specs.WordSpelling.{IsBetweenBlanks}
 
 -- A meter is C, C with a bar line, the word none or nothing; or numbers with a plus sign between

@@ -7,11 +7,8 @@ use Rattle.mus_units.specs.declared.key.Meter.{Meter}
 use Rattle.mus_units.specs.declared.key.Meter.TheVariants as meters
 use Rattle.mus_units.specs.declared.value.Frac.{Frac}
 use Rattle.abc_fields.specs.Numbers.{number_of, before, from_first, behind_one}
+use Rattle.mus_units.specs.Good.{is_halving}
 use Rattle.abc_fields.specs.Words.{trimmed, behind}
-
--- the halvings that a meter and a unit may name
-abbrev pub is_halving : ℕ → Bool
-is_halving n = n == 1 || n == 2 || n == 4 || n == 8 || n == 16 || n == 32 || n == 64
 
 abbrev pub halving_of : Option ℕ → Option ℕ
 halving_of None = None

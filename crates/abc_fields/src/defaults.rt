@@ -1,6 +1,7 @@
 ghost use Rattle.std.specs.Prelude.{◌≡◌, IfSome, Some, None};
 ghost use Rattle.std.specs.Option.{option_copied};
-ghost use Rattle.abc_fields.specs.Good.{IsGoodMeter, IsGoodUnit, IsGoodDefaults, GoodUnitIn};
+ghost use Rattle.mus_units.specs.Good.{IsGoodMeter, IsGoodUnit};
+ghost use Rattle.abc_fields.specs.Good.{IsGoodDefaults, GoodUnitIn};
 ghost use Rattle.abc_fields.specs.Last.{last_of};
 ghost use Rattle.abc_fields.specs.Defaults.{text_of, rest_named, said_by, line_meter, line_unit, line_breaks, line_spread, defaults_of};
 

@@ -1,9 +1,9 @@
 ghost use Rattle.std.specs.Prelude.{◌≡◌, ◌≤◌, ◌<◌, length, map, position, IfOk, IfErr, IfSome, Some, None, Ok, unwrap_or, nat_lt, []};
 ghost use Rattle.std.specs.List.{filter_map};
 ghost use Rattle.std.specs.Option.{option_map, option_copied};
-ghost use Rattle.mus_pitch.specs.Signs.{IsGoodKey};
 ghost use Rattle.abc_fields.specs.Fields.{field_of, IsGoodField};
-ghost use Rattle.abc_fields.specs.Good.{IsGoodMeter, IsGoodUnit, IsGoodDefaults, GoodUnitIn};
+ghost use Rattle.mus_units.specs.Good.{IsGoodKey, IsGoodMeter, IsGoodUnit};
+ghost use Rattle.abc_fields.specs.Good.{IsGoodDefaults, GoodUnitIn};
 ghost use Rattle.abc_fields.specs.Keys.{key_over, IsGoodKeyText};
 ghost use Rattle.abc_fields.specs.Last.{last_of};
 ghost use Rattle.abc_fields.specs.Voicing.{with_id, ids_after, ids_of, clef_for, wish_for, voice_from, voices_of};

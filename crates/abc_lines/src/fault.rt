@@ -1,3 +1,6 @@
+ghost use Rattle.std.specs.Prelude.{◌≡◌};
+ghost use Rattle.abc_lines.specs.declared.fault.TuneError.TheVariants as errors;
+
 use mus_units::Memory;
 
 /// Why a tune is refused. The order is that in which faults at one place count.
@@ -66,6 +69,8 @@ pub enum TuneError {
 }
 
 impl From<Memory> for TuneError {
+    ghost from_gives = { λ _ e. e ≡ errors.Memory };
+
     fn from(_e: Memory) -> TuneError {
         TuneError::Memory
     }

@@ -17,19 +17,18 @@ use Rattle.abc_pieces.specs.declared.token.Opening.TheVariants as opens
 use Rattle.abc_pieces.proofs.PartLaws.{less, longest_of, none_of, longest_is, at_nil}
 use Rattle.abc_pieces.proofs.PieceReader.{piece_reader}
 use Rattle.abc_tokens.specs.declared.token.Placed.{Placed}
-use Rattle.abc_tokens.specs.Tokens.{Tokens, ends, goes, Faulty, stuck, later, column, put, TokensOf, FlawOf, IsLineFlaw, fault_at, IsErrorOf}
+use Rattle.abc_tokens.specs.Tokens.{Tokens, ends, goes, Faulty, stuck, later, Front, clear, breaks, leads, column, put, TokensOf, FlawOf, FrontAt, FrontOf, IsLineFlaw, fault_at, IsErrorOf}
 
 abbrev longest_piece : Bool → Before → List ℕ → Form → List ℕ → Type 0
 longest_piece bang before s f rest = IsLongest Form (StandsAt bang before) s f rest
 
 -- where a loop stands: what follows is what the line gives, behind the tokens so far
 pub record Stage (bang : Bool) (line : List ℕ) (so_far : List Placed) (before : Before) (at : ℕ) (rest : List ℕ) : Type 0 where
-  pub tokens : (ts : List Placed) → Tokens bang (length line) before rest ts → TokensOf bang line (so_far ++ ts)
-  pub flaw : (flaw : Flaw) → Faulty bang before at rest flaw → FlawOf bang line flaw
+  pub front : (ts : List Placed) (end : Option Flaw) → Front bang (length line) before at rest ts end → FrontAt bang line (so_far ++ ts) end
   pub within : length rest ≤ length line
 
 pub begins_so : (bang : Bool) (line : List ℕ) → Stage bang line [] behind.Other 0 line
-begins_so bang line = record { tokens = λ ts t. t; flaw = λ f t. t; within = omega arith }
+begins_so bang line = record { front = λ ts end t. t; within = omega arith }
 
 put_append : (t : Option Token) (at : ℕ) (ts : List Placed) → put t at ts ≡ put t at [] ++ ts
 put_append None at ts = refl
@@ -73,19 +72,18 @@ step bang line so_far new before at here s t next rest stage h place is =
     let l = longest bang before s f.form rest f.is in
     let shorter = consumes bang before s t next rest h in
     record {
-      tokens = λ ts more.
+      front = λ ts end more.
           let all : List Placed = put (meant f.form) (column n (length s)) ts in
-          let one = stage.tokens all (goes before s f.form rest ts all l (subst (λ b. Tokens bang n b rest ts) f.tells more) refl) in
+          let one = stage.front all end (leads before at s f.form rest ts all end l (subst (λ b. Front bang n b (length s) rest ts end) f.tells more) refl) in
           let joined : so_far ++ all ≡ new ++ ts =
           ap (λ us. so_far ++ us) (ap (λ o. put o (column n (length s)) ts) (sym f.token) ∙ put_append t (column n (length s)) ts) ∙ sym (append_assoc so_far (put t (column n (length s)) []) ts)
           ∙ ap (λ c. (so_far ++ put t c []) ++ ts) (sym place) ∙ ap (λ us. us ++ ts) (sym is) in
-          subst (λ us. TokensOf bang line us) joined one;
-      flaw = λ flaw more. stage.flaw flaw (later before at s f.form rest flaw l (subst (λ b. Faulty bang b (length s) rest flaw) f.tells more));
+          subst (λ us. FrontAt bang line us end) joined one;
       within = omega (arith, shorter, stage.within);
     }
 
-pub done_at : (bang : Bool) (line : List ℕ) (so_far : List Placed) (before : Before) (at : ℕ) (rest : List ℕ) → Stage bang line so_far before at rest → length rest ≡ 0 → TokensOf bang line so_far
-done_at bang line so_far before at [] stage h = subst (λ us. TokensOf bang line us) (append-nil so_far) (stage.tokens [] (ends before))
+pub done_at : (bang : Bool) (line : List ℕ) (so_far : List Placed) (before : Before) (at : ℕ) (rest : List ℕ) → Stage bang line so_far before at rest → length rest ≡ 0 → FrontAt bang line so_far None
+done_at bang line so_far before at [] stage h = subst (λ us. FrontAt bang line us None) (append-nil so_far) (stage.front [] None (clear before at))
 done_at bang line so_far before at (b ∷ rest) stage h = absurd (omega (arith, h))
 
 no_read : (r : Read) → None ≡ meaning r → r ≡ None
@@ -141,13 +139,40 @@ no_list bang n _ _ _ _ ts (later before at s f rest flaw l more) b =
     let r = behind_it bang n before s ts f rest (is_read bang before s f rest l) b in
     no_list bang n (after f) (length s) rest flaw r.ts more r.tokens
 
-pub error_at : (bang : Bool) (line : Line) (text : List ℕ) (so_far : List Placed) (before : Before) (at byte : ℕ) (rest t : List ℕ) (flaw : Flaw) (fault : Fault) → text ≡ line.text → Stage bang text so_far before at rest → rest ≡ byte ∷ t →
-    None ≡ meaning (piece_at bang before rest) → IsLineFlaw bang before at byte t flaw → fault ≡ fault_at line flaw → IsErrorOf bang line (error.Fault fault)
-error_at bang line text so_far before at byte rest t flaw fault same stage cut none is fault_is =
+pub stuck_at : (bang : Bool) (line : List ℕ) (so_far : List Placed) (before : Before) (at byte : ℕ) (rest t : List ℕ) (flaw : Flaw) → Stage bang line so_far before at rest → rest ≡ byte ∷ t →
+    None ≡ meaning (piece_at bang before rest) → IsLineFlaw bang before at byte t flaw → FrontAt bang line so_far (Some flaw)
+stuck_at bang line so_far before at byte rest t flaw stage cut none is =
     let nothing = none_of (piece_reader bang before) (byte ∷ t) (none_at bang before rest t byte cut none) in
-    let one : Faulty bang before at rest flaw = rw cut (stuck before at byte t flaw nothing is) in
-    let whole : FlawOf bang line.text flaw = subst (λ (x : List ℕ). FlawOf bang x flaw) same (stage.flaw flaw one) in
-    (flaw, whole, fault_is, λ ts. no_list bang (length line.text) behind.Other 0 line.text flaw ts whole)
+    let one : Front bang (length line) before at rest [] (Some flaw) = rw cut (breaks before at byte t flaw nothing is) in
+    subst (λ us. FrontAt bang line us (Some flaw)) (append-nil so_far) (stage.front [] (Some flaw) one)
+
+-- a line without a fault has the tokens of its front, and a line with one has that fault
+front_tokens : (bang : Bool) (n : ℕ) (before : Before) (at : ℕ) (s : List ℕ) (ts : List Placed) (end : Option Flaw) → Front bang n before at s ts end → end ≡ None → Tokens bang n before s ts
+front_tokens bang n _ _ _ _ _ (clear before at) e = ends before
+front_tokens bang n _ _ _ _ _ (breaks before at byte s flaw h is) e = absurd cc
+front_tokens bang n _ _ _ _ _ (leads before at s f rest ts all end l more is) e = goes before s f rest ts all l (front_tokens bang n (after f) (length s) rest ts end more e) is
+
+front_flaw : (bang : Bool) (n : ℕ) (before : Before) (at : ℕ) (s : List ℕ) (ts : List Placed) (end : Option Flaw) (flaw : Flaw) → Front bang n before at s ts end → end ≡ Some flaw → Faulty bang before at s flaw
+front_flaw bang n _ _ _ _ _ flaw (clear before at) e = absurd cc
+front_flaw bang n _ _ _ _ _ flaw (breaks before at byte s one h is) e = let same : one ≡ flaw = cc in subst (λ x. Faulty bang before at (byte ∷ s) x) same (stuck before at byte s one h is)
+front_flaw bang n _ _ _ _ _ flaw (leads before at s f rest ts all end l more is) e = later before at s f rest flaw l (front_flaw bang n (after f) (length s) rest ts end flaw more e)
+
+no_end : (line : Line) (end : Option Flaw) → None ≡ option_map (fault_at line) end → end ≡ None
+no_end line None e = refl
+no_end line (Some flaw) e = absurd cc
+
+pub tokens_of : (bang : Bool) (line : Line) (ts : List Placed) (fault : Option Fault) → FrontOf bang line ts fault → fault ≡ None → TokensOf bang line.text ts
+tokens_of bang line ts fault front none = front_tokens bang (length line.text) behind.Other 0 line.text ts front.0 front.1 (no_end line front.0 (sym none ∙ front.2))
+
+error_by : (bang : Bool) (line : Line) (ts : List Placed) (fault : Fault) (end : Option Flaw) → FrontAt bang line.text ts end → Some fault ≡ option_map (fault_at line) end → IsErrorOf bang line (error.Fault fault)
+error_by bang line ts fault None front e = absurd cc
+error_by bang line ts fault (Some flaw) front e =
+    let whole = front_flaw bang (length line.text) behind.Other 0 line.text ts (Some flaw) flaw front refl in
+    let is : fault ≡ fault_at line flaw = cc in
+    (flaw, whole, is, λ us. no_list bang (length line.text) behind.Other 0 line.text flaw us whole)
+
+pub error_of : (bang : Bool) (line : Line) (ts : List Placed) (fault : Option Fault) (one : Fault) → FrontOf bang line ts fault → fault ≡ Some one → IsErrorOf bang line (error.Fault one)
+error_of bang line ts fault one front is = error_by bang line ts one front.0 front.1 (sym is ∙ front.2)
 
 -- ---- where no piece stands, no chord and no grace group does
 

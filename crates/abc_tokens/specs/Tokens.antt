@@ -1,6 +1,6 @@
 -- The tokens of a music line: piece by piece, each the longest that stands at the front of what is
 -- left; and the first fault of a line that has no such list.
-use Rattle.std.specs.Prelude.{◌≡◌, ℕ, suc, ◌+◌, ◌-◌, List, [], ◌∷◌, length, Bool, true, false, ◌==◌, ◌||◌, if◌then◌else◌, Option, Some, None, MatchBool, MatchOption}
+use Rattle.std.specs.Prelude.{◌≡◌, ℕ, suc, ◌+◌, ◌-◌, List, [], ◌∷◌, length, Bool, true, false, ◌==◌, ◌||◌, if◌then◌else◌, Option, Some, None, MatchBool, MatchOption, option_map}
 use Rattle.abc_lines.specs.declared.book.Line.{Line}
 use Rattle.abc_lines.specs.declared.fault.Fault.{Fault}
 use Rattle.abc_lines.specs.declared.fault.FaultKind.{FaultKind}
@@ -75,12 +75,23 @@ pub data Faulty (bang : Bool) : Before → ℕ → List ℕ → Flaw → Type 0 
   stuck : (before : Before) (at byte : ℕ) (s : List ℕ) (flaw : Flaw) → HasNone Form (StandsAt bang before) (byte ∷ s) → IsLineFlaw bang before at byte s flaw → Faulty bang before at (byte ∷ s) flaw
   later : (before : Before) (at : ℕ) (s : List ℕ) (f : Form) (rest : List ℕ) (flaw : Flaw) → IsLongest Form (StandsAt bang before) s f rest → Faulty bang (after f) (length s) rest flaw → Faulty bang before at s flaw
 
+-- What a line gives up to its first fault: the tokens of the pieces before it, and the fault, or
+-- none where pieces stand up to the end.
+pub data Front (bang : Bool) (n : ℕ) : Before → ℕ → List ℕ → List Placed → Option Flaw → Type 0 where
+  clear : (before : Before) (at : ℕ) → Front bang n before at [] [] None
+  breaks : (before : Before) (at byte : ℕ) (s : List ℕ) (flaw : Flaw) → HasNone Form (StandsAt bang before) (byte ∷ s) → IsLineFlaw bang before at byte s flaw → Front bang n before at (byte ∷ s) [] (Some flaw)
+  leads : (before : Before) (at : ℕ) (s : List ℕ) (f : Form) (rest : List ℕ) (ts all : List Placed) (end : Option Flaw) → IsLongest Form (StandsAt bang before) s f rest → Front bang n (after f) (length s) rest ts end →
+      all ≡ put (meant f) (column n (length s)) ts → Front bang n before at s all end
+
 -- the tokens of a music line
 abbrev pub TokensOf : Bool → List ℕ → List Placed → Type 0
 TokensOf bang text ts = Tokens bang (length text) behind.Other text ts
 
 abbrev pub FlawOf : Bool → List ℕ → Flaw → Type 0
 FlawOf bang text flaw = Faulty bang behind.Other 0 text flaw
+
+abbrev pub FrontAt : Bool → List ℕ → List Placed → Option Flaw → Type 0
+FrontAt bang text ts end = Front bang (length text) behind.Other 0 text ts end
 
 abbrev pub fault_at : Line → Flaw → Fault
 fault_at line flaw = record { kind = flaw.kind; line = line.number; column = column (length line.text) flaw.left }
@@ -89,3 +100,7 @@ fault_at line flaw = record { kind = flaw.kind; line = line.number; column = col
 abbrev pub IsErrorOf : Bool → Line → TuneError → Type 0
 IsErrorOf bang line error.Memory = Unit {0}
 IsErrorOf bang line (error.Fault fault) = (flaw : Flaw) × FlawOf bang line.text flaw × (fault ≡ fault_at line flaw) × ((ts : List Placed) → TokensOf bang line.text ts → ⊥)
+
+-- the tokens before the first fault of a line, and that fault if the line has one
+abbrev pub FrontOf : Bool → Line → List Placed → Option Fault → Type 0
+FrontOf bang line ts fault = (end : Option Flaw) × FrontAt bang line.text ts end × (fault ≡ option_map (fault_at line) end)

@@ -1,4 +1,4 @@
-//! The tokens of a music line, with the columns where they begin, or the first
+//! The tokens of a music line, with the columns where they begin, and the first
 //! fault of the line.
 #![tactic(auto)]
 
@@ -7,8 +7,8 @@ pub mod token;
 
 pub use abc_pieces::{GraceChord, Len, Token};
 pub use mus_units::{Bar, Deco, Head};
-pub use reader::read_music;
-pub use token::Placed;
+pub use reader::{read_front, read_music};
+pub use token::{Front, Placed};
 
 #[cfg(test)]
 mod tests;

@@ -5,9 +5,9 @@ ghost use Rattle.abc_pieces.specs.Forms.{opening, is_kept_field};
 ghost use Rattle.abc_pieces.specs.declared.token.Opening.TheVariants.{Chord};
 ghost use Rattle.abc_pieces.specs.Reading.{piece_at, token_of, found_within};
 ghost use Rattle.abc_tokens.specs.declared.token.Placed.{Placed};
-ghost use Rattle.abc_tokens.specs.Tokens.{TokensOf, IsErrorOf, column, put, fault_at, kind_behind, kind_if, IsBracketFlaw, IsLineFlaw, IsOwnFlaw};
+ghost use Rattle.abc_tokens.specs.Tokens.{TokensOf, IsErrorOf, FrontOf, column, put, fault_at, kind_behind, kind_if, IsBracketFlaw, IsLineFlaw, IsOwnFlaw};
 
-use crate::token::Placed;
+use crate::token::{Front, Placed};
 use abc_lines::{Fault, FaultKind, Line, TuneError};
 use abc_pieces::chord::{chord_fault, read_decos, read_heads};
 use abc_pieces::decoration::{deco_of_letter, deco_of_name};
@@ -28,6 +28,19 @@ pub fn read_music(alloc: Global, line: &Line, bang: bool) -> Result<Row<Placed>,
     // A fault is the first, and comes only where there is no list.
     ensures fault { IfErr result (λ e. IsErrorOf bang line.now e) }
 {
+    let front = read_front(alloc, line, bang)?;
+    match front.fault {
+        Some(fault) => Err(TuneError::Fault(fault)),
+        None => Ok(front.tokens),
+    }
+}
+
+/// The tokens of a music line up to its first fault, and that fault if it has one.
+/// `bang` says that `!` is a line break. Linear in the line.
+pub fn read_front(alloc: Global, line: &Line, bang: bool) -> Result<Front, Memory>
+    requires { IsGoodLine line.now }
+    ensures { IfOk result (λ front. FrontOf bang line.now front.tokens front.fault) }
+{
     let text = line.text.as_slice();
     let mut out = Row::new(alloc);
     let mut rest = text;
@@ -37,16 +50,20 @@ pub fn read_music(alloc: Global, line: &Line, bang: bool) -> Result<Row<Placed>,
         let here = rest.len();
         let Some(piece) = piece_at(bang, before, rest) else {
             let flaw = line_flaw(bang, before, at, *first, behind);
-            return Err(TuneError::Fault(fault_at(line, flaw)));
+            return Ok(Front {
+                tokens: out,
+                fault: Some(fault_at(line, flaw)),
+            });
         };
-        let Ok(()) = add(alloc, &mut out, bang, piece.found, column(text.len(), here)) else {
-            return Err(TuneError::Memory);
-        };
+        add(alloc, &mut out, bang, piece.found, column(text.len(), here))?;
         rest = piece.rest;
         before = piece.after;
         at = here;
     }
-    Ok(out)
+    Ok(Front {
+        tokens: out,
+        fault: None,
+    })
 }
 
 fn column(n: usize, left: usize) -> u32

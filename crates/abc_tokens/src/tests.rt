@@ -1,8 +1,8 @@
 ghost use Rattle.std.specs.Prelude.{◌≡◌, IfOk};
 
-use crate::reader::read_music;
+use crate::reader::{read_front, read_music};
 use crate::token::Placed;
-use abc_lines::{FaultKind, Line, TuneError};
+use abc_lines::{Fault, FaultKind, Line, TuneError};
 use abc_pieces::{GraceChord, Len, Token};
 use mus_units::{Alter, Bar, Deco, Head, Letter, Row, Text};
 use std::alloc::{AllocError, Global};
@@ -332,5 +332,23 @@ fn faults(rt: HostRuntime) -> Result<(), Fail> {
             _ => assert!(rt; false, "no fault"),
         }
     }
+    Ok(())
+}
+
+#[test]
+fn front_of_a_faulty_line(rt: HostRuntime) -> Result<(), Fail> {
+    let line = line_of(rt.alloc(), b"[K:Foo] A&B")?;
+    let front = read_front(rt.alloc(), &line, false)?;
+    let found = shown(rt.alloc(), &front.tokens)?;
+    let want: &[u8] = b"1:iKFoo 8:_ 9:nA4";
+    assert_eq!(rt; found.as_slice(), want);
+    assert_eq!(rt;
+        front.fault,
+        Some(Fault {
+            kind: FaultKind::BadByte,
+            line: 7,
+            column: 10
+        })
+    );
     Ok(())
 }

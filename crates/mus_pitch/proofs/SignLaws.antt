@@ -11,7 +11,8 @@ use Rattle.mus_units.specs.declared.pitch.Alter.{Alter}
 use Rattle.mus_units.specs.declared.pitch.Alter.TheVariants as alters
 use Rattle.mus_units.specs.declared.key.Sign.{Sign}
 use Rattle.mus_pitch.specs.Circle.{sharp_order, signed, signs_of}
-use Rattle.mus_pitch.specs.Signs.{same_letter, AreGoodSigns, with_sign, laid}
+use Rattle.mus_units.specs.Good.{AreGoodSigns, same_letter}
+use Rattle.mus_pitch.specs.Signs.{with_sign, laid}
 
 count_by-cons : {X : Type 0} (p : X → Bool) (x : X) (xs : List X) → count_by p (x ∷ xs) ≡ cond (p x) 1 0 + count_by p xs
 count_by-cons p x xs = sum_by-cons (λ y. cond (p y) 1 0) x xs

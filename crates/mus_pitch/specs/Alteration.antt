@@ -9,7 +9,7 @@ use Rattle.mus_units.specs.declared.note.Head.{Head}
 use Rattle.mus_units.specs.declared.key.Sign.{Sign}
 use Rattle.mus_units.specs.declared.key.Spread.{Spread}
 use Rattle.mus_units.specs.declared.key.Spread.TheVariants as spreads
-use Rattle.mus_pitch.specs.Signs.{same_letter}
+use Rattle.mus_units.specs.Good.{same_letter}
 
 -- whether a sign at a pitch reaches another: never, in its own octave, or in every octave
 abbrev pub reaches : Spread → Pitch → Pitch → Bool

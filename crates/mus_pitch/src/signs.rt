@@ -2,7 +2,8 @@ ghost use Rattle.std.specs.Prelude.{◌≡◌, ℕ, ◌==◌, IfOk, map, take, r
 ghost use Rattle.mus_units.specs.Pitch.{number_of};
 ghost use Rattle.mus_units.specs.declared.pitch.Alter.TheVariants as alters;
 ghost use Rattle.mus_pitch.specs.Circle.{signs_of, signed, sharp_order};
-ghost use Rattle.mus_pitch.specs.Signs.{same_letter, AreGoodSigns, IsGoodKey, laid, with_sign};
+ghost use Rattle.mus_units.specs.Good.{AreGoodSigns, IsGoodKey, same_letter};
+ghost use Rattle.mus_pitch.specs.Signs.{laid, with_sign};
 
 use mus_units::{Alter, Key, Letter, Memory, Row, Sign};
 use std::alloc::Global;

@@ -1,7 +1,7 @@
 use Rattle.std.proofs.Common.{◌≡◌, drop}
 use Rattle.std.specs.Prelude.{IfSome}
 use Rattle.std.specs.Option.{option_or}
-use Rattle.abc_fields.specs.Good.{IsGoodMeter}
+use Rattle.mus_units.specs.Good.{IsGoodMeter}
 use Rattle.abc_fields.specs.Last.{last_of}
 use Rattle.abc_fields.specs.Defaults.{line_meter}
 use Rattle.abc_fields.proofs.defaults.last_meter.Given as goal

@@ -1,6 +1,6 @@
 use Rattle.std.proofs.Common.{subst, sym}
 use Rattle.std.specs.Prelude.{IfSome}
-use Rattle.abc_fields.specs.Good.{IsGoodMeter}
+use Rattle.mus_units.specs.Good.{IsGoodMeter}
 use Rattle.abc_fields.proofs.HeaderLaws.{last_meter-good}
 use Rattle.abc_fields.proofs.header.good_meter.Goals as goal
 

@@ -1,5 +1,5 @@
 use Rattle.std.proofs.Common.{subst, sym}
-use Rattle.mus_pitch.specs.Signs.{AreGoodSigns}
+use Rattle.mus_units.specs.Good.{AreGoodSigns}
 use Rattle.abc_fields.proofs.header.same_key.Goals as goal
 
 pub returns-clause-good : goal.returns-clause-good

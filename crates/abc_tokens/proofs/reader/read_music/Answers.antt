@@ -1,36 +1,14 @@
-use Rattle.std.proofs.Common.{◌≡◌, ◌∷◌, ◌<◌, ◌≤◌, length, arith, rules, sym, ap, ◌∙◌, subst, List, ℕ}
-use Rattle.abc_pieces.specs.Reading.{token_of}
+use Rattle.std.proofs.Common.{length}
 use Rattle.abc_pieces.specs.declared.token.Before.TheVariants.{Other}
-use Rattle.abc_tokens.specs.Tokens.{TokensOf}
-use Rattle.abc_tokens.proofs.Line.{begins_so, done_at, error_at, step, consumes, one_list}
+use Rattle.abc_tokens.proofs.Line.{tokens_of, error_of, one_list}
 use Rattle.abc_tokens.proofs.reader.read_music.Goals as goal
 
-pub fault_at-requires-clause-within : goal.fault_at-requires-clause-within
-fault_at-requires-clause-within c =
-    let cut : c.pieces.rest.now ≡ c.in-Some.first.now ∷ c.in-Some.behind.now = search rules in
-    let n = length c.as_slice-text.result.now in
-    let most = c.line_flaw-flaw.ensures.within n c.pieces.invariant.at_within (omega (arith, ap length cut, c.pieces.invariant.stage.within)) in
-    omega (arith, most, ap length c.as_slice-text.ensures)
+pub returns-in-Some-clause-fault : goal.returns-in-Some-clause-fault
+returns-in-Some-clause-fault c = error_of c.args.bang c.args.line.now c.in_ok-front.front.tokens c.in_ok-front.front.fault c.in-Some.fault c.in_ok-front.ensures c.in-Some.is
 
-pub returns-in_default-piece_at-clause-fault : goal.returns-in_default-piece_at-clause-fault
-returns-in_default-piece_at-clause-fault c =
-    error_at c.args.bang c.args.line.now c.as_slice-text.result.now c.pieces.out c.pieces.before c.pieces.at c.in-Some.first.now c.pieces.rest.now c.in-Some.behind.now c.line_flaw-flaw.result c.fault_at.result
-    c.as_slice-text.ensures c.pieces.invariant.stage (search rules) c.in_default-piece_at.ensures.read c.line_flaw-flaw.ensures.flaw c.fault_at.ensures
+pub returns-in-None-clause-found : goal.returns-in-None-clause-found
+returns-in-None-clause-found c = tokens_of c.args.bang c.args.line.now c.in_ok-front.front.tokens c.in_ok-front.front.fault c.in_ok-front.ensures c.in-None.is
 
-pub pieces-smaller : goal.pieces-smaller
-pieces-smaller c = consumes c.args.bang c.pieces.before c.pieces.rest.now (token_of c.args.bang c.in-Some-piece_at.piece.found) c.in-Some-piece_at.piece.after c.in-Some-piece_at.piece.rest.now c.in-Some-piece_at.ensures.read
-
-pub pieces-preserved : goal.pieces-preserved
-pieces-preserved c =
-    record {
-      stage = step c.args.bang c.as_slice-text.result.now c.pieces.out c.add.new.out c.pieces.before c.pieces.at c.column.result c.pieces.rest.now (token_of c.args.bang c.in-Some-piece_at.piece.found) c.in-Some-piece_at.piece.after c.in-Some-piece_at.piece.rest.now
-          c.pieces.invariant.stage c.in-Some-piece_at.ensures.read c.column.ensures c.in-Ok.ensures;
-      at_within = c.pieces.invariant.stage.within;
-    }
-
-pub returns-clause-found : goal.returns-clause-found
-returns-clause-found c = subst (λ (t : List ℕ). TokensOf c.args.bang t c.pieces.out) c.as_slice-text.ensures (done_at c.args.bang c.as_slice-text.result.now c.pieces.out c.pieces.before c.pieces.at c.pieces.rest.now c.pieces.invariant.stage c.in_default.ensures.cases)
-
-pub returns-clause-only : goal.returns-clause-only
-returns-clause-only c = λ ts others. one_list c.args.bang (length c.args.line.now.text) Other c.args.line.now.text c.pieces.out ts
-    (subst (λ (t : List ℕ). TokensOf c.args.bang t c.pieces.out) c.as_slice-text.ensures (done_at c.args.bang c.as_slice-text.result.now c.pieces.out c.pieces.before c.pieces.at c.pieces.rest.now c.pieces.invariant.stage c.in_default.ensures.cases)) others
+pub returns-in-None-clause-only : goal.returns-in-None-clause-only
+returns-in-None-clause-only c = λ others tokens. one_list c.args.bang (length c.args.line.now.text) Other c.args.line.now.text c.in_ok-front.front.tokens others
+    (tokens_of c.args.bang c.args.line.now c.in_ok-front.front.tokens c.in_ok-front.front.fault c.in_ok-front.ensures c.in-None.is) tokens

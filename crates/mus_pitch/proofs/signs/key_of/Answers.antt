@@ -1,5 +1,5 @@
 use Rattle.std.proofs.Common.{subst, sym}
-use Rattle.mus_pitch.specs.Signs.{AreGoodSigns}
+use Rattle.mus_units.specs.Good.{AreGoodSigns}
 use Rattle.mus_pitch.proofs.SignLaws.{signs_of_good}
 use Rattle.mus_pitch.proofs.signs.key_of.Goals as goal
 

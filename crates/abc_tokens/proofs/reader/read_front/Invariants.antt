@@ -1,6 +1,6 @@
 use Rattle.std.proofs.Common.{◌≤◌, length}
 use Rattle.abc_tokens.proofs.Line.{Stage}
-use Rattle.abc_tokens.proofs.reader.read_music.Given as goal
+use Rattle.abc_tokens.proofs.reader.read_front.Given as goal
 
 abbrev pub invariant-pieces : goal.invariant-pieces
 invariant-pieces l = record { stage : Stage l.bang l.text l.out l.before l.at l.rest; at_within : l.at ≤ length l.text }
