@@ -1,1 +1,2 @@
+pub mod GoodLaws
 pub mod Line

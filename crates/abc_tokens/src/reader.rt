@@ -5,6 +5,7 @@ ghost use Rattle.abc_pieces.specs.Forms.{opening, is_kept_field};
 ghost use Rattle.abc_pieces.specs.declared.token.Opening.TheVariants.{Chord};
 ghost use Rattle.abc_pieces.specs.Reading.{piece_at, token_of, found_within};
 ghost use Rattle.abc_tokens.specs.declared.token.Placed.{Placed};
+ghost use Rattle.abc_tokens.specs.Good.{AreGoodTokens};
 ghost use Rattle.abc_tokens.specs.Tokens.{TokensOf, IsErrorOf, FrontOf, column, put, fault_at, kind_behind, kind_if, IsBracketFlaw, IsLineFlaw, IsOwnFlaw};
 
 use crate::token::{Front, Placed};
@@ -27,6 +28,7 @@ pub fn read_music(alloc: Global, line: &Line, bang: bool) -> Result<Row<Placed>,
     ensures only { IfOk result (λ tokens. (others : List Placed) → TokensOf bang line.now.text others → tokens ≡ others) }
     // A fault is the first, and comes only where there is no list.
     ensures fault { IfErr result (λ e. IsErrorOf bang line.now e) }
+    ensures good { IfOk result (λ tokens. AreGoodTokens tokens) }
 {
     let front = read_front(alloc, line, bang)?;
     match front.fault {
@@ -39,7 +41,8 @@ pub fn read_music(alloc: Global, line: &Line, bang: bool) -> Result<Row<Placed>,
 /// `bang` says that `!` is a line break. Linear in the line.
 pub fn read_front(alloc: Global, line: &Line, bang: bool) -> Result<Front, Memory>
     requires { IsGoodLine line.now }
-    ensures { IfOk result (λ front. FrontOf bang line.now front.tokens front.fault) }
+    ensures front { IfOk result (λ front. FrontOf bang line.now front.tokens front.fault) }
+    ensures good { IfOk result (λ front. AreGoodTokens front.tokens) }
 {
     let text = line.text.as_slice();
     let mut out = Row::new(alloc);

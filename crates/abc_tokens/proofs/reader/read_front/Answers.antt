@@ -2,6 +2,8 @@ use Rattle.std.proofs.Common.{◌≡◌, ◌∷◌, ◌<◌, ◌≤◌, length, 
 use Rattle.std.specs.Prelude.{Some, None}
 use Rattle.abc_pieces.specs.Reading.{token_of}
 use Rattle.abc_tokens.specs.Tokens.{FrontAt}
+use Rattle.abc_pieces.specs.declared.token.Before.TheVariants.{Other}
+use Rattle.abc_tokens.proofs.GoodLaws.{good_front}
 use Rattle.abc_tokens.proofs.Line.{begins_so, done_at, stuck_at, step, consumes}
 use Rattle.abc_tokens.proofs.reader.read_front.Goals as goal
 
@@ -23,8 +25,8 @@ pieces-preserved c =
       at_within = c.pieces.invariant.stage.within;
     }
 
-pub returns-in_default-piece_at : goal.returns-in_default-piece_at
-returns-in_default-piece_at c = (
+pub returns-in_default-piece_at-clause-front : goal.returns-in_default-piece_at-clause-front
+returns-in_default-piece_at-clause-front c = (
   Some c.line_flaw-flaw.result,
   subst (λ (t : List ℕ). FrontAt c.args.bang t c.pieces.out (Some c.line_flaw-flaw.result)) c.as_slice-text.ensures
       (stuck_at c.args.bang c.as_slice-text.result.now c.pieces.out c.pieces.before c.pieces.at c.in-Some.first.now c.pieces.rest.now c.in-Some.behind.now c.line_flaw-flaw.result
@@ -32,5 +34,11 @@ returns-in_default-piece_at c = (
   ap Some c.fault_at.ensures,
 )
 
-pub returns : goal.returns
-returns c = (None, subst (λ (t : List ℕ). FrontAt c.args.bang t c.pieces.out None) c.as_slice-text.ensures (done_at c.args.bang c.as_slice-text.result.now c.pieces.out c.pieces.before c.pieces.at c.pieces.rest.now c.pieces.invariant.stage c.in_default.ensures.cases), refl)
+pub returns-clause-front : goal.returns-clause-front
+returns-clause-front c = (None, subst (λ (t : List ℕ). FrontAt c.args.bang t c.pieces.out None) c.as_slice-text.ensures (done_at c.args.bang c.as_slice-text.result.now c.pieces.out c.pieces.before c.pieces.at c.pieces.rest.now c.pieces.invariant.stage c.in_default.ensures.cases), refl)
+
+pub returns-in_default-piece_at-clause-good : goal.returns-in_default-piece_at-clause-good
+returns-in_default-piece_at-clause-good c = let front = returns-in_default-piece_at-clause-front c in good_front c.args.bang (length c.args.line.now.text) Other 0 c.args.line.now.text c.pieces.out front.0 front.1
+
+pub returns-clause-good : goal.returns-clause-good
+returns-clause-good c = let front = returns-clause-front c in good_front c.args.bang (length c.args.line.now.text) Other 0 c.args.line.now.text c.pieces.out front.0 front.1

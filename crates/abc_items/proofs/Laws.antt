@@ -1,0 +1,149 @@
+-- What is read goes on from part to part.
+use Rattle.std.proofs.Common.{◌≡◌, ℕ, suc, ◌+◌, ◌<◌, ◌≤◌, ◌^◌, List, [], ◌∷◌, ◌++◌, length, map, take, drop, get_or, Bool, true, false, refl, sym, ap, ◌∙◌, subst, arith, append_assoc, append-nil, drop-cons}
+use Rattle.std.proofs.Math.Seq.{take-suc}
+use Rattle.std.proofs.lemmas.List.Sums.{sum_by-cons}
+use Rattle.std.specs.Prelude.{Option, Some, None, flat_map, fold}
+use Rattle.abc_lines.specs.declared.book.Line.{Line}
+use Rattle.abc_lines.specs.declared.fault.Fault.{Fault}
+use Rattle.abc_lines.specs.declared.fault.TuneError.{TuneError}
+use Rattle.abc_lines.specs.declared.fault.TuneError.TheVariants as errors
+use Rattle.abc_lines.specs.Good.{size_of}
+use Rattle.abc_tokens.specs.declared.token.Placed.{Placed}
+use Rattle.abc_fields.specs.declared.directive.Breaks.{Breaks}
+use Rattle.abc_fields.specs.declared.header.Header.{Header}
+use Rattle.abc_steps.specs.declared.step.Item.{Item}
+use Rattle.abc_items.specs.declared.body.Body.{Body}
+use Rattle.abc_items.specs.Voices.{ids_after, declared_ids}
+use Rattle.abc_items.specs.Body.{Given, gives, fails, item_judged, judged, first_fault, items_in, LineGives, BodyGives, no_lines, one_line, IsBody, HasFault, IsBodyError}
+use Rattle.abc_items.specs.Reading.{Reads, Stops, ReadsSome, StopsSome, StopsBy, LinesStop}
+
+-- one element more of a row that is made of another
+pub mapped-more : {X Y : Type 0} (f : X → Y) (xs : List X) (i : ℕ) (x : X) (done new : List Y) (y : Y)
+    → i < length xs → x ≡ get_or xs i x → new ≡ done ++ y ∷ [] → y ≡ f x
+    → done ++ map f (drop i xs) ≡ map f xs → new ++ map f (drop (i + 1) xs) ≡ map f xs
+mapped-more f xs i x done new y inside here pushed made so_far =
+    let one : i + 1 ≡ suc i = omega arith in
+    let cut : drop i xs ≡ get_or xs i x ∷ drop (suc i) xs = drop-cons xs i x inside in
+    rw one (ap (λ vs. vs ++ map f (drop (suc i) xs)) pushed
+    ∙ append_assoc done (y ∷ []) (map f (drop (suc i) xs))
+    ∙ ap (λ d. done ++ d ∷ map f (drop (suc i) xs)) (made ∙ ap f here)
+    ∙ ap (λ ks. done ++ map f ks) (sym cut)
+    ∙ so_far)
+
+pub reads_nothing : (b : Body) → Reads b [] b
+reads_nothing b = record { faults = λ h. refl; items = λ h. refl }
+
+pub reads_both : (a b c : Body) (g h : List Given) → Reads a g b → Reads b h c → Reads a (g ++ h) c
+reads_both a b c g h one two = record {
+  faults = λ k. ap (λ x. first_fault (judged a.ids x)) (append_assoc g h k) ∙ one.faults (h ++ k) ∙ two.faults k;
+  items = λ k. ap (λ x. a.items ++ items_in x) (append_assoc g h k) ∙ one.items (h ++ k) ∙ two.items k;
+}
+
+-- a fault stays the first, whatever follows
+pub stays : (ids : List (List ℕ)) (g h : List Given) (fault : Fault) → first_fault (judged ids g) ≡ Some fault → first_fault (judged ids (g ++ h)) ≡ Some fault
+stays ids [] h fault e = absurd cc
+stays ids (fails one ∷ g) h fault e = e
+stays ids (gives i ∷ g) h fault e = through (item_judged ids i) (judged (ids_after ids i) g) (judged (ids_after ids i) (g ++ h)) fault (stays (ids_after ids i) g h fault) e where
+  through : (x : Given) (g h : List Given) (fault : Fault) → (first_fault g ≡ Some fault → first_fault h ≡ Some fault) → first_fault (x ∷ g) ≡ Some fault → first_fault (x ∷ h) ≡ Some fault
+  through (fails one) g h fault f e = e
+  through (gives i) g h fault f e = f e
+
+pub stops_before : (b : Body) (g h : List Given) (e : TuneError) → Stops b g e → Stops b (g ++ h) e
+stops_before b g h errors.Memory s = s
+stops_before b g h (errors.Fault fault) s = stays b.ids g h fault s
+
+pub stops_behind : (a b : Body) (g h : List Given) (e : TuneError) → Reads a g b → Stops b h e → Stops a (g ++ h) e
+stops_behind a b g h errors.Memory r s = s
+stops_behind a b g h (errors.Fault fault) r s = ap (λ x. first_fault (judged a.ids (g ++ x))) (sym (append-nil h)) ∙ first_more a b g h r ∙ s where
+  first_more : (a b : Body) (g h : List Given) → Reads a g b → first_fault (judged a.ids (g ++ (h ++ []))) ≡ first_fault (judged b.ids h)
+  first_more a b g h r = r.faults (h ++ []) ∙ ap (λ x. first_fault (judged b.ids x)) (append-nil h)
+
+-- an item that is no fault
+pub reads_item : (a b : Body) (i : Item) → item_judged a.ids i ≡ gives i → b.ids ≡ ids_after a.ids i → b.items ≡ a.items ++ i ∷ [] → Reads a (gives i ∷ []) b
+reads_item a b i good ids items = record {
+  faults = λ h. ap (λ x. first_fault (x ∷ judged (ids_after a.ids i) h)) good ∙ ap (λ x. first_fault (judged x h)) (sym ids);
+  items = λ h. sym (append_assoc a.items (i ∷ []) (items_in h)) ∙ ap (λ x. x ++ items_in h) (sym items);
+}
+
+pub stops_item : (a : Body) (i : Item) (fault : Fault) → item_judged a.ids i ≡ fails fault → Stops a (gives i ∷ []) (errors.Fault fault)
+stops_item a i fault bad = ap (λ x. first_fault (x ∷ [])) bad
+
+-- lines one after another
+pub line_more : (breaks : Breaks) (ls : List Line) (l : Line) (g h : List Given) → BodyGives breaks ls g → LineGives breaks l h → BodyGives breaks (ls ++ l ∷ []) (g ++ h)
+line_more breaks _ l _ h no_lines one = one_line l [] h [] h one no_lines (sym (append-nil h))
+line_more breaks _ l _ h (one_line line lines first others all gives_first gives_others is) one =
+    one_line line (lines ++ l ∷ []) first (others ++ h) (all ++ h) gives_first (line_more breaks lines l others h gives_others one) (ap (λ x. x ++ h) is ∙ append_assoc first others h)
+
+pub ends : (b c : Body) (g : List Given) → Reads b g c → first_fault (judged b.ids g) ≡ None
+ends b c g r = ap (λ x. first_fault (judged b.ids x)) (sym (append-nil g)) ∙ r.faults []
+
+pub all_items : (b c : Body) (g : List Given) → Reads b g c → b.items ≡ [] → c.items ≡ items_in g
+all_items b c g r none = sym (append-nil c.items) ∙ sym (r.items []) ∙ ap (λ x. x ++ items_in (g ++ [])) none ∙ ap items_in (append-nil g)
+
+pub stops_by : (Gives : List Given → Type 0) (b : Body) (g : List Given) (e : TuneError) → Gives g → Stops b g e → StopsBy Gives b e
+stops_by Gives b g errors.Memory so s = tt
+stops_by Gives b g (errors.Fault fault) so s = record { given = g; gives_so = so; stops = s }
+
+-- a token that stops
+pub stops_within : (of : Placed → List Given) (a b : Body) (all rest more : List Placed) (x : Placed) (e : TuneError)
+    → ((h : List Given) → first_fault (judged a.ids (flat_map of all ++ h)) ≡ first_fault (judged b.ids (flat_map of rest ++ h)))
+    → rest ≡ x ∷ more → Stops b (of x) e → Stops a (flat_map of all) e
+stops_within of a b all rest more x errors.Memory faults is s = tt
+stops_within of a b all rest more x (errors.Fault fault) faults is s =
+    ap (λ g. first_fault (judged a.ids g)) (sym (append-nil (flat_map of all))) ∙ faults []
+    ∙ ap (λ r. first_fault (judged b.ids (flat_map of r ++ []))) is
+    ∙ ap (λ g. first_fault (judged b.ids g)) (append-nil (of x ++ flat_map of more))
+    ∙ stays b.ids (of x) (flat_map of more) fault s
+
+-- one line more
+pub lines_more : (breaks : Breaks) (lines : List Line) (i : ℕ) (line : Line) (a b c : Body) → i < length lines → line ≡ get_or lines i line
+    → ReadsSome (BodyGives breaks (take i lines)) a b → ReadsSome (LineGives breaks line) b c → ReadsSome (BodyGives breaks (take (i + 1) lines)) a c
+lines_more breaks lines i line a b c inside here so_far one =
+    let taken : take i lines ++ line ∷ [] ≡ take (i + 1) lines = ap (λ l. take i lines ++ l ∷ []) here ∙ sym (take-suc lines i line inside) ∙ ap (λ n. take n lines) (let e : suc i ≡ i + 1 = omega arith in e) in
+    record {
+      given = so_far.given ++ one.given;
+      gives_so = subst (λ ls. BodyGives breaks ls (so_far.given ++ one.given)) taken (line_more breaks (take i lines) line so_far.given one.given so_far.gives_so one.gives_so);
+      reads = reads_both a b c so_far.given one.given so_far.reads one.reads;
+    }
+
+pub lines_stop : (breaks : Breaks) (lines : List Line) (i : ℕ) (line : Line) (a b : Body) (e : TuneError) → i < length lines → line ≡ get_or lines i line
+    → ReadsSome (BodyGives breaks (take i lines)) a b → StopsBy (LineGives breaks line) b e → LinesStop breaks lines a e
+lines_stop breaks lines i line a b errors.Memory inside here so_far one = tt
+lines_stop breaks lines i line a b (errors.Fault fault) inside here so_far one =
+    let taken : take i lines ++ line ∷ [] ≡ take (i + 1) lines = ap (λ l. take i lines ++ l ∷ []) here ∙ sym (take-suc lines i line inside) ∙ ap (λ n. take n lines) (let e : suc i ≡ i + 1 = omega arith in e) in (
+      i + 1,
+      record {
+        given = so_far.given ++ one.given;
+        gives_so = subst (λ ls. BodyGives breaks ls (so_far.given ++ one.given)) taken (line_more breaks (take i lines) line so_far.given one.given so_far.gives_so one.gives_so);
+        stops = stops_behind a b so_far.given one.given (errors.Fault fault) so_far.reads one.stops;
+      },
+    )
+
+added : (a b : Line) (lines : List Line) → a ≡ b → size_of (a ∷ lines) ≡ length b.text + size_of lines
+added a b lines e = sum_by-cons (λ x. x) (length a.text) (map (λ (line : Line). length line.text) lines) ∙ ap (λ (l : Line). length l.text + size_of lines) e
+
+pub size_behind : (lines : List Line) (i : ℕ) (line : Line) → i < length lines → line ≡ get_or lines i line → size_of (drop i lines) ≤ 2 ^ 30 → (length line.text ≤ 2 ^ 30) × (size_of (drop (i + 1) lines) ≤ 2 ^ 30)
+size_behind lines i line inside here small =
+    let one : i + 1 ≡ suc i = omega arith in
+    let cut : drop i lines ≡ get_or lines i line ∷ drop (suc i) lines = drop-cons lines i line inside in
+    let whole : size_of (drop i lines) ≡ length line.text + size_of (drop (suc i) lines) = ap size_of cut ∙ added (get_or lines i line) line (drop (suc i) lines) (sym here) in
+    let behind : size_of (drop (i + 1) lines) ≡ size_of (drop (suc i) lines) = ap (λ n. size_of (drop n lines)) one in
+    (omega (arith, whole, small), omega (arith, whole, small, behind))
+
+-- the whole body
+pub body_is : (header : Header) (lines : List Line) (b c : Body) → b.ids ≡ declared_ids header → b.items ≡ [] → ReadsSome (BodyGives header.breaks lines) b c → IsBody header lines c.items
+body_is header lines b c ids items all = record {
+  given = all.given;
+  gives_so = all.gives_so;
+  clear = ap (λ x. first_fault (judged x all.given)) (sym ids) ∙ ends b c all.given all.reads;
+  are = all_items b c all.given all.reads items;
+}
+
+pub body_error : (header : Header) (lines : List Line) (b : Body) (e : TuneError) → b.ids ≡ declared_ids header → LinesStop header.breaks lines b e → IsBodyError header lines e
+body_error header lines b errors.Memory ids all = tt
+body_error header lines b (errors.Fault fault) ids all = record {
+  count = all.0;
+  given = all.1.given;
+  gives_so = all.1.gives_so;
+  first = ap (λ x. first_fault (judged x all.1.given)) (sym ids) ∙ all.1.stops;
+}

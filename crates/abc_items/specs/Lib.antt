@@ -1,0 +1,3 @@
+pub mod Body
+pub mod Voices
+pub mod Reading

@@ -1,0 +1,152 @@
+-- The voices of a tune: which there are, in order of first mention; what each begins with; and
+-- which steps of the body are its own.
+use Rattle.std.specs.Prelude.{ℕ, List, [], ◌∷◌, ◌++◌, ◌==◌, ◌&&◌, ◌||◌, not, Bool, true, false, if◌then◌else◌, map, fold, find, length, Option, Some, None, is_some, unwrap_or}
+use Rattle.std.specs.List.{list_any}
+use Rattle.std.specs.Option.{option_map, option_and_then}
+use Rattle.std.specs.Str.{bytes_eq}
+use Rattle.mus_units.specs.declared.pitch.Clef.{Clef}
+use Rattle.mus_units.specs.declared.note.Wish.{Wish}
+use Rattle.mus_units.specs.declared.note.Wish.TheVariants as wishes
+use Rattle.abc_fields.specs.declared.voice.VoiceDef.{VoiceDef}
+use Rattle.abc_fields.specs.declared.header.Header.{Header}
+use Rattle.abc_fields.specs.Last.{last_of}
+use Rattle.abc_fields.specs.Voicing.{with_id}
+use Rattle.abc_steps.specs.declared.step.Step.{Step}
+use Rattle.abc_steps.specs.declared.step.Step.TheVariants as step
+use Rattle.abc_steps.specs.declared.step.Stood.{Stood}
+use Rattle.abc_steps.specs.declared.step.Item.{Item}
+use Rattle.abc_steps.specs.declared.step.Item.TheVariants as item
+use Rattle.abc_items.specs.declared.voices.VoiceStart.{VoiceStart}
+
+-- whether a step makes its voice, and its line one of its voice: spaces, line breaks, line ends
+-- and fields don't
+unfoldable pub claims : Step → Bool
+claims step.Space = false
+claims step.Break = false
+claims step.LineEnd = false
+claims (step.Key text) = false
+claims (step.Meter meter) = false
+claims (step.Unit unit) = false
+claims (step.Clef clef) = false
+claims _ = true
+
+-- the id of the voice that music without any voice makes
+abbrev pub voice_one : List ℕ
+voice_one = 49 ∷ []
+
+-- The ids that are mentioned, each once, the first mentioned first: a voice field mentions its id,
+-- and a step that claims its voice mentions the voice 1 where no other was mentioned.
+abbrev pub ids_by_step : List (List ℕ) → Bool → List (List ℕ)
+ids_by_step [] true = voice_one ∷ []
+ids_by_step [] false = []
+ids_by_step (id ∷ ids) b = id ∷ ids
+
+abbrev pub ids_after : List (List ℕ) → Item → List (List ℕ)
+ids_after ids (item.Step s) = ids_by_step ids (claims s.step)
+ids_after ids (item.LineEnd joined breaks line column) = ids
+ids_after ids (item.Voice def line column) = with_id ids def.id
+ids_after ids (item.Words text line) = ids
+
+abbrev pub declared_ids : Header → List (List ℕ)
+declared_ids header = map (λ (def : VoiceDef). def.id) header.voices
+
+abbrev pub ids_of : Header → List Item → List (List ℕ)
+ids_of header items = fold ids_after (declared_ids header) items
+
+-- where music stands before any voice field goes: to the first declared voice, else to the voice 1
+abbrev pub first_id : List VoiceDef → List ℕ
+first_id [] = voice_one
+first_id (def ∷ defs) = def.id
+
+abbrev pub unnamed_of : Header → List ℕ
+unnamed_of header = first_id header.voices
+
+-- A voice begins with the clef of its declaration; else with that of the voice field that mentions
+-- it first; else, and where music mentions it first, with the header's.
+abbrev pub declared : Header → List ℕ → Option VoiceDef
+declared header id = find (λ (def : VoiceDef). bytes_eq def.id id) header.voices
+
+-- the clef of the first voice field of an id; none where music that stands before any voice field
+-- has mentioned the voice 1. `alone` says that no voice was declared or named so far.
+abbrev pub decides : List ℕ → Bool → Item → Bool
+decides id alone (item.Voice def line column) = bytes_eq def.id id
+decides id alone (item.Step s) = alone && claims s.step && bytes_eq id voice_one
+decides id alone _ = false
+
+abbrev pub clef_in : Item → Option Clef
+clef_in (item.Voice def line column) = def.clef
+clef_in _ = None
+
+abbrev pub still_alone : Bool → Item → Bool
+still_alone alone (item.Voice def line column) = false
+still_alone alone (item.Step s) = alone && not (claims s.step)
+still_alone alone _ = alone
+
+abbrev pub first_clef : List ℕ → Bool → List Item → Option Clef
+first_clef id alone [] = None
+first_clef id alone (i ∷ items) = if decides id alone i then clef_in i else first_clef id (still_alone alone i) items
+
+abbrev pub clef_first : Header → List Item → List ℕ → Option VoiceDef → Option Clef
+clef_first header items id (Some def) = def.clef
+clef_first header items id None = first_clef id (length header.voices == 0) items
+
+abbrev pub start_clef : Header → List Item → List ℕ → Clef
+start_clef header items id = unwrap_or (clef_first header items id (declared header id)) header.clef
+
+-- the last way of stems that a field of the tune names for the voice, else Auto
+abbrev pub wish_if : Bool → Wish → Option Wish
+wish_if true wish = Some wish
+wish_if false wish = None
+
+abbrev pub wish_in : List ℕ → Item → Option Wish
+wish_in id (item.Voice def line column) = wish_if (bytes_eq def.id id && def.asks) def.stem
+wish_in id _ = None
+
+abbrev pub declared_wish : Option VoiceDef → Wish
+declared_wish None = wishes.Auto
+declared_wish (Some def) = if def.asks then def.stem else wishes.Auto
+
+abbrev pub start_stem : Header → List Item → List ℕ → Wish
+start_stem header items id = unwrap_or (last_of (wish_in id) items) (declared_wish (declared header id))
+
+abbrev pub start_of : Header → List Item → List ℕ → VoiceStart
+start_of header items id = record { id = id; clef = start_clef header items id; stem = start_stem header items id }
+
+abbrev pub starts_of : Header → List Item → List VoiceStart
+starts_of header items = map (start_of header items) (ids_of header items)
+
+-- The steps of a voice. A step belongs to the voice of the last voice field before it, else to
+-- `now`. The end of a line is a step of every voice, and a line break of the voice that is current
+-- there; a voice field with a clef is a step of the voice that it names.
+abbrev pub stood : Step → ℕ → ℕ → Stood
+stood s line column = record { step = s; line = line; column = column }
+
+abbrev pub break_if : Bool → ℕ → ℕ → List Stood
+break_if true line column = stood step.Break line column ∷ []
+break_if false line column = []
+
+abbrev pub clef_step : Option Clef → ℕ → ℕ → List Stood
+clef_step None line column = []
+clef_step (Some clef) line column = stood (step.Clef clef) line column ∷ []
+
+abbrev pub one_if : Bool → Stood → List Stood
+one_if true s = s ∷ []
+one_if false s = []
+
+abbrev pub named_step : Bool → Option Clef → ℕ → ℕ → List Stood
+named_step true clef line column = clef_step clef line column
+named_step false clef line column = []
+
+abbrev pub steps_in : List ℕ → List ℕ → Item → List Stood
+steps_in id now (item.Step s) = one_if (bytes_eq id now) s
+steps_in id now (item.LineEnd joined breaks line column) = stood step.LineEnd line column ∷ break_if (breaks && bytes_eq id now) line column
+steps_in id now (item.Voice def line column) = named_step (bytes_eq id def.id) def.clef line column
+steps_in id now (item.Words text line) = []
+
+abbrev pub voice_next : Item → List ℕ → List ℕ
+voice_next (item.Voice def line column) now = def.id
+voice_next _ now = now
+
+abbrev pub steps_from : List ℕ → List ℕ → List Item → List Stood
+steps_from id now [] = []
+steps_from id now (i ∷ items) = steps_in id now i ++ steps_from id (voice_next i now) items

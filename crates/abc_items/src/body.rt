@@ -1,0 +1,248 @@
+ghost use Rattle.std.specs.Prelude.{◌≡◌, ◌≤◌, ◌^◌, ◌∷◌, [], nat_lt, length, flat_map, OnOk, IfOk, IfErr};
+ghost use Rattle.abc_lines.specs.Good.{IsGoodLine, size_of};
+ghost use Rattle.abc_lines.specs.declared.kind.LineKind.{LineKind};
+ghost use Rattle.abc_lines.specs.Kinds.{kind_of};
+ghost use Rattle.abc_fields.specs.Fields.{field_of};
+ghost use Rattle.abc_fields.specs.Voicing.{with_id};
+ghost use Rattle.abc_items.specs.Voices.{declared_ids};
+ghost use Rattle.abc_items.specs.Body.{gives, placed_given, field_given, is_joined, end_item, end_given, item_judged, MusicGives, LineGives, BodyGives, IsBody, IsBodyError};
+ghost use Rattle.abc_items.specs.Reading.{maybe_given, Reads, Stops, ReadsSome, StopsBy, LinesStop, judged_as, past_fault};
+
+use crate::token::{field_item, placed_item};
+use crate::voices::{declared_ids, is_mentioned, mention_item};
+use abc_fields::{Breaks, Header, read_field};
+use abc_lines::{Fault, FaultKind, Line, LineKind, TuneError, kind_of};
+use abc_steps::Item;
+use abc_tokens::{Placed, read_front};
+use mus_units::{Memory, Row, Text};
+use std::alloc::Global;
+
+/// A body as far as it is read: the voices that it has mentioned, and its items.
+#[derive(Debug, Drop)]
+pub struct Body {
+    pub ids: Row<Text>,
+    pub items: Row<Item>,
+}
+
+/// The items of a body, or its first fault: of a field, of a music line, or a
+/// seventeenth voice. `lines` are those of the tune behind its header.
+pub fn read_body(alloc: Global, header: &Header, lines: &[Line]) -> Result<Row<Item>, TuneError>
+    requires { size_of lines.now ≤ 2 ^ 30 }
+    ensures items { IfOk result (λ items. IsBody header.now lines.now items) }
+    ensures fault { IfErr result (λ e. IsBodyError header.now lines.now e) }
+{
+    let mut body = Body {
+        ids: declared_ids(alloc, header)?,
+        items: Row::new(alloc),
+    };
+    match read_lines(alloc, header.breaks, lines, &mut body) {
+        Ok(()) => Ok(body.items),
+        Err(e) => Err(e),
+    }
+}
+
+fn read_lines(
+    alloc: Global,
+    breaks: Breaks,
+    lines: &[Line],
+    body: &mut Body,
+) -> Result<(), TuneError>
+    requires { size_of lines.now ≤ 2 ^ 30 }
+    ensures reads { OnOk result (ReadsSome (BodyGives breaks lines.now) body.old body.new) }
+    ensures stops { IfErr result (λ e. LinesStop breaks lines.now body.old e) }
+{
+    for line in lines {
+        match read_line(alloc, breaks, line, body) {
+            Ok(()) => {}
+            Err(e) => return Err(e),
+        }
+    }
+    Ok(())
+}
+
+/// Adds what a line gives, up to its first fault.
+fn read_line(alloc: Global, breaks: Breaks, line: &Line, body: &mut Body) -> Result<(), TuneError>
+    requires { IsGoodLine line.now }
+    ensures reads { OnOk result (ReadsSome (LineGives breaks line.now) body.old body.new) }
+    ensures stops { IfErr result (λ e. StopsBy (LineGives breaks line.now) body.old e) }
+{
+    match kind_of(line) {
+        LineKind::Music => read_music_line(alloc, breaks, line, body),
+        LineKind::Directive => read_field_line(alloc, line, body),
+        LineKind::Field { letter: _ } => read_field_line(alloc, line, body),
+    }
+}
+
+/// Adds what a field or a directive says.
+fn read_field_line(alloc: Global, line: &Line, body: &mut Body) -> Result<(), TuneError>
+    ensures reads { OnOk result (Reads body.old (field_given (field_of line.now.text) line.now.number 1) body.new) }
+    ensures stops { IfErr result (λ e. Stops body.old (field_given (field_of line.now.text) line.now.number 1) e) }
+{
+    match read_field(alloc, line) {
+        Ok(field) => put_found(alloc, body, field_item(field, line.number, 1)),
+        Err(e) => Err(e),
+    }
+}
+
+/// Adds the tokens of a music line up to its first fault, and its end.
+fn read_music_line(
+    alloc: Global,
+    breaks: Breaks,
+    line: &Line,
+    body: &mut Body,
+) -> Result<(), TuneError>
+    requires { IsGoodLine line.now }
+    ensures reads { OnOk result (ReadsSome (MusicGives breaks line.now) body.old body.new) }
+    ensures stops { IfErr result (λ e. StopsBy (MusicGives breaks line.now) body.old e) }
+{
+    let front = read_front(alloc, line, breaks.bang)?;
+    match put_tokens(alloc, breaks, line, front.tokens, body) {
+        Ok(()) => match put_end(alloc, breaks, line, front.fault, body) {
+            Ok(()) => Ok(()),
+            Err(e) => Err(e),
+        },
+        Err(e) => Err(e),
+    }
+}
+
+fn put_tokens(
+    alloc: Global,
+    breaks: Breaks,
+    line: &Line,
+    tokens: Row<Placed>,
+    body: &mut Body,
+) -> Result<(), TuneError>
+    ensures reads { OnOk result (Reads body.old (flat_map (placed_given breaks line.now) tokens) body.new) }
+    ensures stops { IfErr result (λ e. Stops body.old (flat_map (placed_given breaks line.now) tokens) e) }
+{
+    for placed in tokens.items {
+        match put_token(alloc, breaks, line, placed, body) {
+            Ok(()) => {}
+            Err(e) => return Err(e),
+        }
+    }
+    Ok(())
+}
+
+fn put_token(
+    alloc: Global,
+    breaks: Breaks,
+    line: &Line,
+    placed: Placed,
+    body: &mut Body,
+) -> Result<(), TuneError>
+    ensures reads { OnOk result (Reads body.old (placed_given breaks line.now placed) body.new) }
+    ensures stops { IfErr result (λ e. Stops body.old (placed_given breaks line.now placed) e) }
+{
+    match placed_item(alloc, breaks, line, placed) {
+        Ok(found) => put_found(alloc, body, found),
+        Err(e) => Err(e),
+    }
+}
+
+/// Whether a music line ends in a backslash.
+fn is_joined(text: &[u8]) -> bool
+    ensures { result ≡ is_joined text.now }
+{
+    text.ends_with(b"\\")
+}
+
+fn end_item(breaks: Breaks, line: &Line) -> Item
+    requires { IsGoodLine line.now }
+    ensures { result ≡ end_item breaks line.now }
+{
+    let joined = is_joined(line.text.as_slice());
+    Item::LineEnd {
+        joined,
+        breaks: breaks.eol && !joined,
+        line: line.number,
+        column: (line.text.len() + 1) as u32,
+    }
+}
+
+/// Adds the end of a music line, or answers its fault.
+fn put_end(
+    alloc: Global,
+    breaks: Breaks,
+    line: &Line,
+    fault: Option<Fault>,
+    body: &mut Body,
+) -> Result<(), TuneError>
+    requires { IsGoodLine line.now }
+    ensures reads { OnOk result (Reads body.old (end_given breaks line.now fault) body.new) }
+    ensures stops { IfErr result (λ e. Stops body.old (end_given breaks line.now fault) e) }
+{
+    match fault {
+        Some(fault) => Err(TuneError::Fault(fault)),
+        None => put_item(alloc, body, end_item(breaks, line)),
+    }
+}
+
+fn put_found(alloc: Global, body: &mut Body, found: Option<Item>) -> Result<(), TuneError>
+    ensures reads { OnOk result (Reads body.old (maybe_given found) body.new) }
+    ensures stops { IfErr result (λ e. Stops body.old (maybe_given found) e) }
+{
+    match found {
+        Some(item) => put_item(alloc, body, item),
+        None => Ok(()),
+    }
+}
+
+/// Adds an item, or answers that it mentions a seventeenth voice.
+fn put_item(alloc: Global, body: &mut Body, item: Item) -> Result<(), TuneError>
+    ensures reads { OnOk result (Reads body.old (gives item ∷ []) body.new) }
+    ensures stops { IfErr result (λ e. Stops body.old (gives item ∷ []) e) }
+{
+    match voice_fault(body.ids.as_slice(), &item) {
+        Some(fault) => Err(TuneError::Fault(fault)),
+        None => {
+            mention_item(alloc, &mut body.ids, &item)?;
+            body.items.push(item)?;
+            Ok(())
+        }
+    }
+}
+
+/// Whether a voice is past the sixteenth.
+fn is_past(ids: &[Text], id: &[u8]) -> bool
+    ensures { result ≡ nat_lt 16 (length (with_id ids.now id.now)) }
+{
+    if is_mentioned(ids, id) {
+        return ids.len() > 16;
+    }
+    ids.len() >= 16
+}
+
+/// The fault of a voice field that mentions a seventeenth voice.
+fn voice_fault(ids: &[Text], item: &Item) -> Option<Fault>
+    ensures { judged_as result item.now ≡ item_judged ids.now item.now }
+{
+    match item {
+        Item::Step(_) => None,
+        Item::LineEnd {
+            joined: _,
+            breaks: _,
+            line: _,
+            column: _,
+        } => None,
+        Item::Words { text: _, line: _ } => None,
+        Item::Voice { def, line, column } => past_fault(
+            is_past(ids, def.id.as_slice()),
+            *line,
+            *column,
+        ),
+    }
+}
+
+fn past_fault(past: bool, line: u32, column: u32) -> Option<Fault>
+    ensures { result ≡ past_fault past line column }
+{
+    if past {
+        return Some(Fault {
+            kind: FaultKind::TooManyVoices,
+            line,
+            column,
+        });
+    }
+    None
+}

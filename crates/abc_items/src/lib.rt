@@ -1,0 +1,16 @@
+//! The body of a tune as items: steps, ends of music lines, voices and words, or
+//! the first fault of the body. The voices of a tune in order of first mention,
+//! and the steps that each of them has.
+#![tactic(auto)]
+
+pub mod body;
+mod copies;
+mod token;
+pub mod voices;
+
+pub use abc_steps::{Item, Sound, Step, Stood};
+pub use body::read_body;
+pub use voices::{VoiceStart, steps_of, unnamed_of, voices_of};
+
+#[cfg(test)]
+mod tests;

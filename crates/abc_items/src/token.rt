@@ -1,0 +1,211 @@
+//! What a field and a token of a music line give to the body.
+
+ghost use Rattle.std.specs.Prelude.{◌≡◌, true, ◌*◌, ◌-◌, ◌∷◌, [], map, get_or, IfOk, IfErr, Ok, Err};
+ghost use Rattle.abc_fields.specs.Fields.{named_field};
+ghost use Rattle.abc_items.specs.Body.{head_of, first_len, sound, is_on, cut_given, step_at, field_item, field_given, token_given, placed_given};
+ghost use Rattle.abc_items.specs.Reading.{maybe_given, IsGivenError};
+
+use abc_fields::{Breaks, Field, FieldError, read_named};
+use abc_lines::{Fault, Line, TuneError};
+use abc_steps::{Item, Sound, Step, Stood};
+use abc_tokens::{Len, Placed, Token};
+use mus_units::{Deco, Head, Memory, Row};
+use std::alloc::Global;
+
+fn stood(step: Step, line: u32, column: u32) -> Item
+    ensures { result ≡ Item.Step (record { step = step; line = line; column = column }) }
+{
+    Item::Step(Stood { step, line, column })
+}
+
+/// What a field gives to a body: keys, meters and unit lengths are steps, a voice
+/// becomes current, words are kept, and every other field says nothing there.
+pub(crate) fn field_item(field: Field, line: u32, column: u32) -> Option<Item>
+    ensures { maybe_given result ≡ field_item field line column }
+{
+    match field {
+        Field::Key(text) => Some(stood(Step::Key(text), line, column)),
+        Field::Meter(meter) => Some(stood(Step::Meter(meter), line, column)),
+        Field::Unit(unit) => Some(stood(Step::Unit(unit), line, column)),
+        Field::Voice(def) => Some(Item::Voice { def, line, column }),
+        Field::Words(text) => Some(Item::Words { text, line }),
+        _ => None,
+    }
+}
+
+/// What a field within a music line gives, or its fault.
+fn inline_item(
+    alloc: Global,
+    letter: u8,
+    text: &[u8],
+    line: u32,
+    column: u32,
+) -> Result<Option<Item>, TuneError>
+    ensures item { IfOk result (λ found. maybe_given found ≡ field_given (named_field letter text.now) line column) }
+    ensures error { IfErr result (λ e. IsGivenError (field_given (named_field letter text.now) line column) e) }
+{
+    match read_named(alloc, letter, text) {
+        Ok(field) => Ok(field_item(field, line, column)),
+        Err(FieldError::Fault(kind)) => Err(TuneError::Fault(Fault { kind, line, column })),
+        Err(FieldError::Memory) => Err(TuneError::Memory),
+    }
+}
+
+/// The heads of a chord, without their lengths.
+fn heads_of(alloc: Global, heads: &[(Head, Len)]) -> Result<Row<Head>, Memory>
+    ensures { IfOk result (λ found. found ≡ map head_of heads.now) }
+{
+    let mut found = Row::new(alloc);
+    for head in heads {
+        found.push(head.0)?;
+    }
+    Ok(found)
+}
+
+/// The length of the first head of a chord.
+fn first_len(heads: &[(Head, Len)]) -> Len
+    ensures { result ≡ first_len heads.now }
+{
+    match heads.split_first() {
+        Some((head, _)) => head.1,
+        None => Len { num: 1, den: 1 },
+    }
+}
+
+fn product(one: u32, other: u32) -> u64
+    ensures { result ≡ one * other }
+{
+    u64::from(one) * u64::from(other)
+}
+
+/// A chord has the length of its first note, times its own.
+fn chord(alloc: Global, heads: &[(Head, Len)], decos: Row<Deco>, len: Len) -> Result<Sound, Memory>
+    ensures { IfOk result (λ found. found ≡ record { heads = map head_of heads.now; seen = true; decos = decos; num = (first_len heads.now).num * len.num; den = (first_len heads.now).den * len.den }) }
+{
+    let first = first_len(heads);
+    Ok(Sound {
+        heads: heads_of(alloc, heads)?,
+        seen: true,
+        decos,
+        num: product(first.num, len.num),
+        den: product(first.den, len.den),
+    })
+}
+
+fn note(alloc: Global, head: Head, len: Len) -> Result<Sound, Memory>
+    ensures { IfOk result (λ found. found ≡ sound (head ∷ []) true len.num len.den) }
+{
+    Ok(Sound {
+        heads: Row::from_slice(alloc, &[head])?,
+        seen: true,
+        decos: Row::new(alloc),
+        num: u64::from(len.num),
+        den: u64::from(len.den),
+    })
+}
+
+fn rest(alloc: Global, seen: bool, len: Len) -> Sound
+    ensures { result ≡ sound [] seen len.num len.den }
+{
+    Sound {
+        heads: Row::new(alloc),
+        seen,
+        decos: Row::new(alloc),
+        num: u64::from(len.num),
+        den: u64::from(len.den),
+    }
+}
+
+/// The byte at a column, counted from 1.
+fn byte_at(text: &[u8], column: u32) -> u8
+    ensures { result ≡ get_or text.now (column - 1) 0 }
+{
+    let at = column.saturating_sub(1) as usize;
+    match text.get(at) {
+        Some(byte) => *byte,
+        None => 0,
+    }
+}
+
+/// Whether the line break that a byte stands for is on.
+fn is_on(breaks: Breaks, byte: u8) -> bool
+    ensures { result ≡ is_on breaks byte }
+{
+    if byte == b'$' {
+        breaks.dollar
+    } else {
+        breaks.bang
+    }
+}
+
+fn cut(on: bool, line: u32, column: u32) -> Option<Item>
+    ensures { maybe_given result ≡ cut_given on line column }
+{
+    if on {
+        Some(stood(Step::Break, line, column))
+    } else {
+        None
+    }
+}
+
+/// The step of a token that is one, else what an inline field or a line break gives.
+#[tactic(auto, unfolding(crate::specs::Body::token_given))]
+fn token_item(
+    alloc: Global,
+    breaks: Breaks,
+    line: &Line,
+    column: u32,
+    token: Token,
+) -> Result<Option<Item>, TuneError>
+    ensures item { IfOk result (λ found. maybe_given found ≡ token_given breaks line.now column token) }
+    ensures error { IfErr result (λ e. IsGivenError (token_given breaks line.now column token) e) }
+{
+    let step = match token {
+        Token::Note { head, len } => Step::Sound(note(alloc, head, len)?),
+        Token::Rest { seen, len } => Step::Sound(rest(alloc, seen, len)),
+        Token::Measures { seen, count } => Step::Measures { seen, count },
+        Token::Chord { heads, decos, len } => Step::Sound(chord(
+            alloc,
+            heads.as_slice(),
+            decos,
+            len,
+        )?),
+        Token::Grace { slash, body } => Step::Grace { slash, body },
+        Token::Tuplet { p, q, r } => Step::Tuplet { p, q, r },
+        Token::SlurOn => Step::SlurOn,
+        Token::SlurOff => Step::SlurOff,
+        Token::Tie => Step::Tie,
+        Token::Broken { right, dots } => Step::Broken { right, dots },
+        Token::Bar(bar) => Step::Bar(bar),
+        Token::Ending(text) => Step::Ending(text),
+        Token::Deco(deco) => Step::Deco(deco),
+        Token::Says(text) => Step::Says(text),
+        Token::Inline { letter, text } => return inline_item(
+            alloc,
+            letter,
+            text.as_slice(),
+            line.number,
+            column,
+        ),
+        Token::Cut => return Ok(cut(
+            is_on(breaks, byte_at(line.text.as_slice(), column)),
+            line.number,
+            column,
+        )),
+        Token::Space => Step::Space,
+    };
+    Ok(Some(stood(step, line.number, column)))
+}
+
+/// What a token of a music line gives, or the fault of the field within it.
+pub(crate) fn placed_item(
+    alloc: Global,
+    breaks: Breaks,
+    line: &Line,
+    placed: Placed,
+) -> Result<Option<Item>, TuneError>
+    ensures item { IfOk result (λ found. maybe_given found ≡ placed_given breaks line.now placed) }
+    ensures error { IfErr result (λ e. IsGivenError (placed_given breaks line.now placed) e) }
+{
+    token_item(alloc, breaks, line, placed.column, placed.token)
+}

@@ -1,0 +1,374 @@
+ghost use Rattle.std.specs.Prelude.{◌≡◌, ◌++◌, ◌∷◌, ◌&&◌, ◌||◌, not, ◌==◌, IfOk, OnOk, map, find, fold, length, unwrap_or, true, false};
+ghost use Rattle.std.specs.List.{list_any};
+ghost use Rattle.std.specs.Option.{option_copied};
+ghost use Rattle.std.specs.Str.{bytes_eq};
+ghost use Rattle.abc_fields.specs.Last.{last_of};
+ghost use Rattle.abc_fields.specs.Voicing.{with_id};
+ghost use Rattle.abc_items.specs.Voices.{claims, voice_one, ids_by_step, ids_after, declared_ids, ids_of, unnamed_of, declared, decides, clef_in, still_alone, first_clef, clef_first, start_clef, wish_in, wish_if, declared_wish, start_stem, start_of, starts_of, stood, break_if, clef_step, one_if, named_step, steps_in, voice_next, steps_from};
+
+use crate::copies::{copy_stood, copy_text};
+use abc_fields::{Header, VoiceDef};
+use abc_steps::{Item, Step, Stood};
+use mus_units::{Clef, Memory, Row, Text, Wish};
+use std::alloc::Global;
+
+/// What a voice begins with: its id, its first clef, and the last way of stems that
+/// the tune names for it. Its key, meter and unit length are the header's.
+#[derive(Debug, Drop)]
+pub struct VoiceStart {
+    pub id: Text,
+    pub clef: Clef,
+    pub stem: Wish,
+}
+
+/// Whether a step makes its voice, and its line one of its voice: spaces, line
+/// breaks, line ends and fields don't.
+#[tactic(auto, unfolding(crate::specs::Voices::claims))]
+pub fn claims(step: &Step) -> bool
+    ensures { result ≡ claims step.now }
+{
+    match step {
+        Step::Space => false,
+        Step::Break => false,
+        Step::LineEnd => false,
+        Step::Key(_) => false,
+        Step::Meter(_) => false,
+        Step::Unit(_) => false,
+        Step::Clef(_) => false,
+        _ => true,
+    }
+}
+
+pub(crate) fn is_same(text: &[u8], other: &[u8]) -> bool
+    ensures { result ≡ bytes_eq text.now other.now }
+{
+    text == other
+}
+
+pub(crate) fn is_mentioned(ids: &[Text], id: &[u8]) -> bool
+    ensures { result ≡ list_any (bytes_eq id.now) ids.now }
+{
+    ids.iter().any(|other| is_same(id, other.as_slice()))
+}
+
+/// Adds an id at the end, where it isn't there.
+pub(crate) fn mention(alloc: Global, ids: &mut Row<Text>, id: &[u8]) -> Result<(), Memory>
+    ensures { OnOk result (ids.new ≡ with_id ids.old id.now) }
+{
+    if is_mentioned(ids.as_slice(), id) {
+        return Ok(());
+    }
+    ids.push(Text::from_slice(alloc, id)?)
+}
+
+/// The ids that the header declares, in order.
+pub(crate) fn declared_ids(alloc: Global, header: &Header) -> Result<Row<Text>, Memory>
+    ensures { IfOk result (λ ids. ids ≡ declared_ids header.now) }
+{
+    ids_in(alloc, header.voices.as_slice())
+}
+
+fn ids_in(alloc: Global, voices: &[VoiceDef]) -> Result<Row<Text>, Memory>
+    ensures { IfOk result (λ ids. ids ≡ map (λ def. def.id) voices.now) }
+{
+    let mut ids = Row::new(alloc);
+    for def in voices {
+        ids.push(copy_text(alloc, &def.id)?)?;
+    }
+    Ok(ids)
+}
+
+/// Adds the id that an item mentions.
+pub(crate) fn mention_item(alloc: Global, ids: &mut Row<Text>, item: &Item) -> Result<(), Memory>
+    ensures { OnOk result (ids.new ≡ ids_after ids.old item.now) }
+{
+    match item {
+        Item::Step(stood) => mention_step(alloc, ids, claims(&stood.step)),
+        Item::Voice {
+            def,
+            line: _,
+            column: _,
+        } => mention(alloc, ids, def.id.as_slice()),
+        _ => Ok(()),
+    }
+}
+
+fn mention_step(alloc: Global, ids: &mut Row<Text>, claims: bool) -> Result<(), Memory>
+    ensures { OnOk result (ids.new ≡ ids_by_step ids.old claims) }
+{
+    if claims && ids.len() == 0 {
+        return ids.push(Text::from_slice(alloc, b"1")?);
+    }
+    Ok(())
+}
+
+/// The ids of a tune's voices, in order of first mention.
+fn ids_of(alloc: Global, header: &Header, items: &[Item]) -> Result<Row<Text>, Memory>
+    ensures { IfOk result (λ ids. ids ≡ ids_of header.now items.now) }
+{
+    let mut ids = declared_ids(alloc, header)?;
+    for item in items {
+        mention_item(alloc, &mut ids, item)?;
+    }
+    Ok(ids)
+}
+
+/// The voice to which music goes that stands before any voice field of the body.
+pub fn unnamed_of(header: &Header) -> &[u8]
+    ensures { result.now ≡ unnamed_of header.now }
+{
+    match header.voices.as_slice().split_first() {
+        Some((def, _)) => def.id.as_slice(),
+        None => b"1",
+    }
+}
+
+fn declared<'a>(header: &'a Header, id: &[u8]) -> Option<&'a VoiceDef>
+    ensures { option_copied result ≡ declared header.now id.now }
+{
+    header
+        .voices
+        .as_slice()
+        .iter()
+        .find(|def| is_same(def.id.as_slice(), id))
+}
+
+/// Whether the first clef of a voice is decided at an item.
+fn decides(id: &[u8], alone: bool, item: &Item) -> bool
+    ensures { result ≡ decides id.now alone item.now }
+{
+    match item {
+        Item::Voice {
+            def,
+            line: _,
+            column: _,
+        } => is_same(def.id.as_slice(), id),
+        Item::Step(stood) => alone && claims(&stood.step) && is_same(id, b"1"),
+        _ => false,
+    }
+}
+
+fn clef_in(item: &Item) -> Option<Clef>
+    ensures { result ≡ clef_in item.now }
+{
+    match item {
+        Item::Voice {
+            def,
+            line: _,
+            column: _,
+        } => def.clef,
+        _ => None,
+    }
+}
+
+fn still_alone(alone: bool, item: &Item) -> bool
+    ensures { result ≡ still_alone alone item.now }
+{
+    match item {
+        Item::Voice {
+            def: _,
+            line: _,
+            column: _,
+        } => false,
+        Item::Step(stood) => alone && !claims(&stood.step),
+        _ => alone,
+    }
+}
+
+/// The clef of the first voice field of an id, unless music stands alone before it.
+fn first_clef(id: &[u8], undeclared: bool, items: &[Item]) -> Option<Clef>
+    ensures { result ≡ first_clef id.now undeclared items.now }
+{
+    let mut alone = undeclared;
+    for item in items {
+        if decides(id, alone, item) {
+            return clef_in(item);
+        }
+        alone = still_alone(alone, item);
+    }
+    None
+}
+
+fn clef_first(header: &Header, items: &[Item], id: &[u8]) -> Option<Clef>
+    ensures { result ≡ clef_first header.now items.now id.now (declared header.now id.now) }
+{
+    match declared(header, id) {
+        Some(def) => def.clef,
+        None => first_clef(id, header.voices.len() == 0, items),
+    }
+}
+
+fn wish_in(id: &[u8], item: &Item) -> Option<Wish>
+    ensures { result ≡ wish_in id.now item.now }
+{
+    match item {
+        Item::Voice {
+            def,
+            line: _,
+            column: _,
+        } if is_same(def.id.as_slice(), id) && def.asks => Some(def.stem),
+        _ => None,
+    }
+}
+
+fn last_wish(id: &[u8], items: &[Item]) -> Option<Wish>
+    ensures { result ≡ last_of (wish_in id.now) items.now }
+{
+    let mut last = None;
+    for item in items {
+        last = wish_in(id, item).or(last);
+    }
+    last
+}
+
+fn declared_wish(header: &Header, id: &[u8]) -> Wish
+    ensures { result ≡ declared_wish (declared header.now id.now) }
+{
+    match declared(header, id) {
+        Some(def) if def.asks => def.stem,
+        _ => Wish::Auto,
+    }
+}
+
+fn start_of(alloc: Global, header: &Header, items: &[Item], id: &Text) -> Result<VoiceStart, Memory>
+    ensures { IfOk result (λ start. start ≡ start_of header.now items.now id.now) }
+{
+    let clef = clef_first(header, items, id.as_slice()).unwrap_or(header.clef);
+    let stem = last_wish(id.as_slice(), items).unwrap_or(declared_wish(header, id.as_slice()));
+    Ok(VoiceStart {
+        id: copy_text(alloc, id)?,
+        clef,
+        stem,
+    })
+}
+
+/// The voices of a tune in order of first mention, with what each begins with.
+/// A voice begins with the clef of its declaration, else with that of the voice
+/// field that mentions it first, else with the header's.
+pub fn voices_of(alloc: Global, header: &Header, items: &[Item]) -> Result<Row<VoiceStart>, Memory>
+    ensures { IfOk result (λ starts. starts ≡ starts_of header.now items.now) }
+{
+    let ids = ids_of(alloc, header, items)?;
+    starts_in(alloc, header, items, ids.as_slice())
+}
+
+fn starts_in(
+    alloc: Global,
+    header: &Header,
+    items: &[Item],
+    ids: &[Text],
+) -> Result<Row<VoiceStart>, Memory>
+    ensures { IfOk result (λ starts. starts ≡ map (start_of header.now items.now) ids.now) }
+{
+    let mut starts = Row::new(alloc);
+    for id in ids {
+        starts.push(start_of(alloc, header, items, id)?)?;
+    }
+    Ok(starts)
+}
+
+/// The steps of a voice, `unnamed` being the voice of what stands before any voice
+/// field. The end of a line is a step of every voice.
+pub fn steps_of(
+    alloc: Global,
+    id: &[u8],
+    unnamed: &[u8],
+    items: &[Item],
+) -> Result<Row<Stood>, Memory>
+    ensures { IfOk result (λ steps. steps ≡ steps_from id.now unnamed.now items.now) }
+{
+    let mut steps = Row::new(alloc);
+    let mut now = unnamed;
+    for item in items {
+        put_steps(alloc, &mut steps, id, now, item)?;
+        now = voice_next(item, now);
+    }
+    Ok(steps)
+}
+
+fn voice_next<'a>(item: &'a Item, now: &'a [u8]) -> &'a [u8]
+    ensures { result.now ≡ voice_next item.now now.now }
+{
+    match item {
+        Item::Voice {
+            def,
+            line: _,
+            column: _,
+        } => def.id.as_slice(),
+        _ => now,
+    }
+}
+
+fn put_steps(
+    alloc: Global,
+    steps: &mut Row<Stood>,
+    id: &[u8],
+    now: &[u8],
+    item: &Item,
+) -> Result<(), Memory>
+    ensures { OnOk result (steps.new ≡ steps.old ++ steps_in id.now now.now item.now) }
+{
+    match item {
+        Item::Step(stood) => put_own(alloc, steps, is_same(id, now), stood),
+        Item::LineEnd {
+            joined: _,
+            breaks,
+            line,
+            column,
+        } => put_end(steps, *breaks && is_same(id, now), *line, *column),
+        Item::Voice { def, line, column } => put_named(
+            steps,
+            is_same(id, def.id.as_slice()),
+            def.clef,
+            *line,
+            *column,
+        ),
+        Item::Words { text: _, line: _ } => Ok(()),
+    }
+}
+
+fn put_own(alloc: Global, steps: &mut Row<Stood>, own: bool, stood: &Stood) -> Result<(), Memory>
+    ensures { OnOk result (steps.new ≡ steps.old ++ one_if own stood.now) }
+{
+    if own {
+        return steps.push(copy_stood(alloc, stood)?);
+    }
+    Ok(())
+}
+
+fn put_end(steps: &mut Row<Stood>, breaks: bool, line: u32, column: u32) -> Result<(), Memory>
+    ensures { OnOk result (steps.new ≡ steps.old ++ stood Step.LineEnd line column ∷ break_if breaks line column) }
+{
+    steps.push(Stood {
+        step: Step::LineEnd,
+        line,
+        column,
+    })?;
+    if breaks {
+        return steps.push(Stood {
+            step: Step::Break,
+            line,
+            column,
+        });
+    }
+    Ok(())
+}
+
+fn put_named(
+    steps: &mut Row<Stood>,
+    named: bool,
+    clef: Option<Clef>,
+    line: u32,
+    column: u32,
+) -> Result<(), Memory>
+    ensures { OnOk result (steps.new ≡ steps.old ++ named_step named clef line column) }
+{
+    match clef {
+        Some(clef) if named => steps.push(Stood {
+            step: Step::Clef(clef),
+            line,
+            column,
+        }),
+        _ => Ok(()),
+    }
+}

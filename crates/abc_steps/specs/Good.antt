@@ -1,0 +1,30 @@
+-- Good steps: the values of fields are good, and a note, a chord or a rest has a length.
+use Rattle.std.specs.Prelude.{⊤, ◌≤◌, ◌^◌}
+use Rattle.mus_units.specs.Good.{IsGoodKey, IsGoodMeter, IsGoodUnit}
+use Rattle.abc_fields.specs.Keys.{IsGoodKeyText}
+use Rattle.abc_steps.specs.declared.step.Sound.{Sound}
+use Rattle.abc_steps.specs.declared.step.Step.{Step}
+use Rattle.abc_steps.specs.declared.step.Step.TheVariants as step
+use Rattle.abc_steps.specs.declared.step.Stood.{Stood}
+use Rattle.abc_steps.specs.declared.force.InForce.{InForce}
+
+pub record IsGoodSound (s : Sound) : Type 0 where
+  pub some : 1 ≤ s.num
+  pub num_high : s.num ≤ 2 ^ 40
+  pub above : 1 ≤ s.den
+  pub den_high : s.den ≤ 2 ^ 40
+
+abbrev pub IsGoodStep : Step → Type 0
+IsGoodStep (step.Sound s) = IsGoodSound s
+IsGoodStep (step.Key text) = IsGoodKeyText text
+IsGoodStep (step.Meter meter) = IsGoodMeter meter
+IsGoodStep (step.Unit unit) = IsGoodUnit unit
+IsGoodStep _ = ⊤
+
+abbrev pub IsGoodStood : Stood → Type 0
+IsGoodStood s = IsGoodStep s.step
+
+pub record IsGoodForce (now : InForce) : Type 0 where
+  pub key : IsGoodKey now.key
+  pub meter : IsGoodMeter now.meter
+  pub unit : IsGoodUnit now.unit

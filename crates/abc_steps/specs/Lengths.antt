@@ -1,0 +1,57 @@
+-- The written length of a note, a chord or a rest: its length times the unit and its broken factors.
+use Rattle.std.specs.Prelude.{ℕ, ◌*◌, ◌≤◌, ◌^◌, nat_le, true, false, if◌then◌else◌, Option, Some, None}
+use Rattle.mus_units.specs.declared.value.Frac.{Frac}
+use Rattle.abc_steps.specs.declared.step.Sound.{Sound}
+use Rattle.abc_steps.specs.declared.step.Stood.{Stood}
+use Rattle.abc_steps.specs.declared.step.Step.{Step}
+use Rattle.abc_steps.specs.declared.step.Step.TheVariants as step
+use Rattle.abc_steps.specs.Looks.{Steps, broken_before, broken_behind}
+
+abbrev pub once : Frac
+once = record { num = 1; den = 1 }
+
+-- 3/2, 7/4 or 15/8 times as long
+abbrev pub long_side : ℕ → Frac
+long_side dots = if nat_le dots 1 then record { num = 3; den = 2 } else (if nat_le dots 2 then record { num = 7; den = 4 } else record { num = 15; den = 8 })
+
+-- 1/2, 1/4 or 1/8 times as long
+abbrev pub short_side : ℕ → Frac
+short_side dots = if nat_le dots 1 then record { num = 1; den = 2 } else (if nat_le dots 2 then record { num = 1; den = 4 } else record { num = 1; den = 8 })
+
+-- behind a side that is lengthened the right one is shortened, and the other way round
+unfoldable pub left_side : Step → Frac
+left_side (step.Broken true dots) = long_side dots
+left_side (step.Broken false dots) = short_side dots
+left_side _ = once
+
+unfoldable pub right_side : Step → Frac
+right_side (step.Broken true dots) = short_side dots
+right_side (step.Broken false dots) = long_side dots
+right_side _ = once
+
+unfoldable pub left_factor : Option Stood → Frac
+left_factor (Some s) = left_side s.step
+left_factor None = once
+
+unfoldable pub right_factor : Option Stood → Frac
+right_factor (Some s) = right_side s.step
+right_factor None = once
+
+unfoldable pub written_length : Frac → Sound → Steps → Steps → Frac
+written_length unit s before behind =
+    let left = left_factor (broken_behind behind) in
+    let right = right_factor (broken_before before) in
+    record { num = s.num * unit.num * (left.num * right.num); den = s.den * unit.den * (left.den * right.den) }
+
+-- Bounds: those of a factor, and those of a written length.
+pub record IsFactor (f : Frac) : Type 0 where
+  pub some : 1 ≤ f.num
+  pub num_high : f.num ≤ 15
+  pub above : 1 ≤ f.den
+  pub den_high : f.den ≤ 8
+
+pub record IsLength (f : Frac) : Type 0 where
+  pub some : 1 ≤ f.num
+  pub num_high : f.num ≤ 2 ^ 56
+  pub above : 1 ≤ f.den
+  pub den_high : f.den ≤ 2 ^ 56

@@ -1,0 +1,99 @@
+ghost use Rattle.std.specs.Prelude.{◌≡◌, ◌≤◌, ◌^◌, reverse};
+ghost use Rattle.std.specs.Option.{option_copied};
+ghost use Rattle.mus_units.specs.Good.{IsGoodUnit};
+ghost use Rattle.abc_steps.specs.Good.{IsGoodSound};
+ghost use Rattle.abc_steps.specs.Lengths.{long_side, short_side, left_side, right_side, left_factor, right_factor, written_length, IsFactor, IsLength};
+
+use crate::looks::{broken_before, broken_behind};
+use crate::step::{Sound, Step, Stood};
+use mus_units::Frac;
+
+/// How much longer the long side of a broken rhythm becomes.
+fn long_side(dots: u8) -> Frac
+    ensures value { result ≡ long_side dots }
+    ensures factor { IsFactor result }
+{
+    if dots <= 1 {
+        Frac { num: 3, den: 2 }
+    } else if dots <= 2 {
+        Frac { num: 7, den: 4 }
+    } else {
+        Frac { num: 15, den: 8 }
+    }
+}
+
+/// How much shorter the other side becomes.
+fn short_side(dots: u8) -> Frac
+    ensures value { result ≡ short_side dots }
+    ensures factor { IsFactor result }
+{
+    if dots <= 1 {
+        Frac { num: 1, den: 2 }
+    } else if dots <= 2 {
+        Frac { num: 1, den: 4 }
+    } else {
+        Frac { num: 1, den: 8 }
+    }
+}
+
+#[tactic(auto, unfolding(crate::specs::Lengths::left_side))]
+fn left_side(s: &Step) -> Frac
+    ensures value { result ≡ left_side s.now }
+    ensures factor { IsFactor result }
+{
+    match s {
+        Step::Broken { right: true, dots } => long_side(*dots),
+        Step::Broken { right: false, dots } => short_side(*dots),
+        _ => Frac { num: 1, den: 1 },
+    }
+}
+
+#[tactic(auto, unfolding(crate::specs::Lengths::right_side))]
+fn right_side(s: &Step) -> Frac
+    ensures value { result ≡ right_side s.now }
+    ensures factor { IsFactor result }
+{
+    match s {
+        Step::Broken { right: true, dots } => short_side(*dots),
+        Step::Broken { right: false, dots } => long_side(*dots),
+        _ => Frac { num: 1, den: 1 },
+    }
+}
+
+#[tactic(auto, unfolding(crate::specs::Lengths::left_factor))]
+fn left_factor(broken: Option<&Stood>) -> Frac
+    ensures value { result ≡ left_factor (option_copied broken.entry) }
+    ensures factor { IsFactor result }
+{
+    match broken {
+        Some(s) => left_side(&s.step),
+        None => Frac { num: 1, den: 1 },
+    }
+}
+
+#[tactic(auto, unfolding(crate::specs::Lengths::right_factor))]
+fn right_factor(broken: Option<&Stood>) -> Frac
+    ensures value { result ≡ right_factor (option_copied broken.entry) }
+    ensures factor { IsFactor result }
+{
+    match broken {
+        Some(s) => right_side(&s.step),
+        None => Frac { num: 1, den: 1 },
+    }
+}
+
+/// The written length of a note, a chord or a rest, in whole notes, not reduced.
+#[tactic(auto, unfolding(crate::specs::Lengths::written_length))]
+pub fn written_length(unit: Frac, s: &Sound, before: &[Stood], behind: &[Stood]) -> Frac
+    requires unit { IsGoodUnit unit }
+    requires good { IsGoodSound s.now }
+    ensures value { result ≡ written_length unit s.now (reverse before.now) behind.now }
+    ensures length { IsLength result }
+{
+    let left = left_factor(broken_behind(behind));
+    let right = right_factor(broken_before(before));
+    Frac {
+        num: s.num * unit.num * (left.num * right.num),
+        den: s.den * unit.den * (left.den * right.den),
+    }
+}

@@ -1,0 +1,19 @@
+//! The steps of a voice: what a body has one after the other, and what stands
+//! before and behind a place among the steps of one voice.
+#![tactic(auto)]
+
+pub mod counts;
+pub mod force;
+pub mod kinds;
+pub mod lengths;
+pub mod looks;
+pub mod step;
+pub mod tuplets;
+
+pub use counts::{Counts, Nearest};
+pub use force::InForce;
+pub use step::{Item, Sound, Step, Stood};
+pub use tuplets::Taking;
+
+#[cfg(test)]
+mod tests;

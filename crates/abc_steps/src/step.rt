@@ -1,0 +1,71 @@
+use abc_fields::{KeyText, VoiceDef};
+use abc_tokens::GraceChord;
+use mus_units::{Bar, Clef, Deco, Frac, Head, Meter, Row, Text};
+
+/// A note, a chord or a rest as it is written: a rest has no heads. Its length is
+/// `num / den` units, not reduced; `decos` are those written inside a chord.
+#[derive(Debug, Drop)]
+pub struct Sound {
+    pub heads: Row<Head>,
+    pub seen: bool,
+    pub decos: Row<Deco>,
+    pub num: u64,
+    pub den: u64,
+}
+
+/// What a voice has one after the other. `Clef` is the clef of a `V:` of the body;
+/// `Break` is a line break that is on, `LineEnd` the end of a physical line.
+#[derive(Debug, Drop)]
+pub enum Step {
+    Sound(Sound),
+    Measures { seen: bool, count: u16 },
+    Grace { slash: bool, body: Row<GraceChord> },
+    Tuplet { p: u8, q: u8, r: u8 },
+    SlurOn,
+    SlurOff,
+    Tie,
+    Broken { right: bool, dots: u8 },
+    Bar(Bar),
+    Ending(Text),
+    Deco(Deco),
+    Says(Text),
+    Key(KeyText),
+    Meter(Meter),
+    Unit(Frac),
+    Clef(Clef),
+    Break,
+    Space,
+    LineEnd,
+}
+
+/// A step, and the line and the column of its first byte.
+#[derive(Debug, Drop)]
+pub struct Stood {
+    pub step: Step,
+    pub line: u32,
+    pub column: u32,
+}
+
+/// What a body has one after the other: a step of the voice that is current, the
+/// end of a music line, a voice that becomes current, or the text of a `w:` line.
+/// `joined` tells that the line ends in a backslash, `breaks` that its end is a
+/// line break.
+#[derive(Debug, Drop)]
+pub enum Item {
+    Step(Stood),
+    LineEnd {
+        joined: bool,
+        breaks: bool,
+        line: u32,
+        column: u32,
+    },
+    Voice {
+        def: VoiceDef,
+        line: u32,
+        column: u32,
+    },
+    Words {
+        text: Text,
+        line: u32,
+    },
+}

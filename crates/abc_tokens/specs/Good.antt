@@ -1,0 +1,44 @@
+-- Good tokens: the numbers that a music line can write.
+use Rattle.std.specs.Prelude.{ℕ, ◌≤◌, ⊤, List, [], ◌∷◌, length}
+use Rattle.mus_units.specs.declared.note.Head.{Head}
+use Rattle.abc_pieces.specs.declared.token.Len.{Len}
+use Rattle.abc_pieces.specs.declared.token.GraceChord.{GraceChord}
+use Rattle.abc_pieces.specs.declared.token.Token.{Token}
+use Rattle.abc_pieces.specs.declared.token.Token.TheVariants as token
+use Rattle.abc_tokens.specs.declared.token.Placed.{Placed}
+
+-- numbers of one to four digits, and no zero
+pub record IsGoodLen (len : Len) : Type 0 where
+  pub some : 1 ≤ len.num
+  pub num_high : len.num ≤ 9999
+  pub above : 1 ≤ len.den
+  pub den_high : len.den ≤ 9999
+
+abbrev pub AreGoodHeads : List (Head × Len) → Type 0
+AreGoodHeads [] = ⊤
+AreGoodHeads (h ∷ more) = IsGoodLen h.1 × AreGoodHeads more
+
+-- a chord has a head
+abbrev pub HasHead : List (Head × Len) → Type 0
+HasHead [] = ⊥
+HasHead (h ∷ more) = ⊤
+
+-- p is 2 to 9; q is at most 9 and r at most 99, and 0 where it is left out
+pub record IsGoodTuplet (p q r : ℕ) : Type 0 where
+  pub p_low : 2 ≤ p
+  pub p_high : p ≤ 9
+  pub q_high : q ≤ 9
+  pub r_high : r ≤ 99
+
+abbrev pub IsGoodToken : Token → Type 0
+IsGoodToken (token.Note head len) = IsGoodLen len
+IsGoodToken (token.Rest seen len) = IsGoodLen len
+IsGoodToken (token.Measures seen count) = (1 ≤ count) × (count ≤ 999)
+IsGoodToken (token.Chord heads decos len) = HasHead heads × AreGoodHeads heads × IsGoodLen len
+IsGoodToken (token.Tuplet p q r) = IsGoodTuplet p q r
+IsGoodToken (token.Broken right dots) = (1 ≤ dots) × (dots ≤ 3)
+IsGoodToken _ = ⊤
+
+abbrev pub AreGoodTokens : List Placed → Type 0
+AreGoodTokens [] = ⊤
+AreGoodTokens (placed ∷ more) = IsGoodToken placed.token × AreGoodTokens more

@@ -1,0 +1,105 @@
+-- A group that fits where it begins: each of its blocks lies on the page, and so does what follows.
+use Rattle.std.proofs.Common.{◌≡◌, refl, ap, sym, ◌∙◌, ℕ, suc, ◌+◌, ◌≤◌, ◌^◌, ℤ, pos, negsuc, ◌-ℤ◌, ◌≤ℤ◌, Bool, true, false, not, List, [], ◌∷◌, ◌++◌, append_assoc, length, arith}
+use Rattle.std.proofs.lemmas.Bool.Decides.{nat_tests}
+use Rattle.std.specs.Prelude.{◌==◌, ◌&&◌, ◌||◌, nat_le, nat_lt, Option, Some, None}
+use Rattle.std.proofs.lemmas.Int.{ints}
+use Rattle.lay_pages.specs.declared.filling.Block.{Block}
+use Rattle.lay_pages.specs.declared.filling.Place.{Place}
+use Rattle.lay_pages.specs.declared.filling.Spot.{Spot}
+use Rattle.lay_pages.specs.Filling.{AreGoodBlocks, height_of, with_kept, group_height, under, place_by, next_place, spot_at, spots_from, tall_by, tall_from, AreWithin}
+
+-- the group that begins here ends on the page, and no group from here on is too tall
+pub record IsReady (high : ℕ) (place : Place) (blocks : List Block) : Type 0 where
+  pub fits : place.down + group_height blocks ≤ high
+  pub number : ℕ
+  pub tied : Bool
+  pub none : tall_from high number tied blocks ≡ None
+
+kept_low : (keep : Bool) (height others : ℕ) → height ≤ with_kept keep height others
+kept_low true height others = omega arith
+kept_low false height others = omega arith
+
+pub first_low : (block : Block) (more : List Block) → height_of block.height ≤ group_height (block ∷ more)
+first_low block [] = omega arith
+first_low block (next ∷ more) = kept_low block.keep (height_of block.height) (group_height (next ∷ more))
+
+-- a place on the page, as an abscissa from its bottom
+pub top_within : (high down : ℕ) → (pos high -ℤ pos down) ≤ℤ pos high
+top_within high down = omega (arith, ints)
+
+bottom_within : (high down : ℕ) (height : ℤ) → pos 0 ≤ℤ height → down + height_of height ≤ high → pos 0 ≤ℤ ((pos high -ℤ pos down) -ℤ height)
+bottom_within high down (pos n) good fits = omega (arith, ints)
+bottom_within high down (negsuc n) good fits = absurd (omega (arith, ints))
+
+pub on_the_page : (high : ℕ) (place : Place) (block : Block) (more : List Block) → AreGoodBlocks (block ∷ more) → IsReady high place (block ∷ more) → pos 0 ≤ℤ ((pos high -ℤ pos place.down) -ℤ block.height)
+on_the_page high place block more good ready =
+    let first = first_low block more in let fits = ready.fits in
+    bottom_within high place.down block.height good.0.0 (omega (arith, first, fits))
+
+-- no group from here on is too tall: not the one that begins here, and none behind it
+not_tall : (b : Bool) (n : ℕ) (others : Option ℕ) → tall_by b n others ≡ None → (b ≡ false) × (others ≡ None)
+not_tall true n others e = absurd cc
+not_tall false n others e = (refl, e)
+
+fits_high : (tied : Bool) (high height : ℕ) → (not tied && nat_lt high height) ≡ false → tied ≡ false → height ≤ high
+fits_high true high height e f = absurd cc
+fits_high false high height e f = grind (arith, nat_tests)
+
+in_group : (keep : Bool) (height others down high : ℕ) → keep ≡ true → down + with_kept keep height others ≤ high → down + height + 1500 + others ≤ high
+in_group true height others down high e fits = omega arith
+in_group false height others down high e fits = absurd cc
+
+-- where the next block is placed, its group fits
+next_fits : (keep : Bool) (page down height others high : ℕ) → down + with_kept keep height others ≤ high → (keep ≡ false → others ≤ high) →
+    (place_by (keep || nat_le (down + height + 1500 + others) high) page (down + height + 1500)).down + others ≤ high
+next_fits true page down height others high fits new = omega arith
+next_fits false page down height others high fits new = by_test (nat_le (down + height + 1500 + others) high) refl where
+  by_test : (b : Bool) → nat_le (down + height + 1500 + others) high ≡ b → (place_by b page (down + height + 1500)).down + others ≤ high
+  by_test true e = grind (arith, nat_tests)
+  by_test false e = let fits_new = new refl in omega (arith, fits_new)
+
+pub ready_next : (high : ℕ) (place : Place) (block next : Block) (more : List Block) → IsReady high place (block ∷ next ∷ more) → IsReady high (next_place high place block (next ∷ more)) (next ∷ more)
+ready_next high place block next more ready =
+    let here = not_tall (not ready.tied && nat_lt high (group_height (block ∷ next ∷ more))) ready.number (tall_from high (suc ready.number) block.keep (next ∷ more)) ready.none in
+    let behind = not_tall (not block.keep && nat_lt high (group_height (next ∷ more))) (suc ready.number) (tall_from high (suc (suc ready.number)) next.keep more) here.1 in
+    record {
+      fits = next_fits block.keep place.page place.down (height_of block.height) (group_height (next ∷ more)) high ready.fits (fits_high block.keep high (group_height (next ∷ more)) behind.0);
+      number = suc ready.number;
+      tied = block.keep;
+      none = here.1;
+    }
+
+pub within_from : (high : ℕ) (place : Place) (blocks : List Block) → AreGoodBlocks blocks → IsReady high place blocks → AreWithin high blocks (spots_from high place blocks)
+within_from high place [] good ready = tt
+within_from high place (block ∷ []) good ready = ((top_within high place.down, on_the_page high place block [] good ready), tt)
+within_from high place (block ∷ next ∷ more) good ready =
+    ((top_within high place.down, on_the_page high place block (next ∷ more) good ready), within_from high (next_place high place block (next ∷ more)) (next ∷ more) good.1 (ready_next high place block next more ready))
+
+pub ready_first : (high : ℕ) (blocks : List Block) → tall_from high 0 false blocks ≡ None → IsReady high (record { page = 0; down = 0 }) blocks
+ready_first high [] none = record { fits = omega arith; number = 0; tied = false; none = none }
+ready_first high (block ∷ more) none =
+    let here = not_tall (not false && nat_lt high (group_height (block ∷ more))) 0 (tall_from high 1 block.keep more) none in
+    let low = fits_high false high (group_height (block ∷ more)) here.0 refl in
+    record { fits = omega (arith, low); number = 0; tied = false; none = none }
+
+pub ready_more : (high : ℕ) (place : Place) (block : Block) (more : List Block) → (more ≡ [] → ⊥) → IsReady high place (block ∷ more) → IsReady high (next_place high place block more) more
+ready_more high place block [] some ready = absurd (some refl)
+ready_more high place block (next ∷ more) some ready = ready_next high place block next more ready
+
+place_page : (b : Bool) (page down : ℕ) → (place_by b page down).page ≤ page + 1
+place_page true page down = omega arith
+place_page false page down = omega arith
+
+pub page_more : (high : ℕ) (place : Place) (block : Block) (more : List Block) → (next_place high place block more).page ≤ place.page + 1
+page_more high place block more = place_page (block.keep || nat_le (under place block + group_height more) high) place.page (under place block)
+
+pub value_more : (high : ℕ) (place next : Place) (block : Block) (rest more : List Block) (spots new all : List Spot) (spot : Spot) → rest ≡ block ∷ more → new ≡ spots ++ spot ∷ [] → spot ≡ spot_at high place → next ≡ next_place high place block more
+    → spots ++ spots_from high place rest ≡ all → new ++ spots_from high next more ≡ all
+value_more high place next block rest more spots new all spot cut pushed here then so_far =
+    ap (λ ss. ss ++ spots_from high next more) pushed ∙ append_assoc spots (spot ∷ []) (spots_from high next more)
+    ∙ ap (λ s. spots ++ s ∷ spots_from high next more) here ∙ ap (λ p. spots ++ spot_at high place ∷ spots_from high p more) then
+    ∙ ap (λ bs. spots ++ spots_from high place bs) (sym cut) ∙ so_far
+
+pub some_of : (blocks : List Block) → false ≡ (length blocks == 0) → blocks ≡ [] → ⊥
+some_of [] e h = cc
+some_of (block ∷ blocks) e h = cc

@@ -1,0 +1,73 @@
+-- Blocks on pages, from the top of a page down. A block that is tied to the next stands on one page
+-- with it; such a run of blocks is a group.
+use Rattle.std.specs.Prelude.{◌≡◌, ◌^◌, ⊤, ℕ, suc, ◌+◌, nat_le, nat_lt, ℤ, pos, negsuc, ◌-ℤ◌, ◌≤ℤ◌, Bool, true, false, not, ◌&&◌, ◌||◌, List, [], ◌∷◌, Option, Some, None}
+use Rattle.lay_pages.specs.declared.filling.Block.{Block}
+use Rattle.lay_pages.specs.declared.filling.Spot.{Spot}
+use Rattle.lay_pages.specs.declared.filling.Place.{Place}
+use Rattle.lay_pages.specs.declared.filling.PageError.{PageError}
+use Rattle.lay_pages.specs.declared.filling.PageError.TheVariants as errors
+
+-- heights of 0 to 2^40
+abbrev pub AreGoodBlocks : List Block → Type 0
+AreGoodBlocks [] = ⊤
+AreGoodBlocks (block ∷ more) = ((pos 0 ≤ℤ block.height) × (block.height ≤ℤ pos (2 ^ 40))) × AreGoodBlocks more
+
+-- the height of the group that begins here: its blocks, with 1500 between two
+abbrev pub height_of : ℤ → ℕ
+height_of (pos n) = n
+height_of (negsuc n) = 0
+
+abbrev pub with_kept : Bool → ℕ → ℕ → ℕ
+with_kept true height others = height + 1500 + others
+with_kept false height others = height
+
+abbrev pub group_height : List Block → ℕ
+group_height [] = 0
+group_height (block ∷ []) = height_of block.height
+group_height (block ∷ next ∷ more) = with_kept block.keep (height_of block.height) (group_height (next ∷ more))
+
+-- A place: the page, and how far below the top of the page. The next block stands under this one
+-- where it is tied to it or its group fits there, else at the top of a new page.
+abbrev pub under : Place → Block → ℕ
+under place block = place.down + height_of block.height + 1500
+
+abbrev pub place_by : Bool → ℕ → ℕ → Place
+place_by true page down = record { page = page; down = down }
+place_by false page down = record { page = suc page; down = 0 }
+
+abbrev pub next_place : ℕ → Place → Block → List Block → Place
+next_place high place block more = place_by (block.keep || nat_le (under place block + group_height more) high) place.page (under place block)
+
+-- where blocks stand of which the first has this place
+abbrev pub spot_at : ℕ → Place → Spot
+spot_at high place = record { page = place.page; top = pos high -ℤ pos place.down }
+
+abbrev pub spots_from : ℕ → Place → List Block → List Spot
+spots_from high place [] = []
+spots_from high place (block ∷ more) = spot_at high place ∷ spots_from high (next_place high place block more) more
+
+abbrev pub spots_of : ℕ → List Block → List Spot
+spots_of high blocks = spots_from high (record { page = 0; down = 0 }) blocks
+
+-- the block with which the first group begins that is higher than a page; `tied` says that a block
+-- before is tied to the first here
+abbrev pub tall_by : Bool → ℕ → Option ℕ → Option ℕ
+tall_by true number others = Some number
+tall_by false number others = others
+
+abbrev pub tall_from : ℕ → ℕ → Bool → List Block → Option ℕ
+tall_from high number tied [] = None
+tall_from high number tied (block ∷ more) = tall_by (not tied && nat_lt high (group_height (block ∷ more))) number (tall_from high (suc number) block.keep more)
+
+abbrev pub first_tall : ℕ → List Block → Option ℕ
+first_tall high blocks = tall_from high 0 false blocks
+
+-- each block lies on its page, from 0 to its height
+abbrev pub AreWithin : ℕ → List Block → List Spot → Type 0
+AreWithin high [] [] = ⊤
+AreWithin high (block ∷ blocks) (spot ∷ spots) = ((spot.top ≤ℤ pos high) × (pos 0 ≤ℤ (spot.top -ℤ block.height))) × AreWithin high blocks spots
+AreWithin high _ _ = ⊥
+
+abbrev pub IsPageError : ℕ → List Block → PageError → Type 0
+IsPageError high blocks errors.Memory = ⊤
+IsPageError high blocks (errors.TooTall block) = first_tall high blocks ≡ Some block

@@ -1,0 +1,64 @@
+-- The title block of a tune: a row for each title, in the middle; a row for each composer, at the
+-- right; and a row for the tempo, at the left. A text of which nothing is printed has no row.
+use Rattle.std.specs.Prelude.{◌≡◌, ℕ, ◌+◌, ◌-◌, ◌*◌, ◌/◌, ◌==◌, ℤ, pos, ◌+ℤ◌, ◌-ℤ◌, min, if◌then◌else◌, List, [], ◌∷◌, ◌++◌, map, flat_map, length, Option, Some, None}
+use Rattle.mus_units.specs.declared.glyph.Size.{Size}
+use Rattle.mus_units.specs.declared.glyph.Size.TheVariants as sizes
+use Rattle.mus_laid.specs.Boxes.{character_width}
+use Rattle.mus_laid.specs.Printed.{printed_within}
+use Rattle.lay_pages.specs.declared.titles.Place.{Place}
+use Rattle.lay_pages.specs.declared.titles.Place.TheVariants as places
+use Rattle.lay_pages.specs.declared.titles.TitleRow.{TitleRow}
+use Rattle.lay_pages.specs.declared.titles.TitleBlock.{TitleBlock}
+
+-- a row is so high, and its base line so far below its top
+abbrev pub row_height : Size → ℕ
+row_height sizes.Big = 2400
+row_height sizes.Small = 1400
+
+abbrev pub base_below : Size → ℕ
+base_below sizes.Big = 1800
+base_below sizes.Small = 1000
+
+-- titles are big, all else is small
+abbrev pub size_at : Place → Size
+size_at places.Middle = sizes.Big
+size_at _ = sizes.Small
+
+-- at most 60 characters, and no more than the width holds
+abbrev pub most_within : ℕ → Size → ℕ
+most_within width size = min 60 (width / character_width size)
+
+unfoldable pub row_text : ℕ → Place → List ℕ → List ℕ
+row_text width place text = printed_within (most_within width (size_at place)) text
+
+abbrev pub row_x : ℕ → Place → ℕ → ℕ
+row_x width places.Middle count = (width - character_width sizes.Big * count) / 2
+row_x width places.Right count = width - character_width sizes.Small * count
+row_x width places.Left count = 0
+
+-- the row of a text, its block being so high above it
+abbrev pub row_at : ℕ → ℕ → Place → List ℕ → TitleRow
+row_at width above place text = record { size = size_at place; x = pos (row_x width place (length text)); down = pos (above + base_below (size_at place)); text = text }
+
+abbrev pub with_row : ℕ → TitleBlock → Place → List ℕ → TitleBlock
+with_row width block place [] = block
+with_row width block place (byte ∷ text) = record { rows = block.rows ++ row_at width block.height place (byte ∷ text) ∷ []; height = block.height + row_height (size_at place) }
+
+-- the block with a row more for each text
+abbrev pub with_text : ℕ → Place → TitleBlock → List ℕ → TitleBlock
+with_text width place block text = with_row width block place (row_text width place text)
+
+abbrev pub with_texts : ℕ → Place → TitleBlock → List (List ℕ) → TitleBlock
+with_texts width place block [] = block
+with_texts width place block (text ∷ texts) = with_texts width place (with_text width place block text) texts
+
+abbrev pub tempo_texts : Option (List ℕ) → List (List ℕ)
+tempo_texts None = []
+tempo_texts (Some text) = text ∷ []
+
+abbrev pub no_rows : TitleBlock
+no_rows = record { rows = []; height = 0 }
+
+abbrev pub title_block_of : ℕ → List (List ℕ) → List (List ℕ) → Option (List ℕ) → TitleBlock
+title_block_of width titles composers tempo =
+    with_texts width places.Left (with_texts width places.Right (with_texts width places.Middle no_rows titles) composers) (tempo_texts tempo)

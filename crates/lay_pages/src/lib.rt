@@ -1,0 +1,15 @@
+//! Pages: the staves of a system stacked into a block, the title block of a tune,
+//! and blocks filled into pages.
+#![tactic(auto)]
+
+pub mod filling;
+pub mod stacking;
+pub mod titles;
+
+pub use filling::{Block, PageError, Spot, fill};
+pub use mus_laid::{StaffMarks, SystemMarks};
+pub use stacking::{Heights, stack};
+pub use titles::{TitleBlock, TitleRow, title_block};
+
+#[cfg(test)]
+mod tests;

@@ -1,0 +1,176 @@
+ghost use Rattle.std.specs.Prelude.{◌≡◌, ◌≤◌, ◌+◌, ◌*◌, ◌-◌, ◌/◌, ◌^◌, min, length, IfOk, OnOk, pos};
+ghost use Rattle.std.specs.Option.{option_copied};
+ghost use Rattle.mus_laid.specs.Boxes.{character_width};
+ghost use Rattle.lay_pages.specs.Titles.{row_height, base_below, size_at, most_within, row_text, row_x, row_at, with_row, with_text, with_texts, tempo_texts, no_rows, title_block_of};
+
+use mus_laid::printed_within;
+use mus_units::{Memory, Row, Size, Text};
+use std::alloc::Global;
+use std::cmp::min;
+
+/// Where a row of a title block stands.
+#[derive(Clone, Copy, Debug, PartialEq, Eq)]
+pub enum Place {
+    Middle,
+    Right,
+    Left,
+}
+
+/// A row of a title block: its text begins at `x`, its base line lies `down` u below
+/// the top of the block.
+#[derive(Debug, Drop)]
+pub struct TitleRow {
+    pub size: Size,
+    pub x: i64,
+    pub down: i64,
+    pub text: Text,
+}
+
+/// The rows above the first system of a tune, and the height of them all, in u.
+#[derive(Debug, Drop)]
+pub struct TitleBlock {
+    pub rows: Row<TitleRow>,
+    pub height: u64,
+}
+
+/// The title block of a tune on a body that is `width` u wide: the titles in the
+/// middle, big; the composers at the right; the tempo at the left. A row is cut to
+/// what the width holds and to 60 characters; a text of which nothing is printed
+/// has no row.
+pub fn title_block(
+    alloc: Global,
+    width: u32,
+    titles: &[Text],
+    composers: &[Text],
+    tempo: Option<&Text>,
+) -> Result<TitleBlock, Memory>
+    requires titles { length titles.now ≤ 2 ^ 32 }
+    requires composers { length composers.now ≤ 2 ^ 32 }
+    ensures { IfOk result (λ block. block ≡ title_block_of width titles.now composers.now (option_copied tempo.entry)) }
+{
+    let mut block = TitleBlock {
+        rows: Row::new(alloc),
+        height: 0,
+    };
+    put_texts(alloc, width, Place::Middle, titles, &mut block)?;
+    put_texts(alloc, width, Place::Right, composers, &mut block)?;
+    if let Some(text) = tempo {
+        put_text(alloc, width, Place::Left, text.as_slice(), &mut block)?;
+    }
+    Ok(block)
+}
+
+fn put_texts(
+    alloc: Global,
+    width: u32,
+    place: Place,
+    texts: &[Text],
+    block: &mut TitleBlock,
+) -> Result<(), Memory>
+    requires few { length texts.now ≤ 2 ^ 32 }
+    requires low { block.old.height ≤ 2 ^ 47 }
+    ensures value { OnOk result (block.new ≡ with_texts width place block.old texts.now) }
+    ensures within { OnOk result (block.new.height ≤ block.old.height + 2400 * length texts.now) }
+{
+    for text in texts {
+        put_text(alloc, width, place, text.as_slice(), block)?;
+    }
+    Ok(())
+}
+
+/// Adds a row for a text, unless nothing is printed of it.
+fn put_text(
+    alloc: Global,
+    width: u32,
+    place: Place,
+    text: &[u8],
+    block: &mut TitleBlock,
+) -> Result<(), Memory>
+    requires { block.old.height ≤ 2 ^ 50 }
+    ensures value { OnOk result (block.new ≡ with_text width place block.old text.now) }
+    ensures within { OnOk result (block.new.height ≤ block.old.height + 2400) }
+{
+    let text = row_text(alloc, width, place, text)?;
+    put_row(width, place, text, block)
+}
+
+fn put_row(width: u32, place: Place, text: Text, block: &mut TitleBlock) -> Result<(), Memory>
+    requires low { block.old.height ≤ 2 ^ 50 }
+    requires short { length text ≤ most_within width (size_at place) }
+    ensures value { OnOk result (block.new ≡ with_row width block.old place text) }
+    ensures within { OnOk result (block.new.height ≤ block.old.height + 2400) }
+{
+    if text.len() == 0 {
+        return Ok(());
+    }
+    let height = block.height;
+    let size = size_at(place);
+    block.rows.push(TitleRow {
+        size,
+        x: row_x(width, place, text.len()),
+        down: (height + base_below(size)) as i64,
+        text,
+    })?;
+    block.height = height + row_height(size);
+    Ok(())
+}
+
+/// The text of a row as it is printed, cut to what the width holds.
+#[tactic(auto, unfolding(crate::specs::Titles::row_text))]
+fn row_text(alloc: Global, width: u32, place: Place, text: &[u8]) -> Result<Text, Memory>
+    ensures value { IfOk result (λ t. t ≡ row_text width place text.now) }
+    ensures within { IfOk result (λ t. length t ≤ most_within width (size_at place)) }
+{
+    printed_within(alloc, most_within(width, size_at(place)), text)
+}
+
+fn size_at(place: Place) -> Size
+    ensures { result ≡ size_at place }
+{
+    match place {
+        Place::Middle => Size::Big,
+        Place::Right => Size::Small,
+        Place::Left => Size::Small,
+    }
+}
+
+fn row_height(size: Size) -> u64
+    ensures value { result ≡ row_height size }
+    ensures most { result ≤ 2400 }
+{
+    match size {
+        Size::Big => 2400,
+        Size::Small => 1400,
+    }
+}
+
+fn base_below(size: Size) -> u64
+    ensures value { result ≡ base_below size }
+    ensures most { result ≤ 1800 }
+{
+    match size {
+        Size::Big => 1800,
+        Size::Small => 1000,
+    }
+}
+
+fn most_within(width: u32, size: Size) -> usize
+    ensures { result ≡ most_within width size }
+{
+    match size {
+        Size::Big => min(60, width / 960) as usize,
+        Size::Small => min(60, width / 540) as usize,
+    }
+}
+
+/// Where a row begins, from the left of the body.
+fn row_x(width: u32, place: Place, count: usize) -> i64
+    requires { count ≤ most_within width (size_at place) }
+    ensures { result ≡ pos (row_x width place count) }
+{
+    match place {
+        Place::Middle => i64::from((width - 960 * count as u32) / 2),
+        Place::Right => i64::from(width - 540 * count as u32),
+        Place::Left => 0,
+    }
+}

@@ -1,0 +1,92 @@
+-- The boxes that marks fill: from the least to the greatest height, and from the left to the right
+-- of the column. Stems, beams and arcs have heights alone.
+use Rattle.std.specs.Prelude.{ℕ, ℤ, pos, negsuc, ◌*◌, ◌≤◌, ◌+ℤ◌, ⊤, List, [], ◌∷◌, map, fold, length, Option, Some, None, All}
+use Rattle.std.specs.Int.{int_min, int_max}
+use Rattle.mus_units.specs.declared.glyph.Glyph.{Glyph}
+use Rattle.mus_units.specs.declared.glyph.Size.{Size}
+use Rattle.mus_units.specs.declared.glyph.Size.TheVariants as sizes
+use Rattle.glyph_paths.specs.Bounds.{bounds_in}
+use Rattle.mus_laid.specs.declared.laid.Mark.{Mark}
+use Rattle.mus_laid.specs.declared.laid.Mark.TheVariants as marks
+use Rattle.mus_laid.specs.declared.laid.Laid.{Laid}
+use Rattle.mus_laid.specs.declared.boxes.Heights.{Heights}
+use Rattle.mus_laid.specs.declared.boxes.Sides.{Sides}
+
+-- a text has at most 60 characters
+abbrev pub IsGoodMark : Mark → Type 0
+IsGoodMark (marks.Words size rank dx dy text) = length text ≤ 60
+IsGoodMark _ = ⊤
+
+abbrev pub AreGoodMarks : List Laid → Type 0
+AreGoodMarks [] = ⊤
+AreGoodMarks (laid ∷ more) = IsGoodMark laid.mark × AreGoodMarks more
+
+-- the width of a character, and how far a line of text goes below and above its base
+abbrev pub character_width : Size → ℕ
+character_width sizes.Small = 540
+character_width sizes.Big = 960
+
+abbrev pub text_low : Size → ℤ
+text_low sizes.Small = negsuc 269
+text_low sizes.Big = negsuc 479
+
+abbrev pub text_high : Size → ℤ
+text_high sizes.Small = pos 720
+text_high sizes.Big = pos 1280
+
+abbrev pub heights : ℤ → ℤ → Heights
+heights low high = record { low = low; high = high }
+
+-- a glyph reaches over the points of its path, moved by its height
+unfoldable pub glyph_heights : Glyph → ℤ → Heights
+glyph_heights glyph dy = heights (dy +ℤ (bounds_in glyph).low) (dy +ℤ (bounds_in glyph).high)
+
+unfoldable pub text_heights : Size → ℤ → Heights
+text_heights size dy = heights (dy +ℤ text_low size) (dy +ℤ text_high size)
+
+-- a stem from the lesser to the greater of its ends
+unfoldable pub stem_heights : ℤ → ℤ → Heights
+stem_heights from to = heights (int_min from to) (int_max from to)
+
+-- a beam from its lesser lower edge to 250 above the greater one
+unfoldable pub beam_heights : ℤ → ℤ → Heights
+beam_heights from to = heights (int_min from to) (int_max from to +ℤ pos 250)
+
+abbrev pub over_four : ℤ → ℤ → ℤ → ℤ → Heights
+over_four a b c d = heights (int_min (int_min a b) (int_min c d)) (int_max (int_max a b) (int_max c d))
+
+-- an arc over its ends, and its ends moved by its bulge
+unfoldable pub arc_heights : ℤ → ℤ → ℤ → Heights
+arc_heights from to bulge = over_four from to (from +ℤ bulge) (to +ℤ bulge)
+
+abbrev pub heights_of : Mark → Heights
+heights_of (marks.Glyph glyph rank dx dy) = glyph_heights glyph dy
+heights_of (marks.Words size rank dx dy text) = text_heights size dy
+heights_of (marks.Stem rank dx from to) = stem_heights from to
+heights_of (marks.Beam way first last from to) = beam_heights from to
+heights_of (marks.Arc first last from to bulge) = arc_heights from to bulge
+
+-- from the column, where the mark stands at one
+unfoldable pub glyph_sides : Glyph → ℤ → Sides
+glyph_sides glyph dx = record { left = dx +ℤ (bounds_in glyph).left; right = dx +ℤ (bounds_in glyph).right }
+
+unfoldable pub text_sides : Size → ℤ → ℕ → Sides
+text_sides size dx count = record { left = dx; right = dx +ℤ pos (character_width size * count) }
+
+abbrev pub sides_of : Mark → Option Sides
+sides_of (marks.Glyph glyph rank dx dy) = Some (glyph_sides glyph dx)
+sides_of (marks.Words size rank dx dy text) = Some (text_sides size dx (length text))
+sides_of (marks.Stem rank dx from to) = None
+sides_of (marks.Beam way first last from to) = None
+sides_of (marks.Arc first last from to bulge) = None
+
+-- over all marks of a staff, and at least over its lines
+abbrev pub widened : Heights → Heights → Heights
+widened a b = heights (int_min a.low b.low) (int_max a.high b.high)
+
+abbrev pub over_marks : Heights → List Laid → Heights
+over_marks so_far [] = so_far
+over_marks so_far (laid ∷ more) = over_marks (widened so_far (heights_of laid.mark)) more
+
+abbrev pub staff_heights : List Laid → Heights
+staff_heights all = over_marks (heights (pos 0) (pos 2000)) all

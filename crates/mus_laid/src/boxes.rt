@@ -1,0 +1,231 @@
+ghost use Rattle.std.specs.Prelude.{◌≡◌, ◌+ℤ◌, ◌≤◌, length};
+ghost use Rattle.std.specs.Int.{int_min, int_max};
+ghost use Rattle.mus_laid.specs.Boxes.{IsGoodMark, character_width, text_low, text_high, glyph_heights, text_heights, stem_heights, beam_heights, over_four, arc_heights, heights_of, glyph_sides, text_sides, sides_of, widened, staff_heights};
+
+use crate::laid::{Laid, Mark};
+use glyph_paths::bounds_of;
+use mus_units::{Glyph, Size};
+
+/// From the least to the greatest height, in u above the staff's bottom line.
+#[derive(Clone, Copy, Debug, PartialEq, Eq)]
+pub struct Heights {
+    pub low: i64,
+    pub high: i64,
+}
+
+/// How far a mark reaches from its column, in u; to the left is negative.
+#[derive(Clone, Copy, Debug, PartialEq, Eq)]
+pub struct Sides {
+    pub left: i64,
+    pub right: i64,
+}
+
+fn sum(a: i32, b: i32) -> i64
+    ensures { result ≡ a +ℤ b }
+{
+    i64::from(a) + i64::from(b)
+}
+
+#[tactic(auto, unfolding(crate::specs::Boxes::glyph_heights))]
+fn glyph_heights(glyph: Glyph, dy: i32) -> Heights
+    ensures { result ≡ glyph_heights glyph dy }
+{
+    let bounds = bounds_of(glyph);
+    Heights {
+        low: sum(dy, bounds.low),
+        high: sum(dy, bounds.high),
+    }
+}
+
+#[tactic(auto, unfolding(crate::specs::Boxes::text_heights))]
+fn text_heights(size: Size, dy: i32) -> Heights
+    ensures { result ≡ text_heights size dy }
+{
+    let dy = i64::from(dy);
+    match size {
+        Size::Small => Heights {
+            low: dy - 270,
+            high: dy + 720,
+        },
+        Size::Big => Heights {
+            low: dy - 480,
+            high: dy + 1280,
+        },
+    }
+}
+
+fn least(a: i64, b: i64) -> i64
+    ensures { result ≡ int_min a b }
+{
+    a.min(b)
+}
+
+fn greatest(a: i64, b: i64) -> i64
+    ensures { result ≡ int_max a b }
+{
+    a.max(b)
+}
+
+#[tactic(auto, unfolding(crate::specs::Boxes::stem_heights))]
+fn stem_heights(from: i32, to: i32) -> Heights
+    ensures { result ≡ stem_heights from to }
+{
+    let (from, to) = (i64::from(from), i64::from(to));
+    Heights {
+        low: least(from, to),
+        high: greatest(from, to),
+    }
+}
+
+#[tactic(auto, unfolding(crate::specs::Boxes::beam_heights))]
+fn beam_heights(from: i32, to: i32) -> Heights
+    ensures { result ≡ beam_heights from to }
+{
+    let (from, to) = (i64::from(from), i64::from(to));
+    Heights {
+        low: least(from, to),
+        high: greatest(from, to) + 250,
+    }
+}
+
+#[tactic(auto, unfolding(crate::specs::Boxes::arc_heights))]
+fn arc_heights(from: i32, to: i32, bulge: i32) -> Heights
+    ensures { result ≡ arc_heights from to bulge }
+{
+    over_four(
+        i64::from(from),
+        i64::from(to),
+        sum(from, bulge),
+        sum(to, bulge),
+    )
+}
+
+fn over_four(a: i64, b: i64, c: i64, d: i64) -> Heights
+    ensures { result ≡ over_four a b c d }
+{
+    let (low, other_low) = (least(a, b), least(c, d));
+    let (high, other_high) = (greatest(a, b), greatest(c, d));
+    Heights {
+        low: least(low, other_low),
+        high: greatest(high, other_high),
+    }
+}
+
+/// The heights that a mark covers: a glyph its points, a text its line, a stem its
+/// ends, a beam its edges, an arc its ends and how far it bulges.
+pub fn heights_of(mark: &Mark) -> Heights
+    ensures { result ≡ heights_of mark.now }
+{
+    match mark {
+        Mark::Glyph {
+            glyph,
+            rank: _,
+            dx: _,
+            dy,
+        } => glyph_heights(*glyph, *dy),
+        Mark::Words {
+            size,
+            rank: _,
+            dx: _,
+            dy,
+            text: _,
+        } => text_heights(*size, *dy),
+        Mark::Stem {
+            rank: _,
+            dx: _,
+            from,
+            to,
+        } => stem_heights(*from, *to),
+        Mark::Beam {
+            way: _,
+            first: _,
+            last: _,
+            from,
+            to,
+        } => beam_heights(*from, *to),
+        Mark::Arc {
+            first: _,
+            last: _,
+            from,
+            to,
+            bulge,
+        } => arc_heights(*from, *to, *bulge),
+    }
+}
+
+#[tactic(auto, unfolding(crate::specs::Boxes::glyph_sides))]
+fn glyph_sides(glyph: Glyph, dx: i32) -> Sides
+    ensures { result ≡ glyph_sides glyph dx }
+{
+    let bounds = bounds_of(glyph);
+    Sides {
+        left: sum(dx, bounds.left),
+        right: sum(dx, bounds.right),
+    }
+}
+
+fn character_width(size: Size) -> u32
+    ensures value { result ≡ character_width size }
+    ensures most { result ≤ 960 }
+{
+    match size {
+        Size::Small => 540,
+        Size::Big => 960,
+    }
+}
+
+#[tactic(auto, unfolding(crate::specs::Boxes::text_sides))]
+fn text_sides(size: Size, dx: i32, count: usize) -> Sides
+    requires { count ≤ 60 }
+    ensures { result ≡ text_sides size dx count }
+{
+    let width = character_width(size) * count as u32;
+    Sides {
+        left: i64::from(dx),
+        right: i64::from(dx) + i64::from(width),
+    }
+}
+
+/// How far a glyph or a text reaches from its column. None for stems, beams and
+/// arcs, which no lane keeps apart.
+pub fn sides_of(mark: &Mark) -> Option<Sides>
+    requires { IsGoodMark mark.now }
+    ensures { result ≡ sides_of mark.now }
+{
+    match mark {
+        Mark::Glyph {
+            glyph,
+            rank: _,
+            dx,
+            dy: _,
+        } => Some(glyph_sides(*glyph, *dx)),
+        Mark::Words {
+            size,
+            rank: _,
+            dx,
+            dy: _,
+            text,
+        } => Some(text_sides(*size, *dx, text.len())),
+        _ => None,
+    }
+}
+
+fn widened(a: Heights, b: Heights) -> Heights
+    ensures { result ≡ widened a b }
+{
+    Heights {
+        low: least(a.low, b.low),
+        high: greatest(a.high, b.high),
+    }
+}
+
+/// The least and the greatest height of the boxes of all marks, at least 0 to 2000.
+pub fn staff_heights(marks: &[Laid]) -> Heights
+    ensures { result ≡ staff_heights marks.now }
+{
+    let mut so_far = Heights { low: 0, high: 2000 };
+    for laid in marks {
+        so_far = widened(so_far, heights_of(&laid.mark));
+    }
+    so_far
+}

@@ -1,0 +1,15 @@
+//! The marks of a system as they are laid: each with its column by rank, its
+//! heights and its lane; the boxes that marks fill; and the text that is printed.
+#![tactic(auto)]
+
+pub mod boxes;
+pub mod laid;
+pub mod printing;
+
+pub use boxes::{Heights, Sides, heights_of, sides_of, staff_heights};
+pub use laid::{Laid, Lane, Mark, StaffMarks, SystemMarks};
+pub use mus_units::{Glyph, Size, Way};
+pub use printing::{printed, printed_within};
+
+#[cfg(test)]
+mod tests;

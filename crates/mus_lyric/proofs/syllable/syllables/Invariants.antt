@@ -1,0 +1,10 @@
+use Rattle.std.proofs.Common.{◌≡◌, ◌++◌, [], length}
+use Rattle.mus_lyric.specs.Characters.{characters}
+use Rattle.mus_lyric.specs.Syllables.{behind_run}
+use Rattle.mus_lyric.proofs.syllable.syllables.Given as goal
+
+abbrev pub invariant-characters : goal.invariant-characters
+invariant-characters l = l.syls ++ behind_run l.run (characters l.left) ≡ behind_run [] (characters l.words)
+
+abbrev pub decreases-characters : goal.decreases-characters
+decreases-characters l = length l.left

@@ -1,0 +1,7 @@
+use Rattle.std.proofs.Common.{◌≡◌, map, min, take}
+use Rattle.std.specs.List.{sum}
+use Rattle.mus_score.specs.Good.{weight}
+use Rattle.mus_score.proofs.good.+weighing.Given as goal
+
+abbrev pub invariant-weights_within-loop-m : goal.invariant-weights_within-loop-m
+invariant-weights_within-loop-m l = l.sum ≡ min 50001 (sum (map weight (take l.m-index l.body)))

@@ -1,0 +1,15 @@
+use Rattle.std.proofs.Common.{◌≡◌, ◌∙◌, ◌++◌, ap, map}
+use Rattle.std.proofs.lemmas.List.Elements.{All-same}
+use Rattle.mus_score.specs.Good.{IsGoodFlat}
+use Rattle.mus_score.specs.Times.{flats_of, in_row, leaves_within}
+use Rattle.mus_score.proofs.Bounds.{flats_good}
+use Rattle.mus_score.proofs.times.flatten.Goals as goal
+
+pub returns-clause-each : goal.returns-clause-each
+returns-clause-each c =
+    let leaves = in_row (map leaves_within c.args.body.now) 1 1 in
+    let e : c.put_nodes.new.out ≡ flats_of c.args.body.now =
+    c.in_ok-put_nodes.ensures.0
+    ∙ ap (λ out. out ++ (leaves c.no_waits-waits.result).flats) c.new-out.ensures
+    ∙ ap (λ waits. (leaves waits).flats) c.no_waits-waits.ensures in
+    All-same IsGoodFlat c.put_nodes.new.out (flats_of c.args.body.now) e (flats_good c.args.body.now c.requires)

@@ -1,0 +1,88 @@
+-- Good music.
+use Rattle.std.specs.Prelude.{◌≡◌, ℕ, zero, suc, ◌+◌, ◌*◌, ◌≤◌, List, [], ◌∷◌, length, map, sum, Bool, true, false, ◌&&◌, ◌||◌, ◌==◌, nat_le, if◌then◌else◌, max, sum_by}
+use Rattle.mus_units.specs.declared.value.TheConstants.{WHOLE}
+use Rattle.mus_units.specs.Value.{value_length}
+use Rattle.mus_score.specs.declared.good.Judged.{Judged}
+use Rattle.mus_score.specs.declared.good.Place.{Place}
+use Rattle.mus_score.specs.declared.score.Event.{Event}
+use Rattle.mus_score.specs.declared.score.Flat.{Flat}
+use Rattle.mus_score.specs.declared.score.Music.{Music}
+use Rattle.mus_score.specs.declared.score.Music.TheOpen.{Music-F}
+use Rattle.mus_score.specs.declared.score.Music.TheFolds.{fold-Music}
+
+abbrev pub has_value_ticks : Event → Bool
+has_value_ticks e = nat_le e.value.dots 3 && e.ticks == value_length e.value
+
+abbrev pub is_note : Event → Bool
+is_note e = nat_le 1 (length e.heads) && has_value_ticks e
+
+-- a rest outside tuplets may last a measure
+abbrev pub is_rest : Bool → Event → Bool
+is_rest inner e = length e.heads == 0 && nat_le e.value.dots 3 && (if inner then e.ticks == value_length e.value else nat_le 1 e.ticks && nat_le e.ticks (99 * WHOLE))
+
+-- the heads and rests of a node, grace heads counted
+abbrev pub weight_step : Music-F ℕ → ℕ
+weight_step (Music-F.Note e) = length e.heads
+weight_step (Music-F.Rest e) = 1
+weight_step (Music-F.Grace body slash) = sum body
+weight_step (Music-F.Tuplet p q body) = sum body
+
+abbrev pub weight : Music → ℕ
+weight = fold-Music ℕ weight_step
+
+abbrev pub judged : Bool → Bool → Judged
+judged good some = record { good = good; some = some }
+
+abbrev pub all_judged : List (Place → Judged) → Place → Judged
+all_judged [] at = judged true false
+all_judged (m ∷ ms) at = judged ((m at).good && (all_judged ms at).good) ((m at).some || (all_judged ms at).some)
+
+abbrev pub tuplet_judged : ℕ → ℕ → List (Place → Judged) → ℕ → Judged
+tuplet_judged p q body zero = judged false false
+tuplet_judged p q body (suc deeper) =
+    let inside = all_judged body (record { deeper = deeper; inner = true; grace = false }) in
+    judged (nat_le 2 p && nat_le p 9 && nat_le 1 q && nat_le q 9 && inside.some && inside.good) inside.some
+
+abbrev pub good_step : Music-F (Place → Judged) → Place → Judged
+good_step (Music-F.Note e) at = judged (is_note e) true
+good_step (Music-F.Rest e) at = judged (if at.grace then false else is_rest at.inner e) true
+good_step (Music-F.Grace body slash) at = judged (if at.grace then false else (all_judged body (record at { grace = true })).good) false
+good_step (Music-F.Tuplet p q body) at = if at.grace then judged false false else tuplet_judged p q body at.deeper
+
+abbrev pub judged_within : Music → Place → Judged
+judged_within = fold-Music (Place → Judged) good_step
+
+abbrev pub outside : Place
+outside = record { deeper = 2; inner = false; grace = false }
+
+pub record IsGoodBody (body : List Music) : Type 0 where
+  pub good : (all_judged (map judged_within body) outside).good ≡ true
+  pub few : sum (map weight body) ≤ 50000
+
+-- a node by itself
+abbrev pub IsGoodNode : Music → Type 0
+IsGoodNode m = IsGoodBody (m ∷ [])
+
+-- the most ticks that an event of a good body lasts: 99 whole notes, nine times in each of two tuplets
+abbrev pub longest_ticks : ℕ
+longest_ticks = 99 * WHOLE * 81
+
+pub record IsGoodFlat (f : Flat) : Type 0 where
+  pub some : 1 ≤ f.duration
+  pub short : f.duration ≤ longest_ticks
+  pub dots : f.event.value.dots ≤ 3
+
+-- how long the events of a body last together
+abbrev pub total_ticks : List Flat → ℕ
+total_ticks = sum_by (λ f. f.duration)
+
+abbrev pub heads_in : List Event → ℕ
+heads_in = sum_by (λ e. length e.heads)
+
+-- the heads and rests of an event and of the graces before it: a rest has no heads and counts as one
+abbrev pub flat_weight : Flat → ℕ
+flat_weight f = max 1 (length f.event.heads) + heads_in f.graces
+
+-- an event and the graces before it
+abbrev pub flat_count : Flat → ℕ
+flat_count f = 1 + length f.graces

@@ -1,0 +1,4 @@
+pub mod Good
+pub mod GoodScore
+pub mod Times
+pub mod Walks

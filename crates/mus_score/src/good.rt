@@ -1,0 +1,158 @@
+ghost use Rattle.std.specs.Prelude.{◌≡◌, ◌↔◌, IsTrue, map, min, sum};
+ghost use Rattle.mus_score.specs.Good.{IsGoodBody, all_judged, has_value_ticks, is_note, is_rest, judged_within, tuplet_judged, weight};
+
+use crate::score::{Event, Music};
+use mus_units::{WHOLE, ticks_of};
+
+/// Where a node stands: how many tuplets may still stand in it, and whether a tuplet or a grace
+/// group is around it.
+#[derive(Clone, Copy, Debug, PartialEq, Eq)]
+pub struct Place {
+    pub deeper: u8,
+    pub inner: bool,
+    pub grace: bool,
+}
+
+/// Whether a node is good at its place, and whether it has an event that is no grace.
+#[derive(Clone, Copy, Debug, PartialEq, Eq)]
+pub struct Judged {
+    pub good: bool,
+    pub some: bool,
+}
+
+/// Whether the ticks of an event are those of its value.
+fn has_ticks_of_value(e: &Event) -> bool
+    ensures { result ≡ has_value_ticks e.now }
+{
+    e.value.dots <= 3 && e.ticks == ticks_of(e.value)
+}
+
+fn is_good_note(e: &Event) -> bool
+    ensures { result ≡ is_note e.now }
+{
+    e.heads.len() >= 1 && has_ticks_of_value(e)
+}
+
+fn is_good_rest(inner: bool, e: &Event) -> bool
+    ensures { result ≡ is_rest inner e.now }
+{
+    if e.heads.len() != 0 || e.value.dots > 3 {
+        return false;
+    }
+    if inner {
+        e.ticks == ticks_of(e.value)
+    } else {
+        e.ticks >= 1 && e.ticks <= 99 * WHOLE
+    }
+}
+
+/// A tuplet that stands in no grace group.
+#[cycle(judging)]
+fn judge_tuplet(p: u8, q: u8, body: &[Music], deeper: u8) -> Judged
+    ensures { result ≡ tuplet_judged p q (map judged_within body.now) deeper }
+{
+    if deeper == 0 {
+        return Judged {
+            good: false,
+            some: false,
+        };
+    }
+    let inside = judge_all(
+        body,
+        Place {
+            deeper: deeper - 1,
+            inner: true,
+            grace: false,
+        },
+    );
+    let ratio = p >= 2 && p <= 9 && q >= 1 && q <= 9;
+    Judged {
+        good: ratio && inside.some && inside.good,
+        some: inside.some,
+    }
+}
+
+#[cycle(judging)]
+fn judge(m: &Music, at: Place) -> Judged
+    ensures { result ≡ judged_within m.now at }
+{
+    match m {
+        Music::Note(e) => Judged {
+            good: is_good_note(e),
+            some: true,
+        },
+        Music::Rest(e) => Judged {
+            good: !at.grace && is_good_rest(at.inner, e),
+            some: true,
+        },
+        Music::Grace { body, slash: _ } => Judged {
+            good: !at.grace && judge_all(body.as_slice(), Place { grace: true, ..at }).good,
+            some: false,
+        },
+        Music::Tuplet { p, q, body } => {
+            if at.grace {
+                return Judged {
+                    good: false,
+                    some: false,
+                };
+            }
+            judge_tuplet(*p, *q, body.as_slice(), at.deeper)
+        }
+    }
+}
+
+#[cycle(judging)]
+fn judge_all(body: &[Music], at: Place) -> Judged
+    ensures { result ≡ all_judged (map judged_within body.now) at }
+{
+    let mut all = Judged {
+        good: true,
+        some: false,
+    };
+    for m in body {
+        let one = judge(m, at);
+        all.good = all.good && one.good;
+        all.some = all.some || one.some;
+    }
+    all
+}
+
+/// The heads and rests of a node, or 50,001 where there are more.
+#[cycle(weighing)]
+fn weight_within(m: &Music) -> u64
+    ensures { result ≡ min 50001 (weight m.now) }
+{
+    match m {
+        Music::Note(e) => (e.heads.len() as u64).min(50_001),
+        Music::Rest(_) => 1,
+        Music::Grace { body, slash: _ } => weights_within(body.as_slice()),
+        Music::Tuplet { p: _, q: _, body } => weights_within(body.as_slice()),
+    }
+}
+
+/// The heads and rests of a body, or 50,001 where there are more. Takes no memory.
+#[cycle(weighing)]
+pub fn weights_within(body: &[Music]) -> u64
+    ensures { result ≡ min 50001 (sum (map weight body.now)) }
+{
+    let mut sum = 0_u64;
+    for m in body {
+        sum = (sum + weight_within(m)).min(50_001);
+    }
+    sum
+}
+
+/// Whether a body is good: tuplets at most two deep, each with p of 2 to 9, q of 1 to 9 and an
+/// event that is no grace; notes alone in grace groups; heads on notes and none on rests; ticks
+/// that are those of the value, but for a rest outside tuplets, which lasts 1 tick to 99 whole
+/// notes; at most 50,000 heads and rests. Takes no memory.
+pub fn is_good_body(body: &[Music]) -> bool
+    ensures { IsTrue result ↔ IsGoodBody body.now }
+{
+    let outside = Place {
+        deeper: 2,
+        inner: false,
+        grace: false,
+    };
+    judge_all(body, outside).good && weights_within(body) <= 50_000
+}

@@ -1,0 +1,21 @@
+//! The score: its tree of music, its durations, and its events in a row.
+//!
+//! A tree has notes, rests, grace groups and tuplets; the events of a measure are its leaves that
+//! are no graces, from left to right. Durations are ticks, which divide by every tuplet two deep.
+#![tactic(auto)]
+
+pub mod copies;
+pub mod good;
+pub mod good_score;
+pub mod score;
+pub mod times;
+
+pub use copies::copy_event;
+pub use good::{Judged, Place, is_good_body, weights_within};
+pub use good_score::{events, is_good_score, is_good_voice};
+pub use mus_units::{Bar, Deco, Head, Key, Meter, Sign, Spread, Wish};
+pub use score::{Changes, Event, Flat, Look, Measure, Mention, Music, Score, Voice};
+pub use times::{body_duration, duration, flatten};
+
+#[cfg(test)]
+mod tests;

@@ -1,0 +1,96 @@
+use mus_units::{Bar, Clef, Deco, Head, Key, Meter, Row, Spread, Text, Value, Wish};
+
+/// How a rest or a note is drawn: seen, unseen, or as a rest of a whole measure.
+#[derive(Clone, Copy, Debug, PartialEq, Eq)]
+pub enum Look {
+    Seen,
+    Unseen,
+    Whole,
+}
+
+/// A text between quotes: below the staff or above it.
+#[derive(Debug, Drop)]
+pub struct Mention {
+    pub below: bool,
+    pub text: Text,
+}
+
+/// What changes before an event: a clef, a key, a meter that a field names there,
+/// be the value new or not.
+#[derive(Debug, Drop)]
+pub struct Changes {
+    pub clef: Option<Clef>,
+    pub key: Option<Key>,
+    pub meter: Option<Meter>,
+}
+
+/// A part of a written note, chord or rest: a length that has no value of its own is several parts.
+/// `id` counts the events of a voice from 0, `ticks` is the written length in ticks; `begins` and
+/// `ends` count slurs; `words` has a place for each verse. `parted` says that a space or a line end
+/// stands between the event and the one before it in its voice. A rest has no heads.
+#[derive(Debug, Drop)]
+pub struct Event {
+    pub id: u32,
+    pub heads: Row<Head>,
+    pub look: Look,
+    pub value: Value,
+    pub ticks: u64,
+    pub parted: bool,
+    pub changes: Changes,
+    pub decos: Row<Deco>,
+    pub mentions: Row<Mention>,
+    pub ending: Option<Text>,
+    pub begins: u32,
+    pub ends: u32,
+    pub words: Row<Option<Text>>,
+}
+
+/// A node of the tree of music. A grace group holds notes alone; a tuplet has `p` in the time of `q`.
+#[derive(Debug, Drop)]
+pub enum Music {
+    Note(Event),
+    Rest(Event),
+    Grace { body: Row<Music>, slash: bool },
+    Tuplet { p: u8, q: u8, body: Row<Music> },
+}
+
+/// A measure and the bar behind it.
+#[derive(Debug, Drop)]
+pub struct Measure {
+    pub body: Row<Music>,
+    pub bar: Bar,
+}
+
+/// A voice: its id, what it begins with, the number of its verses, the bar before its first event,
+/// and its measures.
+#[derive(Debug, Drop)]
+pub struct Voice {
+    pub id: Text,
+    pub clef: Clef,
+    pub key: Key,
+    pub meter: Meter,
+    pub stem: Wish,
+    pub verses: u8,
+    pub first: Bar,
+    pub measures: Row<Measure>,
+}
+
+/// A tune: its voices, which all have `measures` measures, and the bars at which a system must end.
+#[derive(Debug, Drop)]
+pub struct Score {
+    pub voices: Row<Voice>,
+    pub measures: u32,
+    pub forced: Row<u32>,
+    pub spread: Spread,
+}
+
+/// An event with what the tree of its measure says of it: its duration in ticks, the `p` of the
+/// tuplets that begin at it, outer first, and the graces before it.
+#[derive(Debug, Drop)]
+pub struct Flat {
+    pub event: Event,
+    pub duration: u64,
+    pub tuplets: Row<u8>,
+    pub graces: Row<Event>,
+    pub slash: bool,
+}

@@ -1,0 +1,199 @@
+ghost use Rattle.std.specs.Prelude.{◌≡◌, ◌≤◌, ◌<◌, ◌^◌, ◌++◌, map, true, IfOk, OnOk};
+ghost use Rattle.std.specs.Prelude.{◌*◌, All, sum, sum_by};
+ghost use Rattle.mus_score.specs.declared.score.Flat.{Flat};
+ghost use Rattle.mus_score.specs.Good.{IsGoodBody, IsGoodNode, IsGoodFlat, flat_count, flat_weight, longest_ticks, total_ticks, weight};
+ghost use Rattle.mus_score.specs.Times.{scaled, duration_of, duration_within, durations_within, products_fit, all_products_fit, is_scalable, leaf, leaves_within, in_row, flats_of, nothing, Walked};
+
+use crate::copies::copy_event;
+use crate::score::{Event, Flat, Music};
+use mus_units::{Memory, Row};
+use std::alloc::Global;
+use std::mem;
+
+/// Ticks, times the tuplets around.
+#[tactic(auto, unfolding(crate::specs::Times::is_scalable))]
+fn scaled(ticks: u64, qs: u64, ps: u64) -> u64
+    requires { is_scalable ticks qs ps ≡ true }
+    ensures { result ≡ scaled ticks qs ps }
+{
+    ticks * qs / ps
+}
+
+/// How long a node lasts in the tuplets around it, the product of whose q is `qs` and of whose p `ps`.
+#[cycle(durations)]
+fn duration_in(m: &Music, qs: u64, ps: u64) -> u64
+    requires products { products_fit m.now qs ps ≡ true }
+    requires fits { duration_within m.now qs ps < 2 ^ 64 }
+    ensures { result ≡ duration_within m.now qs ps }
+{
+    match m {
+        Music::Note(e) => scaled(e.ticks, qs, ps),
+        Music::Rest(e) => scaled(e.ticks, qs, ps),
+        Music::Grace { body: _, slash: _ } => 0,
+        Music::Tuplet { p, q, body } => durations_in(
+            body.as_slice(),
+            qs * u64::from(*q),
+            ps * u64::from(*p),
+        ),
+    }
+}
+
+/// How long nodes last one after the other.
+#[cycle(durations)]
+fn durations_in(body: &[Music], qs: u64, ps: u64) -> u64
+    requires products { all_products_fit body.now qs ps ≡ true }
+    requires fits { durations_within body.now qs ps < 2 ^ 64 }
+    ensures { result ≡ durations_within body.now qs ps }
+{
+    let mut sum = 0;
+    for m in body {
+        sum += duration_in(m, qs, ps);
+    }
+    sum
+}
+
+/// How long a node of a body lasts, in ticks: an event its written ticks, times q/p of each tuplet
+/// around it in the node; a grace group 0; a tuplet the sum of what is in it. Takes no memory.
+#[tactic(auto, using(crate::proofs::Bounds::node_bounds))]
+pub fn duration(m: &Music) -> u64
+    requires { IsGoodNode m.now }
+    ensures { result ≡ duration_of m.now }
+{
+    duration_in(m, 1, 1)
+}
+
+/// How long the events of a body last together, in ticks. Takes no memory.
+#[tactic(auto, using(crate::proofs::Bounds::total_bounds))]
+pub fn body_duration(body: &[Music]) -> u64
+    requires { IsGoodBody body.now }
+    ensures total { result ≡ total_ticks (flats_of body.now) }
+    ensures short { result ≤ 50000 * longest_ticks }
+{
+    durations_in(body, 1, 1)
+}
+
+/// What waits for the next leaf: the tuplets that begin there, outer first, and its graces.
+#[derive(Debug, Drop)]
+pub struct Waits {
+    pub tuplets: Row<u8>,
+    pub graces: Row<Event>,
+    pub slash: bool,
+}
+
+fn no_waits(alloc: Global) -> Waits
+    ensures { result ≡ nothing }
+{
+    Waits {
+        tuplets: Row::new(alloc),
+        graces: Row::new(alloc),
+        slash: false,
+    }
+}
+
+fn put_leaf(
+    alloc: Global,
+    e: &Event,
+    qs: u64,
+    ps: u64,
+    waits: &mut Waits,
+    out: &mut Row<Flat>,
+) -> Result<(), Memory>
+    requires { is_scalable e.now.ticks qs ps ≡ true }
+    ensures { OnOk result (Walked out.old out.new waits.new (leaf e.now qs ps waits.old)) }
+{
+    let event = copy_event(alloc, e)?;
+    let duration = scaled(event.ticks, qs, ps);
+    let w = mem::replace(waits, no_waits(alloc));
+    out.push(Flat {
+        event,
+        duration,
+        tuplets: w.tuplets,
+        graces: w.graces,
+        slash: w.slash,
+    })?;
+    Ok(())
+}
+
+/// The events of some flats, put behind other graces.
+fn put_graces(graces: &mut Row<Event>, flats: Row<Flat>) -> Result<(), Memory>
+    ensures { OnOk result (graces.new ≡ graces.old ++ map (λ f. f.event) flats) }
+{
+    for f in flats.items {
+        graces.push(f.event)?;
+    }
+    Ok(())
+}
+
+#[cycle(leaves)]
+fn put_node(
+    alloc: Global,
+    m: &Music,
+    qs: u64,
+    ps: u64,
+    waits: &mut Waits,
+    out: &mut Row<Flat>,
+) -> Result<(), Memory>
+    requires { products_fit m.now qs ps ≡ true }
+    ensures { OnOk result (Walked out.old out.new waits.new (leaves_within m.now qs ps waits.old)) }
+{
+    match m {
+        Music::Note(e) => put_leaf(alloc, e, qs, ps, waits, out),
+        Music::Rest(e) => put_leaf(alloc, e, qs, ps, waits, out),
+        Music::Grace { body, slash } => {
+            let mut inner = Row::new(alloc);
+            let mut none = no_waits(alloc);
+            put_nodes(alloc, body.as_slice(), 1, 1, &mut none, &mut inner)?;
+            put_graces(&mut waits.graces, inner)?;
+            waits.slash = waits.slash || *slash;
+            Ok(())
+        }
+        Music::Tuplet { p, q, body } => {
+            waits.tuplets.push(*p)?;
+            put_nodes(
+                alloc,
+                body.as_slice(),
+                qs * u64::from(*q),
+                ps * u64::from(*p),
+                waits,
+                out,
+            )
+        }
+    }
+}
+
+#[cycle(leaves)]
+fn put_nodes(
+    alloc: Global,
+    body: &[Music],
+    qs: u64,
+    ps: u64,
+    waits: &mut Waits,
+    out: &mut Row<Flat>,
+) -> Result<(), Memory>
+    requires { all_products_fit body.now qs ps ≡ true }
+    ensures { OnOk result (Walked out.old out.new waits.new (in_row (map leaves_within body.now) qs ps waits.old)) }
+{
+    for m in body {
+        put_node(alloc, m, qs, ps, waits, out)?;
+    }
+    Ok(())
+}
+
+/// The events of a body that are no graces, from left to right: each with its duration in ticks,
+/// the `p` of the tuplets that begin at it, outer first, and the graces before it. What stands
+/// in a tuplet's end waits for the next event; graces behind the last event belong to none.
+#[tactic(auto, using(crate::proofs::Bounds::body_bounds))]
+pub fn flatten(alloc: Global, body: &[Music]) -> Result<Row<Flat>, Memory>
+    requires { IsGoodBody body.now }
+    ensures flats { IfOk result (λ r. r ≡ flats_of body.now) }
+    ensures each { IfOk result (λ r. All IsGoodFlat r) }
+    ensures total { IfOk result (λ r. total_ticks r ≡ sum_by duration_of body.now) }
+    ensures short { IfOk result (λ r. total_ticks r ≤ 50000 * longest_ticks) }
+    ensures count { IfOk result (λ r. sum_by flat_count r ≤ 50000) }
+    ensures heads { IfOk result (λ r. sum_by flat_weight r ≤ sum (map weight body.now)) }
+{
+    let mut out = Row::new(alloc);
+    let mut waits = no_waits(alloc);
+    put_nodes(alloc, body, 1, 1, &mut waits, &mut out)?;
+    Ok(out)
+}

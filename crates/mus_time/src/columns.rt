@@ -1,0 +1,311 @@
+ghost use Rattle.std.specs.Prelude.{◌≡◌, ◌≤◌, ◌<◌, ◌+◌, ◌*◌, ◌++◌, All, Contains, IfOk, OnOk, [], ◌∷◌, flat_map, length, slice_range, true};
+ghost use Rattle.mus_score.specs.Good.{IsGoodBody, longest_ticks, total_ticks};
+ghost use Rattle.mus_score.specs.GoodScore.{IsGoodScore, IsGoodVoice};
+ghost use Rattle.mus_score.specs.Times.{flats_of};
+ghost use Rattle.mus_time.specs.Keys.{AreKeys, IsInSystem, called_keys, change_has_mark, event_keys, events_keys, first_keys, grace_keys, has_entries, has_features, key_at, key_has_mark, measures_keys, meter_has_mark, signed_after, signed_at, signed_behind, signed_through, voice_keys};
+ghost use Rattle.mus_time.specs.Onsets.{timeline_of};
+ghost use Rattle.mus_time.specs.Order.{Rises};
+
+use crate::keys::{Class, ColumnKey};
+use crate::times::Timeline;
+use mus_score::{Bar, Changes, Event, Flat, Key, Measure, Meter, Music, Score, Voice, flatten};
+use mus_units::{Memory, Row};
+use std::alloc::Global;
+
+/// Whether a key has an entry.
+fn is_signed(key: &Key) -> bool
+    ensures { result ≡ has_entries key.now }
+{
+    key.signs.len() >= 1
+}
+
+/// Whether the key in force has an entry, behind an event that may name one.
+fn signed_after_event(signed: bool, key: &Option<Key>) -> bool
+    ensures { result ≡ signed_after signed key.now }
+{
+    match key {
+        Some(key) => is_signed(key),
+        None => signed,
+    }
+}
+
+fn draws_key(signed: bool, key: &Option<Key>) -> bool
+    ensures { result ≡ key_has_mark signed key.now }
+{
+    match key {
+        Some(key) => signed || is_signed(key),
+        None => false,
+    }
+}
+
+fn draws_meter(meter: Option<Meter>) -> bool
+    ensures { result ≡ meter_has_mark meter }
+{
+    match meter {
+        None => false,
+        Some(Meter::Free) => false,
+        Some(_) => true,
+    }
+}
+
+/// Whether a change draws anything, where the key before it is signed or not.
+fn draws(signed: bool, changes: &Changes) -> bool
+    ensures { result ≡ change_has_mark signed changes.now }
+{
+    changes.clef.is_some() || draws_key(signed, &changes.key) || draws_meter(changes.meter)
+}
+
+fn is_featured(bar: Bar) -> bool
+    ensures { result ≡ has_features bar }
+{
+    bar.end || bar.start || bar.last || bar.initial || bar.double || bar.dotted || bar.unseen
+}
+
+fn put_graces(
+    out: &mut Row<ColumnKey>,
+    measure: u32,
+    tick: u64,
+    graces: &[Event],
+) -> Result<(), Memory>
+    requires { length graces.now ≤ 50000 }
+    ensures { OnOk result (out.new ≡ out.old ++ grace_keys measure tick 0 graces.now) }
+{
+    for (i, _grace) in graces.iter().enumerate() {
+        out.push(ColumnKey {
+            measure,
+            tick,
+            class: Class::Grace,
+            place: i as u32,
+        })?;
+    }
+    Ok(())
+}
+
+fn put_event(
+    out: &mut Row<ColumnKey>,
+    measure: u32,
+    tick: u64,
+    in_head: bool,
+    signed: bool,
+    f: &Flat,
+) -> Result<(), Memory>
+    requires { length f.now.graces ≤ 50000 }
+    ensures { OnOk result (out.new ≡ out.old ++ event_keys measure tick in_head signed f.now) }
+{
+    if !in_head && draws(signed, &f.event.changes) {
+        out.push(ColumnKey {
+            measure,
+            tick,
+            class: Class::Change,
+            place: 0,
+        })?;
+    }
+    put_graces(out, measure, tick, f.graces.as_slice())?;
+    out.push(ColumnKey {
+        measure,
+        tick,
+        class: Class::Note,
+        place: 0,
+    })?;
+    Ok(())
+}
+
+fn put_events(
+    out: &mut Row<ColumnKey>,
+    measure: u32,
+    in_head: bool,
+    signed: bool,
+    flats: &[Flat],
+) -> Result<(), Memory>
+    requires short { total_ticks flats.now ≤ 50000 * longest_ticks }
+    requires few { All (λ f. length f.graces ≤ 50000) flats.now }
+    ensures { OnOk result (out.new ≡ out.old ++ events_keys measure in_head signed [] flats.now) }
+{
+    let mut tick = 0;
+    let mut drawn = in_head;
+    let mut signed = signed;
+    for f in flats {
+        put_event(out, measure, tick, drawn, signed, f)?;
+        tick += f.duration;
+        drawn = false;
+        signed = signed_after_event(signed, &f.event.changes.key);
+    }
+    Ok(())
+}
+
+/// Whether the key in force has an entry, behind some events.
+fn signed_behind_all(signed: bool, flats: &[Flat]) -> bool
+    ensures { result ≡ signed_through signed flats.now }
+{
+    let mut signed = signed;
+    for f in flats {
+        signed = signed_after_event(signed, &f.event.changes.key);
+    }
+    signed
+}
+
+/// Puts the keys of a measure and of its bar, and tells whether the key in force behind it has
+/// an entry.
+fn put_measure(
+    alloc: Global,
+    out: &mut Row<ColumnKey>,
+    measure: u32,
+    length: u64,
+    in_head: bool,
+    signed: bool,
+    body: &[Music],
+) -> Result<bool, Memory>
+    requires { IsGoodBody body.now }
+    ensures keys { OnOk result (out.new ≡ out.old ++ events_keys measure in_head signed [] (flats_of body.now) ++ key_at measure length Class.Bar 0 ∷ []) }
+    ensures signed { IfOk result (λ r. r ≡ signed_through signed (flats_of body.now)) }
+{
+    let flats = flatten(alloc, body)?;
+    put_events(out, measure, in_head, signed, flats.as_slice())?;
+    out.push(ColumnKey {
+        measure,
+        tick: length,
+        class: Class::Bar,
+        place: 0,
+    })?;
+    Ok(signed_behind_all(signed, flats.as_slice()))
+}
+
+fn put_measures(
+    alloc: Global,
+    out: &mut Row<ColumnKey>,
+    lengths: &[u64],
+    a: u32,
+    signed: bool,
+    measures: &[Measure],
+) -> Result<(), Memory>
+    requires good { All (λ m. IsGoodBody m.body) measures.now }
+    requires fits { a + length measures.now ≤ length lengths.now }
+    requires few { length lengths.now ≤ 2000 }
+    ensures { OnOk result (out.new ≡ out.old ++ measures_keys lengths.now a true signed measures.now) }
+{
+    let mut in_head = true;
+    let mut signed = signed;
+    let mut measure = a;
+    for m in measures {
+        let length = lengths[measure as usize];
+        signed = put_measure(
+            alloc,
+            out,
+            measure,
+            length,
+            in_head,
+            signed,
+            m.body.as_slice(),
+        )?;
+        in_head = false;
+        measure += 1;
+    }
+    Ok(())
+}
+
+/// Whether the key in force behind some measures has an entry.
+fn signed_behind_measures(alloc: Global, signed: bool, measures: &[Measure]) -> Result<bool, Memory>
+    requires { All (λ m. IsGoodBody m.body) measures.now }
+    ensures { IfOk result (λ r. r ≡ signed_behind signed measures.now) }
+{
+    let mut signed = signed;
+    for m in measures {
+        let flats = flatten(alloc, m.body.as_slice())?;
+        signed = signed_behind_all(signed, flats.as_slice());
+    }
+    Ok(signed)
+}
+
+fn put_first(out: &mut Row<ColumnKey>, a: u32, bar: Bar) -> Result<(), Memory>
+    ensures { OnOk result (out.new ≡ out.old ++ first_keys a bar) }
+{
+    if a != 0 || !is_featured(bar) {
+        return Ok(());
+    }
+    out.push(ColumnKey {
+        measure: 0,
+        tick: 0,
+        class: Class::First,
+        place: 0,
+    })
+}
+
+/// The keys of a voice: its head, the bar before the first measure, its events and its bars.
+fn put_voice(
+    alloc: Global,
+    out: &mut Row<ColumnKey>,
+    lengths: &[u64],
+    a: u32,
+    b: u32,
+    v: &Voice,
+) -> Result<(), Memory>
+    requires good { IsGoodVoice v.now }
+    requires order { a < b }
+    requires within { b ≤ length v.now.measures }
+    requires lengths { length lengths.now ≡ length v.now.measures }
+    ensures { OnOk result (out.new ≡ out.old ++ voice_keys lengths.now a b v.now) }
+{
+    let measures = v.measures.as_slice();
+    out.push(ColumnKey {
+        measure: a,
+        tick: 0,
+        class: Class::Head,
+        place: 0,
+    })?;
+    put_first(out, a, v.first)?;
+    let before = &measures[..a as usize];
+    let signed = signed_behind_measures(alloc, is_signed(&v.key), before)?;
+    let measures = &measures[a as usize..b as usize];
+    put_measures(alloc, out, lengths, a, signed, measures)
+}
+
+fn put_voices(
+    alloc: Global,
+    lengths: &[u64],
+    a: u32,
+    b: u32,
+    voices: &[Voice],
+) -> Result<Row<ColumnKey>, Memory>
+    requires good { All IsGoodVoice voices.now }
+    requires order { a < b }
+    requires within { b ≤ length lengths.now }
+    requires lengths { All (λ v. length v.measures ≡ length lengths.now) voices.now }
+    ensures { IfOk result (λ r. r ≡ flat_map (voice_keys lengths.now a b) voices.now) }
+{
+    let mut out = Row::new(alloc);
+    for v in voices {
+        put_voice(alloc, &mut out, lengths, a, b, v)?;
+    }
+    Ok(out)
+}
+
+/// The keys in order, each once.
+fn rising(keys: Row<ColumnKey>) -> Row<ColumnKey>
+    ensures { AreKeys result keys }
+{
+    let mut items = keys.items;
+    items.sort_unstable();
+    items.dedup();
+    Row { items }
+}
+
+/// The keys of the columns of the system of measures `a` to `b` - 1, rising, each once: the head,
+/// the features before the first measure, the changes that draw something where no head does,
+/// graces, events, and bars at their measures' ends. `t` is the timeline of the score.
+pub fn keys_of(
+    alloc: Global,
+    s: &Score,
+    t: &Timeline,
+    a: u32,
+    b: u32,
+) -> Result<Row<ColumnKey>, Memory>
+    requires good { IsGoodScore s.now }
+    requires times { t.now ≡ timeline_of s.now }
+    requires order { a < b }
+    requires within { b ≤ s.now.measures }
+    ensures keys { IfOk result (λ r. AreKeys r (called_keys s.now t.now.lengths a b)) }
+    ensures places { IfOk result (λ r. All (IsInSystem t.now.lengths a b) r) }
+{
+    let all = put_voices(alloc, t.lengths.as_slice(), a, b, s.voices.as_slice())?;
+    Ok(rising(all))
+}

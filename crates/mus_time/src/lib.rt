@@ -1,0 +1,16 @@
+//! When events sound, and the keys of the columns that a system has.
+//!
+//! An event begins where the earlier events of its measure and voice end. A column has its place
+//! in a measure by the tick, then by what stands in it; the keys of a system rise.
+#![tactic(auto)]
+
+pub mod columns;
+pub mod keys;
+pub mod times;
+
+pub use columns::keys_of;
+pub use keys::{Class, ColumnKey};
+pub use times::{Onset, Timeline, onsets};
+
+#[cfg(test)]
+mod tests;

@@ -1,0 +1,131 @@
+ghost use Rattle.std.specs.Prelude.{◌≡◌, ◌≤◌, ◌<◌, ◌*◌, ◌++◌, [], All, IfOk, OnOk, length, map};
+ghost use Rattle.std.specs.List.{range_with_len};
+ghost use Rattle.mus_score.specs.Good.{IsGoodBody, longest_ticks, total_ticks};
+ghost use Rattle.mus_score.specs.GoodScore.{IsGoodScore, IsGoodVoice};
+ghost use Rattle.mus_score.specs.Times.{flats_of};
+ghost use Rattle.mus_time.specs.Onsets.{event_onsets, greatest, length_at, length_in, measure_onsets, timeline_of, voice_onsets};
+
+use mus_score::{Flat, Measure, Music, Score, Voice, body_duration, flatten};
+use mus_units::{Memory, Row};
+use std::alloc::Global;
+
+/// Where an event begins, in ticks from the beginning of its measure. `voice` is the place of its
+/// voice, `event` the event's id there.
+#[derive(Clone, Copy, Debug, PartialEq, Eq)]
+pub struct Onset {
+    pub voice: u32,
+    pub measure: u32,
+    pub event: u32,
+    pub tick: u64,
+}
+
+/// The onsets of a score in order of voice, then event, and the length of each measure in ticks.
+#[derive(Debug, Drop)]
+pub struct Timeline {
+    pub onsets: Row<Onset>,
+    pub lengths: Row<u64>,
+}
+
+fn put_flats(out: &mut Row<Onset>, voice: u32, measure: u32, flats: &[Flat]) -> Result<(), Memory>
+    requires { total_ticks flats.now ≤ 50000 * longest_ticks }
+    ensures { OnOk result (out.new ≡ out.old ++ event_onsets voice measure [] flats.now) }
+{
+    let mut tick = 0;
+    for f in flats {
+        out.push(Onset {
+            voice,
+            measure,
+            event: f.event.id,
+            tick,
+        })?;
+        tick += f.duration;
+    }
+    Ok(())
+}
+
+fn put_body(
+    alloc: Global,
+    out: &mut Row<Onset>,
+    voice: u32,
+    measure: u32,
+    body: &[Music],
+) -> Result<(), Memory>
+    requires { IsGoodBody body.now }
+    ensures { OnOk result (out.new ≡ out.old ++ event_onsets voice measure [] (flats_of body.now)) }
+{
+    let flats = flatten(alloc, body)?;
+    put_flats(out, voice, measure, flats.as_slice())
+}
+
+fn put_measures(
+    alloc: Global,
+    out: &mut Row<Onset>,
+    voice: u32,
+    measures: &[Measure],
+) -> Result<(), Memory>
+    requires good { All (λ m. IsGoodBody m.body) measures.now }
+    requires few { length measures.now ≤ 2000 }
+    ensures { OnOk result (out.new ≡ out.old ++ measure_onsets voice 0 measures.now) }
+{
+    for (k, m) in measures.iter().enumerate() {
+        put_body(alloc, out, voice, k as u32, m.body.as_slice())?;
+    }
+    Ok(())
+}
+
+fn put_voices(alloc: Global, out: &mut Row<Onset>, voices: &[Voice]) -> Result<(), Memory>
+    requires good { All IsGoodVoice voices.now }
+    requires few { length voices.now ≤ 16 }
+    ensures { OnOk result (out.new ≡ out.old ++ voice_onsets 0 voices.now) }
+{
+    for (i, v) in voices.iter().enumerate() {
+        put_measures(alloc, out, i as u32, v.measures.as_slice())?;
+    }
+    Ok(())
+}
+
+/// How long a measure lasts in a voice.
+fn voice_length(v: &Voice, k: usize) -> u64
+    requires { IsGoodVoice v.now }
+    ensures { result ≡ length_in k v.now }
+{
+    match v.measures.as_slice().get(k) {
+        Some(m) => body_duration(m.body.as_slice()),
+        None => 0,
+    }
+}
+
+fn measure_length(voices: &[Voice], k: usize) -> u64
+    requires { All IsGoodVoice voices.now }
+    ensures { result ≡ length_at voices.now k }
+{
+    let mut longest = 0_u64;
+    for v in voices {
+        longest = longest.max(voice_length(v, k));
+    }
+    longest
+}
+
+#[tactic(auto, using(crate::proofs::Lengths::one_more))]
+fn lengths(alloc: Global, voices: &[Voice], measures: u32) -> Result<Row<u64>, Memory>
+    requires { All IsGoodVoice voices.now }
+    ensures { IfOk result (λ r. r ≡ map (length_at voices.now) (range_with_len 0 measures)) }
+{
+    let mut lengths = Row::new(alloc);
+    for k in 0..measures {
+        lengths.push(measure_length(voices, k as usize))?;
+    }
+    Ok(lengths)
+}
+
+/// When the events of a score begin, in order of voice, then event, and how long each measure
+/// lasts: as long as its longest voice.
+pub fn onsets(alloc: Global, s: &Score) -> Result<Timeline, Memory>
+    requires { IsGoodScore s.now }
+    ensures { IfOk result (λ t. t ≡ timeline_of s.now) }
+{
+    let mut onsets = Row::new(alloc);
+    put_voices(alloc, &mut onsets, s.voices.as_slice())?;
+    let lengths = lengths(alloc, s.voices.as_slice(), s.measures)?;
+    Ok(Timeline { onsets, lengths })
+}
