@@ -1,0 +1,14 @@
+use Rattle.std.proofs.Common.{◌≡◌, ◌++◌, length}
+use Rattle.mus_stems.specs.Beams.{beams}
+use Rattle.mus_stems.specs.Plans.{plans_of_runs}
+use Rattle.mus_stems.specs.Stills.{AllGood}
+use Rattle.mus_stems.proofs.plans.put_all_runs.Given as goal
+
+abbrev pub invariant-loop-d : goal.invariant-loop-d
+invariant-loop-d l = record {
+  good : AllGood l.rest;
+  plans : l.out ++ plans_of_runs l.wish (beams l.rest) ≡ l.fn.out ++ plans_of_runs l.wish (beams l.events);
+}
+
+abbrev pub decreases-loop-d : goal.decreases-loop-d
+decreases-loop-d l = length l.rest

@@ -1,0 +1,34 @@
+-- The dots behind the heads of an event.
+use Rattle.std.specs.Prelude.{ℕ, zero, suc, ℤ, pos, negsuc, ◌+◌, ◌*◌, ◌%◌, ◌+ℤ◌, ◌*ℤ◌, Bool, ◌==◌, if◌then◌else◌, List, [], ◌∷◌, ◌++◌}
+use Rattle.std.specs.Ordering.{int_eq}
+use Rattle.std.specs.List.{list_any}
+use Rattle.mus_stems.specs.declared.heads.Stand.{Stand}
+use Rattle.mus_stems.specs.declared.dots.Spot.{Spot}
+
+unfoldable pub is_right : ℤ → Bool
+is_right dx = int_eq dx (pos 560)
+
+-- dots of a head: 250 apart, on the space above where the head stands on a line
+unfoldable pub dot_place : ℤ → ℕ → ℤ
+dot_place first j = first +ℤ pos (250 * j)
+
+unfoldable pub dot_at : ℤ → ℤ → ℕ → Spot
+dot_at first dy j = record { dx = dot_place first j; dy = dy }
+
+abbrev pub dots_at : ℤ → ℤ → ℕ → ℕ → List Spot
+dots_at first dy j zero = []
+dots_at first dy j (suc n) = dot_at first dy j ∷ dots_at first dy (j + 1) n
+
+abbrev pub is_even : ℤ → Bool
+is_even (pos n) = n % 2 == 0
+is_even (negsuc n) = n % 2 == 1
+
+unfoldable pub dot_height : ℤ → ℤ
+dot_height h = if is_even h then (pos 250 *ℤ h) +ℤ pos 250 else (pos 250 *ℤ h)
+
+unfoldable pub first_dot : List ℤ → ℤ
+first_dot shifts = if list_any is_right shifts then pos 1160 else pos 600
+
+abbrev pub dots_along : ℤ → ℕ → List Stand → List Spot
+dots_along dx n [] = []
+dots_along dx n (s ∷ ss) = dots_at dx (dot_height s.height) 0 n ++ dots_along dx n ss

@@ -1,0 +1,25 @@
+-- The ledger lines of an event.
+use Rattle.std.specs.Prelude.{ℕ, zero, suc, ℤ, pos, negsuc, ◌+◌, ◌-◌, ◌*◌, ◌/◌, ◌+ℤ◌, ◌-ℤ◌, List, [], ◌∷◌, ◌++◌}
+
+-- ledgers on even heights from -2 down to the lowest head, and from 10 up to the highest
+unfoldable pub line_below : ℕ → ℤ
+line_below k = negsuc 499 -ℤ pos (500 * k)
+
+unfoldable pub line_above : ℕ → ℤ
+line_above k = pos 2500 +ℤ pos (500 * k)
+
+-- n of them, from the k-th on
+abbrev pub lines_of : (ℕ → ℤ) → ℕ → ℕ → List ℤ
+lines_of line k zero = []
+lines_of line k (suc n) = line k ∷ lines_of line (k + 1) n
+
+abbrev pub lines_below : ℤ → ℕ
+lines_below (negsuc n) = (n + 1) / 2
+lines_below (pos n) = 0
+
+abbrev pub lines_above : ℤ → ℕ
+lines_above (pos n) = (n - 8) / 2
+lines_above (negsuc n) = 0
+
+unfoldable pub ledgers_of : ℤ → ℤ → List ℤ
+ledgers_of low high = lines_of line_below 0 (lines_below low) ++ lines_of line_above 0 (lines_above high)

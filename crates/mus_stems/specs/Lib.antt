@@ -1,0 +1,10 @@
+pub mod Beams
+pub mod Dots
+pub mod Ends
+pub mod Heads
+pub mod Ledgers
+pub mod Plans
+pub mod Runs
+pub mod Signs
+pub mod Slope
+pub mod Stills

@@ -1,0 +1,64 @@
+-- The stem plans of the events of a measure.
+use Rattle.std.specs.Prelude.{◌≡◌, ℕ, ℤ, pos, negsuc, ◌≤ℤ◌, Bool, List, [], ◌∷◌}
+use Rattle.std.specs.List.{flat_map, AllByRecursion}
+use Rattle.mus_units.specs.declared.pitch.Clef.{Clef}
+use Rattle.mus_units.specs.declared.note.Wish.{Wish}
+use Rattle.mus_score.specs.declared.score.Flat.{Flat}
+use Rattle.mus_stems.specs.declared.stills.Still.{Still}
+use Rattle.mus_stems.specs.declared.plans.StemPlan.{StemPlan}
+use Rattle.mus_stems.specs.Heads.{shifts_of}
+use Rattle.mus_stems.specs.Signs.{first_sign, signs_from}
+use Rattle.mus_stems.specs.Ledgers.{ledgers_of}
+use Rattle.mus_stems.specs.Dots.{first_dot, dots_along}
+use Rattle.mus_stems.specs.Stills.{flags_of, stills}
+use Rattle.mus_stems.specs.Runs.{AreMaximalRuns}
+use Rattle.mus_stems.specs.Beams.{is_joined, beams}
+use Rattle.mus_stems.specs.Ends.{low_of, high_of, stands_up, own_end, run_end, from_of, has_stem}
+
+-- the event at which a run begins
+abbrev pub first_id : List Still → ℕ
+first_id [] = 0
+first_id (e ∷ es) = e.id
+
+-- the plan of an event, over the way of its run, the run's end and the event at which it begins
+unfoldable pub plan_of : Bool → ℤ → ℕ → Still → StemPlan
+plan_of up to group e =
+    let shifts = shifts_of up e.stands in record {
+      up = up;
+      has = has_stem e;
+      from = from_of up e.stands;
+      to = to;
+      own = own_end up e.stands;
+      group = group;
+      flags = flags_of e.base;
+      shifts = shifts;
+      signs = signs_from (first_sign shifts) e.stands;
+      ledgers = ledgers_of (low_of e.stands) (high_of e.stands);
+      dots = dots_along (first_dot shifts) e.dots e.stands;
+    }
+
+abbrev pub plans_along : Bool → ℤ → ℕ → List Still → List StemPlan
+plans_along up to group [] = []
+plans_along up to group (e ∷ es) = plan_of up to group e ∷ plans_along up to group es
+
+unfoldable pub run_plans : Wish → List Still → List StemPlan
+run_plans wish run = let up = stands_up wish run in plans_along up (run_end up run) (first_id run) run
+
+abbrev pub plans_of_runs : Wish → List (List Still) → List StemPlan
+plans_of_runs wish = flat_map (run_plans wish)
+
+unfoldable pub stems_of : Wish → List Flat → List Clef → List StemPlan
+stems_of wish fs cs = plans_of_runs wish (beams (stills fs cs))
+
+-- plans that go by the maximal runs of events that beams join
+pub record GoByBeams (wish : Wish) (es : List Still) (plans : List StemPlan) : Type 0 where
+  pub runs : List (List Still)
+  pub maximal : AreMaximalRuns is_joined es runs
+  pub plans_of : plans ≡ plans_of_runs wish runs
+
+-- a stem's own end is -5250 to 7250
+abbrev pub IsEndNear : StemPlan → Type 0
+IsEndNear p = (negsuc 5249 ≤ℤ p.own) × (p.own ≤ℤ pos 7250)
+
+abbrev pub AllEndsNear : List StemPlan → Type 0
+AllEndsNear ps = AllByRecursion IsEndNear ps

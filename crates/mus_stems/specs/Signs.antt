@@ -1,0 +1,25 @@
+-- Where the signs before the heads of an event stand.
+use Rattle.std.specs.Prelude.{ℕ, ℤ, pos, negsuc, ◌+◌, ◌*◌, ◌-ℤ◌, Bool, false, if◌then◌else◌, List, [], ◌∷◌, length, replicate, Option, Some, None}
+use Rattle.std.specs.Ordering.{int_eq}
+use Rattle.std.specs.List.{slice_set, list_any}
+use Rattle.mus_stems.specs.declared.heads.Stand.{Stand}
+use Rattle.mus_stems.specs.Heads.{Taken, taken}
+
+-- the written signs are numbered from the highest head down; the k-th stands at dx first - 500 k
+unfoldable pub sign_at : ℤ → ℕ → ℤ
+sign_at first k = first -ℤ pos (500 * k)
+
+abbrev pub signs_along : ℤ → ℕ → List Taken → List (Option ℤ) → List (Option ℤ)
+signs_along first k [] xs = xs
+signs_along first k (t ∷ ts) xs =
+    if t.signed then signs_along first (k + 1) ts (slice_set xs t.place (Some (sign_at first k))) else signs_along first k ts xs
+
+unfoldable pub signs_from : ℤ → List Stand → List (Option ℤ)
+signs_from first ss = signs_along first 0 (taken false ss) (replicate (length ss) None)
+
+unfoldable pub is_left : ℤ → Bool
+is_left dx = int_eq dx (negsuc 559)
+
+-- signs stand 560 further left where a head stands left of the stem
+unfoldable pub first_sign : List ℤ → ℤ
+first_sign shifts = if list_any is_left shifts then negsuc 1309 else negsuc 749

@@ -1,0 +1,46 @@
+ghost use Rattle.std.specs.Prelude.{◌≡◌, ◌≤◌, length};
+ghost use Rattle.mus_stems.specs.Beams.{is_beamed, both_beamed, is_joined};
+ghost use Rattle.mus_stems.specs.Runs.{run_more};
+
+use crate::stills::{Still, flags_for};
+
+/// Whether an event can be in a beam: a note with a flag.
+#[tactic(auto, unfolding(crate::specs::Beams::is_beamed))]
+fn beamed(e: &Still) -> bool
+    ensures { result ≡ is_beamed e.now }
+{
+    0 < e.stands.len() && 0 < flags_for(e.base)
+}
+
+/// Whether both can be in a beam.
+#[tactic(auto, unfolding(crate::specs::Beams::both_beamed))]
+fn both(d: &Still, e: &Still) -> bool
+    ensures { result ≡ both_beamed d.now e.now }
+{
+    beamed(d) && beamed(e)
+}
+
+/// Whether a beam joins two neighbours.
+#[tactic(auto, unfolding(crate::specs::Beams::is_joined))]
+fn joined(d: &Still, e: &Still) -> bool
+    ensures { result ≡ is_joined d.now e.now }
+{
+    both(d, e) && !e.parted
+}
+
+/// How many events follow the first in its run.
+pub fn more_in_run(d: &Still, es: &[Still]) -> usize
+    ensures value { result ≡ run_more is_joined d.now es.now }
+    ensures bound { result ≤ length es.now }
+{
+    let mut last = d;
+    let mut n = 0;
+    for e in es {
+        if !joined(last, e) {
+            return n;
+        }
+        last = e;
+        n += 1;
+    }
+    n
+}

@@ -1,0 +1,105 @@
+ghost use Rattle.std.specs.Prelude.{◌≡◌, ◌≤ℤ◌, ◌≤◌, ◌++◌, pos, negsuc, IfOk, OnOk};
+ghost use Rattle.std.specs.List.{list_any};
+ghost use Rattle.mus_stems.specs.Heads.{AllNear};
+ghost use Rattle.mus_stems.specs.Dots.{is_right, first_dot, dot_place, dot_at, dots_at, dot_height, dots_along};
+
+use crate::heads::Stand;
+use mus_units::{Memory, Row};
+
+/// A place beside an event: a dot's, in u.
+#[derive(Clone, Copy, Debug, PartialEq, Eq)]
+pub struct Spot {
+    pub dx: i32,
+    pub dy: i32,
+}
+
+/// The dy of the dots of a head: in the space above where the head stands on a line.
+#[tactic(auto, unfolding(crate::specs::Dots::dot_height))]
+fn dot_dy(height: i32) -> i32
+    requires low { negsuc 13 ≤ℤ height }
+    requires high { height ≤ℤ pos 22 }
+    ensures { result ≡ dot_height height }
+{
+    if height % 2 == 0 {
+        250 * height + 250
+    } else {
+        250 * height
+    }
+}
+
+/// Whether a head that gave way stands right of its stem.
+#[tactic(auto, unfolding(crate::specs::Dots::is_right))]
+fn stands_right(dx: i32) -> bool
+    ensures { result ≡ is_right dx }
+{
+    dx == 560
+}
+
+fn any_right(shifts: &[i32]) -> bool
+    ensures { result ≡ list_any is_right shifts.now }
+{
+    shifts.iter().any(|dx| stands_right(*dx))
+}
+
+/// The dx of the first dot of each head of an event, further right where a head stands right of its
+/// stem.
+#[tactic(auto, unfolding(crate::specs::Dots::first_dot))]
+pub fn dot_dx(shifts: &[i32]) -> i32
+    ensures value { result ≡ first_dot shifts.now }
+    ensures low { pos 600 ≤ℤ result }
+    ensures high { result ≤ℤ pos 1160 }
+{
+    if any_right(shifts) { 1160 } else { 600 }
+}
+
+/// The dx of a dot by its number.
+#[tactic(auto, unfolding(crate::specs::Dots::dot_place))]
+fn dot_dx_at(first: i32, j: u8) -> i32
+    requires near { j ≤ 3 }
+    requires low { pos 600 ≤ℤ first }
+    requires high { first ≤ℤ pos 1160 }
+    ensures { result ≡ dot_place first j }
+{
+    first + 250 * i32::from(j)
+}
+
+/// A dot by its number.
+#[tactic(auto, unfolding(crate::specs::Dots::dot_at))]
+fn dot(first: i32, dy: i32, j: u8) -> Spot
+    requires near { j ≤ 3 }
+    requires low { pos 600 ≤ℤ first }
+    requires high { first ≤ℤ pos 1160 }
+    ensures { result ≡ dot_at first dy j }
+{
+    Spot {
+        dx: dot_dx_at(first, j),
+        dy,
+    }
+}
+
+/// The dots of one head.
+fn put_dots_of(out: &mut Row<Spot>, first: i32, dy: i32, n: u8) -> Result<(), Memory>
+    requires near { n ≤ 3 }
+    requires low { pos 600 ≤ℤ first }
+    requires high { first ≤ℤ pos 1160 }
+    ensures { OnOk result (out.new ≡ out.old ++ dots_at first dy 0 n) }
+{
+    for j in 0..n {
+        out.push(dot(first, dy, j))?;
+    }
+    Ok(())
+}
+
+/// The dots of the heads of an event, `n` of each.
+pub fn put_dots(out: &mut Row<Spot>, dx: i32, n: u8, stands: &[Stand]) -> Result<(), Memory>
+    requires dots { n ≤ 3 }
+    requires low { pos 600 ≤ℤ dx }
+    requires high { dx ≤ℤ pos 1160 }
+    requires near { AllNear stands.now }
+    ensures { OnOk result (out.new ≡ out.old ++ dots_along dx n stands.now) }
+{
+    for s in stands {
+        put_dots_of(out, dx, dot_dy(s.height), n)?;
+    }
+    Ok(())
+}

@@ -1,0 +1,225 @@
+ghost use Rattle.std.specs.Prelude.{◌≡◌, ◌≤ℤ◌, pos, negsuc};
+ghost use Rattle.mus_stems.specs.Heads.{AllNear};
+ghost use Rattle.mus_stems.specs.Stills.{AllGood};
+ghost use Rattle.mus_stems.specs.Ends.{low_of, high_of, lowest_in, highest_in, run_low, run_high, is_up, stands_up, upper_end, lower_end, outer_end, own_end, further, furthest, run_end, from_of, has_stem};
+
+use crate::heads::{Stand, highest_from, lowest_from};
+use crate::stills::{Still, is_short_base};
+use mus_units::Wish;
+
+fn low_in(stands: &[Stand]) -> i32
+    ensures { result ≡ low_of stands.now }
+{
+    match stands {
+        [] => 0,
+        [s, more @ ..] => lowest_from(s.height, more),
+    }
+}
+
+fn high_in(stands: &[Stand]) -> i32
+    ensures { result ≡ high_of stands.now }
+{
+    match stands {
+        [] => 0,
+        [s, more @ ..] => highest_from(s.height, more),
+    }
+}
+
+/// The least of a height and those of the heads of events.
+fn lowest_along(first: i32, run: &[Still]) -> i32
+    ensures { result ≡ lowest_in first run.now }
+{
+    let mut low = first;
+    for e in run {
+        low = lowest_from(low, e.stands.as_slice());
+    }
+    low
+}
+
+/// The greatest of a height and those of the heads of events.
+fn highest_along(first: i32, run: &[Still]) -> i32
+    ensures { result ≡ highest_in first run.now }
+{
+    let mut high = first;
+    for e in run {
+        high = highest_from(high, e.stands.as_slice());
+    }
+    high
+}
+
+fn low_of_run(run: &[Still]) -> i32
+    ensures { result ≡ run_low run.now }
+{
+    match run {
+        [] => 0,
+        [e, more @ ..] => lowest_along(low_in(e.stands.as_slice()), more),
+    }
+}
+
+fn high_of_run(run: &[Still]) -> i32
+    ensures { result ≡ run_high run.now }
+{
+    match run {
+        [] => 0,
+        [e, more @ ..] => highest_along(high_in(e.stands.as_slice()), more),
+    }
+}
+
+/// The height of the lowest head; 0 without a head.
+pub fn lowest_head(stands: &[Stand]) -> i32
+    requires { AllNear stands.now }
+    ensures value { result ≡ low_of stands.now }
+    ensures low { negsuc 13 ≤ℤ result }
+    ensures high { result ≤ℤ pos 22 }
+{
+    low_in(stands)
+}
+
+/// The height of the highest head; 0 without a head.
+pub fn highest_head(stands: &[Stand]) -> i32
+    requires { AllNear stands.now }
+    ensures value { result ≡ high_of stands.now }
+    ensures low { negsuc 13 ≤ℤ result }
+    ensures high { result ≤ℤ pos 22 }
+{
+    high_in(stands)
+}
+
+/// The height of the lowest head of a run.
+fn lowest_in_run(run: &[Still]) -> i32
+    requires { AllGood run.now }
+    ensures value { result ≡ run_low run.now }
+    ensures low { negsuc 13 ≤ℤ result }
+    ensures high { result ≤ℤ pos 22 }
+{
+    low_of_run(run)
+}
+
+/// The height of the highest head of a run.
+fn highest_in_run(run: &[Still]) -> i32
+    requires { AllGood run.now }
+    ensures value { result ≡ run_high run.now }
+    ensures low { negsuc 13 ≤ℤ result }
+    ensures high { result ≤ℤ pos 22 }
+{
+    high_of_run(run)
+}
+
+/// Whether stems go up, over the lowest and the highest height.
+fn points_up(wish: Wish, low: i32, high: i32) -> bool
+    requires low_low { negsuc 13 ≤ℤ low }
+    requires low_high { low ≤ℤ pos 22 }
+    requires high_low { negsuc 13 ≤ℤ high }
+    requires high_high { high ≤ℤ pos 22 }
+    ensures { result ≡ is_up wish low high }
+{
+    match wish {
+        Wish::Up => true,
+        Wish::Down => false,
+        Wish::Auto => low + high < 8,
+    }
+}
+
+/// Whether the stems of a run go up.
+#[tactic(auto, unfolding(crate::specs::Ends::stands_up))]
+pub fn run_points_up(wish: Wish, run: &[Still]) -> bool
+    requires { AllGood run.now }
+    ensures { result ≡ stands_up wish run.now }
+{
+    points_up(wish, lowest_in_run(run), highest_in_run(run))
+}
+
+/// The end of a stem that goes up.
+#[tactic(auto, unfolding(crate::specs::Ends::upper_end))]
+fn end_above(high: i32) -> i32
+    requires low { negsuc 13 ≤ℤ high }
+    requires high { high ≤ℤ pos 22 }
+    ensures { result ≡ upper_end high }
+{
+    (250 * high + 1750).max(1000)
+}
+
+/// The end of a stem that goes down.
+#[tactic(auto, unfolding(crate::specs::Ends::lower_end))]
+fn end_below(low: i32) -> i32
+    requires low { negsuc 13 ≤ℤ low }
+    requires high { low ≤ℤ pos 22 }
+    ensures { result ≡ lower_end low }
+{
+    (250 * low - 1750).min(1000)
+}
+
+/// The end of a stem that is past its outermost head, on the side to which it goes.
+#[tactic(auto, unfolding(crate::specs::Ends::outer_end))]
+fn end_past(up: bool, low: i32, high: i32) -> i32
+    requires low_low { negsuc 13 ≤ℤ low }
+    requires low_high { low ≤ℤ pos 22 }
+    requires high_low { negsuc 13 ≤ℤ high }
+    requires high_high { high ≤ℤ pos 22 }
+    ensures { result ≡ outer_end up low high }
+{
+    if up { end_above(high) } else { end_below(low) }
+}
+
+/// The dy at which the stem of an event ends by itself; 0 without a head.
+pub fn own_end_of(up: bool, stands: &[Stand]) -> i32
+    requires { AllNear stands.now }
+    ensures { result ≡ own_end up stands.now }
+{
+    match stands {
+        [] => 0,
+        [_, ..] => end_past(up, lowest_head(stands), highest_head(stands)),
+    }
+}
+
+/// The one of two ends that is further out.
+#[tactic(auto, unfolding(crate::specs::Ends::further))]
+pub fn further_of(up: bool, y: i32, z: i32) -> i32
+    ensures { result ≡ further up y z }
+{
+    if up { y.max(z) } else { y.min(z) }
+}
+
+/// The furthest of an end and the own ends of events.
+fn furthest_along(up: bool, first: i32, run: &[Still]) -> i32
+    requires { AllGood run.now }
+    ensures { result ≡ furthest up first run.now }
+{
+    let mut end = first;
+    for e in run {
+        end = further_of(up, end, own_end_of(up, e.stands.as_slice()));
+    }
+    end
+}
+
+/// The dy at which the stems of a run end together.
+pub fn end_of_run(up: bool, run: &[Still]) -> i32
+    requires { AllGood run.now }
+    ensures { result ≡ run_end up run.now }
+{
+    match run {
+        [] => 0,
+        [e, more @ ..] => furthest_along(up, own_end_of(up, e.stands.as_slice()), more),
+    }
+}
+
+/// The dy at which a stem begins.
+#[tactic(auto, unfolding(crate::specs::Ends::from_of))]
+pub fn stem_from(up: bool, stands: &[Stand]) -> i32
+    requires { AllNear stands.now }
+    ensures { result ≡ from_of up stands.now }
+{
+    if up {
+        250 * lowest_head(stands)
+    } else {
+        250 * highest_head(stands)
+    }
+}
+
+/// Whether an event has a stem: a note of 1/2 or less.
+#[tactic(auto, unfolding(crate::specs::Ends::has_stem))]
+pub fn carries_stem(e: &Still) -> bool
+    ensures { result ≡ has_stem e.now }
+{
+    0 < e.stands.len() && is_short_base(e.base)
+}

@@ -1,0 +1,185 @@
+ghost use Rattle.std.specs.Prelude.{◌≡◌, ◌≤ℤ◌, ◌<◌, ◌++◌, List, Option, pos, negsuc, length, map, IfOk};
+ghost use Rattle.mus_stems.specs.Heads.{stand_of, IsNear, AllNear, lowest, highest, level_of, Taken, taken_one, taken_at, taken, is_step_past, gives_way, shifted, shift_of, shifts_of};
+
+use mus_units::{Clef, Head, Memory, Row, height};
+use std::alloc::Global;
+
+/// Where a head stands, and whether a sign is written before it.
+#[derive(Clone, Copy, Debug, PartialEq, Eq)]
+pub struct Stand {
+    pub height: i32,
+    pub signed: bool,
+}
+
+/// The head taken last: how far it stands, and whether it was moved.
+#[derive(Clone, Copy, Debug, PartialEq, Eq)]
+pub struct Last {
+    pub level: i32,
+    pub moved: bool,
+}
+
+/// Where a head stands in a clef.
+#[tactic(auto, unfolding(crate::specs::Heads::stand_of))]
+fn stand_at(clef: Clef, head: Head) -> Stand
+    requires { IsNear (stand_of clef head) }
+    ensures { result ≡ stand_of clef head }
+{
+    Stand {
+        height: height(head.pitch, clef) as i32,
+        signed: head.sign.is_some(),
+    }
+}
+
+/// Where heads stand in a clef, in the order of the text.
+pub fn stands(alloc: Global, clef: Clef, heads: &[Head]) -> Result<Row<Stand>, Memory>
+    requires { AllNear (map (stand_of clef) heads.now) }
+    ensures { IfOk result (λ s. s ≡ map (stand_of clef) heads.now) }
+{
+    let mut out = Row::new(alloc);
+    for head in heads {
+        out.push(stand_at(clef, *head))?;
+    }
+    Ok(out)
+}
+
+/// The least of a height and those of heads.
+pub fn lowest_from(first: i32, stands: &[Stand]) -> i32
+    ensures { result ≡ lowest first stands.now }
+{
+    let mut low = first;
+    for s in stands {
+        low = low.min(s.height);
+    }
+    low
+}
+
+/// The greatest of a height and those of heads.
+pub fn highest_from(first: i32, stands: &[Stand]) -> i32
+    ensures { result ≡ highest first stands.now }
+{
+    let mut high = first;
+    for s in stands {
+        high = high.max(s.height);
+    }
+    high
+}
+
+/// How far a head stands in the way in which heads are taken.
+#[tactic(auto, unfolding(crate::specs::Heads::level_of))]
+pub fn level(up: bool, height: i32) -> i32
+    requires low { negsuc 13 ≤ℤ height }
+    requires high { height ≤ℤ pos 22 }
+    ensures { result ≡ level_of up height }
+{
+    if up { height } else { 0 - height }
+}
+
+/// Whether a level is at most one step past the one before.
+#[tactic(auto, unfolding(crate::specs::Heads::is_step_past))]
+fn is_step(before: i32, level: i32) -> bool
+    requires low { negsuc 21 ≤ℤ level }
+    requires high { level ≤ℤ pos 22 }
+    ensures { result ≡ is_step_past before level }
+{
+    level - 1 <= before
+}
+
+/// Whether a head gives way to the one taken before it.
+#[tactic(auto, unfolding(crate::specs::Heads::gives_way))]
+fn is_moved(last: Option<Last>, level: i32) -> bool
+    requires low { negsuc 21 ≤ℤ level }
+    requires high { level ≤ℤ pos 22 }
+    ensures { result ≡ gives_way last level }
+{
+    match last {
+        None => false,
+        Some(b) => is_step(b.level, level) && !b.moved,
+    }
+}
+
+/// The dx of a head that gives way.
+#[tactic(auto, unfolding(crate::specs::Heads::shift_of))]
+fn shift(up: bool) -> i32
+    ensures { result ≡ shift_of up }
+{
+    if up { 560 } else { -560 }
+}
+
+/// Moves a head, if it stands at a level and gives way.
+#[tactic(auto, unfolding(crate::specs::Heads::taken_one))]
+fn shift_one(
+    up: bool,
+    v: i32,
+    s: Stand,
+    i: usize,
+    last: Option<Last>,
+    shifts: &mut [i32],
+) -> Option<Last>
+    requires near { IsNear s }
+    requires low { negsuc 21 ≤ℤ v }
+    requires high { v ≤ℤ pos 22 }
+    requires room { i < length shifts.old }
+    ensures moved { (rest : List Taken) → shifted (shift_of up) result rest shifts.new ≡ shifted (shift_of up) last (taken_one up v i s rest) shifts.old }
+{
+    if level(up, s.height) != v {
+        return last;
+    }
+    if is_moved(last, v) {
+        shifts[i] = shift(up);
+        return Some(Last {
+            level: v,
+            moved: true,
+        });
+    }
+    Some(Last {
+        level: v,
+        moved: false,
+    })
+}
+
+/// Moves the heads at one level that give way.
+fn shift_level(
+    up: bool,
+    v: i32,
+    stands: &[Stand],
+    last: Option<Last>,
+    shifts: &mut [i32],
+) -> Option<Last>
+    requires near { AllNear stands.now }
+    requires low { negsuc 21 ≤ℤ v }
+    requires high { v ≤ℤ pos 22 }
+    requires room { length stands.now ≡ length shifts.old }
+    ensures moved { (rest : List Taken) → shifted (shift_of up) result rest shifts.new ≡ shifted (shift_of up) last (taken_at up v 0 stands.now rest) shifts.old }
+{
+    let mut before = last;
+    let mut i = 0;
+    for s in stands {
+        before = shift_one(up, v, *s, i, before, shifts);
+        i += 1;
+    }
+    before
+}
+
+/// Moves the heads that give way, level by level.
+#[tactic(auto, unfolding(crate::specs::Heads::taken))]
+fn shift_all(up: bool, stands: &[Stand], shifts: &mut [i32])
+    requires near { AllNear stands.now }
+    requires room { length stands.now ≡ length shifts.old }
+    ensures moved { shifts.new ≡ shifted (shift_of up) Option.None (taken up stands.now) shifts.old }
+{
+    let mut last = None;
+    for n in 0..45u8 {
+        last = shift_level(up, i32::from(n) - 22, stands, last, shifts);
+    }
+}
+
+/// The dx of each head, in the order of the text.
+#[tactic(auto, unfolding(crate::specs::Heads::shifts_of))]
+pub fn shifts_for(alloc: Global, up: bool, stands: &[Stand]) -> Result<Row<i32>, Memory>
+    requires near { AllNear stands.now }
+    ensures { IfOk result (λ r. r ≡ shifts_of up stands.now) }
+{
+    let mut shifts = vec![in alloc; 0; stands.len()]?;
+    shift_all(up, stands, &mut shifts);
+    Ok(Row { items: shifts })
+}

@@ -1,0 +1,24 @@
+//! Stems: which way they go and where they end, which events share a beam, which heads and signs
+//! give way to others, and where ledger lines and dots stand.
+#![tactic(auto)]
+
+pub mod beams;
+pub mod dots;
+pub mod ends;
+pub mod heads;
+pub mod ledgers;
+pub mod plans;
+pub mod signs;
+pub mod slopes;
+pub mod stills;
+
+pub use dots::Spot;
+pub use ends::{highest_head, lowest_head};
+pub use heads::{Stand, stands};
+pub use ledgers::ledgers_for;
+pub use plans::{StemPlan, stems};
+pub use signs::signs_for;
+pub use slopes::slope;
+
+#[cfg(test)]
+mod tests;

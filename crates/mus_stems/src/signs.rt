@@ -1,0 +1,108 @@
+ghost use Rattle.std.specs.Prelude.{◌≡◌, ◌≤ℤ◌, ◌<◌, ◌≤◌, ◌+◌, List, negsuc, length, false, IfOk};
+ghost use Rattle.std.specs.List.{list_any};
+ghost use Rattle.mus_stems.specs.Heads.{IsNear, AllNear, Taken, taken_one, taken_at, taken};
+ghost use Rattle.mus_stems.specs.Signs.{is_left, first_sign, sign_at, signs_along, signs_from};
+
+use crate::heads::{Stand, level};
+use mus_units::{Memory, Row};
+use std::alloc::Global;
+
+/// The dx of a sign by its number.
+#[tactic(auto, unfolding(crate::specs::Signs::sign_at))]
+fn sign_place(first: i32, k: u32) -> i32
+    requires low { negsuc 1310 ≤ℤ first }
+    requires few { k ≤ 2250000 }
+    ensures { result ≡ sign_at first k }
+{
+    first - 500 * (k as i32)
+}
+
+/// Gives the sign at a head its dx, if there is one and the head stands at a level; answers the next one's number.
+#[tactic(auto, unfolding(crate::specs::Heads::taken_one))]
+fn sign_one(first: i32, v: i32, s: Stand, i: usize, k: u32, signs: &mut [Option<i32>]) -> u32
+    requires near { IsNear s }
+    requires low { negsuc 1310 ≤ℤ first }
+    requires few { k ≤ 2250000 }
+    requires room { i < length signs.old }
+    ensures bound { result ≤ k + 1 }
+    ensures signs { (rest : List Taken) → signs_along first result rest signs.new ≡ signs_along first k (taken_one false v i s rest) signs.old }
+{
+    if level(false, s.height) != v {
+        return k;
+    }
+    if s.signed {
+        signs[i] = Some(sign_place(first, k));
+        return k + 1;
+    }
+    k
+}
+
+/// Gives the signs at one level their dx; answers the next one's number.
+fn sign_level(first: i32, v: i32, stands: &[Stand], k: u32, signs: &mut [Option<i32>]) -> u32
+    requires near { AllNear stands.now }
+    requires room { length stands.now ≡ length signs.old }
+    requires few { length stands.now ≤ 50000 }
+    requires low { negsuc 1310 ≤ℤ first }
+    requires bound { k ≤ 2200000 }
+    ensures bound { result ≤ k + length stands.now }
+    ensures signs { (rest : List Taken) → signs_along first result rest signs.new ≡ signs_along first k (taken_at false v 0 stands.now rest) signs.old }
+{
+    let mut next = k;
+    let mut i = 0;
+    for s in stands {
+        next = sign_one(first, v, *s, i, next, signs);
+        i += 1;
+    }
+    next
+}
+
+/// Gives all signs their dx, level by level.
+#[tactic(auto, unfolding(crate::specs::Heads::taken))]
+fn sign_all(first: i32, stands: &[Stand], signs: &mut [Option<i32>])
+    requires near { AllNear stands.now }
+    requires room { length stands.now ≡ length signs.old }
+    requires few { length stands.now ≤ 50000 }
+    requires low { negsuc 1310 ≤ℤ first }
+    ensures { signs.new ≡ signs_along first 0 (taken false stands.now) signs.old }
+{
+    let mut k = 0;
+    for n in 0..45u8 {
+        k = sign_level(first, i32::from(n) - 22, stands, k, signs);
+    }
+}
+
+/// The dx of the sign of each head, in the order of the text.
+#[tactic(auto, unfolding(crate::specs::Signs::signs_from))]
+pub fn signs_for(alloc: Global, first: i32, stands: &[Stand]) -> Result<Row<Option<i32>>, Memory>
+    requires near { AllNear stands.now }
+    requires few { length stands.now ≤ 50000 }
+    requires low { negsuc 1310 ≤ℤ first }
+    ensures { IfOk result (λ r. r ≡ signs_from first stands.now) }
+{
+    let mut signs = vec![in alloc; None; stands.len()]?;
+    sign_all(first, stands, &mut signs);
+    Ok(Row { items: signs })
+}
+
+/// Whether a head that gave way stands left of its stem.
+#[tactic(auto, unfolding(crate::specs::Signs::is_left))]
+fn stands_left(dx: i32) -> bool
+    ensures { result ≡ is_left dx }
+{
+    dx == -560
+}
+
+fn any_left(shifts: &[i32]) -> bool
+    ensures { result ≡ list_any is_left shifts.now }
+{
+    shifts.iter().any(|dx| stands_left(*dx))
+}
+
+/// The dx of the first sign of an event, further left where a head stands left of its stem.
+#[tactic(auto, unfolding(crate::specs::Signs::first_sign))]
+pub fn sign_dx(shifts: &[i32]) -> i32
+    ensures value { result ≡ first_sign shifts.now }
+    ensures low { negsuc 1310 ≤ℤ result }
+{
+    if any_left(shifts) { -1310 } else { -750 }
+}

@@ -1,0 +1,292 @@
+ghost use Rattle.std.specs.Prelude.{◌≡◌, ◌++◌, ◌≤◌, ◌≤ℤ◌, ◌<ℤ◌, ◌^◌, ◌∷◌, [], ◌+ℤ◌, ◌-ℤ◌, ◌*ℤ◌, pos, negsuc, length, IfOk, OnOk};
+ghost use Rattle.std.specs.Int.{int_min, int_max, int_div_euclid};
+ghost use Rattle.mus_stems.specs.Plans.{AllEndsNear};
+ghost use Rattle.mus_stems.specs.Runs.{run_more};
+ghost use Rattle.mus_stems.specs.Slope.{anchor_of, anchors, shares_beam, last_of, line_of, rise_at, base_along, ends_along, line_ends, beam_ends, sloped_ends, with_end, with_ends, sloped, ArePlaces, RisesInBeams, AreAnchors, IsLine, IsOver, AreOver, Rise, IsBase};
+
+use crate::ends::further_of;
+use crate::plans::StemPlan;
+use mus_units::{Memory, Row};
+use std::alloc::Global;
+
+/// What a slope takes from an event: the way of its stem, its own end, where its beam begins, and
+/// its abscissa.
+#[derive(Clone, Copy, Debug, PartialEq, Eq)]
+pub struct Anchor {
+    pub up: bool,
+    pub own: i32,
+    pub group: u32,
+    pub x: i64,
+}
+
+/// The line of a beam: the abscissas of its first and its last event, and how far it climbs between
+/// them.
+#[derive(Clone, Copy, Debug, PartialEq, Eq)]
+pub struct Line {
+    pub first: i64,
+    pub last: i64,
+    pub climb: i64,
+}
+
+/// What a slope takes from one event.
+#[tactic(auto, unfolding(crate::specs::Slope::anchor_of))]
+fn make_anchor(plan: &StemPlan, x: &i64) -> Anchor
+    ensures { result ≡ anchor_of plan.now x.now }
+{
+    Anchor {
+        up: plan.up,
+        own: plan.own,
+        group: plan.group,
+        x: *x,
+    }
+}
+
+/// Events with their abscissas.
+fn anchors_for(alloc: Global, plans: &[StemPlan], at: &[i64]) -> Result<Row<Anchor>, Memory>
+    requires { length at.now ≡ length plans.now }
+    ensures { IfOk result (λ a. a ≡ anchors plans.now at.now) }
+{
+    let mut out = Row::new(alloc);
+    for (plan, x) in plans.iter().zip(at) {
+        out.push(make_anchor(plan, x))?;
+    }
+    Ok(out)
+}
+
+/// Whether two neighbours are in one beam.
+#[tactic(auto, unfolding(crate::specs::Slope::shares_beam))]
+fn shares(a: &Anchor, b: &Anchor) -> bool
+    ensures { result ≡ shares_beam a.now b.now }
+{
+    a.group == b.group
+}
+
+/// How many events follow the first in its beam.
+fn more_in_beam(first: &Anchor, others: &[Anchor]) -> usize
+    ensures value { result ≡ run_more shares_beam first.now others.now }
+    ensures bound { result ≤ length others.now }
+{
+    let mut last = first;
+    let mut n = 0;
+    for a in others {
+        if !shares(last, a) {
+            return n;
+        }
+        last = a;
+        n += 1;
+    }
+    n
+}
+
+/// The last event of a beam.
+fn last_in(first: &Anchor, others: &[Anchor]) -> Anchor
+    ensures { result ≡ last_of first.now others.now }
+{
+    let mut last = *first;
+    for a in others {
+        last = *a;
+    }
+    last
+}
+
+/// How far a line climbs between own ends.
+fn climb_between(first: i32, last: i32) -> i64
+    ensures { result ≡ int_max (int_min (last -ℤ first) (pos 500)) (negsuc 499) }
+{
+    (i64::from(last) - i64::from(first)).min(500).max(-500)
+}
+
+/// The line from an event to another.
+#[tactic(auto, unfolding(crate::specs::Slope::line_of))]
+fn line_between(a: &Anchor, b: &Anchor) -> Line
+    ensures { result ≡ line_of a.now b.now }
+{
+    Line {
+        first: a.x,
+        last: b.x,
+        climb: climb_between(a.own, b.own),
+    }
+}
+
+/// How far a line that climbs so much over a length has risen so far along it.
+fn risen(climb: i64, along: i64, length: i64) -> i32
+    requires low { negsuc 499 ≤ℤ climb }
+    requires high { climb ≤ℤ pos 500 }
+    requires begun { pos 0 ≤ℤ along }
+    requires within { along ≤ℤ length }
+    requires some { pos 0 <ℤ length }
+    requires near { length ≤ℤ pos (2 ^ 40) }
+    ensures value { result ≡ int_div_euclid (climb *ℤ along) length }
+    ensures low { negsuc 499 ≤ℤ result }
+    ensures high { result ≤ℤ pos 500 }
+{
+    (climb * along).div_euclid(length) as i32
+}
+
+/// How far a line has risen at an abscissa.
+#[tactic(auto, unfolding(crate::specs::Slope::rise_at))]
+fn rise(line: &Line, x: i64) -> i32
+    requires line { IsLine line.now }
+    requires after { line.now.first ≤ℤ x }
+    requires before { x ≤ℤ line.now.last }
+    ensures value { result ≡ rise_at line.now x }
+    ensures low { negsuc 499 ≤ℤ result }
+    ensures high { result ≤ℤ pos 500 }
+{
+    risen(line.climb, x - line.first, line.last - line.first)
+}
+
+/// What an event asks of the base of its beam: its own end, less the rise up to it.
+fn base_at(line: &Line, a: &Anchor) -> i32
+    requires line { IsLine line.now }
+    requires over { IsOver line.now a.now }
+    ensures value { result ≡ a.now.own -ℤ rise_at line.now a.now.x }
+    ensures near { IsBase result }
+{
+    a.own - rise(line, a.x)
+}
+
+/// The base of a beam: the furthest that its events ask.
+fn base_of(line: &Line, first: &Anchor, others: &[Anchor]) -> i32
+    requires line { IsLine line.now }
+    requires first { IsOver line.now first.now }
+    requires others { AreOver line.now others.now }
+    ensures { result ≡ base_along first.now.up line.now (first.now.own -ℤ rise_at line.now first.now.x) others.now }
+{
+    let mut base = base_at(line, first);
+    for a in others {
+        base = further_of(first.up, base, base_at(line, a));
+    }
+    base
+}
+
+/// The end of an event over a line.
+fn put_end(out: &mut Row<i32>, line: &Line, base: i32, a: &Anchor) -> Result<(), Memory>
+    requires line { IsLine line.now }
+    requires base { IsBase base }
+    requires over { IsOver line.now a.now }
+    ensures { OnOk result (out.new ≡ out.old ++ (base +ℤ rise_at line.now a.now.x) ∷ []) }
+{
+    out.push(base + rise(line, a.x))
+}
+
+/// The ends of events over a line.
+fn put_ends(out: &mut Row<i32>, line: &Line, base: i32, beam: &[Anchor]) -> Result<(), Memory>
+    requires line { IsLine line.now }
+    requires base { IsBase base }
+    requires beam { AreOver line.now beam.now }
+    ensures { OnOk result (out.new ≡ out.old ++ ends_along line.now base beam.now) }
+{
+    for a in beam {
+        put_end(out, line, base, a)?;
+    }
+    Ok(())
+}
+
+/// The ends of the events of a beam of two or more.
+fn put_line(
+    out: &mut Row<i32>,
+    line: &Line,
+    first: &Anchor,
+    others: &[Anchor],
+    beam: &[Anchor],
+) -> Result<(), Memory>
+    requires line { IsLine line.now }
+    requires beam { beam.now ≡ first.now ∷ others.now }
+    requires over { AreOver line.now beam.now }
+    ensures { OnOk result (out.new ≡ out.old ++ line_ends line.now first.now others.now) }
+{
+    let base = base_of(line, first, others);
+    put_ends(out, line, base, beam)
+}
+
+/// The ends of a beam.
+fn put_beam(out: &mut Row<i32>, beam: &[Anchor]) -> Result<(), Memory>
+    requires anchors { AreAnchors beam.now }
+    requires rise { Rise beam.now }
+    ensures { OnOk result (out.new ≡ out.old ++ beam_ends beam.now) }
+{
+    let Some((first, others)) = beam.split_first() else {
+        return Ok(());
+    };
+    let Some((second, more)) = others.split_first() else {
+        return out.push(first.own);
+    };
+    let line = line_between(first, &last_in(second, more));
+    put_line(out, &line, first, others, beam)
+}
+
+/// The ends of all beams.
+fn ends_for(alloc: Global, events: &[Anchor]) -> Result<Row<i32>, Memory>
+    requires anchors { AreAnchors events.now }
+    requires rise { RisesInBeams events.now }
+    ensures { IfOk result (λ ends. ends ≡ sloped_ends events.now) }
+{
+    let mut out = Row::new(alloc);
+    let mut rest = events;
+    while let Some((a, more)) = rest.split_first() {
+        let n = more_in_beam(a, more);
+        let (beam, after) = rest.split_at(n + 1);
+        put_beam(&mut out, beam)?;
+        rest = after;
+    }
+    Ok(out)
+}
+
+/// A plan with another end.
+#[tactic(auto, unfolding(crate::specs::Slope::with_end))]
+fn copy_with(alloc: Global, plan: &StemPlan, to: &i32) -> Result<StemPlan, Memory>
+    ensures { IfOk result (λ p. p ≡ with_end plan.now to.now) }
+{
+    Ok(StemPlan {
+        up: plan.up,
+        has: plan.has,
+        from: plan.from,
+        to: *to,
+        own: plan.own,
+        group: plan.group,
+        flags: plan.flags,
+        shifts: Row::from_slice(alloc, plan.shifts.as_slice())?,
+        signs: Row::from_slice(alloc, plan.signs.as_slice())?,
+        ledgers: Row::from_slice(alloc, plan.ledgers.as_slice())?,
+        dots: Row::from_slice(alloc, plan.dots.as_slice())?,
+    })
+}
+
+/// A copy of a plan with another end, put behind others.
+fn put_copy(alloc: Global, out: &mut Row<StemPlan>, plan: &StemPlan, to: &i32) -> Result<(), Memory>
+    ensures { OnOk result (out.new ≡ out.old ++ with_end plan.now to.now ∷ []) }
+{
+    out.push(copy_with(alloc, plan, to)?)
+}
+
+/// Plans with other ends.
+fn copy_all_with(alloc: Global, plans: &[StemPlan], ends: &[i32]) -> Result<Row<StemPlan>, Memory>
+    requires { length ends.now ≡ length plans.now }
+    ensures { IfOk result (λ p. p ≡ with_ends plans.now ends.now) }
+{
+    let mut out = Row::new(alloc);
+    for (plan, end) in plans.iter().zip(ends) {
+        put_copy(alloc, &mut out, plan, end)?;
+    }
+    Ok(out)
+}
+
+/// Plans that `stems` gave, with each end `to` on its beam's line and all else as it was.
+///
+/// `at` has the abscissa of each event in u, from 0 to 2^40, rising within a beam. The line climbs
+/// from the first event to the last by the difference of their own ends, at most 500, and stands as
+/// far out as the own ends of its events ask. An event without a beam keeps its own end.
+#[tactic(auto, using(crate::proofs::SlopeLaws::anchors_are, crate::proofs::SlopeLaws::ends_length, crate::proofs::SlopeLaws::sloped_length), unfolding(crate::specs::Slope::sloped))]
+pub fn slope(alloc: Global, plans: &[StemPlan], at: &[i64]) -> Result<Row<StemPlan>, Memory>
+    requires each { length at.now ≡ length plans.now }
+    requires ends { AllEndsNear plans.now }
+    requires places { ArePlaces at.now }
+    requires rise { RisesInBeams (anchors plans.now at.now) }
+    ensures value { IfOk result (λ p. p ≡ sloped plans.now at.now) }
+    ensures each { IfOk result (λ p. length p ≡ length plans.now) }
+{
+    let events = anchors_for(alloc, plans, at)?;
+    let ends = ends_for(alloc, events.as_slice())?;
+    copy_all_with(alloc, plans, ends.as_slice())
+}

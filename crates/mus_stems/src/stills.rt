@@ -1,0 +1,70 @@
+ghost use Rattle.std.specs.Prelude.{◌≡◌, ◌≤◌, length, IfOk};
+ghost use Rattle.mus_stems.specs.Stills.{flags_of, is_short, still_of, stills, CanStand, AllCanStand};
+
+use crate::heads::{Stand, stands};
+use mus_score::Flat;
+use mus_units::{Base, Clef, Memory, Row};
+use std::alloc::Global;
+
+/// What a stem plan takes from an event: its id, its value, whether it is parted from the event
+/// before it, and where its heads stand in its clef.
+#[derive(Debug, Drop)]
+pub struct Still {
+    pub id: u32,
+    pub base: Base,
+    pub dots: u8,
+    pub parted: bool,
+    pub stands: Row<Stand>,
+}
+
+/// How many flags a note of a base has alone, and a rest shows.
+pub fn flags_for(base: Base) -> u8
+    ensures { result ≡ flags_of base }
+{
+    match base {
+        Base::Breve | Base::Whole | Base::Half | Base::Quarter => 0,
+        Base::Eighth => 1,
+        Base::N16 => 2,
+        Base::N32 => 3,
+        Base::N64 => 4,
+    }
+}
+
+/// Whether notes of a base have a stem.
+pub fn is_short_base(base: Base) -> bool
+    ensures { result ≡ is_short base }
+{
+    match base {
+        Base::Breve | Base::Whole => false,
+        _ => true,
+    }
+}
+
+/// What is taken from one event.
+#[tactic(auto, unfolding(crate::specs::Stills::still_of))]
+fn take_still(alloc: Global, flat: &Flat, clef: Clef) -> Result<Still, Memory>
+    requires { CanStand flat.now clef }
+    ensures { IfOk result (λ s. s ≡ still_of flat.now clef) }
+{
+    let event = &flat.event;
+    Ok(Still {
+        id: event.id,
+        base: event.value.base,
+        dots: event.value.dots,
+        parted: event.parted,
+        stands: stands(alloc, clef, event.heads.as_slice())?,
+    })
+}
+
+/// What is taken from events, each in its own clef.
+pub fn stills_for(alloc: Global, events: &[Flat], clefs: &[Clef]) -> Result<Row<Still>, Memory>
+    requires clefs { length clefs.now ≡ length events.now }
+    requires good { AllCanStand events.now clefs.now }
+    ensures { IfOk result (λ s. s ≡ stills events.now clefs.now) }
+{
+    let mut out = Row::new(alloc);
+    for (event, clef) in events.iter().zip(clefs) {
+        out.push(take_still(alloc, event, *clef)?)?;
+    }
+    Ok(out)
+}
