@@ -1,0 +1,7 @@
+pub mod ArcLaws
+pub mod EventLaws
+pub mod HeadLaws
+pub mod PieceLaws
+pub mod Rows
+pub mod RuleLaws
+pub mod OrderLaws

@@ -1,0 +1,89 @@
+ghost use Rattle.std.specs.Prelude.{◌≡◌, ◌++◌, ◌∷◌, [], ◌≤◌, length, map, IfOk, OnOk};
+ghost use Rattle.std.specs.List.{All};
+ghost use Rattle.mus_score.specs.GoodScore.{IsGoodVoice};
+ghost use Rattle.mus_arcs.specs.Events.{at_measure, events_in, events_of_voice, events_within, walked_from};
+
+use mus_score::{Event, Head, Measure, Music, Voice};
+use mus_units::{Memory, Row};
+use std::alloc::Global;
+
+/// What arcs ask of an event: its id and its measure, how many slurs begin and
+/// end there, and its heads.
+#[derive(Debug, Drop)]
+pub struct EventAt {
+    pub event: u32,
+    pub measure: u32,
+    pub begins: u32,
+    pub ends: u32,
+    pub heads: Row<Head>,
+}
+
+/// The events of a voice, graces aside, each with its measure.
+pub(crate) fn events_of_voice(alloc: Global, v: &Voice) -> Result<Row<EventAt>, Memory>
+    requires { IsGoodVoice v.now }
+    ensures events { IfOk result (λ events. events ≡ events_of_voice v.now) }
+    ensures heads { IfOk result (λ events. All (λ e. length e.heads ≤ 50000) events) }
+{
+    let mut events = Row::new(alloc);
+    put_measures(alloc, v.measures.as_slice(), &mut events)?;
+    Ok(events)
+}
+
+fn put_measures(
+    alloc: Global,
+    measures: &[Measure],
+    events: &mut Row<EventAt>,
+) -> Result<(), Memory>
+    requires { length measures.now ≤ 2000 }
+    ensures { OnOk result (events.new ≡ events.old ++ walked_from 0 measures.now) }
+{
+    for (number, measure) in measures.iter().enumerate() {
+        put_nodes(alloc, measure.body.as_slice(), number as u32, events)?;
+    }
+    Ok(())
+}
+
+#[cycle(walk)]
+fn put_nodes(
+    alloc: Global,
+    body: &[Music],
+    measure: u32,
+    events: &mut Row<EventAt>,
+) -> Result<(), Memory>
+    ensures { OnOk result (events.new ≡ events.old ++ map (at_measure measure) (events_in body.now)) }
+{
+    for m in body {
+        put_node(alloc, m, measure, events)?;
+    }
+    Ok(())
+}
+
+#[cycle(walk)]
+fn put_node(alloc: Global, m: &Music, measure: u32, events: &mut Row<EventAt>) -> Result<(), Memory>
+    ensures { OnOk result (events.new ≡ events.old ++ map (at_measure measure) (events_within m.now)) }
+{
+    match m {
+        Music::Note(e) => put_event(alloc, e, measure, events),
+        Music::Rest(e) => put_event(alloc, e, measure, events),
+        Music::Grace { body: _, slash: _ } => Ok(()),
+        Music::Tuplet { p: _, q: _, body } => put_nodes(alloc, body.as_slice(), measure, events),
+    }
+}
+
+fn put_event(
+    alloc: Global,
+    e: &Event,
+    measure: u32,
+    events: &mut Row<EventAt>,
+) -> Result<(), Memory>
+    ensures { OnOk result (events.new ≡ events.old ++ at_measure measure e.now ∷ []) }
+{
+    events.push(EventAt {
+        event: e.id,
+        measure,
+        begins: e.begins,
+        ends: e.ends,
+        heads: Row::from_slice(alloc, e.heads.as_slice())?,
+    })?;
+    Ok(())
+}

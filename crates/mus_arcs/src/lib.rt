@@ -1,0 +1,16 @@
+//! Arcs: the slurs and ties of a voice, and their pieces in a system.
+//!
+//! A slur goes from a start to the end that it pairs with, and a tie from a head to one of its
+//! pitch in the very next event. What a system's end cuts is drawn in a piece on each side.
+#![tactic(auto)]
+
+pub mod cutting;
+pub mod events;
+pub mod pairing;
+
+pub use cutting::{Piece, pieces};
+pub use events::EventAt;
+pub use pairing::{Arc, Spot, arcs};
+
+#[cfg(test)]
+mod tests;

@@ -1,0 +1,170 @@
+ghost use Rattle.std.specs.Prelude.{◌≡◌, ◌++◌, ◌∷◌, [], ◌≤◌, length, reverse, drop, IfOk, OnOk};
+ghost use Rattle.std.specs.List.{All, list_any};
+ghost use Rattle.mus_units.specs.Good.{same_letter};
+ghost use Rattle.mus_score.specs.GoodScore.{IsGoodVoice};
+ghost use Rattle.mus_arcs.specs.Arcs.{AreArcsOf, arcs_of, copies, has_pitch, open_ends, slur, slurs, slurs_at, spot, tie, ties_at, ties_from};
+ghost use Rattle.mus_arcs.specs.Events.{events_of_voice};
+
+use crate::events::{EventAt, events_of_voice};
+use mus_score::{Head, Voice};
+use mus_units::{Memory, Pitch, Row};
+use std::alloc::Global;
+
+/// A slur or a tie from the event `first` of the measure `from` to the event
+/// `last` of the measure `to`. `head` is the place of a tie's head in its first
+/// event, and 0 for a slur.
+#[derive(Clone, Copy, Debug, PartialEq, Eq)]
+pub struct Arc {
+    pub tie: bool,
+    pub first: u32,
+    pub last: u32,
+    pub head: u32,
+    pub from: u32,
+    pub to: u32,
+}
+
+/// Where a slur begins or ends: an event and its measure.
+#[derive(Clone, Copy, Debug, PartialEq, Eq)]
+pub struct Spot {
+    pub event: u32,
+    pub measure: u32,
+}
+
+/// The slurs and ties of a voice, by their first event; at one event slurs before
+/// ties, the outer slur first, ties by head.
+///
+/// Each end of a slur pairs with the last unpaired start, at one event the starts
+/// first; a pair on one event and what has no partner is no arc. A tied head
+/// pairs with one of its letter and octave in the very next event of the voice,
+/// graces aside.
+pub fn arcs(alloc: Global, v: &Voice) -> Result<Row<Arc>, Memory>
+    requires { IsGoodVoice v.now }
+    ensures arcs { IfOk result (λ arcs. AreArcsOf (events_of_voice v.now) arcs) }
+    ensures value { IfOk result (λ arcs. arcs ≡ arcs_of (events_of_voice v.now)) }
+{
+    let events = events_of_voice(alloc, v)?;
+    let arcs = arcs_among(alloc, events.as_slice())?;
+    Ok(arcs)
+}
+
+/// The arcs of events, found from the last event back.
+fn arcs_among(alloc: Global, events: &[EventAt]) -> Result<Row<Arc>, Memory>
+    requires { All (λ e. length e.heads ≤ 50000) events.now }
+    ensures { IfOk result (λ arcs. arcs ≡ arcs_of events.now) }
+{
+    let mut backwards = Vec::new(alloc);
+    let mut ends = Vec::new(alloc);
+    'events: for i in (0..events.len()).rev() {
+        put_arcs(&events[i], &events[i + 1..], &mut ends, &mut backwards)?;
+    }
+    backwards.reverse();
+    Ok(Row { items: backwards })
+}
+
+/// Adds the arcs that begin at an event, the last of them first. The ends that
+/// none of the events behind takes come in, and those that are left go out.
+fn put_arcs(
+    event: &EventAt,
+    behind: &[EventAt],
+    ends: &mut Vec<Spot>,
+    backwards: &mut Vec<Arc>,
+) -> Result<(), Memory>
+    requires heads { length event.now.heads ≤ 50000 }
+    requires ends { reverse ends.old.items ≡ open_ends behind.now }
+    ensures ends { OnOk result (reverse ends.new.items ≡ open_ends (event.now ∷ behind.now)) }
+    ensures arcs { OnOk result (backwards.new.items ≡ backwards.old.items ++ reverse (slurs_at event.now behind.now ++ ties_at event.now behind.now)) }
+{
+    put_ties(event, behind, backwards)?;
+    let at = spot_of(event);
+    put_ends(at, event.ends, ends)?;
+    put_slurs(at, event.begins, ends, backwards)?;
+    Ok(())
+}
+
+fn spot_of(event: &EventAt) -> Spot
+    ensures { result ≡ spot event.now }
+{
+    Spot {
+        event: event.event,
+        measure: event.measure,
+    }
+}
+
+/// Adds the ends of slurs at one event.
+fn put_ends(at: Spot, count: u32, ends: &mut Vec<Spot>) -> Result<(), Memory>
+    ensures { OnOk result (reverse ends.new.items ≡ copies count at ++ reverse ends.old.items) }
+{
+    'times: for _n in 0..count {
+        ends.push(at)?;
+    }
+    Ok(())
+}
+
+/// Adds the slurs that begin at one event, the inner first: each start takes the
+/// end that was added last.
+fn put_slurs(
+    start: Spot,
+    count: u32,
+    ends: &mut Vec<Spot>,
+    backwards: &mut Vec<Arc>,
+) -> Result<(), Memory>
+    ensures left { OnOk result (reverse ends.new.items ≡ drop count (reverse ends.old.items)) }
+    ensures put { OnOk result (backwards.new.items ≡ backwards.old.items ++ slurs (copies count start) (reverse ends.old.items)) }
+{
+    'times: for _n in 0..count {
+        let Some(end) = ends.pop() else {
+            break;
+        };
+        put_slur(start, end, backwards)?;
+    }
+    Ok(())
+}
+
+/// Adds a slur, where it doesn't end at the event at which it begins.
+fn put_slur(start: Spot, end: Spot, backwards: &mut Vec<Arc>) -> Result<(), Memory>
+    ensures { OnOk result (backwards.new.items ≡ backwards.old.items ++ slur start end) }
+{
+    if start.event != end.event {
+        backwards.push(Arc {
+            tie: false,
+            first: start.event,
+            last: end.event,
+            head: 0,
+            from: start.measure,
+            to: end.measure,
+        })?;
+    }
+    Ok(())
+}
+
+/// Adds the ties from an event to the one behind it, that of the last head first.
+fn put_ties(event: &EventAt, behind: &[EventAt], backwards: &mut Vec<Arc>) -> Result<(), Memory>
+    requires { length event.now.heads ≤ 50000 }
+    ensures { OnOk result (backwards.new.items ≡ backwards.old.items ++ reverse (ties_at event.now behind.now)) }
+{
+    let [next, ..] = behind else {
+        return Ok(());
+    };
+    let heads = event.heads.as_slice();
+    'heads: for place in (0..heads.len()).rev() {
+        let head = heads[place];
+        if head.tied && has_pitch(head.pitch, next.heads.as_slice()) {
+            backwards.push(Arc {
+                tie: true,
+                first: event.event,
+                last: next.event,
+                head: place as u32,
+                from: event.measure,
+                to: next.measure,
+            })?;
+        }
+    }
+    Ok(())
+}
+
+/// Whether one of the heads has this letter and octave.
+fn has_pitch(p: Pitch, heads: &[Head]) -> bool
+    ensures { result ≡ list_any (has_pitch p) heads.now }
+{
+    heads.iter().any(|head| head.pitch.letter == p.letter && head.pitch.octave == p.octave)
+}
