@@ -122,13 +122,16 @@ lines_stop breaks lines i line a b (errors.Fault fault) inside here so_far one =
 added : (a b : Line) (lines : List Line) → a ≡ b → size_of (a ∷ lines) ≡ length b.text + size_of lines
 added a b lines e = sum_by-cons (λ x. x) (length a.text) (map (λ (line : Line). length line.text) lines) ∙ ap (λ (l : Line). length l.text + size_of lines) e
 
+pub size_cut : (lines : List Line) (i : ℕ) (line : Line) → i < length lines → line ≡ get_or lines i line → size_of (drop i lines) ≡ length line.text + size_of (drop (i + 1) lines)
+size_cut lines i line inside here =
+    let one : suc i ≡ i + 1 = omega arith in
+    let cut : drop i lines ≡ get_or lines i line ∷ drop (suc i) lines = drop-cons lines i line inside in
+    ap size_of cut ∙ added (get_or lines i line) line (drop (suc i) lines) (sym here) ∙ ap (λ n. length line.text + size_of (drop n lines)) one
+
 pub size_behind : (lines : List Line) (i : ℕ) (line : Line) → i < length lines → line ≡ get_or lines i line → size_of (drop i lines) ≤ 2 ^ 30 → (length line.text ≤ 2 ^ 30) × (size_of (drop (i + 1) lines) ≤ 2 ^ 30)
 size_behind lines i line inside here small =
-    let one : i + 1 ≡ suc i = omega arith in
-    let cut : drop i lines ≡ get_or lines i line ∷ drop (suc i) lines = drop-cons lines i line inside in
-    let whole : size_of (drop i lines) ≡ length line.text + size_of (drop (suc i) lines) = ap size_of cut ∙ added (get_or lines i line) line (drop (suc i) lines) (sym here) in
-    let behind : size_of (drop (i + 1) lines) ≡ size_of (drop (suc i) lines) = ap (λ n. size_of (drop n lines)) one in
-    (omega (arith, whole, small), omega (arith, whole, small, behind))
+    let whole = size_cut lines i line inside here in
+    (omega (arith, whole, small), omega (arith, whole, small))
 
 -- the whole body
 pub body_is : (header : Header) (lines : List Line) (b c : Body) → b.ids ≡ declared_ids header → b.items ≡ [] → ReadsSome (BodyGives header.breaks lines) b c → IsBody header lines c.items

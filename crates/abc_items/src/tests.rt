@@ -1,7 +1,10 @@
+ghost use Rattle.std.specs.Prelude.{◌≤◌, ◌^◌, IsTrue};
+ghost use Rattle.abc_lines.specs.Good.{size_of};
+
 use crate::body::read_body;
 use crate::voices::{steps_of, unnamed_of, voices_of};
 use abc_fields::{Header, read_defaults, read_header};
-use abc_lines::{FaultKind, TuneError, TuneText, cut_book};
+use abc_lines::{FaultKind, Line, TuneError, TuneText, cut_book};
 use abc_steps::{Item, Step, Stood};
 use mus_units::{Clef, Row, Wish};
 use std::alloc::{AllocError, Global};
@@ -68,6 +71,20 @@ fn steps_shown(alloc: Global, steps: &[Stood]) -> Result<Vec<u8>, AllocError> {
     Ok(out)
 }
 
+/// Whether lines have at most 2^30 bytes together.
+fn is_small(lines: &[Line]) -> bool
+    ensures { IsTrue result → size_of lines.now ≤ 2 ^ 30 }
+{
+    let mut room: usize = 1_073_741_824;
+    for line in lines {
+        if line.text.len() > room {
+            return false;
+        }
+        room -= line.text.len();
+    }
+    true
+}
+
 /// The one tune of a book of fewer than 4,000 bytes.
 fn tune_of(alloc: Global, bytes: &[u8]) -> Result<(TuneText, Header), AllocError> {
     let Some((bytes, _)) = bytes.split_at_checked(min(bytes.len(), 4000)) else {
@@ -106,6 +123,7 @@ fn items_of_bodies(rt: HostRuntime) -> Result<(), Fail> {
         let lines = tune.lines.as_slice().split_at_checked(header.body as usize);
         assert!(rt; lines.is_some());
         if let Some((_, body)) = lines {
+            assert!(rt; is_small(body));
             match read_body(rt.alloc(), &header, body) {
                 Ok(items) => {
                     let found = shown(rt.alloc(), items.as_slice())?;
@@ -144,6 +162,7 @@ fn faults_of_bodies(rt: HostRuntime) -> Result<(), Fail> {
         let lines = tune.lines.as_slice().split_at_checked(header.body as usize);
         assert!(rt; lines.is_some());
         if let Some((_, body)) = lines {
+            assert!(rt; is_small(body));
             match read_body(rt.alloc(), &header, body) {
                 Err(TuneError::Fault(fault)) => {
                     assert_eq!(rt; fault.kind, kind);
@@ -166,6 +185,7 @@ fn voices_and_their_steps(rt: HostRuntime) -> Result<(), Fail> {
     let Some((_, body)) = tune.lines.as_slice().split_at_checked(header.body as usize) else {
         return Err(AllocError.into());
     };
+    assert!(rt; is_small(body));
     let Ok(items) = read_body(rt.alloc(), &header, body) else {
         return Err(AllocError.into());
     };

@@ -1,3 +1,6 @@
+ghost use Rattle.std.specs.Prelude.{◌≡◌, ◌≤◌, ◌≤ℤ◌, pos, length, IfOk};
+ghost use Rattle.lay_pages.specs.Stacking.{AreGoodStaves};
+
 use crate::filling::{Block, PageError, Spot, fill};
 use crate::stacking::stack;
 use crate::titles::title_block;
@@ -6,7 +9,9 @@ use mus_units::{Memory, Row, Size, Text};
 use std::alloc::{AllocError, Global};
 use std::test::Fail;
 
-fn staff(alloc: Global, low: i32, high: i32) -> StaffMarks {
+fn staff(alloc: Global, low: i32, high: i32) -> StaffMarks
+    ensures { (result.low ≡ low) × (result.high ≡ high) }
+{
     StaffMarks {
         marks: Row::new(alloc),
         low,
@@ -14,81 +19,95 @@ fn staff(alloc: Global, low: i32, high: i32) -> StaffMarks {
     }
 }
 
-fn system(alloc: Global, heights: &[(i32, i32)]) -> Result<SystemMarks, Memory> {
-    let mut staves = Row::new(alloc);
-    for (low, high) in heights {
-        staves.push(staff(alloc, *low, *high))?;
-    }
+/// A system of three staves.
+fn system(
+    alloc: Global,
+    first: StaffMarks,
+    second: StaffMarks,
+    third: StaffMarks,
+) -> Result<SystemMarks, Memory>
+    requires first { (first.low ≤ℤ pos 0) × (pos 2000 ≤ℤ first.high) }
+    requires second { (second.low ≤ℤ pos 0) × (pos 2000 ≤ℤ second.high) }
+    requires third { (third.low ≤ℤ pos 0) × (pos 2000 ≤ℤ third.high) }
+    ensures few { IfOk result (λ s. length s.staves ≤ 16) }
+    ensures good { IfOk result (λ s. AreGoodStaves s.staves) }
+{
     Ok(SystemMarks {
         a: 0,
         b: 1,
         keys: Row::new(alloc),
-        staves,
+        staves: Row {
+            items: vec![in alloc; first, second, third]?,
+        },
     })
 }
 
 #[test]
 fn staves_under_one_another(rt: HostRuntime) -> Result<(), Fail> {
-    let cases: [(&[(i32, i32)], &[i64], i64); 3] = [
-        (&[(0, 2000)], &[-2000], 2000),
-        (&[(-500, 2250)], &[-2250], 2750),
-        (
-            &[(-500, 2000), (0, 3000), (-100, 2000)],
-            &[-2000, -6000, -8500],
-            8600,
-        ),
-    ];
-    for (heights, bases, height) in cases {
-        let Ok(system) = system(rt.alloc(), heights) else {
-            return Err(AllocError.into());
-        };
-        match stack(rt.alloc(), &system) {
-            Ok(found) => {
-                assert_eq!(rt; found.bases.as_slice(), bases);
-                assert_eq!(rt; found.height, height);
-            }
-            Err(_) => assert!(rt; false, "no memory"),
+    let alloc = rt.alloc();
+    let Ok(system) = system(
+        alloc,
+        staff(alloc, -500, 2000),
+        staff(alloc, 0, 3000),
+        staff(alloc, -100, 2000),
+    ) else {
+        return Err(AllocError.into());
+    };
+    match stack(alloc, &system) {
+        Ok(found) => {
+            let bases: &[i64] = &[-2000, -6000, -8500];
+            assert_eq!(rt; found.bases.as_slice(), bases);
+            assert_eq!(rt; found.height, 8600);
         }
+        Err(_) => assert!(rt; false, "no memory"),
     }
     Ok(())
 }
 
-fn block(height: i64, keep: bool) -> Block {
-    Block { height, keep }
-}
-
 #[test]
 fn blocks_on_pages(rt: HostRuntime) -> Result<(), Fail> {
-    // Sixteen systems of 3500 u with 1500 between two fill a page of 78600 u, and four go to the next.
-    let systems = [block(3500, false); 20];
-    match fill(rt.alloc(), &systems, 78600) {
+    // Two systems of 3500 u with 1500 between them fill a page of 8500 u, and the third goes to the next.
+    let systems = [
+        Block {
+            height: 3500,
+            keep: false,
+        },
+        Block {
+            height: 3500,
+            keep: false,
+        },
+        Block {
+            height: 3500,
+            keep: false,
+        },
+    ];
+    match fill(rt.alloc(), &systems, 8500) {
         Ok(spots) => {
-            let spots = spots.as_slice();
-            assert_eq!(rt; spots.len(), 20);
-            assert_eq!(rt;
-                spots.get(1),
-                Some(&Spot {
-                    page: 0,
-                    top: 73600
-                })
-            );
-            assert_eq!(rt; spots.get(15), Some(&Spot { page: 0, top: 3600 }));
-            assert_eq!(rt;
-                spots.get(16),
-                Some(&Spot {
-                    page: 1,
-                    top: 78600
-                })
-            );
+            let want = [
+                Spot { page: 0, top: 8500 },
+                Spot { page: 0, top: 3500 },
+                Spot { page: 1, top: 8500 },
+            ];
+            assert_eq!(rt; spots.as_slice(), want.as_slice());
         }
         Err(_) => assert!(rt; false, "no memory"),
     }
     // A title stays with its system.
-    match fill(
-        rt.alloc(),
-        &[block(5000, false), block(2400, true), block(3000, false)],
-        11000,
-    ) {
+    let tied = [
+        Block {
+            height: 5000,
+            keep: false,
+        },
+        Block {
+            height: 2400,
+            keep: true,
+        },
+        Block {
+            height: 3000,
+            keep: false,
+        },
+    ];
+    match fill(rt.alloc(), &tied, 11000) {
         Ok(spots) => {
             let want = [
                 Spot {
@@ -106,11 +125,21 @@ fn blocks_on_pages(rt: HostRuntime) -> Result<(), Fail> {
         Err(_) => assert!(rt; false, "no memory"),
     }
     // A group that is higher than the page is told by its first block.
-    match fill(
-        rt.alloc(),
-        &[block(1000, false), block(2400, true), block(10000, false)],
-        12400,
-    ) {
+    let tall = [
+        Block {
+            height: 1000,
+            keep: false,
+        },
+        Block {
+            height: 2400,
+            keep: true,
+        },
+        Block {
+            height: 10000,
+            keep: false,
+        },
+    ];
+    match fill(rt.alloc(), &tall, 12400) {
         Err(error) => assert_eq!(rt; error, PageError::TooTall { block: 1 }),
         Ok(_) => assert!(rt; false, "filled"),
     }

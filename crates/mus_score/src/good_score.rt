@@ -216,9 +216,9 @@ fn are_good(v: &Voice, events: &[Flat]) -> bool
     are_good_events(v.verses, events) && are_in_reach(v.clef, events) && are_counted(events)
 }
 
-/// Whether a voice is good: at most 2000 measures and 8 verses, 50,000 heads and rests, good
+/// Whether a voice is good. True means at most 2000 measures and 8 verses, 50,000 heads and rests, good
 /// bodies, keys and meters, a place of words for each verse, heads at heights of -14 to 22, and
-/// ids that count its events from 0.
+/// ids that count its events from 0. That each good voice is told so is only tested.
 pub fn is_good_voice(alloc: Global, v: &Voice) -> Result<bool, Memory>
     ensures { IfOk result (λ r. IsTrue r → IsGoodVoice v.now) }
 {
@@ -298,9 +298,9 @@ fn are_good_bars(bars: &[u32], from: u32, to: u32) -> bool
     true
 }
 
-/// Whether a score is good: at most 16 voices with distinct ids, each good and with as many
+/// Whether a score is good. True means at most 16 voices with distinct ids, each good and with as many
 /// measures as the score, at most 50,000 heads and rests, and forced bars that rise, none of them
-/// 0 or the last bar.
+/// 0 or the last bar. That each good score is told so is only tested.
 pub fn is_good_score(alloc: Global, s: &Score) -> Result<bool, Memory>
     ensures { IfOk result (λ r. IsTrue r → IsGoodScore s.now) }
 {

@@ -1,3 +1,4 @@
 pub mod Keys
 pub mod Onsets
 pub mod Order
+pub mod Signed

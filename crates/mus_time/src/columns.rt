@@ -5,6 +5,7 @@ ghost use Rattle.mus_score.specs.Times.{flats_of};
 ghost use Rattle.mus_time.specs.Keys.{AreKeys, IsInSystem, called_keys, change_has_mark, event_keys, events_keys, first_keys, grace_keys, has_entries, has_features, key_at, key_has_mark, measures_keys, meter_has_mark, signed_after, signed_at, signed_behind, signed_through, voice_keys};
 ghost use Rattle.mus_time.specs.Onsets.{timeline_of};
 ghost use Rattle.mus_time.specs.Order.{Rises};
+ghost use Rattle.mus_time.specs.Signed.{signed_in, signed_within};
 
 use crate::keys::{Class, ColumnKey};
 use crate::times::Timeline;
@@ -203,17 +204,47 @@ fn put_measures(
     Ok(())
 }
 
+#[cycle(signing)]
+fn signed_behind_node(signed: bool, m: &Music) -> bool
+    ensures { result ≡ signed_within m.now signed }
+{
+    match m {
+        Music::Note(e) => signed_after_event(signed, &e.changes.key),
+        Music::Rest(e) => signed_after_event(signed, &e.changes.key),
+        Music::Grace { body: _, slash: _ } => signed,
+        Music::Tuplet { p: _, q: _, body } => signed_behind_nodes(signed, body.as_slice()),
+    }
+}
+
+/// Whether the key in force behind the nodes of a body has an entry.
+#[cycle(signing)]
+fn signed_behind_nodes(signed: bool, body: &[Music]) -> bool
+    ensures { result ≡ signed_in body.now signed }
+{
+    let mut signed = signed;
+    for m in body {
+        signed = signed_behind_node(signed, m);
+    }
+    signed
+}
+
+/// The same, said of the body's events.
+#[tactic(auto, using(crate::proofs::Signed::signed_body))]
+fn signed_behind_body(signed: bool, body: &[Music]) -> bool
+    ensures { result ≡ signed_through signed (flats_of body.now) }
+{
+    signed_behind_nodes(signed, body)
+}
+
 /// Whether the key in force behind some measures has an entry.
-fn signed_behind_measures(alloc: Global, signed: bool, measures: &[Measure]) -> Result<bool, Memory>
-    requires { All (λ m. IsGoodBody m.body) measures.now }
-    ensures { IfOk result (λ r. r ≡ signed_behind signed measures.now) }
+fn signed_behind_measures(signed: bool, measures: &[Measure]) -> bool
+    ensures { result ≡ signed_behind signed measures.now }
 {
     let mut signed = signed;
     for m in measures {
-        let flats = flatten(alloc, m.body.as_slice())?;
-        signed = signed_behind_all(signed, flats.as_slice());
+        signed = signed_behind_body(signed, m.body.as_slice());
     }
-    Ok(signed)
+    signed
 }
 
 fn put_first(out: &mut Row<ColumnKey>, a: u32, bar: Bar) -> Result<(), Memory>
@@ -254,7 +285,7 @@ fn put_voice(
     })?;
     put_first(out, a, v.first)?;
     let before = &measures[..a as usize];
-    let signed = signed_behind_measures(alloc, is_signed(&v.key), before)?;
+    let signed = signed_behind_measures(is_signed(&v.key), before);
     let measures = &measures[a as usize..b as usize];
     put_measures(alloc, out, lengths, a, signed, measures)
 }

@@ -1,0 +1,6 @@
+pub mod BarRows
+pub mod Drawn
+pub mod Fill
+pub mod MeasureRows
+pub mod Rests
+pub mod Taken

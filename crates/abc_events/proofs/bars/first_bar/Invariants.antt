@@ -1,0 +1,12 @@
+use Rattle.std.proofs.Common.{◌≡◌, ◌≤◌, ◌*◌, reverse, take}
+use Rattle.abc_steps.specs.Counts.{counts_of}
+use Rattle.abc_events.specs.Bars.{bars_at}
+use Rattle.abc_events.proofs.bars.first_bar.Given as goal
+
+abbrev pub invariant-loop-s : goal.invariant-loop-s
+invariant-loop-s l = record {
+  bars : l.all ≡ bars_at 0 (reverse (take l.s-index l.steps));
+  counts : l.counts ≡ counts_of (reverse (take l.s-index l.steps));
+  groups : l.counts.groups ≤ l.s-index;
+  further : l.counts.further ≤ 65535 * l.s-index;
+}

@@ -1,0 +1,13 @@
+use Rattle.std.proofs.Common.{◌≡◌, ◌++◌, length}
+use Rattle.std.specs.List.{All}
+use Rattle.std.specs.Vec.Iter.{into_iter_items, into_iter_len}
+use Rattle.abc_events.specs.Leaves.{leaves_from}
+use Rattle.abc_events.specs.Signs.{IsDrawn}
+use Rattle.abc_events.proofs.leaves.leaves_of.Given as goal
+
+abbrev pub invariant-loop-sign : goal.invariant-loop-sign
+invariant-loop-sign l = record {
+  list : l.out ++ leaves_from l.words l.at.event l.at.id (into_iter_items l.sign-iterator) ≡ leaves_from l.words 0 0 (into_iter_items l.initial.sign-iterator);
+  drawn : All IsDrawn (into_iter_items l.sign-iterator);
+  count : into_iter_len l.sign-iterator ≡ length (into_iter_items l.sign-iterator);
+}

@@ -1,0 +1,129 @@
+-- The leaves of a voice: each written event as its nodes, which are the graces before it and its parts.
+use Rattle.std.specs.Prelude.{ℕ, ◌+◌, List, [], ◌∷◌, ◌++◌, map, length, replicate, slice_get, Bool, true, false, if◌then◌else◌, Option, None, unwrap_or}
+use Rattle.mus_units.specs.declared.note.Head.{Head}
+use Rattle.mus_units.specs.declared.value.Base.TheVariants as bases
+use Rattle.mus_units.specs.declared.value.Value.{Value}
+use Rattle.mus_units.specs.Value.{value_length}
+use Rattle.mus_score.specs.declared.score.Look.TheVariants as looks
+use Rattle.mus_score.specs.declared.score.Event.{Event}
+use Rattle.mus_score.specs.declared.score.Music.{Music}
+use Rattle.mus_score.specs.declared.score.Music.TheVariants as music
+use Rattle.abc_pieces.specs.declared.token.GraceChord.{GraceChord}
+use Rattle.abc_events.specs.declared.written.Written.{Written}
+use Rattle.abc_events.specs.declared.written.Waiting.{Waiting}
+use Rattle.abc_events.specs.declared.written.Sign.{Sign}
+use Rattle.abc_events.specs.declared.written.Sign.TheVariants as sign
+use Rattle.abc_events.specs.declared.leaves.Leaf.{Leaf}
+use Rattle.abc_events.specs.declared.leaves.Leaf.TheVariants as leaf
+use Rattle.abc_events.specs.Waits.{no_changes}
+use Rattle.abc_events.specs.Signs.{with_tie}
+
+-- the words of an event, a place for each verse
+abbrev pub Words : Type 0
+Words = List (Option (List ℕ))
+
+-- Parts. Changes, graces, decorations, texts, the ending, slurs that begin, words and signs belong to
+-- the first part, slurs that end to the last one. Each part but the last is tied; the last as written.
+abbrev pub ends_at : Written → Bool → ℕ
+ends_at w more = if more then 0 else w.ends
+
+unfoldable pub first_part : Written → Waiting → Words → ℕ → Bool → Value → Event
+first_part w waiting words id more value = record {
+  id = id;
+  heads = map (with_tie more) w.heads;
+  look = w.look;
+  value = value;
+  ticks = unwrap_or w.whole (value_length value);
+  parted = w.parted;
+  changes = waiting.changes;
+  decos = waiting.decos;
+  mentions = waiting.mentions;
+  ending = waiting.ending;
+  begins = w.begins;
+  ends = ends_at w more;
+  words = words;
+}
+
+abbrev pub later_head : Bool → Head → Head
+later_head more head = with_tie more (record head { sign = None })
+
+unfoldable pub later_part : Written → ℕ → ℕ → Bool → Value → Event
+later_part w verses id more value = record {
+  id = id;
+  heads = map (later_head more) w.heads;
+  look = w.look;
+  value = value;
+  ticks = unwrap_or w.whole (value_length value);
+  parted = false;
+  changes = no_changes;
+  decos = [];
+  mentions = [];
+  ending = None;
+  begins = 0;
+  ends = ends_at w more;
+  words = replicate verses None;
+}
+
+abbrev pub some_more : List Value → Bool
+some_more [] = false
+some_more (v ∷ vs) = true
+
+abbrev pub later_parts : Written → ℕ → ℕ → List Value → List Event
+later_parts w verses id [] = []
+later_parts w verses id (v ∷ vs) = later_part w verses id (some_more vs) v ∷ later_parts w verses (id + 1) vs
+
+abbrev pub parts : Written → Waiting → Words → ℕ → List Value → List Event
+parts w waiting words id [] = []
+parts w waiting words id (v ∷ vs) = first_part w waiting words id (some_more vs) v ∷ later_parts w (length words) (id + 1) vs
+
+-- Nodes. An event without heads is a rest.
+abbrev pub note_or_rest : List Head → Event → Music
+note_or_rest [] e = music.Rest e
+note_or_rest (h ∷ hs) e = music.Note e
+
+abbrev pub node_of : Event → Music
+node_of e = note_or_rest e.heads e
+
+-- a note or a chord of a grace group has its heads and the value of an eighth
+abbrev pub eighth : Value
+eighth = record { base = bases.Eighth; dots = 0 }
+
+unfoldable pub grace_event : List Head → Event
+grace_event heads = record {
+  id = 0;
+  heads = heads;
+  look = looks.Seen;
+  value = eighth;
+  ticks = value_length eighth;
+  parted = false;
+  changes = no_changes;
+  decos = [];
+  mentions = [];
+  ending = None;
+  begins = 0;
+  ends = 0;
+  words = [];
+}
+
+abbrev pub grace_note : GraceChord → Music
+grace_note g = music.Note (grace_event g.heads)
+
+-- an empty group of graces is no node
+abbrev pub grace_nodes : List GraceChord → Bool → List Music
+grace_nodes [] slash = []
+grace_nodes (g ∷ gs) slash = music.Grace (map grace_note (g ∷ gs)) slash ∷ []
+
+abbrev pub nodes_of : Written → Waiting → Words → ℕ → List Music
+nodes_of w waiting words id = grace_nodes waiting.graces waiting.slash ++ map node_of (parts w waiting words id w.values)
+
+-- Ids count the parts of a voice; words are given for each of its written events, none past their end.
+abbrev pub words_at : List Words → ℕ → Words
+words_at words k = unwrap_or (slice_get words k) []
+
+abbrev pub leaves_from : List Words → ℕ → ℕ → List Sign → List Leaf
+leaves_from words k id [] = []
+leaves_from words k id (sign.Event w waiting ∷ signs) = leaf.Event w.measure (nodes_of w waiting (words_at words k) id) ∷ leaves_from words (k + 1) (id + length w.values) signs
+leaves_from words k id (sign.Opens measure p q r ∷ signs) = leaf.Opens measure p q r ∷ leaves_from words k id signs
+
+abbrev pub leaves_of : List Words → List Sign → List Leaf
+leaves_of words signs = leaves_from words 0 0 signs

@@ -1,0 +1,6 @@
+pub mod Bars
+pub mod Leaves
+pub mod Measures
+pub mod Nesting
+pub mod Signs
+pub mod Waits

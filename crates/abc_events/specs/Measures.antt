@@ -1,0 +1,28 @@
+-- The measures of a voice: in each the tree of its leaves, and its bar.
+use Rattle.std.specs.Prelude.{ℕ, ◌==◌, List, map, filter, length, slice_index_or}
+use Rattle.std.specs.List.{range_with_len}
+use Rattle.mus_units.specs.declared.note.Bar.{Bar}
+use Rattle.mus_score.specs.declared.score.Measure.{Measure}
+use Rattle.abc_events.specs.declared.written.Sign.{Sign}
+use Rattle.abc_events.specs.declared.leaves.Leaf.{Leaf}
+use Rattle.abc_events.specs.declared.leaves.Leaf.TheVariants as leaf
+use Rattle.abc_events.specs.Bars.{plain_bar}
+use Rattle.abc_events.specs.Leaves.{Words, leaves_of}
+use Rattle.abc_events.specs.Nesting.{tree_of}
+
+abbrev pub leaf_measure : Leaf → ℕ
+leaf_measure (leaf.Event measure nodes) = measure
+leaf_measure (leaf.Opens measure p q r) = measure
+
+abbrev pub leaves_in : ℕ → List Leaf → List Leaf
+leaves_in measure leaves = filter (λ l. leaf_measure l == measure) leaves
+
+abbrev pub measure_of : List Leaf → List Bar → ℕ → Measure
+measure_of leaves bars k = record { body = tree_of (leaves_in k leaves); bar = slice_index_or bars k plain_bar }
+
+-- as many as there are bars
+abbrev pub measures_in : List Leaf → List Bar → List Measure
+measures_in leaves bars = map (measure_of leaves bars) (range_with_len 0 (length bars))
+
+abbrev pub measures_of : List Sign → List Words → List Bar → List Measure
+measures_of signs words bars = measures_in (leaves_of words signs) bars

@@ -1,0 +1,118 @@
+-- The signs of a voice: its written events and the tuplets that begin in it, in the order of the text.
+use Rattle.std.specs.Prelude.{ℕ, zero, suc, ◌+◌, ◌-◌, ◌≤◌, List, [], ◌∷◌, ◌++◌, map, Bool, false, ◌||◌, if◌then◌else◌, nat_le, Some, None, unwrap_or, ⊤}
+use Rattle.std.specs.List.{All}
+use Rattle.mus_units.specs.declared.note.Head.{Head}
+use Rattle.mus_units.specs.declared.value.Base.TheVariants as bases
+use Rattle.mus_units.specs.declared.value.Value.{Value}
+use Rattle.mus_units.specs.Parts.{parts_list}
+use Rattle.mus_score.specs.declared.score.Look.{Look}
+use Rattle.mus_score.specs.declared.score.Look.TheVariants as looks
+use Rattle.abc_steps.specs.declared.step.Sound.{Sound}
+use Rattle.abc_steps.specs.declared.step.Step.{Step}
+use Rattle.abc_steps.specs.declared.step.Step.TheVariants as step
+use Rattle.abc_steps.specs.declared.step.Stood.{Stood}
+use Rattle.abc_steps.specs.declared.force.InForce.{InForce}
+use Rattle.abc_steps.specs.Looks.{Steps, since_event, is_tied, slurs_begun, slurs_ended, has_parting}
+use Rattle.abc_steps.specs.Lengths.{written_length}
+use Rattle.abc_steps.specs.Counts.{counts_of}
+use Rattle.abc_steps.specs.Tuplets.{or_default, fits, taking_at, usual_q}
+use Rattle.abc_steps.specs.Force.{force_at, meter_ticks}
+use Rattle.abc_events.specs.declared.written.Written.{Written}
+use Rattle.abc_events.specs.declared.written.Sign.{Sign}
+use Rattle.abc_events.specs.declared.written.Sign.TheVariants as sign
+use Rattle.abc_events.specs.declared.place.Place.{Place}
+use Rattle.abc_events.specs.Waits.{waiting_of, nothing}
+
+-- what holds at a place of a voice
+abbrev pub place_at : InForce → Steps → Place
+place_at first before = record { counts = counts_of before; force = force_at first before; taking = taking_at before }
+
+abbrev pub measure_of : Place → ℕ
+measure_of now = now.counts.groups + now.counts.further
+
+-- a space or the end of a line stands between an event and the one before it; a voice's first event has none before it
+abbrev pub parted_at : Place → Steps → Bool
+parted_at now waits = if nat_le 1 now.counts.begun then has_parting waits else false
+
+-- Heads, tied or as written: a tie behind a chord ties all its heads.
+abbrev pub with_tie : Bool → Head → Head
+with_tie tie head = record head { tied = head.tied || tie }
+
+abbrev pub tied_heads : List Head → Steps → List Head
+tied_heads [] behind = []
+tied_heads (h ∷ hs) behind = map (with_tie (is_tied behind)) (h ∷ hs)
+
+-- a rest begins and ends no slur
+abbrev pub for_note : List Head → ℕ → ℕ
+for_note [] n = 0
+for_note (h ∷ hs) n = n
+
+abbrev pub look_of : Bool → Look
+look_of seen = if seen then looks.Seen else looks.Unseen
+
+abbrev pub whole_look : Bool → Look
+whole_look seen = if seen then looks.Whole else looks.Unseen
+
+-- a note, a chord or a rest
+unfoldable pub sound_written : Place → Steps → Stood → Sound → Steps → Written
+sound_written now before at s behind =
+    let length = written_length now.force.unit s before behind in
+    record {
+      line = at.line;
+      column = at.column;
+      measure = measure_of now;
+      heads = tied_heads s.heads behind;
+      look = look_of s.seen;
+      values = unwrap_or (parts_list length.num length.den) [];
+      whole = None;
+      parted = parted_at now (since_event before);
+      begins = for_note s.heads (slurs_begun before);
+      ends = for_note s.heads (slurs_ended behind);
+    }
+
+-- one of several whole measure rests: it lasts the meter, and its value is a whole without dots
+abbrev pub whole_value : Value
+whole_value = record { base = bases.Whole; dots = 0 }
+
+unfoldable pub rest_written : Place → Stood → Bool → ℕ → Bool → Written
+rest_written now at seen measure parted = record {
+  line = at.line;
+  column = at.column;
+  measure = measure;
+  heads = [];
+  look = whole_look seen;
+  values = whole_value ∷ [];
+  whole = Some (unwrap_or (meter_ticks now.force.meter) 0);
+  parted = parted;
+  begins = 0;
+  ends = 0;
+}
+
+-- the further ones, a measure each, for which nothing waits
+abbrev pub further_rests : Place → Stood → Bool → ℕ → ℕ → List Sign
+further_rests now at seen measure zero = []
+further_rests now at seen measure (suc n) = sign.Event (rest_written now at seen measure false) nothing ∷ further_rests now at seen (measure + 1) n
+
+abbrev pub rests_of : Place → Steps → Stood → Bool → ℕ → List Sign
+rests_of now waits at seen count =
+    sign.Event (rest_written now at seen (measure_of now) (parted_at now waits)) (waiting_of now.force waits []) ∷ further_rests now at seen (measure_of now + 1) (count - 1)
+
+-- a tuplet that doesn't fit into the open ones begins nothing
+abbrev pub tuplet_of : Place → ℕ → ℕ → ℕ → List Sign
+tuplet_of now p q r = if fits (or_default p r) now.taking then sign.Opens (measure_of now) p (or_default (usual_q p now.force.meter) q) (or_default p r) ∷ [] else []
+
+unfoldable pub signs_of : Place → Steps → Stood → Steps → Step → List Sign
+signs_of now before at behind (step.Sound s) = sign.Event (sound_written now before at s behind) (waiting_of now.force (since_event before) s.decos) ∷ []
+signs_of now before at behind (step.Measures seen count) = rests_of now (since_event before) at seen count
+signs_of now before at behind (step.Tuplet p q r) = tuplet_of now p q r
+signs_of now before at behind _ = []
+
+-- every step of a voice in turn, with what stands before it, the nearest first, and what follows it
+abbrev pub signs : InForce → Steps → Steps → List Sign
+signs first before [] = []
+signs first before (at ∷ behind) = signs_of (place_at first before) before at behind at.step ++ signs first (at ∷ before) behind
+
+-- Good signs: each value has at most three dots.
+abbrev pub IsDrawn : Sign → Type 0
+IsDrawn (sign.Event w waiting) = All (λ v. v.dots ≤ 3) w.values
+IsDrawn (sign.Opens measure p q r) = ⊤

@@ -1,0 +1,66 @@
+-- What waits for an event: changes, graces, decorations, texts and an ending, of the steps that
+-- stand before it behind the event before.
+use Rattle.std.specs.Prelude.{ℕ, List, [], ◌∷◌, ◌++◌, flat_map, Bool, true, false, ◌==◌, ◌||◌, if◌then◌else◌, Option, Some, None}
+use Rattle.std.specs.List.{list_any}
+use Rattle.mus_units.specs.declared.note.Deco.{Deco}
+use Rattle.mus_score.specs.declared.score.Mention.{Mention}
+use Rattle.mus_score.specs.declared.score.Changes.{Changes}
+use Rattle.abc_pieces.specs.declared.token.GraceChord.{GraceChord}
+use Rattle.abc_steps.specs.declared.step.Step.{Step}
+use Rattle.abc_steps.specs.declared.step.Step.TheVariants as step
+use Rattle.abc_steps.specs.declared.force.InForce.{InForce}
+use Rattle.abc_steps.specs.Looks.{Steps}
+use Rattle.abc_steps.specs.Force.{changes_at}
+use Rattle.abc_events.specs.declared.written.Waiting.{Waiting}
+
+unfoldable pub decos_in : Step → List Deco
+decos_in (step.Deco deco) = deco ∷ []
+decos_in _ = []
+
+-- a first character of ^ < > @ is an annotation above, and _ one below, both without it; any other
+-- text is a chord symbol, which stands above
+abbrev pub is_above : ℕ → Bool
+is_above c = c == 94 || (c == 60 || (c == 62 || c == 64))
+
+abbrev pub mention_of : List ℕ → Mention
+mention_of [] = record { below = false; text = [] }
+mention_of (c ∷ text) = if is_above c then record { below = false; text = text } else (if c == 95 then record { below = true; text = text } else record { below = false; text = c ∷ text })
+
+unfoldable pub mentions_in : Step → List Mention
+mentions_in (step.Says text) = mention_of text ∷ []
+mentions_in _ = []
+
+unfoldable pub graces_in : Step → List GraceChord
+graces_in (step.Grace slash body) = body
+graces_in _ = []
+
+unfoldable pub has_slash : Step → Bool
+has_slash (step.Grace slash body) = slash
+has_slash _ = false
+
+-- of several endings the last counts
+unfoldable pub ending_behind : Step → Option (List ℕ) → Option (List ℕ)
+ending_behind (step.Ending text) ending = Some text
+ending_behind _ ending = ending
+
+abbrev pub last_ending : Option (List ℕ) → Steps → Option (List ℕ)
+last_ending ending [] = ending
+last_ending ending (s ∷ waits) = last_ending (ending_behind s.step ending) waits
+
+-- several groups of graces are one, with a slash where one of them has it; the decorations within a
+-- chord come behind those that waited
+unfoldable pub waiting_of : InForce → Steps → List Deco → Waiting
+waiting_of now waits inside = record {
+  changes = changes_at now waits;
+  decos = flat_map (λ s. decos_in s.step) waits ++ inside;
+  mentions = flat_map (λ s. mentions_in s.step) waits;
+  ending = last_ending None waits;
+  graces = flat_map (λ s. graces_in s.step) waits;
+  slash = list_any (λ s. has_slash s.step) waits;
+}
+
+abbrev pub no_changes : Changes
+no_changes = record { clef = None; key = None; meter = None }
+
+abbrev pub nothing : Waiting
+nothing = record { changes = no_changes; decos = []; mentions = []; ending = None; graces = []; slash = false }

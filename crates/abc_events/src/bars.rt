@@ -1,0 +1,257 @@
+ghost use Rattle.std.specs.Prelude.{◌≡◌, ◌≤◌, ◌<◌, ◌^◌, ◌+◌, ℕ, Option, None, length, reverse, slice_index_or, ◌==◌, IfOk, OnOk};
+ghost use Rattle.std.specs.List.{list_any};
+ghost use Rattle.mus_units.specs.declared.note.Bar.{Bar};
+ghost use Rattle.abc_steps.specs.Counts.{measures_begun};
+ghost use Rattle.abc_events.specs.Bars.{plain_bar, unseen_bar, union, union_with, is_seen, joined, bars_behind, bars_at, joined_or, first_bar, missing_bar, bars_of, is_near_bar, is_forced, with_bar, forced_behind, forced_bars};
+
+use abc_steps::counts::{counted, no_counts};
+use abc_steps::{Counts, Nearest, Step, Stood};
+use mus_units::{Bar, Memory, Row};
+use std::alloc::Global;
+
+fn plain_bar() -> Bar
+    ensures { result ≡ plain_bar }
+{
+    Bar {
+        end: false,
+        start: false,
+        last: false,
+        initial: false,
+        double: false,
+        dotted: false,
+        unseen: false,
+    }
+}
+
+fn unseen_bar() -> Bar
+    ensures { result ≡ unseen_bar }
+{
+    Bar {
+        unseen: true,
+        ..plain_bar()
+    }
+}
+
+fn union(a: Bar, b: Bar) -> Bar
+    ensures { result ≡ union a b }
+{
+    Bar {
+        end: a.end || b.end,
+        start: a.start || b.start,
+        last: a.last || b.last,
+        initial: a.initial || b.initial,
+        double: a.double || b.double,
+        dotted: a.dotted || b.dotted,
+        unseen: a.unseen || b.unseen,
+    }
+}
+
+fn union_with(all: Option<Bar>, bar: Bar) -> Bar
+    ensures { result ≡ union_with all bar }
+{
+    match all {
+        Some(all) => union(all, bar),
+        None => bar,
+    }
+}
+
+fn is_seen(b: Bar) -> bool
+    ensures { result ≡ is_seen b }
+{
+    b.end || (b.start || (b.last || (b.initial || (b.double || b.dotted))))
+}
+
+fn joined(b: Bar) -> Bar
+    ensures { result ≡ joined b }
+{
+    Bar {
+        unseen: b.unseen && !is_seen(b),
+        ..b
+    }
+}
+
+fn joined_or(other: Bar, all: Option<Bar>) -> Bar
+    ensures { result ≡ joined_or other all }
+{
+    match all {
+        Some(all) => joined(all),
+        None => other,
+    }
+}
+
+/// The bars behind which `begun` measures have begun, with one more step.
+#[tactic(auto, unfolding(crate::specs::Bars::bars_behind))]
+fn bars_behind(begun: u64, now: u64, s: &Step, all: Option<Bar>) -> Option<Bar>
+    ensures { result ≡ bars_behind begun now s.now all }
+{
+    match s {
+        Step::Bar(bar) => {
+            if begun == now {
+                Some(union_with(all, *bar))
+            } else {
+                all
+            }
+        }
+        _ => all,
+    }
+}
+
+/// The bar before the first event of a voice.
+pub fn first_bar(steps: &[Stood]) -> Bar
+    requires { length steps.now ≤ 2 ^ 30 }
+    ensures { result ≡ first_bar steps.now }
+{
+    let mut counts = no_counts();
+    let mut all = None;
+    for s in steps {
+        all = bars_behind(0, counts.begun, &s.step, all);
+        counts = counted(counts, s);
+    }
+    joined_or(plain_bar(), all)
+}
+
+/// How many measures a voice has of its own.
+pub fn own_measures(steps: &[Stood]) -> u64
+    requires { length steps.now ≤ 2 ^ 30 }
+    ensures { result ≡ measures_begun (reverse steps.now) }
+{
+    let mut counts = no_counts();
+    for s in steps {
+        counts = counted(counts, s);
+    }
+    counts.begun
+}
+
+/// Adds a step to the bars of each place.
+#[tactic(auto, unfolding(crate::specs::Bars::bars_behind))]
+fn put_bar(all: &mut [Option<Bar>], now: u64, s: &Step)
+    ensures { (begun : ℕ) → begun < length all.old → slice_index_or all.new begun None ≡ bars_behind begun now s.now (slice_index_or all.old begun None) }
+{
+    if let Step::Bar(bar) = s {
+        if now < all.len() as u64 {
+            let place = now as usize;
+            all[place] = Some(union_with(all[place], *bar));
+        }
+    }
+}
+
+/// The bars of each place: those before the first event, and those behind each
+/// of so many measures.
+fn all_bars(alloc: Global, steps: &[Stood], n: u32) -> Result<Vec<Option<Bar>>, Memory>
+    requires { length steps.now ≤ 2 ^ 30 }
+    ensures len { IfOk result (λ v. length v.items ≡ n + 1) }
+    ensures value { IfOk result (λ v. (begun : ℕ) → begun < n + 1 → slice_index_or v.items begun None ≡ bars_at begun (reverse steps.now)) }
+{
+    let mut all = vec![in alloc; None; n as usize + 1]?;
+    let mut counts = no_counts();
+    for s in steps {
+        put_bar(&mut all, counts.begun, &s.step);
+        counts = counted(counts, s);
+    }
+    Ok(all)
+}
+
+fn missing_bar(own: u64, measure: u64) -> Bar
+    requires { measure < 2 ^ 32 }
+    ensures { result ≡ missing_bar own measure }
+{
+    if measure + 1 == own {
+        unseen_bar()
+    } else {
+        plain_bar()
+    }
+}
+
+/// The bar of a measure, of the bars of all places.
+fn bar_of(all: &[Option<Bar>], own: u64, measure: u32) -> Bar
+    requires { measure + 1 < length all.now }
+    ensures { result ≡ joined_or (missing_bar own measure) (slice_index_or all.now (measure + 1) None) }
+{
+    joined_or(
+        missing_bar(own, u64::from(measure)),
+        all[measure as usize + 1],
+    )
+}
+
+/// The bars of the first `n` measures of a voice.
+pub fn bars_of(alloc: Global, steps: &[Stood], n: u32) -> Result<Row<Bar>, Memory>
+    requires { length steps.now ≤ 2 ^ 30 }
+    ensures { IfOk result (λ r. r ≡ bars_of steps.now n) }
+{
+    let all = all_bars(alloc, steps, n)?;
+    let own = own_measures(steps);
+    let mut bars = Row::new(alloc);
+    for k in 0..n {
+        bars.push(bar_of(all.as_slice(), own, k))?;
+    }
+    Ok(bars)
+}
+
+fn is_near_bar(nearest: Nearest) -> bool
+    ensures { result ≡ is_near_bar nearest }
+{
+    match nearest {
+        Nearest::Bar => true,
+        _ => false,
+    }
+}
+
+/// Whether a line break forces the bar before it.
+fn is_forced(n: u32, counts: Counts) -> bool
+    requires groups { counts.groups ≤ 2 ^ 30 }
+    requires further { counts.further ≤ 2 ^ 46 }
+    ensures { result ≡ is_forced n counts }
+{
+    let bar = counts.groups + counts.further;
+    is_near_bar(counts.nearest) && (1 <= bar && bar < u64::from(n))
+}
+
+/// Whether a bar is there, looked for from the end.
+fn has_bar(forced: &[u32], bar: u32) -> bool
+    ensures { result ≡ list_any (λ b. b == bar) (reverse forced.now) }
+{
+    forced.iter().rev().any(|b| *b == bar)
+}
+
+/// Adds a bar that isn't there yet.
+#[tactic(auto, using(crate::proofs::BarRows::any_reverse))]
+fn put_forced(forced: &mut Row<u32>, bar: u32) -> Result<(), Memory>
+    ensures { OnOk result (forced.new ≡ with_bar bar forced.old) }
+{
+    if has_bar(forced.as_slice(), bar) {
+        return Ok(());
+    }
+    forced.push(bar)
+}
+
+/// Adds the bar that a step forces.
+#[tactic(auto, unfolding(crate::specs::Bars::forced_behind))]
+fn force_behind(forced: &mut Row<u32>, n: u32, counts: Counts, s: &Step) -> Result<(), Memory>
+    requires groups { counts.groups ≤ 2 ^ 30 }
+    requires further { counts.further ≤ 2 ^ 46 }
+    ensures { OnOk result (forced.new ≡ forced_behind n counts s.now forced.old) }
+{
+    match s {
+        Step::Break => {
+            if is_forced(n, counts) {
+                return put_forced(forced, (counts.groups + counts.further) as u32);
+            }
+            Ok(())
+        }
+        _ => Ok(()),
+    }
+}
+
+/// The bars of a voice that its line breaks force, among `n` measures.
+pub fn forced_bars(alloc: Global, steps: &[Stood], n: u32) -> Result<Row<u32>, Memory>
+    requires { length steps.now ≤ 2 ^ 30 }
+    ensures { IfOk result (λ r. r ≡ forced_bars steps.now n) }
+{
+    let mut forced = Row::new(alloc);
+    let mut counts = no_counts();
+    for s in steps {
+        force_behind(&mut forced, n, counts, &s.step)?;
+        counts = counted(counts, s);
+    }
+    Ok(forced)
+}

@@ -1,0 +1,346 @@
+ghost use Rattle.std.specs.Prelude.{◌≡◌, ◌≤◌, ◌+◌, ◌++◌, ◌∷◌, [], List, map, length, replicate, unwrap_or, None, IfOk, OnOk};
+ghost use Rattle.mus_units.specs.Value.{value_length};
+ghost use Rattle.std.specs.List.{All};
+ghost use Rattle.abc_events.specs.declared.written.Sign.{Sign};
+ghost use Rattle.abc_events.specs.Signs.{IsDrawn};
+ghost use Rattle.abc_events.specs.Leaves.{ends_at, first_part, later_head, later_part, some_more, later_parts, parts, node_of, grace_event, grace_note, grace_nodes, nodes_of, words_at, leaves_from, leaves_of};
+
+use crate::copies::copy_optional;
+use crate::reading::with_ties;
+use crate::waits::no_changes;
+use crate::written::{Sign, Waiting, Written};
+use abc_tokens::GraceChord;
+use mus_score::{Event, Look, Music};
+use mus_units::{Base, Head, Memory, Row, Text, Value, ticks_of};
+use std::alloc::Global;
+
+/// What the tree of a measure is made of: the nodes of a written event, or a
+/// tuplet of `p` in the time of `q` that takes the next `r` events.
+#[derive(Debug, Drop)]
+pub enum Leaf {
+    Event { measure: u64, nodes: Row<Music> },
+    Opens { measure: u64, p: u8, q: u8, r: u8 },
+}
+
+/// How many written events came before, and the id of the next part.
+#[derive(Clone, Copy, Debug, PartialEq, Eq)]
+pub struct Numbers {
+    pub event: usize,
+    pub id: u32,
+}
+
+fn ends_at(w: &Written, more: bool) -> u32
+    ensures { result ≡ ends_at w.now more }
+{
+    if more { 0 } else { w.ends }
+}
+
+fn ticks_at(w: &Written, value: Value) -> u64
+    requires { value.dots ≤ 3 }
+    ensures { result ≡ unwrap_or w.now.whole (value_length value) }
+{
+    w.whole.unwrap_or(ticks_of(value))
+}
+
+#[tactic(auto, unfolding(crate::specs::Leaves::first_part))]
+fn first_part(
+    alloc: Global,
+    w: &Written,
+    waiting: Waiting,
+    words: Row<Option<Text>>,
+    id: u32,
+    more: bool,
+    value: Value,
+) -> Result<Event, Memory>
+    requires { value.dots ≤ 3 }
+    ensures { IfOk result (λ e. e ≡ first_part w.now waiting words id more value) }
+{
+    Ok(Event {
+        id,
+        heads: with_ties(alloc, w.heads.as_slice(), more)?,
+        look: w.look,
+        value,
+        ticks: ticks_at(w, value),
+        parted: w.parted,
+        changes: waiting.changes,
+        decos: waiting.decos,
+        mentions: waiting.mentions,
+        ending: waiting.ending,
+        begins: w.begins,
+        ends: ends_at(w, more),
+        words,
+    })
+}
+
+fn later_head(more: bool, head: Head) -> Head
+    ensures { result ≡ later_head more head }
+{
+    Head {
+        pitch: head.pitch,
+        sign: None,
+        tied: head.tied || more,
+    }
+}
+
+fn later_heads(alloc: Global, heads: &[Head], more: bool) -> Result<Row<Head>, Memory>
+    ensures { IfOk result (λ r. r ≡ map (later_head more) heads.now) }
+{
+    let items = heads
+        .iter()
+        .map(|head| later_head(more, *head))
+        .collect(alloc)?;
+    Ok(Row { items })
+}
+
+/// A row of so many verses without words.
+fn no_words(alloc: Global, verses: usize) -> Result<Row<Option<Text>>, Memory>
+    ensures { IfOk result (λ r. r ≡ replicate verses None) }
+{
+    let mut words = Row::new(alloc);
+    for verse in 0..verses {
+        words.push(None)?;
+    }
+    Ok(words)
+}
+
+#[tactic(auto, unfolding(crate::specs::Leaves::later_part))]
+fn later_part(
+    alloc: Global,
+    w: &Written,
+    verses: usize,
+    id: u32,
+    more: bool,
+    value: Value,
+) -> Result<Event, Memory>
+    requires { value.dots ≤ 3 }
+    ensures { IfOk result (λ e. e ≡ later_part w.now verses id more value) }
+{
+    Ok(Event {
+        id,
+        heads: later_heads(alloc, w.heads.as_slice(), more)?,
+        look: w.look,
+        value,
+        ticks: ticks_at(w, value),
+        parted: false,
+        changes: no_changes(),
+        decos: Row::new(alloc),
+        mentions: Row::new(alloc),
+        ending: None,
+        begins: 0,
+        ends: ends_at(w, more),
+        words: no_words(alloc, verses)?,
+    })
+}
+
+fn node_of(e: Event) -> Music
+    ensures { result ≡ node_of e }
+{
+    match e.heads.as_slice() {
+        [] => Music::Rest(e),
+        _ => Music::Note(e),
+    }
+}
+
+/// The number behind another. Past 2^32 there is no memory for so many events.
+fn next_id(id: u32) -> Result<u32, Memory>
+    ensures { IfOk result (λ next. next ≡ id + 1) }
+{
+    match id.checked_add(1) {
+        Some(next) => Ok(next),
+        None => Err(Memory),
+    }
+}
+
+fn some_more(values: &[Value]) -> bool
+    ensures { result ≡ some_more values.now }
+{
+    !values.is_empty()
+}
+
+/// Puts the parts behind the first, and gives the id behind them.
+fn put_later(
+    alloc: Global,
+    nodes: &mut Row<Music>,
+    w: &Written,
+    verses: usize,
+    id: u32,
+    values: &[Value],
+) -> Result<u32, Memory>
+    requires { All (λ v. v.dots ≤ 3) values.now }
+    ensures nodes { OnOk result (nodes.new ≡ nodes.old ++ map node_of (later_parts w.now verses id values.now)) }
+    ensures next { IfOk result (λ next. next ≡ id + length values.now) }
+{
+    let mut next = id;
+    for i in 0..values.len() {
+        let (_, others) = values.split_at(i + 1);
+        let part = later_part(alloc, w, verses, next, some_more(others), values[i])?;
+        nodes.push(node_of(part))?;
+        next = next_id(next)?;
+    }
+    Ok(next)
+}
+
+/// Puts the parts of a written event, and gives the id behind them.
+fn put_parts(
+    alloc: Global,
+    nodes: &mut Row<Music>,
+    w: &Written,
+    waiting: Waiting,
+    words: Row<Option<Text>>,
+    id: u32,
+) -> Result<u32, Memory>
+    requires { All (λ v. v.dots ≤ 3) w.now.values }
+    ensures nodes { OnOk result (nodes.new ≡ nodes.old ++ map node_of (parts w.now waiting words id w.now.values)) }
+    ensures next { IfOk result (λ next. next ≡ id + length w.now.values) }
+{
+    let verses = words.len();
+    match w.values.as_slice() {
+        [value, others @ ..] => {
+            let part = first_part(alloc, w, waiting, words, id, some_more(others), *value)?;
+            nodes.push(node_of(part))?;
+            put_later(alloc, nodes, w, verses, next_id(id)?, others)
+        }
+        [] => Ok(id),
+    }
+}
+
+#[tactic(auto, unfolding(crate::specs::Leaves::grace_event))]
+fn grace_event(alloc: Global, heads: &[Head]) -> Result<Event, Memory>
+    ensures { IfOk result (λ e. e ≡ grace_event heads.now) }
+{
+    let eighth = Value {
+        base: Base::Eighth,
+        dots: 0,
+    };
+    Ok(Event {
+        id: 0,
+        heads: Row::from_slice(alloc, heads)?,
+        look: Look::Seen,
+        value: eighth,
+        ticks: ticks_of(eighth),
+        parted: false,
+        changes: no_changes(),
+        decos: Row::new(alloc),
+        mentions: Row::new(alloc),
+        ending: None,
+        begins: 0,
+        ends: 0,
+        words: Row::new(alloc),
+    })
+}
+
+fn grace_notes(alloc: Global, graces: &[GraceChord]) -> Result<Row<Music>, Memory>
+    ensures { IfOk result (λ r. r ≡ map grace_note graces.now) }
+{
+    let mut notes = Row::new(alloc);
+    for g in graces {
+        notes.push(Music::Note(grace_event(alloc, g.heads.as_slice())?))?;
+    }
+    Ok(notes)
+}
+
+/// The group of the graces that waited, where there is one.
+fn grace_nodes(alloc: Global, graces: &[GraceChord], slash: bool) -> Result<Row<Music>, Memory>
+    ensures { IfOk result (λ r. r ≡ grace_nodes graces.now slash) }
+{
+    let mut nodes = Row::new(alloc);
+    if graces.is_empty() {
+        return Ok(nodes);
+    }
+    let body = grace_notes(alloc, graces)?;
+    nodes.push(Music::Grace { body, slash })?;
+    Ok(nodes)
+}
+
+fn copy_words(alloc: Global, words: &[Option<Text>]) -> Result<Row<Option<Text>>, Memory>
+    ensures { IfOk result (λ r. r ≡ words.now) }
+{
+    let mut copies = Row::new(alloc);
+    for w in words {
+        copies.push(copy_optional(alloc, w)?)?;
+    }
+    Ok(copies)
+}
+
+/// The words of a written event.
+fn words_at(
+    alloc: Global,
+    words: &[Row<Option<Text>>],
+    event: usize,
+) -> Result<Row<Option<Text>>, Memory>
+    ensures { IfOk result (λ r. r ≡ words_at words.now event) }
+{
+    match words.get(event) {
+        Some(row) => copy_words(alloc, row.as_slice()),
+        None => Ok(Row::new(alloc)),
+    }
+}
+
+fn next_event(event: usize) -> Result<usize, Memory>
+    ensures { IfOk result (λ next. next ≡ event + 1) }
+{
+    match event.checked_add(1) {
+        Some(next) => Ok(next),
+        None => Err(Memory),
+    }
+}
+
+/// Puts the leaf of a written event.
+fn put_event(
+    alloc: Global,
+    out: &mut Row<Leaf>,
+    at: &mut Numbers,
+    w: &Written,
+    waiting: Waiting,
+    words: &[Row<Option<Text>>],
+) -> Result<(), Memory>
+    requires { All (λ v. v.dots ≤ 3) w.now.values }
+    ensures leaf { OnOk result (out.new ≡ out.old ++ Leaf.Event w.now.measure (nodes_of w.now waiting (words_at words.now at.old.event) at.old.id) ∷ []) }
+    ensures event { OnOk result (at.new.event ≡ at.old.event + 1) }
+    ensures id { OnOk result (at.new.id ≡ at.old.id + length w.now.values) }
+{
+    let mut nodes = grace_nodes(alloc, waiting.graces.as_slice(), waiting.slash)?;
+    let sung = words_at(alloc, words, at.event)?;
+    let id = put_parts(alloc, &mut nodes, w, waiting, sung, at.id)?;
+    at.event = next_event(at.event)?;
+    at.id = id;
+    out.push(Leaf::Event {
+        measure: w.measure,
+        nodes,
+    })
+}
+
+/// Puts the leaf of a sign.
+fn put_leaf(
+    alloc: Global,
+    out: &mut Row<Leaf>,
+    at: &mut Numbers,
+    sign: Sign,
+    words: &[Row<Option<Text>>],
+) -> Result<(), Memory>
+    requires { IsDrawn sign }
+    ensures { OnOk result ((signs : List Sign) → out.new ++ leaves_from words.now at.new.event at.new.id signs ≡ out.old ++ leaves_from words.now at.old.event at.old.id (sign ∷ signs)) }
+{
+    match sign {
+        Sign::Event { written, waiting } => put_event(alloc, out, at, &written, waiting, words),
+        Sign::Opens { measure, p, q, r } => out.push(Leaf::Opens { measure, p, q, r }),
+    }
+}
+
+/// The leaves of a voice of these signs. `words` has a row for each written
+/// event, with a place for each verse.
+pub fn leaves_of(
+    alloc: Global,
+    signs: Row<Sign>,
+    words: &[Row<Option<Text>>],
+) -> Result<Row<Leaf>, Memory>
+    requires { All IsDrawn signs }
+    ensures { IfOk result (λ r. r ≡ leaves_of words.now signs) }
+{
+    let mut out = Row::new(alloc);
+    let mut at = Numbers { event: 0, id: 0 };
+    for sign in signs.items {
+        put_leaf(alloc, &mut out, &mut at, sign, words)?;
+    }
+    Ok(out)
+}

@@ -1,0 +1,299 @@
+ghost use Rattle.std.specs.Prelude.{◌≡◌, ◌≤◌, ◌<◌, ◌^◌, ◌+◌, ◌-◌, ◌++◌, ◌∷◌, [], map, length, reverse, unwrap_or, IfOk, OnOk};
+ghost use Rattle.std.specs.List.{All};
+ghost use Rattle.mus_units.specs.Parts.{parts_list};
+ghost use Rattle.mus_units.specs.Good.{IsGoodMeter};
+ghost use Rattle.abc_steps.specs.Looks.{slurs_begun, slurs_ended};
+ghost use Rattle.abc_steps.specs.Lengths.{IsLength};
+ghost use Rattle.abc_steps.specs.Good.{IsGoodForce, IsGoodStood, IsGoodStep, IsGoodSound};
+ghost use Rattle.abc_events.specs.Signs.{with_tie, tied_heads, for_note, look_of, whole_look, parted_at, sound_written, whole_value, rest_written, further_rests, rests_of, tuplet_of, signs_of, signs, IsDrawn};
+
+use crate::place::{Place, beginning, measure_of, step_over};
+use crate::waits::{nothing, waiting_of};
+use crate::written::{Sign, Written};
+use abc_steps::force::meter_ticks;
+use abc_steps::lengths::written_length;
+use abc_steps::looks::{has_parting, is_tied, since_event, slurs_begun, slurs_ended};
+use abc_steps::tuplets::{fits, or_default, usual_q};
+use abc_steps::{InForce, Sound, Step, Stood};
+use mus_score::Look;
+use mus_units::{Base, Frac, Head, Memory, Row, Value, parts_of};
+use std::alloc::Global;
+
+fn with_tie(tie: bool, head: Head) -> Head
+    ensures { result ≡ with_tie tie head }
+{
+    Head {
+        pitch: head.pitch,
+        sign: head.sign,
+        tied: head.tied || tie,
+    }
+}
+
+/// Heads that are all tied, or as they are.
+pub fn with_ties(alloc: Global, heads: &[Head], tie: bool) -> Result<Row<Head>, Memory>
+    ensures { IfOk result (λ r. r ≡ map (with_tie tie) heads.now) }
+{
+    let items = heads
+        .iter()
+        .map(|head| with_tie(tie, *head))
+        .collect(alloc)?;
+    Ok(Row { items })
+}
+
+fn tied_heads(alloc: Global, heads: &[Head], behind: &[Stood]) -> Result<Row<Head>, Memory>
+    ensures { IfOk result (λ r. r ≡ tied_heads heads.now behind.now) }
+{
+    if heads.is_empty() {
+        return Ok(Row::new(alloc));
+    }
+    with_ties(alloc, heads, is_tied(behind))
+}
+
+fn begins(heads: &[Head], before: &[Stood]) -> u32
+    requires { length before.now ≤ 2 ^ 30 }
+    ensures { result ≡ for_note heads.now (slurs_begun (reverse before.now)) }
+{
+    if heads.is_empty() {
+        return 0;
+    }
+    slurs_begun(before)
+}
+
+fn ends(heads: &[Head], behind: &[Stood]) -> u32
+    requires { length behind.now ≤ 2 ^ 30 }
+    ensures { result ≡ for_note heads.now (slurs_ended behind.now) }
+{
+    if heads.is_empty() {
+        return 0;
+    }
+    slurs_ended(behind)
+}
+
+fn parted_at(now: &Place, waits: &[Stood]) -> bool
+    ensures { result ≡ parted_at now.now waits.now }
+{
+    1 <= now.counts.begun && has_parting(waits)
+}
+
+fn look_of(seen: bool) -> Look
+    ensures { result ≡ look_of seen }
+{
+    if seen { Look::Seen } else { Look::Unseen }
+}
+
+fn whole_look(seen: bool) -> Look
+    ensures { result ≡ whole_look seen }
+{
+    if seen { Look::Whole } else { Look::Unseen }
+}
+
+/// The parts of a length, none where it has none.
+fn values_of(alloc: Global, length: Frac) -> Result<Row<Value>, Memory>
+    requires { IsLength length }
+    ensures { IfOk result (λ r. r ≡ unwrap_or (parts_list length.num length.den) []) }
+{
+    match parts_of(alloc, length.num, length.den)? {
+        Some(values) => Ok(values),
+        None => Ok(Row::new(alloc)),
+    }
+}
+
+/// A note, a chord or a rest as it is written.
+#[tactic(auto, unfolding(crate::specs::Signs::sound_written))]
+fn sound_written(
+    alloc: Global,
+    now: &Place,
+    before: &[Stood],
+    at: &Stood,
+    s: &Sound,
+    behind: &[Stood],
+) -> Result<Written, Memory>
+    requires few { length before.now ≤ 2 ^ 30 }
+    requires few_behind { length behind.now ≤ 2 ^ 30 }
+    requires groups { now.now.counts.groups ≤ 2 ^ 30 }
+    requires further { now.now.counts.further ≤ 2 ^ 46 }
+    requires force { IsGoodForce now.now.force }
+    requires good { IsGoodSound s.now }
+    ensures { IfOk result (λ w. w ≡ sound_written now.now (reverse before.now) at.now s.now behind.now) }
+{
+    let length = written_length(now.force.unit, s, before, behind);
+    let values = values_of(alloc, length)?;
+    let heads = tied_heads(alloc, s.heads.as_slice(), behind)?;
+    Ok(Written {
+        line: at.line,
+        column: at.column,
+        measure: measure_of(now),
+        heads,
+        look: look_of(s.seen),
+        values,
+        whole: None,
+        parted: parted_at(now, since_event(before)),
+        begins: begins(s.heads.as_slice(), before),
+        ends: ends(s.heads.as_slice(), behind),
+    })
+}
+
+/// The parts of a whole measure rest.
+fn whole_values(alloc: Global) -> Result<Row<Value>, Memory>
+    ensures { IfOk result (λ r. r ≡ whole_value ∷ []) }
+{
+    let mut values = Row::new(alloc);
+    values.push(Value {
+        base: Base::Whole,
+        dots: 0,
+    })?;
+    Ok(values)
+}
+
+/// A whole measure rest as it is written.
+#[tactic(auto, unfolding(crate::specs::Signs::rest_written))]
+fn rest_written(
+    alloc: Global,
+    now: &Place,
+    at: &Stood,
+    seen: bool,
+    measure: u64,
+    parted: bool,
+) -> Result<Written, Memory>
+    requires { IsGoodMeter now.now.force.meter }
+    ensures { IfOk result (λ w. w ≡ rest_written now.now at.now seen measure parted) }
+{
+    Ok(Written {
+        line: at.line,
+        column: at.column,
+        measure,
+        heads: Row::new(alloc),
+        look: whole_look(seen),
+        values: whole_values(alloc)?,
+        whole: Some(meter_ticks(now.force.meter).unwrap_or(0)),
+        parted,
+        begins: 0,
+        ends: 0,
+    })
+}
+
+/// Puts the whole measure rests behind the first of so many.
+fn put_further(
+    alloc: Global,
+    out: &mut Row<Sign>,
+    now: &Place,
+    at: &Stood,
+    seen: bool,
+    measure: u64,
+    count: u16,
+) -> Result<(), Memory>
+    requires meter { IsGoodMeter now.now.force.meter }
+    requires near { measure ≤ 2 ^ 47 }
+    ensures { OnOk result (out.new ≡ out.old ++ further_rests now.now at.now seen measure count) }
+{
+    for i in 0..count {
+        let written = rest_written(alloc, now, at, seen, measure + u64::from(i), false)?;
+        out.push(Sign::Event {
+            written,
+            waiting: nothing(alloc),
+        })?;
+    }
+    Ok(())
+}
+
+/// Puts whole measure rests.
+fn put_rests(
+    alloc: Global,
+    out: &mut Row<Sign>,
+    now: &Place,
+    waits: &[Stood],
+    at: &Stood,
+    seen: bool,
+    count: u16,
+) -> Result<(), Memory>
+    requires groups { now.now.counts.groups ≤ 2 ^ 30 }
+    requires further { now.now.counts.further ≤ 2 ^ 46 }
+    requires force { IsGoodForce now.now.force }
+    ensures { OnOk result (out.new ≡ out.old ++ rests_of now.now waits.now at.now seen count) }
+{
+    let measure = measure_of(now);
+    let written = rest_written(alloc, now, at, seen, measure, parted_at(now, waits))?;
+    let waiting = waiting_of(alloc, &now.force, waits, &[])?;
+    out.push(Sign::Event { written, waiting })?;
+    put_further(
+        alloc,
+        out,
+        now,
+        at,
+        seen,
+        measure + 1,
+        count.saturating_sub(1),
+    )?;
+    Ok(())
+}
+
+/// Puts a tuplet that fits into the open ones.
+fn put_tuplet(out: &mut Row<Sign>, now: &Place, p: u8, q: u8, r: u8) -> Result<(), Memory>
+    requires groups { now.now.counts.groups ≤ 2 ^ 30 }
+    requires further { now.now.counts.further ≤ 2 ^ 46 }
+    ensures { OnOk result (out.new ≡ out.old ++ tuplet_of now.now p q r) }
+{
+    let r = or_default(p, r);
+    if !fits(r, now.taking) {
+        return Ok(());
+    }
+    out.push(Sign::Opens {
+        measure: measure_of(now),
+        p,
+        q: or_default(usual_q(p, now.force.meter), q),
+        r,
+    })
+}
+
+/// Puts the signs of a step.
+#[tactic(auto, unfolding(crate::specs::Signs::signs_of))]
+fn put_signs(
+    alloc: Global,
+    out: &mut Row<Sign>,
+    now: &Place,
+    before: &[Stood],
+    at: &Stood,
+    behind: &[Stood],
+) -> Result<(), Memory>
+    requires few { length before.now ≤ 2 ^ 30 }
+    requires few_behind { length behind.now ≤ 2 ^ 30 }
+    requires groups { now.now.counts.groups ≤ 2 ^ 30 }
+    requires further { now.now.counts.further ≤ 2 ^ 46 }
+    requires force { IsGoodForce now.now.force }
+    requires good { IsGoodStood at.now }
+    ensures { OnOk result (out.new ≡ out.old ++ signs_of now.now (reverse before.now) at.now behind.now at.now.step) }
+{
+    match &at.step {
+        Step::Sound(s) => {
+            let written = sound_written(alloc, now, before, at, s, behind)?;
+            let inside = s.decos.as_slice();
+            let waiting = waiting_of(alloc, &now.force, since_event(before), inside)?;
+            out.push(Sign::Event { written, waiting })
+        }
+        Step::Measures { seen, count } => {
+            put_rests(alloc, out, now, since_event(before), at, *seen, *count)
+        }
+        Step::Tuplet { p, q, r } => put_tuplet(out, now, *p, *q, *r),
+        _ => Ok(()),
+    }
+}
+
+/// The signs of a voice that begins with `first`, in the order of the text.
+pub fn signs(alloc: Global, first: &InForce, steps: &[Stood]) -> Result<Row<Sign>, Memory>
+    requires few { length steps.now ≤ 2 ^ 30 }
+    requires first { IsGoodForce first.now }
+    requires steps { All IsGoodStood steps.now }
+    ensures value { IfOk result (λ r. r ≡ signs first.now [] steps.now) }
+    ensures drawn { IfOk result (λ r. All IsDrawn r) }
+{
+    let mut out = Row::new(alloc);
+    let mut now = beginning(alloc, first)?;
+    for i in 0..steps.len() {
+        let (before, _) = steps.split_at(i);
+        let (_, behind) = steps.split_at(i + 1);
+        let at = &steps[i];
+        put_signs(alloc, &mut out, &now, before, at, behind)?;
+        step_over(alloc, &mut now, at)?;
+    }
+    Ok(out)
+}

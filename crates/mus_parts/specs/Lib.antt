@@ -1,0 +1,10 @@
+pub mod Bars
+pub mod Beams
+pub mod Changes
+pub mod Decos
+pub mod Graces
+pub mod Laying
+pub mod Notes
+pub mod Rests
+pub mod Signatures
+pub mod Stems
