@@ -1,8 +1,8 @@
 -- What is read goes on from part to part.
-use Rattle.std.proofs.Common.{◌≡◌, ℕ, suc, ◌+◌, ◌<◌, ◌≤◌, ◌^◌, List, [], ◌∷◌, ◌++◌, length, map, take, drop, get_or, Bool, true, false, refl, sym, ap, ◌∙◌, subst, arith, append_assoc, append-nil, drop-cons}
+use Rattle.std.proofs.Common.{◌≡◌, ℕ, suc, ◌+◌, ◌<◌, ◌≤◌, ◌^◌, List, [], ◌∷◌, ◌++◌, length, map, take, drop, get_or, refl, sym, ap, ◌∙◌, subst, arith, append_assoc, append-nil, drop-cons}
 use Rattle.std.proofs.Math.Seq.{take-suc}
 use Rattle.std.proofs.lemmas.List.Sums.{sum_by-cons}
-use Rattle.std.specs.Prelude.{Option, Some, None, flat_map, fold}
+use Rattle.std.specs.Prelude.{Some, None, flat_map}
 use Rattle.abc_lines.specs.declared.book.Line.{Line}
 use Rattle.abc_lines.specs.declared.fault.Fault.{Fault}
 use Rattle.abc_lines.specs.declared.fault.TuneError.{TuneError}
@@ -14,8 +14,8 @@ use Rattle.abc_fields.specs.declared.header.Header.{Header}
 use Rattle.abc_steps.specs.declared.step.Item.{Item}
 use Rattle.abc_items.specs.declared.body.Body.{Body}
 use Rattle.abc_items.specs.Voices.{ids_after, declared_ids}
-use Rattle.abc_items.specs.Body.{Given, gives, fails, item_judged, judged, first_fault, items_in, LineGives, BodyGives, no_lines, one_line, IsBody, HasFault, IsBodyError}
-use Rattle.abc_items.specs.Reading.{Reads, Stops, ReadsSome, StopsSome, StopsBy, LinesStop}
+use Rattle.abc_items.specs.Body.{Given, gives, fails, item_judged, judged, first_fault, items_in, LineGives, BodyGives, no_lines, one_line, IsBody, IsBodyError}
+use Rattle.abc_items.specs.Reading.{Reads, Stops, ReadsSome, StopsBy, LinesStop}
 
 -- one element more of a row that is made of another
 pub mapped-more : {X Y : Type 0} (f : X → Y) (xs : List X) (i : ℕ) (x : X) (done new : List Y) (y : Y)

@@ -1,6 +1,6 @@
 -- What the lines of a body give, line by line and token by token in the order of the text: items
 -- or faults. The body is its items where no fault is among them, and else has the first of them.
-use Rattle.std.specs.Prelude.{◌≡◌, ℕ, ◌+◌, ◌-◌, ◌*◌, ◌==◌, ◌&&◌, ◌||◌, not, nat_lt, List, [], ◌∷◌, ◌++◌, Bool, true, false, if◌then◌else◌, map, fold, flat_map, filter_map, length, take, get_or, Option, Some, None, Result, Ok, Err, ⊤}
+use Rattle.std.specs.Prelude.{◌≡◌, ℕ, ◌+◌, ◌-◌, ◌*◌, ◌==◌, ◌&&◌, not, nat_lt, List, [], ◌∷◌, ◌++◌, Bool, true, false, if◌then◌else◌, map, flat_map, length, take, get_or, Option, Some, None, Result, Ok, Err, ⊤}
 use Rattle.std.specs.List.{ends_with}
 use Rattle.std.specs.Prelude.{nat_eq}
 use Rattle.mus_units.specs.declared.note.Head.{Head}

@@ -8,7 +8,7 @@ use Rattle.abc_lines.specs.declared.fault.TuneError.TheVariants as errors
 use Rattle.abc_fields.specs.declared.directive.Breaks.{Breaks}
 use Rattle.abc_steps.specs.declared.step.Item.{Item}
 use Rattle.abc_items.specs.declared.body.Body.{Body}
-use Rattle.abc_items.specs.Body.{Given, gives, fails, MusicGives, LineGives, BodyGives, judged, first_fault, items_in}
+use Rattle.abc_items.specs.Body.{Given, gives, fails, BodyGives, judged, first_fault, items_in}
 
 abbrev pub maybe_given : Option Item → List Given
 maybe_given None = []

@@ -1,4 +1,3 @@
-use Rattle.std.proofs.Common.{refl}
 use Rattle.abc_items.proofs.Laws.{body_is, body_error}
 use Rattle.abc_items.proofs.body.read_body.Goals as goal
 

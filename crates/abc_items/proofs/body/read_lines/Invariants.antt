@@ -1,4 +1,4 @@
-use Rattle.std.proofs.Common.{◌≡◌, ◌≤◌, ◌^◌, take, drop}
+use Rattle.std.proofs.Common.{◌≤◌, ◌^◌, take, drop}
 use Rattle.abc_lines.specs.Good.{size_of}
 use Rattle.abc_items.specs.Body.{BodyGives}
 use Rattle.abc_items.specs.Reading.{ReadsSome}

@@ -1,4 +1,4 @@
-use Rattle.std.proofs.Common.{◌∙◌, ap, arith, length, ◌<◌}
+use Rattle.std.proofs.Common.{arith, length, ◌<◌}
 use Rattle.abc_items.specs.Voices.{start_of}
 use Rattle.abc_items.proofs.Laws.{mapped-more}
 use Rattle.abc_items.proofs.voices.starts_in.Goals as goal
