@@ -1,5 +1,5 @@
 -- One more of what is counted.
-use Rattle.std.proofs.Common.{◌≡◌, ℕ, suc, ◌+◌, ◌-◌, ◌*◌, ◌<◌, ℤ, pos, Bool, List, [], ◌∷◌, ◌++◌, refl, sym, ap, ◌∙◌, append_assoc, arith}
+use Rattle.std.proofs.Common.{◌≡◌, ℕ, suc, ◌+◌, ◌-◌, ◌*◌, ◌<◌, ℤ, pos, Bool, List, ◌∷◌, ◌++◌, refl, sym, ap, ◌∙◌, append_assoc, arith}
 use Rattle.mus_units.specs.declared.glyph.Glyph.TheVariants as glyphs
 use Rattle.mus_laid.specs.declared.laid.Laid.{Laid}
 use Rattle.mus_parts.specs.declared.beams.Stem.{Stem}

@@ -1,5 +1,5 @@
 -- The heads of an event, and what stands beside them: signs, ledger lines and dots.
-use Rattle.std.specs.Prelude.{ℕ, ℤ, pos, ◌*ℤ◌, List, [], ◌∷◌, ◌++◌, Option, Some, None}
+use Rattle.std.specs.Prelude.{ℕ, ℤ, pos, ◌*ℤ◌, List, [], ◌∷◌, ◌++◌, Option, Some}
 use Rattle.std.specs.Int.{int_max, int_min}
 use Rattle.mus_units.specs.Pitch.{height_of}
 use Rattle.mus_units.specs.declared.glyph.Glyph.{Glyph}
@@ -9,7 +9,6 @@ use Rattle.mus_units.specs.declared.pitch.Clef.{Clef}
 use Rattle.mus_units.specs.declared.note.Head.{Head}
 use Rattle.mus_units.specs.declared.value.Base.{Base}
 use Rattle.mus_units.specs.declared.value.Base.TheVariants as bases
-use Rattle.mus_score.specs.declared.score.Event.{Event}
 use Rattle.mus_stems.specs.declared.dots.Spot.{Spot}
 use Rattle.mus_stems.specs.declared.plans.StemPlan.{StemPlan}
 use Rattle.mus_laid.specs.declared.laid.Laid.{Laid}
