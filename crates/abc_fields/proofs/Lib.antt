@@ -1,14 +1,11 @@
 pub mod BlankLaws
-pub mod FaultLaws
 pub mod FieldForms
 pub mod GoodLaws
-pub mod HeaderLaws
 pub mod KeyForms
 pub mod KeyWordForms
 pub mod MeterForms
 pub mod MeterLaws
 pub mod NumberLaws
 pub mod VoiceForms
-pub mod VoiceLaws
 pub mod WordForms
 pub mod WordLaws

@@ -16,7 +16,7 @@ pub struct Breaks {
 
 /// The name of a directive, and what it says.
 #[tactic(auto, unfolding(crate::specs::Directives::name_of, crate::specs::Directives::rest_of))]
-pub(crate) fn cut_name(text: &[u8]) -> (&[u8], &[u8])
+pub fn cut_name(text: &[u8]) -> (&[u8], &[u8])
     ensures name { result.0.now ≡ name_of text.now }
     ensures rest { result.1.now ≡ rest_of text.now }
 {
@@ -33,7 +33,7 @@ fn name_len(text: &[u8]) -> usize
 
 /// The line breaks that are listed, or none where no known word is.
 #[tactic(auto, unfolding(crate::specs::Directives::breaks_of))]
-pub(crate) fn read_breaks(text: &[u8]) -> Option<Breaks>
+pub fn read_breaks(text: &[u8]) -> Option<Breaks>
     ensures { result ≡ breaks_of text.now }
 {
     if names_breaks(text) {
@@ -61,7 +61,7 @@ fn has_either(text: &[u8], one: &[u8], other: &[u8]) -> bool
 
 /// How far signs reach, by name.
 #[tactic(auto, unfolding(crate::specs::Directives::spread_of))]
-pub(crate) fn read_spread(text: &[u8]) -> Option<Spread>
+pub fn read_spread(text: &[u8]) -> Option<Spread>
     ensures { result ≡ spread_of text.now }
 {
     if is_same(text, b"not") {

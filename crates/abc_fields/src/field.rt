@@ -79,7 +79,7 @@ fn line_field(alloc: Global, line: &Line) -> Result<Field, TuneError>
 }
 
 #[tactic(auto, unfolding(crate::specs::Fields::field_of))]
-pub(crate) fn field_at(alloc: Global, line: &Line) -> Result<Field, FieldError>
+pub fn field_at(alloc: Global, line: &Line) -> Result<Field, FieldError>
     ensures value { IfOk result (λ field. field_of line.now.text ≡ Ok field) }
     ensures good { IfOk result (λ field. IsGoodField field) }
     ensures fault { IfErr result (λ e. Refuses (field_of line.now.text) e) }

@@ -51,7 +51,7 @@ pub struct Tonic {
 
 /// What the text of a key says, if it is one.
 #[tactic(auto, unfolding(crate::specs::Keys::key_of))]
-pub(crate) fn read_key(alloc: Global, text: &[u8]) -> Result<Option<KeyText>, Memory>
+pub fn read_key(alloc: Global, text: &[u8]) -> Result<Option<KeyText>, Memory>
     ensures value { IfOk result (λ found. found ≡ key_of text.now) }
     ensures good { IfOk result (λ found. IfSome found (λ k. IsGoodKeyText k)) }
 {
@@ -274,7 +274,7 @@ fn has_equals(word: &[u8]) -> bool
 
 /// The clef of that name; an octave at its end is passed over.
 #[tactic(auto, unfolding(crate::specs::Keys::clef_of))]
-pub(crate) fn clef_of(name: &[u8]) -> Option<Clef>
+pub fn clef_of(name: &[u8]) -> Option<Clef>
     ensures { result ≡ clef_of name.now }
 {
     named_clef(without_octave(name))

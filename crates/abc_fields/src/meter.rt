@@ -9,8 +9,7 @@ use crate::words::{behind, is_same, trimmed};
 use mus_units::{Frac, Meter};
 
 /// The meter that a text is, if it is one.
-
-pub(crate) fn read_meter(text: &[u8]) -> Option<Meter>
+pub fn read_meter(text: &[u8]) -> Option<Meter>
     ensures value { result ≡ meter_of text.now }
     ensures good { IfSome result (λ m. IsGoodMeter m) }
 {
@@ -134,8 +133,7 @@ fn is_halving(number: u64) -> bool
 }
 
 /// The unit length that a text is, if it is one.
-
-pub(crate) fn read_unit(text: &[u8]) -> Option<Frac>
+pub fn read_unit(text: &[u8]) -> Option<Frac>
     ensures value { result ≡ unit_of text.now }
     ensures good { IfSome result (λ u. IsGoodUnit u) }
 {
@@ -166,7 +164,7 @@ fn unit_at(text: &[u8]) -> Option<Frac>
 
 /// The unit length without an `L:` line: a sixteenth where the meter is below
 /// 3/4, else an eighth.
-pub(crate) fn default_unit(meter: Meter) -> Frac
+pub fn default_unit(meter: Meter) -> Frac
     ensures value { result ≡ default_unit meter }
     ensures good { IsGoodUnit result }
 {

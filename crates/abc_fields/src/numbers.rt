@@ -4,13 +4,13 @@ ghost use Rattle.std.specs.Prelude.{◌≡◌, ◌≤◌, ◌<◌, IfSome, IsTru
 ghost use Rattle.std.specs.List.{list_all};
 ghost use Rattle.abc_fields.specs.Numbers.{is_digit, begins_zero, is_number, number_of, value_of, place_of, before, from_first, behind_one};
 
-pub(crate) fn is_digit(byte: u8) -> bool
+pub fn is_digit(byte: u8) -> bool
     ensures { result ≡ is_digit byte }
 {
     byte >= b'0' && byte <= b'9'
 }
 
-pub(crate) fn all_digits(text: &[u8]) -> bool
+pub fn all_digits(text: &[u8]) -> bool
     ensures { result ≡ list_all is_digit text.now }
 {
     text.iter().all(|byte| is_digit(*byte))
@@ -47,7 +47,7 @@ fn is_number(text: &[u8]) -> bool
 
 /// The number of music that a text is.
 #[tactic(auto, unfolding(crate::specs::Numbers::number_of), using(crate::proofs::NumberLaws::number_small))]
-pub(crate) fn number_of(text: &[u8]) -> Option<u64>
+pub fn number_of(text: &[u8]) -> Option<u64>
     ensures value { result ≡ number_of text.now }
     ensures small { IfSome result (λ n. n < 10000) }
 {
@@ -61,7 +61,7 @@ pub(crate) fn number_of(text: &[u8]) -> Option<u64>
 /// The value of digits, where it is below this limit, else the limit.
 const LIMIT: u64 = 10_000_000;
 
-pub(crate) fn capped_value(digits: &[u8]) -> u64
+pub fn capped_value(digits: &[u8]) -> u64
     ensures { result ≡ min (value_of digits.now) 10000000 }
 {
     let mut value = 0;
@@ -82,7 +82,7 @@ fn with_digit(value: u64, digit: u8) -> u64
 /// What stands before the first such byte, and the rest, which begins with it;
 /// where there is none all and nothing.
 #[tactic(auto, unfolding(crate::specs::Numbers::before, crate::specs::Numbers::from_first))]
-pub(crate) fn cut_at(byte: u8, text: &[u8]) -> (&[u8], &[u8])
+pub fn cut_at(byte: u8, text: &[u8]) -> (&[u8], &[u8])
     ensures before { result.0.now ≡ before byte text.now }
     ensures rest { result.1.now ≡ from_first byte text.now }
     ensures less { length result.1.now ≤ length text.now }
@@ -98,7 +98,7 @@ fn place_of(byte: u8, text: &[u8]) -> usize
 }
 
 /// What stands behind the first byte.
-pub(crate) fn behind_one(text: &[u8]) -> &[u8]
+pub fn behind_one(text: &[u8]) -> &[u8]
     ensures { result.now ≡ behind_one text.now }
 {
     match text.split_first() {

@@ -31,7 +31,7 @@ pub enum VoiceWord {
 
 /// What the text of a voice says, if it is one.
 #[tactic(auto, unfolding(crate::specs::Voices::voice_of))]
-pub(crate) fn read_voice(alloc: Global, text: &[u8]) -> Result<Option<VoiceDef>, Memory>
+pub fn read_voice(alloc: Global, text: &[u8]) -> Result<Option<VoiceDef>, Memory>
     ensures { IfOk result (λ found. found ≡ voice_of text.now) }
 {
     match next_word(false, text) {

@@ -7,14 +7,14 @@ ghost use Rattle.std.specs.Str.{bytes_eq};
 ghost use Rattle.abc_lines.specs.Kinds.{is_blank, behind_blanks};
 ghost use Rattle.abc_fields.specs.Words.{word_len, quoted_after, parts_words, word_and_rest, next_word, trimmed, ends_quoted, words_of, words_in, words_after, behind};
 
-pub(crate) fn is_blank(byte: u8) -> bool
+pub fn is_blank(byte: u8) -> bool
     ensures { result ≡ is_blank byte }
 {
     byte == b' ' || byte == b'\t'
 }
 
 /// Whether two texts have the same bytes.
-pub(crate) fn is_same(text: &[u8], other: &[u8]) -> bool
+pub fn is_same(text: &[u8], other: &[u8]) -> bool
     ensures { result ≡ bytes_eq text.now other.now }
 {
     text == other
@@ -46,7 +46,7 @@ fn behind_blanks(text: &[u8]) -> &[u8]
 
 /// What is left without the blanks at both ends.
 #[tactic(auto, unfolding(crate::specs::Words::trimmed))]
-pub(crate) fn trimmed(text: &[u8]) -> &[u8]
+pub fn trimmed(text: &[u8]) -> &[u8]
     ensures { result.now ≡ trimmed text.now }
 {
     let rest = behind_blanks(text);
@@ -56,7 +56,7 @@ pub(crate) fn trimmed(text: &[u8]) -> &[u8]
 /// The first word and what follows it, or none where there are only blanks. Where
 /// quotes count, blanks between two of them are part of a word.
 #[tactic(auto, using(crate::proofs::WordLaws::words_next_is))]
-pub(crate) fn next_word(quotes: bool, text: &[u8]) -> Option<(&[u8], &[u8])>
+pub fn next_word(quotes: bool, text: &[u8]) -> Option<(&[u8], &[u8])>
     ensures read { option_map (λ w. (w.0.now, w.1.now)) result ≡ next_word quotes text.now }
     ensures words { words_in quotes text.now ≡ words_after quotes (option_map (λ w. (w.0.now, w.1.now)) result) }
 {
@@ -113,7 +113,7 @@ fn quoted_after(quotes: bool, quoted: bool, byte: u8) -> bool
 }
 
 /// Whether a quote stands open at the end.
-pub(crate) fn ends_quoted(text: &[u8]) -> bool
+pub fn ends_quoted(text: &[u8]) -> bool
     ensures { result ≡ ends_quoted false text.now }
 {
     let mut quoted = false;
@@ -124,7 +124,7 @@ pub(crate) fn ends_quoted(text: &[u8]) -> bool
 }
 
 /// Whether a word is one of those of the text.
-pub(crate) fn has_word(text: &[u8], word: &[u8]) -> bool
+pub fn has_word(text: &[u8], word: &[u8]) -> bool
     ensures { result ≡ list_any (λ w. bytes_eq w word.now) (words_of text.now) }
 {
     let mut rest = text;
@@ -139,7 +139,7 @@ pub(crate) fn has_word(text: &[u8], word: &[u8]) -> bool
 
 /// What stands behind a front, where the text begins with it.
 #[tactic(auto, unfolding(crate::specs::Words::behind))]
-pub(crate) fn behind<'a>(text: &'a [u8], front: &[u8]) -> Option<&'a [u8]>
+pub fn behind<'a>(text: &'a [u8], front: &[u8]) -> Option<&'a [u8]>
     ensures { option_copied result ≡ behind front.now text.now }
 {
     if text.starts_with(front) {

@@ -2,14 +2,14 @@
 use Rattle.std.proofs.Common.{◌≡◌, ℕ, ◌≤◌, ◌<◌, Bool, true, false, cond, eqb, leb, [], ◌∷◌, refl, subst, arith, inl, inr}
 use Rattle.std.specs.Prelude.{◌||◌, ◌&&◌, not}
 use Rattle.std.proofs.lemmas.Bool.{cond_both, eqb-true, leb-true, or_cases, and_parts, both_ways}
-use Rattle.abc_pieces.specs.Runs.{is_digit, is_blank, is_letter}
+use Rattle.abc_notes.specs.Runs.{is_digit, is_blank, is_letter}
 use Rattle.abc_pieces.specs.declared.token.Class.{Class}
 use Rattle.abc_pieces.specs.declared.token.Class.TheVariants as class
-use Rattle.abc_pieces.specs.Decorations.{is_deco_letter}
-use Rattle.abc_pieces.specs.Items.{is_note_byte}
+use Rattle.abc_notes.specs.Decorations.{is_deco_letter}
+use Rattle.abc_notes.specs.Items.{is_note_byte}
 use Rattle.abc_pieces.specs.Forms.{is_passed, is_passed_sign, is_passed_letter, arrow, rest_byte, measures_byte}
 use Rattle.abc_pieces.specs.Reading.{class_of}
-use Rattle.abc_pieces.proofs.ItemLaws.{implied, below_all}
+use Rattle.abc_notes.proofs.ItemLaws.{implied, below_all}
 
 abbrev pub Fact : Class → ℕ → Type 0
 Fact class.Note b = Unit {0}

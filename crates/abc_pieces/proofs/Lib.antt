@@ -1,17 +1,7 @@
 pub mod BarLaws
-pub mod Bounds
-pub mod ChordLaws
 pub mod Classes
-pub mod GraceLaws
-pub mod InnerLaws
-pub mod ItemLaws
-pub mod LengthLaws
-pub mod NoteLaws
-pub mod PartLaws
 pub mod PieceReaches
 pub mod PieceReader
 pub mod PieceTakes
 pub mod PieceText
-pub mod RunLaws
-pub mod SpanLaws
 pub mod TupletLaws

@@ -8,23 +8,23 @@ use Rattle.mus_units.specs.declared.pitch.Alter.{Alter}
 use Rattle.mus_units.specs.declared.pitch.Alter.TheVariants.{Flat2, Flat, Natural, Sharp, Sharp2}
 use Rattle.mus_units.specs.declared.pitch.Letter.{Letter}
 use Rattle.mus_units.specs.declared.pitch.Letter.TheVariants.{C, D, E, F, G, A, B}
-use Rattle.abc_pieces.specs.Runs.{copies, maybe, span, span_all, is_digit, is_blank, is_letter}
-use Rattle.abc_pieces.proofs.SpanLaws.{span-append, span-less, span_all-append, span_all-less, span_all-stops, span_all-takes}
+use Rattle.abc_notes.specs.Runs.{copies, maybe, span, span_all, is_digit, is_blank, is_letter}
+use Rattle.abc_notes.proofs.SpanLaws.{span-append, span-less, span_all-append, span_all-less, span_all-stops, span_all-takes}
 use Rattle.abc_pieces.specs.Bars.{BarForm, signs, colons, form_at, spelled as bar_then, IsGood as IsBar}
 use Rattle.abc_pieces.proofs.BarLaws.{TakesIf as TakesBarIf, form_at-takes, form_at-reaches}
-use Rattle.abc_pieces.specs.Lengths.{LengthForm, length_then, length_at, IsLength, IsCount, number_at}
-use Rattle.abc_pieces.specs.Notes.{NoteForm, note_then, sign_then, letter_byte, IsNote}
-use Rattle.abc_pieces.specs.Decorations.{is_deco_letter}
-use Rattle.abc_pieces.specs.Items.{IsName, name_at, is_letter_inside}
-use Rattle.abc_pieces.specs.Chords.{ChordForm, chord_then, is_inside, IsChord}
-use Rattle.abc_pieces.specs.Graces.{GraceForm, grace_then, IsGrace}
+use Rattle.abc_notes.specs.Lengths.{LengthForm, length_then, length_at, IsLength, IsCount, number_at}
+use Rattle.abc_notes.specs.Notes.{NoteForm, note_then, sign_then, letter_byte, IsNote}
+use Rattle.abc_notes.specs.Decorations.{is_deco_letter}
+use Rattle.abc_notes.specs.Items.{IsName, name_at, is_letter_inside}
+use Rattle.abc_notes.specs.Chords.{ChordForm, chord_then, is_inside, IsChord}
+use Rattle.abc_notes.specs.Graces.{GraceForm, grace_then, IsGrace}
 use Rattle.abc_pieces.specs.Tuplets.{TupletForm, tuplet_then, tuplet_at, IsTuplet}
-use Rattle.abc_pieces.proofs.LengthLaws.{length_at-reaches, count-reads}
-use Rattle.abc_pieces.proofs.NoteLaws.{note_at-reaches}
-use Rattle.abc_pieces.proofs.ItemLaws.{name_at-takes, name_at-reads}
-use Rattle.abc_pieces.proofs.InnerLaws.{length-copies_then, length-maybe, length-length_then, note-longer}
-use Rattle.abc_pieces.proofs.ChordLaws.{chord_at-reaches, chord-longer}
-use Rattle.abc_pieces.proofs.GraceLaws.{grace-reads, grace-longer}
+use Rattle.abc_notes.proofs.LengthLaws.{length_at-reaches, count-reads}
+use Rattle.abc_notes.proofs.NoteLaws.{note_at-reaches}
+use Rattle.abc_notes.proofs.ItemLaws.{name_at-takes, name_at-reads}
+use Rattle.abc_notes.proofs.InnerLaws.{length-copies_then, length-maybe, length-length_then, note-longer}
+use Rattle.abc_notes.proofs.ChordLaws.{chord_at-reaches, chord-longer}
+use Rattle.abc_notes.proofs.GraceLaws.{grace-reads, grace-longer}
 use Rattle.abc_pieces.proofs.TupletLaws.{TakesTuplet, tuplet_at-takes, tuplet_at-reaches, tuplet-longer}
 use Rattle.abc_pieces.specs.declared.token.Before.{Before}
 use Rattle.abc_pieces.specs.declared.token.Class.{Class}

@@ -4,7 +4,7 @@ use Rattle.std.specs.Prelude.{IfSome}
 use Rattle.abc_pieces.specs.declared.token.Before.{Before}
 use Rattle.abc_pieces.specs.Forms.{Form, spelled, IsGood, IsAllowed, StandsAt}
 use Rattle.abc_pieces.specs.Reading.{Read, read, piece_at}
-use Rattle.abc_pieces.proofs.PartLaws.{Reader}
+use Rattle.abc_notes.proofs.PartLaws.{Reader}
 use Rattle.abc_pieces.proofs.PieceTakes.{Takes, piece_at-takes}
 use Rattle.abc_pieces.proofs.PieceReaches.{piece_at-reaches, longer}
 

@@ -3,21 +3,21 @@ use Rattle.std.proofs.Common.{◌≡◌, ℕ, suc, Bool, true, false, cond, eqb,
 use Rattle.std.specs.Prelude.{◌&&◌, IfSome, option_map}
 use Rattle.std.specs.List.{list_all}
 use Rattle.std.proofs.lemmas.Bool.{cond_both, or_left, or_right, and_parts, eqb-true, not-false, eq-eqb}
-use Rattle.abc_pieces.specs.Runs.{copies, span, span_all, is_digit, is_blank, is_letter, begins}
-use Rattle.abc_pieces.proofs.SpanLaws.{span-takes, span-pass, span-length, span_all-takes, span_all-pass, span_all-after}
+use Rattle.abc_notes.specs.Runs.{copies, span, span_all, is_digit, is_blank, is_letter, begins}
+use Rattle.abc_notes.proofs.SpanLaws.{span-takes, span-pass, span-length, span_all-takes, span_all-pass, span_all-after}
 use Rattle.abc_pieces.specs.Bars.{BarForm, form_at}
 use Rattle.abc_pieces.proofs.BarLaws.{TakesIf as TakesBarIf, form_at-takes}
-use Rattle.abc_pieces.specs.Notes.{NoteForm, note_at}
-use Rattle.abc_pieces.specs.Decorations.{is_deco_letter}
-use Rattle.abc_pieces.specs.Items.{IsName, name_at}
-use Rattle.abc_pieces.specs.Chords.{ChordForm, chord_at, is_inside}
-use Rattle.abc_pieces.specs.Graces.{GraceForm, grace_at}
+use Rattle.abc_notes.specs.Notes.{NoteForm, note_at}
+use Rattle.abc_notes.specs.Decorations.{is_deco_letter}
+use Rattle.abc_notes.specs.Items.{IsName, name_at}
+use Rattle.abc_notes.specs.Chords.{ChordForm, chord_at, is_inside}
+use Rattle.abc_notes.specs.Graces.{GraceForm, grace_at}
 use Rattle.abc_pieces.specs.Tuplets.{TupletForm, tuplet_at}
-use Rattle.abc_pieces.proofs.LengthLaws.{length_at-takes, number-takes, number-count}
-use Rattle.abc_pieces.proofs.NoteLaws.{TakesNote, note_at-takes}
-use Rattle.abc_pieces.proofs.ItemLaws.{name_at-takes}
-use Rattle.abc_pieces.proofs.ChordLaws.{TakesChord, chord_at-takes}
-use Rattle.abc_pieces.proofs.GraceLaws.{TakesGrace, grace_at-takes}
+use Rattle.abc_notes.proofs.LengthLaws.{length_at-takes, number-takes, number-count}
+use Rattle.abc_notes.proofs.NoteLaws.{TakesNote, note_at-takes}
+use Rattle.abc_notes.proofs.ItemLaws.{name_at-takes}
+use Rattle.abc_notes.proofs.ChordLaws.{TakesChord, chord_at-takes}
+use Rattle.abc_notes.proofs.GraceLaws.{TakesGrace, grace_at-takes}
 use Rattle.abc_pieces.proofs.TupletLaws.{TakesTuplet, tuplet_at-takes}
 use Rattle.abc_pieces.specs.declared.token.Before.{Before}
 use Rattle.abc_pieces.specs.declared.token.Class.{Class}

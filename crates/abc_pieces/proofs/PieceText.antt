@@ -1,13 +1,13 @@
 -- What a piece is read as, where the code puts it together.
 use Rattle.std.proofs.Common.{◌≡◌, ℕ, suc, ◌+◌, Bool, true, List, ◌∷◌, Option, Some, None, take, drop, refl, ap, arith}
 use Rattle.std.specs.List.{prefix_len}
-use Rattle.abc_pieces.specs.Runs.{span_all, is_digit}
+use Rattle.abc_notes.specs.Runs.{span_all, is_digit}
 use Rattle.abc_pieces.specs.declared.token.Before.{Before}
 use Rattle.abc_pieces.specs.declared.token.Before.TheVariants as behind
 use Rattle.abc_pieces.specs.declared.token.Class.TheVariants as class
 use Rattle.abc_pieces.specs.declared.token.Token.{Token}
 use Rattle.abc_pieces.specs.declared.token.Token.TheVariants as token
-use Rattle.abc_pieces.specs.Decorations.{deco_of_letter}
+use Rattle.abc_notes.specs.Decorations.{deco_of_letter}
 use Rattle.abc_pieces.specs.Forms.{is_ending, letter_form}
 use Rattle.abc_pieces.specs.Reading.{Read, read, or_else, ending_read, seen, meaning, class_of}
 use Rattle.abc_pieces.proofs.Classes.{fact_of}

@@ -3,11 +3,11 @@ use Rattle.std.proofs.Common.{◌≡◌, ℕ, ◌≤◌, ◌<◌, true, List, []
 use Rattle.std.specs.Prelude.{IfSome}
 use Rattle.std.proofs.lemmas.Bool.{cond_both}
 use Rattle.std.proofs.lemmas.List.{length-append}
-use Rattle.abc_pieces.specs.Runs.{maybe, skip}
-use Rattle.abc_pieces.specs.Lengths.{IsCount, number_at}
+use Rattle.abc_notes.specs.Runs.{maybe, skip}
+use Rattle.abc_notes.specs.Lengths.{IsCount, number_at}
 use Rattle.abc_pieces.specs.Tuplets.{TupletForm, bare, with_q, with_r, is_tuplet_digit, tuplet_then, IsTuplet, behind_q, behind_p, tuplet_at}
-use Rattle.abc_pieces.proofs.RunLaws.{skip-takes, skip-yes, skip-less, length-skip}
-use Rattle.abc_pieces.proofs.LengthLaws.{number-takes, number-count, length-number, count-reads, count-stops}
+use Rattle.abc_notes.proofs.RunLaws.{skip-takes, skip-yes, skip-less, length-skip}
+use Rattle.abc_notes.proofs.LengthLaws.{number-takes, number-count, length-number, count-reads, count-stops}
 
 abbrev tuplet_with : TupletForm → List ℕ → TupletForm × List ℕ
 tuplet_with f x = (f, x)

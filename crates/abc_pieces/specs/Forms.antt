@@ -2,14 +2,14 @@
 -- A piece is the spelling of a token, or one item that is passed over.
 use Rattle.std.specs.Prelude.{◌≡◌, ℕ, ◌≤◌, List, [], ◌∷◌, ◌++◌, map, Bool, true, false, not, ◌==◌, ◌&&◌, ◌||◌, nat_le, if◌then◌else◌, Option, Some, None}
 use Rattle.std.specs.List.{list_all}
-use Rattle.abc_pieces.specs.Runs.{copies, maybe, one_of, begins, is_digit, is_blank, is_letter}
+use Rattle.abc_notes.specs.Runs.{copies, maybe, one_of, begins, is_digit, is_blank, is_letter}
 use Rattle.abc_pieces.specs.Bars.{BarForm, spelled as bar_then, IsGood as IsBar, meant as bar_of}
-use Rattle.abc_pieces.specs.Lengths.{LengthForm, length_then, IsLength, len_of, IsCount, count_of}
-use Rattle.abc_pieces.specs.Notes.{NoteForm, note_then, IsNote, head_of}
-use Rattle.abc_pieces.specs.Decorations.{deco_of_letter, deco_of_name}
-use Rattle.abc_pieces.specs.Items.{IsName, is_letter_inside, sense}
-use Rattle.abc_pieces.specs.Chords.{ChordForm, chord_then, IsChord, heads_of, decos_of, is_inside}
-use Rattle.abc_pieces.specs.Graces.{GraceForm, grace_then, IsGrace, body_of}
+use Rattle.abc_notes.specs.Lengths.{LengthForm, length_then, IsLength, len_of, IsCount, count_of}
+use Rattle.abc_notes.specs.Notes.{NoteForm, note_then, IsNote, head_of}
+use Rattle.abc_notes.specs.Decorations.{deco_of_letter, deco_of_name}
+use Rattle.abc_notes.specs.Items.{IsName, is_letter_inside, sense}
+use Rattle.abc_notes.specs.Chords.{ChordForm, chord_then, IsChord, heads_of, decos_of, is_inside}
+use Rattle.abc_notes.specs.Graces.{GraceForm, grace_then, IsGrace, body_of}
 use Rattle.abc_pieces.specs.Tuplets.{TupletForm, tuplet_then, IsTuplet, p_of, q_of, r_of}
 use Rattle.abc_pieces.specs.declared.token.Token.{Token}
 use Rattle.abc_pieces.specs.declared.token.Token.TheVariants as token

@@ -1,12 +1,4 @@
 pub mod Bars
-pub mod Chords
-pub mod Decorations
 pub mod Forms
-pub mod Graces
-pub mod Items
-pub mod Lengths
-pub mod Notes
-pub mod Parts
 pub mod Reading
-pub mod Runs
 pub mod Tuplets

@@ -1,14 +1,14 @@
 -- Reading the longest piece: between the pieces as they are defined and the code.
 use Rattle.std.specs.Prelude.{◌≤◌, ℕ, suc, List, [], ◌∷◌, length, Bool, true, false, ◌==◌, ◌||◌, if◌then◌else◌, Option, Some, None, option_map}
-use Rattle.abc_pieces.specs.Runs.{span, span_all, is_digit, is_blank}
+use Rattle.abc_notes.specs.Runs.{span, span_all, is_digit, is_blank}
 use Rattle.abc_pieces.specs.Bars.{form_at}
-use Rattle.abc_pieces.specs.Lengths.{length_at, number_at}
-use Rattle.abc_pieces.specs.Notes.{note_at}
-use Rattle.abc_pieces.specs.Decorations.{is_deco_letter, deco_of_letter, deco_of_name}
-use Rattle.abc_pieces.specs.Items.{is_note_byte, name_at}
-use Rattle.abc_pieces.specs.Chords.{chord_at, is_inside, heads_of, decos_of, senses}
-use Rattle.abc_pieces.specs.Graces.{grace_at, grace_part_at, body_of}
-use Rattle.abc_pieces.specs.Parts.{walk}
+use Rattle.abc_notes.specs.Lengths.{length_at, number_at}
+use Rattle.abc_notes.specs.Notes.{note_at}
+use Rattle.abc_notes.specs.Decorations.{is_deco_letter, deco_of_letter, deco_of_name}
+use Rattle.abc_notes.specs.Items.{is_note_byte, name_at}
+use Rattle.abc_notes.specs.Chords.{chord_at, is_inside, heads_of, decos_of, senses}
+use Rattle.abc_notes.specs.Graces.{grace_at, grace_part_at, body_of}
+use Rattle.abc_notes.specs.Parts.{walk}
 use Rattle.abc_pieces.specs.Tuplets.{tuplet_at}
 use Rattle.abc_pieces.specs.declared.piece.Piece.{Piece}
 use Rattle.abc_pieces.specs.declared.token.Before.{Before}

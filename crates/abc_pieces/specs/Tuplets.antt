@@ -1,8 +1,8 @@
 -- A tuplet: its p, and q and r behind colons, each of which may be left empty.
 use Rattle.std.specs.Prelude.{◌≡◌, ◌-◌, ℕ, List, [], ◌∷◌, ◌++◌, Bool, true, ◌&&◌, nat_le, if◌then◌else◌, Option, Some, None}
 use Rattle.std.specs.Str.Parse.{digits_value}
-use Rattle.abc_pieces.specs.Runs.{skip}
-use Rattle.abc_pieces.specs.Lengths.{IsCount, number_at}
+use Rattle.abc_notes.specs.Runs.{skip}
+use Rattle.abc_notes.specs.Lengths.{IsCount, number_at}
 
 pub data TupletForm : Type 0 where
   bare : (p : ℕ) → TupletForm

@@ -1,7 +1,7 @@
 ghost use Rattle.std.specs.Prelude.{◌≡◌, option_map};
 ghost use Rattle.abc_pieces.specs.Bars.{signs, meant, form_at, bar_read};
 
-use crate::bytes::{run_off, skip};
+use abc_notes::bytes::{run_off, skip};
 use mus_units::Bar;
 
 /// The bar at the front, as long as it can be, and what follows it.

@@ -3,15 +3,9 @@
 #![tactic(auto)]
 
 pub mod bar;
-pub mod bytes;
-pub mod chord;
-pub mod decoration;
-pub mod grace;
-pub mod item;
-pub mod length;
-pub mod note;
 pub mod piece;
 pub mod token;
 pub mod tuplet;
 
-pub use token::{Before, Flaw, Found, GraceChord, Len, Opening, Token};
+pub use abc_notes::{Flaw, GraceChord, Len};
+pub use token::{Before, Found, Opening, Token};

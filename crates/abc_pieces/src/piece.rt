@@ -1,19 +1,19 @@
 ghost use Rattle.std.specs.Prelude.{◌≡◌, ◌≤◌, ◌^◌, ◌∷◌, false, ℕ, List, Bool, Some, None, length, take, ◌==◌, IfSome};
 ghost use Rattle.std.specs.List.{prefix_len};
 ghost use Rattle.abc_pieces.specs.declared.token.Before.TheVariants.{Other};
-ghost use Rattle.abc_pieces.specs.Chords.{is_inside};
+ghost use Rattle.abc_notes.specs.Chords.{is_inside};
 ghost use Rattle.abc_pieces.specs.Forms.{is_bar, is_broken, is_ending, is_text, is_plus_byte, is_passed, is_passed_sign, is_passed_letter, opening, letter_form, slur_form};
 ghost use Rattle.abc_pieces.specs.Reading.{class_of, piece_at, note_read, rest_read, gap_read, measures_read, bar_read, chord_read, grace_read, tuplet_read, ending_read, broken_read, says_read, plus_read, inline_read, space_read, bang_read, dot_read, opened, or_else, read, shown, meaning, found_within};
-ghost use Rattle.abc_pieces.specs.Runs.{is_digit, is_blank, is_letter, begins};
+ghost use Rattle.abc_notes.specs.Runs.{is_digit, is_blank, is_letter, begins};
 
 use crate::bar::read_bar;
-use crate::chord::{bracketed, chord_at};
-use crate::grace::grace_at;
-use crate::item::{is_deco_letter, is_note_byte, name_at};
-use crate::length::{count_of, length_at, number_at};
-use crate::note::note_at;
 use crate::token::{Before, Class, Found, Opening};
 use crate::tuplet::tuplet_at;
+use abc_notes::chord::{bracketed, chord_at};
+use abc_notes::grace::grace_at;
+use abc_notes::item::{is_deco_letter, is_note_byte, name_at};
+use abc_notes::length::{count_of, length_at, number_at};
+use abc_notes::note::note_at;
 
 /// What stands at the front, what it tells of the next piece, and what follows.
 #[derive(Clone, Copy)]
@@ -399,7 +399,7 @@ fn ending_len(bytes: &[u8]) -> usize
         .count()
 }
 
-#[tactic(auto, unfolding(crate::specs::Reading::broken_read, crate::specs::Runs::span))]
+#[tactic(auto, unfolding(crate::specs::Reading::broken_read, abc_notes::specs::Runs::span))]
 fn broken(before: Before, first: u8, bytes: &[u8]) -> Option<Piece<'_>>
     ensures read { (bang : Bool) → shown bang result ≡ meaning (broken_read before first bytes.now) }
     ensures within { (n : ℕ) → IfSome result (λ x. found_within x.found n) }
@@ -426,7 +426,7 @@ fn same_count(byte: u8, bytes: &[u8]) -> usize
     bytes.iter().take(2).take_while(|b| **b == byte).count()
 }
 
-#[tactic(auto, unfolding(crate::specs::Reading::says_read, crate::specs::Runs::span_all))]
+#[tactic(auto, unfolding(crate::specs::Reading::says_read, abc_notes::specs::Runs::span_all))]
 fn says(bytes: &[u8]) -> Option<Piece<'_>>
     ensures read { (bang : Bool) → shown bang result ≡ meaning (says_read bytes.now) }
     ensures within { (n : ℕ) → IfSome result (λ x. found_within x.found n) }
@@ -478,7 +478,7 @@ fn bang_piece(bang: bool, bytes: &[u8]) -> Piece<'_>
 }
 
 /// A piece that begins with a plus sign.
-#[tactic(auto, unfolding(crate::specs::Reading::plus_read, crate::specs::Runs::span_all))]
+#[tactic(auto, unfolding(crate::specs::Reading::plus_read, abc_notes::specs::Runs::span_all))]
 fn plus(bytes: &[u8]) -> Piece<'_>
     ensures read { (bang : Bool) → shown bang (Some result) ≡ meaning (plus_read bytes.now) }
     ensures within { (n : ℕ) → found_within result.found n }
@@ -503,7 +503,7 @@ fn is_plus_byte(byte: u8) -> bool
     !(byte == b'+' || byte == b' ' || byte == b'\t' || byte == b'|')
 }
 
-#[tactic(auto, unfolding(crate::specs::Reading::space_read, crate::specs::Runs::span_all))]
+#[tactic(auto, unfolding(crate::specs::Reading::space_read, abc_notes::specs::Runs::span_all))]
 fn space(bytes: &[u8]) -> Piece<'_>
     ensures read { (bang : Bool) (b : ℕ) → shown bang (Some result) ≡ meaning (space_read b bytes.now) }
     ensures within { (n : ℕ) → found_within result.found n }

@@ -1,18 +1,5 @@
-use abc_lines::FaultKind;
+use abc_notes::{GraceChord, Len};
 use mus_units::{Bar, Deco, Head, Row, Text};
-
-/// A length as written, in units, not reduced: `A//` is 1/4.
-#[derive(Clone, Copy, Debug, PartialEq, Eq)]
-pub struct Len {
-    pub num: u32,
-    pub den: u32,
-}
-
-/// The heads of one note or chord of a grace group, in the order of the text.
-#[derive(Debug, Drop)]
-pub struct GraceChord {
-    pub heads: Row<Head>,
-}
 
 /// What a piece of a music line says. `Cut` is `$`, or `!` where that is a line
 /// break; `Says` is the text between quotes; `Inline` has the letters K, L, M and
@@ -62,13 +49,6 @@ pub enum Token {
     },
     Cut,
     Space,
-}
-
-/// A fault of a line, and how many bytes are left of the line from its place on.
-#[derive(Clone, Copy, Debug, PartialEq, Eq)]
-pub struct Flaw {
-    pub kind: FaultKind,
-    pub left: usize,
 }
 
 /// What the piece before tells of the next: `Lengthy` has a length, `Paren` is a
@@ -140,34 +120,4 @@ pub enum Opening {
     Ending,
     Inline,
     Chord,
-}
-
-/// What a piece within a chord or a grace says.
-#[derive(Clone, Copy)]
-pub enum Item<'a> {
-    Note { head: Head, len: Len },
-    Letter(u8),
-    Named(&'a [u8]),
-    Tie,
-    Passed,
-}
-
-/// A part of a grace group: as within a chord, or a chord, of which it has the
-/// text between the brackets.
-#[derive(Clone, Copy)]
-pub enum GraceItem<'a> {
-    Part(Item<'a>),
-    Chord(&'a [u8]),
-}
-
-/// What a piece within a chord or a grace may be, by its first byte.
-#[derive(Clone, Copy, Debug, PartialEq, Eq)]
-pub enum ItemClass {
-    Note,
-    Dot,
-    Letter,
-    Tie,
-    Passed,
-    Bang,
-    Nothing,
 }

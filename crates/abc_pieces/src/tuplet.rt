@@ -1,10 +1,10 @@
 ghost use Rattle.std.specs.Prelude.{◌≡◌, ◌≤◌, ◌-◌, option_map, length, true};
 ghost use Rattle.std.specs.List.{list_all};
-ghost use Rattle.abc_pieces.specs.Runs.{is_digit};
+ghost use Rattle.abc_notes.specs.Runs.{is_digit};
 ghost use Rattle.abc_pieces.specs.Tuplets.{is_tuplet_digit, p_of, q_of, r_of, tuplet_at, behind_p, behind_q, value_or_zero, tuplet_shown};
 
-use crate::bytes::skip;
-use crate::length::number_at;
+use abc_notes::bytes::skip;
+use abc_notes::length::number_at;
 
 /// The numbers of a tuplet, 0 where one is absent, and what follows it.
 #[derive(Clone, Copy)]

@@ -10,24 +10,24 @@ use Rattle.mus_units.specs.declared.note.Deco.{Deco}
 use Rattle.mus_units.specs.declared.note.Head.{Head}
 use Rattle.abc_pieces.specs.declared.token.Before.{Before}
 use Rattle.abc_pieces.specs.declared.token.Before.TheVariants as behind
-use Rattle.abc_pieces.specs.declared.token.GraceChord.{GraceChord}
-use Rattle.abc_pieces.specs.declared.token.Len.{Len}
+use Rattle.abc_notes.specs.declared.part.GraceChord.{GraceChord}
+use Rattle.abc_notes.specs.declared.part.Len.{Len}
 use Rattle.abc_pieces.specs.declared.token.Token.{Token}
 use Rattle.abc_pieces.specs.declared.token.Token.TheVariants as token
-use Rattle.abc_pieces.specs.Runs.{maybe, is_digit}
-use Rattle.abc_pieces.specs.Lengths.{LengthForm, IsCount, count_of, len_of, IsLength}
-use Rattle.abc_pieces.specs.Notes.{NoteForm, IsNote, head_of}
+use Rattle.abc_notes.specs.Runs.{maybe, is_digit}
+use Rattle.abc_notes.specs.Lengths.{LengthForm, IsCount, count_of, len_of, IsLength}
+use Rattle.abc_notes.specs.Notes.{NoteForm, IsNote, head_of}
 use Rattle.abc_pieces.specs.Bars.{BarForm, meant as bar_of}
-use Rattle.abc_pieces.specs.Items.{sense}
-use Rattle.abc_pieces.specs.Decorations.{deco_of_letter, deco_of_name}
-use Rattle.abc_pieces.specs.Chords.{ChordForm, heads_of, decos_of}
-use Rattle.abc_pieces.specs.Graces.{GraceForm, body_of}
+use Rattle.abc_notes.specs.Items.{sense}
+use Rattle.abc_notes.specs.Decorations.{deco_of_letter, deco_of_name}
+use Rattle.abc_notes.specs.Chords.{ChordForm, heads_of, decos_of}
+use Rattle.abc_notes.specs.Graces.{GraceForm, body_of}
 use Rattle.abc_pieces.specs.Tuplets.{bare, with_q, with_r, IsTuplet, is_tuplet_digit, value_or_zero}
 use Rattle.abc_pieces.specs.Forms.{Form, note_form, rest_form, gap_form, measures_form, chord_form, grace_form, tuplet_form, slur_form, close_form, tie_form, broken_form, bar_form, ending_form, letter_form, named_form, says_form, inline_form, cut_form, space_form, passed_form, lone_form, plus_form, spelled, meant, after, IsGood, StandsAt, is_kept_field, inline_token}
 use Rattle.abc_pieces.specs.Reading.{read, piece_at, class_of}
-use Rattle.abc_pieces.specs.Parts.{IsLongest}
-use Rattle.abc_pieces.proofs.Bounds.{digit_value-is}
-use Rattle.abc_pieces.proofs.PartLaws.{longest_of}
+use Rattle.abc_notes.specs.Parts.{IsLongest}
+use Rattle.abc_notes.proofs.Bounds.{digit_value-is}
+use Rattle.abc_notes.proofs.PartLaws.{longest_of}
 use Rattle.abc_pieces.proofs.PieceReader.{piece_reader}
 use Rattle.abc_tokens.specs.declared.token.Placed.{Placed}
 use Rattle.abc_tokens.specs.Tokens.{Tokens, ends, goes, column, put}

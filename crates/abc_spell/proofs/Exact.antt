@@ -8,22 +8,22 @@ use Rattle.mus_units.specs.declared.pitch.Alter.{Alter}
 use Rattle.mus_units.specs.declared.pitch.Alter.TheVariants.{Flat2, Flat, Natural, Sharp, Sharp2}
 use Rattle.mus_units.specs.declared.pitch.Letter.{Letter}
 use Rattle.mus_units.specs.declared.pitch.Letter.TheVariants.{C, D, E, F, G, A, B}
-use Rattle.abc_pieces.specs.Runs.{copies, maybe, span, span_all, begins, is_digit, is_blank, is_letter}
-use Rattle.abc_pieces.proofs.RunLaws.{skip-yes}
-use Rattle.abc_pieces.proofs.SpanLaws.{span-cons, span-zero, span-stops, span_all-append, span_all-stops}
+use Rattle.abc_notes.specs.Runs.{copies, maybe, span, span_all, begins, is_digit, is_blank, is_letter}
+use Rattle.abc_notes.proofs.RunLaws.{skip-yes}
+use Rattle.abc_notes.proofs.SpanLaws.{span-cons, span-zero, span-stops, span_all-append, span_all-stops}
 use Rattle.abc_pieces.specs.Bars.{BarForm, signs, colons, form_at, spelled as bar_then, IsGood as IsBar}
 use Rattle.abc_pieces.proofs.BarLaws.{form_at-reaches, goes_on as bar_goes_on}
-use Rattle.abc_pieces.specs.Lengths.{LengthForm, length_then, length_at, IsLength, IsCount, number_at}
-use Rattle.abc_pieces.proofs.LengthLaws.{goes_on, length_at-reaches, count-reads, count-stops}
-use Rattle.abc_pieces.specs.Notes.{NoteForm, note_then, sign_then, letter_byte, IsNote, note_at}
-use Rattle.abc_pieces.proofs.NoteLaws.{note_goes_on, note_at-reaches}
-use Rattle.abc_pieces.specs.Items.{IsName, is_note_byte}
-use Rattle.abc_pieces.proofs.ItemLaws.{name_at-reads}
-use Rattle.abc_pieces.proofs.InnerLaws.{inner_reader}
-use Rattle.abc_pieces.proofs.PartLaws.{walk_of_parts}
-use Rattle.abc_pieces.specs.Chords.{ChordForm, chord_then, is_inside, IsChord, chord_at}
-use Rattle.abc_pieces.specs.Graces.{GraceForm, IsGrace, is_slash_byte}
-use Rattle.abc_pieces.proofs.GraceLaws.{grace-reads}
+use Rattle.abc_notes.specs.Lengths.{LengthForm, length_then, length_at, IsLength, IsCount, number_at}
+use Rattle.abc_notes.proofs.LengthLaws.{goes_on, length_at-reaches, count-reads, count-stops}
+use Rattle.abc_notes.specs.Notes.{NoteForm, note_then, sign_then, letter_byte, IsNote, note_at}
+use Rattle.abc_notes.proofs.NoteLaws.{note_goes_on, note_at-reaches}
+use Rattle.abc_notes.specs.Items.{IsName, is_note_byte}
+use Rattle.abc_notes.proofs.ItemLaws.{name_at-reads}
+use Rattle.abc_notes.proofs.InnerLaws.{inner_reader}
+use Rattle.abc_notes.proofs.PartLaws.{walk_of_parts}
+use Rattle.abc_notes.specs.Chords.{ChordForm, chord_then, is_inside, IsChord, chord_at}
+use Rattle.abc_notes.specs.Graces.{GraceForm, IsGrace, is_slash_byte}
+use Rattle.abc_notes.proofs.GraceLaws.{grace-reads}
 use Rattle.abc_pieces.specs.Tuplets.{with_r, tuplet_then, tuplet_at, IsTuplet}
 use Rattle.abc_pieces.proofs.Classes.{digit_below, letter_apart}
 use Rattle.abc_pieces.proofs.PieceTakes.{opening-behind}

@@ -11,23 +11,23 @@ use Rattle.mus_units.specs.declared.pitch.Alter.{Alter}
 use Rattle.mus_units.specs.declared.pitch.Alter.TheVariants.{Flat2, Flat, Natural, Sharp, Sharp2}
 use Rattle.mus_units.specs.declared.pitch.Letter.{Letter}
 use Rattle.mus_units.specs.declared.pitch.Letter.TheVariants.{C, D, E, F, G, A, B}
-use Rattle.abc_pieces.specs.declared.token.GraceChord.{GraceChord}
-use Rattle.abc_pieces.specs.declared.token.Len.{Len}
+use Rattle.abc_notes.specs.declared.part.GraceChord.{GraceChord}
+use Rattle.abc_notes.specs.declared.part.Len.{Len}
 use Rattle.abc_pieces.specs.declared.token.Opening.TheVariants as opens
-use Rattle.abc_pieces.specs.Runs.{copies, maybe, begins, is_digit, is_mark}
-use Rattle.abc_pieces.specs.Lengths.{LengthForm, whole, over, halved, length_then, len_of}
-use Rattle.abc_pieces.proofs.LengthLaws.{goes_on, count-digits}
-use Rattle.abc_pieces.specs.Notes.{NoteForm, note_then, sign_then, letter_byte, IsNote, head_of, note_at}
-use Rattle.abc_pieces.proofs.NoteLaws.{note_goes_on}
-use Rattle.abc_pieces.specs.Items.{Inner, note_inside, letter_inside, named_inside, tie_inside, slur_inside, passed_inside, lone_inside, inner_then, IsInner, IsName, sense, InnerParts, inner_at, item_class, is_note_byte}
-use Rattle.abc_pieces.proofs.ItemLaws.{name_at-reads}
-use Rattle.abc_pieces.proofs.InnerLaws.{inner_reader}
-use Rattle.abc_pieces.proofs.PartLaws.{longest_of}
-use Rattle.abc_pieces.proofs.Bounds.{digit_range}
-use Rattle.abc_pieces.specs.Parts.{no_part, then_part}
-use Rattle.abc_pieces.specs.Chords.{ChordForm, chord_then, is_inside, has_head, IsChord, is_tied, tied_if, heads_of, decos_of}
-use Rattle.abc_pieces.specs.Graces.{GracePart, single, chorded, grace_part_then, IsGracePart, GraceParts, GraceForm, is_in_grace, is_slash_byte, IsGrace, heads_in, body_of, grace_part_at, single_read, chorded_read}
-use Rattle.abc_pieces.proofs.GraceLaws.{part_reader}
+use Rattle.abc_notes.specs.Runs.{copies, maybe, begins, is_digit, is_mark}
+use Rattle.abc_notes.specs.Lengths.{LengthForm, whole, over, halved, length_then, len_of}
+use Rattle.abc_notes.proofs.LengthLaws.{goes_on, count-digits}
+use Rattle.abc_notes.specs.Notes.{NoteForm, note_then, sign_then, letter_byte, IsNote, head_of, note_at}
+use Rattle.abc_notes.proofs.NoteLaws.{note_goes_on}
+use Rattle.abc_notes.specs.Items.{Inner, note_inside, letter_inside, named_inside, tie_inside, slur_inside, passed_inside, lone_inside, inner_then, IsInner, IsName, sense, InnerParts, inner_at, item_class, is_note_byte}
+use Rattle.abc_notes.proofs.ItemLaws.{name_at-reads}
+use Rattle.abc_notes.proofs.InnerLaws.{inner_reader}
+use Rattle.abc_notes.proofs.PartLaws.{longest_of}
+use Rattle.abc_notes.proofs.Bounds.{digit_range}
+use Rattle.abc_notes.specs.Parts.{no_part, then_part}
+use Rattle.abc_notes.specs.Chords.{ChordForm, chord_then, is_inside, has_head, IsChord, is_tied, tied_if, heads_of, decos_of}
+use Rattle.abc_notes.specs.Graces.{GracePart, single, chorded, grace_part_then, IsGracePart, GraceParts, GraceForm, is_in_grace, is_slash_byte, IsGrace, heads_in, body_of, grace_part_at, single_read, chorded_read}
+use Rattle.abc_notes.proofs.GraceLaws.{part_reader}
 use Rattle.abc_pieces.specs.Forms.{opening}
 use Rattle.abc_spell.specs.Plain.{all_then, len_then, marks_of, is_small, head_then, chord_head_then, name_of, deco_then, heads_then, grace_chord_then}
 use Rattle.abc_spell.proofs.Numbers.{GoodLen, len_form, len_again, head_form, head_good, head_means, good_marks}

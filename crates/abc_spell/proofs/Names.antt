@@ -5,9 +5,9 @@ use Rattle.std.specs.List.{list_all}
 use Rattle.std.proofs.lemmas.Bool.{cond_both}
 use Rattle.mus_units.specs.declared.note.Deco.{Deco}
 use Rattle.mus_units.specs.declared.note.Deco.TheVariants.{Ks, Kr, Kf, Ka, Km, Kc, Kp, Kg, Kt, Ku, Kd, Kn, Below, Above, Quiet}
-use Rattle.abc_pieces.specs.Decorations.{deco_of_letter, deco_of_name, deco_of_text, is_text, is_one_of, is_accent, is_dynamic, is_finger}
-use Rattle.abc_pieces.specs.Items.{IsName}
-use Rattle.abc_pieces.specs.Chords.{is_inside}
+use Rattle.abc_notes.specs.Decorations.{deco_of_letter, deco_of_name, deco_of_text, is_text, is_one_of, is_accent, is_dynamic, is_finger}
+use Rattle.abc_notes.specs.Items.{IsName}
+use Rattle.abc_notes.specs.Chords.{is_inside}
 use Rattle.abc_spell.specs.Plain.{name_of}
 
 -- the name means the decoration, and may stand between exclamation marks

@@ -11,12 +11,12 @@ use Rattle.std.proofs.lemmas.List.Folds.{sum_by-replicate}
 use Rattle.std.proofs.lemmas.Int.{ints}
 use Rattle.std.proofs.lemmas.Bool.{cond_both, both_ways, leb-true, leb-false, le-leb, and_from, and_parts, eq-eqb}
 use Rattle.mus_units.specs.declared.note.Head.{Head}
-use Rattle.abc_pieces.specs.declared.token.Len.{Len}
-use Rattle.abc_pieces.specs.Runs.{begins, is_digit, is_mark}
-use Rattle.abc_pieces.specs.Lengths.{LengthForm, whole, over, halved, IsNumber, IsCount, IsLength, count_of, len_of}
-use Rattle.abc_pieces.specs.Notes.{NoteForm, octave_of, head_of, IsNote}
-use Rattle.abc_pieces.specs.Chords.{tied_if}
-use Rattle.abc_pieces.proofs.Bounds.{digit_range}
+use Rattle.abc_notes.specs.declared.part.Len.{Len}
+use Rattle.abc_notes.specs.Runs.{begins, is_digit, is_mark}
+use Rattle.abc_notes.specs.Lengths.{LengthForm, whole, over, halved, IsNumber, IsCount, IsLength, count_of, len_of}
+use Rattle.abc_notes.specs.Notes.{NoteForm, octave_of, head_of, IsNote}
+use Rattle.abc_notes.specs.Chords.{tied_if}
+use Rattle.abc_notes.proofs.Bounds.{digit_range}
 use Rattle.abc_spell.specs.Plain.{is_small, marks_of}
 
 -- ---- numbers

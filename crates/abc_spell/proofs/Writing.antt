@@ -3,7 +3,7 @@ use Rattle.std.proofs.Common.{◌≡◌, ℕ, zero, suc, ◌+◌, ◌≤◌, ◌
 use Rattle.std.specs.Prelude.{Result, Ok, Err, OnOk}
 use Rattle.std.proofs.lemmas.List.{append_assoc, drop_more, drop_all}
 use Rattle.abc_pieces.specs.declared.token.Token.{Token}
-use Rattle.abc_pieces.specs.Runs.{copies}
+use Rattle.abc_notes.specs.Runs.{copies}
 use Rattle.abc_spell.specs.Plain.{all_then, next_then, token_then, plain_text, Puts}
 
 cut_at : {A : Type 0} (list : List A) (a : A) (i : ℕ) → i < length list → a ≡ get_or list i a → drop i list ≡ a ∷ drop (i + 1) list

@@ -9,12 +9,12 @@ use Rattle.mus_units.specs.declared.note.Bar.{Bar}
 use Rattle.mus_units.specs.declared.note.Deco.{Deco}
 use Rattle.mus_units.specs.declared.note.Deco.TheVariants.{Ks, Kr, Kf, Ka, Km, Kc, Kp, Kg, Kt, Ku, Kd, Kn, Below, Above, Quiet}
 use Rattle.mus_units.specs.declared.note.Head.{Head}
-use Rattle.abc_pieces.specs.declared.token.GraceChord.{GraceChord}
-use Rattle.abc_pieces.specs.declared.token.Len.{Len}
+use Rattle.abc_notes.specs.declared.part.GraceChord.{GraceChord}
+use Rattle.abc_notes.specs.declared.part.Len.{Len}
 use Rattle.abc_pieces.specs.declared.token.Token.{Token}
 use Rattle.abc_pieces.specs.declared.token.Token.TheVariants as token
-use Rattle.abc_pieces.specs.Runs.{copies, maybe}
-use Rattle.abc_pieces.specs.Notes.{sign_then, letter_byte}
+use Rattle.abc_notes.specs.Runs.{copies, maybe}
+use Rattle.abc_notes.specs.Notes.{sign_then, letter_byte}
 use Rattle.abc_pieces.specs.Forms.{arrow, rest_byte, measures_byte}
 
 -- one after the other, and what follows them

@@ -1,5 +1,5 @@
 ghost use Rattle.std.specs.Prelude.{◌≡◌, OnOk, IfOk, false};
-ghost use Rattle.abc_pieces.specs.Runs.{copies};
+ghost use Rattle.abc_notes.specs.Runs.{copies};
 ghost use Rattle.abc_pieces.specs.Forms.{arrow};
 ghost use Rattle.abc_pieces.specs.declared.token.Token.TheVariants.{Ending, Says, Inline};
 ghost use Rattle.abc_spell.specs.Again.{IsReadable, ReadsAs};

@@ -7,22 +7,24 @@ use Rattle.std.specs.Str.Parse.{AllDigits, digits_value, digits_value_after}
 use Rattle.std.proofs.lemmas.Int.Digits.{digits_value-lt}
 use Rattle.std.proofs.lemmas.Bool.{and_parts, leb-true, eqb-false}
 use Rattle.mus_units.specs.declared.note.Head.{Head}
-use Rattle.abc_pieces.specs.Runs.{is_digit, begins}
-use Rattle.abc_pieces.specs.Lengths.{LengthForm, whole, over, halved, IsNumber, IsCount, count_of, IsLength, len_of}
-use Rattle.abc_pieces.specs.Items.{Inner, note_inside, letter_inside, named_inside, tie_inside, slur_inside, passed_inside, lone_inside, IsInner, StandsInside, sense, has_length}
-use Rattle.abc_pieces.specs.Chords.{has_head, heads_of, is_tied, tied_if}
+use Rattle.abc_notes.specs.Runs.{is_digit, begins}
+use Rattle.abc_notes.specs.Lengths.{LengthForm, whole, over, halved, IsNumber, IsCount, count_of, IsLength, len_of}
+use Rattle.abc_notes.specs.Graces.{GracePart, single, chorded, StandsInGrace, heads_in, body_of_sense, body_of_part, body_of}
+use Rattle.abc_notes.specs.Items.{Inner, note_inside, letter_inside, named_inside, tie_inside, slur_inside, passed_inside, lone_inside, IsInner, StandsInside, sense, has_length}
+use Rattle.abc_notes.specs.Chords.{has_head, heads_of, is_tied, tied_if}
 use Rattle.abc_pieces.specs.Tuplets.{TupletForm, bare, with_q, with_r, is_tuplet_digit, IsTuplet, value_or_zero, p_of, q_of, r_of}
-use Rattle.abc_pieces.specs.Parts.{Parts, no_part, then_part}
+use Rattle.abc_notes.specs.Parts.{Parts, no_part, then_part}
 use Rattle.abc_pieces.specs.Forms.{Form, note_form, rest_form, gap_form, measures_form, chord_form, grace_form, tuplet_form, slur_form, close_form, tie_form, broken_form, bar_form, ending_form, letter_form, named_form, says_form, inline_form, cut_form, space_form, passed_form, lone_form, plus_form, IsGood, is_kept_field, meant, after}
 use Rattle.abc_pieces.specs.declared.token.Token.{Token}
 use Rattle.abc_pieces.specs.declared.token.Token.TheVariants as token
 use Rattle.abc_pieces.specs.declared.token.Before.{Before}
-use Rattle.abc_pieces.specs.declared.token.Flaw.{Flaw}
-use Rattle.abc_pieces.specs.declared.token.Len.{Len}
-use Rattle.abc_pieces.proofs.Bounds.{digit_range, digit_value-is}
-use Rattle.abc_pieces.proofs.LengthLaws.{count-few, count-digits}
+use Rattle.abc_notes.specs.declared.part.Flaw.{Flaw}
+use Rattle.abc_notes.specs.declared.part.Len.{Len}
+use Rattle.abc_notes.specs.declared.part.GraceChord.{GraceChord}
+use Rattle.abc_notes.proofs.Bounds.{digit_range, digit_value-is}
+use Rattle.abc_notes.proofs.LengthLaws.{count-few, count-digits}
 use Rattle.abc_tokens.specs.declared.token.Placed.{Placed}
-use Rattle.abc_tokens.specs.Good.{IsGoodLen, AreGoodHeads, HasHead, IsGoodTuplet, IsGoodToken, AreGoodTokens}
+use Rattle.abc_tokens.specs.Good.{IsGoodLen, AreGoodHeads, HasHead, HasGraceHead, AreGoodGraces, IsGoodTuplet, IsGoodToken, AreGoodTokens}
 use Rattle.abc_tokens.specs.Tokens.{Front, clear, breaks, leads, put, column}
 
 -- numbers of a few digits
@@ -114,6 +116,35 @@ some_head (slur_inside ∷ parts) h = some_head parts h
 some_head (passed_inside byte ∷ parts) h = some_head parts h
 some_head (lone_inside ∷ parts) h = some_head parts h
 
+-- the notes and chords of a grace group
+some_grace_head : (parts : List Inner) → has_head parts ≡ true → HasGraceHead (heads_in (map sense parts))
+some_grace_head [] h = absurd cc
+some_grace_head (note_inside f ∷ parts) h = tt
+some_grace_head (letter_inside byte ∷ parts) h = some_grace_head parts h
+some_grace_head (named_inside name ∷ parts) h = some_grace_head parts h
+some_grace_head (tie_inside dotted ∷ parts) h = some_grace_head parts h
+some_grace_head (slur_inside ∷ parts) h = some_grace_head parts h
+some_grace_head (passed_inside byte ∷ parts) h = some_grace_head parts h
+some_grace_head (lone_inside ∷ parts) h = some_grace_head parts h
+
+graces_both : (one other : List GraceChord) → AreGoodGraces one → AreGoodGraces other → AreGoodGraces (one ++ other)
+graces_both [] other good more = more
+graces_both (chord ∷ one) other good more = (good.0, graces_both one other good.1 more)
+
+single_good : (part : Inner) → AreGoodGraces (body_of_sense (sense part))
+single_good (note_inside f) = (tt, tt)
+single_good (letter_inside byte) = tt
+single_good (named_inside name) = tt
+single_good (tie_inside dotted) = tt
+single_good slur_inside = tt
+single_good (passed_inside byte) = tt
+single_good lone_inside = tt
+
+good_graces : (bang : Bool) (text : List ℕ) (parts : List GracePart) → Parts GracePart (StandsInGrace bang) text parts → AreGoodGraces (body_of parts)
+good_graces bang _ _ no_part = tt
+good_graces bang _ _ (then_part text (single part) rest more longest others) = graces_both (body_of_sense (sense part)) (body_of more) (single_good part) (good_graces bang rest more others)
+good_graces bang _ _ (then_part text (chorded f) rest more longest others) = (some_grace_head f.parts longest.stands.good.head, good_graces bang rest more others)
+
 -- tuplets
 zero_or_one : (q : List ℕ) → IsCount 1 q → value_or_zero q ≤ 9
 zero_or_one [] good = omega arith
@@ -149,7 +180,7 @@ good_piece bang (rest_form seen len) good = good_len len good
 good_piece bang (gap_form len) good = tt
 good_piece bang (measures_form seen count) good = count_three count good
 good_piece bang (chord_form f) good = (some_head f.parts good.0.head, good_heads bang f.inside f.parts good.0.parts, good_len f.length good.0.length)
-good_piece bang (grace_form f) good = tt
+good_piece bang (grace_form f) good = good_graces bang f.inside f.parts good.parts
 good_piece bang (tuplet_form f) good = good_tuplet f good
 good_piece bang (slur_form dotted) good = tt
 good_piece bang close_form good = tt

@@ -4,17 +4,17 @@ use Rattle.std.specs.Prelude.{option_map, MatchBool, MatchOption}
 use Rattle.abc_lines.specs.declared.book.Line.{Line}
 use Rattle.abc_lines.specs.declared.fault.Fault.{Fault}
 use Rattle.abc_lines.specs.declared.fault.TuneError.TheVariants as error
-use Rattle.abc_pieces.specs.Parts.{IsLongest, HasNone}
-use Rattle.abc_pieces.specs.Chords.{ChordForm, chord_at}
-use Rattle.abc_pieces.specs.Graces.{GraceForm, grace_at}
+use Rattle.abc_notes.specs.Parts.{IsLongest, HasNone}
+use Rattle.abc_notes.specs.Chords.{ChordForm, chord_at}
+use Rattle.abc_notes.specs.Graces.{GraceForm, grace_at}
 use Rattle.abc_pieces.specs.Forms.{Form, chord_form, grace_form, StandsAt, meant, after, opening}
 use Rattle.abc_pieces.specs.Reading.{Read, read, piece_at, seen, meaning, class_of, opened, chord_read, grace_read}
 use Rattle.abc_pieces.specs.declared.token.Token.{Token}
-use Rattle.abc_pieces.specs.declared.token.Flaw.{Flaw}
+use Rattle.abc_notes.specs.declared.part.Flaw.{Flaw}
 use Rattle.abc_pieces.specs.declared.token.Before.{Before}
 use Rattle.abc_pieces.specs.declared.token.Before.TheVariants as behind
 use Rattle.abc_pieces.specs.declared.token.Opening.TheVariants as opens
-use Rattle.abc_pieces.proofs.PartLaws.{less, longest_of, none_of, longest_is, at_nil}
+use Rattle.abc_notes.proofs.PartLaws.{less, longest_of, none_of, longest_is, at_nil}
 use Rattle.abc_pieces.proofs.PieceReader.{piece_reader}
 use Rattle.abc_tokens.specs.declared.token.Placed.{Placed}
 use Rattle.abc_tokens.specs.Tokens.{Tokens, ends, goes, Faulty, stuck, later, Front, clear, breaks, leads, column, put, TokensOf, FlawOf, FrontAt, FrontOf, IsLineFlaw, fault_at, IsErrorOf}

@@ -1,8 +1,8 @@
 -- Good tokens: the numbers that a music line can write.
 use Rattle.std.specs.Prelude.{ℕ, ◌≤◌, ⊤, List, [], ◌∷◌, length}
 use Rattle.mus_units.specs.declared.note.Head.{Head}
-use Rattle.abc_pieces.specs.declared.token.Len.{Len}
-use Rattle.abc_pieces.specs.declared.token.GraceChord.{GraceChord}
+use Rattle.abc_notes.specs.declared.part.Len.{Len}
+use Rattle.abc_notes.specs.declared.part.GraceChord.{GraceChord}
 use Rattle.abc_pieces.specs.declared.token.Token.{Token}
 use Rattle.abc_pieces.specs.declared.token.Token.TheVariants as token
 use Rattle.abc_tokens.specs.declared.token.Placed.{Placed}
@@ -23,6 +23,15 @@ abbrev pub HasHead : List (Head × Len) → Type 0
 HasHead [] = ⊥
 HasHead (h ∷ more) = ⊤
 
+-- a note or a chord of a grace group has a head
+abbrev pub HasGraceHead : List Head → Type 0
+HasGraceHead [] = ⊥
+HasGraceHead (h ∷ more) = ⊤
+
+abbrev pub AreGoodGraces : List GraceChord → Type 0
+AreGoodGraces [] = ⊤
+AreGoodGraces (chord ∷ more) = HasGraceHead chord.heads × AreGoodGraces more
+
 -- p is 2 to 9; q is at most 9 and r at most 99, and 0 where it is left out
 pub record IsGoodTuplet (p q r : ℕ) : Type 0 where
   pub p_low : 2 ≤ p
@@ -35,6 +44,7 @@ IsGoodToken (token.Note head len) = IsGoodLen len
 IsGoodToken (token.Rest seen len) = IsGoodLen len
 IsGoodToken (token.Measures seen count) = (1 ≤ count) × (count ≤ 999)
 IsGoodToken (token.Chord heads decos len) = HasHead heads × AreGoodHeads heads × IsGoodLen len
+IsGoodToken (token.Grace slash body) = AreGoodGraces body
 IsGoodToken (token.Tuplet p q r) = IsGoodTuplet p q r
 IsGoodToken (token.Broken right dots) = (1 ≤ dots) × (dots ≤ 3)
 IsGoodToken _ = ⊤

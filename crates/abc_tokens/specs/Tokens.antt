@@ -7,13 +7,13 @@ use Rattle.abc_lines.specs.declared.fault.FaultKind.{FaultKind}
 use Rattle.abc_lines.specs.declared.fault.FaultKind.TheVariants.{BadByte, Unclosed, BadLength, BadTuplet}
 use Rattle.abc_lines.specs.declared.fault.TuneError.{TuneError}
 use Rattle.abc_lines.specs.declared.fault.TuneError.TheVariants as error
-use Rattle.abc_pieces.specs.Runs.{is_digit}
-use Rattle.abc_pieces.specs.Parts.{IsLongest, HasNone, goes_on_length}
-use Rattle.abc_pieces.specs.Chords.{ChordFault}
-use Rattle.abc_pieces.specs.Graces.{GraceFault}
+use Rattle.abc_notes.specs.Runs.{is_digit}
+use Rattle.abc_notes.specs.Parts.{IsLongest, HasNone, goes_on_length}
+use Rattle.abc_notes.specs.Chords.{ChordFault}
+use Rattle.abc_notes.specs.Graces.{GraceFault}
 use Rattle.abc_pieces.specs.Forms.{Form, StandsAt, meant, after, arrow, opening}
 use Rattle.abc_pieces.specs.declared.token.Token.{Token}
-use Rattle.abc_pieces.specs.declared.token.Flaw.{Flaw}
+use Rattle.abc_notes.specs.declared.part.Flaw.{Flaw}
 use Rattle.abc_pieces.specs.declared.token.Before.{Before}
 use Rattle.abc_pieces.specs.declared.token.Before.TheVariants as behind
 use Rattle.abc_pieces.specs.declared.token.Opening.{Opening}

@@ -1,6 +1,6 @@
 ghost use Rattle.std.specs.Prelude.{◌≡◌, ◌≢◌, ◌≤◌, ◌<◌, ◌+◌, ◌-◌, ◌^◌, ◌++◌, ◌∷◌, ℕ, List, length, IfOk, IfErr, OnOk, [], None};
 ghost use Rattle.abc_lines.specs.Good.{IsGoodLine};
-ghost use Rattle.abc_pieces.specs.Chords.{chord_at};
+ghost use Rattle.abc_notes.specs.Chords.{chord_at};
 ghost use Rattle.abc_pieces.specs.Forms.{opening, is_kept_field};
 ghost use Rattle.abc_pieces.specs.declared.token.Opening.TheVariants.{Chord};
 ghost use Rattle.abc_pieces.specs.Reading.{piece_at, token_of, found_within};
@@ -10,9 +10,9 @@ ghost use Rattle.abc_tokens.specs.Tokens.{TokensOf, IsErrorOf, FrontOf, column, 
 
 use crate::token::{Front, Placed};
 use abc_lines::{Fault, FaultKind, Line, TuneError};
-use abc_pieces::chord::{chord_fault, read_decos, read_heads};
-use abc_pieces::decoration::{deco_of_letter, deco_of_name};
-use abc_pieces::grace::{grace_fault, read_body};
+use abc_notes::chord::{chord_fault, read_decos, read_heads};
+use abc_notes::decoration::{deco_of_letter, deco_of_name};
+use abc_notes::grace::{grace_fault, read_body};
 use abc_pieces::piece::{opening, piece_at};
 use abc_pieces::{Before, Flaw, Found, Opening, Token};
 use mus_units::{Memory, Row, Text};

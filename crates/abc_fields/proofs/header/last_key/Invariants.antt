@@ -1,8 +1,0 @@
-use Rattle.std.proofs.Common.{◌≡◌, drop}
-use Rattle.std.specs.Option.{option_or, option_copied}
-use Rattle.abc_fields.specs.Last.{last_of}
-use Rattle.abc_fields.specs.Headers.{key_in}
-use Rattle.abc_fields.proofs.header.last_key.Given as goal
-
-abbrev pub invariant-loop-field : goal.invariant-loop-field
-invariant-loop-field l = option_or (last_of (key_in) (drop l.field-index l.fields)) (option_copied l.last) ≡ last_of (key_in) l.fields

@@ -1,0 +1,9 @@
+use Rattle.std.proofs.Common.{◌≡◌, drop}
+use Rattle.std.specs.Option.{option_or}
+use Rattle.abc_header.specs.Good.{GoodUnitIn}
+use Rattle.abc_fields.specs.Last.{last_of}
+use Rattle.abc_header.specs.Defaults.{line_unit}
+use Rattle.abc_header.proofs.defaults.last_unit.Given as goal
+
+abbrev pub invariant-loop-line : goal.invariant-loop-line
+invariant-loop-line l = record { value : option_or (last_of (line_unit) (drop l.line-index l.lines)) l.last ≡ last_of (line_unit) l.lines; good : GoodUnitIn l.last }

@@ -1,0 +1,15 @@
+-- Good meters and unit lengths: the numbers that they may have.
+use Rattle.std.specs.Prelude.{◌≡◌, ◌≤◌, ⊤, IsTrue, Option, Some, None}
+use Rattle.mus_units.specs.declared.key.Meter.{Meter}
+use Rattle.mus_units.specs.declared.key.Meter.TheVariants as meters
+use Rattle.mus_units.specs.declared.value.Frac.{Frac}
+use Rattle.abc_header.specs.declared.defaults.Defaults.{Defaults}
+use Rattle.mus_units.specs.Good.{IsGoodMeter, IsGoodUnit}
+
+-- the defaults of a file header have good values
+abbrev pub GoodUnitIn : Option Frac → Type 0
+GoodUnitIn None = ⊤
+GoodUnitIn (Some unit) = IsGoodUnit unit
+
+abbrev pub IsGoodDefaults : Defaults → Type 0
+IsGoodDefaults defaults = IsGoodMeter defaults.meter × GoodUnitIn defaults.unit

@@ -1,0 +1,17 @@
+//! Headers: what the lines of a tune's header say together, or its first fault, and what the file
+//! header says of the tunes and of the paper.
+#![tactic(auto)]
+
+pub mod defaults;
+pub mod header;
+mod length;
+pub mod paper;
+mod voicing;
+
+pub use abc_fields::{Breaks, Clef, Frac, Key, Letter, Meter, Sign, Spread, VoiceDef, Wish};
+pub use defaults::{Defaults, read_defaults};
+pub use header::{Header, read_header};
+pub use paper::{Paper, body_of, read_paper};
+
+#[cfg(test)]
+mod tests;

@@ -1,0 +1,10 @@
+pub mod Bounds
+pub mod ChordLaws
+pub mod GraceLaws
+pub mod InnerLaws
+pub mod ItemLaws
+pub mod LengthLaws
+pub mod NoteLaws
+pub mod PartLaws
+pub mod RunLaws
+pub mod SpanLaws

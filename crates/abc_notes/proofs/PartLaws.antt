@@ -1,0 +1,96 @@
+-- A reader that gives what stands at the front, and gives as much as any part that stands there,
+-- reads the one list of longest parts.
+use Rattle.std.proofs.Common.{◌≡◌, ℕ, zero, suc, ◌≤◌, ◌<◌, List, [], ◌∷◌, length, Option, Some, None, refl, sym, ap, ◌∙◌, subst, arith, inl, inr, ◌⊎◌}
+use Rattle.std.specs.Prelude.{IfSome}
+use Rattle.abc_notes.specs.Parts.{IsLongest, HasNone, Parts, no_part, then_part, walk_on, walk_from, walk}
+
+pub record Reader (I : Type 0) (Stands : I → List ℕ → List ℕ → Type 0) (at : List ℕ → Option (I × List ℕ)) : Type 0 where
+  pub takes : (s : List ℕ) → IfSome (at s) (λ z. Stands z.0 s z.1)
+  pub reaches : (f : I) (s x : List ℕ) → Stands f s x → (z : I × List ℕ) × (at s ≡ Some z) × ((length z.1 < length x) ⊎ (z ≡ (f, x)))
+  pub longer : (f : I) (s x : List ℕ) → Stands f s x → length x < length s
+
+module _ {I : Type 0} {Stands : I → List ℕ → List ℕ → Type 0} {at : List ℕ → Option (I × List ℕ)} (r : Reader I Stands at) where
+  some_is : (p q : I × List ℕ) → Some p ≡ Some q → p ≡ q
+  some_is p q e = cc
+
+  pub stands_at : (s : List ℕ) (z : I × List ℕ) → at s ≡ Some z → Stands z.0 s z.1
+  stands_at s z e = subst (λ (o : Option (I × List ℕ)). IfSome o (λ y. Stands y.0 s y.1)) e (r.takes s)
+
+  pub less : (s : List ℕ) (z : I × List ℕ) → at s ≡ Some z → length z.1 < length s
+  less s z e = r.longer z.0 s z.1 (stands_at s z e)
+
+  pub longest_of : (s : List ℕ) (z : I × List ℕ) → at s ≡ Some z → IsLongest I Stands s z.0 z.1
+  longest_of s z e = record {
+    stands = stands_at s z e;
+    longest = λ other behind stands.
+        let o = r.reaches other s behind stands in
+        let same : z ≡ o.0 = some_is z o.0 (sym e ∙ o.1) in
+        elim o.2 [ inl shorter ↦ rw same (omega (arith, shorter)) | inr equal ↦ rw (same, equal) (omega arith) ];
+  }
+
+  pub none_of : (s : List ℕ) → at s ≡ None → HasNone I Stands s
+  none_of s e part rest stands = let o = r.reaches part s rest stands in let same : None ≡ Some o.0 = sym e ∙ o.1 in cc
+
+  pub longest_is : (s : List ℕ) (part : I) (rest : List ℕ) → IsLongest I Stands s part rest → at s ≡ Some (part, rest)
+  longest_is s part rest l =
+      let o = r.reaches part s rest l.stands in
+      elim o.2 [
+        | inl shorter ↦ absurd (omega (arith, shorter, l.longest o.0.0 o.0.1 (stands_at s o.0 o.1)))
+        | inr equal ↦ o.1 ∙ ap Some equal
+      ]
+
+  nothing_there : (o : Option (I × List ℕ)) → at [] ≡ o → o ≡ None
+  nothing_there None e = refl
+  nothing_there (Some z) e = absurd (omega (arith, less [] z e))
+
+  pub at_nil : at [] ≡ None
+  at_nil = nothing_there (at []) refl
+
+  same_step : (n m : ℕ) (s : List ℕ) (o : Option (I × List ℕ)) → at s ≡ o → length s ≤ suc n → length s ≤ suc m →
+      ((t : List ℕ) → length t ≤ n → length t ≤ m → walk_from at n t ≡ walk_from at m t) → walk_on (walk_from at n) s o ≡ walk_on (walk_from at m) s o
+  same_step n m s None e a b next = refl
+  same_step n m s (Some z) e a b next =
+      let shorter = less s z e in
+      rw (next z.1 (omega (arith, shorter, a)) (omega (arith, shorter, b))) refl
+
+  empty_walk : (m : ℕ) → walk_on (walk_from at m) [] (at []) ≡ ([], [])
+  empty_walk m = rw at_nil refl
+
+  same_fuel : (n m : ℕ) (s : List ℕ) → length s ≤ n → length s ≤ m → walk_from at n s ≡ walk_from at m s
+  same_fuel zero zero s a b = refl
+  same_fuel zero (suc m) [] a b = sym (empty_walk m)
+  same_fuel zero (suc m) (x ∷ s) a b = absurd (omega (arith, a))
+  same_fuel (suc n) zero [] a b = empty_walk n
+  same_fuel (suc n) zero (x ∷ s) a b = absurd (omega (arith, b))
+  same_fuel (suc n) (suc m) s a b = same_step n m s (at s) refl a b (same_fuel n m)
+
+  pub walk-none : (s : List ℕ) → at s ≡ None → walk at s ≡ ([], s)
+  unfolding walk
+  walk-none [] e = refl
+  walk-none (x ∷ s) e = rw e refl
+
+  pub walk-some : (s : List ℕ) (z : I × List ℕ) → at s ≡ Some z → walk at s ≡ (z.0 ∷ (walk at z.1).0, (walk at z.1).1)
+  unfolding walk
+  walk-some [] z e = absurd (omega (arith, less [] z e))
+  walk-some (x ∷ s) z e = rw (e, same_fuel (length s) (length z.1) z.1 (omega (arith, less (x ∷ s) z e)) (omega arith)) refl
+
+  read_parts : (n : ℕ) (s : List ℕ) (o : Option (I × List ℕ)) → at s ≡ o → length s ≤ n → ((t : List ℕ) → length t < length s → length (walk at t).1 ≡ 0 → Parts I Stands t (walk at t).0) →
+      length (walk at s).1 ≡ 0 → Parts I Stands s (walk at s).0
+  read_parts n [] None e h next done = rw (walk-none [] e) no_part
+  read_parts n (x ∷ s) None e h next done = absurd (let left = ap (λ (w : List I × List ℕ). length w.1) (walk-none (x ∷ s) e) in omega (arith, left, done))
+  read_parts n s (Some z) e h next done =
+      let step = walk-some s z e in
+      let others : length (walk at z.1).1 ≡ 0 = sym (ap (λ (w : List I × List ℕ). length w.1) step) ∙ done in
+      rw step (then_part s z.0 z.1 (walk at z.1).0 (longest_of s z e) (next z.1 (less s z e) others))
+
+  parts_within : (n : ℕ) (s : List ℕ) → length s ≤ n → length (walk at s).1 ≡ 0 → Parts I Stands s (walk at s).0
+  parts_within zero s h done = read_parts 0 s (at s) refl h (λ t lt d. absurd (omega (arith, lt, h))) done
+  parts_within (suc n) s h done = read_parts (suc n) s (at s) refl h (λ t lt d. parts_within n t (omega (arith, lt, h)) d) done
+
+  pub parts_of_walk : (s : List ℕ) → length (walk at s).1 ≡ 0 → Parts I Stands s (walk at s).0
+  parts_of_walk s done = parts_within (length s) s (omega arith) done
+
+  pub walk_of_parts : (s : List ℕ) (is : List I) → Parts I Stands s is → walk at s ≡ (is, [])
+  walk_of_parts _ _ no_part = walk-none [] at_nil
+  walk_of_parts _ _ (then_part s part rest more l others) =
+      walk-some s (part, rest) (longest_is s part rest l) ∙ rw (walk_of_parts rest more others) refl

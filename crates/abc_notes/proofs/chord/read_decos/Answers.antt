@@ -1,0 +1,20 @@
+use Rattle.std.proofs.Common.{arith}
+use Rattle.abc_notes.specs.Items.{sense_of}
+use Rattle.abc_notes.specs.Chords.{decos_of, senses}
+use Rattle.abc_notes.proofs.InnerLaws.{decos-next, decos-end, found_inner, none_inner, inner_less}
+use Rattle.abc_notes.proofs.chord.read_decos.Goals as goal
+
+pub parts-smaller : goal.parts-smaller
+parts-smaller c = inner_less c.args.bang c.parts.rest.now (sense_of c.in-Some.item) c.in-Some.behind.now (found_inner c.args.bang c.parts.rest.now _ _ c.in-Some.ensures)
+
+pub parts-preserved : goal.parts-preserved
+parts-preserved c =
+    let f = found_inner c.args.bang c.parts.rest.now (sense_of c.in-Some.item) c.in-Some.behind.now c.in-Some.ensures in
+    let shorter = inner_less c.args.bang c.parts.rest.now (sense_of c.in-Some.item) c.in-Some.behind.now f in
+    record {
+      decos = decos-next c.args.bang c.parts.decos c.add_deco.new.decos (decos_of (senses c.args.bang c.args.inside.now)) c.parts.rest.now c.in-Some.behind.now (sense_of c.in-Some.item) f c.in_ok-add_deco.ensures c.parts.invariant.decos;
+      within = omega (arith, shorter, c.parts.invariant.within);
+    }
+
+pub returns : goal.returns
+returns c = decos-end c.args.bang c.parts.decos (decos_of (senses c.args.bang c.args.inside.now)) c.parts.rest.now (none_inner c.args.bang c.parts.rest.now c.in_default.ensures) c.parts.invariant.decos

@@ -1,0 +1,21 @@
+use Rattle.std.proofs.Common.{arith}
+use Rattle.abc_notes.specs.Items.{sense_of}
+use Rattle.abc_notes.specs.Chords.{senses}
+use Rattle.abc_notes.specs.Graces.{heads_in}
+use Rattle.abc_notes.proofs.InnerLaws.{plain-next, plain-end, found_inner, none_inner, inner_less}
+use Rattle.abc_notes.proofs.chord.read_plain_heads.Goals as goal
+
+pub parts-smaller : goal.parts-smaller
+parts-smaller c = inner_less c.args.bang c.parts.rest.now (sense_of c.in-Some.item) c.in-Some.behind.now (found_inner c.args.bang c.parts.rest.now _ _ c.in-Some.ensures)
+
+pub parts-preserved : goal.parts-preserved
+parts-preserved c =
+    let f = found_inner c.args.bang c.parts.rest.now (sense_of c.in-Some.item) c.in-Some.behind.now c.in-Some.ensures in
+    let shorter = inner_less c.args.bang c.parts.rest.now (sense_of c.in-Some.item) c.in-Some.behind.now f in
+    record {
+      heads = plain-next c.args.bang c.parts.heads c.add_plain_head.new.heads (heads_in (senses c.args.bang c.args.inside.now)) c.parts.rest.now c.in-Some.behind.now (sense_of c.in-Some.item) f c.in_ok-add_plain_head.ensures c.parts.invariant.heads;
+      within = omega (arith, shorter, c.parts.invariant.within);
+    }
+
+pub returns : goal.returns
+returns c = plain-end c.args.bang c.parts.heads (heads_in (senses c.args.bang c.args.inside.now)) c.parts.rest.now (none_inner c.args.bang c.parts.rest.now c.in_default.ensures) c.parts.invariant.heads

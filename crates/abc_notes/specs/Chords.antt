@@ -1,0 +1,128 @@
+-- A chord: what stands between its brackets, which is read part by part, and the length behind
+-- them. It ends at the first closing bracket.
+use Rattle.std.specs.Prelude.{◌≡◌, ◌≤◌, ◌+◌, ℕ, suc, List, [], ◌∷◌, ◌++◌, length, map, Bool, true, false, not, ◌==◌, ◌||◌, ◌&&◌, if◌then◌else◌, Option, Some, None}
+use Rattle.std.specs.List.{list_all}
+use Rattle.mus_units.specs.declared.note.Head.{Head}
+use Rattle.mus_units.specs.declared.note.Deco.{Deco}
+use Rattle.abc_lines.specs.declared.fault.FaultKind.TheVariants.{BadByte, Unclosed}
+use Rattle.abc_notes.specs.declared.part.Flaw.{Flaw}
+use Rattle.abc_notes.specs.declared.part.Len.{Len}
+use Rattle.abc_notes.specs.Runs.{span_all}
+use Rattle.abc_notes.specs.Lengths.{LengthForm, length_then, IsLength, length_at}
+use Rattle.abc_notes.specs.Decorations.{deco_of_letter, deco_of_name}
+use Rattle.abc_notes.specs.Items.{Inner, Sense, says_note, says_letter, says_name, says_tie, says_nothing, sense, has_length, InnerParts, InnerFlawed, inner_at}
+use Rattle.abc_notes.specs.Parts.{walk, is_done}
+
+pub record ChordForm : Type 0 where
+  pub inside : List ℕ
+  pub parts : List Inner
+  pub length : LengthForm
+
+abbrev pub is_inside : ℕ → Bool
+is_inside byte = not (byte == 93)
+
+abbrev pub has_head : List Inner → Bool
+has_head [] = false
+has_head (part ∷ more) = has_length part || has_head more
+
+-- what stands behind the opening bracket, and what follows the chord
+abbrev pub chord_then : ChordForm → List ℕ → List ℕ
+chord_then f rest = f.inside ++ (93 ∷ length_then f.length rest)
+
+pub record IsChord (bang : Bool) (f : ChordForm) : Type 0 where
+  pub open_to_the_bracket : list_all is_inside f.inside ≡ true
+  pub parts : InnerParts bang f.inside f.parts
+  pub head : has_head f.parts ≡ true
+  pub length : IsLength f.length
+
+-- a head is tied where a tie stands behind it before the next head
+abbrev pub is_tied : List Sense → Bool
+is_tied [] = false
+is_tied (says_note head len ∷ more) = false
+is_tied (says_letter byte ∷ more) = is_tied more
+is_tied (says_name name ∷ more) = is_tied more
+is_tied (says_tie ∷ more) = true
+is_tied (says_nothing ∷ more) = is_tied more
+
+abbrev pub tied_if : Bool → Head → Head
+tied_if tied head = record { pitch = head.pitch; sign = head.sign; tied = tied }
+
+abbrev pub heads_of : List Sense → List (Head × Len)
+heads_of [] = []
+heads_of (says_note head len ∷ more) = (tied_if (is_tied more) head, len) ∷ heads_of more
+heads_of (says_letter byte ∷ more) = heads_of more
+heads_of (says_name name ∷ more) = heads_of more
+heads_of (says_tie ∷ more) = heads_of more
+heads_of (says_nothing ∷ more) = heads_of more
+
+abbrev pub deco_of : Sense → List Deco
+deco_of (says_note head len) = []
+deco_of (says_letter byte) = deco_of_letter byte ∷ []
+deco_of (says_name name) = deco_of_name name ∷ []
+deco_of says_tie = []
+deco_of says_nothing = []
+
+abbrev pub decos_of : List Sense → List Deco
+decos_of [] = []
+decos_of (part ∷ more) = deco_of part ++ decos_of more
+
+-- the fault behind an opening bracket, where no chord stands: no closing bracket follows; or the
+-- first fault of the inside; or a good inside has no head
+pub data ChordFault (bang : Bool) : List ℕ → Flaw → Type 0 where
+  chord_unclosed : (text : List ℕ) → list_all is_inside text ≡ true → ChordFault bang text (record { kind = Unclosed; left = suc (length text) })
+  chord_flawed : (text inside rest : List ℕ) (flaw : Flaw) → text ≡ inside ++ (93 ∷ rest) → list_all is_inside inside ≡ true → InnerFlawed bang None inside flaw →
+      ChordFault bang text (record { kind = flaw.kind; left = flaw.left + suc (length rest) })
+  chord_headless : (text inside rest : List ℕ) (parts : List Inner) → text ≡ inside ++ (93 ∷ rest) → list_all is_inside inside ≡ true → InnerParts bang inside parts → has_head parts ≡ false →
+      ChordFault bang text (record { kind = BadByte; left = suc (length text) })
+
+-- ---- reading, between these and the code
+
+abbrev pub chord_of : Bool → List ℕ → List Inner × List ℕ → LengthForm × List ℕ → Option (ChordForm × List ℕ)
+chord_of bang inside w len = if is_done w && has_head w.0 then Some (record { inside = inside; parts = w.0; length = len.0 }, len.1) else None
+
+abbrev pub chord_closed : Bool → List ℕ → List ℕ → Option (ChordForm × List ℕ)
+chord_closed bang inside [] = None
+chord_closed bang inside (bracket ∷ rest) = chord_of bang inside (walk (inner_at bang) inside) (length_at rest)
+
+unfoldable pub chord_at : Bool → List ℕ → Option (ChordForm × List ℕ)
+chord_at bang text = let inside = span_all is_inside text in chord_closed bang inside.0 inside.1
+
+-- what the parts inside say
+abbrev pub senses : Bool → List ℕ → List Sense
+senses bang inside = map sense (walk (inner_at bang) inside).0
+
+-- the heads so far end with one that may still be tied
+abbrev pub last_head : Option (Head × Len) → List (Head × Len)
+last_head None = []
+last_head (Some head) = head ∷ []
+
+abbrev pub tie_last : Option (Head × Len) → Option (Head × Len)
+tie_last None = None
+tie_last (Some head) = Some (tied_if true head.0, head.1)
+
+-- a part gives the head before it, which no tie can reach any more, and may be a head itself
+abbrev pub given_head : Option (Head × Len) → Sense → List (Head × Len)
+given_head last (says_note head len) = last_head last
+given_head last (says_letter byte) = []
+given_head last (says_name name) = []
+given_head last says_tie = []
+given_head last says_nothing = []
+
+abbrev pub next_last : Option (Head × Len) → Sense → Option (Head × Len)
+next_last last (says_note head len) = Some (tied_if false head, len)
+next_last last (says_letter byte) = last
+next_last last (says_name name) = last
+next_last last says_tie = tie_last last
+next_last last says_nothing = last
+
+abbrev pub heads_after : Option (Head × Len) → List Sense → List (Head × Len)
+heads_after last [] = last_head last
+heads_after last (part ∷ more) = given_head last part ++ heads_after (next_last last part) more
+
+abbrev pub at_most : ℕ → Option ℕ → Type 0
+at_most n None = Unit {0}
+at_most n (Some at) = at ≤ n
+
+-- a chord as the code reads it
+abbrev pub chord_shown : List Sense → Len → List ℕ → List ℕ → List Sense × Len × List ℕ × List ℕ
+chord_shown said len inside rest = (said, len, inside, rest)

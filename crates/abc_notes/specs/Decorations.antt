@@ -1,0 +1,56 @@
+-- Decorations: the letters that name one, and what each name says. Dynamic marks stand below the
+-- staff and fingers above it; a name that is not known draws nothing.
+use Rattle.std.specs.Prelude.{ℕ, List, [], ◌∷◌, Bool, false, ◌==◌, ◌||◌, not, if◌then◌else◌, nat_eq, codes}
+use lib.Pointwise.{pointwise}
+use Rattle.mus_units.specs.declared.note.Deco.{Deco}
+use Rattle.mus_units.specs.declared.note.Deco.TheVariants.{Ks, Kr, Kf, Ka, Km, Kc, Kp, Kg, Kt, Ku, Kd, Kn, Below, Above, Quiet}
+use Rattle.abc_notes.specs.Runs.{one_of}
+
+-- ~ H L M O P S T u v; the dot is one too
+abbrev pub is_deco_letter : ℕ → Bool
+is_deco_letter byte = one_of (126 ∷ 72 ∷ 76 ∷ 77 ∷ 79 ∷ 80 ∷ 83 ∷ 84 ∷ 117 ∷ 118 ∷ []) byte
+
+unfoldable pub deco_of_letter : ℕ → Deco
+deco_of_letter byte =
+    if byte == 46 then Ks else (if byte == 126 then Kr else (if byte == 72 then Kf else (if byte == 76 then Ka
+    else (if byte == 77 then Km else (if byte == 79 then Kc else (if byte == 80 then Kp else (if byte == 83 then Kg
+    else (if byte == 84 then Kt else (if byte == 117 then Ku else Kd)))))))))
+
+-- a name has no blank, no bar sign and no exclamation mark
+abbrev pub is_name_byte : ℕ → Bool
+is_name_byte byte = not (one_of (33 ∷ 32 ∷ 9 ∷ 124 ∷ []) byte)
+
+abbrev pub is_text : List ℕ → List ℕ → Bool
+is_text name word = pointwise nat_eq name word
+
+abbrev pub is_one_of : List (List ℕ) → List ℕ → Bool
+is_one_of [] name = false
+is_one_of (word ∷ words) name = is_text name word || is_one_of words name
+
+unfoldable pub is_accent : List ℕ → Bool
+is_accent name = is_one_of (codes "accent" ∷ codes "emphasis" ∷ codes ">" ∷ []) name
+
+unfoldable pub is_dynamic : List ℕ → Bool
+is_dynamic name = is_one_of (codes "ppp" ∷ codes "pp" ∷ codes "p" ∷ codes "mp" ∷ codes "mf" ∷ codes "f" ∷ codes "ff" ∷ codes "fff" ∷ codes "sfz" ∷ []) name
+
+unfoldable pub is_finger : List ℕ → Bool
+is_finger name = is_one_of (codes "1" ∷ codes "2" ∷ codes "3" ∷ codes "4" ∷ codes "5" ∷ []) name
+
+unfoldable pub deco_of_text : List ℕ → Deco
+deco_of_text name = if is_dynamic name then Below name else (if is_finger name then Above name else Quiet name)
+
+unfoldable pub deco_of_name : List ℕ → Deco
+deco_of_name name =
+    if is_text name (codes "staccato") then Ks
+    else (if is_text name (codes "roll") then Kr
+    else (if is_text name (codes "fermata") then Kf
+    else (if is_accent name then Ka
+    else (if is_one_of (codes "lowermordent" ∷ codes "mordent" ∷ []) name then Km
+    else (if is_text name (codes "coda") then Kc
+    else (if is_one_of (codes "uppermordent" ∷ codes "pralltriller" ∷ []) name then Kp
+    else (if is_text name (codes "segno") then Kg
+    else (if is_text name (codes "trill") then Kt
+    else (if is_text name (codes "upbow") then Ku
+    else (if is_text name (codes "downbow") then Kd
+    else (if is_text name (codes "tenuto") then Kn
+    else deco_of_text name)))))))))))

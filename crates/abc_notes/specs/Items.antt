@@ -1,0 +1,168 @@
+-- What may stand within a chord or a grace: notes, decorations, ties, and what is passed over
+-- there, which is blanks, slurs and a lone exclamation mark.
+use Rattle.std.specs.Prelude.{◌≡◌, ◌≤◌, ℕ, List, [], ◌∷◌, ◌++◌, length, Bool, true, false, ◌==◌, ◌||◌, if◌then◌else◌, Option, Some, None, option_map}
+use Rattle.std.specs.List.{list_all}
+use Rattle.mus_units.specs.declared.note.Head.{Head}
+use Rattle.abc_lines.specs.declared.fault.FaultKind.TheVariants.{BadByte, BadLength}
+use Rattle.abc_notes.specs.declared.part.Flaw.{Flaw}
+use Rattle.abc_notes.specs.declared.part.Len.{Len}
+use Rattle.abc_notes.specs.declared.part.Item.{Item}
+use Rattle.abc_notes.specs.declared.part.Item.TheVariants as item
+use Rattle.abc_notes.specs.declared.part.ItemClass.{ItemClass}
+use Rattle.abc_notes.specs.declared.part.ItemClass.TheVariants as class
+use Rattle.abc_notes.specs.Runs.{maybe, one_of, is_note_letter, span_all}
+use Rattle.abc_notes.specs.Lengths.{len_of}
+use Rattle.abc_notes.specs.Notes.{NoteForm, note_then, IsNote, head_of, note_at}
+use Rattle.abc_notes.specs.Decorations.{is_deco_letter, is_name_byte}
+use Rattle.abc_notes.specs.Parts.{Parts, Flawed, goes_on_length}
+
+pub data Inner : Type 0 where
+  note_inside : NoteForm → Inner
+  letter_inside : (byte : ℕ) → Inner
+  named_inside : (name : List ℕ) → Inner
+  tie_inside : (dotted : Bool) → Inner
+  slur_inside : Inner
+  passed_inside : (byte : ℕ) → Inner
+  lone_inside : Inner
+
+-- its bytes, and what follows them
+abbrev pub inner_then : Inner → List ℕ → List ℕ
+inner_then (note_inside f) rest = note_then f rest
+inner_then (letter_inside byte) rest = byte ∷ rest
+inner_then (named_inside name) rest = 33 ∷ (name ++ (33 ∷ rest))
+inner_then (tie_inside dotted) rest = maybe dotted 46 (45 ∷ rest)
+inner_then slur_inside rest = 46 ∷ 40 ∷ rest
+inner_then (passed_inside byte) rest = byte ∷ rest
+inner_then lone_inside rest = 33 ∷ rest
+
+pub record IsName (name : List ℕ) : Type 0 where
+  pub some : 1 ≤ length name
+  pub bytes : list_all is_name_byte name ≡ true
+
+-- a space, a tab, and the parentheses of slurs
+abbrev pub is_passed_inside : ℕ → Bool
+is_passed_inside byte = one_of (32 ∷ 9 ∷ 40 ∷ 41 ∷ []) byte
+
+abbrev pub is_letter_inside : ℕ → Bool
+is_letter_inside byte = byte == 46 || is_deco_letter byte
+
+-- where an exclamation mark is a line break, none stands within
+abbrev pub IsInner : Bool → Inner → Type 0
+IsInner bang (note_inside f) = IsNote f
+IsInner bang (letter_inside byte) = is_letter_inside byte ≡ true
+IsInner bang (named_inside name) = (bang ≡ false) × IsName name
+IsInner bang (tie_inside dotted) = Unit {0}
+IsInner bang slur_inside = Unit {0}
+IsInner bang (passed_inside byte) = is_passed_inside byte ≡ true
+IsInner bang lone_inside = bang ≡ false
+
+pub record StandsInside (bang : Bool) (part : Inner) (text rest : List ℕ) : Type 0 where
+  pub good : IsInner bang part
+  pub cut : text ≡ inner_then part rest
+
+-- what a part says
+pub data Sense : Type 0 where
+  says_note : Head → Len → Sense
+  says_letter : (byte : ℕ) → Sense
+  says_name : (name : List ℕ) → Sense
+  says_tie : Sense
+  says_nothing : Sense
+
+abbrev pub sense : Inner → Sense
+sense (note_inside f) = says_note (head_of f) (len_of f.length)
+sense (letter_inside byte) = says_letter byte
+sense (named_inside name) = says_name name
+sense (tie_inside dotted) = says_tie
+sense slur_inside = says_nothing
+sense (passed_inside byte) = says_nothing
+sense lone_inside = says_nothing
+
+abbrev pub is_note : Sense → Bool
+is_note (says_note head len) = true
+is_note (says_letter byte) = false
+is_note (says_name name) = false
+is_note says_tie = false
+is_note says_nothing = false
+
+abbrev pub has_length : Inner → Bool
+has_length part = is_note (sense part)
+
+-- a byte at which no part stands
+abbrev pub IsBadByte : List ℕ → Flaw → Type 0
+IsBadByte text flaw = flaw ≡ record { kind = BadByte; left = length text }
+
+abbrev pub InnerParts : Bool → List ℕ → List Inner → Type 0
+InnerParts bang text parts = Parts Inner (StandsInside bang) text parts
+
+abbrev pub InnerFlawed : Bool → Option ℕ → List ℕ → Flaw → Type 0
+InnerFlawed bang before text flaw = Flawed Inner (StandsInside bang) has_length IsBadByte before text flaw
+
+-- ---- reading, between these and the code
+
+abbrev pub ReadInner : Type 0
+ReadInner = Option (Inner × List ℕ)
+
+abbrev pub inner_read : Inner → List ℕ → ReadInner
+inner_read part rest = Some (part, rest)
+
+abbrev pub closed_name : List ℕ → List ℕ → Option (List ℕ × List ℕ)
+closed_name [] rest = None
+closed_name (byte ∷ name) [] = None
+closed_name (byte ∷ name) (mark ∷ rest) = if mark == 33 then Some (byte ∷ name, rest) else None
+
+-- a name and the exclamation mark behind it
+unfoldable pub name_at : List ℕ → Option (List ℕ × List ℕ)
+name_at text = let name = span_all is_name_byte text in closed_name name.0 name.1
+
+abbrev pub is_note_byte : ℕ → Bool
+is_note_byte byte = is_note_letter byte || one_of (94 ∷ 95 ∷ 61 ∷ []) byte
+
+unfoldable pub item_class : ℕ → ItemClass
+item_class byte =
+    if is_note_byte byte then class.Note
+    else (if byte == 46 then class.Dot
+    else (if is_deco_letter byte then class.Letter
+    else (if byte == 45 then class.Tie
+    else (if is_passed_inside byte then class.Passed
+    else (if byte == 33 then class.Bang
+    else class.Nothing)))))
+
+abbrev pub dot_inside : List ℕ → ReadInner
+dot_inside [] = inner_read (letter_inside 46) []
+dot_inside (byte ∷ rest) =
+    if byte == 40 then inner_read slur_inside rest
+    else (if byte == 45 then inner_read (tie_inside true) rest
+    else inner_read (letter_inside 46) (byte ∷ rest))
+
+abbrev pub named_or : Option (List ℕ × List ℕ) → List ℕ → ReadInner
+named_or None text = inner_read lone_inside text
+named_or (Some named) text = inner_read (named_inside named.0) named.1
+
+abbrev pub inner_by_class : ItemClass → Bool → ℕ → List ℕ → ReadInner
+inner_by_class class.Note bang byte rest = option_map (λ z. (note_inside z.0, z.1)) (note_at (byte ∷ rest))
+inner_by_class class.Dot bang byte rest = dot_inside rest
+inner_by_class class.Letter bang byte rest = inner_read (letter_inside byte) rest
+inner_by_class class.Tie bang byte rest = inner_read (tie_inside false) rest
+inner_by_class class.Passed bang byte rest = inner_read (passed_inside byte) rest
+inner_by_class class.Bang bang byte rest = if bang then None else named_or (name_at rest) rest
+inner_by_class class.Nothing bang byte rest = None
+
+unfoldable pub inner_at : Bool → List ℕ → ReadInner
+inner_at bang [] = None
+inner_at bang (byte ∷ rest) = inner_by_class (item_class byte) bang byte rest
+
+-- what the code has read of a part
+abbrev pub sense_of : Item → Sense
+sense_of (item.Note head len) = says_note head len
+sense_of (item.Letter byte) = says_letter byte
+sense_of (item.Named name) = says_name name.now
+sense_of item.Tie = says_tie
+sense_of item.Passed = says_nothing
+
+abbrev pub sensed : Sense → List ℕ → Sense × List ℕ
+sensed part rest = (part, rest)
+
+-- which fault it is at such a byte, so many bytes from the end, behind a part with a length at that place
+abbrev pub inner_flaw : Option ℕ → ℕ → ℕ → Flaw
+inner_flaw None byte here = record { kind = BadByte; left = here }
+inner_flaw (Some at) byte here = if goes_on_length byte then record { kind = BadLength; left = at } else record { kind = BadByte; left = here }

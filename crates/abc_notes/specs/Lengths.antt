@@ -1,0 +1,75 @@
+-- Numbers and lengths: their bytes, what they mean, and reading them.
+use Rattle.std.specs.Prelude.{◌≡◌, ℕ, zero, suc, ◌≤◌, ◌^◌, List, [], ◌∷◌, ◌++◌, length, Bool, true, false, ◌==◌, if◌then◌else◌}
+use Rattle.std.specs.List.{list_all}
+use Rattle.std.specs.Str.Parse.{digits_value}
+use Rattle.abc_notes.specs.declared.part.Len.{Len}
+use Rattle.abc_notes.specs.Runs.{copies, span, begins, is_digit}
+
+-- the digits of a number: at least one, at most `most`, and no zero in front
+pub record IsNumber (most : ℕ) (ds : List ℕ) : Type 0 where
+  pub some : 1 ≤ length ds
+  pub few : length ds ≤ most
+  pub digits : list_all is_digit ds ≡ true
+  pub no_zero : begins (λ b. b == 48) ds ≡ false
+
+-- a number or none
+abbrev pub IsCount : ℕ → List ℕ → Type 0
+IsCount most [] = Unit {0}
+IsCount most (d ∷ ds) = IsNumber most (d ∷ ds)
+
+abbrev pub count_of : List ℕ → ℕ
+count_of [] = 1
+count_of (d ∷ ds) = digits_value 10 (d ∷ ds)
+
+-- a number or none, and then nothing, a slash and a number, or slashes
+pub data LengthForm : Type 0 where
+  whole : (count : List ℕ) → LengthForm
+  over : (count below : List ℕ) → LengthForm
+  halved : (count : List ℕ) (slashes : ℕ) → LengthForm
+
+-- its bytes, and what follows them
+abbrev pub length_then : LengthForm → List ℕ → List ℕ
+length_then (whole count) rest = count ++ rest
+length_then (over count below) rest = count ++ (47 ∷ (below ++ rest))
+length_then (halved count slashes) rest = count ++ copies slashes 47 rest
+
+abbrev pub IsLength : LengthForm → Type 0
+IsLength (whole count) = IsCount 4 count
+IsLength (over count below) = IsCount 4 count × IsNumber 4 below
+IsLength (halved count slashes) = IsCount 4 count × (1 ≤ slashes) × (slashes ≤ 6)
+
+abbrev pub len_of : LengthForm → Len
+len_of (whole count) = record { num = count_of count; den = 1 }
+len_of (over count below) = record { num = count_of count; den = count_of below }
+len_of (halved count slashes) = record { num = count_of count; den = 2 ^ slashes }
+
+-- a number at the front, and what follows
+unfoldable pub number_at : ℕ → List ℕ → List ℕ × List ℕ
+number_at most s = if begins (λ b. b == 48) s then ([], s) else span is_digit most s
+
+abbrev pub is_slash : ℕ → Bool
+is_slash b = b == 47
+
+-- behind the first number: up to six slashes, and a number behind a lone slash
+abbrev pub below_at : List ℕ → List ℕ × List ℕ → List ℕ × List ℕ → LengthForm × List ℕ
+below_at count ([], rest) below = (whole count, rest)
+below_at count (_ ∷ [], rest) ([], _) = (halved count 1, rest)
+below_at count (_ ∷ [], rest) (d ∷ ds, after) = (over count (d ∷ ds), after)
+below_at count (x ∷ y ∷ ys, rest) below = (halved count (length (x ∷ y ∷ ys)), rest)
+
+unfoldable pub length_at : List ℕ → LengthForm × List ℕ
+length_at s =
+    let count = number_at 4 s in
+    let slashes = span is_slash 6 count.1 in
+    below_at count.0 slashes (number_at 4 slashes.1)
+
+abbrev pub length_read : Len → List ℕ → Len × List ℕ
+length_read len rest = (len, rest)
+
+-- ten to the number of digits, which are at most four
+abbrev pub limit_at : ℕ → ℕ
+limit_at zero = 1
+limit_at (suc zero) = 10
+limit_at (suc (suc zero)) = 100
+limit_at (suc (suc (suc zero))) = 1000
+limit_at (suc (suc (suc (suc n)))) = 10000

@@ -1,0 +1,105 @@
+-- A note, and reading one.
+use Rattle.std.specs.Prelude.{◌≡◌, ℕ, ℤ, pos, ◌+ℤ◌, ◌-ℤ◌, List, [], ◌∷◌, ◌++◌, Bool, true, false, ◌==◌, if◌then◌else◌, Option, Some, None, count_by}
+use Rattle.std.specs.List.{list_all}
+use Rattle.mus_units.specs.declared.pitch.Alter.{Alter}
+use Rattle.mus_units.specs.declared.pitch.Alter.TheVariants.{Flat2, Flat, Natural, Sharp, Sharp2}
+use Rattle.mus_units.specs.declared.pitch.Letter.{Letter}
+use Rattle.mus_units.specs.declared.pitch.Letter.TheVariants.{C, D, E, F, G, A, B}
+use Rattle.mus_units.specs.declared.note.Head.{Head}
+use Rattle.abc_notes.specs.declared.part.Len.{Len}
+use Rattle.abc_notes.specs.Runs.{skip, span_all, is_mark}
+use Rattle.abc_notes.specs.Lengths.{LengthForm, length_then, IsLength, length_at}
+
+pub record NoteForm : Type 0 where
+  pub sign : Option Alter
+  pub low : Bool
+  pub letter : Letter
+  pub marks : List ℕ
+  pub length : LengthForm
+
+abbrev pub sign_then : Option Alter → List ℕ → List ℕ
+sign_then None rest = rest
+sign_then (Some Sharp2) rest = 94 ∷ 94 ∷ rest
+sign_then (Some Sharp) rest = 94 ∷ rest
+sign_then (Some Flat2) rest = 95 ∷ 95 ∷ rest
+sign_then (Some Flat) rest = 95 ∷ rest
+sign_then (Some Natural) rest = 61 ∷ rest
+
+abbrev pub letter_byte : Bool → Letter → ℕ
+letter_byte false A = 65
+letter_byte false B = 66
+letter_byte false C = 67
+letter_byte false D = 68
+letter_byte false E = 69
+letter_byte false F = 70
+letter_byte false G = 71
+letter_byte true A = 97
+letter_byte true B = 98
+letter_byte true C = 99
+letter_byte true D = 100
+letter_byte true E = 101
+letter_byte true F = 102
+letter_byte true G = 103
+
+-- the bytes of a note, and what follows them
+abbrev pub note_then : NoteForm → List ℕ → List ℕ
+note_then f rest = sign_then f.sign (letter_byte f.low f.letter ∷ (f.marks ++ length_then f.length rest))
+
+pub record IsNote (f : NoteForm) : Type 0 where
+  pub marks : list_all is_mark f.marks ≡ true
+  pub length : IsLength f.length
+
+-- `C` is in octave 4 and `c` in octave 5, and each mark counts one
+abbrev pub octave_of : Bool → List ℕ → ℤ
+octave_of low marks = (pos (if low then 5 else 4) +ℤ pos (count_by (λ b. b == 39) marks)) -ℤ pos (count_by (λ b. b == 44) marks)
+
+abbrev pub head_of : NoteForm → Head
+head_of f = record { pitch = record { letter = f.letter; octave = octave_of f.low f.marks }; sign = f.sign; tied = false }
+
+abbrev pub note_read : Head → Len → List ℕ → Head × Len × List ℕ
+note_read head len rest = (head, len, rest)
+
+-- reading from left to right
+unfoldable pub sign_at : List ℕ → Option Alter × List ℕ
+sign_at s =
+    let up = skip 94 s in
+    let up_two = skip 94 up.1 in
+    let down = skip 95 s in
+    let down_two = skip 95 down.1 in
+    let plain = skip 61 s in
+    if up.0 then (if up_two.0 then (Some Sharp2, up_two.1) else (Some Sharp, up.1))
+    else (if down.0 then (if down_two.0 then (Some Flat2, down_two.1) else (Some Flat, down.1))
+    else (if plain.0 then (Some Natural, plain.1) else (None, s)))
+
+abbrev pub upper_at : ℕ → Option Letter
+upper_at b =
+    if b == 65 then Some A else (if b == 66 then Some B else (if b == 67 then Some C else (if b == 68 then Some D
+    else (if b == 69 then Some E else (if b == 70 then Some F else (if b == 71 then Some G else None))))))
+
+abbrev pub lower_at : ℕ → Option Letter
+lower_at b =
+    if b == 97 then Some A else (if b == 98 then Some B else (if b == 99 then Some C else (if b == 100 then Some D
+    else (if b == 101 then Some E else (if b == 102 then Some F else (if b == 103 then Some G else None))))))
+
+abbrev pub either_letter : Option Letter → Option Letter → Option (Bool × Letter)
+either_letter (Some l) low = Some (false, l)
+either_letter None (Some l) = Some (true, l)
+either_letter None None = None
+
+unfoldable pub letter_at : ℕ → Option (Bool × Letter)
+letter_at b = either_letter (upper_at b) (lower_at b)
+
+-- what stands behind the sign and the letter
+abbrev pub note_from : Option Alter → Option (Bool × Letter) → List ℕ → Option (NoteForm × List ℕ)
+note_from sign None rest = None
+note_from sign (Some l) rest =
+    let marks = span_all is_mark rest in
+    let len = length_at marks.1 in
+    Some (record { sign = sign; low = l.0; letter = l.1; marks = marks.0; length = len.0 }, len.1)
+
+abbrev pub note_behind : Option Alter → List ℕ → Option (NoteForm × List ℕ)
+note_behind sign [] = None
+note_behind sign (b ∷ rest) = note_from sign (letter_at b) rest
+
+unfoldable pub note_at : List ℕ → Option (NoteForm × List ℕ)
+note_at s = let sign = sign_at s in note_behind sign.0 sign.1

@@ -1,0 +1,58 @@
+-- Text that is read part by part, each part as long as it can be: the list of parts that a text
+-- is, and the first place where it has none. `Stands part text rest` says that the part stands at
+-- the front of the text, with the rest behind it.
+use Rattle.std.specs.Prelude.{◌≡◌, ◌≤◌, ℕ, zero, suc, List, [], ◌∷◌, length, Bool, true, false, ◌||◌, ◌==◌, Option, Some, None, MatchBool}
+use Rattle.abc_lines.specs.declared.fault.FaultKind.TheVariants.{BadLength}
+use Rattle.abc_notes.specs.declared.part.Flaw.{Flaw}
+use Rattle.abc_notes.specs.Runs.{is_digit}
+
+-- the part stands at the front, and no longer one does
+pub record IsLongest (I : Type 0) (Stands : I → List ℕ → List ℕ → Type 0) (text : List ℕ) (part : I) (rest : List ℕ) : Type 0 where
+  pub stands : Stands part text rest
+  pub longest : (other : I) (behind : List ℕ) → Stands other text behind → length rest ≤ length behind
+
+abbrev pub HasNone : (I : Type 0) → (I → List ℕ → List ℕ → Type 0) → List ℕ → Type 0
+HasNone I Stands text = (part : I) (rest : List ℕ) → Stands part text rest → ⊥
+
+-- the parts of a text
+pub data Parts (I : Type 0) (Stands : I → List ℕ → List ℕ → Type 0) : List ℕ → List I → Type 0 where
+  no_part : Parts I Stands [] []
+  then_part : (text : List ℕ) (part : I) (rest : List ℕ) (more : List I) → IsLongest I Stands text part rest → Parts I Stands rest more → Parts I Stands text (part ∷ more)
+
+-- a digit or a slash goes on a length
+abbrev pub goes_on_length : ℕ → Bool
+goes_on_length byte = is_digit byte || byte == 47
+
+-- where no part stands: a length that goes on is a fault of the part that has it, `at` bytes from
+-- the end; any other fault is the text's own
+abbrev pub IsFlaw : (List ℕ → Flaw → Type 0) → Option ℕ → ℕ → List ℕ → Flaw → Type 0
+IsFlaw Own None byte rest flaw = Own (byte ∷ rest) flaw
+IsFlaw Own (Some at) byte rest flaw = MatchBool (goes_on_length byte) (flaw ≡ record { kind = BadLength; left = at }) (Own (byte ∷ rest) flaw)
+
+abbrev pub length_at_place : Bool → ℕ → Option ℕ
+length_at_place true left = Some left
+length_at_place false left = None
+
+-- the first fault of a text; `before` is the place of the part before it, where that has a length
+pub data Flawed (I : Type 0) (Stands : I → List ℕ → List ℕ → Type 0) (is_lengthy : I → Bool) (Own : List ℕ → Flaw → Type 0) : Option ℕ → List ℕ → Flaw → Type 0 where
+  stuck_here : (before : Option ℕ) (byte : ℕ) (rest : List ℕ) (flaw : Flaw) → HasNone I Stands (byte ∷ rest) → IsFlaw Own before byte rest flaw → Flawed I Stands is_lengthy Own before (byte ∷ rest) flaw
+  stuck_later : (before : Option ℕ) (text : List ℕ) (part : I) (rest : List ℕ) (flaw : Flaw) → IsLongest I Stands text part rest →
+      Flawed I Stands is_lengthy Own (length_at_place (is_lengthy part) (length text)) rest flaw → Flawed I Stands is_lengthy Own before text flaw
+
+-- ---- reading, between these and the code
+
+abbrev pub walk_on : {I : Type 0} → (List ℕ → List I × List ℕ) → List ℕ → Option (I × List ℕ) → List I × List ℕ
+walk_on next text None = ([], text)
+walk_on next text (Some z) = (z.0 ∷ (next z.1).0, (next z.1).1)
+
+-- parts are read off a text of at most so many
+abbrev pub walk_from : {I : Type 0} → (List ℕ → Option (I × List ℕ)) → ℕ → List ℕ → List I × List ℕ
+walk_from at zero text = ([], text)
+walk_from at (suc n) text = walk_on (walk_from at n) text (at text)
+
+-- the parts that a reader reads off a text, and what is left
+unfoldable pub walk : {I : Type 0} → (List ℕ → Option (I × List ℕ)) → List ℕ → List I × List ℕ
+walk at text = walk_from at (length text) text
+
+abbrev pub is_done : {I : Type 0} → List I × List ℕ → Bool
+is_done w = length w.1 == 0

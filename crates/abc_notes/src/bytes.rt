@@ -1,0 +1,72 @@
+//! The front of a list of bytes.
+
+ghost use Rattle.std.specs.Prelude.{◌≡◌, ◌≤◌, ◌==◌, length, take};
+ghost use Rattle.std.specs.List.{prefix_len};
+ghost use Rattle.abc_notes.specs.Runs.{run_off, skip, span, span_all, is_digit, is_mark};
+
+/// How often this byte stands at the front, and what follows.
+#[tactic(auto, unfolding(crate::specs::Runs::run_off))]
+pub fn run_off(byte: u8, bytes: &[u8]) -> (usize, &[u8])
+    ensures read { (result.0, result.1.now) ≡ run_off byte bytes.now }
+    ensures within { length result.1.now ≤ length bytes.now }
+{
+    let n = run_len(byte, bytes);
+    (n, bytes.split_at(n).1)
+}
+
+fn run_len(byte: u8, bytes: &[u8]) -> usize
+    ensures value { result ≡ prefix_len (λ x. x == byte) bytes.now }
+    ensures within { result ≤ length bytes.now }
+{
+    bytes.iter().take_while(|b| **b == byte).count()
+}
+
+/// Whether this byte stands at the front, and what follows.
+#[tactic(auto, unfolding(crate::specs::Runs::skip))]
+pub fn skip(byte: u8, bytes: &[u8]) -> (bool, &[u8])
+    ensures read { (result.0, result.1.now) ≡ skip byte bytes.now }
+    ensures within { length result.1.now ≤ length bytes.now }
+{
+    match bytes.split_first() {
+        Some((first, rest)) if *first == byte => (true, rest),
+        _ => (false, bytes),
+    }
+}
+
+/// The digits at the front, at most `limit` of them, and what follows.
+#[tactic(auto, unfolding(crate::specs::Runs::span))]
+pub fn digits_off(limit: usize, bytes: &[u8]) -> (&[u8], &[u8])
+    ensures { (result.0.now, result.1.now) ≡ span is_digit limit bytes.now }
+{
+    bytes.split_at(digit_count(limit, bytes))
+}
+
+fn digit_count(limit: usize, bytes: &[u8]) -> usize
+    ensures value { result ≡ prefix_len is_digit (take limit bytes.now) }
+    ensures within { result ≤ length bytes.now }
+{
+    bytes
+        .iter()
+        .take(limit)
+        .take_while(|b| **b >= 48 && **b <= 57)
+        .count()
+}
+
+/// The octave marks at the front, and what follows.
+#[tactic(auto, unfolding(crate::specs::Runs::span_all))]
+pub fn marks_off(bytes: &[u8]) -> (&[u8], &[u8])
+    ensures read { (result.0.now, result.1.now) ≡ span_all is_mark bytes.now }
+    ensures within { length result.0.now ≤ length bytes.now }
+{
+    bytes.split_at(mark_count(bytes))
+}
+
+fn mark_count(bytes: &[u8]) -> usize
+    ensures value { result ≡ prefix_len is_mark bytes.now }
+    ensures within { result ≤ length bytes.now }
+{
+    bytes
+        .iter()
+        .take_while(|b| **b == b'\'' || **b == b',')
+        .count()
+}

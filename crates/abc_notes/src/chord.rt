@@ -1,0 +1,278 @@
+ghost use Rattle.std.specs.Prelude.{◌≡◌, ◌≤◌, ◌+◌, ◌^◌, ◌++◌, ◌||◌, ◌&&◌, map, ℕ, length, option_map, Some, None, true, false, IfOk, IfSome, OnOk, MatchResult, take, drop};
+ghost use Rattle.std.specs.List.{prefix_len};
+ghost use Rattle.abc_notes.specs.Chords.{is_inside, has_head, tied_if, heads_of, decos_of, senses, last_head, tie_last, heads_after, given_head, next_last, deco_of, chord_at, chord_closed, chord_shown, ChordFault};
+ghost use Rattle.abc_notes.specs.Graces.{heads_in, plain_head};
+ghost use Rattle.abc_notes.specs.Items.{InnerFlawed, inner_at, inner_flaw, sense, sense_of, is_note};
+ghost use Rattle.abc_notes.specs.Lengths.{len_of};
+ghost use Rattle.abc_notes.specs.Parts.{walk, is_done, goes_on_length, length_at_place};
+ghost use Rattle.abc_notes.specs.Runs.{span_all};
+
+use crate::decoration::{deco_of_letter, deco_of_name};
+use crate::item::item_at;
+use crate::length::length_at;
+use crate::part::{Flaw, Item, Len};
+use abc_lines::FaultKind;
+use mus_units::{Deco, Head, Memory, Row};
+use std::alloc::Global;
+
+/// Whether the inside of a chord has a head, or its first fault.
+pub fn inside_state(bang: bool, inside: &[u8]) -> Result<bool, Flaw>
+    requires { length inside.now ≤ 2 ^ 30 }
+    ensures { MatchResult result (λ head. (is_done (walk (inner_at bang) inside.now) ≡ true) × (head ≡ has_head (walk (inner_at bang) inside.now).0)) (λ flaw. (is_done (walk (inner_at bang) inside.now) ≡ false) × InnerFlawed bang None inside.now flaw × (flaw.left ≤ length inside.now)) }
+{
+    let mut rest = inside;
+    let mut before = None;
+    let mut head = false;
+    'parts: while let Some((byte, _)) = rest.split_first() {
+        let here = rest.len();
+        let Some((item, behind)) = item_at(bang, rest) else {
+            return Err(inner_flaw(before, *byte, here));
+        };
+        let note = is_note(item);
+        head = either(head, note);
+        before = place_if(note, here);
+        rest = behind;
+    }
+    Ok(head)
+}
+
+fn either(one: bool, other: bool) -> bool
+    ensures { result ≡ (one || other) }
+{
+    one || other
+}
+
+/// The place where a part has a length.
+pub fn place_if(lengthy: bool, here: usize) -> Option<usize>
+    ensures { result ≡ length_at_place lengthy here }
+{
+    if lengthy { Some(here) } else { None }
+}
+
+fn is_note(item: Item<'_>) -> bool
+    ensures { result ≡ is_note (sense_of item.entry) }
+{
+    match item {
+        Item::Note { .. } => true,
+        _ => false,
+    }
+}
+
+fn inner_flaw(before: Option<usize>, byte: u8, here: usize) -> Flaw
+    ensures { result ≡ inner_flaw before byte here }
+{
+    match before {
+        Some(at) if goes_on_length(byte) => Flaw {
+            kind: FaultKind::BadLength,
+            left: at,
+        },
+        _ => Flaw {
+            kind: FaultKind::BadByte,
+            left: here,
+        },
+    }
+}
+
+/// Whether a byte goes on a length.
+pub fn goes_on_length(byte: u8) -> bool
+    ensures { result ≡ goes_on_length byte }
+{
+    (byte >= b'0' && byte <= b'9') || byte == b'/'
+}
+
+/// The inside of a chord up to its closing bracket, and what follows.
+#[tactic(auto, unfolding(crate::specs::Runs::span_all))]
+pub fn bracketed(bytes: &[u8]) -> (&[u8], &[u8])
+    ensures read { (result.0.now, result.1.now) ≡ span_all is_inside bytes.now }
+    ensures within { length result.0.now ≤ length bytes.now }
+    ensures parts { length result.0.now + length result.1.now ≡ length bytes.now }
+{
+    bytes.split_at(inside_len(bytes))
+}
+
+fn inside_len(bytes: &[u8]) -> usize
+    ensures value { result ≡ prefix_len is_inside bytes.now }
+    ensures within { result ≤ length bytes.now }
+{
+    bytes.iter().take_while(|byte| **byte != b']').count()
+}
+
+/// The heads of a chord, in the order of the text.
+pub fn read_heads(alloc: Global, bang: bool, inside: &[u8]) -> Result<Row<(Head, Len)>, Memory>
+    requires { length inside.now ≤ 2 ^ 30 }
+    ensures { IfOk result (λ heads. heads ≡ heads_of (senses bang inside.now)) }
+{
+    let mut heads = Row::new(alloc);
+    let mut last = None;
+    let mut rest = inside;
+    'parts: while let Some((item, behind)) = item_at(bang, rest) {
+        last = add_head(&mut heads, last, item)?;
+        rest = behind;
+    }
+    add_last(&mut heads, last)?;
+    Ok(heads)
+}
+
+/// The heads inside a chord, without ties, in the order of the text.
+pub fn read_plain_heads(alloc: Global, bang: bool, inside: &[u8]) -> Result<Row<Head>, Memory>
+    requires { length inside.now ≤ 2 ^ 30 }
+    ensures { IfOk result (λ heads. heads ≡ heads_in (senses bang inside.now)) }
+{
+    let mut heads = Row::new(alloc);
+    let mut rest = inside;
+    'parts: while let Some((item, behind)) = item_at(bang, rest) {
+        add_plain_head(&mut heads, item)?;
+        rest = behind;
+    }
+    Ok(heads)
+}
+
+fn add_plain_head(heads: &mut Row<Head>, item: Item<'_>) -> Result<(), Memory>
+    ensures { OnOk result (heads.new ≡ heads.old ++ plain_head (sense_of item.entry)) }
+{
+    match item {
+        Item::Note { head, .. } => heads.push(head),
+        _ => Ok(()),
+    }
+}
+
+/// Adds the head before a part where no tie can reach it any more, and gives the
+/// one that a tie may still reach.
+fn add_head(
+    heads: &mut Row<(Head, Len)>,
+    last: Option<(Head, Len)>,
+    item: Item<'_>,
+) -> Result<Option<(Head, Len)>, Memory>
+    ensures heads { OnOk result (heads.new ≡ heads.old ++ given_head last (sense_of item.entry)) }
+    ensures last { IfOk result (λ it. it ≡ next_last last (sense_of item.entry)) }
+{
+    match item {
+        Item::Note { head, len } => {
+            add_last(heads, last)?;
+            Ok(Some((tied_if(false, head), len)))
+        }
+        Item::Tie => Ok(tie_last(last)),
+        Item::Letter(_) | Item::Named(_) | Item::Passed => Ok(last),
+    }
+}
+
+fn add_last(heads: &mut Row<(Head, Len)>, last: Option<(Head, Len)>) -> Result<(), Memory>
+    ensures { OnOk result (heads.new ≡ heads.old ++ last_head last) }
+{
+    match last {
+        None => Ok(()),
+        Some(head) => heads.push(head),
+    }
+}
+
+fn tie_last(last: Option<(Head, Len)>) -> Option<(Head, Len)>
+    ensures { result ≡ tie_last last }
+{
+    match last {
+        None => None,
+        Some((head, len)) => Some((tied_if(true, head), len)),
+    }
+}
+
+fn tied_if(tied: bool, head: Head) -> Head
+    ensures { result ≡ tied_if tied head }
+{
+    Head {
+        pitch: head.pitch,
+        sign: head.sign,
+        tied,
+    }
+}
+
+/// The decorations inside a chord, in the order of the text.
+pub fn read_decos(alloc: Global, bang: bool, inside: &[u8]) -> Result<Row<Deco>, Memory>
+    requires { length inside.now ≤ 2 ^ 30 }
+    ensures { IfOk result (λ decos. decos ≡ decos_of (senses bang inside.now)) }
+{
+    let mut decos = Row::new(alloc);
+    let mut rest = inside;
+    'parts: while let Some((item, behind)) = item_at(bang, rest) {
+        add_deco(alloc, &mut decos, item)?;
+        rest = behind;
+    }
+    Ok(decos)
+}
+
+fn add_deco(alloc: Global, decos: &mut Row<Deco>, item: Item<'_>) -> Result<(), Memory>
+    ensures { OnOk result (decos.new ≡ decos.old ++ deco_of (sense_of item.entry)) }
+{
+    match item {
+        Item::Letter(byte) => decos.push(deco_of_letter(byte)),
+        Item::Named(name) => decos.push(deco_of_name(alloc, name)?),
+        Item::Note { .. } | Item::Tie | Item::Passed => Ok(()),
+    }
+}
+
+/// A chord that is read: the text between its brackets, its length, and what
+/// follows.
+#[derive(Clone, Copy)]
+pub struct Chord<'a> {
+    pub inside: &'a [u8],
+    pub len: Len,
+    pub rest: &'a [u8],
+}
+
+/// The chord behind an opening bracket.
+#[tactic(auto, unfolding(crate::specs::Chords::chord_at))]
+pub fn chord_at(bang: bool, bytes: &[u8]) -> Option<Chord<'_>>
+    requires { length bytes.now ≤ 2 ^ 30 }
+    ensures read { option_map (λ x. chord_shown (senses bang x.inside.now) x.len x.inside.now x.rest.now) result ≡ option_map (λ z. chord_shown (map sense z.0.parts) (len_of z.0.length) z.0.inside z.1) (chord_at bang bytes.now) }
+    ensures within { IfSome result (λ x. length x.inside.now ≤ length bytes.now) }
+{
+    let (inside, rest) = bracketed(bytes);
+    chord_closed(bang, inside, rest)
+}
+
+fn chord_closed<'a>(bang: bool, inside: &'a [u8], rest: &'a [u8]) -> Option<Chord<'a>>
+    requires { length inside.now ≤ 2 ^ 30 }
+    ensures read { option_map (λ x. chord_shown (senses bang x.inside.now) x.len x.inside.now x.rest.now) result ≡ option_map (λ z. chord_shown (map sense z.0.parts) (len_of z.0.length) z.0.inside z.1) (chord_closed bang inside.now rest.now) }
+    ensures same { IfSome result (λ x. x.inside.now ≡ inside.now) }
+{
+    let (_, rest) = rest.split_first()?;
+    if !is_good_inside(bang, inside) {
+        return None;
+    }
+    let (len, rest) = length_at(rest);
+    Some(Chord { inside, len, rest })
+}
+
+fn is_good_inside(bang: bool, inside: &[u8]) -> bool
+    requires { length inside.now ≤ 2 ^ 30 }
+    ensures { let w = walk (inner_at bang) inside.now in result ≡ (is_done w && has_head w.0) }
+{
+    match inside_state(bang, inside) {
+        Ok(head) => head,
+        Err(_) => false,
+    }
+}
+
+/// The fault behind an opening bracket at which no chord stands.
+pub fn chord_fault(bang: bool, bytes: &[u8]) -> Flaw
+    requires small { length bytes.now ≤ 2 ^ 30 }
+    requires none { chord_at bang bytes.now ≡ None }
+    ensures fault { ChordFault bang bytes.now result }
+    ensures within { result.left ≤ length bytes.now + 1 }
+{
+    let (inside, rest) = bracketed(bytes);
+    let Some((_, rest)) = rest.split_first() else {
+        return Flaw {
+            kind: FaultKind::Unclosed,
+            left: bytes.len() + 1,
+        };
+    };
+    match inside_state(bang, inside) {
+        Err(flaw) => Flaw {
+            kind: flaw.kind,
+            left: flaw.left + (rest.len() + 1),
+        },
+        Ok(_) => Flaw {
+            kind: FaultKind::BadByte,
+            left: bytes.len() + 1,
+        },
+    }
+}

@@ -1,0 +1,237 @@
+ghost use Rattle.std.specs.Prelude.{◌≡◌, ◌≢◌, ◌≤◌, ◌<◌, ◌+◌, ◌^◌, ◌++◌, [], length, option_map, map, None, true, false, IfOk, OnOk, IfSome, MatchOption};
+ghost use Rattle.std.specs.List.{prefix_len};
+ghost use Rattle.abc_notes.specs.Graces.{body_of_part, body_of_sense, body_of, part_has_length, IsGraceOwn, IsPartFlaw, GraceFlawed, GraceFault, is_in_grace, grace_part_at, grace_closed, grace_at, bodied, body_of_item, item_has_length, body_inside, grace_shown, item_within, goes_on_first};
+ghost use Rattle.abc_notes.specs.Items.{sense_of};
+ghost use Rattle.abc_notes.specs.Parts.{walk, is_done};
+ghost use Rattle.abc_notes.specs.Runs.{span_all};
+
+use crate::bytes::skip;
+use crate::chord::{chord_at, chord_fault, goes_on_length, place_if, read_plain_heads};
+use crate::item::item_at;
+use crate::part::{Flaw, GraceChord, GraceItem, Item};
+use abc_lines::FaultKind;
+use mus_units::{Memory, Row};
+use std::alloc::Global;
+
+/// The part of a grace group at the front, as long as it can be, and what
+/// follows it.
+#[tactic(auto, unfolding(crate::specs::Graces::grace_part_at))]
+pub fn grace_part_at(bang: bool, bytes: &[u8]) -> Option<(GraceItem<'_>, &[u8])>
+    requires { length bytes.now ≤ 2 ^ 30 }
+    ensures read { option_map (λ x. bodied (body_of_item bang x.0) (item_has_length x.0) x.1.now) result ≡ option_map (λ z. bodied (body_of_part z.0) (part_has_length z.0) z.1) (grace_part_at bang bytes.now) }
+    ensures within { IfSome result (λ x. item_within x.0 (length bytes.now)) }
+{
+    let (first, rest) = bytes.split_first()?;
+    if *first == b'[' {
+        let chord = chord_at(bang, rest)?;
+        Some((GraceItem::Chord(chord.inside), chord.rest))
+    } else {
+        let (item, rest) = item_at(bang, bytes)?;
+        Some((GraceItem::Part(item), rest))
+    }
+}
+
+/// The first fault of the inside of a grace group, if it has one.
+fn grace_state(bang: bool, inside: &[u8]) -> Option<Flaw>
+    requires { length inside.now ≤ 2 ^ 30 }
+    ensures { MatchOption result (is_done (walk (grace_part_at bang) inside.now) ≡ true) (λ flaw. (is_done (walk (grace_part_at bang) inside.now) ≡ false) × GraceFlawed bang None inside.now flaw × (flaw.left ≤ length inside.now)) }
+{
+    let mut rest = inside;
+    let mut before = None;
+    'parts: while !rest.is_empty() {
+        let here = rest.len();
+        let Some((part, behind)) = grace_part_at(bang, rest) else {
+            return Some(part_flaw(bang, before, rest));
+        };
+        before = place_if(has_length(part), here);
+        rest = behind;
+    }
+    None
+}
+
+fn has_length(part: GraceItem<'_>) -> bool
+    ensures { result ≡ item_has_length part.entry }
+{
+    match part {
+        GraceItem::Part(Item::Note { .. }) => true,
+        GraceItem::Part(_) => false,
+        GraceItem::Chord(_) => true,
+    }
+}
+
+/// The fault where no part stands; `before` is the place of a length before it.
+fn part_flaw(bang: bool, before: Option<usize>, bytes: &[u8]) -> Flaw
+    requires small { length bytes.now ≤ 2 ^ 30 }
+    requires some { length bytes.now ≢ 0 }
+    requires none { grace_part_at bang bytes.now ≡ None }
+    ensures flaw { IsPartFlaw bang before bytes.now result }
+    ensures within { MatchOption before (result.left ≤ length bytes.now) (λ at. length bytes.now ≤ at → result.left ≤ at) }
+{
+    match before {
+        Some(at) if goes_on_with_length(bytes) => Flaw {
+            kind: FaultKind::BadLength,
+            left: at,
+        },
+        _ => own_flaw(bang, bytes),
+    }
+}
+
+fn goes_on_with_length(bytes: &[u8]) -> bool
+    ensures { result ≡ goes_on_first bytes.now }
+{
+    match bytes.split_first() {
+        Some((byte, _)) => goes_on_length(*byte),
+        None => false,
+    }
+}
+
+fn own_flaw(bang: bool, bytes: &[u8]) -> Flaw
+    requires small { length bytes.now ≤ 2 ^ 30 }
+    requires some { length bytes.now ≢ 0 }
+    requires none { grace_part_at bang bytes.now ≡ None }
+    ensures flaw { IsGraceOwn bang bytes.now result }
+    ensures within { result.left ≤ length bytes.now }
+{
+    match bytes.split_first() {
+        Some((byte, rest)) if *byte == b'[' => chord_fault(bang, rest),
+        _ => Flaw {
+            kind: FaultKind::BadByte,
+            left: bytes.len(),
+        },
+    }
+}
+
+/// A grace group that is read: whether it has a slash, the text between its
+/// braces, and what follows.
+#[derive(Clone, Copy)]
+pub struct Grace<'a> {
+    pub slash: bool,
+    pub inside: &'a [u8],
+    pub rest: &'a [u8],
+}
+
+/// The grace group behind an opening brace.
+#[tactic(auto, unfolding(crate::specs::Graces::grace_at))]
+pub fn grace_at(bang: bool, bytes: &[u8]) -> Option<Grace<'_>>
+    requires { length bytes.now ≤ 2 ^ 30 }
+    ensures read { option_map (λ x. grace_shown x.slash (body_inside bang x.inside.now) x.inside.now x.rest.now) result ≡ option_map (λ z. grace_shown z.0.slash (body_of z.0.parts) z.0.inside z.1) (grace_at bang bytes.now) }
+    ensures within { IfSome result (λ x. length x.inside.now ≤ length bytes.now) }
+{
+    let (slash, rest) = skip(b'/', bytes);
+    let (inside, rest) = braced(rest);
+    grace_closed(bang, slash, inside, rest)
+}
+
+fn grace_closed<'a>(bang: bool, slash: bool, inside: &'a [u8], rest: &'a [u8]) -> Option<Grace<'a>>
+    requires { length inside.now ≤ 2 ^ 30 }
+    ensures read { option_map (λ x. grace_shown x.slash (body_inside bang x.inside.now) x.inside.now x.rest.now) result ≡ option_map (λ z. grace_shown z.0.slash (body_of z.0.parts) z.0.inside z.1) (grace_closed bang slash inside.now rest.now) }
+    ensures same { IfSome result (λ x. x.inside.now ≡ inside.now) }
+{
+    let (_, rest) = rest.split_first()?;
+    if !is_good_inside(bang, inside) {
+        return None;
+    }
+    Some(Grace {
+        slash,
+        inside,
+        rest,
+    })
+}
+
+fn is_good_inside(bang: bool, inside: &[u8]) -> bool
+    requires { length inside.now ≤ 2 ^ 30 }
+    ensures { result ≡ is_done (walk (grace_part_at bang) inside.now) }
+{
+    match grace_state(bang, inside) {
+        None => true,
+        Some(_) => false,
+    }
+}
+
+/// The inside of a grace group up to its closing brace, and what follows.
+#[tactic(auto, unfolding(crate::specs::Runs::span_all))]
+fn braced(bytes: &[u8]) -> (&[u8], &[u8])
+    ensures read { (result.0.now, result.1.now) ≡ span_all is_in_grace bytes.now }
+    ensures within { length result.0.now ≤ length bytes.now }
+    ensures parts { length result.0.now + length result.1.now ≡ length bytes.now }
+{
+    bytes.split_at(inside_len(bytes))
+}
+
+fn inside_len(bytes: &[u8]) -> usize
+    ensures value { result ≡ prefix_len is_in_grace bytes.now }
+    ensures within { result ≤ length bytes.now }
+{
+    bytes.iter().take_while(|byte| **byte != b'}').count()
+}
+
+/// The fault behind an opening brace at which no grace group stands.
+pub fn grace_fault(bang: bool, bytes: &[u8]) -> Flaw
+    requires small { length bytes.now ≤ 2 ^ 30 }
+    requires none { grace_at bang bytes.now ≡ None }
+    ensures fault { GraceFault bang bytes.now result }
+    ensures within { result.left ≤ length bytes.now + 1 }
+{
+    let (slash, behind) = skip(b'/', bytes);
+    let (inside, rest) = braced(behind);
+    let Some((_, rest)) = rest.split_first() else {
+        return Flaw {
+            kind: FaultKind::Unclosed,
+            left: bytes.len() + 1,
+        };
+    };
+    match grace_state(bang, inside) {
+        Some(flaw) => Flaw {
+            kind: flaw.kind,
+            left: flaw.left + (rest.len() + 1),
+        },
+        None => Flaw {
+            kind: FaultKind::BadByte,
+            left: bytes.len() + 1,
+        },
+    }
+}
+
+/// The notes and chords of a grace group, in the order of the text.
+pub fn read_body(alloc: Global, bang: bool, inside: &[u8]) -> Result<Row<GraceChord>, Memory>
+    requires { length inside.now ≤ 2 ^ 30 }
+    ensures { IfOk result (λ body. body ≡ body_inside bang inside.now) }
+{
+    let mut body = Row::new(alloc);
+    let mut rest = inside;
+    'parts: while let Some((part, behind)) = grace_part_at(bang, rest) {
+        add_part(alloc, &mut body, bang, part)?;
+        rest = behind;
+    }
+    Ok(body)
+}
+
+fn add_part(
+    alloc: Global,
+    body: &mut Row<GraceChord>,
+    bang: bool,
+    part: GraceItem<'_>,
+) -> Result<(), Memory>
+    requires { item_within part (2 ^ 30) }
+    ensures { OnOk result (body.new ≡ body.old ++ body_of_item bang part.entry) }
+{
+    match part {
+        GraceItem::Part(item) => add_single(alloc, body, item),
+        GraceItem::Chord(inside) => {
+            let heads = read_plain_heads(alloc, bang, inside)?;
+            body.push(GraceChord { heads })
+        }
+    }
+}
+
+fn add_single(alloc: Global, body: &mut Row<GraceChord>, item: Item<'_>) -> Result<(), Memory>
+    ensures { OnOk result (body.new ≡ body.old ++ body_of_sense (sense_of item.entry)) }
+{
+    match item {
+        Item::Note { head, .. } => {
+            let heads = Row::from_slice(alloc, &[head])?;
+            body.push(GraceChord { heads })
+        }
+        _ => Ok(()),
+    }
+}
