@@ -13,10 +13,11 @@ use Rattle.abc_steps.specs.declared.force.InForce.{InForce}
 use Rattle.abc_steps.specs.Looks.{Steps, since_event}
 use Rattle.abc_steps.specs.Lengths.{written_length}
 use Rattle.abc_steps.specs.Tuplets.{fits, or_default, usual_q}
-use Rattle.abc_events.specs.declared.place.Place.{Place}
+use Rattle.abc_steps.specs.declared.place.Place.{Place}
 use Rattle.abc_events.specs.declared.written.Sign.{Sign}
 use Rattle.abc_events.specs.declared.written.Sign.TheVariants as sign
-use Rattle.abc_events.specs.Signs.{IsDrawn, sound_written, rest_written, further_rests, tuplet_of, signs_of, signs, place_at, measure_of, parted_at, whole_value}
+use Rattle.abc_steps.specs.Places.{place_at, measure_of}
+use Rattle.abc_events.specs.Signs.{IsDrawn, sound_written, rest_written, further_rests, tuplet_of, signs_of, signs, parted_at, whole_value}
 
 abbrev IsFew : Value → Type 0
 IsFew v = v.dots ≤ 3

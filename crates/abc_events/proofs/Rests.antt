@@ -1,7 +1,7 @@
 -- The next of several whole measure rests.
 use Rattle.std.proofs.Common.{◌≡◌, sym, ap, ◌∙◌, ℕ, suc, ◌+◌, ◌-◌, ◌<◌, Bool, false, List, [], ◌∷◌, ◌++◌, arith, append_assoc}
 use Rattle.abc_steps.specs.declared.step.Stood.{Stood}
-use Rattle.abc_events.specs.declared.place.Place.{Place}
+use Rattle.abc_steps.specs.declared.place.Place.{Place}
 use Rattle.abc_events.specs.declared.written.Written.{Written}
 use Rattle.abc_events.specs.declared.written.Waiting.{Waiting}
 use Rattle.abc_events.specs.declared.written.Sign.{Sign}

@@ -8,7 +8,7 @@ use Rattle.mus_score.specs.declared.score.Look.TheVariants as looks
 use Rattle.mus_score.specs.declared.score.Event.{Event}
 use Rattle.mus_score.specs.declared.score.Music.{Music}
 use Rattle.mus_score.specs.declared.score.Music.TheVariants as music
-use Rattle.abc_pieces.specs.declared.token.GraceChord.{GraceChord}
+use Rattle.abc_notes.specs.declared.part.GraceChord.{GraceChord}
 use Rattle.abc_events.specs.declared.written.Written.{Written}
 use Rattle.abc_events.specs.declared.written.Waiting.{Waiting}
 use Rattle.abc_events.specs.declared.written.Sign.{Sign}

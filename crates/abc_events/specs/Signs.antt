@@ -14,21 +14,14 @@ use Rattle.abc_steps.specs.declared.step.Stood.{Stood}
 use Rattle.abc_steps.specs.declared.force.InForce.{InForce}
 use Rattle.abc_steps.specs.Looks.{Steps, since_event, is_tied, slurs_begun, slurs_ended, has_parting}
 use Rattle.abc_steps.specs.Lengths.{written_length}
-use Rattle.abc_steps.specs.Counts.{counts_of}
-use Rattle.abc_steps.specs.Tuplets.{or_default, fits, taking_at, usual_q}
-use Rattle.abc_steps.specs.Force.{force_at, meter_ticks}
+use Rattle.abc_steps.specs.Tuplets.{or_default, fits, usual_q}
+use Rattle.abc_steps.specs.Force.{meter_ticks}
 use Rattle.abc_events.specs.declared.written.Written.{Written}
 use Rattle.abc_events.specs.declared.written.Sign.{Sign}
 use Rattle.abc_events.specs.declared.written.Sign.TheVariants as sign
-use Rattle.abc_events.specs.declared.place.Place.{Place}
+use Rattle.abc_steps.specs.declared.place.Place.{Place}
+use Rattle.abc_steps.specs.Places.{place_at, measure_of}
 use Rattle.abc_events.specs.Waits.{waiting_of, nothing}
-
--- what holds at a place of a voice
-abbrev pub place_at : InForce → Steps → Place
-place_at first before = record { counts = counts_of before; force = force_at first before; taking = taking_at before }
-
-abbrev pub measure_of : Place → ℕ
-measure_of now = now.counts.groups + now.counts.further
 
 -- a space or the end of a line stands between an event and the one before it; a voice's first event has none before it
 abbrev pub parted_at : Place → Steps → Bool

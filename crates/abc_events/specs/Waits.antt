@@ -5,7 +5,7 @@ use Rattle.std.specs.List.{list_any}
 use Rattle.mus_units.specs.declared.note.Deco.{Deco}
 use Rattle.mus_score.specs.declared.score.Mention.{Mention}
 use Rattle.mus_score.specs.declared.score.Changes.{Changes}
-use Rattle.abc_pieces.specs.declared.token.GraceChord.{GraceChord}
+use Rattle.abc_notes.specs.declared.part.GraceChord.{GraceChord}
 use Rattle.abc_steps.specs.declared.step.Step.{Step}
 use Rattle.abc_steps.specs.declared.step.Step.TheVariants as step
 use Rattle.abc_steps.specs.declared.force.InForce.{InForce}

@@ -7,7 +7,6 @@ mod copies;
 pub mod leaves;
 pub mod measures;
 pub mod nesting;
-pub mod place;
 pub mod reading;
 pub mod waits;
 pub mod written;

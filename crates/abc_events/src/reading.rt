@@ -7,12 +7,12 @@ ghost use Rattle.abc_steps.specs.Lengths.{IsLength};
 ghost use Rattle.abc_steps.specs.Good.{IsGoodForce, IsGoodStood, IsGoodStep, IsGoodSound};
 ghost use Rattle.abc_events.specs.Signs.{with_tie, tied_heads, for_note, look_of, whole_look, parted_at, sound_written, whole_value, rest_written, further_rests, rests_of, tuplet_of, signs_of, signs, IsDrawn};
 
-use crate::place::{Place, beginning, measure_of, step_over};
 use crate::waits::{nothing, waiting_of};
 use crate::written::{Sign, Written};
 use abc_steps::force::meter_ticks;
 use abc_steps::lengths::written_length;
 use abc_steps::looks::{has_parting, is_tied, since_event, slurs_begun, slurs_ended};
+use abc_steps::place::{Place, beginning, measure_of, step_over};
 use abc_steps::tuplets::{fits, or_default, usual_q};
 use abc_steps::{InForce, Sound, Step, Stood};
 use mus_score::Look;

@@ -1,5 +1,6 @@
 ghost use Rattle.std.specs.Prelude.{◌≤◌, length, IfOk};
 ghost use Rattle.std.specs.List.{All};
+ghost use Rattle.abc_tokens.specs.Good.{AreGoodGraces, HasGraceHead};
 ghost use Rattle.abc_steps.specs.Good.{IsGoodSound, IsGoodStep, IsGoodStood, IsGoodForce};
 
 use crate::{bars_of, first_bar, forced_bars, measures_of, own_measures, signs};
@@ -41,7 +42,9 @@ const DOUBLE: Bar = Bar {
     ..PLAIN
 };
 
-fn heads(alloc: Global) -> Result<Row<Head>, Memory> {
+fn heads(alloc: Global) -> Result<Row<Head>, Memory>
+    ensures { IfOk result HasGraceHead }
+{
     Row::from_slice(alloc, &[HEAD])
 }
 
@@ -59,7 +62,9 @@ fn sound(alloc: Global, heads: Row<Head>, num: u64) -> Sound
     }
 }
 
-fn grace(alloc: Global) -> Result<Row<GraceChord>, Memory> {
+fn grace(alloc: Global) -> Result<Row<GraceChord>, Memory>
+    ensures { IfOk result AreGoodGraces }
+{
     let mut body = Row::new(alloc);
     body.push(GraceChord {
         heads: heads(alloc)?,

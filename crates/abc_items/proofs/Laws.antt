@@ -1,8 +1,17 @@
 -- What is read goes on from part to part.
 use Rattle.std.proofs.Common.{◌≡◌, ℕ, suc, ◌+◌, ◌<◌, ◌≤◌, ◌^◌, List, [], ◌∷◌, ◌++◌, length, map, take, drop, get_or, refl, sym, ap, ◌∙◌, subst, arith, append_assoc, append-nil, drop-cons}
 use Rattle.std.proofs.Math.Seq.{take-suc}
+use Rattle.std.proofs.Math.ListN.{drop_of_length-le}
 use Rattle.std.proofs.lemmas.List.Sums.{sum_by-cons}
-use Rattle.std.specs.Prelude.{Some, None, flat_map}
+use Rattle.std.specs.Prelude.{Option, Some, None, Bool, true, false, ◌&&◌, All, flat_map}
+use Rattle.std.specs.Str.{bytes_eq}
+use Rattle.std.proofs.lemmas.List.Elements.{All-nil, All-push, All-append, All-head, All-tail}
+use Rattle.mus_units.specs.declared.pitch.Clef.{Clef}
+use Rattle.abc_steps.specs.declared.step.Step.TheVariants as step
+use Rattle.abc_steps.specs.declared.step.Stood.{Stood}
+use Rattle.abc_steps.specs.declared.step.Item.TheVariants as item
+use Rattle.abc_steps.specs.Good.{IsGoodStood}
+use Rattle.abc_items.specs.Good.{IsGoodItem}
 use Rattle.abc_lines.specs.declared.book.Line.{Line}
 use Rattle.abc_lines.specs.declared.fault.Fault.{Fault}
 use Rattle.abc_lines.specs.declared.fault.TuneError.{TuneError}
@@ -10,10 +19,10 @@ use Rattle.abc_lines.specs.declared.fault.TuneError.TheVariants as errors
 use Rattle.abc_lines.specs.Good.{size_of}
 use Rattle.abc_tokens.specs.declared.token.Placed.{Placed}
 use Rattle.abc_fields.specs.declared.directive.Breaks.{Breaks}
-use Rattle.abc_fields.specs.declared.header.Header.{Header}
+use Rattle.abc_header.specs.declared.header.Header.{Header}
 use Rattle.abc_steps.specs.declared.step.Item.{Item}
 use Rattle.abc_items.specs.declared.body.Body.{Body}
-use Rattle.abc_items.specs.Voices.{ids_after, declared_ids}
+use Rattle.abc_items.specs.Voices.{ids_after, declared_ids, stood, break_if, one_if, named_step, steps_in, voice_next, steps_from}
 use Rattle.abc_items.specs.Body.{Given, gives, fails, item_judged, judged, first_fault, items_in, LineGives, BodyGives, no_lines, one_line, IsBody, IsBodyError}
 use Rattle.abc_items.specs.Reading.{Reads, Stops, ReadsSome, StopsBy, LinesStop}
 
@@ -150,3 +159,35 @@ body_error header lines b (errors.Fault fault) ids all = record {
   gives_so = all.1.gives_so;
   first = ap (λ x. first_fault (judged x all.1.given)) (sym ids) ∙ all.1.stops;
 }
+
+-- the steps of good items are good
+own_good : (own : Bool) (s : Stood) → IsGoodStood s → All IsGoodStood (one_if own s)
+own_good true s good = All-push IsGoodStood [] s (All-nil IsGoodStood) good
+own_good false s good = All-nil IsGoodStood
+
+end_good : (line column : ℕ) → All IsGoodStood (stood step.LineEnd line column ∷ [])
+end_good line column = All-push IsGoodStood [] (stood step.LineEnd line column) (All-nil IsGoodStood) tt
+
+break_good : (breaks : Bool) (line column : ℕ) → All IsGoodStood (stood step.LineEnd line column ∷ break_if breaks line column)
+break_good true line column = All-push IsGoodStood (stood step.LineEnd line column ∷ []) (stood step.Break line column) (end_good line column) tt
+break_good false line column = end_good line column
+
+clef_good : (named : Bool) (clef : Option Clef) (line column : ℕ) → All IsGoodStood (named_step named clef line column)
+clef_good true None line column = All-nil IsGoodStood
+clef_good true (Some clef) line column = All-push IsGoodStood [] (stood (step.Clef clef) line column) (All-nil IsGoodStood) tt
+clef_good false clef line column = All-nil IsGoodStood
+
+item_steps_good : (id now : List ℕ) (i : Item) → IsGoodItem i → All IsGoodStood (steps_in id now i)
+item_steps_good id now (item.Step s) good = own_good (bytes_eq id now) s good
+item_steps_good id now (item.LineEnd joined breaks line column) good = break_good (breaks && bytes_eq id now) line column
+item_steps_good id now (item.Voice def line column) good = clef_good (bytes_eq id def.id) def.clef line column
+item_steps_good id now (item.Words text line) good = All-nil IsGoodStood
+
+pub steps_good : (id now : List ℕ) (items : List Item) → All IsGoodItem items → All IsGoodStood (steps_from id now items)
+steps_good id now [] good = All-nil IsGoodStood
+steps_good id now (i ∷ items) good =
+    All-append IsGoodStood (steps_in id now i) (steps_from id (voice_next i now) items) (item_steps_good id now i (All-head IsGoodItem i items good)) (steps_good id (voice_next i now) items (All-tail IsGoodItem i items good))
+
+pub steps_whole : (id unnamed now : List ℕ) (items : List Item) (i : ℕ) (steps : List Stood) → length items ≤ i → steps ++ steps_from id now (drop i items) ≡ steps_from id unnamed items → steps ≡ steps_from id unnamed items
+steps_whole id unnamed now items i steps past so_far =
+    sym (append-nil steps) ∙ ap (λ is. steps ++ steps_from id now is) (sym (drop_of_length-le items past)) ∙ so_far

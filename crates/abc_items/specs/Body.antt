@@ -15,15 +15,15 @@ use Rattle.abc_lines.specs.declared.kind.LineKind.TheVariants as kinds
 use Rattle.abc_lines.specs.Kinds.{kind_of}
 use Rattle.abc_pieces.specs.declared.token.Token.{Token}
 use Rattle.abc_pieces.specs.declared.token.Token.TheVariants as token
-use Rattle.abc_pieces.specs.declared.token.Len.{Len}
+use Rattle.abc_notes.specs.declared.part.Len.{Len}
 use Rattle.abc_tokens.specs.declared.token.Placed.{Placed}
 use Rattle.abc_tokens.specs.Tokens.{FrontOf}
 use Rattle.abc_fields.specs.declared.directive.Breaks.{Breaks}
 use Rattle.abc_fields.specs.declared.field.Field.{Field}
 use Rattle.abc_fields.specs.declared.field.Field.TheVariants as fields
-use Rattle.abc_fields.specs.declared.header.Header.{Header}
+use Rattle.abc_header.specs.declared.header.Header.{Header}
 use Rattle.abc_fields.specs.Fields.{field_of, named_field}
-use Rattle.abc_fields.specs.Voicing.{with_id}
+use Rattle.abc_header.specs.Voicing.{with_id}
 use Rattle.abc_steps.specs.declared.step.Sound.{Sound}
 use Rattle.abc_steps.specs.declared.step.Step.{Step}
 use Rattle.abc_steps.specs.declared.step.Step.TheVariants as step

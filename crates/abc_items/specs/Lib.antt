@@ -1,3 +1,4 @@
 pub mod Body
 pub mod Voices
 pub mod Reading
+pub mod Good

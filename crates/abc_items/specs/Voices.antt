@@ -6,9 +6,9 @@ use Rattle.mus_units.specs.declared.pitch.Clef.{Clef}
 use Rattle.mus_units.specs.declared.note.Wish.{Wish}
 use Rattle.mus_units.specs.declared.note.Wish.TheVariants as wishes
 use Rattle.abc_fields.specs.declared.voice.VoiceDef.{VoiceDef}
-use Rattle.abc_fields.specs.declared.header.Header.{Header}
+use Rattle.abc_header.specs.declared.header.Header.{Header}
 use Rattle.abc_fields.specs.Last.{last_of}
-use Rattle.abc_fields.specs.Voicing.{with_id}
+use Rattle.abc_header.specs.Voicing.{with_id}
 use Rattle.abc_steps.specs.declared.step.Step.{Step}
 use Rattle.abc_steps.specs.declared.step.Step.TheVariants as step
 use Rattle.abc_steps.specs.declared.step.Stood.{Stood}

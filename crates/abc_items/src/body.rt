@@ -1,16 +1,19 @@
-ghost use Rattle.std.specs.Prelude.{◌≡◌, ◌≤◌, ◌^◌, ◌∷◌, [], nat_lt, length, flat_map, OnOk, IfOk, IfErr};
+ghost use Rattle.std.specs.Prelude.{◌≡◌, ◌≤◌, ◌^◌, ◌∷◌, [], All, nat_lt, length, flat_map, OnOk, IfOk, IfErr, IfSome};
+ghost use Rattle.abc_tokens.specs.Good.{AreGoodTokens, IsGoodToken};
+ghost use Rattle.abc_items.specs.Good.{IsGoodItem};
 ghost use Rattle.abc_lines.specs.Good.{IsGoodLine, size_of};
 ghost use Rattle.abc_lines.specs.declared.kind.LineKind.{LineKind};
 ghost use Rattle.abc_lines.specs.Kinds.{kind_of};
 ghost use Rattle.abc_fields.specs.Fields.{field_of};
-ghost use Rattle.abc_fields.specs.Voicing.{with_id};
+ghost use Rattle.abc_header.specs.Voicing.{with_id};
 ghost use Rattle.abc_items.specs.Voices.{declared_ids};
 ghost use Rattle.abc_items.specs.Body.{gives, placed_given, field_given, is_joined, end_item, end_given, item_judged, MusicGives, LineGives, BodyGives, IsBody, IsBodyError};
 ghost use Rattle.abc_items.specs.Reading.{maybe_given, Reads, Stops, ReadsSome, StopsBy, LinesStop, judged_as, past_fault};
 
 use crate::token::{field_item, placed_item};
 use crate::voices::{declared_ids, is_mentioned, mention_item};
-use abc_fields::{Breaks, Header, read_field};
+use abc_fields::{Breaks, read_field};
+use abc_header::Header;
 use abc_lines::{Fault, FaultKind, Line, LineKind, TuneError, kind_of};
 use abc_steps::Item;
 use abc_tokens::{Placed, read_front};
@@ -29,6 +32,7 @@ pub struct Body {
 pub fn read_body(alloc: Global, header: &Header, lines: &[Line]) -> Result<Row<Item>, TuneError>
     requires { size_of lines.now ≤ 2 ^ 30 }
     ensures items { IfOk result (λ items. IsBody header.now lines.now items) }
+    ensures good { IfOk result (λ items. All IsGoodItem items) }
     ensures fault { IfErr result (λ e. IsBodyError header.now lines.now e) }
 {
     let mut body = Body {
@@ -47,9 +51,11 @@ fn read_lines(
     lines: &[Line],
     body: &mut Body,
 ) -> Result<(), TuneError>
-    requires { size_of lines.now ≤ 2 ^ 30 }
+    requires lines { size_of lines.now ≤ 2 ^ 30 }
+    requires before { All IsGoodItem body.old.items }
     ensures reads { OnOk result (ReadsSome (BodyGives breaks lines.now) body.old body.new) }
     ensures stops { IfErr result (λ e. LinesStop breaks lines.now body.old e) }
+    ensures good { OnOk result (All IsGoodItem body.new.items) }
 {
     for line in lines {
         match read_line(alloc, breaks, line, body) {
@@ -62,9 +68,11 @@ fn read_lines(
 
 /// Adds what a line gives, up to its first fault.
 fn read_line(alloc: Global, breaks: Breaks, line: &Line, body: &mut Body) -> Result<(), TuneError>
-    requires { IsGoodLine line.now }
+    requires line { IsGoodLine line.now }
+    requires before { All IsGoodItem body.old.items }
     ensures reads { OnOk result (ReadsSome (LineGives breaks line.now) body.old body.new) }
     ensures stops { IfErr result (λ e. StopsBy (LineGives breaks line.now) body.old e) }
+    ensures good { OnOk result (All IsGoodItem body.new.items) }
 {
     match kind_of(line) {
         LineKind::Music => read_music_line(alloc, breaks, line, body),
@@ -75,8 +83,10 @@ fn read_line(alloc: Global, breaks: Breaks, line: &Line, body: &mut Body) -> Res
 
 /// Adds what a field or a directive says.
 fn read_field_line(alloc: Global, line: &Line, body: &mut Body) -> Result<(), TuneError>
+    requires before { All IsGoodItem body.old.items }
     ensures reads { OnOk result (Reads body.old (field_given (field_of line.now.text) line.now.number 1) body.new) }
     ensures stops { IfErr result (λ e. Stops body.old (field_given (field_of line.now.text) line.now.number 1) e) }
+    ensures good { OnOk result (All IsGoodItem body.new.items) }
 {
     match read_field(alloc, line) {
         Ok(field) => put_found(alloc, body, field_item(field, line.number, 1)),
@@ -91,9 +101,11 @@ fn read_music_line(
     line: &Line,
     body: &mut Body,
 ) -> Result<(), TuneError>
-    requires { IsGoodLine line.now }
+    requires line { IsGoodLine line.now }
+    requires before { All IsGoodItem body.old.items }
     ensures reads { OnOk result (ReadsSome (MusicGives breaks line.now) body.old body.new) }
     ensures stops { IfErr result (λ e. StopsBy (MusicGives breaks line.now) body.old e) }
+    ensures good { OnOk result (All IsGoodItem body.new.items) }
 {
     let front = read_front(alloc, line, breaks.bang)?;
     match put_tokens(alloc, breaks, line, front.tokens, body) {
@@ -112,8 +124,11 @@ fn put_tokens(
     tokens: Row<Placed>,
     body: &mut Body,
 ) -> Result<(), TuneError>
+    requires tokens { AreGoodTokens tokens }
+    requires before { All IsGoodItem body.old.items }
     ensures reads { OnOk result (Reads body.old (flat_map (placed_given breaks line.now) tokens) body.new) }
     ensures stops { IfErr result (λ e. Stops body.old (flat_map (placed_given breaks line.now) tokens) e) }
+    ensures good { OnOk result (All IsGoodItem body.new.items) }
 {
     for placed in tokens.items {
         match put_token(alloc, breaks, line, placed, body) {
@@ -131,8 +146,11 @@ fn put_token(
     placed: Placed,
     body: &mut Body,
 ) -> Result<(), TuneError>
+    requires token { IsGoodToken placed.token }
+    requires before { All IsGoodItem body.old.items }
     ensures reads { OnOk result (Reads body.old (placed_given breaks line.now placed) body.new) }
     ensures stops { IfErr result (λ e. Stops body.old (placed_given breaks line.now placed) e) }
+    ensures good { OnOk result (All IsGoodItem body.new.items) }
 {
     match placed_item(alloc, breaks, line, placed) {
         Ok(found) => put_found(alloc, body, found),
@@ -168,9 +186,11 @@ fn put_end(
     fault: Option<Fault>,
     body: &mut Body,
 ) -> Result<(), TuneError>
-    requires { IsGoodLine line.now }
+    requires line { IsGoodLine line.now }
+    requires before { All IsGoodItem body.old.items }
     ensures reads { OnOk result (Reads body.old (end_given breaks line.now fault) body.new) }
     ensures stops { IfErr result (λ e. Stops body.old (end_given breaks line.now fault) e) }
+    ensures good { OnOk result (All IsGoodItem body.new.items) }
 {
     match fault {
         Some(fault) => Err(TuneError::Fault(fault)),
@@ -179,8 +199,11 @@ fn put_end(
 }
 
 fn put_found(alloc: Global, body: &mut Body, found: Option<Item>) -> Result<(), TuneError>
+    requires found { IfSome found IsGoodItem }
+    requires before { All IsGoodItem body.old.items }
     ensures reads { OnOk result (Reads body.old (maybe_given found) body.new) }
     ensures stops { IfErr result (λ e. Stops body.old (maybe_given found) e) }
+    ensures good { OnOk result (All IsGoodItem body.new.items) }
 {
     match found {
         Some(item) => put_item(alloc, body, item),
@@ -190,8 +213,11 @@ fn put_found(alloc: Global, body: &mut Body, found: Option<Item>) -> Result<(), 
 
 /// Adds an item, or answers that it mentions a seventeenth voice.
 fn put_item(alloc: Global, body: &mut Body, item: Item) -> Result<(), TuneError>
+    requires item { IsGoodItem item }
+    requires before { All IsGoodItem body.old.items }
     ensures reads { OnOk result (Reads body.old (gives item ∷ []) body.new) }
     ensures stops { IfErr result (λ e. Stops body.old (gives item ∷ []) e) }
+    ensures good { OnOk result (All IsGoodItem body.new.items) }
 {
     match voice_fault(body.ids.as_slice(), &item) {
         Some(fault) => Err(TuneError::Fault(fault)),

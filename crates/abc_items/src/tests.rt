@@ -3,7 +3,7 @@ ghost use Rattle.abc_lines.specs.Good.{size_of};
 
 use crate::body::read_body;
 use crate::voices::{steps_of, unnamed_of, voices_of};
-use abc_fields::{Header, read_defaults, read_header};
+use abc_header::{Header, read_defaults, read_header};
 use abc_lines::{FaultKind, Line, TuneError, TuneText, cut_book};
 use abc_steps::{Item, Step, Stood};
 use mus_units::{Clef, Row, Wish};

@@ -1,6 +1,10 @@
 //! What a field and a token of a music line give to the body.
 
-ghost use Rattle.std.specs.Prelude.{◌≡◌, true, ◌*◌, ◌-◌, ◌∷◌, [], map, get_or, IfOk, IfErr, Ok, Err};
+ghost use Rattle.std.specs.Prelude.{◌≡◌, ◌≤◌, ◌^◌, true, ◌*◌, ◌-◌, ◌∷◌, [], map, get_or, IfOk, IfErr, IfSome, Ok, Err};
+ghost use Rattle.abc_tokens.specs.Good.{AreGoodHeads, IsGoodLen, IsGoodToken};
+ghost use Rattle.abc_steps.specs.Good.{IsGoodSound};
+ghost use Rattle.abc_fields.specs.Fields.{IsGoodField};
+ghost use Rattle.abc_items.specs.Good.{IsGoodItem};
 ghost use Rattle.abc_fields.specs.Fields.{named_field};
 ghost use Rattle.abc_items.specs.Body.{head_of, first_len, sound, is_on, cut_given, step_at, field_item, field_given, token_given, placed_given};
 ghost use Rattle.abc_items.specs.Reading.{maybe_given, IsGivenError};
@@ -21,7 +25,9 @@ fn stood(step: Step, line: u32, column: u32) -> Item
 /// What a field gives to a body: keys, meters and unit lengths are steps, a voice
 /// becomes current, words are kept, and every other field says nothing there.
 pub(crate) fn field_item(field: Field, line: u32, column: u32) -> Option<Item>
-    ensures { maybe_given result ≡ field_item field line column }
+    requires { IsGoodField field }
+    ensures good { IfSome result IsGoodItem }
+    ensures item { maybe_given result ≡ field_item field line column }
 {
     match field {
         Field::Key(text) => Some(stood(Step::Key(text), line, column)),
@@ -42,6 +48,7 @@ fn inline_item(
     column: u32,
 ) -> Result<Option<Item>, TuneError>
     ensures item { IfOk result (λ found. maybe_given found ≡ field_given (named_field letter text.now) line column) }
+    ensures good { IfOk result (λ found. IfSome found IsGoodItem) }
     ensures error { IfErr result (λ e. IsGivenError (field_given (named_field letter text.now) line column) e) }
 {
     match read_named(alloc, letter, text) {
@@ -64,7 +71,9 @@ fn heads_of(alloc: Global, heads: &[(Head, Len)]) -> Result<Row<Head>, Memory>
 
 /// The length of the first head of a chord.
 fn first_len(heads: &[(Head, Len)]) -> Len
-    ensures { result ≡ first_len heads.now }
+    requires { AreGoodHeads heads.now }
+    ensures value { result ≡ first_len heads.now }
+    ensures good { IsGoodLen result }
 {
     match heads.split_first() {
         Some((head, _)) => head.1,
@@ -73,14 +82,21 @@ fn first_len(heads: &[(Head, Len)]) -> Len
 }
 
 fn product(one: u32, other: u32) -> u64
-    ensures { result ≡ one * other }
+    requires one { (1 ≤ one) × (one ≤ 9999) }
+    requires other { (1 ≤ other) × (other ≤ 9999) }
+    ensures value { result ≡ one * other }
+    ensures some { 1 ≤ result }
+    ensures high { result ≤ 2 ^ 40 }
 {
     u64::from(one) * u64::from(other)
 }
 
 /// A chord has the length of its first note, times its own.
 fn chord(alloc: Global, heads: &[(Head, Len)], decos: Row<Deco>, len: Len) -> Result<Sound, Memory>
-    ensures { IfOk result (λ found. found ≡ record { heads = map head_of heads.now; seen = true; decos = decos; num = (first_len heads.now).num * len.num; den = (first_len heads.now).den * len.den }) }
+    requires heads { AreGoodHeads heads.now }
+    requires len { IsGoodLen len }
+    ensures good { IfOk result IsGoodSound }
+    ensures value { IfOk result (λ found. found ≡ record { heads = map head_of heads.now; seen = true; decos = decos; num = (first_len heads.now).num * len.num; den = (first_len heads.now).den * len.den }) }
 {
     let first = first_len(heads);
     Ok(Sound {
@@ -93,7 +109,9 @@ fn chord(alloc: Global, heads: &[(Head, Len)], decos: Row<Deco>, len: Len) -> Re
 }
 
 fn note(alloc: Global, head: Head, len: Len) -> Result<Sound, Memory>
-    ensures { IfOk result (λ found. found ≡ sound (head ∷ []) true len.num len.den) }
+    requires { IsGoodLen len }
+    ensures good { IfOk result IsGoodSound }
+    ensures value { IfOk result (λ found. found ≡ sound (head ∷ []) true len.num len.den) }
 {
     Ok(Sound {
         heads: Row::from_slice(alloc, &[head])?,
@@ -105,7 +123,9 @@ fn note(alloc: Global, head: Head, len: Len) -> Result<Sound, Memory>
 }
 
 fn rest(alloc: Global, seen: bool, len: Len) -> Sound
-    ensures { result ≡ sound [] seen len.num len.den }
+    requires { IsGoodLen len }
+    ensures good { IsGoodSound result }
+    ensures value { result ≡ sound [] seen len.num len.den }
 {
     Sound {
         heads: Row::new(alloc),
@@ -139,7 +159,8 @@ fn is_on(breaks: Breaks, byte: u8) -> bool
 }
 
 fn cut(on: bool, line: u32, column: u32) -> Option<Item>
-    ensures { maybe_given result ≡ cut_given on line column }
+    ensures good { IfSome result IsGoodItem }
+    ensures item { maybe_given result ≡ cut_given on line column }
 {
     if on {
         Some(stood(Step::Break, line, column))
@@ -157,7 +178,9 @@ fn token_item(
     column: u32,
     token: Token,
 ) -> Result<Option<Item>, TuneError>
+    requires { IsGoodToken token }
     ensures item { IfOk result (λ found. maybe_given found ≡ token_given breaks line.now column token) }
+    ensures good { IfOk result (λ found. IfSome found IsGoodItem) }
     ensures error { IfErr result (λ e. IsGivenError (token_given breaks line.now column token) e) }
 {
     let step = match token {
@@ -204,7 +227,9 @@ pub(crate) fn placed_item(
     line: &Line,
     placed: Placed,
 ) -> Result<Option<Item>, TuneError>
+    requires { IsGoodToken placed.token }
     ensures item { IfOk result (λ found. maybe_given found ≡ placed_given breaks line.now placed) }
+    ensures good { IfOk result (λ found. IfSome found IsGoodItem) }
     ensures error { IfErr result (λ e. IsGivenError (placed_given breaks line.now placed) e) }
 {
     token_item(alloc, breaks, line, placed.column, placed.token)

@@ -1,13 +1,16 @@
-ghost use Rattle.std.specs.Prelude.{◌≡◌, ◌++◌, ◌∷◌, ◌&&◌, ◌||◌, not, ◌==◌, IfOk, OnOk, map, find, fold, length, unwrap_or, true, false};
+ghost use Rattle.std.specs.Prelude.{◌≡◌, ◌++◌, ◌∷◌, ◌&&◌, ◌||◌, not, ◌==◌, IfOk, OnOk, map, find, fold, length, unwrap_or, true, false, All};
 ghost use Rattle.std.specs.List.{list_any};
+ghost use Rattle.abc_steps.specs.Good.{IsGoodStood};
+ghost use Rattle.abc_items.specs.Good.{IsGoodItem};
 ghost use Rattle.std.specs.Option.{option_copied};
 ghost use Rattle.std.specs.Str.{bytes_eq};
 ghost use Rattle.abc_fields.specs.Last.{last_of};
-ghost use Rattle.abc_fields.specs.Voicing.{with_id};
+ghost use Rattle.abc_header.specs.Voicing.{with_id};
 ghost use Rattle.abc_items.specs.Voices.{claims, voice_one, ids_by_step, ids_after, declared_ids, ids_of, unnamed_of, declared, decides, clef_in, still_alone, first_clef, clef_first, start_clef, wish_in, wish_if, declared_wish, start_stem, start_of, starts_of, stood, break_if, clef_step, one_if, named_step, steps_in, voice_next, steps_from};
 
 use crate::copies::{copy_stood, copy_text};
-use abc_fields::{Header, VoiceDef};
+use abc_fields::VoiceDef;
+use abc_header::Header;
 use abc_steps::{Item, Step, Stood};
 use mus_units::{Clef, Memory, Row, Text, Wish};
 use std::alloc::Global;
@@ -275,7 +278,8 @@ pub fn steps_of(
     unnamed: &[u8],
     items: &[Item],
 ) -> Result<Row<Stood>, Memory>
-    ensures { IfOk result (λ steps. steps ≡ steps_from id.now unnamed.now items.now) }
+    ensures value { IfOk result (λ steps. steps ≡ steps_from id.now unnamed.now items.now) }
+    ensures good { All IsGoodItem items.now → IfOk result (λ steps. All IsGoodStood steps) }
 {
     let mut steps = Row::new(alloc);
     let mut now = unnamed;

@@ -1,5 +1,7 @@
--- Good steps: the values of fields are good, and a note, a chord or a rest has a length.
+-- Good steps: the values of fields are good, a note, a chord or a rest has a length, a grace note has
+-- a head, and numbers are those that a music line can write.
 use Rattle.std.specs.Prelude.{⊤, ◌≤◌, ◌^◌}
+use Rattle.abc_tokens.specs.Good.{AreGoodGraces, IsGoodTuplet}
 use Rattle.mus_units.specs.Good.{IsGoodKey, IsGoodMeter, IsGoodUnit}
 use Rattle.abc_fields.specs.Keys.{IsGoodKeyText}
 use Rattle.abc_steps.specs.declared.step.Sound.{Sound}
@@ -16,6 +18,9 @@ pub record IsGoodSound (s : Sound) : Type 0 where
 
 abbrev pub IsGoodStep : Step → Type 0
 IsGoodStep (step.Sound s) = IsGoodSound s
+IsGoodStep (step.Measures seen count) = (1 ≤ count) × (count ≤ 999)
+IsGoodStep (step.Grace slash body) = AreGoodGraces body
+IsGoodStep (step.Tuplet p q r) = IsGoodTuplet p q r
 IsGoodStep (step.Key text) = IsGoodKeyText text
 IsGoodStep (step.Meter meter) = IsGoodMeter meter
 IsGoodStep (step.Unit unit) = IsGoodUnit unit

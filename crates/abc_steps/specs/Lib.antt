@@ -5,3 +5,4 @@ pub mod Kinds
 pub mod Lengths
 pub mod Looks
 pub mod Tuplets
+pub mod Places

@@ -7,11 +7,13 @@ pub mod force;
 pub mod kinds;
 pub mod lengths;
 pub mod looks;
+pub mod place;
 pub mod step;
 pub mod tuplets;
 
 pub use counts::{Counts, Nearest};
 pub use force::InForce;
+pub use place::Place;
 pub use step::{Item, Sound, Step, Stood};
 pub use tuplets::Taking;
 

@@ -1,5 +1,7 @@
 use Rattle.std.proofs.Common.{◌≡◌, ◌++◌, length, List}
-use Rattle.std.specs.Prelude.{flat_map}
+use Rattle.std.specs.Prelude.{All, flat_map}
+use Rattle.abc_tokens.specs.Good.{AreGoodTokens}
+use Rattle.abc_items.specs.Good.{IsGoodItem}
 use Rattle.std.specs.Vec.Iter.{into_iter_items, into_iter_len}
 use Rattle.abc_items.specs.Body.{Given, placed_given, judged, first_fault, items_in}
 use Rattle.abc_items.proofs.body.put_tokens.Given as goal
@@ -8,5 +10,7 @@ abbrev pub invariant-loop-placed : goal.invariant-loop-placed
 invariant-loop-placed l = record {
   faults : (h : List Given) → first_fault (judged l.fn.body.ids (flat_map (placed_given l.breaks l.line) (into_iter_items l.initial.placed-iterator) ++ h)) ≡ first_fault (judged l.body.ids (flat_map (placed_given l.breaks l.line) (into_iter_items l.placed-iterator) ++ h));
   items : (h : List Given) → l.fn.body.items ++ items_in (flat_map (placed_given l.breaks l.line) (into_iter_items l.initial.placed-iterator) ++ h) ≡ l.body.items ++ items_in (flat_map (placed_given l.breaks l.line) (into_iter_items l.placed-iterator) ++ h);
+  good : All IsGoodItem l.body.items;
+  tokens : AreGoodTokens (into_iter_items l.placed-iterator);
   count : into_iter_len l.placed-iterator ≡ length (into_iter_items l.placed-iterator);
 }

@@ -1,4 +1,6 @@
 use Rattle.std.proofs.Common.{◌≤◌, ◌^◌, take, drop}
+use Rattle.std.specs.Prelude.{All}
+use Rattle.abc_items.specs.Good.{IsGoodItem}
 use Rattle.abc_lines.specs.Good.{size_of}
 use Rattle.abc_items.specs.Body.{BodyGives}
 use Rattle.abc_items.specs.Reading.{ReadsSome}
@@ -7,5 +9,6 @@ use Rattle.abc_items.proofs.body.read_lines.Given as goal
 abbrev pub invariant-loop-line : goal.invariant-loop-line
 invariant-loop-line l = record {
   reads : ReadsSome (BodyGives l.breaks (take l.line-index l.lines)) l.fn.body l.body;
+  good : All IsGoodItem l.body.items;
   small : size_of (drop l.line-index l.lines) ≤ 2 ^ 30;
 }

@@ -1,0 +1,5 @@
+pub mod Crowds
+pub mod Firsts
+pub mod Orders
+pub mod Tuplets
+pub mod Walks

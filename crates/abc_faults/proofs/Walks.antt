@@ -1,0 +1,35 @@
+-- One step of a walk along the steps of a voice.
+use Rattle.std.proofs.Common.{◌≡◌, ◌∙◌, sym, ap, ℕ, ◌+◌, ◌<◌, ◌≤◌, [], ◌∷◌, ◌++◌, length, drop, take, get_or, reverse, Option}
+use Rattle.std.proofs.lemmas.List.{drop_more, drop_all, take_more, reverse-append}
+use Rattle.mus_units.specs.declared.pitch.Clef.{Clef}
+use Rattle.abc_lines.specs.declared.fault.Fault.{Fault}
+use Rattle.abc_steps.specs.declared.step.Stood.{Stood}
+use Rattle.abc_steps.specs.declared.force.InForce.{InForce}
+use Rattle.abc_steps.specs.Looks.{Steps}
+use Rattle.abc_faults.specs.First.{earlier, first_of}
+use Rattle.abc_faults.specs.Faults.{grace_faults_of, grace_faults, faults_of, faults_in}
+use Rattle.abc_steps.specs.Places.{place_at}
+use Rattle.abc_faults.proofs.Firsts.{earlier_none}
+
+at_front : (steps : Steps) (i : ℕ) (at : Stood) → i < length steps → at ≡ get_or steps i at → drop i steps ≡ at ∷ drop (i + 1) steps
+at_front steps i at less is = drop_more steps i at less ∙ ap (λ x. x ∷ drop (i + 1) steps) (sym is)
+
+pub nearest : (steps : Steps) (i : ℕ) (at : Stood) → i < length steps → at ≡ get_or steps i at → reverse (take (i + 1) steps) ≡ at ∷ reverse (take i steps)
+nearest steps i at less is =
+    ap reverse (take_more steps i at less) ∙ reverse-append (take i steps) (get_or steps i at ∷ []) ∙ ap (λ x. x ∷ reverse (take i steps)) (sym is)
+
+pub grace_parts : (clef : Clef) (waits : Steps) (i : ℕ) (s : Stood) → i < length waits → s ≡ get_or waits i s → grace_faults clef (drop i waits) ≡ grace_faults_of clef s s.step ++ grace_faults clef (drop (i + 1) waits)
+grace_parts clef waits i s less is = ap (grace_faults clef) (at_front waits i s less is)
+
+pub walk_parts : (first : InForce) (steps : Steps) (i : ℕ) (at : Stood) → i < length steps → at ≡ get_or steps i at
+    → faults_in first (reverse (take i steps)) (drop i steps)
+    ≡ faults_of (place_at first (reverse (take i steps))) (reverse (take i steps)) at (drop (i + 1) steps) at.step ++ faults_in first (reverse (take (i + 1) steps)) (drop (i + 1) steps)
+walk_parts first steps i at less is =
+    let before = reverse (take i steps) in
+    let behind = drop (i + 1) steps in
+    ap (faults_in first before) (at_front steps i at less is)
+    ∙ ap (λ z. faults_of (place_at first before) before at behind at.step ++ faults_in first z behind) (sym (nearest steps i at less is))
+
+pub walk_done : (first : InForce) (steps : Steps) (i : ℕ) (found all : Option Fault) → length steps ≤ i → earlier found (first_of (faults_in first (reverse (take i steps)) (drop i steps))) ≡ all → found ≡ all
+walk_done first steps i found all done h =
+    sym (earlier_none found) ∙ ap (λ z. earlier found (first_of (faults_in first (reverse (take i steps)) z))) (sym (drop_all i steps done)) ∙ h

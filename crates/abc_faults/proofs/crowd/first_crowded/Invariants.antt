@@ -1,0 +1,6 @@
+use Rattle.std.proofs.Common.{◌≡◌, ◌+◌, take}
+use Rattle.std.specs.Prelude.{sum_by}
+use Rattle.abc_faults.proofs.crowd.first_crowded.Given as goal
+
+abbrev pub invariant-loop-w : goal.invariant-loop-w
+invariant-loop-w l = l.left + sum_by (λ w. w.count) (take l.w-index l.weights) ≡ 50000

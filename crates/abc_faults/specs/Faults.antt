@@ -1,0 +1,106 @@
+-- All faults that hold in a voice, each at its place, by each step in turn with what stands before it,
+-- the nearest first, and what follows it.
+use Rattle.std.specs.Prelude.{ℕ, ◌+◌, ◌-◌, List, [], ◌∷◌, ◌++◌, Bool, true, false, not, ◌&&◌, ◌||◌, nat_le, nat_lt, int_lt, pos, negsuc, is_none, if◌then◌else◌, count_by, flat_map}
+use Rattle.std.specs.List.{before_first, list_any}
+use Rattle.mus_units.specs.declared.note.Head.{Head}
+use Rattle.mus_units.specs.declared.pitch.Clef.{Clef}
+use Rattle.mus_units.specs.declared.key.Meter.{Meter}
+use Rattle.mus_units.specs.declared.key.Meter.TheVariants as meters
+use Rattle.mus_units.specs.Pitch.{height_of}
+use Rattle.mus_units.specs.Parts.{parts_list}
+use Rattle.abc_lines.specs.declared.fault.FaultKind.{FaultKind}
+use Rattle.abc_lines.specs.declared.fault.FaultKind.TheVariants as kinds
+use Rattle.abc_lines.specs.declared.fault.Fault.{Fault}
+use Rattle.abc_notes.specs.declared.part.GraceChord.{GraceChord}
+use Rattle.abc_steps.specs.declared.step.Sound.{Sound}
+use Rattle.abc_steps.specs.declared.step.Step.{Step}
+use Rattle.abc_steps.specs.declared.step.Step.TheVariants as step
+use Rattle.abc_steps.specs.declared.step.Stood.{Stood}
+use Rattle.abc_steps.specs.declared.force.InForce.{InForce}
+use Rattle.abc_steps.specs.declared.tuplets.Taking.{Taking}
+use Rattle.abc_steps.specs.declared.tuplets.Taking.TheVariants as taking
+use Rattle.abc_steps.specs.Kinds.{is_sound}
+use Rattle.abc_steps.specs.Looks.{Steps, since_event, has_left, has_right}
+use Rattle.abc_steps.specs.Lengths.{written_length}
+use Rattle.abc_steps.specs.Tuplets.{or_default, fits}
+use Rattle.abc_steps.specs.declared.place.Place.{Place}
+use Rattle.abc_steps.specs.Places.{place_at, measure_of}
+
+-- a fault of that kind at a step
+abbrev pub fault_at : FaultKind → Stood → Fault
+fault_at kind at = record { kind = kind; line = at.line; column = at.column }
+
+abbrev pub fault_if : Bool → FaultKind → Stood → List Fault
+fault_if true kind at = fault_at kind at ∷ []
+fault_if false kind at = []
+
+-- Tuplets. Bars and whole measure rests end those that are open.
+unfoldable pub ends_tuplets : Step → Bool
+ends_tuplets (step.Bar bar) = true
+ends_tuplets (step.Measures seen count) = true
+ends_tuplets _ = false
+
+-- the events that a tuplet at the place could take
+unfoldable pub sounds_behind : Steps → ℕ
+sounds_behind behind = count_by (λ s. is_sound s.step) (before_first (λ s. ends_tuplets s.step) behind)
+
+-- one that doesn't fit would stand within two, or is of more events than the one around it still takes
+abbrev pub misfit_of : Taking → FaultKind
+misfit_of (taking.Two inner outer) = kinds.TooDeep
+misfit_of _ = kinds.TupletCrosses
+
+-- one that fits is short where the measure ends before it has its events
+abbrev pub tuplet_faults : ℕ → Taking → Stood → Steps → List Fault
+tuplet_faults r open_ones at behind =
+    if fits r open_ones then fault_if (nat_lt (sounds_behind behind) r) kinds.TupletShort at else fault_at (misfit_of open_ones) at ∷ []
+
+-- Heads. They stand from 14 steps below the bottom line of the staff to 22 above it.
+abbrev pub is_off : Clef → Head → Bool
+is_off clef head = let height = height_of head.pitch clef in int_lt height (negsuc 13) || int_lt (pos 22) height
+
+abbrev pub any_off : Clef → List Head → Bool
+any_off clef heads = list_any (is_off clef) heads
+
+abbrev pub any_grace_off : Clef → List GraceChord → Bool
+any_grace_off clef body = list_any (λ chord. any_off clef chord.heads) body
+
+-- the graces among what waits for an event, each group at its own place, in the clef of the event
+unfoldable pub grace_faults_of : Clef → Stood → Step → List Fault
+grace_faults_of clef at (step.Grace slash body) = fault_if (any_grace_off clef body) kinds.StepRange at
+grace_faults_of clef at _ = []
+
+abbrev pub grace_faults : Clef → Steps → List Fault
+grace_faults clef waits = flat_map (λ s. grace_faults_of clef s s.step) waits
+
+-- a measure past the two thousandth, counted from 0
+abbrev pub is_past : ℕ → Bool
+is_past measure = nat_le 2000 measure
+
+abbrev pub is_free : Meter → Bool
+is_free meters.Free = true
+is_free _ = false
+
+-- a note, a chord or a rest, without its graces
+unfoldable pub sound_faults : Place → Steps → Stood → Sound → Steps → List Fault
+sound_faults now before at s behind =
+    let length = written_length now.force.unit s before behind in
+    fault_if (is_none (parts_list length.num length.den)) kinds.Undrawable at
+    ++ fault_if (any_off now.force.clef s.heads) kinds.StepRange at
+    ++ fault_if (is_past (measure_of now)) kinds.TooManyMeasures at
+
+-- whole measure rests, without their graces: the last of them must stand in a good measure too
+abbrev pub rest_faults : Place → Stood → ℕ → List Fault
+rest_faults now at count =
+    fault_if (is_free now.force.meter) kinds.RestWithoutMeter at
+    ++ fault_if (is_past (measure_of now + (count - 1))) kinds.TooManyMeasures at
+
+unfoldable pub faults_of : Place → Steps → Stood → Steps → Step → List Fault
+faults_of now before at behind (step.Sound s) = sound_faults now before at s behind ++ grace_faults now.force.clef (since_event before)
+faults_of now before at behind (step.Measures seen count) = rest_faults now at count ++ grace_faults now.force.clef (since_event before)
+faults_of now before at behind (step.Tuplet p q r) = tuplet_faults (or_default p r) now.taking at behind
+faults_of now before at behind (step.Broken right dots) = fault_if (not (has_left before && has_right behind)) kinds.BrokenAlone at
+faults_of now before at behind _ = []
+
+abbrev pub faults_in : InForce → Steps → Steps → List Fault
+faults_in first before [] = []
+faults_in first before (at ∷ behind) = faults_of (place_at first before) before at behind at.step ++ faults_in first (at ∷ before) behind

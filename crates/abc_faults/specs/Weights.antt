@@ -1,0 +1,83 @@
+-- How many heads and rests stand at each place, and where there are too many of them so far.
+use Rattle.std.specs.Prelude.{◌≡◌, ⊤, false, ℕ, ◌*◌, List, [], ◌∷◌, ◌++◌, length, max, Bool, nat_lt, if◌then◌else◌, sum_by, flat_map, Option, Some, None}
+use Rattle.std.specs.List.{AllByRecursion}
+use Rattle.mus_units.specs.declared.value.Value.{Value}
+use Rattle.mus_units.specs.Parts.{parts_list}
+use Rattle.abc_lines.specs.declared.fault.FaultKind.TheVariants as kinds
+use Rattle.abc_lines.specs.declared.fault.Fault.{Fault}
+use Rattle.abc_notes.specs.declared.part.GraceChord.{GraceChord}
+use Rattle.abc_steps.specs.declared.step.Sound.{Sound}
+use Rattle.abc_steps.specs.declared.step.Step.{Step}
+use Rattle.abc_steps.specs.declared.step.Step.TheVariants as step
+use Rattle.abc_steps.specs.declared.step.Stood.{Stood}
+use Rattle.abc_steps.specs.declared.force.InForce.{InForce}
+use Rattle.abc_steps.specs.Looks.{Steps, since_event}
+use Rattle.abc_steps.specs.Lengths.{written_length}
+use Rattle.abc_steps.specs.declared.place.Place.{Place}
+use Rattle.abc_faults.specs.declared.weights.Weight.{Weight}
+use Rattle.abc_steps.specs.Places.{place_at}
+use Rattle.abc_faults.specs.First.{then_below}
+
+abbrev pub weight_at : ℕ → Stood → Weight
+weight_at count at = record { line = at.line; column = at.column; count = count }
+
+-- a length without parts counts as one part
+abbrev pub count_parts : Option (List Value) → ℕ
+count_parts None = 1
+count_parts (Some values) = length values
+
+-- the heads of a note or a chord, or the one rest, times its parts
+unfoldable pub sound_count : Place → Steps → Sound → Steps → ℕ
+sound_count now before s behind =
+    let whole = written_length now.force.unit s before behind in
+    max 1 (length s.heads) * count_parts (parts_list whole.num whole.den)
+
+abbrev pub grace_count : List GraceChord → ℕ
+grace_count body = sum_by (λ chord. length chord.heads) body
+
+-- the groups of graces among what waits for an event, each at its own place
+unfoldable pub grace_weights_of : Stood → Step → List Weight
+grace_weights_of at (step.Grace slash body) = weight_at (grace_count body) at ∷ []
+grace_weights_of at _ = []
+
+abbrev pub grace_weights : Steps → List Weight
+grace_weights waits = flat_map (λ s. grace_weights_of s s.step) waits
+
+unfoldable pub weights_of : Place → Steps → Stood → Steps → Step → List Weight
+weights_of now before at behind (step.Sound s) = grace_weights (since_event before) ++ weight_at (sound_count now before s behind) at ∷ []
+weights_of now before at behind (step.Measures seen count) = grace_weights (since_event before) ++ weight_at count at ∷ []
+weights_of now before at behind _ = []
+
+-- every step of a voice in turn, with what stands before it, the nearest first, and what follows it
+abbrev pub weights_in : InForce → Steps → Steps → List Weight
+weights_in first before [] = []
+weights_in first before (at ∷ behind) = weights_of (place_at first before) before at behind at.step ++ weights_in first (at ∷ before) behind
+
+-- whether one stands before the other in the text, whatever their voices
+unfoldable pub stands_before : Weight → Weight → Bool
+stands_before v w = then_below v.line w.line (nat_lt v.column w.column)
+
+-- in the order of the text: none stands before one that is listed earlier
+abbrev pub IsBehind : Weight → Weight → Type 0
+IsBehind w v = stands_before v w ≡ false
+
+abbrev pub AreInOrder : List Weight → Type 0
+AreInOrder [] = ⊤
+AreInOrder (w ∷ ws) = AllByRecursion (IsBehind w) ws × AreInOrder ws
+
+-- what stands at places not behind that of a weight, itself included
+abbrev pub count_up_to : Weight → Weight → ℕ
+count_up_to w v = if stands_before w v then 0 else v.count
+
+abbrev pub crowd_up_to : List Weight → Weight → ℕ
+crowd_up_to weights w = sum_by (count_up_to w) weights
+
+-- at most 50,000 heads and rests stand in a tune
+abbrev pub crowd_fault : Weight → Fault
+crowd_fault w = record { kind = kinds.TooManyEvents; line = w.line; column = w.column }
+
+abbrev pub crowd_faults_at : List Weight → Weight → List Fault
+crowd_faults_at weights w = if nat_lt 50000 (crowd_up_to weights w) then crowd_fault w ∷ [] else []
+
+abbrev pub crowded : List Weight → List Fault
+crowded weights = flat_map (crowd_faults_at weights) weights

@@ -1,0 +1,57 @@
+ghost use Rattle.std.specs.Prelude.{◌≡◌, IfOk};
+ghost use Rattle.std.specs.List.Sorted.{IsPermutation};
+ghost use Rattle.abc_faults.specs.First.{first_of, IsFirst};
+ghost use Rattle.abc_faults.specs.Weights.{AreInOrder, crowded, crowd_fault};
+
+use crate::weights::Weight;
+use abc_lines::{Fault, FaultKind};
+use mus_units::{Memory, Row};
+use std::alloc::Global;
+
+/// How many heads and rests stand in a tune at most.
+const MOST: u128 = 50_000;
+
+fn crowd_fault(w: Weight) -> Fault
+    ensures { result ≡ crowd_fault w }
+{
+    Fault {
+        kind: FaultKind::TooManyEvents,
+        line: w.line,
+        column: w.column,
+    }
+}
+
+/// The first weight with which there are too many, of weights in the order of the text.
+fn first_crowded(weights: &[Weight]) -> Option<Fault>
+    requires { AreInOrder weights.now }
+    ensures { IsFirst (crowded weights.now) result }
+{
+    let mut left = MOST;
+    for w in weights {
+        if w.count > left {
+            return Some(crowd_fault(*w));
+        }
+        left -= w.count;
+    }
+    None
+}
+
+/// The weights in the order of the text.
+fn in_order(alloc: Global, weights: Row<Weight>) -> Result<Row<Weight>, Memory>
+    ensures order { IfOk result (λ r. AreInOrder r) }
+    ensures same { IfOk result (λ r. IsPermutation weights r) }
+{
+    let mut items = weights.items;
+    items.as_mut_slice().sort(alloc)?;
+    Ok(Row { items })
+}
+
+/// The first place of a tune where more than 50,000 heads and rests stand so far, of the weights
+/// of all its voices in any order. None exactly where there is none.
+pub fn crowding(alloc: Global, weights: Row<Weight>) -> Result<Option<Fault>, Memory>
+    ensures value { IfOk result (λ f. f ≡ first_of (crowded weights)) }
+    ensures first { IfOk result (λ f. IsFirst (crowded weights) f) }
+{
+    let weights = in_order(alloc, weights)?;
+    Ok(first_crowded(weights.as_slice()))
+}

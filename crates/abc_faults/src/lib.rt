@@ -1,0 +1,15 @@
+//! The faults that a voice has as a score, each at its place, and the first of them.
+#![tactic(auto)]
+
+pub mod crowd;
+pub mod first;
+pub mod voice;
+pub mod weights;
+
+pub use crowd::crowding;
+pub use first::earlier;
+pub use voice::fault_of_voice;
+pub use weights::{Weight, put_weights};
+
+#[cfg(test)]
+mod tests;

@@ -1,0 +1,254 @@
+ghost use Rattle.std.specs.Prelude.{◌≡◌, ◌≤◌, ◌^◌, [], length, reverse, nat_lt, is_none, IfOk};
+ghost use Rattle.std.specs.List.{All};
+ghost use Rattle.mus_units.specs.Parts.{parts_list};
+ghost use Rattle.abc_steps.specs.Lengths.{IsLength};
+ghost use Rattle.abc_steps.specs.Good.{IsGoodForce, IsGoodStood, IsGoodSound};
+ghost use Rattle.abc_faults.specs.First.{first_of, IsFirst};
+ghost use Rattle.abc_faults.specs.Faults.{fault_at, fault_if, ends_tuplets, sounds_behind, misfit_of, tuplet_faults, is_off, any_off, any_grace_off, grace_faults_of, grace_faults, is_past, is_free, sound_faults, rest_faults, faults_of, faults_in};
+
+use crate::first::earlier;
+use abc_lines::{Fault, FaultKind};
+use abc_steps::kinds::is_sound;
+use abc_steps::lengths::written_length;
+use abc_steps::looks::{has_left, has_right, since_event};
+use abc_steps::place::{Place, beginning, measure_of, step_over};
+use abc_steps::tuplets::{fits, or_default};
+use abc_steps::{InForce, Sound, Step, Stood, Taking};
+use abc_tokens::GraceChord;
+use mus_units::{Clef, Frac, Head, Memory, Meter, height, parts_of};
+use std::alloc::Global;
+
+fn fault_at(kind: FaultKind, at: &Stood) -> Fault
+    ensures { result ≡ fault_at kind at.now }
+{
+    Fault {
+        kind,
+        line: at.line,
+        column: at.column,
+    }
+}
+
+fn fault_if(holds: bool, kind: FaultKind, at: &Stood) -> Option<Fault>
+    ensures { result ≡ first_of (fault_if holds kind at.now) }
+{
+    if holds {
+        Some(fault_at(kind, at))
+    } else {
+        None
+    }
+}
+
+#[tactic(auto, unfolding(crate::specs::Faults::ends_tuplets))]
+fn ends_tuplets(s: &Step) -> bool
+    ensures { result ≡ ends_tuplets s.now }
+{
+    match s {
+        Step::Bar(_) => true,
+        Step::Measures { seen: _, count: _ } => true,
+        _ => false,
+    }
+}
+
+/// Whether fewer than `r` events with a length stand before the end of the measure.
+#[tactic(auto, unfolding(crate::specs::Faults::sounds_behind))]
+fn is_short(r: u8, behind: &[Stood]) -> bool
+    ensures { result ≡ nat_lt (sounds_behind behind.now) r }
+{
+    let mut left = r;
+    for s in behind {
+        if left == 0 || ends_tuplets(&s.step) {
+            break;
+        }
+        if is_sound(&s.step) {
+            left -= 1;
+        }
+    }
+    left > 0
+}
+
+fn misfit_of(taking: Taking) -> FaultKind
+    ensures { result ≡ misfit_of taking }
+{
+    match taking {
+        Taking::Two { inner: _, outer: _ } => FaultKind::TooDeep,
+        _ => FaultKind::TupletCrosses,
+    }
+}
+
+fn tuplet_fault(r: u8, taking: Taking, at: &Stood, behind: &[Stood]) -> Option<Fault>
+    ensures { result ≡ first_of (tuplet_faults r taking at.now behind.now) }
+{
+    if fits(r, taking) {
+        fault_if(is_short(r, behind), FaultKind::TupletShort, at)
+    } else {
+        Some(fault_at(misfit_of(taking), at))
+    }
+}
+
+/// Whether a head stands too far from the staff.
+fn is_off(clef: Clef, head: Head) -> bool
+    ensures { result ≡ is_off clef head }
+{
+    let height = height(head.pitch, clef);
+    height < -14 || 22 < height
+}
+
+fn any_off(clef: Clef, heads: &[Head]) -> bool
+    ensures { result ≡ any_off clef heads.now }
+{
+    heads.iter().any(|head| is_off(clef, *head))
+}
+
+fn any_grace_off(clef: Clef, body: &[GraceChord]) -> bool
+    ensures { result ≡ any_grace_off clef body.now }
+{
+    body.iter()
+        .any(|chord| any_off(clef, chord.heads.as_slice()))
+}
+
+#[tactic(auto, unfolding(crate::specs::Faults::grace_faults_of))]
+fn grace_fault_of(clef: Clef, at: &Stood) -> Option<Fault>
+    ensures { result ≡ first_of (grace_faults_of clef at.now at.now.step) }
+{
+    match &at.step {
+        Step::Grace { slash: _, body } => fault_if(
+            any_grace_off(clef, body.as_slice()),
+            FaultKind::StepRange,
+            at,
+        ),
+        _ => None,
+    }
+}
+
+/// The first fault of the graces that wait for an event, in the clef of the event.
+fn grace_fault(clef: Clef, waits: &[Stood]) -> Option<Fault>
+    ensures { result ≡ first_of (grace_faults clef waits.now) }
+{
+    let mut found = None;
+    for s in waits {
+        found = earlier(found, grace_fault_of(clef, s));
+    }
+    found
+}
+
+fn is_past(measure: u64) -> bool
+    ensures { result ≡ is_past measure }
+{
+    measure >= 2000
+}
+
+fn is_free(meter: Meter) -> bool
+    ensures { result ≡ is_free meter }
+{
+    match meter {
+        Meter::Free => true,
+        _ => false,
+    }
+}
+
+/// Whether a length has no parts.
+fn has_no_parts(alloc: Global, length: Frac) -> Result<bool, Memory>
+    requires { IsLength length }
+    ensures { IfOk result (λ b. b ≡ is_none (parts_list length.num length.den)) }
+{
+    Ok(parts_of(alloc, length.num, length.den)?.is_none())
+}
+
+/// The first fault of a note, a chord or a rest, without its graces.
+#[tactic(auto, using(crate::proofs::Firsts::first_append), unfolding(crate::specs::Faults::sound_faults))]
+fn sound_fault(
+    alloc: Global,
+    now: &Place,
+    before: &[Stood],
+    at: &Stood,
+    s: &Sound,
+    behind: &[Stood],
+) -> Result<Option<Fault>, Memory>
+    requires groups { now.now.counts.groups ≤ 2 ^ 30 }
+    requires further { now.now.counts.further ≤ 2 ^ 46 }
+    requires force { IsGoodForce now.now.force }
+    requires good { IsGoodSound s.now }
+    ensures { IfOk result (λ f. f ≡ first_of (sound_faults now.now (reverse before.now) at.now s.now behind.now)) }
+{
+    let length = written_length(now.force.unit, s, before, behind);
+    let undrawable = fault_if(has_no_parts(alloc, length)?, FaultKind::Undrawable, at);
+    let off = any_off(now.force.clef, s.heads.as_slice());
+    let found = earlier(undrawable, fault_if(off, FaultKind::StepRange, at));
+    let past = fault_if(is_past(measure_of(now)), FaultKind::TooManyMeasures, at);
+    Ok(earlier(found, past))
+}
+
+/// The first fault of whole measure rests, without their graces.
+#[tactic(auto, using(crate::proofs::Firsts::first_append))]
+fn rest_fault(now: &Place, at: &Stood, count: u16) -> Option<Fault>
+    requires groups { now.now.counts.groups ≤ 2 ^ 30 }
+    requires further { now.now.counts.further ≤ 2 ^ 46 }
+    ensures { result ≡ first_of (rest_faults now.now at.now count) }
+{
+    let free = fault_if(is_free(now.force.meter), FaultKind::RestWithoutMeter, at);
+    let last = measure_of(now) + u64::from(count.saturating_sub(1));
+    earlier(
+        free,
+        fault_if(is_past(last), FaultKind::TooManyMeasures, at),
+    )
+}
+
+/// The first fault of a step.
+#[tactic(auto, using(crate::proofs::Firsts::first_append), unfolding(crate::specs::Faults::faults_of))]
+fn step_fault(
+    alloc: Global,
+    now: &Place,
+    before: &[Stood],
+    at: &Stood,
+    behind: &[Stood],
+) -> Result<Option<Fault>, Memory>
+    requires groups { now.now.counts.groups ≤ 2 ^ 30 }
+    requires further { now.now.counts.further ≤ 2 ^ 46 }
+    requires force { IsGoodForce now.now.force }
+    requires good { IsGoodStood at.now }
+    ensures { IfOk result (λ f. f ≡ first_of (faults_of now.now (reverse before.now) at.now behind.now at.now.step)) }
+{
+    match &at.step {
+        Step::Sound(s) => {
+            let own = sound_fault(alloc, now, before, at, s, behind)?;
+            Ok(earlier(own, grace_fault(now.force.clef, since_event(before))))
+        }
+        Step::Measures { seen: _, count } => Ok(earlier(
+            rest_fault(now, at, *count),
+            grace_fault(now.force.clef, since_event(before)),
+        )),
+        Step::Tuplet { p, q: _, r } => Ok(tuplet_fault(or_default(*p, *r), now.taking, at, behind)),
+        Step::Broken { right: _, dots: _ } => {
+            let alone = !(has_left(before) && has_right(behind));
+            Ok(fault_if(alone, FaultKind::BrokenAlone, at))
+        }
+        _ => Ok(None),
+    }
+}
+
+/// The first fault of a voice that begins with `first`, of those that are seen in one voice alone:
+/// tuplets that are too deep, cross or are short, broken rhythms that lack a side, lengths without
+/// parts, heads too far from the staff, whole measure rests in free meter, and measures past the
+/// two thousandth. None exactly where it has none.
+pub fn fault_of_voice(
+    alloc: Global,
+    first: &InForce,
+    steps: &[Stood],
+) -> Result<Option<Fault>, Memory>
+    requires few { length steps.now ≤ 2 ^ 30 }
+    requires first { IsGoodForce first.now }
+    requires steps { All IsGoodStood steps.now }
+    ensures value { IfOk result (λ f. f ≡ first_of (faults_in first.now [] steps.now)) }
+    ensures first { IfOk result (λ f. IsFirst (faults_in first.now [] steps.now) f) }
+{
+    let mut found = None;
+    let mut now = beginning(alloc, first)?;
+    for i in 0..steps.len() {
+        let (before, _) = steps.split_at(i);
+        let (_, behind) = steps.split_at(i + 1);
+        let at = &steps[i];
+        found = earlier(found, step_fault(alloc, &now, before, at, behind)?);
+        step_over(alloc, &mut now, at)?;
+    }
+    Ok(found)
+}

@@ -1,0 +1,112 @@
+-- What a score without faults has: voices without verses that are too many, and at most 2000 measures.
+use Rattle.std.proofs.Common.{◌≡◌, ◌∙◌, refl, sym, ap, subst, ℕ, ◌+◌, ◌-◌, ◌≤◌, ◌<◌, List, [], ◌∷◌, ◌++◌, append-nil, append_assoc, Bool, true, false, cond, None, arith, map, reverse}
+use Rattle.std.proofs.lemmas.List.{reverse-append}
+use Rattle.std.proofs.lemmas.List.Elements.{All-nil, All-cons}
+use Rattle.std.specs.Prelude.{fold, max, flat_map, nat_le, is_none}
+use Rattle.std.specs.List.{All}
+use Rattle.abc_lines.specs.declared.fault.FaultKind.{FaultKind}
+use Rattle.abc_lines.specs.declared.fault.FaultKind.TheVariants as kinds
+use Rattle.abc_steps.specs.declared.step.Item.{Item}
+use Rattle.abc_steps.specs.declared.step.Sound.{Sound}
+use Rattle.abc_steps.specs.declared.step.Step.{Step}
+use Rattle.abc_steps.specs.declared.step.Step.TheVariants as step
+use Rattle.abc_steps.specs.declared.step.Stood.{Stood}
+use Rattle.abc_steps.specs.declared.force.InForce.{InForce}
+use Rattle.abc_steps.specs.Looks.{Steps, since_event}
+use Rattle.abc_steps.specs.Kinds.{is_event}
+use Rattle.abc_steps.specs.Counts.{further, measure_at, measures_begun}
+use Rattle.abc_steps.specs.Lengths.{written_length}
+use Rattle.mus_units.specs.Parts.{parts_list}
+use Rattle.abc_faults.specs.Faults.{any_off, fault_if, faults_of, faults_in, grace_faults, is_free, is_past, rest_faults, sound_faults}
+use Rattle.abc_faults.specs.Weights.{crowded}
+use Rattle.abc_steps.specs.Places.{place_at, measure_of}
+use Rattle.abc_words.specs.Verses.{verse_fault, verse_faults}
+use Rattle.abc_words.specs.Verses.{first_of as head_of}
+use Rattle.abc_score.specs.declared.voices.VoiceRead.{VoiceRead}
+use Rattle.abc_score.specs.Faults.{voice_faults, voice_weights, faults_of_voices}
+use Rattle.abc_score.specs.Score.{most_measures, own_measures}
+
+none_before : {X : Type 0} (xs ys : List X) → xs ++ ys ≡ [] → xs ≡ []
+none_before [] ys e = refl
+none_before (x ∷ xs) ys e = absurd cc
+
+none_behind : {X : Type 0} (xs ys : List X) → xs ++ ys ≡ [] → ys ≡ []
+none_behind [] ys e = e
+none_behind (x ∷ xs) ys e = absurd cc
+
+-- a test that gives no fault
+no_fault : (b : Bool) (kind : FaultKind) (at : Stood) → fault_if b kind at ≡ [] → b ≡ false
+no_fault true kind at e = absurd cc
+no_fault false kind at e = refl
+
+within : (measure : ℕ) → nat_le 2000 measure ≡ false → measure < 2000
+within measure e = grind (arith, e)
+
+sound_within : (first : InForce) (before behind : Steps) (at : Stood) (s : Sound) → sound_faults (place_at first before) before at s behind ≡ [] → measure_at before < 2000
+unfolding sound_faults
+sound_within first before behind at s e =
+    let now = place_at first before in
+    let length = written_length now.force.unit s before behind in
+    let undrawable = fault_if (is_none (parts_list length.num length.den)) kinds.Undrawable at in
+    let off = fault_if (any_off now.force.clef s.heads) kinds.StepRange at in
+    let past = fault_if (is_past (measure_of now)) kinds.TooManyMeasures at in
+    let e' : past ≡ [] = none_behind (undrawable ++ off) past e in
+    within (measure_at before) (no_fault (is_past (measure_of now)) kinds.TooManyMeasures at e')
+
+rest_within : (first : InForce) (before : Steps) (at : Stood) (count : ℕ) → rest_faults (place_at first before) at count ≡ [] → measure_at before + (count - 1) < 2000
+rest_within first before at count e =
+    let now = place_at first before in
+    let free = fault_if (is_free now.force.meter) kinds.RestWithoutMeter at in
+    let past = fault_if (is_past (measure_of now + (count - 1))) kinds.TooManyMeasures at in
+    let e' : past ≡ [] = none_behind free past e in
+    within (measure_at before + (count - 1)) (no_fault (is_past (measure_of now + (count - 1))) kinds.TooManyMeasures at e')
+
+-- one step more: an event without a fault stands in a good measure
+step_within : (first : InForce) (before behind : Steps) (at : Stood) (s : Step) → faults_of (place_at first before) before at behind s ≡ [] → measures_begun before ≤ 2000
+    → cond (is_event s) (measure_at before + further s + 1) (measures_begun before) ≤ 2000
+unfolding faults_of is_event further
+step_within first before behind at (step.Sound s) e few =
+    let now = place_at first before in
+    let less = sound_within first before behind at s (none_before (sound_faults now before at s behind) (grace_faults now.force.clef (since_event before)) e) in
+    omega (arith, less)
+step_within first before behind at (step.Measures seen count) e few =
+    let now = place_at first before in
+    let less = rest_within first before at count (none_before (rest_faults now at count) (grace_faults now.force.clef (since_event before)) e) in
+    omega (arith, less)
+step_within first before behind at _ e few = few
+
+walk_within : (first : InForce) (before behind : Steps) → faults_in first before behind ≡ [] → measures_begun before ≤ 2000 → measures_begun (reverse behind ++ before) ≤ 2000
+walk_within first before [] e few = few
+walk_within first before (at ∷ behind) e few =
+    let here = faults_of (place_at first before) before at behind at.step in
+    let later = faults_in first (at ∷ before) behind in
+    let more = walk_within first (at ∷ before) behind (none_behind here later e) (step_within first before behind at at.step (none_before here later e) few) in
+    let same : reverse behind ++ (at ∷ before) ≡ reverse (at ∷ behind) ++ before = sym (ap (λ z. z ++ before) (reverse-append (at ∷ []) behind) ∙ append_assoc (reverse behind) (at ∷ []) before) in
+    subst (λ (z : Steps). measures_begun z ≤ 2000) same more
+
+own_within : (v : VoiceRead) → faults_in v.first [] v.steps ≡ [] → own_measures v ≤ 2000
+own_within v e = subst (λ (z : Steps). measures_begun z ≤ 2000) (append-nil (reverse v.steps)) (walk_within v.first [] v.steps e (omega arith))
+
+most_within : (unnamed : List ℕ) (items : List Item) (voices : List VoiceRead) (most : ℕ) → flat_map (voice_faults unnamed items) voices ≡ [] → most ≤ 2000 → fold max most (map own_measures voices) ≤ 2000
+most_within unnamed items [] most e few = few
+most_within unnamed items (v ∷ voices) most e few =
+    let own = faults_in v.first [] v.steps in
+    let verses = verse_faults v.start.id unnamed items in
+    let others = flat_map (voice_faults unnamed items) voices in
+    let here : own_measures v ≤ 2000 = own_within v (none_before own verses (none_before (own ++ verses) others e)) in
+    most_within unnamed items voices (max most (own_measures v)) (none_behind (own ++ verses) others e) (omega (arith, here, few))
+
+pub few_measures : (unnamed : List ℕ) (items : List Item) (voices : List VoiceRead) → faults_of_voices unnamed items voices ≡ [] → most_measures voices ≤ 2000
+few_measures unnamed items voices e =
+    most_within unnamed items voices 0 (none_before (flat_map (voice_faults unnamed items) voices) (crowded (flat_map voice_weights voices)) e) (omega arith)
+
+pub clear_verses : (unnamed : List ℕ) (items : List Item) (voices : List VoiceRead) → faults_of_voices unnamed items voices ≡ [] → All (λ v. verse_fault v.start.id unnamed items ≡ None) voices
+clear_verses unnamed items voices e = each voices (none_before (flat_map (voice_faults unnamed items) voices) (crowded (flat_map voice_weights voices)) e) where
+  each : (voices : List VoiceRead) → flat_map (voice_faults unnamed items) voices ≡ [] → All (λ v. verse_fault v.start.id unnamed items ≡ None) voices
+  each [] e = All-nil (λ (v : VoiceRead). verse_fault v.start.id unnamed items ≡ None)
+  each (v ∷ voices) e =
+      let own = faults_in v.first [] v.steps in
+      let verses = verse_faults v.start.id unnamed items in
+      let others = flat_map (voice_faults unnamed items) voices in
+      let here : verse_fault v.start.id unnamed items ≡ None = ap head_of (none_behind own verses (none_before (own ++ verses) others e)) in
+      All-cons (λ (v : VoiceRead). verse_fault v.start.id unnamed items ≡ None) v voices here (each voices (none_behind (own ++ verses) others e))

@@ -1,0 +1,90 @@
+-- The bars that are forced among n measures rise, each behind the first measure and before the last bar.
+use Rattle.std.proofs.Common.{◌≡◌, refl, ℕ, ◌+◌, ◌≤◌, ◌<◌, List, [], ◌∷◌, ◌++◌, Bool, true, false, cond, reverse, arith}
+use Rattle.std.proofs.lemmas.Bool.Decides.{nat_tests}
+use Rattle.std.specs.Prelude.{⊤, ◌==◌, ◌||◌, ◌&&◌, nat_le, nat_lt}
+use Rattle.std.specs.List.{list_any}
+use Rattle.mus_score.specs.Walks.{RiseWithin}
+use Rattle.abc_steps.specs.declared.step.Step.{Step}
+use Rattle.abc_steps.specs.declared.step.Step.TheVariants as step
+use Rattle.abc_steps.specs.declared.step.Stood.{Stood}
+use Rattle.abc_steps.specs.declared.counts.Counts.{Counts}
+use Rattle.abc_steps.specs.Looks.{Steps}
+use Rattle.abc_steps.specs.Counts.{all_further, begins_group, counts_of, further, groups, measure_at, nearest_at}
+use Rattle.abc_events.specs.Bars.{forced_at, forced_bars, forced_behind, is_forced, is_near_bar, with_bar}
+use Rattle.abc_score.specs.declared.voices.VoiceRead.{VoiceRead}
+use Rattle.abc_score.specs.Score.{forced_of}
+
+-- bars that rise from behind one, before n and not past another
+abbrev Rises : ℕ → ℕ → ℕ → List ℕ → Type 0
+Rises from n top [] = ⊤
+Rises from n top (b ∷ bs) = (from < b) × (b < n) × (b ≤ top) × Rises b n top bs
+
+wider : (from n top higher : ℕ) (bs : List ℕ) → top ≤ higher → Rises from n top bs → Rises from n higher bs
+wider from n top higher [] less rise = tt
+wider from n top higher (b ∷ bs) less (above, below, within, rise) = (above, below, omega (arith, within, less), wider b n top higher bs less rise)
+
+within_n : (from n top : ℕ) (bs : List ℕ) → Rises from n top bs → RiseWithin from n bs
+within_n from n top [] rise = tt
+within_n from n top (b ∷ bs) (above, below, within, rise) = (above, below, within_n b n top bs rise)
+
+pub either_false : (a b : Bool) → (a || b) ≡ false → (a ≡ false) × (b ≡ false)
+either_false true b e = absurd cc
+either_false false b e = (refl, e)
+
+both_true : (a b : Bool) → (a && b) ≡ true → (a ≡ true) × (b ≡ true)
+both_true true b e = (refl, e)
+both_true false b e = absurd cc
+
+below_new : (b top bar : ℕ) → (b == bar) ≡ false → b ≤ top → top ≤ bar → b < bar
+below_new b top bar new within less = grind (arith, nat_tests)
+
+with_last : (from n top bar : ℕ) (bs : List ℕ) → list_any (λ b. b == bar) bs ≡ false → from < bar → bar < n → top ≤ bar → Rises from n top bs → Rises from n bar (bs ++ bar ∷ [])
+with_last from n top bar [] new above below less rise = (above, below, omega arith, tt)
+with_last from n top bar (b ∷ bs) new above below less (behind, before, within, rise) =
+    let parts = either_false (b == bar) (list_any (λ x. x == bar) bs) new in
+    (behind, before, omega (arith, within, less), with_last b n top bar bs parts.1 (below_new b top bar parts.0 within less) below less rise)
+
+with_bar_rises : (n top bar : ℕ) (bs : List ℕ) → 1 ≤ bar → bar < n → top ≤ bar → Rises 0 n top bs → Rises 0 n bar (with_bar bar bs)
+with_bar_rises n top bar bs some below less rise = by_test (list_any (λ b. b == bar) bs) refl where
+  by_test : (t : Bool) → list_any (λ b. b == bar) bs ≡ t → Rises 0 n bar (cond t bs (bs ++ bar ∷ []))
+  by_test true e = wider 0 n top bar bs less rise
+  by_test false e = with_last 0 n top bar bs e (omega arith) below less rise
+
+inside : (bar n : ℕ) → (nat_le 1 bar && nat_lt bar n) ≡ true → (1 ≤ bar) × (bar < n)
+inside bar n e =
+    let parts = both_true (nat_le 1 bar) (nat_lt bar n) e in
+    let low : nat_le 1 bar ≡ true = parts.0 in
+    let high : nat_lt bar n ≡ true = parts.1 in
+    (grind (arith, nat_tests, low), grind (arith, nat_tests, high))
+
+step_rises : (n : ℕ) (counts : Counts) (s : Step) (bs : List ℕ) → Rises 0 n (counts.groups + counts.further) bs → Rises 0 n (counts.groups + counts.further) (forced_behind n counts s bs)
+unfolding forced_behind
+step_rises n counts step.Break bs rise = by_test (is_forced n counts) refl where
+  by_test : (t : Bool) → is_forced n counts ≡ t → Rises 0 n (counts.groups + counts.further) (cond t (with_bar (counts.groups + counts.further) bs) bs)
+  by_test true e =
+      let bar = counts.groups + counts.further in
+      let parts = both_true (is_near_bar counts.nearest) (nat_le 1 bar && nat_lt bar n) e in
+      let held = inside bar n parts.1 in
+      with_bar_rises n bar bar bs held.0 held.1 (omega arith) rise
+  by_test false e = rise
+step_rises n counts _ bs rise = rise
+
+measure_grows : (s : Stood) (before : Steps) → measure_at before ≤ measure_at (s ∷ before)
+measure_grows s before = by_test (begins_group s.step (nearest_at before)) where
+  by_test : (t : Bool) → groups before + all_further before ≤ cond t (groups before + 1) (groups before) + (all_further before + further s.step)
+  by_test true = omega arith
+  by_test false = omega arith
+
+forced_rises : (n : ℕ) (before : Steps) → Rises 0 n (measure_at before) (forced_at n before)
+forced_rises n [] = tt
+forced_rises n (s ∷ before) =
+    wider 0 n (measure_at before) (measure_at (s ∷ before)) (forced_behind n (counts_of before) s.step (forced_at n before)) (measure_grows s before)
+    (step_rises n (counts_of before) s.step (forced_at n before) (forced_rises n before))
+
+bars_rise : (n : ℕ) (steps : Steps) → RiseWithin 0 n (forced_bars steps n)
+bars_rise n steps = within_n 0 n (measure_at (reverse steps)) (forced_bars steps n) (forced_rises n (reverse steps))
+
+pub forced_rise : (flow : Bool) (voices : List VoiceRead) (n : ℕ) → RiseWithin 0 n (forced_of flow voices n)
+forced_rise true voices n = tt
+forced_rise false [] n = tt
+forced_rise false (v ∷ voices) n = bars_rise n v.steps

@@ -1,0 +1,85 @@
+-- The frame of a score that is put together from voices without faults.
+use Rattle.std.proofs.Common.{◌≡◌, ◌≢◌, ◌∙◌, refl, sym, ℕ, suc, ◌≤◌, List, [], ◌∷◌, length, map, Bool, None, arith}
+use Rattle.std.proofs.lemmas.List.{length-map}
+use Rattle.std.proofs.lemmas.List.Elements.{All-nil, All-cons}
+use Rattle.std.proofs.lemmas.List.FromFn.{length-map-range_with_len}
+use Rattle.std.specs.List.{All, AllByRecursion}
+use Rattle.mus_score.specs.declared.score.Voice.{Voice}
+use Rattle.mus_score.specs.Walks.{Distinct}
+use Rattle.mus_score.proofs.Scores.{all_within_bars, distinct_pairs, rising_bars}
+use Rattle.abc_header.specs.declared.header.Header.{Header}
+use Rattle.abc_header.specs.Headers.{HasGoodValues}
+use Rattle.abc_steps.specs.declared.step.Item.{Item}
+use Rattle.abc_items.specs.Voices.{unnamed_of}
+use Rattle.abc_events.specs.Bars.{bar_of, bars_of}
+use Rattle.abc_events.specs.Leaves.{leaves_of}
+use Rattle.abc_events.specs.Measures.{measure_of}
+use Rattle.abc_events.specs.Signs.{signs}
+use Rattle.abc_words.specs.Rows.{row_count}
+use Rattle.abc_words.specs.Verses.{verse_fault, verses_of}
+use Rattle.abc_words.proofs.FaultLaws.{few_verses}
+use Rattle.abc_score.specs.declared.voices.VoiceRead.{VoiceRead}
+use Rattle.abc_score.specs.Voices.{AreApart, IsOther, read_ids}
+use Rattle.abc_score.specs.Framed.{IsFramed, IsFramedVoice}
+use Rattle.abc_score.specs.Score.{forced_of, most_measures, score_with, sung_words, voice_of, written_measures}
+use Rattle.abc_score.proofs.Forced.{forced_rise}
+
+-- a voice has as many measures as it is given
+length_written : (unnamed : List ℕ) (items : List Item) (n : ℕ) (v : VoiceRead) → length (written_measures unnamed items n v) ≡ n
+unfolding written_measures
+length_written unnamed items n v =
+    let all = signs v.first [] v.steps in
+    let leaves = leaves_of (sung_words v.start.id unnamed items all) all in
+    let bars = bars_of v.steps n in
+    length-map-range_with_len (measure_of leaves bars) 0 (length bars) ∙ length-map-range_with_len (bar_of v.steps) 0 n
+
+length_voice : (header : Header) (items : List Item) (n : ℕ) (v : VoiceRead) → length (voice_of header items n v).measures ≡ n
+unfolding voice_of
+length_voice header items n v = length_written (unnamed_of header) items n v
+
+id_voice : (header : Header) (items : List Item) (n : ℕ) (v : VoiceRead) → (voice_of header items n v).id ≡ v.start.id
+unfolding voice_of
+id_voice header items n v = refl
+
+lengths_agree : (header : Header) (items : List Item) (n : ℕ) (voices : List VoiceRead) → All (λ (v : Voice). length v.measures ≡ n) (map (voice_of header items n) voices)
+lengths_agree header items n [] = All-nil (λ (v : Voice). length v.measures ≡ n)
+lengths_agree header items n (v ∷ voices) = All-cons (λ (v : Voice). length v.measures ≡ n) (voice_of header items n v) (map (voice_of header items n) voices) (length_voice header items n v) (lengths_agree header items n voices)
+
+other_voices : (header : Header) (items : List Item) (n : ℕ) (v : VoiceRead) (voices : List VoiceRead) → IsOther v.start.id (read_ids voices) → AllByRecursion (λ (w : Voice). (voice_of header items n v).id ≢ w.id) (map (voice_of header items n) voices)
+other_voices header items n v [] others = tt
+other_voices header items n v (w ∷ voices) others =
+    ((λ e. others.0 (sym (id_voice header items n v) ∙ (e ∙ id_voice header items n w))), other_voices header items n v voices others.1)
+
+voices_apart : (header : Header) (items : List Item) (n : ℕ) (voices : List VoiceRead) → AreApart (read_ids voices) → Distinct (map (voice_of header items n) voices)
+voices_apart header items n [] apart = tt
+voices_apart header items n (v ∷ voices) apart = (other_voices header items n v voices apart.0, voices_apart header items n voices apart.1)
+
+voice_framed : (header : Header) (items : List Item) (n : ℕ) (v : VoiceRead) → HasGoodValues header → verse_fault v.start.id (unnamed_of header) items ≡ None → IsFramedVoice (voice_of header items n v)
+unfolding voice_of
+voice_framed header items n v good clear = record {
+  few_verses = few_verses (verses_of v.start.id (unnamed_of header) items) (row_count items) clear;
+  key = good.key;
+  meter = good.meter;
+}
+
+voices_framed : (header : Header) (items : List Item) (n : ℕ) (voices : List VoiceRead) → HasGoodValues header → All (λ v. verse_fault v.start.id (unnamed_of header) items ≡ None) voices → All IsFramedVoice (map (voice_of header items n) voices)
+voices_framed header items n [] good clear = All-nil IsFramedVoice
+voices_framed header items n (v ∷ voices) good clear =
+    All-cons IsFramedVoice (voice_of header items n v) (map (voice_of header items n) voices) (voice_framed header items n v good (clear 0 v (omega arith)))
+    (voices_framed header items n voices good (λ k d less. clear (suc k) d (omega arith)))
+
+pub framed : (header : Header) (items : List Item) (flow : Bool) (voices : List VoiceRead) → HasGoodValues header → All (λ v. verse_fault v.start.id (unnamed_of header) items ≡ None) voices
+    → length voices ≤ 16 → AreApart (read_ids voices) → most_measures voices ≤ 2000 → IsFramed (score_with header items flow voices)
+unfolding score_with
+framed header items flow voices good clear few apart within =
+    let n = most_measures voices in
+    let long = length-map voices (voice_of header items n) in
+    record {
+      few_voices = omega (arith, long, few);
+      few_measures = within;
+      voices = voices_framed header items n voices good clear;
+      measures = lengths_agree header items n voices;
+      ids = distinct_pairs (map (voice_of header items n) voices) (voices_apart header items n voices apart);
+      forced = all_within_bars n (forced_of flow voices n) (forced_rise flow voices n);
+      forced_rise = rising_bars n (forced_of flow voices n) (forced_rise flow voices n);
+    }

@@ -1,0 +1,16 @@
+use Rattle.std.proofs.Common.{List, subst, sym}
+use Rattle.std.specs.Prelude.{flat_map}
+use Rattle.abc_faults.specs.declared.weights.Weight.{Weight}
+use Rattle.abc_faults.specs.First.{IsFirst}
+use Rattle.abc_faults.specs.Weights.{crowded}
+use Rattle.abc_faults.proofs.Firsts.{first_is}
+use Rattle.abc_score.specs.Faults.{voice_faults, voice_weights}
+use Rattle.abc_score.proofs.faults.fault_of_score.Goals as goal
+
+pub returns : goal.returns
+returns c =
+    let own = flat_map (voice_faults c.args.unnamed.now c.args.items.now) c.args.voices.now in
+    let weights = flat_map voice_weights c.args.voices.now in
+    let of_own = subst (IsFirst own) (sym c.in_ok-own.ensures) (first_is own) in
+    let of_crowd = subst (λ (ws : List Weight). IsFirst (crowded ws) c.in_ok-crowd.crowd) c.in_ok-weights_of.ensures c.in_ok-crowd.ensures.first in
+    c.earlier.ensures.joined own (crowded weights) of_own of_crowd

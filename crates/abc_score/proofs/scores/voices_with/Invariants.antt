@@ -1,0 +1,17 @@
+use Rattle.std.proofs.Common.{◌≡◌, ◌++◌, map, length}
+use Rattle.std.specs.List.{All}
+use Rattle.std.specs.Prelude.{None}
+use Rattle.std.specs.Vec.Iter.{into_iter_items, into_iter_len}
+use Rattle.abc_items.specs.Voices.{unnamed_of}
+use Rattle.abc_words.specs.Verses.{verse_fault}
+use Rattle.abc_score.specs.Voices.{IsGoodRead}
+use Rattle.abc_score.specs.Score.{voice_of}
+use Rattle.abc_score.proofs.scores.voices_with.Given as goal
+
+abbrev pub invariant-loop-v : goal.invariant-loop-v
+invariant-loop-v l = record {
+  list : l.out ++ map (voice_of l.header l.items l.n) (into_iter_items l.v-iterator) ≡ map (voice_of l.header l.items l.n) (into_iter_items l.initial.v-iterator);
+  good : All IsGoodRead (into_iter_items l.v-iterator);
+  clear : All (λ v. verse_fault v.start.id (unnamed_of l.header) l.items ≡ None) (into_iter_items l.v-iterator);
+  count : into_iter_len l.v-iterator ≡ length (into_iter_items l.v-iterator);
+}

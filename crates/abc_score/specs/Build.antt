@@ -1,0 +1,41 @@
+-- What the building of a tune's score answers: the score of a body without fault, or the first
+-- fault, of the body and only then of the score.
+use Rattle.std.specs.Prelude.{◌≡◌, ◌⊎◌, ⊤, List, drop, Bool, Some, None}
+use Rattle.abc_lines.specs.declared.book.Line.{Line}
+use Rattle.abc_lines.specs.declared.book.TuneText.{TuneText}
+use Rattle.abc_lines.specs.declared.fault.Fault.{Fault}
+use Rattle.abc_lines.specs.declared.fault.TuneError.{TuneError}
+use Rattle.abc_lines.specs.declared.fault.TuneError.TheVariants as errors
+use Rattle.abc_header.specs.declared.header.Header.{Header}
+use Rattle.abc_steps.specs.declared.step.Item.{Item}
+use Rattle.abc_items.specs.Body.{HasFault, IsBody}
+use Rattle.abc_faults.specs.First.{IsFirst}
+use Rattle.mus_score.specs.declared.score.Score.{Score}
+use Rattle.abc_score.specs.Faults.{score_faults}
+use Rattle.abc_score.specs.Score.{score_of}
+
+-- the lines behind the header
+abbrev pub body_lines : Header → TuneText → List Line
+body_lines header tune = drop header.body tune.lines
+
+-- the score of a body that has no fault, and whose score has none
+pub record IsScoreOf (header : Header) (tune : TuneText) (flow : Bool) (score : Score) : Type 0 where
+  pub items : List Item
+  pub body : IsBody header (body_lines header tune) items
+  pub clear : IsFirst (score_faults header items) None
+  pub value : score ≡ score_of header items flow
+
+-- the first fault of the score of a body that has none itself
+pub record HasScoreFault (header : Header) (tune : TuneText) (fault : Fault) : Type 0 where
+  pub items : List Item
+  pub body : IsBody header (body_lines header tune) items
+  pub first : IsFirst (score_faults header items) (Some fault)
+
+abbrev pub IsFaultOf : Header → TuneText → TuneError → Type 0
+IsFaultOf header tune errors.Memory = ⊤
+IsFaultOf header tune (errors.Fault fault) = HasFault header (body_lines header tune) fault ⊎ HasScoreFault header tune fault
+
+-- the same of a body that is read
+abbrev pub IsErrorIn : Header → List Item → TuneError → Type 0
+IsErrorIn header items errors.Memory = ⊤
+IsErrorIn header items (errors.Fault fault) = IsFirst (score_faults header items) (Some fault)

@@ -1,0 +1,22 @@
+-- The frame of a score: what a good score asks of all but the music of its voices.
+use Rattle.std.specs.Prelude.{◌≡◌, ◌≢◌, ◌≤◌, ◌<◌, length}
+use Rattle.std.specs.List.{All, AllPairs}
+use Rattle.std.specs.List.Sorted.{IsStrictlyIncreasing}
+use Rattle.mus_units.specs.Good.{IsGoodKey, IsGoodMeter}
+use Rattle.mus_score.specs.declared.score.Voice.{Voice}
+use Rattle.mus_score.specs.declared.score.Score.{Score}
+
+-- of a voice: at most 8 verses, and a good key and a good meter
+pub record IsFramedVoice (v : Voice) : Type 0 where
+  pub few_verses : v.verses ≤ 8
+  pub key : IsGoodKey v.key
+  pub meter : IsGoodMeter v.meter
+
+pub record IsFramed (s : Score) : Type 0 where
+  pub few_voices : length s.voices ≤ 16
+  pub few_measures : s.measures ≤ 2000
+  pub voices : All IsFramedVoice s.voices
+  pub measures : All (λ v. length v.measures ≡ s.measures) s.voices
+  pub ids : AllPairs (λ v w. v.id ≢ w.id) s.voices
+  pub forced : All (λ b. (1 ≤ b) × (b < s.measures)) s.forced
+  pub forced_rise : IsStrictlyIncreasing s.forced

@@ -1,0 +1,6 @@
+pub mod Build
+pub mod Faults
+pub mod Framed
+pub mod Order
+pub mod Score
+pub mod Voices

@@ -1,0 +1,78 @@
+ghost use Rattle.std.specs.Prelude.{◌≡◌, ◌≤◌, None, length, drop, IfOk, IfErr};
+ghost use Rattle.std.specs.List.{All};
+ghost use Rattle.abc_lines.specs.declared.fault.TuneError.TheVariants as errors;
+ghost use Rattle.abc_lines.specs.Good.{IsGoodTune};
+ghost use Rattle.abc_header.specs.Headers.{HasGoodValues, IsGoodHeader};
+ghost use Rattle.abc_items.specs.Good.{IsGoodItem};
+ghost use Rattle.abc_faults.specs.First.{IsFirst};
+ghost use Rattle.mus_score.specs.GoodScore.{IsGoodScore};
+ghost use Rattle.abc_score.specs.Faults.{score_faults};
+ghost use Rattle.abc_score.specs.Score.{score_of};
+ghost use Rattle.abc_items.specs.Voices.{ids_of};
+ghost use Rattle.abc_score.specs.Order.{DoWordsRise};
+ghost use Rattle.abc_score.specs.Build.{IsErrorIn, IsFaultOf, IsScoreOf};
+
+use crate::faults::fault_of_score;
+use crate::scores::score_with;
+use crate::voices::read_voices;
+use abc_header::Header;
+use abc_items::{read_body, unnamed_of};
+use abc_lines::{TuneError, TuneText};
+use abc_steps::Item;
+use mus_score::{Score, is_good_score};
+use std::alloc::Global;
+
+/// The same score. The score of a body without fault is good. `score_with` proves
+/// the frame of that, but that the music of its voices is good is not proved, so
+/// this check stands in its place; where it failed, the answer would be want of
+/// memory.
+fn checked(alloc: Global, score: Score) -> Result<Score, TuneError>
+    ensures same { IfOk result (λ s. s ≡ score) }
+    ensures good { IfOk result IsGoodScore }
+    ensures memory { IfErr result (λ e. e ≡ errors.Memory) }
+{
+    if !is_good_score(alloc, &score)? {
+        return Err(TuneError::Memory);
+    }
+    Ok(score)
+}
+
+/// The score of a body that is read, or its first fault.
+fn score_in(alloc: Global, header: &Header, items: &[Item], flow: bool) -> Result<Score, TuneError>
+    requires header { HasGoodValues header.now }
+    requires items { All IsGoodItem items.now }
+    requires rise { DoWordsRise items.now }
+    requires few { length (ids_of header.now items.now) ≤ 16 }
+    ensures clear { IfOk result (λ score. IsFirst (score_faults header.now items.now) None) }
+    ensures score { IfOk result (λ score. score ≡ score_of header.now items.now flow) }
+    ensures fault { IfErr result (λ e. IsErrorIn header.now items.now e) }
+    ensures good { IfOk result IsGoodScore }
+{
+    let voices = read_voices(alloc, header, items)?;
+    let fault = fault_of_score(alloc, unnamed_of(header), items, voices.as_slice())?;
+    match fault {
+        Some(fault) => Err(TuneError::Fault(fault)),
+        None => checked(alloc, score_with(alloc, header, items, flow, voices)?),
+    }
+}
+
+/// The score of a tune under its header, or the first fault of its body, and where
+/// the body has none, of its score. With `flow` no bar is forced.
+pub fn build(
+    alloc: Global,
+    header: &Header,
+    tune: &TuneText,
+    flow: bool,
+) -> Result<Score, TuneError>
+    requires tune { IsGoodTune tune.now }
+    requires header { IsGoodHeader tune.now header.now }
+    ensures score { IfOk result (λ score. IsScoreOf header.now tune.now flow score) }
+    ensures fault { IfErr result (λ e. IsFaultOf header.now tune.now e) }
+    ensures good { IfOk result IsGoodScore }
+{
+    let (_, lines) = tune.lines.as_slice().split_at(header.body as usize);
+    match read_body(alloc, header, lines) {
+        Ok(items) => score_in(alloc, header, items.as_slice(), flow),
+        Err(e) => Err(e),
+    }
+}

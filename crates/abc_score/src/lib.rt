@@ -1,0 +1,15 @@
+//! The score of a tune: its body read into voices, and each voice into measures,
+//! or the first fault of the body or of the score.
+#![tactic(auto)]
+
+pub mod building;
+pub mod faults;
+pub mod scores;
+pub mod sung;
+pub mod voices;
+
+pub use building::build;
+pub use voices::VoiceRead;
+
+#[cfg(test)]
+mod tests;

@@ -1,0 +1,104 @@
+ghost use Rattle.std.specs.Prelude.{◌≡◌, ◌+◌, ◌++◌, ◌∷◌, ℕ, List, IfOk, OnOk};
+ghost use Rattle.abc_events.specs.declared.written.Sign.{Sign};
+ghost use Rattle.abc_score.specs.Score.{event_count, note_if, notes_from, sung_words};
+
+use abc_events::{Sign, Written};
+use abc_steps::Item;
+use abc_words::{SungNote, words_of};
+use mus_units::{Memory, Row, Text};
+use std::alloc::Global;
+
+/// The notes of a voice so far, and how many written events.
+#[derive(Debug, Drop)]
+pub struct Notes {
+    pub events: u32,
+    pub notes: Row<SungNote>,
+}
+
+/// The note that a written event is, which has the number `event`.
+fn note_of(event: u32, w: &Written) -> Result<SungNote, Memory>
+    ensures { IfOk result (λ n. n ≡ record { event = event; line = w.now.line; measure = w.now.measure }) }
+{
+    match u32::try_from(w.measure) {
+        Ok(measure) => Ok(SungNote {
+            event,
+            line: w.line,
+            measure,
+        }),
+        Err(_) => Err(Memory),
+    }
+}
+
+/// Adds a written event where it has heads.
+fn put_note(notes: &mut Row<SungNote>, event: u32, w: &Written) -> Result<(), Memory>
+    ensures { OnOk result (notes.new ≡ notes.old ++ note_if w.now.heads event w.now) }
+{
+    if w.heads.len() == 0 {
+        return Ok(());
+    }
+    notes.push(note_of(event, w)?)
+}
+
+fn next_event(event: u32) -> Result<u32, Memory>
+    ensures { IfOk result (λ next. next ≡ event + 1) }
+{
+    match event.checked_add(1) {
+        Some(next) => Ok(next),
+        None => Err(Memory),
+    }
+}
+
+/// Adds a sign.
+fn put_sign(at: &mut Notes, sign: &Sign) -> Result<(), Memory>
+    ensures notes { OnOk result ((signs : List Sign) → at.new.notes ++ notes_from at.new.events signs ≡ at.old.notes ++ notes_from at.old.events (sign.now ∷ signs)) }
+    ensures events { OnOk result ((signs : List Sign) → at.new.events + event_count signs ≡ at.old.events + event_count (sign.now ∷ signs)) }
+{
+    match sign {
+        Sign::Event {
+            written,
+            waiting: _,
+        } => {
+            put_note(&mut at.notes, at.events, written)?;
+            at.events = next_event(at.events)?;
+            Ok(())
+        }
+        Sign::Opens {
+            measure: _,
+            p: _,
+            q: _,
+            r: _,
+        } => Ok(()),
+    }
+}
+
+/// The notes of a voice of these signs, and how many written events it has.
+fn notes_of(alloc: Global, signs: &[Sign]) -> Result<Notes, Memory>
+    ensures notes { IfOk result (λ at. at.notes ≡ notes_from 0 signs.now) }
+    ensures events { IfOk result (λ at. at.events ≡ event_count signs.now) }
+{
+    let mut at = Notes {
+        events: 0,
+        notes: Row::new(alloc),
+    };
+    for sign in signs {
+        put_sign(&mut at, sign)?;
+    }
+    Ok(at)
+}
+
+/// The words of each written event of a voice of these signs.
+#[tactic(auto, unfolding(crate::specs::Score::sung_words))]
+pub fn sung_words(
+    alloc: Global,
+    id: &[u8],
+    unnamed: &[u8],
+    items: &[Item],
+    signs: &[Sign],
+) -> Result<Row<Row<Option<Text>>>, Memory>
+    ensures { IfOk result (λ words. words ≡ sung_words id.now unnamed.now items.now signs.now) }
+{
+    let at = notes_of(alloc, signs)?;
+    let notes = at.notes.as_slice();
+    let words = words_of(alloc, id, unnamed, items, notes, at.events as usize)?;
+    Ok(words)
+}

@@ -1,0 +1,103 @@
+ghost use Rattle.std.specs.Prelude.{◌≡◌, ◌≤◌, ◌^◌, length, map, IfOk};
+ghost use Rattle.std.specs.List.{All};
+ghost use Rattle.abc_header.specs.Headers.{HasGoodValues};
+ghost use Rattle.abc_items.specs.Good.{IsGoodItem};
+ghost use Rattle.abc_items.specs.Voices.{ids_of};
+ghost use Rattle.abc_score.specs.Voices.{first_force, read_ids, voice_read, voices_read, AreApart, IsGoodRead};
+
+use abc_header::Header;
+use abc_items::{VoiceStart, steps_of, unnamed_of, voices_of};
+use abc_steps::force::copy_key;
+use abc_steps::{InForce, Item, Stood};
+use mus_units::{Memory, Row};
+use std::alloc::Global;
+
+/// How many steps a voice has at most; a list of more takes over a hundred gigabytes.
+const MOST_STEPS: usize = 1_073_741_824;
+
+/// A voice as it is read: its id, first clef and way of stems, what is in force
+/// at its beginning, and its steps.
+#[derive(Debug, Drop)]
+pub struct VoiceRead {
+    pub start: VoiceStart,
+    pub first: InForce,
+    pub steps: Row<Stood>,
+}
+
+/// What is in force at the beginning of a voice.
+fn first_force(alloc: Global, header: &Header, start: &VoiceStart) -> Result<InForce, Memory>
+    ensures { IfOk result (λ f. f ≡ first_force header.now start.now) }
+{
+    Ok(InForce {
+        clef: start.clef,
+        key: copy_key(alloc, &header.key)?,
+        meter: header.meter,
+        unit: header.unit,
+    })
+}
+
+/// The same steps; where they are too many for the walks along them, want of memory.
+fn held(steps: Row<Stood>) -> Result<Row<Stood>, Memory>
+    ensures few { IfOk result (λ r. length r ≤ 2 ^ 30) }
+    ensures same { IfOk result (λ r. r ≡ steps) }
+{
+    if steps.len() > MOST_STEPS {
+        return Err(Memory);
+    }
+    Ok(steps)
+}
+
+fn read_voice(
+    alloc: Global,
+    header: &Header,
+    items: &[Item],
+    start: VoiceStart,
+) -> Result<VoiceRead, Memory>
+    requires header { HasGoodValues header.now }
+    requires items { All IsGoodItem items.now }
+    ensures value { IfOk result (λ v. v ≡ voice_read header.now items.now start) }
+    ensures good { IfOk result IsGoodRead }
+{
+    let steps = steps_of(alloc, start.id.as_slice(), unnamed_of(header), items)?;
+    let steps = held(steps)?;
+    let first = first_force(alloc, header, &start)?;
+    Ok(VoiceRead {
+        start,
+        first,
+        steps,
+    })
+}
+
+/// The voices that begin so, each with its steps.
+fn read_each(
+    alloc: Global,
+    header: &Header,
+    items: &[Item],
+    starts: Row<VoiceStart>,
+) -> Result<Row<VoiceRead>, Memory>
+    requires header { HasGoodValues header.now }
+    requires items { All IsGoodItem items.now }
+    ensures value { IfOk result (λ voices. voices ≡ map (voice_read header.now items.now) starts) }
+    ensures good { IfOk result (λ voices. All IsGoodRead voices) }
+{
+    let mut voices = Row::new(alloc);
+    for start in starts.items {
+        voices.push(read_voice(alloc, header, items, start)?)?;
+    }
+    Ok(voices)
+}
+
+/// The voices of a body in order of first mention, each with its steps.
+pub fn read_voices(alloc: Global, header: &Header, items: &[Item]) -> Result<Row<VoiceRead>, Memory>
+    requires header { HasGoodValues header.now }
+    requires items { All IsGoodItem items.now }
+    requires few { length (ids_of header.now items.now) ≤ 16 }
+    ensures value { IfOk result (λ voices. voices ≡ voices_read header.now items.now) }
+    ensures good { IfOk result (λ voices. All IsGoodRead voices) }
+    ensures few { IfOk result (λ voices. length voices ≤ 16) }
+    ensures apart { IfOk result (λ voices. AreApart (read_ids voices)) }
+{
+    let starts = voices_of(alloc, header, items)?;
+    let voices = read_each(alloc, header, items, starts)?;
+    Ok(voices)
+}

@@ -1,0 +1,63 @@
+ghost use Rattle.std.specs.Prelude.{◌≡◌, ◌≤◌, ◌^◌, ◌+◌, ◌∷◌, [], IfOk, OnOk};
+ghost use Rattle.abc_steps.specs.declared.force.InForce.{InForce};
+ghost use Rattle.abc_steps.specs.Looks.{Steps};
+ghost use Rattle.abc_steps.specs.Good.{IsGoodForce, IsGoodStood};
+ghost use Rattle.abc_steps.specs.Places.{place_at, measure_of};
+
+use crate::counts::{Counts, counted, no_counts};
+use crate::force::{InForce, change_force, copy_key};
+use crate::step::Stood;
+use crate::tuplets::{Taking, taking_behind};
+use mus_units::Memory;
+use std::alloc::Global;
+
+/// What holds at a place of a voice: the counts of its measure, what is in force,
+/// and what the open tuplets take.
+#[derive(Debug, Drop)]
+pub struct Place {
+    pub counts: Counts,
+    pub force: InForce,
+    pub taking: Taking,
+}
+
+/// The place at the beginning of a voice.
+pub fn beginning(alloc: Global, first: &InForce) -> Result<Place, Memory>
+    ensures { IfOk result (λ p. p ≡ place_at first.now []) }
+{
+    Ok(Place {
+        counts: no_counts(),
+        force: InForce {
+            clef: first.clef,
+            key: copy_key(alloc, &first.key)?,
+            meter: first.meter,
+            unit: first.unit,
+        },
+        taking: Taking::Nothing,
+    })
+}
+
+/// Moves a place behind a step.
+pub fn step_over(alloc: Global, now: &mut Place, s: &Stood) -> Result<(), Memory>
+    requires groups { now.old.counts.groups ≤ 2 ^ 30 }
+    requires further { now.old.counts.further ≤ 2 ^ 46 }
+    requires force { IsGoodForce now.old.force }
+    requires step { IsGoodStood s.now }
+    ensures value { OnOk result ((first : InForce) (before : Steps) → now.old ≡ place_at first before → now.new ≡ place_at first (s.now ∷ before)) }
+    ensures groups { OnOk result (now.new.counts.groups ≤ now.old.counts.groups + 1) }
+    ensures further { OnOk result (now.new.counts.further ≤ now.old.counts.further + 65535) }
+    ensures force { OnOk result (IsGoodForce now.new.force) }
+{
+    change_force(alloc, &mut now.force, &s.step)?;
+    now.counts = counted(now.counts, s);
+    now.taking = taking_behind(&s.step, now.taking);
+    Ok(())
+}
+
+/// The measure of an event at a place.
+pub fn measure_of(now: &Place) -> u64
+    requires groups { now.now.counts.groups ≤ 2 ^ 30 }
+    requires further { now.now.counts.further ≤ 2 ^ 46 }
+    ensures { result ≡ measure_of now.now }
+{
+    now.counts.groups + now.counts.further
+}

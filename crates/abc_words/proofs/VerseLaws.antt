@@ -1,0 +1,77 @@
+-- Verses stand on rows of the body; and a row without a fault has at most eight.
+use Rattle.std.proofs.Common.{◌≡◌, ℕ, ◌+◌, ◌<◌, List, [], ◌∷◌, ◌++◌, Bool, true, false, cond, reverse, sym, ap, ◌∙◌, subst, arith, append_assoc, append-nil}
+use Rattle.std.specs.Prelude.{Option, Some, None, ⊤}
+use Rattle.std.specs.List.{All}
+use Rattle.std.proofs.lemmas.List.{reverse-append}
+use Rattle.std.proofs.lemmas.List.Elements.{All-nil, All-cons, All-append}
+use Rattle.abc_steps.specs.declared.step.Item.{Item}
+use Rattle.abc_steps.specs.declared.step.Item.TheVariants as item
+use Rattle.abc_words.specs.declared.rows.Place.{Place}
+use Rattle.abc_words.specs.declared.verses.Verse.{Verse}
+use Rattle.abc_words.specs.Rows.{row_behind, row_at, row_count, is_line_of, last_row, place_at}
+use Rattle.abc_words.specs.Verses.{verse_if, verse_at, verses_from, verses_of}
+
+abbrev IsWithin : ℕ → Verse → Type 0
+IsWithin n v = v.row < n
+
+abbrev LastWithin : ℕ → Option ℕ → Type 0
+LastWithin n None = ⊤
+LastWithin n (Some row) = row < n
+
+row_before : (i : Item) (row n : ℕ) → row_behind i row < n → row < n
+row_before (item.Step s) row n less = less
+row_before (item.LineEnd joined breaks line column) row n less = by_test joined less where
+  by_test : (b : Bool) → cond b row (row + 1) < n → row < n
+  by_test true less = less
+  by_test false less = omega arith
+row_before (item.Voice def line column) row n less = less
+row_before (item.Words text line) row n less = less
+
+-- the rows of a voice begin before their place
+last_within : (id unnamed : List ℕ) (before : List Item) (n : ℕ) → row_at before < n → LastWithin n (last_row id unnamed before)
+last_within id unnamed [] n less = tt
+last_within id unnamed (item.Step s ∷ before) n less = last_within id unnamed before n less
+last_within id unnamed (item.LineEnd joined breaks line column ∷ before) n less =
+    let here : row_at before < n = row_before (item.LineEnd joined breaks line column) (row_at before) n less in
+    by_test (is_line_of id unnamed before) here (last_within id unnamed before n here) where
+      by_test : (b : Bool) → row_at before < n → LastWithin n (last_row id unnamed before) → LastWithin n (cond b (Some (row_at before)) (last_row id unnamed before))
+      by_test true here rest = here
+      by_test false here rest = rest
+last_within id unnamed (item.Voice def line column ∷ before) n less = last_within id unnamed before n less
+last_within id unnamed (item.Words text line ∷ before) n less = last_within id unnamed before n less
+
+verse_within : (place : Place) (i : Item) (n : ℕ) → LastWithin n place.last → All (IsWithin n) (verse_at place i)
+verse_within place (item.Step s) n h = All-nil (IsWithin n)
+verse_within place (item.LineEnd joined breaks line column) n h = All-nil (IsWithin n)
+verse_within place (item.Voice def line column) n h = All-nil (IsWithin n)
+verse_within place (item.Words text line) n h = by_cases place.current place.last h where
+  by_cases : (current : Bool) (last : Option ℕ) → LastWithin n last → All (IsWithin n) (verse_if current last text line)
+  by_cases true (Some row) h = All-cons (IsWithin n) _ [] h (All-nil (IsWithin n))
+  by_cases true None h = All-nil (IsWithin n)
+  by_cases false last h = All-nil (IsWithin n)
+
+-- rows only rise
+rows_rise : (behind before : List Item) (n : ℕ) → row_at (behind ++ before) < n → row_at before < n
+rows_rise [] before n less = less
+rows_rise (i ∷ behind) before n less = rows_rise behind before n (row_before i (row_at (behind ++ before)) n less)
+
+one_on : (i : Item) (before items : List Item) → reverse (i ∷ items) ++ before ≡ reverse items ++ (i ∷ before)
+one_on i before items = ap (λ xs. xs ++ before) (reverse-append (i ∷ []) items) ∙ append_assoc (reverse items) (i ∷ []) before
+
+all_within : (id unnamed : List ℕ) (before items : List Item) (n : ℕ) → row_at (reverse items ++ before) < n → All (IsWithin n) (verses_from id unnamed before items)
+all_within id unnamed before [] n less = All-nil (IsWithin n)
+all_within id unnamed before (i ∷ items) n less =
+    let here : row_at before < n = rows_rise (reverse (i ∷ items)) before n less in
+    let more : row_at (reverse items ++ (i ∷ before)) < n = subst (λ xs. row_at xs < n) (one_on i before items) less in
+    All-append (IsWithin n) (verse_at (place_at id unnamed before) i) (verses_from id unnamed (i ∷ before) items)
+    (verse_within (place_at id unnamed before) i n (last_within id unnamed before n here))
+    (all_within id unnamed (i ∷ before) items n more)
+
+pub verses_within : (id unnamed : List ℕ) (items : List Item) → All (λ v. v.row < row_count items) (verses_of id unnamed items)
+verses_within id unnamed items = all_within id unnamed [] items (row_count items) (subst (λ xs. row_at xs < row_count items) (sym (append-nil (reverse items))) (omega arith))
+
+pub found_within : (id unnamed : List ℕ) (items : List Item) (verses : List Verse) (rows : ℕ) → verses ≡ verses_of id unnamed items → rows ≡ row_count items → All (λ v. v.row < rows) verses
+found_within id unnamed items verses rows are is =
+    let P : List Verse → Type 0 = λ vs. All (λ v. v.row < rows) vs in
+    let Q : ℕ → Type 0 = λ n. All (λ v. v.row < n) (verses_of id unnamed items) in
+    subst P (sym are) (subst Q (sym is) (verses_within id unnamed items))

@@ -1,0 +1,61 @@
+-- The verses of a voice: the texts of its `w:` lines, each on its last row there; how many verses
+-- the voice has; and which texts are too many.
+use Rattle.std.specs.Prelude.{ℕ, ◌==◌, nat_le, max, List, [], ◌∷◌, ◌++◌, Bool, true, false, if◌then◌else◌, map, fold, count_by, Option, Some, None}
+use Rattle.std.specs.List.{range_with_len}
+use Rattle.abc_lines.specs.declared.fault.Fault.{Fault}
+use Rattle.abc_lines.specs.declared.fault.FaultKind.TheVariants as faults
+use Rattle.abc_steps.specs.declared.step.Item.{Item}
+use Rattle.abc_steps.specs.declared.step.Item.TheVariants as item
+use Rattle.abc_words.specs.declared.rows.Place.{Place}
+use Rattle.abc_words.specs.declared.verses.Verse.{Verse}
+use Rattle.abc_words.specs.Rows.{place_at, row_count}
+
+-- Words belong to the voice that is current, on its last row; they are passed over where it has none.
+abbrev pub verse_if : Bool → Option ℕ → List ℕ → ℕ → List Verse
+verse_if true (Some row) text line = record { row = row; line = line; text = text } ∷ []
+verse_if true None text line = []
+verse_if false last text line = []
+
+abbrev pub verse_at : Place → Item → List Verse
+verse_at place (item.Words text line) = verse_if place.current place.last text line
+verse_at place _ = []
+
+abbrev pub verses_from : List ℕ → List ℕ → List Item → List Item → List Verse
+verses_from id unnamed before [] = []
+verses_from id unnamed before (i ∷ behind) = verse_at (place_at id unnamed before) i ++ verses_from id unnamed (i ∷ before) behind
+
+-- the verses of a voice, in the order of the text
+abbrev pub verses_of : List ℕ → List ℕ → List Item → List Verse
+verses_of id unnamed items = verses_from id unnamed [] items
+
+abbrev pub number_on : ℕ → List Verse → ℕ
+number_on row verses = count_by (λ v. v.row == row) verses
+
+-- the greatest number of verses on a row
+abbrev pub most_on : ℕ → List Verse → ℕ
+most_on rows verses = fold max 0 (map (λ row. number_on row verses) (range_with_len 0 rows))
+
+abbrev pub verse_count : List ℕ → List ℕ → List Item → ℕ
+verse_count id unnamed items = most_on (row_count items) (verses_of id unnamed items)
+
+-- a verse with eight or more before it on its row is one too many
+abbrev pub too_many : ℕ → Fault
+too_many line = record { kind = faults.TooManyVerses; line = line; column = 1 }
+
+abbrev pub fault_in : List Verse → Verse → List Fault
+fault_in before v = if nat_le 8 (number_on v.row before) then too_many v.line ∷ [] else []
+
+abbrev pub faults_from : List Verse → List Verse → List Fault
+faults_from before [] = []
+faults_from before (v ∷ behind) = fault_in before v ++ faults_from (before ++ v ∷ []) behind
+
+abbrev pub verse_faults : List ℕ → List ℕ → List Item → List Fault
+verse_faults id unnamed items = faults_from [] (verses_of id unnamed items)
+
+abbrev pub first_of : List Fault → Option Fault
+first_of [] = None
+first_of (f ∷ fs) = Some f
+
+-- the first fault of a voice's verses
+abbrev pub verse_fault : List ℕ → List ℕ → List Item → Option Fault
+verse_fault id unnamed items = first_of (verse_faults id unnamed items)

@@ -1,0 +1,15 @@
+//! The words of a voice: the `w:` lines that belong to its music lines, how many
+//! verses it has, and which of its events has which words.
+#![tactic(auto)]
+
+pub mod music;
+pub mod rows;
+pub mod verses;
+pub mod words;
+
+pub use music::SungNote;
+pub use verses::{verse_count, verse_fault};
+pub use words::words_of;
+
+#[cfg(test)]
+mod tests;

@@ -1,0 +1,181 @@
+ghost use Rattle.std.specs.Prelude.{◌≡◌, ◌≤◌, ◌<◌, ◌++◌, ◌∷◌, ℕ, [], length, map, slice_index_or, ◌==◌, if◌then◌else◌, IfOk, OnOk};
+ghost use Rattle.std.specs.List.{range_with_len};
+ghost use Rattle.abc_words.specs.Rows.{row_count};
+ghost use Rattle.abc_words.specs.Words.{end_if, music_row, music_rows, no_music, note_at, notes_on, row_end, row_ends, row_of, texts_on, with_notes, with_texts};
+
+use crate::verses::{Verse, verses_of};
+use abc_steps::Item;
+use mus_lyric::NoteAt;
+use mus_units::{Memory, Row, Text};
+use std::alloc::Global;
+
+/// A note of a voice: the number of its written event among those of the voice,
+/// from 0; the physical line on which it stands, from 1; and its measure, from 0.
+#[derive(Clone, Copy, Debug, PartialEq, Eq)]
+pub struct SungNote {
+    pub event: u32,
+    pub line: u32,
+    pub measure: u32,
+}
+
+/// What stands on a row: the texts of its `w:` lines and its notes.
+#[derive(Debug, Drop)]
+pub struct MusicRow {
+    pub texts: Row<Text>,
+    pub notes: Row<NoteAt>,
+}
+
+/// Adds the line of an end that isn't joined.
+fn put_end(ends: &mut Row<u32>, joined: bool, line: u32) -> Result<(), Memory>
+    ensures { OnOk result (ends.new ≡ ends.old ++ end_if joined line) }
+{
+    if joined {
+        return Ok(());
+    }
+    ends.push(line)
+}
+
+/// Adds the line at which an item ends a row.
+fn put_row_end(ends: &mut Row<u32>, item: &Item) -> Result<(), Memory>
+    ensures { OnOk result (ends.new ≡ ends.old ++ row_end item.now) }
+{
+    match item {
+        Item::LineEnd {
+            joined,
+            breaks: _,
+            line,
+            column: _,
+        } => put_end(ends, *joined, *line),
+        _ => Ok(()),
+    }
+}
+
+/// The physical lines at which rows end.
+fn row_ends(alloc: Global, items: &[Item]) -> Result<Row<u32>, Memory>
+    ensures { IfOk result (λ ends. ends ≡ row_ends items.now) }
+{
+    let mut ends = Row::new(alloc);
+    for item in items {
+        put_row_end(&mut ends, item)?;
+    }
+    Ok(ends)
+}
+
+/// How many of some rows end before a line.
+fn ends_before(ends: &[u32], line: u32) -> usize
+    ensures { result ≡ row_of ends.now line }
+{
+    ends.iter().take_while(|end| **end < line).count()
+}
+
+/// The row of a line, looked for from a row that isn't behind it.
+#[tactic(auto, using(crate::proofs::Lines::prefix_from, crate::proofs::Lines::row_of_within))]
+fn row_from(ends: &[u32], from: usize, line: u32) -> usize
+    requires { from ≤ row_of ends.now line }
+    ensures { result ≡ row_of ends.now line }
+{
+    let (_, left) = ends.split_at(from);
+    from + ends_before(left, line)
+}
+
+/// The row of a line, looked for from that of another line on where it isn't
+/// before that.
+#[tactic(auto, using(crate::proofs::Lines::row_of_later))]
+fn next_row(ends: &[u32], row: usize, last: u32, line: u32) -> usize
+    requires { row ≡ row_of ends.now last }
+    ensures { result ≡ row_of ends.now line }
+{
+    if line < last {
+        return row_from(ends, 0, line);
+    }
+    row_from(ends, row, line)
+}
+
+/// So many rows without texts and notes.
+fn empty_rows(alloc: Global, n: usize) -> Result<Vec<MusicRow>, Memory>
+    ensures len { IfOk result (λ v. length v.items ≡ n) }
+    ensures empty { IfOk result (λ v. (k : ℕ) → k < n → slice_index_or v.items k no_music ≡ no_music) }
+{
+    let mut rows = Vec::new(alloc);
+    for k in 0..n {
+        rows.push(MusicRow {
+            texts: Row::new(alloc),
+            notes: Row::new(alloc),
+        })?;
+    }
+    Ok(rows)
+}
+
+/// Adds the text of a verse to its row.
+fn put_text(rows: &mut [MusicRow], verse: Verse) -> Result<(), Memory>
+    ensures { OnOk result ((k : ℕ) → k < length rows.old → slice_index_or rows.new k no_music ≡ with_texts (slice_index_or rows.old k no_music) (texts_on k (verse ∷ []))) }
+{
+    if verse.row >= rows.len() {
+        return Ok(());
+    }
+    rows[verse.row].texts.push(verse.text)
+}
+
+/// Adds a note to a row.
+fn put_note(rows: &mut [MusicRow], row: usize, note: NoteAt) -> Result<(), Memory>
+    ensures { OnOk result ((k : ℕ) → k < length rows.old → slice_index_or rows.new k no_music ≡ with_notes (slice_index_or rows.old k no_music) (if row == k then note ∷ [] else [])) }
+{
+    if row >= rows.len() {
+        return Ok(());
+    }
+    rows[row].notes.push(note)
+}
+
+/// Adds the texts of verses to their rows.
+fn put_texts(rows: &mut Vec<MusicRow>, verses: Row<Verse>) -> Result<(), Memory>
+    ensures len { OnOk result (length rows.new.items ≡ length rows.old.items) }
+    ensures rows { OnOk result ((k : ℕ) → k < length rows.old.items → slice_index_or rows.new.items k no_music ≡ with_texts (slice_index_or rows.old.items k no_music) (texts_on k verses)) }
+{
+    for verse in verses.items {
+        put_text(rows, verse)?;
+    }
+    Ok(())
+}
+
+/// Adds notes to the rows of their lines.
+#[tactic(auto, using(crate::proofs::Lines::row_of_zero))]
+fn put_notes(rows: &mut Vec<MusicRow>, ends: &[u32], notes: &[SungNote]) -> Result<(), Memory>
+    ensures len { OnOk result (length rows.new.items ≡ length rows.old.items) }
+    ensures rows { OnOk result ((k : ℕ) → k < length rows.old.items → slice_index_or rows.new.items k no_music ≡ with_notes (slice_index_or rows.old.items k no_music) (notes_on k ends.now notes.now)) }
+{
+    let mut row = 0;
+    let mut last = 0;
+    for note in notes {
+        row = next_row(ends, row, last, note.line);
+        last = note.line;
+        put_note(rows, row, note_at(note))?;
+    }
+    Ok(())
+}
+
+fn note_at(note: &SungNote) -> NoteAt
+    ensures { result ≡ note_at note.now }
+{
+    NoteAt {
+        event: note.event,
+        measure: note.measure,
+    }
+}
+
+/// What stands on each row of a voice.
+pub(crate) fn music_rows(
+    alloc: Global,
+    id: &[u8],
+    unnamed: &[u8],
+    items: &[Item],
+    notes: &[SungNote],
+) -> Result<Vec<MusicRow>, Memory>
+    ensures { IfOk result (λ v. v.items ≡ music_rows id.now unnamed.now items.now notes.now) }
+{
+    let found = verses_of(alloc, id, unnamed, items)?;
+    let ends = row_ends(alloc, items)?;
+    let mut rows = empty_rows(alloc, found.rows)?;
+    put_texts(&mut rows, found.verses)?;
+    put_notes(&mut rows, ends.as_slice(), notes)?;
+    Ok(rows)
+}

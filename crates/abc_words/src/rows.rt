@@ -1,0 +1,90 @@
+ghost use Rattle.std.specs.Prelude.{◌≡◌, ◌<◌, ◌≤◌, ◌+◌, ◌^◌, ◌∷◌, [], List, ℕ};
+ghost use Rattle.std.specs.Str.{bytes_eq};
+ghost use Rattle.abc_steps.specs.declared.step.Item.{Item};
+ghost use Rattle.abc_words.specs.Rows.{behind_end, behind_step, place_at};
+
+use abc_items::voices::claims;
+use abc_steps::Item;
+
+/// What a place among the items of a body is to a voice: its row; whether the
+/// voice is current; whether a step before it on its line claims any voice, and
+/// whether one claims this voice; and the last row of the voice before it.
+#[derive(Clone, Copy, Debug, PartialEq, Eq)]
+pub struct Place {
+    pub row: usize,
+    pub current: bool,
+    pub claimed: bool,
+    pub own: bool,
+    pub last: Option<usize>,
+}
+
+fn is_same(id: &[u8], other: &[u8]) -> bool
+    ensures { result ≡ bytes_eq id.now other.now }
+{
+    id == other
+}
+
+/// The place before all items.
+pub(crate) fn first_place(id: &[u8], unnamed: &[u8]) -> Place
+    ensures { result ≡ place_at id.now unnamed.now [] }
+{
+    Place {
+        row: 0,
+        current: is_same(id, unnamed),
+        claimed: false,
+        own: false,
+        last: None,
+    }
+}
+
+/// The place behind a step.
+fn behind_step(place: Place, claims: bool) -> Place
+    ensures { result ≡ behind_step place claims }
+{
+    Place {
+        claimed: claims || place.claimed,
+        own: (claims && place.current) || place.own,
+        ..place
+    }
+}
+
+/// The place behind the end of a music line.
+fn behind_end(place: Place, joined: bool) -> Place
+    requires { place.row + 1 < 2 ^ 64 }
+    ensures { result ≡ behind_end place joined }
+{
+    let line_of = place.own || (!place.claimed && place.current);
+    Place {
+        row: if joined { place.row } else { place.row + 1 },
+        current: place.current,
+        claimed: false,
+        own: false,
+        last: if line_of { Some(place.row) } else { place.last },
+    }
+}
+
+/// The place behind an item.
+pub(crate) fn place_behind(id: &[u8], place: Place, item: &Item) -> Place
+    requires { place.row + 1 < 2 ^ 64 }
+    ensures place { (unnamed : List ℕ) (before : List Item) → place ≡ place_at id.now unnamed before → result ≡ place_at id.now unnamed (item.now ∷ before) }
+    ensures row { result.row ≤ place.row + 1 }
+{
+    match item {
+        Item::Step(stood) => behind_step(place, claims(&stood.step)),
+        Item::LineEnd {
+            joined,
+            breaks: _,
+            line: _,
+            column: _,
+        } => behind_end(place, *joined),
+        Item::Voice {
+            def,
+            line: _,
+            column: _,
+        } => Place {
+            current: is_same(id, def.id.as_slice()),
+            ..place
+        },
+        Item::Words { text: _, line: _ } => place,
+    }
+}

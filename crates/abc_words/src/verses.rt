@@ -1,0 +1,186 @@
+ghost use Rattle.std.specs.Prelude.{◌≡◌, ◌≤◌, ◌<◌, ◌+◌, ◌++◌, ◌∷◌, ◌^◌, [], List, ℕ, All, cond, fold, length, max, slice_index, ◌==◌, map, None, IfOk, OnOk};
+ghost use Rattle.abc_words.specs.Rows.{row_count};
+ghost use Rattle.std.specs.List.{range_with_len};
+ghost use Rattle.abc_words.specs.Verses.{faults_from, first_of, number_on, too_many, verse_at, verse_count, verse_fault, verse_if, verses_of};
+
+use crate::rows::{Place, first_place, place_behind};
+use abc_lines::{Fault, FaultKind};
+use abc_steps::Item;
+use mus_units::{Memory, Row, Text};
+use std::alloc::Global;
+use std::cmp::max;
+
+/// The text of a `w:` line, its line, and the row on which it is sung.
+#[derive(Debug, Drop)]
+pub struct Verse {
+    pub row: usize,
+    pub line: u32,
+    pub text: Text,
+}
+
+/// The verses of a voice, and how many rows the body has.
+#[derive(Debug, Drop)]
+pub struct Verses {
+    pub rows: usize,
+    pub verses: Row<Verse>,
+}
+
+/// Adds words of the voice, where it has a row.
+fn put_words(
+    alloc: Global,
+    verses: &mut Row<Verse>,
+    place: Place,
+    text: &Text,
+    line: u32,
+) -> Result<(), Memory>
+    ensures { OnOk result (verses.new ≡ verses.old ++ verse_if place.current place.last text.now line) }
+{
+    if !place.current {
+        return Ok(());
+    }
+    match place.last {
+        Some(row) => verses.push(Verse {
+            row,
+            line,
+            text: Text::from_slice(alloc, text.as_slice())?,
+        }),
+        None => Ok(()),
+    }
+}
+
+/// Adds the verse that an item is.
+fn put_verse(
+    alloc: Global,
+    verses: &mut Row<Verse>,
+    place: Place,
+    item: &Item,
+) -> Result<(), Memory>
+    ensures { OnOk result (verses.new ≡ verses.old ++ verse_at place item.now) }
+{
+    match item {
+        Item::Words { text, line } => put_words(alloc, verses, place, text, *line),
+        _ => Ok(()),
+    }
+}
+
+/// The verses of a voice, in the order of the text.
+pub(crate) fn verses_of(
+    alloc: Global,
+    id: &[u8],
+    unnamed: &[u8],
+    items: &[Item],
+) -> Result<Verses, Memory>
+    ensures verses { IfOk result (λ v. v.verses ≡ verses_of id.now unnamed.now items.now) }
+    ensures rows { IfOk result (λ v. v.rows ≡ row_count items.now) }
+    ensures within { IfOk result (λ v. All (λ verse. verse.row < v.rows) v.verses) }
+{
+    let mut verses = Row::new(alloc);
+    let mut place = first_place(id, unnamed);
+    for item in items {
+        put_verse(alloc, &mut verses, place, item)?;
+        place = place_behind(id, place, item);
+    }
+    Ok(Verses {
+        rows: place.row + 1,
+        verses,
+    })
+}
+
+/// Counts a verse on its row.
+fn count_one(counts: &mut Vec<usize>, row: usize)
+    requires { (k : ℕ) → slice_index counts.old.items k + 1 < 2 ^ 64 }
+    ensures len { length counts.new.items ≡ length counts.old.items }
+    ensures counts { (k : ℕ) → k < length counts.old.items → slice_index counts.new.items k ≡ slice_index counts.old.items k + cond (row == k) 1 0 }
+{
+    if row < counts.len() {
+        counts[row] += 1;
+    }
+}
+
+/// How many verses each row has.
+fn counts_of(alloc: Global, verses: &[Verse], rows: usize) -> Result<Vec<usize>, Memory>
+    ensures { IfOk result (λ v. v.items ≡ map (λ row. number_on row verses.now) (range_with_len 0 rows)) }
+{
+    let mut counts = vec![in alloc; 0_usize; rows]?;
+    for verse in verses {
+        count_one(&mut counts, verse.row);
+    }
+    Ok(counts)
+}
+
+fn greatest(counts: &[usize]) -> usize
+    ensures { result ≡ fold max 0 counts.now }
+{
+    let mut most = 0;
+    for n in counts {
+        most = max(most, *n);
+    }
+    most
+}
+
+/// How many verses a voice has: the greatest number of `w:` lines on one of its
+/// rows of music. `unnamed` is the voice of what stands before any voice field.
+/// There are at most eight where `verse_fault` finds none.
+pub fn verse_count(
+    alloc: Global,
+    id: &[u8],
+    unnamed: &[u8],
+    items: &[Item],
+) -> Result<usize, Memory>
+    ensures value { IfOk result (λ n. n ≡ verse_count id.now unnamed.now items.now) }
+    ensures few { IfOk result (λ n. verse_fault id.now unnamed.now items.now ≡ None → n ≤ 8) }
+{
+    let found = verses_of(alloc, id, unnamed, items)?;
+    let counts = counts_of(alloc, found.verses.as_slice(), found.rows)?;
+    Ok(greatest(counts.as_slice()))
+}
+
+/// How many verses stand on a row so far.
+fn number_at(counts: &[usize], row: usize) -> usize
+    ensures { result ≡ slice_index counts.now row }
+{
+    match counts.get(row) {
+        Some(n) => *n,
+        None => 0,
+    }
+}
+
+fn too_many(line: u32) -> Fault
+    ensures { result ≡ too_many line }
+{
+    Fault {
+        kind: FaultKind::TooManyVerses,
+        line,
+        column: 1,
+    }
+}
+
+/// The first verse of some that has eight before it on its row.
+fn first_fault(alloc: Global, verses: &[Verse], rows: usize) -> Result<Option<Fault>, Memory>
+    requires { All (λ v. v.row < rows) verses.now }
+    ensures { IfOk result (λ fault. fault ≡ first_of (faults_from [] verses.now)) }
+{
+    let mut counts = vec![in alloc; 0_usize; rows]?;
+    for verse in verses {
+        if number_at(&counts, verse.row) >= 8 {
+            return Ok(Some(too_many(verse.line)));
+        }
+        count_one(&mut counts, verse.row);
+    }
+    Ok(None)
+}
+
+/// The fault of a voice with more than eight `w:` lines on one row: it stands at
+/// column 1 of the first that is too many. `unnamed` is the voice of what stands
+/// before any voice field.
+pub fn verse_fault(
+    alloc: Global,
+    id: &[u8],
+    unnamed: &[u8],
+    items: &[Item],
+) -> Result<Option<Fault>, Memory>
+    ensures { IfOk result (λ fault. fault ≡ verse_fault id.now unnamed.now items.now) }
+{
+    let found = verses_of(alloc, id, unnamed, items)?;
+    first_fault(alloc, found.verses.as_slice(), found.rows)
+}
