@@ -1,6 +1,7 @@
 -- Where a system has a piece of an arc.
-use Rattle.std.specs.Prelude.{◌<◌, ◌≤◌, ℕ}
+use Rattle.std.specs.Prelude.{◌<◌, ◌≤◌, ℕ, nat_lt, nat_le, ◌&&◌, if◌then◌else◌, Option, Some, None}
 use Rattle.mus_arcs.specs.declared.pairing.Arc.{Arc}
+use Rattle.mus_arcs.specs.declared.cutting.Piece.{Piece}
 
 -- the arc begins before the system's end, and ends at its first measure or later
 abbrev pub HasPiece : Arc → ℕ → ℕ → Type 0
@@ -13,3 +14,7 @@ pub record Touches (arc : Arc) (a b : ℕ) : Type 0 where
   pub within : measure < b
   pub behind : arc.from ≤ measure
   pub before : measure ≤ arc.to
+
+-- the piece there, cut at the left where the arc begins before the system, and at the right where it ends behind it
+unfoldable pub piece_of : Arc → ℕ → ℕ → Option Piece
+piece_of arc a b = if nat_lt arc.from b && nat_le a arc.to then Some (record { cut_left = nat_lt arc.from a; cut_right = nat_le b arc.to }) else None

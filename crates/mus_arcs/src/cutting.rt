@@ -1,5 +1,5 @@
 ghost use Rattle.std.specs.Prelude.{◌≡◌, ◌<◌, ◌≤◌, ◌↔◌, IsSome, IsTrue, IfSome};
-ghost use Rattle.mus_arcs.specs.Pieces.{HasPiece, Touches};
+ghost use Rattle.mus_arcs.specs.Pieces.{HasPiece, Touches, piece_of};
 
 use crate::pairing::Arc;
 
@@ -13,7 +13,9 @@ pub struct Piece {
 
 /// The piece of an arc in a system of the measures a to b - 1: None exactly where
 /// the arc touches none of them. Takes no memory.
+#[tactic(auto, unfolding(crate::specs::Pieces::piece_of))]
 pub fn pieces(arc: &Arc, a: u32, b: u32) -> Option<Piece>
+    ensures value { result ≡ piece_of arc.now a b }
     ensures some { IsSome result ↔ HasPiece arc.now a b }
     ensures cut_left { IfSome result (λ piece. IsTrue piece.cut_left ↔ (arc.now.from < a)) }
     ensures cut_right { IfSome result (λ piece. IsTrue piece.cut_right ↔ (b ≤ arc.now.to)) }

@@ -16,7 +16,7 @@ use Rattle.mus_score.specs.Times.{flats_of}
 use Rattle.mus_units.specs.declared.note.Bar.{Bar}
 use Rattle.mus_time.specs.declared.keys.ColumnKey.{ColumnKey}
 use Rattle.mus_time.specs.declared.keys.Class.TheVariants as classes
-use Rattle.mus_time.specs.Keys.{key_at, change_keys, change_has_mark, grace_keys, event_keys, events_keys, signed_after, signed_through, measures_keys, first_keys, has_features, signed_at, voice_keys, called_keys, AreKeys, IsInSystem}
+use Rattle.mus_time.specs.Keys.{key_at, change_keys, change_has_mark, grace_keys, event_keys, events_keys, signed_after, signed_through, measures_keys, first_keys, has_features, signed_at, voice_keys, called_keys, measure_keys, further_keys, AreKeys, IsInSystem}
 use Rattle.mus_time.specs.Onsets.{greatest, length_in, length_at, ticks_of_some, timeline_of}
 
 pub length_of_lengths : (s : Score) → length (timeline_of s).lengths ≡ s.measures
@@ -122,6 +122,11 @@ first_if lengths a b false z h = tt
 first_in : (lengths : List ℕ) (a b : ℕ) (bar : Bar) → a < b → AllByRecursion (IsInSystem lengths a b) (first_keys a bar)
 first_in lengths a b bar h = first_if lengths a b ((a == 0) && has_features bar) (λ t. grind (arith, nat_tests)) h
 
+voice_fits : (lengths : List ℕ) (m : ℕ) (v : Voice) → ((k : ℕ) → k < length v.measures → length_in k v ≤ slice_index lengths k) → MeasuresFit lengths m (drop m v.measures)
+voice_fits lengths m v fits =
+    subst (λ z. MeasuresFit lengths z (drop m v.measures)) (zero-add m)
+    (fit_drop lengths 0 m v.measures (fit_from lengths 0 v.measures (λ i k. subst (λ z. length_in i v ≤ slice_index lengths z) (omega arith) (fits i k))))
+
 voice_in : (lengths : List ℕ) (a b : ℕ) (v : Voice) → a < b → b ≤ length v.measures → ((k : ℕ) → k < length v.measures → length_in k v ≤ slice_index lengths k) → AllByRecursion (IsInSystem lengths a b) (voice_keys lengths a b v)
 voice_in lengths a b v order within fits =
     let some = slice_range v.measures a b in
@@ -130,7 +135,7 @@ voice_in lengths a b v order within fits =
       all_append (IsInSystem lengths a b) (first_keys a v.first) (measures_keys lengths a true (signed_at a v) some)
           (first_in lengths a b v.first order)
           (measures_in lengths a b a true (signed_at a v) some (omega arith) (omega arith)
-          (fit_take lengths a (b - a) (drop a v.measures) (subst (λ z. MeasuresFit lengths z (drop a v.measures)) (zero-add a) (fit_drop lengths 0 a v.measures (fit_from lengths 0 v.measures (λ i k. subst (λ z. length_in i v ≤ slice_index lengths z) (omega arith) (fits i k))))))),
+          (fit_take lengths a (b - a) (drop a v.measures) (voice_fits lengths a v fits))),
     )
 
 called_in : (lengths : List ℕ) (a b n : ℕ) (vs : List Voice) → a < b → b ≤ n → AllByRecursion (λ v. length v.measures ≡ n) vs → ((k : ℕ) → k < n → length_at vs k ≤ slice_index lengths k) → AllByRecursion (IsInSystem lengths a b) (flat_map (voice_keys lengths a b) vs)
@@ -148,3 +153,22 @@ places_of s a b keys good order within are =
     let same = recursion_from_All (λ v. length v.measures ≡ s.measures) s.voices good.measures in
     let called = All-from_recursion P (called_keys s lengths a b) (called_in lengths a b s.measures s.voices order within same (λ k h. omega (arith, length_is s k h))) in
     λ k d h. All-contains P (called_keys s lengths a b) (get_or keys k d) called (are.only (get_or keys k d) (Contains-get_or keys k d h))
+
+-- Measure m of a system that begins before it.
+
+further_in : (lengths : List ℕ) (m n : ℕ) (vs : List Voice) → m < n → AllByRecursion (λ v. length v.measures ≡ n) vs → ((k : ℕ) → k < n → length_at vs k ≤ slice_index lengths k) → AllByRecursion (IsInSystem lengths m (m + 1)) (flat_map (measure_keys lengths m) vs)
+further_in lengths m n [] order same fits = tt
+further_in lengths m n (v ∷ vs) order same fits =
+    let count : length (slice_range v.measures m (m + 1)) ≤ 1 = omega (arith, length-take (m + 1 - m) (drop m v.measures)) in
+    all_append (IsInSystem lengths m (m + 1)) (measure_keys lengths m v) (flat_map (measure_keys lengths m) vs)
+    (measures_in lengths m (m + 1) m false (signed_at m v) (slice_range v.measures m (m + 1)) (omega arith) (omega arith)
+    (fit_take lengths m (m + 1 - m) (drop m v.measures) (voice_fits lengths m v (λ k h. omega (arith, fits k (omega (arith, same.0)))))))
+    (further_in lengths m n vs order same.1 (λ k h. omega (arith, fits k h)))
+
+pub further_places : (s : Score) (m : ℕ) (keys : List ColumnKey) → IsGoodScore s → m < s.measures → AreKeys keys (further_keys s (timeline_of s).lengths m) → All (IsInSystem (timeline_of s).lengths m (m + 1)) keys
+further_places s m keys good within are =
+    let lengths = (timeline_of s).lengths in
+    let P : ColumnKey → Type 0 = IsInSystem lengths m (m + 1) in
+    let same = recursion_from_All (λ v. length v.measures ≡ s.measures) s.voices good.measures in
+    let called = All-from_recursion P (further_keys s lengths m) (further_in lengths m s.measures s.voices within same (λ k h. omega (arith, length_is s k h))) in
+    λ k d h. All-contains P (further_keys s lengths m) (get_or keys k d) called (are.only (get_or keys k d) (Contains-get_or keys k d h))

@@ -96,6 +96,14 @@ voice_keys lengths a b v =
 abbrev pub called_keys : Score → List ℕ → ℕ → ℕ → List ColumnKey
 called_keys s lengths a b = flat_map (voice_keys lengths a b) s.voices
 
+-- measure m of a voice, in a system that begins before it
+abbrev pub measure_keys : List ℕ → ℕ → Voice → List ColumnKey
+measure_keys lengths m v = measures_keys lengths m false (signed_at m v) (slice_range v.measures m (m + 1))
+
+-- what the voices call for in measure m of a system that begins before it, voice by voice
+abbrev pub further_keys : Score → List ℕ → ℕ → List ColumnKey
+further_keys s lengths m = flat_map (measure_keys lengths m) s.voices
+
 -- the same keys, each once, rising: there is one such list
 pub record AreKeys (keys called : List ColumnKey) : Type 0 where
   pub rise : Rises keys

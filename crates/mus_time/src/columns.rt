@@ -2,7 +2,7 @@ ghost use Rattle.std.specs.Prelude.{◌≡◌, ◌≤◌, ◌<◌, ◌+◌, ◌*
 ghost use Rattle.mus_score.specs.Good.{IsGoodBody, longest_ticks, total_ticks};
 ghost use Rattle.mus_score.specs.GoodScore.{IsGoodScore, IsGoodVoice};
 ghost use Rattle.mus_score.specs.Times.{flats_of};
-ghost use Rattle.mus_time.specs.Keys.{AreKeys, IsInSystem, called_keys, change_has_mark, event_keys, events_keys, first_keys, grace_keys, has_entries, has_features, key_at, key_has_mark, measures_keys, meter_has_mark, signed_after, signed_at, signed_behind, signed_through, voice_keys};
+ghost use Rattle.mus_time.specs.Keys.{AreKeys, IsInSystem, called_keys, change_has_mark, event_keys, events_keys, first_keys, further_keys, grace_keys, has_entries, has_features, key_at, key_has_mark, measure_keys, measures_keys, meter_has_mark, signed_after, signed_at, signed_behind, signed_through, voice_keys};
 ghost use Rattle.mus_time.specs.Onsets.{timeline_of};
 ghost use Rattle.mus_time.specs.Order.{Rises};
 ghost use Rattle.mus_time.specs.Signed.{signed_in, signed_within};
@@ -176,15 +176,16 @@ fn put_measures(
     out: &mut Row<ColumnKey>,
     lengths: &[u64],
     a: u32,
+    in_head: bool,
     signed: bool,
     measures: &[Measure],
 ) -> Result<(), Memory>
     requires good { All (λ m. IsGoodBody m.body) measures.now }
     requires fits { a + length measures.now ≤ length lengths.now }
     requires few { length lengths.now ≤ 2000 }
-    ensures { OnOk result (out.new ≡ out.old ++ measures_keys lengths.now a true signed measures.now) }
+    ensures { OnOk result (out.new ≡ out.old ++ measures_keys lengths.now a in_head signed measures.now) }
 {
-    let mut in_head = true;
+    let mut in_head = in_head;
     let mut signed = signed;
     let mut measure = a;
     for m in measures {
@@ -287,7 +288,27 @@ fn put_voice(
     let before = &measures[..a as usize];
     let signed = signed_behind_measures(is_signed(&v.key), before);
     let measures = &measures[a as usize..b as usize];
-    put_measures(alloc, out, lengths, a, signed, measures)
+    put_measures(alloc, out, lengths, a, true, signed, measures)
+}
+
+/// The keys of measure `m` of a voice, in a system that begins before it: its events and its bar.
+fn put_measure_of(
+    alloc: Global,
+    out: &mut Row<ColumnKey>,
+    lengths: &[u64],
+    m: u32,
+    v: &Voice,
+) -> Result<(), Memory>
+    requires good { IsGoodVoice v.now }
+    requires within { m < length v.now.measures }
+    requires lengths { length lengths.now ≡ length v.now.measures }
+    ensures { OnOk result (out.new ≡ out.old ++ measure_keys lengths.now m v.now) }
+{
+    let measures = v.measures.as_slice();
+    let before = &measures[..m as usize];
+    let signed = signed_behind_measures(is_signed(&v.key), before);
+    let measures = &measures[m as usize..m as usize + 1];
+    put_measures(alloc, out, lengths, m, false, signed, measures)
 }
 
 fn put_voices(
@@ -306,6 +327,24 @@ fn put_voices(
     let mut out = Row::new(alloc);
     for v in voices {
         put_voice(alloc, &mut out, lengths, a, b, v)?;
+    }
+    Ok(out)
+}
+
+fn put_measure_of_voices(
+    alloc: Global,
+    lengths: &[u64],
+    m: u32,
+    voices: &[Voice],
+) -> Result<Row<ColumnKey>, Memory>
+    requires good { All IsGoodVoice voices.now }
+    requires within { m < length lengths.now }
+    requires lengths { All (λ v. length v.measures ≡ length lengths.now) voices.now }
+    ensures { IfOk result (λ r. r ≡ flat_map (measure_keys lengths.now m) voices.now) }
+{
+    let mut out = Row::new(alloc);
+    for v in voices {
+        put_measure_of(alloc, &mut out, lengths, m, v)?;
     }
     Ok(out)
 }
@@ -338,5 +377,23 @@ pub fn keys_of(
     ensures places { IfOk result (λ r. All (IsInSystem t.now.lengths a b) r) }
 {
     let all = put_voices(alloc, t.lengths.as_slice(), a, b, s.voices.as_slice())?;
+    Ok(rising(all))
+}
+
+/// The keys of the columns of measure `m` in a system that begins before it, rising, each once: as
+/// in `keys_of`, but no head. `t` is the timeline of the score.
+pub fn further_keys(
+    alloc: Global,
+    s: &Score,
+    t: &Timeline,
+    m: u32,
+) -> Result<Row<ColumnKey>, Memory>
+    requires good { IsGoodScore s.now }
+    requires times { t.now ≡ timeline_of s.now }
+    requires within { m < s.now.measures }
+    ensures keys { IfOk result (λ r. AreKeys r (further_keys s.now t.now.lengths m)) }
+    ensures places { IfOk result (λ r. All (IsInSystem t.now.lengths m (m + 1)) r) }
+{
+    let all = put_measure_of_voices(alloc, t.lengths.as_slice(), m, s.voices.as_slice())?;
     Ok(rising(all))
 }

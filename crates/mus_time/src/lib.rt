@@ -8,7 +8,7 @@ pub mod columns;
 pub mod keys;
 pub mod times;
 
-pub use columns::keys_of;
+pub use columns::{further_keys, keys_of};
 pub use keys::{Class, ColumnKey};
 pub use times::{Onset, Timeline, onsets};
 

@@ -1,0 +1,3 @@
+pub mod GoodLaws
+pub mod Reaches
+pub mod Walks

@@ -1,0 +1,35 @@
+-- Events within reach of the staff can be drawn.
+use Rattle.std.proofs.Common.{◌≡◌, ◌≤◌, ◌+◌, ◌*◌, ℕ, List, [], ◌∷◌, ◌++◌, length, map, max, refl, arith}
+use Rattle.std.specs.List.{All, sum_by}
+use Rattle.std.proofs.lemmas.List.Elements.{All-head, All-tail}
+use Rattle.std.proofs.lemmas.List.Sums.{sum_by-cons}
+use Rattle.mus_units.specs.declared.note.Head.{Head}
+use Rattle.mus_units.specs.declared.pitch.Clef.{Clef}
+use Rattle.mus_score.specs.declared.score.Flat.{Flat}
+use Rattle.mus_score.specs.Good.{IsGoodFlat, flat_weight, heads_in}
+use Rattle.mus_score.specs.GoodScore.{AreInReach, IsInReach, clef_at}
+use Rattle.mus_stems.specs.Heads.{AllNear, stand_of}
+use Rattle.mus_stems.specs.Stills.{AllCanStand, CanStand}
+use Rattle.mus_drawn.specs.declared.standing.Standing.{Standing}
+use Rattle.mus_drawn.specs.Drawn.{clefs_from, standing_after, standing_behind}
+
+pub near_of : (clef : Clef) (heads : List Head) → All (IsInReach clef) heads → AllNear (map (stand_of clef) heads)
+unfolding stand_of
+near_of clef [] h = tt
+near_of clef (x ∷ heads) h = (All-head (IsInReach clef) x heads h, near_of clef heads (All-tail (IsInReach clef) x heads h))
+
+few_heads : (f : Flat) (n : ℕ) → max 1 (length f.event.heads) + n ≤ 50000 → length f.event.heads ≤ 50000
+few_heads f n h = omega (arith, h)
+
+pub can_stand : (clef : Clef) (fs : List Flat) → AreInReach clef fs → All IsGoodFlat fs → sum_by flat_weight fs ≤ 50000 → AllCanStand fs (clefs_from clef fs)
+can_stand clef [] reach good few = tt
+can_stand clef (f ∷ fs) reach good few =
+    let sum = sum_by-cons flat_weight f fs in
+    let own = All-head IsGoodFlat f fs good in (
+      record { near = near_of (clef_at clef f.event) f.event.heads reach.0; few = few_heads f (heads_in f.graces) (omega (arith, sum, few)); dots = own.dots },
+      can_stand (clef_at clef f.event) fs reach.2 (All-tail IsGoodFlat f fs good) (omega (arith, sum, few)),
+    )
+
+pub reach_cut : (now : Standing) (fs gs : List Flat) → AreInReach now.clef (fs ++ gs) → AreInReach now.clef fs × AreInReach (standing_behind now fs).clef gs
+reach_cut now [] gs h = (tt, h)
+reach_cut now (f ∷ fs) gs h = let r = reach_cut (standing_after now f.event.changes) fs gs h.2 in ((h.0, h.1, r.0), r.1)

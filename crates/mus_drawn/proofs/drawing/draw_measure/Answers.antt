@@ -1,0 +1,24 @@
+use Rattle.std.proofs.Common.{subst, sym, ap, ◌≤◌, ◌∙◌}
+use Rattle.std.specs.Prelude.{map, sum}
+use Rattle.std.specs.List.{sum_by}
+use Rattle.mus_score.specs.Good.{weight}
+use Rattle.mus_units.specs.Good.{IsGoodKey}
+use Rattle.mus_score.specs.Times.{flats_of}
+use Rattle.mus_drawn.specs.Drawn.{opening_of, standing_behind}
+use Rattle.mus_drawn.specs.Good.{AllCanDraw}
+use Rattle.mus_drawn.proofs.GoodLaws.{key_behind, measure_good}
+use Rattle.std.proofs.Common.{arith}
+use Rattle.mus_drawn.proofs.drawing.draw_measure.Goals as goal
+
+pub returns-clause-good : goal.returns-clause-good
+returns-clause-good c =
+    let heads = c.in_ok-flats.ensures.heads in
+    let few = c.requires.body.few in
+    let weights = ap (λ body. sum (map weight body)) c.as_slice.ensures in
+    measure_good c.args.now.now c.in_ok-before.before (flats_of c.args.m.now.body) c.in_ok-flats.flats c.in_ok-plans.plans c.in_ok-opening.opening c.in_ok-draw_events.field-0 c.args.m.now.bar
+    (c.in_ok-flats.ensures.flats ∙ ap flats_of c.as_slice.ensures) (c.in_ok-opening.ensures ∙ ap (opening_of c.args.now.now) c.as_slice-2.ensures) c.in_ok-before.ensures c.in_ok-draw_events.ensures
+    c.requires.key c.requires.reach c.requires.events (omega (arith, heads, few, weights)) c.in_ok-flats.ensures.count
+
+pub returns-clause-key : goal.returns-clause-key
+returns-clause-key c =
+    subst (λ n. IsGoodKey n.key) (sym (c.in_ok-change_all.ensures ∙ ap (standing_behind c.args.now.now) (c.as_slice-4.ensures ∙ c.in_ok-flats.ensures.flats ∙ ap flats_of c.as_slice.ensures))) (key_behind c.args.now.now (flats_of c.args.m.now.body) c.requires.key c.requires.events)

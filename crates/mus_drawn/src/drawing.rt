@@ -1,0 +1,142 @@
+ghost use Rattle.std.specs.Prelude.{◌≡◌, ◌≤◌, ◌*◌, All, IfOk, OnOk, length, sum_by};
+ghost use Rattle.mus_units.specs.Good.{IsGoodKey};
+ghost use Rattle.mus_score.specs.Good.{IsGoodBody, flat_count, IsGoodFlat, flat_weight, longest_ticks, total_ticks};
+ghost use Rattle.mus_score.specs.Times.{flats_of};
+ghost use Rattle.mus_score.specs.GoodScore.{AreInReach, IsGoodEvent, IsGoodVoice, events_of};
+ghost use Rattle.mus_stems.specs.Plans.{stems_of};
+ghost use Rattle.mus_drawn.specs.Drawn.{standing_behind, clefs_from, drawn_event, drawn_events, drawn_measure, drawn_measures, drawn_voice};
+ghost use Rattle.mus_drawn.specs.Good.{AllCanDraw, IsGoodMeasure, AreGoodMeasures};
+
+use crate::drawn::{DrawnEvent, DrawnMeasure, DrawnVoice};
+use crate::standing::{
+    Standing, change, change_all, clefs_from, copy_standing, old_signs, opening_of, standing_of,
+};
+use mus_arcs::arcs;
+use mus_score::{Flat, Measure, Voice, flatten};
+use mus_stems::{StemPlan, stems};
+use mus_units::{Clef, Memory, Row, Wish};
+use std::alloc::Global;
+
+fn draw_event(
+    alloc: Global,
+    tick: u64,
+    now: &Standing,
+    flat: Flat,
+    plan: StemPlan,
+) -> Result<DrawnEvent, Memory>
+    ensures { IfOk result (λ e. e ≡ drawn_event tick now.now flat plan) }
+{
+    Ok(DrawnEvent {
+        tick,
+        clef: flat.event.changes.clef.unwrap_or(now.clef),
+        old: old_signs(alloc, &now.key, &flat.event.changes.key)?,
+        flat,
+        plan,
+    })
+}
+
+/// The events of a measure as they are drawn, each with its plan; `before` is what is in force before
+/// them.
+fn draw_events(
+    alloc: Global,
+    before: Standing,
+    flats: Row<Flat>,
+    plans: Row<StemPlan>,
+) -> Result<Row<DrawnEvent>, Memory>
+    requires { total_ticks flats ≤ 50000 * longest_ticks }
+    ensures { IfOk result (λ r. r ≡ drawn_events 0 before flats plans) }
+{
+    let mut out = Row::new(alloc);
+    let mut now = before;
+    let mut tick: u64 = 0;
+    let mut plans = plans.items.into_iter();
+    for flat in flats.items {
+        let Some(plan) = plans.next() else {
+            return Ok(out);
+        };
+        let event = draw_event(alloc, tick, &now, flat, plan)?;
+        tick += event.flat.duration;
+        change(alloc, &mut now, &event.flat.event.changes)?;
+        out.push(event)?;
+    }
+    Ok(out)
+}
+
+/// The stem plans of the events of a measure that begins in a clef.
+#[tactic(auto, using(crate::proofs::Reaches::can_stand))]
+fn plans_of(alloc: Global, wish: Wish, clef: Clef, flats: &[Flat]) -> Result<Row<StemPlan>, Memory>
+    requires reach { AreInReach clef flats.now }
+    requires each { All IsGoodFlat flats.now }
+    requires few { sum_by flat_weight flats.now ≤ 50000 }
+    ensures plans { IfOk result (λ r. r ≡ stems_of wish flats.now (clefs_from clef flats.now)) }
+    ensures each { IfOk result (λ r. length r ≡ length flats.now) }
+{
+    let clefs = clefs_from(alloc, clef, flats)?;
+    stems(alloc, flats, clefs.as_slice(), wish)
+}
+
+/// A measure as it is drawn; `now` is what is in force before it, and then behind.
+#[tactic(auto, unfolding(crate::specs::Drawn::drawn_measure))]
+fn draw_measure(
+    alloc: Global,
+    wish: Wish,
+    now: &mut Standing,
+    m: &Measure,
+) -> Result<DrawnMeasure, Memory>
+    requires body { IsGoodBody m.now.body }
+    requires key { IsGoodKey now.old.key }
+    requires reach { AreInReach now.old.clef (flats_of m.now.body) }
+    requires events { AllCanDraw (flats_of m.now.body) }
+    ensures good { IfOk result IsGoodMeasure }
+    ensures key { OnOk result (IsGoodKey now.new.key) }
+    ensures measure { IfOk result (λ r. r ≡ drawn_measure wish now.old m.now) }
+    ensures now { OnOk result (now.new ≡ standing_behind now.old (flats_of m.now.body)) }
+{
+    let flats = flatten(alloc, m.body.as_slice())?;
+    let opening = opening_of(alloc, now, flats.as_slice())?;
+    let plans = plans_of(alloc, wish, now.clef, flats.as_slice())?;
+    let before = copy_standing(alloc, now)?;
+    change_all(alloc, now, flats.as_slice())?;
+    Ok(DrawnMeasure {
+        opening,
+        events: draw_events(alloc, before, flats, plans)?,
+        bar: m.bar,
+    })
+}
+
+fn draw_measures(
+    alloc: Global,
+    wish: Wish,
+    now: &mut Standing,
+    measures: &[Measure],
+) -> Result<Row<DrawnMeasure>, Memory>
+    requires bodies { All (λ m. IsGoodBody m.body) measures.now }
+    requires key { IsGoodKey now.old.key }
+    requires reach { AreInReach now.old.clef (events_of measures.now) }
+    requires events { AllCanDraw (events_of measures.now) }
+    ensures measures { IfOk result (λ r. r ≡ drawn_measures wish now.old measures.now) }
+    ensures good { IfOk result AreGoodMeasures }
+{
+    let mut out = Row::new(alloc);
+    for m in measures {
+        out.push(draw_measure(alloc, wish, now, m)?)?;
+    }
+    Ok(out)
+}
+
+/// A voice as it is drawn.
+#[tactic(auto, unfolding(crate::specs::Drawn::drawn_voice))]
+pub fn draw_voice(alloc: Global, v: &Voice) -> Result<DrawnVoice, Memory>
+    requires { IsGoodVoice v.now }
+    ensures voice { IfOk result (λ r. r ≡ drawn_voice v.now) }
+    ensures good { IfOk result (λ r. AreGoodMeasures r.measures) }
+{
+    let mut now = standing_of(alloc, v)?;
+    let measures = draw_measures(alloc, v.stem, &mut now, v.measures.as_slice())?;
+    Ok(DrawnVoice {
+        first: v.first,
+        measures,
+        arcs: arcs(alloc, v)?,
+        verses: v.verses,
+    })
+}

@@ -1,0 +1,14 @@
+//! A voice as it is drawn: its measures with their events, each with what is in force there and how
+//! its stem is drawn, and its arcs. Made once for a tune, it serves each of its systems.
+#![tactic(auto)]
+
+pub mod drawing;
+pub mod drawn;
+pub mod standing;
+
+pub use drawing::draw_voice;
+pub use drawn::{DrawnEvent, DrawnMeasure, DrawnVoice, Opening};
+pub use standing::Standing;
+
+#[cfg(test)]
+mod tests;

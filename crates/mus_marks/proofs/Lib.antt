@@ -1,0 +1,6 @@
+pub mod Few
+pub mod Goods
+pub mod Lines
+pub mod RankLaws
+pub mod TextParts
+pub mod Texts

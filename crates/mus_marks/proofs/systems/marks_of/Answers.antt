@@ -1,0 +1,60 @@
+use Rattle.std.proofs.Common.{◌≡◌, ◌∙◌, length, map, refl, ap, subst, sym, arith}
+use Rattle.std.specs.List.{All}
+use Rattle.std.proofs.lemmas.Simd.{map-map}
+use Rattle.mus_time.proofs.Places.{length_of_lengths}
+use Rattle.mus_drawn.specs.Drawn.{drawn_voice}
+use Rattle.mus_laid.specs.Boxes.{AreGoodMarks}
+use Rattle.mus_marks.specs.Staff.{staff_marks}
+use Rattle.mus_marks.specs.Ranks.{AreRanked}
+use Rattle.mus_marks.proofs.Few.{few_keys}
+use Rattle.mus_marks.proofs.Texts.{staves_good}
+use Rattle.mus_marks.proofs.Lines.{voices_count}
+use Rattle.mus_marks.proofs.systems.marks_of.Goals as goal
+
+pub staves-requires-clause-within : goal.staves-requires-clause-within
+staves-requires-clause-within c =
+    let count : length c.as_slice-lengths.result.now ≡ c.args.s.now.measures =
+    ap length (c.as_slice-lengths.ensures ∙ ap (λ t. t.lengths) c.requires.times) ∙ length_of_lengths c.args.s.now in
+    omega (arith, count, c.requires.within)
+
+pub staves-requires-clause-few : goal.staves-requires-clause-few
+staves-requires-clause-few c =
+    let count : length c.as_slice-lengths.result.now ≡ c.args.s.now.measures =
+    ap length (c.as_slice-lengths.ensures ∙ ap (λ t. t.lengths) c.requires.times) ∙ length_of_lengths c.args.s.now in
+    omega (arith, count, c.requires.good.few_measures)
+
+pub staves-requires-clause-each : goal.staves-requires-clause-each
+staves-requires-clause-each c =
+    let count : length c.as_slice-lengths.result.now ≡ c.args.s.now.measures =
+    ap length (c.as_slice-lengths.ensures ∙ ap (λ t. t.lengths) c.requires.times) ∙ length_of_lengths c.args.s.now in
+    subst (λ vs. All (λ v. length v.measures ≡ length c.as_slice-lengths.result.now) vs) (sym c.requires.voices)
+    (voices_count (length c.as_slice-lengths.result.now) c.args.s.now.voices (λ k d h. c.requires.good.measures k d h ∙ sym count))
+
+pub returns-clause-call : goal.returns-clause-call
+returns-clause-call c = record {
+  from = refl;
+  to = refl;
+  keys = c.in_ok-keys.ensures.keys;
+  staves = c.in_ok-staves.ensures.staves
+      ∙ ap (λ ks. map (staff_marks ks c.as_slice-lengths.result.now c.args.a c.args.b) c.args.voices.now) c.as_slice.ensures
+      ∙ ap (λ ls. map (staff_marks c.in_ok-keys.keys ls c.args.a c.args.b) c.args.voices.now) c.as_slice-lengths.ensures
+      ∙ ap (map (staff_marks c.in_ok-keys.keys c.args.t.now.lengths c.args.a c.args.b)) c.requires.voices
+      ∙ map-map (staff_marks c.in_ok-keys.keys c.args.t.now.lengths c.args.a c.args.b) drawn_voice c.args.s.now.voices;
+}
+
+pub returns-clause-good : goal.returns-clause-good
+returns-clause-good c =
+    let keys = c.in_ok-keys.keys in let lengths = c.args.t.now.lengths in
+    let staves = c.in_ok-staves.ensures.staves
+    ∙ ap (λ ks. map (staff_marks ks c.as_slice-lengths.result.now c.args.a c.args.b) c.args.voices.now) c.as_slice.ensures
+    ∙ ap (λ ls. map (staff_marks keys ls c.args.a c.args.b) c.args.voices.now) c.as_slice-lengths.ensures
+    ∙ ap (map (staff_marks keys lengths c.args.a c.args.b)) c.requires.voices
+    ∙ map-map (staff_marks keys lengths c.args.a c.args.b) drawn_voice c.args.s.now.voices in
+    subst (λ ss. All (λ s. AreGoodMarks s.marks) ss) (sym staves) (staves_good keys lengths c.args.a c.args.b c.args.s.now.voices c.requires.good.voices)
+
+pub staves-requires-clause-keys : goal.staves-requires-clause-keys
+staves-requires-clause-keys c =
+    subst AreRanked (sym c.as_slice.ensures) (record {
+      rise = c.in_ok-keys.ensures.keys.rise;
+      few = few_keys c.args.s.now c.args.t.now.lengths c.args.a c.args.b c.in_ok-keys.keys c.requires.good c.requires.within c.in_ok-keys.ensures.keys;
+    })

@@ -1,0 +1,14 @@
+-- The rank of a column: the number of columns of its system that stand before it.
+use Rattle.std.specs.Prelude.{ℕ, ◌<◌, List, length}
+use Rattle.mus_time.specs.declared.keys.Class.{Class}
+use Rattle.mus_time.specs.declared.keys.ColumnKey.{ColumnKey}
+use Rattle.mus_time.specs.Keys.{key_at}
+use Rattle.mus_time.specs.Order.{Rises, rank_of}
+
+-- the keys of a system: they rise, and their ranks have 32 bits
+pub record AreRanked (keys : List ColumnKey) : Type 0 where
+  pub rise : Rises keys
+  pub few : length keys < 4294967296
+
+abbrev pub rank_at : List ColumnKey → ℕ → ℕ → Class → ℕ → ℕ
+rank_at keys measure tick class place = rank_of keys (key_at measure tick class place)

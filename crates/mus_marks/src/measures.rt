@@ -1,0 +1,167 @@
+ghost use Rattle.std.specs.Prelude.{◌≡◌, ◌≤◌, ◌<◌, ◌+◌, ◌++◌, length, OnOk};
+ghost use Rattle.mus_time.specs.Keys.{has_features};
+ghost use Rattle.mus_drawn.specs.Good.{AreGoodMeasures, IsGoodMeasure};
+ghost use Rattle.mus_marks.specs.Events.{bar_part, events_marks, measures_marks};
+ghost use Rattle.mus_marks.specs.Ranks.{AreRanked};
+ghost use Rattle.mus_marks.specs.Staff.{meter_shown, head_part, first_part, columns_part};
+
+use crate::events::{Room, put_events};
+use crate::ranks::rank_at;
+use mus_drawn::{DrawnMeasure, Opening};
+use mus_laid::Laid;
+use mus_parts::{put_bar, put_head};
+use mus_time::{Class, ColumnKey};
+use mus_units::{Bar, Memory, Meter, Row};
+use std::alloc::Global;
+
+/// Lays the bar behind a measure.
+fn put_bar_part(
+    out: &mut Row<Laid>,
+    keys: &[ColumnKey],
+    lengths: &[u64],
+    measure: u32,
+    d: &DrawnMeasure,
+) -> Result<(), Memory>
+    requires keys { AreRanked keys.now }
+    requires inside { measure < length lengths.now }
+    ensures { OnOk result (out.new ≡ out.old ++ bar_part keys.now lengths.now measure d.now) }
+{
+    let tick = lengths[measure as usize];
+    put_bar(out, rank_at(keys, measure, tick, Class::Bar, 0), d.bar)
+}
+
+fn put_measure(
+    alloc: Global,
+    out: &mut Row<Laid>,
+    keys: &[ColumnKey],
+    lengths: &[u64],
+    room: Option<Room>,
+    measure: u32,
+    in_head: bool,
+    d: &DrawnMeasure,
+) -> Result<(), Memory>
+    requires keys { AreRanked keys.now }
+    requires inside { measure < length lengths.now }
+    requires good { IsGoodMeasure d.now }
+    ensures { OnOk result (out.new ≡ out.old ++ events_marks keys.now room measure in_head 0 0 d.now.events ++ bar_part keys.now lengths.now measure d.now) }
+{
+    put_events(
+        alloc,
+        out,
+        keys,
+        room,
+        measure,
+        in_head,
+        d.events.as_slice(),
+    )?;
+    put_bar_part(out, keys, lengths, measure, d)
+}
+
+/// Lays the events and bars of measures of a system, from number `a` on, by the ranks of the keys; the
+/// change before the first event of the first of them is left out where the head of the system draws
+/// it. Syllables and texts are laid where their room is known. The only error is want of memory.
+pub fn put_measures(
+    alloc: Global,
+    out: &mut Row<Laid>,
+    keys: &[ColumnKey],
+    lengths: &[u64],
+    room: Option<Room>,
+    a: u32,
+    in_head: bool,
+    measures: &[DrawnMeasure],
+) -> Result<(), Memory>
+    requires keys { AreRanked keys.now }
+    requires fits { a + length measures.now ≤ length lengths.now }
+    requires few { length lengths.now ≤ 2000 }
+    requires good { AreGoodMeasures measures.now }
+    ensures { OnOk result (out.new ≡ out.old ++ measures_marks keys.now lengths.now room a in_head measures.now) }
+{
+    let mut measure = a;
+    let mut in_head = in_head;
+    for d in measures {
+        put_measure(alloc, out, keys, lengths, room, measure, in_head, d)?;
+        in_head = false;
+        measure += 1;
+    }
+    Ok(())
+}
+
+/// The meter that a head shows.
+fn meter_shown(a: u32, opening: &Opening) -> Option<Meter>
+    ensures { result ≡ meter_shown a opening.now }
+{
+    if a == 0 || opening.anew {
+        Some(opening.meter)
+    } else {
+        None
+    }
+}
+
+/// Lays the head of the system that begins with the first of these measures.
+fn put_head_part(
+    alloc: Global,
+    out: &mut Row<Laid>,
+    keys: &[ColumnKey],
+    a: u32,
+    measures: &[DrawnMeasure],
+) -> Result<(), Memory>
+    requires keys { AreRanked keys.now }
+    requires good { AreGoodMeasures measures.now }
+    ensures { OnOk result (out.new ≡ out.old ++ head_part keys.now a measures.now) }
+{
+    let [first, ..] = measures else {
+        return Ok(());
+    };
+    let opening = &first.opening;
+    let rank = rank_at(keys, a, 0, Class::Head, 0);
+    let meter = meter_shown(a, opening);
+    put_head(
+        alloc,
+        out,
+        rank,
+        opening.clef,
+        opening.key.signs.as_slice(),
+        meter,
+    )
+}
+
+fn is_featured(bar: Bar) -> bool
+    ensures { result ≡ has_features bar }
+{
+    bar.end || bar.start || bar.last || bar.initial || bar.double || bar.dotted || bar.unseen
+}
+
+/// Lays the bar before the first measure, where it has features.
+fn put_first_part(out: &mut Row<Laid>, keys: &[ColumnKey], a: u32, bar: Bar) -> Result<(), Memory>
+    requires { AreRanked keys.now }
+    ensures { OnOk result (out.new ≡ out.old ++ first_part keys.now a bar) }
+{
+    if a != 0 || !is_featured(bar) {
+        return Ok(());
+    }
+    put_bar(out, rank_at(keys, 0, 0, Class::First, 0), bar)
+}
+
+/// Lays what stands in the columns of a system from measure `a` on: its head, the bar before the first
+/// measure, its events and its bars. The only error is want of memory.
+#[tactic(auto, unfolding(crate::specs::Staff::columns_part))]
+pub fn put_columns_part(
+    alloc: Global,
+    out: &mut Row<Laid>,
+    keys: &[ColumnKey],
+    lengths: &[u64],
+    room: Option<Room>,
+    a: u32,
+    first: Bar,
+    measures: &[DrawnMeasure],
+) -> Result<(), Memory>
+    requires keys { AreRanked keys.now }
+    requires fits { a + length measures.now ≤ length lengths.now }
+    requires few { length lengths.now ≤ 2000 }
+    requires good { AreGoodMeasures measures.now }
+    ensures { OnOk result (out.new ≡ out.old ++ columns_part keys.now lengths.now room a first measures.now) }
+{
+    put_head_part(alloc, out, keys, a, measures)?;
+    put_first_part(out, keys, a, first)?;
+    put_measures(alloc, out, keys, lengths, room, a, true, measures)
+}

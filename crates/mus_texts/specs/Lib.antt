@@ -1,0 +1,4 @@
+pub mod Arcs
+pub mod Syllables
+pub mod Texts
+pub mod Words

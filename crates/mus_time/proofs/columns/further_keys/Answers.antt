@@ -1,0 +1,31 @@
+use Rattle.std.proofs.Common.{◌≡◌, ◌∙◌, ◌+◌, ap, arith, length, subst, sym}
+use Rattle.std.specs.List.{All, flat_map}
+use Rattle.mus_time.proofs.Places.{length_of_lengths, further_places}
+use Rattle.mus_time.specs.Keys.{AreKeys, IsInSystem, measure_keys}
+use Rattle.mus_time.specs.Onsets.{timeline_of}
+use Rattle.mus_time.proofs.columns.further_keys.Goals as goal
+
+pub put_measure_of_voices-requires-clause-within : goal.put_measure_of_voices-requires-clause-within
+put_measure_of_voices-requires-clause-within c =
+    let count : length c.as_slice.result.now ≡ c.args.s.now.measures =
+    ap length (c.as_slice.ensures ∙ ap (λ t. t.lengths) c.requires.times) ∙ length_of_lengths c.args.s.now in
+    omega (arith, count, c.requires.within)
+
+pub put_measure_of_voices-requires-clause-lengths : goal.put_measure_of_voices-requires-clause-lengths
+put_measure_of_voices-requires-clause-lengths c =
+    let count : length c.as_slice.result.now ≡ c.args.s.now.measures =
+    ap length (c.as_slice.ensures ∙ ap (λ t. t.lengths) c.requires.times) ∙ length_of_lengths c.args.s.now in
+    subst (λ vs. All (λ v. length v.measures ≡ length c.as_slice.result.now) vs) (sym c.as_slice-2.ensures)
+    (λ k d h. c.requires.good.measures k d h ∙ sym count)
+
+pub returns-clause-places : goal.returns-clause-places
+returns-clause-places c =
+    let s = c.args.s.now in
+    let m = c.args.m in
+    let timed = ap (λ t. t.lengths) c.requires.times in
+    let called = c.in_ok-all.ensures
+    ∙ ap (λ ls. flat_map (measure_keys ls m) c.as_slice-2.result.now) (c.as_slice.ensures ∙ timed)
+    ∙ ap (λ vs. flat_map (measure_keys (timeline_of s).lengths m) vs) c.as_slice-2.ensures in
+    subst (λ ls. All (IsInSystem ls m (m + 1)) c.rising.result) (sym timed)
+    (further_places s m c.rising.result c.requires.good c.requires.within
+    (subst (λ z. AreKeys c.rising.result z) called c.rising.ensures))
