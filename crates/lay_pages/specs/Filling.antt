@@ -1,6 +1,6 @@
 -- Blocks on pages, from the top of a page down. A block that is tied to the next stands on one page
 -- with it; such a run of blocks is a group.
-use Rattle.std.specs.Prelude.{◌≡◌, ◌^◌, ⊤, ℕ, suc, ◌+◌, nat_le, nat_lt, ℤ, pos, negsuc, ◌-ℤ◌, ◌≤ℤ◌, Bool, true, false, not, ◌&&◌, ◌||◌, List, [], ◌∷◌, Option, Some, None}
+use Rattle.std.specs.Prelude.{◌≡◌, ◌^◌, ⊤, ℕ, suc, ◌+◌, nat_le, nat_lt, ℤ, pos, negsuc, ◌-ℤ◌, ◌≤ℤ◌, ◌<ℤ◌, Bool, true, false, not, ◌&&◌, ◌||◌, List, [], ◌∷◌, Option, Some, None}
 use Rattle.lay_pages.specs.declared.filling.Block.{Block}
 use Rattle.lay_pages.specs.declared.filling.Spot.{Spot}
 use Rattle.lay_pages.specs.declared.filling.Place.{Place}
@@ -67,6 +67,28 @@ abbrev pub AreWithin : ℕ → List Block → List Spot → Type 0
 AreWithin high [] [] = ⊤
 AreWithin high (block ∷ blocks) (spot ∷ spots) = ((spot.top ≤ℤ pos high) × (pos 0 ≤ℤ (spot.top -ℤ block.height))) × AreWithin high blocks spots
 AreWithin high _ _ = ⊥
+
+-- the top of what stands under a block, 1500 below its bottom
+abbrev pub top_under : Block → Spot → ℤ
+top_under block spot = (spot.top -ℤ block.height) -ℤ pos 1500
+
+-- The block behind one stands 1500 under it on the same page, or at the top of the next page: the
+-- latter only where a group begins with it that doesn't fit under the other.
+pub data Follows (high : ℕ) (block : Block) (spot : Spot) (more : List Block) (next : Spot) : Type 0 where
+  same_page : next.page ≡ spot.page → next.top ≡ top_under block spot → Follows high block spot more next
+  next_page : block.keep ≡ false → top_under block spot <ℤ pos (group_height more) → next.page ≡ suc spot.page → next.top ≡ pos high → Follows high block spot more next
+
+abbrev pub FollowOn : ℕ → List Block → List Spot → Type 0
+FollowOn high (block ∷ next ∷ more) (spot ∷ after ∷ spots) = Follows high block spot (next ∷ more) after × FollowOn high (next ∷ more) (after ∷ spots)
+FollowOn high _ _ = ⊤
+
+-- the first block stands at the top of the first page
+abbrev pub BeginOn : ℕ → List Spot → Type 0
+BeginOn high [] = ⊤
+BeginOn high (spot ∷ spots) = (spot.page ≡ 0) × (spot.top ≡ pos high)
+
+abbrev pub AreFilled : ℕ → List Block → List Spot → Type 0
+AreFilled high blocks spots = BeginOn high spots × FollowOn high blocks spots
 
 abbrev pub IsPageError : ℕ → List Block → PageError → Type 0
 IsPageError high blocks errors.Memory = ⊤

@@ -1,6 +1,6 @@
 -- The title block of a tune: a row for each title, in the middle; a row for each composer, at the
 -- right; and a row for the tempo, at the left. A text of which nothing is printed has no row.
-use Rattle.std.specs.Prelude.{◌≡◌, ℕ, ◌+◌, ◌-◌, ◌*◌, ◌/◌, ◌==◌, ℤ, pos, ◌+ℤ◌, ◌-ℤ◌, min, if◌then◌else◌, List, [], ◌∷◌, ◌++◌, map, flat_map, length, Option, Some, None}
+use Rattle.std.specs.Prelude.{ℕ, ◌+◌, ◌-◌, ◌*◌, ◌/◌, pos, min, List, [], ◌∷◌, ◌++◌, length, Option, Some, None}
 use Rattle.mus_units.specs.declared.glyph.Size.{Size}
 use Rattle.mus_units.specs.declared.glyph.Size.TheVariants as sizes
 use Rattle.mus_laid.specs.Boxes.{character_width}

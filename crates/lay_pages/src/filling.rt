@@ -1,5 +1,5 @@
 ghost use Rattle.std.specs.Prelude.{◌≡◌, ◌<◌, ◌≤◌, ◌+◌, ◌-◌, ◌*◌, ◌^◌, pos, ◌≤ℤ◌, nat_le, nat_lt, length, IfOk, IfErr, None};
-ghost use Rattle.lay_pages.specs.Filling.{AreGoodBlocks, height_of, group_height, next_place, spot_at, spots_of, first_tall, AreWithin, IsPageError};
+ghost use Rattle.lay_pages.specs.Filling.{AreGoodBlocks, height_of, group_height, next_place, spot_at, spots_of, first_tall, AreWithin, AreFilled, IsPageError};
 ghost use Rattle.lay_pages.specs.declared.filling.PageError.TheVariants as errors;
 
 use mus_units::{Memory, Row};
@@ -45,6 +45,7 @@ pub fn fill(alloc: Global, blocks: &[Block], high: u32) -> Result<Row<Spot>, Pag
     requires good { AreGoodBlocks blocks.now }
     ensures spots { IfOk result (λ spots. spots ≡ spots_of high blocks.now) }
     ensures within { IfOk result (λ spots. AreWithin high blocks.now spots) }
+    ensures filled { IfOk result (λ spots. AreFilled high blocks.now spots) }
     ensures fits { IfOk result (λ spots. first_tall high blocks.now ≡ None) }
     ensures tall { IfErr result (λ e. IsPageError high blocks.now e) }
 {

@@ -1,5 +1,4 @@
-use Rattle.std.proofs.Common.{◌≡◌, ◌∷◌, ◌≤◌, ◌+◌, [], List, length, arith, rules, ap, sym, subst}
-use Rattle.lay_pages.specs.Filling.{next_place}
+use Rattle.std.proofs.Common.{◌≡◌, ◌∷◌, length, arith, rules, ap, sym, subst}
 use Rattle.lay_pages.proofs.Fitting.{IsReady, ready_first, ready_more, page_more, value_more, some_of}
 use Rattle.lay_pages.proofs.filling.spots_of.Goals as goal
 

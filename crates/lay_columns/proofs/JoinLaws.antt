@@ -1,0 +1,176 @@
+-- Columns of two lists of measures, one after the other.
+use Rattle.std.proofs.Common.{◌≡◌, ◌≢◌, ℕ, ◌+◌, ◌-◌, ◌<◌, ◌==◌, Bool, true, false, List, [], ◌∷◌, ◌++◌, map, length, Option, Some, None, refl, ap, ◌∙◌, arith, if◌then◌else◌, get_or}
+use Rattle.std.specs.List.{All, find}
+use Rattle.std.proofs.lemmas.List.{append-nil}
+use Rattle.std.proofs.lemmas.List.Elements.{All-head, All-tail}
+use Rattle.mus_time.specs.declared.keys.ColumnKey.{ColumnKey}
+use Rattle.mus_laid.specs.Boxes.{sides_of}
+use Rattle.mus_laid.specs.declared.boxes.Sides.{Sides}
+use Rattle.mus_laid.specs.declared.laid.Laid.{Laid}
+use Rattle.mus_laid.specs.declared.laid.Mark.{Mark}
+use Rattle.mus_laid.specs.declared.laid.Mark.TheVariants as marks
+use Rattle.mus_laid.specs.declared.laid.StaffMarks.{StaffMarks}
+use Rattle.lay_columns.specs.Columns.{columns_from}
+use Rattle.lay_columns.specs.Joining.{ColumnsJoin, IsBelow, MarksJoin, moved, moved_mark, OfOtherMeasures, StavesJoin}
+use Rattle.lay_columns.specs.Lanes.{lane_count}
+use Rattle.lay_columns.specs.Naturals.{is_note, length_of, natural_for, natural_of, next_tick}
+use Rattle.lay_columns.specs.Reaches.{box_at, boxes_at, drawn_reach, is_number, rank_of, reach_over, reaches_of, staff_reaches, standing, stands_always}
+use Rattle.lay_columns.proofs.Tables.{same_range}
+
+-- ---- reaches
+staff_same : (always : Bool) (rank rank' : ℕ) (marks marks' : List Laid) (verses : ℕ) → ((lane : ℕ) → boxes_at rank lane marks ≡ boxes_at rank' lane marks')
+    → staff_reaches always rank marks verses ≡ staff_reaches always rank' marks' verses
+staff_same always rank rank' marks marks' verses h =
+    ap (λ t. map (standing always) t) (same_range (drawn_reach marks rank) (drawn_reach marks' rank') (lane_count verses) None (λ k l. ap reach_over (h k)))
+
+reaches_front : (always : Bool) (n rank : ℕ) (joined first second : List StaffMarks) (verses : List ℕ) → rank < n → StavesJoin n joined first second
+    → reaches_of always rank joined verses ≡ reaches_of always rank first verses
+reaches_front always n rank [] [] [] verses l h = refl
+reaches_front always n rank [] [] (b ∷ second) verses l h = absurd h
+reaches_front always n rank [] (a ∷ first) second verses l h = absurd h
+reaches_front always n rank (x ∷ joined) [] second verses l h = absurd h
+reaches_front always n rank (x ∷ joined) (a ∷ first) [] verses l h = absurd h
+reaches_front always n rank (x ∷ joined) (a ∷ first) (b ∷ second) [] l h = refl
+reaches_front always n rank (x ∷ joined) (a ∷ first) (b ∷ second) (v ∷ verses) l (h, more) =
+    let p = staff_same always rank rank x.marks a.marks v (λ lane. h.front rank lane l) in
+    let q = reaches_front always n rank joined first second verses l more in
+    rw (p, q) refl
+
+reaches_behind : (always : Bool) (n rank : ℕ) (joined first second : List StaffMarks) (verses : List ℕ) → StavesJoin n joined first second
+    → reaches_of always (n + rank) joined verses ≡ reaches_of always rank second verses
+reaches_behind always n rank [] [] [] verses h = refl
+reaches_behind always n rank [] [] (b ∷ second) verses h = absurd h
+reaches_behind always n rank [] (a ∷ first) second verses h = absurd h
+reaches_behind always n rank (x ∷ joined) [] second verses h = absurd h
+reaches_behind always n rank (x ∷ joined) (a ∷ first) [] verses h = absurd h
+reaches_behind always n rank (x ∷ joined) (a ∷ first) (b ∷ second) [] h = refl
+reaches_behind always n rank (x ∷ joined) (a ∷ first) (b ∷ second) (v ∷ verses) (h, more) =
+    let p = staff_same always (n + rank) rank x.marks b.marks v (λ lane. h.behind rank lane) in
+    let q = reaches_behind always n rank joined first second verses more in
+    rw (p, q) refl
+
+-- ---- naturals
+find_more : (keys more : List ColumnKey) (m : ℕ) (lengths : List ℕ) → All (λ l. l.measure ≢ m) more
+    → next_tick m (find is_note (keys ++ more)) lengths ≡ next_tick m (find is_note keys) lengths
+find_more [] [] m lengths h = refl
+find_more [] (key ∷ more) m lengths h = by (is_note key) refl (find_more [] more m lengths (All-tail (λ l. l.measure ≢ m) key more h))
+  where
+    by : (b : Bool) → is_note key ≡ b → next_tick m (find is_note more) lengths ≡ length_of lengths m
+        → next_tick m (find is_note (key ∷ more)) lengths ≡ length_of lengths m
+    by true e rest = let ne = All-head (λ l. l.measure ≢ m) key more h in let no : (key.measure == m) ≡ false = grind (arith, ne) in rw (e, no) refl
+    by false e rest = rw e rest
+find_more (key ∷ keys) more m lengths h = by (is_note key) refl (find_more keys more m lengths h)
+  where
+    by : (b : Bool) → is_note key ≡ b → next_tick m (find is_note (keys ++ more)) lengths ≡ next_tick m (find is_note keys) lengths
+        → next_tick m (find is_note ((key ∷ keys) ++ more)) lengths ≡ next_tick m (find is_note (key ∷ keys)) lengths
+    by true e rest = rw e refl
+    by false e rest = rw e rest
+
+natural_more : (key : ColumnKey) (keys more : List ColumnKey) (lengths : List ℕ) → All (λ l. l.measure ≢ key.measure) more
+    → natural_of key (keys ++ more) lengths ≡ natural_of key keys lengths
+natural_more key keys more lengths h =
+    ap (λ t. if is_note key then natural_for (t - key.tick) else 0) (find_more keys more key.measure lengths h)
+
+-- ---- columns
+module _ (joined first second : List StaffMarks) (lengths verses : List ℕ) where
+  behind_same : (n rank : ℕ) (keys : List ColumnKey) → StavesJoin n joined first second
+      → columns_from (n + rank) keys joined lengths verses ≡ columns_from rank keys second lengths verses
+  behind_same n rank [] h = refl
+  behind_same n rank (key ∷ keys) h =
+      let e : n + rank + 1 ≡ n + (rank + 1) = omega arith in
+      let r = reaches_behind (stands_always key.class) n rank joined first second verses h in
+      let b = ap (λ t. columns_from t keys joined lengths verses) e ∙ behind_same n (rank + 1) keys h in
+      rw (r, b) refl
+
+  front_same : (n rank : ℕ) (keys more : List ColumnKey) → rank + length keys ≡ n → OfOtherMeasures keys more → StavesJoin n joined first second
+      → columns_from rank (keys ++ more) joined lengths verses ≡ columns_from rank keys first lengths verses ++ columns_from 0 more second lengths verses
+  front_same n rank [] more e o h =
+      let p : rank ≡ n + 0 = omega (arith, e) in
+      ap (λ t. columns_from t more joined lengths verses) p ∙ behind_same n 0 more h
+  front_same n rank (key ∷ keys) more e o h =
+      let r = reaches_front (stands_always key.class) n rank joined first second verses (omega (arith, e)) h in
+      let s = natural_more key keys more lengths (All-head (λ k. All (λ l. l.measure ≢ k.measure) more) key keys o) in
+      let b = front_same n (rank + 1) keys more (omega (arith, e)) (All-tail (λ k. All (λ l. l.measure ≢ k.measure) more) key keys o) h in
+      rw (r, s, b) refl
+
+pub columns_join : ColumnsJoin
+columns_join front behind joined first second lengths verses o h =
+    front_same joined first second lengths verses (length front) 0 front behind (omega arith) o h
+
+-- ---- marks
+boxes_append : (rank lane : ℕ) (xs ys : List Laid) → boxes_at rank lane (xs ++ ys) ≡ boxes_at rank lane xs ++ boxes_at rank lane ys
+boxes_append rank lane [] ys = refl
+boxes_append rank lane (x ∷ xs) ys = by (box_at rank lane x) refl (boxes_append rank lane xs ys)
+  where
+    by : (o : Option Sides) → box_at rank lane x ≡ o → boxes_at rank lane (xs ++ ys) ≡ boxes_at rank lane xs ++ boxes_at rank lane ys
+        → boxes_at rank lane ((x ∷ xs) ++ ys) ≡ boxes_at rank lane (x ∷ xs) ++ boxes_at rank lane ys
+    by None e rest = rw e rest
+    by (Some box) e rest = rw e (ap (λ t. box ∷ t) rest)
+
+boxes_none : (rank lane : ℕ) (xs : List Laid) → All (λ l. box_at rank lane l ≡ None) xs → boxes_at rank lane xs ≡ []
+boxes_none rank lane [] h = refl
+boxes_none rank lane (x ∷ xs) h =
+    let e = All-head (λ l. box_at rank lane l ≡ None) x xs h in
+    rw e (boxes_none rank lane xs (All-tail (λ l. box_at rank lane l ≡ None) x xs h))
+
+no_rank : (rank lane : ℕ) (laid : Laid) → is_number rank (rank_of laid.mark) ≡ false → box_at rank lane laid ≡ None
+no_rank rank lane laid e = rw e refl
+
+ranked_moved : (n rank : ℕ) (mark : Mark) → is_number (n + rank) (rank_of (moved_mark n mark)) ≡ is_number rank (rank_of mark)
+ranked_moved n rank (marks.Glyph glyph r dx dy) = grind arith
+ranked_moved n rank (marks.Words size r dx dy text) = grind arith
+ranked_moved n rank (marks.Stem r dx from to) = refl
+ranked_moved n rank (marks.Beam way first last from to) = refl
+ranked_moved n rank (marks.Arc first last from to bulge) = refl
+
+sides_moved : (n : ℕ) (mark : Mark) → sides_of (moved_mark n mark) ≡ sides_of mark
+sides_moved n (marks.Glyph glyph r dx dy) = refl
+sides_moved n (marks.Words size r dx dy text) = refl
+sides_moved n (marks.Stem r dx from to) = refl
+sides_moved n (marks.Beam way first last from to) = refl
+sides_moved n (marks.Arc first last from to bulge) = refl
+
+box_moved : (n rank lane : ℕ) (laid : Laid) → box_at (n + rank) lane (moved n laid) ≡ box_at rank lane laid
+box_moved n rank lane laid = rw (ranked_moved n rank laid.mark, sides_moved n laid.mark) refl
+
+boxes_moved : (n rank lane : ℕ) (xs : List Laid) → boxes_at (n + rank) lane (map (moved n) xs) ≡ boxes_at rank lane xs
+boxes_moved n rank lane [] = refl
+boxes_moved n rank lane (x ∷ xs) = rw (box_moved n rank lane x, boxes_moved n rank lane xs) refl
+
+before_moved : (n rank : ℕ) (mark : Mark) → rank < n → is_number rank (rank_of (moved_mark n mark)) ≡ false
+before_moved n rank (marks.Glyph glyph r dx dy) l = grind (arith, l)
+before_moved n rank (marks.Words size r dx dy text) l = grind (arith, l)
+before_moved n rank (marks.Stem r dx from to) l = refl
+before_moved n rank (marks.Beam way first last from to) l = refl
+before_moved n rank (marks.Arc first last from to bulge) l = refl
+
+none_moved : (n rank lane : ℕ) (xs : List Laid) → rank < n → boxes_at rank lane (map (moved n) xs) ≡ []
+none_moved n rank lane [] l = refl
+none_moved n rank lane (x ∷ xs) l = rw (no_rank rank lane (moved n x) (before_moved n rank x.mark l)) (none_moved n rank lane xs l)
+
+past_first : (n rank : ℕ) (o : Option ℕ) → IsBelow n o → is_number (n + rank) o ≡ false
+past_first n rank None h = refl
+past_first n rank (Some r) h = grind (arith, h)
+
+pub marks_join : MarksJoin
+marks_join n first second loose below free = record {
+  front = λ rank lane l.
+      boxes_append rank lane (first ++ map (moved n) second) loose
+      ∙ ap (λ t. t ++ boxes_at rank lane loose) (boxes_append rank lane first (map (moved n) second))
+      ∙ ap (λ t. boxes_at rank lane first ++ t ++ boxes_at rank lane loose) (none_moved n rank lane second l)
+      ∙ ap (λ t. boxes_at rank lane first ++ [] ++ t) (loose_none rank lane)
+      ∙ append-nil (boxes_at rank lane first ++ []) ∙ append-nil (boxes_at rank lane first);
+  behind = λ rank lane.
+      boxes_append (n + rank) lane (first ++ map (moved n) second) loose
+      ∙ ap (λ t. t ++ boxes_at (n + rank) lane loose) (boxes_append (n + rank) lane first (map (moved n) second))
+      ∙ ap (λ t. boxes_at (n + rank) lane first ++ boxes_at (n + rank) lane (map (moved n) second) ++ t) (loose_none (n + rank) lane)
+      ∙ append-nil (boxes_at (n + rank) lane first ++ boxes_at (n + rank) lane (map (moved n) second))
+      ∙ ap (λ t. t ++ boxes_at (n + rank) lane (map (moved n) second)) (first_none rank lane)
+      ∙ boxes_moved n rank lane second;
+}
+  where
+    loose_none : (rank lane : ℕ) → boxes_at rank lane loose ≡ []
+    loose_none rank lane = boxes_none rank lane loose (λ k d l. no_rank rank lane (get_or loose k d) (ap (is_number rank) (free k d l)))
+
+    first_none : (rank lane : ℕ) → boxes_at (n + rank) lane first ≡ []
+    first_none rank lane = boxes_none (n + rank) lane first (λ k d l. no_rank (n + rank) lane (get_or first k d) (past_first n rank (rank_of (get_or first k d).mark) (below k d l)))

@@ -1,0 +1,9 @@
+pub mod Answered
+pub mod Covering
+pub mod Facts
+pub mod Gaps
+pub mod JoinLaws
+pub mod Joined
+pub mod NextNotes
+pub mod Pushed
+pub mod Tables

@@ -1,0 +1,7 @@
+pub mod Column
+pub mod Columns
+pub mod Joining
+pub mod Lanes
+pub mod Naturals
+pub mod Reaches
+pub mod Widened

@@ -1,0 +1,64 @@
+ghost use Rattle.std.specs.Prelude.{◌≡◌};
+ghost use Rattle.lay_columns.specs.Column.{cut_reach};
+
+use lay_springs::{Reach, Spaced, Spring};
+use mus_time::ColumnKey;
+use mus_units::Row;
+
+pub(crate) const MOST_REACH: u32 = 1 << 20;
+
+const MOST_NATURAL: u32 = 4000;
+
+/// A column of a system: its key; its reach in each lane, None where it doesn't stand in it;
+/// and the natural length of the spring to the next column, in u, 0 without a spring. Lanes are
+/// for each staff, from the top, main, above, below and one for each verse. A reach is counted
+/// to at most 2^20, a natural length to at most 4000.
+#[derive(Debug, Drop)]
+pub struct Column {
+    pub key: ColumnKey,
+    pub reaches: Row<Option<Reach>>,
+    pub natural: u32,
+}
+
+fn cut_reach(reach: Reach) -> Reach
+    ensures { result ≡ cut_reach reach }
+{
+    Reach {
+        left: reach.left.min(MOST_REACH),
+        right: reach.right.min(MOST_REACH),
+    }
+}
+
+impl Spaced for Column {
+    ghost use Rattle.lay_columns.specs.Column.{reach_in};
+    ghost use Rattle.lay_columns.specs.Column.{reach_in_near};
+
+    ghost reach_of = { λ c lane. reach_in c.reaches lane };
+
+    #[tactic(auto, unfolding(crate::specs::Column::reach_in))]
+    fn reach(&self, lane: u32) -> Option<Reach> {
+        match self.reaches.as_slice().get(lane as usize) {
+            Some(Some(reach)) => Some(cut_reach(*reach)),
+            _ => None,
+        }
+    }
+
+    ghost is_near = { λ c lane l. reach_in_near c.reaches lane };
+}
+
+impl Spring for Column {
+    ghost use Rattle.lay_columns.specs.Column.{length_at, length_rises, length_short, length_rests};
+
+    ghost length_of = { λ c f. length_at c.natural f };
+
+    #[tactic(auto, unfolding(crate::specs::Column::length_at))]
+    fn length(&self, force: u16) -> u32 {
+        self.natural.min(MOST_NATURAL) * u32::from(force) / 256
+    }
+
+    ghost rises = { λ c f g l m. length_rises c.natural f g l };
+
+    ghost is_short = { λ c f l. length_short c.natural f l };
+
+    ghost at_rest = { λ c. length_rests c.natural };
+}

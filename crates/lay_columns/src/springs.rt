@@ -1,0 +1,79 @@
+ghost use Rattle.std.specs.Prelude.{◌≡◌};
+ghost use Rattle.std.specs.List.{find};
+ghost use Rattle.lay_columns.specs.Naturals.{natural_for, is_note, length_of, next_tick, natural_of};
+
+use mus_time::{Class, ColumnKey};
+use mus_units::WHOLE;
+
+/// The natural length for some ticks: by the greatest row that isn't above them.
+fn natural_for(ticks: u64) -> u32
+    ensures { result ≡ natural_for ticks }
+{
+    if ticks >= 2 * WHOLE {
+        4000
+    } else if ticks >= WHOLE {
+        2900
+    } else if ticks >= WHOLE / 2 {
+        2100
+    } else if ticks >= WHOLE / 4 {
+        1500
+    } else if ticks >= WHOLE / 8 {
+        1100
+    } else if ticks >= WHOLE / 16 {
+        850
+    } else if ticks >= WHOLE / 32 {
+        700
+    } else if ticks >= WHOLE / 64 {
+        600
+    } else {
+        500
+    }
+}
+
+fn is_note(key: ColumnKey) -> bool
+    ensures { result ≡ is_note key }
+{
+    matches!(key.class, Class::Note)
+}
+
+fn next_note(behind: &[ColumnKey]) -> Option<ColumnKey>
+    ensures { result ≡ find is_note behind.now }
+{
+    for key in behind {
+        if is_note(*key) {
+            return Some(*key);
+        }
+    }
+    None
+}
+
+fn length_of(lengths: &[u64], measure: u32) -> u64
+    ensures { result ≡ length_of lengths.now measure }
+{
+    match lengths.get(measure as usize) {
+        Some(length) => *length,
+        None => 0,
+    }
+}
+
+fn next_tick(measure: u32, next: Option<ColumnKey>, lengths: &[u64]) -> u64
+    ensures { result ≡ next_tick measure next lengths.now }
+{
+    match next {
+        Some(next) if next.measure == measure => next.tick,
+        _ => length_of(lengths, measure),
+    }
+}
+
+/// The natural length of the spring from a column to the next: by the ticks from a note column
+/// to the next one of its measure, or else to the measure's end; 0 for all other columns.
+pub(crate) fn natural_of(key: ColumnKey, behind: &[ColumnKey], lengths: &[u64]) -> u32
+    ensures { result ≡ natural_of key behind.now lengths.now }
+{
+    if is_note(key) {
+        let end = next_tick(key.measure, next_note(behind), lengths);
+        natural_for(end.saturating_sub(key.tick))
+    } else {
+        0
+    }
+}

@@ -1,0 +1,155 @@
+ghost use Rattle.std.specs.Prelude.{◌≡◌, ◌++◌, All, length, map, IfOk, OnOk};
+ghost use Rattle.lay_columns.specs.Reaches.{standing, stands_always};
+ghost use Rattle.lay_columns.specs.Columns.{columns_of, CoverMarks, IsSmall, IsUncut, StandsWhereDue};
+ghost use Rattle.lay_columns.specs.Lanes.{gaps_of};
+ghost use Rattle.lay_columns.specs.Widened.{AreGoodStaves, row_part, table_part, reaches_over, columns_over};
+
+use crate::column::Column;
+use crate::reaches::tables_of;
+use crate::springs::natural_of;
+use lay_springs::Reach;
+use mus_laid::{StaffMarks, SystemMarks};
+use mus_time::{Class, ColumnKey, Timeline};
+use mus_units::{Memory, Row};
+use std::alloc::Global;
+
+/// Whether a column stands in each lane, whatever its marks are.
+fn stands_always(class: Class) -> bool
+    ensures { result ≡ stands_always class }
+{
+    match class {
+        Class::Head | Class::First | Class::Bar => true,
+        Class::Change | Class::Grace | Class::Note => false,
+    }
+}
+
+fn standing(always: bool, reach: Option<Reach>) -> Option<Reach>
+    ensures { result ≡ standing always reach }
+{
+    match reach {
+        Some(reach) => Some(reach),
+        None => {
+            if always {
+                Some(Reach { left: 0, right: 0 })
+            } else {
+                None
+            }
+        }
+    }
+}
+
+fn put_row(out: &mut Row<Option<Reach>>, always: bool, row: &[Option<Reach>]) -> Result<(), Memory>
+    ensures { OnOk result (out.new ≡ out.old ++ map (standing always) row.now) }
+{
+    for reach in row {
+        out.push(standing(always, *reach))?;
+    }
+    Ok(())
+}
+
+fn put_part(
+    out: &mut Row<Option<Reach>>,
+    always: bool,
+    rank: usize,
+    table: &[Row<Option<Reach>>],
+) -> Result<(), Memory>
+    ensures { OnOk result (out.new ≡ out.old ++ table_part always rank table.now) }
+{
+    match table.get(rank) {
+        Some(row) => put_row(out, always, row.as_slice()),
+        None => Ok(()),
+    }
+}
+
+/// The reaches of a column in all lanes of the system.
+fn reaches_over(
+    alloc: Global,
+    always: bool,
+    rank: usize,
+    tables: &[Row<Row<Option<Reach>>>],
+) -> Result<Row<Option<Reach>>, Memory>
+    ensures { IfOk result (λ r. r ≡ reaches_over always rank tables.now) }
+{
+    let mut out = Row::new(alloc);
+    for table in tables {
+        put_part(&mut out, always, rank, table.as_slice())?;
+    }
+    Ok(out)
+}
+
+fn columns_over(
+    alloc: Global,
+    keys: &[ColumnKey],
+    lengths: &[u64],
+    tables: &[Row<Row<Option<Reach>>>],
+) -> Result<Row<Column>, Memory>
+    ensures { IfOk result (λ r. r ≡ columns_over 0 keys.now lengths.now tables.now) }
+{
+    let mut out = Row::new(alloc);
+    for (rank, key) in keys.iter().enumerate() {
+        let reaches = reaches_over(alloc, stands_always(key.class), rank, tables)?;
+        let natural = natural_of(*key, &keys[rank + 1..], lengths);
+        out.push(Column {
+            key: *key,
+            reaches,
+            natural,
+        })?;
+    }
+    Ok(out)
+}
+
+/// The columns of these keys, one for each, in their order. A mark stands in the column of its
+/// rank, and in its lane of its staff; one past the last column or lane, or in `Loose`, stands
+/// nowhere. Lanes are, for each staff from the top, main, above, below and one for each verse;
+/// `verses` has the number of verses of each staff, `lengths` how long each measure lasts, in
+/// ticks. A column reaches in a lane as far as the boxes of its marks there, at least 0 and at
+/// most 2^20; a column of a head, of the bar before the first measure or of a bar stands in each
+/// lane. A note column's natural length is that of the ticks to the next note column of its
+/// measure, or else to the measure's end: from 4000 for two whole notes to 500 below a 64th.
+pub fn columns_in(
+    alloc: Global,
+    keys: &[ColumnKey],
+    staves: &[StaffMarks],
+    lengths: &[u64],
+    verses: &[u8],
+) -> Result<Row<Column>, Memory>
+    requires good { AreGoodStaves staves.now }
+    requires counts { length verses.now ≡ length staves.now }
+    ensures value { IfOk result (λ r. r ≡ columns_of keys.now staves.now lengths.now verses.now) }
+    ensures keys { IfOk result (λ r. map (λ c. c.key) r ≡ keys.now) }
+    ensures lanes { IfOk result (λ r. All (λ c. length c.reaches ≡ length (gaps_of verses.now)) r) }
+    ensures covers { IfOk result (CoverMarks staves.now verses.now) }
+    ensures stands { IfOk result (All (StandsWhereDue verses.now)) }
+    ensures small { IfOk result (All IsSmall) }
+    ensures uncut { IfOk result (All IsUncut) }
+{
+    let tables = tables_of(alloc, keys.len(), staves, verses)?;
+    columns_over(alloc, keys, lengths, tables.as_slice())
+}
+
+/// The columns of a system, one for each of its keys; `t` is the timeline of its score, and
+/// `verses` has the number of verses of each staff. See `columns_in`.
+pub fn columns(
+    alloc: Global,
+    m: &SystemMarks,
+    t: &Timeline,
+    verses: &[u8],
+) -> Result<Row<Column>, Memory>
+    requires good { AreGoodStaves m.now.staves }
+    requires counts { length verses.now ≡ length m.now.staves }
+    ensures value { IfOk result (λ r. r ≡ columns_of m.now.keys m.now.staves t.now.lengths verses.now) }
+    ensures keys { IfOk result (λ r. map (λ c. c.key) r ≡ m.now.keys) }
+    ensures lanes { IfOk result (λ r. All (λ c. length c.reaches ≡ length (gaps_of verses.now)) r) }
+    ensures covers { IfOk result (CoverMarks m.now.staves verses.now) }
+    ensures stands { IfOk result (All (StandsWhereDue verses.now)) }
+    ensures small { IfOk result (All IsSmall) }
+    ensures uncut { IfOk result (All IsUncut) }
+{
+    columns_in(
+        alloc,
+        m.keys.as_slice(),
+        m.staves.as_slice(),
+        t.lengths.as_slice(),
+        verses,
+    )
+}

@@ -1,0 +1,242 @@
+-- Keys of a system one measure longer: those of the system, then those of the further measure.
+use Rattle.std.proofs.Common.{◌≡◌, ◌∙◌, ℕ, zero, suc, ◌+◌, ◌-◌, ◌<◌, ◌≤◌, ◌⊎◌, inl, inr, Bool, true, false, List, [], ◌∷◌, ◌++◌, length, take, drop, refl, sym, ap, subst, arith}
+use Rattle.std.specs.List.{AllByRecursion, Contains, flat_map, slice_range}
+use Rattle.std.proofs.lemmas.Bool.Decides.{nat_tests}
+use Rattle.std.proofs.lemmas.List.{append_assoc}
+use Rattle.std.proofs.lemmas.List.Elements.{Contains-append_cases, Contains-append_left, Contains-append_right}
+use Rattle.mus_score.specs.declared.score.Measure.{Measure}
+use Rattle.mus_score.specs.declared.score.Score.{Score}
+use Rattle.mus_score.specs.declared.score.Voice.{Voice}
+use Rattle.mus_score.specs.Times.{flats_of}
+use Rattle.mus_time.specs.declared.keys.Class.TheVariants as classes
+use Rattle.mus_time.specs.declared.keys.ColumnKey.{ColumnKey}
+use Rattle.mus_time.specs.Keys.{AreKeys, called_keys, events_keys, first_keys, further_keys, has_entries, key_at, measure_keys, measures_keys, signed_at, signed_behind, signed_through, voice_keys}
+use Rattle.mus_time.specs.Order.{BelowAll, is_below, Rises}
+use Rattle.std.specs.Prelude.{slice_index}
+
+-- ---- a rising list has its keys once and in order
+not_both : (k l : ColumnKey) → is_below k l ≡ true → is_below l k ≡ true → ⊥
+unfolding is_below
+not_both k l h g = grind (arith, nat_tests)
+
+below_in : (k l : ColumnKey) (ls : List ColumnKey) → BelowAll k ls → Contains ls l → is_below k l ≡ true
+below_in k l [] below (i, inside, is) = absurd (omega (arith, inside))
+below_in k l (m ∷ ls) below (zero, inside, is) = subst (λ x. is_below k x ≡ true) is below.0
+below_in k l (m ∷ ls) below (suc i, inside, is) = below_in k l ls below.1 (i, omega (arith, inside), is)
+
+first_or : (x y : ColumnKey) (ys : List ColumnKey) → Contains (y ∷ ys) x → (y ≡ x) ⊎ Contains ys x
+first_or x y ys (zero, inside, is) = inl is
+first_or x y ys (suc i, inside, is) = inr (i, omega (arith, inside), is)
+
+there : (x y : ColumnKey) (ys : List ColumnKey) → Contains ys x → Contains (y ∷ ys) x
+there x y ys (i, inside, is) = (suc i, omega (arith, inside), is)
+
+here : (x : ColumnKey) (xs : List ColumnKey) → Contains (x ∷ xs) x
+here x xs = (0, omega arith, refl)
+
+none_in : (x : ColumnKey) → Contains [] x → ⊥
+none_in x (i, inside, is) = omega (arith, inside)
+
+heads_same : (x y : ColumnKey) (xs ys : List ColumnKey) → BelowAll x xs → BelowAll y ys → (y ≡ x) ⊎ Contains ys x → (x ≡ y) ⊎ Contains xs y → x ≡ y
+heads_same x y xs ys bx by (inl e) h = sym e
+heads_same x y xs ys bx by (inr g) (inl e) = e
+heads_same x y xs ys bx by (inr g) (inr h) = absurd (not_both x y (below_in x y xs bx h) (below_in y x ys by g))
+
+behind : (x y : ColumnKey) (xs ys : List ColumnKey) → x ≡ y → BelowAll x xs → ((k : ColumnKey) → Contains (x ∷ xs) k → Contains (y ∷ ys) k) → (k : ColumnKey) → Contains xs k → Contains ys k
+behind x y xs ys e below all k h = by (first_or k y ys (all k (there k x xs h)))
+  where
+    by : (y ≡ k) ⊎ Contains ys k → Contains ys k
+    by (inl f) =
+        let b = below_in x k xs below h in
+        let b' = subst (λ z. is_below z k ≡ true) (e ∙ f) b in
+        absurd (not_both k k b' b')
+    by (inr g) = g
+
+pub unique : (xs ys : List ColumnKey) → Rises xs → Rises ys → ((k : ColumnKey) → Contains xs k → Contains ys k) → ((k : ColumnKey) → Contains ys k → Contains xs k) → xs ≡ ys
+unique [] [] rx ry all only = refl
+unique [] (y ∷ ys) rx ry all only = absurd (none_in y (only y (here y ys)))
+unique (x ∷ xs) [] rx ry all only = absurd (none_in x (all x (here x xs)))
+unique (x ∷ xs) (y ∷ ys) rx ry all only =
+    let e = heads_same x y xs ys rx.0 ry.0 (first_or x y ys (all x (here x xs))) (first_or y x xs (only y (here y ys))) in
+    let more = unique xs ys rx.1 ry.1 (behind x y xs ys e rx.0 all) (behind y x ys xs (sym e) ry.0 only) in
+    ap (λ z. z ∷ xs) e ∙ ap (λ t. y ∷ t) more
+
+pub same_keys : (xs ys called : List ColumnKey) → AreKeys xs called → AreKeys ys called → xs ≡ ys
+same_keys xs ys called h g = unique xs ys h.rise g.rise (λ k i. g.all k (h.only k i)) (λ k i. h.all k (g.only k i))
+
+-- ---- measures further on rise
+pub lower : (k l : ColumnKey) → k.measure < l.measure → is_below k l ≡ true
+unfolding is_below
+lower k l h = grind (arith, nat_tests)
+
+below_append : (k : ColumnKey) (xs ys : List ColumnKey) → BelowAll k xs → BelowAll k ys → BelowAll k (xs ++ ys)
+below_append k [] ys h g = g
+below_append k (x ∷ xs) ys h g = (h.0, below_append k xs ys h.1 g)
+
+below_further : (k : ColumnKey) (b : ℕ) (ys : List ColumnKey) → k.measure < b → AllByRecursion (λ l. b ≤ l.measure) ys → BelowAll k ys
+below_further k b [] h g = tt
+below_further k b (y ∷ ys) h g = (let from = g.0 in lower k y (omega (arith, h, from)), below_further k b ys h g.1)
+
+rises_on : (b : ℕ) (xs ys : List ColumnKey) → Rises xs → Rises ys → AllByRecursion (λ k. k.measure < b) xs → AllByRecursion (λ l. b ≤ l.measure) ys → Rises (xs ++ ys)
+rises_on b [] ys rx ry lx ly = ry
+rises_on b (x ∷ xs) ys rx ry lx ly = (below_append x xs ys rx.0 (below_further x b ys lx.0 ly), rises_on b xs ys rx.1 ry lx.1 ly)
+
+-- ---- one more of some
+cut_more : {X : Type 0} (n : ℕ) (xs : List X) → take (n + 1) xs ≡ take n xs ++ take 1 (drop n xs)
+cut_more zero xs = refl
+cut_more (suc n) [] = let e : suc n + 1 ≡ suc (n + 1) = omega arith in ap (λ k. take k []) e
+cut_more (suc n) (x ∷ xs) = let e : suc n + 1 ≡ suc (n + 1) = omega arith in ap (λ k. take k (x ∷ xs)) e ∙ ap (λ t. x ∷ t) (cut_more n xs)
+
+drop_none : {X : Type 0} (n : ℕ) → drop {A = X} n [] ≡ []
+drop_none zero = refl
+drop_none (suc n) = refl
+
+drop_twice : {X : Type 0} (a n : ℕ) (xs : List X) → drop n (drop a xs) ≡ drop (a + n) xs
+drop_twice zero n xs = let e : n ≡ 0 + n = omega arith in ap (λ k. drop k xs) e
+drop_twice (suc a) n [] = drop_none n ∙ sym (drop_none (suc a + n))
+drop_twice (suc a) n (x ∷ xs) = let e : suc (a + n) ≡ suc a + n = omega arith in drop_twice a n xs ∙ ap (λ k. drop k (x ∷ xs)) e
+
+pub slice_more : {X : Type 0} (a b : ℕ) (xs : List X) → a ≤ b → slice_range xs a (b + 1) ≡ slice_range xs a b ++ slice_range xs b (b + 1)
+slice_more a b xs h =
+    let e : b + 1 - a ≡ (b - a) + 1 = omega (arith, h) in
+    let f : a + (b - a) ≡ b = omega (arith, h) in
+    let g : 1 ≡ b + 1 - b = omega arith in
+    ap (λ k. take k (drop a xs)) e ∙ cut_more (b - a) (drop a xs)
+    ∙ ap (λ t. take (b - a) (drop a xs) ++ take 1 t) (drop_twice a (b - a) xs ∙ ap (λ k. drop k xs) f)
+    ∙ ap (λ k. take (b - a) (drop a xs) ++ take k (drop b xs)) g
+
+take_long : {X : Type 0} (n : ℕ) (xs : List X) → n ≤ length xs → length (take n xs) ≡ n
+take_long zero xs w = refl
+take_long (suc n) [] w = absurd (omega (arith, w))
+take_long (suc n) (x ∷ xs) w = ap suc (take_long n xs (omega (arith, w)))
+
+left_long : {X : Type 0} (a b : ℕ) (xs : List X) → b ≤ length xs → b - a ≤ length (drop a xs)
+left_long zero b xs w = omega (arith, w)
+left_long (suc a) b [] w = omega (arith, w)
+left_long (suc a) b (x ∷ xs) w = let h = left_long a (b - 1) xs (omega (arith, w)) in omega (arith, h)
+
+pub slice_long : {X : Type 0} (a b : ℕ) (xs : List X) → b ≤ length xs → length (slice_range xs a b) ≡ b - a
+slice_long a b xs w = take_long (b - a) (drop a xs) (left_long a b xs w)
+
+take_none : {X : Type 0} (n : ℕ) → take {A = X} n [] ≡ []
+take_none zero = refl
+take_none (suc n) = refl
+
+take_more : {X : Type 0} (a n : ℕ) (xs : List X) → take (a + n) xs ≡ take a xs ++ take n (drop a xs)
+take_more zero n xs = let e : 0 + n ≡ n = omega arith in ap (λ k. take k xs) e
+take_more (suc a) n [] = take_none (suc a + n) ∙ sym (take_none n)
+take_more (suc a) n (x ∷ xs) = let e : suc a + n ≡ suc (a + n) = omega arith in ap (λ k. take k (x ∷ xs)) e ∙ ap (λ t. x ∷ t) (take_more a n xs)
+
+-- ---- keys of measures
+signed_more : (signed : Bool) (xs ys : List Measure) → signed_behind signed (xs ++ ys) ≡ signed_behind (signed_behind signed xs) ys
+signed_more signed [] ys = refl
+signed_more signed (x ∷ xs) ys = signed_more (signed_through signed (flats_of x.body)) xs ys
+
+signed_at_more : (a b : ℕ) (v : Voice) → a ≤ b → signed_behind (signed_at a v) (slice_range v.measures a b) ≡ signed_at b v
+signed_at_more a b v h =
+    let e : a + (b - a) ≡ b = omega (arith, h) in
+    sym (signed_more (has_entries v.key) (take a v.measures) (slice_range v.measures a b))
+    ∙ ap (signed_behind (has_entries v.key)) (sym (take_more a (b - a) v.measures) ∙ ap (λ k. take k v.measures) e)
+
+keys_on : (lengths : List ℕ) (m : ℕ) (signed : Bool) (xs ys : List Measure)
+    → measures_keys lengths m false signed (xs ++ ys) ≡ measures_keys lengths m false signed xs ++ measures_keys lengths (m + length xs) false (signed_behind signed xs) ys
+keys_on lengths m signed [] ys = let e : m ≡ m + 0 = omega arith in ap (λ k. measures_keys lengths k false signed ys) e
+keys_on lengths m signed (x ∷ xs) ys =
+    let fs = flats_of x.body in
+    let own = events_keys m false signed [] fs ++ key_at m (slice_index lengths m) classes.Bar 0 ∷ [] in
+    let e : m + 1 + length xs ≡ m + length (x ∷ xs) = omega arith in
+    let more = keys_on lengths (m + 1) (signed_through signed fs) xs ys in
+    let last = ap (λ k. measures_keys lengths k false (signed_behind signed (x ∷ xs)) ys) e in
+    behind_own (events_keys m false signed [] fs) (key_at m (slice_index lengths m) classes.Bar 0) _ _ _ (more ∙ ap (λ t. measures_keys lengths (m + 1) false (signed_through signed fs) xs ++ t) last)
+  where
+    behind_own : (ks : List ColumnKey) (k : ColumnKey) (xs ys zs : List ColumnKey) → xs ≡ ys ++ zs → ks ++ k ∷ xs ≡ (ks ++ k ∷ ys) ++ zs
+    behind_own ks k xs ys zs e = ap (λ t. ks ++ k ∷ t) e ∙ sym (append_assoc ks (k ∷ ys) zs)
+
+keys_from : (lengths : List ℕ) (m : ℕ) (signed : Bool) (xs ys : List Measure) → 1 ≤ length xs
+    → measures_keys lengths m true signed (xs ++ ys) ≡ measures_keys lengths m true signed xs ++ measures_keys lengths (m + length xs) false (signed_behind signed xs) ys
+keys_from lengths m signed [] ys some = absurd (omega (arith, some))
+keys_from lengths m signed (x ∷ xs) ys some =
+    let fs = flats_of x.body in
+    let e : m + 1 + length xs ≡ m + length (x ∷ xs) = omega arith in
+    let more = keys_on lengths (m + 1) (signed_through signed fs) xs ys in
+    let last = ap (λ k. measures_keys lengths k false (signed_behind signed (x ∷ xs)) ys) e in
+    ap (λ t. events_keys m true signed [] fs ++ key_at m (slice_index lengths m) classes.Bar 0 ∷ t)
+    (more ∙ ap (λ t. measures_keys lengths (m + 1) false (signed_through signed fs) xs ++ t) last)
+    ∙ sym (append_assoc (events_keys m true signed [] fs) (key_at m (slice_index lengths m) classes.Bar 0 ∷ measures_keys lengths (m + 1) false (signed_through signed fs) xs)
+    (measures_keys lengths (m + length (x ∷ xs)) false (signed_behind signed (x ∷ xs)) ys))
+
+pub voice_more : (lengths : List ℕ) (a b : ℕ) (v : Voice) → a < b → b < length v.measures → voice_keys lengths a (b + 1) v ≡ voice_keys lengths a b v ++ measure_keys lengths b v
+voice_more lengths a b v h w =
+    let xs = slice_range v.measures a b in
+    let ys = slice_range v.measures b (b + 1) in
+    let long = slice_long a b v.measures (omega (arith, w)) in
+    let e : a + length xs ≡ b = omega (arith, long, h) in
+    let signed = signed_at_more a b v (omega (arith, h)) in
+    let head = key_at a 0 classes.Head 0 ∷ first_keys a v.first in
+    ap (λ t. head ++ measures_keys lengths a true (signed_at a v) t) (slice_more a b v.measures (omega (arith, h)))
+    ∙ ap (λ t. head ++ t) (keys_from lengths a (signed_at a v) xs ys (omega (arith, long, h)))
+    ∙ ap (λ k. head ++ (measures_keys lengths a true (signed_at a v) xs ++ measures_keys lengths k false (signed_behind (signed_at a v) xs) ys)) e
+    ∙ ap (λ k. head ++ (measures_keys lengths a true (signed_at a v) xs ++ measures_keys lengths b false k ys)) signed
+    ∙ sym (append_assoc head (measures_keys lengths a true (signed_at a v) xs) (measure_keys lengths b v))
+
+-- ---- voice by voice
+module _ (f g h : Voice → List ColumnKey) (k : ColumnKey) where
+  parts : (vs : List Voice) → AllByRecursion (λ v. h v ≡ f v ++ g v) vs → Contains (flat_map h vs) k → Contains (flat_map f vs) k ⊎ Contains (flat_map g vs) k
+  parts [] is has = inl has
+  parts (v ∷ vs) is has = by (Contains-append_cases (h v) (flat_map h vs) k has) (λ i. parts vs is.1 i)
+    where
+      own : Contains (f v) k ⊎ Contains (g v) k → Contains (flat_map f (v ∷ vs)) k ⊎ Contains (flat_map g (v ∷ vs)) k
+      own (inl i) = inl (Contains-append_left (f v) (flat_map f vs) k i)
+      own (inr i) = inr (Contains-append_left (g v) (flat_map g vs) k i)
+
+      more : Contains (flat_map f vs) k ⊎ Contains (flat_map g vs) k → Contains (flat_map f (v ∷ vs)) k ⊎ Contains (flat_map g (v ∷ vs)) k
+      more (inl i) = inl (Contains-append_right (f v) (flat_map f vs) k i)
+      more (inr i) = inr (Contains-append_right (g v) (flat_map g vs) k i)
+
+      by : Contains (h v) k ⊎ Contains (flat_map h vs) k → (Contains (flat_map h vs) k → Contains (flat_map f vs) k ⊎ Contains (flat_map g vs) k)
+          → Contains (flat_map f (v ∷ vs)) k ⊎ Contains (flat_map g (v ∷ vs)) k
+      by (inl i) rest = own (Contains-append_cases (f v) (g v) k (subst (λ t. Contains t k) is.0 i))
+      by (inr i) rest = more (rest i)
+
+  of_front : (vs : List Voice) → AllByRecursion (λ v. h v ≡ f v ++ g v) vs → Contains (flat_map f vs) k → Contains (flat_map h vs) k
+  of_front [] is has = has
+  of_front (v ∷ vs) is has = by (Contains-append_cases (f v) (flat_map f vs) k has) (λ i. of_front vs is.1 i)
+    where
+      by : Contains (f v) k ⊎ Contains (flat_map f vs) k → (Contains (flat_map f vs) k → Contains (flat_map h vs) k) → Contains (flat_map h (v ∷ vs)) k
+      by (inl i) rest = Contains-append_left (h v) (flat_map h vs) k (subst (λ t. Contains t k) (sym is.0) (Contains-append_left (f v) (g v) k i))
+      by (inr i) rest = Contains-append_right (h v) (flat_map h vs) k (rest i)
+
+  of_behind : (vs : List Voice) → AllByRecursion (λ v. h v ≡ f v ++ g v) vs → Contains (flat_map g vs) k → Contains (flat_map h vs) k
+  of_behind [] is has = has
+  of_behind (v ∷ vs) is has = by (Contains-append_cases (g v) (flat_map g vs) k has) (λ i. of_behind vs is.1 i)
+    where
+      by : Contains (g v) k ⊎ Contains (flat_map g vs) k → (Contains (flat_map g vs) k → Contains (flat_map h vs) k) → Contains (flat_map h (v ∷ vs)) k
+      by (inl i) rest = Contains-append_left (h v) (flat_map h vs) k (subst (λ t. Contains t k) (sym is.0) (Contains-append_right (f v) (g v) k i))
+      by (inr i) rest = Contains-append_right (h v) (flat_map h vs) k (rest i)
+
+all_more : (lengths : List ℕ) (a b n : ℕ) (vs : List Voice) → a < b → b < n → AllByRecursion (λ v. length v.measures ≡ n) vs
+    → AllByRecursion (λ v. voice_keys lengths a (b + 1) v ≡ voice_keys lengths a b v ++ measure_keys lengths b v) vs
+all_more lengths a b n [] h w same = tt
+all_more lengths a b n (v ∷ vs) h w same = (let e = same.0 in voice_more lengths a b v h (omega (arith, w, e)), all_more lengths a b n vs h w same.1)
+
+pub keys_grow : (s : Score) (lengths : List ℕ) (a b : ℕ) (front behind : List ColumnKey) → a < b → b < s.measures → AllByRecursion (λ v. length v.measures ≡ s.measures) s.voices
+    → AllByRecursion (λ k. k.measure < b) front → AllByRecursion (λ k. b ≤ k.measure) behind
+    → AreKeys front (called_keys s lengths a b) → AreKeys behind (further_keys s lengths b) → AreKeys (front ++ behind) (called_keys s lengths a (b + 1))
+keys_grow s lengths a b front behind h w same below above first further =
+    let f = voice_keys lengths a b in
+    let g = measure_keys lengths b in
+    let all = voice_keys lengths a (b + 1) in
+    let is = all_more lengths a b s.measures s.voices h w same in
+    record {
+      rise = rises_on b front behind first.rise further.rise below above;
+      all = λ k i. to k (parts f g all k s.voices is i);
+      only = λ k i. from k (Contains-append_cases front behind k i);
+    }
+  where
+    to : (k : ColumnKey) → Contains (called_keys s lengths a b) k ⊎ Contains (further_keys s lengths b) k → Contains (front ++ behind) k
+    to k (inl i) = Contains-append_left front behind k (first.all k i)
+    to k (inr i) = Contains-append_right front behind k (further.all k i)
+
+    from : (k : ColumnKey) → Contains front k ⊎ Contains behind k → Contains (called_keys s lengths a (b + 1)) k
+    from k (inl i) = of_front (voice_keys lengths a b) (measure_keys lengths b) (voice_keys lengths a (b + 1)) k s.voices (all_more lengths a b s.measures s.voices h w same) (first.only k i)
+    from k (inr i) = of_behind (voice_keys lengths a b) (measure_keys lengths b) (voice_keys lengths a (b + 1)) k s.voices (all_more lengths a b s.measures s.voices h w same) (further.only k i)

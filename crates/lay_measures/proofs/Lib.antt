@@ -1,0 +1,7 @@
+mod Facts
+mod Joined
+mod KeyLaws
+mod Placed
+mod Ranks
+mod SameBoxes
+mod Slots

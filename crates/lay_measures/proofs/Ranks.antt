@@ -1,0 +1,217 @@
+-- Ranks among the keys of a system and those of a further measure, and the keys of slots.
+use Rattle.std.proofs.Common.{◌≡◌, ◌∙◌, ℕ, zero, suc, ◌+◌, ◌-◌, ◌<◌, ◌≤◌, Bool, true, false, ◌==◌, ◌&&◌, if◌then◌else◌, List, [], ◌∷◌, ◌++◌, length, take, drop, Option, Some, None, refl, sym, ap, subst, arith}
+use Rattle.std.specs.List.{AllByRecursion, Contains, slice_get, slice_index, slice_range}
+use Rattle.std.proofs.lemmas.Bool.Decides.{nat_tests}
+use Rattle.std.proofs.lemmas.List.Elements.{Contains-append_right}
+use Rattle.std.proofs.lemmas.List.Sums.{sum_by-cons}
+use Rattle.mus_units.specs.declared.note.Bar.{Bar}
+use Rattle.mus_units.specs.declared.note.Wish.{Wish}
+use Rattle.mus_units.specs.declared.pitch.Clef.{Clef}
+use Rattle.mus_score.specs.declared.score.Event.{Event}
+use Rattle.mus_score.specs.declared.score.Flat.{Flat}
+use Rattle.mus_score.specs.declared.score.Measure.{Measure}
+use Rattle.mus_score.specs.declared.score.Voice.{Voice}
+use Rattle.mus_score.specs.Good.{total_ticks}
+use Rattle.mus_score.specs.Times.{flats_of}
+use Rattle.mus_stems.specs.declared.plans.StemPlan.{StemPlan}
+use Rattle.mus_time.specs.declared.keys.Class.{Class}
+use Rattle.mus_time.specs.declared.keys.Class.TheVariants as classes
+use Rattle.mus_time.specs.declared.keys.ColumnKey.{ColumnKey}
+use Rattle.mus_time.specs.Keys.{events_keys, has_features, key_at, measures_keys, signed_through}
+use Rattle.mus_time.specs.Onsets.{length_in, ticks_of_some}
+use Rattle.mus_time.specs.Order.{class_number, is_below, rank_of}
+use Rattle.mus_parts.specs.declared.graces.Group.{Group}
+use Rattle.mus_parts.specs.Bars.{bar_marks}
+use Rattle.mus_parts.specs.Graces.{group_of}
+use Rattle.mus_drawn.specs.declared.drawn.DrawnEvent.{DrawnEvent}
+use Rattle.mus_drawn.specs.declared.drawn.DrawnMeasure.{DrawnMeasure}
+use Rattle.mus_drawn.specs.declared.standing.Standing.{Standing}
+use Rattle.mus_drawn.specs.Drawn.{drawn_events, drawn_measure, drawn_measures, drawn_voice, standing_after, standing_behind, standing_of}
+use Rattle.mus_marks.specs.declared.events.Room.{Room}
+use Rattle.mus_marks.specs.Events.{levels_behind, levels_in}
+use Rattle.lay_measures.proofs.KeyLaws.{lower}
+use Rattle.lay_measures.proofs.Slots.{Slot, change_slots, columns_slots, event_slots, events_slots, first_slots, graces_slots, head_slots, measures_slots, slot, words_slots}
+
+-- ---- ranks
+upper : (k l : ColumnKey) → k.measure < l.measure → is_below l k ≡ false
+unfolding is_below
+upper k l h = grind (arith, nat_tests)
+
+rank_none : (b : ℕ) (ys : List ColumnKey) (k : ColumnKey) → k.measure < b → AllByRecursion (λ l. b ≤ l.measure) ys → rank_of ys k ≡ 0
+rank_none b [] k h from = refl
+rank_none b (y ∷ ys) k h from =
+    let f = from.0 in
+    ap (λ c. if c then 1 + rank_of ys k else rank_of ys k) (upper k y (omega (arith, h, f))) ∙ rank_none b ys k h from.1
+
+pub rank_front : (b : ℕ) (xs ys : List ColumnKey) (k : ColumnKey) → k.measure < b → AllByRecursion (λ l. b ≤ l.measure) ys → rank_of (xs ++ ys) k ≡ rank_of xs k
+rank_front b [] ys k h from = rank_none b ys k h from
+rank_front b (x ∷ xs) ys k h from = ap (λ n. if is_below x k then 1 + n else n) (rank_front b xs ys k h from)
+
+pub rank_behind : (b : ℕ) (xs ys : List ColumnKey) (k : ColumnKey) → b ≤ k.measure → AllByRecursion (λ l. l.measure < b) xs → rank_of (xs ++ ys) k ≡ length xs + rank_of ys k
+rank_behind b [] ys k h to = omega arith
+rank_behind b (x ∷ xs) ys k h to =
+    let t = to.0 in
+    let more = rank_behind b xs ys k h to.1 in
+    ap (λ c. if c then 1 + rank_of (xs ++ ys) k else rank_of (xs ++ ys) k) (lower x k (omega (arith, h, t))) ∙ omega (arith, more)
+
+rank_most : (xs : List ColumnKey) (k : ColumnKey) → rank_of xs k ≤ length xs
+rank_most [] k = omega arith
+rank_most (x ∷ xs) k = by (is_below x k) (rank_most xs k)
+  where
+    by : (c : Bool) → rank_of xs k ≤ length xs → (if c then 1 + rank_of xs k else rank_of xs k) ≤ suc (length xs)
+    by true more = omega (arith, more)
+    by false more = omega (arith, more)
+
+pub rank_less : (xs : List ColumnKey) (k l : ColumnKey) → Contains xs l → is_below l k ≡ false → rank_of xs k < length xs
+rank_less [] k l (i, inside, is) h = absurd (omega (arith, inside))
+rank_less (x ∷ xs) k l (zero, inside, is) h =
+    let e : rank_of (x ∷ xs) k ≡ rank_of xs k = ap (λ c. if c then 1 + rank_of xs k else rank_of xs k) (subst (λ z. is_below z k ≡ false) (sym is) h) in
+    let most = rank_most xs k in
+    omega (arith, e, most)
+rank_less (x ∷ xs) k l (suc i, inside, is) h = by (is_below x k) (rank_less xs k l (i, omega (arith, inside), is) h)
+  where
+    by : (c : Bool) → rank_of xs k < length xs → (if c then 1 + rank_of xs k else rank_of xs k) < suc (length xs)
+    by true more = omega (arith, more)
+    by false more = omega (arith, more)
+
+-- ---- a key in some measures, not past the bar of its own
+abbrev pub bar_of : List ℕ → ℕ → ColumnKey
+bar_of lengths m = key_at m (slice_index lengths m) classes.Bar 0
+
+pub record IsPlaced (lengths : List ℕ) (a b : ℕ) (k : ColumnKey) : Type 0 where
+  pub from : a ≤ k.measure
+  pub to : k.measure < b
+  pub within : is_below (bar_of lengths k.measure) k ≡ false
+
+pub bars_in : (lengths : List ℕ) (m : ℕ) (in_head signed : Bool) (xs : List Measure) (i : ℕ) → i < length xs → Contains (measures_keys lengths m in_head signed xs) (bar_of lengths (m + i))
+bars_in lengths m in_head signed [] i h = absurd (omega (arith, h))
+bars_in lengths m in_head signed (x ∷ xs) zero h =
+    let e : m ≡ m + 0 = omega arith in
+    subst (λ n. Contains (measures_keys lengths m in_head signed (x ∷ xs)) (bar_of lengths n)) e
+    (Contains-append_right (events_keys m in_head signed [] (flats_of x.body)) _ (bar_of lengths m) (0, omega arith, refl))
+bars_in lengths m in_head signed (x ∷ xs) (suc i) h =
+    let e : m + 1 + i ≡ m + suc i = omega arith in
+    let more = bars_in lengths (m + 1) false (signed_through signed (flats_of x.body)) xs i (omega (arith, h)) in
+    subst (λ n. Contains (measures_keys lengths m in_head signed (x ∷ xs)) (bar_of lengths n)) e
+    (Contains-append_right (events_keys m in_head signed [] (flats_of x.body)) _ (bar_of lengths (m + 1 + i)) (suc more.0, omega (arith, more.1), more.2))
+
+not_past : (lengths : List ℕ) (m tick : ℕ) (class : Class) (place : ℕ) → tick ≤ slice_index lengths m → class_number class < 5 → is_below (bar_of lengths m) (key_at m tick class place) ≡ false
+unfolding is_below
+not_past lengths m tick class place h c = grind (arith, nat_tests, h, c)
+
+bar_itself : (lengths : List ℕ) (m : ℕ) → is_below (bar_of lengths m) (bar_of lengths m) ≡ false
+unfolding is_below
+bar_itself lengths m = grind (arith, nat_tests)
+
+-- ---- ticks of drawn events
+abbrev pub Ticks : ℕ → List DrawnEvent → Type 0
+Ticks high es = AllByRecursion (λ e. e.tick ≤ high) es
+
+events_ticks : (high tick : ℕ) (now : Standing) (fs : List Flat) (ps : List StemPlan) → tick + total_ticks fs ≤ high → Ticks high (drawn_events tick now fs ps)
+events_ticks high tick now [] ps h = tt
+events_ticks high tick now (f ∷ fs) [] h = tt
+events_ticks high tick now (f ∷ fs) (p ∷ ps) h =
+    let e = sum_by-cons (λ x. x.duration) f fs in
+    (omega (arith, h), events_ticks high (tick + f.duration) (standing_after now f.event.changes) fs ps (omega (arith, h, e)))
+
+-- measures from number m on are within their lengths
+abbrev pub Fit : List ℕ → ℕ → List DrawnMeasure → Type 0
+Fit lengths m [] = Unit {0}
+Fit lengths m (d ∷ ds) = Ticks (slice_index lengths m) d.events × Fit lengths (m + 1) ds
+
+measure_ticks : (high : ℕ) (wish : Wish) (now : Standing) (m : Measure) → total_ticks (flats_of m.body) ≤ high → Ticks high (drawn_measure wish now m).events
+unfolding drawn_measure
+measure_ticks high wish now m h = events_ticks high 0 now (flats_of m.body) _ (omega (arith, h))
+
+measures_fit : (lengths : List ℕ) (m : ℕ) (wish : Wish) (now : Standing) (ms : List Measure) → ((i : ℕ) → i < length ms → ticks_of_some (slice_get ms i) ≤ slice_index lengths (m + i)) → Fit lengths m (drawn_measures wish now ms)
+measures_fit lengths m wish now [] h = tt
+measures_fit lengths m wish now (x ∷ xs) h = (
+  measure_ticks (slice_index lengths m) wish now x (subst (λ z. total_ticks (flats_of x.body) ≤ slice_index lengths z) (omega arith) (h 0 (omega arith))),
+  measures_fit lengths (m + 1) wish (standing_behind now (flats_of x.body)) xs
+      (λ i k. subst (λ z. ticks_of_some (slice_get xs i) ≤ slice_index lengths z) (omega arith) (h (suc i) (omega (arith, k)))),
+)
+
+pub voice_fit : (lengths : List ℕ) (v : Voice) → ((k : ℕ) → k < length v.measures → length_in k v ≤ slice_index lengths k) → Fit lengths 0 (drawn_voice v).measures
+unfolding drawn_voice
+voice_fit lengths v h = measures_fit lengths 0 v.stem (standing_of v) v.measures (λ i k. subst (λ z. length_in i v ≤ slice_index lengths z) (omega arith) (h i k))
+
+fit_take : (lengths : List ℕ) (m n : ℕ) (xs : List DrawnMeasure) → Fit lengths m xs → Fit lengths m (take n xs)
+fit_take lengths m zero xs h = tt
+fit_take lengths m (suc n) [] h = tt
+fit_take lengths m (suc n) (x ∷ xs) h = (h.0, fit_take lengths (m + 1) n xs h.1)
+
+fit_drop : (lengths : List ℕ) (m a : ℕ) (xs : List DrawnMeasure) → Fit lengths m xs → Fit lengths (m + a) (drop a xs)
+fit_drop lengths m zero xs h = subst (λ z. Fit lengths z xs) (omega arith) h
+fit_drop lengths m (suc a) [] h = tt
+fit_drop lengths m (suc a) (x ∷ xs) h = subst (λ z. Fit lengths z (drop a xs)) (omega arith) (fit_drop lengths (m + 1) a xs h.1)
+
+pub slice_fit : (lengths : List ℕ) (a b : ℕ) (xs : List DrawnMeasure) → Fit lengths 0 xs → Fit lengths a (slice_range xs a b)
+slice_fit lengths a b xs h = fit_take lengths a (b - a) (drop a xs) (subst (λ z. Fit lengths z (drop a xs)) (omega arith) (fit_drop lengths 0 a xs h))
+
+-- ---- the keys of slots
+all_append : {X : Type 0} (P : X → Type 0) (xs ys : List X) → AllByRecursion P xs → AllByRecursion P ys → AllByRecursion P (xs ++ ys)
+all_append P [] ys p q = q
+all_append P (x ∷ xs) ys p q = (p.0, all_append P xs ys p.1 q)
+
+module _ (lengths : List ℕ) (a b : ℕ) where
+  abbrev pub AreIn : List Slot → Type 0
+  AreIn xs = AllByRecursion (λ x. IsPlaced lengths a b x.key) xs
+
+  both_in : (xs ys : List Slot) → AreIn xs → AreIn ys → AreIn (xs ++ ys)
+  both_in xs ys p q = all_append (λ x. IsPlaced lengths a b x.key) xs ys p q
+
+  placed_at : (m tick : ℕ) (class : Class) (place : ℕ) → a ≤ m → m < b → tick ≤ slice_index lengths m → class_number class < 5 → IsPlaced lengths a b (key_at m tick class place)
+  placed_at m tick class place from to h c = record { from = from; to = to; within = not_past lengths m tick class place h c }
+
+  change_in : (m : ℕ) (in_head : Bool) (e : DrawnEvent) → a ≤ m → m < b → e.tick ≤ slice_index lengths m → AreIn (change_slots m in_head e)
+  change_in m true e from to h = tt
+  change_in m false e from to h = (placed_at m e.tick classes.Change 0 from to h (omega arith), tt)
+
+  graces_in : (m tick : ℕ) (clef : Clef) (group : Group) (i : ℕ) (gs : List Event) → a ≤ m → m < b → tick ≤ slice_index lengths m → AreIn (graces_slots m tick clef group i gs)
+  graces_in m tick clef group i [] from to h = tt
+  graces_in m tick clef group i (g ∷ gs) from to h = (placed_at m tick classes.Grace i from to h (omega arith), graces_in m tick clef group (i + 1) gs from to h)
+
+  words_in : (m : ℕ) (room : Option Room) (e : DrawnEvent) → a ≤ m → m < b → e.tick ≤ slice_index lengths m → AreIn (words_slots m room e)
+  words_in m None e from to h = tt
+  words_in m (Some room) e from to h = (placed_at m e.tick classes.Note 0 from to h (omega arith), tt)
+
+  event_in : (room : Option Room) (m : ℕ) (in_head : Bool) (before after : ℕ) (e : DrawnEvent) → a ≤ m → m < b → e.tick ≤ slice_index lengths m → AreIn (event_slots room m in_head before after e)
+  event_in room m in_head before after e from to h =
+      let graces = graces_slots m e.tick e.clef (group_of e.clef e.flat.graces e.flat.slash) 0 e.flat.graces in
+      both_in (change_slots m in_head e ++ graces ++ slot (key_at m e.tick classes.Note 0) _) (words_slots m room e)
+      (both_in (change_slots m in_head e ++ graces) (slot (key_at m e.tick classes.Note 0) _)
+      (both_in (change_slots m in_head e) graces (change_in m in_head e from to h) (graces_in m e.tick e.clef _ 0 e.flat.graces from to h))
+      (placed_at m e.tick classes.Note 0 from to h (omega arith), tt))
+      (words_in m room e from to h)
+
+  events_in : (room : Option Room) (m : ℕ) (in_head : Bool) (group flags : ℕ) (es : List DrawnEvent) → a ≤ m → m < b → Ticks (slice_index lengths m) es → AreIn (events_slots room m in_head group flags es)
+  events_in room m in_head group flags [] from to h = tt
+  events_in room m in_head group flags (e ∷ es) from to h =
+      both_in (event_slots room m in_head (levels_in e.plan group flags) (levels_behind e.plan es) e) (events_slots room m false e.plan.group e.plan.flags es)
+      (event_in room m in_head (levels_in e.plan group flags) (levels_behind e.plan es) e from to h.0) (events_in room m false e.plan.group e.plan.flags es from to h.1)
+
+  pub measures_in : (room : Option Room) (m : ℕ) (in_head : Bool) (ds : List DrawnMeasure) → a ≤ m → m + length ds ≤ b → Fit lengths m ds → AreIn (measures_slots lengths room m in_head ds)
+  measures_in room m in_head [] from to h = tt
+  measures_in room m in_head (d ∷ ds) from to h =
+      let here : m < b = omega (arith, to) in
+      both_in (events_slots room m in_head 0 0 d.events ++ slot (bar_of lengths m) _) (measures_slots lengths room (m + 1) false ds)
+      (both_in (events_slots room m in_head 0 0 d.events) (slot (bar_of lengths m) _)
+      (events_in room m in_head 0 0 d.events from here h.0) (record { from = from; to = here; within = bar_itself lengths m }, tt))
+      (measures_in room (m + 1) false ds (omega (arith, from)) (omega (arith, to)) h.1)
+
+  head_in : (ds : List DrawnMeasure) → a < b → AreIn (head_slots a ds)
+  head_in [] h = tt
+  head_in (d ∷ ds) h = (placed_at a 0 classes.Head 0 (omega arith) h (omega arith) (omega arith), tt)
+
+  first_in : (bar : Bar) → a < b → AreIn (first_slots a bar)
+  first_in bar h = by ((a == 0) && has_features bar) (λ t. grind (arith, nat_tests))
+    where
+      by : (c : Bool) → (c ≡ true → a ≡ 0) → AreIn (if c then slot (key_at 0 0 classes.First 0) (bar_marks 0 bar) else [])
+      by true z = let e = z refl in (placed_at 0 0 classes.First 0 (omega (arith, e)) (omega (arith, h)) (omega arith) (omega arith), tt)
+      by false z = tt
+
+  pub columns_in : (room : Option Room) (bar : Bar) (ds : List DrawnMeasure) → a < b → a + length ds ≤ b → Fit lengths a ds → AreIn (columns_slots lengths room a bar ds)
+  columns_in room bar ds h to fit =
+      both_in (head_slots a ds ++ first_slots a bar) (measures_slots lengths room a true ds)
+      (both_in (head_slots a ds) (first_slots a bar) (head_in ds h) (first_in bar h))
+      (measures_in room a true ds (omega arith) to fit)

@@ -1,0 +1,12 @@
+//! The columns of one measure at a time: put one after the other they are the columns of a system,
+//! so that spans of measures can be tried by adding a measure to the one before.
+#![tactic(auto)]
+
+pub mod law;
+pub mod measures;
+
+pub use law::measures_join;
+pub use measures::{first_columns, further_columns};
+
+#[cfg(test)]
+mod tests;

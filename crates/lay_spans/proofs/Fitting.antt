@@ -1,0 +1,85 @@
+-- Which spans fit.
+use Rattle.std.proofs.Common.{◌≡◌, ℕ, zero, suc, ◌+◌, ◌-◌, ◌<◌, ◌≤◌, List, [], ◌∷◌, ◌++◌, length, map, Option, None, Some, option_map, option_and_then, unwrap_or, slice_get, slice_index_or, arith, sym, ◌∙◌, ap, subst, refl, length-append}
+use Rattle.std.proofs.Math.Path.{fun_ext}
+use Rattle.std.proofs.lemmas.Option.{slice_get_past}
+use Rattle.std.proofs.lemmas.List.{append_assoc, length-map}
+use Rattle.lay_springs.specs.declared.traits.Reach.{Reach}
+use Rattle.lay_springs.specs.Place.{reach_at, length_at}
+use Rattle.lay_springs.specs.Fit.{Fits, Passes, CanStand, StandsInAll}
+use Rattle.lay_springs.proofs.Longer.{cannot_stand, longer_fits_less}
+use Rattle.lay_spans.specs.Columns.{span_columns, AreMeasures}
+use Rattle.lay_spans.specs.SpanList.{StandsAt, IsForce}
+use Rattle.lay_spans.proofs.Adding.{columns_continue, ends_so}
+
+-- a longer span can't stand where a shorter one can't
+pub longer_stands : {C : Type 0} (reach : C → ℕ → Option Reach) (len : C → ℕ → ℕ) (gaps : List ℕ) (width : ℕ) (starts others : List (List C)) (a b c : ℕ)
+    → AreMeasures reach (length gaps) starts others → a < b → b < c → c ≤ length starts
+    → 0 < length (span_columns starts others a b)
+    → StandsAt reach len gaps width 0 (span_columns starts others a c) → StandsAt reach len gaps width 0 (span_columns starts others a b)
+longer_stands reach len gaps width starts others a b c h l m n some stands =
+    let d : ℕ = c - b - 1 in
+    let same : b + (c - b - 1) + 1 ≡ c = omega arith in
+    let longer = columns_continue starts others a b (c - b - 1) l (omega arith) h.same in
+    let last = slice_index_or others (b + (c - b - 1)) [] in
+    let ends = h.ended (b + (c - b - 1)) (omega arith) in
+    let rest = longer.0 ++ last in
+    let is : span_columns starts others a c ≡ span_columns starts others a b ++ rest = sym (ap (λ i. span_columns starts others a i) same) ∙ longer.1 in
+    longer_fits_less reach len (span_columns starts others a b) rest gaps width 0 some
+    (let n = length-append longer.0 last in let k = ends.some in omega arith)
+    (subst (λ columns. StandsInAll (reach_at reach columns (length columns - 1)) (length gaps)) (append_assoc (span_columns starts others a b) longer.0 last)
+    (ends_so reach (length gaps) (span_columns starts others a b ++ longer.0) last ends))
+    (subst (λ columns. StandsAt reach len gaps width 0 columns) is stands)
+
+-- Columns that stand elsewhere, by the columns that they are.
+get_mapped : {D C : Type 0} (f : D → C) (xs : List D) (i : ℕ) → slice_get (map f xs) i ≡ option_map f (slice_get xs i)
+get_mapped f [] i = slice_get_past [] i (omega arith) ∙ ap (λ o. option_map f o) (sym (slice_get_past [] i (omega arith)))
+get_mapped f (x ∷ xs) zero = refl
+get_mapped f (x ∷ xs) (suc i) = get_mapped f xs i
+
+seen_reach : {D C : Type 0} (f : D → C) (reach : C → ℕ → Option Reach) (seen : List D)
+    → reach_at (λ s lane. reach (f s) lane) seen ≡ reach_at reach (map f seen)
+seen_reach f reach seen = fun_ext (λ i. fun_ext (λ lane.
+    at (slice_get seen i) lane ∙ sym (ap (λ o. option_and_then (λ c. reach c lane) o) (get_mapped f seen i))))
+  where
+    at : (o : Option _) (lane : ℕ) → option_and_then (λ s. reach (f s) lane) o ≡ option_and_then (λ c. reach c lane) (option_map f o)
+    at None lane = refl
+    at (Some s) lane = refl
+
+seen_length : {D C : Type 0} (f : D → C) (len : C → ℕ → ℕ) (seen : List D)
+    → length_at (λ s force. len (f s) force) seen ≡ length_at len (map f seen)
+seen_length f len seen = fun_ext (λ force. fun_ext (λ i.
+    at (slice_get seen i) force ∙ sym (ap (λ o. unwrap_or (option_map (λ c. len c force) o) 0) (get_mapped f seen i))))
+  where
+    at : (o : Option _) (force : ℕ) → unwrap_or (option_map (λ s. len (f s) force) o) 0 ≡ unwrap_or (option_map (λ c. len c force) (option_map f o)) 0
+    at None force = refl
+    at (Some s) force = refl
+
+seen_as : {D C : Type 0} (f : D → C) (reach : C → ℕ → Option Reach) (len : C → ℕ → ℕ) (P : ℕ → (ℕ → ℕ → Option Reach) → (ℕ → ℕ → ℕ) → Type 0)
+    (seen : List D) (columns : List C) → map f seen ≡ columns
+    → P (length seen) (reach_at (λ s lane. reach (f s) lane) seen) (length_at (λ s force. len (f s) force) seen)
+    ≡ P (length columns) (reach_at reach columns) (length_at len columns)
+seen_as f reach len P seen columns e =
+    ap (λ n. P n (reach_at (λ s lane. reach (f s) lane) seen) (length_at (λ s force. len (f s) force) seen)) (sym (length-map seen f))
+    ∙ ap (λ r. P (length (map f seen)) r (length_at (λ s force. len (f s) force) seen)) (seen_reach f reach seen)
+    ∙ ap (λ l. P (length (map f seen)) (reach_at reach (map f seen)) l) (seen_length f len seen)
+    ∙ ap (λ columns. P (length columns) (reach_at reach columns) (length_at len columns)) e
+
+pub force_of : {D C : Type 0} (f : D → C) (reach : C → ℕ → Option Reach) (len : C → ℕ → ℕ) (gaps : List ℕ) (width : ℕ)
+    (seen : List D) (columns : List C) (force : ℕ) → map f seen ≡ columns → force ≤ 2048
+    → Fits (length seen) (reach_at (λ s lane. reach (f s) lane) seen) gaps (length_at (λ s g. len (f s) g) seen) width force
+    → ((g : ℕ) → force < g → g ≤ 2048
+    → CanStand (length seen) (reach_at (λ s lane. reach (f s) lane) seen) gaps (length_at (λ s g. len (f s) g) seen) width g → ⊥)
+    → IsForce reach len gaps width columns force
+force_of f reach len gaps width seen columns force e bound fits greatest = record {
+  bound = bound;
+  fits = subst (λ T. T) (seen_as f reach len (λ n r l. Fits n r gaps l width force) seen columns e) fits;
+  greatest = λ g l m stands. greatest g l m (subst (λ T. T) (sym (seen_as f reach len (λ n r l. CanStand n r gaps l width g) seen columns e)) stands);
+}
+
+pub never_stands : {D C : Type 0} (f : D → C) (reach : C → ℕ → Option Reach) (len : C → ℕ → ℕ) (gaps : List ℕ) (width : ℕ)
+    (seen : List D) (columns : List C) → map f seen ≡ columns → 0 < length columns
+    → Passes (length seen) (reach_at (λ s lane. reach (f s) lane) seen) gaps (length_at (λ s g. len (f s) g) seen) width 0
+    → StandsAt reach len gaps width 0 columns → ⊥
+never_stands f reach len gaps width seen columns e some passes stands =
+    cannot_stand (length columns) (reach_at reach columns) gaps (length_at len columns) width 0 0 some (λ i. omega arith)
+    (subst (λ T. T) (seen_as f reach len (λ n r l. Passes n r gaps l width 0) seen columns e) passes) stands

@@ -1,0 +1,200 @@
+-- The row of a bar, and the rows, while they grow.
+use Rattle.std.proofs.Common.{◌≡◌, ℕ, ◌+◌, ◌-◌, ◌*◌, ◌<◌, ◌≤◌, ◌^◌, ◌==◌, nat_le, if◌then◌else◌, Result, Ok, Err, IfOk, Bool, List, [], ◌∷◌, ◌++◌, length, map, Option, None, Some, IsSome, slice_index, slice_index_or, get_or, true, false, arith, sym, ◌∙◌, ap, subst, refl, inl, inr, length-append}
+use Rattle.std.proofs.lemmas.Bool.{cases_lt, cases_eq, true≢false}
+use Rattle.std.proofs.lemmas.List.{get_or_append_left, length-map}
+use Rattle.std.proofs.lemmas.Option.{none-some, same_Some}
+use Rattle.lay_springs.specs.declared.traits.Reach.{Reach}
+use Rattle.std.proofs.Math.Nat.{mul-le-mul_left}
+use Rattle.lay_springs.specs.Fit.{counted, is_ragged}
+use Rattle.lay_breaks.specs.Spans.{AreSpans, listed}
+use Rattle.lay_spans.specs.Badness.{badness_of, badness_at}
+use Rattle.lay_spans.specs.Columns.{measures_from, span_columns, column_count, AreMeasures}
+use Rattle.lay_spans.specs.Forced.{ForcedInside}
+use Rattle.lay_spans.specs.SpanList.{StandsAt, IsCost, IsNoSpan, IsSpanList}
+use Rattle.lay_spans.specs.Rows.{IsRowFrom, AreRows, rows_spans}
+use Rattle.lay_spans.proofs.Adding.{columns_few, columns_some, columns_more}
+use Rattle.lay_spans.proofs.Fitting.{longer_stands}
+use Rattle.lay_spans.proofs.Listing.{in_rows, past_rows, rows_form}
+
+-- the columns that are seen, with one measure more
+pub seen_more : {D C : Type 0} (f : D → C) (old new : List D) (starts others : List (List C)) (a m : ℕ) → a ≤ m → m < length starts → length others ≡ length starts
+    → map f old ≡ span_columns starts others a m
+    → map f new ≡ map f old ++ slice_index_or (measures_from starts others a) (m - a) []
+    → map f new ≡ span_columns starts others a (m + 1)
+seen_more f old new starts others a m l k same e added =
+    added ∙ ap (λ cs. cs ++ slice_index_or (measures_from starts others a) (m - a) []) e ∙ sym (columns_more starts others a m l k same)
+
+pub seen_few : {D C : Type 0} (f : D → C) (seen : List D) (starts others : List (List C)) (a b : ℕ) → a < length starts
+    → map f seen ≡ span_columns starts others a b → length seen ≤ column_count starts + column_count others
+seen_few f seen starts others a b l e =
+    let n = length-map seen f in
+    let m : length (map f seen) ≡ length (span_columns starts others a b) = ap (λ cs. length cs) e in
+    let k = columns_few starts others a b l in
+    omega arith
+
+-- the last of a list that has grown
+pub at_end : {X : Type 0} (xs : List X) (x d : X) → get_or (xs ++ x ∷ []) (length xs) d ≡ x
+at_end [] x d = refl
+at_end (y ∷ xs) x d = at_end xs x d
+
+below_or_at : (P : ℕ → Type 0) (k n : ℕ) → k < n + 1 → (k < n → P k) → P n → P k
+below_or_at P k n l p q = elim (cases_lt k n) [
+  | inl lt ↦ p lt
+  | inr ge ↦ let e : n ≡ k = omega arith in subst P e q
+]
+
+-- what holds of each place of a list holds of each once one more is added
+pub each_more : {X : Type 0} (P : ℕ → X → Type 0) (xs : List X) (x d : X)
+    → ((k : ℕ) → k < length xs → P k (get_or xs k d)) → P (length xs) x
+    → (k : ℕ) → k < length (xs ++ x ∷ []) → P k (get_or (xs ++ x ∷ []) k d)
+each_more P xs x d each here k l =
+    let n = length-append xs (x ∷ []) in
+    below_or_at (λ k. P k (get_or (xs ++ x ∷ []) k d)) k (length xs) (omega arith)
+    (λ lt. subst (λ y. P k y) (sym (get_or_append_left xs (x ∷ []) d k lt)) (each k lt))
+    (subst (λ y. P (length xs) y) (sym (at_end xs x d)) here)
+
+pub costs_more : {C : Type 0} (reach : C → ℕ → Option Reach) (len : C → ℕ → ℕ) (gaps : List ℕ) (width : ℕ) (starts others : List (List C)) (forced : ℕ → Bool)
+    (a m : ℕ) (row : List ℕ) (v : ℕ) → a + length row ≡ m
+    → ((k : ℕ) → k < length row → IsCost reach len gaps width starts others forced a (a + 1 + k) (slice_index row k))
+    → IsCost reach len gaps width starts others forced a (m + 1) v
+    → (k : ℕ) → k < length (row ++ v ∷ []) → IsCost reach len gaps width starts others forced a (a + 1 + k) (slice_index (row ++ v ∷ []) k)
+costs_more reach len gaps width starts others forced a m row v e each here =
+    let same : m + 1 ≡ a + 1 + length row = omega arith in
+    each_more (λ k v. IsCost reach len gaps width starts others forced a (a + 1 + k) v) row v 0 each
+    (subst (λ b. IsCost reach len gaps width starts others forced a b v) same here)
+
+pub free_more : (forced : ℕ → Bool) (a m : ℕ) → forced (m + 1) ≡ false
+    → ((f : ℕ) → a < f → f < m + 1 → forced f ≡ true → ⊥)
+    → (f : ℕ) → a < f → f < m + 1 + 1 → forced f ≡ true → ⊥
+free_more forced a m free before f l k is =
+    below_or_at (λ f. a < f → forced f ≡ true → ⊥) f (m + 1) k
+    (λ lt l is. before f l lt is)
+    (λ l is. absurd (true≢false (sym is ∙ free)))
+    l is
+
+-- the row ends where the next span doesn't fit
+pub stops_at : {C : Type 0} (reach : C → ℕ → Option Reach) (len : C → ℕ → ℕ) (gaps : List ℕ) (width : ℕ) (starts others : List (List C)) (forced : ℕ → Bool)
+    (a m : ℕ) (row : List ℕ) → AreMeasures reach (length gaps) starts others → a < length starts → m < length starts → a + length row ≡ m
+    → ((k : ℕ) → k < length row → IsCost reach len gaps width starts others forced a (a + 1 + k) (slice_index row k))
+    → (StandsAt reach len gaps width 0 (span_columns starts others a (m + 1)) → ⊥)
+    → IsRowFrom reach len gaps width starts others forced a row
+stops_at reach len gaps width starts others forced a m row h inside l e each never = record {
+  within = omega arith;
+  each = each;
+  stops = λ b past within. inr (λ stands. elim (cases_eq (m + 1) b) [
+    | inl same ↦ never (subst (λ b. StandsAt reach len gaps width 0 (span_columns starts others a b)) (sym same) stands)
+    | inr d ↦
+        let lt : m + 1 < b = grind arith in
+        never (longer_stands reach len gaps width starts others a (m + 1) b h (omega arith) lt within
+        (columns_some starts others a (m + 1) (omega arith) (h.begun a inside)) stands)
+  ]);
+}
+
+-- or behind a forced bar
+pub stops_behind : {C : Type 0} (reach : C → ℕ → Option Reach) (len : C → ℕ → ℕ) (gaps : List ℕ) (width : ℕ) (starts others : List (List C)) (forced : ℕ → Bool)
+    (a m : ℕ) (row : List ℕ) → m < length starts → a + length row ≡ m + 1 → a ≤ m
+    → ((k : ℕ) → k < length row → IsCost reach len gaps width starts others forced a (a + 1 + k) (slice_index row k))
+    → forced (m + 1) ≡ true
+    → IsRowFrom reach len gaps width starts others forced a row
+stops_behind reach len gaps width starts others forced a m row l e k each is = record {
+  within = omega arith;
+  each = each;
+  stops = λ b past within. inl (m + 1, omega arith, omega arith, is);
+}
+
+pub rows_more : {C : Type 0} (reach : C → ℕ → Option Reach) (len : C → ℕ → ℕ) (gaps : List ℕ) (width : ℕ) (starts others : List (List C)) (forced : ℕ → Bool)
+    (a : ℕ) (rows : List (List ℕ)) (row : List ℕ) → AreRows reach len gaps width starts others forced a rows
+    → IsRowFrom reach len gaps width starts others forced a row
+    → AreRows reach len gaps width starts others forced (a + 1) (rows ++ row ∷ [])
+rows_more reach len gaps width starts others forced a rows row h here =
+    let c = h.count in
+    let n = length-append rows (row ∷ []) in
+    record {
+      count = omega arith;
+      each = λ k l. each_more (λ k row. IsRowFrom reach len gaps width starts others forced k row) rows row []
+          (λ k l. h.each k (omega arith))
+          (subst (λ k. IsRowFrom reach len gaps width starts others forced k row) (sym c) here)
+          k (omega arith);
+    }
+
+square_small : (x : ℕ) → x ≤ 2048 → x * x ≤ 4194304
+square_small x l = let k = mul-le-mul_left x l in omega arith
+
+at_small : (force : ℕ) → force ≤ 2048 → badness_at force ≤ 2 ^ 40
+at_small force l =
+    let high = square_small (force - 256) (omega arith) in
+    let low = square_small (256 - force) (omega arith) in
+    elim (nat_le 256 force) as (λ t. (if t then (force - 256) * (force - 256) else 4 * ((256 - force) * (256 - force))) ≤ 2 ^ 40)
+    [ true ↦ omega arith | false ↦ omega arith ]
+
+counted_small : (last : Bool) (force : ℕ) → force ≤ 2048 → counted last force ≤ 2048
+counted_small last force l =
+    elim (is_ragged last force) as (λ t. (if t then 256 else force) ≤ 2048) [ true ↦ omega arith | false ↦ omega arith ]
+
+badness_small : (last : Bool) (force : ℕ) → force ≤ 2048 → badness_of last force ≤ 2 ^ 40
+badness_small last force l = at_small (counted last force) (counted_small last force l)
+
+costs_small : {C : Type 0} (reach : C → ℕ → Option Reach) (len : C → ℕ → ℕ) (gaps : List ℕ) (width : ℕ) (starts others : List (List C)) (forced : ℕ → Bool)
+    (a b v : ℕ) → IsCost reach len gaps width starts others forced a b v → v ≤ 2 ^ 40
+costs_small reach len gaps width starts others forced a b v h =
+    subst (λ v. v ≤ 2 ^ 40) (sym h.pressed.2) (badness_small (b == length starts) h.pressed.0 h.pressed.1.bound)
+
+-- the rows as a list of spans
+pub rows_are_spans : {C : Type 0} (reach : C → ℕ → Option Reach) (len : C → ℕ → ℕ) (gaps : List ℕ) (width : ℕ) (starts others : List (List C)) (forced : ℕ → Bool)
+    (rows : List (List ℕ)) → AreRows reach len gaps width starts others forced (length starts) rows → AreSpans (length starts) (rows_spans 0 rows)
+rows_are_spans reach len gaps width starts others forced rows h =
+    let c = h.count in
+    rows_form (length starts) 0 None rows
+    (λ k l. let w = (h.each k (omega arith)).within in omega arith)
+    (λ k i l m. costs_small reach len gaps width starts others forced k (k + 1 + i) _ ((h.each k (omega arith)).each i m))
+    tt
+
+pub rows_tell_spans : {C : Type 0} (reach : C → ℕ → Option Reach) (len : C → ℕ → ℕ) (gaps : List ℕ) (width : ℕ) (starts others : List (List C)) (forced : ℕ → Bool)
+    (rows : List (List ℕ)) → AreRows reach len gaps width starts others forced (length starts) rows
+    → IsSpanList reach len gaps width starts others forced (rows_spans 0 rows)
+rows_tell_spans {C} reach len gaps width starts others forced rows h = record {
+  each = λ a b v l m is.
+      let row = slice_index_or rows a [] in
+      let from = h.each a (omega arith) in
+      elim (cases_lt (a + length (slice_index_or rows a [])) b) [
+        | inl past ↦ absurd (none-some v (sym (out a b l past) ∙ is))
+        | inr within ↦
+            let same : a + 1 + (b - (a + 1)) ≡ b = omega arith in
+            let v-is : slice_index (slice_index_or rows a []) (b - (a + 1)) ≡ v = same_Some _ _ (sym (inside a b l within) ∙ is) in
+            subst (λ v. IsCost reach len gaps width starts others forced a b v) v-is
+            (subst (λ c. IsCost reach len gaps width starts others forced a c (slice_index (slice_index_or rows a []) (b - (a + 1)))) same
+            (from.each (b - (a + 1)) (omega arith)))
+      ];
+  fits = λ a b l m free stands. fitting a b (listed (rows_spans 0 rows) a b) refl (λ e. stopped a b l m e) free stands;
+  stops = stopped;
+}
+  where
+    z : (a : ℕ) → a - 0 ≡ a
+    z a = omega arith
+
+    out : (a b : ℕ) → a < b → a + length (slice_index_or rows a []) < b → listed (rows_spans 0 rows) a b ≡ None
+    out a b l past = past_rows 0 rows a b (omega arith) (subst (λ i. a + length (slice_index_or rows i []) < b) (sym (z a)) past)
+
+    inside : (a b : ℕ) → a < b → b ≤ a + length (slice_index_or rows a [])
+        → listed (rows_spans 0 rows) a b ≡ Some (slice_index (slice_index_or rows a []) (b - (a + 1)))
+    inside a b l within =
+        in_rows 0 rows a b (omega arith) l (subst (λ i. b ≤ a + length (slice_index_or rows i [])) (sym (z a)) within)
+        ∙ ap (λ i. Some (slice_index (slice_index_or rows i []) (b - (a + 1)))) (z a)
+
+    stopped : (a b : ℕ) → a < b → b ≤ length starts → listed (rows_spans 0 rows) a b ≡ None → IsNoSpan reach len gaps width starts others forced a b
+    stopped a b l m is =
+        let from = h.each a (omega arith) in
+        elim (cases_lt (a + length (slice_index_or rows a [])) b) [
+          | inl past ↦ from.stops b past m
+          | inr within ↦ absurd (none-some _ (sym is ∙ inside a b l within))
+        ]
+
+    fitting : (a b : ℕ) (o : Option ℕ) → listed (rows_spans 0 rows) a b ≡ o
+        → (listed (rows_spans 0 rows) a b ≡ None → IsNoSpan reach len gaps width starts others forced a b)
+        → (ForcedInside forced a b → ⊥) → StandsAt reach len gaps width 0 (span_columns starts others a b) → IsSome (listed (rows_spans 0 rows) a b)
+    fitting a b (Some v) e stop free stands = rw e refl
+    fitting a b None e stop free stands = elim (stop e) [ inl f ↦ absurd (free f) | inr never ↦ absurd (never stands) ]
+
+pub on_ok : {X E : Type 0} (P : X → Type 0) (r : Result X E) (x : X) → IfOk r (λ y. y ≡ x) → P x → IfOk r P
+on_ok P (Ok y) x e h = subst P (sym e) h
+on_ok P (Err y) x e h = tt

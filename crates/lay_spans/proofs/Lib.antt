@@ -1,0 +1,6 @@
+pub mod Adding
+pub mod Fitting
+pub mod Listing
+pub mod Leading
+pub mod Growing
+pub mod Sampling

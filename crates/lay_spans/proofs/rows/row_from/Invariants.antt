@@ -1,0 +1,14 @@
+use Rattle.std.proofs.Common.{◌≡◌, ◌+◌, ◌<◌, ◌≤◌, ℕ, length, map, slice_index, slice_index_or, true, false}
+use Rattle.lay_spans.specs.Columns.{span_columns, column_count}
+use Rattle.lay_spans.specs.SpanList.{IsCost}
+use Rattle.lay_spans.proofs.rows.row_from.Given as goal
+
+abbrev pub invariant-loop-m : goal.invariant-loop-m
+invariant-loop-m g l = record {
+  columns : map (λ s. s.column.now) l.seen ≡ span_columns l.starts l.others l.a l.m;
+  count : l.a + length l.row ≡ l.m;
+  each : (k : ℕ) → k < length l.row
+      → IsCost g.C.Spaced.reach_of g.C.Spring.length_of l.gaps l.width l.starts l.others (λ b. slice_index_or l.marks b false) l.a (l.a + 1 + k) (slice_index l.row k);
+  free : (f : ℕ) → l.a < f → f < l.m + 1 → slice_index_or l.marks f false ≡ true → ⊥;
+  room : column_count l.starts + column_count l.others + length l.gaps ≤ length l.scratch;
+}

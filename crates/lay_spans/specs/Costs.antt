@@ -1,0 +1,30 @@
+-- The costs of spans kept as rows, one for each bar.
+use Rattle.std.specs.Prelude.{◌≡◌, ℕ, zero, suc, ◌+◌, ◌<◌, ◌≤◌, ◌^◌, ◌==◌, nat_lt, true, List, [], ◌∷◌, length, drop, Option, None, IfSome, if◌then◌else◌, refl}
+use Rattle.std.proofs.Common.{arith, sym, ◌∙◌}
+use Rattle.std.proofs.lemmas.Bool.Decides.{nat_tests}
+use Rattle.lay_breaks.specs.declared.costs.Span.{Span}
+use Rattle.lay_breaks.specs.Rows.{row_cost, rows_stop, rows_small, AreSmall}
+
+-- what the span from a to b costs, by the row of bar a
+abbrev pub cost_in : List (List ℕ) → ℕ → ℕ → Option ℕ
+cost_in rows a b = if nat_lt a b then row_cost rows a b else None
+
+-- what the spans from bar a at the head of the list cost
+abbrev pub leading : ℕ → List Span → List ℕ
+leading a [] = []
+leading a (s ∷ ss) = if s.a == a then s.badness ∷ leading a ss else []
+
+-- the rows of the next n bars, from a on
+abbrev pub rows_from : ℕ → ℕ → List Span → List (List ℕ)
+rows_from zero a spans = []
+rows_from (suc n) a spans = leading a spans ∷ rows_from n (a + 1) (drop (length (leading a spans)) spans)
+
+-- What follows from the form: the two laws of costs.
+rising : (rows : List (List ℕ)) (a b : ℕ) → a < b → cost_in rows a b ≡ row_cost rows a b
+rising rows a b l = let t : nat_lt a b ≡ true = grind (arith, nat_tests) in rw t refl
+
+pub cost_stops : (rows : List (List ℕ)) (a b c : ℕ) → a < b → b < c → cost_in rows a b ≡ None → cost_in rows a c ≡ None
+cost_stops rows a b c l m e = rising rows a c (omega arith) ∙ rows_stop rows a b c l m (sym (rising rows a b l) ∙ e)
+
+pub cost_small : (rows : List (List ℕ)) → AreSmall rows → (a b : ℕ) → a < b → IfSome (cost_in rows a b) (λ v. v ≤ 2 ^ 40)
+cost_small rows h a b l = rw (rising rows a b l) (rows_small rows h a b)

@@ -1,0 +1,6 @@
+pub mod Badness
+pub mod Columns
+pub mod Forced
+pub mod SpanList
+pub mod Rows
+pub mod Costs

@@ -1,0 +1,26 @@
+-- The spans from each bar as a row of what they cost, and rows as a list of spans.
+use Rattle.std.specs.Prelude.{◌≡◌, ℕ, ◌+◌, ◌<◌, ◌≤◌, Bool, List, [], ◌∷◌, ◌++◌, length, slice_index, slice_index_or, Option}
+use Rattle.lay_springs.specs.declared.traits.Reach.{Reach}
+use Rattle.lay_breaks.specs.declared.costs.Span.{Span}
+use Rattle.lay_spans.specs.SpanList.{IsCost, IsNoSpan}
+
+-- the row has what the spans from bar a to a + 1, a + 2 and so on cost, up to the longest that fits
+pub record IsRowFrom {C : Type 0} (reach : C → ℕ → Option Reach) (len : C → ℕ → ℕ) (gaps : List ℕ) (width : ℕ) (starts others : List (List C)) (forced : ℕ → Bool) (a : ℕ) (row : List ℕ) : Type 0 where
+  pub within : a + length row ≤ length starts
+  pub each : (k : ℕ) → k < length row → IsCost reach len gaps width starts others forced a (a + 1 + k) (slice_index row k)
+  pub stops : (b : ℕ) → a + length row < b → b ≤ length starts → IsNoSpan reach len gaps width starts others forced a b
+
+-- there is such a row for each bar below n
+pub record AreRows {C : Type 0} (reach : C → ℕ → Option Reach) (len : C → ℕ → ℕ) (gaps : List ℕ) (width : ℕ) (starts others : List (List C)) (forced : ℕ → Bool) (n : ℕ) (rows : List (List ℕ)) : Type 0 where
+  pub count : length rows ≡ n
+  pub each : (a : ℕ) → a < n → IsRowFrom reach len gaps width starts others forced a (slice_index_or rows a [])
+
+-- the spans from bar a to b, b + 1 and so on, that cost what the row has
+abbrev pub row_spans : ℕ → ℕ → List ℕ → List Span
+row_spans a b [] = []
+row_spans a b (v ∷ vs) = record { a = a; b = b; badness = v } ∷ row_spans a (b + 1) vs
+
+-- the spans of the rows of the bars from a on
+abbrev pub rows_spans : ℕ → List (List ℕ) → List Span
+rows_spans a [] = []
+rows_spans a (row ∷ rows) = row_spans a (a + 1) row ++ rows_spans (a + 1) rows

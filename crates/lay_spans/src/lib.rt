@@ -1,0 +1,23 @@
+//! The spans of measures that fit a system, with their badness.
+//!
+//! From the columns of each measure, as they stand where it begins a system and
+//! where it doesn't, come the spans that fit within a width, what each costs, and
+//! the costs that a breaking is chosen by.
+#![tactic(auto)]
+
+pub mod breaks;
+pub mod costs;
+pub mod forces;
+mod marks;
+mod rows;
+pub mod seen;
+pub mod spans;
+
+pub use breaks::break_of;
+pub use costs::{SpanCosts, costs_of};
+pub use forces::badness;
+pub use seen::Seen;
+pub use spans::spans_of;
+
+#[cfg(test)]
+mod tests;

@@ -1,0 +1,139 @@
+ghost use Rattle.std.specs.Prelude.{◌≡◌, ◌+◌, ◌-◌, ◌<◌, ◌≤◌, ◌^◌, ◌++◌, ℕ, IfOk, OnOk, length, map, slice_index, slice_index_or, false, []};
+ghost use Rattle.lay_spans.specs.Columns.{measures_from, column_count, AreMeasures};
+ghost use Rattle.lay_spans.specs.Rows.{IsRowFrom, AreRows, row_spans, rows_spans};
+
+use crate::forces::badness;
+use crate::seen::Seen;
+use lay_breaks::Span;
+use lay_springs::{Spaced, Spring, fit};
+use mus_units::{Memory, Row};
+use std::alloc::Global;
+
+/// How many columns the measures have.
+pub(crate) fn count_columns<C>(measures: &[Row<C>]) -> usize
+    requires { column_count measures.now ≤ 200000 }
+    ensures { result ≡ column_count measures.now }
+{
+    let mut count = 0;
+    for measure in measures {
+        count += measure.len();
+    }
+    count
+}
+
+/// The columns of measure `m` in a system that begins at bar `a`.
+fn measure<'a, C>(starts: &'a [Row<C>], others: &'a [Row<C>], a: usize, m: usize) -> &'a [C]
+    requires past { a ≤ m }
+    requires inside { m < length starts.now }
+    requires same { length others.now ≡ length starts.now }
+    ensures { result.now ≡ slice_index_or (measures_from starts.now others.now a) (m - a) [] }
+{
+    if m == a {
+        starts[a].as_slice()
+    } else {
+        others[m].as_slice()
+    }
+}
+
+/// Adds columns to those that are seen.
+fn see<'a, C>(seen: &mut Row<Seen<'a, C>>, columns: &'a [C]) -> Result<(), Memory>
+    ensures { OnOk result (map (λ s. s.column.now) seen.new ≡ map (λ s. s.column.now) seen.old ++ columns.now) }
+{
+    for column in columns {
+        seen.push(Seen { column })?;
+    }
+    Ok(())
+}
+
+/// What the spans from bar `a` cost, from the shortest to the longest that fits. It adds
+/// one measure's columns at a time, and stops at the first span that doesn't fit or
+/// behind a forced bar.
+fn row_from<C: Spaced + Spring>(
+    alloc: Global,
+    starts: &[Row<C>],
+    others: &[Row<C>],
+    gaps: &[u32],
+    width: u32,
+    marks: &[bool],
+    a: usize,
+    scratch: &mut [i64],
+) -> Result<Row<u64>, Memory>
+    requires measures { AreMeasures C.reach_of (length gaps.now) starts.now others.now }
+    requires lanes { length gaps.now < 2 ^ 32 }
+    requires narrow { (lane : ℕ) → lane < length gaps.now → slice_index gaps.now lane ≤ 2 ^ 20 }
+    requires marked { length marks.now ≡ length starts.now + 1 }
+    requires room { column_count starts.now + column_count others.now + length gaps.now ≤ length scratch.old }
+    requires inside { a < length starts.now }
+    ensures { IfOk result (λ row. IsRowFrom C.reach_of C.length_of gaps.now width starts.now others.now
+        (λ b. slice_index_or marks.now b false) a row) }
+{
+    let mut seen = Row::new(alloc);
+    let mut row = Row::new(alloc);
+    for m in a..starts.len() {
+        see(&mut seen, measure(starts, others, a, m))?;
+        let Some(force) = fit(seen.as_slice(), gaps, width, scratch) else {
+            return Ok(row);
+        };
+        row.push(badness(force, m + 1 == starts.len()))?;
+        if marks[m + 1] {
+            return Ok(row);
+        }
+    }
+    Ok(row)
+}
+
+/// The row of each bar below the last.
+pub(crate) fn rows_of<C: Spaced + Spring>(
+    alloc: Global,
+    starts: &[Row<C>],
+    others: &[Row<C>],
+    gaps: &[u32],
+    width: u32,
+    marks: &[bool],
+    scratch: &mut [i64],
+) -> Result<Row<Row<u64>>, Memory>
+    requires measures { AreMeasures C.reach_of (length gaps.now) starts.now others.now }
+    requires lanes { length gaps.now < 2 ^ 32 }
+    requires narrow { (lane : ℕ) → lane < length gaps.now → slice_index gaps.now lane ≤ 2 ^ 20 }
+    requires marked { length marks.now ≡ length starts.now + 1 }
+    requires room { column_count starts.now + column_count others.now + length gaps.now ≤ length scratch.old }
+    ensures { IfOk result (λ rows. AreRows C.reach_of C.length_of gaps.now width starts.now others.now
+        (λ b. slice_index_or marks.now b false) (length starts.now) rows) }
+{
+    let mut rows = Row::new(alloc);
+    for a in 0..starts.len() {
+        let row = row_from(alloc, starts, others, gaps, width, marks, a, scratch)?;
+        rows.push(row)?;
+    }
+    Ok(rows)
+}
+
+/// Adds the spans of the row of bar `a`.
+fn add_row(out: &mut Row<Span>, a: u32, row: &[u64]) -> Result<(), Memory>
+    requires { a + length row.now < 2 ^ 32 }
+    ensures { OnOk result (out.new ≡ out.old ++ row_spans a (a + 1) row.now) }
+{
+    let mut b = a;
+    for cost in row {
+        b += 1;
+        out.push(Span {
+            a,
+            b,
+            badness: *cost,
+        })?;
+    }
+    Ok(())
+}
+
+/// The rows as a list of spans.
+pub(crate) fn list_rows(alloc: Global, rows: &[Row<u64>]) -> Result<Row<Span>, Memory>
+    requires few { length rows.now ≤ 4000 }
+    requires short { (a : ℕ) → a < length rows.now → length (slice_index_or rows.now a []) ≤ 4000 }
+    ensures { IfOk result (λ spans. spans ≡ rows_spans 0 rows.now) }
+{
+    let mut out = Row::new(alloc);
+    for a in 0..rows.len() {
+        add_row(&mut out, a as u32, rows[a].as_slice())?;
+    }
+    Ok(out)
+}

@@ -1,0 +1,50 @@
+ghost use Rattle.std.specs.Prelude.{◌<◌, ◌≤◌, ◌^◌, ℕ, IfOk, length, slice_index};
+ghost use Rattle.lay_breaks.specs.Spans.{AreSpans};
+ghost use Rattle.lay_spans.specs.Columns.{AreMeasures};
+ghost use Rattle.lay_spans.specs.Forced.{is_forced};
+ghost use Rattle.lay_spans.specs.SpanList.{IsSpanList};
+
+use crate::marks::marks_of;
+use crate::rows::{count_columns, list_rows, rows_of};
+use lay_breaks::Span;
+use lay_springs::{Spaced, Spring};
+use mus_units::{Memory, Row};
+use std::alloc::Global;
+
+/// The spans of measures that fit within a width, in u, by the bar after which they
+/// begin and then by the bar with which they end.
+///
+/// `starts` has the columns of each measure in a system that begins with it, and
+/// `others` in one that doesn't; the span from bar a to bar b has the measures a to
+/// b - 1, counted from 0. A span with a forced bar strictly inside isn't listed.
+/// Bars in `forced` that the tune doesn't have count for nothing. Room for placing
+/// is reserved once, before the first force is searched for.
+pub fn spans_of<C: Spaced + Spring>(
+    alloc: Global,
+    starts: &[Row<C>],
+    others: &[Row<C>],
+    gaps: &[u32],
+    width: u32,
+    forced: &[u32],
+) -> Result<Row<Span>, Memory>
+    requires measures { AreMeasures C.reach_of (length gaps.now) starts.now others.now }
+    requires lanes { length gaps.now < 2 ^ 32 }
+    requires narrow { (lane : ℕ) → lane < length gaps.now → slice_index gaps.now lane ≤ 2 ^ 20 }
+    ensures form { IfOk result (λ spans. AreSpans (length starts.now) spans) }
+    ensures exact { IfOk result (λ spans. IsSpanList C.reach_of C.length_of gaps.now width starts.now others.now
+        (is_forced (length starts.now) forced.now) spans) }
+{
+    let marks = marks_of(alloc, forced, starts.len())?;
+    let room = count_columns(starts) + count_columns(others) + gaps.len();
+    let mut scratch = vec![in alloc; 0; room]?;
+    let rows = rows_of(
+        alloc,
+        starts,
+        others,
+        gaps,
+        width,
+        marks.as_slice(),
+        &mut scratch,
+    )?;
+    list_rows(alloc, rows.as_slice())
+}

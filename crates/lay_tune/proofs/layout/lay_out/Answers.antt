@@ -1,0 +1,11 @@
+use Rattle.std.proofs.Common.{subst, sym}
+use Rattle.lay_tune.specs.Spans.{AreColumnsOf}
+use Rattle.lay_tune.proofs.Joins.{columns_join}
+use Rattle.lay_tune.proofs.layout.lay_out.Goals as goal
+
+pub lay_out_measures-requires-clause-columns : goal.lay_out_measures-requires-clause-columns
+lay_out_measures-requires-clause-columns c =
+    subst (λ others. AreColumnsOf c.args.s.now c.as_slice-starts.result.now others) (sym c.as_slice-others.ensures)
+    (subst (λ starts. AreColumnsOf c.args.s.now starts c.in_ok-further.further) (sym c.as_slice-starts.ensures)
+    (columns_join c.measures_join.ensures c.args.s.now c.in_ok-begun.begun c.in_ok-further.further c.requires.good
+    c.in_ok-begun.ensures c.in_ok-further.ensures))

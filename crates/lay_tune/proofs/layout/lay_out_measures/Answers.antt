@@ -1,0 +1,35 @@
+use Rattle.std.proofs.Common.{◌∙◌, ap, length, subst, sym, ◌<◌}
+use Rattle.lay_columns.specs.Lanes.{gaps_of}
+use Rattle.lay_breaks.specs.Spans.{AreSpans}
+use Rattle.lay_tune.specs.Layout.{IsCauseIn}
+use Rattle.lay_tune.proofs.Open.{cause_read, chosen_read, few_lanes, spans_read}
+use Rattle.lay_tune.proofs.layout.lay_out_measures.Goals as goal
+
+pub returns-in-Err-clause-no_way : goal.returns-in-Err-clause-no_way
+returns-in-Err-clause-no_way c =
+    subst (λ error. IsCauseIn c.args.s.now c.args.width error) (sym c.layout_error.ensures)
+    (cause_read c.args.s.now c.args.width c.in_ok-spans.spans c.as_slice-2.result.now c.as_slice-forced.result.now c.in-Err.error
+    c.as_slice-forced.ensures c.as_slice-2.ensures
+    (subst (λ n. AreSpans n c.in_ok-spans.spans) c.requires.count c.in_ok-spans.ensures.form)
+    (spans_read c.args.s.now c.args.width c.args.starts.now c.args.others.now c.in_ok-spans.spans c.as_slice.result.now c.as_slice-forced.result.now
+    c.requires.count (c.as_slice.ensures ∙ c.in_ok-gaps.ensures.value ∙ ap gaps_of c.requires.verses) c.as_slice-forced.ensures
+    c.requires.columns c.in_ok-spans.ensures.exact)
+    c.in-Err.ensures.no_way)
+
+pub set_systems-requires-clause-lanes : goal.set_systems-requires-clause-lanes
+set_systems-requires-clause-lanes c =
+    subst (λ gaps. length gaps < 4294967296) (sym c.as_slice-3.ensures)
+    (few_lanes c.args.s.now c.args.verses.now c.in_ok-gaps.gaps c.requires.good c.requires.verses c.in_ok-gaps.ensures.few)
+
+pub set_systems-requires-clause-fits : goal.set_systems-requires-clause-fits
+set_systems-requires-clause-fits c =
+    chosen_read c.args.s.now c.args.width c.args.starts.now c.args.others.now c.in_ok-spans.spans c.as_slice-2.result.now
+    c.as_slice.result.now c.as_slice-forced.result.now c.in-Ok.breaking.breaks c.as_slice-breaks.result.now
+    c.requires.count (c.as_slice.ensures ∙ c.in_ok-gaps.ensures.value ∙ ap gaps_of c.requires.verses) c.as_slice-forced.ensures
+    c.as_slice-2.ensures c.as_slice-breaks.ensures c.requires.measures c.requires.columns c.in_ok-spans.ensures.exact c.in-Ok.ensures.chosen
+
+pub returns-clause-spans : goal.returns-clause-spans
+returns-clause-spans c =
+    spans_read c.args.s.now c.args.width c.args.starts.now c.args.others.now c.in_ok-spans.spans c.as_slice.result.now c.as_slice-forced.result.now
+    c.requires.count (c.as_slice.ensures ∙ c.in_ok-gaps.ensures.value ∙ ap gaps_of c.requires.verses) c.as_slice-forced.ensures
+    c.requires.columns c.in_ok-spans.ensures.exact

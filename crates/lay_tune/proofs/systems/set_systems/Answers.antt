@@ -1,0 +1,45 @@
+use Rattle.std.proofs.Common.{◌≡◌, ◌+◌, ◌<◌, ◌≤◌, List, [], ◌∷◌, ◌++◌, drop, length, slice_index_or, sym, subst, arith}
+use Rattle.std.proofs.lemmas.List.{append-nil, drop_all, drop_more}
+use Rattle.std.specs.List.{All}
+use Rattle.std.proofs.lemmas.List.Elements.{All-append, All-cons, All-nil}
+use Rattle.mus_laid.specs.Boxes.{AreGoodMarks}
+use Rattle.mus_laid.specs.declared.laid.SystemMarks.{SystemMarks}
+use Rattle.lay_tune.specs.Spans.{IsSystem}
+use Rattle.lay_tune.specs.Systems.{AllSpans, Beside, CanBeSet, EachSpan, IsPlaced, IsStack}
+use Rattle.lay_tune.proofs.Rows.{beside_more, span_more}
+use Rattle.lay_tune.proofs.systems.set_systems.Goals as goal
+
+abbrev Good : SystemMarks → Type 0
+Good m = All (λ staff. AreGoodMarks staff.marks) m.staves
+
+pub loop-b-preserved : goal.loop-b-preserved
+loop-b-preserved c =
+    let s = c.args.s.now in
+    let breaks = c.args.breaks.now in
+    let i = c.loop-b.b-index in
+    let b = slice_index_or c.args.breaks.now c.loop-b.b-index 0 in
+    let inside : c.loop-b.b-index < length c.args.breaks.now = grind (arith, c.loop-b-test.true) in
+    let next : drop c.loop-b.b-index c.args.breaks.now ≡ slice_index_or c.args.breaks.now c.loop-b.b-index 0 ∷ drop (c.loop-b.b-index + 1) c.args.breaks.now =
+    drop_more c.args.breaks.now c.loop-b.b-index 0 inside in
+    record {
+      systems = subst (λ marks. (more : List SystemMarks) → EachSpan (IsSystem s) b (drop (i + 1) breaks) more → EachSpan (IsSystem s) 0 breaks (marks ++ more))
+          (sym c.in_ok-push.ensures.ok)
+          (span_more (IsSystem s) breaks c.loop-b.marks c.in_ok-set.set.marks c.loop-b.a b i next c.loop-b.invariant.systems c.in_ok-set.ensures.system);
+      placed = subst (λ marks. Beside (IsPlaced s c.args.width) marks c.push-in-loop-b.new.self) (sym c.in_ok-push.ensures.ok)
+          (subst (λ placed. Beside (IsPlaced s c.args.width) (c.loop-b.marks ++ c.in_ok-set.set.marks ∷ []) placed) (sym c.in_ok-push-2.ensures.ok)
+          (beside_more (IsPlaced s c.args.width) c.loop-b.marks c.loop-b.placed c.in_ok-set.set.marks c.in_ok-set.set.placed c.loop-b.invariant.placed c.in_ok-set.ensures.placed));
+      heights = subst (λ marks. Beside IsStack marks c.push-in-loop-b-2.new.self) (sym c.in_ok-push.ensures.ok)
+          (subst (λ heights. Beside IsStack (c.loop-b.marks ++ c.in_ok-set.set.marks ∷ []) heights) (sym c.in_ok-push-3.ensures.ok)
+          (beside_more IsStack c.loop-b.marks c.loop-b.heights c.in_ok-set.set.marks c.in_ok-set.set.heights c.loop-b.invariant.heights c.in_ok-set.ensures.heights));
+      good = subst (λ marks. All Good marks) (sym c.in_ok-push.ensures.ok)
+          (All-append Good c.loop-b.marks (c.in_ok-set.set.marks ∷ []) c.loop-b.invariant.good
+          (All-cons Good c.in_ok-set.set.marks [] c.in_ok-set.ensures.good (All-nil Good)));
+      fits = (subst (λ bs. AllSpans (CanBeSet s c.args.width) c.loop-b.a bs) next c.loop-b.invariant.fits).1;
+    }
+
+pub returns-clause-systems : goal.returns-clause-systems
+returns-clause-systems c =
+    let past : length c.args.breaks.now ≤ c.loop-b.b-index = grind (arith, c.loop-b-test.false) in
+    let none = drop_all c.loop-b.b-index c.args.breaks.now past in
+    subst (λ marks. EachSpan (IsSystem c.args.s.now) 0 c.args.breaks.now marks) (append-nil c.loop-b.marks)
+    (c.loop-b.invariant.systems [] (subst (λ bs. EachSpan (IsSystem c.args.s.now) c.loop-b.a bs []) (sym none) tt))

@@ -1,0 +1,4 @@
+pub mod Layout
+pub mod Measures
+pub mod Spans
+pub mod Systems

@@ -1,0 +1,166 @@
+ghost use Rattle.std.specs.Prelude.{◌≡◌, ◌+◌, ◌<◌, ◌≤◌, ℕ, Option, All, IfErr, IfOk, length, map, slice_index_or};
+ghost use Rattle.mus_score.specs.GoodScore.{IsGoodScore};
+ghost use Rattle.mus_time.specs.Onsets.{timeline_of};
+ghost use Rattle.mus_drawn.specs.Drawn.{drawn_voice};
+ghost use Rattle.mus_drawn.specs.Good.{AreGoodMeasures};
+ghost use Rattle.mus_laid.specs.Boxes.{AreGoodMarks};
+ghost use Rattle.lay_columns.specs.Columns.{column_reach};
+ghost use Rattle.lay_breaks.specs.Breaking.{IsChosen, IsPotential, sum_from};
+ghost use Rattle.lay_breaks.specs.Spans.{AreSpans, listed};
+ghost use Rattle.lay_spans.specs.Columns.{AreMeasures};
+ghost use Rattle.lay_tune.specs.declared.layout.LayoutError.TheVariants as errors;
+ghost use Rattle.lay_tune.specs.Layout.{IsCauseIn, layout_error};
+ghost use Rattle.lay_tune.specs.Spans.{AreColumnsOf, AreSpansOf, IsSystem, is_forced_in, score_gaps, verses_of};
+ghost use Rattle.lay_tune.specs.Systems.{Beside, EachSpan, IsPlaced, IsStack};
+
+use crate::measures::{columns_within, others_of, starts_of};
+use crate::systems::{Systems, set_systems};
+use crate::verses::verses_of;
+use lay_breaks::{BreakError, Breaking, Span};
+use lay_columns::{Column, gaps_of};
+use lay_measures::measures_join;
+use lay_pages::Heights;
+use lay_spans::{break_of, spans_of};
+use lay_springs::Placed;
+use mus_drawn::DrawnVoice;
+use mus_laid::SystemMarks;
+use mus_marks::draw_voices;
+use mus_score::Score;
+use mus_time::{Timeline, onsets};
+use mus_units::{Memory, Row};
+use std::alloc::Global;
+
+/// A score laid out: the spans that fit and what each costs; the breaking that is chosen among
+/// them; and for each of its spans in order the marks of the system, where its columns stand, in u,
+/// and how its staves are stacked.
+#[derive(Debug, Drop)]
+pub struct Layout {
+    pub breaking: Breaking,
+    pub systems: Row<SystemMarks>,
+    pub placed: Row<Placed>,
+    pub spans: Row<Span>,
+    pub heights: Row<Heights>,
+}
+
+/// Why a score isn't laid out.
+#[derive(Clone, Copy, Debug, PartialEq, Eq)]
+pub enum LayoutError {
+    /// No breaking is legal; `reached` is the greatest bar at which a legal prefix ends.
+    NoWay { reached: u32 },
+    /// Memory ran out.
+    Memory,
+}
+
+impl From<Memory> for LayoutError {
+    ghost from_gives = { λ _ e. e ≡ errors.Memory };
+
+    fn from(_: Memory) -> LayoutError {
+        LayoutError::Memory
+    }
+}
+
+fn layout_error(error: BreakError) -> LayoutError
+    ensures { result ≡ layout_error error }
+{
+    match error {
+        BreakError::NoWay { reached } => LayoutError::NoWay { reached },
+        BreakError::Memory => LayoutError::Memory,
+    }
+}
+
+/// The layout by the columns of each measure: `starts` has them as they stand where the measure
+/// begins a system, `others` where it doesn't.
+fn lay_out_measures(
+    alloc: Global,
+    s: &Score,
+    voices: &[DrawnVoice],
+    t: &Timeline,
+    verses: &[u8],
+    starts: &[Row<Column>],
+    others: &[Row<Column>],
+    width: u32,
+) -> Result<Layout, LayoutError>
+    requires good { IsGoodScore s.now }
+    requires times { t.now ≡ timeline_of s.now }
+    requires voices { voices.now ≡ map drawn_voice s.now.voices }
+    requires drawn { All (λ v. AreGoodMeasures v.measures) voices.now }
+    requires verses { verses.now ≡ verses_of s.now.voices }
+    requires count { length starts.now ≡ s.now.measures }
+    requires measures { AreMeasures column_reach (length (score_gaps s.now)) starts.now others.now }
+    requires columns { AreColumnsOf s.now starts.now others.now }
+    ensures form { IfOk result (λ l. AreSpans s.now.measures l.spans) }
+    ensures spans { IfOk result (λ l. AreSpansOf s.now width l.spans) }
+    ensures chosen { IfOk result (λ l. IsChosen (listed l.spans) (is_forced_in s.now) s.now.measures l.breaking.breaks) }
+    ensures total { IfOk result (λ l. l.breaking.total ≡ sum_from (listed l.spans) 0 l.breaking.breaks) }
+    ensures one_each { IfOk result (λ l. length l.breaking.potentials ≡ s.now.measures + 1) }
+    ensures potentials { IfOk result (λ l. (i : ℕ) → i ≤ s.now.measures
+        → IsPotential (listed l.spans) (is_forced_in s.now) i (slice_index_or l.breaking.potentials i Option.None)) }
+    ensures systems { IfOk result (λ l. EachSpan (IsSystem s.now) 0 l.breaking.breaks l.systems) }
+    ensures placed { IfOk result (λ l. Beside (IsPlaced s.now width) l.systems l.placed) }
+    ensures heights { IfOk result (λ l. Beside IsStack l.systems l.heights) }
+    ensures texts { IfOk result (λ l. All (λ m. All (λ staff. AreGoodMarks staff.marks) m.staves) l.systems) }
+    ensures no_way { IfErr result (IsCauseIn s.now width) }
+{
+    let gaps = gaps_of(alloc, verses)?;
+    let forced = s.forced.as_slice();
+    let spans = spans_of(alloc, starts, others, gaps.as_slice(), width, forced)?;
+    let breaking = match break_of(alloc, spans.as_slice(), forced, s.measures) {
+        Ok(breaking) => breaking,
+        Err(error) => return Err(layout_error(error)),
+    };
+    let breaks = breaking.breaks.as_slice();
+    let Systems {
+        marks,
+        placed,
+        heights,
+    } = set_systems(alloc, s, voices, t, verses, gaps.as_slice(), width, breaks)?;
+    Ok(Layout {
+        breaking,
+        systems: marks,
+        placed,
+        spans,
+        heights,
+    })
+}
+
+/// A score laid out in systems of a width, in u: the spans that fit, each with the badness of its
+/// greatest force; the legal breaking of least total badness, and among equals the one that, read
+/// from its end, is lexicographically greatest; and each system of it, set to the width unless it is
+/// a ragged last one.
+///
+/// A score without voices has no measure. A score of no measures has the empty breaking. `NoWay`
+/// comes exactly where no breaking is legal. Measures of more than 200,000 columns, counted both as
+/// they begin a system and as they don't, want more memory than there is.
+pub fn lay_out(alloc: Global, s: &Score, width: u32) -> Result<Layout, LayoutError>
+    requires good { IsGoodScore s.now }
+    requires heard { 0 < s.now.measures → 1 ≤ length s.now.voices }
+    ensures form { IfOk result (λ l. AreSpans s.now.measures l.spans) }
+    ensures spans { IfOk result (λ l. AreSpansOf s.now width l.spans) }
+    ensures chosen { IfOk result (λ l. IsChosen (listed l.spans) (is_forced_in s.now) s.now.measures l.breaking.breaks) }
+    ensures total { IfOk result (λ l. l.breaking.total ≡ sum_from (listed l.spans) 0 l.breaking.breaks) }
+    ensures one_each { IfOk result (λ l. length l.breaking.potentials ≡ s.now.measures + 1) }
+    ensures potentials { IfOk result (λ l. (i : ℕ) → i ≤ s.now.measures
+        → IsPotential (listed l.spans) (is_forced_in s.now) i (slice_index_or l.breaking.potentials i Option.None)) }
+    ensures systems { IfOk result (λ l. EachSpan (IsSystem s.now) 0 l.breaking.breaks l.systems) }
+    ensures placed { IfOk result (λ l. Beside (IsPlaced s.now width) l.systems l.placed) }
+    ensures heights { IfOk result (λ l. Beside IsStack l.systems l.heights) }
+    ensures texts { IfOk result (λ l. All (λ m. All (λ staff. AreGoodMarks staff.marks) m.staves) l.systems) }
+    ensures no_way { IfErr result (IsCauseIn s.now width) }
+{
+    let t = onsets(alloc, s)?;
+    let drawn = draw_voices(alloc, s)?;
+    let voices = drawn.as_slice();
+    let counts = verses_of(alloc, s.voices.as_slice())?;
+    let verses = counts.as_slice();
+    let begun = starts_of(alloc, s, voices, &t, verses)?;
+    let starts = begun.as_slice();
+    let further = others_of(alloc, s, voices, &t, verses)?;
+    let others = further.as_slice();
+    // A good score has at most 50,000 notes and rests, graces counted, and 2000 bars, so that only
+    // one with a change before nearly each of as many notes comes past this.
+    if columns_within(starts) + columns_within(others) > 200_000 {
+        return Err(LayoutError::Memory);
+    }
+    measures_join();
+    lay_out_measures(alloc, s, voices, &t, verses, starts, others, width)
+}

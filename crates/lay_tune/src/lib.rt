@@ -1,0 +1,17 @@
+//! A score laid out in systems: the spans of measures that fit the width, the breaking of least
+//! badness, and for each system its marks, where its columns stand and how its staves are stacked.
+#![tactic(auto)]
+
+pub mod layout;
+mod measures;
+mod systems;
+mod verses;
+
+pub use lay_breaks::{Breaking, Span};
+pub use lay_pages::Heights;
+pub use lay_springs::Placed;
+pub use layout::{Layout, LayoutError, lay_out};
+pub use mus_laid::SystemMarks;
+
+#[cfg(test)]
+mod tests;

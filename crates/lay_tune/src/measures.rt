@@ -1,0 +1,75 @@
+ghost use Rattle.std.specs.Prelude.{◌≡◌, ◌≤◌, ◌<◌, All, IfOk, length, map, min};
+ghost use Rattle.mus_score.specs.GoodScore.{IsGoodScore};
+ghost use Rattle.mus_time.specs.Onsets.{timeline_of};
+ghost use Rattle.mus_drawn.specs.Drawn.{drawn_voice};
+ghost use Rattle.mus_drawn.specs.Good.{AreGoodMeasures};
+ghost use Rattle.lay_spans.specs.Columns.{column_count};
+ghost use Rattle.lay_tune.specs.Measures.{EachMeasure, IsOther, IsStart};
+ghost use Rattle.lay_tune.specs.Spans.{verses_of};
+
+use lay_columns::Column;
+use lay_measures::{first_columns, further_columns};
+use mus_drawn::DrawnVoice;
+use mus_score::Score;
+use mus_time::Timeline;
+use mus_units::{Memory, Row};
+use std::alloc::Global;
+
+/// The columns of each measure in a system that begins with it.
+pub(crate) fn starts_of(
+    alloc: Global,
+    s: &Score,
+    voices: &[DrawnVoice],
+    t: &Timeline,
+    verses: &[u8],
+) -> Result<Row<Row<Column>>, Memory>
+    requires good { IsGoodScore s.now }
+    requires times { t.now ≡ timeline_of s.now }
+    requires voices { voices.now ≡ map drawn_voice s.now.voices }
+    requires drawn { All (λ v. AreGoodMeasures v.measures) voices.now }
+    requires verses { verses.now ≡ verses_of s.now.voices }
+    requires heard { 0 < s.now.measures → 1 ≤ length s.now.voices }
+    ensures { IfOk result (EachMeasure (IsStart s.now) s.now.measures) }
+{
+    let mut rows = Row::new(alloc);
+    for m in 0..s.measures {
+        let columns = first_columns(alloc, s, voices, t, m, verses)?;
+        rows.push(columns)?;
+    }
+    Ok(rows)
+}
+
+/// The columns of each measure in a system that began before it.
+pub(crate) fn others_of(
+    alloc: Global,
+    s: &Score,
+    voices: &[DrawnVoice],
+    t: &Timeline,
+    verses: &[u8],
+) -> Result<Row<Row<Column>>, Memory>
+    requires good { IsGoodScore s.now }
+    requires times { t.now ≡ timeline_of s.now }
+    requires voices { voices.now ≡ map drawn_voice s.now.voices }
+    requires drawn { All (λ v. AreGoodMeasures v.measures) voices.now }
+    requires verses { verses.now ≡ verses_of s.now.voices }
+    requires heard { 0 < s.now.measures → 1 ≤ length s.now.voices }
+    ensures { IfOk result (EachMeasure (IsOther s.now) s.now.measures) }
+{
+    let mut rows = Row::new(alloc);
+    for m in 0..s.measures {
+        let columns = further_columns(alloc, s, voices, t, m, verses)?;
+        rows.push(columns)?;
+    }
+    Ok(rows)
+}
+
+/// How many columns the measures have, or 200,001 where there are more than 200,000.
+pub(crate) fn columns_within(measures: &[Row<Column>]) -> usize
+    ensures { result ≡ min 200001 (column_count measures.now) }
+{
+    let mut count = 0_usize;
+    for measure in measures {
+        count = (count + measure.len().min(200_001)).min(200_001);
+    }
+    count
+}

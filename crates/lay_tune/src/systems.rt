@@ -1,0 +1,136 @@
+ghost use Rattle.std.specs.Prelude.{◌≡◌, ◌<◌, ◌≤◌, ◌^◌, ◌==◌, ℕ, All, IfOk, length, map, slice_index};
+ghost use Rattle.mus_score.specs.GoodScore.{IsGoodScore};
+ghost use Rattle.mus_time.specs.Onsets.{timeline_of};
+ghost use Rattle.mus_drawn.specs.Drawn.{drawn_voice};
+ghost use Rattle.mus_drawn.specs.Good.{AreGoodMeasures};
+ghost use Rattle.mus_laid.specs.Boxes.{AreGoodMarks};
+ghost use Rattle.lay_tune.specs.Spans.{IsSystem, score_gaps, verses_of};
+ghost use Rattle.lay_tune.specs.Systems.{AllSpans, Beside, CanBeSet, EachSpan, HaveForce, IsJustified, IsPlaced, IsStack};
+
+use lay_columns::{Column, columns};
+use lay_pages::{Heights, stack};
+use lay_springs::{Placed, fit, justify};
+use mus_drawn::DrawnVoice;
+use mus_laid::SystemMarks;
+use mus_marks::marks_of;
+use mus_score::Score;
+use mus_time::Timeline;
+use mus_units::{Memory, Row};
+use std::alloc::Global;
+
+/// The columns pressed with their greatest force, and set to the width.
+fn press(
+    alloc: Global,
+    columns: &[Column],
+    gaps: &[u32],
+    width: u32,
+    last: bool,
+) -> Result<Placed, Memory>
+    requires lanes { length gaps.now < 2 ^ 32 }
+    requires narrow { (lane : ℕ) → lane < length gaps.now → slice_index gaps.now lane ≤ 2 ^ 20 }
+    requires fits { HaveForce gaps.now width columns.now }
+    ensures { IfOk result (IsJustified gaps.now width last columns.now) }
+{
+    let mut scratch = vec![in alloc; 0; columns.len() + gaps.len()]?;
+    let Some(force) = fit(columns, gaps, width, &mut scratch) else {
+        unreachable!();
+    };
+    justify(alloc, columns, gaps, width, force, last)
+}
+
+/// A system: its marks, where its columns stand, and how its staves are stacked.
+#[derive(Debug, Drop)]
+struct SetSystem {
+    marks: SystemMarks,
+    placed: Placed,
+    heights: Heights,
+}
+
+/// The system of measures `a` to `b` - 1.
+fn set_system(
+    alloc: Global,
+    s: &Score,
+    voices: &[DrawnVoice],
+    t: &Timeline,
+    verses: &[u8],
+    gaps: &[u32],
+    width: u32,
+    a: u32,
+    b: u32,
+) -> Result<SetSystem, Memory>
+    requires good { IsGoodScore s.now }
+    requires times { t.now ≡ timeline_of s.now }
+    requires voices { voices.now ≡ map drawn_voice s.now.voices }
+    requires drawn { All (λ v. AreGoodMeasures v.measures) voices.now }
+    requires verses { verses.now ≡ verses_of s.now.voices }
+    requires gaps { gaps.now ≡ score_gaps s.now }
+    requires lanes { length gaps.now < 2 ^ 32 }
+    requires narrow { (lane : ℕ) → lane < length gaps.now → slice_index gaps.now lane ≤ 2 ^ 20 }
+    requires fits { CanBeSet s.now width a b }
+    ensures system { IfOk result (λ set. IsSystem s.now a b set.marks) }
+    ensures placed { IfOk result (λ set. IsPlaced s.now width set.marks set.placed) }
+    ensures heights { IfOk result (λ set. IsStack set.marks set.heights) }
+    ensures good { IfOk result (λ set. All (λ staff. AreGoodMarks staff.marks) set.marks.staves) }
+{
+    let marks = marks_of(alloc, s, voices, t, a, b)?;
+    let columns = columns(alloc, &marks, t, verses)?;
+    let placed = press(alloc, columns.as_slice(), gaps, width, b == s.measures)?;
+    let heights = stack(alloc, &marks)?;
+    Ok(SetSystem {
+        marks,
+        placed,
+        heights,
+    })
+}
+
+/// The systems of a breaking, in order: their marks, where their columns stand, and how their
+/// staves are stacked.
+#[derive(Debug, Drop)]
+pub(crate) struct Systems {
+    pub(crate) marks: Row<SystemMarks>,
+    pub(crate) placed: Row<Placed>,
+    pub(crate) heights: Row<Heights>,
+}
+
+/// The systems of the breaking that ends its spans at `breaks`.
+pub(crate) fn set_systems(
+    alloc: Global,
+    s: &Score,
+    voices: &[DrawnVoice],
+    t: &Timeline,
+    verses: &[u8],
+    gaps: &[u32],
+    width: u32,
+    breaks: &[u32],
+) -> Result<Systems, Memory>
+    requires good { IsGoodScore s.now }
+    requires times { t.now ≡ timeline_of s.now }
+    requires voices { voices.now ≡ map drawn_voice s.now.voices }
+    requires drawn { All (λ v. AreGoodMeasures v.measures) voices.now }
+    requires verses { verses.now ≡ verses_of s.now.voices }
+    requires gaps { gaps.now ≡ score_gaps s.now }
+    requires lanes { length gaps.now < 2 ^ 32 }
+    requires narrow { (lane : ℕ) → lane < length gaps.now → slice_index gaps.now lane ≤ 2 ^ 20 }
+    requires fits { AllSpans (CanBeSet s.now width) 0 breaks.now }
+    ensures systems { IfOk result (λ r. EachSpan (IsSystem s.now) 0 breaks.now r.marks) }
+    ensures placed { IfOk result (λ r. Beside (IsPlaced s.now width) r.marks r.placed) }
+    ensures heights { IfOk result (λ r. Beside IsStack r.marks r.heights) }
+    ensures good { IfOk result (λ r. All (λ m. All (λ staff. AreGoodMarks staff.marks) m.staves) r.marks) }
+{
+    let mut marks = Row::new(alloc);
+    let mut placed = Row::new(alloc);
+    let mut heights = Row::new(alloc);
+    let mut a = 0;
+    for b in breaks {
+        let set = set_system(alloc, s, voices, t, verses, gaps, width, a, *b)?;
+        marks.push(set.marks)?;
+        placed.push(set.placed)?;
+        heights.push(set.heights)?;
+        a = *b;
+    }
+    Ok(Systems {
+        marks,
+        placed,
+        heights,
+    })
+}
