@@ -10,11 +10,11 @@ trap 'rm -rf "$folder"' EXIT
 mkdir -p "$folder/crates/bench_reading/src"
 cd "$folder"
 git init -q .
-for crate in mus_units abc_lines abc_pieces abc_tokens eng_io; do
+for crate in mus_units abc_lines abc_notes abc_pieces abc_tokens eng_io; do
     cp -r "$root/crates/$crate" crates/
     grep "^$crate:" "$root/crates.txt" >> crates.txt
 done
-echo "bench_reading: mus_units abc_lines abc_pieces abc_tokens eng_io" >> crates.txt
+echo "bench_reading: mus_units abc_lines abc_notes abc_pieces abc_tokens eng_io" >> crates.txt
 cat > crates/bench_reading/src/main.rt <<'E'
 //! Reads a book, or a music line, from standard input, and prints what it found.
 #![tactic(auto)]

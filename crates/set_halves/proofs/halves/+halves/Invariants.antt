@@ -1,0 +1,12 @@
+use Rattle.std.proofs.Common.{◌+◌, ◌*◌}
+use Rattle.set_halves.proofs.halves.+halves.Given as goal
+
+-- each half has fewer jobs than the whole
+abbrev pub decreases-work_all : goal.decreases-work_all
+decreases-work_all g l = 2 * l.jobs
+
+abbrev pub decreases-low_half : goal.decreases-low_half
+decreases-low_half g l = 2 * l.low_jobs + 1
+
+abbrev pub decreases-high_half : goal.decreases-high_half
+decreases-high_half g l = 2 * l.high_jobs + 1

@@ -1,0 +1,88 @@
+ghost use Rattle.std.specs.Prelude.{◌≡◌, ◌++◌, ◌≤◌, IfOk, All};
+ghost use Rattle.std.specs.List.{AllZip};
+ghost use Rattle.std.specs.Thread.{IsSync, IsSend};
+
+use mus_units::{Memory, Row};
+use std::alloc::Global;
+use std::thread::{Threads, join};
+
+/// Work that is done on each item by itself, with an outcome for it.
+///
+/// What the work reads besides the item it holds itself, so that several
+/// threads may share it.
+pub trait Work<T, O> {
+    // The items that may be worked on.
+    ghost takes: { Self → T → Type 0 };
+
+    // The outcomes that an item may have.
+    ghost gives: { Self → T → O → Type 0 };
+
+    /// The outcome of the item. `Memory` alone comes in its place.
+    fn work(&self, item: &T) -> Result<O, Memory>
+        requires { takes self.now item.now }
+        ensures { IfOk result (λ outcome. gives self.now item.now outcome) };
+}
+
+/// The outcomes of the work on the items, one for each item and in their order.
+///
+/// `jobs` is 1 to 64. The items are halved, and the jobs with them, until a
+/// half has one job or one item; halves are worked on side by side where
+/// threads can be made. `Memory` comes where memory ran out in any half.
+#[cycle(halves)]
+#[tactic(auto, using(crate::proofs::ZipLaws::all_zip_halves))]
+pub fn work_all<R: Threads + Sync, T: Sync, O: Send + Drop, W: Work<T, O> + Sync>(
+    rt: &R,
+    alloc: Global,
+    items: &[T],
+    jobs: u8,
+    work: &W,
+) -> Result<Row<O>, Memory>
+    requires some { 1 ≤ jobs }
+    requires few { jobs ≤ 64 }
+    requires takes { All (W.takes work.now) items.now }
+    ensures { IfOk result (λ outcomes. AllZip (W.gives work.now) items.now outcomes) }
+{
+    if jobs == 1 || items.len() <= 1 {
+        return work_in_turn(alloc, items, work);
+    }
+    let (low, high) = items.split_at(items.len() / 2);
+    let low_jobs = jobs / 2;
+    let high_jobs = jobs - low_jobs;
+    let low_half = || -> Result<Row<O>, Memory>
+        requires { IsSync R.row × IsSync T.row × IsSync W.row × IsSend O.row × (1 ≤ low_jobs) × (low_jobs ≤ 64) × All (W.takes work.now) low.now }
+        ensures { IfOk result (λ outcomes. AllZip (W.gives work.entry.now) low.entry.now outcomes) }
+    { work_all(rt, alloc, low, low_jobs, work) };
+    let high_half = || -> Result<Row<O>, Memory>
+        requires { IsSync R.row × IsSync T.row × IsSync W.row × IsSend O.row × (1 ≤ high_jobs) × (high_jobs ≤ 64) × All (W.takes work.now) high.now }
+        ensures { IfOk result (λ outcomes. AllZip (W.gives work.entry.now) high.entry.now outcomes) }
+    { work_all(rt, alloc, high, high_jobs, work) };
+    let (low_outcomes, high_outcomes) = join(rt, low_half, high_half);
+    appended(low_outcomes?, high_outcomes?)
+}
+
+/// The values of both rows, those of the first before those of the second.
+fn appended<O: Drop>(first: Row<O>, second: Row<O>) -> Result<Row<O>, Memory>
+    ensures { IfOk result (λ both. both ≡ first ++ second) }
+{
+    let mut both = first;
+    let mut rest = second;
+    both.items.append(&mut rest.items)?;
+    Ok(both)
+}
+
+/// The outcomes of the work on each item, one after another.
+#[tactic(auto, using(crate::proofs::ZipLaws::all_zip_next))]
+fn work_in_turn<T, O: Drop, W: Work<T, O>>(
+    alloc: Global,
+    items: &[T],
+    work: &W,
+) -> Result<Row<O>, Memory>
+    requires { All (W.takes work.now) items.now }
+    ensures { IfOk result (λ outcomes. AllZip (W.gives work.now) items.now outcomes) }
+{
+    let mut outcomes = Row::new(alloc);
+    for item in items {
+        outcomes.push(work.work(item)?)?;
+    }
+    Ok(outcomes)
+}
