@@ -1,110 +1,511 @@
 -- Reading a chord gives the longest, and where there is none its fault is found.
-use Rattle.std.proofs.Common.{◌≡◌, ℕ, ◌+◌, ◌<◌, Bool, true, false, eqb, List, [], ◌∷◌, ◌++◌, length, Option, Some, None, refl, sym, ap, ◌∙◌, arith, inl, inr, ◌⊎◌, append-nil, add-one}
-use Rattle.std.specs.Prelude.{◌&&◌, IfSome}
+use Rattle.std.proofs.Common.{◌≡◌, ℕ, ◌+◌, ◌-◌, ◌≤◌, ◌<◌, Bool, true, false, cond, eqb, zero, suc, List, [], ◌∷◌, ◌++◌, length, take, drop, Option, Some, None, refl, sym, ap, ◌∙◌, subst, arith, inl, inr, ◌⊎◌, append_assoc, append-nil, add-one}
+use Rattle.std.specs.Prelude.{◌&&◌, ◌||◌, not, IfSome, option_map}
 use Rattle.std.specs.List.{list_all}
-use Rattle.std.proofs.lemmas.Bool.{cond_both, and_parts, eqb-true, not-false}
-use Rattle.std.proofs.lemmas.List.{length-append}
+use Rattle.std.proofs.lemmas.Bool.{cond_both, and_parts, and_from, eqb-true, ne_eqb, not-false}
+use Rattle.std.proofs.lemmas.List.{length-append, append_cancel_left, append_cancel_right}
+use Rattle.std.proofs.Math.Seq.{take-append_seam, drop-append_seam}
 use Rattle.abc_lines.specs.declared.fault.FaultKind.TheVariants.{BadByte, Unclosed}
 use Rattle.abc_notes.specs.declared.part.Flaw.{Flaw}
 use Rattle.abc_notes.specs.Runs.{span_all, begins}
-use Rattle.abc_notes.specs.Lengths.{LengthForm, length_then, length_at}
-use Rattle.abc_notes.specs.Parts.{walk, is_done}
-use Rattle.abc_notes.specs.Items.{InnerFlawed, inner_at}
-use Rattle.abc_notes.specs.Chords.{ChordForm, is_inside, has_head, chord_then, IsChord, ChordFault, chord_unclosed, chord_flawed, chord_headless, chord_of, chord_closed, chord_at}
+use Rattle.abc_notes.specs.Decorations.{is_name_byte}
+use Rattle.abc_notes.specs.Lengths.{LengthForm, length_then, IsLength, length_at}
+use Rattle.abc_notes.specs.Parts.{Parts, no_part, then_part, walk, is_done, spelled_then, later_or}
+use Rattle.abc_notes.specs.Items.{Inner, note_inside, letter_inside, named_inside, tie_inside, slur_inside, passed_inside, lone_inside, inner_then, IsName, StandsInside, has_length, InnerParts, InnerFlawed, name_at, item_class, inner_at}
+use Rattle.abc_notes.specs.Chords.{ChordForm, InnerLeads, is_inside, is_bracket, has_head, chord_then, IsChord, ChordFault, chord_unclosed, chord_open, chord_headless, chord_flawed, bracket_here, bracket_in, bracket_in_name, last_bracket, bracket_at, chord_from, chord_at}
 use Rattle.abc_notes.proofs.SpanLaws.{span_all-takes, span_all-pass, span_all-after, span_all-append, span_all-stops}
 use Rattle.abc_notes.proofs.LengthLaws.{length_at-takes, length_at-reaches}
-use Rattle.abc_notes.proofs.PartLaws.{parts_of_walk, walk_of_parts}
-use Rattle.abc_notes.proofs.InnerLaws.{inner_reader, length-length_then}
+use Rattle.abc_notes.proofs.ItemLaws.{name_at-takes, name_at-reads}
+use Rattle.abc_notes.proofs.PartLaws.{stands_at, less, longest_of, longest_is, walk-none, walk-some, parts_of_walk, walk_of_parts}
+use Rattle.abc_notes.proofs.InnerLaws.{inner_reader, inner-longer, length-length_then}
+use Rattle.abc_notes.proofs.CutLaws.{inner_append, inner_local, AtCut, read_cut, walk_spells, leads_of_walk, free, CrossesIn, Crosses, crossing, lone_at, clear_parts, all_parts, cut_at, Cut, first_same, rest_same, length_append, length_free, all_span}
+
+inside_wide : (b : ℕ) → free b ≡ true → is_inside b ≡ true
+inside_wide b h = (and_parts (not (eqb b 93)) (not (eqb b 125)) h).0
 
 -- what stands behind bytes that are no bracket is a bracket
 bracket_is : (b : ℕ) (rest : List ℕ) → begins is_inside (b ∷ rest) ≡ false → b ≡ 93
 bracket_is b rest stops = eqb-true b 93 (not-false (eqb b 93) stops)
 
+-- ---- a bracket that is found closes good parts with a head
+
+pub record Closed (bang head : Bool) (text c : List ℕ) : Type 0 where
+  pub front : List ℕ
+  pub rest : List ℕ
+  pub parts : List Inner
+  pub is : c ≡ 93 ∷ rest
+  pub cut : text ≡ front ++ c
+  pub good : InnerParts bang front parts
+  pub has : (head || has_head parts) ≡ true
+
+or-end : (a : Bool) → (a || false) ≡ a
+or-end true = refl
+or-end false = refl
+
+or_assoc : (a b c : Bool) → ((a || b) || c) ≡ (a || (b || c))
+or_assoc true b c = refl
+or_assoc false b c = refl
+
+some_list : (s t : List ℕ) → Some s ≡ Some t → s ≡ t
+some_list s t e = cc
+
+here-closes : (bang head : Bool) (text c : List ℕ) → bracket_here head text ≡ Some c → Closed bang head text c
+here-closes bang head [] c e = absurd cc
+here-closes bang head (b ∷ s) c e =
+    cond_both {A = Option (List ℕ)} (eqb b 93 && head) (Some (b ∷ s)) None (λ r. r ≡ Some c → Closed bang head (b ∷ s) c)
+    (λ h e. let p = and_parts (eqb b 93) head h in
+    let same : b ∷ s ≡ c = some_list (b ∷ s) c e in
+    record { front = []; rest = s; parts = []; is = sym same ∙ ap (λ x. x ∷ s) (eqb-true b 93 p.0); cut = same; good = no_part; has = or-end head ∙ p.1 })
+    (λ h e. absurd cc) e
+
+name_end : (w : List ℕ) → (length w ≡ 0 → ⊥) → begins is_inside w ≡ false → (after : List ℕ) × (w ≡ 93 ∷ after)
+name_end [] some stops = absurd (some refl)
+name_end (b ∷ w) some stops = (w, ap (λ x. x ∷ w) (bracket_is b w stops))
+
+pub not_zero : (n : ℕ) → not (eqb n 0) ≡ true → n ≡ 0 → ⊥
+not_zero n h e = let clash : not (eqb 0 0) ≡ true = subst (λ x. not (eqb x 0) ≡ true) e h in cc
+
+in-closes : (bang head : Bool) (s c : List ℕ) (r : Option (List ℕ × List ℕ)) → bang ≡ false → IfSome r (λ z. IsName z.0 × (s ≡ z.0 ++ (33 ∷ z.1))) → bracket_in bang head s r ≡ Some c → Closed bang head (33 ∷ s) c
+in-closes bang head s c None off t e = absurd cc
+in-closes bang head s c (Some named) off t e =
+    let inside = span_all is_inside named.0 in
+    let w = walk (inner_at bang) inside.0 in
+    cond_both {A = Option (List ℕ)} (not (eqb (length inside.1) 0) && (is_done w && (head || has_head w.0))) (Some (drop (length inside.0) s)) None (λ r. r ≡ Some c → Closed bang head (33 ∷ s) c)
+    (λ h e.
+    let p = and_parts (not (eqb (length inside.1) 0)) (is_done w && (head || has_head w.0)) h in
+    let q = and_parts (is_done w) (head || has_head w.0) p.1 in
+    let end = name_end inside.1 (not_zero (length inside.1) p.0) (span_all-after is_inside named.0) in
+    let whole : named.0 ≡ inside.0 ++ (93 ∷ end.0) = span_all-takes is_inside named.0 ∙ ap (λ x. inside.0 ++ x) end.1 in
+    let cut : s ≡ inside.0 ++ (93 ∷ (end.0 ++ (33 ∷ named.1))) = t.1 ∙ ap (λ x. x ++ (33 ∷ named.1)) whole ∙ append_assoc inside.0 (93 ∷ end.0) (33 ∷ named.1) in
+    let is : c ≡ 93 ∷ (end.0 ++ (33 ∷ named.1)) = sym (some_list (drop (length inside.0) s) c e) ∙ ap (drop (length inside.0)) cut ∙ drop-append_seam inside.0 (93 ∷ (end.0 ++ (33 ∷ named.1))) in
+    let names = all_parts is_name_byte inside.0 (93 ∷ end.0) (ap (list_all is_name_byte) (sym whole) ∙ t.0.bytes) in
+    record {
+      front = 33 ∷ inside.0;
+      rest = end.0 ++ (33 ∷ named.1);
+      parts = lone_inside ∷ w.0;
+      is = is;
+      cut = ap (λ x. 33 ∷ x) (cut ∙ ap (λ x. inside.0 ++ x) (sym is));
+      good = then_part (33 ∷ inside.0) lone_inside inside.0 w.0 (longest_of (inner_reader bang) (33 ∷ inside.0) (lone_inside, inside.0) (lone_at bang inside.0 off names.0)) (parts_of_walk (inner_reader bang) inside.0 (eqb-true (length w.1) 0 q.0));
+      has = q.1;
+    })
+    (λ h e. absurd cc) e
+
+pub is_off : (x : Bool) → not x ≡ true → x ≡ false
+is_off true h = absurd cc
+is_off false h = refl
+
+in_name-closes : (bang head : Bool) (text c : List ℕ) → bracket_in_name bang head text ≡ Some c → Closed bang head text c
+unfolding bracket_in_name
+in_name-closes bang head [] c e = absurd cc
+in_name-closes bang head (b ∷ s) c e =
+    cond_both {A = Option (List ℕ)} (eqb b 33 && not bang) (bracket_in bang head s (name_at s)) None (λ r. r ≡ Some c → Closed bang head (b ∷ s) c)
+    (λ h e. let p = and_parts (eqb b 33) (not bang) h in
+    rw (eqb-true b 33 p.0) (in-closes bang head s c (name_at s) (is_off bang p.1) (name_at-takes s) e))
+    (λ h e. absurd cc) e
+
+-- a part and what closes behind it
+then-closes : (bang head : Bool) (text c : List ℕ) (z : Inner × List ℕ) → inner_at bang text ≡ Some z → Closed bang (head || has_length z.0) z.1 c → Closed bang head text c
+then-closes bang head text c z e k =
+    let r = inner_reader bang in
+    let u = inner_then z.0 k.front in
+    let cut : text ≡ u ++ c = (stands_at r text z e).cut ∙ ap (inner_then z.0) k.cut ∙ sym (inner_append z.0 k.front c) in
+    let a = read_cut r (inner_local bang) u c z (ap (inner_at bang) (sym cut) ∙ e) (omega (arith, ap length k.cut, length-append k.front c)) in
+    let front : a.front ≡ k.front = append_cancel_right a.front k.front c (sym a.behind ∙ k.cut) in
+    let at : inner_at bang u ≡ Some (z.0, k.front) = a.at_cut ∙ ap (λ (x : List ℕ). Some (z.0, x)) front in
+    record {
+      front = u;
+      rest = k.rest;
+      parts = z.0 ∷ k.parts;
+      is = k.is;
+      cut = cut;
+      good = then_part u z.0 k.front k.parts (longest_of r u (z.0, k.front) at) k.good;
+      has = sym (or_assoc head (has_length z.0) (has_head k.parts)) ∙ k.has;
+    }
+
+abbrev last_at : Bool → Bool → List ℕ → Option (List ℕ)
+last_at bang head text = last_bracket bang head (walk (inner_at bang) text).0 (walk (inner_at bang) text).1
+
+pub last_at-none : (bang head : Bool) (text : List ℕ) → inner_at bang text ≡ None → last_at bang head text ≡ bracket_here head text
+last_at-none bang head text e = rw (walk-none (inner_reader bang) text e) refl
+
+pub last_at-some : (bang head : Bool) (text : List ℕ) (z : Inner × List ℕ) → inner_at bang text ≡ Some z → last_at bang head text ≡ later_or (last_at bang (head || has_length z.0) z.1) (bracket_in_name bang head text)
+last_at-some bang head text z e =
+    let spelled : inner_then z.0 (spelled_then inner_then (walk (inner_at bang) z.1).0 (walk (inner_at bang) z.1).1) ≡ text =
+    ap (inner_then z.0) (walk_spells (inner_reader bang) (inner_local bang) z.1) ∙ sym (stands_at (inner_reader bang) text z e).cut in
+    rw (walk-some (inner_reader bang) text z e, spelled) refl
+
+either_closes : (bang head : Bool) (text c : List ℕ) (z : Inner × List ℕ) → inner_at bang text ≡ Some z → ((d : List ℕ) → last_at bang (head || has_length z.0) z.1 ≡ Some d → Closed bang (head || has_length z.0) z.1 d) →
+    (r : Option (List ℕ)) → last_at bang (head || has_length z.0) z.1 ≡ r → later_or r (bracket_in_name bang head text) ≡ Some c → Closed bang head text c
+either_closes bang head text c z e next None is found = in_name-closes bang head text c found
+either_closes bang head text c z e next (Some d) is found = then-closes bang head text c z e (next c (is ∙ found))
+
+closes_step : (bang head : Bool) (text c : List ℕ) (o : Option (Inner × List ℕ)) → inner_at bang text ≡ o → ((t : List ℕ) → length t < length text → (h : Bool) (d : List ℕ) → last_at bang h t ≡ Some d → Closed bang h t d) →
+    last_at bang head text ≡ Some c → Closed bang head text c
+closes_step bang head text c None e next found = here-closes bang head text c (sym (last_at-none bang head text e) ∙ found)
+closes_step bang head text c (Some z) e next found =
+    let more = head || has_length z.0 in
+    either_closes bang head text c z e (next z.1 (less (inner_reader bang) text z e) more) (last_at bang more z.1) refl (sym (last_at-some bang head text z e) ∙ found)
+
+closes_within : (n : ℕ) (bang head : Bool) (text c : List ℕ) → length text ≤ n → last_at bang head text ≡ Some c → Closed bang head text c
+closes_within zero bang head text c h found = closes_step bang head text c (inner_at bang text) refl (λ t lt. absurd (omega (arith, lt, h))) found
+closes_within (suc n) bang head text c h found = closes_step bang head text c (inner_at bang text) refl (λ t lt k d f. closes_within n bang k t d (omega (arith, lt, h)) f) found
+
+pub last_at-closes : (bang head : Bool) (text c : List ℕ) → last_at bang head text ≡ Some c → Closed bang head text c
+last_at-closes bang head text c found = closes_within (length text) bang head text c (omega arith) found
+
+pub bracket_at-closes : (bang : Bool) (text c : List ℕ) → bracket_at bang text ≡ Some c → Closed bang false text c
+unfolding bracket_at
+bracket_at-closes bang text c found = last_at-closes bang false text c found
+
+pub bracket_within : (bang : Bool) (text c : List ℕ) → bracket_at bang text ≡ Some c → length c ≤ length text
+bracket_within bang text c found = let k = bracket_at-closes bang text c found in omega (arith, ap length k.cut, length-append k.front c)
+
+-- ---- the last bracket is at or behind each at which a chord ends
+
+pub record FoundLast (bang head : Bool) (text t : List ℕ) : Type 0 where
+  pub closing : List ℕ
+  pub is : last_at bang head text ≡ Some closing
+  pub ends : (length closing < length (93 ∷ t)) ⊎ (closing ≡ 93 ∷ t)
+
+at_bracket : (bang : Bool) (t : List ℕ) → inner_at bang (93 ∷ t) ≡ None
+unfolding inner_at item_class
+at_bracket bang t = refl
+
+here-found : (bang head : Bool) (t : List ℕ) → head ≡ true → FoundLast bang head (93 ∷ t) t
+here-found bang head t h = record { closing = 93 ∷ t; is = last_at-none bang head (93 ∷ t) (at_bracket bang t) ∙ rw h refl; ends = inr refl }
+
+then-found : (bang head : Bool) (text t : List ℕ) (z : Inner × List ℕ) → inner_at bang text ≡ Some z → FoundLast bang (head || has_length z.0) z.1 t → FoundLast bang head text t
+then-found bang head text t z e k = record { closing = k.closing; is = last_at-some bang head text z e ∙ ap (λ r. later_or r (bracket_in_name bang head text)) k.is; ends = k.ends }
+
+-- a bracket in a name
+in_name-found : (bang head : Bool) (before after rest : List ℕ) (parts : List Inner) → bang ≡ false → IsName (before ++ (93 ∷ after)) → InnerParts bang before parts → (head || has_head parts) ≡ true →
+    bracket_in_name bang head (33 ∷ ((before ++ (93 ∷ after)) ++ (33 ∷ rest))) ≡ Some (93 ∷ (after ++ (33 ∷ rest)))
+unfolding bracket_in_name
+in_name-found bang head before after rest parts off good inner has =
+    let name = before ++ (93 ∷ after) in
+    let names = all_parts is_name_byte before (93 ∷ after) good.bytes in
+    let clear = clear_parts bang is_inside before parts inside_wide inner names.0 in
+    let cut : span_all is_inside name ≡ (before ++ [], 93 ∷ after) = span_all-append is_inside before (93 ∷ after) clear ∙ rw (span_all-stops is_inside (93 ∷ after) refl) refl in
+    let drops : drop (length before) (name ++ (33 ∷ rest)) ≡ 93 ∷ (after ++ (33 ∷ rest)) = ap (drop (length before)) (append_assoc before (93 ∷ after) (33 ∷ rest)) ∙ drop-append_seam before (93 ∷ (after ++ (33 ∷ rest))) in
+    rw (off, name_at-reads name rest good, cut, append-nil, ← off, walk_of_parts (inner_reader bang) before parts inner, has, drops)
+    (ap (λ (b : Bool). cond {A = Option (List ℕ)} (not b && true) (Some (93 ∷ (after ++ (33 ∷ rest)))) None) (ne_eqb (suc (length after)) 0 (omega arith)))
+
+cross_last : (bang head : Bool) (text t : List ℕ) (z : Inner × List ℕ) → inner_at bang text ≡ Some z → length z.1 < length (93 ∷ t) → bracket_in_name bang head text ≡ Some (93 ∷ t) →
+    (r : Option (List ℕ)) → last_at bang (head || has_length z.0) z.1 ≡ r → FoundLast bang head text t
+cross_last bang head text t z e short found None is = record { closing = 93 ∷ t; is = last_at-some bang head text z e ∙ ap (λ r. later_or r (bracket_in_name bang head text)) is ∙ found; ends = inr refl }
+cross_last bang head text t z e short found (Some c) is =
+    let k = last_at-closes bang (head || has_length z.0) z.1 c is in
+    record { closing = c; is = last_at-some bang head text z e ∙ ap (λ r. later_or r (bracket_in_name bang head text)) is; ends = inl (omega (arith, short, ap length k.cut, length-append k.front c)) }
+
+abbrev inner_pair : Inner → List ℕ → Inner × List ℕ
+inner_pair f x = (f, x)
+
+some_pair : (f g : Inner) (x y : List ℕ) → Some (inner_pair f x) ≡ Some (inner_pair g y) → inner_pair f x ≡ inner_pair g y
+some_pair f g x y h = cc
+
+same_front : (f g : Inner) (x y : List ℕ) → Some (inner_pair f x) ≡ Some (inner_pair g y) → x ≡ y
+same_front f g x y h = ap (λ (p : Inner × List ℕ). p.1) (some_pair f g x y h)
+
+same_part : (f g : Inner) (x y : List ℕ) → Some (inner_pair f x) ≡ Some (inner_pair g y) → f ≡ g
+same_part f g x y h = ap (λ (p : Inner × List ℕ). p.0) (some_pair f g x y h)
+
+cross-found : (bang head : Bool) (u t : List ℕ) (part : Inner) (v : List ℕ) (more : List Inner) (z : Inner × List ℕ) → inner_at bang u ≡ Some (part, v) → InnerParts bang v more → (head || has_head (part ∷ more)) ≡ true →
+    inner_at bang (u ++ (93 ∷ t)) ≡ Some z → length z.1 < length (93 ∷ t) → FoundLast bang head (u ++ (93 ∷ t)) t
+cross-found bang head u t part v more z at others has e short =
+    let stands = stands_at (inner_reader bang) (u ++ (93 ∷ t)) z e in
+    by_name (crossing bang is_inside 93 z.0 u t z.1 inside_wide refl refl stands.good stands.cut short)
+  where
+    by_name : CrossesIn bang z.0 u 93 → FoundLast bang head (u ++ (93 ∷ t)) t
+    by_name k =
+        let stands = stands_at (inner_reader bang) (u ++ (93 ∷ t)) z e in
+        let before = k.crosses.before in
+        let after = k.crosses.after in
+        let names = all_parts is_name_byte before (93 ∷ after) (ap (list_all is_name_byte) (sym k.crosses.name_is) ∙ k.good.bytes) in
+        let alone : inner_at bang u ≡ Some (lone_inside, before) = ap (inner_at bang) k.crosses.text ∙ lone_at bang before k.off names.0 in
+        let same : inner_pair part v ≡ inner_pair lone_inside before = some_pair part lone_inside v before (sym at ∙ alone) in
+        let inner : InnerParts bang before more = subst (λ (x : List ℕ). InnerParts bang x more) (ap (λ (p : Inner × List ℕ). p.1) same) others in
+        let heads : (head || has_head more) ≡ true = sym (ap (λ (p : Inner × List ℕ). head || has_head (p.0 ∷ more)) same) ∙ has in
+        let spelled : u ++ (93 ∷ t) ≡ 33 ∷ ((before ++ (93 ∷ after)) ++ (33 ∷ z.1)) = stands.cut ∙ ap (λ f. inner_then f z.1) k.is ∙ ap (λ (n : List ℕ). 33 ∷ (n ++ (33 ∷ z.1))) k.crosses.name_is in
+        let found = in_name-found bang head before after z.1 more k.off (subst IsName k.crosses.name_is k.good) inner heads in
+        let tail : 93 ∷ (after ++ (33 ∷ z.1)) ≡ 93 ∷ t = append_cancel_left before (93 ∷ (after ++ (33 ∷ z.1))) (93 ∷ t)
+        (sym (append_assoc before (93 ∷ after) (33 ∷ z.1)) ∙ rest_same 33 33 ((before ++ (93 ∷ after)) ++ (33 ∷ z.1)) (before ++ (93 ∷ t)) (sym spelled ∙ ap (λ (x : List ℕ). x ++ (93 ∷ t)) k.crosses.text)) in
+        cross_last bang head (u ++ (93 ∷ t)) t z e short (ap (bracket_in_name bang head) spelled ∙ found ∙ ap Some tail) (last_at bang (head || has_length z.0) z.1) refl
+
+pub le_lt : (a b : ℕ) → (a ≤ b) ⊎ (b < a)
+le_lt zero b = inl (omega arith)
+le_lt (suc a) zero = inr (omega arith)
+le_lt (suc a) (suc b) = elim (le_lt a b) [ inl h ↦ inl (omega (arith, h)) | inr h ↦ inr (omega (arith, h)) ]
+
+-- a part that ends before the bracket is the same on the line
+no_shorter : (bang : Bool) (u t v : List ℕ) (part : Inner) (z : Inner × List ℕ) → inner_at bang u ≡ Some (part, v) → inner_at bang (u ++ (93 ∷ t)) ≡ Some z → length z.1 < length (v ++ (93 ∷ t)) → length (93 ∷ t) ≤ length z.1 → ⊥
+no_shorter bang u t v part z at e shorter before =
+    let a = read_cut (inner_reader bang) (inner_local bang) u (93 ∷ t) z e before in
+    let same : a.front ≡ v = same_front z.0 part a.front v (sym a.at_cut ∙ at) in
+    omega (arith, shorter, ap length a.behind, length-append a.front (93 ∷ t), length-append v (93 ∷ t), ap length same)
+
+moved : (bang : Bool) (u t v : List ℕ) (part : Inner) → StandsInside bang part u v → StandsInside bang part (u ++ (93 ∷ t)) (v ++ (93 ∷ t))
+moved bang u t v part stands = record { good = stands.good; cut = ap (λ s. s ++ (93 ∷ t)) stands.cut ∙ inner_append part v (93 ∷ t) }
+
+last-reaches : (bang head : Bool) (u t : List ℕ) (ps : List Inner) → InnerParts bang u ps → (head || has_head ps) ≡ true → FoundLast bang head (u ++ (93 ∷ t)) t
+last-reaches bang head _ t _ no_part has = here-found bang head t (sym (or-end head) ∙ has)
+last-reaches bang head _ t _ (then_part u part v more l others) has =
+    let r = inner_reader bang in
+    let at = longest_is r u part v l in
+    let o = r.reaches part (u ++ (93 ∷ t)) (v ++ (93 ∷ t)) (moved bang u t v part l.stands) in
+    elim o.2 [
+      | inr same ↦ then-found bang head (u ++ (93 ∷ t)) t (part, v ++ (93 ∷ t)) (o.1 ∙ ap Some same) (last-reaches bang (head || has_length part) v t more others (or_assoc head (has_length part) (has_head more) ∙ has))
+      | inl shorter ↦ elim (le_lt (length (93 ∷ t)) (length o.0.1)) [
+        | inl before ↦ absurd (no_shorter bang u t v part o.0 at o.1 shorter before)
+        | inr past ↦ cross-found bang head u t part v more o.0 at others has o.1 past
+      ]
+    ]
+
+-- no exclamation mark is passed over
+abbrev pub is_lone : Inner → Bool
+is_lone (note_inside f) = false
+is_lone (letter_inside b) = false
+is_lone (named_inside name) = false
+is_lone (tie_inside d) = false
+is_lone slur_inside = false
+is_lone (passed_inside b) = false
+is_lone lone_inside = true
+
+abbrev pub has_lone : List Inner → Bool
+has_lone [] = false
+has_lone (part ∷ more) = is_lone part || has_lone more
+
+cross-lone : (bang : Bool) (u t v : List ℕ) (part : Inner) (z : Inner × List ℕ) → inner_at bang u ≡ Some (part, v) → inner_at bang (u ++ (93 ∷ t)) ≡ Some z → length z.1 < length (93 ∷ t) → part ≡ lone_inside
+cross-lone bang u t v part z at e past =
+    let stands = stands_at (inner_reader bang) (u ++ (93 ∷ t)) z e in
+    by_name (crossing bang is_inside 93 z.0 u t z.1 inside_wide refl refl stands.good stands.cut past)
+  where
+    by_name : CrossesIn bang z.0 u 93 → part ≡ lone_inside
+    by_name k =
+        let names = all_parts is_name_byte k.crosses.before (93 ∷ k.crosses.after) (ap (list_all is_name_byte) (sym k.crosses.name_is) ∙ k.good.bytes) in
+        let alone : inner_at bang u ≡ Some (lone_inside, k.crosses.before) = ap (inner_at bang) k.crosses.text ∙ lone_at bang k.crosses.before k.off names.0 in
+        same_part part lone_inside v k.crosses.before (sym at ∙ alone)
+
+-- where no exclamation mark is passed over, the line is read as the inside is
+last-exact : (bang head : Bool) (u t : List ℕ) (ps : List Inner) → InnerParts bang u ps → (head || has_head ps) ≡ true → has_lone ps ≡ false → last_at bang head (u ++ (93 ∷ t)) ≡ Some (93 ∷ t)
+last-exact bang head _ t _ no_part has whole = last_at-none bang head (93 ∷ t) (at_bracket bang t) ∙ rw (sym (or-end head) ∙ has) refl
+last-exact bang head _ t _ (then_part u part v more l others) has whole =
+    let r = inner_reader bang in
+    let at = longest_is r u part v l in
+    let o = r.reaches part (u ++ (93 ∷ t)) (v ++ (93 ∷ t)) (moved bang u t v part l.stands) in
+    elim o.2 [
+      | inr same ↦
+          (let later = last-exact bang (head || has_length part) v t more others (or_assoc head (has_length part) (has_head more) ∙ has) (others_whole (is_lone part) (has_lone more) whole) in
+          last_at-some bang head (u ++ (93 ∷ t)) (part, v ++ (93 ∷ t)) (o.1 ∙ ap Some same) ∙ rw later refl)
+      | inl shorter ↦ elim (le_lt (length (93 ∷ t)) (length o.0.1)) [
+        | inl before ↦ absurd (no_shorter bang u t v part o.0 at o.1 shorter before)
+        | inr past ↦ absurd (lone_clash part (has_lone more) (cross-lone bang u t v part o.0 at o.1 past) whole)
+      ]
+    ]
+  where
+    others_whole : (a b : Bool) → (a || b) ≡ false → b ≡ false
+    others_whole true b h = absurd cc
+    others_whole false b h = h
+
+    lone_clash : (f : Inner) (b : Bool) → f ≡ lone_inside → (is_lone f || b) ≡ false → ⊥
+    lone_clash f b e h = let here : (is_lone lone_inside || b) ≡ false = subst (λ x. (is_lone x || b) ≡ false) e h in cc
+
+-- ---- a chord
+
 abbrev pub TakesChord : Bool → List ℕ → Option (ChordForm × List ℕ) → Type 0
 TakesChord bang s r = IfSome r (λ z. IsChord bang z.0 × (s ≡ chord_then z.0 z.1))
 
-chord_of-takes : (bang : Bool) (s inside rest : List ℕ) → s ≡ inside ++ (93 ∷ rest) → list_all is_inside inside ≡ true → TakesChord bang s (chord_of bang inside (walk (inner_at bang) inside) (length_at rest))
-chord_of-takes bang s inside rest cut clear =
-    let w = walk (inner_at bang) inside in
-    let len = length_at rest in
-    cond_both {A = Option (ChordForm × List ℕ)} (is_done w && has_head w.0) (Some (record { inside = inside; parts = w.0; length = len.0 }, len.1)) None (TakesChord bang s)
-    (λ e. let p = and_parts (is_done w) (has_head w.0) e in
-    let l = length_at-takes rest in (
-      record { open_to_the_bracket = clear; parts = parts_of_walk (inner_reader bang) inside (eqb-true (length w.1) 0 p.0); head = p.1; length = l.1 },
-      cut ∙ ap (λ t. inside ++ (93 ∷ t)) l.0,
-    ))
-    (λ e. tt)
+pub cut_off : (s front c : List ℕ) → s ≡ front ++ c → take (length s - length c) s ≡ front
+cut_off s front c cut =
+    let n : length s - length c ≡ length front = omega (arith, ap length cut, length-append front c) in
+    rw n (ap (take (length front)) cut ∙ take-append_seam front c)
 
-chord_closed-takes : (bang : Bool) (s inside rest : List ℕ) → s ≡ inside ++ rest → list_all is_inside inside ≡ true → begins is_inside rest ≡ false → TakesChord bang s (chord_closed bang inside rest)
-chord_closed-takes bang s inside [] cut clear stops = tt
-chord_closed-takes bang s inside (b ∷ rest) cut clear stops = chord_of-takes bang s inside rest (cut ∙ ap (λ x. inside ++ (x ∷ rest)) (bracket_is b rest stops)) clear
+chord_from-takes : (bang : Bool) (s : List ℕ) (r : Option (List ℕ)) → bracket_at bang s ≡ r → TakesChord bang s (chord_from bang s r)
+chord_from-takes bang s None e = tt
+chord_from-takes bang s (Some []) e = tt
+chord_from-takes bang s (Some (b ∷ c)) e =
+    let k = bracket_at-closes bang s (b ∷ c) e in
+    let inside : take (length s - length (b ∷ c)) s ≡ k.front = cut_off s k.front (b ∷ c) k.cut in
+    let l = length_at-takes c in
+    let read = walk_of_parts (inner_reader bang) k.front k.parts k.good in
+    let mark : b ≡ 93 = first_same b 93 c k.rest k.is in
+    rw (inside, read) (record { parts = k.good; head = k.has; length = l.1 }, k.cut ∙ ap (λ x. k.front ++ (x ∷ c)) mark ∙ ap (λ x. k.front ++ (93 ∷ x)) l.0)
 
 pub chord_at-takes : (bang : Bool) (s : List ℕ) → TakesChord bang s (chord_at bang s)
 unfolding chord_at
-chord_at-takes bang s = let inside = span_all is_inside s in chord_closed-takes bang s inside.0 inside.1 (span_all-takes is_inside s) (span_all-pass is_inside s) (span_all-after is_inside s)
+chord_at-takes bang s = chord_from-takes bang s (bracket_at bang s) refl
 
 abbrev chord_with : ChordForm → LengthForm × List ℕ → ChordForm × List ℕ
 chord_with f len = (record { inside = f.inside; parts = f.parts; length = len.0 }, len.1)
 
-chord-reads : (bang : Bool) (f : ChordForm) (x : List ℕ) → IsChord bang f → chord_at bang (chord_then f x) ≡ Some (chord_with f (length_at (length_then f.length x)))
+at_closing : (bang : Bool) (s c : List ℕ) → bracket_at bang s ≡ Some c → chord_at bang s ≡ chord_from bang s (Some c)
 unfolding chord_at
-chord-reads bang f x good =
-    let t = 93 ∷ length_then f.length x in
-    let cut : span_all is_inside (f.inside ++ t) ≡ (f.inside ++ [], t) = span_all-append is_inside f.inside t good.open_to_the_bracket ∙ rw (span_all-stops is_inside t refl) refl in
+at_closing bang s c e = rw e refl
+
+found_at : (bang : Bool) (s c : List ℕ) → last_at bang false s ≡ Some c → bracket_at bang s ≡ Some c
+unfolding bracket_at
+found_at bang s c e = e
+
+chord_there : (bang : Bool) (f : ChordForm) (x : List ℕ) → IsChord bang f → bracket_at bang (chord_then f x) ≡ Some (93 ∷ length_then f.length x) → chord_at bang (chord_then f x) ≡ Some (chord_with f (length_at (length_then f.length x)))
+chord_there bang f x good e =
+    let c = 93 ∷ length_then f.length x in
+    let inside : take (length (f.inside ++ c) - length c) (f.inside ++ c) ≡ f.inside = cut_off (f.inside ++ c) f.inside c refl in
     let read = walk_of_parts (inner_reader bang) f.inside f.parts good.parts in
-    rw (cut, append-nil, read, good.head) refl
+    at_closing bang (chord_then f x) c e ∙ rw (inside, read) refl
+
+-- a bracket behind another one stands behind the length there
+behind_length : (l : LengthForm) (x inside front rest : List ℕ) → IsLength l → inside ++ (93 ∷ length_then l x) ≡ front ++ (93 ∷ rest) → length (93 ∷ rest) < length (93 ∷ length_then l x) → length rest < length x
+behind_length l x inside front rest good e shorter = from_cut (cut_at front inside (93 ∷ rest) (93 ∷ length_then l x) (sym e) (omega (arith, shorter)))
+  where
+    past : (m : List ℕ) → length_then l x ≡ m ++ (93 ∷ rest) → length x < length (93 ∷ rest) → ⊥
+    past m is far =
+        let c = cut_at (length_then l []) m x (93 ∷ rest) (length_append l [] x ∙ is) (omega (arith, far)) in
+        by_between c.between c.behind c.front
+      where
+        by_between : (b : List ℕ) → 93 ∷ rest ≡ b ++ x → length_then l [] ≡ m ++ b → ⊥
+        by_between [] behind front = omega (arith, far, ap length behind)
+        by_between (b ∷ bs) behind front =
+            let all : list_all free (m ++ (b ∷ bs)) ≡ true = ap (list_all free) (sym front) ∙ length_free l good in
+            let here : free b ≡ true = (and_parts (free b) (list_all free bs) (all_parts free m (b ∷ bs) all).1).0 in
+            let clash : free 93 ≡ true = subst (λ y. free y ≡ true) (sym (first_same 93 b rest (bs ++ x) behind)) here in cc
+
+    by_between : (b : List ℕ) → 93 ∷ length_then l x ≡ b ++ (93 ∷ rest) → length rest < length x
+    by_between [] is = absurd (omega (arith, shorter, ap length is))
+    by_between (b ∷ m) is = elim (le_lt (length (93 ∷ rest)) (length x)) [ inl near ↦ omega (arith, near) | inr far ↦ absurd (past m (rest_same 93 b (length_then l x) (m ++ (93 ∷ rest)) is) far) ]
+
+    from_cut : Cut front inside (93 ∷ rest) (93 ∷ length_then l x) → length rest < length x
+    from_cut c = by_between c.between c.behind
+
+longer_chord : (bang : Bool) (f : ChordForm) (x c : List ℕ) → IsChord bang f → bracket_at bang (chord_then f x) ≡ Some c → length c < length (93 ∷ length_then f.length x) → (z : ChordForm × List ℕ) × (chord_at bang (chord_then f x) ≡ Some z) × ((length z.1 < length x) ⊎ (z ≡ (f, x)))
+longer_chord bang f x [] good e shorter = absurd (let k = bracket_at-closes bang (chord_then f x) [] e in omega (arith, ap length k.is))
+longer_chord bang f x (b ∷ c) good e shorter =
+    let k = bracket_at-closes bang (chord_then f x) (b ∷ c) e in
+    let mark : b ≡ 93 = first_same b 93 c k.rest k.is in
+    let near = behind_length f.length x f.inside k.front c good.length (k.cut ∙ ap (λ y. k.front ++ (y ∷ c)) mark) (omega (arith, shorter)) in
+    let inside = take (length (chord_then f x) - length (b ∷ c)) (chord_then f x) in
+    let l = length_at-takes c in (
+      (record { inside = inside; parts = (walk (inner_at bang) inside).0; length = (length_at c).0 }, (length_at c).1),
+      at_closing bang (chord_then f x) (b ∷ c) e,
+      inl (omega (arith, near, ap length l.0, length-length_then (length_at c).0 (length_at c).1)),
+    )
 
 pub chord_at-reaches : (bang : Bool) (f : ChordForm) (x : List ℕ) → IsChord bang f →
     (z : ChordForm × List ℕ) × (chord_at bang (chord_then f x) ≡ Some z) × ((length z.1 < length x) ⊎ (z ≡ (f, x)))
-chord_at-reaches bang f x good = (
-  chord_with f (length_at (length_then f.length x)),
-  chord-reads bang f x good,
-  elim (length_at-reaches f.length x good.length) [ inl shorter ↦ inl shorter.0 | inr same ↦ inr (ap (chord_with f) same) ],
-)
+chord_at-reaches bang f x good =
+    let k = last-reaches bang false f.inside (length_then f.length x) f.parts good.parts good.head in
+    elim k.ends [
+      | inl shorter ↦ longer_chord bang f x k.closing good (found_at bang (chord_then f x) k.closing k.is) shorter
+      | inr same ↦ (
+        chord_with f (length_at (length_then f.length x)),
+        chord_there bang f x good (found_at bang (chord_then f x) (93 ∷ length_then f.length x) (k.is ∙ ap Some same)),
+        elim (length_at-reaches f.length x good.length) [ inl near ↦ inl near.0 | inr same ↦ inr (ap (chord_with f) same) ],
+      )
+    ]
+
+-- where no exclamation mark is passed over, the chord itself is read
+pub chord-reads : (bang : Bool) (f : ChordForm) (x : List ℕ) → IsChord bang f → has_lone f.parts ≡ false → chord_at bang (chord_then f x) ≡ Some (chord_with f (length_at (length_then f.length x)))
+chord-reads bang f x good whole = chord_there bang f x good (found_at bang (chord_then f x) (93 ∷ length_then f.length x) (last-exact bang false f.inside (length_then f.length x) f.parts good.parts good.head whole))
 
 pub chord-longer : (f : ChordForm) (x : List ℕ) → length x < length (chord_then f x)
 chord-longer f x = omega (arith, length-append f.inside (93 ∷ length_then f.length x), length-length_then f.length x)
+
+-- ---- the state of the loop that looks for the last bracket
+
+pub record Seeking (bang : Bool) (text : List ℕ) (head : Bool) (last : Option (List ℕ)) (rest : List ℕ) : Type 0 where
+  pub found : later_or (last_at bang head rest) last ≡ bracket_at bang text
+  pub within : length rest ≤ length text
+
+pub later_assoc : (a b c : Option (List ℕ)) → later_or (later_or a b) c ≡ later_or a (later_or b c)
+later_assoc None b c = refl
+later_assoc (Some a) b c = refl
+
+pub later_none : (a : Option (List ℕ)) → later_or a None ≡ a
+later_none None = refl
+later_none (Some a) = refl
+
+pub seeking-begins : (bang : Bool) (text : List ℕ) → Seeking bang text false None text
+unfolding bracket_at
+seeking-begins bang text = record { found = later_none (last_at bang false text); within = omega arith }
+
+pub seeking-next : (bang : Bool) (text : List ℕ) (head new : Bool) (last next : Option (List ℕ)) (rest behind : List ℕ) (part : Inner) → Seeking bang text head last rest → inner_at bang rest ≡ Some (part, behind) →
+    new ≡ (head || has_length part) → next ≡ later_or (bracket_in_name bang head rest) last → Seeking bang text new next behind
+seeking-next bang text head new last next rest behind part stage e newly later =
+    rw (newly, later) (record {
+      found = sym (later_assoc (last_at bang (head || has_length part) behind) (bracket_in_name bang head rest) last) ∙ ap (λ r. later_or r last) (sym (last_at-some bang head rest (part, behind) e)) ∙ stage.found;
+      within = omega (arith, less (inner_reader bang) rest (part, behind) e, stage.within);
+    })
+
+pub seeking-ends : (bang : Bool) (text : List ℕ) (head : Bool) (last : Option (List ℕ)) (rest : List ℕ) → Seeking bang text head last rest → inner_at bang rest ≡ None → later_or (bracket_here head rest) last ≡ bracket_at bang text
+seeking-ends bang text head last rest stage e = ap (λ r. later_or r last) (sym (last_at-none bang head rest e)) ∙ stage.found
+
+pub all-within : {T : Type 0} (now : T → List ℕ) (bang : Bool) (text : List ℕ) (r : Option T) → option_map now r ≡ bracket_at bang text → IfSome r (λ x. length (now x) ≤ length text)
+all-within now bang text None e = tt
+all-within now bang text (Some x) e = bracket_within bang text (now x) (sym e)
 
 -- ---- the fault
 
 abbrev two : List ℕ → List ℕ → List ℕ × List ℕ
 two a b = (a, b)
 
-pub chord-unclosed : (bang : Bool) (s w r : List ℕ) → two w r ≡ span_all is_inside s → length r ≡ 0 → ChordFault bang s (record { kind = Unclosed; left = length s + 1 })
-chord-unclosed bang s w [] cut none =
+unclosed : (s w r : List ℕ) → two w r ≡ span_all is_inside s → length r ≡ 0 → list_all is_inside s ≡ true
+unclosed s w [] cut none =
     let whole : s ≡ (span_all is_inside s).0 = span_all-takes is_inside s ∙ ap (λ (t : List ℕ). (span_all is_inside s).0 ++ t) (sym (ap (λ (p : List ℕ × List ℕ). p.1) cut)) ∙ append-nil (span_all is_inside s).0 in
-    rw add-one (chord_unclosed s (ap (λ t. list_all is_inside t) whole ∙ span_all-pass is_inside s))
-chord-unclosed bang s w (b ∷ r) cut none = absurd (omega (arith, none))
+    ap (λ t. list_all is_inside t) whole ∙ span_all-pass is_inside s
+unclosed s w (b ∷ r) cut none = absurd (omega (arith, none))
 
-pub chord-split : (s w r rest : List ℕ) (b : ℕ) → two w r ≡ span_all is_inside s → r ≡ b ∷ rest → (s ≡ w ++ (93 ∷ rest)) × (list_all is_inside w ≡ true)
-chord-split s w r rest b cut is =
-    let front : w ≡ (span_all is_inside s).0 = ap (λ (p : List ℕ × List ℕ). p.0) cut in
-    let back : b ∷ rest ≡ (span_all is_inside s).1 = sym is ∙ ap (λ (p : List ℕ × List ℕ). p.1) cut in
-    let mark : b ≡ 93 = bracket_is b rest (ap (begins is_inside) back ∙ span_all-after is_inside s) in (
-      span_all-takes is_inside s ∙ ap (λ t. t ++ (span_all is_inside s).1) (sym front) ∙ ap (λ t. w ++ t) (sym back) ∙ ap (λ x. w ++ (x ∷ rest)) mark,
-      ap (λ t. list_all is_inside t) front ∙ span_all-pass is_inside s,
-    )
+pub chord-unclosed : (bang : Bool) (s w r : List ℕ) → two w r ≡ span_all is_inside s → length r ≡ 0 → ChordFault bang s (record { kind = Unclosed; left = length s + 1 })
+chord-unclosed bang s w r cut none = rw add-one (chord_unclosed s (unclosed s w r cut none))
 
-pub chord-flawed : (bang : Bool) (s w r rest : List ℕ) (b : ℕ) (flaw : Flaw) → two w r ≡ span_all is_inside s → r ≡ b ∷ rest → InnerFlawed bang None w flaw →
-    ChordFault bang s (record { kind = flaw.kind; left = flaw.left + (length rest + 1) })
-chord-flawed bang s w r rest b flaw cut is flawed =
-    let p = chord-split s w r rest b cut is in
-    rw add-one (chord_flawed s w rest flaw p.0 p.1 flawed)
+no_bytes : (t : List ℕ) → length t ≡ 0 → t ≡ []
+no_bytes [] h = refl
+no_bytes (b ∷ t) h = absurd (omega (arith, h))
 
--- no chord, though the inside is good: it has no head
-headless_as : (bang : Bool) (w rest : List ℕ) (b : Bool) → has_head (walk (inner_at bang) w).0 ≡ b → is_done (walk (inner_at bang) w) ≡ true → chord_of bang w (walk (inner_at bang) w) (length_at rest) ≡ None → b ≡ false
-headless_as bang w rest false e done none = refl
-headless_as bang w rest true e done none =
-    let some : chord_of bang w (walk (inner_at bang) w) (length_at rest) ≡ Some (record { inside = w; parts = (walk (inner_at bang) w).0; length = (length_at rest).0 }, (length_at rest).1) = rw (done, e) refl in
-    absurd (let clash = sym none ∙ some in cc)
+inner_leads : (bang : Bool) (s : List ℕ) → InnerLeads bang s (walk (inner_at bang) s).0 (walk (inner_at bang) s).1
+inner_leads bang s = leads_of_walk (inner_reader bang) (inner_local bang) s
 
-at_closed : (bang : Bool) (s w r rest : List ℕ) (b : ℕ) → two w r ≡ span_all is_inside s → r ≡ b ∷ rest → chord_at bang s ≡ chord_of bang w (walk (inner_at bang) w) (length_at rest)
-unfolding chord_at
-at_closed bang s w r rest b cut is = rw (← cut, is) refl
+pub chord-open : (bang : Bool) (s : List ℕ) → is_done (walk (inner_at bang) s) ≡ true → ChordFault bang s (record { kind = Unclosed; left = length s + 1 })
+chord-open bang s done =
+    let w = walk (inner_at bang) s in
+    let none : w.1 ≡ [] = no_bytes w.1 (eqb-true (length w.1) 0 done) in
+    rw add-one (chord_open s w.0 (subst (λ t. InnerLeads bang s w.0 t) none (inner_leads bang s)))
 
-pub chord-headless : (bang : Bool) (s w r rest : List ℕ) (b : ℕ) → two w r ≡ span_all is_inside s → r ≡ b ∷ rest → chord_at bang s ≡ None → is_done (walk (inner_at bang) w) ≡ true →
-    ChordFault bang s (record { kind = BadByte; left = length s + 1 })
-chord-headless bang s w r rest b cut is none done =
-    let p = chord-split s w r rest b cut is in
-    let headless = headless_as bang w rest (has_head (walk (inner_at bang) w).0) refl done (sym (at_closed bang s w r rest b cut is) ∙ none) in
-    rw add-one (chord_headless s w rest (walk (inner_at bang) w).0 p.0 p.1 (parts_of_walk (inner_reader bang) w (eqb-true (length (walk (inner_at bang) w).1) 0 done)) headless)
+-- parts with a head up to a bracket are a chord
+last_here : (bang head : Bool) (ps : List Inner) (rest : List ℕ) → (head || has_head ps) ≡ true → last_bracket bang head ps (93 ∷ rest) ≡ Some (93 ∷ rest)
+last_here bang head [] rest has = rw (sym (or-end head) ∙ has) refl
+last_here bang head (p ∷ ps) rest has = rw (last_here bang (head || has_length p) ps rest (or_assoc head (has_length p) (has_head ps) ∙ has)) refl
+
+headless_as : (bang : Bool) (s rest : List ℕ) (b : Bool) → has_head (walk (inner_at bang) s).0 ≡ b → (walk (inner_at bang) s).1 ≡ 93 ∷ rest → chord_at bang s ≡ None → b ≡ false
+unfolding bracket_at
+headless_as bang s rest false e stop none = refl
+headless_as bang s rest true e stop none =
+    let found : bracket_at bang s ≡ Some (93 ∷ rest) = ap (last_bracket bang false (walk (inner_at bang) s).0) stop ∙ last_here bang false (walk (inner_at bang) s).0 rest e in
+    absurd (let clash = sym none ∙ at_closing bang s (93 ∷ rest) found in cc)
+
+first_is : (t : List ℕ) → begins is_bracket t ≡ true → (rest : List ℕ) × (t ≡ 93 ∷ rest)
+first_is [] h = absurd cc
+first_is (b ∷ t) h = (t, ap (λ x. x ∷ t) (eqb-true b 93 h))
+
+pub chord-headless : (bang : Bool) (s : List ℕ) → chord_at bang s ≡ None → begins is_bracket (walk (inner_at bang) s).1 ≡ true → ChordFault bang s (record { kind = BadByte; left = length s + 1 })
+chord-headless bang s none at =
+    let w = walk (inner_at bang) s in
+    let stop = first_is w.1 at in
+    rw add-one (chord_headless s w.0 stop.0 (subst (λ t. InnerLeads bang s w.0 t) stop.1 (inner_leads bang s)) (headless_as bang s stop.0 (has_head w.0) refl stop.1 none))
+
+closed_somewhere : (s w r : List ℕ) → two w r ≡ span_all is_inside s → (length r ≡ 0 → ⊥) → list_all is_inside s ≡ false
+closed_somewhere s w r cut some = by_all (list_all is_inside s) refl
+  where
+    by_all : (b : Bool) → list_all is_inside s ≡ b → b ≡ false
+    by_all false e = refl
+    by_all true e =
+        let nothing : span_all is_inside s ≡ (s, []) = all_span is_inside s e in
+        absurd (some (ap (λ (p : List ℕ × List ℕ). length p.1) (cut ∙ nothing)))
+
+pub chord-flawed : (bang : Bool) (s w r : List ℕ) (flaw : Flaw) → two w r ≡ span_all is_inside s → (length r ≡ 0 → ⊥) → is_done (walk (inner_at bang) s) ≡ false → begins is_bracket (walk (inner_at bang) s).1 ≡ false → InnerFlawed bang None s flaw → ChordFault bang s flaw
+chord-flawed bang s w r flaw cut some stuck other flawed = by_stop (walk (inner_at bang) s).1 refl
+  where
+    by_stop : (t : List ℕ) → (walk (inner_at bang) s).1 ≡ t → ChordFault bang s flaw
+    by_stop [] e = absurd (let clash = sym stuck ∙ ap (λ (t : List ℕ). eqb (length t) 0) e in cc)
+    by_stop (b ∷ t) e = chord_flawed s (walk (inner_at bang) s).0 b t flaw (closed_somewhere s w r cut some) (subst (λ x. InnerLeads bang s (walk (inner_at bang) s).0 x) e (inner_leads bang s)) (sym (ap (begins is_bracket) e) ∙ other) flawed
+
+pub not_empty : (t : List ℕ) → eqb (length t) 0 ≡ false → length t ≡ 0 → ⊥
+not_empty [] h e = absurd cc
+not_empty (b ∷ t) h e = omega (arith, e)

@@ -173,7 +173,7 @@ note-reaches f x good =
       ends = elim r.2 [ inl shorter ↦ inl shorter.0 | inr is ↦ inr (ap (λ z. inner_read (note_inside z.0) z.1) is) ];
     }
 
-at_class : (bang : Bool) (b : ℕ) (s : List ℕ) (c : ItemClass) → item_class b ≡ c → inner_at bang (b ∷ s) ≡ inner_by_class c bang b s
+pub at_class : (bang : Bool) (b : ℕ) (s : List ℕ) (c : ItemClass) → item_class b ≡ c → inner_at bang (b ∷ s) ≡ inner_by_class c bang b s
 unfolding inner_at
 at_class bang b s c h = rw h refl
 
@@ -209,7 +209,7 @@ tie_class : item_class 45 ≡ class.Tie
 unfolding item_class
 tie_class = refl
 
-bang_class : item_class 33 ≡ class.Bang
+pub bang_class : item_class 33 ≡ class.Bang
 unfolding item_class
 bang_class = refl
 

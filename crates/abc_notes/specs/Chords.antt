@@ -1,6 +1,6 @@
 -- A chord: what stands between its brackets, which is read part by part, and the length behind
--- them. It ends at the first closing bracket.
-use Rattle.std.specs.Prelude.{◌≡◌, ◌≤◌, ◌+◌, ℕ, suc, List, [], ◌∷◌, ◌++◌, length, map, Bool, true, false, not, ◌==◌, ◌||◌, ◌&&◌, if◌then◌else◌, Option, Some, None}
+-- them. A name within may hold a closing bracket; a chord is as long as it can be.
+use Rattle.std.specs.Prelude.{◌≡◌, ◌≤◌, ◌-◌, ℕ, suc, List, [], ◌∷◌, ◌++◌, length, take, drop, map, Bool, true, false, not, ◌==◌, ◌||◌, ◌&&◌, if◌then◌else◌, Option, Some, None}
 use Rattle.std.specs.List.{list_all}
 use Rattle.mus_units.specs.declared.note.Head.{Head}
 use Rattle.mus_units.specs.declared.note.Deco.{Deco}
@@ -10,8 +10,8 @@ use Rattle.abc_notes.specs.declared.part.Len.{Len}
 use Rattle.abc_notes.specs.Runs.{span_all}
 use Rattle.abc_notes.specs.Lengths.{LengthForm, length_then, IsLength, length_at}
 use Rattle.abc_notes.specs.Decorations.{deco_of_letter, deco_of_name}
-use Rattle.abc_notes.specs.Items.{Inner, Sense, says_note, says_letter, says_name, says_tie, says_nothing, sense, has_length, InnerParts, InnerFlawed, inner_at}
-use Rattle.abc_notes.specs.Parts.{walk, is_done}
+use Rattle.abc_notes.specs.Items.{Inner, Sense, says_note, says_letter, says_name, says_tie, says_nothing, sense, inner_then, has_length, StandsInside, InnerParts, InnerFlawed, name_at, inner_at}
+use Rattle.abc_notes.specs.Parts.{Leads, walk, is_done, spelled_then, later_or}
 
 pub record ChordForm : Type 0 where
   pub inside : List ℕ
@@ -20,6 +20,9 @@ pub record ChordForm : Type 0 where
 
 abbrev pub is_inside : ℕ → Bool
 is_inside byte = not (byte == 93)
+
+abbrev pub is_bracket : ℕ → Bool
+is_bracket byte = byte == 93
 
 abbrev pub has_head : List Inner → Bool
 has_head [] = false
@@ -30,7 +33,6 @@ abbrev pub chord_then : ChordForm → List ℕ → List ℕ
 chord_then f rest = f.inside ++ (93 ∷ length_then f.length rest)
 
 pub record IsChord (bang : Bool) (f : ChordForm) : Type 0 where
-  pub open_to_the_bracket : list_all is_inside f.inside ≡ true
   pub parts : InnerParts bang f.inside f.parts
   pub head : has_head f.parts ≡ true
   pub length : IsLength f.length
@@ -66,26 +68,59 @@ abbrev pub decos_of : List Sense → List Deco
 decos_of [] = []
 decos_of (part ∷ more) = deco_of part ++ decos_of more
 
--- the fault behind an opening bracket, where no chord stands: no closing bracket follows; or the
--- first fault of the inside; or a good inside has no head
+-- the parts behind an opening bracket as the line goes on, each as long as it can be
+abbrev pub InnerLeads : Bool → List ℕ → List Inner → List ℕ → Type 0
+InnerLeads bang text parts rest = Leads Inner (StandsInside bang) text parts rest
+
+-- the fault behind an opening bracket, where no chord stands: no closing bracket follows, or parts
+-- alone follow up to the end; or the parts have no head up to a closing bracket; or the first fault
+-- of the parts, which stop at another byte
 pub data ChordFault (bang : Bool) : List ℕ → Flaw → Type 0 where
   chord_unclosed : (text : List ℕ) → list_all is_inside text ≡ true → ChordFault bang text (record { kind = Unclosed; left = suc (length text) })
-  chord_flawed : (text inside rest : List ℕ) (flaw : Flaw) → text ≡ inside ++ (93 ∷ rest) → list_all is_inside inside ≡ true → InnerFlawed bang None inside flaw →
-      ChordFault bang text (record { kind = flaw.kind; left = flaw.left + suc (length rest) })
-  chord_headless : (text inside rest : List ℕ) (parts : List Inner) → text ≡ inside ++ (93 ∷ rest) → list_all is_inside inside ≡ true → InnerParts bang inside parts → has_head parts ≡ false →
+  chord_open : (text : List ℕ) (parts : List Inner) → InnerLeads bang text parts [] → ChordFault bang text (record { kind = Unclosed; left = suc (length text) })
+  chord_headless : (text : List ℕ) (parts : List Inner) (rest : List ℕ) → InnerLeads bang text parts (93 ∷ rest) → has_head parts ≡ false →
       ChordFault bang text (record { kind = BadByte; left = suc (length text) })
+  chord_flawed : (text : List ℕ) (parts : List Inner) (byte : ℕ) (rest : List ℕ) (flaw : Flaw) → list_all is_inside text ≡ false → InnerLeads bang text parts (byte ∷ rest) → (byte == 93) ≡ false →
+      InnerFlawed bang None text flaw → ChordFault bang text flaw
 
 -- ---- reading, between these and the code
 
-abbrev pub chord_of : Bool → List ℕ → List Inner × List ℕ → LengthForm × List ℕ → Option (ChordForm × List ℕ)
-chord_of bang inside w len = if is_done w && has_head w.0 then Some (record { inside = inside; parts = w.0; length = len.0 }, len.1) else None
+-- the bracket in front closes a chord that has a head
+abbrev pub bracket_here : Bool → List ℕ → Option (List ℕ)
+bracket_here head [] = None
+bracket_here head (byte ∷ rest) = if byte == 93 && head then Some (byte ∷ rest) else None
 
-abbrev pub chord_closed : Bool → List ℕ → List ℕ → Option (ChordForm × List ℕ)
-chord_closed bang inside [] = None
-chord_closed bang inside (bracket ∷ rest) = chord_of bang inside (walk (inner_at bang) inside) (length_at rest)
+-- the first bracket in a name, where parts alone stand before it and there is a head
+abbrev pub bracket_in : Bool → Bool → List ℕ → Option (List ℕ × List ℕ) → Option (List ℕ)
+bracket_in bang head text None = None
+bracket_in bang head text (Some named) =
+    let inside = span_all is_inside named.0 in
+    let w = walk (inner_at bang) inside.0 in
+    if not (length inside.1 == 0) && (is_done w && (head || has_head w.0)) then Some (drop (length inside.0) text) else None
+
+-- the bracket that closes a chord where the exclamation mark in front begins no name
+unfoldable pub bracket_in_name : Bool → Bool → List ℕ → Option (List ℕ)
+bracket_in_name bang head [] = None
+bracket_in_name bang head (byte ∷ rest) = if byte == 33 && not bang then bracket_in bang head rest (name_at rest) else None
+
+-- the last bracket at which a chord may end: the one behind all the parts, else one in a name
+abbrev pub last_bracket : Bool → Bool → List Inner → List ℕ → Option (List ℕ)
+last_bracket bang head [] rest = bracket_here head rest
+last_bracket bang head (part ∷ more) rest = later_or (last_bracket bang (head || has_length part) more rest) (bracket_in_name bang head (inner_then part (spelled_then inner_then more rest)))
+
+unfoldable pub bracket_at : Bool → List ℕ → Option (List ℕ)
+bracket_at bang text = let w = walk (inner_at bang) text in last_bracket bang false w.0 w.1
+
+abbrev pub chord_from : Bool → List ℕ → Option (List ℕ) → Option (ChordForm × List ℕ)
+chord_from bang text None = None
+chord_from bang text (Some []) = None
+chord_from bang text (Some (bracket ∷ rest)) =
+    let inside = take (length text - suc (length rest)) text in
+    let len = length_at rest in
+    Some (record { inside = inside; parts = (walk (inner_at bang) inside).0; length = len.0 }, len.1)
 
 unfoldable pub chord_at : Bool → List ℕ → Option (ChordForm × List ℕ)
-chord_at bang text = let inside = span_all is_inside text in chord_closed bang inside.0 inside.1
+chord_at bang text = chord_from bang text (bracket_at bang text)
 
 -- what the parts inside say
 abbrev pub senses : Bool → List ℕ → List Sense

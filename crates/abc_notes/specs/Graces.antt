@@ -1,5 +1,6 @@
--- A grace group: a slash or none, and notes and chords up to the first closing brace.
-use Rattle.std.specs.Prelude.{◌≡◌, ◌≤◌, ◌+◌, ℕ, suc, List, [], ◌∷◌, ◌++◌, length, map, Bool, true, false, not, ◌==◌, if◌then◌else◌, Option, Some, None, option_map, MatchBool}
+-- A grace group: a slash or none, and notes and chords between braces. A name within may hold a
+-- closing brace, but none within a chord of the group; a group is as long as it can be.
+use Rattle.std.specs.Prelude.{◌≡◌, ◌≤◌, ◌-◌, ℕ, suc, List, [], ◌∷◌, ◌++◌, length, take, drop, map, Bool, true, false, not, ◌==◌, ◌&&◌, if◌then◌else◌, Option, Some, None, option_map, MatchBool}
 use Rattle.std.specs.List.{list_all}
 use Rattle.mus_units.specs.declared.note.Head.{Head}
 use Rattle.abc_lines.specs.declared.fault.FaultKind.TheVariants.{Unclosed}
@@ -8,9 +9,9 @@ use Rattle.abc_notes.specs.declared.part.GraceChord.{GraceChord}
 use Rattle.abc_notes.specs.declared.part.GraceItem.{GraceItem}
 use Rattle.abc_notes.specs.declared.part.GraceItem.TheVariants as found
 use Rattle.abc_notes.specs.Runs.{maybe, skip, span_all, begins}
-use Rattle.abc_notes.specs.Items.{Inner, Sense, says_note, says_letter, says_name, says_tie, says_nothing, sense, inner_then, IsInner, has_length, inner_at, IsBadByte, sense_of, is_note}
+use Rattle.abc_notes.specs.Items.{Inner, Sense, says_note, says_letter, says_name, says_tie, says_nothing, sense, inner_then, IsInner, has_length, name_at, inner_at, IsBadByte, sense_of, is_note}
 use Rattle.abc_notes.specs.Chords.{ChordForm, chord_then, IsChord, ChordFault, chord_at, senses}
-use Rattle.abc_notes.specs.Parts.{Parts, Flawed, IsFlaw, goes_on_length, walk, is_done}
+use Rattle.abc_notes.specs.Parts.{HasNone, Parts, Leads, Flawed, IsFlaw, goes_on_length, walk, is_done, spelled_then, later_or}
 
 pub data GracePart : Type 0 where
   single : Inner → GracePart
@@ -20,9 +21,12 @@ abbrev pub grace_part_then : GracePart → List ℕ → List ℕ
 grace_part_then (single part) rest = inner_then part rest
 grace_part_then (chorded f) rest = 91 ∷ chord_then f rest
 
+abbrev pub is_in_grace : ℕ → Bool
+is_in_grace byte = not (byte == 125)
+
 abbrev pub IsGracePart : Bool → GracePart → Type 0
 IsGracePart bang (single part) = IsInner bang part
-IsGracePart bang (chorded f) = IsChord bang f
+IsGracePart bang (chorded f) = IsChord bang f × (list_all is_in_grace f.inside ≡ true)
 
 pub record StandsInGrace (bang : Bool) (part : GracePart) (text rest : List ℕ) : Type 0 where
   pub good : IsGracePart bang part
@@ -40,9 +44,6 @@ pub record GraceForm : Type 0 where
   pub inside : List ℕ
   pub parts : List GracePart
 
-abbrev pub is_in_grace : ℕ → Bool
-is_in_grace byte = not (byte == 125)
-
 abbrev pub is_slash_byte : ℕ → Bool
 is_slash_byte byte = byte == 47
 
@@ -51,7 +52,6 @@ abbrev pub grace_then : GraceForm → List ℕ → List ℕ
 grace_then f rest = maybe f.slash 47 (f.inside ++ (125 ∷ rest))
 
 pub record IsGrace (bang : Bool) (f : GraceForm) : Type 0 where
-  pub open_to_the_brace : list_all is_in_grace f.inside ≡ true
   pub parts : GraceParts bang f.inside f.parts
   pub slash_is_read : f.slash ≡ false → begins is_slash_byte f.inside ≡ false
 
@@ -79,19 +79,39 @@ abbrev pub body_of : List GracePart → List GraceChord
 body_of [] = []
 body_of (part ∷ more) = body_of_part part ++ body_of more
 
+abbrev pub StandsChord : Bool → ChordForm → List ℕ → List ℕ → Type 0
+StandsChord bang f text rest = IsChord bang f × (text ≡ chord_then f rest)
+
+-- behind a bracket at which no chord of a group stands: the fault of a chord where none stands at
+-- all, else the chord goes past a closing brace and is not closed before it
+pub data InnerChordFault (bang : Bool) : List ℕ → Flaw → Type 0 where
+  no_chord : (text : List ℕ) (flaw : Flaw) → HasNone ChordForm (StandsChord bang) text → ChordFault bang text flaw → InnerChordFault bang text flaw
+  chord_past_brace : (text : List ℕ) (f : ChordForm) (rest : List ℕ) → StandsChord bang f text rest → InnerChordFault bang text (record { kind = Unclosed; left = suc (length text) })
+
 -- where no part stands: at a bracket the fault of a chord, else the byte
 abbrev pub IsGraceOwn : Bool → List ℕ → Flaw → Type 0
 IsGraceOwn bang [] flaw = ⊥
-IsGraceOwn bang (byte ∷ rest) flaw = MatchBool (byte == 91) (ChordFault bang rest flaw) (IsBadByte (byte ∷ rest) flaw)
+IsGraceOwn bang (byte ∷ rest) flaw = MatchBool (byte == 91) (InnerChordFault bang rest flaw) (IsBadByte (byte ∷ rest) flaw)
 
 abbrev pub GraceFlawed : Bool → Option ℕ → List ℕ → Flaw → Type 0
 GraceFlawed bang before text flaw = Flawed GracePart (StandsInGrace bang) part_has_length (IsGraceOwn bang) before text flaw
 
--- the fault behind an opening brace, where no grace group stands
+-- the parts behind an opening brace and its slash as the line goes on, each as long as it can be
+abbrev pub GraceLeads : Bool → List ℕ → List GracePart → List ℕ → Type 0
+GraceLeads bang text parts rest = Leads GracePart (StandsInGrace bang) text parts rest
+
+-- the slash behind an opening brace, if one stands there
+pub record HasSlash (text : List ℕ) (slash : Bool) (behind : List ℕ) : Type 0 where
+  pub cut : text ≡ maybe slash 47 behind
+  pub is_read : slash ≡ false → begins is_slash_byte behind ≡ false
+
+-- the fault behind an opening brace, where no grace group stands: no closing brace follows, or parts
+-- alone follow up to the end; or the first fault of the parts, which stop at another byte
 pub data GraceFault (bang : Bool) : List ℕ → Flaw → Type 0 where
   grace_unclosed : (text : List ℕ) → list_all is_in_grace text ≡ true → GraceFault bang text (record { kind = Unclosed; left = suc (length text) })
-  grace_flawed : (text : List ℕ) (slash : Bool) (inside rest : List ℕ) (flaw : Flaw) → text ≡ maybe slash 47 (inside ++ (125 ∷ rest)) → (slash ≡ false → begins is_slash_byte inside ≡ false) →
-      list_all is_in_grace inside ≡ true → GraceFlawed bang None inside flaw → GraceFault bang text (record { kind = flaw.kind; left = flaw.left + suc (length rest) })
+  grace_open : (text : List ℕ) (slash : Bool) (behind : List ℕ) (parts : List GracePart) → HasSlash text slash behind → GraceLeads bang behind parts [] → GraceFault bang text (record { kind = Unclosed; left = suc (length text) })
+  grace_flawed : (text : List ℕ) (slash : Bool) (behind : List ℕ) (parts : List GracePart) (byte : ℕ) (rest : List ℕ) (flaw : Flaw) → list_all is_in_grace text ≡ false → HasSlash text slash behind →
+      GraceLeads bang behind parts (byte ∷ rest) → (byte == 125) ≡ false → GraceFlawed bang None behind flaw → GraceFault bang text flaw
 
 -- ---- reading, between these and the code
 
@@ -101,19 +121,51 @@ chorded_read z = (chorded z.0, z.1)
 abbrev pub single_read : Inner × List ℕ → GracePart × List ℕ
 single_read z = (single z.0, z.1)
 
+-- the chord up to the closing brace
+unfoldable pub grace_chord_at : Bool → List ℕ → Option (ChordForm × List ℕ)
+grace_chord_at bang text = let within = span_all is_in_grace text in option_map (λ z. (z.0, z.1 ++ within.1)) (chord_at bang within.0)
+
 unfoldable pub grace_part_at : Bool → List ℕ → Option (GracePart × List ℕ)
 grace_part_at bang [] = None
-grace_part_at bang (byte ∷ rest) = if byte == 91 then option_map chorded_read (chord_at bang rest) else option_map single_read (inner_at bang (byte ∷ rest))
+grace_part_at bang (byte ∷ rest) = if byte == 91 then option_map chorded_read (grace_chord_at bang rest) else option_map single_read (inner_at bang (byte ∷ rest))
 
-abbrev pub grace_of : Bool → List ℕ → List ℕ → List GracePart × List ℕ → Option (GraceForm × List ℕ)
-grace_of slash inside rest w = if is_done w then Some (record { slash = slash; inside = inside; parts = w.0 }, rest) else None
+-- the brace in front closes the group
+abbrev pub brace_here : List ℕ → Option (List ℕ)
+brace_here [] = None
+brace_here (byte ∷ rest) = if byte == 125 then Some (byte ∷ rest) else None
 
-abbrev pub grace_closed : Bool → Bool → List ℕ → List ℕ → Option (GraceForm × List ℕ)
-grace_closed bang slash inside [] = None
-grace_closed bang slash inside (brace ∷ rest) = grace_of slash inside rest (walk (grace_part_at bang) inside)
+-- the first brace in a name, where parts alone stand before it
+abbrev pub brace_in : Bool → List ℕ → Option (List ℕ × List ℕ) → Option (List ℕ)
+brace_in bang text None = None
+brace_in bang text (Some named) =
+    let inside = span_all is_in_grace named.0 in
+    if not (length inside.1 == 0) && is_done (walk (grace_part_at bang) inside.0) then Some (drop (length inside.0) text) else None
+
+-- the brace that closes a group where the exclamation mark in front begins no name
+unfoldable pub brace_in_name : Bool → List ℕ → Option (List ℕ)
+brace_in_name bang [] = None
+brace_in_name bang (byte ∷ rest) = if byte == 33 && not bang then brace_in bang rest (name_at rest) else None
+
+-- the last brace at which a group may end: the one behind all the parts, else one in a name
+abbrev pub last_brace : Bool → List GracePart → List ℕ → Option (List ℕ)
+last_brace bang [] rest = brace_here rest
+last_brace bang (part ∷ more) rest = later_or (last_brace bang more rest) (brace_in_name bang (grace_part_then part (spelled_then grace_part_then more rest)))
+
+unfoldable pub brace_at : Bool → List ℕ → Option (List ℕ)
+brace_at bang text = let w = walk (grace_part_at bang) text in last_brace bang w.0 w.1
+
+abbrev pub grace_from : Bool → Bool → List ℕ → Option (List ℕ) → Option (GraceForm × List ℕ)
+grace_from bang slash text None = None
+grace_from bang slash text (Some []) = None
+grace_from bang slash text (Some (brace ∷ rest)) =
+    let inside = take (length text - suc (length rest)) text in
+    Some (record { slash = slash; inside = inside; parts = (walk (grace_part_at bang) inside).0 }, rest)
 
 unfoldable pub grace_at : Bool → List ℕ → Option (GraceForm × List ℕ)
-grace_at bang text = let slash = skip 47 text in let inside = span_all is_in_grace slash.1 in grace_closed bang slash.0 inside.0 inside.1
+grace_at bang text = let slash = skip 47 text in grace_from bang slash.0 slash.1 (brace_at bang slash.1)
+
+abbrev pub is_brace : ℕ → Bool
+is_brace byte = byte == 125
 
 -- a part as the code reads it: what it gives to the body, and whether it has a length
 abbrev pub bodied : List GraceChord → Bool → List ℕ → List GraceChord × Bool × List ℕ
@@ -153,3 +205,7 @@ item_within (found.Chord inside) most = length inside.now ≤ most
 abbrev pub goes_on_first : List ℕ → Bool
 goes_on_first [] = false
 goes_on_first (byte ∷ rest) = goes_on_length byte
+
+-- a chord of a group as the code reads it
+abbrev pub chord_shown_within : List Sense → List ℕ → List ℕ → List Sense × List ℕ × List ℕ
+chord_shown_within said inside rest = (said, inside, rest)

@@ -19,6 +19,11 @@ pub data Parts (I : Type 0) (Stands : I → List ℕ → List ℕ → Type 0) : 
   no_part : Parts I Stands [] []
   then_part : (text : List ℕ) (part : I) (rest : List ℕ) (more : List I) → IsLongest I Stands text part rest → Parts I Stands rest more → Parts I Stands text (part ∷ more)
 
+-- a text begins with these parts, each as long as it can be, and then comes the rest
+pub data Leads (I : Type 0) (Stands : I → List ℕ → List ℕ → Type 0) : List ℕ → List I → List ℕ → Type 0 where
+  leads_here : (text : List ℕ) → Leads I Stands text [] text
+  leads_on : (text : List ℕ) (part : I) (behind : List ℕ) (more : List I) (rest : List ℕ) → IsLongest I Stands text part behind → Leads I Stands behind more rest → Leads I Stands text (part ∷ more) rest
+
 -- a digit or a slash goes on a length
 abbrev pub goes_on_length : ℕ → Bool
 goes_on_length byte = is_digit byte || byte == 47
@@ -56,3 +61,12 @@ walk at text = walk_from at (length text) text
 
 abbrev pub is_done : {I : Type 0} → List I × List ℕ → Bool
 is_done w = length w.1 == 0
+
+-- the bytes of parts, and what follows them
+abbrev pub spelled_then : {I : Type 0} → (I → List ℕ → List ℕ) → List I → List ℕ → List ℕ
+spelled_then one [] rest = rest
+spelled_then one (part ∷ more) rest = one part (spelled_then one more rest)
+
+abbrev pub later_or : Option (List ℕ) → Option (List ℕ) → Option (List ℕ)
+later_or (Some later) earlier = Some later
+later_or None earlier = earlier

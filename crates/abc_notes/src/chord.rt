@@ -1,14 +1,14 @@
-ghost use Rattle.std.specs.Prelude.{◌≡◌, ◌≤◌, ◌+◌, ◌^◌, ◌++◌, ◌||◌, ◌&&◌, map, ℕ, length, option_map, Some, None, true, false, IfOk, IfSome, OnOk, MatchResult, take, drop};
+ghost use Rattle.std.specs.Prelude.{◌≡◌, ◌≤◌, ◌+◌, ◌^◌, ◌++◌, ◌||◌, ◌&&◌, ◌-◌, not, ◌==◌, map, ℕ, length, option_map, Some, None, true, false, IfOk, IfSome, OnOk, MatchResult, take, drop};
 ghost use Rattle.std.specs.List.{prefix_len};
-ghost use Rattle.abc_notes.specs.Chords.{is_inside, has_head, tied_if, heads_of, decos_of, senses, last_head, tie_last, heads_after, given_head, next_last, deco_of, chord_at, chord_closed, chord_shown, ChordFault};
+ghost use Rattle.abc_notes.specs.Chords.{is_inside, has_head, tied_if, heads_of, decos_of, senses, last_head, tie_last, heads_after, given_head, next_last, deco_of, chord_at, bracket_at, bracket_here, bracket_in, bracket_in_name, is_bracket, chord_shown, ChordFault};
 ghost use Rattle.abc_notes.specs.Graces.{heads_in, plain_head};
-ghost use Rattle.abc_notes.specs.Items.{InnerFlawed, inner_at, inner_flaw, sense, sense_of, is_note};
+ghost use Rattle.abc_notes.specs.Items.{InnerFlawed, inner_at, inner_flaw, name_at, sense, sense_of, is_note};
 ghost use Rattle.abc_notes.specs.Lengths.{len_of};
-ghost use Rattle.abc_notes.specs.Parts.{walk, is_done, goes_on_length, length_at_place};
-ghost use Rattle.abc_notes.specs.Runs.{span_all};
+ghost use Rattle.abc_notes.specs.Parts.{walk, is_done, goes_on_length, length_at_place, later_or};
+ghost use Rattle.abc_notes.specs.Runs.{span_all, begins};
 
 use crate::decoration::{deco_of_letter, deco_of_name};
-use crate::item::item_at;
+use crate::item::{item_at, name_at};
 use crate::length::length_at;
 use crate::part::{Flaw, Item, Len};
 use abc_lines::FaultKind;
@@ -217,36 +217,90 @@ pub struct Chord<'a> {
     pub rest: &'a [u8],
 }
 
-/// The chord behind an opening bracket.
+/// The chord behind an opening bracket, as long as it can be.
 #[tactic(auto, unfolding(crate::specs::Chords::chord_at))]
 pub fn chord_at(bang: bool, bytes: &[u8]) -> Option<Chord<'_>>
     requires { length bytes.now ≤ 2 ^ 30 }
     ensures read { option_map (λ x. chord_shown (senses bang x.inside.now) x.len x.inside.now x.rest.now) result ≡ option_map (λ z. chord_shown (map sense z.0.parts) (len_of z.0.length) z.0.inside z.1) (chord_at bang bytes.now) }
     ensures within { IfSome result (λ x. length x.inside.now ≤ length bytes.now) }
 {
-    let (inside, rest) = bracketed(bytes);
-    chord_closed(bang, inside, rest)
-}
-
-fn chord_closed<'a>(bang: bool, inside: &'a [u8], rest: &'a [u8]) -> Option<Chord<'a>>
-    requires { length inside.now ≤ 2 ^ 30 }
-    ensures read { option_map (λ x. chord_shown (senses bang x.inside.now) x.len x.inside.now x.rest.now) result ≡ option_map (λ z. chord_shown (map sense z.0.parts) (len_of z.0.length) z.0.inside z.1) (chord_closed bang inside.now rest.now) }
-    ensures same { IfSome result (λ x. x.inside.now ≡ inside.now) }
-{
-    let (_, rest) = rest.split_first()?;
-    if !is_good_inside(bang, inside) {
-        return None;
-    }
+    let closing = bracket_at(bang, bytes)?;
+    let (_, rest) = closing.split_first()?;
+    let (inside, _) = bytes.split_at(bytes.len() - closing.len());
     let (len, rest) = length_at(rest);
     Some(Chord { inside, len, rest })
 }
 
-fn is_good_inside(bang: bool, inside: &[u8]) -> bool
+/// The closing bracket of the longest chord behind an opening bracket, and what
+/// follows it.
+fn bracket_at(bang: bool, bytes: &[u8]) -> Option<&[u8]>
+    requires { length bytes.now ≤ 2 ^ 30 }
+    ensures read { option_map (λ x. x.now) result ≡ bracket_at bang bytes.now }
+    ensures within { IfSome result (λ x. length x.now ≤ length bytes.now) }
+{
+    let mut rest = bytes;
+    let mut head = false;
+    let mut last = None;
+    'parts: while let Some((item, behind)) = item_at(bang, rest) {
+        last = later_or(bracket_in_name(bang, head, rest), last);
+        head = either(head, is_note(item));
+        rest = behind;
+    }
+    later_or(bracket_here(head, rest), last)
+}
+
+/// The later one, else the earlier one.
+pub fn later_or<'a>(later: Option<&'a [u8]>, earlier: Option<&'a [u8]>) -> Option<&'a [u8]>
+    ensures { option_map (λ x. x.now) result ≡ later_or (option_map (λ x. x.now) later.entry) (option_map (λ x. x.now) earlier.entry) }
+{
+    match later {
+        Some(_) => later,
+        None => earlier,
+    }
+}
+
+/// The closing bracket in front, where there is a head before it.
+fn bracket_here(head: bool, bytes: &[u8]) -> Option<&[u8]>
+    ensures { option_map (λ x. x.now) result ≡ bracket_here head bytes.now }
+{
+    match bytes.split_first() {
+        Some((byte, _)) if *byte == b']' && head => Some(bytes),
+        _ => None,
+    }
+}
+
+/// The bracket that closes the chord where the exclamation mark in front begins
+/// no name.
+#[tactic(auto, unfolding(crate::specs::Chords::bracket_in_name))]
+fn bracket_in_name(bang: bool, head: bool, bytes: &[u8]) -> Option<&[u8]>
+    requires { length bytes.now ≤ 2 ^ 30 }
+    ensures { option_map (λ x. x.now) result ≡ bracket_in_name bang head bytes.now }
+{
+    match bytes.split_first() {
+        Some((mark, behind)) if *mark == b'!' && !bang => bracket_in(bang, head, behind),
+        _ => None,
+    }
+}
+
+fn bracket_in(bang: bool, head: bool, bytes: &[u8]) -> Option<&[u8]>
+    requires { length bytes.now ≤ 2 ^ 30 }
+    ensures { option_map (λ x. x.now) result ≡ bracket_in bang head bytes.now (name_at bytes.now) }
+{
+    let (name, _) = name_at(bytes)?;
+    let (inside, closing) = bracketed(name);
+    if !closing.is_empty() && is_good_inside(bang, head, inside) {
+        Some(bytes.split_at(inside.len()).1)
+    } else {
+        None
+    }
+}
+
+fn is_good_inside(bang: bool, head: bool, inside: &[u8]) -> bool
     requires { length inside.now ≤ 2 ^ 30 }
-    ensures { let w = walk (inner_at bang) inside.now in result ≡ (is_done w && has_head w.0) }
+    ensures { let w = walk (inner_at bang) inside.now in result ≡ (is_done w && (head || has_head w.0)) }
 {
     match inside_state(bang, inside) {
-        Ok(head) => head,
+        Ok(note) => head || note,
         Err(_) => false,
     }
 }
@@ -258,21 +312,42 @@ pub fn chord_fault(bang: bool, bytes: &[u8]) -> Flaw
     ensures fault { ChordFault bang bytes.now result }
     ensures within { result.left ≤ length bytes.now + 1 }
 {
-    let (inside, rest) = bracketed(bytes);
-    let Some((_, rest)) = rest.split_first() else {
+    if bracketed(bytes).1.is_empty() {
         return Flaw {
             kind: FaultKind::Unclosed,
             left: bytes.len() + 1,
         };
-    };
-    match inside_state(bang, inside) {
-        Err(flaw) => Flaw {
-            kind: flaw.kind,
-            left: flaw.left + (rest.len() + 1),
-        },
+    }
+    match inside_state(bang, bytes) {
         Ok(_) => Flaw {
+            kind: FaultKind::Unclosed,
+            left: bytes.len() + 1,
+        },
+        Err(_) if begins_with_bracket(behind_parts(bang, bytes)) => Flaw {
             kind: FaultKind::BadByte,
             left: bytes.len() + 1,
         },
+        Err(flaw) => flaw,
     }
+}
+
+fn begins_with_bracket(bytes: &[u8]) -> bool
+    ensures { result ≡ begins is_bracket bytes.now }
+{
+    match bytes.split_first() {
+        Some((byte, _)) => *byte == b']',
+        None => false,
+    }
+}
+
+/// What is left of the line where the parts of a chord end.
+fn behind_parts(bang: bool, bytes: &[u8]) -> &[u8]
+    requires { length bytes.now ≤ 2 ^ 30 }
+    ensures { result.now ≡ (walk (inner_at bang) bytes.now).1 }
+{
+    let mut rest = bytes;
+    'parts: while let Some((_, behind)) = item_at(bang, rest) {
+        rest = behind;
+    }
+    rest
 }

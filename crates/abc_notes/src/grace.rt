@@ -1,13 +1,14 @@
-ghost use Rattle.std.specs.Prelude.{◌≡◌, ◌≢◌, ◌≤◌, ◌<◌, ◌+◌, ◌^◌, ◌++◌, [], length, option_map, map, None, true, false, IfOk, OnOk, IfSome, MatchOption};
+ghost use Rattle.std.specs.Prelude.{◌≡◌, ◌≢◌, ◌≤◌, ◌<◌, ◌+◌, ◌-◌, ◌^◌, ◌++◌, ◌&&◌, ◌==◌, not, take, drop, [], length, option_map, map, None, true, false, IfOk, OnOk, IfSome, MatchOption};
 ghost use Rattle.std.specs.List.{prefix_len};
-ghost use Rattle.abc_notes.specs.Graces.{body_of_part, body_of_sense, body_of, part_has_length, IsGraceOwn, IsPartFlaw, GraceFlawed, GraceFault, is_in_grace, grace_part_at, grace_closed, grace_at, bodied, body_of_item, item_has_length, body_inside, grace_shown, item_within, goes_on_first};
-ghost use Rattle.abc_notes.specs.Items.{sense_of};
-ghost use Rattle.abc_notes.specs.Parts.{walk, is_done};
+ghost use Rattle.abc_notes.specs.Graces.{body_of_part, body_of_sense, body_of, part_has_length, IsGraceOwn, IsPartFlaw, GraceFlawed, GraceFault, is_in_grace, InnerChordFault, grace_chord_at, grace_part_at, brace_here, brace_in, brace_in_name, brace_at, grace_at, chord_shown_within, bodied, body_of_item, item_has_length, body_inside, grace_shown, item_within, goes_on_first};
+ghost use Rattle.abc_notes.specs.Items.{sense_of, sense, name_at};
+ghost use Rattle.abc_notes.specs.Chords.{chord_at, senses};
+ghost use Rattle.abc_notes.specs.Parts.{walk, is_done, later_or};
 ghost use Rattle.abc_notes.specs.Runs.{span_all};
 
 use crate::bytes::skip;
-use crate::chord::{chord_at, chord_fault, goes_on_length, place_if, read_plain_heads};
-use crate::item::item_at;
+use crate::chord::{chord_at, chord_fault, goes_on_length, later_or, place_if, read_plain_heads};
+use crate::item::{item_at, name_at};
 use crate::part::{Flaw, GraceChord, GraceItem, Item};
 use abc_lines::FaultKind;
 use mus_units::{Memory, Row};
@@ -23,12 +24,37 @@ pub fn grace_part_at(bang: bool, bytes: &[u8]) -> Option<(GraceItem<'_>, &[u8])>
 {
     let (first, rest) = bytes.split_first()?;
     if *first == b'[' {
-        let chord = chord_at(bang, rest)?;
-        Some((GraceItem::Chord(chord.inside), chord.rest))
+        let (inside, rest) = grace_chord_at(bang, rest)?;
+        Some((GraceItem::Chord(inside), rest))
     } else {
         let (item, rest) = item_at(bang, bytes)?;
         Some((GraceItem::Part(item), rest))
     }
+}
+
+/// The text of the chord up to the closing brace, behind an opening bracket, and
+/// what follows the chord. Most chords hold no brace, and are read but once.
+fn grace_chord_at(bang: bool, bytes: &[u8]) -> Option<(&[u8], &[u8])>
+    requires { length bytes.now ≤ 2 ^ 30 }
+    ensures read { option_map (λ x. chord_shown_within (senses bang x.0.now) x.0.now x.1.now) result ≡ option_map (λ z. chord_shown_within (map sense z.0.parts) z.0.inside z.1) (grace_chord_at bang bytes.now) }
+    ensures within { IfSome result (λ x. length x.0.now ≤ length bytes.now) }
+{
+    let chord = chord_at(bang, bytes)?;
+    if braced(chord.inside).1.is_empty() {
+        return Some((chord.inside, chord.rest));
+    }
+    chord_within(bang, bytes)
+}
+
+fn chord_within(bang: bool, bytes: &[u8]) -> Option<(&[u8], &[u8])>
+    requires { length bytes.now ≤ 2 ^ 30 }
+    ensures read { option_map (λ x. chord_shown_within (senses bang x.0.now) x.0.now x.1.now) result ≡ option_map (λ z. chord_shown_within (map sense z.0.parts) z.0.inside z.1) (grace_chord_at bang bytes.now) }
+    ensures within { IfSome result (λ x. length x.0.now ≤ length bytes.now) }
+{
+    let (within, _) = braced(bytes);
+    let chord = chord_at(bang, within)?;
+    let (_, rest) = bytes.split_at(within.len() - chord.rest.len());
+    Some((chord.inside, rest))
 }
 
 /// The first fault of the inside of a grace group, if it has one.
@@ -93,11 +119,26 @@ fn own_flaw(bang: bool, bytes: &[u8]) -> Flaw
     ensures within { result.left ≤ length bytes.now }
 {
     match bytes.split_first() {
-        Some((byte, rest)) if *byte == b'[' => chord_fault(bang, rest),
+        Some((byte, rest)) if *byte == b'[' => inner_chord_fault(bang, rest),
         _ => Flaw {
             kind: FaultKind::BadByte,
             left: bytes.len(),
         },
+    }
+}
+
+/// The fault behind a bracket at which no chord of a group stands.
+fn inner_chord_fault(bang: bool, bytes: &[u8]) -> Flaw
+    requires small { length bytes.now ≤ 2 ^ 30 }
+    ensures fault { InnerChordFault bang bytes.now result }
+    ensures within { result.left ≤ length bytes.now + 1 }
+{
+    match chord_at(bang, bytes) {
+        Some(_) => Flaw {
+            kind: FaultKind::Unclosed,
+            left: bytes.len() + 1,
+        },
+        None => chord_fault(bang, bytes),
     }
 }
 
@@ -117,25 +158,67 @@ pub fn grace_at(bang: bool, bytes: &[u8]) -> Option<Grace<'_>>
     ensures read { option_map (λ x. grace_shown x.slash (body_inside bang x.inside.now) x.inside.now x.rest.now) result ≡ option_map (λ z. grace_shown z.0.slash (body_of z.0.parts) z.0.inside z.1) (grace_at bang bytes.now) }
     ensures within { IfSome result (λ x. length x.inside.now ≤ length bytes.now) }
 {
-    let (slash, rest) = skip(b'/', bytes);
-    let (inside, rest) = braced(rest);
-    grace_closed(bang, slash, inside, rest)
-}
-
-fn grace_closed<'a>(bang: bool, slash: bool, inside: &'a [u8], rest: &'a [u8]) -> Option<Grace<'a>>
-    requires { length inside.now ≤ 2 ^ 30 }
-    ensures read { option_map (λ x. grace_shown x.slash (body_inside bang x.inside.now) x.inside.now x.rest.now) result ≡ option_map (λ z. grace_shown z.0.slash (body_of z.0.parts) z.0.inside z.1) (grace_closed bang slash inside.now rest.now) }
-    ensures same { IfSome result (λ x. x.inside.now ≡ inside.now) }
-{
-    let (_, rest) = rest.split_first()?;
-    if !is_good_inside(bang, inside) {
-        return None;
-    }
+    let (slash, behind) = skip(b'/', bytes);
+    let closing = brace_at(bang, behind)?;
+    let (_, rest) = closing.split_first()?;
+    let (inside, _) = behind.split_at(behind.len() - closing.len());
     Some(Grace {
         slash,
         inside,
         rest,
     })
+}
+
+/// The closing brace of the longest grace group whose parts begin here, and what
+/// follows it.
+fn brace_at(bang: bool, bytes: &[u8]) -> Option<&[u8]>
+    requires { length bytes.now ≤ 2 ^ 30 }
+    ensures read { option_map (λ x. x.now) result ≡ brace_at bang bytes.now }
+    ensures within { IfSome result (λ x. length x.now ≤ length bytes.now) }
+{
+    let mut rest = bytes;
+    let mut last = None;
+    'parts: while let Some((_, behind)) = grace_part_at(bang, rest) {
+        last = later_or(brace_in_name(bang, rest), last);
+        rest = behind;
+    }
+    later_or(brace_here(rest), last)
+}
+
+/// The closing brace in front.
+fn brace_here(bytes: &[u8]) -> Option<&[u8]>
+    ensures { option_map (λ x. x.now) result ≡ brace_here bytes.now }
+{
+    match bytes.split_first() {
+        Some((byte, _)) if *byte == b'}' => Some(bytes),
+        _ => None,
+    }
+}
+
+/// The brace that closes the group where the exclamation mark in front begins no
+/// name.
+#[tactic(auto, unfolding(crate::specs::Graces::brace_in_name))]
+fn brace_in_name(bang: bool, bytes: &[u8]) -> Option<&[u8]>
+    requires { length bytes.now ≤ 2 ^ 30 }
+    ensures { option_map (λ x. x.now) result ≡ brace_in_name bang bytes.now }
+{
+    match bytes.split_first() {
+        Some((mark, behind)) if *mark == b'!' && !bang => brace_in(bang, behind),
+        _ => None,
+    }
+}
+
+fn brace_in(bang: bool, bytes: &[u8]) -> Option<&[u8]>
+    requires { length bytes.now ≤ 2 ^ 30 }
+    ensures { option_map (λ x. x.now) result ≡ brace_in bang bytes.now (name_at bytes.now) }
+{
+    let (name, _) = name_at(bytes)?;
+    let (inside, closing) = braced(name);
+    if !closing.is_empty() && is_good_inside(bang, inside) {
+        Some(bytes.split_at(inside.len()).1)
+    } else {
+        None
+    }
 }
 
 fn is_good_inside(bang: bool, inside: &[u8]) -> bool
@@ -172,21 +255,17 @@ pub fn grace_fault(bang: bool, bytes: &[u8]) -> Flaw
     ensures fault { GraceFault bang bytes.now result }
     ensures within { result.left ≤ length bytes.now + 1 }
 {
-    let (slash, behind) = skip(b'/', bytes);
-    let (inside, rest) = braced(behind);
-    let Some((_, rest)) = rest.split_first() else {
+    if braced(bytes).1.is_empty() {
         return Flaw {
             kind: FaultKind::Unclosed,
             left: bytes.len() + 1,
         };
-    };
-    match grace_state(bang, inside) {
-        Some(flaw) => Flaw {
-            kind: flaw.kind,
-            left: flaw.left + (rest.len() + 1),
-        },
+    }
+    let (_, behind) = skip(b'/', bytes);
+    match grace_state(bang, behind) {
+        Some(flaw) => flaw,
         None => Flaw {
-            kind: FaultKind::BadByte,
+            kind: FaultKind::Unclosed,
             left: bytes.len() + 1,
         },
     }

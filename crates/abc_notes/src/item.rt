@@ -1,4 +1,4 @@
-ghost use Rattle.std.specs.Prelude.{◌≡◌, ◌≤◌, ◌^◌, length, option_map, Some};
+ghost use Rattle.std.specs.Prelude.{◌≡◌, ◌≤◌, ◌^◌, length, option_map, Some, IfSome};
 ghost use Rattle.abc_notes.specs.Decorations.{is_deco_letter, is_name_byte};
 ghost use Rattle.abc_notes.specs.Items.{is_passed_inside, is_note_byte, item_class, name_at, closed_name, inner_at, sense, sense_of, sensed, dot_inside, named_or};
 ghost use Rattle.abc_notes.specs.Runs.{span_all, is_note_letter};
@@ -58,14 +58,16 @@ fn named_or(bytes: &[u8]) -> (Item<'_>, &[u8])
 /// A name and the exclamation mark behind it, and what follows.
 #[tactic(auto, unfolding(crate::specs::Items::name_at, crate::specs::Runs::span_all))]
 pub fn name_at(bytes: &[u8]) -> Option<(&[u8], &[u8])>
-    ensures { option_map (λ x. (x.0.now, x.1.now)) result ≡ name_at bytes.now }
+    ensures read { option_map (λ x. (x.0.now, x.1.now)) result ≡ name_at bytes.now }
+    ensures within { IfSome result (λ x. length x.0.now ≤ length bytes.now) }
 {
     let (name, rest) = bytes.split_at(name_len(bytes));
     closed_name(name, rest)
 }
 
 fn closed_name<'a>(name: &'a [u8], rest: &'a [u8]) -> Option<(&'a [u8], &'a [u8])>
-    ensures { option_map (λ x. (x.0.now, x.1.now)) result ≡ closed_name name.now rest.now }
+    ensures read { option_map (λ x. (x.0.now, x.1.now)) result ≡ closed_name name.now rest.now }
+    ensures same { IfSome result (λ x. x.0.now ≡ name.now) }
 {
     name.split_first()?;
     let (mark, rest) = rest.split_first()?;

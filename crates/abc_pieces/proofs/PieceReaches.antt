@@ -24,7 +24,7 @@ use Rattle.abc_notes.proofs.NoteLaws.{note_at-reaches}
 use Rattle.abc_notes.proofs.ItemLaws.{name_at-takes, name_at-reads}
 use Rattle.abc_notes.proofs.InnerLaws.{length-copies_then, length-maybe, length-length_then, note-longer}
 use Rattle.abc_notes.proofs.ChordLaws.{chord_at-reaches, chord-longer}
-use Rattle.abc_notes.proofs.GraceLaws.{grace-reads, grace-longer}
+use Rattle.abc_notes.proofs.GraceLaws.{grace_at-reaches, grace-longer}
 use Rattle.abc_pieces.proofs.TupletLaws.{TakesTuplet, tuplet_at-takes, tuplet_at-reaches, tuplet-longer}
 use Rattle.abc_pieces.specs.declared.token.Before.{Before}
 use Rattle.abc_pieces.specs.declared.token.Class.{Class}
@@ -116,7 +116,14 @@ chord-reaches bang f x good =
 
 grace-reaches : (bang : Bool) (f : GraceForm) (x : List ℕ) → IsGrace bang f → Reaches x (grace_form f) (grace_read bang (grace_then f x))
 unfolding grace_read
-grace-reaches bang f x good = record { form = grace_form f; rest = x; is = ap (option_map (λ (z : GraceForm × List ℕ). pair (grace_form z.0) z.1)) (grace-reads bang f x good); ends = inr refl }
+grace-reaches bang f x good =
+    let r = grace_at-reaches bang f x good in
+    record {
+      form = grace_form r.0.0;
+      rest = r.0.1;
+      is = ap (option_map (λ (z : GraceForm × List ℕ). pair (grace_form z.0) z.1)) r.1;
+      ends = elim r.2 [ inl shorter ↦ inl shorter | inr equal ↦ inr (ap (λ z. read (grace_form z.0) z.1) equal) ];
+    }
 
 tuplet-reaches : (f : TupletForm) (x : List ℕ) → IsTuplet f → Reaches x (tuplet_form f) (tuplet_read (tuplet_then f x))
 unfolding tuplet_read

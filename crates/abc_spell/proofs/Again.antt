@@ -37,7 +37,7 @@ use Rattle.abc_spell.proofs.Numbers.{digit_from, digits_again, count_again, is_c
 use Rattle.abc_spell.proofs.Bars.{plain_bar, same_bar}
 use Rattle.abc_spell.proofs.Names.{GoodDeco, letter_good, name_good}
 use Rattle.abc_spell.proofs.Exact.{Stops, at_end, at_quote, IsExact, note_piece, rest_piece, measures_piece, tuplet_piece, slur_piece, close_piece, tie_piece, cut_piece, broken_piece, bar_piece, ending_piece, named_piece, says_piece, inline_piece, space_piece, chord_piece, grace_piece}
-use Rattle.abc_spell.proofs.Groups.{plain_chord, chord_spell, chord_heads, chord_decos, chord_good, chord_opens, heads_from, decos_from, some_heads, plain_grace, grace_spell, body_means, grace_good, body_from}
+use Rattle.abc_spell.proofs.Groups.{plain_chord, chord_spell, chord_heads, chord_decos, chord_good, chord_whole, chord_opens, heads_from, decos_from, some_heads, plain_grace, grace_spell, body_means, grace_good, body_whole, body_from}
 
 -- a piece that is the plain spelling of the token, and is read as itself
 pub record IsPlain (t : Token) : Type 0 where
@@ -87,7 +87,7 @@ chord_plain bang f good =
     let ds = decos_of (map sense f.parts) in
     let len = len_of f.length in
     let heads = heads_from bang f.inside f.parts good.0.parts in
-    let decos = decos_from bang f.inside f.parts good.0.parts good.0.open_to_the_bracket in
+    let decos = decos_from bang f.inside f.parts good.0.parts in
     let l = len_again f.length good.0.length in
     let some = some_heads f.parts good.0.head in
     let plain = plain_chord hs ds len in
@@ -97,7 +97,7 @@ chord_plain bang f good =
           ∙ ap (λ (list : List Deco). Some (token.Chord hs list (len_of (len_form len)))) (chord_decos hs ds decos)
           ∙ ap (λ (k : Len). Some (token.Chord hs ds k)) l.means;
       spells = λ x. ap (λ s. 91 ∷ s) (chord_spell hs ds (93 ∷ len_then len x));
-      exact = λ x h. chord_piece plain x (chord_good hs ds len some heads decos l) (chord_opens hs ds len some heads) h;
+      exact = λ x h. chord_piece plain x (chord_good hs ds len some heads decos l) (chord_whole hs ds) (chord_opens hs ds len some heads) h;
     }
 
 grace_plain : (bang : Bool) (f : GraceForm) → IsGood bang (grace_form f) → IsPlain (token.Grace f.slash (body_of f.parts))
@@ -108,7 +108,7 @@ grace_plain bang f good =
       form = grace_form (plain_grace f.slash body);
       means = ap (λ (list : List GraceChord). Some (token.Grace f.slash list)) (body_means body b);
       spells = λ x. ap (λ s. 123 ∷ maybe f.slash 47 s) (grace_spell body (125 ∷ x) b);
-      exact = λ x h. grace_piece (plain_grace f.slash body) x (grace_good f.slash body b);
+      exact = λ x h. grace_piece (plain_grace f.slash body) x (grace_good f.slash body b) (body_whole body b);
     }
 
 tuplet_digit : (p : ℕ) → is_tuplet_digit p ≡ true → (50 ≤ p) × (p ≤ 57)
@@ -182,7 +182,7 @@ plain_of bang (tie_form dotted) good = record { form = tie_form false; means = r
 plain_of bang (broken_form right count) good = record { form = broken_form right count; means = refl; spells = λ x. refl; exact = λ x h. broken_piece right count x good.0 good.1 h }
 plain_of bang (bar_form f) good = bar_plain f good
 plain_of bang (ending_form bracket d more) good = record { form = ending_form true d more; means = refl; spells = λ x. refl; exact = λ x h. ending_piece d more x good.0 good.1 h }
-plain_of bang (letter_form b) good = deco_plain (deco_of_letter b) (letter_good b).0
+plain_of bang (letter_form b) good = deco_plain (deco_of_letter b) (letter_good b)
 plain_of bang (named_form name) good = deco_plain (deco_of_name name) (name_good name good.1)
 plain_of bang (says_form text) good = record { form = says_form text; means = refl; spells = λ x. refl; exact = λ x h. says_piece text x good }
 plain_of bang (inline_form letter text) good = inline_plain letter text good

@@ -23,7 +23,8 @@ use Rattle.abc_notes.proofs.InnerLaws.{inner_reader}
 use Rattle.abc_notes.proofs.PartLaws.{walk_of_parts}
 use Rattle.abc_notes.specs.Chords.{ChordForm, chord_then, is_inside, IsChord, chord_at}
 use Rattle.abc_notes.specs.Graces.{GraceForm, IsGrace, is_slash_byte}
-use Rattle.abc_notes.proofs.GraceLaws.{grace-reads}
+use Rattle.abc_notes.proofs.GraceLaws.{grace-reads, has_lone_part}
+use Rattle.abc_notes.proofs.ChordLaws.{chord-reads, has_lone}
 use Rattle.abc_pieces.specs.Tuplets.{with_r, tuplet_then, tuplet_at, IsTuplet}
 use Rattle.abc_pieces.proofs.Classes.{digit_below, letter_apart}
 use Rattle.abc_pieces.proofs.PieceTakes.{opening-behind}
@@ -256,25 +257,20 @@ space_piece x h = rw (span_all-stops is_blank x (stop is_blank x refl h)) refl
 abbrev chord_pair : ChordForm → List ℕ → ChordForm × List ℕ
 chord_pair f x = (f, x)
 
-pub chord_exact : (f : ChordForm) (x : List ℕ) → IsChord false f → begins goes_on x ≡ false → chord_at false (chord_then f x) ≡ Some (chord_pair f x)
-unfolding chord_at
-chord_exact f x good h =
-    let t = 93 ∷ length_then f.length x in
-    let cut : span_all is_inside (f.inside ++ t) ≡ (f.inside ++ [], t) = span_all-append is_inside f.inside t good.open_to_the_bracket ∙ rw (span_all-stops is_inside t refl) refl in
-    let read = walk_of_parts (inner_reader false) f.inside f.parts good.parts in
-    rw (cut, append-nil, read, good.head, len_exact f.length x good.length h) refl
+pub chord_exact : (f : ChordForm) (x : List ℕ) → IsChord false f → has_lone f.parts ≡ false → begins goes_on x ≡ false → chord_at false (chord_then f x) ≡ Some (chord_pair f x)
+chord_exact f x good whole h = chord-reads false f x good whole ∙ rw (len_exact f.length x good.length h) refl
 
-chord_is_read : (f : ChordForm) (x : List ℕ) → IsChord false f → Stops x → chord_read false (chord_then f x) ≡ read (chord_form f) x
+chord_is_read : (f : ChordForm) (x : List ℕ) → IsChord false f → has_lone f.parts ≡ false → Stops x → chord_read false (chord_then f x) ≡ read (chord_form f) x
 unfolding chord_read
-chord_is_read f x good h = ap (option_map (λ (z : ChordForm × List ℕ). form_pair (chord_form z.0) z.1)) (chord_exact f x good (stop goes_on x refl h))
+chord_is_read f x good whole h = ap (option_map (λ (z : ChordForm × List ℕ). form_pair (chord_form z.0) z.1)) (chord_exact f x good whole (stop goes_on x refl h))
 
 opened_chord : (f : ChordForm) (x : List ℕ) → opening (chord_then f []) ≡ opens.Chord → opened (opening (chord_then f x)) false (chord_then f x) ≡ chord_read false (chord_then f x)
 opened_chord f x h = let e : opening (chord_then f x) ≡ opens.Chord = opening-behind f.inside (length_then f.length x) (length_then f.length []) ∙ h in rw e refl
 
-pub chord_piece : (f : ChordForm) (x : List ℕ) → IsChord false f → opening (chord_then f []) ≡ opens.Chord → Stops x → IsExact (chord_form f) x
+pub chord_piece : (f : ChordForm) (x : List ℕ) → IsChord false f → has_lone f.parts ≡ false → opening (chord_then f []) ≡ opens.Chord → Stops x → IsExact (chord_form f) x
 unfolding piece_at class_of
-chord_piece f x good o h = opened_chord f x o ∙ chord_is_read f x good h
+chord_piece f x good whole o h = opened_chord f x o ∙ chord_is_read f x good whole h
 
-pub grace_piece : (f : GraceForm) (x : List ℕ) → IsGrace false f → IsExact (grace_form f) x
+pub grace_piece : (f : GraceForm) (x : List ℕ) → IsGrace false f → has_lone_part f.parts ≡ false → IsExact (grace_form f) x
 unfolding piece_at class_of grace_read
-grace_piece f x good = ap (option_map (λ (z : GraceForm × List ℕ). form_pair (grace_form z.0) z.1)) (grace-reads false f x good)
+grace_piece f x good whole = ap (option_map (λ (z : GraceForm × List ℕ). form_pair (grace_form z.0) z.1)) (grace-reads false f x good whole)

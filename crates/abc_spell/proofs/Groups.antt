@@ -14,7 +14,7 @@ use Rattle.mus_units.specs.declared.pitch.Letter.TheVariants.{C, D, E, F, G, A, 
 use Rattle.abc_notes.specs.declared.part.GraceChord.{GraceChord}
 use Rattle.abc_notes.specs.declared.part.Len.{Len}
 use Rattle.abc_pieces.specs.declared.token.Opening.TheVariants as opens
-use Rattle.abc_notes.specs.Runs.{copies, maybe, begins, is_digit, is_mark}
+use Rattle.abc_notes.specs.Runs.{copies, maybe, begins, is_digit, is_mark, span_all}
 use Rattle.abc_notes.specs.Lengths.{LengthForm, whole, over, halved, length_then, len_of}
 use Rattle.abc_notes.proofs.LengthLaws.{goes_on, count-digits}
 use Rattle.abc_notes.specs.Notes.{NoteForm, note_then, sign_then, letter_byte, IsNote, head_of, note_at}
@@ -27,11 +27,13 @@ use Rattle.abc_notes.proofs.Bounds.{digit_range}
 use Rattle.abc_notes.specs.Parts.{no_part, then_part}
 use Rattle.abc_notes.specs.Chords.{ChordForm, chord_then, is_inside, has_head, IsChord, is_tied, tied_if, heads_of, decos_of}
 use Rattle.abc_notes.specs.Graces.{GracePart, single, chorded, grace_part_then, IsGracePart, GraceParts, GraceForm, is_in_grace, is_slash_byte, IsGrace, heads_in, body_of, grace_part_at, single_read, chorded_read}
-use Rattle.abc_notes.proofs.GraceLaws.{part_reader}
+use Rattle.abc_notes.proofs.GraceLaws.{part_reader, chord_with_rest, at_bracket, within-is, lone_part_is, has_lone_part}
+use Rattle.abc_notes.proofs.ChordLaws.{has_lone}
+use Rattle.abc_notes.proofs.SpanLaws.{span_all-takes}
 use Rattle.abc_pieces.specs.Forms.{opening}
 use Rattle.abc_spell.specs.Plain.{all_then, len_then, marks_of, is_small, head_then, chord_head_then, name_of, deco_then, heads_then, grace_chord_then}
 use Rattle.abc_spell.proofs.Numbers.{GoodLen, len_form, len_again, head_form, head_good, head_means, good_marks}
-use Rattle.abc_spell.proofs.Names.{InChord, letter_good, name_in_chord}
+use Rattle.abc_spell.proofs.Names.{GoodDeco, letter_good, name_good}
 use Rattle.abc_spell.proofs.Exact.{First, first_is, note_exact, chord_exact}
 
 -- ---- lists of bytes that pass
@@ -43,18 +45,12 @@ wider p q (b ∷ s) k h = let r = and_parts (p b) (list_all p s) h in and_from (
 all_join : (q : ℕ → Bool) (a x : List ℕ) → list_all q a ≡ true → list_all q x ≡ true → list_all q (a ++ x) ≡ true
 all_join q a x h k = list_all-append q a x ∙ and_from (list_all q a) (list_all q x) h k
 
-all_parts : (q : ℕ → Bool) (a x : List ℕ) → list_all q (a ++ x) ≡ true → (list_all q a ≡ true) × (list_all q x ≡ true)
-all_parts q a x h = and_parts (list_all q a) (list_all q x) (sym (list_all-append q a x) ∙ h)
-
 -- a byte that closes no chord and no grace group
 abbrev free : ℕ → Bool
 free b = not (eqb b 93) && not (eqb b 125)
 
 abbrev Wide : (ℕ → Bool) → Type 0
 Wide q = (b : ℕ) → free b ≡ true → q b ≡ true
-
-inside_wide : Wide is_inside
-inside_wide b h = (and_parts (not (eqb b 93)) (not (eqb b 125)) h).0
 
 grace_wide : Wide is_in_grace
 grace_wide b h = (and_parts (not (eqb b 93)) (not (eqb b 125)) h).1
@@ -95,55 +91,6 @@ head_all q wide head x h =
     let b = letter_byte (is_small o) head.pitch.letter in
     let marks = wider is_mark q (marks_of o) (λ c k. wide c (mark_free c k)) (good_marks o) in
     sign_all q wide head.sign (b ∷ (marks_of o ++ x)) (and_from (q b) (list_all q (marks_of o ++ x)) (wide b (letter_free (is_small o) head.pitch.letter)) (all_join q (marks_of o) x marks h))
-
-digits_all : (q : ℕ → Bool) → Wide q → (ds : List ℕ) → list_all is_digit ds ≡ true → list_all q ds ≡ true
-digits_all q wide ds h = wider is_digit q ds (λ b k. wide b (digit_free b k)) h
-
-len_all : (q : ℕ → Bool) → Wide q → (len : Len) (x : List ℕ) → GoodLen len → list_all q x ≡ true → list_all q (len_then len x) ≡ true
-len_all q wide len x good h =
-    let below = all_join q (decimal len.den) x (digits_all q wide (decimal len.den) good.good.1.digits) h in
-    all_join q (decimal len.num) (47 ∷ (decimal len.den ++ x)) (digits_all q wide (decimal len.num) (count-digits 4 (decimal len.num) good.good.0)) (and_from (q 47) (list_all q (decimal len.den ++ x)) (wide 47 refl) below)
-
-maybe_all : (q : ℕ → Bool) → Wide q → (b : Bool) (x : List ℕ) → list_all q x ≡ true → list_all q (maybe b 45 x) ≡ true
-maybe_all q wide true x h = and_from (q 45) (list_all q x) (wide 45 refl) h
-maybe_all q wide false x h = h
-
--- what stands behind a part passes where all does
-sign_rest : (q : ℕ → Bool) (sign : Option Alter) (x : List ℕ) → list_all q (sign_then sign x) ≡ true → list_all q x ≡ true
-sign_rest q None x h = h
-sign_rest q (Some Sharp2) x h = (and_parts (q 94) (list_all q x) (and_parts (q 94) _ h).1).1
-sign_rest q (Some Sharp) x h = (and_parts (q 94) (list_all q x) h).1
-sign_rest q (Some Flat2) x h = (and_parts (q 95) (list_all q x) (and_parts (q 95) _ h).1).1
-sign_rest q (Some Flat) x h = (and_parts (q 95) (list_all q x) h).1
-sign_rest q (Some Natural) x h = (and_parts (q 61) (list_all q x) h).1
-
-copies_rest : (q : ℕ → Bool) (n b : ℕ) (x : List ℕ) → list_all q (copies n b x) ≡ true → list_all q x ≡ true
-copies_rest q zero b x h = h
-copies_rest q (suc n) b x h = copies_rest q n b x (and_parts (q b) (list_all q (copies n b x)) h).1
-
-length_rest : (q : ℕ → Bool) (f : LengthForm) (x : List ℕ) → list_all q (length_then f x) ≡ true → list_all q x ≡ true
-length_rest q (whole c) x h = (all_parts q c x h).1
-length_rest q (over c b) x h = (all_parts q b x (and_parts (q 47) (list_all q (b ++ x)) (all_parts q c (47 ∷ (b ++ x)) h).1).1).1
-length_rest q (halved c k) x h = copies_rest q k 47 x (all_parts q c (copies k 47 x) h).1
-
-maybe_rest : (q : ℕ → Bool) (d : Bool) (b : ℕ) (x : List ℕ) → list_all q (maybe d b x) ≡ true → list_all q x ≡ true
-maybe_rest q true b x h = (and_parts (q b) (list_all q x) h).1
-maybe_rest q false b x h = h
-
-tail_passes : (q : ℕ → Bool) (b : ℕ) (x : List ℕ) → list_all q (b ∷ x) ≡ true → list_all q x ≡ true
-tail_passes q b x h = (and_parts (q b) (list_all q x) h).1
-
-inner_rest : (q : ℕ → Bool) (f : Inner) (x : List ℕ) → list_all q (inner_then f x) ≡ true → list_all q x ≡ true
-inner_rest q (note_inside f) x h =
-    let b = letter_byte f.low f.letter in
-    let t = length_then f.length x in
-    length_rest q f.length x (all_parts q f.marks t (tail_passes q b (f.marks ++ t) (sign_rest q f.sign (b ∷ (f.marks ++ t)) h))).1
-inner_rest q (letter_inside b) x h = tail_passes q b x h
-inner_rest q (named_inside name) x h = tail_passes q 33 x (all_parts q name (33 ∷ x) (tail_passes q 33 (name ++ (33 ∷ x)) h)).1
-inner_rest q (tie_inside d) x h = tail_passes q 45 x (maybe_rest q d 46 (45 ∷ x) h)
-inner_rest q slur_inside x h = tail_passes q 40 x (tail_passes q 46 (40 ∷ x) h)
-inner_rest q (passed_inside b) x h = tail_passes q b x h
-inner_rest q lone_inside x h = tail_passes q 33 x h
 
 -- ---- spelling in front of more
 
@@ -217,7 +164,7 @@ GoodHeads (h ∷ hs) = GoodLen h.1 × GoodHeads hs
 
 abbrev pub GoodDecos : List Deco → Type 0
 GoodDecos [] = Unit {0}
-GoodDecos (d ∷ ds) = InChord d × GoodDecos ds
+GoodDecos (d ∷ ds) = GoodDeco d × GoodDecos ds
 
 -- spelling
 tied_spell : (b : Bool) (ps : List Inner) (x : List ℕ) → all_then inner_then (tied_parts b ps) x ≡ maybe b 45 (all_then inner_then ps x)
@@ -281,7 +228,7 @@ no_decos (h ∷ hs) = decos_tied h.0.tied (head_parts hs) ∙ no_decos hs
 decos_mean : (ds : List Deco) (ps : List Inner) → GoodDecos ds → decos_of (map sense ps) ≡ [] → decos_of (map sense (deco_parts ds ps)) ≡ ds
 decos_mean [] ps good none = none
 decos_mean (d ∷ ds) ps good none =
-    ap (λ (e : Deco). e ∷ decos_of (map sense (deco_parts ds ps))) good.0.0.means ∙ ap (λ (list : List Deco). d ∷ list) (decos_mean ds ps good.1 none)
+    ap (λ (e : Deco). e ∷ decos_of (map sense (deco_parts ds ps))) good.0.means ∙ ap (λ (list : List Deco). d ∷ list) (decos_mean ds ps good.1 none)
 
 pub chord_heads : (hs : List (Head × Len)) (ds : List Deco) → GoodHeads hs → heads_of (map sense (deco_parts ds (head_parts hs))) ≡ hs
 chord_heads hs ds good = heads_behind ds (head_parts hs) ∙ heads_mean hs good
@@ -347,24 +294,26 @@ decos_parts : (ds : List Deco) (ps : List Inner) → GoodDecos ds → InnerParts
 decos_parts [] ps good later = later
 decos_parts (d ∷ ds) ps good later =
     let more = deco_parts ds ps in
-    part (named_inside (name_of d)) (all_then inner_then more []) more (inner_named (name_of d) (all_then inner_then more []) good.0.0.name) (decos_parts ds ps good.1 later)
+    part (named_inside (name_of d)) (all_then inner_then more []) more (inner_named (name_of d) (all_then inner_then more []) good.0.name) (decos_parts ds ps good.1 later)
 
 -- ---- a plain chord is a chord
 
-heads_all : (q : ℕ → Bool) → Wide q → (hs : List (Head × Len)) → GoodHeads hs → list_all q (all_then chord_head_then hs []) ≡ true
-heads_all q wide [] good = refl
-heads_all q wide (h ∷ hs) good =
-    let s = all_then chord_head_then hs [] in
-    head_all q wide h.0 (len_then h.1 (maybe h.0.tied 45 s)) (len_all q wide h.1 (maybe h.0.tied 45 s) good.0 (maybe_all q wide h.0.tied s (heads_all q wide hs good.1)))
+tied_whole : (b : Bool) (ps : List Inner) → has_lone ps ≡ false → has_lone (tied_parts b ps) ≡ false
+tied_whole true ps h = h
+tied_whole false ps h = h
 
-decos_all : (ds : List Deco) (x : List ℕ) → GoodDecos ds → list_all is_inside x ≡ true → list_all is_inside (all_then deco_then ds x) ≡ true
-decos_all [] x good h = h
-decos_all (d ∷ ds) x good h = all_join is_inside (name_of d) (33 ∷ all_then deco_then ds x) good.0.1 (decos_all ds x good.1 h)
+heads_whole : (hs : List (Head × Len)) → has_lone (head_parts hs) ≡ false
+heads_whole [] = refl
+heads_whole (h ∷ hs) = tied_whole h.0.tied (head_parts hs) (heads_whole hs)
+
+-- no exclamation mark is passed over
+pub chord_whole : (hs : List (Head × Len)) (ds : List Deco) → has_lone (deco_parts ds (head_parts hs)) ≡ false
+chord_whole hs [] = heads_whole hs
+chord_whole hs (d ∷ ds) = chord_whole hs ds
 
 pub chord_good : (hs : List (Head × Len)) (ds : List Deco) (len : Len) → 1 ≤ length hs → GoodHeads hs → GoodDecos ds → GoodLen len → IsChord false (plain_chord hs ds len)
 chord_good [] ds len some heads decos good = absurd (omega (arith, some))
 chord_good (h ∷ hs) ds len some heads decos good = record {
-  open_to_the_bracket = ap (list_all is_inside) (inside_is (h ∷ hs) ds) ∙ decos_all ds (all_then chord_head_then (h ∷ hs) []) decos (heads_all is_inside inside_wide (h ∷ hs) heads);
   parts = decos_parts ds (head_parts (h ∷ hs)) decos (heads_parts (h ∷ hs) heads);
   head = head_behind ds (head_parts (h ∷ hs));
   length = good.good;
@@ -438,20 +387,18 @@ pub heads_from : (bang : Bool) (text : List ℕ) (parts : List Inner) → InnerP
 heads_from bang _ _ no_part = tt
 heads_from bang _ _ (then_part text f rest more l later) = heads_add bang f more l.stands.good (heads_from bang rest more later)
 
-decos_add : (bang : Bool) (f : Inner) (x : List ℕ) (more : List Inner) → IsInner bang f → list_all is_inside (inner_then f x) ≡ true → GoodDecos (decos_of (map sense more)) → GoodDecos (decos_of (map sense (f ∷ more)))
-decos_add bang (note_inside f) x more good inside h = h
-decos_add bang (letter_inside b) x more good inside h = (letter_good b, h)
-decos_add bang (named_inside name) x more good inside h = (name_in_chord name good.1 (all_parts is_inside name (33 ∷ x) (tail_passes is_inside 33 (name ++ (33 ∷ x)) inside)).0, h)
-decos_add bang (tie_inside d) x more good inside h = h
-decos_add bang slur_inside x more good inside h = h
-decos_add bang (passed_inside b) x more good inside h = h
-decos_add bang lone_inside x more good inside h = h
+decos_add : (bang : Bool) (f : Inner) (more : List Inner) → IsInner bang f → GoodDecos (decos_of (map sense more)) → GoodDecos (decos_of (map sense (f ∷ more)))
+decos_add bang (note_inside f) more good h = h
+decos_add bang (letter_inside b) more good h = (letter_good b, h)
+decos_add bang (named_inside name) more good h = (name_good name good.1, h)
+decos_add bang (tie_inside d) more good h = h
+decos_add bang slur_inside more good h = h
+decos_add bang (passed_inside b) more good h = h
+decos_add bang lone_inside more good h = h
 
-pub decos_from : (bang : Bool) (text : List ℕ) (parts : List Inner) → InnerParts bang text parts → list_all is_inside text ≡ true → GoodDecos (decos_of (map sense parts))
-decos_from bang _ _ no_part inside = tt
-decos_from bang _ _ (then_part text f rest more l later) inside =
-    let here : list_all is_inside (inner_then f rest) ≡ true = ap (list_all is_inside) (sym l.stands.cut) ∙ inside in
-    decos_add bang f rest more l.stands.good here (decos_from bang rest more later (inner_rest is_inside f rest here))
+pub decos_from : (bang : Bool) (text : List ℕ) (parts : List Inner) → InnerParts bang text parts → GoodDecos (decos_of (map sense parts))
+decos_from bang _ _ no_part = tt
+decos_from bang _ _ (then_part text f rest more l later) = decos_add bang f more l.stands.good (decos_from bang rest more later)
 
 pub some_heads : (parts : List Inner) → has_head parts ≡ true → 1 ≤ length (heads_of (map sense parts))
 some_heads [] h = absurd cc
@@ -544,7 +491,6 @@ plain_heads_all q wide (h ∷ hs) x k = head_all q wide h (all_then head_then hs
 
 notes_chord : (h : Head) (hs : List Head) → IsChord false (of_parts (note_parts (h ∷ hs)) (whole []))
 notes_chord h hs = record {
-  open_to_the_bracket = ap (list_all is_inside) (notes_spell (h ∷ hs) []) ∙ plain_heads_all is_inside inside_wide (h ∷ hs) [] refl;
   parts = notes_parts (h ∷ hs);
   head = refl;
   length = tt;
@@ -571,14 +517,29 @@ single_exact h x stops =
     let b = first_is h.sign (is_small h.pitch.octave) h.pitch.letter (marks_of h.pitch.octave ++ x) in
     ap (grace_part_at false) b.is ∙ single_class b.byte b.rest b.bracket ∙ ap (λ s. option_map single_read (inner_at false s)) (sym b.is) ∙ ap (option_map single_read) (inner_note form x (head_good h (whole []) tt) stops)
 
-chorded_exact : (f : ChordForm) (x : List ℕ) → IsChord false f → begins note_goes_on x ≡ false → grace_part_at false (91 ∷ chord_then f x) ≡ Some (part_pair (chorded f) x)
-unfolding grace_part_at
-chorded_exact f x good stops = ap (option_map chorded_read) (chord_exact f x good (narrower x stops))
+notes_whole : (hs : List Head) → has_lone (note_parts hs) ≡ false
+notes_whole [] = refl
+notes_whole (h ∷ hs) = notes_whole hs
+
+notes_free : (hs : List Head) → list_all is_in_grace (all_then inner_then (note_parts hs) []) ≡ true
+notes_free hs = ap (list_all is_in_grace) (notes_spell hs []) ∙ plain_heads_all is_in_grace grace_wide hs [] refl
+
+first_of : (p : ℕ → Bool) (a b : List ℕ) → begins p (a ++ b) ≡ false → begins p a ≡ false
+first_of p [] b h = refl
+first_of p (x ∷ a) b h = h
+
+chorded_exact : (f : ChordForm) (x : List ℕ) → IsChord false f → list_all is_in_grace f.inside ≡ true → has_lone f.parts ≡ false → begins note_goes_on x ≡ false → grace_part_at false (91 ∷ chord_then f x) ≡ Some (part_pair (chorded f) x)
+chorded_exact f x good clear loneless stops =
+    let y = span_all is_in_grace x in
+    let line : x ≡ y.0 ++ y.1 = span_all-takes is_in_grace x in
+    let here : begins goes_on y.0 ≡ false = first_of goes_on y.0 y.1 (ap (begins goes_on) (sym line) ∙ narrower x stops) in
+    at_bracket false (chord_then f x) ∙ ap (option_map chorded_read) (within-is false f x good clear ∙ ap (option_map (chord_with_rest y.1)) (chord_exact f y.0 good loneless here))
+    ∙ ap (λ (t : List ℕ). Some (part_pair (chorded f) t)) (sym line)
 
 part_exact : (hs : List Head) (x : List ℕ) → 1 ≤ length hs → begins note_goes_on x ≡ false → grace_part_at false (grace_part_then (plain_part hs) x) ≡ Some (part_pair (plain_part hs) x)
 part_exact [] x some stops = absurd (omega (arith, some))
 part_exact (h ∷ []) x some stops = single_exact h x stops
-part_exact (h ∷ g ∷ hs) x some stops = chorded_exact (of_parts (note_parts (h ∷ g ∷ hs)) (whole [])) x (notes_chord h (g ∷ hs)) stops
+part_exact (h ∷ g ∷ hs) x some stops = chorded_exact (of_parts (note_parts (h ∷ g ∷ hs)) (whole [])) x (notes_chord h (g ∷ hs)) (notes_free (h ∷ g ∷ hs)) (notes_whole (h ∷ g ∷ hs)) stops
 
 -- a byte that begins a part of a grace group goes on nothing, and is no slash
 begins_part : (p : ℕ → Bool) (hs : List Head) (x : List ℕ) → 1 ≤ length hs → p 91 ≡ false → ((s : List ℕ) → (b : First s) → p b.byte ≡ false) → begins p (grace_part_then (plain_part hs) x) ≡ false
@@ -599,18 +560,17 @@ body_parts (c ∷ cs) good =
     let p = plain_part c.heads in
     then_part (grace_part_then p rest) p rest (plain_parts cs) (longest_of (part_reader false) (grace_part_then p rest) (p, rest) (part_exact c.heads rest good.0 (body_begins note_goes_on cs good.2 refl (λ s b. b.stops)))) (body_parts cs good.2)
 
-heads_then_all : (hs : List Head) (x : List ℕ) → 1 ≤ length hs → list_all is_in_grace x ≡ true → list_all is_in_grace (heads_then hs x) ≡ true
-heads_then_all [] x some k = k
-heads_then_all (h ∷ []) x some k = head_all is_in_grace grace_wide h x k
-heads_then_all (h ∷ g ∷ hs) x some k = plain_heads_all is_in_grace grace_wide (h ∷ g ∷ hs) (93 ∷ x) k
+part_whole : (hs : List Head) → 1 ≤ length hs → lone_part_is (plain_part hs) ≡ false
+part_whole [] some = absurd (omega (arith, some))
+part_whole (h ∷ []) some = refl
+part_whole (h ∷ g ∷ hs) some = refl
 
-body_all : (body : List GraceChord) → GoodBody body → list_all is_in_grace (all_then grace_chord_then body []) ≡ true
-body_all [] good = refl
-body_all (c ∷ cs) good = heads_then_all c.heads (all_then grace_chord_then cs []) good.0 (body_all cs good.2)
+pub body_whole : (body : List GraceChord) → GoodBody body → has_lone_part (plain_parts body) ≡ false
+body_whole [] good = refl
+body_whole (c ∷ cs) good = rw (part_whole c.heads good.0) (body_whole cs good.2)
 
 pub grace_good : (slash : Bool) (body : List GraceChord) → GoodBody body → IsGrace false (plain_grace slash body)
 grace_good slash body good = record {
-  open_to_the_brace = ap (list_all is_in_grace) (body_spell body [] good) ∙ body_all body good;
   parts = body_parts body good;
   slash_is_read = λ e. body_begins is_slash_byte body good refl (λ s b. b.slash);
 }
@@ -645,7 +605,7 @@ body_add bang (single (tie_inside d)) more good h = h
 body_add bang (single slur_inside) more good h = h
 body_add bang (single (passed_inside b)) more good h = h
 body_add bang (single lone_inside) more good h = h
-body_add bang (chorded f) more good h = (some_plain_heads f.parts good.head, heads_untied f.parts, h)
+body_add bang (chorded f) more good h = (some_plain_heads f.parts good.0.head, heads_untied f.parts, h)
 
 pub body_from : (bang : Bool) (text : List ℕ) (parts : List GracePart) → GraceParts bang text parts → GoodBody (body_of parts)
 body_from bang _ _ no_part = tt

@@ -1,23 +1,17 @@
 -- The plain name of a decoration is read as it.
 use Rattle.std.proofs.Common.{◌≡◌, ℕ, true, cond, eqb, List, [], ◌∷◌, refl, sym, ap, ◌∙◌, subst, arith, inl, inr, ◌⊎◌}
 use Rattle.std.specs.Prelude.{codes}
-use Rattle.std.specs.List.{list_all}
 use Rattle.std.proofs.lemmas.Bool.{cond_both}
 use Rattle.mus_units.specs.declared.note.Deco.{Deco}
 use Rattle.mus_units.specs.declared.note.Deco.TheVariants.{Ks, Kr, Kf, Ka, Km, Kc, Kp, Kg, Kt, Ku, Kd, Kn, Below, Above, Quiet}
 use Rattle.abc_notes.specs.Decorations.{deco_of_letter, deco_of_name, deco_of_text, is_text, is_one_of, is_accent, is_dynamic, is_finger}
 use Rattle.abc_notes.specs.Items.{IsName}
-use Rattle.abc_notes.specs.Chords.{is_inside}
 use Rattle.abc_spell.specs.Plain.{name_of}
 
 -- the name means the decoration, and may stand between exclamation marks
 pub record GoodDeco (d : Deco) : Type 0 where
   pub means : deco_of_name (name_of d) ≡ d
   pub name : IsName (name_of d)
-
--- within a chord it has no closing bracket
-abbrev pub InChord : Deco → Type 0
-InChord d = GoodDeco d × (list_all is_inside (name_of d) ≡ true)
 
 abbrev pub IsListed : Deco → Type 0
 IsListed Ks = Unit {0}
@@ -54,25 +48,25 @@ listed_means (Below text) h = absurd h
 listed_means (Above text) h = absurd h
 listed_means (Quiet text) h = absurd h
 
-listed_name : (d : Deco) → IsListed d → IsName (name_of d) × (list_all is_inside (name_of d) ≡ true)
-listed_name Ks h = (record { some = omega arith; bytes = refl }, refl)
-listed_name Kr h = (record { some = omega arith; bytes = refl }, refl)
-listed_name Kf h = (record { some = omega arith; bytes = refl }, refl)
-listed_name Ka h = (record { some = omega arith; bytes = refl }, refl)
-listed_name Km h = (record { some = omega arith; bytes = refl }, refl)
-listed_name Kc h = (record { some = omega arith; bytes = refl }, refl)
-listed_name Kp h = (record { some = omega arith; bytes = refl }, refl)
-listed_name Kg h = (record { some = omega arith; bytes = refl }, refl)
-listed_name Kt h = (record { some = omega arith; bytes = refl }, refl)
-listed_name Ku h = (record { some = omega arith; bytes = refl }, refl)
-listed_name Kd h = (record { some = omega arith; bytes = refl }, refl)
-listed_name Kn h = (record { some = omega arith; bytes = refl }, refl)
+listed_name : (d : Deco) → IsListed d → IsName (name_of d)
+listed_name Ks h = record { some = omega arith; bytes = refl }
+listed_name Kr h = record { some = omega arith; bytes = refl }
+listed_name Kf h = record { some = omega arith; bytes = refl }
+listed_name Ka h = record { some = omega arith; bytes = refl }
+listed_name Km h = record { some = omega arith; bytes = refl }
+listed_name Kc h = record { some = omega arith; bytes = refl }
+listed_name Kp h = record { some = omega arith; bytes = refl }
+listed_name Kg h = record { some = omega arith; bytes = refl }
+listed_name Kt h = record { some = omega arith; bytes = refl }
+listed_name Ku h = record { some = omega arith; bytes = refl }
+listed_name Kd h = record { some = omega arith; bytes = refl }
+listed_name Kn h = record { some = omega arith; bytes = refl }
 listed_name (Below text) h = absurd h
 listed_name (Above text) h = absurd h
 listed_name (Quiet text) h = absurd h
 
-listed_good : (d : Deco) → IsListed d → InChord d
-listed_good d h = let n = listed_name d h in (record { means = listed_means d h; name = n.0 }, n.1)
+listed_good : (d : Deco) → IsListed d → GoodDeco d
+listed_good d h = record { means = listed_means d h; name = listed_name d h }
 
 letter_listed : (b : ℕ) → IsListed (deco_of_letter b)
 unfolding deco_of_letter
@@ -88,7 +82,7 @@ letter_listed b =
     cond_both (eqb b 84) Kt _ IsListed (λ e. tt) (λ e.
     cond_both (eqb b 117) Ku Kd IsListed (λ e. tt) (λ e. tt))))))))))
 
-pub letter_good : (b : ℕ) → InChord (deco_of_letter b)
+pub letter_good : (b : ℕ) → GoodDeco (deco_of_letter b)
 letter_good b = listed_good (deco_of_letter b) (letter_listed b)
 
 -- a name means a listed decoration, or one that keeps the name
@@ -119,15 +113,8 @@ name_kept name =
     text_kept name))))))))))))
 
 kept_good : (name : List ℕ) (d : Deco) → d ≡ deco_of_name name → IsName name → Kept name d → GoodDeco d
-kept_good name d is good (inl listed) = (listed_good d listed).0
+kept_good name d is good (inl listed) = listed_good d listed
 kept_good name d is good (inr same) = record { means = ap deco_of_name same ∙ sym is; name = subst IsName (sym same) good }
 
 pub name_good : (name : List ℕ) → IsName name → GoodDeco (deco_of_name name)
 name_good name good = kept_good name (deco_of_name name) refl good (name_kept name)
-
-kept_inside : (name : List ℕ) (d : Deco) → list_all is_inside name ≡ true → Kept name d → list_all is_inside (name_of d) ≡ true
-kept_inside name d h (inl listed) = (listed_name d listed).1
-kept_inside name d h (inr same) = ap (list_all is_inside) same ∙ h
-
-pub name_in_chord : (name : List ℕ) → IsName name → list_all is_inside name ≡ true → InChord (deco_of_name name)
-name_in_chord name good inside = (name_good name good, kept_inside name (deco_of_name name) inside (name_kept name))

@@ -16,7 +16,7 @@ fn tokens_of(alloc: Global, placed: Row<Placed>) -> Result<Vec<Token>, AllocFail
 #[test]
 fn plain_spellings(rt: HostRuntime) -> Result<(), Fail> {
     // a line, whether an exclamation mark is a line break, and the plain spelling of its tokens
-    let cases: [(&[u8], bool, &[u8]); 30] = [
+    let cases: [(&[u8], bool, &[u8]); 32] = [
         (b"", false, b""),
         (b"A/2>B//", false, b"A1/2`>`B1/4"),
         (
@@ -34,6 +34,8 @@ fn plain_spellings(rt: HostRuntime) -> Result<(), Fail> {
             false,
             b"[!staccato!!accent!!upbow!^c1/1]4/3",
         ),
+        (b"[A!b]c!d]", false, b"[!b]c!A1/1d1/1]1/1"),
+        (b"{A!b}c!d}", false, b"{Ad}"),
         (b"{gab}", false, b"{gab}"),
         (b"{/[g2b]a3}{}{[_c]}", false, b"{/[gb]a}`{}`{_c}"),
         (b"(3(4:2(5::7(9:3:12", false, b"(3::`(4:2:`(5::7`(9:3:12"),

@@ -143,7 +143,7 @@ single_good lone_inside = tt
 good_graces : (bang : Bool) (text : List ℕ) (parts : List GracePart) → Parts GracePart (StandsInGrace bang) text parts → AreGoodGraces (body_of parts)
 good_graces bang _ _ no_part = tt
 good_graces bang _ _ (then_part text (single part) rest more longest others) = graces_both (body_of_sense (sense part)) (body_of more) (single_good part) (good_graces bang rest more others)
-good_graces bang _ _ (then_part text (chorded f) rest more longest others) = (some_grace_head f.parts longest.stands.good.head, good_graces bang rest more others)
+good_graces bang _ _ (then_part text (chorded f) rest more longest others) = (some_grace_head f.parts longest.stands.good.0.head, good_graces bang rest more others)
 
 -- tuplets
 zero_or_one : (q : List ℕ) → IsCount 1 q → value_or_zero q ≤ 9

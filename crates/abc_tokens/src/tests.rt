@@ -214,7 +214,7 @@ fn line_of(alloc: Global, bytes: &[u8]) -> Result<Line, Fail>
 
 #[test]
 fn tokens(rt: HostRuntime) -> Result<(), Fail> {
-    let cases: [(&[u8], bool, &[u8]); 32] = [
+    let cases: [(&[u8], bool, &[u8]); 38] = [
         (b"", false, b""),
         (b"CDEF|", false, b"1:nC4 2:nD4 3:nE4 4:nF4 5:b"),
         (b"A/2>B//", false, b"1:nA4*1/2 4:>1 5:nB4*1/4"),
@@ -226,6 +226,12 @@ fn tokens(rt: HostRuntime) -> Result<(), Fail> {
         (b"[(A .-B)]", false, b"1:c(A4-,B4,)"),
         (b"[-A!B]c", false, b"1:c(A4,B4,) 7:nC5"),
         (b"{/c-[de]}A", false, b"1:g/(C5,D5E5,) 10:nA4"),
+        (b"[A!b]c!d]", false, b"1:c(A4,D5,;quiet b]c)"),
+        (b"[A!b]c!", false, b"1:c(A4,B5,) 6:nC5"),
+        (b"{A!b}c!d}", false, b"1:g(A4,D5,)"),
+        (b"{A!b}c!", false, b"1:g(A4,B5,) 6:nC5"),
+        (b"{[A!b]c!d]}", false, b"1:g(A4D5,)"),
+        (b"{[A!b]c!}", false, b"1:g(A4B5,C5,)"),
         (b"{}(3abc", false, b"1:g() 3:t3:0:0 5:nA5 6:nB5 7:nC5"),
         (
             b"(3:2:4a(5::2b(2:",
@@ -284,7 +290,7 @@ fn tokens(rt: HostRuntime) -> Result<(), Fail> {
 
 #[test]
 fn faults(rt: HostRuntime) -> Result<(), Fail> {
-    let cases: [(&[u8], FaultKind, u32); 34] = [
+    let cases: [(&[u8], FaultKind, u32); 43] = [
         (b"\"Am", FaultKind::Unclosed, 1),
         (b"A&B", FaultKind::BadByte, 2),
         (b"A0", FaultKind::BadLength, 1),
@@ -317,6 +323,15 @@ fn faults(rt: HostRuntime) -> Result<(), Fail> {
         (b"{[c}", FaultKind::Unclosed, 2),
         (b"{c0}", FaultKind::BadLength, 2),
         (b"{/[c]0}", FaultKind::BadLength, 3),
+        (b"[A!b]c!&]", FaultKind::BadByte, 8),
+        (b"[A!b", FaultKind::Unclosed, 1),
+        (b"[A!&]c!", FaultKind::Unclosed, 1),
+        (b"[&!]!", FaultKind::BadByte, 2),
+        (b"[!A]!]", FaultKind::BadByte, 6),
+        (b"{A!b}c!&}", FaultKind::BadByte, 8),
+        (b"{A!&}c!", FaultKind::Unclosed, 1),
+        (b"{[A}]", FaultKind::BadByte, 4),
+        (b"{[A!b}c!&]}", FaultKind::BadByte, 9),
         (b"A^", FaultKind::BadByte, 2),
         (b"A:", FaultKind::BadByte, 2),
     ];

@@ -1,15 +1,22 @@
-use Rattle.std.proofs.Common.{rules, arith}
-use Rattle.abc_notes.proofs.ChordLaws.{chord-unclosed, chord-flawed, chord-headless}
+use Rattle.std.proofs.Common.{arith, ap, sym, subst, ◌∙◌, ◌≡◌, eqb, true, false, List, ℕ, length}
+use Rattle.std.proofs.lemmas.Bool.{eqb-true}
+use Rattle.abc_notes.specs.Runs.{begins}
+use Rattle.abc_notes.specs.Chords.{is_bracket}
+use Rattle.abc_notes.proofs.ChordLaws.{chord-unclosed, chord-open, chord-headless, chord-flawed, not_empty}
 use Rattle.abc_notes.proofs.chord.chord_fault.Goals as goal
 
-pub returns-in_default-clause-fault : goal.returns-in_default-clause-fault
-returns-in_default-clause-fault c = chord-unclosed c.args.bang c.args.bytes.now c.bracketed.result.0.now c.bracketed.result.1.now c.bracketed.ensures.read c.in_default.ensures.cases
-
-pub returns-in-Err-clause-fault : goal.returns-in-Err-clause-fault
-returns-in-Err-clause-fault c = chord-flawed c.args.bang c.args.bytes.now c.bracketed.result.0.now c.bracketed.result.1.now c.in-Some.rest.now c.in-Some.field-0-0.now c.in-Err.flaw c.bracketed.ensures.read (search rules) c.in-Err.ensures.1
-
-pub returns-in-Err-clause-within : goal.returns-in-Err-clause-within
-returns-in-Err-clause-within c = omega (arith, c.in-Err.ensures.2, c.bracketed.ensures.parts, c.in-Some.ensures.cases)
+pub returns-then-is_empty-clause-fault : goal.returns-then-is_empty-clause-fault
+returns-then-is_empty-clause-fault c =
+    chord-unclosed c.args.bang c.args.bytes.now c.bracketed.result.0.now c.bracketed.result.1.now c.bracketed.ensures.read (eqb-true (length c.bracketed.result.1.now) 0 (sym c.is_empty.ensures ∙ c.if-is_empty.true))
 
 pub returns-in-Ok-clause-fault : goal.returns-in-Ok-clause-fault
-returns-in-Ok-clause-fault c = chord-headless c.args.bang c.args.bytes.now c.bracketed.result.0.now c.bracketed.result.1.now c.in-Some.rest.now c.in-Some.field-0-0.now c.bracketed.ensures.read (search rules) c.requires.none c.in-Ok.ensures.0
+returns-in-Ok-clause-fault c = chord-open c.args.bang c.args.bytes.now c.in-Ok.ensures.0
+
+pub returns-in-Err-clause-fault : goal.returns-in-Err-clause-fault
+returns-in-Err-clause-fault c =
+    chord-headless c.args.bang c.args.bytes.now c.requires.none (ap (begins is_bracket) (sym c.behind_parts.ensures) ∙ sym c.begins_with_bracket.ensures ∙ c.if-begins_with_bracket.true)
+
+pub returns-in-Err-2-clause-fault : goal.returns-in-Err-2-clause-fault
+returns-in-Err-2-clause-fault c =
+    chord-flawed c.args.bang c.args.bytes.now c.bracketed.result.0.now c.bracketed.result.1.now c.in-Err.field-0 c.bracketed.ensures.read (not_empty c.bracketed.result.1.now (sym c.is_empty.ensures ∙ c.if-is_empty.false)) c.in-Err.ensures.0
+    (ap (begins is_bracket) (sym c.behind_parts.ensures) ∙ sym c.begins_with_bracket.ensures ∙ c.if-begins_with_bracket.false) c.in-Err.ensures.1

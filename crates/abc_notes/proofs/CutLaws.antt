@@ -1,0 +1,318 @@
+-- Parts at the front of a text that goes on, and of the text that is cut off there.
+use Rattle.std.proofs.Common.{◌≡◌, ℕ, zero, suc, ◌+◌, ◌≤◌, ◌<◌, Bool, true, false, eqb, List, [], ◌∷◌, ◌++◌, length, Option, Some, None, refl, sym, ap, ◌∙◌, subst, arith, inl, inr, ◌⊎◌, append_assoc, append-nil}
+use Rattle.std.specs.Prelude.{◌||◌, ◌&&◌, not, IfSome}
+use Rattle.std.specs.List.{list_all}
+use Rattle.std.proofs.lemmas.Bool.{or_cases, and_parts, and_from, eqb-true, ne_eqb}
+use Rattle.std.proofs.lemmas.List.{length-append}
+use Rattle.std.proofs.lemmas.List.Folds.{list_all-append}
+use Rattle.mus_units.specs.declared.pitch.Alter.{Alter}
+use Rattle.mus_units.specs.declared.pitch.Alter.TheVariants.{Flat2, Flat, Natural, Sharp, Sharp2}
+use Rattle.mus_units.specs.declared.pitch.Letter.{Letter}
+use Rattle.mus_units.specs.declared.pitch.Letter.TheVariants.{C, D, E, F, G, A, B}
+use Rattle.abc_notes.specs.declared.part.ItemClass.TheVariants as class
+use Rattle.abc_notes.specs.Runs.{copies, maybe, is_digit, is_mark, span_all}
+use Rattle.abc_notes.specs.Lengths.{LengthForm, whole, over, halved, length_then, IsLength}
+use Rattle.abc_notes.specs.Notes.{NoteForm, note_then, sign_then, letter_byte, IsNote}
+use Rattle.abc_notes.specs.Decorations.{is_name_byte}
+use Rattle.abc_notes.specs.Parts.{IsLongest, Parts, no_part, then_part, Leads, leads_here, leads_on, walk, spelled_then}
+use Rattle.abc_notes.specs.Items.{Inner, note_inside, letter_inside, named_inside, tie_inside, slur_inside, passed_inside, lone_inside, inner_then, IsName, is_passed_inside, is_letter_inside, IsInner, StandsInside, InnerParts, inner_read, closed_name, name_at, named_or, item_class, inner_at}
+use Rattle.abc_notes.proofs.Bounds.{digit_range}
+use Rattle.abc_notes.proofs.SpanLaws.{span_all-append}
+use Rattle.abc_notes.proofs.LengthLaws.{count-digits}
+use Rattle.abc_notes.proofs.ItemLaws.{below_all, implied, at_class, bang_class}
+use Rattle.abc_notes.proofs.PartLaws.{Reader, stands_at, less, longest_of, longest_is, walk-none, walk-some}
+
+-- ---- a part and what follows it
+
+copies_append : (n b : ℕ) (v y : List ℕ) → copies n b v ++ y ≡ copies n b (v ++ y)
+copies_append zero b v y = refl
+copies_append (suc n) b v y = ap (λ t. b ∷ t) (copies_append n b v y)
+
+maybe_append : (d : Bool) (b : ℕ) (v y : List ℕ) → maybe d b v ++ y ≡ maybe d b (v ++ y)
+maybe_append true b v y = refl
+maybe_append false b v y = refl
+
+pub length_append : (f : LengthForm) (v y : List ℕ) → length_then f v ++ y ≡ length_then f (v ++ y)
+length_append (whole c) v y = append_assoc c v y
+length_append (over c b) v y = append_assoc c (47 ∷ (b ++ v)) y ∙ ap (λ t. c ++ (47 ∷ t)) (append_assoc b v y)
+length_append (halved c k) v y = append_assoc c (copies k 47 v) y ∙ ap (λ t. c ++ t) (copies_append k 47 v y)
+
+sign_append : (sign : Option Alter) (v y : List ℕ) → sign_then sign v ++ y ≡ sign_then sign (v ++ y)
+sign_append None v y = refl
+sign_append (Some Sharp2) v y = refl
+sign_append (Some Sharp) v y = refl
+sign_append (Some Flat2) v y = refl
+sign_append (Some Flat) v y = refl
+sign_append (Some Natural) v y = refl
+
+note_append : (f : NoteForm) (v y : List ℕ) → note_then f v ++ y ≡ note_then f (v ++ y)
+note_append f v y =
+    let b = letter_byte f.low f.letter in
+    let t = length_then f.length v in
+    sign_append f.sign (b ∷ (f.marks ++ t)) y ∙ ap (λ s. sign_then f.sign (b ∷ s)) (append_assoc f.marks t y ∙ ap (λ s. f.marks ++ s) (length_append f.length v y))
+
+pub inner_append : (f : Inner) (v y : List ℕ) → inner_then f v ++ y ≡ inner_then f (v ++ y)
+inner_append (note_inside f) v y = note_append f v y
+inner_append (letter_inside b) v y = refl
+inner_append (named_inside name) v y = ap (λ t. 33 ∷ t) (append_assoc name (33 ∷ v) y)
+inner_append (tie_inside d) v y = maybe_append d 46 (45 ∷ v) y
+inner_append slur_inside v y = refl
+inner_append (passed_inside b) v y = refl
+inner_append lone_inside v y = refl
+
+-- ---- two cuts of one text
+
+pub record Cut (u w y x : List ℕ) : Type 0 where
+  pub between : List ℕ
+  pub behind : x ≡ between ++ y
+  pub front : u ≡ w ++ between
+
+pub first_same : (a b : ℕ) (s t : List ℕ) → a ∷ s ≡ b ∷ t → a ≡ b
+first_same a b s t e = cc
+
+pub rest_same : (a b : ℕ) (s t : List ℕ) → a ∷ s ≡ b ∷ t → s ≡ t
+rest_same a b s t e = cc
+
+pub cut_at : (u w y x : List ℕ) → u ++ y ≡ w ++ x → length y ≤ length x → Cut u w y x
+cut_at u [] y x e h = record { between = u; behind = sym e; front = refl }
+cut_at [] (b ∷ w) y x e h = absurd (omega (arith, h, ap length e, length-append w x))
+cut_at (a ∷ u) (b ∷ w) y x e h =
+    let r = cut_at u w y x (rest_same a b (u ++ y) (w ++ x) e) h in
+    record { between = r.between; behind = r.behind; front = ap (λ c. c ∷ u) (first_same a b (u ++ y) (w ++ x) e) ∙ ap (λ s. b ∷ s) r.front }
+
+-- ---- parts that may stand before any text
+
+pub record Local (I : Type 0) (Stands : I → List ℕ → List ℕ → Type 0) (one : I → List ℕ → List ℕ) : Type 0 where
+  pub spells : (f : I) (s x : List ℕ) → Stands f s x → s ≡ one f x
+  pub moves : (f : I) (s x t y : List ℕ) → Stands f s x → t ≡ one f y → Stands f t y
+  pub appends : (f : I) (v y : List ℕ) → one f v ++ y ≡ one f (v ++ y)
+
+pub inner_local : (bang : Bool) → Local Inner (StandsInside bang) inner_then
+inner_local bang = record { spells = λ f s x stands. stands.cut; moves = λ f s x t y stands e. record { good = stands.good; cut = e }; appends = inner_append }
+
+module _ {I : Type 0} {Stands : I → List ℕ → List ℕ → Type 0} {at : List ℕ → Option (I × List ℕ)} {one : I → List ℕ → List ℕ} (r : Reader I Stands at) (k : Local I Stands one) where
+  pub record AtCut (u y : List ℕ) (z : I × List ℕ) : Type 0 where
+    pub front : List ℕ
+    pub behind : z.1 ≡ front ++ y
+    pub at_cut : at u ≡ Some (z.0, front)
+
+  -- a part that ends before the cut is read there too
+  pub read_cut : (u y : List ℕ) (z : I × List ℕ) → at (u ++ y) ≡ Some z → length y ≤ length z.1 → AtCut u y z
+  read_cut u y z e h =
+      let stands = stands_at r (u ++ y) z e in
+      let spelt : u ++ y ≡ one z.0 [] ++ z.1 = k.spells z.0 (u ++ y) z.1 stands ∙ sym (k.appends z.0 [] z.1) in
+      let c = cut_at u (one z.0 []) y z.1 spelt h in
+      let here : u ≡ one z.0 c.between = c.front ∙ k.appends z.0 [] c.between in
+      let o = r.reaches z.0 u c.between (k.moves z.0 (u ++ y) z.1 u c.between stands here) in
+      elim o.2 [
+        | inl shorter ↦
+            (let other = stands_at r u o.0 o.1 in
+            let whole : u ++ y ≡ one o.0.0 (o.0.1 ++ y) = ap (λ s. s ++ y) (k.spells o.0.0 u o.0.1 other) ∙ k.appends o.0.0 o.0.1 y in
+            let l = longest_of r (u ++ y) z e in
+            absurd (omega (arith, shorter, l.longest o.0.0 (o.0.1 ++ y) (k.moves o.0.0 u o.0.1 (u ++ y) (o.0.1 ++ y) other whole), length-append o.0.1 y, ap length c.behind, length-append c.between y)))
+        | inr same ↦ record { front = c.between; behind = c.behind; at_cut = o.1 ∙ ap Some same }
+      ]
+
+  -- the bytes of what is read off a text are the text
+  spelled_step : (n : ℕ) (s : List ℕ) (o : Option (I × List ℕ)) → at s ≡ o → length s ≤ n → ((t : List ℕ) → length t < length s → spelled_then one (walk at t).0 (walk at t).1 ≡ t) → spelled_then one (walk at s).0 (walk at s).1 ≡ s
+  spelled_step n s None e h next = rw (walk-none r s e) refl
+  spelled_step n s (Some z) e h next = rw (walk-some r s z e) (ap (one z.0) (next z.1 (less r s z e)) ∙ sym (k.spells z.0 s z.1 (stands_at r s z e)))
+
+  spelled_within : (n : ℕ) (s : List ℕ) → length s ≤ n → spelled_then one (walk at s).0 (walk at s).1 ≡ s
+  spelled_within zero s h = spelled_step 0 s (at s) refl h (λ t lt. absurd (omega (arith, lt, h)))
+  spelled_within (suc n) s h = spelled_step (suc n) s (at s) refl h (λ t lt. spelled_within n t (omega (arith, lt, h)))
+
+  pub walk_spells : (s : List ℕ) → spelled_then one (walk at s).0 (walk at s).1 ≡ s
+  walk_spells s = spelled_within (length s) s (omega arith)
+
+  -- what is read off a text leads up to what is left
+  leads_step : (n : ℕ) (s : List ℕ) (o : Option (I × List ℕ)) → at s ≡ o → length s ≤ n → ((t : List ℕ) → length t < length s → Leads I Stands t (walk at t).0 (walk at t).1) → Leads I Stands s (walk at s).0 (walk at s).1
+  leads_step n s None e h next = rw (walk-none r s e) (leads_here s)
+  leads_step n s (Some z) e h next = rw (walk-some r s z e) (leads_on s z.0 z.1 (walk at z.1).0 (walk at z.1).1 (longest_of r s z e) (next z.1 (less r s z e)))
+
+  leads_within : (n : ℕ) (s : List ℕ) → length s ≤ n → Leads I Stands s (walk at s).0 (walk at s).1
+  leads_within zero s h = leads_step 0 s (at s) refl h (λ t lt. absurd (omega (arith, lt, h)))
+  leads_within (suc n) s h = leads_step (suc n) s (at s) refl h (λ t lt. leads_within n t (omega (arith, lt, h)))
+
+  pub leads_of_walk : (s : List ℕ) → Leads I Stands s (walk at s).0 (walk at s).1
+  leads_of_walk s = leads_within (length s) s (omega arith)
+
+-- ---- the bytes of a part that is no name close no group
+
+pub wider : (p q : ℕ → Bool) (s : List ℕ) → ((b : ℕ) → p b ≡ true → q b ≡ true) → list_all p s ≡ true → list_all q s ≡ true
+wider p q [] k h = refl
+wider p q (b ∷ s) k h = let r = and_parts (p b) (list_all p s) h in and_from (q b) (list_all q s) (k b r.0) (wider p q s k r.1)
+
+pub all_join : (q : ℕ → Bool) (a x : List ℕ) → list_all q a ≡ true → list_all q x ≡ true → list_all q (a ++ x) ≡ true
+all_join q a x h k = list_all-append q a x ∙ and_from (list_all q a) (list_all q x) h k
+
+pub all_parts : (q : ℕ → Bool) (a x : List ℕ) → list_all q (a ++ x) ≡ true → (list_all q a ≡ true) × (list_all q x ≡ true)
+all_parts q a x h = and_parts (list_all q a) (list_all q x) (sym (list_all-append q a x) ∙ h)
+
+abbrev pub free : ℕ → Bool
+free b = not (eqb b 93) && not (eqb b 125)
+
+digit_free : (b : ℕ) → is_digit b ≡ true → free b ≡ true
+digit_free b h = let r = digit_range b h in rw (ne_eqb b 93 (omega (arith, r.1)), ne_eqb b 125 (omega (arith, r.1))) refl
+
+mark_free : (b : ℕ) → is_mark b ≡ true → free b ≡ true
+mark_free b h = elim (or_cases (eqb b 39) (eqb b 44) h) [ inl prime ↦ rw (eqb-true b 39 prime) refl | inr comma ↦ rw (eqb-true b 44 comma) refl ]
+
+letter_free : (low : Bool) (l : Letter) → free (letter_byte low l) ≡ true
+letter_free false C = refl
+letter_free false D = refl
+letter_free false E = refl
+letter_free false F = refl
+letter_free false G = refl
+letter_free false A = refl
+letter_free false B = refl
+letter_free true C = refl
+letter_free true D = refl
+letter_free true E = refl
+letter_free true F = refl
+letter_free true G = refl
+letter_free true A = refl
+letter_free true B = refl
+
+copies_free : (n : ℕ) → list_all free (copies n 47 []) ≡ true
+copies_free zero = refl
+copies_free (suc n) = copies_free n
+
+digits_free : (ds : List ℕ) → list_all is_digit ds ≡ true → list_all free ds ≡ true
+digits_free ds h = wider is_digit free ds digit_free h
+
+pub length_free : (f : LengthForm) → IsLength f → list_all free (length_then f []) ≡ true
+length_free (whole c) good = all_join free c [] (digits_free c (count-digits 4 c good)) refl
+length_free (over c b) good = all_join free c (47 ∷ (b ++ [])) (digits_free c (count-digits 4 c good.0)) (all_join free b [] (digits_free b good.1.digits) refl)
+length_free (halved c k) good = all_join free c (copies k 47 []) (digits_free c (count-digits 4 c good.0)) (copies_free k)
+
+sign_free : (sign : Option Alter) (x : List ℕ) → list_all free x ≡ true → list_all free (sign_then sign x) ≡ true
+sign_free None x h = h
+sign_free (Some Sharp2) x h = h
+sign_free (Some Sharp) x h = h
+sign_free (Some Flat2) x h = h
+sign_free (Some Flat) x h = h
+sign_free (Some Natural) x h = h
+
+note_free : (f : NoteForm) → IsNote f → list_all free (note_then f []) ≡ true
+note_free f good =
+    let b = letter_byte f.low f.letter in
+    let t = length_then f.length [] in
+    sign_free f.sign (b ∷ (f.marks ++ t)) (and_from (free b) (list_all free (f.marks ++ t)) (letter_free f.low f.letter) (all_join free f.marks t (wider is_mark free f.marks mark_free good.marks) (length_free f.length good.length)))
+
+letter_inside_free : (b : ℕ) → is_letter_inside b ≡ true → free b ≡ true
+letter_inside_free b h = implied is_letter_inside free 127 b refl (below_all (46 ∷ 126 ∷ 72 ∷ 76 ∷ 77 ∷ 79 ∷ 80 ∷ 83 ∷ 84 ∷ 117 ∷ 118 ∷ []) 127 b refl h) h
+
+passed_free : (b : ℕ) → is_passed_inside b ≡ true → free b ≡ true
+passed_free b h = implied is_passed_inside free 42 b refl (below_all (32 ∷ 9 ∷ 40 ∷ 41 ∷ []) 42 b refl h) h
+
+abbrev pub is_named : Inner → Bool
+is_named (note_inside f) = false
+is_named (letter_inside b) = false
+is_named (named_inside name) = true
+is_named (tie_inside d) = false
+is_named slur_inside = false
+is_named (passed_inside b) = false
+is_named lone_inside = false
+
+pub inner_free : (bang : Bool) (f : Inner) → IsInner bang f → is_named f ≡ false → list_all free (inner_then f []) ≡ true
+inner_free bang (note_inside f) good h = note_free f good
+inner_free bang (letter_inside b) good h = and_from (free b) true (letter_inside_free b good) refl
+inner_free bang (named_inside name) good h = absurd cc
+inner_free bang (tie_inside true) good h = refl
+inner_free bang (tie_inside false) good h = refl
+inner_free bang slur_inside good h = refl
+inner_free bang (passed_inside b) good h = and_from (free b) true (passed_free b good) refl
+inner_free bang lone_inside good h = refl
+
+-- ---- where a part goes past a closing byte it is a name, and but for it an exclamation mark is passed over
+
+pub record Crosses (u name : List ℕ) (close : ℕ) : Type 0 where
+  pub before : List ℕ
+  pub after : List ℕ
+  pub text : u ≡ 33 ∷ before
+  pub name_is : name ≡ before ++ (close ∷ after)
+
+pub record CrossesIn (bang : Bool) (part : Inner) (u : List ℕ) (close : ℕ) : Type 0 where
+  pub name : List ℕ
+  pub is : part ≡ named_inside name
+  pub off : bang ≡ false
+  pub good : IsName name
+  pub crosses : Crosses u name close
+
+none_named : (q : ℕ → Bool) (close : ℕ) (f : Inner) (u bs : List ℕ) → ((b : ℕ) → free b ≡ true → q b ≡ true) → q close ≡ false → list_all free (inner_then f []) ≡ true → inner_then f [] ≡ u ++ (close ∷ bs) → ⊥
+none_named q close f u bs wide closes h e =
+    let all : list_all q (u ++ (close ∷ bs)) ≡ true = ap (list_all q) (sym e) ∙ wider free q (inner_then f []) wide h in
+    let here : q close ≡ true = (and_parts (q close) (list_all q bs) (all_parts q u (close ∷ bs) all).1).0 in
+    let clash = sym closes ∙ here in cc
+
+name_ends : (close : ℕ) (name before bs : List ℕ) → eqb close 33 ≡ false → name ++ (33 ∷ []) ≡ before ++ (close ∷ bs) → (after : List ℕ) × (name ≡ before ++ (close ∷ after))
+name_ends close name before bs other e = from_cut (cut_at name before (33 ∷ []) (close ∷ bs) e (omega arith))
+  where
+    by_between : (m : List ℕ) → close ∷ bs ≡ m ++ (33 ∷ []) → name ≡ before ++ m → (after : List ℕ) × (name ≡ before ++ (close ∷ after))
+    by_between [] is front = absurd (let same : close ≡ 33 = first_same close 33 bs [] is in let clash : eqb 33 33 ≡ false = subst (λ x. eqb x 33 ≡ false) same other in cc)
+    by_between (c ∷ m) is front = (m, front ∙ ap (λ x. before ++ (x ∷ m)) (sym (first_same close c bs (m ++ (33 ∷ [])) is)))
+
+    from_cut : Cut name before (33 ∷ []) (close ∷ bs) → (after : List ℕ) × (name ≡ before ++ (close ∷ after))
+    from_cut c = by_between c.between c.behind c.front
+
+named_crosses : (close : ℕ) (name u bs : List ℕ) → eqb close 33 ≡ false → inner_then (named_inside name) [] ≡ u ++ (close ∷ bs) → Crosses u name close
+named_crosses close name [] bs other e = absurd (let same : 33 ≡ close = first_same 33 close (name ++ (33 ∷ [])) bs e in let clash : eqb 33 33 ≡ false = subst (λ x. eqb x 33 ≡ false) (sym same) other in cc)
+named_crosses close name (b ∷ u) bs other e =
+    let r = name_ends close name u bs other (rest_same 33 b (name ++ (33 ∷ [])) (u ++ (close ∷ bs)) e) in
+    record { before = u; after = r.0; text = ap (λ x. x ∷ u) (sym (first_same 33 b (name ++ (33 ∷ [])) (u ++ (close ∷ bs)) e)); name_is = r.1 }
+
+crosses_by : (bang : Bool) (q : ℕ → Bool) (close : ℕ) (f : Inner) (u bs : List ℕ) → ((b : ℕ) → free b ≡ true → q b ≡ true) → q close ≡ false → eqb close 33 ≡ false → IsInner bang f → inner_then f [] ≡ u ++ (close ∷ bs) → CrossesIn bang f u close
+crosses_by bang q close (named_inside name) u bs wide closes other good e = record { name = name; is = refl; off = good.0; good = good.1; crosses = named_crosses close name u bs other e }
+crosses_by bang q close (note_inside f) u bs wide closes other good e = absurd (none_named q close (note_inside f) u bs wide closes (inner_free bang (note_inside f) good refl) e)
+crosses_by bang q close (letter_inside b) u bs wide closes other good e = absurd (none_named q close (letter_inside b) u bs wide closes (inner_free bang (letter_inside b) good refl) e)
+crosses_by bang q close (tie_inside d) u bs wide closes other good e = absurd (none_named q close (tie_inside d) u bs wide closes (inner_free bang (tie_inside d) good refl) e)
+crosses_by bang q close slur_inside u bs wide closes other good e = absurd (none_named q close slur_inside u bs wide closes (inner_free bang slur_inside good refl) e)
+crosses_by bang q close (passed_inside b) u bs wide closes other good e = absurd (none_named q close (passed_inside b) u bs wide closes (inner_free bang (passed_inside b) good refl) e)
+crosses_by bang q close lone_inside u bs wide closes other good e = absurd (none_named q close lone_inside u bs wide closes (inner_free bang lone_inside good refl) e)
+
+-- the part ends behind the closing byte
+pub crossing : (bang : Bool) (q : ℕ → Bool) (close : ℕ) (f : Inner) (u t rest : List ℕ) → ((b : ℕ) → free b ≡ true → q b ≡ true) → q close ≡ false → eqb close 33 ≡ false → IsInner bang f →
+    u ++ (close ∷ t) ≡ inner_then f rest → length rest < length (close ∷ t) → CrossesIn bang f u close
+crossing bang q close f u t rest wide closes other good e short =
+    let c = cut_at (inner_then f []) u rest (close ∷ t) (inner_append f [] rest ∙ sym e) (omega (arith, short)) in
+    by_between c.between c.behind c.front
+  where
+    by_between : (m : List ℕ) → close ∷ t ≡ m ++ rest → inner_then f [] ≡ u ++ m → CrossesIn bang f u close
+    by_between [] is front = absurd (omega (arith, short, ap length is))
+    by_between (b ∷ m) is front = crosses_by bang q close f u m wide closes other good (front ∙ ap (λ x. u ++ (x ∷ m)) (sym (first_same close b t (m ++ rest) is)))
+
+pub all_span : (p : ℕ → Bool) (s : List ℕ) → list_all p s ≡ true → span_all p s ≡ (s, [])
+unfolding span_all
+all_span p s h = sym (ap (span_all p) (append-nil s)) ∙ span_all-append p s [] h ∙ ap (λ (t : List ℕ). (t, [])) (append-nil s)
+
+unnamed : (s : List ℕ) → closed_name s [] ≡ None
+unnamed [] = refl
+unnamed (b ∷ s) = refl
+
+-- where a name is not closed the exclamation mark is alone
+pub lone_at : (bang : Bool) (s : List ℕ) → bang ≡ false → list_all is_name_byte s ≡ true → inner_at bang (33 ∷ s) ≡ Some (lone_inside, s)
+unfolding name_at
+lone_at bang s off h = at_class bang 33 s class.Bang bang_class ∙ rw (off, all_span is_name_byte s h, unnamed s) refl
+
+pub named_bad : (f : Inner) (rest : List ℕ) → is_named f ≡ true → list_all is_name_byte (inner_then f rest) ≡ true → ⊥
+named_bad (note_inside f) rest n k = absurd cc
+named_bad (letter_inside b) rest n k = absurd cc
+named_bad (named_inside name) rest n k = absurd cc
+named_bad (tie_inside d) rest n k = absurd cc
+named_bad slur_inside rest n k = absurd cc
+named_bad (passed_inside b) rest n k = absurd cc
+named_bad lone_inside rest n k = absurd cc
+
+clear_step : (bang : Bool) (q : ℕ → Bool) (text : List ℕ) (part : Inner) (rest : List ℕ) (b : Bool) → ((b : ℕ) → free b ≡ true → q b ≡ true) → StandsInside bang part text rest → list_all is_name_byte text ≡ true →
+    (list_all is_name_byte rest ≡ true → list_all q rest ≡ true) → is_named part ≡ b → list_all q text ≡ true
+clear_step bang q text part rest true wide stands h next n = absurd (named_bad part rest n (ap (list_all is_name_byte) (sym stands.cut) ∙ h))
+clear_step bang q text part rest false wide stands h next n =
+    let cut : text ≡ inner_then part [] ++ rest = stands.cut ∙ sym (inner_append part [] rest) in
+    let names = all_parts is_name_byte (inner_then part []) rest (ap (list_all is_name_byte) (sym cut) ∙ h) in
+    ap (list_all q) cut ∙ all_join q (inner_then part []) rest (wider free q (inner_then part []) wide (inner_free bang part stands.good n)) (next names.1)
+
+-- parts in a name close no group
+pub clear_parts : (bang : Bool) (q : ℕ → Bool) (text : List ℕ) (parts : List Inner) → ((b : ℕ) → free b ≡ true → q b ≡ true) → InnerParts bang text parts → list_all is_name_byte text ≡ true → list_all q text ≡ true
+clear_parts bang q _ _ wide no_part h = refl
+clear_parts bang q _ _ wide (then_part text part rest more l others) h = clear_step bang q text part rest (is_named part) wide l.stands h (clear_parts bang q rest more wide others) refl
