@@ -52,7 +52,7 @@ along_length : (up : Bool) (to : ℤ) (group : ℕ) (es : List Still) → length
 along_length up to group [] = refl
 along_length up to group (e ∷ es) = ap suc (along_length up to group es)
 
-run_length : (wish : Wish) (r : List Still) → length (run_plans wish r) ≡ length r
+pub run_length : (wish : Wish) (r : List Still) → length (run_plans wish r) ≡ length r
 unfolding run_plans
 run_length wish r = along_length (stands_up wish r) (run_end (stands_up wish r) r) (first_id r) r
 

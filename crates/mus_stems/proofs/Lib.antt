@@ -1,5 +1,6 @@
 pub mod Counting
 pub mod EndLaws
+pub mod GroupLaws
 pub mod Ranges
 pub mod Rows
 pub mod RunLaws

@@ -1,6 +1,7 @@
 pub mod Beams
 pub mod Dots
 pub mod Ends
+pub mod Groups
 pub mod Heads
 pub mod Ledgers
 pub mod Plans

@@ -5,6 +5,7 @@
 pub mod beams;
 pub mod dots;
 pub mod ends;
+pub mod groups;
 pub mod heads;
 pub mod ledgers;
 pub mod plans;
@@ -14,6 +15,7 @@ pub mod stills;
 
 pub use dots::Spot;
 pub use ends::{highest_head, lowest_head};
+pub use groups::{beams_by_groups, slopes_by_beams};
 pub use heads::{Stand, stands};
 pub use ledgers::ledgers_for;
 pub use plans::{StemPlan, stems};

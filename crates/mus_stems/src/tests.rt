@@ -3,7 +3,7 @@ ghost use Rattle.mus_stems.specs.Heads.{AllNear, stand_of, IsNear};
 ghost use Rattle.mus_stems.specs.Stills.{CanStand, AllCanStand};
 ghost use Rattle.mus_stems.specs.Plans.{AllEndsNear};
 
-use crate::{Spot, StemPlan, slope, stems};
+use crate::{Spot, StemPlan, beams_by_groups, slope, slopes_by_beams, stems};
 use mus_score::{Changes, Event, Flat, Look};
 use mus_units::{Alter, Base, Clef, Head, Letter, Memory, Pitch, Row, Value, Wish, height};
 use std::alloc::Global;
@@ -545,6 +545,7 @@ fn plans_heads(rt: HostRuntime) -> Result<(), Fail> {
 
 #[test]
 fn plans_beams(rt: HostRuntime) -> Result<(), Fail> {
+    beams_by_groups();
     for (wish, notes, wanted) in BEAMS {
         let plans = plans_of(rt.alloc(), notes, wish)?;
         assert_eq!(rt; plans.len(), wanted.len());
@@ -585,6 +586,7 @@ const FALLING: &[Note] = &[
 
 #[test]
 fn slopes_beams(rt: HostRuntime) -> Result<(), Fail> {
+    slopes_by_beams();
     let plans = plans_of(rt.alloc(), FALLING, Wish::Auto)?;
     assert_eq!(rt; plans.len(), 4);
     let sloped = slope(rt.alloc(), plans.as_slice(), &[1800, 2900, 4000, 5100])?;

@@ -1,0 +1,28 @@
+-- Beams are told by the `group` of plans: where the ids of events rise, the plans of a beam are a maximal run of
+-- neighbours with one group, the id of the event at which the beam begins.
+use Rattle.std.specs.Prelude.{◌≡◌, ℤ, Bool, ◌==◌, List, length, map}
+use Rattle.std.specs.List.Sorted.{IsStrictlyIncreasing}
+use Rattle.mus_units.specs.declared.note.Wish.{Wish}
+use Rattle.mus_stems.specs.declared.stills.Still.{Still}
+use Rattle.mus_stems.specs.declared.plans.StemPlan.{StemPlan}
+use Rattle.mus_stems.specs.Runs.{runs}
+use Rattle.mus_stems.specs.Beams.{beams}
+use Rattle.mus_stems.specs.Plans.{run_plans, plans_of_runs}
+use Rattle.mus_stems.specs.Slope.{anchors, shares_beam}
+
+-- plans whose beams begin at one event
+unfoldable pub same_group : StemPlan → StemPlan → Bool
+same_group p q = p.group == q.group
+
+-- each event has a greater id than the one before it
+abbrev pub IdsRise : List Still → Type 0
+IdsRise es = IsStrictlyIncreasing (map (λ (e : Still). e.id) es)
+
+-- the maximal runs of plans with one group are the plans of the beams, beam for beam
+abbrev pub BeamsByGroups : Type 0
+BeamsByGroups = (wish : Wish) (es : List Still) → IdsRise es → runs same_group (plans_of_runs wish (beams es)) ≡ map (run_plans wish) (beams es)
+
+-- the runs that a slope goes by are as long as the beams, one for each
+abbrev pub SlopesByBeams : Type 0
+SlopesByBeams = (wish : Wish) (es : List Still) (xs : List ℤ) → IdsRise es → length xs ≡ length es
+    → map (λ run. length run) (runs shares_beam (anchors (plans_of_runs wish (beams es)) xs)) ≡ map (λ beam. length beam) (beams es)

@@ -1,0 +1,14 @@
+ghost use Rattle.mus_stems.specs.Groups.{BeamsByGroups, SlopesByBeams};
+
+/// The law of groups: where the ids of a measure's events rise, the maximal runs of neighbouring
+/// plans with one `group` are the plans of its beams, beam for beam. An event without a beam is a
+/// run of its own. Does nothing.
+pub fn beams_by_groups()
+    ensures { BeamsByGroups }
+{}
+
+/// The law of slopes: where the ids of a measure's events rise, the runs of events whose ends
+/// `slope` puts on one line are as long as its beams, one for each. Does nothing.
+pub fn slopes_by_beams()
+    ensures { SlopesByBeams }
+{}
