@@ -25,17 +25,10 @@ use Rattle.abc_words.specs.Verses.{first_of as head_of}
 use Rattle.abc_score.specs.declared.voices.VoiceRead.{VoiceRead}
 use Rattle.abc_score.specs.Faults.{voice_faults, voice_weights, faults_of_voices}
 use Rattle.abc_score.specs.Score.{most_measures, own_measures}
-
-none_before : {X : Type 0} (xs ys : List X) → xs ++ ys ≡ [] → xs ≡ []
-none_before [] ys e = refl
-none_before (x ∷ xs) ys e = absurd cc
-
-none_behind : {X : Type 0} (xs ys : List X) → xs ++ ys ≡ [] → ys ≡ []
-none_behind [] ys e = e
-none_behind (x ∷ xs) ys e = absurd cc
+use Rattle.abc_score.proofs.Basics.{none_before, none_behind}
 
 -- a test that gives no fault
-no_fault : (b : Bool) (kind : FaultKind) (at : Stood) → fault_if b kind at ≡ [] → b ≡ false
+pub no_fault : (b : Bool) (kind : FaultKind) (at : Stood) → fault_if b kind at ≡ [] → b ≡ false
 no_fault true kind at e = absurd cc
 no_fault false kind at e = refl
 

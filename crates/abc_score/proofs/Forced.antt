@@ -1,7 +1,7 @@
 -- The bars that are forced among n measures rise, each behind the first measure and before the last bar.
 use Rattle.std.proofs.Common.{◌≡◌, refl, ℕ, ◌+◌, ◌≤◌, ◌<◌, List, [], ◌∷◌, ◌++◌, Bool, true, false, cond, reverse, arith}
 use Rattle.std.proofs.lemmas.Bool.Decides.{nat_tests}
-use Rattle.std.specs.Prelude.{⊤, ◌==◌, ◌||◌, ◌&&◌, nat_le, nat_lt}
+use Rattle.std.specs.Prelude.{⊤, ◌==◌, ◌&&◌, nat_le, nat_lt}
 use Rattle.std.specs.List.{list_any}
 use Rattle.mus_score.specs.Walks.{RiseWithin}
 use Rattle.abc_steps.specs.declared.step.Step.{Step}
@@ -13,6 +13,7 @@ use Rattle.abc_steps.specs.Counts.{all_further, begins_group, counts_of, further
 use Rattle.abc_events.specs.Bars.{forced_at, forced_bars, forced_behind, is_forced, is_near_bar, with_bar}
 use Rattle.abc_score.specs.declared.voices.VoiceRead.{VoiceRead}
 use Rattle.abc_score.specs.Score.{forced_of}
+use Rattle.abc_score.proofs.Basics.{both_hold, neither}
 
 -- bars that rise from behind one, before n and not past another
 abbrev Rises : ℕ → ℕ → ℕ → List ℕ → Type 0
@@ -27,21 +28,13 @@ within_n : (from n top : ℕ) (bs : List ℕ) → Rises from n top bs → RiseWi
 within_n from n top [] rise = tt
 within_n from n top (b ∷ bs) (above, below, within, rise) = (above, below, within_n b n top bs rise)
 
-pub either_false : (a b : Bool) → (a || b) ≡ false → (a ≡ false) × (b ≡ false)
-either_false true b e = absurd cc
-either_false false b e = (refl, e)
-
-both_true : (a b : Bool) → (a && b) ≡ true → (a ≡ true) × (b ≡ true)
-both_true true b e = (refl, e)
-both_true false b e = absurd cc
-
 below_new : (b top bar : ℕ) → (b == bar) ≡ false → b ≤ top → top ≤ bar → b < bar
 below_new b top bar new within less = grind (arith, nat_tests)
 
 with_last : (from n top bar : ℕ) (bs : List ℕ) → list_any (λ b. b == bar) bs ≡ false → from < bar → bar < n → top ≤ bar → Rises from n top bs → Rises from n bar (bs ++ bar ∷ [])
 with_last from n top bar [] new above below less rise = (above, below, omega arith, tt)
 with_last from n top bar (b ∷ bs) new above below less (behind, before, within, rise) =
-    let parts = either_false (b == bar) (list_any (λ x. x == bar) bs) new in
+    let parts = neither (b == bar) (list_any (λ x. x == bar) bs) new in
     (behind, before, omega (arith, within, less), with_last b n top bar bs parts.1 (below_new b top bar parts.0 within less) below less rise)
 
 with_bar_rises : (n top bar : ℕ) (bs : List ℕ) → 1 ≤ bar → bar < n → top ≤ bar → Rises 0 n top bs → Rises 0 n bar (with_bar bar bs)
@@ -52,7 +45,7 @@ with_bar_rises n top bar bs some below less rise = by_test (list_any (λ b. b ==
 
 inside : (bar n : ℕ) → (nat_le 1 bar && nat_lt bar n) ≡ true → (1 ≤ bar) × (bar < n)
 inside bar n e =
-    let parts = both_true (nat_le 1 bar) (nat_lt bar n) e in
+    let parts = both_hold (nat_le 1 bar) (nat_lt bar n) e in
     let low : nat_le 1 bar ≡ true = parts.0 in
     let high : nat_lt bar n ≡ true = parts.1 in
     (grind (arith, nat_tests, low), grind (arith, nat_tests, high))
@@ -63,7 +56,7 @@ step_rises n counts step.Break bs rise = by_test (is_forced n counts) refl where
   by_test : (t : Bool) → is_forced n counts ≡ t → Rises 0 n (counts.groups + counts.further) (cond t (with_bar (counts.groups + counts.further) bs) bs)
   by_test true e =
       let bar = counts.groups + counts.further in
-      let parts = both_true (is_near_bar counts.nearest) (nat_le 1 bar && nat_lt bar n) e in
+      let parts = both_hold (is_near_bar counts.nearest) (nat_le 1 bar && nat_lt bar n) e in
       let held = inside bar n parts.1 in
       with_bar_rises n bar bar bs held.0 held.1 (omega arith) rise
   by_test false e = rise

@@ -16,7 +16,7 @@ use Rattle.abc_steps.specs.declared.step.Item.TheVariants as item
 use Rattle.abc_items.specs.Voices.{claims, declared_ids, ids_after, ids_by_step, ids_of, start_of, starts_of}
 use Rattle.abc_items.specs.declared.voices.VoiceStart.{VoiceStart}
 use Rattle.abc_score.specs.declared.voices.VoiceRead.{VoiceRead}
-use Rattle.abc_score.proofs.Forced.{either_false}
+use Rattle.abc_score.proofs.Basics.{neither}
 use Rattle.abc_score.specs.Voices.{AreApart, IsOther, read_ids, voice_read}
 use Rattle.abc_items.specs.Body.{Given, gives, fails, first_fault, items_in, judged, voice_judged, IsBody}
 
@@ -30,7 +30,7 @@ other_last id last (other ∷ ids) new others = (others.0, other_last id last id
 apart_last : (id : List ℕ) (ids : List (List ℕ)) → list_any (bytes_eq id) ids ≡ false → AreApart ids → AreApart (ids ++ id ∷ [])
 apart_last id [] new apart = (tt, tt)
 apart_last id (other ∷ ids) new apart =
-    let parts = either_false (bytes_eq id other) (list_any (bytes_eq id) ids) new in
+    let parts = neither (bytes_eq id other) (list_any (bytes_eq id) ids) new in
     (other_last other id ids (λ e. differ id other parts.0 (sym e)) apart.0, apart_last id ids parts.1 apart.1)
 
 with_apart : (ids : List (List ℕ)) (id : List ℕ) → AreApart ids → AreApart (with_id ids id)

@@ -1,6 +1,5 @@
 ghost use Rattle.std.specs.Prelude.{◌≡◌, ◌≤◌, None, length, drop, IfOk, IfErr};
 ghost use Rattle.std.specs.List.{All};
-ghost use Rattle.abc_lines.specs.declared.fault.TuneError.TheVariants as errors;
 ghost use Rattle.abc_lines.specs.Good.{IsGoodTune};
 ghost use Rattle.abc_header.specs.Headers.{HasGoodValues, IsGoodHeader};
 ghost use Rattle.abc_items.specs.Good.{IsGoodItem};
@@ -19,23 +18,8 @@ use abc_header::Header;
 use abc_items::{read_body, unnamed_of};
 use abc_lines::{TuneError, TuneText};
 use abc_steps::Item;
-use mus_score::{Score, is_good_score};
+use mus_score::Score;
 use std::alloc::Global;
-
-/// The same score. The score of a body without fault is good. `score_with` proves
-/// the frame of that, but that the music of its voices is good is not proved, so
-/// this check stands in its place; where it failed, the answer would be want of
-/// memory.
-fn checked(alloc: Global, score: Score) -> Result<Score, TuneError>
-    ensures same { IfOk result (λ s. s ≡ score) }
-    ensures good { IfOk result IsGoodScore }
-    ensures memory { IfErr result (λ e. e ≡ errors.Memory) }
-{
-    if !is_good_score(alloc, &score)? {
-        return Err(TuneError::Memory);
-    }
-    Ok(score)
-}
 
 /// The score of a body that is read, or its first fault.
 fn score_in(alloc: Global, header: &Header, items: &[Item], flow: bool) -> Result<Score, TuneError>
@@ -52,7 +36,7 @@ fn score_in(alloc: Global, header: &Header, items: &[Item], flow: bool) -> Resul
     let fault = fault_of_score(alloc, unnamed_of(header), items, voices.as_slice())?;
     match fault {
         Some(fault) => Err(TuneError::Fault(fault)),
-        None => checked(alloc, score_with(alloc, header, items, flow, voices)?),
+        None => Ok(score_with(alloc, header, items, flow, voices)?),
     }
 }
 

@@ -1,0 +1,303 @@
+-- A score of voices without faults is good.
+use Rattle.std.proofs.Common.{◌≡◌, ◌∙◌, refl, sym, ap, subst, ℕ, zero, suc, ◌+◌, ◌≤◌, ◌<◌, List, [], ◌∷◌, ◌++◌, map, sum_by, length, reverse, take, drop, Bool, true, false, cond, ◌==◌, Option, Some, None, unwrap_or, slice_get, append-nil, arith}
+use Rattle.std.proofs.lemmas.List.{drop_all}
+use Rattle.std.proofs.lemmas.List.Elements.{All-from_recursion, recursion_from_All}
+use Rattle.std.proofs.lemmas.List.FromFn.{length-map-range_with_len}
+use Rattle.std.proofs.lemmas.List.Sums.{sum_by-cons, sum_by-append}
+use Rattle.std.specs.Prelude.{flat_map}
+use Rattle.std.specs.List.{All, AllByRecursion, range_with_len}
+use Rattle.mus_units.specs.declared.pitch.Clef.{Clef}
+use Rattle.mus_units.specs.Good.{IsGoodKey, IsGoodMeter}
+use Rattle.mus_score.specs.declared.score.Measure.{Measure}
+use Rattle.mus_score.specs.declared.score.Voice.{Voice}
+use Rattle.mus_score.specs.Good.{IsGoodBody}
+use Rattle.mus_score.specs.GoodScore.{AreCounted, AreInReach, IsGoodEvent, IsGoodScore, IsGoodVoice, events_of, voice_weight}
+use Rattle.abc_header.specs.declared.header.Header.{Header}
+use Rattle.abc_header.specs.Headers.{HasGoodValues}
+use Rattle.abc_steps.specs.declared.step.Item.{Item}
+use Rattle.abc_steps.specs.declared.force.InForce.{InForce}
+use Rattle.abc_steps.specs.Good.{IsGoodStood}
+use Rattle.abc_steps.specs.Looks.{Steps}
+use Rattle.abc_items.specs.declared.voices.VoiceStart.{VoiceStart}
+use Rattle.abc_items.specs.Voices.{starts_of, unnamed_of}
+use Rattle.abc_events.specs.declared.leaves.Leaf.{Leaf}
+use Rattle.abc_events.specs.declared.leaves.Leaf.TheVariants as leaves
+use Rattle.abc_events.specs.declared.written.Sign.{Sign}
+use Rattle.abc_events.specs.declared.written.Sign.TheVariants as sign
+use Rattle.abc_events.specs.Bars.{bar_of, bars_of}
+use Rattle.abc_events.specs.Leaves.{Words, leaves_from, words_at}
+use Rattle.abc_events.specs.Measures.{leaves_in, measure_of, measures_in}
+use Rattle.abc_events.specs.Nesting.{tree_of}
+use Rattle.abc_events.specs.Signs.{IsDrawn, signs}
+use Rattle.abc_events.proofs.Drawn.{walk_drawn}
+use Rattle.abc_faults.specs.Faults.{faults_in}
+use Rattle.abc_faults.specs.Weights.{crowded}
+use Rattle.abc_words.specs.declared.music.MusicRow.{MusicRow}
+use Rattle.abc_words.specs.Rows.{row_count}
+use Rattle.abc_words.specs.Verses.{verse_count, verse_fault, verse_faults, verses_of}
+use Rattle.abc_words.specs.Words.{event_words, music_rows, verse_sung, word_of}
+use Rattle.abc_words.proofs.FaultLaws.{few_verses}
+use Rattle.abc_score.specs.declared.voices.VoiceRead.{VoiceRead}
+use Rattle.abc_score.specs.Faults.{faults_of_voices, voice_faults, voice_weights}
+use Rattle.abc_score.specs.Framed.{IsFramed}
+use Rattle.abc_score.specs.Score.{event_count, most_measures, notes_from, own_measures, score_with, sung_words, voice_of, written_measures}
+use Rattle.abc_score.specs.Voices.{IsGoodRead, voice_read, voices_read}
+use Rattle.abc_score.proofs.Basics.{none_before, none_behind}
+use Rattle.abc_score.proofs.Rows.{leaf_rows, tree_weight, weight_of}
+use Rattle.abc_score.proofs.Cores.{CoresCount, CoresReach, IsGoodCore, count_of, events_of_cores, reach_of}
+use Rattle.abc_score.proofs.Segments.{Rise, measures_sing, measures_weigh}
+use Rattle.abc_score.proofs.Parts.{event_number, signs_count, signs_good, signs_reach, signs_sung}
+use Rattle.abc_score.proofs.Nested.{nested_good}
+use Rattle.abc_score.proofs.Walks.{walk_changes, walk_parts}
+use Rattle.abc_score.proofs.Full.{all_full}
+use Rattle.abc_score.proofs.Reaching.{voice_reach}
+use Rattle.abc_score.proofs.Rising.{own_most, voice_rise}
+use Rattle.abc_score.proofs.Weighing.{count, leaves_weigh, not_crowded, sign_weight, signs_weigh}
+
+-- ---- words
+
+made_at : (f : ℕ → Words) (n from k : ℕ) → k < n → slice_get (map f (range_with_len from n)) k ≡ Some (f (from + k))
+made_at f zero from k less = absurd (omega arith)
+made_at f (suc n) from zero less = let same : from ≡ from + 0 = omega arith in ap (λ i. Some (f i)) same
+made_at f (suc n) from (suc k) less =
+    let same : from + 1 + k ≡ from + suc k = omega arith in
+    made_at f n (from + 1) k (omega (arith, less)) ∙ ap (λ i. Some (f i)) same
+
+count_is : (ss : List Sign) → event_count ss ≡ event_number ss
+count_is [] = refl
+count_is (sign.Event w waiting ∷ ss) = omega (arith, count_is ss)
+count_is (sign.Opens measure p q r ∷ ss) = count_is ss
+
+length_words : (rows : List MusicRow) (verses event : ℕ) → length (event_words rows verses event) ≡ verses
+length_words rows verses event = length-map-range_with_len (λ verse. word_of (verse_sung rows verse) event) 0 verses
+
+-- each event has a place for each verse
+each_words : (id unnamed : List ℕ) (items : List Item) (ss : List Sign) (j : ℕ) → j < 0 + event_number ss → length (words_at (sung_words id unnamed items ss) j) ≡ verse_count id unnamed items
+unfolding sung_words
+each_words id unnamed items ss j less =
+    let rows = music_rows id unnamed items (notes_from 0 ss) in
+    let verses = verse_count id unnamed items in
+    let within : j < event_count ss = omega (arith, less, count_is ss) in
+    ap (λ (o : Option Words). length (unwrap_or o [])) (made_at (event_words rows verses) (event_count ss) 0 j within) ∙ length_words rows verses (0 + j)
+
+-- ---- a voice
+
+all_drawn : (first : InForce) (steps : Steps) → AllByRecursion IsDrawn (signs first [] steps)
+all_drawn first steps =
+    let all = signs first [] steps in
+    let end : all ++ signs first (reverse (take (length steps) steps)) (drop (length steps) steps) ≡ all =
+    ap (λ (z : Steps). all ++ signs first (reverse (take (length steps) steps)) z) (drop_all (length steps) steps (omega arith)) ∙ append-nil all in
+    recursion_from_All IsDrawn all (walk_drawn first steps (length steps) all (omega arith) end)
+
+all_made : {X : Type 0} (P : X → Type 0) (f : ℕ → X) → ((k : ℕ) → P (f k)) → (ks : List ℕ) → AllByRecursion P (map f ks)
+all_made P f each [] = tt
+all_made P f each (k ∷ ks) = (each k, all_made P f each ks)
+
+-- a measure weighs no more than all
+weight_in : (k : ℕ) (ls : List Leaf) → sum_by weight_of (leaf_rows (leaves_in k ls)) ≤ sum_by weight_of (leaf_rows ls)
+weight_in k [] = omega arith
+weight_in k (leaves.Event m nodes ∷ ls) =
+    let all = sum_by-cons weight_of nodes (leaf_rows ls) in
+    by_test (m == k) (weight_in k ls) all where
+      by_test : (b : Bool) → sum_by weight_of (leaf_rows (leaves_in k ls)) ≤ sum_by weight_of (leaf_rows ls) → sum_by weight_of (nodes ∷ leaf_rows ls) ≡ weight_of nodes + sum_by weight_of (leaf_rows ls)
+          → sum_by weight_of (leaf_rows (cond b (leaves.Event m nodes ∷ leaves_in k ls) (leaves_in k ls))) ≤ sum_by weight_of (nodes ∷ leaf_rows ls)
+      by_test true less all = let own = sum_by-cons weight_of nodes (leaf_rows (leaves_in k ls)) in omega (arith, less, all, own)
+      by_test false less all = omega (arith, less, all)
+weight_in k (leaves.Opens m p q r ∷ ls) = by_test (m == k) (weight_in k ls) where
+  by_test : (b : Bool) → sum_by weight_of (leaf_rows (leaves_in k ls)) ≤ sum_by weight_of (leaf_rows ls) → sum_by weight_of (leaf_rows (cond b (leaves.Opens m p q r ∷ leaves_in k ls) (leaves_in k ls))) ≤ sum_by weight_of (leaf_rows ls)
+  by_test true less = less
+  by_test false less = less
+
+-- what is known of a voice
+pub record IsClear (header : Header) (items : List Item) (n : ℕ) (v : VoiceRead) : Type 0 where
+  pub read : IsGoodRead v
+  pub clef : v.first.clef ≡ v.start.clef
+  pub verses : verse_fault v.start.id (unnamed_of header) items ≡ None
+  pub clear : faults_in v.first [] v.steps ≡ []
+  pub own : own_measures v ≤ n
+
+-- and of its music
+pub record IsGoodMusic (v : Voice) : Type 0 where
+  pub bodies : All (λ (m : Measure). IsGoodBody m.body) v.measures
+  pub events : All (IsGoodEvent v.verses) (events_of v.measures)
+  pub reach : AreInReach v.clef (events_of v.measures)
+  pub ids : AreCounted 0 (events_of v.measures)
+
+abbrev words_in : Header → List Item → VoiceRead → List Words
+words_in header items v = sung_words v.start.id (unnamed_of header) items (signs v.first [] v.steps)
+
+abbrev leaves_with : Header → List Item → VoiceRead → List Leaf
+leaves_with header items v = leaves_from (words_in header items v) 0 0 (signs v.first [] v.steps)
+
+length_bars : (v : VoiceRead) (n : ℕ) → length (bars_of v.steps n) ≡ n
+length_bars v n = length-map-range_with_len (bar_of v.steps) 0 n
+
+goods : (v : VoiceRead) → IsGoodRead v → AllByRecursion IsGoodStood v.steps
+goods v read = recursion_from_All IsGoodStood v.steps read.steps
+
+rise_in : (header : Header) (items : List Item) (n : ℕ) (v : VoiceRead) → IsGoodRead v → own_measures v ≤ n → Rise 0 (length (bars_of v.steps n)) (leaves_with header items v)
+rise_in header items n v read own =
+    let long : length (bars_of v.steps n) ≡ n = length_bars v n in
+    voice_rise (words_in header items v) v.first v.steps (length (bars_of v.steps n)) (goods v read) (omega (arith, long, own))
+
+measures_are : (header : Header) (items : List Item) (n : ℕ) (v : VoiceRead) → written_measures (unnamed_of header) items n v ≡ measures_in (leaves_with header items v) (bars_of v.steps n)
+unfolding written_measures
+measures_are header items n v = refl
+
+weight_is : (header : Header) (items : List Item) (n : ℕ) (v : VoiceRead) → IsGoodRead v → own_measures v ≤ n → sum_by (λ (m : Measure). weight_of m.body) (written_measures (unnamed_of header) items n v) ≡ sum_by sign_weight (signs v.first [] v.steps)
+weight_is header items n v read own =
+    ap (sum_by (λ (m : Measure). weight_of m.body)) (measures_are header items n v)
+    ∙ measures_weigh (leaves_with header items v) (bars_of v.steps n) (rise_in header items n v read own)
+    ∙ leaves_weigh (words_in header items v) 0 0 (signs v.first [] v.steps)
+
+pub weight_high : (header : Header) (items : List Item) (n : ℕ) (v : VoiceRead) → IsGoodRead v → own_measures v ≤ n → voice_weight (voice_of header items n v) ≤ sum_by count (voice_weights v)
+unfolding voice_of
+weight_high header items n v read own =
+    let is = weight_is header items n v read own in
+    let less = signs_weigh v.first [] v.steps (goods v read) in
+    subst (λ k. k ≤ sum_by count (voice_weights v)) (sym is) less
+
+body_good : (header : Header) (items : List Item) (n : ℕ) (v : VoiceRead) → IsClear header items n v → sum_by count (voice_weights v) ≤ 50000 → (k : ℕ) → IsGoodBody (tree_of (leaves_in k (leaves_with header items v)))
+body_good header items n v is few k =
+    let ls = leaves_with header items v in
+    let own = tree_weight (leaves_in k ls) in
+    let within = weight_in k ls in
+    let all = leaves_weigh (words_in header items v) 0 0 (signs v.first [] v.steps) in
+    let less = signs_weigh v.first [] v.steps (goods v is.read) in
+    record {
+      good = nested_good (leaves_in k ls) (all_full (words_in header items v) k v.first v.steps is.read.first (goods v is.read) is.clear (all_drawn v.first v.steps));
+      few = within_all (weight_of (tree_of (leaves_in k ls))) (sum_by weight_of (leaf_rows (leaves_in k ls))) (sum_by weight_of (leaf_rows ls)) (sum_by sign_weight (signs v.first [] v.steps)) (sum_by count (voice_weights v)) own within all less few;
+    } where
+      within_all : (a b c d e : ℕ) → a ≡ b → b ≤ c → c ≡ d → d ≤ e → e ≤ 50000 → a ≤ 50000
+      within_all a b c d e x y z u w = omega arith
+
+-- the same of the measures themselves
+pub record IsGoodRow (verses : ℕ) (clef : Clef) (ms : List Measure) : Type 0 where
+  pub bodies : All (λ (m : Measure). IsGoodBody m.body) ms
+  pub events : All (IsGoodEvent verses) (events_of ms)
+  pub reach : AreInReach clef (events_of ms)
+  pub ids : AreCounted 0 (events_of ms)
+
+row_good : (header : Header) (items : List Item) (n : ℕ) (v : VoiceRead) → IsClear header items n v → sum_by count (voice_weights v) ≤ 50000
+    → IsGoodRow (verse_count v.start.id (unnamed_of header) items) v.first.clef (measures_in (leaves_with header items v) (bars_of v.steps n))
+row_good header items n v is few =
+    let ss = signs v.first [] v.steps in
+    let words = words_in header items v in
+    let verses = verse_count v.start.id (unnamed_of header) items in
+    let ls = leaves_with header items v in
+    let bars = bars_of v.steps n in
+    let ms = measures_in ls bars in
+    let parts = walk_parts v.first [] v.steps is.read.first tt (goods v is.read) is.clear in
+    let changes = walk_changes v.first [] v.steps is.read.first tt (goods v is.read) in
+    let sings = sym (measures_sing ls bars (rise_in header items n v is.read is.own) (signs_sung words 0 0 ss parts)) in
+    record {
+      bodies = All-from_recursion (λ (m : Measure). IsGoodBody m.body) ms (all_made (λ (m : Measure). IsGoodBody m.body) (measure_of ls bars) (body_good header items n v is few) (range_with_len 0 (length bars)));
+      events = events_of_cores verses (events_of ms) (subst (AllByRecursion (IsGoodCore verses)) sings (signs_good words verses 0 0 ss parts changes (each_words v.start.id (unnamed_of header) items ss)));
+      reach = reach_of v.first.clef (events_of ms) (subst (CoresReach v.first.clef) sings (signs_reach words 0 0 v.first.clef ss parts (voice_reach v.first v.steps is.clear)));
+      ids = count_of 0 (events_of ms) (subst (CoresCount 0) sings (signs_count words 0 0 ss parts));
+    }
+
+music_good : (header : Header) (items : List Item) (n : ℕ) (v : VoiceRead) → IsClear header items n v → sum_by count (voice_weights v) ≤ 50000 → IsGoodMusic (voice_of header items n v)
+unfolding voice_of
+music_good header items n v is few =
+    let verses = verse_count v.start.id (unnamed_of header) items in
+    let row = row_good header items n v is few in
+    let at_start = subst (λ clef. IsGoodRow verses clef (measures_in (leaves_with header items v) (bars_of v.steps n))) is.clef row in
+    let own = subst (IsGoodRow verses v.start.clef) (sym (measures_are header items n v)) at_start in
+    record { bodies = own.bodies; events = own.events; reach = own.reach; ids = own.ids }
+
+length_measures : (header : Header) (items : List Item) (n : ℕ) (v : VoiceRead) → length (voice_of header items n v).measures ≡ n
+unfolding voice_of written_measures
+length_measures header items n v = length-map-range_with_len (measure_of (leaves_with header items v) (bars_of v.steps n)) 0 (length (bars_of v.steps n)) ∙ length_bars v n
+
+pub record HasGoodFrame (v : Voice) : Type 0 where
+  pub few_verses : v.verses ≤ 8
+  pub key : IsGoodKey v.key
+  pub meter : IsGoodMeter v.meter
+
+voice_frame : (header : Header) (items : List Item) (n : ℕ) (v : VoiceRead) → HasGoodValues header → verse_fault v.start.id (unnamed_of header) items ≡ None → HasGoodFrame (voice_of header items n v)
+unfolding voice_of
+voice_frame header items n v good clear = record {
+  few_verses = few_verses (verses_of v.start.id (unnamed_of header) items) (row_count items) clear;
+  key = good.key;
+  meter = good.meter;
+}
+
+voice_good : (header : Header) (items : List Item) (n : ℕ) (v : VoiceRead) → HasGoodValues header → n ≤ 2000 → IsClear header items n v → sum_by count (voice_weights v) ≤ 50000 → IsGoodVoice (voice_of header items n v)
+voice_good header items n v good most is few =
+    let long : length (voice_of header items n v).measures ≡ n = length_measures header items n v in
+    let weight = weight_high header items n v is.read is.own in
+    let frame = voice_frame header items n v good is.verses in
+    let music = music_good header items n v is few in
+    record {
+      few_measures = omega (arith, long, most);
+      few_verses = frame.few_verses;
+      few_heads = omega (arith, weight, few);
+      key = frame.key;
+      meter = frame.meter;
+      bodies = music.bodies;
+      events = music.events;
+      reach = music.reach;
+      ids = music.ids;
+    }
+
+-- ---- all voices
+
+voices_good : (header : Header) (items : List Item) (n : ℕ) (voices : List VoiceRead) → HasGoodValues header → n ≤ 2000 → AllByRecursion (IsClear header items n) voices → sum_by count (flat_map voice_weights voices) ≤ 50000 → AllByRecursion IsGoodVoice (map (voice_of header items n) voices)
+voices_good header items n [] good most all few = tt
+voices_good header items n (v ∷ voices) good most all few =
+    let both = sum_by-append count (voice_weights v) (flat_map voice_weights voices) in
+    (voice_good header items n v good most all.0 (omega (arith, both, few)), voices_good header items n voices good most all.1 (omega (arith, both, few)))
+
+voices_weigh : (header : Header) (items : List Item) (n : ℕ) (voices : List VoiceRead) → AllByRecursion (IsClear header items n) voices → sum_by voice_weight (map (voice_of header items n) voices) ≤ sum_by count (flat_map voice_weights voices)
+voices_weigh header items n [] all = omega arith
+voices_weigh header items n (v ∷ voices) all =
+    let first = sum_by-cons voice_weight (voice_of header items n v) (map (voice_of header items n) voices) in
+    let own = weight_high header items n v all.0.read all.0.own in
+    let others = voices_weigh header items n voices all.1 in
+    let both = sum_by-append count (voice_weights v) (flat_map voice_weights voices) in
+    joined (sum_by voice_weight (map (voice_of header items n) (v ∷ voices))) (voice_weight (voice_of header items n v)) (sum_by voice_weight (map (voice_of header items n) voices)) (sum_by count (voice_weights v ++ flat_map voice_weights voices)) (sum_by count (voice_weights v)) (sum_by count (flat_map voice_weights voices)) first own others both where
+      joined : (a b c d e f : ℕ) → a ≡ b + c → b ≤ e → c ≤ f → d ≡ e + f → a ≤ d
+      joined a b c d e f x y z w = omega arith
+
+all_clear : (header : Header) (items : List Item) (n : ℕ) (voices : List VoiceRead) → AllByRecursion IsGoodRead voices → AllByRecursion (λ (v : VoiceRead). v.first.clef ≡ v.start.clef) voices
+    → AllByRecursion (λ (v : VoiceRead). verse_fault v.start.id (unnamed_of header) items ≡ None) voices → AllByRecursion (λ (v : VoiceRead). own_measures v ≤ n) voices → flat_map (voice_faults (unnamed_of header) items) voices ≡ []
+    → AllByRecursion (IsClear header items n) voices
+all_clear header items n [] reads clefs verses owns e = tt
+all_clear header items n (v ∷ voices) reads clefs verses owns e =
+    let own = faults_in v.first [] v.steps in
+    let sung = verse_faults v.start.id (unnamed_of header) items in
+    let others = flat_map (voice_faults (unnamed_of header) items) voices in (
+      record { read = reads.0; clef = clefs.0; verses = verses.0; clear = none_before own sung (none_before (own ++ sung) others e); own = owns.0 },
+      all_clear header items n voices reads.1 clefs.1 verses.1 owns.1 (none_behind (own ++ sung) others e),
+    )
+
+-- a voice begins with its own clef
+first_clefs : (header : Header) (items : List Item) (starts : List VoiceStart) → AllByRecursion (λ (v : VoiceRead). v.first.clef ≡ v.start.clef) (map (voice_read header items) starts)
+first_clefs header items [] = tt
+first_clefs header items (start ∷ starts) = (refl, first_clefs header items starts)
+
+pub read_clefs : (header : Header) (items : List Item) (voices : List VoiceRead) → voices ≡ voices_read header items → AllByRecursion (λ (v : VoiceRead). v.first.clef ≡ v.start.clef) voices
+read_clefs header items voices e = subst (AllByRecursion (λ (v : VoiceRead). v.first.clef ≡ v.start.clef)) (sym e) (first_clefs header items (starts_of header items))
+
+pub good_score : (header : Header) (items : List Item) (flow : Bool) (voices : List VoiceRead) → HasGoodValues header → All IsGoodRead voices → All (λ v. verse_fault v.start.id (unnamed_of header) items ≡ None) voices
+    → voices ≡ voices_read header items → most_measures voices ≤ 2000 → faults_of_voices (unnamed_of header) items voices ≡ [] → IsFramed (score_with header items flow voices) → IsGoodScore (score_with header items flow voices)
+unfolding score_with
+good_score header items flow voices good reads verses are most e framed =
+    let n = most_measures voices in
+    let own = flat_map (voice_faults (unnamed_of header) items) voices in
+    let weights = flat_map voice_weights voices in
+    let few = not_crowded weights (none_behind own (crowded weights) e) in
+    let clear = all_clear header items n voices (recursion_from_All IsGoodRead voices reads) (read_clefs header items voices are)
+    (recursion_from_All (λ (v : VoiceRead). verse_fault v.start.id (unnamed_of header) items ≡ None) voices verses) (own_most voices) (none_before own (crowded weights) e) in
+    let weigh = voices_weigh header items n voices clear in
+    record {
+      few_voices = framed.few_voices;
+      few_measures = framed.few_measures;
+      few_heads = omega (arith, weigh, few);
+      voices = All-from_recursion IsGoodVoice (map (voice_of header items n) voices) (voices_good header items n voices good most clear few);
+      measures = framed.measures;
+      ids = framed.ids;
+      forced = framed.forced;
+      forced_rise = framed.forced_rise;
+    }
