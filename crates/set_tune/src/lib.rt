@@ -1,12 +1,18 @@
-//! A tune set on staves.
-//!
-//! So far one measure of letters: eighth notes in C major on one staff, with
-//! ledgers, stems, a flag or a beam, and the bar.
+//! A tune set: its header, its score, the score laid out in systems, and the blocks that these make
+//! on pages; or the tune's one fault.
 #![tactic(auto)]
 
-pub mod plain;
+pub mod blocks;
+pub mod setting;
+pub mod tune;
 
-pub use plain::{Stems, is_letter_byte, set_plain};
+pub use blocks::blocks_of;
+pub use lay_breaks::{Breaking, Span};
+pub use lay_pages::{Block, Heights, TitleBlock};
+pub use lay_springs::Placed;
+pub use mus_laid::SystemMarks;
+pub use setting::set;
+pub use tune::SetTune;
 
 #[cfg(test)]
 mod tests;

@@ -1,0 +1,22 @@
+-- What comes of the tunes of a book: one outcome for each, in order.
+use Rattle.std.specs.Prelude.{◌≡◌, List, Bool, Result, Ok, Err}
+use Rattle.std.specs.List.{AllZip}
+use Rattle.abc_lines.specs.declared.book.TuneText.{TuneText}
+use Rattle.abc_lines.specs.declared.fault.Fault.{Fault}
+use Rattle.abc_header.specs.declared.defaults.Defaults.{Defaults}
+use Rattle.abc_header.specs.declared.paper.Paper.{Paper}
+use Rattle.set_tune.specs.declared.tune.SetTune.{SetTune}
+use Rattle.set_tune.specs.Setting.{IsFaultOfTune, IsSetTune}
+use Rattle.set_book.specs.declared.outcome.Outcome.{Outcome}
+
+abbrev pub IsResult : TuneText → Defaults → Paper → Bool → Result SetTune Fault → Type 0
+IsResult tune defaults paper flow (Ok t) = IsSetTune tune defaults paper flow t
+IsResult tune defaults paper flow (Err fault) = IsFaultOfTune tune defaults paper flow fault
+
+-- the tune set, or its one fault, under its place in the book
+pub record IsOutcome (defaults : Defaults) (paper : Paper) (flow : Bool) (tune : TuneText) (o : Outcome) : Type 0 where
+  pub ordinal : o.ordinal ≡ tune.ordinal
+  pub result : IsResult tune defaults paper flow o.result
+
+abbrev pub AreOutcomes : Defaults → Paper → Bool → List TuneText → List Outcome → Type 0
+AreOutcomes defaults paper flow tunes outcomes = AllZip (IsOutcome defaults paper flow) tunes outcomes

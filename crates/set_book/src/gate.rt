@@ -1,0 +1,13 @@
+/// What each tune enters before it is set.
+pub trait Gate {
+    /// Tells that the tune with this ordinal is set next.
+    fn enter(&self, tune: u32);
+}
+
+/// A gate that does nothing.
+#[derive(Clone, Copy, Debug, PartialEq, Eq)]
+pub struct Open;
+
+impl Gate for Open {
+    fn enter(&self, _tune: u32) {}
+}

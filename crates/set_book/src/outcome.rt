@@ -1,0 +1,10 @@
+use abc_lines::Fault;
+use set_tune::SetTune;
+
+/// What came of a tune: its place among the tunes of the book, from 1, and the tune as it is set, or
+/// its one fault.
+#[derive(Debug, Drop)]
+pub struct Outcome {
+    pub ordinal: u32,
+    pub result: Result<SetTune, Fault>,
+}

@@ -1,0 +1,75 @@
+ghost use Rattle.std.specs.Prelude.{◌≡◌, ◌≤◌, IfOk, All};
+ghost use Rattle.abc_lines.specs.Good.{IsGoodBook, IsGoodTune};
+ghost use Rattle.abc_header.specs.Defaults.{defaults_of};
+ghost use Rattle.abc_header.specs.Good.{IsGoodDefaults};
+ghost use Rattle.abc_header.specs.Papers.{IsGoodPaper};
+ghost use Rattle.set_book.specs.Outcomes.{AreOutcomes, IsOutcome};
+
+use crate::gate::Gate;
+use crate::outcome::Outcome;
+use abc_header::{Defaults, Paper, read_defaults};
+use abc_lines::{Book, TuneError, TuneText};
+use mus_units::{Memory, Row};
+use set_halves::{Work, work_all};
+use set_tune::set;
+use std::alloc::Global;
+use std::thread::Threads;
+
+/// The setting of tunes of one book on one paper.
+#[derive(Drop)]
+struct Setting<'a, G> {
+    alloc: Global,
+    defaults: Defaults,
+    paper: &'a Paper,
+    flow: bool,
+    gate: &'a G,
+}
+
+impl<'a, G: Gate> Work<TuneText, Outcome> for Setting<'a, G> {
+    ghost takes = { λ s tune. IsGoodTune tune × IsGoodDefaults s.defaults × IsGoodPaper s.paper.now };
+
+    ghost gives = { λ s tune outcome. IsOutcome s.defaults s.paper.now s.flow tune outcome };
+
+    fn work(&self, tune: &TuneText) -> Result<Outcome, Memory> {
+        self.gate.enter(tune.ordinal);
+        let result = match set(self.alloc, tune, &self.defaults, self.paper, self.flow) {
+            Ok(set) => Ok(set),
+            Err(TuneError::Fault(fault)) => Err(fault),
+            Err(TuneError::Memory) => return Err(Memory),
+        };
+        Ok(Outcome {
+            ordinal: tune.ordinal,
+            result,
+        })
+    }
+}
+
+/// What comes of each tune of a book on paper, in the order of the book, under the defaults of the
+/// file header. With `flow` no bar is forced.
+///
+/// `jobs` is 1 to 64: the list of tunes is halved, and the jobs with it, and the halves are set side
+/// by side where threads can be made. Each tune enters the gate once, before it is set.
+pub fn set_all<R: Threads + Sync, G: Gate + Sync>(
+    rt: &R,
+    alloc: Global,
+    book: &Book,
+    paper: &Paper,
+    flow: bool,
+    jobs: u8,
+    gate: &G,
+) -> Result<Row<Outcome>, Memory>
+    requires book { IsGoodBook book.now }
+    requires paper { IsGoodPaper paper.now }
+    requires some { 1 ≤ jobs }
+    requires few { jobs ≤ 64 }
+    ensures { IfOk result (AreOutcomes (defaults_of book.now.header) paper.now flow book.now.tunes) }
+{
+    let setting = Setting {
+        alloc,
+        defaults: read_defaults(book),
+        paper,
+        flow,
+        gate,
+    };
+    work_all(rt, alloc, book.tunes.as_slice(), jobs, &setting)
+}

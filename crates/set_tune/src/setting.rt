@@ -1,0 +1,170 @@
+ghost use Rattle.std.specs.Prelude.{◌≡◌, ◌≤◌, ◌<◌, ◌^◌, ℕ, length, IfErr, IfOk, None};
+ghost use Rattle.std.specs.Option.{option_copied};
+ghost use Rattle.mus_score.specs.GoodScore.{IsGoodScore};
+ghost use Rattle.abc_lines.specs.Good.{IsGoodTune};
+ghost use Rattle.abc_lines.specs.declared.fault.TuneError.TheVariants as errors;
+ghost use Rattle.abc_header.specs.Good.{IsGoodDefaults};
+ghost use Rattle.abc_header.specs.Headers.{first_line};
+ghost use Rattle.abc_header.specs.Papers.{IsGoodPaper, height_of, width_of};
+ghost use Rattle.lay_pages.specs.Filling.{first_tall};
+ghost use Rattle.lay_pages.specs.Titles.{title_block_of};
+ghost use Rattle.set_tune.specs.Blocks.{blocks_of};
+ghost use Rattle.set_tune.specs.Setting.{HasScore, IsLaid, IsLaidOut, IsLayoutRefusal, IsRefusal, IsScoreRefusal, IsSetTune, IsTallRefusal, layout_fault};
+
+use crate::blocks::blocks_of;
+use crate::tune::SetTune;
+use abc_header::{Defaults, Header, Paper, body_of, read_header};
+use abc_lines::{Fault, FaultKind, Line, TuneError, TuneText};
+use abc_score::build;
+use lay_pages::{PageError, TitleBlock, fill, title_block};
+use lay_tune::{Layout, LayoutError, lay_out};
+use mus_score::Score;
+use mus_units::Memory;
+use std::alloc::Global;
+
+/// A tune set on paper: its header, its score, the score laid out on the width of the body, and its
+/// title block; or the first of its faults. With `flow` no bar is forced.
+///
+/// A fault is of the header, or else of the body, or else of the score; or else no breaking of its
+/// measures is legal, or else a group of its blocks is higher than the body. The last two are told at
+/// the tune's first line.
+pub fn set(
+    alloc: Global,
+    tune: &TuneText,
+    defaults: &Defaults,
+    paper: &Paper,
+    flow: bool,
+) -> Result<SetTune, TuneError>
+    requires tune { IsGoodTune tune.now }
+    requires defaults { IsGoodDefaults defaults.now }
+    requires paper { IsGoodPaper paper.now }
+    ensures set { IfOk result (IsSetTune tune.now defaults.now paper.now flow) }
+    ensures fault { IfErr result (IsRefusal tune.now defaults.now paper.now flow) }
+{
+    let (width, high) = body_of(paper);
+    let (header, score) = match read_score(alloc, tune, defaults, flow) {
+        Ok(read) => read,
+        Err(error) => return Err(error),
+    };
+    match lay(alloc, tune, width, header, score) {
+        Ok(laid) => on_pages(alloc, tune, high, laid),
+        Err(error) => Err(error),
+    }
+}
+
+/// The header of a tune and its score, or the first fault of either.
+fn read_score(
+    alloc: Global,
+    tune: &TuneText,
+    defaults: &Defaults,
+    flow: bool,
+) -> Result<(Header, Score), TuneError>
+    requires tune { IsGoodTune tune.now }
+    requires defaults { IsGoodDefaults defaults.now }
+    ensures score { IfOk result (λ read. HasScore tune.now defaults.now flow read.0 read.1) }
+    ensures fault { IfErr result (IsScoreRefusal tune.now defaults.now) }
+{
+    let header = match read_header(alloc, tune, defaults) {
+        Ok(header) => header,
+        Err(error) => return Err(error),
+    };
+    match build(alloc, &header, tune, flow) {
+        Ok(score) => Ok((header, score)),
+        Err(error) => Err(error),
+    }
+}
+
+/// The number of the first line.
+fn first_line(lines: &[Line]) -> u32
+    ensures { result ≡ first_line lines.now }
+{
+    match lines {
+        [] => 0,
+        [line, ..] => line.number,
+    }
+}
+
+/// A fault of the layout, at the first line of the tune.
+fn layout_fault(tune: &TuneText, kind: FaultKind) -> TuneError
+    ensures { result ≡ errors.Fault (layout_fault tune.now kind) }
+{
+    TuneError::Fault(Fault {
+        kind,
+        line: first_line(tune.lines.as_slice()),
+        column: 1,
+    })
+}
+
+/// The title block of a header.
+fn title_of(alloc: Global, width: u32, header: &Header) -> Result<TitleBlock, Memory>
+    requires titles { length header.now.titles ≤ 2 ^ 32 }
+    requires composers { length header.now.composers ≤ 2 ^ 32 }
+    ensures { IfOk result (λ title. title ≡ title_block_of width header.now.titles header.now.composers header.now.tempo) }
+{
+    title_block(
+        alloc,
+        width,
+        header.titles.as_slice(),
+        header.composers.as_slice(),
+        header.tempo.as_ref(),
+    )
+}
+
+/// A score laid out on a width, under the title block of its header.
+fn lay(
+    alloc: Global,
+    tune: &TuneText,
+    width: u32,
+    header: Header,
+    score: Score,
+) -> Result<SetTune, TuneError>
+    requires titles { length header.titles ≤ 2 ^ 32 }
+    requires composers { length header.composers ≤ 2 ^ 32 }
+    requires good { IsGoodScore score }
+    requires heard { 0 < score.measures → 1 ≤ length score.voices }
+    ensures laid { IfOk result (IsLaid width header score) }
+    ensures fault { IfErr result (IsLayoutRefusal tune.now width score) }
+{
+    let Layout {
+        breaking,
+        systems,
+        placed,
+        spans,
+        heights,
+    } = match lay_out(alloc, &score, width) {
+        Ok(layout) => layout,
+        Err(LayoutError::NoWay { reached }) => {
+            return Err(layout_fault(tune, FaultKind::NoWay { reached }));
+        }
+        Err(LayoutError::Memory) => return Err(TuneError::Memory),
+    };
+    let title = title_of(alloc, width, &header)?;
+    Ok(SetTune {
+        header,
+        score,
+        title,
+        breaking,
+        systems,
+        placed,
+        spans,
+        heights,
+    })
+}
+
+/// The same tune, if none of its groups of blocks is higher than the body.
+fn on_pages(alloc: Global, tune: &TuneText, high: u32, laid: SetTune) -> Result<SetTune, TuneError>
+    requires good { IsGoodScore laid.score }
+    requires laid { (width : ℕ) × IsLaidOut width laid }
+    ensures same { IfOk result (λ t. t ≡ laid) }
+    ensures fits { IfOk result (λ t. first_tall high (blocks_of t.title t.heights) ≡ None) }
+    ensures tall { IfErr result (IsTallRefusal tune.now high laid) }
+{
+    let blocks = blocks_of(alloc, &laid.title, laid.heights.as_slice())?;
+    match fill(alloc, blocks.as_slice(), high) {
+        Ok(_) => Ok(laid),
+        Err(PageError::TooTall { block }) => {
+            Err(layout_fault(tune, FaultKind::TooTall { block }))
+        }
+        Err(PageError::Memory) => Err(TuneError::Memory),
+    }
+}
