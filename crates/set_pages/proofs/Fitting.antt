@@ -1,0 +1,90 @@
+-- The blocks of tunes of which none has a group that is too tall have none together: no block is tied to one of the next tune.
+use Rattle.std.proofs.Common.{◌≡◌, refl, ap, ◌∙◌, ℕ, suc, Bool, true, false, not, List, [], ◌∷◌, ◌++◌, Option, None}
+use Rattle.std.specs.Prelude.{⊤, ◌&&◌, nat_lt, Result, Ok, Err}
+use Rattle.abc_lines.specs.declared.fault.Fault.{Fault}
+use Rattle.lay_pages.specs.declared.filling.Block.{Block}
+use Rattle.lay_pages.specs.declared.stacking.Heights.{Heights}
+use Rattle.lay_pages.specs.declared.titles.TitleRow.{TitleRow}
+use Rattle.lay_pages.specs.Filling.{first_tall, group_height, height_of, tall_by, tall_from, with_kept}
+use Rattle.set_tune.specs.declared.tune.SetTune.{SetTune}
+use Rattle.set_tune.specs.Blocks.{blocks_of, is_some_list, system_blocks, title_blocks}
+use Rattle.set_book.specs.declared.outcome.Outcome.{Outcome}
+use Rattle.set_pages.specs.Drawings.{all_blocks, outcome_blocks, result_blocks}
+
+-- the last block is not tied to what stands behind
+abbrev pub IsLoose : List Block → Type 0
+IsLoose [] = ⊤
+IsLoose (block ∷ []) = block.keep ≡ false
+IsLoose (block ∷ next ∷ more) = IsLoose (next ∷ more)
+
+loose_height : (keep : Bool) (height others : ℕ) → keep ≡ false → with_kept keep height others ≡ height
+loose_height true height others e = absurd cc
+loose_height false height others e = refl
+
+-- a group ends with the last block
+group_append : (block : Block) (bs more : List Block) → IsLoose (block ∷ bs) → group_height (block ∷ bs ++ more) ≡ group_height (block ∷ bs)
+group_append block [] [] loose = refl
+group_append block [] (next ∷ more) loose = loose_height block.keep (height_of block.height) (group_height (next ∷ more)) loose
+group_append block (next ∷ bs) more loose = ap (λ n. with_kept block.keep (height_of block.height) n) (group_append next bs more loose)
+
+none_others : (b : Bool) (n : ℕ) (others : Option ℕ) → tall_by b n others ≡ None → others ≡ None
+none_others true n others e = absurd cc
+none_others false n others e = e
+
+none_both : (b : Bool) (n : ℕ) (others new : Option ℕ) → tall_by b n others ≡ None → new ≡ None → tall_by b n new ≡ None
+none_both true n others new e f = absurd cc
+none_both false n others new e f = f
+
+-- wherever the counting begins
+counted : (b : Bool) (n m : ℕ) (others new : Option ℕ) → (others ≡ None → new ≡ None) → tall_by b n others ≡ None → tall_by b m new ≡ None
+counted true n m others new to e = absurd cc
+counted false n m others new to e = to e
+
+any_count : (high n m : ℕ) (tied : Bool) (bs : List Block) → tall_from high n tied bs ≡ None → tall_from high m tied bs ≡ None
+any_count high n m tied [] none = refl
+any_count high n m tied (block ∷ bs) none =
+    counted (not tied && nat_lt high (group_height (block ∷ bs))) n m (tall_from high (suc n) block.keep bs) (tall_from high (suc m) block.keep bs)
+    (any_count high (suc n) (suc m) block.keep bs) none
+
+tied_loose : (high n m : ℕ) (keep : Bool) (bs : List Block) → keep ≡ false → tall_from high n false bs ≡ None → tall_from high m keep bs ≡ None
+tied_loose high n m true bs e none = absurd cc
+tied_loose high n m false bs e none = any_count high n m false bs none
+
+tall_append : (high n : ℕ) (tied : Bool) (block : Block) (bs more : List Block) → IsLoose (block ∷ bs) → tall_from high n tied (block ∷ bs) ≡ None → tall_from high 0 false more ≡ None
+    → tall_from high n tied (block ∷ bs ++ more) ≡ None
+tall_append high n tied block [] more loose none none_more =
+    ap (λ height. tall_by (not tied && nat_lt high height) n (tall_from high (suc n) block.keep more)) (group_append block [] more loose)
+    ∙ none_both (not tied && nat_lt high (group_height (block ∷ []))) n None (tall_from high (suc n) block.keep more) none (tied_loose high 0 (suc n) block.keep more loose none_more)
+tall_append high n tied block (next ∷ bs) more loose none none_more =
+    ap (λ height. tall_by (not tied && nat_lt high height) n (tall_from high (suc n) block.keep (next ∷ bs ++ more))) (group_append block (next ∷ bs) more loose)
+    ∙ none_both (not tied && nat_lt high (group_height (block ∷ next ∷ bs))) n (tall_from high (suc n) block.keep (next ∷ bs)) (tall_from high (suc n) block.keep (next ∷ bs ++ more)) none
+    (tall_append high (suc n) block.keep next bs more loose
+    (none_others (not tied && nat_lt high (group_height (block ∷ next ∷ bs))) n (tall_from high (suc n) block.keep (next ∷ bs)) none) none_more)
+
+pub first_append : (high : ℕ) (bs more : List Block) → IsLoose bs → first_tall high bs ≡ None → first_tall high more ≡ None → first_tall high (bs ++ more) ≡ None
+first_append high [] more loose none none_more = none_more
+first_append high (block ∷ bs) more loose none none_more = tall_append high 0 false block bs more loose none none_more
+
+-- the title block of a tune is tied only to a system
+systems_loose : (heights : List Heights) → IsLoose (system_blocks heights)
+systems_loose [] = tt
+systems_loose (h ∷ []) = refl
+systems_loose (h ∷ next ∷ heights) = systems_loose (next ∷ heights)
+
+tune_loose : (rows : List TitleRow) (height : ℕ) (heights : List Heights) → IsLoose (title_blocks rows height (is_some_list heights) ++ system_blocks heights)
+tune_loose [] height heights = systems_loose heights
+tune_loose (row ∷ rows) height [] = refl
+tune_loose (row ∷ rows) height (h ∷ heights) = systems_loose (h ∷ heights)
+
+result_loose : (r : Result SetTune Fault) → IsLoose (result_blocks r)
+unfolding blocks_of
+result_loose (Ok t) = tune_loose t.title.rows t.title.height t.heights
+result_loose (Err fault) = tt
+
+abbrev pub AllFit : ℕ → List Outcome → Type 0
+AllFit high [] = ⊤
+AllFit high (o ∷ outcomes) = (first_tall high (outcome_blocks o) ≡ None) × AllFit high outcomes
+
+pub all_fit : (high : ℕ) (outcomes : List Outcome) → AllFit high outcomes → first_tall high (all_blocks outcomes) ≡ None
+all_fit high [] fit = refl
+all_fit high (o ∷ outcomes) fit = first_append high (outcome_blocks o) (all_blocks outcomes) (result_loose o.result) fit.0 (all_fit high outcomes fit.1)

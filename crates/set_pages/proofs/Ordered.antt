@@ -1,0 +1,133 @@
+-- The items of each page are good and in order: a title stands only in the block that begins a tune.
+use Rattle.std.proofs.Common.{◌≡◌, refl, ap, ℕ, zero, suc, ℤ, Bool, true, false, cond, List, [], ◌∷◌, ◌++◌, map, length, Option, Some, None}
+use Rattle.std.proofs.lemmas.List.Elements.{All-append, All-cons, All-nil}
+use Rattle.std.specs.Prelude.{◌==◌, ⊤, All, Result, Ok, Err}
+use Rattle.std.specs.List.{AllZip}
+use Rattle.abc_lines.specs.declared.fault.Fault.{Fault}
+use Rattle.lay_springs.specs.declared.margin.Placed.{Placed}
+use Rattle.lay_pages.specs.declared.filling.Spot.{Spot}
+use Rattle.lay_pages.specs.declared.stacking.Heights.{Heights}
+use Rattle.lay_pages.specs.declared.titles.TitleRow.{TitleRow}
+use Rattle.mus_laid.specs.declared.laid.SystemMarks.{SystemMarks}
+use Rattle.ps_text.specs.declared.sheet.Item.{Item}
+use Rattle.ps_text.specs.declared.sheet.Item.TheVariants as items
+use Rattle.ps_text.specs.Range.{InOrder, IsAfter, IsItem, IsPage}
+use Rattle.set_tune.specs.declared.tune.SetTune.{SetTune}
+use Rattle.set_book.specs.declared.outcome.Outcome.{Outcome}
+use Rattle.set_staves.specs.Marks.{system_at}
+use Rattle.set_pages.specs.Drawings.{Content, Drawing, title, system, all_drawings, content_items, drawings_from, drawn, outcome_drawings, result_drawings, row_at, system_contents, systems_of, title_contents, tune_items}
+use Rattle.set_pages.specs.Ready.{IsDrawn}
+use Rattle.set_pages.specs.Sheet.{items_on, pages_from}
+
+-- each may stand behind any item
+abbrev pub BeginsFree : List Item → Type 0
+BeginsFree [] = ⊤
+BeginsFree (j ∷ rest) = (i : Item) → IsAfter i j
+
+pub record IsOrdered (xs : List Item) : Type 0 where
+  pub order : InOrder xs
+  pub free : BeginsFree xs
+
+none_ordered : IsOrdered []
+none_ordered = record { order = tt; free = tt }
+
+order_append : (xs ys : List Item) → InOrder xs → InOrder ys → BeginsFree ys → InOrder (xs ++ ys)
+order_append [] ys front back free = back
+order_append (i ∷ []) [] front back free = tt
+order_append (i ∷ []) (j ∷ ys) front back free = (free i, back)
+order_append (i ∷ j ∷ xs) ys front back free = (front.0, order_append (j ∷ xs) ys front.1 back free)
+
+free_append : (xs ys : List Item) → BeginsFree xs → BeginsFree ys → BeginsFree (xs ++ ys)
+free_append [] ys front back = back
+free_append (i ∷ xs) ys front back = front
+
+ordered_append : (xs ys : List Item) → IsOrdered xs → IsOrdered ys → IsOrdered (xs ++ ys)
+ordered_append xs ys front back = record { order = order_append xs ys front.order back.order back.free; free = free_append xs ys front.free back.free }
+
+free_tune : (ordinal : ℕ) (i : Item) → IsAfter i (items.Tune ordinal)
+free_tune ordinal (items.Tune other) = tt
+free_tune ordinal (items.Title x y size words) = tt
+free_tune ordinal (items.System a b staves) = tt
+
+free_system : (width : ℕ) (top : ℤ) (m : SystemMarks) (at bases : List ℤ) (i : Item) → IsAfter i (system_at width at top m bases)
+free_system width top m at bases (items.Tune other) = tt
+free_system width top m at bases (items.Title x y size words) = tt
+free_system width top m at bases (items.System a b staves) = tt
+
+-- a block with a title begins a tune
+abbrev pub begun : Option ℕ → Content → Type 0
+begun None (title rows) = ⊥
+begun _ _ = ⊤
+
+abbrev pub AreBegun : List Drawing → Type 0
+AreBegun [] = ⊤
+AreBegun (d ∷ ds) = begun d.begins d.content × AreBegun ds
+
+titles_order : (top : ℤ) (row : TitleRow) (rows : List TitleRow) → InOrder (row_at top row ∷ map (row_at top) rows)
+titles_order top row [] = tt
+titles_order top row (next ∷ rows) = (tt, titles_order top next rows)
+
+tune_order : (ordinal : ℕ) (top : ℤ) (rows : List TitleRow) → InOrder (items.Tune ordinal ∷ map (row_at top) rows)
+tune_order ordinal top [] = tt
+tune_order ordinal top (row ∷ rows) = (tt, titles_order top row rows)
+
+drawn_ordered : (width : ℕ) (top : ℤ) (begins : Option ℕ) (content : Content) → begun begins content → IsOrdered (tune_items begins ++ content_items width top content)
+drawn_ordered width top None (title rows) h = absurd h
+drawn_ordered width top None (system m at bases) h = record { order = tt; free = free_system width top m at bases }
+drawn_ordered width top (Some ordinal) (title rows) h = record { order = tune_order ordinal top rows; free = free_tune ordinal }
+drawn_ordered width top (Some ordinal) (system m at bases) h = record { order = (tt, tt); free = free_tune ordinal }
+
+if_ordered : (b : Bool) (xs ys : List Item) → IsOrdered xs → IsOrdered ys → IsOrdered (cond b xs [] ++ ys)
+if_ordered true xs ys front back = ordered_append xs ys front back
+if_ordered false xs ys front back = back
+
+pub items_ordered : (width page : ℕ) (ds : List Drawing) (ss : List Spot) → AreBegun ds → IsOrdered (items_on width page ds ss)
+items_ordered width page [] ss begun = none_ordered
+items_ordered width page (d ∷ ds) [] begun = none_ordered
+items_ordered width page (d ∷ ds) (s ∷ ss) begun =
+    if_ordered (s.page == page) (drawn width s.top d) (items_on width page ds ss) (drawn_ordered width s.top d.begins d.content begun.0) (items_ordered width page ds ss begun.1)
+
+if_good : (b : Bool) (xs ys : List Item) → All IsItem xs → All IsItem ys → All IsItem (cond b xs [] ++ ys)
+if_good true xs ys front back = All-append IsItem xs ys front back
+if_good false xs ys front back = back
+
+items_good : (width page : ℕ) (ds : List Drawing) (ss : List Spot) → AllZip (IsDrawn width) ds ss → All IsItem (items_on width page ds ss)
+items_good width page [] ss good = All-nil IsItem
+items_good width page (d ∷ ds) [] good = All-nil IsItem
+items_good width page (d ∷ ds) (s ∷ ss) good =
+    if_good (s.page == page) (drawn width s.top d) (items_on width page ds ss) good.0.good (items_good width page ds ss good.1)
+
+pub pages_good : (width : ℕ) (ds : List Drawing) (ss : List Spot) (k n : ℕ) → AllZip (IsDrawn width) ds ss → AreBegun ds → All IsPage (pages_from width ds ss k n)
+pages_good width ds ss k zero good begun = All-nil IsPage
+pages_good width ds ss k (suc n) good begun =
+    All-cons IsPage (record { items = items_on width k ds ss }) (pages_from width ds ss (suc k) n)
+    (record { items = items_good width k ds ss good; order = (items_ordered width k ds ss begun).order })
+    (pages_good width ds ss (suc k) n good begun)
+
+pub pages_count : (width : ℕ) (ds : List Drawing) (ss : List Spot) (k n : ℕ) → length (pages_from width ds ss k n) ≡ n
+pages_count width ds ss k zero = refl
+pages_count width ds ss k (suc n) = ap suc (pages_count width ds ss (suc k) n)
+
+-- each title of a tune begins it
+systems_begun : (begins : Option ℕ) (systems : List SystemMarks) (placed : List Placed) (heights : List Heights) → AreBegun (drawings_from begins (system_contents systems placed heights))
+systems_begun begins [] placed heights = tt
+systems_begun begins (m ∷ systems) [] heights = tt
+systems_begun begins (m ∷ systems) (p ∷ placed) [] = tt
+systems_begun None (m ∷ systems) (p ∷ placed) (h ∷ heights) = (tt, systems_begun None systems placed heights)
+systems_begun (Some ordinal) (m ∷ systems) (p ∷ placed) (h ∷ heights) = (tt, systems_begun None systems placed heights)
+
+tune_begun : (ordinal : ℕ) (rows : List TitleRow) (t : SetTune) → AreBegun (drawings_from (Some ordinal) (title_contents rows ++ systems_of t))
+tune_begun ordinal [] t = systems_begun (Some ordinal) t.systems t.placed t.heights
+tune_begun ordinal (row ∷ rows) t = (tt, systems_begun None t.systems t.placed t.heights)
+
+result_begun : (ordinal : ℕ) (r : Result SetTune Fault) → AreBegun (result_drawings ordinal r)
+result_begun ordinal (Ok t) = tune_begun ordinal t.title.rows t
+result_begun ordinal (Err fault) = tt
+
+begun_append : (xs ys : List Drawing) → AreBegun xs → AreBegun ys → AreBegun (xs ++ ys)
+begun_append [] ys front back = back
+begun_append (x ∷ xs) ys front back = (front.0, begun_append xs ys front.1 back)
+
+pub all_begun : (outcomes : List Outcome) → AreBegun (all_drawings outcomes)
+all_begun [] = tt
+all_begun (o ∷ outcomes) = begun_append (outcome_drawings o) (all_drawings outcomes) (result_begun o.ordinal o.result) (all_begun outcomes)

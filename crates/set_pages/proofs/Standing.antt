@@ -1,0 +1,119 @@
+-- Blocks that fill pages: their pages rise by one at most, their tops lie on the page, and there is a drawing for each.
+use Rattle.std.proofs.Common.{◌≡◌, refl, ap, ◌∙◌, inl, inr, ℕ, suc, ◌+◌, ◌^◌, ◌≤◌, ℤ, pos, ◌-ℤ◌, ◌≤ℤ◌, Bool, List, [], ◌∷◌, ◌++◌, length, Option, Some, None, arith}
+use Rattle.std.proofs.lemmas.Int.{ints}
+use Rattle.std.proofs.lemmas.List.{length-append}
+use Rattle.std.specs.Prelude.{⊤, ◌⊎◌, All, Result, Ok, Err}
+use Rattle.std.specs.List.{AllZip}
+use Rattle.std.proofs.lemmas.List.Elements.{All-head, All-tail}
+use Rattle.abc_lines.specs.declared.fault.Fault.{Fault}
+use Rattle.mus_laid.specs.declared.laid.SystemMarks.{SystemMarks}
+use Rattle.lay_springs.specs.declared.margin.Placed.{Placed}
+use Rattle.lay_pages.specs.declared.filling.Block.{Block}
+use Rattle.lay_pages.specs.declared.filling.Spot.{Spot}
+use Rattle.lay_pages.specs.declared.stacking.Heights.{Heights}
+use Rattle.lay_pages.specs.declared.titles.TitleRow.{TitleRow}
+use Rattle.lay_pages.specs.Filling.{AreFilled, AreGoodBlocks, AreWithin, Follows, same_page, next_page, FollowOn}
+use Rattle.set_tune.specs.declared.tune.SetTune.{SetTune}
+use Rattle.set_tune.specs.Blocks.{blocks_of, is_some_list, system_blocks, title_blocks}
+use Rattle.set_book.specs.declared.outcome.Outcome.{Outcome}
+use Rattle.set_staves.specs.Drawn.{IsTop}
+use Rattle.set_pages.specs.Drawings.{Content, Drawing, all_blocks, all_drawings, drawings_from, result_blocks, result_drawings, system_contents, systems_of, title_contents}
+use Rattle.set_pages.specs.Ready.{AreRising, AreRisingFrom, HasAllRows, IsReady, IsReadyContent, IsWhole, IsWholeResult}
+
+-- pages rise by one at most
+follows_page : (high : ℕ) (block : Block) (spot : Spot) (more : List Block) (next : Spot) → Follows high block spot more next → (next.page ≡ spot.page) ⊎ (next.page ≡ suc spot.page)
+follows_page high block spot more next (same_page page top) = inl page
+follows_page high block spot more next (next_page keep low page top) = inr page
+
+rising_from : (high : ℕ) (block : Block) (blocks : List Block) (spot : Spot) (spots : List Spot) → AreWithin high (block ∷ blocks) (spot ∷ spots) → FollowOn high (block ∷ blocks) (spot ∷ spots) → AreRisingFrom spot.page spots
+rising_from high block [] spot [] within follow = tt
+rising_from high block [] spot (next ∷ spots) within follow = absurd within.1
+rising_from high block (more ∷ blocks) spot [] within follow = absurd within.1
+rising_from high block (more ∷ blocks) spot (next ∷ spots) within follow =
+    (follows_page high block spot (more ∷ blocks) next follow.0, rising_from high more blocks next spots within.1 follow.1)
+
+pub rising : (high : ℕ) (blocks : List Block) (spots : List Spot) → AreWithin high blocks spots → AreFilled high blocks spots → AreRising spots
+rising high blocks [] within filled = tt
+rising high [] (spot ∷ spots) within filled = absurd within
+rising high (block ∷ blocks) (spot ∷ spots) within filled = (filled.0.0, rising_from high block blocks spot spots within filled.1)
+
+pub within_count : (high : ℕ) (blocks : List Block) (spots : List Spot) → AreWithin high blocks spots → length blocks ≡ length spots
+within_count high [] [] within = refl
+within_count high [] (spot ∷ spots) within = absurd within
+within_count high (block ∷ blocks) [] within = absurd within
+within_count high (block ∷ blocks) (spot ∷ spots) within = ap suc (within_count high blocks spots within.1)
+
+-- tops lie on the page
+abbrev pub AreTops : List Spot → Type 0
+AreTops [] = ⊤
+AreTops (spot ∷ spots) = IsTop spot.top × AreTops spots
+
+top_within : (high : ℕ) (height top : ℤ) → pos 0 ≤ℤ height → top ≤ℤ pos high → pos 0 ≤ℤ (top -ℤ height) → high ≤ 2 ^ 39 → IsTop top
+top_within high height top good below above small = record { low = omega (arith, ints); high = omega (arith, ints) }
+
+pub tops : (high : ℕ) (blocks : List Block) (spots : List Spot) → high ≤ 2 ^ 39 → AreGoodBlocks blocks → AreWithin high blocks spots → AreTops spots
+tops high [] [] small good within = tt
+tops high [] (spot ∷ spots) small good within = absurd within
+tops high (block ∷ blocks) [] small good within = tt
+tops high (block ∷ blocks) (spot ∷ spots) small good within =
+    (top_within high block.height spot.top good.0.0 within.0.0 within.0.1 small, tops high blocks spots small good.1 within.1)
+
+-- a drawing for each block
+pub systems_count : (systems : List SystemMarks) (placed : List Placed) (heights : List Heights) → length placed ≡ length systems → length heights ≡ length systems
+    → length (system_contents systems placed heights) ≡ length systems
+systems_count [] placed heights p h = refl
+systems_count (m ∷ systems) [] heights p h = absurd (omega arith)
+systems_count (m ∷ systems) (q ∷ placed) [] p h = absurd (omega arith)
+systems_count (m ∷ systems) (q ∷ placed) (r ∷ heights) p h = ap suc (systems_count systems placed heights (omega arith) (omega arith))
+
+pub drawings_count : (begins : Option ℕ) (contents : List Content) → length (drawings_from begins contents) ≡ length contents
+drawings_count begins [] = refl
+drawings_count begins (content ∷ contents) = ap suc (drawings_count None contents)
+
+titles_count : (rows : List TitleRow) (height : ℕ) (keep : Bool) → length (title_contents rows) ≡ length (title_blocks rows height keep)
+titles_count [] height keep = refl
+titles_count (row ∷ rows) height keep = refl
+
+blocks_count : (heights : List Heights) → length (system_blocks heights) ≡ length heights
+blocks_count [] = refl
+blocks_count (h ∷ heights) = ap suc (blocks_count heights)
+
+tune_count : (t : SetTune) → HasAllRows t → length (title_contents t.title.rows ++ systems_of t) ≡ length (title_blocks t.title.rows t.title.height (is_some_list t.heights) ++ system_blocks t.heights)
+tune_count t whole =
+    let a = titles_count t.title.rows t.title.height (is_some_list t.heights) in
+    let b = systems_count t.systems t.placed t.heights whole.placed whole.heights in
+    let c = blocks_count t.heights in
+    let d = whole.heights in
+    simp length-append (omega arith)
+
+pub tune_drawings_count : (ordinal : ℕ) (t : SetTune) → HasAllRows t → length (drawings_from (Some ordinal) (title_contents t.title.rows ++ systems_of t)) ≡ length (title_contents t.title.rows) + length t.systems
+tune_drawings_count ordinal t whole =
+    drawings_count (Some ordinal) (title_contents t.title.rows ++ systems_of t) ∙ length-append (title_contents t.title.rows) (systems_of t)
+    ∙ ap (λ n. length (title_contents t.title.rows) + n) (systems_count t.systems t.placed t.heights whole.placed whole.heights)
+
+pub good_append : (xs ys : List Block) → AreGoodBlocks xs → AreGoodBlocks ys → AreGoodBlocks (xs ++ ys)
+good_append [] ys front back = back
+good_append (x ∷ xs) ys front back = (front.0, good_append xs ys front.1 back)
+
+result_count : (ordinal : ℕ) (r : Result SetTune Fault) → IsWholeResult r → length (result_drawings ordinal r) ≡ length (result_blocks r)
+unfolding blocks_of
+result_count ordinal (Ok t) whole = drawings_count (Some ordinal) (title_contents t.title.rows ++ systems_of t) ∙ tune_count t whole
+result_count ordinal (Err fault) whole = refl
+
+pub all_count : (outcomes : List Outcome) → All IsWhole outcomes → length (all_drawings outcomes) ≡ length (all_blocks outcomes)
+all_count [] whole = refl
+all_count (o ∷ outcomes) whole =
+    let here = result_count o.ordinal o.result (All-head IsWhole o outcomes whole) in
+    let more = all_count outcomes (All-tail IsWhole o outcomes whole) in
+    simp length-append (omega arith)
+
+-- drawings whose contents are ready, at tops that lie on the page
+abbrev pub AreReadyDrawings : List Drawing → Type 0
+AreReadyDrawings [] = ⊤
+AreReadyDrawings (d ∷ ds) = IsReadyContent d.content × AreReadyDrawings ds
+
+pub ready_at : (ds : List Drawing) (spots : List Spot) → length ds ≡ length spots → AreReadyDrawings ds → AreTops spots → AllZip IsReady ds spots
+ready_at [] [] same ready tops = tt
+ready_at [] (spot ∷ spots) same ready tops = absurd (omega arith)
+ready_at (d ∷ ds) [] same ready tops = absurd (omega arith)
+ready_at (d ∷ ds) (spot ∷ spots) same ready tops = (record { content = ready.0; top = tops.0 }, ready_at ds spots (omega arith) ready.1 tops.1)

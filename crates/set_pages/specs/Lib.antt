@@ -1,0 +1,4 @@
+pub mod Drawings
+pub mod Filling
+pub mod Ready
+pub mod Sheet

@@ -1,0 +1,16 @@
+//! The sheet of a book: the blocks of its tunes filled into pages, and what each page draws.
+#![tactic(auto)]
+
+pub mod blocks;
+pub mod drawing;
+pub mod pages;
+pub mod sheet;
+pub mod titles;
+
+pub use abc_header::Paper;
+pub use ps_text::{Frame, Item, Page, Sheet};
+pub use set_book::Outcome;
+pub use sheet::sheet_for;
+
+#[cfg(test)]
+mod tests;

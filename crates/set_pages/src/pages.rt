@@ -1,0 +1,61 @@
+ghost use Rattle.std.specs.Prelude.{◌≡◌, ◌++◌, All, OnOk};
+ghost use Rattle.ps_text.specs.Range.{IsItem};
+ghost use Rattle.set_pages.specs.Drawings.{tune_items};
+ghost use Rattle.set_pages.specs.Filling.{at_page, turned, with_items};
+
+use mus_units::{Memory, Row};
+use ps_text::{Item, Page};
+use std::alloc::Global;
+use std::mem::replace;
+
+/// Pages as they are filled: those that are done, and what stands on the one behind them.
+#[derive(Debug, Drop)]
+pub(crate) struct Pages {
+    pub(crate) done: Row<Page>,
+    pub(crate) items: Row<Item>,
+}
+
+/// The page that is being filled is done, and an empty one comes behind it.
+pub(crate) fn turn(alloc: Global, pages: &mut Pages) -> Result<(), Memory>
+    ensures { OnOk result (pages.new ≡ turned pages.old) }
+{
+    let items = replace(&mut pages.items, Row::new(alloc));
+    pages.done.push(Page { items })
+}
+
+fn go_to(alloc: Global, page: u32, pages: &mut Pages) -> Result<(), Memory>
+    ensures { OnOk result (pages.new ≡ at_page page pages.old) }
+{
+    if pages.done.len() < page as usize {
+        turn(alloc, pages)?;
+    }
+    Ok(())
+}
+
+fn put_ordinal(begins: Option<u32>, items: &mut Row<Item>) -> Result<(), Memory>
+    ensures value { OnOk result (items.new ≡ items.old ++ tune_items begins) }
+    ensures good { OnOk result (All IsItem (tune_items begins)) }
+{
+    let Some(ordinal) = begins else {
+        return Ok(());
+    };
+    if ordinal == 0 {
+        return Err(Memory);
+    }
+    items.push(Item::Tune { ordinal })
+}
+
+/// Turns to the page of a block, and begins a tune there where the block is its first. `Memory`
+/// also where the tune's ordinal is 0.
+pub(crate) fn begin(
+    alloc: Global,
+    page: u32,
+    begins: Option<u32>,
+    pages: &mut Pages,
+) -> Result<(), Memory>
+    ensures value { OnOk result (pages.new ≡ with_items (at_page page pages.old) (tune_items begins)) }
+    ensures good { OnOk result (All IsItem (tune_items begins)) }
+{
+    go_to(alloc, page, pages)?;
+    put_ordinal(begins, &mut pages.items)
+}

@@ -1,0 +1,69 @@
+-- The marks that a system calls for, as they stand on a page: each rank is replaced by where the column
+-- of that rank stands. They are shown where the ranks read off the page are those that were called for.
+use Rattle.std.specs.Prelude.{◌≡◌, ℕ, ◌+◌, ◌<◌, ℤ, pos, ◌+ℤ◌, ◌<ℤ◌, ⊤, List, [], ◌∷◌, length, map, Some, slice_index_or}
+use Rattle.mus_laid.specs.declared.laid.Mark.{Mark}
+use Rattle.mus_laid.specs.declared.laid.Mark.TheVariants as marks
+use Rattle.mus_laid.specs.declared.laid.StaffMarks.{StaffMarks}
+use Rattle.mus_laid.specs.declared.laid.SystemMarks.{SystemMarks}
+use Rattle.ps_text.specs.Ranks.{ranks}
+use Rattle.ps_text.specs.declared.marks.PageMark.{PageMark}
+use Rattle.ps_text.specs.declared.marks.PageMark.TheVariants as page
+use Rattle.ps_text.specs.declared.sheet.Staff.{Staff}
+use Rattle.ps_text.specs.declared.sheet.Item.{Item}
+use Rattle.ps_text.specs.declared.sheet.Item.TheVariants as items
+
+-- where the column of a rank stands; 0 where there is no such column
+abbrev pub x_at : List ℤ → ℕ → ℤ
+x_at at rank = slice_index_or at rank (pos 0)
+
+-- a mark with an abscissa for each of its ranks
+abbrev pub mark_at : (ℕ → ℤ) → Mark → PageMark
+mark_at x (marks.Glyph glyph rank dx dy) = page.Glyph glyph (x rank) dx dy
+mark_at x (marks.Words size rank dx dy text) = page.Words size (x rank) dx dy text
+mark_at x (marks.Stem rank dx from to) = page.Stem (x rank) dx from to
+mark_at x (marks.Beam way first last from to) = page.Beam way (x first) (x last) from to
+mark_at x (marks.Arc first last from to bulge) = page.Arc (x first) (x last) from to bulge
+
+-- a mark where its columns stand
+abbrev pub page_mark : List ℤ → Mark → PageMark
+page_mark at mark = mark_at (x_at at) mark
+
+-- a mark with its ranks themselves, as they are read off a page
+abbrev pub called_mark : Mark → PageMark
+called_mark mark = mark_at pos mark
+
+abbrev pub called_marks : StaffMarks → List PageMark
+called_marks s = map (λ laid. called_mark laid.mark) s.marks
+
+-- a staff with its lowest line at a base
+abbrev pub staff_at : ℕ → List ℤ → ℤ → StaffMarks → Staff
+staff_at width at base s = record { y = base; width = width; marks = map (λ laid. page_mark at laid.mark) s.marks }
+
+-- each staff at its base, which is counted from the top of the system
+abbrev pub staves_at : ℕ → List ℤ → ℤ → List StaffMarks → List ℤ → List Staff
+staves_at width at top [] bases = []
+staves_at width at top (s ∷ more) [] = []
+staves_at width at top (s ∷ more) (b ∷ bases) = staff_at width at (top +ℤ b) s ∷ staves_at width at top more bases
+
+abbrev pub system_at : ℕ → List ℤ → ℤ → SystemMarks → List ℤ → Item
+system_at width at top m bases = items.System m.a m.b (staves_at width at top m.staves bases)
+
+-- each column stands to the right of the one before it
+abbrev pub RisesAlong : List ℤ → Type 0
+RisesAlong at = (i : ℕ) → i + 1 < length at → slice_index_or at i (pos 0) <ℤ slice_index_or at (i + 1) (pos 0)
+
+-- the ranks read off each of some staves of a system are those that its marks call for
+abbrev pub ShowsIn : List Staff → List Staff → List StaffMarks → Type 0
+ShowsIn system [] [] = ⊤
+ShowsIn system [] (s ∷ more) = ⊥
+ShowsIn system (staff ∷ staves) [] = ⊥
+ShowsIn system (staff ∷ staves) (s ∷ more) = (ranks system staff ≡ Some (called_marks s)) × ShowsIn system staves more
+
+-- the same of all its staves
+abbrev pub ShowsCall : List Staff → List StaffMarks → Type 0
+ShowsCall staves called = ShowsIn staves staves called
+
+-- the staves of a system; other items have none
+abbrev pub staves_of : Item → List Staff
+staves_of (items.System a b staves) = staves
+staves_of _ = []

@@ -1,0 +1,16 @@
+//! A system of called marks set on a page: each mark where its columns stand, each staff at
+//! its base, so that the ranks read off the page are those that were called for.
+#![tactic(auto)]
+
+pub mod anchors;
+pub mod marks;
+pub mod staves;
+pub mod systems;
+
+pub use mus_laid::{Laid, Lane, Mark, StaffMarks, SystemMarks};
+pub use mus_units::Memory;
+pub use ps_text::{Item, PageMark, Staff};
+pub use systems::system_item;
+
+#[cfg(test)]
+mod tests;
