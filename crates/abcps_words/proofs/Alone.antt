@@ -1,0 +1,88 @@
+-- Words ask for one command, and its numbers are in range.
+use Rattle.std.proofs.Common.{◌≡◌, ℕ, if◌then◌else◌, ◌==◌, List, ◌++◌, Option, Some, None, MatchOption, IfSome, IfNone, unwrap_or, refl, sym, ◌∙◌, ap, subst, arith, decimal}
+use Rattle.std.specs.Str.Parse.{digits_value}
+use Rattle.std.proofs.lemmas.Fmt.{decimal_is_IsNumeral}
+use Rattle.abcps_words.specs.declared.options.Flag.{Flag}
+use Rattle.abcps_words.specs.declared.options.Options.{Options}
+use Rattle.abcps_words.specs.declared.command.Command.{Command}
+use Rattle.abcps_words.specs.declared.command.Command.TheVariants as command
+use Rattle.abcps_words.specs.Words.{IsWithin, front_of, HasTunes, IsSpelled, said, Says}
+use Rattle.abcps_words.specs.Command.{Asks, IsListed, AsksOne, AskedIsGood, IsGoodCommand}
+use Rattle.abcps_words.proofs.Fronts.{head_of, tail_of, key_of, same_front}
+use Rattle.abcps_words.proofs.Flags.{one_spelling, jobs_good}
+
+-- the command with this front and these options
+abbrev rebuilt : List (List ℕ) → Options → Command
+rebuilt front o =
+    let key = key_of (head_of front) in
+    let tunes = digits_value 10 (head_of (tail_of front)) in
+    if key == 332 then command.Set o.flow (unwrap_or o.jobs 1) else
+    if key == 351 then command.Systems o.flow o.table else
+    if key == 330 then command.Inspect else
+    if key == 304 then command.Check else
+    if key == 313 then command.Make tunes else command.Trial tunes o.flow (unwrap_or o.jobs 1)
+
+number_back : (n : ℕ) → IsWithin 500 n → digits_value 10 (decimal n) ≡ n
+number_back n within = (decimal_is_IsNumeral n (omega (arith, within))).1
+
+is_rebuilt : (c : Command) (o : Options) → HasTunes c → Says o c → rebuilt (front_of c) o ≡ c
+is_rebuilt (command.Set flow jobs) o good says = cc (says.0, says.1)
+is_rebuilt (command.Systems flow table) o good says = cc (says.0, says.1)
+is_rebuilt command.Inspect o good says = refl
+is_rebuilt command.Check o good says = refl
+is_rebuilt (command.Make tunes) o good says = ap command.Make (number_back tunes good)
+is_rebuilt (command.Trial tunes flow jobs) o good says = cc (number_back tunes good, says.0, says.1)
+
+pub one_front : (c d : Command) (o : Options) → front_of c ≡ front_of d → HasTunes c → HasTunes d → Says o c → Says o d → c ≡ d
+one_front c d o e a b says tells = sym (is_rebuilt c o a says) ∙ ap (λ front. rebuilt front o) e ∙ is_rebuilt d o b tells
+
+pub asks_one : AsksOne
+asks_one words c d a b =
+    let fronts = same_front c d a.behind b.behind (sym a.whole ∙ b.whole) in
+    let same : a.options ≡ b.options = one_spelling a.options b.options a.behind a.spelled (subst (IsSpelled b.options) (sym fronts.1) b.spelled) in
+    one_front c d (said a.options) fronts.0 a.tunes b.tunes a.says (subst (λ flags. Says (said flags) d) (sym same) b.says)
+
+good_by : (c : Command) (flags : List Flag) (options : List (List ℕ)) → HasTunes c → IsSpelled flags options → Says (said flags) c → IsGoodCommand c
+good_by (command.Set flow jobs) flags options good is says = subst (IsWithin 64) (sym says.1) (jobs_good flags is.in_range)
+good_by (command.Systems flow table) flags options good is says = tt
+good_by command.Inspect flags options good is says = tt
+good_by command.Check flags options good is says = tt
+good_by (command.Make tunes) flags options good is says = good
+good_by (command.Trial tunes flow jobs) flags options good is says = (good, subst (IsWithin 64) (sym says.1) (jobs_good flags is.in_range))
+
+pub asked_is_good : AskedIsGood
+asked_is_good words c asks = good_by c asks.options asks.behind asks.tunes asks.spelled asks.says
+
+-- what a command's front and its options, read from the same words, make of them
+module _ (words rest : List (List ℕ)) (c : Command) (o : Options) (flags : List Flag) (whole : words ≡ front_of c ++ rest) (is : IsSpelled flags rest) (says : o ≡ said flags) where
+  asked : (d : Command) → front_of d ≡ front_of c → HasTunes d → Says o d → Asks words d
+  asked d e good tells = record {
+    options = flags;
+    behind = rest;
+    whole = whole ∙ ap (λ front. front ++ rest) (sym e);
+    tunes = good;
+    spelled = is;
+    says = subst (λ o. Says o d) says tells;
+  }
+
+  pub asks_by : (r : Option Command) → MatchOption r ((d : Command) → front_of d ≡ front_of c → Says o d → ⊥) (λ d. (front_of d ≡ front_of c) × HasTunes d × Says o d) → IfSome r (λ d. Asks words d)
+  asks_by None h = tt
+  asks_by (Some d) h = asked d h.0 h.1 h.2
+
+  pub none_by : (r : Option Command) → MatchOption r ((d : Command) → front_of d ≡ front_of c → Says o d → ⊥) (λ d. (front_of d ≡ front_of c) × HasTunes d × Says o d) → IfNone r (IsListed words → ⊥)
+  none_by None h = λ listed. (
+      let a = listed.1 in
+      let fronts = same_front listed.0 c a.behind rest (sym a.whole ∙ whole) in
+      let same : a.options ≡ flags = one_spelling a.options flags rest (subst (IsSpelled a.options) fronts.1 a.spelled) is in
+      h listed.0 fronts.0 (subst (λ o. Says o listed.0) (ap said same ∙ sym says) a.says))
+  none_by (Some d) h = tt
+
+pub good_of : (words : List (List ℕ)) (r : Option Command) → IfSome r (λ d. Asks words d) → IfSome r IsGoodCommand
+good_of words None h = tt
+good_of words (Some d) h = asked_is_good words d h
+
+pub unspelled_by : (words rest : List (List ℕ)) (c : Command) → words ≡ front_of c ++ rest → ((flags : List Flag) → IsSpelled flags rest → ⊥) → IsListed words → ⊥
+unspelled_by words rest c whole none listed =
+    let a = listed.1 in
+    let fronts = same_front listed.0 c a.behind rest (sym a.whole ∙ whole) in
+    none a.options (subst (IsSpelled a.options) fronts.1 a.spelled)

@@ -1,0 +1,93 @@
+-- What the first words can't be, and where the front of a command ends.
+use Rattle.std.proofs.Common.{◌≡◌, ℕ, ◌+◌, true, false, ◌||◌, ◌==◌, if◌then◌else◌, List, [], ◌∷◌, ◌++◌, take, drop, codes, refl, sym, ◌∙◌, ap, arith, decimal}
+use Rattle.std.proofs.lemmas.Bool.{true≢false}
+use Rattle.std.proofs.lemmas.Bool.Decides.{nat_tests}
+use Rattle.abcps_words.specs.declared.options.Flag.{Flag}
+use Rattle.abcps_words.specs.declared.options.Flag.TheVariants as flag
+use Rattle.abcps_words.specs.declared.command.Name.{Name}
+use Rattle.abcps_words.specs.declared.command.Name.TheVariants as name
+use Rattle.abcps_words.specs.declared.command.Command.{Command}
+use Rattle.abcps_words.specs.declared.command.Command.TheVariants as command
+use Rattle.abcps_words.specs.Words.{IsWithin, name_bytes, front_of, HasTunes, flag_words, IsFlag}
+
+-- the words begin with no number from 1 to the most
+abbrev pub LacksNumber : ℕ → List (List ℕ) → Type 0
+LacksNumber most words = (n : ℕ) (rest : List (List ℕ)) → IsWithin most n → words ≡ decimal n ∷ rest → ⊥
+
+abbrev pub tail_of : List (List ℕ) → List (List ℕ)
+tail_of [] = []
+tail_of (x ∷ xs) = xs
+
+abbrev pub head_of : List (List ℕ) → List ℕ
+head_of [] = []
+head_of (x ∷ xs) = x
+
+-- the sum of the first three letters, in which any two names of commands and of options differ
+abbrev pub key_of : List ℕ → ℕ
+key_of (x ∷ y ∷ z ∷ rest) = x + (y + z)
+key_of (x ∷ y ∷ []) = 0
+key_of (x ∷ []) = 0
+key_of [] = 0
+
+key_eq : (m n : ℕ) → m ≡ n → (m == n) ≡ true
+key_eq m n e = grind (arith, nat_tests)
+
+pub clash : (name : List ℕ) (words other : List (List ℕ)) → words ≡ other → head_of words ≡ name → (key_of name == key_of (head_of other)) ≡ false → ⊥
+clash name words other e is apart =
+    let same : key_of name ≡ key_of (head_of other) = sym (ap key_of is) ∙ ap (λ ws. key_of (head_of ws)) e in
+    true≢false (sym (key_eq (key_of name) (key_of (head_of other)) same) ∙ apart)
+
+pub no_jobs : (word : List ℕ) (words : List (List ℕ)) → word ≡ codes "--jobs" → LacksNumber 64 words → (f : Flag) (rest : List (List ℕ)) → IsFlag f → word ∷ words ≡ flag_words f ++ rest → ⊥
+no_jobs word words is none flag.Flow rest good e = clash (codes "--jobs") (word ∷ words) (flag_words flag.Flow ++ rest) e is refl
+no_jobs word words is none flag.Table rest good e = clash (codes "--jobs") (word ∷ words) (flag_words flag.Table ++ rest) e is refl
+no_jobs word words is none (flag.Jobs n) rest good e = none n rest good (ap tail_of e)
+
+pub unnamed : (word : List ℕ) (words : List (List ℕ)) → ((n : Name) → word ≡ name_bytes n → ⊥) → (c : Command) (rest : List (List ℕ)) → word ∷ words ≡ front_of c ++ rest → ⊥
+unnamed word words none (command.Set flow jobs) rest e = none name.Set (ap head_of e)
+unnamed word words none (command.Systems flow table) rest e = none name.Systems (ap head_of e)
+unnamed word words none command.Inspect rest e = none name.Inspect (ap head_of e)
+unnamed word words none command.Check rest e = none name.Check (ap head_of e)
+unnamed word words none (command.Make tunes) rest e = none name.Make (ap head_of e)
+unnamed word words none (command.Trial tunes flow jobs) rest e = none name.Trial (ap head_of e)
+
+pub no_make : (word : List ℕ) (words : List (List ℕ)) → word ≡ name_bytes name.Make → LacksNumber 500 words → (c : Command) (rest : List (List ℕ)) → HasTunes c → word ∷ words ≡ front_of c ++ rest → ⊥
+no_make word words is none (command.Set flow jobs) rest good e = clash (codes "make") (word ∷ words) (name_bytes name.Set ∷ rest) e is refl
+no_make word words is none (command.Systems flow table) rest good e = clash (codes "make") (word ∷ words) (name_bytes name.Systems ∷ rest) e is refl
+no_make word words is none command.Inspect rest good e = clash (codes "make") (word ∷ words) (name_bytes name.Inspect ∷ rest) e is refl
+no_make word words is none command.Check rest good e = clash (codes "make") (word ∷ words) (name_bytes name.Check ∷ rest) e is refl
+no_make word words is none (command.Make tunes) rest good e = none tunes rest good (ap tail_of e)
+no_make word words is none (command.Trial tunes flow jobs) rest good e = clash (codes "make") (word ∷ words) (name_bytes name.Trial ∷ decimal tunes ∷ rest) e is refl
+
+pub no_trial : (word : List ℕ) (words : List (List ℕ)) → word ≡ name_bytes name.Trial → LacksNumber 500 words → (c : Command) (rest : List (List ℕ)) → HasTunes c → word ∷ words ≡ front_of c ++ rest → ⊥
+no_trial word words is none (command.Set flow jobs) rest good e = clash (codes "trial") (word ∷ words) (name_bytes name.Set ∷ rest) e is refl
+no_trial word words is none (command.Systems flow table) rest good e = clash (codes "trial") (word ∷ words) (name_bytes name.Systems ∷ rest) e is refl
+no_trial word words is none command.Inspect rest good e = clash (codes "trial") (word ∷ words) (name_bytes name.Inspect ∷ rest) e is refl
+no_trial word words is none command.Check rest good e = clash (codes "trial") (word ∷ words) (name_bytes name.Check ∷ rest) e is refl
+no_trial word words is none (command.Make tunes) rest good e = clash (codes "trial") (word ∷ words) (name_bytes name.Make ∷ decimal tunes ∷ rest) e is refl
+no_trial word words is none (command.Trial tunes flow jobs) rest good e = none tunes rest good (ap tail_of e)
+
+-- the front of a command is two words where the name is one of make and trial, and else one
+abbrev front_length : List (List ℕ) → ℕ
+front_length words = if (key_of (head_of words) == 313) || (key_of (head_of words) == 335) then 2 else 1
+
+front_is : (c : Command) (rest : List (List ℕ)) → take (front_length (front_of c ++ rest)) (front_of c ++ rest) ≡ front_of c
+front_is (command.Set flow jobs) rest = refl
+front_is (command.Systems flow table) rest = refl
+front_is command.Inspect rest = refl
+front_is command.Check rest = refl
+front_is (command.Make tunes) rest = refl
+front_is (command.Trial tunes flow jobs) rest = refl
+
+rest_is : (c : Command) (rest : List (List ℕ)) → drop (front_length (front_of c ++ rest)) (front_of c ++ rest) ≡ rest
+rest_is (command.Set flow jobs) rest = refl
+rest_is (command.Systems flow table) rest = refl
+rest_is command.Inspect rest = refl
+rest_is command.Check rest = refl
+rest_is (command.Make tunes) rest = refl
+rest_is (command.Trial tunes flow jobs) rest = refl
+
+pub same_front : (c d : Command) (xs ys : List (List ℕ)) → front_of c ++ xs ≡ front_of d ++ ys → (front_of c ≡ front_of d) × (xs ≡ ys)
+same_front c d xs ys e = (
+  sym (front_is c xs) ∙ ap (λ ws. take (front_length ws) ws) e ∙ front_is d ys,
+  sym (rest_is c xs) ∙ ap (λ ws. drop (front_length ws) ws) e ∙ rest_is d ys,
+)

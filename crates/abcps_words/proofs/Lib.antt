@@ -1,0 +1,4 @@
+mod Numbers
+mod Fronts
+mod Flags
+mod Alone

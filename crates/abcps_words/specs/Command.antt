@@ -1,0 +1,45 @@
+-- The command that words ask for.
+use Rattle.std.specs.Prelude.{◌≡◌, ⊤, ℕ, List, ◌++◌}
+use Rattle.abcps_words.specs.declared.options.Flag.{Flag}
+use Rattle.abcps_words.specs.declared.command.Command.{Command}
+use Rattle.abcps_words.specs.declared.command.Command.TheVariants as command
+use Rattle.abcps_words.specs.Words.{IsWithin, front_of, HasTunes, IsSpelled, said, Says}
+
+-- The words ask for this command: they are its front and options that it takes, in any order, each at most once.
+pub record Asks (words : List (List ℕ)) (c : Command) : Type 0 where
+  pub options : List Flag
+  pub behind : List (List ℕ)
+  pub whole : words ≡ front_of c ++ behind
+  pub tunes : HasTunes c
+  pub spelled : IsSpelled options behind
+  pub says : Says (said options) c
+
+-- the words ask for a command
+abbrev pub IsListed : List (List ℕ) → Type 0
+IsListed words = (c : Command) × Asks words c
+
+-- its jobs are 1 to 64, and its tunes 1 to 500
+abbrev pub IsGoodCommand : Command → Type 0
+IsGoodCommand (command.Set flow jobs) = IsWithin 64 jobs
+IsGoodCommand (command.Systems flow table) = ⊤
+IsGoodCommand command.Inspect = ⊤
+IsGoodCommand command.Check = ⊤
+IsGoodCommand (command.Make tunes) = IsWithin 500 tunes
+IsGoodCommand (command.Trial tunes flow jobs) = IsWithin 500 tunes × IsWithin 64 jobs
+
+-- the most bytes that a command may read: 8 MiB of a book, 256 MiB of pages or a listing, or none
+abbrev pub limit_of : Command → ℕ
+limit_of (command.Set flow jobs) = 8388608
+limit_of (command.Systems flow table) = 8388608
+limit_of command.Inspect = 268435456
+limit_of command.Check = 268435456
+limit_of (command.Make tunes) = 0
+limit_of (command.Trial tunes flow jobs) = 0
+
+-- words ask for one command
+abbrev pub AsksOne : Type 0
+AsksOne = (words : List (List ℕ)) (c d : Command) → Asks words c → Asks words d → c ≡ d
+
+-- a command that words ask for has its numbers in range
+abbrev pub AskedIsGood : Type 0
+AskedIsGood = (words : List (List ℕ)) (c : Command) → Asks words c → IsGoodCommand c

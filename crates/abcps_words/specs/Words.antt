@@ -1,0 +1,108 @@
+-- The words of a command: its name, the number of tunes where it takes one, and its options in any order, each at most once.
+use Rattle.std.specs.Prelude.{◌≡◌, ◌≤◌, ⊤, ℕ, Bool, true, false, List, [], ◌∷◌, All, Option, Some, None, unwrap_or, codes, decimal, flat_map, count_by}
+use Rattle.std.specs.List.{list_any}
+use Rattle.abcps_words.specs.declared.options.Flag.{Flag}
+use Rattle.abcps_words.specs.declared.options.Flag.TheVariants as flag
+use Rattle.abcps_words.specs.declared.options.Options.{Options}
+use Rattle.abcps_words.specs.declared.command.Name.{Name}
+use Rattle.abcps_words.specs.declared.command.Name.TheVariants as name
+use Rattle.abcps_words.specs.declared.command.Command.{Command}
+use Rattle.abcps_words.specs.declared.command.Command.TheVariants as command
+
+-- a number from 1 to the most
+pub record IsWithin (most n : ℕ) : Type 0 where
+  pub low : 1 ≤ n
+  pub high : n ≤ most
+
+-- a name as it is written
+abbrev pub name_bytes : Name → List ℕ
+name_bytes name.Set = codes "set"
+name_bytes name.Systems = codes "systems"
+name_bytes name.Inspect = codes "inspect"
+name_bytes name.Check = codes "check"
+name_bytes name.Make = codes "make"
+name_bytes name.Trial = codes "trial"
+
+-- the words before the options: the name, and directly behind it the number of tunes
+abbrev pub front_of : Command → List (List ℕ)
+front_of (command.Set flow jobs) = name_bytes name.Set ∷ []
+front_of (command.Systems flow table) = name_bytes name.Systems ∷ []
+front_of command.Inspect = name_bytes name.Inspect ∷ []
+front_of command.Check = name_bytes name.Check ∷ []
+front_of (command.Make tunes) = name_bytes name.Make ∷ decimal tunes ∷ []
+front_of (command.Trial tunes flow jobs) = name_bytes name.Trial ∷ decimal tunes ∷ []
+
+-- a number of tunes is 1 to 500
+abbrev pub HasTunes : Command → Type 0
+HasTunes (command.Make tunes) = IsWithin 500 tunes
+HasTunes (command.Trial tunes flow jobs) = IsWithin 500 tunes
+HasTunes (command.Set flow jobs) = ⊤
+HasTunes (command.Systems flow table) = ⊤
+HasTunes command.Inspect = ⊤
+HasTunes command.Check = ⊤
+
+-- the words of an option
+abbrev pub flag_words : Flag → List (List ℕ)
+flag_words flag.Flow = codes "--flow" ∷ []
+flag_words flag.Table = codes "--table" ∷ []
+flag_words (flag.Jobs jobs) = codes "--jobs" ∷ decimal jobs ∷ []
+
+-- a number of jobs is 1 to 64
+abbrev pub IsFlag : Flag → Type 0
+IsFlag flag.Flow = ⊤
+IsFlag flag.Table = ⊤
+IsFlag (flag.Jobs jobs) = IsWithin 64 jobs
+
+-- the three kinds of options
+abbrev pub is_flow : Flag → Bool
+is_flow flag.Flow = true
+is_flow flag.Table = false
+is_flow (flag.Jobs jobs) = false
+
+abbrev pub is_table : Flag → Bool
+is_table flag.Flow = false
+is_table flag.Table = true
+is_table (flag.Jobs jobs) = false
+
+abbrev pub is_jobs : Flag → Bool
+is_jobs flag.Flow = false
+is_jobs flag.Table = false
+is_jobs (flag.Jobs jobs) = true
+
+-- no two of the options are of one kind
+pub record IsOnce (flags : List Flag) : Type 0 where
+  pub flow : count_by is_flow flags ≤ 1
+  pub table : count_by is_table flags ≤ 1
+  pub jobs : count_by is_jobs flags ≤ 1
+
+-- the words are those of the options, each of which stands at most once
+pub record IsSpelled (flags : List Flag) (words : List (List ℕ)) : Type 0 where
+  pub spelled : words ≡ flat_map flag_words flags
+  pub in_range : All IsFlag flags
+  pub once : IsOnce flags
+
+-- the number of jobs among options
+abbrev pub jobs_in : List Flag → Option ℕ
+jobs_in [] = None
+jobs_in (flag.Flow ∷ flags) = jobs_in flags
+jobs_in (flag.Table ∷ flags) = jobs_in flags
+jobs_in (flag.Jobs jobs ∷ flags) = Some jobs
+
+-- what options say together
+abbrev pub said : List Flag → Options
+said flags = record { flow = list_any is_flow flags; table = list_any is_table flags; jobs = jobs_in flags }
+
+-- no option is said
+pub record IsBare (o : Options) : Type 0 where
+  pub flow : o.flow ≡ false
+  pub table : o.table ≡ false
+  pub jobs : o.jobs ≡ None
+
+-- A command says what its options say, and takes no others: 1 job where none says how many.
+abbrev pub Says : Options → Command → Type 0
+Says o (command.Set flow jobs) = (flow ≡ o.flow) × (jobs ≡ unwrap_or o.jobs 1) × (o.table ≡ false)
+Says o (command.Systems flow table) = (flow ≡ o.flow) × (table ≡ o.table) × (o.jobs ≡ None)
+Says o command.Inspect = IsBare o
+Says o command.Check = IsBare o
+Says o (command.Make tunes) = IsBare o
+Says o (command.Trial tunes flow jobs) = (flow ≡ o.flow) × (jobs ≡ unwrap_or o.jobs 1) × (o.table ≡ false)

@@ -1,0 +1,174 @@
+ghost use Rattle.std.specs.Prelude.{◌≡◌, ◌++◌, ℕ, List, IfSome, IfNone, MatchOption, map, string_bytes};
+ghost use Rattle.abcps_words.specs.Words.{name_bytes, front_of, HasTunes, Says};
+ghost use Rattle.abcps_words.specs.Command.{Asks, IsListed, IsGoodCommand, limit_of, AsksOne, AskedIsGood};
+
+use crate::options::{Options, options_of};
+use crate::words::{is_word, take_number};
+
+/// The name of a command.
+#[derive(Clone, Copy, Debug, PartialEq, Eq)]
+enum Name {
+    Set,
+    Systems,
+    Inspect,
+    Check,
+    Make,
+    Trial,
+}
+
+/// What the program is asked to do.
+#[derive(Clone, Copy, Debug, PartialEq, Eq)]
+pub enum Command {
+    /// Read a book, and write its pages: `flow` with no line break forced, by 1 to
+    /// 64 `jobs`.
+    Set { flow: bool, jobs: u8 },
+    /// Read a book, and write its systems: with `table` as a listing.
+    Systems { flow: bool, table: bool },
+    /// Read pages, and print what they show.
+    Inspect,
+    /// Read a listing, and judge it.
+    Check,
+    /// Write the generated book of 1 to 500 tunes.
+    Make { tunes: u32 },
+    /// Set the generated book of 1 to 500 tunes by 1 to 64 `jobs`, and write one line on it.
+    Trial { tunes: u32, flow: bool, jobs: u8 },
+}
+
+/// The most bytes that a book may have.
+pub const BOOK_LIMIT: u64 = 8_388_608;
+
+/// The most bytes that pages and a listing may have.
+pub const PAGES_LIMIT: u64 = 268_435_456;
+
+const MOST_TUNES: u32 = 500;
+
+/// The number of jobs where no option says it.
+const DEFAULT_JOBS: u8 = 1;
+
+/// The line that lists the forms of the words.
+pub const USAGE: &[u8] =
+    b"usage: abcps set [--flow] [--jobs N] | systems [--flow] [--table] | inspect | check | make N | trial N [--flow] [--jobs N]\n";
+
+impl Command {
+    /// The most bytes that its input may have; 0 where it reads none.
+    pub fn limit(self) -> u64
+        ensures { result ≡ limit_of self }
+    {
+        match self {
+            Command::Set { .. } | Command::Systems { .. } => BOOK_LIMIT,
+            Command::Inspect | Command::Check => PAGES_LIMIT,
+            Command::Make { .. } | Command::Trial { .. } => 0,
+        }
+    }
+
+    /// The same command with what its options say, where it takes them.
+    fn with_options(self, options: Options) -> Option<Command>
+        requires { HasTunes self }
+        ensures { MatchOption result
+            ((c : Command) → front_of c ≡ front_of self → Says options c → ⊥)
+            (λ c. (front_of c ≡ front_of self) × HasTunes c × Says options c) }
+    {
+        match self {
+            Command::Set { .. } if !options.table => Some(Command::Set {
+                flow: options.flow,
+                jobs: options.jobs.unwrap_or(DEFAULT_JOBS),
+            }),
+            Command::Systems { .. } if options.jobs.is_none() => Some(Command::Systems {
+                flow: options.flow,
+                table: options.table,
+            }),
+            Command::Trial { tunes, .. } if !options.table => Some(Command::Trial {
+                tunes,
+                flow: options.flow,
+                jobs: options.jobs.unwrap_or(DEFAULT_JOBS),
+            }),
+            Command::Inspect | Command::Check | Command::Make { .. }
+                if options == Options::none() => Some(self),
+            _ => None,
+        }
+    }
+}
+
+/// The name that a word is.
+fn name_of(word: &[u8]) -> Option<Name>
+    ensures { MatchOption result ((name : Name) → word.now ≡ name_bytes name → ⊥) (λ name. word.now ≡ name_bytes name) }
+{
+    if is_word(word, b"set") {
+        Some(Name::Set)
+    } else if is_word(word, b"systems") {
+        Some(Name::Systems)
+    } else if is_word(word, b"inspect") {
+        Some(Name::Inspect)
+    } else if is_word(word, b"check") {
+        Some(Name::Check)
+    } else if is_word(word, b"make") {
+        Some(Name::Make)
+    } else if is_word(word, b"trial") {
+        Some(Name::Trial)
+    } else {
+        None
+    }
+}
+
+/// The command that the first words name, without options, and the words behind them.
+fn take_front(words: &[String]) -> Option<(Command, &[String])>
+    ensures { MatchOption result
+        ((c : Command) (rest : List (List ℕ)) → HasTunes c → map string_bytes words.now ≡ front_of c ++ rest → ⊥)
+        (λ z. HasTunes z.0 × (map string_bytes words.now ≡ front_of z.0 ++ map string_bytes z.1.now)) }
+{
+    let (word, rest) = words.split_first()?;
+    match name_of(word.as_bytes())? {
+        Name::Set => Some((
+            Command::Set {
+                flow: false,
+                jobs: DEFAULT_JOBS,
+            },
+            rest,
+        )),
+        Name::Systems => Some((
+            Command::Systems {
+                flow: false,
+                table: false,
+            },
+            rest,
+        )),
+        Name::Inspect => Some((Command::Inspect, rest)),
+        Name::Check => Some((Command::Check, rest)),
+        Name::Make => {
+            let (tunes, rest) = take_number(MOST_TUNES, rest)?;
+            Some((Command::Make { tunes }, rest))
+        }
+        Name::Trial => {
+            let (tunes, rest) = take_number(MOST_TUNES, rest)?;
+            Some((
+                Command::Trial {
+                    tunes,
+                    flow: false,
+                    jobs: DEFAULT_JOBS,
+                },
+                rest,
+            ))
+        }
+    }
+}
+
+/// The command that the words ask for; `None` exactly where they ask for none. Takes
+/// no memory.
+pub fn command_of(words: &[String]) -> Option<Command>
+    ensures asks { IfSome result (λ c. Asks (map string_bytes words.now) c) }
+    ensures ranges { IfSome result IsGoodCommand }
+    ensures none { IfNone result (IsListed (map string_bytes words.now) → ⊥) }
+{
+    let (command, rest) = take_front(words)?;
+    command.with_options(options_of(rest)?)
+}
+
+/// The law that words ask for one command.
+pub fn asks_one()
+    ensures { AsksOne }
+{}
+
+/// The law that a command that words ask for has its numbers in range.
+pub fn asked_is_good()
+    ensures { AskedIsGood }
+{}

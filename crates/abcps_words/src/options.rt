@@ -1,0 +1,105 @@
+ghost use Rattle.std.specs.Prelude.{◌≡◌, ◌++◌, ◌∷◌, ◌↔◌, ℕ, List, IsTrue, MatchOption, decimal, map, string_bytes};
+ghost use Rattle.abcps_words.specs.Words.{IsWithin, flag_words, IsFlag, IsSpelled, said};
+ghost use Rattle.abcps_words.specs.Adding.{added, no_options};
+
+use crate::words::{is_word, take_number};
+
+/// An option, as it stands among the words.
+#[derive(Clone, Copy, Debug, PartialEq, Eq)]
+pub enum Flag {
+    /// `--flow`
+    Flow,
+    /// `--table`
+    Table,
+    /// `--jobs` and a number.
+    Jobs(u8),
+}
+
+/// What options say together.
+#[derive(Clone, Copy, Debug, PartialEq, Eq)]
+pub struct Options {
+    /// Whether `--flow` is among them.
+    pub flow: bool,
+    /// Whether `--table` is among them.
+    pub table: bool,
+    /// The number of `--jobs`, where it is among them.
+    pub jobs: Option<u8>,
+}
+
+const MOST_JOBS: u32 = 64;
+
+/// The number of jobs at the front of the words, and the words behind it.
+fn take_jobs(words: &[String]) -> Option<(u8, &[String])>
+    ensures { MatchOption result
+        ((n : ℕ) (rest : List (List ℕ)) → IsWithin 64 n → map string_bytes words.now ≡ decimal n ∷ rest → ⊥)
+        (λ z. IsWithin 64 z.0 × (map string_bytes words.now ≡ decimal z.0 ∷ map string_bytes z.1.now)) }
+{
+    let (jobs, rest) = take_number(MOST_JOBS, words)?;
+    Some((jobs as u8, rest))
+}
+
+/// The option at the front of the words, and the words behind it.
+fn take_flag(words: &[String]) -> Option<(Flag, &[String])>
+    ensures { MatchOption result
+        ((flag : Flag) (rest : List (List ℕ)) → IsFlag flag → map string_bytes words.now ≡ flag_words flag ++ rest → ⊥)
+        (λ z. IsFlag z.0 × (map string_bytes words.now ≡ flag_words z.0 ++ map string_bytes z.1.now)) }
+{
+    let (word, rest) = words.split_first()?;
+    if is_word(word.as_bytes(), b"--flow") {
+        Some((Flag::Flow, rest))
+    } else if is_word(word.as_bytes(), b"--table") {
+        Some((Flag::Table, rest))
+    } else if is_word(word.as_bytes(), b"--jobs") {
+        let (jobs, rest) = take_jobs(rest)?;
+        Some((Flag::Jobs(jobs), rest))
+    } else {
+        None
+    }
+}
+
+impl Options {
+    /// What no options say.
+    pub const fn none() -> Options
+        ensures { result ≡ no_options }
+    {
+        Options {
+            flow: false,
+            table: false,
+            jobs: None,
+        }
+    }
+
+    /// What they say with one more option, where none of its kind is among them.
+    fn with(self, flag: Flag) -> Option<Options>
+        ensures { result ≡ added self flag }
+    {
+        match flag {
+            Flag::Flow if !self.flow => Some(Options { flow: true, ..self }),
+            Flag::Table if !self.table => Some(Options {
+                table: true,
+                ..self
+            }),
+            Flag::Jobs(jobs) if self.jobs.is_none() => Some(Options {
+                jobs: Some(jobs),
+                ..self
+            }),
+            _ => None,
+        }
+    }
+}
+
+/// What the options say that these words spell, each at most once.
+pub fn options_of(words: &[String]) -> Option<Options>
+    ensures { MatchOption result
+        ((flags : List Flag) → IsSpelled flags (map string_bytes words.now) → ⊥)
+        (λ options. (flags : List Flag) × IsSpelled flags (map string_bytes words.now) × (options ≡ said flags)) }
+{
+    let mut options = Options::none();
+    let mut rest = words;
+    while !rest.is_empty() {
+        let (flag, behind) = take_flag(rest)?;
+        options = options.with(flag)?;
+        rest = behind;
+    }
+    Some(options)
+}

@@ -1,0 +1,97 @@
+-- The breakings of a tune's entry are the legal breakings of its score.
+use Rattle.std.proofs.Common.{◌≡◌, ℕ, ◌≤◌, List, [], ◌∷◌, map, length, Option, Some, None, IsSome, arith, refl, sym}
+use Rattle.std.proofs.lemmas.Bool.{true≢false}
+use Rattle.mus_score.specs.declared.score.Score.{Score}
+use Rattle.mus_time.specs.declared.keys.ColumnKey.{ColumnKey}
+use Rattle.mus_time.specs.Keys.{called_keys}
+use Rattle.mus_time.specs.Onsets.{timeline_of}
+use Rattle.mus_laid.specs.declared.laid.SystemMarks.{SystemMarks}
+use Rattle.mus_marks.specs.System.{staff_of}
+use Rattle.lay_springs.specs.Place.{length_at, reach_at}
+use Rattle.lay_springs.proofs.Ends as springs
+use Rattle.lay_springs.proofs.Longer.{stands}
+use Rattle.lay_columns.specs.Column.{length_rises}
+use Rattle.lay_columns.specs.declared.column.Column.{Column}
+use Rattle.lay_columns.specs.Columns.{column_reach}
+use Rattle.lay_breaks.specs.declared.costs.Span.{Span}
+use Rattle.lay_breaks.specs.Breaking.{FitsFrom, RisesFrom, last_from}
+use Rattle.lay_breaks.specs.Spans.{AreSpans, listed}
+use Rattle.lay_tune.specs.Spans.{AreSpansOf, CanStandIn, IsForceOf, IsSystem, column_length, score_gaps, system_columns}
+use Rattle.lay_tune.specs.Systems.{AllSpans}
+use Rattle.set_lists.specs.Laws.{BreakingsOfListing, CanBeSystem}
+use Rattle.set_lists.proofs.Sorting.{are_sorted, sorted}
+use Rattle.set_lists.proofs.Told.{listed_within, unforced}
+
+-- the keys of a system, and its marks
+abbrev called_in : Score → ℕ → ℕ → List ColumnKey
+called_in s a b = sorted (called_keys s (timeline_of s).lengths a b)
+
+abbrev marks_of : Score → ℕ → ℕ → SystemMarks
+marks_of s a b = record {
+  a = a;
+  b = b;
+  keys = called_in s a b;
+  staves = map (staff_of (called_in s a b) (timeline_of s).lengths a b) s.voices;
+}
+
+is_system : (s : Score) (a b : ℕ) → IsSystem s a b (marks_of s a b)
+is_system s a b = record { from = refl; to = refl; keys = are_sorted (called_keys s (timeline_of s).lengths a b); staves = refl }
+
+-- columns that can be pressed by a force can stand
+can_stand : (gaps : List ℕ) (width : ℕ) (columns : List Column) (force : ℕ) → IsForceOf gaps width columns force → CanStandIn gaps width columns
+can_stand gaps width columns force h =
+    let reach = reach_at column_reach columns in
+    let spring = length_at column_length columns in
+    let at = stands (length columns) reach gaps spring width force h.fits in record {
+      y = at.y;
+      apart = springs.apart_down (length columns) reach gaps (spring 0) (spring force) at.y
+          (springs.length_rises column_length columns 0 force (λ c. length_rises c.natural 0 force (omega arith))) at.apart;
+      past = at.past;
+      reaches = at.reaches;
+    }
+
+rises_to : (a : ℕ) (bs : List ℕ) → RisesFrom a bs → a ≤ last_from a bs
+rises_to a [] h = omega arith
+rises_to a (b ∷ bs) h = let l = h.0 in let m = rises_to b bs h.1 in omega (arith, l, m)
+
+module _ (s : Score) (width : ℕ) (spans : List Span) (form : AreSpans s.measures spans) (exact : AreSpansOf s width spans) where
+  can_be : (a b : ℕ) → IsSome (listed spans a b) → CanBeSystem s width a b
+  can_be a b some = at (listed spans a b) refl some
+    where
+      at : (o : Option ℕ) → listed spans a b ≡ o → IsSome o → CanBeSystem s width a b
+      at None e some = absurd (true≢false (sym some))
+      at (Some v) e some =
+          let within = listed_within s.measures None spans form a b v e in
+          let cost = exact.each a b v within.0 within.1 e in record {
+            free = cost.free;
+            stands = λ m is. can_stand (score_gaps s) width (system_columns s m) cost.pressed.0 (cost.pressed.2 m is);
+          }
+
+  all_can_be : (a : ℕ) (bs : List ℕ) → FitsFrom (listed spans) a bs → AllSpans (CanBeSystem s width) a bs
+  all_can_be a [] h = tt
+  all_can_be a (b ∷ bs) h = (can_be a b h.0, all_can_be b bs h.1)
+
+  all_fit : (a : ℕ) (bs : List ℕ) → RisesFrom a bs → last_from a bs ≤ s.measures → AllSpans (CanBeSystem s width) a bs → FitsFrom (listed spans) a bs
+  all_fit a [] rises within h = tt
+  all_fit a (b ∷ bs) rises within h = (
+    exact.fits a b (marks_of s a b) rises.0 (let l = rises_to b bs rises.1 in omega (arith, l, within)) h.0.free (is_system s a b)
+        (h.0.stands (marks_of s a b) (is_system s a b)),
+    all_fit b bs rises.1 within h.1,
+  )
+
+pub breakings_of_listing : BreakingsOfListing
+breakings_of_listing s width spans form exact breaks = (
+  (λ h.
+      let forced = (unforced s width spans form exact breaks s.measures).1 h in record {
+        rises = h.rises;
+        ends = h.ends;
+        every_forced = forced.every_forced;
+        fits = all_can_be s width spans form exact 0 breaks h.fits;
+      }),
+  (λ h. record {
+    rises = h.rises;
+    ends = h.ends;
+    every_forced = λ f l t. absurd (true≢false (sym t));
+    fits = all_fit s width spans form exact 0 breaks h.rises (let e = h.ends in omega (arith, e)) h.fits;
+  }),
+)

@@ -1,0 +1,130 @@
+-- What comes of tunes can be listed, and its listing tells the tunes that are set.
+use Rattle.std.proofs.Common.{◌≡◌, ℕ, suc, ◌<◌, ◌≤◌, ◌^◌, Bool, true, false, List, [], ◌∷◌, length, Option, Some, None, Result, Ok, Err, arith, refl, ap, if◌then◌else◌}
+use Rattle.std.specs.List.{All, cons_option, slice_index_or}
+use Rattle.std.proofs.lemmas.List.Elements.{All-cons, All-nil}
+use Rattle.std.proofs.lemmas.Option.{none-some}
+use Rattle.abc_lines.specs.declared.book.TuneText.{TuneText}
+use Rattle.abc_lines.specs.declared.fault.Fault.{Fault}
+use Rattle.abc_header.specs.declared.defaults.Defaults.{Defaults}
+use Rattle.abc_header.specs.declared.paper.Paper.{Paper}
+use Rattle.abc_header.specs.Papers.{width_of}
+use Rattle.mus_score.specs.declared.score.Score.{Score}
+use Rattle.lay_breaks.specs.declared.costs.Span.{Span}
+use Rattle.lay_breaks.specs.Breaking.{IsLegal, IsPotential}
+use Rattle.lay_breaks.specs.Spans.{AreSpans, SpansFrom, ends_are, has_ends, listed}
+use Rattle.lay_tune.specs.Spans.{AreSpansOf, is_forced_in}
+use Rattle.lay_tune.specs.Systems.{Beside, IsPlaced}
+use Rattle.lay_cert.specs.Listing.{EntriesFrom, IsEntry, none_forced}
+use Rattle.lay_cert.proofs.Unforced.{forced_by_spans}
+use Rattle.set_tune.specs.declared.tune.SetTune.{SetTune}
+use Rattle.set_tune.specs.Setting.{IsSetTune}
+use Rattle.set_book.specs.declared.outcome.Outcome.{Outcome}
+use Rattle.set_book.specs.Outcomes.{AreOutcomes, IsResult}
+use Rattle.set_lists.specs.Laws.{ListsTheSet, OrdinalsRise, OutcomesAreListable}
+use Rattle.set_lists.specs.Listing.{CanBeListed, IsListable, entries_of, entry_of, result_entry}
+
+-- ---- spans pass no forced bar
+pub listed_within : (n : ℕ) (last : Option Span) (ss : List Span) → SpansFrom n last ss
+    → (a b v : ℕ) → listed ss a b ≡ Some v → (a < b) × (b ≤ n)
+listed_within n last [] h a b v e = absurd (none-some v e)
+listed_within n last (s ∷ ss) h a b v e = at (has_ends a b s) refl (listed_within n (Some s) ss h.1 a b v) e
+  where
+    at : (t : Bool) → has_ends a b s ≡ t → (listed ss a b ≡ Some v → (a < b) × (b ≤ n))
+        → (if t then Some s.badness else listed ss a b) ≡ Some v → (a < b) × (b ≤ n)
+    at true is more e =
+        let ends = ends_are a b s is in
+        let rises = h.0.rises in
+        let within = h.0.within in
+        let from = ends.0 in
+        let to = ends.1 in
+        (omega (arith, rises, from, to), omega (arith, within, to))
+    at false is more e = more e
+
+pub unforced : (s : Score) (width : ℕ) (spans : List Span) → AreSpans s.measures spans → AreSpansOf s width spans
+    → (breaks : List ℕ) (i : ℕ)
+    → (IsLegal (listed spans) (is_forced_in s) breaks i → IsLegal (listed spans) none_forced breaks i)
+    × (IsLegal (listed spans) none_forced breaks i → IsLegal (listed spans) (is_forced_in s) breaks i)
+unforced s width spans form exact breaks i =
+    let both = forced_by_spans (listed spans) (is_forced_in s) refl stops breaks i in (both.0, both.1)
+  where
+    stops : (a f b : ℕ) → a < f → f < b → is_forced_in s f ≡ true → listed spans a b ≡ None
+    stops a f b l m t = at (listed spans a b) refl
+      where
+        at : (o : Option ℕ) → listed spans a b ≡ o → o ≡ None
+        at None e = refl
+        at (Some v) e =
+            let ends = listed_within s.measures None spans form a b v e in
+            absurd ((exact.each a b v ends.0 ends.1 e).free (f, l, m, t))
+
+potential : (s : Score) (width : ℕ) (spans : List Span) → AreSpans s.measures spans → AreSpansOf s width spans
+    → (i : ℕ) (o : Option ℕ) → IsPotential (listed spans) (is_forced_in s) i o → IsPotential (listed spans) none_forced i o
+potential s width spans form exact i None h = λ other legal. h other ((unforced s width spans form exact other i).1 legal)
+potential s width spans form exact i (Some v) h = record {
+  reached = let way = h.reached in (way.0, (unforced s width spans form exact way.0 i).0 way.1, way.2);
+  least = λ other legal. h.least other ((unforced s width spans form exact other i).1 legal);
+}
+
+-- ---- tunes that are set
+same_length : {X Y : Type 0} (P : X → Y → Type 0) (xs : List X) (ys : List Y) → Beside P xs ys → length ys ≡ length xs
+same_length P [] [] h = refl
+same_length P [] (y ∷ ys) h = absurd h
+same_length P (x ∷ xs) [] h = absurd h
+same_length P (x ∷ xs) (y ∷ ys) h = ap suc (same_length P xs ys h.1)
+
+module _ (tune : TuneText) (defaults : Defaults) (paper : Paper) (flow : Bool) (t : SetTune) (is : IsSetTune tune defaults paper flow t) where
+  can_be_listed : CanBeListed t
+  can_be_listed = record {
+    form = is.laid.layout.form;
+    beside = same_length (IsPlaced t.score (width_of paper)) t.systems t.placed is.laid.layout.placed;
+    few = let few = is.laid.score.good.few_measures in let one = is.laid.layout.one_each in omega (arith, few, one);
+  }
+
+  is_entry : (ordinal : ℕ) → ordinal < 2 ^ 32 → IsEntry (entry_of ordinal t)
+  is_entry ordinal numbered =
+      let layout = is.laid.layout in record {
+        numbered = numbered;
+        few = let few = is.laid.score.good.few_measures in omega (arith, few);
+        spans = layout.form;
+        choice = (unforced t.score _ t.spans layout.form layout.spans t.breaking.breaks t.score.measures).0 layout.chosen.legal;
+        total = layout.total;
+        one_each = layout.one_each;
+        potentials = λ i l. potential t.score _ t.spans layout.form layout.spans i (slice_index_or t.breaking.potentials i None) (layout.potentials i l);
+      }
+
+-- ---- outcomes
+module _ (defaults : Defaults) (paper : Paper) (flow : Bool) where
+  is_listable : (tune : TuneText) (r : Result SetTune Fault) → IsResult tune defaults paper flow r → IsListable r
+  is_listable tune (Ok t) h = can_be_listed tune defaults paper flow t h
+  is_listable tune (Err fault) h = tt
+
+  all_listable : (tunes : List TuneText) (os : List Outcome) → AreOutcomes defaults paper flow tunes os → All (λ o. IsListable o.result) os
+  all_listable [] [] h = All-nil (λ o. IsListable o.result)
+  all_listable [] (o ∷ os) h = absurd h
+  all_listable (t ∷ ts) [] h = absurd h
+  all_listable (t ∷ ts) (o ∷ os) h =
+      All-cons (λ o. IsListable o.result) o os (is_listable t o.result h.0.result) (all_listable ts os h.1)
+
+  -- the entries of outcomes whose numbers rise past k have numbers past each j up to k
+  entries : (tunes : List TuneText) (os : List Outcome) (k j : ℕ) → AreOutcomes defaults paper flow tunes os → OrdinalsRise k os → j ≤ k
+      → EntriesFrom j (entries_of os)
+  entries [] [] k j h rise l = tt
+  entries [] (o ∷ os) k j h rise l = absurd h
+  entries (t ∷ ts) [] k j h rise l = absurd h
+  entries (t ∷ ts) (o ∷ os) k j h rise l =
+      at o.result h.0.result (entries ts os o.ordinal o.ordinal h.1 rise.2 (omega arith))
+      (entries ts os o.ordinal j h.1 rise.2 (let m = rise.0 in omega (arith, l, m)))
+    where
+      at : (r : Result SetTune Fault) → IsResult t defaults paper flow r → EntriesFrom o.ordinal (entries_of os) → EntriesFrom j (entries_of os)
+          → EntriesFrom j (cons_option (result_entry o.ordinal r) (entries_of os))
+      at (Ok tune) is further same =
+          (let m = rise.0 in omega (arith, l, m), is_entry t defaults paper flow tune is o.ordinal rise.1, further)
+      at (Err fault) is further same = same
+
+pub outcomes_are_listable : OutcomesAreListable
+outcomes_are_listable defaults paper flow tunes os h = all_listable defaults paper flow tunes os h
+
+pub lists_the_set : ListsTheSet
+lists_the_set defaults paper flow tunes os h rise = record {
+  entries = entries defaults paper flow tunes os 0 0 h rise (omega arith);
+  lines = refl;
+}

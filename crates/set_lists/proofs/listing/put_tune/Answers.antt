@@ -1,0 +1,10 @@
+use Rattle.std.proofs.Common.{◌++◌, [], ◌∙◌, ap}
+use Rattle.lay_cert.specs.Lines.{lines_then}
+use Rattle.lay_cert.specs.Listing.{entry_lines}
+use Rattle.set_lists.specs.Listing.{entry_of}
+use Rattle.set_lists.proofs.listing.put_tune.Goals as goal
+
+pub returns : goal.returns
+returns c =
+    let e = entry_of c.args.ordinal c.args.tune.now in
+    c.in_ok-put_entry.ensures ∙ ap (λ spans. c.args.out.now ++ lines_then (entry_lines (record e { spans = spans })) []) c.as_slice.ensures

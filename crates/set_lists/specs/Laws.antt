@@ -1,0 +1,57 @@
+-- The laws of the listing of a book.
+use Rattle.std.specs.Prelude.{◌≡◌, ℕ, ◌<◌, ◌≤◌, ◌^◌, ◌↔◌, ⊤, Bool, true, List, [], ◌∷◌, length, Contains}
+use Rattle.abc_lines.specs.declared.book.TuneText.{TuneText}
+use Rattle.abc_lines.specs.Books.{book_of}
+use Rattle.abc_header.specs.declared.defaults.Defaults.{Defaults}
+use Rattle.abc_header.specs.declared.paper.Paper.{Paper}
+use Rattle.mus_score.specs.declared.score.Score.{Score}
+use Rattle.mus_laid.specs.declared.laid.SystemMarks.{SystemMarks}
+use Rattle.lay_breaks.specs.declared.costs.Span.{Span}
+use Rattle.lay_breaks.specs.Breaking.{IsLegal, RisesFrom, last_from}
+use Rattle.lay_breaks.specs.Spans.{AreSpans, listed}
+use Rattle.lay_spans.specs.Forced.{ForcedInside}
+use Rattle.lay_tune.specs.Spans.{AreSpansOf, CanStandIn, IsSystem, is_forced_in, score_gaps, system_columns}
+use Rattle.lay_tune.specs.Systems.{AllSpans}
+use Rattle.lay_cert.specs.Listing.{IsListing, none_forced}
+use Rattle.set_book.specs.declared.outcome.Outcome.{Outcome}
+use Rattle.set_book.specs.Outcomes.{AreOutcomes}
+use Rattle.set_lists.specs.Listing.{AreListable, entries_of, listing_text}
+
+-- the numbers of the tunes rise, the first past k, and have 32 bits
+abbrev pub OrdinalsRise : ℕ → List Outcome → Type 0
+OrdinalsRise k [] = ⊤
+OrdinalsRise k (o ∷ os) = (k < o.ordinal) × (o.ordinal < 2 ^ 32) × OrdinalsRise o.ordinal os
+
+-- the numbers of the tunes of a book rise
+abbrev pub BookRises : Type 0
+BookRises = (bytes : List ℕ) (defaults : Defaults) (paper : Paper) (flow : Bool) (outcomes : List Outcome) → length bytes ≤ 2 ^ 30
+    → AreOutcomes defaults paper flow (book_of bytes).tunes outcomes → OrdinalsRise 0 outcomes
+
+-- what comes of tunes can be listed
+abbrev pub OutcomesAreListable : Type 0
+OutcomesAreListable = (defaults : Defaults) (paper : Paper) (flow : Bool) (tunes : List TuneText) (outcomes : List Outcome)
+    → AreOutcomes defaults paper flow tunes outcomes → AreListable outcomes
+
+-- what is written of tunes whose numbers rise is a listing, and it tells the tunes without a fault
+abbrev pub ListsTheSet : Type 0
+ListsTheSet = (defaults : Defaults) (paper : Paper) (flow : Bool) (tunes : List TuneText) (outcomes : List Outcome)
+    → AreOutcomes defaults paper flow tunes outcomes → OrdinalsRise 0 outcomes → IsListing (listing_text outcomes) (entries_of outcomes)
+
+-- The measures from bar a to bar b can be a system: no forced bar stands strictly inside, and the columns of the marks that
+-- the score calls for there can stand within the width.
+pub record CanBeSystem (s : Score) (width a b : ℕ) : Type 0 where
+  pub free : ForcedInside (is_forced_in s) a b → ⊥
+  pub stands : (m : SystemMarks) → IsSystem s a b m → CanStandIn (score_gaps s) width (system_columns s m)
+
+-- A legal breaking of the score on a width: a rising list of bars that ends with the last, has every forced bar, and whose
+-- spans can each be a system.
+pub record IsLegalIn (s : Score) (width : ℕ) (breaks : List ℕ) : Type 0 where
+  pub rises : RisesFrom 0 breaks
+  pub ends : last_from 0 breaks ≡ s.measures
+  pub every_forced : (f : ℕ) → f ≤ s.measures → is_forced_in s f ≡ true → Contains breaks f
+  pub fits : AllSpans (CanBeSystem s width) 0 breaks
+
+-- the breakings of a tune's entry, of which no bar is forced, are the legal breakings of its score
+abbrev pub BreakingsOfListing : Type 0
+BreakingsOfListing = (s : Score) (width : ℕ) (spans : List Span) → AreSpans s.measures spans → AreSpansOf s width spans
+    → (breaks : List ℕ) → IsLegal (listed spans) none_forced breaks s.measures ↔ IsLegalIn s width breaks

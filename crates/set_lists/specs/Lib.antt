@@ -1,0 +1,5 @@
+pub mod Reports
+pub mod Systems
+pub mod Listing
+pub mod Laws
+pub mod Trials

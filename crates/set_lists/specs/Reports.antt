@@ -1,0 +1,57 @@
+-- The reports of a book: a line for each tune that has a fault, in order.
+use Rattle.std.specs.Prelude.{ℕ, Bool, List, [], ◌∷◌, ◌++◌, codes, decimal, Result, Ok, Err, is_err}
+use Rattle.std.specs.List.{flat_map, list_any}
+use Rattle.abc_lines.specs.declared.fault.Fault.{Fault}
+use Rattle.abc_lines.specs.declared.fault.FaultKind.{FaultKind}
+use Rattle.abc_lines.specs.declared.fault.FaultKind.TheVariants as kinds
+use Rattle.set_tune.specs.declared.tune.SetTune.{SetTune}
+use Rattle.set_book.specs.declared.outcome.Outcome.{Outcome}
+
+-- the name of a kind of fault, and its number behind a space where it has one
+abbrev pub kind_name : FaultKind → List ℕ
+kind_name kinds.NoKey = codes "NoKey"
+kind_name kinds.BadMeter = codes "BadMeter"
+kind_name kinds.BadUnit = codes "BadUnit"
+kind_name kinds.BadKey = codes "BadKey"
+kind_name kinds.BadVoice = codes "BadVoice"
+kind_name kinds.TooManyVoices = codes "TooManyVoices"
+kind_name kinds.BadByte = codes "BadByte"
+kind_name kinds.Unclosed = codes "Unclosed"
+kind_name kinds.BadLength = codes "BadLength"
+kind_name kinds.BadTuplet = codes "BadTuplet"
+kind_name kinds.TooDeep = codes "TooDeep"
+kind_name kinds.TupletCrosses = codes "TupletCrosses"
+kind_name kinds.TupletShort = codes "TupletShort"
+kind_name kinds.BrokenAlone = codes "BrokenAlone"
+kind_name kinds.Undrawable = codes "Undrawable"
+kind_name kinds.StepRange = codes "StepRange"
+kind_name kinds.RestWithoutMeter = codes "RestWithoutMeter"
+kind_name kinds.TooManyMeasures = codes "TooManyMeasures"
+kind_name kinds.TooManyEvents = codes "TooManyEvents"
+kind_name kinds.TooManyVerses = codes "TooManyVerses"
+kind_name (kinds.NoWay reached) = codes "NoWay " ++ decimal reached
+kind_name (kinds.TooTall block) = codes "TooTall " ++ decimal block
+
+-- the line of a tune's fault
+unfoldable pub fault_report : ℕ → Fault → List ℕ
+fault_report ordinal fault =
+    codes "tune " ++ decimal ordinal ++ codes " line " ++ decimal fault.line ++ codes " column " ++ decimal fault.column
+    ++ codes ": " ++ kind_name fault.kind ++ 10 ∷ []
+
+-- a tune without a fault has no line
+abbrev pub result_report : ℕ → Result SetTune Fault → List ℕ
+result_report ordinal (Ok tune) = []
+result_report ordinal (Err fault) = fault_report ordinal fault
+
+abbrev pub report : Outcome → List ℕ
+report outcome = result_report outcome.ordinal outcome.result
+
+unfoldable pub reports : List Outcome → List ℕ
+reports outcomes = flat_map report outcomes
+
+abbrev pub is_faulty : Outcome → Bool
+is_faulty outcome = is_err outcome.result
+
+-- whether some tune has a fault
+abbrev pub some_fault : List Outcome → Bool
+some_fault outcomes = list_any is_faulty outcomes
