@@ -1,3 +1,3 @@
-mod FormLaws
-mod InRange
+mod Answered
+mod BookCalls
 mod Promised

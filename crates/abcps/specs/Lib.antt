@@ -1,7 +1,7 @@
-pub mod Form
-pub mod SheetOf
-pub mod Command
-pub mod Outcome
 pub mod Outputs
-pub mod Promises
+pub mod Called
+pub mod Books
+pub mod Calls
 pub mod Status
+pub mod Outcome
+pub mod Promises

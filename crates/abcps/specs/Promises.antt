@@ -1,18 +1,15 @@
 -- What a run promises, one fact for each name.
-use Rattle.std.specs.Prelude.{◌≡◌, ◌≢◌, ◌⊎◌, ◌≤◌, ◌↔◌, ℕ, List, [], ◌∷◌, length, codes, Some}
+use Rattle.std.specs.Prelude.{◌≡◌, ◌≢◌, ◌⊎◌, ◌≤◌, ◌↔◌, ℕ, List, length, Option, Some}
 use Rattle.eng_io.specs.Causes.{Rose}
-use Rattle.ps_text.specs.Document.{Spells}
-use Rattle.ps_text.specs.declared.sheet.Sheet.{Sheet}
-use Rattle.abcps.specs.Form.{IsForm}
-use Rattle.abcps.specs.SheetOf.{sheet_of}
-use Rattle.abcps.specs.Outputs.{sheet_report}
-use Rattle.abcps.specs.Command.{name_of, most_of, IsListed}
-use Rattle.abcps.specs.Outcome.{Stream, IsQuiet, ReadAll, ReadTooMuch, TookAll, TookFront, TookPart, WasTold, IsUnbuilt, IsNotPages, Calls}
-use Rattle.abcps.specs.declared.command.Command.{Command}
-use Rattle.abcps.specs.declared.command.Command.TheVariants as command
+use Rattle.abcps_words.specs.Command.{Asks, IsListed, limit_of}
+use Rattle.abcps_words.specs.declared.command.Command.{Command}
+use Rattle.abcps_words.specs.declared.command.Command.TheVariants as command
+use Rattle.abcps_words.specs.declared.command.TheConstants.{USAGE}
+use Rattle.abcps.specs.Called.{Called}
+use Rattle.abcps.specs.Calls.{Calls, Refuses, not_pages_line}
+use Rattle.abcps.specs.Outcome.{Stream, IsQuiet, IsRead, IsReader, ReadTooMuch, TookAll, TookPart, WasCut, WasTold}
 use Rattle.abcps.specs.declared.status.Status.{Status}
 use Rattle.abcps.specs.declared.status.Status.TheVariants as status
-use Rattle.abcps.specs.declared.running.TheConstants.{USAGE}
 
 -- no stream counted a fault, where a count that stands at its end counts as risen
 pub record NoFault (i o e : Stream) : Type 0 where
@@ -20,49 +17,59 @@ pub record NoFault (i o e : Stream) : Type 0 where
   pub output : Rose o.count_before o.count_after → ⊥
   pub errors : Rose e.count_before e.count_after → ⊥
 
--- the words are this command, no fault was counted, and the input told its bytes, which are within the limit
-pub record IsGiven (c : Command) (words : List (List ℕ)) (i o e : Stream) (text : List ℕ) : Type 0 where
-  pub asked : words ≡ name_of c ∷ []
-  pub good : NoFault i o e
-  pub told : i.before ≡ Some text
-  pub within : length text ≤ most_of c
+-- the input told its bytes, which are within the limit; of a command that reads none nothing is asked
+abbrev pub IsToldTo : Command → Stream → List ℕ → Type 0
+IsToldTo (command.Make tunes) i text = Unit {0}
+IsToldTo (command.Trial tunes flow jobs) i text = Unit {0}
+IsToldTo c i text = (i.before ≡ Some text) × (length text ≤ limit_of c)
 
--- the words are a command, which read this text whole
+-- the words ask for this command, no fault was counted, and the input is this text
+pub record IsGiven (c : Command) (words : List (List ℕ)) (i o e : Stream) (text : List ℕ) : Type 0 where
+  pub asked : Asks words c
+  pub good : NoFault i o e
+  pub told : IsToldTo c i text
+
+-- the words ask for a command, which read this text whole, or reads none
 pub record IsWhole (c : Command) (words : List (List ℕ)) (i : Stream) (text : List ℕ) : Type 0 where
-  pub asked : words ≡ name_of c ∷ []
-  pub read : ReadAll (most_of c) i text
+  pub asked : Asks words c
+  pub read : IsRead c i text
+
+-- what was called for is on both sinks
+pub record IsDone (c : Command) (s : Status) (text : List ℕ) (o e : Stream) : Type 0 where
+  pub called : Called
+  pub calls : Calls c text called
+  pub ends : s ≡ called.status
+  pub page : TookAll o called.page
+  pub told : TookAll e called.told
+
+-- the input is refused, and output has nothing
+pub record IsRefused (c : Command) (text : List ℕ) (o e : Stream) : Type 0 where
+  pub number : ℕ
+  pub refuses : Refuses c text number
+  pub quiet : IsQuiet o
+  pub told : WasTold e (not_pages_line number)
 
 pub record Promises (s : Status) (words : List (List ℕ)) (i o e : Stream) : Type 0 where
   -- usage is answered exactly by the words, whatever the streams do
   pub usage : (s ≡ status.Usage) ↔ (IsListed words → ⊥)
   -- then nothing was read or written but the line of usage, or a front of it where the errors sink failed
   pub usage_line : s ≡ status.Usage → IsQuiet i × IsQuiet o × WasTold e USAGE.now
-  -- a fault of the input is answered only where its count rose, and nothing is written
-  pub read_fault : s ≡ status.ReadFault → Rose i.count_before i.count_after × IsQuiet o × IsQuiet e
+  -- a fault of the input is answered only where a command reads and its count rose, and nothing is written
+  pub read_fault : s ≡ status.ReadFault → ((c : Command) × Asks words c × IsReader c) × Rose i.count_before i.count_after × IsQuiet o × IsQuiet e
   -- an input is too long where one byte past the command's limit was taken, and nothing is written
-  pub too_long : s ≡ status.TooLong → (c : Command) × (words ≡ name_of c ∷ []) × (text : List ℕ) × ReadTooMuch (most_of c) i text × IsQuiet o × IsQuiet e
-  -- otherwise, but for want of memory, the whole input was read, and it is within the command's limit
-  pub read : s ≢ status.Usage → s ≢ status.ReadFault → s ≢ status.TooLong → s ≢ status.Memory → (c : Command) × (text : List ℕ) × IsWhole c words i text
-  -- a book that isn't of the form is told so, and nothing is written to output
-  pub unbuilt : s ≡ status.Unbuilt → (text : List ℕ) × IsWhole command.Set words i text × IsUnbuilt text × IsQuiet o × WasTold e (codes "unbuilt\n")
-  -- pages that no sheet spells are told by the line of their first fault, and nothing is written to output
-  pub not_pages : s ≡ status.NotPages → (text line : List ℕ) × IsWhole command.Inspect words i text × IsNotPages text line × IsQuiet o × WasTold e line
-  -- when all is done, output has the text that the command calls for: of set one that, read back, is the one sheet that
-  -- the book calls for, of inspect all that the one sheet shows that the pages spell; and errors has nothing
-  pub page : s ≡ status.Done → (c : Command) × (text page : List ℕ) × IsWhole c words i text × Calls c text page × TookAll o page × IsQuiet e
-  -- a fault of a sink is answered only where the count of output rose; output has a front of the text, errors nothing
-  pub write_fault : s ≡ status.WriteFault → (c : Command) × (text page : List ℕ) × IsWhole c words i text × Calls c text page × TookFront o page × IsQuiet e
-  -- for want of memory errors has nothing, and output nothing or a front of the text
-  pub memory : s ≡ status.Memory → IsQuiet e × (IsQuiet o ⊎ ((c : Command) × (text page : List ℕ) × IsWhole c words i text × Calls c text page × TookPart o page))
-  -- no other answer comes
-  pub answers : (s ≢ status.SomeRefused) × (s ≢ status.NotLeast)
-  -- a book of the form is set, unless memory runs out: output, read back, is the sheet that it calls for
-  pub set : (text title letters : List ℕ) → IsGiven command.Set words i o e text → IsForm text title letters → s ≢ status.Memory
-      → (s ≡ status.Done) × ((page : List ℕ) × Spells (sheet_of title letters) page × TookAll o page) × IsQuiet e
-  -- any other is refused as unbuilt, unless memory runs out
-  pub refused : (text : List ℕ) → IsGiven command.Set words i o e text → IsUnbuilt text → s ≢ status.Memory → s ≡ status.Unbuilt
-  -- pages that a sheet spells are inspected, unless memory runs out: output has all that this sheet shows
-  pub inspected : (text : List ℕ) (sheet : Sheet) → IsGiven command.Inspect words i o e text → Spells sheet text → s ≢ status.Memory
-      → (s ≡ status.Done) × TookAll o (sheet_report sheet) × IsQuiet e
-  -- any other input is no pages, unless memory runs out
-  pub uninspected : (text : List ℕ) → IsGiven command.Inspect words i o e text → ((sheet : Sheet) → Spells sheet text → ⊥) → s ≢ status.Memory → s ≡ status.NotPages
+  pub too_long : s ≡ status.TooLong → ((c : Command) × Asks words c × IsReader c × ((text : List ℕ) × ReadTooMuch (limit_of c) i text)) × IsQuiet o × IsQuiet e
+  -- an input that is no document, or no listing, is told so by the line of its first fault, and nothing is written to output
+  pub not_pages : s ≡ status.NotPages → (c : Command) × (text : List ℕ) × IsWhole c words i text × IsRefused c text o e
+  -- a fault of a sink is answered only where its count rose: output has a front of its text and errors nothing, or output has
+  -- all of it and errors a front of its own
+  pub write_fault : s ≡ status.WriteFault → (c : Command) × (text : List ℕ) × (called : Called) × IsWhole c words i text × Calls c text called × WasCut called o e
+  -- for want of memory errors has nothing, and output nothing or a front of its text
+  pub memory : s ≡ status.Memory → IsQuiet e
+      × (IsQuiet o ⊎ ((c : Command) × (text : List ℕ) × (called : Called) × IsWhole c words i text × Calls c text called × TookPart o called.page))
+  -- every other answer is the one that is called for, and both sinks have their whole texts
+  pub done : s ≢ status.Usage → s ≢ status.ReadFault → s ≢ status.TooLong → s ≢ status.NotPages → s ≢ status.WriteFault → s ≢ status.Memory
+      → (c : Command) × (text : List ℕ) × IsWhole c words i text × IsDone c s text o e
+  -- Where the words ask for a command, no fault is counted and the input is told within the limit: unless memory runs out, all
+  -- that the command calls for is done, or its input is refused.
+  pub answered : (c : Command) (text : List ℕ) → IsGiven c words i o e text → s ≢ status.Memory
+      → IsDone c s text o e ⊎ ((s ≡ status.NotPages) × IsRefused c text o e)

@@ -13,4 +13,3 @@ number_of status.Memory = 5
 number_of status.NotPages = 6
 number_of status.TooLong = 7
 number_of status.NotLeast = 8
-number_of status.Unbuilt = 9

@@ -1,19 +1,18 @@
 //! The engraver's top call: words and streams in, a status out.
-//!
-//! So far the command `set`, for a tune of one measure of letters, where every
-//! other book is answered as unbuilt, and the command `inspect`, which lists what
-//! pages show.
 #![tactic(auto)]
 
-pub mod command;
-pub mod form;
+mod books;
+mod inspecting;
+mod judging;
+mod making;
 pub mod report;
 pub mod running;
-pub mod sheet;
 pub mod status;
+mod telling;
 
-pub use command::Command;
-pub use running::{USAGE, run};
+pub use abcps_words::{Command, USAGE};
+pub use running::run;
+pub use set_book::{Gate, Open};
 pub use status::Status;
 
 #[cfg(test)]

@@ -22,8 +22,6 @@ pub enum Status {
     TooLong,
     /// A choice that was judged isn't least.
     NotLeast,
-    /// The input isn't of a form that is built yet.
-    Unbuilt,
 }
 
 impl Status {
@@ -41,7 +39,6 @@ impl Status {
             Status::NotPages => 6,
             Status::TooLong => 7,
             Status::NotLeast => 8,
-            Status::Unbuilt => 9,
         }
     }
 }

@@ -1,10 +1,30 @@
-use crate::{Status, USAGE, run};
+use crate::{Open, Status, USAGE, run};
 use eng_io::{MemSink, MemSource};
 use mus_units::{Row, Text};
 use std::alloc::{AllocError, Global};
 use std::test::*;
 
 const ONE_MEASURE: &[u8] = b"X:1\nT:A\nK:C\nCDEF|\n";
+
+const ITS_PAGE: &[u8] =
+    b"%%Page: 1 1\npg\n% tune 1\n(A) 0 0 24170 76800 t2\n% system 0 1\n% staff 0\n49300 2000 49300 1500 49300 1000 49300 500 49300 0 0 72200 sf\n200 500 0 72200 cg\n0 -500 1950 72200 lg\n0 -500 1950 72200 hq\n280 2000 280 -500 1950 72200 st\n0 -250 3050 72200 hq\n280 2000 280 -250 3050 72200 st\n0 0 4150 72200 hq\n280 2000 280 0 4150 72200 st\n0 250 5250 72200 hq\n280 2000 280 250 5250 72200 st\n0 0 6350 72200 bt\n1950 74200 5250 74200 5250 73950 1950 73950 bu\ngrestore\nshowpage\n%%Trailer\n%%Pages: 1\n%%EOF\n";
+
+const SHOWN: &[u8] =
+    b"frame 595 842 5100 2800 100\npage 1\ntune 1\ntitle t2 24170 76800 (A)\nsystem 0 1\nstaff 0 72200 49300\nglyph cg 0 200 500\nglyph lg 1950 0 -500\nglyph hq 1950 0 -500\nstem 1950 280 -500 2000\nglyph hq 3050 0 -250\nstem 3050 280 -250 2000\nglyph hq 4150 0 0\nstem 4150 280 0 2000\nglyph hq 5250 0 250\nstem 5250 280 250 2000\nglyph bt 6350 0 0\nbeam bu 1950 5250 1750 1750\npages 1\n";
+
+/// Three tunes, the second of which has no key.
+const THREE_TUNES: &[u8] = b"X:1\nT:A\nK:C\n\nX:2\nCDEF|\n\nX:3\nK:C\nCDEF|\n";
+
+/// Twenty measures in one line.
+const TWENTY: &[u8] =
+    b"X:1\nL:1/8\nK:C\nGABc|GABc|GABc|GABc|GABc|GABc|GABc|GABc|GABc|GABc|GABc|GABc|GABc|GABc|GABc|GABc|GABc|GABc|GABc|GABc|\n";
+
+const LISTING: &[u8] =
+    b"listing 1\ntune 1 measures 3\nspan 0 1 5\nspan 0 2 5\nspan 1 2 5\nspan 1 3 5\nspan 2 3 5\nchoose 2\nchoose 3\ntotal 10\npotential 0 0\npotential 1 5\npotential 2 5\npotential 3 10\nend\n";
+
+/// The same with a span more, which is chosen.
+const DEARER: &[u8] =
+    b"listing 1\ntune 1 measures 3\nspan 0 1 5\nspan 0 2 5\nspan 0 3 12\nspan 1 2 5\nspan 1 3 5\nspan 2 3 5\nchoose 3\ntotal 12\npotential 0 0\npotential 1 5\npotential 2 5\npotential 3 10\nend\n";
 
 fn row(alloc: Global, numbers: &[u64]) -> Result<Row<u64>, AllocError> {
     Ok(Row {
@@ -16,90 +36,205 @@ fn source(alloc: Global, bytes: &[u8], fails: &[u64]) -> Result<MemSource, Alloc
     let text = Text {
         bytes: Vec::from_slice(alloc, bytes)?,
     };
-    Ok(MemSource::new(text, 7, row(alloc, fails)?))
+    Ok(MemSource::new(text, 7000, row(alloc, fails)?))
 }
 
 fn sink(alloc: Global, piece: u32, fails: &[u64]) -> Result<MemSink, AllocError> {
     Ok(MemSink::new(alloc, piece, row(alloc, fails)?))
 }
 
-fn words(alloc: Global, word: &str) -> Result<Vec<String>, AllocError> {
-    Ok(vec![in alloc; String::from_str(alloc, word)?]?)
+fn words_of(alloc: Global, all: &[&str]) -> Result<Vec<String>, AllocError> {
+    let mut words = Vec::new(alloc);
+    for word in all {
+        words.push(String::from_str(alloc, word)?)?;
+    }
+    Ok(words)
+}
+
+/// What a run answered and wrote.
+#[derive(Drop)]
+struct Ran {
+    status: Status,
+    output: MemSink,
+    errors: MemSink,
+}
+
+fn ran(rt: HostRuntime, words: &[&str], input: &[u8]) -> Result<Ran, AllocError> {
+    let words = words_of(rt.alloc(), words)?;
+    let mut input = source(rt.alloc(), input, &[])?;
+    let mut output = sink(rt.alloc(), 1_000_000, &[])?;
+    let mut errors = sink(rt.alloc(), 3, &[])?;
+    let status = run(
+        &rt,
+        rt.alloc(),
+        &words,
+        &mut input,
+        &mut output,
+        &mut errors,
+        &Open,
+    );
+    Ok(Ran {
+        status,
+        output,
+        errors,
+    })
 }
 
 #[test]
-fn sets_a_measure(rt: HostRuntime) -> Result<(), Fail> {
-    let words = words(rt.alloc(), "set")?;
-    let one_letter = b"X:1\nT:A\nK:C\nc|\n".as_slice();
-    let pages = [
+fn texts_and_answers(rt: HostRuntime) -> Result<(), Fail> {
+    let nothing = b"".as_slice();
+    let fault = b"tune 2 line 5 column 1: NoKey\n".as_slice();
+    let runs: [(&[&str], &[u8], Status, &[u8], &[u8]); 11] = [
         (
-            one_letter,
-            b"200 500 0 72200 cg\n0 1250 1800 72200 hq\n-280 -500 -280 1250 1800 72200 st\n-280 -500 1800 72200 fd\n0 0 2900 72200 bt\ngrestore\n".as_slice(),
+            &["systems"],
+            THREE_TUNES,
+            Status::SomeRefused,
+            b"tune 1 measures 0 total 0\ntune 3 measures 1 total 0\nsystem 0 1 force 256 badness 0\n",
+            fault,
         ),
         (
+            &["systems", "--flow"],
+            TWENTY,
+            Status::Done,
+            b"tune 1 measures 20 total 8\nsystem 0 10 force 255 badness 4\nsystem 10 20 force 255 badness 4\n",
+            nothing,
+        ),
+        (
+            &["systems", "--table"],
             ONE_MEASURE,
-            b"%%Page: 1 1\npg\n% tune 1\n(A) 0 0 24170 76800 t2\n% system 0 1\n% staff 0\n49300 2000 49300 1500 49300 1000 49300 500 49300 0 0 72200 sf\n200 500 0 72200 cg\n0 -500 1950 72200 lg\n0 -500 1950 72200 hq\n280 2000 280 -500 1950 72200 st\n0 -250 3050 72200 hq\n280 2000 280 -250 3050 72200 st\n0 0 4150 72200 hq\n280 2000 280 0 4150 72200 st\n0 250 5250 72200 hq\n280 2000 280 250 5250 72200 st\n0 0 6350 72200 bt\n1950 74200 5250 74200 5250 73950 1950 73950 bu\ngrestore\nshowpage\n%%Trailer\n%%Pages: 1\n%%EOF\n".as_slice(),
+            Status::Done,
+            b"listing 1\ntune 1 measures 1\nspan 0 1 0\nchoose 1\ntotal 0\npotential 0 0\npotential 1 0\nend\n",
+            nothing,
         ),
+        (&["check"], LISTING, Status::Done, b"least 1 10\n", nothing),
+        (
+            &["check"],
+            DEARER,
+            Status::NotLeast,
+            b"notleast 1 12 10 2 3\n",
+            nothing,
+        ),
+        (
+            &["check"],
+            b"listing 1\ntune 1 measures 3\n",
+            Status::NotPages,
+            nothing,
+            b"not pages at line 3\n",
+        ),
+        (
+            &["inspect"],
+            ONE_MEASURE,
+            Status::NotPages,
+            nothing,
+            b"not pages at line 1\n",
+        ),
+        (
+            &["trial", "1"],
+            nothing,
+            Status::Done,
+            b"trial 1 set 1 refused 0 systems 16 pages 2 bytes 44858 total 85353\n",
+            nothing,
+        ),
+        (
+            &["trial", "1", "--jobs", "8", "--flow"],
+            nothing,
+            Status::Done,
+            b"trial 1 set 1 refused 0 systems 13 pages 1 bytes 44444 total 539\n",
+            nothing,
+        ),
+        (
+            &["set", "--jobs", "0"],
+            ONE_MEASURE,
+            Status::Usage,
+            nothing,
+            USAGE,
+        ),
+        (&[], ONE_MEASURE, Status::Usage, nothing, USAGE),
     ];
-    for (book, page) in pages {
-        for piece in [1, 1000] {
-            let mut input = source(rt.alloc(), book, &[])?;
-            let mut output = sink(rt.alloc(), piece, &[])?;
-            let mut errors = sink(rt.alloc(), 1000, &[])?;
-            let status = run(rt.alloc(), &words, &mut input, &mut output, &mut errors);
-            assert_eq!(rt; status, Status::Done);
-            assert!(rt; output.taken().windows(page.len()).any(|w| w == page));
-            assert_eq!(rt; errors.taken().len(), 0);
-        }
+    for (words, input, status, page, told) in runs {
+        let ran = ran(rt, words, input)?;
+        assert_eq!(rt; ran.status, status);
+        assert_eq!(rt; ran.output.taken(), page);
+        assert_eq!(rt; ran.errors.taken(), told);
     }
     Ok(())
 }
 
 #[test]
-fn refuses_other_inputs_and_words(rt: HostRuntime) -> Result<(), Fail> {
-    let other = b"X:1\nT:A\nK:C\n".as_slice();
-    let unbuilt = b"unbuilt\n".as_slice();
-    for (word, book, wanted, line) in [
-        ("set", other, Status::Unbuilt, unbuilt),
-        ("print", ONE_MEASURE, Status::Usage, USAGE),
-    ] {
-        let words = words(rt.alloc(), word)?;
-        let mut input = source(rt.alloc(), book, &[])?;
-        let mut output = sink(rt.alloc(), 1000, &[])?;
-        let mut errors = sink(rt.alloc(), 3, &[])?;
-        let status = run(rt.alloc(), &words, &mut input, &mut output, &mut errors);
-        assert_eq!(rt; status, wanted);
-        assert_eq!(rt; output.taken().len(), 0);
-        assert_eq!(rt; errors.taken(), line);
-    }
-    let mut input = source(rt.alloc(), ONE_MEASURE, &[])?;
-    let mut output = sink(rt.alloc(), 1000, &[])?;
-    let mut errors = sink(rt.alloc(), 1000, &[])?;
-    let status = run(rt.alloc(), &[], &mut input, &mut output, &mut errors);
-    assert_eq!(rt; status.number(), 2);
-    assert_eq!(rt; errors.taken(), USAGE);
+fn sets_pages_and_shows_them(rt: HostRuntime) -> Result<(), Fail> {
+    let set = ran(rt, &["set"], ONE_MEASURE)?;
+    assert_eq!(rt; set.status, Status::Done);
+    assert!(rt; set.output.taken().ends_with(ITS_PAGE));
+    assert_eq!(rt; set.errors.taken().len(), 0);
+    let shown = ran(rt, &["inspect"], set.output.taken())?;
+    assert_eq!(rt; shown.status, Status::Done);
+    assert_eq!(rt; shown.output.taken(), SHOWN);
+    let one = ran(rt, &["set"], THREE_TUNES)?;
+    let three = ran(rt, &["set", "--jobs", "3"], THREE_TUNES)?;
+    assert_eq!(rt; three.status.number(), 1);
+    assert_eq!(rt; three.output.taken(), one.output.taken());
+    assert_eq!(rt; three.errors.taken(), one.errors.taken());
+    let made = ran(rt, &["make", "1"], b"")?;
+    assert!(rt;
+        made.output
+            .taken()
+            .starts_with(b"X:1\nT:Tune 1\nM:4/4\nL:1/8\nK:G\ncdeA ffAf|")
+    );
     Ok(())
 }
 
+/// Streams that fail: the words, the calls of input, output and errors that do, and what was written.
 #[test]
 fn streams_fail(rt: HostRuntime) -> Result<(), Fail> {
-    let words = words(rt.alloc(), "set")?;
-    for (piece, fails, taken) in [(64, 2, 128), (0, 9, 0)] {
-        let mut input = source(rt.alloc(), ONE_MEASURE, &[])?;
-        let mut output = sink(rt.alloc(), piece, &[fails])?;
-        let mut errors = sink(rt.alloc(), 1000, &[])?;
-        let status = run(rt.alloc(), &words, &mut input, &mut output, &mut errors);
-        assert_eq!(rt; status, Status::WriteFault);
-        assert_eq!(rt; output.taken().len(), taken);
-        assert_eq!(rt; errors.taken().len(), 0);
-        assert_eq!(rt; output.refused(), 0);
+    let runs: [(&[&str], &[u8], [u64; 3], Status, usize, usize); 8] = [
+        (&["set"], ONE_MEASURE, [0, 99, 99], Status::ReadFault, 0, 0),
+        (
+            &["set"],
+            ONE_MEASURE,
+            [99, 2, 99],
+            Status::WriteFault,
+            128,
+            0,
+        ),
+        (
+            &["set"],
+            THREE_TUNES,
+            [99, 9999, 0],
+            Status::WriteFault,
+            6668,
+            0,
+        ),
+        (
+            &["systems"],
+            ONE_MEASURE,
+            [99, 0, 99],
+            Status::WriteFault,
+            0,
+            0,
+        ),
+        (&["check"], LISTING, [99, 0, 99], Status::WriteFault, 0, 0),
+        (&["check"], LISTING, [0, 99, 99], Status::ReadFault, 0, 0),
+        (&["make", "1"], b"", [0, 1, 99], Status::WriteFault, 64, 0),
+        (&["trial", "1"], b"", [0, 0, 99], Status::WriteFault, 0, 0),
+    ];
+    for (words, input, [reads, writes, tells], status, written, told) in runs {
+        let words = words_of(rt.alloc(), words)?;
+        let mut input = source(rt.alloc(), input, &[reads])?;
+        let mut output = sink(rt.alloc(), 64, &[writes])?;
+        let mut errors = sink(rt.alloc(), 64, &[tells])?;
+        let answer = run(
+            &rt,
+            rt.alloc(),
+            &words,
+            &mut input,
+            &mut output,
+            &mut errors,
+            &Open,
+        );
+        assert_eq!(rt; answer, status);
+        assert_eq!(rt; output.taken().len(), written);
+        assert_eq!(rt; errors.taken().len(), told);
     }
-    let mut input = source(rt.alloc(), ONE_MEASURE, &[0])?;
-    let mut output = sink(rt.alloc(), 1000, &[])?;
-    let mut errors = sink(rt.alloc(), 1000, &[])?;
-    let status = run(rt.alloc(), &words, &mut input, &mut output, &mut errors);
-    assert_eq!(rt; status, Status::ReadFault);
-    assert_eq!(rt; output.taken().len() + errors.taken().len(), 0);
     Ok(())
 }
 
@@ -111,46 +246,17 @@ fn an_input_is_too_long(rt: HostRuntime) -> Result<(), Fail> {
     let mut input = MemSource::new(text, 1_000_000, row(rt.alloc(), &[])?);
     let mut output = sink(rt.alloc(), 1000, &[])?;
     let mut errors = sink(rt.alloc(), 1000, &[])?;
-    let words = words(rt.alloc(), "set")?;
-    let status = run(rt.alloc(), &words, &mut input, &mut output, &mut errors);
+    let words = words_of(rt.alloc(), &["set"])?;
+    let status = run(
+        &rt,
+        rt.alloc(),
+        &words,
+        &mut input,
+        &mut output,
+        &mut errors,
+        &Open,
+    );
     assert_eq!(rt; status, Status::TooLong);
     assert_eq!(rt; output.taken().len() + errors.taken().len(), 0);
-    Ok(())
-}
-
-const SHOWN: &[u8] =
-    b"frame 595 842 5100 2800 100\npage 1\ntune 1\ntitle t2 24170 76800 (A)\nsystem 0 1\nstaff 0 72200 49300\nglyph cg 0 200 500\nglyph lg 1950 0 -500\nglyph hq 1950 0 -500\nstem 1950 280 -500 2000\nglyph hq 3050 0 -250\nstem 3050 280 -250 2000\nglyph hq 4150 0 0\nstem 4150 280 0 2000\nglyph hq 5250 0 250\nstem 5250 280 250 2000\nglyph bt 6350 0 0\nbeam bu 1950 5250 1750 1750\npages 1\n";
-
-fn document_of(rt: HostRuntime, book: &[u8]) -> Result<MemSink, AllocError> {
-    let words = words(rt.alloc(), "set")?;
-    let mut input = source(rt.alloc(), book, &[])?;
-    let mut output = sink(rt.alloc(), 1000, &[])?;
-    let mut errors = sink(rt.alloc(), 1000, &[])?;
-    let _ = run(rt.alloc(), &words, &mut input, &mut output, &mut errors);
-    Ok(output)
-}
-
-#[test]
-fn inspects_what_was_set(rt: HostRuntime) -> Result<(), Fail> {
-    let document = document_of(rt, ONE_MEASURE)?;
-    let whole = document.taken();
-    let ten =
-        b"%!PS-Adobe-3.0\n%%BoundingBox: 0 0 595 842\n%%LanguageLevel: 2\n%%Pages: (atend)\n%%EndComments\n%%BeginProlog\n/m {moveto} def\n/l {lineto} def\n/c {curveto} def\n/h {closepath fill} def\n".as_slice();
-    let cut = &whole[..whole.len().saturating_sub(1)];
-    for (bytes, wanted, shown, line) in [
-        (whole, Status::Done, SHOWN, b"".as_slice()),
-        (ten, Status::NotPages, b"", b"not pages at line 11\n"),
-        (cut, Status::NotPages, b"", b"not pages at line 94\n"),
-        (b"", Status::NotPages, b"", b"not pages at line 1\n"),
-    ] {
-        let words = words(rt.alloc(), "inspect")?;
-        let mut input = source(rt.alloc(), bytes, &[])?;
-        let mut output = sink(rt.alloc(), 100, &[])?;
-        let mut errors = sink(rt.alloc(), 3, &[])?;
-        let status = run(rt.alloc(), &words, &mut input, &mut output, &mut errors);
-        assert_eq!(rt; status, wanted);
-        assert_eq!(rt; output.taken(), shown);
-        assert_eq!(rt; errors.taken(), line);
-    }
     Ok(())
 }

@@ -2,7 +2,7 @@
 //! top call, and its answer is the exit status.
 #![tactic(auto)]
 
-use abcps::run;
+use abcps::{Open, run};
 use eng_io::{StdSink, StdSource};
 use std::process::ExitCode;
 use std::{env, io};
@@ -16,11 +16,13 @@ fn main(rt: HostRuntime) -> io::Result<ExitCode> {
     let mut output = StdSink::new(rt.stdout());
     let mut errors = StdSink::new(rt.stderr());
     let status = run(
+        &rt,
         rt.alloc(),
         words.as_slice(),
         &mut input,
         &mut output,
         &mut errors,
+        &Open,
     );
     Ok(ExitCode::from(status.number()))
 }

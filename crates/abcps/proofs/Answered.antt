@@ -1,0 +1,128 @@
+-- What is answered where both texts are written, and where something else is called for.
+use Rattle.std.proofs.Common.{◌≡◌, refl, sym, subst, ◌⊎◌, inl, inr, List, [], ℕ, ◌≤◌, length, Option}
+use Rattle.std.specs.Io.KnownBytes.{Consumes, IsAtEnd}
+use Rattle.abcps_words.specs.declared.command.Command.{Command}
+use Rattle.abcps_words.specs.declared.command.Command.TheVariants as command
+use Rattle.abcps.specs.Called.{Called}
+use Rattle.abcps.specs.Calls.{Calls, Refuses, not_pages_line}
+use Rattle.abcps_words.specs.Command.{Asks, limit_of}
+use Rattle.abcps.specs.Outcome.{IsAnswer, IsAnswered, IsEnd, IsObeyed, IsQuiet, IsRead, IsReader, IsRun, ReadAll, Stream, TookAll, TookFront, WasTold}
+use Rattle.abcps.specs.declared.status.Status.{Status}
+use Rattle.abcps.specs.declared.status.Status.TheVariants as status
+
+abbrev Is : Called → Called → Type 0
+Is called other = other ≡ called
+
+-- both texts were written
+answered_whole : (called : Called) (o e : Stream) (s : Status) → IsEnd s → s ≡ called.status → TookAll o called.page → TookAll e called.told
+    → IsAnswered (Is called) s o e
+answered_whole called o e status.Done end is page told = (called, refl, is, page, told)
+answered_whole called o e status.SomeRefused end is page told = (called, refl, is, page, told)
+answered_whole called o e status.NotLeast end is page told = (called, refl, is, page, told)
+answered_whole called o e status.Usage end is page told = absurd end
+answered_whole called o e status.ReadFault end is page told = absurd end
+answered_whole called o e status.WriteFault end is page told = absurd end
+answered_whole called o e status.Memory end is page told = absurd end
+answered_whole called o e status.NotPages end is page told = absurd end
+answered_whole called o e status.TooLong end is page told = absurd end
+
+-- output has its whole text, and then errors was told its own
+pub answered_end : (called : Called) (o e : Stream) (s : Status) → IsEnd called.status → TookAll o called.page
+    → ((s ≡ called.status) × TookAll e called.told) ⊎ ((s ≡ status.WriteFault) × TookFront e called.told)
+    → IsAnswered (Is called) s o e
+answered_end called o e s end page (inl told) =
+    answered_whole called o e s (subst IsEnd (sym told.0) end) told.0 page told.1
+answered_end called o e s end page (inr cut) =
+    subst (λ t. IsAnswered (Is called) t o e) (sym cut.0) (called, refl, inr (page, cut.1))
+
+-- what is answered for something is answered for what a command calls for, if that is it
+pub answer_of : (c : Command) (text : List ℕ) (C : Called → Type 0) → ((called : Called) → C called → Calls c text called)
+    → (o e : Stream) (s : Status) → IsAnswered C s o e → IsAnswer c s text o e
+answer_of c text C give o e status.Done r = (r.0, give r.0 r.1, r.2, r.3, r.4)
+answer_of c text C give o e status.SomeRefused r = (r.0, give r.0 r.1, r.2, r.3, r.4)
+answer_of c text C give o e status.NotLeast r = (r.0, give r.0 r.1, r.2, r.3, r.4)
+answer_of c text C give o e status.WriteFault r = (r.0, give r.0 r.1, r.2)
+answer_of c text C give o e status.Memory (quiet, inl none) = (quiet, inl none)
+answer_of c text C give o e status.Memory (quiet, inr part) = (quiet, inr (part.0, give part.0 part.1, part.2))
+answer_of c text C give o e status.Usage r = absurd r
+answer_of c text C give o e status.ReadFault r = absurd r
+answer_of c text C give o e status.TooLong r = absurd r
+answer_of c text C give o e status.NotPages r = absurd r
+
+-- the same of one thing that is called for
+pub answer_by : (c : Command) (text : List ℕ) (called : Called) → Calls c text called
+    → (o e : Stream) (s : Status) → IsAnswered (Is called) s o e → IsAnswer c s text o e
+answer_by c text called calls o e s r = answer_of c text (Is called) (λ other is. subst (Calls c text) (sym is) calls) o e s r
+
+-- the input was refused, or memory ran out
+pub answer_refused : (c : Command) (text : List ℕ) (number : ℕ) (o e : Stream) (s : Status) → Refuses c text number → IsQuiet o
+    → ((s ≡ status.Memory) × IsQuiet e) ⊎ ((s ≡ status.NotPages) × WasTold e (not_pages_line number)) → IsAnswer c s text o e
+answer_refused c text number o e s refuses quiet (inl none) = subst (λ t. IsAnswer c t text o e) (sym none.0) (none.1, inl quiet)
+answer_refused c text number o e s refuses quiet (inr told) = subst (λ t. IsAnswer c t text o e) (sym told.0) (number, refuses, quiet, told.1)
+
+-- what was read of a command that reads
+pub read_of : (c : Command) (i : Stream) (text : List ℕ) → IsReader c → ReadAll (limit_of c) i text → IsRead c i text
+read_of (command.Set flow jobs) i text reads read = read
+read_of (command.Systems flow table) i text reads read = read
+read_of command.Inspect i text reads read = read
+read_of command.Check i text reads read = read
+read_of (command.Make tunes) i text reads read = absurd reads
+read_of (command.Trial tunes flow jobs) i text reads read = absurd reads
+
+-- a command that was answered was obeyed
+pub obeyed_of : (c : Command) (i o e : Stream) (text : List ℕ) (s : Status) → IsRead c i text → IsAnswer c s text o e → IsObeyed c s i o e
+obeyed_of c i o e text status.Done read r = (text, read, r)
+obeyed_of c i o e text status.SomeRefused read r = (text, read, r)
+obeyed_of c i o e text status.NotLeast read r = (text, read, r)
+obeyed_of c i o e text status.NotPages read r = (text, read, r)
+obeyed_of c i o e text status.WriteFault read r = (text, read, r)
+obeyed_of c i o e text status.Memory read (quiet, inl none) = (quiet, inl none)
+obeyed_of c i o e text status.Memory read (quiet, inr part) = (quiet, inr (text, read, part.0, part.1, part.2))
+obeyed_of c i o e text status.Usage read r = absurd r
+obeyed_of c i o e text status.ReadFault read r = absurd r
+obeyed_of c i o e text status.TooLong read r = absurd r
+
+-- what a command answers a run answers that asks for it
+pub run_of : (words : List (List ℕ)) (c : Command) (i o e : Stream) (s : Status) → Asks words c → IsObeyed c s i o e → IsRun s words i o e
+run_of words c i o e status.Usage asked r = absurd r.2
+run_of words c i o e status.Done asked r = (c, asked, r)
+run_of words c i o e status.SomeRefused asked r = (c, asked, r)
+run_of words c i o e status.ReadFault asked r = (c, asked, r)
+run_of words c i o e status.WriteFault asked r = (c, asked, r)
+run_of words c i o e status.Memory asked r = (c, asked, r)
+run_of words c i o e status.NotPages asked r = (c, asked, r)
+run_of words c i o e status.TooLong asked r = (c, asked, r)
+run_of words c i o e status.NotLeast asked r = (c, asked, r)
+
+-- an input was read to its end, and what was asked with it was answered
+pub read_obeyed : (c : Command) (before after : Option (List ℕ)) (count_before count_after limit : ℕ) (text shown : List ℕ) (o e : Stream) (s : Status)
+    → IsReader c → limit ≡ limit_of c → Consumes before after text → IsAtEnd after → length text ≤ limit → count_after ≡ count_before → shown ≡ text
+    → IsAnswer c s shown o e
+    → IsObeyed c s (record { before = before; after = after; count_before = count_before; count_after = count_after }) o e
+read_obeyed c before after count_before count_after limit text shown o e s reads is taken whole within count same r =
+    let i : Stream = record { before = before; after = after; count_before = count_before; count_after = count_after } in
+    let read : ReadAll (limit_of c) i text = record { taken = taken; whole = whole; within = subst (λ n. length text ≤ n) is within; count = count } in
+    obeyed_of c i o e text s (read_of c i text reads read) (subst (λ t. IsAnswer c s t o e) same r)
+
+-- a stream that is as it was
+abbrev pub untouched : Option (List ℕ) → ℕ → Stream
+untouched left count = record { before = left; after = left; count_before = count; count_after = count }
+
+-- what was asked without an input was answered
+pub unread_obeyed : (c d : Command) (left : Option (List ℕ)) (count : ℕ) (o e : Stream) (s : Status) → c ≡ d → IsRead d (untouched left count) []
+    → IsAnswer d s [] o e → IsObeyed c s (untouched left count) o e
+unread_obeyed c d left count o e s is read r =
+    subst (λ x. IsObeyed x s (untouched left count) o e) (sym is) (obeyed_of d (untouched left count) o e [] s read r)
+
+-- what is answered for one thing is answered for all that it is
+pub answered_for : (C D : Called → Type 0) → ((called : Called) → C called → D called) → (o e : Stream) (s : Status) → IsAnswered C s o e → IsAnswered D s o e
+answered_for C D give o e status.Done r = (r.0, give r.0 r.1, r.2, r.3, r.4)
+answered_for C D give o e status.SomeRefused r = (r.0, give r.0 r.1, r.2, r.3, r.4)
+answered_for C D give o e status.NotLeast r = (r.0, give r.0 r.1, r.2, r.3, r.4)
+answered_for C D give o e status.WriteFault r = (r.0, give r.0 r.1, r.2)
+answered_for C D give o e status.Memory (quiet, inl none) = (quiet, inl none)
+answered_for C D give o e status.Memory (quiet, inr part) = (quiet, inr (part.0, give part.0 part.1, part.2))
+answered_for C D give o e status.Usage r = absurd r
+answered_for C D give o e status.ReadFault r = absurd r
+answered_for C D give o e status.TooLong r = absurd r
+answered_for C D give o e status.NotPages r = absurd r

@@ -1,0 +1,80 @@
+-- What is called for of a book that was set.
+use Rattle.std.proofs.Common.{◌≡◌, ◌∙◌, refl, sym, ap, subst, List, [], ℕ, Bool}
+use Rattle.std.specs.List.{All}
+use Rattle.abc_header.specs.declared.paper.Paper.{Paper}
+use Rattle.abc_header.specs.Defaults.{defaults_of}
+use Rattle.abc_header.specs.Papers.{paper_of}
+use Rattle.abc_lines.specs.declared.book.Book.{Book}
+use Rattle.abc_lines.specs.Books.{book_of}
+use Rattle.gen_book.specs.Book.{book}
+use Rattle.ps_text.specs.Document.{Spells, document}
+use Rattle.ps_text.specs.Range.{IsSheet}
+use Rattle.ps_text.specs.declared.sheet.Sheet.{Sheet}
+use Rattle.set_book.specs.declared.outcome.Outcome.{Outcome}
+use Rattle.set_book.specs.Outcomes.{AreOutcomes}
+use Rattle.set_pages.specs.Sheet.{AllShown, AreStanding, IsSetUnder, sheet_of}
+use Rattle.set_pages.proofs.Readying.{set_outcomes}
+use Rattle.set_lists.specs.Reports.{reports}
+use Rattle.set_lists.specs.Trials.{trial_text}
+use Rattle.abcps.specs.Called.{Called}
+use Rattle.abcps.specs.Books.{ArePagesOf, AreSet, CallsPages, CallsSystems, Tries, paper_in, status_of, systems_called, trial_called, trial_of}
+use Rattle.abcps.specs.declared.status.Status.{Status}
+
+-- what came of the tunes of a book that was cut
+pub are_set : (flow : Bool) (text : List ℕ) (b : Book) (paper : Paper) (outcomes : List Outcome) → b ≡ book_of text → paper ≡ paper_of b.header
+    → AreOutcomes (defaults_of b.header) paper flow b.tunes outcomes → AreSet flow text outcomes
+are_set flow text b paper outcomes is on all =
+    subst (λ (x : Book). AreOutcomes (defaults_of x.header) (paper_of x.header) flow x.tunes outcomes) is
+    (subst (λ p. AreOutcomes (defaults_of b.header) p flow b.tunes outcomes) on all)
+
+-- the tunes of a book are set on its paper
+pub set_under : (flow : Bool) (text : List ℕ) (paper : Paper) (outcomes : List Outcome) → paper ≡ paper_in text → AreSet flow text outcomes → All (IsSetUnder paper) outcomes
+set_under flow text paper outcomes is set =
+    subst (λ p. All (IsSetUnder p) outcomes) (sym is)
+    (set_outcomes (defaults_of (book_of text).header) (paper_in text) flow (book_of text).tunes outcomes set)
+
+-- the document of the sheet, with the reports
+pub are_pages : (paper : Paper) (outcomes : List Outcome) (sheet : Sheet) (told : List ℕ) (s : Status) → sheet ≡ sheet_of paper outcomes → IsSheet sheet
+    → AllShown paper outcomes → AreStanding paper outcomes → told ≡ reports outcomes → s ≡ status_of outcomes
+    → (called : Called) → called ≡ record { page = document sheet; told = told; status = s } → ArePagesOf paper outcomes called
+are_pages paper outcomes sheet told s is good symbols blocks tells ends called same =
+    subst (ArePagesOf paper outcomes) (sym same) (record {
+      page = ap document is;
+      good = subst IsSheet is good;
+      symbols = symbols;
+      blocks = blocks;
+      told = tells;
+      status = ends;
+    })
+
+called_pages : (flow : Bool) (text : List ℕ) (outcomes : List Outcome) → AreSet flow text outcomes
+    → (called : Called) → ArePagesOf (paper_in text) outcomes called → CallsPages flow text called
+called_pages flow text outcomes set called pages = record {
+  outcomes = outcomes;
+  set = set;
+  sheet = record { good = pages.good; spelled = sym pages.page };
+  symbols = pages.symbols;
+  blocks = pages.blocks;
+  told = pages.told;
+  status = pages.status;
+}
+
+-- what `set` calls for
+pub calls_pages : (flow : Bool) (text : List ℕ) (paper : Paper) (outcomes : List Outcome) → paper ≡ paper_in text → AreSet flow text outcomes
+    → (called : Called) → ArePagesOf paper outcomes called → CallsPages flow text called
+calls_pages flow text paper outcomes is set called pages =
+    called_pages flow text outcomes set called (subst (λ p. ArePagesOf p outcomes called) is pages)
+
+-- what `systems` calls for
+pub calls_systems : (flow table : Bool) (text : List ℕ) (outcomes : List Outcome) → AreSet flow text outcomes → CallsSystems flow table text (systems_called table outcomes)
+calls_systems flow table text outcomes set = record { outcomes = outcomes; set = set; page = refl; told = refl; status = refl }
+
+-- what `trial` calls for
+pub tries : (tunes : ℕ) (flow : Bool) (text : List ℕ) (paper : Paper) (outcomes : List Outcome) → text ≡ book tunes → paper ≡ paper_in text → AreSet flow text outcomes
+    → Tries tunes flow (trial_called tunes paper outcomes)
+tries tunes flow text paper outcomes is on set = record {
+  outcomes = outcomes;
+  set = subst (λ t. AreSet flow t outcomes) is set;
+  page = ap (λ (p : Paper). trial_text (trial_of tunes outcomes (sheet_of p outcomes))) (on ∙ ap paper_in is);
+  quietly = record { told = refl; status = refl };
+}

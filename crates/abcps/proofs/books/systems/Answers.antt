@@ -1,0 +1,22 @@
+use Rattle.std.proofs.Common.{subst, sym}
+use Rattle.abc_header.specs.Defaults.{defaults_of}
+use Rattle.abc_lines.specs.Books.{book_of}
+use Rattle.set_lists.specs.Listing.{AreListable}
+use Rattle.abcps.specs.Books.{AreSet, paper_in, systems_called}
+use Rattle.abcps_words.specs.declared.command.Command.TheVariants as command
+use Rattle.abcps.proofs.Answered.{answer_by}
+use Rattle.abcps.proofs.BookCalls.{calls_systems}
+use Rattle.abcps.proofs.books.systems.Goals as goal
+
+pub write_systems-requires : goal.write_systems-requires
+write_systems-requires g c =
+    let text = c.args.text.now in
+    subst (λ outcomes. AreListable outcomes) (sym c.as_slice.ensures)
+    (c.outcomes_are_listable.ensures (defaults_of (book_of text).header) (paper_in text) c.args.flow (book_of text).tunes c.in-Ok.book.outcomes c.in-Ok.ensures.set)
+
+pub returns : goal.returns
+returns g c =
+    answer_by (command.Systems c.args.flow c.args.table) c.args.text.now (systems_called c.args.table c.as_slice.result.now)
+    (calls_systems c.args.flow c.args.table c.args.text.now c.as_slice.result.now
+    (subst (λ outcomes. AreSet c.args.flow c.args.text.now outcomes) (sym c.as_slice.ensures) c.in-Ok.ensures.set))
+    _ _ c.write_systems.result c.write_systems.ensures

@@ -1,0 +1,20 @@
+use Rattle.std.proofs.Common.{◌∙◌, [], subst, sym}
+use Rattle.std.specs.List.{All}
+use Rattle.set_pages.specs.Sheet.{IsSetUnder}
+use Rattle.abcps.specs.Books.{AreSet, trial_called}
+use Rattle.abcps_words.specs.declared.command.Command.TheVariants as command
+use Rattle.abcps.proofs.Answered.{answer_by}
+use Rattle.abcps.proofs.BookCalls.{set_under, tries}
+use Rattle.abcps.proofs.books.trial.Goals as goal
+
+pub write_trial-requires-clause-set : goal.write_trial-requires-clause-set
+write_trial-requires-clause-set g c =
+    subst (λ outcomes. All (IsSetUnder c.in-Ok-set_text.book.paper) outcomes) (sym c.as_slice-2.ensures)
+    (set_under c.args.flow c.as_slice.result.now c.in-Ok-set_text.book.paper c.in-Ok-set_text.book.outcomes c.in-Ok-set_text.ensures.paper c.in-Ok-set_text.ensures.set)
+
+pub returns : goal.returns
+returns g c =
+    answer_by (command.Trial c.args.tunes c.args.flow c.args.jobs) [] (trial_called c.args.tunes c.in-Ok-set_text.book.paper c.as_slice-2.result.now)
+    (tries c.args.tunes c.args.flow c.as_slice.result.now c.in-Ok-set_text.book.paper c.as_slice-2.result.now (c.as_slice.ensures ∙ c.in-Ok.ensures) c.in-Ok-set_text.ensures.paper
+    (subst (λ outcomes. AreSet c.args.flow c.as_slice.result.now outcomes) (sym c.as_slice-2.ensures) c.in-Ok-set_text.ensures.set))
+    _ _ c.write_trial.result c.write_trial.ensures

@@ -1,0 +1,88 @@
+-- What the commands that set a book call for.
+use Rattle.std.specs.Prelude.{◌≡◌, ℕ, List, [], Bool, true, false, if◌then◌else◌, length}
+use Rattle.abc_lines.specs.Books.{book_of}
+use Rattle.abc_header.specs.declared.paper.Paper.{Paper}
+use Rattle.abc_header.specs.Defaults.{defaults_of}
+use Rattle.abc_header.specs.Papers.{paper_of}
+use Rattle.gen_book.specs.Book.{book}
+use Rattle.ps_text.specs.Document.{Spells, document}
+use Rattle.ps_text.specs.Range.{IsSheet}
+use Rattle.ps_text.specs.declared.sheet.Sheet.{Sheet}
+use Rattle.set_book.specs.declared.outcome.Outcome.{Outcome}
+use Rattle.set_book.specs.Outcomes.{AreOutcomes}
+use Rattle.set_pages.specs.Sheet.{AllShown, AreStanding, sheet_of}
+use Rattle.set_lists.specs.declared.trials.Trial.{Trial}
+use Rattle.set_lists.specs.Reports.{reports, some_fault}
+use Rattle.set_lists.specs.Systems.{systems_text}
+use Rattle.set_lists.specs.Listing.{listing_text}
+use Rattle.set_lists.specs.Trials.{fault_count, set_count, system_count, total_of, trial_text}
+use Rattle.abcps.specs.Called.{Called, IsQuietly}
+use Rattle.abcps.specs.declared.status.Status.{Status}
+use Rattle.abcps.specs.declared.status.Status.TheVariants as status
+
+-- the paper that a book states
+abbrev pub paper_in : List ℕ → Paper
+paper_in text = paper_of (book_of text).header
+
+-- What comes of the tunes of a book, on its paper and under its defaults: each is set, or has its one fault.
+abbrev pub AreSet : Bool → List ℕ → List Outcome → Type 0
+AreSet flow text outcomes = AreOutcomes (defaults_of (book_of text).header) (paper_in text) flow (book_of text).tunes outcomes
+
+abbrev pub status_of : List Outcome → Status
+status_of outcomes = if some_fault outcomes then status.SomeRefused else status.Done
+
+-- Of `set`: the page, read back, is the one sheet that the tunes without fault call for; on it the ranks read off each staff are the
+-- marks that the score calls for, and each block lies on its page and follows the one before it; and each fault is told.
+pub record CallsPages (flow : Bool) (text : List ℕ) (c : Called) : Type 0 where
+  pub outcomes : List Outcome
+  pub set : AreSet flow text outcomes
+  pub sheet : Spells (sheet_of (paper_in text) outcomes) c.page
+  pub symbols : AllShown (paper_in text) outcomes
+  pub blocks : AreStanding (paper_in text) outcomes
+  pub told : c.told ≡ reports outcomes
+  pub status : c.status ≡ status_of outcomes
+
+-- The same for a paper and the outcomes on it.
+pub record ArePagesOf (paper : Paper) (outcomes : List Outcome) (c : Called) : Type 0 where
+  pub page : c.page ≡ document (sheet_of paper outcomes)
+  pub good : IsSheet (sheet_of paper outcomes)
+  pub symbols : AllShown paper outcomes
+  pub blocks : AreStanding paper outcomes
+  pub told : c.told ≡ reports outcomes
+  pub status : c.status ≡ status_of outcomes
+
+-- Of `systems`: the systems of each tune that is set, or the listing of their spans.
+abbrev pub systems_by : Bool → List Outcome → List ℕ
+systems_by true outcomes = listing_text outcomes
+systems_by false outcomes = systems_text outcomes
+
+pub record CallsSystems (flow table : Bool) (text : List ℕ) (c : Called) : Type 0 where
+  pub outcomes : List Outcome
+  pub set : AreSet flow text outcomes
+  pub page : c.page ≡ systems_by table outcomes
+  pub told : c.told ≡ reports outcomes
+  pub status : c.status ≡ status_of outcomes
+
+abbrev pub systems_called : Bool → List Outcome → Called
+systems_called table outcomes = record { page = systems_by table outcomes; told = reports outcomes; status = status_of outcomes }
+
+-- Of `trial`: one line on the generated book as it is set, with the length of its document.
+abbrev pub trial_of : ℕ → List Outcome → Sheet → Trial
+trial_of tunes outcomes sheet = record {
+  tunes = tunes;
+  set = set_count outcomes;
+  refused = fault_count outcomes;
+  systems = system_count outcomes;
+  pages = length sheet.pages;
+  bytes = length (document sheet);
+  total = total_of outcomes;
+}
+
+pub record Tries (tunes : ℕ) (flow : Bool) (c : Called) : Type 0 where
+  pub outcomes : List Outcome
+  pub set : AreSet flow (book tunes) outcomes
+  pub page : c.page ≡ trial_text (trial_of tunes outcomes (sheet_of (paper_in (book tunes)) outcomes))
+  pub quietly : IsQuietly c
+
+abbrev pub trial_called : ℕ → Paper → List Outcome → Called
+trial_called tunes paper outcomes = record { page = trial_text (trial_of tunes outcomes (sheet_of paper outcomes)); told = []; status = status.Done }

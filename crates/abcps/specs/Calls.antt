@@ -1,0 +1,79 @@
+-- What each command calls for, of an input that it doesn't refuse.
+use Rattle.std.specs.Prelude.{◌≡◌, ℕ, List, [], ◌∷◌, ◌++◌, Bool, true, false, if◌then◌else◌, length, flat_map, codes, decimal}
+use Rattle.std.specs.List.{list_any}
+use Rattle.gen_book.specs.Book.{book}
+use Rattle.ps_text.specs.Document.{Spells}
+use Rattle.ps_text.specs.declared.sheet.Sheet.{Sheet}
+use Rattle.ps_read.specs.Answers.{IsRead, IsFirstFault}
+use Rattle.lay_cert.specs.declared.check.Judged.{Judged}
+use Rattle.lay_cert.specs.declared.check.Verdict.{Verdict}
+use Rattle.lay_cert.specs.declared.check.Verdict.TheVariants as verdicts
+use Rattle.lay_cert.specs.Answers.{IsJudged}
+use Rattle.lay_cert.specs.Listing.{Entry, IsListing}
+use Rattle.lay_cert.specs.Places as listing
+use Rattle.lay_cert.specs.Reports.{verdict_text}
+use Rattle.abcps_words.specs.declared.command.Command.{Command}
+use Rattle.abcps_words.specs.declared.command.Command.TheVariants as command
+use Rattle.abcps.specs.Called.{Called, IsQuietly}
+use Rattle.abcps.specs.Books.{CallsPages, CallsSystems, Tries}
+use Rattle.abcps.specs.Outputs.{sheet_report}
+use Rattle.abcps.specs.declared.status.Status.{Status}
+use Rattle.abcps.specs.declared.status.Status.TheVariants as status
+
+-- Of `inspect`: all that the one sheet shows which spells the input.
+pub record Shows (text : List ℕ) (c : Called) : Type 0 where
+  pub sheet : Sheet
+  pub read : IsRead text sheet
+  pub page : c.page ≡ sheet_report sheet
+  pub quietly : IsQuietly c
+
+-- Of `check`: the verdict on each tune of the listing, and whether each choice is least.
+abbrev pub is_dearer : Verdict → Bool
+is_dearer (verdicts.Least total) = false
+is_dearer (verdicts.NotLeast total better breaks) = true
+
+abbrev pub is_dearer_choice : Judged → Bool
+is_dearer_choice j = is_dearer j.verdict
+
+abbrev pub verdicts_text : List Judged → List ℕ
+verdicts_text judged = flat_map (λ (j : Judged). verdict_text j.tune j.verdict) judged
+
+abbrev pub status_by : List Judged → Status
+status_by judged = if list_any is_dearer_choice judged then status.NotLeast else status.Done
+
+pub record Judges (text : List ℕ) (c : Called) : Type 0 where
+  pub judged : List Judged
+  pub verdicts : IsJudged text judged
+  pub page : c.page ≡ verdicts_text judged
+  pub told : c.told ≡ []
+  pub status : c.status ≡ status_by judged
+
+-- Of `make`: the generated book.
+pub record Makes (tunes : ℕ) (c : Called) : Type 0 where
+  pub page : c.page ≡ book tunes
+  pub quietly : IsQuietly c
+
+abbrev pub Calls : Command → List ℕ → Called → Type 0
+Calls (command.Set flow jobs) text c = CallsPages flow text c
+Calls (command.Systems flow table) text c = CallsSystems flow table text c
+Calls command.Inspect text c = Shows text c
+Calls command.Check text c = Judges text c
+Calls (command.Make tunes) text c = Makes tunes c
+Calls (command.Trial tunes flow jobs) text c = Tries tunes flow c
+
+-- Of an input that is refused: no sheet spells it, or it is no listing; and the number of its first line that isn't good.
+abbrev pub not_pages_line : ℕ → List ℕ
+not_pages_line number = codes "not pages at line " ++ decimal number ++ 10 ∷ []
+
+pub record IsNoDocument (text : List ℕ) (number : ℕ) : Type 0 where
+  pub first : IsFirstFault text number
+  pub unspelled : (sheet : Sheet) → Spells sheet text → ⊥
+
+pub record IsNoListing (text : List ℕ) (number : ℕ) : Type 0 where
+  pub first : listing.IsFirstFault text number
+  pub unspelled : (entries : List Entry) → IsListing text entries → ⊥
+
+abbrev pub Refuses : Command → List ℕ → ℕ → Type 0
+Refuses command.Inspect text number = IsNoDocument text number
+Refuses command.Check text number = IsNoListing text number
+Refuses _ text number = ⊥

@@ -1,0 +1,307 @@
+ghost use Rattle.std.specs.Prelude.{◌≡◌, ◌≤◌, ◌^◌, [], All, IfOk, OnOk, length};
+ghost use Rattle.abc_header.specs.Papers.{IsGoodPaper};
+ghost use Rattle.gen_book.specs.Book.{book};
+ghost use Rattle.ps_text.specs.Document.{document};
+ghost use Rattle.ps_text.specs.Range.{IsSheet};
+ghost use Rattle.set_lists.specs.Listing.{AreListable};
+ghost use Rattle.set_lists.specs.Reports.{reports};
+ghost use Rattle.set_lists.specs.Trials.{trial_text};
+ghost use Rattle.set_pages.specs.Sheet.{IsSetUnder, sheet_of};
+ghost use Rattle.abcps.specs.Books.{ArePagesOf, AreSet, paper_in, status_of, systems_by, systems_called, trial_called, trial_of};
+ghost use Rattle.abcps.specs.Outcome.{IsAnswer, IsAnswered, IsEnd};
+ghost use Rattle.abcps_words.specs.declared.command.Command.TheVariants as command;
+
+use crate::status::Status;
+use crate::telling::{end, write_both};
+use abc_header::{Paper, read_paper};
+use abc_lines::cut_book;
+use eng_io::{MemSink, Sink};
+use gen_book::make;
+use mus_units::{Memory, Row, Text};
+use ps_text::Sheet;
+use ps_write::{DocError, write_document};
+use set_book::{Gate, Open, Outcome, set_all};
+use set_lists::{
+    Trial, fault_count, has_fault, outcomes_are_listable, put_listing, put_reports, put_systems,
+    put_trial, set_count, system_count, total_of,
+};
+use set_pages::sheet_for;
+use std::alloc::Global;
+use std::thread::Threads;
+
+/// A book that was set: its paper, and what came of each of its tunes.
+#[derive(Debug, Drop)]
+struct SetBook {
+    paper: Paper,
+    outcomes: Row<Outcome>,
+}
+
+/// Sets a book.
+fn set_text<R: Threads + Sync, G: Gate + Sync>(
+    rt: &R,
+    alloc: Global,
+    text: &[u8],
+    flow: bool,
+    jobs: u8,
+    gate: &G,
+) -> Result<SetBook, Memory>
+    requires some { 1 ≤ jobs }
+    requires few { jobs ≤ 64 }
+    requires within { length text.now ≤ 2 ^ 30 }
+    ensures paper { IfOk result (λ set. set.paper ≡ paper_in text.now) }
+    ensures good { IfOk result (λ set. IsGoodPaper set.paper) }
+    ensures set { IfOk result (λ set. AreSet flow text.now set.outcomes) }
+{
+    let book = cut_book(alloc, text)?;
+    let paper = read_paper(&book);
+    let outcomes = set_all(rt, alloc, &book, &paper, flow, jobs, gate)?;
+    Ok(SetBook { paper, outcomes })
+}
+
+/// The answer to outcomes.
+fn status_of(outcomes: &[Outcome]) -> Status
+    ensures value { result ≡ status_of outcomes.now }
+    ensures end { IsEnd result }
+{
+    if has_fault(outcomes) {
+        Status::SomeRefused
+    } else {
+        Status::Done
+    }
+}
+
+fn reports_of(alloc: Global, outcomes: &[Outcome]) -> Result<Text, Memory>
+    ensures { IfOk result (λ text. text ≡ reports outcomes.now) }
+{
+    let mut text = Text::new(alloc);
+    put_reports(&mut text, outcomes)?;
+    Ok(text)
+}
+
+/// Writes the document of a sheet on output, and then tells errors a text.
+#[tactic(auto, using(crate::proofs::Answered::answered_end))]
+fn write_sheet<O: Sink, E: Sink>(
+    alloc: Global,
+    sheet: &Sheet,
+    told: &[u8],
+    status: Status,
+    output: &mut O,
+    errors: &mut E,
+) -> Status
+    requires sheet { IsSheet sheet.now }
+    requires end { IsEnd status }
+    ensures { IsAnswered (λ called. called ≡ record { page = document sheet.now; told = told.now; status = status }) result
+        (record { before = O.taken output.old; after = O.taken output.new; count_before = O.faults output.old; count_after = O.faults output.new })
+        (record { before = E.taken errors.old; after = E.taken errors.new; count_before = E.faults errors.old; count_after = E.faults errors.new }) }
+{
+    match write_document(alloc, sheet, output) {
+        Ok(()) => end(errors, told, status),
+        Err(DocError::Write(_)) => Status::WriteFault,
+        Err(DocError::Memory) => Status::Memory,
+    }
+}
+
+/// Writes the pages of outcomes on a paper, and tells their faults.
+fn write_pages<O: Sink, E: Sink>(
+    alloc: Global,
+    paper: &Paper,
+    outcomes: &[Outcome],
+    output: &mut O,
+    errors: &mut E,
+) -> Status
+    requires paper { IsGoodPaper paper.now }
+    requires set { All (IsSetUnder paper.now) outcomes.now }
+    ensures { IsAnswered (ArePagesOf paper.now outcomes.now) result
+        (record { before = O.taken output.old; after = O.taken output.new; count_before = O.faults output.old; count_after = O.faults output.new })
+        (record { before = E.taken errors.old; after = E.taken errors.new; count_before = E.faults errors.old; count_after = E.faults errors.new }) }
+{
+    let Ok(sheet) = sheet_for(alloc, paper, outcomes) else {
+        return Status::Memory;
+    };
+    let Ok(told) = reports_of(alloc, outcomes) else {
+        return Status::Memory;
+    };
+    let status = status_of(outcomes);
+    write_sheet(alloc, &sheet, told.as_slice(), status, output, errors)
+}
+
+/// Writes the pages of a book, and tells the faults of its tunes.
+pub(crate) fn set<R: Threads + Sync, O: Sink, E: Sink, G: Gate + Sync>(
+    rt: &R,
+    alloc: Global,
+    text: &[u8],
+    flow: bool,
+    jobs: u8,
+    output: &mut O,
+    errors: &mut E,
+    gate: &G,
+) -> Status
+    requires some { 1 ≤ jobs }
+    requires few { jobs ≤ 64 }
+    requires within { length text.now ≤ 8388608 }
+    ensures { IsAnswer (command.Set flow jobs) result text.now
+        (record { before = O.taken output.old; after = O.taken output.new; count_before = O.faults output.old; count_after = O.faults output.new })
+        (record { before = E.taken errors.old; after = E.taken errors.new; count_before = E.faults errors.old; count_after = E.faults errors.new }) }
+{
+    let Ok(book) = set_text(rt, alloc, text, flow, jobs, gate) else {
+        return Status::Memory;
+    };
+    write_pages(alloc, &book.paper, book.outcomes.as_slice(), output, errors)
+}
+
+/// The systems of outcomes, or the listing of their spans.
+fn systems_text(alloc: Global, table: bool, outcomes: &[Outcome]) -> Result<Text, Memory>
+    requires { AreListable outcomes.now }
+    ensures { IfOk result (λ text. text ≡ systems_by table outcomes.now) }
+{
+    let mut text = Text::new(alloc);
+    if table {
+        put_listing(&mut text, outcomes)?;
+    } else {
+        put_systems(&mut text, outcomes)?;
+    }
+    Ok(text)
+}
+
+/// Writes the systems of outcomes, and tells their faults.
+fn write_systems<O: Sink, E: Sink>(
+    alloc: Global,
+    table: bool,
+    outcomes: &[Outcome],
+    output: &mut O,
+    errors: &mut E,
+) -> Status
+    requires { AreListable outcomes.now }
+    ensures { IsAnswered (λ called. called ≡ systems_called table outcomes.now) result
+        (record { before = O.taken output.old; after = O.taken output.new; count_before = O.faults output.old; count_after = O.faults output.new })
+        (record { before = E.taken errors.old; after = E.taken errors.new; count_before = E.faults errors.old; count_after = E.faults errors.new }) }
+{
+    let Ok(text) = systems_text(alloc, table, outcomes) else {
+        return Status::Memory;
+    };
+    let Ok(told) = reports_of(alloc, outcomes) else {
+        return Status::Memory;
+    };
+    let status = status_of(outcomes);
+    write_both(output, errors, text.as_slice(), told.as_slice(), status)
+}
+
+/// Writes the systems of the tunes of a book, or the listing of their spans, and tells the faults of
+/// its tunes. The tunes enter no gate.
+pub(crate) fn systems<R: Threads + Sync, O: Sink, E: Sink>(
+    rt: &R,
+    alloc: Global,
+    text: &[u8],
+    flow: bool,
+    table: bool,
+    output: &mut O,
+    errors: &mut E,
+) -> Status
+    requires within { length text.now ≤ 8388608 }
+    ensures { IsAnswer (command.Systems flow table) result text.now
+        (record { before = O.taken output.old; after = O.taken output.new; count_before = O.faults output.old; count_after = O.faults output.new })
+        (record { before = E.taken errors.old; after = E.taken errors.new; count_before = E.faults errors.old; count_after = E.faults errors.new }) }
+{
+    let Ok(book) = set_text(rt, alloc, text, flow, 1, &Open) else {
+        return Status::Memory;
+    };
+    outcomes_are_listable();
+    write_systems(alloc, table, book.outcomes.as_slice(), output, errors)
+}
+
+/// How many bytes the document of a sheet has.
+fn document_len(alloc: Global, sheet: &Sheet) -> Result<u64, Memory>
+    requires { IsSheet sheet.now }
+    ensures { IfOk result (λ count. count ≡ length (document sheet.now)) }
+{
+    let mut out = MemSink::new(alloc, u32::MAX, Row::new(alloc));
+    match write_document(alloc, sheet, &mut out) {
+        Ok(()) => Ok(out.taken().len() as u64),
+        Err(_) => Err(Memory),
+    }
+}
+
+/// The line on a generated book as it was set.
+fn trial_line(
+    alloc: Global,
+    tunes: u32,
+    paper: &Paper,
+    outcomes: &[Outcome],
+) -> Result<Text, Memory>
+    requires paper { IsGoodPaper paper.now }
+    requires set { All (IsSetUnder paper.now) outcomes.now }
+    ensures { IfOk result (λ text. text ≡ trial_text (trial_of tunes outcomes.now (sheet_of paper.now outcomes.now))) }
+{
+    let sheet = sheet_for(alloc, paper, outcomes)?;
+    let trial = Trial {
+        tunes: u64::from(tunes),
+        set: set_count(outcomes),
+        refused: fault_count(outcomes),
+        systems: system_count(outcomes),
+        pages: sheet.pages.len() as u64,
+        bytes: document_len(alloc, &sheet)?,
+        total: total_of(outcomes),
+    };
+    let mut text = Text::new(alloc);
+    put_trial(&mut text, &trial)?;
+    Ok(text)
+}
+
+/// Writes the line on a generated book as it was set.
+fn write_trial<O: Sink, E: Sink>(
+    alloc: Global,
+    tunes: u32,
+    paper: &Paper,
+    outcomes: &[Outcome],
+    output: &mut O,
+    errors: &mut E,
+) -> Status
+    requires paper { IsGoodPaper paper.now }
+    requires set { All (IsSetUnder paper.now) outcomes.now }
+    ensures { IsAnswered (λ called. called ≡ trial_called tunes paper.now outcomes.now) result
+        (record { before = O.taken output.old; after = O.taken output.new; count_before = O.faults output.old; count_after = O.faults output.new })
+        (record { before = E.taken errors.old; after = E.taken errors.new; count_before = E.faults errors.old; count_after = E.faults errors.new }) }
+{
+    let Ok(line) = trial_line(alloc, tunes, paper, outcomes) else {
+        return Status::Memory;
+    };
+    write_both(output, errors, line.as_slice(), b"", Status::Done)
+}
+
+/// Sets the generated book of so many tunes, and writes a line on it.
+pub(crate) fn trial<R: Threads + Sync, O: Sink, E: Sink, G: Gate + Sync>(
+    rt: &R,
+    alloc: Global,
+    tunes: u32,
+    flow: bool,
+    jobs: u8,
+    output: &mut O,
+    errors: &mut E,
+    gate: &G,
+) -> Status
+    requires some_tunes { 1 ≤ tunes }
+    requires few_tunes { tunes ≤ 500 }
+    requires some { 1 ≤ jobs }
+    requires few { jobs ≤ 64 }
+    ensures { IsAnswer (command.Trial tunes flow jobs) result []
+        (record { before = O.taken output.old; after = O.taken output.new; count_before = O.faults output.old; count_after = O.faults output.new })
+        (record { before = E.taken errors.old; after = E.taken errors.new; count_before = E.faults errors.old; count_after = E.faults errors.new }) }
+{
+    let Ok(text) = make(alloc, tunes) else {
+        return Status::Memory;
+    };
+    if text.len() > 1_073_741_824 {
+        return Status::Memory;
+    }
+    let Ok(book) = set_text(rt, alloc, text.as_slice(), flow, jobs, gate) else {
+        return Status::Memory;
+    };
+    write_trial(
+        alloc,
+        tunes,
+        &book.paper,
+        book.outcomes.as_slice(),
+        output,
+        errors,
+    )
+}

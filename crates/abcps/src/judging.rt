@@ -1,0 +1,87 @@
+ghost use Rattle.std.specs.Prelude.{◌≡◌, [], IfOk};
+ghost use Rattle.abcps.specs.Calls.{is_dearer, is_dearer_choice, status_by, verdicts_text};
+ghost use Rattle.abcps.specs.Outcome.{IsAnswer, IsAnswered, IsEnd};
+ghost use Rattle.abcps_words.specs.declared.command.Command.TheVariants as command;
+ghost use Rattle.std.specs.List.{list_any};
+
+use crate::status::Status;
+use crate::telling::{tell_not_pages, write_both};
+use eng_io::Sink;
+use lay_cert::{CertError, Judged, Verdict, check_listing, put_verdict};
+use mus_units::{Memory, Text};
+use std::alloc::Global;
+
+/// Whether a verdict says that a choice isn't least.
+fn is_dearer(judged: &Judged) -> bool
+    ensures { result ≡ is_dearer_choice judged.now }
+{
+    match judged.verdict {
+        Verdict::Least { .. } => false,
+        Verdict::NotLeast { .. } => true,
+    }
+}
+
+/// Whether some choice isn't least.
+fn some_dearer(judged: &[Judged]) -> bool
+    ensures { result ≡ list_any is_dearer_choice judged.now }
+{
+    judged.iter().any(is_dearer)
+}
+
+/// The answer to verdicts.
+fn status_by(judged: &[Judged]) -> Status
+    ensures value { result ≡ status_by judged.now }
+    ensures end { IsEnd result }
+{
+    if some_dearer(judged) {
+        Status::NotLeast
+    } else {
+        Status::Done
+    }
+}
+
+/// The verdicts, a line each.
+fn verdicts_text(alloc: Global, judged: &[Judged]) -> Result<Text, Memory>
+    ensures { IfOk result (λ text. text ≡ verdicts_text judged.now) }
+{
+    let mut text = Text::new(alloc);
+    for verdict in judged {
+        put_verdict(&mut text, verdict)?;
+    }
+    Ok(text)
+}
+
+/// Prints verdicts.
+fn print<O: Sink, E: Sink>(
+    alloc: Global,
+    judged: &[Judged],
+    output: &mut O,
+    errors: &mut E,
+) -> Status
+    ensures { IsAnswered (λ called. called ≡ record { page = verdicts_text judged.now; told = []; status = status_by judged.now }) result
+        (record { before = O.taken output.old; after = O.taken output.new; count_before = O.faults output.old; count_after = O.faults output.new })
+        (record { before = E.taken errors.old; after = E.taken errors.new; count_before = E.faults errors.old; count_after = E.faults errors.new }) }
+{
+    let Ok(text) = verdicts_text(alloc, judged) else {
+        return Status::Memory;
+    };
+    write_both(output, errors, text.as_slice(), b"", status_by(judged))
+}
+
+/// Judges a listing, or tells where an input is none.
+pub(crate) fn check<O: Sink, E: Sink>(
+    alloc: Global,
+    text: &[u8],
+    output: &mut O,
+    errors: &mut E,
+) -> Status
+    ensures { IsAnswer command.Check result text.now
+        (record { before = O.taken output.old; after = O.taken output.new; count_before = O.faults output.old; count_after = O.faults output.new })
+        (record { before = E.taken errors.old; after = E.taken errors.new; count_before = E.faults errors.old; count_after = E.faults errors.new }) }
+{
+    match check_listing(alloc, text) {
+        Ok(judged) => print(alloc, judged.as_slice(), output, errors),
+        Err(CertError::NotListing { line }) => tell_not_pages(alloc, line, errors),
+        Err(CertError::Memory) => Status::Memory,
+    }
+}

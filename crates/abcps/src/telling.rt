@@ -1,0 +1,71 @@
+ghost use Rattle.std.specs.Prelude.{◌≡◌, ◌⊎◌, IfOk};
+ghost use Rattle.abcps.specs.Calls.{not_pages_line};
+ghost use Rattle.abcps.specs.Outcome.{IsAnswered, IsEnd, IsQuiet, TookAll, TookFront, WasTold};
+ghost use Rattle.abcps.specs.declared.status.Status.TheVariants as status;
+
+use crate::status::Status;
+use eng_io::{Sink, write_all};
+use mus_units::{Memory, Text};
+use ps_text::fields::put_number;
+use std::alloc::Global;
+
+/// Tells a sink a line; the status stands whatever it does.
+pub(crate) fn tell<E: Sink>(errors: &mut E, line: &[u8])
+    ensures { WasTold (record { before = E.taken errors.old; after = E.taken errors.new; count_before = E.faults errors.old; count_after = E.faults errors.new }) line.now }
+{
+    let _ = write_all(errors, line);
+}
+
+/// Tells errors the last text of a run, whose answer that is unless errors fails.
+pub(crate) fn end<E: Sink>(errors: &mut E, told: &[u8], with: Status) -> Status
+    ensures { ((result ≡ with) × TookAll (record { before = E.taken errors.old; after = E.taken errors.new; count_before = E.faults errors.old; count_after = E.faults errors.new }) told.now)
+        ⊎ ((result ≡ status.WriteFault) × TookFront (record { before = E.taken errors.old; after = E.taken errors.new; count_before = E.faults errors.old; count_after = E.faults errors.new }) told.now) }
+{
+    match write_all(errors, told) {
+        Ok(()) => with,
+        Err(_) => Status::WriteFault,
+    }
+}
+
+/// Writes a text on output, and then tells errors another.
+#[tactic(auto, using(crate::proofs::Answered::answered_end))]
+pub(crate) fn write_both<O: Sink, E: Sink>(
+    output: &mut O,
+    errors: &mut E,
+    page: &[u8],
+    told: &[u8],
+    with: Status,
+) -> Status
+    requires { IsEnd with }
+    ensures { IsAnswered (λ called. called ≡ record { page = page.now; told = told.now; status = with }) result
+        (record { before = O.taken output.old; after = O.taken output.new; count_before = O.faults output.old; count_after = O.faults output.new })
+        (record { before = E.taken errors.old; after = E.taken errors.new; count_before = E.faults errors.old; count_after = E.faults errors.new }) }
+{
+    match write_all(output, page) {
+        Ok(()) => end(errors, told, with),
+        Err(_) => Status::WriteFault,
+    }
+}
+
+/// The line that tells where an input is no document, or no listing.
+fn not_pages_line(alloc: Global, number: u64) -> Result<Text, Memory>
+    ensures { IfOk result (λ line. line ≡ not_pages_line number) }
+{
+    let mut line = Text::new(alloc);
+    line.append(b"not pages at line ")?;
+    put_number(&mut line, number)?;
+    line.push(b'\n')?;
+    Ok(line)
+}
+
+/// Tells where an input is no document, or no listing.
+pub(crate) fn tell_not_pages<E: Sink>(alloc: Global, number: u64, errors: &mut E) -> Status
+    ensures { ((result ≡ status.Memory) × IsQuiet (record { before = E.taken errors.old; after = E.taken errors.new; count_before = E.faults errors.old; count_after = E.faults errors.new }))
+        ⊎ ((result ≡ status.NotPages) × WasTold (record { before = E.taken errors.old; after = E.taken errors.new; count_before = E.faults errors.old; count_after = E.faults errors.new }) (not_pages_line number)) }
+{
+    let Ok(line) = not_pages_line(alloc, number) else {
+        return Status::Memory;
+    };
+    tell(errors, line.as_slice());
+    Status::NotPages
+}
