@@ -3,6 +3,7 @@ use eng_io::{MemSink, MemSource};
 use mus_units::{Row, Text};
 use std::alloc::{AllocError, Global};
 use std::test::*;
+use std::thread::Threads;
 
 const ONE_MEASURE: &[u8] = b"X:1\nT:A\nK:C\nCDEF|\n";
 
@@ -53,27 +54,32 @@ fn words_of(alloc: Global, all: &[&str]) -> Result<Vec<String>, AllocError> {
 
 /// What a run answered and wrote.
 #[derive(Drop)]
-struct Ran {
+struct Finished {
     status: Status,
     output: MemSink,
     errors: MemSink,
 }
 
-fn ran(rt: HostRuntime, words: &[&str], input: &[u8]) -> Result<Ran, AllocError> {
-    let words = words_of(rt.alloc(), words)?;
-    let mut input = source(rt.alloc(), input, &[])?;
-    let mut output = sink(rt.alloc(), 1_000_000, &[])?;
-    let mut errors = sink(rt.alloc(), 3, &[])?;
+fn ran<R: Threads + Sync>(
+    rt: &R,
+    alloc: Global,
+    words: &[&str],
+    input: &[u8],
+) -> Result<Finished, AllocError> {
+    let words = words_of(alloc, words)?;
+    let mut input = source(alloc, input, &[])?;
+    let mut output = sink(alloc, 1_000_000, &[])?;
+    let mut errors = sink(alloc, 3, &[])?;
     let status = run(
-        &rt,
-        rt.alloc(),
+        rt,
+        alloc,
         &words,
         &mut input,
         &mut output,
         &mut errors,
         &Open,
     );
-    Ok(Ran {
+    Ok(Finished {
         status,
         output,
         errors,
@@ -152,29 +158,29 @@ fn texts_and_answers(rt: HostRuntime) -> Result<(), Fail> {
         (&[], ONE_MEASURE, Status::Usage, nothing, USAGE),
     ];
     for (words, input, status, page, told) in runs {
-        let ran = ran(rt, words, input)?;
-        assert_eq!(rt; ran.status, status);
-        assert_eq!(rt; ran.output.taken(), page);
-        assert_eq!(rt; ran.errors.taken(), told);
+        let found = ran(&rt, rt.alloc(), words, input)?;
+        assert_eq!(rt; found.status, status);
+        assert_eq!(rt; found.output.taken(), page);
+        assert_eq!(rt; found.errors.taken(), told);
     }
     Ok(())
 }
 
 #[test]
 fn sets_pages_and_shows_them(rt: HostRuntime) -> Result<(), Fail> {
-    let set = ran(rt, &["set"], ONE_MEASURE)?;
+    let set = ran(&rt, rt.alloc(), &["set"], ONE_MEASURE)?;
     assert_eq!(rt; set.status, Status::Done);
     assert!(rt; set.output.taken().ends_with(ITS_PAGE));
     assert_eq!(rt; set.errors.taken().len(), 0);
-    let shown = ran(rt, &["inspect"], set.output.taken())?;
+    let shown = ran(&rt, rt.alloc(), &["inspect"], set.output.taken())?;
     assert_eq!(rt; shown.status, Status::Done);
     assert_eq!(rt; shown.output.taken(), SHOWN);
-    let one = ran(rt, &["set"], THREE_TUNES)?;
-    let three = ran(rt, &["set", "--jobs", "3"], THREE_TUNES)?;
+    let one = ran(&rt, rt.alloc(), &["set"], THREE_TUNES)?;
+    let three = ran(&rt, rt.alloc(), &["set", "--jobs", "3"], THREE_TUNES)?;
     assert_eq!(rt; three.status.number(), 1);
     assert_eq!(rt; three.output.taken(), one.output.taken());
     assert_eq!(rt; three.errors.taken(), one.errors.taken());
-    let made = ran(rt, &["make", "1"], b"")?;
+    let made = ran(&rt, rt.alloc(), &["make", "1"], b"")?;
     assert!(rt;
         made.output
             .taken()

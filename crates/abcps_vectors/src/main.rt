@@ -7,6 +7,8 @@ use eng_io::{MemSink, MemSource};
 use mus_units::{Row, Text};
 use std::alloc::Global;
 use std::process::ExitCode;
+use std::rt::Files;
+use std::thread::Threads;
 use std::{env, fs, io};
 
 /// The line that ends the part of a document that is the same for every book.
@@ -14,7 +16,7 @@ const END_OF_PROLOG: &[u8] = b"%%EndProlog\n";
 
 /// What a run answered and wrote.
 #[derive(Drop)]
-struct Ran {
+struct Finished {
     status: Status,
     output: MemSink,
     errors: MemSink,
@@ -25,8 +27,12 @@ fn sink(alloc: Global) -> MemSink {
 }
 
 /// A run of the words on a book.
-fn ran(rt: &HostRuntime, words: &[&str], book: &[u8]) -> io::Result<Ran> {
-    let alloc = rt.alloc();
+fn ran<R: Threads + Sync>(
+    rt: &R,
+    alloc: Global,
+    words: &[&str],
+    book: &[u8],
+) -> io::Result<Finished> {
     let mut all = Vec::new(alloc);
     for word in words {
         all.push(String::from_str(alloc, word)?)?;
@@ -38,7 +44,7 @@ fn ran(rt: &HostRuntime, words: &[&str], book: &[u8]) -> io::Result<Ran> {
     let mut output = sink(alloc);
     let mut errors = sink(alloc);
     let status = run(rt, alloc, &all, &mut input, &mut output, &mut errors, &Open);
-    Ok(Ran {
+    Ok(Finished {
         status,
         output,
         errors,
@@ -68,7 +74,7 @@ fn is_joined(text: &[u8], first: &[u8], second: &[u8], third: &[u8]) -> bool {
 }
 
 /// Whether both runs have the status that the told faults ask for.
-fn have_status(set: &Ran, systems: &Ran) -> bool {
+fn have_status(set: &Finished, systems: &Finished) -> bool {
     let status = if set.errors.taken().is_empty() {
         Status::Done
     } else {
@@ -78,12 +84,12 @@ fn have_status(set: &Ran, systems: &Ran) -> bool {
 }
 
 /// Whether what is written of a book is what it should be: its pages, its listing and its faults.
-fn is_as_told(rt: &HostRuntime, name: &str) -> io::Result<bool> {
+fn is_as_told<R: Files + AllocGlobal + Threads + Sync>(rt: &R, name: &str) -> io::Result<bool> {
     let alloc = rt.alloc();
     let book = fs::read(rt, format!(in alloc; "{name}.abc")?)?;
     let told = fs::read(rt, format!(in alloc; "{name}.out")?)?;
-    let set = ran(rt, &["set"], &book)?;
-    let systems = ran(rt, &["systems", "--table"], &book)?;
+    let set = ran(rt, alloc, &["set"], &book)?;
+    let systems = ran(rt, alloc, &["systems", "--table"], &book)?;
     let pages = behind_prolog(set.output.taken());
     let table = systems.output.taken();
     Ok(
