@@ -1,12 +1,13 @@
 -- A group that fits where it begins: each of its blocks lies on the page, and so does what follows.
-use Rattle.std.proofs.Common.{◌≡◌, refl, ap, sym, ◌∙◌, ℕ, suc, ◌+◌, ◌≤◌, ℤ, pos, negsuc, ◌-ℤ◌, ◌≤ℤ◌, Bool, true, false, not, List, [], ◌∷◌, ◌++◌, append_assoc, length, arith}
+use Rattle.std.proofs.Common.{◌≡◌, refl, ap, sym, ◌∙◌, ℕ, suc, ◌+◌, ◌≤◌, ◌^◌, ℤ, pos, negsuc, ◌-ℤ◌, ◌≤ℤ◌, Bool, true, false, not, List, [], ◌∷◌, ◌++◌, append_assoc, length, subst, arith}
 use Rattle.std.proofs.lemmas.Bool.Decides.{nat_tests}
-use Rattle.std.specs.Prelude.{◌==◌, ◌&&◌, ◌||◌, nat_le, nat_lt, Option, None}
+use Rattle.std.specs.Prelude.{◌==◌, ◌&&◌, ◌||◌, nat_le, nat_lt, Option, Some, None}
 use Rattle.std.proofs.lemmas.Int.{ints}
 use Rattle.lay_pages.specs.declared.filling.Block.{Block}
 use Rattle.lay_pages.specs.declared.filling.Place.{Place}
 use Rattle.lay_pages.specs.declared.filling.Spot.{Spot}
-use Rattle.lay_pages.specs.Filling.{AreGoodBlocks, height_of, with_kept, group_height, under, place_by, next_place, spot_at, spots_from, tall_by, tall_from, AreWithin}
+use Rattle.lay_pages.specs.declared.filling.Standing.{Standing}
+use Rattle.lay_pages.specs.Filling.{AreGoodBlocks, CanFollow, IsLoose, down_behind, first_place, height_of, with_kept, group_height, under, place_by, next_place, spot_at, spots_from, standing_from, tall_by, tall_from, AreWithin}
 
 -- the group that begins here ends on the page, and no group from here on is too tall
 pub record IsReady (high : ℕ) (place : Place) (blocks : List Block) : Type 0 where
@@ -100,6 +101,39 @@ value_more high place next block rest more spots new all spot cut pushed here th
     ∙ ap (λ s. spots ++ s ∷ spots_from high next more) here ∙ ap (λ p. spots ++ spot_at high place ∷ spots_from high p more) then
     ∙ ap (λ bs. spots ++ spots_from high place bs) (sym cut) ∙ so_far
 
+-- the last block is that of the blocks that are left
+pub standing_more : (high : ℕ) (place next : Place) (block : Block) (rest more : List Block) (last : Option Standing) → rest ≡ block ∷ more → (more ≡ [] → ⊥) → next ≡ next_place high place block more
+    → standing_from high place rest ≡ last → standing_from high next more ≡ last
+standing_more high place next block rest [] last cut some then so_far = absurd (some refl)
+standing_more high place next block rest (b ∷ more) last cut some then so_far =
+    ap (λ p. standing_from high p (b ∷ more)) then ∙ ap (λ bs. standing_from high place bs) (sym cut) ∙ so_far
+
 pub some_of : (blocks : List Block) → false ≡ (length blocks == 0) → blocks ≡ [] → ⊥
 some_of [] e h = cc
 some_of (block ∷ blocks) e h = cc
+
+-- behind a block that is not tied, the first group fits where it is placed
+loose_room : (keep : Bool) (page down others high : ℕ) → keep ≡ false → others ≤ high → (place_by (keep || nat_le (down + others) high) page down).down + others ≤ high
+loose_room true page down others high e low = absurd cc
+loose_room false page down others high e low = by_test (nat_le (down + others) high) refl where
+  by_test : (b : Bool) → nat_le (down + others) high ≡ b → (place_by b page down).down + others ≤ high
+  by_test true e = grind (arith, nat_tests)
+  by_test false e = omega (arith, low)
+
+pub first_room : (high : ℕ) (behind : Option Standing) (blocks : List Block) → CanFollow behind → tall_from high 0 false blocks ≡ None → (first_place high behind blocks).down + group_height blocks ≤ high
+first_room high None blocks can none = (ready_first high blocks none).fits
+first_room high (Some last) blocks can none =
+    let low = (ready_first high blocks none).fits in
+    loose_room last.block.keep last.place.page (under last.place last.block) (group_height blocks) high can.keep (omega (arith, low))
+
+pub behind_within : (high : ℕ) (behind : Option Standing) (blocks : List Block) (place : Place) (spots : List Spot) → place ≡ first_place high behind blocks → spots ≡ spots_from high place blocks
+    → AreGoodBlocks blocks → CanFollow behind → tall_from high 0 false blocks ≡ None → AreWithin high blocks spots
+behind_within high behind blocks place spots here at good can none =
+    subst (AreWithin high blocks) (sym (at ∙ ap (λ p. spots_from high p blocks) here))
+    (within_from high (first_place high behind blocks) blocks good (record { fits = first_room high behind blocks can none; number = 0; tied = false; none = none }))
+
+-- others may stand behind the last block, where it is not tied
+pub end_of : (high most : ℕ) (place : Place) (blocks : List Block) → AreGoodBlocks blocks → IsLoose blocks → down_behind (standing_from high place blocks) ≤ most → most ≤ 2 ^ 32 → CanFollow (standing_from high place blocks)
+end_of high most place [] good loose low few = tt
+end_of high most place (block ∷ []) good loose low few = record { keep = loose; height = good.0.1; down = omega (arith, low, few) }
+end_of high most place (block ∷ next ∷ more) good loose low few = end_of high most (next_place high place block (next ∷ more)) (next ∷ more) good.1 loose low few

@@ -1,9 +1,10 @@
 -- Blocks on pages, from the top of a page down. A block that is tied to the next stands on one page
 -- with it; such a run of blocks is a group.
-use Rattle.std.specs.Prelude.{◌≡◌, ◌^◌, ⊤, ℕ, suc, ◌+◌, nat_le, nat_lt, ℤ, pos, negsuc, ◌-ℤ◌, ◌≤ℤ◌, ◌<ℤ◌, Bool, true, false, not, ◌&&◌, ◌||◌, List, [], ◌∷◌, Option, Some, None}
+use Rattle.std.specs.Prelude.{◌≡◌, ◌^◌, ◌≤◌, ⊤, ℕ, suc, ◌+◌, nat_le, nat_lt, ℤ, pos, negsuc, ◌-ℤ◌, ◌≤ℤ◌, ◌<ℤ◌, Bool, true, false, not, ◌&&◌, ◌||◌, List, [], ◌∷◌, Option, Some, None}
 use Rattle.lay_pages.specs.declared.filling.Block.{Block}
 use Rattle.lay_pages.specs.declared.filling.Spot.{Spot}
 use Rattle.lay_pages.specs.declared.filling.Place.{Place}
+use Rattle.lay_pages.specs.declared.filling.Standing.{Standing}
 use Rattle.lay_pages.specs.declared.filling.PageError.{PageError}
 use Rattle.lay_pages.specs.declared.filling.PageError.TheVariants as errors
 
@@ -48,6 +49,48 @@ spots_from high place (block ∷ more) = spot_at high place ∷ spots_from high 
 
 abbrev pub spots_of : ℕ → List Block → List Spot
 spots_of high blocks = spots_from high (record { page = 0; down = 0 }) blocks
+
+-- the last of blocks of which the first has this place
+abbrev pub standing_from : ℕ → Place → List Block → Option Standing
+standing_from high place [] = None
+standing_from high place (block ∷ []) = Some (record { place = place; block = block })
+standing_from high place (block ∷ next ∷ more) = standing_from high (next_place high place block (next ∷ more)) (next ∷ more)
+
+-- The same of blocks that come behind others: the last of the others tells where the first of them stands.
+abbrev pub first_place : ℕ → Option Standing → List Block → Place
+first_place high None blocks = record { page = 0; down = 0 }
+first_place high (Some last) blocks = next_place high last.place last.block blocks
+
+abbrev pub spots_behind : ℕ → Option Standing → List Block → List Spot
+spots_behind high behind blocks = spots_from high (first_place high behind blocks) blocks
+
+abbrev pub behind_after : ℕ → Option Standing → List Block → Option Standing
+behind_after high behind [] = behind
+behind_after high behind (block ∷ more) = standing_from high (first_place high behind (block ∷ more)) (block ∷ more)
+
+-- the last block is not tied to what stands behind
+abbrev pub IsLoose : List Block → Type 0
+IsLoose [] = ⊤
+IsLoose (block ∷ []) = block.keep ≡ false
+IsLoose (block ∷ next ∷ more) = IsLoose (next ∷ more)
+
+abbrev pub page_behind : Option Standing → ℕ
+page_behind None = 0
+page_behind (Some last) = last.place.page
+
+abbrev pub down_behind : Option Standing → ℕ
+down_behind None = 0
+down_behind (Some last) = last.place.down
+
+-- others may stand behind it: it is not tied, and no higher than a block may be
+pub record IsEnd (last : Standing) : Type 0 where
+  pub keep : last.block.keep ≡ false
+  pub height : last.block.height ≤ℤ pos (2 ^ 40)
+  pub down : last.place.down ≤ 2 ^ 32
+
+abbrev pub CanFollow : Option Standing → Type 0
+CanFollow None = ⊤
+CanFollow (Some last) = IsEnd last
 
 -- the block with which the first group begins that is higher than a page; `tied` says that a block
 -- before is tied to the first here

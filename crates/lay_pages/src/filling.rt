@@ -1,5 +1,5 @@
 ghost use Rattle.std.specs.Prelude.{◌≡◌, ◌<◌, ◌≤◌, ◌+◌, ◌-◌, ◌*◌, ◌^◌, pos, ◌≤ℤ◌, nat_le, nat_lt, length, IfOk, IfErr, None};
-ghost use Rattle.lay_pages.specs.Filling.{AreGoodBlocks, height_of, group_height, next_place, spot_at, spots_of, first_tall, AreWithin, AreFilled, IsPageError};
+ghost use Rattle.lay_pages.specs.Filling.{AreGoodBlocks, CanFollow, IsLoose, behind_after, down_behind, first_place, height_of, group_height, next_place, page_behind, spot_at, spots_behind, spots_from, spots_of, standing_from, first_tall, AreWithin, AreFilled, IsPageError};
 ghost use Rattle.lay_pages.specs.declared.filling.PageError.TheVariants as errors;
 
 use mus_units::{Memory, Row};
@@ -51,8 +51,8 @@ pub fn fill(alloc: Global, blocks: &[Block], high: u32) -> Result<Row<Spot>, Pag
 {
     match first_tall(blocks, high) {
         Some(block) => Err(PageError::TooTall { block }),
-        None => match spots_of(alloc, blocks, high) {
-            Ok(spots) => Ok(spots),
+        None => match spots_from(alloc, high, Place { page: 0, down: 0 }, blocks) {
+            Ok(filled) => Ok(filled.spots),
             Err(Memory) => Err(PageError::Memory),
         },
     }
@@ -63,6 +63,20 @@ pub fn fill(alloc: Global, blocks: &[Block], high: u32) -> Result<Row<Spot>, Pag
 pub struct Place {
     pub page: u32,
     pub down: u64,
+}
+
+/// A block, and its place.
+#[derive(Clone, Copy, Debug, PartialEq, Eq)]
+pub struct Standing {
+    pub place: Place,
+    pub block: Block,
+}
+
+/// Where blocks stand, and the last of them, or of those before them, where there is one.
+#[derive(Debug, Drop)]
+pub struct Placement {
+    pub spots: Row<Spot>,
+    pub behind: Option<Standing>,
 }
 
 fn height_of(height: i64) -> u64
@@ -163,23 +177,91 @@ fn spot_at(high: u32, place: Place) -> Spot
     }
 }
 
-/// Where blocks stand of which no group is too tall.
-fn spots_of(alloc: Global, blocks: &[Block], high: u32) -> Result<Row<Spot>, Memory>
+/// The place of the first of some blocks, which come behind another where there is one.
+fn first_place(high: u32, behind: Option<Standing>, blocks: &[Block]) -> Place
     requires few { length blocks.now < 2 ^ 32 }
     requires good { AreGoodBlocks blocks.now }
+    requires behind { CanFollow behind }
+    requires page { page_behind behind < 2 ^ 32 - 1 }
+    ensures { result ≡ first_place high behind blocks.now }
+{
+    match behind {
+        Some(last) => next_place(high, last.place, last.block, blocks),
+        None => Place { page: 0, down: 0 },
+    }
+}
+
+/// Where blocks stand of which the first has this place, and no group is too tall.
+fn spots_from(alloc: Global, high: u32, first: Place, blocks: &[Block]) -> Result<Placement, Memory>
+    requires few { first.page + length blocks.now < 2 ^ 32 }
+    requires good { AreGoodBlocks blocks.now }
+    requires room { first.down + group_height blocks.now ≤ high }
     requires fits { first_tall high blocks.now ≡ None }
-    ensures { IfOk result (λ spots. spots ≡ spots_of high blocks.now) }
+    ensures spots { IfOk result (λ f. f.spots ≡ spots_from high first blocks.now) }
+    ensures behind { IfOk result (λ f. f.behind ≡ standing_from high first blocks.now) }
+    ensures down { IfOk result (λ f. down_behind f.behind ≤ high) }
 {
     let mut spots = Row::new(alloc);
-    let mut place = Place { page: 0, down: 0 };
+    let mut place = first;
     let mut rest = blocks;
     'placing: while let Some((block, more)) = rest.split_first() {
         spots.push(spot_at(high, place))?;
         if more.is_empty() {
-            return Ok(spots);
+            let block = *block;
+            return Ok(Placement {
+                spots,
+                behind: Some(Standing { place, block }),
+            });
         }
         place = next_place(high, place, *block, more);
         rest = more;
     }
-    Ok(spots)
+    Ok(Placement {
+        spots,
+        behind: None,
+    })
+}
+
+/// How many pages come before that of the last block.
+fn page_behind(behind: Option<Standing>) -> u32
+    ensures { result ≡ page_behind behind }
+{
+    match behind {
+        Some(last) => last.place.page,
+        None => 0,
+    }
+}
+
+/// Where blocks stand that come behind others, as `fill` places them; `behind` tells the last of
+/// the others and its place, and the answer the last of all. So blocks may be filled a list at a
+/// time: each list ends with a block that isn't tied to the next one.
+///
+/// No group of the blocks is higher than a page. `Memory` comes also where there are 2^32 pages
+/// or more.
+pub fn fill_behind(
+    alloc: Global,
+    high: u32,
+    behind: Option<Standing>,
+    blocks: &[Block],
+) -> Result<Placement, Memory>
+    requires good { AreGoodBlocks blocks.now }
+    requires fits { first_tall high blocks.now ≡ None }
+    requires behind { CanFollow behind }
+    ensures spots { IfOk result (λ f. f.spots ≡ spots_behind high behind blocks.now) }
+    ensures behind { IfOk result (λ f. f.behind ≡ behind_after high behind blocks.now) }
+    ensures within { IfOk result (λ f. AreWithin high blocks.now f.spots) }
+    ensures follows { IfOk result (λ f. IsLoose blocks.now → CanFollow f.behind) }
+{
+    if blocks.is_empty() {
+        return Ok(Placement {
+            spots: Row::new(alloc),
+            behind,
+        });
+    }
+    if u64::from(page_behind(behind)) + blocks.len() as u64 >= u64::from(u32::MAX) {
+        return Err(Memory);
+    }
+    let place = first_place(high, behind, blocks);
+    let filled = spots_from(alloc, high, place, blocks)?;
+    Ok(filled)
 }

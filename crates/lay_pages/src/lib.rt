@@ -6,7 +6,7 @@ pub mod filling;
 pub mod stacking;
 pub mod titles;
 
-pub use filling::{Block, PageError, Spot, fill};
+pub use filling::{Block, PageError, Placement, Spot, Standing, fill, fill_behind};
 pub use mus_laid::{StaffMarks, SystemMarks};
 pub use stacking::{Heights, stack};
 pub use titles::{TitleBlock, TitleRow, title_block};
