@@ -1,7 +1,7 @@
 ghost use Rattle.std.specs.Prelude.{◌≡◌, ◌≤◌, ◌≤ℤ◌, pos, length, IfOk};
 ghost use Rattle.lay_pages.specs.Stacking.{AreGoodStaves};
 
-use crate::filling::{Block, PageError, Spot, fill};
+use crate::filling::{Block, PageError, Spot, fill, fill_behind};
 use crate::stacking::stack;
 use crate::titles::title_block;
 use mus_laid::{StaffMarks, SystemMarks};
@@ -143,6 +143,30 @@ fn blocks_on_pages(rt: HostRuntime) -> Result<(), Fail> {
         Err(error) => assert_eq!(rt; error, PageError::TooTall { block: 1 }),
         Ok(_) => assert!(rt; false, "filled"),
     }
+    Ok(())
+}
+
+#[test]
+fn blocks_a_list_at_a_time(rt: HostRuntime) -> Result<(), Fail> {
+    let alloc = rt.alloc();
+    let loose = Block {
+        height: 1500,
+        keep: false,
+    };
+    let kept = Block {
+        height: 500,
+        keep: true,
+    };
+    let Ok(first) = fill_behind(alloc, 8000, None, &[loose, loose]) else {
+        return Err(AllocError.into());
+    };
+    let tops: &[Spot] = &[Spot { page: 0, top: 8000 }, Spot { page: 0, top: 5000 }];
+    assert_eq!(rt; first.spots.as_slice(), tops);
+    let Ok(second) = fill_behind(alloc, 8000, first.behind, &[kept, loose]) else {
+        return Err(AllocError.into());
+    };
+    let tops: &[Spot] = &[Spot { page: 1, top: 8000 }, Spot { page: 1, top: 6000 }];
+    assert_eq!(rt; second.spots.as_slice(), tops);
     Ok(())
 }
 
