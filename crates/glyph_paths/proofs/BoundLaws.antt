@@ -6,21 +6,19 @@ use Rattle.std.proofs.lemmas.List.Elements.{All-nil}
 use Rattle.std.proofs.lemmas.Bool.Decides.{nat_tests}
 use Rattle.mus_units.specs.declared.glyph.Glyph.{Glyph}
 use Rattle.mus_units.specs.declared.glyph.Glyph.TheVariants as glyphs
-use Rattle.glyph_paths.specs.declared.bounds.End.TheVariants as ends
-use Rattle.glyph_paths.specs.declared.bounds.Axis.TheVariants as axes
 use Rattle.glyph_paths.specs.Outlines.{outline_of}
-use Rattle.glyph_paths.specs.Bounds.{IsClose, AreClose, coordinate, IsLeast, IsGreatest, AreBounds, further, furthest, first_or_zero, coordinates, extent, bounds_in}
+use Rattle.glyph_paths.specs.Bounds.{abscissa, ordinate, least, greatest, IsClose, AreClose, coordinate, IsLeast, IsGreatest, AreBounds, further, furthest, first_or_zero, coordinates, extent, bounds_in}
 
 at_front : (z r : ℤ) (zs : List ℤ) → (r ≡ z) ⊎ Contains (z ∷ zs) r → Contains (z ∷ zs) r
 at_front z r zs (inl e) = (0, omega arith, sym e)
 at_front z r zs (inr c) = c
 
-pub least_is : (zs : List ℤ) → IsLeast zs (furthest ends.Least (first_or_zero zs) zs)
+pub least_is : (zs : List ℤ) → IsLeast zs (furthest least (first_or_zero zs) zs)
 unfolding further
 least_is [] = (All-nil _, inr (refl, refl))
 least_is (z ∷ zs) = ((fold-int_min_bounds z (z ∷ zs) _ refl).1, inl (at_front z _ zs (fold-int_min_reached z (z ∷ zs) _ refl)))
 
-pub greatest_is : (zs : List ℤ) → IsGreatest zs (furthest ends.Greatest (first_or_zero zs) zs)
+pub greatest_is : (zs : List ℤ) → IsGreatest zs (furthest greatest (first_or_zero zs) zs)
 unfolding further
 greatest_is [] = (All-nil _, inr (refl, refl))
 greatest_is (z ∷ zs) = ((fold-int_max_bounds z (z ∷ zs) _ refl).1, inl (at_front z _ zs (fold-int_max_reached z (z ∷ zs) _ refl)))
@@ -28,17 +26,17 @@ greatest_is (z ∷ zs) = ((fold-int_max_bounds z (z ∷ zs) _ refl).1, inl (at_f
 pub bounds_are : (g : Glyph) → AreBounds (outline_of g) (bounds_in g)
 unfolding bounds_in extent
 bounds_are g = record {
-  left = least_is (coordinates axes.Abscissa (outline_of g));
-  low = least_is (coordinates axes.Ordinate (outline_of g));
-  right = greatest_is (coordinates axes.Abscissa (outline_of g));
-  high = greatest_is (coordinates axes.Ordinate (outline_of g));
+  left = least_is (coordinates abscissa (outline_of g));
+  low = least_is (coordinates ordinate (outline_of g));
+  right = greatest_is (coordinates abscissa (outline_of g));
+  high = greatest_is (coordinates ordinate (outline_of g));
 }
 
 -- Every point is close, glyph by glyph; so are the least and the greatest of them.
 is_close : ℤ → Bool
 is_close z = int_le (negsuc 1999) z && int_le z (pos 2000)
 
-points_close : (g : Glyph) → (list_all is_close (coordinates axes.Abscissa (outline_of g)) && list_all is_close (coordinates axes.Ordinate (outline_of g))) ≡ true
+points_close : (g : Glyph) → (list_all is_close (coordinates abscissa (outline_of g)) && list_all is_close (coordinates ordinate (outline_of g))) ≡ true
 unfolding coordinates coordinate is_close
 points_close glyphs.Hb = refl
 points_close glyphs.Hw = refl
@@ -102,11 +100,11 @@ pub bounds_are_close : (g : Glyph) → AreClose (bounds_in g)
 bounds_are_close g =
     let are = bounds_are g in
     let points = points_close g in
-    let across : list_all is_close (coordinates axes.Abscissa (outline_of g)) ≡ true = grind (arith, nat_tests) in
-    let up : list_all is_close (coordinates axes.Ordinate (outline_of g)) ≡ true = grind (arith, nat_tests) in
+    let across : list_all is_close (coordinates abscissa (outline_of g)) ≡ true = grind (arith, nat_tests) in
+    let up : list_all is_close (coordinates ordinate (outline_of g)) ≡ true = grind (arith, nat_tests) in
     record {
-      left = close_of (coordinates axes.Abscissa (outline_of g)) across (bounds_in g).left are.left.1;
-      low = close_of (coordinates axes.Ordinate (outline_of g)) up (bounds_in g).low are.low.1;
-      right = close_of (coordinates axes.Abscissa (outline_of g)) across (bounds_in g).right are.right.1;
-      high = close_of (coordinates axes.Ordinate (outline_of g)) up (bounds_in g).high are.high.1;
+      left = close_of (coordinates abscissa (outline_of g)) across (bounds_in g).left are.left.1;
+      low = close_of (coordinates ordinate (outline_of g)) up (bounds_in g).low are.low.1;
+      right = close_of (coordinates abscissa (outline_of g)) across (bounds_in g).right are.right.1;
+      high = close_of (coordinates ordinate (outline_of g)) up (bounds_in g).high are.high.1;
     }

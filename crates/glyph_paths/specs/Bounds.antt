@@ -7,16 +7,22 @@ use Rattle.mus_units.specs.declared.glyph.Glyph.{Glyph}
 use Rattle.glyph_paths.specs.declared.paths.PathOp.{PathOp}
 use Rattle.glyph_paths.specs.declared.paths.PathOp.TheVariants as ops
 use Rattle.glyph_paths.specs.declared.bounds.Bounds.{Bounds}
-use Rattle.glyph_paths.specs.declared.bounds.Axis.{Axis}
-use Rattle.glyph_paths.specs.declared.bounds.Axis.TheVariants as axes
-use Rattle.glyph_paths.specs.declared.bounds.End.{End}
-use Rattle.glyph_paths.specs.declared.bounds.End.TheVariants as ends
 use Rattle.glyph_paths.specs.Outlines.{outline_of}
+
+-- one of the two coordinates of a point
+pub data Axis : Type 0 where
+  abscissa : Axis
+  ordinate : Axis
+
+-- one of the two ends of what points cover along an axis
+pub data End : Type 0 where
+  least : End
+  greatest : End
 
 -- one coordinate of a point
 unfoldable pub coordinate : Axis → ℤ → ℤ → ℤ
-coordinate axes.Abscissa x y = x
-coordinate axes.Ordinate x y = y
+coordinate abscissa x y = x
+coordinate ordinate x y = y
 
 -- a coordinate of each point of a step, control points included
 abbrev pub along : Axis → PathOp → List ℤ
@@ -40,10 +46,10 @@ IsGreatest zs z = All (λ other. other ≤ℤ z) zs × (Contains zs z ⊎ ((zs �
 
 -- what the bounds of a path are
 pub record AreBounds (steps : List PathOp) (bounds : Bounds) : Type 0 where
-  pub left : IsLeast (coordinates axes.Abscissa steps) bounds.left
-  pub low : IsLeast (coordinates axes.Ordinate steps) bounds.low
-  pub right : IsGreatest (coordinates axes.Abscissa steps) bounds.right
-  pub high : IsGreatest (coordinates axes.Ordinate steps) bounds.high
+  pub left : IsLeast (coordinates abscissa steps) bounds.left
+  pub low : IsLeast (coordinates ordinate steps) bounds.low
+  pub right : IsGreatest (coordinates abscissa steps) bounds.right
+  pub high : IsGreatest (coordinates ordinate steps) bounds.high
 
 -- no point of a glyph is further than 2000 from where it is drawn
 abbrev pub IsClose : ℤ → Type 0
@@ -57,8 +63,8 @@ pub record AreClose (bounds : Bounds) : Type 0 where
 
 -- The same as a function, for the definitions of the crates above.
 unfoldable pub further : End → ℤ → ℤ → ℤ
-further ends.Least = int_min
-further ends.Greatest = int_max
+further least = int_min
+further greatest = int_max
 
 abbrev pub furthest : End → ℤ → List ℤ → ℤ
 furthest end first zs = fold (further end) first zs
@@ -70,10 +76,13 @@ first_or_zero (z ∷ zs) = z
 unfoldable pub extent : End → Axis → List PathOp → ℤ
 extent end axis steps = furthest end (first_or_zero (coordinates axis steps)) (coordinates axis steps)
 
+abbrev pub within : ℤ → ℤ → ℤ → ℤ → Bounds
+within left low right high = record { left = left; low = low; right = right; high = high }
+
 unfoldable pub bounds_in : Glyph → Bounds
 bounds_in glyph = record {
-  left = extent ends.Least axes.Abscissa (outline_of glyph);
-  low = extent ends.Least axes.Ordinate (outline_of glyph);
-  right = extent ends.Greatest axes.Abscissa (outline_of glyph);
-  high = extent ends.Greatest axes.Ordinate (outline_of glyph);
+  left = extent least abscissa (outline_of glyph);
+  low = extent least ordinate (outline_of glyph);
+  right = extent greatest abscissa (outline_of glyph);
+  high = extent greatest ordinate (outline_of glyph);
 }

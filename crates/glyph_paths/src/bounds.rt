@@ -1,8 +1,7 @@
-ghost use Rattle.std.specs.Prelude.{◌≡◌, ◌∷◌, []};
+ghost use Rattle.std.specs.Prelude.{◌≡◌};
 ghost use Rattle.glyph_paths.specs.Outlines.{outline_of};
-ghost use Rattle.glyph_paths.specs.Bounds.{coordinate, further, furthest, along, extent, first_or_zero, coordinates, bounds_in, AreBounds, AreClose};
+ghost use Rattle.glyph_paths.specs.Bounds.{within, bounds_in, AreBounds, AreClose};
 
-use crate::paths::{PathOp, outline};
 use mus_units::Glyph;
 
 /// The least and greatest abscissa and ordinate of a glyph's points, in u from
@@ -15,133 +14,80 @@ pub struct Bounds {
     pub high: i32,
 }
 
-/// One of the two coordinates of a point.
-#[derive(Clone, Copy, Debug, PartialEq, Eq)]
-pub enum Axis {
-    Abscissa,
-    Ordinate,
-}
-
-/// One of the two ends of what points cover along an axis.
-#[derive(Clone, Copy, Debug, PartialEq, Eq)]
-pub enum End {
-    Least,
-    Greatest,
-}
-
-/// One coordinate of a point.
-#[tactic(auto, unfolding(crate::specs::Bounds::coordinate))]
-fn pick(axis: Axis, x: i32, y: i32) -> i32
-    ensures { result ≡ coordinate axis x y }
+/// The bounds from a least abscissa and ordinate to a greatest.
+fn within(left: i32, low: i32, right: i32, high: i32) -> Bounds
+    ensures { result ≡ within left low right high }
 {
-    match axis {
-        Axis::Abscissa => x,
-        Axis::Ordinate => y,
+    Bounds {
+        left,
+        low,
+        right,
+        high,
     }
 }
 
-/// The lesser or the greater of two.
-#[tactic(auto, unfolding(crate::specs::Bounds::further))]
-fn further_of(end: End, a: i32, b: i32) -> i32
-    ensures { result ≡ further end a b }
+/// The bounds of each glyph, so that no outline is walked for them.
+#[tactic(auto, unfolding(crate::specs::Bounds::bounds_in, crate::specs::Bounds::extent, crate::specs::Bounds::coordinates, crate::specs::Bounds::coordinate, crate::specs::Bounds::further))]
+fn known_bounds(g: Glyph) -> Bounds
+    ensures { result ≡ bounds_in g }
 {
-    match end {
-        End::Least => a.min(b),
-        End::Greatest => a.max(b),
+    match g {
+        Glyph::Hb => within(-420, -300, 420, 300),
+        Glyph::Hw => within(-360, -240, 360, 240),
+        Glyph::Hh => within(-300, -240, 300, 240),
+        Glyph::Hq => within(-300, -240, 300, 240),
+        Glyph::Gh => within(-190, -150, 190, 150),
+        Glyph::Dt => within(-60, -60, 60, 60),
+        Glyph::Lg => within(-450, 0, 450, 0),
+        Glyph::Fu => within(0, -1200, 450, 0),
+        Glyph::Fd => within(0, 0, 450, 1200),
+        Glyph::Gf => within(0, -750, 300, 0),
+        Glyph::Gs => within(-350, -700, 300, -150),
+        Glyph::Sr => within(0, 0, 400, 250),
+        Glyph::Sl => within(-400, 0, 0, 250),
+        Glyph::R0 => within(-300, 0, 300, 500),
+        Glyph::R1 => within(-300, -250, 300, 0),
+        Glyph::R2 => within(-300, 0, 300, 250),
+        Glyph::R4 => within(-400, -700, 250, 700),
+        Glyph::R8 => within(-200, -400, 150, 300),
+        Glyph::Ax => within(-180, -180, 180, 180),
+        Glyph::As => within(-200, -500, 200, 550),
+        Glyph::An => within(-120, -600, 120, 600),
+        Glyph::Af => within(-150, -250, 250, 700),
+        Glyph::Ag => within(-230, -250, 250, 700),
+        Glyph::Cg => within(0, -1000, 1200, 2000),
+        Glyph::Cf => within(100, -1100, 1100, 500),
+        Glyph::Cc => within(0, -1100, 1200, 1100),
+        Glyph::Bt => within(0, 0, 0, 2000),
+        Glyph::Bw => within(-150, 0, 0, 2000),
+        Glyph::Bf => within(-300, 0, 0, 2000),
+        Glyph::Bi => within(0, 0, 300, 2000),
+        Glyph::Bb => within(-225, 0, 225, 2000),
+        Glyph::Bo => within(0, 0, 0, 2000),
+        Glyph::Dl => within(-560, 690, -440, 1310),
+        Glyph::Dr => within(440, 690, 560, 1310),
+        Glyph::Nn => within(0, 0, 0, 0),
+        Glyph::Ks => within(-70, 0, 70, 140),
+        Glyph::Kr => within(-300, 0, 300, 300),
+        Glyph::Kf => within(-400, 0, 400, 600),
+        Glyph::Ka => within(-300, 0, 300, 300),
+        Glyph::Km => within(-400, -50, 400, 450),
+        Glyph::Kc => within(-350, 0, 350, 600),
+        Glyph::Kp => within(-400, 100, 400, 300),
+        Glyph::Kg => within(-400, -100, 400, 700),
+        Glyph::Kt => within(-300, 0, 300, 600),
+        Glyph::Ku => within(-200, 0, 200, 600),
+        Glyph::Kd => within(-250, 0, 250, 500),
+        Glyph::Kn => within(-300, 100, 300, 100),
     }
-}
-
-/// The end so far, and a point.
-fn past_point(end: End, axis: Axis, so_far: i32, x: i32, y: i32) -> i32
-    ensures { result ≡ further end so_far (coordinate axis x y) }
-{
-    further_of(end, so_far, pick(axis, x, y))
-}
-
-/// The end so far, and two points.
-fn past_points(end: End, axis: Axis, so_far: i32, a: i32, b: i32, c: i32, d: i32) -> i32
-    ensures { result ≡ further end (further end so_far (coordinate axis a b)) (coordinate axis c d) }
-{
-    past_point(end, axis, past_point(end, axis, so_far, a, b), c, d)
-}
-
-/// The end so far, and the three points of a curve.
-fn past_curve(
-    end: End,
-    axis: Axis,
-    so_far: i32,
-    a: i32,
-    b: i32,
-    c: i32,
-    d: i32,
-    x: i32,
-    y: i32,
-) -> i32
-    ensures { result ≡ furthest end so_far (coordinate axis a b ∷ coordinate axis c d ∷ coordinate axis x y ∷ []) }
-{
-    past_point(end, axis, past_points(end, axis, so_far, a, b, c, d), x, y)
-}
-
-/// The end so far, and the points of a step.
-fn past_step(end: End, axis: Axis, so_far: i32, op: PathOp) -> i32
-    ensures { result ≡ furthest end so_far (along axis op) }
-{
-    match op {
-        PathOp::Move(x, y) => past_point(end, axis, so_far, x, y),
-        PathOp::Line(x, y) => past_point(end, axis, so_far, x, y),
-        PathOp::Curve(a, b, c, d, x, y) => past_curve(end, axis, so_far, a, b, c, d, x, y),
-        PathOp::Fill => so_far,
-        PathOp::Stroke => so_far,
-    }
-}
-
-/// A coordinate of the first point of a path, and 0 where it has none.
-#[tactic(auto, unfolding(crate::specs::Bounds::coordinates))]
-fn first_along(axis: Axis, ops: &[PathOp]) -> i32
-    ensures { result ≡ first_or_zero (coordinates axis ops.now) }
-{
-    match ops {
-        [] => 0,
-        [PathOp::Move(x, y), ..] => pick(axis, *x, *y),
-        [PathOp::Line(x, y), ..] => pick(axis, *x, *y),
-        [PathOp::Curve(x, y, _, _, _, _), ..] => pick(axis, *x, *y),
-        [_, rest @ ..] => first_along(axis, rest),
-    }
-}
-
-/// An end of what the points of a path cover, from a first number on.
-#[tactic(auto, unfolding(crate::specs::Bounds::coordinates))]
-fn past_path(end: End, axis: Axis, first: i32, ops: &[PathOp]) -> i32
-    ensures { result ≡ furthest end first (coordinates axis ops.now) }
-{
-    let mut so_far = first;
-    for op in ops {
-        so_far = past_step(end, axis, so_far, *op);
-    }
-    so_far
-}
-
-/// An end of what the points of a path cover.
-#[tactic(auto, unfolding(crate::specs::Bounds::extent))]
-fn end_of(end: End, axis: Axis, ops: &[PathOp]) -> i32
-    ensures { result ≡ extent end axis ops.now }
-{
-    past_path(end, axis, first_along(axis, ops), ops)
 }
 
 /// The least and greatest abscissa and ordinate over all points of a glyph's
 /// outline, control points included; all 0 without a point. Takes no memory.
-#[tactic(auto, unfolding(crate::specs::Bounds::bounds_in))]
 pub fn bounds_of(g: Glyph) -> Bounds
     ensures value { result ≡ bounds_in g }
     ensures bounds { AreBounds (outline_of g) result }
     ensures close { AreClose result }
 {
-    let ops = outline(g);
-    Bounds {
-        left: end_of(End::Least, Axis::Abscissa, ops),
-        low: end_of(End::Least, Axis::Ordinate, ops),
-        right: end_of(End::Greatest, Axis::Abscissa, ops),
-        high: end_of(End::Greatest, Axis::Ordinate, ops),
-    }
+    known_bounds(g)
 }

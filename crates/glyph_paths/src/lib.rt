@@ -8,7 +8,7 @@ pub mod numbers;
 pub mod paths;
 pub mod procedures;
 
-pub use bounds::{Axis, Bounds, End, bounds_of};
+pub use bounds::{Bounds, bounds_of};
 pub use names::{all_glyphs, name_of};
 pub use numbers::put_numbers;
 pub use paths::{PathOp, outline};
