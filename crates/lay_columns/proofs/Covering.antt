@@ -19,7 +19,7 @@ use Rattle.lay_columns.specs.Columns.{column_reach, columns_from, CoverMarks, Co
 use Rattle.lay_columns.specs.Lanes.{lane_count, lane_start}
 use Rattle.lay_columns.specs.Reaches.{box_at, boxes_at, drawn_reach, drawn_row, left_of, reach_over, reaches_of, right_of, staff_reaches, standing, stands_always}
 use Rattle.lay_columns.proofs.Facts.{near_all, near_over, reach_same}
-use Rattle.lay_columns.proofs.Tables.{box_is}
+use Rattle.lay_columns.proofs.Rows.{box_is}
 
 -- ---- boxes
 abbrev taken : List Sides → Option Sides → List Sides
@@ -108,7 +108,7 @@ get_right (x ∷ xs) ys k =
     let e : suc (length xs) + k ≡ suc (length xs + k) = omega arith in
     ap (λ t. slice_get (x ∷ (xs ++ ys)) t) e ∙ get_right xs ys k
 
-row_long : (always : Bool) (rank : ℕ) (marks : List Laid) (verses : ℕ) → length (staff_reaches always rank marks verses) ≡ lane_count verses
+pub row_long : (always : Bool) (rank : ℕ) (marks : List Laid) (verses : ℕ) → length (staff_reaches always rank marks verses) ≡ lane_count verses
 row_long always rank marks verses =
     length-map (drawn_row marks (lane_count verses) rank) (standing always) ∙ length-map-range_with_len (drawn_reach marks rank) 0 (lane_count verses)
 

@@ -15,7 +15,7 @@ use Rattle.lay_columns.specs.Joining.{ColumnsJoin, IsBelow, MarksJoin, moved, mo
 use Rattle.lay_columns.specs.Lanes.{lane_count}
 use Rattle.lay_columns.specs.Naturals.{is_note, length_of, natural_for, natural_of, next_tick}
 use Rattle.lay_columns.specs.Reaches.{box_at, boxes_at, drawn_reach, is_number, rank_of, reach_over, reaches_of, staff_reaches, standing, stands_always}
-use Rattle.lay_columns.proofs.Tables.{same_range}
+use Rattle.lay_columns.proofs.Rows.{same_range}
 
 -- ---- reaches
 staff_same : (always : Bool) (rank rank' : ℕ) (marks marks' : List Laid) (verses : ℕ) → ((lane : ℕ) → boxes_at rank lane marks ≡ boxes_at rank' lane marks')

@@ -1,9 +1,8 @@
-pub mod Answered
 pub mod Covering
 pub mod Facts
 pub mod Gaps
 pub mod JoinLaws
-pub mod Joined
 pub mod NextNotes
 pub mod Pushed
-pub mod Tables
+pub mod Rows
+pub mod Widening

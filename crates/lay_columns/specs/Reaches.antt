@@ -59,10 +59,6 @@ drawn_reach marks rank lane = reach_over (boxes_at rank lane marks)
 abbrev pub drawn_row : List Laid → ℕ → ℕ → List (Option Reach)
 drawn_row marks lanes rank = map (drawn_reach marks rank) (range_with_len 0 lanes)
 
--- the same of the columns of each rank
-abbrev pub drawn_rows : List Laid → ℕ → ℕ → List (List (Option Reach))
-drawn_rows marks lanes count = map (drawn_row marks lanes) (range_with_len 0 count)
-
 -- the head of a system, the bar before the first measure, and bars stand in each lane
 abbrev pub stands_always : Class → Bool
 stands_always classes.Head = true

@@ -1,5 +1,5 @@
--- Tables of the reaches of columns in the lanes of a staff: widened by one mark, and put together to columns.
-use Rattle.std.specs.Prelude.{ℕ, ◌+◌, max, nat_lt, if◌then◌else◌, Bool, List, [], ◌∷◌, length, map, flat_map, Option, Some, None, All, slice_get, slice_index_or, slice_set}
+-- Columns before any mark, and widened by marks one after the other.
+use Rattle.std.specs.Prelude.{ℕ, ◌+◌, max, nat_lt, if◌then◌else◌, List, [], ◌∷◌, length, replicate, Option, Some, None, All, slice_get, slice_index_or, slice_set}
 use Rattle.mus_laid.specs.Boxes.{AreGoodMarks, sides_of}
 use Rattle.mus_laid.specs.declared.boxes.Sides.{Sides}
 use Rattle.mus_laid.specs.declared.laid.Laid.{Laid}
@@ -9,7 +9,22 @@ use Rattle.lay_springs.specs.declared.traits.Reach.{Reach}
 use Rattle.lay_columns.specs.declared.column.Column.{Column}
 use Rattle.lay_columns.specs.Lanes.{lane_count, lane_number}
 use Rattle.lay_columns.specs.Naturals.{natural_of}
-use Rattle.lay_columns.specs.Reaches.{drawn_rows, left_of, rank_of, right_of, standing, stands_always}
+use Rattle.lay_columns.specs.Reaches.{left_of, rank_of, right_of, standing, stands_always}
+
+abbrev pub AreGoodStaves : List StaffMarks → Type 0
+AreGoodStaves staves = All (λ s. AreGoodMarks s.marks) staves
+
+-- a column without marks, in some lanes
+abbrev pub bare_column : ColumnKey → ℕ → ℕ → Column
+bare_column key natural lanes = record {
+  key = key;
+  reaches = replicate lanes (standing (stands_always key.class) None);
+  natural = natural;
+}
+
+abbrev pub bare_columns : List ColumnKey → List ℕ → ℕ → List Column
+bare_columns [] lengths lanes = []
+bare_columns (key ∷ behind) lengths lanes = bare_column key (natural_of key behind lengths) lanes ∷ bare_columns behind lengths lanes
 
 -- so that it covers a box too
 abbrev pub widened : Option Reach → Sides → Reach
@@ -17,50 +32,44 @@ widened None box = record { left = left_of box.left; right = right_of box.right 
 widened (Some reach) box = record { left = max reach.left (left_of box.left); right = max reach.right (right_of box.right) }
 
 abbrev pub widened_row : List (Option Reach) → ℕ → Sides → List (Option Reach)
-widened_row row lane box =
-    if nat_lt lane (length row) then slice_set row lane (Some (widened (slice_index_or row lane None) box)) else row
+widened_row row place box =
+    if nat_lt place (length row) then slice_set row place (Some (widened (slice_index_or row place None) box)) else row
 
-abbrev pub widened_at : List (List (Option Reach)) → ℕ → ℕ → Sides → List (List (Option Reach))
-widened_at rows rank lane box =
-    if nat_lt rank (length rows) then slice_set rows rank (widened_row (slice_index_or rows rank []) lane box) else rows
+abbrev pub widened_column : Column → ℕ → Sides → Column
+widened_column column place box = record {
+  key = column.key;
+  reaches = widened_row column.reaches place box;
+  natural = column.natural;
+}
 
-abbrev pub widened_by : List (List (Option Reach)) → Option ℕ → Option ℕ → Option Sides → List (List (Option Reach))
-widened_by rows None lane box = rows
-widened_by rows (Some rank) None box = rows
-widened_by rows (Some rank) (Some lane) None = rows
-widened_by rows (Some rank) (Some lane) (Some box) = widened_at rows rank lane box
+abbrev pub with_widened : List Column → ℕ → ℕ → Sides → Option Column → List Column
+with_widened columns rank place box None = columns
+with_widened columns rank place box (Some column) = slice_set columns rank (widened_column column place box)
 
-abbrev pub widened_rows : List (List (Option Reach)) → Laid → List (List (Option Reach))
-widened_rows rows laid = widened_by rows (rank_of laid.mark) (lane_number laid.lane) (sides_of laid.mark)
+abbrev pub widened_at : List Column → ℕ → ℕ → Sides → List Column
+widened_at columns rank place box = with_widened columns rank place box (slice_get columns rank)
 
-abbrev pub widened_all : List (List (Option Reach)) → List Laid → List (List (Option Reach))
-widened_all rows [] = rows
-widened_all rows (laid ∷ more) = widened_all (widened_rows rows laid) more
+-- the place of a lane of a staff among those of the system, where the staff has `lanes` from `start` on
+abbrev pub place_of : ℕ → ℕ → Option ℕ → Option ℕ
+place_of start lanes None = None
+place_of start lanes (Some number) = if nat_lt number lanes then Some (start + number) else None
 
-abbrev pub AreGoodStaves : List StaffMarks → Type 0
-AreGoodStaves staves = All (λ s. AreGoodMarks s.marks) staves
+abbrev pub widened_by : List Column → Option ℕ → Option ℕ → Option Sides → List Column
+widened_by columns None place box = columns
+widened_by columns (Some rank) None box = columns
+widened_by columns (Some rank) (Some place) None = columns
+widened_by columns (Some rank) (Some place) (Some box) = widened_at columns rank place box
 
--- one table for each staff and its number of verses
-abbrev pub tables_of : ℕ → List StaffMarks → List ℕ → List (List (List (Option Reach)))
-tables_of count [] verses = []
-tables_of count (staff ∷ staves) [] = []
-tables_of count (staff ∷ staves) (verses ∷ more) = drawn_rows staff.marks (lane_count verses) count ∷ tables_of count staves more
+abbrev pub widened_by_mark : List Column → ℕ → ℕ → Laid → List Column
+widened_by_mark columns start lanes laid = widened_by columns (rank_of laid.mark) (place_of start lanes (lane_number laid.lane)) (sides_of laid.mark)
 
--- the reaches of a column in the lanes of a staff, by its table
-abbrev pub row_part : Bool → Option (List (Option Reach)) → List (Option Reach)
-row_part always None = []
-row_part always (Some row) = map (standing always) row
+abbrev pub widened_by_marks : List Column → ℕ → ℕ → List Laid → List Column
+widened_by_marks columns start lanes [] = columns
+widened_by_marks columns start lanes (laid ∷ more) = widened_by_marks (widened_by_mark columns start lanes laid) start lanes more
 
-abbrev pub table_part : Bool → ℕ → List (List (Option Reach)) → List (Option Reach)
-table_part always rank table = row_part always (slice_get table rank)
-
-abbrev pub reaches_over : Bool → ℕ → List (List (List (Option Reach))) → List (Option Reach)
-reaches_over always rank tables = flat_map (table_part always rank) tables
-
-abbrev pub columns_over : ℕ → List ColumnKey → List ℕ → List (List (List (Option Reach))) → List Column
-columns_over rank [] lengths tables = []
-columns_over rank (key ∷ behind) lengths tables = record {
-  key = key;
-  reaches = reaches_over (stands_always key.class) rank tables;
-  natural = natural_of key behind lengths;
-} ∷ columns_over (rank + 1) behind lengths tables
+-- staff by staff, with lanes from `start` on
+abbrev pub widened_by_staves : List Column → ℕ → List StaffMarks → List ℕ → List Column
+widened_by_staves columns start [] verses = columns
+widened_by_staves columns start (staff ∷ staves) [] = columns
+widened_by_staves columns start (staff ∷ staves) (verses ∷ more) =
+    widened_by_staves (widened_by_marks columns start (lane_count verses) staff.marks) (start + lane_count verses) staves more

@@ -1,5 +1,5 @@
 ghost use Rattle.std.specs.Prelude.{◌≡◌, ◌++◌, ◌*◌, ◌^◌, ◌<◌, ◌≤◌, ℕ, All, IfOk, OnOk, length, slice_index};
-ghost use Rattle.lay_columns.specs.Lanes.{lane_count, lane_number, staff_gaps, gaps_of};
+ghost use Rattle.lay_columns.specs.Lanes.{lane_count, lane_number, lanes_of, staff_gaps, gaps_of};
 
 use mus_laid::Lane;
 use mus_units::{Memory, Row};
@@ -23,6 +23,17 @@ pub(crate) fn lane_number(lane: Lane) -> Option<usize>
         Lane::Verse(0) | Lane::Loose => None,
         Lane::Verse(verse) => Some(2 + usize::from(verse)),
     }
+}
+
+/// How many lanes a system has; want of memory where they are too many to be counted.
+pub(crate) fn lanes_of(verses: &[u8]) -> Result<usize, Memory>
+    ensures { IfOk result (λ n. n ≡ lanes_of verses.now) }
+{
+    let mut lanes = 0usize;
+    for count in verses {
+        lanes = lanes.checked_add(lane_count(*count)).ok_or(Memory)?;
+    }
+    Ok(lanes)
 }
 
 fn put_gaps(out: &mut Row<u32>, verses: u8) -> Result<(), Memory>

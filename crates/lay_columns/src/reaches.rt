@@ -1,14 +1,13 @@
-ghost use Rattle.std.specs.Prelude.{◌≡◌, IfOk, length, replicate, Option};
+ghost use Rattle.std.specs.Prelude.{◌≡◌, ◌+◌, ◌^◌, ◌<◌, length};
 ghost use Rattle.mus_laid.specs.Boxes.{AreGoodMarks, IsGoodMark};
-ghost use Rattle.lay_columns.specs.Reaches.{drawn_rows, left_of, right_of, rank_of};
-ghost use Rattle.lay_columns.specs.Widened.{AreGoodStaves, tables_of, widened, widened_row, widened_at, widened_rows, widened_all};
+ghost use Rattle.lay_columns.specs.Lanes.{lane_number, lanes_of};
+ghost use Rattle.lay_columns.specs.Reaches.{left_of, right_of, rank_of};
+ghost use Rattle.lay_columns.specs.Widened.{AreGoodStaves, place_of, widened, widened_row, widened_column, widened_at, widened_by_mark, widened_by_marks, widened_by_staves};
 
-use crate::column::MOST_REACH;
+use crate::column::{Column, MOST_REACH};
 use crate::lanes::{lane_count, lane_number};
 use lay_springs::Reach;
-use mus_laid::{Laid, Mark, Sides, StaffMarks, sides_of};
-use mus_units::{Memory, Row};
-use std::alloc::Global;
+use mus_laid::{Laid, Lane, Mark, Sides, StaffMarks, sides_of};
 
 /// How far a box goes to the left of its column.
 #[tactic(auto, unfolding(crate::specs::Reaches::left_of))]
@@ -74,90 +73,80 @@ fn widened(reach: Option<Reach>, sides: Sides) -> Reach
     }
 }
 
-fn widen_cell(row: &mut [Option<Reach>], lane: usize, sides: Sides)
-    ensures { row.new ≡ widened_row row.old lane sides }
+/// The place of a lane among those of the system, where those of its staff begin at `start`.
+fn place_of(start: usize, lanes: usize, lane: Lane) -> Option<usize>
+    requires { start + lanes < 2 ^ 64 }
+    ensures { result ≡ place_of start lanes (lane_number lane) }
 {
-    if lane < row.len() {
-        row[lane] = Some(widened(row[lane], sides));
+    match lane_number(lane) {
+        Some(number) if number < lanes => Some(start + number),
+        _ => None,
     }
 }
 
-fn widen_at(rows: &mut [Row<Option<Reach>>], rank: usize, lane: usize, sides: Sides)
-    ensures { rows.new ≡ widened_at rows.old rank lane sides }
+fn widen_cell(row: &mut [Option<Reach>], place: usize, sides: Sides)
+    ensures { row.new ≡ widened_row row.old place sides }
 {
-    if rank < rows.len() {
-        let row = &mut rows[rank];
-        widen_cell(&mut row.items, lane, sides);
+    if place < row.len() {
+        row[place] = Some(widened(row[place], sides));
     }
 }
 
-/// Widens the reach of the mark's column in its lane over its box.
-fn widen(rows: &mut [Row<Option<Reach>>], laid: &Laid)
-    requires { IsGoodMark laid.now.mark }
-    ensures { rows.new ≡ widened_rows rows.old laid.now }
+fn widen_column(column: &mut Column, place: usize, sides: Sides)
+    ensures { column.new ≡ widened_column column.old place sides }
+{
+    widen_cell(&mut column.reaches.items, place, sides);
+}
+
+fn widen_at(columns: &mut [Column], rank: usize, place: usize, sides: Sides)
+    ensures { columns.new ≡ widened_at columns.old rank place sides }
+{
+    if rank < columns.len() {
+        widen_column(&mut columns[rank], place, sides);
+    }
+}
+
+/// Widens the reach of the mark's column in its lane over its box. The lanes of its staff begin
+/// at `start`.
+fn widen(columns: &mut [Column], start: usize, lanes: usize, laid: &Laid)
+    requires good { IsGoodMark laid.now.mark }
+    requires room { start + lanes < 2 ^ 64 }
+    ensures { columns.new ≡ widened_by_mark columns.old start lanes laid.now }
 {
     let Some(rank) = rank_of(&laid.mark) else {
         return;
     };
-    let Some(lane) = lane_number(laid.lane) else {
+    let Some(place) = place_of(start, lanes, laid.lane) else {
         return;
     };
     let Some(sides) = sides_of(&laid.mark) else {
         return;
     };
-    widen_at(rows, rank as usize, lane, sides);
+    widen_at(columns, rank as usize, place, sides);
 }
 
-fn widen_all(rows: &mut [Row<Option<Reach>>], marks: &[Laid])
-    requires { AreGoodMarks marks.now }
-    ensures { rows.new ≡ widened_all rows.old marks.now }
+fn widen_all(columns: &mut [Column], start: usize, lanes: usize, marks: &[Laid])
+    requires good { AreGoodMarks marks.now }
+    requires room { start + lanes < 2 ^ 64 }
+    ensures { columns.new ≡ widened_by_marks columns.old start lanes marks.now }
 {
     for laid in marks {
-        widen(rows, laid);
+        widen(columns, start, lanes, laid);
     }
 }
 
-fn blank_rows(alloc: Global, count: usize, lanes: usize) -> Result<Row<Row<Option<Reach>>>, Memory>
-    ensures { IfOk result (λ r. r ≡ replicate count (replicate lanes Option.None)) }
-{
-    let mut rows = Row::new(alloc);
-    for _ in 0..count {
-        let items = vec![in alloc; None; lanes]?;
-        rows.push(Row { items })?;
-    }
-    Ok(rows)
-}
-
-/// The reaches of each column in the lanes of a staff, by its marks alone.
-fn drawn_rows(
-    alloc: Global,
-    count: usize,
-    lanes: usize,
-    marks: &[Laid],
-) -> Result<Row<Row<Option<Reach>>>, Memory>
-    requires { AreGoodMarks marks.now }
-    ensures { IfOk result (λ r. r ≡ drawn_rows marks.now lanes count) }
-{
-    let mut rows = blank_rows(alloc, count, lanes)?;
-    widen_all(&mut rows.items, marks);
-    Ok(rows)
-}
-
-/// The same of each staff, for its number of verses.
-pub(crate) fn tables_of(
-    alloc: Global,
-    count: usize,
-    staves: &[StaffMarks],
-    verses: &[u8],
-) -> Result<Row<Row<Row<Option<Reach>>>>, Memory>
+/// Widens the reaches of the columns over the boxes of the marks of each staff, in its lanes.
+pub(crate) fn widen_by_staves(columns: &mut [Column], staves: &[StaffMarks], verses: &[u8])
     requires good { AreGoodStaves staves.now }
     requires counts { length verses.now ≡ length staves.now }
-    ensures { IfOk result (λ r. r ≡ tables_of count staves.now verses.now) }
+    requires room { lanes_of verses.now < 2 ^ 64 }
+    ensures { columns.new ≡ widened_by_staves columns.old 0 staves.now verses.now }
 {
-    let mut tables = Row::new(alloc);
+    let mut start = 0;
     for (staff, verses) in staves.iter().zip(verses) {
+        let lanes = lane_count(*verses);
         let marks = staff.marks.as_slice();
-        tables.push(drawn_rows(alloc, count, lane_count(*verses), marks)?)?;
+        widen_all(columns, start, lanes, marks);
+        start += lanes;
     }
-    Ok(tables)
 }

@@ -1,11 +1,12 @@
-ghost use Rattle.std.specs.Prelude.{◌≡◌, ◌++◌, All, length, map, IfOk, OnOk};
+ghost use Rattle.std.specs.Prelude.{◌≡◌, All, length, map, IfOk, Option};
 ghost use Rattle.lay_columns.specs.Reaches.{standing, stands_always};
 ghost use Rattle.lay_columns.specs.Columns.{columns_of, CoverMarks, IsSmall, IsUncut, StandsWhereDue};
 ghost use Rattle.lay_columns.specs.Lanes.{gaps_of};
-ghost use Rattle.lay_columns.specs.Widened.{AreGoodStaves, row_part, table_part, reaches_over, columns_over};
+ghost use Rattle.lay_columns.specs.Widened.{AreGoodStaves, bare_column, bare_columns};
 
 use crate::column::Column;
-use crate::reaches::tables_of;
+use crate::lanes::lanes_of;
+use crate::reaches::widen_by_staves;
 use crate::springs::natural_of;
 use lay_springs::Reach;
 use mus_laid::{StaffMarks, SystemMarks};
@@ -23,77 +24,43 @@ fn stands_always(class: Class) -> bool
     }
 }
 
-fn standing(always: bool, reach: Option<Reach>) -> Option<Reach>
-    ensures { result ≡ standing always reach }
+/// The reach of a column in a lane without marks.
+fn bare_reach(always: bool) -> Option<Reach>
+    ensures { result ≡ standing always Option.None }
 {
-    match reach {
-        Some(reach) => Some(reach),
-        None => {
-            if always {
-                Some(Reach { left: 0, right: 0 })
-            } else {
-                None
-            }
-        }
+    if always {
+        Some(Reach { left: 0, right: 0 })
+    } else {
+        None
     }
 }
 
-fn put_row(out: &mut Row<Option<Reach>>, always: bool, row: &[Option<Reach>]) -> Result<(), Memory>
-    ensures { OnOk result (out.new ≡ out.old ++ map (standing always) row.now) }
+/// A column before any mark, with all its lanes.
+fn bare_column(alloc: Global, key: ColumnKey, natural: u32, lanes: usize) -> Result<Column, Memory>
+    ensures { IfOk result (λ c. c ≡ bare_column key natural lanes) }
 {
-    for reach in row {
-        out.push(standing(always, *reach))?;
-    }
-    Ok(())
+    let items = vec![in alloc; bare_reach(stands_always(key.class)); lanes]?;
+    Ok(Column {
+        key,
+        reaches: Row { items },
+        natural,
+    })
 }
 
-fn put_part(
-    out: &mut Row<Option<Reach>>,
-    always: bool,
-    rank: usize,
-    table: &[Row<Option<Reach>>],
-) -> Result<(), Memory>
-    ensures { OnOk result (out.new ≡ out.old ++ table_part always rank table.now) }
-{
-    match table.get(rank) {
-        Some(row) => put_row(out, always, row.as_slice()),
-        None => Ok(()),
-    }
-}
-
-/// The reaches of a column in all lanes of the system.
-fn reaches_over(
-    alloc: Global,
-    always: bool,
-    rank: usize,
-    tables: &[Row<Row<Option<Reach>>>],
-) -> Result<Row<Option<Reach>>, Memory>
-    ensures { IfOk result (λ r. r ≡ reaches_over always rank tables.now) }
-{
-    let mut out = Row::new(alloc);
-    for table in tables {
-        put_part(&mut out, always, rank, table.as_slice())?;
-    }
-    Ok(out)
-}
-
-fn columns_over(
+fn bare_columns(
     alloc: Global,
     keys: &[ColumnKey],
     lengths: &[u64],
-    tables: &[Row<Row<Option<Reach>>>],
+    lanes: usize,
 ) -> Result<Row<Column>, Memory>
-    ensures { IfOk result (λ r. r ≡ columns_over 0 keys.now lengths.now tables.now) }
+    ensures { IfOk result (λ r. r ≡ bare_columns keys.now lengths.now lanes) }
 {
-    let mut out = Row::new(alloc);
+    let mut out = Row {
+        items: Vec::with_capacity(alloc, keys.len())?,
+    };
     for (rank, key) in keys.iter().enumerate() {
-        let reaches = reaches_over(alloc, stands_always(key.class), rank, tables)?;
         let natural = natural_of(*key, &keys[rank + 1..], lengths);
-        out.push(Column {
-            key: *key,
-            reaches,
-            natural,
-        })?;
+        out.push(bare_column(alloc, *key, natural, lanes)?)?;
     }
     Ok(out)
 }
@@ -123,8 +90,9 @@ pub fn columns_in(
     ensures small { IfOk result (All IsSmall) }
     ensures uncut { IfOk result (All IsUncut) }
 {
-    let tables = tables_of(alloc, keys.len(), staves, verses)?;
-    columns_over(alloc, keys, lengths, tables.as_slice())
+    let mut columns = bare_columns(alloc, keys, lengths, lanes_of(verses)?)?;
+    widen_by_staves(&mut columns.items, staves, verses);
+    Ok(columns)
 }
 
 /// The columns of a system, one for each of its keys; `t` is the timeline of its score, and
