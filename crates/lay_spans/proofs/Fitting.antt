@@ -1,6 +1,7 @@
 -- Which spans fit.
-use Rattle.std.proofs.Common.{◌≡◌, ℕ, zero, suc, ◌+◌, ◌-◌, ◌<◌, ◌≤◌, List, [], ◌∷◌, ◌++◌, length, map, Option, None, Some, option_map, option_and_then, unwrap_or, slice_get, slice_index_or, arith, sym, ◌∙◌, ap, subst, refl, length-append}
+use Rattle.std.proofs.Common.{◌≡◌, ℕ, zero, suc, ◌+◌, ◌-◌, ◌<◌, ◌≤◌, List, [], ◌∷◌, ◌++◌, length, map, Option, None, Some, option_map, option_and_then, unwrap_or, slice_get, slice_index_or, arith, sym, ◌∙◌, ap, subst, refl, inl, inr, length-append}
 use Rattle.std.proofs.Math.Path.{fun_ext}
+use Rattle.std.proofs.lemmas.Bool.{cases_lt}
 use Rattle.std.proofs.lemmas.Option.{slice_get_past}
 use Rattle.std.proofs.lemmas.List.{append_assoc, length-map}
 use Rattle.lay_springs.specs.declared.traits.Reach.{Reach}
@@ -9,14 +10,14 @@ use Rattle.lay_springs.specs.Fit.{Fits, Passes, CanStand, StandsInAll}
 use Rattle.lay_springs.proofs.Longer.{cannot_stand, longer_fits_less}
 use Rattle.lay_spans.specs.Columns.{span_columns, AreMeasures}
 use Rattle.lay_spans.specs.SpanList.{StandsAt, IsForce}
-use Rattle.lay_spans.proofs.Adding.{columns_continue, ends_so}
+use Rattle.lay_spans.proofs.Adding.{columns_some, columns_continue, ends_so}
 
 -- a longer span can't stand where a shorter one can't
-pub longer_stands : {C : Type 0} (reach : C → ℕ → Option Reach) (len : C → ℕ → ℕ) (gaps : List ℕ) (width : ℕ) (starts others : List (List C)) (a b c : ℕ)
+pub longer_stands : {C : Type 0} (reach : C → ℕ → Option Reach) (len : C → ℕ → ℕ) (gaps : List ℕ) (width force : ℕ) (starts others : List (List C)) (a b c : ℕ)
     → AreMeasures reach (length gaps) starts others → a < b → b < c → c ≤ length starts
     → 0 < length (span_columns starts others a b)
-    → StandsAt reach len gaps width 0 (span_columns starts others a c) → StandsAt reach len gaps width 0 (span_columns starts others a b)
-longer_stands reach len gaps width starts others a b c h l m n some stands =
+    → StandsAt reach len gaps width force (span_columns starts others a c) → StandsAt reach len gaps width force (span_columns starts others a b)
+longer_stands reach len gaps width force starts others a b c h l m n some stands =
     let d : ℕ = c - b - 1 in
     let same : b + (c - b - 1) + 1 ≡ c = omega arith in
     let longer = columns_continue starts others a b (c - b - 1) l (omega arith) h.same in
@@ -24,11 +25,22 @@ longer_stands reach len gaps width starts others a b c h l m n some stands =
     let ends = h.ended (b + (c - b - 1)) (omega arith) in
     let rest = longer.0 ++ last in
     let is : span_columns starts others a c ≡ span_columns starts others a b ++ rest = sym (ap (λ i. span_columns starts others a i) same) ∙ longer.1 in
-    longer_fits_less reach len (span_columns starts others a b) rest gaps width 0 some
+    longer_fits_less reach len (span_columns starts others a b) rest gaps width force some
     (let n = length-append longer.0 last in let k = ends.some in omega arith)
     (subst (λ columns. StandsInAll (reach_at reach columns (length columns - 1)) (length gaps)) (append_assoc (span_columns starts others a b) longer.0 last)
     (ends_so reach (length gaps) (span_columns starts others a b ++ longer.0) last ends))
-    (subst (λ columns. StandsAt reach len gaps width 0 columns) is stands)
+    (subst (λ columns. StandsAt reach len gaps width force columns) is stands)
+
+-- a force that is too great for a span is too great for the span with one measure more
+pub still_above : {C : Type 0} (reach : C → ℕ → Option Reach) (len : C → ℕ → ℕ) (gaps : List ℕ) (width most : ℕ) (starts others : List (List C)) (a m : ℕ)
+    → AreMeasures reach (length gaps) starts others → a < length starts → m < length starts
+    → ((g : ℕ) → most < g → g ≤ 2048 → (a < m) × (StandsAt reach len gaps width g (span_columns starts others a m) → ⊥))
+    → (g : ℕ) → most < g → g ≤ 2048 → StandsAt reach len gaps width g (span_columns starts others a (m + 1)) → ⊥
+still_above reach len gaps width most starts others a m h inside l before g past within stands =
+    let shorter = before g past within in
+    let some = shorter.0 in
+    shorter.1 (longer_stands reach len gaps width g starts others a m (m + 1) h some (omega arith) (omega arith)
+    (columns_some starts others a m some (h.begun a inside)) stands)
 
 -- Columns that stand elsewhere, by the columns that they are.
 get_mapped : {D C : Type 0} (f : D → C) (xs : List D) (i : ℕ) → slice_get (map f xs) i ≡ option_map f (slice_get xs i)
@@ -64,16 +76,20 @@ seen_as f reach len P seen columns e =
     ∙ ap (λ l. P (length (map f seen)) (reach_at reach (map f seen)) l) (seen_length f len seen)
     ∙ ap (λ columns. P (length columns) (reach_at reach columns) (length_at len columns)) e
 
-pub force_of : {D C : Type 0} (f : D → C) (reach : C → ℕ → Option Reach) (len : C → ℕ → ℕ) (gaps : List ℕ) (width : ℕ)
-    (seen : List D) (columns : List C) (force : ℕ) → map f seen ≡ columns → force ≤ 2048
+pub force_of : {D C : Type 0} (f : D → C) (reach : C → ℕ → Option Reach) (len : C → ℕ → ℕ) (gaps : List ℕ) (width most : ℕ)
+    (seen : List D) (columns : List C) (force : ℕ) → map f seen ≡ columns → most ≤ 2048 → force ≤ most
     → Fits (length seen) (reach_at (λ s lane. reach (f s) lane) seen) gaps (length_at (λ s g. len (f s) g) seen) width force
-    → ((g : ℕ) → force < g → g ≤ 2048
+    → ((g : ℕ) → force < g → g ≤ most
     → CanStand (length seen) (reach_at (λ s lane. reach (f s) lane) seen) gaps (length_at (λ s g. len (f s) g) seen) width g → ⊥)
+    → ((g : ℕ) → most < g → g ≤ 2048 → StandsAt reach len gaps width g columns → ⊥)
     → IsForce reach len gaps width columns force
-force_of f reach len gaps width seen columns force e bound fits greatest = record {
-  bound = bound;
+force_of f reach len gaps width most seen columns force e small bound fits greatest above = record {
+  bound = omega arith;
   fits = subst (λ T. T) (seen_as f reach len (λ n r l. Fits n r gaps l width force) seen columns e) fits;
-  greatest = λ g l m stands. greatest g l m (subst (λ T. T) (sym (seen_as f reach len (λ n r l. CanStand n r gaps l width g) seen columns e)) stands);
+  greatest = λ g l m stands. elim (cases_lt most g) [
+    | inl past ↦ above g past m stands
+    | inr k ↦ greatest g l k (subst (λ T. T) (sym (seen_as f reach len (λ n r l. CanStand n r gaps l width g) seen columns e)) stands)
+  ];
 }
 
 pub never_stands : {D C : Type 0} (f : D → C) (reach : C → ℕ → Option Reach) (len : C → ℕ → ℕ) (gaps : List ℕ) (width : ℕ)

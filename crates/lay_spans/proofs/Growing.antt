@@ -85,7 +85,7 @@ stops_at reach len gaps width starts others forced a m row h inside l e each nev
     | inl same ↦ never (subst (λ b. StandsAt reach len gaps width 0 (span_columns starts others a b)) (sym same) stands)
     | inr d ↦
         let lt : m + 1 < b = grind arith in
-        never (longer_stands reach len gaps width starts others a (m + 1) b h (omega arith) lt within
+        never (longer_stands reach len gaps width 0 starts others a (m + 1) b h (omega arith) lt within
         (columns_some starts others a (m + 1) (omega arith) (h.begun a inside)) stands)
   ]);
 }

@@ -5,7 +5,7 @@ ghost use Rattle.lay_spans.specs.Rows.{IsRowFrom, AreRows, row_spans, rows_spans
 use crate::forces::badness;
 use crate::seen::Seen;
 use lay_breaks::Span;
-use lay_springs::{Spaced, Spring, fit};
+use lay_springs::{Spaced, Spring, fit_within};
 use mus_units::{Memory, Row};
 use std::alloc::Global;
 
@@ -69,15 +69,17 @@ fn row_from<C: Spaced + Spring>(
 {
     let mut seen = Row::new(alloc);
     let mut row = Row::new(alloc);
+    let mut most = 2048;
     for m in a..starts.len() {
         see(&mut seen, measure(starts, others, a, m))?;
-        let Some(force) = fit(seen.as_slice(), gaps, width, scratch) else {
+        let Some(force) = fit_within(seen.as_slice(), gaps, width, most, scratch) else {
             return Ok(row);
         };
         row.push(badness(force, m + 1 == starts.len()))?;
         if marks[m + 1] {
             return Ok(row);
         }
+        most = force;
     }
     Ok(row)
 }

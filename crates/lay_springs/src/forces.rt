@@ -1,7 +1,8 @@
-ghost use Rattle.std.specs.Prelude.{◌≡◌, ◌+◌, ◌^◌, ◌<◌, ◌≤◌, ℕ, ℤ, pos, ◌≤ℤ◌, IfSome, IfNone, MatchBool, length, slice_index};
-ghost use Rattle.lay_springs.specs.Fit.{IsEndOf, Fits, CanStand, LongerFitsLess, Passes};
+ghost use Rattle.std.specs.Prelude.{◌≡◌, ◌+◌, ◌^◌, ◌<◌, ◌≤◌, ℕ, ℤ, pos, ◌≤ℤ◌, IfSome, IfNone, length, slice_index, slice_index_or};
+ghost use Rattle.lay_springs.specs.Fit.{IsEndOf, EndsAt, Fits, CanStand, LongerFitsLess, Passes};
 ghost use Rattle.lay_springs.specs.Place.{reach_at, length_at};
 
+use crate::guesses::{crossing, nearest, tight};
 use crate::least::{larger, settle};
 use crate::traits::{Spaced, Spring};
 
@@ -22,28 +23,29 @@ pub(crate) fn end_of<C: Spaced>(col: &C, lanes: usize, at: i64) -> i64
     end
 }
 
-/// Whether the end at a force is at most the width.
-fn fits_at<C: Spaced + Spring>(
+/// Where the columns end at a force.
+fn end_at<C: Spaced + Spring>(
     cols: &[C],
     gaps: &[u32],
-    width: u32,
     force: u16,
     at: &mut [i64],
     front: &mut [i64],
-) -> bool
+) -> i64
     requires some { 0 < length cols.now }
     requires few { length cols.now ≤ 200000 }
     requires lanes { length gaps.now < 2 ^ 32 }
     requires narrow { (lane : ℕ) → lane < length gaps.now → slice_index gaps.now lane ≤ 2 ^ 20 }
     requires room { length at.old ≡ length cols.now }
     requires one_each { length front.old ≡ length gaps.now }
-    ensures { MatchBool result
-        (Fits (length cols.now) (reach_at C.reach_of cols.now) gaps.now (length_at C.length_of cols.now) width force)
-        (Passes (length cols.now) (reach_at C.reach_of cols.now) gaps.now (length_at C.length_of cols.now) width force) }
+    ensures end { EndsAt (length cols.now) (reach_at C.reach_of cols.now) gaps.now (length_at C.length_of cols.now) force result }
+    ensures past { pos 0 ≤ℤ result }
+    ensures below { result ≤ℤ pos (2 ^ 41) }
+    ensures small { (k : ℕ) → k < length cols.now
+        → (pos 0 ≤ℤ slice_index_or at.new k (pos 0)) × (slice_index_or at.new k (pos 0) ≤ℤ pos (2 ^ 40)) }
 {
     settle(cols, gaps, force, at, front);
     let last = cols.len() - 1;
-    end_of(&cols[last], gaps.len(), at[last]) <= i64::from(width)
+    end_of(&cols[last], gaps.len(), at[last])
 }
 
 /// The greatest force of 0 to 2048 at which the columns end within the width, in u.
@@ -66,22 +68,50 @@ pub fn fit<C: Spaced + Spring>(
         → CanStand (length cols.now) (reach_at C.reach_of cols.now) gaps.now (length_at C.length_of cols.now) width g → ⊥) }
     ensures none { IfNone result (Passes (length cols.now) (reach_at C.reach_of cols.now) gaps.now (length_at C.length_of cols.now) width 0) }
 {
+    fit_within(cols, gaps, width, 2048, scratch)
+}
+
+/// The greatest force of 0 to `most` at which the columns end within the width, as
+/// `fit` finds it where `most` is 2048. It tries the force at which the line through
+/// the last two ends crosses the width, as far as at most 12 forces in all leave it
+/// the choice.
+pub fn fit_within<C: Spaced + Spring>(
+    cols: &[C],
+    gaps: &[u32],
+    width: u32,
+    most: u16,
+    scratch: &mut [i64],
+) -> Option<u16>
+    requires some { 0 < length cols.now }
+    requires few { length cols.now ≤ 200000 }
+    requires lanes { length gaps.now < 2 ^ 32 }
+    requires narrow { (lane : ℕ) → lane < length gaps.now → slice_index gaps.now lane ≤ 2 ^ 20 }
+    requires most { most ≤ 2048 }
+    requires room { length cols.now + length gaps.now ≤ length scratch.old }
+    ensures bound { IfSome result (λ f. f ≤ most) }
+    ensures fits { IfSome result (Fits (length cols.now) (reach_at C.reach_of cols.now) gaps.now (length_at C.length_of cols.now) width) }
+    ensures greatest { IfSome result (λ f. (g : ℕ) → f < g → g ≤ most
+        → CanStand (length cols.now) (reach_at C.reach_of cols.now) gaps.now (length_at C.length_of cols.now) width g → ⊥) }
+    ensures none { IfNone result (Passes (length cols.now) (reach_at C.reach_of cols.now) gaps.now (length_at C.length_of cols.now) width 0) }
+{
     let (at, rest) = scratch.split_at_mut(cols.len());
     let front = &mut rest[..gaps.len()];
-    if !fits_at(cols, gaps, width, 0, at, front) {
-        return None;
-    }
     let mut low = 0;
-    let mut high = 2049;
-    while low + 1 < high {
-        let force = (low + high) / 2;
-        if fits_at(cols, gaps, width, force, at, front) {
-            low = force;
+    let mut high = most + 1;
+    let mut half = 2048;
+    let mut guess = most.min(1024);
+    while low < high {
+        let force = nearest(guess, low, high, half);
+        let end = end_at(cols, gaps, force, at, front);
+        guess = crossing(force, end as u64, tight(cols, force, at), width);
+        half = half.div_ceil(2);
+        if end <= i64::from(width) {
+            low = force + 1;
         } else {
             high = force;
         }
     }
-    Some(low)
+    if low == 0 { None } else { Some(low - 1) }
 }
 
 /// A law of `fit`: a list of columns that continues another, and whose last column

@@ -110,7 +110,7 @@ pub(crate) fn settle<C: Spaced + Spring>(
     requires one_each { length front.old ≡ length gaps.now }
     ensures place { IsPlace (length cols.now) (reach_at C.reach_of cols.now) gaps.now (length_at C.length_of cols.now force) at.new }
     ensures small { (k : ℕ) → k < length cols.now
-        → (pos 0 ≤ℤ slice_index_or at.new k (pos 0)) × (slice_index_or at.new k (pos 0) ≤ℤ pos (2 ^ 60)) }
+        → (pos 0 ≤ℤ slice_index_or at.new k (pos 0)) × (slice_index_or at.new k (pos 0) ≤ℤ pos (2 ^ 40)) }
 {
     place_first(cols, gaps, force, at, front);
     for j in 1..cols.len() {

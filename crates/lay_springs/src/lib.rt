@@ -6,11 +6,12 @@
 #![tactic(auto)]
 
 pub mod forces;
+mod guesses;
 pub mod least;
 pub mod margin;
 pub mod traits;
 
-pub use forces::{fit, longer_fits_less};
+pub use forces::{fit, fit_within, longer_fits_less};
 pub use least::place;
 pub use margin::{Placed, justify};
 pub use traits::{Reach, Spaced, Spring};

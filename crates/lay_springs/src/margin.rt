@@ -22,7 +22,7 @@ fn spread(at: &mut [i64], rest: u32)
     requires some { 1 < length at.old }
     requires few { length at.old ≤ 200000 }
     requires small { (k : ℕ) → k < length at.old
-        → (pos 0 ≤ℤ slice_index_or at.old k (pos 0)) × (slice_index_or at.old k (pos 0) ≤ℤ pos (2 ^ 60)) }
+        → (pos 0 ≤ℤ slice_index_or at.old k (pos 0)) × (slice_index_or at.old k (pos 0) ≤ℤ pos (2 ^ 40)) }
     ensures { (k : ℕ) → k < length at.old
         → slice_index_or at.new k (pos 0) ≡ (slice_index_or at.old k (pos 0) +ℤ pos (rest * k / (length at.old - 1))) }
 {

@@ -112,6 +112,15 @@ fn fits_as_a_search_over_all_forces(rt: HostRuntime) {
     ] {
         assert_eq!(rt; fit(&cols, &GAPS, width, &mut scratch), wanted);
     }
+    for (width, most, wanted) in [
+        (2029, 300, None),
+        (2030, 0, Some(0)),
+        (3000, 269, Some(269)),
+        (3000, 270, Some(270)),
+        (3000, 1500, Some(270)),
+    ] {
+        assert_eq!(rt; fit_within(&cols, &GAPS, width, most, &mut scratch), wanted);
+    }
     longer_fits_less::<Dot>();
 }
 

@@ -1,19 +1,19 @@
 use Rattle.std.proofs.Common.{◌≡◌, ◌+◌, ◌++◌, ◌<◌, ◌≤◌, ◌∷◌, [], map, length, length-append, false, slice_index_or, arith, sym, ◌∙◌, ap, subst, rules}
 use Rattle.lay_spans.specs.Columns.{span_columns, column_count}
-use Rattle.lay_spans.specs.SpanList.{IsCost}
+use Rattle.lay_spans.specs.SpanList.{IsForce, IsCost}
 use Rattle.lay_spans.proofs.Adding.{columns_some}
-use Rattle.lay_spans.proofs.Fitting.{force_of, never_stands}
+use Rattle.lay_spans.proofs.Fitting.{force_of, still_above, never_stands}
 use Rattle.lay_spans.proofs.Growing.{seen_more, seen_few, costs_more, free_more, stops_at, stops_behind}
 use Rattle.lay_spans.proofs.rows.row_from.Goals as goal
-use Rattle.lay_spans.proofs.rows.row_from.Goals.{After-fit-arg-1, In_ok-push}
+use Rattle.lay_spans.proofs.rows.row_from.Goals.{After-fit_within-arg-1, In_ok-push}
 
-inside : (g : _) (c : After-fit-arg-1 g) → c.loop-m.m < length c.args.starts.now
+inside : (g : _) (c : After-fit_within-arg-1 g) → c.loop-m.m < length c.args.starts.now
 inside g c = let l = c.loop-m-test.true in omega arith
 
-past : (g : _) (c : After-fit-arg-1 g) → c.args.a ≤ c.loop-m.m
+past : (g : _) (c : After-fit_within-arg-1 g) → c.args.a ≤ c.loop-m.m
 past g c = let l = c.loop-m.invariant.count in omega arith
 
-columns : (g : _) (c : After-fit-arg-1 g)
+columns : (g : _) (c : After-fit_within-arg-1 g)
     → map (λ s. s.column.now) c.as_slice.result.now ≡ span_columns c.args.starts.now c.args.others.now c.args.a (c.loop-m.m + 1)
 columns g c =
     ap (λ seen. map (λ s. s.column.now) seen) c.as_slice.ensures
@@ -21,25 +21,36 @@ columns g c =
     (past g c) (inside g c) c.requires.measures.same c.loop-m.invariant.columns
     (c.in_ok-see.ensures ∙ ap (λ r. map (λ s. s.column.now) c.loop-m.seen ++ r) c.measure.ensures)
 
-few : (g : _) (c : After-fit-arg-1 g) → length c.as_slice.result.now ≤ column_count c.args.starts.now + column_count c.args.others.now
+few : (g : _) (c : After-fit_within-arg-1 g) → length c.as_slice.result.now ≤ column_count c.args.starts.now + column_count c.args.others.now
 few g c = seen_few (λ s. s.column.now) c.as_slice.result.now c.args.starts.now c.args.others.now c.args.a (c.loop-m.m + 1) c.requires.inside (columns g c)
 
-pub fit-requires-clause-few : goal.fit-requires-clause-few
-fit-requires-clause-few g c = let k = few g c in let r = c.requires.measures.room in omega arith
+pub fit_within-requires-clause-few : goal.fit_within-requires-clause-few
+fit_within-requires-clause-few g c = let k = few g c in let r = c.requires.measures.room in omega arith
 
-pub fit-requires-clause-room : goal.fit-requires-clause-room
-fit-requires-clause-room g c = let k = few g c in let r = c.loop-m.invariant.room in omega arith
+pub fit_within-requires-clause-room : goal.fit_within-requires-clause-room
+fit_within-requires-clause-room g c = let k = few g c in let r = c.loop-m.invariant.room in omega arith
 
 -- no longer span fits
 pub returns-in_default : goal.returns-in_default
 returns-in_default g c =
-    let b = (goal.at.returns-in_default g c).After-fit-arg-1 in
+    let b = (goal.at.returns-in_default g c).After-fit_within-arg-1 in
     stops_at g.C.Spaced.reach_of g.C.Spring.length_of c.args.gaps.now c.args.width c.args.starts.now c.args.others.now (λ b. slice_index_or c.args.marks.now b false)
     c.args.a c.loop-m.m c.loop-m.row c.requires.measures c.requires.inside (inside g b) c.loop-m.invariant.count c.loop-m.invariant.each
     (never_stands (λ s. s.column.now) g.C.Spaced.reach_of g.C.Spring.length_of c.args.gaps.now c.args.width c.as_slice.result.now
     (span_columns c.args.starts.now c.args.others.now c.args.a (c.loop-m.m + 1)) (columns g b)
     (columns_some c.args.starts.now c.args.others.now c.args.a (c.loop-m.m + 1) (let l = past g b in omega arith) (c.requires.measures.begun c.args.a c.requires.inside))
     c.in_default.ensures.none)
+
+-- the force of the span with this measure
+force : (g : _) (c : In_ok-push g)
+    → map (λ s. s.column.now) c.as_slice.result.now ≡ span_columns c.args.starts.now c.args.others.now c.args.a (c.loop-m.m + 1)
+    → IsForce g.C.Spaced.reach_of g.C.Spring.length_of c.args.gaps.now c.args.width (span_columns c.args.starts.now c.args.others.now c.args.a (c.loop-m.m + 1)) c.in-Some.force
+force g c e =
+    force_of (λ s. s.column.now) g.C.Spaced.reach_of g.C.Spring.length_of c.args.gaps.now c.args.width c.loop-m.most c.as_slice.result.now
+    (span_columns c.args.starts.now c.args.others.now c.args.a (c.loop-m.m + 1)) c.in-Some.force e c.loop-m.invariant.most
+    c.in-Some.ensures.bound c.in-Some.ensures.fits c.in-Some.ensures.greatest
+    (still_above g.C.Spaced.reach_of g.C.Spring.length_of c.args.gaps.now c.args.width c.loop-m.most c.args.starts.now c.args.others.now c.args.a c.loop-m.m
+    c.requires.measures c.requires.inside (let l = c.loop-m-test.true in omega arith) c.loop-m.invariant.above)
 
 -- the span with this measure
 costs : (g : _) (c : In_ok-push g)
@@ -50,9 +61,7 @@ costs g c e = record {
   free = λ h. c.loop-m.invariant.free h.0 h.1 h.2 h.3;
   pressed = (
     c.in-Some.force,
-    force_of (λ s. s.column.now) g.C.Spaced.reach_of g.C.Spring.length_of c.args.gaps.now c.args.width c.as_slice.result.now
-        (span_columns c.args.starts.now c.args.others.now c.args.a (c.loop-m.m + 1)) c.in-Some.force e
-        c.in-Some.ensures.bound c.in-Some.ensures.fits c.in-Some.ensures.greatest,
+    force g c e,
     c.badness.ensures.value,
   );
 }
@@ -78,7 +87,7 @@ count g c =
 
 pub returns-then-marks-m : goal.returns-then-marks-m
 returns-then-marks-m g c =
-    let b = (goal.at.returns-then-marks-m g c).After-fit-arg-1 in
+    let b = (goal.at.returns-then-marks-m g c).After-fit_within-arg-1 in
     let pushed = (goal.at.returns-then-marks-m g c).In_ok-push in
     stops_behind g.C.Spaced.reach_of g.C.Spring.length_of c.args.gaps.now c.args.width c.args.starts.now c.args.others.now (λ b. slice_index_or c.args.marks.now b false)
     c.args.a c.loop-m.m c.push.new.self (inside g b) (count g pushed) (past g b)
@@ -87,12 +96,16 @@ returns-then-marks-m g c =
 
 pub loop-m-preserved : goal.loop-m-preserved
 loop-m-preserved g c =
-    let b = (goal.at.loop-m-preserved g c).After-fit-arg-1 in
+    let b = (goal.at.loop-m-preserved g c).After-fit_within-arg-1 in
     let pushed = (goal.at.loop-m-preserved g c).In_ok-push in
+    let pressed = force g pushed (columns g b) in
+    let l = past g b in
     record {
       columns = sym (ap (λ seen. map (λ s. s.column.now) seen) c.as_slice.ensures) ∙ columns g b;
       count = count g pushed;
       each = each g pushed (columns g b);
       free = free_more (λ b. slice_index_or c.args.marks.now b false) c.args.a c.loop-m.m (search rules) c.loop-m.invariant.free;
-      room = let k = c.fit.auto.scratch in let r = c.loop-m.invariant.room in omega arith;
+      most = let b = pressed.bound in omega arith;
+      above = λ g past within. (omega arith, pressed.greatest g past within);
+      room = let k = c.fit_within.auto.scratch in let r = c.loop-m.invariant.room in omega arith;
     }

@@ -1,6 +1,6 @@
 use Rattle.std.proofs.Common.{◌≡◌, ◌+◌, ◌<◌, ◌≤◌, ℕ, length, map, slice_index, slice_index_or, true, false}
 use Rattle.lay_spans.specs.Columns.{span_columns, column_count}
-use Rattle.lay_spans.specs.SpanList.{IsCost}
+use Rattle.lay_spans.specs.SpanList.{StandsAt, IsCost}
 use Rattle.lay_spans.proofs.rows.row_from.Given as goal
 
 abbrev pub invariant-loop-m : goal.invariant-loop-m
@@ -10,5 +10,7 @@ invariant-loop-m g l = record {
   each : (k : ℕ) → k < length l.row
       → IsCost g.C.Spaced.reach_of g.C.Spring.length_of l.gaps l.width l.starts l.others (λ b. slice_index_or l.marks b false) l.a (l.a + 1 + k) (slice_index l.row k);
   free : (f : ℕ) → l.a < f → f < l.m + 1 → slice_index_or l.marks f false ≡ true → ⊥;
+  most : l.most ≤ 2048;
+  above : (f : ℕ) → l.most < f → f ≤ 2048 → (l.a < l.m) × (StandsAt g.C.Spaced.reach_of g.C.Spring.length_of l.gaps l.width f (span_columns l.starts l.others l.a l.m) → ⊥);
   room : column_count l.starts + column_count l.others + length l.gaps ≤ length l.scratch;
 }

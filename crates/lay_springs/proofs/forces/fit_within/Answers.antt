@@ -2,11 +2,16 @@ use Rattle.std.proofs.Common.{length, arith}
 use Rattle.lay_springs.specs.Place.{reach_at, length_at}
 use Rattle.lay_springs.proofs.Ends.{length_rises}
 use Rattle.lay_springs.proofs.Longer.{cannot_stand}
-use Rattle.lay_springs.proofs.forces.fit.Goals as goal
+use Rattle.lay_springs.proofs.forces.fit_within.Goals as goal
 
-pub returns-clause-greatest : goal.returns-clause-greatest
-returns-clause-greatest g c = λ f past within fits.
+pub tight-requires-clause-small : goal.tight-requires-clause-small
+tight-requires-clause-small g c = λ k l. c.end_at-end.ensures.small k (let r = c.loop-low.invariant.room in omega arith)
+
+pub returns-else-low-eq0-clause-greatest : goal.returns-else-low-eq0-clause-greatest
+returns-else-low-eq0-clause-greatest g c = λ f past within fits.
     let i = c.loop-low.invariant in
+    let done = c.loop-low-test.false in
+    let some = c.if-low-eq0.false in
     cannot_stand (length c.args.cols.now) (reach_at g.C.Spaced.reach_of c.args.cols.now) c.args.gaps.now (length_at g.C.Spring.length_of c.args.cols.now) c.args.width c.loop-low.high f c.requires.some
     (length_rises g.C.Spring.length_of c.args.cols.now c.loop-low.high f (λ col. g.met.C.Spring.rises col c.loop-low.high f (omega arith) (omega arith)))
     (i.passes (omega arith)) fits

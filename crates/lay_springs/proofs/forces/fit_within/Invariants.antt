@@ -1,0 +1,18 @@
+use Rattle.std.proofs.Common.{◌≡◌, ◌+◌, ◌-◌, ◌*◌, ◌<◌, ◌≤◌, length}
+use Rattle.lay_springs.specs.Place.{reach_at, length_at}
+use Rattle.lay_springs.specs.Fit.{Fits, Passes}
+use Rattle.lay_springs.proofs.forces.fit_within.Given as goal
+
+abbrev pub invariant-loop-low : goal.invariant-loop-low
+invariant-loop-low g l = record {
+  between : l.low ≤ l.high;
+  within : l.high ≤ l.most + 1;
+  few : l.high < l.low + 2 * l.half;
+  short : l.half ≤ 2048;
+  room : length l.at ≡ length l.cols;
+  fits : 0 < l.low → Fits (length l.cols) (reach_at g.C.Spaced.reach_of l.cols) l.gaps (length_at g.C.Spring.length_of l.cols) l.width (l.low - 1);
+  passes : l.high ≤ l.most → Passes (length l.cols) (reach_at g.C.Spaced.reach_of l.cols) l.gaps (length_at g.C.Spring.length_of l.cols) l.width l.high;
+}
+
+abbrev pub decreases-loop-low : goal.decreases-loop-low
+decreases-loop-low g l = l.high - l.low
