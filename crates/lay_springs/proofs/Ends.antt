@@ -1,19 +1,12 @@
 -- The end of the columns, and how it grows with the force.
-use Rattle.std.proofs.Common.{◌≡◌, ℕ, ◌+◌, ◌-◌, ◌<◌, ◌≤◌, ℤ, pos, ◌+ℤ◌, ◌≤ℤ◌, ◌<ℤ◌, List, Option, None, Some, true, false, MatchBool, option_map, unwrap_or, slice_get, arith, sym, ◌∙◌, subst}
-use Rattle.std.specs.Int.Signed.{le_z}
-use Rattle.std.proofs.lemmas.Int.{ints, by_lt_z}
+use Rattle.std.proofs.Common.{◌≡◌, ℕ, ◌+◌, ◌-◌, ◌<◌, ◌≤◌, ℤ, pos, ◌+ℤ◌, ◌≤ℤ◌, List, Option, None, Some, option_map, unwrap_or, slice_get, arith, sym, ◌∙◌}
+use Rattle.std.proofs.lemmas.Int.{ints}
 use Rattle.std.proofs.lemmas.Option.{same_Some}
 use Rattle.lay_springs.specs.declared.traits.Reach.{Reach}
 use Rattle.lay_springs.specs.Place.{reach_at, length_at, StandApart}
 use Rattle.lay_springs.specs.Fit.{IsEndOf, EndsAt, Fits, Passes}
 use Rattle.lay_springs.proofs.Clear.{below_or_at}
 use Rattle.lay_springs.proofs.Placing.{reach_is}
-
-pub match_le : (P Q : Type 0) (a b : ℤ) → (a ≤ℤ b → P) → (b <ℤ a → Q) → MatchBool (le_z a b) P Q
-match_le P Q a b below above =
-    by_lt_z b a
-    (λ lt. let f : le_z a b ≡ false = grind (arith, ints) in subst (λ t. MatchBool t P Q) (sym f) (above lt))
-    (λ le. let t : le_z a b ≡ true = grind (arith, ints) in subst (λ t. MatchBool t P Q) (sym t) (below le))
 
 pub end_more : (reach : ℕ → Option Reach) (lane : ℕ) (at old new : ℤ) (r : Reach) → reach lane ≡ Some r
     → old ≤ℤ new → (at +ℤ pos r.right) ≤ℤ new → ((v : ℤ) → old ≤ℤ v → (at +ℤ pos r.right) ≤ℤ v → new ≤ℤ v)
@@ -35,14 +28,6 @@ end_read reach cols lanes i c at e ec h = record {
   reaches = λ k r l er. h.reaches k r l (sym (reach_is reach cols i c ec k) ∙ er);
   least = λ v p q. h.least v p (λ k r l er. q k r l (reach_is reach cols i c ec k ∙ er));
 }
-
-pub fits_or_passes : (n : ℕ) (reach : ℕ → ℕ → Option Reach) (gaps : List ℕ) (spring : ℕ → ℕ → ℕ) (width force : ℕ) (e e' w : ℤ)
-    → e' ≡ e → w ≡ pos width → EndsAt n reach gaps spring force e
-    → MatchBool (le_z e' w) (Fits n reach gaps spring width force) (Passes n reach gaps spring width force)
-fits_or_passes n reach gaps spring width force e e' w same is h =
-    match_le (Fits n reach gaps spring width force) (Passes n reach gaps spring width force) e' w
-    (λ le. (e, h, omega (arith, ints)))
-    (λ lt. (e, h, omega (arith, ints)))
 
 -- springs that are no longer let the columns stand where longer ones do
 pub apart_down : (n : ℕ) (reach : ℕ → ℕ → Option Reach) (gaps : List ℕ) (weak strong : ℕ → ℕ) (x : List ℤ)
