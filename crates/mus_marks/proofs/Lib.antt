@@ -4,3 +4,4 @@ pub mod Lines
 pub mod RankLaws
 pub mod TextParts
 pub mod Texts
+pub mod Unchanged

@@ -1,7 +1,8 @@
 -- The marks of events and of the measures that they are in, but for beams and arcs: the change before
 -- an event, its graces, the event itself, and its syllables and texts, each in the column of its rank.
-use Rattle.std.specs.Prelude.{ℕ, pos, ◌+◌, Bool, true, false, ◌==◌, if◌then◌else◌, List, [], ◌∷◌, ◌++◌, slice_index, Option, Some, None}
+use Rattle.std.specs.Prelude.{ℕ, pos, ◌+◌, Bool, true, false, ◌&&◌, ◌==◌, is_none, if◌then◌else◌, List, [], ◌∷◌, ◌++◌, slice_index, Option, Some, None}
 use Rattle.mus_units.specs.declared.pitch.Clef.{Clef}
+use Rattle.mus_score.specs.declared.score.Changes.{Changes}
 use Rattle.mus_score.specs.declared.score.Event.{Event}
 use Rattle.mus_score.specs.declared.score.Flat.{Flat}
 use Rattle.mus_time.specs.declared.keys.Class.TheVariants as classes
@@ -24,6 +25,10 @@ use Rattle.mus_marks.specs.Ranks.{rank_at}
 -- the column of an event itself
 abbrev pub note_rank : List ColumnKey → ℕ → DrawnEvent → ℕ
 note_rank keys m e = rank_at keys m e.tick classes.Note 0
+
+-- neither clef nor key nor meter
+abbrev pub changes_nothing : Changes → Bool
+changes_nothing changes = is_none changes.clef && is_none changes.key && is_none changes.meter
 
 -- the change before the first event of a system is drawn by the head
 abbrev pub change_part : List ColumnKey → ℕ → Bool → DrawnEvent → List Laid

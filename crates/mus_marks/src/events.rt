@@ -1,13 +1,13 @@
 ghost use Rattle.std.specs.Prelude.{◌≡◌, ◌≤◌, ◌++◌, length, OnOk};
 ghost use Rattle.mus_drawn.specs.Good.{AllCanGrace, AreGoodDrawn, IsGoodDrawn};
-ghost use Rattle.mus_marks.specs.Events.{note_rank, change_part, graces_from, graces_part, note_part, text_place, words_part, event_marks, levels_in, levels_behind, events_marks};
+ghost use Rattle.mus_marks.specs.Events.{note_rank, changes_nothing, change_part, graces_from, graces_part, text_place, words_part, event_marks, levels_in, levels_behind, events_marks};
 ghost use Rattle.mus_marks.specs.Ranks.{AreRanked};
 
 use crate::ranks::rank_at;
 use mus_drawn::DrawnEvent;
 use mus_laid::Laid;
 use mus_parts::{Group, group_of, put_change, put_grace, put_note};
-use mus_score::{Event, Flat};
+use mus_score::{Changes, Event, Flat};
 use mus_stems::StemPlan;
 use mus_texts::{TextPlace, put_syllables, put_texts};
 use mus_time::{Class, ColumnKey};
@@ -23,12 +23,21 @@ pub struct Room {
     pub verses: u8,
 }
 
+/// How many marks most events have at most; room for so many is made at once.
+const MARKS_OF_EVENT: usize = 4;
+
 /// The rank of the column of an event itself.
 pub(crate) fn note_rank(keys: &[ColumnKey], measure: u32, e: &DrawnEvent) -> u32
     requires { AreRanked keys.now }
     ensures { result ≡ note_rank keys.now measure e.now }
 {
     rank_at(keys, measure, e.tick, Class::Note, 0)
+}
+
+fn changes_nothing(changes: &Changes) -> bool
+    ensures { result ≡ changes_nothing changes.now }
+{
+    changes.clef.is_none() && changes.key.is_none() && changes.meter.is_none()
 }
 
 /// Lays the change before an event, unless the head draws it.
@@ -47,15 +56,12 @@ fn put_change_part(
     if in_head {
         return Ok(());
     }
+    let changes = &e.flat.event.changes;
+    if changes_nothing(changes) {
+        return Ok(());
+    }
     let rank = rank_at(keys, measure, e.tick, Class::Change, 0);
-    put_change(
-        alloc,
-        out,
-        rank,
-        e.clef,
-        e.old.as_slice(),
-        &e.flat.event.changes,
-    )
+    put_change(alloc, out, rank, e.clef, e.old.as_slice(), changes)
 }
 
 /// Lays graces of a group, each in a column of its own.
@@ -98,22 +104,6 @@ fn put_graces_part(
     put_graces(alloc, out, keys, measure, e.tick, e.clef, group, graces)
 }
 
-/// Lays an event itself; `before` and `after` are the levels of the events beside it in its beam.
-fn put_note_part(
-    out: &mut Row<Laid>,
-    keys: &[ColumnKey],
-    measure: u32,
-    before: u8,
-    after: u8,
-    e: &DrawnEvent,
-) -> Result<(), Memory>
-    requires { AreRanked keys.now }
-    ensures { OnOk result (out.new ≡ out.old ++ note_part keys.now measure before after e.now) }
-{
-    let rank = note_rank(keys, measure, e);
-    put_note(out, rank, e.clef, 0, &e.flat.event, &e.plan, before, after)
-}
-
 /// Where the texts of a voice go that has a staff for itself.
 fn text_place(room: Room) -> TextPlace
     ensures { result ≡ text_place room }
@@ -148,6 +138,8 @@ fn put_words_part(
     }
 }
 
+/// Lays an event with the change and the graces before it; `before` and `after` are the levels of the
+/// events beside it in its beam.
 #[tactic(auto, unfolding(crate::specs::Events::event_marks))]
 fn put_event(
     alloc: Global,
@@ -166,8 +158,9 @@ fn put_event(
 {
     put_change_part(alloc, out, keys, measure, in_head, e)?;
     put_graces_part(alloc, out, keys, measure, e)?;
-    put_note_part(out, keys, measure, before, after, e)?;
-    put_words_part(alloc, out, note_rank(keys, measure, e), room, &e.flat)
+    let (rank, flat) = (note_rank(keys, measure, e), &e.flat);
+    put_note(out, rank, e.clef, 0, &flat.event, &e.plan, before, after)?;
+    put_words_part(alloc, out, rank, room, flat)
 }
 
 /// The levels of an event that are in a plan's beam.
@@ -202,6 +195,8 @@ pub(crate) fn put_events(
     requires good { AreGoodDrawn events.now }
     ensures { OnOk result (out.new ≡ out.old ++ events_marks keys.now room measure in_head 0 0 events.now) }
 {
+    out.items
+        .reserve(events.len().saturating_mul(MARKS_OF_EVENT))?;
     let mut rest = events;
     let (mut drawn, mut group, mut flags) = (in_head, 0, 0);
     while let Some((e, behind)) = rest.split_first() {
