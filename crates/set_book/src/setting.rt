@@ -19,20 +19,20 @@ use std::thread::Threads;
 #[derive(Drop)]
 struct Setting<'a, G> {
     alloc: Global,
-    defaults: Defaults,
+    defaults: &'a Defaults,
     paper: &'a Paper,
     flow: bool,
     gate: &'a G,
 }
 
 impl<'a, G: Gate> Work<TuneText, Outcome> for Setting<'a, G> {
-    ghost takes = { λ s tune. IsGoodTune tune × IsGoodDefaults s.defaults × IsGoodPaper s.paper.now };
+    ghost takes = { λ s tune. IsGoodTune tune × IsGoodDefaults s.defaults.now × IsGoodPaper s.paper.now };
 
-    ghost gives = { λ s tune outcome. IsOutcome s.defaults s.paper.now s.flow tune outcome };
+    ghost gives = { λ s tune outcome. IsOutcome s.defaults.now s.paper.now s.flow tune outcome };
 
     fn work(&self, tune: &TuneText) -> Result<Outcome, Memory> {
         self.gate.enter(tune.ordinal);
-        let result = match set(self.alloc, tune, &self.defaults, self.paper, self.flow) {
+        let result = match set(self.alloc, tune, self.defaults, self.paper, self.flow) {
             Ok(set) => Ok(set),
             Err(TuneError::Fault(fault)) => Err(fault),
             Err(TuneError::Memory) => return Err(Memory),
@@ -44,11 +44,40 @@ impl<'a, G: Gate> Work<TuneText, Outcome> for Setting<'a, G> {
     }
 }
 
-/// What comes of each tune of a book on paper, in the order of the book, under the defaults of the
-/// file header. With `flow` no bar is forced.
+/// What comes of some tunes of a book on paper, in their order, under the defaults of its file
+/// header. With `flow` no bar is forced.
 ///
 /// `jobs` is 1 to 64: the list of tunes is halved, and the jobs with it, and the halves are set side
 /// by side where threads can be made. Each tune enters the gate once, before it is set.
+pub fn set_tunes<R: Threads + Sync, G: Gate + Sync>(
+    rt: &R,
+    alloc: Global,
+    tunes: &[TuneText],
+    defaults: &Defaults,
+    paper: &Paper,
+    flow: bool,
+    jobs: u8,
+    gate: &G,
+) -> Result<Row<Outcome>, Memory>
+    requires tunes { All IsGoodTune tunes.now }
+    requires defaults { IsGoodDefaults defaults.now }
+    requires paper { IsGoodPaper paper.now }
+    requires some { 1 ≤ jobs }
+    requires few { jobs ≤ 64 }
+    ensures { IfOk result (AreOutcomes defaults.now paper.now flow tunes.now) }
+{
+    let setting = Setting {
+        alloc,
+        defaults,
+        paper,
+        flow,
+        gate,
+    };
+    work_all(rt, alloc, tunes, jobs, &setting)
+}
+
+/// What comes of each tune of a book on paper, in the order of the book, under the defaults of the
+/// file header; see `set_tunes`.
 pub fn set_all<R: Threads + Sync, G: Gate + Sync>(
     rt: &R,
     alloc: Global,
@@ -64,12 +93,8 @@ pub fn set_all<R: Threads + Sync, G: Gate + Sync>(
     requires few { jobs ≤ 64 }
     ensures { IfOk result (AreOutcomes (defaults_of book.now.header) paper.now flow book.now.tunes) }
 {
-    let setting = Setting {
-        alloc,
-        defaults: read_defaults(book),
-        paper,
-        flow,
-        gate,
-    };
-    work_all(rt, alloc, book.tunes.as_slice(), jobs, &setting)
+    let defaults = read_defaults(book);
+    let tunes = book.tunes.as_slice();
+    let outcomes = set_tunes(rt, alloc, tunes, &defaults, paper, flow, jobs, gate)?;
+    Ok(outcomes)
 }
