@@ -5,24 +5,18 @@ use Rattle.abc_lines.specs.declared.fault.Fault.{Fault}
 use Rattle.lay_pages.specs.declared.filling.Block.{Block}
 use Rattle.lay_pages.specs.declared.stacking.Heights.{Heights}
 use Rattle.lay_pages.specs.declared.titles.TitleRow.{TitleRow}
-use Rattle.lay_pages.specs.Filling.{first_tall, group_height, height_of, tall_by, tall_from, with_kept}
+use Rattle.lay_pages.specs.Filling.{IsLoose, first_tall, group_height, height_of, tall_by, tall_from, with_kept}
 use Rattle.set_tune.specs.declared.tune.SetTune.{SetTune}
 use Rattle.set_tune.specs.Blocks.{blocks_of, is_some_list, system_blocks, title_blocks}
 use Rattle.set_book.specs.declared.outcome.Outcome.{Outcome}
 use Rattle.set_pages.specs.Drawings.{all_blocks, outcome_blocks, result_blocks}
-
--- the last block is not tied to what stands behind
-abbrev pub IsLoose : List Block → Type 0
-IsLoose [] = ⊤
-IsLoose (block ∷ []) = block.keep ≡ false
-IsLoose (block ∷ next ∷ more) = IsLoose (next ∷ more)
 
 loose_height : (keep : Bool) (height others : ℕ) → keep ≡ false → with_kept keep height others ≡ height
 loose_height true height others e = absurd cc
 loose_height false height others e = refl
 
 -- a group ends with the last block
-group_append : (block : Block) (bs more : List Block) → IsLoose (block ∷ bs) → group_height (block ∷ bs ++ more) ≡ group_height (block ∷ bs)
+pub group_append : (block : Block) (bs more : List Block) → IsLoose (block ∷ bs) → group_height (block ∷ bs ++ more) ≡ group_height (block ∷ bs)
 group_append block [] [] loose = refl
 group_append block [] (next ∷ more) loose = loose_height block.keep (height_of block.height) (group_height (next ∷ more)) loose
 group_append block (next ∷ bs) more loose = ap (λ n. with_kept block.keep (height_of block.height) n) (group_append next bs more loose)
@@ -76,7 +70,7 @@ tune_loose [] height heights = systems_loose heights
 tune_loose (row ∷ rows) height [] = refl
 tune_loose (row ∷ rows) height (h ∷ heights) = systems_loose (h ∷ heights)
 
-result_loose : (r : Result SetTune Fault) → IsLoose (result_blocks r)
+pub result_loose : (r : Result SetTune Fault) → IsLoose (result_blocks r)
 unfolding blocks_of
 result_loose (Ok t) = tune_loose t.title.rows t.title.height t.heights
 result_loose (Err fault) = tt

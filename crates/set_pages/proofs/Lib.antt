@@ -6,3 +6,4 @@ pub mod Standing
 pub mod Readying
 pub mod Stepping
 pub mod Whole
+pub mod Joined

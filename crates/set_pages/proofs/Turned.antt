@@ -9,6 +9,7 @@ use Rattle.ps_text.specs.declared.sheet.Page.{Page}
 use Rattle.set_pages.specs.declared.pages.Pages.{Pages}
 use Rattle.set_pages.specs.Drawings.{Drawing, drawn}
 use Rattle.set_pages.specs.Filling.{turned, with_drawing, with_drawings, with_items}
+use Rattle.set_pages.specs.Press.{no_pages}
 use Rattle.set_pages.specs.Ready.{AreRising, AreRisingFrom}
 use Rattle.set_pages.specs.Sheet.{items_on, page_count, pages_from, pages_of}
 
@@ -59,22 +60,9 @@ last_high page (s ∷ ss) rising =
     let here : page ≤ s.page = ⊎_elim (λ e. omega arith) (λ e. omega arith) rising.0 in
     omega arith
 
-last_low : (page : ℕ) (ss : List Spot) → AreRisingFrom page ss → last_page page ss ≤ page + length ss
-last_low page [] rising = omega arith
-last_low page (s ∷ ss) rising =
-    let more = last_low s.page ss rising.1 in
-    let here : s.page ≤ page + 1 = ⊎_elim (λ e. omega arith) (λ e. omega arith) rising.0 in
-    omega arith
-
 count_last : (s : Spot) (ss : List Spot) → page_count (s ∷ ss) ≡ suc (last_page s.page ss)
 count_last s [] = refl
 count_last s (next ∷ ss) = count_last next ss
-
-pub count_few : (ss : List Spot) → AreRising ss → page_count ss ≤ length ss
-count_few [] rising = omega arith
-count_few (s ∷ ss) rising =
-    let low = last_low s.page ss rising.1 in let count = count_last s ss in let first = rising.0 in
-    omega arith
 
 -- where the pages stand when a block comes
 stays : (width : ℕ) (p : Pages) (d : Drawing) (s : Spot) → s.page ≡ length p.done → with_drawing width p d s ≡ with_items p (drawn width s.top d)
@@ -131,9 +119,6 @@ run width [] (s ∷ ss) p k n at same rising count = absurd (omega arith)
 run width (d ∷ ds) [] p k n at same rising count = absurd (omega arith)
 run width (d ∷ ds) (s ∷ ss) p k n at same rising count =
     ⊎_elim (λ e. run_here width p k d ds s ss n (run width ds ss) at (omega arith) rising.1 count e) (λ e. run_next_by width p k d ds s ss n (run width ds ss) at (omega arith) rising.1 count e) rising.0
-
-abbrev pub no_pages : Pages
-no_pages = record { done = []; items = [] }
 
 -- all blocks put, from the first page on
 pub all_put : (width : ℕ) (ds : List Drawing) (s : Spot) (ss : List Spot) → length ds ≡ length (s ∷ ss) → AreRising (s ∷ ss) → closed (with_drawings width no_pages ds (s ∷ ss)) ≡ pages_of width ds (s ∷ ss)

@@ -1,43 +1,34 @@
 -- The whole sheet: its value, and that it may be written.
-use Rattle.std.proofs.Common.{◌≡◌, sym, ap, ◌∙◌, subst, ℕ, ◌+◌, ◌-◌, ◌*◌, ◌/◌, ◌^◌, ◌<◌, ◌≤◌, true, false, List, [], ◌∷◌, length, None, arith}
-use Rattle.std.proofs.lemmas.Bool.Decides.{nat_tests}
-use Rattle.std.specs.Prelude.{◌==◌, All}
+use Rattle.std.proofs.Common.{◌≡◌, refl, sym, ap, ◌∙◌, subst, ℕ, ◌-◌, ◌*◌, ◌/◌, ◌+◌, ◌^◌, ◌<◌, ◌≤◌, List, [], ◌∷◌, ◌++◌, length, true, false, Option, Some, None, arith}
+use Rattle.std.specs.Prelude.{All, is_some}
 use Rattle.std.specs.List.{AllZip}
 use Rattle.abc_header.specs.declared.paper.Paper.{Paper}
 use Rattle.abc_header.specs.Papers.{IsGoodPaper, height_of, width_of}
 use Rattle.lay_pages.specs.declared.filling.Block.{Block}
+use Rattle.lay_pages.specs.declared.filling.Place.{Place}
 use Rattle.lay_pages.specs.declared.filling.Spot.{Spot}
-use Rattle.lay_pages.specs.Filling.{AreGoodBlocks, AreWithin, first_tall, spots_of}
+use Rattle.lay_pages.specs.declared.filling.Standing.{Standing}
+use Rattle.lay_pages.specs.Filling.{AreGoodBlocks, AreWithin, behind_after, first_tall, next_place, spot_at, spots_behind, spots_from, spots_of, standing_from}
+use Rattle.lay_pages.proofs.Filled.{filled_so}
+use Rattle.lay_pages.proofs.Fitting.{ready_first, within_from}
 use Rattle.ps_text.specs.declared.sheet.Frame.{Frame}
-use Rattle.ps_text.specs.declared.sheet.Item.{Item}
 use Rattle.ps_text.specs.declared.sheet.Page.{Page}
-use Rattle.ps_text.specs.Range.{IsFrame, IsPage, IsSheet}
+use Rattle.ps_text.specs.Range.{IsFrame, IsPage}
 use Rattle.set_book.specs.declared.outcome.Outcome.{Outcome}
 use Rattle.set_pages.specs.declared.pages.Pages.{Pages}
+use Rattle.set_pages.specs.declared.press.Press.{Press}
 use Rattle.set_pages.specs.Drawings.{Drawing, all_blocks, all_drawings}
 use Rattle.set_pages.specs.Filling.{turned, with_drawings}
+use Rattle.set_pages.specs.Press.{IsPressed, IsSheetOf, no_pages}
 use Rattle.set_pages.specs.Ready.{AreRising, IsDrawn, IsReady}
-use Rattle.set_pages.specs.Sheet.{AllShown, IsSetUnder, ShowsDrawing, frame_of, page_count, pages_of, sheet_of}
+use Rattle.set_pages.specs.Sheet.{AreStanding, IsSetUnder, ShowsDrawing, all_spots, frame_of, page_count, pages_of, sheet_of}
 use Rattle.set_pages.proofs.Fitting.{all_fit}
-use Rattle.set_pages.proofs.Ordered.{all_begun, pages_count, pages_good}
+use Rattle.set_pages.proofs.Joined.{pressed_more}
+use Rattle.set_pages.proofs.Ordered.{all_begun, pages_good}
 use Rattle.set_pages.proofs.Readying.{all_ready, all_whole, each_fits}
-use Rattle.set_pages.proofs.Standing.{all_count, ready_at, tops, within_count}
-use Rattle.set_pages.proofs.Turned.{all_put, closed, count_few}
-use Rattle.set_pages.proofs.Zips.{zip_weaker}
-
--- all blocks put on pages, the last of which is turned
-pub some_put : (width : ℕ) (ds : List Drawing) (spots : List Spot) (done : List Page) (items : List Item) (p q : Pages) → false ≡ (length spots == 0) → done ≡ [] → items ≡ [] → length ds ≡ length spots → AreRising spots
-    → p ≡ with_drawings width (record { done = done; items = items }) ds spots → q ≡ turned p → q.done ≡ pages_of width ds spots
-some_put width ds [] done items p q some a b same rising put turn = absurd cc
-some_put width ds (s ∷ spots) done items p q some a b same rising put turn =
-    ap (λ r. r.done) turn ∙ ap closed put ∙ ap (λ l. closed (with_drawings width (record { done = l; items = items }) ds (s ∷ spots))) a
-    ∙ ap (λ l. closed (with_drawings width (record { done = []; items = l }) ds (s ∷ spots))) b ∙ all_put width ds s spots same rising
-
-pub none_put : (width : ℕ) (ds : List Drawing) (spots : List Spot) (done : List Page) (items : List Item) (p : Pages) → true ≡ (length spots == 0) → done ≡ [] → length ds ≡ length spots
-    → p ≡ with_drawings width (record { done = done; items = items }) ds spots → p.done ≡ pages_of width ds spots
-none_put width [] [] done items p none a same put = ap (λ r. r.done) put ∙ a
-none_put width (d ∷ ds) [] done items p none a same put = absurd (omega arith)
-none_put width ds (s ∷ spots) done items p none a same put = absurd (grind (arith, nat_tests))
+use Rattle.set_pages.proofs.Standing.{all_count, ready_at, rising, tops, within_count}
+use Rattle.set_pages.proofs.Turned.{all_put, closed}
+use Rattle.set_pages.proofs.Zips.{zip_length, zip_weaker}
 
 -- no group of the book is too tall
 pub fits_at : (paper : Paper) (outcomes : List Outcome) (high : ℕ) (slice blocks : List Block) → high ≡ height_of paper → slice ≡ blocks → blocks ≡ all_blocks outcomes → All (IsSetUnder paper) outcomes → first_tall high slice ≡ None
@@ -61,33 +52,74 @@ ready_spots paper outcomes high slice blocks spots at paper_good h a b good set 
     subst (λ l. AllZip IsReady (all_drawings outcomes) l) (sym e)
     (ready_at (all_drawings outcomes) spots count (all_ready paper outcomes set) (tops high slice spots low (subst AreGoodBlocks (sym a) good) within))
 
--- where the spots are, by the paper and the outcomes
-spots_are : (paper : Paper) (outcomes : List Outcome) (high : ℕ) (slice : List Block) (spots at : List Spot) → high ≡ height_of paper → slice ≡ all_blocks outcomes → spots ≡ spots_of high slice → at ≡ spots
-    → at ≡ spots_of (height_of paper) (all_blocks outcomes)
-spots_are paper outcomes high slice spots at h a s e = e ∙ s ∙ ap (λ n. spots_of n slice) h ∙ ap (λ l. spots_of (height_of paper) l) a
+-- outcomes that are pressed behind others, by what is at hand
+pub pressed_by : (paper : Paper) (outcomes more : List Outcome) (p q : Press) (width high : ℕ) (slice : List Block) (spots at : List Spot) → width ≡ width_of paper → high ≡ height_of paper → slice ≡ all_blocks more → All (IsSetUnder paper) more
+    → spots ≡ spots_behind high p.behind slice → at ≡ spots → q.pages ≡ with_drawings width p.pages (all_drawings more) at → q.behind ≡ behind_after high p.behind slice
+    → AllZip (IsDrawn width) (all_drawings more) at → AreGoodBlocks slice → IsPressed paper outcomes p → IsPressed paper (outcomes ++ more) q
+pressed_by paper outcomes more p q width high slice spots at w h b set s e pages behind drawn good pressed =
+    pressed_more paper outcomes more p q at pressed set
+    (e ∙ s ∙ ap (λ n. spots_behind n p.behind slice) h ∙ ap (λ l. spots_behind (height_of paper) p.behind l) b)
+    (pages ∙ ap (λ n. with_drawings n p.pages (all_drawings more) at) w)
+    (behind ∙ ap (λ n. behind_after n p.behind slice) h ∙ ap (λ l. behind_after (height_of paper) p.behind l) b)
+    (subst (λ n. AllZip (IsDrawn n) (all_drawings more) at) w drawn) (subst AreGoodBlocks b good)
 
-pub sheet_value : (paper : Paper) (outcomes : List Outcome) (width high : ℕ) (slice : List Block) (spots at : List Spot) (frame : Frame) (pages : List Page) → width ≡ width_of paper → high ≡ height_of paper → slice ≡ all_blocks outcomes
-    → spots ≡ spots_of high slice → at ≡ spots → frame ≡ frame_of paper → pages ≡ pages_of width (all_drawings outcomes) at → record { frame = frame; pages = pages } ≡ sheet_of paper outcomes
-unfolding sheet_of
-sheet_value paper outcomes width high slice spots at frame pages w h a s e f p =
-    ap (λ x. record { frame = x; pages = pages }) f
-    ∙ ap (λ x. record { frame = frame_of paper; pages = x })
-    (p ∙ ap (λ n. pages_of n (all_drawings outcomes) at) w ∙ ap (λ l. pages_of (width_of paper) (all_drawings outcomes) l) (spots_are paper outcomes high slice spots at h a s e))
-
-pub sheet_good : (outcomes : List Outcome) (width : ℕ) (at : List Spot) (frame : Frame) (pages : List Page) → IsFrame frame → pages ≡ pages_of width (all_drawings outcomes) at → AllZip (IsDrawn width) (all_drawings outcomes) at → AreRising at
-    → length at < 2 ^ 32 → IsSheet (record { frame = frame; pages = pages })
-sheet_good outcomes width at frame pages good p drawn rising few =
-    let count = ap length p ∙ pages_count width (all_drawings outcomes) at 0 (page_count at) in
-    let most = count_few at rising in
+-- each block lies on its page, and follows the one before it
+all_standing : (paper : Paper) (outcomes : List Outcome) → All (IsSetUnder paper) outcomes → AreGoodBlocks (all_blocks outcomes) → AreStanding paper outcomes
+all_standing paper outcomes set good =
+    let none = all_fit (height_of paper) outcomes (each_fits paper outcomes set) in
     record {
-      frame = good;
-      few = omega (arith, count, most, few);
-      pages = subst (λ l. All IsPage l) (sym p) (pages_good width (all_drawings outcomes) at 0 (page_count at) drawn (all_begun outcomes));
+      within = within_from (height_of paper) (record { page = 0; down = 0 }) (all_blocks outcomes) good (ready_first (height_of paper) (all_blocks outcomes) none);
+      filled = filled_so (height_of paper) (all_blocks outcomes) good;
     }
 
-pub all_shown : (paper : Paper) (outcomes : List Outcome) (width high : ℕ) (slice : List Block) (spots at : List Spot) → width ≡ width_of paper → high ≡ height_of paper → slice ≡ all_blocks outcomes → spots ≡ spots_of high slice → at ≡ spots
-    → AllZip (IsDrawn width) (all_drawings outcomes) at → AllShown paper outcomes
-all_shown paper outcomes width high slice spots at w h a s e drawn =
-    let shown = zip_weaker (IsDrawn width) (ShowsDrawing width) (λ d spot g. g.shows) (all_drawings outcomes) at drawn in
-    let here = subst (λ n. AllZip (ShowsDrawing n) (all_drawings outcomes) at) w shown in
-    subst (λ l. AllZip (ShowsDrawing (width_of paper)) (all_drawings outcomes) l) (spots_are paper outcomes high slice spots at h a s e) here
+-- the pages when all is put: that of the last block is turned
+abbrev pub done_of : Option Standing → Pages → List Page
+done_of None p = p.done
+done_of (Some last) p = closed p
+
+some_behind : (high : ℕ) (place : Place) (block : Block) (bs : List Block) (p : Pages) → done_of (standing_from high place (block ∷ bs)) p ≡ closed p
+some_behind high place block [] p = refl
+some_behind high place block (next ∷ bs) p = some_behind high (next_place high place block (next ∷ bs)) next bs p
+
+none_put : (width : ℕ) (ds : List Drawing) → (with_drawings width no_pages ds []).done ≡ pages_of width ds []
+none_put width [] = refl
+none_put width (d ∷ ds) = refl
+
+all_done : (width high : ℕ) (ds : List Drawing) (bs : List Block) (p : Press) → AllZip (IsDrawn width) ds (spots_of high bs) → AreRising (spots_of high bs)
+    → p.pages ≡ with_drawings width no_pages ds (spots_of high bs) → p.behind ≡ behind_after high None bs → done_of p.behind p.pages ≡ pages_of width ds (spots_of high bs)
+all_done width high ds [] p drawn rise pages behind = ap (λ b. done_of b p.pages) behind ∙ ap (λ q. q.done) pages ∙ none_put width ds
+all_done width high ds (block ∷ bs) p drawn rise pages behind =
+    let first : Place = record { page = 0; down = 0 } in
+    ap (λ b. done_of b p.pages) behind ∙ some_behind high first block bs p.pages ∙ ap closed pages
+    ∙ all_put width ds (spot_at high first) (spots_from high (next_place high first block bs) bs) (zip_length (IsDrawn width) ds (spots_of high (block ∷ bs)) drawn) rise
+
+pressed_value : (paper : Paper) (outcomes : List Outcome) (frame : Frame) (done : List Page) → frame ≡ frame_of paper
+    → done ≡ pages_of (width_of paper) (all_drawings outcomes) (all_spots paper outcomes) → record { frame = frame; pages = done } ≡ sheet_of paper outcomes
+unfolding sheet_of
+pressed_value paper outcomes frame done f p = ap (λ x. record { frame = x; pages = done }) f ∙ ap (λ x. record { frame = frame_of paper; pages = x }) p
+
+-- the sheet of what was pressed
+pub sheet_pressed : (paper : Paper) (outcomes : List Outcome) (press : Press) (frame : Frame) (done : List Page) → frame ≡ frame_of paper → IsFrame frame → length done < 2 ^ 32
+    → done ≡ done_of press.behind press.pages → IsPressed paper outcomes press → IsSheetOf paper outcomes (record { frame = frame; pages = done })
+sheet_pressed paper outcomes press frame done f good few is pressed =
+    let stand = all_standing paper outcomes pressed.set pressed.good in
+    let rise = rising (height_of paper) (all_blocks outcomes) (all_spots paper outcomes) stand.within stand.filled in
+    let all = is ∙ all_done (width_of paper) (height_of paper) (all_drawings outcomes) (all_blocks outcomes) press pressed.drawn rise pressed.pages pressed.behind in
+    record {
+      value = pressed_value paper outcomes frame done f all;
+      good = record {
+        frame = good;
+        few = few;
+        pages = subst (λ l. All IsPage l) (sym all) (pages_good (width_of paper) (all_drawings outcomes) (all_spots paper outcomes) 0 (page_count (all_spots paper outcomes)) pressed.drawn (all_begun outcomes));
+      };
+      shows = zip_weaker (IsDrawn (width_of paper)) (ShowsDrawing (width_of paper)) (λ d spot g. g.shows) (all_drawings outcomes) (all_spots paper outcomes) pressed.drawn;
+      stand = stand;
+    }
+
+pub done_some : (behind : Option Standing) (p q : Pages) → is_some behind ≡ true → q ≡ turned p → q.done ≡ done_of behind p
+done_some None p q some turn = absurd cc
+done_some (Some last) p q some turn = ap (λ r. r.done) turn
+
+pub done_none : (behind : Option Standing) (p : Pages) → is_some behind ≡ false → p.done ≡ done_of behind p
+done_none None p none = refl
+done_none (Some last) p none = absurd cc

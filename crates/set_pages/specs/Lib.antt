@@ -1,4 +1,5 @@
 pub mod Drawings
 pub mod Filling
+pub mod Press
 pub mod Ready
 pub mod Sheet

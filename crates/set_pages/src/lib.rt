@@ -4,10 +4,12 @@
 pub mod blocks;
 pub mod drawing;
 pub mod pages;
+pub mod press;
 pub mod sheet;
 pub mod titles;
 
 pub use abc_header::Paper;
+pub use press::{Press, open_press, press_outcomes, sheet_of_press};
 pub use ps_text::{Frame, Item, Page, Sheet};
 pub use set_book::Outcome;
 pub use sheet::sheet_for;
