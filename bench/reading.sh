@@ -59,7 +59,7 @@ repeated() {
 }
 
 for size in 524288 1048576; do
-    for text in '(' '[' '{' '"' '"a"' '!' 'A' '[CE]' '[A!b]' '{A!b}' '{[A!b]c' '[!' '(3abc' '>' '|' '[K:C]'; do
+    for text in '(' '[' '{' '"' '"a"' '!' 'A' '[CE]' '[A!b]' '{A!b}' '{[A!b]c' '{[A!b}c' '[!' '(3abc' '>' '|' '[K:C]'; do
         repeated "$size" "$text" > "$folder/input"
         printf '%-8s %8d bytes: ' "$text" "$size"
         start=$(date +%s%N)

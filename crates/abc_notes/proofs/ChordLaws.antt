@@ -2,7 +2,7 @@
 use Rattle.std.proofs.Common.{◌≡◌, ℕ, ◌+◌, ◌-◌, ◌≤◌, ◌<◌, Bool, true, false, cond, eqb, zero, suc, List, [], ◌∷◌, ◌++◌, length, take, drop, Option, Some, None, refl, sym, ap, ◌∙◌, subst, arith, inl, inr, ◌⊎◌, append_assoc, append-nil, add-one}
 use Rattle.std.specs.Prelude.{◌&&◌, ◌||◌, not, IfSome, option_map}
 use Rattle.std.specs.List.{list_all}
-use Rattle.std.proofs.lemmas.Bool.{cond_both, and_parts, and_from, eqb-true, ne_eqb, not-false}
+use Rattle.std.proofs.lemmas.Bool.{cond_both, and_parts, eqb-true, ne_eqb, not-false}
 use Rattle.std.proofs.lemmas.List.{length-append, append_cancel_left, append_cancel_right}
 use Rattle.std.proofs.Math.Seq.{take-append_seam, drop-append_seam}
 use Rattle.abc_lines.specs.declared.fault.FaultKind.TheVariants.{BadByte, Unclosed}
@@ -10,15 +10,15 @@ use Rattle.abc_notes.specs.declared.part.Flaw.{Flaw}
 use Rattle.abc_notes.specs.Runs.{span_all, begins}
 use Rattle.abc_notes.specs.Decorations.{is_name_byte}
 use Rattle.abc_notes.specs.Lengths.{LengthForm, length_then, IsLength, length_at}
-use Rattle.abc_notes.specs.Parts.{Parts, no_part, then_part, walk, is_done, spelled_then, later_or}
+use Rattle.abc_notes.specs.Parts.{no_part, then_part, walk, is_done, spelled_then, later_or}
 use Rattle.abc_notes.specs.Items.{Inner, note_inside, letter_inside, named_inside, tie_inside, slur_inside, passed_inside, lone_inside, inner_then, IsName, StandsInside, has_length, InnerParts, InnerFlawed, name_at, item_class, inner_at}
 use Rattle.abc_notes.specs.Chords.{ChordForm, InnerLeads, is_inside, is_bracket, has_head, chord_then, IsChord, ChordFault, chord_unclosed, chord_open, chord_headless, chord_flawed, bracket_here, bracket_in, bracket_in_name, last_bracket, bracket_at, chord_from, chord_at}
 use Rattle.abc_notes.proofs.SpanLaws.{span_all-takes, span_all-pass, span_all-after, span_all-append, span_all-stops}
 use Rattle.abc_notes.proofs.LengthLaws.{length_at-takes, length_at-reaches}
 use Rattle.abc_notes.proofs.ItemLaws.{name_at-takes, name_at-reads}
 use Rattle.abc_notes.proofs.PartLaws.{stands_at, less, longest_of, longest_is, walk-none, walk-some, parts_of_walk, walk_of_parts}
-use Rattle.abc_notes.proofs.InnerLaws.{inner_reader, inner-longer, length-length_then}
-use Rattle.abc_notes.proofs.CutLaws.{inner_append, inner_local, AtCut, read_cut, walk_spells, leads_of_walk, free, CrossesIn, Crosses, crossing, lone_at, clear_parts, all_parts, cut_at, Cut, first_same, rest_same, length_append, length_free, all_span}
+use Rattle.abc_notes.proofs.InnerLaws.{inner_reader, length-length_then}
+use Rattle.abc_notes.proofs.CutLaws.{inner_append, inner_local, read_cut, walk_spells, leads_of_walk, free, CrossesIn, crossing, lone_at, clear_parts, all_parts, cut_at, Cut, first_same, rest_same, length_append, length_free, all_span}
 
 inside_wide : (b : ℕ) → free b ≡ true → is_inside b ≡ true
 inside_wide b h = (and_parts (not (eqb b 93)) (not (eqb b 125)) h).0
@@ -65,12 +65,24 @@ name_end (b ∷ w) some stops = (w, ap (λ x. x ∷ w) (bracket_is b w stops))
 pub not_zero : (n : ℕ) → not (eqb n 0) ≡ true → n ≡ 0 → ⊥
 not_zero n h e = let clash : not (eqb 0 0) ≡ true = subst (λ x. not (eqb x 0) ≡ true) e h in cc
 
-in-closes : (bang head : Bool) (s c : List ℕ) (r : Option (List ℕ × List ℕ)) → bang ≡ false → IfSome r (λ z. IsName z.0 × (s ≡ z.0 ++ (33 ∷ z.1))) → bracket_in bang head s r ≡ Some c → Closed bang head (33 ∷ s) c
+-- behind the exclamation mark that begins a name, up to the bracket
+pub record NameClosed (bang head : Bool) (s c : List ℕ) : Type 0 where
+  pub before : List ℕ
+  pub rest : List ℕ
+  pub parts : List Inner
+  pub is : c ≡ 93 ∷ rest
+  pub cut : s ≡ before ++ c
+  pub names : list_all is_name_byte before ≡ true
+  pub good : InnerParts bang before parts
+  pub has : (head || has_head parts) ≡ true
+  pub off : bang ≡ false
+
+in-closes : (bang head : Bool) (s c : List ℕ) (r : Option (List ℕ × List ℕ)) → bang ≡ false → IfSome r (λ z. IsName z.0 × (s ≡ z.0 ++ (33 ∷ z.1))) → bracket_in bang head s r ≡ Some c → NameClosed bang head s c
 in-closes bang head s c None off t e = absurd cc
 in-closes bang head s c (Some named) off t e =
     let inside = span_all is_inside named.0 in
     let w = walk (inner_at bang) inside.0 in
-    cond_both {A = Option (List ℕ)} (not (eqb (length inside.1) 0) && (is_done w && (head || has_head w.0))) (Some (drop (length inside.0) s)) None (λ r. r ≡ Some c → Closed bang head (33 ∷ s) c)
+    cond_both {A = Option (List ℕ)} (not (eqb (length inside.1) 0) && (is_done w && (head || has_head w.0))) (Some (drop (length inside.0) s)) None (λ r. r ≡ Some c → NameClosed bang head s c)
     (λ h e.
     let p = and_parts (not (eqb (length inside.1) 0)) (is_done w && (head || has_head w.0)) h in
     let q = and_parts (is_done w) (head || has_head w.0) p.1 in
@@ -78,30 +90,45 @@ in-closes bang head s c (Some named) off t e =
     let whole : named.0 ≡ inside.0 ++ (93 ∷ end.0) = span_all-takes is_inside named.0 ∙ ap (λ x. inside.0 ++ x) end.1 in
     let cut : s ≡ inside.0 ++ (93 ∷ (end.0 ++ (33 ∷ named.1))) = t.1 ∙ ap (λ x. x ++ (33 ∷ named.1)) whole ∙ append_assoc inside.0 (93 ∷ end.0) (33 ∷ named.1) in
     let is : c ≡ 93 ∷ (end.0 ++ (33 ∷ named.1)) = sym (some_list (drop (length inside.0) s) c e) ∙ ap (drop (length inside.0)) cut ∙ drop-append_seam inside.0 (93 ∷ (end.0 ++ (33 ∷ named.1))) in
-    let names = all_parts is_name_byte inside.0 (93 ∷ end.0) (ap (list_all is_name_byte) (sym whole) ∙ t.0.bytes) in
     record {
-      front = 33 ∷ inside.0;
+      before = inside.0;
       rest = end.0 ++ (33 ∷ named.1);
-      parts = lone_inside ∷ w.0;
+      parts = w.0;
       is = is;
-      cut = ap (λ x. 33 ∷ x) (cut ∙ ap (λ x. inside.0 ++ x) (sym is));
-      good = then_part (33 ∷ inside.0) lone_inside inside.0 w.0 (longest_of (inner_reader bang) (33 ∷ inside.0) (lone_inside, inside.0) (lone_at bang inside.0 off names.0)) (parts_of_walk (inner_reader bang) inside.0 (eqb-true (length w.1) 0 q.0));
+      cut = cut ∙ ap (λ x. inside.0 ++ x) (sym is);
+      names = (all_parts is_name_byte inside.0 (93 ∷ end.0) (ap (list_all is_name_byte) (sym whole) ∙ t.0.bytes)).0;
+      good = parts_of_walk (inner_reader bang) inside.0 (eqb-true (length w.1) 0 q.0);
       has = q.1;
+      off = off;
     })
     (λ h e. absurd cc) e
+
+closed_of : (bang head : Bool) (s c : List ℕ) → NameClosed bang head s c → Closed bang head (33 ∷ s) c
+closed_of bang head s c k = record {
+  front = 33 ∷ k.before;
+  rest = k.rest;
+  parts = lone_inside ∷ k.parts;
+  is = k.is;
+  cut = ap (λ x. 33 ∷ x) k.cut;
+  good = then_part (33 ∷ k.before) lone_inside k.before k.parts (longest_of (inner_reader bang) (33 ∷ k.before) (lone_inside, k.before) (lone_at bang k.before k.off k.names)) k.good;
+  has = k.has;
+}
 
 pub is_off : (x : Bool) → not x ≡ true → x ≡ false
 is_off true h = absurd cc
 is_off false h = refl
 
-in_name-closes : (bang head : Bool) (text c : List ℕ) → bracket_in_name bang head text ≡ Some c → Closed bang head text c
+pub in_name-finds : (bang head : Bool) (text c : List ℕ) → bracket_in_name bang head text ≡ Some c → (s : List ℕ) × (text ≡ 33 ∷ s) × NameClosed bang head s c
 unfolding bracket_in_name
-in_name-closes bang head [] c e = absurd cc
-in_name-closes bang head (b ∷ s) c e =
-    cond_both {A = Option (List ℕ)} (eqb b 33 && not bang) (bracket_in bang head s (name_at s)) None (λ r. r ≡ Some c → Closed bang head (b ∷ s) c)
+in_name-finds bang head [] c e = absurd cc
+in_name-finds bang head (b ∷ s) c e =
+    cond_both {A = Option (List ℕ)} (eqb b 33 && not bang) (bracket_in bang head s (name_at s)) None (λ r. r ≡ Some c → (t : List ℕ) × (b ∷ s ≡ 33 ∷ t) × NameClosed bang head t c)
     (λ h e. let p = and_parts (eqb b 33) (not bang) h in
-    rw (eqb-true b 33 p.0) (in-closes bang head s c (name_at s) (is_off bang p.1) (name_at-takes s) e))
+    (s, ap (λ x. x ∷ s) (eqb-true b 33 p.0), in-closes bang head s c (name_at s) (is_off bang p.1) (name_at-takes s) e))
     (λ h e. absurd cc) e
+
+in_name-closes : (bang head : Bool) (text c : List ℕ) → bracket_in_name bang head text ≡ Some c → Closed bang head text c
+in_name-closes bang head text c e = let f = in_name-finds bang head text c e in rw f.1 (closed_of bang head f.0 c f.2)
 
 -- a part and what closes behind it
 then-closes : (bang head : Bool) (text c : List ℕ) (z : Inner × List ℕ) → inner_at bang text ≡ Some z → Closed bang (head || has_length z.0) z.1 c → Closed bang head text c
@@ -122,7 +149,7 @@ then-closes bang head text c z e k =
       has = sym (or_assoc head (has_length z.0) (has_head k.parts)) ∙ k.has;
     }
 
-abbrev last_at : Bool → Bool → List ℕ → Option (List ℕ)
+abbrev pub last_at : Bool → Bool → List ℕ → Option (List ℕ)
 last_at bang head text = last_bracket bang head (walk (inner_at bang) text).0 (walk (inner_at bang) text).1
 
 pub last_at-none : (bang head : Bool) (text : List ℕ) → inner_at bang text ≡ None → last_at bang head text ≡ bracket_here head text

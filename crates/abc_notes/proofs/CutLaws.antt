@@ -1,6 +1,6 @@
 -- Parts at the front of a text that goes on, and of the text that is cut off there.
-use Rattle.std.proofs.Common.{◌≡◌, ℕ, zero, suc, ◌+◌, ◌≤◌, ◌<◌, Bool, true, false, eqb, List, [], ◌∷◌, ◌++◌, length, Option, Some, None, refl, sym, ap, ◌∙◌, subst, arith, inl, inr, ◌⊎◌, append_assoc, append-nil}
-use Rattle.std.specs.Prelude.{◌||◌, ◌&&◌, not, IfSome}
+use Rattle.std.proofs.Common.{◌≡◌, ℕ, zero, suc, ◌≤◌, ◌<◌, Bool, true, false, eqb, List, [], ◌∷◌, ◌++◌, length, Option, Some, None, refl, sym, ap, ◌∙◌, subst, arith, inl, inr, append_assoc, append-nil}
+use Rattle.std.specs.Prelude.{◌&&◌, not}
 use Rattle.std.specs.List.{list_all}
 use Rattle.std.proofs.lemmas.Bool.{or_cases, and_parts, and_from, eqb-true, ne_eqb}
 use Rattle.std.proofs.lemmas.List.{length-append}
@@ -14,13 +14,13 @@ use Rattle.abc_notes.specs.Runs.{copies, maybe, is_digit, is_mark, span_all}
 use Rattle.abc_notes.specs.Lengths.{LengthForm, whole, over, halved, length_then, IsLength}
 use Rattle.abc_notes.specs.Notes.{NoteForm, note_then, sign_then, letter_byte, IsNote}
 use Rattle.abc_notes.specs.Decorations.{is_name_byte}
-use Rattle.abc_notes.specs.Parts.{IsLongest, Parts, no_part, then_part, Leads, leads_here, leads_on, walk, spelled_then}
-use Rattle.abc_notes.specs.Items.{Inner, note_inside, letter_inside, named_inside, tie_inside, slur_inside, passed_inside, lone_inside, inner_then, IsName, is_passed_inside, is_letter_inside, IsInner, StandsInside, InnerParts, inner_read, closed_name, name_at, named_or, item_class, inner_at}
+use Rattle.abc_notes.specs.Parts.{no_part, then_part, Leads, leads_here, leads_on, walk, spelled_then}
+use Rattle.abc_notes.specs.Items.{Inner, note_inside, letter_inside, named_inside, tie_inside, slur_inside, passed_inside, lone_inside, inner_then, IsName, is_passed_inside, is_letter_inside, IsInner, StandsInside, InnerParts, closed_name, name_at, inner_at}
 use Rattle.abc_notes.proofs.Bounds.{digit_range}
 use Rattle.abc_notes.proofs.SpanLaws.{span_all-append}
 use Rattle.abc_notes.proofs.LengthLaws.{count-digits}
 use Rattle.abc_notes.proofs.ItemLaws.{below_all, implied, at_class, bang_class}
-use Rattle.abc_notes.proofs.PartLaws.{Reader, stands_at, less, longest_of, longest_is, walk-none, walk-some}
+use Rattle.abc_notes.proofs.PartLaws.{Reader, stands_at, less, longest_of, walk-none, walk-some}
 
 -- ---- a part and what follows it
 

@@ -1,10 +1,10 @@
 -- Reading a part of a grace group, and a group, gives the longest; where there is none its fault
 -- is found.
 use Rattle.std.proofs.Common.{◌≡◌, ℕ, zero, suc, ◌+◌, ◌-◌, ◌≤◌, ◌<◌, Bool, true, false, cond, eqb, List, [], ◌∷◌, ◌++◌, length, take, drop, Option, Some, None, refl, sym, ap, ◌∙◌, subst, arith, inl, inr, ◌⊎◌, append_assoc, append-nil, add-one}
-use Rattle.std.specs.Prelude.{not, map, ◌&&◌, ◌||◌, IfSome, option_map, MatchOption}
+use Rattle.std.specs.Prelude.{not, ◌&&◌, ◌||◌, IfSome, option_map, MatchOption}
 use Rattle.std.specs.List.{list_all}
 use Rattle.std.proofs.lemmas.Bool.{cond_both, and_parts, eqb-true, not-false, ne_eqb, or_cases}
-use Rattle.std.proofs.lemmas.List.{length-append, append_cancel_left, append_cancel_right}
+use Rattle.std.proofs.lemmas.List.{length-append, length-drop, take-append-drop, append_cancel_left, append_cancel_right}
 use Rattle.std.proofs.Math.Seq.{take-append_seam, drop-append_seam}
 use Rattle.mus_units.specs.declared.pitch.Alter.{Alter}
 use Rattle.mus_units.specs.declared.pitch.Alter.TheVariants.{Flat2, Flat, Natural, Sharp, Sharp2}
@@ -16,21 +16,21 @@ use Rattle.abc_notes.specs.declared.part.GraceChord.{GraceChord}
 use Rattle.abc_notes.specs.declared.part.GraceItem.{GraceItem}
 use Rattle.abc_notes.specs.declared.part.GraceItem.TheVariants as found
 use Rattle.abc_notes.specs.Runs.{maybe, skip, span_all, begins, one_of}
-use Rattle.abc_notes.specs.Lengths.{length_then, len_of, length_at}
+use Rattle.abc_notes.specs.Lengths.{LengthForm, length_then, IsLength, length_at}
 use Rattle.abc_notes.specs.Notes.{sign_then, letter_byte}
 use Rattle.abc_notes.specs.Decorations.{is_deco_letter, is_name_byte}
-use Rattle.abc_notes.specs.declared.part.Len.{Len}
-use Rattle.abc_notes.specs.Parts.{HasNone, Parts, no_part, then_part, stuck_here, stuck_later, walk, is_done, length_at_place, spelled_then, later_or}
-use Rattle.abc_notes.specs.Items.{Inner, note_inside, letter_inside, named_inside, tie_inside, slur_inside, passed_inside, lone_inside, inner_then, IsInner, IsName, Sense, sense, StandsInside, name_at, item_class, inner_at, is_letter_inside}
-use Rattle.abc_notes.specs.Chords.{ChordForm, chord_then, IsChord, ChordFault, chord_at, chord_shown, at_most}
-use Rattle.abc_notes.specs.Graces.{GracePart, single, chorded, grace_part_then, IsGracePart, StandsInGrace, GraceParts, GraceLeads, part_has_length, GraceForm, is_in_grace, is_slash_byte, is_brace, grace_then, IsGrace, body_of_part, StandsChord, InnerChordFault, no_chord, chord_past_brace, IsGraceOwn, GraceFlawed, HasSlash, GraceFault, grace_unclosed, grace_open, grace_flawed, chorded_read, single_read, grace_chord_at, grace_part_at, brace_here, brace_in, brace_in_name, last_brace, brace_at, grace_from, grace_at, bodied, body_inside, IsPartFlaw, item_within, chord_shown_within}
+use Rattle.abc_notes.specs.Parts.{no_part, then_part, stuck_here, stuck_later, walk, is_done, length_at_place, later_or}
+use Rattle.abc_notes.specs.Items.{Inner, note_inside, letter_inside, named_inside, tie_inside, slur_inside, passed_inside, lone_inside, inner_then, IsInner, IsName, StandsInside, name_at, item_class, inner_at, is_letter_inside}
+use Rattle.abc_notes.specs.Chords.{ChordForm, chord_then, IsChord, bracket_at, chord_at, at_most}
+use Rattle.abc_notes.specs.Graces.{GracePart, single, chorded, grace_part_then, IsGracePart, StandsInGrace, GraceParts, GraceLeads, part_has_length, GraceForm, is_in_grace, is_slash_byte, is_brace, grace_then, IsGrace, body_of_part, GraceFlawed, HasSlash, GraceFault, grace_unclosed, grace_open, grace_flawed, chorded_read, single_read, grace_part_at, brace_here, brace_in, brace_in_name, closes_at, last_closing, brace_in_chord, brace_behind, brace_in_part, brace_at, grace_from, grace_at, bodied, body_inside, inside_of_part, IsPartFlaw, item_within}
 use Rattle.abc_notes.proofs.RunLaws.{Lacks, skip-takes, skip-lacks}
 use Rattle.abc_notes.proofs.SpanLaws.{span_all-takes, span_all-pass, span_all-after, span_all-append, span_all-stops}
 use Rattle.abc_notes.proofs.PartLaws.{Reader, stands_at, less, longest_of, longest_is, none_of, walk-none, walk-some, parts_of_walk, walk_of_parts}
+use Rattle.abc_notes.proofs.LengthLaws.{length_at-takes}
 use Rattle.abc_notes.proofs.InnerLaws.{inner_reader, inner-longer}
 use Rattle.abc_notes.proofs.ItemLaws.{name_at-takes, name_at-reads}
-use Rattle.abc_notes.proofs.ChordLaws.{TakesChord, chord_at-takes, chord_at-reaches, chord-longer, has_lone, is_lone, le_lt, later_assoc, later_none, not_zero, is_off, cut_off}
-use Rattle.abc_notes.proofs.CutLaws.{inner_append, length_append, length_free, Cut, cut_at, first_same, rest_same, Local, AtCut, read_cut, walk_spells, leads_of_walk, wider, all_join, all_parts, all_span, free, is_named, inner_free, named_bad, CrossesIn, Crosses, crossing, lone_at}
+use Rattle.abc_notes.proofs.ChordLaws.{TakesChord, bracket_at-closes, chord_at-takes, chord_at-reaches, chord-reads, chord-longer, has_lone, is_lone, le_lt, later_assoc, later_none, not_zero, is_off, cut_off}
+use Rattle.abc_notes.proofs.CutLaws.{inner_append, length_append, length_free, Cut, cut_at, first_same, rest_same, Local, read_cut, leads_of_walk, wider, all_join, all_parts, all_span, clear_parts, free, is_named, inner_free, named_bad, CrossesIn, crossing, lone_at}
 
 not-true : (b : Bool) → not b ≡ true → b ≡ false
 not-true true h = absurd cc
@@ -52,159 +52,13 @@ part_with p x = (p, x)
 abbrev TakesPart : Bool → List ℕ → Option (GracePart × List ℕ) → Type 0
 TakesPart bang s r = IfSome r (λ z. StandsInGrace bang z.0 s z.1)
 
--- ---- a chord up to the closing brace
+-- ---- a chord
 
 in_grace_wide : (b : ℕ) → free b ≡ true → is_in_grace b ≡ true
 in_grace_wide b h = (and_parts (not (eqb b 93)) (not (eqb b 125)) h).1
 
-abbrev pub chord_with_rest : List ℕ → ChordForm × List ℕ → ChordForm × List ℕ
-chord_with_rest y z = (z.0, z.1 ++ y)
-
 chord_append : (f : ChordForm) (v y : List ℕ) → chord_then f v ++ y ≡ chord_then f (v ++ y)
 chord_append f v y = append_assoc f.inside (93 ∷ length_then f.length v) y ∙ ap (λ t. f.inside ++ (93 ∷ t)) (length_append f.length v y)
-
-chord_clear : (bang : Bool) (f : ChordForm) → IsChord bang f → list_all is_in_grace f.inside ≡ true → list_all is_in_grace (chord_then f []) ≡ true
-chord_clear bang f good clear = all_join is_in_grace f.inside (93 ∷ length_then f.length []) clear (wider free is_in_grace (length_then f.length []) in_grace_wide (length_free f.length good.length))
-
-abbrev TakesWithin : Bool → List ℕ → Option (ChordForm × List ℕ) → Type 0
-TakesWithin bang s r = IfSome r (λ z. (IsChord bang z.0 × (list_all is_in_grace z.0.inside ≡ true)) × (s ≡ chord_then z.0 z.1))
-
-within-takes : (bang : Bool) (s w y : List ℕ) (r : Option (ChordForm × List ℕ)) → s ≡ w ++ y → list_all is_in_grace w ≡ true → TakesChord bang w r → TakesWithin bang s (option_map (chord_with_rest y) r)
-within-takes bang s w y None cut clear t = tt
-within-takes bang s w y (Some z) cut clear t =
-    let here = all_parts is_in_grace z.0.inside (93 ∷ length_then z.0.length z.1) (ap (list_all is_in_grace) (sym t.1) ∙ clear) in
-    ((t.0, here.0), cut ∙ ap (λ x. x ++ y) t.1 ∙ chord_append z.0 z.1 y)
-
-grace_chord-takes : (bang : Bool) (s : List ℕ) → TakesWithin bang s (grace_chord_at bang s)
-unfolding grace_chord_at
-grace_chord-takes bang s =
-    let cut = span_all is_in_grace s in
-    within-takes bang s cut.0 cut.1 (chord_at bang cut.0) (span_all-takes is_in_grace s) (span_all-pass is_in_grace s) (chord_at-takes bang cut.0)
-
--- behind a chord that holds no brace the line is cut off at the first brace
-pub within-is : (bang : Bool) (f : ChordForm) (x : List ℕ) → IsChord bang f → list_all is_in_grace f.inside ≡ true →
-    grace_chord_at bang (chord_then f x) ≡ option_map (chord_with_rest (span_all is_in_grace x).1) (chord_at bang (chord_then f (span_all is_in_grace x).0))
-unfolding grace_chord_at
-within-is bang f x good clear =
-    let cut : span_all is_in_grace (chord_then f x) ≡ (chord_then f [] ++ (span_all is_in_grace x).0, (span_all is_in_grace x).1) =
-    ap (span_all is_in_grace) (sym (chord_append f [] x)) ∙ span_all-append is_in_grace (chord_then f []) x (chord_clear bang f good clear) in
-    rw (cut, chord_append) refl
-
-pub grace_chord-reaches : (bang : Bool) (f : ChordForm) (x : List ℕ) → IsChord bang f → list_all is_in_grace f.inside ≡ true →
-    (z : ChordForm × List ℕ) × (grace_chord_at bang (chord_then f x) ≡ Some z) × ((length z.1 < length x) ⊎ (z ≡ (f, x)))
-grace_chord-reaches bang f x good clear =
-    let y = span_all is_in_grace x in
-    let o = chord_at-reaches bang f y.0 good in
-    let whole : x ≡ y.0 ++ y.1 = span_all-takes is_in_grace x in (
-      chord_with_rest y.1 o.0,
-      within-is bang f x good clear ∙ ap (option_map (chord_with_rest y.1)) o.1,
-      elim o.2 [
-        | inl shorter ↦ inl (omega (arith, shorter, ap length whole, length-append y.0 y.1, length-append o.0.1 y.1))
-        | inr same ↦ inr (ap (chord_with_rest y.1) same ∙ ap (λ (t : List ℕ). (f, t)) (sym whole))
-      ],
-    )
-
--- what the code reads of it
-abbrev shown_full : ChordForm × List ℕ → List Sense × Len × List ℕ × List ℕ
-shown_full z = chord_shown (map sense z.0.parts) (len_of z.0.length) z.0.inside z.1
-
-abbrev shown_part : ChordForm × List ℕ → List Sense × List ℕ × List ℕ
-shown_part z = chord_shown_within (map sense z.0.parts) z.0.inside z.1
-
-chord_stands : (bang : Bool) (s : List ℕ) (z : ChordForm × List ℕ) → chord_at bang s ≡ Some z → IsChord bang z.0 × (s ≡ chord_then z.0 z.1)
-chord_stands bang s z e = subst (λ (r : Option (ChordForm × List ℕ)). TakesChord bang s r) e (chord_at-takes bang s)
-
-some_chord : (y z : ChordForm × List ℕ) → Some y ≡ Some z → y ≡ z
-some_chord y z e = cc
-
-clear_same : (bang : Bool) (s : List ℕ) (z : ChordForm × List ℕ) → chord_at bang s ≡ Some z → list_all is_in_grace z.0.inside ≡ true → grace_chord_at bang s ≡ Some z
-clear_same bang s z e clear =
-    let t = chord_stands bang s z e in
-    let y = span_all is_in_grace z.1 in
-    let whole : z.1 ≡ y.0 ++ y.1 = span_all-takes is_in_grace z.1 in
-    let o = chord_at-reaches bang z.0 y.0 t.0 in
-    let reads : grace_chord_at bang s ≡ Some (chord_with_rest y.1 o.0) = ap (grace_chord_at bang) t.1 ∙ within-is bang z.0 z.1 t.0 clear ∙ ap (option_map (chord_with_rest y.1)) o.1 in
-    elim o.2 [
-      | inl shorter ↦
-          (let other = chord_stands bang (chord_then z.0 y.0) o.0 o.1 in
-          let there : s ≡ chord_then o.0.0 (o.0.1 ++ y.1) = t.1 ∙ ap (chord_then z.0) whole ∙ sym (chord_append z.0 y.0 y.1) ∙ ap (λ x. x ++ y.1) other.1 ∙ chord_append o.0.0 o.0.1 y.1 in
-          let p = chord_at-reaches bang o.0.0 (o.0.1 ++ y.1) other.0 in
-          let same : z ≡ p.0 = some_chord z p.0 (sym e ∙ ap (chord_at bang) there ∙ p.1) in
-          let lengths : length z.1 ≡ length p.0.1 = ap (λ (q : ChordForm × List ℕ). length q.1) same in
-          absurd (elim p.2 [
-            | inl less ↦ omega (arith, shorter, less, lengths, ap length whole, length-append y.0 y.1, length-append o.0.1 y.1)
-            | inr equal ↦ omega (arith, shorter, ap (λ (q : ChordForm × List ℕ). length q.1) equal, lengths, ap length whole, length-append y.0 y.1, length-append o.0.1 y.1)
-          ]))
-      | inr same ↦ reads ∙ ap (λ (q : ChordForm × List ℕ). Some (chord_with_rest y.1 q)) same ∙ ap (λ (x : List ℕ). Some (chord_pair z.0 x)) (sym whole)
-    ]
-
-from_full : (bang : Bool) (s : List ℕ) (said : List Sense) (len : Len) (inside rest : List ℕ) (r : Option (ChordForm × List ℕ)) → chord_at bang s ≡ r → Some (chord_shown said len inside rest) ≡ option_map shown_full r → list_all is_in_grace inside ≡ true →
-    Some (chord_shown_within said inside rest) ≡ option_map shown_part (grace_chord_at bang s)
-from_full bang s said len inside rest None e h clear = absurd cc
-from_full bang s said len inside rest (Some z) e h clear =
-    let same : chord_shown said len inside rest ≡ shown_full z = cc in
-    let z_clear : list_all is_in_grace z.0.inside ≡ true = ap (λ p. list_all is_in_grace p.2) (sym same) ∙ clear in
-    ap (λ p. Some (chord_shown_within p.0 p.2 p.3)) same ∙ ap (option_map shown_part) (sym (clear_same bang s z e z_clear))
-
--- a chord of the line that holds no brace is the one up to the brace
-pub full_is : (bang : Bool) (s : List ℕ) (said : List Sense) (len : Len) (inside rest : List ℕ) → Some (chord_shown said len inside rest) ≡ option_map shown_full (chord_at bang s) → list_all is_in_grace inside ≡ true →
-    Some (chord_shown_within said inside rest) ≡ option_map shown_part (grace_chord_at bang s)
-full_is bang s said len inside rest h clear = from_full bang s said len inside rest (chord_at bang s) refl h clear
-
-no_full : (r : Option (ChordForm × List ℕ)) → None ≡ option_map shown_full r → r ≡ None
-no_full None h = refl
-no_full (Some z) h = absurd cc
-
-none_as : (bang : Bool) (s : List ℕ) (r : Option (ChordForm × List ℕ)) → grace_chord_at bang s ≡ r → chord_at bang s ≡ None → r ≡ None
-none_as bang s None e none = refl
-none_as bang s (Some z) e none =
-    let t = subst (λ (r : Option (ChordForm × List ℕ)). TakesWithin bang s r) e (grace_chord-takes bang s) in
-    let o = chord_at-reaches bang z.0 z.1 t.0.0 in
-    absurd (let clash = sym none ∙ ap (chord_at bang) t.1 ∙ o.1 in cc)
-
-pub none_full : (bang : Bool) (s : List ℕ) → None ≡ option_map shown_full (chord_at bang s) → None ≡ option_map shown_part (grace_chord_at bang s)
-none_full bang s h = ap (option_map shown_part) (sym (none_as bang s (grace_chord_at bang s) refl (no_full (chord_at bang s) h)))
-
-pub record FullChord (bang : Bool) (s : List ℕ) (said : List Sense) (inside rest : List ℕ) : Type 0 where
-  pub form : ChordForm
-  pub at : chord_at bang s ≡ Some (chord_pair form rest)
-  pub says : said ≡ map sense form.parts
-  pub has : inside ≡ form.inside
-
-from_read_full : (bang : Bool) (s : List ℕ) (said : List Sense) (len : Len) (inside rest : List ℕ) (r : Option (ChordForm × List ℕ)) → chord_at bang s ≡ r → Some (chord_shown said len inside rest) ≡ option_map shown_full r → FullChord bang s said inside rest
-from_read_full bang s said len inside rest None e h = absurd cc
-from_read_full bang s said len inside rest (Some z) e h =
-    let same : chord_shown said len inside rest ≡ shown_full z = cc in
-    record { form = z.0; at = e ∙ ap (λ x. Some (chord_pair z.0 x)) (sym (ap (λ p. p.3) same)); says = ap (λ p. p.0) same; has = ap (λ p. p.2) same }
-
-pub found_full : (bang : Bool) (s : List ℕ) (said : List Sense) (len : Len) (inside rest : List ℕ) → Some (chord_shown said len inside rest) ≡ option_map shown_full (chord_at bang s) → FullChord bang s said inside rest
-found_full bang s said len inside rest h = from_read_full bang s said len inside rest (chord_at bang s) refl h
-
-pub full_less : (bang : Bool) (s : List ℕ) (said : List Sense) (len : Len) (inside rest : List ℕ) → Some (chord_shown said len inside rest) ≡ option_map shown_full (chord_at bang s) → length rest ≤ length s
-full_less bang s said len inside rest h =
-    let k = found_full bang s said len inside rest h in
-    let t = chord_stands bang s (chord_pair k.form rest) k.at in
-    omega (arith, ap length t.1, chord-longer k.form rest)
-
--- the chord of the text up to the brace, and the line behind it
-pub within_is : (bang : Bool) (s w y : List ℕ) (said : List Sense) (len : Len) (inside rest : List ℕ) → two w y ≡ span_all is_in_grace s → Some (chord_shown said len inside rest) ≡ option_map shown_full (chord_at bang w) →
-    Some (chord_shown_within said inside (drop (length w - length rest) s)) ≡ option_map shown_part (grace_chord_at bang s)
-unfolding grace_chord_at
-within_is bang s w y said len inside rest cut h =
-    let k = found_full bang w said len inside rest h in
-    let t = chord_stands bang w (chord_pair k.form rest) k.at in
-    let front = chord_then k.form [] in
-    let spelled : w ≡ front ++ rest = t.1 ∙ sym (chord_append k.form [] rest) in
-    let count : length w - length rest ≡ length front = omega (arith, ap length spelled, length-append front rest) in
-    let line : s ≡ front ++ (rest ++ y) = span_all-takes is_in_grace s ∙ ap (λ (p : List ℕ × List ℕ). p.0 ++ p.1) (sym cut) ∙ ap (λ x. x ++ y) spelled ∙ append_assoc front rest y in
-    let drops : drop (length w - length rest) s ≡ rest ++ y = ap (λ n. drop n s) count ∙ ap (drop (length front)) line ∙ drop-append_seam front (rest ++ y) in
-    let reads : grace_chord_at bang s ≡ Some (chord_pair k.form (rest ++ y)) = rw (← cut, k.at) refl in
-    ap (λ (x : List ℕ). Some (chord_shown_within said inside x)) drops ∙ ap (λ (x : List Sense). Some (chord_shown_within x inside (rest ++ y))) k.says
-    ∙ ap (λ (x : List ℕ). Some (chord_shown_within (map sense k.form.parts) x (rest ++ y))) k.has ∙ ap (option_map shown_part) (sym reads)
-
-pub within_none : (bang : Bool) (s w y : List ℕ) → two w y ≡ span_all is_in_grace s → None ≡ option_map shown_full (chord_at bang w) → None ≡ option_map shown_part (grace_chord_at bang s)
-unfolding grace_chord_at
-within_none bang s w y cut h = rw (← cut, no_full (chord_at bang w) h) refl
 
 -- no brace is left where none was cut off
 pub no_brace : (t w r : List ℕ) → two w r ≡ span_all is_in_grace t → length r ≡ 0 → list_all is_in_grace t ≡ true
@@ -215,7 +69,7 @@ no_brace t w (b ∷ r) cut none = absurd (omega (arith, none))
 
 -- ---- parts
 
-from_chord : (bang : Bool) (s : List ℕ) (r : Option (ChordForm × List ℕ)) → TakesWithin bang s r → TakesPart bang (91 ∷ s) (option_map chorded_read r)
+from_chord : (bang : Bool) (s : List ℕ) (r : Option (ChordForm × List ℕ)) → TakesChord bang s r → TakesPart bang (91 ∷ s) (option_map chorded_read r)
 from_chord bang s None t = tt
 from_chord bang s (Some z) t = record { good = t.0; cut = ap (λ x. 91 ∷ x) t.1 }
 
@@ -227,17 +81,24 @@ part-takes : (bang : Bool) (s : List ℕ) → TakesPart bang s (grace_part_at ba
 unfolding grace_part_at
 part-takes bang [] = tt
 part-takes bang (b ∷ s) =
-    cond_both (eqb b 91) (option_map chorded_read (grace_chord_at bang s)) (option_map single_read (inner_at bang (b ∷ s))) (TakesPart bang (b ∷ s))
-    (λ e. rw (eqb-true b 91 e) (from_chord bang s (grace_chord_at bang s) (grace_chord-takes bang s)))
+    cond_both (eqb b 91) (option_map chorded_read (chord_at bang s)) (option_map single_read (inner_at bang (b ∷ s))) (TakesPart bang (b ∷ s))
+    (λ e. rw (eqb-true b 91 e) (from_chord bang s (chord_at bang s) (chord_at-takes bang s)))
     (λ e. from_inner bang (b ∷ s) (inner_at bang (b ∷ s)) ((inner_reader bang).takes (b ∷ s)))
 
 other_byte : (bang : Bool) (b : ℕ) (s : List ℕ) → eqb b 91 ≡ false → grace_part_at bang (b ∷ s) ≡ option_map single_read (inner_at bang (b ∷ s))
 unfolding grace_part_at
 other_byte bang b s h = rw h refl
 
-pub at_bracket : (bang : Bool) (s : List ℕ) → grace_part_at bang (91 ∷ s) ≡ option_map chorded_read (grace_chord_at bang s)
+pub at_bracket : (bang : Bool) (s : List ℕ) → grace_part_at bang (91 ∷ s) ≡ option_map chorded_read (chord_at bang s)
 unfolding grace_part_at
 at_bracket bang s = refl
+
+no_chord_read : (r : Option (ChordForm × List ℕ)) → option_map chorded_read r ≡ None → r ≡ None
+no_chord_read None e = refl
+no_chord_read (Some z) e = absurd cc
+
+pub no_chord : (bang : Bool) (s rest : List ℕ) (b : ℕ) → s ≡ b ∷ rest → b ≡ 91 → grace_part_at bang s ≡ None → chord_at bang rest ≡ None
+no_chord bang s rest b cut is none = no_chord_read (chord_at bang rest) (sym (at_bracket bang rest) ∙ ap (λ x. grace_part_at bang (x ∷ rest)) (sym is) ∙ ap (grace_part_at bang) (sym cut) ∙ none)
 
 no_bracket : (b : ℕ) (ks : List ℕ) → list_all (λ k. not (eqb k 91)) ks ≡ true → one_of ks b ≡ true → eqb b 91 ≡ false
 no_bracket b [] h is = absurd cc
@@ -295,7 +156,7 @@ part-reaches bang (single f) x good =
     let o = (inner_reader bang).reaches f (inner_then f x) x (record { good = good; cut = refl }) in
     (single_read o.0, single_at bang f x good ∙ ap (option_map single_read) o.1, elim o.2 [ inl shorter ↦ inl shorter | inr same ↦ inr (ap single_read same) ])
 part-reaches bang (chorded f) x good =
-    let o = grace_chord-reaches bang f x good.0 good.1 in
+    let o = chord_at-reaches bang f x good in
     (chorded_read o.0, at_bracket bang (chord_then f x) ∙ ap (option_map chorded_read) o.1, elim o.2 [ inl shorter ↦ inl shorter | inr same ↦ inr (ap chorded_read same) ])
 
 part-longer : (p : GracePart) (x : List ℕ) → length x < length (grace_part_then p x)
@@ -311,32 +172,33 @@ part_reader bang = record {
 
 -- ---- what a call of the reader tells
 
-pub record FoundPart (bang : Bool) (s : List ℕ) (body : List GraceChord) (lengthy : Bool) (behind : List ℕ) : Type 0 where
+pub record FoundPart (bang : Bool) (s : List ℕ) (body : List GraceChord) (lengthy : Bool) (inside : Option (List ℕ)) (behind : List ℕ) : Type 0 where
   pub part : GracePart
   pub at : grace_part_at bang s ≡ Some (part_with part behind)
   pub gives : body ≡ body_of_part part
   pub has : lengthy ≡ part_has_length part
+  pub encloses : inside ≡ inside_of_part part
 
-from_read : (bang : Bool) (s : List ℕ) (body : List GraceChord) (lengthy : Bool) (behind : List ℕ) (r : Option (GracePart × List ℕ)) → grace_part_at bang s ≡ r →
-    Some (bodied body lengthy behind) ≡ option_map (λ z. bodied (body_of_part z.0) (part_has_length z.0) z.1) r → FoundPart bang s body lengthy behind
-from_read bang s body lengthy behind None e h = absurd cc
-from_read bang s body lengthy behind (Some z) e h =
-    let same : bodied body lengthy behind ≡ bodied (body_of_part z.0) (part_has_length z.0) z.1 = cc in
-    record { part = z.0; at = e ∙ ap (λ x. Some (part_with z.0 x)) (sym (ap (λ p. p.2) same)); gives = ap (λ p. p.0) same; has = ap (λ p. p.1) same }
+from_read : (bang : Bool) (s : List ℕ) (body : List GraceChord) (lengthy : Bool) (inside : Option (List ℕ)) (behind : List ℕ) (r : Option (GracePart × List ℕ)) → grace_part_at bang s ≡ r →
+    Some (bodied body lengthy inside behind) ≡ option_map (λ z. bodied (body_of_part z.0) (part_has_length z.0) (inside_of_part z.0) z.1) r → FoundPart bang s body lengthy inside behind
+from_read bang s body lengthy inside behind None e h = absurd cc
+from_read bang s body lengthy inside behind (Some z) e h =
+    let same : bodied body lengthy inside behind ≡ bodied (body_of_part z.0) (part_has_length z.0) (inside_of_part z.0) z.1 = cc in
+    record { part = z.0; at = e ∙ ap (λ x. Some (part_with z.0 x)) (sym (ap (λ p. p.3) same)); gives = ap (λ p. p.0) same; has = ap (λ p. p.1) same; encloses = ap (λ p. p.2) same }
 
-pub found_part : (bang : Bool) (s : List ℕ) (body : List GraceChord) (lengthy : Bool) (behind : List ℕ) →
-    Some (bodied body lengthy behind) ≡ option_map (λ z. bodied (body_of_part z.0) (part_has_length z.0) z.1) (grace_part_at bang s) → FoundPart bang s body lengthy behind
-found_part bang s body lengthy behind h = from_read bang s body lengthy behind (grace_part_at bang s) refl h
+pub found_part : (bang : Bool) (s : List ℕ) (body : List GraceChord) (lengthy : Bool) (inside : Option (List ℕ)) (behind : List ℕ) →
+    Some (bodied body lengthy inside behind) ≡ option_map (λ z. bodied (body_of_part z.0) (part_has_length z.0) (inside_of_part z.0) z.1) (grace_part_at bang s) → FoundPart bang s body lengthy inside behind
+found_part bang s body lengthy inside behind h = from_read bang s body lengthy inside behind (grace_part_at bang s) refl h
 
-no_read : (r : Option (GracePart × List ℕ)) → None ≡ option_map (λ z. bodied (body_of_part z.0) (part_has_length z.0) z.1) r → r ≡ None
+no_read : (r : Option (GracePart × List ℕ)) → None ≡ option_map (λ z. bodied (body_of_part z.0) (part_has_length z.0) (inside_of_part z.0) z.1) r → r ≡ None
 no_read None h = refl
 no_read (Some z) h = absurd cc
 
-pub none_part : (bang : Bool) (s : List ℕ) → None ≡ option_map (λ z. bodied (body_of_part z.0) (part_has_length z.0) z.1) (grace_part_at bang s) → grace_part_at bang s ≡ None
+pub none_part : (bang : Bool) (s : List ℕ) → None ≡ option_map (λ z. bodied (body_of_part z.0) (part_has_length z.0) (inside_of_part z.0) z.1) (grace_part_at bang s) → grace_part_at bang s ≡ None
 none_part bang s h = no_read (grace_part_at bang s) h
 
-pub part_less : (bang : Bool) (s : List ℕ) (body : List GraceChord) (lengthy : Bool) (behind : List ℕ) → FoundPart bang s body lengthy behind → length behind < length s
-part_less bang s body lengthy behind f = less (part_reader bang) s (f.part, behind) f.at
+pub part_less : (bang : Bool) (s : List ℕ) (body : List GraceChord) (lengthy : Bool) (inside : Option (List ℕ)) (behind : List ℕ) → FoundPart bang s body lengthy inside behind → length behind < length s
+part_less bang s body lengthy inside behind f = less (part_reader bang) s (f.part, behind) f.at
 
 -- ---- the state of a loop over the inside
 
@@ -358,11 +220,11 @@ place_behind : (b : Bool) (n here : ℕ) → n ≤ here → at_least n (length_a
 place_behind true n here h = h
 place_behind false n here h = tt
 
-pub group-next : (bang : Bool) (w : List ℕ) (body : List GraceChord) (lengthy : Bool) (before place : Option ℕ) (rest behind : List ℕ) → Group bang w before rest → FoundPart bang rest body lengthy behind →
+pub group-next : (bang : Bool) (w : List ℕ) (body : List GraceChord) (lengthy : Bool) (inside : Option (List ℕ)) (before place : Option ℕ) (rest behind : List ℕ) → Group bang w before rest → FoundPart bang rest body lengthy inside behind →
     place ≡ length_at_place lengthy (length rest) → Group bang w place behind
-group-next bang w body lengthy before place rest behind stage f placed =
+group-next bang w body lengthy inside before place rest behind stage f placed =
     let step = walk-some (part_reader bang) rest (f.part, behind) f.at in
-    let shorter = part_less bang rest body lengthy behind f in
+    let shorter = part_less bang rest body lengthy inside behind f in
     rw placed (record {
       left = sym (ap (λ (z : List GracePart × List ℕ). z.1) step) ∙ stage.left;
       flaw = λ flaw h. stage.flaw flaw (stuck_later before rest f.part behind flaw (longest_of (part_reader bang) rest (f.part, behind) f.at) (subst (λ b. GraceFlawed bang (length_at_place b (length rest)) behind flaw) f.has h));
@@ -397,8 +259,8 @@ group-ends bang w before (b ∷ rest) stage none = absurd (omega (arith, none))
 
 -- ---- the body
 
-pub body-next : (bang : Bool) (out new total body : List GraceChord) (lengthy : Bool) (s behind : List ℕ) → FoundPart bang s body lengthy behind → new ≡ out ++ body → out ++ body_inside bang s ≡ total → new ++ body_inside bang behind ≡ total
-body-next bang out new total body lengthy s behind f push so_far =
+pub body-next : (bang : Bool) (out new total body : List GraceChord) (lengthy : Bool) (inside : Option (List ℕ)) (s behind : List ℕ) → FoundPart bang s body lengthy inside behind → new ≡ out ++ body → out ++ body_inside bang s ≡ total → new ++ body_inside bang behind ≡ total
+body-next bang out new total body lengthy inside s behind f push so_far =
     let here : body_inside bang s ≡ body ++ body_inside bang behind = rw (walk-some (part_reader bang) s (f.part, behind) f.at, f.gives) refl in
     rw push (append_assoc out body _ ∙ ap (λ b. out ++ b) (sym here) ∙ so_far)
 
@@ -495,49 +357,98 @@ then-closes bang text c z e k =
       good = then_part u z.0 k.front k.parts (longest_of r u (z.0, k.front) at) k.good;
     }
 
-abbrev last_at : Bool → List ℕ → Option (List ℕ)
-last_at bang text = last_brace bang (walk (grace_part_at bang) text).0 (walk (grace_part_at bang) text).1
+some_part : (p q : GracePart) (x y : List ℕ) → Some (part_with p x) ≡ Some (part_with q y) → part_with p x ≡ part_with q y
+some_part p q x y h = cc
 
-last_at-none : (bang : Bool) (text : List ℕ) → grace_part_at bang text ≡ None → last_at bang text ≡ brace_here text
-last_at-none bang text e = rw (walk-none (part_reader bang) text e) refl
+-- ---- the last brace before which parts alone stand
 
-last_at-some : (bang : Bool) (text : List ℕ) (z : GracePart × List ℕ) → grace_part_at bang text ≡ Some z → last_at bang text ≡ later_or (last_at bang z.1) (brace_in_name bang text)
-last_at-some bang text z e =
-    let spelled : grace_part_then z.0 (spelled_then grace_part_then (walk (grace_part_at bang) z.1).0 (walk (grace_part_at bang) z.1).1) ≡ text =
-    ap (grace_part_then z.0) (walk_spells (part_reader bang) (part_local bang) z.1) ∙ sym (stands_at (part_reader bang) text z e).cut in
-    rw (walk-some (part_reader bang) text z e, spelled) refl
+first_brace : (t : List ℕ) → begins is_brace t ≡ true → (rest : List ℕ) × (t ≡ 125 ∷ rest)
+first_brace [] h = absurd cc
+first_brace (b ∷ t) h = (t, ap (λ x. x ∷ t) (eqb-true b 125 h))
 
-either_closes : (bang : Bool) (text c : List ℕ) (z : GracePart × List ℕ) → grace_part_at bang text ≡ Some z → ((d : List ℕ) → last_at bang z.1 ≡ Some d → ClosedGroup bang z.1 d) →
-    (r : Option (List ℕ)) → last_at bang z.1 ≡ r → later_or r (brace_in_name bang text) ≡ Some c → ClosedGroup bang text c
-either_closes bang text c z e next None is found = in_name-closes bang text c found
-either_closes bang text c z e next (Some d) is found = then-closes bang text c z e (next c (is ∙ found))
+closes_there : (bang : Bool) (text : List ℕ) (n : ℕ) → closes_at bang text n ≡ true → ClosedGroup bang text (drop n text)
+closes_there bang text n h =
+    let w = walk (grace_part_at bang) (take n text) in
+    let p = and_parts (begins is_brace (drop n text)) (is_done w) h in
+    let first = first_brace (drop n text) p.0 in
+    record {
+      front = take n text;
+      rest = first.0;
+      parts = w.0;
+      is = first.1;
+      cut = sym (take-append-drop n text);
+      good = parts_of_walk (part_reader bang) (take n text) (eqb-true (length w.1) 0 p.1);
+    }
 
-closes_step : (bang : Bool) (text c : List ℕ) (o : Option (GracePart × List ℕ)) → grace_part_at bang text ≡ o → ((t : List ℕ) → length t < length text → (d : List ℕ) → last_at bang t ≡ Some d → ClosedGroup bang t d) →
-    last_at bang text ≡ Some c → ClosedGroup bang text c
-closes_step bang text c None e next found = here-closes bang text c (sym (last_at-none bang text e) ∙ found)
-closes_step bang text c (Some z) e next found =
-    either_closes bang text c z e (next z.1 (less (part_reader bang) text z e)) (last_at bang z.1) refl (sym (last_at-some bang text z e) ∙ found)
+found_closes : (bang : Bool) (text c : List ℕ) (n : ℕ) → last_closing bang text n ≡ Some c → ClosedGroup bang text c
+found_closes bang text c zero e =
+    cond_both {A = Option (List ℕ)} (closes_at bang text 0) (Some text) None (λ r. r ≡ Some c → ClosedGroup bang text c)
+    (λ h e. subst (ClosedGroup bang text) (some_list text c e) (closes_there bang text 0 h)) (λ h e. absurd cc) e
+found_closes bang text c (suc n) e =
+    cond_both {A = Option (List ℕ)} (closes_at bang text (suc n)) (Some (drop (suc n) text)) (last_closing bang text n) (λ r. r ≡ Some c → ClosedGroup bang text c)
+    (λ h e. subst (ClosedGroup bang text) (some_list (drop (suc n) text) c e) (closes_there bang text (suc n) h)) (λ h e. found_closes bang text c n e) e
 
-closes_within : (n : ℕ) (bang : Bool) (text c : List ℕ) → length text ≤ n → last_at bang text ≡ Some c → ClosedGroup bang text c
-closes_within zero bang text c h found = closes_step bang text c (grace_part_at bang text) refl (λ t lt. absurd (omega (arith, lt, h))) found
-closes_within (suc n) bang text c h found = closes_step bang text c (grace_part_at bang text) refl (λ t lt d f. closes_within n bang t d (omega (arith, lt, h)) f) found
-
-last_at-closes : (bang : Bool) (text c : List ℕ) → last_at bang text ≡ Some c → ClosedGroup bang text c
-last_at-closes bang text c found = closes_within (length text) bang text c (omega arith) found
-
-brace_at-closes : (bang : Bool) (text c : List ℕ) → brace_at bang text ≡ Some c → ClosedGroup bang text c
+pub brace_at-closes : (bang : Bool) (text c : List ℕ) → brace_at bang text ≡ Some c → ClosedGroup bang text c
 unfolding brace_at
-brace_at-closes bang text c found = last_at-closes bang text c found
+brace_at-closes bang text c e = found_closes bang text c (length text) e
 
 brace_within : (bang : Bool) (text c : List ℕ) → brace_at bang text ≡ Some c → length c ≤ length text
 brace_within bang text c found = let k = brace_at-closes bang text c found in omega (arith, ap length k.cut, length-append k.front c)
 
--- ---- the last brace is at or behind each at which a group ends
+closes_front : (bang : Bool) (front rest : List ℕ) (parts : List GracePart) → GraceParts bang front parts → closes_at bang (front ++ (125 ∷ rest)) (length front) ≡ true
+closes_front bang front rest parts good = rw (drop-append_seam front (125 ∷ rest), take-append_seam front (125 ∷ rest), walk_of_parts (part_reader bang) front parts good) refl
 
-pub record FoundBrace (bang : Bool) (text t : List ℕ) : Type 0 where
-  pub closing : List ℕ
-  pub is : last_at bang text ≡ Some closing
-  pub ends : (length closing < length (125 ∷ t)) ⊎ (closing ≡ 125 ∷ t)
+closes_so : (bang : Bool) (text d : List ℕ) (k : ClosedGroup bang text d) → closes_at bang text (length k.front) ≡ true
+closes_so bang text d k = rw (k.cut, k.is) (closes_front bang k.front k.rest k.parts k.good)
+
+abbrev pub AtLast : Bool → List ℕ → List ℕ → Option (List ℕ) → Type 0
+AtLast bang text d r = (c : List ℕ) × (r ≡ Some c) × (length c ≤ length d)
+
+closing_at : (bang : Bool) (text d : List ℕ) (n : ℕ) (b : Bool) → (k : ClosedGroup bang text d) → closes_at bang text (suc n) ≡ b → length k.front ≤ suc n → (length k.front ≤ n → AtLast bang text d (last_closing bang text n)) → AtLast bang text d (last_closing bang text (suc n))
+closing_at bang text d n true k e h next = (drop (suc n) text, rw e refl, omega (arith, h, length-drop (suc n) text, ap length k.cut, length-append k.front d))
+closing_at bang text d n false k e h next = elim (le_lt (length k.front) n) [
+  | inl before ↦ (let o = next before in (o.0, rw e o.1, o.2))
+  | inr past ↦
+      (let last : length k.front ≡ suc n = omega (arith, h, past) in
+      absurd (let clash : false ≡ true = sym e ∙ subst (λ m. closes_at bang text m ≡ true) last (closes_so bang text d k) in cc))
+]
+
+found_reaches : (bang : Bool) (text d : List ℕ) (k : ClosedGroup bang text d) (n : ℕ) → length k.front ≤ n → AtLast bang text d (last_closing bang text n)
+found_reaches bang text d k zero h =
+    let none : length k.front ≡ 0 = omega (arith, h) in
+    let here : closes_at bang text 0 ≡ true = subst (λ n. closes_at bang text n ≡ true) none (closes_so bang text d k) in
+    (text, rw here refl, omega (arith, none, ap length k.cut, length-append k.front d))
+found_reaches bang text d k (suc n) h = closing_at bang text d n (closes_at bang text (suc n)) k refl h (found_reaches bang text d k n)
+
+pub brace_at-last : (bang : Bool) (text d : List ℕ) → ClosedGroup bang text d → AtLast bang text d (brace_at bang text)
+unfolding brace_at
+brace_at-last bang text d k = found_reaches bang text d k (length text) (omega (arith, ap length k.cut, length-append k.front d))
+
+same_tail : (text f g c d : List ℕ) → text ≡ f ++ c → text ≡ g ++ d → length c ≡ length d → c ≡ d
+same_tail text f g c d e h same = from_cut (cut_at f g c d (sym e ∙ h) (omega (arith, same)))
+  where
+    by_between : (m : List ℕ) → d ≡ m ++ c → c ≡ d
+    by_between [] is = sym is
+    by_between (b ∷ m) is = absurd (omega (arith, same, ap length is, length-append m c))
+
+    from_cut : Cut f g c d → c ≡ d
+    from_cut k = by_between k.between k.behind
+
+abbrev pub IsLastBrace : Bool → List ℕ → Option (List ℕ) → Type 0
+IsLastBrace bang text None = (d : List ℕ) → ClosedGroup bang text d → ⊥
+IsLastBrace bang text (Some c) = ClosedGroup bang text c × ((d : List ℕ) → ClosedGroup bang text d → length c ≤ length d)
+
+pub none_there : (bang : Bool) (text : List ℕ) (r : Option (List ℕ)) → brace_at bang text ≡ r → ((d : List ℕ) → ClosedGroup bang text d → ⊥) → r ≡ None
+none_there bang text None e h = refl
+none_there bang text (Some c) e h = absurd (h c (brace_at-closes bang text c e))
+
+last_is : (bang : Bool) (text : List ℕ) (r : Option (List ℕ)) → IsLastBrace bang text r → brace_at bang text ≡ r
+last_is bang text None h = none_there bang text (brace_at bang text) refl h
+last_is bang text (Some c) h =
+    let o = brace_at-last bang text c h.0 in
+    let k = brace_at-closes bang text o.0 o.1 in
+    let same : o.0 ≡ c = same_tail text k.front h.0.front o.0 c k.cut h.0.cut (omega (arith, o.2, h.1 o.0 k)) in
+    o.1 ∙ ap Some same
 
 inner_at_brace : (bang : Bool) (t : List ℕ) → inner_at bang (125 ∷ t) ≡ None
 unfolding inner_at item_class
@@ -546,23 +457,102 @@ inner_at_brace bang t = refl
 at_brace : (bang : Bool) (t : List ℕ) → grace_part_at bang (125 ∷ t) ≡ None
 at_brace bang t = other_byte bang 125 t refl ∙ ap (option_map single_read) (inner_at_brace bang t)
 
-here-found : (bang : Bool) (t : List ℕ) → FoundBrace bang (125 ∷ t) t
-here-found bang t = record { closing = 125 ∷ t; is = last_at-none bang (125 ∷ t) (at_brace bang t); ends = inr refl }
+-- where no part stands a brace in front alone closes
 
-then-found : (bang : Bool) (text t : List ℕ) (z : GracePart × List ℕ) → grace_part_at bang text ≡ Some z → FoundBrace bang z.1 t → FoundBrace bang text t
-then-found bang text t z e k = record { closing = k.closing; is = last_at-some bang text z e ∙ ap (λ r. later_or r (brace_in_name bang text)) k.is; ends = k.ends }
+nothing_before : (bang : Bool) (u d text : List ℕ) (ps : List GracePart) → GraceParts bang u ps → text ≡ u ++ d → grace_part_at bang text ≡ None → text ≡ d
+nothing_before bang _ d text _ no_part cut none = cut
+nothing_before bang _ d text _ (then_part u part v more l others) cut none =
+    absurd (none_of (part_reader bang) text none part (v ++ d) (record { good = l.stands.good; cut = cut ∙ ap (λ s. s ++ d) l.stands.cut ∙ part_append part v d }))
+
+front_none : (bang : Bool) (text d : List ℕ) → grace_part_at bang text ≡ None → ClosedGroup bang text d → text ≡ d
+front_none bang text d none k = nothing_before bang k.front d text k.parts k.good k.cut none
+
+here_last : (bang : Bool) (text : List ℕ) → grace_part_at bang text ≡ None → IsLastBrace bang text (brace_here text)
+here_last bang [] none = λ d k. omega (arith, ap length (front_none bang [] d none k), ap length k.is)
+here_last bang (b ∷ s) none =
+    cond_both {A = Option (List ℕ)} (eqb b 125) (Some (b ∷ s)) None (IsLastBrace bang (b ∷ s))
+    (λ h. (here-closes bang (b ∷ s) (b ∷ s) (rw h refl), λ d k. omega (arith, ap length (front_none bang (b ∷ s) d none k))))
+    (λ h d k.
+    let same : b ≡ 125 = first_same b 125 s k.rest (front_none bang (b ∷ s) d none k ∙ k.is) in
+    let clash : eqb 125 125 ≡ false = subst (λ x. eqb x 125 ≡ false) same h in cc)
+
+pub brace-none : (bang : Bool) (text : List ℕ) → grace_part_at bang text ≡ None → brace_at bang text ≡ brace_here text
+brace-none bang text none = last_is bang text (brace_here text) (here_last bang text none)
+
+-- the parts before a brace begin with the part that stands there, where that ends before the brace
+
+pub record FirstPart (bang : Bool) (u : List ℕ) : Type 0 where
+  pub part : GracePart
+  pub behind : List ℕ
+  pub more : List GracePart
+  pub at : grace_part_at bang u ≡ Some (part_with part behind)
+  pub others : GraceParts bang behind more
+
+first_of_parts : (bang : Bool) (u text d : List ℕ) (ps : List GracePart) (z : GracePart × List ℕ) → GraceParts bang u ps → text ≡ u ++ (125 ∷ d) → grace_part_at bang text ≡ Some z → FirstPart bang u
+first_of_parts bang _ text d _ z no_part cut e = absurd (let clash = sym (at_brace bang d) ∙ ap (grace_part_at bang) (sym cut) ∙ e in cc)
+first_of_parts bang _ text d _ z (then_part u part v more l others) cut e = record { part = part; behind = v; more = more; at = longest_is (part_reader bang) u part v l; others = others }
+
+first_part : (bang : Bool) (text d : List ℕ) (z : GracePart × List ℕ) → grace_part_at bang text ≡ Some z → (k : ClosedGroup bang text d) → FirstPart bang k.front
+first_part bang text d z e k = first_of_parts bang k.front text k.rest k.parts z k.good (k.cut ∙ ap (λ x. k.front ++ x) k.is) e
+
+behind_closes : (bang : Bool) (text d : List ℕ) (z : GracePart × List ℕ) → grace_part_at bang text ≡ Some z → ClosedGroup bang text d → length d ≤ length z.1 → ClosedGroup bang z.1 d
+behind_closes bang text d z e k short =
+    let a = read_cut (part_reader bang) (part_local bang) k.front d z (ap (grace_part_at bang) (sym k.cut) ∙ e) short in
+    let f = first_part bang text d z e k in
+    let same : f.behind ≡ a.front = ap (λ (p : GracePart × List ℕ). p.1) (some_part f.part z.0 f.behind a.front (sym f.at ∙ a.at_cut)) in
+    record { front = a.front; rest = k.rest; parts = f.more; is = k.is; cut = a.behind; good = subst (λ (x : List ℕ). GraceParts bang x f.more) same f.others }
+
+-- what stands in front of a text gives the last brace within it
+
+pub record InPart (bang : Bool) (text : List ℕ) (z : GracePart × List ℕ) (x : Option (List ℕ)) : Type 0 where
+  pub closes : (c : List ℕ) → x ≡ Some c → ClosedGroup bang text c
+  pub reaches : (d : List ℕ) → ClosedGroup bang text d → length z.1 < length d → AtLast bang text d x
+
+or_last : (bang : Bool) (text : List ℕ) (z : GracePart × List ℕ) (later x : Option (List ℕ)) → grace_part_at bang text ≡ Some z → InPart bang text z x → brace_at bang z.1 ≡ later → IsLastBrace bang text (later_or later x)
+or_last bang text z (Some c) x e k later =
+    let closed = brace_at-closes bang z.1 c later in (
+      then-closes bang text c z e closed,
+      λ d other. elim (le_lt (length d) (length z.1)) [
+        | inl before ↦
+            (let o = brace_at-last bang z.1 d (behind_closes bang text d z e other before) in
+            let same : c ≡ o.0 = some_list c o.0 (sym later ∙ o.1) in
+            omega (arith, ap length same, o.2))
+        | inr past ↦ omega (arith, past, brace_within bang z.1 c later)
+      ],
+    )
+or_last bang text z None None e k later = λ d other. elim (le_lt (length d) (length z.1)) [
+  | inl before ↦ (let o = brace_at-last bang z.1 d (behind_closes bang text d z e other before) in let clash = sym later ∙ o.1 in cc)
+  | inr past ↦ (let o = k.reaches d other past in let clash = o.1 in cc)
+]
+or_last bang text z None (Some c) e k later = (
+  k.closes c refl,
+  λ d other. elim (le_lt (length d) (length z.1)) [
+    | inl before ↦ absurd (let o = brace_at-last bang z.1 d (behind_closes bang text d z e other before) in let clash = sym later ∙ o.1 in cc)
+    | inr past ↦
+        (let o = k.reaches d other past in
+        let same : c ≡ o.0 = some_list c o.0 o.1 in
+        omega (arith, ap length same, o.2))
+  ],
+)
+
+brace-some : (bang : Bool) (text : List ℕ) (z : GracePart × List ℕ) (x : Option (List ℕ)) → grace_part_at bang text ≡ Some z → InPart bang text z x → brace_at bang text ≡ later_or (brace_at bang z.1) x
+brace-some bang text z x e k = last_is bang text (later_or (brace_at bang z.1) x) (or_last bang text z (brace_at bang z.1) x e k refl)
 
 -- parts in a name close no group
 clear_single : (bang : Bool) (f : Inner) (rest : List ℕ) (b : Bool) → IsInner bang f → is_named f ≡ b → list_all is_name_byte (inner_then f rest) ≡ true → list_all is_in_grace rest ≡ true → list_all is_in_grace (inner_then f rest) ≡ true
 clear_single bang f rest true good n h more = absurd (named_bad f rest n h)
 clear_single bang f rest false good n h more = ap (list_all is_in_grace) (sym (inner_append f [] rest)) ∙ all_join is_in_grace (inner_then f []) rest (wider free is_in_grace (inner_then f []) in_grace_wide (inner_free bang f good n)) more
 
-clear_chord : (bang : Bool) (f : ChordForm) (rest : List ℕ) → IsChord bang f → list_all is_in_grace f.inside ≡ true → list_all is_in_grace rest ≡ true → list_all is_in_grace (chord_then f rest) ≡ true
-clear_chord bang f rest good clear more = ap (list_all is_in_grace) (sym (chord_append f [] rest)) ∙ all_join is_in_grace (chord_then f []) rest (chord_clear bang f good clear) more
+clear_chord : (bang : Bool) (f : ChordForm) (rest : List ℕ) → IsChord bang f → list_all is_name_byte (chord_then f rest) ≡ true → list_all is_in_grace rest ≡ true → list_all is_in_grace (chord_then f rest) ≡ true
+clear_chord bang f rest good h more =
+    let names = all_parts is_name_byte f.inside (93 ∷ length_then f.length rest) h in
+    let inside = clear_parts bang is_in_grace f.inside f.parts in_grace_wide good.parts names.0 in
+    let len = all_join is_in_grace (length_then f.length []) rest (wider free is_in_grace (length_then f.length []) in_grace_wide (length_free f.length good.length)) more in
+    all_join is_in_grace f.inside (93 ∷ length_then f.length rest) inside (ap (list_all is_in_grace) (sym (length_append f.length [] rest)) ∙ len)
 
 clear_part : (bang : Bool) (p : GracePart) (rest : List ℕ) → IsGracePart bang p → list_all is_name_byte (grace_part_then p rest) ≡ true → list_all is_in_grace rest ≡ true → list_all is_in_grace (grace_part_then p rest) ≡ true
 clear_part bang (single f) rest good h more = clear_single bang f rest (is_named f) good refl h more
-clear_part bang (chorded f) rest good h more = clear_chord bang f rest good.0 good.1 more
+clear_part bang (chorded f) rest good h more = clear_chord bang f rest good (and_parts (is_name_byte 91) (list_all is_name_byte (chord_then f rest)) h).1 more
 
 names_behind : (p : GracePart) (rest : List ℕ) → list_all is_name_byte (grace_part_then p rest) ≡ true → list_all is_name_byte rest ≡ true
 names_behind p rest h = (all_parts is_name_byte (grace_part_then p []) rest (ap (list_all is_name_byte) (part_append p [] rest) ∙ h)).1
@@ -586,59 +576,148 @@ in_name-found bang before after rest parts off good group =
     rw (off, name_at-reads name rest good, cut, append-nil, ← off, walk_of_parts (part_reader bang) before parts group, drops)
     (ap (λ (b : Bool). cond {A = Option (List ℕ)} (not b && true) (Some (125 ∷ (after ++ (33 ∷ rest)))) None) (ne_eqb (suc (length after)) 0 (omega arith)))
 
-cross_last : (bang : Bool) (text t : List ℕ) (z : GracePart × List ℕ) → grace_part_at bang text ≡ Some z → length z.1 < length (125 ∷ t) → brace_in_name bang text ≡ Some (125 ∷ t) →
-    (r : Option (List ℕ)) → last_at bang z.1 ≡ r → FoundBrace bang text t
-cross_last bang text t z e short found None is = record { closing = 125 ∷ t; is = last_at-some bang text z e ∙ ap (λ r. later_or r (brace_in_name bang text)) is ∙ found; ends = inr refl }
-cross_last bang text t z e short found (Some c) is =
-    let k = last_at-closes bang z.1 c is in
-    record { closing = c; is = last_at-some bang text z e ∙ ap (λ r. later_or r (brace_in_name bang text)) is; ends = inl (omega (arith, short, ap length k.cut, length-append k.front c)) }
+-- a brace within a name
 
--- a part that goes past a brace is a name
-pub record PartCrosses (bang : Bool) (p : GracePart) (u : List ℕ) : Type 0 where
-  pub inner : Inner
-  pub is_single : p ≡ single inner
-  pub named : CrossesIn bang inner u 125
+cross_single : (bang : Bool) (text d : List ℕ) (f : Inner) (rest : List ℕ) → grace_part_at bang text ≡ Some (part_with (single f) rest) → ClosedGroup bang text d → length rest < length d → brace_in_name bang text ≡ Some d
+cross_single bang text d f rest e k short =
+    let stands = stands_at (part_reader bang) text (single f, rest) e in
+    by_name (crossing bang is_in_grace 125 f k.front k.rest rest in_grace_wide refl refl stands.good (sym line ∙ stands.cut) (omega (arith, short, ap length k.is))) stands.cut
+  where
+    line : text ≡ k.front ++ (125 ∷ k.rest)
+    line = k.cut ∙ ap (λ x. k.front ++ x) k.is
 
-chord_stays : (bang : Bool) (f : ChordForm) (u t rest : List ℕ) → IsGracePart bang (chorded f) → u ++ (125 ∷ t) ≡ grace_part_then (chorded f) rest → length rest < length (125 ∷ t) → ⊥
-chord_stays bang f u t rest good e short =
-    let c = cut_at (grace_part_then (chorded f) []) u rest (125 ∷ t) (part_append (chorded f) [] rest ∙ sym e) (omega (arith, short)) in
+    by_name : CrossesIn bang f k.front 125 → text ≡ inner_then f rest → brace_in_name bang text ≡ Some d
+    by_name c cut =
+        let before = c.crosses.before in
+        let after = c.crosses.after in
+        let first = first_part bang text d (single f, rest) e k in
+        let names = all_parts is_name_byte before (125 ∷ after) (ap (list_all is_name_byte) (sym c.crosses.name_is) ∙ c.good.bytes) in
+        let alone : grace_part_at bang k.front ≡ Some (part_with (single lone_inside) before) = ap (grace_part_at bang) c.crosses.text ∙ lone_part bang before c.off names.0 in
+        let same : part_with first.part first.behind ≡ part_with (single lone_inside) before = some_part first.part (single lone_inside) first.behind before (sym first.at ∙ alone) in
+        let group : GraceParts bang before first.more = subst (λ (x : List ℕ). GraceParts bang x first.more) (ap (λ (p : GracePart × List ℕ). p.1) same) first.others in
+        let spelled : text ≡ 33 ∷ ((before ++ (125 ∷ after)) ++ (33 ∷ rest)) = cut ∙ ap (λ g. inner_then g rest) c.is ∙ ap (λ (n : List ℕ). 33 ∷ (n ++ (33 ∷ rest))) c.crosses.name_is in
+        let found = in_name-found bang before after rest first.more c.off (subst IsName c.crosses.name_is c.good) group in
+        let tail : 125 ∷ (after ++ (33 ∷ rest)) ≡ 125 ∷ k.rest = append_cancel_left before (125 ∷ (after ++ (33 ∷ rest))) (125 ∷ k.rest)
+        (sym (append_assoc before (125 ∷ after) (33 ∷ rest)) ∙ rest_same 33 33 ((before ++ (125 ∷ after)) ++ (33 ∷ rest)) (before ++ (125 ∷ k.rest)) (sym spelled ∙ line ∙ ap (λ (x : List ℕ). x ++ (125 ∷ k.rest)) c.crosses.text)) in
+        ap (brace_in_name bang) spelled ∙ found ∙ ap Some (tail ∙ sym k.is)
+
+in_single : (bang : Bool) (text : List ℕ) (f : Inner) (rest : List ℕ) → grace_part_at bang text ≡ Some (part_with (single f) rest) → InPart bang text (single f, rest) (brace_in_name bang text)
+in_single bang text f rest e = record { closes = in_name-closes bang text; reaches = λ d k short. (d, cross_single bang text d f rest e k short, omega arith) }
+
+-- a brace within a chord
+
+-- no brace stands in a length
+length_past : (l : LengthForm) (rest m d t : List ℕ) → IsLength l → d ≡ 125 ∷ t → length_then l rest ≡ m ++ d → length rest < length d → ⊥
+length_past l rest m d t good is e short =
+    let c = cut_at (length_then l []) m rest d (length_append l [] rest ∙ e) (omega (arith, short)) in
     by_between c.between c.behind c.front
   where
-    by_between : (m : List ℕ) → 125 ∷ t ≡ m ++ rest → grace_part_then (chorded f) [] ≡ u ++ m → ⊥
-    by_between [] is front = omega (arith, short, ap length is)
-    by_between (b ∷ m) is front =
-        let all : list_all is_in_grace (u ++ (b ∷ m)) ≡ true = ap (list_all is_in_grace) (sym front) ∙ chord_clear bang f good.0 good.1 in
-        let here : is_in_grace b ≡ true = (and_parts (is_in_grace b) (list_all is_in_grace m) (all_parts is_in_grace u (b ∷ m) all).1).0 in
-        let clash : is_in_grace 125 ≡ true = subst (λ y. is_in_grace y ≡ true) (sym (first_same 125 b t (m ++ rest) is)) here in cc
+    by_between : (b : List ℕ) → d ≡ b ++ rest → length_then l [] ≡ m ++ b → ⊥
+    by_between [] behind front = omega (arith, short, ap length behind)
+    by_between (b ∷ bs) behind front =
+        let all : list_all free (m ++ (b ∷ bs)) ≡ true = ap (list_all free) (sym front) ∙ length_free l good in
+        let here : free b ≡ true = (and_parts (free b) (list_all free bs) (all_parts free m (b ∷ bs) all).1).0 in
+        let clash : free 125 ≡ true = subst (λ y. free y ≡ true) (sym (first_same 125 b t (bs ++ rest) (sym is ∙ behind))) here in cc
 
-part_crossing : (bang : Bool) (p : GracePart) (u t rest : List ℕ) → IsGracePart bang p → u ++ (125 ∷ t) ≡ grace_part_then p rest → length rest < length (125 ∷ t) → PartCrosses bang p u
-part_crossing bang (single f) u t rest good e short = record { inner = f; is_single = refl; named = crossing bang is_in_grace 125 f u t rest in_grace_wide refl refl good e short }
-part_crossing bang (chorded f) u t rest good e short = absurd (chord_stays bang f u t rest good e short)
+apart : ◌≡◌ {A = ℕ} 93 125 → ⊥
+apart e = let clash : eqb 93 125 ≡ true = subst (λ x. eqb 93 x ≡ true) e refl in cc
 
-some_part : (p q : GracePart) (x y : List ℕ) → Some (part_with p x) ≡ Some (part_with q y) → part_with p x ≡ part_with q y
-some_part p q x y h = cc
+abbrev tail_of : ChordForm → List ℕ → List ℕ
+tail_of f rest = 93 ∷ length_then f.length rest
 
-cross-found : (bang : Bool) (u t : List ℕ) (part : GracePart) (v : List ℕ) (more : List GracePart) (z : GracePart × List ℕ) → grace_part_at bang u ≡ Some (part, v) → GraceParts bang v more →
-    grace_part_at bang (u ++ (125 ∷ t)) ≡ Some z → length z.1 < length (125 ∷ t) → FoundBrace bang (u ++ (125 ∷ t)) t
-cross-found bang u t part v more z at others e short =
-    let stands = stands_at (part_reader bang) (u ++ (125 ∷ t)) z e in
-    by_name (part_crossing bang z.0 u t z.1 stands.good stands.cut short)
+-- a brace that stands behind the bracket in front, and not behind the chord, stands between its brackets
+brace_inside : (bang : Bool) (f : ChordForm) (rest d : List ℕ) → IsChord bang f → (k : ClosedGroup bang (91 ∷ chord_then f rest) d) → length rest < length d → length (tail_of f rest) ≤ length d
+brace_inside bang f rest d good k short = elim (le_lt (length (tail_of f rest)) (length d)) [
+  | inl far ↦ far
+  | inr near ↦ absurd (by_cut (cut_at k.front (91 ∷ f.inside) d (tail_of f rest) (sym k.cut) (omega (arith, near))))
+]
   where
-    by_name : PartCrosses bang z.0 u → FoundBrace bang (u ++ (125 ∷ t)) t
-    by_name c =
-        let k = c.named in
-        let stands = stands_at (part_reader bang) (u ++ (125 ∷ t)) z e in
-        let before = k.crosses.before in
-        let after = k.crosses.after in
-        let names = all_parts is_name_byte before (125 ∷ after) (ap (list_all is_name_byte) (sym k.crosses.name_is) ∙ k.good.bytes) in
-        let alone : grace_part_at bang u ≡ Some (part_with (single lone_inside) before) = ap (grace_part_at bang) k.crosses.text ∙ lone_part bang before k.off names.0 in
-        let same : part_with part v ≡ part_with (single lone_inside) before = some_part part (single lone_inside) v before (sym at ∙ alone) in
-        let group : GraceParts bang before more = subst (λ (x : List ℕ). GraceParts bang x more) (ap (λ (p : GracePart × List ℕ). p.1) same) others in
-        let spelled : u ++ (125 ∷ t) ≡ 33 ∷ ((before ++ (125 ∷ after)) ++ (33 ∷ z.1)) = stands.cut ∙ ap (λ p. grace_part_then p z.1) c.is_single ∙ ap (λ f. inner_then f z.1) k.is ∙ ap (λ (n : List ℕ). 33 ∷ (n ++ (33 ∷ z.1))) k.crosses.name_is in
-        let found = in_name-found bang before after z.1 more k.off (subst IsName k.crosses.name_is k.good) group in
-        let tail : 125 ∷ (after ++ (33 ∷ z.1)) ≡ 125 ∷ t = append_cancel_left before (125 ∷ (after ++ (33 ∷ z.1))) (125 ∷ t)
-        (sym (append_assoc before (125 ∷ after) (33 ∷ z.1)) ∙ rest_same 33 33 ((before ++ (125 ∷ after)) ++ (33 ∷ z.1)) (before ++ (125 ∷ t)) (sym spelled ∙ ap (λ (x : List ℕ). x ++ (125 ∷ t)) k.crosses.text)) in
-        cross_last bang (u ++ (125 ∷ t)) t z e short (ap (brace_in_name bang) spelled ∙ found ∙ ap Some tail) (last_at bang z.1) refl
+    by_between : (m : List ℕ) → tail_of f rest ≡ m ++ d → length d < length (tail_of f rest) → ⊥
+    by_between [] is near = omega (arith, near, ap length is)
+    by_between (b ∷ m) is near = length_past f.length rest m d k.rest good.length k.is (rest_same 93 b (length_then f.length rest) (m ++ d) is) short
+
+    by_cut : Cut k.front (91 ∷ f.inside) d (tail_of f rest) → ⊥
+    by_cut c = elim (le_lt (length (tail_of f rest)) (length d)) [
+      | inl far ↦ same_end c.between c.behind far
+      | inr near ↦ by_between c.between c.behind near
+    ]
+      where
+        same_end : (m : List ℕ) → tail_of f rest ≡ m ++ d → length (tail_of f rest) ≤ length d → ⊥
+        same_end [] is far = apart (first_same 93 125 (length_then f.length rest) k.rest (is ∙ k.is))
+        same_end (b ∷ m) is far = omega (arith, far, ap length is, length-append m d)
+
+chord_reaches : (bang : Bool) (f : ChordForm) (rest d : List ℕ) → IsChord bang f → ClosedGroup bang (91 ∷ chord_then f rest) d → length rest < length d →
+    AtLast bang (91 ∷ chord_then f rest) d (option_map (λ b. b ++ tail_of f rest) (brace_at bang (91 ∷ f.inside)))
+chord_reaches bang f rest d good k short = from_cut (cut_at (91 ∷ f.inside) k.front (tail_of f rest) d k.cut (brace_inside bang f rest d good k short))
+  where
+    by_between : (m : List ℕ) → d ≡ m ++ tail_of f rest → 91 ∷ f.inside ≡ k.front ++ m → AtLast bang (91 ∷ chord_then f rest) d (option_map (λ b. b ++ tail_of f rest) (brace_at bang (91 ∷ f.inside)))
+    by_between [] behind front = absurd (apart (sym (first_same 125 93 k.rest (length_then f.length rest) (sym k.is ∙ behind))))
+    by_between (b ∷ m) behind front =
+        let mark : 125 ≡ b = first_same 125 b k.rest (m ++ tail_of f rest) (sym k.is ∙ behind) in
+        let o = brace_at-last bang (91 ∷ f.inside) (b ∷ m) (record { front = k.front; rest = m; parts = k.parts; is = ap (λ x. x ∷ m) (sym mark); cut = front; good = k.good }) in
+        (o.0 ++ tail_of f rest, ap (option_map (λ (b : List ℕ). b ++ tail_of f rest)) o.1, omega (arith, o.2, ap length behind, length-append (b ∷ m) (tail_of f rest), length-append o.0 (tail_of f rest)))
+
+    from_cut : Cut (91 ∷ f.inside) k.front (tail_of f rest) d → AtLast bang (91 ∷ chord_then f rest) d (option_map (λ b. b ++ tail_of f rest) (brace_at bang (91 ∷ f.inside)))
+    from_cut c = by_between c.between c.behind c.front
+
+mapped : (tail c : List ℕ) (r : Option (List ℕ)) → option_map (λ b. b ++ tail) r ≡ Some c → (b : List ℕ) × (r ≡ Some b) × (c ≡ b ++ tail)
+mapped tail c None e = absurd cc
+mapped tail c (Some b) e = (b, refl, sym (some_list (b ++ tail) c e))
+
+chord_closes : (bang : Bool) (f : ChordForm) (rest c : List ℕ) → option_map (λ b. b ++ tail_of f rest) (brace_at bang (91 ∷ f.inside)) ≡ Some c → ClosedGroup bang (91 ∷ chord_then f rest) c
+chord_closes bang f rest c e =
+    let m = mapped (tail_of f rest) c (brace_at bang (91 ∷ f.inside)) e in
+    let k = brace_at-closes bang (91 ∷ f.inside) m.0 m.1 in
+    record {
+      front = k.front;
+      rest = k.rest ++ tail_of f rest;
+      parts = k.parts;
+      is = m.2 ∙ ap (λ (x : List ℕ). x ++ tail_of f rest) k.is;
+      cut = ap (λ (x : List ℕ). x ++ tail_of f rest) k.cut ∙ append_assoc k.front m.0 (tail_of f rest) ∙ ap (λ x. k.front ++ x) (sym m.2);
+      good = k.good;
+    }
+
+chord_tail : (f : ChordForm) (rest : List ℕ) → drop (suc (length f.inside)) (91 ∷ chord_then f rest) ≡ tail_of f rest
+chord_tail f rest = drop-append_seam (91 ∷ f.inside) (tail_of f rest)
+
+in_chord : (bang : Bool) (f : ChordForm) (rest : List ℕ) → IsChord bang f → InPart bang (91 ∷ chord_then f rest) (chorded f, rest) (brace_in_part bang (chorded f) (91 ∷ chord_then f rest))
+unfolding brace_in_chord
+in_chord bang f rest good = rw (chord_tail f rest) (record { closes = chord_closes bang f rest; reaches = λ d k short. chord_reaches bang f rest d good k short })
+
+in_part : (bang : Bool) (text rest : List ℕ) (p : GracePart) → grace_part_at bang text ≡ Some (part_with p rest) → InPart bang text (p, rest) (brace_in_part bang p text)
+in_part bang text rest (single f) e = in_single bang text f rest e
+in_part bang text rest (chorded f) e =
+    let stands = stands_at (part_reader bang) text (chorded f, rest) e in
+    subst (λ t. InPart bang t (chorded f, rest) (brace_in_part bang (chorded f) t)) (sym stands.cut) (in_chord bang f rest stands.good)
+
+pub brace-part : (bang : Bool) (text rest : List ℕ) (p : GracePart) → grace_part_at bang text ≡ Some (part_with p rest) → brace_at bang text ≡ later_or (brace_at bang rest) (brace_in_part bang p text)
+brace-part bang text rest p e = brace-some bang text (p, rest) (brace_in_part bang p text) e (in_part bang text rest p e)
+
+-- the chord of a text, and shorter ones
+
+pub chord-none : (bang : Bool) (w : List ℕ) → bracket_at bang w ≡ None → brace_in_chord bang w ≡ None
+unfolding chord_at brace_in_chord
+chord-none bang w none =
+    let here : grace_part_at bang (91 ∷ w) ≡ None = at_bracket bang w ∙ rw none refl in
+    brace-none bang (91 ∷ w) here
+
+abbrev form_of : Bool → List ℕ → List ℕ → ChordForm
+form_of bang inside rest = record { inside = inside; parts = (walk (inner_at bang) inside).0; length = (length_at rest).0 }
+
+read_form : (bang : Bool) (w c : List ℕ) (b : ℕ) → bracket_at bang w ≡ Some (b ∷ c) → chord_at bang w ≡ Some (chord_pair (form_of bang (take (length w - length (b ∷ c)) w) c) (length_at c).1)
+unfolding chord_at
+read_form bang w c b e = rw e refl
+
+pub chord-some : (bang : Bool) (w c : List ℕ) → bracket_at bang w ≡ Some c → brace_in_chord bang w ≡ later_or (brace_behind bang c) (option_map (λ b. b ++ c) (brace_in_chord bang (take (length w - length c) w)))
+unfolding brace_in_chord
+chord-some bang w [] e = absurd (let k = bracket_at-closes bang w [] e in omega (arith, ap length k.is))
+chord-some bang w (b ∷ c) e =
+    let k = bracket_at-closes bang w (b ∷ c) e in
+    let inside : take (length w - length (b ∷ c)) w ≡ k.front = cut_off w k.front (b ∷ c) k.cut in
+    let f = form_of bang (take (length w - length (b ∷ c)) w) c in
+    let at : grace_part_at bang (91 ∷ w) ≡ Some (part_with (chorded f) (length_at c).1) = at_bracket bang w ∙ ap (option_map chorded_read) (read_form bang w c b e) in
+    let tail : drop (suc (length f.inside)) (91 ∷ w) ≡ b ∷ c = ap (λ (t : List ℕ). drop (length t) w) inside ∙ ap (drop (length k.front)) k.cut ∙ drop-append_seam k.front (b ∷ c) in
+    brace-part bang (91 ∷ w) (length_at c).1 (chorded f) at ∙ ap (λ (t : List ℕ). later_or (brace_at bang (length_at c).1) (option_map (λ (x : List ℕ). x ++ t) (brace_at bang (91 ∷ f.inside)))) tail
 
 no_shorter : (bang : Bool) (u t v : List ℕ) (part : GracePart) (z : GracePart × List ℕ) → grace_part_at bang u ≡ Some (part, v) → grace_part_at bang (u ++ (125 ∷ t)) ≡ Some z → length z.1 < length (v ++ (125 ∷ t)) → length (125 ∷ t) ≤ length z.1 → ⊥
 no_shorter bang u t v part z at e shorter before =
@@ -646,64 +725,79 @@ no_shorter bang u t v part z at e shorter before =
     let same : a.front ≡ v = ap (λ (p : GracePart × List ℕ). p.1) (some_part z.0 part a.front v (sym a.at_cut ∙ at)) in
     omega (arith, shorter, ap length a.behind, length-append a.front (125 ∷ t), length-append v (125 ∷ t), ap length same)
 
-moved : (bang : Bool) (u t v : List ℕ) (part : GracePart) → StandsInGrace bang part u v → StandsInGrace bang part (u ++ (125 ∷ t)) (v ++ (125 ∷ t))
-moved bang u t v part stands = record { good = stands.good; cut = ap (λ s. s ++ (125 ∷ t)) stands.cut ∙ part_append part v (125 ∷ t) }
-
-last-reaches : (bang : Bool) (u t : List ℕ) (ps : List GracePart) → GraceParts bang u ps → FoundBrace bang (u ++ (125 ∷ t)) t
-last-reaches bang _ t _ no_part = here-found bang t
-last-reaches bang _ t _ (then_part u part v more l others) =
-    let r = part_reader bang in
-    let at = longest_is r u part v l in
-    let o = r.reaches part (u ++ (125 ∷ t)) (v ++ (125 ∷ t)) (moved bang u t v part l.stands) in
-    elim o.2 [
-      | inr same ↦ then-found bang (u ++ (125 ∷ t)) t (part, v ++ (125 ∷ t)) (o.1 ∙ ap Some same) (last-reaches bang v t more others)
-      | inl shorter ↦ elim (le_lt (length (125 ∷ t)) (length o.0.1)) [
-        | inl before ↦ absurd (no_shorter bang u t v part o.0 at o.1 shorter before)
-        | inr past ↦ cross-found bang u t part v more o.0 at others o.1 past
-      ]
-    ]
-
--- where no exclamation mark of the group itself is passed over, the line is read as the inside is
+-- where no exclamation mark is passed over, neither in the group nor in its chords, the line is read as the inside is
 abbrev pub lone_part_is : GracePart → Bool
 lone_part_is (single f) = is_lone f
-lone_part_is (chorded f) = false
+lone_part_is (chorded f) = has_lone f.parts
 
 abbrev pub has_lone_part : List GracePart → Bool
 has_lone_part [] = false
 has_lone_part (p ∷ more) = lone_part_is p || has_lone_part more
 
-cross-lone : (bang : Bool) (u t v : List ℕ) (part : GracePart) (z : GracePart × List ℕ) → grace_part_at bang u ≡ Some (part, v) → grace_part_at bang (u ++ (125 ∷ t)) ≡ Some z → length z.1 < length (125 ∷ t) → part ≡ single lone_inside
-cross-lone bang u t v part z at e past =
-    let stands = stands_at (part_reader bang) (u ++ (125 ∷ t)) z e in
-    by_name (part_crossing bang z.0 u t z.1 stands.good stands.cut past)
-  where
-    by_name : PartCrosses bang z.0 u → part ≡ single lone_inside
-    by_name c =
-        let k = c.named in
-        let names = all_parts is_name_byte k.crosses.before (125 ∷ k.crosses.after) (ap (list_all is_name_byte) (sym k.crosses.name_is) ∙ k.good.bytes) in
-        let alone : grace_part_at bang u ≡ Some (part_with (single lone_inside) k.crosses.before) = ap (grace_part_at bang) k.crosses.text ∙ lone_part bang k.crosses.before k.off names.0 in
-        ap (λ (p : GracePart × List ℕ). p.0) (some_part part (single lone_inside) v k.crosses.before (sym at ∙ alone))
+moved : (bang : Bool) (u t v : List ℕ) (part : GracePart) → StandsInGrace bang part u v → StandsInGrace bang part (u ++ (125 ∷ t)) (v ++ (125 ∷ t))
+moved bang u t v part stands = record { good = stands.good; cut = ap (λ s. s ++ (125 ∷ t)) stands.cut ∙ part_append part v (125 ∷ t) }
 
-others_whole : (a b : Bool) → (a || b) ≡ false → b ≡ false
-others_whole true b h = absurd cc
-others_whole false b h = h
+some_pair : (p q : GracePart × List ℕ) → Some p ≡ Some q → p ≡ q
+some_pair p q e = cc
 
-lone_clash : (p : GracePart) (b : Bool) → p ≡ single lone_inside → (lone_part_is p || b) ≡ false → ⊥
-lone_clash p b e h = let here : (lone_part_is (single lone_inside) || b) ≡ false = subst (λ x. (lone_part_is x || b) ≡ false) e h in cc
+abbrev with_length : ChordForm → LengthForm → ChordForm
+with_length f l = record { inside = f.inside; parts = f.parts; length = l }
 
-last-exact : (bang : Bool) (u t : List ℕ) (ps : List GracePart) → GraceParts bang u ps → has_lone_part ps ≡ false → last_at bang (u ++ (125 ∷ t)) ≡ Some (125 ∷ t)
-last-exact bang _ t _ no_part whole = last_at-none bang (125 ∷ t) (at_brace bang t)
-last-exact bang _ t _ (then_part u part v more l others) whole =
+chord_kept : (bang : Bool) (f : ChordForm) (v t : List ℕ) (z : GracePart × List ℕ) → IsChord bang f → has_lone f.parts ≡ false → grace_part_at bang (91 ∷ chord_then f (v ++ (125 ∷ t))) ≡ Some z → length (125 ∷ t) ≤ length z.1
+chord_kept bang f v t z good whole e =
+    let x = v ++ (125 ∷ t) in
+    let l = length_at (length_then f.length x) in
+    let takes = length_at-takes (length_then f.length x) in
+    let read : grace_part_at bang (91 ∷ chord_then f x) ≡ Some (part_with (chorded (with_length f l.0)) l.1) = at_bracket bang (chord_then f x) ∙ ap (option_map chorded_read) (chord-reads bang f x good whole) in
+    let same : z.1 ≡ l.1 = ap (λ (p : GracePart × List ℕ). p.1) (some_pair z (part_with (chorded (with_length f l.0)) l.1) (sym e ∙ read)) in
+    elim (le_lt (length (125 ∷ t)) (length z.1)) [
+      | inl far ↦ far
+      | inr near ↦ absurd (length_past l.0 l.1 (length_then f.length v) (125 ∷ t) t takes.1 refl (sym takes.0 ∙ sym (length_append f.length v (125 ∷ t))) (omega (arith, near, ap length same)))
+    ]
+
+lone_clash : (f : Inner) → single f ≡ single lone_inside → is_lone f ≡ false → ⊥
+lone_clash f e h = let here : lone_part_is (single lone_inside) ≡ false = subst (λ (p : GracePart). lone_part_is p ≡ false) e h in cc
+
+named_clash : (bang : Bool) (f g : Inner) (v : List ℕ) → grace_part_at bang (inner_then f v) ≡ Some (part_with (single f) v) → is_lone f ≡ false → CrossesIn bang g (inner_then f v) 125 → ⊥
+named_clash bang f g v at whole c =
+    let names = all_parts is_name_byte c.crosses.before (125 ∷ c.crosses.after) (ap (list_all is_name_byte) (sym c.crosses.name_is) ∙ c.good.bytes) in
+    let alone : grace_part_at bang (inner_then f v) ≡ Some (part_with (single lone_inside) c.crosses.before) = ap (grace_part_at bang) c.crosses.text ∙ lone_part bang c.crosses.before c.off names.0 in
+    lone_clash f (ap (λ (p : GracePart × List ℕ). p.0) (some_part (single f) (single lone_inside) v c.crosses.before (sym at ∙ alone))) whole
+
+single_from : (bang : Bool) (f : Inner) (v t : List ℕ) (z : GracePart × List ℕ) (r : Option (Inner × List ℕ)) → inner_at bang (inner_then f v ++ (125 ∷ t)) ≡ r → option_map single_read r ≡ Some z → is_lone f ≡ false → grace_part_at bang (inner_then f v) ≡ Some (part_with (single f) v) → length (125 ∷ t) ≤ length z.1
+single_from bang f v t z None e is whole at = absurd cc
+single_from bang f v t z (Some g) e is whole at = elim (le_lt (length (125 ∷ t)) (length z.1)) [
+  | inl far ↦ far
+  | inr near ↦
+      (let stands = stands_at (inner_reader bang) (inner_then f v ++ (125 ∷ t)) g e in
+      let same : g.1 ≡ z.1 = ap (λ (p : GracePart × List ℕ). p.1) (some_pair (single_read g) z is) in
+      absurd (named_clash bang f g.0 v at whole (crossing bang is_in_grace 125 g.0 (inner_then f v) t g.1 in_grace_wide refl refl stands.good stands.cut (omega (arith, near, ap length same)))))
+]
+
+part_kept : (bang : Bool) (part : GracePart) (v t : List ℕ) (z : GracePart × List ℕ) → IsGracePart bang part → lone_part_is part ≡ false → grace_part_at bang (grace_part_then part v) ≡ Some (part_with part v) → grace_part_at bang (grace_part_then part v ++ (125 ∷ t)) ≡ Some z →
+    length (125 ∷ t) ≤ length z.1
+part_kept bang (single f) v t z good whole at e =
+    let here : grace_part_at bang (inner_then f v ++ (125 ∷ t)) ≡ option_map single_read (inner_at bang (inner_then f v ++ (125 ∷ t))) = rw (inner_append f v (125 ∷ t)) (single_at bang f (v ++ (125 ∷ t)) good) in
+    single_from bang f v t z (inner_at bang (inner_then f v ++ (125 ∷ t))) refl (sym here ∙ e) whole at
+part_kept bang (chorded f) v t z good whole at e = chord_kept bang f v t z good whole (ap (grace_part_at bang) (sym (part_append (chorded f) v (125 ∷ t))) ∙ e)
+
+whole_parts : (a b : Bool) → (a || b) ≡ false → (a ≡ false) × (b ≡ false)
+whole_parts true b h = absurd cc
+whole_parts false b h = (refl, h)
+
+nothing_past : (bang : Bool) (u t d : List ℕ) (ps : List GracePart) → GraceParts bang u ps → has_lone_part ps ≡ false → ClosedGroup bang (u ++ (125 ∷ t)) d → length (125 ∷ t) ≤ length d
+nothing_past bang _ t d _ no_part whole k = omega (arith, ap length (front_none bang (125 ∷ t) d (at_brace bang t) k))
+nothing_past bang _ t d _ (then_part u part v more l others) whole k =
     let r = part_reader bang in
-    let at = longest_is r u part v l in
+    let w = whole_parts (lone_part_is part) (has_lone_part more) whole in
+    let at : grace_part_at bang u ≡ Some (part_with part v) = longest_is r u part v l in
     let o = r.reaches part (u ++ (125 ∷ t)) (v ++ (125 ∷ t)) (moved bang u t v part l.stands) in
+    let kept : length (125 ∷ t) ≤ length o.0.1 = part_kept bang part v t o.0 l.stands.good w.0 (ap (grace_part_at bang) (sym l.stands.cut) ∙ at) (ap (λ (x : List ℕ). grace_part_at bang (x ++ (125 ∷ t))) (sym l.stands.cut) ∙ o.1) in
     elim o.2 [
-      | inr same ↦
-          (let later = last-exact bang v t more others (others_whole (lone_part_is part) (has_lone_part more) whole) in
-          last_at-some bang (u ++ (125 ∷ t)) (part, v ++ (125 ∷ t)) (o.1 ∙ ap Some same) ∙ rw later refl)
-      | inl shorter ↦ elim (le_lt (length (125 ∷ t)) (length o.0.1)) [
-        | inl before ↦ absurd (no_shorter bang u t v part o.0 at o.1 shorter before)
-        | inr past ↦ absurd (lone_clash part (has_lone_part more) (cross-lone bang u t v part o.0 at o.1 past) whole)
+      | inl shorter ↦ absurd (no_shorter bang u t v part o.0 at o.1 shorter kept)
+      | inr same ↦ elim (le_lt (length d) (length o.0.1)) [
+        | inl before ↦ nothing_past bang v t d more others w.1 (subst (λ (x : List ℕ). ClosedGroup bang x d) (ap (λ (p : GracePart × List ℕ). p.1) same) (behind_closes bang (u ++ (125 ∷ t)) d o.0 o.1 k before))
+        | inr past ↦ omega (arith, kept, past)
       ]
     ]
 
@@ -749,10 +843,6 @@ unfolding skip
 slash_read true w x h = refl
 slash_read false w x h = skip-lacks 47 (w ++ (125 ∷ x)) (lacks_slash w x (h refl))
 
-found_at : (bang : Bool) (s c : List ℕ) → last_at bang s ≡ Some c → brace_at bang s ≡ Some c
-unfolding brace_at
-found_at bang s c e = e
-
 at_closing : (bang : Bool) (f : GraceForm) (x c : List ℕ) → IsGrace bang f → brace_at bang (f.inside ++ (125 ∷ x)) ≡ Some c → grace_at bang (grace_then f x) ≡ grace_from bang f.slash (f.inside ++ (125 ∷ x)) (Some c)
 unfolding grace_at
 at_closing bang f x c good e = rw (slash_read f.slash f.inside x good.slash_is_read, e) refl
@@ -777,18 +867,34 @@ longer_grace bang f x (b ∷ c) good e shorter =
       inl (omega (arith, shorter)),
     )
 
+group_there : (bang : Bool) (f : GraceForm) (x : List ℕ) → IsGrace bang f → ClosedGroup bang (f.inside ++ (125 ∷ x)) (125 ∷ x)
+group_there bang f x good = record { front = f.inside; rest = x; parts = f.parts; is = refl; cut = refl; good = good.parts }
+
+same_brace : (bang : Bool) (text c d : List ℕ) → ClosedGroup bang text c → ClosedGroup bang text d → length c ≡ length d → c ≡ d
+same_brace bang text c d k l same = same_tail text k.front l.front c d k.cut l.cut same
+
 pub grace_at-reaches : (bang : Bool) (f : GraceForm) (x : List ℕ) → IsGrace bang f → (z : GraceForm × List ℕ) × (grace_at bang (grace_then f x) ≡ Some z) × ((length z.1 < length x) ⊎ (z ≡ (f, x)))
 grace_at-reaches bang f x good =
-    let k = last-reaches bang f.inside x f.parts good.parts in
     let text = f.inside ++ (125 ∷ x) in
-    elim k.ends [
-      | inl shorter ↦ longer_grace bang f x k.closing good (found_at bang text k.closing k.is) shorter
-      | inr same ↦ ((f, x), grace_there bang f x good (found_at bang text (125 ∷ x) (k.is ∙ ap Some same)), inr refl)
+    let there = group_there bang f x good in
+    let o = brace_at-last bang text (125 ∷ x) there in
+    elim (le_lt (length (125 ∷ x)) (length o.0)) [
+      | inl far ↦
+          (let same : o.0 ≡ 125 ∷ x = same_brace bang text o.0 (125 ∷ x) (brace_at-closes bang text o.0 o.1) there (omega (arith, far, o.2)) in
+          ((f, x), grace_there bang f x good (o.1 ∙ ap Some same), inr refl))
+      | inr shorter ↦ longer_grace bang f x o.0 good o.1 shorter
     ]
 
--- where no exclamation mark of the group itself is passed over, the group itself is read
+-- where no exclamation mark is passed over, the group itself is read
 pub grace-reads : (bang : Bool) (f : GraceForm) (x : List ℕ) → IsGrace bang f → has_lone_part f.parts ≡ false → grace_at bang (grace_then f x) ≡ Some (f, x)
-grace-reads bang f x good whole = grace_there bang f x good (found_at bang (f.inside ++ (125 ∷ x)) (125 ∷ x) (last-exact bang f.inside x f.parts good.parts whole))
+grace-reads bang f x good whole =
+    let text = f.inside ++ (125 ∷ x) in
+    let there = group_there bang f x good in
+    let o = brace_at-last bang text (125 ∷ x) there in
+    let closed = brace_at-closes bang text o.0 o.1 in
+    let far = nothing_past bang f.inside x o.0 f.parts good.parts whole closed in
+    let same : o.0 ≡ 125 ∷ x = same_brace bang text o.0 (125 ∷ x) closed there (omega (arith, far, o.2)) in
+    grace_there bang f x good (o.1 ∙ ap Some same)
 
 pub grace-longer : (f : GraceForm) (x : List ℕ) → length x < length (grace_then f x)
 grace-longer f x = longer_by f.slash
@@ -800,23 +906,22 @@ grace-longer f x = longer_by f.slash
 -- ---- the state of the loop that looks for the last brace
 
 pub record SeekingBrace (bang : Bool) (text : List ℕ) (last : Option (List ℕ)) (rest : List ℕ) : Type 0 where
-  pub found : later_or (last_at bang rest) last ≡ brace_at bang text
+  pub found : later_or (brace_at bang rest) last ≡ brace_at bang text
   pub within : length rest ≤ length text
 
 pub seeking-begins : (bang : Bool) (text : List ℕ) → SeekingBrace bang text None text
-unfolding brace_at
-seeking-begins bang text = record { found = later_none (last_at bang text); within = omega arith }
+seeking-begins bang text = record { found = later_none (brace_at bang text); within = omega arith }
 
 pub seeking-next : (bang : Bool) (text : List ℕ) (last next : Option (List ℕ)) (rest behind : List ℕ) (part : GracePart) → SeekingBrace bang text last rest → grace_part_at bang rest ≡ Some (part_with part behind) →
-    next ≡ later_or (brace_in_name bang rest) last → SeekingBrace bang text next behind
+    next ≡ later_or (brace_in_part bang part rest) last → SeekingBrace bang text next behind
 seeking-next bang text last next rest behind part stage e later =
     rw later (record {
-      found = sym (later_assoc (last_at bang behind) (brace_in_name bang rest) last) ∙ ap (λ r. later_or r last) (sym (last_at-some bang rest (part, behind) e)) ∙ stage.found;
+      found = sym (later_assoc (brace_at bang behind) (brace_in_part bang part rest) last) ∙ ap (λ r. later_or r last) (sym (brace-part bang rest behind part e)) ∙ stage.found;
       within = omega (arith, less (part_reader bang) rest (part, behind) e, stage.within);
     })
 
 pub seeking-ends : (bang : Bool) (text : List ℕ) (last : Option (List ℕ)) (rest : List ℕ) → SeekingBrace bang text last rest → grace_part_at bang rest ≡ None → later_or (brace_here rest) last ≡ brace_at bang text
-seeking-ends bang text last rest stage e = ap (λ r. later_or r last) (sym (last_at-none bang rest e)) ∙ stage.found
+seeking-ends bang text last rest stage e = ap (λ r. later_or r last) (sym (brace-none bang rest e)) ∙ stage.found
 
 pub all-within : {T : Type 0} (now : T → List ℕ) (bang : Bool) (text : List ℕ) (r : Option T) → option_map now r ≡ brace_at bang text → IfSome r (λ x. length (now x) ≤ length text)
 all-within now bang text None e = tt
@@ -850,21 +955,36 @@ grace-open bang slash s t at done =
     rw add-one (grace_open s slash t w.0 (has_slash slash s t at) (subst (λ x. GraceLeads bang t w.0 x) none (grace_leads bang t)))
 
 -- parts up to a brace are a group
-last_here : (bang : Bool) (ps : List GracePart) (rest : List ℕ) → last_brace bang ps (125 ∷ rest) ≡ Some (125 ∷ rest)
-last_here bang [] rest = refl
-last_here bang (p ∷ ps) rest = rw (last_here bang ps rest) refl
+abbrev HasBrace : Bool → List ℕ → Type 0
+HasBrace bang s = (c : List ℕ) × (brace_at bang s ≡ Some c)
 
-from_some : (bang slash : Bool) (s t c : List ℕ) → slashed slash t ≡ skip 47 s → brace_at bang t ≡ Some (125 ∷ c) → grace_at bang s ≡ None → ⊥
+later_some : (r x : Option (List ℕ)) (c : List ℕ) → r ≡ Some c → later_or r x ≡ Some c
+later_some r x c e = rw e refl
+
+read_off : (bang : Bool) (s rest : List ℕ) (o : Option (GracePart × List ℕ)) → grace_part_at bang s ≡ o → (walk (grace_part_at bang) s).1 ≡ 125 ∷ rest →
+    ((t : List ℕ) → length t < length s → (walk (grace_part_at bang) t).1 ≡ 125 ∷ rest → HasBrace bang t) → HasBrace bang s
+read_off bang s rest None e stop next =
+    let here : s ≡ 125 ∷ rest = sym (ap (λ (w : List GracePart × List ℕ). w.1) (walk-none (part_reader bang) s e)) ∙ stop in
+    (125 ∷ rest, brace-none bang s e ∙ ap brace_here here)
+read_off bang s rest (Some z) e stop next =
+    let o = next z.1 (less (part_reader bang) s z e) (sym (ap (λ (w : List GracePart × List ℕ). w.1) (walk-some (part_reader bang) s z e)) ∙ stop) in
+    (o.0, brace-part bang s z.1 z.0 e ∙ later_some (brace_at bang z.1) (brace_in_part bang z.0 s) o.0 o.1)
+
+closed_within : (bang : Bool) (n : ℕ) (s rest : List ℕ) → length s ≤ n → (walk (grace_part_at bang) s).1 ≡ 125 ∷ rest → HasBrace bang s
+closed_within bang zero s rest h stop = read_off bang s rest (grace_part_at bang s) refl stop (λ t lt. absurd (omega (arith, lt, h)))
+closed_within bang (suc n) s rest h stop = read_off bang s rest (grace_part_at bang s) refl stop (λ t lt. closed_within bang n t rest (omega (arith, lt, h)))
+
+from_some : (bang slash : Bool) (s t c : List ℕ) → slashed slash t ≡ skip 47 s → brace_at bang t ≡ Some c → grace_at bang s ≡ None → ⊥
 unfolding grace_at
-from_some bang slash s t c at found none =
-    let some : grace_at bang s ≡ grace_from bang slash t (Some (125 ∷ c)) = rw (← at, found) refl in
+from_some bang slash s t [] at found none = let k = brace_at-closes bang t [] found in omega (arith, ap length k.is)
+from_some bang slash s t (b ∷ c) at found none =
+    let some : grace_at bang s ≡ grace_from bang slash t (Some (b ∷ c)) = rw (← at, found) refl in
     let clash = sym none ∙ some in cc
 
 no_brace_there : (bang slash : Bool) (s t rest : List ℕ) → slashed slash t ≡ skip 47 s → grace_at bang s ≡ None → (walk (grace_part_at bang) t).1 ≡ 125 ∷ rest → ⊥
-unfolding brace_at
 no_brace_there bang slash s t rest at none stop =
-    let found : brace_at bang t ≡ Some (125 ∷ rest) = ap (last_brace bang (walk (grace_part_at bang) t).0) stop ∙ last_here bang (walk (grace_part_at bang) t).0 rest in
-    from_some bang slash s t rest at found none
+    let found = closed_within bang (length t) t rest (omega arith) stop in
+    from_some bang slash s t found.0 at found.1 none
 
 closed_somewhere : (s w r : List ℕ) → two w r ≡ span_all is_in_grace s → (length r ≡ 0 → ⊥) → list_all is_in_grace s ≡ false
 closed_somewhere s w r cut some = by_all (list_all is_in_grace s) refl
@@ -887,26 +1007,7 @@ grace-flawed bang slash s t w r flaw at cut some none stuck flawed = by_stop (wa
     by_stop [] e = absurd (let clash = sym stuck ∙ ap (λ (y : List ℕ). eqb (length y) 0) e in cc)
     by_stop (b ∷ x) e = grace_flawed s slash t (walk (grace_part_at bang) t).0 b x flaw (closed_somewhere s w r cut some) (has_slash slash s t at) (subst (λ y. GraceLeads bang t (walk (grace_part_at bang) t).0 y) e (grace_leads bang t)) (by_byte b x e (eqb b 125) refl) flawed
 
--- ---- the flaw where no part stands
-
-pub own_at_bracket : (bang : Bool) (s rest : List ℕ) (flaw : Flaw) → s ≡ 91 ∷ rest → InnerChordFault bang rest flaw → IsGraceOwn bang s flaw
-own_at_bracket bang s rest flaw is fault = rw is fault
-
-no_chord_at : (bang : Bool) (s : List ℕ) → chord_at bang s ≡ None → HasNone ChordForm (StandsChord bang) s
-no_chord_at bang s none f x stands =
-    let o = chord_at-reaches bang f x stands.0 in
-    let clash = sym none ∙ ap (chord_at bang) stands.1 ∙ o.1 in cc
-
-pub none_fault : (bang : Bool) (s : List ℕ) (flaw : Flaw) → chord_at bang s ≡ None → ChordFault bang s flaw → InnerChordFault bang s flaw
-none_fault bang s flaw none fault = no_chord s flaw (no_chord_at bang s none) fault
-
-pub some_fault : (bang : Bool) (s : List ℕ) (said : List Sense) (len : Len) (inside rest : List ℕ) → Some (chord_shown said len inside rest) ≡ option_map shown_full (chord_at bang s) → InnerChordFault bang s (record { kind = Unclosed; left = length s + 1 })
-some_fault bang s said len inside rest h =
-    let k = found_full bang s said len inside rest h in
-    rw add-one (chord_past_brace s k.form rest (chord_stands bang s (chord_pair k.form rest) k.at))
-
-pub no_full_at : (bang : Bool) (s : List ℕ) → None ≡ option_map shown_full (chord_at bang s) → chord_at bang s ≡ None
-no_full_at bang s h = no_full (chord_at bang s) h
+-- ---- the text of a chord that is a part
 
 pub item_wider : (part : GraceItem) (n m : ℕ) → item_within part n → n ≤ m → item_within part m
 item_wider (found.Part part) n m h le = tt

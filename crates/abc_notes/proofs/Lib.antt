@@ -1,5 +1,6 @@
 pub mod Bounds
 pub mod ChordLaws
+pub mod CrossLaws
 pub mod CutLaws
 pub mod GraceLaws
 pub mod InnerLaws

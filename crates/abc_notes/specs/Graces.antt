@@ -1,6 +1,6 @@
--- A grace group: a slash or none, and notes and chords between braces. A name within may hold a
--- closing brace, but none within a chord of the group; a group is as long as it can be.
-use Rattle.std.specs.Prelude.{◌≡◌, ◌≤◌, ◌-◌, ℕ, suc, List, [], ◌∷◌, ◌++◌, length, take, drop, map, Bool, true, false, not, ◌==◌, ◌&&◌, if◌then◌else◌, Option, Some, None, option_map, MatchBool}
+-- A grace group: a slash or none, and notes and chords between braces. A name within, also within a
+-- chord, may hold a closing brace; a group is as long as it can be.
+use Rattle.std.specs.Prelude.{◌≡◌, ◌≤◌, ◌<◌, ◌-◌, ℕ, zero, suc, List, [], ◌∷◌, ◌++◌, length, take, drop, map, Bool, true, false, not, ◌==◌, ◌&&◌, if◌then◌else◌, Option, Some, None, option_map, MatchBool}
 use Rattle.std.specs.List.{list_all}
 use Rattle.mus_units.specs.declared.note.Head.{Head}
 use Rattle.abc_lines.specs.declared.fault.FaultKind.TheVariants.{Unclosed}
@@ -11,7 +11,8 @@ use Rattle.abc_notes.specs.declared.part.GraceItem.TheVariants as found
 use Rattle.abc_notes.specs.Runs.{maybe, skip, span_all, begins}
 use Rattle.abc_notes.specs.Items.{Inner, Sense, says_note, says_letter, says_name, says_tie, says_nothing, sense, inner_then, IsInner, has_length, name_at, inner_at, IsBadByte, sense_of, is_note}
 use Rattle.abc_notes.specs.Chords.{ChordForm, chord_then, IsChord, ChordFault, chord_at, senses}
-use Rattle.abc_notes.specs.Parts.{HasNone, Parts, Leads, Flawed, IsFlaw, goes_on_length, walk, is_done, spelled_then, later_or}
+use Rattle.abc_notes.specs.Lengths.{length_at}
+use Rattle.abc_notes.specs.Parts.{Parts, Leads, Flawed, IsFlaw, goes_on_length, walk, is_done}
 
 pub data GracePart : Type 0 where
   single : Inner → GracePart
@@ -26,7 +27,7 @@ is_in_grace byte = not (byte == 125)
 
 abbrev pub IsGracePart : Bool → GracePart → Type 0
 IsGracePart bang (single part) = IsInner bang part
-IsGracePart bang (chorded f) = IsChord bang f × (list_all is_in_grace f.inside ≡ true)
+IsGracePart bang (chorded f) = IsChord bang f
 
 pub record StandsInGrace (bang : Bool) (part : GracePart) (text rest : List ℕ) : Type 0 where
   pub good : IsGracePart bang part
@@ -79,19 +80,10 @@ abbrev pub body_of : List GracePart → List GraceChord
 body_of [] = []
 body_of (part ∷ more) = body_of_part part ++ body_of more
 
-abbrev pub StandsChord : Bool → ChordForm → List ℕ → List ℕ → Type 0
-StandsChord bang f text rest = IsChord bang f × (text ≡ chord_then f rest)
-
--- behind a bracket at which no chord of a group stands: the fault of a chord where none stands at
--- all, else the chord goes past a closing brace and is not closed before it
-pub data InnerChordFault (bang : Bool) : List ℕ → Flaw → Type 0 where
-  no_chord : (text : List ℕ) (flaw : Flaw) → HasNone ChordForm (StandsChord bang) text → ChordFault bang text flaw → InnerChordFault bang text flaw
-  chord_past_brace : (text : List ℕ) (f : ChordForm) (rest : List ℕ) → StandsChord bang f text rest → InnerChordFault bang text (record { kind = Unclosed; left = suc (length text) })
-
 -- where no part stands: at a bracket the fault of a chord, else the byte
 abbrev pub IsGraceOwn : Bool → List ℕ → Flaw → Type 0
 IsGraceOwn bang [] flaw = ⊥
-IsGraceOwn bang (byte ∷ rest) flaw = MatchBool (byte == 91) (InnerChordFault bang rest flaw) (IsBadByte (byte ∷ rest) flaw)
+IsGraceOwn bang (byte ∷ rest) flaw = MatchBool (byte == 91) (ChordFault bang rest flaw) (IsBadByte (byte ∷ rest) flaw)
 
 abbrev pub GraceFlawed : Bool → Option ℕ → List ℕ → Flaw → Type 0
 GraceFlawed bang before text flaw = Flawed GracePart (StandsInGrace bang) part_has_length (IsGraceOwn bang) before text flaw
@@ -121,13 +113,9 @@ chorded_read z = (chorded z.0, z.1)
 abbrev pub single_read : Inner × List ℕ → GracePart × List ℕ
 single_read z = (single z.0, z.1)
 
--- the chord up to the closing brace
-unfoldable pub grace_chord_at : Bool → List ℕ → Option (ChordForm × List ℕ)
-grace_chord_at bang text = let within = span_all is_in_grace text in option_map (λ z. (z.0, z.1 ++ within.1)) (chord_at bang within.0)
-
 unfoldable pub grace_part_at : Bool → List ℕ → Option (GracePart × List ℕ)
 grace_part_at bang [] = None
-grace_part_at bang (byte ∷ rest) = if byte == 91 then option_map chorded_read (grace_chord_at bang rest) else option_map single_read (inner_at bang (byte ∷ rest))
+grace_part_at bang (byte ∷ rest) = if byte == 91 then option_map chorded_read (chord_at bang rest) else option_map single_read (inner_at bang (byte ∷ rest))
 
 -- the brace in front closes the group
 abbrev pub brace_here : List ℕ → Option (List ℕ)
@@ -146,13 +134,51 @@ unfoldable pub brace_in_name : Bool → List ℕ → Option (List ℕ)
 brace_in_name bang [] = None
 brace_in_name bang (byte ∷ rest) = if byte == 33 && not bang then brace_in bang rest (name_at rest) else None
 
--- the last brace at which a group may end: the one behind all the parts, else one in a name
-abbrev pub last_brace : Bool → List GracePart → List ℕ → Option (List ℕ)
-last_brace bang [] rest = brace_here rest
-last_brace bang (part ∷ more) rest = later_or (last_brace bang more rest) (brace_in_name bang (grace_part_then part (spelled_then grace_part_then more rest)))
+abbrev pub is_brace : ℕ → Bool
+is_brace byte = byte == 125
 
+-- so many bytes on a brace stands, and parts alone stand before it
+abbrev pub closes_at : Bool → List ℕ → ℕ → Bool
+closes_at bang text n = begins is_brace (drop n text) && is_done (walk (grace_part_at bang) (take n text))
+
+-- the last brace, at most so many bytes on, before which parts alone stand
+abbrev pub last_closing : Bool → List ℕ → ℕ → Option (List ℕ)
+last_closing bang text zero = if closes_at bang text 0 then Some text else None
+last_closing bang text (suc n) = if closes_at bang text (suc n) then Some (drop (suc n) text) else last_closing bang text n
+
+-- the last brace at which a group may end
 unfoldable pub brace_at : Bool → List ℕ → Option (List ℕ)
-brace_at bang text = let w = walk (grace_part_at bang) text in last_brace bang w.0 w.1
+brace_at bang text = last_closing bang text (length text)
+
+-- the last brace of a text that begins with the bracket of a chord, or none
+unfoldable pub brace_in_chord : Bool → List ℕ → Option (List ℕ)
+brace_in_chord bang inside = brace_at bang (91 ∷ inside)
+
+-- behind a chord, which is given from its closing bracket on
+abbrev pub brace_behind : Bool → List ℕ → Option (List ℕ)
+brace_behind bang [] = None
+brace_behind bang (bracket ∷ rest) = brace_at bang (length_at rest).1
+
+-- behind the chord that ends at the bracket, up to the closing byte of a longer one
+abbrev pub brace_between : Bool → Option (List ℕ) → Option (List ℕ) → Option (List ℕ)
+brace_between bang bracket None = None
+brace_between bang None (Some closing) = None
+brace_between bang (Some bracket) (Some closing) = option_map (λ brace. brace ++ closing) (brace_behind bang (take (length bracket - length closing) bracket))
+
+-- the closing byte stands behind the bracket
+abbrev pub stands_behind : Option (List ℕ) → Option (List ℕ) → Type 0
+stands_behind bracket None = Unit {0}
+stands_behind None (Some closing) = Unit {0}
+stands_behind (Some bracket) (Some closing) = bracket ≡ take (length bracket - length closing) bracket ++ closing
+
+abbrev pub at_most_bytes : ℕ → Option (List ℕ) → Type 0
+at_most_bytes most None = Unit {0}
+at_most_bytes most (Some bytes) = length bytes ≤ most
+
+-- the last brace at which a group may end within its first part
+abbrev pub brace_in_part : Bool → GracePart → List ℕ → Option (List ℕ)
+brace_in_part bang (single part) text = brace_in_name bang text
+brace_in_part bang (chorded f) text = option_map (λ brace. brace ++ drop (suc (length f.inside)) text) (brace_in_chord bang f.inside)
 
 abbrev pub grace_from : Bool → Bool → List ℕ → Option (List ℕ) → Option (GraceForm × List ℕ)
 grace_from bang slash text None = None
@@ -164,12 +190,27 @@ grace_from bang slash text (Some (brace ∷ rest)) =
 unfoldable pub grace_at : Bool → List ℕ → Option (GraceForm × List ℕ)
 grace_at bang text = let slash = skip 47 text in grace_from bang slash.0 slash.1 (brace_at bang slash.1)
 
-abbrev pub is_brace : ℕ → Bool
-is_brace byte = byte == 125
+-- a part as the code reads it: what it gives to the body, whether it has a length, and what stands
+-- between its brackets where it is a chord
+abbrev pub bodied : List GraceChord → Bool → Option (List ℕ) → List ℕ → List GraceChord × Bool × Option (List ℕ) × List ℕ
+bodied body lengthy inside rest = (body, lengthy, inside, rest)
 
--- a part as the code reads it: what it gives to the body, and whether it has a length
-abbrev pub bodied : List GraceChord → Bool → List ℕ → List GraceChord × Bool × List ℕ
-bodied body lengthy rest = (body, lengthy, rest)
+abbrev pub inside_of_part : GracePart → Option (List ℕ)
+inside_of_part (single part) = None
+inside_of_part (chorded f) = Some f.inside
+
+abbrev pub inside_of_item : GraceItem → Option (List ℕ)
+inside_of_item (found.Part part) = None
+inside_of_item (found.Chord inside) = Some inside.now
+
+-- a part that the code has read off a text
+abbrev pub IsItemAt : Bool → GraceItem → List ℕ → Type 0
+IsItemAt bang (found.Part part) text = Unit {0}
+IsItemAt bang (found.Chord inside) text = (length inside.now < length text) × (is_done (walk (inner_at bang) inside.now) ≡ true) × (text ≡ (91 ∷ inside.now) ++ drop (suc (length inside.now)) text)
+
+abbrev pub brace_in_item : Bool → GraceItem → List ℕ → Option (List ℕ)
+brace_in_item bang (found.Part part) text = brace_in_name bang text
+brace_in_item bang (found.Chord inside) text = option_map (λ brace. brace ++ drop (suc (length inside.now)) text) (brace_in_chord bang inside.now)
 
 abbrev pub body_of_item : Bool → GraceItem → List GraceChord
 body_of_item bang (found.Part part) = body_of_sense (sense_of part)
@@ -205,7 +246,3 @@ item_within (found.Chord inside) most = length inside.now ≤ most
 abbrev pub goes_on_first : List ℕ → Bool
 goes_on_first [] = false
 goes_on_first (byte ∷ rest) = goes_on_length byte
-
--- a chord of a group as the code reads it
-abbrev pub chord_shown_within : List Sense → List ℕ → List ℕ → List Sense × List ℕ × List ℕ
-chord_shown_within said inside rest = (said, inside, rest)

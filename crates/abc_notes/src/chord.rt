@@ -36,7 +36,8 @@ pub fn inside_state(bang: bool, inside: &[u8]) -> Result<bool, Flaw>
     Ok(head)
 }
 
-fn either(one: bool, other: bool) -> bool
+/// Whether one of the two holds.
+pub fn either(one: bool, other: bool) -> bool
     ensures { result ≡ (one || other) }
 {
     one || other
@@ -49,7 +50,8 @@ pub fn place_if(lengthy: bool, here: usize) -> Option<usize>
     if lengthy { Some(here) } else { None }
 }
 
-fn is_note(item: Item<'_>) -> bool
+/// Whether the piece is a note.
+pub fn is_note(item: Item<'_>) -> bool
     ensures { result ≡ is_note (sense_of item.entry) }
 {
     match item {
@@ -272,7 +274,7 @@ fn bracket_here(head: bool, bytes: &[u8]) -> Option<&[u8]>
 /// The bracket that closes the chord where the exclamation mark in front begins
 /// no name.
 #[tactic(auto, unfolding(crate::specs::Chords::bracket_in_name))]
-fn bracket_in_name(bang: bool, head: bool, bytes: &[u8]) -> Option<&[u8]>
+pub fn bracket_in_name(bang: bool, head: bool, bytes: &[u8]) -> Option<&[u8]>
     requires { length bytes.now ≤ 2 ^ 30 }
     ensures { option_map (λ x. x.now) result ≡ bracket_in_name bang head bytes.now }
 {

@@ -1,14 +1,17 @@
-ghost use Rattle.std.specs.Prelude.{◌≡◌, ◌≢◌, ◌≤◌, ◌<◌, ◌+◌, ◌-◌, ◌^◌, ◌++◌, ◌&&◌, ◌==◌, not, take, drop, [], length, option_map, map, None, true, false, IfOk, OnOk, IfSome, MatchOption};
+ghost use Rattle.std.specs.Prelude.{◌≡◌, ◌≢◌, ◌≤◌, ◌<◌, ◌+◌, ◌-◌, ◌^◌, ◌++◌, ◌&&◌, ◌==◌, not, take, drop, [], length, option_map, map, None, Some, true, false, IfOk, OnOk, IfSome, MatchOption};
 ghost use Rattle.std.specs.List.{prefix_len};
-ghost use Rattle.abc_notes.specs.Graces.{body_of_part, body_of_sense, body_of, part_has_length, IsGraceOwn, IsPartFlaw, GraceFlawed, GraceFault, is_in_grace, InnerChordFault, grace_chord_at, grace_part_at, brace_here, brace_in, brace_in_name, brace_at, grace_at, chord_shown_within, bodied, body_of_item, item_has_length, body_inside, grace_shown, item_within, goes_on_first};
-ghost use Rattle.abc_notes.specs.Items.{sense_of, sense, name_at};
-ghost use Rattle.abc_notes.specs.Chords.{chord_at, senses};
+ghost use Rattle.abc_notes.specs.Graces.{body_of_part, body_of_sense, body_of, part_has_length, IsGraceOwn, IsPartFlaw, GraceFlawed, GraceFault, is_in_grace, grace_part_at, brace_here, brace_in, brace_in_name, brace_in_item, brace_in_chord, brace_between, stands_behind, at_most_bytes, IsItemAt, brace_at, grace_at, bodied, body_of_item, inside_of_item, inside_of_part, item_has_length, body_inside, grace_shown, item_within, goes_on_first};
+ghost use Rattle.abc_notes.specs.Items.{sense_of, name_at, inner_at};
 ghost use Rattle.abc_notes.specs.Parts.{walk, is_done, later_or};
 ghost use Rattle.abc_notes.specs.Runs.{span_all};
 
 use crate::bytes::skip;
-use crate::chord::{chord_at, chord_fault, goes_on_length, later_or, place_if, read_plain_heads};
+use crate::chord::{
+    bracket_in_name, chord_at, chord_fault, either, goes_on_length, is_note, later_or, place_if,
+    read_plain_heads,
+};
 use crate::item::{item_at, name_at};
+use crate::length::length_at;
 use crate::part::{Flaw, GraceChord, GraceItem, Item};
 use abc_lines::FaultKind;
 use mus_units::{Memory, Row};
@@ -19,42 +22,17 @@ use std::alloc::Global;
 #[tactic(auto, unfolding(crate::specs::Graces::grace_part_at))]
 pub fn grace_part_at(bang: bool, bytes: &[u8]) -> Option<(GraceItem<'_>, &[u8])>
     requires { length bytes.now ≤ 2 ^ 30 }
-    ensures read { option_map (λ x. bodied (body_of_item bang x.0) (item_has_length x.0) x.1.now) result ≡ option_map (λ z. bodied (body_of_part z.0) (part_has_length z.0) z.1) (grace_part_at bang bytes.now) }
+    ensures read { option_map (λ x. bodied (body_of_item bang x.0) (item_has_length x.0) (inside_of_item x.0) x.1.now) result ≡ option_map (λ z. bodied (body_of_part z.0) (part_has_length z.0) (inside_of_part z.0) z.1) (grace_part_at bang bytes.now) }
     ensures within { IfSome result (λ x. item_within x.0 (length bytes.now)) }
 {
     let (first, rest) = bytes.split_first()?;
     if *first == b'[' {
-        let (inside, rest) = grace_chord_at(bang, rest)?;
-        Some((GraceItem::Chord(inside), rest))
+        let chord = chord_at(bang, rest)?;
+        Some((GraceItem::Chord(chord.inside), chord.rest))
     } else {
         let (item, rest) = item_at(bang, bytes)?;
         Some((GraceItem::Part(item), rest))
     }
-}
-
-/// The text of the chord up to the closing brace, behind an opening bracket, and
-/// what follows the chord. Most chords hold no brace, and are read but once.
-fn grace_chord_at(bang: bool, bytes: &[u8]) -> Option<(&[u8], &[u8])>
-    requires { length bytes.now ≤ 2 ^ 30 }
-    ensures read { option_map (λ x. chord_shown_within (senses bang x.0.now) x.0.now x.1.now) result ≡ option_map (λ z. chord_shown_within (map sense z.0.parts) z.0.inside z.1) (grace_chord_at bang bytes.now) }
-    ensures within { IfSome result (λ x. length x.0.now ≤ length bytes.now) }
-{
-    let chord = chord_at(bang, bytes)?;
-    if braced(chord.inside).1.is_empty() {
-        return Some((chord.inside, chord.rest));
-    }
-    chord_within(bang, bytes)
-}
-
-fn chord_within(bang: bool, bytes: &[u8]) -> Option<(&[u8], &[u8])>
-    requires { length bytes.now ≤ 2 ^ 30 }
-    ensures read { option_map (λ x. chord_shown_within (senses bang x.0.now) x.0.now x.1.now) result ≡ option_map (λ z. chord_shown_within (map sense z.0.parts) z.0.inside z.1) (grace_chord_at bang bytes.now) }
-    ensures within { IfSome result (λ x. length x.0.now ≤ length bytes.now) }
-{
-    let (within, _) = braced(bytes);
-    let chord = chord_at(bang, within)?;
-    let (_, rest) = bytes.split_at(within.len() - chord.rest.len());
-    Some((chord.inside, rest))
 }
 
 /// The first fault of the inside of a grace group, if it has one.
@@ -119,26 +97,11 @@ fn own_flaw(bang: bool, bytes: &[u8]) -> Flaw
     ensures within { result.left ≤ length bytes.now }
 {
     match bytes.split_first() {
-        Some((byte, rest)) if *byte == b'[' => inner_chord_fault(bang, rest),
+        Some((byte, rest)) if *byte == b'[' => chord_fault(bang, rest),
         _ => Flaw {
             kind: FaultKind::BadByte,
             left: bytes.len(),
         },
-    }
-}
-
-/// The fault behind a bracket at which no chord of a group stands.
-fn inner_chord_fault(bang: bool, bytes: &[u8]) -> Flaw
-    requires small { length bytes.now ≤ 2 ^ 30 }
-    ensures fault { InnerChordFault bang bytes.now result }
-    ensures within { result.left ≤ length bytes.now + 1 }
-{
-    match chord_at(bang, bytes) {
-        Some(_) => Flaw {
-            kind: FaultKind::Unclosed,
-            left: bytes.len() + 1,
-        },
-        None => chord_fault(bang, bytes),
     }
 }
 
@@ -171,6 +134,7 @@ pub fn grace_at(bang: bool, bytes: &[u8]) -> Option<Grace<'_>>
 
 /// The closing brace of the longest grace group whose parts begin here, and what
 /// follows it.
+#[cycle(braces)]
 fn brace_at(bang: bool, bytes: &[u8]) -> Option<&[u8]>
     requires { length bytes.now ≤ 2 ^ 30 }
     ensures read { option_map (λ x. x.now) result ≡ brace_at bang bytes.now }
@@ -178,11 +142,94 @@ fn brace_at(bang: bool, bytes: &[u8]) -> Option<&[u8]>
 {
     let mut rest = bytes;
     let mut last = None;
-    'parts: while let Some((_, behind)) = grace_part_at(bang, rest) {
-        last = later_or(brace_in_name(bang, rest), last);
+    'parts: while let Some((part, behind)) = grace_part_at(bang, rest) {
+        last = later_or(brace_in_part(bang, part, rest), last);
         rest = behind;
     }
     later_or(brace_here(rest), last)
+}
+
+/// The last closing brace within the part in front at which a group may end.
+#[cycle(braces)]
+fn brace_in_part<'a>(bang: bool, part: GraceItem<'a>, bytes: &'a [u8]) -> Option<&'a [u8]>
+    requires small { length bytes.now ≤ 2 ^ 30 }
+    requires chord { IsItemAt bang part bytes.now }
+    ensures { option_map (λ x. x.now) result ≡ brace_in_item bang part.entry bytes.now }
+{
+    match part {
+        GraceItem::Part(_) => brace_in_name(bang, bytes),
+        GraceItem::Chord(inside) => {
+            let brace = brace_in_chord(bang, inside)?;
+            Some(bytes.split_at(inside.len() + 1 - brace.len()).1)
+        }
+    }
+}
+
+/// The last closing brace within the inside of a chord at which a group may end
+/// that begins with the bracket of the chord. Most chords hold no brace.
+#[cycle(braces)]
+fn brace_in_chord(bang: bool, inside: &[u8]) -> Option<&[u8]>
+    requires small { length inside.now ≤ 2 ^ 30 }
+    requires good { is_done (walk (inner_at bang) inside.now) ≡ true }
+    ensures read { option_map (λ x. x.now) result ≡ brace_in_chord bang inside.now }
+    ensures within { IfSome result (λ x. length x.now ≤ length inside.now) }
+{
+    if braced(inside).1.is_empty() {
+        None
+    } else {
+        brace_behind_chords(bang, inside)
+    }
+}
+
+/// The same, behind each of the shorter chords that begin here.
+#[cycle(braces)]
+fn brace_behind_chords(bang: bool, inside: &[u8]) -> Option<&[u8]>
+    requires small { length inside.now ≤ 2 ^ 30 }
+    requires good { is_done (walk (inner_at bang) inside.now) ≡ true }
+    ensures read { option_map (λ x. x.now) result ≡ brace_in_chord bang inside.now }
+    ensures within { IfSome result (λ x. length x.now ≤ length inside.now) }
+{
+    let mut rest = inside;
+    let mut head = false;
+    let mut bracket = None;
+    let mut last = None;
+    'parts: while let Some((item, behind)) = item_at(bang, rest) {
+        let closing = bracket_in_name(bang, head, rest);
+        last = later_or(brace_between(bang, bracket, closing), last);
+        bracket = later_or(closing, bracket);
+        head = either(head, is_note(item));
+        rest = behind;
+    }
+    later_or(brace_between(bang, bracket, Some(rest)), last)
+}
+
+/// The last closing brace at which a group may end behind the chord that ends at
+/// the bracket, and before the closing byte of a longer one.
+#[cycle(braces)]
+fn brace_between<'a>(
+    bang: bool,
+    bracket: Option<&'a [u8]>,
+    closing: Option<&'a [u8]>,
+) -> Option<&'a [u8]>
+    requires small { at_most_bytes (2 ^ 30) (option_map (λ x. x.now) bracket) }
+    requires behind { stands_behind (option_map (λ x. x.now) bracket) (option_map (λ x. x.now) closing) }
+    ensures { option_map (λ x. x.now) result ≡ brace_between bang (option_map (λ x. x.now) bracket.entry) (option_map (λ x. x.now) closing.entry) }
+{
+    let closing = closing?;
+    let bracket = bracket?;
+    brace_past(bang, bracket, closing)
+}
+
+#[cycle(braces)]
+fn brace_past<'a>(bang: bool, bracket: &'a [u8], closing: &'a [u8]) -> Option<&'a [u8]>
+    requires small { length bracket.now ≤ 2 ^ 30 }
+    requires behind { bracket.now ≡ take (length bracket.now - length closing.now) bracket.now ++ closing.now }
+    ensures { option_map (λ x. x.now) result ≡ brace_between bang (Some bracket.now) (Some closing.now) }
+{
+    let (chord, _) = bracket.split_at(bracket.len() - closing.len());
+    let (_, behind) = chord.split_first()?;
+    let brace = brace_at(bang, length_at(behind).1)?;
+    Some(bracket.split_at(chord.len() - brace.len()).1)
 }
 
 /// The closing brace in front.

@@ -8,7 +8,7 @@ use Rattle.mus_units.specs.declared.pitch.Alter.{Alter}
 use Rattle.mus_units.specs.declared.pitch.Alter.TheVariants.{Flat2, Flat, Natural, Sharp, Sharp2}
 use Rattle.mus_units.specs.declared.pitch.Letter.{Letter}
 use Rattle.mus_units.specs.declared.pitch.Letter.TheVariants.{C, D, E, F, G, A, B}
-use Rattle.abc_notes.specs.Runs.{copies, maybe, span, span_all, begins, is_digit, is_blank, is_letter}
+use Rattle.abc_notes.specs.Runs.{copies, maybe, span, begins, is_digit, is_blank, is_letter}
 use Rattle.abc_notes.proofs.RunLaws.{skip-yes}
 use Rattle.abc_notes.proofs.SpanLaws.{span-cons, span-zero, span-stops, span_all-append, span_all-stops}
 use Rattle.abc_pieces.specs.Bars.{BarForm, signs, colons, form_at, spelled as bar_then, IsGood as IsBar}
@@ -19,8 +19,6 @@ use Rattle.abc_notes.specs.Notes.{NoteForm, note_then, sign_then, letter_byte, I
 use Rattle.abc_notes.proofs.NoteLaws.{note_goes_on, note_at-reaches}
 use Rattle.abc_notes.specs.Items.{IsName, is_note_byte}
 use Rattle.abc_notes.proofs.ItemLaws.{name_at-reads}
-use Rattle.abc_notes.proofs.InnerLaws.{inner_reader}
-use Rattle.abc_notes.proofs.PartLaws.{walk_of_parts}
 use Rattle.abc_notes.specs.Chords.{ChordForm, chord_then, is_inside, IsChord, chord_at}
 use Rattle.abc_notes.specs.Graces.{GraceForm, IsGrace, is_slash_byte}
 use Rattle.abc_notes.proofs.GraceLaws.{grace-reads, has_lone_part}

@@ -1,10 +1,9 @@
 -- Chords and grace groups in their plain spelling are read as themselves.
-use Rattle.std.proofs.Common.{◌≡◌, ℕ, zero, suc, ◌≤◌, Bool, true, false, eqb, List, [], ◌∷◌, ◌++◌, length, Option, Some, None, refl, sym, ap, ◌∙◌, arith, inl, inr, append_assoc}
-use Rattle.std.specs.Prelude.{◌||◌, ◌&&◌, not, option_map, map}
+use Rattle.std.proofs.Common.{◌≡◌, ℕ, ◌≤◌, Bool, true, false, eqb, List, [], ◌∷◌, ◌++◌, length, Option, Some, None, refl, sym, ap, ◌∙◌, arith, inl, inr, append_assoc}
+use Rattle.std.specs.Prelude.{◌||◌, not, option_map, map}
 use Rattle.std.specs.List.{list_all}
 use Rattle.std.specs.Fmt.{decimal}
 use Rattle.std.proofs.lemmas.Bool.{or_cases, and_parts, and_from, eqb-true, ne_eqb}
-use Rattle.std.proofs.lemmas.List.Folds.{list_all-append}
 use Rattle.mus_units.specs.declared.note.Deco.{Deco}
 use Rattle.mus_units.specs.declared.note.Head.{Head}
 use Rattle.mus_units.specs.declared.pitch.Alter.{Alter}
@@ -14,8 +13,8 @@ use Rattle.mus_units.specs.declared.pitch.Letter.TheVariants.{C, D, E, F, G, A, 
 use Rattle.abc_notes.specs.declared.part.GraceChord.{GraceChord}
 use Rattle.abc_notes.specs.declared.part.Len.{Len}
 use Rattle.abc_pieces.specs.declared.token.Opening.TheVariants as opens
-use Rattle.abc_notes.specs.Runs.{copies, maybe, begins, is_digit, is_mark, span_all}
-use Rattle.abc_notes.specs.Lengths.{LengthForm, whole, over, halved, length_then, len_of}
+use Rattle.abc_notes.specs.Runs.{maybe, begins, is_digit, is_mark}
+use Rattle.abc_notes.specs.Lengths.{LengthForm, whole, length_then, len_of}
 use Rattle.abc_notes.proofs.LengthLaws.{goes_on, count-digits}
 use Rattle.abc_notes.specs.Notes.{NoteForm, note_then, sign_then, letter_byte, IsNote, head_of, note_at}
 use Rattle.abc_notes.proofs.NoteLaws.{note_goes_on}
@@ -25,11 +24,10 @@ use Rattle.abc_notes.proofs.InnerLaws.{inner_reader}
 use Rattle.abc_notes.proofs.PartLaws.{longest_of}
 use Rattle.abc_notes.proofs.Bounds.{digit_range}
 use Rattle.abc_notes.specs.Parts.{no_part, then_part}
-use Rattle.abc_notes.specs.Chords.{ChordForm, chord_then, is_inside, has_head, IsChord, is_tied, tied_if, heads_of, decos_of}
-use Rattle.abc_notes.specs.Graces.{GracePart, single, chorded, grace_part_then, IsGracePart, GraceParts, GraceForm, is_in_grace, is_slash_byte, IsGrace, heads_in, body_of, grace_part_at, single_read, chorded_read}
-use Rattle.abc_notes.proofs.GraceLaws.{part_reader, chord_with_rest, at_bracket, within-is, lone_part_is, has_lone_part}
+use Rattle.abc_notes.specs.Chords.{ChordForm, chord_then, has_head, IsChord, is_tied, tied_if, heads_of, decos_of}
+use Rattle.abc_notes.specs.Graces.{GracePart, single, chorded, grace_part_then, IsGracePart, GraceParts, GraceForm, is_slash_byte, IsGrace, heads_in, body_of, grace_part_at, single_read, chorded_read}
+use Rattle.abc_notes.proofs.GraceLaws.{part_reader, at_bracket, lone_part_is, has_lone_part}
 use Rattle.abc_notes.proofs.ChordLaws.{has_lone}
-use Rattle.abc_notes.proofs.SpanLaws.{span_all-takes}
 use Rattle.abc_pieces.specs.Forms.{opening}
 use Rattle.abc_spell.specs.Plain.{all_then, len_then, marks_of, is_small, head_then, chord_head_then, name_of, deco_then, heads_then, grace_chord_then}
 use Rattle.abc_spell.proofs.Numbers.{GoodLen, len_form, len_again, head_form, head_good, head_means, good_marks}
@@ -42,56 +40,7 @@ wider : (p q : ℕ → Bool) (s : List ℕ) → ((b : ℕ) → p b ≡ true → 
 wider p q [] k h = refl
 wider p q (b ∷ s) k h = let r = and_parts (p b) (list_all p s) h in and_from (q b) (list_all q s) (k b r.0) (wider p q s k r.1)
 
-all_join : (q : ℕ → Bool) (a x : List ℕ) → list_all q a ≡ true → list_all q x ≡ true → list_all q (a ++ x) ≡ true
-all_join q a x h k = list_all-append q a x ∙ and_from (list_all q a) (list_all q x) h k
-
 -- a byte that closes no chord and no grace group
-abbrev free : ℕ → Bool
-free b = not (eqb b 93) && not (eqb b 125)
-
-abbrev Wide : (ℕ → Bool) → Type 0
-Wide q = (b : ℕ) → free b ≡ true → q b ≡ true
-
-grace_wide : Wide is_in_grace
-grace_wide b h = (and_parts (not (eqb b 93)) (not (eqb b 125)) h).1
-
-digit_free : (b : ℕ) → is_digit b ≡ true → free b ≡ true
-digit_free b h = let r = digit_range b h in rw (ne_eqb b 93 (omega (arith, r.1)), ne_eqb b 125 (omega (arith, r.1))) refl
-
-mark_free : (b : ℕ) → is_mark b ≡ true → free b ≡ true
-mark_free b h = elim (or_cases (eqb b 39) (eqb b 44) h) [ inl prime ↦ rw (eqb-true b 39 prime) refl | inr comma ↦ rw (eqb-true b 44 comma) refl ]
-
-letter_free : (low : Bool) (l : Letter) → free (letter_byte low l) ≡ true
-letter_free false C = refl
-letter_free false D = refl
-letter_free false E = refl
-letter_free false F = refl
-letter_free false G = refl
-letter_free false A = refl
-letter_free false B = refl
-letter_free true C = refl
-letter_free true D = refl
-letter_free true E = refl
-letter_free true F = refl
-letter_free true G = refl
-letter_free true A = refl
-letter_free true B = refl
-
-sign_all : (q : ℕ → Bool) → Wide q → (sign : Option Alter) (x : List ℕ) → list_all q x ≡ true → list_all q (sign_then sign x) ≡ true
-sign_all q wide None x h = h
-sign_all q wide (Some Sharp2) x h = and_from (q 94) _ (wide 94 refl) (and_from (q 94) (list_all q x) (wide 94 refl) h)
-sign_all q wide (Some Sharp) x h = and_from (q 94) (list_all q x) (wide 94 refl) h
-sign_all q wide (Some Flat2) x h = and_from (q 95) _ (wide 95 refl) (and_from (q 95) (list_all q x) (wide 95 refl) h)
-sign_all q wide (Some Flat) x h = and_from (q 95) (list_all q x) (wide 95 refl) h
-sign_all q wide (Some Natural) x h = and_from (q 61) (list_all q x) (wide 61 refl) h
-
-head_all : (q : ℕ → Bool) → Wide q → (head : Head) (x : List ℕ) → list_all q x ≡ true → list_all q (head_then head x) ≡ true
-head_all q wide head x h =
-    let o = head.pitch.octave in
-    let b = letter_byte (is_small o) head.pitch.letter in
-    let marks = wider is_mark q (marks_of o) (λ c k. wide c (mark_free c k)) (good_marks o) in
-    sign_all q wide head.sign (b ∷ (marks_of o ++ x)) (and_from (q b) (list_all q (marks_of o ++ x)) (wide b (letter_free (is_small o) head.pitch.letter)) (all_join q (marks_of o) x marks h))
-
 -- ---- spelling in front of more
 
 all_append : {I : Type 0} (f : I → List ℕ → List ℕ) → ((a : I) (s x : List ℕ) → f a s ++ x ≡ f a (s ++ x)) → (list : List I) (s x : List ℕ) → all_then f list s ++ x ≡ all_then f list (s ++ x)
@@ -485,10 +434,6 @@ notes_parts (h ∷ hs) =
     let rest = all_then inner_then (note_parts hs) [] in
     part (note_inside form) rest (note_parts hs) (inner_note form rest (head_good h (whole []) tt) (notes_stop hs)) (notes_parts hs)
 
-plain_heads_all : (q : ℕ → Bool) → Wide q → (hs : List Head) (x : List ℕ) → list_all q x ≡ true → list_all q (all_then head_then hs x) ≡ true
-plain_heads_all q wide [] x k = k
-plain_heads_all q wide (h ∷ hs) x k = head_all q wide h (all_then head_then hs x) (plain_heads_all q wide hs x k)
-
 notes_chord : (h : Head) (hs : List Head) → IsChord false (of_parts (note_parts (h ∷ hs)) (whole []))
 notes_chord h hs = record {
   parts = notes_parts (h ∷ hs);
@@ -521,25 +466,13 @@ notes_whole : (hs : List Head) → has_lone (note_parts hs) ≡ false
 notes_whole [] = refl
 notes_whole (h ∷ hs) = notes_whole hs
 
-notes_free : (hs : List Head) → list_all is_in_grace (all_then inner_then (note_parts hs) []) ≡ true
-notes_free hs = ap (list_all is_in_grace) (notes_spell hs []) ∙ plain_heads_all is_in_grace grace_wide hs [] refl
-
-first_of : (p : ℕ → Bool) (a b : List ℕ) → begins p (a ++ b) ≡ false → begins p a ≡ false
-first_of p [] b h = refl
-first_of p (x ∷ a) b h = h
-
-chorded_exact : (f : ChordForm) (x : List ℕ) → IsChord false f → list_all is_in_grace f.inside ≡ true → has_lone f.parts ≡ false → begins note_goes_on x ≡ false → grace_part_at false (91 ∷ chord_then f x) ≡ Some (part_pair (chorded f) x)
-chorded_exact f x good clear loneless stops =
-    let y = span_all is_in_grace x in
-    let line : x ≡ y.0 ++ y.1 = span_all-takes is_in_grace x in
-    let here : begins goes_on y.0 ≡ false = first_of goes_on y.0 y.1 (ap (begins goes_on) (sym line) ∙ narrower x stops) in
-    at_bracket false (chord_then f x) ∙ ap (option_map chorded_read) (within-is false f x good clear ∙ ap (option_map (chord_with_rest y.1)) (chord_exact f y.0 good loneless here))
-    ∙ ap (λ (t : List ℕ). Some (part_pair (chorded f) t)) (sym line)
+chorded_exact : (f : ChordForm) (x : List ℕ) → IsChord false f → has_lone f.parts ≡ false → begins note_goes_on x ≡ false → grace_part_at false (91 ∷ chord_then f x) ≡ Some (part_pair (chorded f) x)
+chorded_exact f x good loneless stops = at_bracket false (chord_then f x) ∙ ap (option_map chorded_read) (chord_exact f x good loneless (narrower x stops))
 
 part_exact : (hs : List Head) (x : List ℕ) → 1 ≤ length hs → begins note_goes_on x ≡ false → grace_part_at false (grace_part_then (plain_part hs) x) ≡ Some (part_pair (plain_part hs) x)
 part_exact [] x some stops = absurd (omega (arith, some))
 part_exact (h ∷ []) x some stops = single_exact h x stops
-part_exact (h ∷ g ∷ hs) x some stops = chorded_exact (of_parts (note_parts (h ∷ g ∷ hs)) (whole [])) x (notes_chord h (g ∷ hs)) (notes_free (h ∷ g ∷ hs)) (notes_whole (h ∷ g ∷ hs)) stops
+part_exact (h ∷ g ∷ hs) x some stops = chorded_exact (of_parts (note_parts (h ∷ g ∷ hs)) (whole [])) x (notes_chord h (g ∷ hs)) (notes_whole (h ∷ g ∷ hs)) stops
 
 -- a byte that begins a part of a grace group goes on nothing, and is no slash
 begins_part : (p : ℕ → Bool) (hs : List Head) (x : List ℕ) → 1 ≤ length hs → p 91 ≡ false → ((s : List ℕ) → (b : First s) → p b.byte ≡ false) → begins p (grace_part_then (plain_part hs) x) ≡ false
@@ -563,7 +496,7 @@ body_parts (c ∷ cs) good =
 part_whole : (hs : List Head) → 1 ≤ length hs → lone_part_is (plain_part hs) ≡ false
 part_whole [] some = absurd (omega (arith, some))
 part_whole (h ∷ []) some = refl
-part_whole (h ∷ g ∷ hs) some = refl
+part_whole (h ∷ g ∷ hs) some = notes_whole (h ∷ g ∷ hs)
 
 pub body_whole : (body : List GraceChord) → GoodBody body → has_lone_part (plain_parts body) ≡ false
 body_whole [] good = refl
@@ -605,7 +538,7 @@ body_add bang (single (tie_inside d)) more good h = h
 body_add bang (single slur_inside) more good h = h
 body_add bang (single (passed_inside b)) more good h = h
 body_add bang (single lone_inside) more good h = h
-body_add bang (chorded f) more good h = (some_plain_heads f.parts good.0.head, heads_untied f.parts, h)
+body_add bang (chorded f) more good h = (some_plain_heads f.parts good.head, heads_untied f.parts, h)
 
 pub body_from : (bang : Bool) (text : List ℕ) (parts : List GracePart) → GraceParts bang text parts → GoodBody (body_of parts)
 body_from bang _ _ no_part = tt

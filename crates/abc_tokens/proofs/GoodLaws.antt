@@ -1,17 +1,16 @@
 -- What a piece spells is a good token.
-use Rattle.std.proofs.Common.{◌≡◌, ℕ, zero, suc, ◌+◌, ◌*◌, ◌-◌, ◌^◌, ◌≤◌, ◌<◌, Bool, true, false, List, [], ◌∷◌, ◌++◌, map, length, refl, sym, ap, ◌∙◌, subst, arith}
-use Rattle.std.specs.Prelude.{Option, Some, None, ◌==◌, ◌||◌, if◌then◌else◌, ⊤}
+use Rattle.std.proofs.Common.{◌≡◌, ℕ, zero, suc, ◌+◌, ◌*◌, ◌-◌, ◌^◌, ◌≤◌, ◌<◌, Bool, true, false, List, [], ◌∷◌, ◌++◌, map, length, sym, subst, arith}
+use Rattle.std.specs.Prelude.{Option, Some, None, ◌==◌, if◌then◌else◌, ⊤}
 use Rattle.std.specs.List.{list_all}
 use Rattle.std.specs.Char.{digit_value}
 use Rattle.std.specs.Str.Parse.{AllDigits, digits_value, digits_value_after}
 use Rattle.std.proofs.lemmas.Int.Digits.{digits_value-lt}
 use Rattle.std.proofs.lemmas.Bool.{and_parts, leb-true, eqb-false}
-use Rattle.mus_units.specs.declared.note.Head.{Head}
-use Rattle.abc_notes.specs.Runs.{is_digit, begins}
+use Rattle.abc_notes.specs.Runs.{is_digit}
 use Rattle.abc_notes.specs.Lengths.{LengthForm, whole, over, halved, IsNumber, IsCount, count_of, IsLength, len_of}
-use Rattle.abc_notes.specs.Graces.{GracePart, single, chorded, StandsInGrace, heads_in, body_of_sense, body_of_part, body_of}
-use Rattle.abc_notes.specs.Items.{Inner, note_inside, letter_inside, named_inside, tie_inside, slur_inside, passed_inside, lone_inside, IsInner, StandsInside, sense, has_length}
-use Rattle.abc_notes.specs.Chords.{has_head, heads_of, is_tied, tied_if}
+use Rattle.abc_notes.specs.Graces.{GracePart, single, chorded, StandsInGrace, heads_in, body_of_sense, body_of}
+use Rattle.abc_notes.specs.Items.{Inner, note_inside, letter_inside, named_inside, tie_inside, slur_inside, passed_inside, lone_inside, StandsInside, sense}
+use Rattle.abc_notes.specs.Chords.{has_head, heads_of}
 use Rattle.abc_pieces.specs.Tuplets.{TupletForm, bare, with_q, with_r, is_tuplet_digit, IsTuplet, value_or_zero, p_of, q_of, r_of}
 use Rattle.abc_notes.specs.Parts.{Parts, no_part, then_part}
 use Rattle.abc_pieces.specs.Forms.{Form, note_form, rest_form, gap_form, measures_form, chord_form, grace_form, tuplet_form, slur_form, close_form, tie_form, broken_form, bar_form, ending_form, letter_form, named_form, says_form, inline_form, cut_form, space_form, passed_form, lone_form, plus_form, IsGood, is_kept_field, meant, after}
@@ -19,10 +18,8 @@ use Rattle.abc_pieces.specs.declared.token.Token.{Token}
 use Rattle.abc_pieces.specs.declared.token.Token.TheVariants as token
 use Rattle.abc_pieces.specs.declared.token.Before.{Before}
 use Rattle.abc_notes.specs.declared.part.Flaw.{Flaw}
-use Rattle.abc_notes.specs.declared.part.Len.{Len}
 use Rattle.abc_notes.specs.declared.part.GraceChord.{GraceChord}
 use Rattle.abc_notes.proofs.Bounds.{digit_range, digit_value-is}
-use Rattle.abc_notes.proofs.LengthLaws.{count-few, count-digits}
 use Rattle.abc_tokens.specs.declared.token.Placed.{Placed}
 use Rattle.abc_tokens.specs.Good.{IsGoodLen, AreGoodHeads, HasHead, HasGraceHead, AreGoodGraces, IsGoodTuplet, IsGoodToken, AreGoodTokens}
 use Rattle.abc_tokens.specs.Tokens.{Front, clear, breaks, leads, put, column}
@@ -143,7 +140,7 @@ single_good lone_inside = tt
 good_graces : (bang : Bool) (text : List ℕ) (parts : List GracePart) → Parts GracePart (StandsInGrace bang) text parts → AreGoodGraces (body_of parts)
 good_graces bang _ _ no_part = tt
 good_graces bang _ _ (then_part text (single part) rest more longest others) = graces_both (body_of_sense (sense part)) (body_of more) (single_good part) (good_graces bang rest more others)
-good_graces bang _ _ (then_part text (chorded f) rest more longest others) = (some_grace_head f.parts longest.stands.good.0.head, good_graces bang rest more others)
+good_graces bang _ _ (then_part text (chorded f) rest more longest others) = (some_grace_head f.parts longest.stands.good.head, good_graces bang rest more others)
 
 -- tuplets
 zero_or_one : (q : List ℕ) → IsCount 1 q → value_or_zero q ≤ 9

@@ -1,6 +1,6 @@
 -- A line as a loop reads it.
-use Rattle.std.proofs.Common.{◌≡◌, ℕ, zero, suc, ◌+◌, ◌-◌, ◌≤◌, ◌<◌, ◌^◌, Bool, true, false, cond, eqb, List, [], ◌∷◌, ◌++◌, length, Option, Some, None, refl, sym, ap, ◌∙◌, subst, arith, append_assoc, append-nil}
-use Rattle.std.specs.Prelude.{option_map, MatchBool, MatchOption}
+use Rattle.std.proofs.Common.{◌≡◌, ℕ, ◌≤◌, ◌<◌, Bool, List, [], ◌∷◌, ◌++◌, length, Option, Some, None, refl, sym, ap, ◌∙◌, subst, arith, append_assoc, append-nil}
+use Rattle.std.specs.Prelude.{option_map}
 use Rattle.abc_lines.specs.declared.book.Line.{Line}
 use Rattle.abc_lines.specs.declared.fault.Fault.{Fault}
 use Rattle.abc_lines.specs.declared.fault.TuneError.TheVariants as error
@@ -17,7 +17,7 @@ use Rattle.abc_pieces.specs.declared.token.Opening.TheVariants as opens
 use Rattle.abc_notes.proofs.PartLaws.{less, longest_of, none_of, longest_is, at_nil}
 use Rattle.abc_pieces.proofs.PieceReader.{piece_reader}
 use Rattle.abc_tokens.specs.declared.token.Placed.{Placed}
-use Rattle.abc_tokens.specs.Tokens.{Tokens, ends, goes, Faulty, stuck, later, Front, clear, breaks, leads, column, put, TokensOf, FlawOf, FrontAt, FrontOf, IsLineFlaw, fault_at, IsErrorOf}
+use Rattle.abc_tokens.specs.Tokens.{Tokens, ends, goes, Faulty, stuck, later, Front, clear, breaks, leads, column, put, TokensOf, FrontAt, FrontOf, IsLineFlaw, fault_at, IsErrorOf}
 
 abbrev longest_piece : Bool → Before → List ℕ → Form → List ℕ → Type 0
 longest_piece bang before s f rest = IsLongest Form (StandsAt bang before) s f rest

@@ -1,5 +1,5 @@
 -- Good tokens: the numbers that a music line can write.
-use Rattle.std.specs.Prelude.{ℕ, ◌≤◌, ⊤, List, [], ◌∷◌, length}
+use Rattle.std.specs.Prelude.{ℕ, ◌≤◌, ⊤, List, [], ◌∷◌}
 use Rattle.mus_units.specs.declared.note.Head.{Head}
 use Rattle.abc_notes.specs.declared.part.Len.{Len}
 use Rattle.abc_notes.specs.declared.part.GraceChord.{GraceChord}

@@ -1,6 +1,6 @@
 -- The tokens of a music line: piece by piece, each the longest that stands at the front of what is
 -- left; and the first fault of a line that has no such list.
-use Rattle.std.specs.Prelude.{◌≡◌, ℕ, suc, ◌+◌, ◌-◌, List, [], ◌∷◌, length, Bool, true, false, ◌==◌, ◌||◌, if◌then◌else◌, Option, Some, None, MatchBool, MatchOption, option_map}
+use Rattle.std.specs.Prelude.{◌≡◌, ℕ, ◌+◌, ◌-◌, List, [], ◌∷◌, length, Bool, ◌==◌, if◌then◌else◌, Option, Some, None, MatchBool, MatchOption, option_map}
 use Rattle.abc_lines.specs.declared.book.Line.{Line}
 use Rattle.abc_lines.specs.declared.fault.Fault.{Fault}
 use Rattle.abc_lines.specs.declared.fault.FaultKind.{FaultKind}

@@ -214,7 +214,7 @@ fn line_of(alloc: Global, bytes: &[u8]) -> Result<Line, Fail>
 
 #[test]
 fn tokens(rt: HostRuntime) -> Result<(), Fail> {
-    let cases: [(&[u8], bool, &[u8]); 38] = [
+    let cases: [(&[u8], bool, &[u8]); 40] = [
         (b"", false, b""),
         (b"CDEF|", false, b"1:nC4 2:nD4 3:nE4 4:nF4 5:b"),
         (b"A/2>B//", false, b"1:nA4*1/2 4:>1 5:nB4*1/4"),
@@ -232,6 +232,8 @@ fn tokens(rt: HostRuntime) -> Result<(), Fail> {
         (b"{A!b}c!", false, b"1:g(A4,B5,) 6:nC5"),
         (b"{[A!b]c!d]}", false, b"1:g(A4D5,)"),
         (b"{[A!b]c!}", false, b"1:g(A4B5,C5,)"),
+        (b"{[A!b}c!d]}", false, b"1:g(A4D5,)"),
+        (b"{[A!b]c}d!e]!", false, b"1:g(A4B5,C5,) 9:nD5 10:dquiet e]"),
         (b"{}(3abc", false, b"1:g() 3:t3:0:0 5:nA5 6:nB5 7:nC5"),
         (
             b"(3:2:4a(5::2b(2:",

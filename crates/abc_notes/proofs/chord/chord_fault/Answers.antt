@@ -1,4 +1,4 @@
-use Rattle.std.proofs.Common.{arith, ap, sym, subst, ◌∙◌, ◌≡◌, eqb, true, false, List, ℕ, length}
+use Rattle.std.proofs.Common.{ap, sym, ◌∙◌, length}
 use Rattle.std.proofs.lemmas.Bool.{eqb-true}
 use Rattle.abc_notes.specs.Runs.{begins}
 use Rattle.abc_notes.specs.Chords.{is_bracket}

@@ -1,4 +1,4 @@
-use Rattle.std.proofs.Common.{arith, ap, sym, ◌∙◌, length}
+use Rattle.std.proofs.Common.{sym, ◌∙◌, length}
 use Rattle.std.proofs.lemmas.Bool.{eqb-true}
 use Rattle.abc_notes.proofs.ChordLaws.{not_empty}
 use Rattle.abc_notes.proofs.GraceLaws.{grace-unclosed, grace-open, grace-flawed}

@@ -1,5 +1,5 @@
 use Rattle.std.proofs.Common.{rules, arith}
-use Rattle.abc_notes.specs.Graces.{body_of_item, item_has_length, body_inside}
+use Rattle.abc_notes.specs.Graces.{body_of_item, item_has_length, inside_of_item, body_inside}
 use Rattle.abc_notes.proofs.GraceLaws.{body-next, body-end, found_part, none_part, part_less, item_wider}
 use Rattle.abc_notes.proofs.grace.read_body.Goals as goal
 
@@ -8,14 +8,14 @@ add_part-requires c = item_wider c.in-Some.part _ _ c.in-Some.ensures.within (se
 
 pub parts-smaller : goal.parts-smaller
 parts-smaller c =
-    part_less c.args.bang c.parts.rest.now (body_of_item c.args.bang c.in-Some.part) (item_has_length c.in-Some.part) c.in-Some.behind.now (found_part c.args.bang c.parts.rest.now _ _ _ c.in-Some.ensures.read)
+    part_less c.args.bang c.parts.rest.now (body_of_item c.args.bang c.in-Some.part) (item_has_length c.in-Some.part) (inside_of_item c.in-Some.part) c.in-Some.behind.now (found_part c.args.bang c.parts.rest.now _ _ _ _ c.in-Some.ensures.read)
 
 pub parts-preserved : goal.parts-preserved
 parts-preserved c =
-    let f = found_part c.args.bang c.parts.rest.now (body_of_item c.args.bang c.in-Some.part) (item_has_length c.in-Some.part) c.in-Some.behind.now c.in-Some.ensures.read in
-    let shorter = part_less c.args.bang c.parts.rest.now (body_of_item c.args.bang c.in-Some.part) (item_has_length c.in-Some.part) c.in-Some.behind.now f in
+    let f = found_part c.args.bang c.parts.rest.now (body_of_item c.args.bang c.in-Some.part) (item_has_length c.in-Some.part) (inside_of_item c.in-Some.part) c.in-Some.behind.now c.in-Some.ensures.read in
+    let shorter = part_less c.args.bang c.parts.rest.now (body_of_item c.args.bang c.in-Some.part) (item_has_length c.in-Some.part) (inside_of_item c.in-Some.part) c.in-Some.behind.now f in
     record {
-      body = body-next c.args.bang c.parts.body c.add_part.new.body (body_inside c.args.bang c.args.inside.now) (body_of_item c.args.bang c.in-Some.part) (item_has_length c.in-Some.part) c.parts.rest.now c.in-Some.behind.now f c.in_ok-add_part.ensures c.parts.invariant.body;
+      body = body-next c.args.bang c.parts.body c.add_part.new.body (body_inside c.args.bang c.args.inside.now) (body_of_item c.args.bang c.in-Some.part) (item_has_length c.in-Some.part) (inside_of_item c.in-Some.part) c.parts.rest.now c.in-Some.behind.now f c.in_ok-add_part.ensures c.parts.invariant.body;
       within = omega (arith, shorter, c.parts.invariant.within);
     }
 

@@ -1,10 +1,10 @@
-use Rattle.std.proofs.Common.{◌≡◌, ◌∷◌, ◌<◌, ◌≤◌, length, arith, rules, sym, ap, ◌∙◌, subst, List, ℕ, refl}
+use Rattle.std.proofs.Common.{◌≡◌, ◌∷◌, length, arith, rules, ap, subst, List, ℕ, refl}
 use Rattle.std.specs.Prelude.{Some, None}
 use Rattle.abc_pieces.specs.Reading.{token_of}
 use Rattle.abc_tokens.specs.Tokens.{FrontAt}
 use Rattle.abc_pieces.specs.declared.token.Before.TheVariants.{Other}
 use Rattle.abc_tokens.proofs.GoodLaws.{good_front}
-use Rattle.abc_tokens.proofs.Line.{begins_so, done_at, stuck_at, step, consumes}
+use Rattle.abc_tokens.proofs.Line.{done_at, stuck_at, step, consumes}
 use Rattle.abc_tokens.proofs.reader.read_front.Goals as goal
 
 pub fault_at-requires-clause-within : goal.fault_at-requires-clause-within
