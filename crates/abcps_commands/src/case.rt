@@ -1,0 +1,171 @@
+//! Cases, as the lines of a table say them.
+//!
+//! A line has the case's name, its words, its input, the number of its status, its output and its errors, with `; `
+//! between two. Words stand a space apart. Input, output and errors are names of files, or `-` for nothing; an
+//! input may also be made, as `50000 rests`.
+
+use crate::made::made;
+use crate::running::{Finished, Stream};
+use abcps::Status;
+use std::alloc::{AllocError, Global};
+use std::rt::Files;
+use std::{fs, io};
+
+/// The field that stands for nothing.
+const NOTHING: &str = "-";
+
+/// What a run should answer and write.
+#[derive(Drop)]
+pub struct Told {
+    pub status: u8,
+    pub output: Vec<u8>,
+    pub errors: Vec<u8>,
+}
+
+/// The words and the input of a run, and what should come of it.
+#[derive(Drop)]
+pub struct Case {
+    pub words: Vec<String>,
+    pub input: Vec<u8>,
+    pub told: Told,
+}
+
+/// Whether a text was cut: whether what was taken of it is a front that isn't all.
+fn is_cut(taken: &[u8], text: &[u8]) -> bool {
+    match text.strip_prefix(taken) {
+        Some(rest) => !rest.is_empty(),
+        None => false,
+    }
+}
+
+/// The status of a run whose errors fail. A line that tells why nothing was done may be lost.
+fn status_without_errors(status: u8) -> u8 {
+    if status == Status::SomeRefused.number() {
+        Status::WriteFault.number()
+    } else {
+        status
+    }
+}
+
+impl Told {
+    fn is_after_input(&self, finished: &Finished) -> bool {
+        finished.status == Status::ReadFault
+            && finished.output.taken().is_empty()
+            && finished.errors.taken().is_empty()
+    }
+
+    fn is_after_output(&self, finished: &Finished) -> bool {
+        finished.status == Status::WriteFault
+            && is_cut(finished.output.taken(), &self.output)
+            && finished.errors.taken().is_empty()
+    }
+
+    fn is_after_errors(&self, finished: &Finished) -> bool {
+        finished.status.number() == status_without_errors(self.status)
+            && finished.output.taken() == self.output.as_slice()
+            && is_cut(finished.errors.taken(), &self.errors)
+    }
+}
+
+impl Case {
+    /// Whether a run over streams that didn't fail is as told.
+    pub fn is_told(&self, finished: &Finished) -> bool {
+        finished.status.number() == self.told.status
+            && finished.output.taken() == self.told.output.as_slice()
+            && finished.errors.taken() == self.told.errors.as_slice()
+    }
+
+    /// Whether a run is as it should be where one of its streams failed.
+    pub fn is_told_after(&self, stream: Stream, finished: &Finished) -> bool {
+        match stream {
+            Stream::Input => self.told.is_after_input(finished),
+            Stream::Output => self.told.is_after_output(finished),
+            Stream::Errors => self.told.is_after_errors(finished),
+        }
+    }
+
+    /// Whether something should be written on a sink.
+    pub fn writes_on(&self, stream: Stream) -> bool {
+        match stream {
+            Stream::Input => false,
+            Stream::Output => !self.told.output.is_empty(),
+            Stream::Errors => !self.told.errors.is_empty(),
+        }
+    }
+}
+
+/// The first field of a line, and those behind it.
+fn next_field(line: &str) -> io::Result<(&str, &str)> {
+    line.split_once("; ")
+        .ok_or(io::Error::other("a field is wanting"))
+}
+
+fn words_of(alloc: Global, field: &str) -> Result<Vec<String>, AllocError> {
+    let mut words = Vec::new(alloc);
+    if field != NOTHING {
+        for word in field.split(' ') {
+            words.push(String::from_str(alloc, word)?)?;
+        }
+    }
+    Ok(words)
+}
+
+/// The text that a field names.
+fn text_of<R: Files + AllocGlobal>(rt: &R, field: &str) -> io::Result<Vec<u8>> {
+    if field == NOTHING {
+        Ok(Vec::new(rt.alloc()))
+    } else {
+        fs::read(rt, field)
+    }
+}
+
+/// The input that a field names or says how to make.
+fn input_of<R: Files + AllocGlobal>(rt: &R, field: &str) -> io::Result<Vec<u8>> {
+    match field.split_once(' ') {
+        Some((count, what)) => made(rt.alloc(), count, what),
+        None => text_of(rt, field),
+    }
+}
+
+fn status_of(field: &str) -> io::Result<u8> {
+    match field.parse::<u8>() {
+        Ok(status) => Ok(status),
+        Err(_) => Err(io::Error::other("a status is no number")),
+    }
+}
+
+/// What fields say that should come.
+fn told_of<R: Files + AllocGlobal>(rt: &R, fields: &str) -> io::Result<Told> {
+    let (status, fields) = next_field(fields)?;
+    let (output, errors) = next_field(fields)?;
+    Ok(Told {
+        status: status_of(status)?,
+        output: text_of(rt, output)?,
+        errors: text_of(rt, errors)?,
+    })
+}
+
+/// The case that the fields behind its name say.
+fn case_of<R: Files + AllocGlobal>(rt: &R, fields: &str) -> io::Result<Case> {
+    let (words, fields) = next_field(fields)?;
+    let (input, fields) = next_field(fields)?;
+    Ok(Case {
+        words: words_of(rt.alloc(), words)?,
+        input: input_of(rt, input)?,
+        told: told_of(rt, fields)?,
+    })
+}
+
+/// The name on a line of a table, and the case that it names.
+pub fn named_case<'a, R: Files + AllocGlobal>(
+    rt: &R,
+    line: &'a str,
+) -> io::Result<(&'a str, Case)> {
+    let (name, fields) = next_field(line)?;
+    Ok((name, case_of(rt, fields)?))
+}
+
+/// The words that tell whether a case is as told.
+pub fn verdict(is_told: bool) -> &'static str {
+    if is_told { "as told" } else { "other" }
+}

@@ -1,0 +1,38 @@
+//! Inputs that are made, since they are too long to be stored.
+
+use std::alloc::{AllocError, Global};
+use std::io;
+
+/// So many times a byte.
+fn put_all(text: &mut Vec<u8>, byte: u8, count: u32) -> Result<(), AllocError> {
+    for _ in 0..count {
+        text.push(byte)?;
+    }
+    Ok(())
+}
+
+fn spaces(alloc: Global, count: u32) -> Result<Vec<u8>, AllocError> {
+    let mut text = Vec::new(alloc);
+    put_all(&mut text, b' ', count)?;
+    Ok(text)
+}
+
+/// A book of a tune in free meter, with a line of so many rests and no bar.
+fn rests(alloc: Global, count: u32) -> Result<Vec<u8>, AllocError> {
+    let mut book = Vec::from_slice(alloc, b"X:1\nM:none\nK:C\n")?;
+    put_all(&mut book, b'z', count)?;
+    book.push(b'\n')?;
+    Ok(book)
+}
+
+/// An input of so many spaces, or of a book of so many rests.
+pub fn made(alloc: Global, count: &str, what: &str) -> io::Result<Vec<u8>> {
+    let Ok(count) = count.parse::<u32>() else {
+        return Err(io::Error::other("a count is no number"));
+    };
+    match what {
+        "spaces" => Ok(spaces(alloc, count)?),
+        "rests" => Ok(rests(alloc, count)?),
+        _ => Err(io::Error::other("no input is made so")),
+    }
+}

@@ -1,0 +1,56 @@
+//! Runs each command of the top call over streams in memory, and tells of each case in its folder whether what is
+//! answered and written is what stands there: over streams that never fail (the table `cases`), and with each call
+//! of each stream failing in turn (the table `failing`). `case` says how a line of a table is read.
+#![tactic(auto)]
+
+mod case;
+mod failing;
+mod made;
+mod running;
+
+use crate::case::{Case, named_case, verdict};
+use crate::failing::tell_failures;
+use crate::running::{Streams, ran};
+use std::process::ExitCode;
+use std::rt::Files;
+use std::thread::Threads;
+use std::{fs, io};
+
+/// Whether a case is as told over streams that never fail.
+fn is_as_told<R: Threads + Sync + AllocGlobal>(rt: &R, case: &Case) -> io::Result<bool> {
+    let finished = ran(rt, case, &Streams::SOUND)?;
+    Ok(case.is_told(&finished))
+}
+
+/// Tells each case of a table over streams that never fail.
+fn tell_cases<R: Files + AllocGlobal + Threads + Sync + Print>(
+    rt: &R,
+    table: &str,
+) -> io::Result<()> {
+    for line in table.lines() {
+        let (name, case) = named_case(rt, line)?;
+        let verdict = verdict(is_as_told(rt, &case)?);
+        println!(rt; "{name}: {verdict}")?;
+    }
+    Ok(())
+}
+
+/// Tells each case of a table over streams that fail.
+fn tell_failing<R: Files + AllocGlobal + Threads + Sync + Print>(
+    rt: &R,
+    table: &str,
+) -> io::Result<()> {
+    for line in table.lines() {
+        let (name, case) = named_case(rt, line)?;
+        tell_failures(rt, name, &case)?;
+    }
+    Ok(())
+}
+
+fn main(rt: HostRuntime) -> io::Result<ExitCode> {
+    let cases = fs::read_to_string(&rt, "cases")?;
+    tell_cases(&rt, cases.as_str())?;
+    let failing = fs::read_to_string(&rt, "failing")?;
+    tell_failing(&rt, failing.as_str())?;
+    Ok(ExitCode::from(0))
+}

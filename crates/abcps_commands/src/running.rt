@@ -1,0 +1,176 @@
+//! Runs of the top call over streams in memory.
+
+use crate::case::Case;
+use abcps::{Open, Status, run};
+use eng_io::{MemSink, MemSource};
+use mus_units::{Row, Text};
+use std::alloc::{AllocError, Global};
+use std::io;
+use std::thread::Threads;
+
+/// How many bytes a source gives in one call.
+const READ_PIECE: u32 = 16;
+
+/// A stream of a run.
+#[derive(Clone, Copy, Debug, PartialEq, Eq)]
+pub enum Stream {
+    Input,
+    Output,
+    Errors,
+}
+
+/// How a sink takes bytes: at most so many in one call, and which of its calls fails.
+#[derive(Clone, Copy, Debug)]
+pub struct Pace {
+    pub piece: u32,
+    pub fails: Option<u64>,
+}
+
+/// How the streams of a run go: which read fails, and how each sink takes bytes.
+#[derive(Clone, Copy, Debug)]
+pub struct Streams {
+    pub read_fails: Option<u64>,
+    pub output: Pace,
+    pub errors: Pace,
+}
+
+/// What a run answered, and its streams after it.
+#[derive(Drop)]
+pub struct Finished {
+    pub status: Status,
+    pub input: MemSource,
+    pub output: MemSink,
+    pub errors: MemSink,
+}
+
+impl Pace {
+    /// Pieces of 64 bytes, and no call that fails.
+    const SOUND: Pace = Pace {
+        piece: 64,
+        fails: None,
+    };
+}
+
+impl Streams {
+    /// Streams that never fail.
+    pub const SOUND: Streams = Streams {
+        read_fails: None,
+        output: Pace::SOUND,
+        errors: Pace::SOUND,
+    };
+
+    /// Sinks that take a byte in each call.
+    pub const BYTE_BY_BYTE: Streams = Streams {
+        read_fails: None,
+        output: Pace {
+            piece: 1,
+            fails: None,
+        },
+        errors: Pace {
+            piece: 1,
+            fails: None,
+        },
+    };
+
+    /// Streams of which one fails at a call.
+    pub fn failing_at(stream: Stream, call: u64) -> Streams {
+        let sound = Streams::SOUND;
+        let fails = Some(call);
+        let pace = Pace {
+            fails,
+            ..Pace::SOUND
+        };
+        match stream {
+            Stream::Input => Streams {
+                read_fails: fails,
+                ..sound
+            },
+            Stream::Output => Streams {
+                output: pace,
+                ..sound
+            },
+            Stream::Errors => Streams {
+                errors: pace,
+                ..sound
+            },
+        }
+    }
+
+    /// Streams of which one sink takes no byte.
+    pub fn taking_none(stream: Stream) -> Streams {
+        let sound = Streams::SOUND;
+        let pace = Pace {
+            piece: 0,
+            fails: None,
+        };
+        match stream {
+            Stream::Input => sound,
+            Stream::Output => Streams {
+                output: pace,
+                ..sound
+            },
+            Stream::Errors => Streams {
+                errors: pace,
+                ..sound
+            },
+        }
+    }
+}
+
+impl Finished {
+    /// How often a stream was called.
+    pub fn calls(&self, stream: Stream) -> u64 {
+        match stream {
+            Stream::Input => self.input.calls,
+            Stream::Output => self.output.calls,
+            Stream::Errors => self.errors.calls,
+        }
+    }
+}
+
+/// The row of the one number that there may be.
+fn row_of(alloc: Global, number: Option<u64>) -> Result<Row<u64>, AllocError> {
+    let mut items = Vec::new(alloc);
+    if let Some(number) = number {
+        items.push(number)?;
+    }
+    Ok(Row { items })
+}
+
+fn source(alloc: Global, bytes: &[u8], fails: Option<u64>) -> Result<MemSource, AllocError> {
+    let text = Text {
+        bytes: Vec::from_slice(alloc, bytes)?,
+    };
+    Ok(MemSource::new(text, READ_PIECE, row_of(alloc, fails)?))
+}
+
+fn sink(alloc: Global, pace: Pace) -> Result<MemSink, AllocError> {
+    Ok(MemSink::new(alloc, pace.piece, row_of(alloc, pace.fails)?))
+}
+
+/// A run of a case over such streams.
+pub fn ran<R: Threads + Sync + AllocGlobal>(
+    rt: &R,
+    case: &Case,
+    streams: &Streams,
+) -> io::Result<Finished> {
+    let alloc = rt.alloc();
+    let mut input = source(alloc, &case.input, streams.read_fails)?;
+    let mut output = sink(alloc, streams.output)?;
+    let mut errors = sink(alloc, streams.errors)?;
+    let status = run(
+        rt,
+        alloc,
+        &case.words,
+        &mut input,
+        &mut output,
+        &mut errors,
+        &Open,
+    );
+    Ok(Finished {
+        status,
+        input,
+        output,
+        errors,
+    })
+}
