@@ -1,5 +1,5 @@
 -- What is called for of a book that was set.
-use Rattle.std.proofs.Common.{◌≡◌, ◌∙◌, refl, sym, ap, subst, List, [], ℕ, Bool}
+use Rattle.std.proofs.Common.{◌≡◌, ◌∙◌, refl, sym, ap, subst, List, ℕ, Bool}
 use Rattle.std.specs.List.{All}
 use Rattle.abc_header.specs.declared.paper.Paper.{Paper}
 use Rattle.abc_header.specs.Defaults.{defaults_of}
@@ -7,7 +7,7 @@ use Rattle.abc_header.specs.Papers.{paper_of}
 use Rattle.abc_lines.specs.declared.book.Book.{Book}
 use Rattle.abc_lines.specs.Books.{book_of}
 use Rattle.gen_book.specs.Book.{book}
-use Rattle.ps_text.specs.Document.{Spells, document}
+use Rattle.ps_text.specs.Document.{document}
 use Rattle.ps_text.specs.Range.{IsSheet}
 use Rattle.ps_text.specs.declared.sheet.Sheet.{Sheet}
 use Rattle.set_book.specs.declared.outcome.Outcome.{Outcome}
@@ -47,7 +47,7 @@ are_pages paper outcomes sheet told s is good symbols blocks tells ends called s
       status = ends;
     })
 
-called_pages : (flow : Bool) (text : List ℕ) (outcomes : List Outcome) → AreSet flow text outcomes
+pub called_pages : (flow : Bool) (text : List ℕ) (outcomes : List Outcome) → AreSet flow text outcomes
     → (called : Called) → ArePagesOf (paper_in text) outcomes called → CallsPages flow text called
 called_pages flow text outcomes set called pages = record {
   outcomes = outcomes;
@@ -58,12 +58,6 @@ called_pages flow text outcomes set called pages = record {
   told = pages.told;
   status = pages.status;
 }
-
--- what `set` calls for
-pub calls_pages : (flow : Bool) (text : List ℕ) (paper : Paper) (outcomes : List Outcome) → paper ≡ paper_in text → AreSet flow text outcomes
-    → (called : Called) → ArePagesOf paper outcomes called → CallsPages flow text called
-calls_pages flow text paper outcomes is set called pages =
-    called_pages flow text outcomes set called (subst (λ p. ArePagesOf p outcomes called) is pages)
 
 -- what `systems` calls for
 pub calls_systems : (flow table : Bool) (text : List ℕ) (outcomes : List Outcome) → AreSet flow text outcomes → CallsSystems flow table text (systems_called table outcomes)

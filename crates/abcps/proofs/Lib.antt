@@ -1,3 +1,4 @@
 mod Answered
 mod BookCalls
+mod Batches
 mod Promised

@@ -1,13 +1,12 @@
 -- The promises of a run, from its answer by cases.
-use Rattle.std.proofs.Common.{◌≡◌, refl, sym, ◌∙◌, ap, subst, ◌⊎◌, inl, inr, ℕ, ◌≤◌, List, [], ◌∷◌, ◌++◌, length, length-append, append-nil, Option, Some, None, arith}
+use Rattle.std.proofs.Common.{◌≡◌, refl, sym, ◌∙◌, ap, subst, ◌⊎◌, inl, inr, ℕ, ◌≤◌, List, ◌++◌, length, length-append, append-nil, Option, Some, None, arith}
 use Rattle.std.specs.Io.KnownBytes.{Consumes, IsAtEnd}
-use Rattle.eng_io.specs.Causes.{Rose}
 use Rattle.abcps_words.specs.Command.{Asks, AsksOne, IsListed, limit_of}
 use Rattle.abcps_words.specs.declared.command.Command.{Command}
 use Rattle.abcps_words.specs.declared.command.Command.TheVariants as command
 use Rattle.abcps.specs.Called.{Called}
 use Rattle.abcps.specs.Calls.{Calls, IsNoDocument, IsNoListing}
-use Rattle.abcps.specs.Outcome.{Stream, IsAnswer, IsObeyed, IsQuiet, IsRead, IsReader, IsRun, ReadAll, ReadTooMuch, TookAll, TookFront, TookPart, WasCut}
+use Rattle.abcps.specs.Outcome.{Stream, IsAnswer, IsObeyed, IsQuiet, IsRead, IsReader, IsRun, ReadAll, ReadTooMuch, TookAll, TookPart, WasCut}
 use Rattle.abcps.specs.Promises.{IsDone, IsGiven, IsRefused, IsToldTo, IsWhole, NoFault, Promises}
 use Rattle.abcps.specs.declared.status.Status.{Status}
 use Rattle.abcps.specs.declared.status.Status.TheVariants as status

@@ -1,5 +1,5 @@
 -- What each command calls for, of an input that it doesn't refuse.
-use Rattle.std.specs.Prelude.{◌≡◌, ℕ, List, [], ◌∷◌, ◌++◌, Bool, true, false, if◌then◌else◌, length, flat_map, codes, decimal}
+use Rattle.std.specs.Prelude.{◌≡◌, ℕ, List, [], ◌∷◌, ◌++◌, Bool, true, false, if◌then◌else◌, flat_map, codes, decimal}
 use Rattle.std.specs.List.{list_any}
 use Rattle.gen_book.specs.Book.{book}
 use Rattle.ps_text.specs.Document.{Spells}

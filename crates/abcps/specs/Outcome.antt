@@ -1,5 +1,5 @@
 -- What a run answers, and what it leaves on each stream: by cases on the answer.
-use Rattle.std.specs.Prelude.{◌≡◌, ◌⊎◌, ◌≤◌, ℕ, ◌+◌, List, [], ◌∷◌, ◌++◌, length, take, Option}
+use Rattle.std.specs.Prelude.{◌≡◌, ◌⊎◌, ◌≤◌, ℕ, ◌+◌, List, [], length, take, Option}
 use Rattle.std.specs.Io.KnownBytes.{Keeps, Appends, Consumes, IsAtEnd}
 use Rattle.eng_io.specs.Causes.{Rose}
 use Rattle.abcps_words.specs.Command.{Asks, IsListed, limit_of}

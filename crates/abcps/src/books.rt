@@ -7,10 +7,11 @@ ghost use Rattle.set_lists.specs.Listing.{AreListable};
 ghost use Rattle.set_lists.specs.Reports.{reports};
 ghost use Rattle.set_lists.specs.Trials.{trial_text};
 ghost use Rattle.set_pages.specs.Sheet.{IsSetUnder, sheet_of};
-ghost use Rattle.abcps.specs.Books.{ArePagesOf, AreSet, paper_in, status_of, systems_by, systems_called, trial_called, trial_of};
+ghost use Rattle.abcps.specs.Books.{AreSet, paper_in, status_of, systems_by, systems_called, trial_called, trial_of};
 ghost use Rattle.abcps.specs.Outcome.{IsAnswer, IsAnswered, IsEnd};
 ghost use Rattle.abcps_words.specs.declared.command.Command.TheVariants as command;
 
+use crate::pressing::press_book;
 use crate::status::Status;
 use crate::telling::{end, write_both};
 use abc_header::{Paper, read_paper};
@@ -101,30 +102,6 @@ fn write_sheet<O: Sink, E: Sink>(
     }
 }
 
-/// Writes the pages of outcomes on a paper, and tells their faults.
-fn write_pages<O: Sink, E: Sink>(
-    alloc: Global,
-    paper: &Paper,
-    outcomes: &[Outcome],
-    output: &mut O,
-    errors: &mut E,
-) -> Status
-    requires paper { IsGoodPaper paper.now }
-    requires set { All (IsSetUnder paper.now) outcomes.now }
-    ensures { IsAnswered (ArePagesOf paper.now outcomes.now) result
-        (record { before = O.taken output.old; after = O.taken output.new; count_before = O.faults output.old; count_after = O.faults output.new })
-        (record { before = E.taken errors.old; after = E.taken errors.new; count_before = E.faults errors.old; count_after = E.faults errors.new }) }
-{
-    let Ok(sheet) = sheet_for(alloc, paper, outcomes) else {
-        return Status::Memory;
-    };
-    let Ok(told) = reports_of(alloc, outcomes) else {
-        return Status::Memory;
-    };
-    let status = status_of(outcomes);
-    write_sheet(alloc, &sheet, told.as_slice(), status, output, errors)
-}
-
 /// Writes the pages of a book, and tells the faults of its tunes.
 pub(crate) fn set<R: Threads + Sync, O: Sink, E: Sink, G: Gate + Sync>(
     rt: &R,
@@ -143,10 +120,11 @@ pub(crate) fn set<R: Threads + Sync, O: Sink, E: Sink, G: Gate + Sync>(
         (record { before = O.taken output.old; after = O.taken output.new; count_before = O.faults output.old; count_after = O.faults output.new })
         (record { before = E.taken errors.old; after = E.taken errors.new; count_before = E.faults errors.old; count_after = E.faults errors.new }) }
 {
-    let Ok(book) = set_text(rt, alloc, text, flow, jobs, gate) else {
+    let Ok(book) = press_book(rt, alloc, text, flow, jobs, gate) else {
         return Status::Memory;
     };
-    write_pages(alloc, &book.paper, book.outcomes.as_slice(), output, errors)
+    let told = book.told.as_slice();
+    write_sheet(alloc, &book.sheet, told, book.status, output, errors)
 }
 
 /// The systems of outcomes, or the listing of their spans.

@@ -5,6 +5,7 @@ mod books;
 mod inspecting;
 mod judging;
 mod making;
+mod pressing;
 pub mod report;
 pub mod running;
 pub mod status;
