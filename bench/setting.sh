@@ -32,7 +32,7 @@ least_clock() {
     done | sort -n | head -n 1
 }
 
-ratio() { awk -v a="$1" -v b="$2" 'BEGIN { printf "%.2f", b > 0 ? a / b : 0 }'; }
+ratio() { awk -v a="$1" -v b="$2" 'BEGIN { printf "%.2f", (b > 0 ? a / b : 0) }'; }
 
 for flow in "" "--flow"; do
     # shellcheck disable=SC2086

@@ -15,6 +15,3 @@ pub use abcps_words::{Command, USAGE};
 pub use running::run;
 pub use set_book::{Gate, Open};
 pub use status::Status;
-
-#[cfg(test)]
-mod tests;

@@ -16,18 +16,18 @@ const NOTHING: &str = "-";
 
 /// What a run should answer and write.
 #[derive(Drop)]
-pub struct Told {
-    pub status: u8,
-    pub output: Vec<u8>,
-    pub errors: Vec<u8>,
+pub(crate) struct Told {
+    pub(crate) status: u8,
+    pub(crate) output: Vec<u8>,
+    pub(crate) errors: Vec<u8>,
 }
 
 /// The words and the input of a run, and what should come of it.
 #[derive(Drop)]
-pub struct Case {
-    pub words: Vec<String>,
-    pub input: Vec<u8>,
-    pub told: Told,
+pub(crate) struct Case {
+    pub(crate) words: Vec<String>,
+    pub(crate) input: Vec<u8>,
+    pub(crate) told: Told,
 }
 
 /// Whether a text was cut: whether what was taken of it is a front that isn't all.
@@ -69,14 +69,14 @@ impl Told {
 
 impl Case {
     /// Whether a run over streams that didn't fail is as told.
-    pub fn is_told(&self, finished: &Finished) -> bool {
+    pub(crate) fn is_told(&self, finished: &Finished) -> bool {
         finished.status.number() == self.told.status
             && finished.output.taken() == self.told.output.as_slice()
             && finished.errors.taken() == self.told.errors.as_slice()
     }
 
     /// Whether a run is as it should be where one of its streams failed.
-    pub fn is_told_after(&self, stream: Stream, finished: &Finished) -> bool {
+    pub(crate) fn is_told_after(&self, stream: Stream, finished: &Finished) -> bool {
         match stream {
             Stream::Input => self.told.is_after_input(finished),
             Stream::Output => self.told.is_after_output(finished),
@@ -85,7 +85,7 @@ impl Case {
     }
 
     /// Whether something should be written on a sink.
-    pub fn writes_on(&self, stream: Stream) -> bool {
+    pub(crate) fn writes_on(&self, stream: Stream) -> bool {
         match stream {
             Stream::Input => false,
             Stream::Output => !self.told.output.is_empty(),
@@ -157,7 +157,7 @@ fn case_of<R: Files + AllocGlobal>(rt: &R, fields: &str) -> io::Result<Case> {
 }
 
 /// The name on a line of a table, and the case that it names.
-pub fn named_case<'a, R: Files + AllocGlobal>(
+pub(crate) fn named_case<'a, R: Files + AllocGlobal>(
     rt: &R,
     line: &'a str,
 ) -> io::Result<(&'a str, Case)> {
@@ -166,6 +166,6 @@ pub fn named_case<'a, R: Files + AllocGlobal>(
 }
 
 /// The words that tell whether a case is as told.
-pub fn verdict(is_told: bool) -> &'static str {
+pub(crate) fn verdict(is_told: bool) -> &'static str {
     if is_told { "as told" } else { "other" }
 }

@@ -69,7 +69,7 @@ fn tell_stream<R: Threads + Sync + AllocGlobal + Print>(
 }
 
 /// Tells whether a case is as told over streams that fail.
-pub fn tell_failures<R: Threads + Sync + AllocGlobal + Print>(
+pub(crate) fn tell_failures<R: Threads + Sync + AllocGlobal + Print>(
     rt: &R,
     name: &str,
     case: &Case,

@@ -26,7 +26,7 @@ fn rests(alloc: Global, count: u32) -> Result<Vec<u8>, AllocError> {
 }
 
 /// An input of so many spaces, or of a book of so many rests.
-pub fn made(alloc: Global, count: &str, what: &str) -> io::Result<Vec<u8>> {
+pub(crate) fn made(alloc: Global, count: &str, what: &str) -> io::Result<Vec<u8>> {
     let Ok(count) = count.parse::<u32>() else {
         return Err(io::Error::other("a count is no number"));
     };

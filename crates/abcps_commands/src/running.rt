@@ -13,7 +13,7 @@ const READ_PIECE: u32 = 16;
 
 /// A stream of a run.
 #[derive(Clone, Copy, Debug, PartialEq, Eq)]
-pub enum Stream {
+pub(crate) enum Stream {
     Input,
     Output,
     Errors,
@@ -21,26 +21,26 @@ pub enum Stream {
 
 /// How a sink takes bytes: at most so many in one call, and which of its calls fails.
 #[derive(Clone, Copy, Debug)]
-pub struct Pace {
-    pub piece: u32,
-    pub fails: Option<u64>,
+pub(crate) struct Pace {
+    pub(crate) piece: u32,
+    pub(crate) fails: Option<u64>,
 }
 
 /// How the streams of a run go: which read fails, and how each sink takes bytes.
 #[derive(Clone, Copy, Debug)]
-pub struct Streams {
-    pub read_fails: Option<u64>,
-    pub output: Pace,
-    pub errors: Pace,
+pub(crate) struct Streams {
+    pub(crate) read_fails: Option<u64>,
+    pub(crate) output: Pace,
+    pub(crate) errors: Pace,
 }
 
 /// What a run answered, and its streams after it.
 #[derive(Drop)]
-pub struct Finished {
-    pub status: Status,
-    pub input: MemSource,
-    pub output: MemSink,
-    pub errors: MemSink,
+pub(crate) struct Finished {
+    pub(crate) status: Status,
+    pub(crate) input: MemSource,
+    pub(crate) output: MemSink,
+    pub(crate) errors: MemSink,
 }
 
 impl Pace {
@@ -73,7 +73,7 @@ impl Streams {
     };
 
     /// Streams of which one fails at a call.
-    pub fn failing_at(stream: Stream, call: u64) -> Streams {
+    pub(crate) fn failing_at(stream: Stream, call: u64) -> Streams {
         let sound = Streams::SOUND;
         let fails = Some(call);
         let pace = Pace {
@@ -97,7 +97,7 @@ impl Streams {
     }
 
     /// Streams of which one sink takes no byte.
-    pub fn taking_none(stream: Stream) -> Streams {
+    pub(crate) fn taking_none(stream: Stream) -> Streams {
         let sound = Streams::SOUND;
         let pace = Pace {
             piece: 0,
@@ -119,7 +119,7 @@ impl Streams {
 
 impl Finished {
     /// How often a stream was called.
-    pub fn calls(&self, stream: Stream) -> u64 {
+    pub(crate) fn calls(&self, stream: Stream) -> u64 {
         match stream {
             Stream::Input => self.input.calls,
             Stream::Output => self.output.calls,
@@ -149,7 +149,7 @@ fn sink(alloc: Global, pace: Pace) -> Result<MemSink, AllocError> {
 }
 
 /// A run of a case over such streams.
-pub fn ran<R: Threads + Sync + AllocGlobal>(
+pub(crate) fn ran<R: Threads + Sync + AllocGlobal>(
     rt: &R,
     case: &Case,
     streams: &Streams,
