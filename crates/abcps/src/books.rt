@@ -11,7 +11,7 @@ ghost use Rattle.abcps.specs.Books.{AreSet, paper_in, status_of, systems_by, sys
 ghost use Rattle.abcps.specs.Outcome.{IsAnswer, IsAnswered, IsEnd};
 ghost use Rattle.abcps_words.specs.declared.command.Command.TheVariants as command;
 
-use crate::pressing::press_book;
+use crate::pressing::{press_book, status_if};
 use crate::status::Status;
 use crate::telling::{end, write_both};
 use abc_header::{Paper, read_paper};
@@ -64,11 +64,7 @@ fn status_of(outcomes: &[Outcome]) -> Status
     ensures value { result ≡ status_of outcomes.now }
     ensures end { IsEnd result }
 {
-    if has_fault(outcomes) {
-        Status::SomeRefused
-    } else {
-        Status::Done
-    }
+    status_if(has_fault(outcomes))
 }
 
 fn reports_of(alloc: Global, outcomes: &[Outcome]) -> Result<Text, Memory>

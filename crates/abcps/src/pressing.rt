@@ -5,6 +5,7 @@ ghost use Rattle.abc_header.specs.Papers.{IsGoodPaper};
 ghost use Rattle.set_book.specs.declared.outcome.Outcome as outcome;
 ghost use Rattle.set_pages.specs.Press.{IsOpen};
 ghost use Rattle.set_pages.specs.Sheet.{IsSetUnder};
+ghost use Rattle.abcps.specs.Outcome.{IsEnd};
 ghost use Rattle.abcps.specs.Pressed.{AreTaken, IsPressedBook, IsTaken, status_if};
 
 use crate::status::Status;
@@ -39,8 +40,10 @@ pub(crate) struct PressedBook {
     pub(crate) status: Status,
 }
 
-fn status_if(refused: bool) -> Status
-    ensures { result ≡ status_if refused }
+/// The answer where a tune was refused, and where none was.
+pub(crate) fn status_if(refused: bool) -> Status
+    ensures value { result ≡ status_if refused }
+    ensures end { IsEnd result }
 {
     if refused {
         Status::SomeRefused
