@@ -10,13 +10,13 @@ use Rattle.abc_notes.specs.declared.part.Flaw.{Flaw}
 use Rattle.abc_notes.specs.Runs.{span_all, begins}
 use Rattle.abc_notes.specs.Decorations.{is_name_byte}
 use Rattle.abc_notes.specs.Lengths.{LengthForm, length_then, IsLength, length_at}
-use Rattle.abc_notes.specs.Parts.{no_part, then_part, walk, is_done, spelled_then, later_or}
+use Rattle.abc_notes.specs.Parts.{HasNone, no_part, then_part, walk, is_done, spelled_then, later_or}
 use Rattle.abc_notes.specs.Items.{Inner, note_inside, letter_inside, named_inside, tie_inside, slur_inside, passed_inside, lone_inside, inner_then, IsName, StandsInside, has_length, InnerParts, InnerFlawed, name_at, item_class, inner_at}
 use Rattle.abc_notes.specs.Chords.{ChordForm, InnerLeads, is_inside, is_bracket, has_head, chord_then, IsChord, ChordFault, chord_unclosed, chord_open, chord_headless, chord_flawed, bracket_here, bracket_in, bracket_in_name, last_bracket, bracket_at, chord_from, chord_at}
 use Rattle.abc_notes.proofs.SpanLaws.{span_all-takes, span_all-pass, span_all-after, span_all-append, span_all-stops}
 use Rattle.abc_notes.proofs.LengthLaws.{length_at-takes, length_at-reaches}
 use Rattle.abc_notes.proofs.ItemLaws.{name_at-takes, name_at-reads}
-use Rattle.abc_notes.proofs.PartLaws.{stands_at, less, longest_of, longest_is, walk-none, walk-some, parts_of_walk, walk_of_parts}
+use Rattle.abc_notes.proofs.PartLaws.{stands_at, less, longest_of, none_of, longest_is, walk-none, walk-some, parts_of_walk, walk_of_parts}
 use Rattle.abc_notes.proofs.InnerLaws.{inner_reader, length-length_then}
 use Rattle.abc_notes.proofs.CutLaws.{inner_append, inner_local, read_cut, walk_spells, leads_of_walk, free, CrossesIn, crossing, lone_at, clear_parts, all_parts, cut_at, Cut, first_same, rest_same, length_append, length_free, all_span}
 
@@ -526,12 +526,24 @@ closed_somewhere s w r cut some = by_all (list_all is_inside s) refl
         let nothing : span_all is_inside s ≡ (s, []) = all_span is_inside s e in
         absurd (some (ap (λ (p : List ℕ × List ℕ). length p.1) (cut ∙ nothing)))
 
+-- no part stands where reading the parts stops
+stops_by : (bang : Bool) (s : List ℕ) (o : Option (Inner × List ℕ)) → inner_at bang s ≡ o → ((t : List ℕ) → length t < length s → inner_at bang (walk (inner_at bang) t).1 ≡ None) → inner_at bang (walk (inner_at bang) s).1 ≡ None
+stops_by bang s None e next = ap (λ (w : List Inner × List ℕ). inner_at bang w.1) (walk-none (inner_reader bang) s e) ∙ e
+stops_by bang s (Some z) e next = ap (λ (w : List Inner × List ℕ). inner_at bang w.1) (walk-some (inner_reader bang) s z e) ∙ next z.1 (less (inner_reader bang) s z e)
+
+stops_within : (bang : Bool) (n : ℕ) (s : List ℕ) → length s ≤ n → inner_at bang (walk (inner_at bang) s).1 ≡ None
+stops_within bang zero s h = stops_by bang s (inner_at bang s) refl (λ t lt. absurd (omega (arith, lt, h)))
+stops_within bang (suc n) s h = stops_by bang s (inner_at bang s) refl (λ t lt. stops_within bang n t (omega (arith, lt, h)))
+
+none_behind : (bang : Bool) (s t : List ℕ) → (walk (inner_at bang) s).1 ≡ t → HasNone Inner (StandsInside bang) t
+none_behind bang s t e = none_of (inner_reader bang) t (ap (inner_at bang) (sym e) ∙ stops_within bang (length s) s (omega arith))
+
 pub chord-flawed : (bang : Bool) (s w r : List ℕ) (flaw : Flaw) → two w r ≡ span_all is_inside s → (length r ≡ 0 → ⊥) → is_done (walk (inner_at bang) s) ≡ false → begins is_bracket (walk (inner_at bang) s).1 ≡ false → InnerFlawed bang None s flaw → ChordFault bang s flaw
 chord-flawed bang s w r flaw cut some stuck other flawed = by_stop (walk (inner_at bang) s).1 refl
   where
     by_stop : (t : List ℕ) → (walk (inner_at bang) s).1 ≡ t → ChordFault bang s flaw
     by_stop [] e = absurd (let clash = sym stuck ∙ ap (λ (t : List ℕ). eqb (length t) 0) e in cc)
-    by_stop (b ∷ t) e = chord_flawed s (walk (inner_at bang) s).0 b t flaw (closed_somewhere s w r cut some) (subst (λ x. InnerLeads bang s (walk (inner_at bang) s).0 x) e (inner_leads bang s)) (sym (ap (begins is_bracket) e) ∙ other) flawed
+    by_stop (b ∷ t) e = chord_flawed s (walk (inner_at bang) s).0 b t flaw (closed_somewhere s w r cut some) (subst (λ x. InnerLeads bang s (walk (inner_at bang) s).0 x) e (inner_leads bang s)) (none_behind bang s (b ∷ t) e) (sym (ap (begins is_bracket) e) ∙ other) flawed
 
 pub not_empty : (t : List ℕ) → eqb (length t) 0 ≡ false → length t ≡ 0 → ⊥
 not_empty [] h e = absurd cc

@@ -11,7 +11,7 @@ use Rattle.abc_notes.specs.Runs.{span_all}
 use Rattle.abc_notes.specs.Lengths.{LengthForm, length_then, IsLength, length_at}
 use Rattle.abc_notes.specs.Decorations.{deco_of_letter, deco_of_name}
 use Rattle.abc_notes.specs.Items.{Inner, Sense, says_note, says_letter, says_name, says_tie, says_nothing, sense, inner_then, has_length, StandsInside, InnerParts, InnerFlawed, name_at, inner_at}
-use Rattle.abc_notes.specs.Parts.{Leads, walk, is_done, spelled_then, later_or}
+use Rattle.abc_notes.specs.Parts.{HasNone, Leads, walk, is_done, spelled_then, later_or}
 
 pub record ChordForm : Type 0 where
   pub inside : List ℕ
@@ -80,7 +80,8 @@ pub data ChordFault (bang : Bool) : List ℕ → Flaw → Type 0 where
   chord_open : (text : List ℕ) (parts : List Inner) → InnerLeads bang text parts [] → ChordFault bang text (record { kind = Unclosed; left = suc (length text) })
   chord_headless : (text : List ℕ) (parts : List Inner) (rest : List ℕ) → InnerLeads bang text parts (93 ∷ rest) → has_head parts ≡ false →
       ChordFault bang text (record { kind = BadByte; left = suc (length text) })
-  chord_flawed : (text : List ℕ) (parts : List Inner) (byte : ℕ) (rest : List ℕ) (flaw : Flaw) → list_all is_inside text ≡ false → InnerLeads bang text parts (byte ∷ rest) → (byte == 93) ≡ false →
+  chord_flawed : (text : List ℕ) (parts : List Inner) (byte : ℕ) (rest : List ℕ) (flaw : Flaw) → list_all is_inside text ≡ false → InnerLeads bang text parts (byte ∷ rest) →
+      HasNone Inner (StandsInside bang) (byte ∷ rest) → (byte == 93) ≡ false →
       InnerFlawed bang None text flaw → ChordFault bang text flaw
 
 -- ---- reading, between these and the code
