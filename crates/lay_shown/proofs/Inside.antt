@@ -1,5 +1,5 @@
 -- The columns that a voice draws in are among those of its system, and ranks rise with the keys.
-use Rattle.std.proofs.Common.{◌≡◌, ◌∙◌, ℕ, zero, suc, ◌+◌, ◌-◌, ◌<◌, ◌≤◌, Bool, true, false, not, ◌&&◌, ◌||◌, nat_le, nat_lt, if◌then◌else◌, List, [], ◌∷◌, ◌++◌, length, take, drop, Option, Some, None, refl, sym, ap, subst, arith}
+use Rattle.std.proofs.Common.{◌≡◌, ◌∙◌, ℕ, zero, suc, ◌+◌, ◌-◌, ◌<◌, ◌≤◌, Bool, true, false, not, ◌==◌, ◌&&◌, ◌||◌, nat_le, nat_lt, if◌then◌else◌, List, [], ◌∷◌, ◌++◌, length, take, drop, Option, Some, None, refl, sym, ap, subst, arith}
 use Rattle.std.specs.List.{All, AllByRecursion, Contains, flat_map, slice_get, slice_index, slice_index_or, slice_range}
 use Rattle.std.specs.Prelude.{is_some, unwrap_or}
 use Rattle.std.proofs.lemmas.Bool.Decides.{nat_tests}
@@ -8,6 +8,7 @@ use Rattle.std.proofs.lemmas.List.Sums.{sum_by-cons}
 use Rattle.std.proofs.lemmas.Option.{none-some, same_Some}
 use Rattle.mus_units.specs.declared.key.Key.{Key}
 use Rattle.mus_units.specs.declared.key.Meter.{Meter}
+use Rattle.mus_units.specs.declared.note.Bar.{Bar}
 use Rattle.mus_units.specs.declared.note.Wish.{Wish}
 use Rattle.mus_units.specs.declared.pitch.Clef.{Clef}
 use Rattle.mus_score.specs.declared.score.Event.{Event}
@@ -24,7 +25,7 @@ use Rattle.mus_stems.specs.Stills.{stills}
 use Rattle.mus_stems.proofs.EndLaws.{plans_length}
 use Rattle.mus_time.specs.declared.keys.Class.TheVariants as classes
 use Rattle.mus_time.specs.declared.keys.ColumnKey.{ColumnKey}
-use Rattle.mus_time.specs.Keys.{AreKeys, called_keys, change_keys, event_keys, events_keys, first_keys, grace_keys, has_entries, key_at, key_has_mark, measures_keys, meter_has_mark, signed_after, signed_behind, signed_through, voice_keys}
+use Rattle.mus_time.specs.Keys.{AreKeys, called_keys, change_has_mark, change_keys, event_keys, events_keys, first_keys, grace_keys, has_entries, has_features, key_at, key_has_mark, measures_keys, meter_has_mark, signed_after, signed_behind, signed_through, voice_keys}
 use Rattle.mus_time.specs.Order.{class_number, is_below, rank_of, then_below}
 use Rattle.mus_drawn.specs.declared.drawn.DrawnEvent.{DrawnEvent}
 use Rattle.mus_drawn.specs.declared.drawn.DrawnMeasure.{DrawnMeasure}
@@ -33,11 +34,11 @@ use Rattle.mus_drawn.specs.declared.standing.Standing.{Standing}
 use Rattle.mus_drawn.specs.Drawn.{clefs_from, drawn_events, drawn_measure, drawn_measures, drawn_voice, old_signs, standing_after, standing_behind, standing_of}
 
 -- ---- ranks
-not_itself : (k : ColumnKey) → is_below k k ≡ false
+pub not_itself : (k : ColumnKey) → is_below k k ≡ false
 unfolding is_below
 not_itself k = grind (arith, nat_tests)
 
-false_not_true : false ≡ true → ⊥
+pub false_not_true : false ≡ true → ⊥
 false_not_true h = cc
 
 then_through : (a b c : ℕ) (p q r : Bool) → (p ≡ true → q ≡ true → r ≡ true) → then_below a b p ≡ true → then_below b c q ≡ true → then_below a c r ≡ true
@@ -195,16 +196,16 @@ voice_same lengths a b v =
 abbrev pub AreAmong : List ColumnKey → List ColumnKey → Type 0
 AreAmong some keys = (k : ColumnKey) → Contains some k → Contains keys k
 
-among_left : (xs ys keys : List ColumnKey) → AreAmong (xs ++ ys) keys → AreAmong xs keys
+pub among_left : (xs ys keys : List ColumnKey) → AreAmong (xs ++ ys) keys → AreAmong xs keys
 among_left xs ys keys h k i = h k (Contains-append_left xs ys k i)
 
-among_right : (xs ys keys : List ColumnKey) → AreAmong (xs ++ ys) keys → AreAmong ys keys
+pub among_right : (xs ys keys : List ColumnKey) → AreAmong (xs ++ ys) keys → AreAmong ys keys
 among_right xs ys keys h k i = h k (Contains-append_right xs ys k i)
 
-here : (x : ColumnKey) (xs : List ColumnKey) → Contains (x ∷ xs) x
+pub here : (x : ColumnKey) (xs : List ColumnKey) → Contains (x ∷ xs) x
 here x xs = (0, omega arith, refl)
 
-there : (x y : ColumnKey) (ys : List ColumnKey) → Contains ys x → Contains (y ∷ ys) x
+pub there : (x y : ColumnKey) (ys : List ColumnKey) → Contains ys x → Contains (y ∷ ys) x
 there x y ys (i, inside, is) = (suc i, omega (arith, inside), is)
 
 -- the columns of an event and of its graces
@@ -262,12 +263,67 @@ measures_have keys lengths m in_head (d ∷ ds) h =
       measures_have keys lengths (m + 1) false ds (λ k i. behind k (there k bar more i)),
     )
 
+-- ---- heads, bars before the first measure, and changes
+pub head_has : (keys : List ColumnKey) (lengths : List ℕ) (a b : ℕ) (v : DrawnVoice) → AreAmong (voice_columns lengths a b v) keys → Contains keys (key_at a 0 classes.Head 0)
+head_has keys lengths a b v h =
+    let key = key_at a 0 classes.Head 0 in
+    among_left (key ∷ first_keys a v.first) (measures_columns lengths a true (slice_range v.measures a b)) keys h key (here key (first_keys a v.first))
+
+first_in : (keys : List ColumnKey) (a : ℕ) (b : Bar) → AreAmong (first_keys a b) keys → a ≡ 0 → has_features b ≡ true → Contains keys (key_at 0 0 classes.First 0)
+first_in keys a b h zeroth features =
+    let key = key_at 0 0 classes.First 0 in
+    let is : ((a == 0) && has_features b) ≡ true = rw (zeroth, features) refl in
+    h key (subst (λ t. Contains t key) (ap (λ c. if c then key ∷ [] else []) (sym is)) (here key []))
+
+pub first_has : (keys : List ColumnKey) (lengths : List ℕ) (a b : ℕ) (v : DrawnVoice) → AreAmong (voice_columns lengths a b v) keys → a ≡ 0 → has_features v.first ≡ true → Contains keys (key_at 0 0 classes.First 0)
+first_has keys lengths a b v h =
+    let key = key_at a 0 classes.Head 0 in
+    let front = among_left (key ∷ first_keys a v.first) (measures_columns lengths a true (slice_range v.measures a b)) keys h in
+    first_in keys a v.first (λ k i. front k (there k key (first_keys a v.first) i))
+
+-- the changes of events that draw something, but for one that the head draws
+abbrev pub HasChanges : List ColumnKey → ℕ → Bool → List DrawnEvent → Type 0
+HasChanges keys m in_head [] = Unit {0}
+HasChanges keys m in_head (e ∷ es) =
+    (in_head ≡ false → change_has_mark (has_old e) e.flat.event.changes ≡ true → Contains keys (key_at m e.tick classes.Change 0)) × HasChanges keys m false es
+
+abbrev pub HaveChanges : List ColumnKey → ℕ → Bool → List DrawnMeasure → Type 0
+HaveChanges keys m in_head [] = Unit {0}
+HaveChanges keys m in_head (d ∷ ds) = HasChanges keys m in_head d.events × HaveChanges keys (m + 1) false ds
+
+change_in : (keys : List ColumnKey) (m : ℕ) (in_head : Bool) (e : DrawnEvent) → AreAmong (change_keys m e.tick in_head (has_old e) e.flat.event.changes) keys
+    → in_head ≡ false → change_has_mark (has_old e) e.flat.event.changes ≡ true → Contains keys (key_at m e.tick classes.Change 0)
+change_in keys m in_head e h outside marked =
+    let key = key_at m e.tick classes.Change 0 in
+    let is : (not in_head && change_has_mark (has_old e) e.flat.event.changes) ≡ true = ap (λ c. not c && change_has_mark (has_old e) e.flat.event.changes) outside ∙ marked in
+    h key (subst (λ t. Contains t key) (ap (λ c. if c then key ∷ [] else []) (sym is)) (here key []))
+
+events_change : (keys : List ColumnKey) (m : ℕ) (in_head : Bool) (es : List DrawnEvent) → AreAmong (events_columns m in_head es) keys → HasChanges keys m in_head es
+events_change keys m in_head [] h = tt
+events_change keys m in_head (e ∷ es) h =
+    let change = change_keys m e.tick in_head (has_old e) e.flat.event.changes in
+    let graces = grace_keys m e.tick 0 e.flat.graces in
+    let own = event_keys m e.tick in_head (has_old e) e.flat in
+    let more = events_columns m false es in (
+      change_in keys m in_head e (among_left change graces keys (among_left (change ++ graces) (key_at m e.tick classes.Note 0 ∷ []) keys (among_left own more keys h))),
+      events_change keys m false es (among_right own more keys h),
+    )
+
+measures_change : (keys : List ColumnKey) (lengths : List ℕ) (m : ℕ) (in_head : Bool) (ds : List DrawnMeasure) → AreAmong (measures_columns lengths m in_head ds) keys → HaveChanges keys m in_head ds
+measures_change keys lengths m in_head [] h = tt
+measures_change keys lengths m in_head (d ∷ ds) h =
+    let own = events_columns m in_head d.events in
+    let more = measures_columns lengths (m + 1) false ds in
+    let bar = bar_of lengths m in
+    let behind = among_right own (bar ∷ more) keys h in
+    (events_change keys m in_head d.events (among_left own (bar ∷ more) keys h), measures_change keys lengths (m + 1) false ds (λ k i. behind k (there k bar more i)))
+
 -- ---- the voices of a score
 each_among : (f : Voice → List ColumnKey) (keys : List ColumnKey) (vs : List Voice) → AreAmong (flat_map f vs) keys → AllByRecursion (λ v. AreAmong (f v) keys) vs
 each_among f keys [] h = tt
 each_among f keys (v ∷ vs) h = (among_left (f v) (flat_map f vs) keys h, each_among f keys vs (among_right (f v) (flat_map f vs) keys h))
 
-all_weaker : {X : Type 0} (P Q : X → Type 0) → ((x : X) → P x → Q x) → (xs : List X) → AllByRecursion P xs → AllByRecursion Q xs
+pub all_weaker : {X : Type 0} (P Q : X → Type 0) → ((x : X) → P x → Q x) → (xs : List X) → AllByRecursion P xs → AllByRecursion Q xs
 all_weaker P Q f [] h = tt
 all_weaker P Q f (x ∷ xs) h = (f x h.0, all_weaker P Q f xs h.1)
 
@@ -283,6 +339,12 @@ pub measures_inside : (s : Score) (lengths : List ℕ) (a b : ℕ) (keys : List 
 measures_inside s lengths a b keys are k d inside =
     let v = drawn_voice (slice_index_or s.voices k d) in
     measures_have keys lengths a true (slice_range v.measures a b)
+    (among_right (key_at a 0 classes.Head 0 ∷ first_keys a v.first) (measures_columns lengths a true (slice_range v.measures a b)) keys (voices_inside s lengths a b keys are k d inside))
+
+pub changes_inside : (s : Score) (lengths : List ℕ) (a b : ℕ) (keys : List ColumnKey) → AreKeys keys (called_keys s lengths a b) → All (λ v. HaveChanges keys a true (slice_range (drawn_voice v).measures a b)) s.voices
+changes_inside s lengths a b keys are k d inside =
+    let v = drawn_voice (slice_index_or s.voices k d) in
+    measures_change keys lengths a true (slice_range v.measures a b)
     (among_right (key_at a 0 classes.Head 0 ∷ first_keys a v.first) (measures_columns lengths a true (slice_range v.measures a b)) keys (voices_inside s lengths a b keys are k d inside))
 
 -- ---- one measure of some

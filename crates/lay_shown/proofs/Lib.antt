@@ -1,5 +1,10 @@
-pub mod Inside
-pub mod Beams
-pub mod GraceBeams
+pub mod Anchored
 pub mod Arcs
+pub mod Beams
+pub mod Columnar
+pub mod Filled
+pub mod GraceBeams
+pub mod Inside
+pub mod Planned
+pub mod Standing
 pub mod Stretched
