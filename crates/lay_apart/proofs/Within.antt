@@ -1,0 +1,118 @@
+-- Columns that stand apart rise from 0, and those of a system end within the width.
+use Rattle.std.proofs.Common.{◌≡◌, sym, subst, refl, inl, inr, ℕ, zero, suc, ◌+◌, ◌-◌, ◌*◌, ◌/◌, ◌<◌, ◌≤◌, ℤ, pos, ◌+ℤ◌, ◌≤ℤ◌, Bool, true, false, List, length, Option, Some, arith}
+use Rattle.std.proofs.lemmas.Bool.{cases_lt}
+use Rattle.std.proofs.lemmas.Bool.Decides.{nat_tests}
+use Rattle.std.proofs.lemmas.Int.{ints}
+use Rattle.lay_springs.specs.declared.traits.Reach.{Reach}
+use Rattle.lay_springs.specs.declared.margin.Placed.{Placed}
+use Rattle.lay_springs.specs.Fit.{Fits, IsSet, counted}
+use Rattle.lay_springs.specs.Place.{IsPlace, StandApart, length_at, reach_at}
+use Rattle.lay_springs.proofs.Ends.{apart_down, length_rises as lengths_rise}
+use Rattle.lay_columns.specs.declared.column.Column.{Column}
+use Rattle.lay_columns.specs.Column.{length_rises}
+use Rattle.lay_columns.specs.Columns.{column_reach}
+use Rattle.lay_tune.specs.Spans.{column_length}
+use Rattle.lay_tune.specs.Systems.{IsJustified}
+use Rattle.lay_apart.specs.Apart.{StandWithin, x_at}
+
+-- the last of n columns stands within the width, and reaches no further
+pub record EndsWithin (n : ℕ) (reach : ℕ → ℕ → Option Reach) (gaps : List ℕ) (width : ℕ) (at : List ℤ) : Type 0 where
+  pub past : x_at at (n - 1) ≤ℤ pos width
+  pub reaches : (lane : ℕ) (r : Reach) → lane < length gaps → reach (n - 1) lane ≡ Some r → (x_at at (n - 1) +ℤ pos r.right) ≤ℤ pos width
+
+-- ---- abscissas rise
+rise_by : (n : ℕ) (reach : ℕ → ℕ → Option Reach) (gaps : List ℕ) (spring : ℕ → ℕ) (at : List ℤ) → StandApart n reach gaps spring at
+    → (d i : ℕ) → i + d < n → x_at at i ≤ℤ x_at at (i + d)
+rise_by n reach gaps spring at h zero i l = let e : i + 0 ≡ i = omega arith in rw e (omega (arith, ints))
+rise_by n reach gaps spring at h (suc d) i l =
+    let ih = rise_by n reach gaps spring at h d i (omega arith) in
+    let s = h.steps (i + d) (omega arith) in
+    let e : i + suc d ≡ i + d + 1 = omega arith in
+    rw e (omega (arith, ints))
+
+pub rise_to : (n : ℕ) (reach : ℕ → ℕ → Option Reach) (gaps : List ℕ) (spring : ℕ → ℕ) (at : List ℤ) → StandApart n reach gaps spring at
+    → (i k : ℕ) → i ≤ k → k < n → x_at at i ≤ℤ x_at at k
+rise_to n reach gaps spring at h i k l m =
+    let e : i + (k - i) ≡ k = omega arith in
+    rw e at (rise_by n reach gaps spring at h (k - i) i (omega arith))
+
+pub stand_low : (n : ℕ) (reach : ℕ → ℕ → Option Reach) (gaps : List ℕ) (spring : ℕ → ℕ) (at : List ℤ) → StandApart n reach gaps spring at
+    → (k : ℕ) → k < n → pos 0 ≤ℤ x_at at k
+stand_low n reach gaps spring at h k l =
+    let up = rise_to n reach gaps spring at h 0 k (omega arith) l in
+    let first = h.begins (omega arith) in
+    omega (arith, ints)
+
+pub stand_within : (n : ℕ) (reach : ℕ → ℕ → Option Reach) (gaps : List ℕ) (spring : ℕ → ℕ) (width : ℕ) (at : List ℤ) → length at ≡ n
+    → StandApart n reach gaps spring at → (0 < n → EndsWithin n reach gaps width at) → StandWithin width n at
+stand_within n reach gaps spring width at count h ends = record {
+  count_is = count;
+  rise = λ i l. let s = h.steps i l in omega (arith, ints);
+  low = λ i l. stand_low n reach gaps spring at h i l;
+  high = λ i l.
+      let up = rise_to n reach gaps spring at h i (n - 1) (omega arith) (omega arith) in
+      let p = (ends (omega arith)).past in
+      omega (arith, ints);
+}
+
+-- ---- the end
+module _ (n : ℕ) (reach : ℕ → ℕ → Option Reach) (gaps : List ℕ) (spring : ℕ → ℕ → ℕ) (width force weak : ℕ) where
+  -- at a force that isn't above one that fits
+  place_within : (at : List ℤ) → 0 < n → ((i : ℕ) → spring weak i ≤ spring force i)
+      → Fits n reach gaps spring width force → IsPlace n reach gaps (spring weak) at → EndsWithin n reach gaps width at
+  place_within at some le fits place =
+      let last = place.least fits.1.x (apart_down n reach gaps (spring weak) (spring force) fits.1.x le fits.1.place.apart) (n - 1) (omega arith) in
+      record {
+        past = let a = fits.1.end.past in let b = fits.2 in omega (arith, ints);
+        reaches = λ lane r l e. let a = fits.1.end.reaches lane r l e in let b = fits.2 in omega (arith, ints);
+      }
+
+  share_whole : (rest d : ℕ) → 0 < d → rest * d / d ≡ rest
+  share_whole rest d l = grind arith
+
+  -- the last of columns that are set moves by all that was left
+  moved_within : (at : List ℤ) → 1 < n → IsSet n reach gaps spring width weak at → EndsWithin n reach gaps width at
+  moved_within at several is =
+      let m = is.moved several in
+      let rest = m.1 in
+      let whole : rest * (n - 1) / (n - 1) ≡ rest = share_whole rest (n - 1) (omega arith) in
+      let there = rw whole at (m.4 (n - 1) (omega arith)) in
+      let comes_to = m.3 in
+      record {
+        past = let a = m.2.past in omega (arith, ints);
+        reaches = λ lane r l e. let a = m.2.reaches lane r l e in omega (arith, ints);
+      }
+
+  pub set_within : (at : List ℤ) → 0 < n → ((i : ℕ) → spring weak i ≤ spring force i)
+      → Fits n reach gaps spring width force → IsSet n reach gaps spring width weak at → EndsWithin n reach gaps width at
+  set_within at some le fits is = elim (cases_lt 1 n) [
+    | inl several ↦ moved_within at several is
+    | inr alone ↦ subst (EndsWithin n reach gaps width) (sym (is.alone (omega arith))) (place_within is.x some le fits is.place)
+  ]
+
+counted_low : (last : Bool) (force : ℕ) → counted last force ≤ force
+counted_low last force = grind (arith, nat_tests)
+
+pub justified_within : (gaps : List ℕ) (width : ℕ) (last : Bool) (columns : List Column) (p : Placed) → 0 < length columns
+    → IsJustified gaps width last columns p → EndsWithin (length columns) (reach_at column_reach columns) gaps width p.at
+justified_within gaps width last columns p some h = by p.ragged refl
+  where
+    weak : p.force ≤ h.pressed.0
+    weak = subst (λ f. f ≤ h.pressed.0) (sym h.pressed.2) (counted_low last h.pressed.0)
+
+    rises : (i : ℕ) → length_at column_length columns p.force i ≤ length_at column_length columns h.pressed.0 i
+    rises = lengths_rise column_length columns p.force h.pressed.0 (λ c. length_rises c.natural p.force h.pressed.0 weak)
+
+    by : (b : Bool) → p.ragged ≡ b → EndsWithin (length columns) (reach_at column_reach columns) gaps width p.at
+    by true is = place_within (length columns) (reach_at column_reach columns) gaps (length_at column_length columns) width h.pressed.0 p.force p.at some rises
+        h.pressed.1.fits (h.loose is)
+    by false is = set_within (length columns) (reach_at column_reach columns) gaps (length_at column_length columns) width h.pressed.0 p.force p.at some rises
+        h.pressed.1.fits (h.set is)
+
+pub justified_count : (gaps : List ℕ) (width : ℕ) (last : Bool) (columns : List Column) (p : Placed)
+    → IsJustified gaps width last columns p → length p.at ≡ length columns
+justified_count gaps width last columns p h = by p.ragged refl
+  where
+    by : (b : Bool) → p.ragged ≡ b → length p.at ≡ length columns
+    by true is = (h.loose is).count
+    by false is = (h.set is).count
