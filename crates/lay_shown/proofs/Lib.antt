@@ -5,6 +5,11 @@ pub mod Columnar
 pub mod Filled
 pub mod GraceBeams
 pub mod Inside
+pub mod Laws
 pub mod Planned
+pub mod Printed
+pub mod PrintedParts
+pub mod PrintedTexts
 pub mod Standing
 pub mod Stretched
+pub mod TitleRows

@@ -1,3 +1,4 @@
 pub mod Ranks
 pub mod Shown
 pub mod Texts
+pub mod Titles

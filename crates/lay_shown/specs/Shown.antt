@@ -1,5 +1,5 @@
 -- A system whose marks can be shown.
-use Rattle.std.specs.Prelude.{ℕ, ◌<◌, ◌≤◌, length, All}
+use Rattle.std.specs.Prelude.{◌<◌, ◌≤◌, length, All}
 use Rattle.mus_laid.specs.declared.laid.SystemMarks.{SystemMarks}
 use Rattle.lay_shown.specs.Ranks.{AreAnchored, AreRanked, staves_ranks}
 use Rattle.lay_shown.specs.Texts.{HavePrinted}
