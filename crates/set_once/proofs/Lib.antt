@@ -1,0 +1,7 @@
+mod Called
+mod Chosen
+mod Justified
+pub mod Layouts
+mod RisingKeys
+mod Spanned
+mod Stacked

@@ -1,0 +1,173 @@
+-- Every list of column keys has a rising list of the same keys, and it has one alone.
+use Rattle.std.proofs.Common.{◌≡◌, ◌∙◌, ℕ, zero, suc, ◌⊎◌, inl, inr, Bool, true, false, nat_lt, List, [], ◌∷◌, refl, sym, ap, subst, arith}
+use Rattle.std.specs.List.{Contains}
+use Rattle.std.proofs.lemmas.Bool.Decides.{nat_tests}
+use Rattle.mus_time.specs.declared.keys.Class.{Class}
+use Rattle.mus_time.specs.declared.keys.ColumnKey.{ColumnKey}
+use Rattle.mus_time.specs.Keys.{AreKeys, key_at}
+use Rattle.mus_time.specs.Order.{BelowAll, Rises, class_number, is_below, then_below}
+
+-- ---- the order of keys
+false_not_true : false ≡ true → ⊥
+false_not_true h = cc
+
+then_through : (a b c : ℕ) (p q r : Bool) → (p ≡ true → q ≡ true → r ≡ true) → then_below a b p ≡ true → then_below b c q ≡ true → then_below a c r ≡ true
+then_through a b c p q true f h k = grind (arith, nat_tests)
+then_through a b c true true false f h k = absurd (false_not_true (f refl refl))
+then_through a b c true false false f h k = grind (arith, nat_tests)
+then_through a b c false q false f h k = grind (arith, nat_tests)
+
+place_through : (a b c : ℕ) → nat_lt a b ≡ true → nat_lt b c ≡ true → nat_lt a c ≡ true
+place_through a b c h k = grind (arith, nat_tests)
+
+below_through : (k l m : ColumnKey) → is_below k l ≡ true → is_below l m ≡ true → is_below k m ≡ true
+unfolding is_below
+below_through k l m =
+    then_through k.measure l.measure m.measure _ _ _
+    (then_through k.tick l.tick m.tick _ _ _
+    (then_through (class_number k.class) (class_number l.class) (class_number m.class) _ _ _
+    (place_through k.place l.place m.place)))
+
+not_both : (k l : ColumnKey) → is_below k l ≡ true → is_below l k ≡ true → ⊥
+unfolding is_below
+not_both k l h g = grind (arith, nat_tests)
+
+neither_first : (a b : ℕ) (p q : Bool) → then_below a b p ≡ false → then_below b a q ≡ false → (a ≡ b) × (p ≡ false) × (q ≡ false)
+neither_first a b true true h k = absurd (grind (arith, nat_tests))
+neither_first a b true false h k = absurd (grind (arith, nat_tests))
+neither_first a b false true h k = absurd (grind (arith, nat_tests))
+neither_first a b false false h k = (grind (arith, nat_tests), refl, refl)
+
+neither_place : (a b : ℕ) → nat_lt a b ≡ false → nat_lt b a ≡ false → a ≡ b
+neither_place a b h k = grind (arith, nat_tests)
+
+same_class : (k l : Class) → class_number k ≡ class_number l → k ≡ l
+same_class k l h = grind (arith, nat_tests)
+
+same_key : (m n t u : ℕ) (c d : Class) (p q : ℕ) → m ≡ n → t ≡ u → c ≡ d → p ≡ q → key_at m t c p ≡ key_at n u d q
+same_key m n t u c d p q e f g h =
+    ap (λ x. key_at x t c p) e ∙ (ap (λ x. key_at n x c p) f ∙ (ap (λ x. key_at n u x p) g ∙ ap (λ x. key_at n u d x) h))
+
+neither_below : (k l : ColumnKey) → is_below k l ≡ false → is_below l k ≡ false → k ≡ l
+unfolding is_below
+neither_below k l h g =
+    let measures = neither_first k.measure l.measure _ _ h g in
+    let ticks = neither_first k.tick l.tick _ _ measures.1 measures.2 in
+    let classes = neither_first (class_number k.class) (class_number l.class) _ _ ticks.1 ticks.2 in
+    same_key k.measure l.measure k.tick l.tick k.class l.class k.place l.place
+    measures.0 ticks.0 (same_class k.class l.class classes.0) (neither_place k.place l.place classes.1 classes.2)
+
+-- ---- keys in a list
+first : (x y : ColumnKey) (ys : List ColumnKey) → y ≡ x → Contains (y ∷ ys) x
+first x y ys e = (0, omega arith, e)
+
+further : (x y : ColumnKey) (ys : List ColumnKey) → Contains ys x → Contains (y ∷ ys) x
+further x y ys (i, inside, is) = (suc i, omega (arith, inside), is)
+
+first_or : (x y : ColumnKey) (ys : List ColumnKey) → Contains (y ∷ ys) x → (y ≡ x) ⊎ Contains ys x
+first_or x y ys (zero, inside, is) = inl is
+first_or x y ys (suc i, inside, is) = inr (i, omega (arith, inside), is)
+
+none_in : (x : ColumnKey) → Contains [] x → ⊥
+none_in x (i, inside, is) = omega (arith, inside)
+
+below_in : (k l : ColumnKey) (ls : List ColumnKey) → BelowAll k ls → Contains ls l → is_below k l ≡ true
+below_in k l [] below has = absurd (none_in l has)
+below_in k l (m ∷ ls) below has = elim (first_or l m ls has) [
+  | inl e ↦ subst (λ x. is_below k x ≡ true) e below.0
+  | inr more ↦ below_in k l ls below.1 more
+]
+
+below_each : (k : ColumnKey) (ls : List ColumnKey) → ((l : ColumnKey) → Contains ls l → is_below k l ≡ true) → BelowAll k ls
+below_each k [] each = tt
+below_each k (l ∷ ls) each = (each l (first l l ls refl), below_each k ls (λ m has. each m (further m l ls has)))
+
+-- ---- one more key, put in its place
+below_further : (k l : ColumnKey) (ls : List ColumnKey) → is_below k l ≡ true → BelowAll l ls → BelowAll k ls
+below_further k l ls h below = below_each k ls (λ m has. below_through k l m h (below_in l m ls below has))
+
+themselves : (keys : List ColumnKey) → Rises keys → AreKeys keys keys
+themselves keys rise = record { rise = rise; all = λ k has. has; only = λ k has. has }
+
+-- the key is in the list
+twice : (k l : ColumnKey) (ls : List ColumnKey) → k ≡ l → Rises (l ∷ ls) → AreKeys (l ∷ ls) (k ∷ l ∷ ls)
+twice k l ls e rise = record {
+  rise = rise;
+  all = λ x has. elim (first_or x k (l ∷ ls) has) [ inl f ↦ first x l ls (sym e ∙ f) | inr more ↦ more ];
+  only = λ x has. further x k (l ∷ ls) has;
+}
+
+-- the key is put into the list behind the first
+put_behind : (k l : ColumnKey) (ls keys : List ColumnKey) → is_below l k ≡ true → BelowAll l ls → AreKeys keys (k ∷ ls) → AreKeys (l ∷ keys) (k ∷ l ∷ ls)
+put_behind k l ls keys h below are = record {
+  rise = (
+    below_each l keys (λ x has. elim (first_or x k ls (are.only x has)) [
+      | inl e ↦ subst (λ y. is_below l y ≡ true) e h
+      | inr more ↦ below_in l x ls below more
+    ]),
+    are.rise,
+  );
+  all = λ x has. elim (first_or x k (l ∷ ls) has) [
+    | inl e ↦ further x l keys (are.all x (first x k ls e))
+    | inr more ↦ elim (first_or x l ls more) [ inl e ↦ first x l keys e | inr rest ↦ further x l keys (are.all x (further x k ls rest)) ]
+  ];
+  only = λ x has. elim (first_or x l keys has) [
+    | inl e ↦ further x k (l ∷ ls) (first x l ls e)
+    | inr more ↦ elim (first_or x k ls (are.only x more)) [ inl e ↦ first x k (l ∷ ls) e | inr rest ↦ further x k (l ∷ ls) (further x l ls rest) ]
+  ];
+}
+
+put : (k : ColumnKey) (ls : List ColumnKey) → Rises ls → (keys : List ColumnKey) × AreKeys keys (k ∷ ls)
+put k [] rise = (k ∷ [], themselves (k ∷ []) (tt, tt))
+put k (l ∷ ls) rise = at (is_below k l) refl (is_below l k) refl (put k ls rise.1)
+  where
+    at : (s : Bool) → is_below k l ≡ s → (t : Bool) → is_below l k ≡ t → (keys : List ColumnKey) × AreKeys keys (k ∷ ls)
+        → (keys : List ColumnKey) × AreKeys keys (k ∷ l ∷ ls)
+    at true e t f more = (k ∷ l ∷ ls, themselves (k ∷ l ∷ ls) ((e, below_further k l ls e rise.0), rise))
+    at false e true f more = (l ∷ more.0, put_behind k l ls more.0 f rise.0 more.1)
+    at false e false f more = (l ∷ ls, twice k l ls (neither_below k l e f) rise)
+
+one_more : (k : ColumnKey) (called keys more : List ColumnKey) → AreKeys keys called → AreKeys more (k ∷ keys) → AreKeys more (k ∷ called)
+one_more k called keys more are with_it = record {
+  rise = with_it.rise;
+  all = λ x has. elim (first_or x k called has) [ inl e ↦ with_it.all x (first x k keys e) | inr rest ↦ with_it.all x (further x k keys (are.all x rest)) ];
+  only = λ x has. elim (first_or x k keys (with_it.only x has)) [ inl e ↦ first x k called e | inr rest ↦ further x k called (are.only x rest) ];
+}
+
+-- every list of keys has a rising list of the same keys
+pub have_keys : (called : List ColumnKey) → (keys : List ColumnKey) × AreKeys keys called
+have_keys [] = ([], themselves [] tt)
+have_keys (k ∷ called) =
+    let most = have_keys called in
+    let all = put k most.0 most.1.rise in
+    (all.0, one_more k called most.0 all.0 most.1 all.1)
+
+-- ---- one alone
+heads_same : (x y : ColumnKey) (xs ys : List ColumnKey) → BelowAll x xs → BelowAll y ys → (y ≡ x) ⊎ Contains ys x → (x ≡ y) ⊎ Contains xs y → x ≡ y
+heads_same x y xs ys bx by (inl e) h = sym e
+heads_same x y xs ys bx by (inr g) (inl e) = e
+heads_same x y xs ys bx by (inr g) (inr h) = absurd (not_both x y (below_in x y xs bx h) (below_in y x ys by g))
+
+behind : (x y : ColumnKey) (xs ys : List ColumnKey) → x ≡ y → BelowAll x xs → ((k : ColumnKey) → Contains (x ∷ xs) k → Contains (y ∷ ys) k)
+    → (k : ColumnKey) → Contains xs k → Contains ys k
+behind x y xs ys e below all k has = elim (first_or k y ys (all k (further k x xs has))) [
+  | inl f ↦
+      let once = below_in x k xs below has in
+      let same = subst (λ z. is_below z k ≡ true) (e ∙ f) once in
+      absurd (not_both k k same same)
+  | inr more ↦ more
+]
+
+unique : (xs ys : List ColumnKey) → Rises xs → Rises ys → ((k : ColumnKey) → Contains xs k → Contains ys k)
+    → ((k : ColumnKey) → Contains ys k → Contains xs k) → xs ≡ ys
+unique [] [] rx ry all only = refl
+unique [] (y ∷ ys) rx ry all only = absurd (none_in y (only y (first y y ys refl)))
+unique (x ∷ xs) [] rx ry all only = absurd (none_in x (all x (first x x xs refl)))
+unique (x ∷ xs) (y ∷ ys) rx ry all only =
+    let e = heads_same x y xs ys rx.0 ry.0 (first_or x y ys (all x (first x x xs refl))) (first_or y x xs (only y (first y y ys refl))) in
+    let more = unique xs ys rx.1 ry.1 (behind x y xs ys e rx.0 all) (behind y x ys xs (sym e) ry.0 only) in
+    ap (λ z. z ∷ xs) e ∙ ap (λ t. y ∷ t) more
+
+-- a list of keys has one rising list of the same keys
+pub same_keys : (xs ys called : List ColumnKey) → AreKeys xs called → AreKeys ys called → xs ≡ ys
+same_keys xs ys called h g = unique xs ys h.rise g.rise (λ k has. g.all k (h.only k has)) (λ k has. h.all k (g.only k has))
