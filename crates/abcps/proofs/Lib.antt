@@ -2,3 +2,4 @@ mod Answered
 mod BookCalls
 mod Batches
 mod Promised
+mod Once

@@ -1,0 +1,125 @@
+-- A command calls for one answer on an input, however many jobs set its book.
+use Rattle.std.proofs.Common.{◌≡◌, ◌∙◌, refl, sym, ap, subst, ℕ, List, [], ◌∷◌, Bool, arith}
+use Rattle.abc_lines.specs.Books.{book_of}
+use Rattle.abc_header.specs.Defaults.{defaults_of}
+use Rattle.gen_book.specs.Book.{book}
+use Rattle.lay_breaks.specs.Breaking.{sum_from}
+use Rattle.lay_breaks.specs.Spans.{listed}
+use Rattle.lay_breaks.proofs.Unique.{one_is_chosen}
+use Rattle.lay_cert.specs.Answers.{IsJudged}
+use Rattle.lay_cert.specs.Listing.{Entry, none_forced}
+use Rattle.lay_cert.specs.Verdicts.{IsVerdict, AreVerdicts}
+use Rattle.lay_cert.specs.declared.check.Judged.{Judged}
+use Rattle.lay_cert.specs.declared.check.Verdict.{Verdict}
+use Rattle.lay_cert.specs.declared.check.Verdict.TheVariants.{Least, NotLeast}
+use Rattle.lay_cert.proofs.Alone.{tells_one}
+use Rattle.ps_text.specs.Document.{document}
+use Rattle.set_book.specs.declared.outcome.Outcome.{Outcome}
+use Rattle.set_pages.specs.Sheet.{sheet_of}
+use Rattle.set_lists.specs.Reports.{reports}
+use Rattle.set_lists.specs.Trials.{trial_text}
+use Rattle.set_once.proofs.Once.{outcomes_once}
+use Rattle.abcps_words.specs.declared.command.Command.{Command}
+use Rattle.abcps_words.specs.declared.command.Command.TheVariants as command
+use Rattle.abcps.specs.declared.status.Status.{Status}
+use Rattle.abcps.specs.Called.{Called, IsQuietly}
+use Rattle.abcps.specs.Books.{AreSet, CallsPages, CallsSystems, Tries, paper_in, status_of, systems_by, trial_of}
+use Rattle.abcps.specs.Calls.{Calls, Judges, Shows, status_by, verdicts_text}
+use Rattle.abcps.specs.Outputs.{sheet_report}
+
+abbrev called_of : List ℕ → List ℕ → Status → Called
+called_of page told status = record { page = page; told = told; status = status }
+
+-- what is called for is its parts
+same_called : (c d : Called) → c.page ≡ d.page → c.told ≡ d.told → c.status ≡ d.status → c ≡ d
+same_called c d page told status = let made : called_of c.page c.told c.status ≡ called_of d.page d.told d.status = cc in made
+
+quiet_called : (c d : Called) → c.page ≡ d.page → IsQuietly c → IsQuietly d → c ≡ d
+quiet_called c d page a b = same_called c d page (a.told ∙ sym b.told) (a.status ∙ sym b.status)
+
+-- ---- the commands that set a book
+
+one_set : (flow : Bool) (text : List ℕ) (os ps : List Outcome) → AreSet flow text os → AreSet flow text ps → os ≡ ps
+one_set flow text os ps a b = outcomes_once (defaults_of (book_of text).header) (paper_in text) flow (book_of text).tunes os ps a b
+
+pages_once : (flow : Bool) (text : List ℕ) (c d : Called) → CallsPages flow text c → CallsPages flow text d → c ≡ d
+pages_once flow text c d a b =
+    let same = one_set flow text a.outcomes b.outcomes a.set b.set in
+    same_called c d
+    (sym a.sheet.spelled ∙ ap (λ os. document (sheet_of (paper_in text) os)) same ∙ b.sheet.spelled)
+    (a.told ∙ ap reports same ∙ sym b.told)
+    (a.status ∙ ap status_of same ∙ sym b.status)
+
+systems_once : (flow table : Bool) (text : List ℕ) (c d : Called) → CallsSystems flow table text c → CallsSystems flow table text d → c ≡ d
+systems_once flow table text c d a b =
+    let same = one_set flow text a.outcomes b.outcomes a.set b.set in
+    same_called c d
+    (a.page ∙ ap (systems_by table) same ∙ sym b.page)
+    (a.told ∙ ap reports same ∙ sym b.told)
+    (a.status ∙ ap status_of same ∙ sym b.status)
+
+trial_once : (tunes : ℕ) (flow : Bool) (c d : Called) → Tries tunes flow c → Tries tunes flow d → c ≡ d
+trial_once tunes flow c d a b =
+    let same = one_set flow (book tunes) a.outcomes b.outcomes a.set b.set in
+    quiet_called c d (a.page ∙ ap (λ os. trial_text (trial_of tunes os (sheet_of (paper_in (book tunes)) os))) same ∙ sym b.page) a.quietly b.quietly
+
+-- ---- the others
+
+sheet_once : (text : List ℕ) (c d : Called) → Shows text c → Shows text d → c ≡ d
+sheet_once text c d a b = quiet_called c d (a.page ∙ ap sheet_report (b.read.only a.sheet a.read.spells) ∙ sym b.page) a.quietly b.quietly
+
+least_or_not : (e : Entry) (total other better : ℕ) (breaks : List ℕ) → IsVerdict e (Least total) → IsVerdict e (NotLeast other better breaks) → ⊥
+least_or_not e total other better breaks a b =
+    let least = a.1 breaks b.3.legal in
+    let own = a.0 in
+    let its = b.0 in
+    let less = b.1 in
+    let sum = b.2 in
+    omega (arith, least, own, its, less, sum)
+
+one_verdict : (e : Entry) (v w : Verdict) → IsVerdict e v → IsVerdict e w → v ≡ w
+one_verdict e (Least total) (Least other) a b = ap Least (a.0 ∙ sym b.0)
+one_verdict e (Least total) (NotLeast other better breaks) a b = absurd (least_or_not e total other better breaks a b)
+one_verdict e (NotLeast total better breaks) (Least other) a b = absurd (least_or_not e other total better breaks b a)
+one_verdict e (NotLeast total better breaks) (NotLeast other dear places) a b =
+    let same : breaks ≡ places = one_is_chosen (listed e.spans) none_forced e.bars breaks places a.3 b.3 in
+    let totals : total ≡ other = a.0 ∙ sym b.0 in
+    let sums : better ≡ dear = a.2 ∙ ap (sum_from (listed e.spans) 0) same ∙ sym b.2 in
+    cc
+
+abbrev judged_of : ℕ → Verdict → Judged
+judged_of tune verdict = record { tune = tune; verdict = verdict }
+
+one_judged : (e : Entry) (j k : Judged) → j.tune ≡ e.tune → k.tune ≡ e.tune → IsVerdict e j.verdict → IsVerdict e k.verdict → j ≡ k
+one_judged e j k a b v w =
+    let tune : j.tune ≡ k.tune = a ∙ sym b in
+    let verdict : j.verdict ≡ k.verdict = one_verdict e j.verdict k.verdict v w in
+    let made : judged_of j.tune j.verdict ≡ judged_of k.tune k.verdict = cc in made
+
+one_verdicts : (es : List Entry) (js ks : List Judged) → AreVerdicts es js → AreVerdicts es ks → js ≡ ks
+one_verdicts [] [] [] a b = refl
+one_verdicts [] [] (k ∷ ks) a b = absurd b
+one_verdicts [] (j ∷ js) ks a b = absurd a
+one_verdicts (e ∷ es) [] ks a b = absurd a
+one_verdicts (e ∷ es) (j ∷ js) [] a b = absurd b
+one_verdicts (e ∷ es) (j ∷ js) (k ∷ ks) a b =
+    let first = one_judged e j k a.0 b.0 a.1 b.1 in
+    let others = one_verdicts es js ks a.2 b.2 in
+    cc
+
+judged_once : (text : List ℕ) (js ks : List Judged) → IsJudged text js → IsJudged text ks → js ≡ ks
+judged_once text js ks a b = one_verdicts a.0 js ks a.2 (subst (λ es. AreVerdicts es ks) (tells_one text b.0 a.0 b.1 a.1) b.2)
+
+verdicts_once : (text : List ℕ) (c d : Called) → Judges text c → Judges text d → c ≡ d
+verdicts_once text c d a b =
+    let same = judged_once text a.judged b.judged a.verdicts b.verdicts in
+    same_called c d (a.page ∙ ap verdicts_text same ∙ sym b.page) (a.told ∙ sym b.told) (a.status ∙ ap status_by same ∙ sym b.status)
+
+-- a command calls for one answer
+pub called_once : (c : Command) (text : List ℕ) (called other : Called) → Calls c text called → Calls c text other → called ≡ other
+called_once (command.Set flow jobs) text called other a b = pages_once flow text called other a b
+called_once (command.Systems flow table) text called other a b = systems_once flow table text called other a b
+called_once command.Inspect text called other a b = sheet_once text called other a b
+called_once command.Check text called other a b = verdicts_once text called other a b
+called_once (command.Make tunes) text called other a b = quiet_called called other (a.page ∙ sym b.page) a.quietly b.quietly
+called_once (command.Trial tunes flow jobs) text called other a b = trial_once tunes flow called other a b
