@@ -2,6 +2,9 @@ pub mod Zips
 pub mod Turned
 pub mod Ordered
 pub mod Fitting
+pub mod Stacks
+pub mod Laying
+pub mod Blocking
 pub mod Standing
 pub mod Readying
 pub mod Stepping

@@ -18,7 +18,7 @@ use Rattle.set_tune.specs.Blocks.{blocks_of, is_some_list, system_blocks, title_
 use Rattle.set_book.specs.declared.outcome.Outcome.{Outcome}
 use Rattle.set_staves.specs.Drawn.{IsTop}
 use Rattle.set_pages.specs.Drawings.{Content, Drawing, all_blocks, all_drawings, drawings_from, result_blocks, result_drawings, system_contents, systems_of, title_contents}
-use Rattle.set_pages.specs.Ready.{AreRising, AreRisingFrom, HasAllRows, IsReady, IsReadyContent, IsWhole, IsWholeResult}
+use Rattle.set_pages.specs.Ready.{AreRising, AreRisingFrom, HasAllRows, IsReady, IsReadyOn, IsWhole, IsWholeResult}
 
 -- pages rise by one at most
 follows_page : (high : ℕ) (block : Block) (spot : Spot) (more : List Block) (next : Spot) → Follows high block spot more next → (next.page ≡ spot.page) ⊎ (next.page ≡ suc spot.page)
@@ -43,20 +43,9 @@ within_count high [] (spot ∷ spots) within = absurd within
 within_count high (block ∷ blocks) [] within = absurd within
 within_count high (block ∷ blocks) (spot ∷ spots) within = ap suc (within_count high blocks spots within.1)
 
--- tops lie on the page
-abbrev pub AreTops : List Spot → Type 0
-AreTops [] = ⊤
-AreTops (spot ∷ spots) = IsTop spot.top × AreTops spots
-
+-- a top lies on the page
 top_within : (high : ℕ) (height top : ℤ) → pos 0 ≤ℤ height → top ≤ℤ pos high → pos 0 ≤ℤ (top -ℤ height) → high ≤ 2 ^ 39 → IsTop top
 top_within high height top good below above small = record { low = omega (arith, ints); high = omega (arith, ints) }
-
-pub tops : (high : ℕ) (blocks : List Block) (spots : List Spot) → high ≤ 2 ^ 39 → AreGoodBlocks blocks → AreWithin high blocks spots → AreTops spots
-tops high [] [] small good within = tt
-tops high [] (spot ∷ spots) small good within = absurd within
-tops high (block ∷ blocks) [] small good within = tt
-tops high (block ∷ blocks) (spot ∷ spots) small good within =
-    (top_within high block.height spot.top good.0.0 within.0.0 within.0.1 small, tops high blocks spots small good.1 within.1)
 
 -- a drawing for each block
 pub systems_count : (systems : List SystemMarks) (placed : List Placed) (heights : List Heights) → length placed ≡ length systems → length heights ≡ length systems
@@ -107,13 +96,16 @@ all_count (o ∷ outcomes) whole =
     let more = all_count outcomes (All-tail IsWhole o outcomes whole) in
     simp length-append (omega arith)
 
--- drawings whose contents are ready, at tops that lie on the page
-abbrev pub AreReadyDrawings : List Drawing → Type 0
-AreReadyDrawings [] = ⊤
-AreReadyDrawings (d ∷ ds) = IsReadyContent d.content × AreReadyDrawings ds
+-- drawings that are ready wherever their blocks lie on a page are ready at their spots
+ready_here : (high : ℕ) (d : Drawing) (block : Block) (spot : Spot) → high ≤ 2 ^ 39 → pos 0 ≤ℤ block.height → spot.top ≤ℤ pos high → pos 0 ≤ℤ (spot.top -ℤ block.height)
+    → IsReadyOn d block → IsReady d spot
+ready_here high d block spot small good below above on = on spot.top (top_within high block.height spot.top good below above small) above
 
-pub ready_at : (ds : List Drawing) (spots : List Spot) → length ds ≡ length spots → AreReadyDrawings ds → AreTops spots → AllZip IsReady ds spots
-ready_at [] [] same ready tops = tt
-ready_at [] (spot ∷ spots) same ready tops = absurd (omega arith)
-ready_at (d ∷ ds) [] same ready tops = absurd (omega arith)
-ready_at (d ∷ ds) (spot ∷ spots) same ready tops = (record { content = ready.0; top = tops.0 }, ready_at ds spots (omega arith) ready.1 tops.1)
+pub ready_at : (high : ℕ) (ds : List Drawing) (blocks : List Block) (spots : List Spot) → high ≤ 2 ^ 39 → AreGoodBlocks blocks → AllZip IsReadyOn ds blocks → AreWithin high blocks spots → AllZip IsReady ds spots
+ready_at high [] [] [] small good on within = tt
+ready_at high [] [] (spot ∷ spots) small good on within = absurd within
+ready_at high [] (block ∷ blocks) spots small good on within = absurd on
+ready_at high (d ∷ ds) [] spots small good on within = absurd on
+ready_at high (d ∷ ds) (block ∷ blocks) [] small good on within = absurd within
+ready_at high (d ∷ ds) (block ∷ blocks) (spot ∷ spots) small good on within =
+    (ready_here high d block spot small good.0.0 within.0.0 within.0.1 on.0, ready_at high ds blocks spots small good.1 on.1 within.1)

@@ -1,9 +1,9 @@
 -- One system more of a tune, and one outcome more of a book.
 use Rattle.std.proofs.Common.{◌≡◌, refl, sym, ap, ◌∙◌, subst, ℕ, ◌+◌, ◌<◌, ◌≤◌, ℤ, true, false, map, List, [], ◌∷◌, ◌++◌, length, take, drop, get_or, Option, Some, None, arith}
-use Rattle.std.proofs.lemmas.List.{append_assoc, drop_more, take_all}
+use Rattle.std.proofs.lemmas.List.{append_assoc, drop_more, length-drop, take_all}
 use Rattle.std.proofs.lemmas.List.Elements.{All-map, All-more}
 use Rattle.std.proofs.lemmas.Bool.Decides.{nat_tests}
-use Rattle.std.specs.Prelude.{◌==◌, All}
+use Rattle.std.specs.Prelude.{◌==◌, All, slice_index_or}
 use Rattle.std.specs.List.{AllZip}
 use Rattle.mus_laid.specs.declared.laid.SystemMarks.{SystemMarks}
 use Rattle.lay_springs.specs.declared.margin.Placed.{Placed}
@@ -18,9 +18,10 @@ use Rattle.set_book.specs.declared.outcome.Outcome.{Outcome}
 use Rattle.set_pages.specs.declared.pages.Pages.{Pages}
 use Rattle.set_pages.specs.Drawings.{Drawing, all_blocks, all_drawings, drawing, drawings_from, drawings_of, outcome_blocks, outcome_drawings, row_at, system, system_contents, systems_of, title, title_contents}
 use Rattle.set_pages.specs.Filling.{with_drawing, with_drawings}
-use Rattle.set_pages.specs.Ready.{CanStand, IsDrawn, IsReady, IsReadyContent}
+use Rattle.set_pages.specs.Ready.{IsDrawn, IsReady, IsReadyAt}
 use Rattle.set_pages.proofs.Turned.{with_more}
-use Rattle.set_pages.proofs.Zips.{zip_back, zip_front, zip_joined}
+use Rattle.set_pages.proofs.Standing.{drawings_count, systems_count}
+use Rattle.set_pages.proofs.Zips.{zip_back, zip_front, zip_joined, zip_length}
 
 pub cut_at : {X : Type 0} (xs : List X) (i : ℕ) (x : X) → i < length xs → x ≡ get_or xs i x → drop i xs ≡ x ∷ drop (i + 1) xs
 cut_at xs i x inside e = drop_more xs i x inside ∙ ap (λ y. y ∷ drop (i + 1) xs) (sym e)
@@ -108,19 +109,25 @@ pub titled : (ordinal : ℕ) (t : SetTune) (rows : List TitleRow) → rows ≡ t
     → drawings_of ordinal t ≡ drawing (Some ordinal) (title rows) ∷ drawings_from None (systems_of t)
 titled ordinal t rows same some = ap (λ contents. drawings_from (Some ordinal) (contents ++ systems_of t)) (ap title_contents (sym same) ∙ some_rows rows some)
 
--- the first of what is left is ready, at whatever spot
-front_ready : (d : Drawing) (ds : List Drawing) (spots : List Spot) → AllZip IsReady (d ∷ ds) spots → IsReadyContent d.content
-front_ready d ds [] ready = absurd ready
-front_ready d ds (s ∷ spots) ready = ready.0.content
+-- a spot for each system that is left
+spot_there : (n : ℕ) (ss : List Spot) (i : ℕ) → n ≡ length (drop i ss) → 1 ≤ n → i < length ss
+spot_there n ss i same some = let count = length-drop i ss in omega (arith, same, some, count)
 
-pub systems_stand : (i : ℕ) (ms : List SystemMarks) (ps : List Placed) (hs : List Heights) (spots : List Spot) (m : SystemMarks) (p : Placed) (h : Heights) (opening : Option ℕ)
-    → drop i ms ≡ m ∷ drop (i + 1) ms → drop i ps ≡ p ∷ drop (i + 1) ps → drop i hs ≡ h ∷ drop (i + 1) hs
-    → AllZip IsReady (drawings_from opening (system_contents (drop i ms) (drop i ps) (drop i hs))) spots → CanStand p.at h.bases
-systems_stand i ms ps hs spots m p h opening a b c ready =
-    let one = subst (λ l. AllZip IsReady (drawings_from opening (system_contents l (drop i ps) (drop i hs))) spots) a ready in
-    let two = subst (λ l. AllZip IsReady (drawings_from opening (system_contents (m ∷ drop (i + 1) ms) l (drop i hs))) spots) b one in
-    let three = subst (λ l. AllZip IsReady (drawings_from opening (system_contents (m ∷ drop (i + 1) ms) (p ∷ drop (i + 1) ps) l)) spots) c two in
-    front_ready (drawing opening (system m p.at h.bases)) (drawings_from None (system_contents (drop (i + 1) ms) (drop (i + 1) ps) (drop (i + 1) hs))) spots three
+pub spots_left : (i : ℕ) (ms : List SystemMarks) (ps : List Placed) (hs : List Heights) (ss : List Spot) (opening : Option ℕ) → length ps ≡ length ms → length hs ≡ length ms → i < length ms
+    → AllZip IsReady (drawings_from opening (system_contents (drop i ms) (drop i ps) (drop i hs))) (drop i ss) → i < length ss
+spots_left i ms ps hs ss opening placed heights inside ready =
+    let a = length-drop i ms in let b = length-drop i ps in let c = length-drop i hs in
+    let systems = systems_count (drop i ms) (drop i ps) (drop i hs) (omega (arith, a, b, placed)) (omega (arith, a, c, heights)) in
+    let drawings = drawings_count opening (system_contents (drop i ms) (drop i ps) (drop i hs)) in
+    spot_there (length (drawings_from opening (system_contents (drop i ms) (drop i ps) (drop i hs)))) ss i
+    (zip_length IsReady (drawings_from opening (system_contents (drop i ms) (drop i ps) (drop i hs))) (drop i ss) ready) (omega (arith, a, systems, drawings, inside))
+
+-- the system at its place among those that are left
+pub systems_stand : (i : ℕ) (ms : List SystemMarks) (ps : List Placed) (hs : List Heights) (ss : List Spot) (m : SystemMarks) (p : Placed) (h : Heights) (d : Spot) (opening : Option ℕ)
+    → drop i ms ≡ m ∷ drop (i + 1) ms → drop i ps ≡ p ∷ drop (i + 1) ps → drop i hs ≡ h ∷ drop (i + 1) hs → i < length ss
+    → AllZip IsReady (drawings_from opening (system_contents (drop i ms) (drop i ps) (drop i hs))) (drop i ss) → IsReadyAt (slice_index_or ss i d).top (drawing opening (system m p.at h.bases))
+systems_stand i ms ps hs ss m p h d opening a b c inside ready =
+    (systems_ready i ms ps hs ss m p h (slice_index_or ss i d) opening (record { systems = a; placed = b; heights = c; spots = drop_more ss i d inside }) ready).0
 
 front_count : {A B : Type 0} (R : A → B → Type 0) (xs ys : List A) (zs : List B) → AllZip R (xs ++ ys) zs → length xs ≤ length zs
 front_count R [] ys zs h = omega arith

@@ -20,13 +20,14 @@ use Rattle.set_pages.specs.declared.press.Press.{Press}
 use Rattle.set_pages.specs.Drawings.{Drawing, all_blocks, all_drawings}
 use Rattle.set_pages.specs.Filling.{turned, with_drawings}
 use Rattle.set_pages.specs.Press.{IsPressed, IsSheetOf, no_pages}
-use Rattle.set_pages.specs.Ready.{AreRising, IsDrawn, IsReady}
+use Rattle.set_pages.specs.Ready.{AreRising, IsDrawn, IsReady, IsReadyOn}
 use Rattle.set_pages.specs.Sheet.{AreStanding, IsSetUnder, ShowsDrawing, all_spots, frame_of, page_count, pages_of, sheet_of}
 use Rattle.set_pages.proofs.Fitting.{all_fit}
 use Rattle.set_pages.proofs.Joined.{pressed_more}
 use Rattle.set_pages.proofs.Ordered.{all_begun, pages_good}
-use Rattle.set_pages.proofs.Readying.{all_ready, all_whole, each_fits}
-use Rattle.set_pages.proofs.Standing.{all_count, ready_at, rising, tops, within_count}
+use Rattle.set_pages.proofs.Blocking.{all_clear, all_ready}
+use Rattle.set_pages.proofs.Readying.{all_whole, each_fits}
+use Rattle.set_pages.proofs.Standing.{all_count, ready_at, rising, within_count}
 use Rattle.set_pages.proofs.Turned.{all_put, closed}
 use Rattle.set_pages.proofs.Zips.{zip_length, zip_weaker}
 
@@ -48,9 +49,9 @@ pub ready_spots : (paper : Paper) (outcomes : List Outcome) (high : ℕ) (slice 
     → AreGoodBlocks blocks → All (IsSetUnder paper) outcomes → AreWithin high slice spots → at ≡ spots → AllZip IsReady (all_drawings outcomes) at
 ready_spots paper outcomes high slice blocks spots at paper_good h a b good set within e =
     let low : high ≤ 2 ^ 39 = subst (λ n. n ≤ 2 ^ 39) (sym h) (height_small paper paper_good) in
-    let count = all_count outcomes (all_whole paper outcomes set) ∙ ap length (sym (a ∙ b)) ∙ within_count high slice spots within in
+    let on = subst (λ bs. AllZip IsReadyOn (all_drawings outcomes) bs) (sym (a ∙ b)) (all_ready paper outcomes paper_good set) in
     subst (λ l. AllZip IsReady (all_drawings outcomes) l) (sym e)
-    (ready_at (all_drawings outcomes) spots count (all_ready paper outcomes set) (tops high slice spots low (subst AreGoodBlocks (sym a) good) within))
+    (ready_at high (all_drawings outcomes) slice spots low (subst AreGoodBlocks (sym a) good) on within)
 
 -- outcomes that are pressed behind others, by what is at hand
 pub pressed_by : (paper : Paper) (outcomes more : List Outcome) (p q : Press) (width high : ℕ) (slice : List Block) (spots at : List Spot) → width ≡ width_of paper → high ≡ height_of paper → slice ≡ all_blocks more → All (IsSetUnder paper) more

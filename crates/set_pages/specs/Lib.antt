@@ -1,3 +1,4 @@
+pub mod Clear
 pub mod Drawings
 pub mod Filling
 pub mod Press

@@ -1,29 +1,53 @@
 -- What is asked of a block before it is drawn, and what a drawn one is.
-use Rattle.std.specs.Prelude.{◌≡◌, ◌⊎◌, ⊤, ℕ, suc, ℤ, List, [], ◌∷◌, All, length, Result, Ok, Err}
+use Rattle.std.specs.Prelude.{◌≡◌, ◌⊎◌, ⊤, ℕ, suc, ◌≤◌, ℤ, pos, ◌-ℤ◌, ◌≤ℤ◌, List, [], ◌∷◌, All, IfSome, length, Result, Ok, Err}
 use Rattle.abc_lines.specs.declared.fault.Fault.{Fault}
 use Rattle.lay_pages.specs.declared.filling.Spot.{Spot}
-use Rattle.ps_text.specs.Range.{IsItem}
+use Rattle.mus_laid.specs.declared.laid.SystemMarks.{SystemMarks}
+use Rattle.lay_pages.specs.declared.filling.Block.{Block}
+use Rattle.lay_pages.specs.declared.titles.TitleRow.{TitleRow}
+use Rattle.lay_shown.specs.Shown.{IsShown}
+use Rattle.lay_shown.specs.Texts.{IsPrinted}
+use Rattle.ps_text.specs.Range.{IsItem, IsNumber}
 use Rattle.set_tune.specs.declared.tune.SetTune.{SetTune}
 use Rattle.set_tune.specs.Blocks.{HasGoodHeight}
 use Rattle.set_book.specs.declared.outcome.Outcome.{Outcome}
-use Rattle.set_staves.specs.Drawn.{IsBase, IsTop}
+use Rattle.set_staves.specs.Drawn.{IsBase, IsOnPage, IsTop}
 use Rattle.set_staves.specs.Marks.{RisesAlong}
 use Rattle.set_pages.specs.Drawings.{Content, Drawing, title, system, drawn}
 use Rattle.set_pages.specs.Sheet.{ShowsDrawing}
 
--- the columns of a system rise, and the bases of its staves are within bounds
-pub record CanStand (columns staves : List ℤ) : Type 0 where
+-- a row of a title block whose top is at a height
+pub record IsReadyRow (top : ℤ) (row : TitleRow) : Type 0 where
+  pub across : IsNumber row.x
+  pub base : IsNumber (top -ℤ row.down)
+  pub printed : IsPrinted row.text
+
+-- a system whose top is at a height: its marks can be shown, a column for each of its keys stands on the page, and a base for each staff
+pub record CanStand (top : ℤ) (m : SystemMarks) (columns staves : List ℤ) : Type 0 where
+  pub shown : IsShown m
+  pub count : length columns ≡ length m.keys
   pub rise : RisesAlong columns
-  pub bases : All IsBase staves
+  pub numbers : All IsOnPage columns
+  pub bases : length staves ≡ length m.staves
+  pub heights : All (IsBase top) staves
 
-abbrev pub IsReadyContent : Content → Type 0
-IsReadyContent (title rows) = ⊤
-IsReadyContent (system m at bases) = CanStand at bases
+abbrev pub IsReadyContent : ℤ → Content → Type 0
+IsReadyContent top (title rows) = All (IsReadyRow top) rows
+IsReadyContent top (system m at bases) = CanStand top m at bases
 
--- a block and its spot
-pub record IsReady (d : Drawing) (s : Spot) : Type 0 where
-  pub content : IsReadyContent d.content
-  pub top : IsTop s.top
+-- a block whose top is at a height; the tune that it begins has an ordinal
+pub record IsReadyAt (top : ℤ) (d : Drawing) : Type 0 where
+  pub begins : IfSome d.begins (λ k. 1 ≤ k)
+  pub content : IsReadyContent top d.content
+  pub within : IsTop top
+
+-- a block at its spot
+abbrev pub IsReady : Drawing → Spot → Type 0
+IsReady d s = IsReadyAt s.top d
+
+-- what a block draws is ready wherever the block lies on a page
+abbrev pub IsReadyOn : Drawing → Block → Type 0
+IsReadyOn d block = (top : ℤ) → IsTop top → pos 0 ≤ℤ (top -ℤ block.height) → IsReadyAt top d
 
 -- a placement and good heights for each system of a tune
 pub record HasAllRows (t : SetTune) : Type 0 where

@@ -1,6 +1,6 @@
 -- The sheet of a book, from the outcomes of its tunes: the blocks of all tunes without fault are filled into pages, and each
 -- page has what its blocks draw.
-use Rattle.std.specs.Prelude.{⊤, ℕ, zero, suc, ◌+◌, ◌/◌, ◌==◌, if◌then◌else◌, List, [], ◌∷◌, ◌++◌, Result, Ok, Err, Bool}
+use Rattle.std.specs.Prelude.{⊤, ℕ, zero, suc, ◌+◌, ◌/◌, ◌≤◌, ◌==◌, if◌then◌else◌, List, [], ◌∷◌, ◌++◌, Result, Ok, Err, Bool}
 use Rattle.std.specs.List.{AllZip}
 use Rattle.abc_lines.specs.declared.book.TuneText.{TuneText}
 use Rattle.abc_lines.specs.declared.fault.Fault.{Fault}
@@ -68,5 +68,7 @@ abbrev pub IsSetResult : Paper → Result SetTune Fault → Type 0
 IsSetResult paper (Ok t) = (tune : TuneText) × (defaults : Defaults) × (flow : Bool) × IsSetTune tune defaults paper flow t
 IsSetResult paper (Err fault) = ⊤
 
-abbrev pub IsSetUnder : Paper → Outcome → Type 0
-IsSetUnder paper o = IsSetResult paper o.result
+-- under its ordinal in the book, which is counted from 1
+pub record IsSetUnder (paper : Paper) (o : Outcome) : Type 0 where
+  pub result : IsSetResult paper o.result
+  pub ordinal : 1 ≤ o.ordinal

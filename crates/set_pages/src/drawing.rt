@@ -1,9 +1,9 @@
-ghost use Rattle.std.specs.Prelude.{◌≡◌, ◌≤◌, All, OnOk, Some, length};
+ghost use Rattle.std.specs.Prelude.{◌≡◌, ◌≤◌, All, IfSome, OnOk, Some, length};
 ghost use Rattle.std.specs.List.{AllZip};
 ghost use Rattle.set_pages.specs.Drawings.{all_drawings, drawing, drawings_from, drawings_of, outcome_drawings, system, systems_of, title_contents};
 ghost use Rattle.set_pages.specs.Filling.{with_drawing, with_drawings};
-ghost use Rattle.set_pages.specs.Ready.{CanStand, HasAllRows, IsDrawn, IsReady, IsWhole};
-ghost use Rattle.set_staves.specs.Drawn.{IsTop};
+ghost use Rattle.set_pages.specs.Ready.{HasAllRows, IsDrawn, IsReady, IsReadyAt, IsWhole};
+ghost use Rattle.set_staves.specs.Drawn.{IsWidth};
 
 use crate::pages::{Pages, begin};
 use crate::titles::put_title;
@@ -27,8 +27,8 @@ fn put_system(
     spot: Spot,
     pages: &mut Pages,
 ) -> Result<(), Memory>
-    requires stands { CanStand placed.now.at heights.now.bases }
-    requires top { IsTop spot.top }
+    requires wide { IsWidth width }
+    requires ready { IsReadyAt spot.top (drawing begins (system marks.now placed.now.at heights.now.bases)) }
     ensures value { OnOk result (pages.new ≡ with_drawing width pages.old (drawing begins (system marks.now placed.now.at heights.now.bases)) spot) }
     ensures good { OnOk result (IsDrawn width (drawing begins (system marks.now placed.now.at heights.now.bases)) spot) }
 {
@@ -54,6 +54,7 @@ fn put_systems(
     spots: &[Spot],
     pages: &mut Pages,
 ) -> Result<(), Memory>
+    requires wide { IsWidth width }
     requires rows { HasAllRows tune.now }
     requires ready { AllZip IsReady (drawings_from begins (systems_of tune.now)) spots.now }
     ensures value { OnOk result (pages.new ≡ with_drawings width pages.old (drawings_from begins (systems_of tune.now)) spots.now) }
@@ -64,6 +65,7 @@ fn put_systems(
     let heights = tune.heights.as_slice();
     let mut opening = begins;
     for i in 0..systems.len() {
+        let spot = spots[i];
         put_system(
             alloc,
             width,
@@ -71,7 +73,7 @@ fn put_systems(
             &systems[i],
             &placed[i],
             &heights[i],
-            spots[i],
+            spot,
             pages,
         )?;
         opening = None;
@@ -88,6 +90,7 @@ fn put_tune(
     spots: &[Spot],
     pages: &mut Pages,
 ) -> Result<(), Memory>
+    requires wide { IsWidth width }
     requires rows { HasAllRows tune.now }
     requires ready { AllZip IsReady (drawings_of ordinal tune.now) spots.now }
     ensures value { OnOk result (pages.new ≡ with_drawings width pages.old (drawings_of ordinal tune.now) spots.now) }
@@ -112,6 +115,7 @@ fn put_outcome(
     spots: &[Spot],
     pages: &mut Pages,
 ) -> Result<(), Memory>
+    requires wide { IsWidth width }
     requires whole { IsWhole outcome.now }
     requires ready { AllZip IsReady (outcome_drawings outcome.now) spots.now }
     ensures value { OnOk result (pages.new ≡ with_drawings width pages.old (outcome_drawings outcome.now) spots.now) }
@@ -154,6 +158,7 @@ pub(crate) fn put_outcomes(
     spots: &[Spot],
     pages: &mut Pages,
 ) -> Result<(), Memory>
+    requires wide { IsWidth width }
     requires whole { All IsWhole outcomes.now }
     requires ready { AllZip IsReady (all_drawings outcomes.now) spots.now }
     ensures value { OnOk result (pages.new ≡ with_drawings width pages.old (all_drawings outcomes.now) spots.now) }

@@ -1,4 +1,4 @@
-ghost use Rattle.std.specs.Prelude.{◌≡◌, ◌++◌, All, OnOk};
+ghost use Rattle.std.specs.Prelude.{◌≡◌, ◌≤◌, ◌++◌, All, IfSome, OnOk};
 ghost use Rattle.ps_text.specs.Range.{IsItem};
 ghost use Rattle.set_pages.specs.Drawings.{tune_items};
 ghost use Rattle.set_pages.specs.Filling.{at_page, turned, with_items};
@@ -33,26 +33,24 @@ fn go_to(alloc: Global, page: u32, pages: &mut Pages) -> Result<(), Memory>
 }
 
 fn put_ordinal(begins: Option<u32>, items: &mut Row<Item>) -> Result<(), Memory>
+    requires { IfSome begins (λ k. 1 ≤ k) }
     ensures value { OnOk result (items.new ≡ items.old ++ tune_items begins) }
     ensures good { OnOk result (All IsItem (tune_items begins)) }
 {
     let Some(ordinal) = begins else {
         return Ok(());
     };
-    if ordinal == 0 {
-        return Err(Memory);
-    }
     items.push(Item::Tune { ordinal })
 }
 
-/// Turns to the page of a block, and begins a tune there where the block is its first. `Memory`
-/// also where the tune's ordinal is 0.
+/// Turns to the page of a block, and begins a tune there where the block is its first.
 pub(crate) fn begin(
     alloc: Global,
     page: u32,
     begins: Option<u32>,
     pages: &mut Pages,
 ) -> Result<(), Memory>
+    requires { IfSome begins (λ k. 1 ≤ k) }
     ensures value { OnOk result (pages.new ≡ with_items (at_page page pages.old) (tune_items begins)) }
     ensures good { OnOk result (All IsItem (tune_items begins)) }
 {

@@ -1,44 +1,31 @@
-ghost use Rattle.std.specs.Prelude.{◌≡◌, ◌++◌, ◌-ℤ◌, All, IfOk, IfSome, OnOk, map};
-ghost use Rattle.ps_text.specs.Range.{IsItem, IsTitle};
-ghost use Rattle.set_pages.specs.Drawings.{row_at, tune_items};
+ghost use Rattle.std.specs.Prelude.{◌≡◌, ◌++◌, All, IfOk, OnOk, map};
+ghost use Rattle.ps_text.specs.Range.{IsItem};
+ghost use Rattle.set_pages.specs.Drawings.{drawing, row_at, title, tune_items};
 ghost use Rattle.set_pages.specs.Filling.{at_page, with_items};
+ghost use Rattle.set_pages.specs.Ready.{IsReadyAt, IsReadyRow};
 
 use crate::pages::{Pages, begin};
 use lay_pages::{Spot, TitleRow};
-use mus_units::{Memory, Row, Text};
+use mus_units::{Memory, Row};
 use ps_text::Item;
-use ps_text::range::{are_page_numbers, can_show};
+use set_staves::marks::page_words;
 use std::alloc::Global;
 
-/// The height of a row's base line, where the row may stand on a page.
-fn row_height(top: i64, row: &TitleRow) -> Option<i64>
-    ensures value { IfSome result (λ y. y ≡ top -ℤ row.now.down) }
-    ensures good { IfSome result (λ y. IsTitle row.now.x y row.now.text) }
-{
-    let y = top.checked_sub(row.down)?;
-    if are_page_numbers(row.x, y) && can_show(row.text.as_slice()) {
-        Some(y)
-    } else {
-        None
-    }
-}
-
 fn row_item(alloc: Global, top: i64, row: &TitleRow) -> Result<Item, Memory>
+    requires { IsReadyRow top row.now }
     ensures value { IfOk result (λ item. item ≡ row_at top row.now) }
     ensures good { IfOk result IsItem }
 {
-    let Some(y) = row_height(top, row) else {
-        return Err(Memory);
-    };
     Ok(Item::Title {
         x: row.x,
-        y,
+        y: top - row.down,
         size: row.size,
-        text: Text::from_slice(alloc, row.text.as_slice())?,
+        text: page_words(alloc, row.text.as_slice())?,
     })
 }
 
 fn put_rows(alloc: Global, top: i64, rows: &[TitleRow], items: &mut Row<Item>) -> Result<(), Memory>
+    requires { All (IsReadyRow top) rows.now }
     ensures value { OnOk result (items.new ≡ items.old ++ map (row_at top) rows.now) }
     ensures good { OnOk result (All IsItem (map (row_at top) rows.now)) }
 {
@@ -48,8 +35,7 @@ fn put_rows(alloc: Global, top: i64, rows: &[TitleRow], items: &mut Row<Item>) -
     Ok(())
 }
 
-/// Puts a title block at its spot, and where it begins a tune, that before it. `Memory` also
-/// where a row may not stand on a page or the tune's ordinal is 0.
+/// Puts a title block at its spot, and where it begins a tune, that before it.
 pub(crate) fn put_title(
     alloc: Global,
     begins: Option<u32>,
@@ -57,6 +43,7 @@ pub(crate) fn put_title(
     spot: Spot,
     pages: &mut Pages,
 ) -> Result<(), Memory>
+    requires ready { IsReadyAt spot.top (drawing begins (title rows.now)) }
     ensures value { OnOk result (pages.new ≡ with_items (at_page spot.page pages.old) (tune_items begins ++ map (row_at spot.top) rows.now)) }
     ensures good { OnOk result (All IsItem (tune_items begins ++ map (row_at spot.top) rows.now)) }
 {

@@ -1,6 +1,6 @@
 pub mod Counting
-pub mod Marked
+pub mod OnPage
+pub mod Pushed
+pub mod Ranged
 pub mod Rising
 pub mod Shown
-pub mod Ranged
-pub mod Pushed

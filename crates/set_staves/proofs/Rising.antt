@@ -18,7 +18,7 @@ further at rise (suc d) i j e long =
     let last : x_at at (i + suc d + 1) ≡ x_at at j = ap (x_at at) (omega arith) in
     omega (arith, ints, before, next, last)
 
-rises : (at : List ℤ) → RisesAlong at → (i j : ℕ) → i < j → j < length at → x_at at i <ℤ x_at at j
+pub rises : (at : List ℤ) → RisesAlong at → (i j : ℕ) → i < j → j < length at → x_at at i <ℤ x_at at j
 rises at rise i j lt long = further at rise (j - suc i) i j (omega arith) long
 
 -- tests of abscissas are those of ranks

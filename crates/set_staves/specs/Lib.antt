@@ -1,3 +1,2 @@
-pub mod Anchors
 pub mod Drawn
 pub mod Marks

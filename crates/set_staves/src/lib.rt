@@ -2,7 +2,6 @@
 //! its base, so that the ranks read off the page are those that were called for.
 #![tactic(auto)]
 
-pub mod anchors;
 pub mod marks;
 pub mod staves;
 pub mod systems;

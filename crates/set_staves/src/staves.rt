@@ -1,7 +1,9 @@
 ghost use Rattle.std.specs.Prelude.{◌≡◌, ◌+ℤ◌, All, IfOk, length};
-ghost use Rattle.ps_text.specs.Range.{IsNumber, IsStaff};
-ghost use Rattle.set_staves.specs.Drawn.{IsBase, IsTop, IsWidth};
-ghost use Rattle.set_staves.specs.Marks.{staff_at, staves_at};
+ghost use Rattle.ps_text.specs.Range.{IsStaff};
+ghost use Rattle.lay_shown.specs.Ranks.{AreRanked};
+ghost use Rattle.lay_shown.specs.Texts.{HavePrinted};
+ghost use Rattle.set_staves.specs.Drawn.{IsBase, IsOnPage, IsWidth};
+ghost use Rattle.set_staves.specs.Marks.{RisesAlong, staff_at, staves_at};
 
 use crate::marks::place_marks;
 use mus_laid::StaffMarks;
@@ -11,19 +13,21 @@ use std::alloc::Global;
 
 /// The height of a base on the page.
 fn base_at(top: i64, base: i64) -> i64
-    requires top { IsTop top }
-    requires base { IsBase base }
+    requires { IsBase top base }
     ensures value { result ≡ top +ℤ base }
-    ensures number { IsNumber result }
+    ensures height { IsOnPage result }
 {
     top + base
 }
 
-/// A staff with its lowest line at `y`. `Memory` also where one of its marks may not stand
-/// there.
+/// A staff with its lowest line at `y`.
 fn staff_for(alloc: Global, width: u32, at: &[i64], y: i64, s: &StaffMarks) -> Result<Staff, Memory>
     requires wide { IsWidth width }
-    requires base { IsNumber y }
+    requires height { IsOnPage y }
+    requires numbers { All IsOnPage at.now }
+    requires rise { RisesAlong at.now }
+    requires ranked { AreRanked (length at.now) s.now.marks }
+    requires printed { HavePrinted s.now.marks }
     ensures value { IfOk result (λ staff. staff ≡ staff_at width at.now y s.now) }
     ensures good { IfOk result IsStaff }
 {
@@ -31,7 +35,7 @@ fn staff_for(alloc: Global, width: u32, at: &[i64], y: i64, s: &StaffMarks) -> R
     Ok(Staff { y, width, marks })
 }
 
-/// Each staff at its base. `Memory` also where one of its marks may not stand there.
+/// Each staff at its base.
 pub fn staves_for(
     alloc: Global,
     width: u32,
@@ -41,9 +45,12 @@ pub fn staves_for(
     bases: &[i64],
 ) -> Result<Row<Staff>, Memory>
     requires wide { IsWidth width }
-    requires top { IsTop top }
-    requires bases { All IsBase bases.now }
+    requires numbers { All IsOnPage at.now }
+    requires rise { RisesAlong at.now }
+    requires ranked { All (λ s. AreRanked (length at.now) s.marks) staves.now }
+    requires printed { All (λ s. HavePrinted s.marks) staves.now }
     requires count { length bases.now ≡ length staves.now }
+    requires heights { All (IsBase top) bases.now }
     ensures value { IfOk result (λ all. all ≡ staves_at width at.now top staves.now bases.now) }
     ensures good { IfOk result (All IsStaff) }
 {
