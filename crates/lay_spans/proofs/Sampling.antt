@@ -5,7 +5,7 @@ use Rattle.std.proofs.lemmas.Option.{slice_get-get_or}
 use Rattle.lay_springs.specs.declared.traits.Reach.{Reach}
 use Rattle.lay_spans.specs.Columns.{column_count, EndsInAll, AreMeasures}
 
-count_twos : {C : Type 0} (rows : List (List C)) → ((m : ℕ) → m < length rows → length (slice_index_or rows m []) ≡ 2)
+pub count_twos : {C : Type 0} (rows : List (List C)) → ((m : ℕ) → m < length rows → length (slice_index_or rows m []) ≡ 2)
     → column_count rows ≤ length rows + length rows
 count_twos {C} [] h = omega arith
 count_twos {C} (row ∷ rows) h =

@@ -17,7 +17,7 @@ pub use breaks::break_of;
 pub use costs::{SpanCosts, costs_of};
 pub use forces::badness;
 pub use seen::Seen;
-pub use spans::spans_of;
+pub use spans::{places_of, spans_of};
 
 #[cfg(test)]
 mod tests;

@@ -73,16 +73,12 @@ fn spans_in(alloc: Global, width: u32, forced: &[u32]) -> Result<Row<Span>, Memo
     ensures { IfOk result (λ spans. AreSpans 4 spans) }
 {
     let tens: [u8; 4] = [150, 70, 210, 85];
-    let starts = measures(alloc, &tens, 1000)?;
-    let others = measures(alloc, &tens, 100)?;
-    spans_of(
-        alloc,
-        starts.as_slice(),
-        others.as_slice(),
-        &[100],
-        width,
-        forced,
-    )
+    let begun = measures(alloc, &tens, 1000)?;
+    let starts = begun.as_slice();
+    let further = measures(alloc, &tens, 100)?;
+    let others = further.as_slice();
+    let mut scratch = places_of(alloc, starts, others, 1)?;
+    spans_of(alloc, starts, others, &[100], width, forced, &mut scratch)
 }
 
 fn span(a: u32, b: u32, badness: u64) -> Span

@@ -4,7 +4,7 @@ use Rattle.std.proofs.lemmas.Int.{ints}
 use Rattle.std.proofs.lemmas.Option.{same_Some}
 use Rattle.lay_springs.specs.declared.traits.Reach.{Reach}
 use Rattle.lay_springs.specs.Place.{reach_at, length_at, StandApart}
-use Rattle.lay_springs.specs.Fit.{IsEndOf, EndsAt, Fits, Passes}
+use Rattle.lay_springs.specs.Fit.{IsEndOf, EndsAt}
 use Rattle.lay_springs.proofs.Clear.{below_or_at}
 use Rattle.lay_springs.proofs.Placing.{reach_is}
 
@@ -48,13 +48,6 @@ end_down n reach gaps spring f g d e some le a b =
     let last = a.place.least b.x (apart_down n reach gaps (spring f) (spring g) b.x le b.place.apart) (n - 1) (omega arith) in
     a.end.least e (let p = b.end.past in omega (arith, ints))
     (λ k r l er. let q = b.end.reaches k r l er in omega (arith, ints))
-
-pub never_both : (n : ℕ) (reach : ℕ → ℕ → Option Reach) (gaps : List ℕ) (spring : ℕ → ℕ → ℕ) (width f g : ℕ) → 0 < n
-    → ((i : ℕ) → spring f i ≤ spring g i)
-    → Passes n reach gaps spring width f → Fits n reach gaps spring width g → ⊥
-never_both n reach gaps spring width f g some le p q =
-    let d = end_down n reach gaps spring f g p.0 q.0 some le p.1 q.1 in
-    let a = p.2 in let b = q.2 in omega (arith, ints)
 
 -- the springs of a list of columns grow with the force
 pub length_rises : {C : Type 0} (len : C → ℕ → ℕ) (cols : List C) (f g : ℕ) → ((c : C) → len c f ≤ len c g)

@@ -62,15 +62,16 @@ some_of : (o : Option ℕ) → IsSome o → (v : ℕ) × (o ≡ Some v)
 some_of None e = absurd (true≢false (sym e))
 some_of (Some v) e = (v, refl)
 
--- a listed span can be set
-pub span_open : (s : Score) (width : ℕ) (starts others : List (List Column)) (spans : List Span) (lanes : ℕ)
+-- a listed span can be set where there is room for the columns of all measures
+pub span_open : (s : Score) (width room : ℕ) (starts others : List (List Column)) (spans : List Span) (lanes : ℕ)
     → length starts ≡ s.measures → AreMeasures column_reach lanes starts others → AreColumnsOf s starts others → AreSpansOf s width spans
-    → (a b : ℕ) → a < b → b ≤ s.measures → IsSome (listed spans a b) → CanBeSet s width a b
-span_open s width starts others spans lanes count measures join h a b l m some =
+    → column_count starts + column_count others + length (score_gaps s) ≤ room
+    → (a b : ℕ) → a < b → b ≤ s.measures → IsSome (listed spans a b) → CanBeSet s width room a b
+span_open s width room starts others spans lanes count measures join h roomy a b l m some =
     let v = some_of (listed spans a b) some in
     let cost = h.each a b v.0 l m v.1 in
     let begun = measures.begun a (omega arith) in
-    let room = measures.room in
+    let all = measures.room in
     let few : length (span_columns starts others a b) ≤ column_count starts + column_count others = columns_few starts others a b (omega arith) in
     record {
       rises = l;
@@ -80,6 +81,7 @@ span_open s width starts others spans lanes count measures join h a b l m some =
         few = subst (λ columns. length columns ≤ 200000) (sym (join a b marks l m is)) (omega arith);
         pressed = (cost.pressed.0, cost.pressed.2 marks is);
       };
+      places = λ marks is. subst (λ columns. length columns + length (score_gaps s) ≤ room) (sym (join a b marks l m is)) (omega arith);
     }
 
 past_last : (a : ℕ) (bs : List ℕ) → RisesFrom a bs → a ≤ last_from a bs
@@ -94,14 +96,15 @@ all_open P cost n h a (b ∷ bs) r f l =
     (h a b r.0 (omega arith) f.0, all_open P cost n h b bs r.1 f.1 l)
 
 -- the chosen breaking can be set
-pub chosen_open : (s : Score) (width : ℕ) (starts others : List (List Column)) (spans : List Span) (lanes : ℕ) (breaks : List ℕ)
+pub chosen_open : (s : Score) (width room : ℕ) (starts others : List (List Column)) (spans : List Span) (lanes : ℕ) (breaks : List ℕ)
     → length starts ≡ s.measures → AreMeasures column_reach lanes starts others → AreColumnsOf s starts others → AreSpansOf s width spans
+    → column_count starts + column_count others + length (score_gaps s) ≤ room
     → IsChosen (listed spans) (is_forced_in s) s.measures breaks
-    → AllSpans (CanBeSet s width) 0 breaks
-chosen_open s width starts others spans lanes breaks count measures join h chosen =
+    → AllSpans (CanBeSet s width room) 0 breaks
+chosen_open s width room starts others spans lanes breaks count measures join h roomy chosen =
     let ends = chosen.legal.ends in
-    all_open (CanBeSet s width) (listed spans) s.measures
-    (λ a b l m some. span_open s width starts others spans lanes count measures join h a b l m some)
+    all_open (CanBeSet s width room) (listed spans) s.measures
+    (λ a b l m some. span_open s width room starts others spans lanes count measures join h roomy a b l m some)
     0 breaks chosen.legal.rises chosen.legal.fits (omega arith)
 
 -- the same where gaps and forced bars were read off the score
@@ -115,16 +118,18 @@ spans_read s width starts others spans gaps forced count is all join h =
     (subst (λ bars. IsSpanList column_reach column_length (score_gaps s) width starts others (is_forced (length starts) bars) spans) all
     (subst (λ these. IsSpanList column_reach column_length these width starts others (is_forced (length starts) forced) spans) is h)))
 
-pub chosen_read : (s : Score) (width : ℕ) (starts others : List (List Column)) (spans read : List Span) (gaps forced breaks bars : List ℕ)
+pub chosen_read : (s : Score) (width room : ℕ) (starts others : List (List Column)) (spans read : List Span) (gaps forced breaks bars : List ℕ)
     → length starts ≡ s.measures → gaps ≡ score_gaps s → forced ≡ s.forced → read ≡ spans → bars ≡ breaks
     → AreMeasures column_reach (length (score_gaps s)) starts others → AreColumnsOf s starts others
     → IsSpanList column_reach column_length gaps width starts others (is_forced (length starts) forced) spans
+    → column_count starts + column_count others + length gaps ≤ room
     → IsChosen (listed read) (is_forced s.measures forced) s.measures breaks
-    → AllSpans (CanBeSet s width) 0 bars
-chosen_read s width starts others spans read gaps forced breaks bars count is all same ends measures join h chosen =
-    subst (λ these. AllSpans (CanBeSet s width) 0 these) (sym ends)
-    (chosen_open s width starts others spans (length (score_gaps s)) breaks count measures join
+    → AllSpans (CanBeSet s width room) 0 bars
+chosen_read s width room starts others spans read gaps forced breaks bars count is all same ends measures join h roomy chosen =
+    subst (λ these. AllSpans (CanBeSet s width room) 0 these) (sym ends)
+    (chosen_open s width room starts others spans (length (score_gaps s)) breaks count measures join
     (spans_read s width starts others spans gaps forced count is all join h)
+    (subst (λ these. column_count starts + column_count others + length these ≤ room) is roomy)
     (subst (λ these. IsChosen (listed these) (is_forced_in s) s.measures breaks) same
     (subst (λ these. IsChosen (listed read) (is_forced s.measures these) s.measures breaks) all chosen)))
 

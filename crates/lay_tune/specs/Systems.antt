@@ -1,5 +1,5 @@
 -- The systems of a breaking: where their columns stand, and their staves under one another.
-use Rattle.std.specs.Prelude.{◌≡◌, ⊤, ℕ, ◌<◌, ◌≤◌, ◌==◌, ◌^◌, Bool, true, false, pos, ◌-ℤ◌, ◌≤ℤ◌, List, [], ◌∷◌, length}
+use Rattle.std.specs.Prelude.{◌≡◌, ⊤, ℕ, ◌+◌, ◌<◌, ◌≤◌, ◌==◌, ◌^◌, Bool, true, false, pos, ◌-ℤ◌, ◌≤ℤ◌, List, [], ◌∷◌, length}
 use Rattle.mus_score.specs.declared.score.Score.{Score}
 use Rattle.mus_laid.specs.declared.laid.SystemMarks.{SystemMarks}
 use Rattle.lay_columns.specs.declared.column.Column.{Column}
@@ -44,16 +44,18 @@ pub record IsStack (m : SystemMarks) (h : Heights) : Type 0 where
   pub low : pos 0 ≤ℤ h.height
   pub high : h.height ≤ℤ pos (2 ^ 40)
 
--- Spans whose columns can be placed.
+-- Columns that can be placed.
 pub record HaveForce (gaps : List ℕ) (width : ℕ) (columns : List Column) : Type 0 where
   pub some : 0 < length columns
   pub few : length columns ≤ 200000
   pub pressed : (force : ℕ) × IsForceOf gaps width columns force
 
-pub record CanBeSet (s : Score) (width a b : ℕ) : Type 0 where
+-- A span whose columns can be placed, and need no more than `room` places: one for each column and for each lane.
+pub record CanBeSet (s : Score) (width room a b : ℕ) : Type 0 where
   pub rises : a < b
   pub within : b ≤ s.measures
   pub columns : (m : SystemMarks) → IsSystem s a b m → HaveForce (score_gaps s) width (system_columns s m)
+  pub places : (m : SystemMarks) → IsSystem s a b m → length (system_columns s m) + length (score_gaps s) ≤ room
 
 -- each span of a breaking, the first of which begins at bar a
 abbrev pub AllSpans : (ℕ → ℕ → Type 0) → ℕ → List ℕ → Type 0

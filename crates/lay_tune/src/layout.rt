@@ -20,7 +20,7 @@ use lay_breaks::{BreakError, Breaking, Span};
 use lay_columns::{Column, gaps_of};
 use lay_measures::measures_join;
 use lay_pages::Heights;
-use lay_spans::{break_of, spans_of};
+use lay_spans::{break_of, places_of, spans_of};
 use lay_springs::Placed;
 use mus_drawn::DrawnVoice;
 use mus_laid::SystemMarks;
@@ -103,7 +103,17 @@ fn lay_out_measures(
 {
     let gaps = gaps_of(alloc, verses)?;
     let forced = s.forced.as_slice();
-    let spans = spans_of(alloc, starts, others, gaps.as_slice(), width, forced)?;
+    let mut places = places_of(alloc, starts, others, gaps.len())?;
+    let scratch = places.as_mut_slice();
+    let spans = spans_of(
+        alloc,
+        starts,
+        others,
+        gaps.as_slice(),
+        width,
+        forced,
+        scratch,
+    )?;
     let breaking = match break_of(alloc, spans.as_slice(), forced, s.measures) {
         Ok(breaking) => breaking,
         Err(error) => return Err(layout_error(error)),
@@ -113,7 +123,17 @@ fn lay_out_measures(
         marks,
         placed,
         heights,
-    } = set_systems(alloc, s, voices, t, verses, gaps.as_slice(), width, breaks)?;
+    } = set_systems(
+        alloc,
+        s,
+        voices,
+        t,
+        verses,
+        gaps.as_slice(),
+        width,
+        breaks,
+        scratch,
+    )?;
     Ok(Layout {
         breaking,
         systems: marks,
@@ -130,7 +150,8 @@ fn lay_out_measures(
 ///
 /// A score without voices has no measure. A score of no measures has the empty breaking. `NoWay`
 /// comes exactly where no breaking is legal. Measures of more than 200,000 columns, counted both as
-/// they begin a system and as they don't, want more memory than there is.
+/// they begin a system and as they don't, want more memory than there is. Room for placing columns
+/// is reserved once, before the first force is searched for, so that no search wants memory.
 pub fn lay_out(alloc: Global, s: &Score, width: u32) -> Result<Layout, LayoutError>
     requires good { IsGoodScore s.now }
     requires heard { 0 < s.now.measures → 1 ≤ length s.now.voices }

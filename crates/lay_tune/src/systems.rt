@@ -1,4 +1,4 @@
-ghost use Rattle.std.specs.Prelude.{◌≡◌, ◌<◌, ◌≤◌, ◌^◌, ◌==◌, ℕ, All, IfOk, length, map, slice_index};
+ghost use Rattle.std.specs.Prelude.{◌≡◌, ◌+◌, ◌<◌, ◌≤◌, ◌^◌, ◌==◌, ℕ, All, IfOk, length, map, slice_index};
 ghost use Rattle.mus_score.specs.GoodScore.{IsGoodScore};
 ghost use Rattle.mus_time.specs.Onsets.{timeline_of};
 ghost use Rattle.mus_drawn.specs.Drawn.{drawn_voice};
@@ -25,14 +25,15 @@ fn press(
     gaps: &[u32],
     width: u32,
     last: bool,
+    scratch: &mut [i64],
 ) -> Result<Placed, Memory>
     requires lanes { length gaps.now < 2 ^ 32 }
     requires narrow { (lane : ℕ) → lane < length gaps.now → slice_index gaps.now lane ≤ 2 ^ 20 }
     requires fits { HaveForce gaps.now width columns.now }
+    requires room { length columns.now + length gaps.now ≤ length scratch.old }
     ensures { IfOk result (IsJustified gaps.now width last columns.now) }
 {
-    let mut scratch = vec![in alloc; 0; columns.len() + gaps.len()]?;
-    let Some(force) = fit(columns, gaps, width, &mut scratch) else {
+    let Some(force) = fit(columns, gaps, width, scratch) else {
         unreachable!();
     };
     justify(alloc, columns, gaps, width, force, last)
@@ -57,6 +58,7 @@ fn set_system(
     width: u32,
     a: u32,
     b: u32,
+    scratch: &mut [i64],
 ) -> Result<SetSystem, Memory>
     requires good { IsGoodScore s.now }
     requires times { t.now ≡ timeline_of s.now }
@@ -66,7 +68,7 @@ fn set_system(
     requires gaps { gaps.now ≡ score_gaps s.now }
     requires lanes { length gaps.now < 2 ^ 32 }
     requires narrow { (lane : ℕ) → lane < length gaps.now → slice_index gaps.now lane ≤ 2 ^ 20 }
-    requires fits { CanBeSet s.now width a b }
+    requires fits { CanBeSet s.now width (length scratch.old) a b }
     ensures system { IfOk result (λ set. IsSystem s.now a b set.marks) }
     ensures placed { IfOk result (λ set. IsPlaced s.now width set.marks set.placed) }
     ensures heights { IfOk result (λ set. IsStack set.marks set.heights) }
@@ -74,7 +76,14 @@ fn set_system(
 {
     let marks = marks_of(alloc, s, voices, t, a, b)?;
     let columns = columns(alloc, &marks, t, verses)?;
-    let placed = press(alloc, columns.as_slice(), gaps, width, b == s.measures)?;
+    let placed = press(
+        alloc,
+        columns.as_slice(),
+        gaps,
+        width,
+        b == s.measures,
+        scratch,
+    )?;
     let heights = stack(alloc, &marks)?;
     Ok(SetSystem {
         marks,
@@ -102,6 +111,7 @@ pub(crate) fn set_systems(
     gaps: &[u32],
     width: u32,
     breaks: &[u32],
+    scratch: &mut [i64],
 ) -> Result<Systems, Memory>
     requires good { IsGoodScore s.now }
     requires times { t.now ≡ timeline_of s.now }
@@ -111,7 +121,7 @@ pub(crate) fn set_systems(
     requires gaps { gaps.now ≡ score_gaps s.now }
     requires lanes { length gaps.now < 2 ^ 32 }
     requires narrow { (lane : ℕ) → lane < length gaps.now → slice_index gaps.now lane ≤ 2 ^ 20 }
-    requires fits { AllSpans (CanBeSet s.now width) 0 breaks.now }
+    requires fits { AllSpans (CanBeSet s.now width (length scratch.old)) 0 breaks.now }
     ensures systems { IfOk result (λ r. EachSpan (IsSystem s.now) 0 breaks.now r.marks) }
     ensures placed { IfOk result (λ r. Beside (IsPlaced s.now width) r.marks r.placed) }
     ensures heights { IfOk result (λ r. Beside IsStack r.marks r.heights) }
@@ -122,7 +132,7 @@ pub(crate) fn set_systems(
     let mut heights = Row::new(alloc);
     let mut a = 0;
     for b in breaks {
-        let set = set_system(alloc, s, voices, t, verses, gaps, width, a, *b)?;
+        let set = set_system(alloc, s, voices, t, verses, gaps, width, a, *b, scratch)?;
         marks.push(set.marks)?;
         placed.push(set.placed)?;
         heights.push(set.heights)?;

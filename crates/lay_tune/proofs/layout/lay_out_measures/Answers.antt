@@ -1,4 +1,4 @@
-use Rattle.std.proofs.Common.{◌∙◌, ap, length, subst, sym, ◌<◌}
+use Rattle.std.proofs.Common.{◌∙◌, ap, arith, length, subst, sym, ◌<◌}
 use Rattle.lay_columns.specs.Lanes.{gaps_of}
 use Rattle.lay_breaks.specs.Spans.{AreSpans}
 use Rattle.lay_tune.specs.Layout.{IsCauseIn}
@@ -23,10 +23,16 @@ set_systems-requires-clause-lanes c =
 
 pub set_systems-requires-clause-fits : goal.set_systems-requires-clause-fits
 set_systems-requires-clause-fits c =
-    chosen_read c.args.s.now c.args.width c.args.starts.now c.args.others.now c.in_ok-spans.spans c.as_slice-2.result.now
+    let reserved = c.in_ok-places.ensures in
+    let lanes = c.len.ensures in
+    let read = ap (λ gaps. length gaps) c.as_slice.ensures in
+    let lent = ap (λ places. length places) c.as_mut_slice-scratch.ensures.value in
+    let kept = c.spans_of.auto.scratch in
+    chosen_read c.args.s.now c.args.width (length c.spans_of.new.scratch) c.args.starts.now c.args.others.now c.in_ok-spans.spans c.as_slice-2.result.now
     c.as_slice.result.now c.as_slice-forced.result.now c.in-Ok.breaking.breaks c.as_slice-breaks.result.now
     c.requires.count (c.as_slice.ensures ∙ c.in_ok-gaps.ensures.value ∙ ap gaps_of c.requires.verses) c.as_slice-forced.ensures
-    c.as_slice-2.ensures c.as_slice-breaks.ensures c.requires.measures c.requires.columns c.in_ok-spans.ensures.exact c.in-Ok.ensures.chosen
+    c.as_slice-2.ensures c.as_slice-breaks.ensures c.requires.measures c.requires.columns c.in_ok-spans.ensures.exact
+    (omega arith) c.in-Ok.ensures.chosen
 
 pub returns-clause-spans : goal.returns-clause-spans
 returns-clause-spans c =

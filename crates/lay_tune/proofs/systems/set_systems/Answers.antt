@@ -34,7 +34,8 @@ loop-b-preserved c =
       good = subst (λ marks. All Good marks) (sym c.in_ok-push.ensures.ok)
           (All-append Good c.loop-b.marks (c.in_ok-set.set.marks ∷ []) c.loop-b.invariant.good
           (All-cons Good c.in_ok-set.set.marks [] c.in_ok-set.ensures.good (All-nil Good)));
-      fits = (subst (λ bs. AllSpans (CanBeSet s c.args.width) c.loop-b.a bs) next c.loop-b.invariant.fits).1;
+      fits = subst (λ room. AllSpans (CanBeSet s c.args.width room) b (drop (i + 1) breaks)) (sym c.set_system.auto.scratch)
+          (subst (λ bs. AllSpans (CanBeSet s c.args.width (length c.loop-b.scratch)) c.loop-b.a bs) next c.loop-b.invariant.fits).1;
     }
 
 pub returns-clause-systems : goal.returns-clause-systems

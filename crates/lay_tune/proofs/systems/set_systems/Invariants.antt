@@ -1,4 +1,4 @@
-use Rattle.std.proofs.Common.{◌++◌, List, drop}
+use Rattle.std.proofs.Common.{◌++◌, List, drop, length}
 use Rattle.std.specs.List.{All}
 use Rattle.mus_laid.specs.declared.laid.SystemMarks.{SystemMarks}
 use Rattle.mus_laid.specs.Boxes.{AreGoodMarks}
@@ -12,5 +12,5 @@ invariant-loop-b l = record {
   placed : Beside (IsPlaced l.s l.width) l.marks l.placed;
   heights : Beside IsStack l.marks l.heights;
   good : All (λ m. All (λ staff. AreGoodMarks staff.marks) m.staves) l.marks;
-  fits : AllSpans (CanBeSet l.s l.width) l.a (drop l.b-index l.breaks);
+  fits : AllSpans (CanBeSet l.s l.width (length l.scratch)) l.a (drop l.b-index l.breaks);
 }
