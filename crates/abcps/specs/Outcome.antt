@@ -1,12 +1,19 @@
 -- What a run answers, and what it leaves on each stream: by cases on the answer.
-use Rattle.std.specs.Prelude.{◌≡◌, ◌⊎◌, ◌≤◌, ℕ, ◌+◌, List, [], length, take, Option}
+use Rattle.std.specs.Prelude.{◌≡◌, ◌⊎◌, ◌<◌, ◌≤◌, ℕ, ◌+◌, List, [], Bool, length, take, Option}
 use Rattle.std.specs.Io.KnownBytes.{Keeps, Appends, Consumes, IsAtEnd}
 use Rattle.eng_io.specs.Causes.{Rose}
+use Rattle.abc_lines.specs.Books.{book_of}
+use Rattle.abc_header.specs.Defaults.{defaults_of}
+use Rattle.ps_text.specs.Document.{document}
+use Rattle.set_book.specs.declared.outcome.Outcome.{Outcome}
+use Rattle.set_book.specs.Outcomes.{AreOutcomes}
+use Rattle.set_pages.specs.Sheet.{sheet_of}
 use Rattle.abcps_words.specs.Command.{Asks, IsListed, limit_of}
 use Rattle.abcps_words.specs.declared.command.Command.{Command}
 use Rattle.abcps_words.specs.declared.command.Command.TheVariants as command
 use Rattle.abcps_words.specs.declared.command.TheConstants.{USAGE}
 use Rattle.abcps.specs.Called.{Called}
+use Rattle.abcps.specs.Books.{CallsPages, paper_in}
 use Rattle.abcps.specs.Calls.{Calls, Refuses, not_pages_line}
 use Rattle.abcps.specs.declared.status.Status.{Status}
 use Rattle.abcps.specs.declared.status.Status.TheVariants as status
@@ -47,6 +54,10 @@ TookFront s text = (n : ℕ) × Appends s.before s.after (take n text) × Rose s
 abbrev pub TookPart : Stream → List ℕ → Type 0
 TookPart s text = (n : ℕ) × Appends s.before s.after (take n text) × (s.count_after ≡ s.count_before)
 
+-- what a sink took is a front of a text, whatever it counted
+abbrev pub HasFront : Stream → List ℕ → Type 0
+HasFront s text = (n : ℕ) × Appends s.before s.after (take n text)
+
 -- a line was given to a sink, which took it all or counted a fault and took a front of it
 abbrev pub WasTold : Stream → List ℕ → Type 0
 WasTold s line = TookAll s line ⊎ TookFront s line
@@ -54,6 +65,28 @@ WasTold s line = TookAll s line ⊎ TookFront s line
 -- Output failed, and errors has nothing; or output has the whole text, and errors failed.
 abbrev pub WasCut : Called → Stream → Stream → Type 0
 WasCut called o e = (TookFront o called.page × IsQuiet e) ⊎ (TookAll o called.page × TookFront e called.told)
+
+-- `set` ended while some tunes of its book were left: so many were set, and what output took is a front of their document, and of whatever
+-- is called for of the whole book.
+pub record IsCutShort (flow : Bool) (text : List ℕ) (o : Stream) : Type 0 where
+  pub count : ℕ
+  pub left : count < length (book_of text).tunes
+  pub outcomes : List Outcome
+  pub set : AreOutcomes (defaults_of (book_of text).header) (paper_in text) flow (take count (book_of text).tunes) outcomes
+  pub first : HasFront o (document (sheet_of (paper_in text) outcomes))
+  pub all : (called : Called) → CallsPages flow text called → HasFront o called.page
+
+abbrev pub WasCutShort : Command → List ℕ → Stream → Type 0
+WasCutShort (command.Set flow jobs) text o = IsCutShort flow text o
+WasCutShort _ text o = ⊥
+
+-- A sink failed while what is called for was written, or output did before `set` had set all tunes.
+abbrev pub HasFailed : Command → List ℕ → Stream → Stream → Type 0
+HasFailed c text o e = ((called : Called) × Calls c text called × WasCut called o e) ⊎ (WasCutShort c text o × Rose o.count_before o.count_after × IsQuiet e)
+
+-- Output has a front of what is called for, or of what `set` writes before it has set all tunes; and no fault was counted.
+abbrev pub HasPart : Command → List ℕ → Stream → Type 0
+HasPart c text o = ((called : Called) × Calls c text called × TookPart o called.page) ⊎ (WasCutShort c text o × (o.count_after ≡ o.count_before))
 
 -- What a command read: of an input all, and those that make a book themselves nothing.
 abbrev pub IsRead : Command → Stream → List ℕ → Type 0
@@ -90,13 +123,15 @@ IsAnswered C _ o e = ⊥
 -- what is answered once the input was read
 abbrev pub IsAnswer : Command → Status → List ℕ → Stream → Stream → Type 0
 IsAnswer c status.NotPages text o e = (number : ℕ) × Refuses c text number × IsQuiet o × WasTold e (not_pages_line number)
+IsAnswer c status.WriteFault text o e = HasFailed c text o e
+IsAnswer c status.Memory text o e = IsQuiet e × (IsQuiet o ⊎ HasPart c text o)
 IsAnswer c s text o e = IsAnswered (Calls c text) s o e
 
 -- what a command answers
 abbrev pub IsObeyed : Command → Status → Stream → Stream → Stream → Type 0
 IsObeyed c status.ReadFault i o e = IsReader c × Rose i.count_before i.count_after × IsQuiet o × IsQuiet e
 IsObeyed c status.TooLong i o e = IsReader c × ((text : List ℕ) × ReadTooMuch (limit_of c) i text) × IsQuiet o × IsQuiet e
-IsObeyed c status.Memory i o e = IsQuiet e × (IsQuiet o ⊎ ((text : List ℕ) × IsRead c i text × (called : Called) × Calls c text called × TookPart o called.page))
+IsObeyed c status.Memory i o e = IsQuiet e × (IsQuiet o ⊎ ((text : List ℕ) × IsRead c i text × HasPart c text o))
 IsObeyed c s i o e = (text : List ℕ) × IsRead c i text × IsAnswer c s text o e
 
 -- what a run answers

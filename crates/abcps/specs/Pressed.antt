@@ -1,37 +1,118 @@
--- A book as it is set and pressed, a batch of its tunes after another.
-use Rattle.std.specs.Prelude.{◌≡◌, ℕ, List, Bool, if◌then◌else◌}
+-- A book as it is set, pressed and written, a batch of its tunes after another.
+use Rattle.std.specs.Prelude.{◌≡◌, ◌⊎◌, ℕ, ◌+◌, List, [], ◌++◌, Bool, if◌then◌else◌, drop, length, Result, Ok, Err}
 use Rattle.abc_lines.specs.declared.book.TuneText.{TuneText}
 use Rattle.abc_header.specs.declared.defaults.Defaults.{Defaults}
 use Rattle.abc_header.specs.declared.paper.Paper.{Paper}
+use Rattle.abc_header.specs.Papers.{IsGoodPaper}
+use Rattle.eng_io.specs.Causes.{Rose}
+use Rattle.ps_text.specs.Document.{numbered, page_text, trailer}
+use Rattle.ps_text.specs.Prolog.{prolog}
+use Rattle.ps_text.specs.declared.sheet.Page.{Page}
+use Rattle.ps_text.specs.declared.sheet.Sheet.{Sheet}
 use Rattle.set_book.specs.declared.outcome.Outcome.{Outcome}
 use Rattle.set_book.specs.Outcomes.{AreOutcomes}
 use Rattle.set_lists.specs.Reports.{reports, some_fault}
-use Rattle.set_pages.specs.Press.{IsPressed, IsSheetOf}
-use Rattle.abcps.specs.Books.{AreSet, paper_in, status_of}
-use Rattle.abcps.specs.declared.pressing.PressedBook.{PressedBook}
-use Rattle.abcps.specs.declared.pressing.Taken.{Taken}
+use Rattle.set_pages.specs.Press.{IsOpen, IsPressed, done_pages}
+use Rattle.set_pages.specs.Sheet.{frame_of, sheet_of}
+use Rattle.set_pages.specs.declared.press.Press.{Press}
+use Rattle.abcps.specs.Called.{Called}
+use Rattle.abcps.specs.Books.{CallsPages, status_of}
+use Rattle.abcps.specs.Outcome.{IsCutShort, IsQuiet, Stream, TookAll, TookFront, TookPart}
+use Rattle.abcps.specs.declared.pressing.Printed.{Printed}
+use Rattle.abcps.specs.declared.pressing.Running.{Running}
 use Rattle.abcps.specs.declared.status.Status.{Status}
 use Rattle.abcps.specs.declared.status.Status.TheVariants as status
 
 abbrev pub status_if : Bool → Status
 status_if refused = if refused then status.SomeRefused else status.Done
 
--- what was taken of these outcomes
-pub record IsTaken (paper : Paper) (outcomes : List Outcome) (t : Taken) : Type 0 where
-  pub pressed : IsPressed paper outcomes t.press
-  pub told : t.told ≡ reports outcomes
-  pub refused : t.refused ≡ some_fault outcomes
+-- what a sink took of a text where this answer came before the text's end: a front, and a fault was counted or none
+abbrev pub WasStopped : Status → Stream → List ℕ → Type 0
+WasStopped status.WriteFault s text = TookFront s text
+WasStopped status.Memory s text = TookPart s text
+WasStopped _ s text = ⊥
 
--- what was taken of these tunes
-pub record AreTaken (defaults : Defaults) (paper : Paper) (flow : Bool) (tunes : List TuneText) (t : Taken) : Type 0 where
+-- a sink took a whole text, or was stopped
+abbrev pub WasGiven : {T : Type 0} → Stream → List ℕ → Result T Status → Type 0
+WasGiven s text (Ok x) = TookAll s text
+WasGiven s text (Err why) = WasStopped why s text
+
+-- these outcomes were taken, and these pages written
+pub record IsRunning (paper : Paper) (outcomes : List Outcome) (given : List Page) (r : Running) : Type 0 where
+  pub pressed : IsPressed paper outcomes given r.press
+  pub told : r.told ≡ reports outcomes
+  pub refused : r.refused ≡ some_fault outcomes
+  pub count : r.writer.pages ≡ length given
+
+-- the same of some outcomes and some pages
+pub record IsUnderWay (r : Running) : Type 0 where
+  pub paper : Paper
+  pub good : IsGoodPaper paper
+  pub outcomes : List Outcome
+  pub given : List Page
+  pub running : IsRunning paper outcomes given r
+
+-- no outcome was taken yet
+pub record IsBegun (r : Running) : Type 0 where
+  pub free : IsOpen r.press
+  pub none : (paper : Paper) → IsRunning paper [] [] r
+
+-- what came of these tunes was taken behind what was taken before
+pub record AreTaken (defaults : Defaults) (paper : Paper) (flow : Bool) (tunes : List TuneText) (old new : Running) : Type 0 where
   pub outcomes : List Outcome
   pub set : AreOutcomes defaults paper flow tunes outcomes
-  pub taken : IsTaken paper outcomes t
+  pub taken : (before : List Outcome) (given : List Page) → IsRunning paper before given old → IsRunning paper (before ++ outcomes) given new
 
--- the sheet of the tunes of a book, the reports of their faults, and the answer
-pub record IsPressedBook (flow : Bool) (text : List ℕ) (b : PressedBook) : Type 0 where
+-- the text of a document up to the end of its first pages, and what stands behind them
+abbrev pub first_text : Paper → List Page → List ℕ
+first_text paper given = prolog (frame_of paper) ++ numbered page_text 1 given
+
+abbrev pub rest_text : List Page → Sheet → List ℕ
+rest_text given sheet = numbered page_text (length given + 1) (drop (length given) sheet.pages) ++ trailer (length sheet.pages)
+
+-- all that is left of the document of these outcomes was written behind these pages
+abbrev pub IsClosed : Paper → List Outcome → List Page → Stream → Result Printed Status → Type 0
+IsClosed paper outcomes given o (Ok p) = TookAll o (rest_text given (sheet_of paper outcomes)) × (p.told ≡ reports outcomes) × (p.status ≡ status_of outcomes)
+IsClosed paper outcomes given o (Err why) = WasStopped why o (rest_text given (sheet_of paper outcomes))
+
+-- these tunes were set, and the document was written up to the end of these pages
+pub record AreRunning (defaults : Defaults) (paper : Paper) (flow : Bool) (tunes : List TuneText) (o : Stream) (r : Running) : Type 0 where
   pub outcomes : List Outcome
-  pub set : AreSet flow text outcomes
-  pub sheet : IsSheetOf (paper_in text) outcomes b.sheet
-  pub told : b.told ≡ reports outcomes
-  pub status : b.status ≡ status_of outcomes
+  pub given : List Page
+  pub set : AreOutcomes defaults paper flow tunes outcomes
+  pub running : IsRunning paper outcomes given r
+  pub free : IsOpen r.press
+  pub wrote : TookAll o (first_text paper given)
+
+-- The first of these tunes were set, and the document was being written up to the last page that they fill.
+pub record AreCutOff (defaults : Defaults) (paper : Paper) (flow : Bool) (tunes : List TuneText) (o : Stream) (why : Status) : Type 0 where
+  pub before : List TuneText
+  pub rest : List TuneText
+  pub whole : before ++ rest ≡ tunes
+  pub outcomes : List Outcome
+  pub set : AreOutcomes defaults paper flow before outcomes
+  pub given : List Page
+  pub press : Press
+  pub pressed : IsPressed paper outcomes given press
+  pub free : IsOpen press
+  pub wrote : WasStopped why o (first_text paper (given ++ done_pages press))
+
+abbrev pub ArePrinted : Defaults → Paper → Bool → List TuneText → Stream → Result Running Status → Type 0
+ArePrinted defaults paper flow tunes o (Ok r) = AreRunning defaults paper flow tunes o r
+ArePrinted defaults paper flow tunes o (Err why) = AreCutOff defaults paper flow tunes o why
+
+-- how a sink counted where this answer came before a text's end
+abbrev pub WasCounted : Status → Stream → Type 0
+WasCounted status.WriteFault s = Rose s.count_before s.count_after
+WasCounted status.Memory s = s.count_after ≡ s.count_before
+WasCounted _ s = ⊥
+
+-- why the document of a book was not written to its end: memory ran out before it was begun, or all tunes were set, or some were left
+pub data IsUnprinted (flow : Bool) (text : List ℕ) (o : Stream) (why : Status) : Type 0 where
+  unbegun : why ≡ status.Memory → IsQuiet o → IsUnprinted flow text o why
+  all_set : (called : Called) → CallsPages flow text called → WasStopped why o called.page → IsUnprinted flow text o why
+  some_left : IsCutShort flow text o → WasCounted why o → IsUnprinted flow text o why
+
+abbrev pub IsPrinted : Bool → List ℕ → Stream → Result Printed Status → Type 0
+IsPrinted flow text o (Ok p) = (called : Called) × CallsPages flow text called × (p.told ≡ called.told) × (p.status ≡ called.status) × TookAll o called.page
+IsPrinted flow text o (Err why) = IsUnprinted flow text o why

@@ -7,7 +7,7 @@ use Rattle.abcps_words.specs.declared.command.Command.TheVariants as command
 use Rattle.abcps_words.specs.declared.command.TheConstants.{USAGE}
 use Rattle.abcps.specs.Called.{Called}
 use Rattle.abcps.specs.Calls.{Calls, Refuses, not_pages_line}
-use Rattle.abcps.specs.Outcome.{Stream, IsQuiet, IsRead, IsReader, ReadTooMuch, TookAll, TookPart, WasCut, WasTold}
+use Rattle.abcps.specs.Outcome.{HasFailed, HasPart, Stream, IsQuiet, IsRead, IsReader, ReadTooMuch, TookAll, WasTold}
 use Rattle.abcps.specs.declared.status.Status.{Status}
 use Rattle.abcps.specs.declared.status.Status.TheVariants as status
 
@@ -61,11 +61,11 @@ pub record Promises (s : Status) (words : List (List ℕ)) (i o e : Stream) : Ty
   -- an input that is no document, or no listing, is told so by the line of its first fault, and nothing is written to output
   pub not_pages : s ≡ status.NotPages → (c : Command) × (text : List ℕ) × IsWhole c words i text × IsRefused c text o e
   -- a fault of a sink is answered only where its count rose: output has a front of its text and errors nothing, or output has
-  -- all of it and errors a front of its own
-  pub write_fault : s ≡ status.WriteFault → (c : Command) × (text : List ℕ) × (called : Called) × IsWhole c words i text × Calls c text called × WasCut called o e
-  -- for want of memory errors has nothing, and output nothing or a front of its text
-  pub memory : s ≡ status.Memory → IsQuiet e
-      × (IsQuiet o ⊎ ((c : Command) × (text : List ℕ) × (called : Called) × IsWhole c words i text × Calls c text called × TookPart o called.page))
+  -- all of it and errors a front of its own; where `set` had tunes left, output has a front of whatever is called for of its book
+  pub write_fault : s ≡ status.WriteFault → (c : Command) × (text : List ℕ) × IsWhole c words i text × HasFailed c text o e
+  -- for want of memory errors has nothing, and output nothing or a front of its text, or of whatever is called for of a book of
+  -- which `set` had tunes left
+  pub memory : s ≡ status.Memory → IsQuiet e × (IsQuiet o ⊎ ((c : Command) × (text : List ℕ) × IsWhole c words i text × HasPart c text o))
   -- every other answer is the one that is called for, and both sinks have their whole texts
   pub done : s ≢ status.Usage → s ≢ status.ReadFault → s ≢ status.TooLong → s ≢ status.NotPages → s ≢ status.WriteFault → s ≢ status.Memory
       → (c : Command) × (text : List ℕ) × IsWhole c words i text × IsDone c s text o e

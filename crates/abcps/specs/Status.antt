@@ -1,5 +1,7 @@
--- The numbers of the answers, with which the program exits.
+-- The numbers of the answers, with which the program exits, and the answer to a document that was not written to its end.
 use Rattle.std.specs.Prelude.{ℕ}
+use Rattle.ps_write.specs.declared.steps.DocError.{DocError}
+use Rattle.ps_write.specs.declared.steps.DocError.TheVariants as errors
 use Rattle.abcps.specs.declared.status.Status.{Status}
 use Rattle.abcps.specs.declared.status.Status.TheVariants as status
 
@@ -13,3 +15,7 @@ number_of status.Memory = 5
 number_of status.NotPages = 6
 number_of status.TooLong = 7
 number_of status.NotLeast = 8
+
+abbrev pub status_after : DocError → Status
+status_after (errors.Write e) = status.WriteFault
+status_after errors.Memory = status.Memory

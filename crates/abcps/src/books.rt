@@ -11,7 +11,8 @@ ghost use Rattle.abcps.specs.Books.{AreSet, paper_in, status_of, systems_by, sys
 ghost use Rattle.abcps.specs.Outcome.{IsAnswer, IsAnswered, IsEnd};
 ghost use Rattle.abcps_words.specs.declared.command.Command.TheVariants as command;
 
-use crate::pressing::{press_book, status_if};
+use crate::pressing::status_if;
+use crate::printing::print_book;
 use crate::status::Status;
 use crate::telling::{end, write_both};
 use abc_header::{Paper, read_paper};
@@ -20,7 +21,7 @@ use eng_io::{MemSink, Sink};
 use gen_book::make;
 use mus_units::{Memory, Row, Text};
 use ps_text::Sheet;
-use ps_write::{DocError, write_document};
+use ps_write::write_document;
 use set_book::{Gate, Open, Outcome, set_all};
 use set_lists::{
     Trial, fault_count, has_fault, outcomes_are_listable, put_listing, put_reports, put_systems,
@@ -75,30 +76,7 @@ fn reports_of(alloc: Global, outcomes: &[Outcome]) -> Result<Text, Memory>
     Ok(text)
 }
 
-/// Writes the document of a sheet on output, and then tells errors a text.
-#[tactic(auto, using(crate::proofs::Answered::answered_end))]
-fn write_sheet<O: Sink, E: Sink>(
-    alloc: Global,
-    sheet: &Sheet,
-    told: &[u8],
-    status: Status,
-    output: &mut O,
-    errors: &mut E,
-) -> Status
-    requires sheet { IsSheet sheet.now }
-    requires end { IsEnd status }
-    ensures { IsAnswered (λ called. called ≡ record { page = document sheet.now; told = told.now; status = status }) result
-        (record { before = O.taken output.old; after = O.taken output.new; count_before = O.faults output.old; count_after = O.faults output.new })
-        (record { before = E.taken errors.old; after = E.taken errors.new; count_before = E.faults errors.old; count_after = E.faults errors.new }) }
-{
-    match write_document(alloc, sheet, output) {
-        Ok(()) => end(errors, told, status),
-        Err(DocError::Write(_)) => Status::WriteFault,
-        Err(DocError::Memory) => Status::Memory,
-    }
-}
-
-/// Writes the pages of a book, and tells the faults of its tunes.
+/// Writes the pages of a book as its tunes are set, and then tells the faults of its tunes.
 pub(crate) fn set<R: Threads + Sync, O: Sink, E: Sink, G: Gate + Sync>(
     rt: &R,
     alloc: Global,
@@ -116,11 +94,10 @@ pub(crate) fn set<R: Threads + Sync, O: Sink, E: Sink, G: Gate + Sync>(
         (record { before = O.taken output.old; after = O.taken output.new; count_before = O.faults output.old; count_after = O.faults output.new })
         (record { before = E.taken errors.old; after = E.taken errors.new; count_before = E.faults errors.old; count_after = E.faults errors.new }) }
 {
-    let Ok(book) = press_book(rt, alloc, text, flow, jobs, gate) else {
-        return Status::Memory;
-    };
-    let told = book.told.as_slice();
-    write_sheet(alloc, &book.sheet, told, book.status, output, errors)
+    match print_book(rt, alloc, text, flow, jobs, output, gate) {
+        Ok(printed) => end(errors, printed.told.as_slice(), printed.status),
+        Err(why) => why,
+    }
 }
 
 /// The systems of outcomes, or the listing of their spans.

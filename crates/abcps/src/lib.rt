@@ -6,6 +6,7 @@ mod inspecting;
 mod judging;
 mod making;
 mod pressing;
+mod printing;
 pub mod report;
 pub mod running;
 pub mod status;

@@ -1,41 +1,44 @@
-ghost use Rattle.std.specs.Prelude.{◌≡◌, ◌≤◌, ◌^◌, ◌++◌, [], List, false, All, IfOk, OnOk, length};
+ghost use Rattle.std.specs.Prelude.{◌≡◌, ◌+◌, ◌^◌, ◌<◌, ◌++◌, [], List, false, All, IfOk, OnOk, length};
 ghost use Rattle.abc_lines.specs.Good.{IsGoodTune};
+ghost use Rattle.abc_header.specs.declared.defaults.Defaults as defaults;
+ghost use Rattle.abc_header.specs.declared.paper.Paper as paper;
 ghost use Rattle.abc_header.specs.Good.{IsGoodDefaults};
 ghost use Rattle.abc_header.specs.Papers.{IsGoodPaper};
+ghost use Rattle.ps_text.specs.declared.sheet.Page as page;
+ghost use Rattle.ps_text.specs.Document.{numbered, page_text};
+ghost use Rattle.ps_text.specs.Prolog.{prolog};
+ghost use Rattle.ps_text.specs.Range.{IsPage};
 ghost use Rattle.set_book.specs.declared.outcome.Outcome as outcome;
-ghost use Rattle.set_pages.specs.Press.{IsOpen};
-ghost use Rattle.set_pages.specs.Sheet.{IsSetUnder};
+ghost use Rattle.set_pages.specs.Press.{IsOpen, done_pages};
+ghost use Rattle.set_pages.specs.Sheet.{IsSetUnder, frame_of};
 ghost use Rattle.abcps.specs.Outcome.{IsEnd};
-ghost use Rattle.abcps.specs.Pressed.{AreTaken, IsPressedBook, IsTaken, status_if};
+ghost use Rattle.abcps.specs.Pressed.{IsBegun, IsClosed, IsRunning, IsUnderWay, WasGiven, status_if};
 
 use crate::status::Status;
-use abc_header::{Defaults, Paper, read_defaults, read_paper};
-use abc_lines::{TuneText, cut_book};
+use abc_header::Paper;
+use eng_io::Sink;
 use mus_units::{Memory, Text};
-use ps_text::Sheet;
-use set_book::{Gate, Outcome, set_tunes};
+use ps_text::Page;
+use ps_write::{DocWriter, begin, finish, page};
+use set_book::Outcome;
 use set_lists::{has_fault, put_reports};
-use set_pages::{Press, open_press, press_outcomes, sheet_of_press};
+use set_pages::{Press, close_press, frame_of, open_press, press_outcomes, take_done};
 use std::alloc::Global;
-use std::thread::Threads;
 
-/// So many tunes are set before what came of them is pressed and dropped.
-const BATCH: usize = 64;
-
-/// What was taken of the tunes of a book so far: the pages, the reports of the faults, and whether
-/// there was one.
+/// What runs along while the tunes of a book are set and its pages are written: the pages that were
+/// not written yet, the reports of the faults so far, whether there was one, and the document.
 #[derive(Debug, Drop)]
-pub(crate) struct Taken {
+pub(crate) struct Running {
     press: Press,
     told: Text,
     refused: bool,
+    writer: DocWriter,
 }
 
-/// A book as it is told and written: the sheet of its tunes without fault, the reports of the
-/// others, and the answer.
+/// What is left to tell of a book whose document was written: the reports of its faults, and the
+/// answer.
 #[derive(Debug, Drop)]
-pub(crate) struct PressedBook {
-    pub(crate) sheet: Sheet,
+pub(crate) struct Printed {
     pub(crate) told: Text,
     pub(crate) status: Status,
 }
@@ -52,83 +55,101 @@ pub(crate) fn status_if(refused: bool) -> Status
     }
 }
 
-fn none_taken(alloc: Global) -> Taken
-    ensures press { IsOpen result.press }
-    ensures taken { (paper : _) → IsTaken paper [] result }
+/// Begins the document of a book on its paper, before any of its tunes is set.
+pub(crate) fn begin_run<O: Sink>(
+    alloc: Global,
+    paper: &Paper,
+    output: &mut O,
+) -> Result<Running, Status>
+    requires { IsGoodPaper paper.now }
+    ensures wrote { WasGiven (record { before = O.taken output.old; after = O.taken output.new; count_before = O.faults output.old; count_after = O.faults output.new }) (prolog (frame_of paper.now)) result }
+    ensures begun { IfOk result IsBegun }
 {
-    Taken {
+    let writer = begin(alloc, &frame_of(paper), output)?;
+    Ok(Running {
         press: open_press(alloc),
         told: Text::new(alloc),
         refused: false,
-    }
+        writer,
+    })
 }
 
-/// Takes what came of some tunes.
-fn take(alloc: Global, paper: &Paper, outcomes: &[Outcome], taken: &mut Taken) -> Result<(), Memory>
+/// Takes what came of some tunes behind those before them.
+pub(crate) fn take(
+    alloc: Global,
+    paper: &Paper,
+    outcomes: &[Outcome],
+    run: &mut Running,
+) -> Result<(), Memory>
     requires paper { IsGoodPaper paper.now }
     requires outcomes { All (IsSetUnder paper.now) outcomes.now }
-    requires open { IsOpen taken.old.press }
-    ensures taken { OnOk result ((before : List outcome.Outcome) → IsTaken paper.now before taken.old → IsTaken paper.now (before ++ outcomes.now) taken.new) }
-    ensures open { OnOk result (IsOpen taken.new.press) }
+    requires open { IsOpen run.old.press }
+    ensures running { OnOk result ((before : List outcome.Outcome) (given : List page.Page) → IsRunning paper.now before given run.old → IsRunning paper.now (before ++ outcomes.now) given run.new) }
+    ensures open { OnOk result (IsOpen run.new.press) }
 {
-    press_outcomes(alloc, paper, outcomes, &mut taken.press)?;
-    put_reports(&mut taken.told, outcomes)?;
-    taken.refused = taken.refused || has_fault(outcomes);
+    press_outcomes(alloc, paper, outcomes, &mut run.press)?;
+    put_reports(&mut run.told, outcomes)?;
+    run.refused = run.refused || has_fault(outcomes);
     Ok(())
 }
 
-/// Sets tunes a batch at a time, and keeps of each batch no more than is written of it.
-fn take_all<R: Threads + Sync, G: Gate + Sync>(
-    rt: &R,
+/// Writes pages behind those that were written.
+fn write_pages<O: Sink>(
     alloc: Global,
-    tunes: &[TuneText],
-    defaults: &Defaults,
-    paper: &Paper,
-    flow: bool,
-    jobs: u8,
-    gate: &G,
-) -> Result<Taken, Memory>
-    requires tunes { All IsGoodTune tunes.now }
-    requires defaults { IsGoodDefaults defaults.now }
-    requires paper { IsGoodPaper paper.now }
-    requires some { 1 ≤ jobs }
-    requires few { jobs ≤ 64 }
-    ensures { IfOk result (AreTaken defaults.now paper.now flow tunes.now) }
+    pages: &[Page],
+    writer: DocWriter,
+    output: &mut O,
+) -> Result<DocWriter, Status>
+    requires good { All IsPage pages.now }
+    requires few { writer.pages + length pages.now < 2 ^ 32 }
+    ensures wrote { WasGiven (record { before = O.taken output.old; after = O.taken output.new; count_before = O.faults output.old; count_after = O.faults output.new }) (numbered page_text (writer.pages + 1) pages.now) result }
+    ensures count { IfOk result (λ next. next.pages ≡ writer.pages + length pages.now) }
 {
-    let mut taken = none_taken(alloc);
-    let mut rest = tunes;
-    'batches: while !rest.is_empty() {
-        let (batch, later) = rest.split_at(rest.len().min(BATCH));
-        let outcomes = set_tunes(rt, alloc, batch, defaults, paper, flow, jobs, gate)?;
-        take(alloc, paper, outcomes.as_slice(), &mut taken)?;
-        rest = later;
+    let mut next = writer;
+    for one in pages {
+        next = page(alloc, next, one, output)?;
     }
-    Ok(taken)
+    Ok(next)
 }
 
-/// The sheet of a book, its reports and the answer.
-pub(crate) fn press_book<R: Threads + Sync, G: Gate + Sync>(
-    rt: &R,
+/// Writes the pages that are done, and keeps them no longer.
+pub(crate) fn write_done<O: Sink>(
     alloc: Global,
-    text: &[u8],
-    flow: bool,
-    jobs: u8,
-    gate: &G,
-) -> Result<PressedBook, Memory>
-    requires some { 1 ≤ jobs }
-    requires few { jobs ≤ 64 }
-    requires within { length text.now ≤ 2 ^ 30 }
-    ensures { IfOk result (IsPressedBook flow text.now) }
+    run: Running,
+    output: &mut O,
+) -> Result<Running, Status>
+    requires way { IsUnderWay run }
+    requires open { IsOpen run.press }
+    ensures wrote { WasGiven (record { before = O.taken output.old; after = O.taken output.new; count_before = O.faults output.old; count_after = O.faults output.new }) (numbered page_text (run.writer.pages + 1) (done_pages run.press)) result }
+    ensures running { IfOk result (λ next. (paper : paper.Paper) (outcomes : List outcome.Outcome) (given : List page.Page) → IsRunning paper outcomes given run → IsRunning paper outcomes (given ++ done_pages run.press) next) }
+    ensures open { IfOk result (λ next. IsOpen next.press) }
 {
-    let book = cut_book(alloc, text)?;
-    let paper = read_paper(&book);
-    let defaults = read_defaults(&book);
-    let tunes = book.tunes.as_slice();
-    let taken = take_all(rt, alloc, tunes, &defaults, &paper, flow, jobs, gate)?;
-    let sheet = sheet_of_press(alloc, &paper, taken.press)?;
-    Ok(PressedBook {
-        sheet,
-        told: taken.told,
-        status: status_if(taken.refused),
+    let mut press = run.press;
+    let done = take_done(alloc, &mut press);
+    let writer = write_pages(alloc, done.as_slice(), run.writer, output)?;
+    Ok(Running {
+        press,
+        told: run.told,
+        refused: run.refused,
+        writer,
+    })
+}
+
+/// Writes the pages that are left, and the end of the document.
+pub(crate) fn end_run<O: Sink>(
+    alloc: Global,
+    run: Running,
+    output: &mut O,
+) -> Result<Printed, Status>
+    requires way { IsUnderWay run }
+    requires open { IsOpen run.press }
+    ensures { (paper : paper.Paper) (outcomes : List outcome.Outcome) (given : List page.Page) → IsGoodPaper paper → IsRunning paper outcomes given run → IsClosed paper outcomes given (record { before = O.taken output.old; after = O.taken output.new; count_before = O.faults output.old; count_after = O.faults output.new }) result }
+{
+    let pages = close_press(alloc, run.press)?;
+    let writer = write_pages(alloc, pages.as_slice(), run.writer, output)?;
+    finish(alloc, writer, output)?;
+    Ok(Printed {
+        told: run.told,
+        status: status_if(run.refused),
     })
 }

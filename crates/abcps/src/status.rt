@@ -1,5 +1,9 @@
 ghost use Rattle.std.specs.Prelude.{◌≡◌};
-ghost use Rattle.abcps.specs.Status.{number_of};
+ghost use Rattle.abcps.specs.Status.{number_of, status_after};
+ghost use Rattle.abcps.specs.declared.status.Status.TheVariants as status;
+
+use mus_units::Memory;
+use ps_write::DocError;
 
 /// How a run ended.
 #[derive(Clone, Copy, Debug, PartialEq, Eq)]
@@ -39,6 +43,25 @@ impl Status {
             Status::NotPages => 6,
             Status::TooLong => 7,
             Status::NotLeast => 8,
+        }
+    }
+}
+
+impl From<Memory> for Status {
+    ghost from_gives = { λ _ s. s ≡ status.Memory };
+
+    fn from(_: Memory) -> Status {
+        Status::Memory
+    }
+}
+
+impl From<DocError> for Status {
+    ghost from_gives = { λ e s. s ≡ status_after e };
+
+    fn from(error: DocError) -> Status {
+        match error {
+            DocError::Write(_) => Status::WriteFault,
+            DocError::Memory => Status::Memory,
         }
     }
 }

@@ -10,15 +10,17 @@ use Rattle.lay_pages.specs.declared.filling.Block.{Block}
 use Rattle.lay_pages.specs.declared.filling.Place.{Place}
 use Rattle.lay_pages.specs.declared.filling.Spot.{Spot}
 use Rattle.lay_pages.specs.Filling.{AreGoodBlocks, IsLoose, behind_after, next_place, place_by, spot_at, spots_behind, spots_from, spots_of, standing_from, under}
+use Rattle.ps_text.specs.declared.sheet.Page.{Page}
 use Rattle.set_book.specs.declared.outcome.Outcome.{Outcome}
 use Rattle.set_pages.specs.declared.pages.Pages.{Pages}
 use Rattle.set_pages.specs.declared.press.Press.{Press}
 use Rattle.set_pages.specs.Drawings.{Drawing, all_blocks, all_drawings, outcome_blocks, outcome_drawings}
-use Rattle.set_pages.specs.Filling.{with_drawing, with_drawings}
-use Rattle.set_pages.specs.Press.{IsPressed, no_pages}
+use Rattle.set_pages.specs.Filling.{no_pages, restored, with_drawing, with_drawings}
+use Rattle.set_pages.specs.Press.{IsPressed}
 use Rattle.set_pages.specs.Ready.{IsDrawn}
 use Rattle.set_pages.specs.Sheet.{IsSetUnder, all_spots}
 use Rattle.set_pages.proofs.Fitting.{group_append, result_loose}
+use Rattle.set_pages.proofs.Restored.{all_same, gone_all}
 use Rattle.set_pages.proofs.Standing.{good_append}
 
 -- the place of a block doesn't hang on what stands behind its group
@@ -43,7 +45,7 @@ standing_append high place block (next ∷ bs) more loose =
     ap (λ p. standing_from high p (next ∷ bs ++ more)) (next_same high place block next bs more loose)
     ∙ standing_append high (next_place high place block (next ∷ bs)) next bs more loose
 
-spots_join : (high : ℕ) (bs more : List Block) → IsLoose bs → spots_of high (bs ++ more) ≡ spots_of high bs ++ spots_behind high (behind_after high None bs) more
+pub spots_join : (high : ℕ) (bs more : List Block) → IsLoose bs → spots_of high (bs ++ more) ≡ spots_of high bs ++ spots_behind high (behind_after high None bs) more
 spots_join high [] more loose = refl
 spots_join high (block ∷ bs) more loose = from_append high (record { page = 0; down = 0 }) block bs more loose
 
@@ -69,7 +71,7 @@ zip_append R [] ys (z ∷ zs) ws front back = absurd front
 zip_append R (x ∷ xs) ys [] ws front back = absurd front
 zip_append R (x ∷ xs) ys (z ∷ zs) ws front back = (front.0, zip_append R xs ys zs ws front.1 back)
 
-drawn_join : (R : Drawing → Spot → Type 0) (width : ℕ) (p : Pages) (xs ys : List Drawing) (zs ws : List Spot) → AllZip R xs zs
+pub drawn_join : (R : Drawing → Spot → Type 0) (width : ℕ) (p : Pages) (xs ys : List Drawing) (zs ws : List Spot) → AllZip R xs zs
     → with_drawings width p (xs ++ ys) (zs ++ ws) ≡ with_drawings width (with_drawings width p xs zs) ys ws
 drawn_join R width p [] ys [] ws h = refl
 drawn_join R width p [] ys (z ∷ zs) ws h = absurd h
@@ -77,10 +79,10 @@ drawn_join R width p (x ∷ xs) ys [] ws h = absurd h
 drawn_join R width p (x ∷ xs) ys (z ∷ zs) ws h = drawn_join R width (with_drawing width p x z) xs ys zs ws h.1
 
 -- the blocks, the drawings and the spots of outcomes behind others
-blocks_append : (outcomes more : List Outcome) → all_blocks (outcomes ++ more) ≡ all_blocks outcomes ++ all_blocks more
+pub blocks_append : (outcomes more : List Outcome) → all_blocks (outcomes ++ more) ≡ all_blocks outcomes ++ all_blocks more
 blocks_append outcomes more = flat_map-append outcome_blocks outcomes more
 
-drawings_append : (outcomes more : List Outcome) → all_drawings (outcomes ++ more) ≡ all_drawings outcomes ++ all_drawings more
+pub drawings_append : (outcomes more : List Outcome) → all_drawings (outcomes ++ more) ≡ all_drawings outcomes ++ all_drawings more
 drawings_append outcomes more = flat_map-append outcome_drawings outcomes more
 
 spots_append : (paper : Paper) (outcomes more : List Outcome) (p : Press) (spots : List Spot) → p.behind ≡ behind_after (height_of paper) None (all_blocks outcomes)
@@ -92,16 +94,18 @@ spots_append paper outcomes more p spots behind at =
     ∙ ap (λ ss. all_spots paper outcomes ++ ss) (sym at)
 
 -- outcomes that are pressed behind others
-pub pressed_more : (paper : Paper) (outcomes more : List Outcome) (p q : Press) (spots : List Spot) → IsPressed paper outcomes p → All (IsSetUnder paper) more
+pub pressed_more : (paper : Paper) (outcomes more : List Outcome) (given : List Page) (p q : Press) (spots : List Spot) → IsPressed paper outcomes given p → All (IsSetUnder paper) more
     → spots ≡ spots_behind (height_of paper) p.behind (all_blocks more) → q.pages ≡ with_drawings (width_of paper) p.pages (all_drawings more) spots
     → q.behind ≡ behind_after (height_of paper) p.behind (all_blocks more) → AllZip (IsDrawn (width_of paper)) (all_drawings more) spots → AreGoodBlocks (all_blocks more)
-    → IsPressed paper (outcomes ++ more) q
-pressed_more paper outcomes more p q spots pressed set at pages behind drawn good =
+    → IsPressed paper (outcomes ++ more) given q
+pressed_more paper outcomes more given p q spots pressed set at pages behind drawn good =
     let joined = spots_append paper outcomes more p spots pressed.behind at in
     record {
       set = All-append (IsSetUnder paper) outcomes more pressed.set set;
+      gone = ap (λ (r : Pages). r.gone) pages ∙ gone_all (width_of paper) p.pages (all_drawings more) spots ∙ pressed.gone;
       pages =
-          pages ∙ ap (λ r. with_drawings (width_of paper) r (all_drawings more) spots) pressed.pages
+          ap (restored given) pages ∙ all_same given (width_of paper) p.pages (all_drawings more) spots pressed.gone
+          ∙ ap (λ r. with_drawings (width_of paper) r (all_drawings more) spots) pressed.pages
           ∙ sym (drawn_join (IsDrawn (width_of paper)) (width_of paper) no_pages (all_drawings outcomes) (all_drawings more) (all_spots paper outcomes) spots pressed.drawn)
           ∙ ap (λ ds. with_drawings (width_of paper) no_pages ds (all_spots paper outcomes ++ spots)) (sym (drawings_append outcomes more))
           ∙ ap (λ ss. with_drawings (width_of paper) no_pages (all_drawings (outcomes ++ more)) ss) (sym joined);

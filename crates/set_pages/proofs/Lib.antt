@@ -1,5 +1,6 @@
 pub mod Zips
 pub mod Turned
+pub mod Restored
 pub mod Ordered
 pub mod Fitting
 pub mod Stacks
@@ -8,5 +9,6 @@ pub mod Blocking
 pub mod Standing
 pub mod Readying
 pub mod Stepping
-pub mod Whole
 pub mod Joined
+pub mod Fronts
+pub mod Whole

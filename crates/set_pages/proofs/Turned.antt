@@ -8,8 +8,7 @@ use Rattle.lay_pages.specs.declared.filling.Spot.{Spot}
 use Rattle.ps_text.specs.declared.sheet.Page.{Page}
 use Rattle.set_pages.specs.declared.pages.Pages.{Pages}
 use Rattle.set_pages.specs.Drawings.{Drawing, drawn}
-use Rattle.set_pages.specs.Filling.{turned, with_drawing, with_drawings, with_items}
-use Rattle.set_pages.specs.Press.{no_pages}
+use Rattle.set_pages.specs.Filling.{done_count, no_pages, turned, with_drawing, with_drawings, with_items}
 use Rattle.set_pages.specs.Ready.{AreRising, AreRisingFrom}
 use Rattle.set_pages.specs.Sheet.{items_on, page_count, pages_from, pages_of}
 
@@ -65,14 +64,14 @@ count_last s [] = refl
 count_last s (next ∷ ss) = count_last next ss
 
 -- where the pages stand when a block comes
-stays : (width : ℕ) (p : Pages) (d : Drawing) (s : Spot) → s.page ≡ length p.done → with_drawing width p d s ≡ with_items p (drawn width s.top d)
+stays : (width : ℕ) (p : Pages) (d : Drawing) (s : Spot) → s.page ≡ done_count p → with_drawing width p d s ≡ with_items p (drawn width s.top d)
 stays width p d s e =
-    let test : nat_lt (length p.done) s.page ≡ false = grind (arith, nat_tests) in
+    let test : nat_lt (done_count p) s.page ≡ false = grind (arith, nat_tests) in
     ap (λ b. with_items (cond b (turned p) p) (drawn width s.top d)) test
 
-turns : (width : ℕ) (p : Pages) (d : Drawing) (s : Spot) → s.page ≡ suc (length p.done) → with_drawing width p d s ≡ with_items (turned p) (drawn width s.top d)
+turns : (width : ℕ) (p : Pages) (d : Drawing) (s : Spot) → s.page ≡ suc (done_count p) → with_drawing width p d s ≡ with_items (turned p) (drawn width s.top d)
 turns width p d s e =
-    let test : nat_lt (length p.done) s.page ≡ true = grind (arith, nat_tests) in
+    let test : nat_lt (done_count p) s.page ≡ true = grind (arith, nat_tests) in
     ap (λ b. with_items (cond b (turned p) p) (drawn width s.top d)) test
 
 -- what is still put, and the pages that it makes
@@ -81,9 +80,9 @@ made_from width p k ds ss n = p.done ++ record { items = p.items ++ items_on wid
 
 -- the same for what stands behind a block
 abbrev pub Makes : ℕ → List Drawing → List Spot → Type 0
-Makes width ds ss = (p : Pages) (k n : ℕ) → length p.done ≡ k → length ds ≡ length ss → AreRisingFrom k ss → k + n ≡ last_page k ss → closed (with_drawings width p ds ss) ≡ made_from width p k ds ss n
+Makes width ds ss = (p : Pages) (k n : ℕ) → done_count p ≡ k → length ds ≡ length ss → AreRisingFrom k ss → k + n ≡ last_page k ss → closed (with_drawings width p ds ss) ≡ made_from width p k ds ss n
 
-run_here : (width : ℕ) (p : Pages) (k : ℕ) (d : Drawing) (ds : List Drawing) (s : Spot) (ss : List Spot) (n : ℕ) → Makes width ds ss → length p.done ≡ k → length ds ≡ length ss → AreRisingFrom s.page ss → k + n ≡ last_page s.page ss
+run_here : (width : ℕ) (p : Pages) (k : ℕ) (d : Drawing) (ds : List Drawing) (s : Spot) (ss : List Spot) (n : ℕ) → Makes width ds ss → done_count p ≡ k → length ds ≡ length ss → AreRisingFrom s.page ss → k + n ≡ last_page s.page ss
     → s.page ≡ k → closed (with_drawings width p (d ∷ ds) (s ∷ ss)) ≡ made_from width p k (d ∷ ds) (s ∷ ss) n
 run_here width p k d ds s ss n makes at same rising count e =
     ap (λ q. closed (with_drawings width q ds ss)) (stays width p d s (e ∙ sym at))
@@ -92,10 +91,10 @@ run_here width p k d ds s ss n makes at same rising count e =
     (append_assoc p.items (drawn width s.top d) (items_on width k ds ss) ∙ ap (λ more. p.items ++ more) (sym (on_here width k d ds s ss e)))
     ∙ ap (λ pages. p.done ++ record { items = p.items ++ items_on width k (d ∷ ds) (s ∷ ss) } ∷ pages) (sym (pages_past width d ds s ss (suc k) n (omega arith)))
 
-turned_count : (p : Pages) (k : ℕ) → length p.done ≡ k → length (turned p).done ≡ suc k
-turned_count p k at = length-append p.done (record { items = p.items } ∷ []) ∙ omega arith
+turned_count : (p : Pages) (k : ℕ) → done_count p ≡ k → done_count (turned p) ≡ suc k
+turned_count p k at = let more = length-append p.done (record { items = p.items } ∷ []) in omega (arith, more)
 
-run_next : (width : ℕ) (p : Pages) (k : ℕ) (d : Drawing) (ds : List Drawing) (s : Spot) (ss : List Spot) (n : ℕ) → Makes width ds ss → length p.done ≡ k → length ds ≡ length ss → AreRisingFrom s.page ss → suc k + n ≡ last_page s.page ss
+run_next : (width : ℕ) (p : Pages) (k : ℕ) (d : Drawing) (ds : List Drawing) (s : Spot) (ss : List Spot) (n : ℕ) → Makes width ds ss → done_count p ≡ k → length ds ≡ length ss → AreRisingFrom s.page ss → suc k + n ≡ last_page s.page ss
     → s.page ≡ suc k → closed (with_drawings width p (d ∷ ds) (s ∷ ss)) ≡ made_from width p k (d ∷ ds) (s ∷ ss) (suc n)
 run_next width p k d ds s ss n makes at same rising count e =
     ap (λ q. closed (with_drawings width q ds ss)) (turns width p d s (e ∙ ap suc (sym at)))
@@ -107,7 +106,7 @@ run_next width p k d ds s ss n makes at same rising count e =
     (sym (append-nil p.items) ∙ ap (λ more. p.items ++ more)
     (sym (on_other width k d ds s ss (test_more s.page k (omega arith)) ∙ none_on width k s.page ds ss rising (omega arith))))
 
-run_next_by : (width : ℕ) (p : Pages) (k : ℕ) (d : Drawing) (ds : List Drawing) (s : Spot) (ss : List Spot) (n : ℕ) → Makes width ds ss → length p.done ≡ k → length ds ≡ length ss → AreRisingFrom s.page ss → k + n ≡ last_page s.page ss
+run_next_by : (width : ℕ) (p : Pages) (k : ℕ) (d : Drawing) (ds : List Drawing) (s : Spot) (ss : List Spot) (n : ℕ) → Makes width ds ss → done_count p ≡ k → length ds ≡ length ss → AreRisingFrom s.page ss → k + n ≡ last_page s.page ss
     → s.page ≡ suc k → closed (with_drawings width p (d ∷ ds) (s ∷ ss)) ≡ made_from width p k (d ∷ ds) (s ∷ ss) n
 run_next_by width p k d ds s ss zero makes at same rising count e = let high = last_high s.page ss rising in absurd (omega arith)
 run_next_by width p k d ds s ss (suc n) makes at same rising count e = run_next width p k d ds s ss n makes at same rising (omega arith) e

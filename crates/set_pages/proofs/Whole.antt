@@ -1,5 +1,6 @@
 -- The whole sheet: its value, and that it may be written.
 use Rattle.std.proofs.Common.{◌≡◌, refl, sym, ap, ◌∙◌, subst, ℕ, ◌-◌, ◌*◌, ◌/◌, ◌+◌, ◌^◌, ◌<◌, ◌≤◌, List, [], ◌∷◌, ◌++◌, length, true, false, Option, Some, None, arith}
+use Rattle.std.proofs.lemmas.List.{append_assoc, length-append}
 use Rattle.std.specs.Prelude.{All, is_some}
 use Rattle.std.specs.List.{AllZip}
 use Rattle.abc_header.specs.declared.paper.Paper.{Paper}
@@ -18,15 +19,17 @@ use Rattle.set_book.specs.declared.outcome.Outcome.{Outcome}
 use Rattle.set_pages.specs.declared.pages.Pages.{Pages}
 use Rattle.set_pages.specs.declared.press.Press.{Press}
 use Rattle.set_pages.specs.Drawings.{Drawing, all_blocks, all_drawings}
-use Rattle.set_pages.specs.Filling.{turned, with_drawings}
-use Rattle.set_pages.specs.Press.{IsPressed, IsSheetOf, no_pages}
+use Rattle.set_pages.specs.Filling.{done_count, no_pages, restored, turned, with_drawings}
+use Rattle.set_pages.specs.Press.{AreLast, IsOpen, IsPressed, IsSheetOf, done_pages}
 use Rattle.set_pages.specs.Ready.{AreRising, IsDrawn, IsReady, IsReadyOn}
-use Rattle.set_pages.specs.Sheet.{AreStanding, IsSetUnder, ShowsDrawing, all_spots, frame_of, page_count, pages_of, sheet_of}
+use Rattle.set_pages.specs.Sheet.{AreStanding, IsSetUnder, ShowsDrawing, all_spots, frame_of, page_count, pages_of, points, sheet_of}
 use Rattle.set_pages.proofs.Fitting.{all_fit}
+use Rattle.set_pages.proofs.Fronts.{all_left, all_right, done_first}
 use Rattle.set_pages.proofs.Joined.{pressed_more}
 use Rattle.set_pages.proofs.Ordered.{all_begun, pages_good}
 use Rattle.set_pages.proofs.Blocking.{all_clear, all_ready}
 use Rattle.set_pages.proofs.Readying.{all_whole, each_fits}
+use Rattle.set_pages.proofs.Restored.{gone_more, taken_same}
 use Rattle.set_pages.proofs.Standing.{all_count, ready_at, rising, within_count}
 use Rattle.set_pages.proofs.Turned.{all_put, closed}
 use Rattle.set_pages.proofs.Zips.{zip_length, zip_weaker}
@@ -54,11 +57,11 @@ ready_spots paper outcomes high slice blocks spots at paper_good h a b good set 
     (ready_at high (all_drawings outcomes) slice spots low (subst AreGoodBlocks (sym a) good) on within)
 
 -- outcomes that are pressed behind others, by what is at hand
-pub pressed_by : (paper : Paper) (outcomes more : List Outcome) (p q : Press) (width high : ℕ) (slice : List Block) (spots at : List Spot) → width ≡ width_of paper → high ≡ height_of paper → slice ≡ all_blocks more → All (IsSetUnder paper) more
+pub pressed_by : (paper : Paper) (outcomes more : List Outcome) (given : List Page) (p q : Press) (width high : ℕ) (slice : List Block) (spots at : List Spot) → width ≡ width_of paper → high ≡ height_of paper → slice ≡ all_blocks more → All (IsSetUnder paper) more
     → spots ≡ spots_behind high p.behind slice → at ≡ spots → q.pages ≡ with_drawings width p.pages (all_drawings more) at → q.behind ≡ behind_after high p.behind slice
-    → AllZip (IsDrawn width) (all_drawings more) at → AreGoodBlocks slice → IsPressed paper outcomes p → IsPressed paper (outcomes ++ more) q
-pressed_by paper outcomes more p q width high slice spots at w h b set s e pages behind drawn good pressed =
-    pressed_more paper outcomes more p q at pressed set
+    → AllZip (IsDrawn width) (all_drawings more) at → AreGoodBlocks slice → IsPressed paper outcomes given p → IsPressed paper (outcomes ++ more) given q
+pressed_by paper outcomes more given p q width high slice spots at w h b set s e pages behind drawn good pressed =
+    pressed_more paper outcomes more given p q at pressed set
     (e ∙ s ∙ ap (λ n. spots_behind n p.behind slice) h ∙ ap (λ l. spots_behind (height_of paper) p.behind l) b)
     (pages ∙ ap (λ n. with_drawings n p.pages (all_drawings more) at) w)
     (behind ∙ ap (λ n. behind_after n p.behind slice) h ∙ ap (λ l. behind_after (height_of paper) p.behind l) b)
@@ -86,36 +89,88 @@ none_put : (width : ℕ) (ds : List Drawing) → (with_drawings width no_pages d
 none_put width [] = refl
 none_put width (d ∷ ds) = refl
 
-all_done : (width high : ℕ) (ds : List Drawing) (bs : List Block) (p : Press) → AllZip (IsDrawn width) ds (spots_of high bs) → AreRising (spots_of high bs)
-    → p.pages ≡ with_drawings width no_pages ds (spots_of high bs) → p.behind ≡ behind_after high None bs → done_of p.behind p.pages ≡ pages_of width ds (spots_of high bs)
-all_done width high ds [] p drawn rise pages behind = ap (λ b. done_of b p.pages) behind ∙ ap (λ q. q.done) pages ∙ none_put width ds
-all_done width high ds (block ∷ bs) p drawn rise pages behind =
+all_done : (width high : ℕ) (ds : List Drawing) (bs : List Block) (behind : Option Standing) (p : Pages) → AllZip (IsDrawn width) ds (spots_of high bs) → AreRising (spots_of high bs)
+    → p ≡ with_drawings width no_pages ds (spots_of high bs) → behind ≡ behind_after high None bs → done_of behind p ≡ pages_of width ds (spots_of high bs)
+all_done width high ds [] behind p drawn rise pages is = ap (λ b. done_of b p) is ∙ ap (λ q. q.done) pages ∙ none_put width ds
+all_done width high ds (block ∷ bs) behind p drawn rise pages is =
     let first : Place = record { page = 0; down = 0 } in
-    ap (λ b. done_of b p.pages) behind ∙ some_behind high first block bs p.pages ∙ ap closed pages
+    ap (λ b. done_of b p) is ∙ some_behind high first block bs p ∙ ap closed pages
     ∙ all_put width ds (spot_at high first) (spots_from high (next_place high first block bs) bs) (zip_length (IsDrawn width) ds (spots_of high (block ∷ bs)) drawn) rise
 
-pressed_value : (paper : Paper) (outcomes : List Outcome) (frame : Frame) (done : List Page) → frame ≡ frame_of paper
-    → done ≡ pages_of (width_of paper) (all_drawings outcomes) (all_spots paper outcomes) → record { frame = frame; pages = done } ≡ sheet_of paper outcomes
-unfolding sheet_of
-pressed_value paper outcomes frame done f p = ap (λ x. record { frame = x; pages = done }) f ∙ ap (λ x. record { frame = frame_of paper; pages = x }) p
+-- with the pages that were given up before them
+done_behind : (given : List Page) (behind : Option Standing) (p : Pages) → given ++ done_of behind p ≡ done_of behind (restored given p)
+done_behind given None p = refl
+done_behind given (Some last) p = sym (append_assoc given p.done (record { items = p.items } ∷ []))
 
--- the sheet of what was pressed
-pub sheet_pressed : (paper : Paper) (outcomes : List Outcome) (press : Press) (frame : Frame) (done : List Page) → frame ≡ frame_of paper → IsFrame frame → length done < 2 ^ 32
-    → done ≡ done_of press.behind press.pages → IsPressed paper outcomes press → IsSheetOf paper outcomes (record { frame = frame; pages = done })
-sheet_pressed paper outcomes press frame done f good few is pressed =
+last_count : (behind : Option Standing) (p : Pages) → length (done_of behind p) ≤ length p.done + 1
+last_count None p = omega arith
+last_count (Some last) p = let both = length-append p.done (record { items = p.items } ∷ []) in omega (arith, both)
+
+few_pages : (given : List Page) (behind : Option Standing) (p : Pages) → p.gone ≡ length given → done_count p < 2 ^ 32 - 1 → length (given ++ done_of behind p) < 2 ^ 32
+few_pages given behind p gone few =
+    let both = length-append given (done_of behind p) in
+    let last = last_count behind p in
+    omega (arith, both, last, gone, few)
+
+-- a frame of a good paper is good
+points_small : (u : ℕ) → u ≤ 100000 → points u < 2 ^ 32
+points_small u small = grind arith
+
+frame_good : (paper : Paper) → IsGoodPaper paper → IsFrame (frame_of paper)
+frame_good paper good = record {
+  wide = points_small paper.wide good.small_wide;
+  high = points_small paper.high good.small_high;
+  left = let small = good.small_left in omega (arith, small);
+  bottom = let small = good.small_bottom in omega (arith, small);
+  least_scale = good.low_scale;
+  greatest_scale = good.high_scale;
+}
+
+-- the sheet of what was pressed: its pages are those that were given up and those that are left
+whole_pages : (paper : Paper) (outcomes : List Outcome) (given : List Page) (press : Press) → IsPressed paper outcomes given press
+    → pages_of (width_of paper) (all_drawings outcomes) (all_spots paper outcomes) ≡ given ++ done_of press.behind press.pages
+whole_pages paper outcomes given press pressed =
     let stand = all_standing paper outcomes pressed.set pressed.good in
     let rise = rising (height_of paper) (all_blocks outcomes) (all_spots paper outcomes) stand.within stand.filled in
-    let all = is ∙ all_done (width_of paper) (height_of paper) (all_drawings outcomes) (all_blocks outcomes) press pressed.drawn rise pressed.pages pressed.behind in
-    record {
-      value = pressed_value paper outcomes frame done f all;
-      good = record {
-        frame = good;
-        few = few;
-        pages = subst (λ l. All IsPage l) (sym all) (pages_good (width_of paper) (all_drawings outcomes) (all_spots paper outcomes) 0 (page_count (all_spots paper outcomes)) pressed.drawn (all_begun outcomes));
-      };
-      shows = zip_weaker (IsDrawn (width_of paper)) (ShowsDrawing (width_of paper)) (λ d spot g. g.shows) (all_drawings outcomes) (all_spots paper outcomes) pressed.drawn;
-      stand = stand;
-    }
+    sym (done_behind given press.behind press.pages
+    ∙ all_done (width_of paper) (height_of paper) (all_drawings outcomes) (all_blocks outcomes) press.behind (restored given press.pages) pressed.drawn rise pressed.pages pressed.behind)
+
+pub sheet_whole : (paper : Paper) (outcomes : List Outcome) (given : List Page) (press : Press) → IsGoodPaper paper → IsOpen press → IsPressed paper outcomes given press
+    → IsSheetOf paper outcomes (sheet_of paper outcomes)
+unfolding sheet_of
+sheet_whole paper outcomes given press good is_open pressed = record {
+  value = refl;
+  good = record {
+    frame = frame_good paper good;
+    few = subst (λ l. length l < 2 ^ 32) (sym (whole_pages paper outcomes given press pressed)) (few_pages given press.behind press.pages pressed.gone is_open.few);
+    pages = pages_good (width_of paper) (all_drawings outcomes) (all_spots paper outcomes) 0 (page_count (all_spots paper outcomes)) pressed.drawn (all_begun outcomes);
+  };
+  shows = zip_weaker (IsDrawn (width_of paper)) (ShowsDrawing (width_of paper)) (λ d spot g. g.shows) (all_drawings outcomes) (all_spots paper outcomes) pressed.drawn;
+  stand = all_standing paper outcomes pressed.set pressed.good;
+}
+
+left_whole : (paper : Paper) (outcomes : List Outcome) (given pages : List Page) (press : Press) → IsPressed paper outcomes given press → pages ≡ done_of press.behind press.pages
+    → (sheet_of paper outcomes).pages ≡ given ++ pages
+unfolding sheet_of
+left_whole paper outcomes given pages press pressed is = whole_pages paper outcomes given press pressed ∙ ap (λ l. given ++ l) (sym is)
+
+pub are_last : (paper : Paper) (outcomes : List Outcome) (given pages : List Page) (press : Press) → IsOpen press → pages ≡ done_of press.behind press.pages → IsGoodPaper paper
+    → IsPressed paper outcomes given press → AreLast paper outcomes given pages
+are_last paper outcomes given pages press is_open is good pressed = record {
+  whole = left_whole paper outcomes given pages press pressed is;
+  sheet = sheet_whole paper outcomes given press good is_open pressed;
+}
+
+pages_of_sheet : (paper : Paper) (outcomes : List Outcome) (frame : Frame) (pages : List Page) → frame ≡ frame_of paper → (sheet_of paper outcomes).pages ≡ pages
+    → record { frame = frame; pages = pages } ≡ sheet_of paper outcomes
+unfolding sheet_of
+pages_of_sheet paper outcomes frame pages f p = ap (λ x. record { frame = x; pages = pages }) f ∙ ap (λ x. record { frame = frame_of paper; pages = x }) (sym p)
+
+-- the sheet of what was pressed where no page was given up
+pub sheet_pressed : (paper : Paper) (outcomes : List Outcome) (frame : Frame) (pages : List Page) → frame ≡ frame_of paper → AreLast paper outcomes [] pages
+    → IsSheetOf paper outcomes (record { frame = frame; pages = pages })
+sheet_pressed paper outcomes frame pages f last =
+    subst (λ sheet. IsSheetOf paper outcomes sheet) (sym (pages_of_sheet paper outcomes frame pages f last.whole)) last.sheet
 
 pub done_some : (behind : Option Standing) (p q : Pages) → is_some behind ≡ true → q ≡ turned p → q.done ≡ done_of behind p
 done_some None p q some turn = absurd cc
@@ -124,3 +179,22 @@ done_some (Some last) p q some turn = ap (λ r. r.done) turn
 pub done_none : (behind : Option Standing) (p : Pages) → is_some behind ≡ false → p.done ≡ done_of behind p
 done_none None p none = refl
 done_none (Some last) p none = absurd cc
+
+-- pages that are done may be given up
+pub pressed_taken : (paper : Paper) (outcomes : List Outcome) (given : List Page) (p q : Press) → q.pages.gone ≡ done_count p.pages → q.pages.done ≡ []
+    → q.pages.items ≡ p.pages.items → q.behind ≡ p.behind → IsPressed paper outcomes given p → IsPressed paper outcomes (given ++ done_pages p) q
+pressed_taken paper outcomes given p q gone none items behind pressed = record {
+  set = pressed.set;
+  gone = gone_more given p.pages q.pages pressed.gone gone;
+  pages = taken_same given p.pages q.pages none items ∙ pressed.pages;
+  behind = behind ∙ pressed.behind;
+  drawn = pressed.drawn;
+  good = pressed.good;
+}
+
+pub done_good : (paper : Paper) (outcomes : List Outcome) (given : List Page) (p : Press) → IsPressed paper outcomes given p → All IsPage (done_pages p)
+unfolding sheet_of
+done_good paper outcomes given p pressed =
+    let front = done_first paper outcomes given p pressed in
+    let all = pages_good (width_of paper) (all_drawings outcomes) (all_spots paper outcomes) 0 (page_count (all_spots paper outcomes)) pressed.drawn (all_begun outcomes) in
+    all_right IsPage given p.pages.done (all_left IsPage (given ++ p.pages.done) front.rest (subst (λ l. All IsPage l) front.whole all))

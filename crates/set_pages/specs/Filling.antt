@@ -1,19 +1,31 @@
 -- Pages as they are filled, one block after another.
-use Rattle.std.specs.Prelude.{ℕ, nat_lt, if◌then◌else◌, List, [], ◌∷◌, ◌++◌, length}
+use Rattle.std.specs.Prelude.{ℕ, ◌+◌, nat_lt, if◌then◌else◌, List, [], ◌∷◌, ◌++◌, length}
 use Rattle.lay_pages.specs.declared.filling.Spot.{Spot}
 use Rattle.ps_text.specs.declared.sheet.Item.{Item}
+use Rattle.ps_text.specs.declared.sheet.Page.{Page}
 use Rattle.set_pages.specs.declared.pages.Pages.{Pages}
 use Rattle.set_pages.specs.Drawings.{Drawing, drawn}
 
+abbrev pub no_pages : Pages
+no_pages = record { gone = 0; done = []; items = [] }
+
+-- how many pages are done, those that were given up among them
+abbrev pub done_count : Pages → ℕ
+done_count p = p.gone + length p.done
+
+-- the same pages, with those that were given up before them
+abbrev pub restored : List Page → Pages → Pages
+restored given p = record { gone = 0; done = given ++ p.done; items = p.items }
+
 abbrev pub turned : Pages → Pages
-turned p = record { done = p.done ++ record { items = p.items } ∷ []; items = [] }
+turned p = record { gone = p.gone; done = p.done ++ record { items = p.items } ∷ []; items = [] }
 
 -- turned where a page lies past the one that is being filled
 abbrev pub at_page : ℕ → Pages → Pages
-at_page page p = if nat_lt (length p.done) page then turned p else p
+at_page page p = if nat_lt (done_count p) page then turned p else p
 
 abbrev pub with_items : Pages → List Item → Pages
-with_items p more = record { done = p.done; items = p.items ++ more }
+with_items p more = record { gone = p.gone; done = p.done; items = p.items ++ more }
 
 abbrev pub with_drawing : ℕ → Pages → Drawing → Spot → Pages
 with_drawing width p d s = with_items (at_page s.page p) (drawn width s.top d)

@@ -9,10 +9,10 @@ pub mod sheet;
 pub mod titles;
 
 pub use abc_header::Paper;
-pub use press::{Press, open_press, press_outcomes, sheet_of_press};
+pub use press::{Press, close_press, open_press, press_outcomes, sheet_of_press, take_done};
 pub use ps_text::{Frame, Item, Page, Sheet};
 pub use set_book::Outcome;
-pub use sheet::sheet_for;
+pub use sheet::{frame_of, sheet_for};
 
 #[cfg(test)]
 mod tests;

@@ -1,18 +1,38 @@
 ghost use Rattle.std.specs.Prelude.{◌≡◌, ◌≤◌, ◌++◌, All, IfSome, OnOk};
 ghost use Rattle.ps_text.specs.Range.{IsItem};
 ghost use Rattle.set_pages.specs.Drawings.{tune_items};
-ghost use Rattle.set_pages.specs.Filling.{at_page, turned, with_items};
+ghost use Rattle.set_pages.specs.Filling.{at_page, done_count, no_pages, turned, with_items};
 
 use mus_units::{Memory, Row};
 use ps_text::{Item, Page};
 use std::alloc::Global;
 use std::mem::replace;
 
-/// Pages as they are filled: those that are done, and what stands on the one behind them.
+/// Pages as they are filled: how many were given up, those that are done behind them, and what
+/// stands on the one that comes next.
 #[derive(Debug, Drop)]
 pub(crate) struct Pages {
+    pub(crate) gone: u32,
     pub(crate) done: Row<Page>,
     pub(crate) items: Row<Item>,
+}
+
+/// Pages before the first block.
+pub(crate) fn no_pages(alloc: Global) -> Pages
+    ensures { result ≡ no_pages }
+{
+    Pages {
+        gone: 0,
+        done: Row::new(alloc),
+        items: Row::new(alloc),
+    }
+}
+
+/// How many pages are done, those that were given up among them.
+pub(crate) fn done_count(pages: &Pages) -> usize
+    ensures { result ≡ done_count pages.now }
+{
+    pages.gone as usize + pages.done.as_slice().len()
 }
 
 /// The page that is being filled is done, and an empty one comes behind it.
@@ -26,7 +46,7 @@ pub(crate) fn turn(alloc: Global, pages: &mut Pages) -> Result<(), Memory>
 fn go_to(alloc: Global, page: u32, pages: &mut Pages) -> Result<(), Memory>
     ensures { OnOk result (pages.new ≡ at_page page pages.old) }
 {
-    if pages.done.len() < page as usize {
+    if done_count(pages) < page as usize {
         turn(alloc, pages)?;
     }
     Ok(())

@@ -19,7 +19,7 @@ fn points(u: u32) -> u32
 }
 
 /// The frame of the pages on a paper.
-pub(crate) fn frame_of(paper: &Paper) -> Frame
+pub fn frame_of(paper: &Paper) -> Frame
     requires { IsGoodPaper paper.now }
     ensures value { result ≡ frame_of paper.now }
     ensures good { IsFrame result }
@@ -36,9 +36,9 @@ pub(crate) fn frame_of(paper: &Paper) -> Frame
 /// The sheet of a book on a paper, from the outcomes of its tunes: the blocks of all tunes
 /// without fault filled into pages, in order; before the first block of a tune its ordinal.
 ///
-/// `Memory` comes where memory ran out, and also where there are 2^32 blocks or more, a tune's
-/// ordinal is 0, or a row or a system may not stand on a page. Tunes of a book make none of the
-/// latter; the checks stand in place of a proof of that.
+/// `Memory` comes where memory ran out, and also where there are 2^32 blocks or more, 2^32 - 1 pages
+/// or more, a tune's ordinal is 0, or a row or a system may not stand on a page. Tunes of a book make
+/// none of the latter; the checks stand in place of a proof of that.
 pub fn sheet_for(alloc: Global, paper: &Paper, outcomes: &[Outcome]) -> Result<Sheet, Memory>
     requires paper { IsGoodPaper paper.now }
     requires outcomes { All (IsSetUnder paper.now) outcomes.now }

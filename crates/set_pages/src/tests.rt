@@ -1,10 +1,10 @@
-use crate::pages::{Pages, turn};
+use crate::pages::{Pages, no_pages, turn};
 use crate::sheet::sheet_for;
 use crate::titles::put_title;
 use abc_header::Paper;
 use abc_lines::{Fault, FaultKind};
 use lay_pages::{Spot, TitleRow};
-use mus_units::{Memory, Row, Size, Text};
+use mus_units::{Memory, Size, Text};
 use ps_text::{Frame, Item};
 use set_book::Outcome;
 use std::alloc::{AllocError, Global};
@@ -75,10 +75,7 @@ fn row(alloc: Global) -> Result<TitleRow, Memory> {
 /// Two titles on the first page, and one on the next.
 fn three_titles(alloc: Global) -> Result<Pages, Memory> {
     let rows = [row(alloc)?];
-    let mut pages = Pages {
-        done: Row::new(alloc),
-        items: Row::new(alloc),
-    };
+    let mut pages = no_pages(alloc);
     let first = Spot {
         page: 0,
         top: 78_600,

@@ -21,8 +21,8 @@ put_outcomes-requires-clause-ready c =
     c.in_ok-blocks.ensures.value c.in_ok-blocks.ensures.good c.requires.outcomes c.in_ok-filled.ensures.within c.as_slice-2.ensures
 
 pub returns-clause-pressed : goal.returns-clause-pressed
-returns-clause-pressed c before pressed =
-    pressed_by c.args.paper.now before c.args.outcomes.now _ _ c.body_of-width.result.0 c.body_of-width.result.1 c.as_slice.result.now c.in_ok-filled.filled.spots c.as_slice-2.result.now
+returns-clause-pressed c before given pressed =
+    pressed_by c.args.paper.now before c.args.outcomes.now given _ _ c.body_of-width.result.0 c.body_of-width.result.1 c.as_slice.result.now c.in_ok-filled.filled.spots c.as_slice-2.result.now
     (ap (λ p. p.0) c.body_of-width.ensures) (ap (λ p. p.1) c.body_of-width.ensures) (c.as_slice.ensures ∙ c.in_ok-blocks.ensures.value) c.requires.outcomes
     c.in_ok-filled.ensures.spots c.as_slice-2.ensures c.in_ok-put_outcomes.ensures.value c.in_ok-filled.ensures.behind c.in_ok-put_outcomes.ensures.good (subst AreGoodBlocks (sym c.as_slice.ensures) c.in_ok-blocks.ensures.good) pressed
 

@@ -1,0 +1,130 @@
+-- Pages that were given up are the first of the sheet, whatever is pressed behind them.
+use Rattle.std.proofs.Common.{◌≡◌, refl, sym, ap, ◌∙◌, subst, inl, inr, ℕ, suc, ◌+◌, Bool, true, false, cond, List, [], ◌∷◌, ◌++◌, length, None}
+use Rattle.std.proofs.lemmas.List.{append-nil, append_assoc}
+use Rattle.std.proofs.lemmas.List.Elements.{All-cons, All-head, All-nil, All-tail}
+use Rattle.std.specs.Prelude.{◌||◌, ◌⊎◌, nat_le, nat_lt, All}
+use Rattle.abc_header.specs.declared.paper.Paper.{Paper}
+use Rattle.abc_header.specs.Papers.{height_of, width_of}
+use Rattle.lay_pages.specs.declared.filling.Block.{Block}
+use Rattle.lay_pages.specs.declared.filling.Place.{Place}
+use Rattle.lay_pages.specs.declared.filling.Spot.{Spot}
+use Rattle.lay_pages.specs.Filling.{behind_after, group_height, next_place, place_by, spots_behind, spots_from, spots_of, under}
+use Rattle.ps_text.specs.declared.sheet.Page.{Page}
+use Rattle.set_book.specs.declared.outcome.Outcome.{Outcome}
+use Rattle.set_pages.specs.declared.pages.Pages.{Pages}
+use Rattle.set_pages.specs.declared.press.Press.{Press}
+use Rattle.set_pages.specs.Drawings.{Drawing, all_blocks, all_drawings, drawn}
+use Rattle.set_pages.specs.Filling.{at_page, done_count, no_pages, restored, turned, with_drawing, with_drawings, with_items}
+use Rattle.set_pages.specs.Press.{IsPressed, done_pages}
+use Rattle.set_pages.specs.Ready.{AreRising, AreRisingFrom, IsDrawn}
+use Rattle.set_pages.specs.Sheet.{IsSetUnder, all_spots, page_count, pages_from, pages_of, sheet_of}
+use Rattle.set_pages.proofs.Joined.{all_loose, blocks_append, drawings_append, drawn_join, spots_join}
+use Rattle.set_pages.proofs.Readying.{all_whole}
+use Rattle.set_pages.proofs.Standing.{all_count}
+use Rattle.set_pages.proofs.Turned.{all_put}
+
+-- what is done stays done
+pub record IsGrown (p q : Pages) : Type 0 where
+  pub more : List Page
+  pub done : q.done ≡ p.done ++ more
+
+grown_turned : (p : Pages) → IsGrown p (turned p)
+grown_turned p = record { more = record { items = p.items } ∷ []; done = refl }
+
+grown_same : (p : Pages) → IsGrown p p
+grown_same p = record { more = []; done = sym (append-nil p.done) }
+
+grown_by : (p : Pages) (b : Bool) (more : List _) → IsGrown p (with_items (cond b (turned p) p) more)
+grown_by p true more = record { more = (grown_turned p).more; done = (grown_turned p).done }
+grown_by p false more = record { more = (grown_same p).more; done = (grown_same p).done }
+
+grown_on : (p q r : Pages) → IsGrown p q → IsGrown q r → IsGrown p r
+grown_on p q r one two = record { more = one.more ++ two.more; done = two.done ∙ ap (λ l. l ++ two.more) one.done ∙ append_assoc p.done one.more two.more }
+
+pub grown_all : (width : ℕ) (p : Pages) (ds : List Drawing) (ss : List Spot) → IsGrown p (with_drawings width p ds ss)
+grown_all width p [] ss = grown_same p
+grown_all width p (d ∷ ds) [] = grown_same p
+grown_all width p (d ∷ ds) (s ∷ ss) =
+    grown_on p (with_drawing width p d s) (with_drawings width (with_drawing width p d s) ds ss) (grown_by p (nat_lt (done_count p) s.page) (drawn width s.top d))
+    (grown_all width (with_drawing width p d s) ds ss)
+
+-- there is a spot for each block, and their pages rise by one at most
+spots_count : (high : ℕ) (place : Place) (bs : List Block) → length (spots_from high place bs) ≡ length bs
+spots_count high place [] = refl
+spots_count high place (b ∷ bs) = ap suc (spots_count high (next_place high place b bs) bs)
+
+rises_by : (b : Bool) (page down : ℕ) → ((place_by b page down).page ≡ page) ⊎ ((place_by b page down).page ≡ suc page)
+rises_by true page down = inl refl
+rises_by false page down = inr refl
+
+rises_from : (high : ℕ) (place : Place) (b : Block) (bs : List Block) → AreRisingFrom place.page (spots_from high (next_place high place b bs) bs)
+rises_from high place b [] = tt
+rises_from high place b (next ∷ bs) =
+    (rises_by (b.keep || nat_le (under place b + group_height (next ∷ bs)) high) place.page (under place b), rises_from high (next_place high place b (next ∷ bs)) next bs)
+
+rises : (high : ℕ) (bs : List Block) → AreRising (spots_of high bs)
+rises high [] = tt
+rises high (b ∷ bs) = (refl, rises_from high (record { page = 0; down = 0 }) b bs)
+
+-- the pages that are done when all is put are the first of the sheet
+pub record IsFront (front whole : List Page) : Type 0 where
+  pub rest : List Page
+  pub whole : whole ≡ front ++ rest
+
+none_front : (width : ℕ) (ds : List Drawing) → IsFront (with_drawings width no_pages ds []).done (pages_of width ds [])
+none_front width [] = record { rest = []; whole = refl }
+none_front width (d ∷ ds) = record { rest = []; whole = refl }
+
+put_front : (width : ℕ) (ds : List Drawing) (ss : List Spot) → length ds ≡ length ss → AreRising ss → IsFront (with_drawings width no_pages ds ss).done (pages_of width ds ss)
+put_front width ds [] same rising = none_front width ds
+put_front width ds (s ∷ ss) same rising =
+    record { rest = record { items = (with_drawings width no_pages ds (s ∷ ss)).items } ∷ []; whole = sym (all_put width ds s ss same rising) }
+
+-- a front of a front
+front_of_front : (xs ys zs : List Page) → IsFront xs ys → IsFront ys zs → IsFront xs zs
+front_of_front xs ys zs one two = record { rest = one.rest ++ two.rest; whole = two.whole ∙ ap (λ l. l ++ two.rest) one.whole ∙ append_assoc xs one.rest two.rest }
+
+-- what is put behind the outcomes that were pressed
+put_behind : (paper : Paper) (first more : List Outcome) (given : List Page) (p : Press) → IsPressed paper first given p
+    → with_drawings (width_of paper) no_pages (all_drawings (first ++ more)) (all_spots paper (first ++ more))
+        ≡ with_drawings (width_of paper) (restored given p.pages) (all_drawings more) (spots_behind (height_of paper) (behind_after (height_of paper) None (all_blocks first)) (all_blocks more))
+put_behind paper first more given p pressed =
+    let width = width_of paper in
+    let high = height_of paper in
+    let behind = spots_behind high (behind_after high None (all_blocks first)) (all_blocks more) in
+    ap (λ ds. with_drawings width no_pages ds (all_spots paper (first ++ more))) (drawings_append first more)
+    ∙ ap (λ bs. with_drawings width no_pages (all_drawings first ++ all_drawings more) (spots_of high bs)) (blocks_append first more)
+    ∙ ap (λ ss. with_drawings width no_pages (all_drawings first ++ all_drawings more) ss) (spots_join high (all_blocks first) (all_blocks more) (all_loose first))
+    ∙ drawn_join (IsDrawn width) width no_pages (all_drawings first) (all_drawings more) (all_spots paper first) behind pressed.drawn
+    ∙ ap (λ q. with_drawings width q (all_drawings more) behind) (sym pressed.pages)
+
+-- The pages that are done when some outcomes are pressed, those that were given up among them, are the first pages of the sheet of these
+-- outcomes and of whatever comes behind them.
+pub done_front : (paper : Paper) (first more : List Outcome) (given : List Page) (p : Press) → IsPressed paper first given p → All (IsSetUnder paper) (first ++ more)
+    → IsFront (given ++ done_pages p) (sheet_of paper (first ++ more)).pages
+unfolding sheet_of
+done_front paper first more given p pressed set =
+    let width = width_of paper in
+    let high = height_of paper in
+    let all = first ++ more in
+    let behind = spots_behind high (behind_after high None (all_blocks first)) (all_blocks more) in
+    let grown = grown_all width (restored given p.pages) (all_drawings more) behind in
+    let count = all_count all (all_whole paper all set) ∙ sym (spots_count high (record { page = 0; down = 0 }) (all_blocks all)) in
+    front_of_front (given ++ done_pages p) (with_drawings width no_pages (all_drawings all) (all_spots paper all)).done (pages_of width (all_drawings all) (all_spots paper all))
+    (record { rest = grown.more; whole = ap (λ (q : Pages). q.done) (put_behind paper first more given p pressed) ∙ grown.done })
+    (put_front width (all_drawings all) (all_spots paper all) count (rises high (all_blocks all)))
+
+-- the same of the sheet of these outcomes alone
+pub done_first : (paper : Paper) (outcomes : List Outcome) (given : List Page) (p : Press) → IsPressed paper outcomes given p → IsFront (given ++ done_pages p) (sheet_of paper outcomes).pages
+done_first paper outcomes given p pressed =
+    subst (λ os. IsFront (given ++ done_pages p) (sheet_of paper os).pages) (append-nil outcomes)
+    (done_front paper outcomes [] given p pressed (subst (λ os. All (IsSetUnder paper) os) (sym (append-nil outcomes)) pressed.set))
+
+-- what holds of all holds of those in front, and of those behind
+pub all_left : {X : Type 0} (P : X → Type 0) (xs ys : List X) → All P (xs ++ ys) → All P xs
+all_left P [] ys all = All-nil P
+all_left P (x ∷ xs) ys all = All-cons P x xs (All-head P x (xs ++ ys) all) (all_left P xs ys (All-tail P x (xs ++ ys) all))
+
+pub all_right : {X : Type 0} (P : X → Type 0) (xs ys : List X) → All P (xs ++ ys) → All P ys
+all_right P [] ys all = all
+all_right P (x ∷ xs) ys all = all_right P xs ys (All-tail P x (xs ++ ys) all)
