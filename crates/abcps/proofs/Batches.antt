@@ -1,31 +1,29 @@
--- A book that is set a batch of tunes at a time.
-use Rattle.std.proofs.Common.{◌≡◌, refl, sym, ap, ◌∙◌, subst, ℕ, Bool, true, false, List, [], ◌++◌, append_assoc, take, drop}
+-- A book that is set a batch of tunes at a time, and whose pages are written as they fill.
+use Rattle.std.proofs.Common.{◌≡◌, refl, sym, ap, ◌∙◌, subst, ℕ, ◌+◌, ◌^◌, ◌<◌, Bool, List, [], ◌++◌, append_assoc, length, take, drop, Option, arith}
 use Rattle.std.proofs.lemmas.Grind.{flat_map-append}
-use Rattle.std.proofs.lemmas.List.{append-nil, take-append-drop}
+use Rattle.std.proofs.lemmas.List.{append-nil, length-append, take-append-drop}
 use Rattle.std.proofs.lemmas.List.Folds.{list_any-append}
-use Rattle.std.specs.Prelude.{◌||◌, All}
-use Rattle.abc_lines.specs.declared.book.Book.{Book}
+use Rattle.std.specs.Prelude.{◌||◌, All, Result, Ok, Err}
 use Rattle.abc_lines.specs.declared.book.TuneText.{TuneText}
-use Rattle.abc_lines.specs.Books.{book_of}
 use Rattle.abc_header.specs.declared.defaults.Defaults.{Defaults}
 use Rattle.abc_header.specs.declared.paper.Paper.{Paper}
-use Rattle.abc_header.specs.Defaults.{defaults_of}
-use Rattle.abc_header.specs.Papers.{paper_of}
-use Rattle.ps_text.specs.Document.{document}
+use Rattle.ps_text.specs.Document.{numbered, page_text}
+use Rattle.ps_text.specs.Prolog.{prolog}
+use Rattle.ps_text.specs.declared.sheet.Page.{Page}
 use Rattle.set_book.specs.declared.outcome.Outcome.{Outcome}
 use Rattle.set_book.specs.Outcomes.{AreOutcomes, IsOutcome}
 use Rattle.set_lists.specs.Reports.{is_faulty, report, reports, some_fault}
-use Rattle.set_pages.specs.Press.{IsPressed, IsSheetOf}
-use Rattle.set_pages.specs.Sheet.{IsSetUnder}
+use Rattle.set_pages.specs.Press.{IsOpen, IsPressed, done_pages, no_press}
+use Rattle.set_pages.specs.Sheet.{IsSetUnder, frame_of}
 use Rattle.set_pages.proofs.Joined.{zip_append}
 use Rattle.set_pages.proofs.Readying.{set_outcomes}
-use Rattle.abcps.specs.Called.{Called}
-use Rattle.abcps.specs.Books.{CallsPages, paper_in}
-use Rattle.abcps.specs.Outcome.{IsEnd}
-use Rattle.abcps.specs.Pressed.{AreTaken, IsPressedBook, IsTaken, status_if}
-use Rattle.abcps.specs.declared.pressing.PressedBook.{PressedBook}
-use Rattle.abcps.specs.declared.pressing.Taken.{Taken}
-use Rattle.abcps.proofs.BookCalls.{are_pages, are_set, called_pages}
+use Rattle.set_pages.proofs.Whole.{none_open, none_pressed}
+use Rattle.abcps.specs.Outcome.{Stream, TookAll}
+use Rattle.abcps.specs.Pressed.{AreCutOff, AreRunning, AreTaken, IsBegun, IsRunning, WasGiven, WasStopped, first_text}
+use Rattle.abcps.specs.declared.pressing.Running.{Running}
+use Rattle.abcps.specs.declared.status.Status.{Status}
+use Rattle.abcps.specs.declared.status.Status.TheVariants as status
+use Rattle.abcps.proofs.Sent.{first_more, memory_behind, stopped_behind, stopped_longer, stream, took_behind}
 
 -- what is taken of outcomes behind others
 reports_append : (outcomes more : List Outcome) → reports (outcomes ++ more) ≡ reports outcomes ++ reports more
@@ -36,69 +34,160 @@ pub none_told : [] ≡ reports []
 unfolding reports
 none_told = refl
 
-pub taken_more : (paper : Paper) (outcomes more : List Outcome) (t u : Taken) → (IsPressed paper outcomes t.press → IsPressed paper (outcomes ++ more) u.press)
-    → u.told ≡ t.told ++ reports more → u.refused ≡ (t.refused || some_fault more) → IsTaken paper outcomes t → IsTaken paper (outcomes ++ more) u
-taken_more paper outcomes more t u press told refused taken = record {
-  pressed = press taken.pressed;
-  told = told ∙ ap (λ text. text ++ reports more) taken.told ∙ sym (reports_append outcomes more);
-  refused = refused ∙ ap (λ b. b || some_fault more) taken.refused ∙ sym (list_any-append is_faulty outcomes more);
+pub running_more : (paper : Paper) (outcomes more : List Outcome) (given : List Page) (r s : Running) → (IsPressed paper outcomes given r.press → IsPressed paper (outcomes ++ more) given s.press)
+    → s.told ≡ r.told ++ reports more → s.refused ≡ (r.refused || some_fault more) → s.writer ≡ r.writer → IsRunning paper outcomes given r → IsRunning paper (outcomes ++ more) given s
+running_more paper outcomes more given r s press told refused writer running = record {
+  pressed = press running.pressed;
+  told = told ∙ ap (λ text. text ++ reports more) running.told ∙ sym (reports_append outcomes more);
+  refused = refused ∙ ap (λ b. b || some_fault more) running.refused ∙ sym (list_any-append is_faulty outcomes more);
+  count = ap (λ w. w.pages) writer ∙ running.count;
 }
 
--- what was taken of the tunes before those that are left
-pub record IsUnderway (defaults : Defaults) (paper : Paper) (flow : Bool) (tunes rest : List TuneText) (t : Taken) : Type 0 where
-  pub before : List TuneText
-  pub whole : before ++ rest ≡ tunes
-  pub taken : AreTaken defaults paper flow before t
+-- the pages that are done are written
+pub running_written : (paper : Paper) (outcomes : List Outcome) (given : List Page) (r s : Running) → (IsPressed paper outcomes given r.press → IsPressed paper outcomes (given ++ done_pages r.press) s.press)
+    → s.told ≡ r.told → s.refused ≡ r.refused → s.writer.pages ≡ r.writer.pages + length (done_pages r.press) → IsRunning paper outcomes given r → IsRunning paper outcomes (given ++ done_pages r.press) s
+running_written paper outcomes given r s press told refused count running =
+    let both = length-append given (done_pages r.press) in
+    let before = running.count in
+    record {
+      pressed = press running.pressed;
+      told = told ∙ running.told;
+      refused = refused ∙ running.refused;
+      count = omega (arith, both, count, before);
+    }
 
-pub underway_first : (defaults : Defaults) (paper : Paper) (flow : Bool) (tunes : List TuneText) (t : Taken) → IsTaken paper [] t → IsUnderway defaults paper flow tunes tunes t
-underway_first defaults paper flow tunes t taken = record { before = []; whole = refl; taken = record { outcomes = []; set = tt; taken = taken } }
-
-pub underway_more : (defaults : Defaults) (paper : Paper) (flow : Bool) (tunes rest batch later : List TuneText) (n : ℕ) (more : List Outcome) (t u : Taken) → batch ≡ take n rest → later ≡ drop n rest
-    → AreOutcomes defaults paper flow batch more → ((outcomes : List Outcome) → IsTaken paper outcomes t → IsTaken paper (outcomes ++ more) u) → IsUnderway defaults paper flow tunes rest t
-    → IsUnderway defaults paper flow tunes later u
-underway_more defaults paper flow tunes rest batch later n more t u front back set add so_far = record {
-  before = so_far.before ++ batch;
-  whole =
-      append_assoc so_far.before batch later
-      ∙ ap (λ l. so_far.before ++ l) (ap (λ l. l ++ later) front ∙ ap (λ l. take n rest ++ l) back ∙ take-append-drop n rest) ∙ so_far.whole;
-  taken = record {
-    outcomes = so_far.taken.outcomes ++ more;
-    set = zip_append (IsOutcome defaults paper flow) so_far.before batch so_far.taken.outcomes more so_far.taken.set set;
-    taken = add so_far.taken.outcomes so_far.taken.taken;
-  };
-}
-
-pub underway_last : (defaults : Defaults) (paper : Paper) (flow : Bool) (tunes rest : List TuneText) (t : Taken) → rest ≡ [] → IsUnderway defaults paper flow tunes rest t → AreTaken defaults paper flow tunes t
-underway_last defaults paper flow tunes rest t none so_far =
-    subst (λ all. AreTaken defaults paper flow all t) (sym (append-nil so_far.before) ∙ ap (λ l. so_far.before ++ l) (sym none) ∙ so_far.whole) so_far.taken
+-- they can be numbered
+pub few_done : (paper : Paper) (outcomes : List Outcome) (given : List Page) (r : Running) → IsRunning paper outcomes given r → IsOpen r.press → r.writer.pages + length (done_pages r.press) < 2 ^ 32
+few_done paper outcomes given r running free =
+    let count = running.count in
+    let gone = running.pressed.gone in
+    let few = free.few in
+    omega (arith, count, gone, few)
 
 -- the outcomes of a batch, as they are pressed
 pub batch_set : (defaults : Defaults) (paper : Paper) (flow : Bool) (batch : List TuneText) (outcomes at : List Outcome) → at ≡ outcomes → AreOutcomes defaults paper flow batch outcomes → All (IsSetUnder paper) at
 batch_set defaults paper flow batch outcomes at same set = subst (λ os. All (IsSetUnder paper) os) (sym same) (set_outcomes defaults paper flow batch outcomes set)
 
--- the book that was pressed
-pub book_pressed : (flow : Bool) (text : List ℕ) (book : Book) (paper : Paper) (defaults : Defaults) (tunes : List TuneText) (t : Taken) (b : PressedBook) → book ≡ book_of text → paper ≡ paper_of book.header
-    → defaults ≡ defaults_of book.header → tunes ≡ book.tunes → AreTaken defaults paper flow tunes t
-    → ((outcomes : List Outcome) → IsPressed paper outcomes t.press → IsSheetOf paper outcomes b.sheet) → b.told ≡ t.told → b.status ≡ status_if t.refused → IsPressedBook flow text b
-book_pressed flow text book paper defaults tunes t b is on under listed taken sheet told ends = record {
-  outcomes = taken.outcomes;
-  set = are_set flow text book paper taken.outcomes is on
-      (subst (λ d. AreOutcomes d paper flow book.tunes taken.outcomes) under (subst (λ l. AreOutcomes defaults paper flow l taken.outcomes) listed taken.set));
-  sheet = subst (λ p. IsSheetOf p taken.outcomes b.sheet) (on ∙ ap (λ (x : Book). paper_of x.header) is) (sheet taken.outcomes taken.taken.pressed);
-  told = told ∙ taken.taken.told;
-  status = ends ∙ ap status_if taken.taken.refused;
+-- the tunes before those that are left were set, and the document was written so far
+pub record IsUnderway (defaults : Defaults) (paper : Paper) (flow : Bool) (tunes rest : List TuneText) (o : Stream) (r : Running) : Type 0 where
+  pub before : List TuneText
+  pub whole : before ++ rest ≡ tunes
+  pub running : AreRunning defaults paper flow before o r
+
+pub underway_first : (defaults : Defaults) (paper : Paper) (flow : Bool) (tunes : List TuneText) (o : Stream) (r : Running) → TookAll o (prolog (frame_of paper)) → IsBegun r
+    → IsUnderway defaults paper flow tunes tunes o r
+underway_first defaults paper flow tunes o r took begun = record {
+  before = [];
+  whole = refl;
+  running = record {
+    outcomes = [];
+    given = [];
+    set = tt;
+    running = begun.none paper;
+    free = begun.free;
+    wrote = subst (λ text. TookAll o text) (sym (append-nil (prolog (frame_of paper)))) took;
+  };
 }
 
-status_end : (refused : Bool) → IsEnd (status_if refused)
-status_end true = tt
-status_end false = tt
+-- the document was not begun
+pub cut_first : (defaults : Defaults) (paper : Paper) (flow : Bool) (tunes : List TuneText) (o : Stream) (why : Status) → WasStopped why o (prolog (frame_of paper))
+    → AreCutOff defaults paper flow tunes o why
+cut_first defaults paper flow tunes o why stopped = record {
+  before = [];
+  rest = tunes;
+  whole = refl;
+  outcomes = [];
+  set = tt;
+  given = [];
+  press = no_press;
+  pressed = none_pressed paper;
+  free = none_open;
+  wrote = stopped_longer why o (prolog (frame_of paper)) [] stopped;
+}
 
-pub book_end : (flow : Bool) (text : List ℕ) (b : PressedBook) → IsPressedBook flow text b → IsEnd b.status
-book_end flow text b pressed = subst IsEnd (sym pressed.status) (status_end (some_fault pressed.outcomes))
+module _ (defaults : Defaults) (paper : Paper) (flow : Bool) (tunes rest : List TuneText) where
+  -- the pages that are done were written before the next batch
+  pub underway_written : (b m a : Option (List ℕ)) (n k l : ℕ) (r s : Running) (way : IsUnderway defaults paper flow tunes rest (stream b m n k) r)
+      → TookAll (stream m a k l) (numbered page_text (r.writer.pages + 1) (done_pages r.press))
+      → ((outcomes : List Outcome) (given : List Page) → IsRunning paper outcomes given r → IsRunning paper outcomes (given ++ done_pages r.press) s) → IsOpen s.press
+      → IsUnderway defaults paper flow tunes rest (stream b a n l) s
+  underway_written b m a n k l r s way took written free =
+      let run = way.running in
+      let sent = subst (λ j. TookAll (stream m a k l) (numbered page_text (j + 1) (done_pages r.press))) run.running.count took in
+      record {
+        before = way.before;
+        whole = way.whole;
+        running = record {
+          outcomes = run.outcomes;
+          given = run.given ++ done_pages r.press;
+          set = run.set;
+          running = written run.outcomes run.given run.running;
+          free = free;
+          wrote = subst (λ text. TookAll (stream b a n l) text) (sym (first_more paper run.given (done_pages r.press)))
+              (took_behind b m a n k l (first_text paper run.given) run.wrote.0 run.wrote.1 (numbered page_text (length run.given + 1) (done_pages r.press)) sent);
+        };
+      }
 
--- what `set` calls for
-pub calls_pressed : (flow : Bool) (text : List ℕ) (b : PressedBook) (told : List ℕ) → told ≡ b.told → IsPressedBook flow text b
-    → (called : Called) → called ≡ record { page = document b.sheet; told = told; status = b.status } → CallsPages flow text called
-calls_pressed flow text b told same pressed called is =
-    called_pages flow text pressed.outcomes pressed.set called
-    (are_pages (paper_in text) pressed.outcomes b.sheet told b.status pressed.sheet.value pressed.sheet.good pressed.sheet.shows pressed.sheet.stand (same ∙ pressed.told) pressed.status called is)
+  -- or were not
+  pub cut_written : (b m a : Option (List ℕ)) (n k l : ℕ) (r : Running) (why : Status) → IsUnderway defaults paper flow tunes rest (stream b m n k) r
+      → WasStopped why (stream m a k l) (numbered page_text (r.writer.pages + 1) (done_pages r.press)) → AreCutOff defaults paper flow tunes (stream b a n l) why
+  cut_written b m a n k l r why way stopped =
+      let run = way.running in
+      let sent = subst (λ j. WasStopped why (stream m a k l) (numbered page_text (j + 1) (done_pages r.press))) run.running.count stopped in
+      record {
+        before = way.before;
+        rest = rest;
+        whole = way.whole;
+        outcomes = run.outcomes;
+        set = run.set;
+        given = run.given;
+        press = r.press;
+        pressed = run.running.pressed;
+        free = run.free;
+        wrote = subst (λ text. WasStopped why (stream b a n l) text) (sym (first_more paper run.given (done_pages r.press)))
+            (stopped_behind b m a n k l (first_text paper run.given) run.wrote.0 run.wrote.1 why (numbered page_text (length run.given + 1) (done_pages r.press)) sent);
+      }
+
+  -- a batch was set
+  pub underway_more : (batch later : List TuneText) (n : ℕ) (o : Stream) (r s : Running) → batch ≡ take n rest → later ≡ drop n rest → AreTaken defaults paper flow batch r s → IsOpen s.press
+      → IsUnderway defaults paper flow tunes rest o r → IsUnderway defaults paper flow tunes later o s
+  underway_more batch later n o r s front back taken free way =
+      let run = way.running in
+      record {
+        before = way.before ++ batch;
+        whole =
+            append_assoc way.before batch later
+            ∙ ap (λ l. way.before ++ l) (ap (λ l. l ++ later) front ∙ ap (λ l. take n rest ++ l) back ∙ take-append-drop n rest) ∙ way.whole;
+        running = record {
+          outcomes = run.outcomes ++ taken.outcomes;
+          given = run.given;
+          set = zip_append (IsOutcome defaults paper flow) way.before batch run.outcomes taken.outcomes run.set taken.set;
+          running = taken.taken run.outcomes run.given run.running;
+          free = free;
+          wrote = run.wrote;
+        };
+      }
+
+  -- or was not, for want of memory
+  pub cut_memory : (o : Stream) (r : Running) (why : Status) → why ≡ status.Memory → IsUnderway defaults paper flow tunes rest o r → AreCutOff defaults paper flow tunes o why
+  cut_memory o r why is way =
+      let run = way.running in
+      record {
+        before = way.before;
+        rest = rest;
+        whole = way.whole;
+        outcomes = run.outcomes;
+        set = run.set;
+        given = run.given;
+        press = r.press;
+        pressed = run.running.pressed;
+        free = run.free;
+        wrote = subst (λ s. WasStopped s o (first_text paper (run.given ++ done_pages r.press))) (sym is)
+            (subst (λ text. WasStopped status.Memory o text) (sym (first_more paper run.given (done_pages r.press)))
+            (memory_behind o (first_text paper run.given) (numbered page_text (length run.given + 1) (done_pages r.press)) run.wrote));
+      }
+
+  -- no tune is left
+  pub underway_last : (o : Stream) (r : Running) → rest ≡ [] → IsUnderway defaults paper flow tunes rest o r → AreRunning defaults paper flow tunes o r
+  underway_last o r none way =
+      subst (λ all. AreRunning defaults paper flow all o r) (sym (append-nil way.before) ∙ ap (λ l. way.before ++ l) (sym none) ∙ way.whole) way.running

@@ -6,7 +6,7 @@ use Rattle.abcps_words.specs.declared.command.Command.{Command}
 use Rattle.abcps_words.specs.declared.command.Command.TheVariants as command
 use Rattle.abcps.specs.Called.{Called}
 use Rattle.abcps.specs.Calls.{Calls, IsNoDocument, IsNoListing}
-use Rattle.abcps.specs.Outcome.{Stream, IsAnswer, IsObeyed, IsQuiet, IsRead, IsReader, IsRun, ReadAll, ReadTooMuch, TookAll, TookPart, WasCut}
+use Rattle.abcps.specs.Outcome.{HasFailed, HasPart, Stream, IsAnswer, IsObeyed, IsQuiet, IsRead, IsReader, IsRun, ReadAll, ReadTooMuch, TookAll, WasCut}
 use Rattle.abcps.specs.Promises.{IsDone, IsGiven, IsRefused, IsToldTo, IsWhole, NoFault, Promises}
 use Rattle.abcps.specs.declared.status.Status.{Status}
 use Rattle.abcps.specs.declared.status.Status.TheVariants as status
@@ -64,13 +64,12 @@ module _ (words : List (List ℕ)) (i o e : Stream) where
       let r = run.2.2 in
       (run.0, run.2.0, record { asked = run.1; read = run.2.1 }, done_with run.0 run.2.0 status.NotLeast r.0 r.1 r.2 r.3 r.4)
 
-  memory_part : (c : Command) → Asks words c → (IsQuiet o ⊎ ((text : List ℕ) × IsRead c i text × (called : Called) × Calls c text called × TookPart o called.page))
-      → IsQuiet o ⊎ ((c : Command) × (text : List ℕ) × (called : Called) × IsWhole c words i text × Calls c text called × TookPart o called.page)
+  memory_part : (c : Command) → Asks words c → (IsQuiet o ⊎ ((text : List ℕ) × IsRead c i text × HasPart c text o))
+      → IsQuiet o ⊎ ((c : Command) × (text : List ℕ) × IsWhole c words i text × HasPart c text o)
   memory_part c asked (inl none) = inl none
-  memory_part c asked (inr part) = inr (c, part.0, part.2, record { asked = asked; read = part.1 }, part.3, part.4)
+  memory_part c asked (inr part) = inr (c, part.0, record { asked = asked; read = part.1 }, part.2)
 
-  memory_by : IsRun status.Memory words i o e → IsQuiet e
-      × (IsQuiet o ⊎ ((c : Command) × (text : List ℕ) × (called : Called) × IsWhole c words i text × Calls c text called × TookPart o called.page))
+  memory_by : IsRun status.Memory words i o e → IsQuiet e × (IsQuiet o ⊎ ((c : Command) × (text : List ℕ) × IsWhole c words i text × HasPart c text o))
   memory_by run = (run.2.0, memory_part run.0 run.1 run.2.1)
 
   -- the text that a command read is the one that the input told
@@ -128,6 +127,10 @@ module _ (words : List (List ℕ)) (i o e : Stream) where
   not_cut called good (inl cut) = good.output cut.0.2
   not_cut called good (inr cut) = good.errors cut.1.2
 
+  not_failed : (c : Command) (text : List ℕ) → NoFault i o e → HasFailed c text o e → ⊥
+  not_failed c text good (inl (called, calls, cut)) = not_cut called good cut
+  not_failed c text good (inr cut) = good.output cut.1
+
   -- a command was obeyed, no fault was counted, and memory was found
   obeyed_as : (c : Command) (s : Status) → IsObeyed c s i o e → (told : List ℕ) → NoFault i o e → IsToldTo c i told → (s ≡ status.Memory → ⊥) → (s ≡ status.Usage → ⊥)
       → IsDone c s told o e ⊎ ((s ≡ status.NotPages) × IsRefused c told o e)
@@ -135,7 +138,7 @@ module _ (words : List (List ℕ)) (i o e : Stream) where
   obeyed_as c status.ReadFault r told good is ample listed = absurd (good.input r.1)
   obeyed_as c status.TooLong r told good is ample listed = absurd (not_too_long c told r.1.0 r.0 is r.1.1)
   obeyed_as c status.Memory r told good is ample listed = absurd (ample refl)
-  obeyed_as c status.WriteFault (text, read, r) told good is ample listed = absurd (not_cut r.0 good r.2)
+  obeyed_as c status.WriteFault (text, read, r) told good is ample listed = absurd (not_failed c text good r)
   obeyed_as c status.NotPages (text, read, r) told good is ample listed = inr (refl, refused_told c told is text read r)
   obeyed_as c status.Done (text, read, r) told good is ample listed = inl (done_told c told status.Done is text read r.0 r.1 r.2 r.3 r.4)
   obeyed_as c status.SomeRefused (text, read, r) told good is ample listed = inl (done_told c told status.SomeRefused is text read r.0 r.1 r.2 r.3 r.4)
@@ -168,7 +171,7 @@ module _ (words : List (List ℕ)) (i o e : Stream) where
     not_pages = λ is. (let r = subst (λ t. IsRun t words i o e) is run in
         (r.0, r.2.0, record { asked = r.1; read = r.2.1 }, record { number = r.2.2.0; refuses = r.2.2.1; quiet = r.2.2.2; told = r.2.2.3 }));
     write_fault = λ is. (let r = subst (λ t. IsRun t words i o e) is run in
-        (r.0, r.2.0, r.2.2.0, record { asked = r.1; read = r.2.1 }, r.2.2.1, r.2.2.2));
+        (r.0, r.2.0, record { asked = r.1; read = r.2.1 }, r.2.2));
     memory = λ is. memory_by (subst (λ t. IsRun t words i o e) is run);
     done = done_by s run;
     answered = answered_as one s run;

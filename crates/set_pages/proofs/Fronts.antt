@@ -67,9 +67,9 @@ rises high [] = tt
 rises high (b ∷ bs) = (refl, rises_from high (record { page = 0; down = 0 }) b bs)
 
 -- the pages that are done when all is put are the first of the sheet
-pub record IsFront (front whole : List Page) : Type 0 where
+pub record IsFront (front all : List Page) : Type 0 where
   pub rest : List Page
-  pub whole : whole ≡ front ++ rest
+  pub whole : all ≡ front ++ rest
 
 none_front : (width : ℕ) (ds : List Drawing) → IsFront (with_drawings width no_pages ds []).done (pages_of width ds [])
 none_front width [] = record { rest = []; whole = refl }

@@ -1,6 +1,7 @@
 -- The whole sheet: its value, and that it may be written.
 use Rattle.std.proofs.Common.{◌≡◌, refl, sym, ap, ◌∙◌, subst, ℕ, ◌-◌, ◌*◌, ◌/◌, ◌+◌, ◌^◌, ◌<◌, ◌≤◌, List, [], ◌∷◌, ◌++◌, length, true, false, Option, Some, None, arith}
 use Rattle.std.proofs.lemmas.List.{append_assoc, length-append}
+use Rattle.std.proofs.lemmas.List.Elements.{All-nil}
 use Rattle.std.specs.Prelude.{All, is_some}
 use Rattle.std.specs.List.{AllZip}
 use Rattle.abc_header.specs.declared.paper.Paper.{Paper}
@@ -20,7 +21,7 @@ use Rattle.set_pages.specs.declared.pages.Pages.{Pages}
 use Rattle.set_pages.specs.declared.press.Press.{Press}
 use Rattle.set_pages.specs.Drawings.{Drawing, all_blocks, all_drawings}
 use Rattle.set_pages.specs.Filling.{done_count, no_pages, restored, turned, with_drawings}
-use Rattle.set_pages.specs.Press.{AreLast, IsOpen, IsPressed, IsSheetOf, done_pages}
+use Rattle.set_pages.specs.Press.{AreLast, IsOpen, IsPressed, IsSheetOf, done_pages, no_press}
 use Rattle.set_pages.specs.Ready.{AreRising, IsDrawn, IsReady, IsReadyOn}
 use Rattle.set_pages.specs.Sheet.{AreStanding, IsSetUnder, ShowsDrawing, all_spots, frame_of, page_count, pages_of, points, sheet_of}
 use Rattle.set_pages.proofs.Fitting.{all_fit}
@@ -198,3 +199,10 @@ done_good paper outcomes given p pressed =
     let front = done_first paper outcomes given p pressed in
     let all = pages_good (width_of paper) (all_drawings outcomes) (all_spots paper outcomes) 0 (page_count (all_spots paper outcomes)) pressed.drawn (all_begun outcomes) in
     all_right IsPage given p.pages.done (all_left IsPage (given ++ p.pages.done) front.rest (subst (λ l. All IsPage l) front.whole all))
+
+-- nothing was pressed yet, whatever the paper
+pub none_pressed : (paper : Paper) → IsPressed paper [] [] no_press
+none_pressed paper = record { set = All-nil (IsSetUnder paper); gone = refl; pages = refl; behind = refl; drawn = tt; good = tt }
+
+pub none_open : IsOpen no_press
+none_open = record { behind = tt; few = omega arith }

@@ -14,6 +14,10 @@ use Rattle.set_pages.specs.Filling.{done_count, no_pages, restored, with_drawing
 use Rattle.set_pages.specs.Ready.{IsDrawn}
 use Rattle.set_pages.specs.Sheet.{AllShown, AreStanding, IsSetUnder, all_spots, sheet_of}
 
+-- nothing was pressed yet
+abbrev pub no_press : Press
+no_press = record { pages = no_pages; behind = None }
+
 -- the pages that are done and were not given up
 abbrev pub done_pages : Press → List Page
 done_pages p = p.pages.done

@@ -3,7 +3,7 @@ ghost use Rattle.abc_header.specs.declared.paper.Paper as paper;
 ghost use Rattle.abc_header.specs.Papers.{IsGoodPaper};
 ghost use Rattle.ps_text.specs.declared.sheet.Page as page;
 ghost use Rattle.set_book.specs.declared.outcome.Outcome as outcome;
-ghost use Rattle.set_pages.specs.Press.{AreLast, IsOpen, IsPressed, IsSheetOf, done_pages};
+ghost use Rattle.set_pages.specs.Press.{AreLast, IsOpen, IsPressed, IsSheetOf, done_pages, no_press};
 ghost use Rattle.set_pages.specs.Sheet.{IsSetUnder};
 
 use crate::blocks::all_blocks;
@@ -29,6 +29,7 @@ pub struct Press {
 
 /// A press with no outcomes.
 pub fn open_press(alloc: Global) -> Press
+    ensures value { result ≡ no_press }
     ensures pressed { (paper : paper.Paper) → IsPressed paper [] [] result }
     ensures open { IsOpen result }
 {

@@ -1,0 +1,189 @@
+-- A book whose document was written, and one whose document was not written to its end.
+use Rattle.std.proofs.Common.{◌≡◌, refl, sym, ap, ◌∙◌, subst, ◌⊎◌, inl, inr, ℕ, ◌+◌, ◌<◌, Bool, true, false, List, [], ◌∷◌, ◌++◌, length, take, drop, arith, Option}
+use Rattle.std.proofs.lemmas.List.{append-nil, append_assoc, length-append, take-append-drop}
+use Rattle.std.proofs.Math.Seq.{take-append_seam}
+use Rattle.std.specs.Prelude.{All, Result, Ok, Err}
+use Rattle.abc_lines.specs.declared.book.Book.{Book}
+use Rattle.abc_lines.specs.declared.book.TuneText.{TuneText}
+use Rattle.abc_lines.specs.Books.{book_of}
+use Rattle.abc_header.specs.declared.defaults.Defaults.{Defaults}
+use Rattle.abc_header.specs.declared.paper.Paper.{Paper}
+use Rattle.abc_header.specs.Defaults.{defaults_of}
+use Rattle.abc_header.specs.Papers.{IsGoodPaper, paper_of}
+use Rattle.ps_text.specs.Document.{document}
+use Rattle.ps_text.specs.declared.sheet.Page.{Page}
+use Rattle.set_book.specs.declared.outcome.Outcome.{Outcome}
+use Rattle.set_book.specs.Outcomes.{AreOutcomes, IsOutcome}
+use Rattle.set_lists.specs.Reports.{reports, some_fault}
+use Rattle.set_pages.specs.Press.{IsOpen, IsPressed, done_pages}
+use Rattle.set_pages.specs.Sheet.{IsSetUnder, frame_of, sheet_of}
+use Rattle.set_pages.specs.declared.press.Press.{Press}
+use Rattle.set_pages.proofs.Fronts.{IsFront, done_first, done_front}
+use Rattle.set_pages.proofs.Readying.{set_outcomes}
+use Rattle.set_pages.proofs.Whole.{sheet_whole}
+use Rattle.set_pages.proofs.Zips.{zip_front}
+use Rattle.abcps.specs.Called.{Called}
+use Rattle.abcps.specs.Books.{AreSet, CallsPages, paper_in, status_of}
+use Rattle.abcps.specs.Outcome.{HasFront, IsAnswer, IsCutShort, IsEnd, IsQuiet, Stream, TookAll, TookFront}
+use Rattle.abcps.specs.Pressed.{AreCutOff, AreRunning, IsClosed, IsPrinted, IsUnprinted, WasCounted, WasStopped, all_set, first_text, rest_text, some_left, status_if, unbegun}
+use Rattle.abcps.specs.declared.pressing.Printed.{Printed}
+use Rattle.abcps.specs.declared.pressing.Running.{Running}
+use Rattle.abcps.specs.declared.status.Status.{Status}
+use Rattle.abcps.specs.declared.status.Status.TheVariants as status
+use Rattle.abcps_words.specs.declared.command.Command.TheVariants as command
+use Rattle.abcps.proofs.Answered.{answer_by, answered_end}
+use Rattle.abcps.proofs.Once.{OutcomesOnce, pages_called}
+use Rattle.abcps.proofs.Sent.{document_parts, front_longer, stopped_behind, stopped_count, stopped_front, stopped_longer, stream, took_behind}
+
+-- pages that were given up are the first of a sheet, and so is their text of its document
+frame_same : (paper : Paper) (outcomes : List Outcome) → (sheet_of paper outcomes).frame ≡ frame_of paper
+unfolding sheet_of
+frame_same paper outcomes = refl
+
+given_front : (given done pages : List Page) → IsFront (given ++ done) pages → IsFront given pages
+given_front given done pages front = record { rest = done ++ front.rest; whole = front.whole ∙ append_assoc given done front.rest }
+
+pub parts_of : (paper : Paper) (outcomes : List Outcome) (given : List Page) → IsFront given (sheet_of paper outcomes).pages
+    → document (sheet_of paper outcomes) ≡ first_text paper given ++ rest_text given (sheet_of paper outcomes)
+parts_of paper outcomes given front = document_parts paper given (sheet_of paper outcomes) (frame_same paper outcomes) front
+
+-- what `set` calls for, where all tunes were set
+pub calls_pages : (flow : Bool) (text : List ℕ) (outcomes : List Outcome) (given : List Page) (press : Press) → AreSet flow text outcomes → IsGoodPaper (paper_in text) → IsOpen press
+    → IsPressed (paper_in text) outcomes given press → CallsPages flow text (pages_called (paper_in text) outcomes)
+calls_pages flow text outcomes given press set good free pressed =
+    let sheet = sheet_whole (paper_in text) outcomes given press good free pressed in
+    record {
+      outcomes = outcomes;
+      set = set;
+      sheet = record { good = sheet.good; spelled = refl };
+      symbols = sheet.shows;
+      blocks = sheet.stand;
+      told = refl;
+      status = refl;
+    }
+
+-- the first of some outcomes are those of the first tunes
+first_outcomes : OutcomesOnce → (defaults : Defaults) (paper : Paper) (flow : Bool) (before rest : List TuneText) (outcomes all : List Outcome) → AreOutcomes defaults paper flow before outcomes
+    → AreOutcomes defaults paper flow (before ++ rest) all → all ≡ outcomes ++ drop (length before) all
+first_outcomes once defaults paper flow before rest outcomes all set whole =
+    sym (take-append-drop (length before) all)
+    ∙ ap (λ l. l ++ drop (length before) all) (once defaults paper flow before (take (length before) all) outcomes (zip_front (IsOutcome defaults paper flow) before rest all whole) set)
+
+-- the pages that were done when some tunes were set are the first of whatever the book calls for
+front_called : OutcomesOnce → (defaults : Defaults) (paper : Paper) (flow : Bool) (before rest : List TuneText) (outcomes all : List Outcome) (given : List Page) (press : Press)
+    → AreOutcomes defaults paper flow before outcomes → IsPressed paper outcomes given press → AreOutcomes defaults paper flow (before ++ rest) all
+    → IsFront (given ++ done_pages press) (sheet_of paper all).pages
+front_called once defaults paper flow before rest outcomes all given press set pressed whole =
+    let parts = first_outcomes once defaults paper flow before rest outcomes all set whole in
+    let more = drop (length before) all in
+    subst (λ os. IsFront (given ++ done_pages press) (sheet_of paper os).pages) (sym parts)
+    (done_front paper outcomes more given press pressed (subst (λ os. All (IsSetUnder paper) os) parts (set_outcomes defaults paper flow (before ++ rest) all whole)))
+
+text_front : (paper : Paper) (outcomes : List Outcome) (given : List Page) (o : Stream) → IsFront given (sheet_of paper outcomes).pages → HasFront o (first_text paper given)
+    → HasFront o (document (sheet_of paper outcomes))
+text_front paper outcomes given o front has =
+    subst (λ l. HasFront o l) (sym (parts_of paper outcomes given front)) (front_longer o (first_text paper given) (rest_text given (sheet_of paper outcomes)) has)
+
+count_left : (before rest tunes : List TuneText) (tune : TuneText) → before ++ (tune ∷ rest) ≡ tunes → length before < length tunes
+count_left before rest tunes tune whole =
+    let both = length-append before (tune ∷ rest) in
+    let same = ap length whole in
+    omega (arith, both, same)
+
+first_tunes : (before rest tunes : List TuneText) → before ++ rest ≡ tunes → before ≡ take (length before) tunes
+first_tunes before rest tunes whole = sym (take-append_seam before rest) ∙ ap (λ l. take (length before) l) whole
+
+module _ (once : OutcomesOnce) (flow : Bool) (text : List ℕ) (o : Stream) (why : Status) (good : IsGoodPaper (paper_in text))
+    (cut : AreCutOff (defaults_of (book_of text).header) (paper_in text) flow (book_of text).tunes o why) where
+  -- the front of a document that went out
+  stopped_all : WasStopped why o (document (sheet_of (paper_in text) cut.outcomes))
+  stopped_all =
+      let given = cut.given ++ done_pages cut.press in
+      subst (λ l. WasStopped why o l) (sym (parts_of (paper_in text) cut.outcomes given (done_first (paper_in text) cut.outcomes cut.given cut.press cut.pressed)))
+      (stopped_longer why o (first_text (paper_in text) given) (rest_text given (sheet_of (paper_in text) cut.outcomes)) cut.wrote)
+
+  front_all : (called : Called) → CallsPages flow text called → HasFront o called.page
+  front_all called calls =
+      let given = cut.given ++ done_pages cut.press in
+      let whole = subst (λ l. AreOutcomes (defaults_of (book_of text).header) (paper_in text) flow l calls.outcomes) (sym cut.whole) calls.set in
+      let front = front_called once (defaults_of (book_of text).header) (paper_in text) flow cut.before cut.rest cut.outcomes calls.outcomes cut.given cut.press cut.set cut.pressed whole in
+      subst (λ l. HasFront o l) calls.sheet.spelled
+      (text_front (paper_in text) calls.outcomes given o front (stopped_front why o (first_text (paper_in text) given) cut.wrote))
+
+  unprinted_by : (rest : List TuneText) → cut.rest ≡ rest → IsUnprinted flow text o why
+  unprinted_by [] none =
+      let tunes = sym (append-nil cut.before) ∙ ap (λ l. cut.before ++ l) (sym none) ∙ cut.whole in
+      let set = subst (λ l. AreOutcomes (defaults_of (book_of text).header) (paper_in text) flow l cut.outcomes) tunes cut.set in
+      all_set (pages_called (paper_in text) cut.outcomes) (calls_pages flow text cut.outcomes cut.given cut.press set good cut.free cut.pressed) stopped_all
+  unprinted_by (tune ∷ rest) is =
+      let whole = ap (λ l. cut.before ++ l) (sym is) ∙ cut.whole in
+      some_left
+      (record {
+        count = length cut.before;
+        left = count_left cut.before rest (book_of text).tunes tune whole;
+        outcomes = cut.outcomes;
+        set = subst (λ l. AreOutcomes (defaults_of (book_of text).header) (paper_in text) flow l cut.outcomes) (first_tunes cut.before cut.rest (book_of text).tunes cut.whole) cut.set;
+        first = stopped_front why o (document (sheet_of (paper_in text) cut.outcomes)) stopped_all;
+        all = front_all;
+      })
+      (stopped_count why o (document (sheet_of (paper_in text) cut.outcomes)) stopped_all)
+
+  -- the document of a book was not written to its end
+  pub unprinted : IsUnprinted flow text o why
+  unprinted = unprinted_by cut.rest refl
+
+module _ (flow : Bool) (text : List ℕ) (b m a : Option (List ℕ)) (n k l : ℕ) (r : Running) (good : IsGoodPaper (paper_in text))
+    (run : AreRunning (defaults_of (book_of text).header) (paper_in text) flow (book_of text).tunes (stream b m n k) r) where
+  parts_all : document (sheet_of (paper_in text) run.outcomes) ≡ first_text (paper_in text) run.given ++ rest_text run.given (sheet_of (paper_in text) run.outcomes)
+  parts_all =
+      parts_of (paper_in text) run.outcomes run.given
+      (given_front run.given (done_pages r.press) (sheet_of (paper_in text) run.outcomes).pages (done_first (paper_in text) run.outcomes run.given r.press run.running.pressed))
+
+  calls_all : CallsPages flow text (pages_called (paper_in text) run.outcomes)
+  calls_all = calls_pages flow text run.outcomes run.given r.press run.set good run.free run.running.pressed
+
+  -- the tunes of a book were set, and what was left of its document was written, or not to its end
+  pub printed : (p : Result Printed Status) → IsClosed (paper_in text) run.outcomes run.given (stream m a k l) p → IsPrinted flow text (stream b a n l) p
+  printed (Ok p) closed = (
+    pages_called (paper_in text) run.outcomes,
+    calls_all,
+    closed.1,
+    closed.2,
+    subst (λ t. TookAll (stream b a n l) t) (sym parts_all)
+    (took_behind b m a n k l (first_text (paper_in text) run.given) run.wrote.0 run.wrote.1 (rest_text run.given (sheet_of (paper_in text) run.outcomes)) closed.0),
+  )
+  printed (Err why) closed =
+      all_set (pages_called (paper_in text) run.outcomes) calls_all
+      (subst (λ t. WasStopped why (stream b a n l) t) (sym parts_all)
+      (stopped_behind b m a n k l (first_text (paper_in text) run.given) run.wrote.0 run.wrote.1 why (rest_text run.given (sheet_of (paper_in text) run.outcomes)) closed))
+
+-- what `set` answers where its document was written, and errors was told the reports
+status_end : (refused : Bool) → IsEnd (status_if refused)
+status_end true = tt
+status_end false = tt
+
+pub answer_printed : (flow : Bool) (jobs : ℕ) (text : List ℕ) (o e : Stream) (s with : Status) (told : List ℕ) (called : Called) → CallsPages flow text called → told ≡ called.told → with ≡ called.status
+    → TookAll o called.page → ((s ≡ with) × TookAll e told) ⊎ ((s ≡ status.WriteFault) × TookFront e told) → IsAnswer (command.Set flow jobs) s text o e
+answer_printed flow jobs text o e s with told called calls tells ends page (inl end) =
+    answer_by (command.Set flow jobs) text called calls o e s
+    (answered_end called o e s (subst IsEnd (sym calls.status) (status_end (some_fault calls.outcomes))) page (inl (end.0 ∙ ends, subst (λ t. TookAll e t) tells end.1)))
+answer_printed flow jobs text o e s with told called calls tells ends page (inr cut) =
+    answer_by (command.Set flow jobs) text called calls o e s
+    (answered_end called o e s (subst IsEnd (sym calls.status) (status_end (some_fault calls.outcomes))) page (inr (cut.0, subst (λ t. TookFront e t) tells cut.1)))
+
+-- what it answers where its document was not written to its end
+module _ (flow : Bool) (jobs : ℕ) (text : List ℕ) (o e : Stream) (quiet : IsQuiet e) where
+  answer_all : (why : Status) (called : Called) → CallsPages flow text called → WasStopped why o called.page → IsAnswer (command.Set flow jobs) why text o e
+  answer_all status.WriteFault called calls stopped = inl (called, calls, inl (stopped, quiet))
+  answer_all status.Memory called calls stopped = (quiet, inr (inl (called, calls, stopped)))
+  answer_all why called calls stopped = absurd stopped
+
+  answer_some : (why : Status) → IsCutShort flow text o → WasCounted why o → IsAnswer (command.Set flow jobs) why text o e
+  answer_some status.WriteFault cut counted = inr (cut, counted, quiet)
+  answer_some status.Memory cut counted = (quiet, inr (inr (cut, counted)))
+  answer_some why cut counted = absurd counted
+
+  pub answer_unprinted : (why : Status) → IsUnprinted flow text o why → IsAnswer (command.Set flow jobs) why text o e
+  answer_unprinted why (unbegun is none) = subst (λ s. IsAnswer (command.Set flow jobs) s text o e) (sym is) (quiet, inl none)
+  answer_unprinted why (all_set called calls stopped) = answer_all why called calls stopped
+  answer_unprinted why (some_left cut counted) = answer_some why cut counted
