@@ -1,6 +1,6 @@
 -- Pages are filled alike with those that were given up before them.
 use Rattle.std.proofs.Common.{◌≡◌, refl, sym, ap, ◌∙◌, ℕ, ◌+◌, Bool, true, false, cond, List, [], ◌∷◌, ◌++◌, length, arith}
-use Rattle.std.proofs.lemmas.List.{append-nil, append_assoc, length-append}
+use Rattle.std.proofs.lemmas.List.{append_assoc, length-append}
 use Rattle.std.specs.Prelude.{nat_lt}
 use Rattle.lay_pages.specs.declared.filling.Spot.{Spot}
 use Rattle.ps_text.specs.declared.sheet.Page.{Page}
@@ -42,13 +42,3 @@ all_same given width p [] ss gone = refl
 all_same given width p (d ∷ ds) [] gone = refl
 all_same given width p (d ∷ ds) (s ∷ ss) gone =
     all_same given width (with_drawing width p d s) ds ss (gone_one width p d s ∙ gone) ∙ ap (λ q. with_drawings width q ds ss) (one_same given width p d s gone)
-
--- pages that are given up behind others
-pub gone_more : (given : List Page) (p q : Pages) → p.gone ≡ length given → q.gone ≡ done_count p → q.gone ≡ length (given ++ p.done)
-gone_more given p q gone count = let both = length-append given p.done in omega (arith, both, gone, count)
-
-pub taken_same : (given : List Page) (p q : Pages) → q.done ≡ [] → q.items ≡ p.items → restored (given ++ p.done) q ≡ restored given p
-taken_same given p q none items =
-    ap (λ done. record { gone = 0; done = (given ++ p.done) ++ done; items = q.items }) none
-    ∙ ap (λ done. record { gone = 0; done = done; items = q.items }) (append-nil (given ++ p.done))
-    ∙ ap (λ items. record { gone = 0; done = given ++ p.done; items = items }) items

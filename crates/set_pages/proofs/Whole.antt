@@ -30,7 +30,6 @@ use Rattle.set_pages.proofs.Joined.{pressed_more}
 use Rattle.set_pages.proofs.Ordered.{all_begun, pages_good}
 use Rattle.set_pages.proofs.Blocking.{all_clear, all_ready}
 use Rattle.set_pages.proofs.Readying.{all_whole, each_fits}
-use Rattle.set_pages.proofs.Restored.{gone_more, taken_same}
 use Rattle.set_pages.proofs.Standing.{all_count, ready_at, rising, within_count}
 use Rattle.set_pages.proofs.Turned.{all_put, closed}
 use Rattle.set_pages.proofs.Zips.{zip_length, zip_weaker}
@@ -148,6 +147,7 @@ sheet_whole paper outcomes given press good is_open pressed = record {
   };
   shows = zip_weaker (IsDrawn (width_of paper)) (ShowsDrawing (width_of paper)) (λ d spot g. g.shows) (all_drawings outcomes) (all_spots paper outcomes) pressed.drawn;
   stand = all_standing paper outcomes pressed.set pressed.good;
+  clear = all_clear paper outcomes (all_spots paper outcomes) good pressed.set (all_standing paper outcomes pressed.set pressed.good).within;
 }
 
 left_whole : (paper : Paper) (outcomes : List Outcome) (given pages : List Page) (press : Press) → IsPressed paper outcomes given press → pages ≡ done_of press.behind press.pages
@@ -181,18 +181,7 @@ pub done_none : (behind : Option Standing) (p : Pages) → is_some behind ≡ fa
 done_none None p none = refl
 done_none (Some last) p none = absurd cc
 
--- pages that are done may be given up
-pub pressed_taken : (paper : Paper) (outcomes : List Outcome) (given : List Page) (p q : Press) → q.pages.gone ≡ done_count p.pages → q.pages.done ≡ []
-    → q.pages.items ≡ p.pages.items → q.behind ≡ p.behind → IsPressed paper outcomes given p → IsPressed paper outcomes (given ++ done_pages p) q
-pressed_taken paper outcomes given p q gone none items behind pressed = record {
-  set = pressed.set;
-  gone = gone_more given p.pages q.pages pressed.gone gone;
-  pages = taken_same given p.pages q.pages none items ∙ pressed.pages;
-  behind = behind ∙ pressed.behind;
-  drawn = pressed.drawn;
-  good = pressed.good;
-}
-
+-- the pages that are done may be written
 pub done_good : (paper : Paper) (outcomes : List Outcome) (given : List Page) (p : Press) → IsPressed paper outcomes given p → All IsPage (done_pages p)
 unfolding sheet_of
 done_good paper outcomes given p pressed =

@@ -9,6 +9,7 @@ use Rattle.ps_text.specs.declared.sheet.Sheet.{Sheet}
 use Rattle.ps_text.specs.Range.{IsSheet}
 use Rattle.set_book.specs.declared.outcome.Outcome.{Outcome}
 use Rattle.set_pages.specs.declared.press.Press.{Press}
+use Rattle.set_pages.specs.Clear.{AreClear}
 use Rattle.set_pages.specs.Drawings.{all_blocks, all_drawings}
 use Rattle.set_pages.specs.Filling.{done_count, no_pages, restored, with_drawings}
 use Rattle.set_pages.specs.Ready.{IsDrawn}
@@ -37,12 +38,13 @@ pub record IsPressed (paper : Paper) (outcomes : List Outcome) (given : List Pag
   pub drawn : AllZip (IsDrawn (width_of paper)) (all_drawings outcomes) (all_spots paper outcomes)
   pub good : AreGoodBlocks (all_blocks outcomes)
 
--- the sheet of these outcomes, which shows what is called for
+-- the sheet of these outcomes, which shows what is called for, each block on its page and all marks clear of each other
 pub record IsSheetOf (paper : Paper) (outcomes : List Outcome) (sheet : Sheet) : Type 0 where
   pub value : sheet ≡ sheet_of paper outcomes
   pub good : IsSheet sheet
   pub shows : AllShown paper outcomes
   pub stand : AreStanding paper outcomes
+  pub clear : AreClear paper outcomes
 
 -- the pages of the sheet of these outcomes that come behind those that were given up
 pub record AreLast (paper : Paper) (outcomes : List Outcome) (given pages : List Page) : Type 0 where

@@ -42,9 +42,7 @@ pub fn open_press(alloc: Global) -> Press
 /// Presses outcomes behind those that were pressed: the blocks of the tunes without fault are
 /// filled into pages, in order, and before the first block of a tune stands its ordinal.
 ///
-/// `Memory` comes where memory ran out, and also where there are 2^32 - 1 pages or more, a tune's
-/// ordinal is 0, or a row or a system may not stand on a page. Tunes of a book make none of the
-/// latter; the checks stand in place of a proof of that.
+/// `Memory` comes where memory ran out; 2^32 - 1 pages or more, or as many blocks, count as past it.
 pub fn press_outcomes(
     alloc: Global,
     paper: &Paper,

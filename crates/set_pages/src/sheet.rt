@@ -1,6 +1,7 @@
 ghost use Rattle.std.specs.Prelude.{◌≡◌, ◌≤◌, All, IfOk, OnOk};
 ghost use Rattle.abc_header.specs.Papers.{IsGoodPaper};
 ghost use Rattle.ps_text.specs.Range.{IsFrame, IsSheet};
+ghost use Rattle.set_pages.specs.Clear.{AreClear};
 ghost use Rattle.set_pages.specs.Sheet.{AllShown, AreStanding, IsSetUnder, frame_of, points, sheet_of};
 
 use crate::press::{open_press, press_outcomes, sheet_of_press};
@@ -36,9 +37,8 @@ pub fn frame_of(paper: &Paper) -> Frame
 /// The sheet of a book on a paper, from the outcomes of its tunes: the blocks of all tunes
 /// without fault filled into pages, in order; before the first block of a tune its ordinal.
 ///
-/// `Memory` comes where memory ran out, and also where there are 2^32 blocks or more, 2^32 - 1 pages
-/// or more, a tune's ordinal is 0, or a row or a system may not stand on a page. Tunes of a book make
-/// none of the latter; the checks stand in place of a proof of that.
+/// `Memory` comes where memory ran out; a sheet of 2^32 - 1 pages or more counts as past it, as do
+/// 2^32 blocks.
 pub fn sheet_for(alloc: Global, paper: &Paper, outcomes: &[Outcome]) -> Result<Sheet, Memory>
     requires paper { IsGoodPaper paper.now }
     requires outcomes { All (IsSetUnder paper.now) outcomes.now }
@@ -46,6 +46,7 @@ pub fn sheet_for(alloc: Global, paper: &Paper, outcomes: &[Outcome]) -> Result<S
     ensures good { IfOk result IsSheet }
     ensures shows { OnOk result (AllShown paper.now outcomes.now) }
     ensures stand { OnOk result (AreStanding paper.now outcomes.now) }
+    ensures clear { OnOk result (AreClear paper.now outcomes.now) }
 {
     let mut press = open_press(alloc);
     press_outcomes(alloc, paper, outcomes, &mut press)?;

@@ -1,4 +1,4 @@
-use Rattle.std.proofs.Common.{◌∙◌, ap, sym, subst}
+use Rattle.std.proofs.Common.{◌∙◌, ap, sym, subst, arith}
 use Rattle.lay_pages.specs.Filling.{AreGoodBlocks, IsLoose}
 use Rattle.set_pages.proofs.Joined.{all_loose}
 use Rattle.set_pages.proofs.Readying.{all_whole}
@@ -27,4 +27,7 @@ returns-clause-pressed c before given pressed =
     c.in_ok-filled.ensures.spots c.as_slice-2.ensures c.in_ok-put_outcomes.ensures.value c.in_ok-filled.ensures.behind c.in_ok-put_outcomes.ensures.good (subst AreGoodBlocks (sym c.as_slice.ensures) c.in_ok-blocks.ensures.good) pressed
 
 pub returns-clause-open : goal.returns-clause-open
-returns-clause-open c = c.in_ok-filled.ensures.follows (subst IsLoose (sym (c.as_slice.ensures ∙ c.in_ok-blocks.ensures.value)) (all_loose c.args.outcomes.now))
+returns-clause-open c = record {
+  behind = c.in_ok-filled.ensures.follows (subst IsLoose (sym (c.as_slice.ensures ∙ c.in_ok-blocks.ensures.value)) (all_loose c.args.outcomes.now));
+  few = let count = c.done_count.ensures in omega (arith, count);
+}

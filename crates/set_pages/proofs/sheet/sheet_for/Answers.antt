@@ -12,3 +12,6 @@ returns-clause-shows c = (c.in_ok-sheet.ensures c.args.outcomes.now (c.in_ok-pre
 
 pub returns-clause-stand : goal.returns-clause-stand
 returns-clause-stand c = (c.in_ok-sheet.ensures c.args.outcomes.now (c.in_ok-press_outcomes.ensures.pressed [] [] (c.open_press-press.ensures.pressed c.args.paper.now))).stand
+
+pub returns-clause-clear : goal.returns-clause-clear
+returns-clause-clear c = (c.in_ok-sheet.ensures c.args.outcomes.now (c.in_ok-press_outcomes.ensures.pressed [] [] (c.open_press-press.ensures.pressed c.args.paper.now))).clear
