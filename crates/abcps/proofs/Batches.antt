@@ -3,7 +3,7 @@ use Rattle.std.proofs.Common.{◌≡◌, refl, sym, ap, ◌∙◌, subst, ℕ, �
 use Rattle.std.proofs.lemmas.Grind.{flat_map-append}
 use Rattle.std.proofs.lemmas.List.{append-nil, length-append, take-append-drop}
 use Rattle.std.proofs.lemmas.List.Folds.{list_any-append}
-use Rattle.std.specs.Prelude.{◌||◌, All, Result, Ok, Err}
+use Rattle.std.specs.Prelude.{◌||◌, All, OnOk, Result, Ok, Err}
 use Rattle.abc_lines.specs.declared.book.TuneText.{TuneText}
 use Rattle.abc_header.specs.declared.defaults.Defaults.{Defaults}
 use Rattle.abc_header.specs.declared.paper.Paper.{Paper}
@@ -24,6 +24,10 @@ use Rattle.abcps.specs.declared.pressing.Running.{Running}
 use Rattle.abcps.specs.declared.status.Status.{Status}
 use Rattle.abcps.specs.declared.status.Status.TheVariants as status
 use Rattle.abcps.proofs.Sent.{first_more, memory_behind, stopped_behind, stopped_longer, stream, took_behind}
+
+pub on_ok : {T E P Q : Type 0} (r : Result T E) → (P → Q) → OnOk r P → OnOk r Q
+on_ok (Ok x) to h = to h
+on_ok (Err e) to h = h
 
 -- what is taken of outcomes behind others
 reports_append : (outcomes more : List Outcome) → reports (outcomes ++ more) ≡ reports outcomes ++ reports more

@@ -157,6 +157,15 @@ module _ (flow : Bool) (text : List ℕ) (b m a : Option (List ℕ)) (n k l : �
       (subst (λ t. WasStopped why (stream b a n l) t) (sym parts_all)
       (stopped_behind b m a n k l (first_text (paper_in text) run.given) run.wrote.0 run.wrote.1 why (rest_text run.given (sheet_of (paper_in text) run.outcomes)) closed))
 
+-- what holds of a book that was cut, by its defaults, its paper and its tunes
+pub of_book : (P : Defaults → Paper → List TuneText → Type 0) (text : List ℕ) (book : Book) (paper : Paper) (defaults : Defaults) (tunes : List TuneText) → book ≡ book_of text → paper ≡ paper_of book.header
+    → defaults ≡ defaults_of book.header → tunes ≡ book.tunes → P defaults paper tunes → P (defaults_of (book_of text).header) (paper_in text) (book_of text).tunes
+of_book P text book paper defaults tunes is on under listed h =
+    let a = subst (λ l. P defaults paper l) listed h in
+    let b = subst (λ d. P d paper book.tunes) under a in
+    let c = subst (λ p. P (defaults_of book.header) p book.tunes) on b in
+    subst (λ (x : Book). P (defaults_of x.header) (paper_of x.header) x.tunes) is c
+
 -- what `set` answers where its document was written, and errors was told the reports
 status_end : (refused : Bool) → IsEnd (status_if refused)
 status_end true = tt

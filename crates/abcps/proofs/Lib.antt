@@ -3,6 +3,7 @@ mod BookCalls
 mod Once
 mod Sent
 mod Batches
+mod Closing
 mod Cut
 mod Promised
 mod Once

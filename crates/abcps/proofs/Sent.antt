@@ -12,6 +12,7 @@ use Rattle.ps_text.specs.declared.sheet.Page.{Page}
 use Rattle.ps_text.specs.declared.sheet.Sheet.{Sheet}
 use Rattle.ps_write.specs.Written.{Counted, WroteFront}
 use Rattle.ps_write.specs.declared.steps.DocError.{DocError}
+use Rattle.ps_write.specs.declared.steps.DocWriter.{DocWriter}
 use Rattle.ps_write.specs.declared.steps.DocError.TheVariants as errors
 use Rattle.set_pages.specs.Sheet.{frame_of}
 use Rattle.set_pages.proofs.Fronts.{IsFront}
@@ -122,3 +123,28 @@ document_parts paper given sheet frame front =
     ∙ ap (λ text. prolog (frame_of paper) ++ (text ++ end)) pages
     ∙ ap (λ text. prolog (frame_of paper) ++ text) (append_assoc (numbered page_text 1 given) behind end)
     ∙ sym (append_assoc (prolog (frame_of paper)) (numbered page_text 1 given) (behind ++ end))
+
+-- a page that went out behind others, or didn't
+module _ (b m a : Option (List ℕ)) (n k l first now i : ℕ) (pages : List Page) (p : Page) (inside : i < length pages) (is : p ≡ get_or pages i p) (at : now ≡ first + i)
+    (sent : Appends b m (numbered page_text (first + 1) (take i pages))) (same : k ≡ n) where
+  number_at : now + 1 ≡ first + 1 + i
+  number_at = omega (arith, at)
+
+  pub page_sent : Appends m a (page_text (now + 1) p) → Appends b a (numbered page_text (first + 1) (take (i + 1) pages))
+  page_sent wrote =
+      subst (λ t. Appends b a t) (sym (page_more (first + 1) i pages p inside is))
+      (Appends-trans b m a (numbered page_text (first + 1) (take i pages)) (page_text (first + 1 + i) p) sent (subst (λ j. Appends m a (page_text j p)) number_at wrote))
+
+  pub page_stopped : (e : DocError) → WroteFront m a (page_text (now + 1) p) e → Counted {T = DocWriter} k l (Err e) → WasStopped (status_after e) (stream b a n l) (numbered page_text (first + 1) pages)
+  page_stopped e wrote counts =
+      let why = status_after e in
+      let taken = numbered page_text (first + 1) (take i pages) in
+      let step = subst (λ j. WasStopped why (stream m a k l) (page_text j p)) number_at (step_stopped DocWriter m a k l (page_text (now + 1) p) e wrote counts) in
+      let behind = stopped_behind b m a n k l taken sent same why (page_text (first + 1 + i) p) step in
+      let more = subst (λ t. WasStopped why (stream b a n l) t) (sym (page_more (first + 1) i pages p inside is)) behind in
+      subst (λ t. WasStopped why (stream b a n l) t) (page_left (first + 1) (i + 1) pages)
+      (stopped_longer why (stream b a n l) (numbered page_text (first + 1) (take (i + 1) pages)) (numbered page_text (first + 1 + length (take (i + 1) pages)) (drop (i + 1) pages)) more)
+
+-- memory ran out before anything went out
+pub memory_first : (b : Option (List ℕ)) (n : ℕ) (text : List ℕ) → WasStopped status.Memory (stream b b n n) text
+memory_first b n text = (0, Appends-nil b, refl)

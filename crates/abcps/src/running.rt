@@ -121,6 +121,10 @@ fn run_words<R: Threads + Sync, S: Source, O: Sink, E: Sink, G: Gate + Sync>(
 /// many, and writes the verdict on each of its tunes; `make` writes a generated book, and `trial`
 /// sets one and writes a line on it.
 ///
+/// `set` reads its book whole, and then writes pages as they fill, before the tunes behind them are
+/// set; it tells faults once the document is written. Where a write fails or memory runs out while
+/// tunes are left, what went out is a front of whatever the book calls for, and nothing is told.
+///
 /// Faulty tunes of `set` and `systems` are told on `errors`, a line each. With `flow` no bar is
 /// forced; `jobs` tunes are set side by side, where threads can be made, and what is written is the
 /// same for every number of them. Each tune enters `gate` once, before it is set. What each answer

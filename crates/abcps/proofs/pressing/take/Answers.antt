@@ -1,15 +1,15 @@
-use Rattle.std.proofs.Common.{◌≡◌, ◌∙◌, ap, sym}
+use Rattle.std.proofs.Common.{◌≡◌, ◌∙◌, refl, ap, sym}
 use Rattle.std.specs.Prelude.{◌||◌}
 use Rattle.set_lists.specs.Reports.{some_fault}
-use Rattle.abcps.proofs.Batches.{taken_more}
+use Rattle.abcps.proofs.Batches.{running_more}
 use Rattle.abcps.proofs.pressing.take.Goals as goal
-use Rattle.abcps.proofs.pressing.take.Goals.{then-taken, else-taken}
+use Rattle.abcps.proofs.pressing.take.Goals.{then-run, else-run}
 
-pub returns-clause-taken : goal.returns-clause-taken
-returns-clause-taken c before taken =
-    let refused : c.if-taken.taken ≡ (c.args.taken.now.refused || some_fault c.args.outcomes.now) =
-    elim c.if-taken.branch [
-      | then-taken w ↦ w.taken-is ∙ w.if-taken.true ∙ sym (ap (λ b. b || some_fault c.args.outcomes.now) w.if-taken.true)
-      | else-taken w ↦ w.taken-is ∙ w.has_fault-taken.ensures ∙ sym (ap (λ b. b || some_fault c.args.outcomes.now) w.if-taken.false)
+pub returns-clause-running : goal.returns-clause-running
+returns-clause-running c before given running =
+    let refused : c.if-run.run ≡ (c.args.run.now.refused || some_fault c.args.outcomes.now) =
+    elim c.if-run.branch [
+      | then-run w ↦ w.run-is ∙ w.if-run.true ∙ sym (ap (λ b. b || some_fault c.args.outcomes.now) w.if-run.true)
+      | else-run w ↦ w.run-is ∙ w.has_fault-run.ensures ∙ sym (ap (λ b. b || some_fault c.args.outcomes.now) w.if-run.false)
     ] in
-    taken_more c.args.paper.now before c.args.outcomes.now _ _ (c.in_ok-press_outcomes.ensures.pressed before) c.in_ok-put_reports.ensures refused taken
+    running_more c.args.paper.now before c.args.outcomes.now given _ _ (c.in_ok-press_outcomes.ensures.pressed before given) c.in_ok-put_reports.ensures refused refl running
