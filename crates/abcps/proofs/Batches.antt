@@ -1,5 +1,5 @@
 -- A book that is set a batch of tunes at a time, and whose pages are written as they fill.
-use Rattle.std.proofs.Common.{◌≡◌, refl, sym, ap, ◌∙◌, subst, ℕ, ◌+◌, ◌^◌, ◌<◌, Bool, List, [], ◌++◌, append_assoc, length, take, drop, Option, arith}
+use Rattle.std.proofs.Common.{◌≡◌, refl, sym, ap, ◌∙◌, subst, ℕ, ◌+◌, ◌^◌, ◌<◌, ◌≤◌, Bool, List, [], ◌++◌, append_assoc, length, take, drop, Option, arith}
 use Rattle.std.proofs.lemmas.Grind.{flat_map-append}
 use Rattle.std.proofs.lemmas.List.{append-nil, length-append, take-append-drop}
 use Rattle.std.proofs.lemmas.List.Folds.{list_any-append}
@@ -68,9 +68,14 @@ few_done paper outcomes given r running free =
     let few = free.few in
     omega (arith, count, gone, few)
 
+-- a tune is counted from 1
+abbrev pub IsCounted : TuneText → Type 0
+IsCounted tune = 1 ≤ tune.ordinal
+
 -- the outcomes of a batch, as they are pressed
-pub batch_set : (defaults : Defaults) (paper : Paper) (flow : Bool) (batch : List TuneText) (outcomes at : List Outcome) → at ≡ outcomes → AreOutcomes defaults paper flow batch outcomes → All (IsSetUnder paper) at
-batch_set defaults paper flow batch outcomes at same set = subst (λ os. All (IsSetUnder paper) os) (sym same) (set_outcomes defaults paper flow batch outcomes set)
+pub batch_set : (defaults : Defaults) (paper : Paper) (flow : Bool) (batch : List TuneText) (outcomes at : List Outcome) → All IsCounted batch → at ≡ outcomes
+    → AreOutcomes defaults paper flow batch outcomes → All (IsSetUnder paper) at
+batch_set defaults paper flow batch outcomes at counted same set = subst (λ os. All (IsSetUnder paper) os) (sym same) (set_outcomes defaults paper flow batch outcomes counted set)
 
 -- the tunes before those that are left were set, and the document was written so far
 pub record IsUnderway (defaults : Defaults) (paper : Paper) (flow : Bool) (tunes rest : List TuneText) (o : Stream) (r : Running) : Type 0 where

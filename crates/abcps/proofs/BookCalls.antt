@@ -13,11 +13,11 @@ use Rattle.ps_text.specs.declared.sheet.Sheet.{Sheet}
 use Rattle.set_book.specs.declared.outcome.Outcome.{Outcome}
 use Rattle.set_book.specs.Outcomes.{AreOutcomes}
 use Rattle.set_pages.specs.Sheet.{AllShown, AreStanding, IsSetUnder, sheet_of}
-use Rattle.set_pages.proofs.Readying.{set_outcomes}
+use Rattle.set_pages.proofs.Readying.{book_counted, set_outcomes}
 use Rattle.set_lists.specs.Reports.{reports}
 use Rattle.set_lists.specs.Trials.{trial_text}
 use Rattle.abcps.specs.Called.{Called}
-use Rattle.abcps.specs.Books.{ArePagesOf, AreSet, CallsPages, CallsSystems, Tries, paper_in, status_of, systems_called, trial_called, trial_of}
+use Rattle.abcps.specs.Books.{AreSet, CallsSystems, Tries, paper_in, status_of, systems_called, trial_called, trial_of}
 use Rattle.abcps.specs.declared.status.Status.{Status}
 
 -- what came of the tunes of a book that was cut
@@ -31,33 +31,7 @@ are_set flow text b paper outcomes is on all =
 pub set_under : (flow : Bool) (text : List ℕ) (paper : Paper) (outcomes : List Outcome) → paper ≡ paper_in text → AreSet flow text outcomes → All (IsSetUnder paper) outcomes
 set_under flow text paper outcomes is set =
     subst (λ p. All (IsSetUnder p) outcomes) (sym is)
-    (set_outcomes (defaults_of (book_of text).header) (paper_in text) flow (book_of text).tunes outcomes set)
-
--- the document of the sheet, with the reports
-pub are_pages : (paper : Paper) (outcomes : List Outcome) (sheet : Sheet) (told : List ℕ) (s : Status) → sheet ≡ sheet_of paper outcomes → IsSheet sheet
-    → AllShown paper outcomes → AreStanding paper outcomes → told ≡ reports outcomes → s ≡ status_of outcomes
-    → (called : Called) → called ≡ record { page = document sheet; told = told; status = s } → ArePagesOf paper outcomes called
-are_pages paper outcomes sheet told s is good symbols blocks tells ends called same =
-    subst (ArePagesOf paper outcomes) (sym same) (record {
-      page = ap document is;
-      good = subst IsSheet is good;
-      symbols = symbols;
-      blocks = blocks;
-      told = tells;
-      status = ends;
-    })
-
-pub called_pages : (flow : Bool) (text : List ℕ) (outcomes : List Outcome) → AreSet flow text outcomes
-    → (called : Called) → ArePagesOf (paper_in text) outcomes called → CallsPages flow text called
-called_pages flow text outcomes set called pages = record {
-  outcomes = outcomes;
-  set = set;
-  sheet = record { good = pages.good; spelled = sym pages.page };
-  symbols = pages.symbols;
-  blocks = pages.blocks;
-  told = pages.told;
-  status = pages.status;
-}
+    (set_outcomes (defaults_of (book_of text).header) (paper_in text) flow (book_of text).tunes outcomes (book_counted text) set)
 
 -- what `systems` calls for
 pub calls_systems : (flow table : Bool) (text : List ℕ) (outcomes : List Outcome) → AreSet flow text outcomes → CallsSystems flow table text (systems_called table outcomes)

@@ -1,5 +1,5 @@
 -- A book whose document was written, and one whose document was not written to its end.
-use Rattle.std.proofs.Common.{◌≡◌, refl, sym, ap, ◌∙◌, subst, ◌⊎◌, inl, inr, ℕ, ◌+◌, ◌<◌, Bool, true, false, List, [], ◌∷◌, ◌++◌, length, take, drop, arith, Option}
+use Rattle.std.proofs.Common.{◌≡◌, refl, sym, ap, ◌∙◌, subst, ◌⊎◌, inl, inr, ℕ, ◌+◌, ◌<◌, ◌≤◌, Bool, true, false, List, [], ◌∷◌, ◌++◌, length, take, drop, arith, Option}
 use Rattle.std.proofs.lemmas.List.{append-nil, append_assoc, length-append, take-append-drop}
 use Rattle.std.proofs.Math.Seq.{take-append_seam}
 use Rattle.std.specs.Prelude.{All, Result, Ok, Err}
@@ -14,16 +14,17 @@ use Rattle.ps_text.specs.Document.{document}
 use Rattle.ps_text.specs.declared.sheet.Page.{Page}
 use Rattle.set_book.specs.declared.outcome.Outcome.{Outcome}
 use Rattle.set_book.specs.Outcomes.{AreOutcomes, IsOutcome}
+use Rattle.set_once.proofs.Once.{outcomes_once}
 use Rattle.set_lists.specs.Reports.{reports, some_fault}
 use Rattle.set_pages.specs.Press.{IsOpen, IsPressed, done_pages}
 use Rattle.set_pages.specs.Sheet.{IsSetUnder, frame_of, sheet_of}
 use Rattle.set_pages.specs.declared.press.Press.{Press}
 use Rattle.set_pages.proofs.Fronts.{IsFront, done_first, done_front}
-use Rattle.set_pages.proofs.Readying.{set_outcomes}
+use Rattle.set_pages.proofs.Readying.{book_counted, set_outcomes}
 use Rattle.set_pages.proofs.Whole.{sheet_whole}
 use Rattle.set_pages.proofs.Zips.{zip_front}
 use Rattle.abcps.specs.Called.{Called}
-use Rattle.abcps.specs.Books.{AreSet, CallsPages, paper_in, status_of}
+use Rattle.abcps.specs.Books.{AreSet, CallsPages, pages_called, paper_in, status_of}
 use Rattle.abcps.specs.Outcome.{HasFront, IsAnswer, IsCutShort, IsEnd, IsQuiet, Stream, TookAll, TookFront}
 use Rattle.abcps.specs.Pressed.{AreCutOff, AreRunning, IsClosed, IsPrinted, IsUnprinted, WasCounted, WasStopped, all_set, first_text, rest_text, some_left, status_if, unbegun}
 use Rattle.abcps.specs.declared.pressing.Printed.{Printed}
@@ -32,7 +33,6 @@ use Rattle.abcps.specs.declared.status.Status.{Status}
 use Rattle.abcps.specs.declared.status.Status.TheVariants as status
 use Rattle.abcps_words.specs.declared.command.Command.TheVariants as command
 use Rattle.abcps.proofs.Answered.{answer_by, answered_end}
-use Rattle.abcps.proofs.Once.{OutcomesOnce, pages_called}
 use Rattle.abcps.proofs.Sent.{document_parts, front_longer, stopped_behind, stopped_count, stopped_front, stopped_longer, stream, took_behind}
 
 -- pages that were given up are the first of a sheet, and so is their text of its document
@@ -57,27 +57,28 @@ calls_pages flow text outcomes given press set good free pressed =
       set = set;
       sheet = record { good = sheet.good; spelled = refl };
       symbols = sheet.shows;
+      apart = sheet.clear;
       blocks = sheet.stand;
       told = refl;
       status = refl;
     }
 
 -- the first of some outcomes are those of the first tunes
-first_outcomes : OutcomesOnce → (defaults : Defaults) (paper : Paper) (flow : Bool) (before rest : List TuneText) (outcomes all : List Outcome) → AreOutcomes defaults paper flow before outcomes
+first_outcomes : (defaults : Defaults) (paper : Paper) (flow : Bool) (before rest : List TuneText) (outcomes all : List Outcome) → AreOutcomes defaults paper flow before outcomes
     → AreOutcomes defaults paper flow (before ++ rest) all → all ≡ outcomes ++ drop (length before) all
-first_outcomes once defaults paper flow before rest outcomes all set whole =
+first_outcomes defaults paper flow before rest outcomes all set whole =
     sym (take-append-drop (length before) all)
-    ∙ ap (λ l. l ++ drop (length before) all) (once defaults paper flow before (take (length before) all) outcomes (zip_front (IsOutcome defaults paper flow) before rest all whole) set)
+    ∙ ap (λ l. l ++ drop (length before) all) (outcomes_once defaults paper flow before (take (length before) all) outcomes (zip_front (IsOutcome defaults paper flow) before rest all whole) set)
 
 -- the pages that were done when some tunes were set are the first of whatever the book calls for
-front_called : OutcomesOnce → (defaults : Defaults) (paper : Paper) (flow : Bool) (before rest : List TuneText) (outcomes all : List Outcome) (given : List Page) (press : Press)
-    → AreOutcomes defaults paper flow before outcomes → IsPressed paper outcomes given press → AreOutcomes defaults paper flow (before ++ rest) all
+front_called : (defaults : Defaults) (paper : Paper) (flow : Bool) (before rest : List TuneText) (outcomes all : List Outcome) (given : List Page) (press : Press)
+    → All (λ tune. 1 ≤ tune.ordinal) (before ++ rest) → AreOutcomes defaults paper flow before outcomes → IsPressed paper outcomes given press → AreOutcomes defaults paper flow (before ++ rest) all
     → IsFront (given ++ done_pages press) (sheet_of paper all).pages
-front_called once defaults paper flow before rest outcomes all given press set pressed whole =
-    let parts = first_outcomes once defaults paper flow before rest outcomes all set whole in
+front_called defaults paper flow before rest outcomes all given press counted set pressed whole =
+    let parts = first_outcomes defaults paper flow before rest outcomes all set whole in
     let more = drop (length before) all in
     subst (λ os. IsFront (given ++ done_pages press) (sheet_of paper os).pages) (sym parts)
-    (done_front paper outcomes more given press pressed (subst (λ os. All (IsSetUnder paper) os) parts (set_outcomes defaults paper flow (before ++ rest) all whole)))
+    (done_front paper outcomes more given press pressed (subst (λ os. All (IsSetUnder paper) os) parts (set_outcomes defaults paper flow (before ++ rest) all counted whole)))
 
 text_front : (paper : Paper) (outcomes : List Outcome) (given : List Page) (o : Stream) → IsFront given (sheet_of paper outcomes).pages → HasFront o (first_text paper given)
     → HasFront o (document (sheet_of paper outcomes))
@@ -93,7 +94,7 @@ count_left before rest tunes tune whole =
 first_tunes : (before rest tunes : List TuneText) → before ++ rest ≡ tunes → before ≡ take (length before) tunes
 first_tunes before rest tunes whole = sym (take-append_seam before rest) ∙ ap (λ l. take (length before) l) whole
 
-module _ (once : OutcomesOnce) (flow : Bool) (text : List ℕ) (o : Stream) (why : Status) (good : IsGoodPaper (paper_in text))
+module _ (flow : Bool) (text : List ℕ) (o : Stream) (why : Status) (good : IsGoodPaper (paper_in text))
     (cut : AreCutOff (defaults_of (book_of text).header) (paper_in text) flow (book_of text).tunes o why) where
   -- the front of a document that went out
   stopped_all : WasStopped why o (document (sheet_of (paper_in text) cut.outcomes))
@@ -106,7 +107,8 @@ module _ (once : OutcomesOnce) (flow : Bool) (text : List ℕ) (o : Stream) (why
   front_all called calls =
       let given = cut.given ++ done_pages cut.press in
       let whole = subst (λ l. AreOutcomes (defaults_of (book_of text).header) (paper_in text) flow l calls.outcomes) (sym cut.whole) calls.set in
-      let front = front_called once (defaults_of (book_of text).header) (paper_in text) flow cut.before cut.rest cut.outcomes calls.outcomes cut.given cut.press cut.set cut.pressed whole in
+      let counted = subst (λ l. All (λ (tune : TuneText). 1 ≤ tune.ordinal) l) (sym cut.whole) (book_counted text) in
+      let front = front_called (defaults_of (book_of text).header) (paper_in text) flow cut.before cut.rest cut.outcomes calls.outcomes cut.given cut.press counted cut.set cut.pressed whole in
       subst (λ l. HasFront o l) calls.sheet.spelled
       (text_front (paper_in text) calls.outcomes given o front (stopped_front why o (first_text (paper_in text) given) cut.wrote))
 

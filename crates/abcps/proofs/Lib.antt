@@ -1,9 +1,8 @@
 mod Answered
 mod BookCalls
-mod Once
+pub mod Once
 mod Sent
 mod Batches
 mod Closing
 mod Cut
 mod Promised
-mod Once

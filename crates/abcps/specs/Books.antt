@@ -10,6 +10,7 @@ use Rattle.ps_text.specs.Range.{IsSheet}
 use Rattle.ps_text.specs.declared.sheet.Sheet.{Sheet}
 use Rattle.set_book.specs.declared.outcome.Outcome.{Outcome}
 use Rattle.set_book.specs.Outcomes.{AreOutcomes}
+use Rattle.set_pages.specs.Clear.{AreClear}
 use Rattle.set_pages.specs.Sheet.{AllShown, AreStanding, sheet_of}
 use Rattle.set_lists.specs.declared.trials.Trial.{Trial}
 use Rattle.set_lists.specs.Reports.{reports, some_fault}
@@ -32,24 +33,20 @@ abbrev pub status_of : List Outcome → Status
 status_of outcomes = if some_fault outcomes then status.SomeRefused else status.Done
 
 -- Of `set`: the page, read back, is the one sheet that the tunes without fault call for; on it the ranks read off each staff are the
--- marks that the score calls for, and each block lies on its page and follows the one before it; and each fault is told.
+-- marks that the score calls for, boxes of one lane in different columns stay apart, and so do staves, and each block lies on its page
+-- and follows the one before it; and each fault is told.
 pub record CallsPages (flow : Bool) (text : List ℕ) (c : Called) : Type 0 where
   pub outcomes : List Outcome
   pub set : AreSet flow text outcomes
   pub sheet : Spells (sheet_of (paper_in text) outcomes) c.page
   pub symbols : AllShown (paper_in text) outcomes
+  pub apart : AreClear (paper_in text) outcomes
   pub blocks : AreStanding (paper_in text) outcomes
   pub told : c.told ≡ reports outcomes
   pub status : c.status ≡ status_of outcomes
 
--- The same for a paper and the outcomes on it.
-pub record ArePagesOf (paper : Paper) (outcomes : List Outcome) (c : Called) : Type 0 where
-  pub page : c.page ≡ document (sheet_of paper outcomes)
-  pub good : IsSheet (sheet_of paper outcomes)
-  pub symbols : AllShown paper outcomes
-  pub blocks : AreStanding paper outcomes
-  pub told : c.told ≡ reports outcomes
-  pub status : c.status ≡ status_of outcomes
+abbrev pub pages_called : Paper → List Outcome → Called
+pages_called paper outcomes = record { page = document (sheet_of paper outcomes); told = reports outcomes; status = status_of outcomes }
 
 -- Of `systems`: the systems of each tune that is set, or the listing of their spans.
 abbrev pub systems_by : Bool → List Outcome → List ℕ

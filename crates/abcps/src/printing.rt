@@ -32,6 +32,7 @@ fn take_batch<R: Threads + Sync, G: Gate + Sync>(
     gate: &G,
 ) -> Result<(), Memory>
     requires tunes { All IsGoodTune batch.now }
+    requires counted { All (λ tune. 1 ≤ tune.ordinal) batch.now }
     requires defaults { IsGoodDefaults defaults.now }
     requires paper { IsGoodPaper paper.now }
     requires some { 1 ≤ jobs }
@@ -58,6 +59,7 @@ fn print_tunes<R: Threads + Sync, O: Sink, G: Gate + Sync>(
     gate: &G,
 ) -> Result<Running, Status>
     requires tunes { All IsGoodTune tunes.now }
+    requires counted { All (λ tune. 1 ≤ tune.ordinal) tunes.now }
     requires defaults { IsGoodDefaults defaults.now }
     requires paper { IsGoodPaper paper.now }
     requires some { 1 ≤ jobs }

@@ -1,11 +1,19 @@
-use Rattle.std.proofs.Common.{◌≡◌, sym, subst, rules, Result, Err}
+use Rattle.std.proofs.Common.{◌≡◌, ◌∙◌, sym, ap, subst, rules, Result, Err}
+use Rattle.std.specs.Prelude.{All}
+use Rattle.abc_lines.specs.declared.book.Book.{Book}
 use Rattle.abc_header.specs.Papers.{IsGoodPaper}
 use Rattle.abcps.specs.Books.{paper_in}
 use Rattle.abcps.specs.Pressed.{AreCutOff, AreRunning, IsPrinted}
+use Rattle.set_pages.proofs.Readying.{book_counted}
+use Rattle.abcps.proofs.Batches.{IsCounted}
 use Rattle.abcps.proofs.Cut.{of_book, printed, unprinted}
-use Rattle.abcps.proofs.Once.{outcomes_once}
 use Rattle.abcps.proofs.Sent.{stream}
 use Rattle.abcps.proofs.printing.print_book.Goals as goal
+
+pub print_tunes-requires-clause-counted : goal.print_tunes-requires-clause-counted
+print_tunes-requires-clause-counted g c κs within =
+    let same = c.as_slice-tunes.ensures ∙ ap (λ (b : Book). b.tunes) c.in_ok-book.ensures.book in
+    subst (λ tunes. All IsCounted tunes) (sym same) (book_counted c.args.text.now)
 
 pub returns-in_err-run : goal.returns-in_err-run
 returns-in_err-run g c =
@@ -19,7 +27,7 @@ returns-in_err-run g c =
         text c.in_ok-book.book c.read_paper-paper.result c.read_defaults-defaults.result c.as_slice-tunes.result.now c.in_ok-book.ensures.book c.read_paper-paper.ensures.value
         c.read_defaults-defaults.ensures.value c.as_slice-tunes.ensures c.in_err-run.ensures in
     subst (λ r. IsPrinted c.args.flow text (stream (g.O.Sink.taken c.args.output.now) (g.O.Sink.taken c.print_tunes.new.output) (g.O.Sink.faults c.args.output.now) (g.O.Sink.faults c.print_tunes.new.output)) r) (sym is)
-    (unprinted outcomes_once c.args.flow text _ c.in_err-run.field-0.0 good cut)
+    (unprinted c.args.flow text _ c.in_err-run.field-0.0 good cut)
 
 pub returns : goal.returns
 returns g c =

@@ -4,7 +4,7 @@ use Rattle.std.proofs.lemmas.List.Elements.{All-drop, All-take}
 use Rattle.abc_lines.specs.Good.{IsGoodTune}
 use Rattle.abcps.specs.Pressed.{ArePrinted}
 use Rattle.abcps.specs.declared.status.Status.TheVariants as status
-use Rattle.abcps.proofs.Batches.{cut_first, cut_memory, cut_written, underway_first, underway_more, underway_written}
+use Rattle.abcps.proofs.Batches.{IsCounted, cut_first, cut_memory, cut_written, underway_first, underway_more, underway_written}
 use Rattle.abcps.proofs.Sent.{stream}
 use Rattle.abcps.proofs.printing.print_tunes.Goals as goal
 
@@ -18,6 +18,7 @@ pub batches-init : goal.batches-init
 batches-init g c = record {
   underway = underway_first c.args.defaults.now c.args.paper.now c.args.flow c.args.tunes.now _ c.in_ok-run.run' c.in_ok-run.ensures.wrote c.in_ok-run.ensures.begun;
   good = c.requires.tunes;
+  counted = c.requires.counted;
 }
 
 pub returns-in_err-run-2 : goal.returns-in_err-run-2
@@ -30,6 +31,10 @@ returns-in_err-run-2 g c =
 pub take_batch-requires-clause-tunes : goal.take_batch-requires-clause-tunes
 take_batch-requires-clause-tunes g c κs within =
     subst (λ tunes. All IsGoodTune tunes) (sym c.split_at.ensures.front) (All-take IsGoodTune c.min.result c.batches.rest.now c.batches.invariant.good)
+
+pub take_batch-requires-clause-counted : goal.take_batch-requires-clause-counted
+take_batch-requires-clause-counted g c κs within =
+    subst (λ tunes. All IsCounted tunes) (sym c.split_at.ensures.front) (All-take IsCounted c.min.result c.batches.rest.now c.batches.invariant.counted)
 
 pub returns-in_err-take_batch : goal.returns-in_err-take_batch
 returns-in_err-take_batch g c =
@@ -52,4 +57,5 @@ batches-preserved g c =
           underway_more c.args.defaults.now c.args.paper.now c.args.flow c.args.tunes.now c.batches.rest.now c.split_at.result.0.now c.split_at.result.1.now c.min.result _ c.in_ok-run-2.run' c.take_batch.new.run
           c.split_at.ensures.front c.split_at.ensures.back c.in_ok-take_batch.ensures.taken c.in_ok-take_batch.ensures.open way;
       good = subst (λ tunes. All IsGoodTune tunes) (sym c.split_at.ensures.back) (All-drop IsGoodTune c.min.result c.batches.rest.now c.batches.invariant.good);
+      counted = subst (λ tunes. All IsCounted tunes) (sym c.split_at.ensures.back) (All-drop IsCounted c.min.result c.batches.rest.now c.batches.invariant.counted);
     }

@@ -1,7 +1,7 @@
 use Rattle.std.proofs.Common.{length}
 use Rattle.std.specs.Prelude.{All}
 use Rattle.abc_lines.specs.Good.{IsGoodTune}
-use Rattle.abcps.proofs.Batches.{IsUnderway}
+use Rattle.abcps.proofs.Batches.{IsCounted, IsUnderway}
 use Rattle.abcps.proofs.Sent.{stream}
 use Rattle.abcps.proofs.printing.print_tunes.Given as goal
 
@@ -11,6 +11,7 @@ invariant-batches g l = record {
       IsUnderway l.defaults l.paper l.flow l.tunes l.rest
       (stream (g.O.Sink.taken l.fn.output) (g.O.Sink.taken l.output) (g.O.Sink.faults l.fn.output) (g.O.Sink.faults l.output)) l.run;
   good : All IsGoodTune l.rest;
+  counted : All IsCounted l.rest;
 }
 
 abbrev pub decreases-batches : goal.decreases-batches

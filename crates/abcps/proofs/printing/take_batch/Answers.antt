@@ -5,7 +5,7 @@ use Rattle.abcps.proofs.printing.take_batch.Goals as goal
 
 pub take-requires-clause-outcomes : goal.take-requires-clause-outcomes
 take-requires-clause-outcomes g c =
-    batch_set c.args.defaults.now c.args.paper.now c.args.flow c.args.batch.now c.in_ok-outcomes.outcomes c.as_slice.result.now c.as_slice.ensures c.in_ok-outcomes.ensures
+    batch_set c.args.defaults.now c.args.paper.now c.args.flow c.args.batch.now c.in_ok-outcomes.outcomes c.as_slice.result.now c.requires.counted c.as_slice.ensures c.in_ok-outcomes.ensures
 
 pub returns-clause-taken : goal.returns-clause-taken
 returns-clause-taken g c =
