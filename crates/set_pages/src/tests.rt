@@ -1,3 +1,6 @@
+ghost use Rattle.std.specs.Prelude.{◌≡◌, [], ◌∷◌, IfOk, pos};
+ghost use Rattle.mus_units.specs.declared.glyph.Size.TheVariants as size;
+
 use crate::pages::{Pages, no_pages, turn};
 use crate::sheet::sheet_for;
 use crate::titles::put_title;
@@ -63,7 +66,9 @@ fn is_begun(items: &[Item], ordinal: u32, height: i64) -> bool {
 }
 
 /// The row of a title of one letter.
-fn row(alloc: Global) -> Result<TitleRow, Memory> {
+fn row(alloc: Global) -> Result<TitleRow, Memory>
+    ensures { IfOk result (λ row. row ≡ record { size = size.Big; x = pos 24170; down = pos 1800; text = 65 ∷ [] }) }
+{
     Ok(TitleRow {
         size: Size::Big,
         x: 24170,
