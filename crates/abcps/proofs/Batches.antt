@@ -19,7 +19,7 @@ use Rattle.set_pages.proofs.Joined.{zip_append}
 use Rattle.set_pages.proofs.Readying.{set_outcomes}
 use Rattle.set_pages.proofs.Whole.{none_open, none_pressed}
 use Rattle.abcps.specs.Outcome.{Stream, TookAll}
-use Rattle.abcps.specs.Pressed.{AreCutOff, AreRunning, AreTaken, IsBegun, IsRunning, WasGiven, WasStopped, first_text}
+use Rattle.abcps.specs.Pressed.{AreCutOff, AreRunning, AreTaken, IsBegun, IsRunning, WasStopped, first_text}
 use Rattle.abcps.specs.declared.pressing.Running.{Running}
 use Rattle.abcps.specs.declared.status.Status.{Status}
 use Rattle.abcps.specs.declared.status.Status.TheVariants as status

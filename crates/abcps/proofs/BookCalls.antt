@@ -7,18 +7,12 @@ use Rattle.abc_header.specs.Papers.{paper_of}
 use Rattle.abc_lines.specs.declared.book.Book.{Book}
 use Rattle.abc_lines.specs.Books.{book_of}
 use Rattle.gen_book.specs.Book.{book}
-use Rattle.ps_text.specs.Document.{document}
-use Rattle.ps_text.specs.Range.{IsSheet}
-use Rattle.ps_text.specs.declared.sheet.Sheet.{Sheet}
 use Rattle.set_book.specs.declared.outcome.Outcome.{Outcome}
 use Rattle.set_book.specs.Outcomes.{AreOutcomes}
-use Rattle.set_pages.specs.Sheet.{AllShown, AreStanding, IsSetUnder, sheet_of}
+use Rattle.set_pages.specs.Sheet.{IsSetUnder, sheet_of}
 use Rattle.set_pages.proofs.Readying.{book_counted, set_outcomes}
-use Rattle.set_lists.specs.Reports.{reports}
 use Rattle.set_lists.specs.Trials.{trial_text}
-use Rattle.abcps.specs.Called.{Called}
-use Rattle.abcps.specs.Books.{AreSet, CallsSystems, Tries, paper_in, status_of, systems_called, trial_called, trial_of}
-use Rattle.abcps.specs.declared.status.Status.{Status}
+use Rattle.abcps.specs.Books.{AreSet, CallsSystems, Tries, paper_in, systems_called, trial_called, trial_of}
 
 -- what came of the tunes of a book that was cut
 pub are_set : (flow : Bool) (text : List ℕ) (b : Book) (paper : Paper) (outcomes : List Outcome) → b ≡ book_of text → paper ≡ paper_of b.header

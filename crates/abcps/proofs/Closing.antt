@@ -1,5 +1,5 @@
 -- The last pages of a document and its end.
-use Rattle.std.proofs.Common.{◌≡◌, refl, sym, ap, ◌∙◌, subst, ℕ, ◌+◌, ◌^◌, ◌<◌, List, [], ◌++◌, length, drop, Option, arith, Err}
+use Rattle.std.proofs.Common.{◌≡◌, refl, sym, ap, ◌∙◌, subst, ℕ, ◌+◌, ◌^◌, ◌<◌, List, ◌++◌, length, drop, Option, arith}
 use Rattle.std.proofs.lemmas.List.{length-append}
 use Rattle.std.proofs.Math.Seq.{drop-append_seam}
 use Rattle.std.specs.Prelude.{All}
@@ -7,17 +7,14 @@ use Rattle.abc_header.specs.declared.paper.Paper.{Paper}
 use Rattle.ps_text.specs.Document.{numbered, page_text, trailer}
 use Rattle.ps_text.specs.Range.{IsPage}
 use Rattle.ps_text.specs.declared.sheet.Page.{Page}
-use Rattle.ps_write.specs.Written.{Counted, WroteFront}
-use Rattle.ps_write.specs.declared.steps.DocError.{DocError}
 use Rattle.set_book.specs.declared.outcome.Outcome.{Outcome}
 use Rattle.set_pages.specs.Press.{AreLast}
 use Rattle.set_pages.specs.Sheet.{sheet_of}
 use Rattle.set_pages.proofs.Fronts.{all_right}
 use Rattle.abcps.specs.Outcome.{TookAll}
 use Rattle.abcps.specs.Pressed.{WasStopped, rest_text}
-use Rattle.abcps.specs.Status.{status_after}
 use Rattle.abcps.specs.declared.status.Status.{Status}
-use Rattle.abcps.proofs.Sent.{step_stopped, stopped_behind, stopped_longer, stream, took_behind}
+use Rattle.abcps.proofs.Sent.{stopped_behind, stopped_longer, stream, took_behind}
 
 module _ (paper : Paper) (outcomes : List Outcome) (given pages : List Page) (last : AreLast paper outcomes given pages) where
   pub last_good : All IsPage pages

@@ -1,5 +1,5 @@
 -- A book whose document was written, and one whose document was not written to its end.
-use Rattle.std.proofs.Common.{◌≡◌, refl, sym, ap, ◌∙◌, subst, ◌⊎◌, inl, inr, ℕ, ◌+◌, ◌<◌, ◌≤◌, Bool, true, false, List, [], ◌∷◌, ◌++◌, length, take, drop, arith, Option}
+use Rattle.std.proofs.Common.{◌≡◌, refl, sym, ap, ◌∙◌, subst, ◌⊎◌, inl, inr, ℕ, ◌<◌, ◌≤◌, Bool, true, false, List, [], ◌∷◌, ◌++◌, length, take, drop, arith, Option}
 use Rattle.std.proofs.lemmas.List.{append-nil, append_assoc, length-append, take-append-drop}
 use Rattle.std.proofs.Math.Seq.{take-append_seam}
 use Rattle.std.specs.Prelude.{All, Result, Ok, Err}
@@ -15,7 +15,7 @@ use Rattle.ps_text.specs.declared.sheet.Page.{Page}
 use Rattle.set_book.specs.declared.outcome.Outcome.{Outcome}
 use Rattle.set_book.specs.Outcomes.{AreOutcomes, IsOutcome}
 use Rattle.set_once.proofs.Once.{outcomes_once}
-use Rattle.set_lists.specs.Reports.{reports, some_fault}
+use Rattle.set_lists.specs.Reports.{some_fault}
 use Rattle.set_pages.specs.Press.{IsOpen, IsPressed, done_pages}
 use Rattle.set_pages.specs.Sheet.{IsSetUnder, frame_of, sheet_of}
 use Rattle.set_pages.specs.declared.press.Press.{Press}
@@ -24,7 +24,7 @@ use Rattle.set_pages.proofs.Readying.{book_counted, set_outcomes}
 use Rattle.set_pages.proofs.Whole.{sheet_whole}
 use Rattle.set_pages.proofs.Zips.{zip_front}
 use Rattle.abcps.specs.Called.{Called}
-use Rattle.abcps.specs.Books.{AreSet, CallsPages, pages_called, paper_in, status_of}
+use Rattle.abcps.specs.Books.{AreSet, CallsPages, pages_called, paper_in}
 use Rattle.abcps.specs.Outcome.{HasFront, IsAnswer, IsCutShort, IsEnd, IsQuiet, Stream, TookAll, TookFront}
 use Rattle.abcps.specs.Pressed.{AreCutOff, AreRunning, IsClosed, IsPrinted, IsUnprinted, WasCounted, WasStopped, all_set, first_text, rest_text, some_left, status_if, unbegun}
 use Rattle.abcps.specs.declared.pressing.Printed.{Printed}
@@ -152,7 +152,7 @@ module _ (flow : Bool) (text : List ℕ) (b m a : Option (List ℕ)) (n k l : �
     closed.1,
     closed.2,
     subst (λ t. TookAll (stream b a n l) t) (sym parts_all)
-    (took_behind b m a n k l (first_text (paper_in text) run.given) run.wrote.0 run.wrote.1 (rest_text run.given (sheet_of (paper_in text) run.outcomes)) closed.0),
+        (took_behind b m a n k l (first_text (paper_in text) run.given) run.wrote.0 run.wrote.1 (rest_text run.given (sheet_of (paper_in text) run.outcomes)) closed.0),
   )
   printed (Err why) closed =
       all_set (pages_called (paper_in text) run.outcomes) calls_all

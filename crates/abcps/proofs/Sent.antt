@@ -1,6 +1,6 @@
 -- What a sink took of texts that were given to it one after another, and how much of a document its first pages are.
 use Rattle.std.proofs.Common.{◌≡◌, refl, sym, ap, ◌∙◌, subst, ℕ, zero, suc, ◌+◌, ◌<◌, List, [], ◌∷◌, ◌++◌, length, take, drop, get_or, Option, Err, arith}
-use Rattle.std.proofs.lemmas.List.{append-nil, append_assoc, length-append, length-take-le, take-append-drop, take_more}
+use Rattle.std.proofs.lemmas.List.{append-nil, append_assoc, length-take-le, take-append-drop, take_more}
 use Rattle.std.proofs.Math.Seq.{drop-append_seam, take-append-add, take-append_seam}
 use Rattle.std.specs.Io.KnownBytes.{Appends}
 use Rattle.std.proofs.KnownBytes.{Appends-nil, Appends-trans}
@@ -113,10 +113,10 @@ pub document_parts : (paper : Paper) (given : List Page) (sheet : Sheet) → she
 document_parts paper given sheet frame front =
     let rest : drop (length given) sheet.pages ≡ front.rest = ap (λ l. drop (length given) l) front.whole ∙ drop-append_seam given front.rest in
     let pages : numbered page_text 1 sheet.pages ≡ numbered page_text 1 given ++ numbered page_text (length given + 1) (drop (length given) sheet.pages) =
-        let same : 1 + length given ≡ length given + 1 = omega arith in
-        ap (λ l. numbered page_text 1 l) front.whole ∙ numbered_append page_text 1 given front.rest
-        ∙ ap (λ j. numbered page_text 1 given ++ numbered page_text j front.rest) same
-        ∙ ap (λ l. numbered page_text 1 given ++ numbered page_text (length given + 1) l) (sym rest) in
+    let same : 1 + length given ≡ length given + 1 = omega arith in
+    ap (λ l. numbered page_text 1 l) front.whole ∙ numbered_append page_text 1 given front.rest
+    ∙ ap (λ j. numbered page_text 1 given ++ numbered page_text j front.rest) same
+    ∙ ap (λ l. numbered page_text 1 given ++ numbered page_text (length given + 1) l) (sym rest) in
     let behind = numbered page_text (length given + 1) (drop (length given) sheet.pages) in
     let end = trailer (length sheet.pages) in
     document_text sheet ∙ ap (λ f. prolog f ++ (numbered page_text 1 sheet.pages ++ end)) frame

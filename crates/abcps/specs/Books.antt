@@ -6,7 +6,6 @@ use Rattle.abc_header.specs.Defaults.{defaults_of}
 use Rattle.abc_header.specs.Papers.{paper_of}
 use Rattle.gen_book.specs.Book.{book}
 use Rattle.ps_text.specs.Document.{Spells, document}
-use Rattle.ps_text.specs.Range.{IsSheet}
 use Rattle.ps_text.specs.declared.sheet.Sheet.{Sheet}
 use Rattle.set_book.specs.declared.outcome.Outcome.{Outcome}
 use Rattle.set_book.specs.Outcomes.{AreOutcomes}

@@ -71,7 +71,9 @@ fn print_tunes<R: Threads + Sync, O: Sink, G: Gate + Sync>(
     'batches: while !rest.is_empty() {
         run = write_done(alloc, run, output)?;
         let (batch, later) = rest.split_at(rest.len().min(BATCH));
-        take_batch(rt, alloc, batch, defaults, paper, flow, jobs, &mut run, gate)?;
+        take_batch(
+            rt, alloc, batch, defaults, paper, flow, jobs, &mut run, gate,
+        )?;
         rest = later;
     }
     Ok(run)

@@ -87,7 +87,7 @@ front_of_front xs ys zs one two = record { rest = one.rest ++ two.rest; whole = 
 -- what is put behind the outcomes that were pressed
 put_behind : (paper : Paper) (first more : List Outcome) (given : List Page) (p : Press) → IsPressed paper first given p
     → with_drawings (width_of paper) no_pages (all_drawings (first ++ more)) (all_spots paper (first ++ more))
-        ≡ with_drawings (width_of paper) (restored given p.pages) (all_drawings more) (spots_behind (height_of paper) (behind_after (height_of paper) None (all_blocks first)) (all_blocks more))
+    ≡ with_drawings (width_of paper) (restored given p.pages) (all_drawings more) (spots_behind (height_of paper) (behind_after (height_of paper) None (all_blocks first)) (all_blocks more))
 put_behind paper first more given p pressed =
     let width = width_of paper in
     let high = height_of paper in

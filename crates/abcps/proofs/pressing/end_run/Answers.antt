@@ -1,4 +1,4 @@
-use Rattle.std.proofs.Common.{◌≡◌, ◌∙◌, ◌+◌, ◌^◌, ◌<◌, length, refl, sym, subst, ap, rules, Result, Err}
+use Rattle.std.proofs.Common.{◌≡◌, ◌∙◌, ◌+◌, ◌^◌, ◌<◌, length, sym, subst, ap, rules, Err}
 use Rattle.std.specs.Prelude.{All}
 use Rattle.ps_text.specs.Range.{IsPage}
 use Rattle.abcps.specs.Pressed.{IsClosed, status_if}

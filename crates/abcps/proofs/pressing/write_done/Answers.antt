@@ -1,7 +1,6 @@
-use Rattle.std.proofs.Common.{◌≡◌, ◌∙◌, ◌+◌, length, refl, sym, subst, ap}
+use Rattle.std.proofs.Common.{◌∙◌, ◌+◌, length, refl, sym, subst, ap}
 use Rattle.std.specs.Prelude.{All}
 use Rattle.ps_text.specs.Range.{IsPage}
-use Rattle.set_pages.specs.Press.{done_pages}
 use Rattle.set_pages.proofs.Whole.{done_good}
 use Rattle.abcps.proofs.Batches.{running_written}
 use Rattle.abcps.proofs.pressing.write_done.Goals as goal

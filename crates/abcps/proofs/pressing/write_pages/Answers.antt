@@ -1,4 +1,4 @@
-use Rattle.std.proofs.Common.{◌≡◌, ◌∙◌, ◌<◌, ◌+◌, length, sym, subst, arith, rules, Result, Err}
+use Rattle.std.proofs.Common.{◌≡◌, ◌∙◌, ◌<◌, ◌+◌, length, sym, subst, arith, rules, Err}
 use Rattle.ps_text.specs.Document.{numbered, page_text}
 use Rattle.abcps.specs.Pressed.{WasGiven}
 use Rattle.abcps.specs.Status.{status_after}

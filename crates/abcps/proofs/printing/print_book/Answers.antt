@@ -1,4 +1,4 @@
-use Rattle.std.proofs.Common.{◌≡◌, ◌∙◌, sym, ap, subst, rules, Result, Err}
+use Rattle.std.proofs.Common.{◌≡◌, ◌∙◌, sym, ap, subst, rules, Err}
 use Rattle.std.specs.Prelude.{All}
 use Rattle.abc_lines.specs.declared.book.Book.{Book}
 use Rattle.abc_header.specs.Papers.{IsGoodPaper}
@@ -20,12 +20,12 @@ returns-in_err-run g c =
     let is : c.from_residual-in_err-run.result ≡ Err c.in_err-run.field-0.0 = search rules in
     let text = c.args.text.now in
     let good : IsGoodPaper (paper_in text) =
-        of_book (λ defaults paper tunes. IsGoodPaper paper) text c.in_ok-book.book c.read_paper-paper.result c.read_defaults-defaults.result c.as_slice-tunes.result.now c.in_ok-book.ensures.book c.read_paper-paper.ensures.value
-        c.read_defaults-defaults.ensures.value c.as_slice-tunes.ensures c.read_paper-paper.ensures.good in
+    of_book (λ defaults paper tunes. IsGoodPaper paper) text c.in_ok-book.book c.read_paper-paper.result c.read_defaults-defaults.result c.as_slice-tunes.result.now c.in_ok-book.ensures.book c.read_paper-paper.ensures.value
+    c.read_defaults-defaults.ensures.value c.as_slice-tunes.ensures c.read_paper-paper.ensures.good in
     let cut =
-        of_book (λ defaults paper tunes. AreCutOff defaults paper c.args.flow tunes (stream (g.O.Sink.taken c.args.output.now) (g.O.Sink.taken c.print_tunes.new.output) (g.O.Sink.faults c.args.output.now) (g.O.Sink.faults c.print_tunes.new.output)) c.in_err-run.field-0.0)
-        text c.in_ok-book.book c.read_paper-paper.result c.read_defaults-defaults.result c.as_slice-tunes.result.now c.in_ok-book.ensures.book c.read_paper-paper.ensures.value
-        c.read_defaults-defaults.ensures.value c.as_slice-tunes.ensures c.in_err-run.ensures in
+    of_book (λ defaults paper tunes. AreCutOff defaults paper c.args.flow tunes (stream (g.O.Sink.taken c.args.output.now) (g.O.Sink.taken c.print_tunes.new.output) (g.O.Sink.faults c.args.output.now) (g.O.Sink.faults c.print_tunes.new.output)) c.in_err-run.field-0.0)
+    text c.in_ok-book.book c.read_paper-paper.result c.read_defaults-defaults.result c.as_slice-tunes.result.now c.in_ok-book.ensures.book c.read_paper-paper.ensures.value
+    c.read_defaults-defaults.ensures.value c.as_slice-tunes.ensures c.in_err-run.ensures in
     subst (λ r. IsPrinted c.args.flow text (stream (g.O.Sink.taken c.args.output.now) (g.O.Sink.taken c.print_tunes.new.output) (g.O.Sink.faults c.args.output.now) (g.O.Sink.faults c.print_tunes.new.output)) r) (sym is)
     (unprinted c.args.flow text _ c.in_err-run.field-0.0 good cut)
 
@@ -33,11 +33,11 @@ pub returns : goal.returns
 returns g c =
     let text = c.args.text.now in
     let good : IsGoodPaper (paper_in text) =
-        of_book (λ defaults paper tunes. IsGoodPaper paper) text c.in_ok-book.book c.read_paper-paper.result c.read_defaults-defaults.result c.as_slice-tunes.result.now c.in_ok-book.ensures.book c.read_paper-paper.ensures.value
-        c.read_defaults-defaults.ensures.value c.as_slice-tunes.ensures c.read_paper-paper.ensures.good in
+    of_book (λ defaults paper tunes. IsGoodPaper paper) text c.in_ok-book.book c.read_paper-paper.result c.read_defaults-defaults.result c.as_slice-tunes.result.now c.in_ok-book.ensures.book c.read_paper-paper.ensures.value
+    c.read_defaults-defaults.ensures.value c.as_slice-tunes.ensures c.read_paper-paper.ensures.good in
     let run =
-        of_book (λ defaults paper tunes. AreRunning defaults paper c.args.flow tunes (stream (g.O.Sink.taken c.args.output.now) (g.O.Sink.taken c.print_tunes.new.output) (g.O.Sink.faults c.args.output.now) (g.O.Sink.faults c.print_tunes.new.output)) c.in_ok-run.run')
-        text c.in_ok-book.book c.read_paper-paper.result c.read_defaults-defaults.result c.as_slice-tunes.result.now c.in_ok-book.ensures.book c.read_paper-paper.ensures.value
-        c.read_defaults-defaults.ensures.value c.as_slice-tunes.ensures c.in_ok-run.ensures in
+    of_book (λ defaults paper tunes. AreRunning defaults paper c.args.flow tunes (stream (g.O.Sink.taken c.args.output.now) (g.O.Sink.taken c.print_tunes.new.output) (g.O.Sink.faults c.args.output.now) (g.O.Sink.faults c.print_tunes.new.output)) c.in_ok-run.run')
+    text c.in_ok-book.book c.read_paper-paper.result c.read_defaults-defaults.result c.as_slice-tunes.result.now c.in_ok-book.ensures.book c.read_paper-paper.ensures.value
+    c.read_defaults-defaults.ensures.value c.as_slice-tunes.ensures c.in_ok-run.ensures in
     printed c.args.flow text (g.O.Sink.taken c.args.output.now) (g.O.Sink.taken c.print_tunes.new.output) (g.O.Sink.taken c.end_run.new.output) (g.O.Sink.faults c.args.output.now) (g.O.Sink.faults c.print_tunes.new.output)
     (g.O.Sink.faults c.end_run.new.output) c.in_ok-run.run' good run c.end_run.result (c.end_run.ensures (paper_in text) run.outcomes run.given good run.running)

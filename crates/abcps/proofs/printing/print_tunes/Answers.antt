@@ -1,4 +1,4 @@
-use Rattle.std.proofs.Common.{◌≡◌, ◌∙◌, refl, sym, subst, rules, Result, Err}
+use Rattle.std.proofs.Common.{◌≡◌, refl, sym, subst, rules, Err}
 use Rattle.std.specs.Prelude.{All}
 use Rattle.std.proofs.lemmas.List.Elements.{All-drop, All-take}
 use Rattle.abc_lines.specs.Good.{IsGoodTune}
@@ -40,18 +40,18 @@ pub returns-in_err-take_batch : goal.returns-in_err-take_batch
 returns-in_err-take_batch g c =
     let is : c.from_residual-in_err-take_batch.result ≡ Err status.Memory = search rules in
     let way =
-        underway_written c.args.defaults.now c.args.paper.now c.args.flow c.args.tunes.now c.batches.rest.now (g.O.Sink.taken c.args.output.now) (g.O.Sink.taken c.batches.output) (g.O.Sink.taken c.write_done.new.output)
-        (g.O.Sink.faults c.args.output.now) (g.O.Sink.faults c.batches.output) (g.O.Sink.faults c.write_done.new.output) c.batches.run c.in_ok-run-2.run' c.batches.invariant.underway c.in_ok-run-2.ensures.wrote
-        (c.in_ok-run-2.ensures.running c.args.paper.now) c.in_ok-run-2.ensures.open in
+    underway_written c.args.defaults.now c.args.paper.now c.args.flow c.args.tunes.now c.batches.rest.now (g.O.Sink.taken c.args.output.now) (g.O.Sink.taken c.batches.output) (g.O.Sink.taken c.write_done.new.output)
+    (g.O.Sink.faults c.args.output.now) (g.O.Sink.faults c.batches.output) (g.O.Sink.faults c.write_done.new.output) c.batches.run c.in_ok-run-2.run' c.batches.invariant.underway c.in_ok-run-2.ensures.wrote
+    (c.in_ok-run-2.ensures.running c.args.paper.now) c.in_ok-run-2.ensures.open in
     subst (λ r. ArePrinted c.args.defaults.now c.args.paper.now c.args.flow c.args.tunes.now (stream (g.O.Sink.taken c.args.output.now) (g.O.Sink.taken c.write_done.new.output) (g.O.Sink.faults c.args.output.now) (g.O.Sink.faults c.write_done.new.output)) r) (sym is)
     (cut_memory c.args.defaults.now c.args.paper.now c.args.flow c.args.tunes.now c.batches.rest.now _ c.in_ok-run-2.run' status.Memory refl way)
 
 pub batches-preserved : goal.batches-preserved
 batches-preserved g c =
     let way =
-        underway_written c.args.defaults.now c.args.paper.now c.args.flow c.args.tunes.now c.batches.rest.now (g.O.Sink.taken c.args.output.now) (g.O.Sink.taken c.batches.output) (g.O.Sink.taken c.write_done.new.output)
-        (g.O.Sink.faults c.args.output.now) (g.O.Sink.faults c.batches.output) (g.O.Sink.faults c.write_done.new.output) c.batches.run c.in_ok-run-2.run' c.batches.invariant.underway c.in_ok-run-2.ensures.wrote
-        (c.in_ok-run-2.ensures.running c.args.paper.now) c.in_ok-run-2.ensures.open in
+    underway_written c.args.defaults.now c.args.paper.now c.args.flow c.args.tunes.now c.batches.rest.now (g.O.Sink.taken c.args.output.now) (g.O.Sink.taken c.batches.output) (g.O.Sink.taken c.write_done.new.output)
+    (g.O.Sink.faults c.args.output.now) (g.O.Sink.faults c.batches.output) (g.O.Sink.faults c.write_done.new.output) c.batches.run c.in_ok-run-2.run' c.batches.invariant.underway c.in_ok-run-2.ensures.wrote
+    (c.in_ok-run-2.ensures.running c.args.paper.now) c.in_ok-run-2.ensures.open in
     record {
       underway =
           underway_more c.args.defaults.now c.args.paper.now c.args.flow c.args.tunes.now c.batches.rest.now c.split_at.result.0.now c.split_at.result.1.now c.min.result _ c.in_ok-run-2.run' c.take_batch.new.run
