@@ -124,7 +124,6 @@ staff_printed : (keys : List ColumnKey) (lengths : List ℕ) (a b : ℕ) (v : Dr
 unfolding staff_marks staff_over
 staff_printed keys lengths a b v good = voice_printed keys lengths _ a b v good
 
-
 staves_printed : (keys : List ColumnKey) (lengths : List ℕ) (a b : ℕ) (vs : List Voice) → All IsGoodVoice vs → All (λ s. HavePrinted s.marks) (map (staff_of keys lengths a b) vs)
 staves_printed keys lengths a b vs good =
     All-map (λ s. HavePrinted s.marks) (staff_of keys lengths a b) vs

@@ -255,6 +255,7 @@ one_of false x y p q = q
 pub arc : (left right : ℕ) (piece : Piece) (a : Arc) (from to : Seen) → HasPrinted (arc_mark left right piece a from to).mark
 unfolding arc_mark slur_mark tie_mark
 arc left right piece a from to = one_of a.tie (tie_mark left right piece a.head from to) (slur_mark left right piece from to) tt tt
+
 -- syllables
 word : (b : Bool) (t : List ℕ) (x : Laid) → (length (printed t) == 0) ≡ b → (IsPrinted (printed t) → HasPrinted x.mark) → ArePrinted (if b then [] else x ∷ [])
 word true t x e p = tt
