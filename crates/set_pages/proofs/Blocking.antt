@@ -1,9 +1,9 @@
 -- What the blocks of outcomes have, one for one with the blocks themselves: where each block lies on its page, it is ready to be drawn
 -- and its marks stand clear of each other.
-use Rattle.std.proofs.Common.{◌≡◌, refl, sym, ap, subst, get_or, ℕ, zero, suc, ◌^◌, ◌<◌, ◌≤◌, ℤ, pos, negsuc, ◌+ℤ◌, ◌-ℤ◌, ◌≤ℤ◌, Bool, true, false, List, [], ◌∷◌, ◌++◌, length, Option, Some, None, arith}
+use Rattle.std.proofs.Common.{◌≡◌, refl, sym, subst, get_or, ℕ, zero, suc, ◌^◌, ◌<◌, ◌≤◌, ℤ, pos, ◌-ℤ◌, ◌≤ℤ◌, Bool, List, [], ◌∷◌, ◌++◌, length, Option, Some, None, arith}
 use Rattle.std.proofs.lemmas.Int.{ints}
 use Rattle.std.proofs.lemmas.List.Elements.{All-head, All-tail, All-weaker}
-use Rattle.std.specs.Prelude.{All, IfSome, Result, Ok, Err, min, slice_index_or}
+use Rattle.std.specs.Prelude.{All, IfSome, Result, Ok, Err, slice_index_or}
 use Rattle.std.specs.List.{AllZip}
 use Rattle.abc_lines.specs.declared.fault.Fault.{Fault}
 use Rattle.abc_header.specs.declared.paper.Paper.{Paper}
@@ -16,20 +16,18 @@ use Rattle.lay_pages.specs.declared.stacking.Heights.{Heights}
 use Rattle.lay_pages.specs.declared.titles.TitleRow.{TitleRow}
 use Rattle.lay_pages.specs.declared.titles.TitleBlock.{TitleBlock}
 use Rattle.lay_pages.specs.Filling.{AreWithin}
-use Rattle.lay_pages.specs.Titles.{title_block_of}
 use Rattle.lay_shown.specs.Titles.{IsGoodRow}
 use Rattle.lay_shown.proofs.TitleRows.{rows_stand}
 use Rattle.set_tune.specs.declared.tune.SetTune.{SetTune}
 use Rattle.set_tune.specs.Blocks.{block_height, blocks_of, is_some_list, system_block, system_blocks, title_blocks}
-use Rattle.set_tune.specs.Setting.{IsSetTune}
 use Rattle.set_tune.proofs.Laid.{heard}
 use Rattle.set_book.specs.declared.outcome.Outcome.{Outcome}
 use Rattle.set_staves.specs.Drawn.{IsBase, IsOnPage, IsTop}
 use Rattle.set_staves.specs.Marks.{RisesAlong}
 use Rattle.lay_apart.specs.Apart.{StandWithin}
 use Rattle.set_pages.specs.Clear.{IsClear, IsClearContent}
-use Rattle.set_pages.specs.Drawings.{Content, Drawing, all_blocks, all_drawings, drawing, drawings_from, drawings_of, outcome_blocks, outcome_drawings, result_blocks, result_drawings, system, system_contents, systems_of, title, title_contents}
-use Rattle.set_pages.specs.Ready.{IsReadyAt, IsReadyContent, IsReadyOn, IsReadyRow}
+use Rattle.set_pages.specs.Drawings.{Drawing, all_blocks, all_drawings, drawing, drawings_from, outcome_blocks, outcome_drawings, result_blocks, result_drawings, system, system_contents, title, title_contents}
+use Rattle.set_pages.specs.Ready.{IsReadyOn, IsReadyRow}
 use Rattle.set_pages.specs.Sheet.{IsSetResult, IsSetUnder}
 use Rattle.set_pages.proofs.Laying.{AreLaid, IsLaidSystem, paper_narrow, tune_laid}
 use Rattle.set_pages.proofs.Stacks.{IsBetween, are_under, stacked_bases, stacked_count}

@@ -14,10 +14,10 @@ use Rattle.set_book.specs.declared.outcome.Outcome.{Outcome}
 use Rattle.set_pages.specs.declared.pages.Pages.{Pages}
 use Rattle.set_pages.specs.declared.press.Press.{Press}
 use Rattle.set_pages.specs.Drawings.{Drawing, all_blocks, all_drawings, drawn}
-use Rattle.set_pages.specs.Filling.{at_page, done_count, no_pages, restored, turned, with_drawing, with_drawings, with_items}
+use Rattle.set_pages.specs.Filling.{done_count, no_pages, restored, turned, with_drawing, with_drawings, with_items}
 use Rattle.set_pages.specs.Press.{IsPressed, done_pages}
 use Rattle.set_pages.specs.Ready.{AreRising, AreRisingFrom, IsDrawn}
-use Rattle.set_pages.specs.Sheet.{IsSetUnder, all_spots, page_count, pages_from, pages_of, sheet_of}
+use Rattle.set_pages.specs.Sheet.{IsSetUnder, all_spots, pages_of, sheet_of}
 use Rattle.set_pages.proofs.Joined.{all_loose, blocks_append, drawings_append, drawn_join, spots_join}
 use Rattle.set_pages.proofs.Readying.{all_whole}
 use Rattle.set_pages.proofs.Standing.{all_count}

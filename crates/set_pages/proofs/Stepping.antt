@@ -16,7 +16,7 @@ use Rattle.ps_text.specs.Range.{IsItem}
 use Rattle.set_tune.specs.declared.tune.SetTune.{SetTune}
 use Rattle.set_book.specs.declared.outcome.Outcome.{Outcome}
 use Rattle.set_pages.specs.declared.pages.Pages.{Pages}
-use Rattle.set_pages.specs.Drawings.{Drawing, all_blocks, all_drawings, drawing, drawings_from, drawings_of, outcome_blocks, outcome_drawings, row_at, system, system_contents, systems_of, title, title_contents}
+use Rattle.set_pages.specs.Drawings.{all_blocks, all_drawings, drawing, drawings_from, drawings_of, outcome_blocks, outcome_drawings, row_at, system, system_contents, systems_of, title, title_contents}
 use Rattle.set_pages.specs.Filling.{with_drawing, with_drawings}
 use Rattle.set_pages.specs.Ready.{IsDrawn, IsReady, IsReadyAt}
 use Rattle.set_pages.proofs.Turned.{with_more}

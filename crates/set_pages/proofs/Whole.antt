@@ -29,8 +29,8 @@ use Rattle.set_pages.proofs.Fronts.{all_left, all_right, done_first}
 use Rattle.set_pages.proofs.Joined.{pressed_more}
 use Rattle.set_pages.proofs.Ordered.{all_begun, pages_good}
 use Rattle.set_pages.proofs.Blocking.{all_clear, all_ready}
-use Rattle.set_pages.proofs.Readying.{all_whole, each_fits}
-use Rattle.set_pages.proofs.Standing.{all_count, ready_at, rising, within_count}
+use Rattle.set_pages.proofs.Readying.{each_fits}
+use Rattle.set_pages.proofs.Standing.{ready_at, rising}
 use Rattle.set_pages.proofs.Turned.{all_put, closed}
 use Rattle.set_pages.proofs.Zips.{zip_length, zip_weaker}
 

@@ -1,11 +1,9 @@
-use Rattle.std.proofs.Common.{◌≡◌, refl, sym, ap, subst, ℕ, ◌≤◌, ℤ, pos, ◌-ℤ◌, List, [], ◌∷◌, Some, arith}
+use Rattle.std.proofs.Common.{◌≡◌, refl, sym, subst, ℕ, ◌≤◌, pos, [], ◌∷◌, Some, arith}
 use Rattle.std.specs.Prelude.{All}
 use Rattle.std.proofs.lemmas.Int.{ints}
 use Rattle.std.proofs.lemmas.List.Elements.{All-cons, All-nil}
 use Rattle.mus_units.specs.declared.glyph.Size.TheVariants as size
 use Rattle.lay_pages.specs.declared.titles.TitleRow.{TitleRow}
-use Rattle.lay_shown.specs.Texts.{IsPrinted}
-use Rattle.ps_text.specs.Range.{IsNumber}
 use Rattle.set_pages.specs.Drawings.{drawing, title}
 use Rattle.set_pages.specs.Ready.{IsReadyAt, IsReadyRow}
 use Rattle.set_pages.proofs.tests.three_titles.Goals as goal
