@@ -113,16 +113,3 @@ pub unread_obeyed : (c d : Command) (left : Option (List ℕ)) (count : ℕ) (o 
     → IsAnswer d s [] o e → IsObeyed c s (untouched left count) o e
 unread_obeyed c d left count o e s is read r =
     subst (λ x. IsObeyed x s (untouched left count) o e) (sym is) (obeyed_of d (untouched left count) o e [] s read r)
-
--- what is answered for one thing is answered for all that it is
-pub answered_for : (C D : Called → Type 0) → ((called : Called) → C called → D called) → (o e : Stream) (s : Status) → IsAnswered C s o e → IsAnswered D s o e
-answered_for C D give o e status.Done r = (r.0, give r.0 r.1, r.2, r.3, r.4)
-answered_for C D give o e status.SomeRefused r = (r.0, give r.0 r.1, r.2, r.3, r.4)
-answered_for C D give o e status.NotLeast r = (r.0, give r.0 r.1, r.2, r.3, r.4)
-answered_for C D give o e status.WriteFault r = (r.0, give r.0 r.1, r.2)
-answered_for C D give o e status.Memory (quiet, inl none) = (quiet, inl none)
-answered_for C D give o e status.Memory (quiet, inr part) = (quiet, inr (part.0, give part.0 part.1, part.2))
-answered_for C D give o e status.Usage r = absurd r
-answered_for C D give o e status.ReadFault r = absurd r
-answered_for C D give o e status.TooLong r = absurd r
-answered_for C D give o e status.NotPages r = absurd r

@@ -1,8 +1,6 @@
--- The columns of a system that is set rise within the width, boxes of marks in one lane of a staff stay apart there, and its staves
--- lie within their block.
-use Rattle.std.proofs.Common.{◌≡◌, ◌∙◌, sym, ap, subst, refl, ℕ, ◌^◌, ◌<◌, ◌≤◌, ◌==◌, ℤ, pos, ◌+ℤ◌, ◌-ℤ◌, ◌≤ℤ◌, List, length, map, get_or, Option, Some, None, option_map, arith}
+-- The columns of a system that is set rise within the width, and boxes of marks in one lane of a staff stay apart there.
+use Rattle.std.proofs.Common.{◌≡◌, ◌∙◌, sym, ap, subst, refl, ℕ, ◌^◌, ◌<◌, ◌≤◌, ◌==◌, List, length, map, get_or, Option, Some, None, option_map, arith}
 use Rattle.std.specs.List.{All, Contains, slice_get}
-use Rattle.std.proofs.lemmas.Int.{ints}
 use Rattle.std.proofs.lemmas.Option.{get_or_from_slice_get, none-some, same_Some, slice_get-get_or, slice_get-map, slice_get_within}
 use Rattle.mus_score.specs.declared.score.Score.{Score}
 use Rattle.mus_score.specs.declared.score.Voice.{Voice}
@@ -16,16 +14,14 @@ use Rattle.lay_springs.specs.declared.margin.Placed.{Placed}
 use Rattle.lay_springs.specs.Place.{length_at, reach_at}
 use Rattle.lay_columns.specs.Columns.{column_reach}
 use Rattle.lay_columns.proofs.Covering.{columns_cover}
-use Rattle.lay_pages.specs.declared.stacking.Heights.{Heights}
 use Rattle.lay_shown.specs.Ranks.{AreRanked}
 use Rattle.lay_shown.specs.Shown.{IsShown}
 use Rattle.lay_tune.specs.Spans.{IsSystem, column_length, score_gaps, system_columns, verses_of}
-use Rattle.lay_tune.specs.Systems.{IsPlaced, IsStack}
-use Rattle.lay_apart.specs.Apart.{AreApart, LieWithin, StandWithin, base_at}
+use Rattle.lay_tune.specs.Systems.{IsPlaced}
+use Rattle.lay_apart.specs.Apart.{AreApart, StandWithin}
 use Rattle.lay_apart.proofs.EndKeys.{some_keys}
 use Rattle.lay_apart.proofs.LaneGaps.{HasLane}
 use Rattle.lay_apart.proofs.LaneMarks.{lane_of}
-use Rattle.lay_apart.proofs.Stacks.{stack_lies, staves_cover}
 use Rattle.lay_apart.proofs.SystemColumns.{first_stands, last_stands, system_count}
 use Rattle.lay_apart.proofs.Uncut.{StandBetween, staff_apart}
 use Rattle.lay_apart.proofs.Within.{justified_count, justified_within, stand_within}
@@ -86,17 +82,3 @@ module _ (s : Score) (width a b : ℕ) (m : SystemMarks) (p : Placed) (good : Is
 pub boxes_apart : (s : Score) (width a b : ℕ) (m : SystemMarks) (p : Placed) → IsGoodScore s → a < b → b ≤ s.measures → IsSystem s a b m → IsShown m
     → IsPlaced s width m p → width < 2 ^ 20 → All (λ staff. AreApart width p.at staff.marks) m.staves
 boxes_apart s width a b m p good order within is shown placed small = all_apart s width a b m p good order within is placed small shown.ranked
-
-pub staves_apart : (s : Score) (a b : ℕ) (m : SystemMarks) (h : Heights) → IsSystem s a b m → IsStack m h → LieWithin h.height m.staves h.bases
-staves_apart s a b m h is stack = stack_lies m.staves h.bases h.height (staves_cover s a b m is) stack.stacked
-
--- where the block lies on its page, so do the base lines of its staves, and all that stands on them
-pub bases_on_page : (top height : ℤ) (staves : List StaffMarks) (bases : List ℤ) → LieWithin height staves bases → pos 0 ≤ℤ (top -ℤ height)
-    → (i : ℕ) → i < length staves → pos 0 ≤ℤ (top +ℤ base_at bases i)
-bases_on_page top height staves bases h low i l = let lines = (h.lines i l).0 in omega (arith, ints, lines, low)
-
-pub marks_on_page : (top height high : ℤ) (staves : List StaffMarks) (bases : List ℤ) → LieWithin height staves bases → pos 0 ≤ℤ (top -ℤ height) → top ≤ℤ high
-    → (i : ℕ) (staff : StaffMarks) → slice_get staves i ≡ Some staff
-    → (pos 0 ≤ℤ ((top +ℤ base_at bases i) +ℤ staff.low)) × (((top +ℤ base_at bases i) +ℤ staff.high) ≤ℤ high)
-marks_on_page top height high staves bases h low under i staff e =
-    let marks = h.marks i staff e in (omega (arith, ints, marks.0, low), omega (arith, ints, marks.1, under))

@@ -3,7 +3,6 @@ pub mod LaneGaps
 pub mod LaneMarks
 pub mod LaneParts
 pub mod Laws
-pub mod Stacks
 pub mod SystemColumns
 pub mod Uncut
 pub mod Within

@@ -1,13 +1,11 @@
 -- Boxes of marks where their columns stand: those of one lane of a staff in different columns are at least the lane's gap apart,
--- and each box of a lane lies within the width. Loose marks are in no lane. And staves under one another: what stands on one lies
--- below what stands on those above it.
-use Rattle.std.specs.Prelude.{◌≡◌, ℕ, ◌+◌, ◌<◌, ℤ, pos, ◌+ℤ◌, ◌-ℤ◌, ◌≤ℤ◌, ◌<ℤ◌, List, length, Some, Contains, slice_get, slice_index_or}
+-- and each box of a lane lies within the width. Loose marks are in no lane.
+use Rattle.std.specs.Prelude.{◌≡◌, ℕ, ◌+◌, ◌<◌, ℤ, pos, ◌+ℤ◌, ◌≤ℤ◌, ◌<ℤ◌, List, length, Some, Contains, slice_index_or}
 use Rattle.mus_laid.specs.Boxes.{sides_of}
 use Rattle.mus_laid.specs.declared.boxes.Sides.{Sides}
 use Rattle.mus_laid.specs.declared.laid.Laid.{Laid}
 use Rattle.mus_laid.specs.declared.laid.Lane.{Lane}
 use Rattle.mus_laid.specs.declared.laid.Lane.TheVariants as lanes
-use Rattle.mus_laid.specs.declared.laid.StaffMarks.{StaffMarks}
 use Rattle.lay_columns.specs.Reaches.{rank_of}
 
 -- 100 in the main lane, 300 in each other
@@ -43,22 +41,3 @@ pub record StandWithin (width count : ℕ) (at : List ℤ) : Type 0 where
   pub rise : (i : ℕ) → i + 1 < count → x_at at i <ℤ x_at at (i + 1)
   pub low : (i : ℕ) → i < count → pos 0 ≤ℤ x_at at i
   pub high : (i : ℕ) → i < count → x_at at i ≤ℤ pos width
-
--- where the base line of a staff stands, from the top of its block down and so negative
-abbrev pub base_at : List ℤ → ℕ → ℤ
-base_at bases i = slice_index_or bases i (pos 0)
-
--- staves under one another in a block of some height
-pub record LieWithin (height : ℤ) (staves : List StaffMarks) (bases : List ℤ) : Type 0 where
-  pub count_is : length bases ≡ length staves
-  -- all that stands on a staff lies in the block
-  pub marks : (i : ℕ) (staff : StaffMarks) → slice_get staves i ≡ Some staff
-      → ((pos 0 -ℤ height) ≤ℤ (base_at bases i +ℤ staff.low)) × ((base_at bases i +ℤ staff.high) ≤ℤ pos 0)
-  -- and so do its lines, of which the uppermost stands 2000 above its base line
-  pub lines : (i : ℕ) → i < length staves → ((pos 0 -ℤ height) ≤ℤ base_at bases i) × ((base_at bases i +ℤ pos 2000) ≤ℤ pos 0)
-  -- the highest mark of a staff is 500 under the lowest of the staff above it
-  pub next : (i : ℕ) (upper lower : StaffMarks) → slice_get staves i ≡ Some upper → slice_get staves (i + 1) ≡ Some lower
-      → (base_at bases (i + 1) +ℤ lower.high) ≡ ((base_at bases i +ℤ upper.low) -ℤ pos 500)
-  -- and at least so far under those of all staves above it
-  pub apart : (i j : ℕ) (upper lower : StaffMarks) → i < j → slice_get staves i ≡ Some upper → slice_get staves j ≡ Some lower
-      → (base_at bases j +ℤ lower.high) ≤ℤ ((base_at bases i +ℤ upper.low) -ℤ pos 500)
