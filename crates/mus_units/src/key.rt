@@ -1,5 +1,8 @@
+ghost use Rattle.std.specs.Prelude.{◌≡◌, IfOk};
+
 use crate::pitch::{Alter, Letter};
-use crate::text::Row;
+use crate::text::{Memory, Row};
+use std::alloc::Global;
 
 /// An entry of a key signature.
 #[derive(Clone, Copy, Debug, PartialEq, Eq)]
@@ -13,6 +16,27 @@ pub struct Sign {
 #[derive(Debug, Drop)]
 pub struct Key {
     pub signs: Row<Sign>,
+}
+
+impl Key {
+    /// A key of the same entries.
+    pub fn copy(&self, alloc: Global) -> Result<Key, Memory>
+        ensures { IfOk result (λ it. it ≡ self.now) }
+    {
+        Ok(Key {
+            signs: self.signs.copy(alloc)?,
+        })
+    }
+}
+
+/// A copy of a key that may be absent.
+pub fn copy_optional_key(alloc: Global, key: &Option<Key>) -> Result<Option<Key>, Memory>
+    ensures { IfOk result (λ it. it ≡ key.now) }
+{
+    match key {
+        Some(key) => Ok(Some(key.copy(alloc)?)),
+        None => Ok(None),
+    }
 }
 
 /// A meter. `Common` and `Cut` are the signs C and C with a stroke, which

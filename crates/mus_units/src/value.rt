@@ -1,4 +1,5 @@
-ghost use Rattle.std.specs.Prelude.{◌≡◌, ◌≤◌};
+ghost use Rattle.std.specs.Prelude.{◌≡◌, ◌≤◌, ◌*◌};
+ghost use Rattle.mus_units.specs.Parts.{units_of};
 ghost use Rattle.mus_units.specs.Value.{base_length, value_length};
 
 /// The ticks of a whole note, 2^15 * 3^4 * 5^2 * 7^2, so that every length with
@@ -49,10 +50,12 @@ fn base_ticks(base: Base) -> u64
     }
 }
 
-/// The length of a value in ticks. Takes no memory.
+/// The length of a value in ticks: its 512ths of a whole note, each of which is
+/// `WHOLE / 512` ticks. Takes no memory.
 pub fn ticks_of(v: Value) -> u64
     requires { v.dots ≤ 3 }
-    ensures { result ≡ value_length v }
+    ensures value { result ≡ value_length v }
+    ensures exact { result * 512 ≡ units_of v * 3251404800 }
 {
     let base = base_ticks(v.base);
     match v.dots {
