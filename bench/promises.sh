@@ -1,8 +1,9 @@
 #!/usr/bin/env bash
-# Checks docs/PROMISES.md against the sources, section by section (each is a crate):
+# Checks docs/PROMISES.md, and the tables of README.md, against the sources. Of PROMISES.md, where each section is a crate:
 # each public call stands in a row; the clauses that a row names are clauses of its calls, and each named clause of a call
 # that has its own row is named; the definitions stand in specs; the edits are there, and each edit is named; the tests
-# are there. Prints what is wrong, and ends with 1 where something is.
+# are there. Of README.md: each crate has a row, and its calls and clauses are there; so are the clauses of the program.
+# Prints what is wrong, and ends with 1 where something is.
 #
 # usage: bench/promises.sh
 set -eu
@@ -223,10 +224,44 @@ def main():
     for section in document:
         if section not in crates:
             wrong(section, "has a section, but is no crate")
+    check_readme(crates, everything, files)
     if WRONG:
         print("\n".join(WRONG))
-    print(f"docs/PROMISES.md: {len(WRONG)} wrong")
+    print(f"docs/PROMISES.md and README.md: {len(WRONG)} wrong")
     sys.exit(1 if WRONG else 0)
+
+
+def check_readme(crates, everything, files):
+    """Of README's tables: each crate but those of tests and the program itself has a row, the calls of a row are of its
+    crates, and the clauses behind a call are clauses of it; the clauses of the promises are those of the top call."""
+    fields = {field for part in ("abcps", "set_tune") for path in glob.glob(f"crates/{part}/specs/*.antt") for field in re.findall(rf"^  pub ({NAME}) :", read(path), re.M)}
+    laws = {law for path in glob.glob("crates/abcps/proofs/*.antt") for law in re.findall(rf"^pub ({NAME}) :", read(path), re.M)}
+    lines, head, named = read("README.md").split("\n"), [], set()
+    for row, behind in zip(lines, lines[1:] + [""]):
+        cells = [cell.strip() for cell in re.split(r"(?<!\\)\|", row)[1:-1]]
+        if re.match(r"\|[-|]+\|$", behind):
+            head = cells
+        elif not row.startswith("|") or re.match(r"\|[-|]+\|$", row):
+            continue
+        elif head[-1] == "Clause":
+            for clause in code(cells[-1]):
+                if clause not in fields | laws:
+                    wrong("README.md", f"no clause '{clause}' of the program")
+        elif head[-1] == "Calls and their clauses":
+            mine = [call for crate in code(cells[0]) for call in everything.get(crate, [])]
+            named.update(code(cells[0]))
+            for part in cells[-1].split(";"):
+                calls = [call for call in mine if call.name in code(part)]
+                if code(part) and not calls:
+                    wrong("README.md", f"no call {part.strip()} in {cells[0]}")
+                for clause in re.findall(NAME, part.split(":")[1]) if ":" in part else []:
+                    if not any(clause in call.clauses for call in calls):
+                        wrong("README.md", f"no clause '{clause}' in {part.strip()} of {cells[0]}")
+    for crate in crates:
+        if crate not in named and not re.fullmatch(r"abcps_(tests|main|vectors|commands)", crate):
+            wrong("README.md", f"has no row for {crate}")
+    for crate in named - set(crates):
+        wrong("README.md", f"no crate {crate}")
 
 
 def check_definition(crate, entry, files, of_std):
