@@ -26,6 +26,7 @@ for folder in ("", "docs", "bench"):
         text = open(os.path.join(root, path), encoding="utf-8").read()
         links = [os.path.join(folder, link) for link in re.findall(r"\]\(([^)#:]+)\)", text)]
         files = re.findall(r"`\.?/?((?:docs|bench|examples|crates|\.ci)/[\w./-]*\w)`", text)
+        files += re.findall(r"`\./(\w+)[ `]", text)
         for file in links + files:
             if not os.path.exists(os.path.join(root, file)):
                 print(f"{path}: no file {file}")
