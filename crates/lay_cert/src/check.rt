@@ -4,8 +4,8 @@ ghost use Rattle.lay_cert.specs.Listing.{Entry, IsListing};
 ghost use Rattle.lay_cert.specs.Answers.{IsJudged, IsCause};
 ghost use Rattle.lay_cert.specs.declared.check.CertError.TheVariants as answer;
 
-use crate::numbers::cut_at;
 use crate::place::{Stage, is_ended, step};
+use eng_lines::cut_at;
 use mus_units::{Memory, Row};
 use std::alloc::Global;
 

@@ -5,7 +5,6 @@
 #![tactic(auto)]
 
 mod lines;
-mod numbers;
 mod pages;
 mod place;
 mod prolog;

@@ -1,5 +1,6 @@
 -- Bytes that lack one byte, and where a list of bytes is cut.
 use Rattle.std.proofs.Common.{◌≡◌, ◌≢◌, ℕ, zero, suc, ◌+◌, ◌%◌, ◌<◌, ◌^◌, ◌⊎◌, inl, inr, true, false, eqb, List, [], ◌∷◌, ◌++◌, length, take, drop, Some, None, refl, sym, ◌∙◌, ap, arith, slice_index_or, decimal}
+use Rattle.std.specs.Prelude.{Option, MatchOption}
 use Rattle.std.specs.List.{position, position_or_len}
 use Rattle.std.proofs.lemmas.Bool.{eqb-true, true≢false, cases_lt}
 use Rattle.std.proofs.lemmas.Option.{none-some}
@@ -7,7 +8,7 @@ use Rattle.std.proofs.lemmas.List.Quantifiers.{position-Some}
 use Rattle.std.proofs.lemmas.List.Sums.{fails_before_first}
 use Rattle.std.proofs.lemmas.Fmt.{decimal_by_steps, decimal_injective}
 use Rattle.std.proofs.lemmas.List.{append_cancel_left}
-use Rattle.lay_cert.specs.Lines.{Lacks}
+use Rattle.eng_lines.specs.Lines.{Lacks}
 
 pub lacks_both : (b : ℕ) (xs ys : List ℕ) → Lacks b xs → Lacks b ys → Lacks b (xs ++ ys)
 lacks_both b [] ys h k = k
@@ -96,3 +97,10 @@ one_field a n t r s la ln e f =
 
 pub after_prefix : (p t r s : List ℕ) → t ≡ p ++ r → t ≡ p ++ s → r ≡ s
 after_prefix p t r s e f = append_cancel_left p r s (sym e ∙ f)
+
+-- a number behind a prefix
+pub one_from : (p t rest : List ℕ) (r : Option ℕ) → t ≡ p ++ rest
+    → MatchOption r ((n : ℕ) → n < 2 ^ 32 → rest ≡ decimal n → ⊥) (λ n. (rest ≡ decimal n) × (n < 2 ^ 32))
+    → MatchOption r ((a : ℕ) → a < 2 ^ 32 → t ≡ p ++ decimal a → ⊥) (λ a. (t ≡ p ++ decimal a) × (a < 2 ^ 32))
+one_from p t rest None e h = λ a l q. h a l (after_prefix p t rest (decimal a) e q)
+one_from p t rest (Some n) e h = (e ∙ ap (λ r. p ++ r) h.0, h.1)

@@ -1,7 +1,7 @@
 use Rattle.std.proofs.Common.{◌++◌, ◌∷◌, decimal, ◌∙◌, arith}
 use mathlib.Core.List.{append_assoc}
-use Rattle.ps_read.proofs.Words.{one_field, after_prefix}
-use Rattle.ps_read.proofs.numbers.pair.Goals as goal
+use Rattle.eng_lines.proofs.Words.{one_field, after_prefix}
+use Rattle.eng_lines.proofs.numbers.numbers_behind.Goals as goal
 
 pub returns-in_err-a : goal.returns-in_err-a
 returns-in_err-a c = rw c.from_residual-in_err-a.ensures (λ a b la lb e.

@@ -2,7 +2,7 @@ use Rattle.std.proofs.Common.{decimal, ◌∙◌, ap}
 use Rattle.std.specs.Result.{result_ok}
 use Rattle.std.proofs.lemmas.Fmt.{parse-decimal, IsAscii-decimal}
 use Rattle.std.proofs.lemmas.Str.{IsUtf8-from_ascii}
-use Rattle.ps_read.proofs.numbers.parsed.Goals as goal
+use Rattle.eng_lines.proofs.numbers.parsed.Goals as goal
 
 pub returns-in-Ok : goal.returns-in-Ok
 returns-in-Ok c n l e =

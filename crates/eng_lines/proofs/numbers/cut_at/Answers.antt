@@ -1,6 +1,6 @@
 use Rattle.std.proofs.Common.{sym, ◌∙◌}
-use Rattle.lay_cert.proofs.Words.{cut_some, cut_none}
-use Rattle.lay_cert.proofs.numbers.cut_at.Goals as goal
+use Rattle.eng_lines.proofs.Words.{cut_some, cut_none}
+use Rattle.eng_lines.proofs.numbers.cut_at.Goals as goal
 
 pub returns-in-Some : goal.returns-in-Some
 returns-in-Some c = rw (c.split_at.ensures.front, c.split_at-in-Some.ensures.back)

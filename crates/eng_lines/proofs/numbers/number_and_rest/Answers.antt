@@ -1,6 +1,6 @@
 use Rattle.std.proofs.Common.{decimal, sym, ◌∙◌, arith, inl}
-use Rattle.ps_read.proofs.Words.{one_cut, lacks_none, decimal_lacks}
-use Rattle.ps_read.proofs.numbers.field.Goals as goal
+use Rattle.eng_lines.proofs.Words.{one_cut, lacks_none, decimal_lacks}
+use Rattle.eng_lines.proofs.numbers.number_and_rest.Goals as goal
 
 pub returns-in_err-front : goal.returns-in_err-front
 returns-in_err-front c = rw c.from_residual.ensures (λ n rest l e. lacks_none 32 (decimal n) rest c.args.bytes.now c.in_err-front.ensures e)

@@ -1,6 +1,6 @@
 use Rattle.std.proofs.Common.{sym, ◌∙◌, arith}
 use Rattle.std.proofs.lemmas.Fmt.{decimal_injective}
-use Rattle.ps_read.proofs.numbers.small_number.Goals as goal
+use Rattle.eng_lines.proofs.numbers.small_number.Goals as goal
 
 pub returns-in_default : goal.returns-in_default
 returns-in_default c n l e =
