@@ -21,6 +21,3 @@ pub use parts::{parts_of, value_of};
 pub use pitch::{Alter, Clef, Letter, Pitch, height};
 pub use text::{Memory, Row, Text, copy_optional_text, copy_optional_texts};
 pub use value::{Base, Frac, Value, WHOLE, ticks_of};
-
-#[cfg(test)]
-mod tests;
