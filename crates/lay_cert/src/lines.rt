@@ -7,7 +7,7 @@ use mus_units::{Memory, Text};
 use std::alloc::Global;
 
 /// A line of a listing.
-#[derive(Clone, Copy, Debug, PartialEq, Eq)]
+#[derive(Clone, Copy, PartialEq, Eq)]
 pub enum Line {
     /// The first.
     Listing,

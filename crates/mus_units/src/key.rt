@@ -5,7 +5,7 @@ use crate::text::{Memory, Row};
 use std::alloc::Global;
 
 /// An entry of a key signature.
-#[derive(Clone, Copy, Debug, PartialEq, Eq)]
+#[derive(Clone, Copy, PartialEq, Eq)]
 pub struct Sign {
     pub letter: Letter,
     pub alter: Alter,
@@ -13,7 +13,7 @@ pub struct Sign {
 
 /// A key signature: its entries in the order in which they are drawn, at most
 /// one per letter.
-#[derive(Debug, Drop)]
+#[derive(Drop)]
 pub struct Key {
     pub signs: Row<Sign>,
 }
@@ -41,7 +41,7 @@ pub fn copy_optional_key(alloc: Global, key: &Option<Key>) -> Result<Option<Key>
 
 /// A meter. `Common` and `Cut` are the signs C and C with a stroke, which
 /// count as 4/4 and 2/2.
-#[derive(Clone, Copy, Debug, PartialEq, Eq)]
+#[derive(Clone, Copy, PartialEq, Eq)]
 pub enum Meter {
     Free,
     Common,
@@ -51,7 +51,7 @@ pub enum Meter {
 
 /// How far a sign before a note reaches to later notes of its measure: not at
 /// all, to its own letter and octave, or to its letter in every octave.
-#[derive(Clone, Copy, Debug, PartialEq, Eq)]
+#[derive(Clone, Copy, PartialEq, Eq)]
 pub enum Spread {
     Not,
     Octave,

@@ -6,7 +6,7 @@ use std::alloc::Global;
 
 /// A note head as written: its pitch, the sign before it, and whether a tie
 /// begins at it.
-#[derive(Clone, Copy, Debug, PartialEq, Eq)]
+#[derive(Clone, Copy, PartialEq, Eq)]
 pub struct Head {
     pub pitch: Pitch,
     pub sign: Option<Alter>,
@@ -15,7 +15,7 @@ pub struct Head {
 
 /// The features of a bar. `end` and `start` are repeat dots before and after
 /// it, `last` is the thick line of a final bar.
-#[derive(Clone, Copy, Debug, PartialEq, Eq)]
+#[derive(Clone, Copy, PartialEq, Eq)]
 pub struct Bar {
     pub end: bool,
     pub start: bool,
@@ -28,7 +28,7 @@ pub struct Bar {
 
 /// A decoration: one of those that have a glyph, named by it; a dynamic mark
 /// below the staff; a fingering above it; or a name that draws nothing.
-#[derive(Debug, Drop)]
+#[derive(Drop)]
 pub enum Deco {
     Ks,
     Kr,
@@ -92,7 +92,7 @@ pub fn copy_decos(alloc: Global, decos: &[Deco]) -> Result<Row<Deco>, Memory>
 }
 
 /// Which way the stems of a voice are asked to go.
-#[derive(Clone, Copy, Debug, PartialEq, Eq)]
+#[derive(Clone, Copy, PartialEq, Eq)]
 pub enum Wish {
     Auto,
     Up,

@@ -9,7 +9,7 @@ use std::slice;
 
 /// Memory ran out. Every call that allocates may answer it, and no clause says
 /// when.
-#[derive(Clone, Copy, Debug, PartialEq, Eq)]
+#[derive(Clone, Copy, PartialEq, Eq)]
 pub struct Memory;
 
 impl From<AllocError> for Memory {
@@ -25,7 +25,7 @@ impl<T: Drop> From<AllocFailed<T>> for Memory {
 }
 
 /// A list of bytes, which contracts see as a list of numbers.
-#[derive(Debug, Drop)]
+#[derive(Drop)]
 pub struct Text {
     pub bytes: Vec<u8>,
 }
@@ -126,7 +126,7 @@ impl<'a> IntoIterator for &'a Text {
 }
 
 /// A list of values, which contracts see as a list.
-#[derive(Debug, Drop)]
+#[derive(Drop)]
 pub struct Row<T> {
     pub items: Vec<T>,
 }

@@ -7,14 +7,14 @@ ghost use Rattle.mus_units.specs.Value.{base_length, value_length};
 pub const WHOLE: u64 = 3_251_404_800;
 
 /// A fraction as written, not reduced.
-#[derive(Clone, Copy, Debug, PartialEq, Eq)]
+#[derive(Clone, Copy, PartialEq, Eq)]
 pub struct Frac {
     pub num: u64,
     pub den: u64,
 }
 
 /// The length of a note without dots, from two whole notes to a 64th.
-#[derive(Clone, Copy, Debug, PartialEq, Eq)]
+#[derive(Clone, Copy, PartialEq, Eq)]
 pub enum Base {
     Breve,
     Whole,
@@ -28,7 +28,7 @@ pub enum Base {
 
 /// A base with up to three dots: its length is the base and its halves, one for
 /// each dot.
-#[derive(Clone, Copy, Debug, PartialEq, Eq)]
+#[derive(Clone, Copy, PartialEq, Eq)]
 pub struct Value {
     pub base: Base,
     pub dots: u8,

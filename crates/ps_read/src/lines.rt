@@ -17,7 +17,7 @@ use ps_text::words::take_words;
 use std::alloc::Global;
 
 /// A row of a title block.
-#[derive(Debug, Drop)]
+#[derive(Drop)]
 pub struct Title {
     pub x: i64,
     pub y: i64,
@@ -26,7 +26,7 @@ pub struct Title {
 }
 
 /// The lines of a staff: their length and the height of the lowest.
-#[derive(Clone, Copy, Debug, PartialEq, Eq)]
+#[derive(Clone, Copy, PartialEq, Eq)]
 pub struct Rules {
     pub width: u32,
     pub y: i64,

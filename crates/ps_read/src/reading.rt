@@ -17,7 +17,7 @@ use ps_text::Sheet;
 use std::alloc::Global;
 
 /// Why there is no sheet.
-#[derive(Clone, Copy, Debug, PartialEq, Eq)]
+#[derive(Clone, Copy, PartialEq, Eq)]
 pub enum PagesError {
     /// The bytes are no document; `line` is the first that isn't good by the
     /// lines before it, or one past the last where the text ends early.
