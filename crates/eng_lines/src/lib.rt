@@ -5,6 +5,5 @@
 pub mod numbers;
 
 pub use numbers::{
-    cut_at, number, number_and_rest, number_behind, numbers_behind, put_number, small_number,
-    strip,
+    cut_at, number, number_and_rest, number_behind, numbers_behind, put_number, small_number, strip,
 };
