@@ -16,14 +16,14 @@ use std::alloc::Global;
 
 /// What the tree of a measure is made of: the nodes of a written event, or a
 /// tuplet of `p` in the time of `q` that takes the next `r` events.
-#[derive(Debug, Drop)]
+#[derive(Drop)]
 pub enum Leaf {
     Event { measure: u64, nodes: Row<Music> },
     Opens { measure: u64, p: u8, q: u8, r: u8 },
 }
 
 /// How many written events came before, and the id of the next part.
-#[derive(Clone, Copy, Debug, PartialEq, Eq)]
+#[derive(Clone, Copy, PartialEq, Eq)]
 pub struct Numbers {
     pub event: usize,
     pub id: u32,

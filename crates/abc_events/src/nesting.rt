@@ -12,7 +12,7 @@ use std::default::MadeWith;
 use std::mem;
 
 /// A tuplet that still takes events, and what stands before it in its row.
-#[derive(Debug, Drop)]
+#[derive(Drop)]
 pub struct Open {
     pub p: u8,
     pub q: u8,

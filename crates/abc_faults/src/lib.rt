@@ -10,6 +10,3 @@ pub use crowd::crowding;
 pub use first::earlier;
 pub use voice::fault_of_voice;
 pub use weights::{Weight, put_weights};
-
-#[cfg(test)]
-mod tests;

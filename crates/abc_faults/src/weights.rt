@@ -15,7 +15,7 @@ use std::alloc::Global;
 
 /// How many heads and rests stand at a place of the text. Weights are ordered by their places,
 /// then by their counts.
-#[derive(Clone, Copy, Debug, PartialEq, Eq, PartialOrd, Ord)]
+#[derive(Clone, Copy, PartialEq, Eq, PartialOrd, Ord)]
 pub struct Weight {
     pub line: u32,
     pub column: u32,

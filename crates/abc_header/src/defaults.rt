@@ -15,7 +15,7 @@ use mus_units::{Frac, Meter, Spread};
 
 /// What the file header sets for every tune. Without a unit each tune's own meter
 /// decides it.
-#[derive(Clone, Copy, Debug, PartialEq, Eq)]
+#[derive(Clone, Copy, PartialEq, Eq)]
 pub struct Defaults {
     pub meter: Meter,
     pub unit: Option<Frac>,

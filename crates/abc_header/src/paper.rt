@@ -10,7 +10,7 @@ use abc_lines::{Book, Line};
 
 /// The paper: its size and margins in hundredths of a point, and the scale in
 /// percent.
-#[derive(Clone, Copy, Debug, PartialEq, Eq)]
+#[derive(Clone, Copy, PartialEq, Eq)]
 pub struct Paper {
     pub wide: u32,
     pub high: u32,

@@ -7,7 +7,7 @@ use crate::book::Line;
 /// What a line is by its first bytes. A field has a letter and a colon first, a
 /// directive `%%` or `I:`, and every other line is music. A letter of A to G, a
 /// to g, x, y or z before `:|` or `::` is music too.
-#[derive(Clone, Copy, Debug, PartialEq, Eq)]
+#[derive(Clone, Copy, PartialEq, Eq)]
 pub enum LineKind {
     Field { letter: u8 },
     Directive,

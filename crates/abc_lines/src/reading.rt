@@ -10,7 +10,7 @@ use mus_units::{Memory, Text};
 use std::alloc::{AllocError, Global};
 
 /// What is read of one line of the input.
-#[derive(Debug, Drop)]
+#[derive(Drop)]
 pub enum Reading {
     /// Spaces and tabs alone.
     Empty,

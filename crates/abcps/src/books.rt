@@ -32,7 +32,7 @@ use std::alloc::Global;
 use std::thread::Threads;
 
 /// A book that was set: its paper, and what came of each of its tunes.
-#[derive(Debug, Drop)]
+#[derive(Drop)]
 struct SetBook {
     paper: Paper,
     outcomes: Row<Outcome>,

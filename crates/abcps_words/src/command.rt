@@ -6,7 +6,7 @@ use crate::options::{Options, options_of};
 use crate::words::{is_word, take_number};
 
 /// The name of a command.
-#[derive(Clone, Copy, Debug, PartialEq, Eq)]
+#[derive(Clone, Copy, PartialEq, Eq)]
 enum Name {
     Set,
     Systems,
@@ -17,7 +17,7 @@ enum Name {
 }
 
 /// What the program is asked to do.
-#[derive(Clone, Copy, Debug, PartialEq, Eq)]
+#[derive(Clone, Copy, PartialEq, Eq)]
 pub enum Command {
     /// Read a book, and write its pages: `flow` with no line break forced, by 1 to
     /// 64 `jobs`.

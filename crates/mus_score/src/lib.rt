@@ -16,6 +16,3 @@ pub use good_score::{events, is_good_score, is_good_voice};
 pub use mus_units::{Bar, Deco, Head, Key, Meter, Sign, Spread, Wish};
 pub use score::{Changes, Event, Flat, Look, Measure, Mention, Music, Score, Voice};
 pub use times::{body_duration, duration, flatten};
-
-#[cfg(test)]
-mod tests;

@@ -73,7 +73,7 @@ pub fn body_duration(body: &[Music]) -> u64
 }
 
 /// What waits for the next leaf: the tuplets that begin there, outer first, and its graces.
-#[derive(Debug, Drop)]
+#[derive(Drop)]
 pub struct Waits {
     pub tuplets: Row<u8>,
     pub graces: Row<Event>,
