@@ -1,4 +1,4 @@
-use crate::{BOOK_LIMIT, Command, PAGES_LIMIT, USAGE, asked_is_good, asks_one, command_of};
+use crate::{BOOK_LIMIT, Command, PAGES_LIMIT, asked_is_good, asks_one, command_of, usage};
 use std::alloc::{AllocError, Global};
 use std::test::*;
 
@@ -77,6 +77,6 @@ fn words_ask(rt: HostRuntime) -> Result<(), Fail> {
     assert_eq!(rt; set.limit(), BOOK_LIMIT);
     assert_eq!(rt; Command::Check.limit(), PAGES_LIMIT);
     assert_eq!(rt; make.limit(), 0);
-    assert_eq!(rt; USAGE.len(), 123);
+    assert_eq!(rt; usage().len(), 123);
     Ok(())
 }
