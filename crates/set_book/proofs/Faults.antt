@@ -8,7 +8,7 @@ use Rattle.lay_tune.specs.Layout.{IsNoWay}
 use Rattle.lay_tune.specs.Spans.{is_forced_in}
 use Rattle.set_tune.specs.declared.tune.SetTune.{SetTune}
 use Rattle.set_tune.specs.Setting.{IsLaidOut}
-use Rattle.set_once.proofs.Spanned.{one_list}
+use Rattle.set_book.proofs.Spanned.{one_list}
 
 pub one_reached : (cost : ℕ → ℕ → Option ℕ) (forced : ℕ → Bool) (n i j : ℕ) → IsReached cost forced n i → IsReached cost forced n j → i ≡ j
 one_reached cost forced n i j a b =

@@ -9,11 +9,11 @@ use Rattle.lay_tune.specs.Spans.{IsSystem, is_forced_in}
 use Rattle.lay_tune.specs.Systems.{Beside, EachSpan, IsPlaced, IsStack}
 use Rattle.set_tune.specs.declared.tune.SetTune.{SetTune}
 use Rattle.set_tune.specs.Setting.{IsLaidOut}
-use Rattle.set_once.proofs.Called.{one_each, one_system}
-use Rattle.set_once.proofs.Chosen.{IsBreaking, one_breaking}
-use Rattle.set_once.proofs.Justified.{one_placed}
-use Rattle.set_once.proofs.Spanned.{one_list}
-use Rattle.set_once.proofs.Stacked.{one_beside, one_stacked}
+use Rattle.set_book.proofs.Called.{one_each, one_system}
+use Rattle.set_book.proofs.Chosen.{IsBreaking, one_breaking}
+use Rattle.set_book.proofs.Justified.{one_placed}
+use Rattle.set_book.proofs.Spanned.{one_list}
+use Rattle.set_book.proofs.Stacked.{one_beside, one_stacked}
 
 -- the same layout under the same score
 abbrev under : Score → SetTune → SetTune

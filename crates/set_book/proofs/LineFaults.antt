@@ -15,8 +15,8 @@ use Rattle.abc_pieces.specs.declared.token.Opening.TheVariants as opens
 use Rattle.abc_pieces.proofs.PieceReader.{piece_reader}
 use Rattle.abc_tokens.specs.declared.token.Placed.{Placed}
 use Rattle.abc_tokens.specs.Tokens.{Front, clear, breaks, leads, FrontOf, column, put, kind_behind, IsHere, IsBracketFlaw, IsOwnFlaw, IsLineFlaw, fault_at}
-use Rattle.set_once.proofs.PartFaults.{by_test, none_at_end, one_longest}
-use Rattle.set_once.proofs.ChordFaults.{one_chord_fault, one_grace_fault}
+use Rattle.set_book.proofs.PartFaults.{by_test, none_at_end, one_longest}
+use Rattle.set_book.proofs.ChordFaults.{one_chord_fault, one_grace_fault}
 
 one_here : (kind : FaultKind) (s : List ℕ) (f g : Flaw) → IsHere kind s f → IsHere kind s g → f ≡ g
 one_here kind s f g a b = a ∙ sym b

@@ -1,5 +1,5 @@
 -- A tune has one outcome.
-use Rattle.std.proofs.Common.{◌≡◌, ◌∙◌, refl, sym, ap, subst, ℕ, List, [], ◌∷◌, Bool, Option, Some, None, Result, Ok, Err}
+use Rattle.std.proofs.Common.{◌≡◌, ◌∙◌, refl, sym, ap, subst, ℕ, List, [], ◌∷◌, Bool, Option, Some, None, Result, Ok, Err, inl, inr}
 use Rattle.abc_lines.specs.declared.book.TuneText.{TuneText}
 use Rattle.abc_lines.specs.declared.fault.Fault.{Fault}
 use Rattle.abc_lines.specs.declared.fault.FaultKind.TheVariants as faults
@@ -21,12 +21,14 @@ use Rattle.lay_pages.specs.Titles.{title_block_of}
 use Rattle.lay_tune.specs.Layout.{IsNoWay}
 use Rattle.set_tune.specs.declared.tune.SetTune.{SetTune}
 use Rattle.set_tune.specs.Blocks.{blocks_of}
-use Rattle.set_tune.specs.Setting.{HasHeader, HasScore, IsLaidTune, IsSetTune, layout_fault, IsFaultOfTune, of_header, of_score, no_way, too_tall}
+use Rattle.set_tune.specs.Setting.{HasHeader, HasScore, IsLaidTune, IsSetTune, layout_fault, IsFaultOfTune, IsScoreRefusal, of_header, of_score, no_way, too_tall}
 use Rattle.set_book.specs.declared.outcome.Outcome.{Outcome}
 use Rattle.set_book.specs.Outcomes.{IsResult, IsOutcome, AreOutcomes}
-use Rattle.set_once.proofs.Scores.{one_header, one_score, one_score_fault, no_score_fault}
-use Rattle.set_once.proofs.Layouts.{one_layout}
-use Rattle.set_once.proofs.Faults.{one_way, no_way_laid}
+use Rattle.set_book.specs.Once.{HaveOneOutcome, IsOneSystem}
+use Rattle.set_book.proofs.Called.{has_system, one_system}
+use Rattle.set_book.proofs.Scores.{one_header, one_score, one_score_fault, no_score_fault}
+use Rattle.set_book.proofs.Layouts.{one_layout}
+use Rattle.set_book.proofs.Faults.{one_way, no_way_laid}
 
 -- ---- what a tune is, whatever the height of the page
 
@@ -159,3 +161,26 @@ outcomes_once defaults paper flow (tune ∷ tunes) (o ∷ os) (p ∷ ps) a b =
     let first = outcome_once defaults paper flow tune o p a.0 b.0 in
     let others = outcomes_once defaults paper flow tunes os ps a.1 b.1 in
     cc
+
+-- ---- the law
+
+-- a tune that has a score has no fault up to its score
+no_refusal : (tune : TuneText) (defaults : Defaults) (flow : Bool) (h : Header) (s : Score) (f : Fault) → HasScore tune defaults flow h s → IsScoreRefusal tune defaults (errors.Fault f) → ⊥
+no_refusal tune defaults flow h s f a (inl of_head) = clear_header _ f a.read.clear of_head
+no_refusal tune defaults flow h s f a (inr (k, read, fault)) = scored tune defaults flow h k s f a read fault
+
+called_system : (s : Score) (a b : ℕ) → (m : SystemMarks) × IsOneSystem s a b m
+called_system s a b =
+    let m = has_system s a b in
+    (m.0, record { is = m.1; only = λ other is. one_system s a b other m.0 is m.1 })
+
+pub have_one_outcome : HaveOneOutcome
+have_one_outcome = record {
+  set = set_once;
+  fault = fault_once;
+  apart = never_both;
+  outcomes = outcomes_once;
+  score = one_music;
+  scored = no_refusal;
+  system = called_system;
+}

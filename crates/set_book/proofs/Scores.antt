@@ -11,8 +11,8 @@ use Rattle.mus_score.specs.declared.score.Score.{Score}
 use Rattle.abc_score.specs.Faults.{score_faults}
 use Rattle.abc_score.specs.Score.{score_of}
 use Rattle.abc_score.specs.Build.{body_lines, IsScoreOf, HasScoreFault, IsFaultOf}
-use Rattle.set_once.proofs.Bodies.{one_items, no_body_fault, one_body_fault}
-use Rattle.set_once.proofs.Ranked.{score_ranked, one_least, none_or_least}
+use Rattle.set_book.proofs.Bodies.{one_items, no_body_fault, one_body_fault}
+use Rattle.set_book.proofs.Ranked.{score_ranked, one_least, none_or_least}
 
 by_place : (tune : TuneText) (defaults : Defaults) (h k : Header) (place : Option ℕ) → IsHeaderBy tune defaults h place → IsHeaderBy tune defaults k place → h ≡ k
 by_place tune defaults h k None a b = absurd a

@@ -14,7 +14,7 @@ use Rattle.lay_springs.specs.Fit.{IsEndOf, IsSet, counted, is_ragged}
 use Rattle.lay_springs.proofs.Unique.{one_place}
 use Rattle.lay_tune.specs.Spans.{column_length, score_gaps, system_columns}
 use Rattle.lay_tune.specs.Systems.{IsJustified, IsPlaced}
-use Rattle.set_once.proofs.Spanned.{one_force}
+use Rattle.set_book.proofs.Spanned.{one_force}
 
 -- ---- columns set to a width
 -- a column has one end

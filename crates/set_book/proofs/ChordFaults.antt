@@ -15,7 +15,7 @@ use Rattle.abc_notes.proofs.PartLaws.{none_of}
 use Rattle.abc_notes.proofs.InnerLaws.{inner_reader}
 use Rattle.abc_notes.proofs.CutLaws.{inner_append, all_parts}
 use Rattle.abc_notes.proofs.GraceLaws.{part_reader}
-use Rattle.set_once.proofs.PartFaults.{by_test, none_at_end, one_lead, never_done, one_flaw}
+use Rattle.set_book.proofs.PartFaults.{by_test, none_at_end, one_lead, never_done, one_flaw}
 
 -- ---- chords
 

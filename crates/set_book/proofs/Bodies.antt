@@ -15,7 +15,7 @@ use Rattle.abc_steps.specs.declared.step.Item.{Item}
 use Rattle.abc_items.specs.Body.{Given, placed_given, end_given, MusicGives, KindGives, LineGives, BodyGives, no_lines, one_line, judged, first_fault, items_in, IsBody, HasFault}
 use Rattle.abc_items.specs.Voices.{declared_ids}
 use Rattle.abc_items.proofs.Laws.{stays}
-use Rattle.set_once.proofs.LineFaults.{one_front_of}
+use Rattle.set_book.proofs.LineFaults.{one_front_of}
 
 -- ---- a line
 
