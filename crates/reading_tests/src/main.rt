@@ -13,12 +13,9 @@ mod pitches;
 mod tokens;
 mod units;
 
-use crate::calls::put_answer;
-use case_texts::{case_of, is_case, told, unescaped};
-use mus_units::{Memory, Text};
-use std::alloc::Global;
-use std::io::Write;
-use std::{fs, io};
+use crate::calls::Reading;
+use case_texts::tell_tables;
+use std::io;
 
 /// The tables, in the order in which they are told.
 const TABLES: [&str; 7] = [
@@ -31,35 +28,6 @@ const TABLES: [&str; 7] = [
     "pitches",
 ];
 
-/// A case's line, and its value below it.
-fn told_case(alloc: Global, line: &str) -> Result<Text, Memory> {
-    let case = case_of(line);
-    let input = unescaped(alloc, case.input.as_bytes())?;
-    let mut value = Text::new(alloc);
-    put_answer(alloc, &mut value, case, input.as_slice())?;
-    told(alloc, line, value.as_slice())
-}
-
-fn tell_case<R: Print + AllocGlobal>(rt: &R, line: &str) -> io::Result<()> {
-    match told_case(rt.alloc(), line) {
-        Ok(text) => io::writer(rt).write_all(text.as_slice()),
-        Err(Memory) => Err(io::Error::other("out of memory")),
-    }
-}
-
-fn tell_cases<R: Print + AllocGlobal>(rt: &R, table: &str) -> io::Result<()> {
-    for line in table.lines() {
-        if is_case(line) {
-            tell_case(rt, line)?;
-        }
-    }
-    Ok(())
-}
-
 fn main(rt: HostRuntime) -> io::Result<()> {
-    for table in TABLES {
-        let cases = fs::read_to_string(&rt, table)?;
-        tell_cases(&rt, cases.as_str())?;
-    }
-    Ok(())
+    tell_tables(&rt, &Reading, &TABLES)
 }
