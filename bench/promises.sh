@@ -210,9 +210,7 @@ def main():
                 listed_edits.add((crate, edit))
                 if not os.path.exists(f"crates/{crate}/must-fail/{edit}.edit"):
                     wrong(crate, f"{', '.join(calls)}: no edit '{edit}'")
-            for test in names(row.get("Test", "")):
-                if "_" in test and test not in tests and not os.path.isdir(f"crates/{test}"):
-                    wrong(crate, f"{', '.join(calls)}: no test '{test}'")
+            check_tests(crate, calls, row.get("Test", ""), tests)
         told.update(re.findall(NAME, " ".join(code(text))))
         for call in public:
             if call.name not in told and call.name != "main":
@@ -229,6 +227,29 @@ def main():
         print("\n".join(WRONG))
     print(f"docs/PROMISES.md and README.md: {len(WRONG)} wrong")
     sys.exit(1 if WRONG else 0)
+
+
+def cases_of(program):
+    """The names that a program of tests has its cases by: the tables in its data, and the first word of each row there."""
+    cases = set()
+    for path in glob.glob(f"crates/{program}/data/*"):
+        cases.add(os.path.basename(path).split(".")[0])
+        cases.update(row.split()[0].strip(":|") for row in read(path).split("\n") if row.split())
+    return cases
+
+
+def check_tests(crate, calls, cell, tests):
+    """A test is a test function, a crate, or a case of the program of tests that is named before a colon."""
+    for part in cell.split(";"):
+        program = re.match(rf"\s*(?:by |through )?`({NAME})`: (.*)", part)
+        if program and os.path.isdir(f"crates/{program[1]}"):
+            for case in re.findall(rf"(?<![`A-Za-z_]){NAME}", re.sub("`[^`]*`", "", program[2]).split(", by ")[0]):
+                if case not in cases_of(program[1]) | {"and", "with", "as", "of", "the"}:
+                    wrong(crate, f"{', '.join(calls)}: no case '{case}' of {program[1]}")
+            continue
+        for test in names(part):
+            if "_" in test and test not in tests and not os.path.isdir(f"crates/{test}"):
+                wrong(crate, f"{', '.join(calls)}: no test '{test}'")
 
 
 def check_readme(crates, everything, files):
