@@ -64,16 +64,16 @@ value_high v = omega (arith, base_high v.base, dots_high v.dots (base_length v.b
 abbrev HasTicks : Event → Type 0
 HasTicks e = e.ticks ≡ value_length e.value
 
-note_ticks : (e : Event) → is_note e ≡ true → HasTicks e
+pub note_ticks : (e : Event) → is_note e ≡ true → HasTicks e
 note_ticks e h = grind (arith, nat_tests)
 
-note_dots : (e : Event) → is_note e ≡ true → e.value.dots ≤ 3
+pub note_dots : (e : Event) → is_note e ≡ true → e.value.dots ≤ 3
 note_dots e h = grind (arith, nat_tests)
 
 note_heads : (e : Event) → is_note e ≡ true → 1 ≤ length e.heads
 note_heads e h = grind (arith, nat_tests)
 
-rest_ticks_inner : (e : Event) → is_rest true e ≡ true → HasTicks e
+pub rest_ticks_inner : (e : Event) → is_rest true e ≡ true → HasTicks e
 rest_ticks_inner e h = grind (arith, nat_tests)
 
 rest_ticks_low : (e : Event) → is_rest false e ≡ true → 1 ≤ e.ticks
@@ -82,7 +82,7 @@ rest_ticks_low e h = grind (arith, nat_tests)
 rest_ticks_high : (e : Event) → is_rest false e ≡ true → e.ticks ≤ 99 * whole_note
 rest_ticks_high e h = grind (arith, nat_tests)
 
-rest_dots : (b : Bool) (e : Event) → is_rest b e ≡ true → e.value.dots ≤ 3
+pub rest_dots : (b : Bool) (e : Event) → is_rest b e ≡ true → e.value.dots ≤ 3
 rest_dots b e h = grind (arith, nat_tests)
 
 rest_heads : (b : Bool) (e : Event) → is_rest b e ≡ true → length e.heads ≡ 0
@@ -178,7 +178,7 @@ note_keeps e at qs ps a good =
     let n : 1 ≤ length e.heads = note_heads e good in
     event_keeps at qs ps e (length e.heads) a (record { low = omega arith; high = omega arith; long = λ _. omega arith }) (note_dots e good) (omega arith) (λ _. refl)
 
-guarded : (b c : Bool) → (if b then false else c) ≡ true → (b ≡ false) × (c ≡ true)
+pub guarded : (b c : Bool) → (if b then false else c) ≡ true → (b ≡ false) × (c ≡ true)
 guarded true c h = absurd (cc)
 guarded false c h = (refl, h)
 
@@ -256,7 +256,7 @@ MusicKeeps m = Keeps (judged_within m) (weight m) (products_fit m) (duration_wit
 abbrev BodyKeeps : List Music → Type 0
 BodyKeeps ms = Keeps (all_judged (map judged_within ms)) (sum (map weight ms)) (all_fit (map products_fit ms)) (sum_within (map duration_within ms)) (in_row (map leaves_within ms))
 
-both : (a b : Bool) → (a && b) ≡ true → (a ≡ true) × (b ≡ true)
+pub both : (a b : Bool) → (a && b) ≡ true → (a ≡ true) × (b ≡ true)
 both true b h = (refl, h)
 both false b h = absurd (cc)
 
@@ -313,14 +313,14 @@ tuplet_parts p q n b h =
     let a = both (nat_le 2 p) (nat_le p 9) b.0 in
     (leb-true 2 p a.0, leb-true p 9 a.1, leb-true 1 q b.1, leb-true q 9 c.1, e.1)
 
-deeper_good : (p q deeper : ℕ) (js : List (Place → Judged)) → (tuplet_judged p q js deeper).good ≡ true → (d : ℕ) × (deeper ≡ suc d) × GoodTuplet p q d (all_judged js)
+pub deeper_good : (p q deeper : ℕ) (js : List (Place → Judged)) → (tuplet_judged p q js deeper).good ≡ true → (d : ℕ) × (deeper ≡ suc d) × GoodTuplet p q d (all_judged js)
 deeper_good p q zero js h = absurd (cc)
 deeper_good p q (suc d) js h =
     let inside = all_judged js (record { deeper = d; inner = true; grace = false }) in
     let t = tuplet_parts p q inside.some inside.good h in
     (d, refl, record { some_p = omega (arith, t.0); few_p = t.1; some_q = t.2; few_q = t.3; inside = t.4 })
 
-tuplet_good : (g : Bool) (p q deeper : ℕ) (js : List (Place → Judged)) → (if g then judged false false else tuplet_judged p q js deeper).good ≡ true → (g ≡ false) × ((d : ℕ) × (deeper ≡ suc d) × GoodTuplet p q d (all_judged js))
+pub tuplet_good : (g : Bool) (p q deeper : ℕ) (js : List (Place → Judged)) → (if g then judged false false else tuplet_judged p q js deeper).good ≡ true → (g ≡ false) × ((d : ℕ) × (deeper ≡ suc d) × GoodTuplet p q d (all_judged js))
 tuplet_good true p q deeper js h = absurd (cc)
 tuplet_good false p q deeper js h = (refl, deeper_good p q deeper js h)
 
@@ -432,6 +432,9 @@ flats_few ms good = omega (arith, (good_body ms good).counts nothing, good.few)
 
 pub body_total : (ms : List Music) → IsGoodBody ms → durations_within ms 1 1 ≡ total_ticks (flats_of ms)
 body_total ms good = sym ((good_body ms good).total nothing)
+
+pub node_total : (m : Music) → IsGoodNode m → duration_of m ≡ total_ticks (flats_of (m ∷ []))
+node_total m good = omega (arith, body_total (m ∷ []) good)
 
 pub ruleset total_bounds = (body_fits, body_short, body_total)
 
