@@ -1,4 +1,5 @@
 ghost use Rattle.std.specs.Prelude.{◌≡◌, IfOk, IfSome, Some, None, codes, ◌==◌, nat_eq, ◌∷◌, ◌≤◌, length, not};
+ghost use Rattle.abc_lines.specs.Kinds.{code};
 ghost use Rattle.std.specs.List.{list_any, ends_with, filter_map, suffix_len};
 ghost use Rattle.abc_fields.specs.declared.key.Start.TheVariants as starts;
 ghost use Rattle.std.specs.Option.{option_map};
@@ -267,7 +268,7 @@ fn by_name(word: &[u8]) -> Option<KeyWord>
 }
 
 fn has_equals(word: &[u8]) -> bool
-    ensures { result ≡ list_any (λ b. b == 61) word.now }
+    ensures { result ≡ list_any (λ b. b == code "=") word.now }
 {
     word.iter().any(|byte| *byte == b'=')
 }

@@ -9,8 +9,8 @@ ghost use Rattle.abc_header.specs.Defaults.{text_of, rest_named, said_by, line_m
 
 use abc_fields::directive::{Breaks, cut_name, read_breaks, read_spread};
 use abc_fields::meter::{read_meter, read_unit};
-use abc_fields::words::is_same;
 use abc_lines::{Book, Line, LineKind, field_text, kind_of};
+use mus_units::bytes::is_same;
 use mus_units::{Frac, Meter, Spread};
 
 /// What the file header sets for every tune. Without a unit each tune's own meter
