@@ -9,6 +9,3 @@ pub mod options;
 mod words;
 
 pub use command::{BOOK_LIMIT, Command, PAGES_LIMIT, USAGE, asked_is_good, asks_one, command_of};
-
-#[cfg(test)]
-mod tests;

@@ -13,6 +13,3 @@ pub use names::{all_glyphs, name_of};
 pub use numbers::put_numbers;
 pub use paths::{PathOp, outline};
 pub use procedures::procedure;
-
-#[cfg(test)]
-mod tests;

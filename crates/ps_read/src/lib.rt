@@ -13,6 +13,3 @@ mod reading;
 mod systems;
 
 pub use reading::{PagesError, good_by_lines, no_prefix_is_a_document, read_document};
-
-#[cfg(test)]
-mod tests;
