@@ -9,6 +9,3 @@ pub mod setting;
 pub use gate::{Gate, Open};
 pub use outcome::Outcome;
 pub use setting::{set_all, set_tunes};
-
-#[cfg(test)]
-mod tests;

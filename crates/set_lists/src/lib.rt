@@ -15,6 +15,3 @@ pub use reports::{has_fault, put_reports};
 pub use set_book::Outcome;
 pub use systems::put_systems;
 pub use trials::{Trial, fault_count, put_trial, set_count, system_count, total_of};
-
-#[cfg(test)]
-mod tests;
