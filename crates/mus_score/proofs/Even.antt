@@ -1,6 +1,6 @@
 -- In a good body every duration comes out even: a value's ticks are a multiple of 2^6 * 3^4 * 5^2 * 7^2,
 -- and so is a product of two numbers from 2 to 9 a divisor of that.
-use Rattle.std.proofs.Common.{◌≡◌, ℕ, zero, suc, ◌*◌, ◌/◌, ◌≤◌, ◌<◌, List, [], ◌∷◌, ◌++◌, map, Bool, true, false, refl, sym, ◌∙◌, ap, subst, arith, if◌then◌else◌}
+use Rattle.std.proofs.Common.{◌≡◌, ℕ, zero, suc, ◌*◌, ◌/◌, ◌≤◌, List, [], ◌∷◌, ◌++◌, map, Bool, true, false, refl, sym, ◌∙◌, ap, subst, arith, if◌then◌else◌}
 use Rattle.std.specs.List.{AllByRecursion, AllZip}
 use Rattle.std.proofs.Math.Nat.{mul-div_cancel_left}
 use Rattle.mus_units.specs.declared.value.Base.{Base}
@@ -19,7 +19,7 @@ use Rattle.mus_score.specs.declared.score.Music.TheFolds.{fold-roll-Music, map-M
 use Rattle.mus_score.specs.declared.score.Music.TheViews.{roll-Music}
 use Rattle.mus_score.specs.Good.{IsGoodNode, judged, all_judged, good_step, judged_within, outside, IsGoodBody, is_note, is_rest}
 use Rattle.mus_score.specs.Times.{flats_of, InTuplets, Leafing, scaled, leaf, in_row, nothing, leaves_step, leaves_within}
-use Rattle.mus_score.specs.Even.{Ratio, ratios_in_row, ratios_step, ratios_within, ratios_of, IsEven, AreEven}
+use Rattle.mus_score.specs.Even.{Ratio, ratios_in_row, ratios_step, ratios_within, IsEven, AreEven}
 use Rattle.mus_score.proofs.Bounds.{note_ticks, note_dots, rest_ticks_inner, rest_dots, guarded, both, GoodTuplet, tuplet_good}
 
 -- The ticks of a value.

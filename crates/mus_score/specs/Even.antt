@@ -7,7 +7,7 @@ use Rattle.mus_score.specs.declared.score.Flat.{Flat}
 use Rattle.mus_score.specs.declared.score.Music.{Music}
 use Rattle.mus_score.specs.declared.score.Music.TheOpen.{Music-F}
 use Rattle.mus_score.specs.declared.score.Music.TheFolds.{fold-Music}
-use Rattle.mus_score.specs.Times.{InTuplets, flats_of}
+use Rattle.mus_score.specs.Times.{InTuplets}
 
 -- the products of the q and of the p of the tuplets around an event
 pub record Ratio : Type 0 where

@@ -1,5 +1,5 @@
 -- Words in parentheses, as a line of a page has them.
-use Rattle.std.specs.Prelude.{ℕ, ◌+◌, ◌/◌, ◌%◌, Bool, ◌||◌, ◌==◌, nat_lt, if◌then◌else◌, List, [], ◌∷◌, ◌++◌, flat_map}
+use Rattle.std.specs.Prelude.{ℕ, ◌/◌, ◌%◌, Bool, ◌||◌, ◌==◌, nat_lt, if◌then◌else◌, List, [], ◌∷◌, ◌++◌, flat_map}
 use Rattle.glyph_paths.specs.Characters.{backslash, close_parenthesis, digit, open_parenthesis, space}
 
 -- a parenthesis or a backslash
