@@ -230,8 +230,9 @@ def main():
 
 
 def cases_of(program):
-    """The names that a program of tests has its cases by: the tables in its data, and the first word of each row there."""
-    cases = set()
+    """The names that a program of tests has its cases by: the tables in its data, the first word of each row there, and its
+    modules."""
+    cases = {os.path.basename(path)[:-3] for path in glob.glob(f"crates/{program}/src/*.rt")}
     for path in glob.glob(f"crates/{program}/data/*"):
         cases.add(os.path.basename(path).split(".")[0])
         cases.update(row.split()[0].strip(":|") for row in read(path).split("\n") if row.split())
@@ -243,8 +244,8 @@ def check_tests(crate, calls, cell, tests):
     for part in cell.split(";"):
         program = re.match(rf"\s*(?:by |through )?`({NAME})`: (.*)", part)
         if program and os.path.isdir(f"crates/{program[1]}"):
-            for case in re.findall(rf"(?<![`A-Za-z_]){NAME}", re.sub("`[^`]*`", "", program[2]).split(", by ")[0]):
-                if case not in cases_of(program[1]) | {"and", "with", "as", "of", "the"}:
+            for case in re.findall(rf"(?<![`A-Za-z_]){NAME}", re.sub("`[^`]*`", "", program[2]).split(", by ")[0].split(" (")[0]):
+                if case not in cases_of(program[1]):
                     wrong(crate, f"{', '.join(calls)}: no case '{case}' of {program[1]}")
             continue
         for test in names(part):
