@@ -1,7 +1,7 @@
 ghost use Rattle.mus_score.specs.GoodScore.{IsGoodScore};
 
 use crate::arcs::{put_arcs, put_piece};
-use crate::scores::put_score;
+use crate::scores::{put_plainness, put_score};
 use crate::songs::{put_song, put_syllables};
 use crate::times::{put_durations, put_flats, put_further_keys, put_keys, put_onsets};
 use crate::tunes::{Asked, crowded, score_of};
@@ -58,6 +58,7 @@ fn put_asked(
 {
     match asked {
         Asked::Score => put_score(alloc, out, score),
+        Asked::Plainness => put_plainness(out, score),
         Asked::Flats => put_flats(alloc, out, score),
         Asked::Durations => put_durations(alloc, out, score),
         Asked::Onsets => put_onsets(alloc, out, score),

@@ -2,7 +2,7 @@ use crate::events::put_event;
 use case_texts::{
     put_bar, put_clef, put_line, put_meter, put_next, put_number, put_signs, put_spread, put_wish,
 };
-use mus_score::{Measure, Music, Score, Voice};
+use mus_score::{Measure, Music, Score, Voice, is_plain};
 use mus_units::{Memory, Text};
 use std::alloc::Global;
 
@@ -79,4 +79,14 @@ fn put_node(alloc: Global, out: &mut Text, node: &Music) -> Result<(), Memory> {
 fn put_tuplet(alloc: Global, out: &mut Text, p: u8, q: u8) -> Result<(), Memory> {
     put_line(out, b"")?;
     out.append(format!(in alloc; "tuplet {p}:{q}")?.as_bytes())
+}
+
+/// Adds whether a score is plain.
+pub(crate) fn put_plainness(out: &mut Text, score: &Score) -> Result<(), Memory> {
+    let word: &[u8] = if is_plain(score) {
+        b"plain"
+    } else {
+        b"not plain"
+    };
+    out.append(word)
 }

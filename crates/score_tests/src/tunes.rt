@@ -13,6 +13,7 @@ use std::alloc::Global;
 #[derive(Clone, Copy)]
 pub(crate) enum Asked {
     Score,
+    Plainness,
     Flats,
     Durations,
     Onsets,
@@ -26,6 +27,7 @@ impl Asked {
     pub(crate) fn named(call: &str) -> Option<Asked> {
         match call {
             "build" => Some(Asked::Score),
+            "is_plain" => Some(Asked::Plainness),
             "flatten" => Some(Asked::Flats),
             "duration" => Some(Asked::Durations),
             "onsets" => Some(Asked::Onsets),
