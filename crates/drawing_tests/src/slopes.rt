@@ -5,7 +5,7 @@ ghost use Rattle.mus_score.specs.Good.{IsGoodBody};
 ghost use Rattle.mus_score.specs.GoodScore.{IsGoodScore, IsGoodVoice};
 ghost use Rattle.mus_stems.specs.Plans.{AllEndsNear};
 ghost use Rattle.mus_stems.specs.Slope.{ArePlaces};
-ghost use Rattle.drawing_tests.specs.Rising.{RisesFrom};
+ghost use Rattle.drawing_tests.specs.Rising.{AreRising, RisesFrom};
 
 use crate::plans::{can_all_stand, put_plans};
 use answer_texts::put_word;
@@ -40,19 +40,25 @@ fn rise_from(first: i64, rest: &[i64]) -> bool
     true
 }
 
+/// Whether numbers rise.
+fn are_rising(at: &[i64]) -> bool
+    ensures { IsTrue result → AreRising at.now }
+{
+    match at {
+        [] => true,
+        [first, rest @ ..] => rise_from(*first, rest),
+    }
+}
+
+#[tactic(auto, using(crate::proofs::Rises::rises_in_beams))]
 fn put_sloped(alloc: Global, out: &mut Text, plans: &[StemPlan], at: &[i64]) -> Result<(), Memory>
     requires { AllEndsNear plans.now }
 {
-    match at {
-        [first, rest @ ..] if at.len() == plans.len() => {
-            if are_places(at) && rise_from(*first, rest) {
-                let sloped = slope(alloc, plans, at)?;
-                return put_plans(out, sloped.as_slice());
-            }
-            put_word(out, b"no places\n")
-        }
-        _ => put_word(out, b"other events\n"),
+    if at.len() != plans.len() || !are_places(at) || !are_rising(at) {
+        return put_word(out, b"no places\n");
     }
+    let sloped = slope(alloc, plans, at)?;
+    put_plans(out, sloped.as_slice())
 }
 
 fn put_measure_slopes(
