@@ -239,11 +239,20 @@ fn grace_notes(alloc: Global, graces: &[GraceChord]) -> Result<Row<Music>, Memor
     Ok(notes)
 }
 
+/// No nodes yet, with room for so many.
+pub fn room_for_nodes(alloc: Global, count: usize) -> Result<Row<Music>, Memory>
+    ensures { IfOk result (λ r. r ≡ []) }
+{
+    Ok(Row {
+        items: Vec::with_capacity(alloc, count)?,
+    })
+}
+
 /// The group of the graces that waited, where there is one.
 fn grace_nodes(alloc: Global, graces: &[GraceChord], slash: bool) -> Result<Row<Music>, Memory>
     ensures { IfOk result (λ r. r ≡ grace_nodes graces.now slash) }
 {
-    let mut nodes = Row::new(alloc);
+    let mut nodes = room_for_nodes(alloc, 1)?;
     if graces.is_empty() {
         return Ok(nodes);
     }
