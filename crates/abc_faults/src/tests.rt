@@ -3,7 +3,7 @@ ghost use Rattle.std.specs.List.{All};
 ghost use Rattle.abc_tokens.specs.Good.{AreGoodGraces};
 ghost use Rattle.abc_steps.specs.Good.{IsGoodSound, IsGoodStep, IsGoodStood, IsGoodForce};
 
-use crate::{Weight, crowding, earlier, fault_of_voice, put_weights};
+use crate::{Weight, crowding, earlier, judge_voice};
 use abc_lines::{Fault, FaultKind};
 use abc_steps::{InForce, Sound, Step, Stood};
 use abc_tokens::GraceChord;
@@ -180,7 +180,7 @@ fn fault(kind: FaultKind, line: u32, column: u32) -> Option<Fault> {
 
 fn found(alloc: Global, text: &[u8]) -> Result<Option<Fault>, Memory> {
     let steps = steps_of(alloc, text)?;
-    fault_of_voice(alloc, &start(alloc), steps.as_slice())
+    judge_voice(alloc, &mut Row::new(alloc), &start(alloc), steps.as_slice())
 }
 
 #[test]
@@ -244,7 +244,7 @@ fn weight(line: u32, column: u32, count: u128) -> Weight {
 fn weighed(alloc: Global, text: &[u8]) -> Result<Row<Weight>, Memory> {
     let steps = steps_of(alloc, text)?;
     let mut out = Row::new(alloc);
-    put_weights(alloc, &mut out, &start(alloc), steps.as_slice())?;
+    let _fault = judge_voice(alloc, &mut out, &start(alloc), steps.as_slice())?;
     Ok(out)
 }
 
