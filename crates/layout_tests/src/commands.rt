@@ -1,6 +1,6 @@
 //! The words of the command line, and generated books.
 
-use abcps_words::{Command, USAGE, command_of};
+use abcps_words::{Command, command_of, usage};
 use answer_texts::{end_line, put_count, put_number, put_word};
 use gen_book::make;
 use mus_units::{Memory, Text};
@@ -66,7 +66,7 @@ pub(crate) fn put_commands(alloc: Global, out: &mut Text, text: &str) -> Result<
         }
         end_line(out)?;
     }
-    put_word(out, USAGE)
+    put_word(out, usage())
 }
 
 /// The generated book of so many tunes: how many bytes it has, its front and its end.
