@@ -1,8 +1,10 @@
 ghost use Rattle.std.specs.Prelude.{IfOk};
+ghost use Rattle.abc_lines.specs.Good.{IsGoodTune};
+ghost use Rattle.abc_header.specs.Good.{IsGoodDefaults};
 ghost use Rattle.mus_score.specs.GoodScore.{IsGoodScore};
 
-use abc_header::{read_defaults, read_header};
-use abc_lines::{TuneError, cut_book};
+use abc_header::{Defaults, read_defaults, read_header};
+use abc_lines::{TuneError, TuneText, cut_book};
 use abc_score::build;
 use case_texts::within_limit;
 use mus_score::Score;
@@ -39,18 +41,37 @@ impl Asked {
     }
 }
 
-/// The score of the first tune of a book.
-pub(crate) fn score_of(alloc: Global, bytes: &[u8], flow: bool) -> Result<Score, TuneError>
-    ensures { IfOk result (λ score. IsGoodScore score) }
+fn tune_score(
+    alloc: Global,
+    tune: &TuneText,
+    defaults: &Defaults,
+    flow: bool,
+) -> Result<Score, TuneError>
+    requires tune { IsGoodTune tune.now }
+    requires defaults { IsGoodDefaults defaults.now }
+    ensures { IfOk result IsGoodScore }
 {
-    let book = cut_book(alloc, within_limit(bytes))?;
+    let header = match read_header(alloc, tune, defaults) {
+        Ok(header) => header,
+        Err(error) => return Err(error),
+    };
+    match build(alloc, &header, tune, flow) {
+        Ok(score) => Ok(score),
+        Err(error) => Err(error),
+    }
+}
+
+/// The score of the first tune of a book; a book without a tune answers as if memory were short.
+pub(crate) fn score_of(alloc: Global, bytes: &[u8], flow: bool) -> Result<Score, TuneError>
+    ensures { IfOk result IsGoodScore }
+{
+    let Ok(book) = cut_book(alloc, within_limit(bytes)) else {
+        return Err(TuneError::Memory);
+    };
     let defaults = read_defaults(&book);
-    match book.tunes.as_slice().split_first() {
-        Some((tune, _)) => match read_header(alloc, tune, &defaults) {
-            Ok(header) => build(alloc, &header, tune, flow),
-            Err(error) => Err(error),
-        },
-        None => Err(TuneError::Memory),
+    match book.tunes.as_slice() {
+        [] => Err(TuneError::Memory),
+        [tune, ..] => tune_score(alloc, tune, &defaults, flow),
     }
 }
 
