@@ -9,8 +9,8 @@ use crate::inspecting::inspect;
 use crate::judging::check;
 use crate::making::make_book;
 use crate::status::Status;
-use crate::telling::tell;
-use abcps_words::{Command, asks_one, command_of, usage};
+use crate::telling::tell_usage;
+use abcps_words::{Command, asks_one, command_of};
 use eng_io::{ReadError, Sink, Source, read_all};
 use set_book::{Gate, one_outcome};
 use set_lists::no_way_is_exact;
@@ -111,7 +111,7 @@ fn run_words<R: Threads + Sync, S: Source, O: Sink, E: Sink, G: Gate + Sync>(
         (record { before = E.taken errors.old; after = E.taken errors.new; count_before = E.faults errors.old; count_after = E.faults errors.new }) }
 {
     let Some(command) = command_of(words) else {
-        tell(errors, usage());
+        tell_usage(errors);
         return Status::Usage;
     };
     obey(rt, alloc, command, input, output, errors, gate)

@@ -1,9 +1,11 @@
 ghost use Rattle.std.specs.Prelude.{◌≡◌, ◌⊎◌, IfOk};
+ghost use Rattle.abcps_words.specs.Usage.{usage_line};
 ghost use Rattle.abcps.specs.Calls.{not_pages_line};
 ghost use Rattle.abcps.specs.Outcome.{IsAnswered, IsEnd, IsQuiet, TookAll, TookFront, WasTold};
 ghost use Rattle.abcps.specs.declared.status.Status.TheVariants as status;
 
 use crate::status::Status;
+use abcps_words::usage;
 use eng_io::{Sink, write_all};
 use mus_units::{Memory, Text};
 use ps_text::fields::put_number;
@@ -14,6 +16,13 @@ pub(crate) fn tell<E: Sink>(errors: &mut E, line: &[u8])
     ensures { WasTold (record { before = E.taken errors.old; after = E.taken errors.new; count_before = E.faults errors.old; count_after = E.faults errors.new }) line.now }
 {
     let _ = write_all(errors, line);
+}
+
+/// Tells a sink the usage line; the status stands whatever it does.
+pub(crate) fn tell_usage<E: Sink>(errors: &mut E)
+    ensures { WasTold (record { before = E.taken errors.old; after = E.taken errors.new; count_before = E.faults errors.old; count_after = E.faults errors.new }) usage_line }
+{
+    tell(errors, usage());
 }
 
 /// Tells errors the last text of a run, whose answer that is unless errors fails.

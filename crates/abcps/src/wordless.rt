@@ -4,8 +4,7 @@ ghost use Rattle.abcps.specs.Wordless.{IsWordless, cause_of};
 ghost use Rattle.abcps.specs.declared.wordless.WordsError.TheVariants as wants;
 
 use crate::status::Status;
-use crate::telling::tell;
-use abcps_words::usage;
+use crate::telling::tell_usage;
 use eng_io::Sink;
 use std::alloc::AllocError;
 use std::io;
@@ -46,7 +45,7 @@ pub fn refuse_words<E: Sink>(why: WordsError, errors: &mut E) -> Status
 {
     match why {
         WordsError::NotText => {
-            tell(errors, usage());
+            tell_usage(errors);
             Status::Usage
         }
         WordsError::Memory => Status::Memory,
