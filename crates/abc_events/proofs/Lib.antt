@@ -1,6 +1,7 @@
 pub mod BarRows
 pub mod Drawn
 pub mod Fill
+pub mod Heads
 pub mod MeasureRows
 pub mod Rests
 pub mod Taken

@@ -1,4 +1,4 @@
-ghost use Rattle.std.specs.Prelude.{◌≡◌, ◌≤◌, ◌+◌, ◌++◌, ◌∷◌, [], List, map, length, replicate, unwrap_or, None, IfOk, OnOk};
+ghost use Rattle.std.specs.Prelude.{◌≡◌, ◌≤◌, ◌+◌, ◌++◌, ◌∷◌, [], List, map, length, replicate, unwrap_or, false, None, IfOk, OnOk};
 ghost use Rattle.mus_units.specs.Value.{value_length};
 ghost use Rattle.std.specs.List.{All};
 ghost use Rattle.abc_events.specs.declared.written.Sign.{Sign};
@@ -16,14 +16,14 @@ use std::alloc::Global;
 
 /// What the tree of a measure is made of: the nodes of a written event, or a
 /// tuplet of `p` in the time of `q` that takes the next `r` events.
-#[derive(Debug, Drop)]
+#[derive(Drop)]
 pub enum Leaf {
     Event { measure: u64, nodes: Row<Music> },
     Opens { measure: u64, p: u8, q: u8, r: u8 },
 }
 
 /// How many written events came before, and the id of the next part.
-#[derive(Clone, Copy, Debug, PartialEq, Eq)]
+#[derive(Clone, Copy, PartialEq, Eq)]
 pub struct Numbers {
     pub event: usize,
     pub id: u32,
@@ -180,25 +180,53 @@ fn put_later(
     Ok(next)
 }
 
+/// The one part of a written event that has no other.
+fn only_part(w: Written, waiting: Waiting, words: Row<Option<Text>>, id: u32, value: Value) -> Event
+    requires { value.dots ≤ 3 }
+    ensures { result ≡ first_part w waiting words id false value }
+{
+    let ticks = ticks_at(&w, value);
+    Event {
+        id,
+        heads: w.heads,
+        look: w.look,
+        value,
+        ticks,
+        parted: w.parted,
+        changes: waiting.changes,
+        decos: waiting.decos,
+        mentions: waiting.mentions,
+        ending: waiting.ending,
+        begins: w.begins,
+        ends: w.ends,
+        words,
+    }
+}
+
 /// Puts the parts of a written event, and gives the id behind them.
 fn put_parts(
     alloc: Global,
     nodes: &mut Row<Music>,
-    w: &Written,
+    w: Written,
     waiting: Waiting,
     words: Row<Option<Text>>,
     id: u32,
 ) -> Result<u32, Memory>
-    requires { All (λ v. v.dots ≤ 3) w.now.values }
-    ensures nodes { OnOk result (nodes.new ≡ nodes.old ++ map node_of (parts w.now waiting words id w.now.values)) }
-    ensures next { IfOk result (λ next. next ≡ id + length w.now.values) }
+    requires { All (λ v. v.dots ≤ 3) w.values }
+    ensures nodes { OnOk result (nodes.new ≡ nodes.old ++ map node_of (parts w waiting words id w.values)) }
+    ensures next { IfOk result (λ next. next ≡ id + length w.values) }
 {
     let verses = words.len();
     match w.values.as_slice() {
+        [value] => {
+            let value = *value;
+            nodes.push(node_of(only_part(w, waiting, words, id, value)))?;
+            next_id(id)
+        }
         [value, others @ ..] => {
-            let part = first_part(alloc, w, waiting, words, id, some_more(others), *value)?;
+            let part = first_part(alloc, &w, waiting, words, id, some_more(others), *value)?;
             nodes.push(node_of(part))?;
-            put_later(alloc, nodes, w, verses, next_id(id)?, others)
+            put_later(alloc, nodes, &w, verses, next_id(id)?, others)
         }
         [] => Ok(id),
     }
@@ -239,11 +267,20 @@ fn grace_notes(alloc: Global, graces: &[GraceChord]) -> Result<Row<Music>, Memor
     Ok(notes)
 }
 
+/// No nodes yet, with room for so many.
+pub fn room_for_nodes(alloc: Global, count: usize) -> Result<Row<Music>, Memory>
+    ensures { IfOk result (λ r. r ≡ []) }
+{
+    Ok(Row {
+        items: Vec::with_capacity(alloc, count)?,
+    })
+}
+
 /// The group of the graces that waited, where there is one.
 fn grace_nodes(alloc: Global, graces: &[GraceChord], slash: bool) -> Result<Row<Music>, Memory>
     ensures { IfOk result (λ r. r ≡ grace_nodes graces.now slash) }
 {
-    let mut nodes = Row::new(alloc);
+    let mut nodes = room_for_nodes(alloc, 1)?;
     if graces.is_empty() {
         return Ok(nodes);
     }
@@ -290,24 +327,22 @@ fn put_event(
     alloc: Global,
     out: &mut Row<Leaf>,
     at: &mut Numbers,
-    w: &Written,
+    w: Written,
     waiting: Waiting,
     words: &[Row<Option<Text>>],
 ) -> Result<(), Memory>
-    requires { All (λ v. v.dots ≤ 3) w.now.values }
-    ensures leaf { OnOk result (out.new ≡ out.old ++ Leaf.Event w.now.measure (nodes_of w.now waiting (words_at words.now at.old.event) at.old.id) ∷ []) }
+    requires { All (λ v. v.dots ≤ 3) w.values }
+    ensures leaf { OnOk result (out.new ≡ out.old ++ Leaf.Event w.measure (nodes_of w waiting (words_at words.now at.old.event) at.old.id) ∷ []) }
     ensures event { OnOk result (at.new.event ≡ at.old.event + 1) }
-    ensures id { OnOk result (at.new.id ≡ at.old.id + length w.now.values) }
+    ensures id { OnOk result (at.new.id ≡ at.old.id + length w.values) }
 {
+    let measure = w.measure;
     let mut nodes = grace_nodes(alloc, waiting.graces.as_slice(), waiting.slash)?;
     let sung = words_at(alloc, words, at.event)?;
     let id = put_parts(alloc, &mut nodes, w, waiting, sung, at.id)?;
     at.event = next_event(at.event)?;
     at.id = id;
-    out.push(Leaf::Event {
-        measure: w.measure,
-        nodes,
-    })
+    out.push(Leaf::Event { measure, nodes })
 }
 
 /// Puts the leaf of a sign.
@@ -322,7 +357,7 @@ fn put_leaf(
     ensures { OnOk result ((signs : List Sign) → out.new ++ leaves_from words.now at.new.event at.new.id signs ≡ out.old ++ leaves_from words.now at.old.event at.old.id (sign ∷ signs)) }
 {
     match sign {
-        Sign::Event { written, waiting } => put_event(alloc, out, at, &written, waiting, words),
+        Sign::Event { written, waiting } => put_event(alloc, out, at, written, waiting, words),
         Sign::Opens { measure, p, q, r } => out.push(Leaf::Opens { measure, p, q, r }),
     }
 }

@@ -15,6 +15,3 @@ pub use bars::{bars_of, first_bar, forced_bars, own_measures};
 pub use measures::measures_of;
 pub use reading::signs;
 pub use written::{Sign, Waiting, Written};
-
-#[cfg(test)]
-mod tests;

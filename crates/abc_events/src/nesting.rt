@@ -3,7 +3,7 @@ ghost use Rattle.mus_score.specs.declared.score.Music.TheVariants as music;
 ghost use Rattle.abc_events.specs.declared.leaves.Leaf.TheVariants as leaf;
 ghost use Rattle.abc_events.specs.Nesting.{tree_of, Puts, IsReady, one, whole, none_more, put_in_front};
 
-use crate::leaves::Leaf;
+use crate::leaves::{Leaf, room_for_nodes};
 use mus_score::Music;
 use mus_units::{Memory, Row};
 use smallvec::SmallVec;
@@ -12,7 +12,7 @@ use std::default::MadeWith;
 use std::mem;
 
 /// A tuplet that still takes events, and what stands before it in its row.
-#[derive(Debug, Drop)]
+#[derive(Drop)]
 pub struct Open {
     pub p: u8,
     pub q: u8,
@@ -69,9 +69,8 @@ fn close_full(
 fn append(body: &mut Row<Music>, nodes: Row<Music>) -> Result<(), Memory>
     ensures { OnOk result (body.new ≡ body.old ++ nodes) }
 {
-    for node in nodes.items {
-        body.push(node)?;
-    }
+    let mut more = nodes.items;
+    body.items.append(&mut more)?;
     Ok(())
 }
 
@@ -186,7 +185,7 @@ pub fn tree_of(alloc: Global, leaves: Row<Leaf>) -> Result<Row<Music>, Memory>
     ensures { IfOk result (λ r. r ≡ tree_of leaves) }
 {
     let mut stack = SmallVec::new(alloc);
-    let mut body = Row::new(alloc);
+    let mut body = room_for_nodes(alloc, leaves.len())?;
     for l in leaves.items {
         put_leaf(alloc, &mut stack, &mut body, l)?;
     }

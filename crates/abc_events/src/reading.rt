@@ -10,6 +10,7 @@ ghost use Rattle.abc_events.specs.Signs.{with_tie, tied_heads, for_note, look_of
 use crate::waits::{nothing, waiting_of};
 use crate::written::{Sign, Written};
 use abc_steps::force::meter_ticks;
+use abc_steps::kinds::is_event;
 use abc_steps::lengths::written_length;
 use abc_steps::looks::{has_parting, is_tied, since_event, slurs_begun, slurs_ended};
 use abc_steps::place::{Place, beginning, measure_of, step_over};
@@ -278,6 +279,20 @@ fn put_signs(
     }
 }
 
+/// How many events are among some steps.
+fn count_events(steps: &[Stood]) -> usize {
+    steps.iter().filter(|s| is_event(&s.step)).count()
+}
+
+/// No signs yet, with room for those of the events among some steps.
+fn room_for_signs(alloc: Global, steps: &[Stood]) -> Result<Row<Sign>, Memory>
+    ensures { IfOk result (λ r. r ≡ []) }
+{
+    Ok(Row {
+        items: Vec::with_capacity(alloc, count_events(steps))?,
+    })
+}
+
 /// The signs of a voice that begins with `first`, in the order of the text.
 pub fn signs(alloc: Global, first: &InForce, steps: &[Stood]) -> Result<Row<Sign>, Memory>
     requires few { length steps.now ≤ 2 ^ 30 }
@@ -286,7 +301,7 @@ pub fn signs(alloc: Global, first: &InForce, steps: &[Stood]) -> Result<Row<Sign
     ensures value { IfOk result (λ r. r ≡ signs first.now [] steps.now) }
     ensures drawn { IfOk result (λ r. All IsDrawn r) }
 {
-    let mut out = Row::new(alloc);
+    let mut out = room_for_signs(alloc, steps)?;
     let mut now = beginning(alloc, first)?;
     for i in 0..steps.len() {
         let (before, _) = steps.split_at(i);

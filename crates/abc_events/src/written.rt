@@ -5,7 +5,7 @@ use mus_units::{Deco, Head, Row, Text, Value};
 /// A note, a chord, a rest or a whole measure rest as it is written, with the
 /// line and the column of its first byte. `values` are its parts, none where its
 /// length has none; `whole` is the length of a whole measure rest in ticks.
-#[derive(Debug, Drop)]
+#[derive(Drop)]
 pub struct Written {
     pub line: u32,
     pub column: u32,
@@ -20,7 +20,7 @@ pub struct Written {
 }
 
 /// What waited for an event.
-#[derive(Debug, Drop)]
+#[derive(Drop)]
 pub struct Waiting {
     pub changes: Changes,
     pub decos: Row<Deco>,
@@ -32,7 +32,7 @@ pub struct Waiting {
 
 /// What the trees of a voice are made of, in the order of the text: a written
 /// event, or a tuplet of `p` in the time of `q` that takes the next `r` of them.
-#[derive(Debug, Drop)]
+#[derive(Drop)]
 pub enum Sign {
     Event { written: Written, waiting: Waiting },
     Opens { measure: u64, p: u8, q: u8, r: u8 },

@@ -1,5 +1,5 @@
 -- One step of a walk along the steps of a voice.
-use Rattle.std.proofs.Common.{◌≡◌, ◌∙◌, sym, ap, ℕ, ◌+◌, ◌<◌, ◌≤◌, [], ◌∷◌, ◌++◌, length, drop, take, get_or, reverse, Option}
+use Rattle.std.proofs.Common.{◌≡◌, ◌∙◌, sym, ap, ℕ, ◌+◌, ◌<◌, ◌≤◌, List, [], ◌∷◌, ◌++◌, append_assoc, length, drop, take, get_or, reverse, Option}
 use Rattle.std.proofs.lemmas.List.{drop_more, drop_all, take_more, reverse-append}
 use Rattle.mus_units.specs.declared.pitch.Clef.{Clef}
 use Rattle.abc_lines.specs.declared.fault.Fault.{Fault}
@@ -8,6 +8,8 @@ use Rattle.abc_steps.specs.declared.force.InForce.{InForce}
 use Rattle.abc_steps.specs.Looks.{Steps}
 use Rattle.abc_faults.specs.First.{earlier, first_of}
 use Rattle.abc_faults.specs.Faults.{grace_faults_of, grace_faults, faults_of, faults_in}
+use Rattle.abc_faults.specs.declared.weights.Weight.{Weight}
+use Rattle.abc_faults.specs.Weights.{weights_of, weights_in}
 use Rattle.abc_steps.specs.Places.{place_at}
 use Rattle.abc_faults.proofs.Firsts.{earlier_none}
 
@@ -33,3 +35,17 @@ walk_parts first steps i at less is =
 pub walk_done : (first : InForce) (steps : Steps) (i : ℕ) (found all : Option Fault) → length steps ≤ i → earlier found (first_of (faults_in first (reverse (take i steps)) (drop i steps))) ≡ all → found ≡ all
 walk_done first steps i found all done h =
     sym (earlier_none found) ∙ ap (λ z. earlier found (first_of (faults_in first (reverse (take i steps)) z))) (sym (drop_all i steps done)) ∙ h
+
+pub weigh_parts : (first : InForce) (steps : Steps) (i : ℕ) (at : Stood) → i < length steps → at ≡ get_or steps i at
+    → weights_in first (reverse (take i steps)) (drop i steps)
+    ≡ weights_of (place_at first (reverse (take i steps))) (reverse (take i steps)) at (drop (i + 1) steps) at.step ++ weights_in first (reverse (take (i + 1) steps)) (drop (i + 1) steps)
+weigh_parts first steps i at less is =
+    let before = reverse (take i steps) in
+    let behind = drop (i + 1) steps in
+    ap (weights_in first before) (at_front steps i at less is)
+    ∙ ap (λ z. weights_of (place_at first before) before at behind at.step ++ weights_in first z behind) (sym (nearest steps i at less is))
+
+-- one more part of some weights, behind what was put before it
+pub weigh_more : (own rest whole out more all : List Weight) → whole ≡ own ++ rest → more ≡ out ++ own → out ++ whole ≡ all → more ++ rest ≡ all
+weigh_more own rest whole out more all parts put e =
+    ap (λ xs. xs ++ rest) put ∙ (append_assoc out own rest ∙ (ap (λ xs. out ++ xs) (sym parts) ∙ e))

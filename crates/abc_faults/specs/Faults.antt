@@ -80,13 +80,17 @@ abbrev pub is_free : Meter → Bool
 is_free meters.Free = true
 is_free _ = false
 
--- a note, a chord or a rest, without its graces
+-- a note, a chord or a rest, without its graces: it is undrawable where its length has no parts
+abbrev pub sound_faults_if : Bool → Place → Stood → Sound → List Fault
+sound_faults_if undrawable now at s =
+    fault_if undrawable kinds.Undrawable at
+    ++ fault_if (any_off now.force.clef s.heads) kinds.StepRange at
+    ++ fault_if (is_past (measure_of now)) kinds.TooManyMeasures at
+
 unfoldable pub sound_faults : Place → Steps → Stood → Sound → Steps → List Fault
 sound_faults now before at s behind =
     let length = written_length now.force.unit s before behind in
-    fault_if (is_none (parts_list length.num length.den)) kinds.Undrawable at
-    ++ fault_if (any_off now.force.clef s.heads) kinds.StepRange at
-    ++ fault_if (is_past (measure_of now)) kinds.TooManyMeasures at
+    sound_faults_if (is_none (parts_list length.num length.den)) now at s
 
 -- whole measure rests, without their graces: the last of them must stand in a good measure too
 abbrev pub rest_faults : Place → Stood → ℕ → List Fault

@@ -8,8 +8,5 @@ pub mod weights;
 
 pub use crowd::crowding;
 pub use first::earlier;
-pub use voice::fault_of_voice;
-pub use weights::{Weight, put_weights};
-
-#[cfg(test)]
-mod tests;
+pub use voice::judge_voice;
+pub use weights::Weight;

@@ -1,12 +1,13 @@
-ghost use Rattle.std.specs.Prelude.{◌≡◌, ◌≤◌, ◌^◌, [], length, reverse, nat_lt, is_none, IfOk};
+ghost use Rattle.std.specs.Prelude.{◌≡◌, ◌≤◌, ◌^◌, ◌++◌, ◌∷◌, [], length, reverse, nat_lt, IfOk, OnOk};
 ghost use Rattle.std.specs.List.{All};
-ghost use Rattle.mus_units.specs.Parts.{parts_list};
-ghost use Rattle.abc_steps.specs.Lengths.{IsLength};
+ghost use Rattle.abc_steps.specs.Looks.{since_event};
 ghost use Rattle.abc_steps.specs.Good.{IsGoodForce, IsGoodStood, IsGoodSound};
 ghost use Rattle.abc_faults.specs.First.{first_of, IsFirst};
-ghost use Rattle.abc_faults.specs.Faults.{fault_at, fault_if, ends_tuplets, sounds_behind, misfit_of, tuplet_faults, is_off, any_off, any_grace_off, grace_faults_of, grace_faults, is_past, is_free, sound_faults, rest_faults, faults_of, faults_in};
+ghost use Rattle.abc_faults.specs.Faults.{fault_at, fault_if, ends_tuplets, sounds_behind, misfit_of, tuplet_faults, is_off, any_off, any_grace_off, grace_faults_of, grace_faults, is_past, is_free, sound_faults_if, sound_faults, rest_faults, faults_of, faults_in};
+ghost use Rattle.abc_faults.specs.Weights.{weight_at, sound_count, grace_weights, weights_of, weights_in};
 
 use crate::first::earlier;
+use crate::weights::{Weight, put_graces, sound_count, weight_at};
 use abc_lines::{Fault, FaultKind};
 use abc_steps::kinds::is_sound;
 use abc_steps::lengths::written_length;
@@ -15,7 +16,7 @@ use abc_steps::place::{Place, beginning, measure_of, step_over};
 use abc_steps::tuplets::{fits, or_default};
 use abc_steps::{InForce, Sound, Step, Stood, Taking};
 use abc_tokens::GraceChord;
-use mus_units::{Clef, Frac, Head, Memory, Meter, height, parts_of};
+use mus_units::{Clef, Head, Memory, Meter, Row, height, parts_of};
 use std::alloc::Global;
 
 fn fault_at(kind: FaultKind, at: &Stood) -> Fault
@@ -146,18 +147,27 @@ fn is_free(meter: Meter) -> bool
     }
 }
 
-/// Whether a length has no parts.
-fn has_no_parts(alloc: Global, length: Frac) -> Result<bool, Memory>
-    requires { IsLength length }
-    ensures { IfOk result (λ b. b ≡ is_none (parts_list length.num length.den)) }
+/// The first fault of a note, a chord or a rest, without its graces. `undrawable`
+/// tells that its length has no parts.
+#[tactic(auto, using(crate::proofs::Firsts::first_append))]
+fn sound_fault(now: &Place, at: &Stood, s: &Sound, undrawable: bool) -> Option<Fault>
+    requires groups { now.now.counts.groups ≤ 2 ^ 30 }
+    requires further { now.now.counts.further ≤ 2 ^ 46 }
+    ensures { result ≡ first_of (sound_faults_if undrawable now.now at.now s.now) }
 {
-    Ok(parts_of(alloc, length.num, length.den)?.is_none())
+    let undrawn = fault_if(undrawable, FaultKind::Undrawable, at);
+    let off = any_off(now.force.clef, s.heads.as_slice());
+    let found = earlier(undrawn, fault_if(off, FaultKind::StepRange, at));
+    let past = fault_if(is_past(measure_of(now)), FaultKind::TooManyMeasures, at);
+    earlier(found, past)
 }
 
-/// The first fault of a note, a chord or a rest, without its graces.
-#[tactic(auto, using(crate::proofs::Firsts::first_append), unfolding(crate::specs::Faults::sound_faults))]
-fn sound_fault(
+/// The first fault of a note, a chord or a rest. Puts its weight, behind those of
+/// its graces.
+#[tactic(auto, using(crate::proofs::Firsts::first_append), unfolding(crate::specs::Faults::sound_faults, crate::specs::Weights::sound_count))]
+fn judge_sound(
     alloc: Global,
+    weights: &mut Row<Weight>,
     now: &Place,
     before: &[Stood],
     at: &Stood,
@@ -168,14 +178,16 @@ fn sound_fault(
     requires further { now.now.counts.further ≤ 2 ^ 46 }
     requires force { IsGoodForce now.now.force }
     requires good { IsGoodSound s.now }
-    ensures { IfOk result (λ f. f ≡ first_of (sound_faults now.now (reverse before.now) at.now s.now behind.now)) }
+    ensures fault { IfOk result (λ f. f ≡ first_of (sound_faults now.now (reverse before.now) at.now s.now behind.now ++ grace_faults now.now.force.clef (since_event (reverse before.now)))) }
+    ensures weights { OnOk result (weights.new ≡ weights.old ++ (grace_weights (since_event (reverse before.now)) ++ weight_at (sound_count now.now (reverse before.now) s.now behind.now) at.now ∷ [])) }
 {
     let length = written_length(now.force.unit, s, before, behind);
-    let undrawable = fault_if(has_no_parts(alloc, length)?, FaultKind::Undrawable, at);
-    let off = any_off(now.force.clef, s.heads.as_slice());
-    let found = earlier(undrawable, fault_if(off, FaultKind::StepRange, at));
-    let past = fault_if(is_past(measure_of(now)), FaultKind::TooManyMeasures, at);
-    Ok(earlier(found, past))
+    let parts = parts_of(alloc, length.num, length.den)?;
+    let waits = since_event(before);
+    put_graces(weights, waits)?;
+    weights.push(weight_at(sound_count(s, &parts), at))?;
+    let own = sound_fault(now, at, s, parts.is_none());
+    Ok(earlier(own, grace_fault(now.force.clef, waits)))
 }
 
 /// The first fault of whole measure rests, without their graces.
@@ -193,10 +205,35 @@ fn rest_fault(now: &Place, at: &Stood, count: u16) -> Option<Fault>
     )
 }
 
-/// The first fault of a step.
-#[tactic(auto, using(crate::proofs::Firsts::first_append), unfolding(crate::specs::Faults::faults_of))]
-fn step_fault(
+/// The first fault of whole measure rests. Puts their weight, behind those of
+/// their graces.
+#[tactic(auto, using(crate::proofs::Firsts::first_append))]
+fn judge_rests(
+    weights: &mut Row<Weight>,
+    now: &Place,
+    before: &[Stood],
+    at: &Stood,
+    count: u16,
+) -> Result<Option<Fault>, Memory>
+    requires groups { now.now.counts.groups ≤ 2 ^ 30 }
+    requires further { now.now.counts.further ≤ 2 ^ 46 }
+    ensures fault { IfOk result (λ f. f ≡ first_of (rest_faults now.now at.now count ++ grace_faults now.now.force.clef (since_event (reverse before.now)))) }
+    ensures weights { OnOk result (weights.new ≡ weights.old ++ (grace_weights (since_event (reverse before.now)) ++ weight_at count at.now ∷ [])) }
+{
+    let waits = since_event(before);
+    put_graces(weights, waits)?;
+    weights.push(weight_at(u128::from(count), at))?;
+    Ok(earlier(
+        rest_fault(now, at, count),
+        grace_fault(now.force.clef, waits),
+    ))
+}
+
+/// The first fault of a step. Puts its weights.
+#[tactic(auto, unfolding(crate::specs::Faults::faults_of, crate::specs::Weights::weights_of))]
+fn judge_step(
     alloc: Global,
+    weights: &mut Row<Weight>,
     now: &Place,
     before: &[Stood],
     at: &Stood,
@@ -206,17 +243,12 @@ fn step_fault(
     requires further { now.now.counts.further ≤ 2 ^ 46 }
     requires force { IsGoodForce now.now.force }
     requires good { IsGoodStood at.now }
-    ensures { IfOk result (λ f. f ≡ first_of (faults_of now.now (reverse before.now) at.now behind.now at.now.step)) }
+    ensures fault { IfOk result (λ f. f ≡ first_of (faults_of now.now (reverse before.now) at.now behind.now at.now.step)) }
+    ensures weights { OnOk result (weights.new ≡ weights.old ++ weights_of now.now (reverse before.now) at.now behind.now at.now.step) }
 {
     match &at.step {
-        Step::Sound(s) => {
-            let own = sound_fault(alloc, now, before, at, s, behind)?;
-            Ok(earlier(own, grace_fault(now.force.clef, since_event(before))))
-        }
-        Step::Measures { seen: _, count } => Ok(earlier(
-            rest_fault(now, at, *count),
-            grace_fault(now.force.clef, since_event(before)),
-        )),
+        Step::Sound(s) => judge_sound(alloc, weights, now, before, at, s, behind),
+        Step::Measures { seen: _, count } => judge_rests(weights, now, before, at, *count),
         Step::Tuplet { p, q: _, r } => Ok(tuplet_fault(or_default(*p, *r), now.taking, at, behind)),
         Step::Broken { right: _, dots: _ } => {
             let alone = !(has_left(before) && has_right(behind));
@@ -230,8 +262,12 @@ fn step_fault(
 /// tuplets that are too deep, cross or are short, broken rhythms that lack a side, lengths without
 /// parts, heads too far from the staff, whole measure rests in free meter, and measures past the
 /// two thousandth. None exactly where it has none.
-pub fn fault_of_voice(
+/// Puts the weights of the voice, one for each event, behind one for each group of graces that it
+/// takes: the heads of a note or a chord times its parts, 1 times its parts for a rest, n for n
+/// whole measure rests, and the heads of a group of graces.
+pub fn judge_voice(
     alloc: Global,
+    weights: &mut Row<Weight>,
     first: &InForce,
     steps: &[Stood],
 ) -> Result<Option<Fault>, Memory>
@@ -240,6 +276,7 @@ pub fn fault_of_voice(
     requires steps { All IsGoodStood steps.now }
     ensures value { IfOk result (λ f. f ≡ first_of (faults_in first.now [] steps.now)) }
     ensures first { IfOk result (λ f. IsFirst (faults_in first.now [] steps.now) f) }
+    ensures weights { OnOk result (weights.new ≡ weights.old ++ weights_in first.now [] steps.now) }
 {
     let mut found = None;
     let mut now = beginning(alloc, first)?;
@@ -247,7 +284,7 @@ pub fn fault_of_voice(
         let (before, _) = steps.split_at(i);
         let (_, behind) = steps.split_at(i + 1);
         let at = &steps[i];
-        found = earlier(found, step_fault(alloc, &now, before, at, behind)?);
+        found = earlier(found, judge_step(alloc, weights, &now, before, at, behind)?);
         step_over(alloc, &mut now, at)?;
     }
     Ok(found)

@@ -16,12 +16,9 @@ use Rattle.abc_lines.specs.Kinds.{is_blank}
 use Rattle.abc_fields.specs.Numbers.{is_digit, is_number, value_of, number_of, place_of, before, from_first, behind_one}
 use Rattle.abc_fields.specs.Words.{trimmed, behind}
 use Rattle.mus_units.specs.Good.{is_halving}
-use Rattle.abc_fields.specs.Meters.{halving_of, added, sum_of, ratio, below_of, below_behind, plain_ratio, wrapped_ratio, ratio_by, ratio_of, meter_at, meter_of, one_over, unit_at, unit_of}
+use Rattle.abc_fields.specs.Meters.{is_plus, halving_of, added, sum_of, ratio, below_of, below_behind, plain_ratio, wrapped_ratio, ratio_by, ratio_of, meter_at, meter_of, one_over, unit_at, unit_of}
 use Rattle.abc_fields.specs.MeterSpelling.{MeterForm, common_form, cut_form, none_form, empty_form, sum_form, wrapped_form, meter_spelled, value_sum, IsGoodSum, IsGoodMeterForm, meter_meant, WritesMeter, SaysMeter, UnitForm, whole_form, over_form, unit_spelled, IsGoodUnitForm, unit_meant, WritesUnit, SaysUnit}
 use Rattle.abc_fields.proofs.BlankLaws.{trimmed-between, between-trimmed}
-
-abbrev is_plus : ℕ → Bool
-is_plus b = b == 43
 
 -- no byte of s is this one
 abbrev pub lacks : ℕ → List ℕ → Bool

@@ -3,10 +3,7 @@ use Rattle.std.proofs.Common.{◌≡◌, refl, ℕ, suc, ◌+◌, List, [], ◌�
 use Rattle.std.specs.Prelude.{◌==◌}
 use Rattle.std.specs.List.{slice_split}
 use Rattle.abc_fields.specs.Numbers.{place_of, before, from_first}
-use Rattle.abc_fields.specs.Meters.{terms_after}
-
-abbrev is_plus : ℕ → Bool
-is_plus b = b == 43
+use Rattle.abc_fields.specs.Meters.{is_plus, terms_after}
 
 split_more : (b : ℕ) (s : List ℕ) (plus : Bool) → (b == 43) ≡ plus
     → slice_split is_plus s ≡ take (place_of 43 s) s ∷ terms_after (drop (place_of 43 s) s)

@@ -1,6 +1,7 @@
 -- What a line says, one case for each kind of field: the letter or the directive that it has, and
 -- how its text is written. Where a text with the letter of a key, a meter, a unit length or a
 -- voice is in no good form of that letter, the line is a fault.
+use Prim.Native.Char.{code}
 use Rattle.std.specs.Prelude.{◌≡◌, ℕ, List, Bool, ⊤, ◌==◌, ◌||◌, IsTrue, not, codes}
 use Rattle.mus_units.specs.declared.key.Meter.{Meter}
 use Rattle.mus_units.specs.declared.key.Spread.{Spread}
@@ -42,19 +43,19 @@ SaysSpread text spreads.Pitch = text ≡ codes "pitch"
 
 -- the letters of the fields that say something: K, M, L, V, w, T, C, Q
 abbrev pub is_known : ℕ → Bool
-is_known letter = (letter == 75 || letter == 77) || (letter == 76 || letter == 86) || ((letter == 119 || letter == 84) || (letter == 67 || letter == 81))
+is_known letter = (letter == code "K" || letter == code "M") || (letter == code "L" || letter == code "V") || ((letter == code "w" || letter == code "T") || (letter == code "C" || letter == code "Q"))
 
 -- What a field of that letter and text says. K:, M:, L: and V: are read; w:, T:, C: and Q: are kept
 -- as written; a field of another letter says nothing here.
 abbrev pub NamedSays : ℕ → List ℕ → Field → Type 0
-NamedSays letter text (fields.Key key) = (letter ≡ 75) × SaysKey text key
-NamedSays letter text (fields.Meter meter) = (letter ≡ 77) × SaysMeter text meter
-NamedSays letter text (fields.Unit unit) = (letter ≡ 76) × SaysUnit text unit
-NamedSays letter text (fields.Voice voice) = (letter ≡ 86) × SaysVoice text voice
-NamedSays letter text (fields.Words words) = (letter ≡ 119) × (words ≡ text)
-NamedSays letter text (fields.Title title) = (letter ≡ 84) × (title ≡ text)
-NamedSays letter text (fields.Composer composer) = (letter ≡ 67) × (composer ≡ text)
-NamedSays letter text (fields.Tempo tempo) = (letter ≡ 81) × (tempo ≡ text)
+NamedSays letter text (fields.Key key) = (letter ≡ code "K") × SaysKey text key
+NamedSays letter text (fields.Meter meter) = (letter ≡ code "M") × SaysMeter text meter
+NamedSays letter text (fields.Unit unit) = (letter ≡ code "L") × SaysUnit text unit
+NamedSays letter text (fields.Voice voice) = (letter ≡ code "V") × SaysVoice text voice
+NamedSays letter text (fields.Words words) = (letter ≡ code "w") × (words ≡ text)
+NamedSays letter text (fields.Title title) = (letter ≡ code "T") × (title ≡ text)
+NamedSays letter text (fields.Composer composer) = (letter ≡ code "C") × (composer ≡ text)
+NamedSays letter text (fields.Tempo tempo) = (letter ≡ code "Q") × (tempo ≡ text)
 NamedSays letter text (fields.Breaks breaks) = ⊥
 NamedSays letter text (fields.Spread spread) = ⊥
 NamedSays letter text fields.Other = IsTrue (not (is_known letter))
@@ -85,10 +86,10 @@ Says line field = KindSays line (kind_of line) field
 
 -- The text of that letter is in no good form of it, so that it is this fault.
 abbrev pub NamedBad : ℕ → List ℕ → FaultKind → Type 0
-NamedBad letter text faults.BadKey = (letter ≡ 75) × ((key : KeyText) → SaysKey text key → ⊥)
-NamedBad letter text faults.BadMeter = (letter ≡ 77) × ((meter : Meter) → SaysMeter text meter → ⊥)
-NamedBad letter text faults.BadUnit = (letter ≡ 76) × ((unit : Frac) → SaysUnit text unit → ⊥)
-NamedBad letter text faults.BadVoice = (letter ≡ 86) × ((voice : VoiceDef) → SaysVoice text voice → ⊥)
+NamedBad letter text faults.BadKey = (letter ≡ code "K") × ((key : KeyText) → SaysKey text key → ⊥)
+NamedBad letter text faults.BadMeter = (letter ≡ code "M") × ((meter : Meter) → SaysMeter text meter → ⊥)
+NamedBad letter text faults.BadUnit = (letter ≡ code "L") × ((unit : Frac) → SaysUnit text unit → ⊥)
+NamedBad letter text faults.BadVoice = (letter ≡ code "V") × ((voice : VoiceDef) → SaysVoice text voice → ⊥)
 NamedBad letter text _ = ⊥
 
 abbrev pub KindBad : List ℕ → LineKind → FaultKind → Type 0

@@ -1,5 +1,6 @@
 -- What a line says: its field, or its fault. The function that the code follows; what is meant is
 -- in FieldSpelling.
+use Prim.Native.Char.{code}
 use Rattle.std.specs.Prelude.{◌≡◌, ℕ, List, ◌==◌, if◌then◌else◌, codes, Option, Some, None, Result, Ok, Err, ⊤}
 use Rattle.std.specs.Str.{bytes_eq}
 use Rattle.mus_units.specs.declared.key.Meter.{Meter}
@@ -44,11 +45,11 @@ voice_field None = Err faults.BadVoice
 
 -- w:, T:, C: and Q: as written; other letters say nothing
 abbrev pub written_field : ℕ → List ℕ → Field
-written_field letter text = if letter == 119 then fields.Words text else (if letter == 84 then fields.Title text else (if letter == 67 then fields.Composer text else (if letter == 81 then fields.Tempo text else fields.Other)))
+written_field letter text = if letter == code "w" then fields.Words text else (if letter == code "T" then fields.Title text else (if letter == code "C" then fields.Composer text else (if letter == code "Q" then fields.Tempo text else fields.Other)))
 
 -- K:, M:, L: and V: are read
 unfoldable pub named_field : ℕ → List ℕ → Result Field FaultKind
-named_field letter text = if letter == 75 then key_field (key_of text) else (if letter == 77 then meter_field (meter_of text) else (if letter == 76 then unit_field (unit_of text) else (if letter == 86 then voice_field (voice_of text) else Ok (written_field letter text))))
+named_field letter text = if letter == code "K" then key_field (key_of text) else (if letter == code "M" then meter_field (meter_of text) else (if letter == code "L" then unit_field (unit_of text) else (if letter == code "V" then voice_field (voice_of text) else Ok (written_field letter text))))
 
 abbrev pub breaks_field : Option Breaks → Field
 breaks_field (Some breaks) = fields.Breaks breaks

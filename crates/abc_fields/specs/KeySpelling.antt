@@ -1,4 +1,5 @@
 -- How keys are written: words, each a form with its spelling, when it is good, and what it means.
+use Prim.Native.Char.{code}
 use Rattle.std.specs.Prelude.{◌≡◌, ℕ, ◌+◌, pos, List, [], ◌∷◌, ◌++◌, Bool, true, false, IsTrue, ⊤, ◌==◌, map, codes, Some}
 use Rattle.std.specs.Char.{to_ascii_lowercase}
 use Rattle.std.specs.List.{list_any}
@@ -19,13 +20,13 @@ use Rattle.abc_fields.specs.WordSpelling.{HasWords}
 
 -- A to G; a small letter stands 32 further
 abbrev pub letter_byte : Letter → ℕ
-letter_byte letters.C = 67
-letter_byte letters.D = 68
-letter_byte letters.E = 69
-letter_byte letters.F = 70
-letter_byte letters.G = 71
-letter_byte letters.A = 65
-letter_byte letters.B = 66
+letter_byte letters.C = code "C"
+letter_byte letters.D = code "D"
+letter_byte letters.E = code "E"
+letter_byte letters.F = code "F"
+letter_byte letters.G = code "G"
+letter_byte letters.A = code "A"
+letter_byte letters.B = code "B"
 
 abbrev pub letter_spelled : Letter → Bool → ℕ
 letter_spelled letter false = letter_byte letter
@@ -54,10 +55,10 @@ word_spelled (clef_word clef) = codes "clef=" ++ clef_spelled clef
 word_spelled (name_word clef) = clef_spelled clef
 word_spelled (passed_word word) = word
 
--- A word that is passed over has an equals sign, which is 61, is no sign and letter, and doesn't
+-- A word that is passed over has an equals sign, is no sign and letter, and doesn't
 -- begin with `clef=`.
 pub record IsPassed (word : List ℕ) : Type 0 where
-  pub equals : IsTrue (list_any (λ b. b == 61) word)
+  pub equals : IsTrue (list_any (λ b. b == code "=") word)
   pub no_sign : (alter : Alter) (letter : Letter) (lower : Bool) → word ≡ alter_spelled alter ++ letter_spelled letter lower ∷ [] → ⊥
   pub no_clef : (name : List ℕ) → word ≡ codes "clef=" ++ name → ⊥
 
@@ -126,7 +127,7 @@ abbrev pub mode_meant : ModeForm → Mode
 mode_meant minor_form = modes.Min
 mode_meant (named_form name a b c more) = mode_of_name name
 
--- A tonic is a letter, and a sharp, 35, or a flat, 98, or none of them.
+-- A tonic is a letter, and a sharp, a flat or none of them.
 pub data Accident : Type 0 where
   plain_tonic : Accident
   sharp_tonic : Accident
@@ -134,8 +135,8 @@ pub data Accident : Type 0 where
 
 abbrev pub accident_spelled : Accident → List ℕ → List ℕ
 accident_spelled plain_tonic more = more
-accident_spelled sharp_tonic more = 35 ∷ more
-accident_spelled flat_tonic more = 98 ∷ more
+accident_spelled sharp_tonic more = code "#" ∷ more
+accident_spelled flat_tonic more = code "b" ∷ more
 
 abbrev pub accident_meant : Accident → Alter
 accident_meant plain_tonic = alters.Natural

@@ -1,4 +1,5 @@
 -- What a key's text says: which signs, and which clef.
+use Prim.Native.Char.{code}
 use Rattle.std.specs.Prelude.{ℕ, ℤ, pos, List, [], ◌∷◌, Bool, true, false, ◌==◌, ◌||◌, ⊤, nat_eq, if◌then◌else◌, length, take, codes, Option, Some, None, ◌-◌}
 use Rattle.std.specs.List.{list_any, filter_map, ends_with, after_last}
 use Rattle.std.specs.Option.{option_map, option_and_then, option_or}
@@ -27,7 +28,7 @@ use Rattle.abc_fields.specs.declared.key.Start.TheVariants as starts
 use Rattle.abc_fields.specs.Words.{words_of, behind}
 
 abbrev pub natural_of : ℕ → Option Letter
-natural_of b = if b == 67 then Some letters.C else (if b == 68 then Some letters.D else (if b == 69 then Some letters.E else (if b == 70 then Some letters.F else (if b == 71 then Some letters.G else (if b == 65 then Some letters.A else (if b == 66 then Some letters.B else None))))))
+natural_of b = if b == code "C" then Some letters.C else (if b == code "D" then Some letters.D else (if b == code "E" then Some letters.E else (if b == code "F" then Some letters.F else (if b == code "G" then Some letters.G else (if b == code "A" then Some letters.A else (if b == code "B" then Some letters.B else None))))))
 
 -- a letter of either case, which stands 32 further
 abbrev pub letter_of : ℕ → Option Letter
@@ -65,7 +66,7 @@ clef_of w = named_clef (without_octave w)
 -- is named with or without `clef=`, and other words with an equals sign are passed over.
 abbrev pub by_name : List ℕ → Option Clef → Option KeyWord
 by_name w (Some clef) = Some (words.Names clef)
-by_name w None = if list_any (λ b. b == 61) w then Some words.Passed else None
+by_name w None = if list_any (λ b. b == code "=") w then Some words.Passed else None
 
 abbrev pub by_clef : List ℕ → Option (List ℕ) → Option KeyWord
 by_clef w (Some name) = option_map (λ c. words.Names c) (clef_of name)
@@ -129,7 +130,7 @@ mode_on letter alter (b ∷ s) = option_map (λ mode. record { letter = letter; 
 
 abbrev pub altered : Letter → List ℕ → Option Tonic
 altered letter [] = mode_on letter alters.Natural []
-altered letter (b ∷ s) = if b == 35 then mode_on letter alters.Sharp s else (if b == 98 then mode_on letter alters.Flat s else mode_on letter alters.Natural (b ∷ s))
+altered letter (b ∷ s) = if b == code "#" then mode_on letter alters.Sharp s else (if b == code "b" then mode_on letter alters.Flat s else mode_on letter alters.Natural (b ∷ s))
 
 unfoldable pub tonic_of : List ℕ → Option Tonic
 tonic_of [] = None

@@ -1,5 +1,6 @@
 -- How meters and unit lengths are written: each form with its spelling, when it is good, and what
 -- it means. Blanks round the whole text count for nothing.
+use Prim.Native.Char.{code}
 use Rattle.std.specs.Prelude.{◌≡◌, ℕ, ◌+◌, ◌≤◌, List, [], ◌∷◌, ◌++◌, IsTrue, ⊤, length, codes}
 use Rattle.std.specs.List.{list_all, join_with_byte}
 use Rattle.mus_units.specs.declared.key.Meter.{Meter}
@@ -20,18 +21,16 @@ pub data MeterForm : Type 0 where
   sum_form : (terms : List (List ℕ)) (below : List ℕ) → MeterForm
   wrapped_form : (terms : List (List ℕ)) (below : List ℕ) → MeterForm
 
--- 43 is the plus sign
 abbrev pub sum_spelled : List (List ℕ) → List ℕ
-sum_spelled terms = join_with_byte 43 terms
+sum_spelled terms = join_with_byte (code "+") terms
 
--- 40 and 41 are the parentheses, 47 is the slash
 abbrev pub meter_spelled : MeterForm → List ℕ
 meter_spelled common_form = codes "C"
 meter_spelled cut_form = codes "C|"
 meter_spelled none_form = codes "none"
 meter_spelled empty_form = []
-meter_spelled (sum_form terms below) = sum_spelled terms ++ 47 ∷ below
-meter_spelled (wrapped_form terms below) = 40 ∷ (sum_spelled terms ++ 41 ∷ 47 ∷ below)
+meter_spelled (sum_form terms below) = sum_spelled terms ++ code "/" ∷ below
+meter_spelled (wrapped_form terms below) = code "(" ∷ (sum_spelled terms ++ code ")" ∷ code "/" ∷ below)
 
 -- the sum of the numbers that the terms write
 abbrev pub value_sum : List (List ℕ) → ℕ
@@ -81,10 +80,9 @@ pub data UnitForm : Type 0 where
   whole_form : UnitForm
   over_form : (below : List ℕ) → UnitForm
 
--- 49 is the digit 1, 47 is the slash
 abbrev pub unit_spelled : UnitForm → List ℕ
 unit_spelled whole_form = codes "1"
-unit_spelled (over_form below) = 49 ∷ 47 ∷ below
+unit_spelled (over_form below) = code "1" ∷ code "/" ∷ below
 
 -- the number below halves a whole note
 abbrev pub IsGoodUnitForm : UnitForm → Type 0

@@ -1,4 +1,5 @@
 -- Meters and unit lengths: how they are written and what they mean.
+use Prim.Native.Char.{code}
 use Rattle.std.specs.Prelude.{ℕ, ◌+◌, ◌*◌, List, [], ◌∷◌, Bool, ◌==◌, ◌||◌, nat_le, nat_lt, codes, Option, Some, None, if◌then◌else◌}
 use Rattle.std.specs.List.{slice_split}
 use Rattle.std.specs.Option.{option_and_then}
@@ -24,13 +25,16 @@ abbrev pub added : ℕ → List (List ℕ) → Option ℕ
 added total [] = Some total
 added total (term ∷ terms) = option_and_then (λ n. added n terms) (plus total (number_of term))
 
+abbrev pub is_plus : ℕ → Bool
+is_plus b = b == code "+"
+
 unfoldable pub sum_of : List ℕ → Option ℕ
-sum_of s = added 0 (slice_split (λ b. b == 43) s)
+sum_of s = added 0 (slice_split is_plus s)
 
 -- the terms behind a first one
 abbrev pub terms_after : List ℕ → List (List ℕ)
 terms_after [] = []
-terms_after (b ∷ s) = slice_split (λ c. c == 43) s
+terms_after (b ∷ s) = slice_split is_plus s
 
 abbrev pub ratio : Option ℕ → Option ℕ → Option Meter
 ratio None den = None
@@ -45,10 +49,10 @@ below_behind None = None
 below_behind (Some s) = below_of s
 
 unfoldable pub plain_ratio : List ℕ → Option Meter
-plain_ratio s = ratio (sum_of (before 47 s)) (below_of (behind_one (from_first 47 s)))
+plain_ratio s = ratio (sum_of (before (code "/") s)) (below_of (behind_one (from_first (code "/") s)))
 
 unfoldable pub wrapped_ratio : List ℕ → Option Meter
-wrapped_ratio s = ratio (sum_of (before 41 s)) (below_behind (behind (codes "/") (behind_one (from_first 41 s))))
+wrapped_ratio s = ratio (sum_of (before (code ")") s)) (below_behind (behind (codes "/") (behind_one (from_first (code ")") s))))
 
 abbrev pub ratio_by : List ℕ → Option (List ℕ) → Option Meter
 ratio_by s None = plain_ratio s

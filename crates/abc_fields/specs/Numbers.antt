@@ -1,13 +1,12 @@
 -- Numbers as they are written: those of music, and those of paper with hundredths.
+use Prim.Native.Char.{code}
 use Rattle.std.specs.Prelude.{ℕ, ◌+◌, ◌-◌, ◌*◌, take, drop, List, [], ◌∷◌, Bool, false, ◌==◌, ◌&&◌, not, nat_le, length, Option, Some, None, if◌then◌else◌}
 use Rattle.std.specs.List.{list_all, prefix_len}
-
-abbrev pub is_digit : ℕ → Bool
-is_digit b = nat_le 48 b && nat_le b 57
+pub use Rattle.mus_units.specs.Bytes.{is_digit}
 
 abbrev pub begins_zero : List ℕ → Bool
 begins_zero [] = false
-begins_zero (b ∷ s) = b == 48
+begins_zero (b ∷ s) = b == code "0"
 
 -- a number of music: one to four digits, the first of them no zero
 abbrev pub is_number : List ℕ → Bool
@@ -16,7 +15,7 @@ is_number s = (nat_le 1 (length s) && nat_le (length s) 4) && (list_all is_digit
 -- the number that digits write behind those of n
 abbrev pub value_after : ℕ → List ℕ → ℕ
 value_after n [] = n
-value_after n (d ∷ ds) = value_after (n * 10 + (d - 48)) ds
+value_after n (d ∷ ds) = value_after (n * 10 + (d - code "0")) ds
 
 abbrev pub value_of : List ℕ → ℕ
 value_of ds = value_after 0 ds

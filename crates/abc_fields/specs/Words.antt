@@ -1,7 +1,9 @@
 -- Words of a text: what stands between its spaces and tabs. Where quotes count, what stands
 -- between two of them is not parted.
+use Prim.Native.Char.{code}
 use Rattle.std.specs.Prelude.{ℕ, suc, List, [], ◌∷◌, Bool, true, false, ◌==◌, ◌&&◌, not, if◌then◌else◌, filter, take, drop, length, ◌-◌, nat_eq, Option, Some, None}
 use Rattle.std.specs.List.{onto_first, suffix_len, starts_with}
+use Rattle.mus_units.specs.Bytes.{trimmed as between_blanks}
 use Rattle.abc_lines.specs.Kinds.{is_blank, behind_blanks}
 
 abbrev pub is_empty : List ℕ → Bool
@@ -10,7 +12,7 @@ is_empty (b ∷ s) = false
 
 -- whether the place behind this byte stands between quotes
 abbrev pub quoted_after : Bool → Bool → ℕ → Bool
-quoted_after quotes quoted b = if quotes && b == 34 then not quoted else quoted
+quoted_after quotes quoted b = if quotes && b == code "\"" then not quoted else quoted
 
 abbrev pub parts_words : Bool → ℕ → Bool
 parts_words quoted b = is_blank b && not quoted
@@ -39,7 +41,7 @@ ends_quoted quoted (b ∷ s) = ends_quoted (quoted_after true quoted b) s
 
 -- what is left without the blanks at both ends
 unfoldable pub trimmed : List ℕ → List ℕ
-trimmed s = let t = behind_blanks s in take (length t - suffix_len is_blank t) t
+trimmed s = between_blanks s
 
 -- What the code reads, one word after another: how long the word at the front is, and the word
 -- with what follows it.

@@ -7,7 +7,7 @@ use crate::words::{has_word, is_blank, is_same, trimmed};
 use mus_units::Spread;
 
 /// Which line breaks are on: line ends, `$` and `!`.
-#[derive(Clone, Copy, Debug, PartialEq, Eq)]
+#[derive(Clone, Copy, PartialEq, Eq)]
 pub struct Breaks {
     pub eol: bool,
     pub dollar: bool,

@@ -18,7 +18,7 @@ use std::alloc::Global;
 
 /// What a line says. Texts are as written, without the blanks at their start.
 /// `Other` is a field, a directive or a music line that says nothing here.
-#[derive(Debug, Drop)]
+#[derive(Drop)]
 pub enum Field {
     Key(KeyText),
     Meter(Meter),
@@ -35,7 +35,7 @@ pub enum Field {
 
 /// Why a letter and a text are no field: the fault, which stands where the field
 /// stands, or want of memory.
-#[derive(Clone, Copy, Debug, PartialEq, Eq)]
+#[derive(Clone, Copy, PartialEq, Eq)]
 pub enum FieldError {
     Fault(FaultKind),
     Memory,

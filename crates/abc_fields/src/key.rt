@@ -1,4 +1,5 @@
 ghost use Rattle.std.specs.Prelude.{◌≡◌, IfOk, IfSome, Some, None, codes, ◌==◌, nat_eq, ◌∷◌, ◌≤◌, length, not};
+ghost use Rattle.abc_lines.specs.Kinds.{code};
 ghost use Rattle.std.specs.List.{list_any, ends_with, filter_map, suffix_len};
 ghost use Rattle.abc_fields.specs.declared.key.Start.TheVariants as starts;
 ghost use Rattle.std.specs.Option.{option_map};
@@ -15,7 +16,7 @@ use std::alloc::Global;
 /// What a key's text says. Where it has a tonic, `none`, `HP`, `Hp` or `exp`, `key`
 /// is the whole key with the listed signs laid on it and `adds` is empty; else
 /// `adds` are signs to be laid on the key in force. `clef` is the last clef named.
-#[derive(Debug, Drop)]
+#[derive(Drop)]
 pub struct KeyText {
     pub key: Option<Key>,
     pub adds: Row<Sign>,
@@ -23,7 +24,7 @@ pub struct KeyText {
 }
 
 /// A word behind the tonic: `exp`, a sign, a clef, or one that is passed over.
-#[derive(Clone, Copy, Debug, PartialEq, Eq)]
+#[derive(Clone, Copy, PartialEq, Eq)]
 pub enum KeyWord {
     Empties,
     Adds(Sign),
@@ -33,7 +34,7 @@ pub enum KeyWord {
 
 /// What a key begins with: the key in force, a number of sharps of -7 to 7, the
 /// signs of the pipes, or more signs than a signature has.
-#[derive(Clone, Copy, Debug, PartialEq, Eq)]
+#[derive(Clone, Copy, PartialEq, Eq)]
 pub enum Start {
     Kept,
     Sharps(i8),
@@ -42,7 +43,7 @@ pub enum Start {
 }
 
 /// A tonic as written, with the mode that is written on it.
-#[derive(Clone, Copy, Debug, PartialEq, Eq)]
+#[derive(Clone, Copy, PartialEq, Eq)]
 pub struct Tonic {
     pub letter: Letter,
     pub alter: Alter,
@@ -267,7 +268,7 @@ fn by_name(word: &[u8]) -> Option<KeyWord>
 }
 
 fn has_equals(word: &[u8]) -> bool
-    ensures { result ≡ list_any (λ b. b == 61) word.now }
+    ensures { result ≡ list_any (λ b. b == code "=") word.now }
 {
     word.iter().any(|byte| *byte == b'=')
 }

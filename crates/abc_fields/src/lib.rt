@@ -14,6 +14,3 @@ pub use field::{Field, FieldError, read_field, read_named};
 pub use key::KeyText;
 pub use mus_units::{Clef, Frac, Key, Letter, Meter, Sign, Spread, Wish};
 pub use voice::VoiceDef;
-
-#[cfg(test)]
-mod tests;

@@ -1,14 +1,11 @@
 //! Numbers as they are written.
 
 ghost use Rattle.std.specs.Prelude.{◌≡◌, ◌≤◌, ◌<◌, IfSome, IsTrue, length, nat_le, ◌&&◌, not, ◌==◌, ◌+◌, ◌*◌, ◌-◌, min};
+ghost use Rattle.abc_lines.specs.Kinds.{code};
 ghost use Rattle.std.specs.List.{list_all};
 ghost use Rattle.abc_fields.specs.Numbers.{is_digit, begins_zero, is_number, number_of, value_of, place_of, before, from_first, behind_one};
 
-pub fn is_digit(byte: u8) -> bool
-    ensures { result ≡ is_digit byte }
-{
-    byte >= b'0' && byte <= b'9'
-}
+use mus_units::bytes::is_digit;
 
 pub fn all_digits(text: &[u8]) -> bool
     ensures { result ≡ list_all is_digit text.now }
@@ -73,7 +70,7 @@ pub fn capped_value(digits: &[u8]) -> u64
 
 fn with_digit(value: u64, digit: u8) -> u64
     requires { value ≤ 10000000 }
-    ensures value { result ≡ min (value * 10 + (digit - 48)) 10000000 }
+    ensures value { result ≡ min (value * 10 + (digit - code "0")) 10000000 }
     ensures small { result ≤ 10000000 }
 {
     (value * 10 + u64::from(digit.saturating_sub(b'0'))).min(LIMIT)

@@ -13,7 +13,7 @@ use std::alloc::Global;
 /// What a voice's field says: its id of 1 to 20 bytes, the last clef that it names,
 /// and the last way of stems. `asks` tells whether it names a way; where it
 /// doesn't, `stem` is `Auto`.
-#[derive(Debug, Drop)]
+#[derive(Drop)]
 pub struct VoiceDef {
     pub id: Text,
     pub clef: Option<Clef>,
@@ -22,7 +22,7 @@ pub struct VoiceDef {
 }
 
 /// A property of a voice: a clef, a way of stems, or one that is passed over.
-#[derive(Clone, Copy, Debug, PartialEq, Eq)]
+#[derive(Clone, Copy, PartialEq, Eq)]
 pub enum VoiceWord {
     Names(Clef),
     Asks(Wish),

@@ -7,50 +7,15 @@ ghost use Rattle.std.specs.Str.{bytes_eq};
 ghost use Rattle.abc_lines.specs.Kinds.{is_blank, behind_blanks};
 ghost use Rattle.abc_fields.specs.Words.{word_len, quoted_after, parts_words, word_and_rest, next_word, trimmed, ends_quoted, words_of, words_in, words_after, behind};
 
-pub fn is_blank(byte: u8) -> bool
-    ensures { result ≡ is_blank byte }
-{
-    byte == b' ' || byte == b'\t'
-}
-
-/// Whether two texts have the same bytes.
-pub fn is_same(text: &[u8], other: &[u8]) -> bool
-    ensures { result ≡ bytes_eq text.now other.now }
-{
-    text == other
-}
-
-fn blanks_at_front(text: &[u8]) -> usize
-    ensures value { result ≡ prefix_len is_blank text.now }
-    ensures within { result ≤ length text.now }
-{
-    text.iter().take_while(|byte| is_blank(**byte)).count()
-}
-
-fn blanks_at_end(text: &[u8]) -> usize
-    ensures value { result ≡ suffix_len is_blank text.now }
-    ensures within { result ≤ length text.now }
-{
-    text.iter()
-        .rev()
-        .take_while(|byte| is_blank(**byte))
-        .count()
-}
-
-/// What stands behind the blanks at the front.
-fn behind_blanks(text: &[u8]) -> &[u8]
-    ensures { result.now ≡ behind_blanks text.now }
-{
-    text.split_at(blanks_at_front(text)).1
-}
+pub use mus_units::bytes::{is_blank, is_same};
+use mus_units::bytes::{behind_blanks, trimmed as between_blanks};
 
 /// What is left without the blanks at both ends.
 #[tactic(auto, unfolding(crate::specs::Words::trimmed))]
 pub fn trimmed(text: &[u8]) -> &[u8]
     ensures { result.now ≡ trimmed text.now }
 {
-    let rest = behind_blanks(text);
-    rest.split_at(rest.len() - blanks_at_end(rest)).0
+    between_blanks(text)
 }
 
 /// The first word and what follows it, or none where there are only blanks. Where

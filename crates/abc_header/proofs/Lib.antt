@@ -1,3 +1,6 @@
+pub mod DirectiveForms
 pub mod FaultLaws
+pub mod FileHeaderLaws
 pub mod HeaderLaws
+pub mod PaperForms
 pub mod VoiceLaws

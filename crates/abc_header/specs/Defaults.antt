@@ -1,4 +1,5 @@
 -- What the file header sets for every tune: the last good value of each kind counts.
+use Prim.Native.Char.{code}
 use Rattle.std.specs.Prelude.{ℕ, List, true, false, ◌==◌, if◌then◌else◌, codes, Option, Some, None, unwrap_or}
 use Rattle.std.specs.Option.{option_and_then}
 use Rattle.std.specs.Str.{bytes_eq}
@@ -37,10 +38,10 @@ unfoldable pub said_by : List ℕ → List ℕ → Option (List ℕ)
 said_by name text = rest_if name text (kind_of text)
 
 unfoldable pub line_meter : Line → Option Meter
-line_meter line = option_and_then meter_of (text_of 77 line.text)
+line_meter line = option_and_then meter_of (text_of (code "M") line.text)
 
 unfoldable pub line_unit : Line → Option Frac
-line_unit line = option_and_then unit_of (text_of 76 line.text)
+line_unit line = option_and_then unit_of (text_of (code "L") line.text)
 
 unfoldable pub line_breaks : Line → Option Breaks
 line_breaks line = option_and_then breaks_of (said_by (codes "linebreak") line.text)

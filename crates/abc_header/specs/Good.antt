@@ -1,7 +1,5 @@
 -- Good meters and unit lengths: the numbers that they may have.
-use Rattle.std.specs.Prelude.{◌≡◌, ◌≤◌, ⊤, IsTrue, Option, Some, None}
-use Rattle.mus_units.specs.declared.key.Meter.{Meter}
-use Rattle.mus_units.specs.declared.key.Meter.TheVariants as meters
+use Rattle.std.specs.Prelude.{⊤, Option, Some, None}
 use Rattle.mus_units.specs.declared.value.Frac.{Frac}
 use Rattle.abc_header.specs.declared.defaults.Defaults.{Defaults}
 use Rattle.mus_units.specs.Good.{IsGoodMeter, IsGoodUnit}

@@ -1,4 +1,5 @@
 -- The header of a tune: what counts of its lines up to the first `K:`, and its first fault.
+use Prim.Native.Char.{code}
 use Rattle.std.specs.Prelude.{◌≡◌, ℕ, ◌+◌, ◌≤◌, List, [], ◌∷◌, Bool, nat_lt, if◌then◌else◌, length, take, position, Option, Some, None, Result, Ok, Err, is_some, unwrap_or, ⊤, count_by}
 use Rattle.std.specs.List.{filter_map}
 use Rattle.std.specs.Option.{option_or}
@@ -33,7 +34,7 @@ use Rattle.abc_header.specs.Voicing.{ids_after, voices_of}
 
 -- the place of the first `K:`
 abbrev pub is_key_line : Line → Bool
-is_key_line line = is_some (text_of 75 line.text)
+is_key_line line = is_some (text_of (code "K") line.text)
 
 abbrev pub key_place : List Line → Option ℕ
 key_place lines = position is_key_line lines

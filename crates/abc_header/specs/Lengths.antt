@@ -1,4 +1,5 @@
 -- Lengths of paper and its scale: numbers with up to two decimals, and a unit.
+use Prim.Native.Char.{code}
 use Rattle.std.specs.Prelude.{ℕ, ◌+◌, ◌-◌, ◌*◌, ◌/◌, List, [], ◌∷◌, Bool, ◌&&◌, nat_le, if◌then◌else◌, take, drop, codes, Option, Some, None}
 use Rattle.std.specs.List.{prefix_len}
 use Rattle.std.specs.Option.{option_and_then}
@@ -12,8 +13,8 @@ digit_len s = prefix_len is_digit s
 
 -- so many hundredths, and what follows the number
 abbrev pub with_decimals : ℕ → List ℕ → List ℕ → Option (ℕ × List ℕ)
-with_decimals whole (a ∷ []) rest = Some (whole * 100 + (a - 48) * 10, rest)
-with_decimals whole (a ∷ b ∷ []) rest = Some (whole * 100 + ((a - 48) * 10 + (b - 48)), rest)
+with_decimals whole (a ∷ []) rest = Some (whole * 100 + (a - code "0") * 10, rest)
+with_decimals whole (a ∷ b ∷ []) rest = Some (whole * 100 + ((a - code "0") * 10 + (b - code "0")), rest)
 with_decimals whole _ rest = None
 
 -- a point is followed by one or two digits

@@ -1,7 +1,10 @@
 pub mod Defaults
+pub mod DirectiveSpelling
+pub mod FileHeader
 pub mod Good
 pub mod HeaderFaults
 pub mod Headers
 pub mod Lengths
+pub mod PaperSpelling
 pub mod Papers
 pub mod Voicing

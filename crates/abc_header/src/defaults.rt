@@ -3,17 +3,19 @@ ghost use Rattle.std.specs.Option.{option_copied};
 ghost use Rattle.mus_units.specs.Good.{IsGoodMeter, IsGoodUnit};
 ghost use Rattle.abc_header.specs.Good.{IsGoodDefaults, GoodUnitIn};
 ghost use Rattle.abc_fields.specs.Last.{last_of};
+ghost use Rattle.abc_header.specs.declared.defaults.Defaults.{Defaults};
+ghost use Rattle.abc_header.specs.FileHeader.{AreDefaultsBy};
 ghost use Rattle.abc_header.specs.Defaults.{text_of, rest_named, said_by, line_meter, line_unit, line_breaks, line_spread, defaults_of};
 
 use abc_fields::directive::{Breaks, cut_name, read_breaks, read_spread};
 use abc_fields::meter::{read_meter, read_unit};
-use abc_fields::words::is_same;
 use abc_lines::{Book, Line, LineKind, field_text, kind_of};
+use mus_units::bytes::is_same;
 use mus_units::{Frac, Meter, Spread};
 
 /// What the file header sets for every tune. Without a unit each tune's own meter
 /// decides it.
-#[derive(Clone, Copy, Debug, PartialEq, Eq)]
+#[derive(Clone, Copy, PartialEq, Eq)]
 pub struct Defaults {
     pub meter: Meter,
     pub unit: Option<Frac>,
@@ -24,6 +26,15 @@ pub struct Defaults {
 /// The last good values of the file header, else free meter, no unit, breaks at
 /// line ends and `$`, and signs that reach every octave. Takes no memory.
 pub fn read_defaults(book: &Book) -> Defaults
+    ensures states { AreDefaultsBy book.now.header result }
+    ensures only { (defaults : Defaults) → AreDefaultsBy book.now.header defaults → defaults ≡ result }
+    ensures value { result ≡ defaults_of book.now.header }
+    ensures good { IsGoodDefaults result }
+{
+    defaults_of(book)
+}
+
+fn defaults_of(book: &Book) -> Defaults
     ensures value { result ≡ defaults_of book.now.header }
     ensures good { IsGoodDefaults result }
 {

@@ -25,7 +25,7 @@ use std::alloc::Global;
 /// The header of a tune. `voices` are in order of first mention, each with the last
 /// clef and the last way of stems that its lines name. `body` is the index of the
 /// first line behind the `K:`.
-#[derive(Debug, Drop)]
+#[derive(Drop)]
 pub struct Header {
     pub titles: Row<Text>,
     pub composers: Row<Text>,

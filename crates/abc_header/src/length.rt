@@ -1,14 +1,16 @@
 //! Lengths of paper, and its scale.
 
 ghost use Rattle.std.specs.Prelude.{◌≡◌, ◌≤◌, ◌&&◌, nat_le, length, IfSome, IsTrue, take, drop, codes, ◌-◌};
+ghost use Rattle.abc_lines.specs.Kinds.{code};
 ghost use Rattle.std.specs.List.{prefix_len};
 ghost use Rattle.std.specs.Option.{option_map};
 ghost use Rattle.abc_fields.specs.Numbers.{is_digit, value_of};
 ghost use Rattle.abc_fields.specs.Words.{behind};
 ghost use Rattle.abc_header.specs.Lengths.{digit_len, with_decimals, decimals, whole_of, hundredths_of, in_units, within_paper, length_of, is_scale, scale_by, scale_of};
 
-use abc_fields::numbers::{capped_value, is_digit};
-use abc_fields::words::{behind, is_same};
+use abc_fields::numbers::capped_value;
+use abc_fields::words::behind;
+use mus_units::bytes::{is_digit, is_same};
 
 /// A length of at most 100,000 hundredths of a point.
 #[tactic(auto, unfolding(crate::specs::Lengths::length_of))]
@@ -131,7 +133,7 @@ fn with_decimals<'a>(whole: u64, digits: &[u8], rest: &'a [u8]) -> Option<(u64, 
 
 /// The value of a digit.
 fn digit(byte: u8) -> u64
-    ensures value { result ≡ byte - 48 }
+    ensures value { result ≡ byte - code "0" }
     ensures small { result ≤ 207 }
 {
     u64::from(byte.saturating_sub(b'0'))

@@ -12,6 +12,3 @@ pub use abc_fields::{Breaks, Clef, Frac, Key, Letter, Meter, Sign, Spread, Voice
 pub use defaults::{Defaults, read_defaults};
 pub use header::{Header, read_header};
 pub use paper::{Paper, body_of, read_paper};
-
-#[cfg(test)]
-mod tests;

@@ -1,5 +1,7 @@
 ghost use Rattle.std.specs.Prelude.{◌≡◌, ◌≤◌, IfSome, codes, unwrap_or};
 ghost use Rattle.abc_fields.specs.Last.{last_of};
+ghost use Rattle.abc_header.specs.declared.paper.Paper.{Paper};
+ghost use Rattle.abc_header.specs.FileHeader.{IsPaperBy};
 ghost use Rattle.abc_header.specs.Papers.{line_length, line_scale, length_in, scale_in, default_paper, stated, left_by, width_of, height_of, is_wide_enough, paper_of, IsGoodPaper, IsSmall};
 
 use crate::defaults::said_by;
@@ -8,7 +10,7 @@ use abc_lines::{Book, Line};
 
 /// The paper: its size and margins in hundredths of a point, and the scale in
 /// percent.
-#[derive(Clone, Copy, Debug, PartialEq, Eq)]
+#[derive(Clone, Copy, PartialEq, Eq)]
 pub struct Paper {
     pub wide: u32,
     pub high: u32,
@@ -22,8 +24,17 @@ pub struct Paper {
 /// The paper that the file header states: of each directive the last good value
 /// counts. Where the body would be below 10,000 in width or height, all values are
 /// the defaults. Takes no memory.
-#[tactic(auto, unfolding(crate::specs::Papers::paper_of))]
 pub fn read_paper(book: &Book) -> Paper
+    ensures states { IsPaperBy book.now.header result }
+    ensures only { (paper : Paper) → IsPaperBy book.now.header paper → paper ≡ result }
+    ensures value { result ≡ paper_of book.now.header }
+    ensures good { IsGoodPaper result }
+{
+    paper_of(book)
+}
+
+#[tactic(auto, unfolding(crate::specs::Papers::paper_of))]
+fn paper_of(book: &Book) -> Paper
     ensures value { result ≡ paper_of book.now.header }
     ensures good { IsGoodPaper result }
 {

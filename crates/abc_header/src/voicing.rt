@@ -6,8 +6,8 @@ ghost use Rattle.abc_header.specs.Voicing.{with_id, ids_after, clef_for, wish_fo
 
 use abc_fields::field::Field;
 use abc_fields::voice::VoiceDef;
-use abc_fields::words::is_same;
 use indexmap::IndexSet;
+use mus_units::bytes::is_same;
 use mus_units::{Clef, Memory, Row, Text, Wish};
 use std::alloc::Global;
 use std::marker::Model;

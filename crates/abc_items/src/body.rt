@@ -21,7 +21,7 @@ use mus_units::{Memory, Row, Text};
 use std::alloc::Global;
 
 /// A body as far as it is read: the voices that it has mentioned, and its items.
-#[derive(Debug, Drop)]
+#[derive(Drop)]
 pub struct Body {
     pub ids: Row<Text>,
     pub items: Row<Item>,

@@ -11,6 +11,3 @@ pub mod voices;
 pub use abc_steps::{Item, Sound, Step, Stood};
 pub use body::read_body;
 pub use voices::{VoiceStart, steps_of, unnamed_of, voices_of};
-
-#[cfg(test)]
-mod tests;

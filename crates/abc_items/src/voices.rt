@@ -17,7 +17,7 @@ use std::alloc::Global;
 
 /// What a voice begins with: its id, its first clef, and the last way of stems that
 /// the tune names for it. Its key, meter and unit length are the header's.
-#[derive(Debug, Drop)]
+#[derive(Drop)]
 pub struct VoiceStart {
     pub id: Text,
     pub clef: Clef,

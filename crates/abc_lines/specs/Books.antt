@@ -1,6 +1,7 @@
 -- The book: which lines belong to the file header and to which tune, by looking backwards from a
 -- line, and the text that a listed line has with the `+:` lines that are joined to it.
-use Rattle.std.specs.Prelude.{ℕ, suc, List, [], ◌∷◌, ◌++◌, length, Bool, true, false, ◌==◌, ◌&&◌, ◌||◌, not, if◌then◌else◌, Option, Some, None, nat_eq}
+use Prim.Native.Char.{code}
+use Rattle.std.specs.Prelude.{ℕ, suc, List, [], ◌∷◌, ◌++◌, length, Bool, true, false, ◌==◌, ◌&&◌, ◌||◌, not, if◌then◌else◌, Option, Some, None, nat_eq, codes}
 use Rattle.std.specs.List.{starts_with}
 use Rattle.abc_lines.specs.declared.book.Line.{Line}
 use Rattle.abc_lines.specs.declared.book.TuneText.{TuneText}
@@ -14,7 +15,7 @@ use Rattle.abc_lines.specs.Lines.{readings, without_mark}
 abbrev pub begins_tune : Reading → Bool
 begins_tune Empty = false
 begins_tune Comment = false
-begins_tune (Written text) = starts_with nat_eq text (88 ∷ 58 ∷ [])
+begins_tune (Written text) = starts_with nat_eq text (codes "X:")
 
 abbrev pub is_empty : Reading → Bool
 is_empty Empty = true
@@ -27,7 +28,7 @@ is_end_of_part line = is_empty line || begins_tune line
 
 -- a line that begins `+:` goes on the field before it
 abbrev pub is_joining : List ℕ → Bool
-is_joining text = starts_with nat_eq text (43 ∷ 58 ∷ [])
+is_joining text = starts_with nat_eq text (codes "+:")
 
 -- Looking backwards: here a line stands first, the line before it second, and so on.
 -- No line up to it is empty or begins a tune.
@@ -58,7 +59,7 @@ goes_on (Written text) = is_joining text
 abbrev pub added : Reading → List ℕ
 added Empty = []
 added Comment = []
-added (Written text) = 32 ∷ field_text text
+added (Written text) = code " " ∷ field_text text
 
 -- what the `+:` lines add that stand directly behind a field
 abbrev pub joined : List Reading → List ℕ

@@ -1,42 +1,35 @@
 -- What a line of a tune or of the file header is by its first bytes: a directive, a field or
 -- music; and the text that a field or a directive has.
+pub use Prim.Native.Char.{code}
 use Rattle.std.specs.Prelude.{ℕ, List, [], ◌∷◌, drop, Bool, false, ◌==◌, ◌&&◌, ◌||◌, not, nat_le, if◌then◌else◌}
-use Rattle.std.specs.List.{prefix_len}
+pub use Rattle.mus_units.specs.Bytes.{is_blank, is_letter, behind_blanks}
 use Rattle.abc_lines.specs.declared.kind.LineKind.{LineKind}
 use Rattle.abc_lines.specs.declared.kind.LineKind.TheVariants.{Field, Directive, Music}
 
--- a space or a tab
-abbrev pub is_blank : ℕ → Bool
-is_blank byte = byte == 32 || byte == 9
-
--- A to Z, a to z
-abbrev pub is_letter : ℕ → Bool
-is_letter byte = (nat_le 65 byte && nat_le byte 90) || (nat_le 97 byte && nat_le byte 122)
-
 -- a letter that may be a note, a rest or a blank of music: A to G, a to g, x, y, z
 abbrev pub is_music_letter : ℕ → Bool
-is_music_letter byte = (nat_le 65 byte && nat_le byte 71) || (nat_le 97 byte && nat_le byte 103) || (nat_le 120 byte && nat_le byte 122)
+is_music_letter byte = (nat_le (code "A") byte && nat_le byte (code "G")) || (nat_le (code "a") byte && nat_le byte (code "g")) || (nat_le (code "x") byte && nat_le byte (code "z"))
 
 -- a bar sign or a colon stands first
 abbrev pub begins_bar : List ℕ → Bool
 begins_bar [] = false
-begins_bar (byte ∷ rest) = byte == 124 || byte == 58
+begins_bar (byte ∷ rest) = byte == code "|" || byte == code ":"
 
 -- a letter and a colon stand first; but a letter of music before a bar is music, as in `A:|` and `z::`
 abbrev pub is_field : List ℕ → Bool
 is_field [] = false
 is_field (letter ∷ []) = false
-is_field (letter ∷ colon ∷ rest) = is_letter letter && colon == 58 && not (is_music_letter letter && begins_bar rest)
+is_field (letter ∷ colon ∷ rest) = is_letter letter && colon == code ":" && not (is_music_letter letter && begins_bar rest)
 
 -- two percent signs stand first
 abbrev pub is_percent_line : List ℕ → Bool
 is_percent_line [] = false
 is_percent_line (first ∷ []) = false
-is_percent_line (first ∷ second ∷ rest) = first == 37 && second == 37
+is_percent_line (first ∷ second ∷ rest) = first == code "%" && second == code "%"
 
 -- the field `I:` means what `%%` means
 abbrev pub field_kind : ℕ → LineKind
-field_kind letter = if letter == 73 then Directive else Field letter
+field_kind letter = if letter == code "I" then Directive else Field letter
 
 abbrev pub first_byte : List ℕ → ℕ
 first_byte [] = 0
@@ -44,10 +37,6 @@ first_byte (byte ∷ rest) = byte
 
 abbrev pub kind_of : List ℕ → LineKind
 kind_of text = if is_percent_line text then Directive else (if is_field text then field_kind (first_byte text) else Music)
-
--- what is left behind spaces and tabs
-abbrev pub behind_blanks : List ℕ → List ℕ
-behind_blanks bytes = drop (prefix_len is_blank bytes) bytes
 
 -- the text of a field or a directive: what stands behind its first two bytes and the blanks there
 abbrev pub field_text : List ℕ → List ℕ

@@ -1,14 +1,16 @@
 -- The lines of an input: its pieces between line ends, without the carriage return at the end,
 -- each in Latin-1 and without its comment.
-use Rattle.std.specs.Prelude.{◌-◌, ◌+◌, ◌&&◌, not, ℕ, List, [], ◌∷◌, length, Bool, false, ◌==◌, if◌then◌else◌, take, drop, map, nat_eq, nat_le}
+use Prim.Native.Char.{code}
+use Rattle.std.specs.Prelude.{◌-◌, ◌+◌, ◌&&◌, not, ℕ, List, [], ◌∷◌, length, Bool, false, ◌==◌, if◌then◌else◌, take, drop, map, nat_eq, nat_le, codes}
 use Rattle.std.specs.List.{slice_split, suffix_len, position_or_len, prefix_len, starts_with, ends_with}
 use Rattle.std.specs.Str.{is_utf8, chars}
 use Rattle.abc_lines.specs.declared.reading.Reading.{Reading}
 use Rattle.abc_lines.specs.declared.reading.Reading.TheVariants.{Empty, Comment, Written}
-use Rattle.abc_lines.specs.Kinds.{is_blank, is_percent_line}
+use Rattle.mus_units.specs.Bytes.{is_blank, before_blanks}
+use Rattle.abc_lines.specs.Kinds.{is_percent_line}
 
 abbrev pub is_end : ℕ → Bool
-is_end byte = byte == 10
+is_end byte = byte == code "\n"
 
 -- the byte order mark that may stand at the start of the input
 abbrev pub byte_order_mark : List ℕ
@@ -28,11 +30,11 @@ lines_of bytes = without_last_empty (slice_split is_end bytes)
 
 -- one carriage return at the end is no part of the line
 abbrev pub without_return : List ℕ → List ℕ
-without_return line = if ends_with nat_eq line (13 ∷ []) then take (length line - 1) line else line
+without_return line = if ends_with nat_eq line (codes "\r") then take (length line - 1) line else line
 
 -- a character in Latin-1; a question mark where it has none
 abbrev pub narrow : ℕ → ℕ
-narrow character = if nat_le character 255 then character else 63
+narrow character = if nat_le character 255 then character else code "?"
 
 -- UTF-8 is read as such, other bytes are Latin-1 already
 unfoldable pub in_latin : List ℕ → List ℕ
@@ -42,14 +44,10 @@ in_latin line = if is_utf8 line then map narrow (chars line) else line
 -- says that a backslash stands directly before these bytes
 abbrev pub comment_len : Bool → List ℕ → ℕ
 comment_len escaped [] = 0
-comment_len escaped (byte ∷ rest) = if byte == 37 && not escaped then 0 else 1 + comment_len (byte == 92) rest
-
--- without spaces and tabs at the end
-abbrev pub trimmed : List ℕ → List ℕ
-trimmed text = take (length text - suffix_len is_blank text) text
+comment_len escaped (byte ∷ rest) = if byte == code "%" && not escaped then 0 else 1 + comment_len (byte == code "\\") rest
 
 unfoldable pub without_comment : List ℕ → List ℕ
-without_comment text = trimmed (take (comment_len false text) text)
+without_comment text = before_blanks (take (comment_len false text) text)
 
 -- nothing but spaces and tabs
 abbrev pub is_empty_text : List ℕ → Bool

@@ -2,7 +2,7 @@ use mus_units::{Row, Text};
 
 /// A line of a book: its number, from 1, and its bytes in Latin-1, without line
 /// end and comment. A `%%` line keeps what looks like a comment.
-#[derive(Debug, Drop)]
+#[derive(Drop)]
 pub struct Line {
     pub number: u32,
     pub text: Text,
@@ -10,14 +10,14 @@ pub struct Line {
 
 /// The lines of one tune, from its `X:` line on, and its place among the tunes of
 /// the book, from 1.
-#[derive(Debug, Drop)]
+#[derive(Drop)]
 pub struct TuneText {
     pub ordinal: u32,
     pub lines: Row<Line>,
 }
 
 /// A tune book: the lines of the file header, and the tunes in order.
-#[derive(Debug, Drop)]
+#[derive(Drop)]
 pub struct Book {
     pub header: Row<Line>,
     pub tunes: Row<TuneText>,

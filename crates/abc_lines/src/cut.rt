@@ -6,8 +6,9 @@ ghost use Rattle.abc_lines.specs.Good.{IsGoodBook};
 ghost use Rattle.abc_lines.specs.Lines.{readings};
 
 use crate::book::{Book, Line, TuneText};
-use crate::kind::{behind_blanks, behind_two, is_field};
+use crate::kind::{behind_two, is_field};
 use crate::reading::{Reading, first_line, read_line, without_mark};
+use mus_units::bytes::behind_blanks;
 use mus_units::{Memory, Row, Text};
 use std::alloc::Global;
 

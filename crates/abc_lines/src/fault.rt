@@ -4,7 +4,7 @@ ghost use Rattle.abc_lines.specs.declared.fault.TuneError.TheVariants as errors;
 use mus_units::Memory;
 
 /// Why a tune is refused. The order is that in which faults at one place count.
-#[derive(Clone, Copy, Debug, PartialEq, Eq)]
+#[derive(Clone, Copy, PartialEq, Eq)]
 pub enum FaultKind {
     /// The tune has no `K:` line.
     NoKey,
@@ -54,7 +54,7 @@ pub enum FaultKind {
 }
 
 /// The one fault of a tune, at a line and a column, both counted from 1.
-#[derive(Clone, Copy, Debug, PartialEq, Eq)]
+#[derive(Clone, Copy, PartialEq, Eq)]
 pub struct Fault {
     pub kind: FaultKind,
     pub line: u32,
@@ -62,7 +62,7 @@ pub struct Fault {
 }
 
 /// Why a call on a tune has no answer: the tune's fault, or want of memory.
-#[derive(Clone, Copy, Debug, PartialEq, Eq)]
+#[derive(Clone, Copy, PartialEq, Eq)]
 pub enum TuneError {
     Fault(Fault),
     Memory,

@@ -3,11 +3,12 @@ ghost use Rattle.std.specs.List.{prefix_len};
 ghost use Rattle.abc_lines.specs.Kinds.{is_blank, is_letter, is_music_letter, begins_bar, is_field, is_percent_line, field_kind, kind_of, behind_blanks, field_text};
 
 use crate::book::Line;
+use mus_units::bytes::{behind_blanks, is_letter};
 
 /// What a line is by its first bytes. A field has a letter and a colon first, a
 /// directive `%%` or `I:`, and every other line is music. A letter of A to G, a
 /// to g, x, y or z before `:|` or `::` is music too.
-#[derive(Clone, Copy, Debug, PartialEq, Eq)]
+#[derive(Clone, Copy, PartialEq, Eq)]
 pub enum LineKind {
     Field { letter: u8 },
     Directive,
@@ -73,12 +74,6 @@ pub(crate) fn is_field(text: &[u8]) -> bool
     is_letter(*letter) && *colon == b':' && !(is_music_letter(*letter) && begins_bar(rest))
 }
 
-fn is_letter(byte: u8) -> bool
-    ensures { result ≡ is_letter byte }
-{
-    (byte >= b'A' && byte <= b'Z') || (byte >= b'a' && byte <= b'z')
-}
-
 fn is_music_letter(byte: u8) -> bool
     ensures { result ≡ is_music_letter byte }
 {
@@ -104,21 +99,4 @@ pub(crate) fn behind_two(text: &[u8]) -> &[u8]
         Some((_, rest)) => rest,
         None => &[],
     }
-}
-
-/// What stands behind the spaces and tabs at the front.
-pub(crate) fn behind_blanks(text: &[u8]) -> &[u8]
-    ensures { result.now ≡ behind_blanks text.now }
-{
-    text.split_at(blanks_at_front(text)).1
-}
-
-/// How many spaces and tabs stand first.
-pub(crate) fn blanks_at_front(text: &[u8]) -> usize
-    ensures value { result ≡ prefix_len is_blank text.now }
-    ensures within { result ≤ length text.now }
-{
-    text.iter()
-        .take_while(|byte| **byte == b' ' || **byte == b'\t')
-        .count()
 }

@@ -15,6 +15,3 @@ pub use book::{Book, Line, TuneText};
 pub use cut::cut_book;
 pub use fault::{Fault, FaultKind, TuneError};
 pub use kind::{LineKind, field_text, kind_of};
-
-#[cfg(test)]
-mod tests;

@@ -2,15 +2,16 @@ ghost use Rattle.std.specs.Prelude.{◌≡◌, ◌≤◌, ◌-◌, ◌+◌, leng
 ghost use Rattle.std.specs.List.{suffix_len, position_or_len};
 ghost use Rattle.std.specs.Str.{chars};
 ghost use Rattle.abc_lines.specs.Kinds.{is_blank};
-ghost use Rattle.abc_lines.specs.Lines.{is_end, without_mark, without_return, narrow, in_latin, comment_len, trimmed, without_comment, is_empty_text, written, reading_of, reading, first_line};
+ghost use Rattle.abc_lines.specs.Lines.{is_end, without_mark, without_return, narrow, in_latin, comment_len, without_comment, is_empty_text, written, reading_of, reading, first_line};
 
-use crate::kind::{blanks_at_front, is_percent_line};
+use crate::kind::is_percent_line;
 use bstr::ByteSlice;
+use mus_units::bytes::{before_blanks, blanks_at_front};
 use mus_units::{Memory, Text};
 use std::alloc::{AllocError, Global};
 
 /// What is read of one line of the input.
-#[derive(Debug, Drop)]
+#[derive(Drop)]
 pub enum Reading {
     /// Spaces and tabs alone.
     Empty,
@@ -24,7 +25,7 @@ pub enum Reading {
 pub(crate) fn without_mark(bytes: &[u8]) -> &[u8]
     ensures { result.now ≡ without_mark bytes.now }
 {
-    if bytes.starts_with(&[239, 187, 191]) {
+    if bytes.starts_with(b"\xEF\xBB\xBF") {
         bytes.split_at(3).1
     } else {
         bytes
@@ -130,7 +131,7 @@ fn narrow(character: char) -> u8
 fn without_comment(text: &[u8]) -> &[u8]
     ensures { result.now ≡ without_comment text.now }
 {
-    trimmed(text.split_at(comment_len(text)).0)
+    before_blanks(text.split_at(comment_len(text)).0)
 }
 
 fn comment_len(text: &[u8]) -> usize
@@ -145,20 +146,4 @@ fn comment_len(text: &[u8]) -> usize
         escaped = *byte == b'\\';
     }
     text.len()
-}
-
-fn trimmed(text: &[u8]) -> &[u8]
-    ensures { result.now ≡ trimmed text.now }
-{
-    text.split_at(text.len() - blanks_at_end(text)).0
-}
-
-fn blanks_at_end(text: &[u8]) -> usize
-    ensures value { result ≡ suffix_len is_blank text.now }
-    ensures within { result ≤ length text.now }
-{
-    text.iter()
-        .rev()
-        .take_while(|byte| **byte == b' ' || **byte == b'\t')
-        .count()
 }

@@ -2,20 +2,20 @@ use abc_lines::FaultKind;
 use mus_units::{Head, Row};
 
 /// A length as written, in units, not reduced: `A//` is 1/4.
-#[derive(Clone, Copy, Debug, PartialEq, Eq)]
+#[derive(Clone, Copy, PartialEq, Eq)]
 pub struct Len {
     pub num: u32,
     pub den: u32,
 }
 
 /// The heads of one note or chord of a grace group, in the order of the text.
-#[derive(Debug, Drop)]
+#[derive(Drop)]
 pub struct GraceChord {
     pub heads: Row<Head>,
 }
 
 /// A fault of a line, and how many bytes are left of the line from its place on.
-#[derive(Clone, Copy, Debug, PartialEq, Eq)]
+#[derive(Clone, Copy, PartialEq, Eq)]
 pub struct Flaw {
     pub kind: FaultKind,
     pub left: usize,
@@ -40,7 +40,7 @@ pub enum GraceItem<'a> {
 }
 
 /// What a piece within a chord or a grace may be, by its first byte.
-#[derive(Clone, Copy, Debug, PartialEq, Eq)]
+#[derive(Clone, Copy, PartialEq, Eq)]
 pub enum ItemClass {
     Note,
     Dot,

@@ -4,7 +4,7 @@ use mus_units::{Bar, Deco, Head, Row, Text};
 /// What a piece of a music line says. `Cut` is `$`, or `!` where that is a line
 /// break; `Says` is the text between quotes; `Inline` has the letters K, L, M and
 /// V alone. In a `Tuplet` an absent q or r is 0.
-#[derive(Debug, Drop)]
+#[derive(Drop)]
 pub enum Token {
     Note {
         head: Head,
@@ -53,7 +53,7 @@ pub enum Token {
 
 /// What the piece before tells of the next: `Lengthy` has a length, `Paren` is a
 /// slur's beginning or a tuplet, which digits may not follow.
-#[derive(Clone, Copy, Debug, PartialEq, Eq)]
+#[derive(Clone, Copy, PartialEq, Eq)]
 pub enum Before {
     Bar,
     Broken { right: bool },
@@ -88,7 +88,7 @@ pub enum Found<'a> {
 }
 
 /// What a piece may be, by its first byte.
-#[derive(Clone, Copy, Debug, PartialEq, Eq)]
+#[derive(Clone, Copy, PartialEq, Eq)]
 pub enum Class {
     Note,
     Rest,
@@ -114,7 +114,7 @@ pub enum Class {
 }
 
 /// What stands behind an opening bracket.
-#[derive(Clone, Copy, Debug, PartialEq, Eq)]
+#[derive(Clone, Copy, PartialEq, Eq)]
 pub enum Opening {
     Bar,
     Ending,

@@ -10,6 +10,3 @@ pub mod voices;
 
 pub use building::build;
 pub use voices::VoiceRead;
-
-#[cfg(test)]
-mod tests;

@@ -9,7 +9,7 @@ use mus_units::{Memory, Row, Text};
 use std::alloc::Global;
 
 /// The notes of a voice so far, and how many written events.
-#[derive(Debug, Drop)]
+#[derive(Drop)]
 pub struct Notes {
     pub events: u32,
     pub notes: Row<SungNote>,

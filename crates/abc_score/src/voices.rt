@@ -17,7 +17,7 @@ const MOST_STEPS: usize = 1_073_741_824;
 
 /// A voice as it is read: its id, first clef and way of stems, what is in force
 /// at its beginning, and its steps.
-#[derive(Debug, Drop)]
+#[derive(Drop)]
 pub struct VoiceRead {
     pub start: VoiceStart,
     pub first: InForce,

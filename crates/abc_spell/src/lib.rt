@@ -8,6 +8,3 @@ pub mod note;
 pub mod speller;
 
 pub use speller::spell;
-
-#[cfg(test)]
-mod tests;

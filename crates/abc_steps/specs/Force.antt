@@ -2,7 +2,7 @@
 -- else those that the voice begins with.
 use Rattle.std.specs.Prelude.{ℕ, ◌*◌, ◌/◌, List, [], ◌∷◌, Bool, true, false, if◌then◌else◌, Option, Some, None, is_some, unwrap_or}
 use Rattle.std.specs.List.{list_any}
-use Rattle.mus_units.specs.declared.value.TheConstants.{WHOLE}
+use Rattle.mus_units.specs.Value.{whole_note}
 use Rattle.mus_units.specs.declared.key.Sign.{Sign}
 use Rattle.mus_units.specs.declared.key.Meter.{Meter}
 use Rattle.mus_units.specs.declared.key.Meter.TheVariants as meters
@@ -58,6 +58,6 @@ changes_at now waits = record {
 -- the ticks of a measure; free meter has none
 abbrev pub meter_ticks : Meter → Option ℕ
 meter_ticks meters.Free = None
-meter_ticks meters.Common = Some WHOLE
-meter_ticks meters.Cut = Some WHOLE
-meter_ticks (meters.Ratio num den) = Some (num * WHOLE / den)
+meter_ticks meters.Common = Some whole_note
+meter_ticks meters.Cut = Some whole_note
+meter_ticks (meters.Ratio num den) = Some (num * whole_note / den)

@@ -7,7 +7,7 @@ use crate::kinds::{is_bar, is_event};
 use crate::step::{Step, Stood};
 
 /// What the nearest event or bar before a place is.
-#[derive(Clone, Copy, Debug, PartialEq, Eq)]
+#[derive(Clone, Copy, PartialEq, Eq)]
 pub enum Nearest {
     Nothing,
     Event,
@@ -17,7 +17,7 @@ pub enum Nearest {
 /// What is kept of the steps before a place, to count its measure: the groups of
 /// bars behind the first event, the further measures of whole measure rests, how
 /// many measures have begun, and the nearest event or bar.
-#[derive(Clone, Copy, Debug, PartialEq, Eq)]
+#[derive(Clone, Copy, PartialEq, Eq)]
 pub struct Counts {
     pub groups: u64,
     pub further: u64,

@@ -13,7 +13,7 @@ use mus_units::{Clef, Frac, Key, Memory, Meter, Row, Sign, WHOLE};
 use std::alloc::Global;
 
 /// Clef, key, meter and unit in force at a place of a voice.
-#[derive(Debug, Drop)]
+#[derive(Drop)]
 pub struct InForce {
     pub clef: Clef,
     pub key: Key,

@@ -16,6 +16,3 @@ pub use force::InForce;
 pub use place::Place;
 pub use step::{Item, Sound, Step, Stood};
 pub use tuplets::Taking;
-
-#[cfg(test)]
-mod tests;

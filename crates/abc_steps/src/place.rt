@@ -13,7 +13,7 @@ use std::alloc::Global;
 
 /// What holds at a place of a voice: the counts of its measure, what is in force,
 /// and what the open tuplets take.
-#[derive(Debug, Drop)]
+#[derive(Drop)]
 pub struct Place {
     pub counts: Counts,
     pub force: InForce,

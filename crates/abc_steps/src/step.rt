@@ -4,7 +4,7 @@ use mus_units::{Bar, Clef, Deco, Frac, Head, Meter, Row, Text};
 
 /// A note, a chord or a rest as it is written: a rest has no heads. Its length is
 /// `num / den` units, not reduced; `decos` are those written inside a chord.
-#[derive(Debug, Drop)]
+#[derive(Drop)]
 pub struct Sound {
     pub heads: Row<Head>,
     pub seen: bool,
@@ -15,7 +15,7 @@ pub struct Sound {
 
 /// What a voice has one after the other. `Clef` is the clef of a `V:` of the body;
 /// `Break` is a line break that is on, `LineEnd` the end of a physical line.
-#[derive(Debug, Drop)]
+#[derive(Drop)]
 pub enum Step {
     Sound(Sound),
     Measures { seen: bool, count: u16 },
@@ -39,7 +39,7 @@ pub enum Step {
 }
 
 /// A step, and the line and the column of its first byte.
-#[derive(Debug, Drop)]
+#[derive(Drop)]
 pub struct Stood {
     pub step: Step,
     pub line: u32,
@@ -50,7 +50,7 @@ pub struct Stood {
 /// end of a music line, a voice that becomes current, or the text of a `w:` line.
 /// `joined` tells that the line ends in a backslash, `breaks` that its end is a
 /// line break.
-#[derive(Debug, Drop)]
+#[derive(Drop)]
 pub enum Item {
     Step(Stood),
     LineEnd {

@@ -6,7 +6,7 @@ use mus_units::Meter;
 
 /// How many events the open tuplets still take: none is open, one is, or one
 /// within another.
-#[derive(Clone, Copy, Debug, PartialEq, Eq)]
+#[derive(Clone, Copy, PartialEq, Eq)]
 pub enum Taking {
     Nothing,
     One { left: u8 },

@@ -9,6 +9,3 @@ pub use abc_pieces::{GraceChord, Len, Token};
 pub use mus_units::{Bar, Deco, Head};
 pub use reader::{read_front, read_music};
 pub use token::{Front, Placed};
-
-#[cfg(test)]
-mod tests;

@@ -10,6 +10,3 @@ pub mod words;
 pub use music::SungNote;
 pub use verses::{verse_count, verse_fault};
 pub use words::words_of;
-
-#[cfg(test)]
-mod tests;

@@ -11,7 +11,7 @@ use std::alloc::Global;
 
 /// A note of a voice: the number of its written event among those of the voice,
 /// from 0; the physical line on which it stands, from 1; and its measure, from 0.
-#[derive(Clone, Copy, Debug, PartialEq, Eq)]
+#[derive(Clone, Copy, PartialEq, Eq)]
 pub struct SungNote {
     pub event: u32,
     pub line: u32,
@@ -19,7 +19,7 @@ pub struct SungNote {
 }
 
 /// What stands on a row: the texts of its `w:` lines and its notes.
-#[derive(Debug, Drop)]
+#[derive(Drop)]
 pub struct MusicRow {
     pub texts: Row<Text>,
     pub notes: Row<NoteAt>,

@@ -9,7 +9,7 @@ use abc_steps::Item;
 /// What a place among the items of a body is to a voice: its row; whether the
 /// voice is current; whether a step before it on its line claims any voice, and
 /// whether one claims this voice; and the last row of the voice before it.
-#[derive(Clone, Copy, Debug, PartialEq, Eq)]
+#[derive(Clone, Copy, PartialEq, Eq)]
 pub struct Place {
     pub row: usize,
     pub current: bool,

@@ -11,7 +11,7 @@ use std::alloc::Global;
 use std::cmp::max;
 
 /// The text of a `w:` line, its line, and the row on which it is sung.
-#[derive(Debug, Drop)]
+#[derive(Drop)]
 pub struct Verse {
     pub row: usize,
     pub line: u32,
@@ -19,7 +19,7 @@ pub struct Verse {
 }
 
 /// The verses of a voice, and how many rows the body has.
-#[derive(Debug, Drop)]
+#[derive(Drop)]
 pub struct Verses {
     pub rows: usize,
     pub verses: Row<Verse>,

@@ -1,5 +1,5 @@
 -- What is called for of a book that was set.
-use Rattle.std.proofs.Common.{◌≡◌, ◌∙◌, refl, sym, ap, subst, List, ℕ, Bool}
+use Rattle.std.proofs.Common.{◌≡◌, ◌≤◌, ◌^◌, ◌∙◌, refl, sym, ap, subst, List, ℕ, Bool, true, false, length}
 use Rattle.std.specs.List.{All}
 use Rattle.abc_header.specs.declared.paper.Paper.{Paper}
 use Rattle.abc_header.specs.Defaults.{defaults_of}
@@ -11,8 +11,9 @@ use Rattle.set_book.specs.declared.outcome.Outcome.{Outcome}
 use Rattle.set_book.specs.Outcomes.{AreOutcomes}
 use Rattle.set_pages.specs.Sheet.{IsSetUnder, sheet_of}
 use Rattle.set_pages.proofs.Readying.{book_counted, set_outcomes}
+use Rattle.set_lists.specs.Laws.{ListsTheBook}
 use Rattle.set_lists.specs.Trials.{trial_text}
-use Rattle.abcps.specs.Books.{AreSet, CallsSystems, Tries, paper_in, systems_called, trial_called, trial_of}
+use Rattle.abcps.specs.Books.{AreSet, CallsSystems, IsListedBy, Tries, paper_in, systems_by, systems_called, trial_called, trial_of}
 
 -- what came of the tunes of a book that was cut
 pub are_set : (flow : Bool) (text : List ℕ) (b : Book) (paper : Paper) (outcomes : List Outcome) → b ≡ book_of text → paper ≡ paper_of b.header
@@ -27,9 +28,23 @@ set_under flow text paper outcomes is set =
     subst (λ p. All (IsSetUnder p) outcomes) (sym is)
     (set_outcomes (defaults_of (book_of text).header) (paper_in text) flow (book_of text).tunes outcomes (book_counted text) set)
 
+-- with `table` what is written is a listing of the scores' breakings
+listed_by : ListsTheBook → (flow table : Bool) (text : List ℕ) (outcomes : List Outcome) → length text ≤ 2 ^ 30 → AreSet flow text outcomes
+    → IsListedBy table (paper_in text) (systems_by table outcomes) outcomes
+listed_by lists flow true text outcomes short set = lists text (defaults_of (book_of text).header) (paper_in text) flow outcomes short set
+listed_by lists flow false text outcomes short set = tt
+
 -- what `systems` calls for
-pub calls_systems : (flow table : Bool) (text : List ℕ) (outcomes : List Outcome) → AreSet flow text outcomes → CallsSystems flow table text (systems_called table outcomes)
-calls_systems flow table text outcomes set = record { outcomes = outcomes; set = set; page = refl; told = refl; status = refl }
+pub calls_systems : ListsTheBook → (flow table : Bool) (text : List ℕ) (outcomes : List Outcome) → length text ≤ 2 ^ 30 → AreSet flow text outcomes
+    → CallsSystems flow table text (systems_called table outcomes)
+calls_systems lists flow table text outcomes short set = record {
+  outcomes = outcomes;
+  set = set;
+  page = refl;
+  listed = listed_by lists flow table text outcomes short set;
+  told = refl;
+  status = refl;
+}
 
 -- what `trial` calls for
 pub tries : (tunes : ℕ) (flow : Bool) (text : List ℕ) (paper : Paper) (outcomes : List Outcome) → text ≡ book tunes → paper ≡ paper_in text → AreSet flow text outcomes

@@ -14,7 +14,7 @@ use Rattle.ps_text.specs.Document.{document}
 use Rattle.ps_text.specs.declared.sheet.Page.{Page}
 use Rattle.set_book.specs.declared.outcome.Outcome.{Outcome}
 use Rattle.set_book.specs.Outcomes.{AreOutcomes, IsOutcome}
-use Rattle.set_once.proofs.Once.{outcomes_once}
+use Rattle.set_book.proofs.Once.{outcomes_once}
 use Rattle.set_lists.specs.Reports.{some_fault}
 use Rattle.set_pages.specs.Press.{IsOpen, IsPressed, done_pages}
 use Rattle.set_pages.specs.Sheet.{IsSetUnder, frame_of, sheet_of}

@@ -18,13 +18,13 @@ use Rattle.set_book.specs.declared.outcome.Outcome.{Outcome}
 use Rattle.set_pages.specs.Sheet.{sheet_of}
 use Rattle.set_lists.specs.Reports.{reports}
 use Rattle.set_lists.specs.Trials.{trial_text}
-use Rattle.set_once.proofs.Once.{outcomes_once}
+use Rattle.set_book.specs.Once.{HaveOneOutcome}
 use Rattle.abcps_words.specs.declared.command.Command.{Command}
 use Rattle.abcps_words.specs.declared.command.Command.TheVariants as command
 use Rattle.abcps.specs.declared.status.Status.{Status}
 use Rattle.abcps.specs.Called.{Called, IsQuietly}
 use Rattle.abcps.specs.Books.{AreSet, CallsPages, CallsSystems, Tries, paper_in, status_of, systems_by, trial_of}
-use Rattle.abcps.specs.Calls.{Calls, Judges, Shows, status_by, verdicts_text}
+use Rattle.abcps.specs.Calls.{Calls, CallsOne, Judges, Shows, by_one_job, status_by, verdicts_text}
 use Rattle.abcps.specs.Outputs.{sheet_report}
 
 abbrev called_of : List ℕ → List ℕ → Status → Called
@@ -39,28 +39,28 @@ quiet_called c d page a b = same_called c d page (a.told ∙ sym b.told) (a.stat
 
 -- ---- the commands that set a book
 
-one_set : (flow : Bool) (text : List ℕ) (os ps : List Outcome) → AreSet flow text os → AreSet flow text ps → os ≡ ps
-one_set flow text os ps a b = outcomes_once (defaults_of (book_of text).header) (paper_in text) flow (book_of text).tunes os ps a b
+one_set : HaveOneOutcome → (flow : Bool) (text : List ℕ) (os ps : List Outcome) → AreSet flow text os → AreSet flow text ps → os ≡ ps
+one_set one flow text os ps a b = one.outcomes (defaults_of (book_of text).header) (paper_in text) flow (book_of text).tunes os ps a b
 
-pages_once : (flow : Bool) (text : List ℕ) (c d : Called) → CallsPages flow text c → CallsPages flow text d → c ≡ d
-pages_once flow text c d a b =
-    let same = one_set flow text a.outcomes b.outcomes a.set b.set in
+pages_once : HaveOneOutcome → (flow : Bool) (text : List ℕ) (c d : Called) → CallsPages flow text c → CallsPages flow text d → c ≡ d
+pages_once one flow text c d a b =
+    let same = one_set one flow text a.outcomes b.outcomes a.set b.set in
     same_called c d
     (sym a.sheet.spelled ∙ ap (λ os. document (sheet_of (paper_in text) os)) same ∙ b.sheet.spelled)
     (a.told ∙ ap reports same ∙ sym b.told)
     (a.status ∙ ap status_of same ∙ sym b.status)
 
-systems_once : (flow table : Bool) (text : List ℕ) (c d : Called) → CallsSystems flow table text c → CallsSystems flow table text d → c ≡ d
-systems_once flow table text c d a b =
-    let same = one_set flow text a.outcomes b.outcomes a.set b.set in
+systems_once : HaveOneOutcome → (flow table : Bool) (text : List ℕ) (c d : Called) → CallsSystems flow table text c → CallsSystems flow table text d → c ≡ d
+systems_once one flow table text c d a b =
+    let same = one_set one flow text a.outcomes b.outcomes a.set b.set in
     same_called c d
     (a.page ∙ ap (systems_by table) same ∙ sym b.page)
     (a.told ∙ ap reports same ∙ sym b.told)
     (a.status ∙ ap status_of same ∙ sym b.status)
 
-trial_once : (tunes : ℕ) (flow : Bool) (c d : Called) → Tries tunes flow c → Tries tunes flow d → c ≡ d
-trial_once tunes flow c d a b =
-    let same = one_set flow (book tunes) a.outcomes b.outcomes a.set b.set in
+trial_once : HaveOneOutcome → (tunes : ℕ) (flow : Bool) (c d : Called) → Tries tunes flow c → Tries tunes flow d → c ≡ d
+trial_once one tunes flow c d a b =
+    let same = one_set one flow (book tunes) a.outcomes b.outcomes a.set b.set in
     quiet_called c d (a.page ∙ ap (λ os. trial_text (trial_of tunes os (sheet_of (paper_in (book tunes)) os))) same ∙ sym b.page) a.quietly b.quietly
 
 -- ---- the others
@@ -116,10 +116,24 @@ verdicts_once text c d a b =
     same_called c d (a.page ∙ ap verdicts_text same ∙ sym b.page) (a.told ∙ sym b.told) (a.status ∙ ap status_by same ∙ sym b.status)
 
 -- a command calls for one answer
-pub called_once : (c : Command) (text : List ℕ) (called other : Called) → Calls c text called → Calls c text other → called ≡ other
-called_once (command.Set flow jobs) text called other a b = pages_once flow text called other a b
-called_once (command.Systems flow table) text called other a b = systems_once flow table text called other a b
-called_once command.Inspect text called other a b = sheet_once text called other a b
-called_once command.Check text called other a b = verdicts_once text called other a b
-called_once (command.Make tunes) text called other a b = quiet_called called other (a.page ∙ sym b.page) a.quietly b.quietly
-called_once (command.Trial tunes flow jobs) text called other a b = trial_once tunes flow called other a b
+called_once : HaveOneOutcome → (c : Command) (text : List ℕ) (called other : Called) → Calls c text called → Calls c text other → called ≡ other
+called_once one (command.Set flow jobs) text called other a b = pages_once one flow text called other a b
+called_once one (command.Systems flow table) text called other a b = systems_once one flow table text called other a b
+called_once one command.Inspect text called other a b = sheet_once text called other a b
+called_once one command.Check text called other a b = verdicts_once text called other a b
+called_once one (command.Make tunes) text called other a b = quiet_called called other (a.page ∙ sym b.page) a.quietly b.quietly
+called_once one (command.Trial tunes flow jobs) text called other a b = trial_once one tunes flow called other a b
+
+-- what is called for doesn't hang on jobs
+by_one : (c : Command) (text : List ℕ) (called : Called) → Calls c text called → Calls (by_one_job c) text called
+by_one (command.Set flow jobs) text called a = a
+by_one (command.Systems flow table) text called a = a
+by_one command.Inspect text called a = a
+by_one command.Check text called a = a
+by_one (command.Make tunes) text called a = a
+by_one (command.Trial tunes flow jobs) text called a = a
+
+-- commands that differ in nothing but jobs call for one answer
+pub calls_one : HaveOneOutcome → CallsOne
+calls_one one c d text called other same a b =
+    called_once one (by_one_job c) text other called (subst (λ x. Calls x text other) same (by_one d text other b)) (by_one c text called a)

@@ -5,7 +5,7 @@ use Rattle.abcps_words.specs.Command.{Asks, AsksOne, IsListed, limit_of}
 use Rattle.abcps_words.specs.declared.command.Command.{Command}
 use Rattle.abcps_words.specs.declared.command.Command.TheVariants as command
 use Rattle.abcps.specs.Called.{Called}
-use Rattle.abcps.specs.Calls.{Calls, IsNoDocument, IsNoListing}
+use Rattle.abcps.specs.Calls.{Calls, CallsOne, IsNoDocument, IsNoListing}
 use Rattle.abcps.specs.Outcome.{HasFailed, HasPart, Stream, IsAnswer, IsObeyed, IsQuiet, IsRead, IsReader, IsRun, ReadAll, ReadTooMuch, TookAll, WasCut}
 use Rattle.abcps.specs.Promises.{IsDone, IsGiven, IsRefused, IsToldTo, IsWhole, NoFault, Promises}
 use Rattle.abcps.specs.declared.status.Status.{Status}
@@ -29,7 +29,7 @@ taken_short (Some xs) (Some ys) told text e taken =
     let both = length-append text ys in
     omega arith
 
-module _ (words : List (List ℕ)) (i o e : Stream) where
+module _ (alone : CallsOne) (words : List (List ℕ)) (i o e : Stream) where
   usage_by : (s : Status) → IsRun s words i o e → (IsListed words → ⊥) → s ≡ status.Usage
   usage_by status.Usage run not = refl
   usage_by status.Done run not = absurd (not (run.0, run.1))
@@ -44,7 +44,14 @@ module _ (words : List (List ℕ)) (i o e : Stream) where
   -- what is answered where both texts are written
   done_with : (c : Command) (text : List ℕ) (s : Status) → (called : Called) → Calls c text called → s ≡ called.status → TookAll o called.page → TookAll e called.told
       → IsDone c s text o e
-  done_with c text s called calls ends page told = record { called = called; calls = calls; ends = ends; page = page; told = told }
+  done_with c text s called calls ends page told = record {
+    called = called;
+    calls = calls;
+    only = λ d other same more. alone c d text called other same calls more;
+    ends = ends;
+    page = page;
+    told = told;
+  }
 
   done_by : (s : Status) → IsRun s words i o e → (s ≡ status.Usage → ⊥) → (s ≡ status.ReadFault → ⊥) → (s ≡ status.TooLong → ⊥) → (s ≡ status.NotPages → ⊥)
       → (s ≡ status.WriteFault → ⊥) → (s ≡ status.Memory → ⊥) → (c : Command) × (text : List ℕ) × IsWhole c words i text × IsDone c s text o e

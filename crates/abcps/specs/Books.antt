@@ -1,5 +1,5 @@
 -- What the commands that set a book call for.
-use Rattle.std.specs.Prelude.{◌≡◌, ℕ, List, [], Bool, true, false, if◌then◌else◌, length}
+use Rattle.std.specs.Prelude.{◌≡◌, ⊤, ℕ, List, [], Bool, true, false, if◌then◌else◌, length}
 use Rattle.abc_lines.specs.Books.{book_of}
 use Rattle.abc_header.specs.declared.paper.Paper.{Paper}
 use Rattle.abc_header.specs.Defaults.{defaults_of}
@@ -14,6 +14,7 @@ use Rattle.set_pages.specs.Sheet.{AllShown, AreStanding, sheet_of}
 use Rattle.set_lists.specs.declared.trials.Trial.{Trial}
 use Rattle.set_lists.specs.Reports.{reports, some_fault}
 use Rattle.set_lists.specs.Systems.{systems_text}
+use Rattle.set_lists.specs.Laws.{ListsTheScores}
 use Rattle.set_lists.specs.Listing.{listing_text}
 use Rattle.set_lists.specs.Trials.{fault_count, set_count, system_count, total_of, trial_text}
 use Rattle.abcps.specs.Called.{Called, IsQuietly}
@@ -52,10 +53,16 @@ abbrev pub systems_by : Bool → List Outcome → List ℕ
 systems_by true outcomes = listing_text outcomes
 systems_by false outcomes = systems_text outcomes
 
+-- with `table` the page is a listing of the tunes that are set, and the breakings that it lists are those of their scores
+abbrev pub IsListedBy : Bool → Paper → List ℕ → List Outcome → Type 0
+IsListedBy true paper page outcomes = ListsTheScores paper page outcomes
+IsListedBy false paper page outcomes = ⊤
+
 pub record CallsSystems (flow table : Bool) (text : List ℕ) (c : Called) : Type 0 where
   pub outcomes : List Outcome
   pub set : AreSet flow text outcomes
   pub page : c.page ≡ systems_by table outcomes
+  pub listed : IsListedBy table (paper_in text) c.page outcomes
   pub told : c.told ≡ reports outcomes
   pub status : c.status ≡ status_of outcomes
 

@@ -61,6 +61,20 @@ Calls command.Check text c = Judges text c
 Calls (command.Make tunes) text c = Makes tunes c
 Calls (command.Trial tunes flow jobs) text c = Tries tunes flow c
 
+-- the same command with one job, where it takes a number of jobs
+abbrev pub by_one_job : Command → Command
+by_one_job (command.Set flow jobs) = command.Set flow 1
+by_one_job (command.Systems flow table) = command.Systems flow table
+by_one_job command.Inspect = command.Inspect
+by_one_job command.Check = command.Check
+by_one_job (command.Make tunes) = command.Make tunes
+by_one_job (command.Trial tunes flow jobs) = command.Trial tunes flow 1
+
+-- What commands that differ in nothing but jobs call for of an input is one.
+abbrev pub CallsOne : Type 0
+CallsOne = (c d : Command) (text : List ℕ) (called other : Called) → by_one_job d ≡ by_one_job c → Calls c text called → Calls d text other
+    → other ≡ called
+
 -- Of an input that is refused: no sheet spells it, or it is no listing; and the number of its first line that isn't good.
 abbrev pub not_pages_line : ℕ → List ℕ
 not_pages_line number = codes "not pages at line " ++ decimal number ++ 10 ∷ []

@@ -6,3 +6,4 @@ pub mod Status
 pub mod Outcome
 pub mod Pressed
 pub mod Promises
+pub mod Wordless

@@ -11,7 +11,7 @@ use Rattle.set_pages.specs.Sheet.{sheet_of}
 use Rattle.abcps_words.specs.Command.{Asks, IsListed, limit_of}
 use Rattle.abcps_words.specs.declared.command.Command.{Command}
 use Rattle.abcps_words.specs.declared.command.Command.TheVariants as command
-use Rattle.abcps_words.specs.declared.command.TheConstants.{USAGE}
+use Rattle.abcps_words.specs.Usage.{usage_line}
 use Rattle.abcps.specs.Called.{Called}
 use Rattle.abcps.specs.Books.{CallsPages, paper_in}
 use Rattle.abcps.specs.Calls.{Calls, Refuses, not_pages_line}
@@ -136,5 +136,5 @@ IsObeyed c s i o e = (text : List ℕ) × IsRead c i text × IsAnswer c s text o
 
 -- what a run answers
 abbrev pub IsRun : Status → List (List ℕ) → Stream → Stream → Stream → Type 0
-IsRun status.Usage words i o e = (IsListed words → ⊥) × IsQuiet i × IsQuiet o × WasTold e USAGE.now
+IsRun status.Usage words i o e = (IsListed words → ⊥) × IsQuiet i × IsQuiet o × WasTold e usage_line
 IsRun s words i o e = (c : Command) × Asks words c × IsObeyed c s i o e

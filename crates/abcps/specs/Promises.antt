@@ -4,9 +4,9 @@ use Rattle.eng_io.specs.Causes.{Rose}
 use Rattle.abcps_words.specs.Command.{Asks, IsListed, limit_of}
 use Rattle.abcps_words.specs.declared.command.Command.{Command}
 use Rattle.abcps_words.specs.declared.command.Command.TheVariants as command
-use Rattle.abcps_words.specs.declared.command.TheConstants.{USAGE}
+use Rattle.abcps_words.specs.Usage.{usage_line}
 use Rattle.abcps.specs.Called.{Called}
-use Rattle.abcps.specs.Calls.{Calls, Refuses, not_pages_line}
+use Rattle.abcps.specs.Calls.{Calls, Refuses, by_one_job, not_pages_line}
 use Rattle.abcps.specs.Outcome.{HasFailed, HasPart, Stream, IsQuiet, IsRead, IsReader, ReadTooMuch, TookAll, WasTold}
 use Rattle.abcps.specs.declared.status.Status.{Status}
 use Rattle.abcps.specs.declared.status.Status.TheVariants as status
@@ -34,10 +34,12 @@ pub record IsWhole (c : Command) (words : List (List ℕ)) (i : Stream) (text : 
   pub asked : Asks words c
   pub read : IsRead c i text
 
--- what was called for is on both sinks
+-- What was called for is on both sinks, and it is the one thing that is called for of this input, by any number of jobs: so the bytes
+-- and the answer are the same for every number of them.
 pub record IsDone (c : Command) (s : Status) (text : List ℕ) (o e : Stream) : Type 0 where
   pub called : Called
   pub calls : Calls c text called
+  pub only : (d : Command) (other : Called) → by_one_job d ≡ by_one_job c → Calls d text other → other ≡ called
   pub ends : s ≡ called.status
   pub page : TookAll o called.page
   pub told : TookAll e called.told
@@ -53,7 +55,7 @@ pub record Promises (s : Status) (words : List (List ℕ)) (i o e : Stream) : Ty
   -- usage is answered exactly by the words, whatever the streams do
   pub usage : (s ≡ status.Usage) ↔ (IsListed words → ⊥)
   -- then nothing was read or written but the line of usage, or a front of it where the errors sink failed
-  pub usage_line : s ≡ status.Usage → IsQuiet i × IsQuiet o × WasTold e USAGE.now
+  pub usage_line : s ≡ status.Usage → IsQuiet i × IsQuiet o × WasTold e usage_line
   -- a fault of the input is answered only where a command reads and its count rose, and nothing is written
   pub read_fault : s ≡ status.ReadFault → ((c : Command) × Asks words c × IsReader c) × Rose i.count_before i.count_after × IsQuiet o × IsQuiet e
   -- an input is too long where one byte past the command's limit was taken, and nothing is written

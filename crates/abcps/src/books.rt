@@ -24,15 +24,15 @@ use ps_text::Sheet;
 use ps_write::write_document;
 use set_book::{Gate, Open, Outcome, set_all};
 use set_lists::{
-    Trial, fault_count, has_fault, outcomes_are_listable, put_listing, put_reports, put_systems,
-    put_trial, set_count, system_count, total_of,
+    Trial, fault_count, has_fault, lists_the_book, outcomes_are_listable, put_listing, put_reports,
+    put_systems, put_trial, set_count, system_count, total_of,
 };
 use set_pages::sheet_for;
 use std::alloc::Global;
 use std::thread::Threads;
 
 /// A book that was set: its paper, and what came of each of its tunes.
-#[derive(Debug, Drop)]
+#[derive(Drop)]
 struct SetBook {
     paper: Paper,
     outcomes: Row<Outcome>,
@@ -148,7 +148,7 @@ pub(crate) fn systems<R: Threads + Sync, O: Sink, E: Sink>(
     output: &mut O,
     errors: &mut E,
 ) -> Status
-    requires within { length text.now ≤ 8388608 }
+    requires { length text.now ≤ 8388608 }
     ensures { IsAnswer (command.Systems flow table) result text.now
         (record { before = O.taken output.old; after = O.taken output.new; count_before = O.faults output.old; count_after = O.faults output.new })
         (record { before = E.taken errors.old; after = E.taken errors.new; count_before = E.faults errors.old; count_after = E.faults errors.new }) }
@@ -157,6 +157,7 @@ pub(crate) fn systems<R: Threads + Sync, O: Sink, E: Sink>(
         return Status::Memory;
     };
     outcomes_are_listable();
+    lists_the_book();
     write_systems(alloc, table, book.outcomes.as_slice(), output, errors)
 }
 

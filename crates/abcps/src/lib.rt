@@ -11,8 +11,10 @@ pub mod report;
 pub mod running;
 pub mod status;
 mod telling;
+pub mod wordless;
 
-pub use abcps_words::{Command, USAGE};
-pub use running::run;
+pub use abcps_words::{Command, usage};
+pub use running::{calls_one, run};
 pub use set_book::{Gate, Open};
 pub use status::Status;
+pub use wordless::{WordsError, refuse_words};

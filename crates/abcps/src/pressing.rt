@@ -27,7 +27,7 @@ use std::alloc::Global;
 
 /// What runs along while the tunes of a book are set and its pages are written: the pages that were
 /// not written yet, the reports of the faults so far, whether there was one, and the document.
-#[derive(Debug, Drop)]
+#[derive(Drop)]
 pub(crate) struct Running {
     press: Press,
     told: Text,
@@ -37,7 +37,7 @@ pub(crate) struct Running {
 
 /// What is left to tell of a book whose document was written: the reports of its faults, and the
 /// answer.
-#[derive(Debug, Drop)]
+#[derive(Drop)]
 pub(crate) struct Printed {
     pub(crate) told: Text,
     pub(crate) status: Status,

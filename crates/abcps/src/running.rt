@@ -1,5 +1,6 @@
 ghost use Rattle.std.specs.Prelude.{◌≡◌, ◌≤◌, length, map, string_bytes};
 ghost use Rattle.abcps_words.specs.Command.{IsGoodCommand, limit_of};
+ghost use Rattle.abcps.specs.Calls.{CallsOne};
 ghost use Rattle.abcps.specs.Outcome.{IsAnswer, IsObeyed, IsReader, IsRun};
 ghost use Rattle.abcps.specs.Promises.{Promises};
 
@@ -9,9 +10,10 @@ use crate::judging::check;
 use crate::making::make_book;
 use crate::status::Status;
 use crate::telling::tell;
-use abcps_words::{Command, USAGE, asks_one, command_of};
+use abcps_words::{Command, asks_one, command_of, usage};
 use eng_io::{ReadError, Sink, Source, read_all};
-use set_book::Gate;
+use set_book::{Gate, one_outcome};
+use set_lists::no_way_is_exact;
 use std::alloc::Global;
 use std::thread::Threads;
 
@@ -109,10 +111,18 @@ fn run_words<R: Threads + Sync, S: Source, O: Sink, E: Sink, G: Gate + Sync>(
         (record { before = E.taken errors.old; after = E.taken errors.new; count_before = E.faults errors.old; count_after = E.faults errors.new }) }
 {
     let Some(command) = command_of(words) else {
-        tell(errors, USAGE);
+        tell(errors, usage());
         return Status::Usage;
     };
     obey(rt, alloc, command, input, output, errors, gate)
+}
+
+/// The law that what commands that differ in nothing but jobs call for of an input is one: a tune has
+/// one outcome, a sheet spells one text, and a listing has one list of verdicts.
+pub fn calls_one()
+    ensures { CallsOne }
+{
+    one_outcome();
 }
 
 /// Does what the words say. `set` reads a book of at most 8,388,608 bytes and writes its document;
@@ -144,5 +154,7 @@ pub fn run<R: Threads + Sync, S: Source, O: Sink, E: Sink, G: Gate + Sync>(
         (record { before = E.taken errors.old; after = E.taken errors.new; count_before = E.faults errors.old; count_after = E.faults errors.new }) }
 {
     asks_one();
+    calls_one();
+    no_way_is_exact();
     run_words(rt, alloc, words, input, output, errors, gate)
 }

@@ -6,7 +6,7 @@ use mus_units::Memory;
 use ps_write::DocError;
 
 /// How a run ended.
-#[derive(Clone, Copy, Debug, PartialEq, Eq)]
+#[derive(Clone, Copy, PartialEq, Eq)]
 pub enum Status {
     /// All was done and written.
     Done,

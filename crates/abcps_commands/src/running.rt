@@ -12,7 +12,7 @@ use std::thread::Threads;
 const READ_PIECE: u32 = 16;
 
 /// A stream of a run.
-#[derive(Clone, Copy, Debug, PartialEq, Eq)]
+#[derive(Clone, Copy, PartialEq, Eq)]
 pub(crate) enum Stream {
     Input,
     Output,
@@ -20,14 +20,14 @@ pub(crate) enum Stream {
 }
 
 /// How a sink takes bytes: at most so many in one call, and which of its calls fails.
-#[derive(Clone, Copy, Debug)]
+#[derive(Clone, Copy)]
 pub(crate) struct Pace {
     pub(crate) piece: u32,
     pub(crate) fails: Option<u64>,
 }
 
 /// How the streams of a run go: which read fails, and how each sink takes bytes.
-#[derive(Clone, Copy, Debug)]
+#[derive(Clone, Copy)]
 pub(crate) struct Streams {
     pub(crate) read_fails: Option<u64>,
     pub(crate) output: Pace,

@@ -1,28 +1,33 @@
-//! Sets a book of tunes as pages: the words and the standard streams go to the
-//! top call, and its answer is the exit status.
+//! Sets a book of tunes as pages: the words and the standard streams go to the top call, and its
+//! answer is the exit status. Where the words can't be had, the answer is that of `refuse_words`.
 #![tactic(auto)]
 
-use abcps::{Open, run};
+use abcps::{Open, WordsError, refuse_words, run};
 use eng_io::{StdSink, StdSource};
+use std::env;
 use std::process::ExitCode;
-use std::{env, io};
 
-fn main(rt: HostRuntime) -> io::Result<ExitCode> {
-    let mut words = Vec::new(rt.alloc());
-    for word in env::args(&rt)?.skip(1) {
-        words.push(word)?;
-    }
+/// The words behind the program's name.
+fn given_words(rt: &HostRuntime) -> Result<Vec<String>, WordsError> {
+    let words = env::args(rt)?.skip(1).collect(rt.alloc())?;
+    Ok(words)
+}
+
+fn main(rt: HostRuntime) -> ExitCode {
     let mut input = StdSource::new(rt.stdin());
     let mut output = StdSink::new(rt.stdout());
     let mut errors = StdSink::new(rt.stderr());
-    let status = run(
-        &rt,
-        rt.alloc(),
-        words.as_slice(),
-        &mut input,
-        &mut output,
-        &mut errors,
-        &Open,
-    );
-    Ok(ExitCode::from(status.number()))
+    let status = match given_words(&rt) {
+        Ok(words) => run(
+            &rt,
+            rt.alloc(),
+            words.as_slice(),
+            &mut input,
+            &mut output,
+            &mut errors,
+            &Open,
+        ),
+        Err(why) => refuse_words(why, &mut errors),
+    };
+    ExitCode::from(status.number())
 }

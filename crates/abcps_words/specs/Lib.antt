@@ -1,3 +1,4 @@
 pub mod Words
 pub mod Adding
 pub mod Command
+pub mod Usage

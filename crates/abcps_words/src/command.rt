@@ -1,12 +1,13 @@
 ghost use Rattle.std.specs.Prelude.{◌≡◌, ◌++◌, ℕ, List, IfSome, IfNone, MatchOption, map, string_bytes};
 ghost use Rattle.abcps_words.specs.Words.{name_bytes, front_of, HasTunes, Says};
 ghost use Rattle.abcps_words.specs.Command.{Asks, IsListed, IsGoodCommand, limit_of, AsksOne, AskedIsGood};
+ghost use Rattle.abcps_words.specs.Usage.{usage_line};
 
 use crate::options::{Options, options_of};
 use crate::words::{is_word, take_number};
 
 /// The name of a command.
-#[derive(Clone, Copy, Debug, PartialEq, Eq)]
+#[derive(Clone, Copy, PartialEq, Eq)]
 enum Name {
     Set,
     Systems,
@@ -17,7 +18,7 @@ enum Name {
 }
 
 /// What the program is asked to do.
-#[derive(Clone, Copy, Debug, PartialEq, Eq)]
+#[derive(Clone, Copy, PartialEq, Eq)]
 pub enum Command {
     /// Read a book, and write its pages: `flow` with no line break forced, by 1 to
     /// 64 `jobs`.
@@ -45,8 +46,8 @@ const MOST_TUNES: u32 = 500;
 /// The number of jobs where no option says it.
 const DEFAULT_JOBS: u8 = 1;
 
-/// The line that lists the forms of the words.
-pub const USAGE: &[u8] =
+/// The text of the usage line; `usage` gives it.
+const USAGE: &[u8] =
     b"usage: abcps set [--flow] [--jobs N] | systems [--flow] [--table] | inspect | check | make N | trial N [--flow] [--jobs N]\n";
 
 impl Command {
@@ -161,6 +162,14 @@ pub fn command_of(words: &[String]) -> Option<Command>
 {
     let (command, rest) = take_front(words)?;
     command.with_options(options_of(rest)?)
+}
+
+/// The line that lists the forms of the words, with its line feed.
+#[tactic(auto, unfolding(crate::specs::Usage::usage_line))]
+pub fn usage() -> &'static [u8]
+    ensures { result.now ≡ usage_line }
+{
+    USAGE
 }
 
 /// The law that words ask for one command.

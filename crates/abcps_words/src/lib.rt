@@ -1,6 +1,6 @@
 //! The words of a command line: the command that they ask for, with its options.
 //!
-//! `command_of` reads the words and takes no memory; `USAGE` is the line that lists
+//! `command_of` reads the words and takes no memory; `usage` is the line that lists
 //! the forms.
 #![tactic(auto)]
 
@@ -8,7 +8,4 @@ pub mod command;
 pub mod options;
 mod words;
 
-pub use command::{BOOK_LIMIT, Command, PAGES_LIMIT, USAGE, asked_is_good, asks_one, command_of};
-
-#[cfg(test)]
-mod tests;
+pub use command::{BOOK_LIMIT, Command, PAGES_LIMIT, asked_is_good, asks_one, command_of, usage};

@@ -5,7 +5,7 @@ ghost use Rattle.abcps_words.specs.Adding.{added, no_options};
 use crate::words::{is_word, take_number};
 
 /// An option, as it stands among the words.
-#[derive(Clone, Copy, Debug, PartialEq, Eq)]
+#[derive(Clone, Copy, PartialEq, Eq)]
 pub enum Flag {
     /// `--flow`
     Flow,
@@ -16,7 +16,7 @@ pub enum Flag {
 }
 
 /// What options say together.
-#[derive(Clone, Copy, Debug, PartialEq, Eq)]
+#[derive(Clone, Copy, PartialEq, Eq)]
 pub struct Options {
     /// Whether `--flow` is among them.
     pub flow: bool,

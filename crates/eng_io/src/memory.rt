@@ -9,7 +9,7 @@ use std::alloc::Global;
 
 /// Bytes in memory, given in pieces of at most `piece` bytes from the place `at`
 /// on. Exactly the calls numbered in `fails`, from 0, fail, and they take nothing.
-#[derive(Debug, Drop)]
+#[derive(Drop)]
 pub struct MemSource {
     pub bytes: Text,
     pub at: usize,
@@ -77,7 +77,7 @@ impl Source for MemSource {
 /// A sink that keeps its bytes and takes at most `piece` of them in each call. The
 /// calls numbered in `fails`, from 0, fail; any other call may fail for want of
 /// memory, and `refusals` counts those.
-#[derive(Debug, Drop)]
+#[derive(Drop)]
 pub struct MemSink {
     pub bytes: Text,
     pub piece: u32,

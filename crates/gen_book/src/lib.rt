@@ -5,6 +5,3 @@
 pub mod making;
 
 pub use making::make;
-
-#[cfg(test)]
-mod tests;

@@ -1,7 +1,7 @@
 ghost use Rattle.std.specs.Prelude.{◌≡◌, ◌≤◌, ◌<◌, ◌^◌, ◌++◌, ◌∷◌, [], OnOk, IfOk, decimal};
 ghost use Rattle.gen_book.specs.Book.{next, letter_of, steps, half_behind, measure_behind, measures_behind, line_behind, lines_behind, key_of, heading, tune, tunes, book};
 
-use itoa::Buffer;
+use eng_lines::put_number;
 use mus_units::{Memory, Text};
 use std::alloc::Global;
 
@@ -96,14 +96,6 @@ fn put_lines(out: &mut Text, i: u32) -> Result<(), Memory>
     Ok(())
 }
 
-/// Adds a number.
-fn put_number(out: &mut Text, i: u32) -> Result<(), Memory>
-    ensures { OnOk result (out.new ≡ out.old ++ decimal i) }
-{
-    let mut buffer = Buffer::new();
-    out.append(buffer.format(i).as_bytes())
-}
-
 /// The letter of a tune's key.
 #[tactic(auto, unfolding(crate::specs::Book::key_of))]
 fn key(i: u32) -> u8
@@ -118,9 +110,9 @@ fn put_heading(out: &mut Text, i: u32) -> Result<(), Memory>
     ensures { OnOk result (out.new ≡ out.old ++ heading i) }
 {
     out.append(b"X:")?;
-    put_number(out, i)?;
+    put_number(out, u64::from(i))?;
     out.append(b"\nT:Tune ")?;
-    put_number(out, i)?;
+    put_number(out, u64::from(i))?;
     out.append(b"\nM:4/4\nL:1/8\nK:")?;
     out.push(key(i))?;
     out.push(b'\n')

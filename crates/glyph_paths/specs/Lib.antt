@@ -1,4 +1,5 @@
 pub mod Outlines
 pub mod Names
 pub mod Bounds
+pub mod Characters
 pub mod Procedure

@@ -4,6 +4,7 @@ use Rattle.std.specs.Prelude.{ℕ, ℤ, List, [], ◌∷◌, ◌++◌, codes}
 use Rattle.std.specs.Fmt.{signed_decimal}
 use Rattle.std.specs.List.{flat_map}
 use Rattle.mus_units.specs.declared.glyph.Glyph.{Glyph}
+use Rattle.glyph_paths.specs.Characters.{space}
 use Rattle.glyph_paths.specs.declared.paths.PathOp.{PathOp}
 use Rattle.glyph_paths.specs.declared.paths.PathOp.TheVariants as ops
 use Rattle.glyph_paths.specs.Names.{glyph_name}
@@ -11,7 +12,7 @@ use Rattle.glyph_paths.specs.Outlines.{outline_of}
 
 -- numbers in decimal, a space behind each
 unfoldable pub numbers : List ℤ → List ℕ
-numbers zs = flat_map (λ z. signed_decimal z ++ 32 ∷ []) zs
+numbers zs = flat_map (λ z. signed_decimal z ++ space ∷ []) zs
 
 -- a step of a path: its numbers, and its operator
 abbrev pub step_text : PathOp → List ℕ

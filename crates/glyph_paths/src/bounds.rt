@@ -6,7 +6,7 @@ use mus_units::Glyph;
 
 /// The least and greatest abscissa and ordinate of a glyph's points, in u from
 /// the place at which it is drawn. All 0 for a glyph without a point.
-#[derive(Clone, Copy, Debug, PartialEq, Eq)]
+#[derive(Clone, Copy, PartialEq, Eq)]
 pub struct Bounds {
     pub left: i32,
     pub low: i32,

@@ -5,7 +5,7 @@ use mus_units::Glyph;
 
 /// A step of a path: to a point, along a line or a curve with its two control
 /// points, or the painting of what was drawn since the last painting.
-#[derive(Clone, Copy, Debug, PartialEq, Eq)]
+#[derive(Clone, Copy, PartialEq, Eq)]
 pub enum PathOp {
     Move(i32, i32),
     Line(i32, i32),

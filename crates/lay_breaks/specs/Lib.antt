@@ -3,4 +3,3 @@ pub mod Table
 pub mod Answers
 pub mod Rows
 pub mod Spans
-pub mod Sample

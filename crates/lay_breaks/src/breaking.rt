@@ -9,7 +9,7 @@ use mus_units::Row;
 use std::alloc::{AllocError, Global};
 
 /// A breaking of the bars 1 to n.
-#[derive(Debug, Drop)]
+#[derive(Drop)]
 pub struct Breaking {
     /// The bars at which its spans end, rising; the last is n. Empty where n is 0.
     pub breaks: Row<u32>,
@@ -21,7 +21,7 @@ pub struct Breaking {
 }
 
 /// Why there is no breaking.
-#[derive(Clone, Copy, Debug, PartialEq, Eq)]
+#[derive(Clone, Copy, PartialEq, Eq)]
 pub enum BreakError {
     /// There is no legal breaking; `reached` is the greatest bar at which a
     /// legal prefix ends.

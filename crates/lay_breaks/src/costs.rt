@@ -34,7 +34,7 @@ pub trait Costs {
 }
 
 /// A span that fits, and what it costs.
-#[derive(Clone, Copy, Debug, PartialEq, Eq)]
+#[derive(Clone, Copy, PartialEq, Eq)]
 pub struct Span {
     /// The bar after which it begins.
     pub a: u32,

@@ -11,6 +11,3 @@ mod table;
 
 pub use breaking::{BreakError, Breaking, least, one_is_chosen};
 pub use costs::{Costs, Span};
-
-#[cfg(test)]
-mod tests;

@@ -6,14 +6,15 @@ use mathlib.Core.List.{append_assoc}
 use Rattle.lay_breaks.specs.Breaking.{last_from, IsPotential}
 use Rattle.lay_breaks.specs.Spans.{AreSpans, listed}
 use Rattle.lay_breaks.specs.declared.costs.Span.{Span}
-use Rattle.lay_cert.specs.Lines.{line_text, lines_then, sum_text, Lacks}
+use Rattle.lay_cert.specs.Lines.{line_text, lines_then, sum_text}
+use Rattle.eng_lines.specs.Lines.{Lacks}
 use Rattle.lay_cert.specs.Listing.{Entry, none_forced, IsListing, listing_lines}
 use Rattle.lay_cert.specs.Places.{Place, begun, between, choosing, proving, ended, MayCome, next, Leads, IsStuck}
 use Rattle.lay_cert.specs.Told.{IsGood}
 use Rattle.lay_cert.specs.Laws.{GoodByLines, TellsOne, FaultsTellNone, NoPrefix}
 use Rattle.lay_cert.specs.declared.lines.Line.{Line}
 use Rattle.lay_cert.specs.declared.lines.Line.TheVariants as line
-use Rattle.lay_cert.proofs.Words.{lacks_both, decimal_lacks, one_cut, one_field, after_prefix, head_of}
+use Rattle.eng_lines.proofs.Words.{lacks_both, decimal_lacks, one_cut, one_field, after_prefix, head_of}
 use Rattle.lay_cert.proofs.Forms.{span_text, tune_text}
 use Rattle.lay_cert.proofs.Grown.{listed_within}
 use Rattle.lay_cert.proofs.Sums.{total_within, least_within, one_potential}

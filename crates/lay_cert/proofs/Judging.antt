@@ -5,7 +5,8 @@ use Rattle.std.proofs.lemmas.List.{length-append}
 use Rattle.lay_breaks.specs.Breaking.{last_from, IsPotential}
 use Rattle.lay_breaks.specs.Spans.{MayFollow, listed}
 use Rattle.lay_breaks.specs.declared.costs.Span.{Span}
-use Rattle.lay_cert.specs.Lines.{line_text, lines_then, Lacks}
+use Rattle.lay_cert.specs.Lines.{line_text, lines_then}
+use Rattle.eng_lines.specs.Lines.{Lacks}
 use Rattle.lay_cert.specs.Listing.{Entry, IsListing, none_forced}
 use Rattle.lay_cert.specs.Places.{Place, begun, between, choosing, proving, ended, MayCome, next, Leads, IsStuck, IsFirstFault, last_tune_from, last_span_from}
 use Rattle.lay_cert.specs.Verdicts.{AreVerdicts, IsVerdict}
@@ -20,7 +21,7 @@ use Rattle.lay_cert.specs.declared.place.Choosing.{Choosing}
 use Rattle.lay_cert.specs.declared.place.Proving.{Proving}
 use Rattle.lay_cert.specs.declared.place.Stage.{Stage}
 use Rattle.lay_cert.specs.declared.place.Stage.TheVariants as stage
-use Rattle.lay_cert.proofs.Words.{one_cut, lacks_none}
+use Rattle.eng_lines.proofs.Words.{one_cut, lacks_none}
 use Rattle.lay_cert.proofs.Sums.{one_potential}
 use Rattle.lay_cert.proofs.Grown.{listed_within, push_tune}
 use Rattle.lay_cert.proofs.Steps.{leads_good, leads_more, one_more}

@@ -1,5 +1,5 @@
 -- The lines of a listing, as they are printed.
-use Rattle.std.specs.Prelude.{ℕ, ◌≢◌, List, [], ◌∷◌, ◌++◌, Option, Some, None, codes, decimal}
+use Rattle.std.specs.Prelude.{ℕ, List, [], ◌∷◌, ◌++◌, Option, Some, None, codes, decimal}
 use Rattle.lay_cert.specs.declared.lines.Line.{Line}
 use Rattle.lay_cert.specs.declared.lines.Line.TheVariants.{Listing, Tune, OneSpan, Choose, Total, Potential, End}
 
@@ -22,8 +22,3 @@ line_text End = codes "end"
 abbrev pub lines_then : List Line → List ℕ → List ℕ
 lines_then [] rest = rest
 lines_then (l ∷ ls) rest = line_text l ++ 10 ∷ lines_then ls rest
-
--- the byte isn't among them
-abbrev pub Lacks : ℕ → List ℕ → Type 0
-Lacks b [] = Unit {0}
-Lacks b (x ∷ s) = (x ≢ b) × Lacks b s

@@ -4,13 +4,13 @@ ghost use Rattle.lay_cert.specs.Listing.{Entry, IsListing};
 ghost use Rattle.lay_cert.specs.Answers.{IsJudged, IsCause};
 ghost use Rattle.lay_cert.specs.declared.check.CertError.TheVariants as answer;
 
-use crate::numbers::cut_at;
 use crate::place::{Stage, is_ended, step};
+use eng_lines::cut_at;
 use mus_units::{Memory, Row};
 use std::alloc::Global;
 
 /// What is said of a tune's choice.
-#[derive(Debug, Drop)]
+#[derive(Drop)]
 pub enum Verdict {
     /// No breaking of the listed spans has a smaller total.
     Least {
@@ -25,14 +25,14 @@ pub enum Verdict {
 }
 
 /// The verdict on one tune of a listing.
-#[derive(Debug, Drop)]
+#[derive(Drop)]
 pub struct Judged {
     pub tune: u32,
     pub verdict: Verdict,
 }
 
 /// Why there are no verdicts.
-#[derive(Clone, Copy, Debug, PartialEq, Eq)]
+#[derive(Clone, Copy, PartialEq, Eq)]
 pub enum CertError {
     /// The bytes are no listing; `line` is the first that isn't good by the lines
     /// before it, or one past the last where the text ends early.

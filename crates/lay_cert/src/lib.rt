@@ -20,6 +20,3 @@ pub use check::{
 pub use lines::Line;
 pub use report::put_verdict;
 pub use write::{forced_by_spans, in_parts, put_end, put_entry, put_heading};
-
-#[cfg(test)]
-mod tests;

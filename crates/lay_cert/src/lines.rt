@@ -1,13 +1,13 @@
 ghost use Rattle.std.specs.Prelude.{◌≡◌, ◌++◌, ◌∷◌, [], codes, decimal, OnOk, IfOk, Decides};
 ghost use Rattle.lay_cert.specs.Lines.{line_text, sum_text};
 
-use itoa::Buffer;
+use eng_lines::put_number;
 use lay_breaks::Span;
 use mus_units::{Memory, Text};
 use std::alloc::Global;
 
 /// A line of a listing.
-#[derive(Clone, Copy, Debug, PartialEq, Eq)]
+#[derive(Clone, Copy, PartialEq, Eq)]
 pub enum Line {
     /// The first.
     Listing,
@@ -23,13 +23,6 @@ pub enum Line {
     Potential { bar: u32, least: Option<u64> },
     /// The last.
     End,
-}
-
-/// Puts a number at the end of the text, in decimal.
-pub fn put_number(out: &mut Text, number: u64) -> Result<(), Memory>
-    ensures { OnOk result (out.new ≡ out.old ++ decimal number) }
-{
-    out.append(Buffer::new().format(number).as_bytes())
 }
 
 fn put_sum(out: &mut Text, sum: Option<u64>) -> Result<(), Memory>

@@ -13,7 +13,7 @@ const MOST_NATURAL: u32 = 4000;
 /// and the natural length of the spring to the next column, in u, 0 without a spring. Lanes are
 /// for each staff, from the top, main, above, below and one for each verse. A reach is counted
 /// to at most 2^20, a natural length to at most 4000.
-#[derive(Debug, Drop)]
+#[derive(Drop)]
 pub struct Column {
     pub key: ColumnKey,
     pub reaches: Row<Option<Reach>>,

@@ -16,6 +16,3 @@ pub use joining::{columns_join, marks_join, next_of_measure};
 pub use lanes::gaps_of;
 pub use lay_springs::Reach;
 pub use system::{columns, columns_in};
-
-#[cfg(test)]
-mod tests;

@@ -7,6 +7,3 @@ pub mod measures;
 
 pub use law::measures_join;
 pub use measures::{first_columns, further_columns};
-
-#[cfg(test)]
-mod tests;

@@ -7,7 +7,7 @@ use std::alloc::Global;
 
 /// What stands on a page as one: its height in u, and whether it is tied to the
 /// next block, so that both stand on one page.
-#[derive(Clone, Copy, Debug, PartialEq, Eq)]
+#[derive(Clone, Copy, PartialEq, Eq)]
 pub struct Block {
     pub height: i64,
     pub keep: bool,
@@ -15,7 +15,7 @@ pub struct Block {
 
 /// Where a block stands: its page, from 0, and the height of its top, in u above
 /// the bottom of the body.
-#[derive(Clone, Copy, Debug, PartialEq, Eq)]
+#[derive(Clone, Copy, PartialEq, Eq)]
 pub struct Spot {
     pub page: u32,
     pub top: i64,
@@ -23,7 +23,7 @@ pub struct Spot {
 
 /// Why blocks fill no pages: the first group that is higher than a page, told by
 /// the block with which it begins, counted from 0; or want of memory.
-#[derive(Clone, Copy, Debug, PartialEq, Eq)]
+#[derive(Clone, Copy, PartialEq, Eq)]
 pub enum PageError {
     TooTall { block: u32 },
     Memory,
@@ -59,21 +59,21 @@ pub fn fill(alloc: Global, blocks: &[Block], high: u32) -> Result<Row<Spot>, Pag
 }
 
 /// A place for a block: its page, from 0, and how far below the top of the page.
-#[derive(Clone, Copy, Debug, PartialEq, Eq)]
+#[derive(Clone, Copy, PartialEq, Eq)]
 pub struct Place {
     pub page: u32,
     pub down: u64,
 }
 
 /// A block, and its place.
-#[derive(Clone, Copy, Debug, PartialEq, Eq)]
+#[derive(Clone, Copy, PartialEq, Eq)]
 pub struct Standing {
     pub place: Place,
     pub block: Block,
 }
 
 /// Where blocks stand, and the last of them, or of those before them, where there is one.
-#[derive(Debug, Drop)]
+#[derive(Drop)]
 pub struct Placement {
     pub spots: Row<Spot>,
     pub behind: Option<Standing>,

@@ -10,6 +10,3 @@ pub use filling::{Block, PageError, Placement, Spot, Standing, fill, fill_behind
 pub use mus_laid::{StaffMarks, SystemMarks};
 pub use stacking::{Heights, stack};
 pub use titles::{TitleBlock, TitleRow, title_block};
-
-#[cfg(test)]
-mod tests;

@@ -7,7 +7,7 @@ use std::alloc::Global;
 
 /// The staves of a block: the height of each base line, from the top of the block
 /// down and so negative, and the height of the block, in u.
-#[derive(Debug, Drop)]
+#[derive(Drop)]
 pub struct Heights {
     pub bases: Row<i64>,
     pub height: i64,

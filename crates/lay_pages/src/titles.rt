@@ -9,7 +9,7 @@ use std::alloc::Global;
 use std::cmp::min;
 
 /// Where a row of a title block stands.
-#[derive(Clone, Copy, Debug, PartialEq, Eq)]
+#[derive(Clone, Copy, PartialEq, Eq)]
 pub enum Place {
     Middle,
     Right,
@@ -18,7 +18,7 @@ pub enum Place {
 
 /// A row of a title block: its text begins at `x`, its base line lies `down` u below
 /// the top of the block.
-#[derive(Debug, Drop)]
+#[derive(Drop)]
 pub struct TitleRow {
     pub size: Size,
     pub x: i64,
@@ -27,7 +27,7 @@ pub struct TitleRow {
 }
 
 /// The rows above the first system of a tune, and the height of them all, in u.
-#[derive(Debug, Drop)]
+#[derive(Drop)]
 pub struct TitleBlock {
     pub rows: Row<TitleRow>,
     pub height: u64,

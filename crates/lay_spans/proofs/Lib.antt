@@ -3,4 +3,3 @@ pub mod Fitting
 pub mod Listing
 pub mod Leading
 pub mod Growing
-pub mod Sampling

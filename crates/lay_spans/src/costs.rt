@@ -11,7 +11,7 @@ use std::alloc::Global;
 
 /// The costs of a list of spans, by bars: what the spans from each bar cost, from
 /// the shortest on, and which bars are forced.
-#[derive(Debug, Drop)]
+#[derive(Drop)]
 pub struct SpanCosts {
     rows: Row<Row<u64>>,
     marks: Row<bool>,

@@ -18,6 +18,3 @@ pub use costs::{SpanCosts, costs_of};
 pub use forces::badness;
 pub use seen::Seen;
 pub use spans::{places_of, spans_of};
-
-#[cfg(test)]
-mod tests;

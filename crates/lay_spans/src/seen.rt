@@ -1,7 +1,7 @@
 use lay_springs::{Reach, Spaced, Spring};
 
 /// A borrowed column, with the reaches and the spring of the column itself.
-#[derive(Clone, Copy, Debug)]
+#[derive(Clone, Copy)]
 pub struct Seen<'a, C> {
     pub column: &'a C,
 }

@@ -15,6 +15,3 @@ pub use forces::{fit, fit_within, longer_fits_less};
 pub use least::place;
 pub use margin::{Placed, justify};
 pub use traits::{Reach, Spaced, Spring};
-
-#[cfg(test)]
-mod tests;

@@ -10,7 +10,7 @@ use std::alloc::Global;
 
 /// Where columns stand, in u, and the force that counts. A ragged system ends where
 /// its force leaves it.
-#[derive(Debug, Drop)]
+#[derive(Drop)]
 pub struct Placed {
     pub force: u16,
     pub ragged: bool,

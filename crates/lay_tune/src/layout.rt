@@ -33,7 +33,7 @@ use std::alloc::Global;
 /// A score laid out: the spans that fit and what each costs; the breaking that is chosen among
 /// them; and for each of its spans in order the marks of the system, where its columns stand, in u,
 /// and how its staves are stacked.
-#[derive(Debug, Drop)]
+#[derive(Drop)]
 pub struct Layout {
     pub breaking: Breaking,
     pub systems: Row<SystemMarks>,
@@ -43,7 +43,7 @@ pub struct Layout {
 }
 
 /// Why a score isn't laid out.
-#[derive(Clone, Copy, Debug, PartialEq, Eq)]
+#[derive(Clone, Copy, PartialEq, Eq)]
 pub enum LayoutError {
     /// No breaking is legal; `reached` is the greatest bar at which a legal prefix ends.
     NoWay { reached: u32 },

@@ -12,6 +12,3 @@ pub use lay_pages::Heights;
 pub use lay_springs::Placed;
 pub use layout::{Layout, LayoutError, lay_out};
 pub use mus_laid::SystemMarks;
-
-#[cfg(test)]
-mod tests;

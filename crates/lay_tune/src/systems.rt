@@ -40,7 +40,7 @@ fn press(
 }
 
 /// A system: its marks, where its columns stand, and how its staves are stacked.
-#[derive(Debug, Drop)]
+#[derive(Drop)]
 struct SetSystem {
     marks: SystemMarks,
     placed: Placed,
@@ -94,7 +94,7 @@ fn set_system(
 
 /// The systems of a breaking, in order: their marks, where their columns stand, and how their
 /// staves are stacked.
-#[derive(Debug, Drop)]
+#[derive(Drop)]
 pub(crate) struct Systems {
     pub(crate) marks: Row<SystemMarks>,
     pub(crate) placed: Row<Placed>,

@@ -5,7 +5,7 @@ use crate::pairing::Arc;
 
 /// What a system draws of an arc: whether it comes from a system before, and
 /// whether it goes on into a later one.
-#[derive(Clone, Copy, Debug, PartialEq, Eq)]
+#[derive(Clone, Copy, PartialEq, Eq)]
 pub struct Piece {
     pub cut_left: bool,
     pub cut_right: bool,

@@ -9,7 +9,7 @@ use std::alloc::Global;
 
 /// What arcs ask of an event: its id and its measure, how many slurs begin and
 /// end there, and its heads.
-#[derive(Debug, Drop)]
+#[derive(Drop)]
 pub struct EventAt {
     pub event: u32,
     pub measure: u32,

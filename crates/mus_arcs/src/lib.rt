@@ -11,6 +11,3 @@ pub mod pairing;
 pub use cutting::{Piece, pieces};
 pub use events::EventAt;
 pub use pairing::{Arc, Spot, arcs};
-
-#[cfg(test)]
-mod tests;

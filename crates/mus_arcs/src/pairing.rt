@@ -13,7 +13,7 @@ use std::alloc::Global;
 /// A slur or a tie from the event `first` of the measure `from` to the event
 /// `last` of the measure `to`. `head` is the place of a tie's head in its first
 /// event, and 0 for a slur.
-#[derive(Clone, Copy, Debug, PartialEq, Eq)]
+#[derive(Clone, Copy, PartialEq, Eq)]
 pub struct Arc {
     pub tie: bool,
     pub first: u32,
@@ -24,7 +24,7 @@ pub struct Arc {
 }
 
 /// Where a slur begins or ends: an event and its measure.
-#[derive(Clone, Copy, Debug, PartialEq, Eq)]
+#[derive(Clone, Copy, PartialEq, Eq)]
 pub struct Spot {
     pub event: u32,
     pub measure: u32,

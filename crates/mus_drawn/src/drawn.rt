@@ -5,7 +5,7 @@ use mus_units::{Bar, Clef, Key, Meter, Row, Sign};
 
 /// An event as it is drawn: the ticks from the beginning of its measure, the clef in force there,
 /// the signs of the key before it where it changes the key, and how its stem is drawn.
-#[derive(Debug, Drop)]
+#[derive(Drop)]
 pub struct DrawnEvent {
     pub flat: Flat,
     pub tick: u64,
@@ -16,7 +16,7 @@ pub struct DrawnEvent {
 
 /// What the head of a system shows that begins with a measure: clef, key and meter in force at its
 /// first event, else before it; `anew` tells that the first event changes the meter.
-#[derive(Debug, Drop)]
+#[derive(Drop)]
 pub struct Opening {
     pub clef: Clef,
     pub key: Key,
@@ -25,7 +25,7 @@ pub struct Opening {
 }
 
 /// A measure of a voice as it is drawn, and the bar behind it.
-#[derive(Debug, Drop)]
+#[derive(Drop)]
 pub struct DrawnMeasure {
     pub opening: Opening,
     pub events: Row<DrawnEvent>,
@@ -34,7 +34,7 @@ pub struct DrawnMeasure {
 
 /// A voice as it is drawn: the bar before its first event, its measures, its arcs, and how many
 /// verses it has.
-#[derive(Debug, Drop)]
+#[derive(Drop)]
 pub struct DrawnVoice {
     pub first: Bar,
     pub measures: Row<DrawnMeasure>,

@@ -9,6 +9,3 @@ pub mod standing;
 pub use drawing::draw_voice;
 pub use drawn::{DrawnEvent, DrawnMeasure, DrawnVoice, Opening};
 pub use standing::Standing;
-
-#[cfg(test)]
-mod tests;

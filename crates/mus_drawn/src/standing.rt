@@ -7,7 +7,7 @@ use mus_units::{Clef, Key, Memory, Meter, Row, Sign};
 use std::alloc::Global;
 
 /// Clef, key and meter in force at a place of a voice.
-#[derive(Debug, Drop)]
+#[derive(Drop)]
 pub struct Standing {
     pub clef: Clef,
     pub key: Key,

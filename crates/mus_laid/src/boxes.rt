@@ -7,14 +7,14 @@ use glyph_paths::bounds_of;
 use mus_units::{Glyph, Size};
 
 /// From the least to the greatest height, in u above the staff's bottom line.
-#[derive(Clone, Copy, Debug, PartialEq, Eq)]
+#[derive(Clone, Copy, PartialEq, Eq)]
 pub struct Heights {
     pub low: i64,
     pub high: i64,
 }
 
 /// How far a mark reaches from its column, in u; to the left is negative.
-#[derive(Clone, Copy, Debug, PartialEq, Eq)]
+#[derive(Clone, Copy, PartialEq, Eq)]
 pub struct Sides {
     pub left: i64,
     pub right: i64,

@@ -10,6 +10,3 @@ pub use boxes::{Heights, Sides, heights_of, sides_of, staff_heights};
 pub use laid::{Laid, Lane, Mark, StaffMarks, SystemMarks};
 pub use mus_units::{Glyph, Size, Way};
 pub use printing::{printed, printed_within};
-
-#[cfg(test)]
-mod tests;

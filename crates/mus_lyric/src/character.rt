@@ -2,7 +2,7 @@ ghost use Rattle.std.specs.Prelude.{◌≡◌, ◌<◌, ◌∷◌, [], length, I
 ghost use Rattle.mus_lyric.specs.Characters.{character_of, characters};
 
 /// What a byte means in a line of words: a byte that is printed, or a sign.
-#[derive(Clone, Copy, Debug, PartialEq, Eq)]
+#[derive(Clone, Copy, PartialEq, Eq)]
 pub enum Character {
     Printed(u8),
     Blank,

@@ -11,6 +11,3 @@ pub mod syllable;
 pub use character::Character;
 pub use singing::{NoteAt, Sung, align};
 pub use syllable::{Syl, syllables};
-
-#[cfg(test)]
-mod tests;

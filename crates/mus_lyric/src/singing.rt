@@ -7,14 +7,14 @@ use mus_units::{Memory, Row, Text};
 use std::alloc::Global;
 
 /// A note of a line of music: its event and its measure.
-#[derive(Clone, Copy, Debug, PartialEq, Eq)]
+#[derive(Clone, Copy, PartialEq, Eq)]
 pub struct NoteAt {
     pub event: u32,
     pub measure: u32,
 }
 
 /// A syllable on the note of this event.
-#[derive(Debug, Drop)]
+#[derive(Drop)]
 pub struct Sung {
     pub event: u32,
     pub text: Text,

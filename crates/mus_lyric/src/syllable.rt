@@ -10,7 +10,7 @@ use std::alloc::Global;
 use std::mem;
 
 /// A syllable that is printed, a note that is passed over, or a bar sign.
-#[derive(Debug, Drop)]
+#[derive(Drop)]
 pub enum Syl {
     Print(Text),
     Skip,

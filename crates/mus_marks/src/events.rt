@@ -16,7 +16,7 @@ use std::alloc::Global;
 
 /// The room that the other marks of a staff leave to its syllables and texts: these stand below `low`
 /// and above `high`, in u. The staff has so many verses.
-#[derive(Clone, Copy, Debug, PartialEq, Eq)]
+#[derive(Clone, Copy, PartialEq, Eq)]
 pub struct Room {
     pub low: i32,
     pub high: i32,

@@ -16,6 +16,3 @@ pub use events::Room;
 pub use measures::{put_columns_part, put_measures};
 pub use sounds::{Sound, sounding};
 pub use systems::{draw_voices, marks, marks_of};
-
-#[cfg(test)]
-mod tests;

@@ -16,7 +16,7 @@ use std::alloc::Global;
 
 /// How a head sounds: of the `voice`-th voice, from 0, in the event with the id `event`, the `head`-th
 /// from 0, its pitch as written and its alteration.
-#[derive(Clone, Copy, Debug, PartialEq, Eq)]
+#[derive(Clone, Copy, PartialEq, Eq)]
 pub struct Sound {
     pub voice: u32,
     pub event: u32,
@@ -26,7 +26,7 @@ pub struct Sound {
 }
 
 /// A head and its alteration.
-#[derive(Clone, Copy, Debug, PartialEq, Eq)]
+#[derive(Clone, Copy, PartialEq, Eq)]
 pub struct Heard {
     pub head: Head,
     pub alter: Alter,

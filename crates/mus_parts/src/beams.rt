@@ -9,7 +9,7 @@ use mus_units::{Memory, Row, Way};
 
 /// What beams need of an event: the rank of its column, the way of its stem and the dy of its end,
 /// the event at which its beam begins, and how many levels its beam has there.
-#[derive(Clone, Copy, Debug, PartialEq, Eq)]
+#[derive(Clone, Copy, PartialEq, Eq)]
 pub struct Stem {
     pub rank: u32,
     pub up: bool,

@@ -16,7 +16,7 @@ use std::alloc::Global;
 
 /// What the graces before an event share: the dy at which their stems end, whether there is just
 /// one, and whether their first has a slash.
-#[derive(Clone, Copy, Debug, PartialEq, Eq)]
+#[derive(Clone, Copy, PartialEq, Eq)]
 pub struct Group {
     pub end: i32,
     pub alone: bool,

@@ -18,6 +18,3 @@ pub use beams::{Stem, put_beams, stem_of};
 pub use changes::{put_change, put_head};
 pub use decos::{put_note, top_of};
 pub use graces::{Group, group_of, put_grace, put_grace_beam};
-
-#[cfg(test)]
-mod tests;

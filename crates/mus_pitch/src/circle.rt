@@ -4,7 +4,7 @@ ghost use Rattle.mus_pitch.specs.Circle.{fifths_of, shift_of, mode_shift, sharps
 use mus_units::{Alter, Letter};
 
 /// The mode of a key. `Maj` stands for Ionian too, and `Min` for Aeolian.
-#[derive(Clone, Copy, Debug, PartialEq, Eq)]
+#[derive(Clone, Copy, PartialEq, Eq)]
 pub enum Mode {
     Maj,
     Min,

@@ -11,6 +11,3 @@ pub mod signs;
 pub use alteration::in_force;
 pub use circle::{Mode, signature};
 pub use signs::{key_of, lay};
-
-#[cfg(test)]
-mod tests;

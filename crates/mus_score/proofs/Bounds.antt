@@ -10,8 +10,7 @@ use Rattle.std.proofs.lemmas.Nat.{le-div, mul-le}
 use Rattle.mus_units.specs.declared.value.Base.{Base}
 use Rattle.mus_units.specs.declared.value.Base.TheVariants as bases
 use Rattle.mus_units.specs.declared.value.Value.{Value}
-use Rattle.mus_units.specs.declared.value.TheConstants.{WHOLE}
-use Rattle.mus_units.specs.Value.{base_length, with_dots, value_length}
+use Rattle.mus_units.specs.Value.{base_length, with_dots, value_length, whole_note}
 use Rattle.mus_score.specs.declared.good.Judged.{Judged}
 use Rattle.mus_score.specs.declared.good.Place.{Place}
 use Rattle.mus_score.specs.declared.score.Event.{Event}
@@ -36,7 +35,7 @@ base_low bases.N16 = lit≤ tt
 base_low bases.N32 = lit≤ tt
 base_low bases.N64 = lit≤ tt
 
-base_high : (b : Base) → base_length b ≤ 2 * WHOLE
+base_high : (b : Base) → base_length b ≤ 2 * whole_note
 base_high bases.Breve = lit≤ tt
 base_high bases.Whole = lit≤ tt
 base_high bases.Half = lit≤ tt
@@ -57,7 +56,7 @@ dots_high (suc dots) n = omega (arith, dots_high dots (n / 2))
 value_low : (v : Value) → 81 ≤ value_length v
 value_low v = omega (arith, base_low v.base, dots_low v.dots (base_length v.base))
 
-value_high : (v : Value) → value_length v ≤ 99 * WHOLE
+value_high : (v : Value) → value_length v ≤ 99 * whole_note
 value_high v = omega (arith, base_high v.base, dots_high v.dots (base_length v.base))
 
 -- Events.
@@ -65,25 +64,25 @@ value_high v = omega (arith, base_high v.base, dots_high v.dots (base_length v.b
 abbrev HasTicks : Event → Type 0
 HasTicks e = e.ticks ≡ value_length e.value
 
-note_ticks : (e : Event) → is_note e ≡ true → HasTicks e
+pub note_ticks : (e : Event) → is_note e ≡ true → HasTicks e
 note_ticks e h = grind (arith, nat_tests)
 
-note_dots : (e : Event) → is_note e ≡ true → e.value.dots ≤ 3
+pub note_dots : (e : Event) → is_note e ≡ true → e.value.dots ≤ 3
 note_dots e h = grind (arith, nat_tests)
 
 note_heads : (e : Event) → is_note e ≡ true → 1 ≤ length e.heads
 note_heads e h = grind (arith, nat_tests)
 
-rest_ticks_inner : (e : Event) → is_rest true e ≡ true → HasTicks e
+pub rest_ticks_inner : (e : Event) → is_rest true e ≡ true → HasTicks e
 rest_ticks_inner e h = grind (arith, nat_tests)
 
 rest_ticks_low : (e : Event) → is_rest false e ≡ true → 1 ≤ e.ticks
 rest_ticks_low e h = grind (arith, nat_tests)
 
-rest_ticks_high : (e : Event) → is_rest false e ≡ true → e.ticks ≤ 99 * WHOLE
+rest_ticks_high : (e : Event) → is_rest false e ≡ true → e.ticks ≤ 99 * whole_note
 rest_ticks_high e h = grind (arith, nat_tests)
 
-rest_dots : (b : Bool) (e : Event) → is_rest b e ≡ true → e.value.dots ≤ 3
+pub rest_dots : (b : Bool) (e : Event) → is_rest b e ≡ true → e.value.dots ≤ 3
 rest_dots b e h = grind (arith, nat_tests)
 
 rest_heads : (b : Bool) (e : Event) → is_rest b e ≡ true → length e.heads ≡ 0
@@ -117,15 +116,15 @@ more_nines a b n h k =
 -- ticks that may stand at a place
 pub record MayLast (at : Place) (ticks : ℕ) : Type 0 where
   pub low : 1 ≤ ticks
-  pub high : ticks ≤ 99 * WHOLE
+  pub high : ticks ≤ 99 * whole_note
   pub long : at.inner ≡ true → 81 ≤ ticks
 
-scalable : (ticks qs ps : ℕ) → ticks ≤ 99 * WHOLE → qs ≤ 81 → 1 ≤ ps → is_scalable ticks qs ps ≡ true
+scalable : (ticks qs ps : ℕ) → ticks ≤ 99 * whole_note → qs ≤ 81 → 1 ≤ ps → is_scalable ticks qs ps ≡ true
 unfolding is_scalable
-scalable ticks qs ps t q p = let h : ticks * qs ≤ 99 * WHOLE * 81 = mul-le ticks qs (99 * WHOLE) 81 t q in grind (arith, nat_tests)
+scalable ticks qs ps t q p = let h : ticks * qs ≤ 99 * whole_note * 81 = mul-le ticks qs (99 * whole_note) 81 t q in grind (arith, nat_tests)
 
-scaled_high : (ticks qs ps : ℕ) → ticks ≤ 99 * WHOLE → qs ≤ 81 → scaled ticks qs ps ≤ longest_ticks
-scaled_high ticks qs ps t q = le_trans (div-le_self (ticks * qs) ps) (mul-le ticks qs (99 * WHOLE) 81 t q)
+scaled_high : (ticks qs ps : ℕ) → ticks ≤ 99 * whole_note → qs ≤ 81 → scaled ticks qs ps ≤ longest_ticks
+scaled_high ticks qs ps t q = le_trans (div-le_self (ticks * qs) ps) (mul-le ticks qs (99 * whole_note) 81 t q)
 
 scaled_low : (ticks qs ps : ℕ) → ps ≤ ticks → 1 ≤ qs → 1 ≤ ps → 1 ≤ scaled ticks qs ps
 scaled_low ticks qs ps t q p =
@@ -175,19 +174,19 @@ note_keeps : (e : Event) → Keeps (λ at. judged (is_note e) true) (length e.he
 note_keeps e at qs ps a good =
     let t : e.ticks ≡ value_length e.value = note_ticks e good in
     let l : 81 ≤ value_length e.value = value_low e.value in
-    let h : value_length e.value ≤ 99 * WHOLE = value_high e.value in
+    let h : value_length e.value ≤ 99 * whole_note = value_high e.value in
     let n : 1 ≤ length e.heads = note_heads e good in
     event_keeps at qs ps e (length e.heads) a (record { low = omega arith; high = omega arith; long = λ _. omega arith }) (note_dots e good) (omega arith) (λ _. refl)
 
-guarded : (b c : Bool) → (if b then false else c) ≡ true → (b ≡ false) × (c ≡ true)
+pub guarded : (b c : Bool) → (if b then false else c) ≡ true → (b ≡ false) × (c ≡ true)
 guarded true c h = absurd (cc)
 guarded false c h = (refl, h)
 
-rest_lasts : (b : Bool) (e : Event) → is_rest b e ≡ true → (1 ≤ e.ticks) × (e.ticks ≤ 99 * WHOLE) × (b ≡ true → 81 ≤ e.ticks)
+rest_lasts : (b : Bool) (e : Event) → is_rest b e ≡ true → (1 ≤ e.ticks) × (e.ticks ≤ 99 * whole_note) × (b ≡ true → 81 ≤ e.ticks)
 rest_lasts true e h =
     let t : e.ticks ≡ value_length e.value = rest_ticks_inner e h in
     let l : 81 ≤ value_length e.value = value_low e.value in
-    let k : value_length e.value ≤ 99 * WHOLE = value_high e.value in
+    let k : value_length e.value ≤ 99 * whole_note = value_high e.value in
     (omega arith, omega arith, λ _. omega arith)
 rest_lasts false e h = (rest_ticks_low e h, rest_ticks_high e h, λ i. absurd (cc))
 
@@ -257,7 +256,7 @@ MusicKeeps m = Keeps (judged_within m) (weight m) (products_fit m) (duration_wit
 abbrev BodyKeeps : List Music → Type 0
 BodyKeeps ms = Keeps (all_judged (map judged_within ms)) (sum (map weight ms)) (all_fit (map products_fit ms)) (sum_within (map duration_within ms)) (in_row (map leaves_within ms))
 
-both : (a b : Bool) → (a && b) ≡ true → (a ≡ true) × (b ≡ true)
+pub both : (a b : Bool) → (a && b) ≡ true → (a ≡ true) × (b ≡ true)
 both true b h = (refl, h)
 both false b h = absurd (cc)
 
@@ -314,14 +313,14 @@ tuplet_parts p q n b h =
     let a = both (nat_le 2 p) (nat_le p 9) b.0 in
     (leb-true 2 p a.0, leb-true p 9 a.1, leb-true 1 q b.1, leb-true q 9 c.1, e.1)
 
-deeper_good : (p q deeper : ℕ) (js : List (Place → Judged)) → (tuplet_judged p q js deeper).good ≡ true → (d : ℕ) × (deeper ≡ suc d) × GoodTuplet p q d (all_judged js)
+pub deeper_good : (p q deeper : ℕ) (js : List (Place → Judged)) → (tuplet_judged p q js deeper).good ≡ true → (d : ℕ) × (deeper ≡ suc d) × GoodTuplet p q d (all_judged js)
 deeper_good p q zero js h = absurd (cc)
 deeper_good p q (suc d) js h =
     let inside = all_judged js (record { deeper = d; inner = true; grace = false }) in
     let t = tuplet_parts p q inside.some inside.good h in
     (d, refl, record { some_p = omega (arith, t.0); few_p = t.1; some_q = t.2; few_q = t.3; inside = t.4 })
 
-tuplet_good : (g : Bool) (p q deeper : ℕ) (js : List (Place → Judged)) → (if g then judged false false else tuplet_judged p q js deeper).good ≡ true → (g ≡ false) × ((d : ℕ) × (deeper ≡ suc d) × GoodTuplet p q d (all_judged js))
+pub tuplet_good : (g : Bool) (p q deeper : ℕ) (js : List (Place → Judged)) → (if g then judged false false else tuplet_judged p q js deeper).good ≡ true → (g ≡ false) × ((d : ℕ) × (deeper ≡ suc d) × GoodTuplet p q d (all_judged js))
 tuplet_good true p q deeper js h = absurd (cc)
 tuplet_good false p q deeper js h = (refl, deeper_good p q deeper js h)
 
@@ -433,6 +432,9 @@ flats_few ms good = omega (arith, (good_body ms good).counts nothing, good.few)
 
 pub body_total : (ms : List Music) → IsGoodBody ms → durations_within ms 1 1 ≡ total_ticks (flats_of ms)
 body_total ms good = sym ((good_body ms good).total nothing)
+
+pub node_total : (m : Music) → IsGoodNode m → duration_of m ≡ total_ticks (flats_of (m ∷ []))
+node_total m good = omega (arith, body_total (m ∷ []) good)
 
 pub ruleset total_bounds = (body_fits, body_short, body_total)
 

@@ -1,7 +1,6 @@
 -- Good music.
 use Rattle.std.specs.Prelude.{◌≡◌, ℕ, zero, suc, ◌+◌, ◌*◌, ◌≤◌, List, [], ◌∷◌, length, map, sum, Bool, true, false, ◌&&◌, ◌||◌, ◌==◌, nat_le, if◌then◌else◌, max, sum_by}
-use Rattle.mus_units.specs.declared.value.TheConstants.{WHOLE}
-use Rattle.mus_units.specs.Value.{value_length}
+use Rattle.mus_units.specs.Value.{value_length, whole_note}
 use Rattle.mus_score.specs.declared.good.Judged.{Judged}
 use Rattle.mus_score.specs.declared.good.Place.{Place}
 use Rattle.mus_score.specs.declared.score.Event.{Event}
@@ -18,7 +17,7 @@ is_note e = nat_le 1 (length e.heads) && has_value_ticks e
 
 -- a rest outside tuplets may last a measure
 abbrev pub is_rest : Bool → Event → Bool
-is_rest inner e = length e.heads == 0 && nat_le e.value.dots 3 && (if inner then e.ticks == value_length e.value else nat_le 1 e.ticks && nat_le e.ticks (99 * WHOLE))
+is_rest inner e = length e.heads == 0 && nat_le e.value.dots 3 && (if inner then e.ticks == value_length e.value else nat_le 1 e.ticks && nat_le e.ticks (99 * whole_note))
 
 -- the heads and rests of a node, grace heads counted
 abbrev pub weight_step : Music-F ℕ → ℕ
@@ -65,7 +64,7 @@ IsGoodNode m = IsGoodBody (m ∷ [])
 
 -- the most ticks that an event of a good body lasts: 99 whole notes, nine times in each of two tuplets
 abbrev pub longest_ticks : ℕ
-longest_ticks = 99 * WHOLE * 81
+longest_ticks = 99 * whole_note * 81
 
 pub record IsGoodFlat (f : Flat) : Type 0 where
   pub some : 1 ≤ f.duration

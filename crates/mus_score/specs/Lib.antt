@@ -1,4 +1,6 @@
+pub mod Even
 pub mod Good
 pub mod GoodScore
+pub mod Plain
 pub mod Times
 pub mod Walks

@@ -6,7 +6,7 @@ use mus_units::{WHOLE, ticks_of};
 
 /// Where a node stands: how many tuplets may still stand in it, and whether a tuplet or a grace
 /// group is around it.
-#[derive(Clone, Copy, Debug, PartialEq, Eq)]
+#[derive(Clone, Copy, PartialEq, Eq)]
 pub struct Place {
     pub deeper: u8,
     pub inner: bool,
@@ -14,7 +14,7 @@ pub struct Place {
 }
 
 /// Whether a node is good at its place, and whether it has an event that is no grace.
-#[derive(Clone, Copy, Debug, PartialEq, Eq)]
+#[derive(Clone, Copy, PartialEq, Eq)]
 pub struct Judged {
     pub good: bool,
     pub some: bool,

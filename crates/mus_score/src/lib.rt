@@ -6,16 +6,15 @@
 
 pub mod copies;
 pub mod good;
-pub mod good_score;
+pub mod leaves;
+pub mod plain;
 pub mod score;
 pub mod times;
 
 pub use copies::copy_event;
 pub use good::{Judged, Place, is_good_body, weights_within};
-pub use good_score::{events, is_good_score, is_good_voice};
+pub use leaves::events;
 pub use mus_units::{Bar, Deco, Head, Key, Meter, Sign, Spread, Wish};
+pub use plain::is_plain;
 pub use score::{Changes, Event, Flat, Look, Measure, Mention, Music, Score, Voice};
 pub use times::{body_duration, duration, flatten};
-
-#[cfg(test)]
-mod tests;

@@ -1,7 +1,7 @@
 use mus_units::{Bar, Clef, Deco, Head, Key, Meter, Row, Spread, Text, Value, Wish};
 
 /// How a rest or a note is drawn: seen, unseen, or as a rest of a whole measure.
-#[derive(Clone, Copy, Debug, PartialEq, Eq)]
+#[derive(Clone, Copy, PartialEq, Eq)]
 pub enum Look {
     Seen,
     Unseen,
@@ -9,7 +9,7 @@ pub enum Look {
 }
 
 /// A text between quotes: below the staff or above it.
-#[derive(Debug, Drop)]
+#[derive(Drop)]
 pub struct Mention {
     pub below: bool,
     pub text: Text,
@@ -17,7 +17,7 @@ pub struct Mention {
 
 /// What changes before an event: a clef, a key, a meter that a field names there,
 /// be the value new or not.
-#[derive(Debug, Drop)]
+#[derive(Drop)]
 pub struct Changes {
     pub clef: Option<Clef>,
     pub key: Option<Key>,
@@ -28,7 +28,7 @@ pub struct Changes {
 /// `id` counts the events of a voice from 0, `ticks` is the written length in ticks; `begins` and
 /// `ends` count slurs; `words` has a place for each verse. `parted` says that a space or a line end
 /// stands between the event and the one before it in its voice. A rest has no heads.
-#[derive(Debug, Drop)]
+#[derive(Drop)]
 pub struct Event {
     pub id: u32,
     pub heads: Row<Head>,
@@ -46,7 +46,7 @@ pub struct Event {
 }
 
 /// A node of the tree of music. A grace group holds notes alone; a tuplet has `p` in the time of `q`.
-#[derive(Debug, Drop)]
+#[derive(Drop)]
 pub enum Music {
     Note(Event),
     Rest(Event),
@@ -55,7 +55,7 @@ pub enum Music {
 }
 
 /// A measure and the bar behind it.
-#[derive(Debug, Drop)]
+#[derive(Drop)]
 pub struct Measure {
     pub body: Row<Music>,
     pub bar: Bar,
@@ -63,7 +63,7 @@ pub struct Measure {
 
 /// A voice: its id, what it begins with, the number of its verses, the bar before its first event,
 /// and its measures.
-#[derive(Debug, Drop)]
+#[derive(Drop)]
 pub struct Voice {
     pub id: Text,
     pub clef: Clef,
@@ -76,7 +76,7 @@ pub struct Voice {
 }
 
 /// A tune: its voices, which all have `measures` measures, and the bars at which a system must end.
-#[derive(Debug, Drop)]
+#[derive(Drop)]
 pub struct Score {
     pub voices: Row<Voice>,
     pub measures: u32,
@@ -86,7 +86,7 @@ pub struct Score {
 
 /// An event with what the tree of its measure says of it: its duration in ticks, the `p` of the
 /// tuplets that begin at it, outer first, and the graces before it.
-#[derive(Debug, Drop)]
+#[derive(Drop)]
 pub struct Flat {
     pub event: Event,
     pub duration: u64,

@@ -1,7 +1,8 @@
-ghost use Rattle.std.specs.Prelude.{◌≡◌, ◌≤◌, ◌<◌, ◌^◌, ◌++◌, map, true, IfOk, OnOk};
+ghost use Rattle.std.specs.Prelude.{◌≡◌, ◌∷◌, [], ◌≤◌, ◌<◌, ◌^◌, ◌++◌, map, true, IfOk, OnOk};
 ghost use Rattle.std.specs.Prelude.{◌*◌, All, sum, sum_by};
 ghost use Rattle.mus_score.specs.declared.score.Flat.{Flat};
 ghost use Rattle.mus_score.specs.Good.{IsGoodBody, IsGoodNode, IsGoodFlat, flat_count, flat_weight, longest_ticks, total_ticks, weight};
+ghost use Rattle.mus_score.specs.Even.{AreEven};
 ghost use Rattle.mus_score.specs.Times.{scaled, duration_of, duration_within, durations_within, products_fit, all_products_fit, is_scalable, leaf, leaves_within, in_row, flats_of, nothing, Walked};
 
 use crate::copies::copy_event;
@@ -53,11 +54,14 @@ fn durations_in(body: &[Music], qs: u64, ps: u64) -> u64
 }
 
 /// How long a node of a body lasts, in ticks: an event its written ticks, times q/p of each tuplet
-/// around it in the node; a grace group 0; a tuplet the sum of what is in it. Takes no memory.
+/// around it in the node, which comes out even; a grace group 0; a tuplet the sum of what is in it.
+/// Takes no memory.
 #[tactic(auto, using(crate::proofs::Bounds::node_bounds))]
 pub fn duration(m: &Music) -> u64
     requires { IsGoodNode m.now }
-    ensures { result ≡ duration_of m.now }
+    ensures value { result ≡ duration_of m.now }
+    ensures total { result ≡ total_ticks (flats_of (m.now ∷ [])) }
+    ensures even { AreEven (flats_of (m.now ∷ [])) (m.now ∷ []) }
 {
     duration_in(m, 1, 1)
 }
@@ -73,7 +77,7 @@ pub fn body_duration(body: &[Music]) -> u64
 }
 
 /// What waits for the next leaf: the tuplets that begin there, outer first, and its graces.
-#[derive(Debug, Drop)]
+#[derive(Drop)]
 pub struct Waits {
     pub tuplets: Row<u8>,
     pub graces: Row<Event>,
@@ -181,12 +185,15 @@ fn put_nodes(
 
 /// The events of a body that are no graces, from left to right: each with its duration in ticks,
 /// the `p` of the tuplets that begin at it, outer first, and the graces before it. What stands
-/// in a tuplet's end waits for the next event; graces behind the last event belong to none.
+/// in a tuplet's end waits for the next event; graces behind the last event belong to none. Each
+/// duration comes out even: times the product of the `p` around the event it is the event's ticks
+/// times the product of the `q`.
 #[tactic(auto, using(crate::proofs::Bounds::body_bounds))]
 pub fn flatten(alloc: Global, body: &[Music]) -> Result<Row<Flat>, Memory>
     requires { IsGoodBody body.now }
     ensures flats { IfOk result (λ r. r ≡ flats_of body.now) }
     ensures each { IfOk result (λ r. All IsGoodFlat r) }
+    ensures even { IfOk result (λ r. AreEven r body.now) }
     ensures total { IfOk result (λ r. total_ticks r ≡ sum_by duration_of body.now) }
     ensures short { IfOk result (λ r. total_ticks r ≤ 50000 * longest_ticks) }
     ensures count { IfOk result (λ r. sum_by flat_count r ≤ 50000) }

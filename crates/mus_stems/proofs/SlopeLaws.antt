@@ -151,19 +151,3 @@ with_ends_length (p ∷ ps) (z ∷ zs) h = ap suc (with_ends_length ps zs (omega
 pub sloped_length : (plans : List StemPlan) (ps : List StemPlan) (xs : List ℤ) → plans ≡ sloped ps xs → length xs ≡ length ps → length plans ≡ length ps
 unfolding sloped
 sloped_length plans ps xs e h = ap (λ t. length t) e ∙ with_ends_length ps (sloped_ends (anchors ps xs)) (ends_length (sloped_ends (anchors ps xs)) (anchors ps xs) ps xs refl refl h)
-
--- abscissas that rise all along rise in each beam
-abbrev pub RisesFrom : ℤ → List ℤ → Type 0
-RisesFrom x [] = Unit {0}
-RisesFrom x (y ∷ ys) = (x <ℤ y) × RisesFrom y ys
-
-pub rises_after : (a : Anchor) (ps : List StemPlan) (xs : List ℤ) → RisesFrom a.x xs → RisesAfter a (anchors ps xs)
-unfolding anchor_of
-rises_after a [] xs r = tt {0}
-rises_after a (p ∷ ps) [] r = tt {0}
-rises_after a (p ∷ ps) (x ∷ xs) r = ((λ h. r.0), rises_after (anchor_of p x) ps xs r.1)
-
-pub rises_in_beams : (ps : List StemPlan) (x : ℤ) (xs : List ℤ) → RisesFrom x xs → RisesInBeams (anchors ps (x ∷ xs))
-unfolding anchor_of
-rises_in_beams [] x xs r = tt {0}
-rises_in_beams (p ∷ ps) x xs r = rises_after (anchor_of p x) ps xs r

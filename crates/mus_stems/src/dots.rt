@@ -7,7 +7,7 @@ use crate::heads::Stand;
 use mus_units::{Memory, Row};
 
 /// A place beside an event: a dot's, in u.
-#[derive(Clone, Copy, Debug, PartialEq, Eq)]
+#[derive(Clone, Copy, PartialEq, Eq)]
 pub struct Spot {
     pub dx: i32,
     pub dy: i32,

@@ -5,14 +5,14 @@ use mus_units::{Clef, Head, Memory, Row, height};
 use std::alloc::Global;
 
 /// Where a head stands, and whether a sign is written before it.
-#[derive(Clone, Copy, Debug, PartialEq, Eq)]
+#[derive(Clone, Copy, PartialEq, Eq)]
 pub struct Stand {
     pub height: i32,
     pub signed: bool,
 }
 
 /// The head taken last: how far it stands, and whether it was moved.
-#[derive(Clone, Copy, Debug, PartialEq, Eq)]
+#[derive(Clone, Copy, PartialEq, Eq)]
 pub struct Last {
     pub level: i32,
     pub moved: bool,

@@ -21,6 +21,3 @@ pub use ledgers::ledgers_for;
 pub use plans::{StemPlan, stems};
 pub use signs::signs_for;
 pub use slopes::slope;
-
-#[cfg(test)]
-mod tests;

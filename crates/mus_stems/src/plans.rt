@@ -28,7 +28,7 @@ use std::alloc::Global;
 ///
 /// A rest has no stem, begins and ends at 0, and has no heads, signs, ledgers or dots; `flags` goes
 /// by its base.
-#[derive(Debug, Drop)]
+#[derive(Drop)]
 pub struct StemPlan {
     pub up: bool,
     pub has: bool,

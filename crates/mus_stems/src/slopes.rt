@@ -11,7 +11,7 @@ use std::alloc::Global;
 
 /// What a slope takes from an event: the way of its stem, its own end, where its beam begins, and
 /// its abscissa.
-#[derive(Clone, Copy, Debug, PartialEq, Eq)]
+#[derive(Clone, Copy, PartialEq, Eq)]
 pub struct Anchor {
     pub up: bool,
     pub own: i32,
@@ -21,7 +21,7 @@ pub struct Anchor {
 
 /// The line of a beam: the abscissas of its first and its last event, and how far it climbs between
 /// them.
-#[derive(Clone, Copy, Debug, PartialEq, Eq)]
+#[derive(Clone, Copy, PartialEq, Eq)]
 pub struct Line {
     pub first: i64,
     pub last: i64,

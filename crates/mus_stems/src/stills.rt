@@ -8,7 +8,7 @@ use std::alloc::Global;
 
 /// What a stem plan takes from an event: its id, its value, whether it is parted from the event
 /// before it, and where its heads stand in its clef.
-#[derive(Debug, Drop)]
+#[derive(Drop)]
 pub struct Still {
     pub id: u32,
     pub base: Base,

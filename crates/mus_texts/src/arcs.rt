@@ -12,7 +12,7 @@ use mus_stems::StemPlan;
 use mus_units::{Clef, Head, Memory, Pitch, Row};
 
 /// What is known of the event at an end of an arc: its clef, its heads and its stem.
-#[derive(Clone, Copy, Debug)]
+#[derive(Clone, Copy)]
 pub struct End<'a> {
     pub clef: Clef,
     pub heads: &'a [Head],

@@ -9,6 +9,3 @@ mod words;
 pub use arcs::{End, put_arc};
 pub use syllables::put_syllables;
 pub use texts::{TextPlace, put_texts, texts_above, texts_below};
-
-#[cfg(test)]
-mod tests;

@@ -11,7 +11,7 @@ use std::alloc::Global;
 /// Where the texts of an event go: outside of `low` and `high`, the least and the greatest dy that
 /// other marks of the staff take, in u; those below under all `verses` of the staff; and behind the
 /// texts, `above` and `below` of them, that stand in its column already.
-#[derive(Clone, Copy, Debug, PartialEq, Eq)]
+#[derive(Clone, Copy, PartialEq, Eq)]
 pub struct TextPlace {
     pub low: i32,
     pub high: i32,

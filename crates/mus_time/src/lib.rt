@@ -11,6 +11,3 @@ pub mod times;
 pub use columns::{further_keys, keys_of};
 pub use keys::{Class, ColumnKey};
 pub use times::{Onset, Timeline, onsets};
-
-#[cfg(test)]
-mod tests;

@@ -11,7 +11,7 @@ use std::alloc::Global;
 
 /// Where an event begins, in ticks from the beginning of its measure. `voice` is the place of its
 /// voice, `event` the event's id there.
-#[derive(Clone, Copy, Debug, PartialEq, Eq)]
+#[derive(Clone, Copy, PartialEq, Eq)]
 pub struct Onset {
     pub voice: u32,
     pub measure: u32,
@@ -20,7 +20,7 @@ pub struct Onset {
 }
 
 /// The onsets of a score in order of voice, then event, and the length of each measure in ticks.
-#[derive(Debug, Drop)]
+#[derive(Drop)]
 pub struct Timeline {
     pub onsets: Row<Onset>,
     pub lengths: Row<u64>,

@@ -1,6 +1,6 @@
 /// The glyphs, in the order in which a page's prolog defines them. Each is
 /// named by the two letters of its procedure.
-#[derive(Clone, Copy, Debug, PartialEq, Eq)]
+#[derive(Clone, Copy, PartialEq, Eq)]
 pub enum Glyph {
     Hb,
     Hw,
@@ -52,14 +52,14 @@ pub enum Glyph {
 }
 
 /// The size of drawn text: characters 540 u or 960 u wide.
-#[derive(Clone, Copy, Debug, PartialEq, Eq)]
+#[derive(Clone, Copy, PartialEq, Eq)]
 pub enum Size {
     Small,
     Big,
 }
 
 /// What a beam joins: stems that go up, stems that go down, or grace notes.
-#[derive(Clone, Copy, Debug, PartialEq, Eq)]
+#[derive(Clone, Copy, PartialEq, Eq)]
 pub enum Way {
     Up,
     Down,

@@ -1,8 +1,11 @@
+ghost use Rattle.std.specs.Prelude.{◌≡◌, IfOk};
+
 use crate::pitch::{Alter, Letter};
-use crate::text::Row;
+use crate::text::{Memory, Row};
+use std::alloc::Global;
 
 /// An entry of a key signature.
-#[derive(Clone, Copy, Debug, PartialEq, Eq)]
+#[derive(Clone, Copy, PartialEq, Eq)]
 pub struct Sign {
     pub letter: Letter,
     pub alter: Alter,
@@ -10,14 +13,35 @@ pub struct Sign {
 
 /// A key signature: its entries in the order in which they are drawn, at most
 /// one per letter.
-#[derive(Debug, Drop)]
+#[derive(Drop)]
 pub struct Key {
     pub signs: Row<Sign>,
 }
 
+impl Key {
+    /// A key of the same entries.
+    pub fn copy(&self, alloc: Global) -> Result<Key, Memory>
+        ensures { IfOk result (λ it. it ≡ self.now) }
+    {
+        Ok(Key {
+            signs: self.signs.copy(alloc)?,
+        })
+    }
+}
+
+/// A copy of a key that may be absent.
+pub fn copy_optional_key(alloc: Global, key: &Option<Key>) -> Result<Option<Key>, Memory>
+    ensures { IfOk result (λ it. it ≡ key.now) }
+{
+    match key {
+        Some(key) => Ok(Some(key.copy(alloc)?)),
+        None => Ok(None),
+    }
+}
+
 /// A meter. `Common` and `Cut` are the signs C and C with a stroke, which
 /// count as 4/4 and 2/2.
-#[derive(Clone, Copy, Debug, PartialEq, Eq)]
+#[derive(Clone, Copy, PartialEq, Eq)]
 pub enum Meter {
     Free,
     Common,
@@ -27,7 +51,7 @@ pub enum Meter {
 
 /// How far a sign before a note reaches to later notes of its measure: not at
 /// all, to its own letter and octave, or to its letter in every octave.
-#[derive(Clone, Copy, Debug, PartialEq, Eq)]
+#[derive(Clone, Copy, PartialEq, Eq)]
 pub enum Spread {
     Not,
     Octave,

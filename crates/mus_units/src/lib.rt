@@ -2,9 +2,10 @@
 //!
 //! Lists of bytes and of values that contracts see as lists; note values and
 //! their ticks; pitches and their heights on a staff; keys and meters; heads,
-//! bars and decorations as written; the names of glyphs.
+//! bars and decorations as written; the names of glyphs; classes of bytes.
 #![tactic(auto)]
 
+pub mod bytes;
 pub mod glyph;
 pub mod key;
 pub mod note;
@@ -14,12 +15,9 @@ pub mod text;
 pub mod value;
 
 pub use glyph::{Glyph, Size, Way};
-pub use key::{Key, Meter, Sign, Spread};
-pub use note::{Bar, Deco, Head, Wish};
+pub use key::{Key, Meter, Sign, Spread, copy_optional_key};
+pub use note::{Bar, Deco, Head, Wish, copy_decos, put_decos};
 pub use parts::{parts_of, value_of};
 pub use pitch::{Alter, Clef, Letter, Pitch, height};
-pub use text::{Memory, Row, Text};
+pub use text::{Memory, Row, Text, copy_optional_text, copy_optional_texts};
 pub use value::{Base, Frac, Value, WHOLE, ticks_of};
-
-#[cfg(test)]
-mod tests;

@@ -2,7 +2,7 @@ ghost use Rattle.std.specs.Prelude.{◌≡◌};
 ghost use Rattle.mus_units.specs.Pitch.{height_of, bottom_of, number_of};
 
 /// The letter of a pitch, from C up.
-#[derive(Clone, Copy, Debug, PartialEq, Eq)]
+#[derive(Clone, Copy, PartialEq, Eq)]
 pub enum Letter {
     C,
     D,
@@ -14,7 +14,7 @@ pub enum Letter {
 }
 
 /// An alteration, from the double flat to the double sharp.
-#[derive(Clone, Copy, Debug, PartialEq, Eq)]
+#[derive(Clone, Copy, PartialEq, Eq)]
 pub enum Alter {
     Flat2,
     Flat,
@@ -24,14 +24,14 @@ pub enum Alter {
 }
 
 /// A letter in an octave. Octave 4 begins at middle C.
-#[derive(Clone, Copy, Debug, PartialEq, Eq)]
+#[derive(Clone, Copy, PartialEq, Eq)]
 pub struct Pitch {
     pub letter: Letter,
     pub octave: i32,
 }
 
 /// A clef, named as a field names it.
-#[derive(Clone, Copy, Debug, PartialEq, Eq)]
+#[derive(Clone, Copy, PartialEq, Eq)]
 pub enum Clef {
     Treble,
     Bass,

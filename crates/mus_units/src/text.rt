@@ -1,11 +1,15 @@
-ghost use Rattle.std.specs.Prelude.{◌≡◌, ◌++◌, ◌∷◌, [], length, IfOk, OnOk, OnErr};
+ghost use Rattle.std.specs.Prelude.{◌≡◌, ◌==◌, ◌<◌, ◌-◌, ◌^◌, ◌++◌, ◌∷◌, [], ℕ, length, IfOk, OnOk, OnErr, slice_get};
+ghost use Rattle.std.specs.Iterator.Adapters.{IterYieldsInOrder};
+ghost use Rattle.std.specs.Option.{option_copied};
+ghost use Rattle.std.specs.Slice.Iter.{iter_rest};
 
 use std::alloc::{AllocError, AllocFailed, Global};
 use std::marker::Model;
+use std::slice;
 
 /// Memory ran out. Every call that allocates may answer it, and no clause says
 /// when.
-#[derive(Clone, Copy, Debug, PartialEq, Eq)]
+#[derive(Clone, Copy, PartialEq, Eq)]
 pub struct Memory;
 
 impl From<AllocError> for Memory {
@@ -21,7 +25,7 @@ impl<T: Drop> From<AllocFailed<T>> for Memory {
 }
 
 /// A list of bytes, which contracts see as a list of numbers.
-#[derive(Debug, Drop)]
+#[derive(Drop)]
 pub struct Text {
     pub bytes: Vec<u8>,
 }
@@ -60,11 +64,34 @@ impl Text {
         self.bytes.len()
     }
 
+    /// Whether there are none.
+    pub fn is_empty(&self) -> bool
+        ensures { result ≡ (length self.now == 0) }
+    {
+        self.bytes.as_slice().is_empty()
+    }
+
     /// All of it, as a slice.
     pub fn as_slice(&self) -> &[u8]
         ensures { result.now ≡ self.now }
     {
         self.bytes.as_slice()
+    }
+
+    /// Its bytes, from the first on.
+    pub fn iter(&self) -> slice::Iter<'_, u8>
+        ensures rest { iter_rest result ≡ self.now }
+        ensures bound { length (iter_rest result) < 2 ^ 64 }
+        ensures runs { IterYieldsInOrder ℕ }
+    {
+        self.bytes.as_slice().iter()
+    }
+
+    /// A text of the same bytes.
+    pub fn copy(&self, alloc: Global) -> Result<Text, Memory>
+        ensures { IfOk result (λ it. it ≡ self.now) }
+    {
+        Text::from_slice(alloc, self.as_slice())
     }
 
     /// Adds one byte at the end; at an error the text is as it was.
@@ -86,8 +113,20 @@ impl Text {
     }
 }
 
+impl<'a> IntoIterator for &'a Text {
+    type Item = &'a u8;
+
+    type IntoIter = slice::Iter<'a, u8>;
+
+    ghost into_iter_gives = { λ text it. (iter_rest it ≡ text.now) × (length (iter_rest it) < 2 ^ 64) × IterYieldsInOrder ℕ };
+
+    fn into_iter(self) -> slice::Iter<'a, u8> {
+        self.iter()
+    }
+}
+
 /// A list of values, which contracts see as a list.
-#[derive(Debug, Drop)]
+#[derive(Drop)]
 pub struct Row<T> {
     pub items: Vec<T>,
 }
@@ -120,11 +159,48 @@ impl<T> Row<T> {
         self.items.len()
     }
 
+    /// Whether there are none.
+    pub fn is_empty(&self) -> bool
+        ensures { result ≡ (length self.now == 0) }
+    {
+        self.items.as_slice().is_empty()
+    }
+
     /// All of it, as a slice.
     pub fn as_slice(&self) -> &[T]
         ensures { result.now ≡ self.now }
     {
         self.items.as_slice()
+    }
+
+    /// Its values, from the first on.
+    pub fn iter(&self) -> slice::Iter<'_, T>
+        ensures rest { iter_rest result ≡ self.now }
+        ensures bound { length (iter_rest result) < 2 ^ 64 }
+        ensures runs { IterYieldsInOrder T }
+    {
+        self.items.as_slice().iter()
+    }
+
+    /// The value at a place, counted from 0, if it has one.
+    pub fn get(&self, place: usize) -> Option<&T>
+        ensures { option_copied result ≡ slice_get self.now place }
+    {
+        self.items.as_slice().get(place)
+    }
+
+    /// The first value, if there is one.
+    pub fn first(&self) -> Option<&T>
+        ensures { option_copied result ≡ slice_get self.now 0 }
+    {
+        self.items.as_slice().first()
+    }
+
+    /// The last value, if there is one.
+    pub fn last(&self) -> Option<&T>
+        ensures { option_copied result ≡ slice_get self.now (length self.now - 1) }
+    {
+        self.items.as_slice().last()
     }
 
     /// Adds one value at the end; at an error the row is as it was.
@@ -148,4 +224,47 @@ impl<T: Copy> Row<T> {
             items: Vec::from_slice(alloc, items)?,
         })
     }
+
+    /// A row of the same values.
+    pub fn copy(&self, alloc: Global) -> Result<Row<T>, Memory>
+        ensures { IfOk result (λ it. it ≡ self.now) }
+    {
+        Row::from_slice(alloc, self.as_slice())
+    }
+}
+
+impl<'a, T> IntoIterator for &'a Row<T> {
+    type Item = &'a T;
+
+    type IntoIter = slice::Iter<'a, T>;
+
+    ghost into_iter_gives = { λ row it. (iter_rest it ≡ row.now) × (length (iter_rest it) < 2 ^ 64) × IterYieldsInOrder T };
+
+    fn into_iter(self) -> slice::Iter<'a, T> {
+        self.iter()
+    }
+}
+
+/// A copy of a text that may be absent.
+pub fn copy_optional_text(alloc: Global, text: &Option<Text>) -> Result<Option<Text>, Memory>
+    ensures { IfOk result (λ it. it ≡ text.now) }
+{
+    match text {
+        Some(text) => Ok(Some(text.copy(alloc)?)),
+        None => Ok(None),
+    }
+}
+
+/// Copies of texts each of which may be absent.
+pub fn copy_optional_texts(
+    alloc: Global,
+    texts: &[Option<Text>],
+) -> Result<Row<Option<Text>>, Memory>
+    ensures { IfOk result (λ it. it ≡ texts.now) }
+{
+    let mut copies = Row::new(alloc);
+    for text in texts {
+        copies.push(copy_optional_text(alloc, text)?)?;
+    }
+    Ok(copies)
 }

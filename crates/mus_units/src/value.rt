@@ -1,4 +1,5 @@
-ghost use Rattle.std.specs.Prelude.{◌≡◌, ◌≤◌};
+ghost use Rattle.std.specs.Prelude.{◌≡◌, ◌≤◌, ◌*◌};
+ghost use Rattle.mus_units.specs.Parts.{units_of};
 ghost use Rattle.mus_units.specs.Value.{base_length, value_length};
 
 /// The ticks of a whole note, 2^15 * 3^4 * 5^2 * 7^2, so that every length with
@@ -6,14 +7,14 @@ ghost use Rattle.mus_units.specs.Value.{base_length, value_length};
 pub const WHOLE: u64 = 3_251_404_800;
 
 /// A fraction as written, not reduced.
-#[derive(Clone, Copy, Debug, PartialEq, Eq)]
+#[derive(Clone, Copy, PartialEq, Eq)]
 pub struct Frac {
     pub num: u64,
     pub den: u64,
 }
 
 /// The length of a note without dots, from two whole notes to a 64th.
-#[derive(Clone, Copy, Debug, PartialEq, Eq)]
+#[derive(Clone, Copy, PartialEq, Eq)]
 pub enum Base {
     Breve,
     Whole,
@@ -27,7 +28,7 @@ pub enum Base {
 
 /// A base with up to three dots: its length is the base and its halves, one for
 /// each dot.
-#[derive(Clone, Copy, Debug, PartialEq, Eq)]
+#[derive(Clone, Copy, PartialEq, Eq)]
 pub struct Value {
     pub base: Base,
     pub dots: u8,
@@ -49,10 +50,12 @@ fn base_ticks(base: Base) -> u64
     }
 }
 
-/// The length of a value in ticks. Takes no memory.
+/// The length of a value in ticks: its 512ths of a whole note, each of which is
+/// `WHOLE / 512` ticks. Takes no memory.
 pub fn ticks_of(v: Value) -> u64
     requires { v.dots ≤ 3 }
-    ensures { result ≡ value_length v }
+    ensures value { result ≡ value_length v }
+    ensures exact { result * 512 ≡ units_of v * 3251404800 }
 {
     let base = base_ticks(v.base);
     match v.dots {

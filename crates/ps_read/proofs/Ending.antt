@@ -12,7 +12,7 @@ use Rattle.ps_read.specs.Lines as line
 use Rattle.ps_read.specs.Places.{MayCome, after_prolog, next, Leads}
 use Rattle.ps_read.specs.declared.place.Place.{Place}
 use Rattle.ps_read.specs.declared.place.Place.TheVariants as at
-use Rattle.ps_read.proofs.Words.{one_cut}
+use Rattle.eng_lines.proofs.Words.{one_cut}
 use Rattle.ps_read.proofs.Heads.{may_lack, apart, no_mark, mark_start, join_start, rules_start, title_start}
 use Rattle.ps_read.proofs.Through.{document_way}
 

@@ -19,12 +19,13 @@ use Rattle.ps_text.specs.Prolog.{box_line, page_line, box_start, page_start, pag
 use Rattle.ps_text.specs.Range.{is_shown, IsWords, IsPageMark}
 use Rattle.ps_text.specs.declared.marks.PageMark.{PageMark}
 use Rattle.ps_text.specs.declared.marks.PageMark.TheVariants as marks
-use Rattle.ps_read.specs.Lines.{Line, line_text, Lacks}
+use Rattle.eng_lines.specs.Lines.{Lacks}
+use Rattle.ps_read.specs.Lines.{Line, line_text}
 use Rattle.ps_read.specs.Lines as line
 use Rattle.ps_read.specs.Places.{MayCome}
 use Rattle.ps_read.specs.declared.place.Place.{Place}
 use Rattle.ps_read.specs.declared.place.Place.TheVariants as at
-use Rattle.ps_read.proofs.Words.{lacks_both, head_of}
+use Rattle.eng_lines.proofs.Words.{lacks_both, head_of}
 
 abbrev lacks_test : ℕ → List ℕ → Bool
 lacks_test b [] = true

@@ -1,4 +1,3 @@
-pub mod Words
 pub mod Telling
 pub mod Through
 pub mod Heads

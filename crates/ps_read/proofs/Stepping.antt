@@ -17,7 +17,8 @@ use Rattle.ps_text.specs.declared.sheet.Staff.{Staff}
 use Rattle.ps_text.specs.declared.sheet.Item.TheVariants as items
 use Rattle.ps_text.specs.declared.sheet.Sheet.{Sheet}
 use Rattle.ps_text.specs.declared.prolog.TheConstants.{BOX}
-use Rattle.ps_read.specs.Lines.{Line, line_text, Lacks, behind_line, IsFirstLine}
+use Rattle.eng_lines.specs.Lines.{Lacks}
+use Rattle.ps_read.specs.Lines.{Line, line_text, behind_line, IsFirstLine}
 use Rattle.ps_read.specs.Lines as line
 use Rattle.ps_read.specs.Places.{frame_of, with_item, with_page, with_mark, with_staff, with_join, open_system, ended, IsUnderTop, MayEnd, MayCome, after_prolog, next}
 use Rattle.ps_read.specs.Steps.{NoneOf, IsNextOf, IsStepOf, Any, IsItemLine, IsSystemLine, IsJoinLine, IsNoMark}
@@ -29,7 +30,7 @@ use Rattle.ps_read.specs.declared.place.OpenPage.{OpenPage}
 use Rattle.ps_read.specs.declared.place.OpenSystem.{OpenSystem}
 use Rattle.ps_read.specs.declared.place.Place.{Place}
 use Rattle.ps_read.specs.declared.place.Place.TheVariants as at
-use Rattle.ps_read.proofs.Words.{one_field, after_prefix}
+use Rattle.eng_lines.proofs.Words.{one_field, after_prefix}
 use Rattle.ps_read.proofs.Heads.{apart, no_mark, mark_start, join_start, title_start}
 
 -- two numbers behind a prefix, or one, are told by the text
@@ -428,13 +429,6 @@ from_no_mark o s raw (Some r) f h = record { line = h.line; asked = tt; spelled 
     only (line.System a b) u q k = h.only (line.System a b) tt q k
     only (line.StaffHead n) u q k = h.only (line.StaffHead n) tt q k
     only l u q k = absurd k
-
--- a number behind a prefix
-pub one_from : (p t rest : List ℕ) (r : Option ℕ) → t ≡ p ++ rest
-    → MatchOption r ((n : ℕ) → n < 2 ^ 32 → rest ≡ decimal n → ⊥) (λ n. (rest ≡ decimal n) × (n < 2 ^ 32))
-    → MatchOption r ((a : ℕ) → a < 2 ^ 32 → t ≡ p ++ decimal a → ⊥) (λ a. (t ≡ p ++ decimal a) × (a < 2 ^ 32))
-one_from p t rest None e h = λ a l q. h a l (after_prefix p t rest (decimal a) e q)
-one_from p t rest (Some n) e h = (e ∙ ap (λ r. p ++ r) h.0, h.1)
 
 pub some_join : (o : Option Joined) (b : Bool) → is_some o ≡ not b → b ≡ false → IsSome o
 some_join o b e f = e ∙ ap not f

@@ -17,7 +17,8 @@ use Rattle.ps_text.specs.declared.sheet.Item.{Item}
 use Rattle.ps_text.specs.declared.sheet.Item.TheVariants as items
 use Rattle.ps_text.specs.declared.sheet.Page.{Page}
 use Rattle.ps_text.specs.declared.sheet.Sheet.{Sheet}
-use Rattle.ps_read.specs.Lines.{Line, line_text, lines_then, Lacks, behind_line, IsFirstLine}
+use Rattle.eng_lines.specs.Lines.{Lacks}
+use Rattle.ps_read.specs.Lines.{Line, line_text, lines_then, behind_line, IsFirstLine}
 use Rattle.ps_read.specs.Lines as line
 use Rattle.ps_read.specs.Places.{with_item, open_system, ended, IsUnderTop, MayEnd, MayCome, after_prolog, next, Leads}
 use Rattle.ps_read.specs.Steps.{IsItemLine}

@@ -4,13 +4,14 @@ use Rattle.std.proofs.lemmas.Bool.{true≢false, ne_eqb}
 use Rattle.std.proofs.lemmas.List.{length-append}
 use Rattle.ps_text.specs.Document.{Spells}
 use Rattle.ps_text.specs.declared.sheet.Sheet.{Sheet}
-use Rattle.ps_read.specs.Lines.{Line, line_text, lines_then, Lacks}
+use Rattle.eng_lines.specs.Lines.{Lacks}
+use Rattle.ps_read.specs.Lines.{Line, line_text, lines_then}
 use Rattle.ps_read.specs.Places.{MayCome, next, Leads}
 use Rattle.ps_read.specs.Answers.{IsGoodThroughout, IsFirstFault, IsRead}
 use Rattle.ps_read.specs.Steps.{Any, NoneOf, IsNextOf}
 use Rattle.ps_read.specs.declared.place.Place.{Place}
 use Rattle.ps_read.specs.declared.place.Place.TheVariants as at
-use Rattle.ps_read.proofs.Words.{one_cut, lacks_none}
+use Rattle.eng_lines.proofs.Words.{one_cut, lacks_none}
 use Rattle.ps_read.proofs.Heads.{may_lack}
 use Rattle.ps_read.proofs.Telling.{leads_tell}
 use Rattle.ps_read.proofs.Through.{document_way}

@@ -1,6 +1,7 @@
 -- The lines of a document, without the LF that ends each: those that stand as they are, and those with numbers or words
 -- in them.
-use Rattle.std.specs.Prelude.{◌≡◌, ◌≢◌, ℕ, ℤ, ◌+◌, List, [], ◌∷◌, ◌++◌, length, drop}
+use Rattle.std.specs.Prelude.{◌≡◌, ℕ, ℤ, ◌+◌, List, [], ◌∷◌, ◌++◌, length, drop}
+use Rattle.eng_lines.specs.Lines.{Lacks}
 use Rattle.mus_units.specs.declared.glyph.Size.{Size}
 use Rattle.ps_text.specs.Document.{rules_line, staff_line, join_line, system_line, title_line, tune_line, heading_line}
 use Rattle.ps_text.specs.Line.{mark_line}
@@ -37,11 +38,6 @@ line_text (Mark y m) = mark_line y m
 abbrev pub lines_then : List Line → List ℕ → List ℕ
 lines_then [] rest = rest
 lines_then (l ∷ ls) rest = line_text l ++ 10 ∷ lines_then ls rest
-
--- the byte isn't among them
-abbrev pub Lacks : ℕ → List ℕ → Type 0
-Lacks b [] = Unit {0}
-Lacks b (x ∷ s) = (x ≢ b) × Lacks b s
 
 -- what is left of a text behind its first line
 abbrev pub behind_line : List ℕ → List ℕ → List ℕ

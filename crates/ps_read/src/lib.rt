@@ -5,7 +5,6 @@
 #![tactic(auto)]
 
 mod lines;
-mod numbers;
 mod pages;
 mod place;
 mod prolog;
@@ -13,6 +12,3 @@ mod reading;
 mod systems;
 
 pub use reading::{PagesError, good_by_lines, no_prefix_is_a_document, read_document};
-
-#[cfg(test)]
-mod tests;

@@ -5,8 +5,8 @@ ghost use Rattle.ps_text.specs.Names.{size_name};
 ghost use Rattle.ps_text.specs.Range.{IsNumber, IsTitle};
 ghost use Rattle.ps_read.specs.Titles.{title_of, rules_of, joined_of, IsTitleRead, IsJoinRead, IsRulesRead};
 
-use crate::numbers::strip;
 use crate::place::Joined;
+use eng_lines::strip;
 use mus_units::{Memory, Size, Text};
 use ps_text::document::{
     put_count_line, put_heading_line, put_join_line, put_rules, put_staff_line, put_title_line,
@@ -17,7 +17,7 @@ use ps_text::words::take_words;
 use std::alloc::Global;
 
 /// A row of a title block.
-#[derive(Debug, Drop)]
+#[derive(Drop)]
 pub struct Title {
     pub x: i64,
     pub y: i64,
@@ -26,7 +26,7 @@ pub struct Title {
 }
 
 /// The lines of a staff: their length and the height of the lowest.
-#[derive(Clone, Copy, Debug, PartialEq, Eq)]
+#[derive(Clone, Copy, PartialEq, Eq)]
 pub struct Rules {
     pub width: u32,
     pub y: i64,

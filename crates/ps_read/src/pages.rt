@@ -4,8 +4,8 @@ ghost use Rattle.ps_read.specs.Steps.{IsStep, IsStepOf, IsItemLine, IsSystemLine
 ghost use Rattle.ps_read.specs.declared.place.Place.TheVariants as at;
 
 use crate::lines::{Title, is_count, is_heading, is_text, read_title};
-use crate::numbers::{one, pair};
 use crate::place::{OpenPage, OpenSystem, Place, with_item, with_page};
+use eng_lines::{number_behind, numbers_behind};
 use mus_units::{Memory, Row};
 use ps_text::{Item, Sheet};
 use std::alloc::Global;
@@ -48,7 +48,7 @@ pub fn after_heading(alloc: Global, sheet: Sheet, raw: &[u8]) -> Option<Place>
 fn system_line(alloc: Global, page: OpenPage, raw: &[u8]) -> Option<Place>
     ensures { IsStepOf IsSystemLine (at.Items page) raw.now result }
 {
-    match pair(b"% system ", raw) {
+    match numbers_behind(b"% system ", raw) {
         Some((a, b)) if a < b => Some(Place::System(OpenSystem {
             page,
             a,
@@ -67,7 +67,7 @@ pub fn item_line(alloc: Global, page: OpenPage, raw: &[u8]) -> Result<Option<Pla
     if is_text(raw, b"grestore") {
         return Ok(Some(Place::Closed(page)));
     }
-    match one(b"% tune ", raw) {
+    match number_behind(b"% tune ", raw) {
         Some(0) => Ok(None),
         Some(ordinal) => {
             let page = with_item(page, Item::Tune { ordinal })?;

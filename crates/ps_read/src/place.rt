@@ -5,21 +5,21 @@ use mus_units::{Memory, Row, Text};
 use ps_text::{Frame, Item, Page, PageMark, Sheet, Staff};
 
 /// The line that joins the staves of a system: its two heights.
-#[derive(Clone, Copy, Debug, PartialEq, Eq)]
+#[derive(Clone, Copy, PartialEq, Eq)]
 pub struct Joined {
     pub top: i64,
     pub foot: i64,
 }
 
 /// A page whose items are being listed, behind whole pages.
-#[derive(Debug, Drop)]
+#[derive(Drop)]
 pub struct OpenPage {
     pub sheet: Sheet,
     pub items: Row<Item>,
 }
 
 /// A system whose staves are being listed.
-#[derive(Debug, Drop)]
+#[derive(Drop)]
 pub struct OpenSystem {
     pub page: OpenPage,
     pub a: u32,
@@ -29,7 +29,7 @@ pub struct OpenSystem {
 }
 
 /// What the lines so far have told.
-#[derive(Debug, Drop)]
+#[derive(Drop)]
 pub enum Place {
     /// Nothing.
     Begun,

@@ -2,13 +2,14 @@ ghost use Rattle.std.specs.Prelude.{◌≡◌, ◌<◌, ◌^◌, ◌++◌, ℕ, 
 ghost use Rattle.glyph_paths.specs.Names.{glyphs_in_order};
 ghost use Rattle.ps_text.specs.Prolog.{percent, page_line, glyph_lines, last_text};
 ghost use Rattle.ps_read.specs.Places.{after_prolog};
-ghost use Rattle.ps_read.specs.Lines.{Lacks, IsFirstLine, behind_line};
+ghost use Rattle.eng_lines.specs.Lines.{Lacks};
+ghost use Rattle.ps_read.specs.Lines.{IsFirstLine, behind_line};
 ghost use Rattle.ps_read.specs.Steps.{IsStep};
 ghost use Rattle.ps_read.specs.declared.place.Place.TheVariants as at;
 
 use crate::lines::is_text;
-use crate::numbers::{field, pair, strip};
 use crate::place::Place;
+use eng_lines::{number_and_rest, numbers_behind, strip};
 use glyph_paths::all_glyphs;
 use mus_units::{Memory, Row, Text};
 use ps_text::prolog::{BOX, LAST, PAGE_START, PROCEDURES, put_glyphs, put_page_line};
@@ -39,7 +40,7 @@ pub fn after_nothing(raw: &[u8]) -> Option<Place>
 pub fn after_title(alloc: Global, raw: &[u8]) -> Result<Option<Place>, Memory>
     ensures { IfOk result (IsStep at.Titled raw.now) }
 {
-    match pair(BOX, raw) {
+    match numbers_behind(BOX, raw) {
         Some((wide, high)) => {
             let rest = Text::from_slice(alloc, PROCEDURES)?;
             Ok(Some(Place::Boxed { wide, high, rest }))
@@ -80,8 +81,8 @@ fn scan_page_line(raw: &[u8]) -> Option<(u32, u32, u16)>
     ensures told { (left bottom scale : ℕ) → left < 2 ^ 32 → bottom < 2 ^ 32 → scale ≤ 150 → raw.now ≡ page_line left bottom scale → result ≡ Some (left, bottom, scale) }
 {
     let rest = strip(PAGE_START, raw)?;
-    let (left, rest) = field(rest)?;
-    let (bottom, rest) = field(rest)?;
+    let (left, rest) = number_and_rest(rest)?;
+    let (bottom, rest) = number_and_rest(rest)?;
     let rest = strip(b"translate ", rest)?;
     let scale = scan_percent(rest)?;
     Some((left, bottom, scale))

@@ -1,23 +1,23 @@
 ghost use Rattle.std.specs.Prelude.{IfOk, IfErr, ◌≡◌};
 ghost use Rattle.ps_read.specs.Answers.{IsRead, IsCause};
 ghost use Rattle.ps_read.specs.Laws.{GoodByLines, NoPrefix};
-ghost use Rattle.ps_read.specs.Lines.{Lacks};
+ghost use Rattle.eng_lines.specs.Lines.{Lacks};
 ghost use Rattle.ps_read.specs.Steps.{IsStep};
 ghost use Rattle.ps_read.specs.declared.reading.PagesError.TheVariants as answer;
 
-use crate::numbers::cut_at;
 use crate::pages::{
     after_count, after_heading, after_item, after_items, after_page, after_trailer,
 };
 use crate::place::Place;
 use crate::prolog::{after_box, after_frame, after_nothing, after_title};
 use crate::systems::{after_mark, after_staff, after_system};
+use eng_lines::cut_at;
 use mus_units::Memory;
 use ps_text::Sheet;
 use std::alloc::Global;
 
 /// Why there is no sheet.
-#[derive(Clone, Copy, Debug, PartialEq, Eq)]
+#[derive(Clone, Copy, PartialEq, Eq)]
 pub enum PagesError {
     /// The bytes are no document; `line` is the first that isn't good by the
     /// lines before it, or one past the last where the text ends early.

@@ -2,6 +2,7 @@
 use Rattle.std.specs.Prelude.{◌≡◌, ℕ, ℤ, pos, ◌+◌, ◌+ℤ◌, List, [], ◌∷◌, ◌++◌, length, codes, decimal}
 use Rattle.std.specs.List.{flat_map}
 use Rattle.mus_units.specs.declared.glyph.Size.{Size}
+use Rattle.glyph_paths.specs.Characters.{line_end, space}
 use Rattle.glyph_paths.specs.Procedure.{numbers}
 use Rattle.ps_text.specs.Fields.{in_parentheses}
 use Rattle.ps_text.specs.Line.{mark_line}
@@ -22,7 +23,7 @@ numbered f k (x ∷ xs) = f k x ++ numbered f (k + 1) xs
 
 -- a mark's line
 unfoldable pub mark_text : ℤ → PageMark → List ℕ
-mark_text y m = mark_line y m ++ 10 ∷ []
+mark_text y m = mark_line y m ++ line_end ∷ []
 
 -- the marks of a staff at y
 unfoldable pub marks_text : ℤ → List PageMark → List ℕ
@@ -39,7 +40,7 @@ staff_line k = codes "% staff " ++ decimal k
 
 -- staff k of a system, from 0, and its marks
 unfoldable pub staff_text : ℕ → Staff → List ℕ
-staff_text k s = staff_line k ++ 10 ∷ rules_line s.width s.y ++ 10 ∷ marks_text s.y s.marks
+staff_text k s = staff_line k ++ line_end ∷ rules_line s.width s.y ++ line_end ∷ marks_text s.y s.marks
 
 -- the base of the last of some staves
 abbrev pub last_base : Staff → List Staff → ℤ
@@ -54,25 +55,25 @@ join_line top foot = numbers (pos 0 ∷ top ∷ pos 0 ∷ foot ∷ []) ++ codes 
 abbrev pub join_text : List Staff → List ℕ
 join_text [] = []
 join_text (s ∷ []) = []
-join_text (s ∷ t ∷ rest) = join_line (s.y +ℤ pos 2000) (last_base t rest) ++ 10 ∷ []
+join_text (s ∷ t ∷ rest) = join_line (s.y +ℤ pos 2000) (last_base t rest) ++ line_end ∷ []
 
 unfoldable pub system_line : ℕ → ℕ → List ℕ
-system_line a b = codes "% system " ++ decimal a ++ 32 ∷ decimal b
+system_line a b = codes "% system " ++ decimal a ++ space ∷ decimal b
 
 unfoldable pub system_text : ℕ → ℕ → List Staff → List ℕ
-system_text a b staves = system_line a b ++ 10 ∷ join_text staves ++ numbered staff_text 0 staves
+system_text a b staves = system_line a b ++ line_end ∷ join_text staves ++ numbered staff_text 0 staves
 
 unfoldable pub title_line : ℤ → ℤ → Size → List ℕ → List ℕ
 title_line x y size words = in_parentheses words ++ numbers (pos 0 ∷ pos 0 ∷ x ∷ y ∷ []) ++ size_name size
 
 unfoldable pub title_text : ℤ → ℤ → Size → List ℕ → List ℕ
-title_text x y size words = title_line x y size words ++ 10 ∷ []
+title_text x y size words = title_line x y size words ++ line_end ∷ []
 
 unfoldable pub tune_line : ℕ → List ℕ
 tune_line ordinal = codes "% tune " ++ decimal ordinal
 
 unfoldable pub tune_text : ℕ → List ℕ
-tune_text ordinal = tune_line ordinal ++ 10 ∷ []
+tune_text ordinal = tune_line ordinal ++ line_end ∷ []
 
 abbrev pub item_text : Item → List ℕ
 item_text (items.Tune ordinal) = tune_text ordinal
@@ -83,7 +84,7 @@ unfoldable pub items_text : List Item → List ℕ
 items_text items = flat_map item_text items
 
 unfoldable pub heading_line : ℕ → List ℕ
-heading_line k = codes "%%Page: " ++ decimal k ++ 32 ∷ decimal k
+heading_line k = codes "%%Page: " ++ decimal k ++ space ∷ decimal k
 
 -- the two lines that begin page k
 unfoldable pub heading_text : ℕ → List ℕ

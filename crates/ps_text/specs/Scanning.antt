@@ -1,21 +1,22 @@
 -- What the reader of a line takes from its front.
-use Rattle.std.specs.Prelude.{◌≡◌, ℕ, ℤ, ◌+◌, ◌/◌, ◌%◌, ◌≤◌, ◌<◌, ◌==◌, Bool, not, List, ◌∷◌, ◌++◌}
+use Rattle.std.specs.Prelude.{◌≡◌, ℕ, ℤ, ◌/◌, ◌%◌, ◌≤◌, ◌<◌, ◌==◌, Bool, not, List, ◌∷◌, ◌++◌}
 use Rattle.std.specs.Fmt.{signed_decimal}
+use Rattle.glyph_paths.specs.Characters.{digit, space}
 use Rattle.ps_text.specs.Range.{IsNumber}
 
 -- a byte that is no space
 abbrev pub is_field : ℕ → Bool
-is_field b = not (b == 32)
+is_field b = not (b == space)
 
 -- a text begins with a number of a page and a space
 pub record ReadsNumber (z : ℤ) (rest bytes : List ℕ) : Type 0 where
   pub number : IsNumber z
-  pub spelled : bytes ≡ signed_decimal z ++ 32 ∷ rest
+  pub spelled : bytes ≡ signed_decimal z ++ space ∷ rest
 
 -- a byte past 7E is shown by a first octal digit and two more at the front of
 -- a text
 pub record IsOctal (z : ℕ) (rest : List ℕ) (first : ℕ) (bytes : List ℕ) : Type 0 where
   pub low : 160 ≤ z
   pub high : z < 256
-  pub leading : first ≡ 48 + z / 64
-  pub others : bytes ≡ (48 + z / 8 % 8) ∷ (48 + z % 8) ∷ rest
+  pub leading : first ≡ digit (z / 64)
+  pub others : bytes ≡ digit (z / 8 % 8) ∷ digit (z % 8) ∷ rest

@@ -23,6 +23,3 @@ pub use prolog::put_prolog;
 pub use reading::read_op;
 pub use sheet::{Frame, Item, Page, Sheet, Staff};
 pub use writing::write_op;
-
-#[cfg(test)]
-mod tests;

@@ -1,6 +1,7 @@
 ghost use Rattle.std.specs.Prelude.{◌≡◌, ◌≤◌, ◌++◌, ◌∷◌, ◌-ℤ◌, ◌≤ℤ◌, pos, negsuc, ℕ, ℤ, List, Some, true, if◌then◌else◌, IfOk, IsTrue, MatchOption, length, ◌==◌, ◌↔◌};
 ghost use Rattle.std.specs.List.{AllByRecursion, flat_map, list_all};
 ghost use Rattle.std.specs.Str.{bytes_eq};
+ghost use Rattle.glyph_paths.specs.Characters.{close_parenthesis, space};
 ghost use Rattle.glyph_paths.specs.Names.{glyph_name};
 ghost use Rattle.glyph_paths.specs.Procedure.{numbers};
 ghost use Rattle.ps_text.specs.declared.marks.PageMark.{PageMark};
@@ -15,6 +16,7 @@ use crate::scanning::take_numbers;
 use crate::words::take_words;
 use crate::writing::write_op;
 use glyph_paths::{all_glyphs, name_of};
+use mus_units::bytes::is_same;
 use mus_units::{Glyph, Memory, Size, Text, Way};
 use std::alloc::Global;
 
@@ -32,12 +34,6 @@ fn narrowed(z: i64) -> i32
     ensures { result ≡ z }
 {
     z as i32
-}
-
-fn is_same(bytes: &[u8], others: &[u8]) -> bool
-    ensures { result ≡ bytes_eq bytes.now others.now }
-{
-    bytes == others
 }
 
 /// The glyph of a name.
@@ -264,7 +260,7 @@ fn mark_without_words(alloc: Global, line: &[u8], y: i64) -> Result<Option<PageM
 /// The mark that a line may be of which this stands behind the opening parenthesis.
 fn mark_of_words(alloc: Global, line: &[u8]) -> Result<Option<PageMark>, Memory>
     ensures { IfOk result (λ o. (words : List ℕ) (zs : List ℤ) (name : List ℕ) → IsTrue (list_all is_shown words) → AllByRecursion IsNumber zs → list_all is_field name ≡ true
-        → line.now ≡ flat_map shown words ++ 41 ∷ 32 ∷ (numbers zs ++ name) → o ≡ words_from words zs name) }
+        → line.now ≡ flat_map shown words ++ close_parenthesis ∷ space ∷ (numbers zs ++ name) → o ≡ words_from words zs name) }
 {
     let (text, rest) = take_words(alloc, line)?;
     let [_, _, rest @ ..] = rest else {

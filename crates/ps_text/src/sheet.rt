@@ -3,7 +3,7 @@ use mus_units::{Row, Size, Text};
 
 /// The paper: its width and height in points, its left and bottom margins in
 /// u, and its scale in percent, 40 to 150.
-#[derive(Clone, Copy, Debug, PartialEq, Eq)]
+#[derive(Clone, Copy, PartialEq, Eq)]
 pub struct Frame {
     pub wide: u32,
     pub high: u32,
@@ -14,7 +14,7 @@ pub struct Frame {
 
 /// A staff: the height of its lowest line, the length of its lines (1 to
 /// 2^31), both in u, and its marks in the order in which they are drawn.
-#[derive(Debug, Drop)]
+#[derive(Drop)]
 pub struct Staff {
     pub y: i64,
     pub width: u32,
@@ -22,7 +22,7 @@ pub struct Staff {
 }
 
 /// What stands on a page.
-#[derive(Debug, Drop)]
+#[derive(Drop)]
 pub enum Item {
     /// Tune `ordinal`, from 1, begins here.
     Tune {
@@ -44,13 +44,13 @@ pub enum Item {
 }
 
 /// A page, with its items from the top.
-#[derive(Debug, Drop)]
+#[derive(Drop)]
 pub struct Page {
     pub items: Row<Item>,
 }
 
 /// A whole document.
-#[derive(Debug, Drop)]
+#[derive(Drop)]
 pub struct Sheet {
     pub frame: Frame,
     pub pages: Row<Page>,

@@ -1,5 +1,6 @@
 ghost use Rattle.std.specs.Prelude.{◌≡◌, ℕ, ◌<◌, ◌≤◌, ◌+◌, ◌/◌, ◌%◌, ◌++◌, ◌∷◌, [], List, Some, IfSome, IfOk, IsSomeAnd, IsNone, length, IsTrue};
 ghost use Rattle.std.specs.List.{flat_map, list_all};
+ghost use Rattle.glyph_paths.specs.Characters.{backslash, close_parenthesis, digit};
 ghost use Rattle.ps_text.specs.Fields.{is_special, shown, in_parentheses};
 ghost use Rattle.ps_text.specs.Range.{is_shown, IsWords};
 ghost use Rattle.ps_text.specs.Scanning.{IsOctal};
@@ -8,7 +9,7 @@ use mus_units::{Memory, Text};
 use std::alloc::Global;
 
 fn octal(a: u8, b: u8, c: u8) -> Option<u8>
-    ensures { (z : ℕ) → 160 ≤ z → z < 256 → a ≡ 48 + z / 64 → b ≡ 48 + z / 8 % 8 → c ≡ 48 + z % 8 → result ≡ Some z }
+    ensures { (z : ℕ) → 160 ≤ z → z < 256 → a ≡ digit (z / 64) → b ≡ digit (z / 8 % 8) → c ≡ digit (z % 8) → result ≡ Some z }
 {
     if !(b'2' <= a && a <= b'3') {
         return None;
@@ -47,7 +48,7 @@ fn take_octal(a: u8, bytes: &[u8]) -> Option<(u8, &[u8])>
 /// and what follows it.
 fn take_escaped(bytes: &[u8]) -> Option<(u8, &[u8])>
     ensures shorter { IfSome result (λ r. length r.1.now < length bytes.now) }
-    ensures reads { (b : ℕ) (rest : List ℕ) → IsTrue (is_shown b) → 92 ∷ bytes.now ≡ shown b ++ rest → IsSomeAnd result (λ r. (r.0 ≡ b) × (r.1.now ≡ rest)) }
+    ensures reads { (b : ℕ) (rest : List ℕ) → IsTrue (is_shown b) → backslash ∷ bytes.now ≡ shown b ++ rest → IsSomeAnd result (λ r. (r.0 ≡ b) × (r.1.now ≡ rest)) }
 {
     match bytes {
         [] => None,
@@ -66,7 +67,7 @@ fn take_escaped(bytes: &[u8]) -> Option<(u8, &[u8])>
 fn take_shown(bytes: &[u8]) -> Option<(u8, &[u8])>
     ensures shorter { IfSome result (λ r. length r.1.now < length bytes.now) }
     ensures reads { (b : ℕ) (rest : List ℕ) → IsTrue (is_shown b) → bytes.now ≡ shown b ++ rest → IsSomeAnd result (λ r. (r.0 ≡ b) × (r.1.now ≡ rest)) }
-    ensures ends { (rest : List ℕ) → bytes.now ≡ 41 ∷ rest → IsNone result }
+    ensures ends { (rest : List ℕ) → bytes.now ≡ close_parenthesis ∷ rest → IsNone result }
 {
     match bytes {
         [] => None,
@@ -81,7 +82,7 @@ fn take_shown(bytes: &[u8]) -> Option<(u8, &[u8])>
 /// The words at the front of these bytes, and what stands from their closing
 /// parenthesis on.
 pub fn take_words(alloc: Global, bytes: &[u8]) -> Result<(Text, &[u8]), Memory>
-    ensures { IfOk result (λ r. (words : List ℕ) (tail : List ℕ) → IsTrue (list_all is_shown words) → bytes.now ≡ flat_map shown words ++ 41 ∷ tail → (r.0 ≡ words) × (r.1.now ≡ 41 ∷ tail)) }
+    ensures { IfOk result (λ r. (words : List ℕ) (tail : List ℕ) → IsTrue (list_all is_shown words) → bytes.now ≡ flat_map shown words ++ close_parenthesis ∷ tail → (r.0 ≡ words) × (r.1.now ≡ close_parenthesis ∷ tail)) }
 {
     let mut text = Text::new(alloc);
     let mut rest = bytes;

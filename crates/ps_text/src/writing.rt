@@ -44,7 +44,7 @@ fn put_stem(out: &mut Text, x: i64, dx: i64, from: i64, to: i64, y: i64) -> Resu
 }
 
 /// The points at the two ends of a beam or an arc, and those above them.
-#[derive(Clone, Copy, Debug, PartialEq, Eq)]
+#[derive(Clone, Copy, PartialEq, Eq)]
 pub struct Ends {
     pub left: i64,
     pub left_above: i64,

@@ -7,6 +7,3 @@ pub mod whole;
 
 pub use steps::{DocError, DocWriter, begin, finish, page};
 pub use whole::write_document;
-
-#[cfg(test)]
-mod tests;

@@ -23,7 +23,7 @@ pub enum DocError {
 }
 
 /// A document on its way: how many pages and how many bytes were written.
-#[derive(Debug, Drop)]
+#[derive(Drop)]
 pub struct DocWriter {
     pub pages: u32,
     pub written: u64,

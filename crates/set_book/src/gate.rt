@@ -5,7 +5,7 @@ pub trait Gate {
 }
 
 /// A gate that does nothing.
-#[derive(Clone, Copy, Debug, PartialEq, Eq)]
+#[derive(Clone, Copy, PartialEq, Eq)]
 pub struct Open;
 
 impl Gate for Open {

@@ -8,7 +8,4 @@ pub mod setting;
 
 pub use gate::{Gate, Open};
 pub use outcome::Outcome;
-pub use setting::{set_all, set_tunes};
-
-#[cfg(test)]
-mod tests;
+pub use setting::{one_outcome, set_all, set_tunes};

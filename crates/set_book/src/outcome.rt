@@ -3,7 +3,7 @@ use set_tune::SetTune;
 
 /// What came of a tune: its place among the tunes of the book, from 1, and the tune as it is set, or
 /// its one fault.
-#[derive(Debug, Drop)]
+#[derive(Drop)]
 pub struct Outcome {
     pub ordinal: u32,
     pub result: Result<SetTune, Fault>,

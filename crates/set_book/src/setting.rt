@@ -3,6 +3,7 @@ ghost use Rattle.abc_lines.specs.Good.{IsGoodBook, IsGoodTune};
 ghost use Rattle.abc_header.specs.Defaults.{defaults_of};
 ghost use Rattle.abc_header.specs.Good.{IsGoodDefaults};
 ghost use Rattle.abc_header.specs.Papers.{IsGoodPaper};
+ghost use Rattle.set_book.specs.Once.{HaveOneOutcome};
 ghost use Rattle.set_book.specs.Outcomes.{AreOutcomes, IsOutcome};
 
 use crate::gate::Gate;
@@ -98,3 +99,9 @@ pub fn set_all<R: Threads + Sync, G: Gate + Sync>(
     let outcomes = set_tunes(rt, alloc, tunes, &defaults, paper, flow, jobs, gate)?;
     Ok(outcomes)
 }
+
+/// The law that a tune has one outcome: it is set in one way or has one fault, and never both. So
+/// what comes of the tunes of a book is the same for every number of jobs.
+pub fn one_outcome()
+    ensures { HaveOneOutcome }
+{}

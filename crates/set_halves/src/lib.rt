@@ -8,6 +8,3 @@
 pub mod halves;
 
 pub use halves::{Work, work_all};
-
-#[cfg(test)]
-mod tests;

@@ -1,12 +1,8 @@
 -- The breakings of a tune's entry are the legal breakings of its score.
-use Rattle.std.proofs.Common.{◌≡◌, ℕ, ◌≤◌, List, [], ◌∷◌, map, length, Option, Some, None, IsSome, arith, refl, sym}
+use Rattle.std.proofs.Common.{◌≡◌, ℕ, ◌≤◌, List, [], ◌∷◌, length, Option, Some, None, IsSome, arith, refl, sym}
 use Rattle.std.proofs.lemmas.Bool.{true≢false}
 use Rattle.mus_score.specs.declared.score.Score.{Score}
-use Rattle.mus_time.specs.declared.keys.ColumnKey.{ColumnKey}
-use Rattle.mus_time.specs.Keys.{called_keys}
-use Rattle.mus_time.specs.Onsets.{timeline_of}
 use Rattle.mus_laid.specs.declared.laid.SystemMarks.{SystemMarks}
-use Rattle.mus_marks.specs.System.{staff_of}
 use Rattle.lay_springs.specs.Place.{length_at, reach_at}
 use Rattle.lay_springs.proofs.Ends as springs
 use Rattle.lay_springs.proofs.Longer.{stands}
@@ -16,26 +12,11 @@ use Rattle.lay_columns.specs.Columns.{column_reach}
 use Rattle.lay_breaks.specs.declared.costs.Span.{Span}
 use Rattle.lay_breaks.specs.Breaking.{FitsFrom, RisesFrom, last_from}
 use Rattle.lay_breaks.specs.Spans.{AreSpans, listed}
-use Rattle.lay_tune.specs.Spans.{AreSpansOf, CanStandIn, IsForceOf, IsSystem, column_length, score_gaps, system_columns}
+use Rattle.lay_tune.specs.Spans.{AreSpansOf, CanStandIn, IsForceOf, column_length, score_gaps, system_columns}
 use Rattle.lay_tune.specs.Systems.{AllSpans}
+use Rattle.set_book.specs.Once.{HaveOneOutcome, IsOneSystem}
 use Rattle.set_lists.specs.Laws.{BreakingsOfListing, CanBeSystem}
-use Rattle.set_lists.proofs.Sorting.{are_sorted, sorted}
 use Rattle.set_lists.proofs.Told.{listed_within, unforced}
-
--- the keys of a system, and its marks
-abbrev called_in : Score → ℕ → ℕ → List ColumnKey
-called_in s a b = sorted (called_keys s (timeline_of s).lengths a b)
-
-abbrev marks_of : Score → ℕ → ℕ → SystemMarks
-marks_of s a b = record {
-  a = a;
-  b = b;
-  keys = called_in s a b;
-  staves = map (staff_of (called_in s a b) (timeline_of s).lengths a b) s.voices;
-}
-
-is_system : (s : Score) (a b : ℕ) → IsSystem s a b (marks_of s a b)
-is_system s a b = record { from = refl; to = refl; keys = are_sorted (called_keys s (timeline_of s).lengths a b); staves = refl }
 
 -- columns that can be pressed by a force can stand
 can_stand : (gaps : List ℕ) (width : ℕ) (columns : List Column) (force : ℕ) → IsForceOf gaps width columns force → CanStandIn gaps width columns
@@ -71,16 +52,16 @@ module _ (s : Score) (width : ℕ) (spans : List Span) (form : AreSpans s.measur
   all_can_be a [] h = tt
   all_can_be a (b ∷ bs) h = (can_be a b h.0, all_can_be b bs h.1)
 
-  all_fit : (a : ℕ) (bs : List ℕ) → RisesFrom a bs → last_from a bs ≤ s.measures → AllSpans (CanBeSystem s width) a bs → FitsFrom (listed spans) a bs
-  all_fit a [] rises within h = tt
-  all_fit a (b ∷ bs) rises within h = (
-    exact.fits a b (marks_of s a b) rises.0 (let l = rises_to b bs rises.1 in omega (arith, l, within)) h.0.free (is_system s a b)
-        (h.0.stands (marks_of s a b) (is_system s a b)),
-    all_fit b bs rises.1 within h.1,
-  )
+  all_fit : ((a b : ℕ) → (m : SystemMarks) × IsOneSystem s a b m) → (a : ℕ) (bs : List ℕ) → RisesFrom a bs → last_from a bs ≤ s.measures → AllSpans (CanBeSystem s width) a bs → FitsFrom (listed spans) a bs
+  all_fit system a [] rises within h = tt
+  all_fit system a (b ∷ bs) rises within h =
+      let m = system a b in (
+        exact.fits a b m.0 rises.0 (let l = rises_to b bs rises.1 in omega (arith, l, within)) h.0.free m.1.is (h.0.stands m.0 m.1.is),
+        all_fit system b bs rises.1 within h.1,
+      )
 
-pub breakings_of_listing : BreakingsOfListing
-breakings_of_listing s width spans form exact breaks = (
+pub breakings_of_listing : HaveOneOutcome → BreakingsOfListing
+breakings_of_listing one s width spans form exact breaks = (
   (λ h.
       let forced = (unforced s width spans form exact breaks s.measures).1 h in record {
         rises = h.rises;
@@ -92,6 +73,6 @@ breakings_of_listing s width spans form exact breaks = (
     rises = h.rises;
     ends = h.ends;
     every_forced = λ f l t. absurd (true≢false (sym t));
-    fits = all_fit s width spans form exact 0 breaks h.rises (let e = h.ends in omega (arith, e)) h.fits;
+    fits = all_fit s width spans form exact (one.system s) 0 breaks h.rises (let e = h.ends in omega (arith, e)) h.fits;
   }),
 )

@@ -1,6 +1,6 @@
 pub mod Entries
+pub mod Exact
 pub mod Finding
 pub mod Legal
 pub mod Numbers
-pub mod Sorting
 pub mod Told

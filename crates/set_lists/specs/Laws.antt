@@ -1,9 +1,13 @@
 -- The laws of the listing of a book.
-use Rattle.std.specs.Prelude.{◌≡◌, ℕ, ◌<◌, ◌≤◌, ◌^◌, ◌↔◌, ⊤, Bool, true, List, [], ◌∷◌, length, Contains}
+use Rattle.std.specs.Prelude.{◌≡◌, ℕ, ◌<◌, ◌≤◌, ◌^◌, ◌↔◌, ⊤, Bool, true, All, List, [], ◌∷◌, length, Contains, Result, Ok, Err}
 use Rattle.abc_lines.specs.declared.book.TuneText.{TuneText}
+use Rattle.abc_lines.specs.declared.fault.Fault.{Fault}
+use Rattle.abc_lines.specs.declared.fault.FaultKind.TheVariants as faults
 use Rattle.abc_lines.specs.Books.{book_of}
 use Rattle.abc_header.specs.declared.defaults.Defaults.{Defaults}
+use Rattle.abc_header.specs.declared.header.Header.{Header}
 use Rattle.abc_header.specs.declared.paper.Paper.{Paper}
+use Rattle.abc_header.specs.Papers.{width_of}
 use Rattle.mus_score.specs.declared.score.Score.{Score}
 use Rattle.mus_laid.specs.declared.laid.SystemMarks.{SystemMarks}
 use Rattle.lay_breaks.specs.declared.costs.Span.{Span}
@@ -13,8 +17,10 @@ use Rattle.lay_spans.specs.Forced.{ForcedInside}
 use Rattle.lay_tune.specs.Spans.{AreSpansOf, CanStandIn, IsSystem, is_forced_in, score_gaps, system_columns}
 use Rattle.lay_tune.specs.Systems.{AllSpans}
 use Rattle.lay_cert.specs.Listing.{IsListing, none_forced}
+use Rattle.set_tune.specs.declared.tune.SetTune.{SetTune}
+use Rattle.set_tune.specs.Setting.{HasScore, layout_fault}
 use Rattle.set_book.specs.declared.outcome.Outcome.{Outcome}
-use Rattle.set_book.specs.Outcomes.{AreOutcomes}
+use Rattle.set_book.specs.Outcomes.{AreOutcomes, IsOutcome}
 use Rattle.set_lists.specs.Listing.{AreListable, entries_of, listing_text}
 
 -- the numbers of the tunes rise, the first past k, and have 32 bits
@@ -55,3 +61,28 @@ pub record IsLegalIn (s : Score) (width : ℕ) (breaks : List ℕ) : Type 0 wher
 abbrev pub BreakingsOfListing : Type 0
 BreakingsOfListing = (s : Score) (width : ℕ) (spans : List Span) → AreSpans s.measures spans → AreSpansOf s width spans
     → (breaks : List ℕ) → IsLegal (listed spans) none_forced breaks s.measures ↔ IsLegalIn s width breaks
+
+-- The breakings of the entry of a tune that is set are the legal breakings of its score on this width.
+abbrev pub HasItsBreakings : ℕ → Result SetTune Fault → Type 0
+HasItsBreakings width (Ok t) = (breaks : List ℕ) → IsLegal (listed t.spans) none_forced breaks t.score.measures ↔ IsLegalIn t.score width breaks
+HasItsBreakings width (Err fault) = ⊤
+
+-- The text is a listing of the tunes that are set, and the breakings that it lists are those of their scores.
+pub record ListsTheScores (paper : Paper) (text : List ℕ) (outcomes : List Outcome) : Type 0 where
+  pub listing : IsListing text (entries_of outcomes)
+  pub breakings : All (λ outcome. HasItsBreakings (width_of paper) outcome.result) outcomes
+
+-- what is written of a book is such a listing
+abbrev pub ListsTheBook : Type 0
+ListsTheBook = (bytes : List ℕ) (defaults : Defaults) (paper : Paper) (flow : Bool) (outcomes : List Outcome) → length bytes ≤ 2 ^ 30
+    → AreOutcomes defaults paper flow (book_of bytes).tunes outcomes → ListsTheScores paper (listing_text outcomes) outcomes
+
+-- the tune is told that it has no way: legal breakings of its first measures go up to some bar, and none to the last
+abbrev pub HasNoWay : TuneText → Outcome → Type 0
+HasNoWay tune outcome = (reached : ℕ) × (outcome.result ≡ Err (layout_fault tune (faults.NoWay reached)))
+
+-- A tune that has a score is told that it has no way exactly where its score has no legal breaking on the width of the body.
+abbrev pub NoWayIsExact : Type 0
+NoWayIsExact = (tune : TuneText) (defaults : Defaults) (paper : Paper) (flow : Bool) (header : Header) (score : Score) (outcome : Outcome)
+    → HasScore tune defaults flow header score → IsOutcome defaults paper flow tune outcome
+    → HasNoWay tune outcome ↔ ((breaks : List ℕ) → IsLegalIn score (width_of paper) breaks → ⊥)

@@ -1,7 +1,6 @@
 ghost use Rattle.std.specs.Prelude.{◌≡◌, [], ◌++◌, OnOk};
 ghost use Rattle.lay_cert.specs.Lines.{lines_then};
 ghost use Rattle.lay_cert.specs.Listing.{entry_lines};
-ghost use Rattle.set_lists.specs.Laws.{BookRises, BreakingsOfListing, ListsTheSet, OutcomesAreListable};
 ghost use Rattle.set_lists.specs.Listing.{AreListable, CanBeListed, IsListable, entry_of, listing_text, outcome_text, outcomes_text};
 
 use lay_cert::{put_end, put_entry, put_heading};
@@ -50,23 +49,3 @@ pub fn put_listing(out: &mut Text, outcomes: &[Outcome]) -> Result<(), Memory>
     put_end(out)?;
     Ok(())
 }
-
-/// The law that the numbers of a book's tunes rise.
-pub fn book_rises()
-    ensures { BookRises }
-{}
-
-/// The law that what comes of tunes can be listed.
-pub fn outcomes_are_listable()
-    ensures { OutcomesAreListable }
-{}
-
-/// The law that what `put_listing` writes of tunes whose numbers rise is a listing.
-pub fn lists_the_set()
-    ensures { ListsTheSet }
-{}
-
-/// The law that the breakings of a tune's entry are the legal breakings of its score.
-pub fn breakings_of_listing()
-    ensures { BreakingsOfListing }
-{}

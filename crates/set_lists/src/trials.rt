@@ -7,7 +7,7 @@ use set_book::Outcome;
 
 /// What a trial of a book tells: how many tunes it has, how many of them are set and how many
 /// refused, how many systems, pages and bytes these make, and what all breakings cost together.
-#[derive(Clone, Copy, Debug, PartialEq, Eq)]
+#[derive(Clone, Copy, PartialEq, Eq)]
 pub struct Trial {
     pub tunes: u64,
     pub set: u64,

@@ -13,6 +13,3 @@ pub use press::{Press, close_press, open_press, press_outcomes, sheet_of_press, 
 pub use ps_text::{Frame, Item, Page, Sheet};
 pub use set_book::Outcome;
 pub use sheet::{frame_of, sheet_for};
-
-#[cfg(test)]
-mod tests;

@@ -10,7 +10,7 @@ use std::mem::replace;
 
 /// Pages as they are filled: how many were given up, those that are done behind them, and what
 /// stands on the one that comes next.
-#[derive(Debug, Drop)]
+#[derive(Drop)]
 pub(crate) struct Pages {
     pub(crate) gone: u32,
     pub(crate) done: Row<Page>,

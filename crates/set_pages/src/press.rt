@@ -21,7 +21,7 @@ use std::mem::replace;
 /// The pages of a book while its tunes are set, one list of outcomes after another: those that are
 /// done and were not given up, what stands on the one behind them, and the last block with its
 /// place. What was set need not be kept once it is pressed.
-#[derive(Debug, Drop)]
+#[derive(Drop)]
 pub struct Press {
     pub(crate) pages: Pages,
     pub(crate) behind: Option<Standing>,

@@ -10,6 +10,3 @@ pub use mus_laid::{Laid, Lane, Mark, StaffMarks, SystemMarks};
 pub use mus_units::Memory;
 pub use ps_text::{Item, PageMark, Staff};
 pub use systems::system_item;
-
-#[cfg(test)]
-mod tests;

@@ -13,6 +13,3 @@ pub use lay_springs::Placed;
 pub use mus_laid::SystemMarks;
 pub use setting::set;
 pub use tune::SetTune;
-
-#[cfg(test)]
-mod tests;

@@ -10,7 +10,7 @@ use mus_units::Row;
 /// measures that fit a system, each with its badness, and the breaking that is chosen among them;
 /// and for each span of the breaking, in order, the marks of the system, where its columns stand,
 /// in u from the left, and how its staves are stacked.
-#[derive(Debug, Drop)]
+#[derive(Drop)]
 pub struct SetTune {
     pub header: Header,
     pub score: Score,

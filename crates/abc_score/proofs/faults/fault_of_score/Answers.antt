@@ -1,4 +1,4 @@
-use Rattle.std.proofs.Common.{List, subst, sym}
+use Rattle.std.proofs.Common.{◌∙◌, ◌++◌, List, ap, subst, sym}
 use Rattle.std.specs.Prelude.{flat_map}
 use Rattle.abc_faults.specs.declared.weights.Weight.{Weight}
 use Rattle.abc_faults.specs.First.{IsFirst}
@@ -11,6 +11,7 @@ pub returns : goal.returns
 returns c =
     let own = flat_map (voice_faults c.args.unnamed.now c.args.items.now) c.args.voices.now in
     let weights = flat_map voice_weights c.args.voices.now in
-    let of_own = subst (IsFirst own) (sym c.in_ok-own.ensures) (first_is own) in
-    let of_crowd = subst (λ (ws : List Weight). IsFirst (crowded ws) c.in_ok-crowd.crowd) c.in_ok-weights_of.ensures c.in_ok-crowd.ensures.first in
+    let of_own = subst (IsFirst own) (sym c.in_ok-own.ensures.fault) (first_is own) in
+    let gathered = c.in_ok-own.ensures.weights ∙ ap (λ (ws : List Weight). ws ++ weights) c.new-weights.ensures in
+    let of_crowd = subst (λ (ws : List Weight). IsFirst (crowded ws) c.in_ok-crowd.crowd) gathered c.in_ok-crowd.ensures.first in
     c.earlier.ensures.joined own (crowded weights) of_own of_crowd

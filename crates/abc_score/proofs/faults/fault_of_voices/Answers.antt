@@ -2,7 +2,8 @@ use Rattle.std.proofs.Common.{◌∙◌, ◌+◌, ◌∷◌, drop, ap, sym}
 use Rattle.std.proofs.lemmas.List.{drop_more}
 use Rattle.std.specs.Prelude.{flat_map}
 use Rattle.abc_faults.proofs.Firsts.{found_more}
-use Rattle.abc_score.specs.Faults.{voice_faults}
+use Rattle.abc_faults.proofs.Walks.{weigh_more}
+use Rattle.abc_score.specs.Faults.{voice_faults, voice_weights}
 use Rattle.abc_score.proofs.faults.fault_of_voices.Goals as goal
 
 pub loop-v-preserved : goal.loop-v-preserved
@@ -13,4 +14,7 @@ loop-v-preserved c =
     let i = c.loop-v.v-index in
     let rest = flat_map of (drop (i + 1) voices) in
     let cut = drop_more voices i v c.loop-v-test.true ∙ ap (λ x. x ∷ drop (i + 1) voices) (sym c.v-item.is) in
-    found_more (of v) rest (flat_map of (drop i voices)) c.loop-v.found c.in_ok-voice_fault.field-0 c.earlier-found.result _ (ap (flat_map of) cut) c.in_ok-voice_fault.ensures c.earlier-found.ensures.value c.loop-v.invariant
+    record {
+      found = found_more (of v) rest (flat_map of (drop i voices)) c.loop-v.found c.in_ok-voice_fault.field-0 c.earlier-found.result _ (ap (flat_map of) cut) c.in_ok-voice_fault.ensures.fault c.earlier-found.ensures.value c.loop-v.invariant.found;
+      weights = weigh_more (voice_weights v) (flat_map voice_weights (drop (i + 1) voices)) (flat_map voice_weights (drop i voices)) c.loop-v.weights _ _ (ap (flat_map voice_weights) cut) c.in_ok-voice_fault.ensures.weights c.loop-v.invariant.weights;
+    }

@@ -6,8 +6,8 @@ use Rattle.abc_words.specs.Verses.{verse_fault, verse_faults}
 use Rattle.abc_score.proofs.Verses.{verse_first}
 use Rattle.abc_score.proofs.faults.voice_fault.Goals as goal
 
-pub returns : goal.returns
-returns c =
+pub returns-clause-fault : goal.returns-clause-fault
+returns-clause-fault c =
     let own = faults_in c.args.v.now.first [] c.args.v.now.steps in
     let verses = verse_faults c.args.v.now.start.id c.args.unnamed.now c.args.items.now in
     c.earlier.ensures.value

@@ -4,7 +4,7 @@ use Rattle.glyph_paths.specs.Procedure.{numbers}
 use Rattle.ps_text.specs.Fields.{shown}
 use Rattle.ps_text.specs.Names.{size_name}
 use Rattle.ps_read.specs.Titles.{title_of}
-use Rattle.ps_read.proofs.Words.{after_prefix}
+use Rattle.eng_lines.proofs.Words.{after_prefix}
 use Rattle.ps_read.proofs.Forms.{title_numbers, title_form, small_number, size_is_field}
 use Rattle.ps_read.proofs.lines.scan_title.Goals as goal
 

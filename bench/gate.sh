@@ -1,0 +1,174 @@
+#!/bin/sh
+# Runs the gate from nothing (rt ci --anew; other words are handed to rt ci), and
+# prints what each crate took: processor minutes of its proof, of the proof and
+# build of its tests, and of its must-fail edits with what they begin with, and
+# the most memory that one of its processes held. Then the sum, of all crates and
+# of those that the program stands on. With --sizes it runs nothing, and prints
+# the lines of each crate's code, definitions and proofs, and its edits.
+#
+# A process's time is read four times a second until it ends, so each row lacks
+# the last moment of each process; the last line is the system's own count.
+set -eu
+cd "$(dirname "$0")/.."
+exec python3 - "$@" <<'PYTHON'
+import glob, os, resource, subprocess, sys, time
+
+TICK = os.sysconf("SC_CLK_TCK")
+KINDS = ("proof", "tests", "edits")
+
+
+def crates():
+    """The crates in the order of crates.txt, each with what it uses."""
+    used = {}
+    with open("crates.txt", encoding="utf-8") as lines:
+        for line in lines:
+            head, colon, names = line.partition("#")[0].partition(":")
+            if colon:
+                used[head.split()[0]] = names.split()
+    return used
+
+
+def below(name, used):
+    """The crates that a crate stands on, and itself."""
+    found, rest = set(), [name]
+    while rest:
+        one = rest.pop()
+        if one in used and one not in found:
+            found.add(one)
+            rest += used[one]
+    return found
+
+
+def row(*cells):
+    print("|", " | ".join(str(it) for it in cells), "|", flush=True)
+
+
+def lines_of(pattern):
+    total = 0
+    for path in glob.glob(pattern, recursive=True):
+        with open(path, "rb") as it:
+            total += it.read().count(b"\n")
+    return total
+
+
+def sizes(used):
+    row("Crate", "Code", "Definitions", "Proofs", "Edits")
+    row("---", "---", "---", "---", "---")
+    sums = [0, 0, 0, 0]
+    for name in used:
+        at = f"crates/{name}"
+        counts = [lines_of(f"{at}/src/**/*.rt"), lines_of(f"{at}/specs/**/*.antt"), lines_of(f"{at}/proofs/**/*.antt")]
+        counts.append(len(glob.glob(f"{at}/must-fail/*.edit")))
+        sums = [a + b for a, b in zip(sums, counts)]
+        row(f"`{name}`", *counts)
+    row("all", *sums)
+
+
+def read(path):
+    try:
+        with open(path, "rb") as it:
+            return it.read()
+    except OSError:
+        return b""
+
+
+def processes():
+    """Each process by its number: its parent, when it began and its processor time, in ticks."""
+    found = {}
+    for entry in os.listdir("/proc"):
+        if entry.isdigit():
+            said = read(f"/proc/{entry}/stat").rpartition(b")")[2].split()
+            if len(said) > 19:
+                found[int(entry)] = int(said[1]), int(said[19]), int(said[11]) + int(said[12])
+    return found
+
+
+def work_of(pid):
+    """The crate and the kind of work that a process of rattle is at."""
+    words = read(f"/proc/{pid}/cmdline").decode(errors="replace").split("\0")
+    if "--crate-name" not in words:
+        return None
+    name = words[words.index("--crate-name") + 1]
+    try:
+        folder = os.readlink(f"/proc/{pid}/cwd")
+    except OSError:
+        folder = ""
+    if os.path.basename(folder).startswith("rt-edit-"):
+        return name, "edits"
+    return name, "tests" if "--test" in words else "proof"
+
+
+def most_memory(pid):
+    for line in read(f"/proc/{pid}/status").splitlines():
+        if line.startswith(b"VmHWM:"):
+            return int(line.split()[1]) / 1e6
+    return 0.0
+
+
+class Watch:
+    """What the processes below one process took, by crate and kind of work."""
+
+    def __init__(self, top):
+        self.top, self.works, self.times, self.memory = top, {}, {}, {}
+
+    def look(self):
+        found = processes()
+        for pid, (parent, begun, ticks) in found.items():
+            chain = [pid]
+            while parent in found and parent != self.top:
+                chain.append(parent)
+                parent = found[parent][0]
+            if parent != self.top:
+                continue
+            key = pid, begun
+            if key not in self.works:
+                works = (work_of(it) for it in chain)
+                self.works[key] = next((it for it in works if it), None)
+            self.times[key] = ticks
+            work = self.works[key]
+            if work:
+                self.memory[work[0]] = max(self.memory.get(work[0], 0.0), most_memory(pid))
+
+    def minutes(self, name, kind):
+        mine = (ticks for key, ticks in self.times.items() if self.works[key] == (name, kind))
+        return sum(mine) / TICK / 60
+
+
+def table(used, watch):
+    stands = below("abcps_main", used)
+    row("Crate", "Proof", "Tests", "Edits", "All", "GB")
+    row("---", "---", "---", "---", "---", "---")
+    sums, program = [0.0] * 3, 0.0
+    for name in used:
+        took = [watch.minutes(name, kind) for kind in KINDS]
+        sums = [a + b for a, b in zip(sums, took)]
+        program += took[0] if name in stands else 0.0
+        row(f"`{name}`", *(f"{it:.1f}" for it in (*took, sum(took))), f"{watch.memory.get(name, 0.0):.1f}")
+    row("all", *(f"{it:.1f}" for it in (*sums, sum(sums))), f"{max(watch.memory.values(), default=0.0):.1f}")
+    row("of these the proofs that the program stands on", f"{program:.1f}", "", "", "", "")
+
+
+def gate(words, used):
+    begun = time.monotonic()
+    run = subprocess.Popen(["rt", "ci", *words], stdout=sys.stderr)
+    watch = Watch(run.pid)
+    while run.poll() is None:
+        watch.look()
+        time.sleep(0.25)
+    took = resource.getrusage(resource.RUSAGE_CHILDREN)
+    table(used, watch)
+    print()
+    print(f"By the system's count {(took.ru_utime + took.ru_stime) / 60:.1f} processor minutes, in {(time.monotonic() - begun) / 60:.1f} minutes by the clock.")
+    return run.returncode
+
+
+def main(words):
+    used = crates()
+    if words == ["--sizes"]:
+        sizes(used)
+        return 0
+    return gate(words or ["--anew"], used)
+
+
+sys.exit(main(sys.argv[1:]))
+PYTHON

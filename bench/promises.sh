@@ -1,0 +1,302 @@
+#!/usr/bin/env bash
+# Checks docs/PROMISES.md, and the tables of README.md, against the sources. Of PROMISES.md, where each section is a crate:
+# each public call stands in a row; the clauses that a row names are clauses of its calls, and each named clause of a call
+# that has its own row is named; the definitions stand in specs; the edits are there, and each edit is named; the tests
+# are there. Of README.md: each crate has a row, and its calls and clauses are there; so are the clauses of the program.
+# Prints what is wrong, and ends with 1 where something is.
+#
+# usage: bench/promises.sh
+set -eu
+
+cd "$(dirname "$0")/.."
+exec python3 - <<'PYTHON'
+import glob, os, re, sys
+
+WRONG = []
+
+
+def wrong(crate, text):
+    WRONG.append(f"{crate}: {text}")
+
+
+def read(path):
+    with open(path, encoding="utf-8") as file:
+        return file.read()
+
+
+# ---- the sources -------------------------------------------------------------------------------------------------
+
+NAME = r"[A-Za-z_][A-Za-z0-9_]*"
+
+
+class Call:
+    def __init__(self, name, owner, trait, public, module):
+        self.name, self.owner, self.trait, self.public, self.module = name, owner, trait, public, module
+        self.of_trait = trait is not None and owner != trait
+        self.clauses, self.unnamed = [], 0
+
+
+def calls_of(path, module):
+    """The functions of a file, with the names of their ensures clauses; of traits also the laws."""
+    calls, owner, trait, call = [], None, None, None
+    for row in read(path).split("\n"):
+        if row.startswith("#[cfg(test)]"):
+            break
+        head = re.match(rf"pub trait ({NAME})", row)
+        if head:
+            owner, trait, call = head[1], head[1], None
+            TRAITS.add(trait)
+        head = re.match(rf"impl(?:<.*?>)? (?:({NAME})(?:<.*?>)? for )?({NAME})", row)
+        if head:
+            owner, trait, call = head[2], head[1], None
+        if row.startswith("}"):
+            owner, trait, call = None, None, None
+        head = re.match(rf"\s*(pub )?(?:const )?fn ({NAME})", row)
+        if head:
+            public = head[1] is not None or (trait is not None and owner == trait)
+            call = Call(head[2], owner, trait, public, module)
+            calls.append(call)
+        clause = re.match(rf"\s*ensures ({NAME})? ?\{{", row)
+        if clause and call:
+            if clause[1]:
+                call.clauses.append(clause[1])
+            else:
+                call.unnamed += 1
+        law = re.match(rf"\s*ghost ({NAME}): \{{", row)
+        if law and trait and owner == trait:
+            LAWS.setdefault(trait, []).append(law[1])
+    return calls
+
+
+LAWS, TRAITS = {}, set()
+
+
+def crate_calls(crate):
+    root = read(sorted(glob.glob(f"crates/{crate}/src/lib.rt") + glob.glob(f"crates/{crate}/src/main.rt"))[0])
+    public = set(re.findall(rf"^pub mod ({NAME});", root, re.M))
+    given = set()
+    for module, names in re.findall(rf"^pub use (?:crate::)?({NAME})::(\{{[^}}]*\}}|[^;]*);", root, re.M | re.S):
+        given.update(re.findall(NAME, names))
+    calls = []
+    for path in sorted(glob.glob(f"crates/{crate}/src/**/*.rt", recursive=True)):
+        module = os.path.relpath(path, f"crates/{crate}/src")[:-3].split("/")[0]
+        if "test" in module:
+            continue
+        for call in calls_of(path, module):
+            seen = module in public or module in ("lib", "main") or call.name in given or call.owner in given
+            call.public = call.public and seen
+            calls.append(call)
+    return calls
+
+
+def tests_of():
+    tests = set()
+    for path in glob.glob("crates/*/src/**/*.rt", recursive=True):
+        tests.update(re.findall(rf"#\[test\]\s*(?:#\[[^\n]*\]\s*)*(?:pub )?fn ({NAME})", read(path)))
+    return tests
+
+
+def definitions_of():
+    """For each name of a file in specs or proofs the texts of the files of that name, with their crates."""
+    files = {}
+    for part in ("specs", "proofs"):
+        for path in glob.glob(f"crates/*/{part}/**/*.antt", recursive=True):
+            files.setdefault(os.path.basename(path)[:-5], []).append((path.split("/")[1], read(path)))
+    return files
+
+
+# ---- the document ------------------------------------------------------------------------------------------------
+
+def sections():
+    """The rows of each section that tell of calls or laws, and its other text. A row 'the same' goes on with the one before."""
+    crate, head, rows, other = None, [], {}, {}
+    lines = read("docs/PROMISES.md").split("\n")
+    for row, behind in zip(lines, lines[1:] + [""]):
+        if row.startswith("## "):
+            crate = row[3:].strip()
+            rows[crate], other[crate] = [], []
+        elif crate and re.match(r"\|[- |]+\|$", row):
+            continue
+        elif crate and row.startswith("|"):
+            cells = [cell.strip() for cell in re.split(r"(?<!\\)\|", row)[1:-1]]
+            if re.match(r"\|[- |]+\|$", behind):
+                head = cells
+            elif head[0] not in ("Call", "Law"):
+                other[crate].append(row)
+            elif cells[0] == "the same":
+                for column, cell in zip(head[1:], cells[1:]):
+                    rows[crate][-1][column] += "; " + cell
+            else:
+                rows[crate].append(dict(zip(head, cells)))
+        elif crate:
+            other[crate].append(row)
+    return rows, other
+
+
+def code(cell):
+    return re.findall(r"`([^`]*)`", cell)
+
+
+def names(cell):
+    """The names of a list such as 'a, b; c: what it says': each at the beginning of its item."""
+    cell = re.sub(r"\([^()]*\)", "", re.sub(r"\([^()]*\)", "", cell)).replace("`", "")
+    found = []
+    for part in cell.split(";"):
+        for item in re.split(r",| and ", part.split(":")[0]):
+            item = re.match(rf"\s*(?:or )?({NAME})(?: each)?\s*$", item)
+            if item:
+                found.append(item[1])
+    return found
+
+
+# What the cell of clauses says of a call whose one clause has no name.
+FREE = {"one"}
+
+
+def calls_named(cell, calls):
+    """The names of a cell of calls, and the functions that they mean; 'Owner::name' means that of a type or trait, and a
+    bare name behind it may too."""
+    found, mine, owners = [], [], set()
+    for entry in code(cell):
+        parts = entry.split("::")
+        if not all(re.fullmatch(NAME, part) for part in parts) or parts[-1][0].isupper():
+            continue
+        if len(parts) > 1 and parts[0][0].isupper():
+            owners.add(parts[0])
+        found.append(parts[-1])
+        mine += [call for call in calls if call.name == parts[-1] and (call.owner in owners if owners else True)]
+    return found, mine
+
+
+def main():
+    (document, other), tests, files = sections(), tests_of(), definitions_of()
+    crates = sorted(os.path.basename(path) for path in glob.glob("crates/*") if os.path.isdir(path + "/src"))
+    everything = {crate: crate_calls(crate) for crate in crates}
+    listed_edits = set()
+    for crate in crates:
+        rows = document.get(crate)
+        text = "\n".join(other.get(crate, []))
+        public = [call for call in everything[crate] if call.public]
+        if rows is None:
+            if any(call for call in public if call.name != "main"):
+                wrong(crate, "has no section")
+            continue
+        told = set()
+        for row in rows:
+            calls, mine = calls_named(row.get("Call", ""), everything[crate])
+            told.update(calls)
+            laws = "".join(read(f"crates/{crate}/{path}") for path in code(row.get("Call", "")) if path.startswith("proofs/"))
+            for name in calls:
+                if name not in {call.name for call in mine} and not re.search(rf"^pub {name} :", laws, re.M):
+                    wrong(crate, f"no function '{name}' in its sources")
+            clauses = names(row.get("Clauses", ""))
+            have = {clause for call in mine for clause in call.clauses}
+            have |= {law for call in mine for law in LAWS.get(call.trait, [])}
+            cited = [entry.split(".")[0] for entry in code(row.get("Definitions", ""))]
+            fields = {field for file in cited for _, spec in files.get(file, []) for field in re.findall(rf"^  pub ({NAME}) :", spec, re.M)}
+            unnamed = any(call.unnamed for call in mine)
+            for clause in clauses:
+                if clause in FREE and clause not in have:
+                    if not unnamed:
+                        wrong(crate, f"{', '.join(calls)}: the row says '{clause}', but each clause has a name")
+                elif clause not in have and clause not in fields:
+                    wrong(crate, f"{', '.join(calls)}: no clause '{clause}'")
+            if clauses and not re.search("the same|steps|the trait", row["Clauses"]):
+                for clause in sorted({clause for call in mine for clause in call.clauses if not call.of_trait} - set(clauses)):
+                    wrong(crate, f"{', '.join(calls)}: the clause '{clause}' isn't named")
+            for entry in code(row.get("Definitions", "")):
+                check_definition(crate, entry, files, "std's" in row["Definitions"])
+            for edit in names(row.get("Edits", "")):
+                listed_edits.add((crate, edit))
+                if not os.path.exists(f"crates/{crate}/must-fail/{edit}.edit"):
+                    wrong(crate, f"{', '.join(calls)}: no edit '{edit}'")
+            check_tests(crate, calls, row.get("Test", ""), tests)
+        told.update(re.findall(NAME, " ".join(code(text))))
+        for call in public:
+            if call.name not in told and call.name != "main":
+                wrong(crate, f"the public call '{call.name}' ({call.module}) isn't listed")
+        for path in sorted(glob.glob(f"crates/{crate}/must-fail/*.edit")):
+            edit = os.path.basename(path)[:-5]
+            if (crate, edit) not in listed_edits:
+                wrong(crate, f"the edit '{edit}' isn't named")
+    for section in document:
+        if section not in crates:
+            wrong(section, "has a section, but is no crate")
+    check_readme(crates, everything, files)
+    if WRONG:
+        print("\n".join(WRONG))
+    print(f"docs/PROMISES.md and README.md: {len(WRONG)} wrong")
+    sys.exit(1 if WRONG else 0)
+
+
+def cases_of(program):
+    """The names that a program of tests has its cases by: the tables in its data, the first word of each row there, and its
+    modules."""
+    cases = {os.path.basename(path)[:-3] for path in glob.glob(f"crates/{program}/src/*.rt")}
+    for path in glob.glob(f"crates/{program}/data/*"):
+        cases.add(os.path.basename(path).split(".")[0])
+        cases.update(row.split()[0].strip(":|") for row in read(path).split("\n") if row.split())
+    return cases
+
+
+def check_tests(crate, calls, cell, tests):
+    """A test is a test function, a crate, or a case of the program of tests that is named before a colon."""
+    for part in cell.split(";"):
+        program = re.match(rf"\s*(?:by |through )?`({NAME})`: (.*)", part)
+        if program and os.path.isdir(f"crates/{program[1]}"):
+            for case in re.findall(rf"(?<![`A-Za-z_]){NAME}", re.sub("`[^`]*`", "", program[2]).split(", by ")[0].split(" (")[0]):
+                if case not in cases_of(program[1]):
+                    wrong(crate, f"{', '.join(calls)}: no case '{case}' of {program[1]}")
+            continue
+        for test in names(part):
+            if "_" in test and test not in tests and not os.path.isdir(f"crates/{test}"):
+                wrong(crate, f"{', '.join(calls)}: no test '{test}'")
+
+
+def check_readme(crates, everything, files):
+    """Of README's tables: each crate but those of tests and the program itself has a row, the calls of a row are of its
+    crates, and the clauses behind a call are clauses of it; the clauses of the promises are those of the top call."""
+    fields = {field for part in ("abcps", "set_tune") for path in glob.glob(f"crates/{part}/specs/*.antt") for field in re.findall(rf"^  pub ({NAME}) :", read(path), re.M)}
+    laws = {law for path in glob.glob("crates/abcps/proofs/*.antt") for law in re.findall(rf"^pub ({NAME}) :", read(path), re.M)}
+    lines, head, named = read("README.md").split("\n"), [], set()
+    for row, behind in zip(lines, lines[1:] + [""]):
+        cells = [cell.strip() for cell in re.split(r"(?<!\\)\|", row)[1:-1]]
+        if re.match(r"\|[-|]+\|$", behind):
+            head = cells
+        elif not row.startswith("|") or re.match(r"\|[-|]+\|$", row):
+            continue
+        elif head[-1] == "Clause":
+            for clause in code(cells[-1]):
+                if clause not in fields | laws:
+                    wrong("README.md", f"no clause '{clause}' of the program")
+        elif head[-1] == "Calls and their clauses":
+            mine = [call for crate in code(cells[0]) for call in everything.get(crate, [])]
+            named.update(code(cells[0]))
+            for part in cells[-1].split(";"):
+                calls = [call for call in mine if call.name in code(part)]
+                if code(part) and not calls:
+                    wrong("README.md", f"no call {part.strip()} in {cells[0]}")
+                for clause in re.findall(NAME, part.split(":")[1]) if ":" in part else []:
+                    if not any(clause in call.clauses for call in calls):
+                        wrong("README.md", f"no clause '{clause}' in {part.strip()} of {cells[0]}")
+    for crate in crates:
+        if crate not in named and not re.fullmatch(r"\w+_tests|(?:case|answer)_texts|abcps_(main|vectors|commands)", crate):
+            wrong("README.md", f"has no row for {crate}")
+    for crate in named - set(crates):
+        wrong("README.md", f"no crate {crate}")
+
+
+def check_definition(crate, entry, files, of_std):
+    """A name 'File.word' stands in a file of that name in specs or proofs; one without a point is a file there, a word of
+    one, or a trait of the sources; where the cell speaks of std, it may be a word of std."""
+    parts = entry.split(".")
+    if not all(re.fullmatch(NAME, part) for part in parts) or os.path.isdir(f"crates/{entry}"):
+        return
+    group = files.get(parts[0], []) if len(parts) == 2 else [one for group in files.values() for one in group]
+    stands = any(re.search(rf"(?<!\w){parts[-1]}(?!\w)", text) for _, text in group)
+    if not (stands or (len(parts) == 1 and (of_std or parts[0] in files or parts[0] in TRAITS))):
+        wrong(crate, f"no definition '{entry}'")
+
+
+main()
+PYTHON

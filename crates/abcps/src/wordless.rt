@@ -1,0 +1,54 @@
+ghost use Rattle.std.specs.Prelude.{◌≡◌};
+ghost use Rattle.std.specs.IoError.{error_kind};
+ghost use Rattle.abcps.specs.Wordless.{IsWordless, cause_of};
+ghost use Rattle.abcps.specs.declared.wordless.WordsError.TheVariants as wants;
+
+use crate::status::Status;
+use crate::telling::tell;
+use abcps_words::usage;
+use eng_io::Sink;
+use std::alloc::AllocError;
+use std::io;
+
+/// Why the words of a run couldn't be had.
+#[derive(Clone, Copy, PartialEq, Eq)]
+pub enum WordsError {
+    /// A word isn't UTF-8.
+    NotText,
+    /// Memory ran out while the words were gathered.
+    Memory,
+}
+
+impl From<io::Error> for WordsError {
+    ghost from_gives = { λ e why. why ≡ cause_of (error_kind e) };
+
+    fn from(error: io::Error) -> WordsError {
+        match error.kind() {
+            io::ErrorKind::OutOfMemory => WordsError::Memory,
+            _ => WordsError::NotText,
+        }
+    }
+}
+
+impl From<AllocError> for WordsError {
+    ghost from_gives = { λ _ why. why ≡ wants.Memory };
+
+    fn from(_: AllocError) -> WordsError {
+        WordsError::Memory
+    }
+}
+
+/// Answers where the words of a run couldn't be had. A word that isn't UTF-8 is in no listed form, so
+/// `errors` is told the usage line and the answer is `Usage`; where memory ran out nothing is written,
+/// and the answer is `Memory`.
+pub fn refuse_words<E: Sink>(why: WordsError, errors: &mut E) -> Status
+    ensures { IsWordless why result (record { before = E.taken errors.old; after = E.taken errors.new; count_before = E.faults errors.old; count_after = E.faults errors.new }) }
+{
+    match why {
+        WordsError::NotText => {
+            tell(errors, usage());
+            Status::Usage
+        }
+        WordsError::Memory => Status::Memory,
+    }
+}

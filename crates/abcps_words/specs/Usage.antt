@@ -1,0 +1,5 @@
+-- The line that lists the forms of the words. It is told where the words are in none of them.
+use Rattle.std.specs.Prelude.{ℕ, List, [], ◌∷◌, ◌++◌, codes}
+
+unfoldable pub usage_line : List ℕ
+usage_line = codes "usage: abcps set [--flow] [--jobs N] | systems [--flow] [--table] | inspect | check | make N | trial N [--flow] [--jobs N]" ++ 10 ∷ []

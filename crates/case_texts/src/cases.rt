@@ -1,0 +1,52 @@
+ghost use Rattle.std.specs.Prelude.{◌≤◌, length};
+
+use crate::escapes::put_shown;
+use mus_units::{Memory, Text};
+use std::alloc::Global;
+
+/// A case: the name of a call, the word behind it if there is one, and the input.
+#[derive(Clone, Copy)]
+pub struct Case<'a> {
+    pub call: &'a str,
+    pub word: &'a str,
+    pub input: &'a str,
+}
+
+/// Whether a line of a table is a case, and neither empty nor a comment behind `#`.
+pub fn is_case(line: &str) -> bool {
+    !line.is_empty() && !line.starts_with('#')
+}
+
+/// The case on a line, such as `read_named K | Bb`. What is missing is empty.
+pub fn case_of(line: &str) -> Case<'_> {
+    let (head, input) = cut(line, " |");
+    let (call, word) = cut(head, " ");
+    Case {
+        call,
+        word,
+        input: input.strip_prefix(' ').unwrap_or(input),
+    }
+}
+
+/// What stands before and behind a mark.
+fn cut<'a>(text: &'a str, mark: &str) -> (&'a str, &'a str) {
+    text.split_once(mark).unwrap_or((text, ""))
+}
+
+/// At most the first million bytes: no case is longer.
+pub fn within_limit(bytes: &[u8]) -> &[u8]
+    ensures { length result.now ≤ 1000000 }
+{
+    let (front, _) = bytes.split_at(bytes.len().min(1_000_000));
+    front
+}
+
+/// The lines that tell of a case: its own line, and what came of it in visible ASCII, each line
+/// of it behind four spaces.
+pub fn told(alloc: Global, line: &str, value: &[u8]) -> Result<Text, Memory> {
+    let mut out = Text::from_slice(alloc, line.as_bytes())?;
+    out.append(b"\n    ")?;
+    put_shown(alloc, &mut out, value)?;
+    out.push(b'\n')?;
+    Ok(out)
+}

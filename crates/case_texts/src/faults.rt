@@ -1,0 +1,61 @@
+use crate::lists::put_next;
+use crate::numbers::put_number;
+use abc_lines::{Fault, FaultKind, TuneError};
+use mus_units::{Memory, Text};
+use std::alloc::Global;
+
+/// Adds a fault as its kind and its place, or hands on want of memory.
+pub fn put_fault(alloc: Global, out: &mut Text, error: TuneError) -> Result<(), Memory> {
+    match error {
+        TuneError::Fault(fault) => put_placed(alloc, out, fault),
+        TuneError::Memory => Err(Memory),
+    }
+}
+
+fn put_placed(alloc: Global, out: &mut Text, fault: Fault) -> Result<(), Memory> {
+    put_next(out, b"fault ")?;
+    put_kind(alloc, out, fault.kind)?;
+    out.append(b" line ")?;
+    put_number(alloc, out, u64::from(fault.line))?;
+    out.append(b" column ")?;
+    put_number(alloc, out, u64::from(fault.column))
+}
+
+/// Adds the name of a kind of fault, and its number if it has one.
+pub fn put_kind(alloc: Global, out: &mut Text, kind: FaultKind) -> Result<(), Memory> {
+    out.append(name_of(kind))?;
+    match kind {
+        FaultKind::NoWay { reached: number } | FaultKind::TooTall { block: number } => {
+            out.push(b' ')?;
+            put_number(alloc, out, u64::from(number))
+        }
+        _ => Ok(()),
+    }
+}
+
+fn name_of(kind: FaultKind) -> &'static [u8] {
+    match kind {
+        FaultKind::NoKey => b"NoKey",
+        FaultKind::BadMeter => b"BadMeter",
+        FaultKind::BadUnit => b"BadUnit",
+        FaultKind::BadKey => b"BadKey",
+        FaultKind::BadVoice => b"BadVoice",
+        FaultKind::TooManyVoices => b"TooManyVoices",
+        FaultKind::BadByte => b"BadByte",
+        FaultKind::Unclosed => b"Unclosed",
+        FaultKind::BadLength => b"BadLength",
+        FaultKind::BadTuplet => b"BadTuplet",
+        FaultKind::TooDeep => b"TooDeep",
+        FaultKind::TupletCrosses => b"TupletCrosses",
+        FaultKind::TupletShort => b"TupletShort",
+        FaultKind::BrokenAlone => b"BrokenAlone",
+        FaultKind::Undrawable => b"Undrawable",
+        FaultKind::StepRange => b"StepRange",
+        FaultKind::RestWithoutMeter => b"RestWithoutMeter",
+        FaultKind::TooManyMeasures => b"TooManyMeasures",
+        FaultKind::TooManyEvents => b"TooManyEvents",
+        FaultKind::TooManyVerses => b"TooManyVerses",
+        FaultKind::NoWay { .. } => b"NoWay",
+        FaultKind::TooTall { .. } => b"TooTall",
+    }
+}

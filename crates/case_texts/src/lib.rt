@@ -1,0 +1,24 @@
+//! How the test programs write: a case on a line, bytes in visible ASCII, and the values that
+//! the lower crates share, each in one form. Nothing here is promised; what is written is
+//! compared as a whole.
+#![tactic(auto)]
+
+pub mod cases;
+pub mod escapes;
+pub mod faults;
+pub mod lists;
+pub mod notes;
+pub mod numbers;
+pub mod telling;
+pub mod values;
+
+pub use cases::{Case, within_limit};
+pub use faults::{put_fault, put_kind};
+pub use lists::{put_line, put_next};
+pub use notes::{put_bar, put_deco, put_head, put_value};
+pub use numbers::{number_of, put_number, put_signed};
+pub use telling::{Answers, tell_tables};
+pub use values::{
+    alter_named, clef_named, letter_named, put_clef, put_frac, put_letter, put_meter, put_signs,
+    put_spread, put_text, put_wish,
+};

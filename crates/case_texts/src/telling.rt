@@ -1,0 +1,66 @@
+use crate::cases::{Case, case_of, is_case, told};
+use crate::escapes::unescaped;
+use mus_units::{Memory, Text};
+use std::alloc::Global;
+use std::io::Write;
+use std::rt::Files;
+use std::{fs, io};
+
+/// What a program of tests answers to its cases.
+pub trait Answers {
+    /// Adds the value of a case's call on its input.
+    fn put_answer(
+        &self,
+        alloc: Global,
+        out: &mut Text,
+        case: Case<'_>,
+        input: &[u8],
+    ) -> Result<(), Memory>;
+}
+
+/// Tells the cases of tables, which are files, one after another: each case's line, and below it
+/// the value that comes of it.
+pub fn tell_tables<R: Files + Print + AllocGlobal, A: Answers>(
+    rt: &R,
+    answers: &A,
+    tables: &[&str],
+) -> io::Result<()> {
+    for table in tables {
+        let cases = fs::read_to_string(rt, *table)?;
+        tell_cases(rt, answers, cases.as_str())?;
+    }
+    Ok(())
+}
+
+fn tell_cases<R: Print + AllocGlobal, A: Answers>(
+    rt: &R,
+    answers: &A,
+    table: &str,
+) -> io::Result<()> {
+    for line in table.lines() {
+        if is_case(line) {
+            tell_case(rt, answers, line)?;
+        }
+    }
+    Ok(())
+}
+
+fn tell_case<R: Print + AllocGlobal, A: Answers>(
+    rt: &R,
+    answers: &A,
+    line: &str,
+) -> io::Result<()> {
+    match answer(rt.alloc(), answers, line) {
+        Ok(text) => io::writer(rt).write_all(text.as_slice()),
+        Err(Memory) => Err(io::Error::other("out of memory")),
+    }
+}
+
+/// A case's line, and its value below it.
+fn answer<A: Answers>(alloc: Global, answers: &A, line: &str) -> Result<Text, Memory> {
+    let case = case_of(line);
+    let input = unescaped(alloc, case.input.as_bytes())?;
+    let mut value = Text::new(alloc);
+    answers.put_answer(alloc, &mut value, case, input.as_slice())?;
+    told(alloc, line, value.as_slice())
+}

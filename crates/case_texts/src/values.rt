@@ -1,0 +1,135 @@
+use crate::lists::put_next;
+use mus_units::{Alter, Clef, Frac, Letter, Memory, Meter, Sign, Spread, Text, Wish};
+use std::alloc::Global;
+
+/// Adds a word and a text behind it.
+pub fn put_text(out: &mut Text, name: &[u8], text: &[u8]) -> Result<(), Memory> {
+    put_next(out, name)?;
+    put_next(out, text)
+}
+
+/// Adds a letter's name.
+pub fn put_letter(out: &mut Text, letter: Letter) -> Result<(), Memory> {
+    out.push(match letter {
+        Letter::C => b'C',
+        Letter::D => b'D',
+        Letter::E => b'E',
+        Letter::F => b'F',
+        Letter::G => b'G',
+        Letter::A => b'A',
+        Letter::B => b'B',
+    })
+}
+
+/// The letter of a name, and C for any other text.
+pub fn letter_named(name: &str) -> Letter {
+    match name {
+        "D" => Letter::D,
+        "E" => Letter::E,
+        "F" => Letter::F,
+        "G" => Letter::G,
+        "A" => Letter::A,
+        "B" => Letter::B,
+        _ => Letter::C,
+    }
+}
+
+fn alter_name(alter: Alter) -> &'static [u8] {
+    match alter {
+        Alter::Flat2 => b"bb",
+        Alter::Flat => b"b",
+        Alter::Natural => b"=",
+        Alter::Sharp => b"#",
+        Alter::Sharp2 => b"##",
+    }
+}
+
+/// The alteration of a name, and a natural for any other text.
+pub fn alter_named(name: &str) -> Alter {
+    match name {
+        "bb" => Alter::Flat2,
+        "b" => Alter::Flat,
+        "#" => Alter::Sharp,
+        "##" => Alter::Sharp2,
+        _ => Alter::Natural,
+    }
+}
+
+/// Adds a word and signs behind it, such as `F# Bb C=`.
+pub fn put_signs(out: &mut Text, name: &[u8], signs: &[Sign]) -> Result<(), Memory> {
+    put_next(out, name)?;
+    for sign in signs {
+        out.push(b' ')?;
+        put_letter(out, sign.letter)?;
+        out.append(alter_name(sign.alter))?;
+    }
+    Ok(())
+}
+
+/// Adds `clef` and the clef's name.
+pub fn put_clef(out: &mut Text, clef: Clef) -> Result<(), Memory> {
+    put_next(
+        out,
+        match clef {
+            Clef::Treble => b"clef treble",
+            Clef::Bass => b"clef bass",
+            Clef::Alto => b"clef alto",
+            Clef::Tenor => b"clef tenor",
+        },
+    )
+}
+
+/// The clef of a name, and the treble clef for any other text.
+pub fn clef_named(name: &str) -> Clef {
+    match name {
+        "bass" => Clef::Bass,
+        "alto" => Clef::Alto,
+        "tenor" => Clef::Tenor,
+        _ => Clef::Treble,
+    }
+}
+
+/// Adds `meter` and the meter.
+pub fn put_meter(alloc: Global, out: &mut Text, meter: Meter) -> Result<(), Memory> {
+    match meter {
+        Meter::Free => put_next(out, b"meter free"),
+        Meter::Common => put_next(out, b"meter C"),
+        Meter::Cut => put_next(out, b"meter C|"),
+        Meter::Ratio { num, den } => {
+            put_next(out, format!(in alloc; "meter {num}/{den}")?.as_bytes())
+        }
+    }
+}
+
+/// Adds a word and a fraction behind it.
+pub fn put_frac(alloc: Global, out: &mut Text, name: &[u8], frac: Frac) -> Result<(), Memory> {
+    put_next(out, name)?;
+    put_next(
+        out,
+        format!(in alloc; "{}/{}", frac.num, frac.den)?.as_bytes(),
+    )
+}
+
+/// Adds `spread` and how far signs reach.
+pub fn put_spread(out: &mut Text, spread: Spread) -> Result<(), Memory> {
+    put_next(
+        out,
+        match spread {
+            Spread::Not => b"spread not",
+            Spread::Octave => b"spread octave",
+            Spread::Pitch => b"spread pitch",
+        },
+    )
+}
+
+/// Adds `stem` and the way that the stems of a voice are asked to go.
+pub fn put_wish(out: &mut Text, wish: Wish) -> Result<(), Memory> {
+    put_next(
+        out,
+        match wish {
+            Wish::Auto => b"stem auto",
+            Wish::Up => b"stem up",
+            Wish::Down => b"stem down",
+        },
+    )
+}

@@ -1,0 +1,50 @@
+//! Scores laid out on a width.
+
+ghost use Rattle.mus_score.specs.GoodScore.{IsGoodScore};
+
+use answer_texts::{
+    put_breaking, put_heights, put_no_way, put_numbers, put_placed, put_spans, put_word,
+};
+use lay_tune::{Layout, LayoutError, lay_out};
+use mus_laid::SystemMarks;
+use mus_score::Score;
+use mus_units::{Memory, Text};
+use std::alloc::Global;
+
+fn put_bars(out: &mut Text, system: &SystemMarks) -> Result<(), Memory> {
+    put_word(out, b"system")?;
+    put_numbers(out, &[i64::from(system.a), i64::from(system.b)])
+}
+
+/// Adds a layout: its spans, its breaking, and each system with its columns and its staves.
+fn put_layout(out: &mut Text, layout: &Layout) -> Result<(), Memory> {
+    put_spans(out, layout.spans.as_slice())?;
+    put_breaking(out, &layout.breaking)?;
+    let placed = layout.placed.as_slice();
+    let heights = layout.heights.as_slice();
+    for ((system, placed), heights) in layout.systems.as_slice().iter().zip(placed).zip(heights) {
+        put_bars(out, system)?;
+        put_placed(out, placed)?;
+        put_heights(out, heights)?;
+    }
+    Ok(())
+}
+
+/// A score laid out on a width.
+pub(crate) fn put_score_layout(
+    alloc: Global,
+    out: &mut Text,
+    score: &Score,
+    width: u32,
+) -> Result<(), Memory>
+    requires { IsGoodScore score.now }
+{
+    if score.voices.len() == 0 {
+        return put_word(out, b"no voice\n");
+    }
+    match lay_out(alloc, score, width) {
+        Ok(layout) => put_layout(out, &layout),
+        Err(LayoutError::NoWay { reached }) => put_no_way(out, reached),
+        Err(LayoutError::Memory) => Err(Memory),
+    }
+}

@@ -1,0 +1,55 @@
+//! Draws what the cases in `data/cases` call for, and prints each call's value as text.
+//!
+//! A case is a line with the name of a call and its numbers, and the tune that it is made of; an empty line
+//! ends it. The answer stands behind the line of the call. `calls` has the names.
+#![tactic(auto)]
+
+mod boxes;
+mod calls;
+mod columns;
+mod layouts;
+mod marks;
+mod names;
+mod plans;
+mod scores;
+mod slopes;
+mod sounds;
+mod voices;
+
+use crate::calls::put_case;
+use eng_io::{StdSink, write_all};
+use lay_columns::{columns_join, marks_join, next_of_measure};
+use lay_measures::measures_join;
+use mus_stems::{beams_by_groups, slopes_by_beams};
+use mus_units::{Memory, Text};
+use std::alloc::Global;
+use std::{fs, io};
+
+/// The answers to cases, one behind another.
+fn all_answers(alloc: Global, cases: &str) -> Result<Text, Memory> {
+    let mut out = Text::new(alloc);
+    for case in cases.split("\n\n") {
+        put_case(alloc, &mut out, case)?;
+    }
+    Ok(out)
+}
+
+/// The calls that do nothing: each has a law for its promise.
+fn state_laws() {
+    beams_by_groups();
+    slopes_by_beams();
+    columns_join();
+    marks_join();
+    next_of_measure();
+    measures_join();
+}
+
+fn main(rt: HostRuntime) -> io::Result<()> {
+    state_laws();
+    let cases = fs::read_to_string(&rt, "cases")?;
+    let Ok(text) = all_answers(rt.alloc(), cases.as_str()) else {
+        return Err(io::Error::other("no memory"));
+    };
+    let mut output = StdSink::new(rt.stdout());
+    write_all(&mut output, text.as_slice()).map_err(|_| io::Error::other("no output"))
+}

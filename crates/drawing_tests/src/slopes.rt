@@ -1,0 +1,105 @@
+//! Beams that slope.
+
+ghost use Rattle.std.specs.Prelude.{IsTrue};
+ghost use Rattle.mus_score.specs.Good.{IsGoodBody};
+ghost use Rattle.mus_score.specs.GoodScore.{IsGoodScore, IsGoodVoice};
+ghost use Rattle.mus_stems.specs.Plans.{AllEndsNear};
+ghost use Rattle.mus_stems.specs.Slope.{ArePlaces};
+ghost use Rattle.drawing_tests.specs.Rising.{AreRising, RisesFrom};
+
+use crate::plans::{can_all_stand, put_plans};
+use answer_texts::put_word;
+use mus_score::{Measure, Score, Voice, flatten};
+use mus_stems::{StemPlan, slope, stems};
+use mus_units::{Memory, Text};
+use std::alloc::Global;
+
+/// Whether each number can be an abscissa.
+fn are_places(at: &[i64]) -> bool
+    ensures { IsTrue result → ArePlaces at.now }
+{
+    for x in at {
+        if *x < 0 || *x > 1 << 40 {
+            return false;
+        }
+    }
+    true
+}
+
+/// Whether numbers rise from a first one.
+fn rise_from(first: i64, rest: &[i64]) -> bool
+    ensures { IsTrue result → RisesFrom first rest.now }
+{
+    let mut before = first;
+    for x in rest {
+        if *x <= before {
+            return false;
+        }
+        before = *x;
+    }
+    true
+}
+
+/// Whether numbers rise.
+fn are_rising(at: &[i64]) -> bool
+    ensures { IsTrue result → AreRising at.now }
+{
+    match at {
+        [] => true,
+        [first, rest @ ..] => rise_from(*first, rest),
+    }
+}
+
+#[tactic(auto, using(crate::proofs::Rises::rises_in_beams))]
+fn put_sloped(alloc: Global, out: &mut Text, plans: &[StemPlan], at: &[i64]) -> Result<(), Memory>
+    requires { AllEndsNear plans.now }
+{
+    if at.len() != plans.len() || !are_places(at) || !are_rising(at) {
+        return put_word(out, b"no places\n");
+    }
+    let sloped = slope(alloc, plans, at)?;
+    put_plans(out, sloped.as_slice())
+}
+
+fn put_measure_slopes(
+    alloc: Global,
+    out: &mut Text,
+    voice: &Voice,
+    measure: &Measure,
+    at: &[i64],
+) -> Result<(), Memory>
+    requires { IsGoodBody measure.now.body }
+{
+    let events = flatten(alloc, measure.body.as_slice())?;
+    let clefs = vec![in alloc; voice.clef; events.len()]?;
+    if !can_all_stand(events.as_slice(), &clefs) {
+        return put_word(out, b"another clef\n");
+    }
+    let plans = stems(alloc, events.as_slice(), &clefs, voice.stem)?;
+    put_sloped(alloc, out, plans.as_slice(), at)
+}
+
+fn put_voice_slopes(alloc: Global, out: &mut Text, voice: &Voice, at: &[i64]) -> Result<(), Memory>
+    requires { IsGoodVoice voice.now }
+{
+    match voice.measures.as_slice() {
+        [measure, ..] => put_measure_slopes(alloc, out, voice, measure, at),
+        [] => put_word(out, b"no measure\n"),
+    }
+}
+
+/// Adds the plans of the first measure of the first voice on sloped beams, where its events stand at these
+/// abscissas.
+pub(crate) fn put_slopes(
+    alloc: Global,
+    out: &mut Text,
+    score: &Score,
+    at: &[i64],
+) -> Result<(), Memory>
+    requires { IsGoodScore score.now }
+{
+    match score.voices.as_slice() {
+        [voice, ..] => put_voice_slopes(alloc, out, voice, at),
+        [] => put_word(out, b"no voice\n"),
+    }
+}

@@ -1,0 +1,9 @@
+//! Lines of a text, and the numbers on them: printed in decimal, and read as they
+//! are printed and in no other way.
+#![tactic(auto)]
+
+pub mod numbers;
+
+pub use numbers::{
+    cut_at, number, number_and_rest, number_behind, numbers_behind, put_number, small_number, strip,
+};

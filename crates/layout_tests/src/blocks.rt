@@ -1,0 +1,118 @@
+//! Staves under one another, and blocks on pages.
+
+ghost use Rattle.std.specs.Prelude.{IsTrue};
+ghost use Rattle.lay_pages.specs.Stacking.{AreGoodStaves};
+ghost use Rattle.lay_pages.specs.Filling.{AreGoodBlocks};
+
+use answer_texts::{
+    count_at, end_line, number_at, numbers_of, put_heights, put_number, put_numbers, put_word,
+    small_at,
+};
+use lay_pages::{Block, PageError, Spot, fill, stack};
+use mus_laid::{StaffMarks, SystemMarks};
+use mus_units::{Memory, Row, Text};
+use std::alloc::Global;
+
+/// A staff by its line: how low and how high it reaches, at least 0 and 2000 u.
+fn staff_of(alloc: Global, line: &str) -> Result<StaffMarks, Memory> {
+    let numbers = numbers_of(alloc, line)?;
+    Ok(StaffMarks {
+        marks: Row::new(alloc),
+        low: small_at(&numbers, 0),
+        high: small_at(&numbers, 1),
+    })
+}
+
+fn staves_of(alloc: Global, text: &str) -> Result<Row<StaffMarks>, Memory> {
+    let mut staves = Row::new(alloc);
+    for line in text.lines() {
+        staves.push(staff_of(alloc, line)?)?;
+    }
+    Ok(staves)
+}
+
+/// Whether each staff covers its lines.
+fn are_good_staves(staves: &[StaffMarks]) -> bool
+    ensures { IsTrue result → AreGoodStaves staves.now }
+{
+    for staff in staves {
+        if staff.low > 0 || staff.high < 2000 {
+            return false;
+        }
+    }
+    true
+}
+
+/// Staves under one another.
+pub(crate) fn put_stack(alloc: Global, out: &mut Text, text: &str) -> Result<(), Memory> {
+    let system = SystemMarks {
+        a: 0,
+        b: 1,
+        keys: Row::new(alloc),
+        staves: staves_of(alloc, text)?,
+    };
+    if system.staves.len() > 16 || !are_good_staves(system.staves.as_slice()) {
+        return put_word(out, b"no staves\n");
+    }
+    put_heights(out, &stack(alloc, &system)?)
+}
+
+/// A block by its line: its height, and 1 where it is tied to the next.
+fn block_of(alloc: Global, line: &str) -> Result<Block, Memory> {
+    let numbers = numbers_of(alloc, line)?;
+    Ok(Block {
+        height: number_at(&numbers, 0),
+        keep: number_at(&numbers, 1) == 1,
+    })
+}
+
+fn blocks_of(alloc: Global, text: &str) -> Result<Row<Block>, Memory> {
+    let mut blocks = Row::new(alloc);
+    for line in text.lines() {
+        blocks.push(block_of(alloc, line)?)?;
+    }
+    Ok(blocks)
+}
+
+/// Whether no block is lower than nothing or higher than 2^40.
+fn are_good_blocks(blocks: &[Block]) -> bool
+    ensures { IsTrue result → AreGoodBlocks blocks.now }
+{
+    for block in blocks {
+        if block.height < 0 || block.height > 1 << 40 {
+            return false;
+        }
+    }
+    true
+}
+
+fn put_spots(out: &mut Text, spots: &[Spot]) -> Result<(), Memory> {
+    for spot in spots {
+        put_numbers(out, &[i64::from(spot.page), spot.top])?;
+        end_line(out)?;
+    }
+    Ok(())
+}
+
+/// Where blocks stand on pages of a height: a line for each, with its page and its top.
+pub(crate) fn put_fill(
+    alloc: Global,
+    out: &mut Text,
+    words: &str,
+    text: &str,
+) -> Result<(), Memory> {
+    let high = count_at(&numbers_of(alloc, words)?, 0);
+    let blocks = blocks_of(alloc, text)?;
+    if blocks.len() > 1000 || !are_good_blocks(blocks.as_slice()) {
+        return put_word(out, b"no blocks\n");
+    }
+    match fill(alloc, blocks.as_slice(), high) {
+        Ok(spots) => put_spots(out, spots.as_slice()),
+        Err(PageError::TooTall { block }) => {
+            put_word(out, b"too tall")?;
+            put_number(out, i64::from(block))?;
+            end_line(out)
+        }
+        Err(PageError::Memory) => Err(Memory),
+    }
+}

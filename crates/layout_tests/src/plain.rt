@@ -1,0 +1,128 @@
+//! Columns in two lanes, placed and pressed, and the badness of forces.
+
+ghost use Rattle.std.specs.Prelude.{◌+◌, ◌≤◌, ◌<◌, length};
+
+use answer_texts::{
+    count_at, end_line, number_at, numbers_of, put_count, put_number, put_numbers, put_placed,
+    put_word,
+};
+use lay_columns::Column;
+use lay_spans::badness;
+use lay_springs::{Reach, fit, fit_within, justify, place};
+use mus_time::{Class, ColumnKey};
+use mus_units::{Memory, Row, Text};
+use std::alloc::Global;
+
+/// The gaps of the two lanes.
+const GAPS: [u32; 2] = [100, 300];
+
+/// A column by its line: how far it reaches to the left and to the right, in how many lanes it stands, 1 or
+/// 2, and its natural length.
+fn column_of(alloc: Global, line: &str) -> Result<Column, Memory> {
+    let numbers = numbers_of(alloc, line)?;
+    let reach = Some(Reach {
+        left: count_at(&numbers, 0),
+        right: count_at(&numbers, 1),
+    });
+    let other = if number_at(&numbers, 2) == 2 {
+        reach
+    } else {
+        None
+    };
+    Ok(Column {
+        key: ColumnKey {
+            measure: 0,
+            tick: 0,
+            class: Class::Note,
+            place: 0,
+        },
+        reaches: Row::from_slice(alloc, &[reach, other])?,
+        natural: count_at(&numbers, 3),
+    })
+}
+
+fn columns_of(alloc: Global, text: &str) -> Result<Row<Column>, Memory> {
+    let mut columns = Row::new(alloc);
+    for line in text.lines() {
+        columns.push(column_of(alloc, line)?)?;
+    }
+    Ok(columns)
+}
+
+fn put_force(out: &mut Text, force: Option<u16>) -> Result<(), Memory> {
+    match force {
+        Some(force) => put_number(out, i64::from(force))?,
+        None => put_word(out, b"none")?,
+    }
+    end_line(out)
+}
+
+/// The least places of columns at a force.
+fn put_places(alloc: Global, out: &mut Text, columns: &[Column], force: u16) -> Result<(), Memory>
+    requires some { 0 < length columns.now }
+    requires few { length columns.now ≤ 200000 }
+{
+    let places = place(alloc, columns, &GAPS, force)?;
+    put_numbers(out, places.as_slice())?;
+    end_line(out)
+}
+
+/// Columns set to a width at the greatest force that fits.
+fn put_set(
+    alloc: Global,
+    out: &mut Text,
+    columns: &[Column],
+    width: u32,
+    last: bool,
+    scratch: &mut [i64],
+) -> Result<(), Memory>
+    requires some { 0 < length columns.now }
+    requires few { length columns.now ≤ 200000 }
+    requires room { length columns.now + 2 ≤ length scratch.old }
+{
+    match fit(columns, &GAPS, width, scratch) {
+        Some(force) => {
+            let placed = justify(alloc, columns, &GAPS, width, force, last)?;
+            put_placed(out, &placed)
+        }
+        None => put_force(out, None),
+    }
+}
+
+/// The value of a call on plain columns: `place F`, `fit W`, `within W M` with the greatest force that may be
+/// tried, `set W` and `last W`.
+pub(crate) fn put_plain(
+    alloc: Global,
+    out: &mut Text,
+    name: &[u8],
+    words: &str,
+    text: &str,
+) -> Result<(), Memory> {
+    let numbers = numbers_of(alloc, words)?;
+    let (first, second) = (count_at(&numbers, 0), count_at(&numbers, 1));
+    let row = columns_of(alloc, text)?;
+    let columns = row.as_slice();
+    if columns.is_empty() || columns.len() > 1000 {
+        return put_word(out, b"no columns\n");
+    }
+    let mut places = vec![in alloc; 0i64; columns.len() + 2]?;
+    let scratch = places.as_mut_slice();
+    match name {
+        b"place" => put_places(alloc, out, columns, u16::try_from(first).unwrap_or(0)),
+        b"fit" => put_force(out, fit(columns, &GAPS, first, scratch)),
+        b"within" => {
+            let most = u16::try_from(second).unwrap_or(0).min(2048);
+            put_force(out, fit_within(columns, &GAPS, first, most, scratch))
+        }
+        b"set" => put_set(alloc, out, columns, first, false, scratch),
+        _ => put_set(alloc, out, columns, first, true, scratch),
+    }
+}
+
+/// The badness of a span at a force, and of a last one.
+pub(crate) fn put_badness(alloc: Global, out: &mut Text, words: &str) -> Result<(), Memory> {
+    let force = u16::try_from(count_at(&numbers_of(alloc, words)?, 0)).unwrap_or(0);
+    put_count(out, badness(force, false))?;
+    put_count(out, badness(force, true))?;
+    end_line(out)
+}

@@ -1,0 +1,97 @@
+//! Costs kept as rows, and what is chosen among their breakings.
+
+ghost use Rattle.std.specs.Prelude.{length, refl};
+ghost use Rattle.layout_tests.specs.Table.{capped_cost, is_marked, capped_stop, capped_small};
+
+use answer_texts::{numbers_of, put_breaking, put_no_way, put_word};
+use lay_breaks::{BreakError, Costs, least};
+use mus_units::{Memory, Row, Text};
+use std::alloc::Global;
+
+/// Row a has the costs of the spans from bar a on, and mark b tells whether bar b + 1 is forced. A cost past
+/// 2^40 counts as 2^40.
+#[derive(Drop)]
+struct Table {
+    rows: Row<Row<u64>>,
+    marks: Row<bool>,
+}
+
+impl Costs for Table {
+    ghost bars = { λ s. length s.rows };
+
+    ghost badness = { λ s a b. capped_cost s.rows a b };
+
+    ghost is_forced = { λ s b. is_marked s.marks b };
+
+    fn cost(&self, a: u32, b: u32) -> Option<u64> {
+        let row = self.rows.as_slice().get(a as usize)?;
+        let cost = row.as_slice().get((b - a - 1) as usize)?;
+        Some(if *cost <= 1 << 40 { *cost } else { 1 << 40 })
+    }
+
+    fn forced(&self, b: u32) -> bool {
+        if b == 0 {
+            return false;
+        }
+        match self.marks.as_slice().get((b - 1) as usize) {
+            Some(mark) => *mark,
+            None => false,
+        }
+    }
+
+    ghost stays_none = { λ s a b c l m h e. capped_stop s.rows a b c l m e };
+
+    ghost is_small = { λ s a b l h. capped_small s.rows a b };
+
+    ghost begins_free = { λ s. refl };
+}
+
+/// The costs of a line; a line of `-` has none.
+fn row_of(alloc: Global, line: &str) -> Result<Row<u64>, Memory> {
+    let mut row = Row::new(alloc);
+    if line != "-" {
+        for word in line.split(' ') {
+            row.push(word.parse::<u64>().unwrap_or(0))?;
+        }
+    }
+    Ok(row)
+}
+
+fn rows_of(alloc: Global, text: &str) -> Result<Row<Row<u64>>, Memory> {
+    let mut rows = Row::new(alloc);
+    for line in text.lines() {
+        rows.push(row_of(alloc, line)?)?;
+    }
+    Ok(rows)
+}
+
+/// The table of a text, and a mark for each number of the words: 1 where its bar is forced.
+fn table_of(alloc: Global, words: &str, text: &str) -> Result<Table, Memory> {
+    let mut marks = Row::new(alloc);
+    for number in numbers_of(alloc, words)?.as_slice() {
+        marks.push(*number == 1)?;
+    }
+    Ok(Table {
+        rows: rows_of(alloc, text)?,
+        marks,
+    })
+}
+
+/// What is chosen among the breakings of a table.
+pub(crate) fn put_least(
+    alloc: Global,
+    out: &mut Text,
+    words: &str,
+    text: &str,
+) -> Result<(), Memory> {
+    let table = table_of(alloc, words, text)?;
+    let bars = table.rows.len();
+    if bars > 1000 {
+        return put_word(out, b"too many bars\n");
+    }
+    match least(alloc, &table, bars as u32) {
+        Ok(breaking) => put_breaking(out, &breaking),
+        Err(BreakError::NoWay { reached }) => put_no_way(out, reached),
+        Err(BreakError::Memory) => Err(Memory),
+    }
+}

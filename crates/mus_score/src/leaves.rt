@@ -1,0 +1,30 @@
+ghost use Rattle.std.specs.Prelude.{◌≡◌, All, IfOk, OnOk, ◌++◌};
+ghost use Rattle.mus_score.specs.Good.{IsGoodBody};
+ghost use Rattle.mus_score.specs.GoodScore.{events_of};
+
+use crate::score::{Flat, Measure};
+use crate::times::flatten;
+use mus_units::{Memory, Row};
+use std::alloc::Global;
+
+/// The events of measures, from the first to the last.
+pub fn events(alloc: Global, measures: &[Measure]) -> Result<Row<Flat>, Memory>
+    requires { All (λ m. IsGoodBody m.body) measures.now }
+    ensures { IfOk result (λ r. r ≡ events_of measures.now) }
+{
+    let mut events = Row::new(alloc);
+    for m in measures {
+        let flats = flatten(alloc, m.body.as_slice())?;
+        put_all(&mut events, flats)?;
+    }
+    Ok(events)
+}
+
+fn put_all(events: &mut Row<Flat>, flats: Row<Flat>) -> Result<(), Memory>
+    ensures { OnOk result (events.new ≡ events.old ++ flats) }
+{
+    for f in flats.items {
+        events.push(f)?;
+    }
+    Ok(())
+}

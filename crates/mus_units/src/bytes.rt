@@ -1,0 +1,74 @@
+//! Bytes of a text: their classes, equal texts, and blanks at the ends.
+
+ghost use Rattle.std.specs.Prelude.{◌≡◌, ◌≤◌, length};
+ghost use Rattle.std.specs.List.{prefix_len, suffix_len};
+ghost use Rattle.std.specs.Str.{bytes_eq};
+ghost use Rattle.mus_units.specs.Bytes.{is_digit, is_letter, is_blank, behind_blanks, before_blanks, trimmed};
+
+/// Whether a byte is one of 0 to 9.
+pub fn is_digit(byte: u8) -> bool
+    ensures { result ≡ is_digit byte }
+{
+    byte >= b'0' && byte <= b'9'
+}
+
+/// Whether a byte is one of A to Z or a to z.
+pub fn is_letter(byte: u8) -> bool
+    ensures { result ≡ is_letter byte }
+{
+    (byte >= b'A' && byte <= b'Z') || (byte >= b'a' && byte <= b'z')
+}
+
+/// Whether a byte is a space or a tab.
+pub fn is_blank(byte: u8) -> bool
+    ensures { result ≡ is_blank byte }
+{
+    byte == b' ' || byte == b'\t'
+}
+
+/// Whether two texts have the same bytes.
+pub fn is_same(text: &[u8], other: &[u8]) -> bool
+    ensures { result ≡ bytes_eq text.now other.now }
+{
+    text == other
+}
+
+/// How many spaces and tabs stand first.
+pub fn blanks_at_front(text: &[u8]) -> usize
+    ensures value { result ≡ prefix_len is_blank text.now }
+    ensures within { result ≤ length text.now }
+{
+    text.iter().take_while(|byte| is_blank(**byte)).count()
+}
+
+/// How many spaces and tabs stand last.
+pub fn blanks_at_end(text: &[u8]) -> usize
+    ensures value { result ≡ suffix_len is_blank text.now }
+    ensures within { result ≤ length text.now }
+{
+    text.iter()
+        .rev()
+        .take_while(|byte| is_blank(**byte))
+        .count()
+}
+
+/// What stands behind the spaces and tabs at the front.
+pub fn behind_blanks(text: &[u8]) -> &[u8]
+    ensures { result.now ≡ behind_blanks text.now }
+{
+    text.split_at(blanks_at_front(text)).1
+}
+
+/// What stands before the spaces and tabs at the end.
+pub fn before_blanks(text: &[u8]) -> &[u8]
+    ensures { result.now ≡ before_blanks text.now }
+{
+    text.split_at(text.len() - blanks_at_end(text)).0
+}
+
+/// What is left without the spaces and tabs at both ends.
+pub fn trimmed(text: &[u8]) -> &[u8]
+    ensures { result.now ≡ trimmed text.now }
+{
+    before_blanks(behind_blanks(text))
+}

@@ -1,0 +1,53 @@
+ghost use Rattle.std.specs.Prelude.{◌≤◌, ◌^◌};
+
+use case_texts::{number_of, put_next, put_number, put_value};
+use mus_units::{Frac, Memory, Text, parts_of, ticks_of, value_of};
+use std::alloc::Global;
+
+/// The greatest number that a length is asked with.
+const MOST: u64 = 1 << 56;
+
+/// The fraction that a text such as `3/8` says.
+fn fraction_of(text: &str) -> Frac
+    ensures some { 1 ≤ result.num }
+    ensures near { result.num ≤ 2 ^ 56 }
+    ensures above { 1 ≤ result.den }
+    ensures high { result.den ≤ 2 ^ 56 }
+{
+    let (num, den) = text.split_once("/").unwrap_or((text, "1"));
+    Frac {
+        num: number_of(num).max(1).min(MOST),
+        den: number_of(den).max(1).min(MOST),
+    }
+}
+
+/// Adds the value that has a length, or `none`.
+pub(crate) fn put_value_of(out: &mut Text, text: &str) -> Result<(), Memory> {
+    let length = fraction_of(text);
+    match value_of(length.num, length.den) {
+        Some(value) => put_value(out, value),
+        None => out.append(b"none"),
+    }
+}
+
+/// Adds the ticks of the value that has a length, or `none`.
+pub(crate) fn put_ticks(alloc: Global, out: &mut Text, text: &str) -> Result<(), Memory> {
+    let length = fraction_of(text);
+    match value_of(length.num, length.den) {
+        Some(value) => put_number(alloc, out, ticks_of(value)),
+        None => out.append(b"none"),
+    }
+}
+
+/// Adds the parts of a length, or `none`.
+pub(crate) fn put_parts(alloc: Global, out: &mut Text, text: &str) -> Result<(), Memory> {
+    let length = fraction_of(text);
+    let Some(parts) = parts_of(alloc, length.num, length.den)? else {
+        return out.append(b"none");
+    };
+    for part in parts.as_slice() {
+        put_next(out, b"")?;
+        put_value(out, *part)?;
+    }
+    Ok(())
+}

@@ -1,0 +1,43 @@
+-- A tune has one outcome: what it is set as, or its fault, follows from the tune, its defaults, its paper and whether bars are forced,
+-- and from nothing of how it was set. So a book has one list of outcomes, however many jobs set it.
+use Rattle.std.specs.Prelude.{◌≡◌, ℕ, Bool, List}
+use Rattle.abc_lines.specs.declared.book.TuneText.{TuneText}
+use Rattle.abc_lines.specs.declared.fault.Fault.{Fault}
+use Rattle.abc_lines.specs.declared.fault.TuneError.TheVariants as errors
+use Rattle.abc_header.specs.declared.defaults.Defaults.{Defaults}
+use Rattle.abc_header.specs.declared.header.Header.{Header}
+use Rattle.abc_header.specs.declared.paper.Paper.{Paper}
+use Rattle.mus_score.specs.declared.score.Score.{Score}
+use Rattle.mus_laid.specs.declared.laid.SystemMarks.{SystemMarks}
+use Rattle.lay_tune.specs.Spans.{IsSystem}
+use Rattle.set_tune.specs.declared.tune.SetTune.{SetTune}
+use Rattle.set_tune.specs.Setting.{HasScore, IsFaultOfTune, IsScoreRefusal, IsSetTune}
+use Rattle.set_book.specs.declared.outcome.Outcome.{Outcome}
+use Rattle.set_book.specs.Outcomes.{AreOutcomes}
+
+-- the one system of these measures of a score
+pub record IsOneSystem (score : Score) (a b : ℕ) (marks : SystemMarks) : Type 0 where
+  pub is : IsSystem score a b marks
+  pub only : (other : SystemMarks) → IsSystem score a b other → other ≡ marks
+
+pub record HaveOneOutcome : Type 0 where
+  -- a tune that is set is set in one way
+  pub set : (tune : TuneText) (defaults : Defaults) (paper : Paper) (flow : Bool) (t u : SetTune)
+      → IsSetTune tune defaults paper flow t → IsSetTune tune defaults paper flow u → t ≡ u
+  -- a tune has one fault
+  pub fault : (tune : TuneText) (defaults : Defaults) (paper : Paper) (flow : Bool) (f g : Fault)
+      → IsFaultOfTune tune defaults paper flow f → IsFaultOfTune tune defaults paper flow g → f ≡ g
+  -- no tune that is set has a fault
+  pub apart : (tune : TuneText) (defaults : Defaults) (paper : Paper) (flow : Bool) (t : SetTune) (f : Fault)
+      → IsSetTune tune defaults paper flow t → IsFaultOfTune tune defaults paper flow f → ⊥
+  -- some tunes have one list of outcomes
+  pub outcomes : (defaults : Defaults) (paper : Paper) (flow : Bool) (tunes : List TuneText) (os ps : List Outcome)
+      → AreOutcomes defaults paper flow tunes os → AreOutcomes defaults paper flow tunes ps → os ≡ ps
+  -- a tune has one score
+  pub score : (tune : TuneText) (defaults : Defaults) (flow : Bool) (h k : Header) (s t : Score)
+      → HasScore tune defaults flow h s → HasScore tune defaults flow k t → s ≡ t
+  -- a tune that has a score has no fault of its header, its body or its score
+  pub scored : (tune : TuneText) (defaults : Defaults) (flow : Bool) (h : Header) (s : Score) (f : Fault)
+      → HasScore tune defaults flow h s → IsScoreRefusal tune defaults (errors.Fault f) → ⊥
+  -- a score calls for one system of any measures
+  pub system : (s : Score) (a b : ℕ) → (m : SystemMarks) × IsOneSystem s a b m

@@ -1,5 +1,0 @@
-use Rattle.set_lists.proofs.Numbers as laws
-use Rattle.set_lists.proofs.listing.book_rises.Goals as goal
-
-pub returns : goal.returns
-returns c = laws.book_rises

@@ -1,5 +1,0 @@
-use Rattle.set_lists.proofs.Legal as laws
-use Rattle.set_lists.proofs.listing.breakings_of_listing.Goals as goal
-
-pub returns : goal.returns
-returns c = laws.breakings_of_listing

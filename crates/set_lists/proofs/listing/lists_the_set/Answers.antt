@@ -1,5 +1,0 @@
-use Rattle.set_lists.proofs.Told as laws
-use Rattle.set_lists.proofs.listing.lists_the_set.Goals as goal
-
-pub returns : goal.returns
-returns c = laws.lists_the_set

@@ -1,5 +1,0 @@
-use Rattle.set_lists.proofs.Told as laws
-use Rattle.set_lists.proofs.listing.outcomes_are_listable.Goals as goal
-
-pub returns : goal.returns
-returns c = laws.outcomes_are_listable

@@ -1,0 +1,41 @@
+ghost use Rattle.set_lists.specs.Laws.{BookRises, BreakingsOfListing, ListsTheBook, ListsTheSet, NoWayIsExact, OutcomesAreListable};
+
+use set_book::one_outcome;
+
+/// The law that the numbers of a book's tunes rise.
+pub fn book_rises()
+    ensures { BookRises }
+{}
+
+/// The law that what comes of tunes can be listed.
+pub fn outcomes_are_listable()
+    ensures { OutcomesAreListable }
+{}
+
+/// The law that what `put_listing` writes of tunes whose numbers rise is a listing.
+pub fn lists_the_set()
+    ensures { ListsTheSet }
+{}
+
+/// The law that the breakings of a tune's entry are the legal breakings of its score.
+pub fn breakings_of_listing()
+    ensures { BreakingsOfListing }
+{
+    one_outcome();
+}
+
+/// The law that what `put_listing` writes of a book is a listing whose breakings are those of its
+/// scores.
+pub fn lists_the_book()
+    ensures { ListsTheBook }
+{
+    one_outcome();
+}
+
+/// The law that a tune with a score is told to have no way exactly where its score has no legal
+/// breaking.
+pub fn no_way_is_exact()
+    ensures { NoWayIsExact }
+{
+    one_outcome();
+}

@@ -1,0 +1,171 @@
+//! Work on items by halves.
+
+ghost use Rattle.std.specs.Prelude.{◌≡◌, ◌++◌, ◌*◌, ◌<◌, ◌≤◌, ⊤};
+
+use answer_texts::{count_at, end_line, number_at, numbers_of, put_count, put_word};
+use mus_units::{Memory, Row, Text};
+use set_halves::{Work, work_all};
+use std::alloc::Global;
+use std::sync::atomic::AtomicU64;
+use std::sync::atomic::Ordering::SeqCst;
+use std::thread::Threads;
+
+/// Squares a number.
+#[derive(Drop)]
+struct Squares;
+
+impl Work<u32, u64> for Squares {
+    ghost takes = { λ _ _. ⊤ };
+
+    ghost gives = { λ _ number square. square ≡ number * number };
+
+    fn work(&self, number: &u32) -> Result<u64, Memory> {
+        let number = u64::from(*number);
+        Ok(number * number)
+    }
+}
+
+/// Writes a name before a text.
+#[derive(Drop)]
+struct Labels<'a> {
+    alloc: Global,
+    name: &'a [u8],
+}
+
+impl<'a> Work<Text, Text> for Labels<'a> {
+    ghost takes = { λ _ _. ⊤ };
+
+    ghost gives = { λ labels text label. label ≡ labels.name.now ++ text };
+
+    fn work(&self, text: &Text) -> Result<Text, Memory> {
+        let mut label = Text::from_slice(self.alloc, self.name)?;
+        label.append(text.as_slice())?;
+        Ok(label)
+    }
+}
+
+/// Counts the calls for each of four items, and may lack memory for one.
+#[derive(Drop)]
+struct Counted {
+    calls: [AtomicU64; 4],
+    without: usize,
+}
+
+impl Work<usize, usize> for Counted {
+    ghost takes = { λ _ item. item < 4 };
+
+    ghost gives = { λ _ item outcome. outcome ≡ item };
+
+    fn work(&self, item: &usize) -> Result<usize, Memory> {
+        if self.without == *item {
+            return Err(Memory);
+        }
+        self.calls[*item].fetch_add(1, SeqCst);
+        Ok(*item)
+    }
+}
+
+fn put_squares<R: Threads + Sync>(
+    rt: &R,
+    alloc: Global,
+    out: &mut Text,
+    jobs: u8,
+    text: &str,
+) -> Result<(), Memory>
+    requires { (1 ≤ jobs) × (jobs ≤ 64) }
+{
+    let mut numbers = Row::new(alloc);
+    for number in numbers_of(alloc, text)?.as_slice() {
+        numbers.push(u32::try_from(*number).unwrap_or(0))?;
+    }
+    let squares = work_all(rt, alloc, numbers.as_slice(), jobs, &Squares)?;
+    for square in squares.as_slice() {
+        put_count(out, *square)?;
+    }
+    end_line(out)
+}
+
+fn put_labels<R: Threads + Sync>(
+    rt: &R,
+    alloc: Global,
+    out: &mut Text,
+    jobs: u8,
+    text: &str,
+) -> Result<(), Memory>
+    requires { (1 ≤ jobs) × (jobs ≤ 64) }
+{
+    let mut texts = Row::new(alloc);
+    for line in text.lines() {
+        texts.push(Text::from_slice(alloc, line.as_bytes())?)?;
+    }
+    let labels = Labels {
+        alloc,
+        name: b"no. ",
+    };
+    let labelled = work_all(rt, alloc, texts.as_slice(), jobs, &labels)?;
+    for label in labelled.as_slice() {
+        put_word(out, label.as_slice())?;
+        end_line(out)?;
+    }
+    Ok(())
+}
+
+/// The outcomes for four items, and how often each was worked on; or that memory is short, where it is so for
+/// the item of a number.
+fn put_counted<R: Threads + Sync>(
+    rt: &R,
+    alloc: Global,
+    out: &mut Text,
+    jobs: u8,
+    without: usize,
+) -> Result<(), Memory>
+    requires { (1 ≤ jobs) × (jobs ≤ 64) }
+{
+    let counted = Counted {
+        calls: [
+            AtomicU64::new(0),
+            AtomicU64::new(0),
+            AtomicU64::new(0),
+            AtomicU64::new(0),
+        ],
+        without,
+    };
+    let items: [usize; 4] = [0, 1, 2, 3];
+    match work_all(rt, alloc, &items, jobs, &counted) {
+        Ok(outcomes) => {
+            for item in outcomes.as_slice() {
+                put_count(out, *item as u64)?;
+            }
+            for calls in &counted.calls {
+                put_count(out, calls.load(SeqCst))?;
+            }
+        }
+        Err(Memory) => put_word(out, b"no memory")?,
+    }
+    end_line(out)
+}
+
+/// The value of a call on items by a number of jobs: `squares J`, `labels J`, and `counted J K`, where memory is
+/// short for item K.
+pub(crate) fn put_halves<R: Threads + Sync>(
+    rt: &R,
+    alloc: Global,
+    out: &mut Text,
+    name: &[u8],
+    words: &str,
+    text: &str,
+) -> Result<(), Memory> {
+    let numbers = numbers_of(alloc, words)?;
+    let jobs = u8::try_from(count_at(&numbers, 0)).unwrap_or(0);
+    if jobs < 1 || jobs > 64 {
+        return put_word(out, b"no jobs\n");
+    }
+    match name {
+        b"squares" => put_squares(rt, alloc, out, jobs, text),
+        b"labels" => put_labels(rt, alloc, out, jobs, text),
+        _ => {
+            let without = usize::try_from(number_at(&numbers, 1)).unwrap_or(4);
+            put_counted(rt, alloc, out, jobs, without)
+        }
+    }
+}
