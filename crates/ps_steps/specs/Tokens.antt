@@ -7,6 +7,7 @@
 use Rattle.std.specs.Prelude.{◌≡◌, ℕ, suc, ℤ, pos, negsuc, neg_ℤ, ◌+◌, ◌-◌, ◌≤◌, Bool, true, false, ◌&&◌, ◌||◌, not, ◌==◌, nat_le, IsTrue, if◌then◌else◌, List, [], ◌∷◌, ◌++◌, length, take, drop, codes, Option, Some, None}
 use Rattle.std.specs.List.{list_all, flat_map}
 use Rattle.std.specs.Str.Parse.{digits_value}
+use Rattle.mus_units.specs.Bytes.{is_digit, is_letter}
 use Rattle.ps_text.specs.Fields.{shown}
 use Rattle.ps_text.specs.Range.{is_shown}
 use Rattle.ps_steps.specs.Near.{is_near, is_near_hundredths}
@@ -43,12 +44,6 @@ passed false (b ∷ s) = elim (is_blank b) [ true ↦ passed false s | false ↦
 -- the line that makes the font, one token
 abbrev pub font_line : List ℕ
 font_line = codes "/Courier findfont dup length dict begin {1 index /FID ne {def} {pop pop} ifelse} forall /Encoding ISOLatin1Encoding def currentdict end /EngFont exch definefont pop"
-
-abbrev pub is_digit : ℕ → Bool
-is_digit b = nat_le 48 b && nat_le b 57
-
-abbrev pub is_letter : ℕ → Bool
-is_letter b = (nat_le 65 b && nat_le b 90) || (nat_le 97 b && nat_le b 122)
 
 abbrev pub some_digits : List ℕ → Bool
 some_digits [] = false

@@ -8,7 +8,7 @@ use mus_units::Memory;
 /// Why a run halts at a token. Where several causes hold there, the first in
 /// this order is told: BadToken, Unclosed, Budget, and then the others as they
 /// stand here.
-#[derive(Clone, Copy, Debug, PartialEq, Eq)]
+#[derive(Clone, Copy, PartialEq, Eq)]
 pub enum Cause {
     /// The bytes there begin no token, within a procedure too; or a `{` stands
     /// in a procedure.
@@ -35,7 +35,7 @@ pub enum Cause {
 }
 
 /// Why there are no pages.
-#[derive(Clone, Copy, Debug, PartialEq, Eq)]
+#[derive(Clone, Copy, PartialEq, Eq)]
 pub enum MachineError {
     /// The run halts, after `token` tokens were executed.
     Halt { token: u64, cause: Cause },

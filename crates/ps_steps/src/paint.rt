@@ -4,7 +4,7 @@ use mus_units::{Row, Text};
 
 /// A piece of a path: a point to begin at, a straight line to a point, a curve
 /// by two control points to a point, and the line back to the last Move.
-#[derive(Clone, Copy, Debug, PartialEq, Eq)]
+#[derive(Clone, Copy, PartialEq, Eq)]
 pub enum Seg {
     Move(i64, i64),
     Line(i64, i64),

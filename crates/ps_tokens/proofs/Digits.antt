@@ -8,7 +8,8 @@ use Rattle.std.proofs.lemmas.Bool.{cases_lt, true≢false}
 use Rattle.std.proofs.lemmas.Bool.Decides.{nat_tests}
 use Rattle.std.specs.Char.{digit_value}
 use Rattle.std.proofs.lemmas.List.Folds.{list_all-append}
-use Rattle.ps_steps.specs.Tokens.{is_digit, some_digits, is_fraction, is_pointed, unsigned, without_point}
+use Rattle.mus_units.specs.Bytes.{is_digit}
+use Rattle.ps_steps.specs.Tokens.{some_digits, is_fraction, is_pointed, unsigned, without_point}
 use Rattle.ps_tokens.proofs.Both.{first, second}
 
 digit_small : (b : ℕ) → is_digit b ≡ true → digit_value b < 10

@@ -2,7 +2,10 @@
 
 ghost use Rattle.std.specs.Prelude.{◌≡◌, ◌≤◌, ◌++◌, ◌||◌, length, true, false};
 ghost use Rattle.std.specs.List.{list_all, prefix_len};
-ghost use Rattle.ps_steps.specs.Tokens.{is_blank, is_delimiter, is_regular, is_digit, is_letter, is_skipped, passed, begins, some_digits, unsigned, is_whole, is_fraction, is_pointed, is_name};
+ghost use Rattle.mus_units.specs.Bytes.{is_digit, is_letter};
+ghost use Rattle.ps_steps.specs.Tokens.{is_blank, is_delimiter, is_regular, is_skipped, passed, begins, some_digits, unsigned, is_whole, is_fraction, is_pointed, is_name};
+
+use mus_units::bytes::{is_digit, is_letter};
 
 pub fn is_blank(b: u8) -> bool
     ensures { result ≡ is_blank b }
@@ -20,18 +23,6 @@ pub fn is_regular(b: u8) -> bool
     ensures { result ≡ is_regular b }
 {
     !(is_blank(b) || is_delimiter(b))
-}
-
-pub fn is_digit(b: u8) -> bool
-    ensures { result ≡ is_digit b }
-{
-    b'0' <= b && b <= b'9'
-}
-
-pub fn is_letter(b: u8) -> bool
-    ensures { result ≡ is_letter b }
-{
-    (b'A' <= b && b <= b'Z') || (b'a' <= b && b <= b'z')
 }
 
 /// The bytes without the blanks and comments at their front.
