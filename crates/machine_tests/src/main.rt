@@ -1,0 +1,83 @@
+//! Runs the programs of the table `programs` in its folder, and the documents that
+//! its words name, on the painting machine, and tells what each paints or why it
+//! halts. In the table a line `budget N` stands before a program, and a line with
+//! a point alone behind it; the program is the lines between, joined by LF.
+#![tactic(auto)]
+
+use mus_units::{Memory, Text};
+use paint_text::{put_halt, put_pages};
+use ps_machine::{MachineError, run_machine};
+use std::alloc::Global;
+use std::process::ExitCode;
+use std::rt::Files;
+use std::{env, fs, io};
+
+fn failed() -> io::Error {
+    io::Error::from(io::ErrorKind::OutOfMemory)
+}
+
+/// What a run gives, as text.
+fn told(alloc: Global, program: &[u8], budget: u64) -> Result<Text, Memory> {
+    let mut out = Text::new(alloc);
+    match run_machine(alloc, program, budget) {
+        Ok(pages) => put_pages(&mut out, pages.as_slice())?,
+        Err(MachineError::Halt { token, cause }) => put_halt(&mut out, token, cause)?,
+        Err(MachineError::Memory) => return Err(Memory),
+    }
+    Ok(out)
+}
+
+/// Runs a program, and prints what it gives.
+fn tell<R: AllocGlobal + Print>(rt: &R, program: &[u8], budget: u64) -> io::Result<()> {
+    let Ok(out) = told(rt.alloc(), program, budget) else {
+        return Err(failed());
+    };
+    match std::str::from_utf8(out.as_slice()) {
+        Ok(text) => print!(rt; "{text}")?,
+        Err(_) => println!(rt; "no text")?,
+    }
+    Ok(())
+}
+
+/// The budget that a line gives, where it gives one.
+fn budget_of(line: &[u8]) -> Option<u64> {
+    let digits = line.strip_prefix(b"budget ".as_slice())?;
+    std::str::from_utf8(digits).ok()?.parse::<u64>().ok()
+}
+
+/// Runs the programs of a table, and prints each budget and what is given.
+fn tell_programs<R: AllocGlobal + Print>(rt: &R, table: &[u8]) -> io::Result<()> {
+    let alloc = rt.alloc();
+    let mut program = Vec::new(alloc);
+    let mut budget = None;
+    for line in table.split(|b| *b == b'\n') {
+        match budget {
+            None => budget = budget_of(line),
+            Some(n) => {
+                if line == b".".as_slice() {
+                    tell(rt, &program, n)?;
+                    println!(rt; ".")?;
+                    program.clear();
+                    budget = None;
+                } else {
+                    if !program.is_empty() {
+                        program.push(b'\n')?;
+                    }
+                    program.extend_from_slice(line)?;
+                }
+            }
+        }
+    }
+    Ok(())
+}
+
+fn main(rt: HostRuntime) -> io::Result<ExitCode> {
+    let table = fs::read(&rt, "programs")?;
+    tell_programs(&rt, &table)?;
+    for name in env::args(&rt)?.skip(1) {
+        let document = fs::read(&rt, name.as_str())?;
+        let budget = (document.len() as u64).saturating_mul(100);
+        tell(&rt, &document, budget)?;
+    }
+    Ok(ExitCode::from(0))
+}

@@ -1,0 +1,4 @@
+pub mod Naming
+pub mod Pending
+pub mod Doing
+pub mod Nexts

@@ -1,0 +1,46 @@
+//! Names with their procedures.
+
+ghost use Rattle.std.specs.Prelude.{◌≡◌, OnOk, MatchOption, Some, None};
+ghost use Rattle.ps_steps.specs.State.{no_names};
+ghost use Rattle.ps_steps.specs.Operators.{defined};
+ghost use Rattle.ps_machine.specs.Naming.{names_of};
+
+use mus_units::Memory;
+use ps_steps::{Procedure, Simple};
+use std::alloc::Global;
+use std::collections::BTreeMap;
+
+/// The procedures that names were given.
+#[derive(Drop)]
+pub struct Definitions<'a> {
+    pub bodies: BTreeMap<&'a [u8], Procedure<'a>>,
+}
+
+impl<'a> Definitions<'a> {
+    /// No name has one.
+    pub fn new(alloc: Global) -> Definitions<'a>
+        ensures { names_of result ≡ no_names }
+    {
+        Definitions {
+            bodies: BTreeMap::new(alloc),
+        }
+    }
+
+    /// Gives a name a procedure, in place of the one that it had.
+    pub fn define(&mut self, name: &'a [u8], body: Procedure<'a>) -> Result<(), Memory>
+        ensures { OnOk result (names_of self.new ≡ defined name.now body.entry (names_of self.old)) }
+    {
+        self.bodies.insert(name, body)?;
+        Ok(())
+    }
+
+    /// The procedure of a name, if it was given one.
+    pub fn body_of(&self, name: &'a [u8]) -> Option<&'a [Simple]>
+        ensures { MatchOption result (names_of self.now name.now ≡ None) (λ body. names_of self.now name.now ≡ Some body.now) }
+    {
+        match self.bodies.get(&name) {
+            Some(body) => Some(body.as_slice()),
+            None => None,
+        }
+    }
+}

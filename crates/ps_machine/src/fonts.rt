@@ -1,0 +1,94 @@
+//! The operators on names, fonts and pages.
+
+ghost use Rattle.std.specs.Prelude.{◌≡◌, codes};
+ghost use Rattle.std.specs.Str.{bytes_eq};
+ghost use Rattle.ps_steps.specs.Operators.{operated, def_op, scale_op, setlinewidth_op, findfont_op, scalefont_op, setfont_op, showpage_op};
+ghost use Rattle.ps_machine.specs.Doing.{state_of, DidOrStopped};
+
+use crate::operands::{font_and_number, product};
+use crate::state::{Machine, Stop};
+use mus_units::Row;
+use ps_steps::{Cause, PagePaint, Value};
+use std::alloc::Global;
+
+pub fn setlinewidth(m: &mut Machine) -> Result<(), Stop>
+    ensures { DidOrStopped (operated setlinewidth_op (state_of m.old)) result (state_of m.new) }
+{
+    match m.stack.pop() {
+        Some(Value::Whole(width)) => {
+            m.now.line = width.get();
+            Ok(())
+        }
+        Some(_) => Err(Stop::Halted(Cause::Kind)),
+        None => Err(Stop::Halted(Cause::Stack)),
+    }
+}
+
+pub fn setfont(m: &mut Machine) -> Result<(), Stop>
+    ensures { DidOrStopped (operated setfont_op (state_of m.old)) result (state_of m.new) }
+{
+    match m.stack.pop() {
+        Some(Value::Font(size)) => {
+            m.now.font = size;
+            Ok(())
+        }
+        Some(_) => Err(Stop::Halted(Cause::Kind)),
+        None => Err(Stop::Halted(Cause::Stack)),
+    }
+}
+
+pub fn showpage(alloc: Global, m: &mut Machine) -> Result<(), Stop>
+    ensures { DidOrStopped (operated showpage_op (state_of m.old)) result (state_of m.new) }
+{
+    let paints = std::mem::replace(&mut m.paints, Row::new(alloc));
+    m.pages.push(PagePaint { paints })?;
+    Ok(())
+}
+
+pub fn define(m: &mut Machine) -> Result<(), Stop>
+    ensures { DidOrStopped (operated def_op (state_of m.old)) result (state_of m.new) }
+{
+    if m.stack.len() < 2 {
+        return Err(Stop::Halted(Cause::Stack));
+    }
+    match (m.stack.pop(), m.stack.pop()) {
+        (Some(Value::Body(body)), Some(Value::Label(name))) => {
+            m.names.define(name.as_slice(), body)?;
+            Ok(())
+        }
+        _ => Err(Stop::Halted(Cause::Kind)),
+    }
+}
+
+pub fn scalefont(m: &mut Machine) -> Result<(), Stop>
+    ensures { DidOrStopped (operated scalefont_op (state_of m.old)) result (state_of m.new) }
+{
+    let (size, by) = font_and_number(&mut m.stack)?;
+    let Some(scaled) = product(size, by) else {
+        return Err(Stop::Halted(Cause::Range));
+    };
+    m.stack.push(Value::Font(scaled))?;
+    Ok(())
+}
+
+fn is_engraving_font(name: &[u8]) -> bool
+    ensures { result ≡ bytes_eq name.now (codes "EngFont") }
+{
+    name == b"EngFont".as_slice()
+}
+
+pub fn findfont(m: &mut Machine) -> Result<(), Stop>
+    ensures { DidOrStopped (operated findfont_op (state_of m.old)) result (state_of m.new) }
+{
+    match m.stack.pop() {
+        Some(Value::Label(name)) => {
+            if !(m.made && is_engraving_font(name.as_slice())) {
+                return Err(Stop::Halted(Cause::Name));
+            }
+            m.stack.push(Value::Font(1))?;
+            Ok(())
+        }
+        Some(_) => Err(Stop::Halted(Cause::Kind)),
+        None => Err(Stop::Halted(Cause::Stack)),
+    }
+}

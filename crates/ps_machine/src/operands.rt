@@ -1,0 +1,107 @@
+//! Operands, and numbers that may be too large.
+
+ghost use Rattle.std.specs.Prelude.{◌≡◌, ◌+ℤ◌, ◌*ℤ◌, false, true, MatchOption, reverse};
+ghost use Rattle.ps_steps.specs.Near.{is_near};
+ghost use Rattle.ps_machine.specs.Doing.{IsTwo, IsFontAndNumber, IsPointOfSix, IsSix};
+
+use crate::state::Stop;
+use ps_steps::{Cause, Number, Value};
+
+fn times(a: i64, b: i64) -> i128
+    ensures { result ≡ a *ℤ b }
+{
+    i128::from(a) * i128::from(b)
+}
+
+/// A number that is within 2^60 of 0.
+fn narrow(z: i128) -> Option<i64>
+    ensures value { MatchOption result (is_near z ≡ false) (λ n. n ≡ z) }
+    ensures near { MatchOption result (true ≡ true) (λ n. is_near z ≡ true) }
+{
+    if -(1 << 60) <= z && z <= 1 << 60 {
+        Some(z as i64)
+    } else {
+        None
+    }
+}
+
+/// The product, or none where it is past 2^60 in size.
+pub fn product(a: i64, b: i64) -> Option<i64>
+    ensures value { MatchOption result (is_near (a *ℤ b) ≡ false) (λ z. z ≡ a *ℤ b) }
+    ensures near { MatchOption result (true ≡ true) (λ z. is_near (a *ℤ b) ≡ true) }
+{
+    narrow(times(a, b))
+}
+
+fn sum(a: i64, b: i128) -> Option<i64>
+    ensures value { MatchOption result (is_near (a +ℤ b) ≡ false) (λ z. z ≡ a +ℤ b) }
+    ensures near { MatchOption result (true ≡ true) (λ z. is_near (a +ℤ b) ≡ true) }
+{
+    narrow(i128::from(a).checked_add(b)?)
+}
+
+/// A coordinate, or none where it is past 2^60 in size.
+pub fn coordinate(origin: i64, scale: &Number, v: i64) -> Option<i64>
+    ensures value { MatchOption result (is_near (origin +ℤ (scale.now *ℤ v)) ≡ false) (λ z. z ≡ origin +ℤ (scale.now *ℤ v)) }
+    ensures near { MatchOption result (true ≡ true) (λ z. is_near (origin +ℤ (scale.now *ℤ v)) ≡ true) }
+{
+    sum(origin, times(scale.get(), v))
+}
+
+/// Takes two whole numbers off the stack, the second from the top.
+pub fn two(stack: &mut Vec<Value>) -> Result<(i64, i64), Stop>
+    ensures { IsTwo (reverse stack.old.items) result (reverse stack.new.items) }
+{
+    if stack.len() < 2 {
+        return Err(Stop::Halted(Cause::Stack));
+    }
+    match (stack.pop(), stack.pop()) {
+        (Some(Value::Whole(y)), Some(Value::Whole(x))) => Ok((x.get(), y.get())),
+        _ => Err(Stop::Halted(Cause::Kind)),
+    }
+}
+
+/// Takes a whole number and a font off the stack, the number from the top:
+/// the size of the font, and the number.
+pub fn font_and_number(stack: &mut Vec<Value>) -> Result<(i64, i64), Stop>
+    ensures { IsFontAndNumber (reverse stack.old.items) result (reverse stack.new.items) }
+{
+    if stack.len() < 2 {
+        return Err(Stop::Halted(Cause::Stack));
+    }
+    match (stack.pop(), stack.pop()) {
+        (Some(Value::Whole(by)), Some(Value::Font(size))) => Ok((size, by.get())),
+        _ => Err(Stop::Halted(Cause::Kind)),
+    }
+}
+
+/// The points of a curve: two that draw it, and its end.
+#[derive(Clone, Copy)]
+pub struct Bend {
+    pub first: (i64, i64),
+    pub second: (i64, i64),
+    pub end: (i64, i64),
+}
+
+/// Takes two whole numbers off the stack where a curve has its operands.
+fn point_of_six(stack: &mut Vec<Value>) -> Result<(i64, i64), Stop>
+    ensures { IsPointOfSix (reverse stack.old.items) result (reverse stack.new.items) }
+{
+    match (stack.pop(), stack.pop()) {
+        (Some(Value::Whole(y)), Some(Value::Whole(x))) => Ok((x.get(), y.get())),
+        _ => Err(Stop::Halted(Cause::Kind)),
+    }
+}
+
+/// Takes six whole numbers off the stack, the last from the top.
+pub fn six(stack: &mut Vec<Value>) -> Result<Bend, Stop>
+    ensures { IsSix (reverse stack.old.items) result (reverse stack.new.items) }
+{
+    if stack.len() < 6 {
+        return Err(Stop::Halted(Cause::Stack));
+    }
+    let end = point_of_six(stack)?;
+    let second = point_of_six(stack)?;
+    let first = point_of_six(stack)?;
+    Ok(Bend { first, second, end })
+}

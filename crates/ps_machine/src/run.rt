@@ -1,0 +1,111 @@
+//! Runs of a text.
+
+ghost use Rattle.std.specs.Prelude.{◌≡◌, IfOk, IfErr};
+ghost use Rattle.ps_steps.specs.State.{first_state};
+ghost use Rattle.ps_steps.specs.Steps.{Paints, IsHalt};
+ghost use Rattle.ps_machine.specs.Doing.{state_of};
+ghost use Rattle.ps_machine.specs.Nexts.{IsFirst, IsNext};
+
+use crate::calls::Calls;
+use crate::definitions::Definitions;
+use crate::execute::{Ready, execute};
+use crate::state::{Machine, Stop};
+use mus_units::{Memory, Row};
+use ps_steps::{Cause, Graphics, MachineError, Number, PagePaint, Path, Token};
+use ps_tokens::read_program;
+use std::alloc::Global;
+
+/// What comes next: a token, with the tokens of the text that are left behind
+/// it; or nothing.
+#[derive(Drop)]
+pub enum Next<'a> {
+    End,
+    Token(Ready<'a>, &'a [Token]),
+}
+
+fn start<'a>(alloc: Global) -> Machine<'a>
+    ensures { state_of result ≡ first_state }
+{
+    Machine {
+        stack: Vec::new(alloc),
+        names: Definitions::new(alloc),
+        made: false,
+        now: Graphics {
+            path: Path::new(alloc),
+            scale: Number::point(),
+            x: 0,
+            y: 0,
+            font: 0,
+            line: 1,
+        },
+        saved: Vec::new(alloc),
+        paints: Row::new(alloc),
+        pages: Row::new(alloc),
+    }
+}
+
+/// The first token of the text that is left.
+fn first_of<'a>(tokens: &'a [Token]) -> Next<'a>
+    ensures { IsFirst tokens.now result }
+{
+    match tokens.split_first() {
+        None => Next::End,
+        Some((t, after)) => match t {
+            Token::Simple(t) => Next::Token(Ready::Simple(t), after),
+            Token::Procedure(body) => Next::Token(Ready::Procedure(body.as_slice()), after),
+        },
+    }
+}
+
+/// Takes the next token: of the calls, else of the text.
+fn coming<'a>(calls: &mut Calls<'a>, tokens: &'a [Token]) -> Result<Next<'a>, Memory>
+    ensures { IfOk result (λ n. IsNext calls.old tokens.now n calls.new) }
+{
+    match calls.next()? {
+        Some(t) => Ok(Next::Token(Ready::Simple(t), tokens)),
+        None => Ok(first_of(tokens)),
+    }
+}
+
+/// Runs the bytes of a text: executes its tokens, at most `budget` of them, and
+/// gives what was painted on each page, in 1/10000 point. Halt comes exactly at
+/// the first token where the run can't go on, with the first cause that holds
+/// there: bytes that begin no token, then a budget that is used up, then what
+/// keeps the token from being executed. Memory says nothing of the text.
+pub fn run_machine(alloc: Global, b: &[u8], budget: u64) -> Result<Row<PagePaint>, MachineError>
+    ensures painted { IfOk result (λ pages. Paints b.now budget pages) }
+    ensures halted { IfErr result (λ e. IsHalt b.now budget e) }
+{
+    let program = read_program(alloc, b)?;
+    let mut m = start(alloc);
+    let mut calls = Calls::new(alloc);
+    let mut rest = program.tokens.as_slice();
+    let fault = program.fault;
+    let mut token = 0;
+    loop {
+        match coming(&mut calls, rest)? {
+            Next::End => match fault {
+                None => return Ok(m.pages),
+                Some(cause) => return Err(MachineError::Halt { token, cause }),
+            },
+            Next::Token(t, after) => {
+                if token == budget {
+                    return Err(MachineError::Halt {
+                        token,
+                        cause: Cause::Budget,
+                    });
+                }
+                match execute(alloc, &mut m, &mut calls, t) {
+                    Ok(()) => {
+                        rest = after;
+                        token += 1;
+                    }
+                    Err(Stop::Halted(cause)) => {
+                        return Err(MachineError::Halt { token, cause });
+                    }
+                    Err(Stop::Memory) => return Err(MachineError::Memory),
+                }
+            }
+        }
+    }
+}

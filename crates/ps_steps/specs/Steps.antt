@@ -1,0 +1,94 @@
+-- Runs: the steps of the machine, and its answers.
+use Rattle.std.specs.Prelude.{◌≡◌, ℕ, zero, suc, ◌<◌, ◌≤◌, true, false, List, [], ◌∷◌, ◌++◌}
+use Rattle.ps_steps.specs.declared.halt.Cause.{Cause}
+use Rattle.ps_steps.specs.declared.halt.Cause.TheVariants as causes
+use Rattle.ps_steps.specs.declared.halt.MachineError.{MachineError}
+use Rattle.ps_steps.specs.declared.halt.MachineError.TheVariants.{Halt, Memory}
+use Rattle.ps_steps.specs.declared.paint.PagePaint.{PagePaint}
+use Rattle.ps_steps.specs.Tokens.{Simple, Token, simple_token, TokenAt, NoToken, passed}
+use Rattle.ps_steps.specs.State.{State, first_state}
+use Rattle.ps_steps.specs.Operators.{Outcome, went, halted, executed}
+
+-- where a run stands: the tokens of procedures that are still to be executed, the state, and the text that is left,
+-- which begins with no blank and no comment
+pub record Place : Type 0 where
+  pub pending : List Simple
+  pub state : State
+  pub text : List ℕ
+
+-- before a text
+abbrev pub at : State → List ℕ → Place
+at m s = record { pending = []; state = m; text = passed false s }
+
+-- the next token, and the place behind it
+pub data NextToken : Place → Token → Place → Type 0 where
+  from_pending : (t : Simple) (ts : List Simple) (m : State) (s : List ℕ) → NextToken (record { pending = t ∷ ts; state = m; text = s }) (simple_token t) (record { pending = ts; state = m; text = s })
+  from_text : (m : State) (s rest : List ℕ) (t : Token) → TokenAt s t rest → NextToken (record { pending = []; state = m; text = s }) t (at m rest)
+
+-- a token was executed
+abbrev pub behind : List Simple → State → Place → Place
+behind body m p = record { pending = body ++ p.pending; state = m; text = p.text }
+
+pub record Step (p q : Place) : Type 0 where
+  pub token : Token
+  pub rest : Place
+  pub body : List Simple
+  pub state : State
+  pub next : NextToken p token rest
+  pub went : executed token p.state ≡ went body state
+  pub is : q ≡ behind body state rest
+
+-- so many tokens are executed from one place to another
+pub data Steps : ℕ → Place → Place → Type 0 where
+  here : (p : Place) → Steps zero p p
+  step : (n : ℕ) (p q r : Place) → Step p q → Steps n q r → Steps (suc n) p r
+
+-- nothing is left to execute
+pub record Ended (p : Place) : Type 0 where
+  pub calls : p.pending ≡ []
+  pub text : p.text ≡ []
+
+-- the bytes begin no token
+pub record Unreadable (p : Place) (cause : Cause) : Type 0 where
+  pub calls : p.pending ≡ []
+  pub some : p.text ≡ [] → ⊥
+  pub none : NoToken p.text cause
+
+-- there is a token
+pub record Ready (p : Place) : Type 0 where
+  pub token : Token
+  pub rest : Place
+  pub next : NextToken p token rest
+
+-- the next token can't be executed
+pub record Stuck (p : Place) (cause : Cause) : Type 0 where
+  pub token : Token
+  pub rest : Place
+  pub next : NextToken p token rest
+  pub halts : executed token p.state ≡ halted cause
+
+-- the run ends in its text's end
+pub record Paints (text : List ℕ) (budget : ℕ) (pages : List PagePaint) : Type 0 where
+  pub count : ℕ
+  pub last : Place
+  pub within : count ≤ budget
+  pub run : Steps count (at first_state text) last
+  pub ended : Ended last
+  pub painted : last.state.pages ≡ pages
+
+-- why a run may not go on: the bytes begin no token; or the budget is used up; or the token can't be executed
+pub data Cannot (budget count : ℕ) (p : Place) : Cause → Type 0 where
+  unreadable : (cause : Cause) → Unreadable p cause → Cannot budget count p cause
+  used_up : count ≡ budget → Ready p → Cannot budget count p causes.Budget
+  stuck : (cause : Cause) → count < budget → Stuck p cause → Cannot budget count p cause
+
+pub record Halts (text : List ℕ) (budget token : ℕ) (cause : Cause) : Type 0 where
+  pub last : Place
+  pub within : token ≤ budget
+  pub run : Steps token (at first_state text) last
+  pub halted : Cannot budget token last cause
+
+-- what an error says; Memory says nothing
+abbrev pub IsHalt : List ℕ → ℕ → MachineError → Type 0
+IsHalt text budget (Halt token cause) = Halts text budget token cause
+IsHalt text budget Memory = Unit {0}

@@ -1,0 +1,172 @@
+-- Tokens: how the bytes of a text are parted, and what stands at its front. Spaces, tabs, CR and LF part tokens, as far
+-- as they need parting; a % outside a string begins a comment, which ends before the next LF. A word is a maximal run of
+-- other bytes than these, `(`, `)`, `{`, `}` and `/`. It is a whole number, an optional minus and digits; or a number
+-- with a point, such a number followed by a point and two digits; or a name, a letter and then letters and digits. A
+-- slash and a name are a label. A string is spelled in parentheses, as a page spells words. The line that makes the font
+-- is one token. A procedure from its `{` to its `}` is one token, and has no other procedure in it.
+use Rattle.std.specs.Prelude.{◌≡◌, ℕ, suc, ℤ, pos, negsuc, neg_ℤ, ◌+◌, ◌-◌, ◌≤◌, Bool, true, false, ◌&&◌, ◌||◌, not, ◌==◌, nat_le, IsTrue, if◌then◌else◌, List, [], ◌∷◌, ◌++◌, length, take, drop, codes, Option, Some, None}
+use Rattle.std.specs.List.{list_all, flat_map}
+use Rattle.std.specs.Str.Parse.{digits_value}
+use Rattle.mus_units.specs.Bytes.{is_digit, is_letter}
+use Rattle.ps_text.specs.Fields.{shown}
+use Rattle.ps_text.specs.Range.{is_shown}
+use Rattle.ps_steps.specs.Near.{is_near, is_near_hundredths}
+pub use Rattle.ps_steps.specs.declared.token.Simple.{Simple}
+pub use Rattle.ps_steps.specs.declared.token.Simple.TheVariants.{Whole as whole_token, Pointed as pointed_token, Far as far_token, Words as words_token, Label as label_token, Name as name_token, Font as font_token}
+pub use Rattle.ps_steps.specs.declared.token.Token.{Token}
+pub use Rattle.ps_steps.specs.declared.token.Token.TheVariants.{Simple as simple_token, Procedure as procedure_token}
+use Rattle.ps_steps.specs.declared.halt.Cause.{Cause}
+use Rattle.ps_steps.specs.declared.halt.Cause.TheVariants as causes
+
+-- space, tab, CR and LF
+abbrev pub is_blank : ℕ → Bool
+is_blank b = (b == 32) || (b == 9) || (b == 13) || (b == 10)
+
+-- ( ) { } / and %
+abbrev pub is_delimiter : ℕ → Bool
+is_delimiter b = (b == 40) || (b == 41) || (b == 123) || (b == 125) || (b == 47) || (b == 37)
+
+-- a byte of a word
+abbrev pub is_regular : ℕ → Bool
+is_regular b = not (is_blank b || is_delimiter b)
+
+-- blanks are passed over, and a % begins a comment
+abbrev pub is_skipped : ℕ → Bool
+is_skipped b = is_blank b || (b == 37)
+
+-- a text without the blanks and comments at its front; the flag says that it begins within a comment, which ends before
+-- the next LF
+abbrev pub passed : Bool → List ℕ → List ℕ
+passed inside [] = []
+passed true (b ∷ s) = elim (b == 10) [ true ↦ passed false s | false ↦ passed true s ]
+passed false (b ∷ s) = elim (is_blank b) [ true ↦ passed false s | false ↦ elim (b == 37) [ true ↦ passed true s | false ↦ b ∷ s ] ]
+
+-- the line that makes the font, one token
+abbrev pub font_line : List ℕ
+font_line = codes "/Courier findfont dup length dict begin {1 index /FID ne {def} {pop pop} ifelse} forall /Encoding ISOLatin1Encoding def currentdict end /EngFont exch definefont pop"
+
+abbrev pub some_digits : List ℕ → Bool
+some_digits [] = false
+some_digits (b ∷ w) = list_all is_digit (b ∷ w)
+
+-- a word without a minus in front
+abbrev pub unsigned : List ℕ → List ℕ
+unsigned [] = []
+unsigned (b ∷ w) = if b == 45 then w else b ∷ w
+
+abbrev pub is_whole : List ℕ → Bool
+is_whole w = some_digits (unsigned w)
+
+-- digits, a point and two digits: the part before the last three bytes, and those
+abbrev pub is_fraction : List ℕ → Bool
+is_fraction (p ∷ a ∷ b ∷ []) = (p == 46) && is_digit a && is_digit b
+is_fraction _ = false
+
+abbrev pub is_pointed : List ℕ → Bool
+is_pointed w = some_digits (take (length (unsigned w) - 3) (unsigned w)) && is_fraction (drop (length (unsigned w) - 3) (unsigned w))
+
+abbrev pub is_name : List ℕ → Bool
+is_name [] = false
+is_name (b ∷ w) = is_letter b && list_all (λ c. is_letter c || is_digit c) w
+
+-- digits without their point
+abbrev pub without_point : List ℕ → List ℕ
+without_point w = take (length w - 3) w ++ drop (length w - 2) w
+
+-- a number past 2^60 in size is far, and what it is doesn't matter
+abbrev pub whole_number : ℤ → Simple
+whole_number z = if is_near z then whole_token z else far_token
+
+abbrev pub pointed_number : ℤ → Simple
+pointed_number z = if is_near_hundredths z then pointed_token z else far_token
+
+abbrev pub has_minus : List ℕ → Bool
+has_minus [] = false
+has_minus (b ∷ w) = b == 45
+
+-- the number that an optional minus and digits write
+abbrev pub number_of : List ℕ → ℤ
+number_of w = if has_minus w then neg_ℤ (pos (digits_value 10 (unsigned w))) else pos (digits_value 10 (unsigned w))
+
+-- in hundredths, where it has a point
+abbrev pub hundredths_of : List ℕ → ℤ
+hundredths_of w = if has_minus w then neg_ℤ (pos (digits_value 10 (without_point (unsigned w)))) else pos (digits_value 10 (without_point (unsigned w)))
+
+-- the token that a word is
+abbrev pub word_token : List ℕ → Option Simple
+word_token w =
+    if is_whole w then Some (whole_number (number_of w))
+    else if is_pointed w then Some (pointed_number (hundredths_of w))
+    else if is_name w then Some (name_token w)
+    else None
+
+abbrev pub begins : (ℕ → Bool) → List ℕ → Bool
+begins p [] = false
+begins p (b ∷ s) = p b
+
+-- the text begins with this word, a maximal run of regular bytes
+pub record IsWord (s w rest : List ℕ) : Type 0 where
+  pub some : 1 ≤ length w
+  pub regular : list_all is_regular w ≡ true
+  pub cut : s ≡ w ++ rest
+  pub maximal : begins is_regular rest ≡ false
+
+-- behind a `(`, words as they are spelled in a line of a page, and a `)`
+pub record IsString (s words rest : List ℕ) : Type 0 where
+  pub good : IsTrue (list_all is_shown words)
+  pub spelled : s ≡ flat_map shown words ++ 41 ∷ rest
+
+-- all bytes to the end are the beginning of some string
+pub record IsOpen (s : List ℕ) : Type 0 where
+  pub words : List ℕ
+  pub first : ℕ
+  pub more : List ℕ
+  pub good : IsTrue (list_all is_shown words)
+  pub spelled : s ++ first ∷ more ≡ flat_map shown words ++ 41 ∷ []
+
+-- what stands at the front
+pub data Read : Type 0 where
+  found : (t : Simple) (rest : List ℕ) → Read
+  opening : (rest : List ℕ) → Read
+  closing : (rest : List ℕ) → Read
+  unread : (cause : Cause) → Read
+
+abbrev pub IsFont : List ℕ → List ℕ → Type 0
+IsFont s rest = s ≡ font_line ++ rest
+
+-- what stands at the front of a text that begins with no blank and no comment
+pub data Front (s : List ℕ) : Read → Type 0 where
+  font_front : (rest : List ℕ) → IsFont s rest → Front s (found font_token rest)
+  label_front : (t w rest : List ℕ) → s ≡ 47 ∷ t → ((r : List ℕ) → IsFont s r → ⊥) → IsWord t w rest → is_name w ≡ true → Front s (found (label_token w) rest)
+  no_label : (t : List ℕ) → s ≡ 47 ∷ t → ((r : List ℕ) → IsFont s r → ⊥) → ((w rest : List ℕ) → IsWord t w rest → is_name w ≡ true → ⊥) → Front s (unread causes.BadToken)
+  string_front : (t words rest : List ℕ) → s ≡ 40 ∷ t → IsString t words rest → Front s (found (words_token words) rest)
+  open_string : (t : List ℕ) → s ≡ 40 ∷ t → IsOpen t → Front s (unread causes.Unclosed)
+  no_string : (t : List ℕ) → s ≡ 40 ∷ t → ((words rest : List ℕ) → IsString t words rest → ⊥) → (IsOpen t → ⊥) → Front s (unread causes.BadToken)
+  opening_front : (rest : List ℕ) → s ≡ 123 ∷ rest → Front s (opening rest)
+  closing_front : (rest : List ℕ) → s ≡ 125 ∷ rest → Front s (closing rest)
+  stray : (rest : List ℕ) → s ≡ 41 ∷ rest → Front s (unread causes.BadToken)
+  word_front : (w rest : List ℕ) (t : Simple) → IsWord s w rest → word_token w ≡ Some t → Front s (found t rest)
+  no_word : (w rest : List ℕ) → IsWord s w rest → word_token w ≡ None → Front s (unread causes.BadToken)
+
+-- the tokens of a procedure, from behind its `{`, and what stands behind its `}`
+pub data Body : List ℕ → List Simple → List ℕ → Type 0 where
+  closes : (s rest : List ℕ) → Front (passed false s) (closing rest) → Body s [] rest
+  goes_on : (s r rest : List ℕ) (t : Simple) (ts : List Simple) → Front (passed false s) (found t r) → Body r ts rest → Body s (t ∷ ts) rest
+
+-- why it is none
+pub data NoBody : List ℕ → Cause → Type 0 where
+  unclosed : (s : List ℕ) → passed false s ≡ [] → NoBody s causes.Unclosed
+  nested : (s rest : List ℕ) → Front (passed false s) (opening rest) → NoBody s causes.BadToken
+  unread_within : (s : List ℕ) (cause : Cause) → Front (passed false s) (unread cause) → NoBody s cause
+  later : (s r : List ℕ) (t : Simple) (cause : Cause) → Front (passed false s) (found t r) → NoBody r cause → NoBody s cause
+
+-- a token stands at the front, and rest behind it
+pub data TokenAt (s : List ℕ) : Token → List ℕ → Type 0 where
+  simple_at : (t : Simple) (rest : List ℕ) → Front s (found t rest) → TokenAt s (simple_token t) rest
+  procedure_at : (r rest : List ℕ) (ts : List Simple) → Front s (opening r) → Body r ts rest → TokenAt s (procedure_token ts) rest
+
+-- none does
+pub data NoToken (s : List ℕ) : Cause → Type 0 where
+  unread_at : (cause : Cause) → Front s (unread cause) → NoToken s cause
+  closing_at : (r : List ℕ) → Front s (closing r) → NoToken s causes.Unclosed
+  no_body : (r : List ℕ) (cause : Cause) → Front s (opening r) → NoBody r cause → NoToken s cause

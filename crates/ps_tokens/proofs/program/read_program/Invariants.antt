@@ -1,0 +1,10 @@
+use Rattle.std.proofs.Common.{length, false}
+use Rattle.ps_steps.specs.Tokens.{passed}
+use Rattle.ps_tokens.proofs.Programs.{ProgramStage}
+use Rattle.ps_tokens.proofs.program.read_program.Given as goal
+
+abbrev pub invariant-loop-rest : goal.invariant-loop-rest
+invariant-loop-rest l = ProgramStage (passed false l.bytes) l.tokens l.rest
+
+abbrev pub decreases-loop-rest : goal.decreases-loop-rest
+decreases-loop-rest l = length l.rest

@@ -1,0 +1,41 @@
+-- One byte as words spell it.
+use Rattle.std.specs.Prelude.{◌≡◌, ℕ, Bool, ◌&&◌, not, nat_le, IsTrue, List, ◌∷◌, ◌++◌}
+use Rattle.ps_text.specs.Fields.{is_special, shown}
+use Rattle.ps_text.specs.Range.{is_shown}
+use Rattle.ps_tokens.specs.declared.string.Spelling.{Spelling}
+use Rattle.ps_tokens.specs.declared.string.Spelling.TheVariants as spellings
+
+-- a byte that stands for itself
+abbrev pub is_bare : ℕ → Bool
+is_bare b = nat_le 32 b && nat_le b 126 && not (is_special b)
+
+-- 2 or 3, the first octal digit of a byte from A0 on
+abbrev pub is_lead : ℕ → Bool
+is_lead b = nat_le 50 b && nat_le b 51
+
+abbrev pub is_octal : ℕ → Bool
+is_octal b = nat_le 48 b && nat_le b 55
+
+-- a byte is spelled at the front
+pub record IsByte (s : List ℕ) (b : ℕ) (rest : List ℕ) : Type 0 where
+  pub good : IsTrue (is_shown b)
+  pub spelled : s ≡ shown b ++ rest
+
+-- all bytes to the end are a proper beginning of what spells some byte
+pub record IsCut (s : List ℕ) : Type 0 where
+  pub byte : ℕ
+  pub first : ℕ
+  pub more : List ℕ
+  pub good : IsTrue (is_shown byte)
+  pub spelled : s ++ first ∷ more ≡ shown byte
+
+-- whatever follows these bytes, no spelled byte and no `)` stands at the front
+pub record IsBroken (s : List ℕ) : Type 0 where
+  pub no_byte : (b : ℕ) (t u : List ℕ) → IsTrue (is_shown b) → s ++ t ≡ shown b ++ u → ⊥
+  pub no_close : (t u : List ℕ) → s ++ t ≡ 41 ∷ u → ⊥
+
+abbrev pub IsSpelling : List ℕ → Spelling → Type 0
+IsSpelling s (spellings.Byte b rest) = IsByte s b rest.now
+IsSpelling s (spellings.Close rest) = s ≡ 41 ∷ rest.now
+IsSpelling s spellings.Cut = IsCut s
+IsSpelling s spellings.Broken = IsBroken s

@@ -1,0 +1,67 @@
+//! Procedures and whole tokens.
+
+ghost use Rattle.std.specs.Prelude.{◌≡◌, ◌≤◌, length, false, IfOk};
+ghost use Rattle.ps_steps.specs.Tokens.{begins, is_skipped};
+ghost use Rattle.ps_tokens.specs.Reading.{IsBodyRead, IsTokenRead};
+
+use crate::front::{Read, front};
+use crate::scan::skip;
+use mus_units::{Memory, Row};
+use ps_steps::{Cause, Simple, Token};
+use std::alloc::Global;
+
+/// The tokens of a procedure and what stands behind its end, or why it is none.
+#[derive(Drop)]
+pub enum BodyRead<'a> {
+    Whole(Row<Simple>, &'a [u8]),
+    Not(Cause),
+}
+
+/// A token and what stands behind it, or why there is none.
+#[derive(Drop)]
+pub enum TokenRead<'a> {
+    Found(Token, &'a [u8]),
+    Not(Cause),
+}
+
+/// The procedure whose `{` stands before these bytes.
+pub fn body(alloc: Global, bytes: &[u8]) -> Result<BodyRead<'_>, Memory>
+    ensures { IfOk result (IsBodyRead bytes.now) }
+{
+    let mut tokens = Row::new(alloc);
+    let mut rest = bytes;
+    loop {
+        let here = skip(rest);
+        if here.is_empty() {
+            return Ok(BodyRead::Not(Cause::Unclosed));
+        }
+        match front(alloc, here)? {
+            Read::Found(t, after) => {
+                tokens.push(t)?;
+                rest = after;
+            }
+            Read::Closing(after) => return Ok(BodyRead::Whole(tokens, after)),
+            Read::Opening(_) => return Ok(BodyRead::Not(Cause::BadToken)),
+            Read::Unread(cause) => return Ok(BodyRead::Not(cause)),
+        }
+    }
+}
+
+/// The token at the front of bytes that begin with no blank and no comment.
+pub fn token(alloc: Global, bytes: &[u8]) -> Result<TokenRead<'_>, Memory>
+    requires some { 1 ≤ length bytes.now }
+    requires starts { begins is_skipped bytes.now ≡ false }
+    ensures { IfOk result (IsTokenRead bytes.now) }
+{
+    match front(alloc, bytes)? {
+        Read::Found(t, after) => Ok(TokenRead::Found(Token::Simple(t), after)),
+        Read::Closing(_) => Ok(TokenRead::Not(Cause::Unclosed)),
+        Read::Unread(cause) => Ok(TokenRead::Not(cause)),
+        Read::Opening(after) => match body(alloc, after)? {
+            BodyRead::Whole(tokens, behind) => {
+                Ok(TokenRead::Found(Token::Procedure(tokens), behind))
+            }
+            BodyRead::Not(cause) => Ok(TokenRead::Not(cause)),
+        },
+    }
+}

@@ -1,0 +1,82 @@
+//! What stands at the front of a text.
+
+ghost use Rattle.std.specs.Prelude.{◌≡◌, ◌≤◌, ◌++◌, ◌∷◌, ℕ, List, length, true, false, IfOk, MatchOption};
+ghost use Rattle.ps_steps.specs.Tokens.{font_line, begins, is_regular, is_skipped, Front};
+ghost use Rattle.ps_tokens.specs.Reading.{read_of};
+
+use crate::number::word_token;
+use crate::scan::{is_name, word};
+use crate::string::string;
+use mus_units::{Memory, Text};
+use ps_steps::{Cause, Simple};
+use std::alloc::Global;
+
+/// What stands at the front of some bytes.
+#[derive(Drop)]
+pub enum Read<'a> {
+    Found(Simple, &'a [u8]),
+    Opening(&'a [u8]),
+    Closing(&'a [u8]),
+    Unread(Cause),
+}
+
+const FONT: &[u8] =
+    b"/Courier findfont dup length dict begin {1 index /FID ne {def} {pop pop} ifelse} forall /Encoding ISOLatin1Encoding def currentdict end /EngFont exch definefont pop";
+
+fn font_bytes() -> &'static [u8]
+    ensures { result.now ≡ font_line }
+{
+    FONT
+}
+
+fn strip<'a>(prefix: &[u8], bytes: &'a [u8]) -> Option<&'a [u8]>
+    ensures { MatchOption result ((rest : List ℕ) → bytes.now ≡ prefix.now ++ rest → ⊥) (λ rest. bytes.now ≡ prefix.now ++ rest.now) }
+{
+    bytes.strip_prefix(prefix)
+}
+
+/// What stands at a slash.
+fn slash<'a>(alloc: Global, bytes: &'a [u8], after: &'a [u8]) -> Result<Read<'a>, Memory>
+    requires { bytes.now ≡ 47 ∷ after.now }
+    ensures { IfOk result (λ r. Front bytes.now (read_of r)) }
+{
+    if let Some(rest) = strip(font_bytes(), bytes) {
+        return Ok(Read::Found(Simple::Font, rest));
+    }
+    let (name, rest) = word(after);
+    if !is_name(name) {
+        return Ok(Read::Unread(Cause::BadToken));
+    }
+    Ok(Read::Found(Simple::Label(Text::from_slice(alloc, name)?), rest))
+}
+
+/// What stands at a byte of a word.
+fn regular(alloc: Global, bytes: &[u8]) -> Result<Read<'_>, Memory>
+    requires { begins is_regular bytes.now ≡ true }
+    ensures { IfOk result (λ r. Front bytes.now (read_of r)) }
+{
+    let (w, rest) = word(bytes);
+    match word_token(alloc, w)? {
+        Some(t) => Ok(Read::Found(t, rest)),
+        None => Ok(Read::Unread(Cause::BadToken)),
+    }
+}
+
+/// What stands at the front of bytes that begin with no blank and no comment.
+pub fn front(alloc: Global, bytes: &[u8]) -> Result<Read<'_>, Memory>
+    requires some { 1 ≤ length bytes.now }
+    requires starts { begins is_skipped bytes.now ≡ false }
+    ensures { IfOk result (λ r. Front bytes.now (read_of r)) }
+{
+    match bytes.split_first() {
+        None => Ok(Read::Unread(Cause::BadToken)),
+        Some((b, rest)) => match *b {
+            b'(' => string(alloc, rest),
+            b')' => Ok(Read::Unread(Cause::BadToken)),
+            b'{' => Ok(Read::Opening(rest)),
+            b'}' => Ok(Read::Closing(rest)),
+            b'/' => slash(alloc, bytes, rest),
+            _ => regular(alloc, bytes),
+        },
+    }
+}

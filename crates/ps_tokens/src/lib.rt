@@ -1,0 +1,13 @@
+//! The tokens of a text for the painting machine: its bytes are parted into
+//! numbers, strings, names and procedures, up to the end or to the first bytes
+//! that begin no token.
+#![tactic(auto)]
+
+pub mod body;
+pub mod front;
+pub mod number;
+pub mod program;
+pub mod scan;
+pub mod string;
+
+pub use program::{Program, read_program};

@@ -1,0 +1,149 @@
+//! Strings, as words are spelled in parentheses.
+
+ghost use Rattle.std.specs.Prelude.{◌≡◌, ◌∷◌, ◌≤◌, true, false, IfOk};
+ghost use Rattle.ps_text.specs.Fields.{is_special};
+ghost use Rattle.ps_steps.specs.Tokens.{Front};
+ghost use Rattle.ps_tokens.specs.Reading.{read_of};
+ghost use Rattle.ps_tokens.specs.Spelling.{IsSpelling, is_bare, is_lead, is_octal};
+
+use crate::front::Read;
+use mus_units::{Memory, Text};
+use ps_steps::{Cause, Simple};
+use std::alloc::Global;
+
+/// What stands at the front of bytes within a string: a byte as it is spelled,
+/// the closing parenthesis, the beginning of a spelled byte and then the end of
+/// the bytes, or nothing that a string has.
+#[derive(Drop)]
+pub enum Spelling<'a> {
+    Byte(u8, &'a [u8]),
+    Close(&'a [u8]),
+    Cut,
+    Broken,
+}
+
+fn is_special(b: u8) -> bool
+    ensures { result ≡ is_special b }
+{
+    b == b'(' || b == b')' || b == b'\\'
+}
+
+/// A byte that stands for itself.
+fn is_bare(b: u8) -> bool
+    ensures { result ≡ is_bare b }
+{
+    b' ' <= b && b <= b'~' && !is_special(b)
+}
+
+/// A first octal digit.
+fn is_lead(b: u8) -> bool
+    ensures { result ≡ is_lead b }
+{
+    b'2' <= b && b <= b'3'
+}
+
+fn is_octal(b: u8) -> bool
+    ensures { result ≡ is_octal b }
+{
+    b'0' <= b && b <= b'7'
+}
+
+/// The first of the bytes that are spelled by three octal digits.
+const FIRST_HIGH: u8 = 160;
+
+/// Behind a backslash and two octal digits.
+fn third(a: u8, b: u8, bytes: &[u8]) -> Spelling<'_>
+    requires lead { is_lead a ≡ true }
+    requires octal { is_octal b ≡ true }
+    ensures { IsSpelling (92 ∷ a ∷ b ∷ bytes.now) result }
+{
+    let value = (a - b'0') * 64 + (b - b'0') * 8;
+    if value < FIRST_HIGH {
+        return Spelling::Broken;
+    }
+    match bytes.split_first() {
+        None => Spelling::Cut,
+        Some((c, rest)) => {
+            if is_octal(*c) {
+                Spelling::Byte(value + (*c - b'0'), rest)
+            } else {
+                Spelling::Broken
+            }
+        }
+    }
+}
+
+/// Behind a backslash and a byte that is no parenthesis and no backslash.
+fn second(a: u8, bytes: &[u8]) -> Spelling<'_>
+    requires { is_special a ≡ false }
+    ensures { IsSpelling (92 ∷ a ∷ bytes.now) result }
+{
+    if !is_lead(a) {
+        return Spelling::Broken;
+    }
+    match bytes.split_first() {
+        None => Spelling::Cut,
+        Some((b, rest)) => {
+            if is_octal(*b) {
+                third(a, *b, rest)
+            } else {
+                Spelling::Broken
+            }
+        }
+    }
+}
+
+/// Behind a backslash.
+fn escaped(bytes: &[u8]) -> Spelling<'_>
+    ensures { IsSpelling (92 ∷ bytes.now) result }
+{
+    match bytes.split_first() {
+        None => Spelling::Cut,
+        Some((a, rest)) => {
+            if is_special(*a) {
+                Spelling::Byte(*a, rest)
+            } else {
+                second(*a, rest)
+            }
+        }
+    }
+}
+
+/// What stands at the front of bytes within a string.
+fn read_spelling(bytes: &[u8]) -> Spelling<'_>
+    ensures { IsSpelling bytes.now result }
+{
+    match bytes.split_first() {
+        None => Spelling::Cut,
+        Some((b, rest)) => match *b {
+            b')' => Spelling::Close(rest),
+            b'\\' => escaped(rest),
+            byte => {
+                if is_bare(byte) {
+                    Spelling::Byte(byte, rest)
+                } else {
+                    Spelling::Broken
+                }
+            }
+        },
+    }
+}
+
+/// What stands behind a `(`.
+pub fn string(alloc: Global, bytes: &[u8]) -> Result<Read<'_>, Memory>
+    ensures { IfOk result (λ r. Front (40 ∷ bytes.now) (read_of r)) }
+{
+    let mut words = Text::new(alloc);
+    let mut rest = bytes;
+    loop {
+        match read_spelling(rest) {
+            Spelling::Byte(b, after) => {
+                words.push(b)?;
+                rest = after;
+            }
+            Spelling::Close(after) => return Ok(Read::Found(Simple::Words(words), after)),
+            Spelling::Cut => return Ok(Read::Unread(Cause::Unclosed)),
+            Spelling::Broken => return Ok(Read::Unread(Cause::BadToken)),
+        }
+    }
+}
