@@ -21,9 +21,19 @@ ALLOCATOR = r"""
 #include <unistd.h>
 extern void *__libc_malloc(size_t), *__libc_calloc(size_t, size_t), *__libc_realloc(void *, size_t), *__libc_memalign(size_t, size_t);
 static long count, failing = -1;
+static void tell(void) {
+    static int file = -1;
+    if (file == -1) { const char *to = getenv("COUNT_TO"); file = to ? atoi(to) : -2; }
+    if (file < 0) return;
+    char text[8]; long left = count;
+    for (int at = 8; at-- > 0; left /= 10) text[at] = '0' + left % 10;
+    if (pwrite(file, text, sizeof text, 0) < 0) _exit(99);
+}
 static int fails(void) {
     if (failing < 0) { const char *at = getenv("FAILING"); failing = at ? atol(at) : 0; }
-    if (++count != failing) return 0;
+    ++count;
+    tell();
+    if (count != failing) return 0;
     errno = ENOMEM;
     return 1;
 }
@@ -33,11 +43,6 @@ void *realloc(void *p, size_t n) { return fails() ? NULL : __libc_realloc(p, n);
 void *memalign(size_t a, size_t n) { return fails() ? NULL : __libc_memalign(a, n); }
 void *aligned_alloc(size_t a, size_t n) { return memalign(a, n); }
 int posix_memalign(void **p, size_t a, size_t n) { *p = memalign(a, n); return *p ? 0 : ENOMEM; }
-__attribute__((destructor)) static void tell(void) {
-    char text[32]; int at = sizeof text; long left = count;
-    do { text[--at] = '0' + left % 10; left /= 10; } while (left);
-    if (getenv("COUNT_TO")) { if (write(atoi(getenv("COUNT_TO")), text + at, sizeof text - at) < 0) _exit(99); }
-}
 """
 
 
@@ -51,11 +56,10 @@ def run(program, library, words, text, failing, counted=None):
 
 def allocations(program, library, words, text):
     """How many allocations a run asks for, and what it writes when none fails."""
-    reading, writing = os.pipe()
-    whole = run(program, library, words, text, 0, writing)
-    os.close(writing)
-    with os.fdopen(reading) as it:
-        return int(it.read()), whole
+    with tempfile.TemporaryFile() as told:
+        whole = run(program, library, words, text, 0, told.fileno())
+        told.seek(0)
+        return int(told.read() or b"0"), whole
 
 
 def is_wanted(whole, tried):
