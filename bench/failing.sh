@@ -87,6 +87,8 @@ def main(program, root):
             (["inspect"], document),
             (["inspect"], b"no pages"),
             (["check"], listing),
+            (["paint"], document),
+            (["paint"], b"1 moveto"),
             (["make", "1"], b""),
             (["trial", "1"], b""),
             (["no", "command"], b""),

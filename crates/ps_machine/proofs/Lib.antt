@@ -4,3 +4,4 @@ pub mod Frames
 pub mod NamesLemmas
 pub mod Six
 mod OneAnswer
+mod Held

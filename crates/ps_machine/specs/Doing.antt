@@ -20,8 +20,8 @@ state_of m = record {
   stack = reverse m.stack.items;
   names = names_of m.names;
   made = m.made;
-  now = m.now;
-  saved = reverse m.saved.items;
+  now = m.canvas.now;
+  saved = m.canvas.saved;
   paints = m.paints;
   pages = m.pages;
 }

@@ -1,22 +1,22 @@
 //! The operators that draw and move.
 
-ghost use Rattle.std.specs.Prelude.{◌≡◌, [], IfOk};
+ghost use Rattle.std.specs.Prelude.{◌≡◌};
 ghost use Rattle.ps_steps.specs.Operators.{operated, lineto, curveto, curveto_op, moveto_op, lineto_op, closepath_op, fill_op, stroke_op, gsave_op, grestore_op, translate_op};
 ghost use Rattle.ps_machine.specs.Doing.{state_of, DidOrStopped, IsPoint, IsOnPath, numbers_of};
 
+use crate::canvas::Canvas;
 use crate::operands::{Bend, coordinate, product, six, two};
 use crate::state::{Machine, Stop};
-use mus_units::{Memory, Row};
-use ps_steps::{Cause, Graphics, Paint, Path, Seg};
+use ps_steps::{Cause, Paint, Seg};
 use std::alloc::Global;
 
-fn point(g: &Graphics, x: i64, y: i64) -> Result<(i64, i64), Stop>
-    ensures { IsPoint g.now x y result }
+fn point(canvas: &Canvas, x: i64, y: i64) -> Result<(i64, i64), Stop>
+    ensures { IsPoint canvas.now.now x y result }
 {
-    let Some(across) = coordinate(g.x, &g.scale, x) else {
+    let Some(across) = coordinate(canvas.left(), canvas.scale(), x) else {
         return Err(Stop::Halted(Cause::Range));
     };
-    let Some(above) = coordinate(g.y, &g.scale, y) else {
+    let Some(above) = coordinate(canvas.bottom(), canvas.scale(), y) else {
         return Err(Stop::Halted(Cause::Range));
     };
     Ok((across, above))
@@ -26,8 +26,8 @@ pub fn moveto(m: &mut Machine) -> Result<(), Stop>
     ensures { DidOrStopped (operated moveto_op (state_of m.old)) result (state_of m.new) }
 {
     let (x, y) = two(&mut m.stack)?;
-    let (x, y) = point(&m.now, x, y)?;
-    m.now.path.push(Seg::Move(x, y))?;
+    let (x, y) = point(&m.canvas, x, y)?;
+    m.canvas.push(Seg::Move(x, y))?;
     Ok(())
 }
 
@@ -35,60 +35,43 @@ pub fn translate(m: &mut Machine) -> Result<(), Stop>
     ensures { DidOrStopped (operated translate_op (state_of m.old)) result (state_of m.new) }
 {
     let (x, y) = two(&mut m.stack)?;
-    let (x, y) = point(&m.now, x, y)?;
-    m.now.x = x;
-    m.now.y = y;
+    let (x, y) = point(&m.canvas, x, y)?;
+    m.canvas.set_origin(x, y);
     Ok(())
 }
 
 pub fn grestore(m: &mut Machine) -> Result<(), Stop>
     ensures { DidOrStopped (operated grestore_op (state_of m.old)) result (state_of m.new) }
 {
-    match m.saved.pop() {
-        Some(g) => {
-            m.now = g;
-            Ok(())
-        }
-        None => Err(Stop::Halted(Cause::Restore)),
+    if m.canvas.restore() {
+        Ok(())
+    } else {
+        Err(Stop::Halted(Cause::Restore))
     }
 }
 
-fn copied(alloc: Global, g: &Graphics) -> Result<Graphics, Memory>
-    ensures { IfOk result (λ k. k ≡ g.now) }
-{
-    Ok(Graphics {
-        path: g.path.copied(alloc)?,
-        scale: g.scale.same(),
-        x: g.x,
-        y: g.y,
-        font: g.font,
-        line: g.line,
-    })
-}
-
-pub fn gsave(alloc: Global, m: &mut Machine) -> Result<(), Stop>
+pub fn gsave(m: &mut Machine) -> Result<(), Stop>
     ensures { DidOrStopped (operated gsave_op (state_of m.old)) result (state_of m.new) }
 {
-    let kept = copied(alloc, &m.now)?;
-    m.saved.push(kept)?;
+    m.canvas.save()?;
     Ok(())
 }
 
-fn on_path(g: &Graphics) -> Result<(), Stop>
-    ensures { IsOnPath g.now.path result }
+fn on_path(canvas: &Canvas) -> Result<(), Stop>
+    ensures { IsOnPath canvas.now.now.path result }
 {
-    if g.path.as_slice().is_empty() {
-        return Err(Stop::Halted(Cause::Point));
+    match canvas.current() {
+        Some(_) => Ok(()),
+        None => Err(Stop::Halted(Cause::Point)),
     }
-    Ok(())
 }
 
 fn add_line(m: &mut Machine, x: i64, y: i64) -> Result<(), Stop>
     ensures { DidOrStopped (lineto x y (state_of m.old)) result (state_of m.new) }
 {
-    on_path(&m.now)?;
-    let (x, y) = point(&m.now, x, y)?;
-    m.now.path.push(Seg::Line(x, y))?;
+    on_path(&m.canvas)?;
+    let (x, y) = point(&m.canvas, x, y)?;
+    m.canvas.push(Seg::Line(x, y))?;
     Ok(())
 }
 
@@ -102,24 +85,16 @@ pub fn lineto(m: &mut Machine) -> Result<(), Stop>
 pub fn closepath(m: &mut Machine) -> Result<(), Stop>
     ensures { DidOrStopped (operated closepath_op (state_of m.old)) result (state_of m.new) }
 {
-    if !m.now.path.as_slice().is_empty() {
-        m.now.path.push(Seg::Close)?;
+    if m.canvas.current().is_some() {
+        m.canvas.push(Seg::Close)?;
     }
     Ok(())
-}
-
-/// The path, which is emptied.
-fn taken(alloc: Global, m: &mut Machine) -> Row<Seg>
-    ensures path { result ≡ m.old.now.path }
-    ensures rest { m.new ≡ record m.old { now = record m.old.now { path = [] } } }
-{
-    std::mem::replace(&mut m.now.path, Path::new(alloc)).into_pieces()
 }
 
 pub fn fill(alloc: Global, m: &mut Machine) -> Result<(), Stop>
     ensures { DidOrStopped (operated fill_op (state_of m.old)) result (state_of m.new) }
 {
-    let path = taken(alloc, m);
+    let path = m.canvas.take_path(alloc)?;
     m.paints.push(Paint::Fill(path))?;
     Ok(())
 }
@@ -127,10 +102,10 @@ pub fn fill(alloc: Global, m: &mut Machine) -> Result<(), Stop>
 pub fn stroke(alloc: Global, m: &mut Machine) -> Result<(), Stop>
     ensures { DidOrStopped (operated stroke_op (state_of m.old)) result (state_of m.new) }
 {
-    let Some(width) = product(m.now.line, m.now.scale.get()) else {
+    let Some(width) = product(m.canvas.line(), m.canvas.scale().get()) else {
         return Err(Stop::Halted(Cause::Range));
     };
-    let path = taken(alloc, m);
+    let path = m.canvas.take_path(alloc)?;
     m.paints.push(Paint::Stroke(width, path))?;
     Ok(())
 }
@@ -138,11 +113,11 @@ pub fn stroke(alloc: Global, m: &mut Machine) -> Result<(), Stop>
 fn add_curve(m: &mut Machine, bend: &Bend) -> Result<(), Stop>
     ensures { DidOrStopped (curveto (numbers_of bend.now) (state_of m.old)) result (state_of m.new) }
 {
-    on_path(&m.now)?;
-    let (a, b) = point(&m.now, bend.first.0, bend.first.1)?;
-    let (c, d) = point(&m.now, bend.second.0, bend.second.1)?;
-    let (x, y) = point(&m.now, bend.end.0, bend.end.1)?;
-    m.now.path.push(Seg::Curve(a, b, c, d, x, y))?;
+    on_path(&m.canvas)?;
+    let (a, b) = point(&m.canvas, bend.first.0, bend.first.1)?;
+    let (c, d) = point(&m.canvas, bend.second.0, bend.second.1)?;
+    let (x, y) = point(&m.canvas, bend.end.0, bend.end.1)?;
+    m.canvas.push(Seg::Curve(a, b, c, d, x, y))?;
     Ok(())
 }
 

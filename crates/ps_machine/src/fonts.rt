@@ -16,7 +16,7 @@ pub fn setlinewidth(m: &mut Machine) -> Result<(), Stop>
 {
     match m.stack.pop() {
         Some(Value::Whole(width)) => {
-            m.now.line = width.get();
+            m.canvas.set_line(width.get());
             Ok(())
         }
         Some(_) => Err(Stop::Halted(Cause::Kind)),
@@ -29,7 +29,7 @@ pub fn setfont(m: &mut Machine) -> Result<(), Stop>
 {
     match m.stack.pop() {
         Some(Value::Font(size)) => {
-            m.now.font = size;
+            m.canvas.set_font(size);
             Ok(())
         }
         Some(_) => Err(Stop::Halted(Cause::Kind)),

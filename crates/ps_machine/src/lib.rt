@@ -4,6 +4,7 @@
 #![tactic(auto)]
 
 pub mod calls;
+pub mod canvas;
 pub mod definitions;
 pub mod drawing;
 pub mod execute;

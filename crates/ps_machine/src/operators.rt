@@ -40,7 +40,7 @@ pub fn operate(alloc: Global, m: &mut Machine, name: &[u8]) -> Result<(), Stop>
     } else if is(name, b"stroke") {
         stroke(alloc, m)
     } else if is(name, b"gsave") {
-        gsave(alloc, m)
+        gsave(m)
     } else if is(name, b"grestore") {
         grestore(m)
     } else if is(name, b"translate") {

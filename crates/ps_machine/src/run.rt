@@ -7,11 +7,12 @@ ghost use Rattle.ps_machine.specs.Doing.{state_of};
 ghost use Rattle.ps_machine.specs.Nexts.{IsFirst, IsNext};
 
 use crate::calls::Calls;
+use crate::canvas::Canvas;
 use crate::definitions::Definitions;
 use crate::execute::{Ready, execute};
 use crate::state::{Machine, Stop};
 use mus_units::{Memory, Row};
-use ps_steps::{Cause, Graphics, MachineError, Number, PagePaint, Path, Token};
+use ps_steps::{Cause, MachineError, PagePaint, Token};
 use ps_tokens::read_program;
 use std::alloc::Global;
 
@@ -30,15 +31,7 @@ fn start<'a>(alloc: Global) -> Machine<'a>
         stack: Vec::new(alloc),
         names: Definitions::new(alloc),
         made: false,
-        now: Graphics {
-            path: Path::new(alloc),
-            scale: Number::point(),
-            x: 0,
-            y: 0,
-            font: 0,
-            line: 1,
-        },
-        saved: Vec::new(alloc),
+        canvas: Canvas::new(alloc),
         paints: Row::new(alloc),
         pages: Row::new(alloc),
     }

@@ -49,7 +49,7 @@ fn rescale(m: &mut Machine, p: i128) -> Result<(), Stop>
     }
     match Number::new(p / 100) {
         Some(scale) => {
-            m.now.scale = scale;
+            m.canvas.set_scale(scale);
             Ok(())
         }
         None => Err(Stop::Halted(Cause::Range)),
@@ -67,6 +67,6 @@ pub fn scale(m: &mut Machine) -> Result<(), Stop>
     ensures { DidOrStopped (operated scale_op (state_of m.old)) result (state_of m.new) }
 {
     let factor = factors(&mut m.stack)?;
-    let product = product_of(&m.now.scale, &factor);
+    let product = product_of(m.canvas.scale(), &factor);
     rescale(m, product)
 }

@@ -12,12 +12,12 @@ use ps_steps::{Cause, Paint, Value};
 use std::alloc::Global;
 
 fn shown(alloc: Global, m: &mut Machine, words: &[u8]) -> Result<(), Stop>
-    ensures { DidOrStopped (shown_at words.now (current m.old.now.path) (state_of m.old)) result (state_of m.new) }
+    ensures { DidOrStopped (shown_at words.now (current m.old.canvas.now.path) (state_of m.old)) result (state_of m.new) }
 {
-    let Some((x, y)) = m.now.path.current() else {
+    let Some((x, y)) = m.canvas.current() else {
         return Err(Stop::Halted(Cause::Point));
     };
-    let Some(size) = product(m.now.font, m.now.scale.get()) else {
+    let Some(size) = product(m.canvas.font(), m.canvas.scale().get()) else {
         return Err(Stop::Halted(Cause::Range));
     };
     let words = Text::from_slice(alloc, words)?;

@@ -3,21 +3,21 @@
 ghost use Rattle.std.specs.Prelude.{◌≡◌};
 ghost use Rattle.ps_machine.specs.declared.state.Stop.TheVariants as stops;
 
+use crate::canvas::Canvas;
 use crate::definitions::Definitions;
 use mus_units::{Memory, Row};
-use ps_steps::{Cause, Graphics, PagePaint, Paint, Value};
+use ps_steps::{Cause, PagePaint, Paint, Value};
 use std::alloc::{AllocError, AllocFailed};
 
 /// The machine: its stack with the top last, its definitions, whether the font
-/// was made, the graphics state, those that are kept with the latest last, the
-/// paints of the page and the pages before it.
+/// was made, the graphics state with those that are saved, the paints of the page
+/// and the pages before it.
 #[derive(Drop)]
 pub struct Machine<'a> {
     pub stack: Vec<Value<'a>>,
     pub names: Definitions<'a>,
     pub made: bool,
-    pub now: Graphics,
-    pub saved: Vec<Graphics>,
+    pub canvas: Canvas,
     pub paints: Row<Paint>,
     pub pages: Row<PagePaint>,
 }

@@ -9,7 +9,7 @@ pub mod paint;
 pub mod token;
 pub mod value;
 
-pub use graphics::{Graphics, Path};
+pub use graphics::Graphics;
 pub use halt::{Cause, MachineError};
 pub use paint::{PagePaint, Paint, Seg};
 pub use token::{Hundredths, Number, Simple, Token};
