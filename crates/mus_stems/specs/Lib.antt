@@ -1,6 +1,7 @@
 pub mod Beams
 pub mod Columns
 pub mod Displaced
+pub mod Distances
 pub mod Dots
 pub mod Ends
 pub mod Groups

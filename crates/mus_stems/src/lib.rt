@@ -3,6 +3,7 @@
 #![tactic(auto)]
 
 pub mod beams;
+mod distances;
 pub mod dots;
 pub mod ends;
 pub mod groups;
