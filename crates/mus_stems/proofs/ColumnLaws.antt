@@ -1,12 +1,12 @@
 -- Signs stand in their columns, and in one way alone.
-use Rattle.std.proofs.Common.{◌≡◌, ℕ, zero, suc, ◌+◌, ◌<◌, ℤ, pos, Bool, true, false, cond, if◌then◌else◌, List, [], ◌∷◌, length, replicate, refl, sym, ◌∙◌, ap, subst, Option, Some, None, arith, length-set, get_or-set_same, get_or-set_other}
+use Rattle.std.proofs.Common.{◌≡◌, ℕ, ◌+◌, ◌<◌, ℤ, Bool, true, false, cond, if◌then◌else◌, List, [], ◌∷◌, length, replicate, refl, sym, ◌∙◌, subst, Option, Some, None, length-set, get_or-set_same, get_or-set_other}
 use Rattle.std.proofs.lemmas.List.{get_or-replicate, length-replicate}
 use Rattle.std.specs.Prelude.{slice_set, slice_index_or}
 use Rattle.std.specs.List.{AllByRecursion}
 use Rattle.mus_stems.specs.declared.heads.Stand.{Stand}
 use Rattle.mus_stems.specs.Heads.{AllNear, Taken, taken}
 use Rattle.mus_stems.specs.Signs.{sign_at, signs_along, signs_from}
-use Rattle.mus_stems.specs.Order.{IsHead, AreTaken}
+use Rattle.mus_stems.specs.Order.{IsHead}
 use Rattle.mus_stems.specs.Columns.{sign_of, sign_where, SignedAfter, AreInColumns}
 use Rattle.mus_stems.proofs.OrderLaws.{Apart, are_apart, taken_are, one_order}
 use Rattle.mus_stems.proofs.DisplacedLaws.{head_within, same_lists}
@@ -20,8 +20,8 @@ others_stay : (first : ℤ) (k : ℕ) (ts : List Taken) (xs : List (Option ℤ))
 others_stay first k [] xs p apart = refl
 others_stay first k (t ∷ ts) xs p apart =
     either_get t.signed (signs_along first (k + 1) ts (slice_set xs t.place (Some (sign_at first k)))) (signs_along first k ts xs) p (slice_index_or xs p None)
-      (others_stay first (k + 1) ts (slice_set xs t.place (Some (sign_at first k))) p apart.1 ∙ get_or-set_other xs t.place p (Some (sign_at first k)) None (λ e. apart.0 (sym e)))
-      (others_stay first k ts xs p apart.1)
+    (others_stay first (k + 1) ts (slice_set xs t.place (Some (sign_at first k))) p apart.1 ∙ get_or-set_other xs t.place p (Some (sign_at first k)) None (λ e. apart.0 (sym e)))
+    (others_stay first k ts xs p apart.1)
 
 Free : List (Option ℤ) → Taken → Type 0
 Free xs t = (t.place < length xs) × (sign_of xs t ≡ None)
@@ -37,8 +37,8 @@ unfolding Free
 signed first k [] xs apart free = tt {0}
 signed first k (t ∷ ts) xs apart free =
     step t.signed
-      (signed first (k + 1) ts (slice_set xs t.place (Some (sign_at first k))) apart.1 (still_free xs t (Some (sign_at first k)) ts apart.0 free.1))
-      (signed first k ts xs apart.1 free.1)
+    (signed first (k + 1) ts (slice_set xs t.place (Some (sign_at first k))) apart.1 (still_free xs t (Some (sign_at first k)) ts apart.0 free.1))
+    (signed first k ts xs apart.1 free.1)
   where
     step : (g : Bool) →
         SignedAfter first (signs_along first (k + 1) ts (slice_set xs t.place (Some (sign_at first k)))) (k + 1) ts →

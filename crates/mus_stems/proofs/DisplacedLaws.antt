@@ -1,16 +1,15 @@
 -- Heads are displaced as they should be, and in one way alone.
-use Rattle.std.proofs.Common.{◌≡◌, ℕ, zero, suc, ◌<◌, ◌≢◌, ℤ, pos, negsuc, Bool, true, false, cond, not, ◌&&◌, List, [], ◌∷◌, length, replicate, refl, sym, ◌∙◌, ap, subst, Option, Some, None, arith, length-set, get_or-set_same, get_or-set_other, ext_get_or}
+use Rattle.std.proofs.Common.{◌≡◌, ℕ, zero, suc, ◌<◌, ℤ, pos, Bool, true, false, cond, not, ◌&&◌, List, [], ◌∷◌, length, replicate, refl, sym, ◌∙◌, ap, subst, Option, Some, None, arith, length-set, get_or-set_same, get_or-set_other, ext_get_or}
 use Rattle.std.proofs.lemmas.List.{get_or-replicate, length-replicate}
-use Rattle.std.proofs.lemmas.Option.{slice_get-get_or}
 use Rattle.std.specs.Prelude.{slice_get, slice_set, slice_index_or}
 use Rattle.std.specs.Ordering.{int_eq}
 use Rattle.std.specs.List.{AllByRecursion}
 use Rattle.mus_stems.specs.declared.heads.Stand.{Stand}
 use Rattle.mus_stems.specs.declared.heads.Last.{Last}
 use Rattle.mus_stems.specs.Heads.{AllNear, Taken, taken, is_step_past, gives_way, shifted, shift_of, shifts_of}
-use Rattle.mus_stems.specs.Order.{InOrder, head_at, IsHead, IsAmong, AreTaken}
+use Rattle.mus_stems.specs.Order.{head_at, IsHead, AreTaken}
 use Rattle.mus_stems.specs.Displaced.{dx_of, is_displaced, dx_where, DisplacedAfter, Displaced, AreDisplaced}
-use Rattle.mus_stems.proofs.OrderLaws.{of_each, all_of, Apart, are_apart, taken_are, one_order}
+use Rattle.mus_stems.proofs.OrderLaws.{of_each, Apart, are_apart, taken_are, one_order}
 
 -- places within a list
 
@@ -33,8 +32,8 @@ others_stay : (dx : ℤ) (b : Option Last) (ts : List Taken) (xs : List ℤ) (p 
 others_stay dx b [] xs p apart = refl
 others_stay dx b (t ∷ ts) xs p apart =
     cond_get (gives_way b t.level) (shifted dx (Some (record { level = t.level; moved = true })) ts (slice_set xs t.place dx)) (shifted dx (Some (record { level = t.level; moved = false })) ts xs) p (slice_index_or xs p (pos 0))
-      (others_stay dx (Some (record { level = t.level; moved = true })) ts (slice_set xs t.place dx) p apart.1 ∙ get_or-set_other xs t.place p dx (pos 0) (λ e. apart.0 (sym e)))
-      (others_stay dx (Some (record { level = t.level; moved = false })) ts xs p apart.1)
+    (others_stay dx (Some (record { level = t.level; moved = true })) ts (slice_set xs t.place dx) p apart.1 ∙ get_or-set_other xs t.place p dx (pos 0) (λ e. apart.0 (sym e)))
+    (others_stay dx (Some (record { level = t.level; moved = false })) ts xs p apart.1)
 
 -- each head as it follows from the one taken before it
 
@@ -59,8 +58,8 @@ unfolding Follows Free last_of
 follows up b [] xs apart free = tt {0}
 follows up b (t ∷ ts) xs apart free =
     step (gives_way b t.level)
-      (follows up (Some (record { level = t.level; moved = true })) ts (slice_set xs t.place (shift_of up)) apart.1 (still_free xs t (shift_of up) ts apart.0 free.1))
-      (follows up (Some (record { level = t.level; moved = false })) ts xs apart.1 free.1)
+    (follows up (Some (record { level = t.level; moved = true })) ts (slice_set xs t.place (shift_of up)) apart.1 (still_free xs t (shift_of up) ts apart.0 free.1))
+    (follows up (Some (record { level = t.level; moved = false })) ts xs apart.1 free.1)
   where
     step : (g : Bool) →
         Follows up (shifted (shift_of up) (Some (record { level = t.level; moved = true })) ts (slice_set xs t.place (shift_of up))) (Some (record { level = t.level; moved = true })) ts →
@@ -84,9 +83,10 @@ displaced_after : (up : Bool) (xs : List ℤ) (b : Taken) (moved : Bool) (ts : L
 unfolding Follows last_of gives_way
 displaced_after up xs b moved [] e follow = tt {0}
 displaced_after up xs b moved (t ∷ ts) e follow =
-    let g : Bool = is_step_past b.level t.level && not moved in
-    (follow.0 ∙ ap (λ m. dx_where up (is_step_past b.level t.level && not m)) (sym e),
-     displaced_after up xs t g ts (ap (λ z. not (int_eq z (pos 0))) follow.0 ∙ read_off up g) follow.1)
+    let g : Bool = is_step_past b.level t.level && not moved in (
+      follow.0 ∙ ap (λ m. dx_where up (is_step_past b.level t.level && not m)) (sym e),
+      displaced_after up xs t g ts (ap (λ z. not (int_eq z (pos 0))) follow.0 ∙ read_off up g) follow.1,
+    )
 
 displaced : (up : Bool) (xs : List ℤ) (ts : List Taken) → Follows up xs None ts → Displaced up xs ts
 unfolding Follows gives_way
@@ -145,6 +145,7 @@ same_lists up ss ts none xs ys a e f same = ext_get_or none xs ys (e ∙ sym f) 
         found [] k lt = absurd (omega (arith, lt))
         found (s ∷ ss) zero lt = (s, refl)
         found (s ∷ ss) (suc k) lt = found ss k (omega (arith, lt))
+
     each : (k : ℕ) → k < length xs → slice_index_or xs k none ≡ slice_index_or ys k none
     each k lt =
         let h = first k (subst (λ n. k < n) e lt) in

@@ -1,5 +1,5 @@
 -- The heads that are taken level by level are those of an event in their order, and there is only one such order.
-use Rattle.std.proofs.Common.{◌≡◌, ℕ, zero, suc, ◌+◌, ◌<◌, ◌≤◌, ℤ, pos, negsuc, ◌+ℤ◌, ◌≤ℤ◌, ◌<ℤ◌, ◌⊎◌, inl, inr, Bool, true, false, cond, List, [], ◌∷◌, refl, sym, ◌∙◌, ap, subst, Option, Some, None, arith}
+use Rattle.std.proofs.Common.{◌≡◌, ℕ, zero, suc, ◌+◌, ◌≤◌, ℤ, pos, negsuc, ◌+ℤ◌, ◌≤ℤ◌, ◌<ℤ◌, ◌⊎◌, inl, inr, Bool, true, false, cond, List, [], ◌∷◌, refl, sym, ◌∙◌, ap, subst, Some, arith}
 use Rattle.std.proofs.lemmas.Int.{ints}
 use Rattle.std.proofs.lemmas.Bool.{false≢true}
 use Rattle.std.proofs.lemmas.Bool.Decides.{Decides-int_eq}
@@ -88,8 +88,10 @@ at_heads up v k whole (s ∷ ss) rest same all = step (int_eq (level_of up s.hei
   where
     next : (j : ℕ) → slice_get whole ((k + 1) + j) ≡ slice_get ss j
     next j = (let e : (k + 1) + j ≡ k + suc j = omega arith in ap (λ n. slice_get whole n) e) ∙ same (suc j)
+
     here : slice_get whole k ≡ Some s
     here = (let e : k ≡ k + 0 = omega arith in ap (λ n. slice_get whole n) e) ∙ same 0
+
     step : (b : Bool) → (b ≡ true → level_of up s.height ≡ v) → AllByRecursion (IsHead up whole) (taken_at up v (k + 1) ss rest) →
         AllByRecursion (IsHead up whole) (cond b (record { place = k; level = v; signed = s.signed } ∷ taken_at up v (k + 1) ss rest) (taken_at up v (k + 1) ss rest))
     step true e h = ((s, here, ap (λ l. record { place = k; level = l; signed = s.signed }) (e refl)), h)
@@ -122,8 +124,10 @@ at_all up v k zero (d ∷ ss) rest s is e = step (int_eq (level_of up d.height) 
   where
     same : d ≡ s
     same = grind (arith, is)
+
     it : record { place = k; level = v; signed = d.signed } ≡ head_at up (k + 0) s
     it = (let g : k ≡ k + 0 = omega arith in λ i. record { place = g i; level = sym e i; signed = (same i).signed })
+
     step : (b : Bool) → b ≡ true → IsAmong (cond b (record { place = k; level = v; signed = d.signed } ∷ taken_at up v (k + 1) ss rest) (taken_at up v (k + 1) ss rest)) (head_at up (k + 0) s)
     step true h = inl it
     step false h = absurd (grind (arith, h))
@@ -139,14 +143,14 @@ from_all : (up : Bool) (v : ℤ) (n j : ℕ) (ss : List Stand) (s : Stand) → s
 from_all up v zero j ss s is low high = absurd (omega (arith, ints, low, high))
 from_all up v (suc n) j ss s is low high =
     step (int_eq (level_of up s.height) v) (Decides-int_eq (level_of up s.height) v).0 (Decides-int_eq (level_of up s.height) v).1
-      (λ above. from_all up (v +ℤ pos 1) n j ss s is above (omega (arith, ints, high)))
+    (λ above. from_all up (v +ℤ pos 1) n j ss s is above (omega (arith, ints, high)))
   where
     step : (b : Bool) → (b ≡ true → level_of up s.height ≡ v) → (level_of up s.height ≡ v → b ≡ true) →
         ((v +ℤ pos 1) ≤ℤ level_of up s.height → IsAmong (taken_from up (v +ℤ pos 1) n ss) (head_at up j s)) →
         IsAmong (taken_at up v 0 ss (taken_from up (v +ℤ pos 1) n ss)) (head_at up j s)
     step true there back more =
         subst (λ i. IsAmong (taken_at up v 0 ss (taken_from up (v +ℤ pos 1) n ss)) (head_at up i s)) {x = 0 + j} {y = j} (omega arith)
-          (at_all up v 0 j ss (taken_from up (v +ℤ pos 1) n ss) s is (there refl))
+        (at_all up v 0 j ss (taken_from up (v +ℤ pos 1) n ss) s is (there refl))
     step false there back more =
         let differs : level_of up s.height ≡ v → ⊥ = (λ e. false≢true (back e)) in
         at_among up v 0 ss (taken_from up (v +ℤ pos 1) n ss) (head_at up j s) (more (omega (arith, ints, low, differs)))
@@ -187,8 +191,8 @@ orders_same (t ∷ ts) [] ot ou there back = absurd (there t (inl refl))
 orders_same (t ∷ ts) (u ∷ us) ot ou there back =
     let e : t ≡ u = fronts t u ts us ot ou (there t (inl refl)) (back u (inl refl)) in
     let more : ts ≡ us = orders_same ts us ot.1 ou.1
-        (λ x h. behind_front t u x ts us ot e h (there x (inr h)))
-        (λ x h. behind_front u t x us ts ou (sym e) h (back x (inr h))) in
+    (λ x h. behind_front t u x ts us ot e h (there x (inr h)))
+    (λ x h. behind_front u t x us ts ou (sym e) h (back x (inr h))) in
     λ i. e i ∷ more i
 
 all_there : (up : Bool) (ss : List Stand) (ts us : List Taken) → AreTaken up ss ts → AreTaken up ss us → (t : Taken) → IsAmong ts t → IsAmong us t

@@ -1,11 +1,10 @@
 -- What `stems_of` gives are the plans of events, and there are no others.
-use Rattle.std.proofs.Common.{◌≡◌, ℕ, ℤ, Bool, List, [], ◌∷◌, ◌++◌, map, refl, sym, ◌∙◌, ap, subst}
-use Rattle.std.specs.List.{flat_map, AllByRecursion, AllZip}
+use Rattle.std.proofs.Common.{◌≡◌, List, [], ◌∷◌, ◌++◌, map, refl, sym, ◌∙◌, ap, subst}
+use Rattle.std.specs.List.{AllByRecursion, AllZip}
 use Rattle.mus_units.specs.declared.note.Wish.{Wish}
 use Rattle.mus_stems.specs.declared.stills.Still.{Still}
 use Rattle.mus_stems.specs.declared.plans.StemPlan.{StemPlan}
 use Rattle.mus_stems.specs.Stills.{IsGoodStill, AllGood}
-use Rattle.mus_stems.specs.Runs.{AreMaximalRuns, runs}
 use Rattle.mus_stems.specs.Beams.{is_joined, beams}
 use Rattle.mus_stems.specs.Ends.{stands_up, run_end, from_of, own_end}
 use Rattle.mus_stems.specs.Dots.{first_dot, dots_along}
@@ -20,10 +19,17 @@ use Rattle.mus_stems.proofs.ColumnLaws.{signs_in_columns, one_column}
 is_plan : (wish : Wish) (run : List Still) (e : Still) → IsGoodStill e → IsPlan wish (in_run run e) (plan_of (stands_up wish run) (run_end (stands_up wish run) run) (first_id run) e)
 unfolding plan_of
 is_plan wish run e good = record {
-  way = refl; has = refl; from = refl; own = refl; to = refl; group = refl; flags = refl;
+  way = refl;
+  has = refl;
+  from = refl;
+  own = refl;
+  to = refl;
+  group = refl;
+  flags = refl;
   shifts = shifts_displace (stands_up wish run) e.stands good.0;
   signs = signs_in_columns _ e.stands good.0;
-  ledgers = refl; dots = refl;
+  ledgers = refl;
+  dots = refl;
 }
 
 zip_append : (wish : Wish) (is js : List InRun) (ps qs : List StemPlan) → AllZip (IsPlan wish) is ps → AllZip (IsPlan wish) js qs → AllZip (IsPlan wish) (is ++ js) (ps ++ qs)
@@ -61,8 +67,17 @@ one_plan wish i p q a b =
     let ledgers = a.ledgers ∙ sym b.ledgers in
     let dots = a.dots ∙ ap (λ xs. dots_along (first_dot xs) i.event.dots ss) shifts ∙ sym b.dots in
     λ k. record {
-      up = way k; has = has k; from = from k; to = to k; own = own k; group = group k; flags = flags k;
-      shifts = shifts k; signs = signs k; ledgers = ledgers k; dots = dots k;
+      up = way k;
+      has = has k;
+      from = from k;
+      to = to k;
+      own = own k;
+      group = group k;
+      flags = flags k;
+      shifts = shifts k;
+      signs = signs k;
+      ledgers = ledgers k;
+      dots = dots k;
     }
 
 one_each : (wish : Wish) (is : List InRun) (ps qs : List StemPlan) → AllZip (IsPlan wish) is ps → AllZip (IsPlan wish) is qs → ps ≡ qs

@@ -3,7 +3,7 @@ use Rattle.std.proofs.Common.{◌≡◌, ℕ, zero, suc, ◌+◌, Bool, true, fa
 use Rattle.std.specs.List.{flat_map, AllByRecursion}
 use Rattle.mus_stems.specs.Runs.{runs, put_before, run_more, JoinedAfter, EndsBefore, AreRuns, AreMaximalRuns}
 
-runs_front : {A : Type 0} (joined : A → A → Bool) (d : A) (es : List A) →
+pub runs_front : {A : Type 0} (joined : A → A → Bool) (d : A) (es : List A) →
     runs joined (d ∷ es) ≡ (d ∷ take (run_more joined d es) es) ∷ runs joined (drop (run_more joined d es) es)
 runs_front joined d [] = refl
 runs_front joined d (e ∷ es) = ap (λ t. put_before joined d t) (runs_front joined e es) ∙ step (joined d e) (runs_front joined e es)

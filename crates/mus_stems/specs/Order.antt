@@ -1,6 +1,6 @@
 -- The order in which the heads of an event are taken: from the lowest up where the stem goes up, from the highest down
 -- where it goes down, and heads of one height in the order of the text.
-use Rattle.std.specs.Prelude.{◌≡◌, ℕ, ◌<◌, ◌<ℤ◌, ◌⊎◌, ⊤, Bool, List, [], ◌∷◌, slice_get, Option, Some}
+use Rattle.std.specs.Prelude.{◌≡◌, ℕ, ◌<◌, ◌<ℤ◌, ◌⊎◌, ⊤, Bool, List, [], ◌∷◌, slice_get, Some}
 use Rattle.std.specs.List.{AllByRecursion}
 use Rattle.mus_stems.specs.declared.heads.Stand.{Stand}
 use Rattle.mus_stems.specs.Heads.{Taken, level_of}

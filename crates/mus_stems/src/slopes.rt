@@ -95,7 +95,9 @@ fn last_in(first: &Anchor, others: &[Anchor]) -> Anchor
 fn climb_between(first: i32, last: i32) -> i64
     ensures { result ≡ int_max (int_min (last -ℤ first) steepest) steepest_down }
 {
-    (i64::from(last) - i64::from(first)).min(STEEPEST).max(-STEEPEST)
+    (i64::from(last) - i64::from(first))
+        .min(STEEPEST)
+        .max(-STEEPEST)
 }
 
 /// The line from an event to another.
