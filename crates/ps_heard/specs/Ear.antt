@@ -1,6 +1,6 @@
 -- What a listener keeps in mind, column after column from the left. This is the way that the program takes; what it comes
 -- to is said in Hearing.
-use Rattle.std.specs.Prelude.{Bool, if◌then◌else◌, List, [], ◌∷◌, ◌++◌}
+use Rattle.std.specs.Prelude.{if◌then◌else◌, List, [], ◌∷◌, ◌++◌}
 use Rattle.mus_units.specs.declared.key.Spread.{Spread}
 use Rattle.mus_units.specs.declared.pitch.Clef.TheVariants as clefs
 use Rattle.ps_heard.specs.declared.column.Column.{Column}

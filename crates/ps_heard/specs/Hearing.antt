@@ -114,9 +114,9 @@ abbrev pub heard_at : Spread → Column → Clef → List Sign → List Heard �
 heard_at spread col c key before said dy = record {
   pitch = pitch_at c dy;
   alter = first_there (sign_at dy col.notes)
-    (option_map (λ x. x.alter) (tied_from (list_any (int_eq dy) col.ties) before (pitch_at c dy)))
-    (said_sign spread (pitch_at c dy) said)
-    (key_sign (pitch_at c dy) key);
+      (option_map (λ x. x.alter) (tied_from (list_any (int_eq dy) col.ties) before (pitch_at c dy)))
+      (said_sign spread (pitch_at c dy) said)
+      (key_sign (pitch_at c dy) key);
 }
 
 -- only heads of notes are listed

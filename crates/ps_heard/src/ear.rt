@@ -9,21 +9,6 @@ use crate::keys::{clef_behind, entries, gives_key};
 use mus_units::{Clef, Key, Memory, Row, Spread};
 use std::alloc::Global;
 
-
-
-
-
-
-
-
-
-
-
-
-
-
-
-
 /// Hears a mark of a column.
 fn hear_one(
     alloc: Global,

@@ -82,12 +82,7 @@ pub fn hear_tune(
 /// with its heads from the left, system after system, those of grace notes aside.
 /// `tune` is the tune's place among those of the sheet, from 0; where there is no such
 /// tune, there is no list. `spread` tells how far a sign reaches in its measure.
-pub fn hear(
-    alloc: Global,
-    s: &Sheet,
-    tune: u32,
-    spread: Spread,
-) -> Result<Row<Row<Heard>>, Memory>
+pub fn hear(alloc: Global, s: &Sheet, tune: u32, spread: Spread) -> Result<Row<Row<Heard>>, Memory>
     ensures value { IfOk result (λ r. r ≡ heard_in s.now tune spread) }
 {
     let tunes = tunes_of(alloc, s)?;

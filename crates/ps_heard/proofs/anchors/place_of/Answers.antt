@@ -8,10 +8,11 @@ use Rattle.ps_heard.proofs.anchors.place_of.Goals as goal
 
 pub returns-in-Ok : goal.returns-in-Ok
 returns-in-Ok c =
-    let x = to_z w64 (of_z w64 c.args.x) in
-    ( c.in-Ok.ensures.bound
-    , subst (λ z. (d : ℤ) → get_or c.args.numbers.now c.in-Ok.place d ≡ z) (to_z-of_z w64 c.args.x c.ranges.x)
-      (λ d. int_cmp-IsAntisymmetric (get_or c.args.numbers.now c.in-Ok.place d) x (c.in-Ok.ensures.ok d)))
+    let x = to_z w64 (of_z w64 c.args.x) in (
+      c.in-Ok.ensures.bound,
+      subst (λ z. (d : ℤ) → get_or c.args.numbers.now c.in-Ok.place d ≡ z) (to_z-of_z w64 c.args.x c.ranges.x)
+          (λ d. int_cmp-IsAntisymmetric (get_or c.args.numbers.now c.in-Ok.place d) x (c.in-Ok.ensures.ok d)),
+    )
 
 pub returns-in-Err : goal.returns-in-Err
 returns-in-Err c =
