@@ -1,0 +1,16 @@
+pub mod Scales
+pub mod Runs
+pub mod Bodies
+pub mod Draws
+pub mod Takes
+pub mod Comments
+pub mod Lines
+pub mod StemLines
+pub mod Glyphs
+pub mod GlyphLines
+pub mod WordLines
+pub mod BeamLines
+pub mod ArcLines
+pub mod StaffLines
+pub mod Lexing
+pub mod Defining
