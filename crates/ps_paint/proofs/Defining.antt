@@ -21,7 +21,8 @@ use Rattle.ps_steps.specs.State.{State}
 use Rattle.ps_steps.specs.Operators.{went, def_op, all_near, defined}
 use Rattle.ps_steps.specs.Steps.{at, NextToken, from_text, Step, step}
 use Rattle.ps_paint.proofs.Bodies.{gsave_name, grestore_name, translate_name, m_name, l_name, c_name, h_name, k_name, step_tokens, glyph_body}
-use Rattle.ps_paint.proofs.Glyphs.{is_small, is_drawn, small_is, glyph_drawn}
+use Rattle.ps_paint.proofs.Glyphs.{is_small, is_drawn, small_is}
+use Rattle.ps_paint.proofs.GlyphTable.{fine}
 use Rattle.ps_paint.proofs.Scales.{near}
 use Rattle.ps_paint.proofs.Runs.{does}
 use Rattle.ps_paint.proofs.Takes.{Takes, takes_word, IsTokenWord, space_passed, line_end_passed}
@@ -112,12 +113,15 @@ glyph_body_text g = (codes "gsave translate translate " ++ flat_map step_text (o
 glyph_lexed : (g : Glyph) (rest : List ℕ) → Body (glyph_body_text g ++ 125 ∷ rest) (glyph_body g) rest
 glyph_lexed g rest =
     let front : Lexes (codes "gsave translate translate ") (gsave_name ∷ translate_name ∷ translate_name ∷ []) = lexed (codes "gsave translate translate ") _ refl refl in
-    ends (both_lexed front (lex_steps false (outline_of g) (glyph_drawn g))) (piece_stands (codes "grestore") grestore_name refl) rest
+    ends (both_lexed front (lex_steps false (outline_of g) ((fine g).drawn))) (piece_stands (codes "grestore") grestore_name refl) rest
 
 -- the line of a glyph
 pub glyph_definition : (g : Glyph) → procedure_text g ++ 10 ∷ [] ≡ definition (glyph_name g) (glyph_body_text g)
 unfolding procedure_text path_text
 glyph_definition g = simp append_assoc
 
-pub takes_glyph : (g : Glyph) (m : State) → IsNewName (glyph_name g) → m.names (codes "def") ≡ None → Takes 3 (procedure_text g ++ 10 ∷ []) m (record m { names = defined (glyph_name g) (glyph_body g) m.names })
-takes_glyph g m n free = rw (glyph_definition g) (takes_definition (glyph_name g) (glyph_body_text g) (glyph_body g) m n (glyph_lexed g) free)
+pub new_glyph : (g : Glyph) → IsNewName (glyph_name g)
+new_glyph g = let t = fine g in record { regular = t.regular; good = t.good; other = t.other }
+
+pub takes_glyph : (g : Glyph) (m : State) → m.names (codes "def") ≡ None → Takes 3 (procedure_text g ++ 10 ∷ []) m (record m { names = defined (glyph_name g) (glyph_body g) m.names })
+takes_glyph g m free = rw (glyph_definition g) (takes_definition (glyph_name g) (glyph_body_text g) (glyph_body g) m (new_glyph g) (glyph_lexed g) free)

@@ -5,7 +5,6 @@ use Rattle.std.proofs.Math.IntN.{◌+ℤ◌}
 use Rattle.std.proofs.lemmas.Int.{ints}
 use Rattle.std.proofs.lemmas.Bool.Decides.{nat_tests}
 use Rattle.mus_units.specs.declared.glyph.Glyph.{Glyph}
-use Rattle.mus_units.specs.declared.glyph.Glyph.TheVariants as glyphs
 use Rattle.glyph_paths.specs.Names.{glyph_name}
 use Rattle.glyph_paths.specs.Outlines.{outline_of}
 use Rattle.ps_text.specs.Document.{mark_text}
@@ -26,108 +25,13 @@ use Rattle.ps_paint.proofs.Bodies.{Made, glyph_body}
 use Rattle.ps_paint.proofs.Scales.{IsClose}
 use Rattle.ps_paint.proofs.Runs.{Runs, no_more, then, both_runs}
 use Rattle.ps_paint.proofs.Draws.{drawing, corner, page, saves, restores, translates, places}
-use Rattle.ps_paint.proofs.Glyphs.{IsMid, cost, left, outline_runs, glyph_drawn}
-use Rattle.ps_paint.proofs.Takes.{IsTokenWord}
+use Rattle.ps_paint.proofs.Glyphs.{IsMid, cost, left, outline_runs}
+use Rattle.ps_paint.proofs.GlyphTable.{fine}
+use Rattle.ps_paint.proofs.Takes.{IsTokenWord, name_some}
 use Rattle.ps_paint.proofs.Lines.{Draws, on_page, line_drawn, page_near, offset_near}
 
--- the names of glyphs are names
-pub glyph_word : (g : Glyph) → IsTokenWord (name_token (glyph_name g)) (glyph_name g)
-glyph_word glyphs.Hb = record { some = omega arith; regular = refl; token = refl }
-glyph_word glyphs.Hw = record { some = omega arith; regular = refl; token = refl }
-glyph_word glyphs.Hh = record { some = omega arith; regular = refl; token = refl }
-glyph_word glyphs.Hq = record { some = omega arith; regular = refl; token = refl }
-glyph_word glyphs.Gh = record { some = omega arith; regular = refl; token = refl }
-glyph_word glyphs.Dt = record { some = omega arith; regular = refl; token = refl }
-glyph_word glyphs.Lg = record { some = omega arith; regular = refl; token = refl }
-glyph_word glyphs.Fu = record { some = omega arith; regular = refl; token = refl }
-glyph_word glyphs.Fd = record { some = omega arith; regular = refl; token = refl }
-glyph_word glyphs.Gf = record { some = omega arith; regular = refl; token = refl }
-glyph_word glyphs.Gs = record { some = omega arith; regular = refl; token = refl }
-glyph_word glyphs.Sr = record { some = omega arith; regular = refl; token = refl }
-glyph_word glyphs.Sl = record { some = omega arith; regular = refl; token = refl }
-glyph_word glyphs.R0 = record { some = omega arith; regular = refl; token = refl }
-glyph_word glyphs.R1 = record { some = omega arith; regular = refl; token = refl }
-glyph_word glyphs.R2 = record { some = omega arith; regular = refl; token = refl }
-glyph_word glyphs.R4 = record { some = omega arith; regular = refl; token = refl }
-glyph_word glyphs.R8 = record { some = omega arith; regular = refl; token = refl }
-glyph_word glyphs.Ax = record { some = omega arith; regular = refl; token = refl }
-glyph_word glyphs.As = record { some = omega arith; regular = refl; token = refl }
-glyph_word glyphs.An = record { some = omega arith; regular = refl; token = refl }
-glyph_word glyphs.Af = record { some = omega arith; regular = refl; token = refl }
-glyph_word glyphs.Ag = record { some = omega arith; regular = refl; token = refl }
-glyph_word glyphs.Cg = record { some = omega arith; regular = refl; token = refl }
-glyph_word glyphs.Cf = record { some = omega arith; regular = refl; token = refl }
-glyph_word glyphs.Cc = record { some = omega arith; regular = refl; token = refl }
-glyph_word glyphs.Bt = record { some = omega arith; regular = refl; token = refl }
-glyph_word glyphs.Bw = record { some = omega arith; regular = refl; token = refl }
-glyph_word glyphs.Bf = record { some = omega arith; regular = refl; token = refl }
-glyph_word glyphs.Bi = record { some = omega arith; regular = refl; token = refl }
-glyph_word glyphs.Bb = record { some = omega arith; regular = refl; token = refl }
-glyph_word glyphs.Bo = record { some = omega arith; regular = refl; token = refl }
-glyph_word glyphs.Dl = record { some = omega arith; regular = refl; token = refl }
-glyph_word glyphs.Dr = record { some = omega arith; regular = refl; token = refl }
-glyph_word glyphs.Nn = record { some = omega arith; regular = refl; token = refl }
-glyph_word glyphs.Ks = record { some = omega arith; regular = refl; token = refl }
-glyph_word glyphs.Kr = record { some = omega arith; regular = refl; token = refl }
-glyph_word glyphs.Kf = record { some = omega arith; regular = refl; token = refl }
-glyph_word glyphs.Ka = record { some = omega arith; regular = refl; token = refl }
-glyph_word glyphs.Km = record { some = omega arith; regular = refl; token = refl }
-glyph_word glyphs.Kc = record { some = omega arith; regular = refl; token = refl }
-glyph_word glyphs.Kp = record { some = omega arith; regular = refl; token = refl }
-glyph_word glyphs.Kg = record { some = omega arith; regular = refl; token = refl }
-glyph_word glyphs.Kt = record { some = omega arith; regular = refl; token = refl }
-glyph_word glyphs.Ku = record { some = omega arith; regular = refl; token = refl }
-glyph_word glyphs.Kd = record { some = omega arith; regular = refl; token = refl }
-glyph_word glyphs.Kn = record { some = omega arith; regular = refl; token = refl }
-
-few_glyph : (g : Glyph) → nat_le (cost (outline_of g)) 90 ≡ true
-few_glyph glyphs.Hb = refl
-few_glyph glyphs.Hw = refl
-few_glyph glyphs.Hh = refl
-few_glyph glyphs.Hq = refl
-few_glyph glyphs.Gh = refl
-few_glyph glyphs.Dt = refl
-few_glyph glyphs.Lg = refl
-few_glyph glyphs.Fu = refl
-few_glyph glyphs.Fd = refl
-few_glyph glyphs.Gf = refl
-few_glyph glyphs.Gs = refl
-few_glyph glyphs.Sr = refl
-few_glyph glyphs.Sl = refl
-few_glyph glyphs.R0 = refl
-few_glyph glyphs.R1 = refl
-few_glyph glyphs.R2 = refl
-few_glyph glyphs.R4 = refl
-few_glyph glyphs.R8 = refl
-few_glyph glyphs.Ax = refl
-few_glyph glyphs.As = refl
-few_glyph glyphs.An = refl
-few_glyph glyphs.Af = refl
-few_glyph glyphs.Ag = refl
-few_glyph glyphs.Cg = refl
-few_glyph glyphs.Cf = refl
-few_glyph glyphs.Cc = refl
-few_glyph glyphs.Bt = refl
-few_glyph glyphs.Bw = refl
-few_glyph glyphs.Bf = refl
-few_glyph glyphs.Bi = refl
-few_glyph glyphs.Bb = refl
-few_glyph glyphs.Bo = refl
-few_glyph glyphs.Dl = refl
-few_glyph glyphs.Dr = refl
-few_glyph glyphs.Nn = refl
-few_glyph glyphs.Ks = refl
-few_glyph glyphs.Kr = refl
-few_glyph glyphs.Kf = refl
-few_glyph glyphs.Ka = refl
-few_glyph glyphs.Km = refl
-few_glyph glyphs.Kc = refl
-few_glyph glyphs.Kp = refl
-few_glyph glyphs.Kg = refl
-few_glyph glyphs.Kt = refl
-few_glyph glyphs.Ku = refl
-few_glyph glyphs.Kd = refl
-few_glyph glyphs.Kn = refl
+glyph_word : (g : Glyph) → IsTokenWord (name_token (glyph_name g)) (glyph_name g)
+glyph_word g = let t = fine g in record { some = name_some (glyph_name g) t.good; regular = t.regular; token = t.token }
 
 at_most : (a b : ℕ) → nat_le a b ≡ true → a ≤ b
 at_most a b e = grind (arith, nat_tests)
@@ -154,7 +58,7 @@ module _ (f : Frame) (ds : Names) (fr : IsFrame f) (made : Made f ds) where
       then (saves f ds fr made saved ps pages (whole_value y ∷ whole_value x ∷ s1) o)
         (then (places f ds fr made (o ∷ saved) ps pages x y (pos 900) s1 (wide x mx) (wide y my))
           (then (translates f ds fr made (o ∷ saved) ps pages dx dy x y [] (pos 900) st (wide u mp) (wide v mq))
-            (both_runs (outline_runs f ds fr made (pos 900) st (o ∷ saved) pages u v mp mq (outline_of g) [] ps (glyph_drawn g))
+            (both_runs (outline_runs f ds fr made (pos 900) st (o ∷ saved) pages u v mp mq (outline_of g) [] ps ((fine g).drawn))
               (then (restores f ds fr made saved (ps ++ outline_paints f u v [] (outline_of g)) pages st (drawing f u v (left f u v [] (outline_of g)) (pos 900)) o) no_more))))
 
   pub glyph_line_drawn : (g : Glyph) (y x dx dy : ℤ) → IsPlaced y x dx dy → Draws f ds (mark_text y (marks.Glyph g x dx dy)) (mark_paints f y (marks.Glyph g x dx dy))
@@ -162,6 +66,6 @@ module _ (f : Frame) (ds : Names) (fr : IsFrame f) (made : Made f ds) where
   glyph_line_drawn g y x dx dy s =
       let zs = dx ∷ dy ∷ x ∷ y ∷ [] in
       let near : all_near zs ≡ true = rw (offset_near dx s.across, offset_near dy s.above, page_near x s.anchor, page_near y s.base) refl in
-      let low : cost (outline_of g) ≤ 90 = at_most (cost (outline_of g)) 90 (few_glyph g) in
+      let low : cost (outline_of g) ≤ 90 = at_most (cost (outline_of g)) 90 ((fine g).few) in
       line_drawn zs (glyph_name g) near (glyph_word g) (made.glyph g) (omega (arith, low))
         (λ st saved ps pages. glyph_runs g x y dx dy st saved ps pages (mid_number x s.anchor) (mid_number y s.base) (mid_sum x dx s.anchor s.across) (mid_sum y dy s.base s.above))

@@ -6,11 +6,8 @@ use Rattle.std.proofs.Math.IntN.{◌+ℤ◌}
 use Rattle.std.specs.Int.Signed.{◌≤ℤ◌}
 use Rattle.std.proofs.lemmas.Int.{ints}
 use Rattle.std.proofs.lemmas.Bool.{true≢false}
-use Rattle.mus_units.specs.declared.glyph.Glyph.{Glyph}
-use Rattle.mus_units.specs.declared.glyph.Glyph.TheVariants as glyphs
 use Rattle.glyph_paths.specs.declared.paths.PathOp.{PathOp}
 use Rattle.glyph_paths.specs.declared.paths.PathOp.TheVariants as ops
-use Rattle.glyph_paths.specs.Outlines.{outline_of}
 use Rattle.ps_text.specs.declared.sheet.Frame.{Frame}
 use Rattle.ps_text.specs.Range.{IsFrame}
 use Rattle.ps_steps.specs.declared.paint.Seg.{Seg}
@@ -38,59 +35,6 @@ is_drawn b (ops.Line x y ∷ rest) = b && ((is_small x && is_small y) && is_draw
 is_drawn b (ops.Curve u v w z x y ∷ rest) = b && (((is_small u && is_small v) && (is_small w && is_small z)) && (is_small x && is_small y) && is_drawn true rest)
 is_drawn b (ops.Fill ∷ rest) = b && is_drawn false rest
 is_drawn b (ops.Stroke ∷ rest) = b && is_drawn false rest
-
--- each glyph's outline is so
-pub glyph_drawn : (g : Glyph) → is_drawn false (outline_of g) ≡ true
-glyph_drawn g = all g
-  where
-    all : (g : Glyph) → is_drawn false (outline_of g) ≡ true
-    all glyphs.Hb = refl
-    all glyphs.Hw = refl
-    all glyphs.Hh = refl
-    all glyphs.Hq = refl
-    all glyphs.Gh = refl
-    all glyphs.Dt = refl
-    all glyphs.Lg = refl
-    all glyphs.Fu = refl
-    all glyphs.Fd = refl
-    all glyphs.Gf = refl
-    all glyphs.Gs = refl
-    all glyphs.Sr = refl
-    all glyphs.Sl = refl
-    all glyphs.R0 = refl
-    all glyphs.R1 = refl
-    all glyphs.R2 = refl
-    all glyphs.R4 = refl
-    all glyphs.R8 = refl
-    all glyphs.Ax = refl
-    all glyphs.As = refl
-    all glyphs.An = refl
-    all glyphs.Af = refl
-    all glyphs.Ag = refl
-    all glyphs.Cg = refl
-    all glyphs.Cf = refl
-    all glyphs.Cc = refl
-    all glyphs.Bt = refl
-    all glyphs.Bw = refl
-    all glyphs.Bf = refl
-    all glyphs.Bi = refl
-    all glyphs.Bb = refl
-    all glyphs.Bo = refl
-    all glyphs.Dl = refl
-    all glyphs.Dr = refl
-    all glyphs.Nn = refl
-    all glyphs.Ks = refl
-    all glyphs.Kr = refl
-    all glyphs.Kf = refl
-    all glyphs.Ka = refl
-    all glyphs.Km = refl
-    all glyphs.Kc = refl
-    all glyphs.Kp = refl
-    all glyphs.Kg = refl
-    all glyphs.Kt = refl
-    all glyphs.Ku = refl
-    all glyphs.Kd = refl
-    all glyphs.Kn = refl
 
 -- tokens that the steps of a path execute
 abbrev pub cost : List PathOp → ℕ

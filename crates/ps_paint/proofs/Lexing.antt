@@ -13,7 +13,7 @@ use Rattle.ps_steps.specs.Near.{is_near}
 use Rattle.ps_steps.specs.Tokens.{passed, IsFont, Front, word_front, label_front, closing_front, found, Body, closes, goes_on, is_regular, is_name, begins, word_token}
 use Rattle.ps_steps.specs.Operators.{all_near}
 use Rattle.ps_paint.proofs.Runs.{wholes}
-use Rattle.ps_paint.proofs.Takes.{IsTokenWord, IsPassed, space_passed, word_stays, word_at, number_word}
+use Rattle.ps_paint.proofs.Takes.{IsTokenWord, IsPassed, space_passed, word_stays, word_at, number_word, name_some}
 
 body_passed : (s u : List ℕ) (ts : List Simple) (r : List ℕ) → passed false u ≡ passed false s → Body s ts r → Body u ts r
 body_passed _ u _ r e (closes s _ f) = closes u r (rw e f)
@@ -42,10 +42,6 @@ pub record IsNewName (name : List ℕ) : Type 0 where
   pub regular : list_all is_regular name ≡ true
   pub good : is_name name ≡ true
   pub other : begins (λ b. b == 67) name ≡ false
-
-name_some : (name : List ℕ) → is_name name ≡ true → 1 ≤ length name
-name_some [] e = absurd (true≢false (sym e))
-name_some (b ∷ w) e = omega arith
 
 no_font : (name s : List ℕ) → IsNewName name → (r : List ℕ) → IsFont (47 ∷ name ++ s) r → ⊥
 no_font [] s n r e = true≢false (sym n.good)

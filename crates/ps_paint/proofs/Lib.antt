@@ -6,11 +6,13 @@ pub mod Takes
 pub mod Comments
 pub mod Lines
 pub mod StemLines
+pub mod StaffLines
 pub mod Glyphs
+pub mod GlyphTable
 pub mod GlyphLines
 pub mod WordLines
 pub mod BeamLines
 pub mod ArcLines
-pub mod StaffLines
 pub mod Lexing
 pub mod Defining
+pub mod Made

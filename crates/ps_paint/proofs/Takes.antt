@@ -16,7 +16,7 @@ use Rattle.ps_steps.specs.Near.{is_near}
 use Rattle.ps_steps.specs.declared.token.Simple.{Simple}
 use Rattle.ps_steps.specs.declared.token.Simple.TheVariants.{Name as name_token, Whole as whole_token}
 use Rattle.ps_steps.specs.declared.token.Token.TheVariants.{Simple as simple_token}
-use Rattle.ps_steps.specs.Tokens.{passed, IsWord, word_front, simple_at, is_regular, is_blank, is_delimiter, whole_number, word_token}
+use Rattle.ps_steps.specs.Tokens.{passed, IsWord, word_front, simple_at, is_regular, is_blank, is_delimiter, whole_number, word_token, is_name}
 use Rattle.ps_steps.specs.declared.value.Value.TheVariants.{Whole as whole_value}
 use Rattle.ps_steps.specs.State.{State}
 use Rattle.ps_steps.specs.Operators.{went, executed, called, all_near}
@@ -38,6 +38,10 @@ both_taken {a} {b} {s} {t} {m} {k} {l} u v = record { take = λ rest. rw (append
 -- the word stands at the front, whatever stands behind the byte after it
 pub word_at : (w rest : List ℕ) (b : ℕ) → 1 ≤ length w → list_all is_regular w ≡ true → is_regular b ≡ false → IsWord (w ++ b ∷ rest) w (b ∷ rest)
 word_at w rest b some regular stop = record { some = some; regular = regular; cut = refl; maximal = stop }
+
+pub name_some : (name : List ℕ) → is_name name ≡ true → 1 ≤ length name
+name_some [] e = absurd (true≢false (sym e))
+name_some (b ∷ w) e = omega arith
 
 neither : (x y : Bool) → not (x || y) ≡ true → (x ≡ false) × (y ≡ false)
 neither true true e = absurd (true≢false (sym e))
