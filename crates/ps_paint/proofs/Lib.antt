@@ -16,3 +16,4 @@ pub mod ArcLines
 pub mod Lexing
 pub mod Defining
 pub mod Made
+pub mod Starts
