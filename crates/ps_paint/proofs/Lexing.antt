@@ -135,3 +135,18 @@ pieces_lexed (w ∷ ws) (t ∷ ts) e =
 -- a fixed text
 pub lexed : (text : List ℕ) (ts : List Simple) → spaced (pieces_of text) ≡ text → map piece_token (pieces_of text) ≡ map (λ t. Some t) ts → Lexes text ts
 lexed text ts e f = subst (λ s. Lexes s ts) e (pieces_lexed (pieces_of text) ts f)
+
+-- a fixed text up to its last token, and that
+pieces_end : (ws : List (List ℕ)) (w : List ℕ) (ts : List Simple) → map piece_token (ws ++ w ∷ []) ≡ map (λ t. Some t) ts → (rest : List ℕ) → Body ((spaced ws ++ w) ++ 125 ∷ rest) ts rest
+pieces_end [] w [] e rest = absurd cc
+pieces_end [] w (t ∷ []) e rest = let one : piece_token w ≡ Some t = cc in ends nothing_lexed (piece_stands w t one) rest
+pieces_end [] w (t ∷ u ∷ ts) e rest = absurd cc
+pieces_end (v ∷ ws) w [] e rest = absurd cc
+pieces_end (v ∷ ws) w (t ∷ ts) e rest =
+    let one : piece_token v ≡ Some t = cc in
+    let more : map piece_token (ws ++ w ∷ []) ≡ map (λ u. Some u) ts = cc in
+    let b = (lex_one (piece_stands v t one) space_passed).lex ((spaced ws ++ w) ++ 125 ∷ rest) rest ts (pieces_end ws w ts more rest) in
+    rw (append_assoc (v ++ 32 ∷ []) (spaced ws) w, append_assoc (v ++ 32 ∷ []) (spaced ws ++ w) (125 ∷ rest)) b
+
+pub lexed_to : (text last : List ℕ) (ts : List Simple) → spaced (pieces_of text) ≡ text → map piece_token (pieces_of text ++ last ∷ []) ≡ map (λ t. Some t) ts → (rest : List ℕ) → Body ((text ++ last) ++ 125 ∷ rest) ts rest
+lexed_to text last ts e f rest = subst (λ s. Body ((s ++ last) ++ 125 ∷ rest) ts rest) e (pieces_end (pieces_of text) last ts f rest)

@@ -17,3 +17,6 @@ pub mod Lexing
 pub mod Defining
 pub mod Made
 pub mod Starts
+pub mod Pages
+pub mod PrologLines
+pub mod Document
