@@ -1,5 +1,5 @@
 -- The lines of arcs.
-use Rattle.std.proofs.Common.{◌≡◌, ℕ, true, ℤ, pos, negsuc, List, [], ◌∷◌, ◌++◌, refl, arith}
+use Rattle.std.proofs.Common.{◌≡◌, true, ℤ, pos, negsuc, List, [], ◌∷◌, ◌++◌, refl, arith}
 use Rattle.std.specs.Prelude.{codes, int_div}
 use Rattle.std.proofs.Math.IntN.{◌+ℤ◌, ◌-ℤ◌, +ℤ_idl}
 use Rattle.std.specs.Int.Signed.{◌≤ℤ◌}
@@ -19,7 +19,7 @@ use Rattle.ps_steps.specs.Operators.{all_near}
 use Rattle.ps_paint.specs.PaintOf.{move, curve, stroked, mark_paints}
 use Rattle.ps_paint.proofs.Bodies.{Made, ac_body}
 use Rattle.ps_paint.proofs.Runs.{Runs, no_more, then, both_runs}
-use Rattle.ps_paint.proofs.Draws.{page, moves, curves, strokes}
+use Rattle.ps_paint.proofs.Draws.{moves, curves, strokes}
 use Rattle.ps_paint.proofs.Lines.{Draws, on_page, line_drawn, page_near}
 use Rattle.ps_paint.proofs.StemLines.{zero_sum}
 

@@ -1,12 +1,11 @@
 -- A document paints its sheet.
-use Rattle.std.proofs.Common.{◌≡◌, ℕ, ◌+◌, ◌*◌, ◌≤◌, List, [], ◌∷◌, ◌++◌, length, length-append, append_assoc, append-nil, map, refl, sym, subst, ◌∙◌, ap, arith, decimal}
+use Rattle.std.proofs.Common.{◌≡◌, ℕ, List, [], ◌∷◌, ◌++◌, length, append_assoc, append-nil, map, refl, subst, ap, arith, decimal}
 use Rattle.std.specs.Prelude.{codes}
-use Rattle.ps_text.specs.Document.{Spells, document, numbered, page_text, trailer, count_line}
-use Rattle.ps_text.specs.Prolog.{prolog}
+use Rattle.ps_text.specs.Document.{document, trailer, count_line}
 use Rattle.ps_text.specs.declared.sheet.Sheet.{Sheet}
 use Rattle.ps_text.specs.Range.{IsSheet}
 use Rattle.ps_steps.specs.State.{State, first_state}
-use Rattle.ps_steps.specs.Steps.{at, Paints, Steps}
+use Rattle.ps_steps.specs.Steps.{at, Steps}
 use Rattle.ps_paint.specs.Laws.{PaintsSheets}
 use Rattle.ps_paint.specs.PaintOf.{page_paint, paint_of}
 use Rattle.ps_paint.proofs.Takes.{Takes, both_taken}

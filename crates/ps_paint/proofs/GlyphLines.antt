@@ -1,5 +1,5 @@
 -- The lines of glyphs.
-use Rattle.std.proofs.Common.{◌≡◌, ℕ, suc, ◌+◌, ◌≤◌, ℤ, pos, true, List, [], ◌∷◌, ◌++◌, length, refl, arith}
+use Rattle.std.proofs.Common.{◌≡◌, ℕ, suc, ◌+◌, ◌≤◌, ℤ, pos, true, List, [], ◌∷◌, ◌++◌, refl, arith}
 use Rattle.std.specs.Prelude.{nat_le}
 use Rattle.std.proofs.Math.IntN.{◌+ℤ◌}
 use Rattle.std.proofs.lemmas.Int.{ints}
@@ -24,7 +24,7 @@ use Rattle.ps_paint.specs.PaintOf.{mark_paints, outline_paints}
 use Rattle.ps_paint.proofs.Bodies.{Made, glyph_body}
 use Rattle.ps_paint.proofs.Scales.{IsClose}
 use Rattle.ps_paint.proofs.Runs.{Runs, no_more, then, both_runs}
-use Rattle.ps_paint.proofs.Draws.{drawing, corner, page, saves, restores, translates, places}
+use Rattle.ps_paint.proofs.Draws.{drawing, corner, saves, restores, translates, places}
 use Rattle.ps_paint.proofs.Glyphs.{IsMid, cost, left, outline_runs}
 use Rattle.ps_paint.proofs.GlyphTable.{fine}
 use Rattle.ps_paint.proofs.Takes.{IsTokenWord, name_some}

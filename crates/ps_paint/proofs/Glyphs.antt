@@ -1,5 +1,5 @@
 -- Any outline is drawn as it is painted.
-use Rattle.std.proofs.Common.{◌≡◌, ℕ, ◌+◌, ℤ, pos, negsuc, true, false, Bool, ◌&&◌, List, [], ◌∷◌, ◌++◌, append_assoc, append-nil, refl, sym, arith}
+use Rattle.std.proofs.Common.{◌≡◌, ℕ, ◌+◌, ℤ, pos, negsuc, true, false, Bool, ◌&&◌, List, [], ◌∷◌, ◌++◌, append_assoc, append-nil, sym, arith}
 use Rattle.std.specs.Prelude.{int_le}
 use Rattle.std.specs.List.{flat_map}
 use Rattle.std.proofs.Math.IntN.{◌+ℤ◌}

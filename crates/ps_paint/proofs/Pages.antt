@@ -5,7 +5,7 @@ use Rattle.std.specs.List.{flat_map}
 use Rattle.std.proofs.Math.IntN.{◌+ℤ◌}
 use Rattle.std.proofs.lemmas.Int.{ints}
 use Rattle.std.proofs.lemmas.List.Elements.{All-head, All-tail}
-use Rattle.ps_text.specs.Document.{numbered, mark_text, marks_text, rules_line, staff_line, staff_text, last_base, join_line, join_text, system_line, system_text, tune_line, tune_text, item_text, items_text, page_text, heading_text, heading_line, closing}
+use Rattle.ps_text.specs.Document.{numbered, mark_text, marks_text, rules_line, staff_line, staff_text, last_base, join_text, system_line, system_text, tune_line, tune_text, item_text, items_text, page_text, heading_text, heading_line, closing}
 use Rattle.ps_text.specs.declared.marks.PageMark.{PageMark}
 use Rattle.ps_text.specs.declared.marks.PageMark.TheVariants as marks
 use Rattle.ps_text.specs.declared.sheet.Frame.{Frame}
@@ -27,7 +27,7 @@ use Rattle.ps_paint.proofs.GlyphLines.{glyph_line_drawn}
 use Rattle.ps_paint.proofs.WordLines.{words_drawn, title_drawn}
 use Rattle.ps_paint.proofs.BeamLines.{beam_drawn}
 use Rattle.ps_paint.proofs.ArcLines.{arc_drawn}
-use Rattle.ps_paint.proofs.Starts.{between, within, page_begun, page_ended}
+use Rattle.ps_paint.proofs.Starts.{between, page_begun, page_ended}
 
 -- a text leads from one state to another, in at most 100 tokens a byte
 pub record Leads (text : List ℕ) (m k : State) : Type 0 where

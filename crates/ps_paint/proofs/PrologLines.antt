@@ -1,9 +1,7 @@
 -- A prolog makes its definitions and its font.
-use Rattle.std.proofs.Common.{◌≡◌, ℕ, suc, ◌+◌, ◌*◌, ◌/◌, ◌%◌, ◌<◌, ◌≤◌, ℤ, pos, true, false, cond, Bool, List, [], ◌∷◌, ◌++◌, length, length-append, append_assoc, append-nil, map, Some, None, refl, sym, subst, ◌∙◌, ap, arith, decimal}
+use Rattle.std.proofs.Common.{◌≡◌, ℕ, ◌+◌, ◌*◌, ◌/◌, ◌%◌, ◌<◌, ◌≤◌, pos, true, false, cond, Bool, List, [], ◌∷◌, ◌++◌, length, length-append, append_assoc, map, Some, None, refl, subst, ◌∙◌, ap, arith, decimal}
 use Rattle.std.specs.Prelude.{codes, ◌==◌}
 use Rattle.std.specs.List.{list_all}
-use Rattle.std.specs.Str.{bytes_eq}
-use Rattle.std.specs.Str.Parse.{digits_value}
 use Rattle.std.specs.Char.{digit_value}
 use Rattle.mus_units.specs.Bytes.{is_digit}
 use Rattle.std.proofs.lemmas.Fmt.{decimal_digit}
@@ -12,7 +10,7 @@ use Rattle.std.proofs.lemmas.Bool.Decides.{nat_tests}
 use Rattle.mus_units.specs.declared.glyph.Glyph.{Glyph}
 use Rattle.mus_units.specs.declared.glyph.Way.TheVariants as ways
 use Rattle.glyph_paths.specs.Names.{glyph_name, glyphs_in_order}
-use Rattle.glyph_paths.specs.Procedure.{numbers, procedure_text}
+use Rattle.glyph_paths.specs.Procedure.{numbers}
 use Rattle.ps_text.specs.Prolog.{percent, first_text, box_start, procedures, page_start, page_end, last_text, box_line, scaling, page_line, glyph_lines, heading, prolog}
 use Rattle.ps_text.specs.declared.sheet.Frame.{Frame}
 use Rattle.ps_text.specs.Range.{IsFrame}
@@ -22,7 +20,7 @@ use Rattle.ps_steps.specs.declared.token.Token.TheVariants.{Simple as simple_tok
 use Rattle.ps_steps.specs.Near.{is_near, is_near_hundredths}
 use Rattle.ps_steps.specs.Tokens.{font_line, font_front, simple_at, Body, word_token, pointed_number, is_regular}
 use Rattle.ps_steps.specs.State.{State, Names, first_graphics, first_state, no_names}
-use Rattle.ps_steps.specs.Operators.{defined, all_near}
+use Rattle.ps_steps.specs.Operators.{defined}
 use Rattle.ps_steps.specs.Steps.{at, from_text, Step, here, step}
 use Rattle.ps_paint.specs.PaintOf.{edge}
 use Rattle.ps_paint.proofs.Bodies.{m_body, l_body, c_body, h_body, k_body, sf_body, vl_body, st_body, beam_body, ac_body, t1_body, t2_body, pg_body, glyph_body, scale_name, translate_name, gsave_name}

@@ -1,6 +1,5 @@
 -- Runs over the tokens of procedures, put together.
-use Rattle.std.proofs.Common.{◌≡◌, ℕ, suc, ◌+◌, ℤ, true, List, [], ◌∷◌, ◌++◌, length, append_assoc, Option, Some, None, refl, ◌∙◌, ap}
-use Rattle.ps_steps.specs.Near.{is_near}
+use Rattle.std.proofs.Common.{◌≡◌, ℕ, suc, ◌+◌, ℤ, true, List, [], ◌∷◌, ◌++◌, length, append_assoc, Some, None, refl, ◌∙◌, ap}
 use Rattle.ps_steps.specs.declared.token.Simple.{Simple}
 use Rattle.ps_steps.specs.declared.token.Simple.TheVariants.{Name as name_token, Whole as whole_token}
 use Rattle.ps_steps.specs.declared.token.Token.TheVariants.{Simple as simple_token}
@@ -8,7 +7,7 @@ use Rattle.ps_steps.specs.declared.value.Value.{Value}
 use Rattle.ps_steps.specs.declared.value.Value.TheVariants.{Whole as whole_value}
 use Rattle.ps_steps.specs.State.{State}
 use Rattle.ps_steps.specs.Operators.{Outcome, went, executed, called, operated, operated_if, operator_named, Operator, in_range, all_near}
-use Rattle.ps_steps.specs.Steps.{Place, from_pending, Step, Steps, here, step}
+use Rattle.ps_steps.specs.Steps.{from_pending, Step, Steps, here, step}
 use Rattle.ps_steps.proofs.Joined.{joined, now}
 
 pub simple_step : (t : Simple) (ts body : List Simple) (m k : State) (s : List ℕ) → executed (simple_token t) m ≡ went body k → Step (now (t ∷ ts) m s) (now (body ++ ts) k s)

@@ -1,6 +1,6 @@
 -- Coordinates: how they add up, and that they are near.
-use Rattle.std.proofs.Common.{◌≡◌, ℕ, zero, suc, ◌+◌, ◌*◌, ◌<◌, ◌≤◌, ℤ, pos, negsuc, true, false, refl, sym, ◌∙◌, ap, arith}
-use Rattle.std.proofs.Math.IntN.{◌+ℤ◌, ◌*ℤ◌, suc_ℤ, suc_ℤ-*ℤ, zero-*ℤ}
+use Rattle.std.proofs.Common.{◌≡◌, ℕ, zero, suc, ◌*◌, ℤ, pos, negsuc, true, refl, arith}
+use Rattle.std.proofs.Math.IntN.{◌+ℤ◌, ◌*ℤ◌, suc_ℤ-*ℤ, zero-*ℤ}
 use Rattle.std.specs.Int.Signed.{◌≤ℤ◌}
 use Rattle.std.proofs.lemmas.Int.{ints}
 use Rattle.mus_units.specs.declared.glyph.Size.{Size}

@@ -1,5 +1,5 @@
 -- How a page begins and ends.
-use Rattle.std.proofs.Common.{◌≡◌, ℕ, ◌*◌, ◌/◌, ◌≤◌, ℤ, pos, true, false, Bool, ◌&&◌, List, [], ◌∷◌, ◌++◌, append_assoc, refl, sym, subst, ◌∙◌, ap, arith, decimal}
+use Rattle.std.proofs.Common.{◌≡◌, ℕ, ℤ, pos, true, false, ◌&&◌, List, [], ◌∷◌, ◌++◌, append_assoc, refl, ◌∙◌, ap, arith, decimal}
 use Rattle.std.specs.Prelude.{codes, int_le, int_div, int_rem}
 use Rattle.std.proofs.Math.IntN.{◌+ℤ◌, ◌*ℤ◌}
 use Rattle.std.proofs.lemmas.Int.{ints}
@@ -12,15 +12,15 @@ use Rattle.ps_steps.specs.declared.paint.PagePaint.{PagePaint}
 use Rattle.ps_steps.specs.declared.graphics.Graphics.{Graphics}
 use Rattle.ps_steps.specs.declared.value.Value.{Value}
 use Rattle.ps_steps.specs.declared.value.Value.TheVariants.{Whole as whole_value, Pointed as pointed_value}
-use Rattle.ps_steps.specs.declared.token.Simple.TheVariants.{Whole as whole_token, Pointed as pointed_token, Name as name_token}
+use Rattle.ps_steps.specs.declared.token.Simple.TheVariants.{Name as name_token}
 use Rattle.ps_steps.specs.Near.{is_near}
 use Rattle.ps_steps.specs.State.{State, Names, first_graphics}
-use Rattle.ps_steps.specs.Operators.{Outcome, went, halted, operated, in_range, same, scaled, with_factors, scale_op, translate_op, gsave_op, grestore_op, setlinewidth_op, showpage_op}
+use Rattle.ps_steps.specs.Operators.{Outcome, went, halted, operated, in_range, same, scaled, scale_op, translate_op, setlinewidth_op, showpage_op}
 use Rattle.ps_paint.specs.PaintOf.{to_x, to_y}
 use Rattle.ps_paint.proofs.Bodies.{Made, pg_body}
-use Rattle.ps_paint.proofs.Scales.{IsClose, near, near_x, near_y}
-use Rattle.ps_paint.proofs.Runs.{Runs, no_more, then, both_runs, pushes, does, is_in_range}
-use Rattle.ps_paint.proofs.Draws.{corner, drawing, page, saves, restores}
+use Rattle.ps_paint.proofs.Scales.{near}
+use Rattle.ps_paint.proofs.Runs.{Runs, then, both_runs, pushes, does, is_in_range}
+use Rattle.ps_paint.proofs.Draws.{corner, page, saves, restores}
 use Rattle.ps_paint.proofs.Takes.{Takes, both_taken, takes_word, takes_call, IsTokenWord, line_end_passed}
 use Rattle.ps_paint.proofs.Comments.{takes_comment, two_go_on}
 use Rattle.ps_paint.proofs.Lines.{on_page}

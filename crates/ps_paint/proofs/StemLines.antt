@@ -19,7 +19,7 @@ use Rattle.ps_paint.specs.PaintOf.{move, line, stroked, mark_paints}
 use Rattle.ps_paint.proofs.Bodies.{Made, st_body, vl_body}
 use Rattle.ps_paint.proofs.Scales.{IsClose}
 use Rattle.ps_paint.proofs.Runs.{Runs, no_more, then, both_runs}
-use Rattle.ps_paint.proofs.Draws.{drawing, corner, page, moves, lines, saves, restores, places, strokes}
+use Rattle.ps_paint.proofs.Draws.{drawing, corner, moves, lines, saves, restores, places, strokes}
 use Rattle.ps_paint.proofs.Lines.{Draws, on_page, line_drawn, page_near, offset_near, close_number, close_sum}
 
 pub zero_sum : (y : ℤ) → IsNumber y → IsClose (pos 0 +ℤ y)

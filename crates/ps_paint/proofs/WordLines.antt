@@ -1,5 +1,5 @@
 -- Words are shown where their line says, in marks and in titles.
-use Rattle.std.proofs.Common.{◌≡◌, ℕ, suc, ◌+◌, ◌≤◌, ℤ, pos, true, List, [], ◌∷◌, ◌++◌, length, length-append, append_assoc, Some, refl, arith, IsTrue}
+use Rattle.std.proofs.Common.{◌≡◌, ℕ, suc, ◌+◌, ◌≤◌, ℤ, pos, true, List, [], ◌∷◌, ◌++◌, length-append, append_assoc, Some, refl, arith, IsTrue}
 use Rattle.std.specs.Prelude.{codes}
 use Rattle.std.specs.List.{flat_map, list_all}
 use Rattle.std.proofs.Math.IntN.{◌+ℤ◌, ◌*ℤ◌, +ℤ_idr}
@@ -8,7 +8,7 @@ use Rattle.mus_units.specs.declared.glyph.Size.{Size}
 use Rattle.mus_units.specs.declared.glyph.Size.TheVariants as sizes
 use Rattle.glyph_paths.specs.Procedure.{numbers}
 use Rattle.ps_text.specs.Fields.{shown, in_parentheses}
-use Rattle.ps_text.specs.Range.{is_shown, IsFrame, IsNumber, IsOffset, IsPlaced, IsTitle, IsWords}
+use Rattle.ps_text.specs.Range.{is_shown, IsFrame, IsOffset, IsPlaced, IsTitle, IsWords}
 use Rattle.ps_text.specs.Line.{words_line}
 use Rattle.ps_text.specs.Names.{size_name}
 use Rattle.ps_text.specs.Document.{mark_text, title_line, title_text}
@@ -18,7 +18,7 @@ use Rattle.ps_steps.specs.declared.paint.Paint.{Paint}
 use Rattle.ps_steps.specs.declared.paint.PagePaint.{PagePaint}
 use Rattle.ps_steps.specs.Near.{is_near}
 use Rattle.ps_steps.specs.declared.token.Simple.{Simple}
-use Rattle.ps_steps.specs.declared.token.Simple.TheVariants.{Name as name_token, Label as label_token, Whole as whole_token, Words as words_token}
+use Rattle.ps_steps.specs.declared.token.Simple.TheVariants.{Name as name_token, Words as words_token}
 use Rattle.ps_steps.specs.declared.token.Token.TheVariants.{Simple as simple_token}
 use Rattle.ps_steps.specs.Tokens.{string_front, simple_at}
 use Rattle.ps_steps.specs.declared.value.Value.{Value}
