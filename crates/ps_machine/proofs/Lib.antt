@@ -3,3 +3,4 @@ pub mod Loop
 pub mod Frames
 pub mod NamesLemmas
 pub mod Six
+mod OneAnswer

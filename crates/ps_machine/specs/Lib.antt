@@ -2,3 +2,4 @@ pub mod Naming
 pub mod Pending
 pub mod Doing
 pub mod Nexts
+pub mod OneAnswer
