@@ -3,3 +3,4 @@ pub mod Pending
 pub mod Doing
 pub mod Nexts
 pub mod OneAnswer
+pub mod Sheets

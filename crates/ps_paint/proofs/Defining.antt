@@ -88,24 +88,29 @@ definition name body = 47 ∷ name ++ 32 ∷ 123 ∷ (body ++ 125 ∷ codes " de
 -- it makes the definition, in three tokens
 pub takes_definition : (name body : List ℕ) (ts : List Simple) (m : State) → IsNewName name → ((rest : List ℕ) → Body (body ++ 125 ∷ rest) ts rest) → m.names (codes "def") ≡ None
     → Takes 3 (definition name body) m (record m { names = defined name ts m.names })
-takes_definition name body ts m n b free = record { take = λ rest.
-    let behind_body = codes " def\n" ++ rest in
-    let m1 : State = record m { stack = label_value name ∷ m.stack } in
-    let m2 : State = record m { stack = body_value ts ∷ label_value name ∷ m.stack } in
-    let k : State = record m { names = defined name ts m.names } in
-    let one : Step (at m (47 ∷ name ++ 32 ∷ 123 ∷ (body ++ 125 ∷ behind_body))) (at m1 (123 ∷ (body ++ 125 ∷ behind_body))) =
+takes_definition name body ts m n b free = record {
+  take = λ rest.
+      let behind_body = codes " def\n" ++ rest in
+      let m1 : State = record m { stack = label_value name ∷ m.stack } in
+      let m2 : State = record m { stack = body_value ts ∷ label_value name ∷ m.stack } in
+      let k : State = record m { names = defined name ts m.names } in
+      let one : Step (at m (47 ∷ name ++ 32 ∷ 123 ∷ (body ++ 125 ∷ behind_body))) (at m1 (123 ∷ (body ++ 125 ∷ behind_body))) =
       record { token = simple_token (label_token name); rest = at m (123 ∷ (body ++ 125 ∷ behind_body)); body = []; state = m1; next = label_next name (123 ∷ (body ++ 125 ∷ behind_body)) m n; went = refl; is = refl } in
-    let two : Step (at m1 (123 ∷ (body ++ 125 ∷ behind_body))) (at m2 (codes "def\n" ++ rest)) =
+      let two : Step (at m1 (123 ∷ (body ++ 125 ∷ behind_body))) (at m2 (codes "def\n" ++ rest)) =
       record {
-        token = procedure_token ts; rest = at m1 behind_body; body = []; state = m2;
+        token = procedure_token ts;
+        rest = at m1 behind_body;
+        body = [];
+        state = m2;
         next = from_text m1 (123 ∷ (body ++ 125 ∷ behind_body)) behind_body (procedure_token ts) (procedure_at (body ++ 125 ∷ behind_body) behind_body ts (opening_front (body ++ 125 ∷ behind_body) refl) (b behind_body));
-        went = refl; is = refl;
+        went = refl;
+        is = refl;
       } in
-    let word : IsTokenWord (name_token (codes "def")) (codes "def") = record { some = omega arith; regular = refl; token = refl } in
-    let last : Takes 1 (codes "def" ++ 10 ∷ []) m2 k = takes_word word line_end_passed (does (codes "def") def_op m2 (went [] k) free refl refl) in
-    let parted : definition name body ++ rest ≡ 47 ∷ name ++ 32 ∷ 123 ∷ (body ++ 125 ∷ behind_body) = ap (λ x. 47 ∷ x) (append_assoc name (32 ∷ 123 ∷ (body ++ 125 ∷ codes " def\n")) rest ∙ ap (λ x. name ++ 32 ∷ 123 ∷ x) (append_assoc body (125 ∷ codes " def\n") rest)) in
-    rw parted (step 2 _ _ _ one (step 1 _ _ _ two (last.take rest)))
-  }
+      let word : IsTokenWord (name_token (codes "def")) (codes "def") = record { some = omega arith; regular = refl; token = refl } in
+      let last : Takes 1 (codes "def" ++ 10 ∷ []) m2 k = takes_word word line_end_passed (does (codes "def") def_op m2 (went [] k) free refl refl) in
+      let parted : definition name body ++ rest ≡ 47 ∷ name ++ 32 ∷ 123 ∷ (body ++ 125 ∷ behind_body) = ap (λ x. 47 ∷ x) (append_assoc name (32 ∷ 123 ∷ (body ++ 125 ∷ codes " def\n")) rest ∙ ap (λ x. name ++ 32 ∷ 123 ∷ x) (append_assoc body (125 ∷ codes " def\n") rest)) in
+      rw parted (step 2 _ _ _ one (step 1 _ _ _ two (last.take rest)));
+}
 
 abbrev pub glyph_body_text : Glyph → List ℕ
 glyph_body_text g = (codes "gsave translate translate " ++ flat_map step_text (outline_of g)) ++ codes "grestore"

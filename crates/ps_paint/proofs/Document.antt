@@ -9,7 +9,7 @@ use Rattle.ps_steps.specs.Steps.{at, Steps}
 use Rattle.ps_paint.specs.Laws.{PaintsSheets}
 use Rattle.ps_paint.specs.PaintOf.{page_paint, paint_of}
 use Rattle.ps_paint.proofs.Takes.{Takes, both_taken}
-use Rattle.ps_paint.proofs.Comments.{takes_comment, number_goes_on}
+use Rattle.ps_paint.proofs.Comments.{takes_comment, number_in_line}
 use Rattle.ps_paint.proofs.Made.{all_names, all_made}
 use Rattle.ps_paint.proofs.Starts.{between}
 use Rattle.ps_paint.proofs.Pages.{Leads, both_lead, pages_drawn}
@@ -19,7 +19,7 @@ trailer_taken : (n : ℕ) (m : State) → Takes 0 (trailer n) m m
 unfolding trailer count_line
 trailer_taken n m =
     let a = takes_comment (codes "%Trailer") m refl in
-    let b = takes_comment (codes "%Pages: " ++ decimal n) m (number_goes_on n) in
+    let b = takes_comment (codes "%Pages: " ++ decimal n) m (number_in_line n) in
     let c = takes_comment (codes "%EOF") m refl in
     subst (λ t. Takes 0 t m m) (parts (codes "%%Trailer\n") (codes "%%Pages: " ++ decimal n) (codes "%%EOF\n")) (both_taken (both_taken a b) c)
   where
@@ -32,7 +32,7 @@ document_led s h =
     let ds = all_names s.frame in
     let pages = pages_drawn s.frame ds h.frame (all_made s.frame) 1 s.pages [] h.pages in
     let end : Leads (trailer (length s.pages)) (between ds (map (page_paint s.frame) s.pages)) (between ds (map (page_paint s.frame) s.pages)) =
-        record { count = 0; few = omega arith; takes = trailer_taken (length s.pages) (between ds (map (page_paint s.frame) s.pages)) } in
+    record { count = 0; few = omega arith; takes = trailer_taken (length s.pages) (between ds (map (page_paint s.frame) s.pages)) } in
     both_lead (both_lead (prolog_taken s.frame h.frame) pages) end
 
 pub paints_sheets : PaintsSheets

@@ -89,13 +89,13 @@ module _ (f : Frame) (ds : Names) (fr : IsFrame f) (made : Made f ds) (saved : L
   pub curves : (a b c d p q x y : ℤ) (s : Seg) (path : List Seg) (font : ℤ) (st : List Value)
       → IsClose (x +ℤ a) → IsClose (y +ℤ b) → IsClose (x +ℤ c) → IsClose (y +ℤ d) → IsClose (x +ℤ p) → IsClose (y +ℤ q)
       → Runs 2 (c_name ∷ []) (on (whole_value q ∷ whole_value p ∷ whole_value d ∷ whole_value c ∷ whole_value b ∷ whole_value a ∷ st) (drawing f x y (s ∷ path) font))
-          (on st (drawing f x y (s ∷ path ++ curve f (x +ℤ a) (y +ℤ b) (x +ℤ c) (y +ℤ d) (x +ℤ p) (y +ℤ q) ∷ []) font))
+      (on st (drawing f x y (s ∷ path ++ curve f (x +ℤ a) (y +ℤ b) (x +ℤ c) (y +ℤ d) (x +ℤ p) (y +ℤ q) ∷ []) font))
   curves a b c d p q x y s path font st ca cb cc cd cp cq =
       let m = on (whole_value q ∷ whole_value p ∷ whole_value d ∷ whole_value c ∷ whole_value b ∷ whole_value a ∷ st) (drawing f x y (s ∷ path) font) in
       let k = on st (drawing f x y (s ∷ path ++ curve f (x +ℤ a) (y +ℤ b) (x +ℤ c) (y +ℤ d) (x +ℤ p) (y +ℤ q) ∷ []) font) in
       let e : operated curveto_op m ≡ went [] k = rw (moved_x f x a, moved_y f y b, moved_x f x c, moved_y f y d, moved_x f x p, moved_y f y q)
-            (in_six (to_x f (x +ℤ a)) (to_y f (y +ℤ b)) (to_x f (x +ℤ c)) (to_y f (y +ℤ d)) (to_x f (x +ℤ p)) (to_y f (y +ℤ q)) (went [] k)
-              (near_x f (x +ℤ a) fr ca) (near_y f (y +ℤ b) fr cb) (near_x f (x +ℤ c) fr cc) (near_y f (y +ℤ d) fr cd) (near_x f (x +ℤ p) fr cp) (near_y f (y +ℤ q) fr cq)) in
+      (in_six (to_x f (x +ℤ a)) (to_y f (y +ℤ b)) (to_x f (x +ℤ c)) (to_y f (y +ℤ d)) (to_x f (x +ℤ p)) (to_y f (y +ℤ q)) (went [] k)
+      (near_x f (x +ℤ a) fr ca) (near_y f (y +ℤ b) fr cb) (near_x f (x +ℤ c) fr cc) (near_y f (y +ℤ d) fr cd) (near_x f (x +ℤ p) fr cp) (near_y f (y +ℤ q) fr cq)) in
       calls made.c (then (does (codes "curveto") curveto_op m (went [] k) (made.free curveto_op) refl e) no_more) no_more
 
   pub stroke_runs : (x y : ℤ) (path : List Seg) (font : ℤ) (st : List Value)
@@ -109,6 +109,6 @@ module _ (f : Frame) (ds : Names) (fr : IsFrame f) (made : Made f ds) (saved : L
       let k = on st (drawing f x y (s ∷ path ++ segs.Close ∷ []) font) in
       let l = page ds st (drawing f x y [] font) saved (ps ++ filled (s ∷ path) ∷ []) pages in
       calls made.h
-        (then (does (codes "closepath") closepath_op m (went [] k) (made.free closepath_op) refl refl)
-          (then (does (codes "fill") fill_op k (went [] l) (made.free fill_op) refl refl) no_more))
-        no_more
+      (then (does (codes "closepath") closepath_op m (went [] k) (made.free closepath_op) refl refl)
+      (then (does (codes "fill") fill_op k (went [] l) (made.free fill_op) refl refl) no_more))
+      no_more

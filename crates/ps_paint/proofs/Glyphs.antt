@@ -110,13 +110,13 @@ module _ (f : Frame) (ds : Names) (fr : IsFrame f) (made : Made f ds) (font : �
       let c1 = both_close x y a b mx my ((both_true (is_small a && is_small b) (is_small c && is_small d) u).0) in
       let c2 = both_close x y c d mx my ((both_true (is_small a && is_small b) (is_small c && is_small d) u).1) in
       both_runs (pushes (a ∷ b ∷ c ∷ d ∷ p ∷ q ∷ []) (before (s ∷ path) ps))
-        (both_runs (curves f ds fr made saved ps pages a b c d p q x y s path font st c1.0 c1.1 c2.0 c2.1 c3.0 c3.1)
-          (outline_runs rest (s ∷ path ++ curve f (x +ℤ a) (y +ℤ b) (x +ℤ c) (y +ℤ d) (x +ℤ p) (y +ℤ q) ∷ []) ps more))
+      (both_runs (curves f ds fr made saved ps pages a b c d p q x y s path font st c1.0 c1.1 c2.0 c2.1 c3.0 c3.1)
+      (outline_runs rest (s ∷ path ++ curve f (x +ℤ a) (y +ℤ b) (x +ℤ c) (y +ℤ d) (x +ℤ p) (y +ℤ q) ∷ []) ps more))
   outline_runs (ops.Fill ∷ rest) [] ps e = absurd (true≢false (sym e))
   outline_runs (ops.Fill ∷ rest) (s ∷ path) ps e =
       both_runs (fill_runs f ds fr made saved ps pages x y s path font st)
-        (rw append_assoc at (outline_runs rest [] (ps ++ filled (s ∷ path) ∷ []) e))
+      (rw append_assoc at (outline_runs rest [] (ps ++ filled (s ∷ path) ∷ []) e))
   outline_runs (ops.Stroke ∷ rest) [] ps e = absurd (true≢false (sym e))
   outline_runs (ops.Stroke ∷ rest) (s ∷ path) ps e =
       both_runs (stroke_runs f ds fr made saved ps pages x y (s ∷ path) font st)
-        (rw append_assoc at (outline_runs rest [] (ps ++ stroked f (s ∷ path) ∷ []) e))
+      (rw append_assoc at (outline_runs rest [] (ps ++ stroked f (s ∷ path) ∷ []) e))

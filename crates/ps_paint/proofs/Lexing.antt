@@ -34,8 +34,10 @@ pub record Stands (t : Simple) (w : List ℕ) : Type 0 where
   pub front : (b : ℕ) (rest : List ℕ) → is_regular b ≡ false → Front (passed false (w ++ b ∷ rest)) (found t (b ∷ rest))
 
 pub word_stands : {t : Simple} {w : List ℕ} → IsTokenWord t w → Stands t w
-word_stands {t} {w} i = record { front = λ b rest stop.
-    subst (λ u. Front u (found t (b ∷ rest))) (sym (word_stays w (b ∷ rest) i.some i.regular)) (word_front w (b ∷ rest) t (word_at w rest b i.some i.regular stop) i.token) }
+word_stands {t} {w} i = record {
+  front = λ b rest stop.
+      subst (λ u. Front u (found t (b ∷ rest))) (sym (word_stays w (b ∷ rest) i.some i.regular)) (word_front w (b ∷ rest) t (word_at w rest b i.some i.regular stop) i.token);
+}
 
 -- a name that may be defined: it begins otherwise than the font's line
 pub record IsNewName (name : List ℕ) : Type 0 where
@@ -48,12 +50,16 @@ no_font [] s n r e = true≢false (sym n.good)
 no_font (b ∷ w) s n r e = true≢false (sym (ap (λ u. begins (λ c. c == 67) (drop 1 u)) e) ∙ n.other)
 
 pub label_stands : {name : List ℕ} → IsNewName name → Stands (label_token name) (47 ∷ name)
-label_stands {name} n = record { front = λ b rest stop.
-    label_front (name ++ b ∷ rest) name (b ∷ rest) refl (no_font name (b ∷ rest) n) (word_at name rest b (name_some name n.good) n.regular stop) n.good }
+label_stands {name} n = record {
+  front = λ b rest stop.
+      label_front (name ++ b ∷ rest) name (b ∷ rest) refl (no_font name (b ∷ rest) n) (word_at name rest b (name_some name n.good) n.regular stop) n.good;
+}
 
 pub lex_one : {t : Simple} {w : List ℕ} {b : ℕ} → Stands t w → IsPassed b → Lexes (w ++ b ∷ []) (t ∷ [])
-lex_one {t} {w} {b} i p = record { lex = λ rest after us x.
-    rw (append_assoc w (b ∷ []) rest) (goes_on (w ++ b ∷ rest) (b ∷ rest) after t us (i.front b rest p.stop) (body_passed rest (b ∷ rest) us after (p.passes rest) x)) }
+lex_one {t} {w} {b} i p = record {
+  lex = λ rest after us x.
+      rw (append_assoc w (b ∷ []) rest) (goes_on (w ++ b ∷ rest) (b ∷ rest) after t us (i.front b rest p.stop) (body_passed rest (b ∷ rest) us after (p.passes rest) x));
+}
 
 -- with its last token the procedure ends
 pub ends : {text last : List ℕ} {ts : List Simple} {t : Simple} → Lexes text ts → Stands t last → (rest : List ℕ) → Body ((text ++ last) ++ 125 ∷ rest) (ts ++ t ∷ []) rest

@@ -19,7 +19,7 @@ use Rattle.ps_steps.specs.State.{State, Names, first_graphics}
 use Rattle.ps_paint.specs.PaintOf.{mark_paints, staff_paints, join_paints, item_paints, page_paint}
 use Rattle.ps_paint.proofs.Bodies.{Made}
 use Rattle.ps_paint.proofs.Takes.{Takes, nothing_taken, both_taken}
-use Rattle.ps_paint.proofs.Comments.{takes_comment, number_goes_on, two_go_on}
+use Rattle.ps_paint.proofs.Comments.{takes_comment, number_in_line, two_in_line}
 use Rattle.ps_paint.proofs.Lines.{Draws, nothing_drawn, passed_over, both_drawn, all_drawn}
 use Rattle.ps_paint.proofs.StemLines.{stem_drawn, join_drawn}
 use Rattle.ps_paint.proofs.StaffLines.{rules_drawn}
@@ -71,7 +71,7 @@ module _ (f : Frame) (ds : Names) (fr : IsFrame f) (made : Made f ds) where
       let a = 37 ∷ (codes " staff " ++ decimal k) in
       let r = rules_line s.width s.y in
       let ms = flat_map (mark_text s.y) s.marks in
-      let comment : Draws f ds (a ++ 10 ∷ []) [] = passed_over (λ m. takes_comment (codes " staff " ++ decimal k) m (number_goes_on k)) in
+      let comment : Draws f ds (a ++ 10 ∷ []) [] = passed_over (λ m. takes_comment (codes " staff " ++ decimal k) m (number_in_line k)) in
       let rules = rules_drawn f ds fr made s.width s.y (wide_number s.width h.wide) h.base in
       let marks : Draws f ds ms (flat_map (mark_paints f s.y) s.marks) = all_drawn (mark_drawn s.y) s.marks h.drawn in
       subst (λ t. Draws f ds t (staff_paints f s)) (three_lines a r ms) (both_drawn (both_drawn comment rules) marks)
@@ -87,11 +87,11 @@ module _ (f : Frame) (ds : Names) (fr : IsFrame f) (made : Made f ds) where
 
   item_drawn : (i : Item) → IsItem i → Draws f ds (item_text i) (item_paints f i)
   unfolding tune_text tune_line system_text system_line
-  item_drawn (items.Tune ordinal) h = passed_over (λ m. takes_comment (codes " tune " ++ decimal ordinal) m (number_goes_on ordinal))
+  item_drawn (items.Tune ordinal) h = passed_over (λ m. takes_comment (codes " tune " ++ decimal ordinal) m (number_in_line ordinal))
   item_drawn (items.Title x y size words) h = title_drawn f ds fr made x y size words h
   item_drawn (items.System a b staves) h =
       let c = 37 ∷ (codes " system " ++ decimal a ++ 32 ∷ decimal b) in
-      let comment : Draws f ds (c ++ 10 ∷ []) [] = passed_over (λ m. takes_comment (codes " system " ++ decimal a ++ 32 ∷ decimal b) m (two_go_on a b)) in
+      let comment : Draws f ds (c ++ 10 ∷ []) [] = passed_over (λ m. takes_comment (codes " system " ++ decimal a ++ 32 ∷ decimal b) m (two_in_line a b)) in
       subst (λ t. Draws f ds (t ++ numbered staff_text 0 staves) (item_paints f (items.System a b staves))) (append_assoc c (10 ∷ []) (join_text staves)) (both_drawn (both_drawn comment (joined_drawn staves h.joined h.good)) (staves_drawn 0 staves h.good))
 
   page_drawn : (k : ℕ) (p : Page) (pages : List PagePaint) → IsPage p → Leads (page_text k p) (between ds pages) (between ds (pages ++ page_paint f p ∷ []))

@@ -25,8 +25,8 @@ use Rattle.ps_steps.specs.Steps.{at, from_text, Step, here, step}
 use Rattle.ps_paint.specs.PaintOf.{edge}
 use Rattle.ps_paint.proofs.Bodies.{m_body, l_body, c_body, h_body, k_body, sf_body, vl_body, st_body, beam_body, ac_body, t1_body, t2_body, pg_body, glyph_body, scale_name, translate_name, gsave_name}
 use Rattle.ps_paint.proofs.Scales.{near}
-use Rattle.ps_paint.proofs.Takes.{Takes, nothing_taken, both_taken, space_passed, IsTokenWord}
-use Rattle.ps_paint.proofs.Comments.{goes_on, takes_comment, two_go_on}
+use Rattle.ps_paint.proofs.Takes.{Takes, nothing_taken, both_taken, space_passed, IsTokenWord, digit_regular, digit_no_minus}
+use Rattle.ps_paint.proofs.Comments.{takes_comment, two_in_line}
 use Rattle.ps_paint.proofs.Lexing.{Lexes, both_lexed, word_stands, IsNewName, lex_one, ends, lex_numbers, pieces_of, spaced, piece_token, piece_stands, lexed, lexed_to}
 use Rattle.ps_paint.proofs.Defining.{definition, takes_definition, takes_glyph}
 use Rattle.ps_paint.proofs.GlyphTable.{fine}
@@ -85,30 +85,31 @@ line_t1 = fixed (codes "t1") (codes "gsave translate m show ") (codes "grestore"
 line_t2 : Takes 3 (codes "/t2 {gsave /EngFont findfont 1600 scalefont setfont translate m show grestore} def\n") (being with_t1 false) (being with_t2 false)
 line_t2 = fixed (codes "t2") (codes "gsave /EngFont findfont 1600 scalefont setfont translate m show ") (codes "grestore") t2_body with_t1 (record { regular = refl; good = refl; other = refl }) refl refl refl
 
--- what is passed over
-comment : (line : List ℕ) (m : State) → list_all goes_on line ≡ true → Takes 0 (37 ∷ line ++ 10 ∷ []) m m
-comment line m e = takes_comment line m e
-
 -- the line that makes the font
 font_taken : Takes 1 (font_line ++ 10 ∷ []) (being with_t2 false) (being with_t2 true)
-font_taken = record { take = λ rest.
-    let k = being with_t2 true in
-    let one : Step (at (being with_t2 false) (font_line ++ 10 ∷ rest)) (at k rest) = record {
-      token = simple_token font_token; rest = at (being with_t2 false) rest; body = []; state = k;
-      next = from_text (being with_t2 false) (font_line ++ 10 ∷ rest) (10 ∷ rest) (simple_token font_token) (simple_at font_token (10 ∷ rest) (font_front (10 ∷ rest) refl));
-      went = refl; is = refl;
-    } in
-    step 0 (at (being with_t2 false) (font_line ++ 10 ∷ rest)) (at k rest) (at k rest) one (here (at k rest))
-  }
+font_taken = record {
+  take = λ rest.
+      let k = being with_t2 true in
+      let one : Step (at (being with_t2 false) (font_line ++ 10 ∷ rest)) (at k rest) = record {
+        token = simple_token font_token;
+        rest = at (being with_t2 false) rest;
+        body = [];
+        state = k;
+        next = from_text (being with_t2 false) (font_line ++ 10 ∷ rest) (10 ∷ rest) (simple_token font_token) (simple_at font_token (10 ∷ rest) (font_front (10 ∷ rest) refl));
+        went = refl;
+        is = refl;
+      } in
+      step 0 (at (being with_t2 false) (font_line ++ 10 ∷ rest)) (at k rest) (at k rest) one (here (at k rest));
+}
 
 procedures_taken : Takes 43 procedures (being no_names false) (being with_t2 true)
 unfolding procedures
 procedures_taken =
     let m = being no_names false in
-    let level = comment (codes "%LanguageLevel: 2") m refl in
-    let pages = both_taken level (comment (codes "%Pages: (atend)") m refl) in
-    let comments = both_taken pages (comment (codes "%EndComments") m refl) in
-    let begins = both_taken comments (comment (codes "%BeginProlog") m refl) in
+    let level = takes_comment (codes "%LanguageLevel: 2") m refl in
+    let pages = both_taken level (takes_comment (codes "%Pages: (atend)") m refl) in
+    let comments = both_taken pages (takes_comment (codes "%EndComments") m refl) in
+    let begins = both_taken comments (takes_comment (codes "%BeginProlog") m refl) in
     let short = both_taken (both_taken (both_taken (both_taken (both_taken begins line_m) line_l) line_c) line_h) line_k in
     let lines = both_taken (both_taken (both_taken short line_sf) line_vl) line_st in
     let beams = both_taken (both_taken (both_taken lines line_bu) line_bd) line_gb in
@@ -132,14 +133,8 @@ digit_small a l = grind (arith, nat_tests)
 digit_is : (a : ℕ) → a < 10 → digit_value (48 + a) ≡ a
 digit_is a l = grind (arith, nat_tests)
 
-no_minus : (a : ℕ) → a < 10 → (48 + a == 45) ≡ false
-no_minus a l = grind (arith, nat_tests)
-
 three_digits : (a b c : ℕ) → a < 10 → b < 10 → c < 10 → word_token ((48 + a) ∷ 46 ∷ (48 + b) ∷ (48 + c) ∷ []) ≡ Some (pointed_number (pos (((0 * 10 + a) * 10 + b) * 10 + c)))
-three_digits a b c la lb lc = rw (no_minus a la, digit_small a la, digit_small b lb, digit_small c lc, digit_is a la, digit_is b lb, digit_is c lc) refl
-
-digit_regular : (a : ℕ) → a < 10 → is_regular (48 + a) ≡ true
-digit_regular a l = grind (arith, nat_tests)
+three_digits a b c la lb lc = rw (digit_no_minus (48 + a) (digit_small a la), digit_small a la, digit_small b lb, digit_small c lc, digit_is a la, digit_is b lb, digit_is c lc) refl
 
 -- as a token
 percent_word : (p : ℕ) → p ≤ 150 → IsTokenWord (pointed_token (pos p)) (percent p)
@@ -154,8 +149,8 @@ percent_word p l =
     let sum : ((0 * 10 + a) * 10 + b) * 10 + c ≡ p = omega arith in
     let small : is_near_hundredths (pos p) ≡ true = grind (arith, ints) in
     let token : word_token ((48 + a) ∷ 46 ∷ (48 + b) ∷ (48 + c) ∷ []) ≡ Some (pointed_token (pos p)) =
-        three_digits a b c la lb lc ∙ (ap (λ n. Some (pointed_number (pos n))) sum ∙ rw small refl) in
-    rw (decimal_digit a la) (record { some = omega arith; regular = rw (digit_regular a la, digit_regular b lb, digit_regular c lc) refl; token = token })
+    three_digits a b c la lb lc ∙ (ap (λ n. Some (pointed_number (pos n))) sum ∙ rw small refl) in
+    rw (decimal_digit a la) (record { some = omega arith; regular = rw (digit_regular (48 + a) (digit_small a la), digit_regular (48 + b) (digit_small b lb), digit_regular (48 + c) (digit_small c lc)) refl; token = token })
 
 -- the text of the procedure that begins a page
 pg_text : Frame → List ℕ
@@ -186,7 +181,7 @@ unfolding page_line page_start scaling page_end pg_text numbers
 pg_definition f =
     append_assoc (page_start ++ scaling f.left f.bottom f.scale) page_end (10 ∷ [])
     ∙ ap (λ x. codes "/pg {" ++ x)
-      (pg_parts (codes "gsave 0.01 0.01 scale ") (decimal f.left) (decimal f.bottom) (codes "translate ") (percent f.scale) (codes "scale 60 setlinewidth /EngFont findfont 900 scalefont ") (codes "setfont") (codes "} def\n"))
+    (pg_parts (codes "gsave 0.01 0.01 scale ") (decimal f.left) (decimal f.bottom) (codes "translate ") (percent f.scale) (codes "scale 60 setlinewidth /EngFont findfont 900 scalefont ") (codes "setfont") (codes "} def\n"))
 
 first_taken : (m : State) → Takes 0 first_text m m
 unfolding first_text
@@ -198,7 +193,7 @@ last_taken m = takes_comment (codes "%EndProlog") m refl
 
 box_taken : (f : Frame) → Takes 0 (box_line f.wide f.high ++ 10 ∷ []) (being no_names false) (being no_names false)
 unfolding box_line box_start
-box_taken f = takes_comment ((codes "%BoundingBox: 0 0 " ++ decimal f.wide) ++ 32 ∷ decimal f.high) (being no_names false) (two_go_on f.wide f.high)
+box_taken f = takes_comment ((codes "%BoundingBox: 0 0 " ++ decimal f.wide) ++ 32 ∷ decimal f.high) (being no_names false) (two_in_line f.wide f.high)
 
 procedures_many : 2 ≤ length procedures
 unfolding procedures
@@ -229,7 +224,7 @@ prolog_taken f fr =
     let m = being no_names false in
     let box : Takes 0 (box_line f.wide f.high ++ 10 ∷ []) m m = box_taken f in
     let definition_of_page : Takes 3 (page_line f.left f.bottom f.scale ++ 10 ∷ []) (being with_t2 true) (being (with_pg f) true) =
-        rw (pg_definition f) (takes_definition (codes "pg") (pg_text f ++ codes "setfont") (pg_body f) (being with_t2 true) (record { regular = refl; good = refl; other = refl }) (pg_lexed f fr) refl) in
+    rw (pg_definition f) (takes_definition (codes "pg") (pg_text f ++ codes "setfont") (pg_body f) (being with_t2 true) (record { regular = refl; good = refl; other = refl }) (pg_lexed f fr) refl) in
     let glyphs = glyphs_taken glyphs_in_order (with_pg f) refl in
     let all = both_taken (both_taken (both_taken (both_taken (both_taken (first_taken m) box) procedures_taken) definition_of_page) glyphs) (last_taken (being (all_names f) true)) in
     rw (prolog_parts f) (record {

@@ -26,10 +26,12 @@ then {n} {t} {ts} {m} {k} {l} e r = record { run = λ rest s. step n _ (now (ts 
 
 -- a name that was given a procedure, and further tokens
 pub calls : {n j : ℕ} {name : List ℕ} {body ts : List Simple} {m k l : State} → m.names name ≡ Some body → Runs n body m k → Runs j ts k l → Runs (suc (n + j)) (name_token name ∷ ts) m l
-calls {n} {j} {name} {body} {ts} {m} {k} {l} h r q = record { run = λ rest s.
-    step (n + j) _ (now (body ++ (ts ++ rest)) m s) _
+calls {n} {j} {name} {body} {ts} {m} {k} {l} h r q = record {
+  run = λ rest s.
+      step (n + j) _ (now (body ++ (ts ++ rest)) m s) _
       (simple_step (name_token name) (ts ++ rest) body m m s (ap (λ o. called o name m) h))
-      (joined n j _ (now (ts ++ rest) k s) _ (r.run (ts ++ rest) s) (q.run rest s)) }
+      (joined n j _ (now (ts ++ rest) k s) _ (r.run (ts ++ rest) s) (q.run rest s));
+}
 
 -- runs one after the other
 pub both_runs : {n j : ℕ} {ts us : List Simple} {m k l : State} → Runs n ts m k → Runs j us k l → Runs (n + j) (ts ++ us) m l

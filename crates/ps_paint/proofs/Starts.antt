@@ -22,7 +22,7 @@ use Rattle.ps_paint.proofs.Scales.{near}
 use Rattle.ps_paint.proofs.Runs.{Runs, then, both_runs, pushes, does, is_in_range}
 use Rattle.ps_paint.proofs.Draws.{corner, page, saves, restores}
 use Rattle.ps_paint.proofs.Takes.{Takes, both_taken, takes_word, takes_call, IsTokenWord, line_end_passed}
-use Rattle.ps_paint.proofs.Comments.{takes_comment, two_go_on}
+use Rattle.ps_paint.proofs.Comments.{takes_comment, two_in_line}
 use Rattle.ps_paint.proofs.Lines.{on_page}
 use Rattle.ps_paint.proofs.WordLines.{sets_font}
 
@@ -92,22 +92,22 @@ module _ (f : Frame) (ds : Names) (fr : IsFrame f) (made : Made f ds) where
       let above : pos 0 +ℤ (pos 100 *ℤ pos f.bottom) ≡ to_y f (pos 0) = omega (arith, ints) in
       let same_place : g5 ≡ record g4 { font = pos 900 } = rw (across, above) refl in
       then (saves f ds fr made [] [] pages [] first)
-        (then {k = m2} refl (then {k = m3} refl
-          (then (does (codes "scale") scale_op m3 (went [] m4) (made.free scale_op) refl (scaled_twice 1 (pos 100) m3 refl refl refl refl [] refl))
-            (both_runs (pushes (pos f.left ∷ pos f.bottom ∷ []) m4)
-              (then (does (codes "translate") translate_op m5 (went [] m6) (made.free translate_op) refl moved)
-                (then {k = m7} refl (then {k = m8} refl
-                  (then (does (codes "scale") scale_op m8 (went [] m9) (made.free scale_op) refl (scaled_twice f.scale (pos f.scale) m8 (no_rest f.scale) some_scale (hundredth f.scale) near_scale [] refl))
-                    (then {k = m10} refl
-                      (then (does (codes "setlinewidth") setlinewidth_op m10 (went [] m11) (made.free setlinewidth_op) refl refl)
-                        (sets_font f ds fr made g4 g5 (pos 900) [] k [] pages refl same_place)))))))))))
+      (then {k = m2} refl (then {k = m3} refl
+      (then (does (codes "scale") scale_op m3 (went [] m4) (made.free scale_op) refl (scaled_twice 1 (pos 100) m3 refl refl refl refl [] refl))
+      (both_runs (pushes (pos f.left ∷ pos f.bottom ∷ []) m4)
+      (then (does (codes "translate") translate_op m5 (went [] m6) (made.free translate_op) refl moved)
+      (then {k = m7} refl (then {k = m8} refl
+      (then (does (codes "scale") scale_op m8 (went [] m9) (made.free scale_op) refl (scaled_twice f.scale (pos f.scale) m8 (no_rest f.scale) some_scale (hundredth f.scale) near_scale [] refl))
+      (then {k = m10} refl
+      (then (does (codes "setlinewidth") setlinewidth_op m10 (went [] m11) (made.free setlinewidth_op) refl refl)
+      (sets_font f ds fr made g4 g5 (pos 900) [] k [] pages refl same_place)))))))))))
 
   -- the two lines that begin a page
   pub page_begun : (k : ℕ) (pages : List PagePaint) → Takes 18 (heading_text k) (between ds pages) (within f ds [] pages)
   unfolding heading_text heading_line
   page_begun k pages =
       let word : IsTokenWord (name_token (codes "pg")) (codes "pg") = record { some = omega arith; regular = refl; token = refl } in
-      let comment = takes_comment (codes "%Page: " ++ decimal k ++ 32 ∷ decimal k) (between ds pages) (two_go_on k k) in
+      let comment = takes_comment (codes "%Page: " ++ decimal k ++ 32 ∷ decimal k) (between ds pages) (two_in_line k k) in
       let begun : Takes 18 (codes "pg" ++ 10 ∷ []) (between ds pages) (within f ds [] pages) = takes_call word line_end_passed made.pg (begins_page pages) in
       rw append_assoc at (both_taken comment begun)
 

@@ -58,7 +58,7 @@ skip_regular b s e =
     let n = neither (is_blank b) (is_delimiter b) e in
     let p : (b == 37) ≡ false = last_false _ (b == 37) n.1 in
     ap (λ x. elim x as (λ _. List ℕ) [ true ↦ passed false s | false ↦ elim (b == 37) as (λ _. List ℕ) [ true ↦ passed true s | false ↦ b ∷ s ] ]) n.0
-      ∙ ap (λ x. elim x as (λ _. List ℕ) [ true ↦ passed true s | false ↦ b ∷ s ]) p
+    ∙ ap (λ x. elim x as (λ _. List ℕ) [ true ↦ passed true s | false ↦ b ∷ s ]) p
 
 -- a word is no blank and no comment
 pub word_stays : (w rest : List ℕ) → 1 ≤ length w → list_all is_regular w ≡ true → passed false (w ++ rest) ≡ w ++ rest
@@ -85,10 +85,10 @@ pub decimal_digits : (n : ℕ) → list_all is_digit (decimal n) ≡ true
 unfolding digits
 decimal_digits n = digits_before 64 n [] refl
 
-digit_regular : (b : ℕ) → is_digit b ≡ true → is_regular b ≡ true
+pub digit_regular : (b : ℕ) → is_digit b ≡ true → is_regular b ≡ true
 digit_regular b e = grind (arith, nat_tests)
 
-digit_no_minus : (b : ℕ) → is_digit b ≡ true → (b == 45) ≡ false
+pub digit_no_minus : (b : ℕ) → is_digit b ≡ true → (b == 45) ≡ false
 digit_no_minus b e = grind (arith, nat_tests)
 
 pub digits_regular : (ds : List ℕ) → list_all is_digit ds ≡ true → list_all is_regular ds ≡ true
@@ -147,23 +147,27 @@ line_end_passed = record { stop = refl; passes = λ s. refl }
 next_word : (t : Simple) (w rest : List ℕ) (b : ℕ) (m : State) → IsTokenWord t w → IsPassed b → NextToken (at m (w ++ b ∷ rest)) (simple_token t) (at m rest)
 next_word t w rest b m i p =
     let here : NextToken (record { pending = []; state = m; text = w ++ b ∷ rest }) (simple_token t) (at m (b ∷ rest)) =
-        from_text m (w ++ b ∷ rest) (b ∷ rest) (simple_token t) (simple_at t (b ∷ rest) (word_front w (b ∷ rest) t (word_at w rest b i.some i.regular p.stop) i.token)) in
+    from_text m (w ++ b ∷ rest) (b ∷ rest) (simple_token t) (simple_at t (b ∷ rest) (word_front w (b ∷ rest) t (word_at w rest b i.some i.regular p.stop) i.token)) in
     let place : NextToken (at m (w ++ b ∷ rest)) (simple_token t) (at m (b ∷ rest)) =
-        subst (λ u. NextToken (record { pending = []; state = m; text = u }) (simple_token t) (at m (b ∷ rest))) (sym (word_stays w (b ∷ rest) i.some i.regular)) here in
+    subst (λ u. NextToken (record { pending = []; state = m; text = u }) (simple_token t) (at m (b ∷ rest))) (sym (word_stays w (b ∷ rest) i.some i.regular)) here in
     subst (λ u. NextToken (at m (w ++ b ∷ rest)) (simple_token t) (record { pending = []; state = m; text = u })) (p.passes rest) place
 
 -- a word and a blank that are executed
 pub takes_word : {t : Simple} {w : List ℕ} {b : ℕ} {m k : State} → IsTokenWord t w → IsPassed b → executed (simple_token t) m ≡ went [] k → Takes 1 (w ++ b ∷ []) m k
-takes_word {t} {w} {b} {m} {k} i p e = record { take = λ rest.
-    rw (append_assoc w (b ∷ []) rest) (step 0 (at m (w ++ b ∷ rest)) (at k rest) (at k rest)
-      (record { token = simple_token t; rest = at m rest; body = []; state = k; next = next_word t w rest b m i p; went = e; is = refl }) (here (at k rest))) }
+takes_word {t} {w} {b} {m} {k} i p e = record {
+  take = λ rest.
+      rw (append_assoc w (b ∷ []) rest) (step 0 (at m (w ++ b ∷ rest)) (at k rest) (at k rest)
+      (record { token = simple_token t; rest = at m rest; body = []; state = k; next = next_word t w rest b m i p; went = e; is = refl }) (here (at k rest)));
+}
 
 -- a name and a blank that run a procedure
 pub takes_call : {n : ℕ} {name : List ℕ} {body : List Simple} {b : ℕ} {m k : State} → IsTokenWord (name_token name) name → IsPassed b → m.names name ≡ Some body → Runs n body m k → Takes (suc n) (name ++ b ∷ []) m k
-takes_call {n} {name} {body} {b} {m} {k} i p h r = record { take = λ rest.
-    rw (append_assoc name (b ∷ []) rest) (step n (at m (name ++ b ∷ rest)) (behind body m (at m rest)) (at k rest)
+takes_call {n} {name} {body} {b} {m} {k} i p h r = record {
+  take = λ rest.
+      rw (append_assoc name (b ∷ []) rest) (step n (at m (name ++ b ∷ rest)) (behind body m (at m rest)) (at k rest)
       (record { token = simple_token (name_token name); rest = at m rest; body = body; state = m; next = next_word (name_token name) name rest b m i p; went = ap (λ o. called o name m) h; is = refl })
-      (r.run [] (passed false rest))) }
+      (r.run [] (passed false rest)));
+}
 
 pub takes_numbers : (zs : List ℤ) (m : State) → all_near zs ≡ true → Takes (length zs) (numbers zs) m (record m { stack = pushed zs m.stack })
 unfolding numbers

@@ -38,16 +38,21 @@ use Rattle.ps_paint.proofs.Lines.{Draws, on_page, page_near, offset_near, close_
 -- words in parentheses and a space are pushed
 takes_words : (words : List ℕ) (m : State) → IsTrue (list_all is_shown words) → Takes 1 (in_parentheses words) m (record m { stack = words_value words ∷ m.stack })
 unfolding in_parentheses
-takes_words words m good = record { take = λ rest.
-    let t = flat_map shown words ++ 41 ∷ 32 ∷ rest in
-    let k : State = record m { stack = words_value words ∷ m.stack } in
-    let one : Step (at m (40 ∷ t)) (at k rest) = record {
-      token = simple_token (words_token words); rest = at m rest; body = []; state = k;
-      next = from_text m (40 ∷ t) (32 ∷ rest) (simple_token (words_token words)) (simple_at (words_token words) (32 ∷ rest) (string_front t words (32 ∷ rest) refl (record { good = good; spelled = refl })));
-      went = refl; is = refl;
-    } in
-    rw (append_assoc (flat_map shown words) (41 ∷ 32 ∷ []) rest) (step 0 (at m (40 ∷ t)) (at k rest) (at k rest) one (here (at k rest)))
-  }
+takes_words words m good = record {
+  take = λ rest.
+      let t = flat_map shown words ++ 41 ∷ 32 ∷ rest in
+      let k : State = record m { stack = words_value words ∷ m.stack } in
+      let one : Step (at m (40 ∷ t)) (at k rest) = record {
+        token = simple_token (words_token words);
+        rest = at m rest;
+        body = [];
+        state = k;
+        next = from_text m (40 ∷ t) (32 ∷ rest) (simple_token (words_token words)) (simple_at (words_token words) (32 ∷ rest) (string_front t words (32 ∷ rest) refl (record { good = good; spelled = refl })));
+        went = refl;
+        is = refl;
+      } in
+      rw (append_assoc (flat_map shown words) (41 ∷ 32 ∷ []) rest) (step 0 (at m (40 ∷ t)) (at k rest) (at k rest) one (here (at k rest)));
+}
 
 size_word : (size : Size) → IsTokenWord (name_token (size_name size)) (size_name size)
 size_word sizes.Small = record { some = omega arith; regular = refl; token = refl }
@@ -84,14 +89,14 @@ module _ (f : Frame) (ds : Names) (fr : IsFrame f) (made : Made f ds) where
       let m4 = page ds (font_value (pos 1 *ℤ z) ∷ st) g saved ps pages in
       let k = page ds st (record g { font = pos 1 *ℤ z }) saved ps pages in
       rw e (then {k = m1} refl
-        (then (does (codes "findfont") findfont_op m1 (went [] m2) (made.free findfont_op) refl refl)
-          (then {k = m3} refl
-            (then (does (codes "scalefont") scalefont_op m3 (went [] m4) (made.free scalefont_op) refl (is_in_range ((pos 1 *ℤ z) ∷ []) (went [] m4) (rw near refl)))
-              (then (does (codes "setfont") setfont_op m4 (went [] k) (made.free setfont_op) refl refl) no_more)))))
+      (then (does (codes "findfont") findfont_op m1 (went [] m2) (made.free findfont_op) refl refl)
+      (then {k = m3} refl
+      (then (does (codes "scalefont") scalefont_op m3 (went [] m4) (made.free scalefont_op) refl (is_in_range ((pos 1 *ℤ z) ∷ []) (went [] m4) (rw near refl)))
+      (then (does (codes "setfont") setfont_op m4 (went [] k) (made.free setfont_op) refl refl) no_more)))))
 
   shows : (size : Size) (a b x y : ℤ) (words : List ℕ) (st : List Value) (saved : List Graphics) (ps : List Paint) (pages : List PagePaint)
       → executed (simple_token show_name) (page ds (words_value words ∷ st) (drawing f x y (move f a b ∷ []) (height_of size)) saved ps pages)
-        ≡ went [] (page ds st (drawing f x y (move f a b ∷ []) (height_of size)) saved (ps ++ words_paint f size a b words ∷ []) pages)
+      ≡ went [] (page ds st (drawing f x y (move f a b ∷ []) (height_of size)) saved (ps ++ words_paint f size a b words ∷ []) pages)
   shows size a b x y words st saved ps pages =
       let m = page ds (words_value words ∷ st) (drawing f x y (move f a b ∷ []) (height_of size)) saved ps pages in
       let k = page ds st (drawing f x y (move f a b ∷ []) (height_of size)) saved (ps ++ words_paint f size a b words ∷ []) pages in
@@ -102,22 +107,22 @@ module _ (f : Frame) (ds : Names) (fr : IsFrame f) (made : Made f ds) where
   places_words : (size : Size) (x y dx dy : ℤ) (words : List ℕ) (st : List Value) (saved : List Graphics) (ps : List Paint) (pages : List PagePaint)
       → IsClose x → IsClose y → IsClose (x +ℤ dx) → IsClose (y +ℤ dy)
       → Runs 5 (translate_name ∷ m_name ∷ show_name ∷ grestore_name ∷ [])
-           (page ds (whole_value y ∷ whole_value x ∷ whole_value dy ∷ whole_value dx ∷ words_value words ∷ st) (corner f (height_of size)) (corner f (pos 900) ∷ saved) ps pages)
-           (on_page f ds st saved (ps ++ mark_paints f y (marks.Words size x dx dy words)) pages)
+      (page ds (whole_value y ∷ whole_value x ∷ whole_value dy ∷ whole_value dx ∷ words_value words ∷ st) (corner f (height_of size)) (corner f (pos 900) ∷ saved) ps pages)
+      (on_page f ds st saved (ps ++ mark_paints f y (marks.Words size x dx dy words)) pages)
   places_words size x y dx dy words st saved ps pages cx cy cd ce =
       let o = corner f (pos 900) in
       let s1 = words_value words ∷ st in
       let s2 = whole_value dy ∷ whole_value dx ∷ s1 in
       let q = ps ++ mark_paints f y (marks.Words size x dx dy words) in
       then (places f ds fr made (o ∷ saved) ps pages x y (height_of size) s2 cx cy)
-        (both_runs (moves f ds fr made (o ∷ saved) ps pages dx dy x y [] (height_of size) s1 cd ce)
-          (then (shows size (x +ℤ dx) (y +ℤ dy) x y words st (o ∷ saved) ps pages)
-            (then (restores f ds fr made saved q pages st (drawing f x y (move f (x +ℤ dx) (y +ℤ dy) ∷ []) (height_of size)) o) no_more)))
+      (both_runs (moves f ds fr made (o ∷ saved) ps pages dx dy x y [] (height_of size) s1 cd ce)
+      (then (shows size (x +ℤ dx) (y +ℤ dy) x y words st (o ∷ saved) ps pages)
+      (then (restores f ds fr made saved q pages st (drawing f x y (move f (x +ℤ dx) (y +ℤ dy) ∷ []) (height_of size)) o) no_more)))
 
   words_runs : (size : Size) (x y dx dy : ℤ) (words : List ℕ) (st : List Value) (saved : List Graphics) (ps : List Paint) (pages : List PagePaint)
       → IsClose x → IsClose y → IsClose (x +ℤ dx) → IsClose (y +ℤ dy)
       → Runs (size_cost size) (size_body size) (on_page f ds (whole_value y ∷ whole_value x ∷ whole_value dy ∷ whole_value dx ∷ words_value words ∷ st) saved ps pages)
-           (on_page f ds st saved (ps ++ mark_paints f y (marks.Words size x dx dy words)) pages)
+      (on_page f ds st saved (ps ++ mark_paints f y (marks.Words size x dx dy words)) pages)
   unfolding size_body size_cost
   words_runs sizes.Small x y dx dy words st saved ps pages cx cy cd ce =
       let s = whole_value y ∷ whole_value x ∷ whole_value dy ∷ whole_value dx ∷ words_value words ∷ st in
@@ -126,7 +131,7 @@ module _ (f : Frame) (ds : Names) (fr : IsFrame f) (made : Made f ds) where
       let s = whole_value y ∷ whole_value x ∷ whole_value dy ∷ whole_value dx ∷ words_value words ∷ st in
       let o = corner f (pos 900) in
       then (saves f ds fr made saved ps pages s o)
-        (both_runs (sets_font o (corner f (pos 1600)) (pos 1600) s (o ∷ saved) ps pages refl refl) (places_words sizes.Big x y dx dy words st saved ps pages cx cy cd ce))
+      (both_runs (sets_font o (corner f (pos 1600)) (pos 1600) s (o ∷ saved) ps pages refl refl) (places_words sizes.Big x y dx dy words st saved ps pages cx cy cd ce))
 
   pub words_drawn : (size : Size) (y x dx dy : ℤ) (words : List ℕ) → IsPlaced y x dx dy → IsWords words → Draws f ds (mark_text y (marks.Words size x dx dy words)) (mark_paints f y (marks.Words size x dx dy words))
   unfolding mark_text words_line
@@ -137,11 +142,11 @@ module _ (f : Frame) (ds : Names) (fr : IsFrame f) (made : Made f ds) where
         count = 1 + (4 + suc (size_cost size));
         few = omega (arith, size_few size, length-append ((in_parentheses words ++ numbers zs) ++ size_name size) (10 ∷ []));
         draw = λ st saved ps pages.
-          let m1 : State = on_page f ds (words_value words ∷ st) saved ps pages in
-          rw (append_assoc (in_parentheses words) (numbers zs) (size_name size), append_assoc (in_parentheses words) (numbers zs ++ size_name size) (10 ∷ []))
+            let m1 : State = on_page f ds (words_value words ∷ st) saved ps pages in
+            rw (append_assoc (in_parentheses words) (numbers zs) (size_name size), append_assoc (in_parentheses words) (numbers zs ++ size_name size) (10 ∷ []))
             (both_taken (takes_words words (on_page f ds st saved ps pages) w.shown)
-              (takes_line {m = m1} zs (size_name size) near (size_word size) (size_made size)
-                (words_runs size x y dx dy words st saved ps pages (close_number x s.anchor) (close_number y s.base) (close_sum x dx s.anchor s.across) (close_sum y dy s.base s.above))));
+            (takes_line {m = m1} zs (size_name size) near (size_word size) (size_made size)
+            (words_runs size x y dx dy words st saved ps pages (close_number x s.anchor) (close_number y s.base) (close_sum x dx s.anchor s.across) (close_sum y dy s.base s.above))));
       }
 
   -- a title is words with no offset
