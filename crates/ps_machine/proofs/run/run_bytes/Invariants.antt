@@ -1,7 +1,7 @@
 use Rattle.std.proofs.Common.{◌-◌}
 use Rattle.ps_machine.specs.Doing.{state_of}
 use Rattle.ps_machine.proofs.Loop.{Come}
-use Rattle.ps_machine.proofs.run.run_machine.Given as goal
+use Rattle.ps_machine.proofs.run.run_bytes.Given as goal
 
 abbrev pub invariant-loop-calls : goal.invariant-loop-calls
 invariant-loop-calls l = Come l.b l.budget l.token l.calls (state_of l.m) l.rest l.fault
