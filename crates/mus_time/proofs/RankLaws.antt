@@ -42,7 +42,7 @@ ranked (k ∷ ks) m (suc i) inside at =
     omega (arith, more) ∙ ap (λ b. if b then 1 + rank_of ks m else rank_of ks m) (sym (at.0 0 k (omega arith) (omega arith)))
 
 -- ---- ranks of keys
-false_not_true : false ≡ true → ⊥
+pub false_not_true : false ≡ true → ⊥
 false_not_true h = cc
 
 none_below : (k : ColumnKey) (ks : List ColumnKey) → BelowAll k ks → rank_of ks k ≡ 0
