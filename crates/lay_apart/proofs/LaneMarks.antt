@@ -18,7 +18,7 @@ use Rattle.mus_arcs.specs.Pieces.{piece_of}
 use Rattle.mus_time.specs.declared.keys.ColumnKey.{ColumnKey}
 use Rattle.mus_time.specs.Keys.{has_features}
 use Rattle.mus_laid.specs.declared.laid.Laid.{Laid}
-use Rattle.mus_parts.specs.declared.graces.Group.{Group}
+use Rattle.mus_ink.specs.declared.graces.Group.{Group}
 use Rattle.mus_drawn.specs.declared.drawn.DrawnEvent.{DrawnEvent}
 use Rattle.mus_drawn.specs.declared.drawn.DrawnMeasure.{DrawnMeasure}
 use Rattle.mus_drawn.specs.declared.drawn.DrawnVoice.{DrawnVoice}

@@ -24,21 +24,21 @@ use Rattle.mus_arcs.specs.declared.pairing.Arc.{Arc}
 use Rattle.mus_arcs.specs.declared.cutting.Piece.{Piece}
 use Rattle.mus_laid.specs.declared.laid.Laid.{Laid}
 use Rattle.mus_laid.specs.Printed.{printed}
-use Rattle.mus_parts.specs.declared.beams.Stem.{Stem}
-use Rattle.mus_parts.specs.declared.graces.Group.{Group}
-use Rattle.mus_parts.specs.Bars.{bar_marks, glyph_if}
-use Rattle.mus_parts.specs.Beams.{beam_marks, beams_at, beams_from, last_at, level_from, levels_before, levels_from}
-use Rattle.mus_parts.specs.Changes.{behind_clef, change_marks, clef_if, head_marks, key_if, new_entries}
-use Rattle.mus_parts.specs.Decos.{behind_deco, body_marks, deco_glyph, deco_mark, deco_marks, note_marks}
-use Rattle.mus_parts.specs.Graces.{at_end, grace_beam, grace_body, grace_heads, grace_marks}
-use Rattle.mus_parts.specs.Notes.{dot_marks, head_glyph, heads_marks, ledger_marks, note_heads, sign_mark, sign_marks}
-use Rattle.mus_parts.specs.Rests.{rest_dots, rest_glyphs, rest_marks, short_rests}
-use Rattle.mus_parts.specs.Signatures.{entry_mark, entry_marks, meter_if, meter_marks}
-use Rattle.mus_parts.specs.Stems.{flag_marks, flags_or_stubs, stem_if, stem_marks, stub_marks}
-use Rattle.mus_texts.specs.declared.texts.TextPlace.{TextPlace}
-use Rattle.mus_texts.specs.Arcs.{Seen, arc_mark, slur_mark, tie_mark}
-use Rattle.mus_texts.specs.Syllables.{syllable, syllable_if, syllables_from}
-use Rattle.mus_texts.specs.Texts.{above_from, below_from, text_marks, texts_above, texts_below}
+use Rattle.mus_ink.specs.declared.beams.Stem.{Stem}
+use Rattle.mus_ink.specs.declared.graces.Group.{Group}
+use Rattle.mus_ink.specs.Bars.{bar_marks, glyph_if}
+use Rattle.mus_ink.specs.Beams.{beam_marks, beams_at, beams_from, last_at, level_from, levels_before, levels_from}
+use Rattle.mus_ink.specs.Changes.{behind_clef, change_marks, clef_if, head_marks, key_if, new_entries}
+use Rattle.mus_ink.specs.Decos.{behind_deco, body_marks, deco_glyph, deco_mark, deco_marks, note_marks}
+use Rattle.mus_ink.specs.Graces.{at_end, grace_beam, grace_body, grace_heads, grace_marks}
+use Rattle.mus_ink.specs.Notes.{dot_marks, head_glyph, heads_marks, ledger_marks, note_heads, sign_mark, sign_marks}
+use Rattle.mus_ink.specs.Rests.{rest_dots, rest_glyphs, rest_marks, short_rests}
+use Rattle.mus_ink.specs.Signatures.{entry_mark, entry_marks, meter_if, meter_marks}
+use Rattle.mus_ink.specs.Stems.{flag_marks, flags_or_stubs, stem_if, stem_marks, stub_marks}
+use Rattle.mus_words.specs.declared.texts.TextPlace.{TextPlace}
+use Rattle.mus_words.specs.Arcs.{Seen, arc_mark, slur_mark, tie_mark}
+use Rattle.mus_words.specs.Syllables.{syllable, syllable_if, syllables_from}
+use Rattle.mus_words.specs.Texts.{above_from, below_from, text_marks, texts_above, texts_below}
 use Rattle.lay_apart.proofs.LaneGaps.{HasLane}
 
 abbrev pub HaveLanes : ℕ → List Laid → Type 0

@@ -15,7 +15,7 @@ use Rattle.mus_time.specs.Order.{rank_of}
 use Rattle.mus_time.proofs.Places.{further_places, length_is, places_of}
 use Rattle.mus_laid.specs.declared.laid.StaffMarks.{StaffMarks}
 use Rattle.mus_laid.specs.declared.laid.SystemMarks.{SystemMarks}
-use Rattle.mus_parts.specs.Bars.{bar_marks}
+use Rattle.mus_ink.specs.Bars.{bar_marks}
 use Rattle.mus_drawn.specs.declared.drawn.DrawnMeasure.{DrawnMeasure}
 use Rattle.mus_drawn.specs.declared.drawn.DrawnVoice.{DrawnVoice}
 use Rattle.mus_drawn.specs.Drawn.{drawn_voice}

@@ -28,21 +28,21 @@ use Rattle.mus_stems.specs.Ledgers.{ledgers_of}
 use Rattle.mus_stems.specs.Signs.{signs_from}
 use Rattle.mus_laid.specs.Printed.{printed}
 use Rattle.mus_laid.specs.declared.laid.Laid.{Laid}
-use Rattle.mus_parts.specs.declared.graces.Group.{Group}
-use Rattle.mus_parts.specs.Bars.{bar_glyph, bar_marks, glyph_if}
-use Rattle.mus_parts.specs.Changes.{behind_clef, change_marks, clef_if, count_if, head_marks, key_if, new_entries}
-use Rattle.mus_parts.specs.Decos.{behind_deco, body_marks, deco_glyph, deco_mark, deco_marks, first_deco, note_marks, top_of}
-use Rattle.mus_parts.specs.Graces.{at_end, grace_body, grace_heads, grace_marks, stem_from}
-use Rattle.mus_parts.specs.Laying.{glyph, stem}
-use Rattle.mus_parts.specs.Notes.{dot_marks, dy_of, head_glyph, heads_marks, ledger_marks, note_heads, sign_mark, sign_marks}
-use Rattle.mus_parts.specs.Rests.{rest_dots, rest_glyphs, rest_marks, short_rests}
-use Rattle.mus_parts.specs.Signatures.{clef_dy, clef_glyph, entry_mark, entry_marks, meter_if, meter_marks, shown}
-use Rattle.mus_parts.specs.Stems.{flag_marks, flags_or_stubs, stem_if, stem_marks, stub_marks}
-use Rattle.mus_texts.specs.declared.texts.TextPlace.{TextPlace}
-use Rattle.mus_texts.specs.Syllables.{syllable, syllable_dx, syllable_if, syllables_from, verse_dy}
-use Rattle.mus_texts.specs.Words.{words}
+use Rattle.mus_ink.specs.declared.graces.Group.{Group}
+use Rattle.mus_ink.specs.Bars.{bar_glyph, bar_marks, glyph_if}
+use Rattle.mus_ink.specs.Changes.{behind_clef, change_marks, clef_if, count_if, head_marks, key_if, new_entries}
+use Rattle.mus_ink.specs.Decos.{behind_deco, body_marks, deco_glyph, deco_mark, deco_marks, first_deco, note_marks, top_of}
+use Rattle.mus_ink.specs.Graces.{at_end, grace_body, grace_heads, grace_marks, stem_from}
+use Rattle.mus_ink.specs.Drawing.{glyph, stem}
+use Rattle.mus_ink.specs.Notes.{dot_marks, dy_of, head_glyph, heads_marks, ledger_marks, note_heads, sign_mark, sign_marks}
+use Rattle.mus_ink.specs.Rests.{rest_dots, rest_glyphs, rest_marks, short_rests}
+use Rattle.mus_ink.specs.Signatures.{clef_dy, clef_glyph, entry_mark, entry_marks, meter_if, meter_marks, shown}
+use Rattle.mus_ink.specs.Stems.{flag_marks, flags_or_stubs, stem_if, stem_marks, stub_marks}
+use Rattle.mus_words.specs.declared.texts.TextPlace.{TextPlace}
+use Rattle.mus_words.specs.Syllables.{syllable, syllable_dx, syllable_if, syllables_from, verse_dy}
+use Rattle.mus_words.specs.Words.{words}
 use Rattle.mus_laid.specs.declared.laid.Lane.TheVariants as lanes
-use Rattle.mus_texts.specs.Texts.{above_from, below_from, text_marks, texts_above, texts_below}
+use Rattle.mus_words.specs.Texts.{above_from, below_from, text_marks, texts_above, texts_below}
 use Rattle.mus_laid.specs.declared.laid.Mark.{Mark}
 use Rattle.mus_laid.specs.declared.laid.Mark.TheVariants as marks
 

@@ -20,9 +20,9 @@ use Rattle.mus_time.specs.declared.keys.ColumnKey.{ColumnKey}
 use Rattle.mus_time.specs.Keys.{events_keys, has_features, key_at, measures_keys, signed_through}
 use Rattle.mus_time.specs.Onsets.{length_in, ticks_of_some}
 use Rattle.mus_time.specs.Order.{class_number, is_below, rank_of}
-use Rattle.mus_parts.specs.declared.graces.Group.{Group}
-use Rattle.mus_parts.specs.Bars.{bar_marks}
-use Rattle.mus_parts.specs.Graces.{group_of}
+use Rattle.mus_ink.specs.declared.graces.Group.{Group}
+use Rattle.mus_ink.specs.Bars.{bar_marks}
+use Rattle.mus_ink.specs.Graces.{group_of}
 use Rattle.mus_drawn.specs.declared.drawn.DrawnEvent.{DrawnEvent}
 use Rattle.mus_drawn.specs.declared.drawn.DrawnMeasure.{DrawnMeasure}
 use Rattle.mus_drawn.specs.declared.standing.Standing.{Standing}

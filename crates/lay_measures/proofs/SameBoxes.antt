@@ -13,14 +13,14 @@ use Rattle.mus_arcs.specs.Pieces.{piece_of}
 use Rattle.mus_laid.specs.Printed.{printed}
 use Rattle.mus_laid.specs.declared.laid.Lane.TheVariants as lanes
 use Rattle.mus_laid.specs.declared.laid.Laid.{Laid}
-use Rattle.mus_parts.specs.declared.beams.Stem.{Stem}
-use Rattle.mus_parts.specs.declared.graces.Group.{Group}
-use Rattle.mus_parts.specs.Beams.{beam_marks, beams_at, beams_from, last_at, level_from, levels_before, levels_from}
-use Rattle.mus_parts.specs.Graces.{grace_beam}
-use Rattle.mus_texts.specs.Arcs.{Seen, arc_mark, slur_mark, tie_mark}
-use Rattle.mus_texts.specs.Syllables.{syllable, syllable_dx, syllable_if, syllables_from, verse_dy}
-use Rattle.mus_texts.specs.Texts.{above_dy, above_from, below_dy, below_from, text_marks, texts_above, texts_below}
-use Rattle.mus_texts.specs.Words.{words}
+use Rattle.mus_ink.specs.declared.beams.Stem.{Stem}
+use Rattle.mus_ink.specs.declared.graces.Group.{Group}
+use Rattle.mus_ink.specs.Beams.{beam_marks, beams_at, beams_from, last_at, level_from, levels_before, levels_from}
+use Rattle.mus_ink.specs.Graces.{grace_beam}
+use Rattle.mus_words.specs.Arcs.{Seen, arc_mark, slur_mark, tie_mark}
+use Rattle.mus_words.specs.Syllables.{syllable, syllable_dx, syllable_if, syllables_from, verse_dy}
+use Rattle.mus_words.specs.Texts.{above_dy, above_from, below_dy, below_from, text_marks, texts_above, texts_below}
+use Rattle.mus_words.specs.Words.{words}
 use Rattle.mus_drawn.specs.declared.drawn.DrawnEvent.{DrawnEvent}
 use Rattle.mus_drawn.specs.declared.drawn.DrawnMeasure.{DrawnMeasure}
 use Rattle.mus_drawn.specs.declared.drawn.DrawnVoice.{DrawnVoice}

@@ -13,13 +13,13 @@ use Rattle.mus_time.specs.Order.{rank_of}
 use Rattle.mus_laid.specs.declared.laid.Laid.{Laid}
 use Rattle.mus_laid.specs.declared.laid.Mark.{Mark}
 use Rattle.mus_laid.specs.declared.laid.Mark.TheVariants as marks
-use Rattle.mus_parts.specs.declared.graces.Group.{Group}
-use Rattle.mus_parts.specs.Bars.{bar_marks}
-use Rattle.mus_parts.specs.Changes.{change_marks, head_marks}
-use Rattle.mus_parts.specs.Decos.{note_marks}
-use Rattle.mus_parts.specs.Graces.{grace_marks, group_of}
-use Rattle.mus_texts.specs.Syllables.{syllables_from}
-use Rattle.mus_texts.specs.Texts.{text_marks}
+use Rattle.mus_ink.specs.declared.graces.Group.{Group}
+use Rattle.mus_ink.specs.Bars.{bar_marks}
+use Rattle.mus_ink.specs.Changes.{change_marks, head_marks}
+use Rattle.mus_ink.specs.Decos.{note_marks}
+use Rattle.mus_ink.specs.Graces.{grace_marks, group_of}
+use Rattle.mus_words.specs.Syllables.{syllables_from}
+use Rattle.mus_words.specs.Texts.{text_marks}
 use Rattle.mus_drawn.specs.declared.drawn.DrawnEvent.{DrawnEvent}
 use Rattle.mus_drawn.specs.declared.drawn.DrawnMeasure.{DrawnMeasure}
 use Rattle.mus_marks.specs.declared.events.Room.{Room}

@@ -21,9 +21,9 @@ use Rattle.mus_laid.specs.declared.laid.Laid.{Laid}
 use Rattle.mus_laid.specs.declared.laid.Mark.{Mark}
 use Rattle.mus_laid.specs.declared.laid.Mark.TheVariants as marks
 use Rattle.mus_laid.specs.declared.laid.SystemMarks.{SystemMarks}
-use Rattle.mus_parts.specs.declared.graces.Group.{Group}
-use Rattle.mus_parts.specs.Bars.{bar_marks}
-use Rattle.mus_parts.specs.Graces.{grace_marks, group_of}
+use Rattle.mus_ink.specs.declared.graces.Group.{Group}
+use Rattle.mus_ink.specs.Bars.{bar_marks}
+use Rattle.mus_ink.specs.Graces.{grace_marks, group_of}
 use Rattle.mus_drawn.specs.declared.drawn.DrawnEvent.{DrawnEvent}
 use Rattle.mus_drawn.specs.declared.drawn.DrawnMeasure.{DrawnMeasure}
 use Rattle.mus_drawn.specs.declared.drawn.DrawnVoice.{DrawnVoice}
@@ -31,7 +31,7 @@ use Rattle.mus_drawn.specs.Drawn.{drawn_voice}
 use Rattle.mus_marks.specs.declared.events.Room.{Room}
 use Rattle.mus_marks.specs.Arcs.{arcs_part}
 use Rattle.mus_marks.specs.Events.{bar_part, change_part, event_marks, events_marks, graces_from, graces_part, levels_behind, levels_in, measures_marks, note_part, note_rank, words_part}
-use Rattle.mus_marks.specs.Ranks.{rank_at}
+use Rattle.mus_time.specs.Ranks.{rank_at}
 use Rattle.mus_marks.specs.Staff.{beams_part, columns_part, first_part, grace_beams_part, head_part, meter_shown, staff_marks, staff_over, voice_marks}
 use Rattle.mus_marks.specs.System.{IsCall, staff_of}
 use Rattle.mus_marks.proofs.Lines.{voice_count}

@@ -25,7 +25,7 @@ use Rattle.mus_arcs.specs.Arcs.{arcs_of, copies, has_pitch, open_ends, slur, slu
 use Rattle.mus_arcs.specs.Events.{at_measure, events_from, events_of_voice}
 use Rattle.mus_arcs.specs.Pieces.{piece_of}
 use Rattle.mus_laid.specs.declared.laid.Laid.{Laid}
-use Rattle.mus_texts.specs.Arcs.{Seen, arc_mark, slur_mark, tie_mark}
+use Rattle.mus_words.specs.Arcs.{Seen, arc_mark, slur_mark, tie_mark}
 use Rattle.mus_drawn.specs.declared.drawn.DrawnEvent.{DrawnEvent}
 use Rattle.mus_drawn.specs.declared.drawn.DrawnMeasure.{DrawnMeasure}
 use Rattle.mus_drawn.specs.Drawn.{drawn_voice}

@@ -18,10 +18,10 @@ use Rattle.mus_time.specs.Order.{is_below}
 use Rattle.mus_laid.specs.declared.laid.Laid.{Laid}
 use Rattle.mus_stems.specs.declared.plans.StemPlan.{StemPlan}
 use Rattle.mus_stems.proofs.RunLaws.{all_append}
-use Rattle.mus_parts.specs.declared.beams.Stem.{Stem}
-use Rattle.mus_parts.specs.Beams.{beam_marks, beams_at, beams_from, goes_on, last_at, level_from, levels_before, levels_from, stem_of, way_of}
-use Rattle.mus_parts.specs.Laying.{beam}
-use Rattle.mus_parts.specs.Stems.{lower_edge}
+use Rattle.mus_ink.specs.declared.beams.Stem.{Stem}
+use Rattle.mus_ink.specs.Beams.{beam_marks, beams_at, beams_from, goes_on, last_at, level_from, levels_before, levels_from, stem_of, way_of}
+use Rattle.mus_ink.specs.Drawing.{beam}
+use Rattle.mus_ink.specs.Stems.{lower_edge}
 use Rattle.mus_drawn.specs.declared.drawn.DrawnEvent.{DrawnEvent}
 use Rattle.mus_drawn.specs.declared.drawn.DrawnMeasure.{DrawnMeasure}
 use Rattle.mus_drawn.specs.declared.standing.Standing.{Standing}

@@ -20,15 +20,15 @@ use Rattle.mus_stems.specs.declared.plans.StemPlan.{StemPlan}
 use Rattle.mus_stems.specs.Stills.{flags_of}
 use Rattle.mus_time.specs.Keys.{change_has_mark, key_has_mark, meter_has_mark}
 use Rattle.mus_laid.specs.declared.laid.Laid.{Laid}
-use Rattle.mus_parts.specs.declared.graces.Group.{Group}
-use Rattle.mus_parts.specs.Bars.{bar_marks}
-use Rattle.mus_parts.specs.Changes.{behind_clef, change_marks, clef_if, count_if, head_marks, key_if, new_entries}
-use Rattle.mus_parts.specs.Decos.{body_marks, note_marks}
-use Rattle.mus_parts.specs.Graces.{grace_body, grace_marks}
-use Rattle.mus_parts.specs.Notes.{dot_marks, head_glyph, heads_marks, ledger_marks, note_heads, sign_marks}
-use Rattle.mus_parts.specs.Rests.{rest_dots, rest_glyphs, rest_marks, short_rests}
-use Rattle.mus_parts.specs.Signatures.{meter_if, meter_marks}
-use Rattle.mus_parts.specs.Stems.{stem_marks}
+use Rattle.mus_ink.specs.declared.graces.Group.{Group}
+use Rattle.mus_ink.specs.Bars.{bar_marks}
+use Rattle.mus_ink.specs.Changes.{behind_clef, change_marks, clef_if, count_if, head_marks, key_if, new_entries}
+use Rattle.mus_ink.specs.Decos.{body_marks, note_marks}
+use Rattle.mus_ink.specs.Graces.{grace_body, grace_marks}
+use Rattle.mus_ink.specs.Notes.{dot_marks, head_glyph, heads_marks, ledger_marks, note_heads, sign_marks}
+use Rattle.mus_ink.specs.Rests.{rest_dots, rest_glyphs, rest_marks, short_rests}
+use Rattle.mus_ink.specs.Signatures.{meter_if, meter_marks}
+use Rattle.mus_ink.specs.Stems.{stem_marks}
 use Rattle.lay_shown.proofs.Inside.{false_not_true}
 use Rattle.lay_shown.proofs.Planned.{IsPlanOf}
 

@@ -8,9 +8,9 @@ use Rattle.mus_time.specs.declared.keys.Class.TheVariants as classes
 use Rattle.mus_time.specs.declared.keys.ColumnKey.{ColumnKey}
 use Rattle.mus_time.specs.Keys.{key_at}
 use Rattle.mus_time.specs.Order.{is_below}
-use Rattle.mus_parts.specs.declared.graces.Group.{Group}
-use Rattle.mus_parts.specs.Graces.{beam_edge, grace_beam, group_of}
-use Rattle.mus_parts.specs.Laying.{beam}
+use Rattle.mus_ink.specs.declared.graces.Group.{Group}
+use Rattle.mus_ink.specs.Graces.{beam_edge, grace_beam, group_of}
+use Rattle.mus_ink.specs.Drawing.{beam}
 use Rattle.mus_drawn.specs.declared.drawn.DrawnEvent.{DrawnEvent}
 use Rattle.mus_drawn.specs.declared.drawn.DrawnMeasure.{DrawnMeasure}
 use Rattle.mus_marks.specs.Staff.{beam_over, event_grace_beam, grace_beams_part}

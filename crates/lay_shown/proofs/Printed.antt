@@ -19,7 +19,7 @@ use Rattle.mus_time.specs.declared.times.Timeline.{Timeline}
 use Rattle.mus_time.specs.Keys.{has_features}
 use Rattle.mus_laid.specs.declared.laid.StaffMarks.{StaffMarks}
 use Rattle.mus_laid.specs.declared.laid.SystemMarks.{SystemMarks}
-use Rattle.mus_parts.specs.declared.graces.Group.{Group}
+use Rattle.mus_ink.specs.declared.graces.Group.{Group}
 use Rattle.mus_drawn.specs.declared.drawn.DrawnEvent.{DrawnEvent}
 use Rattle.mus_drawn.specs.declared.drawn.DrawnMeasure.{DrawnMeasure}
 use Rattle.mus_drawn.specs.declared.drawn.DrawnVoice.{DrawnVoice}

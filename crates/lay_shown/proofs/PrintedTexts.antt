@@ -9,7 +9,7 @@ use Rattle.std.proofs.lemmas.List.{length-map, length-take}
 use Rattle.std.proofs.lemmas.List.Folds.{list_all-append}
 use Rattle.mus_stems.proofs.RunLaws.{all_append}
 use Rattle.mus_laid.specs.Printed.{is_printable, printed, printed_byte, printed_within}
-use Rattle.mus_texts.specs.Words.{shown}
+use Rattle.mus_words.specs.Words.{shown}
 use Rattle.lay_shown.specs.Texts.{IsPrinted}
 
 byte_printable : (b : ℕ) → IsTrue (is_printable (printed_byte b))

@@ -5,9 +5,9 @@
 
 pub mod arcs;
 pub mod beams;
+pub mod bridges;
 pub mod events;
 pub mod measures;
-pub mod ranks;
 pub mod sounds;
 pub mod staves;
 pub mod systems;
