@@ -11,7 +11,7 @@ use Rattle.mus_score.specs.Times.{flats_of}
 use Rattle.mus_time.specs.declared.keys.Class.{Class}
 use Rattle.mus_time.specs.declared.keys.Class.TheVariants as classes
 use Rattle.mus_time.specs.declared.keys.ColumnKey.{ColumnKey}
-use Rattle.mus_time.specs.Keys.{called_keys, events_keys, first_keys, further_keys, IsInSystem, key_at, measure_keys, measures_keys, signed_at, voice_keys}
+use Rattle.mus_time.specs.Keys.{bar_key, called_keys, events_keys, first_keys, further_keys, IsInSystem, key_at, measure_keys, measures_keys, signed_at, voice_keys}
 use Rattle.mus_time.specs.Order.{BelowAll, is_below, Rises}
 use Rattle.mus_drawn.specs.Drawn.{drawn_voice}
 use Rattle.mus_laid.specs.Boxes.{AreGoodMarks}
@@ -46,9 +46,6 @@ pub places : (P : ColumnKey → Type 0) (keys : List ColumnKey) (cs : List Colum
 places P keys cs all e = All-from_recursion (λ c. P c.key) cs (keys_all P cs (recursion_from_All P (keys_in cs) (subst (λ ks. All P ks) (sym e) all)))
 
 -- ---- the bar
-abbrev bar_key : List ℕ → ℕ → ColumnKey
-bar_key lengths m = key_at m (slice_index lengths m) classes.Bar 0
-
 bar_class : (lengths : List ℕ) (m : ℕ) (k : ColumnKey) → is_below (bar_key lengths m) k ≡ true → IsInSystem lengths m (m + 1) k → k.class ≡ classes.Bar
 unfolding is_below
 bar_class lengths m k below place =
