@@ -2,7 +2,7 @@
 use Rattle.std.proofs.Common.{◌≡◌, ℕ, suc, ◌+◌, ◌-◌, ◌*◌, ◌<◌, ℤ, pos, Bool, List, ◌∷◌, ◌++◌, refl, sym, ap, ◌∙◌, append_assoc, arith}
 use Rattle.mus_units.specs.declared.glyph.Glyph.TheVariants as glyphs
 use Rattle.mus_ink.specs.declared.beams.Stem.{Stem}
-use Rattle.mus_ink.specs.Drawing.{glyph, loose_glyph}
+use Rattle.mus_ink.specs.Drawing.{glyph, loose_glyph, steps_dy}
 use Rattle.mus_ink.specs.declared.kinds.RestRow.{RestRow}
 use Rattle.mus_ink.specs.Distances.{dot_side, dot_step, rest_dot_line}
 use Rattle.mus_ink.specs.Kinds.{flag_glyph, stub_glyph}
@@ -22,7 +22,7 @@ pub stubs_step : (first up : Bool) (to : ℤ) (k n : ℕ) → k < n →
 stubs_step first up to k n lt = rw (one_less k n lt) refl
 
 pub rests_step : (raise : ℤ) (row : RestRow) (k n : ℕ) → k < n →
-    short_rests raise row k (n - k) ≡ glyph row.glyph (pos 0) (short_dy raise row.line k) ∷ short_rests raise row (k + 1) (n - (k + 1))
+    short_rests raise row k (n - k) ≡ glyph row.glyph (pos 0) (short_dy raise (steps_dy row.line) k) ∷ short_rests raise row (k + 1) (n - (k + 1))
 rests_step raise row k n lt = rw (one_less k n lt) refl
 
 pub dots_step : (raise : ℤ) (k n : ℕ) → k < n →

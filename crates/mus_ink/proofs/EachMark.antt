@@ -20,6 +20,7 @@ use Rattle.mus_score.specs.declared.score.Event.{Event}
 use Rattle.mus_score.specs.declared.score.Flat.{Flat}
 use Rattle.mus_score.specs.declared.score.Look.{Look}
 use Rattle.mus_score.specs.declared.score.Look.TheVariants as looks
+use Rattle.mus_stems.proofs.RunLaws.{all_append}
 use Rattle.mus_stems.specs.declared.dots.Spot.{Spot}
 use Rattle.mus_stems.specs.declared.plans.StemPlan.{StemPlan}
 use Rattle.mus_ink.specs.declared.graces.Group.{Group}
@@ -45,9 +46,8 @@ pub record OfMarks (P : Drawn → Type 0) : Type 0 where
   pub of_meter : (dx : ℕ) (m : Meter) → IsGoodMeter m → AllByRecursion P (meter_marks dx m)
 
 module _ (P : Drawn → Type 0) (w : OfMarks P) where
-  pub two : (xs ys : List Drawn) → AllByRecursion P xs → AllByRecursion P ys → AllByRecursion P (xs ++ ys)
-  two [] ys p q = q
-  two (x ∷ xs) ys p q = (p.0, two xs ys p.1 q)
+  two : (xs ys : List Drawn) → AllByRecursion P xs → AllByRecursion P ys → AllByRecursion P (xs ++ ys)
+  two = all_append P
 
   either : (b : Bool) (xs ys : List Drawn) → AllByRecursion P xs → AllByRecursion P ys → AllByRecursion P (if b then xs else ys)
   either true xs ys p q = p

@@ -16,11 +16,11 @@ raised raise dy = cut (dy +ℤ raise)
 
 -- a glyph for each flag, downwards, the k-th first
 unfoldable pub short_dy : ℤ → ℤ → ℕ → ℤ
-short_dy raise line k = cut ((steps_dy line +ℤ raise) -ℤ pos (rest_step * k))
+short_dy raise first k = cut ((first +ℤ raise) -ℤ pos (rest_step * k))
 
 abbrev pub short_rests : ℤ → RestRow → ℕ → ℕ → List Drawn
 short_rests raise row k zero = []
-short_rests raise row k (suc n) = glyph row.glyph (pos 0) (short_dy raise row.line k) ∷ short_rests raise row (k + 1) n
+short_rests raise row k (suc n) = glyph row.glyph (pos 0) (short_dy raise (steps_dy row.line) k) ∷ short_rests raise row (k + 1) n
 
 abbrev pub rest_glyph : ℤ → RestRow → Drawn
 rest_glyph raise row = glyph row.glyph (pos 0) (raised raise (steps_dy row.line))

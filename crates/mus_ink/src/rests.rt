@@ -1,7 +1,7 @@
 ghost use Rattle.std.specs.Prelude.{◌≡◌, ◌+◌, ◌*◌, ◌++◌, ◌∷◌, [], pos, OnOk};
 ghost use Rattle.mus_units.specs.declared.glyph.Glyph.TheVariants.{Dt};
 ghost use Rattle.mus_ink.specs.Distances.{dot_side, dot_step, rest_dot_line};
-ghost use Rattle.mus_ink.specs.Drawing.{glyph};
+ghost use Rattle.mus_ink.specs.Drawing.{glyph, steps_dy};
 ghost use Rattle.mus_ink.specs.Rests.{raised, short_dy, short_rests, rest_glyph, rest_glyphs, rest_dots, rest_marks};
 
 use crate::distances::{DOT_SIDE, DOT_STEP, REST_DOT_LINE, REST_STEP};
@@ -19,18 +19,18 @@ fn raised(raise: i32, dy: i32) -> i32
     cut(i64::from(dy) + i64::from(raise))
 }
 
-/// The dy of a part of a short rest by its number, from the height in steps of the first.
+/// The dy of a part of a short rest by its number, from that of the first.
 #[tactic(auto, unfolding(crate::specs::Rests::short_dy))]
-fn short_dy(raise: i32, line: i32, k: u8) -> i32
-    ensures { result ≡ short_dy raise line k }
+fn short_dy(raise: i32, first: i32, k: u8) -> i32
+    ensures { result ≡ short_dy raise first k }
 {
-    cut(i64::from(steps_dy(line)) + i64::from(raise) - REST_STEP * i64::from(k))
+    cut(i64::from(first) + i64::from(raise) - REST_STEP * i64::from(k))
 }
 
 fn put_short_rest(out: &mut Row<Drawn>, raise: i32, row: RestRow, k: u8) -> Result<(), Memory>
-    ensures { OnOk result (out.new ≡ out.old ++ glyph row.glyph (pos 0) (short_dy raise row.line k) ∷ []) }
+    ensures { OnOk result (out.new ≡ out.old ++ glyph row.glyph (pos 0) (short_dy raise (steps_dy row.line) k) ∷ []) }
 {
-    put_glyph(out, row.glyph, 0, short_dy(raise, row.line, k))
+    put_glyph(out, row.glyph, 0, short_dy(raise, steps_dy(row.line), k))
 }
 
 /// Draws a rest shorter than a quarter, a part for each flag.
