@@ -2,10 +2,9 @@
 use Rattle.std.proofs.Common.{◌∙◌, ℕ, ◌-◌, ◌<◌, ◌≤◌, List, ◌++◌, drop, get_or, arith}
 use Rattle.std.specs.List.{All, slice_range}
 use Rattle.mus_score.specs.declared.score.Score.{Score}
-use Rattle.mus_score.specs.declared.score.Voice.{Voice}
 use Rattle.mus_score.specs.GoodScore.{IsGoodScore, IsGoodVoice}
 use Rattle.mus_time.specs.declared.keys.ColumnKey.{ColumnKey}
-use Rattle.mus_time.specs.Keys.{AreKeys, called_keys, first_keys, head_key}
+use Rattle.mus_time.specs.Keys.{AreKeys, called_keys, head_key}
 use Rattle.mus_time.specs.Onsets.{timeline_of}
 use Rattle.mus_time.proofs.Places.{places_of}
 use Rattle.mus_stems.proofs.RunLaws.{all_drop, all_take}
@@ -13,7 +12,7 @@ use Rattle.mus_drawn.specs.Drawn.{drawn_voice}
 use Rattle.mus_marks.specs.Arcs.{arcs_between}
 use Rattle.mus_marks.specs.Bridges.{beams_between, bridges_of, grace_beams_between}
 use Rattle.mus_marks.proofs.Lines.{voice_count}
-use Rattle.lay_shown.proofs.Arcs.{AreColumns, arcs_go_on, voice_arcs_go}
+use Rattle.lay_shown.proofs.Arcs.{arcs_go_on, voice_arcs_go}
 use Rattle.lay_shown.proofs.Beams.{GoOn, beams_go, voice_goes_on}
 use Rattle.lay_shown.proofs.Between.{AreBetween, both}
 use Rattle.lay_shown.proofs.GraceBeams.{grace_beams_go}

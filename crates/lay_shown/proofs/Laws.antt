@@ -9,7 +9,6 @@ use Rattle.std.proofs.lemmas.List.Folds.{flat_map-map, list_any_at}
 use Rattle.mus_score.specs.declared.score.Score.{Score}
 use Rattle.mus_score.specs.declared.score.Voice.{Voice}
 use Rattle.mus_score.specs.GoodScore.{IsGoodScore}
-use Rattle.mus_time.specs.declared.keys.ColumnKey.{ColumnKey}
 use Rattle.mus_time.specs.Keys.{head_key, voice_keys}
 use Rattle.mus_time.specs.Onsets.{timeline_of}
 use Rattle.mus_time.specs.Order.{rank_of}

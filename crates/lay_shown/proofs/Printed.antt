@@ -1,11 +1,11 @@
 -- The texts of the marks that a score calls for can be printed.
-use Rattle.std.proofs.Common.{◌≡◌, ℕ, ◌≤◌, length, List, refl, sym, subst, arith}
+use Rattle.std.proofs.Common.{ℕ, ◌≤◌, length, List, refl, sym, subst, arith}
 use Rattle.std.specs.List.{All, AllByRecursion}
 use Rattle.std.proofs.lemmas.Bool.Decides.{nat_tests}
 use Rattle.std.proofs.lemmas.List.Elements.{All-from_recursion, All-map}
 use Rattle.mus_units.specs.declared.key.Meter.{Meter}
 use Rattle.mus_units.specs.declared.key.Meter.TheVariants as meters
-use Rattle.mus_units.specs.Good.{IsGoodMeter, is_halving}
+use Rattle.mus_units.specs.Good.{IsGoodMeter}
 use Rattle.mus_score.specs.declared.score.Score.{Score}
 use Rattle.mus_score.specs.GoodScore.{IsGoodScore}
 use Rattle.mus_time.specs.declared.keys.ColumnKey.{ColumnKey}
