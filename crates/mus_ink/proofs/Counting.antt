@@ -1,9 +1,9 @@
 -- One more of what is counted.
 use Rattle.std.proofs.Common.{◌≡◌, ℕ, suc, ◌+◌, ◌-◌, ◌*◌, ◌<◌, ℤ, pos, Bool, List, ◌∷◌, ◌++◌, refl, sym, ap, ◌∙◌, append_assoc, arith}
+use Rattle.mus_units.specs.declared.glyph.Glyph.{Glyph}
 use Rattle.mus_units.specs.declared.glyph.Glyph.TheVariants as glyphs
 use Rattle.mus_ink.specs.declared.beams.Stem.{Stem}
 use Rattle.mus_ink.specs.Drawing.{glyph, loose_glyph}
-use Rattle.mus_ink.specs.declared.kinds.RestRow.{RestRow}
 use Rattle.mus_ink.specs.Distances.{dot_side, dot_step, rest_dot_line}
 use Rattle.mus_ink.specs.Kinds.{flag_glyph, stub_glyph}
 use Rattle.mus_ink.specs.Stems.{stem_dx, flag_dy, flag_marks, lower_edge, stub_marks}
@@ -21,9 +21,9 @@ pub stubs_step : (first up : Bool) (to : ℤ) (k n : ℕ) → k < n →
     stub_marks first up to k (n - k) ≡ loose_glyph (stub_glyph first) (stem_dx up) (lower_edge up to k) ∷ stub_marks first up to (k + 1) (n - (k + 1))
 stubs_step first up to k n lt = rw (one_less k n lt) refl
 
-pub rests_step : (raise : ℤ) (row : RestRow) (k n : ℕ) → k < n →
-    short_rests raise row k (n - k) ≡ glyph row.glyph (pos 0) (short_dy raise row.line k) ∷ short_rests raise row (k + 1) (n - (k + 1))
-rests_step raise row k n lt = rw (one_less k n lt) refl
+pub rests_step : (g : Glyph) (top : ℤ) (k n : ℕ) → k < n →
+    short_rests g top k (n - k) ≡ glyph g (pos 0) (short_dy top k) ∷ short_rests g top (k + 1) (n - (k + 1))
+rests_step g top k n lt = rw (one_less k n lt) refl
 
 pub dots_step : (raise : ℤ) (k n : ℕ) → k < n →
     rest_dots raise k (n - k) ≡ glyph glyphs.Dt (pos (dot_side + dot_step * k)) (raised raise (pos rest_dot_line)) ∷ rest_dots raise (k + 1) (n - (k + 1))

@@ -1,8 +1,8 @@
--- Cutting a height before it is taken 250 times changes nothing.
-use Rattle.std.proofs.Common.{◌≡◌, ℤ, pos, ◌*ℤ◌, arith}
+-- Cutting a height in steps before its dy is taken changes nothing.
+use Rattle.std.proofs.Common.{◌≡◌, ℤ, arith}
 use Rattle.std.proofs.lemmas.Int.{ints, clamps}
-use Rattle.mus_ink.specs.Drawing.{cut}
+use Rattle.mus_ink.specs.Drawing.{cut, steps_dy}
 
-pub cut_inside : (z : ℤ) → cut (pos 250 *ℤ cut z) ≡ cut (pos 250 *ℤ z)
-unfolding cut
+pub cut_inside : (z : ℤ) → steps_dy (cut z) ≡ steps_dy z
+unfolding steps_dy cut
 cut_inside z = omega (arith, ints, clamps)

@@ -1,6 +1,6 @@
 -- One walk over the marks of each part: what holds of a glyph in the main lane, of a loose glyph, of a stem, and of
 -- the marks of a good meter holds of all marks of the parts.
-use Rattle.std.proofs.Common.{◌≡◌, ℕ, zero, suc, ℤ, ◌+◌, ◌-◌, max, Bool, true, false, ◌==◌, ◌&&◌, if◌then◌else◌, List, [], ◌∷◌, ◌++◌, length, Option, Some, None, refl}
+use Rattle.std.proofs.Common.{ℕ, zero, suc, ℤ, ◌+◌, ◌-◌, max, Bool, true, false, ◌==◌, ◌&&◌, if◌then◌else◌, List, [], ◌∷◌, ◌++◌, Option, Some, None}
 use Rattle.std.specs.List.{AllByRecursion}
 use Rattle.std.specs.Prelude.{IfSome}
 use Rattle.mus_units.specs.declared.glyph.Glyph.{Glyph}
@@ -17,18 +17,17 @@ use Rattle.mus_units.specs.declared.value.Base.TheVariants as bases
 use Rattle.mus_units.specs.Good.{IsGoodMeter}
 use Rattle.mus_score.specs.declared.score.Changes.{Changes}
 use Rattle.mus_score.specs.declared.score.Event.{Event}
-use Rattle.mus_score.specs.declared.score.Flat.{Flat}
 use Rattle.mus_score.specs.declared.score.Look.{Look}
 use Rattle.mus_score.specs.declared.score.Look.TheVariants as looks
+use Rattle.mus_stems.proofs.RunLaws.{all_append}
 use Rattle.mus_stems.specs.declared.dots.Spot.{Spot}
 use Rattle.mus_stems.specs.declared.plans.StemPlan.{StemPlan}
 use Rattle.mus_ink.specs.declared.graces.Group.{Group}
 use Rattle.mus_ink.specs.Bars.{bar_marks, glyph_if}
 use Rattle.mus_ink.specs.Changes.{behind_clef, change_marks, clef_if, head_marks, key_if, new_entries}
 use Rattle.mus_ink.specs.Decos.{behind_deco, body_marks, deco_mark, deco_marks, note_marks}
-use Rattle.mus_ink.specs.declared.kinds.RestRow.{RestRow}
 use Rattle.mus_ink.specs.Distances.{entry_gap, signature_side}
-use Rattle.mus_ink.specs.Kinds.{deco_glyph, flag_glyph, head_glyph, stub_glyph}
+use Rattle.mus_ink.specs.Kinds.{deco_glyph, head_glyph}
 use Rattle.mus_ink.specs.Graces.{at_end, grace_body, grace_heads, grace_marks}
 use Rattle.mus_ink.specs.Notes.{dot_marks, heads_marks, ledger_marks, note_heads, sign_mark, sign_marks}
 use Rattle.mus_ink.specs.Rests.{rest_dots, rest_glyphs, rest_marks, short_rests}
@@ -45,9 +44,8 @@ pub record OfMarks (P : Drawn → Type 0) : Type 0 where
   pub of_meter : (dx : ℕ) (m : Meter) → IsGoodMeter m → AllByRecursion P (meter_marks dx m)
 
 module _ (P : Drawn → Type 0) (w : OfMarks P) where
-  pub two : (xs ys : List Drawn) → AllByRecursion P xs → AllByRecursion P ys → AllByRecursion P (xs ++ ys)
-  two [] ys p q = q
-  two (x ∷ xs) ys p q = (p.0, two xs ys p.1 q)
+  two : (xs ys : List Drawn) → AllByRecursion P xs → AllByRecursion P ys → AllByRecursion P (xs ++ ys)
+  two = all_append P
 
   either : (b : Bool) (xs ys : List Drawn) → AllByRecursion P xs → AllByRecursion P ys → AllByRecursion P (if b then xs else ys)
   either true xs ys p q = p
@@ -149,19 +147,19 @@ module _ (P : Drawn → Type 0) (w : OfMarks P) where
   stems p before after = two (stem_if p.has p.up p.from p.to) _ (one_stem p.has p.up p.from p.to) (ends p before after)
 
   -- ---- rests
-  shorts : (raise : ℤ) (row : RestRow) (k n : ℕ) → AllByRecursion P (short_rests raise row k n)
-  shorts raise row k zero = tt
-  shorts raise row k (suc n) = (w.of_glyph _ _ _, shorts raise row (k + 1) n)
+  shorts : (g : Glyph) (top : ℤ) (k n : ℕ) → AllByRecursion P (short_rests g top k n)
+  shorts g top k zero = tt
+  shorts g top k (suc n) = (w.of_glyph _ _ _, shorts g top (k + 1) n)
 
   rest_by : (raise : ℤ) (base : Base) (n : ℕ) → AllByRecursion P (rest_glyphs raise base n)
   rest_by raise bases.Breve n = (w.of_glyph _ _ _, tt)
   rest_by raise bases.Whole n = (w.of_glyph _ _ _, tt)
   rest_by raise bases.Half n = (w.of_glyph _ _ _, tt)
   rest_by raise bases.Quarter n = (w.of_glyph _ _ _, tt)
-  rest_by raise bases.Eighth n = shorts raise _ 0 n
-  rest_by raise bases.N16 n = shorts raise _ 0 n
-  rest_by raise bases.N32 n = shorts raise _ 0 n
-  rest_by raise bases.N64 n = shorts raise _ 0 n
+  rest_by raise bases.Eighth n = shorts _ _ 0 n
+  rest_by raise bases.N16 n = shorts _ _ 0 n
+  rest_by raise bases.N32 n = shorts _ _ 0 n
+  rest_by raise bases.N64 n = shorts _ _ 0 n
 
   rest_dotted : (raise : ℤ) (k n : ℕ) → AllByRecursion P (rest_dots raise k n)
   rest_dotted raise k zero = tt

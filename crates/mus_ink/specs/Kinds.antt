@@ -16,25 +16,25 @@ use Rattle.mus_ink.specs.declared.kinds.RestRow.{RestRow}
 
 -- a clef: its glyph, the line that it names, and the heights of sharps and of flats of a signature, those of
 -- F, C, G, D, A, E and B; all heights in steps above the bottom line
-abbrev pub entries : ℤ → ℤ → ℤ → ℤ → ℤ → ℤ → ℤ → Entries
-entries f c g d a e b = record { f = f; c = c; g = g; d = d; a = a; e = e; b = b }
+abbrev pub entries_at : ℤ → ℤ → ℤ → ℤ → ℤ → ℤ → ℤ → Entries
+entries_at f c g d a e b = record { f = f; c = c; g = g; d = d; a = a; e = e; b = b }
 
 abbrev pub clef_by : Glyph → ℤ → Entries → Entries → ClefRow
 clef_by glyph line sharps flats = record { glyph = glyph; line = line; sharps = sharps; flats = flats }
 
 abbrev pub clef_row : Clef → ClefRow
 clef_row clefs.Treble = clef_by glyphs.Cg (pos 2)
-    (entries (pos 8) (pos 5) (pos 9) (pos 6) (pos 3) (pos 7) (pos 4))
-    (entries (pos 1) (pos 5) (pos 2) (pos 6) (pos 3) (pos 7) (pos 4))
+    (entries_at (pos 8) (pos 5) (pos 9) (pos 6) (pos 3) (pos 7) (pos 4))
+    (entries_at (pos 1) (pos 5) (pos 2) (pos 6) (pos 3) (pos 7) (pos 4))
 clef_row clefs.Bass = clef_by glyphs.Cf (pos 6)
-    (entries (pos 6) (pos 3) (pos 7) (pos 4) (pos 1) (pos 5) (pos 2))
-    (entries (negsuc 0) (pos 3) (pos 0) (pos 4) (pos 1) (pos 5) (pos 2))
+    (entries_at (pos 6) (pos 3) (pos 7) (pos 4) (pos 1) (pos 5) (pos 2))
+    (entries_at (negsuc 0) (pos 3) (pos 0) (pos 4) (pos 1) (pos 5) (pos 2))
 clef_row clefs.Alto = clef_by glyphs.Cc (pos 4)
-    (entries (pos 7) (pos 4) (pos 8) (pos 5) (pos 2) (pos 6) (pos 3))
-    (entries (pos 0) (pos 4) (pos 1) (pos 5) (pos 2) (pos 6) (pos 3))
+    (entries_at (pos 7) (pos 4) (pos 8) (pos 5) (pos 2) (pos 6) (pos 3))
+    (entries_at (pos 0) (pos 4) (pos 1) (pos 5) (pos 2) (pos 6) (pos 3))
 clef_row clefs.Tenor = clef_by glyphs.Cc (pos 6)
-    (entries (pos 2) (pos 6) (pos 3) (pos 7) (pos 4) (pos 8) (pos 5))
-    (entries (pos 2) (pos 6) (pos 3) (pos 7) (pos 4) (pos 8) (pos 5))
+    (entries_at (pos 2) (pos 6) (pos 3) (pos 7) (pos 4) (pos 8) (pos 5))
+    (entries_at (pos 2) (pos 6) (pos 3) (pos 7) (pos 4) (pos 8) (pos 5))
 
 abbrev pub sign_glyph : Alter → Glyph
 sign_glyph alters.Flat2 = glyphs.Ag

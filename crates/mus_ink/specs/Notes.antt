@@ -1,5 +1,5 @@
 -- The heads of an event, and what stands beside them: signs, ledger lines and dots.
-use Rattle.std.specs.Prelude.{ℕ, ℤ, pos, List, [], ◌∷◌, ◌++◌, Option, Some}
+use Rattle.std.specs.Prelude.{ℤ, pos, List, [], ◌∷◌, ◌++◌, Option, Some}
 use Rattle.std.specs.Int.{int_max, int_min}
 use Rattle.mus_units.specs.Pitch.{height_of}
 use Rattle.mus_units.specs.declared.glyph.Glyph.{Glyph}

@@ -1,5 +1,6 @@
 -- Rests. raise is 0 where a voice has a staff of its own.
 use Rattle.std.specs.Prelude.{ℕ, zero, suc, ℤ, pos, ◌+◌, ◌*◌, ◌+ℤ◌, ◌-ℤ◌, List, [], ◌∷◌, ◌++◌}
+use Rattle.mus_units.specs.declared.glyph.Glyph.{Glyph}
 use Rattle.mus_units.specs.declared.glyph.Glyph.TheVariants as glyphs
 use Rattle.mus_units.specs.declared.value.Base.{Base}
 use Rattle.mus_units.specs.declared.value.Base.TheVariants as bases
@@ -14,23 +15,26 @@ use Rattle.mus_ink.specs.Kinds.{rest_row}
 unfoldable pub raised : ℤ → ℤ → ℤ
 raised raise dy = cut (dy +ℤ raise)
 
--- a glyph for each flag, downwards, the k-th first
-unfoldable pub short_dy : ℤ → ℤ → ℕ → ℤ
-short_dy raise line k = cut ((steps_dy line +ℤ raise) -ℤ pos (rest_step * k))
+abbrev pub rest_dy : ℤ → RestRow → ℤ
+rest_dy raise row = raised raise (steps_dy row.line)
 
-abbrev pub short_rests : ℤ → RestRow → ℕ → ℕ → List Drawn
-short_rests raise row k zero = []
-short_rests raise row k (suc n) = glyph row.glyph (pos 0) (short_dy raise row.line k) ∷ short_rests raise row (k + 1) n
+-- a glyph for each flag, from the top downwards, the k-th first
+unfoldable pub short_dy : ℤ → ℕ → ℤ
+short_dy top k = cut (top -ℤ pos (rest_step * k))
+
+abbrev pub short_rests : Glyph → ℤ → ℕ → ℕ → List Drawn
+short_rests g top k zero = []
+short_rests g top k (suc n) = glyph g (pos 0) (short_dy top k) ∷ short_rests g top (k + 1) n
 
 abbrev pub rest_glyph : ℤ → RestRow → Drawn
-rest_glyph raise row = glyph row.glyph (pos 0) (raised raise (steps_dy row.line))
+rest_glyph raise row = glyph row.glyph (pos 0) (rest_dy raise row)
 
 abbrev pub rest_glyphs : ℤ → Base → ℕ → List Drawn
 rest_glyphs raise bases.Breve flags = rest_glyph raise (rest_row bases.Breve) ∷ []
 rest_glyphs raise bases.Whole flags = rest_glyph raise (rest_row bases.Whole) ∷ []
 rest_glyphs raise bases.Half flags = rest_glyph raise (rest_row bases.Half) ∷ []
 rest_glyphs raise bases.Quarter flags = rest_glyph raise (rest_row bases.Quarter) ∷ []
-rest_glyphs raise base flags = short_rests raise (rest_row base) 0 flags
+rest_glyphs raise base flags = short_rests (rest_row base).glyph (rest_dy raise (rest_row base)) 0 flags
 
 -- dots, the k-th first
 abbrev pub rest_dots : ℤ → ℕ → ℕ → List Drawn

@@ -39,8 +39,11 @@ abbrev pub shown : Bool → Alter → Alter
 shown true a = alters.Natural
 shown false a = a
 
+unfoldable pub entry_dy : Clef → Alter → Letter → ℤ
+entry_dy c a l = steps_dy (height_at l (entries_for a (clef_row c)))
+
 unfoldable pub entry_mark : Clef → Alter → Letter → ℕ → Drawn
-entry_mark c a l dx = glyph (sign_glyph a) (pos dx) (steps_dy (height_at l (entries_for a (clef_row c))))
+entry_mark c a l dx = glyph (sign_glyph a) (pos dx) (entry_dy c a l)
 
 -- entries side by side, the k-th first
 abbrev pub entry_marks : Clef → Bool → ℕ → ℕ → List Sign → List Drawn

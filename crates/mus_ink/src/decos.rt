@@ -79,6 +79,7 @@ fn put_decos(out: &mut Row<Drawn>, first: i32, decos: &[Deco]) -> Result<(), Mem
 }
 
 /// Draws a rest, or heads with their stem.
+#[tactic(auto, unfolding(crate::specs::Notes::heads_marks))]
 fn put_body(
     out: &mut Row<Drawn>,
     clef: Clef,

@@ -1,5 +1,5 @@
 ghost use Rattle.std.specs.Prelude.{◌≡◌};
-ghost use Rattle.mus_ink.specs.Kinds.{clef_by, clef_row, deco_glyph, entries, flag_glyph, head_glyph, rest_by, rest_row, sign_glyph, stub_glyph};
+ghost use Rattle.mus_ink.specs.Kinds.{clef_by, clef_row, deco_glyph, entries_at, flag_glyph, head_glyph, rest_by, rest_row, sign_glyph, stub_glyph};
 
 use mus_units::{Alter, Base, Clef, Deco, Glyph};
 
@@ -32,8 +32,8 @@ pub struct RestRow {
     pub line: i32,
 }
 
-fn entries(f: i32, c: i32, g: i32, d: i32, a: i32, e: i32, b: i32) -> Entries
-    ensures { result ≡ entries f c g d a e b }
+fn entries_at(f: i32, c: i32, g: i32, d: i32, a: i32, e: i32, b: i32) -> Entries
+    ensures { result ≡ entries_at f c g d a e b }
 {
     Entries {
         f,
@@ -65,26 +65,26 @@ pub(crate) fn clef_row(clef: Clef) -> ClefRow
         Clef::Treble => clef_by(
             Glyph::Cg,
             2,
-            entries(8, 5, 9, 6, 3, 7, 4),
-            entries(1, 5, 2, 6, 3, 7, 4),
+            entries_at(8, 5, 9, 6, 3, 7, 4),
+            entries_at(1, 5, 2, 6, 3, 7, 4),
         ),
         Clef::Bass => clef_by(
             Glyph::Cf,
             6,
-            entries(6, 3, 7, 4, 1, 5, 2),
-            entries(-1, 3, 0, 4, 1, 5, 2),
+            entries_at(6, 3, 7, 4, 1, 5, 2),
+            entries_at(-1, 3, 0, 4, 1, 5, 2),
         ),
         Clef::Alto => clef_by(
             Glyph::Cc,
             4,
-            entries(7, 4, 8, 5, 2, 6, 3),
-            entries(0, 4, 1, 5, 2, 6, 3),
+            entries_at(7, 4, 8, 5, 2, 6, 3),
+            entries_at(0, 4, 1, 5, 2, 6, 3),
         ),
         Clef::Tenor => clef_by(
             Glyph::Cc,
             6,
-            entries(2, 6, 3, 7, 4, 8, 5),
-            entries(2, 6, 3, 7, 4, 8, 5),
+            entries_at(2, 6, 3, 7, 4, 8, 5),
+            entries_at(2, 6, 3, 7, 4, 8, 5),
         ),
     }
 }

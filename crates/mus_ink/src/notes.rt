@@ -1,5 +1,6 @@
 ghost use Rattle.std.specs.Prelude.{◌≡◌, ◌++◌, ◌∷◌, [], OnOk};
-ghost use Rattle.mus_ink.specs.Drawing.{glyph};
+ghost use Rattle.mus_units.specs.Pitch.{height_of};
+ghost use Rattle.mus_ink.specs.Drawing.{cut, glyph};
 ghost use Rattle.mus_ink.specs.Notes.{dy_of, highest_dy, lowest_dy, sign_mark, sign_marks, ledger_marks, note_heads, dot_marks, heads_marks};
 
 use crate::drawing::{cut, put_glyph, steps_dy};
@@ -8,12 +9,18 @@ use mus_laid::Drawn;
 use mus_stems::{Spot, StemPlan};
 use mus_units::{Alter, Base, Clef, Glyph, Head, Memory, Row, height};
 
+/// The height of a head in a clef, in steps.
+fn steps(clef: Clef, head: Head) -> i32
+    ensures { result ≡ cut (height_of head.pitch clef) }
+{
+    cut(height(head.pitch, clef))
+}
+
 /// The dy of a head, cut at 2^30 in size.
-#[tactic(auto, using(crate::proofs::Cuts::cut_inside), unfolding(crate::specs::Notes::dy_of))]
 pub fn head_dy(clef: Clef, head: Head) -> i32
     ensures { result ≡ dy_of clef head }
 {
-    steps_dy(cut(height(head.pitch, clef)))
+    steps_dy(steps(clef, head))
 }
 
 /// The greatest of a dy and those of heads.

@@ -2,7 +2,7 @@ ghost use Rattle.std.specs.Prelude.{◌≡◌, ◌+◌, ◌*◌, ◌++◌, ◌�
 ghost use Rattle.mus_units.specs.declared.glyph.Glyph.TheVariants.{Dt};
 ghost use Rattle.mus_ink.specs.Distances.{dot_side, dot_step, rest_dot_line};
 ghost use Rattle.mus_ink.specs.Drawing.{glyph};
-ghost use Rattle.mus_ink.specs.Rests.{raised, short_dy, short_rests, rest_glyph, rest_glyphs, rest_dots, rest_marks};
+ghost use Rattle.mus_ink.specs.Rests.{raised, rest_dy, short_dy, short_rests, rest_glyph, rest_glyphs, rest_dots, rest_marks};
 
 use crate::distances::{DOT_SIDE, DOT_STEP, REST_DOT_LINE, REST_STEP};
 use crate::drawing::{cut, put_glyph, steps_dy};
@@ -19,26 +19,32 @@ fn raised(raise: i32, dy: i32) -> i32
     cut(i64::from(dy) + i64::from(raise))
 }
 
-/// The dy of a part of a short rest by its number, from the height in steps of the first.
-#[tactic(auto, unfolding(crate::specs::Rests::short_dy))]
-fn short_dy(raise: i32, line: i32, k: u8) -> i32
-    ensures { result ≡ short_dy raise line k }
+fn rest_dy(raise: i32, row: RestRow) -> i32
+    ensures { result ≡ rest_dy raise row }
 {
-    cut(i64::from(steps_dy(line)) + i64::from(raise) - REST_STEP * i64::from(k))
+    raised(raise, steps_dy(row.line))
 }
 
-fn put_short_rest(out: &mut Row<Drawn>, raise: i32, row: RestRow, k: u8) -> Result<(), Memory>
-    ensures { OnOk result (out.new ≡ out.old ++ glyph row.glyph (pos 0) (short_dy raise row.line k) ∷ []) }
+/// The dy of a part of a short rest by its number.
+#[tactic(auto, unfolding(crate::specs::Rests::short_dy))]
+fn short_dy(top: i32, k: u8) -> i32
+    ensures { result ≡ short_dy top k }
 {
-    put_glyph(out, row.glyph, 0, short_dy(raise, row.line, k))
+    cut(i64::from(top) - REST_STEP * i64::from(k))
+}
+
+fn put_short_rest(out: &mut Row<Drawn>, sort: Glyph, top: i32, k: u8) -> Result<(), Memory>
+    ensures { OnOk result (out.new ≡ out.old ++ glyph sort (pos 0) (short_dy top k) ∷ []) }
+{
+    put_glyph(out, sort, 0, short_dy(top, k))
 }
 
 /// Draws a rest shorter than a quarter, a part for each flag.
-fn put_short_rests(out: &mut Row<Drawn>, raise: i32, row: RestRow, flags: u8) -> Result<(), Memory>
-    ensures { OnOk result (out.new ≡ out.old ++ short_rests raise row 0 flags) }
+fn put_short_rests(out: &mut Row<Drawn>, sort: Glyph, top: i32, flags: u8) -> Result<(), Memory>
+    ensures { OnOk result (out.new ≡ out.old ++ short_rests sort top 0 flags) }
 {
     for k in 0..flags {
-        put_short_rest(out, raise, row, k)?;
+        put_short_rest(out, sort, top, k)?;
     }
     Ok(())
 }
@@ -46,7 +52,7 @@ fn put_short_rests(out: &mut Row<Drawn>, raise: i32, row: RestRow, flags: u8) ->
 fn put_long_rest(out: &mut Row<Drawn>, raise: i32, row: RestRow) -> Result<(), Memory>
     ensures { OnOk result (out.new ≡ out.old ++ rest_glyph raise row ∷ []) }
 {
-    put_glyph(out, row.glyph, 0, raised(raise, steps_dy(row.line)))
+    put_glyph(out, row.glyph, 0, rest_dy(raise, row))
 }
 
 fn put_rest_glyphs(out: &mut Row<Drawn>, raise: i32, base: Base, flags: u8) -> Result<(), Memory>
@@ -55,7 +61,7 @@ fn put_rest_glyphs(out: &mut Row<Drawn>, raise: i32, base: Base, flags: u8) -> R
     let row = rest_row(base);
     match base {
         Base::Breve | Base::Whole | Base::Half | Base::Quarter => put_long_rest(out, raise, row),
-        _ => put_short_rests(out, raise, row, flags),
+        _ => put_short_rests(out, row.glyph, rest_dy(raise, row), flags),
     }
 }
 

@@ -1,5 +1,5 @@
 ghost use Rattle.std.specs.Prelude.{◌≡◌, ◌≤◌, ◌++◌, ◌∷◌, [], length, decimal, IfOk, OnOk};
-ghost use Rattle.mus_ink.specs.Signatures.{clef_mark, height_at, entries_for, shown, entry_mark, entry_marks, meter_marks, meter_if};
+ghost use Rattle.mus_ink.specs.Signatures.{clef_mark, height_at, entries_for, entry_dy, shown, entry_mark, entry_marks, meter_marks, meter_if};
 
 use crate::distances::{ENTRY_STEP, LOWER_NUMBER_LINE, METER_SIGN_LINE, UPPER_NUMBER_LINE};
 use crate::drawing::{put_big_text, put_glyph, steps_dy};
@@ -41,6 +41,14 @@ fn entries_for(alter: Alter, row: ClefRow) -> Entries
     }
 }
 
+/// The dy of an entry of a signature.
+#[tactic(auto, unfolding(crate::specs::Signatures::entry_dy))]
+fn entry_dy(clef: Clef, alter: Alter, letter: Letter) -> i32
+    ensures { result ≡ entry_dy clef alter letter }
+{
+    steps_dy(height_at(letter, entries_for(alter, clef_row(clef))))
+}
+
 /// What an entry shows: a natural where its key ends.
 fn shown(ends: bool, alter: Alter) -> Alter
     ensures { result ≡ shown ends alter }
@@ -61,8 +69,8 @@ fn put_entry(
     ensures { OnOk result (out.new ≡ out.old ++ entry_mark clef (shown ends sign.alter) sign.letter dx ∷ []) }
 {
     let alter = shown(ends, sign.alter);
-    let height = height_at(sign.letter, entries_for(alter, clef_row(clef)));
-    put_glyph(out, sign_glyph(alter), dx as i32, steps_dy(height))
+    let dy = entry_dy(clef, alter, sign.letter);
+    put_glyph(out, sign_glyph(alter), dx as i32, dy)
 }
 
 /// Draws the entries of a signature, the first at dx `first`; where the key ends, a natural for each.

@@ -4,4 +4,4 @@ use Rattle.mus_ink.proofs.rests.put_short_rests.Goals as goal
 
 pub loop-k-preserved : goal.loop-k-preserved
 loop-k-preserved c =
-    appended c.loop-k.out c.put_short_rest.new.out _ _ _ _ c.in_ok-put_short_rest.ensures (rests_step (to_z w32 (of_z w32 c.args.raise)) c.args.row c.loop-k.k c.args.flags c.loop-k-test.true) c.loop-k.invariant
+    appended c.loop-k.out c.put_short_rest.new.out _ _ _ _ c.in_ok-put_short_rest.ensures (rests_step c.args.sort (to_z w32 (of_z w32 c.args.top)) c.loop-k.k c.args.flags c.loop-k-test.true) c.loop-k.invariant
