@@ -22,7 +22,6 @@ use Rattle.mus_time.specs.Keys.{change_has_mark, key_has_mark, meter_has_mark}
 use Rattle.mus_time.proofs.RankLaws.{false_not_true}
 use Rattle.mus_laid.specs.declared.drawn.Drawn.{Drawn}
 use Rattle.mus_ink.specs.declared.graces.Group.{Group}
-use Rattle.mus_ink.specs.declared.kinds.RestRow.{RestRow}
 use Rattle.mus_ink.specs.Bars.{bar_marks}
 use Rattle.mus_ink.specs.Changes.{behind_clef, change_marks, clef_if, count_if, head_marks, key_if, new_entries}
 use Rattle.mus_ink.specs.Decos.{body_marks, note_marks}
@@ -96,19 +95,19 @@ change_has c old ch =
     ∙ rw (clef_has ch.clef, key_has c (x + entry_gap) old ch.key, meter_has (x + entry_step * count_if old ch.key) ch.meter) refl
 
 -- ---- events
-shorts_some : (raise : ℤ) (row : RestRow) (n : ℕ) → 1 ≤ n → HasSome (short_rests raise row 0 n)
-shorts_some raise row zero h = absurd (omega (arith, h))
-shorts_some raise row (suc n) h = refl
+shorts_some : (g : Glyph) (top : ℤ) (n : ℕ) → 1 ≤ n → HasSome (short_rests g top 0 n)
+shorts_some g top zero h = absurd (omega (arith, h))
+shorts_some g top (suc n) h = refl
 
 rest_some : (raise : ℤ) (base : Base) (n : ℕ) → n ≡ flags_of base → HasSome (rest_glyphs raise base n)
 rest_some raise bases.Breve n e = refl
 rest_some raise bases.Whole n e = refl
 rest_some raise bases.Half n e = refl
 rest_some raise bases.Quarter n e = refl
-rest_some raise bases.Eighth n e = shorts_some raise _ n (omega (arith, e))
-rest_some raise bases.N16 n e = shorts_some raise _ n (omega (arith, e))
-rest_some raise bases.N32 n e = shorts_some raise _ n (omega (arith, e))
-rest_some raise bases.N64 n e = shorts_some raise _ n (omega (arith, e))
+rest_some raise bases.Eighth n e = shorts_some _ _ n (omega (arith, e))
+rest_some raise bases.N16 n e = shorts_some _ _ n (omega (arith, e))
+rest_some raise bases.N32 n e = shorts_some _ _ n (omega (arith, e))
+rest_some raise bases.N64 n e = shorts_some _ _ n (omega (arith, e))
 
 look_some : (raise : ℤ) (look : Look) (base : Base) (dots n : ℕ) → n ≡ flags_of base → HasSome (rest_marks raise look base dots n)
 look_some raise looks.Unseen base dots n e = refl
