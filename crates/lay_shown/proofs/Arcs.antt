@@ -6,7 +6,7 @@ use Rattle.std.proofs.lemmas.Bool.{cases_lt}
 use Rattle.std.proofs.lemmas.Bool.Decides.{nat_tests}
 use Rattle.std.proofs.lemmas.List.Elements.{All-contains, All-from_recursion, recursion_from_All}
 use Rattle.std.proofs.lemmas.List.Sorted.{All-permutation, IsPermutation-reverse}
-use Rattle.std.proofs.lemmas.Option.{none-some, same_Some}
+use Rattle.std.proofs.lemmas.Option.{get_or_from_slice_get, none-some, same_Some, slice_get_within}
 use Rattle.mus_units.specs.declared.note.Head.{Head}
 use Rattle.mus_score.specs.declared.score.Flat.{Flat}
 use Rattle.mus_score.specs.declared.score.Measure.{Measure}
@@ -179,9 +179,7 @@ some_measure (d ∷ ds) zero h = (d, refl)
 some_measure (d ∷ ds) (suc m) h = some_measure ds m (omega (arith, h))
 
 measure_of : (P : DrawnMeasure → Type 0) (ds : List DrawnMeasure) (m : ℕ) (d : DrawnMeasure) → AllByRecursion P ds → slice_get ds m ≡ Some d → P d
-measure_of P [] m d all h = absurd (none-some d h)
-measure_of P (x ∷ xs) zero d all h = subst P (same_Some x d h) all.0
-measure_of P (x ∷ xs) (suc m) d all h = measure_of P xs m d all.1 h
+measure_of P ds m d all h = subst P (get_or_from_slice_get ds m d d h) (All-from_recursion P ds all m d (slice_get_within ds m d h))
 
 event_of : (P : DrawnEvent → Type 0) (es : List DrawnEvent) (e : DrawnEvent) → AllByRecursion P es → Contains es e → P e
 event_of P es e all within = All-contains P es e (All-from_recursion P es all) within

@@ -28,7 +28,7 @@ use Rattle.mus_drawn.specs.declared.drawn.DrawnVoice.{DrawnVoice}
 use Rattle.mus_drawn.specs.Drawn.{drawn_voice}
 use Rattle.mus_marks.specs.declared.events.Room.{Room}
 use Rattle.mus_marks.specs.Bridges.{bridges_of}
-use Rattle.mus_marks.specs.Events.{bar_part, change_part, event_marks, events_marks, graces_from, graces_part, levels_behind, levels_in, measures_marks, note_key, note_part, words_marks, words_part}
+use Rattle.mus_marks.specs.Events.{change_part, event_marks, events_marks, graces_from, levels_behind, levels_in, measures_marks, note_key, words_marks, words_part}
 use Rattle.mus_marks.specs.Staff.{columns_part, first_part, head_part, meter_shown, staff_marks, staff_over, voice_marks}
 use Rattle.mus_marks.specs.System.{staff_of}
 use Rattle.mus_marks.proofs.Lines.{voice_count}
@@ -77,8 +77,8 @@ module _ (keys : List ColumnKey) where
     pub ranked : AreAmong ks keys → Ranked (length keys) xs
     pub anchored : (k : ColumnKey) → Contains ks k → HasRank (rank_of keys k) xs
 
-  two : (ks ls : List ColumnKey) (xs ys : List Laid) → Fill ks xs → Fill ls ys → Fill (ks ++ ls) (xs ++ ys)
-  two ks ls xs ys p q = record {
+  two : {ks ls : List ColumnKey} {xs ys : List Laid} → Fill ks xs → Fill ls ys → Fill (ks ++ ls) (xs ++ ys)
+  two {ks} {ls} {xs} {ys} p q = record {
     ranked = λ among. all_append (λ l. IsRanked (length keys) l.mark) xs ys (p.ranked (among_left ks ls keys among)) (q.ranked (among_right ks ls keys among));
     anchored = λ k has. elim (Contains-append_cases ks ls k has) [
       | inl h ↦ rank_left (rank_of keys k) xs ys (p.anchored k h)
@@ -105,8 +105,8 @@ module _ (keys : List ColumnKey) where
   one key ds some = subst (λ b. Fill (if b then key ∷ [] else []) (map (drawn_at (rank_of keys key)) ds)) some (any key ds)
 
   -- what else stands among the columns of the system
-  beside : (ks : List ColumnKey) (xs ys : List Laid) → (AreAmong ks keys → Ranked (length keys) ys) → Fill ks xs → Fill ks (xs ++ ys)
-  beside ks xs ys h p = record {
+  beside : {ks : List ColumnKey} {xs : List Laid} (ys : List Laid) → (AreAmong ks keys → Ranked (length keys) ys) → Fill ks xs → Fill ks (xs ++ ys)
+  beside {ks} {xs} ys h p = record {
     ranked = λ among. all_append (λ l. IsRanked (length keys) l.mark) xs ys (p.ranked among) (h among);
     anchored = λ k has. rank_left (rank_of keys k) xs ys (p.anchored k has);
   }
@@ -121,43 +121,30 @@ module _ (keys : List ColumnKey) where
   graces : (m tick : ℕ) (clef : Clef) (group : Group) (i : ℕ) (gs : List Event) → Fill (grace_keys m tick i gs) (graces_from keys m tick clef group i gs)
   graces m tick clef group i [] = none
   graces m tick clef group i (g ∷ gs) =
-      let key = key_at m tick classes.Grace i in
-      two (key ∷ []) (grace_keys m tick (i + 1) gs) (map (drawn_at (rank_of keys key)) (grace_marks clef group (i == 0) g)) (graces_from keys m tick clef group (i + 1) gs)
-      (one key (grace_marks clef group (i == 0) g) (grace_some clef group (i == 0) g)) (graces m tick clef group (i + 1) gs)
+      two (one (key_at m tick classes.Grace i) (grace_marks clef group (i == 0) g) (grace_some clef group (i == 0) g)) (graces m tick clef group (i + 1) gs)
 
   event : (room : Option Room) (m : ℕ) (in_head : Bool) (before after : ℕ) (e : DrawnEvent) → IsPlanOf e.flat.event e.plan → Fill (event_keys m e.tick in_head (has_old e) e.flat) (event_marks keys room m in_head before after e)
   unfolding event_marks
   event room m in_head before after e plan =
       let key = note_key m e in
-      let change_own = change_keys m e.tick in_head (has_old e) e.flat.event.changes in
-      let graces_own = grace_keys m e.tick 0 e.flat.graces in
-      let front = change_part keys m in_head e ++ graces_part keys m e in
-      beside (change_own ++ graces_own ++ key ∷ []) (front ++ note_part keys m before after e) (words_part (rank_of keys key) room e.flat)
-      (λ among. drawn_ranked (length keys) (rank_of keys key) (words_marks room e.flat) (rank_less keys key (among_right (change_own ++ graces_own) (key ∷ []) keys among key (here key []))))
-      (two (change_own ++ graces_own) (key ∷ []) front (note_part keys m before after e)
-      (two change_own graces_own (change_part keys m in_head e) (graces_part keys m e) (change m in_head e) (graces m e.tick e.clef (group_of e.clef e.flat.graces e.flat.slash) 0 e.flat.graces))
+      let front = change_keys m e.tick in_head (has_old e) e.flat.event.changes ++ grace_keys m e.tick 0 e.flat.graces in
+      beside (words_part (rank_of keys key) room e.flat)
+      (λ among. drawn_ranked (length keys) (rank_of keys key) (words_marks room e.flat) (rank_less keys key (among_right front (key ∷ []) keys among key (here key []))))
+      (two (two (change m in_head e) (graces m e.tick e.clef (group_of e.clef e.flat.graces e.flat.slash) 0 e.flat.graces))
       (one key (note_marks e.clef (pos 0) e.flat.event e.plan before after) (note_some e.clef (pos 0) e.flat.event e.plan before after plan)))
 
   events : (room : Option Room) (m : ℕ) (in_head : Bool) (group flags : ℕ) (es : List DrawnEvent) → ArePlanned es → Fill (events_columns m in_head es) (events_marks keys room m in_head group flags es)
   events room m in_head group flags [] plans = none
   events room m in_head group flags (e ∷ es) plans =
-      two (event_keys m e.tick in_head (has_old e) e.flat) (events_columns m false es)
-      (event_marks keys room m in_head (levels_in e.plan group flags) (levels_behind e.plan es) e) (events_marks keys room m false e.plan.group e.plan.flags es)
-      (event room m in_head (levels_in e.plan group flags) (levels_behind e.plan es) e plans.0) (events room m false e.plan.group e.plan.flags es plans.1)
+      two (event room m in_head (levels_in e.plan group flags) (levels_behind e.plan es) e plans.0) (events room m false e.plan.group e.plan.flags es plans.1)
 
   -- ---- measures
   measures : (lengths : List ℕ) (room : Option Room) (m : ℕ) (in_head : Bool) (ds : List DrawnMeasure) → AllByRecursion (λ d. ArePlanned d.events) ds → Fill (measures_columns lengths m in_head ds) (measures_marks keys lengths room m in_head ds)
   measures lengths room m in_head [] plans = none
   measures lengths room m in_head (d ∷ ds) plans =
       let bar = bar_key lengths m in
-      let own = events_columns m in_head d.events in
-      let more = measures_columns lengths (m + 1) false ds in
-      let all = events_marks keys room m in_head 0 0 d.events ++ bar_part keys lengths m d in
-      let behind = measures_marks keys lengths room (m + 1) false ds in
-      subst (λ ks. Fill ks (all ++ behind)) (append_assoc own (bar ∷ []) more)
-      (two (own ++ bar ∷ []) more all behind
-      (two own (bar ∷ []) (events_marks keys room m in_head 0 0 d.events) (bar_part keys lengths m d) (events room m in_head 0 0 d.events plans.0) (one bar (bar_marks d.bar) (bar_some d.bar)))
-      (measures lengths room (m + 1) false ds plans.1))
+      subst (λ ks. Fill ks (measures_marks keys lengths room m in_head (d ∷ ds))) (append_assoc (events_columns m in_head d.events) (bar ∷ []) (measures_columns lengths (m + 1) false ds))
+      (two (two (events room m in_head 0 0 d.events plans.0) (one bar (bar_marks d.bar) (bar_some d.bar))) (measures lengths room (m + 1) false ds plans.1))
 
   head : (a : ℕ) (ds : List DrawnMeasure) → 1 ≤ length ds → Fill (head_key a ∷ []) (head_part keys a ds)
   head a [] some = absurd (omega (arith, some))
@@ -183,17 +170,14 @@ module _ (keys : List ColumnKey) where
       let behind = length-drop a v.measures in
       let some : 1 ≤ length ds = omega (arith, taken, behind, order, within) in
       let sliced = all_take (λ d. ArePlanned d.events) (b - a) (drop a v.measures) (all_drop (λ d. ArePlanned d.events) a v.measures plans) in
-      two (head_key a ∷ first_keys a v.first) (measures_columns lengths a true ds) (head_part keys a ds ++ first_part keys a v.first) (measures_marks keys lengths room a true ds)
-      (two (head_key a ∷ []) (first_keys a v.first) (head_part keys a ds) (first_part keys a v.first) (head a ds some) (first a v.first))
-      (measures lengths room a true ds sliced)
+      two (two (head a ds some) (first a v.first)) (measures lengths room a true ds sliced)
 
   -- beams and arcs stand beside the marks of columns
   marks : (lengths : List ℕ) (room : Option Room) (a b : ℕ) (v : DrawnVoice) → a < b → b ≤ length v.measures → AllByRecursion (λ d. ArePlanned d.events) v.measures
       → Ranked (length keys) (map (bridge_at keys) (bridges_of lengths a b v)) → Fill (voice_columns lengths a b v) (voice_marks keys lengths room a b v)
   unfolding voice_marks
   marks lengths room a b v order within plans bridges =
-      beside (voice_columns lengths a b v) (columns_part keys lengths room a v.first (slice_range v.measures a b)) (map (bridge_at keys) (bridges_of lengths a b v))
-      (λ among. bridges) (columns lengths room a b v order within plans)
+      beside (map (bridge_at keys) (bridges_of lengths a b v)) (λ among. bridges) (columns lengths room a b v order within plans)
 
   -- the columns of a staff are those that its voice calls for
   pub staff_fills : (lengths : List ℕ) (a b : ℕ) (v : Voice) → a < b → b ≤ length v.measures → Ranked (length keys) (map (bridge_at keys) (bridges_of lengths a b (drawn_voice v)))
