@@ -1,5 +1,5 @@
 -- Heads that are heard one after the other sound as they do when each looks back.
-use Rattle.std.proofs.Common.{◌≡◌, ℕ, ◌+◌, Bool, true, false, cond, ◌&&◌, List, [], ◌∷◌, ◌++◌, refl, sym, ◌∙◌, ap, append_assoc, append-nil, Option, Some, None, option_map, flat_map}
+use Rattle.std.proofs.Common.{◌≡◌, ℕ, ◌+◌, Bool, true, false, cond, ◌&&◌, ◌||◌, List, [], ◌∷◌, ◌++◌, refl, sym, ◌∙◌, ap, append_assoc, append-nil, Option, Some, None, option_map, flat_map}
 use Rattle.std.specs.List.{find, list_any}
 use Rattle.mus_units.specs.declared.key.Sign.{Sign}
 use Rattle.mus_units.specs.declared.key.Spread.{Spread}
@@ -54,12 +54,7 @@ tied_is sound p earlier (g ∷ gs) = step (g.tied && has_pitch p g) (tied_is sou
 
 any_is : (sound : Sounding) (p : Pitch) (earlier gs : List Head) → list_any (is_heard_at p) (heard_along sound earlier gs) ≡ list_any (has_pitch p) gs
 any_is sound p earlier [] = refl
-any_is sound p earlier (g ∷ gs) = step (has_pitch p g) (any_is sound p (earlier ++ g ∷ []) gs)
-  where
-    step : (b : Bool) → list_any (is_heard_at p) (heard_along sound (earlier ++ g ∷ []) gs) ≡ list_any (has_pitch p) gs →
-        cond b true (list_any (is_heard_at p) (heard_along sound (earlier ++ g ∷ []) gs)) ≡ cond b true (list_any (has_pitch p) gs)
-    step true e = refl
-    step false e = e
+any_is sound p earlier (g ∷ gs) = ap (λ t. has_pitch p g || t) (any_is sound p (earlier ++ g ∷ []) gs)
 
 alter_cond : (b : Bool) (x : Option Heard) → option_map alter_of (cond b None x) ≡ cond b None (option_map alter_of x)
 alter_cond true x = refl
