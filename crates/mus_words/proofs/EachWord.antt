@@ -1,6 +1,6 @@
 -- One walk over the syllables and texts of an event: what holds of a syllable of each verse, and of a text above and
 -- one below, as they are printed, holds of all of them. What prints nothing is not drawn.
-use Rattle.std.proofs.Common.{◌≡◌, ℕ, zero, suc, ℤ, ◌+◌, ◌≤◌, ◌<◌, Bool, true, false, ◌==◌, if◌then◌else◌, List, [], ◌∷◌, ◌++◌, length, Option, Some, None, refl, subst, arith}
+use Rattle.std.proofs.Common.{◌≡◌, ℕ, suc, ℤ, ◌+◌, ◌≤◌, ◌<◌, Bool, true, false, ◌==◌, if◌then◌else◌, List, [], ◌∷◌, ◌++◌, length, Option, Some, None, refl, subst, arith}
 use Rattle.std.specs.List.{AllByRecursion, flat_map}
 use Rattle.std.specs.Prelude.{decimal}
 use Rattle.std.proofs.lemmas.Bool.Decides.{nat_tests}
@@ -16,7 +16,7 @@ use Rattle.mus_laid.specs.Printed.{printed}
 use Rattle.mus_ink.specs.Distances.{half_character}
 use Rattle.mus_ink.specs.Drawing.{back}
 use Rattle.mus_words.specs.declared.texts.TextPlace.{TextPlace}
-use Rattle.mus_words.specs.Syllables.{syllable, syllable_dx, syllable_if, syllables_from, verse_dy}
+use Rattle.mus_words.specs.Syllables.{syllable_dx, syllable_if, syllables_from, verse_dy}
 use Rattle.mus_words.specs.Texts.{above_from, below_from, shown_deco, shown_ending, shown_mention, shown_number, text_marks, texts_above, texts_below}
 use Rattle.mus_words.specs.Words.{shown, words}
 

@@ -1,4 +1,5 @@
-ghost use Rattle.std.specs.Prelude.{◌≡◌, ◌≤◌, ◌+◌, ◌++◌, min, flat_map, IfOk, OnOk};
+ghost use Rattle.std.specs.Prelude.{◌≡◌, ◌≤◌, ◌+◌, ◌*◌, ◌++◌, min, flat_map, IfOk, OnOk};
+ghost use Rattle.mus_ink.specs.Distances.{text_step, verse_step};
 ghost use Rattle.mus_words.specs.Texts.{shown_ending, shown_number, shown_deco, shown_mention, texts_above, texts_below, above_dy, below_dy, above_from, below_from, text_marks};
 
 use crate::words::{add_shown, put_words};
@@ -150,13 +151,22 @@ fn above_dy(high: i32, before: usize, k: usize) -> i32
     above_others(high, nearer(before, k))
 }
 
+/// How far under the lowest mark a text below stands, where others stand nearer.
+fn under_verses(verses: u8, others: u64) -> u64
+    requires { others ≤ 8589934592 }
+    ensures value { result ≡ verse_step * verses + text_step * (1 + others) }
+    ensures most { result ≤ 9000000000000 }
+{
+    VERSE_STEP as u64 * u64::from(verses) + TEXT_STEP as u64 * (1 + others)
+}
+
 /// The dy of a text below that others stand nearer than.
 #[tactic(auto, unfolding(crate::specs::Texts::below_dy))]
 fn below_others(low: i32, verses: u8, others: u64) -> i32
     requires { others ≤ 8589934592 }
     ensures { result ≡ below_dy low verses others }
 {
-    cut(i64::from(low) - VERSE_STEP * i64::from(verses) - TEXT_STEP * (1 + others as i64))
+    cut(i64::from(low) - under_verses(verses, others) as i64)
 }
 
 /// The dy of the k-th text below of an event.
