@@ -18,9 +18,9 @@ mod voices;
 
 use crate::calls::put_case;
 use eng_io::{StdSink, write_all};
-use lay_columns::{columns_join, marks_join, next_of_measure};
+use lay_columns::{columns_join, marks_join};
 use lay_measures::measures_join;
-use mus_stems::{beams_by_groups, slopes_by_beams};
+use mus_stems::{beams_by_groups, no_other_plans, slopes_by_beams};
 use mus_units::{Memory, Text};
 use std::alloc::Global;
 use std::{fs, io};
@@ -38,9 +38,9 @@ fn all_answers(alloc: Global, cases: &str) -> Result<Text, Memory> {
 fn state_laws() {
     beams_by_groups();
     slopes_by_beams();
+    no_other_plans();
     columns_join();
     marks_join();
-    next_of_measure();
     measures_join();
 }
 

@@ -4,7 +4,7 @@ ghost use Rattle.mus_time.specs.Keys.{IsInSystem};
 ghost use Rattle.mus_time.specs.Onsets.{timeline_of};
 ghost use Rattle.mus_drawn.specs.Drawn.{drawn_voice};
 ghost use Rattle.mus_drawn.specs.Good.{AreGoodMeasures};
-ghost use Rattle.mus_marks.specs.Ranks.{AreRanked};
+ghost use Rattle.mus_time.specs.Ranks.{AreRanked};
 ghost use Rattle.lay_columns.specs.Columns.{IsSmall, IsUncut, StandsWhereDue};
 ghost use Rattle.lay_columns.specs.Lanes.{gaps_of};
 ghost use Rattle.lay_measures.specs.Measures.{AreFirst, AreFurther, EndWithBar, first_staff, fixed_room, further_staff, staff_of_columns};

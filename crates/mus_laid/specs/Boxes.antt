@@ -1,7 +1,8 @@
 -- The boxes that marks fill: from the least to the greatest height, and from the left to the right
 -- of the column. Stems, beams and arcs have heights alone.
-use Rattle.std.specs.Prelude.{ℕ, ℤ, pos, negsuc, ◌*◌, ◌≤◌, ◌+ℤ◌, ⊤, List, [], ◌∷◌, map, fold, length, Option, Some, None, All}
+use Rattle.std.specs.Prelude.{ℕ, ℤ, pos, negsuc, ◌*◌, ◌≤◌, ◌+ℤ◌, ⊤, List, [], ◌∷◌, map, fold, length, Option, Some, None}
 use Rattle.std.specs.Int.{int_min, int_max}
+use Rattle.std.specs.List.{AllByRecursion}
 use Rattle.mus_units.specs.declared.glyph.Glyph.{Glyph}
 use Rattle.mus_units.specs.declared.glyph.Size.{Size}
 use Rattle.mus_units.specs.declared.glyph.Size.TheVariants as sizes
@@ -18,8 +19,7 @@ IsGoodMark (marks.Words size rank dx dy text) = length text ≤ 60
 IsGoodMark _ = ⊤
 
 abbrev pub AreGoodMarks : List Laid → Type 0
-AreGoodMarks [] = ⊤
-AreGoodMarks (laid ∷ more) = IsGoodMark laid.mark × AreGoodMarks more
+AreGoodMarks = AllByRecursion (λ laid. IsGoodMark laid.mark)
 
 -- the width of a character, and how far a line of text goes below and above its base
 abbrev pub character_width : Size → ℕ

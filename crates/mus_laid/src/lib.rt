@@ -1,12 +1,17 @@
-//! The marks of a system as they are laid: each with its column by rank, its
-//! heights and its lane; the boxes that marks fill; and the text that is printed.
+//! What is drawn in a column or from one to another, wherever these columns stand; the marks of a
+//! system as they are laid: each with its column by rank, its heights and its lane; the boxes that
+//! marks fill; and the text that is printed.
 #![tactic(auto)]
 
 pub mod boxes;
+pub mod drawn;
 pub mod laid;
 pub mod printing;
+pub mod ranking;
 
 pub use boxes::{Heights, Sides, heights_of, sides_of, staff_heights};
+pub use drawn::{Bridge, Drawn, Ink, Span};
 pub use laid::{Laid, Lane, Mark, StaffMarks, SystemMarks};
 pub use mus_units::{Glyph, Size, Way};
 pub use printing::{printed, printed_within};
+pub use ranking::{put_bridges, put_ranked};

@@ -4,7 +4,6 @@ use Rattle.std.specs.List.{AllByRecursion, Contains, flat_map, slice_index, slic
 use Rattle.std.proofs.lemmas.List.{length-take}
 use Rattle.std.proofs.lemmas.List.Sums.{sum_by-cons}
 use Rattle.std.proofs.lemmas.List.Elements.{recursion_from_All}
-use Rattle.std.proofs.lemmas.Bool.Decides.{nat_tests}
 use Rattle.mus_score.specs.declared.score.Event.{Event}
 use Rattle.mus_score.specs.declared.score.Flat.{Flat}
 use Rattle.mus_score.specs.declared.score.Measure.{Measure}
@@ -18,6 +17,8 @@ use Rattle.mus_time.specs.declared.keys.ColumnKey.{ColumnKey}
 use Rattle.mus_time.specs.declared.keys.Class.TheVariants as classes
 use Rattle.mus_time.specs.Keys.{AreKeys, called_keys, change_has_mark, change_keys, event_keys, events_keys, first_keys, grace_keys, has_features, key_at, measures_keys, signed_after, signed_at, signed_through, voice_keys, measure_keys, further_keys}
 use Rattle.mus_time.specs.Order.{BelowAll, Rises, is_below}
+use Rattle.mus_time.proofs.Orders.{not_itself}
+use Rattle.mus_time.proofs.RankLaws.{false_not_true}
 
 -- a list without the element at a place
 abbrev without : List ColumnKey → ℕ → List ColumnKey
@@ -40,8 +41,7 @@ still_in (c ∷ cs) (suc i) (suc j) k l a b p q differ =
     let more = still_in cs i j k l (omega (arith, a)) (omega (arith, b)) p q differ in (suc more.0, omega (arith, more.1), more.2)
 
 not_below_itself : (k : ColumnKey) → is_below k k ≡ true → ⊥
-unfolding is_below
-not_below_itself k h = grind (arith, nat_tests)
+not_below_itself k h = false_not_true (sym (not_itself k) ∙ h)
 
 differs : (k l : ColumnKey) (ls : List ColumnKey) → BelowAll k ls → Contains ls l → k ≡ l → ⊥
 differs k l [] below (i, inside, is) same = absurd (omega (arith, inside))

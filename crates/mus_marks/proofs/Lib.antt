@@ -1,7 +1,7 @@
 pub mod Few
+pub mod Fitting
 pub mod Goods
 pub mod Lines
-pub mod RankLaws
-pub mod TextParts
+pub mod Parts
 pub mod Texts
 pub mod Unchanged

@@ -13,7 +13,7 @@ use Rattle.mus_drawn.specs.Drawn.{drawn_measures, drawn_voice, standing_behind, 
 use Rattle.mus_laid.specs.declared.boxes.Heights.{Heights}
 use Rattle.mus_laid.specs.declared.laid.Laid.{Laid}
 use Rattle.mus_laid.specs.Boxes.{heights, heights_of, over_marks, staff_heights, widened}
-use Rattle.mus_parts.specs.Laying.{cut}
+use Rattle.mus_ink.specs.Drawing.{cut}
 use Rattle.mus_marks.specs.Staff.{CoversLines, staff_over}
 
 low_over : (z : ℤ) (h : Heights) (all : List Laid) → h.low ≤ℤ z → (over_marks h all).low ≤ℤ z

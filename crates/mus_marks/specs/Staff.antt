@@ -1,29 +1,26 @@
 -- The marks of a staff in a system: the head, the bar before the first measure, the measures, then
 -- the beams of notes, those of graces, and the arcs.
-use Rattle.std.specs.Prelude.{ℕ, pos, ◌≤ℤ◌, ◌+◌, ◌==◌, true, ◌&&◌, ◌||◌, if◌then◌else◌, List, [], ◌∷◌, ◌++◌, length, map, flat_map, slice_range, Option, Some, None}
+use Rattle.std.specs.Prelude.{ℕ, pos, ◌≤ℤ◌, ◌==◌, true, ◌&&◌, ◌||◌, if◌then◌else◌, List, [], ◌∷◌, ◌++◌, map, slice_range, Option, Some, None}
 use Rattle.mus_units.specs.declared.key.Meter.{Meter}
 use Rattle.mus_units.specs.declared.note.Bar.{Bar}
-use Rattle.mus_score.specs.declared.score.Event.{Event}
 use Rattle.mus_time.specs.declared.keys.Class.TheVariants as classes
 use Rattle.mus_time.specs.declared.keys.ColumnKey.{ColumnKey}
-use Rattle.mus_time.specs.Keys.{has_features}
+use Rattle.mus_time.specs.Keys.{has_features, head_key}
+use Rattle.mus_time.specs.Order.{rank_of}
+use Rattle.mus_time.specs.Ranks.{rank_at}
 use Rattle.mus_laid.specs.declared.laid.Laid.{Laid}
 use Rattle.mus_laid.specs.declared.laid.StaffMarks.{StaffMarks}
 use Rattle.mus_laid.specs.Boxes.{staff_heights}
-use Rattle.mus_parts.specs.declared.beams.Stem.{Stem}
-use Rattle.mus_parts.specs.Bars.{bar_marks}
-use Rattle.mus_parts.specs.Beams.{beam_marks, stem_of}
-use Rattle.mus_parts.specs.Changes.{head_marks}
-use Rattle.mus_parts.specs.Graces.{grace_beam, group_of}
-use Rattle.mus_parts.specs.Laying.{cut}
-use Rattle.mus_drawn.specs.declared.drawn.DrawnEvent.{DrawnEvent}
+use Rattle.mus_laid.specs.Ranked.{bridge_at, drawn_at}
+use Rattle.mus_ink.specs.Bars.{bar_marks}
+use Rattle.mus_ink.specs.Changes.{head_marks}
+use Rattle.mus_ink.specs.Drawing.{cut}
 use Rattle.mus_drawn.specs.declared.drawn.DrawnMeasure.{DrawnMeasure}
 use Rattle.mus_drawn.specs.declared.drawn.DrawnVoice.{DrawnVoice}
 use Rattle.mus_drawn.specs.declared.drawn.Opening.{Opening}
 use Rattle.mus_marks.specs.declared.events.Room.{Room}
-use Rattle.mus_marks.specs.Arcs.{arcs_part}
-use Rattle.mus_marks.specs.Events.{measures_marks, note_rank}
-use Rattle.mus_marks.specs.Ranks.{rank_at}
+use Rattle.mus_marks.specs.Bridges.{bridges_of}
+use Rattle.mus_marks.specs.Events.{measures_marks}
 
 -- the meter is drawn where the voice begins and where it changes
 abbrev pub meter_shown : ℕ → Opening → Option Meter
@@ -32,42 +29,20 @@ meter_shown a o = if (a == 0) || o.anew then Some o.meter else None
 -- the head, by the first of the system's measures
 abbrev pub head_part : List ColumnKey → ℕ → List DrawnMeasure → List Laid
 head_part keys a [] = []
-head_part keys a (d ∷ ds) = head_marks (rank_at keys a 0 classes.Head 0) d.opening.clef d.opening.key.signs (meter_shown a d.opening)
+head_part keys a (d ∷ ds) = map (drawn_at (rank_of keys (head_key a))) (head_marks d.opening.clef d.opening.key.signs (meter_shown a d.opening))
 
 -- the bar before the first measure, where it has features
 abbrev pub first_part : List ColumnKey → ℕ → Bar → List Laid
-first_part keys a bar = if (a == 0) && has_features bar then bar_marks (rank_at keys 0 0 classes.First 0) bar else []
+first_part keys a bar = if (a == 0) && has_features bar then map (drawn_at (rank_at keys 0 0 classes.First 0)) (bar_marks bar) else []
 
--- the beams of notes, measure by measure
-abbrev pub stem_at : List ColumnKey → ℕ → DrawnEvent → Stem
-stem_at keys m e = stem_of (note_rank keys m e) e.plan
-
-abbrev pub beams_part : List ColumnKey → ℕ → List DrawnMeasure → List Laid
-beams_part keys m [] = []
-beams_part keys m (d ∷ ds) = beam_marks (map (stem_at keys m) d.events) ++ beams_part keys (m + 1) ds
-
--- the beam of the graces before an event, from the column of the first to that of the last
-abbrev pub beam_over : List ColumnKey → ℕ → DrawnEvent → List Event → List Laid
-beam_over keys m e [] = []
-beam_over keys m e (g ∷ gs) =
-    grace_beam (rank_at keys m e.tick classes.Grace 0) (rank_at keys m e.tick classes.Grace (length gs)) (group_of e.clef e.flat.graces e.flat.slash)
-
-abbrev pub event_grace_beam : List ColumnKey → ℕ → DrawnEvent → List Laid
-event_grace_beam keys m e = beam_over keys m e e.flat.graces
-
-abbrev pub grace_beams_part : List ColumnKey → ℕ → List DrawnMeasure → List Laid
-grace_beams_part keys m [] = []
-grace_beams_part keys m (d ∷ ds) = flat_map (event_grace_beam keys m) d.events ++ grace_beams_part keys (m + 1) ds
-
--- columns, then beams, then arcs
 unfoldable pub columns_part : List ColumnKey → List ℕ → Option Room → ℕ → Bar → List DrawnMeasure → List Laid
 columns_part keys lengths room a first ds = head_part keys a ds ++ first_part keys a first ++ measures_marks keys lengths room a true ds
 
--- the marks of a voice in measures a to b - 1, with its syllables and texts where their room is known
+-- the marks of a voice in measures a to b - 1, with its syllables and texts where their room is known: column by
+-- column, then what goes between columns
 unfoldable pub voice_marks : List ColumnKey → List ℕ → Option Room → ℕ → ℕ → DrawnVoice → List Laid
 voice_marks keys lengths room a b v =
-    columns_part keys lengths room a v.first (slice_range v.measures a b) ++ beams_part keys a (slice_range v.measures a b)
-    ++ grace_beams_part keys a (slice_range v.measures a b) ++ arcs_part keys a b v.measures v.arcs
+    columns_part keys lengths room a v.first (slice_range v.measures a b) ++ map (bridge_at keys) (bridges_of lengths a b v)
 
 -- marks, and how low and how high they reach
 unfoldable pub staff_over : List Laid → StaffMarks

@@ -1,17 +1,19 @@
-ghost use Rattle.std.specs.Prelude.{◌≡◌, ◌≤◌, ◌++◌, length, OnOk};
+ghost use Rattle.std.specs.Prelude.{◌≡◌, ◌≤◌, ◌++◌, length, map, IfOk, OnOk};
+ghost use Rattle.mus_time.specs.Ranks.{AreRanked};
+ghost use Rattle.mus_stems.specs.Heads.{AllNear, stand_of};
+ghost use Rattle.mus_laid.specs.Ranked.{drawn_at};
+ghost use Rattle.mus_ink.specs.Graces.{grace_marks};
 ghost use Rattle.mus_drawn.specs.Good.{AllCanGrace, AreGoodDrawn, IsGoodDrawn};
-ghost use Rattle.mus_marks.specs.Events.{note_rank, changes_nothing, change_part, graces_from, graces_part, text_place, words_part, event_marks, levels_in, levels_behind, events_marks};
-ghost use Rattle.mus_marks.specs.Ranks.{AreRanked};
+ghost use Rattle.mus_marks.specs.Events.{note_key, note_rank, changes_nothing, change_part, graces_from, graces_part, note_part, text_place, words_marks, words_part, event_marks, levels_in, levels_behind, events_marks};
 
-use crate::ranks::rank_at;
 use mus_drawn::DrawnEvent;
-use mus_laid::Laid;
-use mus_parts::{Group, group_of, put_change, put_grace, put_note};
+use mus_ink::{Group, group_of, put_change, put_grace, put_note};
+use mus_laid::{Drawn, Laid, put_ranked};
 use mus_score::{Changes, Event, Flat};
 use mus_stems::StemPlan;
-use mus_texts::{TextPlace, put_syllables, put_texts};
-use mus_time::{Class, ColumnKey};
+use mus_time::{Class, ColumnKey, rank_at, rank_of};
 use mus_units::{Clef, Memory, Row};
+use mus_words::{TextPlace, put_syllables, put_texts};
 use std::alloc::Global;
 
 /// The room that the other marks of a staff leave to its syllables and texts: these stand below `low`
@@ -26,12 +28,16 @@ pub struct Room {
 /// How many marks most events have at most; room for so many is made at once.
 const MARKS_OF_EVENT: usize = 4;
 
-/// The rank of the column of an event itself.
-pub(crate) fn note_rank(keys: &[ColumnKey], measure: u32, e: &DrawnEvent) -> u32
-    requires { AreRanked keys.now }
-    ensures { result ≡ note_rank keys.now measure e.now }
+/// The key of the column of an event itself.
+pub(crate) fn note_key(measure: u32, e: &DrawnEvent) -> ColumnKey
+    ensures { result ≡ note_key measure e.now }
 {
-    rank_at(keys, measure, e.tick, Class::Note, 0)
+    ColumnKey {
+        measure,
+        tick: e.tick,
+        class: Class::Note,
+        place: 0,
+    }
 }
 
 fn changes_nothing(changes: &Changes) -> bool
@@ -61,7 +67,28 @@ fn put_change_part(
         return Ok(());
     }
     let rank = rank_at(keys, measure, e.tick, Class::Change, 0);
-    put_change(alloc, out, rank, e.clef, e.old.as_slice(), changes)
+    let mut drawn = Row::new(alloc);
+    put_change(alloc, &mut drawn, e.clef, e.old.as_slice(), changes)?;
+    put_ranked(alloc, out, rank, drawn.as_slice())
+}
+
+/// Lays a grace of a group in its column.
+fn put_grace_at(
+    alloc: Global,
+    out: &mut Row<Laid>,
+    rank: u32,
+    clef: Clef,
+    group: Group,
+    first: bool,
+    grace: &Event,
+) -> Result<(), Memory>
+    requires near { AllNear (map (stand_of clef) grace.now.heads) }
+    requires few { length grace.now.heads ≤ 50000 }
+    ensures { OnOk result (out.new ≡ out.old ++ map (drawn_at rank) (grace_marks clef group first grace.now)) }
+{
+    let mut drawn = Row::new(alloc);
+    put_grace(alloc, &mut drawn, clef, group, first, grace)?;
+    put_ranked(alloc, out, rank, drawn.as_slice())
 }
 
 /// Lays graces of a group, each in a column of its own.
@@ -82,7 +109,7 @@ fn put_graces(
 {
     for (i, grace) in graces.iter().enumerate() {
         let rank = rank_at(keys, measure, tick, Class::Grace, i as u32);
-        put_grace(alloc, out, rank, clef, group, i == 0, grace)?;
+        put_grace_at(alloc, out, rank, clef, group, i == 0, grace)?;
     }
     Ok(())
 }
@@ -117,6 +144,44 @@ fn text_place(room: Room) -> TextPlace
     }
 }
 
+/// Lays an event in its column, but for its syllables and texts.
+fn put_note_part(
+    alloc: Global,
+    out: &mut Row<Laid>,
+    keys: &[ColumnKey],
+    measure: u32,
+    before: u8,
+    after: u8,
+    e: &DrawnEvent,
+) -> Result<(), Memory>
+    requires { AreRanked keys.now }
+    ensures { OnOk result (out.new ≡ out.old ++ note_part keys.now measure before after e.now) }
+{
+    let (event, plan) = (&e.flat.event, &e.plan);
+    let mut drawn = Row::new(alloc);
+    put_note(&mut drawn, e.clef, 0, event, plan, plan.to, before, after)?;
+    put_ranked(
+        alloc,
+        out,
+        rank_of(keys, note_key(measure, e)),
+        drawn.as_slice(),
+    )
+}
+
+/// The syllables and texts of an event, if their room is known.
+fn words_marks(alloc: Global, room: Option<Room>, flat: &Flat) -> Result<Row<Drawn>, Memory>
+    requires { length flat.now.event.words ≤ 8 }
+    ensures { IfOk result (λ r. r ≡ words_marks room flat.now) }
+{
+    let mut drawn = Row::new(alloc);
+    if let Some(room) = room {
+        let words = flat.event.words.as_slice();
+        put_syllables(alloc, &mut drawn, 1, room.low, words)?;
+        put_texts(alloc, &mut drawn, text_place(room), flat)?;
+    }
+    Ok(drawn)
+}
+
 /// Lays the syllables and texts of an event, if their room is known.
 fn put_words_part(
     alloc: Global,
@@ -128,14 +193,8 @@ fn put_words_part(
     requires { length flat.now.event.words ≤ 8 }
     ensures { OnOk result (out.new ≡ out.old ++ words_part rank room flat.now) }
 {
-    match room {
-        None => Ok(()),
-        Some(room) => {
-            let words = flat.event.words.as_slice();
-            put_syllables(alloc, out, rank, 1, room.low, words)?;
-            put_texts(alloc, out, rank, text_place(room), flat)
-        }
-    }
+    let drawn = words_marks(alloc, room, flat)?;
+    put_ranked(alloc, out, rank, drawn.as_slice())
 }
 
 /// Lays an event with the change and the graces before it; `before` and `after` are the levels of the
@@ -158,9 +217,9 @@ fn put_event(
 {
     put_change_part(alloc, out, keys, measure, in_head, e)?;
     put_graces_part(alloc, out, keys, measure, e)?;
-    let (rank, flat) = (note_rank(keys, measure, e), &e.flat);
-    put_note(out, rank, e.clef, 0, &flat.event, &e.plan, before, after)?;
-    put_words_part(alloc, out, rank, room, flat)
+    put_note_part(alloc, out, keys, measure, before, after, e)?;
+    let rank = rank_of(keys, note_key(measure, e));
+    put_words_part(alloc, out, rank, room, &e.flat)
 }
 
 /// The levels of an event that are in a plan's beam.

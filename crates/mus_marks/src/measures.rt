@@ -1,21 +1,32 @@
-ghost use Rattle.std.specs.Prelude.{◌≡◌, ◌≤◌, ◌<◌, ◌+◌, ◌++◌, length, OnOk};
+ghost use Rattle.std.specs.Prelude.{◌≡◌, ◌≤◌, ◌<◌, ◌+◌, ◌++◌, length, map, OnOk};
 ghost use Rattle.mus_time.specs.Keys.{has_features};
+ghost use Rattle.mus_time.specs.Ranks.{AreRanked};
+ghost use Rattle.mus_laid.specs.Ranked.{drawn_at};
+ghost use Rattle.mus_ink.specs.Bars.{bar_marks};
 ghost use Rattle.mus_drawn.specs.Good.{AreGoodMeasures, IsGoodMeasure};
 ghost use Rattle.mus_marks.specs.Events.{bar_part, events_marks, measures_marks};
-ghost use Rattle.mus_marks.specs.Ranks.{AreRanked};
 ghost use Rattle.mus_marks.specs.Staff.{meter_shown, head_part, first_part, columns_part};
 
 use crate::events::{Room, put_events};
-use crate::ranks::rank_at;
 use mus_drawn::{DrawnMeasure, Opening};
-use mus_laid::Laid;
-use mus_parts::{put_bar, put_head};
-use mus_time::{Class, ColumnKey};
+use mus_ink::{put_bar, put_head};
+use mus_laid::{Laid, put_ranked};
+use mus_time::{Class, ColumnKey, rank_at};
 use mus_units::{Bar, Memory, Meter, Row};
 use std::alloc::Global;
 
+/// Lays a bar in its column.
+fn put_bar_at(alloc: Global, out: &mut Row<Laid>, rank: u32, bar: Bar) -> Result<(), Memory>
+    ensures { OnOk result (out.new ≡ out.old ++ map (drawn_at rank) (bar_marks bar)) }
+{
+    let mut drawn = Row::new(alloc);
+    put_bar(&mut drawn, bar)?;
+    put_ranked(alloc, out, rank, drawn.as_slice())
+}
+
 /// Lays the bar behind a measure.
 fn put_bar_part(
+    alloc: Global,
     out: &mut Row<Laid>,
     keys: &[ColumnKey],
     lengths: &[u64],
@@ -27,7 +38,12 @@ fn put_bar_part(
     ensures { OnOk result (out.new ≡ out.old ++ bar_part keys.now lengths.now measure d.now) }
 {
     let tick = lengths[measure as usize];
-    put_bar(out, rank_at(keys, measure, tick, Class::Bar, 0), d.bar)
+    put_bar_at(
+        alloc,
+        out,
+        rank_at(keys, measure, tick, Class::Bar, 0),
+        d.bar,
+    )
 }
 
 fn put_measure(
@@ -54,7 +70,7 @@ fn put_measure(
         in_head,
         d.events.as_slice(),
     )?;
-    put_bar_part(out, keys, lengths, measure, d)
+    put_bar_part(alloc, out, keys, lengths, measure, d)
 }
 
 /// Lays the events and bars of measures of a system, from number `a` on, by the ranks of the keys; the
@@ -115,14 +131,10 @@ fn put_head_part(
     let opening = &first.opening;
     let rank = rank_at(keys, a, 0, Class::Head, 0);
     let meter = meter_shown(a, opening);
-    put_head(
-        alloc,
-        out,
-        rank,
-        opening.clef,
-        opening.key.signs.as_slice(),
-        meter,
-    )
+    let signs = opening.key.signs.as_slice();
+    let mut drawn = Row::new(alloc);
+    put_head(alloc, &mut drawn, opening.clef, signs, meter)?;
+    put_ranked(alloc, out, rank, drawn.as_slice())
 }
 
 fn is_featured(bar: Bar) -> bool
@@ -132,14 +144,20 @@ fn is_featured(bar: Bar) -> bool
 }
 
 /// Lays the bar before the first measure, where it has features.
-fn put_first_part(out: &mut Row<Laid>, keys: &[ColumnKey], a: u32, bar: Bar) -> Result<(), Memory>
+fn put_first_part(
+    alloc: Global,
+    out: &mut Row<Laid>,
+    keys: &[ColumnKey],
+    a: u32,
+    bar: Bar,
+) -> Result<(), Memory>
     requires { AreRanked keys.now }
     ensures { OnOk result (out.new ≡ out.old ++ first_part keys.now a bar) }
 {
     if a != 0 || !is_featured(bar) {
         return Ok(());
     }
-    put_bar(out, rank_at(keys, 0, 0, Class::First, 0), bar)
+    put_bar_at(alloc, out, rank_at(keys, 0, 0, Class::First, 0), bar)
 }
 
 /// Lays what stands in the columns of a system from measure `a` on: its head, the bar before the first
@@ -162,6 +180,6 @@ pub fn put_columns_part(
     ensures { OnOk result (out.new ≡ out.old ++ columns_part keys.now lengths.now room a first measures.now) }
 {
     put_head_part(alloc, out, keys, a, measures)?;
-    put_first_part(out, keys, a, first)?;
+    put_first_part(alloc, out, keys, a, first)?;
     put_measures(alloc, out, keys, lengths, room, a, true, measures)
 }

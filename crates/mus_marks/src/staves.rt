@@ -1,20 +1,21 @@
 ghost use Rattle.std.specs.Prelude.{◌≡◌, ◌≤◌, ◌<◌, length, IfOk};
+ghost use Rattle.mus_time.specs.Ranks.{AreRanked};
 ghost use Rattle.mus_drawn.specs.Good.{AreGoodMeasures};
-ghost use Rattle.mus_marks.specs.Ranks.{AreRanked};
+ghost use Rattle.mus_marks.specs.Bridges.{bridges_of};
 ghost use Rattle.mus_marks.specs.Staff.{CoversLines, room_over, staff_marks, staff_over, voice_marks};
 
-use crate::arcs::put_arcs_part;
-use crate::beams::{put_beams_part, put_grace_beams_part};
+use crate::bridges::bridges_of;
 use crate::events::Room;
 use crate::measures::put_columns_part;
 use mus_drawn::DrawnVoice;
-use mus_laid::{Laid, StaffMarks, staff_heights};
-use mus_parts::laying::cut;
+use mus_ink::drawing::cut;
+use mus_laid::{Bridge, Laid, StaffMarks, put_bridges, staff_heights};
 use mus_time::ColumnKey;
 use mus_units::{Memory, Row};
 use std::alloc::Global;
 
-/// The marks of a voice in measures `a` to `b` - 1, with syllables and texts where their room is known.
+/// The marks of a voice in measures `a` to `b` - 1, with syllables and texts where their room is
+/// known; `bridges` are what it has between its columns.
 #[tactic(auto, unfolding(crate::specs::Staff::voice_marks))]
 fn voice_marks(
     alloc: Global,
@@ -24,6 +25,7 @@ fn voice_marks(
     a: u32,
     b: u32,
     v: &DrawnVoice,
+    bridges: &[Bridge],
 ) -> Result<Row<Laid>, Memory>
     requires keys { AreRanked keys.now }
     requires order { a < b }
@@ -31,15 +33,13 @@ fn voice_marks(
     requires lengths { length lengths.now ≡ length v.now.measures }
     requires few { length lengths.now ≤ 2000 }
     requires good { AreGoodMeasures v.now.measures }
+    requires bridges { bridges.now ≡ bridges_of lengths.now a b v.now }
     ensures { IfOk result (λ r. r ≡ voice_marks keys.now lengths.now room a b v.now) }
 {
-    let all = v.measures.as_slice();
-    let measures = &all[a as usize..b as usize];
+    let measures = &v.measures.as_slice()[a as usize..b as usize];
     let mut out = Row::new(alloc);
     put_columns_part(alloc, &mut out, keys, lengths, room, a, v.first, measures)?;
-    put_beams_part(alloc, &mut out, keys, a, measures)?;
-    put_grace_beams_part(&mut out, keys, a, measures)?;
-    put_arcs_part(&mut out, keys, a, b, all, v.arcs.as_slice())?;
+    put_bridges(&mut out, keys, bridges)?;
     Ok(out)
 }
 
@@ -88,8 +88,10 @@ pub(crate) fn staff_marks(
     ensures staff { IfOk result (λ r. r ≡ staff_marks keys.now lengths.now a b v.now) }
     ensures lines { IfOk result CoversLines }
 {
-    let others = voice_marks(alloc, keys, lengths, None, a, b, v)?;
+    let bridges = bridges_of(alloc, lengths, a, b, v)?;
+    let bridges = bridges.as_slice();
+    let others = voice_marks(alloc, keys, lengths, None, a, b, v, bridges)?;
     let room = room_over(v.verses, others.as_slice());
-    let marks = voice_marks(alloc, keys, lengths, Some(room), a, b, v)?;
+    let marks = voice_marks(alloc, keys, lengths, Some(room), a, b, v, bridges)?;
     Ok(staff_over(marks))
 }

@@ -2,10 +2,10 @@ ghost use Rattle.std.specs.Prelude.{◌≡◌, ◌≤◌, ◌<◌, length, map, 
 ghost use Rattle.mus_score.specs.GoodScore.{IsGoodScore, IsGoodVoice};
 ghost use Rattle.mus_time.specs.Keys.{IsInSystem};
 ghost use Rattle.mus_time.specs.Onsets.{timeline_of};
+ghost use Rattle.mus_time.specs.Ranks.{AreRanked};
 ghost use Rattle.mus_drawn.specs.Drawn.{drawn_voice};
 ghost use Rattle.mus_drawn.specs.Good.{AreGoodMeasures};
 ghost use Rattle.mus_laid.specs.Boxes.{AreGoodMarks};
-ghost use Rattle.mus_marks.specs.Ranks.{AreRanked};
 ghost use Rattle.mus_marks.specs.Staff.{CoversLines, staff_marks};
 ghost use Rattle.mus_marks.specs.System.{IsCall};
 

@@ -20,6 +20,13 @@ use Rattle.mus_time.specs.Order.{Rises}
 abbrev pub key_at : ℕ → ℕ → Class → ℕ → ColumnKey
 key_at m tick class place = record { measure = m; tick = tick; class = class; place = place }
 
+-- the column that begins a system at measure a, and that of the bar at the end of a measure
+abbrev pub head_key : ℕ → ColumnKey
+head_key a = key_at a 0 classes.Head 0
+
+abbrev pub bar_key : List ℕ → ℕ → ColumnKey
+bar_key lengths m = key_at m (slice_index lengths m) classes.Bar 0
+
 abbrev pub has_entries : Key → Bool
 has_entries k = nat_le 1 (length k.signs)
 

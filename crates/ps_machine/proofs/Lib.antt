@@ -1,7 +1,7 @@
 pub mod Did
 pub mod Loop
-pub mod Frames
 pub mod NamesLemmas
 pub mod Six
 mod OneAnswer
 mod Held
+mod Sheets

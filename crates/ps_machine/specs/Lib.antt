@@ -5,3 +5,4 @@ pub mod Pens
 pub mod Doing
 pub mod Nexts
 pub mod OneAnswer
+pub mod Sheets

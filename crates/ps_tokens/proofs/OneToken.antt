@@ -1,16 +1,15 @@
 -- A text begins with one token at most, and where none stands there is one cause.
-use Rattle.std.proofs.Common.{◌≡◌, ℕ, zero, suc, ◌+◌, ◌<◌, ◌≤◌, Bool, true, false, cond, ◌==◌, append_assoc, List, [], ◌∷◌, ◌++◌, length, drop, get_or, Option, Some, None, refl, sym, subst, ◌∙◌, ap, arith, IsTrue}
+use Rattle.std.proofs.Common.{◌≡◌, ℕ, true, false, cond, ◌==◌, append_assoc, List, [], ◌∷◌, ◌++◌, drop, Option, Some, None, refl, sym, subst, ◌∙◌, ap, arith}
 use Rattle.std.specs.List.{list_all, flat_map}
-use Rattle.std.proofs.lemmas.Bool.{true≢false}
 use Rattle.std.proofs.lemmas.Bool.Decides.{nat_tests}
 use Rattle.std.proofs.lemmas.List.{append_cancel_left}
 use Rattle.ps_steps.specs.declared.halt.Cause.{Cause}
 use Rattle.ps_steps.specs.declared.halt.Cause.TheVariants as causes
 use Rattle.ps_steps.specs.declared.token.Simple.{Simple}
-use Rattle.ps_steps.specs.declared.token.Simple.TheVariants.{Words as words_token, Label as label_token, Font as font_token, Name as name_token}
+use Rattle.ps_steps.specs.declared.token.Simple.TheVariants.{Words as words_token, Label as label_token, Font as font_token}
 use Rattle.ps_steps.specs.declared.token.Token.{Token}
 use Rattle.ps_steps.specs.declared.token.Token.TheVariants.{Simple as simple_token, Procedure as procedure_token}
-use Rattle.ps_steps.specs.Tokens.{Read, found, opening, closing, unread, Front, font_front, label_front, no_label, string_front, open_string, no_string, opening_front, closing_front, stray, word_front, no_word, IsWord, IsString, IsOpen, IsFont, font_line, Body, closes, goes_on, NoBody, unclosed, nested, unread_within, later, TokenAt, simple_at, procedure_at, NoToken, unread_at, closing_at, no_body, is_regular, is_blank, is_delimiter, is_name, word_token, begins, passed}
+use Rattle.ps_steps.specs.Tokens.{Read, found, opening, closing, unread, Front, font_front, label_front, no_label, string_front, open_string, no_string, opening_front, closing_front, stray, word_front, no_word, IsWord, IsString, IsOpen, IsFont, font_line, Body, closes, goes_on, NoBody, unclosed, nested, unread_within, later, TokenAt, simple_at, procedure_at, NoToken, unread_at, closing_at, no_body, is_regular, is_name, word_token, passed}
 use Rattle.ps_text.specs.Fields.{shown}
 use Rattle.ps_tokens.specs.OneToken.{BeginsInOneWay}
 use Rattle.ps_tokens.proofs.Both.{first}

@@ -5,33 +5,11 @@ use Rattle.std.proofs.lemmas.Bool.Decides.{nat_tests}
 use Rattle.mus_time.specs.declared.keys.Class.{Class}
 use Rattle.mus_time.specs.declared.keys.ColumnKey.{ColumnKey}
 use Rattle.mus_time.specs.Keys.{AreKeys, key_at}
+use Rattle.mus_time.proofs.Orders.{below_through, not_both}
+use Rattle.mus_time.proofs.RankLaws.{false_not_true}
 use Rattle.mus_time.specs.Order.{BelowAll, Rises, class_number, is_below, then_below}
 
 -- ---- the order of keys
-false_not_true : false ≡ true → ⊥
-false_not_true h = cc
-
-then_through : (a b c : ℕ) (p q r : Bool) → (p ≡ true → q ≡ true → r ≡ true) → then_below a b p ≡ true → then_below b c q ≡ true → then_below a c r ≡ true
-then_through a b c p q true f h k = grind (arith, nat_tests)
-then_through a b c true true false f h k = absurd (false_not_true (f refl refl))
-then_through a b c true false false f h k = grind (arith, nat_tests)
-then_through a b c false q false f h k = grind (arith, nat_tests)
-
-place_through : (a b c : ℕ) → nat_lt a b ≡ true → nat_lt b c ≡ true → nat_lt a c ≡ true
-place_through a b c h k = grind (arith, nat_tests)
-
-below_through : (k l m : ColumnKey) → is_below k l ≡ true → is_below l m ≡ true → is_below k m ≡ true
-unfolding is_below
-below_through k l m =
-    then_through k.measure l.measure m.measure _ _ _
-    (then_through k.tick l.tick m.tick _ _ _
-    (then_through (class_number k.class) (class_number l.class) (class_number m.class) _ _ _
-    (place_through k.place l.place m.place)))
-
-not_both : (k l : ColumnKey) → is_below k l ≡ true → is_below l k ≡ true → ⊥
-unfolding is_below
-not_both k l h g = grind (arith, nat_tests)
-
 neither_first : (a b : ℕ) (p q : Bool) → then_below a b p ≡ false → then_below b a q ≡ false → (a ≡ b) × (p ≡ false) × (q ≡ false)
 neither_first a b true true h k = absurd (grind (arith, nat_tests))
 neither_first a b true false h k = absurd (grind (arith, nat_tests))
@@ -146,7 +124,7 @@ have_keys (k ∷ called) =
 heads_same : (x y : ColumnKey) (xs ys : List ColumnKey) → BelowAll x xs → BelowAll y ys → (y ≡ x) ⊎ Contains ys x → (x ≡ y) ⊎ Contains xs y → x ≡ y
 heads_same x y xs ys bx by (inl e) h = sym e
 heads_same x y xs ys bx by (inr g) (inl e) = e
-heads_same x y xs ys bx by (inr g) (inr h) = absurd (not_both x y (below_in x y xs bx h) (below_in y x ys by g))
+heads_same x y xs ys bx by (inr g) (inr h) = absurd (false_not_true (sym (not_both x y (below_in x y xs bx h)) ∙ below_in y x ys by g))
 
 behind : (x y : ColumnKey) (xs ys : List ColumnKey) → x ≡ y → BelowAll x xs → ((k : ColumnKey) → Contains (x ∷ xs) k → Contains (y ∷ ys) k)
     → (k : ColumnKey) → Contains xs k → Contains ys k
@@ -154,7 +132,7 @@ behind x y xs ys e below all k has = elim (first_or k y ys (all k (further k x x
   | inl f ↦
       let once = below_in x k xs below has in
       let same = subst (λ z. is_below z k ≡ true) (e ∙ f) once in
-      absurd (not_both k k same same)
+      absurd (false_not_true (sym (not_both k k same) ∙ same))
   | inr more ↦ more
 ]
 

@@ -6,7 +6,7 @@ use Rattle.mus_time.specs.Keys.{IsInSystem, key_at}
 use Rattle.mus_time.specs.Order.{Rises}
 use Rattle.mus_marks.proofs.Few.{few_further}
 use Rattle.mus_marks.proofs.Lines.{voices_count}
-use Rattle.mus_marks.specs.Ranks.{AreRanked}
+use Rattle.mus_time.specs.Ranks.{AreRanked}
 use Rattle.lay_columns.specs.Widened.{AreGoodStaves}
 use Rattle.lay_measures.specs.Measures.{EndWithBar, further_staff, keys_in}
 use Rattle.lay_measures.proofs.Facts.{end_with_bar, further_good, further_bar, ok_through, places}

@@ -1,11 +1,11 @@
 use Rattle.std.proofs.Common.{◌≡◌, ◌++◌, drop}
 use Rattle.std.specs.List.{flat_map}
 use Rattle.mus_drawn.specs.Good.{AreGoodDrawn}
-use Rattle.mus_marks.specs.Staff.{event_grace_beam}
+use Rattle.mus_marks.specs.Bridges.{event_grace_beam}
 use Rattle.mus_marks.proofs.beams.put_measure_grace_beams.Given as goal
 
 abbrev pub invariant-loop-e : goal.invariant-loop-e
 invariant-loop-e l = record {
-  marks : l.out ++ flat_map (event_grace_beam l.keys l.measure) (drop l.e-index l.events) ≡ l.fn.out ++ flat_map (event_grace_beam l.keys l.measure) l.events;
+  marks : l.out ++ flat_map (event_grace_beam l.measure) (drop l.e-index l.events) ≡ l.fn.out ++ flat_map (event_grace_beam l.measure) l.events;
   good : AreGoodDrawn (drop l.e-index l.events);
 }

@@ -1,6 +1,7 @@
-use Rattle.std.proofs.Common.{◌≡◌, ◌++◌, [], subst, sym, ap, ◌∙◌}
+use Rattle.std.proofs.Common.{◌≡◌, ◌++◌, [], map, subst, sym, ap, ◌∙◌}
 use Rattle.std.proofs.lemmas.List.{append-nil}
 use Rattle.mus_units.specs.Good.{AreGoodSigns}
+use Rattle.mus_laid.specs.Ranked.{drawn_at}
 use Rattle.mus_marks.specs.Events.{change_part}
 use Rattle.mus_marks.proofs.Unchanged.{nothing_marks}
 use Rattle.mus_marks.proofs.events.put_change_part.Goals as goal
@@ -12,5 +13,5 @@ pub returns-then-changes_nothing : goal.returns-then-changes_nothing
 returns-then-changes_nothing c =
     let none : change_part c.args.keys.now c.args.measure c.args.in_head c.args.e.now ≡ [] =
     ap (λ b. change_part c.args.keys.now c.args.measure b c.args.e.now) c.if-in_head.false
-    ∙ nothing_marks _ _ _ _ (sym c.changes_nothing.ensures ∙ c.if-changes_nothing.true) in
+    ∙ ap (map (drawn_at _)) (nothing_marks _ _ _ (sym c.changes_nothing.ensures ∙ c.if-changes_nothing.true)) in
     sym (append-nil c.args.out.now) ∙ ap (λ t. c.args.out.now ++ t) (sym none)

@@ -5,8 +5,4 @@ use Rattle.mus_marks.proofs.staves.voice_marks.Goals as goal
 
 pub put_columns_part-requires-clause-good : goal.put_columns_part-requires-clause-good
 put_columns_part-requires-clause-good c =
-    subst (λ ms. AreGoodMeasures (take (c.args.b - c.args.a) (drop c.args.a ms))) (sym c.as_slice-all.ensures) (good_slice c.args.a (c.args.b - c.args.a) c.args.v.now.measures c.requires.good)
-
-pub put_grace_beams_part-requires-clause-good : goal.put_grace_beams_part-requires-clause-good
-put_grace_beams_part-requires-clause-good c =
-    subst (λ ms. AreGoodMeasures (take (c.args.b - c.args.a) (drop c.args.a ms))) (sym c.as_slice-all.ensures) (good_slice c.args.a (c.args.b - c.args.a) c.args.v.now.measures c.requires.good)
+    subst (λ ms. AreGoodMeasures (take (c.args.b - c.args.a) (drop c.args.a ms))) (sym c.as_slice.ensures) (good_slice c.args.a (c.args.b - c.args.a) c.args.v.now.measures c.requires.good)

@@ -5,7 +5,7 @@ use Rattle.mus_time.proofs.Places.{length_of_lengths}
 use Rattle.mus_drawn.specs.Drawn.{drawn_voice}
 use Rattle.mus_laid.specs.Boxes.{AreGoodMarks}
 use Rattle.mus_marks.specs.Staff.{staff_marks}
-use Rattle.mus_marks.specs.Ranks.{AreRanked}
+use Rattle.mus_time.specs.Ranks.{AreRanked}
 use Rattle.mus_marks.proofs.Few.{few_keys}
 use Rattle.mus_marks.proofs.Texts.{staves_good}
 use Rattle.mus_marks.proofs.Lines.{voices_count}

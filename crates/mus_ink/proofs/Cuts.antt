@@ -1,0 +1,8 @@
+-- Cutting a height in steps before its dy is taken changes nothing.
+use Rattle.std.proofs.Common.{◌≡◌, ℤ, arith}
+use Rattle.std.proofs.lemmas.Int.{ints, clamps}
+use Rattle.mus_ink.specs.Drawing.{cut, steps_dy}
+
+pub cut_inside : (z : ℤ) → steps_dy (cut z) ≡ steps_dy z
+unfolding steps_dy cut
+cut_inside z = omega (arith, ints, clamps)

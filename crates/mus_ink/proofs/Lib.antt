@@ -1,0 +1,4 @@
+pub mod Counting
+pub mod Cuts
+pub mod EachMark
+pub mod Keys

@@ -1,0 +1,6 @@
+use Rattle.std.proofs.Common.{◌≡◌, ◌++◌, drop}
+use Rattle.mus_ink.specs.Decos.{deco_marks}
+use Rattle.mus_ink.proofs.decos.put_decos.Given as goal
+
+abbrev pub invariant-loop-deco : goal.invariant-loop-deco
+invariant-loop-deco l = l.out ++ deco_marks l.dy (drop l.deco-index l.decos) ≡ l.fn.out ++ deco_marks l.first l.decos

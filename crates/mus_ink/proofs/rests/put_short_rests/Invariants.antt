@@ -1,0 +1,6 @@
+use Rattle.std.proofs.Common.{◌≡◌, ◌++◌, ◌-◌}
+use Rattle.mus_ink.specs.Rests.{short_rests}
+use Rattle.mus_ink.proofs.rests.put_short_rests.Given as goal
+
+abbrev pub invariant-loop-k : goal.invariant-loop-k
+invariant-loop-k l = l.out ++ short_rests l.sort l.top l.k (l.flags - l.k) ≡ l.fn.out ++ short_rests l.sort l.top 0 l.flags

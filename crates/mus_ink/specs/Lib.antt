@@ -1,0 +1,12 @@
+pub mod Bars
+pub mod Beams
+pub mod Changes
+pub mod Decos
+pub mod Distances
+pub mod Drawing
+pub mod Graces
+pub mod Kinds
+pub mod Notes
+pub mod Rests
+pub mod Signatures
+pub mod Stems

@@ -1,0 +1,50 @@
+ghost use Rattle.std.specs.Prelude.{◌≡◌, ◌++◌, OnOk};
+ghost use Rattle.mus_ink.specs.Bars.{bar_glyph, glyph_if, bar_marks};
+
+use crate::drawing::put_glyph;
+use mus_laid::Drawn;
+use mus_units::{Bar, Glyph, Memory, Row};
+
+/// The glyph of a bar's body.
+#[tactic(auto, unfolding(crate::specs::Bars::bar_glyph))]
+fn body(bar: Bar) -> Glyph
+    ensures { result ≡ bar_glyph bar }
+{
+    let left = bar.end || bar.last;
+    let right = bar.start || bar.initial;
+    if left && right {
+        Glyph::Bb
+    } else if left {
+        Glyph::Bf
+    } else if right {
+        Glyph::Bi
+    } else if bar.double {
+        Glyph::Bw
+    } else if bar.dotted {
+        Glyph::Bo
+    } else if bar.unseen {
+        Glyph::Nn
+    } else {
+        Glyph::Bt
+    }
+}
+
+fn put_if(out: &mut Row<Drawn>, yes: bool, glyph: Glyph) -> Result<(), Memory>
+    ensures { OnOk result (out.new ≡ out.old ++ glyph_if yes glyph) }
+{
+    if yes {
+        put_glyph(out, glyph, 0, 0)?;
+    }
+    Ok(())
+}
+
+/// Draws a bar: its body at dx 0 and dy 0, then the dots of a repeat that ends there, then those of
+/// one that begins there.
+#[tactic(auto, unfolding(crate::specs::Bars::bar_marks))]
+pub fn put_bar(out: &mut Row<Drawn>, bar: Bar) -> Result<(), Memory>
+    ensures { OnOk result (out.new ≡ out.old ++ bar_marks bar) }
+{
+    put_if(out, true, body(bar))?;
+    put_if(out, bar.end, Glyph::Dl)?;
+    put_if(out, bar.start, Glyph::Dr)
+}

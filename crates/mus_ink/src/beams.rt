@@ -1,0 +1,136 @@
+ghost use Rattle.std.specs.Prelude.{◌≡◌, ◌-◌, ◌++◌, OnOk};
+ghost use Rattle.mus_ink.specs.Stems.{with_end};
+ghost use Rattle.mus_ink.specs.Beams.{stem_of, way_of, goes_on, last_at, level_from, levels_from, levels_before, beams_at, beams_from, beam_marks};
+
+use crate::drawing::put_beam;
+use crate::stems::lower_edge;
+use mus_laid::Bridge;
+use mus_stems::StemPlan;
+use mus_time::{ColumnKey, is_same};
+use mus_units::{Memory, Row, Way};
+
+/// What beams need of an event: the key of its column, the way of its stem and the dy of its end,
+/// the event at which its beam begins, and how many levels its beam has there.
+#[derive(Clone, Copy, PartialEq, Eq)]
+pub struct Stem {
+    pub key: ColumnKey,
+    pub up: bool,
+    pub to: i32,
+    pub group: u32,
+    pub flags: u8,
+}
+
+/// What beams need of an event in the column of a key, whose stem ends at `to`.
+#[tactic(auto, unfolding(crate::specs::Beams::stem_of))]
+pub fn stem_of(key: ColumnKey, plan: &StemPlan, to: i32) -> Stem
+    ensures { result ≡ stem_of key (with_end plan.now to) }
+{
+    Stem {
+        key,
+        up: plan.up,
+        to,
+        group: plan.group,
+        flags: plan.flags,
+    }
+}
+
+fn way(up: bool) -> Way
+    ensures { result ≡ way_of up }
+{
+    if up { Way::Up } else { Way::Down }
+}
+
+#[tactic(auto, unfolding(crate::specs::Beams::goes_on))]
+fn goes_on(level: u8, p: Stem, q: Stem) -> bool
+    ensures { result ≡ goes_on level p q }
+{
+    q.group == p.group && level < q.flags
+}
+
+/// The last event of the run at a level that an event is in, among those behind it.
+fn last_at(level: u8, p: Stem, behind: &[Stem]) -> Stem
+    ensures { result ≡ last_at level p behind.now }
+{
+    let mut last = p;
+    for q in behind {
+        if !goes_on(level, last, *q) {
+            return last;
+        }
+        last = *q;
+    }
+    last
+}
+
+/// Draws the beam at one level of the run from one event to another.
+#[tactic(auto, unfolding(crate::specs::Beams::level_from))]
+fn put_level(out: &mut Row<Bridge>, level: u8, p: Stem, q: Stem) -> Result<(), Memory>
+    ensures { OnOk result (out.new ≡ out.old ++ level_from level p q) }
+{
+    if is_same(p.key, q.key) {
+        return Ok(());
+    }
+    let from = lower_edge(p.up, p.to, level);
+    let to = lower_edge(q.up, q.to, level);
+    put_beam(out, way(p.up), p.key, q.key, from, to)
+}
+
+fn put_level_at(out: &mut Row<Bridge>, level: u8, p: Stem, behind: &[Stem]) -> Result<(), Memory>
+    ensures { OnOk result (out.new ≡ out.old ++ level_from level p (last_at level p behind.now)) }
+{
+    put_level(out, level, p, last_at(level, p, behind))
+}
+
+/// Draws the beams from one level to below another of the runs that begin at an event.
+fn put_levels(
+    out: &mut Row<Bridge>,
+    level: u8,
+    flags: u8,
+    p: Stem,
+    behind: &[Stem],
+) -> Result<(), Memory>
+    ensures { OnOk result (out.new ≡ out.old ++ levels_from level (flags - level) p behind.now) }
+{
+    for k in level..flags {
+        put_level_at(out, k, p, behind)?;
+    }
+    Ok(())
+}
+
+#[tactic(auto, unfolding(crate::specs::Beams::levels_before))]
+fn levels_before(p: Stem, group: u32, flags: u8) -> u8
+    ensures { result ≡ levels_before p group flags }
+{
+    if p.group == group { flags } else { 0 }
+}
+
+/// Draws the beams that begin at an event, where the one before it is in `group` with `flags` levels.
+#[tactic(auto, unfolding(crate::specs::Beams::beams_at))]
+fn put_beams_at(
+    out: &mut Row<Bridge>,
+    group: u32,
+    flags: u8,
+    p: Stem,
+    behind: &[Stem],
+) -> Result<(), Memory>
+    ensures { OnOk result (out.new ≡ out.old ++ beams_at group flags p behind.now) }
+{
+    put_levels(out, levels_before(p, group, flags), p.flags, p, behind)
+}
+
+/// Draws the beams of the events of a measure, whose keys differ: by the first event that each
+/// joins, then by level.
+#[tactic(auto, unfolding(crate::specs::Beams::beam_marks))]
+pub fn put_beams(out: &mut Row<Bridge>, stems: &[Stem]) -> Result<(), Memory>
+    ensures { OnOk result (out.new ≡ out.old ++ beam_marks stems.now) }
+{
+    let mut rest = stems;
+    let mut group = 0;
+    let mut flags = 0;
+    while let Some((p, behind)) = rest.split_first() {
+        put_beams_at(out, group, flags, *p, behind)?;
+        group = p.group;
+        flags = p.flags;
+        rest = behind;
+    }
+    Ok(())
+}

@@ -1,0 +1,137 @@
+ghost use Rattle.std.specs.Prelude.{◌≡◌, ◌≤◌, ◌++◌, length, IfSome, OnOk};
+ghost use Rattle.mus_units.specs.Good.{AreGoodSigns, IsGoodKey};
+ghost use Rattle.mus_ink.specs.Changes.{head_marks, clef_if, behind_clef, new_entries, key_if, new_count, count_if, change_marks};
+
+use crate::distances::{CLEF_SIDE, CLEF_WIDTH, ENTRY_GAP, ENTRY_STEP, SIGNATURE_SIDE};
+use crate::signatures::{put_clef, put_entries, put_meter_if};
+use mus_laid::Drawn;
+use mus_score::Changes;
+use mus_units::{Clef, Key, Memory, Meter, Row, Sign};
+use std::alloc::Global;
+
+/// Draws the head of a staff: its clef at dx 200, its signature from dx 1800 on, and behind it the
+/// meter, where one is drawn there.
+#[tactic(auto, using(crate::proofs::Keys::few_signs), unfolding(crate::specs::Changes::head_marks))]
+pub fn put_head(
+    alloc: Global,
+    out: &mut Row<Drawn>,
+    clef: Clef,
+    signs: &[Sign],
+    meter: Option<Meter>,
+) -> Result<(), Memory>
+    requires { AreGoodSigns signs.now }
+    ensures { OnOk result (out.new ≡ out.old ++ head_marks clef signs.now meter) }
+{
+    put_clef(out, CLEF_SIDE, clef)?;
+    put_entries(out, clef, false, SIGNATURE_SIDE, signs)?;
+    put_meter_if(
+        alloc,
+        out,
+        SIGNATURE_SIDE + ENTRY_STEP * signs.len() as u32,
+        meter,
+    )
+}
+
+fn put_clef_if(out: &mut Row<Drawn>, clef: Option<Clef>) -> Result<(), Memory>
+    ensures { OnOk result (out.new ≡ out.old ++ clef_if clef) }
+{
+    match clef {
+        None => Ok(()),
+        Some(clef) => put_clef(out, 0, clef),
+    }
+}
+
+/// How far a clef that changes moves what stands behind it.
+fn behind_clef(clef: Option<Clef>) -> u32
+    ensures value { result ≡ behind_clef clef }
+    ensures most { result ≤ 1300 }
+{
+    match clef {
+        None => 0,
+        Some(_) => CLEF_WIDTH,
+    }
+}
+
+/// Draws the signature of a new key, or a natural for each sign of the old one where it has none.
+fn put_new_entries(
+    out: &mut Row<Drawn>,
+    clef: Clef,
+    first: u32,
+    old: &[Sign],
+    signs: &[Sign],
+) -> Result<(), Memory>
+    requires near { first ≤ 2000 }
+    requires old { length old.now ≤ 7 }
+    requires few { length signs.now ≤ 7 }
+    ensures { OnOk result (out.new ≡ out.old ++ new_entries clef first old.now signs.now) }
+{
+    match signs {
+        [] => put_entries(out, clef, true, first, old),
+        _ => put_entries(out, clef, false, first, signs),
+    }
+}
+
+fn new_count(old: &[Sign], signs: &[Sign]) -> usize
+    requires old { length old.now ≤ 7 }
+    requires few { length signs.now ≤ 7 }
+    ensures value { result ≡ new_count old.now signs.now }
+    ensures most { result ≤ 7 }
+{
+    match signs {
+        [] => old.len(),
+        _ => signs.len(),
+    }
+}
+
+fn put_key_if(
+    out: &mut Row<Drawn>,
+    clef: Clef,
+    first: u32,
+    old: &[Sign],
+    key: &Option<Key>,
+) -> Result<(), Memory>
+    requires near { first ≤ 2000 }
+    requires old { length old.now ≤ 7 }
+    requires key { IfSome key.now IsGoodKey }
+    ensures { OnOk result (out.new ≡ out.old ++ key_if clef first old.now key.now) }
+{
+    match key {
+        None => Ok(()),
+        Some(key) => put_new_entries(out, clef, first, old, key.signs.as_slice()),
+    }
+}
+
+/// How many entries a change of key draws.
+fn count_if(old: &[Sign], key: &Option<Key>) -> usize
+    requires old { length old.now ≤ 7 }
+    requires key { IfSome key.now IsGoodKey }
+    ensures value { result ≡ count_if old.now key.now }
+    ensures most { result ≤ 7 }
+{
+    match key {
+        None => 0,
+        Some(key) => new_count(old, key.signs.as_slice()),
+    }
+}
+
+/// Draws a change before an event, in its own column: the clef at dx 0, then the key's entries
+/// in the clef in force there, `clef`, and then the meter. Where the new key has no entries, each of
+/// the old key, `old`, gives a natural.
+#[tactic(auto, using(crate::proofs::Keys::few_signs), unfolding(crate::specs::Changes::change_marks))]
+pub fn put_change(
+    alloc: Global,
+    out: &mut Row<Drawn>,
+    clef: Clef,
+    old: &[Sign],
+    changes: &Changes,
+) -> Result<(), Memory>
+    requires old { AreGoodSigns old.now }
+    requires key { IfSome changes.now.key IsGoodKey }
+    ensures { OnOk result (out.new ≡ out.old ++ change_marks clef old.now changes.now) }
+{
+    let first = behind_clef(changes.clef);
+    let count = count_if(old, &changes.key) as u32;
+    put_clef_if(out, changes.clef)?;
+    put_key_if(out, clef, first + ENTRY_GAP, old, &changes.key)?;
+    put_meter_if(alloc, out, first + ENTRY_STEP * count, changes.meter)
+}

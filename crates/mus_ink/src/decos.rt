@@ -1,0 +1,125 @@
+ghost use Rattle.std.specs.Prelude.{◌≡◌, ◌++◌, OnOk};
+ghost use Rattle.mus_ink.specs.Decos.{with_stem, top_of, first_deco, next_deco, deco_mark, behind_deco, deco_marks, body_marks, note_marks};
+ghost use Rattle.mus_ink.specs.Stems.{with_end};
+
+use crate::distances::{DECO_GAP, DECO_LINE, DECO_STEP, TOP_LINE};
+use crate::drawing::{cut, put_glyph};
+use crate::kinds::deco_glyph;
+use crate::notes::{head_dy, highest_dy, put_heads_of};
+use crate::rests::put_rest;
+use crate::stems::put_stem_of;
+use mus_laid::Drawn;
+use mus_score::Event;
+use mus_stems::StemPlan;
+use mus_units::{Clef, Deco, Glyph, Head, Memory, Row};
+
+fn with_stem(has: bool, to: i32, top: i32) -> i32
+    ensures { result ≡ with_stem has to top }
+{
+    if has { top.max(to) } else { top }
+}
+
+/// The top of an event whose stem ends at `to`: the greater of its highest head's dy and that end
+/// where it has a stem; 2000 for a rest.
+pub fn top_of(clef: Clef, heads: &[Head], plan: &StemPlan, to: i32) -> i32
+    ensures { result ≡ top_of clef heads.now (with_end plan.now to) }
+{
+    match heads {
+        [] => TOP_LINE,
+        [head, more @ ..] => with_stem(plan.has, to, highest_dy(clef, head_dy(clef, *head), more)),
+    }
+}
+
+/// The dy of the first decoration of an event.
+#[tactic(auto, unfolding(crate::specs::Decos::first_deco))]
+fn first_deco(top: i32) -> i32
+    ensures { result ≡ first_deco top }
+{
+    let above = i64::from(top) + DECO_GAP;
+    cut(above.max(DECO_LINE))
+}
+
+/// The dy of the decoration above another.
+#[tactic(auto, unfolding(crate::specs::Decos::next_deco))]
+fn next_deco(dy: i32) -> i32
+    ensures { result ≡ next_deco dy }
+{
+    cut(i64::from(dy) + DECO_STEP)
+}
+
+fn put_deco(out: &mut Row<Drawn>, dy: i32, glyph: Option<Glyph>) -> Result<(), Memory>
+    ensures { OnOk result (out.new ≡ out.old ++ deco_mark dy glyph) }
+{
+    match glyph {
+        None => Ok(()),
+        Some(glyph) => put_glyph(out, glyph, 0, dy),
+    }
+}
+
+fn behind_deco(dy: i32, glyph: Option<Glyph>) -> i32
+    ensures { result ≡ behind_deco dy glyph }
+{
+    match glyph {
+        None => dy,
+        Some(_) => next_deco(dy),
+    }
+}
+
+/// Draws the decorations that have a glyph, the first at `first`.
+fn put_decos(out: &mut Row<Drawn>, first: i32, decos: &[Deco]) -> Result<(), Memory>
+    ensures { OnOk result (out.new ≡ out.old ++ deco_marks first decos.now) }
+{
+    let mut dy = first;
+    for deco in decos {
+        let glyph = deco_glyph(deco);
+        put_deco(out, dy, glyph)?;
+        dy = behind_deco(dy, glyph);
+    }
+    Ok(())
+}
+
+/// Draws a rest, or heads with their stem.
+#[tactic(auto, unfolding(crate::specs::Notes::heads_marks))]
+fn put_body(
+    out: &mut Row<Drawn>,
+    clef: Clef,
+    raise: i32,
+    event: &Event,
+    plan: &StemPlan,
+    to: i32,
+    before: u8,
+    after: u8,
+) -> Result<(), Memory>
+    ensures { OnOk result (out.new ≡ out.old ++ body_marks clef raise event.now.heads event.now (with_end plan.now to) before after) }
+{
+    match event.heads.as_slice() {
+        [] => put_rest(out, raise, event.look, event.value, plan.flags),
+        heads => {
+            put_heads_of(out, clef, event.value.base, heads, plan)?;
+            put_stem_of(out, plan, to, before, after)
+        }
+    }
+}
+
+/// Draws an event in `clef`: signs, ledger lines, heads, dots, a stem that ends at `to`, flags or
+/// stubs, and the decorations that have a glyph; or a rest, `raise` higher than alone on its staff.
+/// Its syllables and texts are drawn later.
+///
+/// `before` and `after` are the levels of the events beside it in its beam, 0 where there is none.
+#[tactic(auto, unfolding(crate::specs::Decos::note_marks))]
+pub fn put_note(
+    out: &mut Row<Drawn>,
+    clef: Clef,
+    raise: i32,
+    event: &Event,
+    plan: &StemPlan,
+    to: i32,
+    before: u8,
+    after: u8,
+) -> Result<(), Memory>
+    ensures { OnOk result (out.new ≡ out.old ++ note_marks clef raise event.now (with_end plan.now to) before after) }
+{
+    let top = top_of(clef, event.heads.as_slice(), plan, to);
+    put_body(out, clef, raise, event, plan, to, before, after)?;
+    put_decos(out, first_deco(top), event.decos.as_slice())
+}

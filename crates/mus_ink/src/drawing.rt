@@ -1,0 +1,98 @@
+ghost use Rattle.std.specs.Prelude.{◌≡◌, ◌++◌, ◌∷◌, [], OnOk};
+ghost use Rattle.mus_ink.specs.Drawing.{cut, steps_dy, glyph, loose_glyph, big_text, stem, beam};
+
+use crate::distances::{FURTHEST, STEP};
+use mus_laid::{Bridge, Drawn, Ink, Lane, Span};
+use mus_time::ColumnKey;
+use mus_units::{Glyph, Memory, Row, Size, Text, Way};
+
+/// A height, cut at 2^30 u in size.
+#[tactic(auto, unfolding(crate::specs::Drawing::cut))]
+pub fn cut(dy: i64) -> i32
+    ensures { result ≡ cut dy }
+{
+    dy.min(FURTHEST).max(-FURTHEST) as i32
+}
+
+/// The dy of a height in steps.
+#[tactic(auto, unfolding(crate::specs::Drawing::steps_dy))]
+pub fn steps_dy(steps: i32) -> i32
+    ensures { result ≡ steps_dy steps }
+{
+    cut(STEP * i64::from(steps))
+}
+
+/// Draws a glyph in the lane of glyphs.
+pub fn put_glyph(out: &mut Row<Drawn>, sort: Glyph, dx: i32, dy: i32) -> Result<(), Memory>
+    ensures { OnOk result (out.new ≡ out.old ++ glyph sort dx dy ∷ []) }
+{
+    let ink = Ink::Glyph {
+        glyph: sort,
+        dx,
+        dy,
+    };
+    out.push(Drawn {
+        ink,
+        lane: Lane::Main,
+    })
+}
+
+/// Draws a glyph in no lane.
+pub fn put_loose_glyph(out: &mut Row<Drawn>, sort: Glyph, dx: i32, dy: i32) -> Result<(), Memory>
+    ensures { OnOk result (out.new ≡ out.old ++ loose_glyph sort dx dy ∷ []) }
+{
+    let ink = Ink::Glyph {
+        glyph: sort,
+        dx,
+        dy,
+    };
+    out.push(Drawn {
+        ink,
+        lane: Lane::Loose,
+    })
+}
+
+/// Draws a text of big characters, as meters have them.
+pub fn put_big_text(out: &mut Row<Drawn>, dx: i32, dy: i32, text: Text) -> Result<(), Memory>
+    ensures { OnOk result (out.new ≡ out.old ++ big_text dx dy text ∷ []) }
+{
+    let ink = Ink::Words {
+        size: Size::Big,
+        dx,
+        dy,
+        text,
+    };
+    out.push(Drawn {
+        ink,
+        lane: Lane::Main,
+    })
+}
+
+/// Draws a stem.
+pub fn put_stem(out: &mut Row<Drawn>, dx: i32, from: i32, to: i32) -> Result<(), Memory>
+    ensures { OnOk result (out.new ≡ out.old ++ stem dx from to ∷ []) }
+{
+    let ink = Ink::Stem { dx, from, to };
+    out.push(Drawn {
+        ink,
+        lane: Lane::Loose,
+    })
+}
+
+/// Draws a beam.
+pub fn put_beam(
+    out: &mut Row<Bridge>,
+    way: Way,
+    first: ColumnKey,
+    last: ColumnKey,
+    from: i32,
+    to: i32,
+) -> Result<(), Memory>
+    ensures { OnOk result (out.new ≡ out.old ++ beam way first last from to ∷ []) }
+{
+    out.push(Bridge {
+        first,
+        last,
+        span: Span::Beam { way, from, to },
+    })
+}

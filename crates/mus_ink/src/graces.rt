@@ -1,0 +1,192 @@
+ghost use Rattle.std.specs.Prelude.{◌≡◌, ◌≤◌, ◌++◌, length, map, OnOk};
+ghost use Rattle.mus_stems.specs.Heads.{AllNear, stand_of};
+ghost use Rattle.mus_stems.specs.Signs.{signs_from};
+ghost use Rattle.mus_stems.specs.Ends.{low_of, high_of};
+ghost use Rattle.mus_stems.specs.Ledgers.{ledgers_of};
+ghost use Rattle.mus_ink.specs.Distances.{grace_sign_side};
+ghost use Rattle.mus_ink.specs.Drawing.{back};
+ghost use Rattle.mus_ink.specs.Notes.{sign_marks, ledger_marks};
+ghost use Rattle.mus_ink.specs.Graces.{above_head, own_end, greatest_end, group_end, group_of, grace_heads, stem_from, at_end, grace_body, grace_marks, beam_edge, grace_beam};
+
+use crate::distances::{BEAM_THICKNESS, GRACE_SIGN_SIDE, GRACE_STEM_LENGTH, GRACE_STEM_SIDE};
+use crate::drawing::{cut, put_beam, put_glyph, put_stem};
+use crate::notes::{head_dy, highest_dy, lowest_dy, put_ledgers, put_signs};
+use mus_laid::{Bridge, Drawn};
+use mus_score::Event;
+use mus_stems::{Stand, highest_head, ledgers_for, lowest_head, signs_for, stands};
+use mus_time::ColumnKey;
+use mus_units::{Clef, Glyph, Head, Memory, Row, Way};
+use std::alloc::Global;
+
+/// What the graces before an event share: the dy at which their stems end, whether there is just
+/// one, and whether their first has a slash.
+#[derive(Clone, Copy, PartialEq, Eq)]
+pub struct Group {
+    pub end: i32,
+    pub alone: bool,
+    pub slash: bool,
+}
+
+#[tactic(auto, unfolding(crate::specs::Graces::above_head))]
+fn above_head(dy: i32) -> i32
+    ensures { result ≡ above_head dy }
+{
+    cut(i64::from(dy) + GRACE_STEM_LENGTH)
+}
+
+/// The dy at which the stem of a grace would end alone.
+fn own_end(clef: Clef, heads: &[Head]) -> i32
+    ensures { result ≡ own_end clef heads.now }
+{
+    match heads {
+        [] => 0,
+        [head, more @ ..] => above_head(highest_dy(clef, head_dy(clef, *head), more)),
+    }
+}
+
+fn greatest_end(clef: Clef, first: i32, graces: &[Event]) -> i32
+    ensures { result ≡ greatest_end clef first graces.now }
+{
+    let mut end = first;
+    for grace in graces {
+        end = end.max(own_end(clef, grace.heads.as_slice()));
+    }
+    end
+}
+
+fn group_end(clef: Clef, graces: &[Event]) -> i32
+    ensures { result ≡ group_end clef graces.now }
+{
+    match graces {
+        [] => 0,
+        [grace, more @ ..] => greatest_end(clef, own_end(clef, grace.heads.as_slice()), more),
+    }
+}
+
+/// What the graces before an event share, in the event's clef.
+#[tactic(auto, unfolding(crate::specs::Graces::group_of))]
+pub fn group_of(clef: Clef, graces: &[Event], slash: bool) -> Group
+    ensures { result ≡ group_of clef graces.now slash }
+{
+    Group {
+        end: group_end(clef, graces),
+        alone: graces.len() == 1,
+        slash,
+    }
+}
+
+fn put_grace_heads(out: &mut Row<Drawn>, clef: Clef, heads: &[Head]) -> Result<(), Memory>
+    ensures { OnOk result (out.new ≡ out.old ++ grace_heads clef heads.now) }
+{
+    for head in heads {
+        put_glyph(out, Glyph::Gh, 0, head_dy(clef, *head))?;
+    }
+    Ok(())
+}
+
+/// The dy at which the stem of a grace begins.
+fn stem_from(clef: Clef, heads: &[Head]) -> i32
+    ensures { result ≡ stem_from clef heads.now }
+{
+    match heads {
+        [] => 0,
+        [head, more @ ..] => lowest_dy(clef, head_dy(clef, *head), more),
+    }
+}
+
+fn put_at_end(out: &mut Row<Drawn>, yes: bool, glyph: Glyph, end: i32) -> Result<(), Memory>
+    ensures { OnOk result (out.new ≡ out.old ++ at_end yes glyph end) }
+{
+    if yes {
+        put_glyph(out, glyph, GRACE_STEM_SIDE, end)?;
+    }
+    Ok(())
+}
+
+fn put_grace_signs(
+    alloc: Global,
+    out: &mut Row<Drawn>,
+    clef: Clef,
+    heads: &[Head],
+    stands: &[Stand],
+) -> Result<(), Memory>
+    requires near { AllNear stands.now }
+    requires few { length stands.now ≤ 50000 }
+    ensures { OnOk result (out.new ≡ out.old ++ sign_marks clef heads.now (signs_from (back grace_sign_side) stands.now)) }
+{
+    let signs = signs_for(alloc, -GRACE_SIGN_SIDE, stands)?;
+    put_signs(out, clef, heads, signs.as_slice())
+}
+
+fn put_grace_ledgers(alloc: Global, out: &mut Row<Drawn>, stands: &[Stand]) -> Result<(), Memory>
+    requires { AllNear stands.now }
+    ensures { OnOk result (out.new ≡ out.old ++ ledger_marks (ledgers_of (low_of stands.now) (high_of stands.now))) }
+{
+    let ledgers = ledgers_for(alloc, lowest_head(stands), highest_head(stands))?;
+    put_ledgers(out, ledgers.as_slice())
+}
+
+/// Draws the signs, ledger lines and heads of a grace.
+#[tactic(auto, unfolding(crate::specs::Graces::grace_body))]
+fn put_grace_body(
+    alloc: Global,
+    out: &mut Row<Drawn>,
+    clef: Clef,
+    heads: &[Head],
+) -> Result<(), Memory>
+    requires near { AllNear (map (stand_of clef) heads.now) }
+    requires few { length heads.now ≤ 50000 }
+    ensures { OnOk result (out.new ≡ out.old ++ grace_body clef heads.now) }
+{
+    let stands = stands(alloc, clef, heads)?;
+    put_grace_signs(alloc, out, clef, heads, stands.as_slice())?;
+    put_grace_ledgers(alloc, out, stands.as_slice())?;
+    put_grace_heads(out, clef, heads)
+}
+
+/// Draws a grace note or chord of a group: signs, ledger lines, heads, a stem, the flag of a grace
+/// alone, and the slash at the first.
+#[tactic(auto, unfolding(crate::specs::Graces::grace_marks))]
+pub fn put_grace(
+    alloc: Global,
+    out: &mut Row<Drawn>,
+    clef: Clef,
+    group: Group,
+    first: bool,
+    grace: &Event,
+) -> Result<(), Memory>
+    requires near { AllNear (map (stand_of clef) grace.now.heads) }
+    requires few { length grace.now.heads ≤ 50000 }
+    ensures { OnOk result (out.new ≡ out.old ++ grace_marks clef group first grace.now) }
+{
+    let heads = grace.heads.as_slice();
+    put_grace_body(alloc, out, clef, heads)?;
+    put_stem(out, GRACE_STEM_SIDE, stem_from(clef, heads), group.end)?;
+    put_at_end(out, group.alone, Glyph::Gf, group.end)?;
+    put_at_end(out, first && group.slash, Glyph::Gs, group.end)
+}
+
+#[tactic(auto, unfolding(crate::specs::Graces::beam_edge))]
+fn beam_edge(end: i32) -> i32
+    ensures { result ≡ beam_edge end }
+{
+    cut(i64::from(end) - BEAM_THICKNESS)
+}
+
+/// Draws the beam of a group of two graces or more, from the column of the first to that of the last;
+/// nothing for a grace alone.
+#[tactic(auto, unfolding(crate::specs::Graces::grace_beam))]
+pub fn put_grace_beam(
+    out: &mut Row<Bridge>,
+    first: ColumnKey,
+    last: ColumnKey,
+    group: Group,
+) -> Result<(), Memory>
+    ensures { OnOk result (out.new ≡ out.old ++ grace_beam first last group) }
+{
+    if group.alone {
+        return Ok(());
+    }
+    let edge = beam_edge(group.end);
+    put_beam(out, Way::Grace, first, last, edge, edge)
+}

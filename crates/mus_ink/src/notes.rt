@@ -1,0 +1,158 @@
+ghost use Rattle.std.specs.Prelude.{◌≡◌, ◌++◌, ◌∷◌, [], OnOk};
+ghost use Rattle.mus_units.specs.Pitch.{height_of};
+ghost use Rattle.mus_ink.specs.Drawing.{cut, glyph};
+ghost use Rattle.mus_ink.specs.Notes.{dy_of, highest_dy, lowest_dy, sign_mark, sign_marks, ledger_marks, note_heads, dot_marks, heads_marks};
+
+use crate::drawing::{cut, put_glyph, steps_dy};
+use crate::kinds::{head_glyph, sign_glyph};
+use mus_laid::Drawn;
+use mus_stems::{Spot, StemPlan};
+use mus_units::{Alter, Base, Clef, Glyph, Head, Memory, Row, height};
+
+/// The height of a head in a clef, in steps.
+fn steps(clef: Clef, head: Head) -> i32
+    ensures { result ≡ cut (height_of head.pitch clef) }
+{
+    cut(height(head.pitch, clef))
+}
+
+/// The dy of a head, cut at 2^30 in size.
+pub fn head_dy(clef: Clef, head: Head) -> i32
+    ensures { result ≡ dy_of clef head }
+{
+    steps_dy(steps(clef, head))
+}
+
+/// The greatest of a dy and those of heads.
+pub fn highest_dy(clef: Clef, first: i32, heads: &[Head]) -> i32
+    ensures { result ≡ highest_dy clef first heads.now }
+{
+    let mut high = first;
+    for head in heads {
+        high = high.max(head_dy(clef, *head));
+    }
+    high
+}
+
+/// The least of a dy and those of heads.
+pub fn lowest_dy(clef: Clef, first: i32, heads: &[Head]) -> i32
+    ensures { result ≡ lowest_dy clef first heads.now }
+{
+    let mut low = first;
+    for head in heads {
+        low = low.min(head_dy(clef, *head));
+    }
+    low
+}
+
+/// Draws the sign before a head, if there is one.
+fn put_sign(
+    out: &mut Row<Drawn>,
+    dy: i32,
+    sign: Option<Alter>,
+    dx: Option<i32>,
+) -> Result<(), Memory>
+    ensures { OnOk result (out.new ≡ out.old ++ sign_mark dy sign dx) }
+{
+    match (sign, dx) {
+        (Some(alter), Some(dx)) => put_glyph(out, sign_glyph(alter), dx, dy),
+        _ => Ok(()),
+    }
+}
+
+fn put_sign_of(out: &mut Row<Drawn>, clef: Clef, head: Head, dx: Option<i32>) -> Result<(), Memory>
+    ensures { OnOk result (out.new ≡ out.old ++ sign_mark (dy_of clef head) head.sign dx) }
+{
+    put_sign(out, head_dy(clef, head), head.sign, dx)
+}
+
+/// Draws the signs before heads, in the order of the heads; `places` has the dx of each.
+pub fn put_signs(
+    out: &mut Row<Drawn>,
+    clef: Clef,
+    heads: &[Head],
+    places: &[Option<i32>],
+) -> Result<(), Memory>
+    ensures { OnOk result (out.new ≡ out.old ++ sign_marks clef heads.now places.now) }
+{
+    let (mut rest, mut places) = (heads, places);
+    while let Some((head, more)) = rest.split_first() {
+        let Some((dx, others)) = places.split_first() else {
+            return Ok(());
+        };
+        put_sign_of(out, clef, *head, *dx)?;
+        rest = more;
+        places = others;
+    }
+    Ok(())
+}
+
+/// Draws ledger lines.
+pub fn put_ledgers(out: &mut Row<Drawn>, ledgers: &[i32]) -> Result<(), Memory>
+    ensures { OnOk result (out.new ≡ out.old ++ ledger_marks ledgers.now) }
+{
+    for dy in ledgers {
+        put_glyph(out, Glyph::Lg, 0, *dy)?;
+    }
+    Ok(())
+}
+
+fn put_one_head(
+    out: &mut Row<Drawn>,
+    clef: Clef,
+    sort: Glyph,
+    head: Head,
+    dx: i32,
+) -> Result<(), Memory>
+    ensures { OnOk result (out.new ≡ out.old ++ glyph sort dx (dy_of clef head) ∷ []) }
+{
+    put_glyph(out, sort, dx, head_dy(clef, head))
+}
+
+/// Draws heads, each with its shift.
+fn put_heads(
+    out: &mut Row<Drawn>,
+    clef: Clef,
+    sort: Glyph,
+    heads: &[Head],
+    shifts: &[i32],
+) -> Result<(), Memory>
+    ensures { OnOk result (out.new ≡ out.old ++ note_heads clef sort heads.now shifts.now) }
+{
+    let (mut rest, mut shifts) = (heads, shifts);
+    while let Some((head, more)) = rest.split_first() {
+        let Some((dx, others)) = shifts.split_first() else {
+            return Ok(());
+        };
+        put_one_head(out, clef, sort, *head, *dx)?;
+        rest = more;
+        shifts = others;
+    }
+    Ok(())
+}
+
+fn put_dots(out: &mut Row<Drawn>, dots: &[Spot]) -> Result<(), Memory>
+    ensures { OnOk result (out.new ≡ out.old ++ dot_marks dots.now) }
+{
+    for dot in dots {
+        put_glyph(out, Glyph::Dt, dot.dx, dot.dy)?;
+    }
+    Ok(())
+}
+
+/// Draws the heads of an event: signs, ledger lines, heads and dots.
+#[tactic(auto, unfolding(crate::specs::Notes::heads_marks))]
+pub fn put_heads_of(
+    out: &mut Row<Drawn>,
+    clef: Clef,
+    base: Base,
+    heads: &[Head],
+    plan: &StemPlan,
+) -> Result<(), Memory>
+    ensures { OnOk result (out.new ≡ out.old ++ heads_marks clef base heads.now plan.now) }
+{
+    put_signs(out, clef, heads, plan.signs.as_slice())?;
+    put_ledgers(out, plan.ledgers.as_slice())?;
+    put_heads(out, clef, head_glyph(base), heads, plan.shifts.as_slice())?;
+    put_dots(out, plan.dots.as_slice())
+}

@@ -1,0 +1,103 @@
+ghost use Rattle.std.specs.Prelude.{◌≡◌, ◌+◌, ◌*◌, ◌++◌, ◌∷◌, [], pos, OnOk};
+ghost use Rattle.mus_units.specs.declared.glyph.Glyph.TheVariants.{Dt};
+ghost use Rattle.mus_ink.specs.Distances.{dot_side, dot_step, rest_dot_line};
+ghost use Rattle.mus_ink.specs.Drawing.{glyph};
+ghost use Rattle.mus_ink.specs.Rests.{raised, rest_dy, short_dy, short_rests, rest_glyph, rest_glyphs, rest_dots, rest_marks};
+
+use crate::distances::{DOT_SIDE, DOT_STEP, REST_DOT_LINE, REST_STEP};
+use crate::drawing::{cut, put_glyph, steps_dy};
+use crate::kinds::{RestRow, rest_row};
+use mus_laid::Drawn;
+use mus_score::Look;
+use mus_units::{Base, Glyph, Memory, Row, Value};
+
+/// A height of a rest that is raised.
+#[tactic(auto, unfolding(crate::specs::Rests::raised))]
+fn raised(raise: i32, dy: i32) -> i32
+    ensures { result ≡ raised raise dy }
+{
+    cut(i64::from(dy) + i64::from(raise))
+}
+
+fn rest_dy(raise: i32, row: RestRow) -> i32
+    ensures { result ≡ rest_dy raise row }
+{
+    raised(raise, steps_dy(row.line))
+}
+
+/// The dy of a part of a short rest by its number.
+#[tactic(auto, unfolding(crate::specs::Rests::short_dy))]
+fn short_dy(top: i32, k: u8) -> i32
+    ensures { result ≡ short_dy top k }
+{
+    cut(i64::from(top) - REST_STEP * i64::from(k))
+}
+
+fn put_short_rest(out: &mut Row<Drawn>, sort: Glyph, top: i32, k: u8) -> Result<(), Memory>
+    ensures { OnOk result (out.new ≡ out.old ++ glyph sort (pos 0) (short_dy top k) ∷ []) }
+{
+    put_glyph(out, sort, 0, short_dy(top, k))
+}
+
+/// Draws a rest shorter than a quarter, a part for each flag.
+fn put_short_rests(out: &mut Row<Drawn>, sort: Glyph, top: i32, flags: u8) -> Result<(), Memory>
+    ensures { OnOk result (out.new ≡ out.old ++ short_rests sort top 0 flags) }
+{
+    for k in 0..flags {
+        put_short_rest(out, sort, top, k)?;
+    }
+    Ok(())
+}
+
+fn put_long_rest(out: &mut Row<Drawn>, raise: i32, row: RestRow) -> Result<(), Memory>
+    ensures { OnOk result (out.new ≡ out.old ++ rest_glyph raise row ∷ []) }
+{
+    put_glyph(out, row.glyph, 0, rest_dy(raise, row))
+}
+
+fn put_rest_glyphs(out: &mut Row<Drawn>, raise: i32, base: Base, flags: u8) -> Result<(), Memory>
+    ensures { OnOk result (out.new ≡ out.old ++ rest_glyphs raise base flags) }
+{
+    let row = rest_row(base);
+    match base {
+        Base::Breve | Base::Whole | Base::Half | Base::Quarter => put_long_rest(out, raise, row),
+        _ => put_short_rests(out, row.glyph, rest_dy(raise, row), flags),
+    }
+}
+
+fn put_rest_dot(out: &mut Row<Drawn>, raise: i32, k: u8) -> Result<(), Memory>
+    ensures { OnOk result (out.new ≡ out.old ++ glyph Dt (pos (dot_side + dot_step * k)) (raised raise (pos rest_dot_line)) ∷ []) }
+{
+    let dx = DOT_SIDE + DOT_STEP * i32::from(k);
+    put_glyph(out, Glyph::Dt, dx, raised(raise, REST_DOT_LINE))
+}
+
+fn put_rest_dots(out: &mut Row<Drawn>, raise: i32, dots: u8) -> Result<(), Memory>
+    ensures { OnOk result (out.new ≡ out.old ++ rest_dots raise 0 dots) }
+{
+    for k in 0..dots {
+        put_rest_dot(out, raise, k)?;
+    }
+    Ok(())
+}
+
+/// Draws a rest, `raise` higher than alone on its staff, with as many parts as `flags` where it is
+/// shorter than a quarter.
+pub fn put_rest(
+    out: &mut Row<Drawn>,
+    raise: i32,
+    look: Look,
+    value: Value,
+    flags: u8,
+) -> Result<(), Memory>
+    ensures { OnOk result (out.new ≡ out.old ++ rest_marks raise look value.base value.dots flags) }
+{
+    match look {
+        Look::Unseen => put_glyph(out, Glyph::Nn, 0, raised(raise, 0)),
+        Look::Whole => put_long_rest(out, raise, rest_row(Base::Whole)),
+        Look::Seen => {
+            put_rest_glyphs(out, raise, value.base, flags)?;
+            put_rest_dots(out, raise, value.dots)
+        }
+    }
+}

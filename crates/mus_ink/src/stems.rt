@@ -1,0 +1,124 @@
+ghost use Rattle.std.specs.Prelude.{◌≡◌, ◌-◌, ◌++◌, ◌∷◌, [], OnOk};
+ghost use Rattle.mus_ink.specs.Drawing.{glyph, loose_glyph};
+ghost use Rattle.mus_ink.specs.Kinds.{flag_glyph, stub_glyph};
+ghost use Rattle.mus_ink.specs.Stems.{with_end, stem_dx, stem_if, flag_dy, flag_marks, lower_edge, stub_marks, flags_or_stubs, stem_marks};
+
+use crate::distances::{BEAM_THICKNESS, LEVEL_STEP, STEM_SIDE};
+use crate::drawing::{cut, put_glyph, put_loose_glyph, put_stem};
+use crate::kinds::{flag_glyph, stub_glyph};
+use mus_laid::Drawn;
+use mus_stems::StemPlan;
+use mus_units::{Memory, Row};
+
+/// The dx of a stem: right of the heads where it goes up, left where it goes down.
+fn stem_dx(up: bool) -> i32
+    ensures { result ≡ stem_dx up }
+{
+    if up { STEM_SIDE } else { -STEM_SIDE }
+}
+
+fn put_stem_if(out: &mut Row<Drawn>, has: bool, up: bool, from: i32, to: i32) -> Result<(), Memory>
+    ensures { OnOk result (out.new ≡ out.old ++ stem_if has up from to) }
+{
+    if has {
+        put_stem(out, stem_dx(up), from, to)?;
+    }
+    Ok(())
+}
+
+/// The dy of a flag by its number.
+fn flag_dy(up: bool, to: i32, k: u8) -> i32
+    ensures { result ≡ flag_dy up to k }
+{
+    let step = LEVEL_STEP * i64::from(k);
+    if up {
+        cut(i64::from(to) - step)
+    } else {
+        cut(i64::from(to) + step)
+    }
+}
+
+fn put_flag(out: &mut Row<Drawn>, up: bool, to: i32, k: u8) -> Result<(), Memory>
+    ensures { OnOk result (out.new ≡ out.old ++ glyph (flag_glyph up) (stem_dx up) (flag_dy up to k) ∷ []) }
+{
+    put_glyph(out, flag_glyph(up), stem_dx(up), flag_dy(up, to, k))
+}
+
+/// Draws the flags of an event without a beam.
+fn put_flags(out: &mut Row<Drawn>, up: bool, to: i32, flags: u8) -> Result<(), Memory>
+    ensures { OnOk result (out.new ≡ out.old ++ flag_marks up to 0 flags) }
+{
+    for k in 0..flags {
+        put_flag(out, up, to, k)?;
+    }
+    Ok(())
+}
+
+/// The lower edge of a beam over an event at a level, from 0, where the event's stem ends at `to`.
+pub fn lower_edge(up: bool, to: i32, level: u8) -> i32
+    ensures { result ≡ lower_edge up to level }
+{
+    let step = LEVEL_STEP * i64::from(level);
+    if up {
+        cut(i64::from(to) - (step + BEAM_THICKNESS))
+    } else {
+        cut(i64::from(to) + step)
+    }
+}
+
+fn put_stub(out: &mut Row<Drawn>, first: bool, up: bool, to: i32, k: u8) -> Result<(), Memory>
+    ensures { OnOk result (out.new ≡ out.old ++ loose_glyph (stub_glyph first) (stem_dx up) (lower_edge up to k) ∷ []) }
+{
+    put_loose_glyph(out, stub_glyph(first), stem_dx(up), lower_edge(up, to, k))
+}
+
+/// Draws the stubs of an event in a beam, from a level on.
+fn put_stubs(
+    out: &mut Row<Drawn>,
+    first: bool,
+    up: bool,
+    to: i32,
+    level: u8,
+    flags: u8,
+) -> Result<(), Memory>
+    ensures { OnOk result (out.new ≡ out.old ++ stub_marks first up to level (flags - level)) }
+{
+    for k in level..flags {
+        put_stub(out, first, up, to, k)?;
+    }
+    Ok(())
+}
+
+#[tactic(auto, unfolding(crate::specs::Stems::flags_or_stubs))]
+fn put_flags_or_stubs(
+    out: &mut Row<Drawn>,
+    plan: &StemPlan,
+    to: i32,
+    before: u8,
+    after: u8,
+) -> Result<(), Memory>
+    ensures { OnOk result (out.new ≡ out.old ++ flags_or_stubs (with_end plan.now to) before after) }
+{
+    if before == 0 && after == 0 {
+        put_flags(out, plan.up, to, plan.flags)
+    } else {
+        let level = before.max(after);
+        put_stubs(out, before == 0, plan.up, to, level, plan.flags)
+    }
+}
+
+/// Draws the stem of an event, which ends at `to`, and its flags or its stubs. `before` and `after`
+/// are the levels of the events beside it in its beam, 0 where there is none.
+#[tactic(auto, unfolding(crate::specs::Stems::stem_marks))]
+pub fn put_stem_of(
+    out: &mut Row<Drawn>,
+    plan: &StemPlan,
+    to: i32,
+    before: u8,
+    after: u8,
+) -> Result<(), Memory>
+    ensures { OnOk result (out.new ≡ out.old ++ stem_marks (with_end plan.now to) before after) }
+{
+    put_stem_if(out, plan.has, plan.up, plan.from, to)?;
+    put_flags_or_stubs(out, plan, to, before, after)
+}

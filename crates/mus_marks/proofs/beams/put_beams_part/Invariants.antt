@@ -1,9 +1,0 @@
-use Rattle.std.proofs.Common.{◌≡◌, ◌+◌, ◌++◌, drop}
-use Rattle.mus_marks.specs.Staff.{beams_part}
-use Rattle.mus_marks.proofs.beams.put_beams_part.Given as goal
-
-abbrev pub invariant-loop-d : goal.invariant-loop-d
-invariant-loop-d l = record {
-  marks : l.out ++ beams_part l.keys l.measure (drop l.d-index l.measures) ≡ l.fn.out ++ beams_part l.keys l.a l.measures;
-  measure : l.measure ≡ l.a + l.d-index;
-}

@@ -1,6 +1,0 @@
-use Rattle.std.proofs.Common.{◌≡◌, ◌++◌, drop}
-use Rattle.mus_parts.specs.Decos.{deco_marks}
-use Rattle.mus_parts.proofs.decos.put_decos.Given as goal
-
-abbrev pub invariant-loop-deco : goal.invariant-loop-deco
-invariant-loop-deco l = l.out ++ deco_marks l.rank l.dy (drop l.deco-index l.decos) ≡ l.fn.out ++ deco_marks l.rank l.first l.decos

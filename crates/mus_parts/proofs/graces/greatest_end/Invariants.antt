@@ -1,6 +1,0 @@
-use Rattle.std.proofs.Common.{◌≡◌, drop}
-use Rattle.mus_parts.specs.Graces.{greatest_end}
-use Rattle.mus_parts.proofs.graces.greatest_end.Given as goal
-
-abbrev pub invariant-loop-grace : goal.invariant-loop-grace
-invariant-loop-grace l = greatest_end l.clef l.end (drop l.grace-index l.graces) ≡ greatest_end l.clef l.first l.graces

@@ -1,6 +1,0 @@
-use Rattle.std.proofs.Common.{◌≡◌, ◌++◌, drop}
-use Rattle.mus_parts.specs.Graces.{grace_heads}
-use Rattle.mus_parts.proofs.graces.put_grace_heads.Given as goal
-
-abbrev pub invariant-loop-head : goal.invariant-loop-head
-invariant-loop-head l = l.out ++ grace_heads l.rank l.clef (drop l.head-index l.heads) ≡ l.fn.out ++ grace_heads l.rank l.clef l.heads

@@ -1,6 +1,0 @@
-use Rattle.std.proofs.Common.{◌≡◌, ◌++◌, drop}
-use Rattle.mus_parts.specs.Notes.{dot_marks}
-use Rattle.mus_parts.proofs.notes.put_dots.Given as goal
-
-abbrev pub invariant-loop-dot : goal.invariant-loop-dot
-invariant-loop-dot l = l.out ++ dot_marks l.rank (drop l.dot-index l.dots) ≡ l.fn.out ++ dot_marks l.rank l.dots

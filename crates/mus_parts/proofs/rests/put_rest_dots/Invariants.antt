@@ -1,6 +1,0 @@
-use Rattle.std.proofs.Common.{◌≡◌, ◌++◌, ◌-◌}
-use Rattle.mus_parts.specs.Rests.{rest_dots}
-use Rattle.mus_parts.proofs.rests.put_rest_dots.Given as goal
-
-abbrev pub invariant-loop-k : goal.invariant-loop-k
-invariant-loop-k l = l.out ++ rest_dots l.rank l.raise l.k (l.dots - l.k) ≡ l.fn.out ++ rest_dots l.rank l.raise 0 l.dots

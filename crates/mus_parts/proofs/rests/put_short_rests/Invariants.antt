@@ -1,6 +1,0 @@
-use Rattle.std.proofs.Common.{◌≡◌, ◌++◌, ◌-◌}
-use Rattle.mus_parts.specs.Rests.{short_rests}
-use Rattle.mus_parts.proofs.rests.put_short_rests.Given as goal
-
-abbrev pub invariant-loop-k : goal.invariant-loop-k
-invariant-loop-k l = l.out ++ short_rests l.rank l.raise l.k (l.flags - l.k) ≡ l.fn.out ++ short_rests l.rank l.raise 0 l.flags

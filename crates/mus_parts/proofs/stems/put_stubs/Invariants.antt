@@ -1,6 +1,0 @@
-use Rattle.std.proofs.Common.{◌≡◌, ◌++◌, ◌-◌}
-use Rattle.mus_parts.specs.Stems.{stub_marks}
-use Rattle.mus_parts.proofs.stems.put_stubs.Given as goal
-
-abbrev pub invariant-loop-k : goal.invariant-loop-k
-invariant-loop-k l = l.out ++ stub_marks l.rank l.first l.up l.to l.k (l.flags - l.k) ≡ l.fn.out ++ stub_marks l.rank l.first l.up l.to l.level (l.flags - l.level)

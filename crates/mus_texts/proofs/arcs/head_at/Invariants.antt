@@ -1,7 +1,0 @@
-use Rattle.std.proofs.Common.{◌≡◌, drop}
-use Rattle.std.specs.List.{find}
-use Rattle.mus_arcs.specs.Arcs.{has_pitch}
-use Rattle.mus_texts.proofs.arcs.head_at.Given as goal
-
-abbrev pub invariant-loop-head : goal.invariant-loop-head
-invariant-loop-head l = find (has_pitch l.pitch) (drop l.head-index l.heads) ≡ find (has_pitch l.pitch) l.heads

@@ -1,0 +1,44 @@
+ghost use Rattle.std.specs.Prelude.{◌≡◌};
+ghost use Rattle.mus_time.specs.Order.{class_number, is_below, rank_of, same_key};
+ghost use Rattle.mus_time.specs.Ranks.{AreRanked, rank_at};
+
+use crate::keys::{Class, ColumnKey};
+
+/// Whether two keys are those of one column.
+#[tactic(auto, unfolding(crate::specs::Order::same_key))]
+pub fn is_same(k: ColumnKey, l: ColumnKey) -> bool
+    ensures { result ≡ same_key k l }
+{
+    k.measure == l.measure && k.tick == l.tick && k.class == l.class && k.place == l.place
+}
+
+/// Whether a key stands before another.
+fn is_below(key: &ColumnKey, other: ColumnKey) -> bool
+    ensures { result ≡ is_below key.now other }
+{
+    *key < other
+}
+
+/// The rank of a column among those of its system: how many of the keys stand before its own.
+pub fn rank_of(keys: &[ColumnKey], key: ColumnKey) -> u32
+    requires { AreRanked keys.now }
+    ensures { result ≡ rank_of keys.now key }
+{
+    keys.partition_point(|k| is_below(k, key)) as u32
+}
+
+/// The rank of a column of a system, by where it stands and the system's keys.
+pub fn rank_at(keys: &[ColumnKey], measure: u32, tick: u64, class: Class, place: u32) -> u32
+    requires { AreRanked keys.now }
+    ensures { result ≡ rank_at keys.now measure tick class place }
+{
+    rank_of(
+        keys,
+        ColumnKey {
+            measure,
+            tick,
+            class,
+            place,
+        },
+    )
+}

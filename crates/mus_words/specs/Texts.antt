@@ -1,0 +1,62 @@
+-- The texts above and below an event, each as it is printed and from the staff outwards.
+use Rattle.std.specs.Prelude.{ℕ, ℤ, pos, ◌+◌, ◌*◌, ◌+ℤ◌, ◌-ℤ◌, Bool, true, false, if◌then◌else◌, List, [], ◌∷◌, ◌++◌, flat_map, Option, Some, None, decimal}
+use Rattle.std.proofs.Math.Bool.{beq}
+use Rattle.mus_units.specs.declared.note.Deco.{Deco}
+use Rattle.mus_units.specs.declared.note.Deco.TheVariants as decos
+use Rattle.mus_score.specs.declared.score.Flat.{Flat}
+use Rattle.mus_score.specs.declared.score.Mention.{Mention}
+use Rattle.mus_laid.specs.declared.laid.Lane.TheVariants as lanes
+use Rattle.mus_laid.specs.declared.drawn.Drawn.{Drawn}
+use Rattle.mus_ink.specs.Distances.{half_character, text_gap, text_step, verse_step}
+use Rattle.mus_ink.specs.Drawing.{back, cut}
+use Rattle.mus_words.specs.declared.texts.TextPlace.{TextPlace}
+use Rattle.mus_words.specs.Words.{words, shown}
+
+abbrev pub shown_ending : Option (List ℕ) → List (List ℕ)
+shown_ending None = []
+shown_ending (Some t) = shown t
+
+-- a tuplet shows how many notes it has
+abbrev pub shown_number : ℕ → List (List ℕ)
+shown_number p = shown (decimal p)
+
+-- on one side of the staff, below it or above: a fingering stands above, a dynamic mark below, and other
+-- decorations are no text
+abbrev pub shown_deco : Bool → Deco → List (List ℕ)
+shown_deco false (decos.Above t) = shown t
+shown_deco true (decos.Below t) = shown t
+shown_deco _ _ = []
+
+-- a text between quotes says where it stands
+abbrev pub shown_mention : Bool → Mention → List (List ℕ)
+shown_mention below m = if beq m.below below then shown m.text else []
+
+-- above: the ending, the numbers of the tuplets that begin there, the decorations, then what stood between quotes
+unfoldable pub texts_above : Flat → List (List ℕ)
+texts_above f =
+    shown_ending f.event.ending ++ flat_map shown_number f.tuplets ++ flat_map (shown_deco false) f.event.decos ++ flat_map (shown_mention false) f.event.mentions
+
+-- below: the decorations, then what stood between quotes
+unfoldable pub texts_below : Flat → List (List ℕ)
+texts_below f = flat_map (shown_deco true) f.event.decos ++ flat_map (shown_mention true) f.event.mentions
+
+-- texts are over one another, and k of the column are nearer to the staff: above from a gap above the highest mark
+-- on, below from under the verses on
+unfoldable pub above_dy : ℤ → ℕ → ℤ
+above_dy high k = cut ((high +ℤ pos text_gap) +ℤ pos (text_step * k))
+
+unfoldable pub below_dy : ℤ → ℕ → ℕ → ℤ
+below_dy low verses k = cut (low -ℤ pos (verse_step * verses + text_step * (1 + k)))
+
+abbrev pub above_from : ℤ → ℕ → List (List ℕ) → List Drawn
+above_from high k [] = []
+above_from high k (t ∷ ts) = words lanes.Above (back half_character) (above_dy high k) t ∷ above_from high (k + 1) ts
+
+abbrev pub below_from : ℤ → ℕ → ℕ → List (List ℕ) → List Drawn
+below_from low verses k [] = []
+below_from low verses k (t ∷ ts) = words lanes.Below (back half_character) (below_dy low verses k) t ∷ below_from low verses (k + 1) ts
+
+-- the texts of an event, behind those that its column has already
+unfoldable pub text_marks : TextPlace → Flat → List Drawn
+text_marks place f =
+    above_from place.high place.above (texts_above f) ++ below_from place.low place.verses place.below (texts_below f)

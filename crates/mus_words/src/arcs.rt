@@ -1,0 +1,218 @@
+ghost use Rattle.std.specs.Prelude.{◌≡◌, ◌++◌, ◌∷◌, [], OnOk};
+ghost use Rattle.std.specs.List.{find, slice_get};
+ghost use Rattle.mus_arcs.specs.Arcs.{has_pitch};
+ghost use Rattle.mus_words.specs.Arcs.{seen, arc_between, piece_dy, piece_mark, slur_dy, bulges_up, tie_bulge, dy_if, beside_head, tied_head, tie_dy, slur_mark, tie_mark, arc_mark};
+
+use mus_arcs::{Arc, Piece};
+use mus_ink::distances::{CUT_ARC_LINE, SLUR_BULGE, SLUR_GAP, TIE_GAP};
+use mus_ink::drawing::cut;
+use mus_ink::notes::head_dy;
+use mus_ink::top_of;
+use mus_laid::{Bridge, Span};
+use mus_stems::StemPlan;
+use mus_time::ColumnKey;
+use mus_units::{Clef, Head, Memory, Pitch, Row};
+
+/// What is known of the event at an end of an arc: its clef, its heads, its stem and the dy at which
+/// that ends.
+#[derive(Clone, Copy)]
+pub struct End<'a> {
+    pub clef: Clef,
+    pub heads: &'a [Head],
+    pub plan: &'a StemPlan,
+    pub to: i32,
+}
+
+fn put_arc_between(
+    out: &mut Row<Bridge>,
+    first: ColumnKey,
+    last: ColumnKey,
+    from: i32,
+    to: i32,
+    bulge: i32,
+) -> Result<(), Memory>
+    ensures { OnOk result (out.new ≡ out.old ++ arc_between first last from to bulge ∷ []) }
+{
+    out.push(Bridge {
+        first,
+        last,
+        span: Span::Arc { from, to, bulge },
+    })
+}
+
+/// The dy of an end of a piece, by whether it and the other end are cut and where both would stand
+/// uncut.
+fn piece_dy(is_cut: bool, is_other_cut: bool, own: i32, other: i32) -> i32
+    ensures { result ≡ piece_dy is_cut is_other_cut own other }
+{
+    match (is_cut, is_other_cut) {
+        (false, _) => own,
+        (true, false) => other,
+        (true, true) => CUT_ARC_LINE,
+    }
+}
+
+/// Draws a piece of an arc, which would go from dy `from` to dy `to` uncut.
+fn put_piece(
+    out: &mut Row<Bridge>,
+    left: ColumnKey,
+    right: ColumnKey,
+    piece: Piece,
+    from: i32,
+    to: i32,
+    bulge: i32,
+) -> Result<(), Memory>
+    ensures { OnOk result (out.new ≡ out.old ++ piece_mark left right piece from to bulge ∷ []) }
+{
+    let left_dy = piece_dy(piece.cut_left, piece.cut_right, from, to);
+    let right_dy = piece_dy(piece.cut_right, piece.cut_left, to, from);
+    put_arc_between(out, left, right, left_dy, right_dy, bulge)
+}
+
+/// The dy of a slur at one of its events.
+#[tactic(auto, unfolding(crate::specs::Arcs::slur_dy))]
+fn slur_dy(end: End<'_>) -> i32
+    ensures { result ≡ slur_dy (seen end.entry) }
+{
+    cut(i64::from(top_of(end.clef, end.heads, end.plan, end.to)) + SLUR_GAP)
+}
+
+#[tactic(auto, unfolding(crate::specs::Arcs::slur_mark))]
+fn put_slur(
+    out: &mut Row<Bridge>,
+    left: ColumnKey,
+    right: ColumnKey,
+    piece: Piece,
+    from: End<'_>,
+    to: End<'_>,
+) -> Result<(), Memory>
+    ensures { OnOk result (out.new ≡ out.old ++ slur_mark left right piece (seen from.entry) (seen to.entry) ∷ []) }
+{
+    put_piece(
+        out,
+        left,
+        right,
+        piece,
+        slur_dy(from),
+        slur_dy(to),
+        SLUR_BULGE,
+    )
+}
+
+/// Whether a tie from an event bulges upwards.
+fn bulges_up(plan: &StemPlan) -> bool
+    ensures { result ≡ bulges_up plan.now }
+{
+    !(plan.has && plan.up)
+}
+
+fn tie_bulge(up: bool) -> i32
+    ensures { result ≡ tie_bulge up }
+{
+    if up { TIE_GAP } else { -TIE_GAP }
+}
+
+fn dy_if(clef: Clef, head: Option<Head>) -> i32
+    ensures { result ≡ dy_if clef head }
+{
+    match head {
+        None => 0,
+        Some(head) => head_dy(clef, head),
+    }
+}
+
+/// The dy of a tie at a head of this dy.
+#[tactic(auto, unfolding(crate::specs::Arcs::beside_head))]
+fn beside_head(up: bool, dy: i32) -> i32
+    ensures { result ≡ beside_head up dy }
+{
+    cut(i64::from(dy) + i64::from(tie_bulge(up)))
+}
+
+fn tie_dy(up: bool, clef: Clef, head: Option<Head>) -> i32
+    ensures { result ≡ tie_dy up clef head }
+{
+    beside_head(up, dy_if(clef, head))
+}
+
+/// Whether a head has this letter and octave.
+fn has_pitch(pitch: Pitch, head: Head) -> bool
+    ensures { result ≡ has_pitch pitch head }
+{
+    head.pitch.letter == pitch.letter && head.pitch.octave == pitch.octave
+}
+
+/// The first head at a letter and octave.
+fn head_at(pitch: Pitch, heads: &[Head]) -> Option<Head>
+    ensures { result ≡ find (has_pitch pitch) heads.now }
+{
+    for head in heads {
+        if has_pitch(pitch, *head) {
+            return Some(*head);
+        }
+    }
+    None
+}
+
+/// The head that a head is tied to.
+fn tied_head(head: Option<Head>, heads: &[Head]) -> Option<Head>
+    ensures { result ≡ tied_head head heads.now }
+{
+    match head {
+        None => None,
+        Some(head) => head_at(head.pitch, heads),
+    }
+}
+
+/// The head of this number, from 0.
+fn numbered_head(heads: &[Head], number: u32) -> Option<Head>
+    ensures { result ≡ slice_get heads.now number }
+{
+    heads.get(number as usize).copied()
+}
+
+#[tactic(auto, unfolding(crate::specs::Arcs::tie_mark))]
+fn put_tie(
+    out: &mut Row<Bridge>,
+    left: ColumnKey,
+    right: ColumnKey,
+    piece: Piece,
+    number: u32,
+    from: End<'_>,
+    to: End<'_>,
+) -> Result<(), Memory>
+    ensures { OnOk result (out.new ≡ out.old ++ tie_mark left right piece number (seen from.entry) (seen to.entry) ∷ []) }
+{
+    let head = numbered_head(from.heads, number);
+    let up = bulges_up(from.plan);
+    let from_dy = tie_dy(up, from.clef, head);
+    let to_dy = tie_dy(up, to.clef, tied_head(head, to.heads));
+    put_piece(out, left, right, piece, from_dy, to_dy, tie_bulge(up))
+}
+
+/// Draws the piece of an arc in a system, from the column of `left` to that of `right`; `from` and
+/// `to` are the arc's first and last event. A slur ends 400 u above the tops of its events and bulges
+/// by 700 u; a tie ends 400 u beside its heads and bulges by 400 u, downwards where the stem of its
+/// first event goes up. An end that the system cuts is as high as the other, and both are at 2750 u
+/// where both are cut. A dy is cut at 2^30 u in size. The only error is want of memory.
+///
+/// A tie ends at the head of its number in its first event, and at the first head of that letter and
+/// octave in its last; a head that isn't there counts as one at 0.
+#[tactic(auto, unfolding(crate::specs::Arcs::arc_mark))]
+pub fn put_arc(
+    out: &mut Row<Bridge>,
+    left: ColumnKey,
+    right: ColumnKey,
+    piece: Piece,
+    arc: &Arc,
+    from: End<'_>,
+    to: End<'_>,
+) -> Result<(), Memory>
+    ensures { OnOk result (out.new ≡ out.old ++ arc_mark left right piece arc.now (seen from.entry) (seen to.entry) ∷ []) }
+{
+    if arc.tie {
+        put_tie(out, left, right, piece, arc.head, from, to)
+    } else {
+        put_slur(out, left, right, piece, from, to)
+    }
+}

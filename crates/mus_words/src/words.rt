@@ -1,0 +1,41 @@
+ghost use Rattle.std.specs.Prelude.{◌≡◌, ◌++◌, ◌∷◌, [], OnOk};
+ghost use Rattle.mus_words.specs.Words.{words, if_any, shown};
+
+use mus_laid::{Drawn, Ink, Lane, printed};
+use mus_units::{Memory, Row, Size, Text};
+use std::alloc::Global;
+
+/// Draws a text of small characters.
+pub(crate) fn put_words(
+    out: &mut Row<Drawn>,
+    lane: Lane,
+    dx: i32,
+    dy: i32,
+    text: Text,
+) -> Result<(), Memory>
+    ensures { OnOk result (out.new ≡ out.old ++ words lane dx dy text ∷ []) }
+{
+    let ink = Ink::Words {
+        size: Size::Small,
+        dx,
+        dy,
+        text,
+    };
+    out.push(Drawn { ink, lane })
+}
+
+fn add_if_any(out: &mut Row<Text>, text: Text) -> Result<(), Memory>
+    ensures { OnOk result (out.new ≡ out.old ++ if_any text) }
+{
+    if text.len() == 0 {
+        return Ok(());
+    }
+    out.push(text)
+}
+
+/// Adds what is printed of a text, if that is anything.
+pub(crate) fn add_shown(alloc: Global, out: &mut Row<Text>, text: &[u8]) -> Result<(), Memory>
+    ensures { OnOk result (out.new ≡ out.old ++ shown text.now) }
+{
+    add_if_any(out, printed(alloc, text)?)
+}
