@@ -16,7 +16,7 @@ use Rattle.lay_columns.specs.declared.column.Column.{Column}
 use Rattle.lay_columns.specs.Column.{cut_reach, length_at, most_reach, reach_in}
 use Rattle.lay_columns.specs.Columns.{columns_from, IsNear, IsSmall, IsUncut, StandsWhereDue}
 use Rattle.lay_columns.specs.Lanes.{gaps_of, lane_count, staff_gaps}
-use Rattle.lay_columns.specs.Naturals.{is_note, natural_for, natural_of, next_tick}
+use Rattle.lay_columns.specs.Naturals.{is_note, is_note_of, natural_for, natural_of, tick_or_end}
 use Rattle.lay_columns.specs.Reaches.{drawn_reach, drawn_row, left_of, reach_over, reaches_of, right_of, staff_reaches, standing, stands_always}
 
 -- ---- small
@@ -65,8 +65,8 @@ natural_near ticks = grind arith
 natural_small : (key : ColumnKey) (behind : List ColumnKey) (lengths : List ℕ) → natural_of key behind lengths ≤ 4000
 natural_small key behind lengths = by (is_note key)
   where
-    by : (b : Bool) → (if b then natural_for (next_tick key.measure (find is_note behind) lengths - key.tick) else 0) ≤ 4000
-    by true = natural_near (next_tick key.measure (find is_note behind) lengths - key.tick)
+    by : (b : Bool) → (if b then natural_for (tick_or_end key.measure (find (is_note_of key.measure) behind) lengths - key.tick) else 0) ≤ 4000
+    by true = natural_near (tick_or_end key.measure (find (is_note_of key.measure) behind) lengths - key.tick)
     by false = omega arith
 
 -- ---- uncut

@@ -13,7 +13,7 @@ use Rattle.mus_laid.specs.declared.laid.StaffMarks.{StaffMarks}
 use Rattle.lay_columns.specs.Columns.{columns_from}
 use Rattle.lay_columns.specs.Joining.{ColumnsJoin, IsBelow, MarksJoin, moved, moved_mark, OfOtherMeasures, StavesJoin}
 use Rattle.lay_columns.specs.Lanes.{lane_count}
-use Rattle.lay_columns.specs.Naturals.{is_note, length_of, natural_for, natural_of, next_tick}
+use Rattle.lay_columns.specs.Naturals.{is_note, is_note_of, natural_for, natural_of, tick_or_end}
 use Rattle.lay_columns.specs.Reaches.{box_at, boxes_at, drawn_reach, is_number, rank_of, reach_over, reaches_of, staff_reaches, standing, stands_always}
 use Rattle.lay_columns.proofs.Rows.{same_range}
 
@@ -50,26 +50,27 @@ reaches_behind always n rank (x ∷ joined) (a ∷ first) (b ∷ second) (v ∷ 
     rw (p, q) refl
 
 -- ---- naturals
-find_more : (keys more : List ColumnKey) (m : ℕ) (lengths : List ℕ) → All (λ l. l.measure ≢ m) more
-    → next_tick m (find is_note (keys ++ more)) lengths ≡ next_tick m (find is_note keys) lengths
-find_more [] [] m lengths h = refl
-find_more [] (key ∷ more) m lengths h = by (is_note key) refl (find_more [] more m lengths (All-tail (λ l. l.measure ≢ m) key more h))
+none_of : (more : List ColumnKey) (m : ℕ) → All (λ l. l.measure ≢ m) more → find (is_note_of m) more ≡ None
+none_of [] m h = refl
+none_of (key ∷ more) m h = by (is_note key) refl (none_of more m (All-tail (λ l. l.measure ≢ m) key more h))
   where
-    by : (b : Bool) → is_note key ≡ b → next_tick m (find is_note more) lengths ≡ length_of lengths m
-        → next_tick m (find is_note (key ∷ more)) lengths ≡ length_of lengths m
-    by true e rest = let ne = All-head (λ l. l.measure ≢ m) key more h in let no : (key.measure == m) ≡ false = grind (arith, ne) in rw (e, no) refl
+    by : (b : Bool) → is_note key ≡ b → find (is_note_of m) more ≡ None → find (is_note_of m) (key ∷ more) ≡ None
+    by true e rest = let ne = All-head (λ l. l.measure ≢ m) key more h in let no : (key.measure == m) ≡ false = grind (arith, ne) in rw (e, no) rest
     by false e rest = rw e rest
-find_more (key ∷ keys) more m lengths h = by (is_note key) refl (find_more keys more m lengths h)
+
+find_more : (keys more : List ColumnKey) (m : ℕ) → All (λ l. l.measure ≢ m) more → find (is_note_of m) (keys ++ more) ≡ find (is_note_of m) keys
+find_more [] more m h = none_of more m h
+find_more (key ∷ keys) more m h = by (is_note_of m key) (find_more keys more m h)
   where
-    by : (b : Bool) → is_note key ≡ b → next_tick m (find is_note (keys ++ more)) lengths ≡ next_tick m (find is_note keys) lengths
-        → next_tick m (find is_note ((key ∷ keys) ++ more)) lengths ≡ next_tick m (find is_note (key ∷ keys)) lengths
-    by true e rest = rw e refl
-    by false e rest = rw e rest
+    by : (b : Bool) → find (is_note_of m) (keys ++ more) ≡ find (is_note_of m) keys
+        → (if b then Some key else find (is_note_of m) (keys ++ more)) ≡ (if b then Some key else find (is_note_of m) keys)
+    by true rest = refl
+    by false rest = rest
 
 natural_more : (key : ColumnKey) (keys more : List ColumnKey) (lengths : List ℕ) → All (λ l. l.measure ≢ key.measure) more
     → natural_of key (keys ++ more) lengths ≡ natural_of key keys lengths
 natural_more key keys more lengths h =
-    ap (λ t. if is_note key then natural_for (t - key.tick) else 0) (find_more keys more key.measure lengths h)
+    ap (λ t. if is_note key then natural_for (tick_or_end key.measure t lengths - key.tick) else 0) (find_more keys more key.measure h)
 
 -- ---- columns
 module _ (joined first second : List StaffMarks) (lengths verses : List ℕ) where

@@ -2,7 +2,6 @@ pub mod Covering
 pub mod Facts
 pub mod Gaps
 pub mod JoinLaws
-pub mod NextNotes
 pub mod Pushed
 pub mod Rows
 pub mod Widening

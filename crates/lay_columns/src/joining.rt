@@ -1,5 +1,4 @@
 ghost use Rattle.lay_columns.specs.Joining.{ColumnsJoin, MarksJoin};
-ghost use Rattle.lay_columns.specs.Naturals.{NextOfMeasure};
 
 /// A law of `columns`: the columns of keys that are those of some measures and then those of
 /// others are the columns of the first and then those of the second, where the marks of each
@@ -12,10 +11,4 @@ pub fn columns_join()
 /// have no box are joined from the first and the second, as `columns_join` asks. Does nothing.
 pub fn marks_join()
     ensures { MarksJoin }
-{}
-
-/// A law of `columns`: behind a key among rising ones, the note column to whose tick a natural
-/// length is counted is the next one of the key's measure. Does nothing.
-pub fn next_of_measure()
-    ensures { NextOfMeasure }
 {}

@@ -12,7 +12,7 @@ pub mod springs;
 pub mod system;
 
 pub use column::Column;
-pub use joining::{columns_join, marks_join, next_of_measure};
+pub use joining::{columns_join, marks_join};
 pub use lanes::gaps_of;
 pub use lay_springs::Reach;
 pub use system::{columns, columns_in};

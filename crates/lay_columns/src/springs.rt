@@ -1,6 +1,6 @@
 ghost use Rattle.std.specs.Prelude.{◌≡◌};
 ghost use Rattle.std.specs.List.{find};
-ghost use Rattle.lay_columns.specs.Naturals.{natural_for, is_note, length_of, next_tick, natural_of};
+ghost use Rattle.lay_columns.specs.Naturals.{natural_for, is_note, is_note_of, length_of, tick_or_end, natural_of};
 
 use mus_time::{Class, ColumnKey};
 use mus_units::WHOLE;
@@ -36,11 +36,17 @@ fn is_note(key: ColumnKey) -> bool
     matches!(key.class, Class::Note)
 }
 
-fn next_note(behind: &[ColumnKey]) -> Option<ColumnKey>
-    ensures { result ≡ find is_note behind.now }
+fn is_note_of(measure: u32, key: ColumnKey) -> bool
+    ensures { result ≡ is_note_of measure key }
+{
+    is_note(key) && key.measure == measure
+}
+
+fn next_note(measure: u32, behind: &[ColumnKey]) -> Option<ColumnKey>
+    ensures { result ≡ find (is_note_of measure) behind.now }
 {
     for key in behind {
-        if is_note(*key) {
+        if is_note_of(measure, *key) {
             return Some(*key);
         }
     }
@@ -56,12 +62,12 @@ fn length_of(lengths: &[u64], measure: u32) -> u64
     }
 }
 
-fn next_tick(measure: u32, next: Option<ColumnKey>, lengths: &[u64]) -> u64
-    ensures { result ≡ next_tick measure next lengths.now }
+fn tick_or_end(measure: u32, next: Option<ColumnKey>, lengths: &[u64]) -> u64
+    ensures { result ≡ tick_or_end measure next lengths.now }
 {
     match next {
-        Some(next) if next.measure == measure => next.tick,
-        _ => length_of(lengths, measure),
+        Some(next) => next.tick,
+        None => length_of(lengths, measure),
     }
 }
 
@@ -71,7 +77,7 @@ pub(crate) fn natural_of(key: ColumnKey, behind: &[ColumnKey], lengths: &[u64]) 
     ensures { result ≡ natural_of key behind.now lengths.now }
 {
     if is_note(key) {
-        let end = next_tick(key.measure, next_note(behind), lengths);
+        let end = tick_or_end(key.measure, next_note(key.measure, behind), lengths);
         natural_for(end.saturating_sub(key.tick))
     } else {
         0

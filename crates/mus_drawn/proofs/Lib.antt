@@ -1,3 +1,4 @@
 pub mod GoodLaws
 pub mod Reaches
+pub mod SoundLaws
 pub mod Walks

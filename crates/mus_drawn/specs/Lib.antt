@@ -1,2 +1,4 @@
 pub mod Drawn
 pub mod Good
+pub mod Hearing
+pub mod Sounds

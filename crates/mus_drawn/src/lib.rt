@@ -4,8 +4,10 @@
 
 pub mod drawing;
 pub mod drawn;
+pub mod sounds;
 pub mod standing;
 
 pub use drawing::draw_voice;
 pub use drawn::{DrawnEvent, DrawnMeasure, DrawnVoice, Opening};
+pub use sounds::{Sound, sounding};
 pub use standing::Standing;

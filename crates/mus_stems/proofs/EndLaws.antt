@@ -1,4 +1,4 @@
--- What `stems_of` gives goes by maximal runs, and its own ends are in range.
+-- The own ends of what `stems_of` gives are in range, and there is a plan for each event.
 use Rattle.std.proofs.Common.{◌≡◌, ℕ, ℤ, pos, negsuc, ◌≤ℤ◌, Bool, true, false, List, [], ◌∷◌, length, suc, ap, ◌∙◌, refl, subst, sym, arith}
 use Rattle.std.proofs.lemmas.Int.{ints, clamps}
 use Rattle.std.specs.List.{AllByRecursion}
@@ -10,15 +10,12 @@ use Rattle.mus_stems.specs.Heads.{AllNear, lowest, highest}
 use Rattle.mus_stems.specs.Stills.{stills, IsGoodStill, AllGood}
 use Rattle.mus_stems.specs.Beams.{is_joined, beams}
 use Rattle.mus_stems.specs.Ends.{upper_end, lower_end, outer_end, own_end, stands_up, run_end}
-use Rattle.mus_stems.specs.Plans.{IsEndNear, plan_of, plans_along, run_plans, first_id, plans_of_runs, GoByBeams, AllEndsNear}
+use Rattle.mus_stems.specs.Plans.{IsEndNear, plan_of, plans_along, run_plans, first_id, plans_of_runs, AllEndsNear}
 use Rattle.mus_stems.proofs.Ranges.{InRange, low_near, high_near}
-use Rattle.mus_stems.proofs.RunLaws.{runs_are_maximal, all_in_runs, all_append, runs_length}
+use Rattle.mus_stems.proofs.RunLaws.{all_in_runs, all_append, runs_length}
 use Rattle.mus_stems.proofs.Taking.{stills_length}
 use Rattle.mus_score.specs.declared.score.Flat.{Flat}
 use Rattle.mus_units.specs.declared.pitch.Clef.{Clef}
-
-pub go_by_beams : (wish : Wish) (es : List Still) (plans : List StemPlan) → plans ≡ plans_of_runs wish (beams es) → GoByBeams wish es plans
-go_by_beams wish es plans e = record { runs = beams es; maximal = runs_are_maximal is_joined es; plans_of = e }
 
 IsEnd : ℤ → Type 0
 IsEnd z = (negsuc 5249 ≤ℤ z) × (z ≤ℤ pos 7250)

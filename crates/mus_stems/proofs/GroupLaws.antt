@@ -16,26 +16,8 @@ use Rattle.mus_stems.specs.Ends.{stands_up, run_end}
 use Rattle.mus_stems.specs.Plans.{plan_of, plans_along, run_plans, plans_of_runs}
 use Rattle.mus_stems.specs.Slope.{anchor_of, anchors, shares_beam}
 use Rattle.mus_stems.specs.Groups.{same_group, IdsRise, BeamsByGroups, SlopesByBeams}
-use Rattle.mus_stems.proofs.RunLaws.{runs_are_maximal, runs_length}
+use Rattle.mus_stems.proofs.RunLaws.{runs_are_maximal, runs_length, runs_of_whole}
 use Rattle.mus_stems.proofs.EndLaws.{run_length}
-
--- what is cut into maximal runs is cut as `runs` does
-
-put_apart : {A : Type 0} (joined : A → A → Bool) (d : A) (rs : List (List A)) → EndsBefore joined d [] rs → put_before joined d rs ≡ (d ∷ []) ∷ rs
-put_apart joined d [] ends = refl
-put_apart joined d ([] ∷ rs) ends = absurd ends
-put_apart joined d ((e ∷ r) ∷ rs) ends = ap (λ b. cond b ((d ∷ e ∷ r) ∷ rs) ((d ∷ []) ∷ (e ∷ r) ∷ rs)) ends
-
-front_run : {A : Type 0} (joined : A → A → Bool) (d : A) (es more : List A) (rs : List (List A)) →
-    JoinedAfter joined d es → EndsBefore joined d es rs → runs joined more ≡ rs → runs joined (d ∷ es ++ more) ≡ (d ∷ es) ∷ rs
-front_run joined d [] more rs all ends h = ap (λ t. put_before joined d t) h ∙ put_apart joined d rs ends
-front_run joined d (e ∷ es) more rs all ends h =
-    ap (λ t. put_before joined d t) (front_run joined e es more rs all.1 ends h) ∙ ap (λ b. cond b ((d ∷ e ∷ es) ∷ rs) ((d ∷ []) ∷ (e ∷ es) ∷ rs)) all.0
-
-runs_of_whole : {A : Type 0} (joined : A → A → Bool) (rs : List (List A)) → AreRuns joined rs → runs joined (flat_map (λ r. r) rs) ≡ rs
-runs_of_whole joined [] are = refl
-runs_of_whole joined ([] ∷ rs) are = absurd are
-runs_of_whole joined ((e ∷ es) ∷ rs) are = front_run joined e es (flat_map (λ r. r) rs) rs are.0 are.1 (runs_of_whole joined rs are.2)
 
 -- ids that rise from event to event, the first of them above one before
 

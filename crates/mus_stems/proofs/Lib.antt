@@ -1,6 +1,10 @@
+pub mod ColumnLaws
 pub mod Counting
+pub mod DisplacedLaws
 pub mod EndLaws
 pub mod GroupLaws
+pub mod OrderLaws
+pub mod PlanLaws
 pub mod Ranges
 pub mod Rows
 pub mod RunLaws

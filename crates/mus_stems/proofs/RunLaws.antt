@@ -1,9 +1,9 @@
 -- The runs of a list begin with the run at its front, and are its maximal runs.
 use Rattle.std.proofs.Common.{◌≡◌, ℕ, zero, suc, ◌+◌, Bool, true, false, cond, List, [], ◌∷◌, ◌++◌, take, drop, refl, sym, ◌∙◌, ap, append_assoc, length, length-append, arith}
 use Rattle.std.specs.List.{flat_map, AllByRecursion}
-use Rattle.mus_stems.specs.Runs.{runs, put_before, run_more, AreRuns, AreMaximalRuns}
+use Rattle.mus_stems.specs.Runs.{runs, put_before, run_more, JoinedAfter, EndsBefore, AreRuns, AreMaximalRuns}
 
-runs_front : {A : Type 0} (joined : A → A → Bool) (d : A) (es : List A) →
+pub runs_front : {A : Type 0} (joined : A → A → Bool) (d : A) (es : List A) →
     runs joined (d ∷ es) ≡ (d ∷ take (run_more joined d es) es) ∷ runs joined (drop (run_more joined d es) es)
 runs_front joined d [] = refl
 runs_front joined d (e ∷ es) = ap (λ t. put_before joined d t) (runs_front joined e es) ∙ step (joined d e) (runs_front joined e es)
@@ -101,3 +101,24 @@ whole_length f same (r ∷ rs) = rw (length-append (f r) (flat_map f rs), length
 
 pub runs_length : {A B : Type 0} (joined : A → A → Bool) (f : List A → List B) → ((r : List A) → length (f r) ≡ length r) → (es : List A) → length (flat_map f (runs joined es)) ≡ length es
 runs_length joined f same es = whole_length f same (runs joined es) ∙ ap (λ t. length t) (all_whole joined es)
+
+-- what is cut into maximal runs is cut as `runs` does
+
+put_apart : {A : Type 0} (joined : A → A → Bool) (d : A) (rs : List (List A)) → EndsBefore joined d [] rs → put_before joined d rs ≡ (d ∷ []) ∷ rs
+put_apart joined d [] ends = refl
+put_apart joined d ([] ∷ rs) ends = absurd ends
+put_apart joined d ((e ∷ r) ∷ rs) ends = ap (λ b. cond b ((d ∷ e ∷ r) ∷ rs) ((d ∷ []) ∷ (e ∷ r) ∷ rs)) ends
+
+front_run : {A : Type 0} (joined : A → A → Bool) (d : A) (es more : List A) (rs : List (List A)) →
+    JoinedAfter joined d es → EndsBefore joined d es rs → runs joined more ≡ rs → runs joined (d ∷ es ++ more) ≡ (d ∷ es) ∷ rs
+front_run joined d [] more rs all ends h = ap (λ t. put_before joined d t) h ∙ put_apart joined d rs ends
+front_run joined d (e ∷ es) more rs all ends h =
+    ap (λ t. put_before joined d t) (front_run joined e es more rs all.1 ends h) ∙ ap (λ b. cond b ((d ∷ e ∷ es) ∷ rs) ((d ∷ []) ∷ (e ∷ es) ∷ rs)) all.0
+
+pub runs_of_whole : {A : Type 0} (joined : A → A → Bool) (rs : List (List A)) → AreRuns joined rs → runs joined (flat_map (λ r. r) rs) ≡ rs
+runs_of_whole joined [] are = refl
+runs_of_whole joined ([] ∷ rs) are = absurd are
+runs_of_whole joined ((e ∷ es) ∷ rs) are = front_run joined e es (flat_map (λ r. r) rs) rs are.0 are.1 (runs_of_whole joined rs are.2)
+
+pub maximal_runs : {A : Type 0} (joined : A → A → Bool) (es : List A) (rs : List (List A)) → AreMaximalRuns joined es rs → rs ≡ runs joined es
+maximal_runs joined es rs a = sym (runs_of_whole joined rs a.runs) ∙ ap (λ t. runs joined t) a.whole

@@ -9,12 +9,9 @@ use Rattle.mus_stems.specs.Runs.{runs}
 unfoldable pub is_beamed : Still → Bool
 is_beamed e = nat_lt 0 (length e.stands) && nat_lt 0 (flags_of e.base)
 
-unfoldable pub both_beamed : Still → Still → Bool
-both_beamed d e = is_beamed d && is_beamed e
-
 -- whether a beam joins two neighbours
 unfoldable pub is_joined : Still → Still → Bool
-is_joined d e = both_beamed d e && not e.parted
+is_joined d e = is_beamed d && is_beamed e && not e.parted
 
 abbrev pub beams : List Still → List (List Still)
 beams = runs is_joined

@@ -4,13 +4,14 @@ use Rattle.std.specs.Ordering.{int_eq}
 use Rattle.std.specs.List.{list_any}
 use Rattle.mus_stems.specs.declared.heads.Stand.{Stand}
 use Rattle.mus_stems.specs.declared.dots.Spot.{Spot}
+use Rattle.mus_stems.specs.Distances.{step, right_of_stem, dot_column, outer_dot_column, between_dots}
 
 unfoldable pub is_right : ℤ → Bool
-is_right dx = int_eq dx (pos 560)
+is_right dx = int_eq dx right_of_stem
 
 -- dots of a head: 250 apart, on the space above where the head stands on a line
 unfoldable pub dot_place : ℤ → ℕ → ℤ
-dot_place first j = first +ℤ pos (250 * j)
+dot_place first j = first +ℤ pos (between_dots * j)
 
 unfoldable pub dot_at : ℤ → ℤ → ℕ → Spot
 dot_at first dy j = record { dx = dot_place first j; dy = dy }
@@ -24,10 +25,10 @@ is_even (pos n) = n % 2 == 0
 is_even (negsuc n) = n % 2 == 1
 
 unfoldable pub dot_height : ℤ → ℤ
-dot_height h = if is_even h then (pos 250 *ℤ h) +ℤ pos 250 else (pos 250 *ℤ h)
+dot_height h = if is_even h then (step *ℤ h) +ℤ step else (step *ℤ h)
 
 unfoldable pub first_dot : List ℤ → ℤ
-first_dot shifts = if list_any is_right shifts then pos 1160 else pos 600
+first_dot shifts = if list_any is_right shifts then outer_dot_column else dot_column
 
 abbrev pub dots_along : ℤ → ℕ → List Stand → List Spot
 dots_along dx n [] = []

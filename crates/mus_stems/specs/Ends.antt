@@ -5,6 +5,7 @@ use Rattle.mus_units.specs.declared.note.Wish.{Wish}
 use Rattle.mus_units.specs.declared.note.Wish.TheVariants as wishes
 use Rattle.mus_stems.specs.declared.heads.Stand.{Stand}
 use Rattle.mus_stems.specs.declared.stills.Still.{Still}
+use Rattle.mus_stems.specs.Distances.{step, middle_line, stem_length}
 use Rattle.mus_stems.specs.Heads.{lowest, highest}
 use Rattle.mus_stems.specs.Stills.{is_short}
 
@@ -45,10 +46,10 @@ stands_up wish run = is_up wish (run_low run) (run_high run)
 
 -- an event's own end: 7 steps past its last head, and at least at the middle line. A rest's is 0
 unfoldable pub upper_end : ℤ → ℤ
-upper_end high = int_max ((pos 250 *ℤ high) +ℤ pos 1750) (pos 1000)
+upper_end high = int_max ((step *ℤ high) +ℤ stem_length) middle_line
 
 unfoldable pub lower_end : ℤ → ℤ
-lower_end low = int_min ((pos 250 *ℤ low) -ℤ pos 1750) (pos 1000)
+lower_end low = int_min ((step *ℤ low) -ℤ stem_length) middle_line
 
 unfoldable pub outer_end : Bool → ℤ → ℤ → ℤ
 outer_end up low high = if up then upper_end high else lower_end low
@@ -71,7 +72,7 @@ run_end up (e ∷ es) = furthest up (own_end up e.stands) es
 
 -- a stem begins at the dy of the head at its other end: up the lowest, down the highest
 unfoldable pub from_of : Bool → List Stand → ℤ
-from_of up ss = if up then (pos 250 *ℤ low_of ss) else (pos 250 *ℤ high_of ss)
+from_of up ss = if up then (step *ℤ low_of ss) else (step *ℤ high_of ss)
 
 unfoldable pub has_stem : Still → Bool
 has_stem e = nat_lt 0 (length e.stands) && is_short e.base

@@ -10,6 +10,7 @@ use Rattle.mus_units.specs.declared.note.Head.{Head}
 use Rattle.mus_units.specs.declared.pitch.Clef.{Clef}
 use Rattle.mus_stems.specs.declared.heads.Stand.{Stand}
 use Rattle.mus_stems.specs.declared.heads.Last.{Last}
+use Rattle.mus_stems.specs.Distances.{right_of_stem, left_of_stem}
 
 -- where a head stands in a clef, and whether a sign is written before it
 unfoldable pub stand_of : Clef → Head → Stand
@@ -76,7 +77,7 @@ shifted dx b (t ∷ ts) xs =
     else shifted dx (Some (record { level = t.level; moved = false })) ts xs
 
 unfoldable pub shift_of : Bool → ℤ
-shift_of up = if up then pos 560 else negsuc 559
+shift_of up = if up then right_of_stem else left_of_stem
 
 -- the dx of each head, in the order of the text
 unfoldable pub shifts_of : Bool → List Stand → List ℤ

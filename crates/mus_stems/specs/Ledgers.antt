@@ -1,12 +1,13 @@
 -- The ledger lines of an event.
 use Rattle.std.specs.Prelude.{ℕ, zero, suc, ℤ, pos, negsuc, ◌+◌, ◌-◌, ◌*◌, ◌/◌, ◌+ℤ◌, ◌-ℤ◌, List, [], ◌∷◌, ◌++◌}
+use Rattle.mus_stems.specs.Distances.{first_below, first_above, between_lines}
 
 -- ledgers on even heights from -2 down to the lowest head, and from 10 up to the highest
 unfoldable pub line_below : ℕ → ℤ
-line_below k = negsuc 499 -ℤ pos (500 * k)
+line_below k = first_below -ℤ pos (between_lines * k)
 
 unfoldable pub line_above : ℕ → ℤ
-line_above k = pos 2500 +ℤ pos (500 * k)
+line_above k = first_above +ℤ pos (between_lines * k)
 
 -- n of them, from the k-th on
 abbrev pub lines_of : (ℕ → ℤ) → ℕ → ℕ → List ℤ

@@ -1,9 +1,13 @@
 pub mod Beams
+pub mod Columns
+pub mod Displaced
+pub mod Distances
 pub mod Dots
 pub mod Ends
 pub mod Groups
 pub mod Heads
 pub mod Ledgers
+pub mod Order
 pub mod Plans
 pub mod Runs
 pub mod Signs

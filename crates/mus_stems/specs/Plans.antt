@@ -1,12 +1,14 @@
 -- The stem plans of the events of a measure.
-use Rattle.std.specs.Prelude.{◌≡◌, ℕ, ℤ, pos, negsuc, ◌≤ℤ◌, Bool, List, [], ◌∷◌}
-use Rattle.std.specs.List.{flat_map, AllByRecursion}
+use Rattle.std.specs.Prelude.{◌≡◌, ℕ, ℤ, pos, negsuc, ◌≤ℤ◌, Bool, List, [], ◌∷◌, map}
+use Rattle.std.specs.List.{flat_map, AllByRecursion, AllZip}
 use Rattle.mus_units.specs.declared.pitch.Clef.{Clef}
 use Rattle.mus_units.specs.declared.note.Wish.{Wish}
 use Rattle.mus_score.specs.declared.score.Flat.{Flat}
 use Rattle.mus_stems.specs.declared.stills.Still.{Still}
 use Rattle.mus_stems.specs.declared.plans.StemPlan.{StemPlan}
 use Rattle.mus_stems.specs.Heads.{shifts_of}
+use Rattle.mus_stems.specs.Displaced.{AreDisplaced}
+use Rattle.mus_stems.specs.Columns.{AreInColumns}
 use Rattle.mus_stems.specs.Signs.{first_sign, signs_from}
 use Rattle.mus_stems.specs.Ledgers.{ledgers_of}
 use Rattle.mus_stems.specs.Dots.{first_dot, dots_along}
@@ -50,11 +52,40 @@ plans_of_runs wish = flat_map (run_plans wish)
 unfoldable pub stems_of : Wish → List Flat → List Clef → List StemPlan
 stems_of wish fs cs = plans_of_runs wish (beams (stills fs cs))
 
--- plans that go by the maximal runs of events that beams join
-pub record GoByBeams (wish : Wish) (es : List Still) (plans : List StemPlan) : Type 0 where
+-- an event of a run
+pub record InRun : Type 0 where
+  pub run : List Still
+  pub event : Still
+
+abbrev pub in_run : List Still → Still → InRun
+in_run run e = record { run = run; event = e }
+
+abbrev pub in_runs : List (List Still) → List InRun
+in_runs = flat_map (λ run. map (in_run run) run)
+
+-- how an event of a beam, or by itself, is drawn
+pub record IsPlan (wish : Wish) (i : InRun) (p : StemPlan) : Type 0 where
+  pub way : p.up ≡ stands_up wish i.run
+  pub has : p.has ≡ has_stem i.event
+  pub from : p.from ≡ from_of p.up i.event.stands
+  pub own : p.own ≡ own_end p.up i.event.stands
+  pub to : p.to ≡ run_end p.up i.run
+  pub group : p.group ≡ first_id i.run
+  pub flags : p.flags ≡ flags_of i.event.base
+  pub shifts : AreDisplaced p.up i.event.stands p.shifts
+  pub signs : AreInColumns (first_sign p.shifts) i.event.stands p.signs
+  pub ledgers : p.ledgers ≡ ledgers_of (low_of i.event.stands) (high_of i.event.stands)
+  pub dots : p.dots ≡ dots_along (first_dot p.shifts) i.event.dots i.event.stands
+
+-- the plans of the events of a measure: its beams are maximal runs, and each event is drawn as one of its beam
+pub record ArePlans (wish : Wish) (es : List Still) (plans : List StemPlan) : Type 0 where
   pub runs : List (List Still)
   pub maximal : AreMaximalRuns is_joined es runs
-  pub plans_of : plans ≡ plans_of_runs wish runs
+  pub drawn : AllZip (IsPlan wish) (in_runs runs) plans
+
+-- there are no other plans
+abbrev pub OnePlan : Type 0
+OnePlan = (wish : Wish) (es : List Still) (plans others : List StemPlan) → ArePlans wish es plans → ArePlans wish es others → plans ≡ others
 
 -- a stem's own end is -5250 to 7250
 abbrev pub IsEndNear : StemPlan → Type 0

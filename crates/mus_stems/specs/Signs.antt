@@ -1,13 +1,14 @@
 -- Where the signs before the heads of an event stand.
-use Rattle.std.specs.Prelude.{ℕ, ℤ, pos, negsuc, ◌+◌, ◌*◌, ◌-ℤ◌, Bool, false, if◌then◌else◌, List, [], ◌∷◌, length, replicate, Option, Some, None}
+use Rattle.std.specs.Prelude.{ℕ, ℤ, pos, ◌+◌, ◌*◌, ◌-ℤ◌, Bool, false, if◌then◌else◌, List, [], ◌∷◌, length, replicate, Option, Some, None}
 use Rattle.std.specs.Ordering.{int_eq}
 use Rattle.std.specs.List.{slice_set, list_any}
 use Rattle.mus_stems.specs.declared.heads.Stand.{Stand}
+use Rattle.mus_stems.specs.Distances.{left_of_stem, sign_column, outer_sign_column, between_columns}
 use Rattle.mus_stems.specs.Heads.{Taken, taken}
 
--- the written signs are numbered from the highest head down; the k-th stands at dx first - 500 k
+-- the dx of the k-th column of signs, from 0
 unfoldable pub sign_at : ℤ → ℕ → ℤ
-sign_at first k = first -ℤ pos (500 * k)
+sign_at first k = first -ℤ pos (between_columns * k)
 
 abbrev pub signs_along : ℤ → ℕ → List Taken → List (Option ℤ) → List (Option ℤ)
 signs_along first k [] xs = xs
@@ -18,8 +19,8 @@ unfoldable pub signs_from : ℤ → List Stand → List (Option ℤ)
 signs_from first ss = signs_along first 0 (taken false ss) (replicate (length ss) None)
 
 unfoldable pub is_left : ℤ → Bool
-is_left dx = int_eq dx (negsuc 559)
+is_left dx = int_eq dx left_of_stem
 
 -- signs stand 560 further left where a head stands left of the stem
 unfoldable pub first_sign : List ℤ → ℤ
-first_sign shifts = if list_any is_left shifts then negsuc 1309 else negsuc 749
+first_sign shifts = if list_any is_left shifts then outer_sign_column else sign_column

@@ -6,6 +6,7 @@ use Rattle.std.specs.List.{flat_map, AllByRecursion}
 use Rattle.mus_stems.specs.declared.plans.StemPlan.{StemPlan}
 use Rattle.mus_stems.specs.declared.slopes.Anchor.{Anchor}
 use Rattle.mus_stems.specs.declared.slopes.Line.{Line}
+use Rattle.mus_stems.specs.Distances.{steepest, steepest_down}
 use Rattle.mus_stems.specs.Ends.{further}
 use Rattle.mus_stems.specs.Runs.{runs}
 
@@ -28,7 +29,7 @@ last_of a (b ∷ bs) = last_of b bs
 
 -- the line of a beam: from its first event to its last, climbing by the last own end less the first, cut to -500 to 500
 unfoldable pub line_of : Anchor → Anchor → Line
-line_of a b = record { first = a.x; last = b.x; climb = int_max (int_min (b.own -ℤ a.own) (pos 500)) (negsuc 499) }
+line_of a b = record { first = a.x; last = b.x; climb = int_max (int_min (b.own -ℤ a.own) steepest) steepest_down }
 
 -- how far a line has risen at an abscissa, rounded down
 unfoldable pub rise_at : Line → ℤ → ℤ
@@ -96,8 +97,8 @@ pub record IsLine (line : Line) : Type 0 where
   pub first : pos 0 ≤ℤ line.first
   pub rising : line.first <ℤ line.last
   pub last : line.last ≤ℤ pos (2 ^ 40)
-  pub low : negsuc 499 ≤ℤ line.climb
-  pub high : line.climb ≤ℤ pos 500
+  pub low : steepest_down ≤ℤ line.climb
+  pub high : line.climb ≤ℤ steepest
 
 -- an event over a line
 pub record IsOver (line : Line) (a : Anchor) : Type 0 where

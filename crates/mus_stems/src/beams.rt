@@ -1,5 +1,5 @@
 ghost use Rattle.std.specs.Prelude.{◌≡◌, ◌≤◌, length};
-ghost use Rattle.mus_stems.specs.Beams.{is_beamed, both_beamed, is_joined};
+ghost use Rattle.mus_stems.specs.Beams.{is_beamed, is_joined};
 ghost use Rattle.mus_stems.specs.Runs.{run_more};
 
 use crate::stills::{Still, flags_for};
@@ -12,20 +12,12 @@ fn beamed(e: &Still) -> bool
     0 < e.stands.len() && 0 < flags_for(e.base)
 }
 
-/// Whether both can be in a beam.
-#[tactic(auto, unfolding(crate::specs::Beams::both_beamed))]
-fn both(d: &Still, e: &Still) -> bool
-    ensures { result ≡ both_beamed d.now e.now }
-{
-    beamed(d) && beamed(e)
-}
-
 /// Whether a beam joins two neighbours.
 #[tactic(auto, unfolding(crate::specs::Beams::is_joined))]
 fn joined(d: &Still, e: &Still) -> bool
     ensures { result ≡ is_joined d.now e.now }
 {
-    both(d, e) && !e.parted
+    beamed(d) && beamed(e) && !e.parted
 }
 
 /// How many events follow the first in its run.

@@ -3,6 +3,7 @@ ghost use Rattle.std.specs.List.{list_any};
 ghost use Rattle.mus_stems.specs.Heads.{AllNear};
 ghost use Rattle.mus_stems.specs.Dots.{is_right, first_dot, dot_place, dot_at, dots_at, dot_height, dots_along};
 
+use crate::distances::{BETWEEN_DOTS, DOT_COLUMN, OUTER_DOT_COLUMN, RIGHT_OF_STEM, STEP};
 use crate::heads::Stand;
 use mus_units::{Memory, Row};
 
@@ -21,9 +22,9 @@ fn dot_dy(height: i32) -> i32
     ensures { result ≡ dot_height height }
 {
     if height % 2 == 0 {
-        250 * height + 250
+        STEP * height + STEP
     } else {
-        250 * height
+        STEP * height
     }
 }
 
@@ -32,7 +33,7 @@ fn dot_dy(height: i32) -> i32
 fn stands_right(dx: i32) -> bool
     ensures { result ≡ is_right dx }
 {
-    dx == 560
+    dx == RIGHT_OF_STEM
 }
 
 fn any_right(shifts: &[i32]) -> bool
@@ -49,7 +50,11 @@ pub fn dot_dx(shifts: &[i32]) -> i32
     ensures low { pos 600 ≤ℤ result }
     ensures high { result ≤ℤ pos 1160 }
 {
-    if any_right(shifts) { 1160 } else { 600 }
+    if any_right(shifts) {
+        OUTER_DOT_COLUMN
+    } else {
+        DOT_COLUMN
+    }
 }
 
 /// The dx of a dot by its number.
@@ -60,7 +65,7 @@ fn dot_dx_at(first: i32, j: u8) -> i32
     requires high { first ≤ℤ pos 1160 }
     ensures { result ≡ dot_place first j }
 {
-    first + 250 * i32::from(j)
+    first + BETWEEN_DOTS * i32::from(j)
 }
 
 /// A dot by its number.

@@ -3,6 +3,7 @@ ghost use Rattle.mus_stems.specs.Heads.{AllNear};
 ghost use Rattle.mus_stems.specs.Stills.{AllGood};
 ghost use Rattle.mus_stems.specs.Ends.{low_of, high_of, lowest_in, highest_in, run_low, run_high, is_up, stands_up, upper_end, lower_end, outer_end, own_end, further, furthest, run_end, from_of, has_stem};
 
+use crate::distances::{MIDDLE_LINE, STEM_LENGTH, STEP};
 use crate::heads::{Stand, highest_from, lowest_from};
 use crate::stills::{Still, is_short_base};
 use mus_units::Wish;
@@ -136,7 +137,7 @@ fn end_above(high: i32) -> i32
     requires high { high ≤ℤ pos 22 }
     ensures { result ≡ upper_end high }
 {
-    (250 * high + 1750).max(1000)
+    (STEP * high + STEM_LENGTH).max(MIDDLE_LINE)
 }
 
 /// The end of a stem that goes down.
@@ -146,7 +147,7 @@ fn end_below(low: i32) -> i32
     requires high { low ≤ℤ pos 22 }
     ensures { result ≡ lower_end low }
 {
-    (250 * low - 1750).min(1000)
+    (STEP * low - STEM_LENGTH).min(MIDDLE_LINE)
 }
 
 /// The end of a stem that is past its outermost head, on the side to which it goes.
@@ -210,9 +211,9 @@ pub fn stem_from(up: bool, stands: &[Stand]) -> i32
     ensures { result ≡ from_of up stands.now }
 {
     if up {
-        250 * lowest_head(stands)
+        STEP * lowest_head(stands)
     } else {
-        250 * highest_head(stands)
+        STEP * highest_head(stands)
     }
 }
 

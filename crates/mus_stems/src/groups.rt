@@ -1,4 +1,5 @@
 ghost use Rattle.mus_stems.specs.Groups.{BeamsByGroups, SlopesByBeams};
+ghost use Rattle.mus_stems.specs.Plans.{OnePlan};
 
 /// The law of groups: where the ids of a measure's events rise, the maximal runs of neighbouring
 /// plans with one `group` are the plans of its beams, beam for beam. An event without a beam is a
@@ -11,4 +12,10 @@ pub fn beams_by_groups()
 /// `slope` puts on one line are as long as its beams, one for each. Does nothing.
 pub fn slopes_by_beams()
     ensures { SlopesByBeams }
+{}
+
+/// The law of plans: the events of a measure have no other plans than those that `stems` gives.
+/// Does nothing.
+pub fn no_other_plans()
+    ensures { OnePlan }
 {}

@@ -1,6 +1,7 @@
 ghost use Rattle.std.specs.Prelude.{◌≡◌, ◌≤ℤ◌, ◌<◌, ◌++◌, List, Option, pos, negsuc, length, map, IfOk};
 ghost use Rattle.mus_stems.specs.Heads.{stand_of, IsNear, AllNear, lowest, highest, level_of, Taken, taken_one, taken_at, taken, is_step_past, gives_way, shifted, shift_of, shifts_of};
 
+use crate::distances::{LEFT_OF_STEM, RIGHT_OF_STEM};
 use mus_units::{Clef, Head, Memory, Row, height};
 use std::alloc::Global;
 
@@ -102,7 +103,7 @@ fn is_moved(last: Option<Last>, level: i32) -> bool
 fn shift(up: bool) -> i32
     ensures { result ≡ shift_of up }
 {
-    if up { 560 } else { -560 }
+    if up { RIGHT_OF_STEM } else { LEFT_OF_STEM }
 }
 
 /// Moves a head, if it stands at a level and gives way.

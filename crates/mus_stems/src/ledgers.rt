@@ -1,6 +1,7 @@
 ghost use Rattle.std.specs.Prelude.{◌≡◌, ◌≤ℤ◌, ◌≤◌, ◌++◌, pos, negsuc, IfOk, OnOk};
 ghost use Rattle.mus_stems.specs.Ledgers.{line_below, line_above, lines_of, lines_below, lines_above, ledgers_of};
 
+use crate::distances::{BETWEEN_LINES, FIRST_ABOVE, FIRST_BELOW};
 use mus_units::{Memory, Row};
 use std::alloc::Global;
 
@@ -28,7 +29,7 @@ fn ledger_below(k: u32) -> i32
     requires { k ≤ 7 }
     ensures { result ≡ line_below k }
 {
-    -500 - 500 * (k as i32)
+    FIRST_BELOW - BETWEEN_LINES * (k as i32)
 }
 
 /// The dy of a ledger line above the staff by its number.
@@ -37,7 +38,7 @@ fn ledger_above(k: u32) -> i32
     requires { k ≤ 7 }
     ensures { result ≡ line_above k }
 {
-    2500 + 500 * (k as i32)
+    FIRST_ABOVE + BETWEEN_LINES * (k as i32)
 }
 
 /// Even heights from -2 down to the lowest head, as dy.

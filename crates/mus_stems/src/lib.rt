@@ -3,6 +3,7 @@
 #![tactic(auto)]
 
 pub mod beams;
+mod distances;
 pub mod dots;
 pub mod ends;
 pub mod groups;
@@ -15,7 +16,7 @@ pub mod stills;
 
 pub use dots::Spot;
 pub use ends::{highest_head, lowest_head};
-pub use groups::{beams_by_groups, slopes_by_beams};
+pub use groups::{beams_by_groups, no_other_plans, slopes_by_beams};
 pub use heads::{Stand, stands};
 pub use ledgers::ledgers_for;
 pub use plans::{StemPlan, stems};

@@ -1,7 +1,7 @@
 ghost use Rattle.std.specs.Prelude.{◌≡◌, ◌++◌, ◌≤◌, length, IfOk, OnOk};
 ghost use Rattle.mus_stems.specs.Stills.{IsGoodStill, AllGood, AllCanStand, stills};
 ghost use Rattle.mus_stems.specs.Beams.{beams};
-ghost use Rattle.mus_stems.specs.Plans.{first_id, plan_of, plans_along, run_plans, plans_of_runs, stems_of, GoByBeams, AllEndsNear};
+ghost use Rattle.mus_stems.specs.Plans.{first_id, plan_of, plans_along, run_plans, plans_of_runs, stems_of, ArePlans, AllEndsNear};
 
 use crate::beams::more_in_run;
 use crate::dots::{Spot, dot_dx, put_dots};
@@ -132,7 +132,7 @@ fn put_all_runs(
 ///
 /// `clefs` has the clef of each event, `wish` is the way of stems that the voice asks for. Each head
 /// stands at a height of -14 to 22 in its clef.
-#[tactic(auto, using(crate::proofs::Taking::stills_are_good, crate::proofs::EndLaws::go_by_beams, crate::proofs::EndLaws::ends_near, crate::proofs::EndLaws::plans_length), unfolding(crate::specs::Plans::stems_of))]
+#[tactic(auto, using(crate::proofs::Taking::stills_are_good, crate::proofs::PlanLaws::are_plans, crate::proofs::EndLaws::ends_near, crate::proofs::EndLaws::plans_length), unfolding(crate::specs::Plans::stems_of))]
 pub fn stems(
     alloc: Global,
     events: &[Flat],
@@ -144,7 +144,7 @@ pub fn stems(
     ensures value { IfOk result (λ plans. plans ≡ stems_of wish events.now clefs.now) }
     ensures each { IfOk result (λ plans. length plans ≡ length events.now) }
     ensures ends { IfOk result AllEndsNear }
-    ensures beams { IfOk result (GoByBeams wish (stills events.now clefs.now)) }
+    ensures plans { IfOk result (ArePlans wish (stills events.now clefs.now)) }
 {
     let stills = stills_for(alloc, events, clefs)?;
     let mut plans = Row::new(alloc);

@@ -3,6 +3,7 @@ ghost use Rattle.std.specs.List.{list_any};
 ghost use Rattle.mus_stems.specs.Heads.{IsNear, AllNear, Taken, taken_one, taken_at, taken};
 ghost use Rattle.mus_stems.specs.Signs.{is_left, first_sign, sign_at, signs_along, signs_from};
 
+use crate::distances::{BETWEEN_COLUMNS, LEFT_OF_STEM, OUTER_SIGN_COLUMN, SIGN_COLUMN};
 use crate::heads::{Stand, level};
 use mus_units::{Memory, Row};
 use std::alloc::Global;
@@ -14,7 +15,7 @@ fn sign_place(first: i32, k: u32) -> i32
     requires few { k ≤ 2250000 }
     ensures { result ≡ sign_at first k }
 {
-    first - 500 * (k as i32)
+    first - BETWEEN_COLUMNS * (k as i32)
 }
 
 /// Gives the sign at a head its dx, if there is one and the head stands at a level; answers the next one's number.
@@ -89,7 +90,7 @@ pub fn signs_for(alloc: Global, first: i32, stands: &[Stand]) -> Result<Row<Opti
 fn stands_left(dx: i32) -> bool
     ensures { result ≡ is_left dx }
 {
-    dx == -560
+    dx == LEFT_OF_STEM
 }
 
 fn any_left(shifts: &[i32]) -> bool
@@ -104,5 +105,9 @@ pub fn sign_dx(shifts: &[i32]) -> i32
     ensures value { result ≡ first_sign shifts.now }
     ensures low { negsuc 1310 ≤ℤ result }
 {
-    if any_left(shifts) { -1310 } else { -750 }
+    if any_left(shifts) {
+        OUTER_SIGN_COLUMN
+    } else {
+        SIGN_COLUMN
+    }
 }

@@ -1,9 +1,11 @@
 ghost use Rattle.std.specs.Prelude.{◌≡◌, ◌++◌, ◌≤◌, ◌≤ℤ◌, ◌<ℤ◌, ◌^◌, ◌∷◌, [], ◌+ℤ◌, ◌-ℤ◌, ◌*ℤ◌, pos, negsuc, length, IfOk, OnOk};
 ghost use Rattle.std.specs.Int.{int_min, int_max, int_div_euclid};
+ghost use Rattle.mus_stems.specs.Distances.{steepest, steepest_down};
 ghost use Rattle.mus_stems.specs.Plans.{AllEndsNear};
 ghost use Rattle.mus_stems.specs.Runs.{run_more};
 ghost use Rattle.mus_stems.specs.Slope.{anchor_of, anchors, shares_beam, last_of, line_of, rise_at, base_along, ends_along, line_ends, beam_ends, sloped_ends, with_end, with_ends, sloped, ArePlaces, RisesInBeams, AreAnchors, IsLine, IsOver, AreOver, Rise, IsBase};
 
+use crate::distances::STEEPEST;
 use crate::ends::further_of;
 use crate::plans::StemPlan;
 use mus_units::{Memory, Row};
@@ -91,9 +93,11 @@ fn last_in(first: &Anchor, others: &[Anchor]) -> Anchor
 
 /// How far a line climbs between own ends.
 fn climb_between(first: i32, last: i32) -> i64
-    ensures { result ≡ int_max (int_min (last -ℤ first) (pos 500)) (negsuc 499) }
+    ensures { result ≡ int_max (int_min (last -ℤ first) steepest) steepest_down }
 {
-    (i64::from(last) - i64::from(first)).min(500).max(-500)
+    (i64::from(last) - i64::from(first))
+        .min(STEEPEST)
+        .max(-STEEPEST)
 }
 
 /// The line from an event to another.
@@ -110,15 +114,15 @@ fn line_between(a: &Anchor, b: &Anchor) -> Line
 
 /// How far a line that climbs so much over a length has risen so far along it.
 fn risen(climb: i64, along: i64, length: i64) -> i32
-    requires low { negsuc 499 ≤ℤ climb }
-    requires high { climb ≤ℤ pos 500 }
+    requires low { steepest_down ≤ℤ climb }
+    requires high { climb ≤ℤ steepest }
     requires begun { pos 0 ≤ℤ along }
     requires within { along ≤ℤ length }
     requires some { pos 0 <ℤ length }
     requires near { length ≤ℤ pos (2 ^ 40) }
     ensures value { result ≡ int_div_euclid (climb *ℤ along) length }
-    ensures low { negsuc 499 ≤ℤ result }
-    ensures high { result ≤ℤ pos 500 }
+    ensures low { steepest_down ≤ℤ result }
+    ensures high { result ≤ℤ steepest }
 {
     (climb * along).div_euclid(length) as i32
 }
@@ -130,8 +134,8 @@ fn rise(line: &Line, x: i64) -> i32
     requires after { line.now.first ≤ℤ x }
     requires before { x ≤ℤ line.now.last }
     ensures value { result ≡ rise_at line.now x }
-    ensures low { negsuc 499 ≤ℤ result }
-    ensures high { result ≤ℤ pos 500 }
+    ensures low { steepest_down ≤ℤ result }
+    ensures high { result ≤ℤ steepest }
 {
     risen(line.climb, x - line.first, line.last - line.first)
 }

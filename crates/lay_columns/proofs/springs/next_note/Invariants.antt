@@ -1,7 +1,7 @@
 use Rattle.std.proofs.Common.{◌≡◌, drop}
 use Rattle.std.specs.List.{find}
-use Rattle.lay_columns.specs.Naturals.{is_note}
+use Rattle.lay_columns.specs.Naturals.{is_note_of}
 use Rattle.lay_columns.proofs.springs.next_note.Given as goal
 
 abbrev pub invariant-loop-key : goal.invariant-loop-key
-invariant-loop-key l = find is_note (drop l.key-index l.behind) ≡ find is_note l.behind
+invariant-loop-key l = find (is_note_of l.measure) (drop l.key-index l.behind) ≡ find (is_note_of l.measure) l.behind

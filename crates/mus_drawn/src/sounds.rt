@@ -1,0 +1,287 @@
+ghost use Rattle.std.specs.Prelude.{◌≡◌, ◌≤◌, ◌++◌, [], length, flat_map, All, IfOk, OnOk};
+ghost use Rattle.std.specs.List.{find, list_any};
+ghost use Rattle.mus_score.specs.Good.{IsGoodBody};
+ghost use Rattle.mus_score.specs.GoodScore.{IsGoodScore, IsGoodVoice};
+ghost use Rattle.mus_score.specs.Times.{flats_of};
+ghost use Rattle.mus_arcs.specs.Arcs.{has_pitch};
+ghost use Rattle.mus_drawn.specs.Drawn.{standing_after, standing_behind, standing_of};
+ghost use Rattle.mus_drawn.specs.Hearing.{is_heard_at, is_tied_to, partner_of, heard_alter, heard, heard_from, said_at, said_behind, heard_at, heard_behind, sounds_from, events_sounds, measures_sounds, voices_sounds};
+ghost use Rattle.mus_drawn.specs.Sounds.{sounds_of};
+
+use crate::standing::{Standing, change, standing_of};
+use mus_pitch::in_force;
+use mus_score::{Event, Flat, Head, Key, Measure, Music, Score, Spread, Voice, flatten};
+use mus_units::{Alter, Memory, Pitch, Row};
+use std::alloc::Global;
+
+/// How a head sounds: of the `voice`-th voice, from 0, in the event with the id `event`, the `head`-th
+/// from 0, its pitch as written and its alteration.
+#[derive(Clone, Copy, PartialEq, Eq)]
+pub struct Sound {
+    pub voice: u32,
+    pub event: u32,
+    pub head: u32,
+    pub pitch: Pitch,
+    pub alter: Alter,
+}
+
+/// A head and its alteration.
+#[derive(Clone, Copy, PartialEq, Eq)]
+pub struct Heard {
+    pub head: Head,
+    pub alter: Alter,
+}
+
+/// Whether a head has this letter and octave.
+fn has_pitch(pitch: Pitch, head: Head) -> bool
+    ensures { result ≡ has_pitch pitch head }
+{
+    head.pitch.letter == pitch.letter && head.pitch.octave == pitch.octave
+}
+
+/// Whether a head of this letter and octave is among these.
+fn is_heard(pitch: Pitch, heads: &[Heard]) -> bool
+    ensures { result ≡ list_any (is_heard_at pitch) heads.now }
+{
+    for x in heads {
+        if has_pitch(pitch, x.head) {
+            return true;
+        }
+    }
+    false
+}
+
+/// The first head of an event that is tied to the next one's head of this letter and octave.
+fn tied_to(pitch: Pitch, heads: &[Heard]) -> Option<Heard>
+    ensures { result ≡ find (is_tied_to pitch) heads.now }
+{
+    for x in heads {
+        if x.head.tied && has_pitch(pitch, x.head) {
+            return Some(*x);
+        }
+    }
+    None
+}
+
+/// The head of the event before that is tied to a head, of which `so_far` stand in its event before it.
+fn partner(before: &[Heard], so_far: &[Heard], pitch: Pitch) -> Option<Heard>
+    ensures { result ≡ partner_of before.now so_far.now pitch }
+{
+    if is_heard(pitch, so_far) {
+        None
+    } else {
+        tied_to(pitch, before)
+    }
+}
+
+fn alter_of(head: Head, partner: Option<Heard>, said: &[Head], spread: Spread, key: &Key) -> Alter
+    ensures { result ≡ heard_alter head.sign partner head.pitch said.now spread key.now.signs }
+{
+    match (head.sign, partner) {
+        (Some(own), _) => own,
+        (None, Some(x)) => x.alter,
+        (None, None) => in_force(head.pitch, None, said, spread, key),
+    }
+}
+
+/// A head and its alteration, behind those of its event so far and all that its measure said.
+fn hear(
+    spread: Spread,
+    key: &Key,
+    before: &[Heard],
+    said: &[Head],
+    so_far: &[Heard],
+    head: Head,
+) -> Heard
+    ensures { result ≡ heard spread key.now.signs before.now said.now so_far.now head }
+{
+    let partner = partner(before, so_far, head.pitch);
+    Heard {
+        head,
+        alter: alter_of(head, partner, said, spread, key),
+    }
+}
+
+/// The heads of an event with their alterations; they are said then.
+fn hear_heads(
+    alloc: Global,
+    spread: Spread,
+    key: &Key,
+    before: &[Heard],
+    said: &mut Row<Head>,
+    heads: &[Head],
+) -> Result<Row<Heard>, Memory>
+    ensures heard { IfOk result (λ r. r ≡ heard_from spread key.now.signs before.now said.old [] heads.now) }
+    ensures count { IfOk result (λ r. length r ≡ length heads.now) }
+    ensures said { OnOk result (said.new ≡ said.old ++ heads.now) }
+{
+    let mut out = Row::new(alloc);
+    for head in heads {
+        let x = hear(spread, key, before, said.as_slice(), out.as_slice(), *head);
+        out.push(x)?;
+        said.push(*head)?;
+    }
+    Ok(out)
+}
+
+fn say_heads(said: &mut Row<Head>, heads: &[Head]) -> Result<(), Memory>
+    ensures { OnOk result (said.new ≡ said.old ++ heads.now) }
+{
+    for head in heads {
+        said.push(*head)?;
+    }
+    Ok(())
+}
+
+fn say_graces(said: &mut Row<Head>, graces: &[Event]) -> Result<(), Memory>
+    ensures { OnOk result (said.new ≡ said.old ++ flat_map (λ g. g.heads) graces.now) }
+{
+    for grace in graces {
+        say_heads(said, grace.heads.as_slice())?;
+    }
+    Ok(())
+}
+
+/// Lists the heads of an event.
+fn put_sounds(out: &mut Row<Sound>, voice: u32, event: u32, heads: &[Heard]) -> Result<(), Memory>
+    requires { length heads.now ≤ 50000 }
+    ensures { OnOk result (out.new ≡ out.old ++ sounds_from voice event 0 heads.now) }
+{
+    for (k, x) in heads.iter().enumerate() {
+        out.push(Sound {
+            voice,
+            event,
+            head: k as u32,
+            pitch: x.head.pitch,
+            alter: x.alter,
+        })?;
+    }
+    Ok(())
+}
+
+/// Changes what is in force as an event does, and hears its heads.
+fn hear_event(
+    alloc: Global,
+    spread: Spread,
+    now: &mut Standing,
+    before: &[Heard],
+    said: &mut Row<Head>,
+    flat: &Flat,
+) -> Result<Row<Heard>, Memory>
+    ensures heard { IfOk result (λ r. r ≡ heard_at spread now.old said.old before.now flat.now) }
+    ensures count { IfOk result (λ r. length r ≡ length flat.now.event.heads) }
+    ensures said { OnOk result (said.new ≡ said_behind said.old flat.now) }
+    ensures now { OnOk result (now.new ≡ standing_after now.old flat.now.event.changes) }
+{
+    change(alloc, now, &flat.event.changes)?;
+    say_graces(said, flat.graces.as_slice())?;
+    hear_heads(
+        alloc,
+        spread,
+        &now.key,
+        before,
+        said,
+        flat.event.heads.as_slice(),
+    )
+}
+
+/// Lists the heads of a measure's events. `now` is what is in force before them, and `before` what the
+/// event before them has; then they are what is so behind them.
+fn put_events(
+    alloc: Global,
+    out: &mut Row<Sound>,
+    voice: u32,
+    spread: Spread,
+    now: &mut Standing,
+    before: &mut Row<Heard>,
+    flats: &[Flat],
+) -> Result<(), Memory>
+    requires { All (λ f. length f.event.heads ≤ 50000) flats.now }
+    ensures sounds { OnOk result (out.new ≡ out.old ++ events_sounds voice spread now.old [] before.old flats.now) }
+    ensures now { OnOk result (now.new ≡ standing_behind now.old flats.now) }
+    ensures before { OnOk result (before.new ≡ heard_behind spread now.old [] before.old flats.now) }
+{
+    let mut said = Row::new(alloc);
+    for flat in flats {
+        let heads = hear_event(alloc, spread, now, before.as_slice(), &mut said, flat)?;
+        put_sounds(out, voice, flat.event.id, heads.as_slice())?;
+        *before = heads;
+    }
+    Ok(())
+}
+
+fn put_body(
+    alloc: Global,
+    out: &mut Row<Sound>,
+    voice: u32,
+    spread: Spread,
+    now: &mut Standing,
+    before: &mut Row<Heard>,
+    body: &[Music],
+) -> Result<(), Memory>
+    requires { IsGoodBody body.now }
+    ensures sounds { OnOk result (out.new ≡ out.old ++ events_sounds voice spread now.old [] before.old (flats_of body.now)) }
+    ensures now { OnOk result (now.new ≡ standing_behind now.old (flats_of body.now)) }
+    ensures before { OnOk result (before.new ≡ heard_behind spread now.old [] before.old (flats_of body.now)) }
+{
+    let flats = flatten(alloc, body)?;
+    put_events(alloc, out, voice, spread, now, before, flats.as_slice())
+}
+
+fn put_measures(
+    alloc: Global,
+    out: &mut Row<Sound>,
+    voice: u32,
+    spread: Spread,
+    now: Standing,
+    measures: &[Measure],
+) -> Result<(), Memory>
+    requires { All (λ m. IsGoodBody m.body) measures.now }
+    ensures { OnOk result (out.new ≡ out.old ++ measures_sounds voice spread now [] measures.now) }
+{
+    let mut now = now;
+    let mut before = Row::new(alloc);
+    for m in measures {
+        put_body(
+            alloc,
+            out,
+            voice,
+            spread,
+            &mut now,
+            &mut before,
+            m.body.as_slice(),
+        )?;
+    }
+    Ok(())
+}
+
+fn put_voices(
+    alloc: Global,
+    out: &mut Row<Sound>,
+    spread: Spread,
+    voices: &[Voice],
+) -> Result<(), Memory>
+    requires good { All IsGoodVoice voices.now }
+    requires few { length voices.now ≤ 16 }
+    ensures { OnOk result (out.new ≡ out.old ++ voices_sounds 0 spread voices.now) }
+{
+    for (i, v) in voices.iter().enumerate() {
+        let now = standing_of(alloc, v)?;
+        put_measures(alloc, out, i as u32, spread, now, v.measures.as_slice())?;
+    }
+    Ok(())
+}
+
+/// How the heads of a score sound, in order of voice, event and head; those of graces are not listed,
+/// but their signs count. A head has its own sign's alteration; else that of the head of the event
+/// before that is tied to it; else that of the last sign before it in its measure and voice that reaches
+/// it; else its key's. The only error is want of memory.
+#[tactic(auto, using(crate::proofs::SoundLaws::looked_back))]
+pub fn sounding(alloc: Global, s: &Score) -> Result<Row<Sound>, Memory>
+    requires { IsGoodScore s.now }
+    ensures { IfOk result (λ r. r ≡ sounds_of s.now) }
+{
+    let mut out = Row::new(alloc);
+    put_voices(alloc, &mut out, s.spread, s.voices.as_slice())?;
+    Ok(out)
+}

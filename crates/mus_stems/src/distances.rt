@@ -1,0 +1,42 @@
+//! Distances in u, to the right of a column or above the bottom line.
+
+/// A step of the staff.
+pub const STEP: i32 = 250;
+
+/// The middle line.
+pub const MIDDLE_LINE: i32 = 1000;
+
+/// How far a stem goes past its last head.
+pub const STEM_LENGTH: i32 = 1750;
+
+/// Where a displaced head stands whose stem goes up, and whose stem goes down.
+pub const RIGHT_OF_STEM: i32 = 560;
+
+pub const LEFT_OF_STEM: i32 = -560;
+
+/// The first column of signs, and past a head left of the stem.
+pub const SIGN_COLUMN: i32 = -750;
+
+pub const OUTER_SIGN_COLUMN: i32 = -1310;
+
+/// How far columns of signs are apart.
+pub const BETWEEN_COLUMNS: i32 = 500;
+
+/// The first dot, and past a head right of the stem.
+pub const DOT_COLUMN: i32 = 600;
+
+pub const OUTER_DOT_COLUMN: i32 = 1160;
+
+/// How far dots are apart.
+pub const BETWEEN_DOTS: i32 = 250;
+
+/// The first ledger line below the staff, and the first above it.
+pub const FIRST_BELOW: i32 = -500;
+
+pub const FIRST_ABOVE: i32 = 2500;
+
+/// How far lines are apart.
+pub const BETWEEN_LINES: i32 = 500;
+
+/// How far a beam climbs at most.
+pub const STEEPEST: i64 = 500;
