@@ -3,7 +3,7 @@ use Rattle.std.proofs.Common.{◌≡◌, ℕ, zero, suc, ◌+◌, ◌*◌, ◌-�
 use Rattle.std.specs.List.{list_all}
 use Rattle.std.specs.Char.{digit_value}
 use Rattle.std.proofs.lemmas.Bool.{and_parts, leb-true, lt-ltb, le-ltb}
-use Rattle.abc_notes.specs.Runs.{is_digit}
+use Rattle.mus_units.specs.Bytes.{is_digit}
 use Rattle.abc_notes.specs.Lengths.{limit_at}
 
 pub limit_step : (i v d : ℕ) → i < 4 → v < limit_at i → d < 10 → v * 10 + d < limit_at (suc i)

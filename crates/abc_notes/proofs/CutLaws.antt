@@ -10,7 +10,8 @@ use Rattle.mus_units.specs.declared.pitch.Alter.TheVariants.{Flat2, Flat, Natura
 use Rattle.mus_units.specs.declared.pitch.Letter.{Letter}
 use Rattle.mus_units.specs.declared.pitch.Letter.TheVariants.{C, D, E, F, G, A, B}
 use Rattle.abc_notes.specs.declared.part.ItemClass.TheVariants as class
-use Rattle.abc_notes.specs.Runs.{copies, maybe, is_digit, is_mark, span_all}
+use Rattle.mus_units.specs.Bytes.{is_digit}
+use Rattle.abc_notes.specs.Runs.{copies, maybe, is_mark, span_all}
 use Rattle.abc_notes.specs.Lengths.{LengthForm, whole, over, halved, length_then, IsLength}
 use Rattle.abc_notes.specs.Notes.{NoteForm, note_then, sign_then, letter_byte, IsNote}
 use Rattle.abc_notes.specs.Decorations.{is_name_byte}

@@ -4,7 +4,8 @@ use Rattle.std.specs.Prelude.{◌||◌}
 use Rattle.std.specs.List.{list_all}
 use Rattle.std.proofs.lemmas.Bool.{cond_both, and_parts, eqb-true, ne_eqb, both_ways, or_left, or_right}
 use Rattle.std.proofs.lemmas.List.{append-nil}
-use Rattle.abc_notes.specs.Runs.{copies, span, begins, is_digit}
+use Rattle.mus_units.specs.Bytes.{is_digit}
+use Rattle.abc_notes.specs.Runs.{copies, span, begins}
 use Rattle.abc_notes.proofs.SpanLaws.{span-takes, span-pass, span-length, span-stops, span-less, span-append, length-span}
 use Rattle.abc_notes.proofs.Bounds.{digit_range}
 use Rattle.abc_notes.specs.Lengths.{LengthForm, whole, over, halved, length_then, IsLength, IsNumber, IsCount, number_at, below_at, is_slash, length_at}

@@ -7,7 +7,8 @@ use Rattle.mus_units.specs.declared.pitch.Alter.{Alter}
 use Rattle.mus_units.specs.declared.pitch.Alter.TheVariants.{Flat2, Flat, Natural, Sharp, Sharp2}
 use Rattle.mus_units.specs.declared.pitch.Letter.{Letter}
 use Rattle.mus_units.specs.declared.pitch.Letter.TheVariants.{C, D, E, F, G, A, B}
-use Rattle.abc_notes.specs.Runs.{skip, span_all, begins, is_mark, is_digit}
+use Rattle.mus_units.specs.Bytes.{is_digit}
+use Rattle.abc_notes.specs.Runs.{skip, span_all, begins, is_mark}
 use Rattle.abc_notes.proofs.RunLaws.{skip-takes}
 use Rattle.abc_notes.proofs.SpanLaws.{span_all-takes, span_all-pass, span_all-less, span_all-append}
 use Rattle.abc_notes.specs.Lengths.{LengthForm, whole, over, halved, length_then, length_at, IsLength, IsNumber}

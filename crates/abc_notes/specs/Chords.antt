@@ -1,5 +1,6 @@
 -- A chord: what stands between its brackets, which is read part by part, and the length behind
 -- them. A name within may hold a closing bracket; a chord is as long as it can be.
+use Prim.Native.Char.{code}
 use Rattle.std.specs.Prelude.{◌≡◌, ◌≤◌, ◌-◌, ℕ, suc, List, [], ◌∷◌, ◌++◌, length, take, drop, map, Bool, true, false, not, ◌==◌, ◌||◌, ◌&&◌, if◌then◌else◌, Option, Some, None}
 use Rattle.std.specs.List.{list_all}
 use Rattle.mus_units.specs.declared.note.Head.{Head}
@@ -19,10 +20,10 @@ pub record ChordForm : Type 0 where
   pub length : LengthForm
 
 abbrev pub is_inside : ℕ → Bool
-is_inside byte = not (byte == 93)
+is_inside byte = not (byte == code "]")
 
 abbrev pub is_bracket : ℕ → Bool
-is_bracket byte = byte == 93
+is_bracket byte = byte == code "]"
 
 abbrev pub has_head : List Inner → Bool
 has_head [] = false
@@ -30,7 +31,7 @@ has_head (part ∷ more) = has_length part || has_head more
 
 -- what stands behind the opening bracket, and what follows the chord
 abbrev pub chord_then : ChordForm → List ℕ → List ℕ
-chord_then f rest = f.inside ++ (93 ∷ length_then f.length rest)
+chord_then f rest = f.inside ++ (code "]" ∷ length_then f.length rest)
 
 pub record IsChord (bang : Bool) (f : ChordForm) : Type 0 where
   pub parts : InnerParts bang f.inside f.parts
@@ -78,10 +79,10 @@ InnerLeads bang text parts rest = Leads Inner (StandsInside bang) text parts res
 pub data ChordFault (bang : Bool) : List ℕ → Flaw → Type 0 where
   chord_unclosed : (text : List ℕ) → list_all is_inside text ≡ true → ChordFault bang text (record { kind = Unclosed; left = suc (length text) })
   chord_open : (text : List ℕ) (parts : List Inner) → InnerLeads bang text parts [] → ChordFault bang text (record { kind = Unclosed; left = suc (length text) })
-  chord_headless : (text : List ℕ) (parts : List Inner) (rest : List ℕ) → InnerLeads bang text parts (93 ∷ rest) → has_head parts ≡ false →
+  chord_headless : (text : List ℕ) (parts : List Inner) (rest : List ℕ) → InnerLeads bang text parts (code "]" ∷ rest) → has_head parts ≡ false →
       ChordFault bang text (record { kind = BadByte; left = suc (length text) })
   chord_flawed : (text : List ℕ) (parts : List Inner) (byte : ℕ) (rest : List ℕ) (flaw : Flaw) → list_all is_inside text ≡ false → InnerLeads bang text parts (byte ∷ rest) →
-      HasNone Inner (StandsInside bang) (byte ∷ rest) → (byte == 93) ≡ false →
+      HasNone Inner (StandsInside bang) (byte ∷ rest) → (byte == code "]") ≡ false →
       InnerFlawed bang None text flaw → ChordFault bang text flaw
 
 -- ---- reading, between these and the code
@@ -89,7 +90,7 @@ pub data ChordFault (bang : Bool) : List ℕ → Flaw → Type 0 where
 -- the bracket in front closes a chord that has a head
 abbrev pub bracket_here : Bool → List ℕ → Option (List ℕ)
 bracket_here head [] = None
-bracket_here head (byte ∷ rest) = if byte == 93 && head then Some (byte ∷ rest) else None
+bracket_here head (byte ∷ rest) = if byte == code "]" && head then Some (byte ∷ rest) else None
 
 -- the first bracket in a name, where parts alone stand before it and there is a head
 abbrev pub bracket_in : Bool → Bool → List ℕ → Option (List ℕ × List ℕ) → Option (List ℕ)
@@ -102,7 +103,7 @@ bracket_in bang head text (Some named) =
 -- the bracket that closes a chord where the exclamation mark in front begins no name
 unfoldable pub bracket_in_name : Bool → Bool → List ℕ → Option (List ℕ)
 bracket_in_name bang head [] = None
-bracket_in_name bang head (byte ∷ rest) = if byte == 33 && not bang then bracket_in bang head rest (name_at rest) else None
+bracket_in_name bang head (byte ∷ rest) = if byte == code "!" && not bang then bracket_in bang head rest (name_at rest) else None
 
 -- the last bracket at which a chord may end: the one behind all the parts, else one in a name
 abbrev pub last_bracket : Bool → Bool → List Inner → List ℕ → Option (List ℕ)

@@ -1,5 +1,6 @@
 -- Decorations: the letters that name one, and what each name says. Dynamic marks stand below the
 -- staff and fingers above it; a name that is not known draws nothing.
+use Prim.Native.Char.{code}
 use Rattle.std.specs.Prelude.{ℕ, List, [], ◌∷◌, Bool, false, ◌==◌, ◌||◌, not, if◌then◌else◌, nat_eq, codes}
 use lib.Pointwise.{pointwise}
 use Rattle.mus_units.specs.declared.note.Deco.{Deco}
@@ -8,17 +9,17 @@ use Rattle.abc_notes.specs.Runs.{one_of}
 
 -- ~ H L M O P S T u v; the dot is one too
 abbrev pub is_deco_letter : ℕ → Bool
-is_deco_letter byte = one_of (126 ∷ 72 ∷ 76 ∷ 77 ∷ 79 ∷ 80 ∷ 83 ∷ 84 ∷ 117 ∷ 118 ∷ []) byte
+is_deco_letter byte = one_of (codes "~HLMOPSTuv") byte
 
 unfoldable pub deco_of_letter : ℕ → Deco
 deco_of_letter byte =
-    if byte == 46 then Ks else (if byte == 126 then Kr else (if byte == 72 then Kf else (if byte == 76 then Ka
-    else (if byte == 77 then Km else (if byte == 79 then Kc else (if byte == 80 then Kp else (if byte == 83 then Kg
-    else (if byte == 84 then Kt else (if byte == 117 then Ku else Kd)))))))))
+    if byte == code "." then Ks else (if byte == code "~" then Kr else (if byte == code "H" then Kf else (if byte == code "L" then Ka
+    else (if byte == code "M" then Km else (if byte == code "O" then Kc else (if byte == code "P" then Kp else (if byte == code "S" then Kg
+    else (if byte == code "T" then Kt else (if byte == code "u" then Ku else Kd)))))))))
 
 -- a name has no blank, no bar sign and no exclamation mark
 abbrev pub is_name_byte : ℕ → Bool
-is_name_byte byte = not (one_of (33 ∷ 32 ∷ 9 ∷ 124 ∷ []) byte)
+is_name_byte byte = not (one_of (codes "! \t|") byte)
 
 abbrev pub is_text : List ℕ → List ℕ → Bool
 is_text name word = pointwise nat_eq name word

@@ -1,5 +1,6 @@
 -- A grace group: a slash or none, and notes and chords between braces. A name within, also within a
 -- chord, may hold a closing brace; a group is as long as it can be.
+use Prim.Native.Char.{code}
 use Rattle.std.specs.Prelude.{◌≡◌, ◌≤◌, ◌<◌, ◌-◌, ℕ, zero, suc, List, [], ◌∷◌, ◌++◌, length, take, drop, map, Bool, true, false, not, ◌==◌, ◌&&◌, if◌then◌else◌, Option, Some, None, option_map, MatchBool}
 use Rattle.std.specs.List.{list_all}
 use Rattle.mus_units.specs.declared.note.Head.{Head}
@@ -20,10 +21,10 @@ pub data GracePart : Type 0 where
 
 abbrev pub grace_part_then : GracePart → List ℕ → List ℕ
 grace_part_then (single part) rest = inner_then part rest
-grace_part_then (chorded f) rest = 91 ∷ chord_then f rest
+grace_part_then (chorded f) rest = code "[" ∷ chord_then f rest
 
 abbrev pub is_in_grace : ℕ → Bool
-is_in_grace byte = not (byte == 125)
+is_in_grace byte = not (byte == code "}")
 
 abbrev pub IsGracePart : Bool → GracePart → Type 0
 IsGracePart bang (single part) = IsInner bang part
@@ -46,11 +47,11 @@ pub record GraceForm : Type 0 where
   pub parts : List GracePart
 
 abbrev pub is_slash_byte : ℕ → Bool
-is_slash_byte byte = byte == 47
+is_slash_byte byte = byte == code "/"
 
 -- what stands behind the opening brace, and what follows the group
 abbrev pub grace_then : GraceForm → List ℕ → List ℕ
-grace_then f rest = maybe f.slash 47 (f.inside ++ (125 ∷ rest))
+grace_then f rest = maybe f.slash (code "/") (f.inside ++ (code "}" ∷ rest))
 
 pub record IsGrace (bang : Bool) (f : GraceForm) : Type 0 where
   pub parts : GraceParts bang f.inside f.parts
@@ -83,7 +84,7 @@ body_of (part ∷ more) = body_of_part part ++ body_of more
 -- where no part stands: at a bracket the fault of a chord, else the byte
 abbrev pub IsGraceOwn : Bool → List ℕ → Flaw → Type 0
 IsGraceOwn bang [] flaw = ⊥
-IsGraceOwn bang (byte ∷ rest) flaw = MatchBool (byte == 91) (ChordFault bang rest flaw) (IsBadByte (byte ∷ rest) flaw)
+IsGraceOwn bang (byte ∷ rest) flaw = MatchBool (byte == code "[") (ChordFault bang rest flaw) (IsBadByte (byte ∷ rest) flaw)
 
 abbrev pub GraceFlawed : Bool → Option ℕ → List ℕ → Flaw → Type 0
 GraceFlawed bang before text flaw = Flawed GracePart (StandsInGrace bang) part_has_length (IsGraceOwn bang) before text flaw
@@ -94,7 +95,7 @@ GraceLeads bang text parts rest = Leads GracePart (StandsInGrace bang) text part
 
 -- the slash behind an opening brace, if one stands there
 pub record HasSlash (text : List ℕ) (slash : Bool) (behind : List ℕ) : Type 0 where
-  pub cut : text ≡ maybe slash 47 behind
+  pub cut : text ≡ maybe slash (code "/") behind
   pub is_read : slash ≡ false → begins is_slash_byte behind ≡ false
 
 -- the fault behind an opening brace, where no grace group stands: no closing brace follows, or parts
@@ -103,7 +104,7 @@ pub data GraceFault (bang : Bool) : List ℕ → Flaw → Type 0 where
   grace_unclosed : (text : List ℕ) → list_all is_in_grace text ≡ true → GraceFault bang text (record { kind = Unclosed; left = suc (length text) })
   grace_open : (text : List ℕ) (slash : Bool) (behind : List ℕ) (parts : List GracePart) → HasSlash text slash behind → GraceLeads bang behind parts [] → GraceFault bang text (record { kind = Unclosed; left = suc (length text) })
   grace_flawed : (text : List ℕ) (slash : Bool) (behind : List ℕ) (parts : List GracePart) (byte : ℕ) (rest : List ℕ) (flaw : Flaw) → list_all is_in_grace text ≡ false → HasSlash text slash behind →
-      GraceLeads bang behind parts (byte ∷ rest) → (byte == 125) ≡ false → GraceFlawed bang None behind flaw → GraceFault bang text flaw
+      GraceLeads bang behind parts (byte ∷ rest) → (byte == code "}") ≡ false → GraceFlawed bang None behind flaw → GraceFault bang text flaw
 
 -- ---- reading, between these and the code
 
@@ -115,12 +116,12 @@ single_read z = (single z.0, z.1)
 
 unfoldable pub grace_part_at : Bool → List ℕ → Option (GracePart × List ℕ)
 grace_part_at bang [] = None
-grace_part_at bang (byte ∷ rest) = if byte == 91 then option_map chorded_read (chord_at bang rest) else option_map single_read (inner_at bang (byte ∷ rest))
+grace_part_at bang (byte ∷ rest) = if byte == code "[" then option_map chorded_read (chord_at bang rest) else option_map single_read (inner_at bang (byte ∷ rest))
 
 -- the brace in front closes the group
 abbrev pub brace_here : List ℕ → Option (List ℕ)
 brace_here [] = None
-brace_here (byte ∷ rest) = if byte == 125 then Some (byte ∷ rest) else None
+brace_here (byte ∷ rest) = if byte == code "}" then Some (byte ∷ rest) else None
 
 -- the first brace in a name, where parts alone stand before it
 abbrev pub brace_in : Bool → List ℕ → Option (List ℕ × List ℕ) → Option (List ℕ)
@@ -132,10 +133,10 @@ brace_in bang text (Some named) =
 -- the brace that closes a group where the exclamation mark in front begins no name
 unfoldable pub brace_in_name : Bool → List ℕ → Option (List ℕ)
 brace_in_name bang [] = None
-brace_in_name bang (byte ∷ rest) = if byte == 33 && not bang then brace_in bang rest (name_at rest) else None
+brace_in_name bang (byte ∷ rest) = if byte == code "!" && not bang then brace_in bang rest (name_at rest) else None
 
 abbrev pub is_brace : ℕ → Bool
-is_brace byte = byte == 125
+is_brace byte = byte == code "}"
 
 -- so many bytes on a brace stands, and parts alone stand before it
 abbrev pub closes_at : Bool → List ℕ → ℕ → Bool
@@ -152,7 +153,7 @@ brace_at bang text = last_closing bang text (length text)
 
 -- the last brace of a text that begins with the bracket of a chord, or none
 unfoldable pub brace_in_chord : Bool → List ℕ → Option (List ℕ)
-brace_in_chord bang inside = brace_at bang (91 ∷ inside)
+brace_in_chord bang inside = brace_at bang (code "[" ∷ inside)
 
 -- behind a chord, which is given from its closing bracket on
 abbrev pub brace_behind : Bool → List ℕ → Option (List ℕ)
@@ -188,7 +189,7 @@ grace_from bang slash text (Some (brace ∷ rest)) =
     Some (record { slash = slash; inside = inside; parts = (walk (grace_part_at bang) inside).0 }, rest)
 
 unfoldable pub grace_at : Bool → List ℕ → Option (GraceForm × List ℕ)
-grace_at bang text = let slash = skip 47 text in grace_from bang slash.0 slash.1 (brace_at bang slash.1)
+grace_at bang text = let slash = skip (code "/") text in grace_from bang slash.0 slash.1 (brace_at bang slash.1)
 
 -- a part as the code reads it: what it gives to the body, whether it has a length, and what stands
 -- between its brackets where it is a chord
@@ -206,7 +207,7 @@ inside_of_item (found.Chord inside) = Some inside.now
 -- a part that the code has read off a text
 abbrev pub IsItemAt : Bool → GraceItem → List ℕ → Type 0
 IsItemAt bang (found.Part part) text = Unit {0}
-IsItemAt bang (found.Chord inside) text = (length inside.now < length text) × (is_done (walk (inner_at bang) inside.now) ≡ true) × (text ≡ (91 ∷ inside.now) ++ drop (suc (length inside.now)) text)
+IsItemAt bang (found.Chord inside) text = (length inside.now < length text) × (is_done (walk (inner_at bang) inside.now) ≡ true) × (text ≡ (code "[" ∷ inside.now) ++ drop (suc (length inside.now)) text)
 
 abbrev pub brace_in_item : Bool → GraceItem → List ℕ → Option (List ℕ)
 brace_in_item bang (found.Part part) text = brace_in_name bang text

@@ -1,6 +1,7 @@
 -- What may stand within a chord or a grace: notes, decorations, ties, and what is passed over
 -- there, which is blanks, slurs and a lone exclamation mark.
-use Rattle.std.specs.Prelude.{◌≡◌, ◌≤◌, ℕ, List, [], ◌∷◌, ◌++◌, length, Bool, true, false, ◌==◌, ◌||◌, if◌then◌else◌, Option, Some, None, option_map}
+use Prim.Native.Char.{code}
+use Rattle.std.specs.Prelude.{◌≡◌, ◌≤◌, ℕ, List, [], ◌∷◌, ◌++◌, length, Bool, true, false, ◌==◌, ◌||◌, if◌then◌else◌, Option, Some, None, option_map, codes}
 use Rattle.std.specs.List.{list_all}
 use Rattle.mus_units.specs.declared.note.Head.{Head}
 use Rattle.abc_lines.specs.declared.fault.FaultKind.TheVariants.{BadByte, BadLength}
@@ -29,11 +30,11 @@ pub data Inner : Type 0 where
 abbrev pub inner_then : Inner → List ℕ → List ℕ
 inner_then (note_inside f) rest = note_then f rest
 inner_then (letter_inside byte) rest = byte ∷ rest
-inner_then (named_inside name) rest = 33 ∷ (name ++ (33 ∷ rest))
-inner_then (tie_inside dotted) rest = maybe dotted 46 (45 ∷ rest)
-inner_then slur_inside rest = 46 ∷ 40 ∷ rest
+inner_then (named_inside name) rest = code "!" ∷ (name ++ (code "!" ∷ rest))
+inner_then (tie_inside dotted) rest = maybe dotted (code ".") (code "-" ∷ rest)
+inner_then slur_inside rest = code "." ∷ code "(" ∷ rest
 inner_then (passed_inside byte) rest = byte ∷ rest
-inner_then lone_inside rest = 33 ∷ rest
+inner_then lone_inside rest = code "!" ∷ rest
 
 pub record IsName (name : List ℕ) : Type 0 where
   pub some : 1 ≤ length name
@@ -41,10 +42,10 @@ pub record IsName (name : List ℕ) : Type 0 where
 
 -- a space, a tab, and the parentheses of slurs
 abbrev pub is_passed_inside : ℕ → Bool
-is_passed_inside byte = one_of (32 ∷ 9 ∷ 40 ∷ 41 ∷ []) byte
+is_passed_inside byte = one_of (codes " \t()") byte
 
 abbrev pub is_letter_inside : ℕ → Bool
-is_letter_inside byte = byte == 46 || is_deco_letter byte
+is_letter_inside byte = byte == code "." || is_deco_letter byte
 
 -- where an exclamation mark is a line break, none stands within
 abbrev pub IsInner : Bool → Inner → Type 0
@@ -108,31 +109,31 @@ inner_read part rest = Some (part, rest)
 abbrev pub closed_name : List ℕ → List ℕ → Option (List ℕ × List ℕ)
 closed_name [] rest = None
 closed_name (byte ∷ name) [] = None
-closed_name (byte ∷ name) (mark ∷ rest) = if mark == 33 then Some (byte ∷ name, rest) else None
+closed_name (byte ∷ name) (mark ∷ rest) = if mark == code "!" then Some (byte ∷ name, rest) else None
 
 -- a name and the exclamation mark behind it
 unfoldable pub name_at : List ℕ → Option (List ℕ × List ℕ)
 name_at text = let name = span_all is_name_byte text in closed_name name.0 name.1
 
 abbrev pub is_note_byte : ℕ → Bool
-is_note_byte byte = is_note_letter byte || one_of (94 ∷ 95 ∷ 61 ∷ []) byte
+is_note_byte byte = is_note_letter byte || one_of (codes "^_=") byte
 
 unfoldable pub item_class : ℕ → ItemClass
 item_class byte =
     if is_note_byte byte then class.Note
-    else (if byte == 46 then class.Dot
+    else (if byte == code "." then class.Dot
     else (if is_deco_letter byte then class.Letter
-    else (if byte == 45 then class.Tie
+    else (if byte == code "-" then class.Tie
     else (if is_passed_inside byte then class.Passed
-    else (if byte == 33 then class.Bang
+    else (if byte == code "!" then class.Bang
     else class.Nothing)))))
 
 abbrev pub dot_inside : List ℕ → ReadInner
-dot_inside [] = inner_read (letter_inside 46) []
+dot_inside [] = inner_read (letter_inside (code ".")) []
 dot_inside (byte ∷ rest) =
-    if byte == 40 then inner_read slur_inside rest
-    else (if byte == 45 then inner_read (tie_inside true) rest
-    else inner_read (letter_inside 46) (byte ∷ rest))
+    if byte == code "(" then inner_read slur_inside rest
+    else (if byte == code "-" then inner_read (tie_inside true) rest
+    else inner_read (letter_inside (code ".")) (byte ∷ rest))
 
 abbrev pub named_or : Option (List ℕ × List ℕ) → List ℕ → ReadInner
 named_or None text = inner_read lone_inside text

@@ -1,16 +1,20 @@
--- Numbers and lengths: their bytes, what they mean, and reading them.
+-- Numbers and lengths. A number has digits, no zero in front, and no more digits than it may have. A
+-- length is a number of at most four digits or none, and then nothing, a slash and such a number, or
+-- one to six slashes, each of which halves. What they mean, and reading them.
+use Prim.Native.Char.{code}
 use Rattle.std.specs.Prelude.{◌≡◌, ℕ, zero, suc, ◌≤◌, ◌^◌, List, [], ◌∷◌, ◌++◌, length, Bool, true, false, ◌==◌, if◌then◌else◌}
 use Rattle.std.specs.List.{list_all}
 use Rattle.std.specs.Str.Parse.{digits_value}
 use Rattle.abc_notes.specs.declared.part.Len.{Len}
-use Rattle.abc_notes.specs.Runs.{copies, span, begins, is_digit}
+use Rattle.mus_units.specs.Bytes.{is_digit}
+use Rattle.abc_notes.specs.Runs.{copies, span, begins}
 
 -- the digits of a number: at least one, at most `most`, and no zero in front
 pub record IsNumber (most : ℕ) (ds : List ℕ) : Type 0 where
   pub some : 1 ≤ length ds
   pub few : length ds ≤ most
   pub digits : list_all is_digit ds ≡ true
-  pub no_zero : begins (λ b. b == 48) ds ≡ false
+  pub no_zero : begins (λ b. b == code "0") ds ≡ false
 
 -- a number or none
 abbrev pub IsCount : ℕ → List ℕ → Type 0
@@ -30,8 +34,8 @@ pub data LengthForm : Type 0 where
 -- its bytes, and what follows them
 abbrev pub length_then : LengthForm → List ℕ → List ℕ
 length_then (whole count) rest = count ++ rest
-length_then (over count below) rest = count ++ (47 ∷ (below ++ rest))
-length_then (halved count slashes) rest = count ++ copies slashes 47 rest
+length_then (over count below) rest = count ++ (code "/" ∷ (below ++ rest))
+length_then (halved count slashes) rest = count ++ copies slashes (code "/") rest
 
 abbrev pub IsLength : LengthForm → Type 0
 IsLength (whole count) = IsCount 4 count
@@ -45,10 +49,10 @@ len_of (halved count slashes) = record { num = count_of count; den = 2 ^ slashes
 
 -- a number at the front, and what follows
 unfoldable pub number_at : ℕ → List ℕ → List ℕ × List ℕ
-number_at most s = if begins (λ b. b == 48) s then ([], s) else span is_digit most s
+number_at most s = if begins (λ b. b == code "0") s then ([], s) else span is_digit most s
 
 abbrev pub is_slash : ℕ → Bool
-is_slash b = b == 47
+is_slash b = b == code "/"
 
 -- behind the first number: up to six slashes, and a number behind a lone slash
 abbrev pub below_at : List ℕ → List ℕ × List ℕ → List ℕ × List ℕ → LengthForm × List ℕ

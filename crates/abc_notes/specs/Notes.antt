@@ -1,4 +1,7 @@
--- A note, and reading one.
+-- A note: a sign or none, a letter, octave marks in any mix, and a length. A capital is in octave 4
+-- and a small letter in octave 5; each prime counts one octave up and each comma one down. Then
+-- reading a note from left to right.
+use Prim.Native.Char.{code}
 use Rattle.std.specs.Prelude.{◌≡◌, ℕ, ℤ, pos, ◌+ℤ◌, ◌-ℤ◌, List, [], ◌∷◌, ◌++◌, Bool, true, false, ◌==◌, if◌then◌else◌, Option, Some, None, count_by}
 use Rattle.std.specs.List.{list_all}
 use Rattle.mus_units.specs.declared.pitch.Alter.{Alter}
@@ -17,29 +20,31 @@ pub record NoteForm : Type 0 where
   pub marks : List ℕ
   pub length : LengthForm
 
+-- two carets, one, two underscores, one, or an equals sign; or no sign
 abbrev pub sign_then : Option Alter → List ℕ → List ℕ
 sign_then None rest = rest
-sign_then (Some Sharp2) rest = 94 ∷ 94 ∷ rest
-sign_then (Some Sharp) rest = 94 ∷ rest
-sign_then (Some Flat2) rest = 95 ∷ 95 ∷ rest
-sign_then (Some Flat) rest = 95 ∷ rest
-sign_then (Some Natural) rest = 61 ∷ rest
+sign_then (Some Sharp2) rest = code "^" ∷ code "^" ∷ rest
+sign_then (Some Sharp) rest = code "^" ∷ rest
+sign_then (Some Flat2) rest = code "_" ∷ code "_" ∷ rest
+sign_then (Some Flat) rest = code "_" ∷ rest
+sign_then (Some Natural) rest = code "=" ∷ rest
 
+-- a letter as a small letter or as a capital
 abbrev pub letter_byte : Bool → Letter → ℕ
-letter_byte false A = 65
-letter_byte false B = 66
-letter_byte false C = 67
-letter_byte false D = 68
-letter_byte false E = 69
-letter_byte false F = 70
-letter_byte false G = 71
-letter_byte true A = 97
-letter_byte true B = 98
-letter_byte true C = 99
-letter_byte true D = 100
-letter_byte true E = 101
-letter_byte true F = 102
-letter_byte true G = 103
+letter_byte false A = code "A"
+letter_byte false B = code "B"
+letter_byte false C = code "C"
+letter_byte false D = code "D"
+letter_byte false E = code "E"
+letter_byte false F = code "F"
+letter_byte false G = code "G"
+letter_byte true A = code "a"
+letter_byte true B = code "b"
+letter_byte true C = code "c"
+letter_byte true D = code "d"
+letter_byte true E = code "e"
+letter_byte true F = code "f"
+letter_byte true G = code "g"
 
 -- the bytes of a note, and what follows them
 abbrev pub note_then : NoteForm → List ℕ → List ℕ
@@ -49,9 +54,9 @@ pub record IsNote (f : NoteForm) : Type 0 where
   pub marks : list_all is_mark f.marks ≡ true
   pub length : IsLength f.length
 
--- `C` is in octave 4 and `c` in octave 5, and each mark counts one
+-- `C` is in octave 4 and `c` in octave 5, and each mark counts one up or down
 abbrev pub octave_of : Bool → List ℕ → ℤ
-octave_of low marks = (pos (if low then 5 else 4) +ℤ pos (count_by (λ b. b == 39) marks)) -ℤ pos (count_by (λ b. b == 44) marks)
+octave_of low marks = (pos (if low then 5 else 4) +ℤ pos (count_by (λ b. b == code "'") marks)) -ℤ pos (count_by (λ b. b == code ",") marks)
 
 abbrev pub head_of : NoteForm → Head
 head_of f = record { pitch = record { letter = f.letter; octave = octave_of f.low f.marks }; sign = f.sign; tied = false }
@@ -62,24 +67,24 @@ note_read head len rest = (head, len, rest)
 -- reading from left to right
 unfoldable pub sign_at : List ℕ → Option Alter × List ℕ
 sign_at s =
-    let up = skip 94 s in
-    let up_two = skip 94 up.1 in
-    let down = skip 95 s in
-    let down_two = skip 95 down.1 in
-    let plain = skip 61 s in
+    let up = skip (code "^") s in
+    let up_two = skip (code "^") up.1 in
+    let down = skip (code "_") s in
+    let down_two = skip (code "_") down.1 in
+    let plain = skip (code "=") s in
     if up.0 then (if up_two.0 then (Some Sharp2, up_two.1) else (Some Sharp, up.1))
     else (if down.0 then (if down_two.0 then (Some Flat2, down_two.1) else (Some Flat, down.1))
     else (if plain.0 then (Some Natural, plain.1) else (None, s)))
 
 abbrev pub upper_at : ℕ → Option Letter
 upper_at b =
-    if b == 65 then Some A else (if b == 66 then Some B else (if b == 67 then Some C else (if b == 68 then Some D
-    else (if b == 69 then Some E else (if b == 70 then Some F else (if b == 71 then Some G else None))))))
+    if b == code "A" then Some A else (if b == code "B" then Some B else (if b == code "C" then Some C else (if b == code "D" then Some D
+    else (if b == code "E" then Some E else (if b == code "F" then Some F else (if b == code "G" then Some G else None))))))
 
 abbrev pub lower_at : ℕ → Option Letter
 lower_at b =
-    if b == 97 then Some A else (if b == 98 then Some B else (if b == 99 then Some C else (if b == 100 then Some D
-    else (if b == 101 then Some E else (if b == 102 then Some F else (if b == 103 then Some G else None))))))
+    if b == code "a" then Some A else (if b == code "b" then Some B else (if b == code "c" then Some C else (if b == code "d" then Some D
+    else (if b == code "e" then Some E else (if b == code "f" then Some F else (if b == code "g" then Some G else None))))))
 
 abbrev pub either_letter : Option Letter → Option Letter → Option (Bool × Letter)
 either_letter (Some l) low = Some (false, l)

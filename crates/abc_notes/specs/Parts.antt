@@ -1,10 +1,11 @@
 -- Text that is read part by part, each part as long as it can be: the list of parts that a text
 -- is, and the first place where it has none. `Stands part text rest` says that the part stands at
 -- the front of the text, with the rest behind it.
+use Prim.Native.Char.{code}
 use Rattle.std.specs.Prelude.{◌≡◌, ◌≤◌, ℕ, zero, suc, List, [], ◌∷◌, length, Bool, true, false, ◌||◌, ◌==◌, Option, Some, None, MatchBool}
 use Rattle.abc_lines.specs.declared.fault.FaultKind.TheVariants.{BadLength}
 use Rattle.abc_notes.specs.declared.part.Flaw.{Flaw}
-use Rattle.abc_notes.specs.Runs.{is_digit}
+use Rattle.mus_units.specs.Bytes.{is_digit}
 
 -- the part stands at the front, and no longer one does
 pub record IsLongest (I : Type 0) (Stands : I → List ℕ → List ℕ → Type 0) (text : List ℕ) (part : I) (rest : List ℕ) : Type 0 where
@@ -26,7 +27,7 @@ pub data Leads (I : Type 0) (Stands : I → List ℕ → List ℕ → Type 0) : 
 
 -- a digit or a slash goes on a length
 abbrev pub goes_on_length : ℕ → Bool
-goes_on_length byte = is_digit byte || byte == 47
+goes_on_length byte = is_digit byte || byte == code "/"
 
 -- where no part stands: a length that goes on is a fault of the part that has it, `at` bytes from
 -- the end; any other fault is the text's own

@@ -1,6 +1,8 @@
--- Bytes at the front of a list.
-use Rattle.std.specs.Prelude.{ℕ, zero, suc, List, [], ◌∷◌, Bool, true, false, ◌==◌, ◌&&◌, ◌||◌, nat_le, if◌then◌else◌, take, drop}
+-- What stands at the front of a list of bytes: a byte or none, runs of one byte, and bytes that pass
+-- a test; and the bytes of a note that are a class by themselves.
+use Rattle.std.specs.Prelude.{ℕ, zero, suc, List, [], ◌∷◌, Bool, true, false, ◌==◌, ◌||◌, if◌then◌else◌, take, drop, codes}
 use Rattle.std.specs.List.{prefix_len}
+use Rattle.mus_units.specs.Bytes.{is_within, is_either}
 
 -- the byte n times, and then the rest
 abbrev pub copies : ℕ → ℕ → List ℕ → List ℕ
@@ -39,19 +41,10 @@ abbrev pub begins : (ℕ → Bool) → List ℕ → Bool
 begins p [] = false
 begins p (x ∷ s) = p x
 
-abbrev pub is_digit : ℕ → Bool
-is_digit b = nat_le 48 b && nat_le b 57
-
+-- a prime or a comma
 abbrev pub is_mark : ℕ → Bool
-is_mark b = b == 39 || b == 44
-
-abbrev pub is_blank : ℕ → Bool
-is_blank b = b == 32 || b == 9
-
--- A to Z, a to z
-abbrev pub is_letter : ℕ → Bool
-is_letter b = (nat_le 65 b && nat_le b 90) || (nat_le 97 b && nat_le b 122)
+is_mark byte = is_either (codes "',") byte
 
 -- A to G, a to g
 abbrev pub is_note_letter : ℕ → Bool
-is_note_letter b = (nat_le 65 b && nat_le b 71) || (nat_le 97 b && nat_le b 103)
+is_note_letter byte = is_within (codes "AG") byte || is_within (codes "ag") byte

@@ -2,7 +2,10 @@
 
 ghost use Rattle.std.specs.Prelude.{◌≡◌, ◌≤◌, ◌==◌, length, take};
 ghost use Rattle.std.specs.List.{prefix_len};
-ghost use Rattle.abc_notes.specs.Runs.{run_off, skip, span, span_all, is_digit, is_mark};
+ghost use Rattle.mus_units.specs.Bytes.{is_digit};
+ghost use Rattle.abc_notes.specs.Runs.{run_off, skip, span, span_all, is_mark};
+
+use mus_units::bytes::is_digit;
 
 /// How often this byte stands at the front, and what follows.
 #[tactic(auto, unfolding(crate::specs::Runs::run_off))]
@@ -48,7 +51,7 @@ fn digit_count(limit: usize, bytes: &[u8]) -> usize
     bytes
         .iter()
         .take(limit)
-        .take_while(|b| **b >= 48 && **b <= 57)
+        .take_while(|b| is_digit(**b))
         .count()
 }
 

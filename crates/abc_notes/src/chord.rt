@@ -12,6 +12,7 @@ use crate::item::{item_at, name_at};
 use crate::length::length_at;
 use crate::part::{Flaw, Item, Len};
 use abc_lines::FaultKind;
+use mus_units::bytes::is_digit;
 use mus_units::{Deco, Head, Memory, Row};
 use std::alloc::Global;
 
@@ -79,7 +80,7 @@ fn inner_flaw(before: Option<usize>, byte: u8, here: usize) -> Flaw
 pub fn goes_on_length(byte: u8) -> bool
     ensures { result ≡ goes_on_length byte }
 {
-    (byte >= b'0' && byte <= b'9') || byte == b'/'
+    is_digit(byte) || byte == b'/'
 }
 
 /// The inside of a chord up to its closing bracket, and what follows.

@@ -122,7 +122,7 @@ pub fn is_note_byte(byte: u8) -> bool
 fn is_note_letter(byte: u8) -> bool
     ensures { result ≡ is_note_letter byte }
 {
-    (byte >= b'A' && byte <= b'G') || (byte >= b'a' && byte <= b'g')
+    matches!(byte, b'A'..=b'G' | b'a'..=b'g')
 }
 
 /// Whether it is a letter that names a decoration.

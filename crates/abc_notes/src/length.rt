@@ -3,7 +3,8 @@
 ghost use Rattle.std.specs.Prelude.{◌≡◌, ℕ, List, ◌<◌, ◌≤◌, ◌^◌, length, take, true};
 ghost use Rattle.std.specs.List.{prefix_len, list_all};
 ghost use Rattle.std.specs.Str.Parse.{digits_value};
-ghost use Rattle.abc_notes.specs.Runs.{span, is_digit};
+ghost use Rattle.mus_units.specs.Bytes.{is_digit};
+ghost use Rattle.abc_notes.specs.Runs.{span};
 ghost use Rattle.abc_notes.specs.Lengths.{IsNumber, IsCount, limit_at, count_of, number_at, length_at, len_of, is_slash, length_read};
 
 use crate::bytes::digits_off;

@@ -2,7 +2,7 @@
 use Rattle.std.proofs.Common.{◌≡◌, ℕ, ◌≤◌, ◌<◌, Bool, true, false, cond, eqb, leb, [], ◌∷◌, refl, subst, arith, inl, inr}
 use Rattle.std.specs.Prelude.{◌||◌, ◌&&◌, not}
 use Rattle.std.proofs.lemmas.Bool.{cond_both, eqb-true, leb-true, or_cases, and_parts, both_ways}
-use Rattle.abc_notes.specs.Runs.{is_digit, is_blank, is_letter}
+use Rattle.mus_units.specs.Bytes.{is_digit, is_blank, is_letter}
 use Rattle.abc_pieces.specs.declared.token.Class.{Class}
 use Rattle.abc_pieces.specs.declared.token.Class.TheVariants as class
 use Rattle.abc_notes.specs.Decorations.{is_deco_letter}

@@ -8,7 +8,8 @@ use Rattle.mus_units.specs.declared.pitch.Alter.{Alter}
 use Rattle.mus_units.specs.declared.pitch.Alter.TheVariants.{Flat2, Flat, Natural, Sharp, Sharp2}
 use Rattle.mus_units.specs.declared.pitch.Letter.{Letter}
 use Rattle.mus_units.specs.declared.pitch.Letter.TheVariants.{C, D, E, F, G, A, B}
-use Rattle.abc_notes.specs.Runs.{copies, maybe, span, span_all, is_digit, is_blank, is_letter}
+use Rattle.mus_units.specs.Bytes.{is_digit, is_blank, is_letter}
+use Rattle.abc_notes.specs.Runs.{copies, maybe, span, span_all}
 use Rattle.abc_notes.proofs.SpanLaws.{span-append, span-less, span_all-append, span_all-less, span_all-stops, span_all-takes}
 use Rattle.abc_pieces.specs.Bars.{BarForm, signs, colons, form_at, spelled as bar_then, IsGood as IsBar}
 use Rattle.abc_pieces.proofs.BarLaws.{TakesIf as TakesBarIf, form_at-takes, form_at-reaches}

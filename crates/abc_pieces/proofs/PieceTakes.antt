@@ -3,7 +3,8 @@ use Rattle.std.proofs.Common.{◌≡◌, ℕ, suc, Bool, true, false, cond, eqb,
 use Rattle.std.specs.Prelude.{◌&&◌, IfSome, option_map}
 use Rattle.std.specs.List.{list_all}
 use Rattle.std.proofs.lemmas.Bool.{cond_both, or_left, or_right, and_parts, eqb-true, not-false, eq-eqb}
-use Rattle.abc_notes.specs.Runs.{copies, span, span_all, is_digit, is_blank, is_letter, begins}
+use Rattle.mus_units.specs.Bytes.{is_digit, is_blank, is_letter}
+use Rattle.abc_notes.specs.Runs.{copies, span, span_all, begins}
 use Rattle.abc_notes.proofs.SpanLaws.{span-takes, span-pass, span-length, span_all-takes, span_all-pass, span_all-after}
 use Rattle.abc_pieces.specs.Bars.{BarForm, form_at}
 use Rattle.abc_pieces.proofs.BarLaws.{TakesIf as TakesBarIf, form_at-takes}

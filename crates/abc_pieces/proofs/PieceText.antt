@@ -1,7 +1,8 @@
 -- What a piece is read as, where the code puts it together.
 use Rattle.std.proofs.Common.{◌≡◌, ℕ, suc, ◌+◌, Bool, true, List, ◌∷◌, Option, Some, None, take, drop, refl, ap, arith}
 use Rattle.std.specs.List.{prefix_len}
-use Rattle.abc_notes.specs.Runs.{span_all, is_digit}
+use Rattle.mus_units.specs.Bytes.{is_digit}
+use Rattle.abc_notes.specs.Runs.{span_all}
 use Rattle.abc_pieces.specs.declared.token.Before.{Before}
 use Rattle.abc_pieces.specs.declared.token.Before.TheVariants as behind
 use Rattle.abc_pieces.specs.declared.token.Class.TheVariants as class

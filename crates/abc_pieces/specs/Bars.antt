@@ -1,4 +1,7 @@
--- What a bar is, and reading one.
+-- A bar: a dot or none, colons, an opening bracket or none, one or more bar signs, a closing bracket
+-- or none, and colons; or two or more colons alone. Which features it has, and reading one from left
+-- to right.
+use Prim.Native.Char.{code}
 use Rattle.std.specs.Prelude.{ℕ, ◌≤◌, List, Bool, true, false, ◌&&◌, ◌||◌, not, nat_lt, ◌==◌, if◌then◌else◌, Option, Some, None}
 use Rattle.mus_units.specs.declared.note.Bar.{Bar}
 use Rattle.abc_notes.specs.Runs.{copies, maybe, run_off, skip}
@@ -11,8 +14,8 @@ pub data BarForm : Type 0 where
 -- its bytes, and what follows them
 abbrev pub spelled : BarForm → List ℕ → List ℕ
 spelled (signs dot before bracket lines close after) rest =
-    maybe dot 46 (copies before 58 (maybe bracket 91 (copies lines 124 (maybe close 93 (copies after 58 rest)))))
-spelled (colons n) rest = copies n 58 rest
+    maybe dot (code ".") (copies before (code ":") (maybe bracket (code "[") (copies lines (code "|") (maybe close (code "]") (copies after (code ":") rest)))))
+spelled (colons n) rest = copies n (code ":") rest
 
 abbrev pub IsGood : BarForm → Type 0
 IsGood (signs dot before bracket lines close after) = 1 ≤ lines
@@ -39,12 +42,12 @@ meant (colons n) = record { end = true; start = true; last = false; initial = fa
 -- reading from left to right
 unfoldable pub form_at : List ℕ → Option (BarForm × List ℕ)
 form_at bytes =
-    let dot = skip 46 bytes in
-    let before = run_off 58 dot.1 in
-    let bracket = skip 91 before.1 in
-    let lines = run_off 124 bracket.1 in
-    let close = skip 93 lines.1 in
-    let after = run_off 58 close.1 in
+    let dot = skip (code ".") bytes in
+    let before = run_off (code ":") dot.1 in
+    let bracket = skip (code "[") before.1 in
+    let lines = run_off (code "|") bracket.1 in
+    let close = skip (code "]") lines.1 in
+    let after = run_off (code ":") close.1 in
     if lines.0 == 0 then (if dot.0 || nat_lt before.0 2 then None else Some (colons before.0, before.1))
     else Some (signs dot.0 before.0 bracket.0 lines.0 close.0 after.0, after.1)
 

@@ -1,8 +1,10 @@
 -- The pieces of a music line: the bytes of each kind, what it says, and what it tells of the next.
 -- A piece is the spelling of a token, or one item that is passed over.
-use Rattle.std.specs.Prelude.{◌≡◌, ℕ, ◌≤◌, List, [], ◌∷◌, ◌++◌, map, Bool, true, false, not, ◌==◌, ◌&&◌, ◌||◌, nat_le, if◌then◌else◌, Option, Some, None}
+use Prim.Native.Char.{code}
+use Rattle.std.specs.Prelude.{◌≡◌, ℕ, ◌≤◌, List, [], ◌∷◌, ◌++◌, map, Bool, true, false, not, ◌==◌, ◌&&◌, ◌||◌, if◌then◌else◌, Option, Some, None, codes}
 use Rattle.std.specs.List.{list_all}
-use Rattle.abc_notes.specs.Runs.{copies, maybe, one_of, begins, is_digit, is_blank, is_letter}
+use Rattle.mus_units.specs.Bytes.{is_within, is_either, is_digit, is_blank, is_letter}
+use Rattle.abc_notes.specs.Runs.{copies, maybe, one_of, begins}
 use Rattle.abc_pieces.specs.Bars.{BarForm, spelled as bar_then, IsGood as IsBar, meant as bar_of}
 use Rattle.abc_notes.specs.Lengths.{LengthForm, length_then, IsLength, len_of, IsCount, count_of}
 use Rattle.abc_notes.specs.Notes.{NoteForm, note_then, IsNote, head_of}
@@ -44,76 +46,76 @@ pub data Form : Type 0 where
 
 -- digits, commas and hyphens
 abbrev pub is_ending : ℕ → Bool
-is_ending b = is_digit b || b == 44 || b == 45
+is_ending b = is_digit b || is_either (codes ",-") b
 
 abbrev pub is_text : ℕ → Bool
-is_text b = not (b == 34)
+is_text b = not (b == code "\"")
 
 -- between two plus signs: no plus sign, blank or bar sign
 abbrev pub is_plus_byte : ℕ → Bool
-is_plus_byte b = not (one_of (43 ∷ 32 ∷ 9 ∷ 124 ∷ []) b)
+is_plus_byte b = not (one_of (codes "+ \t|") b)
 
 -- ` * ; ? @ # \ and the letters that mean nothing: h to t, w, I J K N Q R U V W
 abbrev pub is_passed_sign : ℕ → Bool
-is_passed_sign b = one_of (96 ∷ 42 ∷ 59 ∷ 63 ∷ 64 ∷ 35 ∷ 92 ∷ []) b
+is_passed_sign b = one_of (codes "`*;?@#\\") b
 
 abbrev pub is_passed_letter : ℕ → Bool
-is_passed_letter b = one_of (119 ∷ 73 ∷ 74 ∷ 75 ∷ 78 ∷ 81 ∷ 82 ∷ 85 ∷ 86 ∷ 87 ∷ []) b
+is_passed_letter b = one_of (codes "wIJKNQRUVW") b
 
 abbrev pub is_passed : ℕ → Bool
-is_passed b = is_passed_sign b || is_passed_letter b || (nat_le 104 b && nat_le b 116)
+is_passed b = is_passed_sign b || is_passed_letter b || is_within (codes "ht") b
 
 abbrev pub arrow : Bool → ℕ
-arrow right = if right then 62 else 60
+arrow right = if right then code ">" else code "<"
 
 abbrev pub rest_byte : Bool → ℕ
-rest_byte seen = if seen then 122 else 120
+rest_byte seen = if seen then code "z" else code "x"
 
 abbrev pub measures_byte : Bool → ℕ
-measures_byte seen = if seen then 90 else 88
+measures_byte seen = if seen then code "Z" else code "X"
 
 abbrev pub bracket_then : Bool → List ℕ → List ℕ
-bracket_then true s = 91 ∷ s
+bracket_then true s = code "[" ∷ s
 bracket_then false s = s
 
 -- the bytes of a piece, and what follows them
 abbrev pub spelled : Form → List ℕ → List ℕ
 spelled (note_form f) x = note_then f x
 spelled (rest_form seen len) x = rest_byte seen ∷ length_then len x
-spelled (gap_form len) x = 121 ∷ length_then len x
+spelled (gap_form len) x = code "y" ∷ length_then len x
 spelled (measures_form seen count) x = measures_byte seen ∷ (count ++ x)
-spelled (chord_form f) x = 91 ∷ chord_then f x
-spelled (grace_form f) x = 123 ∷ grace_then f x
-spelled (tuplet_form f) x = 40 ∷ tuplet_then f x
-spelled (slur_form dotted) x = maybe dotted 46 (40 ∷ x)
-spelled close_form x = 41 ∷ x
-spelled (tie_form dotted) x = maybe dotted 46 (45 ∷ x)
+spelled (chord_form f) x = code "[" ∷ chord_then f x
+spelled (grace_form f) x = code "{" ∷ grace_then f x
+spelled (tuplet_form f) x = code "(" ∷ tuplet_then f x
+spelled (slur_form dotted) x = maybe dotted (code ".") (code "(" ∷ x)
+spelled close_form x = code ")" ∷ x
+spelled (tie_form dotted) x = maybe dotted (code ".") (code "-" ∷ x)
 spelled (broken_form right count) x = copies count (arrow right) x
 spelled (bar_form f) x = bar_then f x
 spelled (ending_form bracket digit more) x = bracket_then bracket (digit ∷ (more ++ x))
 spelled (letter_form byte) x = byte ∷ x
-spelled (named_form name) x = 33 ∷ (name ++ (33 ∷ x))
-spelled (says_form text) x = 34 ∷ (text ++ (34 ∷ x))
-spelled (inline_form letter text) x = 91 ∷ letter ∷ 58 ∷ (text ++ (93 ∷ x))
+spelled (named_form name) x = code "!" ∷ (name ++ (code "!" ∷ x))
+spelled (says_form text) x = code "\"" ∷ (text ++ (code "\"" ∷ x))
+spelled (inline_form letter text) x = code "[" ∷ letter ∷ code ":" ∷ (text ++ (code "]" ∷ x))
 spelled (cut_form byte) x = byte ∷ x
 spelled (space_form blank more) x = blank ∷ (more ++ x)
 spelled (passed_form byte) x = byte ∷ x
-spelled lone_form x = 33 ∷ x
-spelled (plus_form text) x = 43 ∷ (text ++ (43 ∷ x))
+spelled lone_form x = code "!" ∷ x
+spelled (plus_form text) x = code "+" ∷ (text ++ (code "+" ∷ x))
 
 -- what stands behind an opening bracket: a bar sign makes a bar, a digit an ending, a letter and
 -- a colon an inline field; all else is a chord
 abbrev pub opening : List ℕ → Opening
 opening [] = opens.Chord
 opening (byte ∷ rest) =
-    if byte == 124 then opens.Bar
+    if byte == code "|" then opens.Bar
     else (if is_digit byte then opens.Ending
-    else (if is_letter byte && begins (λ b. b == 58) rest then opens.Inline
+    else (if is_letter byte && begins (λ b. b == code ":") rest then opens.Inline
     else opens.Chord))
 
 -- a dollar sign, and where it is a line break an exclamation mark
 abbrev pub is_cut : Bool → ℕ → Bool
-is_cut bang byte = byte == 36 || (bang && byte == 33)
+is_cut bang byte = byte == code "$" || (bang && byte == code "!")
 
 abbrev pub IsGood : Bool → Form → Type 0
 IsGood bang (note_form f) = IsNote f
@@ -135,13 +137,13 @@ IsGood bang (says_form text) = list_all is_text text ≡ true
 IsGood bang (inline_form letter text) = (is_letter letter ≡ true) × (list_all is_inside text ≡ true)
 IsGood bang (cut_form byte) = is_cut bang byte ≡ true
 IsGood bang (space_form blank more) = (is_blank blank ≡ true) × (list_all is_blank more ≡ true)
-IsGood bang (passed_form byte) = (is_passed byte || byte == 43) ≡ true
+IsGood bang (passed_form byte) = (is_passed byte || byte == code "+") ≡ true
 IsGood bang lone_form = bang ≡ false
 IsGood bang (plus_form text) = list_all is_plus_byte text ≡ true
 
 -- K, L, M and V
 abbrev pub is_kept_field : ℕ → Bool
-is_kept_field letter = one_of (75 ∷ 76 ∷ 77 ∷ 86 ∷ []) letter
+is_kept_field letter = one_of (codes "KLMV") letter
 
 abbrev pub inline_token : ℕ → List ℕ → Option Token
 inline_token letter text = if is_kept_field letter then Some (token.Inline letter text) else None

@@ -1,6 +1,8 @@
 -- Reading the longest piece: between the pieces as they are defined and the code.
+use Prim.Native.Char.{code}
 use Rattle.std.specs.Prelude.{◌≤◌, ℕ, suc, List, [], ◌∷◌, length, Bool, true, false, ◌==◌, ◌||◌, if◌then◌else◌, Option, Some, None, option_map}
-use Rattle.abc_notes.specs.Runs.{span, span_all, is_digit, is_blank}
+use Rattle.mus_units.specs.Bytes.{is_digit, is_blank}
+use Rattle.abc_notes.specs.Runs.{span, span_all}
 use Rattle.abc_pieces.specs.Bars.{form_at}
 use Rattle.abc_notes.specs.Lengths.{length_at, number_at}
 use Rattle.abc_notes.specs.Notes.{note_at}
@@ -25,24 +27,24 @@ use Rattle.abc_pieces.specs.Forms.{Form, note_form, rest_form, gap_form, measure
 unfoldable pub class_of : ℕ → Class
 class_of b =
     if is_note_byte b then class.Note
-    else (if b == 122 || b == 120 then class.Rest
-    else (if b == 121 then class.Gap
-    else (if b == 90 || b == 88 then class.Measures
-    else (if b == 58 || b == 124 then class.Bar
-    else (if b == 46 then class.Dot
-    else (if b == 91 then class.Bracket
-    else (if b == 123 then class.Brace
-    else (if b == 40 then class.Paren
-    else (if b == 41 then class.Close
-    else (if b == 45 then class.Tie
+    else (if b == code "z" || b == code "x" then class.Rest
+    else (if b == code "y" then class.Gap
+    else (if b == code "Z" || b == code "X" then class.Measures
+    else (if b == code ":" || b == code "|" then class.Bar
+    else (if b == code "." then class.Dot
+    else (if b == code "[" then class.Bracket
+    else (if b == code "{" then class.Brace
+    else (if b == code "(" then class.Paren
+    else (if b == code ")" then class.Close
+    else (if b == code "-" then class.Tie
     else (if is_digit b then class.Digit
-    else (if b == 62 || b == 60 then class.Broken
-    else (if b == 34 then class.Quote
-    else (if b == 33 then class.Bang
-    else (if b == 43 then class.Plus
+    else (if b == code ">" || b == code "<" then class.Broken
+    else (if b == code "\"" then class.Quote
+    else (if b == code "!" then class.Bang
+    else (if b == code "+" then class.Plus
     else (if is_blank b then class.Blank
     else (if is_deco_letter b then class.Letter
-    else (if b == 36 then class.Dollar
+    else (if b == code "$" then class.Dollar
     else (if is_passed b then class.Passed
     else class.Nothing)))))))))))))))))))
 
@@ -60,13 +62,13 @@ unfoldable pub note_read : List ℕ → Read
 note_read s = option_map (λ z. (note_form z.0, z.1)) (note_at s)
 
 unfoldable pub rest_read : ℕ → List ℕ → Read
-rest_read b s = let len = length_at s in read (rest_form (b == 122) len.0) len.1
+rest_read b s = let len = length_at s in read (rest_form (b == code "z") len.0) len.1
 
 unfoldable pub gap_read : List ℕ → Read
 gap_read s = let len = length_at s in read (gap_form len.0) len.1
 
 unfoldable pub measures_read : ℕ → List ℕ → Read
-measures_read b s = let count = number_at 3 s in read (measures_form (b == 90) count.0) count.1
+measures_read b s = let count = number_at 3 s in read (measures_form (b == code "Z") count.0) count.1
 
 unfoldable pub bar_read : List ℕ → Read
 bar_read s = option_map (λ z. (bar_form z.0, z.1)) (form_at s)
@@ -86,7 +88,7 @@ ending_read bracket (b ∷ s) = let more = span_all is_ending s in if is_digit b
 
 unfoldable pub broken_read : Before → ℕ → List ℕ → Read
 broken_read before b s =
-    let right = b == 62 in
+    let right = b == code ">" in
     let more = span (λ x. x == b) 2 s in
     if is_broken right before then None else read (broken_form right (suc (length more.0))) more.1
 
@@ -98,8 +100,8 @@ unfoldable pub says_read : List ℕ → Read
 says_read s = closed says_form (span_all is_text s)
 
 abbrev pub plus_closed : List ℕ → List ℕ × List ℕ → Read
-plus_closed s (text, []) = read (passed_form 43) s
-plus_closed s (text, mark ∷ rest) = if mark == 43 then read (plus_form text) rest else read (passed_form 43) s
+plus_closed s (text, []) = read (passed_form (code "+")) s
+plus_closed s (text, mark ∷ rest) = if mark == code "+" then read (plus_form text) rest else read (passed_form (code "+")) s
 
 unfoldable pub plus_read : List ℕ → Read
 plus_read s = plus_closed s (span_all is_plus_byte s)
@@ -117,18 +119,18 @@ named_or_lone None s = read lone_form s
 named_or_lone (Some z) s = read (named_form z.0) z.1
 
 unfoldable pub bang_read : Bool → List ℕ → Read
-bang_read true s = read (cut_form 33) s
+bang_read true s = read (cut_form (code "!")) s
 bang_read false s = named_or_lone (name_at s) s
 
 abbrev pub dot_behind : List ℕ → Read → Read
 dot_behind [] other = other
-dot_behind (b ∷ s) other = if b == 40 then read (slur_form true) s else (if b == 45 then read (tie_form true) s else other)
+dot_behind (b ∷ s) other = if b == code "(" then read (slur_form true) s else (if b == code "-" then read (tie_form true) s else other)
 
 unfoldable pub dot_read : List ℕ → Read
-dot_read s = dot_behind s (or_else (bar_read (46 ∷ s)) (read (letter_form 46) s))
+dot_read s = dot_behind s (or_else (bar_read (code "." ∷ s)) (read (letter_form (code ".")) s))
 
 abbrev pub opened : Opening → Bool → List ℕ → Read
-opened opens.Bar bang s = bar_read (91 ∷ s)
+opened opens.Bar bang s = bar_read (code "[" ∷ s)
 opened opens.Ending bang s = ending_read true s
 opened opens.Inline bang s = inline_read s
 opened opens.Chord bang s = chord_read bang s

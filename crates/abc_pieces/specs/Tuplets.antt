@@ -1,6 +1,8 @@
 -- A tuplet: its p, and q and r behind colons, each of which may be left empty.
-use Rattle.std.specs.Prelude.{◌≡◌, ◌-◌, ℕ, List, [], ◌∷◌, ◌++◌, Bool, true, ◌&&◌, nat_le, if◌then◌else◌, Option, Some, None}
+use Prim.Native.Char.{code}
+use Rattle.std.specs.Prelude.{◌≡◌, ◌-◌, ℕ, List, [], ◌∷◌, ◌++◌, Bool, true, if◌then◌else◌, Option, Some, None, codes}
 use Rattle.std.specs.Str.Parse.{digits_value}
+use Rattle.mus_units.specs.Bytes.{is_within}
 use Rattle.abc_notes.specs.Runs.{skip}
 use Rattle.abc_notes.specs.Lengths.{IsCount, number_at}
 
@@ -11,13 +13,13 @@ pub data TupletForm : Type 0 where
 
 -- 2 to 9
 abbrev pub is_tuplet_digit : ℕ → Bool
-is_tuplet_digit byte = nat_le 50 byte && nat_le byte 57
+is_tuplet_digit byte = is_within (codes "29") byte
 
 -- what stands behind the parenthesis, and what follows
 abbrev pub tuplet_then : TupletForm → List ℕ → List ℕ
 tuplet_then (bare p) rest = p ∷ rest
-tuplet_then (with_q p q) rest = p ∷ 58 ∷ (q ++ rest)
-tuplet_then (with_r p q r) rest = p ∷ 58 ∷ (q ++ (58 ∷ (r ++ rest)))
+tuplet_then (with_q p q) rest = p ∷ code ":" ∷ (q ++ rest)
+tuplet_then (with_r p q r) rest = p ∷ code ":" ∷ (q ++ (code ":" ∷ (r ++ rest)))
 
 -- q is 1 to 9 and r 1 to 99
 abbrev pub IsTuplet : TupletForm → Type 0
@@ -30,9 +32,9 @@ value_or_zero [] = 0
 value_or_zero (digit ∷ more) = digits_value 10 (digit ∷ more)
 
 abbrev pub p_of : TupletForm → ℕ
-p_of (bare p) = p - 48
-p_of (with_q p q) = p - 48
-p_of (with_r p q r) = p - 48
+p_of (bare p) = p - code "0"
+p_of (with_q p q) = p - code "0"
+p_of (with_r p q r) = p - code "0"
 
 abbrev pub q_of : TupletForm → ℕ
 q_of (bare p) = 0
@@ -47,10 +49,10 @@ r_of (with_r p q r) = value_or_zero r
 -- ---- reading, between these and the code
 
 abbrev pub behind_q : ℕ → List ℕ × List ℕ → TupletForm × List ℕ
-behind_q p q = let colon = skip 58 q.1 in let r = number_at 2 colon.1 in if colon.0 then (with_r p q.0 r.0, r.1) else (with_q p q.0, q.1)
+behind_q p q = let colon = skip (code ":") q.1 in let r = number_at 2 colon.1 in if colon.0 then (with_r p q.0 r.0, r.1) else (with_q p q.0, q.1)
 
 abbrev pub behind_p : ℕ → List ℕ → TupletForm × List ℕ
-behind_p p rest = let colon = skip 58 rest in if colon.0 then behind_q p (number_at 1 colon.1) else (bare p, rest)
+behind_p p rest = let colon = skip (code ":") rest in if colon.0 then behind_q p (number_at 1 colon.1) else (bare p, rest)
 
 unfoldable pub tuplet_at : List ℕ → Option (TupletForm × List ℕ)
 tuplet_at [] = None

@@ -1,10 +1,12 @@
 ghost use Rattle.std.specs.Prelude.{◌≡◌, ◌≤◌, ◌^◌, ◌∷◌, false, ℕ, List, Bool, Some, None, length, take, ◌==◌, IfSome};
 ghost use Rattle.std.specs.List.{prefix_len};
+ghost use Rattle.abc_lines.specs.Kinds.{code};
 ghost use Rattle.abc_pieces.specs.declared.token.Before.TheVariants.{Other};
 ghost use Rattle.abc_notes.specs.Chords.{is_inside};
 ghost use Rattle.abc_pieces.specs.Forms.{is_bar, is_broken, is_ending, is_text, is_plus_byte, is_passed, is_passed_sign, is_passed_letter, opening, letter_form, slur_form};
 ghost use Rattle.abc_pieces.specs.Reading.{class_of, piece_at, note_read, rest_read, gap_read, measures_read, bar_read, chord_read, grace_read, tuplet_read, ending_read, broken_read, says_read, plus_read, inline_read, space_read, bang_read, dot_read, opened, or_else, read, shown, meaning, found_within};
-ghost use Rattle.abc_notes.specs.Runs.{is_digit, is_blank, is_letter, begins};
+ghost use Rattle.mus_units.specs.Bytes.{is_digit, is_blank};
+ghost use Rattle.abc_notes.specs.Runs.{begins};
 
 use crate::bar::read_bar;
 use crate::token::{Before, Class, Found, Opening};
@@ -14,6 +16,7 @@ use abc_notes::grace::grace_at;
 use abc_notes::item::{is_deco_letter, is_note_byte, name_at};
 use abc_notes::length::{count_of, length_at, number_at};
 use abc_notes::note::note_at;
+use mus_units::bytes::{is_digit, is_letter};
 
 /// What stands at the front, what it tells of the next piece, and what follows.
 #[derive(Clone, Copy)]
@@ -118,22 +121,10 @@ fn class_of(byte: u8) -> Class
     }
 }
 
-fn is_digit(byte: u8) -> bool
-    ensures { result ≡ is_digit byte }
-{
-    byte >= b'0' && byte <= b'9'
-}
-
-fn is_letter(byte: u8) -> bool
-    ensures { result ≡ is_letter byte }
-{
-    (byte >= b'A' && byte <= b'Z') || (byte >= b'a' && byte <= b'z')
-}
-
 fn is_passed(byte: u8) -> bool
     ensures { result ≡ is_passed byte }
 {
-    is_passed_sign(byte) || is_passed_letter(byte) || (byte >= b'h' && byte <= b't')
+    is_passed_sign(byte) || is_passed_letter(byte) || matches!(byte, b'h'..=b't')
 }
 
 fn is_passed_sign(byte: u8) -> bool
@@ -256,7 +247,7 @@ fn bar_piece(bytes: &[u8]) -> Option<Piece<'_>>
 /// A piece that begins with a dot; `rest` stands behind the dot.
 #[tactic(auto, unfolding(crate::specs::Reading::dot_read))]
 fn dot<'a>(bytes: &'a [u8], rest: &'a [u8]) -> Option<Piece<'a>>
-    requires { bytes.now ≡ 46 ∷ rest.now }
+    requires { bytes.now ≡ code "." ∷ rest.now }
     ensures read { (bang : Bool) → shown bang result ≡ meaning (dot_read rest.now) }
     ensures within { (n : ℕ) → IfSome result (λ x. found_within x.found n) }
 {
@@ -268,7 +259,7 @@ fn dot<'a>(bytes: &'a [u8], rest: &'a [u8]) -> Option<Piece<'a>>
 }
 
 fn dot_or_bar<'a>(bytes: &'a [u8], rest: &'a [u8]) -> Piece<'a>
-    ensures read { (bang : Bool) → shown bang (Some result) ≡ meaning (or_else (bar_read bytes.now) (read (letter_form 46) rest.now)) }
+    ensures read { (bang : Bool) → shown bang (Some result) ≡ meaning (or_else (bar_read bytes.now) (read (letter_form (code ".")) rest.now)) }
     ensures within { (n : ℕ) → found_within result.found n }
 {
     match bar_piece(bytes) {
@@ -279,7 +270,7 @@ fn dot_or_bar<'a>(bytes: &'a [u8], rest: &'a [u8]) -> Piece<'a>
 
 /// A piece that begins with a bracket; `rest` stands behind the bracket.
 fn bracket<'a>(bang: bool, bytes: &'a [u8], rest: &'a [u8]) -> Option<Piece<'a>>
-    requires cut { bytes.now ≡ 91 ∷ rest.now }
+    requires cut { bytes.now ≡ code "[" ∷ rest.now }
     requires small { length bytes.now ≤ 2 ^ 30 }
     ensures read { shown bang result ≡ meaning (opened (opening rest.now) bang rest.now) }
     ensures within { IfSome result (λ x. found_within x.found (length bytes.now)) }
@@ -311,7 +302,7 @@ pub fn opening(bytes: &[u8]) -> Opening
 }
 
 fn begins_colon(bytes: &[u8]) -> bool
-    ensures { result ≡ begins (λ b. b == 58) bytes.now }
+    ensures { result ≡ begins (λ b. b == code ":") bytes.now }
 {
     match bytes.split_first() {
         Some((first, _)) => *first == b':',

@@ -1,6 +1,7 @@
 ghost use Rattle.std.specs.Prelude.{◌≡◌, ◌≤◌, ◌-◌, option_map, length, true};
 ghost use Rattle.std.specs.List.{list_all};
-ghost use Rattle.abc_notes.specs.Runs.{is_digit};
+ghost use Rattle.abc_lines.specs.Kinds.{code};
+ghost use Rattle.mus_units.specs.Bytes.{is_digit};
 ghost use Rattle.abc_pieces.specs.Tuplets.{is_tuplet_digit, p_of, q_of, r_of, tuplet_at, behind_p, behind_q, value_or_zero, tuplet_shown};
 
 use abc_notes::bytes::skip;
@@ -74,7 +75,7 @@ fn behind_q<'a>(p: u8, q: &'a [u8], bytes: &'a [u8]) -> Tuplet<'a>
 fn is_tuplet_digit(byte: u8) -> bool
     ensures { result ≡ is_tuplet_digit byte }
 {
-    byte >= b'2' && byte <= b'9'
+    matches!(byte, b'2'..=b'9')
 }
 
 /// The value of up to two digits, 0 of none.
@@ -93,7 +94,7 @@ fn small_value(digits: &[u8]) -> u8
 }
 
 fn digit(byte: u8) -> u8
-    ensures value { result ≡ byte - 48 }
+    ensures value { result ≡ byte - code "0" }
     ensures small { is_digit byte ≡ true → result ≤ 9 }
 {
     byte.saturating_sub(b'0')

@@ -14,7 +14,8 @@ use Rattle.abc_notes.specs.declared.part.GraceChord.{GraceChord}
 use Rattle.abc_notes.specs.declared.part.Len.{Len}
 use Rattle.abc_pieces.specs.declared.token.Token.{Token}
 use Rattle.abc_pieces.specs.declared.token.Token.TheVariants as token
-use Rattle.abc_notes.specs.Runs.{maybe, is_digit}
+use Rattle.mus_units.specs.Bytes.{is_digit}
+use Rattle.abc_notes.specs.Runs.{maybe}
 use Rattle.abc_notes.specs.Lengths.{LengthForm, IsCount, count_of, len_of, IsLength}
 use Rattle.abc_notes.specs.Notes.{NoteForm, IsNote, head_of}
 use Rattle.abc_pieces.specs.Bars.{BarForm, meant as bar_of}

@@ -8,7 +8,8 @@ use Rattle.mus_units.specs.declared.pitch.Alter.{Alter}
 use Rattle.mus_units.specs.declared.pitch.Alter.TheVariants.{Flat2, Flat, Natural, Sharp, Sharp2}
 use Rattle.mus_units.specs.declared.pitch.Letter.{Letter}
 use Rattle.mus_units.specs.declared.pitch.Letter.TheVariants.{C, D, E, F, G, A, B}
-use Rattle.abc_notes.specs.Runs.{copies, maybe, span, begins, is_digit, is_blank, is_letter}
+use Rattle.mus_units.specs.Bytes.{is_digit, is_blank, is_letter}
+use Rattle.abc_notes.specs.Runs.{copies, maybe, span, begins}
 use Rattle.abc_notes.proofs.RunLaws.{skip-yes}
 use Rattle.abc_notes.proofs.SpanLaws.{span-cons, span-zero, span-stops, span_all-append, span_all-stops}
 use Rattle.abc_pieces.specs.Bars.{BarForm, signs, colons, form_at, spelled as bar_then, IsGood as IsBar}

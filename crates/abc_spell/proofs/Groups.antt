@@ -13,7 +13,8 @@ use Rattle.mus_units.specs.declared.pitch.Letter.TheVariants.{C, D, E, F, G, A, 
 use Rattle.abc_notes.specs.declared.part.GraceChord.{GraceChord}
 use Rattle.abc_notes.specs.declared.part.Len.{Len}
 use Rattle.abc_pieces.specs.declared.token.Opening.TheVariants as opens
-use Rattle.abc_notes.specs.Runs.{maybe, begins, is_digit, is_mark}
+use Rattle.mus_units.specs.Bytes.{is_digit}
+use Rattle.abc_notes.specs.Runs.{maybe, begins, is_mark}
 use Rattle.abc_notes.specs.Lengths.{LengthForm, whole, length_then, len_of}
 use Rattle.abc_notes.proofs.LengthLaws.{goes_on, count-digits}
 use Rattle.abc_notes.specs.Notes.{NoteForm, note_then, sign_then, letter_byte, IsNote, head_of, note_at}

@@ -12,7 +12,8 @@ use Rattle.std.proofs.lemmas.Int.{ints}
 use Rattle.std.proofs.lemmas.Bool.{cond_both, both_ways, leb-true, leb-false, le-leb, and_from, and_parts, eq-eqb}
 use Rattle.mus_units.specs.declared.note.Head.{Head}
 use Rattle.abc_notes.specs.declared.part.Len.{Len}
-use Rattle.abc_notes.specs.Runs.{begins, is_digit, is_mark}
+use Rattle.mus_units.specs.Bytes.{is_digit}
+use Rattle.abc_notes.specs.Runs.{begins, is_mark}
 use Rattle.abc_notes.specs.Lengths.{LengthForm, whole, over, halved, IsNumber, IsCount, IsLength, count_of, len_of}
 use Rattle.abc_notes.specs.Notes.{NoteForm, octave_of, head_of, IsNote}
 use Rattle.abc_notes.specs.Chords.{tied_if}

@@ -3,6 +3,7 @@
 -- ending is an opening bracket and its text, a decoration is its first name between exclamation
 -- marks, a tuplet leaves a number that it lacks empty, and a bar has as few colons and bar signs as
 -- its features allow. Each spelling is written in front of what follows it.
+use Prim.Native.Char.{code}
 use Rattle.std.specs.Prelude.{◌≡◌, ℕ, ℤ, pos, negsuc, ◌+◌, ◌-◌, List, [], ◌∷◌, ◌++◌, Bool, false, not, ◌==◌, ◌&&◌, nat_le, if◌then◌else◌, replicate, codes}
 use Rattle.std.specs.Fmt.{decimal}
 use Rattle.mus_units.specs.declared.note.Bar.{Bar}
@@ -23,7 +24,7 @@ all_then one_then [] x = x
 all_then one_then (a ∷ more) x = one_then a (all_then one_then more x)
 
 abbrev pub len_then : Len → List ℕ → List ℕ
-len_then len x = decimal len.num ++ (47 ∷ (decimal len.den ++ x))
+len_then len x = decimal len.num ++ (code "/" ∷ (decimal len.den ++ x))
 
 -- from octave 5 on a small letter and primes, else a capital and commas
 abbrev pub is_small : ℤ → Bool
@@ -31,8 +32,8 @@ is_small (pos n) = nat_le 5 n
 is_small (negsuc n) = false
 
 abbrev pub marks_of : ℤ → List ℕ
-marks_of (pos n) = if nat_le 5 n then replicate (n - 5) 39 else replicate (4 - n) 44
-marks_of (negsuc n) = replicate (n + 5) 44
+marks_of (pos n) = if nat_le 5 n then replicate (n - 5) (code "'") else replicate (4 - n) (code ",")
+marks_of (negsuc n) = replicate (n + 5) (code ",")
 
 abbrev pub pitch_then : Head → List ℕ → List ℕ
 pitch_then head x = letter_byte (is_small head.pitch.octave) head.pitch.letter ∷ (marks_of head.pitch.octave ++ x)
@@ -42,7 +43,7 @@ head_then head x = sign_then head.sign (pitch_then head x)
 
 -- a head of a chord, with a hyphen where it is tied
 abbrev pub chord_head_then : Head × Len → List ℕ → List ℕ
-chord_head_then h x = head_then h.0 (len_then h.1 (maybe h.0.tied 45 x))
+chord_head_then h x = head_then h.0 (len_then h.1 (maybe h.0.tied (code "-") x))
 
 -- the first name of a decoration that has a glyph, and a text's own name
 abbrev pub name_of : Deco → List ℕ
@@ -63,13 +64,13 @@ name_of (Above text) = text
 name_of (Quiet text) = text
 
 abbrev pub deco_then : Deco → List ℕ → List ℕ
-deco_then deco x = 33 ∷ (name_of deco ++ (33 ∷ x))
+deco_then deco x = code "!" ∷ (name_of deco ++ (code "!" ∷ x))
 
 -- several heads of a grace group stand between brackets
 abbrev pub heads_then : List Head → List ℕ → List ℕ
-heads_then [] x = 91 ∷ 93 ∷ x
+heads_then [] x = code "[" ∷ code "]" ∷ x
 heads_then (head ∷ []) x = head_then head x
-heads_then (head ∷ second ∷ more) x = 91 ∷ all_then head_then (head ∷ second ∷ more) (93 ∷ x)
+heads_then (head ∷ second ∷ more) x = code "[" ∷ all_then head_then (head ∷ second ∷ more) (code "]" ∷ x)
 
 abbrev pub grace_chord_then : GraceChord → List ℕ → List ℕ
 grace_chord_then chord x = heads_then chord.heads x
@@ -79,7 +80,7 @@ abbrev pub number_or_empty : ℕ → List ℕ
 number_or_empty n = if n == 0 then [] else decimal n
 
 abbrev pub colon_then : ℕ → List ℕ → List ℕ
-colon_then n x = 58 ∷ (number_or_empty n ++ x)
+colon_then n x = code ":" ∷ (number_or_empty n ++ x)
 
 abbrev pub tuplet_then : ℕ → ℕ → ℕ → List ℕ → List ℕ
 tuplet_then p q r x = decimal p ++ colon_then q (colon_then r x)
@@ -89,34 +90,34 @@ abbrev pub is_colons : Bar → Bool
 is_colons b = b.end && b.start && not b.last && not b.initial && not b.double && not b.dotted
 
 abbrev pub signs_then : Bar → List ℕ → List ℕ
-signs_then b x = maybe b.dotted 46 (maybe b.end 58 (maybe b.initial 91 (124 ∷ maybe b.double 124 (maybe b.last 93 (maybe b.start 58 x)))))
+signs_then b x = maybe b.dotted (code ".") (maybe b.end (code ":") (maybe b.initial (code "[") (code "|" ∷ maybe b.double (code "|") (maybe b.last (code "]") (maybe b.start (code ":") x)))))
 
 abbrev pub bar_then : Bar → List ℕ → List ℕ
-bar_then b x = if b.unseen then 91 ∷ 124 ∷ 93 ∷ x else (if is_colons b then 58 ∷ 58 ∷ x else signs_then b x)
+bar_then b x = if b.unseen then code "[" ∷ code "|" ∷ code "]" ∷ x else (if is_colons b then code ":" ∷ code ":" ∷ x else signs_then b x)
 
 -- the plain spelling of a token, and what follows it
 abbrev pub token_then : Token → List ℕ → List ℕ
 token_then (token.Note head len) x = head_then head (len_then len x)
 token_then (token.Rest seen len) x = rest_byte seen ∷ len_then len x
 token_then (token.Measures seen count) x = measures_byte seen ∷ (decimal count ++ x)
-token_then (token.Chord heads decos len) x = 91 ∷ all_then deco_then decos (all_then chord_head_then heads (93 ∷ len_then len x))
-token_then (token.Grace slash body) x = 123 ∷ maybe slash 47 (all_then grace_chord_then body (125 ∷ x))
-token_then (token.Tuplet p q r) x = 40 ∷ tuplet_then p q r x
-token_then token.SlurOn x = 40 ∷ x
-token_then token.SlurOff x = 41 ∷ x
-token_then token.Tie x = 45 ∷ x
+token_then (token.Chord heads decos len) x = code "[" ∷ all_then deco_then decos (all_then chord_head_then heads (code "]" ∷ len_then len x))
+token_then (token.Grace slash body) x = code "{" ∷ maybe slash (code "/") (all_then grace_chord_then body (code "}" ∷ x))
+token_then (token.Tuplet p q r) x = code "(" ∷ tuplet_then p q r x
+token_then token.SlurOn x = code "(" ∷ x
+token_then token.SlurOff x = code ")" ∷ x
+token_then token.Tie x = code "-" ∷ x
 token_then (token.Broken right dots) x = copies dots (arrow right) x
 token_then (token.Bar b) x = bar_then b x
-token_then (token.Ending text) x = 91 ∷ (text ++ x)
+token_then (token.Ending text) x = code "[" ∷ (text ++ x)
 token_then (token.Deco deco) x = deco_then deco x
-token_then (token.Says text) x = 34 ∷ (text ++ (34 ∷ x))
-token_then (token.Inline letter text) x = 91 ∷ letter ∷ 58 ∷ (text ++ (93 ∷ x))
-token_then token.Cut x = 36 ∷ x
-token_then token.Space x = 32 ∷ x
+token_then (token.Says text) x = code "\"" ∷ (text ++ (code "\"" ∷ x))
+token_then (token.Inline letter text) x = code "[" ∷ letter ∷ code ":" ∷ (text ++ (code "]" ∷ x))
+token_then token.Cut x = code "$" ∷ x
+token_then token.Space x = code " " ∷ x
 
 -- a backquote, and a token behind it
 abbrev pub next_then : Token → List ℕ → List ℕ
-next_then t x = 96 ∷ token_then t x
+next_then t x = code "`" ∷ token_then t x
 
 -- the plain spelling of tokens: a backquote between two
 abbrev pub plain_text : List Token → List ℕ

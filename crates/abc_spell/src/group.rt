@@ -3,10 +3,10 @@ ghost use Rattle.abc_pieces.specs.declared.token.Token.TheVariants.{Chord, Grace
 ghost use Rattle.abc_spell.specs.Plain.{Puts, all_then, name_of, deco_then, head_then, chord_head_then, heads_then, grace_chord_then, colon_then, token_then};
 
 use crate::bar::put_if;
-use crate::note::{put_head, put_len, put_number, put_number_or_nothing};
+use crate::note::{put_head, put_len, put_number_or_nothing};
 use abc_tokens::{GraceChord, Len};
+use eng_lines::put_number;
 use mus_units::{Deco, Head, Memory, Text};
-use std::alloc::Global;
 
 /// The first name of a decoration that has a glyph, or a text's own name.
 fn name_of(deco: &Deco) -> &[u8]
@@ -49,20 +49,20 @@ fn put_decos(out: &mut Text, decos: &[Deco]) -> Result<(), Memory>
     Ok(())
 }
 
-fn put_chord_head(alloc: Global, out: &mut Text, pair: &(Head, Len)) -> Result<(), Memory>
+fn put_chord_head(out: &mut Text, pair: &(Head, Len)) -> Result<(), Memory>
     ensures { OnOk result (Puts out.old out.new (chord_head_then pair.now)) }
 {
     let (head, len) = *pair;
     put_head(out, head)?;
-    put_len(alloc, out, len)?;
+    put_len(out, len)?;
     put_if(out, head.tied, b'-')
 }
 
-fn put_chord_heads(alloc: Global, out: &mut Text, heads: &[(Head, Len)]) -> Result<(), Memory>
+fn put_chord_heads(out: &mut Text, heads: &[(Head, Len)]) -> Result<(), Memory>
     ensures { OnOk result (Puts out.old out.new (all_then chord_head_then heads.now)) }
 {
     for pair in heads {
-        put_chord_head(alloc, out, pair)?;
+        put_chord_head(out, pair)?;
     }
     Ok(())
 }
@@ -96,26 +96,25 @@ fn put_body(out: &mut Text, body: &[GraceChord]) -> Result<(), Memory>
     Ok(())
 }
 
-fn put_colon(alloc: Global, out: &mut Text, number: u8) -> Result<(), Memory>
+fn put_colon(out: &mut Text, number: u8) -> Result<(), Memory>
     ensures { OnOk result (Puts out.old out.new (colon_then number)) }
 {
     out.push(b':')?;
-    put_number_or_nothing(alloc, out, u32::from(number))
+    put_number_or_nothing(out, u64::from(number))
 }
 
 /// Adds a tuplet, with nothing for a later number that is 0.
-pub fn put_tuplet(alloc: Global, out: &mut Text, p: u8, q: u8, r: u8) -> Result<(), Memory>
+pub fn put_tuplet(out: &mut Text, p: u8, q: u8, r: u8) -> Result<(), Memory>
     ensures { OnOk result (Puts out.old out.new (token_then (Tuplet p q r))) }
 {
     out.push(b'(')?;
-    put_number(alloc, out, u32::from(p))?;
-    put_colon(alloc, out, q)?;
-    put_colon(alloc, out, r)
+    put_number(out, u64::from(p))?;
+    put_colon(out, q)?;
+    put_colon(out, r)
 }
 
 /// Adds a chord: its decorations, its heads, and its length behind the bracket.
 pub fn put_chord(
-    alloc: Global,
     out: &mut Text,
     heads: &[(Head, Len)],
     decos: &[Deco],
@@ -125,9 +124,9 @@ pub fn put_chord(
 {
     out.push(b'[')?;
     put_decos(out, decos)?;
-    put_chord_heads(alloc, out, heads)?;
+    put_chord_heads(out, heads)?;
     out.push(b']')?;
-    put_len(alloc, out, len)
+    put_len(out, len)
 }
 
 /// Adds a grace group.

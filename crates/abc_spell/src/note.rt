@@ -1,38 +1,29 @@
 ghost use Rattle.std.specs.Prelude.{◌≡◌, ◌∷◌, ◌++◌, [], OnOk, replicate};
-ghost use Rattle.std.specs.Fmt.{decimal};
 ghost use Rattle.abc_notes.specs.Notes.{sign_then, letter_byte};
 ghost use Rattle.abc_pieces.specs.declared.token.Token.TheVariants.{Note, Rest, Measures};
 ghost use Rattle.abc_spell.specs.Plain.{Puts, len_then, pitch_then, head_then, is_small, number_or_empty, token_then};
 
 use abc_tokens::Len;
+use eng_lines::put_number;
 use mus_units::{Alter, Head, Letter, Memory, Text};
-use std::alloc::Global;
-
-/// Adds a number in decimal digits.
-pub fn put_number(alloc: Global, out: &mut Text, number: u32) -> Result<(), Memory>
-    ensures { OnOk result (out.new ≡ out.old ++ decimal number) }
-{
-    let digits = format!(in alloc; "{number}")?;
-    out.append(digits.as_bytes())
-}
 
 /// Adds a number, and nothing where it is 0.
-pub fn put_number_or_nothing(alloc: Global, out: &mut Text, number: u32) -> Result<(), Memory>
+pub fn put_number_or_nothing(out: &mut Text, number: u64) -> Result<(), Memory>
     ensures { OnOk result (out.new ≡ out.old ++ number_or_empty number) }
 {
     if number == 0 {
         return Ok(());
     }
-    put_number(alloc, out, number)
+    put_number(out, number)
 }
 
 /// Adds a length: its two numbers with a slash between.
-pub fn put_len(alloc: Global, out: &mut Text, len: Len) -> Result<(), Memory>
+pub fn put_len(out: &mut Text, len: Len) -> Result<(), Memory>
     ensures { OnOk result (Puts out.old out.new (len_then len)) }
 {
-    put_number(alloc, out, len.num)?;
+    put_number(out, u64::from(len.num))?;
     out.push(b'/')?;
-    put_number(alloc, out, len.den)
+    put_number(out, u64::from(len.den))
 }
 
 /// Adds the byte so many times.
@@ -102,25 +93,25 @@ pub fn put_head(out: &mut Text, head: Head) -> Result<(), Memory>
 }
 
 /// Adds a note.
-pub fn put_note(alloc: Global, out: &mut Text, head: Head, len: Len) -> Result<(), Memory>
+pub fn put_note(out: &mut Text, head: Head, len: Len) -> Result<(), Memory>
     ensures { OnOk result (Puts out.old out.new (token_then (Note head len))) }
 {
     put_head(out, head)?;
-    put_len(alloc, out, len)
+    put_len(out, len)
 }
 
 /// Adds a rest, seen or unseen.
-pub fn put_rest(alloc: Global, out: &mut Text, seen: bool, len: Len) -> Result<(), Memory>
+pub fn put_rest(out: &mut Text, seen: bool, len: Len) -> Result<(), Memory>
     ensures { OnOk result (Puts out.old out.new (token_then (Rest seen len))) }
 {
     out.push(if seen { b'z' } else { b'x' })?;
-    put_len(alloc, out, len)
+    put_len(out, len)
 }
 
 /// Adds whole measures of rest, seen or unseen.
-pub fn put_measures(alloc: Global, out: &mut Text, seen: bool, count: u16) -> Result<(), Memory>
+pub fn put_measures(out: &mut Text, seen: bool, count: u16) -> Result<(), Memory>
     ensures { OnOk result (Puts out.old out.new (token_then (Measures seen count))) }
 {
     out.push(if seen { b'Z' } else { b'X' })?;
-    put_number(alloc, out, u32::from(count))
+    put_number(out, u64::from(count))
 }

@@ -29,32 +29,32 @@ fn plain_text(alloc: Global, tokens: &[Token]) -> Result<Text, Memory>
     let Some((first, others)) = tokens.split_first() else {
         return Ok(out);
     };
-    put_token(alloc, &mut out, first)?;
+    put_token(&mut out, first)?;
     for token in others {
-        put_next(alloc, &mut out, token)?;
+        put_next(&mut out, token)?;
     }
     Ok(out)
 }
 
-fn put_next(alloc: Global, out: &mut Text, token: &Token) -> Result<(), Memory>
+fn put_next(out: &mut Text, token: &Token) -> Result<(), Memory>
     ensures { OnOk result (Puts out.old out.new (next_then token.now)) }
 {
     out.push(b'`')?;
-    put_token(alloc, out, token)
+    put_token(out, token)
 }
 
-fn put_token(alloc: Global, out: &mut Text, token: &Token) -> Result<(), Memory>
+fn put_token(out: &mut Text, token: &Token) -> Result<(), Memory>
     ensures { OnOk result (Puts out.old out.new (token_then token.now)) }
 {
     match token {
-        Token::Note { head, len } => put_note(alloc, out, *head, *len),
-        Token::Rest { seen, len } => put_rest(alloc, out, *seen, *len),
-        Token::Measures { seen, count } => put_measures(alloc, out, *seen, *count),
+        Token::Note { head, len } => put_note(out, *head, *len),
+        Token::Rest { seen, len } => put_rest(out, *seen, *len),
+        Token::Measures { seen, count } => put_measures(out, *seen, *count),
         Token::Chord { heads, decos, len } => {
-            put_chord(alloc, out, heads.as_slice(), decos.as_slice(), *len)
+            put_chord(out, heads.as_slice(), decos.as_slice(), *len)
         }
         Token::Grace { slash, body } => put_grace(out, *slash, body.as_slice()),
-        Token::Tuplet { p, q, r } => put_tuplet(alloc, out, *p, *q, *r),
+        Token::Tuplet { p, q, r } => put_tuplet(out, *p, *q, *r),
         Token::SlurOn => out.push(b'('),
         Token::SlurOff => out.push(b')'),
         Token::Tie => out.push(b'-'),

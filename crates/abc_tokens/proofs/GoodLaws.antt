@@ -6,7 +6,7 @@ use Rattle.std.specs.Char.{digit_value}
 use Rattle.std.specs.Str.Parse.{AllDigits, digits_value, digits_value_after}
 use Rattle.std.proofs.lemmas.Int.Digits.{digits_value-lt}
 use Rattle.std.proofs.lemmas.Bool.{and_parts, leb-true, eqb-false}
-use Rattle.abc_notes.specs.Runs.{is_digit}
+use Rattle.mus_units.specs.Bytes.{is_digit}
 use Rattle.abc_notes.specs.Lengths.{LengthForm, whole, over, halved, IsNumber, IsCount, count_of, IsLength, len_of}
 use Rattle.abc_notes.specs.Graces.{GracePart, single, chorded, StandsInGrace, heads_in, body_of_sense, body_of}
 use Rattle.abc_notes.specs.Items.{Inner, note_inside, letter_inside, named_inside, tie_inside, slur_inside, passed_inside, lone_inside, StandsInside, sense}

@@ -1,4 +1,5 @@
--- Good tokens: the numbers that a music line can write.
+-- Good tokens, which are those that a music line can write: numbers within their bounds, a head in
+-- each chord, and a head in each note or chord of a grace group.
 use Rattle.std.specs.Prelude.{ℕ, ◌≤◌, ⊤, List, [], ◌∷◌}
 use Rattle.mus_units.specs.declared.note.Head.{Head}
 use Rattle.abc_notes.specs.declared.part.Len.{Len}

@@ -1,5 +1,6 @@
 -- The tokens of a music line: piece by piece, each the longest that stands at the front of what is
 -- left; and the first fault of a line that has no such list.
+use Prim.Native.Char.{code}
 use Rattle.std.specs.Prelude.{◌≡◌, ℕ, ◌+◌, ◌-◌, List, [], ◌∷◌, length, Bool, ◌==◌, if◌then◌else◌, Option, Some, None, MatchBool, MatchOption, option_map}
 use Rattle.abc_lines.specs.declared.book.Line.{Line}
 use Rattle.abc_lines.specs.declared.fault.Fault.{Fault}
@@ -7,7 +8,7 @@ use Rattle.abc_lines.specs.declared.fault.FaultKind.{FaultKind}
 use Rattle.abc_lines.specs.declared.fault.FaultKind.TheVariants.{BadByte, Unclosed, BadLength, BadTuplet}
 use Rattle.abc_lines.specs.declared.fault.TuneError.{TuneError}
 use Rattle.abc_lines.specs.declared.fault.TuneError.TheVariants as error
-use Rattle.abc_notes.specs.Runs.{is_digit}
+use Rattle.mus_units.specs.Bytes.{is_digit}
 use Rattle.abc_notes.specs.Parts.{IsLongest, HasNone, goes_on_length}
 use Rattle.abc_notes.specs.Chords.{ChordFault}
 use Rattle.abc_notes.specs.Graces.{GraceFault}
@@ -61,9 +62,9 @@ IsBracketFlaw opens.Chord bang byte s flaw = ChordFault bang s flaw
 -- the byte itself
 abbrev pub IsOwnFlaw : Bool → ℕ → List ℕ → Flaw → Type 0
 IsOwnFlaw bang byte s flaw =
-    MatchBool (byte == 34) (IsHere Unclosed (byte ∷ s) flaw)
-    (MatchBool (byte == 91) (IsBracketFlaw (opening s) bang byte s flaw)
-    (MatchBool (byte == 123) (GraceFault bang s flaw)
+    MatchBool (byte == code "\"") (IsHere Unclosed (byte ∷ s) flaw)
+    (MatchBool (byte == code "[") (IsBracketFlaw (opening s) bang byte s flaw)
+    (MatchBool (byte == code "{") (GraceFault bang s flaw)
     (IsHere BadByte (byte ∷ s) flaw)))
 
 abbrev pub IsLineFlaw : Bool → Before → ℕ → ℕ → List ℕ → Flaw → Type 0

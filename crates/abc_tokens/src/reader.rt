@@ -1,4 +1,5 @@
 ghost use Rattle.std.specs.Prelude.{◌≡◌, ◌≢◌, ◌≤◌, ◌<◌, ◌+◌, ◌-◌, ◌^◌, ◌++◌, ◌∷◌, ℕ, List, length, IfOk, IfErr, OnOk, [], None};
+ghost use Rattle.abc_lines.specs.Kinds.{code};
 ghost use Rattle.abc_lines.specs.Good.{IsGoodLine};
 ghost use Rattle.abc_notes.specs.Chords.{chord_at};
 ghost use Rattle.abc_pieces.specs.Forms.{opening, is_kept_field};
@@ -10,11 +11,12 @@ ghost use Rattle.abc_tokens.specs.Tokens.{TokensOf, IsErrorOf, FrontOf, column, 
 
 use crate::token::{Front, Placed};
 use abc_lines::{Fault, FaultKind, Line, TuneError};
-use abc_notes::chord::{chord_fault, read_decos, read_heads};
+use abc_notes::chord::{chord_fault, goes_on_length, read_decos, read_heads};
 use abc_notes::decoration::{deco_of_letter, deco_of_name};
 use abc_notes::grace::{grace_fault, read_body};
 use abc_pieces::piece::{opening, piece_at};
 use abc_pieces::{Before, Flaw, Found, Opening, Token};
+use mus_units::bytes::is_digit;
 use mus_units::{Memory, Row, Text};
 use std::alloc::Global;
 
@@ -114,8 +116,8 @@ fn kind_behind(before: Before, byte: u8) -> Option<FaultKind>
                 FaultKind::BadLength,
             )
         }
-        Before::Lengthy => kind_if(byte.is_ascii_digit() || byte == b'/', FaultKind::BadLength),
-        Before::Paren => kind_if(byte.is_ascii_digit(), FaultKind::BadTuplet),
+        Before::Lengthy => kind_if(goes_on_length(byte), FaultKind::BadLength),
+        Before::Paren => kind_if(is_digit(byte), FaultKind::BadTuplet),
         Before::Other => None,
     }
 }
@@ -152,7 +154,7 @@ fn own_flaw(bang: bool, before: Before, first: u8, behind: &[u8]) -> Flaw
 fn bracket_flaw(bang: bool, behind: &[u8]) -> Flaw
     requires small { length behind.now < 2 ^ 30 }
     requires none { opening behind.now ≡ Chord → chord_at bang behind.now ≡ None }
-    ensures flaw { IsBracketFlaw (opening behind.now) bang 91 behind.now result }
+    ensures flaw { IsBracketFlaw (opening behind.now) bang (code "[") behind.now result }
     ensures within { result.left ≤ length behind.now + 1 }
 {
     match opening(behind) {

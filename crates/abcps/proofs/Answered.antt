@@ -4,7 +4,10 @@ use Rattle.std.specs.Io.KnownBytes.{Consumes, IsAtEnd}
 use Rattle.abcps_words.specs.declared.command.Command.{Command}
 use Rattle.abcps_words.specs.declared.command.Command.TheVariants as command
 use Rattle.abcps.specs.Called.{Called}
-use Rattle.abcps.specs.Calls.{Calls, Refuses, not_pages_line}
+use Rattle.abcps.specs.Calls.{Calls, Refuses}
+use Rattle.abcps.specs.Refusals.{refusal_line, refusal_status}
+use Rattle.abcps.specs.declared.refusing.Refusal.{Refusal}
+use Rattle.abcps.specs.declared.refusing.Refusal.TheVariants as refusals
 use Rattle.abcps_words.specs.Command.{Asks, limit_of}
 use Rattle.abcps.specs.Outcome.{IsAnswer, IsAnswered, IsEnd, IsObeyed, IsQuiet, IsRead, IsReader, IsRun, ReadAll, Stream, TookAll, TookFront, WasTold}
 use Rattle.abcps.specs.declared.status.Status.{Status}
@@ -19,12 +22,7 @@ answered_whole : (called : Called) (o e : Stream) (s : Status) → IsEnd s → s
 answered_whole called o e status.Done end is page told = (called, refl, is, page, told)
 answered_whole called o e status.SomeRefused end is page told = (called, refl, is, page, told)
 answered_whole called o e status.NotLeast end is page told = (called, refl, is, page, told)
-answered_whole called o e status.Usage end is page told = absurd end
-answered_whole called o e status.ReadFault end is page told = absurd end
-answered_whole called o e status.WriteFault end is page told = absurd end
-answered_whole called o e status.Memory end is page told = absurd end
-answered_whole called o e status.NotPages end is page told = absurd end
-answered_whole called o e status.TooLong end is page told = absurd end
+answered_whole called o e s end is page told = absurd end
 
 -- output has its whole text, and then errors was told its own
 pub answered_end : (called : Called) (o e : Stream) (s : Status) → IsEnd called.status → TookAll o called.page
@@ -44,10 +42,7 @@ answer_of c text C give o e status.NotLeast r = (r.0, give r.0 r.1, r.2, r.3, r.
 answer_of c text C give o e status.WriteFault r = inl (r.0, give r.0 r.1, r.2)
 answer_of c text C give o e status.Memory (quiet, inl none) = (quiet, inl none)
 answer_of c text C give o e status.Memory (quiet, inr part) = (quiet, inr (inl (part.0, give part.0 part.1, part.2)))
-answer_of c text C give o e status.Usage r = absurd r
-answer_of c text C give o e status.ReadFault r = absurd r
-answer_of c text C give o e status.TooLong r = absurd r
-answer_of c text C give o e status.NotPages r = absurd r
+answer_of c text C give o e s r = absurd r
 
 -- the same of one thing that is called for
 pub answer_by : (c : Command) (text : List ℕ) (called : Called) → Calls c text called
@@ -55,10 +50,13 @@ pub answer_by : (c : Command) (text : List ℕ) (called : Called) → Calls c te
 answer_by c text called calls o e s r = answer_of c text (Is called) (λ other is. subst (Calls c text) (sym is) calls) o e s r
 
 -- the input was refused, or memory ran out
-pub answer_refused : (c : Command) (text : List ℕ) (number : ℕ) (o e : Stream) (s : Status) → Refuses c text number → IsQuiet o
-    → ((s ≡ status.Memory) × IsQuiet e) ⊎ ((s ≡ status.NotPages) × WasTold e (not_pages_line number)) → IsAnswer c s text o e
-answer_refused c text number o e s refuses quiet (inl none) = subst (λ t. IsAnswer c t text o e) (sym none.0) (none.1, inl quiet)
-answer_refused c text number o e s refuses quiet (inr told) = subst (λ t. IsAnswer c t text o e) (sym told.0) (number, refuses, quiet, told.1)
+pub answer_refused : (c : Command) (text : List ℕ) (refusal : Refusal) (o e : Stream) (s : Status) → Refuses c text refusal → IsQuiet o
+    → ((s ≡ status.Memory) × IsQuiet e) ⊎ ((s ≡ refusal_status refusal) × WasTold e (refusal_line refusal)) → IsAnswer c s text o e
+answer_refused c text refusal o e s refuses quiet (inl none) = subst (λ t. IsAnswer c t text o e) (sym none.0) (none.1, inl quiet)
+answer_refused c text (refusals.NotPages line) o e s refuses quiet (inr told) =
+    subst (λ t. IsAnswer c t text o e) (sym told.0) (refusals.NotPages line, refuses, refl, quiet, told.1)
+answer_refused c text (refusals.Halted token cause) o e s refuses quiet (inr told) =
+    subst (λ t. IsAnswer c t text o e) (sym told.0) (refusals.Halted token cause, refuses, refl, quiet, told.1)
 
 -- what was read of a command that reads
 pub read_of : (c : Command) (i : Stream) (text : List ℕ) → IsReader c → ReadAll (limit_of c) i text → IsRead c i text
@@ -66,6 +64,7 @@ read_of (command.Set flow jobs) i text reads read = read
 read_of (command.Systems flow table) i text reads read = read
 read_of command.Inspect i text reads read = read
 read_of command.Check i text reads read = read
+read_of command.Paint i text reads read = read
 read_of (command.Make tunes) i text reads read = absurd reads
 read_of (command.Trial tunes flow jobs) i text reads read = absurd reads
 
@@ -75,12 +74,11 @@ obeyed_of c i o e text status.Done read r = (text, read, r)
 obeyed_of c i o e text status.SomeRefused read r = (text, read, r)
 obeyed_of c i o e text status.NotLeast read r = (text, read, r)
 obeyed_of c i o e text status.NotPages read r = (text, read, r)
+obeyed_of c i o e text status.Halted read r = (text, read, r)
 obeyed_of c i o e text status.WriteFault read r = (text, read, r)
 obeyed_of c i o e text status.Memory read (quiet, inl none) = (quiet, inl none)
 obeyed_of c i o e text status.Memory read (quiet, inr part) = (quiet, inr (text, read, part))
-obeyed_of c i o e text status.Usage read r = absurd r
-obeyed_of c i o e text status.ReadFault read r = absurd r
-obeyed_of c i o e text status.TooLong read r = absurd r
+obeyed_of c i o e text s read r = absurd r
 
 -- what a command answers a run answers that asks for it
 pub run_of : (words : List (List ℕ)) (c : Command) (i o e : Stream) (s : Status) → Asks words c → IsObeyed c s i o e → IsRun s words i o e
@@ -93,6 +91,7 @@ run_of words c i o e status.Memory asked r = (c, asked, r)
 run_of words c i o e status.NotPages asked r = (c, asked, r)
 run_of words c i o e status.TooLong asked r = (c, asked, r)
 run_of words c i o e status.NotLeast asked r = (c, asked, r)
+run_of words c i o e status.Halted asked r = (c, asked, r)
 
 -- an input was read to its end, and what was asked with it was answered
 pub read_obeyed : (c : Command) (before after : Option (List ℕ)) (count_before count_after limit : ℕ) (text shown : List ℕ) (o e : Stream) (s : Status)

@@ -1,4 +1,4 @@
--- A command calls for one answer on an input, however many jobs set its book.
+-- A command calls for one answer on an input, however many jobs set its book; and for none on an input that it refuses.
 use Rattle.std.proofs.Common.{◌≡◌, ◌∙◌, refl, sym, ap, subst, ℕ, List, [], ◌∷◌, Bool, arith}
 use Rattle.abc_lines.specs.Books.{book_of}
 use Rattle.abc_header.specs.Defaults.{defaults_of}
@@ -13,6 +13,8 @@ use Rattle.lay_cert.specs.declared.check.Judged.{Judged}
 use Rattle.lay_cert.specs.declared.check.Verdict.{Verdict}
 use Rattle.lay_cert.specs.declared.check.Verdict.TheVariants.{Least, NotLeast}
 use Rattle.lay_cert.proofs.Alone.{tells_one}
+use Rattle.paint_text.specs.PaintText.{paint_text}
+use Rattle.ps_machine.specs.OneAnswer.{HasOneAnswer}
 use Rattle.ps_text.specs.Document.{document}
 use Rattle.set_book.specs.declared.outcome.Outcome.{Outcome}
 use Rattle.set_pages.specs.Sheet.{sheet_of}
@@ -24,7 +26,9 @@ use Rattle.abcps_words.specs.declared.command.Command.TheVariants as command
 use Rattle.abcps.specs.declared.status.Status.{Status}
 use Rattle.abcps.specs.Called.{Called, IsQuietly}
 use Rattle.abcps.specs.Books.{AreSet, CallsPages, CallsSystems, Tries, paper_in, status_of, systems_by, trial_of}
-use Rattle.abcps.specs.Calls.{Calls, CallsOne, Judges, Shows, by_one_job, status_by, verdicts_text}
+use Rattle.abcps.specs.Calls.{Calls, CallsOne, IsPainted, Judges, NeverBoth, Refuses, Shows, budget_of, by_one_job, status_by, verdicts_text}
+use Rattle.abcps.specs.declared.refusing.Refusal.{Refusal}
+use Rattle.abcps.specs.declared.refusing.Refusal.TheVariants as refusals
 use Rattle.abcps.specs.Outputs.{sheet_report}
 
 abbrev called_of : List ℕ → List ℕ → Status → Called
@@ -115,14 +119,18 @@ verdicts_once text c d a b =
     let same = judged_once text a.judged b.judged a.verdicts b.verdicts in
     same_called c d (a.page ∙ ap verdicts_text same ∙ sym b.page) (a.told ∙ sym b.told) (a.status ∙ ap status_by same ∙ sym b.status)
 
+painted_once : HasOneAnswer → (text : List ℕ) (c d : Called) → IsPainted text c → IsPainted text d → c ≡ d
+painted_once alone text c d a b = quiet_called c d (a.page ∙ ap paint_text (alone.painted text (budget_of text) a.pages b.pages a.paints b.paints) ∙ sym b.page) a.quietly b.quietly
+
 -- a command calls for one answer
-called_once : HaveOneOutcome → (c : Command) (text : List ℕ) (called other : Called) → Calls c text called → Calls c text other → called ≡ other
-called_once one (command.Set flow jobs) text called other a b = pages_once one flow text called other a b
-called_once one (command.Systems flow table) text called other a b = systems_once one flow table text called other a b
-called_once one command.Inspect text called other a b = sheet_once text called other a b
-called_once one command.Check text called other a b = verdicts_once text called other a b
-called_once one (command.Make tunes) text called other a b = quiet_called called other (a.page ∙ sym b.page) a.quietly b.quietly
-called_once one (command.Trial tunes flow jobs) text called other a b = trial_once one tunes flow called other a b
+called_once : HaveOneOutcome → HasOneAnswer → (c : Command) (text : List ℕ) (called other : Called) → Calls c text called → Calls c text other → called ≡ other
+called_once one alone (command.Set flow jobs) text called other a b = pages_once one flow text called other a b
+called_once one alone (command.Systems flow table) text called other a b = systems_once one flow table text called other a b
+called_once one alone command.Inspect text called other a b = sheet_once text called other a b
+called_once one alone command.Check text called other a b = verdicts_once text called other a b
+called_once one alone (command.Make tunes) text called other a b = quiet_called called other (a.page ∙ sym b.page) a.quietly b.quietly
+called_once one alone (command.Trial tunes flow jobs) text called other a b = trial_once one tunes flow called other a b
+called_once one alone command.Paint text called other a b = painted_once alone text called other a b
 
 -- what is called for doesn't hang on jobs
 by_one : (c : Command) (text : List ℕ) (called : Called) → Calls c text called → Calls (by_one_job c) text called
@@ -132,8 +140,17 @@ by_one command.Inspect text called a = a
 by_one command.Check text called a = a
 by_one (command.Make tunes) text called a = a
 by_one (command.Trial tunes flow jobs) text called a = a
+by_one command.Paint text called a = a
 
 -- commands that differ in nothing but jobs call for one answer
-pub calls_one : HaveOneOutcome → CallsOne
-calls_one one c d text called other same a b =
-    called_once one (by_one_job c) text other called (subst (λ x. Calls x text other) same (by_one d text other b)) (by_one c text called a)
+pub calls_one : HaveOneOutcome → HasOneAnswer → CallsOne
+calls_one one alone c d text called other same a b =
+    called_once one alone (by_one_job c) text other called (subst (λ x. Calls x text other) same (by_one d text other b)) (by_one c text called a)
+
+-- an input that is refused calls for nothing
+pub never_both : HasOneAnswer → NeverBoth
+never_both alone command.Inspect text called (refusals.NotPages line) calls refuses = refuses.unspelled calls.sheet calls.read.spells
+never_both alone command.Check text called (refusals.NotPages line) calls refuses = refuses.unspelled calls.verdicts.0 calls.verdicts.1
+never_both alone command.Paint text called (refusals.Halted token cause) calls refuses =
+    alone.either text (budget_of text) calls.pages token cause calls.paints refuses
+never_both alone c text called refusal calls refuses = absurd refuses

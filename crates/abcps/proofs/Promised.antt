@@ -5,8 +5,10 @@ use Rattle.abcps_words.specs.Command.{Asks, AsksOne, IsListed, limit_of}
 use Rattle.abcps_words.specs.declared.command.Command.{Command}
 use Rattle.abcps_words.specs.declared.command.Command.TheVariants as command
 use Rattle.abcps.specs.Called.{Called}
-use Rattle.abcps.specs.Calls.{Calls, CallsOne, IsNoDocument, IsNoListing}
-use Rattle.abcps.specs.Outcome.{HasFailed, HasPart, Stream, IsAnswer, IsObeyed, IsQuiet, IsRead, IsReader, IsRun, ReadAll, ReadTooMuch, TookAll, WasCut}
+use Rattle.abcps.specs.Calls.{Calls, CallsOne, NeverBoth, Refuses}
+use Rattle.abcps.specs.Refusals.{IsRefusal}
+use Rattle.abcps.specs.declared.refusing.Refusal.{Refusal}
+use Rattle.abcps.specs.Outcome.{HasFailed, HasPart, Stream, IsAnswer, IsObeyed, IsQuiet, IsRead, IsReader, IsRun, ReadAll, ReadTooMuch, TookAll, WasCut, WasRefused}
 use Rattle.abcps.specs.Promises.{IsDone, IsGiven, IsRefused, IsToldTo, IsWhole, NoFault, Promises}
 use Rattle.abcps.specs.declared.status.Status.{Status}
 use Rattle.abcps.specs.declared.status.Status.TheVariants as status
@@ -29,7 +31,7 @@ taken_short (Some xs) (Some ys) told text e taken =
     let both = length-append text ys in
     omega arith
 
-module _ (alone : CallsOne) (words : List (List ℕ)) (i o e : Stream) where
+module _ (alone : CallsOne) (either : NeverBoth) (words : List (List ℕ)) (i o e : Stream) where
   usage_by : (s : Status) → IsRun s words i o e → (IsListed words → ⊥) → s ≡ status.Usage
   usage_by status.Usage run not = refl
   usage_by status.Done run not = absurd (not (run.0, run.1))
@@ -40,6 +42,7 @@ module _ (alone : CallsOne) (words : List (List ℕ)) (i o e : Stream) where
   usage_by status.NotPages run not = absurd (not (run.0, run.1))
   usage_by status.TooLong run not = absurd (not (run.0, run.1))
   usage_by status.NotLeast run not = absurd (not (run.0, run.1))
+  usage_by status.Halted run not = absurd (not (run.0, run.1))
 
   -- what is answered where both texts are written
   done_with : (c : Command) (text : List ℕ) (s : Status) → (called : Called) → Calls c text called → s ≡ called.status → TookAll o called.page → TookAll e called.told
@@ -48,17 +51,19 @@ module _ (alone : CallsOne) (words : List (List ℕ)) (i o e : Stream) where
     called = called;
     calls = calls;
     only = λ d other same more. alone c d text called other same calls more;
+    unrefused = λ refusal refuses. either c text called refusal calls refuses;
     ends = ends;
     page = page;
     told = told;
   }
 
-  done_by : (s : Status) → IsRun s words i o e → (s ≡ status.Usage → ⊥) → (s ≡ status.ReadFault → ⊥) → (s ≡ status.TooLong → ⊥) → (s ≡ status.NotPages → ⊥)
+  done_by : (s : Status) → IsRun s words i o e → (s ≡ status.Usage → ⊥) → (s ≡ status.ReadFault → ⊥) → (s ≡ status.TooLong → ⊥) → (IsRefusal s → ⊥)
       → (s ≡ status.WriteFault → ⊥) → (s ≡ status.Memory → ⊥) → (c : Command) × (text : List ℕ) × IsWhole c words i text × IsDone c s text o e
   done_by status.Usage run a b c d f g = absurd (a refl)
   done_by status.ReadFault run a b c d f g = absurd (b refl)
   done_by status.TooLong run a b c d f g = absurd (c refl)
-  done_by status.NotPages run a b c d f g = absurd (d refl)
+  done_by status.NotPages run a b c d f g = absurd (d tt)
+  done_by status.Halted run a b c d f g = absurd (d tt)
   done_by status.WriteFault run a b c d f g = absurd (f refl)
   done_by status.Memory run a b c d f g = absurd (g refl)
   done_by status.Done run a b c d f g =
@@ -83,39 +88,71 @@ module _ (alone : CallsOne) (words : List (List ℕ)) (i o e : Stream) where
   told_all : (most : ℕ) (told text : List ℕ) → i.before ≡ Some told → ReadAll most i text → text ≡ told
   told_all most told text is read = whole_read i.before i.after told text is read.taken read.whole
 
+  -- a command reads its input, or none
+  reads_or_not : (c : Command) → IsReader c ⊎ (IsReader c → ⊥)
+  reads_or_not (command.Make tunes) = inr (λ reads. reads)
+  reads_or_not (command.Trial tunes flow jobs) = inr (λ reads. reads)
+  reads_or_not c = inl tt
+
+  told_reader : (c : Command) (told : List ℕ) → IsReader c → IsToldTo c i told → (i.before ≡ Some told) × (length told ≤ limit_of c)
+  told_reader (command.Make tunes) told reads is = absurd reads
+  told_reader (command.Trial tunes flow jobs) told reads is = absurd reads
+  told_reader c told reads is = is
+
+  read_reader : (c : Command) (text : List ℕ) → IsReader c → IsRead c i text → ReadAll (limit_of c) i text
+  read_reader (command.Make tunes) text reads read = absurd reads
+  read_reader (command.Trial tunes flow jobs) text reads read = absurd reads
+  read_reader c text reads read = read
+
+  read_told : (c : Command) (told text : List ℕ) → IsReader c → IsToldTo c i told → IsRead c i text → text ≡ told
+  read_told c told text reads is read = told_all (limit_of c) told text (told_reader c told reads is).0 (read_reader c text reads read)
+
+  -- a command that reads nothing calls for the same of any text
+  unread_calls : (c : Command) (told text : List ℕ) (called : Called) → (IsReader c → ⊥) → Calls c text called → Calls c told called
+  unread_calls (command.Make tunes) told text called not calls = calls
+  unread_calls (command.Trial tunes flow jobs) told text called not calls = calls
+  unread_calls c told text called not calls = absurd (not tt)
+
+  calls_told : (c : Command) (told text : List ℕ) (called : Called) → IsToldTo c i told → IsRead c i text → Calls c text called → Calls c told called
+  calls_told c told text called is read calls = by_reading (reads_or_not c)
+    where
+      by_reading : IsReader c ⊎ (IsReader c → ⊥) → Calls c told called
+      by_reading (inl reads) = subst (λ t. Calls c t called) (read_told c told text reads is read) calls
+      by_reading (inr not) = unread_calls c told text called not calls
+
   -- what was called for was done, for the text that the input told
   done_told : (c : Command) (told : List ℕ) (s : Status) → IsToldTo c i told → (text : List ℕ) → IsRead c i text
       → (called : Called) → Calls c text called → s ≡ called.status → TookAll o called.page → TookAll e called.told → IsDone c s told o e
-  done_told (command.Set flow jobs) told s is text read called calls ends page tells =
-      done_with (command.Set flow jobs) told s called (subst (λ t. Calls (command.Set flow jobs) t called) (told_all 8388608 told text is.0 read) calls) ends page tells
-  done_told (command.Systems flow table) told s is text read called calls ends page tells =
-      done_with (command.Systems flow table) told s called (subst (λ t. Calls (command.Systems flow table) t called) (told_all 8388608 told text is.0 read) calls) ends page tells
-  done_told command.Inspect told s is text read called calls ends page tells =
-      done_with command.Inspect told s called (subst (λ t. Calls command.Inspect t called) (told_all 268435456 told text is.0 read) calls) ends page tells
-  done_told command.Check told s is text read called calls ends page tells =
-      done_with command.Check told s called (subst (λ t. Calls command.Check t called) (told_all 268435456 told text is.0 read) calls) ends page tells
-  done_told (command.Make tunes) told s is text read called calls ends page tells =
-      done_with (command.Make tunes) told s called calls ends page tells
-  done_told (command.Trial tunes flow jobs) told s is text read called calls ends page tells =
-      done_with (command.Trial tunes flow jobs) told s called calls ends page tells
+  done_told c told s is text read called calls ends page tells = done_with c told s called (calls_told c told text called is read calls) ends page tells
 
-  refused_told : (c : Command) (told : List ℕ) → IsToldTo c i told → (text : List ℕ) → IsRead c i text → IsAnswer c status.NotPages text o e → IsRefused c told o e
-  refused_told command.Inspect told is text read r = record {
-    number = r.0;
-    refuses = subst (λ t. IsNoDocument t r.0) (told_all 268435456 told text is.0 read) r.1;
-    quiet = r.2;
-    told = r.3;
+  -- an input that was refused
+  refused_with : (c : Command) (text : List ℕ) (s : Status) → WasRefused c s text o e → IsRefused c s text o e
+  refused_with c text s r = record {
+    refusal = r.0;
+    refuses = r.1;
+    uncalled = λ called calls. either c text called r.0 calls r.1;
+    ends = r.2;
+    quiet = r.3;
+    told = r.4;
   }
-  refused_told command.Check told is text read r = record {
-    number = r.0;
-    refuses = subst (λ t. IsNoListing t r.0) (told_all 268435456 told text is.0 read) r.1;
-    quiet = r.2;
-    told = r.3;
-  }
-  refused_told (command.Set flow jobs) told is text read r = absurd r.1
-  refused_told (command.Systems flow table) told is text read r = absurd r.1
-  refused_told (command.Make tunes) told is text read r = absurd r.1
-  refused_told (command.Trial tunes flow jobs) told is text read r = absurd r.1
+
+  -- a command that refuses its input reads it
+  refused_reads : (c : Command) (text : List ℕ) (refusal : Refusal) → Refuses c text refusal → IsReader c
+  refused_reads command.Inspect text refusal refuses = tt
+  refused_reads command.Check text refusal refuses = tt
+  refused_reads command.Paint text refusal refuses = tt
+  refused_reads c text refusal refuses = absurd refuses
+
+  refused_told : (c : Command) (told : List ℕ) (s : Status) → IsToldTo c i told → (text : List ℕ) → IsRead c i text → WasRefused c s text o e → IsRefused c s told o e
+  refused_told c told s is text read r =
+      refused_with c told s (r.0, subst (λ t. Refuses c t r.0) (read_told c told text (refused_reads c text r.0 r.1) is read) r.1, r.2, r.3, r.4)
+
+  refused_by : (s : Status) → IsRun s words i o e → IsRefusal s → (c : Command) × (text : List ℕ) × IsWhole c words i text × IsRefused c s text o e
+  refused_by status.NotPages run is =
+      (run.0, run.2.0, record { asked = run.1; read = run.2.1 }, refused_with run.0 run.2.0 status.NotPages run.2.2)
+  refused_by status.Halted run is =
+      (run.0, run.2.0, record { asked = run.1; read = run.2.1 }, refused_with run.0 run.2.0 status.Halted run.2.2)
+  refused_by s run is = absurd is
 
   too_long : (most : ℕ) (told text : List ℕ) → (i.before ≡ Some told) × (length told ≤ most) → ReadTooMuch most i text → ⊥
   too_long most told text is read =
@@ -123,12 +160,7 @@ module _ (alone : CallsOne) (words : List (List ℕ)) (i o e : Stream) where
       omega (arith, short, read.past, is.1)
 
   not_too_long : (c : Command) (told text : List ℕ) → IsReader c → IsToldTo c i told → ReadTooMuch (limit_of c) i text → ⊥
-  not_too_long (command.Set flow jobs) told text reads is read = too_long 8388608 told text is read
-  not_too_long (command.Systems flow table) told text reads is read = too_long 8388608 told text is read
-  not_too_long command.Inspect told text reads is read = too_long 268435456 told text is read
-  not_too_long command.Check told text reads is read = too_long 268435456 told text is read
-  not_too_long (command.Make tunes) told text reads is read = absurd reads
-  not_too_long (command.Trial tunes flow jobs) told text reads is read = absurd reads
+  not_too_long c told text reads is read = too_long (limit_of c) told text (told_reader c told reads is) read
 
   not_cut : (called : Called) → NoFault i o e → WasCut called o e → ⊥
   not_cut called good (inl cut) = good.output cut.0.2
@@ -140,13 +172,14 @@ module _ (alone : CallsOne) (words : List (List ℕ)) (i o e : Stream) where
 
   -- a command was obeyed, no fault was counted, and memory was found
   obeyed_as : (c : Command) (s : Status) → IsObeyed c s i o e → (told : List ℕ) → NoFault i o e → IsToldTo c i told → (s ≡ status.Memory → ⊥) → (s ≡ status.Usage → ⊥)
-      → IsDone c s told o e ⊎ ((s ≡ status.NotPages) × IsRefused c told o e)
+      → IsDone c s told o e ⊎ IsRefused c s told o e
   obeyed_as c status.Usage r told good is ample listed = absurd (listed refl)
   obeyed_as c status.ReadFault r told good is ample listed = absurd (good.input r.1)
   obeyed_as c status.TooLong r told good is ample listed = absurd (not_too_long c told r.1.0 r.0 is r.1.1)
   obeyed_as c status.Memory r told good is ample listed = absurd (ample refl)
   obeyed_as c status.WriteFault (text, read, r) told good is ample listed = absurd (not_failed c text good r)
-  obeyed_as c status.NotPages (text, read, r) told good is ample listed = inr (refl, refused_told c told is text read r)
+  obeyed_as c status.NotPages (text, read, r) told good is ample listed = inr (refused_told c told status.NotPages is text read r)
+  obeyed_as c status.Halted (text, read, r) told good is ample listed = inr (refused_told c told status.Halted is text read r)
   obeyed_as c status.Done (text, read, r) told good is ample listed = inl (done_told c told status.Done is text read r.0 r.1 r.2 r.3 r.4)
   obeyed_as c status.SomeRefused (text, read, r) told good is ample listed = inl (done_told c told status.SomeRefused is text read r.0 r.1 r.2 r.3 r.4)
   obeyed_as c status.NotLeast (text, read, r) told good is ample listed = inl (done_told c told status.NotLeast is text read r.0 r.1 r.2 r.3 r.4)
@@ -161,10 +194,11 @@ module _ (alone : CallsOne) (words : List (List ℕ)) (i o e : Stream) where
   obeyed one d status.Memory run asked = (λ is. cc, subst (λ c. IsObeyed c status.Memory i o e) (one words run.0 d run.1 asked) run.2)
   obeyed one d status.NotPages run asked = (λ is. cc, subst (λ c. IsObeyed c status.NotPages i o e) (one words run.0 d run.1 asked) run.2)
   obeyed one d status.TooLong run asked = (λ is. cc, subst (λ c. IsObeyed c status.TooLong i o e) (one words run.0 d run.1 asked) run.2)
+  obeyed one d status.Halted run asked = (λ is. cc, subst (λ c. IsObeyed c status.Halted i o e) (one words run.0 d run.1 asked) run.2)
   obeyed one d status.NotLeast run asked = (λ is. cc, subst (λ c. IsObeyed c status.NotLeast i o e) (one words run.0 d run.1 asked) run.2)
 
   answered_as : AsksOne → (s : Status) → IsRun s words i o e → (c : Command) (text : List ℕ) → IsGiven c words i o e text → (s ≡ status.Memory → ⊥)
-      → IsDone c s text o e ⊎ ((s ≡ status.NotPages) × IsRefused c text o e)
+      → IsDone c s text o e ⊎ IsRefused c s text o e
   answered_as one s run c text given ample =
       let r = obeyed one c s run given.asked in
       obeyed_as c s r.1 text given.good given.told ample r.0
@@ -175,8 +209,7 @@ module _ (alone : CallsOne) (words : List (List ℕ)) (i o e : Stream) where
     usage_line = λ is. (let r = subst (λ t. IsRun t words i o e) is run in (r.1, r.2, r.3));
     read_fault = λ is. (let r = subst (λ t. IsRun t words i o e) is run in ((r.0, r.1, r.2.0), r.2.1, r.2.2, r.2.3));
     too_long = λ is. (let r = subst (λ t. IsRun t words i o e) is run in ((r.0, r.1, r.2.0, r.2.1), r.2.2, r.2.3));
-    not_pages = λ is. (let r = subst (λ t. IsRun t words i o e) is run in
-        (r.0, r.2.0, record { asked = r.1; read = r.2.1 }, record { number = r.2.2.0; refuses = r.2.2.1; quiet = r.2.2.2; told = r.2.2.3 }));
+    refused = refused_by s run;
     write_fault = λ is. (let r = subst (λ t. IsRun t words i o e) is run in
         (r.0, r.2.0, record { asked = r.1; read = r.2.1 }, r.2.2));
     memory = λ is. memory_by (subst (λ t. IsRun t words i o e) is run);

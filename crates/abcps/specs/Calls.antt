@@ -1,10 +1,13 @@
 -- What each command calls for, of an input that it doesn't refuse.
-use Rattle.std.specs.Prelude.{◌≡◌, ℕ, List, [], ◌∷◌, ◌++◌, Bool, true, false, if◌then◌else◌, flat_map, codes, decimal}
+use Rattle.std.specs.Prelude.{◌≡◌, ℕ, ◌*◌, List, [], Bool, true, false, if◌then◌else◌, length, flat_map}
 use Rattle.std.specs.List.{list_any}
 use Rattle.gen_book.specs.Book.{book}
 use Rattle.ps_text.specs.Document.{Spells}
 use Rattle.ps_text.specs.declared.sheet.Sheet.{Sheet}
 use Rattle.ps_read.specs.Answers.{IsRead, IsFirstFault}
+use Rattle.ps_steps.specs.declared.paint.PagePaint.{PagePaint}
+use Rattle.ps_steps.specs.Steps.{Paints, Halts}
+use Rattle.paint_text.specs.PaintText.{paint_text}
 use Rattle.lay_cert.specs.declared.check.Judged.{Judged}
 use Rattle.lay_cert.specs.declared.check.Verdict.{Verdict}
 use Rattle.lay_cert.specs.declared.check.Verdict.TheVariants as verdicts
@@ -17,6 +20,8 @@ use Rattle.abcps_words.specs.declared.command.Command.TheVariants as command
 use Rattle.abcps.specs.Called.{Called, IsQuietly}
 use Rattle.abcps.specs.Books.{CallsPages, CallsSystems, Tries}
 use Rattle.abcps.specs.Outputs.{sheet_report}
+use Rattle.abcps.specs.declared.refusing.Refusal.{Refusal}
+use Rattle.abcps.specs.declared.refusing.Refusal.TheVariants as refusals
 use Rattle.abcps.specs.declared.status.Status.{Status}
 use Rattle.abcps.specs.declared.status.Status.TheVariants as status
 
@@ -53,6 +58,16 @@ pub record Makes (tunes : ℕ) (c : Called) : Type 0 where
   pub page : c.page ≡ book tunes
   pub quietly : IsQuietly c
 
+-- Of `paint`: what the machine paints of the input, where it may execute 100 tokens for each byte.
+abbrev pub budget_of : List ℕ → ℕ
+budget_of text = 100 * length text
+
+pub record IsPainted (text : List ℕ) (c : Called) : Type 0 where
+  pub pages : List PagePaint
+  pub paints : Paints text (budget_of text) pages
+  pub page : c.page ≡ paint_text pages
+  pub quietly : IsQuietly c
+
 abbrev pub Calls : Command → List ℕ → Called → Type 0
 Calls (command.Set flow jobs) text c = CallsPages flow text c
 Calls (command.Systems flow table) text c = CallsSystems flow table text c
@@ -60,6 +75,7 @@ Calls command.Inspect text c = Shows text c
 Calls command.Check text c = Judges text c
 Calls (command.Make tunes) text c = Makes tunes c
 Calls (command.Trial tunes flow jobs) text c = Tries tunes flow c
+Calls command.Paint text c = IsPainted text c
 
 -- the same command with one job, where it takes a number of jobs
 abbrev pub by_one_job : Command → Command
@@ -69,16 +85,15 @@ by_one_job command.Inspect = command.Inspect
 by_one_job command.Check = command.Check
 by_one_job (command.Make tunes) = command.Make tunes
 by_one_job (command.Trial tunes flow jobs) = command.Trial tunes flow 1
+by_one_job command.Paint = command.Paint
 
 -- What commands that differ in nothing but jobs call for of an input is one.
 abbrev pub CallsOne : Type 0
 CallsOne = (c d : Command) (text : List ℕ) (called other : Called) → by_one_job d ≡ by_one_job c → Calls c text called → Calls d text other
     → other ≡ called
 
--- Of an input that is refused: no sheet spells it, or it is no listing; and the number of its first line that isn't good.
-abbrev pub not_pages_line : ℕ → List ℕ
-not_pages_line number = codes "not pages at line " ++ decimal number ++ 10 ∷ []
-
+-- Which inputs are refused: `inspect` refuses what no sheet spells, and `check` what is no listing, each by the number of its first
+-- line that isn't good; and `paint` refuses what the machine halts on.
 pub record IsNoDocument (text : List ℕ) (number : ℕ) : Type 0 where
   pub first : IsFirstFault text number
   pub unspelled : (sheet : Sheet) → Spells sheet text → ⊥
@@ -87,7 +102,12 @@ pub record IsNoListing (text : List ℕ) (number : ℕ) : Type 0 where
   pub first : listing.IsFirstFault text number
   pub unspelled : (entries : List Entry) → IsListing text entries → ⊥
 
-abbrev pub Refuses : Command → List ℕ → ℕ → Type 0
-Refuses command.Inspect text number = IsNoDocument text number
-Refuses command.Check text number = IsNoListing text number
-Refuses _ text number = ⊥
+abbrev pub Refuses : Command → List ℕ → Refusal → Type 0
+Refuses command.Inspect text (refusals.NotPages line) = IsNoDocument text line
+Refuses command.Check text (refusals.NotPages line) = IsNoListing text line
+Refuses command.Paint text (refusals.Halted token cause) = Halts text (budget_of text) token cause
+Refuses _ text refusal = ⊥
+
+-- An input that is refused calls for nothing.
+abbrev pub NeverBoth : Type 0
+NeverBoth = (c : Command) (text : List ℕ) (called : Called) (refusal : Refusal) → Calls c text called → Refuses c text refusal → ⊥

@@ -1,6 +1,7 @@
 pub mod Outputs
 pub mod Called
 pub mod Books
+pub mod Refusals
 pub mod Calls
 pub mod Status
 pub mod Outcome

@@ -14,7 +14,9 @@ use Rattle.abcps_words.specs.declared.command.Command.TheVariants as command
 use Rattle.abcps_words.specs.Usage.{usage_line}
 use Rattle.abcps.specs.Called.{Called}
 use Rattle.abcps.specs.Books.{CallsPages, paper_in}
-use Rattle.abcps.specs.Calls.{Calls, Refuses, not_pages_line}
+use Rattle.abcps.specs.Calls.{Calls, Refuses}
+use Rattle.abcps.specs.Refusals.{refusal_line, refusal_status}
+use Rattle.abcps.specs.declared.refusing.Refusal.{Refusal}
 use Rattle.abcps.specs.declared.status.Status.{Status}
 use Rattle.abcps.specs.declared.status.Status.TheVariants as status
 
@@ -120,9 +122,14 @@ IsAnswered C status.WriteFault o e = (called : Called) × C called × WasCut cal
 IsAnswered C status.Memory o e = IsQuiet e × (IsQuiet o ⊎ ((called : Called) × C called × TookPart o called.page))
 IsAnswered C _ o e = ⊥
 
+-- the input was refused: output has nothing, and errors was told why
+abbrev pub WasRefused : Command → Status → List ℕ → Stream → Stream → Type 0
+WasRefused c s text o e = (refusal : Refusal) × Refuses c text refusal × (s ≡ refusal_status refusal) × IsQuiet o × WasTold e (refusal_line refusal)
+
 -- what is answered once the input was read
 abbrev pub IsAnswer : Command → Status → List ℕ → Stream → Stream → Type 0
-IsAnswer c status.NotPages text o e = (number : ℕ) × Refuses c text number × IsQuiet o × WasTold e (not_pages_line number)
+IsAnswer c status.NotPages text o e = WasRefused c status.NotPages text o e
+IsAnswer c status.Halted text o e = WasRefused c status.Halted text o e
 IsAnswer c status.WriteFault text o e = HasFailed c text o e
 IsAnswer c status.Memory text o e = IsQuiet e × (IsQuiet o ⊎ HasPart c text o)
 IsAnswer c s text o e = IsAnswered (Calls c text) s o e

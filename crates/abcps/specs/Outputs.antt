@@ -1,10 +1,10 @@
 -- What `inspect` prints of a sheet: a line for the frame, each page, each item, each staff and each mark, and last the
 -- number of pages.
 use Rattle.std.specs.Prelude.{ℕ, ℤ, pos, List, [], ◌∷◌, ◌++◌, length, codes, decimal}
-use Rattle.std.specs.Fmt.{signed_decimal}
 use Rattle.std.specs.List.{flat_map}
 use Rattle.mus_units.specs.declared.glyph.Size.{Size}
 use Rattle.glyph_paths.specs.Names.{glyph_name}
+use Rattle.paint_text.specs.PaintText.{spaced}
 use Rattle.ps_text.specs.Fields.{quoted}
 use Rattle.ps_text.specs.Names.{size_name, way_name}
 use Rattle.ps_text.specs.Document.{numbered}
@@ -16,10 +16,6 @@ use Rattle.ps_text.specs.declared.sheet.Item.{Item}
 use Rattle.ps_text.specs.declared.sheet.Item.TheVariants as items
 use Rattle.ps_text.specs.declared.sheet.Page.{Page}
 use Rattle.ps_text.specs.declared.sheet.Sheet.{Sheet}
-
--- numbers in decimal, a space before each
-unfoldable pub spaced : List ℤ → List ℕ
-spaced zs = flat_map (λ z. 32 ∷ signed_decimal z) zs
 
 -- a line of a kind and numbers
 unfoldable pub plain_line : List ℕ → List ℤ → List ℕ

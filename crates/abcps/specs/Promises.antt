@@ -1,13 +1,15 @@
 -- What a run promises, one fact for each name.
-use Rattle.std.specs.Prelude.{◌≡◌, ◌≢◌, ◌⊎◌, ◌≤◌, ◌↔◌, ℕ, List, length, Some}
+use Rattle.std.specs.Prelude.{◌≡◌, ◌≢◌, ◌⊎◌, ◌≤◌, ◌↔◌, List, ℕ, length, Some}
 use Rattle.eng_io.specs.Causes.{Rose}
 use Rattle.abcps_words.specs.Command.{Asks, IsListed, limit_of}
 use Rattle.abcps_words.specs.declared.command.Command.{Command}
 use Rattle.abcps_words.specs.declared.command.Command.TheVariants as command
 use Rattle.abcps_words.specs.Usage.{usage_line}
 use Rattle.abcps.specs.Called.{Called}
-use Rattle.abcps.specs.Calls.{Calls, Refuses, by_one_job, not_pages_line}
+use Rattle.abcps.specs.Calls.{Calls, Refuses, by_one_job}
 use Rattle.abcps.specs.Outcome.{HasFailed, HasPart, Stream, IsQuiet, IsRead, IsReader, ReadTooMuch, TookAll, WasTold}
+use Rattle.abcps.specs.Refusals.{IsRefusal, refusal_line, refusal_status}
+use Rattle.abcps.specs.declared.refusing.Refusal.{Refusal}
 use Rattle.abcps.specs.declared.status.Status.{Status}
 use Rattle.abcps.specs.declared.status.Status.TheVariants as status
 
@@ -35,21 +37,24 @@ pub record IsWhole (c : Command) (words : List (List ℕ)) (i : Stream) (text : 
   pub read : IsRead c i text
 
 -- What was called for is on both sinks, and it is the one thing that is called for of this input, by any number of jobs: so the bytes
--- and the answer are the same for every number of them.
+-- and the answer are the same for every number of them. The input is one that isn't refused.
 pub record IsDone (c : Command) (s : Status) (text : List ℕ) (o e : Stream) : Type 0 where
   pub called : Called
   pub calls : Calls c text called
   pub only : (d : Command) (other : Called) → by_one_job d ≡ by_one_job c → Calls d text other → other ≡ called
+  pub unrefused : (refusal : Refusal) → Refuses c text refusal → ⊥
   pub ends : s ≡ called.status
   pub page : TookAll o called.page
   pub told : TookAll e called.told
 
--- the input is refused, and output has nothing
-pub record IsRefused (c : Command) (text : List ℕ) (o e : Stream) : Type 0 where
-  pub number : ℕ
-  pub refuses : Refuses c text number
+-- The input is refused: nothing is called for, the answer is the refusal's, output has nothing, and errors was told the refusal's line.
+pub record IsRefused (c : Command) (s : Status) (text : List ℕ) (o e : Stream) : Type 0 where
+  pub refusal : Refusal
+  pub refuses : Refuses c text refusal
+  pub uncalled : (called : Called) → Calls c text called → ⊥
+  pub ends : s ≡ refusal_status refusal
   pub quiet : IsQuiet o
-  pub told : WasTold e (not_pages_line number)
+  pub told : WasTold e (refusal_line refusal)
 
 pub record Promises (s : Status) (words : List (List ℕ)) (i o e : Stream) : Type 0 where
   -- usage is answered exactly by the words, whatever the streams do
@@ -60,8 +65,9 @@ pub record Promises (s : Status) (words : List (List ℕ)) (i o e : Stream) : Ty
   pub read_fault : s ≡ status.ReadFault → ((c : Command) × Asks words c × IsReader c) × Rose i.count_before i.count_after × IsQuiet o × IsQuiet e
   -- an input is too long where one byte past the command's limit was taken, and nothing is written
   pub too_long : s ≡ status.TooLong → ((c : Command) × Asks words c × IsReader c × ((text : List ℕ) × ReadTooMuch (limit_of c) i text)) × IsQuiet o × IsQuiet e
-  -- an input that is no document, or no listing, is told so by the line of its first fault, and nothing is written to output
-  pub not_pages : s ≡ status.NotPages → (c : Command) × (text : List ℕ) × IsWhole c words i text × IsRefused c text o e
+  -- an input that is no document, or no listing, is told so by the line of its first fault, and one that can't be painted by the token
+  -- at which its run halts and the cause; nothing is written to output
+  pub refused : IsRefusal s → (c : Command) × (text : List ℕ) × IsWhole c words i text × IsRefused c s text o e
   -- a fault of a sink is answered only where its count rose: output has a front of its text and errors nothing, or output has
   -- all of it and errors a front of its own; where `set` had tunes left, output has a front of whatever is called for of its book
   pub write_fault : s ≡ status.WriteFault → (c : Command) × (text : List ℕ) × IsWhole c words i text × HasFailed c text o e
@@ -69,9 +75,9 @@ pub record Promises (s : Status) (words : List (List ℕ)) (i o e : Stream) : Ty
   -- which `set` had tunes left
   pub memory : s ≡ status.Memory → IsQuiet e × (IsQuiet o ⊎ ((c : Command) × (text : List ℕ) × IsWhole c words i text × HasPart c text o))
   -- every other answer is the one that is called for, and both sinks have their whole texts
-  pub done : s ≢ status.Usage → s ≢ status.ReadFault → s ≢ status.TooLong → s ≢ status.NotPages → s ≢ status.WriteFault → s ≢ status.Memory
+  pub done : s ≢ status.Usage → s ≢ status.ReadFault → s ≢ status.TooLong → (IsRefusal s → ⊥) → s ≢ status.WriteFault → s ≢ status.Memory
       → (c : Command) × (text : List ℕ) × IsWhole c words i text × IsDone c s text o e
   -- Where the words ask for a command, no fault is counted and the input is told within the limit: unless memory runs out, all
   -- that the command calls for is done, or its input is refused.
   pub answered : (c : Command) (text : List ℕ) → IsGiven c words i o e text → s ≢ status.Memory
-      → IsDone c s text o e ⊎ ((s ≡ status.NotPages) × IsRefused c text o e)
+      → IsDone c s text o e ⊎ IsRefused c s text o e

@@ -15,6 +15,7 @@ number_of status.Memory = 5
 number_of status.NotPages = 6
 number_of status.TooLong = 7
 number_of status.NotLeast = 8
+number_of status.Halted = 10
 
 abbrev pub status_after : DocError → Status
 status_after (errors.Write e) = status.WriteFault

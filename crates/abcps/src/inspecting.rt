@@ -5,9 +5,10 @@ ghost use Rattle.abcps.specs.Outcome.{IsAnswer, IsAnswered};
 ghost use Rattle.abcps_words.specs.declared.command.Command.TheVariants as command;
 ghost use Rattle.abcps.specs.declared.status.Status.TheVariants as status;
 
+use crate::refusing::Refusal;
 use crate::report::report_of;
 use crate::status::Status;
-use crate::telling::{tell_not_pages, write_both};
+use crate::telling::{refuse, write_both};
 use eng_io::Sink;
 use ps_read::{PagesError, read_document};
 use ps_text::Sheet;
@@ -38,7 +39,7 @@ pub(crate) fn inspect<O: Sink, E: Sink>(
 {
     match read_document(alloc, text) {
         Ok(sheet) => print(alloc, &sheet, output, errors),
-        Err(PagesError::NotPages { line }) => tell_not_pages(alloc, line, errors),
+        Err(PagesError::NotPages { line }) => refuse(alloc, Refusal::NotPages { line }, errors),
         Err(PagesError::Memory) => Status::Memory,
     }
 }

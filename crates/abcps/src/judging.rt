@@ -4,8 +4,9 @@ ghost use Rattle.abcps.specs.Outcome.{IsAnswer, IsAnswered, IsEnd};
 ghost use Rattle.abcps_words.specs.declared.command.Command.TheVariants as command;
 ghost use Rattle.std.specs.List.{list_any};
 
+use crate::refusing::Refusal;
 use crate::status::Status;
-use crate::telling::{tell_not_pages, write_both};
+use crate::telling::{refuse, write_both};
 use eng_io::Sink;
 use lay_cert::{CertError, Judged, Verdict, check_listing, put_verdict};
 use mus_units::{Memory, Text};
@@ -81,7 +82,7 @@ pub(crate) fn check<O: Sink, E: Sink>(
 {
     match check_listing(alloc, text) {
         Ok(judged) => print(alloc, judged.as_slice(), output, errors),
-        Err(CertError::NotListing { line }) => tell_not_pages(alloc, line, errors),
+        Err(CertError::NotListing { line }) => refuse(alloc, Refusal::NotPages { line }, errors),
         Err(CertError::Memory) => Status::Memory,
     }
 }

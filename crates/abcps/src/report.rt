@@ -1,34 +1,14 @@
-ghost use Rattle.std.specs.Prelude.{◌≡◌, ◌++◌, ◌∷◌, decimal, OnOk, IfOk};
-ghost use Rattle.std.specs.Fmt.{signed_decimal};
+ghost use Rattle.std.specs.Prelude.{◌≡◌, ◌++◌, decimal, OnOk, IfOk};
 ghost use Rattle.ps_text.specs.Document.{numbered};
-ghost use Rattle.abcps.specs.Outputs.{spaced, plain_line, named_line, words_line, mark_report, marks_report, staff_report, system_report, item_report, items_report, page_report, frame_report, sheet_report};
+ghost use Rattle.abcps.specs.Outputs.{plain_line, named_line, words_line, mark_report, marks_report, staff_report, system_report, item_report, items_report, page_report, frame_report, sheet_report};
 
 use glyph_paths::name_of;
-use itoa::Buffer;
 use mus_units::{Memory, Size, Text};
+use paint_text::put_spaced;
 use ps_text::fields::{put_number, put_quoted};
 use ps_text::names::{size_name_of, way_name_of};
 use ps_text::{Frame, Item, Page, PageMark, Sheet, Staff};
 use std::alloc::Global;
-
-fn put_spaced_one(out: &mut Text, z: i64) -> Result<(), Memory>
-    ensures { OnOk result (out.new ≡ out.old ++ 32 ∷ signed_decimal z) }
-{
-    let mut buffer = Buffer::new();
-    out.push(b' ')?;
-    out.append(buffer.format(z).as_bytes())
-}
-
-/// Adds numbers in decimal, a space before each.
-#[tactic(auto, unfolding(crate::specs::Outputs::spaced))]
-fn put_spaced(out: &mut Text, zs: &[i64]) -> Result<(), Memory>
-    ensures { OnOk result (out.new ≡ out.old ++ spaced zs.now) }
-{
-    for z in zs {
-        put_spaced_one(out, *z)?;
-    }
-    Ok(())
-}
 
 /// Adds a line of a kind and numbers.
 #[tactic(auto, unfolding(crate::specs::Outputs::plain_line))]

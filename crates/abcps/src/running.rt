@@ -1,6 +1,6 @@
 ghost use Rattle.std.specs.Prelude.{◌≡◌, ◌≤◌, length, map, string_bytes};
 ghost use Rattle.abcps_words.specs.Command.{IsGoodCommand, limit_of};
-ghost use Rattle.abcps.specs.Calls.{CallsOne};
+ghost use Rattle.abcps.specs.Calls.{CallsOne, NeverBoth};
 ghost use Rattle.abcps.specs.Outcome.{IsAnswer, IsObeyed, IsReader, IsRun};
 ghost use Rattle.abcps.specs.Promises.{Promises};
 
@@ -8,10 +8,12 @@ use crate::books::{set, systems, trial};
 use crate::inspecting::inspect;
 use crate::judging::check;
 use crate::making::make_book;
+use crate::painting::paint;
 use crate::status::Status;
 use crate::telling::tell_usage;
 use abcps_words::{Command, asks_one, command_of};
 use eng_io::{ReadError, Sink, Source, read_all};
+use ps_machine::one_answer;
 use set_book::{Gate, one_outcome};
 use set_lists::no_way_is_exact;
 use std::alloc::Global;
@@ -41,6 +43,7 @@ fn answer<R: Threads + Sync, O: Sink, E: Sink, G: Gate + Sync>(
         }
         Command::Inspect => inspect(alloc, text, output, errors),
         Command::Check => check(alloc, text, output, errors),
+        Command::Paint => paint(alloc, text, output, errors),
         Command::Make { .. } | Command::Trial { .. } => unreachable!(),
     }
 }
@@ -118,18 +121,28 @@ fn run_words<R: Threads + Sync, S: Source, O: Sink, E: Sink, G: Gate + Sync>(
 }
 
 /// The law that what commands that differ in nothing but jobs call for of an input is one: a tune has
-/// one outcome, a sheet spells one text, and a listing has one list of verdicts.
+/// one outcome, a sheet spells one text, a listing has one list of verdicts, and a text is painted in
+/// one way.
 pub fn calls_one()
     ensures { CallsOne }
 {
     one_outcome();
+    one_answer();
+}
+
+/// The law that an input that is refused calls for nothing.
+pub fn never_both()
+    ensures { NeverBoth }
+{
+    one_answer();
 }
 
 /// Does what the words say. `set` reads a book of at most 8,388,608 bytes and writes its document;
 /// `systems` reads the same, and writes its systems, or the listing of its spans; `inspect` reads a
 /// document of at most 268,435,456 bytes and writes all that it shows; `check` reads a listing of as
 /// many, and writes the verdict on each of its tunes; `make` writes a generated book, and `trial`
-/// sets one and writes a line on it.
+/// sets one and writes a line on it; `paint` reads any bytes, as many as a document may have, runs
+/// them on the machine, and writes what they paint.
 ///
 /// `set` reads its book whole, and then writes pages as they fill, before the tunes behind them are
 /// set; it tells faults once the document is written. Where a write fails or memory runs out while
@@ -155,6 +168,7 @@ pub fn run<R: Threads + Sync, S: Source, O: Sink, E: Sink, G: Gate + Sync>(
 {
     asks_one();
     calls_one();
+    never_both();
     no_way_is_exact();
     run_words(rt, alloc, words, input, output, errors, gate)
 }

@@ -26,10 +26,12 @@ pub enum Status {
     TooLong,
     /// A choice that was judged isn't least.
     NotLeast,
+    /// The machine that paints the input halts.
+    Halted,
 }
 
 impl Status {
-    /// The number with which the program exits: 0 for done, and so on in order.
+    /// The number with which the program exits: 0 for done, and so on in order. No answer has 9.
     pub fn number(self) -> u8
         ensures { result ≡ number_of self }
     {
@@ -43,6 +45,7 @@ impl Status {
             Status::NotPages => 6,
             Status::TooLong => 7,
             Status::NotLeast => 8,
+            Status::Halted => 10,
         }
     }
 }

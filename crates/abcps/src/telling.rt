@@ -1,14 +1,14 @@
 ghost use Rattle.std.specs.Prelude.{◌≡◌, ◌⊎◌, IfOk};
 ghost use Rattle.abcps_words.specs.Usage.{usage_line};
-ghost use Rattle.abcps.specs.Calls.{not_pages_line};
 ghost use Rattle.abcps.specs.Outcome.{IsAnswered, IsEnd, IsQuiet, TookAll, TookFront, WasTold};
+ghost use Rattle.abcps.specs.Refusals.{refusal_line, refusal_status};
 ghost use Rattle.abcps.specs.declared.status.Status.TheVariants as status;
 
+use crate::refusing::Refusal;
 use crate::status::Status;
 use abcps_words::usage;
 use eng_io::{Sink, write_all};
 use mus_units::{Memory, Text};
-use ps_text::fields::put_number;
 use std::alloc::Global;
 
 /// Tells a sink a line; the status stands whatever it does.
@@ -56,25 +56,23 @@ pub(crate) fn write_both<O: Sink, E: Sink>(
     }
 }
 
-/// The line that tells where an input is no document, or no listing.
-fn not_pages_line(alloc: Global, number: u64) -> Result<Text, Memory>
-    ensures { IfOk result (λ line. line ≡ not_pages_line number) }
+/// The line of a refusal.
+fn line_of(alloc: Global, refusal: Refusal) -> Result<Text, Memory>
+    ensures { IfOk result (λ line. line ≡ refusal_line refusal) }
 {
     let mut line = Text::new(alloc);
-    line.append(b"not pages at line ")?;
-    put_number(&mut line, number)?;
-    line.push(b'\n')?;
+    refusal.put_line(&mut line)?;
     Ok(line)
 }
 
-/// Tells where an input is no document, or no listing.
-pub(crate) fn tell_not_pages<E: Sink>(alloc: Global, number: u64, errors: &mut E) -> Status
+/// Tells why an input is refused; its answer stands whatever the sink does.
+pub(crate) fn refuse<E: Sink>(alloc: Global, refusal: Refusal, errors: &mut E) -> Status
     ensures { ((result ≡ status.Memory) × IsQuiet (record { before = E.taken errors.old; after = E.taken errors.new; count_before = E.faults errors.old; count_after = E.faults errors.new }))
-        ⊎ ((result ≡ status.NotPages) × WasTold (record { before = E.taken errors.old; after = E.taken errors.new; count_before = E.faults errors.old; count_after = E.faults errors.new }) (not_pages_line number)) }
+        ⊎ ((result ≡ refusal_status refusal) × WasTold (record { before = E.taken errors.old; after = E.taken errors.new; count_before = E.faults errors.old; count_after = E.faults errors.new }) (refusal_line refusal)) }
 {
-    let Ok(line) = not_pages_line(alloc, number) else {
+    let Ok(line) = line_of(alloc, refusal) else {
         return Status::Memory;
     };
     tell(errors, line.as_slice());
-    Status::NotPages
+    refusal.status()
 }

@@ -20,6 +20,7 @@ rebuilt front o =
     if key == 351 then command.Systems o.flow o.table else
     if key == 330 then command.Inspect else
     if key == 304 then command.Check else
+    if key == 314 then command.Paint else
     if key == 313 then command.Make tunes else command.Trial tunes o.flow (unwrap_or o.jobs 1)
 
 number_back : (n : ℕ) → IsWithin 500 n → digits_value 10 (decimal n) ≡ n
@@ -30,6 +31,7 @@ is_rebuilt (command.Set flow jobs) o good says = cc (says.0, says.1)
 is_rebuilt (command.Systems flow table) o good says = cc (says.0, says.1)
 is_rebuilt command.Inspect o good says = refl
 is_rebuilt command.Check o good says = refl
+is_rebuilt command.Paint o good says = refl
 is_rebuilt (command.Make tunes) o good says = ap command.Make (number_back tunes good)
 is_rebuilt (command.Trial tunes flow jobs) o good says = cc (number_back tunes good, says.0, says.1)
 
@@ -47,6 +49,7 @@ good_by (command.Set flow jobs) flags options good is says = subst (IsWithin 64)
 good_by (command.Systems flow table) flags options good is says = tt
 good_by command.Inspect flags options good is says = tt
 good_by command.Check flags options good is says = tt
+good_by command.Paint flags options good is says = tt
 good_by (command.Make tunes) flags options good is says = good
 good_by (command.Trial tunes flow jobs) flags options good is says = (good, subst (IsWithin 64) (sym says.1) (jobs_good flags is.in_range))
 

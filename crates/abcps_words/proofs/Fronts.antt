@@ -47,6 +47,7 @@ unnamed word words none (command.Set flow jobs) rest e = none name.Set (ap head_
 unnamed word words none (command.Systems flow table) rest e = none name.Systems (ap head_of e)
 unnamed word words none command.Inspect rest e = none name.Inspect (ap head_of e)
 unnamed word words none command.Check rest e = none name.Check (ap head_of e)
+unnamed word words none command.Paint rest e = none name.Paint (ap head_of e)
 unnamed word words none (command.Make tunes) rest e = none name.Make (ap head_of e)
 unnamed word words none (command.Trial tunes flow jobs) rest e = none name.Trial (ap head_of e)
 
@@ -55,6 +56,7 @@ no_make word words is none (command.Set flow jobs) rest good e = clash (codes "m
 no_make word words is none (command.Systems flow table) rest good e = clash (codes "make") (word ∷ words) (name_bytes name.Systems ∷ rest) e is refl
 no_make word words is none command.Inspect rest good e = clash (codes "make") (word ∷ words) (name_bytes name.Inspect ∷ rest) e is refl
 no_make word words is none command.Check rest good e = clash (codes "make") (word ∷ words) (name_bytes name.Check ∷ rest) e is refl
+no_make word words is none command.Paint rest good e = clash (codes "make") (word ∷ words) (name_bytes name.Paint ∷ rest) e is refl
 no_make word words is none (command.Make tunes) rest good e = none tunes rest good (ap tail_of e)
 no_make word words is none (command.Trial tunes flow jobs) rest good e = clash (codes "make") (word ∷ words) (name_bytes name.Trial ∷ decimal tunes ∷ rest) e is refl
 
@@ -63,6 +65,7 @@ no_trial word words is none (command.Set flow jobs) rest good e = clash (codes "
 no_trial word words is none (command.Systems flow table) rest good e = clash (codes "trial") (word ∷ words) (name_bytes name.Systems ∷ rest) e is refl
 no_trial word words is none command.Inspect rest good e = clash (codes "trial") (word ∷ words) (name_bytes name.Inspect ∷ rest) e is refl
 no_trial word words is none command.Check rest good e = clash (codes "trial") (word ∷ words) (name_bytes name.Check ∷ rest) e is refl
+no_trial word words is none command.Paint rest good e = clash (codes "trial") (word ∷ words) (name_bytes name.Paint ∷ rest) e is refl
 no_trial word words is none (command.Make tunes) rest good e = clash (codes "trial") (word ∷ words) (name_bytes name.Make ∷ decimal tunes ∷ rest) e is refl
 no_trial word words is none (command.Trial tunes flow jobs) rest good e = none tunes rest good (ap tail_of e)
 
@@ -75,6 +78,7 @@ front_is (command.Set flow jobs) rest = refl
 front_is (command.Systems flow table) rest = refl
 front_is command.Inspect rest = refl
 front_is command.Check rest = refl
+front_is command.Paint rest = refl
 front_is (command.Make tunes) rest = refl
 front_is (command.Trial tunes flow jobs) rest = refl
 
@@ -83,6 +87,7 @@ rest_is (command.Set flow jobs) rest = refl
 rest_is (command.Systems flow table) rest = refl
 rest_is command.Inspect rest = refl
 rest_is command.Check rest = refl
+rest_is command.Paint rest = refl
 rest_is (command.Make tunes) rest = refl
 rest_is (command.Trial tunes flow jobs) rest = refl
 

@@ -22,6 +22,7 @@ name_bytes name.Inspect = codes "inspect"
 name_bytes name.Check = codes "check"
 name_bytes name.Make = codes "make"
 name_bytes name.Trial = codes "trial"
+name_bytes name.Paint = codes "paint"
 
 -- the words before the options: the name, and directly behind it the number of tunes
 abbrev pub front_of : Command → List (List ℕ)
@@ -31,6 +32,7 @@ front_of command.Inspect = name_bytes name.Inspect ∷ []
 front_of command.Check = name_bytes name.Check ∷ []
 front_of (command.Make tunes) = name_bytes name.Make ∷ decimal tunes ∷ []
 front_of (command.Trial tunes flow jobs) = name_bytes name.Trial ∷ decimal tunes ∷ []
+front_of command.Paint = name_bytes name.Paint ∷ []
 
 -- a number of tunes is 1 to 500
 abbrev pub HasTunes : Command → Type 0
@@ -40,6 +42,7 @@ HasTunes (command.Set flow jobs) = ⊤
 HasTunes (command.Systems flow table) = ⊤
 HasTunes command.Inspect = ⊤
 HasTunes command.Check = ⊤
+HasTunes command.Paint = ⊤
 
 -- the words of an option
 abbrev pub flag_words : Flag → List (List ℕ)
@@ -106,3 +109,4 @@ Says o command.Inspect = IsBare o
 Says o command.Check = IsBare o
 Says o (command.Make tunes) = IsBare o
 Says o (command.Trial tunes flow jobs) = (flow ≡ o.flow) × (jobs ≡ unwrap_or o.jobs 1) × (o.table ≡ false)
+Says o command.Paint = IsBare o

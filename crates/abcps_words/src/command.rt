@@ -15,6 +15,7 @@ enum Name {
     Check,
     Make,
     Trial,
+    Paint,
 }
 
 /// What the program is asked to do.
@@ -33,12 +34,14 @@ pub enum Command {
     Make { tunes: u32 },
     /// Set the generated book of 1 to 500 tunes by 1 to 64 `jobs`, and write one line on it.
     Trial { tunes: u32, flow: bool, jobs: u8 },
+    /// Run any bytes as pages, and print what they paint.
+    Paint,
 }
 
 /// The most bytes that a book may have.
 pub const BOOK_LIMIT: u64 = 8_388_608;
 
-/// The most bytes that pages and a listing may have.
+/// The most bytes that pages, a listing and what is painted may have.
 pub const PAGES_LIMIT: u64 = 268_435_456;
 
 const MOST_TUNES: u32 = 500;
@@ -48,7 +51,7 @@ const DEFAULT_JOBS: u8 = 1;
 
 /// The text of the usage line; `usage` gives it.
 const USAGE: &[u8] =
-    b"usage: abcps set [--flow] [--jobs N] | systems [--flow] [--table] | inspect | check | make N | trial N [--flow] [--jobs N]\n";
+    b"usage: abcps set [--flow] [--jobs N] | systems [--flow] [--table] | inspect | check | make N | trial N [--flow] [--jobs N] | paint\n";
 
 impl Command {
     /// The most bytes that its input may have; 0 where it reads none.
@@ -57,7 +60,7 @@ impl Command {
     {
         match self {
             Command::Set { .. } | Command::Systems { .. } => BOOK_LIMIT,
-            Command::Inspect | Command::Check => PAGES_LIMIT,
+            Command::Inspect | Command::Check | Command::Paint => PAGES_LIMIT,
             Command::Make { .. } | Command::Trial { .. } => 0,
         }
     }
@@ -83,7 +86,7 @@ impl Command {
                 flow: options.flow,
                 jobs: options.jobs.unwrap_or(DEFAULT_JOBS),
             }),
-            Command::Inspect | Command::Check | Command::Make { .. }
+            Command::Inspect | Command::Check | Command::Make { .. } | Command::Paint
                 if options == Options::none() => Some(self),
             _ => None,
         }
@@ -106,6 +109,8 @@ fn name_of(word: &[u8]) -> Option<Name>
         Some(Name::Make)
     } else if is_word(word, b"trial") {
         Some(Name::Trial)
+    } else if is_word(word, b"paint") {
+        Some(Name::Paint)
     } else {
         None
     }
@@ -135,6 +140,7 @@ fn take_front(words: &[String]) -> Option<(Command, &[String])>
         )),
         Name::Inspect => Some((Command::Inspect, rest)),
         Name::Check => Some((Command::Check, rest)),
+        Name::Paint => Some((Command::Paint, rest)),
         Name::Make => {
             let (tunes, rest) = take_number(MOST_TUNES, rest)?;
             Some((Command::Make { tunes }, rest))

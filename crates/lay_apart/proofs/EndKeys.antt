@@ -1,22 +1,22 @@
 -- The first column of a system is that of its head, and the last that of its last bar.
-use Rattle.std.proofs.Common.{◌≡◌, ◌∙◌, ℕ, zero, suc, ◌+◌, ◌-◌, ◌<◌, ◌≤◌, Bool, true, false, List, [], ◌∷◌, length, get_or, take, drop, refl, sym, ap, subst, inl, inr, arith}
-use Rattle.std.specs.List.{All, Contains, flat_map, slice_index, slice_range}
+use Rattle.std.proofs.Common.{◌≡◌, ◌∙◌, ℕ, zero, suc, ◌+◌, ◌-◌, ◌<◌, ◌≤◌, true, List, [], ◌∷◌, length, get_or, refl, ap, subst, inl, inr, arith}
+use Rattle.std.specs.List.{All, Contains, slice_index, slice_range}
 use Rattle.std.proofs.lemmas.Bool.{cases_lt}
 use Rattle.std.proofs.lemmas.Bool.Decides.{nat_tests}
-use Rattle.std.proofs.lemmas.List.{get_or_default, length-drop, length-take-le}
-use Rattle.std.proofs.lemmas.List.Elements.{Contains-append_left, Contains-append_right}
-use Rattle.mus_score.specs.declared.score.Measure.{Measure}
+use Rattle.std.proofs.lemmas.List.{get_or_default}
+use Rattle.std.proofs.lemmas.List.Elements.{Contains-append_right}
 use Rattle.mus_score.specs.declared.score.Score.{Score}
-use Rattle.mus_score.specs.declared.score.Voice.{Voice}
 use Rattle.mus_score.specs.GoodScore.{IsGoodScore}
-use Rattle.mus_score.specs.Times.{flats_of}
 use Rattle.mus_time.specs.declared.keys.Class.{Class}
 use Rattle.mus_time.specs.declared.keys.Class.TheVariants as classes
 use Rattle.mus_time.specs.declared.keys.ColumnKey.{ColumnKey}
-use Rattle.mus_time.specs.Keys.{AreKeys, called_keys, events_keys, first_keys, IsInSystem, key_at, measures_keys, signed_at, signed_through, voice_keys}
+use Rattle.mus_time.specs.Keys.{AreKeys, IsInSystem, bar_key, called_keys, first_keys, head_key, measures_keys, signed_at, voice_keys}
 use Rattle.mus_time.specs.Onsets.{timeline_of}
 use Rattle.mus_time.specs.Order.{BelowAll, is_below, Rises}
 use Rattle.mus_time.proofs.Places.{places_of}
+use Rattle.lay_measures.proofs.Facts.{some_voice}
+use Rattle.lay_measures.proofs.KeyLaws.{slice_long}
+use Rattle.lay_measures.proofs.Ranks.{bars_in}
 
 -- ---- rising keys
 below_all_at : (k : ColumnKey) (ks : List ColumnKey) → BelowAll k ks → (j : ℕ) (d : ColumnKey) → j < length ks → is_below k (get_or ks j d) ≡ true
@@ -32,9 +32,6 @@ below_at (k ∷ ks) h (suc i) zero d e l m = absurd (omega (arith, l))
 below_at (k ∷ ks) h (suc i) (suc j) d e l m = below_at ks h.1 i j d e (omega (arith, l)) (omega (arith, m))
 
 -- ---- the head
-abbrev head_key : ℕ → ColumnKey
-head_key a = key_at a 0 classes.Head 0
-
 none_below : (a : ℕ) (k : ColumnKey) → a ≤ k.measure → is_below k (head_key a) ≡ true → ⊥
 unfolding is_below
 none_below a k from below = grind (arith, nat_tests, from, below)
@@ -48,20 +45,17 @@ head_first lengths a b ks rise all (suc i, inside, is) d =
     absurd (none_below a (get_or ks 0 d) (all 0 d (omega (arith, inside))).from below)
 
 -- ---- the last bar
-abbrev bar_key : List ℕ → ℕ → ColumnKey
-bar_key lengths m = key_at m (slice_index lengths m) classes.Bar 0
-
-bar_class : (lengths : List ℕ) (a m : ℕ) (k : ColumnKey) → is_below (bar_key lengths m) k ≡ true → IsInSystem lengths a (m + 1) k → k.class ≡ classes.Bar
+bar_class : (lengths : List ℕ) (a b : ℕ) (k : ColumnKey) → is_below (bar_key lengths (b - 1)) k ≡ true → IsInSystem lengths a b k → k.class ≡ classes.Bar
 unfolding is_below
-bar_class lengths a m k below place = by k.class refl
+bar_class lengths a b k below place = by k.class refl
   where
-    from : m ≤ k.measure
+    from : b - 1 ≤ k.measure
     from = grind (arith, nat_tests, below)
 
-    same : k.measure ≡ m
+    same : k.measure ≡ b - 1
     same = let from = from in let to = place.to in omega (arith, from, to)
 
-    late : k.tick ≤ slice_index lengths m
+    late : k.tick ≤ slice_index lengths (b - 1)
     late = subst (λ n. k.tick ≤ slice_index lengths n) same place.within
 
     by : (class : Class) → k.class ≡ class → class ≡ classes.Bar
@@ -72,56 +66,34 @@ bar_class lengths a m k below place = by k.class refl
     by classes.Note e = grind (arith, nat_tests, e, same, late, below)
     by classes.Bar e = refl
 
-bar_last : (lengths : List ℕ) (a m n : ℕ) (ks : List ColumnKey) → Rises ks → All (IsInSystem lengths a (m + 1)) ks → Contains ks (bar_key lengths m)
-    → length ks ≡ n + 1 → (d : ColumnKey) → (get_or ks n d).class ≡ classes.Bar
-bar_last lengths a m n ks rise all (i, inside, is) count d = elim (cases_lt i n) [
-  | inl before ↦ bar_class lengths a m (get_or ks n d)
-      (subst (λ k. is_below k (get_or ks n d) ≡ true) is (below_at ks rise i n (bar_key lengths m) d before (omega arith))) (all n d (omega arith))
-  | inr there ↦
-      let e : i ≡ n = omega arith in
-      ap (λ k. k.class) (get_or_default ks n d (bar_key lengths m) (omega arith) ∙ subst (λ j. get_or ks j (bar_key lengths m) ≡ bar_key lengths m) e is)
-]
+bar_last : (lengths : List ℕ) (a b : ℕ) (ks : List ColumnKey) → Rises ks → All (IsInSystem lengths a b) ks → Contains ks (bar_key lengths (b - 1))
+    → (d : ColumnKey) → (get_or ks (length ks - 1) d).class ≡ classes.Bar
+bar_last lengths a b ks rise all (i, inside, is) d =
+    let bar = bar_key lengths (b - 1) in
+    let last = length ks - 1 in
+    let within : last < length ks = omega (arith, inside) in
+    elim (cases_lt i last) [
+      | inl before ↦ bar_class lengths a b (get_or ks last d) (subst (λ k. is_below k (get_or ks last d) ≡ true) is (below_at ks rise i last bar d before within)) (all last d within)
+      | inr there ↦
+          let e : i ≡ last = omega (arith, inside, there) in
+          ap (λ k. k.class) (get_or_default ks last d bar within ∙ subst (λ j. get_or ks j bar ≡ bar) e is)
+    ]
 
 -- ---- the voices call for both
-measures_bar : (lengths : List ℕ) (m n : ℕ) (in_head signed : Bool) (xs : List Measure) → length xs ≡ suc n
-    → Contains (measures_keys lengths m in_head signed xs) (bar_key lengths (m + n))
-measures_bar lengths m n in_head signed [] count = absurd (omega (arith, count))
-measures_bar lengths m zero in_head signed (x ∷ xs) count =
-    let here : m ≡ m + 0 = omega arith in
-    subst (λ i. Contains (measures_keys lengths m in_head signed (x ∷ xs)) (bar_key lengths i)) here
-    (Contains-append_right (events_keys m in_head signed [] (flats_of x.body)) (bar_key lengths m ∷ measures_keys lengths (m + 1) false (signed_through signed (flats_of x.body)) xs)
-    (bar_key lengths m) (0, omega arith, refl))
-measures_bar lengths m (suc n) in_head signed (x ∷ xs) count =
-    let next : m + 1 + n ≡ m + suc n = omega arith in
-    let signed_next = signed_through signed (flats_of x.body) in
-    subst (λ i. Contains (measures_keys lengths m in_head signed (x ∷ xs)) (bar_key lengths i)) next
-    (Contains-append_right (events_keys m in_head signed [] (flats_of x.body)) (bar_key lengths m ∷ measures_keys lengths (m + 1) false signed_next xs)
-    (bar_key lengths (m + 1 + n))
-    (Contains-append_right (bar_key lengths m ∷ []) (measures_keys lengths (m + 1) false signed_next xs) (bar_key lengths (m + 1 + n))
-    (measures_bar lengths (m + 1) n false signed_next xs (omega (arith, count)))))
-
-some_voice : (f : Voice → List ColumnKey) (n : ℕ) (k : ColumnKey) (vs : List Voice) → 1 ≤ length vs → All (λ v. length v.measures ≡ n) vs
-    → ((v : Voice) → length v.measures ≡ n → Contains (f v) k) → Contains (flat_map f vs) k
-some_voice f n k [] h same has = absurd (omega (arith, h))
-some_voice f n k (v ∷ vs) h same has = Contains-append_left (f v) (flat_map f vs) k (has v (same 0 v (omega arith)))
-
-slice_long : {X : Type 0} (xs : List X) (a n : ℕ) → a + n ≤ length xs → length (slice_range xs a (a + n)) ≡ n
-slice_long xs a n h =
-    let e : a + n - a ≡ n = omega arith in
-    let d = length-drop a xs in
-    ap (λ k. length (take k (drop a xs))) e ∙ length-take-le n (drop a xs) (omega arith)
-
 called_head : (s : Score) (lengths : List ℕ) (a b : ℕ) → 1 ≤ length s.voices → All (λ v. length v.measures ≡ s.measures) s.voices
     → Contains (called_keys s lengths a b) (head_key a)
 called_head s lengths a b some same = some_voice (voice_keys lengths a b) s.measures (head_key a) s.voices some same (λ v e. (0, omega arith, refl))
 
-called_bar : (s : Score) (lengths : List ℕ) (a n : ℕ) → 1 ≤ length s.voices → All (λ v. length v.measures ≡ s.measures) s.voices → a + suc n ≤ s.measures
-    → Contains (called_keys s lengths a (a + suc n)) (bar_key lengths (a + n))
-called_bar s lengths a n some same within =
-    some_voice (voice_keys lengths a (a + suc n)) s.measures (bar_key lengths (a + n)) s.voices some same (λ v e.
-    Contains-append_right (key_at a 0 classes.Head 0 ∷ first_keys a v.first) (measures_keys lengths a true (signed_at a v) (slice_range v.measures a (a + suc n)))
-    (bar_key lengths (a + n))
-    (measures_bar lengths a n true (signed_at a v) (slice_range v.measures a (a + suc n)) (slice_long v.measures a (suc n) (omega (arith, within, e)))))
+called_bar : (s : Score) (lengths : List ℕ) (a b : ℕ) → 1 ≤ length s.voices → All (λ v. length v.measures ≡ s.measures) s.voices → a < b → b ≤ s.measures
+    → Contains (called_keys s lengths a b) (bar_key lengths (b - 1))
+called_bar s lengths a b some same order within =
+    some_voice (voice_keys lengths a b) s.measures (bar_key lengths (b - 1)) s.voices some same (λ v e.
+    let ms = slice_range v.measures a b in
+    let long = slice_long a b v.measures (omega (arith, within, e)) in
+    let last : a + (b - 1 - a) ≡ b - 1 = omega (arith, order) in
+    Contains-append_right (head_key a ∷ first_keys a v.first) (measures_keys lengths a true (signed_at a v) ms) (bar_key lengths (b - 1))
+    (subst (λ m. Contains (measures_keys lengths a true (signed_at a v) ms) (bar_key lengths m)) last
+    (bars_in lengths a true (signed_at a v) ms (b - 1 - a) (omega (arith, long, order)))))
 
 -- ---- a system's keys
 module _ (s : Score) (a b : ℕ) (keys : List ColumnKey) (good : IsGoodScore s) (order : a < b) (within : b ≤ s.measures) (some : 1 ≤ length s.voices)
@@ -138,14 +110,5 @@ module _ (s : Score) (a b : ℕ) (keys : List ColumnKey) (good : IsGoodScore s) 
 
   pub last_class : (d : ColumnKey) → (get_or keys (length keys - 1) d).class ≡ classes.Bar
   last_class d =
-      let e : a + suc (b - 1 - a) ≡ b = omega arith in
-      let to : b - 1 + 1 ≡ b = omega arith in
-      let at : a + (b - 1 - a) ≡ b - 1 = omega arith in
-      let called : Contains (called_keys s lengths a b) (bar_key lengths (b - 1)) =
-      subst (λ j. Contains (called_keys s lengths a b) (bar_key lengths j)) at
-      (subst (λ j. Contains (called_keys s lengths a j) (bar_key lengths (a + (b - 1 - a)))) e
-      (called_bar s lengths a (b - 1 - a) some good.measures (omega arith))) in
-      let h = some_keys in
-      bar_last lengths a (b - 1) (length keys - 1) keys are.rise
-      (subst (λ j. All (IsInSystem lengths a j) keys) (sym to) (places_of s a b keys good order within are))
-      (are.all (bar_key lengths (b - 1)) called) (omega arith) d
+      bar_last lengths a b keys are.rise (places_of s a b keys good order within are)
+      (are.all (bar_key lengths (b - 1)) (called_bar s lengths a b some good.measures order within)) d

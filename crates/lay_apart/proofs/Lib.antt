@@ -1,7 +1,6 @@
 pub mod EndKeys
 pub mod LaneGaps
 pub mod LaneMarks
-pub mod LaneParts
 pub mod Laws
 pub mod SystemColumns
 pub mod Uncut

@@ -11,11 +11,15 @@ use Rattle.mus_score.specs.Times.{flats_of}
 use Rattle.mus_time.specs.declared.keys.Class.{Class}
 use Rattle.mus_time.specs.declared.keys.Class.TheVariants as classes
 use Rattle.mus_time.specs.declared.keys.ColumnKey.{ColumnKey}
-use Rattle.mus_time.specs.Keys.{called_keys, events_keys, first_keys, further_keys, IsInSystem, key_at, measure_keys, measures_keys, signed_at, voice_keys}
+use Rattle.mus_time.specs.Keys.{bar_key, called_keys, events_keys, first_keys, further_keys, IsInSystem, key_at, measure_keys, measures_keys, signed_at, voice_keys}
 use Rattle.mus_time.specs.Order.{BelowAll, is_below, Rises}
+use Rattle.mus_drawn.specs.declared.drawn.DrawnMeasure.{DrawnMeasure}
 use Rattle.mus_drawn.specs.Drawn.{drawn_voice}
 use Rattle.mus_laid.specs.Boxes.{AreGoodMarks}
-use Rattle.mus_marks.proofs.Texts.{behind, columns_good, front, measures_good, voice_meters}
+use Rattle.mus_stems.proofs.RunLaws.{all_drop, all_take}
+use Rattle.mus_marks.proofs.Fitting.{voice_fits}
+use Rattle.mus_marks.proofs.Parts.{columns_all, Fits, FitsMeasure, measures_all}
+use Rattle.mus_marks.proofs.Texts.{goods, IsGood}
 use Rattle.lay_columns.specs.declared.column.Column.{Column}
 use Rattle.lay_columns.specs.Widened.{AreGoodStaves}
 use Rattle.lay_measures.specs.Measures.{EndWithBar, first_staff, further_staff, keys_in}
@@ -46,9 +50,6 @@ pub places : (P : ColumnKey → Type 0) (keys : List ColumnKey) (cs : List Colum
 places P keys cs all e = All-from_recursion (λ c. P c.key) cs (keys_all P cs (recursion_from_All P (keys_in cs) (subst (λ ks. All P ks) (sym e) all)))
 
 -- ---- the bar
-abbrev bar_key : List ℕ → ℕ → ColumnKey
-bar_key lengths m = key_at m (slice_index lengths m) classes.Bar 0
-
 bar_class : (lengths : List ℕ) (m : ℕ) (k : ColumnKey) → is_below (bar_key lengths m) k ≡ true → IsInSystem lengths m (m + 1) k → k.class ≡ classes.Bar
 unfolding is_below
 bar_class lengths m k below place =
@@ -108,14 +109,17 @@ further_bar s lengths m some same within =
     slice_bar lengths m false (signed_at m v) v.measures (omega (arith, within, e)))
 
 -- ---- texts
+sliced : (verses m : ℕ) (ds : List DrawnMeasure) → Fits verses ds → Fits verses (slice_range ds m (m + 1))
+sliced verses m ds fits = all_take (FitsMeasure verses) (m + 1 - m) (drop m ds) (all_drop (FitsMeasure verses) m ds fits)
+
 pub first_good : (keys : List ColumnKey) (lengths : List ℕ) (m : ℕ) (vs : List Voice) → All IsGoodVoice vs → AreGoodStaves (map (first_staff keys lengths m) (map drawn_voice vs))
 first_good keys lengths m vs good =
     All-map (λ s. AreGoodMarks s.marks) (first_staff keys lengths m) (map drawn_voice vs)
     (All-map (λ v. AreGoodMarks (first_staff keys lengths m v).marks) drawn_voice vs
-    (λ k d inside. columns_good keys lengths _ m _ _ (front (m + 1 - m) _ (behind m _ (voice_meters _ (good k d inside))))))
+    (λ k d inside. columns_all _ keys IsGood (goods _ keys) lengths _ m _ _ (sliced _ m _ (voice_fits _ (good k d inside)))))
 
 pub further_good : (keys : List ColumnKey) (lengths : List ℕ) (m : ℕ) (vs : List Voice) → All IsGoodVoice vs → AreGoodStaves (map (further_staff keys lengths m) (map drawn_voice vs))
 further_good keys lengths m vs good =
     All-map (λ s. AreGoodMarks s.marks) (further_staff keys lengths m) (map drawn_voice vs)
     (All-map (λ v. AreGoodMarks (further_staff keys lengths m v).marks) drawn_voice vs
-    (λ k d inside. measures_good keys lengths _ m false _ (front (m + 1 - m) _ (behind m _ (voice_meters _ (good k d inside))))))
+    (λ k d inside. measures_all _ keys IsGood (goods _ keys) lengths _ m false _ (sliced _ m _ (voice_fits _ (good k d inside)))))

@@ -9,7 +9,7 @@ use Rattle.mus_score.specs.declared.score.Voice.{Voice}
 use Rattle.mus_score.specs.GoodScore.{IsGoodScore}
 use Rattle.mus_time.specs.declared.keys.Class.TheVariants as classes
 use Rattle.mus_time.specs.declared.keys.ColumnKey.{ColumnKey}
-use Rattle.mus_time.specs.Keys.{AreKeys, called_keys, first_keys, further_keys, IsInSystem, key_at, measures_keys, signed_at, voice_keys}
+use Rattle.mus_time.specs.Keys.{AreKeys, bar_key, called_keys, first_keys, further_keys, IsInSystem, key_at, measures_keys, signed_at, voice_keys}
 use Rattle.mus_time.specs.Onsets.{length_at, timeline_of}
 use Rattle.mus_time.specs.Order.{rank_of}
 use Rattle.mus_time.proofs.Places.{further_places, length_is, places_of}
@@ -32,7 +32,7 @@ use Rattle.lay_measures.specs.Law.{AreFurtherOnes, MeasuresJoin, one_after_the_o
 use Rattle.lay_measures.specs.Measures.{AreFirst, AreFurther, fixed_room, further_staff, keys_in, staff_of_columns}
 use Rattle.lay_measures.proofs.Facts.{some_voice}
 use Rattle.lay_measures.proofs.KeyLaws.{keys_grow, same_keys, slice_long, slice_more}
-use Rattle.lay_measures.proofs.Ranks.{bar_of, bars_in, columns_in, Fit, IsPlaced, measures_in, rank_behind, rank_front, rank_less, slice_fit, voice_fit}
+use Rattle.lay_measures.proofs.Ranks.{bars_in, columns_in, Fit, IsPlaced, measures_in, rank_behind, rank_front, rank_less, slice_fit, voice_fit}
 use Rattle.lay_measures.proofs.SameBoxes.{voice_same}
 use Rattle.lay_measures.proofs.Slots.{columns_laid, columns_slots, events_slots, first_slots, head_slots, lay, lay_append, lay_below, lay_moved, lay_same, measures_laid, measures_slots, slot}
 
@@ -41,7 +41,7 @@ slots_on : (lengths : List ℕ) (room : Option Room) (m : ℕ) (xs ys : List Dra
     → measures_slots lengths room m false (xs ++ ys) ≡ measures_slots lengths room m false xs ++ measures_slots lengths room (m + length xs) false ys
 slots_on lengths room m [] ys = let e : m ≡ m + 0 = omega arith in ap (λ k. measures_slots lengths room k false ys) e
 slots_on lengths room m (x ∷ xs) ys =
-    let own = events_slots room m false 0 0 x.events ++ slot (bar_of lengths m) (bar_marks 0 x.bar) in
+    let own = events_slots room m false 0 0 x.events ++ slot (bar_key lengths m) (bar_marks x.bar) in
     let e : m + 1 + length xs ≡ m + length (x ∷ xs) = omega arith in
     ap (λ t. own ++ t) (slots_on lengths room (m + 1) xs ys ∙ ap (λ k. measures_slots lengths room (m + 1) false xs ++ measures_slots lengths room k false ys) e)
     ∙ sym (append_assoc own (measures_slots lengths room (m + 1) false xs) (measures_slots lengths room (m + length (x ∷ xs)) false ys))
@@ -50,7 +50,7 @@ slots_from : (lengths : List ℕ) (room : Option Room) (m : ℕ) (xs ys : List D
     → measures_slots lengths room m true (xs ++ ys) ≡ measures_slots lengths room m true xs ++ measures_slots lengths room (m + length xs) false ys
 slots_from lengths room m [] ys some = absurd (omega (arith, some))
 slots_from lengths room m (x ∷ xs) ys some =
-    let own = events_slots room m true 0 0 x.events ++ slot (bar_of lengths m) (bar_marks 0 x.bar) in
+    let own = events_slots room m true 0 0 x.events ++ slot (bar_key lengths m) (bar_marks x.bar) in
     let e : m + 1 + length xs ≡ m + length (x ∷ xs) = omega arith in
     ap (λ t. own ++ t) (slots_on lengths room (m + 1) xs ys ∙ ap (λ k. measures_slots lengths room (m + 1) false xs ++ measures_slots lengths room k false ys) e)
     ∙ sym (append_assoc own (measures_slots lengths room (m + 1) false xs) (measures_slots lengths room (m + length (x ∷ xs)) false ys))
@@ -81,7 +81,7 @@ abbrev From : ℕ → List ColumnKey → Type 0
 From b ks = AllByRecursion (λ k. b ≤ k.measure) ks
 
 abbrev HasBars : List ℕ → ℕ → ℕ → List ColumnKey → Type 0
-HasBars lengths a b ks = (m : ℕ) → a ≤ m → m < b → Contains ks (bar_of lengths m)
+HasBars lengths a b ks = (m : ℕ) → a ≤ m → m < b → Contains ks (bar_key lengths m)
 
 module _ (lengths : List ℕ) (a b : ℕ) (front behind : List ColumnKey) (order : a < b) (until : Until b front) (from : From b behind) where
   marks_more : (v : DrawnVoice) → b < length v.measures → Fit lengths 0 v.measures
@@ -116,7 +116,7 @@ module _ (lengths : List ℕ) (a b : ℕ) (front behind : List ColumnKey) (order
       let first_in = columns_in lengths a b room v.first xs order (omega (arith, long, order)) (slice_fit lengths a b v.measures fit) in
       subst (λ t. AllByRecursion (λ l. IsBelow (length front) (mark_rank l.mark)) t) (sym (columns_laid front lengths room a v.first xs))
       (lay_below (length front) front first (all_weaker (λ x. IsPlaced lengths a b x.key) (λ x. rank_of front x.key < length front)
-      (λ x h. rank_less front x.key (bar_of lengths x.key.measure) (bars x.key.measure h.from h.to) h.within) first first_in))
+      (λ x h. rank_less front x.key (bar_key lengths x.key.measure) (bars x.key.measure h.from h.to) h.within) first first_in))
 
   staff_joined : (v : DrawnVoice) → b < length v.measures → Fit lengths 0 v.measures → HasBars lengths a b front
       → AreJoined (length front) (core (front ++ behind) lengths a (b + 1) v).marks (core front lengths a b v).marks (further_staff behind lengths b v).marks
@@ -179,11 +179,11 @@ voices_fit lengths n (v ∷ vs) same fits =
 
 bars_called : (s : Score) (lengths : List ℕ) (a b : ℕ) → 1 ≤ length s.voices → AllByRecursion (λ v. length v.measures ≡ s.measures) s.voices → b ≤ s.measures → HasBars lengths a b (called_keys s lengths a b)
 bars_called s lengths a b some same within m from to =
-    some_voice (voice_keys lengths a b) s.measures (bar_of lengths m) s.voices some (All-from_recursion (λ v. length v.measures ≡ s.measures) s.voices same) (λ v e.
+    some_voice (voice_keys lengths a b) s.measures (bar_key lengths m) s.voices some (All-from_recursion (λ v. length v.measures ≡ s.measures) s.voices same) (λ v e.
     let long = slice_long a b v.measures (omega (arith, within, e)) in
     let at : a + (m - a) ≡ m = omega (arith, from) in
-    Contains-append_right (key_at a 0 classes.Head 0 ∷ first_keys a v.first) (measures_keys lengths a true (signed_at a v) (slice_range v.measures a b)) (bar_of lengths m)
-    (subst (λ k. Contains (measures_keys lengths a true (signed_at a v) (slice_range v.measures a b)) (bar_of lengths k)) at
+    Contains-append_right (key_at a 0 classes.Head 0 ∷ first_keys a v.first) (measures_keys lengths a true (signed_at a v) (slice_range v.measures a b)) (bar_key lengths m)
+    (subst (λ k. Contains (measures_keys lengths a true (signed_at a v) (slice_range v.measures a b)) (bar_key lengths k)) at
     (bars_in lengths a true (signed_at a v) (slice_range v.measures a b) (m - a) (omega (arith, long, from, to)))))
 
 abbrev ticks : Score → List ℕ
@@ -213,7 +213,7 @@ module _ (s : Score) (good : IsGoodScore s) (a : ℕ) (verses : List ℕ) where
   bars : (b : ℕ) (keys : List ColumnKey) → b ≤ s.measures → AreKeys keys (called_keys s (ticks s) a b) → 1 ≤ length (drawn s) → HasBars (ticks s) a b keys
   bars b keys within are some m h g =
       let long = length-map s.voices drawn_voice in
-      are.all (bar_of (ticks s) m) (bars_called s (ticks s) a b (omega (arith, some, long)) all_same within m h g)
+      are.all (bar_key (ticks s) m) (bars_called s (ticks s) a b (omega (arith, some, long)) all_same within m h g)
 
   one_more : (b : ℕ) (columns further : List Column) → a < b → b < s.measures → AreColumns s a b verses columns → AreFurther s (timeline_of s) b verses further
       → AreColumns s a (b + 1) verses (columns ++ further)

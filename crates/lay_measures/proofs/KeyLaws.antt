@@ -12,6 +12,7 @@ use Rattle.mus_time.specs.declared.keys.Class.TheVariants as classes
 use Rattle.mus_time.specs.declared.keys.ColumnKey.{ColumnKey}
 use Rattle.mus_time.specs.Keys.{AreKeys, called_keys, events_keys, first_keys, further_keys, has_entries, key_at, measure_keys, measures_keys, signed_at, signed_behind, signed_through, voice_keys}
 use Rattle.mus_time.specs.Order.{BelowAll, is_below, Rises}
+use Rattle.mus_time.proofs.Orders.{lower}
 use Rattle.std.specs.Prelude.{slice_index}
 
 -- ---- a rising list has its keys once and in order
@@ -65,10 +66,6 @@ pub same_keys : (xs ys called : List ColumnKey) → AreKeys xs called → AreKey
 same_keys xs ys called h g = unique xs ys h.rise g.rise (λ k i. g.all k (h.only k i)) (λ k i. h.all k (g.only k i))
 
 -- ---- measures further on rise
-pub lower : (k l : ColumnKey) → k.measure < l.measure → is_below k l ≡ true
-unfolding is_below
-lower k l h = grind (arith, nat_tests)
-
 below_append : (k : ColumnKey) (xs ys : List ColumnKey) → BelowAll k xs → BelowAll k ys → BelowAll k (xs ++ ys)
 below_append k [] ys h g = g
 below_append k (x ∷ xs) ys h g = (h.0, below_append k xs ys h.1 g)

@@ -1,7 +1,6 @@
 mod Facts
 mod Joined
 mod KeyLaws
-mod Placed
 mod Ranks
 mod SameBoxes
 mod Slots

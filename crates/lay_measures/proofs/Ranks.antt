@@ -1,5 +1,5 @@
 -- Ranks among the keys of a system and those of a further measure, and the keys of slots.
-use Rattle.std.proofs.Common.{◌≡◌, ◌∙◌, ℕ, zero, suc, ◌+◌, ◌-◌, ◌<◌, ◌≤◌, Bool, true, false, ◌==◌, ◌&&◌, if◌then◌else◌, List, [], ◌∷◌, ◌++◌, length, take, drop, Option, Some, None, refl, sym, ap, subst, arith}
+use Rattle.std.proofs.Common.{◌≡◌, ◌∙◌, ℕ, pos, zero, suc, ◌+◌, ◌-◌, ◌<◌, ◌≤◌, Bool, true, false, ◌==◌, ◌&&◌, if◌then◌else◌, List, [], ◌∷◌, ◌++◌, length, take, drop, Option, Some, None, refl, sym, ap, subst, arith}
 use Rattle.std.specs.List.{AllByRecursion, Contains, slice_get, slice_index, slice_range}
 use Rattle.std.proofs.lemmas.Bool.Decides.{nat_tests}
 use Rattle.std.proofs.lemmas.List.Elements.{Contains-append_right}
@@ -17,20 +17,23 @@ use Rattle.mus_stems.specs.declared.plans.StemPlan.{StemPlan}
 use Rattle.mus_time.specs.declared.keys.Class.{Class}
 use Rattle.mus_time.specs.declared.keys.Class.TheVariants as classes
 use Rattle.mus_time.specs.declared.keys.ColumnKey.{ColumnKey}
-use Rattle.mus_time.specs.Keys.{events_keys, has_features, key_at, measures_keys, signed_through}
+use Rattle.mus_time.specs.Keys.{bar_key, events_keys, has_features, key_at, measures_keys, signed_through}
 use Rattle.mus_time.specs.Onsets.{length_in, ticks_of_some}
 use Rattle.mus_time.specs.Order.{class_number, is_below, rank_of}
+use Rattle.mus_time.proofs.Orders.{lower}
+use Rattle.mus_time.proofs.RankLaws.{rank_most}
 use Rattle.mus_ink.specs.declared.graces.Group.{Group}
+use Rattle.mus_laid.specs.declared.drawn.Drawn.{Drawn}
 use Rattle.mus_ink.specs.Bars.{bar_marks}
+use Rattle.mus_ink.specs.Decos.{note_marks}
 use Rattle.mus_ink.specs.Graces.{group_of}
 use Rattle.mus_drawn.specs.declared.drawn.DrawnEvent.{DrawnEvent}
 use Rattle.mus_drawn.specs.declared.drawn.DrawnMeasure.{DrawnMeasure}
 use Rattle.mus_drawn.specs.declared.standing.Standing.{Standing}
 use Rattle.mus_drawn.specs.Drawn.{drawn_events, drawn_measure, drawn_measures, drawn_voice, standing_after, standing_behind, standing_of}
 use Rattle.mus_marks.specs.declared.events.Room.{Room}
-use Rattle.mus_marks.specs.Events.{levels_behind, levels_in}
-use Rattle.lay_measures.proofs.KeyLaws.{lower}
-use Rattle.lay_measures.proofs.Slots.{Slot, change_slots, columns_slots, event_slots, events_slots, first_slots, graces_slots, head_slots, measures_slots, slot, words_slots}
+use Rattle.mus_marks.specs.Events.{levels_behind, levels_in, note_key, words_marks}
+use Rattle.lay_measures.proofs.Slots.{Slot, change_slots, columns_slots, event_slots, events_slots, first_slots, graces_slots, head_slots, measures_slots, slot}
 
 -- ---- ranks
 upper : (k l : ColumnKey) → k.measure < l.measure → is_below l k ≡ false
@@ -54,14 +57,6 @@ rank_behind b (x ∷ xs) ys k h to =
     let more = rank_behind b xs ys k h to.1 in
     ap (λ c. if c then 1 + rank_of (xs ++ ys) k else rank_of (xs ++ ys) k) (lower x k (omega (arith, h, t))) ∙ omega (arith, more)
 
-rank_most : (xs : List ColumnKey) (k : ColumnKey) → rank_of xs k ≤ length xs
-rank_most [] k = omega arith
-rank_most (x ∷ xs) k = by (is_below x k) (rank_most xs k)
-  where
-    by : (c : Bool) → rank_of xs k ≤ length xs → (if c then 1 + rank_of xs k else rank_of xs k) ≤ suc (length xs)
-    by true more = omega (arith, more)
-    by false more = omega (arith, more)
-
 pub rank_less : (xs : List ColumnKey) (k l : ColumnKey) → Contains xs l → is_below l k ≡ false → rank_of xs k < length xs
 rank_less [] k l (i, inside, is) h = absurd (omega (arith, inside))
 rank_less (x ∷ xs) k l (zero, inside, is) h =
@@ -75,31 +70,28 @@ rank_less (x ∷ xs) k l (suc i, inside, is) h = by (is_below x k) (rank_less xs
     by false more = omega (arith, more)
 
 -- ---- a key in some measures, not past the bar of its own
-abbrev pub bar_of : List ℕ → ℕ → ColumnKey
-bar_of lengths m = key_at m (slice_index lengths m) classes.Bar 0
-
 pub record IsPlaced (lengths : List ℕ) (a b : ℕ) (k : ColumnKey) : Type 0 where
   pub from : a ≤ k.measure
   pub to : k.measure < b
-  pub within : is_below (bar_of lengths k.measure) k ≡ false
+  pub within : is_below (bar_key lengths k.measure) k ≡ false
 
-pub bars_in : (lengths : List ℕ) (m : ℕ) (in_head signed : Bool) (xs : List Measure) (i : ℕ) → i < length xs → Contains (measures_keys lengths m in_head signed xs) (bar_of lengths (m + i))
+pub bars_in : (lengths : List ℕ) (m : ℕ) (in_head signed : Bool) (xs : List Measure) (i : ℕ) → i < length xs → Contains (measures_keys lengths m in_head signed xs) (bar_key lengths (m + i))
 bars_in lengths m in_head signed [] i h = absurd (omega (arith, h))
 bars_in lengths m in_head signed (x ∷ xs) zero h =
     let e : m ≡ m + 0 = omega arith in
-    subst (λ n. Contains (measures_keys lengths m in_head signed (x ∷ xs)) (bar_of lengths n)) e
-    (Contains-append_right (events_keys m in_head signed [] (flats_of x.body)) _ (bar_of lengths m) (0, omega arith, refl))
+    subst (λ n. Contains (measures_keys lengths m in_head signed (x ∷ xs)) (bar_key lengths n)) e
+    (Contains-append_right (events_keys m in_head signed [] (flats_of x.body)) _ (bar_key lengths m) (0, omega arith, refl))
 bars_in lengths m in_head signed (x ∷ xs) (suc i) h =
     let e : m + 1 + i ≡ m + suc i = omega arith in
     let more = bars_in lengths (m + 1) false (signed_through signed (flats_of x.body)) xs i (omega (arith, h)) in
-    subst (λ n. Contains (measures_keys lengths m in_head signed (x ∷ xs)) (bar_of lengths n)) e
-    (Contains-append_right (events_keys m in_head signed [] (flats_of x.body)) _ (bar_of lengths (m + 1 + i)) (suc more.0, omega (arith, more.1), more.2))
+    subst (λ n. Contains (measures_keys lengths m in_head signed (x ∷ xs)) (bar_key lengths n)) e
+    (Contains-append_right (events_keys m in_head signed [] (flats_of x.body)) _ (bar_key lengths (m + 1 + i)) (suc more.0, omega (arith, more.1), more.2))
 
-not_past : (lengths : List ℕ) (m tick : ℕ) (class : Class) (place : ℕ) → tick ≤ slice_index lengths m → class_number class < 5 → is_below (bar_of lengths m) (key_at m tick class place) ≡ false
+not_past : (lengths : List ℕ) (m tick : ℕ) (class : Class) (place : ℕ) → tick ≤ slice_index lengths m → class_number class < 5 → is_below (bar_key lengths m) (key_at m tick class place) ≡ false
 unfolding is_below
 not_past lengths m tick class place h c = grind (arith, nat_tests, h, c)
 
-bar_itself : (lengths : List ℕ) (m : ℕ) → is_below (bar_of lengths m) (bar_of lengths m) ≡ false
+bar_itself : (lengths : List ℕ) (m : ℕ) → is_below (bar_key lengths m) (bar_key lengths m) ≡ false
 unfolding is_below
 bar_itself lengths m = grind (arith, nat_tests)
 
@@ -171,18 +163,18 @@ module _ (lengths : List ℕ) (a b : ℕ) where
   graces_in m tick clef group i [] from to h = tt
   graces_in m tick clef group i (g ∷ gs) from to h = (placed_at m tick classes.Grace i from to h (omega arith), graces_in m tick clef group (i + 1) gs from to h)
 
-  words_in : (m : ℕ) (room : Option Room) (e : DrawnEvent) → a ≤ m → m < b → e.tick ≤ slice_index lengths m → AreIn (words_slots m room e)
-  words_in m None e from to h = tt
-  words_in m (Some room) e from to h = (placed_at m e.tick classes.Note 0 from to h (omega arith), tt)
+  note_in : (m : ℕ) (e : DrawnEvent) (xs : List Drawn) → a ≤ m → m < b → e.tick ≤ slice_index lengths m → AreIn (slot (note_key m e) xs)
+  note_in m e xs from to h = (placed_at m e.tick classes.Note 0 from to h (omega arith), tt)
 
   event_in : (room : Option Room) (m : ℕ) (in_head : Bool) (before after : ℕ) (e : DrawnEvent) → a ≤ m → m < b → e.tick ≤ slice_index lengths m → AreIn (event_slots room m in_head before after e)
   event_in room m in_head before after e from to h =
       let graces = graces_slots m e.tick e.clef (group_of e.clef e.flat.graces e.flat.slash) 0 e.flat.graces in
-      both_in (change_slots m in_head e ++ graces ++ slot (key_at m e.tick classes.Note 0) _) (words_slots m room e)
-      (both_in (change_slots m in_head e ++ graces) (slot (key_at m e.tick classes.Note 0) _)
+      let own = note_marks e.clef (pos 0) e.flat.event e.plan before after in
+      both_in (change_slots m in_head e ++ graces ++ slot (note_key m e) own) (slot (note_key m e) (words_marks room e.flat))
+      (both_in (change_slots m in_head e ++ graces) (slot (note_key m e) own)
       (both_in (change_slots m in_head e) graces (change_in m in_head e from to h) (graces_in m e.tick e.clef _ 0 e.flat.graces from to h))
-      (placed_at m e.tick classes.Note 0 from to h (omega arith), tt))
-      (words_in m room e from to h)
+      (note_in m e own from to h))
+      (note_in m e (words_marks room e.flat) from to h)
 
   events_in : (room : Option Room) (m : ℕ) (in_head : Bool) (group flags : ℕ) (es : List DrawnEvent) → a ≤ m → m < b → Ticks (slice_index lengths m) es → AreIn (events_slots room m in_head group flags es)
   events_in room m in_head group flags [] from to h = tt
@@ -194,8 +186,8 @@ module _ (lengths : List ℕ) (a b : ℕ) where
   measures_in room m in_head [] from to h = tt
   measures_in room m in_head (d ∷ ds) from to h =
       let here : m < b = omega (arith, to) in
-      both_in (events_slots room m in_head 0 0 d.events ++ slot (bar_of lengths m) _) (measures_slots lengths room (m + 1) false ds)
-      (both_in (events_slots room m in_head 0 0 d.events) (slot (bar_of lengths m) _)
+      both_in (events_slots room m in_head 0 0 d.events ++ slot (bar_key lengths m) _) (measures_slots lengths room (m + 1) false ds)
+      (both_in (events_slots room m in_head 0 0 d.events) (slot (bar_key lengths m) _)
       (events_in room m in_head 0 0 d.events from here h.0) (record { from = from; to = here; within = bar_itself lengths m }, tt))
       (measures_in room (m + 1) false ds (omega (arith, from)) (omega (arith, to)) h.1)
 
@@ -206,7 +198,7 @@ module _ (lengths : List ℕ) (a b : ℕ) where
   first_in : (bar : Bar) → a < b → AreIn (first_slots a bar)
   first_in bar h = by ((a == 0) && has_features bar) (λ t. grind (arith, nat_tests))
     where
-      by : (c : Bool) → (c ≡ true → a ≡ 0) → AreIn (if c then slot (key_at 0 0 classes.First 0) (bar_marks 0 bar) else [])
+      by : (c : Bool) → (c ≡ true → a ≡ 0) → AreIn (if c then slot (key_at 0 0 classes.First 0) (bar_marks bar) else [])
       by true z = let e = z refl in (placed_at 0 0 classes.First 0 (omega (arith, e)) (omega (arith, h)) (omega arith) (omega arith), tt)
       by false z = tt
 

@@ -1,84 +1,79 @@
 -- What stands in the columns of a staff, without its ranks: marks with the key of the column of each.
 -- With the rank of each key they are the marks of the staff, so that what moves the ranks moves them.
-use Rattle.std.proofs.Common.{◌≡◌, ◌∙◌, ℕ, pos, ◌+◌, ◌<◌, ◌==◌, ◌&&◌, Bool, true, false, if◌then◌else◌, List, [], ◌∷◌, ◌++◌, map, Option, Some, None, refl, sym, ap}
-use Rattle.std.specs.List.{AllByRecursion, slice_index}
+use Rattle.std.proofs.Common.{◌≡◌, ◌∙◌, ℕ, pos, ◌+◌, ◌<◌, ◌==◌, ◌&&◌, Bool, true, false, if◌then◌else◌, List, [], ◌∷◌, ◌++◌, map, Option, refl, sym, ap}
+use Rattle.std.specs.List.{AllByRecursion}
 use Rattle.std.proofs.lemmas.List.{append-nil, append_assoc, map-append}
 use Rattle.mus_units.specs.declared.note.Bar.{Bar}
 use Rattle.mus_units.specs.declared.pitch.Clef.{Clef}
 use Rattle.mus_score.specs.declared.score.Event.{Event}
 use Rattle.mus_time.specs.declared.keys.Class.TheVariants as classes
 use Rattle.mus_time.specs.declared.keys.ColumnKey.{ColumnKey}
-use Rattle.mus_time.specs.Keys.{has_features, key_at}
+use Rattle.mus_time.specs.Keys.{bar_key, has_features, head_key, key_at}
 use Rattle.mus_time.specs.Order.{rank_of}
+use Rattle.mus_laid.specs.declared.drawn.Drawn.{Drawn}
+use Rattle.mus_laid.specs.declared.drawn.Ink.{Ink}
+use Rattle.mus_laid.specs.declared.drawn.Ink.TheVariants as inks
 use Rattle.mus_laid.specs.declared.laid.Laid.{Laid}
-use Rattle.mus_laid.specs.declared.laid.Mark.{Mark}
-use Rattle.mus_laid.specs.declared.laid.Mark.TheVariants as marks
+use Rattle.mus_laid.specs.Ranked.{drawn_at, ink_at}
 use Rattle.mus_ink.specs.declared.graces.Group.{Group}
 use Rattle.mus_ink.specs.Bars.{bar_marks}
 use Rattle.mus_ink.specs.Changes.{change_marks, head_marks}
 use Rattle.mus_ink.specs.Decos.{note_marks}
 use Rattle.mus_ink.specs.Graces.{grace_marks, group_of}
-use Rattle.mus_words.specs.Syllables.{syllables_from}
-use Rattle.mus_words.specs.Texts.{text_marks}
 use Rattle.mus_drawn.specs.declared.drawn.DrawnEvent.{DrawnEvent}
 use Rattle.mus_drawn.specs.declared.drawn.DrawnMeasure.{DrawnMeasure}
 use Rattle.mus_marks.specs.declared.events.Room.{Room}
-use Rattle.mus_marks.specs.Events.{change_part, event_marks, events_marks, graces_from, levels_behind, levels_in, measures_marks, note_part, note_rank, text_place, words_part}
+use Rattle.mus_marks.specs.Events.{change_part, event_marks, events_marks, graces_from, levels_behind, levels_in, measures_marks, note_key, note_part, note_rank, words_marks, words_part}
 use Rattle.mus_marks.specs.Staff.{columns_part, first_part, head_part, meter_shown}
 use Rattle.lay_columns.specs.Joining.{IsBelow, moved, moved_mark}
 use Rattle.lay_columns.specs.Reaches.{rank_of as mark_rank}
-use Rattle.lay_measures.proofs.Placed.{bar, change, grace, head, joined, note, placed, placed_mark, syllables, texts}
 
 pub record Slot : Type 0 where
   pub key : ColumnKey
-  pub marks : List Laid
+  pub marks : List Drawn
 
 abbrev pub lay : List ColumnKey → List Slot → List Laid
 lay keys [] = []
-lay keys (x ∷ xs) = map (placed (rank_of keys x.key)) x.marks ++ lay keys xs
+lay keys (x ∷ xs) = map (drawn_at (rank_of keys x.key)) x.marks ++ lay keys xs
 
-abbrev pub slot : ColumnKey → List Laid → List Slot
+abbrev pub slot : ColumnKey → List Drawn → List Slot
 slot key marks = record { key = key; marks = marks } ∷ []
 
 -- ---- where ranks move
-mark_moved : (n q : ℕ) (mark : Mark) → placed_mark (n + q) mark ≡ moved_mark n (placed_mark q mark)
-mark_moved n q (marks.Glyph glyph r dx dy) = refl
-mark_moved n q (marks.Words size r dx dy text) = refl
-mark_moved n q (marks.Stem r dx from to) = refl
-mark_moved n q (marks.Beam way first last from to) = refl
-mark_moved n q (marks.Arc first last from to bulge) = refl
+ink_moved : (n q : ℕ) (ink : Ink) → ink_at (n + q) ink ≡ moved_mark n (ink_at q ink)
+ink_moved n q (inks.Glyph glyph dx dy) = refl
+ink_moved n q (inks.Words size dx dy text) = refl
+ink_moved n q (inks.Stem dx from to) = refl
 
-marks_moved : (n q : ℕ) (xs : List Laid) → map (placed (n + q)) xs ≡ map (moved n) (map (placed q) xs)
+marks_moved : (n q : ℕ) (xs : List Drawn) → map (drawn_at (n + q)) xs ≡ map (moved n) (map (drawn_at q) xs)
 marks_moved n q [] = refl
-marks_moved n q (x ∷ xs) = rw (mark_moved n q x.mark, marks_moved n q xs) refl
+marks_moved n q (x ∷ xs) = rw (ink_moved n q x.ink, marks_moved n q xs) refl
 
 pub lay_moved : (n : ℕ) (keys keys' : List ColumnKey) (xs : List Slot) → AllByRecursion (λ x. rank_of keys' x.key ≡ n + rank_of keys x.key) xs → lay keys' xs ≡ map (moved n) (lay keys xs)
 lay_moved n keys keys' [] h = refl
 lay_moved n keys keys' (x ∷ xs) h =
     ap (λ q. map (placed q) x.marks ++ lay keys' xs) h.0
     ∙ ap (λ t. t ++ lay keys' xs) (marks_moved n (rank_of keys x.key) x.marks)
-    ∙ ap (λ t. map (moved n) (map (placed (rank_of keys x.key)) x.marks) ++ t) (lay_moved n keys keys' xs h.1)
-    ∙ sym (map-append (moved n) (map (placed (rank_of keys x.key)) x.marks) (lay keys xs))
+    ∙ ap (λ t. map (moved n) (map (drawn_at (rank_of keys x.key)) x.marks) ++ t) (lay_moved n keys keys' xs h.1)
+    ∙ sym (map-append (moved n) (map (drawn_at (rank_of keys x.key)) x.marks) (lay keys xs))
 
 pub lay_same : (keys keys' : List ColumnKey) (xs : List Slot) → AllByRecursion (λ x. rank_of keys' x.key ≡ rank_of keys x.key) xs → lay keys' xs ≡ lay keys xs
 lay_same keys keys' [] h = refl
 lay_same keys keys' (x ∷ xs) h =
-    ap (λ q. map (placed q) x.marks ++ lay keys' xs) h.0 ∙ ap (λ t. map (placed (rank_of keys x.key)) x.marks ++ t) (lay_same keys keys' xs h.1)
+    ap (λ q. map (placed q) x.marks ++ lay keys' xs) h.0 ∙ ap (λ t. map (drawn_at (rank_of keys x.key)) x.marks ++ t) (lay_same keys keys' xs h.1)
 
 -- ---- ranks below some number
 abbrev pub AreBelow : ℕ → List Laid → Type 0
 AreBelow n xs = AllByRecursion (λ l. IsBelow n (mark_rank l.mark)) xs
 
-mark_below : (n q : ℕ) (mark : Mark) → q < n → IsBelow n (mark_rank (placed_mark q mark))
-mark_below n q (marks.Glyph glyph r dx dy) h = h
-mark_below n q (marks.Words size r dx dy text) h = h
-mark_below n q (marks.Stem r dx from to) h = tt
-mark_below n q (marks.Beam way first last from to) h = tt
-mark_below n q (marks.Arc first last from to bulge) h = tt
+ink_below : (n q : ℕ) (ink : Ink) → q < n → IsBelow n (mark_rank (ink_at q ink))
+ink_below n q (inks.Glyph glyph dx dy) h = h
+ink_below n q (inks.Words size dx dy text) h = h
+ink_below n q (inks.Stem dx from to) h = tt
 
-below_then : (n q : ℕ) (xs ys : List Laid) → q < n → AreBelow n ys → AreBelow n (map (placed q) xs ++ ys)
+below_then : (n q : ℕ) (xs : List Drawn) (ys : List Laid) → q < n → AreBelow n ys → AreBelow n (map (drawn_at q) xs ++ ys)
 below_then n q [] ys h more = more
-below_then n q (x ∷ xs) ys h more = (mark_below n q x.mark h, below_then n q xs ys h more)
+below_then n q (x ∷ xs) ys h more = (ink_below n q x.ink h, below_then n q xs ys h more)
 
 pub lay_below : (n : ℕ) (keys : List ColumnKey) (xs : List Slot) → AllByRecursion (λ x. rank_of keys x.key < n) xs → AreBelow n (lay keys xs)
 lay_below n keys [] h = tt
@@ -88,32 +83,28 @@ lay_below n keys (x ∷ xs) h = below_then n (rank_of keys x.key) x.marks (lay k
 pub lay_append : (keys : List ColumnKey) (xs ys : List Slot) → lay keys (xs ++ ys) ≡ lay keys xs ++ lay keys ys
 lay_append keys [] ys = refl
 lay_append keys (x ∷ xs) ys =
-    ap (λ t. map (placed (rank_of keys x.key)) x.marks ++ t) (lay_append keys xs ys)
-    ∙ sym (append_assoc (map (placed (rank_of keys x.key)) x.marks) (lay keys xs) (lay keys ys))
+    ap (λ t. map (drawn_at (rank_of keys x.key)) x.marks ++ t) (lay_append keys xs ys)
+    ∙ sym (append_assoc (map (drawn_at (rank_of keys x.key)) x.marks) (lay keys xs) (lay keys ys))
 
 both : (keys : List ColumnKey) (ps qs : List Laid) (xs ys : List Slot) → ps ≡ lay keys xs → qs ≡ lay keys ys → ps ++ qs ≡ lay keys (xs ++ ys)
 both keys ps qs xs ys p q = ap (λ t. t ++ qs) p ∙ ap (λ t. lay keys xs ++ t) q ∙ sym (lay_append keys xs ys)
 
-one : (keys : List ColumnKey) (key : ColumnKey) (ps xs : List Laid) → ps ≡ map (placed (rank_of keys key)) xs → ps ≡ lay keys (slot key xs)
-one keys key ps xs e = e ∙ sym (append-nil (map (placed (rank_of keys key)) xs))
+one : (keys : List ColumnKey) (key : ColumnKey) (xs : List Drawn) → map (drawn_at (rank_of keys key)) xs ≡ lay keys (slot key xs)
+one keys key xs = sym (append-nil (map (drawn_at (rank_of keys key)) xs))
 
 -- ---- the slots of a staff
 abbrev pub change_slots : ℕ → Bool → DrawnEvent → List Slot
 change_slots m true e = []
-change_slots m false e = slot (key_at m e.tick classes.Change 0) (change_marks 0 e.clef e.old e.flat.event.changes)
+change_slots m false e = slot (key_at m e.tick classes.Change 0) (change_marks e.clef e.old e.flat.event.changes)
 
 abbrev pub graces_slots : ℕ → ℕ → Clef → Group → ℕ → List Event → List Slot
 graces_slots m tick clef group i [] = []
-graces_slots m tick clef group i (g ∷ gs) = slot (key_at m tick classes.Grace i) (grace_marks 0 clef group (i == 0) g) ++ graces_slots m tick clef group (i + 1) gs
-
-abbrev pub words_slots : ℕ → Option Room → DrawnEvent → List Slot
-words_slots m None e = []
-words_slots m (Some room) e = slot (key_at m e.tick classes.Note 0) (syllables_from 0 room.low 1 e.flat.event.words ++ text_marks 0 (text_place room) e.flat)
+graces_slots m tick clef group i (g ∷ gs) = slot (key_at m tick classes.Grace i) (grace_marks clef group (i == 0) g) ++ graces_slots m tick clef group (i + 1) gs
 
 abbrev pub event_slots : Option Room → ℕ → Bool → ℕ → ℕ → DrawnEvent → List Slot
 event_slots room m in_head before after e =
     change_slots m in_head e ++ graces_slots m e.tick e.clef (group_of e.clef e.flat.graces e.flat.slash) 0 e.flat.graces
-    ++ slot (key_at m e.tick classes.Note 0) (note_marks 0 e.clef (pos 0) e.flat.event e.plan before after) ++ words_slots m room e
+    ++ slot (note_key m e) (note_marks e.clef (pos 0) e.flat.event e.plan before after) ++ slot (note_key m e) (words_marks room e.flat)
 
 abbrev pub events_slots : Option Room → ℕ → Bool → ℕ → ℕ → List DrawnEvent → List Slot
 events_slots room m in_head group flags [] = []
@@ -123,14 +114,14 @@ events_slots room m in_head group flags (e ∷ es) =
 abbrev pub measures_slots : List ℕ → Option Room → ℕ → Bool → List DrawnMeasure → List Slot
 measures_slots lengths room m in_head [] = []
 measures_slots lengths room m in_head (d ∷ ds) =
-    (events_slots room m in_head 0 0 d.events ++ slot (key_at m (slice_index lengths m) classes.Bar 0) (bar_marks 0 d.bar)) ++ measures_slots lengths room (m + 1) false ds
+    (events_slots room m in_head 0 0 d.events ++ slot (bar_key lengths m) (bar_marks d.bar)) ++ measures_slots lengths room (m + 1) false ds
 
 abbrev pub head_slots : ℕ → List DrawnMeasure → List Slot
 head_slots a [] = []
-head_slots a (d ∷ ds) = slot (key_at a 0 classes.Head 0) (head_marks 0 d.opening.clef d.opening.key.signs (meter_shown a d.opening))
+head_slots a (d ∷ ds) = slot (head_key a) (head_marks d.opening.clef d.opening.key.signs (meter_shown a d.opening))
 
 abbrev pub first_slots : ℕ → Bar → List Slot
-first_slots a b = if (a == 0) && has_features b then slot (key_at 0 0 classes.First 0) (bar_marks 0 b) else []
+first_slots a b = if (a == 0) && has_features b then slot (key_at 0 0 classes.First 0) (bar_marks b) else []
 
 abbrev pub columns_slots : List ℕ → Option Room → ℕ → Bar → List DrawnMeasure → List Slot
 columns_slots lengths room a b ds = head_slots a ds ++ first_slots a b ++ measures_slots lengths room a true ds
@@ -139,35 +130,26 @@ columns_slots lengths room a b ds = head_slots a ds ++ first_slots a b ++ measur
 module _ (keys : List ColumnKey) where
   change_laid : (m : ℕ) (in_head : Bool) (e : DrawnEvent) → change_part keys m in_head e ≡ lay keys (change_slots m in_head e)
   change_laid m true e = refl
-  change_laid m false e = let k = key_at m e.tick classes.Change 0 in one keys k _ _ (change (rank_of keys k) 0 e.clef e.old e.flat.event.changes)
+  change_laid m false e = one keys (key_at m e.tick classes.Change 0) (change_marks e.clef e.old e.flat.event.changes)
 
   graces_laid : (m tick : ℕ) (clef : Clef) (group : Group) (i : ℕ) (gs : List Event) → graces_from keys m tick clef group i gs ≡ lay keys (graces_slots m tick clef group i gs)
   graces_laid m tick clef group i [] = refl
   graces_laid m tick clef group i (g ∷ gs) =
       let k = key_at m tick classes.Grace i in
-      both keys _ _ (slot k (grace_marks 0 clef group (i == 0) g)) (graces_slots m tick clef group (i + 1) gs)
-      (one keys k _ _ (grace (rank_of keys k) 0 clef group (i == 0) g)) (graces_laid m tick clef group (i + 1) gs)
-
-  note_laid : (m before after : ℕ) (e : DrawnEvent) → note_part keys m before after e ≡ lay keys (slot (key_at m e.tick classes.Note 0) (note_marks 0 e.clef (pos 0) e.flat.event e.plan before after))
-  note_laid m before after e = let k = key_at m e.tick classes.Note 0 in one keys k _ _ (note (rank_of keys k) 0 e.clef (pos 0) e.flat.event e.plan before after)
-
-  words_laid : (m : ℕ) (room : Option Room) (e : DrawnEvent) → words_part (note_rank keys m e) room e.flat ≡ lay keys (words_slots m room e)
-  words_laid m None e = refl
-  words_laid m (Some room) e =
-      let k = key_at m e.tick classes.Note 0 in let q = rank_of keys k in
-      one keys k _ _ (joined q _ _ (syllables_from 0 room.low 1 e.flat.event.words) (text_marks 0 (text_place room) e.flat)
-      (syllables q 0 room.low 1 e.flat.event.words) (texts q 0 (text_place room) e.flat))
+      both keys _ _ (slot k (grace_marks clef group (i == 0) g)) (graces_slots m tick clef group (i + 1) gs)
+      (one keys k (grace_marks clef group (i == 0) g)) (graces_laid m tick clef group (i + 1) gs)
 
   event_laid : (room : Option Room) (m : ℕ) (in_head : Bool) (before after : ℕ) (e : DrawnEvent) → event_marks keys room m in_head before after e ≡ lay keys (event_slots room m in_head before after e)
   unfolding event_marks
   event_laid room m in_head before after e =
       let graces = graces_slots m e.tick e.clef (group_of e.clef e.flat.graces e.flat.slash) 0 e.flat.graces in
-      let own = slot (key_at m e.tick classes.Note 0) (note_marks 0 e.clef (pos 0) e.flat.event e.plan before after) in
-      both keys _ _ (change_slots m in_head e ++ graces ++ own) (words_slots m room e)
+      let own = slot (note_key m e) (note_marks e.clef (pos 0) e.flat.event e.plan before after) in
+      let texts = slot (note_key m e) (words_marks room e.flat) in
+      both keys _ _ (change_slots m in_head e ++ graces ++ own) texts
       (both keys _ _ (change_slots m in_head e ++ graces) own
       (both keys _ _ (change_slots m in_head e) graces (change_laid m in_head e) (graces_laid m e.tick e.clef (group_of e.clef e.flat.graces e.flat.slash) 0 e.flat.graces))
-      (note_laid m before after e))
-      (words_laid m room e)
+      (one keys (note_key m e) (note_marks e.clef (pos 0) e.flat.event e.plan before after)))
+      (one keys (note_key m e) (words_marks room e.flat))
 
   events_laid : (room : Option Room) (m : ℕ) (in_head : Bool) (group flags : ℕ) (es : List DrawnEvent) → events_marks keys room m in_head group flags es ≡ lay keys (events_slots room m in_head group flags es)
   events_laid room m in_head group flags [] = refl
@@ -178,20 +160,20 @@ module _ (keys : List ColumnKey) where
   pub measures_laid : (lengths : List ℕ) (room : Option Room) (m : ℕ) (in_head : Bool) (ds : List DrawnMeasure) → measures_marks keys lengths room m in_head ds ≡ lay keys (measures_slots lengths room m in_head ds)
   measures_laid lengths room m in_head [] = refl
   measures_laid lengths room m in_head (d ∷ ds) =
-      let k = key_at m (slice_index lengths m) classes.Bar 0 in
-      both keys _ _ (events_slots room m in_head 0 0 d.events ++ slot k (bar_marks 0 d.bar)) (measures_slots lengths room (m + 1) false ds)
-      (both keys _ _ (events_slots room m in_head 0 0 d.events) (slot k (bar_marks 0 d.bar)) (events_laid room m in_head 0 0 d.events) (one keys k _ _ (bar (rank_of keys k) 0 d.bar)))
+      let k = bar_key lengths m in
+      both keys _ _ (events_slots room m in_head 0 0 d.events ++ slot k (bar_marks d.bar)) (measures_slots lengths room (m + 1) false ds)
+      (both keys _ _ (events_slots room m in_head 0 0 d.events) (slot k (bar_marks d.bar)) (events_laid room m in_head 0 0 d.events) (one keys k (bar_marks d.bar)))
       (measures_laid lengths room (m + 1) false ds)
 
   head_laid : (a : ℕ) (ds : List DrawnMeasure) → head_part keys a ds ≡ lay keys (head_slots a ds)
   head_laid a [] = refl
-  head_laid a (d ∷ ds) = let k = key_at a 0 classes.Head 0 in one keys k _ _ (head (rank_of keys k) 0 d.opening.clef d.opening.key.signs (meter_shown a d.opening))
+  head_laid a (d ∷ ds) = one keys (head_key a) (head_marks d.opening.clef d.opening.key.signs (meter_shown a d.opening))
 
   first_laid : (a : ℕ) (b : Bar) → first_part keys a b ≡ lay keys (first_slots a b)
   first_laid a b = by ((a == 0) && has_features b)
     where
-      by : (c : Bool) → (if c then bar_marks (rank_of keys (key_at 0 0 classes.First 0)) b else []) ≡ lay keys (if c then slot (key_at 0 0 classes.First 0) (bar_marks 0 b) else [])
-      by true = one keys (key_at 0 0 classes.First 0) _ _ (bar (rank_of keys (key_at 0 0 classes.First 0)) 0 b)
+      by : (c : Bool) → (if c then map (drawn_at (rank_of keys (key_at 0 0 classes.First 0))) (bar_marks b) else []) ≡ lay keys (if c then slot (key_at 0 0 classes.First 0) (bar_marks b) else [])
+      by true = one keys (key_at 0 0 classes.First 0) (bar_marks b)
       by false = refl
 
   pub columns_laid : (lengths : List ℕ) (room : Option Room) (a : ℕ) (b : Bar) (ds : List DrawnMeasure) → columns_part keys lengths room a b ds ≡ lay keys (columns_slots lengths room a b ds)

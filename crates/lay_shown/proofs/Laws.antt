@@ -1,72 +1,89 @@
 -- A system that a good score calls for can be shown.
-use Rattle.std.proofs.Common.{◌≡◌, refl, sym, subst, get_or, ℕ, ◌<◌, ◌≤◌, List, length, arith}
-use Rattle.std.specs.Prelude.{All, slice_range, Some, None}
+use Rattle.std.proofs.Common.{◌≡◌, ◌∙◌, sym, ap, subst, ℕ, ◌<◌, ◌≤◌, true, ◌==◌, get_or, inl, inr, List, [], ◌∷◌, length, map, arith}
+use Rattle.std.specs.List.{AllByRecursion, Contains, flat_map, list_any}
+use Rattle.std.specs.Prelude.{All, IsTrue}
+use Rattle.std.proofs.lemmas.Bool.Decides.{nat_tests}
 use Rattle.std.proofs.lemmas.List.{length-map}
-use Rattle.std.proofs.lemmas.List.Elements.{All-append, All-map}
+use Rattle.std.proofs.lemmas.List.Elements.{All-from_recursion, All-map, Contains-append_cases, Contains-append_left, Contains-append_right, Contains-get_or, recursion_from_All}
+use Rattle.std.proofs.lemmas.List.Folds.{flat_map-map, list_any_at}
 use Rattle.mus_score.specs.declared.score.Score.{Score}
 use Rattle.mus_score.specs.declared.score.Voice.{Voice}
 use Rattle.mus_score.specs.GoodScore.{IsGoodScore}
+use Rattle.mus_time.specs.Keys.{head_key, voice_keys}
 use Rattle.mus_time.specs.Onsets.{timeline_of}
-use Rattle.mus_time.specs.declared.keys.ColumnKey.{ColumnKey}
-use Rattle.mus_laid.specs.declared.laid.Laid.{Laid}
+use Rattle.mus_time.specs.Order.{rank_of}
+use Rattle.mus_time.proofs.RankLaws.{rank_at_place}
 use Rattle.mus_laid.specs.declared.laid.StaffMarks.{StaffMarks}
 use Rattle.mus_laid.specs.declared.laid.SystemMarks.{SystemMarks}
 use Rattle.mus_drawn.specs.Drawn.{drawn_voice}
-use Rattle.mus_drawn.specs.declared.drawn.DrawnVoice.{DrawnVoice}
-use Rattle.mus_marks.specs.declared.events.Room.{Room}
-use Rattle.mus_marks.specs.Arcs.{arcs_part}
-use Rattle.mus_marks.specs.Staff.{beams_part, columns_part, grace_beams_part, room_over, staff_marks, staff_over, voice_marks}
+use Rattle.mus_marks.specs.Bridges.{bridges_of}
 use Rattle.mus_marks.specs.System.{IsCall, staff_of}
-use Rattle.lay_shown.specs.Ranks.{AreRanked, IsRanked}
+use Rattle.lay_shown.specs.Ranks.{AreAnchored, AreRanked, IsRanked, marks_ranks, staves_ranks}
 use Rattle.lay_shown.specs.Shown.{IsShown}
-use Rattle.lay_shown.proofs.Anchored.{all_anchored}
+use Rattle.lay_shown.proofs.Between.{bridges_ranked}
+use Rattle.lay_shown.proofs.Bridged.{voices_between}
+use Rattle.lay_shown.proofs.Inside.{voices_called}
 use Rattle.lay_shown.proofs.Printed.{texts_printed}
-use Rattle.lay_shown.proofs.Standing.{columns_ranked}
-use Rattle.lay_shown.proofs.Stretched.{AreStretched, voices_stretched}
+use Rattle.lay_shown.proofs.Standing.{Fill, staff_fills}
 
--- the columns, beams and arcs of a staff are all its marks
-voice_ranked : (n : ℕ) (keys : List ColumnKey) (lengths : List ℕ) (room : Room) (a b : ℕ) (v : DrawnVoice) → n ≡ length keys
-    → AreRanked n (columns_part keys lengths (Some room) a v.first (slice_range v.measures a b)) → AreStretched keys a b v
-    → AreRanked n (voice_marks keys lengths (Some room) a b v)
-unfolding voice_marks
-voice_ranked n keys lengths room a b v same columns spans =
-    let is : Laid → Type 0 = λ laid. IsRanked n laid.mark in
-    let beams : AreRanked n (beams_part keys a (slice_range v.measures a b)) = subst (λ k. AreRanked k (beams_part keys a (slice_range v.measures a b))) (sym same) spans.beams in
-    let graces : AreRanked n (grace_beams_part keys a (slice_range v.measures a b)) = subst (λ k. AreRanked k (grace_beams_part keys a (slice_range v.measures a b))) (sym same) spans.grace_beams in
-    let arcs : AreRanked n (arcs_part keys a b v.measures v.arcs) = subst (λ k. AreRanked k (arcs_part keys a b v.measures v.arcs)) (sym same) spans.arcs in
-    All-append is _ (arcs_part keys a b v.measures v.arcs)
-    (All-append is _ (grace_beams_part keys a (slice_range v.measures a b))
-    (All-append is (columns_part keys lengths (Some room) a v.first (slice_range v.measures a b)) (beams_part keys a (slice_range v.measures a b)) columns beams)
-    graces)
-    arcs
+-- what one of the voices has, the staff of that voice has
+of_voices : {K N : Type 0} (f : Voice → List K) (g : Voice → List N) (k : K) (n : N) (vs : List Voice) → AllByRecursion (λ v. Contains (f v) k → Contains (g v) n) vs
+    → Contains (flat_map f vs) k → Contains (flat_map g vs) n
+of_voices f g k n [] h (i, inside, is) = absurd (omega (arith, inside))
+of_voices f g k n (v ∷ vs) h has = elim (Contains-append_cases (f v) (flat_map f vs) k has) [
+  | inl own ↦ Contains-append_left (g v) (flat_map g vs) n (h.0 own)
+  | inr more ↦ Contains-append_right (g v) (flat_map g vs) n (of_voices f g k n vs h.1 more)
+]
 
-staff_ranked : (keys : List ColumnKey) (lengths : List ℕ) (a b : ℕ) (v : Voice)
-    → ((room : Room) → AreRanked (length keys) (voice_marks keys lengths (Some room) a b (drawn_voice v))) → AreRanked (length keys) (staff_of keys lengths a b v).marks
-unfolding staff_marks staff_over
-staff_ranked keys lengths a b v ranked = ranked (room_over (drawn_voice v).verses (voice_marks keys lengths None a b (drawn_voice v)))
+same_rank : (n : ℕ) → (n == n) ≡ true
+same_rank n = grind (arith, nat_tests)
 
-staves_ranked : (s : Score) (a b : ℕ) (m : SystemMarks) → IsGoodScore s → a < b → b ≤ s.measures → IsCall s (timeline_of s) a b m
-    → All (λ staff. AreRanked (length m.keys) staff.marks) m.staves
-staves_ranked s a b m good rises within call =
-    let lengths = (timeline_of s).lengths in
-    let columns = columns_ranked s a b m good rises within call in
-    let spans = voices_stretched s a b m.keys good rises within call.keys in
-    let each : All (λ v. AreRanked (length m.keys) (staff_of m.keys lengths a b v).marks) s.voices =
-    (λ k d inside. staff_ranked m.keys lengths a b (get_or s.voices k d) (λ room. voice_ranked (length m.keys) m.keys lengths room a b (drawn_voice (get_or s.voices k d)) refl (columns k d inside (Some room)) (spans k d inside))) in
-    subst (λ staves. All (λ (staff : StaffMarks). AreRanked (length m.keys) staff.marks) staves) (sym call.staves)
-    (All-map (λ (staff : StaffMarks). AreRanked (length m.keys) staff.marks) (staff_of m.keys lengths a b) s.voices each)
+found : (n : ℕ) (ranks : List ℕ) → Contains ranks n → IsTrue (list_any (λ r. n == r) ranks)
+found n ranks (i, inside, is) = list_any_at (λ r. n == r) ranks i n inside (ap (λ r. n == r) is ∙ same_rank n)
 
-staves_some : (s : Score) (a b : ℕ) (m : SystemMarks) → 1 ≤ length s.voices → IsCall s (timeline_of s) a b m → 1 ≤ length m.staves
-staves_some s a b m some call =
-    subst (λ (staves : List StaffMarks). 1 ≤ length staves) (sym call.staves)
-    (let same = length-map s.voices (staff_of m.keys (timeline_of s).lengths a b) in omega (arith, same, some))
+module _ (s : Score) (a b : ℕ) (m : SystemMarks) (good : IsGoodScore s) (rises : a < b) (within : b ≤ s.measures) (call : IsCall s (timeline_of s) a b m) where
+  abbrev lengths : List ℕ
+  lengths = (timeline_of s).lengths
+
+  abbrev staff : Voice → StaffMarks
+  staff = staff_of m.keys lengths a b
+
+  staves_fill : All (λ v. Fill m.keys (voice_keys lengths a b v) (staff v).marks) s.voices
+  staves_fill k d inside =
+      let v = get_or s.voices k d in
+      let same = good.measures k d inside in
+      staff_fills m.keys lengths a b v rises (omega (arith, within, same))
+      (bridges_ranked m.keys (bridges_of lengths a b (drawn_voice v)) (voices_between s a b m.keys good rises within call.keys k d inside))
+
+  staves_ranked : All (λ v. AreRanked (length m.keys) (staff v).marks) s.voices
+  staves_ranked k d inside =
+      All-from_recursion (λ laid. IsRanked (length m.keys) laid.mark) (staff (get_or s.voices k d)).marks
+      ((staves_fill k d inside).ranked (voices_called s lengths a b m.keys call.keys k d inside))
+
+  staves_anchored : AreAnchored (length m.keys) (staves_ranks (map staff s.voices))
+  staves_anchored i inside =
+      let key = get_or m.keys i (head_key a) in
+      let ranks = λ (v : Voice). marks_ranks (staff v).marks in
+      let each : All (λ v. Contains (voice_keys lengths a b v) key → Contains (ranks v) (rank_of m.keys key)) s.voices = λ k d within'. (staves_fill k d within').anchored key in
+      found i (staves_ranks (map staff s.voices))
+      (subst (λ ns. Contains ns i) (sym (flat_map-map (λ t. marks_ranks t.marks) staff s.voices))
+      (subst (Contains (flat_map ranks s.voices)) (rank_at_place m.keys i (head_key a) call.keys.rise inside)
+      (of_voices (voice_keys lengths a b) ranks key (rank_of m.keys key) s.voices (recursion_from_All _ s.voices each)
+      (call.keys.only key (Contains-get_or m.keys i (head_key a) inside)))))
+
+  staves_some : 1 ≤ length s.voices → 1 ≤ length m.staves
+  staves_some some =
+      subst (λ (staves : List StaffMarks). 1 ≤ length staves) (sym call.staves)
+      (let same = length-map s.voices staff in omega (arith, same, some))
 
 -- what a score with a voice calls for in some of its measures can be shown
 pub call_shown : (s : Score) (a b : ℕ) (m : SystemMarks) → IsGoodScore s → 1 ≤ length s.voices → a < b → b ≤ s.measures → IsCall s (timeline_of s) a b m → IsShown m
 call_shown s a b m good some rises within call = record {
   rises = let from = call.from in let to = call.to in omega (arith, rises);
-  staves = staves_some s a b m some call;
-  ranked = staves_ranked s a b m good rises within call;
-  anchored = all_anchored s a b m good rises within call;
+  staves = staves_some s a b m good rises within call some;
+  ranked =
+      subst (λ staves. All (λ (staff : StaffMarks). AreRanked (length m.keys) staff.marks) staves) (sym call.staves)
+      (All-map (λ (staff : StaffMarks). AreRanked (length m.keys) staff.marks) (staff_of m.keys (timeline_of s).lengths a b) s.voices (staves_ranked s a b m good rises within call));
+  anchored = subst (λ staves. AreAnchored (length m.keys) (staves_ranks staves)) (sym call.staves) (staves_anchored s a b m good rises within call);
   texts = texts_printed s (timeline_of s) a b m good call;
 }

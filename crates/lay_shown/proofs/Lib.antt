@@ -1,15 +1,13 @@
-pub mod Anchored
 pub mod Arcs
 pub mod Beams
-pub mod Columnar
+pub mod Between
+pub mod Bridged
 pub mod Filled
 pub mod GraceBeams
 pub mod Inside
 pub mod Laws
 pub mod Planned
 pub mod Printed
-pub mod PrintedParts
 pub mod PrintedTexts
 pub mod Standing
-pub mod Stretched
 pub mod TitleRows

@@ -1,15 +1,13 @@
 -- What is printed of a text has characters that a page may show, and so do decimals.
-use Rattle.std.proofs.Common.{ℕ, ◌+◌, ◌≤◌, ◌<◌, ◌%◌, Bool, true, false, ◌≡◌, ◌∙◌, ◌==◌, if◌then◌else◌, List, [], ◌∷◌, ◌++◌, length, map, take, refl, arith}
-use Rattle.std.specs.List.{AllByRecursion, flat_map, list_all}
+use Rattle.std.proofs.Common.{ℕ, ◌+◌, ◌≤◌, ◌<◌, ◌%◌, ◌∙◌, List, [], ◌∷◌, ◌++◌, length, map, take, refl, arith}
+use Rattle.std.specs.List.{list_all}
 use Rattle.std.specs.Prelude.{IsTrue, decimal}
 use Rattle.std.proofs.lemmas.Bool.{and_from}
 use Rattle.std.proofs.lemmas.Bool.Decides.{nat_tests}
 use Rattle.std.proofs.lemmas.Fmt.{decimal_by_steps, decimal_nonempty, length-decimal-le}
 use Rattle.std.proofs.lemmas.List.{length-map, length-take}
 use Rattle.std.proofs.lemmas.List.Folds.{list_all-append}
-use Rattle.mus_stems.proofs.RunLaws.{all_append}
 use Rattle.mus_laid.specs.Printed.{is_printable, printed, printed_byte, printed_within}
-use Rattle.mus_words.specs.Words.{shown}
 use Rattle.lay_shown.specs.Texts.{IsPrinted}
 
 byte_printable : (b : ℕ) → IsTrue (is_printable (printed_byte b))
@@ -29,9 +27,6 @@ within_printed n t most some =
 pub text_printed : (t : List ℕ) → 1 ≤ length (printed t) → IsPrinted (printed t)
 text_printed t some = within_printed 60 t (omega arith) some
 
-pub some_of : (n : ℕ) → (n == 0) ≡ false → 1 ≤ n
-some_of n e = grind (arith, nat_tests, e)
-
 -- decimals of at most two digits
 digit_printable : (d : ℕ) → d < 10 → IsTrue (is_printable (48 + d))
 digit_printable d h = grind (arith, nat_tests, h)
@@ -48,18 +43,3 @@ pub digits_printed : (n : ℕ) → n ≤ 99 → IsPrinted (decimal n)
 digits_printed n h =
     let some = decimal_nonempty n (omega (arith, h)) in let few = length-decimal-le 2 n (omega arith) (omega (arith, h)) (omega (arith, h)) in
     record { printable = digits_printable n h; some = omega (arith, some); few = omega (arith, few) }
-
--- texts, of which each is printed
-abbrev pub ArePrintedTexts : List (List ℕ) → Type 0
-ArePrintedTexts ts = AllByRecursion IsPrinted ts
-
-any_printed : (b : Bool) (t : List ℕ) → (length (printed t) == 0) ≡ b → ArePrintedTexts (if b then [] else printed t ∷ [])
-any_printed true t e = tt
-any_printed false t e = (text_printed t (some_of (length (printed t)) e), tt)
-
-pub shown_printed : (t : List ℕ) → ArePrintedTexts (shown t)
-shown_printed t = any_printed (length (printed t) == 0) t refl
-
-pub all_printed : {X : Type 0} (f : X → List (List ℕ)) → ((x : X) → ArePrintedTexts (f x)) → (xs : List X) → ArePrintedTexts (flat_map f xs)
-all_printed f p [] = tt
-all_printed f p (x ∷ xs) = all_append IsPrinted (f x) (flat_map f xs) (p x) (all_printed f p xs)

@@ -1,169 +1,188 @@
--- The marks that stand in the columns of a staff are ranked among the columns of its system.
-use Rattle.std.proofs.Common.{◌≡◌, ℕ, pos, ◌+◌, ◌<◌, ◌≤◌, Bool, true, false, not, ◌==◌, ◌&&◌, if◌then◌else◌, List, [], ◌∷◌, ◌++◌, length, Option, Some, None, refl, sym, subst}
-use Rattle.std.specs.List.{All, AllByRecursion, Contains, slice_index_or, slice_range}
-use Rattle.std.proofs.lemmas.List.Elements.{All-from_recursion}
+-- The marks of a voice that stand in columns stand in those that the voice draws in, and each of these holds one.
+use Rattle.std.proofs.Common.{ℕ, zero, suc, pos, ◌+◌, ◌-◌, ◌<◌, ◌≤◌, inl, inr, Bool, true, false, ◌==◌, ◌&&◌, if◌then◌else◌, List, [], ◌∷◌, ◌++◌, append_assoc, length, length-drop, length-take, map, drop, Option, sym, subst, arith}
+use Rattle.std.specs.List.{AllByRecursion, Contains, slice_range}
+use Rattle.std.proofs.lemmas.List.Elements.{Contains-append_cases, Contains-append_left, Contains-append_right, filter_map-append}
 use Rattle.mus_units.specs.declared.note.Bar.{Bar}
 use Rattle.mus_units.specs.declared.pitch.Clef.{Clef}
 use Rattle.mus_score.specs.declared.score.Event.{Event}
-use Rattle.mus_score.specs.declared.score.Score.{Score}
-use Rattle.mus_score.specs.GoodScore.{IsGoodScore}
-use Rattle.mus_stems.proofs.RunLaws.{all_append}
+use Rattle.mus_score.specs.declared.score.Voice.{Voice}
+use Rattle.mus_stems.proofs.RunLaws.{all_append, all_drop, all_take}
 use Rattle.mus_time.specs.declared.keys.Class.TheVariants as classes
 use Rattle.mus_time.specs.declared.keys.ColumnKey.{ColumnKey}
-use Rattle.mus_time.specs.Keys.{change_has_mark, change_keys, event_keys, first_keys, grace_keys, has_features, key_at}
-use Rattle.mus_time.specs.Onsets.{timeline_of}
+use Rattle.mus_time.specs.Keys.{bar_key, change_keys, event_keys, first_keys, grace_keys, has_features, head_key, key_at, voice_keys}
 use Rattle.mus_time.specs.Order.{rank_of}
+use Rattle.mus_time.proofs.RankLaws.{rank_less}
+use Rattle.mus_laid.specs.declared.drawn.Drawn.{Drawn}
+use Rattle.mus_laid.specs.declared.drawn.Ink.{Ink}
+use Rattle.mus_laid.specs.declared.drawn.Ink.TheVariants as inks
 use Rattle.mus_laid.specs.declared.laid.Laid.{Laid}
-use Rattle.mus_laid.specs.declared.laid.Mark.{Mark}
-use Rattle.mus_laid.specs.declared.laid.Mark.TheVariants as marks
-use Rattle.mus_laid.specs.declared.laid.SystemMarks.{SystemMarks}
+use Rattle.mus_laid.specs.Ranked.{bridge_at, drawn_at, ink_at}
 use Rattle.mus_ink.specs.declared.graces.Group.{Group}
 use Rattle.mus_ink.specs.Bars.{bar_marks}
+use Rattle.mus_ink.specs.Changes.{change_marks, head_marks}
+use Rattle.mus_ink.specs.Decos.{note_marks}
 use Rattle.mus_ink.specs.Graces.{grace_marks, group_of}
-use Rattle.mus_words.specs.Syllables.{syllables_from}
 use Rattle.mus_drawn.specs.declared.drawn.DrawnEvent.{DrawnEvent}
 use Rattle.mus_drawn.specs.declared.drawn.DrawnMeasure.{DrawnMeasure}
 use Rattle.mus_drawn.specs.declared.drawn.DrawnVoice.{DrawnVoice}
 use Rattle.mus_drawn.specs.Drawn.{drawn_voice}
 use Rattle.mus_marks.specs.declared.events.Room.{Room}
-use Rattle.mus_marks.specs.Events.{bar_part, change_part, event_marks, events_marks, graces_from, graces_part, levels_behind, levels_in, measures_marks, note_part, note_rank, text_place, words_part}
-use Rattle.mus_time.specs.Ranks.{rank_at}
-use Rattle.mus_marks.specs.Staff.{columns_part, first_part, head_part, meter_shown}
-use Rattle.mus_marks.specs.System.{IsCall}
-use Rattle.lay_shown.specs.Ranks.{AreRanked, IsRanked}
-use Rattle.lay_shown.proofs.Columnar.{AllAt, StandsAt, bar, both, change, grace, head, note, syllables, texts}
-use Rattle.lay_shown.proofs.Filled.{change_none}
-use Rattle.lay_shown.proofs.Inside.{AreAmong, among_left, among_right, bar_of, events_columns, has_old, here, measures_columns, rank_inside, there, voice_columns, voices_inside}
+use Rattle.mus_marks.specs.Bridges.{bridges_of}
+use Rattle.mus_marks.specs.Events.{change_part, event_marks, events_marks, graces_from, levels_behind, levels_in, measures_marks, note_key, words_marks, words_part}
+use Rattle.mus_marks.specs.Staff.{columns_part, first_part, head_part, meter_shown, staff_marks, staff_over, voice_marks}
+use Rattle.mus_marks.specs.System.{staff_of}
+use Rattle.mus_marks.proofs.Lines.{voice_count}
+use Rattle.lay_shown.specs.Ranks.{IsRanked, anchor_rank, marks_ranks}
+use Rattle.lay_shown.proofs.Filled.{HasSome, bar_some, change_has, grace_some, has_some, head_some, note_some}
+use Rattle.lay_shown.proofs.Inside.{AreAmong, among_left, among_right, events_columns, has_old, here, measures_columns, voice_columns, voice_same}
+use Rattle.lay_shown.proofs.Planned.{ArePlanned, IsPlanOf, voice_planned}
 
--- ---- marks in a column
-abbrev pub AllRanked : ℕ → List Laid → Type 0
-AllRanked n xs = AllByRecursion (λ l. IsRanked n l.mark) xs
+-- `AreRanked` by recursion on the marks
+abbrev pub Ranked : ℕ → List Laid → Type 0
+Ranked n all = AllByRecursion (λ laid. IsRanked n laid.mark) all
 
-mark_ranked : (n r : ℕ) (mark : Mark) → r < n → StandsAt r mark → IsRanked n mark
-mark_ranked n r (marks.Glyph glyph q dx dy) h at = subst (λ k. k < n) (sym at) h
-mark_ranked n r (marks.Words size q dx dy text) h at = subst (λ k. k < n) (sym at) h
-mark_ranked n r (marks.Stem q dx from to) h at = subst (λ k. k < n) (sym at) h
-mark_ranked n r (marks.Beam way first last from to) h at = absurd at
-mark_ranked n r (marks.Arc first last from to bulge) h at = absurd at
+-- a mark stands in the column of rank r
+abbrev pub HasRank : ℕ → List Laid → Type 0
+HasRank r xs = Contains (marks_ranks xs) r
 
-all_ranked : (n r : ℕ) (xs : List Laid) → r < n → AllAt r xs → AllRanked n xs
-all_ranked n r [] h at = tt
-all_ranked n r (x ∷ xs) h at = (mark_ranked n r x.mark h at.0, all_ranked n r xs h at.1)
+-- ---- what is drawn in one column
+ink_ranked : (n r : ℕ) (ink : Ink) → r < n → IsRanked n (ink_at r ink)
+ink_ranked n r (inks.Glyph glyph dx dy) less = less
+ink_ranked n r (inks.Words size dx dy text) less = less
+ink_ranked n r (inks.Stem dx from to) less = less
+
+drawn_ranked : (n r : ℕ) (ds : List Drawn) → r < n → Ranked n (map (drawn_at r) ds)
+drawn_ranked n r [] less = tt
+drawn_ranked n r (d ∷ ds) less = (ink_ranked n r d.ink less, drawn_ranked n r ds less)
+
+ink_anchored : (r : ℕ) (d : Drawn) (more : List Laid) → HasRank r (drawn_at r d ∷ more)
+ink_anchored r d more = by d.ink
+  where
+    by : (ink : Ink) → HasRank r (drawn_at r (record { ink = ink; lane = d.lane }) ∷ more)
+    by (inks.Glyph glyph dx dy) = here r (marks_ranks more)
+    by (inks.Words size dx dy text) = here r (marks_ranks more)
+    by (inks.Stem dx from to) = here r (marks_ranks more)
+
+rank_left : (r : ℕ) (xs ys : List Laid) → HasRank r xs → HasRank r (xs ++ ys)
+rank_left r xs ys h =
+    subst (λ t. Contains t r) (sym (filter_map-append (λ laid. anchor_rank laid.mark) xs ys)) (Contains-append_left (marks_ranks xs) (marks_ranks ys) r h)
+
+rank_right : (r : ℕ) (xs ys : List Laid) → HasRank r ys → HasRank r (xs ++ ys)
+rank_right r xs ys h =
+    subst (λ t. Contains t r) (sym (filter_map-append (λ laid. anchor_rank laid.mark) xs ys)) (Contains-append_right (marks_ranks xs) (marks_ranks ys) r h)
 
 module _ (keys : List ColumnKey) where
-  abbrev Standing : List Laid → Type 0
-  Standing xs = AllRanked (length keys) xs
+  -- marks stand in the columns of some keys, each of which holds one of them
+  pub record Fill (ks : List ColumnKey) (xs : List Laid) : Type 0 where
+    pub ranked : AreAmong ks keys → Ranked (length keys) xs
+    pub anchored : (k : ColumnKey) → Contains ks k → HasRank (rank_of keys k) xs
 
-  two : (xs ys : List Laid) → Standing xs → Standing ys → Standing (xs ++ ys)
-  two xs ys p q = all_append (λ l. IsRanked (length keys) l.mark) xs ys p q
+  two : {ks ls : List ColumnKey} {xs ys : List Laid} → Fill ks xs → Fill ls ys → Fill (ks ++ ls) (xs ++ ys)
+  two {ks} {ls} {xs} {ys} p q = record {
+    ranked = λ among. all_append (λ l. IsRanked (length keys) l.mark) xs ys (p.ranked (among_left ks ls keys among)) (q.ranked (among_right ks ls keys among));
+    anchored = λ k has. elim (Contains-append_cases ks ls k has) [
+      | inl h ↦ rank_left (rank_of keys k) xs ys (p.anchored k h)
+      | inr h ↦ rank_right (rank_of keys k) xs ys (q.anchored k h)
+    ];
+  }
 
-  at_key : (k : ColumnKey) (xs : List Laid) → Contains keys k → AllAt (rank_of keys k) xs → Standing xs
-  at_key k xs has at = all_ranked (length keys) (rank_of keys k) xs (rank_inside keys k has) at
+  none : Fill [] []
+  none = record { ranked = λ among. tt; anchored = λ k has. let inside = has.1 in absurd (omega (arith, inside)) }
+
+  -- one column, if it has a mark
+  any : (key : ColumnKey) (ds : List Drawn) → Fill (if has_some ds then key ∷ [] else []) (map (drawn_at (rank_of keys key)) ds)
+  any key [] = none
+  any key (d ∷ ds) = record {
+    ranked = λ among. drawn_ranked (length keys) (rank_of keys key) (d ∷ ds) (rank_less keys key (among key (here key [])));
+    anchored = only;
+  }
+    where
+      only : (k : ColumnKey) → Contains (key ∷ []) k → HasRank (rank_of keys k) (map (drawn_at (rank_of keys key)) (d ∷ ds))
+      only k (zero, inside, is) = subst (λ k. HasRank (rank_of keys k) (map (drawn_at (rank_of keys key)) (d ∷ ds))) is (ink_anchored (rank_of keys key) d (map (drawn_at (rank_of keys key)) ds))
+      only k (suc i, inside, is) = absurd (omega (arith, inside))
+
+  one : (key : ColumnKey) (ds : List Drawn) → HasSome ds → Fill (key ∷ []) (map (drawn_at (rank_of keys key)) ds)
+  one key ds some = subst (λ b. Fill (if b then key ∷ [] else []) (map (drawn_at (rank_of keys key)) ds)) some (any key ds)
+
+  -- what else stands among the columns of the system
+  beside : {ks : List ColumnKey} {xs : List Laid} (ys : List Laid) → (AreAmong ks keys → Ranked (length keys) ys) → Fill ks xs → Fill ks (xs ++ ys)
+  beside {ks} {xs} ys h p = record {
+    ranked = λ among. all_append (λ l. IsRanked (length keys) l.mark) xs ys (p.ranked among) (h among);
+    anchored = λ k has. rank_left (rank_of keys k) xs ys (p.anchored k has);
+  }
 
   -- ---- events
-  change_ranked : (m : ℕ) (in_head : Bool) (e : DrawnEvent) → AreAmong (change_keys m e.tick in_head (has_old e) e.flat.event.changes) keys → Standing (change_part keys m in_head e)
-  change_ranked m true e among = tt
-  change_ranked m false e among = by (change_has_mark (has_old e) e.flat.event.changes) refl among
-    where
-      key : ColumnKey
-      key = key_at m e.tick classes.Change 0
+  change : (m : ℕ) (in_head : Bool) (e : DrawnEvent) → Fill (change_keys m e.tick in_head (has_old e) e.flat.event.changes) (change_part keys m in_head e)
+  change m true e = none
+  change m false e =
+      subst (λ b. Fill (if b then key_at m e.tick classes.Change 0 ∷ [] else []) (change_part keys m false e)) (change_has e.clef e.old e.flat.event.changes)
+      (any (key_at m e.tick classes.Change 0) (change_marks e.clef e.old e.flat.event.changes))
 
-      by : (c : Bool) → change_has_mark (has_old e) e.flat.event.changes ≡ c → AreAmong (if not false && c then key ∷ [] else []) keys → Standing (change_part keys m false e)
-      by true is among = at_key key (change_part keys m false e) (among key (here key [])) (change (rank_of keys key) e.clef e.old e.flat.event.changes)
-      by false is among = subst Standing (sym (change_none (rank_of keys key) e.clef e.old e.flat.event.changes is)) tt
+  graces : (m tick : ℕ) (clef : Clef) (group : Group) (i : ℕ) (gs : List Event) → Fill (grace_keys m tick i gs) (graces_from keys m tick clef group i gs)
+  graces m tick clef group i [] = none
+  graces m tick clef group i (g ∷ gs) =
+      two (one (key_at m tick classes.Grace i) (grace_marks clef group (i == 0) g) (grace_some clef group (i == 0) g)) (graces m tick clef group (i + 1) gs)
 
-  graces_ranked : (m tick : ℕ) (clef : Clef) (group : Group) (i : ℕ) (gs : List Event) → AreAmong (grace_keys m tick i gs) keys → Standing (graces_from keys m tick clef group i gs)
-  graces_ranked m tick clef group i [] among = tt
-  graces_ranked m tick clef group i (g ∷ gs) among =
-      let key = key_at m tick classes.Grace i in
-      let more = grace_keys m tick (i + 1) gs in
-      two (grace_marks (rank_of keys key) clef group (i == 0) g) (graces_from keys m tick clef group (i + 1) gs)
-      (at_key key (grace_marks (rank_of keys key) clef group (i == 0) g) (among key (here key more)) (grace (rank_of keys key) clef group (i == 0) g))
-      (graces_ranked m tick clef group (i + 1) gs (λ k h. among k (there k key more h)))
-
-  words_ranked : (m : ℕ) (room : Option Room) (e : DrawnEvent) → Contains keys (key_at m e.tick classes.Note 0) → Standing (words_part (note_rank keys m e) room e.flat)
-  words_ranked m None e has = tt
-  words_ranked m (Some room) e has =
-      let r = note_rank keys m e in
-      at_key (key_at m e.tick classes.Note 0) (words_part r (Some room) e.flat) has
-      (both r (syllables_from r room.low 1 e.flat.event.words) _ (syllables r room.low 1 e.flat.event.words) (texts r (text_place room) e.flat))
-
-  event_ranked : (room : Option Room) (m : ℕ) (in_head : Bool) (before after : ℕ) (e : DrawnEvent) → AreAmong (event_keys m e.tick in_head (has_old e) e.flat) keys → Standing (event_marks keys room m in_head before after e)
+  event : (room : Option Room) (m : ℕ) (in_head : Bool) (before after : ℕ) (e : DrawnEvent) → IsPlanOf e.flat.event e.plan → Fill (event_keys m e.tick in_head (has_old e) e.flat) (event_marks keys room m in_head before after e)
   unfolding event_marks
-  event_ranked room m in_head before after e among =
-      let key = key_at m e.tick classes.Note 0 in
-      let change_own = change_keys m e.tick in_head (has_old e) e.flat.event.changes in
-      let graces_own = grace_keys m e.tick 0 e.flat.graces in
-      let front = among_left (change_own ++ graces_own) (key ∷ []) keys among in
-      let has = among_right (change_own ++ graces_own) (key ∷ []) keys among key (here key []) in
-      let change = change_part keys m in_head e in
-      let graces = graces_part keys m e in
-      let own = note_part keys m before after e in
-      two (change ++ graces ++ own) (words_part (note_rank keys m e) room e.flat)
-      (two (change ++ graces) own
-      (two change graces (change_ranked m in_head e (among_left change_own graces_own keys front))
-      (graces_ranked m e.tick e.clef (group_of e.clef e.flat.graces e.flat.slash) 0 e.flat.graces (among_right change_own graces_own keys front)))
-      (at_key key own has (note (rank_of keys key) e.clef (pos 0) e.flat.event e.plan before after)))
-      (words_ranked m room e has)
+  event room m in_head before after e plan =
+      let key = note_key m e in
+      let front = change_keys m e.tick in_head (has_old e) e.flat.event.changes ++ grace_keys m e.tick 0 e.flat.graces in
+      beside (words_part (rank_of keys key) room e.flat)
+      (λ among. drawn_ranked (length keys) (rank_of keys key) (words_marks room e.flat) (rank_less keys key (among_right front (key ∷ []) keys among key (here key []))))
+      (two (two (change m in_head e) (graces m e.tick e.clef (group_of e.clef e.flat.graces e.flat.slash) 0 e.flat.graces))
+      (one key (note_marks e.clef (pos 0) e.flat.event e.plan before after) (note_some e.clef (pos 0) e.flat.event e.plan before after plan)))
 
-  events_ranked : (room : Option Room) (m : ℕ) (in_head : Bool) (group flags : ℕ) (es : List DrawnEvent) → AreAmong (events_columns m in_head es) keys → Standing (events_marks keys room m in_head group flags es)
-  events_ranked room m in_head group flags [] among = tt
-  events_ranked room m in_head group flags (e ∷ es) among =
-      let own = event_keys m e.tick in_head (has_old e) e.flat in
-      let more = events_columns m false es in
-      two (event_marks keys room m in_head (levels_in e.plan group flags) (levels_behind e.plan es) e) (events_marks keys room m false e.plan.group e.plan.flags es)
-      (event_ranked room m in_head (levels_in e.plan group flags) (levels_behind e.plan es) e (among_left own more keys among))
-      (events_ranked room m false e.plan.group e.plan.flags es (among_right own more keys among))
+  events : (room : Option Room) (m : ℕ) (in_head : Bool) (group flags : ℕ) (es : List DrawnEvent) → ArePlanned es → Fill (events_columns m in_head es) (events_marks keys room m in_head group flags es)
+  events room m in_head group flags [] plans = none
+  events room m in_head group flags (e ∷ es) plans =
+      two (event room m in_head (levels_in e.plan group flags) (levels_behind e.plan es) e plans.0) (events room m false e.plan.group e.plan.flags es plans.1)
 
   -- ---- measures
-  bar_ranked : (lengths : List ℕ) (m : ℕ) (d : DrawnMeasure) → Contains keys (bar_of lengths m) → Standing (bar_part keys lengths m d)
-  bar_ranked lengths m d has = at_key (bar_of lengths m) (bar_part keys lengths m d) has (bar (rank_of keys (bar_of lengths m)) d.bar)
+  measures : (lengths : List ℕ) (room : Option Room) (m : ℕ) (in_head : Bool) (ds : List DrawnMeasure) → AllByRecursion (λ d. ArePlanned d.events) ds → Fill (measures_columns lengths m in_head ds) (measures_marks keys lengths room m in_head ds)
+  measures lengths room m in_head [] plans = none
+  measures lengths room m in_head (d ∷ ds) plans =
+      let bar = bar_key lengths m in
+      subst (λ ks. Fill ks (measures_marks keys lengths room m in_head (d ∷ ds))) (append_assoc (events_columns m in_head d.events) (bar ∷ []) (measures_columns lengths (m + 1) false ds))
+      (two (two (events room m in_head 0 0 d.events plans.0) (one bar (bar_marks d.bar) (bar_some d.bar))) (measures lengths room (m + 1) false ds plans.1))
 
-  measures_ranked : (lengths : List ℕ) (room : Option Room) (m : ℕ) (in_head : Bool) (ds : List DrawnMeasure) → AreAmong (measures_columns lengths m in_head ds) keys → Standing (measures_marks keys lengths room m in_head ds)
-  measures_ranked lengths room m in_head [] among = tt
-  measures_ranked lengths room m in_head (d ∷ ds) among =
-      let events = events_marks keys room m in_head 0 0 d.events in
-      let own = bar_part keys lengths m d in
-      let key = bar_of lengths m in
-      let more = measures_columns lengths (m + 1) false ds in
-      let behind = among_right (events_columns m in_head d.events) (key ∷ more) keys among in
-      two (events ++ own) (measures_marks keys lengths room (m + 1) false ds)
-      (two events own (events_ranked room m in_head 0 0 d.events (among_left (events_columns m in_head d.events) (key ∷ more) keys among)) (bar_ranked lengths m d (behind key (here key more))))
-      (measures_ranked lengths room (m + 1) false ds (λ k h. behind k (there k key more h)))
+  head : (a : ℕ) (ds : List DrawnMeasure) → 1 ≤ length ds → Fill (head_key a ∷ []) (head_part keys a ds)
+  head a [] some = absurd (omega (arith, some))
+  head a (d ∷ ds) some = one (head_key a) (head_marks d.opening.clef d.opening.key.signs (meter_shown a d.opening)) (head_some d.opening.clef d.opening.key.signs (meter_shown a d.opening))
 
-  head_ranked : (a : ℕ) (ds : List DrawnMeasure) → Contains keys (key_at a 0 classes.Head 0) → Standing (head_part keys a ds)
-  head_ranked a [] has = tt
-  head_ranked a (d ∷ ds) has =
-      let key = key_at a 0 classes.Head 0 in
-      at_key key (head_part keys a (d ∷ ds)) has (head (rank_of keys key) d.opening.clef d.opening.key.signs (meter_shown a d.opening))
-
-  first_ranked : (a : ℕ) (b : Bar) → AreAmong (first_keys a b) keys → Standing (first_part keys a b)
-  first_ranked a b among = by ((a == 0) && has_features b) among
+  first : (a : ℕ) (b : Bar) → Fill (first_keys a b) (first_part keys a b)
+  first a b = by ((a == 0) && has_features b)
     where
       key : ColumnKey
       key = key_at 0 0 classes.First 0
 
-      by : (c : Bool) → AreAmong (if c then key ∷ [] else []) keys → Standing (if c then bar_marks (rank_at keys 0 0 classes.First 0) b else [])
-      by true among = at_key key (bar_marks (rank_of keys key) b) (among key (here key [])) (bar (rank_of keys key) b)
-      by false among = tt
+      by : (c : Bool) → Fill (if c then key ∷ [] else []) (if c then map (drawn_at (rank_of keys key)) (bar_marks b) else [])
+      by true = one key (bar_marks b) (bar_some b)
+      by false = none
 
-  -- ---- the columns of a voice
-  part_ranked : (lengths : List ℕ) (room : Option Room) (a b : ℕ) (v : DrawnVoice) → AreAmong (voice_columns lengths a b v) keys → Standing (columns_part keys lengths room a v.first (slice_range v.measures a b))
+  -- ---- a voice
+  columns : (lengths : List ℕ) (room : Option Room) (a b : ℕ) (v : DrawnVoice) → a < b → b ≤ length v.measures → AllByRecursion (λ d. ArePlanned d.events) v.measures
+      → Fill (voice_columns lengths a b v) (columns_part keys lengths room a v.first (slice_range v.measures a b))
   unfolding columns_part
-  part_ranked lengths room a b v among =
+  columns lengths room a b v order within plans =
       let ds = slice_range v.measures a b in
-      let key = key_at a 0 classes.Head 0 in
-      let first = first_keys a v.first in
-      let more = measures_columns lengths a true ds in
-      let front = among_left (key ∷ first) more keys among in
-      two (head_part keys a ds ++ first_part keys a v.first) (measures_marks keys lengths room a true ds)
-      (two (head_part keys a ds) (first_part keys a v.first) (head_ranked a ds (front key (here key first))) (first_ranked a v.first (λ k h. front k (there k key first h))))
-      (measures_ranked lengths room a true ds (among_right (key ∷ first) more keys among))
+      let taken = length-take (b - a) (drop a v.measures) in
+      let behind = length-drop a v.measures in
+      let some : 1 ≤ length ds = omega (arith, taken, behind, order, within) in
+      let sliced = all_take (λ d. ArePlanned d.events) (b - a) (drop a v.measures) (all_drop (λ d. ArePlanned d.events) a v.measures plans) in
+      two (two (head a ds some) (first a v.first)) (measures lengths room a true ds sliced)
 
-pub columns_ranked : (s : Score) (a b : ℕ) (m : SystemMarks) → IsGoodScore s → a < b → b ≤ s.measures → IsCall s (timeline_of s) a b m
-    → All (λ v. (room : Option Room) → AreRanked (length m.keys) (columns_part m.keys (timeline_of s).lengths room a (drawn_voice v).first (slice_range (drawn_voice v).measures a b))) s.voices
-columns_ranked s a b m good order within call k d inside room =
-    let v = drawn_voice (slice_index_or s.voices k d) in
-    let lengths = (timeline_of s).lengths in
-    All-from_recursion (λ l. IsRanked (length m.keys) l.mark) (columns_part m.keys lengths room a v.first (slice_range v.measures a b))
-    (part_ranked m.keys lengths room a b v (voices_inside s lengths a b m.keys call.keys k d inside))
+  -- beams and arcs stand beside the marks of columns
+  marks : (lengths : List ℕ) (room : Option Room) (a b : ℕ) (v : DrawnVoice) → a < b → b ≤ length v.measures → AllByRecursion (λ d. ArePlanned d.events) v.measures
+      → Ranked (length keys) (map (bridge_at keys) (bridges_of lengths a b v)) → Fill (voice_columns lengths a b v) (voice_marks keys lengths room a b v)
+  unfolding voice_marks
+  marks lengths room a b v order within plans bridges =
+      beside (map (bridge_at keys) (bridges_of lengths a b v)) (λ among. bridges) (columns lengths room a b v order within plans)
+
+  -- the columns of a staff are those that its voice calls for
+  pub staff_fills : (lengths : List ℕ) (a b : ℕ) (v : Voice) → a < b → b ≤ length v.measures → Ranked (length keys) (map (bridge_at keys) (bridges_of lengths a b (drawn_voice v)))
+      → Fill (voice_keys lengths a b v) (staff_of keys lengths a b v).marks
+  unfolding staff_marks staff_over
+  staff_fills lengths a b v order within bridges =
+      let count = voice_count v in
+      subst (λ ks. Fill ks (staff_of keys lengths a b v).marks) (sym (voice_same lengths a b v)) (marks lengths _ a b (drawn_voice v) order (omega (arith, within, count)) (voice_planned v) bridges)

@@ -2,13 +2,14 @@
 //!
 //! Layout: `place`, `fit`, `within`, `set` and `last` on plain columns, `badness F`, `least` on a table of costs,
 //! `check` on a listing. Pages: `stack` and `fill H`; `glyphs`; `glyph`, `words`, `stem`, `beam` and `arc` with a
-//! mark's numbers, `read Y` on lines of marks; `document`, `steps` and `whole`, `pages` and `page`. The program:
-//! `commands`, `make N`. Streams: `source`, `sink`, `streams`.
+//! mark's numbers, `read Y` on lines of marks; `document`, `steps` and `whole`, `pages` and `page`, `hear W` and
+//! `hear W PLACE`. The program: `commands`, `make N`. Streams: `source`, `sink`, `streams`.
 
 use crate::blocks::{put_fill, put_stack};
 use crate::commands::{put_commands, put_made};
 use crate::documents::{put_document, put_pages, put_written};
 use crate::glyphs::put_glyphs;
+use crate::hearing::put_hearing;
 use crate::listings::put_verdicts;
 use crate::ops::{put_mark, put_read};
 use crate::plain::{put_badness, put_plain};
@@ -45,6 +46,7 @@ fn put_page_call(alloc: Global, out: &mut Text, call: Call<'_>, text: &str) -> R
         b"whole" => put_written(alloc, out, call.rest, true),
         b"page" => put_pages(alloc, out, true, text),
         b"pages" => put_pages(alloc, out, false, text),
+        b"hear" => put_hearing(alloc, out, call.rest, text),
         b"source" => put_source(alloc, out, call.rest, text),
         b"sink" => put_sink(alloc, out, call.rest, text),
         b"streams" => put_streams(alloc, out, text),

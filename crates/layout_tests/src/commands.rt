@@ -39,6 +39,7 @@ fn put_command(out: &mut Text, command: Command) -> Result<(), Memory> {
         }
         Command::Inspect => put_word(out, b"inspect"),
         Command::Check => put_word(out, b"check"),
+        Command::Paint => put_word(out, b"paint"),
         Command::Make { tunes } => {
             put_word(out, b"make")?;
             put_number(out, i64::from(tunes))

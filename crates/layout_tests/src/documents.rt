@@ -17,7 +17,7 @@ use std::alloc::Global;
 const END_OF_PROLOG: &[u8] = b"%%EndProlog\n";
 
 /// The paper of the documents that are written and read.
-fn paper() -> Frame
+pub(crate) fn paper() -> Frame
     ensures { result ≡ record { wide = 595; high = 842; left = 5100; bottom = 2800; scale = 100 } }
 {
     Frame {

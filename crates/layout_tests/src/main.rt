@@ -9,6 +9,7 @@ mod calls;
 mod commands;
 mod documents;
 mod glyphs;
+mod hearing;
 mod laws;
 mod listings;
 mod ops;

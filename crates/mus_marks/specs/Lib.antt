@@ -1,6 +1,5 @@
 pub mod Arcs
 pub mod Bridges
 pub mod Events
-pub mod Sounds
 pub mod Staff
 pub mod System

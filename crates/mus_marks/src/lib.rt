@@ -1,6 +1,5 @@
 //! The marks that a score calls for in a system: for each staff those of its columns, its beams and
-//! its arcs, each with the rank of its column, and how low and how high they reach. And how the heads
-//! of a score sound.
+//! its arcs, each with the rank of its column, and how low and how high they reach.
 #![tactic(auto)]
 
 pub mod arcs;
@@ -8,11 +7,10 @@ pub mod beams;
 pub mod bridges;
 pub mod events;
 pub mod measures;
-pub mod sounds;
 pub mod staves;
 pub mod systems;
 
 pub use events::Room;
 pub use measures::{put_columns_part, put_measures};
-pub use sounds::{Sound, sounding};
+pub use mus_drawn::{Sound, sounding};
 pub use systems::{draw_voices, marks, marks_of};

@@ -14,7 +14,7 @@ use Rattle.ps_steps.specs.declared.paint.Paint.{Paint}
 use Rattle.ps_steps.specs.declared.paint.Paint.TheVariants as paints
 use Rattle.ps_steps.specs.declared.paint.PagePaint.{PagePaint}
 
--- numbers, a space before each
+-- numbers in decimal, a space before each
 unfoldable pub spaced : List ℤ → List ℕ
 spaced zs = flat_map (λ z. 32 ∷ signed_decimal z) zs
 

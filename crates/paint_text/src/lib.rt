@@ -6,4 +6,4 @@ pub mod halted;
 pub mod painted;
 
 pub use halted::put_halt;
-pub use painted::put_pages;
+pub use painted::{put_pages, put_spaced};

@@ -19,7 +19,7 @@ fn put_spaced_one(out: &mut Text, number: i64) -> Result<(), Memory>
     out.append(buffer.format(number).as_bytes())
 }
 
-/// Adds numbers, a space before each.
+/// Adds numbers in decimal, a space before each. At an error a part of it was added.
 #[tactic(auto, unfolding(crate::specs::PaintText::spaced))]
 pub fn put_spaced(out: &mut Text, numbers: &[i64]) -> Result<(), Memory>
     ensures { OnOk result (out.new ≡ out.old ++ spaced numbers.now) }

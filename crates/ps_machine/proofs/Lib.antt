@@ -1,5 +1,6 @@
 pub mod Did
 pub mod Loop
-pub mod Frames
 pub mod NamesLemmas
 pub mod Six
+mod OneAnswer
+mod Sheets

@@ -2,3 +2,5 @@ pub mod Naming
 pub mod Pending
 pub mod Doing
 pub mod Nexts
+pub mod OneAnswer
+pub mod Sheets

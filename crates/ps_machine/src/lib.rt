@@ -8,6 +8,7 @@ pub mod definitions;
 pub mod drawing;
 pub mod execute;
 pub mod fonts;
+pub mod laws;
 pub mod operands;
 pub mod operators;
 pub mod run;
@@ -15,5 +16,6 @@ pub mod scaling;
 pub mod showing;
 pub mod state;
 
+pub use laws::one_answer;
 pub use ps_steps::{Cause, MachineError, PagePaint, Paint, Seg};
 pub use run::run_machine;

@@ -5,12 +5,15 @@ ghost use Rattle.ps_steps.specs.State.{first_state};
 ghost use Rattle.ps_steps.specs.Steps.{Paints, IsHalt};
 ghost use Rattle.ps_machine.specs.Doing.{state_of};
 ghost use Rattle.ps_machine.specs.Nexts.{IsFirst, IsNext};
+ghost use Rattle.ps_machine.specs.Sheets.{GivesItsSheet};
 
 use crate::calls::Calls;
 use crate::definitions::Definitions;
 use crate::execute::{Ready, execute};
+use crate::laws::one_answer;
 use crate::state::{Machine, Stop};
 use mus_units::{Memory, Row};
+use ps_paint::paints_sheets;
 use ps_steps::{Cause, Graphics, MachineError, Number, PagePaint, Path, Token};
 use ps_tokens::read_program;
 use std::alloc::Global;
@@ -67,12 +70,8 @@ fn coming<'a>(calls: &mut Calls<'a>, tokens: &'a [Token]) -> Result<Next<'a>, Me
     }
 }
 
-/// Runs the bytes of a text: executes its tokens, at most `budget` of them, and
-/// gives what was painted on each page, in 1/10000 point. Halt comes exactly at
-/// the first token where the run can't go on, with the first cause that holds
-/// there: bytes that begin no token, then a budget that is used up, then what
-/// keeps the token from being executed. Memory says nothing of the text.
-pub fn run_machine(alloc: Global, b: &[u8], budget: u64) -> Result<Row<PagePaint>, MachineError>
+/// Runs the bytes of a text: executes its tokens, at most `budget` of them.
+fn run_bytes(alloc: Global, b: &[u8], budget: u64) -> Result<Row<PagePaint>, MachineError>
     ensures painted { IfOk result (λ pages. Paints b.now budget pages) }
     ensures halted { IfErr result (λ e. IsHalt b.now budget e) }
 {
@@ -108,4 +107,22 @@ pub fn run_machine(alloc: Global, b: &[u8], budget: u64) -> Result<Row<PagePaint
             }
         }
     }
+}
+
+/// Runs the bytes of a text: executes its tokens, at most `budget` of them, and
+/// gives what was painted on each page, in 1/10000 point. Halt comes exactly at
+/// the first token where the run can't go on, with the first cause that holds
+/// there: bytes that begin no token, then a budget that is used up, then what
+/// keeps the token from being executed. Memory says nothing of the text.
+///
+/// A document with a budget of at least 100 tokens for each of its bytes gives
+/// what its sheet paints, and no Halt.
+pub fn run_machine(alloc: Global, b: &[u8], budget: u64) -> Result<Row<PagePaint>, MachineError>
+    ensures painted { IfOk result (λ pages. Paints b.now budget pages) }
+    ensures halted { IfErr result (λ e. IsHalt b.now budget e) }
+    ensures sheet { GivesItsSheet b.now budget result }
+{
+    paints_sheets();
+    one_answer();
+    run_bytes(alloc, b, budget)
 }

@@ -1,5 +1,5 @@
 -- Steps and further steps.
-use Rattle.std.proofs.Common.{◌≡◌, ℕ, zero, suc, ◌+◌, List}
+use Rattle.std.proofs.Common.{ℕ, ◌+◌, List}
 use Rattle.std.proofs.Math.Nat.{zero-add, suc-add}
 use Rattle.ps_steps.specs.Tokens.{Simple}
 use Rattle.ps_steps.specs.State.{State}

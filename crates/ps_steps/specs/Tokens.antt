@@ -4,7 +4,8 @@
 -- with a point, such a number followed by a point and two digits; or a name, a letter and then letters and digits. A
 -- slash and a name are a label. A string is spelled in parentheses, as a page spells words. The line that makes the font
 -- is one token. A procedure from its `{` to its `}` is one token, and has no other procedure in it.
-use Rattle.std.specs.Prelude.{◌≡◌, ℕ, suc, ℤ, pos, negsuc, neg_ℤ, ◌+◌, ◌-◌, ◌≤◌, Bool, true, false, ◌&&◌, ◌||◌, not, ◌==◌, nat_le, IsTrue, if◌then◌else◌, List, [], ◌∷◌, ◌++◌, length, take, drop, codes, Option, Some, None}
+use Prim.Native.Char.{code}
+use Rattle.std.specs.Prelude.{◌≡◌, ℕ, ℤ, pos, neg_ℤ, ◌-◌, ◌≤◌, Bool, true, false, ◌&&◌, ◌||◌, not, ◌==◌, IsTrue, if◌then◌else◌, List, [], ◌∷◌, ◌++◌, length, take, drop, codes, Option, Some, None}
 use Rattle.std.specs.List.{list_all, flat_map}
 use Rattle.std.specs.Str.Parse.{digits_value}
 use Rattle.mus_units.specs.Bytes.{is_digit, is_letter}
@@ -20,11 +21,11 @@ use Rattle.ps_steps.specs.declared.halt.Cause.TheVariants as causes
 
 -- space, tab, CR and LF
 abbrev pub is_blank : ℕ → Bool
-is_blank b = (b == 32) || (b == 9) || (b == 13) || (b == 10)
+is_blank b = (b == code " ") || (b == code "\t") || (b == code "\r") || (b == code "\n")
 
 -- ( ) { } / and %
 abbrev pub is_delimiter : ℕ → Bool
-is_delimiter b = (b == 40) || (b == 41) || (b == 123) || (b == 125) || (b == 47) || (b == 37)
+is_delimiter b = (b == code "(") || (b == code ")") || (b == code "{") || (b == code "}") || (b == code "/") || (b == code "%")
 
 -- a byte of a word
 abbrev pub is_regular : ℕ → Bool
@@ -32,14 +33,14 @@ is_regular b = not (is_blank b || is_delimiter b)
 
 -- blanks are passed over, and a % begins a comment
 abbrev pub is_skipped : ℕ → Bool
-is_skipped b = is_blank b || (b == 37)
+is_skipped b = is_blank b || (b == code "%")
 
 -- a text without the blanks and comments at its front; the flag says that it begins within a comment, which ends before
 -- the next LF
 abbrev pub passed : Bool → List ℕ → List ℕ
 passed inside [] = []
-passed true (b ∷ s) = elim (b == 10) [ true ↦ passed false s | false ↦ passed true s ]
-passed false (b ∷ s) = elim (is_blank b) [ true ↦ passed false s | false ↦ elim (b == 37) [ true ↦ passed true s | false ↦ b ∷ s ] ]
+passed true (b ∷ s) = elim (b == code "\n") [ true ↦ passed false s | false ↦ passed true s ]
+passed false (b ∷ s) = elim (is_blank b) [ true ↦ passed false s | false ↦ elim (b == code "%") [ true ↦ passed true s | false ↦ b ∷ s ] ]
 
 -- the line that makes the font, one token
 abbrev pub font_line : List ℕ
@@ -52,14 +53,14 @@ some_digits (b ∷ w) = list_all is_digit (b ∷ w)
 -- a word without a minus in front
 abbrev pub unsigned : List ℕ → List ℕ
 unsigned [] = []
-unsigned (b ∷ w) = if b == 45 then w else b ∷ w
+unsigned (b ∷ w) = if b == code "-" then w else b ∷ w
 
 abbrev pub is_whole : List ℕ → Bool
 is_whole w = some_digits (unsigned w)
 
 -- digits, a point and two digits: the part before the last three bytes, and those
 abbrev pub is_fraction : List ℕ → Bool
-is_fraction (p ∷ a ∷ b ∷ []) = (p == 46) && is_digit a && is_digit b
+is_fraction (p ∷ a ∷ b ∷ []) = (p == code ".") && is_digit a && is_digit b
 is_fraction _ = false
 
 abbrev pub is_pointed : List ℕ → Bool
@@ -82,7 +83,7 @@ pointed_number z = if is_near_hundredths z then pointed_token z else far_token
 
 abbrev pub has_minus : List ℕ → Bool
 has_minus [] = false
-has_minus (b ∷ w) = b == 45
+has_minus (b ∷ w) = b == code "-"
 
 -- the number that an optional minus and digits write
 abbrev pub number_of : List ℕ → ℤ
@@ -114,7 +115,7 @@ pub record IsWord (s w rest : List ℕ) : Type 0 where
 -- behind a `(`, words as they are spelled in a line of a page, and a `)`
 pub record IsString (s words rest : List ℕ) : Type 0 where
   pub good : IsTrue (list_all is_shown words)
-  pub spelled : s ≡ flat_map shown words ++ 41 ∷ rest
+  pub spelled : s ≡ flat_map shown words ++ code ")" ∷ rest
 
 -- all bytes to the end are the beginning of some string
 pub record IsOpen (s : List ℕ) : Type 0 where
@@ -122,7 +123,7 @@ pub record IsOpen (s : List ℕ) : Type 0 where
   pub first : ℕ
   pub more : List ℕ
   pub good : IsTrue (list_all is_shown words)
-  pub spelled : s ++ first ∷ more ≡ flat_map shown words ++ 41 ∷ []
+  pub spelled : s ++ first ∷ more ≡ flat_map shown words ++ code ")" ∷ []
 
 -- what stands at the front
 pub data Read : Type 0 where
@@ -137,14 +138,14 @@ IsFont s rest = s ≡ font_line ++ rest
 -- what stands at the front of a text that begins with no blank and no comment
 pub data Front (s : List ℕ) : Read → Type 0 where
   font_front : (rest : List ℕ) → IsFont s rest → Front s (found font_token rest)
-  label_front : (t w rest : List ℕ) → s ≡ 47 ∷ t → ((r : List ℕ) → IsFont s r → ⊥) → IsWord t w rest → is_name w ≡ true → Front s (found (label_token w) rest)
-  no_label : (t : List ℕ) → s ≡ 47 ∷ t → ((r : List ℕ) → IsFont s r → ⊥) → ((w rest : List ℕ) → IsWord t w rest → is_name w ≡ true → ⊥) → Front s (unread causes.BadToken)
-  string_front : (t words rest : List ℕ) → s ≡ 40 ∷ t → IsString t words rest → Front s (found (words_token words) rest)
-  open_string : (t : List ℕ) → s ≡ 40 ∷ t → IsOpen t → Front s (unread causes.Unclosed)
-  no_string : (t : List ℕ) → s ≡ 40 ∷ t → ((words rest : List ℕ) → IsString t words rest → ⊥) → (IsOpen t → ⊥) → Front s (unread causes.BadToken)
-  opening_front : (rest : List ℕ) → s ≡ 123 ∷ rest → Front s (opening rest)
-  closing_front : (rest : List ℕ) → s ≡ 125 ∷ rest → Front s (closing rest)
-  stray : (rest : List ℕ) → s ≡ 41 ∷ rest → Front s (unread causes.BadToken)
+  label_front : (t w rest : List ℕ) → s ≡ code "/" ∷ t → ((r : List ℕ) → IsFont s r → ⊥) → IsWord t w rest → is_name w ≡ true → Front s (found (label_token w) rest)
+  no_label : (t : List ℕ) → s ≡ code "/" ∷ t → ((r : List ℕ) → IsFont s r → ⊥) → ((w rest : List ℕ) → IsWord t w rest → is_name w ≡ true → ⊥) → Front s (unread causes.BadToken)
+  string_front : (t words rest : List ℕ) → s ≡ code "(" ∷ t → IsString t words rest → Front s (found (words_token words) rest)
+  open_string : (t : List ℕ) → s ≡ code "(" ∷ t → IsOpen t → Front s (unread causes.Unclosed)
+  no_string : (t : List ℕ) → s ≡ code "(" ∷ t → ((words rest : List ℕ) → IsString t words rest → ⊥) → (IsOpen t → ⊥) → Front s (unread causes.BadToken)
+  opening_front : (rest : List ℕ) → s ≡ code "{" ∷ rest → Front s (opening rest)
+  closing_front : (rest : List ℕ) → s ≡ code "}" ∷ rest → Front s (closing rest)
+  stray : (rest : List ℕ) → s ≡ code ")" ∷ rest → Front s (unread causes.BadToken)
   word_front : (w rest : List ℕ) (t : Simple) → IsWord s w rest → word_token w ≡ Some t → Front s (found t rest)
   no_word : (w rest : List ℕ) → IsWord s w rest → word_token w ≡ None → Front s (unread causes.BadToken)
 

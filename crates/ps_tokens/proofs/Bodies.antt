@@ -9,9 +9,6 @@ pub record BodyStage (bytes : List ℕ) (so_far : List Simple) (rest : List ℕ)
   pub body : (ts : List Simple) (after : List ℕ) → Body rest ts after → Body bytes (so_far ++ ts) after
   pub none : (cause : Cause) → NoBody rest cause → NoBody bytes cause
 
-pub body_begins : (bytes : List ℕ) → BodyStage bytes [] bytes
-body_begins bytes = record { body = λ ts after b. b; none = λ cause n. n }
-
 pub body_more : (bytes rest here after : List ℕ) (so_far : List Simple) (t : Simple) → here ≡ passed false rest → Front here (found t after) → BodyStage bytes so_far rest → BodyStage bytes (so_far ++ t ∷ []) after
 body_more bytes rest here after so_far t e f s =
     let g = rw e at f in

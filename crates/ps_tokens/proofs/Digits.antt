@@ -1,5 +1,5 @@
 -- Digits as a number.
-use Rattle.std.proofs.Common.{◌≡◌, ℕ, suc, ◌+◌, ◌-◌, ◌*◌, ◌&&◌, ◌<◌, ◌≤◌, ◌^◌, Bool, true, false, cond, List, [], ◌∷◌, ◌++◌, length, take, drop, drop-drop, length-drop, length-append, Option, Some, None, refl, sym, subst, ◌∙◌, ap, arith, inl, inr}
+use Rattle.std.proofs.Common.{◌≡◌, ℕ, ◌-◌, ◌&&◌, ◌<◌, ◌≤◌, ◌^◌, true, false, List, [], ◌∷◌, length, take, drop, drop-drop, length-drop, length-append, Option, refl, sym, ◌∙◌, ap, arith, inl, inr}
 use Rattle.std.specs.Prelude.{Result, Ok, Err, MatchOption, ◌==◌}
 use Rattle.std.specs.Result.{result_ok}
 use Rattle.std.specs.List.{list_all}

@@ -7,3 +7,4 @@ pub mod Strings
 pub mod Spellings
 pub mod Words
 pub mod Programs
+mod OneToken

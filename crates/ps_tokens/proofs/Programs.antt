@@ -1,5 +1,5 @@
 -- How the reading of a text goes on.
-use Rattle.std.proofs.Common.{◌≡◌, ℕ, false, List, [], ◌∷◌, ◌++◌, append_assoc, append-nil, Option, Some, None, refl}
+use Rattle.std.proofs.Common.{◌≡◌, ℕ, false, List, [], ◌∷◌, ◌++◌, append_assoc, append-nil, Option, Some, None}
 use Rattle.ps_steps.specs.declared.halt.Cause.{Cause}
 use Rattle.ps_steps.specs.Tokens.{TokenAt, NoToken, passed, begins, is_skipped}
 use Rattle.ps_steps.specs.declared.token.Token.{Token}
@@ -9,9 +9,6 @@ use Rattle.ps_tokens.specs.Programs.{IsRead, all_read, fault_read, token_read}
 pub record ProgramStage (text : List ℕ) (so_far : List Token) (rest : List ℕ) : Type 0 where
   pub more : (ts : List Token) (fault : Option Cause) → IsRead rest ts fault → IsRead text (so_far ++ ts) fault
   pub starts : begins is_skipped rest ≡ false
-
-pub program_begins : (text rest : List ℕ) (so_far : List Token) → so_far ≡ [] → rest ≡ text → begins is_skipped rest ≡ false → ProgramStage text so_far rest
-program_begins text rest so_far e f s = rw e (record { more = λ ts fault r. rw f at r; starts = s })
 
 pub program_more : (text rest r after : List ℕ) (so_far : List Token) (t : Token) → ProgramStage text so_far rest → TokenAt rest t r → after ≡ passed false r → begins is_skipped after ≡ false → ProgramStage text (so_far ++ t ∷ []) after
 program_more text rest r after so_far t p h e s = record {

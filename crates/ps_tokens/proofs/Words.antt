@@ -15,9 +15,6 @@ pub record WordsStage (bytes words rest : List ℕ) : Type 0 where
   pub good : IsTrue (list_all is_shown words)
   pub spelled : bytes ≡ flat_map shown words ++ rest
 
-pub words_begin : (bytes : List ℕ) → WordsStage bytes [] bytes
-words_begin bytes = record { good = refl; spelled = refl }
-
 all_more : (words : List ℕ) (b : ℕ) → IsTrue (list_all is_shown words) → IsTrue (is_shown b) → IsTrue (list_all is_shown (words ++ b ∷ []))
 all_more words b h k = list_all-append is_shown words (b ∷ []) ∙ rw (h, k) refl
 
@@ -61,32 +58,3 @@ words_no_string bytes words rest s i v q j =
 pub words_no_open : (bytes words rest : List ℕ) → WordsStage bytes words rest → IsBroken rest → IsOpen bytes → ⊥
 words_no_open bytes words rest s i o =
     no_words words o.words rest (o.first ∷ o.more) [] s.good o.good i (sym (append_assoc (flat_map shown words) rest (o.first ∷ o.more)) ∙ (ap (λ x. x ++ o.first ∷ o.more) (sym s.spelled) ∙ o.spelled))
-
--- a byte, a closing parenthesis, a beginning and a break exclude one another, and a byte is read in one way
-pub byte_once : (s : List ℕ) (b c : ℕ) (r q : List ℕ) → IsByte s b r → IsByte s c q → (b ≡ c) × (r ≡ q)
-byte_once s b c r q i j = one_byte b c r q i.good j.good (sym i.spelled ∙ j.spelled)
-
-pub byte_not_close : (s : List ℕ) (b : ℕ) (r q : List ℕ) → IsByte s b r → s ≡ 41 ∷ q → ⊥
-byte_not_close s b r q i e = not_close b r q i.good (sym i.spelled ∙ e)
-
-nil_cons : (xs : List ℕ) (x : ℕ) (ys : List ℕ) → xs ++ x ∷ ys ≡ [] → ⊥
-nil_cons [] x ys e = cc
-nil_cons (z ∷ xs) x ys e = cc
-
-pub byte_not_cut : (s : List ℕ) (b : ℕ) (r : List ℕ) → IsByte s b r → IsCut s → ⊥
-byte_not_cut s b r i c =
-    let e : shown b ++ (r ++ c.first ∷ c.more) ≡ shown c.byte ++ [] =
-    sym (append_assoc (shown b) r (c.first ∷ c.more)) ∙ (ap (λ x. x ++ c.first ∷ c.more) (sym i.spelled) ∙ (c.spelled ∙ sym (append-nil (shown c.byte)))) in
-    nil_cons r c.first c.more (one_byte b c.byte (r ++ c.first ∷ c.more) [] i.good c.good e).1
-
-pub byte_not_broken : (s : List ℕ) (b : ℕ) (r : List ℕ) → IsByte s b r → IsBroken s → ⊥
-byte_not_broken s b r i n = n.no_byte b [] r i.good (append-nil s ∙ i.spelled)
-
-pub close_not_cut : (s r : List ℕ) → s ≡ 41 ∷ r → IsCut s → ⊥
-close_not_cut s r e c = not_close c.byte [] (r ++ c.first ∷ c.more) c.good (append-nil (shown c.byte) ∙ (sym c.spelled ∙ ap (λ x. x ++ c.first ∷ c.more) e))
-
-pub close_not_broken : (s r : List ℕ) → s ≡ 41 ∷ r → IsBroken s → ⊥
-close_not_broken s r e n = n.no_close [] r (append-nil s ∙ e)
-
-pub cut_not_broken : (s : List ℕ) → IsCut s → IsBroken s → ⊥
-cut_not_broken s c n = n.no_byte c.byte (c.first ∷ c.more) [] c.good (c.spelled ∙ sym (append-nil (shown c.byte)))

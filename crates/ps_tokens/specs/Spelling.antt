@@ -1,5 +1,7 @@
 -- One byte as words spell it.
-use Rattle.std.specs.Prelude.{◌≡◌, ℕ, Bool, ◌&&◌, not, nat_le, IsTrue, List, ◌∷◌, ◌++◌}
+use Prim.Native.Char.{code}
+use Rattle.std.specs.Prelude.{◌≡◌, ℕ, Bool, ◌&&◌, not, IsTrue, List, ◌∷◌, ◌++◌, codes}
+use Rattle.mus_units.specs.Bytes.{is_within}
 use Rattle.ps_text.specs.Fields.{is_special, shown}
 use Rattle.ps_text.specs.Range.{is_shown}
 use Rattle.ps_tokens.specs.declared.string.Spelling.{Spelling}
@@ -7,14 +9,14 @@ use Rattle.ps_tokens.specs.declared.string.Spelling.TheVariants as spellings
 
 -- a byte that stands for itself
 abbrev pub is_bare : ℕ → Bool
-is_bare b = nat_le 32 b && nat_le b 126 && not (is_special b)
+is_bare b = is_within (codes " ~") b && not (is_special b)
 
 -- 2 or 3, the first octal digit of a byte from A0 on
 abbrev pub is_lead : ℕ → Bool
-is_lead b = nat_le 50 b && nat_le b 51
+is_lead b = is_within (codes "23") b
 
 abbrev pub is_octal : ℕ → Bool
-is_octal b = nat_le 48 b && nat_le b 55
+is_octal b = is_within (codes "07") b
 
 -- a byte is spelled at the front
 pub record IsByte (s : List ℕ) (b : ℕ) (rest : List ℕ) : Type 0 where
@@ -32,10 +34,10 @@ pub record IsCut (s : List ℕ) : Type 0 where
 -- whatever follows these bytes, no spelled byte and no `)` stands at the front
 pub record IsBroken (s : List ℕ) : Type 0 where
   pub no_byte : (b : ℕ) (t u : List ℕ) → IsTrue (is_shown b) → s ++ t ≡ shown b ++ u → ⊥
-  pub no_close : (t u : List ℕ) → s ++ t ≡ 41 ∷ u → ⊥
+  pub no_close : (t u : List ℕ) → s ++ t ≡ code ")" ∷ u → ⊥
 
 abbrev pub IsSpelling : List ℕ → Spelling → Type 0
 IsSpelling s (spellings.Byte b rest) = IsByte s b rest.now
-IsSpelling s (spellings.Close rest) = s ≡ 41 ∷ rest.now
+IsSpelling s (spellings.Close rest) = s ≡ code ")" ∷ rest.now
 IsSpelling s spellings.Cut = IsCut s
 IsSpelling s spellings.Broken = IsBroken s

@@ -5,9 +5,11 @@
 
 pub mod body;
 pub mod front;
+pub mod laws;
 pub mod number;
 pub mod program;
 pub mod scan;
 pub mod string;
 
+pub use laws::one_token;
 pub use program::{Program, read_program};

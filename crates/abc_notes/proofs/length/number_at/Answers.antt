@@ -1,6 +1,6 @@
 use Rattle.std.proofs.Common.{ℕ, List, subst, sym, ◌≡◌, ◌≤◌, length, true}
 use Rattle.std.specs.List.{list_all}
-use Rattle.abc_notes.specs.Runs.{is_digit}
+use Rattle.mus_units.specs.Bytes.{is_digit}
 use Rattle.abc_notes.specs.Lengths.{IsCount}
 use Rattle.abc_notes.proofs.LengthLaws.{number-count, count-few, count-digits}
 use Rattle.abc_notes.proofs.length.number_at.Goals as goal

@@ -1,6 +1,6 @@
-use Rattle.std.proofs.Common.{rules, ◌≡◌, [], ◌∷◌, ◌++◌, sym, ◌∙◌, append-nil, arith, length}
+use Rattle.std.proofs.Common.{◌≡◌, [], sym, ◌∙◌, append-nil, arith}
 use Rattle.ps_steps.specs.declared.halt.Cause.TheVariants as causes
-use Rattle.ps_steps.specs.Tokens.{unclosed, nested, unread_within, closes, found, Front, passed}
+use Rattle.ps_steps.specs.Tokens.{unclosed, nested, unread_within, closes, found, Front}
 use Rattle.ps_tokens.proofs.Bodies.{body_more}
 use Rattle.ps_tokens.proofs.Shorter.{found_shorter, passed_length}
 use Rattle.ps_tokens.proofs.body.body.Goals as goal

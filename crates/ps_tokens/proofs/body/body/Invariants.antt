@@ -1,4 +1,4 @@
-use Rattle.std.proofs.Common.{ℕ, length}
+use Rattle.std.proofs.Common.{length}
 use Rattle.ps_tokens.proofs.Bodies.{BodyStage}
 use Rattle.ps_tokens.proofs.body.body.Given as goal
 

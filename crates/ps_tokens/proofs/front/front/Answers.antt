@@ -1,4 +1,4 @@
-use Rattle.std.proofs.Common.{◌≡◌, ◌∷◌, ◌∙◌, ap}
+use Rattle.std.proofs.Common.{◌∷◌, ◌∙◌, ap}
 use Rattle.ps_steps.specs.Tokens.{opening_front, closing_front, stray}
 use Rattle.ps_tokens.proofs.front.front.Goals as goal
 

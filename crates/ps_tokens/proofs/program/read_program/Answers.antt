@@ -1,4 +1,4 @@
-use Rattle.std.proofs.Common.{rules, arith, ◌≡◌, [], false, length}
+use Rattle.std.proofs.Common.{arith, ◌≡◌, [], false}
 use Rattle.ps_steps.specs.Tokens.{passed, TokenAt}
 use Rattle.ps_tokens.proofs.Shorter.{token_shorter, passed_length}
 use Rattle.ps_tokens.proofs.Programs.{program_more, program_ends, program_fails}

@@ -1,4 +1,4 @@
-use Rattle.std.proofs.Common.{◌≡◌, ℕ, length, false}
+use Rattle.std.proofs.Common.{◌≡◌, length, false}
 use Rattle.ps_steps.specs.Tokens.{passed}
 use Rattle.ps_tokens.proofs.scan.skip.Given as goal
 

@@ -1,0 +1,73 @@
+ghost use Rattle.std.specs.Prelude.{◌≡◌, ◌≤◌, [], IfOk, length};
+ghost use Rattle.paint_text.specs.PaintText.{paint_text};
+ghost use Rattle.abcps.specs.Calls.{budget_of};
+ghost use Rattle.abcps.specs.Outcome.{IsAnswer, IsAnswered};
+ghost use Rattle.abcps_words.specs.declared.command.Command.TheVariants as command;
+ghost use Rattle.abcps.specs.declared.status.Status.TheVariants as status;
+
+use crate::refusing::Refusal;
+use crate::status::Status;
+use crate::telling::{refuse, write_both};
+use eng_io::Sink;
+use mus_units::{Memory, Text};
+use paint_text::put_pages;
+use ps_machine::{MachineError, PagePaint, run_machine};
+use std::alloc::Global;
+
+/// So many tokens may be executed for each byte of a text.
+const TOKENS_PER_BYTE: u64 = 100;
+
+/// How many tokens of a text may be executed.
+fn budget_of(text: &[u8]) -> u64
+    requires { length text.now ≤ 268435456 }
+    ensures { result ≡ budget_of text.now }
+{
+    TOKENS_PER_BYTE * text.len() as u64
+}
+
+/// The text of what is painted.
+fn text_of(alloc: Global, pages: &[PagePaint]) -> Result<Text, Memory>
+    ensures { IfOk result (λ text. text ≡ paint_text pages.now) }
+{
+    let mut text = Text::new(alloc);
+    put_pages(&mut text, pages)?;
+    Ok(text)
+}
+
+/// Prints what is painted.
+fn print<O: Sink, E: Sink>(
+    alloc: Global,
+    pages: &[PagePaint],
+    output: &mut O,
+    errors: &mut E,
+) -> Status
+    ensures { IsAnswered (λ called. called ≡ record { page = paint_text pages.now; told = []; status = status.Done }) result
+        (record { before = O.taken output.old; after = O.taken output.new; count_before = O.faults output.old; count_after = O.faults output.new })
+        (record { before = E.taken errors.old; after = E.taken errors.new; count_before = E.faults errors.old; count_after = E.faults errors.new }) }
+{
+    let Ok(text) = text_of(alloc, pages) else {
+        return Status::Memory;
+    };
+    write_both(output, errors, text.as_slice(), b"", Status::Done)
+}
+
+/// Runs a text on the machine and prints the pages that it paints, or tells where it halts.
+pub(crate) fn paint<O: Sink, E: Sink>(
+    alloc: Global,
+    text: &[u8],
+    output: &mut O,
+    errors: &mut E,
+) -> Status
+    requires { length text.now ≤ 268435456 }
+    ensures { IsAnswer command.Paint result text.now
+        (record { before = O.taken output.old; after = O.taken output.new; count_before = O.faults output.old; count_after = O.faults output.new })
+        (record { before = E.taken errors.old; after = E.taken errors.new; count_before = E.faults errors.old; count_after = E.faults errors.new }) }
+{
+    match run_machine(alloc, text, budget_of(text)) {
+        Ok(pages) => print(alloc, pages.as_slice(), output, errors),
+        Err(MachineError::Halt { token, cause }) => {
+            refuse(alloc, Refusal::Halted { token, cause }, errors)
+        }
+        Err(MachineError::Memory) => Status::Memory,
+    }
+}

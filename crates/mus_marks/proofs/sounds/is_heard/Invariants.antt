@@ -1,7 +1,0 @@
-use Rattle.std.proofs.Common.{◌≡◌, drop}
-use Rattle.std.specs.List.{list_any}
-use Rattle.mus_marks.specs.Sounds.{is_heard_at}
-use Rattle.mus_marks.proofs.sounds.is_heard.Given as goal
-
-abbrev pub invariant-loop-x : goal.invariant-loop-x
-invariant-loop-x l = list_any (is_heard_at l.pitch) (drop l.x-index l.heads) ≡ list_any (is_heard_at l.pitch) l.heads

@@ -1,6 +1,0 @@
-use Rattle.std.proofs.Common.{◌≡◌, ◌++◌, [], drop}
-use Rattle.mus_marks.specs.Sounds.{measures_sounds}
-use Rattle.mus_marks.proofs.sounds.put_measures.Given as goal
-
-abbrev pub invariant-loop-m : goal.invariant-loop-m
-invariant-loop-m l = l.out ++ measures_sounds l.voice l.spread l.now l.before (drop l.m-index l.measures) ≡ l.fn.out ++ measures_sounds l.voice l.spread l.fn.now [] l.measures

@@ -1,6 +1,0 @@
-use Rattle.std.proofs.Common.{◌≡◌, ◌++◌, drop}
-use Rattle.std.specs.List.{flat_map}
-use Rattle.mus_marks.proofs.sounds.say_graces.Given as goal
-
-abbrev pub invariant-loop-grace : goal.invariant-loop-grace
-invariant-loop-grace l = l.said ++ flat_map (λ g. g.heads) (drop l.grace-index l.graces) ≡ l.fn.said ++ flat_map (λ g. g.heads) l.graces

@@ -1,7 +1,0 @@
-use Rattle.std.proofs.Common.{◌≡◌, drop}
-use Rattle.std.specs.List.{find}
-use Rattle.mus_marks.specs.Sounds.{is_tied_to}
-use Rattle.mus_marks.proofs.sounds.tied_to.Given as goal
-
-abbrev pub invariant-loop-x : goal.invariant-loop-x
-invariant-loop-x l = find (is_tied_to l.pitch) (drop l.x-index l.heads) ≡ find (is_tied_to l.pitch) l.heads

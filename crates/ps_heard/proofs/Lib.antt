@@ -1,0 +1,3 @@
+mod EarLaws
+mod FillingLaws
+mod Places

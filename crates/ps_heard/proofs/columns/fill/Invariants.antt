@@ -1,0 +1,9 @@
+use Rattle.std.proofs.Common.{◌≡◌, [], true, drop, length}
+use Rattle.ps_heard.specs.Columns.{columns_from}
+use Rattle.ps_heard.specs.Filling.{with_marks}
+use Rattle.ps_heard.proofs.columns.fill.Given as goal
+
+abbrev pub invariant-loop-mark : goal.invariant-loop-mark
+invariant-loop-mark l =
+    (with_marks (drop l.mark-index l.marks) l.places l.columns ≡ with_marks l.marks l.places (columns_from true [] l.places))
+    × (length l.columns ≡ length l.places)

@@ -1,0 +1,51 @@
+-- The columns of a staff of a system. The anchors of all staves of the system, from the left and each once, are the places of
+-- its columns. A column has what the glyphs at its anchor tell, in the staff's order, and the heights of the heads at which a
+-- tie ends there: an arc of bulge 400 or -400 ends that far from its head. The first column of a system leads it.
+use Rattle.std.specs.Prelude.{ℤ, pos, negsuc, ◌-ℤ◌, ◌||◌, ◌&&◌, int_lt, if◌then◌else◌, Bool, true, false, List, [], ◌∷◌, flat_map}
+use Rattle.std.specs.Ordering.{int_eq}
+use Rattle.ps_text.specs.declared.marks.PageMark.{PageMark}
+use Rattle.ps_text.specs.declared.marks.PageMark.TheVariants as marks
+use Rattle.ps_heard.specs.declared.column.Column.{Column}
+use Rattle.ps_heard.specs.declared.column.Noted.{Noted}
+use Rattle.ps_heard.specs.declared.column.Role.{Role}
+use Rattle.ps_heard.specs.declared.column.Role.TheVariants as roles
+use Rattle.ps_heard.specs.Roles.{role_of}
+
+-- quiet glyphs tell nothing
+abbrev pub noted : Role → ℤ → List Noted
+noted roles.Quiet dy = []
+noted role dy = record { role = role; dy = dy } ∷ []
+
+-- what a mark tells at an anchor: only glyphs tell something
+abbrev pub note_at : ℤ → PageMark → List Noted
+note_at x (marks.Glyph glyph at dx dy) = if int_eq at x then noted (role_of glyph dy) dy else []
+note_at x _ = []
+
+abbrev pub is_tie : ℤ → Bool
+is_tie bulge = int_eq bulge (pos 400) || int_eq bulge (negsuc 399)
+
+-- the height of the head at which a tie ends at an anchor
+abbrev pub tie_at : ℤ → PageMark → List ℤ
+tie_at x (marks.Arc x1 x2 from to bulge) = if int_eq x2 x && is_tie bulge then (to -ℤ bulge) ∷ [] else []
+tie_at x _ = []
+
+unfoldable pub column_at : Bool → List PageMark → ℤ → Column
+column_at leads ms x = record { leads = leads; notes = flat_map (note_at x) ms; ties = flat_map (tie_at x) ms }
+
+-- numbers that rise, with one more, where it isn't among them
+abbrev pub inserted : ℤ → List ℤ → List ℤ
+inserted x [] = x ∷ []
+inserted x (y ∷ ys) = if int_lt x y then x ∷ y ∷ ys else if int_eq x y then y ∷ ys else y ∷ inserted x ys
+
+-- the numbers of a list in rising order, each once
+abbrev pub rising : List ℤ → List ℤ
+rising [] = []
+rising (x ∷ xs) = inserted x (rising xs)
+
+abbrev pub columns_from : Bool → List PageMark → List ℤ → List Column
+columns_from leads ms [] = []
+columns_from leads ms (x ∷ xs) = column_at leads ms x ∷ columns_from false ms xs
+
+-- the columns of a staff with these marks, by the anchors of its system
+unfoldable pub columns_of : List ℤ → List PageMark → List Column
+columns_of anchors ms = columns_from true ms (rising anchors)

@@ -1,0 +1,42 @@
+-- What a listener keeps in mind, column after column from the left. This is the way that the program takes; what it comes
+-- to is said in Hearing.
+use Rattle.std.specs.Prelude.{if◌then◌else◌, List, [], ◌∷◌, ◌++◌}
+use Rattle.mus_units.specs.declared.key.Spread.{Spread}
+use Rattle.mus_units.specs.declared.pitch.Clef.TheVariants as clefs
+use Rattle.ps_heard.specs.declared.column.Column.{Column}
+use Rattle.ps_heard.specs.declared.column.Ear.{Ear}
+use Rattle.ps_heard.specs.declared.column.Noted.{Noted}
+use Rattle.ps_heard.specs.Hearing.{clef_behind, entries, gives_key, head_at, heard_at, last_or, listed, said_with}
+
+-- a mark: a bar ends the measure, a head is said, and listed where it is no grace note's
+abbrev pub hear_one : Spread → Column → Ear → Noted → Ear
+hear_one spread col ear n = record ear {
+  said = said_with n.role (head_at ear.clef n.dy col.notes) ear.said;
+  here = ear.here ++ listed n.role (heard_at spread col ear.clef ear.key.signs ear.before ear.said n.dy);
+}
+
+abbrev pub hear_from : Spread → Column → Ear → List Noted → Ear
+hear_from spread col ear [] = ear
+hear_from spread col ear (n ∷ ns) = hear_from spread col (hear_one spread col ear n) ns
+
+-- the clef and the key of a column
+abbrev pub opened : Ear → Column → Ear
+opened ear col = record ear {
+  clef = clef_behind ear.clef col.notes;
+  key = record { signs = if gives_key col.leads col.notes then entries (clef_behind ear.clef col.notes) col.notes else ear.key.signs };
+}
+
+-- behind a column its heads are the last ones, if it has some
+abbrev pub closed : Ear → Ear
+closed ear = record ear { before = last_or ear.before ear.here; here = []; heard = ear.heard ++ ear.here }
+
+unfoldable pub hear_column : Spread → Ear → Column → Ear
+hear_column spread ear col = closed (hear_from spread col (opened ear col) col.notes)
+
+abbrev pub hear_columns : Spread → Ear → List Column → Ear
+hear_columns spread ear [] = ear
+hear_columns spread ear (col ∷ cols) = hear_columns spread (hear_column spread ear col) cols
+
+-- at first
+abbrev pub fresh : Ear
+fresh = record { clef = clefs.Treble; key = record { signs = [] }; said = []; before = []; here = []; heard = [] }

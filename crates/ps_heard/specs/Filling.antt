@@ -1,0 +1,30 @@
+-- How the columns of a staff are filled, mark after mark. This is the way that the program takes; what the columns are is said
+-- in Columns.
+use Rattle.std.specs.Prelude.{ℤ, if◌then◌else◌, List, [], ◌∷◌, ◌++◌}
+use Rattle.std.specs.Ordering.{int_eq}
+use Rattle.ps_text.specs.declared.marks.PageMark.{PageMark}
+use Rattle.ps_heard.specs.declared.column.Column.{Column}
+use Rattle.ps_heard.specs.declared.column.Role.{Role}
+use Rattle.ps_heard.specs.Columns.{note_at, noted, tie_at}
+
+abbrev pub with_note : Role → ℤ → Column → Column
+with_note role dy c = record c { notes = c.notes ++ noted role dy }
+
+abbrev pub with_tie : ℤ → Column → Column
+with_tie dy c = record c { ties = c.ties ++ dy ∷ [] }
+
+-- the column at an anchor changed, and the others as they are
+abbrev pub at_place : ℤ → (Column → Column) → List ℤ → List Column → List Column
+at_place x f [] cs = cs
+at_place x f (y ∷ ys) [] = []
+at_place x f (y ∷ ys) (c ∷ cs) = (if int_eq x y then f c else c) ∷ at_place x f ys cs
+
+-- each column with what one more mark tells of it
+abbrev pub with_mark : PageMark → List ℤ → List Column → List Column
+with_mark m [] cs = cs
+with_mark m (y ∷ ys) [] = []
+with_mark m (y ∷ ys) (c ∷ cs) = record c { notes = c.notes ++ note_at y m; ties = c.ties ++ tie_at y m } ∷ with_mark m ys cs
+
+abbrev pub with_marks : List PageMark → List ℤ → List Column → List Column
+with_marks [] places cs = cs
+with_marks (m ∷ ms) places cs = with_marks ms places (with_mark m places cs)

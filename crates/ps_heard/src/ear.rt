@@ -1,0 +1,123 @@
+//! A staff, heard column by column.
+
+ghost use Rattle.std.specs.Prelude.{◌≡◌, ◌++◌, OnOk};
+ghost use Rattle.ps_heard.specs.Ear.{hear_one, hear_from, opened, closed, hear_column, hear_columns, fresh};
+
+use crate::column::{Column, Ear, Heard, Noted, Role};
+use crate::heads::{head_at, heard_at};
+use crate::keys::{clef_behind, entries, gives_key};
+use mus_units::{Clef, Key, Memory, Row, Spread};
+use std::alloc::Global;
+
+/// Hears a mark of a column.
+fn hear_one(
+    alloc: Global,
+    spread: Spread,
+    col: &Column,
+    ear: &mut Ear,
+    note: Noted,
+) -> Result<(), Memory>
+    ensures { OnOk result (ear.new ≡ hear_one spread col.now ear.old note) }
+{
+    match note.role {
+        Role::Bar => {
+            ear.said = Row::new(alloc);
+            Ok(())
+        }
+        Role::Grace => ear
+            .said
+            .push(head_at(ear.clef, note.dy, col.notes.as_slice())),
+        Role::Head => {
+            let heard = heard_at(spread, col, ear, note.dy);
+            ear.said
+                .push(head_at(ear.clef, note.dy, col.notes.as_slice()))?;
+            ear.here.push(heard)
+        }
+        Role::Clef(_) | Role::Sign(_) | Role::Quiet => Ok(()),
+    }
+}
+
+fn hear_all(alloc: Global, spread: Spread, col: &Column, ear: &mut Ear) -> Result<(), Memory>
+    ensures { OnOk result (ear.new ≡ hear_from spread col.now ear.old col.now.notes) }
+{
+    for note in col.notes.as_slice() {
+        hear_one(alloc, spread, col, ear, *note)?;
+    }
+    Ok(())
+}
+
+/// Takes the clef and the key of a column.
+fn open_column(alloc: Global, ear: &mut Ear, col: &Column) -> Result<(), Memory>
+    ensures { OnOk result (ear.new ≡ opened ear.old col.now) }
+{
+    let notes = col.notes.as_slice();
+    ear.clef = clef_behind(ear.clef, notes);
+    if gives_key(col.leads, notes) {
+        ear.key = Key {
+            signs: entries(alloc, ear.clef, notes)?,
+        };
+    }
+    Ok(())
+}
+
+fn put_heads(out: &mut Row<Heard>, heads: &[Heard]) -> Result<(), Memory>
+    ensures { OnOk result (out.new ≡ out.old ++ heads.now) }
+{
+    for head in heads {
+        out.push(*head)?;
+    }
+    Ok(())
+}
+
+/// Puts the heads of a column behind those before it.
+fn close_column(alloc: Global, ear: &mut Ear) -> Result<(), Memory>
+    ensures { OnOk result (ear.new ≡ closed ear.old) }
+{
+    put_heads(&mut ear.heard, ear.here.as_slice())?;
+    if !ear.here.is_empty() {
+        ear.before = Row::from_slice(alloc, ear.here.as_slice())?;
+    }
+    ear.here = Row::new(alloc);
+    Ok(())
+}
+
+/// Hears a column of a staff.
+#[tactic(auto, unfolding(crate::specs::Ear::hear_column))]
+fn hear_column(alloc: Global, spread: Spread, ear: &mut Ear, col: &Column) -> Result<(), Memory>
+    ensures { OnOk result (ear.new ≡ hear_column spread ear.old col.now) }
+{
+    open_column(alloc, ear, col)?;
+    hear_all(alloc, spread, col, ear)?;
+    close_column(alloc, ear)
+}
+
+/// Hears columns of a staff, from the left.
+pub fn hear_columns(
+    alloc: Global,
+    spread: Spread,
+    ear: &mut Ear,
+    columns: &[Column],
+) -> Result<(), Memory>
+    ensures { OnOk result (ear.new ≡ hear_columns spread ear.old columns.now) }
+{
+    for col in columns {
+        hear_column(alloc, spread, ear, col)?;
+    }
+    Ok(())
+}
+
+/// What a listener knows at first.
+pub fn fresh(alloc: Global) -> Ear
+    ensures { result ≡ fresh }
+{
+    Ear {
+        clef: Clef::Treble,
+        key: Key {
+            signs: Row::new(alloc),
+        },
+        said: Row::new(alloc),
+        before: Row::new(alloc),
+        here: Row::new(alloc),
+        heard: Row::new(alloc),
+    }
+}

@@ -1,0 +1,118 @@
+//! The tunes of a sheet, each with its systems.
+
+ghost use Rattle.std.specs.Prelude.{◌≡◌, ◌++◌, IfOk, OnOk};
+ghost use Rattle.ps_heard.specs.Tunes.{items_of, most_staves, systems_till, tunes_of};
+
+use mus_units::{Memory, Row};
+use ps_text::{Item, Sheet, Staff};
+use std::alloc::Global;
+use std::marker::Model;
+
+/// An item of a sheet, where it stands.
+#[derive(Drop)]
+pub struct Shown<'a> {
+    pub item: &'a Item,
+}
+
+impl<'a> Model for Shown<'a> {
+    ghost use Rattle.ps_text.specs.declared.sheet.Item.{Item};
+
+    ghost Value = { Item };
+
+    ghost view = { λ s. s.item.now };
+}
+
+/// The staves of a system, where they stand.
+#[derive(Drop)]
+pub struct Braced<'a> {
+    pub staves: &'a [Staff],
+}
+
+impl<'a> Model for Braced<'a> {
+    ghost use Rattle.std.specs.Prelude.{List};
+    ghost use Rattle.ps_text.specs.declared.sheet.Staff.{Staff};
+
+    ghost Value = { List Staff };
+
+    ghost view = { λ s. s.staves.now };
+}
+
+/// A tune of a sheet: its ordinal, and its systems in order.
+#[derive(Drop)]
+pub struct Part<'a> {
+    pub ordinal: u32,
+    pub systems: Row<Braced<'a>>,
+}
+
+fn put_items<'a>(out: &mut Row<Shown<'a>>, items: &'a [Item]) -> Result<(), Memory>
+    ensures { OnOk result (out.new ≡ out.old ++ items.now) }
+{
+    for item in items {
+        out.push(Shown { item })?;
+    }
+    Ok(())
+}
+
+/// All items of a sheet, page after page.
+fn items_of<'a>(alloc: Global, s: &'a Sheet) -> Result<Row<Shown<'a>>, Memory>
+    ensures { IfOk result (λ r. r ≡ items_of s.now) }
+{
+    let mut out = Row::new(alloc);
+    for page in s.pages.as_slice() {
+        put_items(&mut out, page.items.as_slice())?;
+    }
+    Ok(out)
+}
+
+/// The systems before the next tune.
+fn systems_till<'a>(alloc: Global, items: &[Shown<'a>]) -> Result<Row<Braced<'a>>, Memory>
+    ensures { IfOk result (λ r. r ≡ systems_till items.now) }
+{
+    let mut out = Row::new(alloc);
+    for shown in items {
+        match shown.item {
+            Item::Tune { .. } => return Ok(out),
+            Item::Title { .. } => {}
+            Item::System { staves, .. } => out.push(Braced {
+                staves: staves.as_slice(),
+            })?,
+        }
+    }
+    Ok(out)
+}
+
+/// The tunes among items, in order.
+fn tunes_among<'a>(alloc: Global, items: &[Shown<'a>]) -> Result<Row<Part<'a>>, Memory>
+    ensures { IfOk result (λ r. r ≡ tunes_of items.now) }
+{
+    let mut out = Row::new(alloc);
+    for (at, shown) in items.iter().enumerate() {
+        if let Item::Tune { ordinal } = shown.item {
+            let systems = systems_till(alloc, &items[at + 1..])?;
+            out.push(Part {
+                ordinal: *ordinal,
+                systems,
+            })?;
+        }
+    }
+    Ok(out)
+}
+
+/// The tunes of a sheet, in order.
+pub fn tunes_of<'a>(alloc: Global, s: &'a Sheet) -> Result<Row<Part<'a>>, Memory>
+    ensures { IfOk result (λ r. r ≡ tunes_of (items_of s.now)) }
+{
+    let items = items_of(alloc, s)?;
+    tunes_among(alloc, items.as_slice())
+}
+
+/// How many staves the largest of some systems has.
+pub fn most_staves(systems: &[Braced<'_>]) -> usize
+    ensures { result ≡ most_staves systems.now }
+{
+    let mut most = 0;
+    for system in systems {
+        most = most.max(system.staves.len());
+    }
+    most
+}

@@ -1,0 +1,71 @@
+-- The lines of glyphs.
+use Rattle.std.proofs.Common.{◌≡◌, ℕ, suc, ◌+◌, ◌≤◌, ℤ, pos, true, List, [], ◌∷◌, ◌++◌, refl, arith}
+use Rattle.std.specs.Prelude.{nat_le}
+use Rattle.std.proofs.Math.IntN.{◌+ℤ◌}
+use Rattle.std.proofs.lemmas.Int.{ints}
+use Rattle.std.proofs.lemmas.Bool.Decides.{nat_tests}
+use Rattle.mus_units.specs.declared.glyph.Glyph.{Glyph}
+use Rattle.glyph_paths.specs.Names.{glyph_name}
+use Rattle.glyph_paths.specs.Outlines.{outline_of}
+use Rattle.ps_text.specs.Document.{mark_text}
+use Rattle.ps_text.specs.Line.{glyph_line}
+use Rattle.ps_text.specs.declared.sheet.Frame.{Frame}
+use Rattle.ps_text.specs.Range.{IsFrame, IsNumber, IsOffset, IsPlaced}
+use Rattle.ps_text.specs.declared.marks.PageMark.TheVariants as marks
+use Rattle.ps_steps.specs.declared.paint.Paint.{Paint}
+use Rattle.ps_steps.specs.declared.paint.PagePaint.{PagePaint}
+use Rattle.ps_steps.specs.declared.token.Simple.TheVariants.{Name as name_token}
+use Rattle.ps_steps.specs.declared.value.Value.{Value}
+use Rattle.ps_steps.specs.declared.value.Value.TheVariants.{Whole as whole_value}
+use Rattle.ps_steps.specs.declared.graphics.Graphics.{Graphics}
+use Rattle.ps_steps.specs.State.{Names}
+use Rattle.ps_steps.specs.Operators.{all_near}
+use Rattle.ps_paint.specs.PaintOf.{mark_paints, outline_paints}
+use Rattle.ps_paint.proofs.Bodies.{Made, glyph_body}
+use Rattle.ps_paint.proofs.Scales.{IsClose}
+use Rattle.ps_paint.proofs.Runs.{Runs, no_more, then, both_runs}
+use Rattle.ps_paint.proofs.Draws.{drawing, corner, saves, restores, translates, places}
+use Rattle.ps_paint.proofs.Glyphs.{IsMid, cost, left, outline_runs}
+use Rattle.ps_paint.proofs.GlyphTable.{fine}
+use Rattle.ps_paint.proofs.Takes.{IsTokenWord, name_some}
+use Rattle.ps_paint.proofs.Lines.{Draws, on_page, line_drawn, page_near, offset_near}
+
+glyph_word : (g : Glyph) → IsTokenWord (name_token (glyph_name g)) (glyph_name g)
+glyph_word g = let t = fine g in record { some = name_some (glyph_name g) t.good; regular = t.regular; token = t.token }
+
+at_most : (a b : ℕ) → nat_le a b ≡ true → a ≤ b
+at_most a b e = grind (arith, nat_tests)
+
+wide : (v : ℤ) → IsMid v → IsClose v
+wide v m = record { low = omega (arith, ints); high = omega (arith, ints) }
+
+mid_number : (z : ℤ) → IsNumber z → IsMid z
+mid_number z n = record { low = omega (arith, ints); high = omega (arith, ints) }
+
+mid_sum : (z d : ℤ) → IsNumber z → IsOffset d → IsMid (z +ℤ d)
+mid_sum z d n o = record { low = omega (arith, ints); high = omega (arith, ints) }
+
+module _ (f : Frame) (ds : Names) (fr : IsFrame f) (made : Made f ds) where
+  glyph_runs : (g : Glyph) (x y dx dy : ℤ) (st : List Value) (saved : List Graphics) (ps : List Paint) (pages : List PagePaint)
+      → IsMid x → IsMid y → IsMid (x +ℤ dx) → IsMid (y +ℤ dy)
+      → Runs (suc (suc (suc (cost (outline_of g) + 1)))) (glyph_body g) (on_page f ds (whole_value y ∷ whole_value x ∷ whole_value dy ∷ whole_value dx ∷ st) saved ps pages)
+      (on_page f ds st saved (ps ++ mark_paints f y (marks.Glyph g x dx dy)) pages)
+  glyph_runs g x y dx dy st saved ps pages mx my mp mq =
+      let o = corner f (pos 900) in
+      let s1 = whole_value dy ∷ whole_value dx ∷ st in
+      let u = x +ℤ dx in
+      let v = y +ℤ dy in
+      then (saves f ds fr made saved ps pages (whole_value y ∷ whole_value x ∷ s1) o)
+      (then (places f ds fr made (o ∷ saved) ps pages x y (pos 900) s1 (wide x mx) (wide y my))
+      (then (translates f ds fr made (o ∷ saved) ps pages dx dy x y [] (pos 900) st (wide u mp) (wide v mq))
+      (both_runs (outline_runs f ds fr made (pos 900) st (o ∷ saved) pages u v mp mq (outline_of g) [] ps ((fine g).drawn))
+      (then (restores f ds fr made saved (ps ++ outline_paints f u v [] (outline_of g)) pages st (drawing f u v (left f u v [] (outline_of g)) (pos 900)) o) no_more))))
+
+  pub glyph_line_drawn : (g : Glyph) (y x dx dy : ℤ) → IsPlaced y x dx dy → Draws f ds (mark_text y (marks.Glyph g x dx dy)) (mark_paints f y (marks.Glyph g x dx dy))
+  unfolding mark_text glyph_line
+  glyph_line_drawn g y x dx dy s =
+      let zs = dx ∷ dy ∷ x ∷ y ∷ [] in
+      let near : all_near zs ≡ true = rw (offset_near dx s.across, offset_near dy s.above, page_near x s.anchor, page_near y s.base) refl in
+      let low : cost (outline_of g) ≤ 90 = at_most (cost (outline_of g)) 90 ((fine g).few) in
+      line_drawn zs (glyph_name g) near (glyph_word g) (made.glyph g) (omega (arith, low))
+      (λ st saved ps pages. glyph_runs g x y dx dy st saved ps pages (mid_number x s.anchor) (mid_number y s.base) (mid_sum x dx s.anchor s.across) (mid_sum y dy s.base s.above))

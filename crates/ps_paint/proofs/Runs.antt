@@ -1,0 +1,59 @@
+-- Runs over the tokens of procedures, put together.
+use Rattle.std.proofs.Common.{◌≡◌, ℕ, suc, ◌+◌, ℤ, true, List, [], ◌∷◌, ◌++◌, length, append_assoc, Some, None, refl, ◌∙◌, ap}
+use Rattle.ps_steps.specs.declared.token.Simple.{Simple}
+use Rattle.ps_steps.specs.declared.token.Simple.TheVariants.{Name as name_token, Whole as whole_token}
+use Rattle.ps_steps.specs.declared.token.Token.TheVariants.{Simple as simple_token}
+use Rattle.ps_steps.specs.declared.value.Value.{Value}
+use Rattle.ps_steps.specs.declared.value.Value.TheVariants.{Whole as whole_value}
+use Rattle.ps_steps.specs.State.{State}
+use Rattle.ps_steps.specs.Operators.{Outcome, went, executed, called, operated, operated_if, operator_named, Operator, in_range, all_near}
+use Rattle.ps_steps.specs.Steps.{from_pending, Step, Steps, here, step}
+use Rattle.ps_steps.proofs.Joined.{joined, now}
+
+pub simple_step : (t : Simple) (ts body : List Simple) (m k : State) (s : List ℕ) → executed (simple_token t) m ≡ went body k → Step (now (t ∷ ts) m s) (now (body ++ ts) k s)
+simple_step t ts body m k s e = record { token = simple_token t; rest = now ts m s; body = body; state = k; next = from_pending t ts m s; went = e; is = refl }
+
+-- whatever follows, these tokens lead from one state to another in n steps
+pub record Runs (n : ℕ) (ts : List Simple) (m k : State) : Type 0 where
+  pub run : (rest : List Simple) (s : List ℕ) → Steps n (now (ts ++ rest) m s) (now rest k s)
+
+pub no_more : {m : State} → Runs 0 [] m m
+no_more {m} = record { run = λ rest s. here (now rest m s) }
+
+-- a token that calls nothing, and further ones
+pub then : {n : ℕ} {t : Simple} {ts : List Simple} {m k l : State} → executed (simple_token t) m ≡ went [] k → Runs n ts k l → Runs (suc n) (t ∷ ts) m l
+then {n} {t} {ts} {m} {k} {l} e r = record { run = λ rest s. step n _ (now (ts ++ rest) k s) _ (simple_step t (ts ++ rest) [] m k s e) (r.run rest s) }
+
+-- a name that was given a procedure, and further tokens
+pub calls : {n j : ℕ} {name : List ℕ} {body ts : List Simple} {m k l : State} → m.names name ≡ Some body → Runs n body m k → Runs j ts k l → Runs (suc (n + j)) (name_token name ∷ ts) m l
+calls {n} {j} {name} {body} {ts} {m} {k} {l} h r q = record {
+  run = λ rest s.
+      step (n + j) _ (now (body ++ (ts ++ rest)) m s) _
+      (simple_step (name_token name) (ts ++ rest) body m m s (ap (λ o. called o name m) h))
+      (joined n j _ (now (ts ++ rest) k s) _ (r.run (ts ++ rest) s) (q.run rest s));
+}
+
+-- runs one after the other
+pub both_runs : {n j : ℕ} {ts us : List Simple} {m k l : State} → Runs n ts m k → Runs j us k l → Runs (n + j) (ts ++ us) m l
+both_runs {n} {j} {ts} {us} {m} {k} {l} r q = record { run = λ rest s. rw (append_assoc ts us rest) (joined n j _ (now (us ++ rest) k s) _ (r.run (us ++ rest) s) (q.run rest s)) }
+
+-- what an operator does, where its name was given no procedure
+pub does : (name : List ℕ) (o : Operator) (m : State) (x : Outcome) → m.names name ≡ None → operator_named name ≡ Some o → operated o m ≡ x
+    → executed (simple_token (name_token name)) m ≡ x
+does name o m x h g e = ap (λ z. called z name m) h ∙ ap (λ z. operated_if z m) g ∙ e
+
+pub is_in_range : (zs : List ℤ) (x : Outcome) → all_near zs ≡ true → in_range zs x ≡ x
+is_in_range zs x e = rw (e, in_range) refl
+
+abbrev pub wholes : List ℤ → List Simple
+wholes [] = []
+wholes (z ∷ zs) = whole_token z ∷ wholes zs
+
+abbrev pub pushed : List ℤ → List Value → List Value
+pushed [] st = st
+pushed (z ∷ zs) st = pushed zs (whole_value z ∷ st)
+
+-- numbers are pushed
+pub pushes : (zs : List ℤ) (m : State) → Runs (length zs) (wholes zs) m (record m { stack = pushed zs m.stack })
+pushes [] m = no_more
+pushes (z ∷ zs) m = then {t = whole_token z} {k = record m { stack = whole_value z ∷ m.stack }} refl (pushes zs (record m { stack = whole_value z ∷ m.stack }))

@@ -1,0 +1,2 @@
+pub mod PaintOf
+pub mod Laws

@@ -1,0 +1,11 @@
+-- A text begins with one token at most, and where none stands there is one cause.
+use Rattle.std.specs.Prelude.{◌≡◌, ℕ, List, []}
+use Rattle.ps_steps.specs.declared.halt.Cause.{Cause}
+use Rattle.ps_steps.specs.declared.token.Token.{Token}
+use Rattle.ps_steps.specs.Tokens.{TokenAt, NoToken}
+
+pub record BeginsInOneWay : Type 0 where
+  pub token : (s r q : List ℕ) (t u : Token) → TokenAt s t r → TokenAt s u q → (t ≡ u) × (r ≡ q)
+  pub cause : (s : List ℕ) (c d : Cause) → NoToken s c → NoToken s d → c ≡ d
+  pub either : (s r : List ℕ) (t : Token) (cause : Cause) → TokenAt s t r → NoToken s cause → ⊥
+  pub some : (s r : List ℕ) (t : Token) → TokenAt s t r → s ≡ [] → ⊥
