@@ -2,7 +2,7 @@
 use Rattle.std.proofs.Common.{◌≡◌, ℕ, zero, suc, ◌+◌, ◌-◌, ◌≤◌, ◌<◌, ◌==◌, ◌⊎◌, inl, inr, nat_lt, Bool, true, false, cond, ◌&&◌, List, [], ◌∷◌, ◌++◌, append-nil, map, take, drop, filter, refl, sym, ◌∙◌, ap, arith}
 use Rattle.std.proofs.lemmas.Bool.{true≢false, false≢true, cases_lt, eq-eqb, ne_eqb, lt-ltb, ltb-true, ltb-false, le-ltb, and_right}
 use Rattle.std.specs.List.{AllByRecursion}
-use Rattle.mus_stems.specs.Runs.{runs, put_before, run_more, AreMaximalRuns}
+use Rattle.mus_stems.specs.Runs.{runs, put_before, run_more}
 use Rattle.mus_stems.proofs.RunLaws.{maximal_runs, runs_front}
 use Rattle.mus_ink.specs.declared.beams.Stem.{Stem}
 use Rattle.mus_ink.specs.Beams.{goes_on, last_at, level_from, levels_from, levels_before, beams_at, beams_from, beam_marks}
