@@ -5,3 +5,4 @@ pub mod Heads
 pub mod MeasureRows
 pub mod Rests
 pub mod Taken
+pub mod Waiting
