@@ -1,5 +1,5 @@
 use Rattle.std.proofs.Common.{◌∙◌, sym}
-use Rattle.abc_events.proofs.Waiting.{nothing_for}
+use Rattle.abc_events.proofs.Idle.{nothing_for}
 use Rattle.abc_events.proofs.waits.waiting_of.Goals as goal
 
 pub returns-then-is_nothing : goal.returns-then-is_nothing
