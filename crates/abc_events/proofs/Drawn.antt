@@ -48,7 +48,7 @@ find_few p (x ∷ xs) few = by_test (p x) (find_few p xs (λ k d less. few (suc 
   by_test true others = few 0 x (omega arith)
   by_test false others = others
 
-both_true : (a b : Bool) → (a && b) ≡ true → (a ≡ true) × (b ≡ true)
+pub both_true : (a b : Bool) → (a && b) ≡ true → (a ≡ true) × (b ≡ true)
 both_true true b h = (refl, h)
 both_true false b h = absurd (cc)
 

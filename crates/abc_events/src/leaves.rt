@@ -5,13 +5,12 @@ ghost use Rattle.abc_events.specs.declared.written.Sign.{Sign};
 ghost use Rattle.abc_events.specs.Signs.{IsDrawn};
 ghost use Rattle.abc_events.specs.Leaves.{ends_at, first_part, later_head, later_part, some_more, later_parts, parts, node_of, grace_event, grace_note, grace_nodes, nodes_of, words_at, leaves_from, leaves_of};
 
-use crate::copies::copy_optional;
 use crate::reading::with_ties;
 use crate::waits::no_changes;
 use crate::written::{Sign, Waiting, Written};
 use abc_tokens::GraceChord;
 use mus_score::{Event, Look, Music};
-use mus_units::{Base, Head, Memory, Row, Text, Value, ticks_of};
+use mus_units::{Base, Head, Memory, Row, Text, Value, copy_optional_texts, ticks_of};
 use std::alloc::Global;
 
 /// What the tree of a measure is made of: the nodes of a written event, or a
@@ -289,16 +288,6 @@ fn grace_nodes(alloc: Global, graces: &[GraceChord], slash: bool) -> Result<Row<
     Ok(nodes)
 }
 
-fn copy_words(alloc: Global, words: &[Option<Text>]) -> Result<Row<Option<Text>>, Memory>
-    ensures { IfOk result (λ r. r ≡ words.now) }
-{
-    let mut copies = Row::new(alloc);
-    for w in words {
-        copies.push(copy_optional(alloc, w)?)?;
-    }
-    Ok(copies)
-}
-
 /// The words of a written event.
 fn words_at(
     alloc: Global,
@@ -308,7 +297,7 @@ fn words_at(
     ensures { IfOk result (λ r. r ≡ words_at words.now event) }
 {
     match words.get(event) {
-        Some(row) => copy_words(alloc, row.as_slice()),
+        Some(row) => copy_optional_texts(alloc, row.as_slice()),
         None => Ok(Row::new(alloc)),
     }
 }

@@ -1,8 +1,8 @@
-ghost use Rattle.std.specs.Prelude.{◌≡◌, ◌≤◌, ◌<◌, ◌^◌, ◌+◌, ◌-◌, ◌++◌, ◌∷◌, [], map, length, reverse, unwrap_or, IfOk, OnOk};
+ghost use Rattle.std.specs.Prelude.{◌≡◌, ◌≤◌, ◌<◌, ◌^◌, ◌+◌, ◌-◌, ◌++◌, ◌∷◌, [], map, length, reverse, unwrap_or, true, false, IfOk, OnOk};
 ghost use Rattle.std.specs.List.{All};
 ghost use Rattle.mus_units.specs.Parts.{parts_list};
 ghost use Rattle.mus_units.specs.Good.{IsGoodMeter};
-ghost use Rattle.abc_steps.specs.Looks.{slurs_begun, slurs_ended};
+ghost use Rattle.abc_steps.specs.Looks.{since_event, slurs_begun, slurs_ended};
 ghost use Rattle.abc_steps.specs.Lengths.{IsLength};
 ghost use Rattle.abc_steps.specs.Good.{IsGoodForce, IsGoodStood, IsGoodStep, IsGoodSound};
 ghost use Rattle.abc_events.specs.Signs.{with_tie, tied_heads, for_note, look_of, whole_look, parted_at, sound_written, whole_value, rest_written, further_rests, rests_of, tuplet_of, signs_of, signs, IsDrawn};
@@ -30,15 +30,34 @@ fn with_tie(tie: bool, head: Head) -> Head
     }
 }
 
+/// Heads as they are, which nothing ties.
+fn untied(alloc: Global, heads: &[Head]) -> Result<Row<Head>, Memory>
+    ensures { IfOk result (λ r. r ≡ map (with_tie false) heads.now) }
+{
+    let copy = Row::from_slice(alloc, heads)?;
+    Ok(copy)
+}
+
+/// Heads that are all tied.
+fn all_tied(alloc: Global, heads: &[Head]) -> Result<Row<Head>, Memory>
+    ensures { IfOk result (λ r. r ≡ map (with_tie true) heads.now) }
+{
+    let items = heads
+        .iter()
+        .map(|head| with_tie(true, *head))
+        .collect(alloc)?;
+    Ok(Row { items })
+}
+
 /// Heads that are all tied, or as they are.
 pub fn with_ties(alloc: Global, heads: &[Head], tie: bool) -> Result<Row<Head>, Memory>
     ensures { IfOk result (λ r. r ≡ map (with_tie tie) heads.now) }
 {
-    let items = heads
-        .iter()
-        .map(|head| with_tie(tie, *head))
-        .collect(alloc)?;
-    Ok(Row { items })
+    if tie {
+        all_tied(alloc, heads)
+    } else {
+        untied(alloc, heads)
+    }
 }
 
 fn tied_heads(alloc: Global, heads: &[Head], behind: &[Stood]) -> Result<Row<Head>, Memory>
@@ -99,12 +118,13 @@ fn values_of(alloc: Global, length: Frac) -> Result<Row<Value>, Memory>
     }
 }
 
-/// A note, a chord or a rest as it is written.
+/// A note, a chord or a rest as it is written, for which `waits` waits.
 #[tactic(auto, unfolding(crate::specs::Signs::sound_written))]
 fn sound_written(
     alloc: Global,
     now: &Place,
     before: &[Stood],
+    waits: &[Stood],
     at: &Stood,
     s: &Sound,
     behind: &[Stood],
@@ -115,6 +135,7 @@ fn sound_written(
     requires further { now.now.counts.further ≤ 2 ^ 46 }
     requires force { IsGoodForce now.now.force }
     requires good { IsGoodSound s.now }
+    requires waits { waits.now ≡ since_event (reverse before.now) }
     ensures { IfOk result (λ w. w ≡ sound_written now.now (reverse before.now) at.now s.now behind.now) }
 {
     let length = written_length(now.force.unit, s, before, behind);
@@ -128,7 +149,7 @@ fn sound_written(
         look: look_of(s.seen),
         values,
         whole: None,
-        parted: parted_at(now, since_event(before)),
+        parted: parted_at(now, waits),
         begins: begins(s.heads.as_slice(), before),
         ends: ends(s.heads.as_slice(), behind),
     })
@@ -266,9 +287,9 @@ fn put_signs(
 {
     match &at.step {
         Step::Sound(s) => {
-            let written = sound_written(alloc, now, before, at, s, behind)?;
-            let inside = s.decos.as_slice();
-            let waiting = waiting_of(alloc, &now.force, since_event(before), inside)?;
+            let waits = since_event(before);
+            let written = sound_written(alloc, now, before, waits, at, s, behind)?;
+            let waiting = waiting_of(alloc, &now.force, waits, s.decos.as_slice())?;
             out.push(Sign::Event { written, waiting })
         }
         Step::Measures { seen, count } => {

@@ -1,14 +1,14 @@
-ghost use Rattle.std.specs.Prelude.{◌≡◌, ◌++◌, ◌∷◌, [], None, IfOk, OnOk, flat_map};
+ghost use Rattle.std.specs.Prelude.{◌≡◌, ◌==◌, ◌&&◌, ◌++◌, ◌∷◌, [], None, IfOk, OnOk, flat_map, length};
 ghost use Rattle.std.specs.List.{list_any};
 ghost use Rattle.abc_events.specs.Waits.{decos_in, is_above, mention_of, mentions_in, graces_in, has_slash, ending_behind, last_ending, waiting_of, nothing, no_changes};
 
-use crate::copies::{copy_deco, put_chords, put_decos};
+use crate::copies::put_chords;
 use crate::written::Waiting;
 use abc_steps::force::changes_at;
 use abc_steps::{InForce, Step, Stood};
 use abc_tokens::GraceChord;
 use mus_score::{Changes, Mention};
-use mus_units::{Deco, Memory, Row, Text};
+use mus_units::{Deco, Memory, Row, Text, put_decos};
 use std::alloc::Global;
 
 #[tactic(auto, unfolding(crate::specs::Waits::decos_in))]
@@ -16,7 +16,7 @@ fn put_deco(alloc: Global, out: &mut Row<Deco>, s: &Step) -> Result<(), Memory>
     ensures { OnOk result (out.new ≡ out.old ++ decos_in s.now) }
 {
     match s {
-        Step::Deco(deco) => out.push(copy_deco(alloc, deco)?),
+        Step::Deco(deco) => out.push(deco.copy(alloc)?),
         _ => Ok(()),
     }
 }
@@ -121,7 +121,7 @@ fn ending_behind(alloc: Global, ending: Option<Text>, s: &Step) -> Result<Option
     ensures { IfOk result (λ e. e ≡ ending_behind s.now ending) }
 {
     match s {
-        Step::Ending(text) => Ok(Some(Text::from_slice(alloc, text.as_slice())?)),
+        Step::Ending(text) => Ok(Some(text.copy(alloc)?)),
         _ => Ok(ending),
     }
 }
@@ -136,10 +136,16 @@ fn ending_waiting(alloc: Global, waits: &[Stood]) -> Result<Option<Text>, Memory
     Ok(ending)
 }
 
-/// What waits for an event, of what is in force there, the steps since the event
-/// before it, and the decorations within a chord.
+/// Whether nothing waits.
+fn is_nothing(waits: &[Stood], inside: &[Deco]) -> bool
+    ensures { result ≡ (length waits.now == 0 && length inside.now == 0) }
+{
+    waits.is_empty() && inside.is_empty()
+}
+
+/// What waits for an event, gathered from what does.
 #[tactic(auto, unfolding(crate::specs::Waits::waiting_of))]
-pub fn waiting_of(
+fn gathered(
     alloc: Global,
     now: &InForce,
     waits: &[Stood],
@@ -155,6 +161,22 @@ pub fn waiting_of(
         graces: graces_waiting(alloc, waits)?,
         slash: any_slash(waits),
     })
+}
+
+/// What waits for an event, of what is in force there, the steps since the event
+/// before it, and the decorations within a chord.
+pub fn waiting_of(
+    alloc: Global,
+    now: &InForce,
+    waits: &[Stood],
+    inside: &[Deco],
+) -> Result<Waiting, Memory>
+    ensures { IfOk result (λ w. w ≡ waiting_of now.now waits.now inside.now) }
+{
+    if is_nothing(waits, inside) {
+        return Ok(nothing(alloc));
+    }
+    gathered(alloc, now, waits, inside)
 }
 
 /// No changes.

@@ -35,13 +35,6 @@ pub not_before_itself : (f : Fault) → is_before f f ≡ false
 unfolding is_before
 not_before_itself f = not_itself f.line f.column (rank_of f.kind)
 
--- what is before one isn't behind it
-pub before_then_not : (f g : Fault) → is_before f g ≡ true → is_before g f ≡ false
-before_then_not f g h = by_test (is_before g f) refl where
-  by_test : (b : Bool) → is_before g f ≡ b → is_before g f ≡ false
-  by_test false e = e
-  by_test true e = absurd (cc (before_then_before f g f h e, not_before_itself f))
-
 -- ---- the earlier of two
 
 pub earlier_none : (a : Option Fault) → earlier a None ≡ a

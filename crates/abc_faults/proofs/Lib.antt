@@ -1,5 +1,6 @@
 pub mod Crowds
 pub mod Firsts
 pub mod Orders
+pub mod Singles
 pub mod Tuplets
 pub mod Walks

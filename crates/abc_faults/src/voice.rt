@@ -7,7 +7,7 @@ ghost use Rattle.abc_faults.specs.Faults.{fault_at, fault_if, ends_tuplets, soun
 ghost use Rattle.abc_faults.specs.Weights.{weight_at, sound_count, grace_weights, weights_of, weights_in};
 
 use crate::first::earlier;
-use crate::weights::{Weight, put_graces, sound_count, weight_at};
+use crate::weights::{Weight, extent_of, put_graces, sound_count, weight_at};
 use abc_lines::{Fault, FaultKind};
 use abc_steps::kinds::is_sound;
 use abc_steps::lengths::written_length;
@@ -16,7 +16,7 @@ use abc_steps::place::{Place, beginning, measure_of, step_over};
 use abc_steps::tuplets::{fits, or_default};
 use abc_steps::{InForce, Sound, Step, Stood, Taking};
 use abc_tokens::GraceChord;
-use mus_units::{Clef, Head, Memory, Meter, Row, height, parts_of};
+use mus_units::{Clef, Head, Memory, Meter, Row, height};
 use std::alloc::Global;
 
 fn fault_at(kind: FaultKind, at: &Stood) -> Fault
@@ -181,12 +181,11 @@ fn judge_sound(
     ensures fault { IfOk result (λ f. f ≡ first_of (sound_faults now.now (reverse before.now) at.now s.now behind.now ++ grace_faults now.now.force.clef (since_event (reverse before.now)))) }
     ensures weights { OnOk result (weights.new ≡ weights.old ++ (grace_weights (since_event (reverse before.now)) ++ weight_at (sound_count now.now (reverse before.now) s.now behind.now) at.now ∷ [])) }
 {
-    let length = written_length(now.force.unit, s, before, behind);
-    let parts = parts_of(alloc, length.num, length.den)?;
+    let extent = extent_of(alloc, written_length(now.force.unit, s, before, behind))?;
     let waits = since_event(before);
     put_graces(weights, waits)?;
-    weights.push(weight_at(sound_count(s, &parts), at))?;
-    let own = sound_fault(now, at, s, parts.is_none());
+    weights.push(weight_at(sound_count(s, extent.parts), at))?;
+    let own = sound_fault(now, at, s, extent.undrawable);
     Ok(earlier(own, grace_fault(now.force.clef, waits)))
 }
 

@@ -1,9 +1,12 @@
-ghost use Rattle.std.specs.Prelude.{◌≡◌, ◌*◌, ◌++◌, length, max, OnOk};
+ghost use Rattle.std.specs.Prelude.{◌≡◌, ◌*◌, ◌++◌, length, max, true, false, is_some, is_none, OnOk, IfOk};
+ghost use Rattle.mus_units.specs.Parts.{parts_list};
+ghost use Rattle.abc_steps.specs.Lengths.{IsLength};
 ghost use Rattle.abc_faults.specs.Weights.{weight_at, count_parts, grace_count, grace_weights_of, grace_weights};
 
 use abc_steps::{Sound, Step, Stood};
 use abc_tokens::GraceChord;
-use mus_units::{Memory, Row, Value};
+use mus_units::{Frac, Memory, Row, Value, parts_of, value_of};
+use std::alloc::Global;
 
 /// How many heads and rests stand at a place of the text. Weights are ordered by their places,
 /// then by their counts.
@@ -12,6 +15,13 @@ pub struct Weight {
     pub line: u32,
     pub column: u32,
     pub count: u128,
+}
+
+/// How many parts a written length counts as, and whether it can't be drawn.
+#[derive(Clone, Copy)]
+pub(crate) struct Extent {
+    pub parts: usize,
+    pub undrawable: bool,
 }
 
 pub(crate) fn weight_at(count: u128, at: &Stood) -> Weight
@@ -34,11 +44,50 @@ fn count_parts(parts: &Option<Row<Value>>) -> usize
     }
 }
 
-/// The heads of a note or a chord, or the one rest, times its parts.
-pub(crate) fn sound_count(s: &Sound, parts: &Option<Row<Value>>) -> u128
-    ensures { result ≡ max 1 (length s.now.heads) * count_parts parts.now }
+/// Whether a value has a length, which is then its one part.
+fn has_value(whole: Frac) -> bool
+    requires { IsLength whole }
+    ensures parts { result ≡ true → 1 ≡ count_parts (parts_list whole.num whole.den) }
+    ensures drawn { result ≡ true → false ≡ is_none (parts_list whole.num whole.den) }
 {
-    s.heads.len().max(1) as u128 * count_parts(parts) as u128
+    let found = value_of(whole.num, whole.den);
+    is_there(found)
+}
+
+fn is_there(found: Option<Value>) -> bool
+    ensures { result ≡ is_some found }
+{
+    match found {
+        Some(_) => true,
+        None => false,
+    }
+}
+
+/// How many parts a written length has, one where it has none, and whether it
+/// can't be drawn since it has none.
+pub(crate) fn extent_of(alloc: Global, whole: Frac) -> Result<Extent, Memory>
+    requires { IsLength whole }
+    ensures parts { IfOk result (λ e. e.parts ≡ count_parts (parts_list whole.num whole.den)) }
+    ensures undrawable { IfOk result (λ e. e.undrawable ≡ is_none (parts_list whole.num whole.den)) }
+{
+    if has_value(whole) {
+        return Ok(Extent {
+            parts: 1,
+            undrawable: false,
+        });
+    }
+    let parts = parts_of(alloc, whole.num, whole.den)?;
+    Ok(Extent {
+        parts: count_parts(&parts),
+        undrawable: parts.is_none(),
+    })
+}
+
+/// The heads of a note or a chord, or the one rest, times its parts.
+pub(crate) fn sound_count(s: &Sound, parts: usize) -> u128
+    ensures { result ≡ max 1 (length s.now.heads) * parts }
+{
+    s.heads.len().max(1) as u128 * parts as u128
 }
 
 /// How many heads a group of graces has.

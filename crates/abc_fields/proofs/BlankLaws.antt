@@ -20,18 +20,6 @@ suffix-cons p b s =
     ∙ prefix_len-append p (reverse s) (b ∷ [])
     ∙ ap (λ n. cond (suffix_len p s == n) (n + cond (p b) 1 0) (suffix_len p s)) (length-reverse s)
 
-suffix_none_if : (p : ℕ → Bool) (b : ℕ) (s : List ℕ) (all : Bool) → (suffix_len p s == length s) ≡ all → p b ≡ false → suffix_len p s ≡ 0 → suffix_len p (b ∷ s) ≡ 0
-suffix_none_if p b s true e f none =
-    let whole : suffix_len p s ≡ length s = eqb-true (suffix_len p s) (length s) e in
-    suffix-cons p b s ∙ rw (e, f) (omega (arith, whole, none))
-suffix_none_if p b s false e f none = suffix-cons p b s ∙ rw e none
-
-suffix-none : (p : ℕ → Bool) (s : List ℕ) → list_all (λ b. not (p b)) s ≡ true → suffix_len p s ≡ 0
-suffix-none p [] all = refl
-suffix-none p (b ∷ s) all =
-    let parts = and_parts _ _ all in
-    suffix_none_if p b s (suffix_len p s == length s) refl (not-true (p b) parts.0) (suffix-none p s parts.1)
-
 suffix_all_if : (p : ℕ → Bool) (b : ℕ) (s : List ℕ) (all : Bool) → (suffix_len p s == length s) ≡ all → p b ≡ true → suffix_len p s ≡ length s → suffix_len p (b ∷ s) ≡ length (b ∷ s)
 suffix_all_if p b s true e f whole = suffix-cons p b s ∙ rw (e, f) (omega arith)
 suffix_all_if p b s false e f whole = absurd (eqb-false (suffix_len p s) (length s) e whole)

@@ -173,9 +173,6 @@ stem_property_if w way read (Some wish) is e h =
     let name = way_if way wish (bytes_eq way (codes "up")) (bytes_eq way (codes "down")) (bytes_eq way (codes "auto")) refl refl refl e in
     record { form = stem_property wish; good = tt; spelled = is ∙ ap (λ t. codes "stem=" ++ t) name; meant = some_property (words.Asks wish) read h }
 
-some_behind : (front w rest : List ℕ) → behind front w ≡ None → behind front w ≡ Some rest → ⊥
-some_behind front w rest none some = none_is_some rest (sym none ∙ some)
-
 other_property_if : (w : List ℕ) (read : VoiceWord) (o : Option Clef) → clef_of w ≡ o
     → ((name : List ℕ) → w ≡ codes "clef=" ++ name → ⊥) → ((way : List ℕ) → w ≡ codes "stem=" ++ way → ⊥) → Some (named_or_passed o) ≡ Some read → IsProperty w read
 other_property_if w read None e no_clef no_stem h =

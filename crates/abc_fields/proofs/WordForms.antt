@@ -6,17 +6,13 @@ use Rattle.std.proofs.lemmas.Bool.{and_parts}
 use Rattle.std.proofs.lemmas.List.{take-append-drop, append-nil}
 use Rattle.std.proofs.Math.Seq.{take-append_seam, drop-append_seam}
 use Rattle.abc_lines.specs.Kinds.{is_blank, behind_blanks}
-use Rattle.abc_fields.specs.Words.{is_empty, quoted_after, word_len, word_and_rest, next_word, words_of, words_after}
+use Rattle.abc_fields.specs.Words.{is_empty, word_len, word_and_rest, next_word, words_of, words_after}
 use Rattle.abc_fields.specs.WordSpelling.{Parts, IsFirstWord, HasWords}
 use Rattle.abc_fields.proofs.BlankLaws.{front-passes, blanks-passed}
 use Rattle.abc_fields.proofs.MeterForms.{none_is_some}
 use Rattle.abc_fields.proofs.WordLaws.{BeginsWord, BeginsBlank, behind-begins, word-stops, words-next}
 
 -- The first word.
-
--- the code's word is what stands before the first blank
-word-plain : (b : ℕ) (quoted : Bool) → quoted_after false quoted b ≡ quoted
-word-plain b quoted = refl
 
 whole_more : (b : ℕ) (s : List ℕ) (parts : Bool) → is_blank b ≡ parts → list_all (λ c. not (is_blank c)) (take (word_len false false s) s) ≡ true → list_all (λ c. not (is_blank c)) (take (word_len false false (b ∷ s)) (b ∷ s)) ≡ true
 whole_more b s true e all = rw e refl

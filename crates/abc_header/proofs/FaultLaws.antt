@@ -184,37 +184,6 @@ first-fault lines fault h =
 pub no-fault : (lines : List Line) → first_fault [] lines ≡ None → AreClear lines
 no-fault lines h = clear-takes lines [] h
 
-found_clear : (lines : List Line) (fault : Fault) → AreClear lines → IsFirstFault lines fault → ⊥
-found_clear lines fault clear first = clear first.before first.line first.after fault first.cut first.is
-
--- where no line is at fault none is found
-clear_if : (lines : List Line) (o : Option Fault) → first_fault [] lines ≡ o → AreClear lines → o ≡ None
-clear_if lines None e clear = refl
-clear_if lines (Some fault) e clear = absurd (found_clear lines fault clear (first-fault lines fault e))
-
-pub clear-read : (lines : List Line) → AreClear lines → first_fault [] lines ≡ None
-clear-read lines clear = clear_if lines (first_fault [] lines) refl clear
-
-none_here : (done : List Line) (line : Line) (before : List Line) (o : Option Fault) → fault_of_line done line ≡ o → ClearBehind done (line ∷ before) → o ≡ None
-none_here done line before None e clear = refl
-none_here done line before (Some fault) e clear =
-    absurd (clear [] line before fault refl (subst (λ ls. IsFaultBehind ls line fault) (sym (append-nil done)) (fault-takes done line fault e)))
-
-clear_after : (done : List Line) (line : Line) (before : List Line) → ClearBehind done (line ∷ before) → ClearBehind (done ++ line ∷ []) before
-clear_after done line before clear front other after fault e is =
-    clear (line ∷ front) other after fault (ap (λ ls. line ∷ ls) e) (subst (λ ls. IsFaultBehind ls other fault) (append_assoc done (line ∷ []) front) is)
-
-first-reaches : (before done : List Line) (line : Line) (after : List Line) (fault : Fault) → IsFaultBehind (done ++ before) line fault → ClearBehind done before → first_fault (ids_of (fields_of done)) (before ++ line ∷ after) ≡ Some fault
-first-reaches [] done line after fault is clear =
-    first_met done line after fault (fault-reaches done line fault (subst (λ ls. IsFaultBehind ls line fault) (append-nil done) is))
-first-reaches (first ∷ before) done line after fault is clear =
-    first_passed done first (before ++ line ∷ after) (none_here done first before (fault_of_line done first) refl clear)
-    ∙ first-reaches before (done ++ first ∷ []) line after fault (subst (λ ls. IsFaultBehind ls line fault) (sym (append_assoc done (first ∷ []) before)) is) (clear_after done first before clear)
-
--- the first fault is the one that is found, so that there is one at most
-pub first-read : (lines : List Line) (fault : Fault) → IsFirstFault lines fault → first_fault [] lines ≡ Some fault
-first-read lines fault first = ap (first_fault []) first.cut ∙ first-reaches first.before [] first.line first.after fault first.is first.clear
-
 -- Headers.
 
 by-fault : (tune : TuneText) (o : Option ℕ) (fault : Fault) → fault_by tune o ≡ Some fault → IsFaultBy tune o fault

@@ -31,9 +31,6 @@ record Reads {X : Type 0} (States : Line → X → Type 0) (f : Line → Option 
   takes : (line : Line) (x : X) → f line ≡ Some x → States line x
   reaches : (line : Line) (x : X) → States line x → f line ≡ Some x
 
-abbrev AreUnread : {X : Type 0} → (Line → Option X) → List Line → Type 0
-AreUnread f lines = last_of f lines ≡ None
-
 both-none : {X : Type 0} (o p : Option X) → option_or o p ≡ None → (o ≡ None) × (p ≡ None)
 both-none None p h = (refl, h)
 both-none (Some x) p h = absurd (none_is_some x (sym h))

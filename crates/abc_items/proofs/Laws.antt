@@ -67,16 +67,6 @@ stops_behind a b g h (errors.Fault fault) r s = ap (λ x. first_fault (judged a.
   first_more : (a b : Body) (g h : List Given) → Reads a g b → first_fault (judged a.ids (g ++ (h ++ []))) ≡ first_fault (judged b.ids h)
   first_more a b g h r = r.faults (h ++ []) ∙ ap (λ x. first_fault (judged b.ids x)) (append-nil h)
 
--- an item that is no fault
-pub reads_item : (a b : Body) (i : Item) → item_judged a.ids i ≡ gives i → b.ids ≡ ids_after a.ids i → b.items ≡ a.items ++ i ∷ [] → Reads a (gives i ∷ []) b
-reads_item a b i good ids items = record {
-  faults = λ h. ap (λ x. first_fault (x ∷ judged (ids_after a.ids i) h)) good ∙ ap (λ x. first_fault (judged x h)) (sym ids);
-  items = λ h. sym (append_assoc a.items (i ∷ []) (items_in h)) ∙ ap (λ x. x ++ items_in h) (sym items);
-}
-
-pub stops_item : (a : Body) (i : Item) (fault : Fault) → item_judged a.ids i ≡ fails fault → Stops a (gives i ∷ []) (errors.Fault fault)
-stops_item a i fault bad = ap (λ x. first_fault (x ∷ [])) bad
-
 -- lines one after another
 pub line_more : (breaks : Breaks) (ls : List Line) (l : Line) (g h : List Given) → BodyGives breaks ls g → LineGives breaks l h → BodyGives breaks (ls ++ l ∷ []) (g ++ h)
 line_more breaks _ l _ h no_lines one = one_line l [] h [] h one no_lines (sym (append-nil h))

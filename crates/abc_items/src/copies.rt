@@ -5,52 +5,14 @@ ghost use Rattle.std.specs.Prelude.{◌≡◌, IfOk};
 use abc_fields::KeyText;
 use abc_steps::{Sound, Step, Stood};
 use abc_tokens::GraceChord;
-use mus_units::{Deco, Key, Memory, Row, Text};
+use mus_units::{Memory, Row, copy_decos, copy_optional_key};
 use std::alloc::Global;
-
-pub(crate) fn copy_text(alloc: Global, text: &Text) -> Result<Text, Memory>
-    ensures { IfOk result (λ copy. copy ≡ text.now) }
-{
-    Text::from_slice(alloc, text.as_slice())
-}
-
-fn copy_deco(alloc: Global, deco: &Deco) -> Result<Deco, Memory>
-    ensures { IfOk result (λ copy. copy ≡ deco.now) }
-{
-    match deco {
-        Deco::Ks => Ok(Deco::Ks),
-        Deco::Kr => Ok(Deco::Kr),
-        Deco::Kf => Ok(Deco::Kf),
-        Deco::Ka => Ok(Deco::Ka),
-        Deco::Km => Ok(Deco::Km),
-        Deco::Kc => Ok(Deco::Kc),
-        Deco::Kp => Ok(Deco::Kp),
-        Deco::Kg => Ok(Deco::Kg),
-        Deco::Kt => Ok(Deco::Kt),
-        Deco::Ku => Ok(Deco::Ku),
-        Deco::Kd => Ok(Deco::Kd),
-        Deco::Kn => Ok(Deco::Kn),
-        Deco::Below(text) => Ok(Deco::Below(copy_text(alloc, text)?)),
-        Deco::Above(text) => Ok(Deco::Above(copy_text(alloc, text)?)),
-        Deco::Quiet(text) => Ok(Deco::Quiet(copy_text(alloc, text)?)),
-    }
-}
-
-fn copy_decos(alloc: Global, decos: &[Deco]) -> Result<Row<Deco>, Memory>
-    ensures { IfOk result (λ copies. copies ≡ decos.now) }
-{
-    let mut copies = Row::new(alloc);
-    for deco in decos {
-        copies.push(copy_deco(alloc, deco)?)?;
-    }
-    Ok(copies)
-}
 
 fn copy_chord(alloc: Global, chord: &GraceChord) -> Result<GraceChord, Memory>
     ensures { IfOk result (λ copy. copy ≡ chord.now) }
 {
     Ok(GraceChord {
-        heads: Row::from_slice(alloc, chord.heads.as_slice())?,
+        heads: chord.heads.copy(alloc)?,
     })
 }
 
@@ -64,23 +26,12 @@ fn copy_chords(alloc: Global, chords: &[GraceChord]) -> Result<Row<GraceChord>, 
     Ok(copies)
 }
 
-fn copy_key(alloc: Global, key: &Option<Key>) -> Result<Option<Key>, Memory>
-    ensures { IfOk result (λ copy. copy ≡ key.now) }
-{
-    match key {
-        Some(key) => Ok(Some(Key {
-            signs: Row::from_slice(alloc, key.signs.as_slice())?,
-        })),
-        None => Ok(None),
-    }
-}
-
 fn copy_key_text(alloc: Global, text: &KeyText) -> Result<KeyText, Memory>
     ensures { IfOk result (λ copy. copy ≡ text.now) }
 {
     Ok(KeyText {
-        key: copy_key(alloc, &text.key)?,
-        adds: Row::from_slice(alloc, text.adds.as_slice())?,
+        key: copy_optional_key(alloc, &text.key)?,
+        adds: text.adds.copy(alloc)?,
         clef: text.clef,
     })
 }
@@ -89,7 +40,7 @@ fn copy_sound(alloc: Global, sound: &Sound) -> Result<Sound, Memory>
     ensures { IfOk result (λ copy. copy ≡ sound.now) }
 {
     Ok(Sound {
-        heads: Row::from_slice(alloc, sound.heads.as_slice())?,
+        heads: sound.heads.copy(alloc)?,
         seen: sound.seen,
         decos: copy_decos(alloc, sound.decos.as_slice())?,
         num: sound.num,
@@ -123,9 +74,9 @@ fn copy_step(alloc: Global, step: &Step) -> Result<Step, Memory>
             dots: *dots,
         }),
         Step::Bar(bar) => Ok(Step::Bar(*bar)),
-        Step::Ending(text) => Ok(Step::Ending(copy_text(alloc, text)?)),
-        Step::Deco(deco) => Ok(Step::Deco(copy_deco(alloc, deco)?)),
-        Step::Says(text) => Ok(Step::Says(copy_text(alloc, text)?)),
+        Step::Ending(text) => Ok(Step::Ending(text.copy(alloc)?)),
+        Step::Deco(deco) => Ok(Step::Deco(deco.copy(alloc)?)),
+        Step::Says(text) => Ok(Step::Says(text.copy(alloc)?)),
         Step::Key(text) => Ok(Step::Key(copy_key_text(alloc, text)?)),
         Step::Meter(meter) => Ok(Step::Meter(*meter)),
         Step::Unit(unit) => Ok(Step::Unit(*unit)),

@@ -8,7 +8,7 @@ ghost use Rattle.abc_fields.specs.Last.{last_of};
 ghost use Rattle.abc_header.specs.Voicing.{with_id};
 ghost use Rattle.abc_items.specs.Voices.{claims, voice_one, ids_by_step, ids_after, declared_ids, ids_of, unnamed_of, declared, decides, clef_in, still_alone, first_clef, clef_first, start_clef, wish_in, wish_if, declared_wish, start_stem, start_of, starts_of, stood, break_if, clef_step, one_if, named_step, steps_in, voice_next, steps_from};
 
-use crate::copies::{copy_stood, copy_text};
+use crate::copies::copy_stood;
 use abc_fields::VoiceDef;
 use abc_header::Header;
 use abc_steps::{Item, Step, Stood};
@@ -76,7 +76,7 @@ fn ids_in(alloc: Global, voices: &[VoiceDef]) -> Result<Row<Text>, Memory>
 {
     let mut ids = Row::new(alloc);
     for def in voices {
-        ids.push(copy_text(alloc, &def.id)?)?;
+        ids.push(def.id.copy(alloc)?)?;
     }
     Ok(ids)
 }
@@ -239,7 +239,7 @@ fn start_of(alloc: Global, header: &Header, items: &[Item], id: &Text) -> Result
     let clef = clef_first(header, items, id.as_slice()).unwrap_or(header.clef);
     let stem = last_wish(id.as_slice(), items).unwrap_or(declared_wish(header, id.as_slice()));
     Ok(VoiceStart {
-        id: copy_text(alloc, id)?,
+        id: id.copy(alloc)?,
         clef,
         stem,
     })

@@ -148,9 +148,6 @@ pub record Passing (bang head : Bool) (w : List ℕ) (bracket last : Option (Lis
   pub found : last ≡ brace_upto bang w bracket
   pub left : (walk (inner_at bang) rest).1 ≡ (walk (inner_at bang) w).1
 
-pub passing-within : (bang head : Bool) (w : List ℕ) (bracket last : Option (List ℕ)) (rest : List ℕ) → Passing bang head w bracket last rest → length rest ≤ length w
-passing-within bang head w bracket last rest stage = omega (arith, ap length stage.cut, length-append stage.front rest)
-
 first_brackets : (bang : Bool) (v : List ℕ) → bracket_at bang v ≡ later_or (last_at bang false v) None
 unfolding bracket_at
 first_brackets bang v = sym (later_none (last_at bang false v))
@@ -360,15 +357,6 @@ pub item-at : (bang : Bool) (item : GraceItem) (text : List ℕ) (body : List Gr
 item-at bang item text body lengthy behind f = item_stands bang item f.part text behind f.encloses (stands_at (part_reader bang) text (f.part, behind) f.at)
 
 -- ---- behind one chord, up to a closing byte
-
-pub some_small : (n : ℕ) (o : Option (List ℕ)) (b : List ℕ) → o ≡ Some b → at_most_bytes n o → length b ≤ n
-some_small n o b e h = subst (at_most_bytes n) e h
-
-pub some_size : (o : Option (List ℕ)) (b : List ℕ) → o ≡ Some b → size_of o ≡ length b
-some_size o b e = ap size_of e
-
-pub both_behind : (o p : Option (List ℕ)) (b c : List ℕ) → o ≡ Some b → p ≡ Some c → stands_behind o p → b ≡ take (length b - length c) b ++ c
-both_behind o p b c e f h = subst (λ q. stands_behind (Some b) q) f (subst (λ q. stands_behind q p) e h)
 
 -- what follows a length
 pub behind_length : (s rest : List ℕ) (len : Len) → length_read len rest ≡ length_read (len_of (length_at s).0) (length_at s).1 → rest ≡ (length_at s).1

@@ -107,9 +107,6 @@ pub record Inside (bang : Bool) (w : List ℕ) (head : Bool) (before : Option �
   pub within : length rest ≤ length w
   pub small : at_most (length w) before
 
-pub inside-begins : (bang : Bool) (w : List ℕ) → Inside bang w false None w
-inside-begins bang w = record { left = refl; heads = refl; flaw = λ f h. h; within = omega arith; small = tt }
-
 or_assoc : (a b c : Bool) → ((a || b) || c) ≡ (a || (b || c))
 or_assoc true b c = refl
 or_assoc false b c = refl

@@ -227,7 +227,3 @@ count-few n (d ∷ ds) good = good.few
 pub count-digits : (n : ℕ) (ds : List ℕ) → IsCount n ds → list_all is_digit ds ≡ true
 count-digits n [] good = refl
 count-digits n (d ∷ ds) good = good.digits
-
-pub number-wider : (n m : ℕ) (ds : List ℕ) → IsCount n ds → n ≤ m → (length ds ≡ 0 → ⊥) → IsNumber m ds
-number-wider n m [] good le some = absurd (some refl)
-number-wider n m (d ∷ ds) good le some = record { some = good.some; few = omega (arith, good.few, le); digits = good.digits; no_zero = good.no_zero }

@@ -13,9 +13,6 @@ Lacks b (x ∷ s) = eqb x b ≡ false
 same : (b : ℕ) → eqb b b ≡ true
 same b = eq-eqb b b refl
 
-one_more : (k : ℕ) (x : ℕ) (s : List ℕ) → drop (1 + k) (x ∷ s) ≡ drop k s
-one_more k x s = let e : 1 + k ≡ suc k = omega arith in rw e refl
-
 pub run_off-takes : (b : ℕ) (s : List ℕ) → s ≡ copies (run_off b s).0 b (run_off b s).1
 unfolding run_off
 run_off-takes b [] = refl

@@ -85,9 +85,6 @@ pub span_all-append : (p : ℕ → Bool) (ds x : List ℕ) → list_all p ds ≡
 span_all-append p ds x h =
     rw (span_all-is p (length ds + length x) (ds ++ x) (omega (arith, length-append ds x)), span_all-is p (length x) x (omega arith)) (span-append p (length x) ds x h)
 
-pub length-span_all : (p : ℕ → Bool) (s : List ℕ) → length (span_all p s).1 ≤ length s
-length-span_all p s = rw (span_all-is p (length s) s (omega arith)) (length-span p (length s) s)
-
 -- what follows does not pass
 span-after : (p : ℕ → Bool) (n : ℕ) (s : List ℕ) → length s ≤ n → begins p (span p n s).1 ≡ false
 span-after p zero [] h = rw span-zero refl

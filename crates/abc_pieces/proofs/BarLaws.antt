@@ -115,9 +115,6 @@ tail false zero x =
       ])
     ]
 
-form_of : Bool → ℕ → Bool → ℕ → Bool → ℕ → List ℕ → BarForm × List ℕ
-form_of d b o n c a x = (signs d b o n c a, x)
-
 signs-reaches : (d : Bool) (b : ℕ) (o : Bool) (m : ℕ) (c : Bool) (a : ℕ) (x : List ℕ) → Reaches (signs d b o (suc m) c a) x (form_at (spelled (signs d b o (suc m) c a) x))
 signs-reaches d b o m c a x =
     let s = maybe c 93 (copies a 58 x) in
@@ -175,9 +172,3 @@ form_at-reaches (signs d b o (suc m) c a) x good = signs-reaches d b o m c a x
 form_at-reaches (colons zero) x good = absurd (omega (arith, good))
 form_at-reaches (colons (suc zero)) x good = absurd (omega (arith, good))
 form_at-reaches (colons (suc (suc m))) x good = colons-reaches m x
-
--- a bracket with no bar sign behind it is no bar
-pub form_at-bracket : (s : List ℕ) → Lacks 124 s → form_at (91 ∷ s) ≡ None
-unfolding form_at
-form_at-bracket s h =
-    rw (skip-lacks 46 (91 ∷ s) refl, run_off-lacks 58 (91 ∷ s) refl, skip-yes 91 s, run_off-lacks 124 s h) refl

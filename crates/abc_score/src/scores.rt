@@ -13,7 +13,6 @@ use abc_events::{bars_of, first_bar, forced_bars, measures_of, own_measures, sig
 use abc_header::Header;
 use abc_items::unnamed_of;
 use abc_steps::Item;
-use abc_steps::force::copy_key;
 use abc_words::verse_count;
 use mus_score::{Measure, Score, Voice};
 use mus_units::{Memory, Row};
@@ -63,7 +62,7 @@ fn voice_of(
 {
     let measures = written_measures(alloc, unnamed_of(header), items, n, &v)?;
     let verses = few_verses(alloc, header, items, &v)?;
-    let key = copy_key(alloc, &header.key)?;
+    let key = header.key.copy(alloc)?;
     Ok(Voice {
         id: v.start.id,
         clef: v.start.clef,

@@ -7,7 +7,6 @@ ghost use Rattle.abc_score.specs.Voices.{first_force, read_ids, voice_read, voic
 
 use abc_header::Header;
 use abc_items::{VoiceStart, steps_of, unnamed_of, voices_of};
-use abc_steps::force::copy_key;
 use abc_steps::{InForce, Item, Stood};
 use mus_units::{Memory, Row};
 use std::alloc::Global;
@@ -30,7 +29,7 @@ fn first_force(alloc: Global, header: &Header, start: &VoiceStart) -> Result<InF
 {
     Ok(InForce {
         clef: start.clef,
-        key: copy_key(alloc, &header.key)?,
+        key: header.key.copy(alloc)?,
         meter: header.meter,
         unit: header.unit,
     })

@@ -1,2 +1,3 @@
+pub mod Between
 pub mod Bounds
 pub mod Positions

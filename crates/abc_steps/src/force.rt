@@ -9,7 +9,7 @@ use crate::step::{Step, Stood};
 use abc_fields::KeyText;
 use mus_pitch::lay;
 use mus_score::Changes;
-use mus_units::{Clef, Frac, Key, Memory, Meter, Row, Sign, WHOLE};
+use mus_units::{Clef, Frac, Key, Memory, Meter, Sign, WHOLE};
 use std::alloc::Global;
 
 /// Clef, key, meter and unit in force at a place of a voice.
@@ -21,15 +21,6 @@ pub struct InForce {
     pub unit: Frac,
 }
 
-/// A copy of a key.
-pub fn copy_key(alloc: Global, key: &Key) -> Result<Key, Memory>
-    ensures { IfOk result (λ k. k ≡ key.now) }
-{
-    Ok(Key {
-        signs: Row::from_slice(alloc, key.signs.as_slice())?,
-    })
-}
-
 /// The key that a text makes of the key in force.
 fn key_over(alloc: Global, key: &Key, text: &KeyText) -> Result<Key, Memory>
     requires key { IsGoodKey key.now }
@@ -38,7 +29,7 @@ fn key_over(alloc: Global, key: &Key, text: &KeyText) -> Result<Key, Memory>
     ensures good { IfOk result (λ k. IsGoodKey k) }
 {
     match &text.key {
-        Some(whole) => copy_key(alloc, whole),
+        Some(whole) => whole.copy(alloc),
         None => lay(alloc, key, text.adds.as_slice()),
     }
 }
@@ -124,7 +115,7 @@ fn changed_key(alloc: Global, now: &InForce, waits: &[Stood]) -> Result<Option<K
     ensures { IfOk result (λ k. k ≡ when (list_any (λ s. names_key s.step) waits.now) now.now.key) }
 {
     if any_key(waits) {
-        return Ok(Some(copy_key(alloc, &now.key)?));
+        return Ok(Some(now.key.copy(alloc)?));
     }
     Ok(None)
 }

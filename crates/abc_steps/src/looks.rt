@@ -221,8 +221,12 @@ fn broken_among(between: &[Stood]) -> Option<&Stood>
 pub fn broken_before(before: &[Stood]) -> Option<&Stood>
     ensures { option_copied result ≡ broken_before (reverse before.now) }
 {
+    let between = since_event(before);
+    if between.is_empty() {
+        return None;
+    }
     if is_some_sound(event_before(before)) {
-        broken_among(since_event(before))
+        broken_among(between)
     } else {
         None
     }
@@ -233,8 +237,12 @@ pub fn broken_before(before: &[Stood]) -> Option<&Stood>
 pub fn broken_behind(behind: &[Stood]) -> Option<&Stood>
     ensures { option_copied result ≡ broken_behind behind.now }
 {
+    let between = to_event(behind);
+    if between.is_empty() {
+        return None;
+    }
     if is_some_sound(event_behind(behind)) {
-        broken_among(to_event(behind))
+        broken_among(between)
     } else {
         None
     }

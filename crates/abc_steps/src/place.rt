@@ -5,7 +5,7 @@ ghost use Rattle.abc_steps.specs.Good.{IsGoodForce, IsGoodStood};
 ghost use Rattle.abc_steps.specs.Places.{place_at, measure_of};
 
 use crate::counts::{Counts, counted, no_counts};
-use crate::force::{InForce, change_force, copy_key};
+use crate::force::{InForce, change_force};
 use crate::step::Stood;
 use crate::tuplets::{Taking, taking_behind};
 use mus_units::Memory;
@@ -28,7 +28,7 @@ pub fn beginning(alloc: Global, first: &InForce) -> Result<Place, Memory>
         counts: no_counts(),
         force: InForce {
             clef: first.clef,
-            key: copy_key(alloc, &first.key)?,
+            key: first.key.copy(alloc)?,
             meter: first.meter,
             unit: first.unit,
         },

@@ -27,9 +27,6 @@ pub record Stage (bang : Bool) (line : List ℕ) (so_far : List Placed) (before 
   pub front : (ts : List Placed) (end : Option Flaw) → Front bang (length line) before at rest ts end → FrontAt bang line (so_far ++ ts) end
   pub within : length rest ≤ length line
 
-pub begins_so : (bang : Bool) (line : List ℕ) → Stage bang line [] behind.Other 0 line
-begins_so bang line = record { front = λ ts end t. t; within = omega arith }
-
 put_append : (t : Option Token) (at : ℕ) (ts : List Placed) → put t at ts ≡ put t at [] ++ ts
 put_append None at ts = refl
 put_append (Some t) at ts = refl

@@ -1,5 +1,5 @@
 -- A book that is set a batch of tunes at a time, and whose pages are written as they fill.
-use Rattle.std.proofs.Common.{◌≡◌, refl, sym, ap, ◌∙◌, subst, ℕ, ◌+◌, ◌^◌, ◌<◌, ◌≤◌, Bool, List, [], ◌++◌, append_assoc, length, take, drop, Option, arith}
+use Rattle.std.proofs.Common.{◌≡◌, refl, sym, ap, ◌∙◌, subst, ℕ, ◌+◌, ◌≤◌, Bool, List, [], ◌++◌, append_assoc, length, take, drop, Option, arith}
 use Rattle.std.proofs.lemmas.Grind.{flat_map-append}
 use Rattle.std.proofs.lemmas.List.{append-nil, length-append, take-append-drop}
 use Rattle.std.proofs.lemmas.List.Folds.{list_any-append}
@@ -59,14 +59,6 @@ running_written paper outcomes given r s press told refused count running =
       refused = refused ∙ running.refused;
       count = omega (arith, both, count, before);
     }
-
--- they can be numbered
-pub few_done : (paper : Paper) (outcomes : List Outcome) (given : List Page) (r : Running) → IsRunning paper outcomes given r → IsOpen r.press → r.writer.pages + length (done_pages r.press) < 2 ^ 32
-few_done paper outcomes given r running free =
-    let count = running.count in
-    let gone = running.pressed.gone in
-    let few = free.few in
-    omega (arith, count, gone, few)
 
 -- a tune is counted from 1
 abbrev pub IsCounted : TuneText → Type 0
@@ -195,8 +187,3 @@ module _ (defaults : Defaults) (paper : Paper) (flow : Bool) (tunes rest : List 
             (subst (λ text. WasStopped status.Memory o text) (sym (first_more paper run.given (done_pages r.press)))
             (memory_behind o (first_text paper run.given) (numbered page_text (length run.given + 1) (done_pages r.press)) run.wrote));
       }
-
-  -- no tune is left
-  pub underway_last : (o : Stream) (r : Running) → rest ≡ [] → IsUnderway defaults paper flow tunes rest o r → AreRunning defaults paper flow tunes o r
-  underway_last o r none way =
-      subst (λ all. AreRunning defaults paper flow all o r) (sym (append-nil way.before) ∙ ap (λ l. way.before ++ l) (sym none) ∙ way.whole) way.running

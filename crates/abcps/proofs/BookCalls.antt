@@ -3,24 +3,14 @@ use Rattle.std.proofs.Common.{◌≡◌, ◌≤◌, ◌^◌, ◌∙◌, refl, sy
 use Rattle.std.specs.List.{All}
 use Rattle.abc_header.specs.declared.paper.Paper.{Paper}
 use Rattle.abc_header.specs.Defaults.{defaults_of}
-use Rattle.abc_header.specs.Papers.{paper_of}
-use Rattle.abc_lines.specs.declared.book.Book.{Book}
 use Rattle.abc_lines.specs.Books.{book_of}
 use Rattle.gen_book.specs.Book.{book}
 use Rattle.set_book.specs.declared.outcome.Outcome.{Outcome}
-use Rattle.set_book.specs.Outcomes.{AreOutcomes}
 use Rattle.set_pages.specs.Sheet.{IsSetUnder, sheet_of}
 use Rattle.set_pages.proofs.Readying.{book_counted, set_outcomes}
 use Rattle.set_lists.specs.Laws.{ListsTheBook}
 use Rattle.set_lists.specs.Trials.{trial_text}
 use Rattle.abcps.specs.Books.{AreSet, CallsSystems, IsListedBy, Tries, paper_in, systems_by, systems_called, trial_called, trial_of}
-
--- what came of the tunes of a book that was cut
-pub are_set : (flow : Bool) (text : List ℕ) (b : Book) (paper : Paper) (outcomes : List Outcome) → b ≡ book_of text → paper ≡ paper_of b.header
-    → AreOutcomes (defaults_of b.header) paper flow b.tunes outcomes → AreSet flow text outcomes
-are_set flow text b paper outcomes is on all =
-    subst (λ (x : Book). AreOutcomes (defaults_of x.header) (paper_of x.header) flow x.tunes outcomes) is
-    (subst (λ p. AreOutcomes (defaults_of b.header) p flow b.tunes outcomes) on all)
 
 -- the tunes of a book are set on its paper
 pub set_under : (flow : Bool) (text : List ℕ) (paper : Paper) (outcomes : List Outcome) → paper ≡ paper_in text → AreSet flow text outcomes → All (IsSetUnder paper) outcomes

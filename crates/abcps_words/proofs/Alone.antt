@@ -83,9 +83,3 @@ module _ (words rest : List (List ℕ)) (c : Command) (o : Options) (flags : Lis
 pub good_of : (words : List (List ℕ)) (r : Option Command) → IfSome r (λ d. Asks words d) → IfSome r IsGoodCommand
 good_of words None h = tt
 good_of words (Some d) h = asked_is_good words d h
-
-pub unspelled_by : (words rest : List (List ℕ)) (c : Command) → words ≡ front_of c ++ rest → ((flags : List Flag) → IsSpelled flags rest → ⊥) → IsListed words → ⊥
-unspelled_by words rest c whole none listed =
-    let a = listed.1 in
-    let fronts = same_front listed.0 c a.behind rest (sym a.whole ∙ whole) in
-    none a.options (subst (IsSpelled a.options) fronts.1 a.spelled)

@@ -3,7 +3,7 @@ use Rattle.std.proofs.Common.{◌≡◌, ℕ, ◌+◌, ◌<◌, ◌≤◌, Bool,
 use Rattle.std.specs.List.{list_any, count_by}
 use Rattle.std.proofs.lemmas.Fmt.{decimal_injective}
 use Rattle.std.proofs.lemmas.List.{append-nil}
-use Rattle.std.proofs.lemmas.List.Elements.{All-nil, All-head, All-tail, All-push}
+use Rattle.std.proofs.lemmas.List.Elements.{All-head, All-tail, All-push}
 use Rattle.std.proofs.lemmas.List.Sums.{sum_by-append}
 use Rattle.std.proofs.lemmas.Grind.{flat_map-append}
 use Rattle.abcps_words.specs.declared.options.Flag.{Flag}
@@ -11,7 +11,7 @@ use Rattle.abcps_words.specs.declared.options.Flag.TheVariants as flag
 use Rattle.abcps_words.specs.declared.options.Options.{Options}
 use Rattle.abcps_words.specs.Words.{IsWithin, flag_words, IsFlag, is_flow, is_table, is_jobs, IsOnce, IsSpelled, jobs_in, said}
 use Rattle.abcps_words.proofs.Fronts.{tail_of, clash}
-use Rattle.abcps_words.specs.Adding.{added, no_options}
+use Rattle.abcps_words.specs.Adding.{added}
 
 one_number : (n m : ℕ) → IsWithin 64 n → IsWithin 64 m → decimal n ≡ decimal m → n ≡ m
 one_number n m a b e = decimal_injective n m (omega (arith, a)) (omega (arith, b)) e
@@ -95,18 +95,6 @@ pub record IsRead (words rest : List (List ℕ)) (o : Options) : Type 0 where
   pub in_range : All IsFlag seen
   pub once : IsOnce seen
   pub says : o ≡ said seen
-
-pub none_read : (words : List (List ℕ)) → IsRead words words no_options
-none_read words = record {
-  seen = [];
-  spelled = refl;
-  in_range = All-nil IsFlag;
-  once = record { flow = omega arith; table = omega arith; jobs = omega arith };
-  says = refl;
-}
-
-pub all_read : (words : List (List ℕ)) (o : Options) → IsRead words [] o → (flags : List Flag) × IsSpelled flags words × (o ≡ said flags)
-all_read words o read = (read.seen, record { spelled = read.spelled ∙ append-nil (flat_map flag_words read.seen); in_range = read.in_range; once = read.once }, read.says)
 
 any_new : (p : Flag → Bool) (seen : List Flag) (f : Flag) → p f ≡ true → list_any p (seen ++ f ∷ []) ≡ true
 any_new p [] f e = rw e refl

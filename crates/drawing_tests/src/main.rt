@@ -20,6 +20,7 @@ use crate::calls::put_case;
 use eng_io::{StdSink, write_all};
 use lay_columns::{columns_join, marks_join};
 use lay_measures::measures_join;
+use mus_ink::beams_by_levels;
 use mus_stems::{beams_by_groups, no_other_plans, slopes_by_beams};
 use mus_units::{Memory, Text};
 use std::alloc::Global;
@@ -37,6 +38,7 @@ fn all_answers(alloc: Global, cases: &str) -> Result<Text, Memory> {
 /// The calls that do nothing: each has a law for its promise.
 fn state_laws() {
     beams_by_groups();
+    beams_by_levels();
     slopes_by_beams();
     no_other_plans();
     columns_join();

@@ -1,8 +1,8 @@
 -- The text of a line, each part in front of what follows it.
-use Rattle.std.proofs.Common.{◌≡◌, ℕ, ◌∷◌, ◌++◌, ap, codes, decimal, refl}
+use Rattle.std.proofs.Common.{◌≡◌, ℕ, ◌∷◌, ◌++◌, ap, codes, decimal}
 use mathlib.Core.List.{append_assoc}
 use Rattle.lay_breaks.specs.declared.costs.Span.{Span}
-use Rattle.lay_cert.specs.Lines.{line_text, sum_text}
+use Rattle.lay_cert.specs.Lines.{line_text}
 use Rattle.lay_cert.specs.declared.lines.Line.TheVariants as line
 
 pub span_text : (s : Span) → line_text (line.OneSpan s) ≡ codes "span " ++ (decimal s.a ++ (32 ∷ (decimal s.b ++ (32 ∷ decimal s.badness))))
@@ -10,6 +10,3 @@ span_text s = ap (λ t. codes "span " ++ t) (append_assoc (decimal s.a) (32 ∷ 
 
 pub tune_text : (tune bars : ℕ) → line_text (line.Tune tune bars) ≡ codes "tune " ++ (decimal tune ++ (32 ∷ (codes "measures " ++ decimal bars)))
 tune_text tune bars = ap (λ t. codes "tune " ++ t) (append_assoc (decimal tune) (32 ∷ codes "measures ") (decimal bars))
-
-pub potential_text : (bar : ℕ) (least : _) → line_text (line.Potential bar least) ≡ codes "potential " ++ (decimal bar ++ (32 ∷ sum_text least))
-potential_text bar least = refl

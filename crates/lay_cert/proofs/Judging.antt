@@ -2,12 +2,12 @@
 use Rattle.std.proofs.Common.{◌≡◌, ◌≢◌, ℕ, suc, ◌+◌, ◌^◌, ◌<◌, ◌≤◌, ◌⊎◌, inl, inr, true, false, List, [], ◌∷◌, ◌++◌, length, Option, Some, None, is_some, refl, sym, ◌∙◌, ap, subst, arith, slice_index_or, if◌then◌else◌, ◌==◌}
 use Rattle.std.proofs.lemmas.Bool.{true≢false, eq-eqb, ne_eqb}
 use Rattle.std.proofs.lemmas.List.{length-append}
-use Rattle.lay_breaks.specs.Breaking.{last_from, IsPotential}
+use Rattle.lay_breaks.specs.Breaking.{last_from}
 use Rattle.lay_breaks.specs.Spans.{MayFollow, listed}
 use Rattle.lay_breaks.specs.declared.costs.Span.{Span}
 use Rattle.lay_cert.specs.Lines.{line_text, lines_then}
 use Rattle.eng_lines.specs.Lines.{Lacks}
-use Rattle.lay_cert.specs.Listing.{Entry, IsListing, none_forced}
+use Rattle.lay_cert.specs.Listing.{Entry, IsListing}
 use Rattle.lay_cert.specs.Places.{Place, begun, between, choosing, proving, ended, MayCome, next, Leads, IsStuck, IsFirstFault, last_tune_from, last_span_from}
 use Rattle.lay_cert.specs.Verdicts.{AreVerdicts, IsVerdict}
 use Rattle.lay_cert.specs.Stands.{IsChoosing, Proves, Stands, NoneMayCome, IsStep, entry_of}
@@ -22,18 +22,10 @@ use Rattle.lay_cert.specs.declared.place.Proving.{Proving}
 use Rattle.lay_cert.specs.declared.place.Stage.{Stage}
 use Rattle.lay_cert.specs.declared.place.Stage.TheVariants as stage
 use Rattle.eng_lines.proofs.Words.{one_cut, lacks_none}
-use Rattle.lay_cert.proofs.Sums.{one_potential}
 use Rattle.lay_cert.proofs.Grown.{listed_within, push_tune}
 use Rattle.lay_cert.proofs.Steps.{leads_good, leads_more, one_more}
 use Rattle.lay_cert.proofs.Through.{begun_with}
 use Rattle.lay_cert.proofs.Alone.{apart, tune_alone, span_alone, choice_alone, may_lack, told_by_lines, faults_tell_none}
-
--- where no line may come
-pub none_unread : (es : List Entry) (raw : List ℕ) → (raw ≡ line_text line.End → ⊥)
-    → ((tune bars : ℕ) → tune < 2 ^ 32 → bars < 2 ^ 32 → raw ≡ line_text (line.Tune tune bars) → ⊥) → NoneMayCome (between es) raw
-none_unread es raw g f (line.Tune t b) e m = let k = m.2 in f t b m.1 (omega arith) e
-none_unread es raw g f line.End e m = g e
-none_unread es raw g f l e m = absurd m
 
 pub none_refused : (es : List Entry) (raw : List ℕ) (tune bars : ℕ) → raw ≡ line_text (line.Tune tune bars) → tune < 2 ^ 32 → bars < 2 ^ 32
     → (tune ≤ last_tune_from 0 es) ⊎ (4000 < bars) → NoneMayCome (between es) raw
@@ -78,16 +70,6 @@ none_choosing es c raw h f g k (line.Total t) e m =
     k (h.at ∙ m.0) (e ∙ ap (λ t. line_text (line.Total t)) (m.1 ∙ sym h.total))
 none_choosing es c raw h f g k l e m = absurd m
 
-pub none_proving : (es : List Entry) (e : Entry) (v : Proving) (raw : List ℕ) → Proves v e
-    → (raw ≡ line_text (line.Potential v.next (slice_index_or v.potentials v.next None)) → ⊥) → NoneMayCome (proving es e) raw
-none_proving es e v raw h f (line.Potential b o) q m =
-    let is : b ≡ v.next = m.0 ∙ sym h.next in
-    let le = h.kept.some_left in let eb = h.bars in
-    let one = one_potential (listed e.spans) none_forced v.next o (slice_index_or v.potentials v.next None)
-    (subst (λ i. IsPotential (listed e.spans) none_forced i o) is m.1) (h.potentials v.next (omega arith)) in
-    f (q ∙ (ap (λ i. line_text (line.Potential i o)) is ∙ ap (λ o. line_text (line.Potential v.next o)) one))
-none_proving es e v raw h f l q m = absurd m
-
 -- an entry is known by its parts
 pub entry_same : (c : Choosing) (t n : ℕ) (ss : List Span) (bs : List ℕ) → c.tune ≡ t → c.bars ≡ n → c.spans ≡ ss → c.breaks ≡ bs
     → begun_with t n ss bs ≡ entry_of c
@@ -102,33 +84,10 @@ verdicts_more [] (k ∷ js) e j h t v = absurd h
 verdicts_more (x ∷ es) [] e j h t v = absurd h
 verdicts_more (x ∷ es) (k ∷ js) e j h t v = (h.0, h.1, verdicts_more es js e j h.2 t v)
 
--- by what the stage stands for
-pub at_begun : (Q : List Judged → Place → Type 0) (js : List Judged) (p : Place) → Stands stage.Begun js p → Q [] begun → Q js p
-at_begun Q js begun h q = subst (λ js. Q js begun) (sym h) q
-at_begun Q js p h q = absurd h
-
-pub at_between : (Q : Place → Type 0) (last : ℕ) (js : List Judged) (p : Place) → Stands (stage.Between last) js p
-    → ((es : List Entry) → last ≡ last_tune_from 0 es → AreVerdicts es js → Q (between es)) → Q p
-at_between Q last js (between es) h q = q es h.0 h.1
-at_between Q last js p h q = absurd h
-
-pub at_choosing : (Q : Place → Type 0) (c : Choosing) (js : List Judged) (p : Place) → Stands (stage.Choosing c) js p
-    → ((es : List Entry) → AreVerdicts es js → Q (choosing es (entry_of c))) → Q p
-at_choosing Q c js (choosing es e) h q = subst (λ e. Q (choosing es e)) (sym h.2) (q es h.0)
-at_choosing Q c js p h q = absurd h
-
-pub at_proving : (Q : Place → Type 0) (v : Proving) (js : List Judged) (p : Place) → Stands (stage.Proving v) js p
-    → ((es : List Entry) (e : Entry) → AreVerdicts es js → Proves v e → Q (proving es e)) → Q p
-at_proving Q v js (proving es e) h q = q es e h.0 h.1
-at_proving Q v js p h q = absurd h
-
 pub at_ended : (Q : Place → Type 0) (js : List Judged) (p : Place) → Stands stage.Ended js p
     → ((es : List Entry) → AreVerdicts es js → Q (ended es)) → Q p
 at_ended Q js (ended es) h q = q es h
 at_ended Q js p h q = absurd h
-
-pub none_ended : (es : List Entry) (raw : List ℕ) → NoneMayCome (ended es) raw
-none_ended es raw l e m = absurd m
 
 lines_push : (ls : List Line) (l : Line) (rest : List ℕ) → lines_then (ls ++ l ∷ []) rest ≡ lines_then ls (line_text l ++ 10 ∷ rest)
 lines_push [] l rest = refl
@@ -142,9 +101,6 @@ pub record IsReading (text : List ℕ) (s : Stage) (js : List Judged) (rest : Li
   pub leads : Leads begun lines place
   pub stands : Stands s js place
   pub counted : number ≡ length lines + 1
-
-pub reading_first : (text : List ℕ) → IsReading text stage.Begun [] text 1
-reading_first text = record { lines = []; place = begun; so_far = refl; leads = refl; stands = refl; counted = refl }
 
 pub reading_more : (text : List ℕ) (s t : Stage) (js ks : List Judged) (rest raw behind : List ℕ) (number : ℕ) → IsReading text s js rest number
     → rest ≡ raw ++ 10 ∷ behind → ((p : Place) → Stands s js p → IsStep p raw ks (Some t)) → IsReading text t ks behind (number + 1)

@@ -2,6 +2,5 @@ pub mod Covering
 pub mod Facts
 pub mod Gaps
 pub mod JoinLaws
-pub mod Pushed
 pub mod Rows
 pub mod Widening

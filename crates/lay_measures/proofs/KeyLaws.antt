@@ -12,7 +12,7 @@ use Rattle.mus_time.specs.declared.keys.Class.TheVariants as classes
 use Rattle.mus_time.specs.declared.keys.ColumnKey.{ColumnKey}
 use Rattle.mus_time.specs.Keys.{AreKeys, called_keys, events_keys, first_keys, further_keys, has_entries, key_at, measure_keys, measures_keys, signed_at, signed_behind, signed_through, voice_keys}
 use Rattle.mus_time.specs.Order.{BelowAll, is_below, Rises}
-use Rattle.mus_time.proofs.Orders.{lower}
+use Rattle.mus_time.proofs.RankLaws.{rises_join}
 use Rattle.std.specs.Prelude.{slice_index}
 
 -- ---- a rising list has its keys once and in order
@@ -64,19 +64,6 @@ unique (x ∷ xs) (y ∷ ys) rx ry all only =
 
 pub same_keys : (xs ys called : List ColumnKey) → AreKeys xs called → AreKeys ys called → xs ≡ ys
 same_keys xs ys called h g = unique xs ys h.rise g.rise (λ k i. g.all k (h.only k i)) (λ k i. h.all k (g.only k i))
-
--- ---- measures further on rise
-below_append : (k : ColumnKey) (xs ys : List ColumnKey) → BelowAll k xs → BelowAll k ys → BelowAll k (xs ++ ys)
-below_append k [] ys h g = g
-below_append k (x ∷ xs) ys h g = (h.0, below_append k xs ys h.1 g)
-
-below_further : (k : ColumnKey) (b : ℕ) (ys : List ColumnKey) → k.measure < b → AllByRecursion (λ l. b ≤ l.measure) ys → BelowAll k ys
-below_further k b [] h g = tt
-below_further k b (y ∷ ys) h g = (let from = g.0 in lower k y (omega (arith, h, from)), below_further k b ys h g.1)
-
-rises_on : (b : ℕ) (xs ys : List ColumnKey) → Rises xs → Rises ys → AllByRecursion (λ k. k.measure < b) xs → AllByRecursion (λ l. b ≤ l.measure) ys → Rises (xs ++ ys)
-rises_on b [] ys rx ry lx ly = ry
-rises_on b (x ∷ xs) ys rx ry lx ly = (below_append x xs ys rx.0 (below_further x b ys lx.0 ly), rises_on b xs ys rx.1 ry lx.1 ly)
 
 -- ---- one more of some
 cut_more : {X : Type 0} (n : ℕ) (xs : List X) → take (n + 1) xs ≡ take n xs ++ take 1 (drop n xs)
@@ -225,7 +212,7 @@ keys_grow s lengths a b front behind h w same below above first further =
     let all = voice_keys lengths a (b + 1) in
     let is = all_more lengths a b s.measures s.voices h w same in
     record {
-      rise = rises_on b front behind first.rise further.rise below above;
+      rise = rises_join b front behind first.rise further.rise below above;
       all = λ k i. to k (parts f g all k s.voices is i);
       only = λ k i. from k (Contains-append_cases front behind k i);
     }

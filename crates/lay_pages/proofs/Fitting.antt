@@ -46,10 +46,6 @@ fits_high : (tied : Bool) (high height : ℕ) → (not tied && nat_lt high heigh
 fits_high true high height e f = absurd cc
 fits_high false high height e f = grind (arith, nat_tests)
 
-in_group : (keep : Bool) (height others down high : ℕ) → keep ≡ true → down + with_kept keep height others ≤ high → down + height + 1500 + others ≤ high
-in_group true height others down high e fits = omega arith
-in_group false height others down high e fits = absurd cc
-
 -- where the next block is placed, its group fits
 next_fits : (keep : Bool) (page down height others high : ℕ) → down + with_kept keep height others ≤ high → (keep ≡ false → others ≤ high) →
     (place_by (keep || nat_le (down + height + 1500 + others) high) page (down + height + 1500)).down + others ≤ high

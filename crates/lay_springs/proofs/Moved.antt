@@ -11,9 +11,6 @@ use Rattle.lay_springs.specs.Fit.{IsSet}
 share_rises : (rest i k d : ℕ) → 0 < d → i ≤ k → rest * i / d ≤ rest * k / d
 share_rises rest i k d pos_d l = le-div (rest * i / d) (rest * k) d pos_d (grind (arith, div-mul-le_self (rest * i) d))
 
-share_whole : (rest d : ℕ) → 0 < d → rest * d / d ≡ rest
-share_whole rest d l = grind arith
-
 pub moved_apart : (n : ℕ) (reach : ℕ → ℕ → Option Reach) (gaps : List ℕ) (spring : ℕ → ℕ) (x at : List ℤ) (rest d : ℕ) → 0 < d
     → ((k : ℕ) → k < n → slice_index_or at k (pos 0) ≡ (slice_index_or x k (pos 0) +ℤ pos (rest * k / d)))
     → StandApart n reach gaps spring x → StandApart n reach gaps spring at

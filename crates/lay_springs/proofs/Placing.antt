@@ -1,6 +1,5 @@
 -- One column more is placed.
 use Rattle.std.proofs.Common.{◌≡◌, ℕ, ◌+◌, ◌*◌, ◌<◌, ◌≢◌, ℤ, pos, ◌+ℤ◌, ◌≤ℤ◌, List, length, Option, None, Some, IfSome, option_and_then, slice_get, slice_index_or, slice_set, sym, ◌∙◌, arith, subst, refl, get_or-set_same, get_or-set_other}
-use Rattle.std.proofs.lemmas.Int.{ints}
 use Rattle.lay_springs.specs.declared.traits.Reach.{Reach}
 use Rattle.lay_springs.specs.Place.{reach_at, length_at, IsClear, IsInside, IsPast, StandApart, IsPlacedTo}
 use Rattle.lay_springs.proofs.Clear.{below_or_at}
@@ -77,27 +76,6 @@ reach_is reach cols i c e lane = rw e refl
 pub length_is : {C : Type 0} (len : C → ℕ → ℕ) (cols : List C) (force i : ℕ) (c : C) → slice_get cols i ≡ Some c
     → length_at len cols force i ≡ len c force
 length_is len cols force i c e = rw e refl
-
-pub clear_read : {C : Type 0} (reach : C → ℕ → Option Reach) (cols : List C) (gaps : List ℕ) (lanes i j : ℕ) (c d : C) (x v : ℤ)
-    → slice_get cols i ≡ Some c → slice_get cols j ≡ Some d
-    → IsClear (reach c) (reach d) gaps lanes x v → IsClear (reach_at reach cols i) (reach_at reach cols j) gaps lanes x v
-clear_read reach cols gaps lanes i j c d x v ec ed h lane r s l er es =
-    h lane r s l (sym (reach_is reach cols i c ec lane) ∙ er) (sym (reach_is reach cols j d ed lane) ∙ es)
-
-pub clear_written : {C : Type 0} (reach : C → ℕ → Option Reach) (cols : List C) (gaps : List ℕ) (lanes i j : ℕ) (c d : C) (x v : ℤ)
-    → slice_get cols i ≡ Some c → slice_get cols j ≡ Some d
-    → IsClear (reach_at reach cols i) (reach_at reach cols j) gaps lanes x v → IsClear (reach c) (reach d) gaps lanes x v
-clear_written reach cols gaps lanes i j c d x v ec ed h lane r s l er es =
-    h lane r s l (reach_is reach cols i c ec lane ∙ er) (reach_is reach cols j d ed lane ∙ es)
-
--- a column further right stays clear
-pub clear_past : (first second : ℕ → Option Reach) (gaps : List ℕ) (lanes : ℕ) (x v w : ℤ) → v ≤ℤ w
-    → IsClear first second gaps lanes x v → IsClear first second gaps lanes x w
-clear_past first second gaps lanes x v w le h lane r s l er es = let k = h lane r s l er es in omega (arith, ints)
-
-pub clear_before : (first second : ℕ → Option Reach) (gaps : List ℕ) (lanes : ℕ) (x y v : ℤ) → x ≤ℤ y
-    → IsClear first second gaps lanes y v → IsClear first second gaps lanes x v
-clear_before first second gaps lanes x y v le h lane r s l er es = let k = h lane r s l er es in omega (arith, ints)
 
 pub inside_read : {C : Type 0} (reach : C → ℕ → Option Reach) (cols : List C) (lanes i : ℕ) (c : C) (v : ℤ)
     → slice_get cols i ≡ Some c → IsInside (reach c) lanes v → IsInside (reach_at reach cols i) lanes v

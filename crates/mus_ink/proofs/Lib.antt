@@ -2,3 +2,4 @@ pub mod Counting
 pub mod Cuts
 pub mod EachMark
 pub mod Keys
+pub mod LevelLaws

@@ -1,12 +1,9 @@
 -- Distances and heights in u, each with a name. Heights are counted from the bottom line of a staff.
-use Rattle.std.specs.Prelude.{ℕ, ◌*◌}
+use Rattle.std.specs.Prelude.{ℕ}
 
--- from a line of the staff to the space above it, and to the lines that things stand at
-abbrev pub step : ℕ
-step = 250
-
+-- the top line of a staff
 abbrev pub top_line : ℕ
-top_line = 8 * step
+top_line = 2000
 
 -- no height is further than this from the bottom line
 abbrev pub furthest : ℕ
@@ -20,7 +17,7 @@ abbrev pub grace_stem_side : ℕ
 grace_stem_side = 190
 
 abbrev pub grace_stem_length : ℕ
-grace_stem_length = 5 * step
+grace_stem_length = 1250
 
 -- the first sign before a grace, to the left of its column
 abbrev pub grace_sign_side : ℕ
@@ -35,7 +32,7 @@ beam_thickness = 250
 
 -- decorations: the lowest height, that of the first above the top of its event, and from each to the next
 abbrev pub deco_line : ℕ
-deco_line = 9 * step
+deco_line = 2250
 
 abbrev pub deco_gap : ℕ
 deco_gap = 500
@@ -54,7 +51,7 @@ abbrev pub dot_step : ℕ
 dot_step = 250
 
 abbrev pub rest_dot_line : ℕ
-rest_dot_line = 5 * step
+rest_dot_line = 1250
 
 -- the head of a staff: its clef, its first entry or its meter, and from each entry to the next
 abbrev pub clef_side : ℕ
@@ -75,13 +72,13 @@ entry_gap = 250
 
 -- a meter: its upper number, its lower one, and its sign
 abbrev pub upper_number_line : ℕ
-upper_number_line = 4 * step
+upper_number_line = 1000
 
 abbrev pub lower_number_line : ℕ
 lower_number_line = 0
 
 abbrev pub meter_sign_line : ℕ
-meter_sign_line = 2 * step
+meter_sign_line = 500
 
 -- texts: half the width of a small character, which is how far a text begins to the left of its column; from a verse
 -- to the next, from a text to the next, and the first text above the highest mark
@@ -109,4 +106,4 @@ abbrev pub tie_gap : ℕ
 tie_gap = 400
 
 abbrev pub cut_arc_line : ℕ
-cut_arc_line = 11 * step
+cut_arc_line = 2750

@@ -11,7 +11,8 @@ use Rattle.mus_laid.specs.declared.drawn.Drawn.{Drawn}
 use Rattle.mus_laid.specs.declared.drawn.Span.TheVariants as spans
 use Rattle.mus_laid.specs.declared.drawn.Bridge.{Bridge}
 use Rattle.mus_laid.specs.declared.laid.Lane.TheVariants as lanes
-use Rattle.mus_ink.specs.Distances.{furthest, step}
+use Rattle.mus_stems.specs.Distances.{step}
+use Rattle.mus_ink.specs.Distances.{furthest}
 
 -- to the left of a column, or down
 abbrev pub back : ℕ → ℤ
@@ -23,7 +24,7 @@ cut z = int_max (int_min z (pos furthest)) (back furthest)
 
 -- the dy of a height in steps
 unfoldable pub steps_dy : ℤ → ℤ
-steps_dy z = cut (pos step *ℤ z)
+steps_dy z = cut (step *ℤ z)
 
 abbrev pub glyph : Glyph → ℤ → ℤ → Drawn
 glyph g dx dy = record { ink = inks.Glyph g dx dy; lane = lanes.Main }

@@ -6,6 +6,7 @@ pub mod Distances
 pub mod Drawing
 pub mod Graces
 pub mod Kinds
+pub mod Levels
 pub mod Notes
 pub mod Rests
 pub mod Signatures

@@ -1,5 +1,5 @@
 -- The texts of a staff have at most 60 characters.
-use Rattle.std.proofs.Common.{◌≡◌, ℕ, ◌≤◌, List, [], ◌∷◌, length, map, take, ap, refl, subst, sym, arith}
+use Rattle.std.proofs.Common.{ℕ, ◌≤◌, List, length, map, take, subst, sym, arith}
 use Rattle.std.specs.List.{All, AllByRecursion}
 use Rattle.std.specs.Prelude.{IsTrue, decimal}
 use Rattle.std.proofs.lemmas.List.{length-map, length-take}
@@ -12,21 +12,18 @@ use Rattle.mus_units.specs.Good.{IsGoodMeter, is_halving}
 use Rattle.mus_score.specs.declared.score.Voice.{Voice}
 use Rattle.mus_score.specs.GoodScore.{IsGoodVoice}
 use Rattle.mus_time.specs.declared.keys.ColumnKey.{ColumnKey}
-use Rattle.mus_laid.specs.declared.drawn.Bridge.{Bridge}
-use Rattle.mus_laid.specs.declared.drawn.Drawn.{Drawn}
 use Rattle.mus_laid.specs.declared.drawn.Span.{Span}
 use Rattle.mus_laid.specs.declared.drawn.Span.TheVariants as spans
 use Rattle.mus_laid.specs.declared.laid.Laid.{Laid}
 use Rattle.mus_laid.specs.Boxes.{AreGoodMarks, IsGoodMark}
-use Rattle.mus_laid.specs.Printed.{printed, printed_byte}
+use Rattle.mus_laid.specs.Printed.{printed_byte}
 use Rattle.mus_laid.specs.Ranked.{drawn_at, span_at}
 use Rattle.mus_ink.specs.Signatures.{meter_marks}
-use Rattle.mus_ink.proofs.EachMark.{OfMarks}
-use Rattle.mus_words.proofs.EachWord.{IsShown, OfWords}
+use Rattle.mus_words.proofs.EachWord.{IsShown}
 use Rattle.mus_drawn.specs.Drawn.{drawn_voice}
 use Rattle.mus_marks.specs.Staff.{staff_marks}
 use Rattle.mus_marks.proofs.Fitting.{voice_fits}
-use Rattle.mus_marks.proofs.Parts.{IsVerse, OfLaid, staff_all}
+use Rattle.mus_marks.proofs.Parts.{OfLaid, staff_all}
 
 halving_small : (n : ℕ) → IsTrue (is_halving n) → n ≤ 64
 halving_small n h = grind (arith, nat_tests, h)

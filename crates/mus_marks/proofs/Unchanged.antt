@@ -1,5 +1,5 @@
 -- A change of nothing has no marks.
-use Rattle.std.proofs.Common.{◌≡◌, ℕ, ◌+◌, ◌*◌, ◌&&◌, true, List, [], ◌++◌, Option, Some, None, is_none, refl, arith}
+use Rattle.std.proofs.Common.{◌≡◌, ◌+◌, ◌*◌, ◌&&◌, true, List, [], ◌++◌, Option, Some, None, is_none, refl, arith}
 use Rattle.mus_units.specs.declared.pitch.Clef.{Clef}
 use Rattle.mus_units.specs.declared.key.Key.{Key}
 use Rattle.mus_units.specs.declared.key.Meter.{Meter}

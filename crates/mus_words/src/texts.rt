@@ -1,4 +1,4 @@
-ghost use Rattle.std.specs.Prelude.{◌≡◌, ◌≤◌, ◌+◌, ◌*◌, ◌++◌, min, flat_map, IfOk, OnOk};
+ghost use Rattle.std.specs.Prelude.{◌≡◌, ◌≤◌, ◌+◌, ◌*◌, ◌++◌, ◌-ℤ◌, pos, min, flat_map, IfOk, OnOk};
 ghost use Rattle.mus_ink.specs.Distances.{text_step, verse_step};
 ghost use Rattle.mus_words.specs.Texts.{shown_ending, shown_number, shown_deco, shown_mention, texts_above, texts_below, above_dy, below_dy, above_from, below_from, text_marks};
 
@@ -160,13 +160,20 @@ fn under_verses(verses: u8, others: u64) -> u64
     VERSE_STEP as u64 * u64::from(verses) + TEXT_STEP as u64 * (1 + others)
 }
 
+fn lowered(low: i32, under: u64) -> i64
+    requires { under ≤ 9000000000000 }
+    ensures { result ≡ low -ℤ pos under }
+{
+    i64::from(low) - under as i64
+}
+
 /// The dy of a text below that others stand nearer than.
 #[tactic(auto, unfolding(crate::specs::Texts::below_dy))]
 fn below_others(low: i32, verses: u8, others: u64) -> i32
     requires { others ≤ 8589934592 }
     ensures { result ≡ below_dy low verses others }
 {
-    cut(i64::from(low) - under_verses(verses, others) as i64)
+    cut(lowered(low, under_verses(verses, others)))
 }
 
 /// The dy of the k-th text below of an event.

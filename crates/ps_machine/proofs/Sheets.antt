@@ -1,5 +1,5 @@
 -- A text that a sheet spells gives what the sheet paints.
-use Rattle.std.proofs.Common.{◌≡◌, ℕ, List}
+use Rattle.std.proofs.Common.{ℕ, List}
 use Rattle.std.specs.Prelude.{Result, Ok, Err, IfOk, IfErr}
 use Rattle.ps_steps.specs.declared.halt.MachineError.{MachineError}
 use Rattle.ps_steps.specs.declared.halt.MachineError.TheVariants.{Halt, Memory}

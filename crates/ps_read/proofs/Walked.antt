@@ -49,9 +49,6 @@ pub record IsReading (text : List ℕ) (p : Place) (rest : List ℕ) (number : �
   pub counted : number ≡ length lines + 1
   pub ways : WaysOn text (length lines) p rest
 
-pub reading_first : (text : List ℕ) → IsReading text at.Begun text 1
-reading_first text = record { lines = []; so_far = refl; leads = refl; counted = refl; ways = λ ms r q e l n. (ms, e, l, omega arith) }
-
 -- behind one more line
 ways_more : (text : List ℕ) (count : ℕ) (p t : Place) (rest raw behind : List ℕ) → WaysOn text count p rest → rest ≡ raw ++ 10 ∷ behind → Lacks 10 raw
     → IsNextOf Any p raw t → WaysOn text (count + 1) t behind

@@ -6,7 +6,7 @@ use Rattle.std.proofs.lemmas.List.Folds.{list_all-append}
 use Rattle.ps_text.specs.Fields.{shown}
 use Rattle.ps_text.specs.Range.{is_shown}
 use Rattle.ps_steps.specs.Tokens.{IsString, IsOpen}
-use Rattle.ps_tokens.specs.Spelling.{IsByte, IsCut, IsBroken}
+use Rattle.ps_tokens.specs.Spelling.{IsCut, IsBroken}
 use Rattle.ps_tokens.proofs.Both.{first, second}
 use Rattle.ps_tokens.proofs.Strings.{one_byte, not_close}
 
@@ -17,12 +17,6 @@ pub record WordsStage (bytes words rest : List ℕ) : Type 0 where
 
 all_more : (words : List ℕ) (b : ℕ) → IsTrue (list_all is_shown words) → IsTrue (is_shown b) → IsTrue (list_all is_shown (words ++ b ∷ []))
 all_more words b h k = list_all-append is_shown words (b ∷ []) ∙ rw (h, k) refl
-
-pub words_more : (bytes words rest : List ℕ) (b : ℕ) (after : List ℕ) → WordsStage bytes words rest → IsByte rest b after → WordsStage bytes (words ++ b ∷ []) after
-words_more bytes words rest b after s i = record {
-  good = all_more words b s.good i.good;
-  spelled = s.spelled ∙ (ap (λ x. flat_map shown words ++ x) i.spelled ∙ (sym (append_assoc (flat_map shown words) (shown b) after) ∙ ap (λ x. x ++ after) (flat_map_more shown [] words b)));
-}
 
 pub words_string : (bytes words rest after : List ℕ) → WordsStage bytes words rest → rest ≡ 41 ∷ after → IsString bytes words after
 words_string bytes words rest after s e = record { good = s.good; spelled = s.spelled ∙ ap (λ x. flat_map shown words ++ x) e }

@@ -1,5 +1,5 @@
 -- The items of each page are good and in order: a title stands only in the block that begins a tune.
-use Rattle.std.proofs.Common.{◌≡◌, refl, ap, ℕ, zero, suc, ℤ, Bool, true, false, cond, List, [], ◌∷◌, ◌++◌, map, length, Option, Some, None}
+use Rattle.std.proofs.Common.{ℕ, zero, suc, ℤ, Bool, true, false, cond, List, [], ◌∷◌, ◌++◌, map, Option, Some, None}
 use Rattle.std.proofs.lemmas.List.Elements.{All-append, All-cons, All-nil}
 use Rattle.std.specs.Prelude.{◌==◌, ⊤, All, Result, Ok, Err}
 use Rattle.std.specs.List.{AllZip}
@@ -103,10 +103,6 @@ pages_good width ds ss k (suc n) good begun =
     All-cons IsPage (record { items = items_on width k ds ss }) (pages_from width ds ss (suc k) n)
     (record { items = items_good width k ds ss good; order = (items_ordered width k ds ss begun).order })
     (pages_good width ds ss (suc k) n good begun)
-
-pub pages_count : (width : ℕ) (ds : List Drawing) (ss : List Spot) (k n : ℕ) → length (pages_from width ds ss k n) ≡ n
-pages_count width ds ss k zero = refl
-pages_count width ds ss k (suc n) = ap suc (pages_count width ds ss (suc k) n)
 
 -- each title of a tune begins it
 systems_begun : (begins : Option ℕ) (systems : List SystemMarks) (placed : List Placed) (heights : List Heights) → AreBegun (drawings_from begins (system_contents systems placed heights))

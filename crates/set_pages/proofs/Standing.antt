@@ -37,12 +37,6 @@ rising high blocks [] within filled = tt
 rising high [] (spot ∷ spots) within filled = absurd within
 rising high (block ∷ blocks) (spot ∷ spots) within filled = (filled.0.0, rising_from high block blocks spot spots within filled.1)
 
-pub within_count : (high : ℕ) (blocks : List Block) (spots : List Spot) → AreWithin high blocks spots → length blocks ≡ length spots
-within_count high [] [] within = refl
-within_count high [] (spot ∷ spots) within = absurd within
-within_count high (block ∷ blocks) [] within = absurd within
-within_count high (block ∷ blocks) (spot ∷ spots) within = ap suc (within_count high blocks spots within.1)
-
 -- a top lies on the page
 top_within : (high : ℕ) (height top : ℤ) → pos 0 ≤ℤ height → top ≤ℤ pos high → pos 0 ≤ℤ (top -ℤ height) → high ≤ 2 ^ 39 → IsTop top
 top_within high height top good below above small = record { low = omega (arith, ints); high = omega (arith, ints) }

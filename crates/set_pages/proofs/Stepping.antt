@@ -1,9 +1,8 @@
 -- One system more of a tune, and one outcome more of a book.
-use Rattle.std.proofs.Common.{◌≡◌, refl, sym, ap, ◌∙◌, subst, ℕ, ◌+◌, ◌<◌, ◌≤◌, ℤ, true, false, map, List, [], ◌∷◌, ◌++◌, length, take, drop, get_or, Option, Some, None, arith}
+use Rattle.std.proofs.Common.{◌≡◌, sym, ap, ◌∙◌, subst, ℕ, ◌+◌, ◌<◌, ◌≤◌, ℤ, map, List, [], ◌∷◌, ◌++◌, length, take, drop, get_or, Option, None, arith}
 use Rattle.std.proofs.lemmas.List.{append_assoc, drop_more, length-drop, take_all}
 use Rattle.std.proofs.lemmas.List.Elements.{All-map, All-more}
-use Rattle.std.proofs.lemmas.Bool.Decides.{nat_tests}
-use Rattle.std.specs.Prelude.{◌==◌, All, slice_index_or}
+use Rattle.std.specs.Prelude.{All, slice_index_or}
 use Rattle.std.specs.List.{AllZip}
 use Rattle.mus_laid.specs.declared.laid.SystemMarks.{SystemMarks}
 use Rattle.lay_springs.specs.declared.margin.Placed.{Placed}
@@ -13,11 +12,10 @@ use Rattle.lay_pages.specs.declared.filling.Block.{Block}
 use Rattle.lay_pages.specs.declared.titles.TitleRow.{TitleRow}
 use Rattle.ps_text.specs.declared.sheet.Item.{Item}
 use Rattle.ps_text.specs.Range.{IsItem}
-use Rattle.set_tune.specs.declared.tune.SetTune.{SetTune}
 use Rattle.set_book.specs.declared.outcome.Outcome.{Outcome}
 use Rattle.set_pages.specs.declared.pages.Pages.{Pages}
-use Rattle.set_pages.specs.Drawings.{all_blocks, all_drawings, drawing, drawings_from, drawings_of, outcome_blocks, outcome_drawings, row_at, system, system_contents, systems_of, title, title_contents}
-use Rattle.set_pages.specs.Filling.{with_drawing, with_drawings}
+use Rattle.set_pages.specs.Drawings.{all_blocks, all_drawings, drawing, drawings_from, outcome_blocks, outcome_drawings, row_at, system, system_contents}
+use Rattle.set_pages.specs.Filling.{with_drawings}
 use Rattle.set_pages.specs.Ready.{IsDrawn, IsReady, IsReadyAt}
 use Rattle.set_pages.proofs.Turned.{with_more}
 use Rattle.set_pages.proofs.Standing.{drawings_count, systems_count}
@@ -46,21 +44,6 @@ pub systems_ready : (i : ℕ) (ms : List SystemMarks) (ps : List Placed) (hs : L
     → AreCut i ms ps hs ss m p h s → AllZip IsReady (drawings_from opening (system_contents (drop i ms) (drop i ps) (drop i hs))) (drop i ss)
     → IsReady (drawing opening (system m p.at h.bases)) s × AllZip IsReady (drawings_from None (system_contents (drop (i + 1) ms) (drop (i + 1) ps) (drop (i + 1) hs))) (drop (i + 1) ss)
 systems_ready i ms ps hs ss m p h s opening c ready = cut (λ a b d e. AllZip IsReady (drawings_from opening (system_contents a b d)) e) i ms ps hs ss m p h s c ready
-
-pub systems_value : (width i : ℕ) (ms : List SystemMarks) (ps : List Placed) (hs : List Heights) (ss : List Spot) (m : SystemMarks) (p : Placed) (h : Heights) (s : Spot) (opening : Option ℕ) (old new whole : Pages)
-    → AreCut i ms ps hs ss m p h s → new ≡ with_drawing width old (drawing opening (system m p.at h.bases)) s
-    → with_drawings width old (drawings_from opening (system_contents (drop i ms) (drop i ps) (drop i hs))) (drop i ss) ≡ whole
-    → with_drawings width new (drawings_from None (system_contents (drop (i + 1) ms) (drop (i + 1) ps) (drop (i + 1) hs))) (drop (i + 1) ss) ≡ whole
-systems_value width i ms ps hs ss m p h s opening old new whole c e so_far =
-    ap (λ q. with_drawings width q (drawings_from None (system_contents (drop (i + 1) ms) (drop (i + 1) ps) (drop (i + 1) hs))) (drop (i + 1) ss)) e
-    ∙ cut (λ a b d f. with_drawings width old (drawings_from opening (system_contents a b d)) f ≡ whole) i ms ps hs ss m p h s c so_far
-
-pub systems_drawn : (width i : ℕ) (ms : List SystemMarks) (ps : List Placed) (hs : List Heights) (ss : List Spot) (m : SystemMarks) (p : Placed) (h : Heights) (s : Spot) (opening : Option ℕ) (Whole : Type 0)
-    → AreCut i ms ps hs ss m p h s → IsDrawn width (drawing opening (system m p.at h.bases)) s
-    → (AllZip (IsDrawn width) (drawings_from opening (system_contents (drop i ms) (drop i ps) (drop i hs))) (drop i ss) → Whole)
-    → AllZip (IsDrawn width) (drawings_from None (system_contents (drop (i + 1) ms) (drop (i + 1) ps) (drop (i + 1) hs))) (drop (i + 1) ss) → Whole
-systems_drawn width i ms ps hs ss m p h s opening Whole c here so_far more =
-    cut (λ a b d e. AllZip (IsDrawn width) (drawings_from opening (system_contents a b d)) e → Whole) i ms ps hs ss m p h s c so_far (here, more)
 
 -- an outcome more: its blocks stand at the first of the spots that are left
 pub record IsSplit (n : ℕ) (rest here more : List Spot) : Type 0 where
@@ -92,22 +75,6 @@ outcome_drawn width o os left rest here more Whole e split drawn so_far behind =
     let front = subst (λ l. AllZip (IsDrawn width) (outcome_drawings o) l) split.front drawn in
     let back = subst (λ l. AllZip (IsDrawn width) (all_drawings os) l) split.back behind in
     subst (λ l. AllZip (IsDrawn width) (all_drawings l) rest → Whole) e so_far (zip_joined (IsDrawn width) (outcome_drawings o) (all_drawings os) rest front back)
-
--- the blocks of a tune: its title, where it has a row, and its systems
-pub no_rows : (rows : List TitleRow) → true ≡ (length rows == 0) → title_contents rows ≡ []
-no_rows [] e = refl
-no_rows (row ∷ rows) e = absurd (grind (arith, nat_tests))
-
-pub some_rows : (rows : List TitleRow) → false ≡ (length rows == 0) → title_contents rows ≡ title rows ∷ []
-some_rows [] e = absurd cc
-some_rows (row ∷ rows) e = refl
-
-pub untitled : (ordinal : ℕ) (t : SetTune) (rows : List TitleRow) → rows ≡ t.title.rows → true ≡ (length rows == 0) → drawings_of ordinal t ≡ drawings_from (Some ordinal) (systems_of t)
-untitled ordinal t rows same none = ap (λ contents. drawings_from (Some ordinal) (contents ++ systems_of t)) (ap title_contents (sym same) ∙ no_rows rows none)
-
-pub titled : (ordinal : ℕ) (t : SetTune) (rows : List TitleRow) → rows ≡ t.title.rows → false ≡ (length rows == 0)
-    → drawings_of ordinal t ≡ drawing (Some ordinal) (title rows) ∷ drawings_from None (systems_of t)
-titled ordinal t rows same some = ap (λ contents. drawings_from (Some ordinal) (contents ++ systems_of t)) (ap title_contents (sym same) ∙ some_rows rows some)
 
 -- a spot for each system that is left
 spot_there : (n : ℕ) (ss : List Spot) (i : ℕ) → n ≡ length (drop i ss) → 1 ≤ n → i < length ss

@@ -1,0 +1,9 @@
+ghost use Rattle.mus_ink.specs.Levels.{BeamsByLevels};
+
+/// The law of levels: the beams that `put_beams` draws for a measure, whose events stand in columns
+/// of their own, are those of its levels: at each level one for each maximal run of two events or
+/// more that have it, in the order of their first events and there by level. Does nothing.
+#[tactic(auto, using(crate::proofs::LevelLaws::beams_by_levels))]
+pub fn beams_by_levels()
+    ensures { BeamsByLevels }
+{}
