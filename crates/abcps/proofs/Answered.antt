@@ -4,9 +4,12 @@ use Rattle.std.specs.Io.KnownBytes.{Consumes, IsAtEnd}
 use Rattle.abcps_words.specs.declared.command.Command.{Command}
 use Rattle.abcps_words.specs.declared.command.Command.TheVariants as command
 use Rattle.abcps.specs.Called.{Called}
-use Rattle.abcps.specs.Calls.{Calls}
+use Rattle.abcps.specs.Calls.{Calls, Refuses}
+use Rattle.abcps.specs.Refusals.{refusal_line, refusal_status}
+use Rattle.abcps.specs.declared.refusing.Refusal.{Refusal}
+use Rattle.abcps.specs.declared.refusing.Refusal.TheVariants as refusals
 use Rattle.abcps_words.specs.Command.{Asks, limit_of}
-use Rattle.abcps.specs.Outcome.{IsAnswer, IsAnswered, IsEnd, IsObeyed, IsRead, IsReader, IsRun, ReadAll, Stream, TookAll, TookFront}
+use Rattle.abcps.specs.Outcome.{IsAnswer, IsAnswered, IsEnd, IsObeyed, IsQuiet, IsRead, IsReader, IsRun, ReadAll, Stream, TookAll, TookFront, WasTold}
 use Rattle.abcps.specs.declared.status.Status.{Status}
 use Rattle.abcps.specs.declared.status.Status.TheVariants as status
 
@@ -45,6 +48,15 @@ answer_of c text C give o e s r = absurd r
 pub answer_by : (c : Command) (text : List ℕ) (called : Called) → Calls c text called
     → (o e : Stream) (s : Status) → IsAnswered (Is called) s o e → IsAnswer c s text o e
 answer_by c text called calls o e s r = answer_of c text (Is called) (λ other is. subst (Calls c text) (sym is) calls) o e s r
+
+-- the input was refused, or memory ran out
+pub answer_refused : (c : Command) (text : List ℕ) (refusal : Refusal) (o e : Stream) (s : Status) → Refuses c text refusal → IsQuiet o
+    → ((s ≡ status.Memory) × IsQuiet e) ⊎ ((s ≡ refusal_status refusal) × WasTold e (refusal_line refusal)) → IsAnswer c s text o e
+answer_refused c text refusal o e s refuses quiet (inl none) = subst (λ t. IsAnswer c t text o e) (sym none.0) (none.1, inl quiet)
+answer_refused c text (refusals.NotPages line) o e s refuses quiet (inr told) =
+    subst (λ t. IsAnswer c t text o e) (sym told.0) (refusals.NotPages line, refuses, refl, quiet, told.1)
+answer_refused c text (refusals.Halted token cause) o e s refuses quiet (inr told) =
+    subst (λ t. IsAnswer c t text o e) (sym told.0) (refusals.Halted token cause, refuses, refl, quiet, told.1)
 
 -- what was read of a command that reads
 pub read_of : (c : Command) (i : Stream) (text : List ℕ) → IsReader c → ReadAll (limit_of c) i text → IsRead c i text

@@ -26,8 +26,7 @@ use Rattle.abcps_words.specs.declared.command.Command.TheVariants as command
 use Rattle.abcps.specs.declared.status.Status.{Status}
 use Rattle.abcps.specs.Called.{Called, IsQuietly}
 use Rattle.abcps.specs.Books.{AreSet, CallsPages, CallsSystems, Tries, paper_in, status_of, systems_by, trial_of}
-use Rattle.abcps.specs.Calls.{Calls, CallsOne, IsPainted, Judges, NeverBoth, Refuses, Shows, budget_of, by_one_job, status_by, verdicts_text}
-use Rattle.abcps.specs.declared.refusing.Refusal.{Refusal}
+use Rattle.abcps.specs.Calls.{Calls, CallsOne, IsPainted, Judges, NeverBoth, Shows, budget_of, by_one_job, status_by, verdicts_text}
 use Rattle.abcps.specs.declared.refusing.Refusal.TheVariants as refusals
 use Rattle.abcps.specs.Outputs.{sheet_report}
 

@@ -8,7 +8,7 @@ use Rattle.abcps.specs.Called.{Called}
 use Rattle.abcps.specs.Calls.{Calls, CallsOne, NeverBoth, Refuses}
 use Rattle.abcps.specs.Refusals.{IsRefusal}
 use Rattle.abcps.specs.declared.refusing.Refusal.{Refusal}
-use Rattle.abcps.specs.Outcome.{HasFailed, HasPart, Stream, IsAnswer, IsObeyed, IsQuiet, IsRead, IsReader, IsRun, ReadAll, ReadTooMuch, TookAll, WasCut, WasRefused}
+use Rattle.abcps.specs.Outcome.{HasFailed, HasPart, Stream, IsObeyed, IsQuiet, IsRead, IsReader, IsRun, ReadAll, ReadTooMuch, TookAll, WasCut, WasRefused}
 use Rattle.abcps.specs.Promises.{IsDone, IsGiven, IsRefused, IsToldTo, IsWhole, NoFault, Promises}
 use Rattle.abcps.specs.declared.status.Status.{Status}
 use Rattle.abcps.specs.declared.status.Status.TheVariants as status
