@@ -1,22 +1,22 @@
 -- The first column of a system is that of its head, and the last that of its last bar.
-use Rattle.std.proofs.Common.{◌≡◌, ◌∙◌, ℕ, zero, suc, ◌+◌, ◌-◌, ◌<◌, ◌≤◌, true, List, [], ◌∷◌, length, get_or, refl, ap, subst, inl, inr, arith}
-use Rattle.std.specs.List.{All, Contains, slice_index, slice_range}
+use Rattle.std.proofs.Common.{◌≡◌, ◌∙◌, ℕ, zero, suc, ◌+◌, ◌-◌, ◌<◌, ◌≤◌, true, List, [], ◌∷◌, length, get_or, drop, refl, ap, subst, inl, inr, arith}
+use Rattle.std.specs.List.{All, Contains, flat_map, slice_index, slice_range}
 use Rattle.std.proofs.lemmas.Bool.{cases_lt}
 use Rattle.std.proofs.lemmas.Bool.Decides.{nat_tests}
-use Rattle.std.proofs.lemmas.List.{get_or_default}
-use Rattle.std.proofs.lemmas.List.Elements.{Contains-append_right}
+use Rattle.std.proofs.lemmas.List.{get_or_default, length-drop, length-take-le}
+use Rattle.std.proofs.lemmas.List.Elements.{Contains-append_left, Contains-append_right}
+use Rattle.mus_score.specs.declared.score.Measure.{Measure}
 use Rattle.mus_score.specs.declared.score.Score.{Score}
+use Rattle.mus_score.specs.declared.score.Voice.{Voice}
 use Rattle.mus_score.specs.GoodScore.{IsGoodScore}
+use Rattle.mus_score.specs.Times.{flats_of}
 use Rattle.mus_time.specs.declared.keys.Class.{Class}
 use Rattle.mus_time.specs.declared.keys.Class.TheVariants as classes
 use Rattle.mus_time.specs.declared.keys.ColumnKey.{ColumnKey}
-use Rattle.mus_time.specs.Keys.{AreKeys, IsInSystem, bar_key, called_keys, first_keys, head_key, measures_keys, signed_at, voice_keys}
+use Rattle.mus_time.specs.Keys.{AreKeys, IsInSystem, bar_key, called_keys, events_keys, first_keys, head_key, measures_keys, signed_at, signed_through, voice_keys}
 use Rattle.mus_time.specs.Onsets.{timeline_of}
 use Rattle.mus_time.specs.Order.{BelowAll, is_below, Rises}
 use Rattle.mus_time.proofs.Places.{places_of}
-use Rattle.lay_measures.proofs.Facts.{some_voice}
-use Rattle.lay_measures.proofs.KeyLaws.{slice_long}
-use Rattle.lay_measures.proofs.Ranks.{bars_in}
 
 -- ---- rising keys
 below_all_at : (k : ColumnKey) (ks : List ColumnKey) → BelowAll k ks → (j : ℕ) (d : ColumnKey) → j < length ks → is_below k (get_or ks j d) ≡ true
@@ -80,6 +80,26 @@ bar_last lengths a b ks rise all (i, inside, is) d =
     ]
 
 -- ---- the voices call for both
+bars_in : (lengths : List ℕ) (m : ℕ) (in_head signed : Bool) (xs : List Measure) (i : ℕ) → i < length xs → Contains (measures_keys lengths m in_head signed xs) (bar_key lengths (m + i))
+bars_in lengths m in_head signed [] i h = absurd (omega (arith, h))
+bars_in lengths m in_head signed (x ∷ xs) zero h =
+    let e : m ≡ m + 0 = omega arith in
+    subst (λ n. Contains (measures_keys lengths m in_head signed (x ∷ xs)) (bar_key lengths n)) e
+    (Contains-append_right (events_keys m in_head signed [] (flats_of x.body)) _ (bar_key lengths m) (0, omega arith, refl))
+bars_in lengths m in_head signed (x ∷ xs) (suc i) h =
+    let e : m + 1 + i ≡ m + suc i = omega arith in
+    let more = bars_in lengths (m + 1) false (signed_through signed (flats_of x.body)) xs i (omega (arith, h)) in
+    subst (λ n. Contains (measures_keys lengths m in_head signed (x ∷ xs)) (bar_key lengths n)) e
+    (Contains-append_right (events_keys m in_head signed [] (flats_of x.body)) _ (bar_key lengths (m + 1 + i)) (suc more.0, omega (arith, more.1), more.2))
+
+some_voice : (f : Voice → List ColumnKey) (n : ℕ) (k : ColumnKey) (vs : List Voice) → 1 ≤ length vs → All (λ v. length v.measures ≡ n) vs
+    → ((v : Voice) → length v.measures ≡ n → Contains (f v) k) → Contains (flat_map f vs) k
+some_voice f n k [] h same has = absurd (omega (arith, h))
+some_voice f n k (v ∷ vs) h same has = Contains-append_left (f v) (flat_map f vs) k (has v (same 0 v (omega arith)))
+
+slice_long : {X : Type 0} (a b : ℕ) (xs : List X) → b ≤ length xs → length (slice_range xs a b) ≡ b - a
+slice_long a b xs h = let d = length-drop a xs in length-take-le (b - a) (drop a xs) (omega (arith, d, h))
+
 called_head : (s : Score) (lengths : List ℕ) (a b : ℕ) → 1 ≤ length s.voices → All (λ v. length v.measures ≡ s.measures) s.voices
     → Contains (called_keys s lengths a b) (head_key a)
 called_head s lengths a b some same = some_voice (voice_keys lengths a b) s.measures (head_key a) s.voices some same (λ v e. (0, omega arith, refl))
