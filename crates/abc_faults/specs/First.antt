@@ -26,8 +26,9 @@ rank_of kinds.RestWithoutMeter = 16
 rank_of kinds.TooManyMeasures = 17
 rank_of kinds.TooManyEvents = 18
 rank_of kinds.TooManyVerses = 19
-rank_of (kinds.NoWay reached) = 20
-rank_of (kinds.TooTall block) = 21
+rank_of kinds.BadMove = 20
+rank_of (kinds.NoWay reached) = 21
+rank_of (kinds.TooTall block) = 22
 
 -- the first numbers decide, and where they are equal the others
 abbrev pub then_below : ℕ → ℕ → Bool → Bool

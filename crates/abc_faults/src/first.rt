@@ -29,8 +29,9 @@ fn rank(kind: FaultKind) -> u8
         FaultKind::TooManyMeasures => 17,
         FaultKind::TooManyEvents => 18,
         FaultKind::TooManyVerses => 19,
-        FaultKind::NoWay { reached: _ } => 20,
-        FaultKind::TooTall { block: _ } => 21,
+        FaultKind::BadMove => 20,
+        FaultKind::NoWay { reached: _ } => 21,
+        FaultKind::TooTall { block: _ } => 22,
     }
 }
 

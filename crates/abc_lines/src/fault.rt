@@ -46,6 +46,8 @@ pub enum FaultKind {
     TooManyEvents,
     /// A ninth line of words on one music line.
     TooManyVerses,
+    /// A key, a sign or a head that can't be moved so far.
+    BadMove,
     /// No legal breaking; `reached` is the greatest bar at which a legal prefix ends.
     NoWay { reached: u32 },
     /// A group of blocks higher than the page; `block` is its first block, from 0

@@ -55,6 +55,7 @@ fn name_of(kind: FaultKind) -> &'static [u8] {
         FaultKind::TooManyMeasures => b"TooManyMeasures",
         FaultKind::TooManyEvents => b"TooManyEvents",
         FaultKind::TooManyVerses => b"TooManyVerses",
+        FaultKind::BadMove => b"BadMove",
         FaultKind::NoWay { .. } => b"NoWay",
         FaultKind::TooTall { .. } => b"TooTall",
     }

@@ -1,3 +1,4 @@
 pub mod Alteration
 pub mod Circle
 pub mod Signs
+pub mod Steps

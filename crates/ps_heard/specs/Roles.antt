@@ -1,8 +1,6 @@
 -- What a glyph tells a listener, and the pitch at a height of a staff.
-use Rattle.std.specs.Prelude.{ℤ, pos, ◌+ℤ◌, if◌then◌else◌, List, [], ◌∷◌}
-use Rattle.std.specs.List.{slice_index_or}
-use Rattle.std.specs.Int.{int_div_euclid, int_rem_euclid}
-use Rattle.std.specs.Int.RustNames.{unsigned_abs}
+use Rattle.std.specs.Prelude.{ℤ, pos, ◌+ℤ◌, if◌then◌else◌}
+use Rattle.std.specs.Int.{int_div_euclid}
 use Rattle.std.specs.Ordering.{int_eq}
 use Rattle.mus_units.specs.Pitch.{bottom_of}
 use Rattle.mus_units.specs.declared.glyph.Glyph.{Glyph}
@@ -10,9 +8,8 @@ use Rattle.mus_units.specs.declared.glyph.Glyph.TheVariants as glyphs
 use Rattle.mus_units.specs.declared.pitch.Alter.TheVariants as alters
 use Rattle.mus_units.specs.declared.pitch.Clef.{Clef}
 use Rattle.mus_units.specs.declared.pitch.Clef.TheVariants as clefs
-use Rattle.mus_units.specs.declared.pitch.Letter.{Letter}
-use Rattle.mus_units.specs.declared.pitch.Letter.TheVariants as letters
 use Rattle.mus_units.specs.declared.pitch.Pitch.{Pitch}
+use Rattle.mus_pitch.specs.Steps.{pitch_of_steps}
 use Rattle.ps_heard.specs.declared.column.Role.{Role}
 use Rattle.ps_heard.specs.declared.column.Role.TheVariants as roles
 
@@ -41,14 +38,6 @@ role_of glyphs.Bi dy = roles.Bar
 role_of glyphs.Bb dy = roles.Bar
 role_of glyphs.Bo dy = roles.Bar
 role_of _ dy = roles.Quiet
-
--- letters from C up
-abbrev pub scale : List Letter
-scale = letters.C ∷ letters.D ∷ letters.E ∷ letters.F ∷ letters.G ∷ letters.A ∷ letters.B ∷ []
-
--- the pitch so many steps above C0
-unfoldable pub pitch_of_steps : ℤ → Pitch
-pitch_of_steps n = record { letter = slice_index_or scale (unsigned_abs (int_rem_euclid n (pos 7))) letters.C; octave = int_div_euclid n (pos 7) }
 
 -- a step is 250 high
 unfoldable pub pitch_at : Clef → ℤ → Pitch

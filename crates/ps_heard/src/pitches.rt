@@ -1,28 +1,10 @@
-ghost use Rattle.std.specs.Prelude.{◌≡◌, ◌≤◌, ◌+ℤ◌, ◌≤ℤ◌, pos};
-ghost use Rattle.std.specs.Int.{int_div_euclid, int_rem_euclid};
-ghost use Rattle.std.specs.Int.RustNames.{unsigned_abs};
-ghost use Rattle.std.specs.List.{slice_index_or};
+ghost use Rattle.std.specs.Prelude.{◌≡◌, ◌≤ℤ◌, pos};
+ghost use Rattle.std.specs.Int.{int_div_euclid};
 ghost use Rattle.mus_units.specs.Pitch.{bottom_of};
-ghost use Rattle.mus_units.specs.declared.pitch.Letter.TheVariants as letters;
-ghost use Rattle.ps_heard.specs.Roles.{pitch_at, pitch_of_steps, scale};
+ghost use Rattle.ps_heard.specs.Roles.{pitch_at};
 
-use mus_units::{Clef, Letter, Pitch};
-
-/// The letter so many steps above C.
-fn letter_at(number: u32) -> Letter
-    ensures { result ≡ slice_index_or scale number Letter.C }
-{
-    match number {
-        0 => Letter::C,
-        1 => Letter::D,
-        2 => Letter::E,
-        3 => Letter::F,
-        4 => Letter::G,
-        5 => Letter::A,
-        6 => Letter::B,
-        _ => Letter::C,
-    }
-}
+use mus_pitch::pitch_of_steps;
+use mus_units::{Clef, Pitch};
 
 /// The steps from C0 to the bottom line.
 fn bottom(clef: Clef) -> i32
@@ -34,28 +16,6 @@ fn bottom(clef: Clef) -> i32
         Clef::Bass => 18,
         Clef::Alto => 24,
         Clef::Tenor => 22,
-    }
-}
-
-fn seventh(steps: i32) -> i32
-    ensures { result ≡ int_div_euclid steps (pos 7) }
-{
-    steps.div_euclid(7)
-}
-
-fn above_seventh(steps: i32) -> u32
-    ensures { result ≡ unsigned_abs (int_rem_euclid steps (pos 7)) }
-{
-    steps.rem_euclid(7).unsigned_abs()
-}
-
-#[tactic(auto, unfolding(crate::specs::Roles::pitch_of_steps))]
-fn pitch_of_steps(steps: i32) -> Pitch
-    ensures { result ≡ pitch_of_steps steps }
-{
-    Pitch {
-        letter: letter_at(above_seventh(steps)),
-        octave: seventh(steps),
     }
 }
 

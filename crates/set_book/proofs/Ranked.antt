@@ -36,7 +36,7 @@ use Rattle.abc_score.specs.Faults.{voice_faults, voice_weights, faults_of_voices
 
 -- ---- the kind of a rank
 
--- the kinds in order, but for the two faults of a layout
+-- the kinds in order, but for the faults of a move and of a layout
 abbrev ranked : List FaultKind
 ranked = kinds.NoKey ∷ kinds.BadMeter ∷ kinds.BadUnit ∷ kinds.BadKey ∷ kinds.BadVoice ∷ kinds.TooManyVoices ∷ kinds.BadByte ∷ kinds.Unclosed ∷ kinds.BadLength ∷ kinds.BadTuplet ∷ kinds.TooDeep
     ∷ kinds.TupletCrosses ∷ kinds.TupletShort ∷ kinds.BrokenAlone ∷ kinds.Undrawable ∷ kinds.StepRange ∷ kinds.RestWithoutMeter ∷ kinds.TooManyMeasures ∷ kinds.TooManyEvents ∷ kinds.TooManyVerses ∷ []
@@ -65,6 +65,7 @@ kind_is kinds.RestWithoutMeter h = refl
 kind_is kinds.TooManyMeasures h = refl
 kind_is kinds.TooManyEvents h = refl
 kind_is kinds.TooManyVerses h = refl
+kind_is kinds.BadMove h = absurd (omega (arith, h))
 kind_is (kinds.NoWay reached) h = absurd (omega (arith, h))
 kind_is (kinds.TooTall block) h = absurd (omega (arith, h))
 

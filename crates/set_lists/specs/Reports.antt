@@ -29,6 +29,7 @@ kind_name kinds.RestWithoutMeter = codes "RestWithoutMeter"
 kind_name kinds.TooManyMeasures = codes "TooManyMeasures"
 kind_name kinds.TooManyEvents = codes "TooManyEvents"
 kind_name kinds.TooManyVerses = codes "TooManyVerses"
+kind_name kinds.BadMove = codes "BadMove"
 kind_name (kinds.NoWay reached) = codes "NoWay " ++ decimal reached
 kind_name (kinds.TooTall block) = codes "TooTall " ++ decimal block
 
