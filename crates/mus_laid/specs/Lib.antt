@@ -1,3 +1,4 @@
 pub mod Boxes
 pub mod Printed
 pub mod Ranked
+pub mod Shapes

@@ -3,3 +3,4 @@ pub mod Bridges
 pub mod Events
 pub mod Staff
 pub mod System
+pub mod Tilt

@@ -9,8 +9,10 @@ pub mod events;
 pub mod measures;
 pub mod staves;
 pub mod systems;
+pub mod tilting;
 
 pub use events::Room;
 pub use measures::{put_columns_part, put_measures};
 pub use mus_drawn::{Sound, sounding};
 pub use systems::{draw_voices, marks, marks_of};
+pub use tilting::{tilt, tilt_of};

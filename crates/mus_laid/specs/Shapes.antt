@@ -1,0 +1,31 @@
+-- What of a mark doesn't hang on how far stems reach: its kind, its column or columns, its lane, where it stands beside its
+-- column, and what it shows. Its heights are left out.
+use Rattle.std.specs.Prelude.{◌≡◌, pos, List, map}
+use Rattle.mus_laid.specs.declared.laid.Laid.{Laid}
+use Rattle.mus_laid.specs.declared.laid.Mark.{Mark}
+use Rattle.mus_laid.specs.declared.laid.Mark.TheVariants as marks
+use Rattle.mus_laid.specs.declared.laid.StaffMarks.{StaffMarks}
+use Rattle.mus_laid.specs.declared.laid.SystemMarks.{SystemMarks}
+
+abbrev pub mark_shape : Mark → Mark
+mark_shape (marks.Glyph glyph rank dx dy) = marks.Glyph glyph rank dx (pos 0)
+mark_shape (marks.Words size rank dx dy text) = marks.Words size rank dx (pos 0) text
+mark_shape (marks.Stem rank dx from to) = marks.Stem rank dx (pos 0) (pos 0)
+mark_shape (marks.Beam way first last from to) = marks.Beam way first last (pos 0) (pos 0)
+mark_shape (marks.Arc first last from to bulge) = marks.Arc first last (pos 0) (pos 0) bulge
+
+abbrev pub laid_shape : Laid → Laid
+laid_shape x = record { mark = mark_shape x.mark; lane = x.lane }
+
+abbrev pub marks_shape : List Laid → List Laid
+marks_shape all = map laid_shape all
+
+-- the same marks in the same order, but for their heights
+abbrev pub staff_shape : StaffMarks → List Laid
+staff_shape staff = marks_shape staff.marks
+
+pub record AreAlike (m n : SystemMarks) : Type 0 where
+  pub from : m.a ≡ n.a
+  pub to : m.b ≡ n.b
+  pub keys : m.keys ≡ n.keys
+  pub staves : map staff_shape m.staves ≡ map staff_shape n.staves
