@@ -9,6 +9,7 @@ use Rattle.mus_time.specs.Onsets.{timeline_of}
 use Rattle.mus_laid.specs.declared.laid.Laid.{Laid}
 use Rattle.mus_laid.specs.declared.laid.StaffMarks.{StaffMarks}
 use Rattle.mus_laid.specs.declared.laid.SystemMarks.{SystemMarks}
+use Rattle.mus_laid.specs.Shapes.{staff_shape}
 use Rattle.mus_marks.specs.System.{staff_of}
 use Rattle.lay_springs.specs.declared.margin.Placed.{Placed}
 use Rattle.lay_springs.specs.Place.{length_at, reach_at}
@@ -16,28 +17,21 @@ use Rattle.lay_columns.specs.Columns.{column_reach}
 use Rattle.lay_columns.proofs.Covering.{columns_cover}
 use Rattle.lay_shown.specs.Ranks.{AreRanked}
 use Rattle.lay_shown.specs.Shown.{IsShown}
+use Rattle.lay_shown.proofs.Alike.{same_in}
 use Rattle.lay_tune.specs.Spans.{IsSystem, column_length, score_gaps, system_columns, verses_of}
-use Rattle.lay_tune.specs.Systems.{IsPlaced}
-use Rattle.lay_apart.specs.Apart.{AreApart, StandWithin}
+use Rattle.lay_tune.specs.Systems.{IsPlaced, IsSetSystem, StandWithin}
+use Rattle.lay_tune.proofs.Within.{justified_within, placed_stand, system_count}
+use Rattle.lay_apart.specs.Apart.{AreApart}
+use Rattle.lay_apart.proofs.Alike.{same_apart}
 use Rattle.lay_apart.proofs.EndKeys.{some_keys}
 use Rattle.lay_apart.proofs.LaneGaps.{HasLane}
 use Rattle.lay_apart.proofs.LaneMarks.{lane_of}
-use Rattle.lay_apart.proofs.SystemColumns.{first_stands, last_stands, system_count}
+use Rattle.lay_apart.proofs.SystemColumns.{first_stands, last_stands}
 use Rattle.lay_apart.proofs.Uncut.{StandBetween, staff_apart}
-use Rattle.lay_apart.proofs.Within.{justified_count, justified_within, stand_within}
 
--- the columns stand within the width wherever they are placed
-placed_stand : (s : Score) (width : ℕ) (m : SystemMarks) (p : Placed) → IsPlaced s width m p → StandWithin width (length m.keys) p.at
-placed_stand s width m p placed =
-    let columns = system_columns s m in
-    subst (λ n. StandWithin width n p.at) (system_count s m)
-    (stand_within (length columns) (reach_at column_reach columns) (score_gaps s) (length_at column_length columns p.force) width p.at
-    (justified_count (score_gaps s) width (m.b == s.measures) columns p placed) placed.apart
-    (λ some. justified_within (score_gaps s) width (m.b == s.measures) columns p some placed))
-
-pub columns_stand : (s : Score) (width a b : ℕ) (m : SystemMarks) (p : Placed) → IsGoodScore s → a < b → b ≤ s.measures → IsSystem s a b m
-    → IsPlaced s width m p → width < 2 ^ 20 → StandWithin width (length m.keys) p.at
-columns_stand s width a b m p good order within is placed small = placed_stand s width m p placed
+pub columns_stand : (s : Score) (width a b : ℕ) (m : SystemMarks) (p : Placed) → IsSetSystem s width a b m p → StandWithin width (length m.keys) p.at
+columns_stand s width a b m p set =
+    subst (λ keys. StandWithin width (length keys) p.at) set.alike.keys (placed_stand s width set.flat p set.placed)
 
 -- the voice of a staff
 voice_of : (f : Voice → StaffMarks) (vs : List Voice) (k : ℕ) (staff : StaffMarks) → slice_get (map f vs) k ≡ Some staff
@@ -79,6 +73,9 @@ module _ (s : Score) (width a b : ℕ) (m : SystemMarks) (p : Placed) (good : Is
   all_apart : All (λ staff. AreRanked (length m.keys) staff.marks) m.staves → All (λ staff. AreApart width p.at staff.marks) m.staves
   all_apart ranked k d l = one_apart k (get_or m.staves k d) (slice_get-get_or m.staves k d l) (ranked k d l)
 
-pub boxes_apart : (s : Score) (width a b : ℕ) (m : SystemMarks) (p : Placed) → IsGoodScore s → a < b → b ≤ s.measures → IsSystem s a b m → IsShown m
-    → IsPlaced s width m p → width < 2 ^ 20 → All (λ staff. AreApart width p.at staff.marks) m.staves
-boxes_apart s width a b m p good order within is shown placed small = all_apart s width a b m p good order within is placed small shown.ranked
+-- the boxes of a set system, which are those of the marks that are called for
+pub boxes_apart : (s : Score) (width a b : ℕ) (m : SystemMarks) (p : Placed) → IsGoodScore s → a < b → b ≤ s.measures → (set : IsSetSystem s width a b m p)
+    → IsShown set.flat → width < 2 ^ 20 → All (λ staff. AreApart width p.at staff.marks) m.staves
+boxes_apart s width a b m p good order within set shown small =
+    same_in staff_shape (λ staff. AreApart width p.at staff.marks) (λ x y e. same_apart width p.at x.marks y.marks e) set.flat.staves m.staves set.alike.staves
+    (all_apart s width a b set.flat p good order within set.called set.placed small shown.ranked)

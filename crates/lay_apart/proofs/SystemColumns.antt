@@ -20,6 +20,7 @@ use Rattle.lay_columns.specs.Lanes.{gaps_of}
 use Rattle.lay_columns.specs.Reaches.{stands_always}
 use Rattle.lay_columns.proofs.Facts.{columns_keys, columns_stand}
 use Rattle.lay_tune.specs.Spans.{IsSystem, score_gaps, system_columns, verses_of}
+use Rattle.lay_tune.proofs.Within.{columns_count, system_count}
 use Rattle.lay_apart.proofs.EndKeys.{first_class, last_class, some_keys}
 
 module _ (keys : List ColumnKey) (staves : List StaffMarks) (lengths verses : List ℕ) where
@@ -29,23 +30,17 @@ module _ (keys : List ColumnKey) (staves : List StaffMarks) (lengths verses : Li
   abbrev no_column : Column
   no_column = record { key = key_at 0 0 classes.Head 0; reaches = []; natural = 0 }
 
-  pub columns_count : length columns ≡ length keys
-  columns_count = sym (length-map columns (λ c. c.key)) ∙ ap (λ ks. length ks) (columns_keys staves lengths verses 0 keys)
-
   -- a column of a class that stands in each lane does so
   pub stands_at : (i : ℕ) → i < length keys → length verses ≡ length staves → ((d : ColumnKey) → stands_always (get_or keys i d).class ≡ true)
       → StandsInAll (reach_at column_reach columns i) (length (gaps_of verses))
   stands_at i l same always lane m =
-      let inside : i < length columns = subst (λ n. i < n) (sym columns_count) l in
+      let inside : i < length columns = subst (λ n. i < n) (sym (columns_count keys staves lengths verses)) l in
       let column = get_or columns i no_column in
       let key : get_or keys i no_column.key ≡ column.key =
       ap (λ ks. get_or ks i no_column.key) (sym (columns_keys staves lengths verses 0 keys)) ∙ get_or-map (λ c. c.key) columns i no_column no_column.key inside in
       let due : StandsWhereDue verses column = columns_stand staves lengths verses keys same i no_column inside in
       let stands = due (ap (λ k. stands_always k.class) (sym key) ∙ always no_column.key) lane m in
       (stands.0, reach_is column_reach columns i column (slice_get-get_or columns i no_column inside) lane ∙ stands.1)
-
-pub system_count : (s : Score) (m : SystemMarks) → length (system_columns s m) ≡ length m.keys
-system_count s m = columns_count m.keys m.staves (timeline_of s).lengths (verses_of s.voices)
 
 module _ (s : Score) (a b : ℕ) (m : SystemMarks) (good : IsGoodScore s) (order : a < b) (within : b ≤ s.measures) (is : IsSystem s a b m) where
   same_staves : length (verses_of s.voices) ≡ length m.staves

@@ -20,9 +20,10 @@ use Rattle.lay_columns.specs.Columns.{CoverMarks, Covers, column_reach}
 use Rattle.lay_columns.specs.Lanes.{gaps_of, lane_count, lane_number, lane_start}
 use Rattle.lay_columns.specs.Reaches.{rank_of}
 use Rattle.lay_shown.specs.Ranks.{AreRanked, IsRanked}
-use Rattle.lay_apart.specs.Apart.{AreApart, IsBoxed, gap_of, x_at}
+use Rattle.lay_tune.specs.Systems.{x_at}
+use Rattle.lay_tune.proofs.Within.{EndsWithin}
+use Rattle.lay_apart.specs.Apart.{AreApart, IsBoxed, gap_of}
 use Rattle.lay_apart.proofs.LaneGaps.{HasLane, number_of, place_of_lane}
-use Rattle.lay_apart.proofs.Within.{EndsWithin}
 
 -- columns that stand apart within a width, of which the first and the last stand in each lane
 pub record StandBetween (n : ℕ) (reach : ℕ → ℕ → Option Reach) (gaps : List ℕ) (spring : ℕ → ℕ) (width : ℕ) (at : List ℤ) : Type 0 where

@@ -1,12 +1,13 @@
 -- Boxes of marks where their columns stand: those of one lane of a staff in different columns are at least the lane's gap apart,
 -- and each box of a lane lies within the width. Loose marks are in no lane.
-use Rattle.std.specs.Prelude.{◌≡◌, ℕ, ◌+◌, ◌<◌, ℤ, pos, ◌+ℤ◌, ◌≤ℤ◌, ◌<ℤ◌, List, length, Some, Contains, slice_index_or}
+use Rattle.std.specs.Prelude.{◌≡◌, ℕ, ◌<◌, ℤ, pos, ◌+ℤ◌, ◌≤ℤ◌, List, Some, Contains}
 use Rattle.mus_laid.specs.Boxes.{sides_of}
 use Rattle.mus_laid.specs.declared.boxes.Sides.{Sides}
 use Rattle.mus_laid.specs.declared.laid.Laid.{Laid}
 use Rattle.mus_laid.specs.declared.laid.Lane.{Lane}
 use Rattle.mus_laid.specs.declared.laid.Lane.TheVariants as lanes
 use Rattle.lay_columns.specs.Reaches.{rank_of}
+use Rattle.lay_tune.specs.Systems.{x_at}
 
 -- 100 in the main lane, 300 in each other
 abbrev pub gap_of : Lane → ℕ
@@ -17,10 +18,6 @@ gap_of _ = 300
 abbrev pub Keeps : Lane → Type 0
 Keeps lanes.Loose = ⊥
 Keeps _ = Unit {0}
-
--- where the column of a rank stands
-abbrev pub x_at : List ℤ → ℕ → ℤ
-x_at at rank = slice_index_or at rank (pos 0)
 
 -- a mark of a lane that has a box and stands at a rank
 pub record IsBoxed (x : Laid) (rank : ℕ) (box : Sides) : Type 0 where
@@ -34,10 +31,3 @@ pub record AreApart (width : ℕ) (at : List ℤ) (all : List Laid) : Type 0 whe
       → x.lane ≡ y.lane → r < q → ((x_at at r +ℤ first.right) +ℤ pos (gap_of x.lane)) ≤ℤ (x_at at q +ℤ second.left)
   pub within : (x : Laid) (r : ℕ) (box : Sides) → Contains all x → IsBoxed x r box
       → (pos 0 ≤ℤ (x_at at r +ℤ box.left)) × ((x_at at r +ℤ box.right) ≤ℤ pos width)
-
--- columns rise from the left within the width
-pub record StandWithin (width count : ℕ) (at : List ℤ) : Type 0 where
-  pub count_is : length at ≡ count
-  pub rise : (i : ℕ) → i + 1 < count → x_at at i <ℤ x_at at (i + 1)
-  pub low : (i : ℕ) → i < count → pos 0 ≤ℤ x_at at i
-  pub high : (i : ℕ) → i < count → x_at at i ≤ℤ pos width

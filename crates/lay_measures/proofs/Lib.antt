@@ -1,6 +1,6 @@
 mod Facts
 mod Joined
-mod KeyLaws
+pub mod KeyLaws
 mod Ranks
 mod SameBoxes
 mod Slots

@@ -1,3 +1,4 @@
+pub mod Alike
 pub mod Arcs
 pub mod Beams
 pub mod Between

@@ -1,3 +1,4 @@
 pub mod Joins
 pub mod Open
 pub mod Rows
+pub mod Within

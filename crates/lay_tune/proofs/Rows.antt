@@ -1,5 +1,5 @@
 -- Lists that grow at their end, and staves that may be stacked.
-use Rattle.std.proofs.Common.{◌≡◌, ℕ, ◌+◌, List, [], ◌∷◌, ◌++◌, drop, sym, subst}
+use Rattle.std.proofs.Common.{◌≡◌, refl, ℕ, suc, ◌+◌, List, [], ◌∷◌, ◌++◌, length, drop, sym, ap, subst}
 use Rattle.std.specs.List.{All}
 use Rattle.std.proofs.lemmas.List.{append_assoc}
 use Rattle.std.proofs.lemmas.List.Elements.{All-head, All-tail}
@@ -15,14 +15,31 @@ beside_more P [] (z ∷ ys) x y h p = absurd h
 beside_more P (w ∷ xs) [] x y h p = absurd h
 beside_more P (w ∷ xs) (z ∷ ys) x y h p = (h.0, beside_more P xs ys x y h.1 p)
 
--- one span's thing more, whatever stands behind it
-pub span_more : {X : Type 0} (P : ℕ → ℕ → X → Type 0) (breaks : List ℕ) (xs : List X) (x : X) (a b i : ℕ) → drop i breaks ≡ b ∷ drop (i + 1) breaks
-    → ((more : List X) → EachSpan P a (drop i breaks) more → EachSpan P 0 breaks (xs ++ more))
-    → P a b x
-    → (more : List X) → EachSpan P b (drop (i + 1) breaks) more → EachSpan P 0 breaks ((xs ++ x ∷ []) ++ more)
-span_more P breaks xs x a b i e before p more h =
-    subst (λ rows. EachSpan P 0 breaks rows) (sym (append_assoc xs (x ∷ []) more))
-    (before (x ∷ more) (subst (λ bs. EachSpan P a bs (x ∷ more)) (sym e) (p, h)))
+-- one span's things more, whatever stands behind them
+pub span_more : {X Y : Type 0} (P : ℕ → ℕ → X → Y → Type 0) (breaks : List ℕ) (xs : List X) (ys : List Y) (x : X) (y : Y) (a b i : ℕ) → drop i breaks ≡ b ∷ drop (i + 1) breaks
+    → ((more : List X) (rest : List Y) → EachSpan P a (drop i breaks) more rest → EachSpan P 0 breaks (xs ++ more) (ys ++ rest))
+    → P a b x y
+    → (more : List X) (rest : List Y) → EachSpan P b (drop (i + 1) breaks) more rest → EachSpan P 0 breaks ((xs ++ x ∷ []) ++ more) ((ys ++ y ∷ []) ++ rest)
+span_more P breaks xs ys x y a b i e before p more rest h =
+    subst (λ rows. EachSpan P 0 breaks rows ((ys ++ y ∷ []) ++ rest)) (sym (append_assoc xs (x ∷ []) more))
+    (subst (λ rows. EachSpan P 0 breaks (xs ++ x ∷ more) rows) (sym (append_assoc ys (y ∷ []) rest))
+    (before (x ∷ more) (y ∷ rest) (subst (λ bs. EachSpan P a bs (x ∷ more) (y ∷ rest)) (sym e) (p, h))))
+
+-- as many as the spans
+pub span_count : {X Y : Type 0} (P : ℕ → ℕ → X → Y → Type 0) (a : ℕ) (breaks : List ℕ) (xs : List X) (ys : List Y) → EachSpan P a breaks xs ys
+    → (length xs ≡ length breaks) × (length ys ≡ length breaks)
+span_count P a [] [] [] h = (refl, refl)
+span_count P a [] [] (y ∷ ys) h = absurd h
+span_count P a [] (x ∷ xs) ys h = absurd h
+span_count P a (b ∷ bs) [] ys h = absurd h
+span_count P a (b ∷ bs) (x ∷ xs) [] h = absurd h
+span_count P a (b ∷ bs) (x ∷ xs) (y ∷ ys) h = let more = span_count P b bs xs ys h.1 in (ap suc more.0, ap suc more.1)
+
+pub beside_count : {X Y : Type 0} (P : X → Y → Type 0) (xs : List X) (ys : List Y) → Beside P xs ys → length ys ≡ length xs
+beside_count P [] [] h = refl
+beside_count P [] (y ∷ ys) h = absurd h
+beside_count P (x ∷ xs) [] h = absurd h
+beside_count P (x ∷ xs) (y ∷ ys) h = ap suc (beside_count P xs ys h.1)
 
 pub good_staves : (staves : List StaffMarks) → All CoversLines staves → AreGoodStaves staves
 good_staves [] h = tt

@@ -1,7 +1,10 @@
 -- The systems of a breaking: where their columns stand, and their staves under one another.
-use Rattle.std.specs.Prelude.{◌≡◌, ⊤, ℕ, ◌+◌, ◌<◌, ◌≤◌, ◌==◌, ◌^◌, Bool, true, false, pos, ◌-ℤ◌, ◌≤ℤ◌, List, [], ◌∷◌, length}
+use Rattle.std.specs.Prelude.{◌≡◌, ⊤, ℕ, ◌+◌, ◌<◌, ◌≤◌, ◌==◌, ◌^◌, Bool, true, false, ℤ, pos, ◌-ℤ◌, ◌≤ℤ◌, ◌<ℤ◌, List, [], ◌∷◌, length, slice_index_or}
 use Rattle.mus_score.specs.declared.score.Score.{Score}
+use Rattle.mus_time.specs.Onsets.{timeline_of}
 use Rattle.mus_laid.specs.declared.laid.SystemMarks.{SystemMarks}
+use Rattle.mus_laid.specs.Shapes.{AreAlike}
+use Rattle.mus_marks.specs.Tilt.{IsTilted}
 use Rattle.lay_columns.specs.declared.column.Column.{Column}
 use Rattle.lay_columns.specs.Columns.{column_reach}
 use Rattle.lay_springs.specs.declared.margin.Placed.{Placed}
@@ -11,12 +14,11 @@ use Rattle.lay_pages.specs.declared.stacking.Heights.{Heights}
 use Rattle.lay_pages.specs.Stacking.{AreStacked}
 use Rattle.lay_tune.specs.Spans.{IsForceOf, IsSystem, column_length, score_gaps, system_columns}
 
--- One thing for each span of a breaking, in order; the first span begins at bar a.
-abbrev pub EachSpan : {X : Type 0} → (ℕ → ℕ → X → Type 0) → ℕ → List ℕ → List X → Type 0
-EachSpan P a [] [] = ⊤
-EachSpan P a [] (x ∷ xs) = ⊥
-EachSpan P a (b ∷ bs) [] = ⊥
-EachSpan P a (b ∷ bs) (x ∷ xs) = P a b x × EachSpan P b bs xs
+-- Two things for each span of a breaking, in order; the first span begins at bar a.
+abbrev pub EachSpan : {X Y : Type 0} → (ℕ → ℕ → X → Y → Type 0) → ℕ → List ℕ → List X → List Y → Type 0
+EachSpan P a [] [] [] = ⊤
+EachSpan P a (b ∷ bs) (x ∷ xs) (y ∷ ys) = P a b x y × EachSpan P b bs xs ys
+EachSpan P a _ _ _ = ⊥
 
 -- two lists of equal length, whose members belong together one by one
 abbrev pub Beside : {X Y : Type 0} → (X → Y → Type 0) → List X → List Y → Type 0
@@ -37,6 +39,15 @@ pub record IsJustified (gaps : List ℕ) (width : ℕ) (last : Bool) (columns : 
 -- the columns of a system of the score are justified; its last system is the one that ends with it
 abbrev pub IsPlaced : Score → ℕ → SystemMarks → Placed → Type 0
 IsPlaced s width m p = IsJustified (score_gaps s) width (m.b == s.measures) (system_columns s m) p
+
+-- What a score has in measures a to b - 1, set to a width: the columns of the marks that it calls for are justified, and over
+-- their abscissas the marks are tilted.
+pub record IsSetSystem (s : Score) (width a b : ℕ) (m : SystemMarks) (p : Placed) : Type 0 where
+  pub flat : SystemMarks
+  pub called : IsSystem s a b flat
+  pub placed : IsPlaced s width flat p
+  pub tilted : IsTilted s (timeline_of s) a b p.at m
+  pub alike : AreAlike flat m
 
 -- the staves of a system stand under one another
 pub record IsStack (m : SystemMarks) (h : Heights) : Type 0 where
@@ -61,3 +72,14 @@ pub record CanBeSet (s : Score) (width room a b : ℕ) : Type 0 where
 abbrev pub AllSpans : (ℕ → ℕ → Type 0) → ℕ → List ℕ → Type 0
 AllSpans P a [] = ⊤
 AllSpans P a (b ∷ bs) = P a b × AllSpans P b bs
+
+-- where the column of a rank stands
+abbrev pub x_at : List ℤ → ℕ → ℤ
+x_at at rank = slice_index_or at rank (pos 0)
+
+-- columns rise from the left within the width
+pub record StandWithin (width count : ℕ) (at : List ℤ) : Type 0 where
+  pub count_is : length at ≡ count
+  pub rise : (i : ℕ) → i + 1 < count → x_at at i <ℤ x_at at (i + 1)
+  pub low : (i : ℕ) → i < count → pos 0 ≤ℤ x_at at i
+  pub high : (i : ℕ) → i < count → x_at at i ≤ℤ pos width

@@ -10,8 +10,8 @@ ghost use Rattle.lay_breaks.specs.Spans.{AreSpans, listed};
 ghost use Rattle.lay_spans.specs.Columns.{AreMeasures};
 ghost use Rattle.lay_tune.specs.declared.layout.LayoutError.TheVariants as errors;
 ghost use Rattle.lay_tune.specs.Layout.{IsCauseIn, layout_error};
-ghost use Rattle.lay_tune.specs.Spans.{AreColumnsOf, AreSpansOf, IsSystem, is_forced_in, score_gaps, verses_of};
-ghost use Rattle.lay_tune.specs.Systems.{Beside, EachSpan, IsPlaced, IsStack};
+ghost use Rattle.lay_tune.specs.Spans.{AreColumnsOf, AreSpansOf, is_forced_in, score_gaps, verses_of};
+ghost use Rattle.lay_tune.specs.Systems.{Beside, EachSpan, IsSetSystem, IsStack};
 
 use crate::measures::{columns_within, others_of, starts_of};
 use crate::systems::{Systems, set_systems};
@@ -73,7 +73,7 @@ fn layout_error(error: BreakError) -> LayoutError
 fn lay_out_measures(
     alloc: Global,
     s: &Score,
-    voices: &[DrawnVoice],
+    voices: &mut [DrawnVoice],
     t: &Timeline,
     verses: &[u8],
     starts: &[Row<Column>],
@@ -82,8 +82,8 @@ fn lay_out_measures(
 ) -> Result<Layout, LayoutError>
     requires good { IsGoodScore s.now }
     requires times { t.now ≡ timeline_of s.now }
-    requires voices { voices.now ≡ map drawn_voice s.now.voices }
-    requires drawn { All (λ v. AreGoodMeasures v.measures) voices.now }
+    requires voices { voices.old ≡ map drawn_voice s.now.voices }
+    requires drawn { All (λ v. AreGoodMeasures v.measures) voices.old }
     requires verses { verses.now ≡ verses_of s.now.voices }
     requires count { length starts.now ≡ s.now.measures }
     requires measures { AreMeasures column_reach (length (score_gaps s.now)) starts.now others.now }
@@ -95,8 +95,7 @@ fn lay_out_measures(
     ensures one_each { IfOk result (λ l. length l.breaking.potentials ≡ s.now.measures + 1) }
     ensures potentials { IfOk result (λ l. (i : ℕ) → i ≤ s.now.measures
         → IsPotential (listed l.spans) (is_forced_in s.now) i (slice_index_or l.breaking.potentials i Option.None)) }
-    ensures systems { IfOk result (λ l. EachSpan (IsSystem s.now) 0 l.breaking.breaks l.systems) }
-    ensures placed { IfOk result (λ l. Beside (IsPlaced s.now width) l.systems l.placed) }
+    ensures systems { IfOk result (λ l. EachSpan (IsSetSystem s.now width) 0 l.breaking.breaks l.systems l.placed) }
     ensures heights { IfOk result (λ l. Beside IsStack l.systems l.heights) }
     ensures texts { IfOk result (λ l. All (λ m. All (λ staff. AreGoodMarks staff.marks) m.staves) l.systems) }
     ensures no_way { IfErr result (IsCauseIn s.now width) }
@@ -162,15 +161,14 @@ pub fn lay_out(alloc: Global, s: &Score, width: u32) -> Result<Layout, LayoutErr
     ensures one_each { IfOk result (λ l. length l.breaking.potentials ≡ s.now.measures + 1) }
     ensures potentials { IfOk result (λ l. (i : ℕ) → i ≤ s.now.measures
         → IsPotential (listed l.spans) (is_forced_in s.now) i (slice_index_or l.breaking.potentials i Option.None)) }
-    ensures systems { IfOk result (λ l. EachSpan (IsSystem s.now) 0 l.breaking.breaks l.systems) }
-    ensures placed { IfOk result (λ l. Beside (IsPlaced s.now width) l.systems l.placed) }
+    ensures systems { IfOk result (λ l. EachSpan (IsSetSystem s.now width) 0 l.breaking.breaks l.systems l.placed) }
     ensures heights { IfOk result (λ l. Beside IsStack l.systems l.heights) }
     ensures texts { IfOk result (λ l. All (λ m. All (λ staff. AreGoodMarks staff.marks) m.staves) l.systems) }
     ensures no_way { IfErr result (IsCauseIn s.now width) }
 {
     let t = onsets(alloc, s)?;
-    let drawn = draw_voices(alloc, s)?;
-    let voices = drawn.as_slice();
+    let mut drawn = draw_voices(alloc, s)?;
+    let voices = drawn.as_mut_slice();
     let counts = verses_of(alloc, s.voices.as_slice())?;
     let verses = counts.as_slice();
     let begun = starts_of(alloc, s, voices, &t, verses)?;

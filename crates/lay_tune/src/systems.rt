@@ -4,15 +4,15 @@ ghost use Rattle.mus_time.specs.Onsets.{timeline_of};
 ghost use Rattle.mus_drawn.specs.Drawn.{drawn_voice};
 ghost use Rattle.mus_drawn.specs.Good.{AreGoodMeasures};
 ghost use Rattle.mus_laid.specs.Boxes.{AreGoodMarks};
-ghost use Rattle.lay_tune.specs.Spans.{IsSystem, score_gaps, verses_of};
-ghost use Rattle.lay_tune.specs.Systems.{AllSpans, Beside, CanBeSet, EachSpan, HaveForce, IsJustified, IsPlaced, IsStack};
+ghost use Rattle.lay_tune.specs.Spans.{score_gaps, verses_of};
+ghost use Rattle.lay_tune.specs.Systems.{AllSpans, Beside, CanBeSet, EachSpan, HaveForce, IsJustified, IsSetSystem, IsStack};
 
 use lay_columns::{Column, columns};
 use lay_pages::{Heights, stack};
 use lay_springs::{Placed, fit, justify};
 use mus_drawn::DrawnVoice;
 use mus_laid::SystemMarks;
-use mus_marks::marks_of;
+use mus_marks::{marks_of, tilt_of};
 use mus_score::Score;
 use mus_time::Timeline;
 use mus_units::{Memory, Row};
@@ -39,7 +39,7 @@ fn press(
     justify(alloc, columns, gaps, width, force, last)
 }
 
-/// A system: its marks, where its columns stand, and how its staves are stacked.
+/// A system: its marks, tilted over where its columns stand, and how its staves are stacked.
 #[derive(Drop)]
 struct SetSystem {
     marks: SystemMarks,
@@ -47,11 +47,11 @@ struct SetSystem {
     heights: Heights,
 }
 
-/// The system of measures `a` to `b` - 1.
+/// The system of measures `a` to `b` - 1; the voices are left as they were.
 fn set_system(
     alloc: Global,
     s: &Score,
-    voices: &[DrawnVoice],
+    voices: &mut [DrawnVoice],
     t: &Timeline,
     verses: &[u8],
     gaps: &[u32],
@@ -62,20 +62,20 @@ fn set_system(
 ) -> Result<SetSystem, Memory>
     requires good { IsGoodScore s.now }
     requires times { t.now ≡ timeline_of s.now }
-    requires voices { voices.now ≡ map drawn_voice s.now.voices }
-    requires drawn { All (λ v. AreGoodMeasures v.measures) voices.now }
+    requires voices { voices.old ≡ map drawn_voice s.now.voices }
+    requires drawn { All (λ v. AreGoodMeasures v.measures) voices.old }
     requires verses { verses.now ≡ verses_of s.now.voices }
     requires gaps { gaps.now ≡ score_gaps s.now }
     requires lanes { length gaps.now < 2 ^ 32 }
     requires narrow { (lane : ℕ) → lane < length gaps.now → slice_index gaps.now lane ≤ 2 ^ 20 }
     requires fits { CanBeSet s.now width (length scratch.old) a b }
-    ensures system { IfOk result (λ set. IsSystem s.now a b set.marks) }
-    ensures placed { IfOk result (λ set. IsPlaced s.now width set.marks set.placed) }
+    ensures kept { voices.new ≡ voices.old }
+    ensures system { IfOk result (λ set. IsSetSystem s.now width a b set.marks set.placed) }
     ensures heights { IfOk result (λ set. IsStack set.marks set.heights) }
     ensures good { IfOk result (λ set. All (λ staff. AreGoodMarks staff.marks) set.marks.staves) }
 {
-    let marks = marks_of(alloc, s, voices, t, a, b)?;
-    let columns = columns(alloc, &marks, t, verses)?;
+    let flat = marks_of(alloc, s, voices, t, a, b)?;
+    let columns = columns(alloc, &flat, t, verses)?;
     let placed = press(
         alloc,
         columns.as_slice(),
@@ -84,6 +84,7 @@ fn set_system(
         b == s.measures,
         scratch,
     )?;
+    let marks = tilt_of(alloc, s, voices, t, a, b, placed.at.as_slice())?;
     let heights = stack(alloc, &marks)?;
     Ok(SetSystem {
         marks,
@@ -105,7 +106,7 @@ pub(crate) struct Systems {
 pub(crate) fn set_systems(
     alloc: Global,
     s: &Score,
-    voices: &[DrawnVoice],
+    voices: &mut [DrawnVoice],
     t: &Timeline,
     verses: &[u8],
     gaps: &[u32],
@@ -115,15 +116,14 @@ pub(crate) fn set_systems(
 ) -> Result<Systems, Memory>
     requires good { IsGoodScore s.now }
     requires times { t.now ≡ timeline_of s.now }
-    requires voices { voices.now ≡ map drawn_voice s.now.voices }
-    requires drawn { All (λ v. AreGoodMeasures v.measures) voices.now }
+    requires voices { voices.old ≡ map drawn_voice s.now.voices }
+    requires drawn { All (λ v. AreGoodMeasures v.measures) voices.old }
     requires verses { verses.now ≡ verses_of s.now.voices }
     requires gaps { gaps.now ≡ score_gaps s.now }
     requires lanes { length gaps.now < 2 ^ 32 }
     requires narrow { (lane : ℕ) → lane < length gaps.now → slice_index gaps.now lane ≤ 2 ^ 20 }
     requires fits { AllSpans (CanBeSet s.now width (length scratch.old)) 0 breaks.now }
-    ensures systems { IfOk result (λ r. EachSpan (IsSystem s.now) 0 breaks.now r.marks) }
-    ensures placed { IfOk result (λ r. Beside (IsPlaced s.now width) r.marks r.placed) }
+    ensures systems { IfOk result (λ r. EachSpan (IsSetSystem s.now width) 0 breaks.now r.marks r.placed) }
     ensures heights { IfOk result (λ r. Beside IsStack r.marks r.heights) }
     ensures good { IfOk result (λ r. All (λ m. All (λ staff. AreGoodMarks staff.marks) m.staves) r.marks) }
 {

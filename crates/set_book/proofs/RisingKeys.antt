@@ -1,4 +1,4 @@
--- Every list of column keys has a rising list of the same keys, and it has one alone.
+-- Every list of column keys has a rising list of the same keys.
 use Rattle.std.proofs.Common.{◌≡◌, ◌∙◌, ℕ, zero, suc, ◌⊎◌, inl, inr, Bool, true, false, nat_lt, List, [], ◌∷◌, refl, sym, ap, subst, arith}
 use Rattle.std.specs.List.{Contains}
 use Rattle.std.proofs.lemmas.Bool.Decides.{nat_tests}
@@ -7,6 +7,7 @@ use Rattle.mus_time.specs.declared.keys.ColumnKey.{ColumnKey}
 use Rattle.mus_time.specs.Keys.{AreKeys, key_at}
 use Rattle.mus_time.proofs.Orders.{below_through, not_both}
 use Rattle.mus_time.proofs.RankLaws.{false_not_true}
+use Rattle.lay_measures.proofs.KeyLaws.{below_in, first_or, none_in, there}
 use Rattle.mus_time.specs.Order.{BelowAll, Rises, class_number, is_below, then_below}
 
 -- ---- the order of keys
@@ -39,26 +40,9 @@ neither_below k l h g =
 first : (x y : ColumnKey) (ys : List ColumnKey) → y ≡ x → Contains (y ∷ ys) x
 first x y ys e = (0, omega arith, e)
 
-further : (x y : ColumnKey) (ys : List ColumnKey) → Contains ys x → Contains (y ∷ ys) x
-further x y ys (i, inside, is) = (suc i, omega (arith, inside), is)
-
-first_or : (x y : ColumnKey) (ys : List ColumnKey) → Contains (y ∷ ys) x → (y ≡ x) ⊎ Contains ys x
-first_or x y ys (zero, inside, is) = inl is
-first_or x y ys (suc i, inside, is) = inr (i, omega (arith, inside), is)
-
-none_in : (x : ColumnKey) → Contains [] x → ⊥
-none_in x (i, inside, is) = omega (arith, inside)
-
-below_in : (k l : ColumnKey) (ls : List ColumnKey) → BelowAll k ls → Contains ls l → is_below k l ≡ true
-below_in k l [] below has = absurd (none_in l has)
-below_in k l (m ∷ ls) below has = elim (first_or l m ls has) [
-  | inl e ↦ subst (λ x. is_below k x ≡ true) e below.0
-  | inr more ↦ below_in k l ls below.1 more
-]
-
 below_each : (k : ColumnKey) (ls : List ColumnKey) → ((l : ColumnKey) → Contains ls l → is_below k l ≡ true) → BelowAll k ls
 below_each k [] each = tt
-below_each k (l ∷ ls) each = (each l (first l l ls refl), below_each k ls (λ m has. each m (further m l ls has)))
+below_each k (l ∷ ls) each = (each l (first l l ls refl), below_each k ls (λ m has. each m (there m l ls has)))
 
 -- ---- one more key, put in its place
 below_further : (k l : ColumnKey) (ls : List ColumnKey) → is_below k l ≡ true → BelowAll l ls → BelowAll k ls
@@ -72,7 +56,7 @@ twice : (k l : ColumnKey) (ls : List ColumnKey) → k ≡ l → Rises (l ∷ ls)
 twice k l ls e rise = record {
   rise = rise;
   all = λ x has. elim (first_or x k (l ∷ ls) has) [ inl f ↦ first x l ls (sym e ∙ f) | inr more ↦ more ];
-  only = λ x has. further x k (l ∷ ls) has;
+  only = λ x has. there x k (l ∷ ls) has;
 }
 
 -- the key is put into the list behind the first
@@ -86,12 +70,12 @@ put_behind k l ls keys h below are = record {
     are.rise,
   );
   all = λ x has. elim (first_or x k (l ∷ ls) has) [
-    | inl e ↦ further x l keys (are.all x (first x k ls e))
-    | inr more ↦ elim (first_or x l ls more) [ inl e ↦ first x l keys e | inr rest ↦ further x l keys (are.all x (further x k ls rest)) ]
+    | inl e ↦ there x l keys (are.all x (first x k ls e))
+    | inr more ↦ elim (first_or x l ls more) [ inl e ↦ first x l keys e | inr rest ↦ there x l keys (are.all x (there x k ls rest)) ]
   ];
   only = λ x has. elim (first_or x l keys has) [
-    | inl e ↦ further x k (l ∷ ls) (first x l ls e)
-    | inr more ↦ elim (first_or x k ls (are.only x more)) [ inl e ↦ first x k (l ∷ ls) e | inr rest ↦ further x k (l ∷ ls) (further x l ls rest) ]
+    | inl e ↦ there x k (l ∷ ls) (first x l ls e)
+    | inr more ↦ elim (first_or x k ls (are.only x more)) [ inl e ↦ first x k (l ∷ ls) e | inr rest ↦ there x k (l ∷ ls) (there x l ls rest) ]
   ];
 }
 
@@ -108,8 +92,8 @@ put k (l ∷ ls) rise = at (is_below k l) refl (is_below l k) refl (put k ls ris
 one_more : (k : ColumnKey) (called keys more : List ColumnKey) → AreKeys keys called → AreKeys more (k ∷ keys) → AreKeys more (k ∷ called)
 one_more k called keys more are with_it = record {
   rise = with_it.rise;
-  all = λ x has. elim (first_or x k called has) [ inl e ↦ with_it.all x (first x k keys e) | inr rest ↦ with_it.all x (further x k keys (are.all x rest)) ];
-  only = λ x has. elim (first_or x k keys (with_it.only x has)) [ inl e ↦ first x k called e | inr rest ↦ further x k called (are.only x rest) ];
+  all = λ x has. elim (first_or x k called has) [ inl e ↦ with_it.all x (first x k keys e) | inr rest ↦ with_it.all x (there x k keys (are.all x rest)) ];
+  only = λ x has. elim (first_or x k keys (with_it.only x has)) [ inl e ↦ first x k called e | inr rest ↦ there x k called (are.only x rest) ];
 }
 
 -- every list of keys has a rising list of the same keys
@@ -119,33 +103,3 @@ have_keys (k ∷ called) =
     let most = have_keys called in
     let all = put k most.0 most.1.rise in
     (all.0, one_more k called most.0 all.0 most.1 all.1)
-
--- ---- one alone
-heads_same : (x y : ColumnKey) (xs ys : List ColumnKey) → BelowAll x xs → BelowAll y ys → (y ≡ x) ⊎ Contains ys x → (x ≡ y) ⊎ Contains xs y → x ≡ y
-heads_same x y xs ys bx by (inl e) h = sym e
-heads_same x y xs ys bx by (inr g) (inl e) = e
-heads_same x y xs ys bx by (inr g) (inr h) = absurd (false_not_true (sym (not_both x y (below_in x y xs bx h)) ∙ below_in y x ys by g))
-
-behind : (x y : ColumnKey) (xs ys : List ColumnKey) → x ≡ y → BelowAll x xs → ((k : ColumnKey) → Contains (x ∷ xs) k → Contains (y ∷ ys) k)
-    → (k : ColumnKey) → Contains xs k → Contains ys k
-behind x y xs ys e below all k has = elim (first_or k y ys (all k (further k x xs has))) [
-  | inl f ↦
-      let once = below_in x k xs below has in
-      let same = subst (λ z. is_below z k ≡ true) (e ∙ f) once in
-      absurd (false_not_true (sym (not_both k k same) ∙ same))
-  | inr more ↦ more
-]
-
-unique : (xs ys : List ColumnKey) → Rises xs → Rises ys → ((k : ColumnKey) → Contains xs k → Contains ys k)
-    → ((k : ColumnKey) → Contains ys k → Contains xs k) → xs ≡ ys
-unique [] [] rx ry all only = refl
-unique [] (y ∷ ys) rx ry all only = absurd (none_in y (only y (first y y ys refl)))
-unique (x ∷ xs) [] rx ry all only = absurd (none_in x (all x (first x x xs refl)))
-unique (x ∷ xs) (y ∷ ys) rx ry all only =
-    let e = heads_same x y xs ys rx.0 ry.0 (first_or x y ys (all x (first x x xs refl))) (first_or y x xs (only y (first y y ys refl))) in
-    let more = unique xs ys rx.1 ry.1 (behind x y xs ys e rx.0 all) (behind y x ys xs (sym e) ry.0 only) in
-    ap (λ z. z ∷ xs) e ∙ ap (λ t. y ∷ t) more
-
--- a list of keys has one rising list of the same keys
-pub same_keys : (xs ys called : List ColumnKey) → AreKeys xs called → AreKeys ys called → xs ≡ ys
-same_keys xs ys called h g = unique xs ys h.rise g.rise (λ k has. g.all k (h.only k has)) (λ k has. h.all k (g.only k has))

@@ -27,8 +27,8 @@ use Rattle.lay_breaks.specs.Breaking.{RisesFrom, last_from}
 use Rattle.lay_pages.specs.declared.stacking.Heights.{Heights}
 use Rattle.lay_pages.specs.declared.titles.TitleBlock.{TitleBlock}
 use Rattle.lay_pages.specs.declared.titles.TitleRow.{TitleRow}
-use Rattle.lay_tune.specs.Spans.{IsSystem}
-use Rattle.lay_tune.specs.Systems.{Beside, EachSpan, IsStack}
+use Rattle.lay_tune.specs.Systems.{Beside, IsSetSystem, IsStack}
+use Rattle.lay_tune.proofs.Rows.{beside_count, span_count}
 use Rattle.set_tune.specs.declared.tune.SetTune.{SetTune}
 use Rattle.set_tune.specs.Blocks.{HasGoodHeight, blocks_of, is_some_list, system_block, system_blocks, title_blocks}
 use Rattle.set_tune.specs.Setting.{IsLaidOut}
@@ -111,18 +111,6 @@ good_heights (m ∷ ms) (h ∷ hs) is = All-cons HasGoodHeight h hs (record { lo
 good_heights [] (h ∷ hs) is = absurd is
 good_heights (m ∷ ms) [] is = absurd is
 
-few_heights : (systems : List SystemMarks) (heights : List Heights) → Beside IsStack systems heights → length heights ≡ length systems
-few_heights [] [] h = refl
-few_heights (m ∷ ms) (h ∷ hs) is = ap suc (few_heights ms hs is.1)
-few_heights [] (h ∷ hs) is = absurd is
-few_heights (m ∷ ms) [] is = absurd is
-
-few_systems : (P : ℕ → ℕ → SystemMarks → Type 0) (a : ℕ) (breaks : List ℕ) (systems : List SystemMarks) → EachSpan P a breaks systems → length systems ≡ length breaks
-few_systems P a [] [] h = refl
-few_systems P a (b ∷ bs) (m ∷ ms) is = ap suc (few_systems P b bs ms is.1)
-few_systems P a [] (m ∷ ms) is = absurd is
-few_systems P a (b ∷ bs) [] is = absurd is
-
 few_breaks : (a : ℕ) (breaks : List ℕ) → RisesFrom a breaks → a + length breaks ≤ last_from a breaks
 few_breaks a [] h = omega arith
 few_breaks a (b ∷ bs) h = omega (arith, h.0, few_breaks b bs h.1)
@@ -143,8 +131,8 @@ few_blocks width t good laid =
       together,
       mapped,
       count_titles t.title.rows t.title.height (is_some_list t.heights),
-      few_heights t.systems t.heights laid.heights,
-      few_systems (IsSystem t.score) 0 t.breaking.breaks t.systems laid.systems,
+      beside_count IsStack t.systems t.heights laid.heights,
+      (span_count (IsSetSystem t.score width) 0 t.breaking.breaks t.systems t.placed laid.systems).0,
       few_breaks 0 t.breaking.breaks laid.chosen.legal.rises,
       laid.chosen.legal.ends,
       good.few_measures,

@@ -21,8 +21,8 @@ use Rattle.lay_breaks.specs.Spans.{AreSpans, listed}
 use Rattle.lay_pages.specs.Filling.{first_tall}
 use Rattle.lay_pages.specs.Titles.{title_block_of}
 use Rattle.lay_tune.specs.Layout.{IsNoWay}
-use Rattle.lay_tune.specs.Spans.{AreSpansOf, IsSystem, is_forced_in}
-use Rattle.lay_tune.specs.Systems.{Beside, EachSpan, IsPlaced, IsStack}
+use Rattle.lay_tune.specs.Spans.{AreSpansOf, is_forced_in}
+use Rattle.lay_tune.specs.Systems.{Beside, EachSpan, IsSetSystem, IsStack}
 use Rattle.set_tune.specs.declared.tune.SetTune.{SetTune}
 use Rattle.set_tune.specs.Blocks.{blocks_of}
 
@@ -38,7 +38,7 @@ pub record HasScore (tune : TuneText) (defaults : Defaults) (flow : Bool) (heade
   pub good : IsGoodScore score
 
 -- The score laid out on a width: the listed spans are exactly those that fit, the breaking is the chosen one over them, and each
--- of its systems has the marks that the score calls for, set to the width, and its staves under one another.
+-- of its systems has the marks that the score calls for, set to the width and tilted there, and its staves under one another.
 pub record IsLaidOut (width : ℕ) (t : SetTune) : Type 0 where
   pub form : AreSpans t.score.measures t.spans
   pub spans : AreSpansOf t.score width t.spans
@@ -46,8 +46,7 @@ pub record IsLaidOut (width : ℕ) (t : SetTune) : Type 0 where
   pub total : t.breaking.total ≡ sum_from (listed t.spans) 0 t.breaking.breaks
   pub one_each : length t.breaking.potentials ≡ t.score.measures + 1
   pub potentials : (i : ℕ) → i ≤ t.score.measures → IsPotential (listed t.spans) (is_forced_in t.score) i (slice_index_or t.breaking.potentials i None)
-  pub systems : EachSpan (IsSystem t.score) 0 t.breaking.breaks t.systems
-  pub placed : Beside (IsPlaced t.score width) t.systems t.placed
+  pub systems : EachSpan (IsSetSystem t.score width) 0 t.breaking.breaks t.systems t.placed
   pub heights : Beside IsStack t.systems t.heights
   pub texts : All (λ m. All (λ staff. AreGoodMarks staff.marks) m.staves) t.systems
 

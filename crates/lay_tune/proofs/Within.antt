@@ -1,8 +1,16 @@
 -- Columns that stand apart rise from 0, and those of a system end within the width.
-use Rattle.std.proofs.Common.{◌≡◌, sym, subst, refl, inl, inr, ℕ, zero, suc, ◌+◌, ◌-◌, ◌*◌, ◌/◌, ◌<◌, ◌≤◌, ℤ, pos, ◌+ℤ◌, ◌≤ℤ◌, Bool, true, false, List, length, Option, Some, arith}
+use Rattle.std.proofs.Common.{◌≡◌, ◌∙◌, sym, ap, subst, refl, inl, inr, ℕ, zero, suc, ◌+◌, ◌-◌, ◌*◌, ◌/◌, ◌<◌, ◌≤◌, ◌==◌, ◌^◌, ℤ, pos, ◌+ℤ◌, ◌≤ℤ◌, Bool, true, false, List, length, Option, Some, arith}
 use Rattle.std.proofs.lemmas.Bool.{cases_lt}
 use Rattle.std.proofs.lemmas.Bool.Decides.{nat_tests}
 use Rattle.std.proofs.lemmas.Int.{ints}
+use Rattle.std.proofs.lemmas.List.{length-map}
+use Rattle.mus_score.specs.declared.score.Score.{Score}
+use Rattle.mus_time.specs.declared.keys.ColumnKey.{ColumnKey}
+use Rattle.mus_time.specs.Keys.{called_keys}
+use Rattle.mus_time.specs.Onsets.{timeline_of}
+use Rattle.mus_laid.specs.declared.laid.StaffMarks.{StaffMarks}
+use Rattle.mus_laid.specs.declared.laid.SystemMarks.{SystemMarks}
+use Rattle.mus_marks.specs.Tilt.{AreAbscissas}
 use Rattle.lay_springs.specs.declared.traits.Reach.{Reach}
 use Rattle.lay_springs.specs.declared.margin.Placed.{Placed}
 use Rattle.lay_springs.specs.Fit.{Fits, IsSet, counted}
@@ -10,10 +18,11 @@ use Rattle.lay_springs.specs.Place.{IsPlace, StandApart, length_at, reach_at}
 use Rattle.lay_springs.proofs.Ends.{apart_down, length_rises as lengths_rise}
 use Rattle.lay_columns.specs.declared.column.Column.{Column}
 use Rattle.lay_columns.specs.Column.{length_rises}
-use Rattle.lay_columns.specs.Columns.{column_reach}
-use Rattle.lay_tune.specs.Spans.{column_length}
-use Rattle.lay_tune.specs.Systems.{IsJustified}
-use Rattle.lay_apart.specs.Apart.{StandWithin, x_at}
+use Rattle.lay_columns.specs.Columns.{column_reach, columns_of}
+use Rattle.lay_columns.proofs.Facts.{columns_keys}
+use Rattle.lay_measures.proofs.KeyLaws.{same_keys}
+use Rattle.lay_tune.specs.Spans.{IsSystem, column_length, score_gaps, system_columns, verses_of}
+use Rattle.lay_tune.specs.Systems.{IsJustified, IsPlaced, StandWithin, x_at}
 
 -- the last of n columns stands within the width, and reaches no further
 pub record EndsWithin (n : ℕ) (reach : ℕ → ℕ → Option Reach) (gaps : List ℕ) (width : ℕ) (at : List ℤ) : Type 0 where
@@ -116,3 +125,32 @@ justified_count gaps width last columns p h = by p.ragged refl
     by : (b : Bool) → p.ragged ≡ b → length p.at ≡ length columns
     by true is = (h.loose is).count
     by false is = (h.set is).count
+
+-- ---- the columns of a system
+pub columns_count : (keys : List ColumnKey) (staves : List StaffMarks) (lengths verses : List ℕ) → length (columns_of keys staves lengths verses) ≡ length keys
+columns_count keys staves lengths verses =
+    sym (length-map (columns_of keys staves lengths verses) (λ c. c.key)) ∙ ap (λ ks. length ks) (columns_keys staves lengths verses 0 keys)
+
+pub system_count : (s : Score) (m : SystemMarks) → length (system_columns s m) ≡ length m.keys
+system_count s m = columns_count m.keys m.staves (timeline_of s).lengths (verses_of s.voices)
+
+-- they stand within the width wherever they are placed
+pub placed_stand : (s : Score) (width : ℕ) (m : SystemMarks) (p : Placed) → IsPlaced s width m p → StandWithin width (length m.keys) p.at
+placed_stand s width m p placed =
+    let columns = system_columns s m in
+    subst (λ n. StandWithin width n p.at) (system_count s m)
+    (stand_within (length columns) (reach_at column_reach columns) (score_gaps s) (length_at column_length columns p.force) width p.at
+    (justified_count (score_gaps s) width (m.b == s.measures) columns p placed) placed.apart
+    (λ some. justified_within (score_gaps s) width (m.b == s.measures) columns p some placed))
+
+-- so marks can be tilted over them
+pub abscissas_of : (s : Score) (width a b : ℕ) (m : SystemMarks) (p : Placed) → width < 2 ^ 32 → IsSystem s a b m → IsPlaced s width m p
+    → AreAbscissas s (timeline_of s) a b p.at
+abscissas_of s width a b m p narrow call placed =
+    let stand = placed_stand s width m p placed in
+    let count = stand.count_is in record {
+      each = λ keys are. count ∙ ap (λ ks. length ks) (same_keys m.keys keys (called_keys s (timeline_of s).lengths a b) call.keys are);
+      rise = λ i less. stand.rise i (omega arith);
+      low = λ i less. stand.low i (omega arith);
+      high = λ i less. let most = stand.high i (omega arith) in omega (arith, ints);
+    }
