@@ -6,6 +6,7 @@ use Rattle.std.proofs.lemmas.Int.{ints}
 use Rattle.std.proofs.lemmas.List.{length-map}
 use Rattle.mus_score.specs.declared.score.Score.{Score}
 use Rattle.mus_time.specs.declared.keys.ColumnKey.{ColumnKey}
+use Rattle.mus_time.specs.declared.times.Timeline.{Timeline}
 use Rattle.mus_time.specs.Keys.{called_keys}
 use Rattle.mus_time.specs.Onsets.{timeline_of}
 use Rattle.mus_laid.specs.declared.laid.StaffMarks.{StaffMarks}
@@ -133,6 +134,16 @@ columns_count keys staves lengths verses =
 
 pub system_count : (s : Score) (m : SystemMarks) → length (system_columns s m) ≡ length m.keys
 system_count s m = columns_count m.keys m.staves (timeline_of s).lengths (verses_of s.voices)
+
+-- they are placed where columns that were read off them are justified
+pub placed_read : (s : Score) (t : Timeline) (width b : ℕ) (m : SystemMarks) (p : Placed) (gaps verses : List ℕ) (columns read : List Column)
+    → t ≡ timeline_of s → verses ≡ verses_of s.voices → gaps ≡ score_gaps s → m.b ≡ b → columns ≡ columns_of m.keys m.staves t.lengths verses → read ≡ columns
+    → IsJustified gaps width (b == s.measures) read p → IsPlaced s width m p
+placed_read s t width b m p gaps verses columns read times is are to value same h =
+    subst (λ gs. IsJustified gs width (m.b == s.measures) (system_columns s m) p) are
+    (subst (λ b. IsJustified gaps width (b == s.measures) (system_columns s m) p) (sym to)
+    (subst (λ cs. IsJustified gaps width (b == s.measures) cs p)
+    (same ∙ value ∙ ap (λ (t : Timeline). columns_of m.keys m.staves t.lengths verses) times ∙ ap (λ vs. columns_of m.keys m.staves (timeline_of s).lengths vs) is) h))
 
 -- they stand within the width wherever they are placed
 pub placed_stand : (s : Score) (width : ℕ) (m : SystemMarks) (p : Placed) → IsPlaced s width m p → StandWithin width (length m.keys) p.at

@@ -168,7 +168,7 @@ pub fn lay_out(alloc: Global, s: &Score, width: u32) -> Result<Layout, LayoutErr
 {
     let t = onsets(alloc, s)?;
     let mut drawn = draw_voices(alloc, s)?;
-    let voices = drawn.as_mut_slice();
+    let voices = drawn.items.as_mut_slice();
     let counts = verses_of(alloc, s.voices.as_slice())?;
     let verses = counts.as_slice();
     let begun = starts_of(alloc, s, voices, &t, verses)?;

@@ -1,19 +1,46 @@
 -- A score has one layout on a width.
-use Rattle.std.proofs.Common.{◌≡◌, ℕ, List, refl, sym, subst}
+use Rattle.std.proofs.Common.{◌≡◌, ◌∙◌, ℕ, List, [], ◌∷◌, refl, sym, ap, subst}
 use Rattle.mus_score.specs.declared.score.Score.{Score}
 use Rattle.mus_score.specs.GoodScore.{IsGoodScore}
+use Rattle.mus_time.specs.Onsets.{timeline_of}
+use Rattle.mus_laid.specs.declared.laid.SystemMarks.{SystemMarks}
+use Rattle.mus_marks.specs.Tilt.{IsTilted}
+use Rattle.lay_springs.specs.declared.margin.Placed.{Placed}
 use Rattle.lay_breaks.specs.declared.breaking.Breaking.{Breaking}
 use Rattle.lay_breaks.specs.declared.costs.Span.{Span}
 use Rattle.lay_breaks.specs.Spans.{listed}
-use Rattle.lay_tune.specs.Spans.{IsSystem, is_forced_in}
-use Rattle.lay_tune.specs.Systems.{Beside, EachSpan, IsPlaced, IsStack}
+use Rattle.lay_tune.specs.Spans.{is_forced_in}
+use Rattle.lay_tune.specs.Systems.{Beside, EachSpan, IsPlaced, IsSetSystem, IsStack}
 use Rattle.set_tune.specs.declared.tune.SetTune.{SetTune}
 use Rattle.set_tune.specs.Setting.{IsLaidOut}
-use Rattle.set_book.proofs.Called.{one_each, one_system}
+use Rattle.set_book.proofs.Called.{one_system, one_tilted}
 use Rattle.set_book.proofs.Chosen.{IsBreaking, one_breaking}
 use Rattle.set_book.proofs.Justified.{one_placed}
 use Rattle.set_book.proofs.Spanned.{one_list}
 use Rattle.set_book.proofs.Stacked.{one_beside, one_stacked}
+
+-- a score has one system of any measures on a width
+one_set : (s : Score) (width a b : ℕ) (m n : SystemMarks) (p q : Placed) → IsSetSystem s width a b m p → IsSetSystem s width a b n q → (m ≡ n) × (p ≡ q)
+one_set s width a b m n p q h k =
+    let flat = one_system s a b k.flat h.flat k.called h.called in
+    let placed = one_placed s width h.flat p q h.placed (subst (λ f. IsPlaced s width f q) flat k.placed) in
+    (one_tilted s a b q.at m n (subst (λ (x : Placed). IsTilted s (timeline_of s) a b x.at m) placed h.tilted) k.tilted, placed)
+
+-- two things for each span, of things that a span has one of
+one_each : {X Y : Type 0} (P : ℕ → ℕ → X → Y → Type 0) → ((a b : ℕ) (x u : X) (y v : Y) → P a b x y → P a b u v → (x ≡ u) × (y ≡ v))
+    → (a : ℕ) (breaks : List ℕ) (xs us : List X) (ys vs : List Y) → EachSpan P a breaks xs ys → EachSpan P a breaks us vs → (xs ≡ us) × (ys ≡ vs)
+one_each P one a [] [] [] [] [] h k = (refl, refl)
+one_each P one a [] [] [] [] (v ∷ vs) h k = absurd k
+one_each P one a [] [] (u ∷ us) [] vs h k = absurd k
+one_each P one a [] [] us (y ∷ ys) vs h k = absurd h
+one_each P one a [] (x ∷ xs) us ys vs h k = absurd h
+one_each P one a (b ∷ bs) [] us ys vs h k = absurd h
+one_each P one a (b ∷ bs) (x ∷ xs) us [] vs h k = absurd h
+one_each P one a (b ∷ bs) (x ∷ xs) [] (y ∷ ys) vs h k = absurd k
+one_each P one a (b ∷ bs) (x ∷ xs) (u ∷ us) (y ∷ ys) [] h k = absurd k
+one_each P one a (b ∷ bs) (x ∷ xs) (u ∷ us) (y ∷ ys) (v ∷ vs) h k =
+    let e = one a b x u y v h.0 k.0 in let more = one_each P one b bs xs us ys vs h.1 k.1 in
+    (ap (λ z. z ∷ xs) e.0 ∙ ap (λ t. u ∷ t) more.0, ap (λ z. z ∷ ys) e.1 ∙ ap (λ t. v ∷ t) more.1)
 
 -- the same layout under the same score
 abbrev under : Score → SetTune → SetTune
@@ -38,20 +65,15 @@ module _ (width : ℕ) (s : Score) (t u : SetTune) (h : IsLaidOut width (under s
       one_breaking (listed u.spans) (is_forced_in s) s.measures t.breaking u.breaking
       (breaks_over width (under s t) u.spans same_spans h) (breaks_over width (under s u) u.spans refl k)
 
-  same_systems : t.systems ≡ u.systems
+  same_systems : (t.systems ≡ u.systems) × (t.placed ≡ u.placed)
   same_systems =
-      one_each (IsSystem s) (one_system s) 0 u.breaking.breaks t.systems u.systems
-      (subst (λ (b : Breaking). EachSpan (IsSystem s) 0 b.breaks t.systems) same_breaking h.systems) k.systems
-
-  same_placed : t.placed ≡ u.placed
-  same_placed =
-      one_beside (IsPlaced s width) (one_placed s width) u.systems t.placed u.placed
-      (subst (λ systems. Beside (IsPlaced s width) systems t.placed) same_systems h.placed) k.placed
+      one_each (IsSetSystem s width) (one_set s width) 0 u.breaking.breaks t.systems u.systems t.placed u.placed
+      (subst (λ (b : Breaking). EachSpan (IsSetSystem s width) 0 b.breaks t.systems t.placed) same_breaking h.systems) k.systems
 
   same_heights : t.heights ≡ u.heights
   same_heights =
       one_beside IsStack one_stacked u.systems t.heights u.heights
-      (subst (λ systems. Beside IsStack systems t.heights) same_systems h.heights) k.heights
+      (subst (λ systems. Beside IsStack systems t.heights) same_systems.0 h.heights) k.heights
 
 -- a score has one layout on a width
 pub one_layout : (width : ℕ) (t u : SetTune) → t.score ≡ u.score → IsGoodScore t.score → IsLaidOut width t → IsLaidOut width u
@@ -60,7 +82,7 @@ one_layout width t u e _ h k =
     let over = laid_under width t.score u (sym e) k in (
       same_spans width t.score t u h over,
       same_breaking width t.score t u h over,
-      same_systems width t.score t u h over,
-      same_placed width t.score t u h over,
+      (same_systems width t.score t u h over).0,
+      (same_systems width t.score t u h over).1,
       same_heights width t.score t u h over,
     )

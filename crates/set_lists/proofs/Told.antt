@@ -1,5 +1,5 @@
 -- What comes of tunes can be listed, and its listing tells the tunes that are set.
-use Rattle.std.proofs.Common.{◌≡◌, ℕ, suc, ◌<◌, ◌≤◌, ◌^◌, Bool, true, false, List, [], ◌∷◌, length, Option, Some, None, Result, Ok, Err, arith, refl, ap, if◌then◌else◌}
+use Rattle.std.proofs.Common.{◌≡◌, ◌∙◌, sym, ℕ, ◌<◌, ◌≤◌, ◌^◌, Bool, true, false, List, [], ◌∷◌, length, Option, Some, None, Result, Ok, Err, arith, refl, if◌then◌else◌}
 use Rattle.std.specs.List.{All, cons_option, slice_index_or}
 use Rattle.std.proofs.lemmas.List.Elements.{All-cons, All-nil}
 use Rattle.std.proofs.lemmas.Option.{none-some}
@@ -13,7 +13,8 @@ use Rattle.lay_breaks.specs.declared.costs.Span.{Span}
 use Rattle.lay_breaks.specs.Breaking.{IsLegal, IsPotential}
 use Rattle.lay_breaks.specs.Spans.{AreSpans, SpansFrom, ends_are, has_ends, listed}
 use Rattle.lay_tune.specs.Spans.{AreSpansOf, is_forced_in}
-use Rattle.lay_tune.specs.Systems.{Beside, IsPlaced}
+use Rattle.lay_tune.specs.Systems.{IsSetSystem}
+use Rattle.lay_tune.proofs.Rows.{span_count}
 use Rattle.lay_cert.specs.Listing.{EntriesFrom, IsEntry, none_forced}
 use Rattle.lay_cert.proofs.Unforced.{forced_by_spans}
 use Rattle.set_tune.specs.declared.tune.SetTune.{SetTune}
@@ -65,17 +66,11 @@ potential s width spans form exact i (Some v) h = record {
 }
 
 -- ---- tunes that are set
-same_length : {X Y : Type 0} (P : X → Y → Type 0) (xs : List X) (ys : List Y) → Beside P xs ys → length ys ≡ length xs
-same_length P [] [] h = refl
-same_length P [] (y ∷ ys) h = absurd h
-same_length P (x ∷ xs) [] h = absurd h
-same_length P (x ∷ xs) (y ∷ ys) h = ap suc (same_length P xs ys h.1)
-
 module _ (tune : TuneText) (defaults : Defaults) (paper : Paper) (flow : Bool) (t : SetTune) (is : IsSetTune tune defaults paper flow t) where
   can_be_listed : CanBeListed t
   can_be_listed = record {
     form = is.laid.layout.form;
-    beside = same_length (IsPlaced t.score (width_of paper)) t.systems t.placed is.laid.layout.placed;
+    beside = let both = span_count (IsSetSystem t.score (width_of paper)) 0 t.breaking.breaks t.systems t.placed is.laid.layout.systems in both.1 ∙ sym both.0;
     few = let few = is.laid.score.good.few_measures in let one = is.laid.layout.one_each in omega (arith, few, one);
   }
 

@@ -11,15 +11,15 @@ use Rattle.lay_springs.specs.declared.margin.Placed.{Placed}
 use Rattle.lay_breaks.specs.Breaking.{RisesFrom, last_from}
 use Rattle.lay_pages.specs.declared.stacking.Heights.{Heights}
 use Rattle.lay_pages.specs.Stacking.{AreGoodStaves}
-use Rattle.lay_tune.specs.Spans.{IsSystem}
-use Rattle.lay_tune.specs.Systems.{Beside, EachSpan, IsPlaced, IsStack}
+use Rattle.lay_tune.specs.Systems.{Beside, EachSpan, IsSetSystem, IsStack, StandWithin}
 use Rattle.lay_shown.specs.Shown.{IsShown}
+use Rattle.lay_shown.proofs.Alike.{alike_shown}
 use Rattle.lay_shown.proofs.Laws.{call_shown}
-use Rattle.lay_apart.specs.Apart.{AreApart, StandWithin}
+use Rattle.lay_apart.specs.Apart.{AreApart}
 use Rattle.lay_apart.proofs.Laws.{boxes_apart, columns_stand}
 use Rattle.set_tune.specs.declared.tune.SetTune.{SetTune}
 use Rattle.set_tune.specs.Setting.{IsLaidOut}
-use Rattle.set_pages.proofs.Stacks.{system_good}
+use Rattle.set_pages.proofs.Stacks.{tilted_good}
 
 -- a system that is laid out
 pub record IsLaidSystem (width : ℕ) (m : SystemMarks) (p : Placed) (h : Heights) : Type 0 where
@@ -36,13 +36,13 @@ AreLaid width (m ∷ systems) (p ∷ placed) (h ∷ heights) = IsLaidSystem widt
 AreLaid width _ _ _ = ⊥
 
 system_laid : (s : Score) (width a b : ℕ) (m : SystemMarks) (p : Placed) (h : Heights) → IsGoodScore s → 1 ≤ length s.voices → width < 2 ^ 20 → a < b → b ≤ s.measures
-    → IsSystem s a b m → IsPlaced s width m p → IsStack m h → IsLaidSystem width m p h
-system_laid s width a b m p h good some narrow rises within call placed stack =
-    let shown = call_shown s a b m good some rises within call in record {
-      shown = shown;
-      columns = columns_stand s width a b m p good rises within call placed narrow;
-      boxes = boxes_apart s width a b m p good rises within call shown placed narrow;
-      staves = system_good s a b m call;
+    → IsSetSystem s width a b m p → IsStack m h → IsLaidSystem width m p h
+system_laid s width a b m p h good some narrow rises within set stack =
+    let shown = call_shown s a b set.flat good some rises within set.called in record {
+      shown = alike_shown set.flat m set.alike shown;
+      columns = columns_stand s width a b m p set;
+      boxes = boxes_apart s width a b m p good rises within set shown narrow;
+      staves = tilted_good s a b p.at m set.tilted;
       stack = stack;
     }
 
@@ -50,31 +50,21 @@ last_within : (a : ℕ) (breaks : List ℕ) → RisesFrom a breaks → a ≤ las
 last_within a [] rises = omega arith
 last_within a (b ∷ breaks) rises = let more = last_within b breaks rises.1 in omega (arith, rises.0)
 
-systems_laid : (s : Score) (width a : ℕ) (breaks : List ℕ) (systems : List SystemMarks) (placed : List Placed) (heights : List Heights) → IsGoodScore s → 1 ≤ length s.voices → width < 2 ^ 20
-    → RisesFrom a breaks → last_from a breaks ≤ s.measures → EachSpan (IsSystem s) a breaks systems → Beside (IsPlaced s width) systems placed → Beside IsStack systems heights
-    → AreLaid width systems placed heights
-systems_laid s width a [] [] [] [] good some narrow rises within call placed stack = tt
-systems_laid s width a breaks [] (p ∷ placed) heights good some narrow rises within call q stack = absurd q
-systems_laid s width a breaks [] [] (h ∷ heights) good some narrow rises within call q stack = absurd stack
-systems_laid s width a (b ∷ breaks) [] [] [] good some narrow rises within call q stack = absurd call
-systems_laid s width a [] (m ∷ systems) placed heights good some narrow rises within call q stack = absurd call
-systems_laid s width a (b ∷ breaks) (m ∷ systems) [] heights good some narrow rises within call q stack = absurd q
-systems_laid s width a (b ∷ breaks) (m ∷ systems) (p ∷ placed) [] good some narrow rises within call q stack = absurd stack
-systems_laid s width a (b ∷ breaks) (m ∷ systems) (p ∷ placed) (h ∷ heights) good some narrow rises within call q stack =
-    let end = last_within b breaks rises.1 in (
-      system_laid s width a b m p h good some narrow rises.0 (omega (arith, end, within)) call.0 q.0 stack.0,
-      systems_laid s width b breaks systems placed heights good some narrow rises.1 within call.1 q.1 stack.1,
+systems_laid : (s : Score) (width a : ℕ) (breaks : List ℕ) (systems : List SystemMarks) (placed : List Placed) (heights : List Heights) → IsGoodScore s
+    → (0 < s.measures → 1 ≤ length s.voices) → width < 2 ^ 20 → RisesFrom a breaks → last_from a breaks ≤ s.measures
+    → EachSpan (IsSetSystem s width) a breaks systems placed → Beside IsStack systems heights → AreLaid width systems placed heights
+systems_laid s width a [] [] [] [] good some narrow rises within set stack = tt
+systems_laid s width a [] [] (p ∷ placed) heights good some narrow rises within set stack = absurd set
+systems_laid s width a breaks [] [] (h ∷ heights) good some narrow rises within set stack = absurd stack
+systems_laid s width a [] (m ∷ systems) placed heights good some narrow rises within set stack = absurd set
+systems_laid s width a (b ∷ breaks) [] placed heights good some narrow rises within set stack = absurd set
+systems_laid s width a (b ∷ breaks) (m ∷ systems) [] heights good some narrow rises within set stack = absurd set
+systems_laid s width a (b ∷ breaks) (m ∷ systems) (p ∷ placed) [] good some narrow rises within set stack = absurd stack
+systems_laid s width a (b ∷ breaks) (m ∷ systems) (p ∷ placed) (h ∷ heights) good some narrow rises within set stack =
+    let end = last_within b breaks rises.1 in let from = rises.0 in (
+      system_laid s width a b m p h good (some (omega (arith, from, end, within))) narrow from (omega (arith, end, within)) set.0 stack.0,
+      systems_laid s width b breaks systems placed heights good some narrow rises.1 within set.1 stack.1,
     )
-
--- a score with a measure has a voice
-none_laid : (s : Score) (width a : ℕ) (breaks : List ℕ) (systems : List SystemMarks) (placed : List Placed) (heights : List Heights) → s.measures ≡ 0
-    → RisesFrom a breaks → last_from a breaks ≤ s.measures → EachSpan (IsSystem s) a breaks systems → Beside (IsPlaced s width) systems placed → Beside IsStack systems heights
-    → AreLaid width systems placed heights
-none_laid s width a [] [] [] [] none rises within call placed stack = tt
-none_laid s width a breaks [] (p ∷ placed) heights none rises within call q stack = absurd q
-none_laid s width a breaks [] [] (h ∷ heights) none rises within call q stack = absurd stack
-none_laid s width a [] (m ∷ systems) placed heights none rises within call q stack = absurd call
-none_laid s width a (b ∷ breaks) systems placed heights none rises within call q stack = let end = last_within b breaks rises.1 in absurd (omega (arith, rises.0, end, within))
 
 quotient_narrow : (x s : ℕ) → x ≤ 10000000 → 40 ≤ s → x / s < 2 ^ 20
 quotient_narrow x s few some = grind arith
@@ -84,15 +74,9 @@ paper_narrow paper good =
     let wide = good.small_wide in
     quotient_narrow ((paper.wide - (paper.left + paper.right)) * 100) paper.scale (omega arith) good.low_scale
 
-some_or_none : (n : ℕ) (P : Type 0) → (n ≡ 0 → P) → (0 < n → P) → P
-some_or_none zero P none some = none refl
-some_or_none (suc n) P none some = some (omega arith)
-
 pub tune_laid : (width : ℕ) (t : SetTune) → IsGoodScore t.score → (0 < t.score.measures → 1 ≤ length t.score.voices) → width < 2 ^ 20 → IsLaidOut width t
     → AreLaid width t.systems t.placed t.heights
 tune_laid width t good heard narrow laid =
     let legal = laid.chosen.legal in
     let within : last_from 0 t.breaking.breaks ≤ t.score.measures = omega (arith, legal.ends) in
-    some_or_none t.score.measures (AreLaid width t.systems t.placed t.heights)
-    (λ none. none_laid t.score width 0 t.breaking.breaks t.systems t.placed t.heights none legal.rises within laid.systems laid.placed laid.heights)
-    (λ some. systems_laid t.score width 0 t.breaking.breaks t.systems t.placed t.heights good (heard some) narrow legal.rises within laid.systems laid.placed laid.heights)
+    systems_laid t.score width 0 t.breaking.breaks t.systems t.placed t.heights good heard narrow legal.rises within laid.systems laid.heights

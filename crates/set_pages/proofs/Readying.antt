@@ -13,10 +13,12 @@ use Rattle.abc_header.specs.Papers.{height_of, width_of}
 use Rattle.mus_laid.specs.declared.laid.SystemMarks.{SystemMarks}
 use Rattle.lay_pages.specs.declared.stacking.Heights.{Heights}
 use Rattle.lay_pages.specs.Filling.{first_tall}
-use Rattle.lay_tune.specs.Systems.{Beside, IsPlaced, IsStack}
+use Rattle.lay_tune.specs.Systems.{IsSetSystem, IsStack}
+use Rattle.lay_tune.proofs.Rows.{beside_count, span_count}
 use Rattle.set_tune.specs.declared.tune.SetTune.{SetTune}
 use Rattle.set_tune.specs.Blocks.{HasGoodHeight}
 use Rattle.set_tune.specs.Setting.{IsLaidOut}
+use Rattle.set_tune.proofs.Laid.{good_heights}
 use Rattle.set_book.specs.declared.outcome.Outcome.{Outcome}
 use Rattle.set_book.specs.Outcomes.{AreOutcomes, IsOutcome, IsResult}
 use Rattle.set_pages.specs.Drawings.{result_blocks}
@@ -25,23 +27,11 @@ use Rattle.set_pages.specs.Sheet.{IsSetResult, IsSetUnder}
 use Rattle.set_pages.proofs.Fitting.{AllFit}
 
 -- the systems of a tune
-beside_length : {X Y : Type 0} (P : X → Y → Type 0) (xs : List X) (ys : List Y) → Beside P xs ys → length ys ≡ length xs
-beside_length P [] [] h = refl
-beside_length P [] (y ∷ ys) h = absurd h
-beside_length P (x ∷ xs) [] h = absurd h
-beside_length P (x ∷ xs) (y ∷ ys) h = ap suc (beside_length P xs ys h.1)
-
-heights_good : (systems : List SystemMarks) (heights : List Heights) → Beside IsStack systems heights → All HasGoodHeight heights
-heights_good [] [] h = All-nil HasGoodHeight
-heights_good [] (y ∷ heights) h = absurd h
-heights_good (m ∷ systems) [] h = absurd h
-heights_good (m ∷ systems) (y ∷ heights) h = All-cons HasGoodHeight y heights (record { low = h.0.low; high = h.0.high }) (heights_good systems heights h.1)
-
 pub laid_whole : (width : ℕ) (t : SetTune) → IsLaidOut width t → HasAllRows t
 laid_whole width t laid = record {
-  placed = beside_length (IsPlaced t.score width) t.systems t.placed laid.placed;
-  heights = beside_length IsStack t.systems t.heights laid.heights;
-  good = heights_good t.systems t.heights laid.heights;
+  placed = let both = span_count (IsSetSystem t.score width) 0 t.breaking.breaks t.systems t.placed laid.systems in both.1 ∙ sym both.0;
+  heights = beside_count IsStack t.systems t.heights laid.heights;
+  good = good_heights t.systems t.heights laid.heights;
 }
 
 result_whole : (paper : Paper) (r : Result SetTune Fault) → IsSetResult paper r → IsWholeResult r

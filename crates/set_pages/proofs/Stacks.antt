@@ -11,21 +11,21 @@ use Rattle.mus_drawn.specs.Drawn.{drawn_voice}
 use Rattle.mus_laid.specs.declared.laid.StaffMarks.{StaffMarks}
 use Rattle.mus_laid.specs.declared.laid.SystemMarks.{SystemMarks}
 use Rattle.mus_marks.specs.Staff.{room_over, staff_marks, voice_marks}
-use Rattle.mus_marks.specs.System.{staff_of}
+use Rattle.mus_marks.specs.Tilt.{IsTilted, tilted_staff_of, voice_tilted}
 use Rattle.mus_marks.proofs.Lines.{covers}
 use Rattle.lay_pages.specs.Stacking.{AreGoodStaves, AreStacked}
-use Rattle.lay_tune.specs.Spans.{IsSystem}
 use Rattle.set_pages.specs.Clear.{AreUnder, LieBetween}
 
 -- the staves that are called for cover their lines
-called_good : (keys : List ColumnKey) (lengths : List ℕ) (a b : ℕ) (voices : List Voice) → AreGoodStaves (map (staff_of keys lengths a b) voices)
+called_good : (keys : List ColumnKey) (lengths : List ℕ) (at : List ℤ) (a b : ℕ) (voices : List Voice) → AreGoodStaves (map (tilted_staff_of keys lengths at a b) voices)
 unfolding staff_marks
-called_good keys lengths a b [] = tt
-called_good keys lengths a b (v ∷ voices) =
-    (covers (voice_marks keys lengths (Some (room_over (drawn_voice v).verses (voice_marks keys lengths None a b (drawn_voice v)))) a b (drawn_voice v)), called_good keys lengths a b voices)
+called_good keys lengths at a b [] = tt
+called_good keys lengths at a b (v ∷ voices) =
+    let d = voice_tilted keys at a b (drawn_voice v) in
+    (covers (voice_marks keys lengths (Some (room_over d.verses (voice_marks keys lengths None a b d))) a b d), called_good keys lengths at a b voices)
 
-pub system_good : (s : Score) (a b : ℕ) (m : SystemMarks) → IsSystem s a b m → AreGoodStaves m.staves
-system_good s a b m call = subst AreGoodStaves (sym call.staves) (called_good m.keys (timeline_of s).lengths a b s.voices)
+pub tilted_good : (s : Score) (a b : ℕ) (at : List ℤ) (m : SystemMarks) → IsTilted s (timeline_of s) a b at m → AreGoodStaves m.staves
+tilted_good s a b at m tilted = subst AreGoodStaves (sym tilted.staves) (called_good m.keys (timeline_of s).lengths at a b s.voices)
 
 -- the bottom of stacked staves lies under their top, and each base between both
 bottom_low : (top : ℤ) (staves : List StaffMarks) (bases : List ℤ) (bottom : ℤ) → AreGoodStaves staves → AreStacked top staves bases bottom → bottom ≤ℤ top
