@@ -1,13 +1,12 @@
 -- Every list of column keys has a rising list of the same keys.
-use Rattle.std.proofs.Common.{◌≡◌, ◌∙◌, ℕ, zero, suc, ◌⊎◌, inl, inr, Bool, true, false, nat_lt, List, [], ◌∷◌, refl, sym, ap, subst, arith}
+use Rattle.std.proofs.Common.{◌≡◌, ◌∙◌, ℕ, inl, inr, Bool, true, false, nat_lt, List, [], ◌∷◌, refl, sym, ap, subst, arith}
 use Rattle.std.specs.List.{Contains}
 use Rattle.std.proofs.lemmas.Bool.Decides.{nat_tests}
 use Rattle.mus_time.specs.declared.keys.Class.{Class}
 use Rattle.mus_time.specs.declared.keys.ColumnKey.{ColumnKey}
 use Rattle.mus_time.specs.Keys.{AreKeys, key_at}
-use Rattle.mus_time.proofs.Orders.{below_through, not_both}
-use Rattle.mus_time.proofs.RankLaws.{false_not_true}
-use Rattle.lay_measures.proofs.KeyLaws.{below_in, first_or, none_in, there}
+use Rattle.mus_time.proofs.Orders.{below_through}
+use Rattle.lay_measures.proofs.KeyLaws.{below_in, first_or, there}
 use Rattle.mus_time.specs.Order.{BelowAll, Rises, class_number, is_below, then_below}
 
 -- ---- the order of keys

@@ -1,6 +1,6 @@
 -- The systems of a tune that is laid out on a paper: each can be shown, its columns stand within the width, its boxes stay apart and
 -- its staves stand under one another.
-use Rattle.std.proofs.Common.{◌≡◌, refl, ℕ, zero, suc, ◌*◌, ◌+◌, ◌-◌, ◌/◌, ◌^◌, ◌<◌, ◌≤◌, List, [], ◌∷◌, length, arith}
+use Rattle.std.proofs.Common.{ℕ, ◌*◌, ◌+◌, ◌-◌, ◌/◌, ◌^◌, ◌<◌, ◌≤◌, List, [], ◌∷◌, length, arith}
 use Rattle.std.specs.Prelude.{⊤, All}
 use Rattle.abc_header.specs.declared.paper.Paper.{Paper}
 use Rattle.abc_header.specs.Papers.{IsGoodPaper, width_of}

@@ -1,5 +1,5 @@
 -- What is set on a paper: a placement and good heights for each system of a tune, and no group that is higher than the page.
-use Rattle.std.proofs.Common.{◌≡◌, refl, sym, ap, subst, ℕ, suc, ◌≤◌, Bool, true, false, if◌then◌else◌, List, [], ◌∷◌, length, None, arith}
+use Rattle.std.proofs.Common.{◌≡◌, refl, sym, subst, ℕ, suc, ◌≤◌, Bool, true, false, if◌then◌else◌, List, [], ◌∷◌, length, None, arith}
 use Rattle.std.proofs.lemmas.List.Elements.{All-cons, All-head, All-nil, All-tail, All-weaker}
 use Rattle.std.specs.Prelude.{All, Result, Ok, Err}
 use Rattle.abc_lines.specs.declared.book.TuneText.{TuneText}
@@ -10,13 +10,10 @@ use Rattle.abc_lines.specs.Lines.{readings, without_mark}
 use Rattle.abc_header.specs.declared.defaults.Defaults.{Defaults}
 use Rattle.abc_header.specs.declared.paper.Paper.{Paper}
 use Rattle.abc_header.specs.Papers.{height_of, width_of}
-use Rattle.mus_laid.specs.declared.laid.SystemMarks.{SystemMarks}
-use Rattle.lay_pages.specs.declared.stacking.Heights.{Heights}
 use Rattle.lay_pages.specs.Filling.{first_tall}
 use Rattle.lay_tune.specs.Systems.{IsSetSystem, IsStack}
 use Rattle.lay_tune.proofs.Rows.{beside_count, span_count}
 use Rattle.set_tune.specs.declared.tune.SetTune.{SetTune}
-use Rattle.set_tune.specs.Blocks.{HasGoodHeight}
 use Rattle.set_tune.specs.Setting.{IsLaidOut}
 use Rattle.set_tune.proofs.Laid.{good_heights}
 use Rattle.set_book.specs.declared.outcome.Outcome.{Outcome}

@@ -1,5 +1,5 @@
 -- What the setting of a tune rests on: a score with measures has a voice, a tune has few titles, and few blocks of good heights.
-use Rattle.std.proofs.Common.{◌≡◌, ℕ, zero, suc, ◌+◌, ◌<◌, ◌≤◌, ◌^◌, Bool, List, [], ◌∷◌, ◌++◌, length, map, take, Option, Some, None, Result, Ok, Err, sym, ◌∙◌, ap, subst, refl, arith}
+use Rattle.std.proofs.Common.{◌≡◌, ℕ, zero, suc, ◌+◌, ◌<◌, ◌≤◌, ◌^◌, Bool, List, [], ◌∷◌, ◌++◌, length, map, take, Option, Some, None, Result, Ok, Err, sym, subst, refl, arith}
 use Rattle.std.specs.List.{cons_option}
 use Rattle.std.specs.List.{All, filter_map}
 use Rattle.std.proofs.lemmas.List.{length-append, length-map}
@@ -25,7 +25,6 @@ use Rattle.mus_score.specs.GoodScore.{IsGoodScore}
 use Rattle.mus_laid.specs.declared.laid.SystemMarks.{SystemMarks}
 use Rattle.lay_breaks.specs.Breaking.{RisesFrom, last_from}
 use Rattle.lay_pages.specs.declared.stacking.Heights.{Heights}
-use Rattle.lay_pages.specs.declared.titles.TitleBlock.{TitleBlock}
 use Rattle.lay_pages.specs.declared.titles.TitleRow.{TitleRow}
 use Rattle.lay_tune.specs.Systems.{Beside, IsSetSystem, IsStack}
 use Rattle.lay_tune.proofs.Rows.{beside_count, span_count}
