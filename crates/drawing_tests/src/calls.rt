@@ -4,7 +4,7 @@
 //! these abscissas; `voices` the voices as drawn; `marks A B`, `boxes A B` and `columns A B` the marks of the
 //! system of the measures A to B - 1, their boxes, and its columns with their gaps and their places at force
 //! 256; `first M` and `further M` the columns of a measure that begins a system or not; `layout W` the
-//! layout on a width; `sounds` the sounds.
+//! layout on a width, `systems W` what its systems draw; `sounds` the sounds.
 //! `printed N` prints the text instead of a tune, whole and within N characters.
 
 ghost use Rattle.std.specs.Prelude.{◌≡◌, ◌≤◌, ◌<◌, ◌^◌, ℕ, IfOk, length, slice_index};
@@ -153,7 +153,8 @@ fn put_call(alloc: Global, out: &mut Text, score: &Score, call: Call<'_>) -> Res
         b"sounds" => put_sounds(out, sounding(alloc, score)?.as_slice()),
         b"plans" => put_score_plans(alloc, out, score),
         b"slope" => put_slopes(alloc, out, score, numbers.as_slice()),
-        b"layout" => put_score_layout(alloc, out, score, a),
+        b"layout" => put_score_layout(alloc, out, score, a, false),
+        b"systems" => put_score_layout(alloc, out, score, a, true),
         _ => put_word(out, b"no such call\n"),
     }
 }

@@ -2,8 +2,9 @@
 
 ghost use Rattle.mus_score.specs.GoodScore.{IsGoodScore};
 
+use crate::marks::put_system;
 use answer_texts::{
-    put_breaking, put_heights, put_no_way, put_numbers, put_placed, put_spans, put_word,
+    end_line, put_breaking, put_heights, put_no_way, put_numbers, put_placed, put_spans, put_word,
 };
 use lay_tune::{Layout, LayoutError, lay_out};
 use mus_laid::SystemMarks;
@@ -30,12 +31,23 @@ fn put_layout(out: &mut Text, layout: &Layout) -> Result<(), Memory> {
     Ok(())
 }
 
-/// A score laid out on a width.
+/// Adds the systems of a layout with all that they draw.
+fn put_systems(out: &mut Text, layout: &Layout) -> Result<(), Memory> {
+    for system in layout.systems.as_slice() {
+        put_bars(out, system)?;
+        end_line(out)?;
+        put_system(out, system)?;
+    }
+    Ok(())
+}
+
+/// A score laid out on a width: where things stand, or else what its systems draw.
 pub(crate) fn put_score_layout(
     alloc: Global,
     out: &mut Text,
     score: &Score,
     width: u32,
+    drawn: bool,
 ) -> Result<(), Memory>
     requires { IsGoodScore score.now }
 {
@@ -43,6 +55,7 @@ pub(crate) fn put_score_layout(
         return put_word(out, b"no voice\n");
     }
     match lay_out(alloc, score, width) {
+        Ok(layout) if drawn => put_systems(out, &layout),
         Ok(layout) => put_layout(out, &layout),
         Err(LayoutError::NoWay { reached }) => put_no_way(out, reached),
         Err(LayoutError::Memory) => Err(Memory),
