@@ -60,13 +60,9 @@ answer_refused c text (refusals.Halted token cause) o e s refuses quiet (inr tol
 
 -- what was read of a command that reads
 pub read_of : (c : Command) (i : Stream) (text : List ℕ) → IsReader c → ReadAll (limit_of c) i text → IsRead c i text
-read_of (command.Set flow jobs) i text reads read = read
-read_of (command.Systems flow table) i text reads read = read
-read_of command.Inspect i text reads read = read
-read_of command.Check i text reads read = read
-read_of command.Paint i text reads read = read
 read_of (command.Make tunes) i text reads read = absurd reads
 read_of (command.Trial tunes flow jobs) i text reads read = absurd reads
+read_of c i text reads read = read
 
 -- a command that was answered was obeyed
 pub obeyed_of : (c : Command) (i o e : Stream) (text : List ℕ) (s : Status) → IsRead c i text → IsAnswer c s text o e → IsObeyed c s i o e

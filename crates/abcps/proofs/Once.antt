@@ -15,7 +15,9 @@ use Rattle.lay_cert.specs.declared.check.Verdict.TheVariants.{Least, NotLeast}
 use Rattle.lay_cert.proofs.Alone.{tells_one}
 use Rattle.paint_text.specs.PaintText.{paint_text}
 use Rattle.ps_machine.specs.OneAnswer.{HasOneAnswer}
+use Rattle.ps_heard.specs.HeardText.{heard_text}
 use Rattle.ps_text.specs.Document.{document}
+use Rattle.ps_text.specs.declared.sheet.Sheet.{Sheet}
 use Rattle.set_book.specs.declared.outcome.Outcome.{Outcome}
 use Rattle.set_pages.specs.Sheet.{sheet_of}
 use Rattle.set_lists.specs.Reports.{reports}
@@ -68,8 +70,8 @@ trial_once one tunes flow c d a b =
 
 -- ---- the others
 
-sheet_once : (text : List ℕ) (c d : Called) → Shows text c → Shows text d → c ≡ d
-sheet_once text c d a b = quiet_called c d (a.page ∙ ap sheet_report (b.read.only a.sheet a.read.spells) ∙ sym b.page) a.quietly b.quietly
+sheet_once : (report : Sheet → List ℕ) (text : List ℕ) (c d : Called) → Shows report text c → Shows report text d → c ≡ d
+sheet_once report text c d a b = quiet_called c d (a.page ∙ ap report (b.read.only a.sheet a.read.spells) ∙ sym b.page) a.quietly b.quietly
 
 least_or_not : (e : Entry) (total other better : ℕ) (breaks : List ℕ) → IsVerdict e (Least total) → IsVerdict e (NotLeast other better breaks) → ⊥
 least_or_not e total other better breaks a b =
@@ -125,21 +127,17 @@ painted_once alone text c d a b = quiet_called c d (a.page ∙ ap paint_text (al
 called_once : HaveOneOutcome → HasOneAnswer → (c : Command) (text : List ℕ) (called other : Called) → Calls c text called → Calls c text other → called ≡ other
 called_once one alone (command.Set flow jobs) text called other a b = pages_once one flow text called other a b
 called_once one alone (command.Systems flow table) text called other a b = systems_once one flow table text called other a b
-called_once one alone command.Inspect text called other a b = sheet_once text called other a b
+called_once one alone command.Inspect text called other a b = sheet_once sheet_report text called other a b
 called_once one alone command.Check text called other a b = verdicts_once text called other a b
 called_once one alone (command.Make tunes) text called other a b = quiet_called called other (a.page ∙ sym b.page) a.quietly b.quietly
 called_once one alone (command.Trial tunes flow jobs) text called other a b = trial_once one tunes flow called other a b
 called_once one alone command.Paint text called other a b = painted_once alone text called other a b
+called_once one alone (command.Hear spread) text called other a b = sheet_once (heard_text spread) text called other a b
 
 -- what is called for doesn't hang on jobs
 by_one : (c : Command) (text : List ℕ) (called : Called) → Calls c text called → Calls (by_one_job c) text called
 by_one (command.Set flow jobs) text called a = a
-by_one (command.Systems flow table) text called a = a
-by_one command.Inspect text called a = a
-by_one command.Check text called a = a
-by_one (command.Make tunes) text called a = a
-by_one (command.Trial tunes flow jobs) text called a = a
-by_one command.Paint text called a = a
+by_one c text called a = a
 
 -- commands that differ in nothing but jobs call for one answer
 pub calls_one : HaveOneOutcome → HasOneAnswer → CallsOne
@@ -149,6 +147,7 @@ calls_one one alone c d text called other same a b =
 -- an input that is refused calls for nothing
 pub never_both : HasOneAnswer → NeverBoth
 never_both alone command.Inspect text called (refusals.NotPages line) calls refuses = refuses.unspelled calls.sheet calls.read.spells
+never_both alone (command.Hear spread) text called (refusals.NotPages line) calls refuses = refuses.unspelled calls.sheet calls.read.spells
 never_both alone command.Check text called (refusals.NotPages line) calls refuses = refuses.unspelled calls.verdicts.0 calls.verdicts.1
 never_both alone command.Paint text called (refusals.Halted token cause) calls refuses =
     alone.either text (budget_of text) calls.pages token cause calls.paints refuses

@@ -140,6 +140,7 @@ module _ (alone : CallsOne) (either : NeverBoth) (words : List (List ℕ)) (i o 
   refused_reads : (c : Command) (text : List ℕ) (refusal : Refusal) → Refuses c text refusal → IsReader c
   refused_reads command.Inspect text refusal refuses = tt
   refused_reads command.Check text refusal refuses = tt
+  refused_reads (command.Hear spread) text refusal refuses = tt
   refused_reads command.Paint text refusal refuses = tt
   refused_reads c text refusal refuses = absurd refuses
 

@@ -5,6 +5,7 @@ use Rattle.gen_book.specs.Book.{book}
 use Rattle.ps_text.specs.Document.{Spells}
 use Rattle.ps_text.specs.declared.sheet.Sheet.{Sheet}
 use Rattle.ps_read.specs.Answers.{IsRead, IsFirstFault}
+use Rattle.ps_heard.specs.HeardText.{heard_text}
 use Rattle.ps_steps.specs.declared.paint.PagePaint.{PagePaint}
 use Rattle.ps_steps.specs.Steps.{Paints, Halts}
 use Rattle.paint_text.specs.PaintText.{paint_text}
@@ -25,11 +26,11 @@ use Rattle.abcps.specs.declared.refusing.Refusal.TheVariants as refusals
 use Rattle.abcps.specs.declared.status.Status.{Status}
 use Rattle.abcps.specs.declared.status.Status.TheVariants as status
 
--- Of `inspect`: all that the one sheet shows which spells the input.
-pub record Shows (text : List ℕ) (c : Called) : Type 0 where
+-- Of `inspect` and `hear`: a report on the one sheet that spells the input, which is all that it shows, or what its tunes sound.
+pub record Shows (report : Sheet → List ℕ) (text : List ℕ) (c : Called) : Type 0 where
   pub sheet : Sheet
   pub read : IsRead text sheet
-  pub page : c.page ≡ sheet_report sheet
+  pub page : c.page ≡ report sheet
   pub quietly : IsQuietly c
 
 -- Of `check`: the verdict on each tune of the listing, and whether each choice is least.
@@ -71,29 +72,26 @@ pub record IsPainted (text : List ℕ) (c : Called) : Type 0 where
 abbrev pub Calls : Command → List ℕ → Called → Type 0
 Calls (command.Set flow jobs) text c = CallsPages flow text c
 Calls (command.Systems flow table) text c = CallsSystems flow table text c
-Calls command.Inspect text c = Shows text c
+Calls command.Inspect text c = Shows sheet_report text c
 Calls command.Check text c = Judges text c
 Calls (command.Make tunes) text c = Makes tunes c
 Calls (command.Trial tunes flow jobs) text c = Tries tunes flow c
 Calls command.Paint text c = IsPainted text c
+Calls (command.Hear spread) text c = Shows (heard_text spread) text c
 
 -- the same command with one job, where it takes a number of jobs
 abbrev pub by_one_job : Command → Command
 by_one_job (command.Set flow jobs) = command.Set flow 1
-by_one_job (command.Systems flow table) = command.Systems flow table
-by_one_job command.Inspect = command.Inspect
-by_one_job command.Check = command.Check
-by_one_job (command.Make tunes) = command.Make tunes
 by_one_job (command.Trial tunes flow jobs) = command.Trial tunes flow 1
-by_one_job command.Paint = command.Paint
+by_one_job c = c
 
 -- What commands that differ in nothing but jobs call for of an input is one.
 abbrev pub CallsOne : Type 0
 CallsOne = (c d : Command) (text : List ℕ) (called other : Called) → by_one_job d ≡ by_one_job c → Calls c text called → Calls d text other
     → other ≡ called
 
--- Which inputs are refused: `inspect` refuses what no sheet spells, and `check` what is no listing, each by the number of its first
--- line that isn't good; and `paint` refuses what the machine halts on.
+-- Which inputs are refused: `inspect` and `hear` refuse what no sheet spells, and `check` what is no listing, each by the number of its
+-- first line that isn't good; and `paint` refuses what the machine halts on.
 pub record IsNoDocument (text : List ℕ) (number : ℕ) : Type 0 where
   pub first : IsFirstFault text number
   pub unspelled : (sheet : Sheet) → Spells sheet text → ⊥
@@ -104,6 +102,7 @@ pub record IsNoListing (text : List ℕ) (number : ℕ) : Type 0 where
 
 abbrev pub Refuses : Command → List ℕ → Refusal → Type 0
 Refuses command.Inspect text (refusals.NotPages line) = IsNoDocument text line
+Refuses (command.Hear spread) text (refusals.NotPages line) = IsNoDocument text line
 Refuses command.Check text (refusals.NotPages line) = IsNoListing text line
 Refuses command.Paint text (refusals.Halted token cause) = Halts text (budget_of text) token cause
 Refuses _ text refusal = ⊥

@@ -2,6 +2,7 @@
 #![tactic(auto)]
 
 mod books;
+mod hearing;
 mod inspecting;
 mod judging;
 mod making;

@@ -5,6 +5,7 @@ ghost use Rattle.abcps.specs.Outcome.{IsAnswer, IsObeyed, IsReader, IsRun};
 ghost use Rattle.abcps.specs.Promises.{Promises};
 
 use crate::books::{set, systems, trial};
+use crate::hearing::hear;
 use crate::inspecting::inspect;
 use crate::judging::check;
 use crate::making::make_book;
@@ -44,6 +45,7 @@ fn answer<R: Threads + Sync, O: Sink, E: Sink, G: Gate + Sync>(
         Command::Inspect => inspect(alloc, text, output, errors),
         Command::Check => check(alloc, text, output, errors),
         Command::Paint => paint(alloc, text, output, errors),
+        Command::Hear { spread } => hear(alloc, spread, text, output, errors),
         Command::Make { .. } | Command::Trial { .. } => unreachable!(),
     }
 }
@@ -142,7 +144,8 @@ pub fn never_both()
 /// document of at most 268,435,456 bytes and writes all that it shows; `check` reads a listing of as
 /// many, and writes the verdict on each of its tunes; `make` writes a generated book, and `trial`
 /// sets one and writes a line on it; `paint` reads any bytes, as many as a document may have, runs
-/// them on the machine, and writes what they paint.
+/// them on the machine, and writes what they paint; `hear` reads a document, and writes what its tunes
+/// sound.
 ///
 /// `set` reads its book whole, and then writes pages as they fill, before the tunes behind them are
 /// set; it tells faults once the document is written. Where a write fails or memory runs out while

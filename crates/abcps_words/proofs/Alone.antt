@@ -2,6 +2,8 @@
 use Rattle.std.proofs.Common.{◌≡◌, ℕ, if◌then◌else◌, ◌==◌, List, ◌++◌, Option, Some, None, MatchOption, IfSome, IfNone, unwrap_or, refl, sym, ◌∙◌, ap, subst, arith, decimal}
 use Rattle.std.specs.Str.Parse.{digits_value}
 use Rattle.std.proofs.lemmas.Fmt.{decimal_is_IsNumeral}
+use Rattle.mus_units.specs.declared.key.Spread.{Spread}
+use Rattle.mus_units.specs.declared.key.Spread.TheVariants as spreads
 use Rattle.abcps_words.specs.declared.options.Flag.{Flag}
 use Rattle.abcps_words.specs.declared.options.Options.{Options}
 use Rattle.abcps_words.specs.declared.command.Command.{Command}
@@ -10,6 +12,13 @@ use Rattle.abcps_words.specs.Words.{IsWithin, front_of, HasTunes, IsSpelled, sai
 use Rattle.abcps_words.specs.Command.{Asks, IsListed, AsksOne, AskedIsGood, IsGoodCommand}
 use Rattle.abcps_words.proofs.Fronts.{head_of, tail_of, key_of, same_front}
 use Rattle.abcps_words.proofs.Flags.{one_spelling, jobs_good}
+
+-- the spread that a word is
+abbrev spread_back : List ℕ → Spread
+spread_back word =
+    let key = key_of word in
+    if key == 337 then spreads.Not else
+    if key == 326 then spreads.Octave else spreads.Pitch
 
 -- the command with this front and these options
 abbrev rebuilt : List (List ℕ) → Options → Command
@@ -21,6 +30,7 @@ rebuilt front o =
     if key == 330 then command.Inspect else
     if key == 304 then command.Check else
     if key == 314 then command.Paint else
+    if key == 302 then command.Hear (spread_back (head_of (tail_of front))) else
     if key == 313 then command.Make tunes else command.Trial tunes o.flow (unwrap_or o.jobs 1)
 
 number_back : (n : ℕ) → IsWithin 500 n → digits_value 10 (decimal n) ≡ n
@@ -32,6 +42,8 @@ is_rebuilt (command.Systems flow table) o good says = cc (says.0, says.1)
 is_rebuilt command.Inspect o good says = refl
 is_rebuilt command.Check o good says = refl
 is_rebuilt command.Paint o good says = refl
+is_rebuilt (command.Hear spreads.Not) o good says = refl
+is_rebuilt (command.Hear spread) o good says = refl
 is_rebuilt (command.Make tunes) o good says = ap command.Make (number_back tunes good)
 is_rebuilt (command.Trial tunes flow jobs) o good says = cc (number_back tunes good, says.0, says.1)
 
@@ -46,12 +58,9 @@ asks_one words c d a b =
 
 good_by : (c : Command) (flags : List Flag) (options : List (List ℕ)) → HasTunes c → IsSpelled flags options → Says (said flags) c → IsGoodCommand c
 good_by (command.Set flow jobs) flags options good is says = subst (IsWithin 64) (sym says.1) (jobs_good flags is.in_range)
-good_by (command.Systems flow table) flags options good is says = tt
-good_by command.Inspect flags options good is says = tt
-good_by command.Check flags options good is says = tt
-good_by command.Paint flags options good is says = tt
 good_by (command.Make tunes) flags options good is says = good
 good_by (command.Trial tunes flow jobs) flags options good is says = (good, subst (IsWithin 64) (sym says.1) (jobs_good flags is.in_range))
+good_by c flags options good is says = tt
 
 pub asked_is_good : AskedIsGood
 asked_is_good words c asks = good_by c asks.options asks.behind asks.tunes asks.spelled asks.says

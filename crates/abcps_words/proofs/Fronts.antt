@@ -2,17 +2,22 @@
 use Rattle.std.proofs.Common.{◌≡◌, ℕ, ◌+◌, true, false, ◌||◌, ◌==◌, if◌then◌else◌, List, [], ◌∷◌, ◌++◌, take, drop, codes, refl, sym, ◌∙◌, ap, arith, decimal}
 use Rattle.std.proofs.lemmas.Bool.{true≢false}
 use Rattle.std.proofs.lemmas.Bool.Decides.{nat_tests}
+use Rattle.mus_units.specs.declared.key.Spread.{Spread}
 use Rattle.abcps_words.specs.declared.options.Flag.{Flag}
 use Rattle.abcps_words.specs.declared.options.Flag.TheVariants as flag
 use Rattle.abcps_words.specs.declared.command.Name.{Name}
 use Rattle.abcps_words.specs.declared.command.Name.TheVariants as name
 use Rattle.abcps_words.specs.declared.command.Command.{Command}
 use Rattle.abcps_words.specs.declared.command.Command.TheVariants as command
-use Rattle.abcps_words.specs.Words.{IsWithin, name_bytes, front_of, HasTunes, flag_words, IsFlag}
+use Rattle.abcps_words.specs.Words.{IsWithin, name_bytes, spread_word, front_of, HasTunes, flag_words, IsFlag}
 
 -- the words begin with no number from 1 to the most
 abbrev pub LacksNumber : ℕ → List (List ℕ) → Type 0
 LacksNumber most words = (n : ℕ) (rest : List (List ℕ)) → IsWithin most n → words ≡ decimal n ∷ rest → ⊥
+
+-- the words begin with no spread
+abbrev pub LacksSpread : List (List ℕ) → Type 0
+LacksSpread words = (spread : Spread) (rest : List (List ℕ)) → words ≡ spread_word spread ∷ rest → ⊥
 
 abbrev pub tail_of : List (List ℕ) → List (List ℕ)
 tail_of [] = []
@@ -22,7 +27,7 @@ abbrev pub head_of : List (List ℕ) → List ℕ
 head_of [] = []
 head_of (x ∷ xs) = x
 
--- the sum of the first three letters, in which any two names of commands and of options differ
+-- the sum of the first three letters, in which any two names of commands, options and spreads differ
 abbrev pub key_of : List ℕ → ℕ
 key_of (x ∷ y ∷ z ∷ rest) = x + (y + z)
 key_of (x ∷ y ∷ []) = 0
@@ -48,48 +53,33 @@ unnamed word words none (command.Systems flow table) rest e = none name.Systems 
 unnamed word words none command.Inspect rest e = none name.Inspect (ap head_of e)
 unnamed word words none command.Check rest e = none name.Check (ap head_of e)
 unnamed word words none command.Paint rest e = none name.Paint (ap head_of e)
+unnamed word words none (command.Hear spread) rest e = none name.Hear (ap head_of e)
 unnamed word words none (command.Make tunes) rest e = none name.Make (ap head_of e)
 unnamed word words none (command.Trial tunes flow jobs) rest e = none name.Trial (ap head_of e)
 
 pub no_make : (word : List ℕ) (words : List (List ℕ)) → word ≡ name_bytes name.Make → LacksNumber 500 words → (c : Command) (rest : List (List ℕ)) → HasTunes c → word ∷ words ≡ front_of c ++ rest → ⊥
-no_make word words is none (command.Set flow jobs) rest good e = clash (codes "make") (word ∷ words) (name_bytes name.Set ∷ rest) e is refl
-no_make word words is none (command.Systems flow table) rest good e = clash (codes "make") (word ∷ words) (name_bytes name.Systems ∷ rest) e is refl
-no_make word words is none command.Inspect rest good e = clash (codes "make") (word ∷ words) (name_bytes name.Inspect ∷ rest) e is refl
-no_make word words is none command.Check rest good e = clash (codes "make") (word ∷ words) (name_bytes name.Check ∷ rest) e is refl
-no_make word words is none command.Paint rest good e = clash (codes "make") (word ∷ words) (name_bytes name.Paint ∷ rest) e is refl
 no_make word words is none (command.Make tunes) rest good e = none tunes rest good (ap tail_of e)
-no_make word words is none (command.Trial tunes flow jobs) rest good e = clash (codes "make") (word ∷ words) (name_bytes name.Trial ∷ decimal tunes ∷ rest) e is refl
+no_make word words is none c rest good e = clash (codes "make") (word ∷ words) (front_of c ++ rest) e is refl
 
 pub no_trial : (word : List ℕ) (words : List (List ℕ)) → word ≡ name_bytes name.Trial → LacksNumber 500 words → (c : Command) (rest : List (List ℕ)) → HasTunes c → word ∷ words ≡ front_of c ++ rest → ⊥
-no_trial word words is none (command.Set flow jobs) rest good e = clash (codes "trial") (word ∷ words) (name_bytes name.Set ∷ rest) e is refl
-no_trial word words is none (command.Systems flow table) rest good e = clash (codes "trial") (word ∷ words) (name_bytes name.Systems ∷ rest) e is refl
-no_trial word words is none command.Inspect rest good e = clash (codes "trial") (word ∷ words) (name_bytes name.Inspect ∷ rest) e is refl
-no_trial word words is none command.Check rest good e = clash (codes "trial") (word ∷ words) (name_bytes name.Check ∷ rest) e is refl
-no_trial word words is none command.Paint rest good e = clash (codes "trial") (word ∷ words) (name_bytes name.Paint ∷ rest) e is refl
-no_trial word words is none (command.Make tunes) rest good e = clash (codes "trial") (word ∷ words) (name_bytes name.Make ∷ decimal tunes ∷ rest) e is refl
 no_trial word words is none (command.Trial tunes flow jobs) rest good e = none tunes rest good (ap tail_of e)
+no_trial word words is none c rest good e = clash (codes "trial") (word ∷ words) (front_of c ++ rest) e is refl
 
--- the front of a command is two words where the name is one of make and trial, and else one
+pub no_hear : (word : List ℕ) (words : List (List ℕ)) → word ≡ name_bytes name.Hear → LacksSpread words → (c : Command) (rest : List (List ℕ)) → word ∷ words ≡ front_of c ++ rest → ⊥
+no_hear word words is none (command.Hear spread) rest e = none spread rest (ap tail_of e)
+no_hear word words is none c rest e = clash (codes "hear") (word ∷ words) (front_of c ++ rest) e is refl
+
+-- the front of a command is two words where the name is one of make, trial and hear, and else one
 abbrev front_length : List (List ℕ) → ℕ
-front_length words = if (key_of (head_of words) == 313) || (key_of (head_of words) == 335) then 2 else 1
+front_length words = if (key_of (head_of words) == 313) || (key_of (head_of words) == 335) || (key_of (head_of words) == 302) then 2 else 1
 
 front_is : (c : Command) (rest : List (List ℕ)) → take (front_length (front_of c ++ rest)) (front_of c ++ rest) ≡ front_of c
 front_is (command.Set flow jobs) rest = refl
-front_is (command.Systems flow table) rest = refl
-front_is command.Inspect rest = refl
-front_is command.Check rest = refl
-front_is command.Paint rest = refl
-front_is (command.Make tunes) rest = refl
-front_is (command.Trial tunes flow jobs) rest = refl
+front_is c rest = refl
 
 rest_is : (c : Command) (rest : List (List ℕ)) → drop (front_length (front_of c ++ rest)) (front_of c ++ rest) ≡ rest
 rest_is (command.Set flow jobs) rest = refl
-rest_is (command.Systems flow table) rest = refl
-rest_is command.Inspect rest = refl
-rest_is command.Check rest = refl
-rest_is command.Paint rest = refl
-rest_is (command.Make tunes) rest = refl
-rest_is (command.Trial tunes flow jobs) rest = refl
+rest_is c rest = refl
 
 pub same_front : (c d : Command) (xs ys : List (List ℕ)) → front_of c ++ xs ≡ front_of d ++ ys → (front_of c ≡ front_of d) × (xs ≡ ys)
 same_front c d xs ys e = (

@@ -27,6 +27,7 @@ IsGoodCommand command.Check = ⊤
 IsGoodCommand (command.Make tunes) = IsWithin 500 tunes
 IsGoodCommand (command.Trial tunes flow jobs) = IsWithin 500 tunes × IsWithin 64 jobs
 IsGoodCommand command.Paint = ⊤
+IsGoodCommand (command.Hear spread) = ⊤
 
 -- the most bytes that a command may read: 8 MiB of a book, 256 MiB of pages, a listing or what is painted, or none
 abbrev pub limit_of : Command → ℕ
@@ -37,6 +38,7 @@ limit_of command.Check = 268435456
 limit_of (command.Make tunes) = 0
 limit_of (command.Trial tunes flow jobs) = 0
 limit_of command.Paint = 268435456
+limit_of (command.Hear spread) = 268435456
 
 -- words ask for one command
 abbrev pub AsksOne : Type 0

@@ -1,6 +1,9 @@
--- The words of a command: its name, the number of tunes where it takes one, and its options in any order, each at most once.
+-- The words of a command: its name, the number of tunes or the spread where it takes one, and its options in any order, each at
+-- most once.
 use Rattle.std.specs.Prelude.{◌≡◌, ◌≤◌, ⊤, ℕ, Bool, true, false, List, [], ◌∷◌, All, Option, Some, None, unwrap_or, codes, decimal, flat_map, count_by}
 use Rattle.std.specs.List.{list_any}
+use Rattle.mus_units.specs.declared.key.Spread.{Spread}
+use Rattle.mus_units.specs.declared.key.Spread.TheVariants as spreads
 use Rattle.abcps_words.specs.declared.options.Flag.{Flag}
 use Rattle.abcps_words.specs.declared.options.Flag.TheVariants as flag
 use Rattle.abcps_words.specs.declared.options.Options.{Options}
@@ -23,8 +26,15 @@ name_bytes name.Check = codes "check"
 name_bytes name.Make = codes "make"
 name_bytes name.Trial = codes "trial"
 name_bytes name.Paint = codes "paint"
+name_bytes name.Hear = codes "hear"
 
--- the words before the options: the name, and directly behind it the number of tunes
+-- a spread as it is written
+abbrev pub spread_word : Spread → List ℕ
+spread_word spreads.Not = codes "not"
+spread_word spreads.Octave = codes "octave"
+spread_word spreads.Pitch = codes "pitch"
+
+-- the words before the options: the name, and directly behind it the number of tunes or the spread
 abbrev pub front_of : Command → List (List ℕ)
 front_of (command.Set flow jobs) = name_bytes name.Set ∷ []
 front_of (command.Systems flow table) = name_bytes name.Systems ∷ []
@@ -33,6 +43,7 @@ front_of command.Check = name_bytes name.Check ∷ []
 front_of (command.Make tunes) = name_bytes name.Make ∷ decimal tunes ∷ []
 front_of (command.Trial tunes flow jobs) = name_bytes name.Trial ∷ decimal tunes ∷ []
 front_of command.Paint = name_bytes name.Paint ∷ []
+front_of (command.Hear spread) = name_bytes name.Hear ∷ spread_word spread ∷ []
 
 -- a number of tunes is 1 to 500
 abbrev pub HasTunes : Command → Type 0
@@ -43,6 +54,7 @@ HasTunes (command.Systems flow table) = ⊤
 HasTunes command.Inspect = ⊤
 HasTunes command.Check = ⊤
 HasTunes command.Paint = ⊤
+HasTunes (command.Hear spread) = ⊤
 
 -- the words of an option
 abbrev pub flag_words : Flag → List (List ℕ)
@@ -110,3 +122,4 @@ Says o command.Check = IsBare o
 Says o (command.Make tunes) = IsBare o
 Says o (command.Trial tunes flow jobs) = (flow ≡ o.flow) × (jobs ≡ unwrap_or o.jobs 1) × (o.table ≡ false)
 Says o command.Paint = IsBare o
+Says o (command.Hear spread) = IsBare o

@@ -1,10 +1,11 @@
-ghost use Rattle.std.specs.Prelude.{◌≡◌, ◌++◌, ℕ, List, IfSome, IfNone, MatchOption, map, string_bytes};
-ghost use Rattle.abcps_words.specs.Words.{name_bytes, front_of, HasTunes, Says};
+ghost use Rattle.std.specs.Prelude.{◌≡◌, ◌++◌, ◌∷◌, ℕ, List, IfSome, IfNone, MatchOption, map, string_bytes};
+ghost use Rattle.abcps_words.specs.Words.{name_bytes, spread_word, front_of, HasTunes, Says};
 ghost use Rattle.abcps_words.specs.Command.{Asks, IsListed, IsGoodCommand, limit_of, AsksOne, AskedIsGood};
 ghost use Rattle.abcps_words.specs.Usage.{usage_line};
 
 use crate::options::{Options, options_of};
 use crate::words::{is_word, take_number};
+use mus_units::Spread;
 
 /// The name of a command.
 #[derive(Clone, Copy, PartialEq, Eq)]
@@ -16,6 +17,7 @@ enum Name {
     Make,
     Trial,
     Paint,
+    Hear,
 }
 
 /// What the program is asked to do.
@@ -36,6 +38,8 @@ pub enum Command {
     Trial { tunes: u32, flow: bool, jobs: u8 },
     /// Run any bytes as pages, and print what they paint.
     Paint,
+    /// Read pages, and print what their tunes sound where a sign reaches as far as `spread` says.
+    Hear { spread: Spread },
 }
 
 /// The most bytes that a book may have.
@@ -51,7 +55,7 @@ const DEFAULT_JOBS: u8 = 1;
 
 /// The text of the usage line; `usage` gives it.
 const USAGE: &[u8] =
-    b"usage: abcps set [--flow] [--jobs N] | systems [--flow] [--table] | inspect | check | make N | trial N [--flow] [--jobs N] | paint\n";
+    b"usage: abcps set [--flow] [--jobs N] | systems [--flow] [--table] | inspect | check | make N | trial N [--flow] [--jobs N] | paint | hear W\n";
 
 impl Command {
     /// The most bytes that its input may have; 0 where it reads none.
@@ -60,7 +64,8 @@ impl Command {
     {
         match self {
             Command::Set { .. } | Command::Systems { .. } => BOOK_LIMIT,
-            Command::Inspect | Command::Check | Command::Paint => PAGES_LIMIT,
+            Command::Inspect | Command::Check | Command::Paint | Command::Hear { .. } =>
+                PAGES_LIMIT,
             Command::Make { .. } | Command::Trial { .. } => 0,
         }
     }
@@ -86,7 +91,11 @@ impl Command {
                 flow: options.flow,
                 jobs: options.jobs.unwrap_or(DEFAULT_JOBS),
             }),
-            Command::Inspect | Command::Check | Command::Make { .. } | Command::Paint
+            Command::Inspect
+            | Command::Check
+            | Command::Make { .. }
+            | Command::Paint
+            | Command::Hear { .. }
                 if options == Options::none() => Some(self),
             _ => None,
         }
@@ -111,9 +120,36 @@ fn name_of(word: &[u8]) -> Option<Name>
         Some(Name::Trial)
     } else if is_word(word, b"paint") {
         Some(Name::Paint)
+    } else if is_word(word, b"hear") {
+        Some(Name::Hear)
     } else {
         None
     }
+}
+
+/// The spread that a word is.
+fn spread_of(word: &[u8]) -> Option<Spread>
+    ensures { MatchOption result ((spread : Spread) → word.now ≡ spread_word spread → ⊥) (λ spread. word.now ≡ spread_word spread) }
+{
+    if is_word(word, b"not") {
+        Some(Spread::Not)
+    } else if is_word(word, b"octave") {
+        Some(Spread::Octave)
+    } else if is_word(word, b"pitch") {
+        Some(Spread::Pitch)
+    } else {
+        None
+    }
+}
+
+/// The spread that the first word is, and the words behind it.
+fn take_spread(words: &[String]) -> Option<(Spread, &[String])>
+    ensures { MatchOption result
+        ((spread : Spread) (rest : List (List ℕ)) → map string_bytes words.now ≡ spread_word spread ∷ rest → ⊥)
+        (λ z. map string_bytes words.now ≡ spread_word z.0 ∷ map string_bytes z.1.now) }
+{
+    let (word, rest) = words.split_first()?;
+    Some((spread_of(word.as_bytes())?, rest))
 }
 
 /// The command that the first words name, without options, and the words behind them.
@@ -141,6 +177,10 @@ fn take_front(words: &[String]) -> Option<(Command, &[String])>
         Name::Inspect => Some((Command::Inspect, rest)),
         Name::Check => Some((Command::Check, rest)),
         Name::Paint => Some((Command::Paint, rest)),
+        Name::Hear => {
+            let (spread, rest) = take_spread(rest)?;
+            Some((Command::Hear { spread }, rest))
+        }
         Name::Make => {
             let (tunes, rest) = take_number(MOST_TUNES, rest)?;
             Some((Command::Make { tunes }, rest))

@@ -3,7 +3,7 @@
 use abcps_words::{Command, command_of, usage};
 use answer_texts::{end_line, put_count, put_number, put_word};
 use gen_book::make;
-use mus_units::{Memory, Text};
+use mus_units::{Memory, Spread, Text};
 use std::alloc::Global;
 
 /// The words of a line; a line of `-` has none.
@@ -19,6 +19,17 @@ fn words_of(alloc: Global, line: &str) -> Result<Vec<String>, Memory> {
 
 fn put_flow(out: &mut Text, flow: bool) -> Result<(), Memory> {
     if flow { put_word(out, b"flow") } else { Ok(()) }
+}
+
+fn put_spread(out: &mut Text, spread: Spread) -> Result<(), Memory> {
+    put_word(
+        out,
+        match spread {
+            Spread::Not => b"not",
+            Spread::Octave => b"octave",
+            Spread::Pitch => b"pitch",
+        },
+    )
 }
 
 fn put_command(out: &mut Text, command: Command) -> Result<(), Memory> {
@@ -40,6 +51,10 @@ fn put_command(out: &mut Text, command: Command) -> Result<(), Memory> {
         Command::Inspect => put_word(out, b"inspect"),
         Command::Check => put_word(out, b"check"),
         Command::Paint => put_word(out, b"paint"),
+        Command::Hear { spread } => {
+            put_word(out, b"hear")?;
+            put_spread(out, spread)
+        }
         Command::Make { tunes } => {
             put_word(out, b"make")?;
             put_number(out, i64::from(tunes))
