@@ -14,3 +14,4 @@ pub mod scores;
 pub mod trees;
 
 pub use moves::Move;
+pub use scores::{moved, moved_or_same};

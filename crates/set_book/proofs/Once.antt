@@ -35,10 +35,10 @@ use Rattle.set_book.proofs.Faults.{one_way, no_way_laid}
 one_read : (tune : TuneText) (defaults : Defaults) (h k : Header) → HasHeader tune defaults h → HasHeader tune defaults k → h ≡ k
 one_read tune defaults h k a b = one_header tune defaults h k a.value b.value
 
-one_music : (tune : TuneText) (defaults : Defaults) (flow : Bool) (h k : Header) (s t : Score) → HasScore tune defaults flow h s → HasScore tune defaults flow k t → s ≡ t
-one_music tune defaults flow h k s t a b =
+one_music : (tune : TuneText) (defaults : Defaults) (how : How) (h k : Header) (s t : Score) → HasScore tune defaults how h s → HasScore tune defaults how k t → s ≡ t
+one_music tune defaults how h k s t a b =
     let same = one_read tune defaults k h b.read a.read in
-    one_score h tune flow s t a.value (subst (λ x. IsScoreOf x tune flow t) same b.value)
+    one_score h tune how s t a.value (subst (λ x. IsScoreOf x tune how t) same b.value)
 
 abbrev tune_of : Header → Score → TitleBlock → List Span → Breaking → List SystemMarks → List Placed → List Heights → SetTune
 tune_of header score title spans breaking systems placed heights = record {
@@ -57,17 +57,17 @@ same_parts : (t u : SetTune) → t.header ≡ u.header → t.score ≡ u.score �
 same_parts t u header score title spans breaking systems placed heights =
     let made : tune_of t.header t.score t.title t.spans t.breaking t.systems t.placed t.heights ≡ tune_of u.header u.score u.title u.spans u.breaking u.systems u.placed u.heights = cc in made
 
-laid_once : (tune : TuneText) (defaults : Defaults) (paper : Paper) (flow : Bool) (t u : SetTune) → IsLaidTune tune defaults paper flow t → IsLaidTune tune defaults paper flow u → t ≡ u
-laid_once tune defaults paper flow t u a b =
+laid_once : (tune : TuneText) (defaults : Defaults) (paper : Paper) (how : How) (t u : SetTune) → IsLaidTune tune defaults paper how t → IsLaidTune tune defaults paper how u → t ≡ u
+laid_once tune defaults paper how t u a b =
     let header = one_read tune defaults t.header u.header a.score.read b.score.read in
-    let score = one_music tune defaults flow t.header u.header t.score u.score a.score b.score in
+    let score = one_music tune defaults how t.header u.header t.score u.score a.score b.score in
     let title : t.title ≡ u.title = a.title ∙ ap (λ (h : Header). title_block_of (width_of paper) h.titles h.composers h.tempo) header ∙ sym b.title in
     let parts = one_layout (width_of paper) t u score a.score.good a.layout b.layout in
     same_parts t u header score title parts.0 parts.1 parts.2 parts.3 parts.4
 
 -- a tune that is set is set in one way
-pub set_once : (tune : TuneText) (defaults : Defaults) (paper : Paper) (flow : Bool) (t u : SetTune) → IsSetTune tune defaults paper flow t → IsSetTune tune defaults paper flow u → t ≡ u
-set_once tune defaults paper flow t u a b = laid_once tune defaults paper flow t u a.laid b.laid
+pub set_once : (tune : TuneText) (defaults : Defaults) (paper : Paper) (how : How) (t u : SetTune) → IsSetTune tune defaults paper how t → IsSetTune tune defaults paper how u → t ≡ u
+set_once tune defaults paper how t u a b = laid_once tune defaults paper how t u a.laid b.laid
 
 -- ---- its fault
 
@@ -76,16 +76,16 @@ clear_header : (o : Option Fault) (f : Fault) → o ≡ None → o ≡ Some f �
 clear_header o f e d = let clash = sym e ∙ d in cc
 
 -- what has a score has no fault of its score
-scored : (tune : TuneText) (defaults : Defaults) (flow : Bool) (h k : Header) (s : Score) (f : Fault) → HasScore tune defaults flow h s → HasHeader tune defaults k → IsFaultOf k tune (errors.Fault f) → ⊥
-scored tune defaults flow h k s f a b fault =
+scored : (tune : TuneText) (defaults : Defaults) (how : How) (h k : Header) (s : Score) (f : Fault) → HasScore tune defaults how h s → HasHeader tune defaults k → IsFaultOf k tune (errors.Fault f) → ⊥
+scored tune defaults how h k s f a b fault =
     let same = one_read tune defaults k h b a.read in
-    no_score_fault h tune flow s f a.value (subst (λ x. IsFaultOf x tune (errors.Fault f)) same fault)
+    no_score_fault h tune how s f a.value (subst (λ x. IsFaultOf x tune (errors.Fault f)) same fault)
 
 -- what is laid out has a way
-laid_way : (tune : TuneText) (defaults : Defaults) (paper : Paper) (flow : Bool) (t : SetTune) (h : Header) (s : Score) (reached : ℕ) (spans : List Span) → IsLaidTune tune defaults paper flow t → HasScore tune defaults flow h s →
+laid_way : (tune : TuneText) (defaults : Defaults) (paper : Paper) (how : How) (t : SetTune) (h : Header) (s : Score) (reached : ℕ) (spans : List Span) → IsLaidTune tune defaults paper how t → HasScore tune defaults how h s →
     IsNoWay s (width_of paper) reached spans → ⊥
-laid_way tune defaults paper flow t h s reached spans a b way =
-    let same = one_music tune defaults flow h t.header s t.score b a.score in
+laid_way tune defaults paper how t h s reached spans a b way =
+    let same = one_music tune defaults how h t.header s t.score b a.score in
     no_way_laid (width_of paper) t reached spans (subst (λ x. IsNoWay x (width_of paper) reached spans) same way) a.layout
 
 two_scores : (tune : TuneText) (defaults : Defaults) (h k : Header) (f g : Fault) → HasHeader tune defaults h → HasHeader tune defaults k → IsFaultOf h tune (errors.Fault f) → IsFaultOf k tune (errors.Fault g) → f ≡ g
@@ -93,81 +93,81 @@ two_scores tune defaults h k f g a b x y =
     let same = one_read tune defaults k h b a in
     one_score_fault h tune f g x (subst (λ z. IsFaultOf z tune (errors.Fault g)) same y)
 
-two_ways : (tune : TuneText) (defaults : Defaults) (paper : Paper) (flow : Bool) (h k : Header) (s t : Score) (i j : ℕ) (xs ys : List Span) → HasScore tune defaults flow h s → HasScore tune defaults flow k t →
+two_ways : (tune : TuneText) (defaults : Defaults) (paper : Paper) (how : How) (h k : Header) (s t : Score) (i j : ℕ) (xs ys : List Span) → HasScore tune defaults how h s → HasScore tune defaults how k t →
     IsNoWay s (width_of paper) i xs → IsNoWay t (width_of paper) j ys → i ≡ j
-two_ways tune defaults paper flow h k s t i j xs ys a b x y =
-    let same = one_music tune defaults flow k h t s b a in
+two_ways tune defaults paper how h k s t i j xs ys a b x y =
+    let same = one_music tune defaults how k h t s b a in
     one_way s (width_of paper) i j xs ys x (subst (λ z. IsNoWay z (width_of paper) j ys) same y)
 
-two_tall : (tune : TuneText) (defaults : Defaults) (paper : Paper) (flow : Bool) (t u : SetTune) (i j : ℕ) → IsLaidTune tune defaults paper flow t → IsLaidTune tune defaults paper flow u →
+two_tall : (tune : TuneText) (defaults : Defaults) (paper : Paper) (how : How) (t u : SetTune) (i j : ℕ) → IsLaidTune tune defaults paper how t → IsLaidTune tune defaults paper how u →
     first_tall (height_of paper) (blocks_of t.title t.heights) ≡ Some i → first_tall (height_of paper) (blocks_of u.title u.heights) ≡ Some j → i ≡ j
-two_tall tune defaults paper flow t u i j a b x y =
-    let same = laid_once tune defaults paper flow t u a b in
+two_tall tune defaults paper how t u i j a b x y =
+    let same = laid_once tune defaults paper how t u a b in
     let both = sym x ∙ ap (λ (z : SetTune). first_tall (height_of paper) (blocks_of z.title z.heights)) same ∙ y in cc
 
 -- a tune has one fault
-pub fault_once : (tune : TuneText) (defaults : Defaults) (paper : Paper) (flow : Bool) (f g : Fault) → IsFaultOfTune tune defaults paper flow f → IsFaultOfTune tune defaults paper flow g → f ≡ g
-fault_once tune defaults paper flow _ _ (of_header f e) (of_header g d) = let both = sym e ∙ d in cc
-fault_once tune defaults paper flow _ _ (of_header f e) (of_score k g read fault) = absurd (clear_header _ f read.clear e)
-fault_once tune defaults paper flow _ _ (of_header f e) (no_way k s j ys has way) = absurd (clear_header _ f has.read.clear e)
-fault_once tune defaults paper flow _ _ (of_header f e) (too_tall u j laid tall) = absurd (clear_header _ f laid.score.read.clear e)
-fault_once tune defaults paper flow _ _ (of_score h f read fault) (of_header g d) = absurd (clear_header _ g read.clear d)
-fault_once tune defaults paper flow _ _ (of_score h f read fault) (of_score k g other more) = two_scores tune defaults h k f g read other fault more
-fault_once tune defaults paper flow _ _ (of_score h f read fault) (no_way k s j ys has way) = absurd (scored tune defaults flow k h s f has read fault)
-fault_once tune defaults paper flow _ _ (of_score h f read fault) (too_tall u j laid tall) = absurd (scored tune defaults flow u.header h u.score f laid.score read fault)
-fault_once tune defaults paper flow _ _ (no_way h s i xs has way) (of_header g d) = absurd (clear_header _ g has.read.clear d)
-fault_once tune defaults paper flow _ _ (no_way h s i xs has way) (of_score k g read fault) = absurd (scored tune defaults flow h k s g has read fault)
-fault_once tune defaults paper flow _ _ (no_way h s i xs has way) (no_way k t j ys other more) = ap (λ n. layout_fault tune (faults.NoWay n)) (two_ways tune defaults paper flow h k s t i j xs ys has other way more)
-fault_once tune defaults paper flow _ _ (no_way h s i xs has way) (too_tall u j laid tall) = absurd (laid_way tune defaults paper flow u h s i xs laid has way)
-fault_once tune defaults paper flow _ _ (too_tall t i laid tall) (of_header g d) = absurd (clear_header _ g laid.score.read.clear d)
-fault_once tune defaults paper flow _ _ (too_tall t i laid tall) (of_score k g read fault) = absurd (scored tune defaults flow t.header k t.score g laid.score read fault)
-fault_once tune defaults paper flow _ _ (too_tall t i laid tall) (no_way k s j ys has way) = absurd (laid_way tune defaults paper flow t k s j ys laid has way)
-fault_once tune defaults paper flow _ _ (too_tall t i laid tall) (too_tall u j other more) = ap (λ n. layout_fault tune (faults.TooTall n)) (two_tall tune defaults paper flow t u i j laid other tall more)
+pub fault_once : (tune : TuneText) (defaults : Defaults) (paper : Paper) (how : How) (f g : Fault) → IsFaultOfTune tune defaults paper how f → IsFaultOfTune tune defaults paper how g → f ≡ g
+fault_once tune defaults paper how _ _ (of_header f e) (of_header g d) = let both = sym e ∙ d in cc
+fault_once tune defaults paper how _ _ (of_header f e) (of_score k g read fault) = absurd (clear_header _ f read.clear e)
+fault_once tune defaults paper how _ _ (of_header f e) (no_way k s j ys has way) = absurd (clear_header _ f has.read.clear e)
+fault_once tune defaults paper how _ _ (of_header f e) (too_tall u j laid tall) = absurd (clear_header _ f laid.score.read.clear e)
+fault_once tune defaults paper how _ _ (of_score h f read fault) (of_header g d) = absurd (clear_header _ g read.clear d)
+fault_once tune defaults paper how _ _ (of_score h f read fault) (of_score k g other more) = two_scores tune defaults h k f g read other fault more
+fault_once tune defaults paper how _ _ (of_score h f read fault) (no_way k s j ys has way) = absurd (scored tune defaults how k h s f has read fault)
+fault_once tune defaults paper how _ _ (of_score h f read fault) (too_tall u j laid tall) = absurd (scored tune defaults how u.header h u.score f laid.score read fault)
+fault_once tune defaults paper how _ _ (no_way h s i xs has way) (of_header g d) = absurd (clear_header _ g has.read.clear d)
+fault_once tune defaults paper how _ _ (no_way h s i xs has way) (of_score k g read fault) = absurd (scored tune defaults how h k s g has read fault)
+fault_once tune defaults paper how _ _ (no_way h s i xs has way) (no_way k t j ys other more) = ap (λ n. layout_fault tune (faults.NoWay n)) (two_ways tune defaults paper how h k s t i j xs ys has other way more)
+fault_once tune defaults paper how _ _ (no_way h s i xs has way) (too_tall u j laid tall) = absurd (laid_way tune defaults paper how u h s i xs laid has way)
+fault_once tune defaults paper how _ _ (too_tall t i laid tall) (of_header g d) = absurd (clear_header _ g laid.score.read.clear d)
+fault_once tune defaults paper how _ _ (too_tall t i laid tall) (of_score k g read fault) = absurd (scored tune defaults how t.header k t.score g laid.score read fault)
+fault_once tune defaults paper how _ _ (too_tall t i laid tall) (no_way k s j ys has way) = absurd (laid_way tune defaults paper how t k s j ys laid has way)
+fault_once tune defaults paper how _ _ (too_tall t i laid tall) (too_tall u j other more) = ap (λ n. layout_fault tune (faults.TooTall n)) (two_tall tune defaults paper how t u i j laid other tall more)
 
 -- no tune that is set has a fault
-pub never_both : (tune : TuneText) (defaults : Defaults) (paper : Paper) (flow : Bool) (t : SetTune) (f : Fault) → IsSetTune tune defaults paper flow t → IsFaultOfTune tune defaults paper flow f → ⊥
-never_both tune defaults paper flow t _ a (of_header f e) = clear_header _ f a.laid.score.read.clear e
-never_both tune defaults paper flow t _ a (of_score h f read fault) = scored tune defaults flow t.header h t.score f a.laid.score read fault
-never_both tune defaults paper flow t _ a (no_way h s reached spans has way) = laid_way tune defaults paper flow t h s reached spans a.laid has way
-never_both tune defaults paper flow t _ a (too_tall u block laid tall) =
-    let same = laid_once tune defaults paper flow t u a.laid laid in
+pub never_both : (tune : TuneText) (defaults : Defaults) (paper : Paper) (how : How) (t : SetTune) (f : Fault) → IsSetTune tune defaults paper how t → IsFaultOfTune tune defaults paper how f → ⊥
+never_both tune defaults paper how t _ a (of_header f e) = clear_header _ f a.laid.score.read.clear e
+never_both tune defaults paper how t _ a (of_score h f read fault) = scored tune defaults how t.header h t.score f a.laid.score read fault
+never_both tune defaults paper how t _ a (no_way h s reached spans has way) = laid_way tune defaults paper how t h s reached spans a.laid has way
+never_both tune defaults paper how t _ a (too_tall u block laid tall) =
+    let same = laid_once tune defaults paper how t u a.laid laid in
     let clash = sym a.fits ∙ ap (λ (z : SetTune). first_tall (height_of paper) (blocks_of z.title z.heights)) same ∙ tall in cc
 
 -- ---- a book
 
-one_result : (tune : TuneText) (defaults : Defaults) (paper : Paper) (flow : Bool) (r q : Result SetTune Fault) → IsResult tune defaults paper flow r → IsResult tune defaults paper flow q → r ≡ q
-one_result tune defaults paper flow (Ok t) (Ok u) a b = ap Ok (set_once tune defaults paper flow t u a b)
-one_result tune defaults paper flow (Ok t) (Err g) a b = absurd (never_both tune defaults paper flow t g a b)
-one_result tune defaults paper flow (Err f) (Ok u) a b = absurd (never_both tune defaults paper flow u f b a)
-one_result tune defaults paper flow (Err f) (Err g) a b = ap Err (fault_once tune defaults paper flow f g a b)
+one_result : (tune : TuneText) (defaults : Defaults) (paper : Paper) (how : How) (r q : Result SetTune Fault) → IsResult tune defaults paper how r → IsResult tune defaults paper how q → r ≡ q
+one_result tune defaults paper how (Ok t) (Ok u) a b = ap Ok (set_once tune defaults paper how t u a b)
+one_result tune defaults paper how (Ok t) (Err g) a b = absurd (never_both tune defaults paper how t g a b)
+one_result tune defaults paper how (Err f) (Ok u) a b = absurd (never_both tune defaults paper how u f b a)
+one_result tune defaults paper how (Err f) (Err g) a b = ap Err (fault_once tune defaults paper how f g a b)
 
 abbrev outcome_of : ℕ → Result SetTune Fault → Outcome
 outcome_of ordinal result = record { ordinal = ordinal; result = result }
 
-outcome_once : (defaults : Defaults) (paper : Paper) (flow : Bool) (tune : TuneText) (o p : Outcome) → IsOutcome defaults paper flow tune o → IsOutcome defaults paper flow tune p → o ≡ p
-outcome_once defaults paper flow tune o p a b =
+outcome_once : (defaults : Defaults) (paper : Paper) (how : How) (tune : TuneText) (o p : Outcome) → IsOutcome defaults paper how tune o → IsOutcome defaults paper how tune p → o ≡ p
+outcome_once defaults paper how tune o p a b =
     let ordinal : o.ordinal ≡ p.ordinal = a.ordinal ∙ sym b.ordinal in
-    let result = one_result tune defaults paper flow o.result p.result a.result b.result in
+    let result = one_result tune defaults paper how o.result p.result a.result b.result in
     let made : outcome_of o.ordinal o.result ≡ outcome_of p.ordinal p.result = cc in made
 
 -- the tunes of a book have one list of outcomes
-pub outcomes_once : (defaults : Defaults) (paper : Paper) (flow : Bool) (tunes : List TuneText) (os ps : List Outcome) → AreOutcomes defaults paper flow tunes os → AreOutcomes defaults paper flow tunes ps → os ≡ ps
-outcomes_once defaults paper flow [] [] [] a b = refl
-outcomes_once defaults paper flow [] [] (p ∷ ps) a b = absurd b
-outcomes_once defaults paper flow [] (o ∷ os) ps a b = absurd a
-outcomes_once defaults paper flow (tune ∷ tunes) [] ps a b = absurd a
-outcomes_once defaults paper flow (tune ∷ tunes) (o ∷ os) [] a b = absurd b
-outcomes_once defaults paper flow (tune ∷ tunes) (o ∷ os) (p ∷ ps) a b =
-    let first = outcome_once defaults paper flow tune o p a.0 b.0 in
-    let others = outcomes_once defaults paper flow tunes os ps a.1 b.1 in
+pub outcomes_once : (defaults : Defaults) (paper : Paper) (how : How) (tunes : List TuneText) (os ps : List Outcome) → AreOutcomes defaults paper how tunes os → AreOutcomes defaults paper how tunes ps → os ≡ ps
+outcomes_once defaults paper how [] [] [] a b = refl
+outcomes_once defaults paper how [] [] (p ∷ ps) a b = absurd b
+outcomes_once defaults paper how [] (o ∷ os) ps a b = absurd a
+outcomes_once defaults paper how (tune ∷ tunes) [] ps a b = absurd a
+outcomes_once defaults paper how (tune ∷ tunes) (o ∷ os) [] a b = absurd b
+outcomes_once defaults paper how (tune ∷ tunes) (o ∷ os) (p ∷ ps) a b =
+    let first = outcome_once defaults paper how tune o p a.0 b.0 in
+    let others = outcomes_once defaults paper how tunes os ps a.1 b.1 in
     cc
 
 -- ---- the law
 
 -- a tune that has a score has no fault up to its score
-no_refusal : (tune : TuneText) (defaults : Defaults) (flow : Bool) (h : Header) (s : Score) (f : Fault) → HasScore tune defaults flow h s → IsScoreRefusal tune defaults (errors.Fault f) → ⊥
-no_refusal tune defaults flow h s f a (inl of_head) = clear_header _ f a.read.clear of_head
-no_refusal tune defaults flow h s f a (inr (k, read, fault)) = scored tune defaults flow h k s f a read fault
+no_refusal : (tune : TuneText) (defaults : Defaults) (how : How) (h : Header) (s : Score) (f : Fault) → HasScore tune defaults how h s → IsScoreRefusal tune defaults (errors.Fault f) → ⊥
+no_refusal tune defaults how h s f a (inl of_head) = clear_header _ f a.read.clear of_head
+no_refusal tune defaults how h s f a (inr (k, read, fault)) = scored tune defaults how h k s f a read fault
 
 called_system : (s : Score) (a b : ℕ) → (m : SystemMarks) × IsOneSystem s a b m
 called_system s a b =

@@ -22,22 +22,22 @@ pub record IsOneSystem (score : Score) (a b : ℕ) (marks : SystemMarks) : Type 
 
 pub record HaveOneOutcome : Type 0 where
   -- a tune that is set is set in one way
-  pub set : (tune : TuneText) (defaults : Defaults) (paper : Paper) (flow : Bool) (t u : SetTune)
-      → IsSetTune tune defaults paper flow t → IsSetTune tune defaults paper flow u → t ≡ u
+  pub set : (tune : TuneText) (defaults : Defaults) (paper : Paper) (how : How) (t u : SetTune)
+      → IsSetTune tune defaults paper how t → IsSetTune tune defaults paper how u → t ≡ u
   -- a tune has one fault
-  pub fault : (tune : TuneText) (defaults : Defaults) (paper : Paper) (flow : Bool) (f g : Fault)
-      → IsFaultOfTune tune defaults paper flow f → IsFaultOfTune tune defaults paper flow g → f ≡ g
+  pub fault : (tune : TuneText) (defaults : Defaults) (paper : Paper) (how : How) (f g : Fault)
+      → IsFaultOfTune tune defaults paper how f → IsFaultOfTune tune defaults paper how g → f ≡ g
   -- no tune that is set has a fault
-  pub apart : (tune : TuneText) (defaults : Defaults) (paper : Paper) (flow : Bool) (t : SetTune) (f : Fault)
-      → IsSetTune tune defaults paper flow t → IsFaultOfTune tune defaults paper flow f → ⊥
+  pub apart : (tune : TuneText) (defaults : Defaults) (paper : Paper) (how : How) (t : SetTune) (f : Fault)
+      → IsSetTune tune defaults paper how t → IsFaultOfTune tune defaults paper how f → ⊥
   -- some tunes have one list of outcomes
-  pub outcomes : (defaults : Defaults) (paper : Paper) (flow : Bool) (tunes : List TuneText) (os ps : List Outcome)
-      → AreOutcomes defaults paper flow tunes os → AreOutcomes defaults paper flow tunes ps → os ≡ ps
+  pub outcomes : (defaults : Defaults) (paper : Paper) (how : How) (tunes : List TuneText) (os ps : List Outcome)
+      → AreOutcomes defaults paper how tunes os → AreOutcomes defaults paper how tunes ps → os ≡ ps
   -- a tune has one score
-  pub score : (tune : TuneText) (defaults : Defaults) (flow : Bool) (h k : Header) (s t : Score)
-      → HasScore tune defaults flow h s → HasScore tune defaults flow k t → s ≡ t
+  pub score : (tune : TuneText) (defaults : Defaults) (how : How) (h k : Header) (s t : Score)
+      → HasScore tune defaults how h s → HasScore tune defaults how k t → s ≡ t
   -- a tune that has a score has no fault of its header, its body or its score
-  pub scored : (tune : TuneText) (defaults : Defaults) (flow : Bool) (h : Header) (s : Score) (f : Fault)
-      → HasScore tune defaults flow h s → IsScoreRefusal tune defaults (errors.Fault f) → ⊥
+  pub scored : (tune : TuneText) (defaults : Defaults) (how : How) (h : Header) (s : Score) (f : Fault)
+      → HasScore tune defaults how h s → IsScoreRefusal tune defaults (errors.Fault f) → ⊥
   -- a score calls for one system of any measures
   pub system : (s : Score) (a b : ℕ) → (m : SystemMarks) × IsOneSystem s a b m

@@ -10,13 +10,13 @@ use Rattle.set_tune.specs.Setting.{IsFaultOfTune, IsSetTune}
 use Rattle.set_book.specs.declared.outcome.Outcome.{Outcome}
 
 abbrev pub IsResult : TuneText → Defaults → Paper → Bool → Result SetTune Fault → Type 0
-IsResult tune defaults paper flow (Ok t) = IsSetTune tune defaults paper flow t
-IsResult tune defaults paper flow (Err fault) = IsFaultOfTune tune defaults paper flow fault
+IsResult tune defaults paper how (Ok t) = IsSetTune tune defaults paper how t
+IsResult tune defaults paper how (Err fault) = IsFaultOfTune tune defaults paper how fault
 
 -- the tune set, or its one fault, under its place in the book
-pub record IsOutcome (defaults : Defaults) (paper : Paper) (flow : Bool) (tune : TuneText) (o : Outcome) : Type 0 where
+pub record IsOutcome (defaults : Defaults) (paper : Paper) (how : How) (tune : TuneText) (o : Outcome) : Type 0 where
   pub ordinal : o.ordinal ≡ tune.ordinal
-  pub result : IsResult tune defaults paper flow o.result
+  pub result : IsResult tune defaults paper how o.result
 
 abbrev pub AreOutcomes : Defaults → Paper → Bool → List TuneText → List Outcome → Type 0
-AreOutcomes defaults paper flow tunes outcomes = AllZip (IsOutcome defaults paper flow) tunes outcomes
+AreOutcomes defaults paper how tunes outcomes = AllZip (IsOutcome defaults paper how) tunes outcomes

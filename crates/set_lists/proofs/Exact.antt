@@ -24,12 +24,12 @@ use Rattle.set_lists.proofs.Numbers.{book_rises}
 use Rattle.set_lists.proofs.Told.{lists_the_set, unforced}
 
 -- ---- the listing of a book
-module _ (one : HaveOneOutcome) (defaults : Defaults) (paper : Paper) (flow : Bool) where
-  its_breakings : (tune : TuneText) (r : Result SetTune Fault) → IsResult tune defaults paper flow r → HasItsBreakings (width_of paper) r
+module _ (one : HaveOneOutcome) (defaults : Defaults) (paper : Paper) (how : How) where
+  its_breakings : (tune : TuneText) (r : Result SetTune Fault) → IsResult tune defaults paper how r → HasItsBreakings (width_of paper) r
   its_breakings tune (Ok t) is = breakings_of_listing one t.score (width_of paper) t.spans is.laid.layout.form is.laid.layout.spans
   its_breakings tune (Err fault) is = tt
 
-  all_breakings : (tunes : List TuneText) (os : List Outcome) → AreOutcomes defaults paper flow tunes os → All (λ o. HasItsBreakings (width_of paper) o.result) os
+  all_breakings : (tunes : List TuneText) (os : List Outcome) → AreOutcomes defaults paper how tunes os → All (λ o. HasItsBreakings (width_of paper) o.result) os
   all_breakings [] [] h = All-nil (λ o. HasItsBreakings (width_of paper) o.result)
   all_breakings [] (o ∷ os) h = absurd h
   all_breakings (t ∷ ts) [] h = absurd h
@@ -37,9 +37,9 @@ module _ (one : HaveOneOutcome) (defaults : Defaults) (paper : Paper) (flow : Bo
       All-cons (λ o. HasItsBreakings (width_of paper) o.result) o os (its_breakings t o.result h.0.result) (all_breakings ts os h.1)
 
 pub lists_the_book : HaveOneOutcome → ListsTheBook
-lists_the_book one bytes defaults paper flow outcomes short set = record {
-  listing = lists_the_set defaults paper flow (book_of bytes).tunes outcomes set (book_rises bytes defaults paper flow outcomes short set);
-  breakings = all_breakings one defaults paper flow (book_of bytes).tunes outcomes set;
+lists_the_book one bytes defaults paper how outcomes short set = record {
+  listing = lists_the_set defaults paper how (book_of bytes).tunes outcomes set (book_rises bytes defaults paper how outcomes short set);
+  breakings = all_breakings one defaults paper how (book_of bytes).tunes outcomes set;
 }
 
 -- ---- no way
@@ -49,40 +49,40 @@ none_legal one s width reached spans way breaks legal =
     way.none breaks
     ((unforced s width spans way.form way.exact breaks s.measures).1 ((breakings_of_listing one s width spans way.form way.exact breaks).1 legal))
 
-module _ (one : HaveOneOutcome) (tune : TuneText) (defaults : Defaults) (paper : Paper) (flow : Bool) (header : Header) (score : Score)
-    (has : HasScore tune defaults flow header score) where
+module _ (one : HaveOneOutcome) (tune : TuneText) (defaults : Defaults) (paper : Paper) (how : How) (header : Header) (score : Score)
+    (has : HasScore tune defaults how header score) where
   -- a score that is laid out has a legal breaking
-  laid_legal : (t : SetTune) → IsLaidTune tune defaults paper flow t → IsLegalIn score (width_of paper) t.breaking.breaks
+  laid_legal : (t : SetTune) → IsLaidTune tune defaults paper how t → IsLegalIn score (width_of paper) t.breaking.breaks
   laid_legal t laid =
       let layout = laid.layout in
       let free = (unforced t.score (width_of paper) t.spans layout.form layout.spans t.breaking.breaks t.score.measures).0 layout.chosen.legal in
       let legal = (breakings_of_listing one t.score (width_of paper) t.spans layout.form layout.spans t.breaking.breaks).0 free in
-      subst (λ s. IsLegalIn s (width_of paper) t.breaking.breaks) (one.score tune defaults flow t.header header t.score score laid.score has) legal
+      subst (λ s. IsLegalIn s (width_of paper) t.breaking.breaks) (one.score tune defaults how t.header header t.score score laid.score has) legal
 
-  told : (f : Fault) (reached : ℕ) → f.kind ≡ faults.NoWay reached → IsFaultOfTune tune defaults paper flow f
+  told : (f : Fault) (reached : ℕ) → f.kind ≡ faults.NoWay reached → IsFaultOfTune tune defaults paper how f
       → (breaks : List ℕ) → IsLegalIn score (width_of paper) breaks → ⊥
-  told _ reached e (of_header f fault) breaks legal = one.scored tune defaults flow header score f has (inl fault)
-  told _ reached e (of_score h f read fault) breaks legal = one.scored tune defaults flow header score f has (inr (h, read, fault))
+  told _ reached e (of_header f fault) breaks legal = one.scored tune defaults how header score f has (inl fault)
+  told _ reached e (of_score h f read fault) breaks legal = one.scored tune defaults how header score f has (inr (h, read, fault))
   told _ reached e (no_way h s i spans scored way) breaks legal =
       none_legal one s (width_of paper) i spans way breaks
-      (subst (λ x. IsLegalIn x (width_of paper) breaks) (one.score tune defaults flow header h score s has scored) legal)
+      (subst (λ x. IsLegalIn x (width_of paper) breaks) (one.score tune defaults how header h score s has scored) legal)
   told _ reached e (too_tall t block laid tall) breaks legal = let clash : faults.TooTall block ≡ faults.NoWay reached = e in cc
 
-  came_by : (f : Fault) → IsFaultOfTune tune defaults paper flow f → ((breaks : List ℕ) → IsLegalIn score (width_of paper) breaks → ⊥)
+  came_by : (f : Fault) → IsFaultOfTune tune defaults paper how f → ((breaks : List ℕ) → IsLegalIn score (width_of paper) breaks → ⊥)
       → (reached : ℕ) × (f ≡ layout_fault tune (faults.NoWay reached))
-  came_by _ (of_header f fault) none = absurd (one.scored tune defaults flow header score f has (inl fault))
-  came_by _ (of_score h f read fault) none = absurd (one.scored tune defaults flow header score f has (inr (h, read, fault)))
+  came_by _ (of_header f fault) none = absurd (one.scored tune defaults how header score f has (inl fault))
+  came_by _ (of_score h f read fault) none = absurd (one.scored tune defaults how header score f has (inr (h, read, fault)))
   came_by _ (no_way h s i spans scored way) none = (i, refl)
   came_by _ (too_tall t block laid tall) none = absurd (none t.breaking.breaks (laid_legal t laid))
 
-  came : (r : Result SetTune Fault) → IsResult tune defaults paper flow r → ((breaks : List ℕ) → IsLegalIn score (width_of paper) breaks → ⊥)
+  came : (r : Result SetTune Fault) → IsResult tune defaults paper how r → ((breaks : List ℕ) → IsLegalIn score (width_of paper) breaks → ⊥)
       → (reached : ℕ) × (r ≡ Err (layout_fault tune (faults.NoWay reached)))
   came (Ok t) is none = absurd (none t.breaking.breaks (laid_legal t is.laid))
   came (Err f) is none = let by = came_by f is none in (by.0, ap Err by.1)
 
 pub no_way_is_exact : HaveOneOutcome → NoWayIsExact
-no_way_is_exact one tune defaults paper flow header score outcome has is = (
-  (λ way. told one tune defaults paper flow header score has (layout_fault tune (faults.NoWay way.0)) way.0 refl
-      (subst (λ r. IsResult tune defaults paper flow r) way.1 is.result)),
-  came one tune defaults paper flow header score has outcome.result is.result,
+no_way_is_exact one tune defaults paper how header score outcome has is = (
+  (λ way. told one tune defaults paper how header score has (layout_fault tune (faults.NoWay way.0)) way.0 refl
+      (subst (λ r. IsResult tune defaults paper how r) way.1 is.result)),
+  came one tune defaults paper how header score has outcome.result is.result,
 )

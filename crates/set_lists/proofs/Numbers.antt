@@ -39,10 +39,10 @@ few_lines bytes =
     let m = count_by-le-length is_end bytes in
     omega (arith, mapped, l, split, m)
 
-module _ (defaults : Defaults) (paper : Paper) (flow : Bool) (all : List Reading) where
+module _ (defaults : Defaults) (paper : Paper) (how : How) (all : List Reading) where
   -- the outcomes of the tunes that begin behind some lines, the first of which has a number past k
   rise_behind : (before lines : List Reading) (k : ℕ) (os : List Outcome) → k + length lines < 2 ^ 32
-      → AreOutcomes defaults paper flow (tunes_behind all (suc k) before lines) os → OrdinalsRise k os
+      → AreOutcomes defaults paper how (tunes_behind all (suc k) before lines) os → OrdinalsRise k os
   rise_behind before [] k [] l h = tt
   rise_behind before [] k (o ∷ os) l h = absurd h
   rise_behind before (line ∷ more) k os l h =
@@ -50,9 +50,9 @@ module _ (defaults : Defaults) (paper : Paper) (flow : Bool) (all : List Reading
       (λ g. rise_behind (line ∷ before) more k os (omega (arith, l)) g) h
     where
       at : (t : Bool) (ps : List Outcome)
-          → ((qs : List Outcome) → AreOutcomes defaults paper flow (tunes_behind all (suc (suc k)) (line ∷ before) more) qs → OrdinalsRise (suc k) qs)
-          → (AreOutcomes defaults paper flow (tunes_behind all (suc k) (line ∷ before) more) ps → OrdinalsRise k ps)
-          → AreOutcomes defaults paper flow (if t then tune_at all (suc k) (suc (length before)) ∷ tunes_behind all (suc (suc k)) (line ∷ before) more
+          → ((qs : List Outcome) → AreOutcomes defaults paper how (tunes_behind all (suc (suc k)) (line ∷ before) more) qs → OrdinalsRise (suc k) qs)
+          → (AreOutcomes defaults paper how (tunes_behind all (suc k) (line ∷ before) more) ps → OrdinalsRise k ps)
+          → AreOutcomes defaults paper how (if t then tune_at all (suc k) (suc (length before)) ∷ tunes_behind all (suc (suc k)) (line ∷ before) more
           else tunes_behind all (suc k) (line ∷ before) more) ps → OrdinalsRise k ps
       at true [] further same h = absurd h
       at true (p ∷ ps) further same h =
@@ -62,6 +62,6 @@ module _ (defaults : Defaults) (paper : Paper) (flow : Bool) (all : List Reading
 
 pub book_rises : BookRises
 unfolding book_of
-book_rises bytes defaults paper flow os l h =
-    rise_behind defaults paper flow (readings (without_mark bytes)) [] (readings (without_mark bytes)) 0 os
+book_rises bytes defaults paper how os l h =
+    rise_behind defaults paper how (readings (without_mark bytes)) [] (readings (without_mark bytes)) 0 os
     (let m = few_lines (without_mark bytes) in let n = unmarked bytes in omega (arith, l, m, n)) h

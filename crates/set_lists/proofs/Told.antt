@@ -66,7 +66,7 @@ potential s width spans form exact i (Some v) h = record {
 }
 
 -- ---- tunes that are set
-module _ (tune : TuneText) (defaults : Defaults) (paper : Paper) (flow : Bool) (t : SetTune) (is : IsSetTune tune defaults paper flow t) where
+module _ (tune : TuneText) (defaults : Defaults) (paper : Paper) (how : How) (t : SetTune) (is : IsSetTune tune defaults paper how t) where
   can_be_listed : CanBeListed t
   can_be_listed = record {
     form = is.laid.layout.form;
@@ -87,12 +87,12 @@ module _ (tune : TuneText) (defaults : Defaults) (paper : Paper) (flow : Bool) (
       }
 
 -- ---- outcomes
-module _ (defaults : Defaults) (paper : Paper) (flow : Bool) where
-  is_listable : (tune : TuneText) (r : Result SetTune Fault) → IsResult tune defaults paper flow r → IsListable r
-  is_listable tune (Ok t) h = can_be_listed tune defaults paper flow t h
+module _ (defaults : Defaults) (paper : Paper) (how : How) where
+  is_listable : (tune : TuneText) (r : Result SetTune Fault) → IsResult tune defaults paper how r → IsListable r
+  is_listable tune (Ok t) h = can_be_listed tune defaults paper how t h
   is_listable tune (Err fault) h = tt
 
-  all_listable : (tunes : List TuneText) (os : List Outcome) → AreOutcomes defaults paper flow tunes os → All (λ o. IsListable o.result) os
+  all_listable : (tunes : List TuneText) (os : List Outcome) → AreOutcomes defaults paper how tunes os → All (λ o. IsListable o.result) os
   all_listable [] [] h = All-nil (λ o. IsListable o.result)
   all_listable [] (o ∷ os) h = absurd h
   all_listable (t ∷ ts) [] h = absurd h
@@ -100,7 +100,7 @@ module _ (defaults : Defaults) (paper : Paper) (flow : Bool) where
       All-cons (λ o. IsListable o.result) o os (is_listable t o.result h.0.result) (all_listable ts os h.1)
 
   -- the entries of outcomes whose numbers rise past k have numbers past each j up to k
-  entries : (tunes : List TuneText) (os : List Outcome) (k j : ℕ) → AreOutcomes defaults paper flow tunes os → OrdinalsRise k os → j ≤ k
+  entries : (tunes : List TuneText) (os : List Outcome) (k j : ℕ) → AreOutcomes defaults paper how tunes os → OrdinalsRise k os → j ≤ k
       → EntriesFrom j (entries_of os)
   entries [] [] k j h rise l = tt
   entries [] (o ∷ os) k j h rise l = absurd h
@@ -109,17 +109,17 @@ module _ (defaults : Defaults) (paper : Paper) (flow : Bool) where
       at o.result h.0.result (entries ts os o.ordinal o.ordinal h.1 rise.2 (omega arith))
       (entries ts os o.ordinal j h.1 rise.2 (let m = rise.0 in omega (arith, l, m)))
     where
-      at : (r : Result SetTune Fault) → IsResult t defaults paper flow r → EntriesFrom o.ordinal (entries_of os) → EntriesFrom j (entries_of os)
+      at : (r : Result SetTune Fault) → IsResult t defaults paper how r → EntriesFrom o.ordinal (entries_of os) → EntriesFrom j (entries_of os)
           → EntriesFrom j (cons_option (result_entry o.ordinal r) (entries_of os))
       at (Ok tune) is further same =
-          (let m = rise.0 in omega (arith, l, m), is_entry t defaults paper flow tune is o.ordinal rise.1, further)
+          (let m = rise.0 in omega (arith, l, m), is_entry t defaults paper how tune is o.ordinal rise.1, further)
       at (Err fault) is further same = same
 
 pub outcomes_are_listable : OutcomesAreListable
-outcomes_are_listable defaults paper flow tunes os h = all_listable defaults paper flow tunes os h
+outcomes_are_listable defaults paper how tunes os h = all_listable defaults paper how tunes os h
 
 pub lists_the_set : ListsTheSet
-lists_the_set defaults paper flow tunes os h rise = record {
-  entries = entries defaults paper flow tunes os 0 0 h rise (omega arith);
+lists_the_set defaults paper how tunes os h rise = record {
+  entries = entries defaults paper how tunes os 0 0 h rise (omega arith);
   lines = refl;
 }

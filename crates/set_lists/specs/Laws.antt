@@ -30,18 +30,18 @@ OrdinalsRise k (o ∷ os) = (k < o.ordinal) × (o.ordinal < 2 ^ 32) × OrdinalsR
 
 -- the numbers of the tunes of a book rise
 abbrev pub BookRises : Type 0
-BookRises = (bytes : List ℕ) (defaults : Defaults) (paper : Paper) (flow : Bool) (outcomes : List Outcome) → length bytes ≤ 2 ^ 30
-    → AreOutcomes defaults paper flow (book_of bytes).tunes outcomes → OrdinalsRise 0 outcomes
+BookRises = (bytes : List ℕ) (defaults : Defaults) (paper : Paper) (how : How) (outcomes : List Outcome) → length bytes ≤ 2 ^ 30
+    → AreOutcomes defaults paper how (book_of bytes).tunes outcomes → OrdinalsRise 0 outcomes
 
 -- what comes of tunes can be listed
 abbrev pub OutcomesAreListable : Type 0
-OutcomesAreListable = (defaults : Defaults) (paper : Paper) (flow : Bool) (tunes : List TuneText) (outcomes : List Outcome)
-    → AreOutcomes defaults paper flow tunes outcomes → AreListable outcomes
+OutcomesAreListable = (defaults : Defaults) (paper : Paper) (how : How) (tunes : List TuneText) (outcomes : List Outcome)
+    → AreOutcomes defaults paper how tunes outcomes → AreListable outcomes
 
 -- what is written of tunes whose numbers rise is a listing, and it tells the tunes without a fault
 abbrev pub ListsTheSet : Type 0
-ListsTheSet = (defaults : Defaults) (paper : Paper) (flow : Bool) (tunes : List TuneText) (outcomes : List Outcome)
-    → AreOutcomes defaults paper flow tunes outcomes → OrdinalsRise 0 outcomes → IsListing (listing_text outcomes) (entries_of outcomes)
+ListsTheSet = (defaults : Defaults) (paper : Paper) (how : How) (tunes : List TuneText) (outcomes : List Outcome)
+    → AreOutcomes defaults paper how tunes outcomes → OrdinalsRise 0 outcomes → IsListing (listing_text outcomes) (entries_of outcomes)
 
 -- The measures from bar a to bar b can be a system: no forced bar stands strictly inside, and the columns of the marks that
 -- the score calls for there can stand within the width.
@@ -74,8 +74,8 @@ pub record ListsTheScores (paper : Paper) (text : List ℕ) (outcomes : List Out
 
 -- what is written of a book is such a listing
 abbrev pub ListsTheBook : Type 0
-ListsTheBook = (bytes : List ℕ) (defaults : Defaults) (paper : Paper) (flow : Bool) (outcomes : List Outcome) → length bytes ≤ 2 ^ 30
-    → AreOutcomes defaults paper flow (book_of bytes).tunes outcomes → ListsTheScores paper (listing_text outcomes) outcomes
+ListsTheBook = (bytes : List ℕ) (defaults : Defaults) (paper : Paper) (how : How) (outcomes : List Outcome) → length bytes ≤ 2 ^ 30
+    → AreOutcomes defaults paper how (book_of bytes).tunes outcomes → ListsTheScores paper (listing_text outcomes) outcomes
 
 -- the tune is told that it has no way: legal breakings of its first measures go up to some bar, and none to the last
 abbrev pub HasNoWay : TuneText → Outcome → Type 0
@@ -83,6 +83,6 @@ HasNoWay tune outcome = (reached : ℕ) × (outcome.result ≡ Err (layout_fault
 
 -- A tune that has a score is told that it has no way exactly where its score has no legal breaking on the width of the body.
 abbrev pub NoWayIsExact : Type 0
-NoWayIsExact = (tune : TuneText) (defaults : Defaults) (paper : Paper) (flow : Bool) (header : Header) (score : Score) (outcome : Outcome)
-    → HasScore tune defaults flow header score → IsOutcome defaults paper flow tune outcome
+NoWayIsExact = (tune : TuneText) (defaults : Defaults) (paper : Paper) (how : How) (header : Header) (score : Score) (outcome : Outcome)
+    → HasScore tune defaults how header score → IsOutcome defaults paper how tune outcome
     → HasNoWay tune outcome ↔ ((breaks : List ℕ) → IsLegalIn score (width_of paper) breaks → ⊥)

@@ -48,24 +48,24 @@ each_fits paper (o ∷ outcomes) h =
     (result_fits paper o.result (All-head (IsSetUnder paper) o outcomes h).result, each_fits paper outcomes (All-tail (IsSetUnder paper) o outcomes h))
 
 -- the outcomes of tunes are set on their paper, or have a fault
-result_set : (paper : Paper) (defaults : Defaults) (flow : Bool) (tune : TuneText) (r : Result SetTune Fault) → IsResult tune defaults paper flow r → IsSetResult paper r
-result_set paper defaults flow tune (Ok t) h = (tune, defaults, flow, h)
-result_set paper defaults flow tune (Err fault) h = tt
+result_set : (paper : Paper) (defaults : Defaults) (how : How) (tune : TuneText) (r : Result SetTune Fault) → IsResult tune defaults paper how r → IsSetResult paper r
+result_set paper defaults how tune (Ok t) h = (tune, defaults, how, h)
+result_set paper defaults how tune (Err fault) h = tt
 
-outcome_set : (defaults : Defaults) (paper : Paper) (flow : Bool) (tune : TuneText) (o : Outcome) → 1 ≤ tune.ordinal → IsOutcome defaults paper flow tune o → IsSetUnder paper o
-outcome_set defaults paper flow tune o some h = record {
-  result = result_set paper defaults flow tune o.result h.result;
+outcome_set : (defaults : Defaults) (paper : Paper) (how : How) (tune : TuneText) (o : Outcome) → 1 ≤ tune.ordinal → IsOutcome defaults paper how tune o → IsSetUnder paper o
+outcome_set defaults paper how tune o some h = record {
+  result = result_set paper defaults how tune o.result h.result;
   ordinal = subst (λ n. 1 ≤ n) (sym h.ordinal) some;
 }
 
-pub set_outcomes : (defaults : Defaults) (paper : Paper) (flow : Bool) (tunes : List TuneText) (outcomes : List Outcome) → All (λ tune. 1 ≤ tune.ordinal) tunes
-    → AreOutcomes defaults paper flow tunes outcomes → All (IsSetUnder paper) outcomes
-set_outcomes defaults paper flow [] [] some h = All-nil (IsSetUnder paper)
-set_outcomes defaults paper flow [] (o ∷ outcomes) some h = absurd h
-set_outcomes defaults paper flow (tune ∷ tunes) [] some h = absurd h
-set_outcomes defaults paper flow (tune ∷ tunes) (o ∷ outcomes) some h =
-    All-cons (IsSetUnder paper) o outcomes (outcome_set defaults paper flow tune o (All-head (λ t. 1 ≤ t.ordinal) tune tunes some) h.0)
-    (set_outcomes defaults paper flow tunes outcomes (All-tail (λ t. 1 ≤ t.ordinal) tune tunes some) h.1)
+pub set_outcomes : (defaults : Defaults) (paper : Paper) (how : How) (tunes : List TuneText) (outcomes : List Outcome) → All (λ tune. 1 ≤ tune.ordinal) tunes
+    → AreOutcomes defaults paper how tunes outcomes → All (IsSetUnder paper) outcomes
+set_outcomes defaults paper how [] [] some h = All-nil (IsSetUnder paper)
+set_outcomes defaults paper how [] (o ∷ outcomes) some h = absurd h
+set_outcomes defaults paper how (tune ∷ tunes) [] some h = absurd h
+set_outcomes defaults paper how (tune ∷ tunes) (o ∷ outcomes) some h =
+    All-cons (IsSetUnder paper) o outcomes (outcome_set defaults paper how tune o (All-head (λ t. 1 ≤ t.ordinal) tune tunes some) h.0)
+    (set_outcomes defaults paper how tunes outcomes (All-tail (λ t. 1 ≤ t.ordinal) tune tunes some) h.1)
 
 -- the tunes of a book are counted from 1
 tunes_counted : (all : List Reading) (ordinal : ℕ) (before lines : List Reading) → 1 ≤ ordinal → All (λ tune. 1 ≤ tune.ordinal) (tunes_behind all ordinal before lines)

@@ -65,7 +65,7 @@ pub record AreStanding (paper : Paper) (outcomes : List Outcome) : Type 0 where
 
 -- a tune is set on the paper, or has a fault
 abbrev pub IsSetResult : Paper → Result SetTune Fault → Type 0
-IsSetResult paper (Ok t) = (tune : TuneText) × (defaults : Defaults) × (flow : Bool) × IsSetTune tune defaults paper flow t
+IsSetResult paper (Ok t) = (tune : TuneText) × (defaults : Defaults) × (how : How) × IsSetTune tune defaults paper how t
 IsSetResult paper (Err fault) = ⊤
 
 -- under its ordinal in the book, which is counted from 1

@@ -1,9 +1,10 @@
 -- What the setting of a tune rests on: a score with measures has a voice, a tune has few titles, and few blocks of good heights.
-use Rattle.std.proofs.Common.{◌≡◌, ℕ, zero, suc, ◌+◌, ◌<◌, ◌≤◌, ◌^◌, Bool, List, [], ◌∷◌, ◌++◌, length, map, take, Option, Some, None, Result, Ok, Err, sym, subst, refl, arith}
+use Rattle.std.proofs.Common.{◌≡◌, ℕ, ℤ, pos, negsuc, zero, suc, ◌+◌, ◌<◌, ◌≤◌, ◌^◌, Bool, List, [], ◌∷◌, ◌++◌, length, map, take, Option, Some, None, Result, Ok, Err, sym, subst, refl, arith}
 use Rattle.std.specs.List.{cons_option}
 use Rattle.std.specs.List.{All, filter_map}
 use Rattle.std.proofs.lemmas.List.{length-append, length-map}
 use Rattle.std.proofs.lemmas.List.Sums.{sum_by-cons}
+use Rattle.std.proofs.lemmas.Option.{same_Some}
 use Rattle.std.proofs.lemmas.List.Elements.{All-cons, All-nil}
 use Rattle.abc_lines.specs.declared.book.Line.{Line}
 use Rattle.abc_lines.specs.declared.book.TuneText.{TuneText}
@@ -20,6 +21,9 @@ use Rattle.abc_score.specs.declared.voices.VoiceRead.{VoiceRead}
 use Rattle.abc_score.specs.Build.{IsScoreOf}
 use Rattle.abc_score.specs.Score.{score_with}
 use Rattle.abc_score.specs.Voices.{voices_read}
+use Rattle.mus_units.specs.declared.key.Key.{Key}
+use Rattle.mus_transpose.specs.CanMove.{IsLike, IsMoved, move_from}
+use Rattle.mus_transpose.proofs.MovedGood.{moved_like}
 use Rattle.mus_score.specs.declared.score.Score.{Score}
 use Rattle.mus_score.specs.GoodScore.{IsGoodScore}
 use Rattle.mus_laid.specs.declared.laid.SystemMarks.{SystemMarks}
@@ -30,7 +34,8 @@ use Rattle.lay_tune.specs.Systems.{Beside, IsSetSystem, IsStack}
 use Rattle.lay_tune.proofs.Rows.{beside_count, span_count}
 use Rattle.set_tune.specs.declared.tune.SetTune.{SetTune}
 use Rattle.set_tune.specs.Blocks.{HasGoodHeight, blocks_of, is_some_list, system_block, system_blocks, title_blocks}
-use Rattle.set_tune.specs.Setting.{IsLaidOut}
+use Rattle.set_tune.specs.declared.how.How.{How}
+use Rattle.set_tune.specs.Setting.{HasScore, IsLaidOut}
 
 -- ---- voices
 
@@ -46,6 +51,20 @@ pub heard : (header : Header) (tune : TuneText) (flow : Bool) (score : Score) �
 heard header tune flow score h some =
     subst (λ (s : Score). 1 ≤ length s.voices) (sym h.value)
     (has_voice header h.items flow (voices_read header h.items) (subst (λ (s : Score). 0 < s.measures) h.value some))
+
+like_moved : (s t : Score) (key : Key) (by : ℤ) → IsMoved s key by (Some t) → IsLike s t
+like_moved s t key (pos zero) is = subst (IsLike s) (sym (same_Some t s (is.same refl))) (record { voices = refl; measures = refl; forced = refl; spread = refl })
+like_moved s t key (pos (suc n)) is = subst (IsLike s) (sym (is.higher (λ e. cc)).1) (moved_like (Some (move_from key (pos (suc n)))) s)
+like_moved s t key (negsuc n) is = subst (IsLike s) (sym (is.higher (λ e. cc)).1) (moved_like (Some (move_from key (negsuc n))) s)
+
+-- moved too
+pub heard_moved : (tune : TuneText) (defaults : Defaults) (how : How) (header : Header) (score : Score) → HasScore tune defaults how header score
+    → 0 < score.measures → 1 ≤ length score.voices
+heard_moved tune defaults how header score has some =
+    let like = like_moved has.written score header.key how.by has.moved in
+    let voices = like.voices in
+    let first = heard header tune how.flow has.written has.is.value (subst (λ n. 0 < n) like.measures some) in
+    omega (arith, first, voices)
 
 -- ---- titles and composers
 

@@ -1,5 +1,5 @@
 -- A tune that is set, and the one fault of a tune that isn't.
-use Rattle.std.specs.Prelude.{◌≡◌, ◌⊎◌, ⊤, ℕ, ◌+◌, ◌≤◌, List, Bool, All, length, slice_index_or, Option, Some, None}
+use Rattle.std.specs.Prelude.{◌≡◌, ◌⊎◌, ⊤, ℕ, ◌+◌, ◌≤◌, ℤ, List, Bool, All, length, slice_index_or, Option, Some, None}
 use Rattle.abc_lines.specs.declared.book.TuneText.{TuneText}
 use Rattle.abc_lines.specs.declared.fault.Fault.{Fault}
 use Rattle.abc_lines.specs.declared.fault.FaultKind.{FaultKind}
@@ -23,6 +23,9 @@ use Rattle.lay_pages.specs.Titles.{title_block_of}
 use Rattle.lay_tune.specs.Layout.{IsNoWay}
 use Rattle.lay_tune.specs.Spans.{AreSpansOf, is_forced_in}
 use Rattle.lay_tune.specs.Systems.{Beside, EachSpan, IsSetSystem, IsStack}
+use Rattle.mus_units.specs.declared.key.Key.{Key}
+use Rattle.mus_transpose.specs.CanMove.{IsMoved}
+use Rattle.set_tune.specs.declared.how.How.{How}
 use Rattle.set_tune.specs.declared.tune.SetTune.{SetTune}
 use Rattle.set_tune.specs.Blocks.{blocks_of}
 
@@ -32,10 +35,24 @@ pub record HasHeader (tune : TuneText) (defaults : Defaults) (header : Header) :
   pub clear : header_fault tune ≡ None
 
 -- The header, and the score that the tune calls for under it, neither of which has a fault.
-pub record HasScore (tune : TuneText) (defaults : Defaults) (flow : Bool) (header : Header) (score : Score) : Type 0 where
+pub record IsWritten (tune : TuneText) (defaults : Defaults) (flow : Bool) (header : Header) (score : Score) : Type 0 where
   pub read : HasHeader tune defaults header
   pub value : IsScoreOf header tune flow score
   pub good : IsGoodScore score
+
+-- The header, and the score that is set: the written one, moved.
+pub record HasScore (tune : TuneText) (defaults : Defaults) (how : How) (header : Header) (score : Score) : Type 0 where
+  pub written : Score
+  pub is : IsWritten tune defaults how.flow header written
+  pub moved : IsMoved written header.key how.by (Some score)
+  pub good : IsGoodScore score
+
+-- The score of the tune can't be moved so far.
+pub record CantMove (tune : TuneText) (defaults : Defaults) (how : How) : Type 0 where
+  pub header : Header
+  pub written : Score
+  pub is : IsWritten tune defaults how.flow header written
+  pub moved : IsMoved written header.key how.by None
 
 -- The score laid out on a width: the listed spans are exactly those that fit, the breaking is the chosen one over them, and each
 -- of its systems has the marks that the score calls for, set to the width and tilted there, and its staves under one another.
@@ -58,37 +75,50 @@ pub record IsLaid (width : ℕ) (header : Header) (score : Score) (t : SetTune) 
   pub layout : IsLaidOut width t
 
 -- The tune up to its layout and its title block, whatever the height of the page.
-pub record IsLaidTune (tune : TuneText) (defaults : Defaults) (paper : Paper) (flow : Bool) (t : SetTune) : Type 0 where
-  pub score : HasScore tune defaults flow t.header t.score
+pub record IsLaidTune (tune : TuneText) (defaults : Defaults) (paper : Paper) (how : How) (t : SetTune) : Type 0 where
+  pub score : HasScore tune defaults how t.header t.score
   pub title : t.title ≡ title_block_of (width_of paper) t.header.titles t.header.composers t.header.tempo
   pub layout : IsLaidOut (width_of paper) t
 
 -- A tune that is set: none of its groups of blocks is higher than the page.
-pub record IsSetTune (tune : TuneText) (defaults : Defaults) (paper : Paper) (flow : Bool) (t : SetTune) : Type 0 where
-  pub laid : IsLaidTune tune defaults paper flow t
+pub record IsSetTune (tune : TuneText) (defaults : Defaults) (paper : Paper) (how : How) (t : SetTune) : Type 0 where
+  pub laid : IsLaidTune tune defaults paper how t
   pub fits : first_tall (height_of paper) (blocks_of t.title t.heights) ≡ None
 
--- a fault of the layout stands at the first line of the tune, in column 1
+-- a fault of the move or of the layout stands at the first line of the tune, in column 1
 abbrev pub layout_fault : TuneText → FaultKind → Fault
 layout_fault tune kind = record { kind = kind; line = first_line tune.lines; column = 1 }
 
 -- The one fault of a tune, by stages: of its header; where that has none, of its body or its score; where the score has none,
--- that no breaking is legal; and where one is, that a group of blocks is higher than the page.
-pub data IsFaultOfTune (tune : TuneText) (defaults : Defaults) (paper : Paper) (flow : Bool) : Fault → Type 0 where
-  of_header : (fault : Fault) → header_fault tune ≡ Some fault → IsFaultOfTune tune defaults paper flow fault
+-- that it can't be moved; where it can, that no breaking is legal; and where one is, that a group of blocks is higher than the
+-- page.
+pub data IsFaultOfTune (tune : TuneText) (defaults : Defaults) (paper : Paper) (how : How) : Fault → Type 0 where
+  of_header : (fault : Fault) → header_fault tune ≡ Some fault → IsFaultOfTune tune defaults paper how fault
   of_score : (header : Header) (fault : Fault) → HasHeader tune defaults header → IsFaultOf header tune (errors.Fault fault)
-      → IsFaultOfTune tune defaults paper flow fault
-  no_way : (header : Header) (score : Score) (reached : ℕ) (spans : List Span) → HasScore tune defaults flow header score
-      → IsNoWay score (width_of paper) reached spans → IsFaultOfTune tune defaults paper flow (layout_fault tune (faults.NoWay reached))
-  too_tall : (t : SetTune) (block : ℕ) → IsLaidTune tune defaults paper flow t
+      → IsFaultOfTune tune defaults paper how fault
+  of_move : CantMove tune defaults how → IsFaultOfTune tune defaults paper how (layout_fault tune faults.BadMove)
+  no_way : (header : Header) (score : Score) (reached : ℕ) (spans : List Span) → HasScore tune defaults how header score
+      → IsNoWay score (width_of paper) reached spans → IsFaultOfTune tune defaults paper how (layout_fault tune (faults.NoWay reached))
+  too_tall : (t : SetTune) (block : ℕ) → IsLaidTune tune defaults paper how t
       → first_tall (height_of paper) (blocks_of t.title t.heights) ≡ Some block
-      → IsFaultOfTune tune defaults paper flow (layout_fault tune (faults.TooTall block))
+      → IsFaultOfTune tune defaults paper how (layout_fault tune (faults.TooTall block))
 
 -- The same of the stages up to the score; want of memory says nothing.
 abbrev pub IsScoreRefusal : TuneText → Defaults → TuneError → Type 0
 IsScoreRefusal tune defaults errors.Memory = ⊤
 IsScoreRefusal tune defaults (errors.Fault fault) =
     (header_fault tune ≡ Some fault) ⊎ ((header : Header) × HasHeader tune defaults header × IsFaultOf header tune (errors.Fault fault))
+
+-- why the written score isn't moved
+abbrev pub IsMoveRefusal : TuneText → Score → Key → ℤ → TuneError → Type 0
+IsMoveRefusal tune written key by errors.Memory = ⊤
+IsMoveRefusal tune written key by (errors.Fault fault) = IsMoved written key by None × (fault ≡ layout_fault tune faults.BadMove)
+
+-- why there is no score to lay out
+abbrev pub IsMovedRefusal : TuneText → Defaults → How → TuneError → Type 0
+IsMovedRefusal tune defaults how errors.Memory = ⊤
+IsMovedRefusal tune defaults how (errors.Fault fault) =
+    IsScoreRefusal tune defaults (errors.Fault fault) ⊎ (CantMove tune defaults how × (fault ≡ layout_fault tune faults.BadMove))
 
 -- why the score isn't laid out
 abbrev pub IsLayoutRefusal : TuneText → ℕ → Score → TuneError → Type 0
@@ -103,6 +133,6 @@ IsTallRefusal tune high t (errors.Fault fault) =
     (block : ℕ) × (first_tall high (blocks_of t.title t.heights) ≡ Some block) × (fault ≡ layout_fault tune (faults.TooTall block))
 
 -- want of memory says nothing
-abbrev pub IsRefusal : TuneText → Defaults → Paper → Bool → TuneError → Type 0
-IsRefusal tune defaults paper flow errors.Memory = ⊤
-IsRefusal tune defaults paper flow (errors.Fault fault) = IsFaultOfTune tune defaults paper flow fault
+abbrev pub IsRefusal : TuneText → Defaults → Paper → How → TuneError → Type 0
+IsRefusal tune defaults paper how errors.Memory = ⊤
+IsRefusal tune defaults paper how (errors.Fault fault) = IsFaultOfTune tune defaults paper how fault

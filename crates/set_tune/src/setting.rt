@@ -1,4 +1,4 @@
-ghost use Rattle.std.specs.Prelude.{◌≡◌, ◌≤◌, ◌<◌, ◌^◌, ℕ, length, IfErr, IfOk, None};
+ghost use Rattle.std.specs.Prelude.{◌≡◌, ◌≤◌, ◌<◌, ◌^◌, ◌≤ℤ◌, ℕ, negsuc, pos, length, IfErr, IfOk, None, Some};
 ghost use Rattle.std.specs.Option.{option_copied};
 ghost use Rattle.mus_score.specs.GoodScore.{IsGoodScore};
 ghost use Rattle.abc_lines.specs.Good.{IsGoodTune};
@@ -9,9 +9,12 @@ ghost use Rattle.abc_header.specs.Papers.{IsGoodPaper, height_of, width_of};
 ghost use Rattle.lay_pages.specs.Filling.{first_tall};
 ghost use Rattle.lay_pages.specs.Titles.{title_block_of};
 ghost use Rattle.set_tune.specs.Blocks.{blocks_of};
-ghost use Rattle.set_tune.specs.Setting.{HasScore, IsLaid, IsLaidOut, IsLayoutRefusal, IsRefusal, IsScoreRefusal, IsSetTune, IsTallRefusal, layout_fault};
+ghost use Rattle.mus_transpose.specs.CanMove.{IsMoved};
+ghost use Rattle.set_tune.specs.How.{IsGoodHow, unmoved};
+ghost use Rattle.set_tune.specs.Setting.{HasScore, IsLaid, IsLaidOut, IsLayoutRefusal, IsMoveRefusal, IsMovedRefusal, IsRefusal, IsScoreRefusal, IsSetTune, IsTallRefusal, IsWritten, layout_fault};
 
 use crate::blocks::blocks_of;
+use crate::how::How;
 use crate::tune::SetTune;
 use abc_header::{Defaults, Header, Paper, body_of, read_header};
 use abc_lines::{Fault, FaultKind, Line, TuneError, TuneText};
@@ -19,15 +22,11 @@ use abc_score::build;
 use lay_pages::{PageError, TitleBlock, fill, title_block};
 use lay_tune::{Layout, LayoutError, lay_out};
 use mus_score::Score;
+use mus_transpose::moved_or_same;
 use mus_units::Memory;
 use std::alloc::Global;
 
-/// A tune set on paper: its header, its score, the score laid out on the width of the body, and its
-/// title block; or the first of its faults. With `flow` no bar is forced.
-///
-/// A fault is of the header, or else of the body, or else of the score; or else no breaking of its
-/// measures is legal, or else a group of its blocks is higher than the body. The last two are told at
-/// the tune's first line.
+/// A tune set on paper as it is written: `set_how` with a score that isn't moved.
 pub fn set(
     alloc: Global,
     tune: &TuneText,
@@ -38,11 +37,35 @@ pub fn set(
     requires tune { IsGoodTune tune.now }
     requires defaults { IsGoodDefaults defaults.now }
     requires paper { IsGoodPaper paper.now }
-    ensures set { IfOk result (IsSetTune tune.now defaults.now paper.now flow) }
-    ensures fault { IfErr result (IsRefusal tune.now defaults.now paper.now flow) }
+    ensures set { IfOk result (IsSetTune tune.now defaults.now paper.now (unmoved flow)) }
+    ensures fault { IfErr result (IsRefusal tune.now defaults.now paper.now (unmoved flow)) }
+{
+    set_how(alloc, tune, defaults, paper, How::unmoved(flow))
+}
+
+/// A tune set on paper: its header, its score, moved by so many semitones as `how` says, the score
+/// laid out on the width of the body, and its title block; or the first of its faults. Where `how`
+/// says so, no bar is forced.
+///
+/// A fault is of the header, or else of the body, or else of the score; or else the score can't be
+/// moved so far, or else no breaking of its measures is legal, or else a group of its blocks is
+/// higher than the body. The last three are told at the tune's first line.
+pub fn set_how(
+    alloc: Global,
+    tune: &TuneText,
+    defaults: &Defaults,
+    paper: &Paper,
+    how: How,
+) -> Result<SetTune, TuneError>
+    requires tune { IsGoodTune tune.now }
+    requires defaults { IsGoodDefaults defaults.now }
+    requires paper { IsGoodPaper paper.now }
+    requires how { IsGoodHow how }
+    ensures set { IfOk result (IsSetTune tune.now defaults.now paper.now how) }
+    ensures fault { IfErr result (IsRefusal tune.now defaults.now paper.now how) }
 {
     let (width, high) = body_of(paper);
-    let (header, score) = match read_score(alloc, tune, defaults, flow) {
+    let (header, score) = match moved_score(alloc, tune, defaults, how) {
         Ok(read) => read,
         Err(error) => return Err(error),
     };
@@ -52,7 +75,30 @@ pub fn set(
     }
 }
 
-/// The header of a tune and its score, or the first fault of either.
+/// The header of a tune and its score, moved, or the first fault up to there.
+fn moved_score(
+    alloc: Global,
+    tune: &TuneText,
+    defaults: &Defaults,
+    how: How,
+) -> Result<(Header, Score), TuneError>
+    requires tune { IsGoodTune tune.now }
+    requires defaults { IsGoodDefaults defaults.now }
+    requires how { IsGoodHow how }
+    ensures score { IfOk result (λ read. HasScore tune.now defaults.now how read.0 read.1) }
+    ensures fault { IfErr result (IsMovedRefusal tune.now defaults.now how) }
+{
+    let (header, written) = match read_score(alloc, tune, defaults, how.flow) {
+        Ok(read) => read,
+        Err(error) => return Err(error),
+    };
+    match move_score(alloc, tune, written, &header, how.by) {
+        Ok(score) => Ok((header, score)),
+        Err(error) => Err(error),
+    }
+}
+
+/// The header of a tune and its score as it is written, or the first fault of either.
 fn read_score(
     alloc: Global,
     tune: &TuneText,
@@ -61,7 +107,7 @@ fn read_score(
 ) -> Result<(Header, Score), TuneError>
     requires tune { IsGoodTune tune.now }
     requires defaults { IsGoodDefaults defaults.now }
-    ensures score { IfOk result (λ read. HasScore tune.now defaults.now flow read.0 read.1) }
+    ensures score { IfOk result (λ read. IsWritten tune.now defaults.now flow read.0 read.1) }
     ensures fault { IfErr result (IsScoreRefusal tune.now defaults.now) }
 {
     let header = match read_header(alloc, tune, defaults) {
@@ -71,6 +117,27 @@ fn read_score(
     match build(alloc, &header, tune, flow) {
         Ok(score) => Ok((header, score)),
         Err(error) => Err(error),
+    }
+}
+
+/// The score moved by so many semitones, or the fault of one that can't be moved so far.
+fn move_score(
+    alloc: Global,
+    tune: &TuneText,
+    written: Score,
+    header: &Header,
+    by: i8,
+) -> Result<Score, TuneError>
+    requires good { IsGoodScore written }
+    requires down { negsuc 11 ≤ℤ by }
+    requires up { by ≤ℤ pos 12 }
+    ensures moved { IfOk result (λ score. IsMoved written header.now.key by (Some score)) }
+    ensures good { IfOk result IsGoodScore }
+    ensures fault { IfErr result (IsMoveRefusal tune.now written header.now.key by) }
+{
+    match moved_or_same(alloc, written, &header.key, by)? {
+        Some(score) => Ok(score),
+        None => Err(layout_fault(tune, FaultKind::BadMove)),
     }
 }
 
@@ -84,7 +151,7 @@ fn first_line(lines: &[Line]) -> u32
     }
 }
 
-/// A fault of the layout, at the first line of the tune.
+/// A fault of the move or of the layout, at the first line of the tune.
 fn layout_fault(tune: &TuneText, kind: FaultKind) -> TuneError
     ensures { result ≡ errors.Fault (layout_fault tune.now kind) }
 {
