@@ -66,7 +66,7 @@ seen_length f len seen = fun_ext (λ force. fun_ext (λ i.
     at None force = refl
     at (Some s) force = refl
 
-seen_as : {D C : Type 0} (f : D → C) (reach : C → ℕ → Option Reach) (len : C → ℕ → ℕ) (P : ℕ → (ℕ → ℕ → Option Reach) → (ℕ → ℕ → ℕ) → Type 0)
+pub seen_as : {D C : Type 0} (f : D → C) (reach : C → ℕ → Option Reach) (len : C → ℕ → ℕ) (P : ℕ → (ℕ → ℕ → Option Reach) → (ℕ → ℕ → ℕ) → Type 0)
     (seen : List D) (columns : List C) → map f seen ≡ columns
     → P (length seen) (reach_at (λ s lane. reach (f s) lane) seen) (length_at (λ s force. len (f s) force) seen)
     ≡ P (length columns) (reach_at reach columns) (length_at len columns)

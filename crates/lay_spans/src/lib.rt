@@ -17,4 +17,4 @@ pub use breaks::break_of;
 pub use costs::{SpanCosts, costs_of};
 pub use forces::badness;
 pub use seen::Seen;
-pub use spans::{places_of, spans_of};
+pub use spans::{columns_in, places_of, spans_of};

@@ -22,7 +22,12 @@ pub(crate) fn count_columns<C>(measures: &[Row<C>]) -> usize
 }
 
 /// The columns of measure `m` in a system that begins at bar `a`.
-fn measure<'a, C>(starts: &'a [Row<C>], others: &'a [Row<C>], a: usize, m: usize) -> &'a [C]
+pub(crate) fn measure<'a, C>(
+    starts: &'a [Row<C>],
+    others: &'a [Row<C>],
+    a: usize,
+    m: usize,
+) -> &'a [C]
     requires past { a ≤ m }
     requires inside { m < length starts.now }
     requires same { length others.now ≡ length starts.now }
@@ -36,7 +41,7 @@ fn measure<'a, C>(starts: &'a [Row<C>], others: &'a [Row<C>], a: usize, m: usize
 }
 
 /// Adds columns to those that are seen.
-fn see<'a, C>(seen: &mut Row<Seen<'a, C>>, columns: &'a [C]) -> Result<(), Memory>
+pub(crate) fn see<'a, C>(seen: &mut Row<Seen<'a, C>>, columns: &'a [C]) -> Result<(), Memory>
     ensures { OnOk result (map (λ s. s.column.now) seen.new ≡ map (λ s. s.column.now) seen.old ++ columns.now) }
 {
     for column in columns {

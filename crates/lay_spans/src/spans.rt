@@ -1,11 +1,12 @@
-ghost use Rattle.std.specs.Prelude.{◌≡◌, ◌+◌, ◌<◌, ◌≤◌, ◌^◌, ℕ, IfOk, length, slice_index};
+ghost use Rattle.std.specs.Prelude.{◌≡◌, ◌+◌, ◌<◌, ◌≤◌, ◌^◌, ℕ, IfOk, length, map, slice_index};
 ghost use Rattle.lay_breaks.specs.Spans.{AreSpans};
-ghost use Rattle.lay_spans.specs.Columns.{AreMeasures, column_count};
+ghost use Rattle.lay_spans.specs.Columns.{AreMeasures, column_count, span_columns};
 ghost use Rattle.lay_spans.specs.Forced.{is_forced};
 ghost use Rattle.lay_spans.specs.SpanList.{IsSpanList};
 
 use crate::marks::marks_of;
-use crate::rows::{count_columns, list_rows, rows_of};
+use crate::rows::{count_columns, list_rows, measure, rows_of, see};
+use crate::seen::Seen;
 use lay_breaks::Span;
 use lay_springs::{Spaced, Spring};
 use mus_units::{Memory, Row};
@@ -62,4 +63,24 @@ pub fn spans_of<C: Spaced + Spring>(
         scratch,
     )?;
     list_rows(alloc, rows.as_slice())
+}
+
+/// The columns of the span from bar `a` to bar `b`, as `spans_of` has it, in order.
+pub fn columns_in<'a, C>(
+    alloc: Global,
+    starts: &'a [Row<C>],
+    others: &'a [Row<C>],
+    a: usize,
+    b: usize,
+) -> Result<Row<Seen<'a, C>>, Memory>
+    requires order { a < b }
+    requires within { b ≤ length starts.now }
+    requires same { length others.now ≡ length starts.now }
+    ensures { IfOk result (λ seen. map (λ s. s.column.now) seen ≡ span_columns starts.now others.now a b) }
+{
+    let mut seen = Row::new(alloc);
+    for m in a..b {
+        see(&mut seen, measure(starts, others, a, m))?;
+    }
+    Ok(seen)
 }

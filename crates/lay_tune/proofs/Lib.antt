@@ -1,4 +1,6 @@
+pub mod Called
 pub mod Joins
 pub mod Open
+pub mod RisingKeys
 pub mod Rows
 pub mod Within

@@ -1,12 +1,11 @@
 -- Columns that stand apart rise from 0, and those of a system end within the width.
-use Rattle.std.proofs.Common.{◌≡◌, ◌∙◌, sym, ap, subst, refl, inl, inr, ℕ, zero, suc, ◌+◌, ◌-◌, ◌*◌, ◌/◌, ◌<◌, ◌≤◌, ◌==◌, ◌^◌, ℤ, pos, ◌+ℤ◌, ◌≤ℤ◌, Bool, true, false, List, length, Option, Some, arith}
+use Rattle.std.proofs.Common.{◌≡◌, ◌∙◌, sym, ap, subst, refl, inl, inr, ℕ, zero, suc, ◌+◌, ◌-◌, ◌*◌, ◌/◌, ◌<◌, ◌≤◌, ◌==◌, ◌^◌, ℤ, pos, ◌+ℤ◌, ◌≤ℤ◌, Bool, true, false, List, length, map, Option, Some, Result, Ok, Err, IfOk, arith}
 use Rattle.std.proofs.lemmas.Bool.{cases_lt}
 use Rattle.std.proofs.lemmas.Bool.Decides.{nat_tests}
 use Rattle.std.proofs.lemmas.Int.{ints}
 use Rattle.std.proofs.lemmas.List.{length-map}
 use Rattle.mus_score.specs.declared.score.Score.{Score}
 use Rattle.mus_time.specs.declared.keys.ColumnKey.{ColumnKey}
-use Rattle.mus_time.specs.declared.times.Timeline.{Timeline}
 use Rattle.mus_time.specs.Keys.{called_keys}
 use Rattle.mus_time.specs.Onsets.{timeline_of}
 use Rattle.mus_laid.specs.declared.laid.StaffMarks.{StaffMarks}
@@ -14,7 +13,7 @@ use Rattle.mus_laid.specs.declared.laid.SystemMarks.{SystemMarks}
 use Rattle.mus_marks.specs.Tilt.{AreAbscissas}
 use Rattle.lay_springs.specs.declared.traits.Reach.{Reach}
 use Rattle.lay_springs.specs.declared.margin.Placed.{Placed}
-use Rattle.lay_springs.specs.Fit.{Fits, IsSet, counted}
+use Rattle.lay_springs.specs.Fit.{Fits, IsSet, counted, is_ragged}
 use Rattle.lay_springs.specs.Place.{IsPlace, StandApart, length_at, reach_at}
 use Rattle.lay_springs.proofs.Ends.{apart_down, length_rises as lengths_rise}
 use Rattle.lay_columns.specs.declared.column.Column.{Column}
@@ -22,8 +21,11 @@ use Rattle.lay_columns.specs.Column.{length_rises}
 use Rattle.lay_columns.specs.Columns.{column_reach, columns_of}
 use Rattle.lay_columns.proofs.Facts.{columns_keys}
 use Rattle.lay_measures.proofs.KeyLaws.{same_keys}
-use Rattle.lay_tune.specs.Spans.{IsSystem, column_length, score_gaps, system_columns, verses_of}
+use Rattle.lay_spans.specs.Columns.{span_columns}
+use Rattle.lay_spans.proofs.Fitting.{seen_as}
+use Rattle.lay_tune.specs.Spans.{AreColumnsOf, IsForceOf, IsSystem, column_length, score_gaps, system_columns, verses_of}
 use Rattle.lay_tune.specs.Systems.{IsJustified, IsPlaced, StandWithin, x_at}
+use Rattle.lay_tune.proofs.Called.{has_system}
 
 -- the last of n columns stands within the width, and reaches no further
 pub record EndsWithin (n : ℕ) (reach : ℕ → ℕ → Option Reach) (gaps : List ℕ) (width : ℕ) (at : List ℤ) : Type 0 where
@@ -127,6 +129,21 @@ justified_count gaps width last columns p h = by p.ragged refl
     by true is = (h.loose is).count
     by false is = (h.set is).count
 
+-- ---- columns that stand elsewhere
+pub justified_seen : {D E : Type 0} (f : D → Column) (gaps : List ℕ) (width : ℕ) (last : Bool) (seen : List D) (force : ℕ) (r : Result Placed E)
+    → IsForceOf gaps width (map f seen) force → IfOk r (λ p. p.ragged ≡ is_ragged last force) → IfOk r (λ p. p.force ≡ counted last force)
+    → IfOk r (λ p. p.ragged ≡ true → IsPlace (length seen) (reach_at (λ s lane. column_reach (f s) lane) seen) gaps (length_at (λ s force. column_length (f s) force) seen p.force) p.at)
+    → IfOk r (λ p. p.ragged ≡ false → IsSet (length seen) (reach_at (λ s lane. column_reach (f s) lane) seen) gaps (length_at (λ s force. column_length (f s) force) seen) width p.force p.at)
+    → IfOk r (λ p. StandApart (length seen) (reach_at (λ s lane. column_reach (f s) lane) seen) gaps (length_at (λ s force. column_length (f s) force) seen p.force) p.at)
+    → IfOk r (IsJustified gaps width last (map f seen))
+justified_seen f gaps width last seen force (Err e) pressed ragged counted loose set apart = tt
+justified_seen f gaps width last seen force (Ok p) pressed ragged counted loose set apart = record {
+  pressed = (force, pressed, counted, ragged);
+  loose = λ is. subst (λ T. T) (seen_as f column_reach column_length (λ n r l. IsPlace n r gaps (l p.force) p.at) seen (map f seen) refl) (loose is);
+  set = λ is. subst (λ T. T) (seen_as f column_reach column_length (λ n r l. IsSet n r gaps l width p.force p.at) seen (map f seen) refl) (set is);
+  apart = subst (λ T. T) (seen_as f column_reach column_length (λ n r l. StandApart n r gaps (l p.force) p.at) seen (map f seen) refl) apart;
+}
+
 -- ---- the columns of a system
 pub columns_count : (keys : List ColumnKey) (staves : List StaffMarks) (lengths verses : List ℕ) → length (columns_of keys staves lengths verses) ≡ length keys
 columns_count keys staves lengths verses =
@@ -135,15 +152,19 @@ columns_count keys staves lengths verses =
 pub system_count : (s : Score) (m : SystemMarks) → length (system_columns s m) ≡ length m.keys
 system_count s m = columns_count m.keys m.staves (timeline_of s).lengths (verses_of s.voices)
 
--- they are placed where columns that were read off them are justified
-pub placed_read : (s : Score) (t : Timeline) (width b : ℕ) (m : SystemMarks) (p : Placed) (gaps verses : List ℕ) (columns read : List Column)
-    → t ≡ timeline_of s → verses ≡ verses_of s.voices → gaps ≡ score_gaps s → m.b ≡ b → columns ≡ columns_of m.keys m.staves t.lengths verses → read ≡ columns
-    → IsJustified gaps width (b == s.measures) read p → IsPlaced s width m p
-placed_read s t width b m p gaps verses columns read times is are to value same h =
+-- those of the measures of a span are those of its system
+pub called_columns : (s : Score) (a b : ℕ) (starts others : List (List Column)) (columns : List Column) → AreColumnsOf s starts others → a < b → b ≤ s.measures
+    → columns ≡ span_columns starts others a b → system_columns s (has_system s a b).0 ≡ columns
+called_columns s a b starts others columns join less within e = join a b (has_system s a b).0 less within (has_system s a b).1 ∙ sym e
+
+-- which are placed where these are justified
+pub called_placed : (s : Score) (width a b : ℕ) (gaps : List ℕ) (columns : List Column) (p : Placed) → gaps ≡ score_gaps s
+    → system_columns s (has_system s a b).0 ≡ columns → IsJustified gaps width (b == s.measures) columns p → IsPlaced s width (has_system s a b).0 p
+called_placed s width a b gaps columns p are same h =
+    let m = (has_system s a b).0 in
     subst (λ gs. IsJustified gs width (m.b == s.measures) (system_columns s m) p) are
-    (subst (λ b. IsJustified gaps width (b == s.measures) (system_columns s m) p) (sym to)
-    (subst (λ cs. IsJustified gaps width (b == s.measures) cs p)
-    (same ∙ value ∙ ap (λ (t : Timeline). columns_of m.keys m.staves t.lengths verses) times ∙ ap (λ vs. columns_of m.keys m.staves (timeline_of s).lengths vs) is) h))
+    (subst (λ b. IsJustified gaps width (b == s.measures) (system_columns s m) p) (sym (has_system s a b).1.to)
+    (subst (λ cs. IsJustified gaps width (b == s.measures) cs p) (sym same) h))
 
 -- they stand within the width wherever they are placed
 pub placed_stand : (s : Score) (width : ℕ) (m : SystemMarks) (p : Placed) → IsPlaced s width m p → StandWithin width (length m.keys) p.at

@@ -4,15 +4,16 @@ ghost use Rattle.mus_time.specs.Onsets.{timeline_of};
 ghost use Rattle.mus_drawn.specs.Drawn.{drawn_voice};
 ghost use Rattle.mus_drawn.specs.Good.{AreGoodMeasures};
 ghost use Rattle.mus_laid.specs.Boxes.{AreGoodMarks};
-ghost use Rattle.lay_tune.specs.Spans.{score_gaps, verses_of};
+ghost use Rattle.lay_tune.specs.Spans.{AreColumnsOf, score_gaps};
 ghost use Rattle.lay_tune.specs.Systems.{AllSpans, Beside, CanBeSet, EachSpan, HaveForce, IsJustified, IsSetSystem, IsStack};
 
-use lay_columns::{Column, columns};
+use lay_columns::Column;
 use lay_pages::{Heights, stack};
+use lay_spans::{Seen, columns_in};
 use lay_springs::{Placed, fit, justify};
 use mus_drawn::DrawnVoice;
 use mus_laid::SystemMarks;
-use mus_marks::{marks_of, tilt_of};
+use mus_marks::tilt_of;
 use mus_score::Score;
 use mus_time::Timeline;
 use mus_units::{Memory, Row};
@@ -21,7 +22,7 @@ use std::alloc::Global;
 /// The columns pressed with their greatest force, and set to the width.
 fn press(
     alloc: Global,
-    columns: &[Column],
+    columns: &[Seen<Column>],
     gaps: &[u32],
     width: u32,
     last: bool,
@@ -29,9 +30,9 @@ fn press(
 ) -> Result<Placed, Memory>
     requires lanes { length gaps.now < 2 ^ 32 }
     requires narrow { (lane : ℕ) → lane < length gaps.now → slice_index gaps.now lane ≤ 2 ^ 20 }
-    requires fits { HaveForce gaps.now width columns.now }
+    requires fits { HaveForce gaps.now width (map (λ s. s.column.now) columns.now) }
     requires room { length columns.now + length gaps.now ≤ length scratch.old }
-    ensures { IfOk result (IsJustified gaps.now width last columns.now) }
+    ensures { IfOk result (IsJustified gaps.now width last (map (λ s. s.column.now) columns.now)) }
 {
     let Some(force) = fit(columns, gaps, width, scratch) else {
         unreachable!();
@@ -47,13 +48,15 @@ struct SetSystem {
     heights: Heights,
 }
 
-/// The system of measures `a` to `b` - 1; the voices are left as they were.
+/// The system of measures `a` to `b` - 1, by the columns of each measure; the voices are left as
+/// they were.
 fn set_system(
     alloc: Global,
     s: &Score,
     voices: &mut [DrawnVoice],
     t: &Timeline,
-    verses: &[u8],
+    starts: &[Row<Column>],
+    others: &[Row<Column>],
     gaps: &[u32],
     width: u32,
     a: u32,
@@ -64,7 +67,9 @@ fn set_system(
     requires times { t.now ≡ timeline_of s.now }
     requires voices { voices.old ≡ map drawn_voice s.now.voices }
     requires drawn { All (λ v. AreGoodMeasures v.measures) voices.old }
-    requires verses { verses.now ≡ verses_of s.now.voices }
+    requires count { length starts.now ≡ s.now.measures }
+    requires same { length others.now ≡ length starts.now }
+    requires columns { AreColumnsOf s.now starts.now others.now }
     requires gaps { gaps.now ≡ score_gaps s.now }
     requires lanes { length gaps.now < 2 ^ 32 }
     requires narrow { (lane : ℕ) → lane < length gaps.now → slice_index gaps.now lane ≤ 2 ^ 20 }
@@ -74,8 +79,7 @@ fn set_system(
     ensures heights { IfOk result (λ set. IsStack set.marks set.heights) }
     ensures good { IfOk result (λ set. All (λ staff. AreGoodMarks staff.marks) set.marks.staves) }
 {
-    let flat = marks_of(alloc, s, voices, t, a, b)?;
-    let columns = columns(alloc, &flat, t, verses)?;
+    let columns = columns_in(alloc, starts, others, a as usize, b as usize)?;
     let placed = press(
         alloc,
         columns.as_slice(),
@@ -102,13 +106,14 @@ pub(crate) struct Systems {
     pub(crate) heights: Row<Heights>,
 }
 
-/// The systems of the breaking that ends its spans at `breaks`.
+/// The systems of the breaking that ends its spans at `breaks`, by the columns of each measure.
 pub(crate) fn set_systems(
     alloc: Global,
     s: &Score,
     voices: &mut [DrawnVoice],
     t: &Timeline,
-    verses: &[u8],
+    starts: &[Row<Column>],
+    others: &[Row<Column>],
     gaps: &[u32],
     width: u32,
     breaks: &[u32],
@@ -118,7 +123,9 @@ pub(crate) fn set_systems(
     requires times { t.now ≡ timeline_of s.now }
     requires voices { voices.old ≡ map drawn_voice s.now.voices }
     requires drawn { All (λ v. AreGoodMeasures v.measures) voices.old }
-    requires verses { verses.now ≡ verses_of s.now.voices }
+    requires count { length starts.now ≡ s.now.measures }
+    requires same { length others.now ≡ length starts.now }
+    requires columns { AreColumnsOf s.now starts.now others.now }
     requires gaps { gaps.now ≡ score_gaps s.now }
     requires lanes { length gaps.now < 2 ^ 32 }
     requires narrow { (lane : ℕ) → lane < length gaps.now → slice_index gaps.now lane ≤ 2 ^ 20 }
@@ -132,7 +139,9 @@ pub(crate) fn set_systems(
     let mut heights = Row::new(alloc);
     let mut a = 0;
     for b in breaks {
-        let set = set_system(alloc, s, voices, t, verses, gaps, width, a, *b, scratch)?;
+        let set = set_system(
+            alloc, s, voices, t, starts, others, gaps, width, a, *b, scratch,
+        )?;
         marks.push(set.marks)?;
         placed.push(set.placed)?;
         heights.push(set.heights)?;

@@ -13,7 +13,7 @@ use Rattle.lay_tune.specs.Spans.{is_forced_in}
 use Rattle.lay_tune.specs.Systems.{Beside, EachSpan, IsPlaced, IsSetSystem, IsStack}
 use Rattle.set_tune.specs.declared.tune.SetTune.{SetTune}
 use Rattle.set_tune.specs.Setting.{IsLaidOut}
-use Rattle.set_book.proofs.Called.{one_system, one_tilted}
+use Rattle.lay_tune.proofs.Called.{one_system, one_tilted}
 use Rattle.set_book.proofs.Chosen.{IsBreaking, one_breaking}
 use Rattle.set_book.proofs.Justified.{one_placed}
 use Rattle.set_book.proofs.Spanned.{one_list}

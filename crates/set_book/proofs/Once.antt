@@ -25,7 +25,7 @@ use Rattle.set_tune.specs.Setting.{HasHeader, HasScore, IsLaidTune, IsSetTune, l
 use Rattle.set_book.specs.declared.outcome.Outcome.{Outcome}
 use Rattle.set_book.specs.Outcomes.{IsResult, IsOutcome, AreOutcomes}
 use Rattle.set_book.specs.Once.{HaveOneOutcome, IsOneSystem}
-use Rattle.set_book.proofs.Called.{has_system, one_system}
+use Rattle.lay_tune.proofs.Called.{has_system, one_system}
 use Rattle.set_book.proofs.Scores.{one_header, one_score, one_score_fault, no_score_fault}
 use Rattle.set_book.proofs.Layouts.{one_layout}
 use Rattle.set_book.proofs.Faults.{one_way, no_way_laid}

@@ -13,7 +13,7 @@ use Rattle.lay_breaks.specs.declared.costs.Span.{Span}
 use Rattle.lay_breaks.specs.Spans.{AreSpans, IsNext, SpansFrom, ends_are, has_ends, has_these, listed}
 use Rattle.lay_spans.specs.Badness.{badness_of}
 use Rattle.lay_tune.specs.Spans.{AreSpansOf, CanStandIn, IsForceOf, IsSpanCost, column_length, score_gaps, system_columns}
-use Rattle.set_book.proofs.Called.{has_system}
+use Rattle.lay_tune.proofs.Called.{has_system}
 
 -- ---- the force of columns
 -- a weaker force is not the greatest at which they can stand

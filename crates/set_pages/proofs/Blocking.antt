@@ -24,7 +24,7 @@ use Rattle.set_tune.proofs.Laid.{heard}
 use Rattle.set_book.specs.declared.outcome.Outcome.{Outcome}
 use Rattle.set_staves.specs.Drawn.{IsBase, IsOnPage, IsTop}
 use Rattle.set_staves.specs.Marks.{RisesAlong}
-use Rattle.lay_apart.specs.Apart.{StandWithin}
+use Rattle.lay_tune.specs.Systems.{StandWithin}
 use Rattle.set_pages.specs.Clear.{IsClear, IsClearContent}
 use Rattle.set_pages.specs.Drawings.{Drawing, all_blocks, all_drawings, drawing, drawings_from, outcome_blocks, outcome_drawings, result_blocks, result_drawings, system, system_contents, title, title_contents}
 use Rattle.set_pages.specs.Ready.{IsReadyOn, IsReadyRow}

@@ -10,7 +10,7 @@ use Rattle.mus_marks.specs.System.{staff_of}
 use Rattle.mus_marks.specs.Tilt.{IsTilted, tilted_staff_of}
 use Rattle.lay_tune.specs.Spans.{IsSystem}
 use Rattle.lay_measures.proofs.KeyLaws.{same_keys}
-use Rattle.set_book.proofs.RisingKeys.{have_keys}
+use Rattle.lay_tune.proofs.RisingKeys.{have_keys}
 
 abbrev marks_of : ℕ → ℕ → List ColumnKey → List StaffMarks → SystemMarks
 marks_of a b keys staves = record { a = a; b = b; keys = keys; staves = staves }
