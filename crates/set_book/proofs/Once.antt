@@ -1,6 +1,10 @@
 -- A tune has one outcome.
-use Rattle.std.proofs.Common.{◌≡◌, ◌∙◌, refl, sym, ap, subst, ℕ, List, [], ◌∷◌, Bool, Option, Some, None, Result, Ok, Err, inl, inr}
+use Rattle.std.proofs.Common.{◌≡◌, ◌∙◌, refl, sym, ap, subst, ℕ, zero, suc, ℤ, pos, negsuc, List, [], ◌∷◌, Bool, Option, Some, None, Result, Ok, Err, inl, inr}
+use Rattle.std.specs.Prelude.{MatchOption}
+use Rattle.std.proofs.lemmas.Option.{same_Some}
 use Rattle.abc_lines.specs.declared.book.TuneText.{TuneText}
+use Rattle.mus_units.specs.declared.key.Key.{Key}
+use Rattle.mus_transpose.specs.CanMove.{CanMove, IsMoved, moved_score}
 use Rattle.abc_lines.specs.declared.fault.Fault.{Fault}
 use Rattle.abc_lines.specs.declared.fault.FaultKind.TheVariants as faults
 use Rattle.abc_lines.specs.declared.fault.TuneError.TheVariants as errors
@@ -19,9 +23,10 @@ use Rattle.mus_laid.specs.declared.laid.SystemMarks.{SystemMarks}
 use Rattle.lay_pages.specs.Filling.{first_tall}
 use Rattle.lay_pages.specs.Titles.{title_block_of}
 use Rattle.lay_tune.specs.Layout.{IsNoWay}
+use Rattle.set_tune.specs.declared.how.How.{How}
 use Rattle.set_tune.specs.declared.tune.SetTune.{SetTune}
 use Rattle.set_tune.specs.Blocks.{blocks_of}
-use Rattle.set_tune.specs.Setting.{HasHeader, HasScore, IsLaidTune, IsSetTune, layout_fault, IsFaultOfTune, IsScoreRefusal, of_header, of_score, no_way, too_tall}
+use Rattle.set_tune.specs.Setting.{CantMove, HasHeader, HasScore, IsLaidTune, IsSetTune, IsWritten, layout_fault, IsFaultOfTune, IsScoreRefusal, of_header, of_score, of_move, no_way, too_tall}
 use Rattle.set_book.specs.declared.outcome.Outcome.{Outcome}
 use Rattle.set_book.specs.Outcomes.{IsResult, IsOutcome, AreOutcomes}
 use Rattle.set_book.specs.Once.{HaveOneOutcome, IsOneSystem}
@@ -35,10 +40,33 @@ use Rattle.set_book.proofs.Faults.{one_way, no_way_laid}
 one_read : (tune : TuneText) (defaults : Defaults) (h k : Header) → HasHeader tune defaults h → HasHeader tune defaults k → h ≡ k
 one_read tune defaults h k a b = one_header tune defaults h k a.value b.value
 
-one_music : (tune : TuneText) (defaults : Defaults) (how : How) (h k : Header) (s t : Score) → HasScore tune defaults how h s → HasScore tune defaults how k t → s ≡ t
-one_music tune defaults how h k s t a b =
+one_written : (tune : TuneText) (defaults : Defaults) (flow : Bool) (h k : Header) (s t : Score) → IsWritten tune defaults flow h s → IsWritten tune defaults flow k t → s ≡ t
+one_written tune defaults flow h k s t a b =
     let same = one_read tune defaults k h b.read a.read in
-    one_score h tune how s t a.value (subst (λ x. IsScoreOf x tune how t) same b.value)
+    one_score h tune flow s t a.value (subst (λ x. IsScoreOf x tune flow t) same b.value)
+
+-- a score is moved in one way, or it can't be moved
+one_of : (can : Type 0) (m : Score) (r q : Option Score) → MatchOption r (can → ⊥) (λ t. can × (t ≡ m)) → MatchOption q (can → ⊥) (λ t. can × (t ≡ m)) → r ≡ q
+one_of can m None None a b = refl
+one_of can m None (Some u) a b = absurd (a b.0)
+one_of can m (Some t) None a b = absurd (b a.0)
+one_of can m (Some t) (Some u) a b = ap Some (a.1 ∙ sym b.1)
+
+moved_once : (w : Score) (key : Key) (by : ℤ) (r q : Option Score) → IsMoved w key by r → IsMoved w key by q → r ≡ q
+moved_once w key (pos zero) r q a b = a.same refl ∙ sym (b.same refl)
+moved_once w key (pos (suc n)) r q a b = one_of (CanMove w key (pos (suc n))) (moved_score w key (pos (suc n))) r q (a.higher (λ e. cc)) (b.higher (λ e. cc))
+moved_once w key (negsuc n) r q a b = one_of (CanMove w key (negsuc n)) (moved_score w key (negsuc n)) r q (a.higher (λ e. cc)) (b.higher (λ e. cc))
+
+-- what comes of moving the written score is one
+moved_alike : (tune : TuneText) (defaults : Defaults) (how : How) (h k : Header) (w v : Score) (r q : Option Score) → IsWritten tune defaults how.flow h w → IsWritten tune defaults how.flow k v
+    → IsMoved w h.key how.by r → IsMoved v k.key how.by q → r ≡ q
+moved_alike tune defaults how h k w v r q a b moved other =
+    let header = one_read tune defaults k h b.read a.read in
+    let written = one_written tune defaults how.flow k h v w b a in
+    moved_once w h.key how.by r q moved (subst (λ x. IsMoved x h.key how.by q) written (subst (λ x. IsMoved v x.key how.by q) header other))
+
+one_music : (tune : TuneText) (defaults : Defaults) (how : How) (h k : Header) (s t : Score) → HasScore tune defaults how h s → HasScore tune defaults how k t → s ≡ t
+one_music tune defaults how h k s t a b = same_Some s t (moved_alike tune defaults how h k a.written b.written (Some s) (Some t) a.is b.is a.moved b.moved)
 
 abbrev tune_of : Header → Score → TitleBlock → List Span → Breaking → List SystemMarks → List Placed → List Heights → SetTune
 tune_of header score title spans breaking systems placed heights = record {
@@ -59,7 +87,7 @@ same_parts t u header score title spans breaking systems placed heights =
 
 laid_once : (tune : TuneText) (defaults : Defaults) (paper : Paper) (how : How) (t u : SetTune) → IsLaidTune tune defaults paper how t → IsLaidTune tune defaults paper how u → t ≡ u
 laid_once tune defaults paper how t u a b =
-    let header = one_read tune defaults t.header u.header a.score.read b.score.read in
+    let header = one_read tune defaults t.header u.header a.score.is.read b.score.is.read in
     let score = one_music tune defaults how t.header u.header t.score u.score a.score b.score in
     let title : t.title ≡ u.title = a.title ∙ ap (λ (h : Header). title_block_of (width_of paper) h.titles h.composers h.tempo) header ∙ sym b.title in
     let parts = one_layout (width_of paper) t u score a.score.good a.layout b.layout in
@@ -76,10 +104,15 @@ clear_header : (o : Option Fault) (f : Fault) → o ≡ None → o ≡ Some f �
 clear_header o f e d = let clash = sym e ∙ d in cc
 
 -- what has a score has no fault of its score
-scored : (tune : TuneText) (defaults : Defaults) (how : How) (h k : Header) (s : Score) (f : Fault) → HasScore tune defaults how h s → HasHeader tune defaults k → IsFaultOf k tune (errors.Fault f) → ⊥
-scored tune defaults how h k s f a b fault =
+scored : (tune : TuneText) (defaults : Defaults) (flow : Bool) (h k : Header) (s : Score) (f : Fault) → IsWritten tune defaults flow h s → HasHeader tune defaults k → IsFaultOf k tune (errors.Fault f) → ⊥
+scored tune defaults flow h k s f a b fault =
     let same = one_read tune defaults k h b a.read in
-    no_score_fault h tune how s f a.value (subst (λ x. IsFaultOf x tune (errors.Fault f)) same fault)
+    no_score_fault h tune flow s f a.value (subst (λ x. IsFaultOf x tune (errors.Fault f)) same fault)
+
+-- what is moved can be moved
+cant_have : (tune : TuneText) (defaults : Defaults) (how : How) (h : Header) (s : Score) → CantMove tune defaults how → HasScore tune defaults how h s → ⊥
+cant_have tune defaults how h s a b =
+    let clash = moved_alike tune defaults how a.header h a.written b.written None (Some s) a.is b.is a.moved b.moved in cc
 
 -- what is laid out has a way
 laid_way : (tune : TuneText) (defaults : Defaults) (paper : Paper) (how : How) (t : SetTune) (h : Header) (s : Score) (reached : ℕ) (spans : List Span) → IsLaidTune tune defaults paper how t → HasScore tune defaults how h s →
@@ -109,25 +142,35 @@ two_tall tune defaults paper how t u i j a b x y =
 pub fault_once : (tune : TuneText) (defaults : Defaults) (paper : Paper) (how : How) (f g : Fault) → IsFaultOfTune tune defaults paper how f → IsFaultOfTune tune defaults paper how g → f ≡ g
 fault_once tune defaults paper how _ _ (of_header f e) (of_header g d) = let both = sym e ∙ d in cc
 fault_once tune defaults paper how _ _ (of_header f e) (of_score k g read fault) = absurd (clear_header _ f read.clear e)
-fault_once tune defaults paper how _ _ (of_header f e) (no_way k s j ys has way) = absurd (clear_header _ f has.read.clear e)
-fault_once tune defaults paper how _ _ (of_header f e) (too_tall u j laid tall) = absurd (clear_header _ f laid.score.read.clear e)
+fault_once tune defaults paper how _ _ (of_header f e) (of_move c) = absurd (clear_header _ f c.is.read.clear e)
+fault_once tune defaults paper how _ _ (of_header f e) (no_way k s j ys has way) = absurd (clear_header _ f has.is.read.clear e)
+fault_once tune defaults paper how _ _ (of_header f e) (too_tall u j laid tall) = absurd (clear_header _ f laid.score.is.read.clear e)
 fault_once tune defaults paper how _ _ (of_score h f read fault) (of_header g d) = absurd (clear_header _ g read.clear d)
 fault_once tune defaults paper how _ _ (of_score h f read fault) (of_score k g other more) = two_scores tune defaults h k f g read other fault more
-fault_once tune defaults paper how _ _ (of_score h f read fault) (no_way k s j ys has way) = absurd (scored tune defaults how k h s f has read fault)
-fault_once tune defaults paper how _ _ (of_score h f read fault) (too_tall u j laid tall) = absurd (scored tune defaults how u.header h u.score f laid.score read fault)
-fault_once tune defaults paper how _ _ (no_way h s i xs has way) (of_header g d) = absurd (clear_header _ g has.read.clear d)
-fault_once tune defaults paper how _ _ (no_way h s i xs has way) (of_score k g read fault) = absurd (scored tune defaults how h k s g has read fault)
+fault_once tune defaults paper how _ _ (of_score h f read fault) (of_move c) = absurd (scored tune defaults how.flow c.header h c.written f c.is read fault)
+fault_once tune defaults paper how _ _ (of_score h f read fault) (no_way k s j ys has way) = absurd (scored tune defaults how.flow k h has.written f has.is read fault)
+fault_once tune defaults paper how _ _ (of_score h f read fault) (too_tall u j laid tall) = absurd (scored tune defaults how.flow u.header h laid.score.written f laid.score.is read fault)
+fault_once tune defaults paper how _ _ (of_move c) (of_header g d) = absurd (clear_header _ g c.is.read.clear d)
+fault_once tune defaults paper how _ _ (of_move c) (of_score k g read fault) = absurd (scored tune defaults how.flow c.header k c.written g c.is read fault)
+fault_once tune defaults paper how _ _ (of_move c) (of_move d) = refl
+fault_once tune defaults paper how _ _ (of_move c) (no_way k s j ys has way) = absurd (cant_have tune defaults how k s c has)
+fault_once tune defaults paper how _ _ (of_move c) (too_tall u j laid tall) = absurd (cant_have tune defaults how u.header u.score c laid.score)
+fault_once tune defaults paper how _ _ (no_way h s i xs has way) (of_header g d) = absurd (clear_header _ g has.is.read.clear d)
+fault_once tune defaults paper how _ _ (no_way h s i xs has way) (of_score k g read fault) = absurd (scored tune defaults how.flow h k has.written g has.is read fault)
+fault_once tune defaults paper how _ _ (no_way h s i xs has way) (of_move c) = absurd (cant_have tune defaults how h s c has)
 fault_once tune defaults paper how _ _ (no_way h s i xs has way) (no_way k t j ys other more) = ap (λ n. layout_fault tune (faults.NoWay n)) (two_ways tune defaults paper how h k s t i j xs ys has other way more)
 fault_once tune defaults paper how _ _ (no_way h s i xs has way) (too_tall u j laid tall) = absurd (laid_way tune defaults paper how u h s i xs laid has way)
-fault_once tune defaults paper how _ _ (too_tall t i laid tall) (of_header g d) = absurd (clear_header _ g laid.score.read.clear d)
-fault_once tune defaults paper how _ _ (too_tall t i laid tall) (of_score k g read fault) = absurd (scored tune defaults how t.header k t.score g laid.score read fault)
+fault_once tune defaults paper how _ _ (too_tall t i laid tall) (of_header g d) = absurd (clear_header _ g laid.score.is.read.clear d)
+fault_once tune defaults paper how _ _ (too_tall t i laid tall) (of_score k g read fault) = absurd (scored tune defaults how.flow t.header k laid.score.written g laid.score.is read fault)
+fault_once tune defaults paper how _ _ (too_tall t i laid tall) (of_move c) = absurd (cant_have tune defaults how t.header t.score c laid.score)
 fault_once tune defaults paper how _ _ (too_tall t i laid tall) (no_way k s j ys has way) = absurd (laid_way tune defaults paper how t k s j ys laid has way)
 fault_once tune defaults paper how _ _ (too_tall t i laid tall) (too_tall u j other more) = ap (λ n. layout_fault tune (faults.TooTall n)) (two_tall tune defaults paper how t u i j laid other tall more)
 
 -- no tune that is set has a fault
 pub never_both : (tune : TuneText) (defaults : Defaults) (paper : Paper) (how : How) (t : SetTune) (f : Fault) → IsSetTune tune defaults paper how t → IsFaultOfTune tune defaults paper how f → ⊥
-never_both tune defaults paper how t _ a (of_header f e) = clear_header _ f a.laid.score.read.clear e
-never_both tune defaults paper how t _ a (of_score h f read fault) = scored tune defaults how t.header h t.score f a.laid.score read fault
+never_both tune defaults paper how t _ a (of_header f e) = clear_header _ f a.laid.score.is.read.clear e
+never_both tune defaults paper how t _ a (of_score h f read fault) = scored tune defaults how.flow t.header h a.laid.score.written f a.laid.score.is read fault
+never_both tune defaults paper how t _ a (of_move c) = cant_have tune defaults how t.header t.score c a.laid.score
 never_both tune defaults paper how t _ a (no_way h s reached spans has way) = laid_way tune defaults paper how t h s reached spans a.laid has way
 never_both tune defaults paper how t _ a (too_tall u block laid tall) =
     let same = laid_once tune defaults paper how t u a.laid laid in
@@ -166,8 +209,8 @@ outcomes_once defaults paper how (tune ∷ tunes) (o ∷ os) (p ∷ ps) a b =
 
 -- a tune that has a score has no fault up to its score
 no_refusal : (tune : TuneText) (defaults : Defaults) (how : How) (h : Header) (s : Score) (f : Fault) → HasScore tune defaults how h s → IsScoreRefusal tune defaults (errors.Fault f) → ⊥
-no_refusal tune defaults how h s f a (inl of_head) = clear_header _ f a.read.clear of_head
-no_refusal tune defaults how h s f a (inr (k, read, fault)) = scored tune defaults how h k s f a read fault
+no_refusal tune defaults how h s f a (inl of_head) = clear_header _ f a.is.read.clear of_head
+no_refusal tune defaults how h s f a (inr (k, read, fault)) = scored tune defaults how.flow h k a.written f a.is read fault
 
 called_system : (s : Score) (a b : ℕ) → (m : SystemMarks) × IsOneSystem s a b m
 called_system s a b =

@@ -22,8 +22,8 @@ pub one_header : (tune : TuneText) (defaults : Defaults) (h k : Header) → IsHe
 unfolding IsHeaderOf
 one_header tune defaults h k a b = by_place tune defaults h k (key_place tune.lines) a b
 
-pub one_score : (header : Header) (tune : TuneText) (how : How) (s t : Score) → IsScoreOf header tune how s → IsScoreOf header tune how t → s ≡ t
-one_score header tune how s t a b = a.value ∙ ap (λ items. score_of header items how) (one_items header (body_lines header tune) a.items b.items a.body b.body) ∙ sym b.value
+pub one_score : (header : Header) (tune : TuneText) (flow : Bool) (s t : Score) → IsScoreOf header tune flow s → IsScoreOf header tune flow t → s ≡ t
+one_score header tune flow s t a b = a.value ∙ ap (λ items. score_of header items flow) (one_items header (body_lines header tune) a.items b.items a.body b.body) ∙ sym b.value
 
 one_of_items : (header : Header) (tune : TuneText) (f g : Fault) → HasScoreFault header tune f → HasScoreFault header tune g → f ≡ g
 one_of_items header tune f g a b =
@@ -37,8 +37,8 @@ one_score_fault header tune f g (inr a) (inl b) = absurd (no_body_fault header (
 one_score_fault header tune f g (inr a) (inr b) = one_of_items header tune f g a b
 
 -- what has a score has no fault
-pub no_score_fault : (header : Header) (tune : TuneText) (how : How) (s : Score) (f : Fault) → IsScoreOf header tune how s → IsFaultOf header tune (errors.Fault f) → ⊥
-no_score_fault header tune how s f a (inl b) = no_body_fault header (body_lines header tune) a.items f a.body b
-no_score_fault header tune how s f a (inr b) =
+pub no_score_fault : (header : Header) (tune : TuneText) (flow : Bool) (s : Score) (f : Fault) → IsScoreOf header tune flow s → IsFaultOf header tune (errors.Fault f) → ⊥
+no_score_fault header tune flow s f a (inl b) = no_body_fault header (body_lines header tune) a.items f a.body b
+no_score_fault header tune flow s f a (inr b) =
     let same = one_items header (body_lines header tune) a.items b.items a.body b.body in
     none_or_least (score_faults header b.items) f (subst (λ items. IsFirst (score_faults header items) None) same a.clear) b.first

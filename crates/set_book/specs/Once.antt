@@ -10,6 +10,7 @@ use Rattle.abc_header.specs.declared.paper.Paper.{Paper}
 use Rattle.mus_score.specs.declared.score.Score.{Score}
 use Rattle.mus_laid.specs.declared.laid.SystemMarks.{SystemMarks}
 use Rattle.lay_tune.specs.Spans.{IsSystem}
+use Rattle.set_tune.specs.declared.how.How.{How}
 use Rattle.set_tune.specs.declared.tune.SetTune.{SetTune}
 use Rattle.set_tune.specs.Setting.{HasScore, IsFaultOfTune, IsScoreRefusal, IsSetTune}
 use Rattle.set_book.specs.declared.outcome.Outcome.{Outcome}

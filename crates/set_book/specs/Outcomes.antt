@@ -5,11 +5,12 @@ use Rattle.abc_lines.specs.declared.book.TuneText.{TuneText}
 use Rattle.abc_lines.specs.declared.fault.Fault.{Fault}
 use Rattle.abc_header.specs.declared.defaults.Defaults.{Defaults}
 use Rattle.abc_header.specs.declared.paper.Paper.{Paper}
+use Rattle.set_tune.specs.declared.how.How.{How}
 use Rattle.set_tune.specs.declared.tune.SetTune.{SetTune}
 use Rattle.set_tune.specs.Setting.{IsFaultOfTune, IsSetTune}
 use Rattle.set_book.specs.declared.outcome.Outcome.{Outcome}
 
-abbrev pub IsResult : TuneText → Defaults → Paper → Bool → Result SetTune Fault → Type 0
+abbrev pub IsResult : TuneText → Defaults → Paper → How → Result SetTune Fault → Type 0
 IsResult tune defaults paper how (Ok t) = IsSetTune tune defaults paper how t
 IsResult tune defaults paper how (Err fault) = IsFaultOfTune tune defaults paper how fault
 
@@ -18,5 +19,5 @@ pub record IsOutcome (defaults : Defaults) (paper : Paper) (how : How) (tune : T
   pub ordinal : o.ordinal ≡ tune.ordinal
   pub result : IsResult tune defaults paper how o.result
 
-abbrev pub AreOutcomes : Defaults → Paper → Bool → List TuneText → List Outcome → Type 0
+abbrev pub AreOutcomes : Defaults → Paper → How → List TuneText → List Outcome → Type 0
 AreOutcomes defaults paper how tunes outcomes = AllZip (IsOutcome defaults paper how) tunes outcomes

@@ -4,6 +4,7 @@ ghost use Rattle.abc_header.specs.Defaults.{defaults_of};
 ghost use Rattle.abc_header.specs.Good.{IsGoodDefaults};
 ghost use Rattle.abc_header.specs.Papers.{IsGoodPaper};
 ghost use Rattle.set_book.specs.Once.{HaveOneOutcome};
+ghost use Rattle.set_tune.specs.How.{IsGoodHow};
 ghost use Rattle.set_book.specs.Outcomes.{AreOutcomes, IsOutcome};
 
 use crate::gate::Gate;
@@ -12,7 +13,7 @@ use abc_header::{Defaults, Paper, read_defaults};
 use abc_lines::{Book, TuneError, TuneText};
 use mus_units::{Memory, Row};
 use set_halves::{Work, work_all};
-use set_tune::set;
+use set_tune::{How, set_how};
 use std::alloc::Global;
 use std::thread::Threads;
 
@@ -22,18 +23,18 @@ struct Setting<'a, G> {
     alloc: Global,
     defaults: &'a Defaults,
     paper: &'a Paper,
-    flow: bool,
+    how: How,
     gate: &'a G,
 }
 
 impl<'a, G: Gate> Work<TuneText, Outcome> for Setting<'a, G> {
-    ghost takes = { λ s tune. IsGoodTune tune × IsGoodDefaults s.defaults.now × IsGoodPaper s.paper.now };
+    ghost takes = { λ s tune. IsGoodTune tune × IsGoodDefaults s.defaults.now × IsGoodPaper s.paper.now × IsGoodHow s.how };
 
-    ghost gives = { λ s tune outcome. IsOutcome s.defaults.now s.paper.now s.flow tune outcome };
+    ghost gives = { λ s tune outcome. IsOutcome s.defaults.now s.paper.now s.how tune outcome };
 
     fn work(&self, tune: &TuneText) -> Result<Outcome, Memory> {
         self.gate.enter(tune.ordinal);
-        let result = match set(self.alloc, tune, self.defaults, self.paper, self.flow) {
+        let result = match set_how(self.alloc, tune, self.defaults, self.paper, self.how) {
             Ok(set) => Ok(set),
             Err(TuneError::Fault(fault)) => Err(fault),
             Err(TuneError::Memory) => return Err(Memory),
@@ -46,7 +47,7 @@ impl<'a, G: Gate> Work<TuneText, Outcome> for Setting<'a, G> {
 }
 
 /// What comes of some tunes of a book on paper, in their order, under the defaults of its file
-/// header. With `flow` no bar is forced.
+/// header, each set as `how` says.
 ///
 /// `jobs` is 1 to 64: the list of tunes is halved, and the jobs with it, and the halves are set side
 /// by side where threads can be made. Each tune enters the gate once, before it is set.
@@ -56,22 +57,23 @@ pub fn set_tunes<R: Threads + Sync, G: Gate + Sync>(
     tunes: &[TuneText],
     defaults: &Defaults,
     paper: &Paper,
-    flow: bool,
+    how: How,
     jobs: u8,
     gate: &G,
 ) -> Result<Row<Outcome>, Memory>
     requires tunes { All IsGoodTune tunes.now }
     requires defaults { IsGoodDefaults defaults.now }
     requires paper { IsGoodPaper paper.now }
+    requires how { IsGoodHow how }
     requires some { 1 ≤ jobs }
     requires few { jobs ≤ 64 }
-    ensures { IfOk result (AreOutcomes defaults.now paper.now flow tunes.now) }
+    ensures { IfOk result (AreOutcomes defaults.now paper.now how tunes.now) }
 {
     let setting = Setting {
         alloc,
         defaults,
         paper,
-        flow,
+        how,
         gate,
     };
     work_all(rt, alloc, tunes, jobs, &setting)
@@ -84,19 +86,20 @@ pub fn set_all<R: Threads + Sync, G: Gate + Sync>(
     alloc: Global,
     book: &Book,
     paper: &Paper,
-    flow: bool,
+    how: How,
     jobs: u8,
     gate: &G,
 ) -> Result<Row<Outcome>, Memory>
     requires book { IsGoodBook book.now }
     requires paper { IsGoodPaper paper.now }
+    requires how { IsGoodHow how }
     requires some { 1 ≤ jobs }
     requires few { jobs ≤ 64 }
-    ensures { IfOk result (AreOutcomes (defaults_of book.now.header) paper.now flow book.now.tunes) }
+    ensures { IfOk result (AreOutcomes (defaults_of book.now.header) paper.now how book.now.tunes) }
 {
     let defaults = read_defaults(book);
     let tunes = book.tunes.as_slice();
-    let outcomes = set_tunes(rt, alloc, tunes, &defaults, paper, flow, jobs, gate)?;
+    let outcomes = set_tunes(rt, alloc, tunes, &defaults, paper, how, jobs, gate)?;
     Ok(outcomes)
 }
 

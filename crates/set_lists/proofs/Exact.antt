@@ -13,6 +13,7 @@ use Rattle.abc_header.specs.Papers.{width_of}
 use Rattle.mus_score.specs.declared.score.Score.{Score}
 use Rattle.lay_breaks.specs.declared.costs.Span.{Span}
 use Rattle.lay_tune.specs.Layout.{IsNoWay}
+use Rattle.set_tune.specs.declared.how.How.{How}
 use Rattle.set_tune.specs.declared.tune.SetTune.{SetTune}
 use Rattle.set_tune.specs.Setting.{HasScore, IsFaultOfTune, IsLaidTune, layout_fault, no_way, of_header, of_score, too_tall}
 use Rattle.set_book.specs.declared.outcome.Outcome.{Outcome}

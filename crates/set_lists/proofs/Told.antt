@@ -17,6 +17,7 @@ use Rattle.lay_tune.specs.Systems.{IsSetSystem}
 use Rattle.lay_tune.proofs.Rows.{span_count}
 use Rattle.lay_cert.specs.Listing.{EntriesFrom, IsEntry, none_forced}
 use Rattle.lay_cert.proofs.Unforced.{forced_by_spans}
+use Rattle.set_tune.specs.declared.how.How.{How}
 use Rattle.set_tune.specs.declared.tune.SetTune.{SetTune}
 use Rattle.set_tune.specs.Setting.{IsSetTune}
 use Rattle.set_book.specs.declared.outcome.Outcome.{Outcome}

@@ -17,6 +17,7 @@ use Rattle.lay_spans.specs.Forced.{ForcedInside}
 use Rattle.lay_tune.specs.Spans.{AreSpansOf, CanStandIn, IsSystem, is_forced_in, score_gaps, system_columns}
 use Rattle.lay_tune.specs.Systems.{AllSpans}
 use Rattle.lay_cert.specs.Listing.{IsListing, none_forced}
+use Rattle.set_tune.specs.declared.how.How.{How}
 use Rattle.set_tune.specs.declared.tune.SetTune.{SetTune}
 use Rattle.set_tune.specs.Setting.{HasScore, layout_fault}
 use Rattle.set_book.specs.declared.outcome.Outcome.{Outcome}

@@ -13,6 +13,7 @@ use Rattle.abc_header.specs.Papers.{height_of, width_of}
 use Rattle.lay_pages.specs.Filling.{first_tall}
 use Rattle.lay_tune.specs.Systems.{IsSetSystem, IsStack}
 use Rattle.lay_tune.proofs.Rows.{beside_count, span_count}
+use Rattle.set_tune.specs.declared.how.How.{How}
 use Rattle.set_tune.specs.declared.tune.SetTune.{SetTune}
 use Rattle.set_tune.specs.Setting.{IsLaidOut}
 use Rattle.set_tune.proofs.Laid.{good_heights}
