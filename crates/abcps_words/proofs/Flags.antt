@@ -1,7 +1,11 @@
 -- Options read one after another from the front: what stands read at each step, and that no other options have the same words.
-use Rattle.std.proofs.Common.{◌≡◌, ℕ, ◌+◌, ◌<◌, ◌≤◌, Bool, true, false, cond, ◌||◌, List, [], ◌∷◌, ◌++◌, length, codes, Option, Some, None, is_some, is_none, unwrap_or, All, flat_map, refl, sym, ◌∙◌, ap, subst, arith, decimal, append_assoc}
+use Rattle.std.proofs.Common.{◌≡◌, ℕ, ℤ, pos, negsuc, ◌+◌, ◌<◌, ◌≤◌, ◌^◌, Bool, true, false, cond, ◌||◌, List, [], ◌∷◌, ◌++◌, length, Option, Some, None, is_some, unwrap_or, All, flat_map, refl, sym, ◌∙◌, ap, subst, arith, decimal, append_assoc}
+use Rattle.std.specs.Int.Signed.{mag}
 use Rattle.std.specs.List.{list_any, count_by}
-use Rattle.std.proofs.lemmas.Fmt.{decimal_injective}
+use Rattle.std.specs.Option.{option_or}
+use Rattle.std.proofs.lemmas.Bool.{true≢false}
+use Rattle.std.proofs.lemmas.Fmt.{decimal_injective, signed_decimal_injective}
+use Rattle.std.proofs.lemmas.Int.{ints}
 use Rattle.std.proofs.lemmas.List.{append-nil}
 use Rattle.std.proofs.lemmas.List.Elements.{All-head, All-tail, All-push}
 use Rattle.std.proofs.lemmas.List.Sums.{sum_by-append}
@@ -9,9 +13,9 @@ use Rattle.std.proofs.lemmas.Grind.{flat_map-append}
 use Rattle.abcps_words.specs.declared.options.Flag.{Flag}
 use Rattle.abcps_words.specs.declared.options.Flag.TheVariants as flag
 use Rattle.abcps_words.specs.declared.options.Options.{Options}
-use Rattle.abcps_words.specs.Words.{IsWithin, flag_words, IsFlag, is_flow, is_table, is_jobs, IsOnce, IsSpelled, jobs_in, said}
-use Rattle.abcps_words.proofs.Fronts.{tail_of, clash}
-use Rattle.abcps_words.specs.Adding.{added}
+use Rattle.abcps_words.specs.Words.{IsWithin, IsMove, flag_words, IsFlag, same_kind, IsOnce, IsSpelled, jobs_of, half_steps_of, first_said, said}
+use Rattle.abcps_words.proofs.Fronts.{head_of, tail_of, clash}
+use Rattle.abcps_words.specs.Adding.{has_kind, with_flag, added}
 
 one_number : (n m : ℕ) → IsWithin 64 n → IsWithin 64 m → decimal n ≡ decimal m → n ≡ m
 one_number n m a b e = decimal_injective n m (omega (arith, a)) (omega (arith, b)) e
@@ -21,22 +25,21 @@ second (x ∷ y ∷ ws) = y
 second (x ∷ []) = []
 second [] = []
 
+small : (z : ℤ) → IsMove z → mag z < 2 ^ 63
+small (pos n) move = omega (arith, ints)
+small (negsuc n) move = omega (arith, ints)
+
 -- words begin with one option
 one_flag : (f g : Flag) (xs ys : List (List ℕ)) → IsFlag f → IsFlag g → flag_words f ++ xs ≡ flag_words g ++ ys → (f ≡ g) × (xs ≡ ys)
 one_flag flag.Flow flag.Flow xs ys a b e = (refl, ap tail_of e)
-one_flag flag.Flow flag.Table xs ys a b e = absurd (clash (codes "--flow") (flag_words flag.Flow ++ xs) (flag_words flag.Table ++ ys) e refl refl)
-one_flag flag.Flow (flag.Jobs m) xs ys a b e = absurd (clash (codes "--flow") (flag_words flag.Flow ++ xs) (flag_words (flag.Jobs m) ++ ys) e refl refl)
-one_flag flag.Table flag.Flow xs ys a b e = absurd (clash (codes "--table") (flag_words flag.Table ++ xs) (flag_words flag.Flow ++ ys) e refl refl)
 one_flag flag.Table flag.Table xs ys a b e = (refl, ap tail_of e)
-one_flag flag.Table (flag.Jobs m) xs ys a b e = absurd (clash (codes "--table") (flag_words flag.Table ++ xs) (flag_words (flag.Jobs m) ++ ys) e refl refl)
-one_flag (flag.Jobs n) flag.Flow xs ys a b e = absurd (clash (codes "--jobs") (flag_words (flag.Jobs n) ++ xs) (flag_words flag.Flow ++ ys) e refl refl)
-one_flag (flag.Jobs n) flag.Table xs ys a b e = absurd (clash (codes "--jobs") (flag_words (flag.Jobs n) ++ xs) (flag_words flag.Table ++ ys) e refl refl)
 one_flag (flag.Jobs n) (flag.Jobs m) xs ys a b e = (ap flag.Jobs (one_number n m a b (ap second e)), ap (λ ws. tail_of (tail_of ws)) e)
+one_flag (flag.Transpose y) (flag.Transpose z) xs ys a b e = (ap flag.Transpose (signed_decimal_injective y z (small y a) (small z b) (ap second e)), ap (λ ws. tail_of (tail_of ws)) e)
+one_flag f g xs ys a b e = absurd (clash (head_of (flag_words f)) (flag_words f ++ xs) (flag_words g ++ ys) e refl refl)
 
 some_words : (f : Flag) (xs : List (List ℕ)) → flag_words f ++ xs ≡ [] → ⊥
 some_words flag.Flow xs e = let l = ap length e in omega arith
-some_words flag.Table xs e = let l = ap length e in omega arith
-some_words (flag.Jobs n) xs e = let l = ap length e in omega arith
+some_words f xs e = let l = ap length e in omega arith
 
 -- what was read stands in front of any options that have the same words
 pub what_follows : (seen flags : List Flag) (rest : List (List ℕ)) → All IsFlag seen → All IsFlag flags → flat_map flag_words seen ++ rest ≡ flat_map flag_words flags
@@ -68,25 +71,29 @@ any_counted p (x ∷ xs) b e = by_test (any_counted p xs) (p x) refl b e
     by_test more false is true e = (let c : count_by p (x ∷ xs) ≡ 0 + (0 + count_by p xs) = rw is at (counted p [] x xs) in let k = more true e in omega arith)
     by_test more false is false e = (let c : count_by p (x ∷ xs) ≡ 0 + (0 + count_by p xs) = rw is at (counted p [] x xs) in let k = more false e in omega arith)
 
-jobs_any : (xs : List Flag) → is_some (jobs_in xs) ≡ list_any is_jobs xs
-jobs_any [] = refl
-jobs_any (flag.Flow ∷ xs) = jobs_any xs
-jobs_any (flag.Table ∷ xs) = jobs_any xs
-jobs_any (flag.Jobs n ∷ xs) = refl
+-- ---- numbers that options say
 
-jobs_behind : (xs ys : List Flag) → jobs_in xs ≡ None → jobs_in (xs ++ ys) ≡ jobs_in ys
-jobs_behind [] ys e = refl
-jobs_behind (flag.Flow ∷ xs) ys e = jobs_behind xs ys e
-jobs_behind (flag.Table ∷ xs) ys e = jobs_behind xs ys e
-jobs_behind (flag.Jobs n ∷ xs) ys e = absurd (cc)
+jobs_any : (n : ℕ) (xs : List Flag) → is_some (first_said jobs_of xs) ≡ list_any (same_kind (flag.Jobs n)) xs
+jobs_any n [] = refl
+jobs_any n (flag.Jobs m ∷ xs) = refl
+jobs_any n (f ∷ xs) = jobs_any n xs
 
-jobs_before : (xs : List Flag) (f : Flag) → is_jobs f ≡ false → jobs_in (xs ++ f ∷ []) ≡ jobs_in xs
-jobs_before [] flag.Flow e = refl
-jobs_before [] flag.Table e = refl
-jobs_before [] (flag.Jobs n) e = absurd (cc)
-jobs_before (flag.Flow ∷ xs) f e = jobs_before xs f e
-jobs_before (flag.Table ∷ xs) f e = jobs_before xs f e
-jobs_before (flag.Jobs n ∷ xs) f e = refl
+half_steps_any : (z : ℤ) (xs : List Flag) → is_some (first_said half_steps_of xs) ≡ list_any (same_kind (flag.Transpose z)) xs
+half_steps_any z [] = refl
+half_steps_any z (flag.Transpose y ∷ xs) = refl
+half_steps_any z (f ∷ xs) = half_steps_any z xs
+
+first_behind : {A : Type 0} (p : Flag → Option A) (xs ys : List Flag) → is_some (first_said p xs) ≡ false → first_said p (xs ++ ys) ≡ first_said p ys
+first_behind p [] ys e = refl
+first_behind {A} p (x ∷ xs) ys e = by_first (first_behind p xs ys) (p x) e
+  where
+    by_first : (is_some (first_said p xs) ≡ false → first_said p (xs ++ ys) ≡ first_said p ys) → (o : Option A) → is_some (option_or o (first_said p xs)) ≡ false → option_or o (first_said p (xs ++ ys)) ≡ first_said p ys
+    by_first more None e = more e
+    by_first more (Some y) e = absurd (true≢false e)
+
+first_kept : {A : Type 0} (p : Flag → Option A) (xs : List Flag) (f : Flag) → p f ≡ None → first_said p (xs ++ f ∷ []) ≡ first_said p xs
+first_kept p [] f e = rw e refl
+first_kept p (x ∷ xs) f e = ap (λ o. option_or (p x) o) (first_kept p xs f e)
 
 -- Among these words stand options that were read, each once, and then the rest; together they say this.
 pub record IsRead (words rest : List (List ℕ)) (o : Options) : Type 0 where
@@ -108,73 +115,70 @@ any_kept : (p : Flag → Bool) (seen : List Flag) (f : Flag) → p f ≡ false �
 any_kept p [] f e = rw e refl
 any_kept p (x ∷ seen) f e = ap (λ b. p x || b) (any_kept p seen f e)
 
-some_none : {A : Type 0} {x : A} → Some x ≡ None → ⊥
-some_none e = cc
+-- ---- options of one kind
+
+own_kind : (f : Flag) → same_kind f f ≡ true
+own_kind flag.Flow = refl
+own_kind f = refl
+
+kinds_alike : (o : Options) (f g : Flag) → same_kind g f ≡ true → has_kind o f ≡ has_kind o g
+kinds_alike o flag.Flow flag.Flow is = refl
+kinds_alike o flag.Table flag.Table is = refl
+kinds_alike o (flag.Jobs n) (flag.Jobs m) is = refl
+kinds_alike o (flag.Transpose y) (flag.Transpose z) is = refl
+kinds_alike o f g is = absurd (true≢false (sym is))
+
+kinds_said : (f : Flag) (seen : List Flag) → has_kind (said seen) f ≡ list_any (same_kind f) seen
+kinds_said flag.Flow seen = refl
+kinds_said flag.Table seen = refl
+kinds_said (flag.Jobs n) seen = jobs_any n seen
+kinds_said (flag.Transpose z) seen = half_steps_any z seen
+
+-- what options say with one more
+said_more : (seen : List Flag) (f : Flag) → has_kind (said seen) f ≡ false → with_flag (said seen) f ≡ said (seen ++ f ∷ [])
+said_more seen flag.Flow none = rw (any_new (same_kind flag.Flow) seen flag.Flow refl, any_kept (same_kind flag.Table) seen flag.Flow refl, first_kept jobs_of seen flag.Flow refl, first_kept half_steps_of seen flag.Flow refl) refl
+said_more seen flag.Table none = rw (any_kept (same_kind flag.Flow) seen flag.Table refl, any_new (same_kind flag.Table) seen flag.Table refl, first_kept jobs_of seen flag.Table refl, first_kept half_steps_of seen flag.Table refl) refl
+said_more seen (flag.Jobs n) none =
+    let f = flag.Jobs n in
+    rw (any_kept (same_kind flag.Flow) seen f refl, any_kept (same_kind flag.Table) seen f refl, first_behind jobs_of seen (f ∷ []) none, first_kept half_steps_of seen f refl) refl
+said_more seen (flag.Transpose z) none =
+    let f = flag.Transpose z in
+    rw (any_kept (same_kind flag.Flow) seen f refl, any_kept (same_kind flag.Table) seen f refl, first_kept jobs_of seen f refl, first_behind half_steps_of seen (f ∷ []) none) refl
 
 -- one more option that may stand
-module _ (seen : List Flag) (once : IsOnce seen) where
-  flow_fits : list_any is_flow seen ≡ false → IsOnce (seen ++ flag.Flow ∷ [])
-  flow_fits none = (let n = any_counted is_flow seen false none in let a = once in record {
-    flow = omega (arith, counted is_flow seen flag.Flow []);
-    table = omega (arith, counted is_table seen flag.Flow []);
-    jobs = omega (arith, counted is_jobs seen flag.Flow []);
-  })
+fits : (seen : List Flag) → IsOnce seen → (f : Flag) → has_kind (said seen) f ≡ false → IsOnce (seen ++ f ∷ [])
+fits seen once f none g = by_test (same_kind g f) refl
+  where
+    by_test : (b : Bool) → same_kind g f ≡ b → count_by (same_kind g) (seen ++ f ∷ []) ≤ 1
+    by_test true is =
+        let n = any_counted (same_kind g) seen false (sym (kinds_said g seen) ∙ sym (kinds_alike (said seen) f g is) ∙ none) in
+        let c : count_by (same_kind g) (seen ++ f ∷ []) ≡ count_by (same_kind g) seen + (1 + 0) = rw is at (counted (same_kind g) seen f []) in
+        omega arith
+    by_test false is =
+        let c : count_by (same_kind g) (seen ++ f ∷ []) ≡ count_by (same_kind g) seen + (0 + 0) = rw is at (counted (same_kind g) seen f []) in
+        omega (arith, once g)
 
-  table_fits : list_any is_table seen ≡ false → IsOnce (seen ++ flag.Table ∷ [])
-  table_fits none = (let n = any_counted is_table seen false none in let a = once in record {
-    flow = omega (arith, counted is_flow seen flag.Table []);
-    table = omega (arith, counted is_table seen flag.Table []);
-    jobs = omega (arith, counted is_jobs seen flag.Table []);
-  })
-
-  jobs_fit : (n : ℕ) → jobs_in seen ≡ None → IsOnce (seen ++ flag.Jobs n ∷ [])
-  jobs_fit n none = (let m = any_counted is_jobs seen false (sym (jobs_any seen) ∙ ap is_some none) in let a = once in record {
-    flow = omega (arith, counted is_flow seen (flag.Jobs n) []);
-    table = omega (arith, counted is_table seen (flag.Jobs n) []);
-    jobs = omega (arith, counted is_jobs seen (flag.Jobs n) []);
-  })
-
-  fits : (f : Flag) (o : Options) → added (said seen) f ≡ Some o → IsOnce (seen ++ f ∷ []) × (o ≡ said (seen ++ f ∷ []))
-  fits flag.Flow o e = by_test (list_any is_flow seen) refl e
-    where
-      by_test : (b : Bool) → list_any is_flow seen ≡ b → cond {A = Option Options} b None (Some (record { flow = true; table = list_any is_table seen; jobs = jobs_in seen })) ≡ Some o
-          → IsOnce (seen ++ flag.Flow ∷ []) × (o ≡ said (seen ++ flag.Flow ∷ []))
-      by_test true is e = cc
-      by_test false is e = (flow_fits is, rw (any_new is_flow seen flag.Flow refl, any_kept is_table seen flag.Flow refl, jobs_before seen flag.Flow refl) (cc e))
-  fits flag.Table o e = by_test (list_any is_table seen) refl e
-    where
-      by_test : (b : Bool) → list_any is_table seen ≡ b → cond {A = Option Options} b None (Some (record { flow = list_any is_flow seen; table = true; jobs = jobs_in seen })) ≡ Some o
-          → IsOnce (seen ++ flag.Table ∷ []) × (o ≡ said (seen ++ flag.Table ∷ []))
-      by_test true is e = cc
-      by_test false is e = (table_fits is, rw (any_kept is_flow seen flag.Table refl, any_new is_table seen flag.Table refl, jobs_before seen flag.Table refl) (cc e))
-  fits (flag.Jobs n) o e = by_jobs (jobs_in seen) refl e
-    where
-      by_jobs : (j : Option ℕ) → jobs_in seen ≡ j → cond {A = Option Options} (is_none j) (Some (record { flow = list_any is_flow seen; table = list_any is_table seen; jobs = Some n })) None ≡ Some o
-          → IsOnce (seen ++ flag.Jobs n ∷ []) × (o ≡ said (seen ++ flag.Jobs n ∷ []))
-      by_jobs (Some m) is e = cc
-      by_jobs None is e = (jobs_fit n is, rw (any_kept is_flow seen (flag.Jobs n) refl, any_kept is_table seen (flag.Jobs n) refl, jobs_behind seen (flag.Jobs n ∷ []) is) (cc e))
+adds_one : (seen : List Flag) → IsOnce seen → (f : Flag) (o : Options) → added (said seen) f ≡ Some o → IsOnce (seen ++ f ∷ []) × (o ≡ said (seen ++ f ∷ []))
+adds_one seen once f o e = by_kind (has_kind (said seen) f) refl e
+  where
+    by_kind : (b : Bool) → has_kind (said seen) f ≡ b → cond {A = Option Options} b None (Some (with_flag (said seen) f)) ≡ Some o → IsOnce (seen ++ f ∷ []) × (o ≡ said (seen ++ f ∷ []))
+    by_kind true is e = cc
+    by_kind false is e = (fits seen once f is, (let same : with_flag (said seen) f ≡ o = cc in sym same ∙ said_more seen f is))
 
 -- an option that may not stand once more
 twice : (seen more : List Flag) (f : Flag) → added (said seen) f ≡ None → IsOnce (seen ++ f ∷ more) → ⊥
-twice seen more flag.Flow e once = by_test (list_any is_flow seen) refl e
+twice seen more f e once = by_kind (has_kind (said seen) f) refl e
   where
-    by_test : (b : Bool) → list_any is_flow seen ≡ b → cond {A = Option Options} b None (Some (record { flow = true; table = list_any is_table seen; jobs = jobs_in seen })) ≡ None → ⊥
-    by_test true is e = (let n = any_counted is_flow seen true is in let m = counted is_flow seen flag.Flow more in let k = once.flow in omega arith)
-    by_test false is e = some_none e
-twice seen more flag.Table e once = by_test (list_any is_table seen) refl e
-  where
-    by_test : (b : Bool) → list_any is_table seen ≡ b → cond {A = Option Options} b None (Some (record { flow = list_any is_flow seen; table = true; jobs = jobs_in seen })) ≡ None → ⊥
-    by_test true is e = (let n = any_counted is_table seen true is in let m = counted is_table seen flag.Table more in let k = once.table in omega arith)
-    by_test false is e = some_none e
-twice seen more (flag.Jobs n) e once = by_jobs (jobs_in seen) refl e
-  where
-    by_jobs : (j : Option ℕ) → jobs_in seen ≡ j → cond {A = Option Options} (is_none j) (Some (record { flow = list_any is_flow seen; table = list_any is_table seen; jobs = Some n })) None ≡ None → ⊥
-    by_jobs (Some j) is e = (let some = any_counted is_jobs seen true (sym (jobs_any seen) ∙ ap is_some is) in let m = counted is_jobs seen (flag.Jobs n) more in let k = once.jobs in omega arith)
-    by_jobs None is e = some_none e
+    by_kind : (b : Bool) → has_kind (said seen) f ≡ b → cond {A = Option Options} b None (Some (with_flag (said seen) f)) ≡ None → ⊥
+    by_kind true is e =
+        let n = any_counted (same_kind f) seen true (sym (kinds_said f seen) ∙ is) in
+        let c : count_by (same_kind f) (seen ++ f ∷ more) ≡ count_by (same_kind f) seen + (1 + count_by (same_kind f) more) = rw (own_kind f) at (counted (same_kind f) seen f more) in
+        omega (arith, once f)
+    by_kind false is e = cc
 
 pub one_more : (words rest behind : List (List ℕ)) (o p : Options) (f : Flag) → IsRead words rest o → IsFlag f → rest ≡ flag_words f ++ behind → added o f ≡ Some p → IsRead words behind p
 one_more words rest behind o p f read good e adds =
-    let fit = fits read.seen read.once f p (subst (λ o. added o f ≡ Some p) read.says adds) in
+    let fit = adds_one read.seen read.once f p (subst (λ o. added o f ≡ Some p) read.says adds) in
     record {
       seen = read.seen ++ f ∷ [];
       spelled = read.spelled ∙ ap (λ ws. flat_map flag_words read.seen ++ ws) e ∙ put_in read.seen;
@@ -219,9 +223,13 @@ one_spelling flags others words a b =
     by_more [] e none = sym (append-nil flags) ∙ sym e
     by_more (f ∷ more) e none = absurd (some_words f (flat_map flag_words more) (sym none))
 
--- the number of jobs that options say is in range
-pub jobs_good : (flags : List Flag) → All IsFlag flags → IsWithin 64 (unwrap_or (jobs_in flags) 1)
+-- the numbers that options say are in range
+pub jobs_good : (flags : List Flag) → All IsFlag flags → IsWithin 64 (unwrap_or (first_said jobs_of flags) 1)
 jobs_good [] good = record { low = omega arith; high = omega arith }
-jobs_good (flag.Flow ∷ flags) good = jobs_good flags (All-tail IsFlag flag.Flow flags good)
-jobs_good (flag.Table ∷ flags) good = jobs_good flags (All-tail IsFlag flag.Table flags good)
 jobs_good (flag.Jobs n ∷ flags) good = All-head IsFlag (flag.Jobs n) flags good
+jobs_good (f ∷ flags) good = jobs_good flags (All-tail IsFlag f flags good)
+
+pub half_steps_good : (flags : List Flag) → All IsFlag flags → IsMove (unwrap_or (first_said half_steps_of flags) (pos 0))
+half_steps_good [] good = record { low = omega arith; high = omega arith }
+half_steps_good (flag.Transpose z ∷ flags) good = All-head IsFlag (flag.Transpose z) flags good
+half_steps_good (f ∷ flags) good = half_steps_good flags (All-tail IsFlag f flags good)

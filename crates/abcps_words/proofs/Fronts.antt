@@ -1,7 +1,8 @@
 -- What the first words can't be, and where the front of a command ends.
-use Rattle.std.proofs.Common.{◌≡◌, ℕ, ◌+◌, true, false, ◌||◌, ◌==◌, if◌then◌else◌, List, [], ◌∷◌, ◌++◌, take, drop, codes, refl, sym, ◌∙◌, ap, arith, decimal}
+use Rattle.std.proofs.Common.{◌≡◌, ℕ, ℤ, ◌+◌, true, false, ◌||◌, ◌==◌, if◌then◌else◌, List, [], ◌∷◌, ◌++◌, take, drop, codes, refl, sym, ◌∙◌, ap, arith, decimal}
 use Rattle.std.proofs.lemmas.Bool.{true≢false}
 use Rattle.std.proofs.lemmas.Bool.Decides.{nat_tests}
+use Rattle.std.specs.Fmt.{signed_decimal}
 use Rattle.mus_units.specs.declared.key.Spread.{Spread}
 use Rattle.abcps_words.specs.declared.options.Flag.{Flag}
 use Rattle.abcps_words.specs.declared.options.Flag.TheVariants as flag
@@ -9,11 +10,15 @@ use Rattle.abcps_words.specs.declared.command.Name.{Name}
 use Rattle.abcps_words.specs.declared.command.Name.TheVariants as name
 use Rattle.abcps_words.specs.declared.command.Command.{Command}
 use Rattle.abcps_words.specs.declared.command.Command.TheVariants as command
-use Rattle.abcps_words.specs.Words.{IsWithin, name_bytes, spread_word, front_of, HasTunes, flag_words, IsFlag}
+use Rattle.abcps_words.specs.Words.{IsWithin, IsMove, name_bytes, spread_word, front_of, HasTunes, flag_words, IsFlag}
 
 -- the words begin with no number from 1 to the most
 abbrev pub LacksNumber : ℕ → List (List ℕ) → Type 0
 LacksNumber most words = (n : ℕ) (rest : List (List ℕ)) → IsWithin most n → words ≡ decimal n ∷ rest → ⊥
+
+-- the words begin with no number of half steps
+abbrev pub LacksHalfSteps : List (List ℕ) → Type 0
+LacksHalfSteps words = (z : ℤ) (rest : List (List ℕ)) → IsMove z → words ≡ signed_decimal z ∷ rest → ⊥
 
 -- the words begin with no spread
 abbrev pub LacksSpread : List (List ℕ) → Type 0
@@ -27,12 +32,11 @@ abbrev pub head_of : List (List ℕ) → List ℕ
 head_of [] = []
 head_of (x ∷ xs) = x
 
--- the sum of the first three letters, in which any two names of commands, options and spreads differ
+-- the sum of the first four letters, in which any two names of commands, any two of options, and any two spreads differ
 abbrev pub key_of : List ℕ → ℕ
-key_of (x ∷ y ∷ z ∷ rest) = x + (y + z)
-key_of (x ∷ y ∷ []) = 0
-key_of (x ∷ []) = 0
-key_of [] = 0
+key_of (x ∷ y ∷ z ∷ w ∷ rest) = x + (y + (z + w))
+key_of (x ∷ y ∷ z ∷ []) = x + (y + z)
+key_of _ = 0
 
 key_eq : (m n : ℕ) → m ≡ n → (m == n) ≡ true
 key_eq m n e = grind (arith, nat_tests)
@@ -43,13 +47,16 @@ clash name words other e is apart =
     true≢false (sym (key_eq (key_of name) (key_of (head_of other)) same) ∙ apart)
 
 pub no_jobs : (word : List ℕ) (words : List (List ℕ)) → word ≡ codes "--jobs" → LacksNumber 64 words → (f : Flag) (rest : List (List ℕ)) → IsFlag f → word ∷ words ≡ flag_words f ++ rest → ⊥
-no_jobs word words is none flag.Flow rest good e = clash (codes "--jobs") (word ∷ words) (flag_words flag.Flow ++ rest) e is refl
-no_jobs word words is none flag.Table rest good e = clash (codes "--jobs") (word ∷ words) (flag_words flag.Table ++ rest) e is refl
 no_jobs word words is none (flag.Jobs n) rest good e = none n rest good (ap tail_of e)
+no_jobs word words is none f rest good e = clash (codes "--jobs") (word ∷ words) (flag_words f ++ rest) e is refl
+
+pub no_half_steps : (word : List ℕ) (words : List (List ℕ)) → word ≡ codes "--transpose" → LacksHalfSteps words → (f : Flag) (rest : List (List ℕ)) → IsFlag f → word ∷ words ≡ flag_words f ++ rest → ⊥
+no_half_steps word words is none (flag.Transpose z) rest good e = none z rest good (ap tail_of e)
+no_half_steps word words is none f rest good e = clash (codes "--transpose") (word ∷ words) (flag_words f ++ rest) e is refl
 
 pub unnamed : (word : List ℕ) (words : List (List ℕ)) → ((n : Name) → word ≡ name_bytes n → ⊥) → (c : Command) (rest : List (List ℕ)) → word ∷ words ≡ front_of c ++ rest → ⊥
-unnamed word words none (command.Set flow jobs) rest e = none name.Set (ap head_of e)
-unnamed word words none (command.Systems flow table) rest e = none name.Systems (ap head_of e)
+unnamed word words none (command.Set flow jobs by) rest e = none name.Set (ap head_of e)
+unnamed word words none (command.Systems flow table by) rest e = none name.Systems (ap head_of e)
 unnamed word words none command.Inspect rest e = none name.Inspect (ap head_of e)
 unnamed word words none command.Check rest e = none name.Check (ap head_of e)
 unnamed word words none command.Paint rest e = none name.Paint (ap head_of e)
@@ -71,14 +78,14 @@ no_hear word words is none c rest e = clash (codes "hear") (word ∷ words) (fro
 
 -- the front of a command is two words where the name is one of make, trial and hear, and else one
 abbrev front_length : List (List ℕ) → ℕ
-front_length words = if (key_of (head_of words) == 313) || (key_of (head_of words) == 335) || (key_of (head_of words) == 302) then 2 else 1
+front_length words = if (key_of (head_of words) == 414) || (key_of (head_of words) == 432) || (key_of (head_of words) == 416) then 2 else 1
 
 front_is : (c : Command) (rest : List (List ℕ)) → take (front_length (front_of c ++ rest)) (front_of c ++ rest) ≡ front_of c
-front_is (command.Set flow jobs) rest = refl
+front_is (command.Set flow jobs by) rest = refl
 front_is c rest = refl
 
 rest_is : (c : Command) (rest : List (List ℕ)) → drop (front_length (front_of c ++ rest)) (front_of c ++ rest) ≡ rest
-rest_is (command.Set flow jobs) rest = refl
+rest_is (command.Set flow jobs by) rest = refl
 rest_is c rest = refl
 
 pub same_front : (c d : Command) (xs ys : List (List ℕ)) → front_of c ++ xs ≡ front_of d ++ ys → (front_of c ≡ front_of d) × (xs ≡ ys)

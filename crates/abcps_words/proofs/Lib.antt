@@ -1,4 +1,3 @@
-mod Numbers
 mod Fronts
 mod Flags
 mod Alone

@@ -3,7 +3,7 @@ use Rattle.std.specs.Prelude.{◌≡◌, ⊤, ℕ, List, ◌++◌}
 use Rattle.abcps_words.specs.declared.options.Flag.{Flag}
 use Rattle.abcps_words.specs.declared.command.Command.{Command}
 use Rattle.abcps_words.specs.declared.command.Command.TheVariants as command
-use Rattle.abcps_words.specs.Words.{IsWithin, front_of, HasTunes, IsSpelled, said, Says}
+use Rattle.abcps_words.specs.Words.{IsWithin, IsMove, front_of, HasTunes, IsSpelled, said, Says}
 
 -- The words ask for this command: they are its front and options that it takes, in any order, each at most once.
 pub record Asks (words : List (List ℕ)) (c : Command) : Type 0 where
@@ -18,10 +18,10 @@ pub record Asks (words : List (List ℕ)) (c : Command) : Type 0 where
 abbrev pub IsListed : List (List ℕ) → Type 0
 IsListed words = (c : Command) × Asks words c
 
--- its jobs are 1 to 64, and its tunes 1 to 500
+-- its jobs are 1 to 64, its tunes 1 to 500, and its half steps -12 to 12
 abbrev pub IsGoodCommand : Command → Type 0
-IsGoodCommand (command.Set flow jobs) = IsWithin 64 jobs
-IsGoodCommand (command.Systems flow table) = ⊤
+IsGoodCommand (command.Set flow jobs by) = IsWithin 64 jobs × IsMove by
+IsGoodCommand (command.Systems flow table by) = IsMove by
 IsGoodCommand command.Inspect = ⊤
 IsGoodCommand command.Check = ⊤
 IsGoodCommand (command.Make tunes) = IsWithin 500 tunes
@@ -31,8 +31,8 @@ IsGoodCommand (command.Hear spread) = ⊤
 
 -- the most bytes that a command may read: 8 MiB of a book, 256 MiB of pages, a listing or what is painted, or none
 abbrev pub limit_of : Command → ℕ
-limit_of (command.Set flow jobs) = 8388608
-limit_of (command.Systems flow table) = 8388608
+limit_of (command.Set flow jobs by) = 8388608
+limit_of (command.Systems flow table by) = 8388608
 limit_of command.Inspect = 268435456
 limit_of command.Check = 268435456
 limit_of (command.Make tunes) = 0

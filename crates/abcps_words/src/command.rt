@@ -24,10 +24,11 @@ enum Name {
 #[derive(Clone, Copy, PartialEq, Eq)]
 pub enum Command {
     /// Read a book, and write its pages: `flow` with no line break forced, by 1 to
-    /// 64 `jobs`.
-    Set { flow: bool, jobs: u8 },
-    /// Read a book, and write its systems: with `table` as a listing.
-    Systems { flow: bool, table: bool },
+    /// 64 `jobs`, and -12 to 12 half steps higher.
+    Set { flow: bool, jobs: u8, by: i8 },
+    /// Read a book, and write its systems: with `table` as a listing, and -12 to 12
+    /// half steps higher.
+    Systems { flow: bool, table: bool, by: i8 },
     /// Read pages, and print what they show.
     Inspect,
     /// Read a listing, and judge it.
@@ -53,9 +54,12 @@ const MOST_TUNES: u32 = 500;
 /// The number of jobs where no option says it.
 const DEFAULT_JOBS: u8 = 1;
 
+/// The half steps where no option says them.
+const DEFAULT_HALF_STEPS: i8 = 0;
+
 /// The text of the usage line; `usage` gives it.
 const USAGE: &[u8] =
-    b"usage: abcps set [--flow] [--jobs N] | systems [--flow] [--table] | inspect | check | make N | trial N [--flow] [--jobs N] | paint | hear W\n";
+    b"usage: abcps set [--flow] [--jobs N] [--transpose N] | systems [--flow] [--table] [--transpose N] | inspect | check | make N | trial N [--flow] [--jobs N] | paint | hear W\n";
 
 impl Command {
     /// The most bytes that its input may have; 0 where it reads none.
@@ -81,16 +85,20 @@ impl Command {
             Command::Set { .. } if !options.table => Some(Command::Set {
                 flow: options.flow,
                 jobs: options.jobs.unwrap_or(DEFAULT_JOBS),
+                by: options.by.unwrap_or(DEFAULT_HALF_STEPS),
             }),
             Command::Systems { .. } if options.jobs.is_none() => Some(Command::Systems {
                 flow: options.flow,
                 table: options.table,
+                by: options.by.unwrap_or(DEFAULT_HALF_STEPS),
             }),
-            Command::Trial { tunes, .. } if !options.table => Some(Command::Trial {
-                tunes,
-                flow: options.flow,
-                jobs: options.jobs.unwrap_or(DEFAULT_JOBS),
-            }),
+            Command::Trial { tunes, .. } if !options.table && options.by.is_none() => Some(
+                Command::Trial {
+                    tunes,
+                    flow: options.flow,
+                    jobs: options.jobs.unwrap_or(DEFAULT_JOBS),
+                },
+            ),
             Command::Inspect
             | Command::Check
             | Command::Make { .. }
@@ -164,6 +172,7 @@ fn take_front(words: &[String]) -> Option<(Command, &[String])>
             Command::Set {
                 flow: false,
                 jobs: DEFAULT_JOBS,
+                by: DEFAULT_HALF_STEPS,
             },
             rest,
         )),
@@ -171,6 +180,7 @@ fn take_front(words: &[String]) -> Option<(Command, &[String])>
             Command::Systems {
                 flow: false,
                 table: false,
+                by: DEFAULT_HALF_STEPS,
             },
             rest,
         )),

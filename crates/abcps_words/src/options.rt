@@ -1,8 +1,9 @@
-ghost use Rattle.std.specs.Prelude.{◌≡◌, ◌++◌, ◌∷◌, ◌↔◌, ℕ, List, IsTrue, MatchOption, decimal, map, string_bytes};
-ghost use Rattle.abcps_words.specs.Words.{IsWithin, flag_words, IsFlag, IsSpelled, said};
+ghost use Rattle.std.specs.Prelude.{◌≡◌, ◌++◌, ◌∷◌, ◌↔◌, ℕ, ℤ, List, IsTrue, MatchOption, decimal, map, string_bytes};
+ghost use Rattle.std.specs.Fmt.{signed_decimal};
+ghost use Rattle.abcps_words.specs.Words.{IsWithin, IsMove, flag_words, IsFlag, IsSpelled, said};
 ghost use Rattle.abcps_words.specs.Adding.{added, no_options};
 
-use crate::words::{is_word, take_number};
+use crate::words::{is_word, take_half_steps, take_number};
 
 /// An option, as it stands among the words.
 #[derive(Clone, Copy, PartialEq, Eq)]
@@ -13,6 +14,8 @@ pub enum Flag {
     Table,
     /// `--jobs` and a number.
     Jobs(u8),
+    /// `--transpose` and a number of half steps.
+    Transpose(i8),
 }
 
 /// What options say together.
@@ -24,6 +27,8 @@ pub struct Options {
     pub table: bool,
     /// The number of `--jobs`, where it is among them.
     pub jobs: Option<u8>,
+    /// The half steps of `--transpose`, where it is among them.
+    pub by: Option<i8>,
 }
 
 const MOST_JOBS: u32 = 64;
@@ -52,6 +57,9 @@ fn take_flag(words: &[String]) -> Option<(Flag, &[String])>
     } else if is_word(word.as_bytes(), b"--jobs") {
         let (jobs, rest) = take_jobs(rest)?;
         Some((Flag::Jobs(jobs), rest))
+    } else if is_word(word.as_bytes(), b"--transpose") {
+        let (by, rest) = take_half_steps(rest)?;
+        Some((Flag::Transpose(by), rest))
     } else {
         None
     }
@@ -66,6 +74,7 @@ impl Options {
             flow: false,
             table: false,
             jobs: None,
+            by: None,
         }
     }
 
@@ -81,6 +90,10 @@ impl Options {
             }),
             Flag::Jobs(jobs) if self.jobs.is_none() => Some(Options {
                 jobs: Some(jobs),
+                ..self
+            }),
+            Flag::Transpose(by) if self.by.is_none() => Some(Options {
+                by: Some(by),
                 ..self
             }),
             _ => None,

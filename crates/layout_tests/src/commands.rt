@@ -34,19 +34,19 @@ fn put_spread(out: &mut Text, spread: Spread) -> Result<(), Memory> {
 
 fn put_command(out: &mut Text, command: Command) -> Result<(), Memory> {
     match command {
-        Command::Set { flow, jobs } => {
+        Command::Set { flow, jobs, by } => {
             put_word(out, b"set")?;
             put_flow(out, flow)?;
-            put_number(out, i64::from(jobs))
+            put_number(out, i64::from(jobs))?;
+            put_number(out, i64::from(by))
         }
-        Command::Systems { flow, table } => {
+        Command::Systems { flow, table, by } => {
             put_word(out, b"systems")?;
             put_flow(out, flow)?;
             if table {
-                put_word(out, b"table")
-            } else {
-                Ok(())
+                put_word(out, b"table")?;
             }
+            put_number(out, i64::from(by))
         }
         Command::Inspect => put_word(out, b"inspect"),
         Command::Check => put_word(out, b"check"),
