@@ -10,6 +10,7 @@ use Rattle.abc_header.specs.declared.paper.Paper.{Paper}
 use Rattle.ps_text.specs.Document.{numbered, page_text}
 use Rattle.ps_text.specs.Prolog.{prolog}
 use Rattle.ps_text.specs.declared.sheet.Page.{Page}
+use Rattle.set_tune.specs.declared.how.How.{How}
 use Rattle.set_book.specs.declared.outcome.Outcome.{Outcome}
 use Rattle.set_book.specs.Outcomes.{AreOutcomes, IsOutcome}
 use Rattle.set_lists.specs.Reports.{is_faulty, report, reports, some_fault}
@@ -65,19 +66,19 @@ abbrev pub IsCounted : TuneText → Type 0
 IsCounted tune = 1 ≤ tune.ordinal
 
 -- the outcomes of a batch, as they are pressed
-pub batch_set : (defaults : Defaults) (paper : Paper) (flow : Bool) (batch : List TuneText) (outcomes at : List Outcome) → All IsCounted batch → at ≡ outcomes
-    → AreOutcomes defaults paper flow batch outcomes → All (IsSetUnder paper) at
-batch_set defaults paper flow batch outcomes at counted same set = subst (λ os. All (IsSetUnder paper) os) (sym same) (set_outcomes defaults paper flow batch outcomes counted set)
+pub batch_set : (defaults : Defaults) (paper : Paper) (how : How) (batch : List TuneText) (outcomes at : List Outcome) → All IsCounted batch → at ≡ outcomes
+    → AreOutcomes defaults paper how batch outcomes → All (IsSetUnder paper) at
+batch_set defaults paper how batch outcomes at counted same set = subst (λ os. All (IsSetUnder paper) os) (sym same) (set_outcomes defaults paper how batch outcomes counted set)
 
 -- the tunes before those that are left were set, and the document was written so far
-pub record IsUnderway (defaults : Defaults) (paper : Paper) (flow : Bool) (tunes rest : List TuneText) (o : Stream) (r : Running) : Type 0 where
+pub record IsUnderway (defaults : Defaults) (paper : Paper) (how : How) (tunes rest : List TuneText) (o : Stream) (r : Running) : Type 0 where
   pub before : List TuneText
   pub whole : before ++ rest ≡ tunes
-  pub running : AreRunning defaults paper flow before o r
+  pub running : AreRunning defaults paper how before o r
 
-pub underway_first : (defaults : Defaults) (paper : Paper) (flow : Bool) (tunes : List TuneText) (o : Stream) (r : Running) → TookAll o (prolog (frame_of paper)) → IsBegun r
-    → IsUnderway defaults paper flow tunes tunes o r
-underway_first defaults paper flow tunes o r took begun = record {
+pub underway_first : (defaults : Defaults) (paper : Paper) (how : How) (tunes : List TuneText) (o : Stream) (r : Running) → TookAll o (prolog (frame_of paper)) → IsBegun r
+    → IsUnderway defaults paper how tunes tunes o r
+underway_first defaults paper how tunes o r took begun = record {
   before = [];
   whole = refl;
   running = record {
@@ -91,9 +92,9 @@ underway_first defaults paper flow tunes o r took begun = record {
 }
 
 -- the document was not begun
-pub cut_first : (defaults : Defaults) (paper : Paper) (flow : Bool) (tunes : List TuneText) (o : Stream) (why : Status) → WasStopped why o (prolog (frame_of paper))
-    → AreCutOff defaults paper flow tunes o why
-cut_first defaults paper flow tunes o why stopped = record {
+pub cut_first : (defaults : Defaults) (paper : Paper) (how : How) (tunes : List TuneText) (o : Stream) (why : Status) → WasStopped why o (prolog (frame_of paper))
+    → AreCutOff defaults paper how tunes o why
+cut_first defaults paper how tunes o why stopped = record {
   before = [];
   rest = tunes;
   whole = refl;
@@ -106,12 +107,12 @@ cut_first defaults paper flow tunes o why stopped = record {
   wrote = stopped_longer why o (prolog (frame_of paper)) [] stopped;
 }
 
-module _ (defaults : Defaults) (paper : Paper) (flow : Bool) (tunes rest : List TuneText) where
+module _ (defaults : Defaults) (paper : Paper) (how : How) (tunes rest : List TuneText) where
   -- the pages that are done were written before the next batch
-  pub underway_written : (b m a : Option (List ℕ)) (n k l : ℕ) (r s : Running) (way : IsUnderway defaults paper flow tunes rest (stream b m n k) r)
+  pub underway_written : (b m a : Option (List ℕ)) (n k l : ℕ) (r s : Running) (way : IsUnderway defaults paper how tunes rest (stream b m n k) r)
       → TookAll (stream m a k l) (numbered page_text (r.writer.pages + 1) (done_pages r.press))
       → ((outcomes : List Outcome) (given : List Page) → IsRunning paper outcomes given r → IsRunning paper outcomes (given ++ done_pages r.press) s) → IsOpen s.press
-      → IsUnderway defaults paper flow tunes rest (stream b a n l) s
+      → IsUnderway defaults paper how tunes rest (stream b a n l) s
   underway_written b m a n k l r s way took written free =
       let run = way.running in
       let sent = subst (λ j. TookAll (stream m a k l) (numbered page_text (j + 1) (done_pages r.press))) run.running.count took in
@@ -130,8 +131,8 @@ module _ (defaults : Defaults) (paper : Paper) (flow : Bool) (tunes rest : List 
       }
 
   -- or were not
-  pub cut_written : (b m a : Option (List ℕ)) (n k l : ℕ) (r : Running) (why : Status) → IsUnderway defaults paper flow tunes rest (stream b m n k) r
-      → WasStopped why (stream m a k l) (numbered page_text (r.writer.pages + 1) (done_pages r.press)) → AreCutOff defaults paper flow tunes (stream b a n l) why
+  pub cut_written : (b m a : Option (List ℕ)) (n k l : ℕ) (r : Running) (why : Status) → IsUnderway defaults paper how tunes rest (stream b m n k) r
+      → WasStopped why (stream m a k l) (numbered page_text (r.writer.pages + 1) (done_pages r.press)) → AreCutOff defaults paper how tunes (stream b a n l) why
   cut_written b m a n k l r why way stopped =
       let run = way.running in
       let sent = subst (λ j. WasStopped why (stream m a k l) (numbered page_text (j + 1) (done_pages r.press))) run.running.count stopped in
@@ -150,8 +151,8 @@ module _ (defaults : Defaults) (paper : Paper) (flow : Bool) (tunes rest : List 
       }
 
   -- a batch was set
-  pub underway_more : (batch later : List TuneText) (n : ℕ) (o : Stream) (r s : Running) → batch ≡ take n rest → later ≡ drop n rest → AreTaken defaults paper flow batch r s → IsOpen s.press
-      → IsUnderway defaults paper flow tunes rest o r → IsUnderway defaults paper flow tunes later o s
+  pub underway_more : (batch later : List TuneText) (n : ℕ) (o : Stream) (r s : Running) → batch ≡ take n rest → later ≡ drop n rest → AreTaken defaults paper how batch r s → IsOpen s.press
+      → IsUnderway defaults paper how tunes rest o r → IsUnderway defaults paper how tunes later o s
   underway_more batch later n o r s front back taken free way =
       let run = way.running in
       record {
@@ -162,7 +163,7 @@ module _ (defaults : Defaults) (paper : Paper) (flow : Bool) (tunes rest : List 
         running = record {
           outcomes = run.outcomes ++ taken.outcomes;
           given = run.given;
-          set = zip_append (IsOutcome defaults paper flow) way.before batch run.outcomes taken.outcomes run.set taken.set;
+          set = zip_append (IsOutcome defaults paper how) way.before batch run.outcomes taken.outcomes run.set taken.set;
           running = taken.taken run.outcomes run.given run.running;
           free = free;
           wrote = run.wrote;
@@ -170,7 +171,7 @@ module _ (defaults : Defaults) (paper : Paper) (flow : Bool) (tunes rest : List 
       }
 
   -- or was not, for want of memory
-  pub cut_memory : (o : Stream) (r : Running) (why : Status) → why ≡ status.Memory → IsUnderway defaults paper flow tunes rest o r → AreCutOff defaults paper flow tunes o why
+  pub cut_memory : (o : Stream) (r : Running) (why : Status) → why ≡ status.Memory → IsUnderway defaults paper how tunes rest o r → AreCutOff defaults paper how tunes o why
   cut_memory o r why is way =
       let run = way.running in
       record {

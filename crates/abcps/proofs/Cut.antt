@@ -12,6 +12,7 @@ use Rattle.abc_header.specs.Defaults.{defaults_of}
 use Rattle.abc_header.specs.Papers.{IsGoodPaper, paper_of}
 use Rattle.ps_text.specs.Document.{document}
 use Rattle.ps_text.specs.declared.sheet.Page.{Page}
+use Rattle.set_tune.specs.declared.how.How.{How}
 use Rattle.set_book.specs.declared.outcome.Outcome.{Outcome}
 use Rattle.set_book.specs.Outcomes.{AreOutcomes, IsOutcome}
 use Rattle.set_book.proofs.Once.{outcomes_once}
@@ -48,9 +49,9 @@ pub parts_of : (paper : Paper) (outcomes : List Outcome) (given : List Page) →
 parts_of paper outcomes given front = document_parts paper given (sheet_of paper outcomes) (frame_same paper outcomes) front
 
 -- what `set` calls for, where all tunes were set
-pub calls_pages : (flow : Bool) (text : List ℕ) (outcomes : List Outcome) (given : List Page) (press : Press) → AreSet flow text outcomes → IsGoodPaper (paper_in text) → IsOpen press
-    → IsPressed (paper_in text) outcomes given press → CallsPages flow text (pages_called (paper_in text) outcomes)
-calls_pages flow text outcomes given press set good free pressed =
+pub calls_pages : (how : How) (text : List ℕ) (outcomes : List Outcome) (given : List Page) (press : Press) → AreSet how text outcomes → IsGoodPaper (paper_in text) → IsOpen press
+    → IsPressed (paper_in text) outcomes given press → CallsPages how text (pages_called (paper_in text) outcomes)
+calls_pages how text outcomes given press set good free pressed =
     let sheet = sheet_whole (paper_in text) outcomes given press good free pressed in
     record {
       outcomes = outcomes;
@@ -64,21 +65,21 @@ calls_pages flow text outcomes given press set good free pressed =
     }
 
 -- the first of some outcomes are those of the first tunes
-first_outcomes : (defaults : Defaults) (paper : Paper) (flow : Bool) (before rest : List TuneText) (outcomes all : List Outcome) → AreOutcomes defaults paper flow before outcomes
-    → AreOutcomes defaults paper flow (before ++ rest) all → all ≡ outcomes ++ drop (length before) all
-first_outcomes defaults paper flow before rest outcomes all set whole =
+first_outcomes : (defaults : Defaults) (paper : Paper) (how : How) (before rest : List TuneText) (outcomes all : List Outcome) → AreOutcomes defaults paper how before outcomes
+    → AreOutcomes defaults paper how (before ++ rest) all → all ≡ outcomes ++ drop (length before) all
+first_outcomes defaults paper how before rest outcomes all set whole =
     sym (take-append-drop (length before) all)
-    ∙ ap (λ l. l ++ drop (length before) all) (outcomes_once defaults paper flow before (take (length before) all) outcomes (zip_front (IsOutcome defaults paper flow) before rest all whole) set)
+    ∙ ap (λ l. l ++ drop (length before) all) (outcomes_once defaults paper how before (take (length before) all) outcomes (zip_front (IsOutcome defaults paper how) before rest all whole) set)
 
 -- the pages that were done when some tunes were set are the first of whatever the book calls for
-front_called : (defaults : Defaults) (paper : Paper) (flow : Bool) (before rest : List TuneText) (outcomes all : List Outcome) (given : List Page) (press : Press)
-    → All (λ tune. 1 ≤ tune.ordinal) (before ++ rest) → AreOutcomes defaults paper flow before outcomes → IsPressed paper outcomes given press → AreOutcomes defaults paper flow (before ++ rest) all
+front_called : (defaults : Defaults) (paper : Paper) (how : How) (before rest : List TuneText) (outcomes all : List Outcome) (given : List Page) (press : Press)
+    → All (λ tune. 1 ≤ tune.ordinal) (before ++ rest) → AreOutcomes defaults paper how before outcomes → IsPressed paper outcomes given press → AreOutcomes defaults paper how (before ++ rest) all
     → IsFront (given ++ done_pages press) (sheet_of paper all).pages
-front_called defaults paper flow before rest outcomes all given press counted set pressed whole =
-    let parts = first_outcomes defaults paper flow before rest outcomes all set whole in
+front_called defaults paper how before rest outcomes all given press counted set pressed whole =
+    let parts = first_outcomes defaults paper how before rest outcomes all set whole in
     let more = drop (length before) all in
     subst (λ os. IsFront (given ++ done_pages press) (sheet_of paper os).pages) (sym parts)
-    (done_front paper outcomes more given press pressed (subst (λ os. All (IsSetUnder paper) os) parts (set_outcomes defaults paper flow (before ++ rest) all counted whole)))
+    (done_front paper outcomes more given press pressed (subst (λ os. All (IsSetUnder paper) os) parts (set_outcomes defaults paper how (before ++ rest) all counted whole)))
 
 text_front : (paper : Paper) (outcomes : List Outcome) (given : List Page) (o : Stream) → IsFront given (sheet_of paper outcomes).pages → HasFront o (first_text paper given)
     → HasFront o (document (sheet_of paper outcomes))
@@ -94,8 +95,8 @@ count_left before rest tunes tune whole =
 first_tunes : (before rest tunes : List TuneText) → before ++ rest ≡ tunes → before ≡ take (length before) tunes
 first_tunes before rest tunes whole = sym (take-append_seam before rest) ∙ ap (λ l. take (length before) l) whole
 
-module _ (flow : Bool) (text : List ℕ) (o : Stream) (why : Status) (good : IsGoodPaper (paper_in text))
-    (cut : AreCutOff (defaults_of (book_of text).header) (paper_in text) flow (book_of text).tunes o why) where
+module _ (how : How) (text : List ℕ) (o : Stream) (why : Status) (good : IsGoodPaper (paper_in text))
+    (cut : AreCutOff (defaults_of (book_of text).header) (paper_in text) how (book_of text).tunes o why) where
   -- the front of a document that went out
   stopped_all : WasStopped why o (document (sheet_of (paper_in text) cut.outcomes))
   stopped_all =
@@ -103,20 +104,20 @@ module _ (flow : Bool) (text : List ℕ) (o : Stream) (why : Status) (good : IsG
       subst (λ l. WasStopped why o l) (sym (parts_of (paper_in text) cut.outcomes given (done_first (paper_in text) cut.outcomes cut.given cut.press cut.pressed)))
       (stopped_longer why o (first_text (paper_in text) given) (rest_text given (sheet_of (paper_in text) cut.outcomes)) cut.wrote)
 
-  front_all : (called : Called) → CallsPages flow text called → HasFront o called.page
+  front_all : (called : Called) → CallsPages how text called → HasFront o called.page
   front_all called calls =
       let given = cut.given ++ done_pages cut.press in
-      let whole = subst (λ l. AreOutcomes (defaults_of (book_of text).header) (paper_in text) flow l calls.outcomes) (sym cut.whole) calls.set in
+      let whole = subst (λ l. AreOutcomes (defaults_of (book_of text).header) (paper_in text) how l calls.outcomes) (sym cut.whole) calls.set in
       let counted = subst (λ l. All (λ (tune : TuneText). 1 ≤ tune.ordinal) l) (sym cut.whole) (book_counted text) in
-      let front = front_called (defaults_of (book_of text).header) (paper_in text) flow cut.before cut.rest cut.outcomes calls.outcomes cut.given cut.press counted cut.set cut.pressed whole in
+      let front = front_called (defaults_of (book_of text).header) (paper_in text) how cut.before cut.rest cut.outcomes calls.outcomes cut.given cut.press counted cut.set cut.pressed whole in
       subst (λ l. HasFront o l) calls.sheet.spelled
       (text_front (paper_in text) calls.outcomes given o front (stopped_front why o (first_text (paper_in text) given) cut.wrote))
 
-  unprinted_by : (rest : List TuneText) → cut.rest ≡ rest → IsUnprinted flow text o why
+  unprinted_by : (rest : List TuneText) → cut.rest ≡ rest → IsUnprinted how text o why
   unprinted_by [] none =
       let tunes = sym (append-nil cut.before) ∙ ap (λ l. cut.before ++ l) (sym none) ∙ cut.whole in
-      let set = subst (λ l. AreOutcomes (defaults_of (book_of text).header) (paper_in text) flow l cut.outcomes) tunes cut.set in
-      all_set (pages_called (paper_in text) cut.outcomes) (calls_pages flow text cut.outcomes cut.given cut.press set good cut.free cut.pressed) stopped_all
+      let set = subst (λ l. AreOutcomes (defaults_of (book_of text).header) (paper_in text) how l cut.outcomes) tunes cut.set in
+      all_set (pages_called (paper_in text) cut.outcomes) (calls_pages how text cut.outcomes cut.given cut.press set good cut.free cut.pressed) stopped_all
   unprinted_by (tune ∷ rest) is =
       let whole = ap (λ l. cut.before ++ l) (sym is) ∙ cut.whole in
       some_left
@@ -124,28 +125,28 @@ module _ (flow : Bool) (text : List ℕ) (o : Stream) (why : Status) (good : IsG
         count = length cut.before;
         left = count_left cut.before rest (book_of text).tunes tune whole;
         outcomes = cut.outcomes;
-        set = subst (λ l. AreOutcomes (defaults_of (book_of text).header) (paper_in text) flow l cut.outcomes) (first_tunes cut.before cut.rest (book_of text).tunes cut.whole) cut.set;
+        set = subst (λ l. AreOutcomes (defaults_of (book_of text).header) (paper_in text) how l cut.outcomes) (first_tunes cut.before cut.rest (book_of text).tunes cut.whole) cut.set;
         first = stopped_front why o (document (sheet_of (paper_in text) cut.outcomes)) stopped_all;
         all = front_all;
       })
       (stopped_count why o (document (sheet_of (paper_in text) cut.outcomes)) stopped_all)
 
   -- the document of a book was not written to its end
-  pub unprinted : IsUnprinted flow text o why
+  pub unprinted : IsUnprinted how text o why
   unprinted = unprinted_by cut.rest refl
 
-module _ (flow : Bool) (text : List ℕ) (b m a : Option (List ℕ)) (n k l : ℕ) (r : Running) (good : IsGoodPaper (paper_in text))
-    (run : AreRunning (defaults_of (book_of text).header) (paper_in text) flow (book_of text).tunes (stream b m n k) r) where
+module _ (how : How) (text : List ℕ) (b m a : Option (List ℕ)) (n k l : ℕ) (r : Running) (good : IsGoodPaper (paper_in text))
+    (run : AreRunning (defaults_of (book_of text).header) (paper_in text) how (book_of text).tunes (stream b m n k) r) where
   parts_all : document (sheet_of (paper_in text) run.outcomes) ≡ first_text (paper_in text) run.given ++ rest_text run.given (sheet_of (paper_in text) run.outcomes)
   parts_all =
       parts_of (paper_in text) run.outcomes run.given
       (given_front run.given (done_pages r.press) (sheet_of (paper_in text) run.outcomes).pages (done_first (paper_in text) run.outcomes run.given r.press run.running.pressed))
 
-  calls_all : CallsPages flow text (pages_called (paper_in text) run.outcomes)
-  calls_all = calls_pages flow text run.outcomes run.given r.press run.set good run.free run.running.pressed
+  calls_all : CallsPages how text (pages_called (paper_in text) run.outcomes)
+  calls_all = calls_pages how text run.outcomes run.given r.press run.set good run.free run.running.pressed
 
   -- the tunes of a book were set, and what was left of its document was written, or not to its end
-  pub printed : (p : Result Printed Status) → IsClosed (paper_in text) run.outcomes run.given (stream m a k l) p → IsPrinted flow text (stream b a n l) p
+  pub printed : (p : Result Printed Status) → IsClosed (paper_in text) run.outcomes run.given (stream m a k l) p → IsPrinted how text (stream b a n l) p
   printed (Ok p) closed = (
     pages_called (paper_in text) run.outcomes,
     calls_all,
@@ -173,28 +174,28 @@ status_end : (refused : Bool) → IsEnd (status_if refused)
 status_end true = tt
 status_end false = tt
 
-pub answer_printed : (flow : Bool) (jobs : ℕ) (text : List ℕ) (o e : Stream) (s with : Status) (told : List ℕ) (called : Called) → CallsPages flow text called → told ≡ called.told → with ≡ called.status
-    → TookAll o called.page → ((s ≡ with) × TookAll e told) ⊎ ((s ≡ status.WriteFault) × TookFront e told) → IsAnswer (command.Set flow jobs) s text o e
-answer_printed flow jobs text o e s with told called calls tells ends page (inl end) =
-    answer_by (command.Set flow jobs) text called calls o e s
+pub answer_printed : (how : How) (jobs : ℕ) (text : List ℕ) (o e : Stream) (s with : Status) (told : List ℕ) (called : Called) → CallsPages how text called → told ≡ called.told → with ≡ called.status
+    → TookAll o called.page → ((s ≡ with) × TookAll e told) ⊎ ((s ≡ status.WriteFault) × TookFront e told) → IsAnswer (command.Set how.flow jobs how.by) s text o e
+answer_printed how jobs text o e s with told called calls tells ends page (inl end) =
+    answer_by (command.Set how.flow jobs how.by) text called calls o e s
     (answered_end called o e s (subst IsEnd (sym calls.status) (status_end (some_fault calls.outcomes))) page (inl (end.0 ∙ ends, subst (λ t. TookAll e t) tells end.1)))
-answer_printed flow jobs text o e s with told called calls tells ends page (inr cut) =
-    answer_by (command.Set flow jobs) text called calls o e s
+answer_printed how jobs text o e s with told called calls tells ends page (inr cut) =
+    answer_by (command.Set how.flow jobs how.by) text called calls o e s
     (answered_end called o e s (subst IsEnd (sym calls.status) (status_end (some_fault calls.outcomes))) page (inr (cut.0, subst (λ t. TookFront e t) tells cut.1)))
 
 -- what it answers where its document was not written to its end
-module _ (flow : Bool) (jobs : ℕ) (text : List ℕ) (o e : Stream) (quiet : IsQuiet e) where
-  answer_all : (why : Status) (called : Called) → CallsPages flow text called → WasStopped why o called.page → IsAnswer (command.Set flow jobs) why text o e
+module _ (how : How) (jobs : ℕ) (text : List ℕ) (o e : Stream) (quiet : IsQuiet e) where
+  answer_all : (why : Status) (called : Called) → CallsPages how text called → WasStopped why o called.page → IsAnswer (command.Set how.flow jobs how.by) why text o e
   answer_all status.WriteFault called calls stopped = inl (called, calls, inl (stopped, quiet))
   answer_all status.Memory called calls stopped = (quiet, inr (inl (called, calls, stopped)))
   answer_all why called calls stopped = absurd stopped
 
-  answer_some : (why : Status) → IsCutShort flow text o → WasCounted why o → IsAnswer (command.Set flow jobs) why text o e
+  answer_some : (why : Status) → IsCutShort how text o → WasCounted why o → IsAnswer (command.Set how.flow jobs how.by) why text o e
   answer_some status.WriteFault cut counted = inr (cut, counted, quiet)
   answer_some status.Memory cut counted = (quiet, inr (inr (cut, counted)))
   answer_some why cut counted = absurd counted
 
-  pub answer_unprinted : (why : Status) → IsUnprinted flow text o why → IsAnswer (command.Set flow jobs) why text o e
-  answer_unprinted why (unbegun is none) = subst (λ s. IsAnswer (command.Set flow jobs) s text o e) (sym is) (quiet, inl none)
+  pub answer_unprinted : (why : Status) → IsUnprinted how text o why → IsAnswer (command.Set how.flow jobs how.by) why text o e
+  answer_unprinted why (unbegun is none) = subst (λ s. IsAnswer (command.Set how.flow jobs how.by) s text o e) (sym is) (quiet, inl none)
   answer_unprinted why (all_set called calls stopped) = answer_all why called calls stopped
   answer_unprinted why (some_left cut counted) = answer_some why cut counted

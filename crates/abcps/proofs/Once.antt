@@ -18,6 +18,8 @@ use Rattle.ps_machine.specs.OneAnswer.{HasOneAnswer}
 use Rattle.ps_heard.specs.HeardText.{heard_text}
 use Rattle.ps_text.specs.Document.{document}
 use Rattle.ps_text.specs.declared.sheet.Sheet.{Sheet}
+use Rattle.set_tune.specs.declared.how.How.{How}
+use Rattle.set_tune.specs.How.{how_of, unmoved}
 use Rattle.set_book.specs.declared.outcome.Outcome.{Outcome}
 use Rattle.set_pages.specs.Sheet.{sheet_of}
 use Rattle.set_lists.specs.Reports.{reports}
@@ -44,28 +46,28 @@ quiet_called c d page a b = same_called c d page (a.told ∙ sym b.told) (a.stat
 
 -- ---- the commands that set a book
 
-one_set : HaveOneOutcome → (flow : Bool) (text : List ℕ) (os ps : List Outcome) → AreSet flow text os → AreSet flow text ps → os ≡ ps
-one_set one flow text os ps a b = one.outcomes (defaults_of (book_of text).header) (paper_in text) flow (book_of text).tunes os ps a b
+one_set : HaveOneOutcome → (how : How) (text : List ℕ) (os ps : List Outcome) → AreSet how text os → AreSet how text ps → os ≡ ps
+one_set one how text os ps a b = one.outcomes (defaults_of (book_of text).header) (paper_in text) how (book_of text).tunes os ps a b
 
-pages_once : HaveOneOutcome → (flow : Bool) (text : List ℕ) (c d : Called) → CallsPages flow text c → CallsPages flow text d → c ≡ d
-pages_once one flow text c d a b =
-    let same = one_set one flow text a.outcomes b.outcomes a.set b.set in
+pages_once : HaveOneOutcome → (how : How) (text : List ℕ) (c d : Called) → CallsPages how text c → CallsPages how text d → c ≡ d
+pages_once one how text c d a b =
+    let same = one_set one how text a.outcomes b.outcomes a.set b.set in
     same_called c d
     (sym a.sheet.spelled ∙ ap (λ os. document (sheet_of (paper_in text) os)) same ∙ b.sheet.spelled)
     (a.told ∙ ap reports same ∙ sym b.told)
     (a.status ∙ ap status_of same ∙ sym b.status)
 
-systems_once : HaveOneOutcome → (flow table : Bool) (text : List ℕ) (c d : Called) → CallsSystems flow table text c → CallsSystems flow table text d → c ≡ d
-systems_once one flow table text c d a b =
-    let same = one_set one flow text a.outcomes b.outcomes a.set b.set in
+systems_once : HaveOneOutcome → (how : How) (table : Bool) (text : List ℕ) (c d : Called) → CallsSystems how table text c → CallsSystems how table text d → c ≡ d
+systems_once one how table text c d a b =
+    let same = one_set one how text a.outcomes b.outcomes a.set b.set in
     same_called c d
     (a.page ∙ ap (systems_by table) same ∙ sym b.page)
     (a.told ∙ ap reports same ∙ sym b.told)
     (a.status ∙ ap status_of same ∙ sym b.status)
 
-trial_once : HaveOneOutcome → (tunes : ℕ) (flow : Bool) (c d : Called) → Tries tunes flow c → Tries tunes flow d → c ≡ d
-trial_once one tunes flow c d a b =
-    let same = one_set one flow (book tunes) a.outcomes b.outcomes a.set b.set in
+trial_once : HaveOneOutcome → (tunes : ℕ) (how : How) (c d : Called) → Tries tunes how c → Tries tunes how d → c ≡ d
+trial_once one tunes how c d a b =
+    let same = one_set one how (book tunes) a.outcomes b.outcomes a.set b.set in
     quiet_called c d (a.page ∙ ap (λ os. trial_text (trial_of tunes os (sheet_of (paper_in (book tunes)) os))) same ∙ sym b.page) a.quietly b.quietly
 
 -- ---- the others
@@ -125,18 +127,18 @@ painted_once alone text c d a b = quiet_called c d (a.page ∙ ap paint_text (al
 
 -- a command calls for one answer
 called_once : HaveOneOutcome → HasOneAnswer → (c : Command) (text : List ℕ) (called other : Called) → Calls c text called → Calls c text other → called ≡ other
-called_once one alone (command.Set flow jobs) text called other a b = pages_once one flow text called other a b
-called_once one alone (command.Systems flow table) text called other a b = systems_once one flow table text called other a b
+called_once one alone (command.Set flow jobs by) text called other a b = pages_once one (how_of flow by) text called other a b
+called_once one alone (command.Systems flow table by) text called other a b = systems_once one (how_of flow by) table text called other a b
 called_once one alone command.Inspect text called other a b = sheet_once sheet_report text called other a b
 called_once one alone command.Check text called other a b = verdicts_once text called other a b
 called_once one alone (command.Make tunes) text called other a b = quiet_called called other (a.page ∙ sym b.page) a.quietly b.quietly
-called_once one alone (command.Trial tunes flow jobs) text called other a b = trial_once one tunes flow called other a b
+called_once one alone (command.Trial tunes flow jobs) text called other a b = trial_once one tunes (unmoved flow) called other a b
 called_once one alone command.Paint text called other a b = painted_once alone text called other a b
 called_once one alone (command.Hear spread) text called other a b = sheet_once (heard_text spread) text called other a b
 
 -- what is called for doesn't hang on jobs
 by_one : (c : Command) (text : List ℕ) (called : Called) → Calls c text called → Calls (by_one_job c) text called
-by_one (command.Set flow jobs) text called a = a
+by_one (command.Set flow jobs by) text called a = a
 by_one c text called a = a
 
 -- commands that differ in nothing but jobs call for one answer

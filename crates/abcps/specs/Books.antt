@@ -7,6 +7,7 @@ use Rattle.abc_header.specs.Papers.{paper_of}
 use Rattle.gen_book.specs.Book.{book}
 use Rattle.ps_text.specs.Document.{Spells, document}
 use Rattle.ps_text.specs.declared.sheet.Sheet.{Sheet}
+use Rattle.set_tune.specs.declared.how.How.{How}
 use Rattle.set_book.specs.declared.outcome.Outcome.{Outcome}
 use Rattle.set_book.specs.Outcomes.{AreOutcomes}
 use Rattle.set_pages.specs.Clear.{AreClear}
@@ -26,8 +27,8 @@ abbrev pub paper_in : List ℕ → Paper
 paper_in text = paper_of (book_of text).header
 
 -- What comes of the tunes of a book, on its paper and under its defaults: each is set, or has its one fault.
-abbrev pub AreSet : Bool → List ℕ → List Outcome → Type 0
-AreSet flow text outcomes = AreOutcomes (defaults_of (book_of text).header) (paper_in text) flow (book_of text).tunes outcomes
+abbrev pub AreSet : How → List ℕ → List Outcome → Type 0
+AreSet how text outcomes = AreOutcomes (defaults_of (book_of text).header) (paper_in text) how (book_of text).tunes outcomes
 
 abbrev pub status_of : List Outcome → Status
 status_of outcomes = if some_fault outcomes then status.SomeRefused else status.Done
@@ -35,9 +36,9 @@ status_of outcomes = if some_fault outcomes then status.SomeRefused else status.
 -- Of `set`: the page, read back, is the one sheet that the tunes without fault call for; on it the ranks read off each staff are the
 -- marks that the score calls for, boxes of one lane in different columns stay apart, and so do staves, and each block lies on its page
 -- and follows the one before it; and each fault is told.
-pub record CallsPages (flow : Bool) (text : List ℕ) (c : Called) : Type 0 where
+pub record CallsPages (how : How) (text : List ℕ) (c : Called) : Type 0 where
   pub outcomes : List Outcome
-  pub set : AreSet flow text outcomes
+  pub set : AreSet how text outcomes
   pub sheet : Spells (sheet_of (paper_in text) outcomes) c.page
   pub symbols : AllShown (paper_in text) outcomes
   pub apart : AreClear (paper_in text) outcomes
@@ -58,9 +59,9 @@ abbrev pub IsListedBy : Bool → Paper → List ℕ → List Outcome → Type 0
 IsListedBy true paper page outcomes = ListsTheScores paper page outcomes
 IsListedBy false paper page outcomes = ⊤
 
-pub record CallsSystems (flow table : Bool) (text : List ℕ) (c : Called) : Type 0 where
+pub record CallsSystems (how : How) (table : Bool) (text : List ℕ) (c : Called) : Type 0 where
   pub outcomes : List Outcome
-  pub set : AreSet flow text outcomes
+  pub set : AreSet how text outcomes
   pub page : c.page ≡ systems_by table outcomes
   pub listed : IsListedBy table (paper_in text) c.page outcomes
   pub told : c.told ≡ reports outcomes
@@ -81,9 +82,9 @@ trial_of tunes outcomes sheet = record {
   total = total_of outcomes;
 }
 
-pub record Tries (tunes : ℕ) (flow : Bool) (c : Called) : Type 0 where
+pub record Tries (tunes : ℕ) (how : How) (c : Called) : Type 0 where
   pub outcomes : List Outcome
-  pub set : AreSet flow (book tunes) outcomes
+  pub set : AreSet how (book tunes) outcomes
   pub page : c.page ≡ trial_text (trial_of tunes outcomes (sheet_of (paper_in (book tunes)) outcomes))
   pub quietly : IsQuietly c
 

@@ -18,6 +18,7 @@ use Rattle.lay_cert.specs.Places as listing
 use Rattle.lay_cert.specs.Reports.{verdict_text}
 use Rattle.abcps_words.specs.declared.command.Command.{Command}
 use Rattle.abcps_words.specs.declared.command.Command.TheVariants as command
+use Rattle.set_tune.specs.How.{how_of, unmoved}
 use Rattle.abcps.specs.Called.{Called, IsQuietly}
 use Rattle.abcps.specs.Books.{CallsPages, CallsSystems, Tries}
 use Rattle.abcps.specs.Outputs.{sheet_report}
@@ -70,18 +71,18 @@ pub record IsPainted (text : List ℕ) (c : Called) : Type 0 where
   pub quietly : IsQuietly c
 
 abbrev pub Calls : Command → List ℕ → Called → Type 0
-Calls (command.Set flow jobs) text c = CallsPages flow text c
-Calls (command.Systems flow table) text c = CallsSystems flow table text c
+Calls (command.Set flow jobs by) text c = CallsPages (how_of flow by) text c
+Calls (command.Systems flow table by) text c = CallsSystems (how_of flow by) table text c
 Calls command.Inspect text c = Shows sheet_report text c
 Calls command.Check text c = Judges text c
 Calls (command.Make tunes) text c = Makes tunes c
-Calls (command.Trial tunes flow jobs) text c = Tries tunes flow c
+Calls (command.Trial tunes flow jobs) text c = Tries tunes (unmoved flow) c
 Calls command.Paint text c = IsPainted text c
 Calls (command.Hear spread) text c = Shows (heard_text spread) text c
 
 -- the same command with one job, where it takes a number of jobs
 abbrev pub by_one_job : Command → Command
-by_one_job (command.Set flow jobs) = command.Set flow 1
+by_one_job (command.Set flow jobs by) = command.Set flow 1 by
 by_one_job (command.Trial tunes flow jobs) = command.Trial tunes flow 1
 by_one_job c = c
 

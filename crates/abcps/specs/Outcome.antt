@@ -5,6 +5,8 @@ use Rattle.eng_io.specs.Causes.{Rose}
 use Rattle.abc_lines.specs.Books.{book_of}
 use Rattle.abc_header.specs.Defaults.{defaults_of}
 use Rattle.ps_text.specs.Document.{document}
+use Rattle.set_tune.specs.declared.how.How.{How}
+use Rattle.set_tune.specs.How.{how_of}
 use Rattle.set_book.specs.declared.outcome.Outcome.{Outcome}
 use Rattle.set_book.specs.Outcomes.{AreOutcomes}
 use Rattle.set_pages.specs.Sheet.{sheet_of}
@@ -70,16 +72,16 @@ WasCut called o e = (TookFront o called.page × IsQuiet e) ⊎ (TookAll o called
 
 -- `set` ended while some tunes of its book were left: so many were set, and what output took is a front of their document, and of whatever
 -- is called for of the whole book.
-pub record IsCutShort (flow : Bool) (text : List ℕ) (o : Stream) : Type 0 where
+pub record IsCutShort (how : How) (text : List ℕ) (o : Stream) : Type 0 where
   pub count : ℕ
   pub left : count < length (book_of text).tunes
   pub outcomes : List Outcome
-  pub set : AreOutcomes (defaults_of (book_of text).header) (paper_in text) flow (take count (book_of text).tunes) outcomes
+  pub set : AreOutcomes (defaults_of (book_of text).header) (paper_in text) how (take count (book_of text).tunes) outcomes
   pub first : HasFront o (document (sheet_of (paper_in text) outcomes))
-  pub all : (called : Called) → CallsPages flow text called → HasFront o called.page
+  pub all : (called : Called) → CallsPages how text called → HasFront o called.page
 
 abbrev pub WasCutShort : Command → List ℕ → Stream → Type 0
-WasCutShort (command.Set flow jobs) text o = IsCutShort flow text o
+WasCutShort (command.Set flow jobs by) text o = IsCutShort (how_of flow by) text o
 WasCutShort _ text o = ⊥
 
 -- A sink failed while what is called for was written, or output did before `set` had set all tunes.

@@ -9,6 +9,7 @@ use Rattle.ps_text.specs.Document.{numbered, page_text, trailer}
 use Rattle.ps_text.specs.Prolog.{prolog}
 use Rattle.ps_text.specs.declared.sheet.Page.{Page}
 use Rattle.ps_text.specs.declared.sheet.Sheet.{Sheet}
+use Rattle.set_tune.specs.declared.how.How.{How}
 use Rattle.set_book.specs.declared.outcome.Outcome.{Outcome}
 use Rattle.set_book.specs.Outcomes.{AreOutcomes}
 use Rattle.set_lists.specs.Reports.{reports, some_fault}
@@ -58,9 +59,9 @@ pub record IsBegun (r : Running) : Type 0 where
   pub none : (paper : Paper) → IsRunning paper [] [] r
 
 -- what came of these tunes was taken behind what was taken before
-pub record AreTaken (defaults : Defaults) (paper : Paper) (flow : Bool) (tunes : List TuneText) (old new : Running) : Type 0 where
+pub record AreTaken (defaults : Defaults) (paper : Paper) (how : How) (tunes : List TuneText) (old new : Running) : Type 0 where
   pub outcomes : List Outcome
-  pub set : AreOutcomes defaults paper flow tunes outcomes
+  pub set : AreOutcomes defaults paper how tunes outcomes
   pub taken : (before : List Outcome) (given : List Page) → IsRunning paper before given old → IsRunning paper (before ++ outcomes) given new
 
 -- the text of a document up to the end of its first pages, and what stands behind them
@@ -76,30 +77,30 @@ IsClosed paper outcomes given o (Ok p) = TookAll o (rest_text given (sheet_of pa
 IsClosed paper outcomes given o (Err why) = WasStopped why o (rest_text given (sheet_of paper outcomes))
 
 -- these tunes were set, and the document was written up to the end of these pages
-pub record AreRunning (defaults : Defaults) (paper : Paper) (flow : Bool) (tunes : List TuneText) (o : Stream) (r : Running) : Type 0 where
+pub record AreRunning (defaults : Defaults) (paper : Paper) (how : How) (tunes : List TuneText) (o : Stream) (r : Running) : Type 0 where
   pub outcomes : List Outcome
   pub given : List Page
-  pub set : AreOutcomes defaults paper flow tunes outcomes
+  pub set : AreOutcomes defaults paper how tunes outcomes
   pub running : IsRunning paper outcomes given r
   pub free : IsOpen r.press
   pub wrote : TookAll o (first_text paper given)
 
 -- The first of these tunes were set, and the document was being written up to the last page that they fill.
-pub record AreCutOff (defaults : Defaults) (paper : Paper) (flow : Bool) (tunes : List TuneText) (o : Stream) (why : Status) : Type 0 where
+pub record AreCutOff (defaults : Defaults) (paper : Paper) (how : How) (tunes : List TuneText) (o : Stream) (why : Status) : Type 0 where
   pub before : List TuneText
   pub rest : List TuneText
   pub whole : before ++ rest ≡ tunes
   pub outcomes : List Outcome
-  pub set : AreOutcomes defaults paper flow before outcomes
+  pub set : AreOutcomes defaults paper how before outcomes
   pub given : List Page
   pub press : Press
   pub pressed : IsPressed paper outcomes given press
   pub free : IsOpen press
   pub wrote : WasStopped why o (first_text paper (given ++ done_pages press))
 
-abbrev pub ArePrinted : Defaults → Paper → Bool → List TuneText → Stream → Result Running Status → Type 0
-ArePrinted defaults paper flow tunes o (Ok r) = AreRunning defaults paper flow tunes o r
-ArePrinted defaults paper flow tunes o (Err why) = AreCutOff defaults paper flow tunes o why
+abbrev pub ArePrinted : Defaults → Paper → How → List TuneText → Stream → Result Running Status → Type 0
+ArePrinted defaults paper how tunes o (Ok r) = AreRunning defaults paper how tunes o r
+ArePrinted defaults paper how tunes o (Err why) = AreCutOff defaults paper how tunes o why
 
 -- how a sink counted where this answer came before a text's end
 abbrev pub WasCounted : Status → Stream → Type 0
@@ -108,11 +109,11 @@ WasCounted status.Memory s = s.count_after ≡ s.count_before
 WasCounted _ s = ⊥
 
 -- why the document of a book was not written to its end: memory ran out before it was begun, or all tunes were set, or some were left
-pub data IsUnprinted (flow : Bool) (text : List ℕ) (o : Stream) (why : Status) : Type 0 where
-  unbegun : why ≡ status.Memory → IsQuiet o → IsUnprinted flow text o why
-  all_set : (called : Called) → CallsPages flow text called → WasStopped why o called.page → IsUnprinted flow text o why
-  some_left : IsCutShort flow text o → WasCounted why o → IsUnprinted flow text o why
+pub data IsUnprinted (how : How) (text : List ℕ) (o : Stream) (why : Status) : Type 0 where
+  unbegun : why ≡ status.Memory → IsQuiet o → IsUnprinted how text o why
+  all_set : (called : Called) → CallsPages how text called → WasStopped why o called.page → IsUnprinted how text o why
+  some_left : IsCutShort how text o → WasCounted why o → IsUnprinted how text o why
 
-abbrev pub IsPrinted : Bool → List ℕ → Stream → Result Printed Status → Type 0
-IsPrinted flow text o (Ok p) = (called : Called) × CallsPages flow text called × (p.told ≡ called.told) × (p.status ≡ called.status) × TookAll o called.page
-IsPrinted flow text o (Err why) = IsUnprinted flow text o why
+abbrev pub IsPrinted : How → List ℕ → Stream → Result Printed Status → Type 0
+IsPrinted how text o (Ok p) = (called : Called) × CallsPages how text called × (p.told ≡ called.told) × (p.status ≡ called.status) × TookAll o called.page
+IsPrinted how text o (Err why) = IsUnprinted how text o why

@@ -3,6 +3,7 @@ ghost use Rattle.abc_header.specs.Papers.{IsGoodPaper};
 ghost use Rattle.gen_book.specs.Book.{book};
 ghost use Rattle.ps_text.specs.Document.{document};
 ghost use Rattle.ps_text.specs.Range.{IsSheet};
+ghost use Rattle.set_tune.specs.How.{IsGoodHow};
 ghost use Rattle.set_lists.specs.Listing.{AreListable};
 ghost use Rattle.set_lists.specs.Reports.{reports};
 ghost use Rattle.set_lists.specs.Trials.{trial_text};
@@ -28,6 +29,7 @@ use set_lists::{
     put_systems, put_trial, set_count, system_count, total_of,
 };
 use set_pages::sheet_for;
+use set_tune::How;
 use std::alloc::Global;
 use std::thread::Threads;
 
@@ -43,20 +45,21 @@ fn set_text<R: Threads + Sync, G: Gate + Sync>(
     rt: &R,
     alloc: Global,
     text: &[u8],
-    flow: bool,
+    how: How,
     jobs: u8,
     gate: &G,
 ) -> Result<SetBook, Memory>
     requires some { 1 ≤ jobs }
     requires few { jobs ≤ 64 }
+    requires how { IsGoodHow how }
     requires within { length text.now ≤ 2 ^ 30 }
     ensures paper { IfOk result (λ set. set.paper ≡ paper_in text.now) }
     ensures good { IfOk result (λ set. IsGoodPaper set.paper) }
-    ensures set { IfOk result (λ set. AreSet flow text.now set.outcomes) }
+    ensures set { IfOk result (λ set. AreSet how text.now set.outcomes) }
 {
     let book = cut_book(alloc, text)?;
     let paper = read_paper(&book);
-    let outcomes = set_all(rt, alloc, &book, &paper, flow, jobs, gate)?;
+    let outcomes = set_all(rt, alloc, &book, &paper, how, jobs, gate)?;
     Ok(SetBook { paper, outcomes })
 }
 
@@ -81,7 +84,7 @@ pub(crate) fn set<R: Threads + Sync, O: Sink, E: Sink, G: Gate + Sync>(
     rt: &R,
     alloc: Global,
     text: &[u8],
-    flow: bool,
+    how: How,
     jobs: u8,
     output: &mut O,
     errors: &mut E,
@@ -89,12 +92,13 @@ pub(crate) fn set<R: Threads + Sync, O: Sink, E: Sink, G: Gate + Sync>(
 ) -> Status
     requires some { 1 ≤ jobs }
     requires few { jobs ≤ 64 }
+    requires how { IsGoodHow how }
     requires within { length text.now ≤ 8388608 }
-    ensures { IsAnswer (command.Set flow jobs) result text.now
+    ensures { IsAnswer (command.Set how.flow jobs how.by) result text.now
         (record { before = O.taken output.old; after = O.taken output.new; count_before = O.faults output.old; count_after = O.faults output.new })
         (record { before = E.taken errors.old; after = E.taken errors.new; count_before = E.faults errors.old; count_after = E.faults errors.new }) }
 {
-    match print_book(rt, alloc, text, flow, jobs, output, gate) {
+    match print_book(rt, alloc, text, how, jobs, output, gate) {
         Ok(printed) => end(errors, printed.told.as_slice(), printed.status),
         Err(why) => why,
     }
@@ -143,17 +147,18 @@ pub(crate) fn systems<R: Threads + Sync, O: Sink, E: Sink>(
     rt: &R,
     alloc: Global,
     text: &[u8],
-    flow: bool,
+    how: How,
     table: bool,
     output: &mut O,
     errors: &mut E,
 ) -> Status
-    requires { length text.now ≤ 8388608 }
-    ensures { IsAnswer (command.Systems flow table) result text.now
+    requires how { IsGoodHow how }
+    requires few { length text.now ≤ 8388608 }
+    ensures { IsAnswer (command.Systems how.flow table how.by) result text.now
         (record { before = O.taken output.old; after = O.taken output.new; count_before = O.faults output.old; count_after = O.faults output.new })
         (record { before = E.taken errors.old; after = E.taken errors.new; count_before = E.faults errors.old; count_after = E.faults errors.new }) }
 {
-    let Ok(book) = set_text(rt, alloc, text, flow, 1, &Open) else {
+    let Ok(book) = set_text(rt, alloc, text, how, 1, &Open) else {
         return Status::Memory;
     };
     outcomes_are_listable();
@@ -245,7 +250,7 @@ pub(crate) fn trial<R: Threads + Sync, O: Sink, E: Sink, G: Gate + Sync>(
     if text.len() > 1_073_741_824 {
         return Status::Memory;
     }
-    let Ok(book) = set_text(rt, alloc, text.as_slice(), flow, jobs, gate) else {
+    let Ok(book) = set_text(rt, alloc, text.as_slice(), How::unmoved(flow), jobs, gate) else {
         return Status::Memory;
     };
     write_trial(

@@ -3,6 +3,7 @@ ghost use Rattle.abc_lines.specs.declared.book.TuneText as tune_text;
 ghost use Rattle.abc_lines.specs.Good.{IsGoodTune};
 ghost use Rattle.abc_header.specs.Good.{IsGoodDefaults};
 ghost use Rattle.abc_header.specs.Papers.{IsGoodPaper};
+ghost use Rattle.set_tune.specs.How.{IsGoodHow};
 ghost use Rattle.set_pages.specs.Press.{IsOpen};
 ghost use Rattle.abcps.specs.Pressed.{ArePrinted, AreTaken, IsPrinted};
 
@@ -13,6 +14,7 @@ use abc_lines::{TuneText, cut_book};
 use eng_io::Sink;
 use mus_units::Memory;
 use set_book::{Gate, set_tunes};
+use set_tune::How;
 use std::alloc::Global;
 use std::thread::Threads;
 
@@ -26,7 +28,7 @@ fn take_batch<R: Threads + Sync, G: Gate + Sync>(
     batch: &[TuneText],
     defaults: &Defaults,
     paper: &Paper,
-    flow: bool,
+    how: How,
     jobs: u8,
     run: &mut Running,
     gate: &G,
@@ -35,13 +37,14 @@ fn take_batch<R: Threads + Sync, G: Gate + Sync>(
     requires counted { All (λ tune. 1 ≤ tune.ordinal) batch.now }
     requires defaults { IsGoodDefaults defaults.now }
     requires paper { IsGoodPaper paper.now }
+    requires how { IsGoodHow how }
     requires some { 1 ≤ jobs }
     requires few { jobs ≤ 64 }
     requires open { IsOpen run.old.press }
-    ensures taken { OnOk result (AreTaken defaults.now paper.now flow batch.now run.old run.new) }
+    ensures taken { OnOk result (AreTaken defaults.now paper.now how batch.now run.old run.new) }
     ensures open { OnOk result (IsOpen run.new.press) }
 {
-    let outcomes = set_tunes(rt, alloc, batch, defaults, paper, flow, jobs, gate)?;
+    let outcomes = set_tunes(rt, alloc, batch, defaults, paper, how, jobs, gate)?;
     take(alloc, paper, outcomes.as_slice(), run)
 }
 
@@ -53,7 +56,7 @@ fn print_tunes<R: Threads + Sync, O: Sink, G: Gate + Sync>(
     tunes: &[TuneText],
     defaults: &Defaults,
     paper: &Paper,
-    flow: bool,
+    how: How,
     jobs: u8,
     output: &mut O,
     gate: &G,
@@ -62,18 +65,17 @@ fn print_tunes<R: Threads + Sync, O: Sink, G: Gate + Sync>(
     requires counted { All (λ tune. 1 ≤ tune.ordinal) tunes.now }
     requires defaults { IsGoodDefaults defaults.now }
     requires paper { IsGoodPaper paper.now }
+    requires how { IsGoodHow how }
     requires some { 1 ≤ jobs }
     requires few { jobs ≤ 64 }
-    ensures { ArePrinted defaults.now paper.now flow tunes.now (record { before = O.taken output.old; after = O.taken output.new; count_before = O.faults output.old; count_after = O.faults output.new }) result }
+    ensures { ArePrinted defaults.now paper.now how tunes.now (record { before = O.taken output.old; after = O.taken output.new; count_before = O.faults output.old; count_after = O.faults output.new }) result }
 {
     let mut run = begin_run(alloc, paper, output)?;
     let mut rest = tunes;
     'batches: while !rest.is_empty() {
         run = write_done(alloc, run, output)?;
         let (batch, later) = rest.split_at(rest.len().min(BATCH));
-        take_batch(
-            rt, alloc, batch, defaults, paper, flow, jobs, &mut run, gate,
-        )?;
+        take_batch(rt, alloc, batch, defaults, paper, how, jobs, &mut run, gate)?;
         rest = later;
     }
     Ok(run)
@@ -84,7 +86,7 @@ pub(crate) fn print_book<R: Threads + Sync, O: Sink, G: Gate + Sync>(
     rt: &R,
     alloc: Global,
     text: &[u8],
-    flow: bool,
+    how: How,
     jobs: u8,
     output: &mut O,
     gate: &G,
@@ -92,14 +94,12 @@ pub(crate) fn print_book<R: Threads + Sync, O: Sink, G: Gate + Sync>(
     requires some { 1 ≤ jobs }
     requires few { jobs ≤ 64 }
     requires within { length text.now ≤ 2 ^ 30 }
-    ensures { IsPrinted flow text.now (record { before = O.taken output.old; after = O.taken output.new; count_before = O.faults output.old; count_after = O.faults output.new }) result }
+    ensures { IsPrinted how text.now (record { before = O.taken output.old; after = O.taken output.new; count_before = O.faults output.old; count_after = O.faults output.new }) result }
 {
     let book = cut_book(alloc, text)?;
     let paper = read_paper(&book);
     let defaults = read_defaults(&book);
     let tunes = book.tunes.as_slice();
-    let run = print_tunes(
-        rt, alloc, tunes, &defaults, &paper, flow, jobs, output, gate,
-    )?;
+    let run = print_tunes(rt, alloc, tunes, &defaults, &paper, how, jobs, output, gate)?;
     end_run(alloc, run, output)
 }

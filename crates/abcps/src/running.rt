@@ -17,6 +17,7 @@ use eng_io::{ReadError, Sink, Source, read_all};
 use ps_machine::one_answer;
 use set_book::{Gate, one_outcome};
 use set_lists::no_way_is_exact;
+use set_tune::How;
 use std::alloc::Global;
 use std::thread::Threads;
 
@@ -38,9 +39,20 @@ fn answer<R: Threads + Sync, O: Sink, E: Sink, G: Gate + Sync>(
         (record { before = E.taken errors.old; after = E.taken errors.new; count_before = E.faults errors.old; count_after = E.faults errors.new }) }
 {
     match command {
-        Command::Set { flow, jobs } => set(rt, alloc, text, flow, jobs, output, errors, gate),
-        Command::Systems { flow, table } => {
-            systems(rt, alloc, text, flow, table, output, errors)
+        Command::Set { flow, jobs, by } => {
+            set(
+                rt,
+                alloc,
+                text,
+                How { flow, by },
+                jobs,
+                output,
+                errors,
+                gate,
+            )
+        }
+        Command::Systems { flow, table, by } => {
+            systems(rt, alloc, text, How { flow, by }, table, output, errors)
         }
         Command::Inspect => inspect(alloc, text, output, errors),
         Command::Check => check(alloc, text, output, errors),
@@ -152,7 +164,7 @@ pub fn never_both()
 /// tunes are left, what went out is a front of whatever the book calls for, and nothing is told.
 ///
 /// Faulty tunes of `set` and `systems` are told on `errors`, a line each. With `flow` no bar is
-/// forced; `jobs` tunes are set side by side, where threads can be made, and what is written is the
+/// forced, and a score is moved by `by` semitones before it is set; `jobs` tunes are set side by side, where threads can be made, and what is written is the
 /// same for every number of them. Each tune enters `gate` once, before it is set. What each answer
 /// means, and what it leaves on each stream, is said by name in the promises.
 pub fn run<R: Threads + Sync, S: Source, O: Sink, E: Sink, G: Gate + Sync>(

@@ -12,11 +12,11 @@ pub write_systems-requires : goal.write_systems-requires
 write_systems-requires g c =
     let text = c.args.text.now in
     subst (λ outcomes. AreListable outcomes) (sym c.as_slice.ensures)
-    (c.outcomes_are_listable.ensures (defaults_of (book_of text).header) (paper_in text) c.args.flow (book_of text).tunes c.in-Ok.book.outcomes c.in-Ok.ensures.set)
+    (c.outcomes_are_listable.ensures (defaults_of (book_of text).header) (paper_in text) c.args.how (book_of text).tunes c.in-Ok.book.outcomes c.in-Ok.ensures.set)
 
 pub returns : goal.returns
 returns g c =
-    answer_by (command.Systems c.args.flow c.args.table) c.args.text.now (systems_called c.args.table c.as_slice.result.now)
-    (calls_systems c.lists_the_book.ensures c.args.flow c.args.table c.args.text.now c.as_slice.result.now (let few = c.requires in omega (arith, few))
-    (subst (λ outcomes. AreSet c.args.flow c.args.text.now outcomes) (sym c.as_slice.ensures) c.in-Ok.ensures.set))
+    answer_by (command.Systems c.args.how.flow c.args.table c.args.how.by) c.args.text.now (systems_called c.args.table c.as_slice.result.now)
+    (calls_systems c.lists_the_book.ensures c.args.how c.args.table c.args.text.now c.as_slice.result.now (let few = c.requires.few in omega (arith, few))
+    (subst (λ outcomes. AreSet c.args.how c.args.text.now outcomes) (sym c.as_slice.ensures) c.in-Ok.ensures.set))
     _ _ c.write_systems.result c.write_systems.ensures

@@ -1,3 +1,4 @@
+use Rattle.set_tune.specs.How.{unmoved}
 use Rattle.std.proofs.Common.{◌∙◌, [], subst, sym}
 use Rattle.std.specs.List.{All}
 use Rattle.set_pages.specs.Sheet.{IsSetUnder}
@@ -10,11 +11,11 @@ use Rattle.abcps.proofs.books.trial.Goals as goal
 pub write_trial-requires-clause-set : goal.write_trial-requires-clause-set
 write_trial-requires-clause-set g c =
     subst (λ outcomes. All (IsSetUnder c.in-Ok-set_text.book.paper) outcomes) (sym c.as_slice-2.ensures)
-    (set_under c.args.flow c.as_slice.result.now c.in-Ok-set_text.book.paper c.in-Ok-set_text.book.outcomes c.in-Ok-set_text.ensures.paper c.in-Ok-set_text.ensures.set)
+    (set_under (unmoved c.args.flow) c.as_slice.result.now c.in-Ok-set_text.book.paper c.in-Ok-set_text.book.outcomes c.in-Ok-set_text.ensures.paper c.in-Ok-set_text.ensures.set)
 
 pub returns : goal.returns
 returns g c =
     answer_by (command.Trial c.args.tunes c.args.flow c.args.jobs) [] (trial_called c.args.tunes c.in-Ok-set_text.book.paper c.as_slice-2.result.now)
-    (tries c.args.tunes c.args.flow c.as_slice.result.now c.in-Ok-set_text.book.paper c.as_slice-2.result.now (c.as_slice.ensures ∙ c.in-Ok.ensures) c.in-Ok-set_text.ensures.paper
-    (subst (λ outcomes. AreSet c.args.flow c.as_slice.result.now outcomes) (sym c.as_slice-2.ensures) c.in-Ok-set_text.ensures.set))
+    (tries c.args.tunes (unmoved c.args.flow) c.as_slice.result.now c.in-Ok-set_text.book.paper c.as_slice-2.result.now (c.as_slice.ensures ∙ c.in-Ok.ensures) c.in-Ok-set_text.ensures.paper
+    (subst (λ outcomes. AreSet (unmoved c.args.flow) c.as_slice.result.now outcomes) (sym c.as_slice-2.ensures) c.in-Ok-set_text.ensures.set))
     _ _ c.write_trial.result c.write_trial.ensures

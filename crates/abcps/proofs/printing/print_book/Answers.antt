@@ -23,11 +23,11 @@ returns-in_err-run g c =
     of_book (λ defaults paper tunes. IsGoodPaper paper) text c.in_ok-book.book c.read_paper-paper.result c.read_defaults-defaults.result c.as_slice-tunes.result.now c.in_ok-book.ensures.book c.read_paper-paper.ensures.value
     c.read_defaults-defaults.ensures.value c.as_slice-tunes.ensures c.read_paper-paper.ensures.good in
     let cut =
-    of_book (λ defaults paper tunes. AreCutOff defaults paper c.args.flow tunes (stream (g.O.Sink.taken c.args.output.now) (g.O.Sink.taken c.print_tunes.new.output) (g.O.Sink.faults c.args.output.now) (g.O.Sink.faults c.print_tunes.new.output)) c.in_err-run.field-0.0)
+    of_book (λ defaults paper tunes. AreCutOff defaults paper c.args.how tunes (stream (g.O.Sink.taken c.args.output.now) (g.O.Sink.taken c.print_tunes.new.output) (g.O.Sink.faults c.args.output.now) (g.O.Sink.faults c.print_tunes.new.output)) c.in_err-run.field-0.0)
     text c.in_ok-book.book c.read_paper-paper.result c.read_defaults-defaults.result c.as_slice-tunes.result.now c.in_ok-book.ensures.book c.read_paper-paper.ensures.value
     c.read_defaults-defaults.ensures.value c.as_slice-tunes.ensures c.in_err-run.ensures in
-    subst (λ r. IsPrinted c.args.flow text (stream (g.O.Sink.taken c.args.output.now) (g.O.Sink.taken c.print_tunes.new.output) (g.O.Sink.faults c.args.output.now) (g.O.Sink.faults c.print_tunes.new.output)) r) (sym is)
-    (unprinted c.args.flow text _ c.in_err-run.field-0.0 good cut)
+    subst (λ r. IsPrinted c.args.how text (stream (g.O.Sink.taken c.args.output.now) (g.O.Sink.taken c.print_tunes.new.output) (g.O.Sink.faults c.args.output.now) (g.O.Sink.faults c.print_tunes.new.output)) r) (sym is)
+    (unprinted c.args.how text _ c.in_err-run.field-0.0 good cut)
 
 pub returns : goal.returns
 returns g c =
@@ -36,8 +36,8 @@ returns g c =
     of_book (λ defaults paper tunes. IsGoodPaper paper) text c.in_ok-book.book c.read_paper-paper.result c.read_defaults-defaults.result c.as_slice-tunes.result.now c.in_ok-book.ensures.book c.read_paper-paper.ensures.value
     c.read_defaults-defaults.ensures.value c.as_slice-tunes.ensures c.read_paper-paper.ensures.good in
     let run =
-    of_book (λ defaults paper tunes. AreRunning defaults paper c.args.flow tunes (stream (g.O.Sink.taken c.args.output.now) (g.O.Sink.taken c.print_tunes.new.output) (g.O.Sink.faults c.args.output.now) (g.O.Sink.faults c.print_tunes.new.output)) c.in_ok-run.run')
+    of_book (λ defaults paper tunes. AreRunning defaults paper c.args.how tunes (stream (g.O.Sink.taken c.args.output.now) (g.O.Sink.taken c.print_tunes.new.output) (g.O.Sink.faults c.args.output.now) (g.O.Sink.faults c.print_tunes.new.output)) c.in_ok-run.run')
     text c.in_ok-book.book c.read_paper-paper.result c.read_defaults-defaults.result c.as_slice-tunes.result.now c.in_ok-book.ensures.book c.read_paper-paper.ensures.value
     c.read_defaults-defaults.ensures.value c.as_slice-tunes.ensures c.in_ok-run.ensures in
-    printed c.args.flow text (g.O.Sink.taken c.args.output.now) (g.O.Sink.taken c.print_tunes.new.output) (g.O.Sink.taken c.end_run.new.output) (g.O.Sink.faults c.args.output.now) (g.O.Sink.faults c.print_tunes.new.output)
+    printed c.args.how text (g.O.Sink.taken c.args.output.now) (g.O.Sink.taken c.print_tunes.new.output) (g.O.Sink.taken c.end_run.new.output) (g.O.Sink.faults c.args.output.now) (g.O.Sink.faults c.print_tunes.new.output)
     (g.O.Sink.faults c.end_run.new.output) c.in_ok-run.run' good run c.end_run.result (c.end_run.ensures (paper_in text) run.outcomes run.given good run.running)
