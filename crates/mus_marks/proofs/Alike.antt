@@ -1,5 +1,5 @@
 -- Other ends of stems leave all but heights as it was. What is drawn of a voice has the shape of what is drawn of it with all ends at 0.
-use Rattle.std.proofs.Common.{◌≡◌, ◌∙◌, ℕ, zero, suc, ℤ, pos, ◌+◌, ◌-◌, max, Bool, true, false, ◌&&◌, ◌==◌, nat_lt, if◌then◌else◌, List, [], ◌∷◌, ◌++◌, map, take, drop, Option, Some, None, refl, sym, ap}
+use Rattle.std.proofs.Common.{◌≡◌, ◌∙◌, ℕ, zero, suc, ℤ, pos, ◌+◌, ◌-◌, max, Bool, true, false, ◌&&◌, ◌==◌, nat_lt, if◌then◌else◌, List, [], ◌∷◌, ◌++◌, length, map, take, drop, Option, Some, None, refl, sym, ap}
 use Rattle.std.specs.List.{find, flat_map, slice_get, slice_range}
 use Rattle.std.specs.Option.{option_map}
 use Rattle.std.proofs.lemmas.List.{drop-map, map-append, take-map}
@@ -22,18 +22,22 @@ use Rattle.mus_stems.specs.Slope.{with_end}
 use Rattle.mus_laid.specs.declared.drawn.Bridge.{Bridge}
 use Rattle.mus_laid.specs.declared.drawn.Drawn.{Drawn}
 use Rattle.mus_laid.specs.declared.laid.Laid.{Laid}
+use Rattle.mus_laid.specs.declared.laid.Lane.TheVariants as lanes
+use Rattle.mus_laid.specs.Printed.{printed}
 use Rattle.mus_laid.specs.Ranked.{bridge_at, drawn_at}
 use Rattle.mus_laid.specs.Shapes.{laid_shape, marks_shape, staff_shape}
 use Rattle.mus_ink.specs.declared.beams.Stem.{Stem}
 use Rattle.mus_ink.specs.Beams.{beam_marks, beams_at, beams_from, goes_on, last_at, level_from, levels_before, levels_from, stem_of, way_of}
 use Rattle.mus_ink.specs.Decos.{behind_deco, body_marks, deco_mark, deco_marks, first_deco, next_deco, note_marks, top_of}
-use Rattle.mus_ink.specs.Drawing.{beam, glyph, loose_glyph}
+use Rattle.mus_ink.specs.Distances.{half_character}
+use Rattle.mus_ink.specs.Drawing.{back, beam, glyph, loose_glyph}
 use Rattle.mus_ink.specs.Kinds.{deco_glyph, flag_glyph, stub_glyph}
 use Rattle.mus_ink.specs.Notes.{heads_marks}
 use Rattle.mus_ink.specs.Stems.{flag_dy, flag_marks, flags_or_stubs, lower_edge, stem_dx, stem_if, stem_marks, stub_marks}
 use Rattle.mus_words.specs.Arcs.{arc_mark, slur_mark, tie_mark}
-use Rattle.mus_words.specs.Syllables.{syllable_if, syllables_from}
-use Rattle.mus_words.specs.Texts.{above_from, below_from, text_marks, texts_above, texts_below}
+use Rattle.mus_words.specs.Syllables.{syllable_dx, syllable_if, syllables_from, verse_dy}
+use Rattle.mus_words.specs.Texts.{above_dy, above_from, below_dy, below_from, text_marks, texts_above, texts_below}
+use Rattle.mus_words.specs.Words.{words}
 use Rattle.mus_drawn.specs.declared.drawn.DrawnEvent.{DrawnEvent}
 use Rattle.mus_drawn.specs.declared.drawn.DrawnMeasure.{DrawnMeasure}
 use Rattle.mus_drawn.specs.declared.drawn.DrawnVoice.{DrawnVoice}
@@ -103,7 +107,7 @@ module _ (r : ℕ) where
   -- syllables and texts, in any room
   syllable_of : (y z : ℤ) (n : ℕ) (w : Option (List ℕ)) → map shape (syllable_if y n w) ≡ map shape (syllable_if z n w)
   syllable_of y z n None = refl
-  syllable_of y z n (Some t) = either shape _ [] _ [] _ refl refl
+  syllable_of y z n (Some t) = either shape (length (printed t) == 0) [] (words (lanes.Verse n) (syllable_dx (length (printed t))) (verse_dy y n) (printed t) ∷ []) [] _ refl refl
 
   syllables : (y z : ℤ) (n : ℕ) (ws : List (Option (List ℕ))) → map shape (syllables_from y n ws) ≡ map shape (syllables_from z n ws)
   syllables y z n [] = refl
@@ -111,18 +115,18 @@ module _ (r : ℕ) where
 
   aboves : (y z : ℤ) (k : ℕ) (ts : List (List ℕ)) → map shape (above_from y k ts) ≡ map shape (above_from z k ts)
   aboves y z k [] = refl
-  aboves y z k (t ∷ ts) = ap (λ u. _ ∷ u) (aboves y z (k + 1) ts)
+  aboves y z k (t ∷ ts) = ap (λ u. shape (words lanes.Above (back half_character) (above_dy y k) t) ∷ u) (aboves y z (k + 1) ts)
 
   belows : (y z : ℤ) (verses k : ℕ) (ts : List (List ℕ)) → map shape (below_from y verses k ts) ≡ map shape (below_from z verses k ts)
   belows y z verses k [] = refl
-  belows y z verses k (t ∷ ts) = ap (λ u. _ ∷ u) (belows y z verses (k + 1) ts)
+  belows y z verses k (t ∷ ts) = ap (λ u. shape (words lanes.Below (back half_character) (below_dy y verses k) t) ∷ u) (belows y z verses (k + 1) ts)
 
 abbrev no_room : ℕ → Room
 no_room verses = record { low = pos 0; high = pos 0; verses = verses }
 
-words : (r : ℕ) (room : Room) (f : Flat) → map (shape r) (words_marks (Some room) f) ≡ map (shape r) (words_marks (Some (no_room room.verses)) f)
+all_words : (r : ℕ) (room : Room) (f : Flat) → map (shape r) (words_marks (Some room) f) ≡ map (shape r) (words_marks (Some (no_room room.verses)) f)
 unfolding text_marks
-words r room f =
+all_words r room f =
     joined (shape r) (syllables_from room.low 1 f.event.words) (text_marks (text_place room) f) (syllables_from (pos 0) 1 f.event.words) (text_marks (text_place (no_room room.verses)) f)
     (syllables r room.low (pos 0) 1 f.event.words)
     (joined (shape r) (above_from room.high 0 (texts_above f)) (below_from room.low room.verses 0 (texts_below f)) (above_from (pos 0) 0 (texts_above f)) (below_from (pos 0) room.verses 0 (texts_below f))
@@ -133,15 +137,20 @@ module _ (keys : List ColumnKey) (room : Room) where
   abbrev none : Room
   none = no_room room.verses
 
+  change : (m : ℕ) (in_head : Bool) (e : DrawnEvent) → change_part keys m in_head e ≡ change_part keys m in_head (flat_event e)
+  change m true e = refl
+  change m false e = refl
+
   event : (m : ℕ) (in_head : Bool) (before after : ℕ) (e : DrawnEvent)
       → marks_shape (event_marks keys (Some room) m in_head before after e) ≡ marks_shape (event_marks keys (Some none) m in_head before after (flat_event e))
   unfolding event_marks
   event m in_head before after e =
       let r = note_rank keys m e in
-      let front = change_part keys m in_head e ++ graces_part keys m e in
-      joined laid_shape (front ++ note_part keys m before after e) (words_part r (Some room) e.flat) (front ++ note_part keys m before after (flat_event e)) (words_part r (Some none) e.flat)
-      (joined laid_shape front (note_part keys m before after e) front (note_part keys m before after (flat_event e)) refl
-      (ranked r _ _ (note r e.clef (pos 0) e.flat.event e.plan (pos 0) before after))) (ranked r _ _ (words r room e.flat))
+      let front = change_part keys m in_head (flat_event e) ++ graces_part keys m e in
+      joined laid_shape (change_part keys m in_head e ++ graces_part keys m e ++ note_part keys m before after e) (words_part r (Some room) e.flat) (front ++ note_part keys m before after (flat_event e)) (words_part r (Some none) e.flat)
+      (joined laid_shape (change_part keys m in_head e ++ graces_part keys m e) (note_part keys m before after e) front (note_part keys m before after (flat_event e))
+      (ap (λ t. marks_shape (t ++ graces_part keys m e)) (change m in_head e)) (ranked r _ _ (note r e.clef (pos 0) e.flat.event e.plan (pos 0) before after)))
+      (ranked r _ _ (all_words r room e.flat))
 
   behind : (p : StemPlan) (es : List DrawnEvent) → levels_behind p es ≡ levels_behind (with_end p (pos 0)) (map flat_event es)
   behind p [] = refl
@@ -249,14 +258,12 @@ module _ (keys : List ColumnKey) where
   module _ (lengths : List ℕ) (a b : ℕ) where
     arc : (piece : Piece) (x : Arc) (e f : DrawnEvent) → map span (arc_between lengths a b piece x (Some e) (Some f)) ≡ map span (arc_between lengths a b piece x (Some (flat_event e)) (Some (flat_event f)))
     unfolding arc_mark tie_mark slur_mark
-    arc piece x e f = by x.tie
+    arc piece x e f = by x.tie (left_key a piece x.from e) (right_key lengths b piece x.to f)
       where
-        left = left_key a piece x.from e
-        right = right_key lengths b piece x.to f
-        by : (tie : Bool) → span (if tie then tie_mark left right piece x.head (seen_of e) (seen_of f) else slur_mark left right piece (seen_of e) (seen_of f)) ∷ []
-            ≡ span (if tie then tie_mark left right piece x.head (seen_of (flat_event e)) (seen_of (flat_event f)) else slur_mark left right piece (seen_of (flat_event e)) (seen_of (flat_event f))) ∷ []
-        by true = refl
-        by false = refl
+        by : (tie : Bool) (p q : ColumnKey) → span (if tie then tie_mark p q piece x.head (seen_of e) (seen_of f) else slur_mark p q piece (seen_of e) (seen_of f)) ∷ []
+            ≡ span (if tie then tie_mark p q piece x.head (seen_of (flat_event e)) (seen_of (flat_event f)) else slur_mark p q piece (seen_of (flat_event e)) (seen_of (flat_event f))) ∷ []
+        by true p q = refl
+        by false p q = refl
 
     arc_of : (piece : Piece) (x : Arc) (e f : Option DrawnEvent) → map span (arc_between lengths a b piece x e f) ≡ map span (arc_between lengths a b piece x (option_map flat_event e) (option_map flat_event f))
     arc_of piece x None f = refl
