@@ -6,7 +6,7 @@ use Rattle.mus_time.proofs.Places.{length_of_lengths}
 use Rattle.mus_drawn.specs.Drawn.{drawn_voice}
 use Rattle.mus_drawn.specs.Good.{AreGoodMeasures}
 use Rattle.mus_marks.specs.Staff.{staff_marks}
-use Rattle.mus_marks.specs.Tilt.{AllCanTilt, IsTilted, voice_tilted}
+use Rattle.mus_marks.specs.Tilt.{AllCanTilt, voice_tilted}
 use Rattle.mus_marks.proofs.Few.{few_keys}
 use Rattle.mus_marks.proofs.Lines.{voices_count}
 use Rattle.mus_marks.proofs.Sloping.{voices_can}
