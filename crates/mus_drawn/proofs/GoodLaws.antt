@@ -15,11 +15,10 @@ use Rattle.mus_stems.specs.declared.plans.StemPlan.{StemPlan}
 use Rattle.mus_stems.specs.Plans.{AllEndsNear}
 use Rattle.mus_units.specs.declared.note.Bar.{Bar}
 use Rattle.mus_drawn.specs.declared.drawn.DrawnEvent.{DrawnEvent}
-use Rattle.mus_drawn.specs.declared.drawn.DrawnMeasure.{DrawnMeasure}
 use Rattle.mus_drawn.specs.declared.drawn.Opening.{Opening}
 use Rattle.mus_drawn.specs.declared.standing.Standing.{Standing}
 use Rattle.mus_drawn.specs.Drawn.{standing_after, standing_behind, old_signs, opening_of, drawn_events}
-use Rattle.mus_drawn.specs.Good.{CanDraw, AllCanDraw, CanGrace, AllCanGrace, IsGoodDrawn, AreGoodDrawn, IsGoodMeasure, AreGoodMeasures}
+use Rattle.mus_drawn.specs.Good.{CanDraw, AllCanDraw, CanGrace, AllCanGrace, IsGoodDrawn, AreGoodDrawn, IsGoodMeasure}
 use Rattle.mus_drawn.proofs.Reaches.{near_of}
 
 key_after : (key : Key) (new : Option Key) → IsGoodKey key → IfSome new IsGoodKey → IsGoodKey (unwrap_or new key)
@@ -86,7 +85,3 @@ voice_can_draw verses [] few h = tt
 voice_can_draw verses (f ∷ fs) few h =
     let own = All-head (IsGoodEvent verses) f fs h in
     (record { key = own.key; words = omega (arith, few, own.words) }, voice_can_draw verses fs few (All-tail (IsGoodEvent verses) f fs h))
-
-pub measures_more : (ms : List DrawnMeasure) (m : DrawnMeasure) → AreGoodMeasures ms → IsGoodMeasure m → AreGoodMeasures (ms ++ m ∷ [])
-measures_more [] m good h = (h, tt)
-measures_more (x ∷ ms) m good h = (good.0, measures_more ms m good.1 h)

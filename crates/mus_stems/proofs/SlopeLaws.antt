@@ -1,5 +1,5 @@
 -- Lines of beams: what events stand over them, and how far they rise.
-use Rattle.std.proofs.Common.{◌≡◌, ℕ, zero, suc, ◌+◌, ◌*◌, ◌/◌, ◌<◌, ◌≤◌, ℤ, pos, negsuc, ◌-ℤ◌, ◌*ℤ◌, ◌≤ℤ◌, ◌<ℤ◌, Bool, true, false, cond, List, [], ◌∷◌, take, drop, refl, subst, sym, ap, ◌∙◌, length, map, arith}
+use Rattle.std.proofs.Common.{◌≡◌, ℕ, zero, suc, ◌+◌, ◌*◌, ◌/◌, ◌<◌, ◌≤◌, ℤ, pos, negsuc, ◌-ℤ◌, ◌*ℤ◌, ◌≤ℤ◌, ◌<ℤ◌, Bool, true, false, cond, List, [], ◌∷◌, take, drop, refl, subst, sym, ap, ◌∙◌, length, arith}
 use Rattle.std.proofs.lemmas.Int.{ints, clamps, unsigned_abs-mul}
 use Rattle.std.proofs.Math.Nat.{div-le_of_le-mul, div-lt_iff_lt-mul, mul-le-mul}
 use Rattle.std.specs.Int.RustNames.{unsigned_abs}
@@ -151,14 +151,3 @@ with_ends_length (p ∷ ps) (z ∷ zs) h = ap suc (with_ends_length ps zs (omega
 pub sloped_length : (plans : List StemPlan) (ps : List StemPlan) (xs : List ℤ) → plans ≡ sloped ps xs → length xs ≡ length ps → length plans ≡ length ps
 unfolding sloped
 sloped_length plans ps xs e h = ap (λ t. length t) e ∙ with_ends_length ps (sloped_ends (anchors ps xs)) (ends_length (sloped_ends (anchors ps xs)) (anchors ps xs) ps xs refl refl h)
-
--- their ends are those of the lines
-ends_with : (ps : List StemPlan) (zs : List ℤ) → length zs ≡ length ps → map (λ p. p.to) (with_ends ps zs) ≡ zs
-ends_with [] [] h = refl
-ends_with [] (z ∷ zs) h = absurd (omega (arith, h))
-ends_with (p ∷ ps) [] h = refl
-ends_with (p ∷ ps) (z ∷ zs) h = ap (λ t. z ∷ t) (ends_with ps zs (omega (arith, h)))
-
-pub sloped_to : (ps : List StemPlan) (xs : List ℤ) → length xs ≡ length ps → map (λ p. p.to) (sloped ps xs) ≡ sloped_ends (anchors ps xs)
-unfolding sloped
-sloped_to ps xs h = ends_with ps (sloped_ends (anchors ps xs)) (ends_length (sloped_ends (anchors ps xs)) (anchors ps xs) ps xs refl refl h)
