@@ -20,7 +20,7 @@ use Rattle.lay_columns.specs.declared.column.Column.{Column}
 use Rattle.lay_columns.specs.Column.{length_rises}
 use Rattle.lay_columns.specs.Columns.{column_reach, columns_of}
 use Rattle.lay_columns.proofs.Facts.{columns_keys}
-use Rattle.lay_measures.proofs.KeyLaws.{same_keys}
+use Rattle.mus_marks.proofs.OneList.{same_keys}
 use Rattle.lay_spans.specs.Columns.{span_columns}
 use Rattle.lay_spans.proofs.Fitting.{seen_as}
 use Rattle.lay_tune.specs.Spans.{AreColumnsOf, IsForceOf, IsSystem, column_length, score_gaps, system_columns, verses_of}
