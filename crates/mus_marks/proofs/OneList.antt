@@ -11,16 +11,16 @@ not_both : (k l : ColumnKey) → is_below k l ≡ true → is_below l k ≡ true
 unfolding is_below
 not_both k l h g = grind (arith, nat_tests)
 
-below_in : (k l : ColumnKey) (ls : List ColumnKey) → BelowAll k ls → Contains ls l → is_below k l ≡ true
+pub below_in : (k l : ColumnKey) (ls : List ColumnKey) → BelowAll k ls → Contains ls l → is_below k l ≡ true
 below_in k l [] below (i, inside, is) = absurd (omega (arith, inside))
 below_in k l (m ∷ ls) below (zero, inside, is) = subst (λ x. is_below k x ≡ true) is below.0
 below_in k l (m ∷ ls) below (suc i, inside, is) = below_in k l ls below.1 (i, omega (arith, inside), is)
 
-first_or : (x y : ColumnKey) (ys : List ColumnKey) → Contains (y ∷ ys) x → (y ≡ x) ⊎ Contains ys x
+pub first_or : (x y : ColumnKey) (ys : List ColumnKey) → Contains (y ∷ ys) x → (y ≡ x) ⊎ Contains ys x
 first_or x y ys (zero, inside, is) = inl is
 first_or x y ys (suc i, inside, is) = inr (i, omega (arith, inside), is)
 
-none_in : (x : ColumnKey) → Contains [] x → ⊥
+pub none_in : (x : ColumnKey) → Contains [] x → ⊥
 none_in x (i, inside, is) = omega (arith, inside)
 
 heads_same : (x y : ColumnKey) (xs ys : List ColumnKey) → BelowAll x xs → BelowAll y ys → (y ≡ x) ⊎ Contains ys x → (x ≡ y) ⊎ Contains xs y → x ≡ y
