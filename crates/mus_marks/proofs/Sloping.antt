@@ -10,7 +10,7 @@ use Rattle.mus_time.specs.declared.keys.ColumnKey.{ColumnKey}
 use Rattle.mus_time.specs.declared.times.Timeline.{Timeline}
 use Rattle.mus_time.specs.Keys.{AreKeys, called_keys}
 use Rattle.mus_time.proofs.RankLaws.{rank_less, rank_rises_more}
-use Rattle.mus_stems.specs.Slope.{anchor_of, anchors, AreAnchors, IsPlace, RisesAfter, RisesInBeams}
+use Rattle.mus_stems.specs.Slope.{anchor_of, AreAnchors, IsPlace, RisesAfter, RisesInBeams}
 use Rattle.mus_stems.proofs.RunLaws.{all_drop, all_take}
 use Rattle.mus_drawn.specs.declared.drawn.DrawnEvent.{DrawnEvent}
 use Rattle.mus_drawn.specs.declared.drawn.DrawnMeasure.{DrawnMeasure}
