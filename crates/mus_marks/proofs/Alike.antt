@@ -1,10 +1,12 @@
--- Other ends of stems leave all but heights as it was. What is drawn of a voice has the shape of what is drawn of it with all ends at 0.
-use Rattle.std.proofs.Common.{◌≡◌, ◌∙◌, ℕ, zero, suc, ℤ, pos, ◌+◌, ◌-◌, max, Bool, true, false, ◌&&◌, ◌==◌, nat_lt, if◌then◌else◌, List, [], ◌∷◌, ◌++◌, length, map, take, drop, Option, Some, None, refl, sym, ap}
-use Rattle.std.specs.List.{find, flat_map, slice_get, slice_range}
+-- Other ends of stems leave all but heights as it was: what is drawn of a voice has the shape of what is drawn of it with all
+-- ends at 0. So tilted marks are those that are called for, but for their heights.
+use Rattle.std.proofs.Common.{◌≡◌, ◌∙◌, ℕ, zero, suc, ℤ, pos, ◌+◌, ◌-◌, max, Bool, true, false, ◌&&◌, ◌==◌, nat_lt, if◌then◌else◌, List, [], ◌∷◌, ◌++◌, length, map, take, drop, Option, Some, None, refl, sym, ap, subst}
+use Rattle.std.specs.List.{find, flat_map, slice_get, slice_range, All}
 use Rattle.std.specs.Option.{option_map}
 use Rattle.std.proofs.lemmas.List.{drop-map, map-append, take-map}
 use Rattle.std.proofs.lemmas.Option.{slice_get-map}
 use Rattle.std.proofs.lemmas.Simd.{map-map}
+use Rattle.std.proofs.lemmas.List.Elements.{All-map}
 use Rattle.mus_units.specs.declared.glyph.Glyph.{Glyph}
 use Rattle.mus_units.specs.declared.note.Bar.{Bar}
 use Rattle.mus_units.specs.declared.note.Deco.{Deco}
@@ -12,8 +14,13 @@ use Rattle.mus_units.specs.declared.note.Head.{Head}
 use Rattle.mus_units.specs.declared.pitch.Clef.{Clef}
 use Rattle.mus_score.specs.declared.score.Event.{Event}
 use Rattle.mus_score.specs.declared.score.Flat.{Flat}
+use Rattle.mus_score.specs.declared.score.Score.{Score}
+use Rattle.mus_score.specs.declared.score.Voice.{Voice}
+use Rattle.mus_score.specs.GoodScore.{IsGoodScore}
 use Rattle.mus_time.specs.declared.keys.ColumnKey.{ColumnKey}
 use Rattle.mus_time.specs.Order.{same_key}
+use Rattle.mus_time.specs.declared.times.Timeline.{Timeline}
+use Rattle.mus_time.specs.Keys.{called_keys}
 use Rattle.mus_arcs.specs.declared.cutting.Piece.{Piece}
 use Rattle.mus_arcs.specs.declared.pairing.Arc.{Arc}
 use Rattle.mus_arcs.specs.Pieces.{piece_of}
@@ -22,10 +29,12 @@ use Rattle.mus_stems.specs.Slope.{with_end}
 use Rattle.mus_laid.specs.declared.drawn.Bridge.{Bridge}
 use Rattle.mus_laid.specs.declared.drawn.Drawn.{Drawn}
 use Rattle.mus_laid.specs.declared.laid.Laid.{Laid}
-use Rattle.mus_laid.specs.declared.laid.Lane.TheVariants as lanes
 use Rattle.mus_laid.specs.Printed.{printed}
 use Rattle.mus_laid.specs.Ranked.{bridge_at, drawn_at}
-use Rattle.mus_laid.specs.Shapes.{laid_shape, marks_shape, staff_shape}
+use Rattle.mus_laid.specs.Shapes.{laid_shape, marks_shape, staff_shape, AreAlike}
+use Rattle.mus_laid.specs.declared.laid.SystemMarks.{SystemMarks}
+use Rattle.mus_laid.specs.Boxes.{AreGoodMarks}
+use Rattle.mus_laid.specs.declared.laid.Lane.TheVariants as lanes
 use Rattle.mus_ink.specs.declared.beams.Stem.{Stem}
 use Rattle.mus_ink.specs.Beams.{beam_marks, beams_at, beams_from, goes_on, last_at, level_from, levels_before, levels_from, stem_of, way_of}
 use Rattle.mus_ink.specs.Decos.{behind_deco, body_marks, deco_mark, deco_marks, first_deco, next_deco, note_marks, top_of}
@@ -41,12 +50,19 @@ use Rattle.mus_words.specs.Words.{words}
 use Rattle.mus_drawn.specs.declared.drawn.DrawnEvent.{DrawnEvent}
 use Rattle.mus_drawn.specs.declared.drawn.DrawnMeasure.{DrawnMeasure}
 use Rattle.mus_drawn.specs.declared.drawn.DrawnVoice.{DrawnVoice}
+use Rattle.mus_drawn.specs.Drawn.{drawn_voice}
 use Rattle.mus_marks.specs.declared.events.Room.{Room}
 use Rattle.mus_marks.specs.Arcs.{arc_between, arc_in, arcs_between, event_at, event_in, has_id, left_key, piece_between, right_key, seen_of}
 use Rattle.mus_marks.specs.Bridges.{beams_between, bridges_of, event_grace_beam, grace_beams_between, stem_at}
 use Rattle.mus_marks.specs.Events.{bar_part, change_part, event_marks, events_marks, graces_part, levels_behind, levels_in, measures_marks, note_part, note_rank, text_place, words_marks, words_part}
 use Rattle.mus_marks.specs.Staff.{columns_part, first_part, head_part, room_over, staff_marks, staff_over, voice_marks}
-use Rattle.mus_marks.proofs.Ending.{flat_event, flat_measure}
+use Rattle.mus_marks.specs.System.{IsCall, staff_of}
+use Rattle.mus_marks.specs.Tilt.{IsTilted, tilted_staff_of, voice_tilted}
+use Rattle.mus_marks.proofs.Ending.{flat_event, flat_measure, ended_fits, flat_voice}
+use Rattle.mus_marks.proofs.Fitting.{voice_fits}
+use Rattle.mus_marks.proofs.OneList.{same_keys}
+use Rattle.mus_marks.proofs.Parts.{staff_all}
+use Rattle.mus_marks.proofs.Texts.{IsGood, goods}
 
 joined : {X Y : Type 0} (f : X → Y) (xs ys us vs : List X) → map f xs ≡ map f us → map f ys ≡ map f vs → map f (xs ++ ys) ≡ map f (us ++ vs)
 joined f xs ys us vs p q = map-append f xs ys ∙ ap (λ t. t ++ map f ys) p ∙ ap (λ t. map f us ++ t) q ∙ sym (map-append f us vs)
@@ -234,17 +250,12 @@ module _ (keys : List ColumnKey) where
       joined span (beams_at group flags p ps) (beams_from p.group p.flags ps) (beams_at group flags (flat p) (map flat ps)) _
       (levels (levels_before p group flags) (p.flags - levels_before p group flags) p ps) (beams p.group p.flags ps)
 
-  stems_flat : (m : ℕ) (es : List DrawnEvent) → map flat (map (stem_at m) es) ≡ map (stem_at m) (map flat_event es)
-  unfolding stem_of
-  stems_flat m [] = refl
-  stems_flat m (e ∷ es) = ap (λ t. flat (stem_at m e) ∷ t) (stems_flat m es)
-
   all_beams : (m : ℕ) (ds : List DrawnMeasure) → map span (beams_between m ds) ≡ map span (beams_between m (map flat_measure ds))
-  unfolding beam_marks
+  unfolding beam_marks stem_of
   all_beams m [] = refl
   all_beams m (d ∷ ds) =
       joined span (beam_marks (map (stem_at m) d.events)) (beams_between (m + 1) ds) (beam_marks (map (stem_at m) (map flat_event d.events))) _
-      (beams 0 0 (map (stem_at m) d.events) ∙ ap (λ t. map span (beams_from 0 0 t)) (stems_flat m d.events)) (all_beams (m + 1) ds)
+      (beams 0 0 (map (stem_at m) d.events) ∙ ap (λ t. map span (beams_from 0 0 t)) (map-map flat (stem_at m) d.events ∙ sym (map-map (stem_at m) flat_event d.events))) (all_beams (m + 1) ds)
 
   grace_event : (m : ℕ) (es : List DrawnEvent) → flat_map (event_grace_beam m) es ≡ flat_map (event_grace_beam m) (map flat_event es)
   grace_event m [] = refl
@@ -310,8 +321,28 @@ module _ (keys : List ColumnKey) (lengths : List ℕ) (a b : ℕ) where
   unfolding staff_marks staff_over room_over
   staff v = voice (room_over v.verses (voice_marks keys lengths None a b v)) v
 
-  -- voices that differ in ends of stems alone
-  pub same_shape : (v : DrawnVoice) (ds : List DrawnMeasure) → map flat_measure ds ≡ map flat_measure v.measures
-      → staff_shape (staff_marks keys lengths a b (record v { measures = ds })) ≡ staff_shape (staff_marks keys lengths a b v)
-  same_shape v ds e =
-      staff (record v { measures = ds }) ∙ ap (λ t. marks_shape (voice_marks keys lengths (Some (no_room v.verses)) a b (record v { measures = t }))) e ∙ sym (staff v)
+  each_alike : (at : List ℤ) (vs : List Voice) → map staff_shape (map (staff_of keys lengths a b) vs) ≡ map staff_shape (map (tilted_staff_of keys lengths at a b) vs)
+  each_alike at [] = refl
+  each_alike at (v ∷ vs) =
+      let d = drawn_voice v in
+      ap (λ x. x ∷ map staff_shape (map (staff_of keys lengths a b) vs))
+      (staff d ∙ ap (λ t. marks_shape (voice_marks keys lengths (Some (no_room d.verses)) a b (record d { measures = t }))) (sym (flat_voice a _ d)) ∙ sym (staff (voice_tilted keys at a b d)))
+      ∙ ap (λ xs. staff_shape (tilted_staff_of keys lengths at a b v) ∷ xs) (each_alike at vs)
+
+-- ---- tilted marks
+module _ (s : Score) (t : Timeline) (a b : ℕ) (at : List ℤ) (m : SystemMarks) (is : IsTilted s t a b at m) where
+  pub tilted_alike : (flat : SystemMarks) → IsCall s t a b flat → AreAlike flat m
+  tilted_alike flat call =
+      let same = same_keys flat.keys m.keys (called_keys s t.lengths a b) call.keys is.keys in
+      record {
+        from = call.from ∙ sym is.from;
+        to = call.to ∙ sym is.to;
+        keys = same;
+        staves = ap (map staff_shape) (call.staves ∙ ap (λ ks. map (staff_of ks t.lengths a b) s.voices) same) ∙ each_alike m.keys t.lengths a b at s.voices ∙ ap (map staff_shape) (sym is.staves);
+      }
+
+  pub tilted_good : IsGoodScore s → All (λ staff. AreGoodMarks staff.marks) m.staves
+  tilted_good good =
+      subst (All (λ staff. AreGoodMarks staff.marks)) (sym is.staves)
+      (All-map (λ staff. AreGoodMarks staff.marks) (tilted_staff_of m.keys t.lengths at a b) s.voices
+      (λ k d inside. staff_all _ m.keys IsGood (goods _ m.keys) t.lengths a b (voice_tilted m.keys at a b (drawn_voice _)) (ended_fits _ a _ (drawn_voice _) (voice_fits _ (good.voices k d inside)))))

@@ -1,6 +1,6 @@
 -- Events with other ends: the walks that write them, what stays as it was, and how it is undone.
-use Rattle.std.proofs.Common.{◌≡◌, ◌∙◌, ℕ, zero, suc, ℤ, pos, ◌+◌, ◌-◌, ◌<◌, ◌≤◌, List, [], ◌∷◌, ◌++◌, append_assoc, length, get_or, set, take, drop, map, refl, sym, ap, arith}
-use Rattle.std.specs.List.{AllByRecursion, slice_range}
+use Rattle.std.proofs.Common.{◌≡◌, ◌∙◌, ℕ, zero, suc, ℤ, pos, ◌+◌, ◌<◌, ◌≤◌, List, [], ◌∷◌, ◌++◌, length, get_or, set, take, drop, map, refl, sym, ap, arith}
+use Rattle.std.specs.List.{AllByRecursion}
 use Rattle.std.proofs.lemmas.List.{length-map, map-append, set-get_or, take-append-drop}
 use Rattle.mus_time.specs.declared.keys.ColumnKey.{ColumnKey}
 use Rattle.mus_stems.proofs.RunLaws.{all_append, all_drop, all_take}
@@ -8,7 +8,7 @@ use Rattle.mus_drawn.specs.declared.drawn.DrawnEvent.{DrawnEvent}
 use Rattle.mus_drawn.specs.declared.drawn.DrawnMeasure.{DrawnMeasure}
 use Rattle.mus_drawn.specs.declared.drawn.DrawnVoice.{DrawnVoice}
 use Rattle.mus_drawn.specs.Good.{AreGoodMeasures, IsGoodDrawn, IsGoodMeasure}
-use Rattle.mus_marks.specs.Tilt.{ends_over, event_ended, measure_ended, measures_tilted, over, plain_ends, sloped_over, voice_ended, voice_tilted}
+use Rattle.mus_marks.specs.Tilt.{event_ended, measure_ended, over, plain_ends, sloped_over, voice_ended}
 use Rattle.mus_marks.proofs.Parts.{Fits, FitsEvent, FitsMeasure}
 
 -- ---- f of each element and what a list has for it
@@ -92,13 +92,6 @@ module _ {A : Type 0} where
   seam (suc a) [] ys h = absurd (omega (arith, h))
   seam (suc a) (x ∷ xs) ys h = let more = seam a xs ys (omega (arith, h)) in (ap (λ z. x ∷ z) more.0, more.1)
 
-  drop_twice : (a n m : ℕ) (xs : List A) → a + n ≡ m → drop n (drop a xs) ≡ drop m xs
-  drop_twice zero n m xs h = ap (λ k. drop k xs) (omega (arith, h))
-  drop_twice (suc a) n zero xs h = absurd (omega (arith, h))
-  drop_twice (suc a) zero (suc m) [] h = refl
-  drop_twice (suc a) (suc n) (suc m) [] h = refl
-  drop_twice (suc a) n (suc m) (x ∷ xs) h = drop_twice a n m xs (omega (arith, h))
-
 pub flat_voice : (a : ℕ) (ends : List (List ℤ)) (v : DrawnVoice) → map flat_measure (voice_ended a ends v).measures ≡ map flat_measure v.measures
 flat_voice a ends v =
     map-append flat_measure (take a v.measures) (over measure_ended ends (drop a v.measures))
@@ -134,20 +127,6 @@ ended_back a n ends v within few =
     (over_back measure_ended (λ d. map (λ e. e.plan.to) d.events) (λ d. ap (λ es. record d { events = es }) (events_back [] d.events)) (λ es d. ap (λ es. record d { events = es }) (events_back es d.events)) n ends (drop a ms) few)
     ∙ ap (λ z. record v { measures = z }) (take-append-drop a ms)
 
--- ---- on the lines of beams
-module _ (keys : List ColumnKey) (at : List ℤ) where
-  pub sloped_length : (m : ℕ) (ds : List DrawnMeasure) → length (sloped_over keys at m ds) ≡ length ds
-  sloped_length m [] = refl
-  sloped_length m (d ∷ ds) = ap suc (sloped_length (m + 1) ds)
-
-  front_tilted : (m n : ℕ) (ds : List DrawnMeasure) → over measure_ended (sloped_over keys at m (take n ds)) ds ≡ measures_tilted keys at m (take n ds) ++ drop n ds
-  front_tilted m zero ds = refl
-  front_tilted m (suc n) [] = refl
-  front_tilted m (suc n) (d ∷ ds) = ap (λ z. measure_ended (ends_over keys at m d.events) d ∷ z) (front_tilted (m + 1) n ds)
-
-  pub tilted_is : (a b : ℕ) (v : DrawnVoice) → a < b → voice_ended a (sloped_over keys at a (slice_range v.measures a b)) v ≡ voice_tilted keys at a b v
-  tilted_is a b v order =
-      let ms = v.measures in let n = b - a in
-      let tilted = measures_tilted keys at a (take n (drop a ms)) in
-      ap (λ z. record v { measures = take a ms ++ z }) (front_tilted a n (drop a ms) ∙ ap (λ z. tilted ++ z) (drop_twice a n b ms (omega (arith, order))))
-      ∙ ap (λ z. record v { measures = z }) (sym (append_assoc (take a ms) tilted (drop b ms)))
+pub sloped_length : (keys : List ColumnKey) (at : List ℤ) (m : ℕ) (ds : List DrawnMeasure) → length (sloped_over keys at m ds) ≡ length ds
+sloped_length keys at m [] = refl
+sloped_length keys at m (d ∷ ds) = ap suc (sloped_length keys at (m + 1) ds)

@@ -10,5 +10,4 @@ pub mod OneList
 pub mod Parts
 pub mod Sloping
 pub mod Texts
-pub mod Tilted
 pub mod Unchanged

@@ -20,7 +20,7 @@ pub first_or : (x y : ColumnKey) (ys : List ColumnKey) → Contains (y ∷ ys) x
 first_or x y ys (zero, inside, is) = inl is
 first_or x y ys (suc i, inside, is) = inr (i, omega (arith, inside), is)
 
-none_in : (x : ColumnKey) → Contains [] x → ⊥
+pub none_in : (x : ColumnKey) → Contains [] x → ⊥
 none_in x (i, inside, is) = omega (arith, inside)
 
 heads_same : (x y : ColumnKey) (xs ys : List ColumnKey) → BelowAll x xs → BelowAll y ys → (y ≡ x) ⊎ Contains ys x → (x ≡ y) ⊎ Contains xs y → x ≡ y

@@ -1,5 +1,5 @@
 -- Stems of drawn events can end on lines: own ends and abscissas are in range, and abscissas rise from event to event.
-use Rattle.std.proofs.Common.{◌≡◌, ◌∙◌, ℕ, zero, suc, ℤ, pos, ◌+◌, ◌-◌, ◌<◌, ◌<ℤ◌, List, [], ◌∷◌, length, map, drop, refl, sym, ap, subst, arith}
+use Rattle.std.proofs.Common.{◌≡◌, ℕ, zero, suc, ℤ, pos, ◌+◌, ◌-◌, ◌<◌, ◌<ℤ◌, List, [], ◌∷◌, length, map, drop, subst, arith}
 use Rattle.std.proofs.lemmas.Int.{ints}
 use Rattle.std.proofs.lemmas.List.{get_or-map, length-map}
 use Rattle.std.proofs.lemmas.List.Elements.{All-map}
@@ -9,35 +9,20 @@ use Rattle.mus_score.specs.GoodScore.{IsGoodScore}
 use Rattle.mus_time.specs.declared.keys.ColumnKey.{ColumnKey}
 use Rattle.mus_time.specs.declared.times.Timeline.{Timeline}
 use Rattle.mus_time.specs.Keys.{AreKeys, called_keys}
-use Rattle.mus_time.specs.Order.{rank_of}
 use Rattle.mus_time.proofs.RankLaws.{rank_less, rank_rises_more}
-use Rattle.mus_stems.specs.Slope.{anchor_of, anchors, sloped_ends, AreAnchors, IsPlace, RisesAfter, RisesInBeams}
+use Rattle.mus_stems.specs.Slope.{anchor_of, AreAnchors, IsPlace, RisesAfter, RisesInBeams}
 use Rattle.mus_stems.proofs.RunLaws.{all_drop, all_take}
-use Rattle.mus_stems.proofs.SlopeLaws.{sloped_to}
 use Rattle.mus_drawn.specs.declared.drawn.DrawnEvent.{DrawnEvent}
 use Rattle.mus_drawn.specs.declared.drawn.DrawnMeasure.{DrawnMeasure}
 use Rattle.mus_drawn.specs.Drawn.{drawn_voice}
 use Rattle.mus_drawn.specs.Good.{AreGoodDrawn, AreGoodMeasures}
-use Rattle.mus_marks.specs.Events.{note_key}
-use Rattle.mus_marks.specs.Tilt.{AllCanTilt, AreAbscissas, anchor_at, ends_over, event_x}
+use Rattle.mus_marks.specs.Events.{note_key, note_rank}
+use Rattle.mus_marks.specs.Tilt.{AllCanTilt, AreAbscissas, anchor_at}
 use Rattle.mus_marks.proofs.GoingOn.{AllGoOn, GoOn, later_below, voice_goes_on}
 use Rattle.mus_marks.proofs.Goods.{good_slice}
 use Rattle.mus_marks.proofs.Inside.{HasEvent, HasMeasures, measures_inside}
 
-module _ (keys : List ColumnKey) (at : List ℤ) where
-  all_anchors : (m : ℕ) (es : List DrawnEvent) → anchors (map (λ e. e.plan) es) (map (event_x keys at m) es) ≡ map (anchor_at keys at m) es
-  all_anchors m [] = refl
-  all_anchors m (e ∷ es) = ap (λ t. anchor_at keys at m e ∷ t) (all_anchors m es)
-
-  pub ends_are : (m : ℕ) (es : List DrawnEvent) → sloped_ends (map (anchor_at keys at m) es) ≡ ends_over keys at m es
-  ends_are m es =
-      ap sloped_ends (sym (all_anchors m es))
-      ∙ sym (sloped_to (map (λ e. e.plan) es) (map (event_x keys at m) es) (length-map es (event_x keys at m) ∙ sym (length-map es (λ e. e.plan))))
-
 module _ (s : Score) (t : Timeline) (a b : ℕ) (keys : List ColumnKey) (at : List ℤ) (places : AreAbscissas s t a b at) (are : AreKeys keys (called_keys s t.lengths a b)) where
-  long : length at ≡ length keys
-  long = places.each keys are
-
   further : (i n : ℕ) → i + suc n < length at → slice_index_or at i (pos 0) <ℤ slice_index_or at (i + suc n) (pos 0)
   further i zero h = places.rise i h
   further i (suc n) h =
@@ -51,10 +36,10 @@ module _ (s : Score) (t : Timeline) (a b : ℕ) (keys : List ColumnKey) (at : Li
       let e : i + suc (j - i - 1) ≡ j = omega (arith, h) in
       subst (λ k. slice_index_or at i (pos 0) <ℤ slice_index_or at k (pos 0)) e (further i (j - i - 1) (omega (arith, h, inside)))
 
-  place : (m : ℕ) (e : DrawnEvent) → HasEvent keys m e → IsPlace (event_x keys at m e)
+  place : (m : ℕ) (e : DrawnEvent) → HasEvent keys m e → IsPlace (slice_index_or at (note_rank keys m e) (pos 0))
   place m e has =
-      let less = rank_less keys (note_key m e) has.note in let same = long in
-      (places.low (rank_of keys (note_key m e)) (omega (arith, less, same)), places.high (rank_of keys (note_key m e)) (omega (arith, less, same)))
+      let less : note_rank keys m e < length at = omega (arith, rank_less keys (note_key m e) has.note, places.each keys are) in
+      (places.low (note_rank keys m e) less, places.high (note_rank keys m e) less)
 
   all_in : (m : ℕ) (es : List DrawnEvent) → AllByRecursion (HasEvent keys m) es → AreGoodDrawn es → AreAnchors (map (anchor_at keys at m) es)
   unfolding anchor_of
@@ -65,11 +50,9 @@ module _ (s : Score) (t : Timeline) (a b : ℕ) (keys : List ColumnKey) (at : Li
   unfolding anchor_of
   rise_after m e [] own has on = tt
   rise_after m e (f ∷ fs) own has on =
-      let less = rank_less keys (note_key m f) has.0.note in let same = long in
-      let rise = rank_rises_more keys (note_key m e) (note_key m f) (later_below m e f on.0.0.0) own.note in (
-        (λ shares. later (rank_of keys (note_key m e)) (rank_of keys (note_key m f)) rise (omega (arith, less, same))),
-        rise_after m f fs has.0 has.1 on.1,
-      )
+      let less : note_rank keys m f < length at = omega (arith, rank_less keys (note_key m f) has.0.note, places.each keys are) in
+      let rise = rank_rises_more keys (note_key m e) (note_key m f) (later_below m e f on.0.0.0) own.note in
+      (λ shares. later (note_rank keys m e) (note_rank keys m f) rise less, rise_after m f fs has.0 has.1 on.1)
 
   rises : (m : ℕ) (es : List DrawnEvent) → AllByRecursion (HasEvent keys m) es → GoOn es → RisesInBeams (map (anchor_at keys at m) es)
   rises m [] has on = tt

@@ -7,7 +7,7 @@ use Rattle.mus_time.specs.declared.keys.ColumnKey.{ColumnKey}
 use Rattle.mus_time.specs.declared.times.Timeline.{Timeline}
 use Rattle.mus_time.specs.Keys.{AreKeys, called_keys}
 use Rattle.mus_stems.specs.declared.slopes.Anchor.{Anchor}
-use Rattle.mus_stems.specs.Slope.{anchor_of, sloped, with_end, AreAnchors, RisesInBeams}
+use Rattle.mus_stems.specs.Slope.{anchor_of, sloped_ends, with_end, AreAnchors, RisesInBeams}
 use Rattle.mus_laid.specs.declared.laid.StaffMarks.{StaffMarks}
 use Rattle.mus_laid.specs.declared.laid.SystemMarks.{SystemMarks}
 use Rattle.mus_drawn.specs.declared.drawn.DrawnEvent.{DrawnEvent}
@@ -17,13 +17,9 @@ use Rattle.mus_drawn.specs.Drawn.{drawn_voice}
 use Rattle.mus_marks.specs.Events.{note_rank}
 use Rattle.mus_marks.specs.Staff.{staff_marks}
 
--- where the column of an event of measure m stands
-abbrev pub event_x : List ColumnKey → List ℤ → ℕ → DrawnEvent → ℤ
-event_x keys at m e = slice_index_or at (note_rank keys m e) (pos 0)
-
--- what the line of its beam takes from an event of measure m
+-- what the line of its beam takes from an event of measure m: where its column stands is its abscissa
 abbrev pub anchor_at : List ColumnKey → List ℤ → ℕ → DrawnEvent → Anchor
-anchor_at keys at m e = anchor_of e.plan (event_x keys at m e)
+anchor_at keys at m e = anchor_of e.plan (slice_index_or at (note_rank keys m e) (pos 0))
 
 -- the stems of events of measure m can end on lines: own ends and abscissas are in range, and abscissas rise in beams
 pub record CanTilt (keys : List ColumnKey) (at : List ℤ) (m : ℕ) (d : DrawnMeasure) : Type 0 where
@@ -37,10 +33,16 @@ AllCanTilt keys at m (d ∷ ds) = CanTilt keys at m d × AllCanTilt keys at (m +
 
 -- the ends of the events of measure m, on the lines of their beams
 abbrev pub ends_over : List ColumnKey → List ℤ → ℕ → List DrawnEvent → List ℤ
-ends_over keys at m es = map (λ p. p.to) (sloped (map (λ e. e.plan) es) (map (event_x keys at m) es))
+ends_over keys at m es = sloped_ends (map (anchor_at keys at m) es)
 
-abbrev pub event_ended : ℤ → DrawnEvent → DrawnEvent
-event_ended to e = record e { plan = with_end e.plan to }
+-- of measures from number m on, one by one
+abbrev pub sloped_over : List ColumnKey → List ℤ → ℕ → List DrawnMeasure → List (List ℤ)
+sloped_over keys at m [] = []
+sloped_over keys at m (d ∷ ds) = ends_over keys at m d.events ∷ sloped_over keys at (m + 1) ds
+
+-- the ends that events of measures have without a slope
+abbrev pub plain_ends : List DrawnMeasure → List (List ℤ)
+plain_ends ds = map (λ d. map (λ e. e.plan.to) d.events) ds
 
 -- f of each element and what a list has for it; where this is lacking, the rest as they are
 abbrev pub over : {A B : Type 0} → (B → A → A) → List B → List A → List A
@@ -48,38 +50,20 @@ over f [] xs = xs
 over f (t ∷ ts) [] = []
 over f (t ∷ ts) (x ∷ xs) = f t x ∷ over f ts xs
 
--- events with other ends
-abbrev pub events_ended : List ℤ → List DrawnEvent → List DrawnEvent
-events_ended ends es = over event_ended ends es
+-- an event, and the events of a measure, with other ends
+abbrev pub event_ended : ℤ → DrawnEvent → DrawnEvent
+event_ended to e = record e { plan = with_end e.plan to }
 
 abbrev pub measure_ended : List ℤ → DrawnMeasure → DrawnMeasure
-measure_ended ends d = record d { events = events_ended ends d.events }
+measure_ended ends d = record d { events = over event_ended ends d.events }
 
--- measures with other ends, measure by measure
-abbrev pub measures_ended : List (List ℤ) → List DrawnMeasure → List DrawnMeasure
-measures_ended ends ds = over measure_ended ends ds
-
--- and so those of a voice, from number a on
+-- a voice whose measures have other ends from number a on, as far as there are any
 abbrev pub voice_ended : ℕ → List (List ℤ) → DrawnVoice → DrawnVoice
-voice_ended a ends v = record v { measures = take a v.measures ++ measures_ended ends (drop a v.measures) }
-
--- the ends that events have, and those on the lines of their beams, of measures from number m on
-abbrev pub plain_ends : List DrawnMeasure → List (List ℤ)
-plain_ends ds = map (λ d. map (λ e. e.plan.to) d.events) ds
-
-abbrev pub sloped_over : List ColumnKey → List ℤ → ℕ → List DrawnMeasure → List (List ℤ)
-sloped_over keys at m [] = []
-sloped_over keys at m (d ∷ ds) = ends_over keys at m d.events ∷ sloped_over keys at (m + 1) ds
-
--- measures from number m on
-abbrev pub measures_tilted : List ColumnKey → List ℤ → ℕ → List DrawnMeasure → List DrawnMeasure
-measures_tilted keys at m [] = []
-measures_tilted keys at m (d ∷ ds) = measure_ended (ends_over keys at m d.events) d ∷ measures_tilted keys at (m + 1) ds
+voice_ended a ends v = record v { measures = take a v.measures ++ over measure_ended ends (drop a v.measures) }
 
 -- measures a to b - 1 of a voice tilted, all others as they are
 abbrev pub voice_tilted : List ColumnKey → List ℤ → ℕ → ℕ → DrawnVoice → DrawnVoice
-voice_tilted keys at a b v =
-    record v { measures = take a v.measures ++ measures_tilted keys at a (slice_range v.measures a b) ++ drop b v.measures }
+voice_tilted keys at a b v = voice_ended a (sloped_over keys at a (slice_range v.measures a b)) v
 
 abbrev pub tilted_staff_of : List ColumnKey → List ℕ → List ℤ → ℕ → ℕ → Voice → StaffMarks
 tilted_staff_of keys lengths at a b v = staff_marks keys lengths a b (voice_tilted keys at a b (drawn_voice v))

@@ -1,4 +1,4 @@
-ghost use Rattle.std.specs.Prelude.{◌≡◌, ◌≤◌, ◌<◌, ◌+◌, pos, length, map, slice_index_or, slice_range, All, IfOk};
+ghost use Rattle.std.specs.Prelude.{◌≡◌, ◌≤◌, ◌<◌, ◌+◌, length, map, slice_range, All, IfOk};
 ghost use Rattle.mus_score.specs.GoodScore.{IsGoodScore};
 ghost use Rattle.mus_time.specs.Keys.{IsInSystem};
 ghost use Rattle.mus_time.specs.Onsets.{timeline_of};
@@ -9,7 +9,7 @@ ghost use Rattle.mus_laid.specs.Boxes.{AreGoodMarks};
 ghost use Rattle.mus_laid.specs.Shapes.{AreAlike};
 ghost use Rattle.mus_marks.specs.Staff.{CoversLines, staff_marks};
 ghost use Rattle.mus_marks.specs.System.{IsCall};
-ghost use Rattle.mus_marks.specs.Tilt.{anchor_at, CanTilt, AllCanTilt, ends_over, event_ended, events_ended, measure_ended, measures_ended, voice_ended, plain_ends, sloped_over, voice_tilted, AreAbscissas, IsTilted};
+ghost use Rattle.mus_marks.specs.Tilt.{anchor_at, CanTilt, AllCanTilt, ends_over, sloped_over, plain_ends, over, event_ended, measure_ended, voice_ended, voice_tilted, AreAbscissas, IsTilted};
 
 use crate::events::note_key;
 use crate::staves::staff_marks;
@@ -22,49 +22,22 @@ use mus_time::{ColumnKey, Timeline, keys_of, rank_of};
 use mus_units::{Memory, Row};
 use std::alloc::Global;
 
-/// The abscissa of the column of a rank; 0 where there is none.
-fn place_at(at: &[i64], rank: u32) -> i64
-    ensures { result ≡ slice_index_or at.now rank (pos 0) }
-{
-    match at.get(rank as usize) {
-        Some(x) => *x,
-        None => 0,
-    }
-}
-
 /// What the line of its beam takes from an event.
 #[tactic(auto, unfolding(mus_stems::specs::Slope::anchor_of))]
 fn anchor_at(keys: &[ColumnKey], at: &[i64], measure: u32, e: &DrawnEvent) -> Anchor
     requires { AreRanked keys.now }
     ensures { result ≡ anchor_at keys.now at.now measure e.now }
 {
+    let rank = rank_of(keys, note_key(measure, e));
     Anchor {
         up: e.plan.up,
         own: e.plan.own,
         group: e.plan.group,
-        x: place_at(at, rank_of(keys, note_key(measure, e))),
+        x: at.get(rank as usize).copied().unwrap_or(0),
     }
-}
-
-fn anchors_at(
-    alloc: Global,
-    keys: &[ColumnKey],
-    at: &[i64],
-    measure: u32,
-    events: &[DrawnEvent],
-) -> Result<Row<Anchor>, Memory>
-    requires { AreRanked keys.now }
-    ensures { IfOk result (λ r. r ≡ map (anchor_at keys.now at.now measure) events.now) }
-{
-    let mut anchors = Row::new(alloc);
-    for e in events {
-        anchors.push(anchor_at(keys, at, measure, e))?;
-    }
-    Ok(anchors)
 }
 
 /// The ends of the events of a measure on the lines of their beams.
-#[tactic(auto, using(crate::proofs::Sloping::ends_are))]
 fn ends_over(
     alloc: Global,
     keys: &[ColumnKey],
@@ -76,7 +49,11 @@ fn ends_over(
     requires slopes { CanTilt keys.now at.now measure d.now }
     ensures { IfOk result (λ r. r ≡ ends_over keys.now at.now measure d.now.events) }
 {
-    let anchors = anchors_at(alloc, keys, at, measure, d.events.as_slice())?;
+    let events = d.events.as_slice();
+    let mut anchors = Row::new(alloc);
+    for e in events {
+        anchors.push(anchor_at(keys, at, measure, e))?;
+    }
     ends_for(alloc, anchors.as_slice())
 }
 
@@ -131,7 +108,7 @@ fn end_event(e: &mut DrawnEvent, to: &i32)
 
 /// Gives events other ends.
 fn end_events(events: &mut [DrawnEvent], ends: &[i32])
-    ensures { events.new ≡ events_ended ends.now events.old }
+    ensures { events.new ≡ over event_ended ends.now events.old }
 {
     for (i, e) in events.iter_mut().enumerate() {
         if let Some(to) = ends.get(i) {
@@ -148,7 +125,7 @@ fn end_measure(d: &mut DrawnMeasure, ends: &Row<i32>)
 
 /// Gives the events of measures other ends.
 fn end_measures(measures: &mut [DrawnMeasure], ends: &[Row<i32>])
-    ensures { measures.new ≡ measures_ended ends.now measures.old }
+    ensures { measures.new ≡ over measure_ended ends.now measures.old }
 {
     for (i, d) in measures.iter_mut().enumerate() {
         if let Some(own) = ends.get(i) {

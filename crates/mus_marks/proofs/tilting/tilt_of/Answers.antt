@@ -10,27 +10,22 @@ use Rattle.mus_marks.specs.Tilt.{AllCanTilt, voice_tilted}
 use Rattle.mus_marks.proofs.Few.{few_keys}
 use Rattle.mus_marks.proofs.Lines.{voices_count}
 use Rattle.mus_marks.proofs.Sloping.{voices_can}
-use Rattle.mus_marks.proofs.Tilted.{tilted_alike, tilted_good}
+use Rattle.mus_marks.proofs.Alike.{tilted_alike, tilted_good}
 use Rattle.mus_marks.proofs.tilting.tilt_of.Goals as goal
 
+count : (c : goal.After-tilted_staves-arg-1) → length c.as_slice-lengths.result.now ≡ c.args.s.now.measures
+count c = ap length (c.as_slice-lengths.ensures ∙ ap (λ t. t.lengths) c.requires.times) ∙ length_of_lengths c.args.s.now
+
 pub tilted_staves-requires-clause-within : goal.tilted_staves-requires-clause-within
-tilted_staves-requires-clause-within c =
-    let count : length c.as_slice-lengths.result.now ≡ c.args.s.now.measures =
-    ap length (c.as_slice-lengths.ensures ∙ ap (λ t. t.lengths) c.requires.times) ∙ length_of_lengths c.args.s.now in
-    omega (arith, count, c.requires.within)
+tilted_staves-requires-clause-within c = omega (arith, count c, c.requires.within)
 
 pub tilted_staves-requires-clause-few : goal.tilted_staves-requires-clause-few
-tilted_staves-requires-clause-few c =
-    let count : length c.as_slice-lengths.result.now ≡ c.args.s.now.measures =
-    ap length (c.as_slice-lengths.ensures ∙ ap (λ t. t.lengths) c.requires.times) ∙ length_of_lengths c.args.s.now in
-    omega (arith, count, c.requires.good.few_measures)
+tilted_staves-requires-clause-few c = omega (arith, count c, c.requires.good.few_measures)
 
 pub tilted_staves-requires-clause-each : goal.tilted_staves-requires-clause-each
 tilted_staves-requires-clause-each c =
-    let count : length c.as_slice-lengths.result.now ≡ c.args.s.now.measures =
-    ap length (c.as_slice-lengths.ensures ∙ ap (λ t. t.lengths) c.requires.times) ∙ length_of_lengths c.args.s.now in
     subst (λ vs. All (λ v. length v.measures ≡ length c.as_slice-lengths.result.now) vs) (sym c.requires.voices)
-    (voices_count (length c.as_slice-lengths.result.now) c.args.s.now.voices (λ k d h. c.requires.good.measures k d h ∙ sym count))
+    (voices_count (length c.as_slice-lengths.result.now) c.args.s.now.voices (λ k d h. c.requires.good.measures k d h ∙ sym (count c)))
 
 pub tilted_staves-requires-clause-keys : goal.tilted_staves-requires-clause-keys
 tilted_staves-requires-clause-keys c =
@@ -60,7 +55,7 @@ returns-clause-tilted c =
     }
 
 pub returns-clause-alike : goal.returns-clause-alike
-returns-clause-alike c = λ flat call. tilted_alike c.args.a c.args.b c.requires.order c.args.at.now c.args.s.now c.args.t.now _ (returns-clause-tilted c) flat call
+returns-clause-alike c = λ flat call. tilted_alike c.args.s.now c.args.t.now c.args.a c.args.b c.args.at.now _ (returns-clause-tilted c) flat call
 
 pub returns-clause-good : goal.returns-clause-good
-returns-clause-good c = tilted_good c.args.a c.args.b c.requires.order c.args.at.now c.args.s.now c.args.t.now _ (returns-clause-tilted c) c.requires.good
+returns-clause-good c = tilted_good c.args.s.now c.args.t.now c.args.a c.args.b c.args.at.now _ (returns-clause-tilted c) c.requires.good

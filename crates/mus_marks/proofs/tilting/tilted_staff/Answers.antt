@@ -5,7 +5,7 @@ use Rattle.std.proofs.lemmas.List.{length-take}
 use Rattle.mus_drawn.specs.Good.{AreGoodMeasures}
 use Rattle.mus_marks.specs.Staff.{staff_marks}
 use Rattle.mus_marks.specs.Tilt.{plain_ends, sloped_over, voice_ended}
-use Rattle.mus_marks.proofs.Ending.{ended_back, ended_good, ended_length, sloped_length, tilted_is}
+use Rattle.mus_marks.proofs.Ending.{ended_back, ended_good, ended_length, sloped_length}
 use Rattle.mus_marks.proofs.tilting.tilted_staff.Goals as goal
 
 same_length : (c : goal.After-end_voice) → length c.end_voice.new.v.measures ≡ length c.args.v.now.measures
@@ -36,6 +36,5 @@ returns-clause-staff c =
     let keys = c.args.keys.now in let at = c.args.at.now in let a = c.args.a in let b = c.args.b in let v = c.args.v.now in
     subst (λ w. IfOk c.staff_marks-staff.result (λ r. r ≡ staff_marks keys c.args.lengths.now a b w))
     (c.end_voice.ensures
-    ∙ ap (λ ends. voice_ended a ends v) (c.as_slice-2.ensures ∙ c.in_ok-sloped.ensures ∙ ap (λ ms. sloped_over keys at a (slice_range ms a b)) c.as_slice.ensures)
-    ∙ tilted_is keys at a b v c.requires.order)
+    ∙ ap (λ ends. voice_ended a ends v) (c.as_slice-2.ensures ∙ c.in_ok-sloped.ensures ∙ ap (λ ms. sloped_over keys at a (slice_range ms a b)) c.as_slice.ensures))
     c.staff_marks-staff.ensures.staff
