@@ -15,10 +15,7 @@ use Rattle.lay_apart.specs.Apart.{AreApart, IsBoxed, Keeps, gap_of}
 
 box_shape : (x : Mark) → (rank_of (mark_shape x) ≡ rank_of x) × (sides_of (mark_shape x) ≡ sides_of x)
 box_shape (marks.Glyph glyph rank dx dy) = (refl, refl)
-box_shape (marks.Words size rank dx dy text) = (refl, refl)
-box_shape (marks.Stem rank dx from to) = (refl, refl)
-box_shape (marks.Beam way first last from to) = (refl, refl)
-box_shape (marks.Arc first last from to bulge) = (refl, refl)
+box_shape _ = (refl, refl)
 
 boxed_alike : (x y : Laid) (r : ℕ) (box : Sides) → laid_shape x ≡ laid_shape y → IsBoxed y r box → IsBoxed x r box
 boxed_alike x y r box e b = record {

@@ -31,7 +31,8 @@ use Rattle.lay_columns.proofs.JoinLaws.{columns_join, marks_join}
 use Rattle.lay_measures.specs.Law.{AreFurtherOnes, MeasuresJoin, one_after_the_other}
 use Rattle.lay_measures.specs.Measures.{AreFirst, AreFurther, fixed_room, further_staff, keys_in, staff_of_columns}
 use Rattle.lay_measures.proofs.Facts.{some_voice}
-use Rattle.lay_measures.proofs.KeyLaws.{keys_grow, same_keys, slice_long, slice_more}
+use Rattle.mus_marks.proofs.OneList.{same_keys}
+use Rattle.lay_measures.proofs.KeyLaws.{keys_grow, slice_long, slice_more}
 use Rattle.lay_measures.proofs.Ranks.{bars_in, columns_in, Fit, IsPlaced, measures_in, rank_behind, rank_front, rank_less, slice_fit, voice_fit}
 use Rattle.lay_measures.proofs.SameBoxes.{voice_same}
 use Rattle.lay_measures.proofs.Slots.{columns_laid, columns_slots, events_slots, first_slots, head_slots, lay, lay_append, lay_below, lay_moved, lay_same, measures_laid, measures_slots, slot}

@@ -1,7 +1,6 @@
 -- Keys of a system one measure longer: those of the system, then those of the further measure.
 use Rattle.std.proofs.Common.{◌≡◌, ◌∙◌, ℕ, zero, suc, ◌+◌, ◌-◌, ◌<◌, ◌≤◌, ◌⊎◌, inl, inr, Bool, true, false, List, [], ◌∷◌, ◌++◌, length, take, drop, refl, sym, ap, subst, arith}
 use Rattle.std.specs.List.{AllByRecursion, Contains, flat_map, slice_range}
-use Rattle.std.proofs.lemmas.Bool.Decides.{nat_tests}
 use Rattle.std.proofs.lemmas.List.{append_assoc}
 use Rattle.std.proofs.lemmas.List.Elements.{Contains-append_cases, Contains-append_left, Contains-append_right}
 use Rattle.mus_score.specs.declared.score.Measure.{Measure}
@@ -11,59 +10,8 @@ use Rattle.mus_score.specs.Times.{flats_of}
 use Rattle.mus_time.specs.declared.keys.Class.TheVariants as classes
 use Rattle.mus_time.specs.declared.keys.ColumnKey.{ColumnKey}
 use Rattle.mus_time.specs.Keys.{AreKeys, called_keys, events_keys, first_keys, further_keys, has_entries, key_at, measure_keys, measures_keys, signed_at, signed_behind, signed_through, voice_keys}
-use Rattle.mus_time.specs.Order.{BelowAll, is_below, Rises}
 use Rattle.mus_time.proofs.RankLaws.{rises_join}
 use Rattle.std.specs.Prelude.{slice_index}
-
--- ---- a rising list has its keys once and in order
-not_both : (k l : ColumnKey) → is_below k l ≡ true → is_below l k ≡ true → ⊥
-unfolding is_below
-not_both k l h g = grind (arith, nat_tests)
-
-pub below_in : (k l : ColumnKey) (ls : List ColumnKey) → BelowAll k ls → Contains ls l → is_below k l ≡ true
-below_in k l [] below (i, inside, is) = absurd (omega (arith, inside))
-below_in k l (m ∷ ls) below (zero, inside, is) = subst (λ x. is_below k x ≡ true) is below.0
-below_in k l (m ∷ ls) below (suc i, inside, is) = below_in k l ls below.1 (i, omega (arith, inside), is)
-
-pub first_or : (x y : ColumnKey) (ys : List ColumnKey) → Contains (y ∷ ys) x → (y ≡ x) ⊎ Contains ys x
-first_or x y ys (zero, inside, is) = inl is
-first_or x y ys (suc i, inside, is) = inr (i, omega (arith, inside), is)
-
-pub there : (x y : ColumnKey) (ys : List ColumnKey) → Contains ys x → Contains (y ∷ ys) x
-there x y ys (i, inside, is) = (suc i, omega (arith, inside), is)
-
-here : (x : ColumnKey) (xs : List ColumnKey) → Contains (x ∷ xs) x
-here x xs = (0, omega arith, refl)
-
-pub none_in : (x : ColumnKey) → Contains [] x → ⊥
-none_in x (i, inside, is) = omega (arith, inside)
-
-heads_same : (x y : ColumnKey) (xs ys : List ColumnKey) → BelowAll x xs → BelowAll y ys → (y ≡ x) ⊎ Contains ys x → (x ≡ y) ⊎ Contains xs y → x ≡ y
-heads_same x y xs ys bx by (inl e) h = sym e
-heads_same x y xs ys bx by (inr g) (inl e) = e
-heads_same x y xs ys bx by (inr g) (inr h) = absurd (not_both x y (below_in x y xs bx h) (below_in y x ys by g))
-
-behind : (x y : ColumnKey) (xs ys : List ColumnKey) → x ≡ y → BelowAll x xs → ((k : ColumnKey) → Contains (x ∷ xs) k → Contains (y ∷ ys) k) → (k : ColumnKey) → Contains xs k → Contains ys k
-behind x y xs ys e below all k h = by (first_or k y ys (all k (there k x xs h)))
-  where
-    by : (y ≡ k) ⊎ Contains ys k → Contains ys k
-    by (inl f) =
-        let b = below_in x k xs below h in
-        let b' = subst (λ z. is_below z k ≡ true) (e ∙ f) b in
-        absurd (not_both k k b' b')
-    by (inr g) = g
-
-pub unique : (xs ys : List ColumnKey) → Rises xs → Rises ys → ((k : ColumnKey) → Contains xs k → Contains ys k) → ((k : ColumnKey) → Contains ys k → Contains xs k) → xs ≡ ys
-unique [] [] rx ry all only = refl
-unique [] (y ∷ ys) rx ry all only = absurd (none_in y (only y (here y ys)))
-unique (x ∷ xs) [] rx ry all only = absurd (none_in x (all x (here x xs)))
-unique (x ∷ xs) (y ∷ ys) rx ry all only =
-    let e = heads_same x y xs ys rx.0 ry.0 (first_or x y ys (all x (here x xs))) (first_or y x xs (only y (here y ys))) in
-    let more = unique xs ys rx.1 ry.1 (behind x y xs ys e rx.0 all) (behind y x ys xs (sym e) ry.0 only) in
-    ap (λ z. z ∷ xs) e ∙ ap (λ t. y ∷ t) more
-
-pub same_keys : (xs ys called : List ColumnKey) → AreKeys xs called → AreKeys ys called → xs ≡ ys
-same_keys xs ys called h g = unique xs ys h.rise g.rise (λ k i. g.all k (h.only k i)) (λ k i. h.all k (g.only k i))
 
 -- ---- one more of some
 cut_more : {X : Type 0} (n : ℕ) (xs : List X) → take (n + 1) xs ≡ take n xs ++ take 1 (drop n xs)

@@ -1,6 +1,6 @@
 mod Facts
 mod Joined
-pub mod KeyLaws
+mod KeyLaws
 mod Ranks
 mod SameBoxes
 mod Slots

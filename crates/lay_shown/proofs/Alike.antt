@@ -22,17 +22,11 @@ same_in f P h xs ys e all k d l =
 
 ranked_shape : (n : ℕ) (x : Mark) → IsRanked n (mark_shape x) ≡ IsRanked n x
 ranked_shape n (marks.Glyph glyph rank dx dy) = refl
-ranked_shape n (marks.Words size rank dx dy text) = refl
-ranked_shape n (marks.Stem rank dx from to) = refl
-ranked_shape n (marks.Beam way first last from to) = refl
-ranked_shape n (marks.Arc first last from to bulge) = refl
+ranked_shape n _ = refl
 
 printed_shape : (x : Mark) → HasPrinted (mark_shape x) ≡ HasPrinted x
 printed_shape (marks.Glyph glyph rank dx dy) = refl
-printed_shape (marks.Words size rank dx dy text) = refl
-printed_shape (marks.Stem rank dx from to) = refl
-printed_shape (marks.Beam way first last from to) = refl
-printed_shape (marks.Arc first last from to bulge) = refl
+printed_shape _ = refl
 
 ranks_shape : (all : List Laid) → marks_ranks (marks_shape all) ≡ marks_ranks all
 ranks_shape [] = refl
@@ -43,8 +37,7 @@ ranks_shape (x ∷ all) = by x.mark (ranks_shape all)
     by (marks.Glyph glyph rank dx dy) e = ap (λ t. rank ∷ t) e
     by (marks.Words size rank dx dy text) e = ap (λ t. rank ∷ t) e
     by (marks.Stem rank dx from to) e = ap (λ t. rank ∷ t) e
-    by (marks.Beam way first last from to) e = e
-    by (marks.Arc first last from to bulge) e = e
+    by _ e = e
 
 staves_shape : (staves : List StaffMarks) → staves_ranks staves ≡ flat_map marks_ranks (map staff_shape staves)
 staves_shape [] = refl

@@ -33,8 +33,8 @@ use Rattle.mus_drawn.specs.Drawn.{drawn_voice}
 use Rattle.mus_marks.specs.Arcs.{arc_between, arc_in, arcs_between, event_at, event_in, has_id, piece_between, seen_of}
 use Rattle.mus_marks.specs.Events.{note_key}
 use Rattle.lay_shown.proofs.Between.{AreBetween, IsBetween, both}
-use Rattle.lay_shown.proofs.Beams.{AllGoOn, GoOn, IsEarlier, later_below}
-use Rattle.lay_shown.proofs.Inside.{HasEvent, HasMeasures, measure_at, there}
+use Rattle.mus_marks.proofs.GoingOn.{AllGoOn, GoOn, IsEarlier, later_below}
+use Rattle.mus_marks.proofs.Inside.{HasEvent, HasMeasures, measure_at, there}
 
 -- ---- the arcs of a voice
 

@@ -13,10 +13,11 @@ use Rattle.mus_marks.specs.Arcs.{arcs_between}
 use Rattle.mus_marks.specs.Bridges.{beams_between, bridges_of, grace_beams_between}
 use Rattle.mus_marks.proofs.Lines.{voice_count}
 use Rattle.lay_shown.proofs.Arcs.{arcs_go_on, voice_arcs_go}
-use Rattle.lay_shown.proofs.Beams.{GoOn, beams_go, voice_goes_on}
+use Rattle.mus_marks.proofs.GoingOn.{GoOn, voice_goes_on}
+use Rattle.lay_shown.proofs.Beams.{beams_go}
 use Rattle.lay_shown.proofs.Between.{AreBetween, both}
 use Rattle.lay_shown.proofs.GraceBeams.{grace_beams_go}
-use Rattle.lay_shown.proofs.Inside.{here, measures_inside, voices_called}
+use Rattle.mus_marks.proofs.Inside.{here, measures_inside, voices_called}
 
 module _ (s : Score) (a b : ℕ) (keys : List ColumnKey) (good : IsGoodScore s) (order : a < b) (within : b ≤ s.measures) (are : AreKeys keys (called_keys s (timeline_of s).lengths a b)) where
   pub voices_between : All (λ v. AreBetween keys (bridges_of (timeline_of s).lengths a b (drawn_voice v))) s.voices

@@ -12,7 +12,7 @@ use Rattle.mus_drawn.specs.declared.drawn.DrawnEvent.{DrawnEvent}
 use Rattle.mus_drawn.specs.declared.drawn.DrawnMeasure.{DrawnMeasure}
 use Rattle.mus_marks.specs.Bridges.{beam_over, event_grace_beam, grace_beams_between}
 use Rattle.lay_shown.proofs.Between.{AreBetween, both, unless}
-use Rattle.lay_shown.proofs.Inside.{HasEvent, HasMeasures}
+use Rattle.mus_marks.proofs.Inside.{HasEvent, HasMeasures}
 
 further_below : (m tick i j : ℕ) → i < j → is_below (key_at m tick classes.Grace i) (key_at m tick classes.Grace j) ≡ true
 unfolding is_below

@@ -22,7 +22,7 @@ use Rattle.lay_shown.specs.Ranks.{AreAnchored, AreRanked, IsRanked, marks_ranks,
 use Rattle.lay_shown.specs.Shown.{IsShown}
 use Rattle.lay_shown.proofs.Between.{bridges_ranked}
 use Rattle.lay_shown.proofs.Bridged.{voices_between}
-use Rattle.lay_shown.proofs.Inside.{voices_called}
+use Rattle.mus_marks.proofs.Inside.{voices_called}
 use Rattle.lay_shown.proofs.Printed.{texts_printed}
 use Rattle.lay_shown.proofs.Standing.{Fill, staff_fills}
 

@@ -5,7 +5,6 @@ pub mod Between
 pub mod Bridged
 pub mod Filled
 pub mod GraceBeams
-pub mod Inside
 pub mod Laws
 pub mod Planned
 pub mod Printed

@@ -34,7 +34,7 @@ use Rattle.mus_marks.specs.System.{staff_of}
 use Rattle.mus_marks.proofs.Lines.{voice_count}
 use Rattle.lay_shown.specs.Ranks.{IsRanked, anchor_rank, marks_ranks}
 use Rattle.lay_shown.proofs.Filled.{HasSome, bar_some, change_has, grace_some, has_some, head_some, note_some}
-use Rattle.lay_shown.proofs.Inside.{AreAmong, among_left, among_right, events_columns, has_old, here, measures_columns, voice_columns, voice_same}
+use Rattle.mus_marks.proofs.Inside.{AreAmong, among_left, among_right, events_columns, has_old, here, measures_columns, voice_columns, voice_same}
 use Rattle.lay_shown.proofs.Planned.{ArePlanned, IsPlanOf, voice_planned}
 
 -- `AreRanked` by recursion on the marks

@@ -9,7 +9,7 @@ use Rattle.mus_laid.specs.declared.laid.SystemMarks.{SystemMarks}
 use Rattle.mus_marks.specs.System.{staff_of}
 use Rattle.mus_marks.specs.Tilt.{IsTilted, tilted_staff_of}
 use Rattle.lay_tune.specs.Spans.{IsSystem}
-use Rattle.lay_measures.proofs.KeyLaws.{same_keys}
+use Rattle.mus_marks.proofs.OneList.{same_keys}
 use Rattle.lay_tune.proofs.RisingKeys.{have_keys}
 
 abbrev marks_of : ℕ → ℕ → List ColumnKey → List StaffMarks → SystemMarks

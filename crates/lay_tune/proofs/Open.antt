@@ -58,7 +58,7 @@ spans_are s width starts others spans count join h = record {
       h.fits a b l (omega arith) free (subst (λ columns. CanStandIn (score_gaps s) width columns) (join a b marks l m is) stand);
 }
 
-some_of : (o : Option ℕ) → IsSome o → (v : ℕ) × (o ≡ Some v)
+pub some_of : (o : Option ℕ) → IsSome o → (v : ℕ) × (o ≡ Some v)
 some_of None e = absurd (true≢false (sym e))
 some_of (Some v) e = (v, refl)
 
@@ -84,7 +84,7 @@ span_open s width room starts others spans lanes count measures join h roomy a b
       places = λ marks is. subst (λ columns. length columns + length (score_gaps s) ≤ room) (sym (join a b marks l m is)) (omega arith);
     }
 
-past_last : (a : ℕ) (bs : List ℕ) → RisesFrom a bs → a ≤ last_from a bs
+pub past_last : (a : ℕ) (bs : List ℕ) → RisesFrom a bs → a ≤ last_from a bs
 past_last a [] r = omega arith
 past_last a (b ∷ bs) r = let h = past_last b bs r.1 in let l = r.0 in omega arith
 

@@ -6,7 +6,8 @@ use Rattle.mus_time.specs.declared.keys.Class.{Class}
 use Rattle.mus_time.specs.declared.keys.ColumnKey.{ColumnKey}
 use Rattle.mus_time.specs.Keys.{AreKeys, key_at}
 use Rattle.mus_time.proofs.Orders.{below_through}
-use Rattle.lay_measures.proofs.KeyLaws.{below_in, first_or, there}
+use Rattle.mus_marks.proofs.Inside.{there}
+use Rattle.mus_marks.proofs.OneList.{below_in, first_or}
 use Rattle.mus_time.specs.Order.{BelowAll, Rises, class_number, is_below, then_below}
 
 -- ---- the order of keys

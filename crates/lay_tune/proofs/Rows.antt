@@ -11,9 +11,8 @@ use Rattle.lay_tune.specs.Systems.{Beside, EachSpan}
 pub beside_more : {X Y : Type 0} (P : X → Y → Type 0) (xs : List X) (ys : List Y) (x : X) (y : Y)
     → Beside P xs ys → P x y → Beside P (xs ++ x ∷ []) (ys ++ y ∷ [])
 beside_more P [] [] x y h p = (p, tt)
-beside_more P [] (z ∷ ys) x y h p = absurd h
-beside_more P (w ∷ xs) [] x y h p = absurd h
 beside_more P (w ∷ xs) (z ∷ ys) x y h p = (h.0, beside_more P xs ys x y h.1 p)
+beside_more P _ _ x y h p = absurd h
 
 -- one span's things more, whatever stands behind them
 pub span_more : {X Y : Type 0} (P : ℕ → ℕ → X → Y → Type 0) (breaks : List ℕ) (xs : List X) (ys : List Y) (x : X) (y : Y) (a b i : ℕ) → drop i breaks ≡ b ∷ drop (i + 1) breaks
@@ -29,17 +28,13 @@ span_more P breaks xs ys x y a b i e before p more rest h =
 pub span_count : {X Y : Type 0} (P : ℕ → ℕ → X → Y → Type 0) (a : ℕ) (breaks : List ℕ) (xs : List X) (ys : List Y) → EachSpan P a breaks xs ys
     → (length xs ≡ length breaks) × (length ys ≡ length breaks)
 span_count P a [] [] [] h = (refl, refl)
-span_count P a [] [] (y ∷ ys) h = absurd h
-span_count P a [] (x ∷ xs) ys h = absurd h
-span_count P a (b ∷ bs) [] ys h = absurd h
-span_count P a (b ∷ bs) (x ∷ xs) [] h = absurd h
 span_count P a (b ∷ bs) (x ∷ xs) (y ∷ ys) h = let more = span_count P b bs xs ys h.1 in (ap suc more.0, ap suc more.1)
+span_count P a _ _ _ h = absurd h
 
 pub beside_count : {X Y : Type 0} (P : X → Y → Type 0) (xs : List X) (ys : List Y) → Beside P xs ys → length ys ≡ length xs
 beside_count P [] [] h = refl
-beside_count P [] (y ∷ ys) h = absurd h
-beside_count P (x ∷ xs) [] h = absurd h
 beside_count P (x ∷ xs) (y ∷ ys) h = ap suc (beside_count P xs ys h.1)
+beside_count P _ _ h = absurd h
 
 pub good_staves : (staves : List StaffMarks) → All CoversLines staves → AreGoodStaves staves
 good_staves [] h = tt

@@ -20,11 +20,11 @@ use Rattle.lay_columns.specs.declared.column.Column.{Column}
 use Rattle.lay_columns.specs.Column.{length_rises}
 use Rattle.lay_columns.specs.Columns.{column_reach, columns_of}
 use Rattle.lay_columns.proofs.Facts.{columns_keys}
-use Rattle.lay_measures.proofs.KeyLaws.{same_keys}
+use Rattle.mus_marks.proofs.OneList.{same_keys}
 use Rattle.lay_spans.specs.Columns.{span_columns}
 use Rattle.lay_spans.proofs.Fitting.{seen_as}
 use Rattle.lay_tune.specs.Spans.{AreColumnsOf, IsForceOf, IsSystem, column_length, score_gaps, system_columns, verses_of}
-use Rattle.lay_tune.specs.Systems.{IsJustified, IsPlaced, StandWithin, x_at}
+use Rattle.lay_tune.specs.Systems.{CanBeSet, HaveForce, IsJustified, IsPlaced, StandWithin, x_at}
 use Rattle.lay_tune.proofs.Called.{has_system}
 
 -- the last of n columns stands within the width, and reaches no further
@@ -152,19 +152,21 @@ columns_count keys staves lengths verses =
 pub system_count : (s : Score) (m : SystemMarks) → length (system_columns s m) ≡ length m.keys
 system_count s m = columns_count m.keys m.staves (timeline_of s).lengths (verses_of s.voices)
 
--- those of the measures of a span are those of its system
-pub called_columns : (s : Score) (a b : ℕ) (starts others : List (List Column)) (columns : List Column) → AreColumnsOf s starts others → a < b → b ≤ s.measures
-    → columns ≡ span_columns starts others a b → system_columns s (has_system s a b).0 ≡ columns
-called_columns s a b starts others columns join less within e = join a b (has_system s a b).0 less within (has_system s a b).1 ∙ sym e
-
--- which are placed where these are justified
-pub called_placed : (s : Score) (width a b : ℕ) (gaps : List ℕ) (columns : List Column) (p : Placed) → gaps ≡ score_gaps s
-    → system_columns s (has_system s a b).0 ≡ columns → IsJustified gaps width (b == s.measures) columns p → IsPlaced s width (has_system s a b).0 p
-called_placed s width a b gaps columns p are same h =
+-- what is known of a span that can be set, by the columns of its measures
+pub span_set : {s : Score} {width room a b : ℕ} {gaps : List ℕ} (starts others : List (List Column)) (columns : List Column)
+    → CanBeSet s width room a b → AreColumnsOf s starts others → gaps ≡ score_gaps s → columns ≡ span_columns starts others a b
+    → HaveForce gaps width columns × (length columns + length gaps ≤ room)
+    × ((p : Placed) → IsJustified gaps width (b == s.measures) columns p → IsPlaced s width (has_system s a b).0 p)
+span_set {s} {width} {room} {a} {b} {gaps} starts others columns fits join are is =
     let m = (has_system s a b).0 in
-    subst (λ gs. IsJustified gs width (m.b == s.measures) (system_columns s m) p) are
-    (subst (λ b. IsJustified gaps width (b == s.measures) (system_columns s m) p) (sym (has_system s a b).1.to)
-    (subst (λ cs. IsJustified gaps width (b == s.measures) cs p) (sym same) h))
+    let call = (has_system s a b).1 in
+    let same : system_columns s (has_system s a b).0 ≡ columns = join a b m fits.rises fits.within call ∙ sym is in (
+      subst (λ gs. HaveForce gs width columns) (sym are) (subst (HaveForce (score_gaps s) width) same (fits.columns m call)),
+      let places = fits.places m call in let lanes = ap (λ gs. length gs) are in let count = ap (λ cs. length cs) same in omega arith,
+      λ p h. subst (λ gs. IsJustified gs width (m.b == s.measures) (system_columns s m) p) are
+          (subst (λ b. IsJustified gaps width (b == s.measures) (system_columns s m) p) (sym call.to)
+          (subst (λ cs. IsJustified gaps width (b == s.measures) cs p) (sym same) h)),
+    )
 
 -- they stand within the width wherever they are placed
 pub placed_stand : (s : Score) (width : ℕ) (m : SystemMarks) (p : Placed) → IsPlaced s width m p → StandWithin width (length m.keys) p.at

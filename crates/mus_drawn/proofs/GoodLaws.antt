@@ -12,13 +12,13 @@ use Rattle.mus_score.specs.declared.score.Flat.{Flat}
 use Rattle.mus_score.specs.Good.{flat_count, flat_weight, heads_in}
 use Rattle.mus_score.specs.GoodScore.{AreInReach, IsInReach, IsGoodEvent, clef_at}
 use Rattle.mus_stems.specs.declared.plans.StemPlan.{StemPlan}
+use Rattle.mus_stems.specs.Plans.{AllEndsNear}
 use Rattle.mus_units.specs.declared.note.Bar.{Bar}
 use Rattle.mus_drawn.specs.declared.drawn.DrawnEvent.{DrawnEvent}
-use Rattle.mus_drawn.specs.declared.drawn.DrawnMeasure.{DrawnMeasure}
 use Rattle.mus_drawn.specs.declared.drawn.Opening.{Opening}
 use Rattle.mus_drawn.specs.declared.standing.Standing.{Standing}
 use Rattle.mus_drawn.specs.Drawn.{standing_after, standing_behind, old_signs, opening_of, drawn_events}
-use Rattle.mus_drawn.specs.Good.{CanDraw, AllCanDraw, CanGrace, AllCanGrace, IsGoodDrawn, AreGoodDrawn, IsGoodMeasure, AreGoodMeasures}
+use Rattle.mus_drawn.specs.Good.{CanDraw, AllCanDraw, CanGrace, AllCanGrace, IsGoodDrawn, AreGoodDrawn, IsGoodMeasure}
 use Rattle.mus_drawn.proofs.Reaches.{near_of}
 
 key_after : (key : Key) (new : Option Key) → IsGoodKey key → IfSome new IsGoodKey → IsGoodKey (unwrap_or new key)
@@ -48,11 +48,11 @@ graces_good clef (g ∷ graces) h few =
 few_in : (f : Flat) (n : ℕ) → max 1 (length f.event.heads) + heads_in f.graces + n ≤ 50000 → heads_in f.graces ≤ 50000
 few_in f n h = omega (arith, h)
 
-drawn_good : (tick : ℕ) (now : Standing) (fs : List Flat) (ps : List StemPlan) → IsGoodKey now.key → AreInReach now.clef fs → AllCanDraw fs → sum_by flat_weight fs ≤ 50000 → sum_by flat_count fs ≤ 50000
+drawn_good : (tick : ℕ) (now : Standing) (fs : List Flat) (ps : List StemPlan) → IsGoodKey now.key → AreInReach now.clef fs → AllCanDraw fs → AllEndsNear ps → sum_by flat_weight fs ≤ 50000 → sum_by flat_count fs ≤ 50000
     → AreGoodDrawn (drawn_events tick now fs ps)
-drawn_good tick now [] ps good reach can few count = tt
-drawn_good tick now (f ∷ fs) [] good reach can few count = tt
-drawn_good tick now (f ∷ fs) (p ∷ ps) good reach can few count =
+drawn_good tick now [] ps good reach can near few count = tt
+drawn_good tick now (f ∷ fs) [] good reach can near few count = tt
+drawn_good tick now (f ∷ fs) (p ∷ ps) good reach can near few count =
     let weights = sum_by-cons flat_weight f fs in
     let counts = sum_by-cons flat_count f fs in (
       record {
@@ -61,18 +61,19 @@ drawn_good tick now (f ∷ fs) (p ∷ ps) good reach can few count =
         graces = graces_good (clef_at now.clef f.event) f.graces reach.1 (few_in f (sum_by flat_weight fs) (omega (arith, weights, few)));
         few_graces = omega (arith, counts, count);
         words = can.0.words;
+        end = near.0;
       },
-      drawn_good (tick + f.duration) (standing_after now f.event.changes) fs ps (key_after now.key f.event.changes.key good can.0.key) reach.2 can.1 (omega (arith, weights, few)) (omega (arith, counts, count)),
+      drawn_good (tick + f.duration) (standing_after now f.event.changes) fs ps (key_after now.key f.event.changes.key good can.0.key) reach.2 can.1 near.1 (omega (arith, weights, few)) (omega (arith, counts, count)),
     )
 
 pub measure_good : (now before : Standing) (fs flats : List Flat) (plans : List StemPlan) (o : Opening) (es : List DrawnEvent) (bar : Bar) → flats ≡ fs → o ≡ opening_of now flats → before ≡ now → es ≡ drawn_events 0 before flats plans
-    → IsGoodKey now.key → AreInReach now.clef fs → AllCanDraw fs → sum_by flat_weight flats ≤ 50000 → sum_by flat_count flats ≤ 50000 → IsGoodMeasure (record { opening = o; events = es; bar = bar })
-measure_good now before fs flats plans o es bar same opens begins made good reach can few count =
+    → IsGoodKey now.key → AreInReach now.clef fs → AllCanDraw fs → AllEndsNear plans → sum_by flat_weight flats ≤ 50000 → sum_by flat_count flats ≤ 50000 → IsGoodMeasure (record { opening = o; events = es; bar = bar })
+measure_good now before fs flats plans o es bar same opens begins made good reach can near few count =
     let can_here = subst AllCanDraw (sym same) can in
     let reach_here = subst (AreInReach now.clef) (sym same) reach in
     record {
       opening = subst (λ x. IsGoodKey x.key) (sym opens) (opening_good now flats good can_here);
-      events = subst AreGoodDrawn (sym made) (subst (λ b. AreGoodDrawn (drawn_events 0 b flats plans)) (sym begins) (drawn_good 0 now flats plans good reach_here can_here few count));
+      events = subst AreGoodDrawn (sym made) (subst (λ b. AreGoodDrawn (drawn_events 0 b flats plans)) (sym begins) (drawn_good 0 now flats plans good reach_here can_here near few count));
     }
 
 pub can_cut : (fs gs : List Flat) → AllCanDraw (fs ++ gs) → AllCanDraw fs × AllCanDraw gs
@@ -84,7 +85,3 @@ voice_can_draw verses [] few h = tt
 voice_can_draw verses (f ∷ fs) few h =
     let own = All-head (IsGoodEvent verses) f fs h in
     (record { key = own.key; words = omega (arith, few, own.words) }, voice_can_draw verses fs few (All-tail (IsGoodEvent verses) f fs h))
-
-pub measures_more : (ms : List DrawnMeasure) (m : DrawnMeasure) → AreGoodMeasures ms → IsGoodMeasure m → AreGoodMeasures (ms ++ m ∷ [])
-measures_more [] m good h = (h, tt)
-measures_more (x ∷ ms) m good h = (good.0, measures_more ms m good.1 h)

@@ -1,11 +1,13 @@
 -- Good drawn voices: signatures have at most one sign for a letter, and heads, those of graces too,
--- stand near the staff.
+-- stand near the staff, and so do the ends of stems.
 use Rattle.std.specs.Prelude.{◌≤◌, ⊤, List, [], ◌∷◌, length, map, IfSome}
+use Rattle.std.specs.List.{AllByRecursion}
 use Rattle.mus_units.specs.declared.pitch.Clef.{Clef}
 use Rattle.mus_units.specs.Good.{AreGoodSigns, IsGoodKey}
 use Rattle.mus_score.specs.declared.score.Event.{Event}
 use Rattle.mus_score.specs.declared.score.Flat.{Flat}
 use Rattle.mus_stems.specs.Heads.{AllNear, stand_of}
+use Rattle.mus_stems.specs.Plans.{IsEndNear}
 use Rattle.mus_drawn.specs.declared.drawn.DrawnEvent.{DrawnEvent}
 use Rattle.mus_drawn.specs.declared.drawn.DrawnMeasure.{DrawnMeasure}
 
@@ -33,15 +35,14 @@ pub record IsGoodDrawn (e : DrawnEvent) : Type 0 where
   pub graces : AllCanGrace e.clef e.flat.graces
   pub few_graces : length e.flat.graces ≤ 50000
   pub words : length e.flat.event.words ≤ 8
+  pub end : IsEndNear e.plan
 
 abbrev pub AreGoodDrawn : List DrawnEvent → Type 0
-AreGoodDrawn [] = ⊤
-AreGoodDrawn (e ∷ es) = IsGoodDrawn e × AreGoodDrawn es
+AreGoodDrawn es = AllByRecursion IsGoodDrawn es
 
 pub record IsGoodMeasure (m : DrawnMeasure) : Type 0 where
   pub opening : IsGoodKey m.opening.key
   pub events : AreGoodDrawn m.events
 
 abbrev pub AreGoodMeasures : List DrawnMeasure → Type 0
-AreGoodMeasures [] = ⊤
-AreGoodMeasures (m ∷ ms) = IsGoodMeasure m × AreGoodMeasures ms
+AreGoodMeasures ms = AllByRecursion IsGoodMeasure ms

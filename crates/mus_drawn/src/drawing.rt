@@ -3,7 +3,7 @@ ghost use Rattle.mus_units.specs.Good.{IsGoodKey};
 ghost use Rattle.mus_score.specs.Good.{IsGoodBody, flat_count, IsGoodFlat, flat_weight, longest_ticks, total_ticks};
 ghost use Rattle.mus_score.specs.Times.{flats_of};
 ghost use Rattle.mus_score.specs.GoodScore.{AreInReach, IsGoodEvent, IsGoodVoice, events_of};
-ghost use Rattle.mus_stems.specs.Plans.{stems_of};
+ghost use Rattle.mus_stems.specs.Plans.{stems_of, AllEndsNear};
 ghost use Rattle.mus_drawn.specs.Drawn.{standing_behind, clefs_from, drawn_event, drawn_events, drawn_measure, drawn_measures, drawn_voice};
 ghost use Rattle.mus_drawn.specs.Good.{AllCanDraw, IsGoodMeasure, AreGoodMeasures};
 
@@ -70,6 +70,7 @@ fn plans_of(alloc: Global, wish: Wish, clef: Clef, flats: &[Flat]) -> Result<Row
     requires few { sum_by flat_weight flats.now ≤ 50000 }
     ensures plans { IfOk result (λ r. r ≡ stems_of wish flats.now (clefs_from clef flats.now)) }
     ensures each { IfOk result (λ r. length r ≡ length flats.now) }
+    ensures ends { IfOk result AllEndsNear }
 {
     let clefs = clefs_from(alloc, clef, flats)?;
     stems(alloc, flats, clefs.as_slice(), wish)

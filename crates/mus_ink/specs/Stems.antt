@@ -6,10 +6,6 @@ use Rattle.mus_ink.specs.Distances.{beam_thickness, level_step, stem_side}
 use Rattle.mus_ink.specs.Drawing.{back, cut, glyph, loose_glyph, stem}
 use Rattle.mus_ink.specs.Kinds.{flag_glyph, stub_glyph}
 
--- a plan whose stem ends elsewhere
-abbrev pub with_end : StemPlan → ℤ → StemPlan
-with_end p to = record p { to = to }
-
 -- a stem stands right of the heads, or left of them
 abbrev pub stem_dx : Bool → ℤ
 stem_dx true = pos stem_side

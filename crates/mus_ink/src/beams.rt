@@ -1,5 +1,5 @@
 ghost use Rattle.std.specs.Prelude.{◌≡◌, ◌-◌, ◌++◌, OnOk};
-ghost use Rattle.mus_ink.specs.Stems.{with_end};
+ghost use Rattle.mus_stems.specs.Slope.{with_end};
 ghost use Rattle.mus_ink.specs.Beams.{stem_of, way_of, goes_on, last_at, level_from, levels_from, levels_before, beams_at, beams_from, beam_marks};
 
 use crate::drawing::put_beam;

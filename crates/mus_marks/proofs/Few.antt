@@ -1,5 +1,5 @@
 -- A system has fewer columns than ranks have numbers.
-use Rattle.std.proofs.Common.{◌≡◌, ◌∙◌, ℕ, zero, suc, ◌+◌, ◌-◌, ◌*◌, ◌≤◌, ◌<◌, Bool, true, false, not, ◌&&◌, ◌==◌, if◌then◌else◌, List, [], ◌∷◌, ◌++◌, length, length-append, take, drop, refl, sym, ap, subst, arith}
+use Rattle.std.proofs.Common.{◌≡◌, ◌∙◌, ℕ, zero, suc, ◌+◌, ◌-◌, ◌*◌, ◌≤◌, ◌<◌, Bool, true, false, not, ◌&&◌, ◌==◌, if◌then◌else◌, List, [], ◌∷◌, ◌++◌, length, length-append, drop, refl, sym, ap, subst, arith}
 use Rattle.std.specs.List.{AllByRecursion, Contains, flat_map, slice_index, slice_index_or, slice_range, sum_by}
 use Rattle.std.proofs.lemmas.List.{length-take}
 use Rattle.std.proofs.lemmas.List.Sums.{sum_by-cons}
@@ -19,6 +19,7 @@ use Rattle.mus_time.specs.Keys.{AreKeys, called_keys, change_has_mark, change_ke
 use Rattle.mus_time.specs.Order.{BelowAll, Rises, is_below}
 use Rattle.mus_time.proofs.Orders.{not_itself}
 use Rattle.mus_time.proofs.RankLaws.{false_not_true}
+use Rattle.mus_stems.proofs.RunLaws.{all_drop, all_take}
 
 -- a list without the element at a place
 abbrev without : List ColumnKey → ℕ → List ColumnKey
@@ -95,20 +96,10 @@ measures_few lengths m in_head signed (x ∷ xs) good =
     let both = length-append (events_keys m in_head signed [] fs) (key_at m (slice_index lengths m) classes.Bar 0 ∷ measures_keys lengths (m + 1) false (signed_through signed fs) xs) in
     omega (arith, here, few, more, both)
 
-front : (n : ℕ) (xs : List Measure) → AllByRecursion (λ x. IsGoodBody x.body) xs → AllByRecursion (λ x. IsGoodBody x.body) (take n xs)
-front zero xs good = tt
-front (suc n) [] good = tt
-front (suc n) (x ∷ xs) good = (good.0, front n xs good.1)
-
-behind : (n : ℕ) (xs : List Measure) → AllByRecursion (λ x. IsGoodBody x.body) xs → AllByRecursion (λ x. IsGoodBody x.body) (drop n xs)
-behind zero xs good = good
-behind (suc n) [] good = tt
-behind (suc n) (x ∷ xs) good = behind n xs good.1
-
 voice_few : (lengths : List ℕ) (a b : ℕ) (v : Voice) → b ≤ 2000 → IsGoodVoice v → length (voice_keys lengths a b v) ≤ 200002002
 voice_few lengths a b v within good =
     let xs = slice_range v.measures a b in
-    let bodies = front (b - a) (drop a v.measures) (behind a v.measures (recursion_from_All (λ m. IsGoodBody m.body) v.measures good.bodies)) in
+    let bodies = all_take (λ x. IsGoodBody x.body) (b - a) (drop a v.measures) (all_drop (λ x. IsGoodBody x.body) a v.measures (recursion_from_All (λ m. IsGoodBody m.body) v.measures good.bodies)) in
     let more = measures_few lengths a true (signed_at a v) xs bodies in
     let count = length-take (b - a) (drop a v.measures) in
     let first : length (first_keys a v.first) ≤ 1 = one_at_most ((a == 0) && has_features v.first) (key_at 0 0 classes.First 0) in
@@ -126,7 +117,7 @@ voices_few lengths a b (v ∷ vs) within good =
 measure_few : (lengths : List ℕ) (m : ℕ) (v : Voice) → IsGoodVoice v → length (measure_keys lengths m v) ≤ 100001
 measure_few lengths m v good =
     let xs = slice_range v.measures m (m + 1) in
-    let bodies = front (m + 1 - m) (drop m v.measures) (behind m v.measures (recursion_from_All (λ m. IsGoodBody m.body) v.measures good.bodies)) in
+    let bodies = all_take (λ x. IsGoodBody x.body) (m + 1 - m) (drop m v.measures) (all_drop (λ x. IsGoodBody x.body) m v.measures (recursion_from_All (λ m. IsGoodBody m.body) v.measures good.bodies)) in
     let more = measures_few lengths m false (signed_at m v) xs bodies in
     let count : length xs ≤ 1 = omega (arith, length-take (m + 1 - m) (drop m v.measures)) in
     omega (arith, more, count)

@@ -1,7 +1,13 @@
+pub mod Alike
+pub mod Ending
 pub mod Few
 pub mod Fitting
+pub mod GoingOn
 pub mod Goods
+pub mod Inside
 pub mod Lines
+pub mod OneList
 pub mod Parts
+pub mod Sloping
 pub mod Texts
 pub mod Unchanged

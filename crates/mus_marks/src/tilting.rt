@@ -1,21 +1,204 @@
-ghost use Rattle.std.specs.Prelude.{◌≡◌, ◌≤◌, ◌<◌, map, All, IfOk};
+ghost use Rattle.std.specs.Prelude.{◌≡◌, ◌≤◌, ◌<◌, ◌+◌, length, map, slice_range, All, IfOk};
 ghost use Rattle.mus_score.specs.GoodScore.{IsGoodScore};
 ghost use Rattle.mus_time.specs.Keys.{IsInSystem};
 ghost use Rattle.mus_time.specs.Onsets.{timeline_of};
+ghost use Rattle.mus_time.specs.Ranks.{AreRanked};
 ghost use Rattle.mus_drawn.specs.Drawn.{drawn_voice};
 ghost use Rattle.mus_drawn.specs.Good.{AreGoodMeasures};
 ghost use Rattle.mus_laid.specs.Boxes.{AreGoodMarks};
 ghost use Rattle.mus_laid.specs.Shapes.{AreAlike};
-ghost use Rattle.mus_marks.specs.Staff.{CoversLines};
+ghost use Rattle.mus_marks.specs.Staff.{CoversLines, staff_marks};
 ghost use Rattle.mus_marks.specs.System.{IsCall};
-ghost use Rattle.mus_marks.specs.Tilt.{AreAbscissas, IsTilted};
+ghost use Rattle.mus_marks.specs.Tilt.{anchor_at, CanTilt, AllCanTilt, ends_over, sloped_over, plain_ends, over, event_ended, measure_ended, voice_ended, voice_tilted, AreAbscissas, IsTilted};
 
-use mus_drawn::DrawnVoice;
-use mus_laid::SystemMarks;
+use crate::events::note_key;
+use crate::staves::staff_marks;
+use crate::systems::draw_voices;
+use mus_drawn::{DrawnEvent, DrawnMeasure, DrawnVoice};
+use mus_laid::{StaffMarks, SystemMarks};
 use mus_score::Score;
-use mus_time::Timeline;
-use mus_units::Memory;
+use mus_stems::{Anchor, ends_for};
+use mus_time::{ColumnKey, Timeline, keys_of, rank_of};
+use mus_units::{Memory, Row};
 use std::alloc::Global;
+
+/// What the line of its beam takes from an event.
+#[tactic(auto, unfolding(mus_stems::specs::Slope::anchor_of))]
+fn anchor_at(keys: &[ColumnKey], at: &[i64], measure: u32, e: &DrawnEvent) -> Anchor
+    requires { AreRanked keys.now }
+    ensures { result ≡ anchor_at keys.now at.now measure e.now }
+{
+    let rank = rank_of(keys, note_key(measure, e));
+    Anchor {
+        up: e.plan.up,
+        own: e.plan.own,
+        group: e.plan.group,
+        x: at.get(rank as usize).copied().unwrap_or(0),
+    }
+}
+
+/// The ends of the events of a measure on the lines of their beams.
+fn ends_over(
+    alloc: Global,
+    keys: &[ColumnKey],
+    at: &[i64],
+    measure: u32,
+    d: &DrawnMeasure,
+) -> Result<Row<i32>, Memory>
+    requires keys { AreRanked keys.now }
+    requires slopes { CanTilt keys.now at.now measure d.now }
+    ensures { IfOk result (λ r. r ≡ ends_over keys.now at.now measure d.now.events) }
+{
+    let events = d.events.as_slice();
+    let mut anchors = Row::new(alloc);
+    for e in events {
+        anchors.push(anchor_at(keys, at, measure, e))?;
+    }
+    ends_for(alloc, anchors.as_slice())
+}
+
+/// The ends of the events of measures, from number `a` on, on the lines of their beams.
+fn sloped_over(
+    alloc: Global,
+    keys: &[ColumnKey],
+    at: &[i64],
+    a: u32,
+    measures: &[DrawnMeasure],
+) -> Result<Row<Row<i32>>, Memory>
+    requires keys { AreRanked keys.now }
+    requires slopes { AllCanTilt keys.now at.now a measures.now }
+    requires few { a + length measures.now ≤ 2000 }
+    ensures { IfOk result (λ r. r ≡ sloped_over keys.now at.now a measures.now) }
+{
+    let mut ends = Row::new(alloc);
+    let mut measure = a;
+    for d in measures {
+        ends.push(ends_over(alloc, keys, at, measure, d)?)?;
+        measure += 1;
+    }
+    Ok(ends)
+}
+
+fn plain_ends_of(alloc: Global, events: &[DrawnEvent]) -> Result<Row<i32>, Memory>
+    ensures { IfOk result (λ r. r ≡ map (λ e. e.plan.to) events.now) }
+{
+    let mut ends = Row::new(alloc);
+    for e in events {
+        ends.push(e.plan.to)?;
+    }
+    Ok(ends)
+}
+
+/// The ends that the events of measures have.
+fn plain_ends(alloc: Global, measures: &[DrawnMeasure]) -> Result<Row<Row<i32>>, Memory>
+    ensures { IfOk result (λ r. r ≡ plain_ends measures.now) }
+{
+    let mut ends = Row::new(alloc);
+    for d in measures {
+        ends.push(plain_ends_of(alloc, d.events.as_slice())?)?;
+    }
+    Ok(ends)
+}
+
+fn end_event(e: &mut DrawnEvent, to: &i32)
+    ensures { e.exit.now ≡ event_ended to.now e.entry.now }
+{
+    e.plan.to = *to;
+}
+
+/// Gives events other ends.
+fn end_events(events: &mut [DrawnEvent], ends: &[i32])
+    ensures { events.new ≡ over event_ended ends.now events.old }
+{
+    for (i, e) in events.iter_mut().enumerate() {
+        if let Some(to) = ends.get(i) {
+            end_event(e, to);
+        }
+    }
+}
+
+fn end_measure(d: &mut DrawnMeasure, ends: &Row<i32>)
+    ensures { d.new ≡ measure_ended ends.now d.old }
+{
+    end_events(d.events.items.as_mut_slice(), ends.as_slice());
+}
+
+/// Gives the events of measures other ends.
+fn end_measures(measures: &mut [DrawnMeasure], ends: &[Row<i32>])
+    ensures { measures.new ≡ over measure_ended ends.now measures.old }
+{
+    for (i, d) in measures.iter_mut().enumerate() {
+        if let Some(own) = ends.get(i) {
+            end_measure(d, own);
+        }
+    }
+}
+
+/// Gives the events of a voice other ends, from measure `a` on.
+fn end_voice(v: &mut DrawnVoice, a: u32, ends: &[Row<i32>])
+    requires { a ≤ length v.old.measures }
+    ensures { v.new ≡ voice_ended a ends.now v.old }
+{
+    end_measures(&mut v.measures.items.as_mut_slice()[a as usize..], ends);
+}
+
+/// The marks of a voice's staff over abscissas. The voice is left as it was.
+fn tilted_staff(
+    alloc: Global,
+    keys: &[ColumnKey],
+    lengths: &[u64],
+    at: &[i64],
+    a: u32,
+    b: u32,
+    v: &mut DrawnVoice,
+) -> Result<StaffMarks, Memory>
+    requires keys { AreRanked keys.now }
+    requires order { a < b }
+    requires within { b ≤ length v.old.measures }
+    requires lengths { length lengths.now ≡ length v.old.measures }
+    requires few { length lengths.now ≤ 2000 }
+    requires good { AreGoodMeasures v.old.measures }
+    requires slopes { AllCanTilt keys.now at.now a (slice_range v.old.measures a b) }
+    ensures kept { v.new ≡ v.old }
+    ensures staff { IfOk result (λ r. r ≡ staff_marks keys.now lengths.now a b (voice_tilted keys.now at.now a b v.old)) }
+    ensures lines { IfOk result CoversLines }
+{
+    let measures = &v.measures.as_slice()[a as usize..b as usize];
+    let plain = plain_ends(alloc, measures)?;
+    let sloped = sloped_over(alloc, keys, at, a, measures)?;
+    end_voice(v, a, sloped.as_slice());
+    let staff = staff_marks(alloc, keys, lengths, a, b, v);
+    end_voice(v, a, plain.as_slice());
+    staff
+}
+
+/// The staves of voices over abscissas. The voices are left as they were.
+fn tilted_staves(
+    alloc: Global,
+    keys: &[ColumnKey],
+    lengths: &[u64],
+    at: &[i64],
+    a: u32,
+    b: u32,
+    voices: &mut [DrawnVoice],
+) -> Result<Row<StaffMarks>, Memory>
+    requires keys { AreRanked keys.now }
+    requires order { a < b }
+    requires within { b ≤ length lengths.now }
+    requires few { length lengths.now ≤ 2000 }
+    requires each { All (λ v. length v.measures ≡ length lengths.now) voices.old }
+    requires good { All (λ v. AreGoodMeasures v.measures) voices.old }
+    requires slopes { All (λ v. AllCanTilt keys.now at.now a (slice_range v.measures a b)) voices.old }
+    ensures kept { voices.new ≡ voices.old }
+    ensures staves { IfOk result (λ r. r ≡ map (λ v. staff_marks keys.now lengths.now a b (voice_tilted keys.now at.now a b v)) voices.old) }
+    ensures lines { IfOk result (All CoversLines) }
+{
+    let mut staves = Row::new(alloc);
+    for v in voices.iter_mut() {
+        staves.push(tilted_staff(alloc, keys, lengths, at, a, b, v)?)?;
+    }
+    Ok(staves)
+}
 
 /// The marks of the system of measures `a` to `b` - 1 over the abscissas of its columns, as `tilt`
 /// gives them, where the voices of the score are drawn already; these are left as they were. The only
@@ -43,7 +226,10 @@ pub fn tilt_of(
     ensures lines { IfOk result (λ m. All CoversLines m.staves) }
     ensures good { IfOk result (λ m. All (λ staff. AreGoodMarks staff.marks) m.staves) }
 {
-    Err(Memory)
+    let keys = keys_of(alloc, s, t, a, b)?;
+    let lengths = t.lengths.as_slice();
+    let staves = tilted_staves(alloc, keys.as_slice(), lengths, at, a, b, voices)?;
+    Ok(SystemMarks { a, b, keys, staves })
 }
 
 /// The marks that a score calls for in the system of measures `a` to `b` - 1 whose columns stand at
@@ -69,5 +255,6 @@ pub fn tilt(
     ensures lines { IfOk result (λ m. All CoversLines m.staves) }
     ensures good { IfOk result (λ m. All (λ staff. AreGoodMarks staff.marks) m.staves) }
 {
-    Err(Memory)
+    let mut voices = draw_voices(alloc, s)?;
+    tilt_of(alloc, s, voices.items.as_mut_slice(), t, a, b, at)
 }

@@ -57,7 +57,8 @@ beam_ends (a ∷ b ∷ bs) = line_ends (line_of a (last_of b bs)) a (b ∷ bs)
 abbrev pub sloped_ends : List Anchor → List ℤ
 sloped_ends es = flat_map beam_ends (runs shares_beam es)
 
-unfoldable pub with_end : StemPlan → ℤ → StemPlan
+-- a plan whose stem ends elsewhere
+abbrev pub with_end : StemPlan → ℤ → StemPlan
 with_end p to = record p { to = to }
 
 abbrev pub with_ends : List StemPlan → List ℤ → List StemPlan

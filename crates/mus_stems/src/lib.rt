@@ -21,4 +21,4 @@ pub use heads::{Stand, stands};
 pub use ledgers::ledgers_for;
 pub use plans::{StemPlan, stems};
 pub use signs::signs_for;
-pub use slopes::slope;
+pub use slopes::{Anchor, ends_for, slope};

@@ -220,8 +220,9 @@ fn put_beam(out: &mut Row<i32>, beam: &[Anchor]) -> Result<(), Memory>
     put_line(out, &line, first, others, beam)
 }
 
-/// The ends of all beams.
-fn ends_for(alloc: Global, events: &[Anchor]) -> Result<Row<i32>, Memory>
+/// The ends of the stems of events, each on its beam's line: what `slope` puts into their plans. The
+/// only error is want of memory.
+pub fn ends_for(alloc: Global, events: &[Anchor]) -> Result<Row<i32>, Memory>
     requires anchors { AreAnchors events.now }
     requires rise { RisesInBeams events.now }
     ensures { IfOk result (λ ends. ends ≡ sloped_ends events.now) }
@@ -238,7 +239,6 @@ fn ends_for(alloc: Global, events: &[Anchor]) -> Result<Row<i32>, Memory>
 }
 
 /// A plan with another end.
-#[tactic(auto, unfolding(crate::specs::Slope::with_end))]
 fn copy_with(alloc: Global, plan: &StemPlan, to: &i32) -> Result<StemPlan, Memory>
     ensures { IfOk result (λ p. p ≡ with_end plan.now to.now) }
 {

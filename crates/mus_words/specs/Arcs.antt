@@ -14,7 +14,7 @@ use Rattle.mus_ink.specs.Distances.{cut_arc_line, slur_bulge, slur_gap, tie_gap}
 use Rattle.mus_ink.specs.Drawing.{back, cut}
 use Rattle.mus_ink.specs.Notes.{dy_of}
 use Rattle.mus_ink.specs.Decos.{top_of}
-use Rattle.mus_ink.specs.Stems.{with_end}
+use Rattle.mus_stems.specs.Slope.{with_end}
 use Rattle.mus_words.specs.declared.arcs.End.{End}
 
 -- the event at an end of an arc

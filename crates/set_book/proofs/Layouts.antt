@@ -30,17 +30,13 @@ one_set s width a b m n p q h k =
 one_each : {X Y : Type 0} (P : ℕ → ℕ → X → Y → Type 0) → ((a b : ℕ) (x u : X) (y v : Y) → P a b x y → P a b u v → (x ≡ u) × (y ≡ v))
     → (a : ℕ) (breaks : List ℕ) (xs us : List X) (ys vs : List Y) → EachSpan P a breaks xs ys → EachSpan P a breaks us vs → (xs ≡ us) × (ys ≡ vs)
 one_each P one a [] [] [] [] [] h k = (refl, refl)
-one_each P one a [] [] [] [] (v ∷ vs) h k = absurd k
-one_each P one a [] [] (u ∷ us) [] vs h k = absurd k
-one_each P one a [] [] us (y ∷ ys) vs h k = absurd h
-one_each P one a [] (x ∷ xs) us ys vs h k = absurd h
-one_each P one a (b ∷ bs) [] us ys vs h k = absurd h
-one_each P one a (b ∷ bs) (x ∷ xs) us [] vs h k = absurd h
+one_each P one a [] [] us [] vs h k = absurd k
 one_each P one a (b ∷ bs) (x ∷ xs) [] (y ∷ ys) vs h k = absurd k
 one_each P one a (b ∷ bs) (x ∷ xs) (u ∷ us) (y ∷ ys) [] h k = absurd k
 one_each P one a (b ∷ bs) (x ∷ xs) (u ∷ us) (y ∷ ys) (v ∷ vs) h k =
     let e = one a b x u y v h.0 k.0 in let more = one_each P one b bs xs us ys vs h.1 k.1 in
     (ap (λ z. z ∷ xs) e.0 ∙ ap (λ t. u ∷ t) more.0, ap (λ z. z ∷ ys) e.1 ∙ ap (λ t. v ∷ t) more.1)
+one_each P one a _ _ us _ vs h k = absurd h
 
 -- the same layout under the same score
 abbrev under : Score → SetTune → SetTune

@@ -1,6 +1,6 @@
 -- A score has one list of the spans that fit a width.
-use Rattle.std.proofs.Common.{◌≡◌, ◌∙◌, ℕ, ◌<◌, ◌≤◌, ◌==◌, ◌⊎◌, inl, inr, Bool, true, false, if◌then◌else◌, List, [], ◌∷◌, length, Option, Some, None, IsSome, refl, sym, ap, subst, arith}
-use Rattle.std.proofs.lemmas.Bool.{cases_lt, true≢false}
+use Rattle.std.proofs.Common.{◌≡◌, ◌∙◌, ℕ, ◌<◌, ◌≤◌, ◌==◌, ◌⊎◌, inl, inr, Bool, true, false, if◌then◌else◌, List, [], ◌∷◌, length, Option, Some, None, refl, sym, ap, subst, arith}
+use Rattle.std.proofs.lemmas.Bool.{cases_lt}
 use Rattle.std.proofs.lemmas.Option.{none-some, same_Some}
 use Rattle.mus_score.specs.declared.score.Score.{Score}
 use Rattle.lay_columns.specs.declared.column.Column.{Column}
@@ -14,6 +14,7 @@ use Rattle.lay_breaks.specs.Spans.{AreSpans, IsNext, SpansFrom, ends_are, has_en
 use Rattle.lay_spans.specs.Badness.{badness_of}
 use Rattle.lay_tune.specs.Spans.{AreSpansOf, CanStandIn, IsForceOf, IsSpanCost, column_length, score_gaps, system_columns}
 use Rattle.lay_tune.proofs.Called.{has_system}
+use Rattle.lay_tune.proofs.Open.{some_of}
 
 -- ---- the force of columns
 -- a weaker force is not the greatest at which they can stand
@@ -144,7 +145,7 @@ same_listed n last past (x ∷ xs) (y ∷ ys) h k same =
     ap (λ z. z ∷ xs) e ∙ ap (λ t. y ∷ t) more
 
 -- ---- the spans of a score
-listed_within : (n : ℕ) (last : Option Span) (ss : List Span) → SpansFrom n last ss → (a b v : ℕ) → listed ss a b ≡ Some v → (a < b) × (b ≤ n)
+pub listed_within : (n : ℕ) (last : Option Span) (ss : List Span) → SpansFrom n last ss → (a b v : ℕ) → listed ss a b ≡ Some v → (a < b) × (b ≤ n)
 listed_within n last [] h a b v e = absurd (none-some v e)
 listed_within n last (s ∷ ss) h a b v e = at (has_ends a b s) refl (listed_within n (Some s) ss h.1 a b v) e
   where
@@ -158,10 +159,6 @@ listed_within n last (s ∷ ss) h a b v e = at (has_ends a b s) refl (listed_wit
         let to = ends.1 in
         (omega (arith, rises, from, to), omega (arith, within, to))
     at false is more e = more e
-
-some_of : (o : Option ℕ) → IsSome o → (v : ℕ) × (o ≡ Some v)
-some_of None e = absurd (true≢false (sym e))
-some_of (Some v) e = (v, refl)
 
 agree : (o p : Option ℕ) → ((v : ℕ) → o ≡ Some v → p ≡ Some v) → ((v : ℕ) → p ≡ Some v → o ≡ Some v) → o ≡ p
 agree None None on back = refl

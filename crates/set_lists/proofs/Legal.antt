@@ -16,7 +16,8 @@ use Rattle.lay_tune.specs.Spans.{AreSpansOf, CanStandIn, IsForceOf, column_lengt
 use Rattle.lay_tune.specs.Systems.{AllSpans}
 use Rattle.set_book.specs.Once.{HaveOneOutcome, IsOneSystem}
 use Rattle.set_lists.specs.Laws.{BreakingsOfListing, CanBeSystem}
-use Rattle.set_lists.proofs.Told.{listed_within, unforced}
+use Rattle.set_book.proofs.Spanned.{listed_within}
+use Rattle.set_lists.proofs.Told.{unforced}
 
 -- columns that can be pressed by a force can stand
 can_stand : (gaps : List ℕ) (width : ℕ) (columns : List Column) (force : ℕ) → IsForceOf gaps width columns force → CanStandIn gaps width columns

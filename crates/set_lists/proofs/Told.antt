@@ -1,8 +1,7 @@
 -- What comes of tunes can be listed, and its listing tells the tunes that are set.
-use Rattle.std.proofs.Common.{◌≡◌, ◌∙◌, sym, ℕ, ◌<◌, ◌≤◌, ◌^◌, Bool, true, false, List, [], ◌∷◌, Option, Some, None, Result, Ok, Err, arith, refl, if◌then◌else◌}
+use Rattle.std.proofs.Common.{◌≡◌, ◌∙◌, sym, ℕ, ◌<◌, ◌≤◌, ◌^◌, Bool, true, List, [], ◌∷◌, Option, Some, None, Result, Ok, Err, arith, refl}
 use Rattle.std.specs.List.{All, cons_option, slice_index_or}
 use Rattle.std.proofs.lemmas.List.Elements.{All-cons, All-nil}
-use Rattle.std.proofs.lemmas.Option.{none-some}
 use Rattle.abc_lines.specs.declared.book.TuneText.{TuneText}
 use Rattle.abc_lines.specs.declared.fault.Fault.{Fault}
 use Rattle.abc_header.specs.declared.defaults.Defaults.{Defaults}
@@ -11,7 +10,7 @@ use Rattle.abc_header.specs.Papers.{width_of}
 use Rattle.mus_score.specs.declared.score.Score.{Score}
 use Rattle.lay_breaks.specs.declared.costs.Span.{Span}
 use Rattle.lay_breaks.specs.Breaking.{IsLegal, IsPotential}
-use Rattle.lay_breaks.specs.Spans.{AreSpans, SpansFrom, ends_are, has_ends, listed}
+use Rattle.lay_breaks.specs.Spans.{AreSpans, listed}
 use Rattle.lay_tune.specs.Spans.{AreSpansOf, is_forced_in}
 use Rattle.lay_tune.specs.Systems.{IsSetSystem}
 use Rattle.lay_tune.proofs.Rows.{span_count}
@@ -20,28 +19,13 @@ use Rattle.lay_cert.proofs.Unforced.{forced_by_spans}
 use Rattle.set_tune.specs.declared.how.How.{How}
 use Rattle.set_tune.specs.declared.tune.SetTune.{SetTune}
 use Rattle.set_tune.specs.Setting.{IsSetTune}
+use Rattle.set_book.proofs.Spanned.{listed_within}
 use Rattle.set_book.specs.declared.outcome.Outcome.{Outcome}
 use Rattle.set_book.specs.Outcomes.{AreOutcomes, IsResult}
 use Rattle.set_lists.specs.Laws.{ListsTheSet, OrdinalsRise, OutcomesAreListable}
 use Rattle.set_lists.specs.Listing.{CanBeListed, IsListable, entries_of, entry_of, result_entry}
 
 -- ---- spans pass no forced bar
-pub listed_within : (n : ℕ) (last : Option Span) (ss : List Span) → SpansFrom n last ss
-    → (a b v : ℕ) → listed ss a b ≡ Some v → (a < b) × (b ≤ n)
-listed_within n last [] h a b v e = absurd (none-some v e)
-listed_within n last (s ∷ ss) h a b v e = at (has_ends a b s) refl (listed_within n (Some s) ss h.1 a b v) e
-  where
-    at : (t : Bool) → has_ends a b s ≡ t → (listed ss a b ≡ Some v → (a < b) × (b ≤ n))
-        → (if t then Some s.badness else listed ss a b) ≡ Some v → (a < b) × (b ≤ n)
-    at true is more e =
-        let ends = ends_are a b s is in
-        let rises = h.0.rises in
-        let within = h.0.within in
-        let from = ends.0 in
-        let to = ends.1 in
-        (omega (arith, rises, from, to), omega (arith, within, to))
-    at false is more e = more e
-
 pub unforced : (s : Score) (width : ℕ) (spans : List Span) → AreSpans s.measures spans → AreSpansOf s width spans
     → (breaks : List ℕ) (i : ℕ)
     → (IsLegal (listed spans) (is_forced_in s) breaks i → IsLegal (listed spans) none_forced breaks i)

@@ -12,6 +12,7 @@ use Rattle.lay_breaks.specs.Breaking.{RisesFrom, last_from}
 use Rattle.lay_pages.specs.declared.stacking.Heights.{Heights}
 use Rattle.lay_pages.specs.Stacking.{AreGoodStaves}
 use Rattle.lay_tune.specs.Systems.{Beside, EachSpan, IsSetSystem, IsStack, StandWithin}
+use Rattle.lay_tune.proofs.Open.{past_last}
 use Rattle.lay_shown.specs.Shown.{IsShown}
 use Rattle.lay_shown.proofs.Alike.{alike_shown}
 use Rattle.lay_shown.proofs.Laws.{call_shown}
@@ -46,25 +47,18 @@ system_laid s width a b m p h good some narrow rises within set stack =
       stack = stack;
     }
 
-last_within : (a : ℕ) (breaks : List ℕ) → RisesFrom a breaks → a ≤ last_from a breaks
-last_within a [] rises = omega arith
-last_within a (b ∷ breaks) rises = let more = last_within b breaks rises.1 in omega (arith, rises.0)
-
 systems_laid : (s : Score) (width a : ℕ) (breaks : List ℕ) (systems : List SystemMarks) (placed : List Placed) (heights : List Heights) → IsGoodScore s
     → (0 < s.measures → 1 ≤ length s.voices) → width < 2 ^ 20 → RisesFrom a breaks → last_from a breaks ≤ s.measures
     → EachSpan (IsSetSystem s width) a breaks systems placed → Beside IsStack systems heights → AreLaid width systems placed heights
 systems_laid s width a [] [] [] [] good some narrow rises within set stack = tt
-systems_laid s width a [] [] (p ∷ placed) heights good some narrow rises within set stack = absurd set
-systems_laid s width a breaks [] [] (h ∷ heights) good some narrow rises within set stack = absurd stack
-systems_laid s width a [] (m ∷ systems) placed heights good some narrow rises within set stack = absurd set
-systems_laid s width a (b ∷ breaks) [] placed heights good some narrow rises within set stack = absurd set
-systems_laid s width a (b ∷ breaks) (m ∷ systems) [] heights good some narrow rises within set stack = absurd set
+systems_laid s width a [] [] [] (h ∷ heights) good some narrow rises within set stack = absurd stack
 systems_laid s width a (b ∷ breaks) (m ∷ systems) (p ∷ placed) [] good some narrow rises within set stack = absurd stack
 systems_laid s width a (b ∷ breaks) (m ∷ systems) (p ∷ placed) (h ∷ heights) good some narrow rises within set stack =
-    let end = last_within b breaks rises.1 in let from = rises.0 in (
+    let end = past_last b breaks rises.1 in let from = rises.0 in (
       system_laid s width a b m p h good (some (omega (arith, from, end, within))) narrow from (omega (arith, end, within)) set.0 stack.0,
       systems_laid s width b breaks systems placed heights good some narrow rises.1 within set.1 stack.1,
     )
+systems_laid s width a _ _ _ heights good some narrow rises within set stack = absurd set
 
 quotient_narrow : (x s : ℕ) → x ≤ 10000000 → 40 ≤ s → x / s < 2 ^ 20
 quotient_narrow x s few some = grind arith

@@ -1,5 +1,5 @@
 -- The blocks of a tune have good heights.
-use Rattle.std.proofs.Common.{ℕ, ◌≤◌, ◌^◌, min, pos, ◌≤ℤ◌, Bool, List, [], ◌∷◌, ◌++◌, arith}
+use Rattle.std.proofs.Common.{ℕ, ◌≤◌, ◌^◌, pos, ◌≤ℤ◌, Bool, List, [], ◌∷◌, ◌++◌, arith}
 use Rattle.std.proofs.lemmas.Int.{ints}
 use Rattle.std.specs.List.{All}
 use Rattle.std.proofs.lemmas.List.Elements.{All-head, All-tail}

@@ -126,8 +126,7 @@ few_titles tune defaults header good is = titles_by tune defaults header (key_pl
 pub good_heights : (systems : List SystemMarks) (heights : List Heights) → Beside IsStack systems heights → All HasGoodHeight heights
 good_heights [] [] h = All-nil HasGoodHeight
 good_heights (m ∷ ms) (h ∷ hs) is = All-cons HasGoodHeight h hs (record { low = is.0.low; high = is.0.high }) (good_heights ms hs is.1)
-good_heights [] (h ∷ hs) is = absurd is
-good_heights (m ∷ ms) [] is = absurd is
+good_heights _ _ is = absurd is
 
 few_breaks : (a : ℕ) (breaks : List ℕ) → RisesFrom a breaks → a + length breaks ≤ last_from a breaks
 few_breaks a [] h = omega arith

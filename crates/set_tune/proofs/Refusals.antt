@@ -1,5 +1,5 @@
 -- The stages of a tune's setting, put together: what each refuses is the one fault of the tune.
-use Rattle.std.proofs.Common.{◌≡◌, ◌∙◌, refl, sym, ap, subst, inl, inr, ℕ, Bool, Some, Result, Ok, Err, IfErr}
+use Rattle.std.proofs.Common.{◌≡◌, sym, subst, inl, inr, ℕ, Bool, Some, Result, Ok, Err, IfErr}
 use Rattle.abc_lines.specs.declared.book.TuneText.{TuneText}
 use Rattle.abc_lines.specs.declared.fault.TuneError.{TuneError}
 use Rattle.abc_lines.specs.declared.fault.TuneError.TheVariants as errors

@@ -17,7 +17,7 @@ returns-clause-good c =
     let weights = ap (λ body. sum (map weight body)) c.as_slice.ensures in
     measure_good c.args.now.now c.in_ok-before.before (flats_of c.args.m.now.body) c.in_ok-flats.flats c.in_ok-plans.plans c.in_ok-opening.opening c.in_ok-draw_events.field-0 c.args.m.now.bar
     (c.in_ok-flats.ensures.flats ∙ ap flats_of c.as_slice.ensures) (c.in_ok-opening.ensures ∙ ap (opening_of c.args.now.now) c.as_slice-2.ensures) c.in_ok-before.ensures c.in_ok-draw_events.ensures
-    c.requires.key c.requires.reach c.requires.events (omega (arith, heads, few, weights)) c.in_ok-flats.ensures.count
+    c.requires.key c.requires.reach c.requires.events c.in_ok-plans.ensures.ends (omega (arith, heads, few, weights)) c.in_ok-flats.ensures.count
 
 pub returns-clause-key : goal.returns-clause-key
 returns-clause-key c =

@@ -1,0 +1,61 @@
+use Rattle.std.proofs.Common.{◌≡◌, ◌∙◌, length, map, refl, ap, subst, sym, arith}
+use Rattle.std.specs.List.{All, slice_range}
+use Rattle.std.proofs.lemmas.Simd.{map-map}
+use Rattle.mus_time.specs.Ranks.{AreRanked}
+use Rattle.mus_time.proofs.Places.{length_of_lengths}
+use Rattle.mus_drawn.specs.Drawn.{drawn_voice}
+use Rattle.mus_drawn.specs.Good.{AreGoodMeasures}
+use Rattle.mus_marks.specs.Staff.{staff_marks}
+use Rattle.mus_marks.specs.Tilt.{AllCanTilt, voice_tilted}
+use Rattle.mus_marks.proofs.Few.{few_keys}
+use Rattle.mus_marks.proofs.Lines.{voices_count}
+use Rattle.mus_marks.proofs.Sloping.{voices_can}
+use Rattle.mus_marks.proofs.Alike.{tilted_alike, tilted_good}
+use Rattle.mus_marks.proofs.tilting.tilt_of.Goals as goal
+
+count : (c : goal.After-tilted_staves-arg-1) → length c.as_slice-lengths.result.now ≡ c.args.s.now.measures
+count c = ap length (c.as_slice-lengths.ensures ∙ ap (λ t. t.lengths) c.requires.times) ∙ length_of_lengths c.args.s.now
+
+pub tilted_staves-requires-clause-within : goal.tilted_staves-requires-clause-within
+tilted_staves-requires-clause-within c = omega (arith, count c, c.requires.within)
+
+pub tilted_staves-requires-clause-few : goal.tilted_staves-requires-clause-few
+tilted_staves-requires-clause-few c = omega (arith, count c, c.requires.good.few_measures)
+
+pub tilted_staves-requires-clause-each : goal.tilted_staves-requires-clause-each
+tilted_staves-requires-clause-each c =
+    subst (λ vs. All (λ v. length v.measures ≡ length c.as_slice-lengths.result.now) vs) (sym c.requires.voices)
+    (voices_count (length c.as_slice-lengths.result.now) c.args.s.now.voices (λ k d h. c.requires.good.measures k d h ∙ sym (count c)))
+
+pub tilted_staves-requires-clause-keys : goal.tilted_staves-requires-clause-keys
+tilted_staves-requires-clause-keys c =
+    subst AreRanked (sym c.as_slice.ensures) (record {
+      rise = c.in_ok-keys.ensures.keys.rise;
+      few = few_keys c.args.s.now c.args.t.now.lengths c.args.a c.args.b c.in_ok-keys.keys c.requires.good c.requires.within c.in_ok-keys.ensures.keys;
+    })
+
+pub tilted_staves-requires-clause-slopes : goal.tilted_staves-requires-clause-slopes
+tilted_staves-requires-clause-slopes c =
+    subst (λ ks. All (λ v. AllCanTilt ks c.args.at.now c.args.a (slice_range v.measures c.args.a c.args.b)) c.args.voices.now) (sym c.as_slice.ensures)
+    (subst (All (λ v. AllCanTilt c.in_ok-keys.keys c.args.at.now c.args.a (slice_range v.measures c.args.a c.args.b))) (sym c.requires.voices)
+    (voices_can c.args.s.now c.args.t.now c.args.a c.args.b c.in_ok-keys.keys c.args.at.now c.requires.places c.in_ok-keys.ensures.keys c.requires.good (subst (All (λ v. AreGoodMeasures v.measures)) c.requires.voices c.requires.drawn)))
+
+pub returns-clause-tilted : goal.returns-clause-tilted
+returns-clause-tilted c =
+    let keys = c.in_ok-keys.keys in let lengths = c.args.t.now.lengths in let at = c.args.at.now in let a = c.args.a in let b = c.args.b in
+    record {
+      from = refl;
+      to = refl;
+      keys = c.in_ok-keys.ensures.keys;
+      staves = c.in_ok-staves.ensures.staves
+          ∙ ap (λ ks. map (λ v. staff_marks ks c.as_slice-lengths.result.now a b (voice_tilted ks at a b v)) c.args.voices.now) c.as_slice.ensures
+          ∙ ap (λ ls. map (λ v. staff_marks keys ls a b (voice_tilted keys at a b v)) c.args.voices.now) c.as_slice-lengths.ensures
+          ∙ ap (map (λ v. staff_marks keys lengths a b (voice_tilted keys at a b v))) c.requires.voices
+          ∙ map-map (λ v. staff_marks keys lengths a b (voice_tilted keys at a b v)) drawn_voice c.args.s.now.voices;
+    }
+
+pub returns-clause-alike : goal.returns-clause-alike
+returns-clause-alike c = λ flat call. tilted_alike c.args.s.now c.args.t.now c.args.a c.args.b c.args.at.now _ (returns-clause-tilted c) flat call
+
+pub returns-clause-good : goal.returns-clause-good
+returns-clause-good c = tilted_good c.args.s.now c.args.t.now c.args.a c.args.b c.args.at.now _ (returns-clause-tilted c) c.requires.good
