@@ -1,0 +1,5 @@
+pub mod Folds
+pub mod Leaving
+pub mod MoveLaws
+pub mod MovedGood
+pub mod Reaches

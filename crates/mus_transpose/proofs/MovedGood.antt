@@ -1,0 +1,192 @@
+-- A moved score in reach is good, and where there is no move it is the score.
+use Rattle.std.proofs.Common.{◌≡◌, ◌≢◌, ℕ, suc, ◌==◌, ◌&&◌, ◌*◌, ◌+ℤ◌, ◌<◌, nat_le, Bool, true, false, List, get_or, [], ◌∷◌, ◌++◌, length, map, refl, sym, ◌∙◌, ap, subst, arith, sum, if◌then◌else◌}
+use Rattle.std.specs.Prelude.{All, AllPairs, IfSome, Option, Some, None, sum_by, ℤ}
+use Rattle.std.specs.Option.{option_map}
+use Rattle.std.specs.List.{list_all}
+use Rattle.std.proofs.Math.Path.{fun_ext}
+use Rattle.std.proofs.lemmas.Bool.{false≢true}
+use Rattle.std.proofs.lemmas.List.{get_or-map, length-map, map-append, map-id}
+use Rattle.std.proofs.lemmas.List.Elements.{All-map, All-weaker}
+use Rattle.std.proofs.lemmas.List.Sums.{list_all-from_AllPass, sum-map}
+use Rattle.std.proofs.lemmas.Simd.{map-map}
+use Rattle.mus_units.specs.Good.{IsGoodKey}
+use Rattle.mus_units.specs.Value.{value_length, whole_note}
+use Rattle.mus_units.specs.declared.key.Key.{Key}
+use Rattle.mus_pitch.proofs.SignLaws.{signs_of_good}
+use Rattle.mus_score.specs.declared.score.Flat.{Flat}
+use Rattle.mus_score.specs.declared.score.Measure.{Measure}
+use Rattle.mus_score.specs.declared.score.Music.{Music}
+use Rattle.mus_score.specs.declared.score.Music.TheOpen.{Music-F}
+use Rattle.mus_score.specs.declared.score.Score.{Score}
+use Rattle.mus_score.specs.declared.score.Voice.{Voice}
+use Rattle.mus_score.specs.declared.good.Judged.{Judged}
+use Rattle.mus_score.specs.declared.good.Place.{Place}
+use Rattle.mus_score.specs.Good.{IsGoodBody, all_judged, good_step, has_value_ticks, judged, judged_within, outside, weight, weight_step}
+use Rattle.mus_score.specs.GoodScore.{AreCounted, AreInReach, IsGoodEvent, IsGoodScore, IsGoodVoice, events_of, voice_weight}
+use Rattle.mus_score.specs.Times.{flats_of}
+use Rattle.mus_transpose.specs.declared.moves.Move.{Move}
+use Rattle.mus_transpose.specs.CanMove.{CanMove, IsLike, move_from, moved_score}
+use Rattle.mus_transpose.specs.Music.{changed, changed_flat, changed_layer, measure_by, score_by, voice_by}
+use Rattle.mus_transpose.specs.Shifted.{moved_event, moved_head, moved_key, on_circle, sharps_in}
+use Rattle.mus_transpose.specs.Tests.{are_in_reach, body_can_move, event_can_move, voice_can_move}
+use Rattle.mus_transpose.proofs.Folds.{fold_kept, passes, unchanged}
+use Rattle.mus_transpose.proofs.Leaving.{flats_changed}
+use Rattle.mus_transpose.proofs.Reaches.{voices_decide}
+
+-- ---- bodies
+
+judged_layer : (m : Move) (x : Music-F (Place → Judged)) → good_step (changed_layer (moved_event m) x) ≡ good_step x
+judged_layer m (Music-F.Note e) = ap (λ n. λ (at : Place). judged (nat_le 1 n && has_value_ticks e) true) (length-map e.heads (moved_head m))
+judged_layer m (Music-F.Rest e) =
+    ap (λ n. λ (at : Place). judged (if at.grace then false else (n == 0 && nat_le e.value.dots 3 && (if at.inner then e.ticks == value_length e.value else nat_le 1 e.ticks && nat_le e.ticks (99 * whole_note)))) true)
+    (length-map e.heads (moved_head m))
+judged_layer m (Music-F.Grace body slash) = refl
+judged_layer m (Music-F.Tuplet p q body) = refl
+
+weight_layer : (m : Move) (x : Music-F ℕ) → weight_step (changed_layer (moved_event m) x) ≡ weight_step x
+weight_layer m (Music-F.Note e) = length-map e.heads (moved_head m)
+weight_layer m (Music-F.Rest e) = refl
+weight_layer m (Music-F.Grace body slash) = refl
+weight_layer m (Music-F.Tuplet p q body) = refl
+
+-- a function that doesn't see the change of an element
+map_kept : {A B : Type 0} (f : A → B) (g : A → A) → ((x : A) → f (g x) ≡ f x) → (xs : List A) → map f (map g xs) ≡ map f xs
+map_kept f g same xs = map-map f g xs ∙ ap (λ h. map h xs) (fun_ext same)
+
+sum_kept : {A : Type 0} (f : A → ℕ) (g : A → A) → ((x : A) → f (g x) ≡ f x) → (xs : List A) → sum_by f (map g xs) ≡ sum_by f xs
+sum_kept f g same xs = sym (sum-map f (map g xs)) ∙ ap sum (map_kept f g same xs) ∙ sum-map f xs
+
+weights_kept : (m : Move) (body : List Music) → sum (map weight (map (changed (moved_event m)) body)) ≡ sum (map weight body)
+weights_kept m body = ap sum (map_kept weight (changed (moved_event m)) (fold_kept weight_step (moved_event m) (weight_layer m)) body)
+
+pub body_good : (m : Move) (body : List Music) → IsGoodBody body → IsGoodBody (map (changed (moved_event m)) body)
+body_good m body good = record {
+  good = ap (λ js. (all_judged js outside).good) (map_kept judged_within (changed (moved_event m)) (fold_kept good_step (moved_event m) (judged_layer m)) body) ∙ good.good;
+  few = omega (arith, weights_kept m body, good.few);
+}
+
+-- ---- events
+
+pub events_moved : (m : Move) (ms : List Measure) → events_of (map (measure_by (Some m)) ms) ≡ map (changed_flat (moved_event m)) (events_of ms)
+events_moved m [] = refl
+events_moved m (x ∷ ms) =
+    ap (λ fs. fs ++ events_of (map (measure_by (Some m)) ms)) (flats_changed (moved_event m) (λ e. refl) x.body)
+    ∙ ap (λ fs. map (changed_flat (moved_event m)) (flats_of x.body) ++ fs) (events_moved m ms)
+    ∙ sym (map-append (changed_flat (moved_event m)) (flats_of x.body) (events_of ms))
+
+change_good : (m : Move) (k : Option Key) → IfSome (option_map (moved_key m) k) IsGoodKey
+change_good m None = tt
+change_good m (Some k) = signs_of_good (sharps_in k.signs +ℤ m.sharps)
+
+event_good : (m : Move) (verses : ℕ) (f : Flat) → IsGoodEvent verses f → IsGoodEvent verses (changed_flat (moved_event m) f)
+event_good m verses f good = record { words = good.words; key = change_good m f.event.changes.key; meter = good.meter }
+
+counted : (m : Move) (n : ℕ) (fs : List Flat) → AreCounted n fs → AreCounted n (map (changed_flat (moved_event m)) fs)
+counted m n [] h = tt
+counted m n (f ∷ fs) h = (h.0, counted m (suc n) fs h.1)
+
+-- ---- voices and scores
+
+voice_weight_kept : (m : Move) (v : Voice) → voice_weight (voice_by (Some m) v) ≡ voice_weight v
+voice_weight_kept m v = sum_kept (λ (x : Measure). sum (map weight x.body)) (measure_by (Some m)) (λ x. weights_kept m x.body) v.measures
+
+pub bodies_good : (m : Move) (v : Voice) → IsGoodVoice v → All (λ (x : Measure). IsGoodBody x.body) (voice_by (Some m) v).measures
+bodies_good m v good =
+    All-map (λ (x : Measure). IsGoodBody x.body) (measure_by (Some m)) v.measures (All-weaker (λ (x : Measure). IsGoodBody x.body) (λ x. IsGoodBody (map (changed (moved_event m)) x.body)) (λ x. body_good m x.body) v.measures good.bodies)
+
+voice_good : (m : Move) (v : Voice) → AreInReach v.clef (events_of (voice_by (Some m) v).measures) → IsGoodVoice v → IsGoodVoice (voice_by (Some m) v)
+voice_good m v reach good =
+    let g = changed_flat (moved_event m) in
+    record {
+      few_measures = omega (arith, length-map v.measures (measure_by (Some m)), good.few_measures);
+      few_verses = good.few_verses;
+      few_heads = omega (arith, voice_weight_kept m v, good.few_heads);
+      key = signs_of_good (sharps_in v.key.signs +ℤ m.sharps);
+      meter = good.meter;
+      bodies = bodies_good m v good;
+      events = subst (All (IsGoodEvent v.verses)) (sym (events_moved m v.measures)) (All-map (IsGoodEvent v.verses) g (events_of v.measures) (All-weaker (IsGoodEvent v.verses) (λ f. IsGoodEvent v.verses (g f)) (event_good m v.verses) (events_of v.measures) good.events));
+      reach = reach;
+      ids = subst (AreCounted 0) (sym (events_moved m v.measures)) (counted m 0 (events_of v.measures) good.ids);
+    }
+
+pub all_bodies_good : (m : Move) (s : Score) → IsGoodScore s → All (λ v. All (λ x. IsGoodBody x.body) v.measures) (score_by (Some m) s).voices
+all_bodies_good m s good =
+    All-map (λ v. All (λ x. IsGoodBody x.body) v.measures) (voice_by (Some m)) s.voices (All-weaker IsGoodVoice (λ v. All (λ (x : Measure). IsGoodBody x.body) (voice_by (Some m) v).measures) (bodies_good m) s.voices good.voices)
+
+abbrev ReachAll : List Voice → Type 0
+ReachAll vs = All (λ v. AreInReach v.clef (events_of v.measures)) vs
+
+voices_good : (m : Move) (vs : List Voice) → ReachAll (map (voice_by (Some m)) vs) → All IsGoodVoice vs → All IsGoodVoice (map (voice_by (Some m)) vs)
+voices_good m vs reach good = λ k d lt.
+    let inside : k < length vs = omega (arith, length-map vs (voice_by (Some m)), lt) in
+    let v = get_or vs k d in
+    let e = get_or-map (voice_by (Some m)) vs k d d inside in
+    subst IsGoodVoice (sym e) (voice_good m v (subst (λ (w : Voice). AreInReach w.clef (events_of w.measures)) e (reach k d lt)) (good k d inside))
+
+ids_apart : (m : Move) (vs : List Voice) → AllPairs (λ v w. v.id ≢ w.id) vs → AllPairs (λ v w. v.id ≢ w.id) (map (voice_by (Some m)) vs)
+ids_apart m vs h = λ i j d below lt.
+    let inside : j < length vs = omega (arith, length-map vs (voice_by (Some m)), lt) in
+    let e = ap (λ (v : Voice). v.id) (get_or-map (voice_by (Some m)) vs i d d (omega arith)) in
+    let f = ap (λ (v : Voice). v.id) (get_or-map (voice_by (Some m)) vs j d d inside) in
+    λ same. h i j d below inside (sym e ∙ same ∙ f)
+
+pub moved_good : (m : Move) (s : Score) → IsGoodScore s → ReachAll (score_by (Some m) s).voices → IsGoodScore (score_by (Some m) s)
+moved_good m s good reach = record {
+  few_voices = omega (arith, length-map s.voices (voice_by (Some m)), good.few_voices);
+  few_measures = good.few_measures;
+  few_heads = omega (arith, sum_kept voice_weight (voice_by (Some m)) (voice_weight_kept m) s.voices, good.few_heads);
+  voices = voices_good m s.voices reach good.voices;
+  measures = All-map (λ v. length v.measures ≡ s.measures) (voice_by (Some m)) s.voices (All-weaker (λ v. length v.measures ≡ s.measures) (λ v. length (map (measure_by (Some m)) v.measures) ≡ s.measures) (λ v e. length-map v.measures (measure_by (Some m)) ∙ e) s.voices good.measures);
+  ids = ids_apart m s.voices good.ids;
+  forced = good.forced;
+  forced_rise = good.forced_rise;
+}
+
+-- ---- where there is no move
+
+same_all : {A : Type 0} (f : A → A) → ((x : A) → f x ≡ x) → (xs : List A) → map f xs ≡ xs
+same_all f same xs = ap (λ g. map g xs) (fun_ext same) ∙ map-id xs
+
+measure_same : (x : Measure) → measure_by None x ≡ x
+measure_same x = ap (λ (b : List Music). record x { body = b }) (same_all (changed (λ e. e)) unchanged x.body)
+
+voice_same : (v : Voice) → voice_by None v ≡ v
+voice_same v = ap (λ (xs : List Measure). record v { measures = xs }) (same_all (measure_by None) measure_same v.measures)
+
+pub score_same : (s : Score) → score_by None s ≡ s
+score_same s = ap (λ (vs : List Voice). record s { voices = vs }) (same_all (voice_by None) voice_same s.voices)
+
+all_same : {A : Type 0} (test : A → Bool) → ((x : A) → test x ≡ true) → (xs : List A) → list_all test xs ≡ true
+all_same test all xs = list_all-from_AllPass test xs (λ k d lt. all (get_or xs k d))
+
+bodies_pass : (body : List Music) → body_can_move None body ≡ true
+bodies_pass [] = refl
+bodies_pass (m ∷ ms) = rw (passes (event_can_move None) (λ e. refl) m, bodies_pass ms) refl
+
+pub all_stay : (vs : List Voice) → list_all (voice_can_move None) vs ≡ true
+all_stay vs = all_same (voice_can_move None) (λ v. all_same (λ (x : Measure). body_can_move None x.body) (λ x. bodies_pass x.body) v.measures) vs
+
+pub moved_like : (by : Option Move) (s : Score) → IsLike s (score_by by s)
+moved_like by s = record { voices = length-map s.voices (voice_by by); measures = refl; forced = refl; spread = refl }
+
+-- ---- what the tests tell of a move
+
+abbrev pub all_in_reach : List Voice → Bool
+all_in_reach vs = list_all (λ v. are_in_reach v.clef (events_of v.measures)) vs
+
+pub has_moved : (s : Score) (key : Key) (by : ℤ) (m : Move) (t : Score) → m ≡ move_from key by → t ≡ score_by (Some m) s
+    → on_circle key ≡ true → list_all (voice_can_move (Some m)) s.voices ≡ true → all_in_reach t.voices ≡ true → CanMove s key by × (t ≡ moved_score s key by)
+has_moved s key by m t move is header voices reach =
+    let e : t ≡ moved_score s key by = is ∙ ap (λ (n : Move). score_by (Some n) s) move in (
+      record {
+        header = header;
+        voices = ap (λ (n : Move). list_all (voice_can_move (Some n)) s.voices) (sym move) ∙ voices;
+        reach = subst (λ (u : Score). ReachAll u.voices) e ((voices_decide t.voices).0 reach);
+      },
+      e,
+    )
+
+pub out_of_reach : (s : Score) (key : Key) (by : ℤ) (m : Move) (t : Score) → m ≡ move_from key by → t ≡ score_by (Some m) s → all_in_reach t.voices ≡ false → CanMove s key by → ⊥
+out_of_reach s key by m t move is out can =
+    let e : t ≡ moved_score s key by = is ∙ ap (λ (n : Move). score_by (Some n) s) move in
+    false≢true (sym out ∙ (voices_decide t.voices).1 (subst (λ (u : Score). ReachAll u.voices) (sym e) can.reach))
