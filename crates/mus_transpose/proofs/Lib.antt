@@ -1,5 +1,4 @@
-pub mod Folds
-pub mod Leaving
+pub mod Changed
 pub mod MoveLaws
 pub mod MovedGood
 pub mod Reaches

@@ -7,61 +7,44 @@ use Rattle.std.proofs.Math.Path.{fun_ext}
 use Rattle.std.proofs.lemmas.Bool.{false≢true}
 use Rattle.std.proofs.lemmas.List.{get_or-map, length-map, map-append, map-id}
 use Rattle.std.proofs.lemmas.List.Elements.{All-map, All-weaker}
-use Rattle.std.proofs.lemmas.List.Sums.{list_all-from_AllPass, sum-map}
+use Rattle.std.proofs.lemmas.List.Sums.{sum-map}
 use Rattle.std.proofs.lemmas.Simd.{map-map}
 use Rattle.mus_units.specs.Good.{IsGoodKey}
 use Rattle.mus_units.specs.Value.{value_length, whole_note}
 use Rattle.mus_units.specs.declared.key.Key.{Key}
 use Rattle.mus_pitch.proofs.SignLaws.{signs_of_good}
+use Rattle.mus_score.specs.declared.score.Event.{Event}
 use Rattle.mus_score.specs.declared.score.Flat.{Flat}
 use Rattle.mus_score.specs.declared.score.Measure.{Measure}
 use Rattle.mus_score.specs.declared.score.Music.{Music}
 use Rattle.mus_score.specs.declared.score.Music.TheOpen.{Music-F}
 use Rattle.mus_score.specs.declared.score.Score.{Score}
 use Rattle.mus_score.specs.declared.score.Voice.{Voice}
-use Rattle.mus_score.specs.declared.good.Judged.{Judged}
 use Rattle.mus_score.specs.declared.good.Place.{Place}
-use Rattle.mus_score.specs.Good.{IsGoodBody, all_judged, good_step, has_value_ticks, judged, judged_within, outside, weight, weight_step}
+use Rattle.mus_score.specs.Good.{IsGoodBody, all_judged, good_step, has_value_ticks, judged, outside, weight, weight_step}
 use Rattle.mus_score.specs.GoodScore.{AreCounted, AreInReach, IsGoodEvent, IsGoodScore, IsGoodVoice, events_of, voice_weight}
 use Rattle.mus_score.specs.Times.{flats_of}
 use Rattle.mus_transpose.specs.declared.moves.Move.{Move}
-use Rattle.mus_transpose.specs.CanMove.{CanMove, IsLike, move_from, moved_score}
-use Rattle.mus_transpose.specs.Music.{changed, changed_flat, changed_layer, measure_by, score_by, voice_by}
-use Rattle.mus_transpose.specs.Shifted.{moved_event, moved_head, moved_key, on_circle, sharps_in}
-use Rattle.mus_transpose.specs.Tests.{are_in_reach, body_can_move, event_can_move, voice_can_move}
-use Rattle.mus_transpose.proofs.Folds.{fold_kept, passes, unchanged}
-use Rattle.mus_transpose.proofs.Leaving.{flats_changed}
+use Rattle.mus_transpose.specs.Moved.{CanMove, IsLike, are_in_reach, body_by, changed, changed_flat, measure_by, move_from, moved_event, moved_head, moved_key, moved_score, on_circle, score_by, sharps_in, voice_by, voice_may}
+use Rattle.mus_transpose.proofs.Changed.{flats_changed, fold_same, unchanged}
 use Rattle.mus_transpose.proofs.Reaches.{voices_decide}
 
 -- ---- bodies
 
-judged_layer : (m : Move) (x : Music-F (Place → Judged)) → good_step (changed_layer (moved_event m) x) ≡ good_step x
-judged_layer m (Music-F.Note e) = ap (λ n. λ (at : Place). judged (nat_le 1 n && has_value_ticks e) true) (length-map e.heads (moved_head m))
-judged_layer m (Music-F.Rest e) =
+note_judged : (m : Move) (e : Event) → good_step (Music-F.Note (moved_event m e)) ≡ good_step (Music-F.Note e)
+note_judged m e = ap (λ n. λ (at : Place). judged (nat_le 1 n && has_value_ticks e) true) (length-map e.heads (moved_head m))
+
+rest_judged : (m : Move) (e : Event) → good_step (Music-F.Rest (moved_event m e)) ≡ good_step (Music-F.Rest e)
+rest_judged m e =
     ap (λ n. λ (at : Place). judged (if at.grace then false else (n == 0 && nat_le e.value.dots 3 && (if at.inner then e.ticks == value_length e.value else nat_le 1 e.ticks && nat_le e.ticks (99 * whole_note)))) true)
     (length-map e.heads (moved_head m))
-judged_layer m (Music-F.Grace body slash) = refl
-judged_layer m (Music-F.Tuplet p q body) = refl
 
-weight_layer : (m : Move) (x : Music-F ℕ) → weight_step (changed_layer (moved_event m) x) ≡ weight_step x
-weight_layer m (Music-F.Note e) = length-map e.heads (moved_head m)
-weight_layer m (Music-F.Rest e) = refl
-weight_layer m (Music-F.Grace body slash) = refl
-weight_layer m (Music-F.Tuplet p q body) = refl
+weights_kept : (m : Move) (body : List Music) → sum (map weight (body_by (Some m) body)) ≡ sum (map weight body)
+weights_kept m body = ap sum (fold_same (moved_event m) weight_step (λ e. length-map e.heads (moved_head m)) (λ e. refl) body)
 
--- a function that doesn't see the change of an element
-map_kept : {A B : Type 0} (f : A → B) (g : A → A) → ((x : A) → f (g x) ≡ f x) → (xs : List A) → map f (map g xs) ≡ map f xs
-map_kept f g same xs = map-map f g xs ∙ ap (λ h. map h xs) (fun_ext same)
-
-sum_kept : {A : Type 0} (f : A → ℕ) (g : A → A) → ((x : A) → f (g x) ≡ f x) → (xs : List A) → sum_by f (map g xs) ≡ sum_by f xs
-sum_kept f g same xs = sym (sum-map f (map g xs)) ∙ ap sum (map_kept f g same xs) ∙ sum-map f xs
-
-weights_kept : (m : Move) (body : List Music) → sum (map weight (map (changed (moved_event m)) body)) ≡ sum (map weight body)
-weights_kept m body = ap sum (map_kept weight (changed (moved_event m)) (fold_kept weight_step (moved_event m) (weight_layer m)) body)
-
-pub body_good : (m : Move) (body : List Music) → IsGoodBody body → IsGoodBody (map (changed (moved_event m)) body)
+body_good : (m : Move) (body : List Music) → IsGoodBody body → IsGoodBody (body_by (Some m) body)
 body_good m body good = record {
-  good = ap (λ js. (all_judged js outside).good) (map_kept judged_within (changed (moved_event m)) (fold_kept good_step (moved_event m) (judged_layer m)) body) ∙ good.good;
+  good = ap (λ js. (all_judged js outside).good) (fold_same (moved_event m) good_step (note_judged m) (rest_judged m) body) ∙ good.good;
   few = omega (arith, weights_kept m body, good.few);
 }
 
@@ -87,12 +70,15 @@ counted m n (f ∷ fs) h = (h.0, counted m (suc n) fs h.1)
 
 -- ---- voices and scores
 
+sum_kept : {A : Type 0} (f : A → ℕ) (g : A → A) → ((x : A) → f (g x) ≡ f x) → (xs : List A) → sum_by f (map g xs) ≡ sum_by f xs
+sum_kept f g same xs = sym (sum-map f (map g xs)) ∙ ap sum (map-map f g xs ∙ ap (λ h. map h xs) (fun_ext same)) ∙ sum-map f xs
+
 voice_weight_kept : (m : Move) (v : Voice) → voice_weight (voice_by (Some m) v) ≡ voice_weight v
 voice_weight_kept m v = sum_kept (λ (x : Measure). sum (map weight x.body)) (measure_by (Some m)) (λ x. weights_kept m x.body) v.measures
 
 pub bodies_good : (m : Move) (v : Voice) → IsGoodVoice v → All (λ (x : Measure). IsGoodBody x.body) (voice_by (Some m) v).measures
 bodies_good m v good =
-    All-map (λ (x : Measure). IsGoodBody x.body) (measure_by (Some m)) v.measures (All-weaker (λ (x : Measure). IsGoodBody x.body) (λ x. IsGoodBody (map (changed (moved_event m)) x.body)) (λ x. body_good m x.body) v.measures good.bodies)
+    All-map (λ (x : Measure). IsGoodBody x.body) (measure_by (Some m)) v.measures (All-weaker (λ (x : Measure). IsGoodBody x.body) (λ x. IsGoodBody (body_by (Some m) x.body)) (λ x. body_good m x.body) v.measures good.bodies)
 
 voice_good : (m : Move) (v : Voice) → AreInReach v.clef (events_of (voice_by (Some m) v).measures) → IsGoodVoice v → IsGoodVoice (voice_by (Some m) v)
 voice_good m v reach good =
@@ -156,16 +142,6 @@ voice_same v = ap (λ (xs : List Measure). record v { measures = xs }) (same_all
 pub score_same : (s : Score) → score_by None s ≡ s
 score_same s = ap (λ (vs : List Voice). record s { voices = vs }) (same_all (voice_by None) voice_same s.voices)
 
-all_same : {A : Type 0} (test : A → Bool) → ((x : A) → test x ≡ true) → (xs : List A) → list_all test xs ≡ true
-all_same test all xs = list_all-from_AllPass test xs (λ k d lt. all (get_or xs k d))
-
-bodies_pass : (body : List Music) → body_can_move None body ≡ true
-bodies_pass [] = refl
-bodies_pass (m ∷ ms) = rw (passes (event_can_move None) (λ e. refl) m, bodies_pass ms) refl
-
-pub all_stay : (vs : List Voice) → list_all (voice_can_move None) vs ≡ true
-all_stay vs = all_same (voice_can_move None) (λ v. all_same (λ (x : Measure). body_can_move None x.body) (λ x. bodies_pass x.body) v.measures) vs
-
 pub moved_like : (by : Option Move) (s : Score) → IsLike s (score_by by s)
 moved_like by s = record { voices = length-map s.voices (voice_by by); measures = refl; forced = refl; spread = refl }
 
@@ -175,12 +151,12 @@ abbrev pub all_in_reach : List Voice → Bool
 all_in_reach vs = list_all (λ v. are_in_reach v.clef (events_of v.measures)) vs
 
 pub has_moved : (s : Score) (key : Key) (by : ℤ) (m : Move) (t : Score) → m ≡ move_from key by → t ≡ score_by (Some m) s
-    → on_circle key ≡ true → list_all (voice_can_move (Some m)) s.voices ≡ true → all_in_reach t.voices ≡ true → CanMove s key by × (t ≡ moved_score s key by)
+    → on_circle key ≡ true → list_all (voice_may (Some m)) s.voices ≡ true → all_in_reach t.voices ≡ true → CanMove s key by × (t ≡ moved_score s key by)
 has_moved s key by m t move is header voices reach =
     let e : t ≡ moved_score s key by = is ∙ ap (λ (n : Move). score_by (Some n) s) move in (
       record {
         header = header;
-        voices = ap (λ (n : Move). list_all (voice_can_move (Some n)) s.voices) (sym move) ∙ voices;
+        voices = ap (λ (n : Move). list_all (voice_may (Some n)) s.voices) (sym move) ∙ voices;
         reach = subst (λ (u : Score). ReachAll u.voices) e ((voices_decide t.voices).0 reach);
       },
       e,

@@ -11,7 +11,7 @@ use Rattle.mus_score.specs.declared.score.Event.{Event}
 use Rattle.mus_score.specs.declared.score.Flat.{Flat}
 use Rattle.mus_score.specs.declared.score.Voice.{Voice}
 use Rattle.mus_score.specs.GoodScore.{AreInReach, IsInReach, clef_at, events_of}
-use Rattle.mus_transpose.specs.Tests.{are_in_reach, in_reach}
+use Rattle.mus_transpose.specs.Moved.{are_in_reach, in_reach}
 
 le_decides : (x y : ℤ) → Decides (int_le x y) (x ≤ℤ y)
 le_decides x y = (λ e. grind (arith, ints), λ l. grind (arith, ints))

@@ -1,6 +1,2 @@
-pub mod CanMove
+pub mod Moved
 pub mod Moves
-pub mod Music
-pub mod Semitones
-pub mod Shifted
-pub mod Tests

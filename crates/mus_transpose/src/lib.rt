@@ -5,12 +5,14 @@
 //! with which the head is as many semitones higher.
 #![tactic(auto)]
 
-pub mod events;
 pub mod heads;
 pub mod keys;
 pub mod moves;
 pub mod reach;
+
 pub mod scores;
 pub mod trees;
 
 pub use moves::Move;
+pub use scores::{moved, moved_or_same};
+

@@ -1,12 +1,10 @@
-ghost use Rattle.std.specs.Prelude.{◌≡◌, All, IfOk};
+ghost use Rattle.std.specs.Prelude.{◌≡◌};
 ghost use Rattle.std.specs.List.{list_all};
-ghost use Rattle.mus_score.specs.Good.{IsGoodBody};
-ghost use Rattle.mus_score.specs.GoodScore.{clef_at, events_of};
-ghost use Rattle.mus_transpose.specs.Tests.{are_in_reach, in_reach};
+ghost use Rattle.mus_score.specs.GoodScore.{clef_at};
+ghost use Rattle.mus_transpose.specs.Moved.{are_in_reach, in_reach};
 
-use mus_score::{Event, Flat, Head, Measure, events};
-use mus_units::{Clef, Memory, height};
-use std::alloc::Global;
+use mus_score::{Event, Flat, Head};
+use mus_units::{Clef, height};
 
 fn is_in_reach(clef: Clef, head: Head) -> bool
     ensures { result ≡ in_reach clef head }
@@ -24,9 +22,7 @@ fn heads_in_reach(clef: Clef, heads: &[Head]) -> bool
 fn graces_in_reach(clef: Clef, graces: &[Event]) -> bool
     ensures { result ≡ list_all (λ g. list_all (in_reach clef) g.heads) graces.now }
 {
-    graces
-        .iter()
-        .all(|grace| heads_in_reach(clef, grace.heads.as_slice()))
+    graces.iter().all(|grace| heads_in_reach(clef, grace.heads.as_slice()))
 }
 
 fn clef_at(before: Clef, e: &Event) -> Clef
@@ -35,7 +31,8 @@ fn clef_at(before: Clef, e: &Event) -> Clef
     e.changes.clef.unwrap_or(before)
 }
 
-fn flats_in_reach(before: Clef, flats: &[Flat]) -> bool
+/// Whether each head of some events is in reach, grace heads too.
+pub(crate) fn are_in_reach(before: Clef, flats: &[Flat]) -> bool
     ensures { result ≡ are_in_reach before flats.now }
 {
     let mut clef = before;
@@ -49,17 +46,4 @@ fn flats_in_reach(before: Clef, flats: &[Flat]) -> bool
         }
     }
     true
-}
-
-/// Whether each head of some measures is in reach, grace heads too.
-pub(crate) fn measures_in_reach(
-    alloc: Global,
-    clef: Clef,
-    measures: &[Measure],
-) -> Result<bool, Memory>
-    requires { All (λ m. IsGoodBody m.body) measures.now }
-    ensures { IfOk result (λ r. r ≡ are_in_reach clef (events_of measures.now)) }
-{
-    let events = events(alloc, measures)?;
-    Ok(flats_in_reach(clef, events.as_slice()))
 }

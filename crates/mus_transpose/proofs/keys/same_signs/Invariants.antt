@@ -1,6 +1,6 @@
 use Rattle.std.proofs.Common.{◌≡◌, drop}
 use Rattle.std.specs.Cmp.Lexicographic.{pointwise}
-use Rattle.mus_transpose.specs.Shifted.{same_sign}
+use Rattle.mus_transpose.specs.Moved.{same_sign}
 use Rattle.mus_transpose.proofs.keys.same_signs.Given as goal
 
 abbrev pub invariant-loop-i : goal.invariant-loop-i

@@ -1,0 +1,218 @@
+-- Moved scores. A head moves by letters, and a sign before it becomes the one that is as many semitones higher; a key moves by
+-- sharps. Beside each stands the test whether it can be moved; where there is no move all is left as it is.
+use Rattle.std.specs.Prelude.{◌≡◌, ◌≢◌, ⊤, ℤ, pos, negsuc, suc, ◌+ℤ◌, ◌-ℤ◌, ◌&&◌, ◌==◌, nat_le, int_le, Bool, true, false, List, [], ◌∷◌, length, map, All, MatchOption, Option, Some, None, Result, Ok, Err, is_some, unwrap_or}
+use Rattle.std.specs.Cmp.Lexicographic.{pointwise}
+use Rattle.std.specs.List.{list_all}
+use Rattle.std.specs.Option.{option_map}
+use Rattle.std.specs.Ordering.{int_eq}
+use Rattle.mus_units.specs.Good.{same_letter}
+use Rattle.mus_units.specs.Pitch.{height_of}
+use Rattle.mus_units.specs.declared.key.Key.{Key}
+use Rattle.mus_units.specs.declared.key.Sign.{Sign}
+use Rattle.mus_units.specs.declared.note.Head.{Head}
+use Rattle.mus_units.specs.declared.pitch.Alter.{Alter}
+use Rattle.mus_units.specs.declared.pitch.Alter.TheVariants as alters
+use Rattle.mus_units.specs.declared.pitch.Clef.{Clef}
+use Rattle.mus_units.specs.declared.pitch.Pitch.{Pitch}
+use Rattle.mus_pitch.specs.Circle.{is_signature, signs_of}
+use Rattle.mus_pitch.specs.Steps.{pitch_of_steps, steps}
+use Rattle.mus_score.specs.declared.score.Event.{Event}
+use Rattle.mus_score.specs.declared.score.Flat.{Flat}
+use Rattle.mus_score.specs.declared.score.Measure.{Measure}
+use Rattle.mus_score.specs.declared.score.Music.{Music}
+use Rattle.mus_score.specs.declared.score.Music.TheOpen.{Music-F}
+use Rattle.mus_score.specs.declared.score.Music.TheViews.{roll-Music}
+use Rattle.mus_score.specs.declared.score.Music.TheFolds.{fold-Music}
+use Rattle.mus_score.specs.declared.score.Score.{Score}
+use Rattle.mus_score.specs.declared.score.Voice.{Voice}
+use Rattle.mus_score.specs.GoodScore.{AreInReach, clef_at, events_of}
+use Rattle.mus_transpose.specs.declared.moves.Move.{Move}
+use Rattle.mus_transpose.specs.declared.moves.MoveError.{MoveError}
+use Rattle.mus_transpose.specs.declared.moves.MoveError.TheVariants as errors
+use Rattle.mus_transpose.specs.Moves.{alter_from, alter_of, move_for, semitones}
+
+-- ---- heads
+
+abbrev pub moved_steps : Move → Pitch → ℤ
+moved_steps m p = steps p +ℤ m.letters
+
+unfoldable pub moved_pitch : Move → Pitch → Pitch
+moved_pitch m p = pitch_of_steps (moved_steps m p)
+
+-- the moved pitch is in reach in one clef or another: seven ledger lines below the lowest staff, G2, and above the highest, E4
+abbrev pub is_near : Move → Pitch → Bool
+is_near m p = int_le (pos 4) (moved_steps m p) && int_le (moved_steps m p) (pos 52)
+
+-- the alteration at the moved pitch with which a head is so many semitones higher, where there is one
+unfoldable pub moved_alter : Move → Pitch → Alter → Option Alter
+moved_alter m p a = alter_from ((semitones p a +ℤ m.semitones) -ℤ semitones (moved_pitch m p) alters.Natural)
+
+-- a sign that is past a double one stays, but its score can't be moved
+abbrev pub moved_sign : Move → Pitch → Option Alter → Option Alter
+moved_sign m p None = None
+moved_sign m p (Some a) = Some (unwrap_or (moved_alter m p a) a)
+
+abbrev pub sign_can_move : Move → Pitch → Option Alter → Bool
+sign_can_move m p None = true
+sign_can_move m p (Some a) = is_some (moved_alter m p a)
+
+abbrev pub moved_head : Move → Head → Head
+moved_head m h = record { pitch = moved_pitch m h.pitch; sign = moved_sign m h.pitch h.sign; tied = h.tied }
+
+abbrev pub head_can_move : Move → Head → Bool
+head_can_move m h = is_near m h.pitch && sign_can_move m h.pitch h.sign
+
+-- ---- keys
+
+-- the sharps of a key by its first sign, a flat counting as one less
+abbrev pub sharps_by : Alter → ℤ → ℤ
+sharps_by alters.Flat count = pos 0 -ℤ count
+sharps_by _ count = count
+
+abbrev pub sharps_in : List Sign → ℤ
+sharps_in [] = pos 0
+sharps_in (s ∷ signs) = sharps_by s.alter (pos (suc (length signs)))
+
+abbrev pub same_sign : Sign → Sign → Bool
+same_sign s t = same_letter s.letter t.letter && int_eq (alter_of s.alter) (alter_of t.alter)
+
+-- a key on the circle of fifths has the signs of -7 to 7 sharps, in their order
+abbrev pub on_circle : Key → Bool
+on_circle k =
+    let signs = signs_of (sharps_in k.signs) in
+    nat_le (length k.signs) 7 && (length k.signs == length signs && pointwise same_sign k.signs signs)
+
+abbrev pub moved_key : Move → Key → Key
+moved_key m k = record { signs = signs_of (sharps_in k.signs +ℤ m.sharps) }
+
+-- the moved key is on the circle too
+abbrev pub key_can_move : Move → Key → Bool
+key_can_move m k = on_circle k && is_signature (sharps_in k.signs +ℤ m.sharps)
+
+abbrev pub change_can_move : Move → Option Key → Bool
+change_can_move m None = true
+change_can_move m (Some k) = key_can_move m k
+
+-- ---- events, the graces among them
+
+abbrev pub moved_event : Move → Event → Event
+moved_event m e = record e {
+  heads = map (moved_head m) e.heads;
+  changes = record { clef = e.changes.clef; key = option_map (moved_key m) e.changes.key; meter = e.changes.meter };
+}
+
+abbrev pub event_can_move : Move → Event → Bool
+event_can_move m e = list_all (head_can_move m) e.heads && change_can_move m e.changes.key
+
+abbrev pub event_by : Option Move → Event → Event
+event_by None e = e
+event_by (Some m) e = moved_event m e
+
+abbrev pub event_may : Option Move → Event → Bool
+event_may None e = true
+event_may (Some m) e = event_can_move m e
+
+-- ---- trees
+
+-- a node with each event in it changed
+abbrev pub changed_layer : {A : Type 0} → (Event → Event) → Music-F A → Music-F A
+changed_layer g (Music-F.Note e) = Music-F.Note (g e)
+changed_layer g (Music-F.Rest e) = Music-F.Rest (g e)
+changed_layer g (Music-F.Grace body slash) = Music-F.Grace body slash
+changed_layer g (Music-F.Tuplet p q body) = Music-F.Tuplet p q body
+
+abbrev pub changed_step : (Event → Event) → Music-F Music → Music
+changed_step g x = roll-Music (changed_layer g x)
+
+abbrev pub changed : (Event → Event) → Music → Music
+changed g = fold-Music Music (changed_step g)
+
+abbrev pub changed_flat : (Event → Event) → Flat → Flat
+changed_flat g f = record f { event = g f.event; graces = map g f.graces }
+
+abbrev pub all_true : List Bool → Bool
+all_true [] = true
+all_true (b ∷ bs) = b && all_true bs
+
+-- each event in a node passes a test, graces too
+abbrev pub passing_step : (Event → Bool) → Music-F Bool → Bool
+passing_step test (Music-F.Note e) = test e
+passing_step test (Music-F.Rest e) = test e
+passing_step test (Music-F.Grace body slash) = all_true body
+passing_step test (Music-F.Tuplet p q body) = all_true body
+
+abbrev pub all_pass : (Event → Bool) → Music → Bool
+all_pass test = fold-Music Bool (passing_step test)
+
+abbrev pub body_by : Option Move → List Music → List Music
+body_by by body = map (changed (event_by by)) body
+
+abbrev pub body_may : Option Move → List Music → Bool
+body_may by body = all_true (map (all_pass (event_may by)) body)
+
+-- ---- voices and scores
+
+abbrev pub measure_by : Option Move → Measure → Measure
+measure_by by x = record x { body = body_by by x.body }
+
+abbrev pub key_by : Option Move → Key → Key
+key_by None k = k
+key_by (Some m) k = moved_key m k
+
+abbrev pub key_may : Option Move → Key → Bool
+key_may None k = true
+key_may (Some m) k = key_can_move m k
+
+abbrev pub voice_by : Option Move → Voice → Voice
+voice_by by v = record v { key = key_by by v.key; measures = map (measure_by by) v.measures }
+
+abbrev pub voice_may : Option Move → Voice → Bool
+voice_may by v = key_may by v.key && list_all (λ x. body_may by x.body) v.measures
+
+abbrev pub score_by : Option Move → Score → Score
+score_by by s = record s { voices = map (voice_by by) s.voices }
+
+-- what a call gives by a move: the moved value where all in it can be moved, else no move
+abbrev pub Gives : {A : Type 0} → Option Move → Bool → A → Result A MoveError → Type 0
+Gives by may x (Ok r) = (may ≡ true) × (r ≡ x)
+Gives by may x (Err errors.NoMove) = (is_some by ≡ true) × (may ≡ false)
+Gives by may x (Err errors.Memory) = ⊤
+
+-- ---- what is in reach: the same as `AreInReach`, as a test
+
+abbrev pub in_reach : Clef → Head → Bool
+in_reach clef h = int_le (negsuc 13) (height_of h.pitch clef) && int_le (height_of h.pitch clef) (pos 22)
+
+abbrev pub are_in_reach : Clef → List Flat → Bool
+are_in_reach before [] = true
+are_in_reach before (f ∷ fs) =
+    list_all (in_reach (clef_at before f.event)) f.event.heads
+    && (list_all (λ g. list_all (in_reach (clef_at before f.event)) g.heads) f.graces && are_in_reach (clef_at before f.event) fs)
+
+-- ---- what can be moved
+
+-- the move of a tune whose header names this key
+abbrev pub move_from : Key → ℤ → Move
+move_from header by = move_for (sharps_in header.signs) by
+
+abbrev pub moved_score : Score → Key → ℤ → Score
+moved_score s header by = score_by (Some (move_from header by)) s
+
+-- the header's key and each key of the score, before and behind the move, are on the circle of fifths, no moved sign is past a
+-- double one, and each moved head is in reach
+pub record CanMove (s : Score) (key : Key) (by : ℤ) : Type 0 where
+  pub header : on_circle key ≡ true
+  pub voices : list_all (voice_may (Some (move_from key by))) s.voices ≡ true
+  pub reach : All (λ v. AreInReach v.clef (events_of v.measures)) (moved_score s key by).voices
+
+-- what comes of a move by so many semitones: by none it is the score itself, and a score that can't be moved gives none
+pub record IsMoved (s : Score) (key : Key) (by : ℤ) (moved : Option Score) : Type 0 where
+  pub same : by ≡ pos 0 → moved ≡ Some s
+  pub higher : by ≢ pos 0 → MatchOption moved (CanMove s key by → ⊥) (λ t. CanMove s key by × (t ≡ moved_score s key by))
+
+-- a score of as many voices and measures, that is broken at the same bars
+pub record IsLike (s t : Score) : Type 0 where
+  pub voices : length t.voices ≡ length s.voices
+  pub measures : t.measures ≡ s.measures
+  pub forced : t.forced ≡ s.forced
+  pub spread : t.spread ≡ s.spread
