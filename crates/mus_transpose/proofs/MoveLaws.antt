@@ -1,19 +1,16 @@
 -- Bounds of a move.
 use Rattle.std.proofs.Common.{◌<◌, arith}
-use Rattle.std.specs.Prelude.{ℤ, pos, negsuc, ◌≤ℤ◌}
+use Rattle.std.specs.Prelude.{ℤ, pos, negsuc}
 use Rattle.std.specs.Int.{int_div_euclid}
 use Rattle.std.proofs.lemmas.Int.{ints}
 use Rattle.mus_units.specs.Pitch.{number_of}
 use Rattle.mus_units.specs.declared.pitch.Letter.{Letter}
 use Rattle.mus_units.specs.declared.pitch.Letter.TheVariants as letters
+use Rattle.mus_transpose.specs.Moves.{Within}
 
-pub div_low : (z : ℤ) → negsuc 107 ≤ℤ z → negsuc 8 ≤ℤ int_div_euclid z (pos 12)
-div_low (pos a) l = omega (arith, ints)
-div_low (negsuc a) l = omega (arith, ints)
-
-pub div_high : (z : ℤ) → z ≤ℤ pos 119 → int_div_euclid z (pos 12) ≤ℤ pos 9
-div_high (pos a) l = omega (arith, ints)
-div_high (negsuc a) l = omega (arith, ints)
+pub twelfth_fits : (z : ℤ) → Within (negsuc 1199) (pos 1199) z → Within (negsuc 99) (pos 99) (int_div_euclid z (pos 12))
+twelfth_fits (pos a) h = let low = h.0 in let high = h.1 in (omega (arith, ints), omega (arith, ints))
+twelfth_fits (negsuc a) h = let low = h.0 in let high = h.1 in (omega (arith, ints), omega (arith, ints))
 
 pub few_letters : (l : Letter) → number_of l < 7
 few_letters letters.C = omega arith

@@ -25,7 +25,7 @@ use Rattle.mus_score.specs.Good.{IsGoodBody, all_judged, good_step, has_value_ti
 use Rattle.mus_score.specs.GoodScore.{AreCounted, AreInReach, IsGoodEvent, IsGoodScore, IsGoodVoice, events_of, voice_weight}
 use Rattle.mus_score.specs.Times.{flats_of}
 use Rattle.mus_transpose.specs.declared.moves.Move.{Move}
-use Rattle.mus_transpose.specs.Moved.{CanMove, IsLike, are_in_reach, body_by, changed, changed_flat, measure_by, move_from, moved_event, moved_head, moved_key, moved_score, on_circle, score_by, sharps_in, voice_by, voice_may}
+use Rattle.mus_transpose.specs.Moved.{CanMove, are_in_reach, body_by, changed, changed_flat, measure_by, move_from, moved_event, moved_head, moved_key, moved_score, on_circle, score_by, sharps_in, voice_by, voice_may}
 use Rattle.mus_transpose.proofs.Changed.{flats_changed, fold_same, unchanged}
 use Rattle.mus_transpose.proofs.Reaches.{voices_decide}
 
@@ -141,9 +141,6 @@ voice_same v = ap (λ (xs : List Measure). record v { measures = xs }) (same_all
 
 pub score_same : (s : Score) → score_by None s ≡ s
 score_same s = ap (λ (vs : List Voice). record s { voices = vs }) (same_all (voice_by None) voice_same s.voices)
-
-pub moved_like : (by : Option Move) (s : Score) → IsLike s (score_by by s)
-moved_like by s = record { voices = length-map s.voices (voice_by by); measures = refl; forced = refl; spread = refl }
 
 -- ---- what the tests tell of a move
 

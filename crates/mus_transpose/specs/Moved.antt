@@ -49,12 +49,10 @@ moved_alter m p a = alter_from ((semitones p a +ℤ m.semitones) -ℤ semitones 
 
 -- a sign that is past a double one stays, but its score can't be moved
 abbrev pub moved_sign : Move → Pitch → Option Alter → Option Alter
-moved_sign m p None = None
-moved_sign m p (Some a) = Some (unwrap_or (moved_alter m p a) a)
+moved_sign m p sign = option_map (λ a. unwrap_or (moved_alter m p a) a) sign
 
 abbrev pub sign_can_move : Move → Pitch → Option Alter → Bool
-sign_can_move m p None = true
-sign_can_move m p (Some a) = is_some (moved_alter m p a)
+sign_can_move m p sign = unwrap_or (option_map (λ a. is_some (moved_alter m p a)) sign) true
 
 abbrev pub moved_head : Move → Head → Head
 moved_head m h = record { pitch = moved_pitch m h.pitch; sign = moved_sign m h.pitch h.sign; tied = h.tied }
@@ -78,9 +76,7 @@ same_sign s t = same_letter s.letter t.letter && int_eq (alter_of s.alter) (alte
 
 -- a key on the circle of fifths has the signs of -7 to 7 sharps, in their order
 abbrev pub on_circle : Key → Bool
-on_circle k =
-    let signs = signs_of (sharps_in k.signs) in
-    nat_le (length k.signs) 7 && (length k.signs == length signs && pointwise same_sign k.signs signs)
+on_circle k = nat_le (length k.signs) 7 && pointwise same_sign k.signs (signs_of (sharps_in k.signs))
 
 abbrev pub moved_key : Move → Key → Key
 moved_key m k = record { signs = signs_of (sharps_in k.signs +ℤ m.sharps) }
@@ -88,10 +84,6 @@ moved_key m k = record { signs = signs_of (sharps_in k.signs +ℤ m.sharps) }
 -- the moved key is on the circle too
 abbrev pub key_can_move : Move → Key → Bool
 key_can_move m k = on_circle k && is_signature (sharps_in k.signs +ℤ m.sharps)
-
-abbrev pub change_can_move : Move → Option Key → Bool
-change_can_move m None = true
-change_can_move m (Some k) = key_can_move m k
 
 -- ---- events, the graces among them
 
@@ -102,7 +94,7 @@ moved_event m e = record e {
 }
 
 abbrev pub event_can_move : Move → Event → Bool
-event_can_move m e = list_all (head_can_move m) e.heads && change_can_move m e.changes.key
+event_can_move m e = list_all (head_can_move m) e.heads && unwrap_or (option_map (key_can_move m) e.changes.key) true
 
 abbrev pub event_by : Option Move → Event → Event
 event_by None e = e
@@ -209,10 +201,3 @@ pub record CanMove (s : Score) (key : Key) (by : ℤ) : Type 0 where
 pub record IsMoved (s : Score) (key : Key) (by : ℤ) (moved : Option Score) : Type 0 where
   pub same : by ≡ pos 0 → moved ≡ Some s
   pub higher : by ≢ pos 0 → MatchOption moved (CanMove s key by → ⊥) (λ t. CanMove s key by × (t ≡ moved_score s key by))
-
--- a score of as many voices and measures, that is broken at the same bars
-pub record IsLike (s t : Score) : Type 0 where
-  pub voices : length t.voices ≡ length s.voices
-  pub measures : t.measures ≡ s.measures
-  pub forced : t.forced ≡ s.forced
-  pub spread : t.spread ≡ s.spread

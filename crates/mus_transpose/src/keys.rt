@@ -1,16 +1,15 @@
-ghost use Rattle.std.specs.Prelude.{◌≡◌, ◌≤◌, ◌+ℤ◌, pos, negsuc, length, true, false, IfOk, MatchOption, Some};
+ghost use Rattle.std.specs.Prelude.{◌≡◌, ◌≤◌, ◌+ℤ◌, pos, negsuc, length, true, false, IfOk, MatchOption};
 ghost use Rattle.std.specs.Cmp.Lexicographic.{pointwise};
-ghost use Rattle.std.specs.Option.{option_map};
 ghost use Rattle.mus_pitch.specs.Circle.{is_signature};
 ghost use Rattle.mus_transpose.specs.Moves.{Within};
-ghost use Rattle.mus_transpose.specs.Moved.{Gives, change_can_move, key_by, key_can_move, key_may, moved_key, on_circle, same_sign, sharps_by, sharps_in};
+ghost use Rattle.mus_transpose.specs.Moved.{Gives, key_by, key_may, on_circle, same_sign, sharps_by, sharps_in};
 
-use crate::moves::{Move, MoveError};
+use crate::moves::{Move, MoveError, Moved};
 use mus_pitch::key_of;
 use mus_units::{Alter, Key, Memory, Sign};
 use std::alloc::Global;
 
-fn sharps_by(first: Alter, count: i32) -> i32
+fn sharps_by(first: Alter, count: i8) -> i8
     requires { Within (pos 0) (pos 7) count }
     ensures value { result ≡ sharps_by first count }
     ensures fits { Within (negsuc 6) (pos 7) result }
@@ -22,33 +21,21 @@ fn sharps_by(first: Alter, count: i32) -> i32
 }
 
 /// The sharps of at most seven signs, by the first of them: a flat counts as one less.
-pub(crate) fn sharps_in(signs: &[Sign]) -> i32
+pub(crate) fn sharps_in(signs: &[Sign]) -> i8
     requires { length signs.now ≤ 7 }
     ensures value { result ≡ sharps_in signs.now }
     ensures fits { Within (negsuc 6) (pos 7) result }
 {
     match signs.first() {
-        Some(sign) => sharps_by(sign.alter, signs.len() as i32),
+        Some(sign) => sharps_by(sign.alter, signs.len() as i8),
         None => 0,
     }
 }
 
-fn same_sign(s: Sign, t: Sign) -> bool
-    ensures { result ≡ same_sign s t }
-{
-    s.letter == t.letter && s.alter == t.alter
-}
-
 fn same_signs(signs: &[Sign], others: &[Sign]) -> bool
-    requires { length signs.now ≡ length others.now }
     ensures { result ≡ pointwise same_sign signs.now others.now }
 {
-    for (i, sign) in signs.iter().enumerate() {
-        if !same_sign(*sign, others[i]) {
-            return false;
-        }
-    }
-    true
+    signs == others
 }
 
 /// Whether a key has the signs of -7 to 7 sharps, in their order.
@@ -58,15 +45,12 @@ pub(crate) fn on_circle(alloc: Global, key: &Key) -> Result<bool, Memory>
     if key.signs.len() > 7 {
         return Ok(false);
     }
-    let other = key_of(alloc, sharps_in(key.signs.as_slice()) as i8)?;
-    let signs = key.signs.as_slice();
-    let others = other.signs.as_slice();
-    Ok(signs.len() == others.len() && same_signs(signs, others))
+    let other = key_of(alloc, sharps_in(key.signs.as_slice()))?;
+    Ok(same_signs(key.signs.as_slice(), other.signs.as_slice()))
 }
 
 /// The sharps of the moved key.
-fn moved_sharps(sharps: i32, by: i32) -> i64
-    requires { Within (negsuc 6) (pos 7) sharps }
+fn moved_sharps(sharps: i8, by: i32) -> i64
     ensures value { result ≡ sharps +ℤ by }
     ensures fits { Within (negsuc 2999999999) (pos 3000000000) result }
 {
@@ -85,43 +69,20 @@ fn signature(sharps: i64) -> Option<i8>
     }
 }
 
-pub(crate) fn moved_key(alloc: Global, m: Move, key: &Key) -> Result<Key, MoveError>
-    ensures { Gives (Some m) (key_can_move m key.now) (moved_key m key.now) result }
+/// A copy of a key, moved where there is a move.
+pub(crate) fn key_by(alloc: Global, by: Option<Move>, key: &Key) -> Moved<Key>
+    ensures { Gives by (key_may by key.now) (key_by by key.now) result }
 {
+    let Some(m) = by else {
+        return Ok(key.copy(alloc)?);
+    };
     if !on_circle(alloc, key)? {
         return Err(MoveError::NoMove);
     }
-    match signature(moved_sharps(
-        sharps_in(key.signs.as_slice()),
-        m.sharps,
-    )) {
+    match signature(moved_sharps(sharps_in(key.signs.as_slice()), m.sharps)) {
         Some(sharps) => Ok(Key {
             signs: key_of(alloc, sharps)?.signs,
         }),
         None => Err(MoveError::NoMove),
-    }
-}
-
-/// The same of a key that may be absent.
-pub(crate) fn moved_change(
-    alloc: Global,
-    m: Move,
-    key: &Option<Key>,
-) -> Result<Option<Key>, MoveError>
-    ensures { Gives (Some m) (change_can_move m key.now) (option_map (moved_key m) key.now) result }
-{
-    match key {
-        Some(key) => Ok(Some(moved_key(alloc, m, key)?)),
-        None => Ok(None),
-    }
-}
-
-/// A copy of a key, moved where there is a move.
-pub(crate) fn key_by(alloc: Global, by: Option<Move>, key: &Key) -> Result<Key, MoveError>
-    ensures { Gives by (key_may by key.now) (key_by by key.now) result }
-{
-    match by {
-        Some(m) => moved_key(alloc, m, key),
-        None => Ok(key.copy(alloc)?),
     }
 }

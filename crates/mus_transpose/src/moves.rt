@@ -1,7 +1,7 @@
 ghost use Rattle.std.specs.Prelude.{◌≡◌, ◌+ℤ◌, ◌-ℤ◌, ◌*ℤ◌, pos, negsuc};
 ghost use Rattle.std.specs.Int.{int_div_euclid, int_rem_euclid};
 ghost use Rattle.mus_transpose.specs.declared.moves.MoveError.TheVariants as errors;
-ghost use Rattle.mus_transpose.specs.Moves.{Within, new_sharps, octaves_between, move_for};
+ghost use Rattle.mus_transpose.specs.Moves.{Within, new_sharps, move_for};
 
 use mus_units::Memory;
 
@@ -31,6 +31,15 @@ impl From<Memory> for MoveError {
     }
 }
 
+pub(crate) type Moved<T> = Result<T, MoveError>;
+
+/// Seven fifths for each semitone, from a key of so many sharps.
+fn climbed(sharps: i8, by: i8) -> i32
+    ensures { result ≡ (sharps +ℤ (pos 7 *ℤ by)) +ℤ pos 5 }
+{
+    i32::from(sharps) + 7 * i32::from(by) + 5
+}
+
 /// How far a number is above the last multiple of 12.
 fn above_twelve(z: i32) -> i32
     ensures value { result ≡ int_rem_euclid z (pos 12) }
@@ -39,19 +48,8 @@ fn above_twelve(z: i32) -> i32
     z.rem_euclid(12)
 }
 
-/// Seven fifths for each semitone, from a key of so many sharps.
-fn climbed(sharps: i32, by: i32) -> i32
-    requires sharps { Within (negsuc 6) (pos 7) sharps }
-    requires by { Within (negsuc 11) (pos 12) by }
-    ensures { result ≡ (sharps +ℤ (pos 7 *ℤ by)) +ℤ pos 5 }
-{
-    sharps + 7 * by + 5
-}
-
 /// The sharps of the new key.
-fn new_sharps(sharps: i32, by: i32) -> i32
-    requires sharps { Within (negsuc 6) (pos 7) sharps }
-    requires by { Within (negsuc 11) (pos 12) by }
+fn new_sharps(sharps: i8, by: i8) -> i32
     ensures value { result ≡ new_sharps sharps by }
     ensures fits { Within (negsuc 4) (pos 6) result }
 {
@@ -59,44 +57,33 @@ fn new_sharps(sharps: i32, by: i32) -> i32
 }
 
 /// By how many sharps keys move.
-fn change_of(sharps: i32, by: i32) -> i32
-    requires sharps { Within (negsuc 6) (pos 7) sharps }
-    requires by { Within (negsuc 11) (pos 12) by }
+fn change_of(sharps: i8, by: i8) -> i32
     ensures value { result ≡ new_sharps sharps by -ℤ sharps }
-    ensures fits { Within (negsuc 11) (pos 13) result }
+    ensures fits { Within (negsuc 131) (pos 134) result }
 {
-    new_sharps(sharps, by) - sharps
+    new_sharps(sharps, by) - i32::from(sharps)
 }
 
+fn passed(change: i32, by: i8) -> i32
+    requires { Within (negsuc 131) (pos 134) change }
+    ensures value { result ≡ (pos 7 *ℤ change) -ℤ by }
+    ensures fits { Within (negsuc 1199) (pos 1199) result }
+{
+    7 * change - i32::from(by)
+}
+
+#[tactic(auto, using(crate::proofs::MoveLaws::twelfth_fits))]
 fn twelfth(z: i32) -> i32
-    ensures { result ≡ int_div_euclid z (pos 12) }
+    requires { Within (negsuc 1199) (pos 1199) z }
+    ensures value { result ≡ int_div_euclid z (pos 12) }
+    ensures fits { Within (negsuc 99) (pos 99) result }
 {
     z.div_euclid(12)
 }
 
-fn passed(change: i32, by: i32) -> i32
-    requires change { Within (negsuc 11) (pos 13) change }
-    requires by { Within (negsuc 11) (pos 12) by }
-    ensures value { result ≡ (pos 7 *ℤ change) -ℤ by }
-    ensures fits { Within (negsuc 107) (pos 119) result }
-{
-    7 * change - by
-}
-
-/// Whole octaves that are passed with so many fifths.
-#[tactic(auto, using(crate::proofs::MoveLaws::div_low, crate::proofs::MoveLaws::div_high))]
-fn octaves_between(change: i32, by: i32) -> i32
-    requires change { Within (negsuc 11) (pos 13) change }
-    requires by { Within (negsuc 11) (pos 12) by }
-    ensures value { result ≡ octaves_between change by }
-    ensures fits { Within (negsuc 8) (pos 9) result }
-{
-    twelfth(passed(change, by))
-}
-
 fn letters(change: i32, octaves: i32) -> i32
-    requires change { Within (negsuc 11) (pos 13) change }
-    requires octaves { Within (negsuc 8) (pos 9) octaves }
+    requires change { Within (negsuc 131) (pos 134) change }
+    requires octaves { Within (negsuc 99) (pos 99) octaves }
     ensures { result ≡ (pos 4 *ℤ change) -ℤ (pos 7 *ℤ octaves) }
 {
     4 * change - 7 * octaves
@@ -104,16 +91,13 @@ fn letters(change: i32, octaves: i32) -> i32
 
 /// The move by `by` semitones from a key of `sharps` sharps.
 #[tactic(auto, unfolding(crate::specs::Moves::move_for))]
-pub(crate) fn move_for(sharps: i32, by: i32) -> Move
-    requires sharps { Within (negsuc 6) (pos 7) sharps }
-    requires by { Within (negsuc 11) (pos 12) by }
+pub(crate) fn move_for(sharps: i8, by: i8) -> Move
     ensures { result ≡ move_for sharps by }
 {
     let change = change_of(sharps, by);
-    let octaves = octaves_between(change, by);
     Move {
-        semitones: by,
+        semitones: i32::from(by),
         sharps: change,
-        letters: letters(change, octaves),
+        letters: letters(change, twelfth(passed(change, by))),
     }
 }

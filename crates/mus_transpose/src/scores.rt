@@ -1,23 +1,19 @@
-ghost use Rattle.std.specs.Prelude.{◌≡◌, pos, negsuc, All, IfOk, IfSome, MatchOption, true, map};
+ghost use Rattle.std.specs.Prelude.{◌≡◌, length, pos, negsuc, All, IfOk, IfSome, MatchOption, true, map};
 ghost use Rattle.std.specs.List.{list_all};
 ghost use Rattle.mus_score.specs.Good.{IsGoodBody};
 ghost use Rattle.mus_score.specs.GoodScore.{IsGoodScore, events_of};
 ghost use Rattle.mus_transpose.specs.Moves.{Within};
-ghost use Rattle.mus_transpose.specs.Moved.{CanMove, Gives, IsLike, IsMoved, are_in_reach, body_may, measure_by, move_from, moved_score, on_circle, score_by, voice_by, voice_may};
+ghost use Rattle.mus_transpose.specs.Moved.{CanMove, Gives, IsMoved, are_in_reach, body_may, measure_by, move_from, moved_score, on_circle, score_by, voice_by, voice_may};
 
 use crate::keys::{key_by, on_circle, sharps_in};
-use crate::moves::{Move, MoveError, move_for};
+use crate::moves::{Move, MoveError, Moved, move_for};
 use crate::reach::are_in_reach;
 use crate::trees::body_by;
 use mus_score::{Measure, Score, Voice, events};
 use mus_units::{Key, Memory, Row};
 use std::alloc::Global;
 
-fn measures_by(
-    alloc: Global,
-    by: Option<Move>,
-    measures: &[Measure],
-) -> Result<Row<Measure>, MoveError>
+fn measures_by(alloc: Global, by: Option<Move>, measures: &[Measure]) -> Moved<Row<Measure>>
     ensures { Gives by (list_all (λ x. body_may by x.body) measures.now) (map (measure_by by) measures.now) result }
 {
     let mut out = Row::new(alloc);
@@ -30,7 +26,7 @@ fn measures_by(
     Ok(out)
 }
 
-fn voice_by(alloc: Global, by: Option<Move>, v: &Voice) -> Result<Voice, MoveError>
+fn voice_by(alloc: Global, by: Option<Move>, v: &Voice) -> Moved<Voice>
     ensures { Gives by (voice_may by v.now) (voice_by by v.now) result }
 {
     Ok(Voice {
@@ -45,7 +41,7 @@ fn voice_by(alloc: Global, by: Option<Move>, v: &Voice) -> Result<Voice, MoveErr
     })
 }
 
-fn voices_by(alloc: Global, by: Option<Move>, voices: &[Voice]) -> Result<Row<Voice>, MoveError>
+fn voices_by(alloc: Global, by: Option<Move>, voices: &[Voice]) -> Moved<Row<Voice>>
     ensures { Gives by (list_all (voice_may by) voices.now) (map (voice_by by) voices.now) result }
 {
     let mut out = Row::new(alloc);
@@ -56,7 +52,7 @@ fn voices_by(alloc: Global, by: Option<Move>, voices: &[Voice]) -> Result<Row<Vo
 }
 
 /// A copy of a score, moved where there is a move.
-fn score_by(alloc: Global, by: Option<Move>, s: &Score) -> Result<Score, MoveError>
+fn score_by(alloc: Global, by: Option<Move>, s: &Score) -> Moved<Score>
     ensures { Gives by (list_all (voice_may by) s.now.voices) (score_by by s.now) result }
 {
     Ok(Score {
@@ -82,11 +78,10 @@ fn all_in_reach(alloc: Global, voices: &[Voice]) -> Result<bool, Memory>
 
 /// The move by so many semitones of a tune whose header names this key.
 fn move_from(header_key: &Key, by: i8) -> Move
-    requires header { on_circle header_key.now ≡ true }
-    requires by { Within (negsuc 11) (pos 12) by }
+    requires { on_circle header_key.now ≡ true }
     ensures { result ≡ move_from header_key.now by }
 {
-    move_for(sharps_in(header_key.signs.as_slice()), i32::from(by))
+    move_for(sharps_in(header_key.signs.as_slice()), by)
 }
 
 /// A score by a move, or None where it can't be moved.
@@ -96,8 +91,7 @@ fn moved_by(
     header_key: &Key,
     by: i8,
 ) -> Result<Option<Score>, Memory>
-    requires good { IsGoodScore s.now }
-    requires by { Within (negsuc 11) (pos 12) by }
+    requires { IsGoodScore s.now }
     ensures { IfOk result (λ r. MatchOption r (CanMove s.now header_key.now by → ⊥) (λ t. CanMove s.now header_key.now by × (t ≡ moved_score s.now header_key.now by))) }
 {
     if !on_circle(alloc, header_key)? {
@@ -122,7 +116,7 @@ fn moved_by(
 /// letters higher, and a sign before a head becomes the one with which the head is `by` semitones
 /// higher. None exactly where `by` isn't 0 and a key, the header's too, isn't one of -7 to 7
 /// sharps before and behind the move, or a sign would be past a double one, or a head out of reach.
-#[tactic(auto, using(crate::proofs::MovedGood::score_same, crate::proofs::MovedGood::moved_good, crate::proofs::MovedGood::moved_like))]
+#[tactic(auto, using(crate::proofs::MovedGood::score_same, crate::proofs::MovedGood::moved_good))]
 pub fn moved(
     alloc: Global,
     s: &Score,
@@ -133,7 +127,8 @@ pub fn moved(
     requires by { Within (negsuc 11) (pos 12) by }
     ensures moved { IfOk result (IsMoved s.now header_key.now by) }
     ensures good { IfOk result (λ r. IfSome r IsGoodScore) }
-    ensures like { IfOk result (λ r. IfSome r (IsLike s.now)) }
+    ensures voices { IfOk result (λ r. IfSome r (λ t. length t.voices ≡ length s.now.voices)) }
+    ensures measures { IfOk result (λ r. IfSome r (λ t. t.measures ≡ s.now.measures)) }
 {
     if by != 0 {
         return moved_by(alloc, s, header_key, by);
@@ -156,7 +151,8 @@ pub fn moved_or_same(
     requires by { Within (negsuc 11) (pos 12) by }
     ensures moved { IfOk result (IsMoved s header_key.now by) }
     ensures good { IfOk result (λ r. IfSome r IsGoodScore) }
-    ensures like { IfOk result (λ r. IfSome r (IsLike s)) }
+    ensures voices { IfOk result (λ r. IfSome r (λ t. length t.voices ≡ length s.voices)) }
+    ensures measures { IfOk result (λ r. IfSome r (λ t. t.measures ≡ s.measures)) }
 {
     if by == 0 {
         return Ok(Some(s));

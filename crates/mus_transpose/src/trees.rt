@@ -1,15 +1,15 @@
 ghost use Rattle.std.specs.Prelude.{◌≡◌, map, Some};
 ghost use Rattle.std.specs.List.{list_all};
-ghost use Rattle.mus_transpose.specs.Moved.{Gives, all_pass, body_by, body_may, changed, event_by, event_can_move, event_may, head_can_move, moved_event, moved_head};
+ghost use Rattle.mus_transpose.specs.Moved.{Gives, all_pass, body_by, body_may, changed, event_by, event_may, head_can_move, moved_head};
 
 use crate::heads::moved_head;
-use crate::keys::moved_change;
-use crate::moves::{Move, MoveError};
+use crate::keys::key_by;
+use crate::moves::{Move, MoveError, Moved};
 use mus_score::{Event, Music, copy_event};
 use mus_units::{Head, Row};
 use std::alloc::Global;
 
-fn moved_heads(alloc: Global, m: Move, heads: &[Head]) -> Result<Row<Head>, MoveError>
+fn moved_heads(alloc: Global, m: Move, heads: &[Head]) -> Moved<Row<Head>>
     ensures { Gives (Some m) (list_all (head_can_move m) heads.now) (map (moved_head m) heads.now) result }
 {
     let mut out = Row::new(alloc);
@@ -22,27 +22,22 @@ fn moved_heads(alloc: Global, m: Move, heads: &[Head]) -> Result<Row<Head>, Move
     Ok(out)
 }
 
-fn moved_event(alloc: Global, m: Move, e: &Event) -> Result<Event, MoveError>
-    ensures { Gives (Some m) (event_can_move m e.now) (moved_event m e.now) result }
-{
-    let mut moved = copy_event(alloc, e)?;
-    moved.heads = moved_heads(alloc, m, e.heads.as_slice())?;
-    moved.changes.key = moved_change(alloc, m, &e.changes.key)?;
-    Ok(moved)
-}
-
 /// A copy of an event, moved where there is a move.
-fn event_by(alloc: Global, by: Option<Move>, e: &Event) -> Result<Event, MoveError>
+fn event_by(alloc: Global, by: Option<Move>, e: &Event) -> Moved<Event>
     ensures { Gives by (event_may by e.now) (event_by by e.now) result }
 {
-    match by {
-        Some(m) => moved_event(alloc, m, e),
-        None => Ok(copy_event(alloc, e)?),
+    let mut copy = copy_event(alloc, e)?;
+    if let Some(m) = by {
+        copy.heads = moved_heads(alloc, m, e.heads.as_slice())?;
+        if let Some(key) = &e.changes.key {
+            copy.changes.key = Some(key_by(alloc, by, key)?);
+        }
     }
+    Ok(copy)
 }
 
 #[cycle(trees)]
-fn node_by(alloc: Global, by: Option<Move>, node: &Music) -> Result<Music, MoveError>
+fn node_by(alloc: Global, by: Option<Move>, node: &Music) -> Moved<Music>
     ensures { Gives by (all_pass (event_may by) node.now) (changed (event_by by) node.now) result }
 {
     match node {
@@ -62,11 +57,7 @@ fn node_by(alloc: Global, by: Option<Move>, node: &Music) -> Result<Music, MoveE
 
 /// A copy of a body, its events moved where there is a move.
 #[cycle(trees)]
-pub(crate) fn body_by(
-    alloc: Global,
-    by: Option<Move>,
-    body: &[Music],
-) -> Result<Row<Music>, MoveError>
+pub(crate) fn body_by(alloc: Global, by: Option<Move>, body: &[Music]) -> Moved<Row<Music>>
     ensures { Gives by (body_may by body.now) (body_by by body.now) result }
 {
     let mut out = Row::new(alloc);

@@ -11,7 +11,7 @@ use Rattle.mus_transpose.proofs.scores.moved_by.Goals as goal
 pub all_in_reach-requires : goal.all_in_reach-requires
 all_in_reach-requires c =
     subst (λ (vs : List Voice). All (λ v. All (λ x. IsGoodBody x.body) v.measures) vs) (sym (c.as_slice.ensures ∙ ap (λ (t : Score). t.voices) c.in-Ok.ensures.1))
-    (all_bodies_good c.move_from-m.result c.args.s.now c.requires.good)
+    (all_bodies_good c.move_from-m.result c.args.s.now c.requires)
 
 pub returns-then-branch : goal.returns-then-branch
 returns-then-branch c =
