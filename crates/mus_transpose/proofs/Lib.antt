@@ -1,4 +1,2 @@
 pub mod Changed
-pub mod MoveLaws
 pub mod MovedGood
-pub mod Reaches

@@ -1,7 +1,8 @@
 -- Moved scores. A head moves by letters, and a sign before it becomes the one that is as many semitones higher; a key moves by
 -- sharps. Beside each stands the test whether it can be moved; where there is no move all is left as it is.
-use Rattle.std.specs.Prelude.{◌≡◌, ◌≢◌, ⊤, ℤ, pos, negsuc, suc, ◌+ℤ◌, ◌-ℤ◌, ◌&&◌, ◌==◌, nat_le, int_le, Bool, true, false, List, [], ◌∷◌, length, map, All, MatchOption, Option, Some, None, Result, Ok, Err, is_some, unwrap_or}
+use Rattle.std.specs.Prelude.{◌≡◌, ◌≢◌, ⊤, zero, suc, ℕ, ℤ, pos, negsuc, ◌+ℤ◌, ◌-ℤ◌, ◌*ℤ◌, ◌≤ℤ◌, ◌&&◌, nat_le, int_le, Bool, true, false, List, [], ◌∷◌, length, map, All, MatchOption, Option, Some, None, Result, Ok, Err, is_some, unwrap_or}
 use Rattle.std.specs.Cmp.Lexicographic.{pointwise}
+use Rattle.std.specs.Int.{int_div_euclid, int_rem_euclid}
 use Rattle.std.specs.List.{list_all}
 use Rattle.std.specs.Option.{option_map}
 use Rattle.std.specs.Ordering.{int_eq}
@@ -13,6 +14,8 @@ use Rattle.mus_units.specs.declared.note.Head.{Head}
 use Rattle.mus_units.specs.declared.pitch.Alter.{Alter}
 use Rattle.mus_units.specs.declared.pitch.Alter.TheVariants as alters
 use Rattle.mus_units.specs.declared.pitch.Clef.{Clef}
+use Rattle.mus_units.specs.declared.pitch.Letter.{Letter}
+use Rattle.mus_units.specs.declared.pitch.Letter.TheVariants as letters
 use Rattle.mus_units.specs.declared.pitch.Pitch.{Pitch}
 use Rattle.mus_pitch.specs.Circle.{is_signature, signs_of}
 use Rattle.mus_pitch.specs.Steps.{pitch_of_steps, steps}
@@ -29,7 +32,52 @@ use Rattle.mus_score.specs.GoodScore.{AreInReach, clef_at, events_of}
 use Rattle.mus_transpose.specs.declared.moves.Move.{Move}
 use Rattle.mus_transpose.specs.declared.moves.MoveError.{MoveError}
 use Rattle.mus_transpose.specs.declared.moves.MoveError.TheVariants as errors
-use Rattle.mus_transpose.specs.Moves.{alter_from, alter_of, move_for, semitones}
+
+-- the semitones from C to a letter
+abbrev pub natural_of : Letter → ℕ
+natural_of letters.C = 0
+natural_of letters.D = 2
+natural_of letters.E = 4
+natural_of letters.F = 5
+natural_of letters.G = 7
+natural_of letters.A = 9
+natural_of letters.B = 11
+
+abbrev pub alter_of : Alter → ℤ
+alter_of alters.Flat2 = negsuc 1
+alter_of alters.Flat = negsuc 0
+alter_of alters.Natural = pos 0
+alter_of alters.Sharp = pos 1
+alter_of alters.Sharp2 = pos 2
+
+-- the alteration of so many semitones, where there is one
+abbrev pub alter_from : ℤ → Option Alter
+alter_from (pos zero) = Some alters.Natural
+alter_from (pos (suc zero)) = Some alters.Sharp
+alter_from (pos (suc (suc zero))) = Some alters.Sharp2
+alter_from (negsuc zero) = Some alters.Flat
+alter_from (negsuc (suc zero)) = Some alters.Flat2
+alter_from _ = None
+
+unfoldable pub semitones : Pitch → Alter → ℤ
+semitones p a = (pos 12 *ℤ p.octave +ℤ pos (natural_of p.letter)) +ℤ alter_of a
+
+abbrev pub Within : ℤ → ℤ → ℤ → Type 0
+Within least most z = (least ≤ℤ z) × (z ≤ℤ most)
+
+-- the key of -5 to 6 sharps that is seven fifths further for each semitone, whole rounds of twelve fifths aside
+abbrev pub new_sharps : ℤ → ℤ → ℤ
+new_sharps sharps by = int_rem_euclid ((sharps +ℤ (pos 7 *ℤ by)) +ℤ pos 5) (pos 12) -ℤ pos 5
+
+-- a fifth is seven semitones and four letters, an octave twelve and seven
+abbrev pub octaves_between : ℤ → ℤ → ℤ
+octaves_between change by = int_div_euclid ((pos 7 *ℤ change) -ℤ by) (pos 12)
+
+abbrev pub move_by : ℤ → ℤ → Move
+move_by change by = record { semitones = by; sharps = change; letters = (pos 4 *ℤ change) -ℤ (pos 7 *ℤ octaves_between change by) }
+
+unfoldable pub move_for : ℤ → ℤ → Move
+move_for sharps by = move_by (new_sharps sharps by -ℤ sharps) by
 
 -- ---- heads
 
@@ -51,14 +99,14 @@ moved_alter m p a = alter_from ((semitones p a +ℤ m.semitones) -ℤ semitones 
 abbrev pub moved_sign : Move → Pitch → Option Alter → Option Alter
 moved_sign m p sign = option_map (λ a. unwrap_or (moved_alter m p a) a) sign
 
-abbrev pub sign_can_move : Move → Pitch → Option Alter → Bool
-sign_can_move m p sign = unwrap_or (option_map (λ a. is_some (moved_alter m p a)) sign) true
+abbrev pub sign_moves : Move → Pitch → Option Alter → Bool
+sign_moves m p sign = unwrap_or (option_map (λ a. is_some (moved_alter m p a)) sign) true
 
 abbrev pub moved_head : Move → Head → Head
 moved_head m h = record { pitch = moved_pitch m h.pitch; sign = moved_sign m h.pitch h.sign; tied = h.tied }
 
-abbrev pub head_can_move : Move → Head → Bool
-head_can_move m h = is_near m h.pitch && sign_can_move m h.pitch h.sign
+abbrev pub head_moves : Move → Head → Bool
+head_moves m h = is_near m h.pitch && sign_moves m h.pitch h.sign
 
 -- ---- keys
 
@@ -78,31 +126,27 @@ same_sign s t = same_letter s.letter t.letter && int_eq (alter_of s.alter) (alte
 abbrev pub on_circle : Key → Bool
 on_circle k = nat_le (length k.signs) 7 && pointwise same_sign k.signs (signs_of (sharps_in k.signs))
 
-abbrev pub moved_key : Move → Key → Key
-moved_key m k = record { signs = signs_of (sharps_in k.signs +ℤ m.sharps) }
+abbrev pub key_by : Option Move → Key → Key
+key_by None k = k
+key_by (Some m) k = record { signs = signs_of (sharps_in k.signs +ℤ m.sharps) }
 
--- the moved key is on the circle too
-abbrev pub key_can_move : Move → Key → Bool
-key_can_move m k = on_circle k && is_signature (sharps_in k.signs +ℤ m.sharps)
+-- the key and the moved one are on the circle
+abbrev pub key_may : Option Move → Key → Bool
+key_may None k = true
+key_may (Some m) k = on_circle k && is_signature (sharps_in k.signs +ℤ m.sharps)
 
 -- ---- events, the graces among them
 
-abbrev pub moved_event : Move → Event → Event
-moved_event m e = record e {
-  heads = map (moved_head m) e.heads;
-  changes = record { clef = e.changes.clef; key = option_map (moved_key m) e.changes.key; meter = e.changes.meter };
-}
-
-abbrev pub event_can_move : Move → Event → Bool
-event_can_move m e = list_all (head_can_move m) e.heads && unwrap_or (option_map (key_can_move m) e.changes.key) true
-
 abbrev pub event_by : Option Move → Event → Event
 event_by None e = e
-event_by (Some m) e = moved_event m e
+event_by (Some m) e = record e {
+  heads = map (moved_head m) e.heads;
+  changes = record { clef = e.changes.clef; key = option_map (key_by (Some m)) e.changes.key; meter = e.changes.meter };
+}
 
 abbrev pub event_may : Option Move → Event → Bool
 event_may None e = true
-event_may (Some m) e = event_can_move m e
+event_may (Some m) e = list_all (head_moves m) e.heads && unwrap_or (option_map (key_may (Some m)) e.changes.key) true
 
 -- ---- trees
 
@@ -146,14 +190,6 @@ body_may by body = all_true (map (all_pass (event_may by)) body)
 
 abbrev pub measure_by : Option Move → Measure → Measure
 measure_by by x = record x { body = body_by by x.body }
-
-abbrev pub key_by : Option Move → Key → Key
-key_by None k = k
-key_by (Some m) k = moved_key m k
-
-abbrev pub key_may : Option Move → Key → Bool
-key_may None k = true
-key_may (Some m) k = key_can_move m k
 
 abbrev pub voice_by : Option Move → Voice → Voice
 voice_by by v = record v { key = key_by by v.key; measures = map (measure_by by) v.measures }

@@ -1,7 +1,6 @@
 ghost use Rattle.std.specs.Prelude.{◌≡◌, ◌≤◌, ◌+ℤ◌, ◌-ℤ◌, ◌*ℤ◌, pos, negsuc, true, false, MatchOption};
 ghost use Rattle.mus_pitch.specs.Steps.{steps};
-ghost use Rattle.mus_transpose.specs.Moves.{Within, alter_from, alter_of, natural_of, semitones};
-ghost use Rattle.mus_transpose.specs.Moved.{head_can_move, is_near, moved_alter, moved_head, moved_pitch, moved_sign, moved_steps, sign_can_move};
+ghost use Rattle.mus_transpose.specs.Moved.{Within, alter_from, alter_of, natural_of, semitones, head_moves, is_near, moved_alter, moved_head, moved_pitch, moved_steps};
 
 use crate::moves::Move;
 use mus_pitch::pitch_of_steps;
@@ -59,7 +58,7 @@ fn natural_semitones(p: Pitch) -> i64
     12 * i64::from(p.octave) + i64::from(natural(p.letter))
 }
 
-#[tactic(auto, unfolding(crate::specs::Moves::semitones))]
+#[tactic(auto, unfolding(crate::specs::Moved::semitones))]
 fn semitones(p: Pitch, a: Alter) -> i64
     ensures value { result ≡ semitones p a }
     ensures fits { Within (negsuc 29999999999) (pos 30000000000) result }
@@ -68,7 +67,7 @@ fn semitones(p: Pitch, a: Alter) -> i64
 }
 
 /// The steps of a pitch above C0. The bottom line of the treble clef is 30 steps above C0.
-#[tactic(auto, using(crate::proofs::MoveLaws::few_letters), unfolding(mus_pitch::specs::Steps::steps))]
+#[tactic(auto, using(crate::proofs::MovedGood::few_letters), unfolding(mus_pitch::specs::Steps::steps))]
 fn steps(p: Pitch) -> i64
     ensures value { result ≡ steps p }
     ensures fits { Within (negsuc 29999999999) (pos 30000000000) result }
@@ -121,7 +120,7 @@ fn moved_alter(m: Move, p: Pitch, q: Pitch, a: Alter) -> Option<Alter>
 
 /// The moved head, or None where it or its sign has no moved one.
 pub(crate) fn moved_head(m: Move, h: Head) -> Option<Head>
-    ensures { MatchOption result (head_can_move m h ≡ false) (λ r. (head_can_move m h ≡ true) × (r ≡ moved_head m h)) }
+    ensures { MatchOption result (head_moves m h ≡ false) (λ r. (head_moves m h ≡ true) × (r ≡ moved_head m h)) }
 {
     let pitch = moved_pitch(m, h.pitch)?;
     let sign = match h.sign {

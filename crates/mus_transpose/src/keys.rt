@@ -1,24 +1,12 @@
 ghost use Rattle.std.specs.Prelude.{◌≡◌, ◌≤◌, ◌+ℤ◌, pos, negsuc, length, true, false, IfOk, MatchOption};
 ghost use Rattle.std.specs.Cmp.Lexicographic.{pointwise};
 ghost use Rattle.mus_pitch.specs.Circle.{is_signature};
-ghost use Rattle.mus_transpose.specs.Moves.{Within};
-ghost use Rattle.mus_transpose.specs.Moved.{Gives, key_by, key_may, on_circle, same_sign, sharps_by, sharps_in};
+ghost use Rattle.mus_transpose.specs.Moved.{Within, Gives, key_by, key_may, on_circle, same_sign, sharps_by, sharps_in};
 
 use crate::moves::{Move, MoveError, Moved};
 use mus_pitch::key_of;
 use mus_units::{Alter, Key, Memory, Sign};
 use std::alloc::Global;
-
-fn sharps_by(first: Alter, count: i8) -> i8
-    requires { Within (pos 0) (pos 7) count }
-    ensures value { result ≡ sharps_by first count }
-    ensures fits { Within (negsuc 6) (pos 7) result }
-{
-    match first {
-        Alter::Flat => -count,
-        _ => count,
-    }
-}
 
 /// The sharps of at most seven signs, by the first of them: a flat counts as one less.
 pub(crate) fn sharps_in(signs: &[Sign]) -> i8
@@ -26,8 +14,12 @@ pub(crate) fn sharps_in(signs: &[Sign]) -> i8
     ensures value { result ≡ sharps_in signs.now }
     ensures fits { Within (negsuc 6) (pos 7) result }
 {
+    let count = signs.len() as i8;
     match signs.first() {
-        Some(sign) => sharps_by(sign.alter, signs.len() as i8),
+        Some(sign) => match sign.alter {
+            Alter::Flat => -count,
+            _ => count,
+        },
         None => 0,
     }
 }

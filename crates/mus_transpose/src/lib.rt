@@ -9,10 +9,8 @@ pub mod heads;
 pub mod keys;
 pub mod moves;
 pub mod reach;
-
 pub mod scores;
 pub mod trees;
 
 pub use moves::Move;
 pub use scores::{moved, moved_or_same};
-

@@ -1,7 +1,7 @@
 ghost use Rattle.std.specs.Prelude.{◌≡◌, ◌+ℤ◌, ◌-ℤ◌, ◌*ℤ◌, pos, negsuc};
 ghost use Rattle.std.specs.Int.{int_div_euclid, int_rem_euclid};
 ghost use Rattle.mus_transpose.specs.declared.moves.MoveError.TheVariants as errors;
-ghost use Rattle.mus_transpose.specs.Moves.{Within, new_sharps, move_for};
+ghost use Rattle.mus_transpose.specs.Moved.{Within, new_sharps, move_for};
 
 use mus_units::Memory;
 
@@ -72,7 +72,7 @@ fn passed(change: i32, by: i8) -> i32
     7 * change - i32::from(by)
 }
 
-#[tactic(auto, using(crate::proofs::MoveLaws::twelfth_fits))]
+#[tactic(auto, using(crate::proofs::MovedGood::twelfth_fits))]
 fn twelfth(z: i32) -> i32
     requires { Within (negsuc 1199) (pos 1199) z }
     ensures value { result ≡ int_div_euclid z (pos 12) }
@@ -90,7 +90,7 @@ fn letters(change: i32, octaves: i32) -> i32
 }
 
 /// The move by `by` semitones from a key of `sharps` sharps.
-#[tactic(auto, unfolding(crate::specs::Moves::move_for))]
+#[tactic(auto, unfolding(crate::specs::Moved::move_for))]
 pub(crate) fn move_for(sharps: i8, by: i8) -> Move
     ensures { result ≡ move_for sharps by }
 {

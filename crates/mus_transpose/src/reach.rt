@@ -22,13 +22,9 @@ fn heads_in_reach(clef: Clef, heads: &[Head]) -> bool
 fn graces_in_reach(clef: Clef, graces: &[Event]) -> bool
     ensures { result ≡ list_all (λ g. list_all (in_reach clef) g.heads) graces.now }
 {
-    graces.iter().all(|grace| heads_in_reach(clef, grace.heads.as_slice()))
-}
-
-fn clef_at(before: Clef, e: &Event) -> Clef
-    ensures { result ≡ clef_at before e.now }
-{
-    e.changes.clef.unwrap_or(before)
+    graces
+        .iter()
+        .all(|grace| heads_in_reach(clef, grace.heads.as_slice()))
 }
 
 /// Whether each head of some events is in reach, grace heads too.
@@ -37,7 +33,7 @@ pub(crate) fn are_in_reach(before: Clef, flats: &[Flat]) -> bool
 {
     let mut clef = before;
     for f in flats {
-        clef = clef_at(clef, &f.event);
+        clef = f.event.changes.clef.unwrap_or(clef);
         if !heads_in_reach(clef, f.event.heads.as_slice()) {
             return false;
         }

@@ -2,8 +2,7 @@ ghost use Rattle.std.specs.Prelude.{◌≡◌, length, pos, negsuc, All, IfOk, I
 ghost use Rattle.std.specs.List.{list_all};
 ghost use Rattle.mus_score.specs.Good.{IsGoodBody};
 ghost use Rattle.mus_score.specs.GoodScore.{IsGoodScore, events_of};
-ghost use Rattle.mus_transpose.specs.Moves.{Within};
-ghost use Rattle.mus_transpose.specs.Moved.{CanMove, Gives, IsMoved, are_in_reach, body_may, measure_by, move_from, moved_score, on_circle, score_by, voice_by, voice_may};
+ghost use Rattle.mus_transpose.specs.Moved.{Within, CanMove, Gives, IsMoved, are_in_reach, body_may, measure_by, move_from, moved_score, on_circle, score_by, voice_by, voice_may};
 
 use crate::keys::{key_by, on_circle, sharps_in};
 use crate::moves::{Move, MoveError, Moved, move_for};
@@ -77,27 +76,22 @@ fn all_in_reach(alloc: Global, voices: &[Voice]) -> Result<bool, Memory>
 }
 
 /// The move by so many semitones of a tune whose header names this key.
-fn move_from(header_key: &Key, by: i8) -> Move
-    requires { on_circle header_key.now ≡ true }
-    ensures { result ≡ move_from header_key.now by }
+fn move_from(header: &Key, by: i8) -> Move
+    requires { on_circle header.now ≡ true }
+    ensures { result ≡ move_from header.now by }
 {
-    move_for(sharps_in(header_key.signs.as_slice()), by)
+    move_for(sharps_in(header.signs.as_slice()), by)
 }
 
 /// A score by a move, or None where it can't be moved.
-fn moved_by(
-    alloc: Global,
-    s: &Score,
-    header_key: &Key,
-    by: i8,
-) -> Result<Option<Score>, Memory>
+fn moved_by(alloc: Global, s: &Score, header: &Key, by: i8) -> Result<Option<Score>, Memory>
     requires { IsGoodScore s.now }
-    ensures { IfOk result (λ r. MatchOption r (CanMove s.now header_key.now by → ⊥) (λ t. CanMove s.now header_key.now by × (t ≡ moved_score s.now header_key.now by))) }
+    ensures { IfOk result (λ r. MatchOption r (CanMove s.now header.now by → ⊥) (λ t. CanMove s.now header.now by × (t ≡ moved_score s.now header.now by))) }
 {
-    if !on_circle(alloc, header_key)? {
+    if !on_circle(alloc, header)? {
         return Ok(None);
     }
-    let m = move_from(header_key, by);
+    let m = move_from(header, by);
     let moved = match score_by(alloc, Some(m), s) {
         Ok(moved) => moved,
         Err(MoveError::NoMove) => return Ok(None),
@@ -117,21 +111,15 @@ fn moved_by(
 /// higher. None exactly where `by` isn't 0 and a key, the header's too, isn't one of -7 to 7
 /// sharps before and behind the move, or a sign would be past a double one, or a head out of reach.
 #[tactic(auto, using(crate::proofs::MovedGood::score_same, crate::proofs::MovedGood::moved_good))]
-pub fn moved(
-    alloc: Global,
-    s: &Score,
-    header_key: &Key,
-    by: i8,
-) -> Result<Option<Score>, Memory>
-    requires good { IsGoodScore s.now }
-    requires by { Within (negsuc 11) (pos 12) by }
-    ensures moved { IfOk result (IsMoved s.now header_key.now by) }
+pub fn moved(alloc: Global, s: &Score, header: &Key, by: i8) -> Result<Option<Score>, Memory>
+    requires { IsGoodScore s.now }
+    ensures moved { IfOk result (IsMoved s.now header.now by) }
     ensures good { IfOk result (λ r. IfSome r IsGoodScore) }
     ensures voices { IfOk result (λ r. IfSome r (λ t. length t.voices ≡ length s.now.voices)) }
     ensures measures { IfOk result (λ r. IfSome r (λ t. t.measures ≡ s.now.measures)) }
 {
     if by != 0 {
-        return moved_by(alloc, s, header_key, by);
+        return moved_by(alloc, s, header, by);
     }
     match score_by(alloc, None, s) {
         Ok(copy) => Ok(Some(copy)),
@@ -141,15 +129,9 @@ pub fn moved(
 }
 
 /// The same of a score that is given away: for no semitones it is given back, without a copy.
-pub fn moved_or_same(
-    alloc: Global,
-    s: Score,
-    header_key: &Key,
-    by: i8,
-) -> Result<Option<Score>, Memory>
-    requires good { IsGoodScore s }
-    requires by { Within (negsuc 11) (pos 12) by }
-    ensures moved { IfOk result (IsMoved s header_key.now by) }
+pub fn moved_or_same(alloc: Global, s: Score, header: &Key, by: i8) -> Result<Option<Score>, Memory>
+    requires { IsGoodScore s }
+    ensures moved { IfOk result (IsMoved s header.now by) }
     ensures good { IfOk result (λ r. IfSome r IsGoodScore) }
     ensures voices { IfOk result (λ r. IfSome r (λ t. length t.voices ≡ length s.voices)) }
     ensures measures { IfOk result (λ r. IfSome r (λ t. t.measures ≡ s.measures)) }
@@ -157,5 +139,5 @@ pub fn moved_or_same(
     if by == 0 {
         return Ok(Some(s));
     }
-    moved(alloc, &s, header_key, by)
+    moved(alloc, &s, header, by)
 }

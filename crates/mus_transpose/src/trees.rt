@@ -1,6 +1,6 @@
 ghost use Rattle.std.specs.Prelude.{◌≡◌, map, Some};
 ghost use Rattle.std.specs.List.{list_all};
-ghost use Rattle.mus_transpose.specs.Moved.{Gives, all_pass, body_by, body_may, changed, event_by, event_may, head_can_move, moved_head};
+ghost use Rattle.mus_transpose.specs.Moved.{Gives, all_pass, body_by, body_may, changed, event_by, event_may, head_moves, moved_head};
 
 use crate::heads::moved_head;
 use crate::keys::key_by;
@@ -10,7 +10,7 @@ use mus_units::{Head, Row};
 use std::alloc::Global;
 
 fn moved_heads(alloc: Global, m: Move, heads: &[Head]) -> Moved<Row<Head>>
-    ensures { Gives (Some m) (list_all (head_can_move m) heads.now) (map (moved_head m) heads.now) result }
+    ensures { Gives (Some m) (list_all (head_moves m) heads.now) (map (moved_head m) heads.now) result }
 {
     let mut out = Row::new(alloc);
     for head in heads {

@@ -15,12 +15,12 @@ all_in_reach-requires c =
 
 pub returns-then-branch : goal.returns-then-branch
 returns-then-branch c =
-    has_moved c.args.s.now c.args.header_key.now c.args.by c.move_from-m.result c.in-Ok.moved
-    (c.move_from-m.ensures ∙ ap (move_from c.args.header_key.now) (to_z-of_z w8 c.args.by c.ranges.by)) c.in-Ok.ensures.1
+    has_moved c.args.s.now c.args.header.now c.args.by c.move_from-m.result c.in-Ok.moved
+    (c.move_from-m.ensures ∙ ap (move_from c.args.header.now) (to_z-of_z w8 c.args.by c.ranges.by)) c.in-Ok.ensures.1
     (sym c.in_ok-on_circle.ensures ∙ c.if-not-branch.false) c.in-Ok.ensures.0 (sym (c.in_ok-all_in_reach.ensures ∙ ap all_in_reach c.as_slice.ensures) ∙ c.if-branch.true)
 
 pub returns-else-branch : goal.returns-else-branch
 returns-else-branch c =
-    out_of_reach c.args.s.now c.args.header_key.now c.args.by c.move_from-m.result c.in-Ok.moved
-    (c.move_from-m.ensures ∙ ap (move_from c.args.header_key.now) (to_z-of_z w8 c.args.by c.ranges.by)) c.in-Ok.ensures.1
+    out_of_reach c.args.s.now c.args.header.now c.args.by c.move_from-m.result c.in-Ok.moved
+    (c.move_from-m.ensures ∙ ap (move_from c.args.header.now) (to_z-of_z w8 c.args.by c.ranges.by)) c.in-Ok.ensures.1
     (sym (c.in_ok-all_in_reach.ensures ∙ ap all_in_reach c.as_slice.ensures) ∙ c.if-branch.false)
