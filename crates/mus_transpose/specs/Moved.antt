@@ -87,7 +87,8 @@ moved_steps m p = steps p +ℤ m.letters
 unfoldable pub moved_pitch : Move → Pitch → Pitch
 moved_pitch m p = pitch_of_steps (moved_steps m p)
 
--- the moved pitch is in reach in one clef or another: seven ledger lines below the lowest staff, G2, and above the highest, E4
+-- the moved pitch is in reach in one clef or another, from seven ledger lines below the lowest staff, G2, to seven above the
+-- highest, E4: graces behind the last event of a measure stand in none of their own
 abbrev pub is_near : Move → Pitch → Bool
 is_near m p = int_le (pos 4) (moved_steps m p) && int_le (moved_steps m p) (pos 52)
 
