@@ -1,5 +1,2 @@
-pub mod Folds
-pub mod Leaving
-pub mod MoveLaws
+pub mod Changed
 pub mod MovedGood
-pub mod Reaches

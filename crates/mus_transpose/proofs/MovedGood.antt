@@ -1,102 +1,110 @@
 -- A moved score in reach is good, and where there is no move it is the score.
-use Rattle.std.proofs.Common.{◌≡◌, ◌≢◌, ℕ, suc, ◌==◌, ◌&&◌, ◌*◌, ◌+ℤ◌, ◌<◌, nat_le, Bool, true, false, List, get_or, [], ◌∷◌, ◌++◌, length, map, refl, sym, ◌∙◌, ap, subst, arith, sum, if◌then◌else◌}
-use Rattle.std.specs.Prelude.{All, AllPairs, IfSome, Option, Some, None, sum_by, ℤ}
+use Rattle.std.proofs.Common.{◌≡◌, ◌≢◌, ℕ, suc, ◌==◌, ◌&&◌, ◌*◌, ◌+ℤ◌, ◌<◌, nat_le, Bool, true, false, List, get_or, [], ◌∷◌, ◌++◌, length, map, refl, sym, ◌∙◌, Decides, ap, subst, arith, sum, if◌then◌else◌}
+use Rattle.std.specs.Int.{int_div_euclid}
+use Rattle.std.specs.Prelude.{pos, negsuc, ◌≤ℤ◌, int_le, All, AllPairs, IfSome, Option, Some, None, sum_by, ℤ}
 use Rattle.std.specs.Option.{option_map}
 use Rattle.std.specs.List.{list_all}
 use Rattle.std.proofs.Math.Path.{fun_ext}
 use Rattle.std.proofs.lemmas.Bool.{false≢true}
+use Rattle.std.proofs.lemmas.Bool.Decides.{Decides-and, Decides-by_and, Decides-like}
+use Rattle.std.proofs.lemmas.Int.{ints}
 use Rattle.std.proofs.lemmas.List.{get_or-map, length-map, map-append, map-id}
 use Rattle.std.proofs.lemmas.List.Elements.{All-map, All-weaker}
-use Rattle.std.proofs.lemmas.List.Sums.{list_all-from_AllPass, sum-map}
+use Rattle.std.proofs.lemmas.List.Sums.{sum-map}
 use Rattle.std.proofs.lemmas.Simd.{map-map}
 use Rattle.mus_units.specs.Good.{IsGoodKey}
+use Rattle.mus_units.specs.Pitch.{height_of, number_of}
 use Rattle.mus_units.specs.Value.{value_length, whole_note}
 use Rattle.mus_units.specs.declared.key.Key.{Key}
+use Rattle.mus_units.specs.declared.note.Head.{Head}
+use Rattle.mus_units.specs.declared.pitch.Clef.{Clef}
+use Rattle.mus_units.specs.declared.pitch.Letter.{Letter}
+use Rattle.mus_units.specs.declared.pitch.Letter.TheVariants as letters
 use Rattle.mus_pitch.proofs.SignLaws.{signs_of_good}
+use Rattle.mus_score.specs.declared.score.Event.{Event}
 use Rattle.mus_score.specs.declared.score.Flat.{Flat}
 use Rattle.mus_score.specs.declared.score.Measure.{Measure}
 use Rattle.mus_score.specs.declared.score.Music.{Music}
 use Rattle.mus_score.specs.declared.score.Music.TheOpen.{Music-F}
 use Rattle.mus_score.specs.declared.score.Score.{Score}
 use Rattle.mus_score.specs.declared.score.Voice.{Voice}
-use Rattle.mus_score.specs.declared.good.Judged.{Judged}
 use Rattle.mus_score.specs.declared.good.Place.{Place}
-use Rattle.mus_score.specs.Good.{IsGoodBody, all_judged, good_step, has_value_ticks, judged, judged_within, outside, weight, weight_step}
-use Rattle.mus_score.specs.GoodScore.{AreCounted, AreInReach, IsGoodEvent, IsGoodScore, IsGoodVoice, events_of, voice_weight}
+use Rattle.mus_score.specs.Good.{IsGoodBody, all_judged, good_step, has_value_ticks, judged, outside, weight, weight_step}
+use Rattle.mus_score.specs.GoodScore.{AreCounted, AreInReach, IsInReach, clef_at, IsGoodEvent, IsGoodScore, IsGoodVoice, events_of, voice_weight}
 use Rattle.mus_score.specs.Times.{flats_of}
 use Rattle.mus_transpose.specs.declared.moves.Move.{Move}
-use Rattle.mus_transpose.specs.CanMove.{CanMove, IsLike, move_from, moved_score}
-use Rattle.mus_transpose.specs.Music.{changed, changed_flat, changed_layer, measure_by, score_by, voice_by}
-use Rattle.mus_transpose.specs.Shifted.{moved_event, moved_head, moved_key, on_circle, sharps_in}
-use Rattle.mus_transpose.specs.Tests.{are_in_reach, body_can_move, event_can_move, voice_can_move}
-use Rattle.mus_transpose.proofs.Folds.{fold_kept, passes, unchanged}
-use Rattle.mus_transpose.proofs.Leaving.{flats_changed}
-use Rattle.mus_transpose.proofs.Reaches.{voices_decide}
+use Rattle.mus_transpose.specs.Moved.{CanMove, Within, are_in_reach, event_by, in_reach, key_by, body_by, changed, changed_flat, measure_by, move_from, moved_head, moved_score, on_circle, score_by, sharps_in, voice_by, voice_may}
+use Rattle.mus_transpose.proofs.Changed.{flats_changed, fold_same, unchanged}
+
+-- ---- numbers
+
+pub twelfth_fits : (z : ℤ) → Within (negsuc 1199) (pos 1199) z → Within (negsuc 99) (pos 99) (int_div_euclid z (pos 12))
+twelfth_fits (pos a) h = let low = h.0 in let high = h.1 in (omega (arith, ints), omega (arith, ints))
+twelfth_fits (negsuc a) h = let low = h.0 in let high = h.1 in (omega (arith, ints), omega (arith, ints))
+
+pub few_letters : (l : Letter) → number_of l < 7
+few_letters letters.C = omega arith
+few_letters letters.D = omega arith
+few_letters letters.E = omega arith
+few_letters letters.F = omega arith
+few_letters letters.G = omega arith
+few_letters letters.A = omega arith
+few_letters letters.B = omega arith
 
 -- ---- bodies
 
-judged_layer : (m : Move) (x : Music-F (Place → Judged)) → good_step (changed_layer (moved_event m) x) ≡ good_step x
-judged_layer m (Music-F.Note e) = ap (λ n. λ (at : Place). judged (nat_le 1 n && has_value_ticks e) true) (length-map e.heads (moved_head m))
-judged_layer m (Music-F.Rest e) =
+note_judged : (m : Move) (e : Event) → good_step (Music-F.Note (event_by (Some m) e)) ≡ good_step (Music-F.Note e)
+note_judged m e = ap (λ n. λ (at : Place). judged (nat_le 1 n && has_value_ticks e) true) (length-map e.heads (moved_head m))
+
+rest_judged : (m : Move) (e : Event) → good_step (Music-F.Rest (event_by (Some m) e)) ≡ good_step (Music-F.Rest e)
+rest_judged m e =
     ap (λ n. λ (at : Place). judged (if at.grace then false else (n == 0 && nat_le e.value.dots 3 && (if at.inner then e.ticks == value_length e.value else nat_le 1 e.ticks && nat_le e.ticks (99 * whole_note)))) true)
     (length-map e.heads (moved_head m))
-judged_layer m (Music-F.Grace body slash) = refl
-judged_layer m (Music-F.Tuplet p q body) = refl
 
-weight_layer : (m : Move) (x : Music-F ℕ) → weight_step (changed_layer (moved_event m) x) ≡ weight_step x
-weight_layer m (Music-F.Note e) = length-map e.heads (moved_head m)
-weight_layer m (Music-F.Rest e) = refl
-weight_layer m (Music-F.Grace body slash) = refl
-weight_layer m (Music-F.Tuplet p q body) = refl
+weights_kept : (m : Move) (body : List Music) → sum (map weight (body_by (Some m) body)) ≡ sum (map weight body)
+weights_kept m body = ap sum (fold_same (event_by (Some m)) weight_step (λ e. length-map e.heads (moved_head m)) (λ e. refl) body)
 
--- a function that doesn't see the change of an element
-map_kept : {A B : Type 0} (f : A → B) (g : A → A) → ((x : A) → f (g x) ≡ f x) → (xs : List A) → map f (map g xs) ≡ map f xs
-map_kept f g same xs = map-map f g xs ∙ ap (λ h. map h xs) (fun_ext same)
-
-sum_kept : {A : Type 0} (f : A → ℕ) (g : A → A) → ((x : A) → f (g x) ≡ f x) → (xs : List A) → sum_by f (map g xs) ≡ sum_by f xs
-sum_kept f g same xs = sym (sum-map f (map g xs)) ∙ ap sum (map_kept f g same xs) ∙ sum-map f xs
-
-weights_kept : (m : Move) (body : List Music) → sum (map weight (map (changed (moved_event m)) body)) ≡ sum (map weight body)
-weights_kept m body = ap sum (map_kept weight (changed (moved_event m)) (fold_kept weight_step (moved_event m) (weight_layer m)) body)
-
-pub body_good : (m : Move) (body : List Music) → IsGoodBody body → IsGoodBody (map (changed (moved_event m)) body)
+body_good : (m : Move) (body : List Music) → IsGoodBody body → IsGoodBody (body_by (Some m) body)
 body_good m body good = record {
-  good = ap (λ js. (all_judged js outside).good) (map_kept judged_within (changed (moved_event m)) (fold_kept good_step (moved_event m) (judged_layer m)) body) ∙ good.good;
+  good = ap (λ js. (all_judged js outside).good) (fold_same (event_by (Some m)) good_step (note_judged m) (rest_judged m) body) ∙ good.good;
   few = omega (arith, weights_kept m body, good.few);
 }
 
 -- ---- events
 
-pub events_moved : (m : Move) (ms : List Measure) → events_of (map (measure_by (Some m)) ms) ≡ map (changed_flat (moved_event m)) (events_of ms)
+pub events_moved : (m : Move) (ms : List Measure) → events_of (map (measure_by (Some m)) ms) ≡ map (changed_flat (event_by (Some m))) (events_of ms)
 events_moved m [] = refl
 events_moved m (x ∷ ms) =
-    ap (λ fs. fs ++ events_of (map (measure_by (Some m)) ms)) (flats_changed (moved_event m) (λ e. refl) x.body)
-    ∙ ap (λ fs. map (changed_flat (moved_event m)) (flats_of x.body) ++ fs) (events_moved m ms)
-    ∙ sym (map-append (changed_flat (moved_event m)) (flats_of x.body) (events_of ms))
+    ap (λ fs. fs ++ events_of (map (measure_by (Some m)) ms)) (flats_changed (event_by (Some m)) (λ e. refl) x.body)
+    ∙ ap (λ fs. map (changed_flat (event_by (Some m))) (flats_of x.body) ++ fs) (events_moved m ms)
+    ∙ sym (map-append (changed_flat (event_by (Some m))) (flats_of x.body) (events_of ms))
 
-change_good : (m : Move) (k : Option Key) → IfSome (option_map (moved_key m) k) IsGoodKey
+change_good : (m : Move) (k : Option Key) → IfSome (option_map (key_by (Some m)) k) IsGoodKey
 change_good m None = tt
 change_good m (Some k) = signs_of_good (sharps_in k.signs +ℤ m.sharps)
 
-event_good : (m : Move) (verses : ℕ) (f : Flat) → IsGoodEvent verses f → IsGoodEvent verses (changed_flat (moved_event m) f)
+event_good : (m : Move) (verses : ℕ) (f : Flat) → IsGoodEvent verses f → IsGoodEvent verses (changed_flat (event_by (Some m)) f)
 event_good m verses f good = record { words = good.words; key = change_good m f.event.changes.key; meter = good.meter }
 
-counted : (m : Move) (n : ℕ) (fs : List Flat) → AreCounted n fs → AreCounted n (map (changed_flat (moved_event m)) fs)
+counted : (m : Move) (n : ℕ) (fs : List Flat) → AreCounted n fs → AreCounted n (map (changed_flat (event_by (Some m))) fs)
 counted m n [] h = tt
 counted m n (f ∷ fs) h = (h.0, counted m (suc n) fs h.1)
 
 -- ---- voices and scores
+
+sum_kept : {A : Type 0} (f : A → ℕ) (g : A → A) → ((x : A) → f (g x) ≡ f x) → (xs : List A) → sum_by f (map g xs) ≡ sum_by f xs
+sum_kept f g same xs = sym (sum-map f (map g xs)) ∙ ap sum (map-map f g xs ∙ ap (λ h. map h xs) (fun_ext same)) ∙ sum-map f xs
 
 voice_weight_kept : (m : Move) (v : Voice) → voice_weight (voice_by (Some m) v) ≡ voice_weight v
 voice_weight_kept m v = sum_kept (λ (x : Measure). sum (map weight x.body)) (measure_by (Some m)) (λ x. weights_kept m x.body) v.measures
 
 pub bodies_good : (m : Move) (v : Voice) → IsGoodVoice v → All (λ (x : Measure). IsGoodBody x.body) (voice_by (Some m) v).measures
 bodies_good m v good =
-    All-map (λ (x : Measure). IsGoodBody x.body) (measure_by (Some m)) v.measures (All-weaker (λ (x : Measure). IsGoodBody x.body) (λ x. IsGoodBody (map (changed (moved_event m)) x.body)) (λ x. body_good m x.body) v.measures good.bodies)
+    All-map (λ (x : Measure). IsGoodBody x.body) (measure_by (Some m)) v.measures (All-weaker (λ (x : Measure). IsGoodBody x.body) (λ x. IsGoodBody (body_by (Some m) x.body)) (λ x. body_good m x.body) v.measures good.bodies)
 
 voice_good : (m : Move) (v : Voice) → AreInReach v.clef (events_of (voice_by (Some m) v).measures) → IsGoodVoice v → IsGoodVoice (voice_by (Some m) v)
 voice_good m v reach good =
-    let g = changed_flat (moved_event m) in
+    let g = changed_flat (event_by (Some m)) in
     record {
       few_measures = omega (arith, length-map v.measures (measure_by (Some m)), good.few_measures);
       few_verses = good.few_verses;
@@ -156,18 +164,35 @@ voice_same v = ap (λ (xs : List Measure). record v { measures = xs }) (same_all
 pub score_same : (s : Score) → score_by None s ≡ s
 score_same s = ap (λ (vs : List Voice). record s { voices = vs }) (same_all (voice_by None) voice_same s.voices)
 
-all_same : {A : Type 0} (test : A → Bool) → ((x : A) → test x ≡ true) → (xs : List A) → list_all test xs ≡ true
-all_same test all xs = list_all-from_AllPass test xs (λ k d lt. all (get_or xs k d))
+-- ---- what is in reach, and its tests
 
-bodies_pass : (body : List Music) → body_can_move None body ≡ true
-bodies_pass [] = refl
-bodies_pass (m ∷ ms) = rw (passes (event_can_move None) (λ e. refl) m, bodies_pass ms) refl
+le_decides : (x y : ℤ) → Decides (int_le x y) (x ≤ℤ y)
+le_decides x y = (λ e. grind (arith, ints), λ l. grind (arith, ints))
 
-pub all_stay : (vs : List Voice) → list_all (voice_can_move None) vs ≡ true
-all_stay vs = all_same (voice_can_move None) (λ v. all_same (λ (x : Measure). body_can_move None x.body) (λ x. bodies_pass x.body) v.measures) vs
+head_decides : (clef : Clef) (h : Head) → Decides (in_reach clef h) (IsInReach clef h)
+head_decides clef h = Decides-and (int_le (negsuc 13) (height_of h.pitch clef)) (int_le (height_of h.pitch clef) (pos 22)) (le_decides (negsuc 13) (height_of h.pitch clef)) (le_decides (height_of h.pitch clef) (pos 22))
 
-pub moved_like : (by : Option Move) (s : Score) → IsLike s (score_by by s)
-moved_like by s = record { voices = length-map s.voices (voice_by by); measures = refl; forced = refl; spread = refl }
+heads_decide : (clef : Clef) (hs : List Head) → Decides (list_all (in_reach clef) hs) (All (IsInReach clef) hs)
+heads_decide clef hs = Decides-by_and (in_reach clef) (IsInReach clef) (list_all (in_reach clef)) (head_decides clef) refl (λ _ _. refl) hs
+
+graces_decide : (clef : Clef) (gs : List Event) → Decides (list_all (λ g. list_all (in_reach clef) g.heads) gs) (All (λ g. All (IsInReach clef) g.heads) gs)
+graces_decide clef gs =
+    let test = λ (g : Event). list_all (in_reach clef) g.heads in
+    Decides-by_and test (λ g. All (IsInReach clef) g.heads) (list_all test) (λ g. heads_decide clef g.heads) refl (λ _ _. refl) gs
+
+flats_decide : (before : Clef) (fs : List Flat) → Decides (are_in_reach before fs) (AreInReach before fs)
+flats_decide before [] = (λ e. tt, λ h. refl)
+flats_decide before (f ∷ fs) =
+    let clef = clef_at before f.event in
+    let graces = list_all (λ (g : Event). list_all (in_reach clef) g.heads) f.graces in
+    Decides-like (list_all (in_reach clef) f.event.heads && (graces && are_in_reach clef fs)) (λ h. (h.0, h.1.0, h.1.1)) (λ h. (h.0, (h.1, h.2)))
+    (Decides-and (list_all (in_reach clef) f.event.heads) (graces && are_in_reach clef fs) (heads_decide clef f.event.heads)
+    (Decides-and graces (are_in_reach clef fs) (graces_decide clef f.graces) (flats_decide clef fs)))
+
+pub voices_decide : (vs : List Voice) → Decides (list_all (λ v. are_in_reach v.clef (events_of v.measures)) vs) (All (λ v. AreInReach v.clef (events_of v.measures)) vs)
+voices_decide vs =
+    let test = λ (v : Voice). are_in_reach v.clef (events_of v.measures) in
+    Decides-by_and test (λ v. AreInReach v.clef (events_of v.measures)) (list_all test) (λ v. flats_decide v.clef (events_of v.measures)) refl (λ _ _. refl) vs
 
 -- ---- what the tests tell of a move
 
@@ -175,12 +200,12 @@ abbrev pub all_in_reach : List Voice → Bool
 all_in_reach vs = list_all (λ v. are_in_reach v.clef (events_of v.measures)) vs
 
 pub has_moved : (s : Score) (key : Key) (by : ℤ) (m : Move) (t : Score) → m ≡ move_from key by → t ≡ score_by (Some m) s
-    → on_circle key ≡ true → list_all (voice_can_move (Some m)) s.voices ≡ true → all_in_reach t.voices ≡ true → CanMove s key by × (t ≡ moved_score s key by)
+    → on_circle key ≡ true → list_all (voice_may (Some m)) s.voices ≡ true → all_in_reach t.voices ≡ true → CanMove s key by × (t ≡ moved_score s key by)
 has_moved s key by m t move is header voices reach =
     let e : t ≡ moved_score s key by = is ∙ ap (λ (n : Move). score_by (Some n) s) move in (
       record {
         header = header;
-        voices = ap (λ (n : Move). list_all (voice_can_move (Some n)) s.voices) (sym move) ∙ voices;
+        voices = ap (λ (n : Move). list_all (voice_may (Some n)) s.voices) (sym move) ∙ voices;
         reach = subst (λ (u : Score). ReachAll u.voices) e ((voices_decide t.voices).0 reach);
       },
       e,

@@ -1,8 +1,6 @@
-ghost use Rattle.std.specs.Prelude.{◌≡◌, ◌≤◌, ◌+ℤ◌, ◌-ℤ◌, ◌*ℤ◌, ◌≤ℤ◌, pos, negsuc, true};
+ghost use Rattle.std.specs.Prelude.{◌≡◌, ◌≤◌, ◌+ℤ◌, ◌-ℤ◌, ◌*ℤ◌, pos, negsuc, true, false, MatchOption};
 ghost use Rattle.mus_pitch.specs.Steps.{steps};
-ghost use Rattle.mus_transpose.specs.Semitones.{alter_from, alter_of, natural_of, semitones};
-ghost use Rattle.mus_transpose.specs.Shifted.{moved_alter, moved_head, moved_pitch, moved_sign, moved_steps};
-ghost use Rattle.mus_transpose.specs.Tests.{head_moves, is_near, sign_moves};
+ghost use Rattle.mus_transpose.specs.Moved.{Within, alter_from, alter_of, natural_of, semitones, head_moves, is_near, moved_alter, moved_head, moved_pitch, moved_steps};
 
 use crate::moves::Move;
 use mus_pitch::pitch_of_steps;
@@ -27,8 +25,7 @@ fn natural(letter: Letter) -> u8
 /// The semitones of an alteration.
 fn half_steps(alter: Alter) -> i64
     ensures value { result ≡ alter_of alter }
-    ensures low { negsuc 1 ≤ℤ result }
-    ensures high { result ≤ℤ pos 2 }
+    ensures fits { Within (negsuc 1) (pos 2) result }
 {
     match alter {
         Alter::Flat2 => -2,
@@ -56,27 +53,24 @@ fn alter_from(z: i64) -> Option<Alter>
 /// The semitones of a pitch above C0, its alteration aside.
 fn natural_semitones(p: Pitch) -> i64
     ensures value { result ≡ pos 12 *ℤ p.octave +ℤ pos (natural_of p.letter) }
-    ensures low { negsuc 28999999999 ≤ℤ result }
-    ensures high { result ≤ℤ pos 29000000000 }
+    ensures fits { Within (negsuc 28999999999) (pos 29000000000) result }
 {
     12 * i64::from(p.octave) + i64::from(natural(p.letter))
 }
 
-#[tactic(auto, unfolding(crate::specs::Semitones::semitones))]
+#[tactic(auto, unfolding(crate::specs::Moved::semitones))]
 fn semitones(p: Pitch, a: Alter) -> i64
     ensures value { result ≡ semitones p a }
-    ensures low { negsuc 29999999999 ≤ℤ result }
-    ensures high { result ≤ℤ pos 30000000000 }
+    ensures fits { Within (negsuc 29999999999) (pos 30000000000) result }
 {
     natural_semitones(p) + half_steps(a)
 }
 
 /// The steps of a pitch above C0. The bottom line of the treble clef is 30 steps above C0.
-#[tactic(auto, using(crate::proofs::MoveLaws::few_letters), unfolding(mus_pitch::specs::Steps::steps))]
+#[tactic(auto, using(crate::proofs::MovedGood::few_letters), unfolding(mus_pitch::specs::Steps::steps))]
 fn steps(p: Pitch) -> i64
     ensures value { result ≡ steps p }
-    ensures low { negsuc 19999999999 ≤ℤ result }
-    ensures high { result ≤ℤ pos 20000000000 }
+    ensures fits { Within (negsuc 29999999999) (pos 30000000000) result }
 {
     height(p, Clef::Treble) + 30
 }
@@ -94,67 +88,48 @@ fn is_near(m: Move, p: Pitch) -> bool
     4 <= steps && steps <= 52
 }
 
-#[tactic(auto, unfolding(crate::specs::Shifted::moved_pitch))]
-fn moved_pitch(m: Move, p: Pitch) -> Pitch
-    requires { is_near m p ≡ true }
-    ensures { result ≡ moved_pitch m p }
+/// The moved pitch, or None where it is in reach in no clef.
+#[tactic(auto, unfolding(crate::specs::Moved::moved_pitch))]
+fn moved_pitch(m: Move, p: Pitch) -> Option<Pitch>
+    ensures { MatchOption result (is_near m p ≡ false) (λ q. (is_near m p ≡ true) × (q ≡ moved_pitch m p)) }
 {
-    pitch_of_steps(moved_steps(m, p) as i32)
+    if is_near(m, p) {
+        Some(pitch_of_steps(moved_steps(m, p) as i32))
+    } else {
+        None
+    }
 }
 
 fn semitones_between(from: i64, by: i32, to: i64) -> i64
-    requires from_low { negsuc 29999999999 ≤ℤ from }
-    requires from_high { from ≤ℤ pos 30000000000 }
-    requires to_low { negsuc 29999999999 ≤ℤ to }
-    requires to_high { to ≤ℤ pos 30000000000 }
+    requires from { Within (negsuc 29999999999) (pos 30000000000) from }
+    requires to { Within (negsuc 29999999999) (pos 30000000000) to }
     ensures { result ≡ (from +ℤ by) -ℤ to }
 {
     from + i64::from(by) - to
 }
 
-/// The alteration that a sign becomes, or None where it is past a double one.
-#[tactic(auto, unfolding(crate::specs::Shifted::moved_alter))]
-fn moved_alter(m: Move, p: Pitch, a: Alter) -> Option<Alter>
-    requires { is_near m p ≡ true }
+/// What a sign becomes before the moved pitch `q`, or None where that is past a double one.
+#[tactic(auto, unfolding(crate::specs::Moved::moved_alter))]
+fn moved_alter(m: Move, p: Pitch, q: Pitch, a: Alter) -> Option<Alter>
+    requires { q ≡ moved_pitch m p }
     ensures { result ≡ moved_alter m p a }
 {
-    let natural = semitones(moved_pitch(m, p), Alter::Natural);
+    let natural = semitones(q, Alter::Natural);
     alter_from(semitones_between(semitones(p, a), m.semitones, natural))
 }
 
-fn sign_moves(m: Move, p: Pitch, sign: Option<Alter>) -> bool
-    requires { is_near m p ≡ true }
-    ensures { result ≡ sign_moves m p sign }
+/// The moved head, or None where it or its sign has no moved one.
+pub(crate) fn moved_head(m: Move, h: Head) -> Option<Head>
+    ensures { MatchOption result (head_moves m h ≡ false) (λ r. (head_moves m h ≡ true) × (r ≡ moved_head m h)) }
 {
-    match sign {
-        Some(a) => moved_alter(m, p, a).is_some(),
-        None => true,
-    }
-}
-
-/// Whether a head has a moved pitch and its sign a moved one.
-pub(crate) fn head_moves(m: Move, h: Head) -> bool
-    ensures { result ≡ head_moves m h }
-{
-    is_near(m, h.pitch) && sign_moves(m, h.pitch, h.sign)
-}
-
-fn moved_sign(m: Move, p: Pitch, sign: Option<Alter>) -> Option<Alter>
-    requires { is_near m p ≡ true }
-    ensures { result ≡ moved_sign m p sign }
-{
-    let a = sign?;
-    Some(moved_alter(m, p, a).unwrap_or(a))
-}
-
-/// The moved head.
-pub(crate) fn moved_head(m: Move, h: Head) -> Head
-    requires { head_moves m h ≡ true }
-    ensures { result ≡ moved_head m h }
-{
-    Head {
-        pitch: moved_pitch(m, h.pitch),
-        sign: moved_sign(m, h.pitch, h.sign),
+    let pitch = moved_pitch(m, h.pitch)?;
+    let sign = match h.sign {
+        Some(a) => Some(moved_alter(m, h.pitch, pitch, a)?),
+        None => None,
+    };
+    Some(Head {
+        pitch,
+        sign,
         tied: h.tied,
-    }
+    })
 }

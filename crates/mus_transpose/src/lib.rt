@@ -5,7 +5,6 @@
 //! with which the head is as many semitones higher.
 #![tactic(auto)]
 
-pub mod events;
 pub mod heads;
 pub mod keys;
 pub mod moves;

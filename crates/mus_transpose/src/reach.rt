@@ -1,12 +1,10 @@
-ghost use Rattle.std.specs.Prelude.{◌≡◌, All, IfOk};
+ghost use Rattle.std.specs.Prelude.{◌≡◌};
 ghost use Rattle.std.specs.List.{list_all};
-ghost use Rattle.mus_score.specs.Good.{IsGoodBody};
-ghost use Rattle.mus_score.specs.GoodScore.{clef_at, events_of};
-ghost use Rattle.mus_transpose.specs.Tests.{are_in_reach, in_reach};
+ghost use Rattle.mus_score.specs.GoodScore.{clef_at};
+ghost use Rattle.mus_transpose.specs.Moved.{are_in_reach, in_reach};
 
-use mus_score::{Event, Flat, Head, Measure, events};
-use mus_units::{Clef, Memory, height};
-use std::alloc::Global;
+use mus_score::{Event, Flat, Head};
+use mus_units::{Clef, height};
 
 fn is_in_reach(clef: Clef, head: Head) -> bool
     ensures { result ≡ in_reach clef head }
@@ -29,18 +27,13 @@ fn graces_in_reach(clef: Clef, graces: &[Event]) -> bool
         .all(|grace| heads_in_reach(clef, grace.heads.as_slice()))
 }
 
-fn clef_at(before: Clef, e: &Event) -> Clef
-    ensures { result ≡ clef_at before e.now }
-{
-    e.changes.clef.unwrap_or(before)
-}
-
-fn flats_in_reach(before: Clef, flats: &[Flat]) -> bool
+/// Whether each head of some events is in reach, grace heads too.
+pub(crate) fn are_in_reach(before: Clef, flats: &[Flat]) -> bool
     ensures { result ≡ are_in_reach before flats.now }
 {
     let mut clef = before;
     for f in flats {
-        clef = clef_at(clef, &f.event);
+        clef = f.event.changes.clef.unwrap_or(clef);
         if !heads_in_reach(clef, f.event.heads.as_slice()) {
             return false;
         }
@@ -49,17 +42,4 @@ fn flats_in_reach(before: Clef, flats: &[Flat]) -> bool
         }
     }
     true
-}
-
-/// Whether each head of some measures is in reach, grace heads too.
-pub(crate) fn measures_in_reach(
-    alloc: Global,
-    clef: Clef,
-    measures: &[Measure],
-) -> Result<bool, Memory>
-    requires { All (λ m. IsGoodBody m.body) measures.now }
-    ensures { IfOk result (λ r. r ≡ are_in_reach clef (events_of measures.now)) }
-{
-    let events = events(alloc, measures)?;
-    Ok(flats_in_reach(clef, events.as_slice()))
 }

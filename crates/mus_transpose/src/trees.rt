@@ -1,71 +1,68 @@
-ghost use Rattle.std.specs.Prelude.{◌≡◌, map, IfOk, true};
-ghost use Rattle.mus_transpose.specs.Music.{changed, event_by};
-ghost use Rattle.mus_transpose.specs.Tests.{all_pass, body_can_move, event_can_move};
+ghost use Rattle.std.specs.Prelude.{◌≡◌, map, Some};
+ghost use Rattle.std.specs.List.{list_all};
+ghost use Rattle.mus_transpose.specs.Moved.{Gives, all_pass, body_by, body_may, changed, event_by, event_may, head_moves, moved_head};
 
-use crate::events::{event_by, event_can_move};
-use crate::moves::Move;
-use mus_score::Music;
-use mus_units::{Memory, Row};
+use crate::heads::moved_head;
+use crate::keys::key_by;
+use crate::moves::{Move, MoveError, Moved};
+use mus_score::{Event, Music, copy_event};
+use mus_units::{Head, Row};
 use std::alloc::Global;
 
-#[cycle(judging)]
-fn node_can_move(alloc: Global, m: Move, node: &Music) -> Result<bool, Memory>
-    ensures { IfOk result (λ r. r ≡ all_pass (event_can_move (Some m)) node.now) }
+fn moved_heads(alloc: Global, m: Move, heads: &[Head]) -> Moved<Row<Head>>
+    ensures { Gives (Some m) (list_all (head_moves m) heads.now) (map (moved_head m) heads.now) result }
 {
-    match node {
-        Music::Note(e) => event_can_move(alloc, m, e),
-        Music::Rest(e) => event_can_move(alloc, m, e),
-        Music::Grace { body, slash: _ } => body_can_move(alloc, m, body.as_slice()),
-        Music::Tuplet { p: _, q: _, body } => body_can_move(alloc, m, body.as_slice()),
-    }
-}
-
-/// Whether each event of a body can be moved, graces too.
-#[cycle(judging)]
-pub(crate) fn body_can_move(alloc: Global, m: Move, body: &[Music]) -> Result<bool, Memory>
-    ensures { IfOk result (λ r. r ≡ body_can_move (Some m) body.now) }
-{
-    for node in body {
-        if !node_can_move(alloc, m, node)? {
-            return Ok(false);
+    let mut out = Row::new(alloc);
+    for head in heads {
+        match moved_head(m, *head) {
+            Some(moved) => out.push(moved)?,
+            None => return Err(MoveError::NoMove),
         }
     }
-    Ok(true)
+    Ok(out)
 }
 
-#[cycle(changing)]
-fn changed_node(alloc: Global, by: Option<Move>, node: &Music) -> Result<Music, Memory>
-    requires { all_pass (event_can_move by) node.now ≡ true }
-    ensures { IfOk result (λ r. r ≡ changed (event_by by) node.now) }
+/// A copy of an event, moved where there is a move.
+fn event_by(alloc: Global, by: Option<Move>, e: &Event) -> Moved<Event>
+    ensures { Gives by (event_may by e.now) (event_by by e.now) result }
+{
+    let mut copy = copy_event(alloc, e)?;
+    if let Some(m) = by {
+        copy.heads = moved_heads(alloc, m, e.heads.as_slice())?;
+        if let Some(key) = &e.changes.key {
+            copy.changes.key = Some(key_by(alloc, by, key)?);
+        }
+    }
+    Ok(copy)
+}
+
+#[cycle(trees)]
+fn node_by(alloc: Global, by: Option<Move>, node: &Music) -> Moved<Music>
+    ensures { Gives by (all_pass (event_may by) node.now) (changed (event_by by) node.now) result }
 {
     match node {
         Music::Note(e) => Ok(Music::Note(event_by(alloc, by, e)?)),
         Music::Rest(e) => Ok(Music::Rest(event_by(alloc, by, e)?)),
         Music::Grace { body, slash } => Ok(Music::Grace {
-            body: changed_body(alloc, by, body.as_slice())?,
+            body: body_by(alloc, by, body.as_slice())?,
             slash: *slash,
         }),
         Music::Tuplet { p, q, body } => Ok(Music::Tuplet {
             p: *p,
             q: *q,
-            body: changed_body(alloc, by, body.as_slice())?,
+            body: body_by(alloc, by, body.as_slice())?,
         }),
     }
 }
 
 /// A copy of a body, its events moved where there is a move.
-#[cycle(changing)]
-pub(crate) fn changed_body(
-    alloc: Global,
-    by: Option<Move>,
-    body: &[Music],
-) -> Result<Row<Music>, Memory>
-    requires { body_can_move by body.now ≡ true }
-    ensures { IfOk result (λ r. r ≡ map (changed (event_by by)) body.now) }
+#[cycle(trees)]
+pub(crate) fn body_by(alloc: Global, by: Option<Move>, body: &[Music]) -> Moved<Row<Music>>
+    ensures { Gives by (body_may by body.now) (body_by by body.now) result }
 {
     let mut out = Row::new(alloc);
     for node in body {
-        out.push(changed_node(alloc, by, node)?)?;
+        out.push(node_by(alloc, by, node)?)?;
     }
     Ok(out)
 }

@@ -22,7 +22,7 @@ use Rattle.abc_score.specs.Build.{IsScoreOf}
 use Rattle.abc_score.specs.Score.{score_with}
 use Rattle.abc_score.specs.Voices.{voices_read}
 use Rattle.mus_units.specs.declared.key.Key.{Key}
-use Rattle.mus_transpose.specs.CanMove.{IsLike, IsMoved, move_from}
+use Rattle.mus_transpose.specs.Moved.{IsLike, IsMoved, move_from}
 use Rattle.mus_transpose.proofs.MovedGood.{moved_like}
 use Rattle.mus_score.specs.declared.score.Score.{Score}
 use Rattle.mus_score.specs.GoodScore.{IsGoodScore}

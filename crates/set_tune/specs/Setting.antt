@@ -24,7 +24,7 @@ use Rattle.lay_tune.specs.Layout.{IsNoWay}
 use Rattle.lay_tune.specs.Spans.{AreSpansOf, is_forced_in}
 use Rattle.lay_tune.specs.Systems.{Beside, EachSpan, IsSetSystem, IsStack}
 use Rattle.mus_units.specs.declared.key.Key.{Key}
-use Rattle.mus_transpose.specs.CanMove.{IsMoved}
+use Rattle.mus_transpose.specs.Moved.{IsMoved}
 use Rattle.set_tune.specs.declared.how.How.{How}
 use Rattle.set_tune.specs.declared.tune.SetTune.{SetTune}
 use Rattle.set_tune.specs.Blocks.{blocks_of}

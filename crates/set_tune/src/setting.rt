@@ -9,7 +9,7 @@ ghost use Rattle.abc_header.specs.Papers.{IsGoodPaper, height_of, width_of};
 ghost use Rattle.lay_pages.specs.Filling.{first_tall};
 ghost use Rattle.lay_pages.specs.Titles.{title_block_of};
 ghost use Rattle.set_tune.specs.Blocks.{blocks_of};
-ghost use Rattle.mus_transpose.specs.CanMove.{IsMoved};
+ghost use Rattle.mus_transpose.specs.Moved.{IsMoved};
 ghost use Rattle.set_tune.specs.How.{IsGoodHow, unmoved};
 ghost use Rattle.set_tune.specs.Setting.{HasScore, IsLaid, IsLaidOut, IsLayoutRefusal, IsMoveRefusal, IsMovedRefusal, IsRefusal, IsScoreRefusal, IsSetTune, IsTallRefusal, IsWritten, layout_fault};
 

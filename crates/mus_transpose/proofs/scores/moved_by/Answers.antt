@@ -1,31 +1,26 @@
 -- The move of the header's key is the one meant, and the tests decide what can be moved by it.
-use Rattle.std.proofs.Common.{◌∙◌, All, List, ap, subst, sym, w32}
-use Rattle.std.specs.Prelude.{Some}
-use Rattle.std.specs.List.{list_all}
+use Rattle.std.proofs.Common.{◌∙◌, All, List, ap, subst, sym, w8}
 use Rattle.std.proofs.lemmas.Int.{to_z-of_z}
 use Rattle.mus_score.specs.declared.score.Score.{Score}
 use Rattle.mus_score.specs.declared.score.Voice.{Voice}
 use Rattle.mus_score.specs.Good.{IsGoodBody}
-use Rattle.mus_transpose.specs.CanMove.{move_from}
-use Rattle.mus_transpose.specs.Tests.{voice_can_move}
+use Rattle.mus_transpose.specs.Moved.{move_from}
 use Rattle.mus_transpose.proofs.MovedGood.{all_bodies_good, all_in_reach, has_moved, out_of_reach}
 use Rattle.mus_transpose.proofs.scores.moved_by.Goals as goal
 
 pub all_in_reach-requires : goal.all_in_reach-requires
 all_in_reach-requires c =
-    subst (λ (vs : List Voice). All (λ v. All (λ x. IsGoodBody x.body) v.measures) vs) (sym (c.as_slice-2.ensures ∙ ap (λ (t : Score). t.voices) c.in_ok-moved.ensures))
-    (all_bodies_good c.move_from-m.result c.args.s.now c.requires.good)
+    subst (λ (vs : List Voice). All (λ v. All (λ x. IsGoodBody x.body) v.measures) vs) (sym (c.as_slice.ensures ∙ ap (λ (t : Score). t.voices) c.in-Ok.ensures.1))
+    (all_bodies_good c.move_from-m.result c.args.s.now c.requires)
 
 pub returns-then-branch : goal.returns-then-branch
 returns-then-branch c =
-    has_moved c.args.s.now c.args.header_key.now c.args.by c.move_from-m.result c.in_ok-moved.moved
-    (c.move_from-m.ensures ∙ ap (move_from c.args.header_key.now) (to_z-of_z w32 c.args.by c.ranges.by)) c.in_ok-moved.ensures
-    (sym c.in_ok-on_circle.ensures ∙ c.if-not-branch.false)
-    (sym (c.in_ok-voices_can_move.ensures ∙ ap (list_all (voice_can_move (Some c.move_from-m.result))) c.as_slice.ensures) ∙ c.if-not-branch-2.false)
-    (sym (c.in_ok-all_in_reach.ensures ∙ ap all_in_reach c.as_slice-2.ensures) ∙ c.if-branch.true)
+    has_moved c.args.s.now c.args.header.now c.args.by c.move_from-m.result c.in-Ok.moved
+    (c.move_from-m.ensures ∙ ap (move_from c.args.header.now) (to_z-of_z w8 c.args.by c.ranges.by)) c.in-Ok.ensures.1
+    (sym c.in_ok-on_circle.ensures ∙ c.if-not-branch.false) c.in-Ok.ensures.0 (sym (c.in_ok-all_in_reach.ensures ∙ ap all_in_reach c.as_slice.ensures) ∙ c.if-branch.true)
 
 pub returns-else-branch : goal.returns-else-branch
 returns-else-branch c =
-    out_of_reach c.args.s.now c.args.header_key.now c.args.by c.move_from-m.result c.in_ok-moved.moved
-    (c.move_from-m.ensures ∙ ap (move_from c.args.header_key.now) (to_z-of_z w32 c.args.by c.ranges.by)) c.in_ok-moved.ensures
-    (sym (c.in_ok-all_in_reach.ensures ∙ ap all_in_reach c.as_slice-2.ensures) ∙ c.if-branch.false)
+    out_of_reach c.args.s.now c.args.header.now c.args.by c.move_from-m.result c.in-Ok.moved
+    (c.move_from-m.ensures ∙ ap (move_from c.args.header.now) (to_z-of_z w8 c.args.by c.ranges.by)) c.in-Ok.ensures.1
+    (sym (c.in_ok-all_in_reach.ensures ∙ ap all_in_reach c.as_slice.ensures) ∙ c.if-branch.false)

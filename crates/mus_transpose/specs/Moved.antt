@@ -1,0 +1,240 @@
+-- Moved scores. A head moves by letters, and a sign before it becomes the one that is as many semitones higher; a key moves by
+-- sharps. Beside each stands the test whether it can be moved; where there is no move all is left as it is.
+use Rattle.std.specs.Prelude.{◌≡◌, ◌≢◌, ⊤, zero, suc, ℕ, ℤ, pos, negsuc, ◌+ℤ◌, ◌-ℤ◌, ◌*ℤ◌, ◌≤ℤ◌, ◌&&◌, nat_le, int_le, Bool, true, false, List, [], ◌∷◌, length, map, All, MatchOption, Option, Some, None, Result, Ok, Err, is_some, unwrap_or}
+use Rattle.std.specs.Cmp.Lexicographic.{pointwise}
+use Rattle.std.specs.Int.{int_div_euclid, int_rem_euclid}
+use Rattle.std.specs.List.{list_all}
+use Rattle.std.specs.Option.{option_map}
+use Rattle.std.specs.Ordering.{int_eq}
+use Rattle.mus_units.specs.Good.{same_letter}
+use Rattle.mus_units.specs.Pitch.{height_of}
+use Rattle.mus_units.specs.declared.key.Key.{Key}
+use Rattle.mus_units.specs.declared.key.Sign.{Sign}
+use Rattle.mus_units.specs.declared.note.Head.{Head}
+use Rattle.mus_units.specs.declared.pitch.Alter.{Alter}
+use Rattle.mus_units.specs.declared.pitch.Alter.TheVariants as alters
+use Rattle.mus_units.specs.declared.pitch.Clef.{Clef}
+use Rattle.mus_units.specs.declared.pitch.Letter.{Letter}
+use Rattle.mus_units.specs.declared.pitch.Letter.TheVariants as letters
+use Rattle.mus_units.specs.declared.pitch.Pitch.{Pitch}
+use Rattle.mus_pitch.specs.Circle.{is_signature, signs_of}
+use Rattle.mus_pitch.specs.Steps.{pitch_of_steps, steps}
+use Rattle.mus_score.specs.declared.score.Event.{Event}
+use Rattle.mus_score.specs.declared.score.Flat.{Flat}
+use Rattle.mus_score.specs.declared.score.Measure.{Measure}
+use Rattle.mus_score.specs.declared.score.Music.{Music}
+use Rattle.mus_score.specs.declared.score.Music.TheOpen.{Music-F}
+use Rattle.mus_score.specs.declared.score.Music.TheViews.{roll-Music}
+use Rattle.mus_score.specs.declared.score.Music.TheFolds.{fold-Music}
+use Rattle.mus_score.specs.declared.score.Score.{Score}
+use Rattle.mus_score.specs.declared.score.Voice.{Voice}
+use Rattle.mus_score.specs.GoodScore.{AreInReach, clef_at, events_of}
+use Rattle.mus_transpose.specs.declared.moves.Move.{Move}
+use Rattle.mus_transpose.specs.declared.moves.MoveError.{MoveError}
+use Rattle.mus_transpose.specs.declared.moves.MoveError.TheVariants as errors
+
+-- the semitones from C to a letter
+abbrev pub natural_of : Letter → ℕ
+natural_of letters.C = 0
+natural_of letters.D = 2
+natural_of letters.E = 4
+natural_of letters.F = 5
+natural_of letters.G = 7
+natural_of letters.A = 9
+natural_of letters.B = 11
+
+abbrev pub alter_of : Alter → ℤ
+alter_of alters.Flat2 = negsuc 1
+alter_of alters.Flat = negsuc 0
+alter_of alters.Natural = pos 0
+alter_of alters.Sharp = pos 1
+alter_of alters.Sharp2 = pos 2
+
+-- the alteration of so many semitones, where there is one
+abbrev pub alter_from : ℤ → Option Alter
+alter_from (pos zero) = Some alters.Natural
+alter_from (pos (suc zero)) = Some alters.Sharp
+alter_from (pos (suc (suc zero))) = Some alters.Sharp2
+alter_from (negsuc zero) = Some alters.Flat
+alter_from (negsuc (suc zero)) = Some alters.Flat2
+alter_from _ = None
+
+unfoldable pub semitones : Pitch → Alter → ℤ
+semitones p a = (pos 12 *ℤ p.octave +ℤ pos (natural_of p.letter)) +ℤ alter_of a
+
+abbrev pub Within : ℤ → ℤ → ℤ → Type 0
+Within least most z = (least ≤ℤ z) × (z ≤ℤ most)
+
+-- the key of -5 to 6 sharps that is seven fifths further for each semitone, whole rounds of twelve fifths aside
+abbrev pub new_sharps : ℤ → ℤ → ℤ
+new_sharps sharps by = int_rem_euclid ((sharps +ℤ (pos 7 *ℤ by)) +ℤ pos 5) (pos 12) -ℤ pos 5
+
+-- a fifth is seven semitones and four letters, an octave twelve and seven
+abbrev pub octaves_between : ℤ → ℤ → ℤ
+octaves_between change by = int_div_euclid ((pos 7 *ℤ change) -ℤ by) (pos 12)
+
+abbrev pub move_by : ℤ → ℤ → Move
+move_by change by = record { semitones = by; sharps = change; letters = (pos 4 *ℤ change) -ℤ (pos 7 *ℤ octaves_between change by) }
+
+unfoldable pub move_for : ℤ → ℤ → Move
+move_for sharps by = move_by (new_sharps sharps by -ℤ sharps) by
+
+-- ---- heads
+
+abbrev pub moved_steps : Move → Pitch → ℤ
+moved_steps m p = steps p +ℤ m.letters
+
+unfoldable pub moved_pitch : Move → Pitch → Pitch
+moved_pitch m p = pitch_of_steps (moved_steps m p)
+
+-- the moved pitch is in reach in one clef or another, from seven ledger lines below the lowest staff, G2, to seven above the
+-- highest, E4: graces behind the last event of a measure stand in none of their own
+abbrev pub is_near : Move → Pitch → Bool
+is_near m p = int_le (pos 4) (moved_steps m p) && int_le (moved_steps m p) (pos 52)
+
+-- the alteration at the moved pitch with which a head is so many semitones higher, where there is one
+unfoldable pub moved_alter : Move → Pitch → Alter → Option Alter
+moved_alter m p a = alter_from ((semitones p a +ℤ m.semitones) -ℤ semitones (moved_pitch m p) alters.Natural)
+
+-- a sign that is past a double one stays, but its score can't be moved
+abbrev pub moved_sign : Move → Pitch → Option Alter → Option Alter
+moved_sign m p sign = option_map (λ a. unwrap_or (moved_alter m p a) a) sign
+
+abbrev pub sign_moves : Move → Pitch → Option Alter → Bool
+sign_moves m p sign = unwrap_or (option_map (λ a. is_some (moved_alter m p a)) sign) true
+
+abbrev pub moved_head : Move → Head → Head
+moved_head m h = record { pitch = moved_pitch m h.pitch; sign = moved_sign m h.pitch h.sign; tied = h.tied }
+
+abbrev pub head_moves : Move → Head → Bool
+head_moves m h = is_near m h.pitch && sign_moves m h.pitch h.sign
+
+-- ---- keys
+
+-- the sharps of a key by its first sign, a flat counting as one less
+abbrev pub sharps_by : Alter → ℤ → ℤ
+sharps_by alters.Flat count = pos 0 -ℤ count
+sharps_by _ count = count
+
+abbrev pub sharps_in : List Sign → ℤ
+sharps_in [] = pos 0
+sharps_in (s ∷ signs) = sharps_by s.alter (pos (suc (length signs)))
+
+abbrev pub same_sign : Sign → Sign → Bool
+same_sign s t = same_letter s.letter t.letter && int_eq (alter_of s.alter) (alter_of t.alter)
+
+-- a key on the circle of fifths has the signs of -7 to 7 sharps, in their order
+abbrev pub on_circle : Key → Bool
+on_circle k = nat_le (length k.signs) 7 && pointwise same_sign k.signs (signs_of (sharps_in k.signs))
+
+abbrev pub key_by : Option Move → Key → Key
+key_by None k = k
+key_by (Some m) k = record { signs = signs_of (sharps_in k.signs +ℤ m.sharps) }
+
+-- the key and the moved one are on the circle
+abbrev pub key_may : Option Move → Key → Bool
+key_may None k = true
+key_may (Some m) k = on_circle k && is_signature (sharps_in k.signs +ℤ m.sharps)
+
+-- ---- events, the graces among them
+
+abbrev pub event_by : Option Move → Event → Event
+event_by None e = e
+event_by (Some m) e = record e {
+  heads = map (moved_head m) e.heads;
+  changes = record { clef = e.changes.clef; key = option_map (key_by (Some m)) e.changes.key; meter = e.changes.meter };
+}
+
+abbrev pub event_may : Option Move → Event → Bool
+event_may None e = true
+event_may (Some m) e = list_all (head_moves m) e.heads && unwrap_or (option_map (key_may (Some m)) e.changes.key) true
+
+-- ---- trees
+
+-- a node with each event in it changed
+abbrev pub changed_layer : {A : Type 0} → (Event → Event) → Music-F A → Music-F A
+changed_layer g (Music-F.Note e) = Music-F.Note (g e)
+changed_layer g (Music-F.Rest e) = Music-F.Rest (g e)
+changed_layer g (Music-F.Grace body slash) = Music-F.Grace body slash
+changed_layer g (Music-F.Tuplet p q body) = Music-F.Tuplet p q body
+
+abbrev pub changed_step : (Event → Event) → Music-F Music → Music
+changed_step g x = roll-Music (changed_layer g x)
+
+abbrev pub changed : (Event → Event) → Music → Music
+changed g = fold-Music Music (changed_step g)
+
+abbrev pub changed_flat : (Event → Event) → Flat → Flat
+changed_flat g f = record f { event = g f.event; graces = map g f.graces }
+
+abbrev pub all_true : List Bool → Bool
+all_true [] = true
+all_true (b ∷ bs) = b && all_true bs
+
+-- each event in a node passes a test, graces too
+abbrev pub passing_step : (Event → Bool) → Music-F Bool → Bool
+passing_step test (Music-F.Note e) = test e
+passing_step test (Music-F.Rest e) = test e
+passing_step test (Music-F.Grace body slash) = all_true body
+passing_step test (Music-F.Tuplet p q body) = all_true body
+
+abbrev pub all_pass : (Event → Bool) → Music → Bool
+all_pass test = fold-Music Bool (passing_step test)
+
+abbrev pub body_by : Option Move → List Music → List Music
+body_by by body = map (changed (event_by by)) body
+
+abbrev pub body_may : Option Move → List Music → Bool
+body_may by body = all_true (map (all_pass (event_may by)) body)
+
+-- ---- voices and scores
+
+abbrev pub measure_by : Option Move → Measure → Measure
+measure_by by x = record x { body = body_by by x.body }
+
+abbrev pub voice_by : Option Move → Voice → Voice
+voice_by by v = record v { key = key_by by v.key; measures = map (measure_by by) v.measures }
+
+abbrev pub voice_may : Option Move → Voice → Bool
+voice_may by v = key_may by v.key && list_all (λ x. body_may by x.body) v.measures
+
+abbrev pub score_by : Option Move → Score → Score
+score_by by s = record s { voices = map (voice_by by) s.voices }
+
+-- what a call gives by a move: the moved value where all in it can be moved, else no move
+abbrev pub Gives : {A : Type 0} → Option Move → Bool → A → Result A MoveError → Type 0
+Gives by may x (Ok r) = (may ≡ true) × (r ≡ x)
+Gives by may x (Err errors.NoMove) = (is_some by ≡ true) × (may ≡ false)
+Gives by may x (Err errors.Memory) = ⊤
+
+-- ---- what is in reach: the same as `AreInReach`, as a test
+
+abbrev pub in_reach : Clef → Head → Bool
+in_reach clef h = int_le (negsuc 13) (height_of h.pitch clef) && int_le (height_of h.pitch clef) (pos 22)
+
+abbrev pub are_in_reach : Clef → List Flat → Bool
+are_in_reach before [] = true
+are_in_reach before (f ∷ fs) =
+    list_all (in_reach (clef_at before f.event)) f.event.heads
+    && (list_all (λ g. list_all (in_reach (clef_at before f.event)) g.heads) f.graces && are_in_reach (clef_at before f.event) fs)
+
+-- ---- what can be moved
+
+-- the move of a tune whose header names this key
+abbrev pub move_from : Key → ℤ → Move
+move_from header by = move_for (sharps_in header.signs) by
+
+abbrev pub moved_score : Score → Key → ℤ → Score
+moved_score s header by = score_by (Some (move_from header by)) s
+
+-- the header's key and each key of the score, before and behind the move, are on the circle of fifths, no moved sign is past a
+-- double one, and each moved head is in reach
+pub record CanMove (s : Score) (key : Key) (by : ℤ) : Type 0 where
+  pub header : on_circle key ≡ true
+  pub voices : list_all (voice_may (Some (move_from key by))) s.voices ≡ true
+  pub reach : All (λ v. AreInReach v.clef (events_of v.measures)) (moved_score s key by).voices
+
+-- what comes of a move by so many semitones: by none it is the score itself, and a score that can't be moved gives none
+pub record IsMoved (s : Score) (key : Key) (by : ℤ) (moved : Option Score) : Type 0 where
+  pub same : by ≡ pos 0 → moved ≡ Some s
+  pub higher : by ≢ pos 0 → MatchOption moved (CanMove s key by → ⊥) (λ t. CanMove s key by × (t ≡ moved_score s key by))
