@@ -4,7 +4,7 @@ use Rattle.std.specs.Prelude.{MatchOption}
 use Rattle.std.proofs.lemmas.Option.{same_Some}
 use Rattle.abc_lines.specs.declared.book.TuneText.{TuneText}
 use Rattle.mus_units.specs.declared.key.Key.{Key}
-use Rattle.mus_transpose.specs.CanMove.{CanMove, IsMoved, moved_score}
+use Rattle.mus_transpose.specs.Moved.{CanMove, IsMoved, moved_score}
 use Rattle.abc_lines.specs.declared.fault.Fault.{Fault}
 use Rattle.abc_lines.specs.declared.fault.FaultKind.TheVariants as faults
 use Rattle.abc_lines.specs.declared.fault.TuneError.TheVariants as errors

@@ -4,7 +4,6 @@ ghost use Rattle.abc_header.specs.Defaults.{defaults_of};
 ghost use Rattle.abc_header.specs.Good.{IsGoodDefaults};
 ghost use Rattle.abc_header.specs.Papers.{IsGoodPaper};
 ghost use Rattle.set_book.specs.Once.{HaveOneOutcome};
-ghost use Rattle.set_tune.specs.How.{IsGoodHow};
 ghost use Rattle.set_book.specs.Outcomes.{AreOutcomes, IsOutcome};
 
 use crate::gate::Gate;
@@ -28,7 +27,7 @@ struct Setting<'a, G> {
 }
 
 impl<'a, G: Gate> Work<TuneText, Outcome> for Setting<'a, G> {
-    ghost takes = { λ s tune. IsGoodTune tune × IsGoodDefaults s.defaults.now × IsGoodPaper s.paper.now × IsGoodHow s.how };
+    ghost takes = { λ s tune. IsGoodTune tune × IsGoodDefaults s.defaults.now × IsGoodPaper s.paper.now };
 
     ghost gives = { λ s tune outcome. IsOutcome s.defaults.now s.paper.now s.how tune outcome };
 
@@ -64,7 +63,6 @@ pub fn set_tunes<R: Threads + Sync, G: Gate + Sync>(
     requires tunes { All IsGoodTune tunes.now }
     requires defaults { IsGoodDefaults defaults.now }
     requires paper { IsGoodPaper paper.now }
-    requires how { IsGoodHow how }
     requires some { 1 ≤ jobs }
     requires few { jobs ≤ 64 }
     ensures { IfOk result (AreOutcomes defaults.now paper.now how tunes.now) }
@@ -92,7 +90,6 @@ pub fn set_all<R: Threads + Sync, G: Gate + Sync>(
 ) -> Result<Row<Outcome>, Memory>
     requires book { IsGoodBook book.now }
     requires paper { IsGoodPaper paper.now }
-    requires how { IsGoodHow how }
     requires some { 1 ≤ jobs }
     requires few { jobs ≤ 64 }
     ensures { IfOk result (AreOutcomes (defaults_of book.now.header) paper.now how book.now.tunes) }

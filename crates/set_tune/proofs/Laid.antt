@@ -22,8 +22,7 @@ use Rattle.abc_score.specs.Build.{IsScoreOf}
 use Rattle.abc_score.specs.Score.{score_with}
 use Rattle.abc_score.specs.Voices.{voices_read}
 use Rattle.mus_units.specs.declared.key.Key.{Key}
-use Rattle.mus_transpose.specs.Moved.{IsLike, IsMoved, move_from}
-use Rattle.mus_transpose.proofs.MovedGood.{moved_like}
+use Rattle.mus_transpose.specs.Moved.{IsMoved, move_from, voice_by}
 use Rattle.mus_score.specs.declared.score.Score.{Score}
 use Rattle.mus_score.specs.GoodScore.{IsGoodScore}
 use Rattle.mus_laid.specs.declared.laid.SystemMarks.{SystemMarks}
@@ -52,18 +51,22 @@ heard header tune flow score h some =
     subst (λ (s : Score). 1 ≤ length s.voices) (sym h.value)
     (has_voice header h.items flow (voices_read header h.items) (subst (λ (s : Score). 0 < s.measures) h.value some))
 
+-- a moved score has as many voices and measures
+abbrev IsLike : Score → Score → Type 0
+IsLike s t = (length t.voices ≡ length s.voices) × (t.measures ≡ s.measures)
+
 like_moved : (s t : Score) (key : Key) (by : ℤ) → IsMoved s key by (Some t) → IsLike s t
-like_moved s t key (pos zero) is = subst (IsLike s) (sym (same_Some t s (is.same refl))) (record { voices = refl; measures = refl; forced = refl; spread = refl })
-like_moved s t key (pos (suc n)) is = subst (IsLike s) (sym (is.higher (λ e. cc)).1) (moved_like (Some (move_from key (pos (suc n)))) s)
-like_moved s t key (negsuc n) is = subst (IsLike s) (sym (is.higher (λ e. cc)).1) (moved_like (Some (move_from key (negsuc n))) s)
+like_moved s t key (pos zero) is = subst (IsLike s) (sym (same_Some t s (is.same refl))) (refl, refl)
+like_moved s t key (pos (suc n)) is = subst (IsLike s) (sym (is.higher (λ e. cc)).1) (length-map s.voices (voice_by (Some (move_from key (pos (suc n))))), refl)
+like_moved s t key (negsuc n) is = subst (IsLike s) (sym (is.higher (λ e. cc)).1) (length-map s.voices (voice_by (Some (move_from key (negsuc n)))), refl)
 
 -- moved too
 pub heard_moved : (tune : TuneText) (defaults : Defaults) (how : How) (header : Header) (score : Score) → HasScore tune defaults how header score
     → 0 < score.measures → 1 ≤ length score.voices
 heard_moved tune defaults how header score has some =
     let like = like_moved has.written score header.key how.by has.moved in
-    let voices = like.voices in
-    let first = heard header tune how.flow has.written has.is.value (subst (λ n. 0 < n) like.measures some) in
+    let voices = like.0 in
+    let first = heard header tune how.flow has.written has.is.value (subst (λ n. 0 < n) like.1 some) in
     omega (arith, first, voices)
 
 -- ---- titles and composers

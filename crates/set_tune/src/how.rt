@@ -1,5 +1,5 @@
 ghost use Rattle.std.specs.Prelude.{◌≡◌};
-ghost use Rattle.set_tune.specs.How.{IsGoodHow, unmoved};
+ghost use Rattle.set_tune.specs.How.{unmoved};
 
 /// How a tune is set: with `flow` no bar is forced; its score is moved by so many semitones, -12 to
 /// 12.
@@ -12,8 +12,7 @@ pub struct How {
 impl How {
     /// As it is written.
     pub const fn unmoved(flow: bool) -> How
-        ensures value { result ≡ unmoved flow }
-        ensures good { IsGoodHow result }
+        ensures { result ≡ unmoved flow }
     {
         How { flow, by: 0 }
     }

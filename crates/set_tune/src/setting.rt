@@ -10,7 +10,7 @@ ghost use Rattle.lay_pages.specs.Filling.{first_tall};
 ghost use Rattle.lay_pages.specs.Titles.{title_block_of};
 ghost use Rattle.set_tune.specs.Blocks.{blocks_of};
 ghost use Rattle.mus_transpose.specs.Moved.{IsMoved};
-ghost use Rattle.set_tune.specs.How.{IsGoodHow, unmoved};
+ghost use Rattle.set_tune.specs.How.{unmoved};
 ghost use Rattle.set_tune.specs.Setting.{HasScore, IsLaid, IsLaidOut, IsLayoutRefusal, IsMoveRefusal, IsMovedRefusal, IsRefusal, IsScoreRefusal, IsSetTune, IsTallRefusal, IsWritten, layout_fault};
 
 use crate::blocks::blocks_of;
@@ -60,7 +60,6 @@ pub fn set_how(
     requires tune { IsGoodTune tune.now }
     requires defaults { IsGoodDefaults defaults.now }
     requires paper { IsGoodPaper paper.now }
-    requires how { IsGoodHow how }
     ensures set { IfOk result (IsSetTune tune.now defaults.now paper.now how) }
     ensures fault { IfErr result (IsRefusal tune.now defaults.now paper.now how) }
 {
@@ -84,7 +83,6 @@ fn moved_score(
 ) -> Result<(Header, Score), TuneError>
     requires tune { IsGoodTune tune.now }
     requires defaults { IsGoodDefaults defaults.now }
-    requires how { IsGoodHow how }
     ensures score { IfOk result (λ read. HasScore tune.now defaults.now how read.0 read.1) }
     ensures fault { IfErr result (IsMovedRefusal tune.now defaults.now how) }
 {
