@@ -3,7 +3,6 @@ ghost use Rattle.abc_header.specs.Papers.{IsGoodPaper};
 ghost use Rattle.gen_book.specs.Book.{book};
 ghost use Rattle.ps_text.specs.Document.{document};
 ghost use Rattle.ps_text.specs.Range.{IsSheet};
-ghost use Rattle.set_tune.specs.How.{IsGoodHow};
 ghost use Rattle.set_lists.specs.Listing.{AreListable};
 ghost use Rattle.set_lists.specs.Reports.{reports};
 ghost use Rattle.set_lists.specs.Trials.{trial_text};
@@ -51,7 +50,6 @@ fn set_text<R: Threads + Sync, G: Gate + Sync>(
 ) -> Result<SetBook, Memory>
     requires some { 1 ≤ jobs }
     requires few { jobs ≤ 64 }
-    requires how { IsGoodHow how }
     requires within { length text.now ≤ 2 ^ 30 }
     ensures paper { IfOk result (λ set. set.paper ≡ paper_in text.now) }
     ensures good { IfOk result (λ set. IsGoodPaper set.paper) }
@@ -92,7 +90,6 @@ pub(crate) fn set<R: Threads + Sync, O: Sink, E: Sink, G: Gate + Sync>(
 ) -> Status
     requires some { 1 ≤ jobs }
     requires few { jobs ≤ 64 }
-    requires how { IsGoodHow how }
     requires within { length text.now ≤ 8388608 }
     ensures { IsAnswer (command.Set how.flow jobs how.by) result text.now
         (record { before = O.taken output.old; after = O.taken output.new; count_before = O.faults output.old; count_after = O.faults output.new })
@@ -152,8 +149,7 @@ pub(crate) fn systems<R: Threads + Sync, O: Sink, E: Sink>(
     output: &mut O,
     errors: &mut E,
 ) -> Status
-    requires how { IsGoodHow how }
-    requires few { length text.now ≤ 8388608 }
+    requires { length text.now ≤ 8388608 }
     ensures { IsAnswer (command.Systems how.flow table how.by) result text.now
         (record { before = O.taken output.old; after = O.taken output.new; count_before = O.faults output.old; count_after = O.faults output.new })
         (record { before = E.taken errors.old; after = E.taken errors.new; count_before = E.faults errors.old; count_after = E.faults errors.new }) }

@@ -3,7 +3,6 @@ ghost use Rattle.abc_lines.specs.declared.book.TuneText as tune_text;
 ghost use Rattle.abc_lines.specs.Good.{IsGoodTune};
 ghost use Rattle.abc_header.specs.Good.{IsGoodDefaults};
 ghost use Rattle.abc_header.specs.Papers.{IsGoodPaper};
-ghost use Rattle.set_tune.specs.How.{IsGoodHow};
 ghost use Rattle.set_pages.specs.Press.{IsOpen};
 ghost use Rattle.abcps.specs.Pressed.{ArePrinted, AreTaken, IsPrinted};
 
@@ -37,7 +36,6 @@ fn take_batch<R: Threads + Sync, G: Gate + Sync>(
     requires counted { All (λ tune. 1 ≤ tune.ordinal) batch.now }
     requires defaults { IsGoodDefaults defaults.now }
     requires paper { IsGoodPaper paper.now }
-    requires how { IsGoodHow how }
     requires some { 1 ≤ jobs }
     requires few { jobs ≤ 64 }
     requires open { IsOpen run.old.press }
@@ -65,7 +63,6 @@ fn print_tunes<R: Threads + Sync, O: Sink, G: Gate + Sync>(
     requires counted { All (λ tune. 1 ≤ tune.ordinal) tunes.now }
     requires defaults { IsGoodDefaults defaults.now }
     requires paper { IsGoodPaper paper.now }
-    requires how { IsGoodHow how }
     requires some { 1 ≤ jobs }
     requires few { jobs ≤ 64 }
     ensures { ArePrinted defaults.now paper.now how tunes.now (record { before = O.taken output.old; after = O.taken output.new; count_before = O.faults output.old; count_after = O.faults output.new }) result }

@@ -1,4 +1,4 @@
-ghost use Rattle.std.specs.Prelude.{◌≡◌, ◌≤◌, ◌<◌, ◌^◌, ◌≤ℤ◌, ℕ, negsuc, pos, length, IfErr, IfOk, None, Some};
+ghost use Rattle.std.specs.Prelude.{◌≡◌, ◌≤◌, ◌<◌, ◌^◌, ℕ, length, IfErr, IfOk, None, Some};
 ghost use Rattle.std.specs.Option.{option_copied};
 ghost use Rattle.mus_score.specs.GoodScore.{IsGoodScore};
 ghost use Rattle.abc_lines.specs.Good.{IsGoodTune};
@@ -126,9 +126,7 @@ fn move_score(
     header: &Header,
     by: i8,
 ) -> Result<Score, TuneError>
-    requires good { IsGoodScore written }
-    requires down { negsuc 11 ≤ℤ by }
-    requires up { by ≤ℤ pos 12 }
+    requires { IsGoodScore written }
     ensures moved { IfOk result (λ score. IsMoved written header.now.key by (Some score)) }
     ensures good { IfOk result IsGoodScore }
     ensures fault { IfErr result (IsMoveRefusal tune.now written header.now.key by) }

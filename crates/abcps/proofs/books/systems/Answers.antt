@@ -17,6 +17,6 @@ write_systems-requires g c =
 pub returns : goal.returns
 returns g c =
     answer_by (command.Systems c.args.how.flow c.args.table c.args.how.by) c.args.text.now (systems_called c.args.table c.as_slice.result.now)
-    (calls_systems c.lists_the_book.ensures c.args.how c.args.table c.args.text.now c.as_slice.result.now (let few = c.requires.few in omega (arith, few))
+    (calls_systems c.lists_the_book.ensures c.args.how c.args.table c.args.text.now c.as_slice.result.now (let few = c.requires in omega (arith, few))
     (subst (λ outcomes. AreSet c.args.how c.args.text.now outcomes) (sym c.as_slice.ensures) c.in-Ok.ensures.set))
     _ _ c.write_systems.result c.write_systems.ensures
