@@ -1,8 +1,7 @@
 ghost use Rattle.std.specs.Prelude.{◌≡◌};
 ghost use Rattle.set_tune.specs.How.{unmoved};
 
-/// How a tune is set: with `flow` no bar is forced; its score is moved by so many semitones, -12 to
-/// 12.
+/// How a tune is set: with `flow` no bar is forced; its score is moved by so many semitones.
 #[derive(Clone, Copy, PartialEq, Eq)]
 pub struct How {
     pub flow: bool,
