@@ -1,6 +1,5 @@
 -- A text without the blanks at its ends is what stands between blanks in it.
-use Rattle.std.proofs.Common.{◌≡◌, refl, sym, ap, ◌∙◌, ℕ, suc, ◌+◌, ◌-◌, List, [], ◌∷◌, ◌++◌, Bool, true, false, length, take, drop, arith, cond, length-append}
-use Rattle.std.specs.Prelude.{◌==◌, not, reverse}
+use Rattle.std.proofs.Common.{◌≡◌, refl, sym, ap, ◌∙◌, ℕ, suc, ◌+◌, ◌-◌, List, [], ◌∷◌, ◌++◌, Bool, true, false, length, take, drop, arith, cond, length-append, ◌==◌, not, reverse}
 use Rattle.std.specs.List.{list_all, prefix_len, suffix_len}
 use Rattle.std.proofs.lemmas.Bool.{and_parts, eqb-true, eqb-false, not-true}
 use Rattle.std.proofs.lemmas.List.{take-append-drop, append-nil, reverse-append, length-reverse}
@@ -99,7 +98,7 @@ trimmed-between text =
           ∙ ap (λ t. take (prefix_len is_blank text) text ++ t) (sym (take-append-drop (length (behind_blanks text) - suffix_len is_blank (behind_blanks text)) (behind_blanks text)));
     }
 
-stays : (b : ℕ) (s : List ℕ) → is_blank b ≡ false → behind_blanks (b ∷ s) ≡ b ∷ s
+pub stays : (b : ℕ) (s : List ℕ) → is_blank b ≡ false → behind_blanks (b ∷ s) ≡ b ∷ s
 stays b s e = rw e refl
 
 core-left : (core back : List ℕ) → list_all (λ b. not (is_blank b)) core ≡ true → list_all is_blank back ≡ true → ended (behind_blanks (core ++ back)) ≡ core

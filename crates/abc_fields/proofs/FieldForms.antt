@@ -1,14 +1,11 @@
 -- The function that the code follows and the relation that is meant agree: a line reads as a field
 -- exactly where it says it, and is refused exactly where it says nothing.
-use Rattle.std.proofs.Common.{◌≡◌, refl, sym, ap, ◌∙◌, subst, ℕ, List, Bool, true, false}
-use Rattle.std.specs.Prelude.{◌==◌, ◌||◌, Option, Some, None, Result, Ok, Err, IfOk, IfErr, unwrap_or, codes}
+use Rattle.std.proofs.Common.{◌≡◌, refl, sym, ap, ◌∙◌, subst, ℕ, List, Bool, true, false, ◌==◌, ◌||◌, Option, Some, None, Result, Ok, Err, IfOk, IfErr, unwrap_or, codes}
 use Rattle.std.specs.Str.{bytes_eq}
-use Rattle.std.proofs.lemmas.Bool.{eqb-true, not-true}
+use Rattle.std.proofs.lemmas.Bool.{eqb-true, not-true, or_parts}
 use Rattle.std.proofs.lemmas.Slice.Eq.{bytes_eq-Decides}
-use Rattle.mus_units.specs.declared.key.Meter.{Meter}
 use Rattle.mus_units.specs.declared.key.Spread.{Spread}
 use Rattle.mus_units.specs.declared.key.Spread.TheVariants as spreads
-use Rattle.mus_units.specs.declared.value.Frac.{Frac}
 use Rattle.abc_lines.specs.declared.book.Line.{Line}
 use Rattle.abc_lines.specs.declared.fault.FaultKind.{FaultKind}
 use Rattle.abc_lines.specs.declared.fault.FaultKind.TheVariants as faults
@@ -18,8 +15,6 @@ use Rattle.abc_lines.specs.declared.kind.LineKind.{LineKind}
 use Rattle.abc_lines.specs.declared.kind.LineKind.TheVariants as kinds
 use Rattle.abc_lines.specs.Kinds.{kind_of, field_text}
 use Rattle.abc_fields.specs.declared.directive.Breaks.{Breaks}
-use Rattle.abc_fields.specs.declared.key.KeyText.{KeyText}
-use Rattle.abc_fields.specs.declared.voice.VoiceDef.{VoiceDef}
 use Rattle.abc_fields.specs.declared.field.Field.{Field}
 use Rattle.abc_fields.specs.declared.field.Field.TheVariants as fields
 use Rattle.abc_fields.specs.declared.field.FieldError.{FieldError}
@@ -34,7 +29,7 @@ use Rattle.abc_fields.specs.FieldSpelling.{SaysBreaks, SaysSpread, is_known, Nam
 use Rattle.abc_fields.specs.KeySpelling.{SaysKey}
 use Rattle.abc_fields.specs.VoiceSpelling.{SaysVoice}
 use Rattle.abc_fields.proofs.KeyForms.{key-says, key-read}
-use Rattle.abc_fields.proofs.MeterForms.{none_is_some, meter-says, meter-read, unit-says, unit-read}
+use Rattle.abc_fields.proofs.MeterForms.{none_is_some, meter-says, meter-read, unit-says, unit-read, same_bytes}
 use Rattle.abc_fields.proofs.VoiceForms.{voice-says, voice-read}
 
 abbrev Reading : Type 0
@@ -69,21 +64,11 @@ err_same kind other e = ap (kind_or kind) e
 says-at : (letter : ℕ) (text : List ℕ) (read field : Field) → NamedSays letter text read → ◌≡◌ {A = Reading} (Ok read) (Ok field) → NamedSays letter text field
 says-at letter text read field says h = subst (λ f. NamedSays letter text f) (ok_same read field h) says
 
-key_case : (letter : ℕ) (text : List ℕ) (field : Field) (o : Option KeyText) → letter ≡ 75 → key_of text ≡ o → key_field o ≡ Ok field → NamedSays letter text field
-key_case letter text field None is e h = absurd (err_is_ok field faults.BadKey h)
-key_case letter text field (Some key) is e h = says-at letter text (fields.Key key) field (is, key-says text key e) h
-
-meter_case : (letter : ℕ) (text : List ℕ) (field : Field) (o : Option Meter) → letter ≡ 77 → meter_of text ≡ o → meter_field o ≡ Ok field → NamedSays letter text field
-meter_case letter text field None is e h = absurd (err_is_ok field faults.BadMeter h)
-meter_case letter text field (Some meter) is e h = says-at letter text (fields.Meter meter) field (is, meter-says text meter e) h
-
-unit_case : (letter : ℕ) (text : List ℕ) (field : Field) (o : Option Frac) → letter ≡ 76 → unit_of text ≡ o → unit_field o ≡ Ok field → NamedSays letter text field
-unit_case letter text field None is e h = absurd (err_is_ok field faults.BadUnit h)
-unit_case letter text field (Some unit) is e h = says-at letter text (fields.Unit unit) field (is, unit-says text unit e) h
-
-voice_case : (letter : ℕ) (text : List ℕ) (field : Field) (o : Option VoiceDef) → letter ≡ 86 → voice_of text ≡ o → voice_field o ≡ Ok field → NamedSays letter text field
-voice_case letter text field None is e h = absurd (err_is_ok field faults.BadVoice h)
-voice_case letter text field (Some voice) is e h = says-at letter text (fields.Voice voice) field (is, voice-says text voice e) h
+-- what is read of a text, where there is something, is the field
+read_case : {X : Type 0} (letter : ℕ) (text : List ℕ) (field : Field) (kind : FaultKind) (wrap : X → Field) (reading : Option X → Reading) (o : Option X) → reading None ≡ Err kind → ((x : X) → reading (Some x) ≡ Ok (wrap x))
+    → ((x : X) → o ≡ Some x → NamedSays letter text (wrap x)) → reading o ≡ Ok field → NamedSays letter text field
+read_case letter text field kind wrap reading None none some says h = absurd (err_is_ok field kind (sym none ∙ h))
+read_case letter text field kind wrap reading (Some x) none some says h = says-at letter text (wrap x) field (says x refl) (sym (some x) ∙ h)
 
 record Unread (letter : ℕ) : Type 0 where
   key : (letter == 75) ≡ false
@@ -102,10 +87,10 @@ written_says letter text false false false false un e f g h = rw (e, f, g, h) (r
 named_if : (letter : ℕ) (text : List ℕ) (field : Field) (k m l v : Bool) → (letter == 75) ≡ k → (letter == 77) ≡ m → (letter == 76) ≡ l → (letter == 86) ≡ v
     → named_field letter text ≡ Ok field → NamedSays letter text field
 unfolding named_field
-named_if letter text field true m l v e f g d h = key_case letter text field (key_of text) (eqb-true letter 75 e) refl (rw e at h)
-named_if letter text field false true l v e f g d h = meter_case letter text field (meter_of text) (eqb-true letter 77 f) refl (rw (e, f) at h)
-named_if letter text field false false true v e f g d h = unit_case letter text field (unit_of text) (eqb-true letter 76 g) refl (rw (e, f, g) at h)
-named_if letter text field false false false true e f g d h = voice_case letter text field (voice_of text) (eqb-true letter 86 d) refl (rw (e, f, g, d) at h)
+named_if letter text field true m l v e f g d h = read_case letter text field faults.BadKey fields.Key key_field (key_of text) refl (λ key. refl) (λ key said. (eqb-true letter 75 e, key-says text key said)) (rw e at h)
+named_if letter text field false true l v e f g d h = read_case letter text field faults.BadMeter fields.Meter meter_field (meter_of text) refl (λ meter. refl) (λ meter said. (eqb-true letter 77 f, meter-says text meter said)) (rw (e, f) at h)
+named_if letter text field false false true v e f g d h = read_case letter text field faults.BadUnit fields.Unit unit_field (unit_of text) refl (λ unit. refl) (λ unit said. (eqb-true letter 76 g, unit-says text unit said)) (rw (e, f, g) at h)
+named_if letter text field false false false true e f g d h = read_case letter text field faults.BadVoice fields.Voice voice_field (voice_of text) refl (λ voice. refl) (λ voice said. (eqb-true letter 86 d, voice-says text voice said)) (rw (e, f, g, d) at h)
 named_if letter text field false false false false e f g d h =
     says-at letter text (written_field letter text) field
     (written_says letter text (letter == 119) (letter == 84) (letter == 67) (letter == 81) (record { key = e; meter = f; unit = g; voice = d }) refl refl refl refl)
@@ -116,63 +101,28 @@ named-says letter text field h = named_if letter text field (letter == 75) (lett
 
 -- What a letter and a text say is read.
 
-named-key : (text : List ℕ) → named_field 75 text ≡ key_field (key_of text)
-unfolding named_field
-named-key text = refl
-
-named-meter : (text : List ℕ) → named_field 77 text ≡ meter_field (meter_of text)
-unfolding named_field
-named-meter text = refl
-
-named-unit : (text : List ℕ) → named_field 76 text ≡ unit_field (unit_of text)
-unfolding named_field
-named-unit text = refl
-
-named-voice : (text : List ℕ) → named_field 86 text ≡ voice_field (voice_of text)
-unfolding named_field
-named-voice text = refl
-
-named-words : (text : List ℕ) → named_field 119 text ≡ Ok (fields.Words text)
-unfolding named_field
-named-words text = refl
-
-named-title : (text : List ℕ) → named_field 84 text ≡ Ok (fields.Title text)
-unfolding named_field
-named-title text = refl
-
-named-composer : (text : List ℕ) → named_field 67 text ≡ Ok (fields.Composer text)
-unfolding named_field
-named-composer text = refl
-
-named-tempo : (text : List ℕ) → named_field 81 text ≡ Ok (fields.Tempo text)
-unfolding named_field
-named-tempo text = refl
-
-or-false : (p q : Bool) → (p || q) ≡ false → (p ≡ false) × (q ≡ false)
-or-false true q e = cc
-or-false false q e = (refl, e)
-
 named-other : (letter : ℕ) (text : List ℕ) → is_known letter ≡ false → named_field letter text ≡ Ok fields.Other
 unfolding named_field
 named-other letter text un =
-    let parts = or-false ((letter == 75 || letter == 77) || (letter == 76 || letter == 86)) ((letter == 119 || letter == 84) || (letter == 67 || letter == 81)) un in
-    let read = or-false (letter == 75 || letter == 77) (letter == 76 || letter == 86) parts.0 in
-    let one = or-false (letter == 75) (letter == 77) read.0 in
-    let two = or-false (letter == 76) (letter == 86) read.1 in
-    let kept = or-false (letter == 119 || letter == 84) (letter == 67 || letter == 81) parts.1 in
-    let three = or-false (letter == 119) (letter == 84) kept.0 in
-    let four = or-false (letter == 67) (letter == 81) kept.1 in
+    let parts = or_parts ((letter == 75 || letter == 77) || (letter == 76 || letter == 86)) ((letter == 119 || letter == 84) || (letter == 67 || letter == 81)) un in
+    let read = or_parts (letter == 75 || letter == 77) (letter == 76 || letter == 86) parts.0 in
+    let one = or_parts (letter == 75) (letter == 77) read.0 in
+    let two = or_parts (letter == 76) (letter == 86) read.1 in
+    let kept = or_parts (letter == 119 || letter == 84) (letter == 67 || letter == 81) parts.1 in
+    let three = or_parts (letter == 119) (letter == 84) kept.0 in
+    let four = or_parts (letter == 67) (letter == 81) kept.1 in
     rw (one.0, one.1, two.0, two.1, three.0, three.1, four.0, four.1) refl
 
 pub named-read : (letter : ℕ) (text : List ℕ) (field : Field) → NamedSays letter text field → named_field letter text ≡ Ok field
-named-read letter text (fields.Key key) says = ap (λ b. named_field b text) says.0 ∙ named-key text ∙ ap key_field (key-read text key says.1)
-named-read letter text (fields.Meter meter) says = ap (λ b. named_field b text) says.0 ∙ named-meter text ∙ ap meter_field (meter-read text meter says.1)
-named-read letter text (fields.Unit unit) says = ap (λ b. named_field b text) says.0 ∙ named-unit text ∙ ap unit_field (unit-read text unit says.1)
-named-read letter text (fields.Voice voice) says = ap (λ b. named_field b text) says.0 ∙ named-voice text ∙ ap voice_field (voice-read text voice says.1)
-named-read letter text (fields.Words words) says = ap (λ b. named_field b text) says.0 ∙ named-words text ∙ ap (λ t. Ok (fields.Words t)) (sym says.1)
-named-read letter text (fields.Title title) says = ap (λ b. named_field b text) says.0 ∙ named-title text ∙ ap (λ t. Ok (fields.Title t)) (sym says.1)
-named-read letter text (fields.Composer composer) says = ap (λ b. named_field b text) says.0 ∙ named-composer text ∙ ap (λ t. Ok (fields.Composer t)) (sym says.1)
-named-read letter text (fields.Tempo tempo) says = ap (λ b. named_field b text) says.0 ∙ named-tempo text ∙ ap (λ t. Ok (fields.Tempo t)) (sym says.1)
+unfolding named_field
+named-read letter text (fields.Key key) says = ap (λ b. named_field b text) says.0 ∙ ap key_field (key-read text key says.1)
+named-read letter text (fields.Meter meter) says = ap (λ b. named_field b text) says.0 ∙ ap meter_field (meter-read text meter says.1)
+named-read letter text (fields.Unit unit) says = ap (λ b. named_field b text) says.0 ∙ ap unit_field (unit-read text unit says.1)
+named-read letter text (fields.Voice voice) says = ap (λ b. named_field b text) says.0 ∙ ap voice_field (voice-read text voice says.1)
+named-read letter text (fields.Words words) says = ap (λ b. named_field b text) says.0 ∙ ap (λ t. Ok (fields.Words t)) (sym says.1)
+named-read letter text (fields.Title title) says = ap (λ b. named_field b text) says.0 ∙ ap (λ t. Ok (fields.Title t)) (sym says.1)
+named-read letter text (fields.Composer composer) says = ap (λ b. named_field b text) says.0 ∙ ap (λ t. Ok (fields.Composer t)) (sym says.1)
+named-read letter text (fields.Tempo tempo) says = ap (λ b. named_field b text) says.0 ∙ ap (λ t. Ok (fields.Tempo t)) (sym says.1)
 named-read letter text (fields.Breaks breaks) says = absurd says
 named-read letter text (fields.Spread spread) says = absurd says
 named-read letter text fields.Other says = named-other letter text (not-true (is_known letter) says)
@@ -182,29 +132,19 @@ named-read letter text fields.Other says = named-other letter text (not-true (is
 bad-at : (letter : ℕ) (text : List ℕ) (read kind : FaultKind) → NamedBad letter text read → ◌≡◌ {A = Reading} (Err read) (Err kind) → NamedBad letter text kind
 bad-at letter text read kind bad h = subst (λ k. NamedBad letter text k) (err_same read kind h) bad
 
-bad_key : (letter : ℕ) (text : List ℕ) (kind : FaultKind) (o : Option KeyText) → letter ≡ 75 → key_of text ≡ o → key_field o ≡ Err kind → NamedBad letter text kind
-bad_key letter text kind (Some key) is e h = absurd (ok_is_err (fields.Key key) kind h)
-bad_key letter text kind None is e h = bad-at letter text faults.BadKey kind (is, λ key says. none_is_some key (sym e ∙ key-read text key says)) h
-
-bad_meter : (letter : ℕ) (text : List ℕ) (kind : FaultKind) (o : Option Meter) → letter ≡ 77 → meter_of text ≡ o → meter_field o ≡ Err kind → NamedBad letter text kind
-bad_meter letter text kind (Some meter) is e h = absurd (ok_is_err (fields.Meter meter) kind h)
-bad_meter letter text kind None is e h = bad-at letter text faults.BadMeter kind (is, λ meter says. none_is_some meter (sym e ∙ meter-read text meter says)) h
-
-bad_unit : (letter : ℕ) (text : List ℕ) (kind : FaultKind) (o : Option Frac) → letter ≡ 76 → unit_of text ≡ o → unit_field o ≡ Err kind → NamedBad letter text kind
-bad_unit letter text kind (Some unit) is e h = absurd (ok_is_err (fields.Unit unit) kind h)
-bad_unit letter text kind None is e h = bad-at letter text faults.BadUnit kind (is, λ unit says. none_is_some unit (sym e ∙ unit-read text unit says)) h
-
-bad_voice : (letter : ℕ) (text : List ℕ) (kind : FaultKind) (o : Option VoiceDef) → letter ≡ 86 → voice_of text ≡ o → voice_field o ≡ Err kind → NamedBad letter text kind
-bad_voice letter text kind (Some voice) is e h = absurd (ok_is_err (fields.Voice voice) kind h)
-bad_voice letter text kind None is e h = bad-at letter text faults.BadVoice kind (is, λ voice says. none_is_some voice (sym e ∙ voice-read text voice says)) h
+-- and where there is nothing, the fault is its own
+bad_case : {X : Type 0} (letter : ℕ) (text : List ℕ) (read kind : FaultKind) (wrap : X → Field) (reading : Option X → Reading) (o : Option X) → reading None ≡ Err read → ((x : X) → reading (Some x) ≡ Ok (wrap x))
+    → (o ≡ None → NamedBad letter text read) → reading o ≡ Err kind → NamedBad letter text kind
+bad_case letter text read kind wrap reading None none some bad h = bad-at letter text read kind (bad refl) (sym none ∙ h)
+bad_case letter text read kind wrap reading (Some x) none some bad h = absurd (ok_is_err (wrap x) kind (sym (some x) ∙ h))
 
 bad_if : (letter : ℕ) (text : List ℕ) (kind : FaultKind) (k m l v : Bool) → (letter == 75) ≡ k → (letter == 77) ≡ m → (letter == 76) ≡ l → (letter == 86) ≡ v
     → named_field letter text ≡ Err kind → NamedBad letter text kind
 unfolding named_field
-bad_if letter text kind true m l v e f g d h = bad_key letter text kind (key_of text) (eqb-true letter 75 e) refl (rw e at h)
-bad_if letter text kind false true l v e f g d h = bad_meter letter text kind (meter_of text) (eqb-true letter 77 f) refl (rw (e, f) at h)
-bad_if letter text kind false false true v e f g d h = bad_unit letter text kind (unit_of text) (eqb-true letter 76 g) refl (rw (e, f, g) at h)
-bad_if letter text kind false false false true e f g d h = bad_voice letter text kind (voice_of text) (eqb-true letter 86 d) refl (rw (e, f, g, d) at h)
+bad_if letter text kind true m l v e f g d h = bad_case letter text faults.BadKey kind fields.Key key_field (key_of text) refl (λ key. refl) (λ none. (eqb-true letter 75 e, λ key says. none_is_some key (sym none ∙ key-read text key says))) (rw e at h)
+bad_if letter text kind false true l v e f g d h = bad_case letter text faults.BadMeter kind fields.Meter meter_field (meter_of text) refl (λ meter. refl) (λ none. (eqb-true letter 77 f, λ meter says. none_is_some meter (sym none ∙ meter-read text meter says))) (rw (e, f) at h)
+bad_if letter text kind false false true v e f g d h = bad_case letter text faults.BadUnit kind fields.Unit unit_field (unit_of text) refl (λ unit. refl) (λ none. (eqb-true letter 76 g, λ unit says. none_is_some unit (sym none ∙ unit-read text unit says))) (rw (e, f, g) at h)
+bad_if letter text kind false false false true e f g d h = bad_case letter text faults.BadVoice kind fields.Voice voice_field (voice_of text) refl (λ voice. refl) (λ none. (eqb-true letter 86 d, λ voice says. none_is_some voice (sym none ∙ voice-read text voice says))) (rw (e, f, g, d) at h)
 bad_if letter text kind false false false false e f g d h = absurd (ok_is_err (written_field letter text) kind (rw (e, f, g, d) at h))
 
 pub named-bad : (letter : ℕ) (text : List ℕ) (kind : FaultKind) → named_field letter text ≡ Err kind → NamedBad letter text kind
@@ -212,33 +152,19 @@ named-bad letter text kind h = bad_if letter text kind (letter == 75) (letter ==
 
 -- Text of such a letter in no good form is refused.
 
-refused_key : (text : List ℕ) (o : Option KeyText) → key_of text ≡ o → ((key : KeyText) → SaysKey text key → ⊥) → key_field o ≡ Err faults.BadKey
-refused_key text None e bad = refl
-refused_key text (Some key) e bad = absurd (bad key (key-says text key e))
-
-refused_meter : (text : List ℕ) (o : Option Meter) → meter_of text ≡ o → ((meter : Meter) → SaysMeter text meter → ⊥) → meter_field o ≡ Err faults.BadMeter
-refused_meter text None e bad = refl
-refused_meter text (Some meter) e bad = absurd (bad meter (meter-says text meter e))
-
-refused_unit : (text : List ℕ) (o : Option Frac) → unit_of text ≡ o → ((unit : Frac) → SaysUnit text unit → ⊥) → unit_field o ≡ Err faults.BadUnit
-refused_unit text None e bad = refl
-refused_unit text (Some unit) e bad = absurd (bad unit (unit-says text unit e))
-
-refused_voice : (text : List ℕ) (o : Option VoiceDef) → voice_of text ≡ o → ((voice : VoiceDef) → SaysVoice text voice → ⊥) → voice_field o ≡ Err faults.BadVoice
-refused_voice text None e bad = refl
-refused_voice text (Some voice) e bad = absurd (bad voice (voice-says text voice e))
+refused : {X : Type 0} (field : Option X → Reading) (Says : X → Type 0) (kind : FaultKind) (o : Option X) → field None ≡ Err kind → ((x : X) → o ≡ Some x → Says x) → ((x : X) → Says x → ⊥) → field o ≡ Err kind
+refused field Says kind None none says bad = none
+refused field Says kind (Some x) none says bad = absurd (bad x (says x refl))
 
 pub named-refused : (letter : ℕ) (text : List ℕ) (kind : FaultKind) → NamedBad letter text kind → named_field letter text ≡ Err kind
-named-refused letter text faults.BadKey bad = ap (λ b. named_field b text) bad.0 ∙ named-key text ∙ refused_key text (key_of text) refl bad.1
-named-refused letter text faults.BadMeter bad = ap (λ b. named_field b text) bad.0 ∙ named-meter text ∙ refused_meter text (meter_of text) refl bad.1
-named-refused letter text faults.BadUnit bad = ap (λ b. named_field b text) bad.0 ∙ named-unit text ∙ refused_unit text (unit_of text) refl bad.1
-named-refused letter text faults.BadVoice bad = ap (λ b. named_field b text) bad.0 ∙ named-voice text ∙ refused_voice text (voice_of text) refl bad.1
+unfolding named_field
+named-refused letter text faults.BadKey bad = ap (λ b. named_field b text) bad.0 ∙ refused key_field (SaysKey text) faults.BadKey (key_of text) refl (key-says text) bad.1
+named-refused letter text faults.BadMeter bad = ap (λ b. named_field b text) bad.0 ∙ refused meter_field (SaysMeter text) faults.BadMeter (meter_of text) refl (meter-says text) bad.1
+named-refused letter text faults.BadUnit bad = ap (λ b. named_field b text) bad.0 ∙ refused unit_field (SaysUnit text) faults.BadUnit (unit_of text) refl (unit-says text) bad.1
+named-refused letter text faults.BadVoice bad = ap (λ b. named_field b text) bad.0 ∙ refused voice_field (SaysVoice text) faults.BadVoice (voice_of text) refl (voice-says text) bad.1
 named-refused letter text _ bad = absurd bad
 
 -- Directives.
-
-same_name : (name word : List ℕ) → bytes_eq name word ≡ true → name ≡ word
-same_name name word e = (bytes_eq-Decides name word).0 e
 
 is_name : (name word : List ℕ) → name ≡ word → bytes_eq name word ≡ true
 is_name name word e = (bytes_eq-Decides name word).1 e
@@ -273,30 +199,19 @@ spread-at text read spread says h = subst (λ s. SaysSpread text s) (ap (λ o. u
 spread_if : (text : List ℕ) (spread : Spread) (none octave pitch : Bool) → bytes_eq text (codes "not") ≡ none → bytes_eq text (codes "octave") ≡ octave → bytes_eq text (codes "pitch") ≡ pitch
     → spread_of text ≡ Some spread → SaysSpread text spread
 unfolding spread_of
-spread_if text spread true octave pitch e f g h = spread-at text spreads.Not spread (same_name text (codes "not") e) (rw e at h)
-spread_if text spread false true pitch e f g h = spread-at text spreads.Octave spread (same_name text (codes "octave") f) (rw (e, f) at h)
-spread_if text spread false false true e f g h = spread-at text spreads.Pitch spread (same_name text (codes "pitch") g) (rw (e, f, g) at h)
+spread_if text spread true octave pitch e f g h = spread-at text spreads.Not spread (same_bytes text (codes "not") e) (rw e at h)
+spread_if text spread false true pitch e f g h = spread-at text spreads.Octave spread (same_bytes text (codes "octave") f) (rw (e, f) at h)
+spread_if text spread false false true e f g h = spread-at text spreads.Pitch spread (same_bytes text (codes "pitch") g) (rw (e, f, g) at h)
 spread_if text spread false false false e f g h = absurd (none_is_some spread (rw (e, f, g) at h))
 
 pub spread-says : (text : List ℕ) (spread : Spread) → spread_of text ≡ Some spread → SaysSpread text spread
 spread-says text spread h = spread_if text spread (bytes_eq text (codes "not")) (bytes_eq text (codes "octave")) (bytes_eq text (codes "pitch")) refl refl refl h
 
-spread-not : spread_of (codes "not") ≡ Some spreads.Not
-unfolding spread_of
-spread-not = refl
-
-spread-octave : spread_of (codes "octave") ≡ Some spreads.Octave
-unfolding spread_of
-spread-octave = refl
-
-spread-pitch : spread_of (codes "pitch") ≡ Some spreads.Pitch
-unfolding spread_of
-spread-pitch = refl
-
 pub spread-read : (text : List ℕ) (spread : Spread) → SaysSpread text spread → spread_of text ≡ Some spread
-spread-read text spreads.Not says = ap spread_of says ∙ spread-not
-spread-read text spreads.Octave says = ap spread_of says ∙ spread-octave
-spread-read text spreads.Pitch says = ap spread_of says ∙ spread-pitch
+unfolding spread_of
+spread-read text spreads.Not says = ap spread_of says
+spread-read text spreads.Octave says = ap spread_of says
+spread-read text spreads.Pitch says = ap spread_of says
 
 two_names : (name : List ℕ) → name ≡ codes "linebreak" → name ≡ codes "propagate-accidentals" → ⊥
 two_names name one two = let same : bytes_eq (codes "linebreak") (codes "propagate-accidentals") ≡ true = is_name (codes "linebreak") (codes "propagate-accidentals") (sym one ∙ two) in cc
@@ -312,8 +227,8 @@ spread_case name rest (Some spread) differs is e = (is, spread-says rest spread 
 directive_if : (name rest : List ℕ) (linebreak propagate : Bool) → bytes_eq name (codes "linebreak") ≡ linebreak → bytes_eq name (codes "propagate-accidentals") ≡ propagate
     → DirectiveSays name rest (directive_field name rest)
 unfolding directive_field
-directive_if name rest true propagate e f = rw e (breaks_case name rest (breaks_of rest) (same_name name (codes "linebreak") e) refl)
-directive_if name rest false true e f = rw (e, f) (spread_case name rest (spread_of rest) e (same_name name (codes "propagate-accidentals") f) refl)
+directive_if name rest true propagate e f = rw e (breaks_case name rest (breaks_of rest) (same_bytes name (codes "linebreak") e) refl)
+directive_if name rest false true e f = rw (e, f) (spread_case name rest (spread_of rest) e (same_bytes name (codes "propagate-accidentals") f) refl)
 directive_if name rest false false e f = rw (e, f) (λ breaks says. not_name name (codes "linebreak") e says.0, λ spread says. not_name name (codes "propagate-accidentals") f says.0)
 
 -- a directive says what it reads as

@@ -1,11 +1,11 @@
 -- A text reads as a key exactly where a good form of it spells the words of the text.
-use Rattle.std.proofs.Common.{◌≡◌, refl, sym, ap, ◌∙◌, subst, ℕ, List, [], ◌∷◌, Bool, true, false, map, inl, inr}
-use Rattle.std.specs.Prelude.{◌==◌, ◌&&◌, ◌⊎◌, pos, Option, Some, None, codes}
+use Rattle.std.proofs.Common.{◌≡◌, refl, sym, ap, ◌∙◌, subst, ℕ, List, [], ◌∷◌, Bool, true, false, map, inl, inr, ◌==◌, ◌⊎◌, pos, Option, Some, None, codes}
 use Rattle.std.specs.Char.{to_ascii_lowercase}
 use Rattle.std.specs.Option.{option_map, option_and_then, option_or}
 use Rattle.std.specs.Str.{bytes_eq}
 use Rattle.std.proofs.lemmas.Bool.{eqb-true, eqb-false, ne_eqb}
 use Rattle.std.proofs.lemmas.Slice.Eq.{bytes_eq-Decides}
+use Rattle.std.proofs.Math.Bool.{and-false}
 use Rattle.mus_units.specs.declared.pitch.Alter.{Alter}
 use Rattle.mus_units.specs.declared.pitch.Alter.TheVariants as alters
 use Rattle.mus_units.specs.declared.pitch.Letter.{Letter}
@@ -20,8 +20,7 @@ use Rattle.abc_fields.specs.declared.key.Tonic.{Tonic}
 use Rattle.abc_fields.specs.Keys.{natural_of, signed, key_words, major_like, minor_like, mode_named, mode_by_three, mode_of, start_of, start_with, with_next_mode, without_mode, by_mode, mode_on, altered, tonic_of, fixed_start, first_words, key_by, key_from, key_of}
 use Rattle.abc_fields.specs.Words.{words_of}
 use Rattle.abc_fields.specs.KeySpelling.{letter_byte, word_spelled, ModeName, maj_name, ion_name, mix_name, lyd_name, min_name, aeo_name, dor_name, phr_name, loc_name, three_letters, mode_of_name, ModeForm, minor_form, named_form, mode_spelled, IsGoodMode, mode_meant, Accident, plain_tonic, sharp_tonic, flat_tonic, accident_spelled, accident_meant, tonic_spelled, KeyHead, empty_head, none_head, bagpipe_head, signed_bagpipe_head, tonic_head, written_head, parted_head, kept_head, head_spelled, NoMode, BeginsNoKey, BeginOther, IsGoodHead, head_meant, SaysKey}
-use Rattle.abc_fields.proofs.MeterForms.{none_is_some}
-use Rattle.abc_fields.proofs.VoiceForms.{same_text}
+use Rattle.abc_fields.proofs.MeterForms.{none_is_some, same_bytes}
 use Rattle.abc_fields.proofs.WordForms.{words-spelled, words-of-spelled}
 use Rattle.abc_fields.proofs.KeyWordForms.{natural-takes, words-take, words-read}
 
@@ -29,29 +28,18 @@ use Rattle.abc_fields.proofs.KeyWordForms.{natural-takes, words-take, words-read
 
 three_read : (name : ModeName) → mode_named (three_letters name) ≡ Some (mode_of_name name)
 three_read maj_name = refl
-three_read ion_name = refl
-three_read mix_name = refl
-three_read lyd_name = refl
-three_read min_name = refl
-three_read aeo_name = refl
-three_read dor_name = refl
-three_read phr_name = refl
-three_read loc_name = refl
-
-and_none : (x : Bool) → (x && false) ≡ false
-and_none true = refl
-and_none false = refl
+three_read _ = refl
 
 longer : (a b : ℕ) (s : List ℕ) → bytes_eq (a ∷ b ∷ s) (codes "m") ≡ false
-longer a b s = and_none (a == 109)
-
-mode-long : (a b c : ℕ) (s : List ℕ) → mode_of (a ∷ b ∷ c ∷ s) ≡ mode_named (to_ascii_lowercase a ∷ to_ascii_lowercase b ∷ to_ascii_lowercase c ∷ [])
-unfolding mode_of
-mode-long a b c s = rw (longer a b (c ∷ s)) refl
+longer a b s = and-false (a == 109)
 
 mode-minor : mode_of (codes "m") ≡ Some modes.Min
 unfolding mode_of
 mode-minor = refl
+
+mode-long : (a b c : ℕ) (s : List ℕ) → mode_of (a ∷ b ∷ c ∷ s) ≡ mode_named (to_ascii_lowercase a ∷ to_ascii_lowercase b ∷ to_ascii_lowercase c ∷ [])
+unfolding mode_of
+mode-long a b c s = rw (longer a b (c ∷ s)) refl
 
 mode-read : (form : ModeForm) → IsGoodMode form → mode_of (mode_spelled form) ≡ Some (mode_meant form)
 mode-read minor_form good = mode-minor
@@ -66,21 +54,21 @@ record IsThree (s : List ℕ) : Type 0 where
   is : s ≡ three_letters name
 
 major_if : (s : List ℕ) (mode : Mode) (maj ion mix lyd : Bool) → bytes_eq s (codes "maj") ≡ maj → bytes_eq s (codes "ion") ≡ ion → bytes_eq s (codes "mix") ≡ mix → bytes_eq s (codes "lyd") ≡ lyd → major_like s ≡ Some mode → IsThree s
-major_if s mode true ion mix lyd e f g k h = record { name = maj_name; is = same_text s (codes "maj") e }
-major_if s mode false true mix lyd e f g k h = record { name = ion_name; is = same_text s (codes "ion") f }
-major_if s mode false false true lyd e f g k h = record { name = mix_name; is = same_text s (codes "mix") g }
-major_if s mode false false false true e f g k h = record { name = lyd_name; is = same_text s (codes "lyd") k }
+major_if s mode true ion mix lyd e f g k h = record { name = maj_name; is = same_bytes s (codes "maj") e }
+major_if s mode false true mix lyd e f g k h = record { name = ion_name; is = same_bytes s (codes "ion") f }
+major_if s mode false false true lyd e f g k h = record { name = mix_name; is = same_bytes s (codes "mix") g }
+major_if s mode false false false true e f g k h = record { name = lyd_name; is = same_bytes s (codes "lyd") k }
 major_if s mode false false false false e f g k h = absurd (none_is_some mode (rw (e, f, g, k) at h))
 
 major-three : (s : List ℕ) (mode : Mode) → major_like s ≡ Some mode → IsThree s
 major-three s mode h = major_if s mode (bytes_eq s (codes "maj")) (bytes_eq s (codes "ion")) (bytes_eq s (codes "mix")) (bytes_eq s (codes "lyd")) refl refl refl refl h
 
 minor_if : (s : List ℕ) (mode : Mode) (min aeo dor phr loc : Bool) → bytes_eq s (codes "min") ≡ min → bytes_eq s (codes "aeo") ≡ aeo → bytes_eq s (codes "dor") ≡ dor → bytes_eq s (codes "phr") ≡ phr → bytes_eq s (codes "loc") ≡ loc → minor_like s ≡ Some mode → IsThree s
-minor_if s mode true aeo dor phr loc e f g k l h = record { name = min_name; is = same_text s (codes "min") e }
-minor_if s mode false true dor phr loc e f g k l h = record { name = aeo_name; is = same_text s (codes "aeo") f }
-minor_if s mode false false true phr loc e f g k l h = record { name = dor_name; is = same_text s (codes "dor") g }
-minor_if s mode false false false true loc e f g k l h = record { name = phr_name; is = same_text s (codes "phr") k }
-minor_if s mode false false false false true e f g k l h = record { name = loc_name; is = same_text s (codes "loc") l }
+minor_if s mode true aeo dor phr loc e f g k l h = record { name = min_name; is = same_bytes s (codes "min") e }
+minor_if s mode false true dor phr loc e f g k l h = record { name = aeo_name; is = same_bytes s (codes "aeo") f }
+minor_if s mode false false true phr loc e f g k l h = record { name = dor_name; is = same_bytes s (codes "dor") g }
+minor_if s mode false false false true loc e f g k l h = record { name = phr_name; is = same_bytes s (codes "phr") k }
+minor_if s mode false false false false true e f g k l h = record { name = loc_name; is = same_bytes s (codes "loc") l }
 minor_if s mode false false false false false e f g k l h = absurd (none_is_some mode (rw (e, f, g, k, l) at h))
 
 minor-three : (s : List ℕ) (mode : Mode) → minor_like s ≡ Some mode → IsThree s
@@ -96,17 +84,15 @@ record IsMode (s : List ℕ) : Type 0 where
   spelled : s ≡ mode_spelled form
 
 three-takes : (s : List ℕ) (mode : Mode) → mode_by_three s ≡ Some mode → IsMode s
-three-takes [] mode h = absurd (none_is_some mode h)
-three-takes (a ∷ []) mode h = absurd (none_is_some mode h)
-three-takes (a ∷ b ∷ []) mode h = absurd (none_is_some mode h)
 three-takes (a ∷ b ∷ c ∷ s) mode h =
     let low : List ℕ = to_ascii_lowercase a ∷ to_ascii_lowercase b ∷ to_ascii_lowercase c ∷ [] in
     let three = three_either low mode (or_mode (major_like low) (minor_like low) mode h) in
     record { form = named_form three.name a b c s; good = three.is; spelled = refl }
+three-takes _ mode h = absurd (none_is_some mode h)
 
 mode_if : (s : List ℕ) (mode : Mode) (minor : Bool) → bytes_eq s (codes "m") ≡ minor → mode_of s ≡ Some mode → IsMode s
 unfolding mode_of
-mode_if s mode true e h = record { form = minor_form; good = tt; spelled = same_text s (codes "m") e }
+mode_if s mode true e h = record { form = minor_form; good = tt; spelled = same_bytes s (codes "m") e }
 mode_if s mode false e h = three-takes s mode (rw e at h)
 
 mode-takes : (s : List ℕ) (mode : Mode) → mode_of s ≡ Some mode → IsMode s
@@ -117,12 +103,7 @@ mode-takes s mode h = mode_if s mode (bytes_eq s (codes "m")) refl h
 tonic-at : (letter : Letter) (s : List ℕ) → tonic_of (letter_byte letter ∷ s) ≡ altered letter s
 unfolding tonic_of
 tonic-at letters.C s = refl
-tonic-at letters.D s = refl
-tonic-at letters.E s = refl
-tonic-at letters.F s = refl
-tonic-at letters.G s = refl
-tonic-at letters.A s = refl
-tonic-at letters.B s = refl
+tonic-at _ s = refl
 
 tonic-plain : (letter : Letter) (accident : Accident) → tonic_of (tonic_spelled letter accident []) ≡ Some (record { letter = letter; alter = accident_meant accident; mode = None })
 tonic-plain letter plain_tonic = tonic-at letter []
@@ -150,25 +131,11 @@ first_of (b ∷ s) = b
 
 not_sharp : (name : ModeName) → (first_of (three_letters name) == 35) ≡ false
 not_sharp maj_name = refl
-not_sharp ion_name = refl
-not_sharp mix_name = refl
-not_sharp lyd_name = refl
-not_sharp min_name = refl
-not_sharp aeo_name = refl
-not_sharp dor_name = refl
-not_sharp phr_name = refl
-not_sharp loc_name = refl
+not_sharp _ = refl
 
 not_flat : (name : ModeName) → (first_of (three_letters name) == 98) ≡ false
 not_flat maj_name = refl
-not_flat ion_name = refl
-not_flat mix_name = refl
-not_flat lyd_name = refl
-not_flat min_name = refl
-not_flat aeo_name = refl
-not_flat dor_name = refl
-not_flat phr_name = refl
-not_flat loc_name = refl
+not_flat _ = refl
 
 -- what is written on begins with neither a sharp nor a flat
 begins_other : (name : ModeName) (k a b c : ℕ) → to_ascii_lowercase k ≡ k → (first_of (three_letters name) == k) ≡ false → to_ascii_lowercase a ∷ to_ascii_lowercase b ∷ to_ascii_lowercase c ∷ [] ≡ three_letters name → (a == k) ≡ false
@@ -226,12 +193,7 @@ begun start more = (start, more)
 
 tonic-fixed : (letter : Letter) (s : List ℕ) → fixed_start (letter_byte letter ∷ s) ≡ None
 tonic-fixed letters.C s = refl
-tonic-fixed letters.D s = refl
-tonic-fixed letters.E s = refl
-tonic-fixed letters.F s = refl
-tonic-fixed letters.G s = refl
-tonic-fixed letters.A s = refl
-tonic-fixed letters.B s = refl
+tonic-fixed _ s = refl
 
 words_by_tonic : (w : List ℕ) (more : List (List ℕ)) (tonic : Tonic) → fixed_start w ≡ None → tonic_of w ≡ Some tonic → first_words (w ∷ more) ≡ by_mode tonic.letter tonic.alter tonic.mode more
 unfolding first_words
@@ -252,26 +214,10 @@ unmoded letter alter (w ∷ more) none = ap (with_next_mode letter alter w more)
 next_moded : (letter : Letter) (alter : Alter) (mode : ModeForm) (more : List (List ℕ)) → IsGoodMode mode → without_mode letter alter (mode_spelled mode ∷ more) ≡ begun (start_of letter alter (mode_meant mode)) more
 next_moded letter alter mode more good = ap (with_next_mode letter alter (mode_spelled mode) more) (mode-read mode good)
 
-words_none : (more : List (List ℕ)) → first_words (codes "none" ∷ more) ≡ begun (starts.Sharps (pos 0)) more
-unfolding first_words
-words_none more = refl
-
-words_bagpipe : (more : List (List ℕ)) → first_words (codes "HP" ∷ more) ≡ begun (starts.Sharps (pos 0)) more
-unfolding first_words
-words_bagpipe more = refl
-
-words_signed : (more : List (List ℕ)) → first_words (codes "Hp" ∷ more) ≡ begun starts.Pipes more
-unfolding first_words
-words_signed more = refl
-
-words_empty : first_words [] ≡ begun (starts.Sharps (pos 0)) []
-unfolding first_words
-words_empty = refl
-
 fixed_if : (w : List ℕ) (none bagpipe signed : Bool) → bytes_eq w (codes "none") ≡ none → bytes_eq w (codes "HP") ≡ bagpipe → bytes_eq w (codes "Hp") ≡ signed → BeginsNoKey w → fixed_start w ≡ None
-fixed_if w true bagpipe signed e f g no_key = absurd (no_key.no_none (same_text w (codes "none") e))
-fixed_if w false true signed e f g no_key = absurd (no_key.no_bagpipe (same_text w (codes "HP") f))
-fixed_if w false false true e f g no_key = absurd (no_key.no_signed_bagpipe (same_text w (codes "Hp") g))
+fixed_if w true bagpipe signed e f g no_key = absurd (no_key.no_none (same_bytes w (codes "none") e))
+fixed_if w false true signed e f g no_key = absurd (no_key.no_bagpipe (same_bytes w (codes "HP") f))
+fixed_if w false false true e f g no_key = absurd (no_key.no_signed_bagpipe (same_bytes w (codes "Hp") g))
 fixed_if w false false false e f g no_key = rw (e, f, g) refl
 
 untonic_form : (w : List ℕ) → BeginsNoKey w → IsTonic w → ⊥
@@ -289,10 +235,11 @@ kept-read (w ∷ more) good =
 
 -- a good beginning is read
 head-read : (head : KeyHead) (more : List (List ℕ)) → IsGoodHead head more → first_words (head_spelled head more) ≡ begun (head_meant head) more
-head-read empty_head more good = ap first_words good ∙ words_empty ∙ ap (λ t. begun (starts.Sharps (pos 0)) t) (sym good)
-head-read none_head more good = words_none more
-head-read bagpipe_head more good = words_bagpipe more
-head-read signed_bagpipe_head more good = words_signed more
+unfolding first_words
+head-read empty_head more good = ap first_words good ∙ ap (λ t. begun (starts.Sharps (pos 0)) t) (sym good)
+head-read none_head more good = refl
+head-read bagpipe_head more good = refl
+head-read signed_bagpipe_head more good = refl
 head-read (tonic_head letter accident) more good =
     words_by_tonic (tonic_spelled letter accident []) more (record { letter = letter; alter = accident_meant accident; mode = None }) (tonic-fixed letter (accident_spelled accident [])) (tonic-plain letter accident)
     ∙ unmoded letter (accident_meant accident) more good
@@ -345,9 +292,9 @@ other_head w more None e f g h =
     }
 
 head_if : (w : List ℕ) (more : List (List ℕ)) (none bagpipe signed : Bool) → bytes_eq w (codes "none") ≡ none → bytes_eq w (codes "HP") ≡ bagpipe → bytes_eq w (codes "Hp") ≡ signed → HasHead (w ∷ more)
-head_if w more true bagpipe signed e f g = record { head = none_head; more = more; good = tt; spelled = ap (λ t. t ∷ more) (same_text w (codes "none") e) }
-head_if w more false true signed e f g = record { head = bagpipe_head; more = more; good = tt; spelled = ap (λ t. t ∷ more) (same_text w (codes "HP") f) }
-head_if w more false false true e f g = record { head = signed_bagpipe_head; more = more; good = tt; spelled = ap (λ t. t ∷ more) (same_text w (codes "Hp") g) }
+head_if w more true bagpipe signed e f g = record { head = none_head; more = more; good = tt; spelled = ap (λ t. t ∷ more) (same_bytes w (codes "none") e) }
+head_if w more false true signed e f g = record { head = bagpipe_head; more = more; good = tt; spelled = ap (λ t. t ∷ more) (same_bytes w (codes "HP") f) }
+head_if w more false false true e f g = record { head = signed_bagpipe_head; more = more; good = tt; spelled = ap (λ t. t ∷ more) (same_bytes w (codes "Hp") g) }
 head_if w more false false false e f g = other_head w more (tonic_of w) refl e f g
 
 has_head : (ws : List (List ℕ)) → HasHead ws

@@ -1,10 +1,8 @@
 -- A word of a key reads as a sign, a clef or another word exactly where a good form of it spells it.
-use Rattle.std.proofs.Common.{◌≡◌, refl, sym, ap, ◌∙◌, ℕ, ◌+◌, ◌-◌, ◌≤◌, List, [], ◌∷◌, ◌++◌, Bool, true, false, map, arith, inl, inr}
-use Rattle.std.specs.Prelude.{◌==◌, ◌⊎◌, Option, Some, None, unwrap_or, codes, if◌then◌else◌}
+use Rattle.std.proofs.Common.{◌≡◌, refl, sym, ap, ◌∙◌, ℕ, ◌+◌, ◌-◌, ◌≤◌, List, [], ◌∷◌, ◌++◌, Bool, true, false, map, arith, inl, inr, ◌==◌, ◌⊎◌, Option, Some, None, unwrap_or, codes, if◌then◌else◌, eqb-true}
 use Rattle.std.specs.List.{list_any}
 use Rattle.std.specs.Option.{option_map, option_and_then, option_or}
 use Rattle.std.specs.Str.{bytes_eq}
-use Rattle.std.proofs.lemmas.Bool.{eqb-true}
 use Rattle.mus_units.specs.declared.key.Sign.{Sign}
 use Rattle.mus_units.specs.declared.pitch.Alter.{Alter}
 use Rattle.mus_units.specs.declared.pitch.Alter.TheVariants as alters
@@ -18,8 +16,8 @@ use Rattle.abc_fields.specs.Keys.{natural_of, letter_alone, signed, sign_of, cle
 use Rattle.abc_fields.specs.VoiceSpelling.{ClefForm, plain_clef, above_clef, below_clef, clef_spelled, clef_meant}
 use Rattle.abc_fields.specs.Words.{behind}
 use Rattle.abc_fields.specs.KeySpelling.{letter_byte, letter_spelled, alter_spelled, KeyWordForm, exp_word, sign_word, clef_word, name_word, passed_word, word_spelled, IsPassed, IsGoodWord, AreGoodWords, word_meant}
-use Rattle.abc_fields.proofs.MeterForms.{none_is_some, behind-takes}
-use Rattle.abc_fields.proofs.VoiceForms.{same_text, clef-read, clef-takes, no_clef_read, no_front, behind-clef}
+use Rattle.abc_fields.proofs.MeterForms.{none_is_some, behind-takes, same_bytes}
+use Rattle.abc_fields.proofs.VoiceForms.{clef-read, clef-takes, no_clef_read, no_front, behind-clef}
 
 -- Letters.
 
@@ -39,12 +37,7 @@ natural-takes b letter h = letter_if b letter (b == 67) (b == 68) (b == 69) (b =
 
 byte-past : (letter : Letter) → 65 ≤ letter_byte letter
 byte-past letters.C = omega arith
-byte-past letters.D = omega arith
-byte-past letters.E = omega arith
-byte-past letters.F = omega arith
-byte-past letters.G = omega arith
-byte-past letters.A = omega arith
-byte-past letters.B = omega arith
+byte-past _ = omega arith
 
 record IsLetter (b : ℕ) (letter : Letter) : Type 0 where
   lower : Bool
@@ -111,122 +104,29 @@ sign-takes w sign h = sign_first w sign (or_either (signed_by w alters.Sharp2) (
 sign-read : (alter : Alter) (letter : Letter) (lower : Bool) → sign_of (alter_spelled alter ++ letter_spelled letter lower ∷ []) ≡ Some (record { letter = letter; alter = alter })
 unfolding sign_of behind
 sign-read alters.Sharp2 letters.C true = refl
-sign-read alters.Sharp2 letters.C false = refl
-sign-read alters.Sharp2 letters.D true = refl
-sign-read alters.Sharp2 letters.D false = refl
-sign-read alters.Sharp2 letters.E true = refl
-sign-read alters.Sharp2 letters.E false = refl
-sign-read alters.Sharp2 letters.F true = refl
-sign-read alters.Sharp2 letters.F false = refl
-sign-read alters.Sharp2 letters.G true = refl
-sign-read alters.Sharp2 letters.G false = refl
-sign-read alters.Sharp2 letters.A true = refl
-sign-read alters.Sharp2 letters.A false = refl
-sign-read alters.Sharp2 letters.B true = refl
-sign-read alters.Sharp2 letters.B false = refl
-sign-read alters.Sharp letters.C true = refl
-sign-read alters.Sharp letters.C false = refl
-sign-read alters.Sharp letters.D true = refl
-sign-read alters.Sharp letters.D false = refl
-sign-read alters.Sharp letters.E true = refl
-sign-read alters.Sharp letters.E false = refl
-sign-read alters.Sharp letters.F true = refl
-sign-read alters.Sharp letters.F false = refl
-sign-read alters.Sharp letters.G true = refl
-sign-read alters.Sharp letters.G false = refl
-sign-read alters.Sharp letters.A true = refl
-sign-read alters.Sharp letters.A false = refl
-sign-read alters.Sharp letters.B true = refl
-sign-read alters.Sharp letters.B false = refl
-sign-read alters.Flat2 letters.C true = refl
-sign-read alters.Flat2 letters.C false = refl
-sign-read alters.Flat2 letters.D true = refl
-sign-read alters.Flat2 letters.D false = refl
-sign-read alters.Flat2 letters.E true = refl
-sign-read alters.Flat2 letters.E false = refl
-sign-read alters.Flat2 letters.F true = refl
-sign-read alters.Flat2 letters.F false = refl
-sign-read alters.Flat2 letters.G true = refl
-sign-read alters.Flat2 letters.G false = refl
-sign-read alters.Flat2 letters.A true = refl
-sign-read alters.Flat2 letters.A false = refl
-sign-read alters.Flat2 letters.B true = refl
-sign-read alters.Flat2 letters.B false = refl
-sign-read alters.Flat letters.C true = refl
-sign-read alters.Flat letters.C false = refl
-sign-read alters.Flat letters.D true = refl
-sign-read alters.Flat letters.D false = refl
-sign-read alters.Flat letters.E true = refl
-sign-read alters.Flat letters.E false = refl
-sign-read alters.Flat letters.F true = refl
-sign-read alters.Flat letters.F false = refl
-sign-read alters.Flat letters.G true = refl
-sign-read alters.Flat letters.G false = refl
-sign-read alters.Flat letters.A true = refl
-sign-read alters.Flat letters.A false = refl
-sign-read alters.Flat letters.B true = refl
-sign-read alters.Flat letters.B false = refl
-sign-read alters.Natural letters.C true = refl
-sign-read alters.Natural letters.C false = refl
-sign-read alters.Natural letters.D true = refl
-sign-read alters.Natural letters.D false = refl
-sign-read alters.Natural letters.E true = refl
-sign-read alters.Natural letters.E false = refl
-sign-read alters.Natural letters.F true = refl
-sign-read alters.Natural letters.F false = refl
-sign-read alters.Natural letters.G true = refl
-sign-read alters.Natural letters.G false = refl
-sign-read alters.Natural letters.A true = refl
-sign-read alters.Natural letters.A false = refl
-sign-read alters.Natural letters.B true = refl
-sign-read alters.Natural letters.B false = refl
+sign-read _ letters.C true = refl
+sign-read _ _ true = refl
+sign-read _ _ _ = refl
 
 -- Words behind the beginning.
 
 word_sign : (alter : Alter) (letter : Letter) (lower : Bool) → key_word (alter_spelled alter ++ letter_spelled letter lower ∷ []) ≡ by_sign (alter_spelled alter ++ letter_spelled letter lower ∷ []) (sign_of (alter_spelled alter ++ letter_spelled letter lower ∷ []))
 unfolding key_word
 word_sign alters.Sharp2 letter lower = refl
-word_sign alters.Sharp letter lower = refl
-word_sign alters.Flat2 letter lower = refl
-word_sign alters.Flat letter lower = refl
-word_sign alters.Natural letter lower = refl
-
-word_exp : key_word (codes "exp") ≡ Some words.Empties
-unfolding key_word
-word_exp = refl
-
-word_clef : (name : List ℕ) → key_word (codes "clef=" ++ name) ≡ option_map (λ clef. words.Names clef) (clef_of name)
-unfolding key_word sign_of behind
-word_clef name = refl
+word_sign _ letter lower = refl
 
 word_name : (form : ClefForm) → key_word (clef_spelled form) ≡ Some (words.Names (clef_meant form))
 unfolding key_word sign_of behind clef_of
 word_name (plain_clef clefs.Treble) = refl
-word_name (plain_clef clefs.Bass) = refl
-word_name (plain_clef clefs.Alto) = refl
-word_name (plain_clef clefs.Tenor) = refl
 word_name (above_clef clefs.Treble) = refl
-word_name (above_clef clefs.Bass) = refl
-word_name (above_clef clefs.Alto) = refl
-word_name (above_clef clefs.Tenor) = refl
 word_name (below_clef clefs.Treble) = refl
-word_name (below_clef clefs.Bass) = refl
-word_name (below_clef clefs.Alto) = refl
-word_name (below_clef clefs.Tenor) = refl
+word_name _ = refl
 
 clef-no-equals : (form : ClefForm) → list_any (λ b. b == 61) (clef_spelled form) ≡ false
 clef-no-equals (plain_clef clefs.Treble) = refl
-clef-no-equals (plain_clef clefs.Bass) = refl
-clef-no-equals (plain_clef clefs.Alto) = refl
-clef-no-equals (plain_clef clefs.Tenor) = refl
 clef-no-equals (above_clef clefs.Treble) = refl
-clef-no-equals (above_clef clefs.Bass) = refl
-clef-no-equals (above_clef clefs.Alto) = refl
-clef-no-equals (above_clef clefs.Tenor) = refl
 clef-no-equals (below_clef clefs.Treble) = refl
-clef-no-equals (below_clef clefs.Bass) = refl
-clef-no-equals (below_clef clefs.Alto) = refl
-clef-no-equals (below_clef clefs.Tenor) = refl
+clef-no-equals _ = refl
 
 abbrev has_equals : List ℕ → Bool
 has_equals w = list_any (λ b. b == 61) w
@@ -236,7 +136,7 @@ not_both w v has none is = let same : has_equals w ≡ has_equals v = ap has_equ
 
 not_exp_if : (w : List ℕ) (exp : Bool) → bytes_eq w (codes "exp") ≡ exp → has_equals w ≡ true → bytes_eq w (codes "exp") ≡ false
 not_exp_if w false e has = e
-not_exp_if w true e has = absurd (not_both w (codes "exp") has refl (same_text w (codes "exp") e))
+not_exp_if w true e has = absurd (not_both w (codes "exp") has refl (same_bytes w (codes "exp") e))
 
 no_sign_if : (w : List ℕ) (o : Option Sign) → sign_of w ≡ o → ((alter : Alter) (letter : Letter) (lower : Bool) → w ≡ alter_spelled alter ++ letter_spelled letter lower ∷ [] → ⊥) → o ≡ None
 no_sign_if w None e none = refl
@@ -253,9 +153,10 @@ word_passed w good =
     rw (not_exp, no_sign, no_clef, no_name, equals) refl
 
 word-read : (form : KeyWordForm) → IsGoodWord form → key_word (word_spelled form) ≡ Some (word_meant form)
-word-read exp_word good = word_exp
+unfolding key_word sign_of behind
+word-read exp_word good = refl
 word-read (sign_word alter letter lower) good = word_sign alter letter lower ∙ ap (by_sign (alter_spelled alter ++ letter_spelled letter lower ∷ [])) (sign-read alter letter lower)
-word-read (clef_word clef) good = word_clef (clef_spelled clef) ∙ ap (λ o. option_map (λ c. words.Names c) o) (clef-read clef)
+word-read (clef_word clef) good = ap (λ o. option_map (λ c. words.Names c) o) (clef-read clef)
 word-read (name_word clef) good = word_name clef
 word-read (passed_word word) good = word_passed word good
 
@@ -303,7 +204,7 @@ sign_if w read None e h =
 
 exp_if : (w : List ℕ) (read : KeyWord) (exp : Bool) → bytes_eq w (codes "exp") ≡ exp → key_word w ≡ Some read → IsWord w read
 unfolding key_word
-exp_if w read true e h = record { form = exp_word; good = tt; spelled = same_text w (codes "exp") e; meant = some_word words.Empties read (rw e at h) }
+exp_if w read true e h = record { form = exp_word; good = tt; spelled = same_bytes w (codes "exp") e; meant = some_word words.Empties read (rw e at h) }
 exp_if w read false e h = sign_if w read (sign_of w) refl (rw e at h)
 
 word-takes : (w : List ℕ) (read : KeyWord) → key_word w ≡ Some read → IsWord w read

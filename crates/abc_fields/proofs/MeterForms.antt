@@ -1,10 +1,8 @@
 -- A text reads as a meter exactly where a good form of that meter spells it; likewise unit lengths.
-use Rattle.std.proofs.Common.{◌≡◌, refl, sym, ap, ◌∙◌, subst, ℕ, suc, ◌+◌, ◌≤◌, ◌<◌, List, [], ◌∷◌, ◌++◌, Bool, true, false, length, take, drop, arith, inl, inr}
-use Rattle.std.specs.Prelude.{◌==◌, ◌⊎◌, not, nat_eq, nat_le, Option, Some, None, unwrap_or, codes}
+use Rattle.std.proofs.Common.{◌≡◌, refl, sym, ap, ◌∙◌, subst, ℕ, suc, ◌+◌, ◌≤◌, ◌<◌, List, [], ◌∷◌, ◌++◌, Bool, true, false, length, take, drop, arith, inl, inr, ◌==◌, ◌⊎◌, not, nat_eq, nat_le, Option, Some, None, unwrap_or, codes, take-append-drop}
 use Rattle.std.specs.List.{list_all, join_with_byte, slice_split, starts_with}
 use Rattle.std.specs.Str.{bytes_eq}
 use Rattle.std.proofs.lemmas.Bool.{and_parts, leb-true, le-leb, eqb-true, ne_eqb}
-use Rattle.std.proofs.lemmas.List.{take-append-drop}
 use Rattle.std.proofs.lemmas.List.Folds.{list_all-append}
 use Rattle.std.proofs.lemmas.List.Splits.{join_with_byte-slice_split, length-slice_split}
 use Rattle.std.proofs.lemmas.Slice.Eq.{bytes_eq-Decides}
@@ -326,7 +324,7 @@ ratio_of-takes : (s : List ℕ) (meter : Meter) → ratio_of s ≡ Some meter �
 unfolding ratio_of
 ratio_of-takes s meter h = by-takes s (behind (codes "(") s) meter refl h
 
-same_bytes : (s t : List ℕ) → bytes_eq s t ≡ true → s ≡ t
+pub same_bytes : (s t : List ℕ) → bytes_eq s t ≡ true → s ≡ t
 same_bytes s t e = (bytes_eq-Decides s t).0 e
 
 some_is : (meter other : Meter) → Some meter ≡ Some other → meter ≡ other
@@ -380,12 +378,9 @@ wrapped-sum-read (term ∷ terms) below good =
 
 form-read : (form : MeterForm) → IsGoodMeterForm form → meter_at (meter_spelled form) ≡ Some (meter_meant form)
 unfolding meter_at
-form-read common_form good = refl
-form-read cut_form good = refl
-form-read none_form good = refl
-form-read empty_form good = refl
 form-read (sum_form terms below) good = sum-read terms below good
 form-read (wrapped_form terms below) good = wrapped-sum-read terms below good
+form-read _ good = refl
 
 meter_at-reaches : (s : List ℕ) (meter : Meter) → WritesMeter s meter → meter_at s ≡ Some meter
 meter_at-reaches s meter w = ap meter_at w.spelled ∙ form-read w.form w.good ∙ ap Some w.meant
@@ -415,12 +410,9 @@ sum-unblank (term ∷ next ∷ terms) all =
     unblank-append term (43 ∷ join_with_byte 43 (next ∷ terms)) (digits-unblank term (number-digits term parts.0)) (sum-unblank (next ∷ terms) parts.1)
 
 form-unblank : (form : MeterForm) → IsGoodMeterForm form → unblank (meter_spelled form) ≡ true
-form-unblank common_form good = refl
-form-unblank cut_form good = refl
-form-unblank none_form good = refl
-form-unblank empty_form good = refl
 form-unblank (sum_form terms below) good = unblank-append (join_with_byte 43 terms) (47 ∷ below) (sum-unblank terms good.numbers) (digits-unblank below (number-digits below good.number))
 form-unblank (wrapped_form terms below) good = unblank-append (join_with_byte 43 terms) (41 ∷ 47 ∷ below) (sum-unblank terms good.numbers) (digits-unblank below (number-digits below good.number))
+form-unblank _ good = refl
 
 -- a text reads as a meter only where a good form of it spells the text
 pub meter-says : (text : List ℕ) (meter : Meter) → meter_of text ≡ Some meter → SaysMeter text meter

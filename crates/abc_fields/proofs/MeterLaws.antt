@@ -1,6 +1,5 @@
 -- Terms of a sum: the first of them, and those behind it.
-use Rattle.std.proofs.Common.{◌≡◌, refl, ℕ, suc, ◌+◌, List, [], ◌∷◌, Bool, true, false, take, drop, arith}
-use Rattle.std.specs.Prelude.{◌==◌}
+use Rattle.std.proofs.Common.{◌≡◌, refl, ℕ, suc, ◌+◌, List, [], ◌∷◌, Bool, true, false, take, drop, arith, ◌==◌}
 use Rattle.std.specs.List.{slice_split}
 use Rattle.abc_fields.specs.Numbers.{place_of, before, from_first}
 use Rattle.abc_fields.specs.Meters.{is_plus, terms_after}

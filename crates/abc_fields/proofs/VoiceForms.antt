@@ -1,11 +1,9 @@
 -- A text reads as a clef, and as a voice, exactly where a good form of it spells it.
-use Rattle.std.proofs.Common.{◌≡◌, refl, sym, ap, ◌∙◌, ℕ, ◌-◌, ◌≤◌, List, [], ◌∷◌, ◌++◌, Bool, true, false, length, take, drop, map}
-use Rattle.std.specs.Prelude.{not, nat_eq, nat_le, Option, Some, None, unwrap_or, codes}
+use Rattle.std.proofs.Common.{◌≡◌, refl, sym, ap, ◌∙◌, ℕ, ◌-◌, ◌≤◌, List, [], ◌∷◌, ◌++◌, Bool, true, false, length, take, drop, map, not, nat_eq, nat_le, Option, Some, None, unwrap_or, codes, take-append-drop}
 use Rattle.std.specs.List.{ends_with}
 use Rattle.std.specs.Option.{option_map, option_and_then}
 use Rattle.std.specs.Str.{bytes_eq}
 use Rattle.std.proofs.lemmas.Bool.{and_parts, leb-true, le-leb}
-use Rattle.std.proofs.lemmas.List.{take-append-drop}
 use Rattle.std.proofs.lemmas.Slice.Eq.{bytes_eq-Decides}
 use Rattle.mus_units.specs.declared.pitch.Clef.{Clef}
 use Rattle.mus_units.specs.declared.pitch.Clef.TheVariants as clefs
@@ -19,38 +17,27 @@ use Rattle.abc_fields.specs.Voices.{wish_of, named_or_passed, by_stem, by_clef, 
 use Rattle.abc_fields.specs.Words.{next_word, properties_of, ends_quoted, behind}
 use Rattle.abc_fields.specs.WordSpelling.{IsFirstWord}
 use Rattle.abc_fields.specs.VoiceSpelling.{ClefForm, plain_clef, above_clef, below_clef, clef_name, clef_spelled, clef_meant, PropertyForm, clef_property, name_property, stem_property, other_property, way_name, property_spelled, IsOther, IsGoodProperty, AreGoodProperties, property_meant, SaysVoice}
-use Rattle.abc_fields.proofs.MeterForms.{none_is_some, behind-takes}
+use Rattle.abc_fields.proofs.MeterForms.{none_is_some, behind-takes, same_bytes}
 use Rattle.abc_fields.proofs.WordForms.{first-takes, first-read}
-
-pub same_text : (s t : List ℕ) → bytes_eq s t ≡ true → s ≡ t
-same_text s t e = (bytes_eq-Decides s t).0 e
 
 -- Clefs.
 
 pub clef-read : (form : ClefForm) → clef_of (clef_spelled form) ≡ Some (clef_meant form)
 unfolding clef_of
 clef-read (plain_clef clefs.Treble) = refl
-clef-read (plain_clef clefs.Bass) = refl
-clef-read (plain_clef clefs.Alto) = refl
-clef-read (plain_clef clefs.Tenor) = refl
 clef-read (above_clef clefs.Treble) = refl
-clef-read (above_clef clefs.Bass) = refl
-clef-read (above_clef clefs.Alto) = refl
-clef-read (above_clef clefs.Tenor) = refl
 clef-read (below_clef clefs.Treble) = refl
-clef-read (below_clef clefs.Bass) = refl
-clef-read (below_clef clefs.Alto) = refl
-clef-read (below_clef clefs.Tenor) = refl
+clef-read _ = refl
 
 some_clef : (clef read : Clef) → Some clef ≡ Some read → clef ≡ read
 some_clef clef read h = ap (λ o. unwrap_or o read) h
 
 named_if : (w : List ℕ) (clef : Clef) (treble bass alto tenor : Bool) → bytes_eq w (codes "treble") ≡ treble → bytes_eq w (codes "bass") ≡ bass → bytes_eq w (codes "alto") ≡ alto → bytes_eq w (codes "tenor") ≡ tenor
     → named_clef w ≡ Some clef → w ≡ clef_name clef
-named_if w clef true bass alto tenor e f g k h = same_text w (codes "treble") e ∙ ap clef_name (some_clef clefs.Treble clef (rw e at h))
-named_if w clef false true alto tenor e f g k h = same_text w (codes "bass") f ∙ ap clef_name (some_clef clefs.Bass clef (rw (e, f) at h))
-named_if w clef false false true tenor e f g k h = same_text w (codes "alto") g ∙ ap clef_name (some_clef clefs.Alto clef (rw (e, f, g) at h))
-named_if w clef false false false true e f g k h = same_text w (codes "tenor") k ∙ ap clef_name (some_clef clefs.Tenor clef (rw (e, f, g, k) at h))
+named_if w clef true bass alto tenor e f g k h = same_bytes w (codes "treble") e ∙ ap clef_name (some_clef clefs.Treble clef (rw e at h))
+named_if w clef false true alto tenor e f g k h = same_bytes w (codes "bass") f ∙ ap clef_name (some_clef clefs.Bass clef (rw (e, f) at h))
+named_if w clef false false true tenor e f g k h = same_bytes w (codes "alto") g ∙ ap clef_name (some_clef clefs.Alto clef (rw (e, f, g) at h))
+named_if w clef false false false true e f g k h = same_bytes w (codes "tenor") k ∙ ap clef_name (some_clef clefs.Tenor clef (rw (e, f, g, k) at h))
 named_if w clef false false false false e f g k h = absurd (none_is_some clef (rw (e, f, g, k) at h))
 
 named-takes : (w : List ℕ) (clef : Clef) → named_clef w ≡ Some clef → w ≡ clef_name clef
@@ -118,23 +105,14 @@ property-clef name = rw (behind-clef name) refl
 property-name : (form : ClefForm) → voice_word (clef_spelled form) ≡ Some (words.Names (clef_meant form))
 unfolding voice_word behind clef_of
 property-name (plain_clef clefs.Treble) = refl
-property-name (plain_clef clefs.Bass) = refl
-property-name (plain_clef clefs.Alto) = refl
-property-name (plain_clef clefs.Tenor) = refl
 property-name (above_clef clefs.Treble) = refl
-property-name (above_clef clefs.Bass) = refl
-property-name (above_clef clefs.Alto) = refl
-property-name (above_clef clefs.Tenor) = refl
 property-name (below_clef clefs.Treble) = refl
-property-name (below_clef clefs.Bass) = refl
-property-name (below_clef clefs.Alto) = refl
-property-name (below_clef clefs.Tenor) = refl
+property-name _ = refl
 
 property-way : (way : Wish) → voice_word (codes "stem=" ++ way_name way) ≡ Some (words.Asks way)
 unfolding voice_word behind
 property-way wishes.Up = refl
-property-way wishes.Down = refl
-property-way wishes.Auto = refl
+property-way _ = refl
 
 property-other : (word : List ℕ) → IsOther word → voice_word word ≡ Some words.Passed
 unfolding voice_word
@@ -162,9 +140,9 @@ clef_property_if w name read (Some clef) is e h =
     record { form = clef_property found.form; good = tt; spelled = is ∙ ap (λ t. codes "clef=" ++ t) found.spelled; meant = ap (λ c. words.Names c) found.meant ∙ some_property (words.Names clef) read h }
 
 way_if : (way : List ℕ) (wish : Wish) (up down auto : Bool) → bytes_eq way (codes "up") ≡ up → bytes_eq way (codes "down") ≡ down → bytes_eq way (codes "auto") ≡ auto → wish_of way ≡ Some wish → way ≡ way_name wish
-way_if way wish true down auto e f g h = same_text way (codes "up") e ∙ ap way_name (ap (λ o. unwrap_or o wish) (rw e at h))
-way_if way wish false true auto e f g h = same_text way (codes "down") f ∙ ap way_name (ap (λ o. unwrap_or o wish) (rw (e, f) at h))
-way_if way wish false false true e f g h = same_text way (codes "auto") g ∙ ap way_name (ap (λ o. unwrap_or o wish) (rw (e, f, g) at h))
+way_if way wish true down auto e f g h = same_bytes way (codes "up") e ∙ ap way_name (ap (λ o. unwrap_or o wish) (rw e at h))
+way_if way wish false true auto e f g h = same_bytes way (codes "down") f ∙ ap way_name (ap (λ o. unwrap_or o wish) (rw (e, f) at h))
+way_if way wish false false true e f g h = same_bytes way (codes "auto") g ∙ ap way_name (ap (λ o. unwrap_or o wish) (rw (e, f, g) at h))
 way_if way wish false false false e f g h = absurd (none_is_some wish (rw (e, f, g) at h))
 
 stem_property_if : (w way : List ℕ) (read : VoiceWord) (o : Option Wish) → w ≡ codes "stem=" ++ way → wish_of way ≡ o → option_map (λ wish. words.Asks wish) o ≡ Some read → IsProperty w read
@@ -186,13 +164,10 @@ other_property_if w read (Some clef) e no_clef no_stem h =
     let found = clef-takes w clef e in
     record { form = name_property found.form; good = tt; spelled = found.spelled; meant = ap (λ c. words.Names c) found.meant ∙ some_property (words.Names clef) read h }
 
-behind-stem : (way : List ℕ) → behind (codes "stem=") (codes "stem=" ++ way) ≡ Some way
-unfolding behind
-behind-stem way = refl
-
 by_stem-takes : (w : List ℕ) (read : VoiceWord) (o : Option (List ℕ)) → behind (codes "stem=") w ≡ o → ((name : List ℕ) → w ≡ codes "clef=" ++ name → ⊥) → by_stem w o ≡ Some read → IsProperty w read
+unfolding behind
 by_stem-takes w read (Some way) e no_clef h = stem_property_if w way read (wish_of way) (behind-takes (codes "stem=") w way e) refl h
-by_stem-takes w read None e no_clef h = other_property_if w read (clef_of w) refl no_clef (λ way is. none_is_some way (sym e ∙ ap (behind (codes "stem=")) is ∙ behind-stem way)) h
+by_stem-takes w read None e no_clef h = other_property_if w read (clef_of w) refl no_clef (λ way is. none_is_some way (sym e ∙ ap (behind (codes "stem=")) is)) h
 
 by_clef-takes : (w : List ℕ) (read : VoiceWord) (o : Option (List ℕ)) → behind (codes "clef=") w ≡ o → by_clef w o ≡ Some read → IsProperty w read
 by_clef-takes w read (Some name) e h = clef_property_if w name read (clef_of name) (behind-takes (codes "clef=") w name e) refl h

@@ -1,14 +1,12 @@
 -- The words that are read one after another are those of the text, with blanks between them.
-use Rattle.std.proofs.Common.{◌≡◌, refl, sym, ap, ◌∙◌, subst, ℕ, List, [], ◌∷◌, ◌++◌, Bool, true, false, length, take, drop}
-use Rattle.std.specs.Prelude.{not, Option, Some, None, unwrap_or}
+use Rattle.std.proofs.Common.{◌≡◌, refl, sym, ap, ◌∙◌, subst, ℕ, List, [], ◌∷◌, ◌++◌, Bool, true, false, length, take, drop, not, Option, Some, None, unwrap_or, take-append-drop, append-nil}
 use Rattle.std.specs.List.{list_all, prefix_len}
-use Rattle.std.proofs.lemmas.Bool.{and_parts}
-use Rattle.std.proofs.lemmas.List.{take-append-drop, append-nil}
+use Rattle.std.proofs.lemmas.Bool.{and_parts, not-true}
 use Rattle.std.proofs.Math.Seq.{take-append_seam, drop-append_seam}
 use Rattle.abc_lines.specs.Kinds.{is_blank, behind_blanks}
 use Rattle.abc_fields.specs.Words.{is_empty, word_len, word_and_rest, next_word, words_of, words_after}
 use Rattle.abc_fields.specs.WordSpelling.{Parts, IsFirstWord, HasWords}
-use Rattle.abc_fields.proofs.BlankLaws.{front-passes, blanks-passed}
+use Rattle.abc_fields.proofs.BlankLaws.{front-passes, blanks-passed, stays}
 use Rattle.abc_fields.proofs.MeterForms.{none_is_some}
 use Rattle.abc_fields.proofs.WordLaws.{BeginsWord, BeginsBlank, behind-begins, word-stops, words-next}
 
@@ -53,9 +51,6 @@ pub first-takes : (text id rest : List ℕ) → next_word false text ≡ Some (i
 unfolding next_word
 first-takes text id rest h = first_if text (behind_blanks text) id rest refl (behind-begins text) h
 
-word-stays : (b : ℕ) (s : List ℕ) → is_blank b ≡ false → behind_blanks (b ∷ s) ≡ b ∷ s
-word-stays b s e = rw e refl
-
 stops-here : (rest : List ℕ) → Parts rest → word_len false false rest ≡ 0
 stops-here [] parts = refl
 stops-here (b ∷ s) parts = let blank : is_blank b ≡ true = parts in rw blank refl
@@ -64,13 +59,9 @@ word-length : (word rest : List ℕ) → list_all (λ b. not (is_blank b)) word 
 word-length [] rest whole parts = stops-here rest parts
 word-length (b ∷ word) rest whole parts =
     let tests = and_parts _ _ whole in
-    let here : is_blank b ≡ false = not_blank b (is_blank b) refl tests.0 in
+    let here : is_blank b ≡ false = not-true (is_blank b) tests.0 in
     let more : word_len false false (word ++ rest) ≡ length word = word-length word rest tests.1 parts in
     rw (here, more) refl
-  where
-    not_blank : (b : ℕ) (blank : Bool) → is_blank b ≡ blank → not (is_blank b) ≡ true → is_blank b ≡ false
-    not_blank b true e h = let wrong : not true ≡ true = rw e at h in cc
-    not_blank b false e h = e
 
 abbrev cut_off : ℕ → List ℕ → Option (List ℕ × List ℕ)
 cut_off n s = Some (take n s, drop n s)
@@ -81,15 +72,11 @@ both a b = Some (a, b)
 word-first : (word rest : List ℕ) → not (is_empty word) ≡ true → list_all (λ b. not (is_blank b)) word ≡ true → Parts rest → word_and_rest false (behind_blanks (word ++ rest)) ≡ both word rest
 word-first [] rest some whole parts = cc
 word-first (b ∷ word) rest some whole parts =
-    let here : is_blank b ≡ false = unblank b (is_blank b) refl (and_parts _ _ whole).0 in
-    ap (word_and_rest false) (word-stays b (word ++ rest) here)
+    let here : is_blank b ≡ false = not-true (is_blank b) (and_parts _ _ whole).0 in
+    ap (word_and_rest false) (stays b (word ++ rest) here)
     ∙ ap (λ n. cut_off n (b ∷ (word ++ rest))) (word-length (b ∷ word) rest whole parts)
     ∙ ap (λ t. both t (drop (length (b ∷ word)) ((b ∷ word) ++ rest))) (take-append_seam (b ∷ word) rest)
     ∙ ap (λ t. both (b ∷ word) t) (drop-append_seam (b ∷ word) rest)
-  where
-    unblank : (b : ℕ) (blank : Bool) → is_blank b ≡ blank → not (is_blank b) ≡ true → is_blank b ≡ false
-    unblank b true e h = let wrong : not true ≡ true = rw e at h in cc
-    unblank b false e h = e
 
 pub first-read : (text word rest : List ℕ) → IsFirstWord text word rest → next_word false text ≡ both word rest
 unfolding next_word

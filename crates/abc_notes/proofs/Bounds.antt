@@ -7,11 +7,8 @@ use Rattle.mus_units.specs.Bytes.{is_digit}
 use Rattle.abc_notes.specs.Lengths.{limit_at}
 
 pub limit_step : (i v d : ℕ) → i < 4 → v < limit_at i → d < 10 → v * 10 + d < limit_at (suc i)
-limit_step zero v d h small digit = omega arith
-limit_step (suc zero) v d h small digit = omega arith
-limit_step (suc (suc zero)) v d h small digit = omega arith
-limit_step (suc (suc (suc zero))) v d h small digit = omega arith
 limit_step (suc (suc (suc (suc i)))) v d h small digit = absurd (omega arith)
+limit_step _ v d h small digit = omega arith
 
 pub digit_range : (b : ℕ) → is_digit b ≡ true → (48 ≤ b) × (b < 58)
 digit_range b h = let p = and_parts _ _ h in let low = leb-true 48 b p.0 in let high = leb-true b 57 p.1 in (low, omega arith)

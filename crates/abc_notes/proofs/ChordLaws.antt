@@ -1,17 +1,18 @@
 -- Reading a chord gives the longest, and where there is none its fault is found.
-use Rattle.std.proofs.Common.{◌≡◌, ℕ, ◌+◌, ◌-◌, ◌≤◌, ◌<◌, Bool, true, false, cond, eqb, zero, suc, List, [], ◌∷◌, ◌++◌, length, take, drop, Option, Some, None, refl, sym, ap, ◌∙◌, subst, arith, inl, inr, ◌⊎◌, append_assoc, append-nil, add-one}
-use Rattle.std.specs.Prelude.{◌&&◌, ◌||◌, not, IfSome, option_map}
+use Rattle.std.proofs.Common.{◌≡◌, ℕ, ◌+◌, ◌-◌, ◌≤◌, ◌<◌, Bool, true, false, cond, eqb, zero, suc, List, [], ◌∷◌, ◌++◌, length, take, drop, Option, Some, None, refl, sym, ap, ◌∙◌, subst, arith, inl, inr, ◌⊎◌, append_assoc, append-nil, add-one, ◌&&◌, ◌||◌, not, IfSome, option_map}
 use Rattle.std.specs.List.{list_all}
-use Rattle.std.proofs.lemmas.Bool.{cond_both, and_parts, eqb-true, ne_eqb, not-false}
-use Rattle.std.proofs.lemmas.List.{length-append, append_cancel_left, append_cancel_right}
+use Rattle.std.proofs.lemmas.Bool.{cond_both, and_parts, eqb-true, ne_eqb, not-false, not-true}
+use Rattle.std.proofs.lemmas.List.{length-append, append_cancel_left, append_cancel_right, nil_from_length}
 use Rattle.std.proofs.Math.Seq.{take-append_seam, drop-append_seam}
+use Rattle.std.proofs.Math.Bool.{or-false, or_assoc}
+use Rattle.std.proofs.lemmas.Option.{same_Some}
 use Rattle.abc_lines.specs.declared.fault.FaultKind.TheVariants.{BadByte, Unclosed}
 use Rattle.abc_notes.specs.declared.part.Flaw.{Flaw}
 use Rattle.abc_notes.specs.Runs.{span_all, begins}
 use Rattle.abc_notes.specs.Decorations.{is_name_byte}
 use Rattle.abc_notes.specs.Lengths.{LengthForm, length_then, IsLength, length_at}
 use Rattle.abc_notes.specs.Parts.{HasNone, no_part, then_part, walk, is_done, spelled_then, later_or}
-use Rattle.abc_notes.specs.Items.{Inner, note_inside, letter_inside, named_inside, tie_inside, slur_inside, passed_inside, lone_inside, inner_then, IsName, StandsInside, has_length, InnerParts, InnerFlawed, name_at, item_class, inner_at}
+use Rattle.abc_notes.specs.Items.{Inner, lone_inside, inner_then, IsName, StandsInside, has_length, InnerParts, InnerFlawed, name_at, item_class, inner_at}
 use Rattle.abc_notes.specs.Chords.{ChordForm, InnerLeads, is_inside, is_bracket, has_head, chord_then, IsChord, ChordFault, chord_unclosed, chord_open, chord_headless, chord_flawed, bracket_here, bracket_in, bracket_in_name, last_bracket, bracket_at, chord_from, chord_at}
 use Rattle.abc_notes.proofs.SpanLaws.{span_all-takes, span_all-pass, span_all-after, span_all-append, span_all-stops}
 use Rattle.abc_notes.proofs.LengthLaws.{length_at-takes, length_at-reaches}
@@ -22,10 +23,6 @@ use Rattle.abc_notes.proofs.CutLaws.{inner_append, inner_local, read_cut, walk_s
 
 inside_wide : (b : ℕ) → free b ≡ true → is_inside b ≡ true
 inside_wide b h = (and_parts (not (eqb b 93)) (not (eqb b 125)) h).0
-
--- what stands behind bytes that are no bracket is a bracket
-bracket_is : (b : ℕ) (rest : List ℕ) → begins is_inside (b ∷ rest) ≡ false → b ≡ 93
-bracket_is b rest stops = eqb-true b 93 (not-false (eqb b 93) stops)
 
 -- ---- a bracket that is found closes good parts with a head
 
@@ -38,29 +35,18 @@ pub record Closed (bang head : Bool) (text c : List ℕ) : Type 0 where
   pub good : InnerParts bang front parts
   pub has : (head || has_head parts) ≡ true
 
-or-end : (a : Bool) → (a || false) ≡ a
-or-end true = refl
-or-end false = refl
-
-or_assoc : (a b c : Bool) → ((a || b) || c) ≡ (a || (b || c))
-or_assoc true b c = refl
-or_assoc false b c = refl
-
-some_list : (s t : List ℕ) → Some s ≡ Some t → s ≡ t
-some_list s t e = cc
-
 here-closes : (bang head : Bool) (text c : List ℕ) → bracket_here head text ≡ Some c → Closed bang head text c
 here-closes bang head [] c e = absurd cc
 here-closes bang head (b ∷ s) c e =
     cond_both {A = Option (List ℕ)} (eqb b 93 && head) (Some (b ∷ s)) None (λ r. r ≡ Some c → Closed bang head (b ∷ s) c)
     (λ h e. let p = and_parts (eqb b 93) head h in
-    let same : b ∷ s ≡ c = some_list (b ∷ s) c e in
-    record { front = []; rest = s; parts = []; is = sym same ∙ ap (λ x. x ∷ s) (eqb-true b 93 p.0); cut = same; good = no_part; has = or-end head ∙ p.1 })
+    let same : b ∷ s ≡ c = same_Some (b ∷ s) c e in
+    record { front = []; rest = s; parts = []; is = sym same ∙ ap (λ x. x ∷ s) (eqb-true b 93 p.0); cut = same; good = no_part; has = or-false head ∙ p.1 })
     (λ h e. absurd cc) e
 
 name_end : (w : List ℕ) → (length w ≡ 0 → ⊥) → begins is_inside w ≡ false → (after : List ℕ) × (w ≡ 93 ∷ after)
 name_end [] some stops = absurd (some refl)
-name_end (b ∷ w) some stops = (w, ap (λ x. x ∷ w) (bracket_is b w stops))
+name_end (b ∷ w) some stops = (w, ap (λ x. x ∷ w) (eqb-true b 93 (not-false (eqb b 93) stops)))
 
 pub not_zero : (n : ℕ) → not (eqb n 0) ≡ true → n ≡ 0 → ⊥
 not_zero n h e = let clash : not (eqb 0 0) ≡ true = subst (λ x. not (eqb x 0) ≡ true) e h in cc
@@ -89,7 +75,7 @@ in-closes bang head s c (Some named) off t e =
     let end = name_end inside.1 (not_zero (length inside.1) p.0) (span_all-after is_inside named.0) in
     let whole : named.0 ≡ inside.0 ++ (93 ∷ end.0) = span_all-takes is_inside named.0 ∙ ap (λ x. inside.0 ++ x) end.1 in
     let cut : s ≡ inside.0 ++ (93 ∷ (end.0 ++ (33 ∷ named.1))) = t.1 ∙ ap (λ x. x ++ (33 ∷ named.1)) whole ∙ append_assoc inside.0 (93 ∷ end.0) (33 ∷ named.1) in
-    let is : c ≡ 93 ∷ (end.0 ++ (33 ∷ named.1)) = sym (some_list (drop (length inside.0) s) c e) ∙ ap (drop (length inside.0)) cut ∙ drop-append_seam inside.0 (93 ∷ (end.0 ++ (33 ∷ named.1))) in
+    let is : c ≡ 93 ∷ (end.0 ++ (33 ∷ named.1)) = sym (same_Some (drop (length inside.0) s) c e) ∙ ap (drop (length inside.0)) cut ∙ drop-append_seam inside.0 (93 ∷ (end.0 ++ (33 ∷ named.1))) in
     record {
       before = inside.0;
       rest = end.0 ++ (33 ∷ named.1);
@@ -114,17 +100,13 @@ closed_of bang head s c k = record {
   has = k.has;
 }
 
-pub is_off : (x : Bool) → not x ≡ true → x ≡ false
-is_off true h = absurd cc
-is_off false h = refl
-
 pub in_name-finds : (bang head : Bool) (text c : List ℕ) → bracket_in_name bang head text ≡ Some c → (s : List ℕ) × (text ≡ 33 ∷ s) × NameClosed bang head s c
 unfolding bracket_in_name
 in_name-finds bang head [] c e = absurd cc
 in_name-finds bang head (b ∷ s) c e =
     cond_both {A = Option (List ℕ)} (eqb b 33 && not bang) (bracket_in bang head s (name_at s)) None (λ r. r ≡ Some c → (t : List ℕ) × (b ∷ s ≡ 33 ∷ t) × NameClosed bang head t c)
     (λ h e. let p = and_parts (eqb b 33) (not bang) h in
-    (s, ap (λ x. x ∷ s) (eqb-true b 33 p.0), in-closes bang head s c (name_at s) (is_off bang p.1) (name_at-takes s) e))
+    (s, ap (λ x. x ∷ s) (eqb-true b 33 p.0), in-closes bang head s c (name_at s) (not-true bang p.1) (name_at-takes s) e))
     (λ h e. absurd cc) e
 
 in_name-closes : (bang head : Bool) (text c : List ℕ) → bracket_in_name bang head text ≡ Some c → Closed bang head text c
@@ -274,7 +256,7 @@ moved : (bang : Bool) (u t v : List ℕ) (part : Inner) → StandsInside bang pa
 moved bang u t v part stands = record { good = stands.good; cut = ap (λ s. s ++ (93 ∷ t)) stands.cut ∙ inner_append part v (93 ∷ t) }
 
 last-reaches : (bang head : Bool) (u t : List ℕ) (ps : List Inner) → InnerParts bang u ps → (head || has_head ps) ≡ true → FoundLast bang head (u ++ (93 ∷ t)) t
-last-reaches bang head _ t _ no_part has = here-found bang head t (sym (or-end head) ∙ has)
+last-reaches bang head _ t _ no_part has = here-found bang head t (sym (or-false head) ∙ has)
 last-reaches bang head _ t _ (then_part u part v more l others) has =
     let r = inner_reader bang in
     let at = longest_is r u part v l in
@@ -289,13 +271,8 @@ last-reaches bang head _ t _ (then_part u part v more l others) has =
 
 -- no exclamation mark is passed over
 abbrev pub is_lone : Inner → Bool
-is_lone (note_inside f) = false
-is_lone (letter_inside b) = false
-is_lone (named_inside name) = false
-is_lone (tie_inside d) = false
-is_lone slur_inside = false
-is_lone (passed_inside b) = false
 is_lone lone_inside = true
+is_lone _ = false
 
 abbrev pub has_lone : List Inner → Bool
 has_lone [] = false
@@ -314,7 +291,7 @@ cross-lone bang u t v part z at e past =
 
 -- where no exclamation mark is passed over, the line is read as the inside is
 last-exact : (bang head : Bool) (u t : List ℕ) (ps : List Inner) → InnerParts bang u ps → (head || has_head ps) ≡ true → has_lone ps ≡ false → last_at bang head (u ++ (93 ∷ t)) ≡ Some (93 ∷ t)
-last-exact bang head _ t _ no_part has whole = last_at-none bang head (93 ∷ t) (at_bracket bang t) ∙ rw (sym (or-end head) ∙ has) refl
+last-exact bang head _ t _ no_part has whole = last_at-none bang head (93 ∷ t) (at_bracket bang t) ∙ rw (sym (or-false head) ∙ has) refl
 last-exact bang head _ t _ (then_part u part v more l others) has whole =
     let r = inner_reader bang in
     let at = longest_is r u part v l in
@@ -482,22 +459,18 @@ unclosed s w (b ∷ r) cut none = absurd (omega (arith, none))
 pub chord-unclosed : (bang : Bool) (s w r : List ℕ) → two w r ≡ span_all is_inside s → length r ≡ 0 → ChordFault bang s (record { kind = Unclosed; left = length s + 1 })
 chord-unclosed bang s w r cut none = rw add-one (chord_unclosed s (unclosed s w r cut none))
 
-no_bytes : (t : List ℕ) → length t ≡ 0 → t ≡ []
-no_bytes [] h = refl
-no_bytes (b ∷ t) h = absurd (omega (arith, h))
-
 inner_leads : (bang : Bool) (s : List ℕ) → InnerLeads bang s (walk (inner_at bang) s).0 (walk (inner_at bang) s).1
 inner_leads bang s = leads_of_walk (inner_reader bang) (inner_local bang) s
 
 pub chord-open : (bang : Bool) (s : List ℕ) → is_done (walk (inner_at bang) s) ≡ true → ChordFault bang s (record { kind = Unclosed; left = length s + 1 })
 chord-open bang s done =
     let w = walk (inner_at bang) s in
-    let none : w.1 ≡ [] = no_bytes w.1 (eqb-true (length w.1) 0 done) in
+    let none : w.1 ≡ [] = nil_from_length w.1 (eqb-true (length w.1) 0 done) in
     rw add-one (chord_open s w.0 (subst (λ t. InnerLeads bang s w.0 t) none (inner_leads bang s)))
 
 -- parts with a head up to a bracket are a chord
 last_here : (bang head : Bool) (ps : List Inner) (rest : List ℕ) → (head || has_head ps) ≡ true → last_bracket bang head ps (93 ∷ rest) ≡ Some (93 ∷ rest)
-last_here bang head [] rest has = rw (sym (or-end head) ∙ has) refl
+last_here bang head [] rest has = rw (sym (or-false head) ∙ has) refl
 last_here bang head (p ∷ ps) rest has = rw (last_here bang (head || has_length p) ps rest (or_assoc head (has_length p) (has_head ps) ∙ has)) refl
 
 headless_as : (bang : Bool) (s rest : List ℕ) (b : Bool) → has_head (walk (inner_at bang) s).0 ≡ b → (walk (inner_at bang) s).1 ≡ 93 ∷ rest → chord_at bang s ≡ None → b ≡ false

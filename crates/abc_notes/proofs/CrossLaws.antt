@@ -1,10 +1,9 @@
 -- The last brace within a chord at which a grace group may end stands behind one of the shorter
 -- chords that begin at the same bracket.
-use Rattle.std.proofs.Common.{◌≡◌, ℕ, suc, ◌+◌, ◌-◌, ◌≤◌, Bool, true, false, cond, eqb, List, [], ◌∷◌, ◌++◌, length, take, drop, Bor, Option, Some, None, refl, sym, ap, ◌∙◌, subst, arith, append_assoc, append-nil}
-use Rattle.std.specs.Prelude.{not, ◌&&◌, ◌||◌, IfSome, option_map}
+use Rattle.std.proofs.Common.{◌≡◌, ℕ, suc, ◌+◌, ◌-◌, ◌≤◌, Bool, true, false, cond, eqb, List, [], ◌∷◌, ◌++◌, length, take, drop, Bor, Option, Some, None, refl, sym, ap, ◌∙◌, subst, arith, append_assoc, append-nil, not, ◌&&◌, ◌||◌, IfSome, option_map}
 use Rattle.std.specs.List.{list_all}
-use Rattle.std.proofs.lemmas.Bool.{cond_both, and_parts, eqb-true}
-use Rattle.std.proofs.lemmas.List.{length-append, append_cancel_right}
+use Rattle.std.proofs.lemmas.Bool.{cond_both, and_parts, eqb-true, not-true}
+use Rattle.std.proofs.lemmas.List.{length-append, append_cancel_right, nil_from_length}
 use Rattle.std.proofs.Math.Seq.{drop-append_seam}
 use Rattle.abc_notes.specs.declared.part.GraceChord.{GraceChord}
 use Rattle.abc_notes.specs.declared.part.GraceItem.{GraceItem}
@@ -13,7 +12,7 @@ use Rattle.abc_notes.specs.declared.part.ItemClass.TheVariants as class
 use Rattle.abc_notes.specs.Runs.{span_all}
 use Rattle.abc_notes.specs.Decorations.{is_name_byte}
 use Rattle.abc_notes.specs.Parts.{no_part, then_part, walk, is_done, later_or}
-use Rattle.abc_notes.specs.Items.{Inner, note_inside, letter_inside, named_inside, tie_inside, slur_inside, passed_inside, lone_inside, inner_then, IsInner, IsName, has_length, InnerParts, name_at, named_or, inner_at}
+use Rattle.abc_notes.specs.Items.{Inner, named_inside, lone_inside, inner_then, IsInner, IsName, has_length, InnerParts, name_at, named_or, inner_at}
 use Rattle.abc_notes.specs.Chords.{is_inside, has_head, bracket_in_name, bracket_at}
 use Rattle.abc_notes.specs.declared.part.Len.{Len}
 use Rattle.abc_notes.specs.Lengths.{length_then, length_at, len_of, length_read}
@@ -37,13 +36,8 @@ name_bracket bang head name =
 
 -- from it on up to the end of the part
 abbrev own_bracket : Bool → Bool → Inner → Option (List ℕ)
-own_bracket bang head (note_inside f) = None
-own_bracket bang head (letter_inside b) = None
 own_bracket bang head (named_inside name) = name_bracket bang head name
-own_bracket bang head (tie_inside d) = None
-own_bracket bang head slur_inside = None
-own_bracket bang head (passed_inside b) = None
-own_bracket bang head lone_inside = None
+own_bracket bang head _ = None
 
 cond_map : (c : Bool) (a b x : List ℕ) → a ≡ b ++ x → cond {A = Option (List ℕ)} c (Some a) None ≡ option_map (λ m. m ++ x) (cond {A = Option (List ℕ)} c (Some b) None)
 cond_map true a b x e = ap Some e
@@ -79,10 +73,6 @@ kinds : (r : Option (List ℕ × List ℕ)) (s : List ℕ) (z : Inner × List �
 kinds None s z e n l = let clash : true ≡ false = ap (λ (p : Inner × List ℕ). is_lone p.0) (some_inner (inner_pair lone_inside s) z e) ∙ l in cc
 kinds (Some named) s z e n l = let clash : true ≡ false = ap (λ (p : Inner × List ℕ). is_named p.0) (some_inner (inner_pair (named_inside named.0) named.1) z e) ∙ n in cc
 
-off_if : (b : Bool) → not b ≡ true → b ≡ false
-off_if true h = absurd cc
-off_if false h = refl
-
 other_own : (bang head : Bool) (text : List ℕ) (z : Inner × List ℕ) → inner_at bang text ≡ Some z → is_named z.0 ≡ false → is_lone z.0 ≡ false → bracket_in_name bang head text ≡ None
 unfolding bracket_in_name
 other_own bang head [] z e n l = refl
@@ -90,17 +80,13 @@ other_own bang head (b ∷ s) z e n l =
     cond_both {A = Option (List ℕ)} (eqb b 33 && not bang) _ None (λ r. r ≡ None)
     (λ h.
     let p = and_parts (eqb b 33) (not bang) h in
-    absurd (kinds (name_at s) s z (sym (mark_read bang s (off_if bang p.1)) ∙ ap (λ x. inner_at bang (x ∷ s)) (sym (eqb-true b 33 p.0)) ∙ e) n l))
+    absurd (kinds (name_at s) s z (sym (mark_read bang s (not-true bang p.1)) ∙ ap (λ x. inner_at bang (x ∷ s)) (sym (eqb-true b 33 p.0)) ∙ e) n l))
     (λ h. refl)
 
 part_own : (bang head : Bool) (part : Inner) (x : List ℕ) → IsInner bang part → inner_at bang (inner_then part x) ≡ Some (inner_pair part x) → bracket_in_name bang head (inner_then part x) ≡ option_map (λ m. m ++ x) (own_bracket bang head part)
-part_own bang head (note_inside f) x good e = other_own bang head (inner_then (note_inside f) x) (note_inside f, x) e refl refl
-part_own bang head (letter_inside b) x good e = other_own bang head (inner_then (letter_inside b) x) (letter_inside b, x) e refl refl
 part_own bang head (named_inside name) x good e = subst (λ (b : Bool). bracket_in_name b head (33 ∷ (name ++ (33 ∷ x))) ≡ option_map (λ (m : List ℕ). m ++ x) (name_bracket b head name)) (sym good.0) (named_own head name x good.1)
-part_own bang head (tie_inside d) x good e = other_own bang head (inner_then (tie_inside d) x) (tie_inside d, x) e refl refl
-part_own bang head slur_inside x good e = other_own bang head (inner_then slur_inside x) (slur_inside, x) e refl refl
-part_own bang head (passed_inside b) x good e = other_own bang head (inner_then (passed_inside b) x) (passed_inside b, x) e refl refl
 part_own bang head lone_inside x good e = lone_own bang head x good e
+part_own bang head part x good e = other_own bang head (inner_then part x) (part, x) e refl refl
 
 -- ---- the text before a bracket in a name holds no bracket behind the mark
 
@@ -289,10 +275,6 @@ add_nothing : (r : Option (List ℕ)) → option_map (λ c. c ++ []) r ≡ r
 add_nothing None = refl
 add_nothing (Some c) = ap Some (append-nil c)
 
-no_bytes : (t : List ℕ) → length t ≡ 0 → t ≡ []
-no_bytes [] h = refl
-no_bytes (b ∷ t) h = absurd (omega (arith, h))
-
 ends_at : (bang head : Bool) (w : List ℕ) (bracket last : Option (List ℕ)) (rest : List ℕ) → rest ≡ [] → Passing bang head w bracket last rest → later_or (brace_between bang bracket (Some rest)) last ≡ brace_in_chord bang w
 ends_at bang head w bracket last [] e stage =
     let quiet : last_at bang head [] ≡ None = last_at-none bang head [] (nothing_read bang) in
@@ -301,7 +283,7 @@ ends_at bang head w bracket last (b ∷ rest) e stage = absurd cc
 
 pub passing-ends : (bang head : Bool) (w : List ℕ) (bracket last : Option (List ℕ)) (rest : List ℕ) → Passing bang head w bracket last rest → inner_at bang rest ≡ None → is_done (walk (inner_at bang) w) ≡ true → later_or (brace_between bang bracket (Some rest)) last ≡ brace_in_chord bang w
 passing-ends bang head w bracket last rest stage none done =
-    let nothing : rest ≡ [] = sym (ap (λ (z : List Inner × List ℕ). z.1) (walk-none (inner_reader bang) rest none)) ∙ stage.left ∙ no_bytes (walk (inner_at bang) w).1 (eqb-true (length (walk (inner_at bang) w).1) 0 done) in
+    let nothing : rest ≡ [] = sym (ap (λ (z : List Inner × List ℕ). z.1) (walk-none (inner_reader bang) rest none)) ∙ stage.left ∙ nil_from_length (walk (inner_at bang) w).1 (eqb-true (length (walk (inner_at bang) w).1) 0 done) in
     ends_at bang head w bracket last rest nothing stage
 
 -- ---- what is found stands within the chord

@@ -1,14 +1,12 @@
 -- Parts at the front of a text that goes on, and of the text that is cut off there.
-use Rattle.std.proofs.Common.{◌≡◌, ℕ, zero, suc, ◌≤◌, ◌<◌, Bool, true, false, eqb, List, [], ◌∷◌, ◌++◌, length, Option, Some, None, refl, sym, ap, ◌∙◌, subst, arith, inl, inr, append_assoc, append-nil}
-use Rattle.std.specs.Prelude.{◌&&◌, not}
+use Rattle.std.proofs.Common.{◌≡◌, ℕ, zero, suc, ◌≤◌, ◌<◌, Bool, true, false, eqb, List, [], ◌∷◌, ◌++◌, length, Option, Some, None, refl, sym, ap, ◌∙◌, subst, arith, inl, inr, append_assoc, append-nil, ◌&&◌, not, length-append}
 use Rattle.std.specs.List.{list_all}
 use Rattle.std.proofs.lemmas.Bool.{or_cases, and_parts, and_from, eqb-true, ne_eqb}
-use Rattle.std.proofs.lemmas.List.{length-append}
 use Rattle.std.proofs.lemmas.List.Folds.{list_all-append}
 use Rattle.mus_units.specs.declared.pitch.Alter.{Alter}
-use Rattle.mus_units.specs.declared.pitch.Alter.TheVariants.{Flat2, Flat, Natural, Sharp, Sharp2}
+use Rattle.mus_units.specs.declared.pitch.Alter.TheVariants.{Sharp2}
 use Rattle.mus_units.specs.declared.pitch.Letter.{Letter}
-use Rattle.mus_units.specs.declared.pitch.Letter.TheVariants.{C, D, E, F, G, A, B}
+use Rattle.mus_units.specs.declared.pitch.Letter.TheVariants.{C}
 use Rattle.abc_notes.specs.declared.part.ItemClass.TheVariants as class
 use Rattle.mus_units.specs.Bytes.{is_digit}
 use Rattle.abc_notes.specs.Runs.{copies, maybe, is_mark, span_all}
@@ -16,7 +14,7 @@ use Rattle.abc_notes.specs.Lengths.{LengthForm, whole, over, halved, length_then
 use Rattle.abc_notes.specs.Notes.{NoteForm, note_then, sign_then, letter_byte, IsNote}
 use Rattle.abc_notes.specs.Decorations.{is_name_byte}
 use Rattle.abc_notes.specs.Parts.{no_part, then_part, Leads, leads_here, leads_on, walk, spelled_then}
-use Rattle.abc_notes.specs.Items.{Inner, note_inside, letter_inside, named_inside, tie_inside, slur_inside, passed_inside, lone_inside, inner_then, IsName, is_passed_inside, is_letter_inside, IsInner, StandsInside, InnerParts, closed_name, name_at, inner_at}
+use Rattle.abc_notes.specs.Items.{Inner, note_inside, letter_inside, named_inside, tie_inside, passed_inside, lone_inside, inner_then, IsName, is_passed_inside, is_letter_inside, IsInner, StandsInside, InnerParts, closed_name, name_at, inner_at}
 use Rattle.abc_notes.proofs.Bounds.{digit_range}
 use Rattle.abc_notes.proofs.SpanLaws.{span_all-append}
 use Rattle.abc_notes.proofs.LengthLaws.{count-digits}
@@ -29,7 +27,7 @@ copies_append : (n b : ℕ) (v y : List ℕ) → copies n b v ++ y ≡ copies n 
 copies_append zero b v y = refl
 copies_append (suc n) b v y = ap (λ t. b ∷ t) (copies_append n b v y)
 
-maybe_append : (d : Bool) (b : ℕ) (v y : List ℕ) → maybe d b v ++ y ≡ maybe d b (v ++ y)
+pub maybe_append : (d : Bool) (b : ℕ) (v y : List ℕ) → maybe d b v ++ y ≡ maybe d b (v ++ y)
 maybe_append true b v y = refl
 maybe_append false b v y = refl
 
@@ -38,13 +36,9 @@ length_append (whole c) v y = append_assoc c v y
 length_append (over c b) v y = append_assoc c (47 ∷ (b ++ v)) y ∙ ap (λ t. c ++ (47 ∷ t)) (append_assoc b v y)
 length_append (halved c k) v y = append_assoc c (copies k 47 v) y ∙ ap (λ t. c ++ t) (copies_append k 47 v y)
 
-sign_append : (sign : Option Alter) (v y : List ℕ) → sign_then sign v ++ y ≡ sign_then sign (v ++ y)
-sign_append None v y = refl
+pub sign_append : (sign : Option Alter) (v y : List ℕ) → sign_then sign v ++ y ≡ sign_then sign (v ++ y)
 sign_append (Some Sharp2) v y = refl
-sign_append (Some Sharp) v y = refl
-sign_append (Some Flat2) v y = refl
-sign_append (Some Flat) v y = refl
-sign_append (Some Natural) v y = refl
+sign_append _ v y = refl
 
 note_append : (f : NoteForm) (v y : List ℕ) → note_then f v ++ y ≡ note_then f (v ++ y)
 note_append f v y =
@@ -57,9 +51,7 @@ inner_append (note_inside f) v y = note_append f v y
 inner_append (letter_inside b) v y = refl
 inner_append (named_inside name) v y = ap (λ t. 33 ∷ t) (append_assoc name (33 ∷ v) y)
 inner_append (tie_inside d) v y = maybe_append d 46 (45 ∷ v) y
-inner_append slur_inside v y = refl
-inner_append (passed_inside b) v y = refl
-inner_append lone_inside v y = refl
+inner_append _ v y = refl
 
 -- ---- two cuts of one text
 
@@ -161,19 +153,8 @@ mark_free b h = elim (or_cases (eqb b 39) (eqb b 44) h) [ inl prime ↦ rw (eqb-
 
 letter_free : (low : Bool) (l : Letter) → free (letter_byte low l) ≡ true
 letter_free false C = refl
-letter_free false D = refl
-letter_free false E = refl
-letter_free false F = refl
-letter_free false G = refl
-letter_free false A = refl
-letter_free false B = refl
-letter_free true C = refl
-letter_free true D = refl
-letter_free true E = refl
-letter_free true F = refl
-letter_free true G = refl
-letter_free true A = refl
-letter_free true B = refl
+letter_free _ C = refl
+letter_free _ _ = refl
 
 copies_free : (n : ℕ) → list_all free (copies n 47 []) ≡ true
 copies_free zero = refl
@@ -188,12 +169,8 @@ length_free (over c b) good = all_join free c (47 ∷ (b ++ [])) (digits_free c 
 length_free (halved c k) good = all_join free c (copies k 47 []) (digits_free c (count-digits 4 c good.0)) (copies_free k)
 
 sign_free : (sign : Option Alter) (x : List ℕ) → list_all free x ≡ true → list_all free (sign_then sign x) ≡ true
-sign_free None x h = h
 sign_free (Some Sharp2) x h = h
-sign_free (Some Sharp) x h = h
-sign_free (Some Flat2) x h = h
-sign_free (Some Flat) x h = h
-sign_free (Some Natural) x h = h
+sign_free _ x h = h
 
 note_free : (f : NoteForm) → IsNote f → list_all free (note_then f []) ≡ true
 note_free f good =
@@ -211,20 +188,16 @@ abbrev pub is_named : Inner → Bool
 is_named (note_inside f) = false
 is_named (letter_inside b) = false
 is_named (named_inside name) = true
-is_named (tie_inside d) = false
-is_named slur_inside = false
-is_named (passed_inside b) = false
-is_named lone_inside = false
+is_named _ = false
 
 pub inner_free : (bang : Bool) (f : Inner) → IsInner bang f → is_named f ≡ false → list_all free (inner_then f []) ≡ true
 inner_free bang (note_inside f) good h = note_free f good
 inner_free bang (letter_inside b) good h = and_from (free b) true (letter_inside_free b good) refl
 inner_free bang (named_inside name) good h = absurd cc
-inner_free bang (tie_inside true) good h = refl
-inner_free bang (tie_inside false) good h = refl
-inner_free bang slur_inside good h = refl
 inner_free bang (passed_inside b) good h = and_from (free b) true (passed_free b good) refl
 inner_free bang lone_inside good h = refl
+inner_free bang (tie_inside true) good h = refl
+inner_free bang _ good h = refl
 
 -- ---- where a part goes past a closing byte it is a name, and but for it an exclamation mark is passed over
 
@@ -265,12 +238,7 @@ named_crosses close name (b ∷ u) bs other e =
 
 crosses_by : (bang : Bool) (q : ℕ → Bool) (close : ℕ) (f : Inner) (u bs : List ℕ) → ((b : ℕ) → free b ≡ true → q b ≡ true) → q close ≡ false → eqb close 33 ≡ false → IsInner bang f → inner_then f [] ≡ u ++ (close ∷ bs) → CrossesIn bang f u close
 crosses_by bang q close (named_inside name) u bs wide closes other good e = record { name = name; is = refl; off = good.0; good = good.1; crosses = named_crosses close name u bs other e }
-crosses_by bang q close (note_inside f) u bs wide closes other good e = absurd (none_named q close (note_inside f) u bs wide closes (inner_free bang (note_inside f) good refl) e)
-crosses_by bang q close (letter_inside b) u bs wide closes other good e = absurd (none_named q close (letter_inside b) u bs wide closes (inner_free bang (letter_inside b) good refl) e)
-crosses_by bang q close (tie_inside d) u bs wide closes other good e = absurd (none_named q close (tie_inside d) u bs wide closes (inner_free bang (tie_inside d) good refl) e)
-crosses_by bang q close slur_inside u bs wide closes other good e = absurd (none_named q close slur_inside u bs wide closes (inner_free bang slur_inside good refl) e)
-crosses_by bang q close (passed_inside b) u bs wide closes other good e = absurd (none_named q close (passed_inside b) u bs wide closes (inner_free bang (passed_inside b) good refl) e)
-crosses_by bang q close lone_inside u bs wide closes other good e = absurd (none_named q close lone_inside u bs wide closes (inner_free bang lone_inside good refl) e)
+crosses_by bang q close f u bs wide closes other good e = absurd (none_named q close f u bs wide closes (inner_free bang f good refl) e)
 
 -- the part ends behind the closing byte
 pub crossing : (bang : Bool) (q : ℕ → Bool) (close : ℕ) (f : Inner) (u t rest : List ℕ) → ((b : ℕ) → free b ≡ true → q b ≡ true) → q close ≡ false → eqb close 33 ≡ false → IsInner bang f →
@@ -298,12 +266,7 @@ lone_at bang s off h = at_class bang 33 s class.Bang bang_class ∙ rw (off, all
 
 pub named_bad : (f : Inner) (rest : List ℕ) → is_named f ≡ true → list_all is_name_byte (inner_then f rest) ≡ true → ⊥
 named_bad (note_inside f) rest n k = absurd cc
-named_bad (letter_inside b) rest n k = absurd cc
-named_bad (named_inside name) rest n k = absurd cc
-named_bad (tie_inside d) rest n k = absurd cc
-named_bad slur_inside rest n k = absurd cc
-named_bad (passed_inside b) rest n k = absurd cc
-named_bad lone_inside rest n k = absurd cc
+named_bad _ rest n k = absurd cc
 
 clear_step : (bang : Bool) (q : ℕ → Bool) (text : List ℕ) (part : Inner) (rest : List ℕ) (b : Bool) → ((b : ℕ) → free b ≡ true → q b ≡ true) → StandsInside bang part text rest → list_all is_name_byte text ≡ true →
     (list_all is_name_byte rest ≡ true → list_all q rest ≡ true) → is_named part ≡ b → list_all q text ≡ true

@@ -1,15 +1,15 @@
 -- Reading a part of a grace group, and a group, gives the longest; where there is none its fault
 -- is found.
-use Rattle.std.proofs.Common.{◌≡◌, ℕ, zero, suc, ◌+◌, ◌-◌, ◌≤◌, ◌<◌, Bool, true, false, cond, eqb, List, [], ◌∷◌, ◌++◌, length, take, drop, Option, Some, None, refl, sym, ap, ◌∙◌, subst, arith, inl, inr, ◌⊎◌, append_assoc, append-nil, add-one}
-use Rattle.std.specs.Prelude.{not, ◌&&◌, ◌||◌, IfSome, option_map, MatchOption}
+use Rattle.std.proofs.Common.{◌≡◌, ℕ, zero, suc, ◌+◌, ◌-◌, ◌≤◌, ◌<◌, Bool, true, false, cond, eqb, List, [], ◌∷◌, ◌++◌, length, take, drop, Option, Some, None, refl, sym, ap, ◌∙◌, subst, arith, inl, inr, ◌⊎◌, append_assoc, append-nil, add-one, not, ◌&&◌, ◌||◌, IfSome, option_map, MatchOption}
 use Rattle.std.specs.List.{list_all}
-use Rattle.std.proofs.lemmas.Bool.{cond_both, and_parts, eqb-true, not-false, ne_eqb, or_cases}
-use Rattle.std.proofs.lemmas.List.{length-append, length-drop, take-append-drop, append_cancel_left, append_cancel_right}
+use Rattle.std.proofs.lemmas.Bool.{cond_both, and_parts, eqb-true, not-false, ne_eqb, or_cases, not-true, or_parts}
+use Rattle.std.proofs.lemmas.List.{length-append, length-drop, take-append-drop, append_cancel_left, append_cancel_right, nil_from_length}
 use Rattle.std.proofs.Math.Seq.{take-append_seam, drop-append_seam}
+use Rattle.std.proofs.lemmas.Option.{same_Some}
 use Rattle.mus_units.specs.declared.pitch.Alter.{Alter}
-use Rattle.mus_units.specs.declared.pitch.Alter.TheVariants.{Flat2, Flat, Natural, Sharp, Sharp2}
+use Rattle.mus_units.specs.declared.pitch.Alter.TheVariants.{Sharp2}
 use Rattle.mus_units.specs.declared.pitch.Letter.{Letter}
-use Rattle.mus_units.specs.declared.pitch.Letter.TheVariants.{C, D, E, F, G, A, B}
+use Rattle.mus_units.specs.declared.pitch.Letter.TheVariants.{C}
 use Rattle.abc_lines.specs.declared.fault.FaultKind.TheVariants.{Unclosed}
 use Rattle.abc_notes.specs.declared.part.Flaw.{Flaw}
 use Rattle.abc_notes.specs.declared.part.GraceChord.{GraceChord}
@@ -27,14 +27,10 @@ use Rattle.abc_notes.proofs.RunLaws.{Lacks, skip-takes, skip-lacks}
 use Rattle.abc_notes.proofs.SpanLaws.{span_all-takes, span_all-pass, span_all-after, span_all-append, span_all-stops}
 use Rattle.abc_notes.proofs.PartLaws.{Reader, stands_at, less, longest_of, longest_is, none_of, walk-none, walk-some, parts_of_walk, walk_of_parts}
 use Rattle.abc_notes.proofs.LengthLaws.{length_at-takes}
-use Rattle.abc_notes.proofs.InnerLaws.{inner_reader, inner-longer}
+use Rattle.abc_notes.proofs.InnerLaws.{inner_reader, inner-longer, place_small}
 use Rattle.abc_notes.proofs.ItemLaws.{name_at-takes, name_at-reads}
-use Rattle.abc_notes.proofs.ChordLaws.{TakesChord, bracket_at-closes, chord_at-takes, chord_at-reaches, chord-reads, chord-longer, has_lone, is_lone, le_lt, later_assoc, later_none, not_zero, is_off, cut_off}
+use Rattle.abc_notes.proofs.ChordLaws.{TakesChord, bracket_at-closes, chord_at-takes, chord_at-reaches, chord-reads, chord-longer, has_lone, is_lone, le_lt, later_assoc, later_none, not_zero, cut_off}
 use Rattle.abc_notes.proofs.CutLaws.{inner_append, length_append, length_free, Cut, cut_at, first_same, rest_same, Local, read_cut, leads_of_walk, wider, all_join, all_parts, all_span, clear_parts, free, is_named, inner_free, named_bad, CrossesIn, crossing, lone_at}
-
-not-true : (b : Bool) → not b ≡ true → b ≡ false
-not-true true h = absurd cc
-not-true false h = refl
 
 abbrev pub at_least : ℕ → Option ℕ → Type 0
 at_least n None = Unit {0}
@@ -119,24 +115,9 @@ letter_apart b h =
 by_sign : (bang : Bool) (sign : Option Alter) (low : Bool) (l : Letter) (t : List ℕ) → let s = sign_then sign (letter_byte low l ∷ t) in grace_part_at bang s ≡ option_map single_read (inner_at bang s)
 unfolding grace_part_at
 by_sign bang (Some Sharp2) low l t = refl
-by_sign bang (Some Sharp) low l t = refl
-by_sign bang (Some Flat2) low l t = refl
-by_sign bang (Some Flat) low l t = refl
-by_sign bang (Some Natural) low l t = refl
 by_sign bang None false C t = refl
-by_sign bang None false D t = refl
-by_sign bang None false E t = refl
-by_sign bang None false F t = refl
-by_sign bang None false G t = refl
-by_sign bang None false A t = refl
-by_sign bang None false B t = refl
-by_sign bang None true C t = refl
-by_sign bang None true D t = refl
-by_sign bang None true E t = refl
-by_sign bang None true F t = refl
-by_sign bang None true G t = refl
-by_sign bang None true A t = refl
-by_sign bang None true B t = refl
+by_sign bang None _ C t = refl
+by_sign bang _ _ _ t = refl
 
 single_at : (bang : Bool) (f : Inner) (x : List ℕ) → IsInner bang f → grace_part_at bang (inner_then f x) ≡ option_map single_read (inner_at bang (inner_then f x))
 single_at bang (note_inside f) x good = by_sign bang f.sign f.low f.letter (f.marks ++ length_then f.length x)
@@ -212,10 +193,6 @@ pub record Group (bang : Bool) (w : List ℕ) (before : Option ℕ) (rest : List
 pub group-begins : (bang : Bool) (w : List ℕ) → Group bang w None w
 group-begins bang w = record { left = refl; flaw = λ f h. h; within = omega arith; small = tt; behind = tt }
 
-place_small : (b : Bool) (n here : ℕ) → here ≤ n → at_most n (length_at_place b here)
-place_small true n here h = h
-place_small false n here h = tt
-
 place_behind : (b : Bool) (n here : ℕ) → n ≤ here → at_least n (length_at_place b here)
 place_behind true n here h = h
 place_behind false n here h = tt
@@ -278,9 +255,6 @@ part_append (chorded f) v y = ap (λ t. 91 ∷ t) (chord_append f v y)
 part_local : (bang : Bool) → Local GracePart (StandsInGrace bang) grace_part_then
 part_local bang = record { spells = λ p s x stands. stands.cut; moves = λ p s x t y stands e. record { good = stands.good; cut = e }; appends = part_append }
 
-brace_is : (b : ℕ) (rest : List ℕ) → begins is_in_grace (b ∷ rest) ≡ false → b ≡ 125
-brace_is b rest stops = eqb-true b 125 (not-false (eqb b 125) stops)
-
 pub record ClosedGroup (bang : Bool) (text c : List ℕ) : Type 0 where
   pub front : List ℕ
   pub rest : List ℕ
@@ -289,20 +263,17 @@ pub record ClosedGroup (bang : Bool) (text c : List ℕ) : Type 0 where
   pub cut : text ≡ front ++ c
   pub good : GraceParts bang front parts
 
-some_list : (s t : List ℕ) → Some s ≡ Some t → s ≡ t
-some_list s t e = cc
-
 here-closes : (bang : Bool) (text c : List ℕ) → brace_here text ≡ Some c → ClosedGroup bang text c
 here-closes bang [] c e = absurd cc
 here-closes bang (b ∷ s) c e =
     cond_both {A = Option (List ℕ)} (eqb b 125) (Some (b ∷ s)) None (λ r. r ≡ Some c → ClosedGroup bang (b ∷ s) c)
-    (λ h e. let same : b ∷ s ≡ c = some_list (b ∷ s) c e in
+    (λ h e. let same : b ∷ s ≡ c = same_Some (b ∷ s) c e in
     record { front = []; rest = s; parts = []; is = sym same ∙ ap (λ x. x ∷ s) (eqb-true b 125 h); cut = same; good = no_part })
     (λ h e. absurd cc) e
 
 name_end : (w : List ℕ) → (length w ≡ 0 → ⊥) → begins is_in_grace w ≡ false → (after : List ℕ) × (w ≡ 125 ∷ after)
 name_end [] some stops = absurd (some refl)
-name_end (b ∷ w) some stops = (w, ap (λ x. x ∷ w) (brace_is b w stops))
+name_end (b ∷ w) some stops = (w, ap (λ x. x ∷ w) (eqb-true b 125 (not-false (eqb b 125) stops)))
 
 lone_part : (bang : Bool) (s : List ℕ) → bang ≡ false → list_all is_name_byte s ≡ true → grace_part_at bang (33 ∷ s) ≡ Some (part_with (single lone_inside) s)
 lone_part bang s off h = other_byte bang 33 s refl ∙ ap (option_map single_read) (lone_at bang s off h)
@@ -318,7 +289,7 @@ in-closes bang s c (Some named) off t e =
     let end = name_end inside.1 (not_zero (length inside.1) p.0) (span_all-after is_in_grace named.0) in
     let whole : named.0 ≡ inside.0 ++ (125 ∷ end.0) = span_all-takes is_in_grace named.0 ∙ ap (λ x. inside.0 ++ x) end.1 in
     let cut : s ≡ inside.0 ++ (125 ∷ (end.0 ++ (33 ∷ named.1))) = t.1 ∙ ap (λ x. x ++ (33 ∷ named.1)) whole ∙ append_assoc inside.0 (125 ∷ end.0) (33 ∷ named.1) in
-    let is : c ≡ 125 ∷ (end.0 ++ (33 ∷ named.1)) = sym (some_list (drop (length inside.0) s) c e) ∙ ap (drop (length inside.0)) cut ∙ drop-append_seam inside.0 (125 ∷ (end.0 ++ (33 ∷ named.1))) in
+    let is : c ≡ 125 ∷ (end.0 ++ (33 ∷ named.1)) = sym (same_Some (drop (length inside.0) s) c e) ∙ ap (drop (length inside.0)) cut ∙ drop-append_seam inside.0 (125 ∷ (end.0 ++ (33 ∷ named.1))) in
     let names = all_parts is_name_byte inside.0 (125 ∷ end.0) (ap (list_all is_name_byte) (sym whole) ∙ t.0.bytes) in
     record {
       front = 33 ∷ inside.0;
@@ -336,7 +307,7 @@ in_name-closes bang [] c e = absurd cc
 in_name-closes bang (b ∷ s) c e =
     cond_both {A = Option (List ℕ)} (eqb b 33 && not bang) (brace_in bang s (name_at s)) None (λ r. r ≡ Some c → ClosedGroup bang (b ∷ s) c)
     (λ h e. let p = and_parts (eqb b 33) (not bang) h in
-    rw (eqb-true b 33 p.0) (in-closes bang s c (name_at s) (is_off bang p.1) (name_at-takes s) e))
+    rw (eqb-true b 33 p.0) (in-closes bang s c (name_at s) (not-true bang p.1) (name_at-takes s) e))
     (λ h e. absurd cc) e
 
 -- a part and what closes behind it
@@ -383,10 +354,10 @@ closes_there bang text n h =
 found_closes : (bang : Bool) (text c : List ℕ) (n : ℕ) → last_closing bang text n ≡ Some c → ClosedGroup bang text c
 found_closes bang text c zero e =
     cond_both {A = Option (List ℕ)} (closes_at bang text 0) (Some text) None (λ r. r ≡ Some c → ClosedGroup bang text c)
-    (λ h e. subst (ClosedGroup bang text) (some_list text c e) (closes_there bang text 0 h)) (λ h e. absurd cc) e
+    (λ h e. subst (ClosedGroup bang text) (same_Some text c e) (closes_there bang text 0 h)) (λ h e. absurd cc) e
 found_closes bang text c (suc n) e =
     cond_both {A = Option (List ℕ)} (closes_at bang text (suc n)) (Some (drop (suc n) text)) (last_closing bang text n) (λ r. r ≡ Some c → ClosedGroup bang text c)
-    (λ h e. subst (ClosedGroup bang text) (some_list (drop (suc n) text) c e) (closes_there bang text (suc n) h)) (λ h e. found_closes bang text c n e) e
+    (λ h e. subst (ClosedGroup bang text) (same_Some (drop (suc n) text) c e) (closes_there bang text (suc n) h)) (λ h e. found_closes bang text c n e) e
 
 pub brace_at-closes : (bang : Bool) (text c : List ℕ) → brace_at bang text ≡ Some c → ClosedGroup bang text c
 unfolding brace_at
@@ -450,12 +421,9 @@ last_is bang text (Some c) h =
     let same : o.0 ≡ c = same_tail text k.front h.0.front o.0 c k.cut h.0.cut (omega (arith, o.2, h.1 o.0 k)) in
     o.1 ∙ ap Some same
 
-inner_at_brace : (bang : Bool) (t : List ℕ) → inner_at bang (125 ∷ t) ≡ None
-unfolding inner_at item_class
-inner_at_brace bang t = refl
-
 at_brace : (bang : Bool) (t : List ℕ) → grace_part_at bang (125 ∷ t) ≡ None
-at_brace bang t = other_byte bang 125 t refl ∙ ap (option_map single_read) (inner_at_brace bang t)
+unfolding inner_at item_class
+at_brace bang t = other_byte bang 125 t refl
 
 -- where no part stands a brace in front alone closes
 
@@ -515,7 +483,7 @@ or_last bang text z (Some c) x e k later =
       λ d other. elim (le_lt (length d) (length z.1)) [
         | inl before ↦
             (let o = brace_at-last bang z.1 d (behind_closes bang text d z e other before) in
-            let same : c ≡ o.0 = some_list c o.0 (sym later ∙ o.1) in
+            let same : c ≡ o.0 = same_Some c o.0 (sym later ∙ o.1) in
             omega (arith, ap length same, o.2))
         | inr past ↦ omega (arith, past, brace_within bang z.1 c later)
       ],
@@ -530,7 +498,7 @@ or_last bang text z None (Some c) e k later = (
     | inl before ↦ absurd (let o = brace_at-last bang z.1 d (behind_closes bang text d z e other before) in let clash = sym later ∙ o.1 in cc)
     | inr past ↦
         (let o = k.reaches d other past in
-        let same : c ≡ o.0 = some_list c o.0 o.1 in
+        let same : c ≡ o.0 = same_Some c o.0 o.1 in
         omega (arith, ap length same, o.2))
   ],
 )
@@ -662,7 +630,7 @@ chord_reaches bang f rest d good k short = from_cut (cut_at (91 ∷ f.inside) k.
 
 mapped : (tail c : List ℕ) (r : Option (List ℕ)) → option_map (λ b. b ++ tail) r ≡ Some c → (b : List ℕ) × (r ≡ Some b) × (c ≡ b ++ tail)
 mapped tail c None e = absurd cc
-mapped tail c (Some b) e = (b, refl, sym (some_list (b ++ tail) c e))
+mapped tail c (Some b) e = (b, refl, sym (same_Some (b ++ tail) c e))
 
 chord_closes : (bang : Bool) (f : ChordForm) (rest c : List ℕ) → option_map (λ b. b ++ tail_of f rest) (brace_at bang (91 ∷ f.inside)) ≡ Some c → ClosedGroup bang (91 ∷ chord_then f rest) c
 chord_closes bang f rest c e =
@@ -781,15 +749,11 @@ part_kept bang (single f) v t z good whole at e =
     single_from bang f v t z (inner_at bang (inner_then f v ++ (125 ∷ t))) refl (sym here ∙ e) whole at
 part_kept bang (chorded f) v t z good whole at e = chord_kept bang f v t z good whole (ap (grace_part_at bang) (sym (part_append (chorded f) v (125 ∷ t))) ∙ e)
 
-whole_parts : (a b : Bool) → (a || b) ≡ false → (a ≡ false) × (b ≡ false)
-whole_parts true b h = absurd cc
-whole_parts false b h = (refl, h)
-
 nothing_past : (bang : Bool) (u t d : List ℕ) (ps : List GracePart) → GraceParts bang u ps → has_lone_part ps ≡ false → ClosedGroup bang (u ++ (125 ∷ t)) d → length (125 ∷ t) ≤ length d
 nothing_past bang _ t d _ no_part whole k = omega (arith, ap length (front_none bang (125 ∷ t) d (at_brace bang t) k))
 nothing_past bang _ t d _ (then_part u part v more l others) whole k =
     let r = part_reader bang in
-    let w = whole_parts (lone_part_is part) (has_lone_part more) whole in
+    let w = or_parts (lone_part_is part) (has_lone_part more) whole in
     let at : grace_part_at bang u ≡ Some (part_with part v) = longest_is r u part v l in
     let o = r.reaches part (u ++ (125 ∷ t)) (v ++ (125 ∷ t)) (moved bang u t v part l.stands) in
     let kept : length (125 ∷ t) ≤ length o.0.1 = part_kept bang part v t o.0 l.stands.good w.0 (ap (grace_part_at bang) (sym l.stands.cut) ∙ at) (ap (λ (x : List ℕ). grace_part_at bang (x ++ (125 ∷ t))) (sym l.stands.cut) ∙ o.1) in
@@ -941,17 +905,13 @@ has_slash slash s t at = record {
   is_read = λ h. ap (λ (p : Bool × List ℕ). begins is_slash_byte p.1) at ∙ no_slash s (sym (ap (λ (p : Bool × List ℕ). p.0) at) ∙ h);
 }
 
-no_bytes : (t : List ℕ) → length t ≡ 0 → t ≡ []
-no_bytes [] h = refl
-no_bytes (b ∷ t) h = absurd (omega (arith, h))
-
 grace_leads : (bang : Bool) (s : List ℕ) → GraceLeads bang s (walk (grace_part_at bang) s).0 (walk (grace_part_at bang) s).1
 grace_leads bang s = leads_of_walk (part_reader bang) (part_local bang) s
 
 pub grace-open : (bang slash : Bool) (s t : List ℕ) → slashed slash t ≡ skip 47 s → is_done (walk (grace_part_at bang) t) ≡ true → GraceFault bang s (record { kind = Unclosed; left = length s + 1 })
 grace-open bang slash s t at done =
     let w = walk (grace_part_at bang) t in
-    let none : w.1 ≡ [] = no_bytes w.1 (eqb-true (length w.1) 0 done) in
+    let none : w.1 ≡ [] = nil_from_length w.1 (eqb-true (length w.1) 0 done) in
     rw add-one (grace_open s slash t w.0 (has_slash slash s t at) (subst (λ x. GraceLeads bang t w.0 x) none (grace_leads bang t)))
 
 -- parts up to a brace are a group

@@ -1,13 +1,12 @@
 -- The inside of a chord as loops read it.
-use Rattle.std.proofs.Common.{◌≡◌, ℕ, zero, suc, ◌+◌, ◌≤◌, ◌<◌, Bool, true, false, List, [], ◌∷◌, ◌++◌, length, Option, Some, None, refl, sym, ap, ◌∙◌, subst, arith, inl, inr, append_assoc, append-nil}
-use Rattle.std.specs.Prelude.{◌||◌, option_map, MatchBool}
+use Rattle.std.proofs.Common.{◌≡◌, ℕ, zero, suc, ◌+◌, ◌≤◌, ◌<◌, Bool, true, false, List, [], ◌∷◌, ◌++◌, length, Option, Some, None, refl, sym, ap, ◌∙◌, subst, arith, inl, inr, append_assoc, append-nil, ◌||◌, option_map, MatchBool, length-append}
 use Rattle.std.proofs.lemmas.Bool.{cond_both, ne_eqb}
-use Rattle.std.proofs.lemmas.List.{length-append}
+use Rattle.std.proofs.Math.Bool.{or-false, or_assoc}
 use Rattle.mus_units.specs.declared.note.Head.{Head}
 use Rattle.mus_units.specs.declared.note.Deco.{Deco}
 use Rattle.abc_notes.specs.Graces.{heads_in, plain_head}
 use Rattle.mus_units.specs.declared.pitch.Alter.{Alter}
-use Rattle.mus_units.specs.declared.pitch.Alter.TheVariants.{Flat2, Flat, Natural, Sharp, Sharp2}
+use Rattle.mus_units.specs.declared.pitch.Alter.TheVariants.{Sharp2}
 use Rattle.abc_lines.specs.declared.fault.FaultKind.TheVariants.{BadByte, BadLength}
 use Rattle.abc_notes.specs.declared.part.Flaw.{Flaw}
 use Rattle.abc_notes.specs.declared.part.Len.{Len}
@@ -15,7 +14,7 @@ use Rattle.abc_notes.specs.Runs.{copies, maybe}
 use Rattle.abc_notes.specs.Lengths.{LengthForm, whole, over, halved, length_then}
 use Rattle.abc_notes.specs.Notes.{NoteForm, note_then, sign_then, letter_byte}
 use Rattle.abc_notes.specs.Parts.{stuck_here, stuck_later, IsFlaw, walk, is_done, goes_on_length, length_at_place}
-use Rattle.abc_notes.specs.Items.{Inner, note_inside, letter_inside, named_inside, tie_inside, slur_inside, passed_inside, lone_inside, inner_then, StandsInside, Sense, says_note, says_letter, says_name, says_tie, says_nothing, sense, is_note, has_length, IsBadByte, InnerFlawed, inner_at, sensed, inner_flaw}
+use Rattle.abc_notes.specs.Items.{Inner, note_inside, letter_inside, named_inside, tie_inside, inner_then, StandsInside, Sense, says_note, says_letter, says_name, says_tie, says_nothing, sense, is_note, has_length, IsBadByte, InnerFlawed, inner_at, sensed, inner_flaw}
 use Rattle.abc_notes.specs.Chords.{has_head, is_tied, tied_if, heads_of, deco_of, decos_of, senses, last_head, given_head, next_last, heads_after, at_most}
 use Rattle.abc_notes.proofs.ItemLaws.{inner_at-takes, inner_at-reaches}
 use Rattle.abc_notes.proofs.PartLaws.{Reader, less, longest_of, none_of, walk-none, walk-some}
@@ -36,12 +35,8 @@ length-length_then (over count below) x = omega (arith, length-append count (47 
 length-length_then (halved count k) x = omega (arith, length-append count (copies k 47 x), length-copies_then k 47 x)
 
 pub length-sign_then : (sign : Option Alter) (x : List ℕ) → length x ≤ length (sign_then sign x)
-length-sign_then None x = omega arith
 length-sign_then (Some Sharp2) x = omega arith
-length-sign_then (Some Sharp) x = omega arith
-length-sign_then (Some Flat2) x = omega arith
-length-sign_then (Some Flat) x = omega arith
-length-sign_then (Some Natural) x = omega arith
+length-sign_then _ x = omega arith
 
 pub note-longer : (f : NoteForm) (x : List ℕ) → length x < length (note_then f x)
 note-longer f x =
@@ -53,9 +48,7 @@ inner-longer (note_inside f) x = note-longer f x
 inner-longer (letter_inside b) x = omega arith
 inner-longer (named_inside name) x = omega (arith, length-append name (33 ∷ x))
 inner-longer (tie_inside d) x = omega (arith, length-maybe d 46 (45 ∷ x))
-inner-longer slur_inside x = omega arith
-inner-longer (passed_inside b) x = omega arith
-inner-longer lone_inside x = omega arith
+inner-longer _ x = omega arith
 
 abbrev some_inner : Inner → List ℕ → Inner × List ℕ
 some_inner f x = (f, x)
@@ -107,11 +100,7 @@ pub record Inside (bang : Bool) (w : List ℕ) (head : Bool) (before : Option �
   pub within : length rest ≤ length w
   pub small : at_most (length w) before
 
-or_assoc : (a b c : Bool) → ((a || b) || c) ≡ (a || (b || c))
-or_assoc true b c = refl
-or_assoc false b c = refl
-
-place_small : (b : Bool) (n here : ℕ) → here ≤ n → at_most n (length_at_place b here)
+pub place_small : (b : Bool) (n here : ℕ) → here ≤ n → at_most n (length_at_place b here)
 place_small true n here h = h
 place_small false n here h = tt
 
@@ -157,14 +146,10 @@ inside-stuck bang w head before byte here rest t flaw stage cut place none is =
       rw is (flaw_small before byte here (length w) stage.small (omega (arith, place, stage.within))),
     )
 
-or-end : (a : Bool) → (a || false) ≡ a
-or-end true = refl
-or-end false = refl
-
 pub inside-ends : (bang : Bool) (w : List ℕ) (head : Bool) (before : Option ℕ) (rest : List ℕ) → Inside bang w head before rest → length rest ≡ 0 →
     (is_done (walk (inner_at bang) w) ≡ true) × (head ≡ has_head (walk (inner_at bang) w).0)
 unfolding walk
-inside-ends bang w head before [] stage none = (rw (sym stage.left) refl, sym (or-end head) ∙ stage.heads)
+inside-ends bang w head before [] stage none = (rw (sym stage.left) refl, sym (or-false head) ∙ stage.heads)
 inside-ends bang w head before (b ∷ rest) stage none = absurd (omega (arith, none))
 
 -- ---- what is said inside
@@ -192,10 +177,7 @@ heads-behind head len t (says_nothing ∷ more) = heads-behind head len t more
 pub heads-are : (more : List Sense) → heads_after None more ≡ heads_of more
 heads-are [] = refl
 heads-are (says_note head len ∷ more) = heads-behind head len false more
-heads-are (says_letter byte ∷ more) = heads-are more
-heads-are (says_name name ∷ more) = heads-are more
-heads-are (says_tie ∷ more) = heads-are more
-heads-are (says_nothing ∷ more) = heads-are more
+heads-are (_ ∷ more) = heads-are more
 
 pub heads-next : (bang : Bool) (out new total : List (Head × Len)) (last next : Option (Head × Len)) (s behind : List ℕ) (item : Sense) → FoundInner bang s item behind →
     new ≡ out ++ given_head last item → next ≡ next_last last item → out ++ heads_after last (senses bang s) ≡ total → new ++ heads_after next (senses bang behind) ≡ total
@@ -217,10 +199,7 @@ decos-end bang out total s none so_far = sym (append-nil out) ∙ ap (λ ss. out
 
 heads_in-cons : (item : Sense) (more : List Sense) → heads_in (item ∷ more) ≡ plain_head item ++ heads_in more
 heads_in-cons (says_note head len) more = refl
-heads_in-cons (says_letter byte) more = refl
-heads_in-cons (says_name name) more = refl
-heads_in-cons says_tie more = refl
-heads_in-cons says_nothing more = refl
+heads_in-cons _ more = refl
 
 pub plain-next : (bang : Bool) (out new total : List Head) (s behind : List ℕ) (item : Sense) → FoundInner bang s item behind → new ≡ out ++ plain_head item → out ++ heads_in (senses bang s) ≡ total → new ++ heads_in (senses bang behind) ≡ total
 plain-next bang out new total s behind item f push so_far =

@@ -1,13 +1,11 @@
 -- Reading a part of a chord or a grace gives the longest.
-use Rattle.std.proofs.Common.{◌≡◌, ℕ, ◌≤◌, ◌<◌, Bool, true, false, cond, eqb, ltb, List, [], ◌∷◌, ◌++◌, length, Option, Some, None, refl, ap, ◌∙◌, subst, arith, inl, inr, ◌⊎◌}
-use Rattle.std.specs.Prelude.{◌||◌, not, IfSome, option_map}
+use Rattle.std.proofs.Common.{◌≡◌, ℕ, ◌≤◌, ◌<◌, Bool, true, false, cond, eqb, ltb, List, [], ◌∷◌, ◌++◌, length, Option, Some, None, refl, ap, ◌∙◌, subst, arith, inl, inr, ◌⊎◌, ◌||◌, not, IfSome, option_map, append-nil, length-append}
 use Rattle.std.specs.List.{list_all}
 use Rattle.std.proofs.lemmas.Bool.{cond_both, or_right, or_cases, and_parts, eqb-true, agree_below, agree_below_at, ltb-true}
-use Rattle.std.proofs.lemmas.List.{append-nil, length-append}
 use Rattle.mus_units.specs.declared.pitch.Alter.{Alter}
-use Rattle.mus_units.specs.declared.pitch.Alter.TheVariants.{Flat2, Flat, Natural, Sharp, Sharp2}
+use Rattle.mus_units.specs.declared.pitch.Alter.TheVariants.{Sharp2}
 use Rattle.mus_units.specs.declared.pitch.Letter.{Letter}
-use Rattle.mus_units.specs.declared.pitch.Letter.TheVariants.{C, D, E, F, G, A, B}
+use Rattle.mus_units.specs.declared.pitch.Letter.TheVariants.{C}
 use Rattle.abc_notes.specs.declared.part.ItemClass.{ItemClass}
 use Rattle.abc_notes.specs.declared.part.ItemClass.TheVariants as class
 use Rattle.abc_notes.specs.Runs.{one_of, span_all}
@@ -84,17 +82,12 @@ fact : (b : ℕ) → Fact (item_class b) b
 unfolding item_class
 fact b =
     let P : ItemClass → Type 0 = λ c. Fact c b in
-    let c5 : ItemClass = cond (eqb b 33) class.Bang class.Nothing in
-    let c4 : ItemClass = cond (is_passed_inside b) class.Passed c5 in
-    let c3 : ItemClass = cond (eqb b 45) class.Tie c4 in
-    let c2 : ItemClass = cond (is_deco_letter b) class.Letter c3 in
-    let c1 : ItemClass = cond (eqb b 46) class.Dot c2 in
-    cond_both (is_note_byte b) class.Note c1 P (λ e. tt) (λ e.
-    cond_both (eqb b 46) class.Dot c2 P (eqb-true b 46) (λ e.
-    cond_both (is_deco_letter b) class.Letter c3 P (λ e. e) (λ e.
-    cond_both (eqb b 45) class.Tie c4 P (eqb-true b 45) (λ e.
-    cond_both (is_passed_inside b) class.Passed c5 P (λ e. e) (λ e.
-    cond_both (eqb b 33) class.Bang class.Nothing P (eqb-true b 33) (λ e. tt))))))
+    cond_both (is_note_byte b) _ _ P (λ e. tt) (λ e.
+    cond_both (eqb b 46) _ _ P (eqb-true b 46) (λ e.
+    cond_both (is_deco_letter b) _ _ P (λ e. e) (λ e.
+    cond_both (eqb b 45) _ _ P (eqb-true b 45) (λ e.
+    cond_both (is_passed_inside b) _ _ P (λ e. e) (λ e.
+    cond_both (eqb b 33) _ _ P (eqb-true b 33) (λ e. tt))))))
 
 from_note : (bang : Bool) (s : List ℕ) (r : Option (NoteForm × List ℕ)) → TakesNote s r → TakesInner bang s (option_map (λ z. (note_inside z.0, z.1)) r)
 from_note bang s None t = tt
@@ -144,24 +137,9 @@ noted r = option_map (λ (z : NoteForm × List ℕ). (note_inside z.0, z.1)) r
 by_sign : (bang : Bool) (sign : Option Alter) (low : Bool) (l : Letter) (t : List ℕ) → let s = sign_then sign (letter_byte low l ∷ t) in inner_at bang s ≡ noted (note_at s)
 unfolding inner_at item_class
 by_sign bang (Some Sharp2) low l t = refl
-by_sign bang (Some Sharp) low l t = refl
-by_sign bang (Some Flat2) low l t = refl
-by_sign bang (Some Flat) low l t = refl
-by_sign bang (Some Natural) low l t = refl
 by_sign bang None false C t = refl
-by_sign bang None false D t = refl
-by_sign bang None false E t = refl
-by_sign bang None false F t = refl
-by_sign bang None false G t = refl
-by_sign bang None false A t = refl
-by_sign bang None false B t = refl
-by_sign bang None true C t = refl
-by_sign bang None true D t = refl
-by_sign bang None true E t = refl
-by_sign bang None true F t = refl
-by_sign bang None true G t = refl
-by_sign bang None true A t = refl
-by_sign bang None true B t = refl
+by_sign bang None _ C t = refl
+by_sign bang _ _ _ t = refl
 
 note-reaches : (f : NoteForm) (x : List ℕ) → IsNote f → ReachesInner x (note_inside f) (noted (note_at (note_then f x)))
 note-reaches f x good =
@@ -205,10 +183,6 @@ dot_class : item_class 46 ≡ class.Dot
 unfolding item_class
 dot_class = refl
 
-tie_class : item_class 45 ≡ class.Tie
-unfolding item_class
-tie_class = refl
-
 pub bang_class : item_class 33 ≡ class.Bang
 unfolding item_class
 bang_class = refl
@@ -234,11 +208,12 @@ lone-reaches x None t = same x lone_inside
 lone-reaches x (Some z) t = record { part = named_inside z.0; rest = z.1; is = refl; ends = inl (omega (arith, ap length t.1, length-append z.0 (33 ∷ z.1))) }
 
 pub inner_at-reaches : (bang : Bool) (f : Inner) (x : List ℕ) → IsInner bang f → ReachesInner x f (inner_at bang (inner_then f x))
+unfolding item_class
 inner_at-reaches bang (note_inside f) x good = rw (by_sign bang f.sign f.low f.letter (f.marks ++ length_then f.length x)) (note-reaches f x good)
 inner_at-reaches bang (letter_inside b) x good = letter-reaches bang b x good
 inner_at-reaches bang (named_inside name) x good = rw (at_class bang 33 (name ++ (33 ∷ x)) class.Bang bang_class, good.0, name_at-reads name x good.1) (same x (named_inside name))
 inner_at-reaches bang (tie_inside true) x good = rw (at_class bang 46 (45 ∷ x) class.Dot dot_class) (same x (tie_inside true))
-inner_at-reaches bang (tie_inside false) x good = rw (at_class bang 45 x class.Tie tie_class) (same x (tie_inside false))
+inner_at-reaches bang (tie_inside false) x good = rw (at_class bang 45 x class.Tie refl) (same x (tie_inside false))
 inner_at-reaches bang slur_inside x good = rw (at_class bang 46 (40 ∷ x) class.Dot dot_class) (same x slur_inside)
 inner_at-reaches bang (passed_inside b) x good = rw (at_class bang b x class.Passed (passed_class b good)) (same x (passed_inside b))
 inner_at-reaches bang lone_inside x good = rw (at_class bang 33 x class.Bang bang_class, good) (lone-reaches x (name_at x) (name_at-takes x))

@@ -1,9 +1,7 @@
 -- Reading a length gives the longest.
-use Rattle.std.proofs.Common.{◌≡◌, ℕ, zero, suc, ◌+◌, ◌-◌, ◌≤◌, ◌<◌, Bool, true, false, eqb, List, [], ◌∷◌, ◌++◌, length, refl, ap, subst, ◌∙◌, arith, inl, inr, ◌⊎◌}
-use Rattle.std.specs.Prelude.{◌||◌}
+use Rattle.std.proofs.Common.{◌≡◌, ℕ, zero, suc, ◌+◌, ◌-◌, ◌≤◌, ◌<◌, Bool, true, false, eqb, List, [], ◌∷◌, ◌++◌, length, refl, ap, subst, ◌∙◌, arith, inl, inr, ◌⊎◌, ◌||◌, append-nil}
 use Rattle.std.specs.List.{list_all}
 use Rattle.std.proofs.lemmas.Bool.{cond_both, and_parts, eqb-true, ne_eqb, both_ways, or_left, or_right}
-use Rattle.std.proofs.lemmas.List.{append-nil}
 use Rattle.mus_units.specs.Bytes.{is_digit}
 use Rattle.abc_notes.specs.Runs.{copies, span, begins}
 use Rattle.abc_notes.proofs.SpanLaws.{span-takes, span-pass, span-length, span-stops, span-less, span-append, length-span}

@@ -1,8 +1,6 @@
 -- Reading a note gives the longest.
-use Rattle.std.proofs.Common.{◌≡◌, ℕ, zero, suc, ◌≤◌, ◌<◌, Bool, true, false, cond, eqb, List, [], ◌∷◌, ◌++◌, length, Option, Some, None, refl, ap, subst, ◌∙◌, arith, inl, inr, ◌⊎◌}
-use Rattle.std.specs.Prelude.{◌||◌, IfSome}
+use Rattle.std.proofs.Common.{◌≡◌, ℕ, zero, suc, ◌≤◌, ◌<◌, Bool, true, false, cond, eqb, List, [], ◌∷◌, ◌++◌, length, Option, Some, None, refl, ap, subst, ◌∙◌, arith, inl, inr, ◌⊎◌, ◌||◌, IfSome, append-nil}
 use Rattle.std.proofs.lemmas.Bool.{cond_both, eqb-true, or_left, or_right, or_from, ne_eqb, and_parts, both_ways}
-use Rattle.std.proofs.lemmas.List.{append-nil}
 use Rattle.mus_units.specs.declared.pitch.Alter.{Alter}
 use Rattle.mus_units.specs.declared.pitch.Alter.TheVariants.{Flat2, Flat, Natural, Sharp, Sharp2}
 use Rattle.mus_units.specs.declared.pitch.Letter.{Letter}
@@ -67,36 +65,14 @@ sign_at-reads (Some Natural) b x none = refl
 
 letter_sign : (low : Bool) (l : Letter) → NoSign (letter_byte low l)
 letter_sign false C = record { up = refl; down = refl; plain = refl }
-letter_sign false D = record { up = refl; down = refl; plain = refl }
-letter_sign false E = record { up = refl; down = refl; plain = refl }
-letter_sign false F = record { up = refl; down = refl; plain = refl }
-letter_sign false G = record { up = refl; down = refl; plain = refl }
-letter_sign false A = record { up = refl; down = refl; plain = refl }
-letter_sign false B = record { up = refl; down = refl; plain = refl }
-letter_sign true C = record { up = refl; down = refl; plain = refl }
-letter_sign true D = record { up = refl; down = refl; plain = refl }
-letter_sign true E = record { up = refl; down = refl; plain = refl }
-letter_sign true F = record { up = refl; down = refl; plain = refl }
-letter_sign true G = record { up = refl; down = refl; plain = refl }
-letter_sign true A = record { up = refl; down = refl; plain = refl }
-letter_sign true B = record { up = refl; down = refl; plain = refl }
+letter_sign _ C = record { up = refl; down = refl; plain = refl }
+letter_sign _ _ = record { up = refl; down = refl; plain = refl }
 
 letter_at-reads : (low : Bool) (l : Letter) → letter_at (letter_byte low l) ≡ Some (low, l)
 unfolding letter_at
 letter_at-reads false C = refl
-letter_at-reads false D = refl
-letter_at-reads false E = refl
-letter_at-reads false F = refl
-letter_at-reads false G = refl
-letter_at-reads false A = refl
-letter_at-reads false B = refl
-letter_at-reads true C = refl
-letter_at-reads true D = refl
-letter_at-reads true E = refl
-letter_at-reads true F = refl
-letter_at-reads true G = refl
-letter_at-reads true A = refl
-letter_at-reads true B = refl
+letter_at-reads _ C = refl
+letter_at-reads _ _ = refl
 
 -- one test of a chain
 pick : (b k : ℕ) (l : Letter) (other : Option Letter) (low : Bool) → k ≡ letter_byte low l → IfSome other (λ m. b ≡ letter_byte low m) → IfSome (cond (eqb b k) (Some l) other) (λ m. b ≡ letter_byte low m)

@@ -1,7 +1,6 @@
 -- Reading a bar gives the longest.
-use Rattle.std.proofs.Common.{◌≡◌, ℕ, zero, suc, ◌+◌, ◌≤◌, ◌<◌, Bool, true, false, cond, eqb, ltb, List, ◌∷◌, length, refl, sym, ap, subst, ◌∙◌, arith, Option, Some, None, ◌⊎◌, inl, inr, add-zero}
-use Rattle.std.specs.Prelude.{◌||◌}
-use Rattle.std.proofs.lemmas.Bool.{cond_both, eqb-true, ne_eqb, le-ltb, ltb-false}
+use Rattle.std.proofs.Common.{◌≡◌, ℕ, zero, suc, ◌+◌, ◌≤◌, ◌<◌, Bool, true, false, cond, eqb, ltb, List, ◌∷◌, length, refl, sym, ap, subst, ◌∙◌, arith, Option, Some, None, ◌⊎◌, inl, inr, add-zero, ◌||◌}
+use Rattle.std.proofs.lemmas.Bool.{cond_both, eqb-true, ne_eqb, le-ltb, ltb-false, or_parts}
 use Rattle.abc_notes.specs.Runs.{copies, maybe, run_off, skip, begins}
 use Rattle.abc_notes.proofs.RunLaws.{Lacks, run_off-takes, skip-takes, run_off-copies, run_off-lacks, skip-lacks, skip-maybe, skip-yes, length-run_off, length-skip, run_off-less, skip-less, begins_wider}
 use Rattle.abc_pieces.specs.Bars.{BarForm, signs, colons, spelled, IsGood, form_at}
@@ -19,11 +18,6 @@ one_up : (n : ℕ) → eqb n 0 ≡ false → 1 ≤ n
 one_up zero e = absurd cc
 one_up (suc n) e = omega arith
 
--- the tests on dot and colons
-or_no : (a b : Bool) → (a || b) ≡ false → (a ≡ false) × (b ≡ false)
-or_no true b e = absurd cc
-or_no false b e = (refl, e)
-
 pub form_at-takes : (s : List ℕ) → TakesIf s (form_at s)
 unfolding form_at
 form_at-takes s =
@@ -35,7 +29,7 @@ form_at-takes s =
     let a = run_off 58 c.1 in
     cond_both {A = Option (BarForm × List ℕ)} (eqb n.0 0) (cond (d.0 || ltb b.0 2) None (Some (colons b.0, b.1))) (Some (signs d.0 b.0 o.0 n.0 c.0 a.0, a.1)) (TakesIf s)
     (λ e. cond_both {A = Option (BarForm × List ℕ)} (d.0 || ltb b.0 2) None (Some (colons b.0, b.1)) (TakesIf s) (λ f. tt)
-    (λ f. let p = or_no d.0 (ltb b.0 2) f in
+    (λ f. let p = or_parts d.0 (ltb b.0 2) f in
     record {
       good = ltb-false b.0 2 p.1;
       cut = skip-takes 46 s ∙ rw p.0 (run_off-takes 58 d.1);

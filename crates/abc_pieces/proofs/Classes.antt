@@ -1,6 +1,5 @@
 -- What the class of a byte tells of it, and the class of each first byte.
-use Rattle.std.proofs.Common.{◌≡◌, ℕ, ◌≤◌, ◌<◌, Bool, true, false, cond, eqb, leb, [], ◌∷◌, refl, subst, arith, inl, inr}
-use Rattle.std.specs.Prelude.{◌||◌, ◌&&◌, not}
+use Rattle.std.proofs.Common.{◌≡◌, ℕ, ◌≤◌, ◌<◌, Bool, true, false, cond, eqb, leb, [], ◌∷◌, refl, subst, arith, inl, inr, ◌||◌, ◌&&◌, not}
 use Rattle.std.proofs.lemmas.Bool.{cond_both, eqb-true, leb-true, or_cases, and_parts, both_ways}
 use Rattle.mus_units.specs.Bytes.{is_digit, is_blank, is_letter}
 use Rattle.abc_pieces.specs.declared.token.Class.{Class}
@@ -43,45 +42,26 @@ pub fact : (b : ℕ) → Fact (class_of b) b
 unfolding class_of
 fact b =
     let P : Class → Type 0 = λ c. Fact c b in
-    let c19 : Class = cond (is_passed b) class.Passed class.Nothing in
-    let c18 : Class = cond (eqb b 36) class.Dollar c19 in
-    let c17 : Class = cond (is_deco_letter b) class.Letter c18 in
-    let c16 : Class = cond (is_blank b) class.Blank c17 in
-    let c15 : Class = cond (eqb b 43) class.Plus c16 in
-    let c14 : Class = cond (eqb b 33) class.Bang c15 in
-    let c13 : Class = cond (eqb b 34) class.Quote c14 in
-    let c12 : Class = cond (eqb b 62 || eqb b 60) class.Broken c13 in
-    let c11 : Class = cond (is_digit b) class.Digit c12 in
-    let c10 : Class = cond (eqb b 45) class.Tie c11 in
-    let c9 : Class = cond (eqb b 41) class.Close c10 in
-    let c8 : Class = cond (eqb b 40) class.Paren c9 in
-    let c7 : Class = cond (eqb b 123) class.Brace c8 in
-    let c6 : Class = cond (eqb b 91) class.Bracket c7 in
-    let c5 : Class = cond (eqb b 46) class.Dot c6 in
-    let c4 : Class = cond (eqb b 58 || eqb b 124) class.Bar c5 in
-    let c3 : Class = cond (eqb b 90 || eqb b 88) class.Measures c4 in
-    let c2 : Class = cond (eqb b 121) class.Gap c3 in
-    let c1 : Class = cond (eqb b 122 || eqb b 120) class.Rest c2 in
-    cond_both (is_note_byte b) class.Note c1 P (λ e. tt) (λ e.
-    cond_both (eqb b 122 || eqb b 120) class.Rest c2 P (two b 122 120) (λ e.
-    cond_both (eqb b 121) class.Gap c3 P (eqb-true b 121) (λ e.
-    cond_both (eqb b 90 || eqb b 88) class.Measures c4 P (two b 90 88) (λ e.
-    cond_both (eqb b 58 || eqb b 124) class.Bar c5 P (λ e. tt) (λ e.
-    cond_both (eqb b 46) class.Dot c6 P (eqb-true b 46) (λ e.
-    cond_both (eqb b 91) class.Bracket c7 P (eqb-true b 91) (λ e.
-    cond_both (eqb b 123) class.Brace c8 P (eqb-true b 123) (λ e.
-    cond_both (eqb b 40) class.Paren c9 P (eqb-true b 40) (λ e.
-    cond_both (eqb b 41) class.Close c10 P (eqb-true b 41) (λ e.
-    cond_both (eqb b 45) class.Tie c11 P (eqb-true b 45) (λ e.
-    cond_both (is_digit b) class.Digit c12 P (λ e. e) (λ e.
-    cond_both (eqb b 62 || eqb b 60) class.Broken c13 P (two b 62 60) (λ e.
-    cond_both (eqb b 34) class.Quote c14 P (eqb-true b 34) (λ e.
-    cond_both (eqb b 33) class.Bang c15 P (eqb-true b 33) (λ e.
-    cond_both (eqb b 43) class.Plus c16 P (eqb-true b 43) (λ e.
-    cond_both (is_blank b) class.Blank c17 P (λ e. e) (λ e.
-    cond_both (is_deco_letter b) class.Letter c18 P (λ e. e) (λ e.
-    cond_both (eqb b 36) class.Dollar c19 P (eqb-true b 36) (λ e.
-    cond_both (is_passed b) class.Passed class.Nothing P (λ e. e) (λ e. tt))))))))))))))))))))
+    cond_both (is_note_byte b) _ _ P (λ e. tt) (λ e.
+    cond_both (eqb b 122 || eqb b 120) _ _ P (two b 122 120) (λ e.
+    cond_both (eqb b 121) _ _ P (eqb-true b 121) (λ e.
+    cond_both (eqb b 90 || eqb b 88) _ _ P (two b 90 88) (λ e.
+    cond_both (eqb b 58 || eqb b 124) _ _ P (λ e. tt) (λ e.
+    cond_both (eqb b 46) _ _ P (eqb-true b 46) (λ e.
+    cond_both (eqb b 91) _ _ P (eqb-true b 91) (λ e.
+    cond_both (eqb b 123) _ _ P (eqb-true b 123) (λ e.
+    cond_both (eqb b 40) _ _ P (eqb-true b 40) (λ e.
+    cond_both (eqb b 41) _ _ P (eqb-true b 41) (λ e.
+    cond_both (eqb b 45) _ _ P (eqb-true b 45) (λ e.
+    cond_both (is_digit b) _ _ P (λ e. e) (λ e.
+    cond_both (eqb b 62 || eqb b 60) _ _ P (two b 62 60) (λ e.
+    cond_both (eqb b 34) _ _ P (eqb-true b 34) (λ e.
+    cond_both (eqb b 33) _ _ P (eqb-true b 33) (λ e.
+    cond_both (eqb b 43) _ _ P (eqb-true b 43) (λ e.
+    cond_both (is_blank b) _ _ P (λ e. e) (λ e.
+    cond_both (is_deco_letter b) _ _ P (λ e. e) (λ e.
+    cond_both (eqb b 36) _ _ P (eqb-true b 36) (λ e.
+    cond_both (is_passed b) _ _ P (λ e. e) (λ e. tt))))))))))))))))))))
 
 pub fact_of : (b : ℕ) (c : Class) → class_of b ≡ c → Fact c b
 fact_of b c e = subst (λ k. Fact k b) e (fact b)

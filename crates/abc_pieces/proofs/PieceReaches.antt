@@ -1,13 +1,11 @@
 -- A piece that is read is as long as each that stands there.
-use Rattle.std.proofs.Common.{◌≡◌, ℕ, zero, suc, ◌+◌, ◌-◌, ◌≤◌, ◌<◌, Bool, true, false, cond, eqb, List, [], ◌∷◌, ◌++◌, length, Option, Some, None, refl, ap, ◌∙◌, subst, arith, inl, inr, ◌⊎◌}
-use Rattle.std.specs.Prelude.{◌||◌, ◌&&◌, not, option_map, IfSome}
+use Rattle.std.proofs.Common.{◌≡◌, ℕ, zero, suc, ◌+◌, ◌-◌, ◌≤◌, ◌<◌, Bool, true, false, cond, eqb, List, [], ◌∷◌, ◌++◌, length, Option, Some, None, refl, ap, ◌∙◌, subst, arith, inl, inr, ◌⊎◌, ◌||◌, ◌&&◌, not, option_map, IfSome, append-nil, length-append}
 use Rattle.std.specs.List.{list_all}
-use Rattle.std.proofs.lemmas.Bool.{cond_both, or_cases, and_parts, eqb-true, ne_eqb, both_ways, eq-eqb}
-use Rattle.std.proofs.lemmas.List.{append-nil, length-append}
+use Rattle.std.proofs.lemmas.Bool.{cond_both, or_cases, and_parts, eqb-true, ne_eqb, both_ways, eq-eqb, not-true}
 use Rattle.mus_units.specs.declared.pitch.Alter.{Alter}
-use Rattle.mus_units.specs.declared.pitch.Alter.TheVariants.{Flat2, Flat, Natural, Sharp, Sharp2}
+use Rattle.mus_units.specs.declared.pitch.Alter.TheVariants.{Sharp2}
 use Rattle.mus_units.specs.declared.pitch.Letter.{Letter}
-use Rattle.mus_units.specs.declared.pitch.Letter.TheVariants.{C, D, E, F, G, A, B}
+use Rattle.mus_units.specs.declared.pitch.Letter.TheVariants.{C}
 use Rattle.mus_units.specs.Bytes.{is_digit, is_blank, is_letter}
 use Rattle.abc_notes.specs.Runs.{copies, maybe, span, span_all}
 use Rattle.abc_notes.proofs.SpanLaws.{span-append, span-less, span_all-append, span_all-less, span_all-stops, span_all-takes}
@@ -45,34 +43,30 @@ pub record Reaches (x : List ℕ) (f : Form) (r : Read) : Type 0 where
 same : (x : List ℕ) (f : Form) → Reaches x f (read f x)
 same x f = record { form = f; rest = x; is = refl; ends = inr refl }
 
-not_yes : (b : Bool) → not b ≡ true → b ≡ false
-not_yes true h = absurd cc
-not_yes false h = refl
-
 abbrev pair : Form → List ℕ → Form × List ℕ
 pair f x = (f, x)
+
+-- a piece is read as far as its part is
+reach_by : {F : Type 0} (wrap : F → Form) (f : F) (x : List ℕ) (o : Option (F × List ℕ)) → ((z : F × List ℕ) × (o ≡ Some z) × ((length z.1 < length x) ⊎ (z ≡ (f, x)))) →
+    Reaches x (wrap f) (option_map (λ z. pair (wrap z.0) z.1) o)
+reach_by wrap f x o r = record {
+  form = wrap r.0.0;
+  rest = r.0.1;
+  is = ap (option_map (λ z. pair (wrap z.0) z.1)) r.1;
+  ends = elim r.2 [ inl shorter ↦ inl shorter | inr equal ↦ inr (ap (λ z. read (wrap z.0) z.1) equal) ];
+}
 
 note-reaches : (f : NoteForm) (x : List ℕ) → IsNote f → Reaches x (note_form f) (note_read (note_then f x))
 unfolding note_read
 note-reaches f x good =
     let r = note_at-reaches f x good in
-    record {
-      form = note_form r.0.0;
-      rest = r.0.1;
-      is = ap (option_map (λ (z : NoteForm × List ℕ). pair (note_form z.0) z.1)) r.1;
-      ends = elim r.2 [ inl shorter ↦ inl shorter.0 | inr equal ↦ inr (ap (λ z. read (note_form z.0) z.1) equal) ];
-    }
+    reach_by note_form f x _ (r.0, r.1, elim r.2 [ inl shorter ↦ inl shorter.0 | inr equal ↦ inr equal ])
 
 bar-reaches : (f : BarForm) (x : List ℕ) → IsBar f → Reaches x (bar_form f) (bar_read (bar_then f x))
 unfolding bar_read
 bar-reaches f x good =
     let r = form_at-reaches f x good in
-    record {
-      form = bar_form r.0.0;
-      rest = r.0.1;
-      is = ap (option_map (λ (z : BarForm × List ℕ). pair (bar_form z.0) z.1)) r.1;
-      ends = elim r.2 [ inl shorter ↦ inl shorter.0 | inr equal ↦ inr (ap (λ z. read (bar_form z.0) z.1) equal) ];
-    }
+    reach_by bar_form f x _ (r.0, r.1, elim r.2 [ inl shorter ↦ inl shorter.0 | inr equal ↦ inr equal ])
 
 either-reaches : (x : List ℕ) (f : Form) (r other : Read) → Reaches x f r → Reaches x f (or_else r other)
 either-reaches x f (Some z) other t = t
@@ -106,44 +100,19 @@ measures-reaches seen count x good =
 
 chord-reaches : (bang : Bool) (f : ChordForm) (x : List ℕ) → IsChord bang f → Reaches x (chord_form f) (chord_read bang (chord_then f x))
 unfolding chord_read
-chord-reaches bang f x good =
-    let r = chord_at-reaches bang f x good in
-    record {
-      form = chord_form r.0.0;
-      rest = r.0.1;
-      is = ap (option_map (λ (z : ChordForm × List ℕ). pair (chord_form z.0) z.1)) r.1;
-      ends = elim r.2 [ inl shorter ↦ inl shorter | inr equal ↦ inr (ap (λ z. read (chord_form z.0) z.1) equal) ];
-    }
+chord-reaches bang f x good = reach_by chord_form f x _ (chord_at-reaches bang f x good)
 
 grace-reaches : (bang : Bool) (f : GraceForm) (x : List ℕ) → IsGrace bang f → Reaches x (grace_form f) (grace_read bang (grace_then f x))
 unfolding grace_read
-grace-reaches bang f x good =
-    let r = grace_at-reaches bang f x good in
-    record {
-      form = grace_form r.0.0;
-      rest = r.0.1;
-      is = ap (option_map (λ (z : GraceForm × List ℕ). pair (grace_form z.0) z.1)) r.1;
-      ends = elim r.2 [ inl shorter ↦ inl shorter | inr equal ↦ inr (ap (λ z. read (grace_form z.0) z.1) equal) ];
-    }
+grace-reaches bang f x good = reach_by grace_form f x _ (grace_at-reaches bang f x good)
 
 tuplet-reaches : (f : TupletForm) (x : List ℕ) → IsTuplet f → Reaches x (tuplet_form f) (tuplet_read (tuplet_then f x))
 unfolding tuplet_read
-tuplet-reaches f x good =
-    let r = tuplet_at-reaches f x good in
-    record {
-      form = tuplet_form r.0.0;
-      rest = r.0.1;
-      is = ap (option_map (λ (z : TupletForm × List ℕ). pair (tuplet_form z.0) z.1)) r.1;
-      ends = elim r.2 [ inl shorter ↦ inl shorter | inr equal ↦ inr (ap (λ z. read (tuplet_form z.0) z.1) equal) ];
-    }
+tuplet-reaches f x good = reach_by tuplet_form f x _ (tuplet_at-reaches f x good)
 
 slur_or : (x : List ℕ) (r : Option (TupletForm × List ℕ)) → TakesTuplet x r → Reaches x (slur_form false) (or_else (option_map (λ (z : TupletForm × List ℕ). pair (tuplet_form z.0) z.1) r) (read (slur_form false) x))
 slur_or x None t = same x (slur_form false)
 slur_or x (Some z) t = record { form = tuplet_form z.0; rest = z.1; is = refl; ends = inl (omega (arith, ap length t.1, tuplet-longer z.0 z.1)) }
-
-slur-reaches : (x : List ℕ) → Reaches x (slur_form false) (or_else (tuplet_read x) (read (slur_form false) x))
-unfolding tuplet_read
-slur-reaches x = slur_or x (tuplet_at x) (tuplet_at-takes x)
 
 ending-reaches : (bracket : Bool) (d : ℕ) (more x : List ℕ) → is_digit d ≡ true → list_all is_ending more ≡ true → Reaches x (ending_form bracket d more) (ending_read bracket (d ∷ (more ++ x)))
 unfolding ending_read
@@ -200,14 +169,6 @@ named-reaches name x good = rw (name_at-reads name x good) (same x (named_form n
 lone_or : (x : List ℕ) (r : Option (List ℕ × List ℕ)) → IfSome r (λ z. IsName z.0 × (x ≡ z.0 ++ (33 ∷ z.1))) → Reaches x lone_form (named_or_lone r x)
 lone_or x None t = same x lone_form
 lone_or x (Some z) t = record { form = named_form z.0; rest = z.1; is = refl; ends = inl (omega (arith, ap length t.1, length-append z.0 (33 ∷ z.1))) }
-
-lone-reaches : (x : List ℕ) → Reaches x lone_form (bang_read false x)
-unfolding bang_read
-lone-reaches x = lone_or x (name_at x) (name_at-takes x)
-
-cut_bang : (x : List ℕ) → Reaches x (cut_form 33) (bang_read true x)
-unfolding bang_read
-cut_bang x = same x (cut_form 33)
 
 -- ---- arrows
 
@@ -269,71 +230,12 @@ unfolding class_of
 measures_class true = refl
 measures_class false = refl
 
-gap_class : class_of 121 ≡ class.Gap
-unfolding class_of
-gap_class = refl
-
-dot_class : class_of 46 ≡ class.Dot
-unfolding class_of
-dot_class = refl
-
-bracket_class : class_of 91 ≡ class.Bracket
-unfolding class_of
-bracket_class = refl
-
-brace_class : class_of 123 ≡ class.Brace
-unfolding class_of
-brace_class = refl
-
-paren_class : class_of 40 ≡ class.Paren
-unfolding class_of
-paren_class = refl
-
-close_class : class_of 41 ≡ class.Close
-unfolding class_of
-close_class = refl
-
-tie_class : class_of 45 ≡ class.Tie
-unfolding class_of
-tie_class = refl
-
-quote_class : class_of 34 ≡ class.Quote
-unfolding class_of
-quote_class = refl
-
-bang_class : class_of 33 ≡ class.Bang
-unfolding class_of
-bang_class = refl
-
-plus_class : class_of 43 ≡ class.Plus
-unfolding class_of
-plus_class = refl
-
-dollar_class : class_of 36 ≡ class.Dollar
-unfolding class_of
-dollar_class = refl
-
 by_sign : (bang : Bool) (before : Before) (sign : Option Alter) (low : Bool) (l : Letter) (t : List ℕ) → let s = sign_then sign (letter_byte low l ∷ t) in piece_at bang before s ≡ note_read s
 unfolding piece_at class_of
 by_sign bang before (Some Sharp2) low l t = refl
-by_sign bang before (Some Sharp) low l t = refl
-by_sign bang before (Some Flat2) low l t = refl
-by_sign bang before (Some Flat) low l t = refl
-by_sign bang before (Some Natural) low l t = refl
 by_sign bang before None false C t = refl
-by_sign bang before None false D t = refl
-by_sign bang before None false E t = refl
-by_sign bang before None false F t = refl
-by_sign bang before None false G t = refl
-by_sign bang before None false A t = refl
-by_sign bang before None false B t = refl
-by_sign bang before None true C t = refl
-by_sign bang before None true D t = refl
-by_sign bang before None true E t = refl
-by_sign bang before None true F t = refl
-by_sign bang before None true G t = refl
-by_sign bang before None true A t = refl
-by_sign bang before None true B t = refl
+by_sign bang before None _ C t = refl
+by_sign bang before _ _ _ t = refl
 
 -- a bar behind a dot, a bracket, a colon or a bar sign
 dotted_bar : (b : ℕ) (o : Bool) (m : ℕ) (c : Bool) (a : ℕ) (x : List ℕ) → dot_read (copies b 58 (maybe o 91 (copies (suc m) 124 (maybe c 93 (copies a 58 x))))) ≡
@@ -396,37 +298,28 @@ behind_dot (b ∷ x) other t =
     (λ f. record { form = tie_form true; rest = x; is = refl; ends = inl (omega arith) })
     (λ f. t))
 
-dot-reaches : (x : List ℕ) → Reaches x (letter_form 46) (dot_read x)
-unfolding dot_read
-dot-reaches x = behind_dot x _ (dot_or x)
-
-dotted_slur : (x : List ℕ) → dot_read (40 ∷ x) ≡ read (slur_form true) x
-unfolding dot_read
-dotted_slur x = refl
-
-dotted_tie : (x : List ℕ) → dot_read (45 ∷ x) ≡ read (tie_form true) x
-unfolding dot_read
-dotted_tie x = refl
-
 letter-reaches : (bang : Bool) (before : Before) (b : ℕ) (x : List ℕ) → is_letter_inside b ≡ true → Reaches x (letter_form b) (piece_at bang before (b ∷ x))
+unfolding class_of dot_read
 letter-reaches bang before b x h =
     elim (or_cases (eqb b 46) (is_deco_letter b) h) [
-      | inl dot ↦ rw (eqb-true b 46 dot, at_class bang before 46 x class.Dot dot_class) (dot-reaches x)
+      | inl dot ↦ rw (eqb-true b 46 dot, at_class bang before 46 x class.Dot refl) (behind_dot x _ (dot_or x))
       | inr letter ↦ rw (at_class bang before b x class.Letter (letter_class b letter)) (same x (letter_form b))
     ]
 
 passed-reaches : (bang : Bool) (before : Before) (b : ℕ) (x : List ℕ) → (is_passed b || eqb b 43) ≡ true → Reaches x (passed_form b) (piece_at bang before (b ∷ x))
+unfolding class_of
 passed-reaches bang before b x h =
     elim (or_cases (is_passed b) (eqb b 43) h) [
       | inl passes ↦ rw (at_class bang before b x class.Passed (passed_class b passes)) (same x (passed_form b))
-      | inr plus ↦ rw (eqb-true b 43 plus, at_class bang before 43 x class.Plus plus_class) (lone_plus-reaches x)
+      | inr plus ↦ rw (eqb-true b 43 plus, at_class bang before 43 x class.Plus refl) (lone_plus-reaches x)
     ]
 
 cut-reaches : (bang : Bool) (before : Before) (b : ℕ) (x : List ℕ) → is_cut bang b ≡ true → Reaches x (cut_form b) (piece_at bang before (b ∷ x))
+unfolding class_of bang_read
 cut-reaches bang before b x h =
     elim (or_cases (eqb b 36) (bang && eqb b 33) h) [
-      | inl dollar ↦ rw (eqb-true b 36 dollar, at_class bang before 36 x class.Dollar dollar_class) (same x (cut_form 36))
-      | inr mark ↦ (let p = and_parts bang (eqb b 33) mark in rw (eqb-true b 33 p.1, at_class bang before 33 x class.Bang bang_class, p.0) (cut_bang x))
+      | inl dollar ↦ rw (eqb-true b 36 dollar, at_class bang before 36 x class.Dollar refl) (same x (cut_form 36))
+      | inr mark ↦ (let p = and_parts bang (eqb b 33) mark in rw (eqb-true b 33 p.1, at_class bang before 33 x class.Bang refl, p.0) (same x (cut_form 33)))
     ]
 
 -- ---- behind a bracket
@@ -437,44 +330,46 @@ opened_ending bang d t digit = rw (ne_eqb d 124 (let lt = digit_below d digit in
 opened_inline : (bang : Bool) (l : ℕ) (t : List ℕ) → is_letter l ≡ true → opened (opening (l ∷ 58 ∷ t)) bang (l ∷ 58 ∷ t) ≡ inline_read (l ∷ 58 ∷ t)
 opened_inline bang l t letter =
     let p = and_parts (not (eqb l 124)) (not (is_digit l)) (letter_apart l letter) in
-    rw (not_yes (eqb l 124) p.0, not_yes (is_digit l) p.1, letter) refl
+    rw (not-true (eqb l 124) p.0, not-true (is_digit l) p.1, letter) refl
 
 opened_chord : (bang : Bool) (f : ChordForm) (x : List ℕ) → opening (chord_then f []) ≡ opens.Chord → opened (opening (chord_then f x)) bang (chord_then f x) ≡ chord_read bang (chord_then f x)
 opened_chord bang f x h = let e : opening (chord_then f x) ≡ opens.Chord = opening-behind f.inside (length_then f.length x) (length_then f.length []) ∙ h in rw e refl
 
 ending_at-reaches : (bang : Bool) (before : Before) (bracket : Bool) (d : ℕ) (more x : List ℕ) → is_digit d ≡ true → list_all is_ending more ≡ true → IsAllowed before (ending_form bracket d more) →
     Reaches x (ending_form bracket d more) (piece_at bang before (spelled (ending_form bracket d more) x))
+unfolding class_of
 ending_at-reaches bang before true d more x digit pass allowed =
-    rw (at_class bang before 91 (d ∷ (more ++ x)) class.Bracket bracket_class ∙ opened_ending bang d (more ++ x) digit) (ending-reaches true d more x digit pass)
+    rw (at_class bang before 91 (d ∷ (more ++ x)) class.Bracket refl ∙ opened_ending bang d (more ++ x) digit) (ending-reaches true d more x digit pass)
 ending_at-reaches bang before false d more x digit pass allowed =
     rw (at_class bang before d (more ++ x) class.Digit (digit_class d digit), allowed) (ending-reaches false d more x digit pass)
 
 pub piece_at-reaches : (bang : Bool) (before : Before) (f : Form) (x : List ℕ) → IsGood bang f → IsAllowed before f → Reaches x f (piece_at bang before (spelled f x))
+unfolding class_of dot_read bang_read tuplet_read
 piece_at-reaches bang before (note_form f) x good allowed = rw (by_sign bang before f.sign f.low f.letter (f.marks ++ length_then f.length x)) (note-reaches f x good)
 piece_at-reaches bang before (rest_form seen len) x good allowed = rw (at_class bang before (rest_byte seen) (length_then len x) class.Rest (rest_class seen)) (rest-reaches seen len x good)
-piece_at-reaches bang before (gap_form len) x good allowed = rw (at_class bang before 121 (length_then len x) class.Gap gap_class) (gap-reaches len x good)
+piece_at-reaches bang before (gap_form len) x good allowed = rw (at_class bang before 121 (length_then len x) class.Gap refl) (gap-reaches len x good)
 piece_at-reaches bang before (measures_form seen count) x good allowed = rw (at_class bang before (measures_byte seen) (count ++ x) class.Measures (measures_class seen)) (measures-reaches seen count x good)
-piece_at-reaches bang before (chord_form f) x good allowed = rw (at_class bang before 91 (chord_then f x) class.Bracket bracket_class ∙ opened_chord bang f x good.1) (chord-reaches bang f x good.0)
-piece_at-reaches bang before (grace_form f) x good allowed = rw (at_class bang before 123 (grace_then f x) class.Brace brace_class) (grace-reaches bang f x good)
-piece_at-reaches bang before (tuplet_form f) x good allowed = rw (at_class bang before 40 (tuplet_then f x) class.Paren paren_class) (either-reaches x (tuplet_form f) (tuplet_read (tuplet_then f x)) _ (tuplet-reaches f x good))
-piece_at-reaches bang before (slur_form true) x good allowed = rw (at_class bang before 46 (40 ∷ x) class.Dot dot_class ∙ dotted_slur x) (same x (slur_form true))
-piece_at-reaches bang before (slur_form false) x good allowed = rw (at_class bang before 40 x class.Paren paren_class) (slur-reaches x)
-piece_at-reaches bang before close_form x good allowed = rw (at_class bang before 41 x class.Close close_class) (same x close_form)
-piece_at-reaches bang before (tie_form true) x good allowed = rw (at_class bang before 46 (45 ∷ x) class.Dot dot_class ∙ dotted_tie x) (same x (tie_form true))
-piece_at-reaches bang before (tie_form false) x good allowed = rw (at_class bang before 45 x class.Tie tie_class) (same x (tie_form false))
+piece_at-reaches bang before (chord_form f) x good allowed = rw (at_class bang before 91 (chord_then f x) class.Bracket refl ∙ opened_chord bang f x good.1) (chord-reaches bang f x good.0)
+piece_at-reaches bang before (grace_form f) x good allowed = rw (at_class bang before 123 (grace_then f x) class.Brace refl) (grace-reaches bang f x good)
+piece_at-reaches bang before (tuplet_form f) x good allowed = rw (at_class bang before 40 (tuplet_then f x) class.Paren refl) (either-reaches x (tuplet_form f) (tuplet_read (tuplet_then f x)) _ (tuplet-reaches f x good))
+piece_at-reaches bang before (slur_form true) x good allowed = rw (at_class bang before 46 (40 ∷ x) class.Dot refl) (same x (slur_form true))
+piece_at-reaches bang before (slur_form false) x good allowed = rw (at_class bang before 40 x class.Paren refl) (slur_or x (tuplet_at x) (tuplet_at-takes x))
+piece_at-reaches bang before close_form x good allowed = rw (at_class bang before 41 x class.Close refl) (same x close_form)
+piece_at-reaches bang before (tie_form true) x good allowed = rw (at_class bang before 46 (45 ∷ x) class.Dot refl) (same x (tie_form true))
+piece_at-reaches bang before (tie_form false) x good allowed = rw (at_class bang before 45 x class.Tie refl) (same x (tie_form false))
 piece_at-reaches bang before (broken_form right zero) x good allowed = absurd (omega (arith, good.0))
 piece_at-reaches bang before (broken_form right (suc k)) x good allowed = rw (at_class bang before (arrow right) (copies k (arrow right) x) class.Broken (arrow_class right)) (broken-reaches before right k x allowed good.1)
 piece_at-reaches bang before (bar_form f) x good allowed = bar_at-reaches bang before f x good
 piece_at-reaches bang before (ending_form bracket d more) x good allowed = ending_at-reaches bang before bracket d more x good.0 good.1 allowed
 piece_at-reaches bang before (letter_form b) x good allowed = letter-reaches bang before b x good
-piece_at-reaches bang before (named_form name) x good allowed = rw (at_class bang before 33 (name ++ (33 ∷ x)) class.Bang bang_class, good.0) (named-reaches name x good.1)
-piece_at-reaches bang before (says_form text) x good allowed = rw (at_class bang before 34 (text ++ (34 ∷ x)) class.Quote quote_class) (says-reaches text x good)
-piece_at-reaches bang before (inline_form letter text) x good allowed = rw (at_class bang before 91 (letter ∷ 58 ∷ (text ++ (93 ∷ x))) class.Bracket bracket_class ∙ opened_inline bang letter (text ++ (93 ∷ x)) good.0) (inline-reaches letter text x good.1)
+piece_at-reaches bang before (named_form name) x good allowed = rw (at_class bang before 33 (name ++ (33 ∷ x)) class.Bang refl, good.0) (named-reaches name x good.1)
+piece_at-reaches bang before (says_form text) x good allowed = rw (at_class bang before 34 (text ++ (34 ∷ x)) class.Quote refl) (says-reaches text x good)
+piece_at-reaches bang before (inline_form letter text) x good allowed = rw (at_class bang before 91 (letter ∷ 58 ∷ (text ++ (93 ∷ x))) class.Bracket refl ∙ opened_inline bang letter (text ++ (93 ∷ x)) good.0) (inline-reaches letter text x good.1)
 piece_at-reaches bang before (cut_form b) x good allowed = cut-reaches bang before b x good
 piece_at-reaches bang before (space_form b more) x good allowed = rw (at_class bang before b (more ++ x) class.Blank (blank_class b good.0)) (space-reaches b more x good.1)
 piece_at-reaches bang before (passed_form b) x good allowed = passed-reaches bang before b x good
-piece_at-reaches bang before lone_form x good allowed = rw (at_class bang before 33 x class.Bang bang_class, good) (lone-reaches x)
-piece_at-reaches bang before (plus_form text) x good allowed = rw (at_class bang before 43 (text ++ (43 ∷ x)) class.Plus plus_class) (plus-reaches text x good)
+piece_at-reaches bang before lone_form x good allowed = rw (at_class bang before 33 x class.Bang refl, good) (lone_or x (name_at x) (name_at-takes x))
+piece_at-reaches bang before (plus_form text) x good allowed = rw (at_class bang before 43 (text ++ (43 ∷ x)) class.Plus refl) (plus-reaches text x good)
 
 -- ---- a piece has a byte
 

@@ -1,6 +1,5 @@
 -- The piece that is read is the longest, and equal bytes are one piece only.
-use Rattle.std.proofs.Common.{◌≡◌, ℕ, Bool, List, [], Some, None, sym, ap, ◌∙◌, arith, inl, inr}
-use Rattle.std.specs.Prelude.{IfSome}
+use Rattle.std.proofs.Common.{◌≡◌, ℕ, Bool, List, [], Some, None, sym, ap, ◌∙◌, arith, inl, inr, IfSome}
 use Rattle.abc_pieces.specs.declared.token.Before.{Before}
 use Rattle.abc_pieces.specs.Forms.{Form, spelled, IsGood, IsAllowed, StandsAt}
 use Rattle.abc_pieces.specs.Reading.{Read, read, piece_at}

@@ -1,6 +1,5 @@
 -- A piece that is read stands at the front.
-use Rattle.std.proofs.Common.{◌≡◌, ℕ, suc, Bool, true, false, cond, eqb, List, [], ◌∷◌, ◌++◌, length, Option, Some, None, refl, sym, ap, ◌∙◌, arith}
-use Rattle.std.specs.Prelude.{◌&&◌, IfSome, option_map}
+use Rattle.std.proofs.Common.{◌≡◌, ℕ, suc, Bool, true, false, cond, eqb, List, [], ◌∷◌, ◌++◌, length, Option, Some, None, refl, sym, ap, ◌∙◌, arith, ◌&&◌, IfSome, option_map}
 use Rattle.std.specs.List.{list_all}
 use Rattle.std.proofs.lemmas.Bool.{cond_both, or_left, or_right, and_parts, eqb-true, not-false, eq-eqb}
 use Rattle.mus_units.specs.Bytes.{is_digit, is_blank, is_letter}
@@ -83,9 +82,8 @@ bracket-takes bang before (b ∷ s) =
     (λ e. tt)
 
 pub opening-behind : (w x y : List ℕ) → opening (w ++ (93 ∷ x)) ≡ opening (w ++ (93 ∷ y))
-opening-behind [] x y = refl
 opening-behind (b ∷ []) x y = refl
-opening-behind (b ∷ c ∷ w) x y = refl
+opening-behind _ x y = refl
 
 from_chord : (bang : Bool) (before : Before) (s : List ℕ) (r : Option (ChordForm × List ℕ)) → opening s ≡ opens.Chord → TakesChord bang s r → Takes bang before (91 ∷ s) (option_map (λ z. (chord_form z.0, z.1)) r)
 from_chord bang before s None o t = tt

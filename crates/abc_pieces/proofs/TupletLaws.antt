@@ -1,8 +1,6 @@
 -- Reading a tuplet gives the longest.
-use Rattle.std.proofs.Common.{◌≡◌, ℕ, ◌≤◌, ◌<◌, true, List, [], ◌∷◌, ◌++◌, length, Option, Some, None, refl, ap, ◌∙◌, arith, inl, inr, ◌⊎◌}
-use Rattle.std.specs.Prelude.{IfSome}
+use Rattle.std.proofs.Common.{◌≡◌, ℕ, ◌≤◌, ◌<◌, true, List, [], ◌∷◌, ◌++◌, length, Option, Some, None, refl, ap, ◌∙◌, arith, inl, inr, ◌⊎◌, IfSome, length-append}
 use Rattle.std.proofs.lemmas.Bool.{cond_both}
-use Rattle.std.proofs.lemmas.List.{length-append}
 use Rattle.abc_notes.specs.Runs.{maybe, skip}
 use Rattle.abc_notes.specs.Lengths.{IsCount, number_at}
 use Rattle.abc_pieces.specs.Tuplets.{TupletForm, bare, with_q, with_r, is_tuplet_digit, tuplet_then, IsTuplet, behind_q, behind_p, tuplet_at}

@@ -1,7 +1,6 @@
 -- The list before the first place that passes, by that place.
-use Rattle.std.proofs.Common.{◌≡◌, refl, ◌∙◌, sym, ap, ℕ, ◌-◌, ◌≤◌, List, length, take, drop, reverse, Bool, true, false, cond, ltb, arith, not, Option, Some, None, ◌++◌, length-drop}
+use Rattle.std.proofs.Common.{◌≡◌, refl, ◌∙◌, sym, ap, ℕ, ◌-◌, ◌≤◌, List, length, take, drop, reverse, Bool, true, false, cond, ltb, arith, not, Option, Some, None, ◌++◌, length-drop, unwrap_or}
 use Rattle.std.proofs.lemmas.List.{reverse-append, reverse-reverse, length-reverse, take-append-drop, take-append-le, take_all}
-use Rattle.std.specs.Prelude.{unwrap_or}
 use Rattle.std.specs.List.{position, position_or_len, before_first}
 use Rattle.std.proofs.lemmas.List.Sums.{prefix_len-le-length}
 

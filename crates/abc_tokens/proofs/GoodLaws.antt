@@ -1,5 +1,5 @@
 -- What a piece spells is a good token.
-use Rattle.std.proofs.Common.{◌≡◌, ℕ, zero, suc, ◌+◌, ◌*◌, ◌-◌, ◌^◌, ◌≤◌, ◌<◌, Bool, true, false, List, [], ◌∷◌, ◌++◌, map, length, sym, subst, arith}
+use Rattle.std.proofs.Common.{◌≡◌, ℕ, suc, ◌+◌, ◌*◌, ◌-◌, ◌^◌, ◌≤◌, ◌<◌, Bool, true, false, List, [], ◌∷◌, ◌++◌, map, length, sym, subst, arith}
 use Rattle.std.specs.Prelude.{Option, Some, None, ◌==◌, if◌then◌else◌, ⊤}
 use Rattle.std.specs.List.{list_all}
 use Rattle.std.specs.Char.{digit_value}
@@ -9,11 +9,11 @@ use Rattle.std.proofs.lemmas.Bool.{and_parts, leb-true, eqb-false}
 use Rattle.mus_units.specs.Bytes.{is_digit}
 use Rattle.abc_notes.specs.Lengths.{LengthForm, whole, over, halved, IsNumber, IsCount, count_of, IsLength, len_of}
 use Rattle.abc_notes.specs.Graces.{GracePart, single, chorded, StandsInGrace, heads_in, body_of_sense, body_of}
-use Rattle.abc_notes.specs.Items.{Inner, note_inside, letter_inside, named_inside, tie_inside, slur_inside, passed_inside, lone_inside, StandsInside, sense}
+use Rattle.abc_notes.specs.Items.{Inner, note_inside, StandsInside, sense}
 use Rattle.abc_notes.specs.Chords.{has_head, heads_of}
 use Rattle.abc_pieces.specs.Tuplets.{TupletForm, bare, with_q, with_r, is_tuplet_digit, IsTuplet, value_or_zero, p_of, q_of, r_of}
 use Rattle.abc_notes.specs.Parts.{Parts, no_part, then_part}
-use Rattle.abc_pieces.specs.Forms.{Form, note_form, rest_form, gap_form, measures_form, chord_form, grace_form, tuplet_form, slur_form, close_form, tie_form, broken_form, bar_form, ending_form, letter_form, named_form, says_form, inline_form, cut_form, space_form, passed_form, lone_form, plus_form, IsGood, is_kept_field, meant, after}
+use Rattle.abc_pieces.specs.Forms.{Form, note_form, rest_form, measures_form, chord_form, grace_form, tuplet_form, broken_form, inline_form, space_form, IsGood, is_kept_field, meant, after}
 use Rattle.abc_pieces.specs.declared.token.Token.{Token}
 use Rattle.abc_pieces.specs.declared.token.Token.TheVariants as token
 use Rattle.abc_pieces.specs.declared.token.Before.{Before}
@@ -35,12 +35,8 @@ all_digits (d ∷ ds) h = let p = and_parts _ _ h in (digit_small d p.0, all_dig
 power_small : (n : ℕ) → n ≤ 4 → 10 ^ n ≤ 10000
 power_small n h = pow_at n h where
   pow_at : (n : ℕ) → n ≤ 4 → 10 ^ n ≤ 10000
-  pow_at zero h = omega arith
-  pow_at (suc zero) h = omega arith
-  pow_at (suc (suc zero)) h = omega arith
-  pow_at (suc (suc (suc zero))) h = omega arith
-  pow_at (suc (suc (suc (suc zero)))) h = omega arith
   pow_at (suc (suc (suc (suc (suc n))))) h = absurd (omega arith)
+  pow_at _ h = omega arith
 
 below_power : (ds : List ℕ) → list_all is_digit ds ≡ true → digits_value 10 ds < 10 ^ length ds
 below_power ds h = digits_value-lt 10 ds (all_digits ds h)
@@ -71,14 +67,8 @@ count_three (a ∷ b ∷ c ∷ []) good = (number_some 3 (a ∷ b ∷ c ∷ []) 
 count_three (a ∷ b ∷ c ∷ d ∷ ds) good = absurd (let few = good.few in omega (arith, few))
 
 halves : (n : ℕ) → n ≤ 6 → (1 ≤ 2 ^ n) × (2 ^ n ≤ 9999)
-halves zero h = (omega arith, omega arith)
-halves (suc zero) h = (omega arith, omega arith)
-halves (suc (suc zero)) h = (omega arith, omega arith)
-halves (suc (suc (suc zero))) h = (omega arith, omega arith)
-halves (suc (suc (suc (suc zero)))) h = (omega arith, omega arith)
-halves (suc (suc (suc (suc (suc zero))))) h = (omega arith, omega arith)
-halves (suc (suc (suc (suc (suc (suc zero)))))) h = (omega arith, omega arith)
 halves (suc (suc (suc (suc (suc (suc (suc n))))))) h = absurd (omega arith)
+halves _ h = (omega arith, omega arith)
 
 good_len : (f : LengthForm) → IsLength f → IsGoodLen (len_of f)
 good_len (whole count) good = let c = count_four count good in record { some = c.0; num_high = c.1; above = omega arith; den_high = omega arith }
@@ -96,33 +86,18 @@ good_len (halved count slashes) good = let c = count_four count good.0 in let h 
 good_heads : (bang : Bool) (text : List ℕ) (parts : List Inner) → Parts Inner (StandsInside bang) text parts → AreGoodHeads (heads_of (map sense parts))
 good_heads bang _ _ no_part = tt
 good_heads bang _ _ (then_part text (note_inside f) rest more longest others) = (good_len f.length longest.stands.good.length, good_heads bang rest more others)
-good_heads bang _ _ (then_part text (letter_inside byte) rest more longest others) = good_heads bang rest more others
-good_heads bang _ _ (then_part text (named_inside name) rest more longest others) = good_heads bang rest more others
-good_heads bang _ _ (then_part text (tie_inside dotted) rest more longest others) = good_heads bang rest more others
-good_heads bang _ _ (then_part text slur_inside rest more longest others) = good_heads bang rest more others
-good_heads bang _ _ (then_part text (passed_inside byte) rest more longest others) = good_heads bang rest more others
-good_heads bang _ _ (then_part text lone_inside rest more longest others) = good_heads bang rest more others
+good_heads bang _ _ (then_part _ _ rest more _ others) = good_heads bang rest more others
 
 some_head : (parts : List Inner) → has_head parts ≡ true → HasHead (heads_of (map sense parts))
 some_head [] h = absurd cc
 some_head (note_inside f ∷ parts) h = tt
-some_head (letter_inside byte ∷ parts) h = some_head parts h
-some_head (named_inside name ∷ parts) h = some_head parts h
-some_head (tie_inside dotted ∷ parts) h = some_head parts h
-some_head (slur_inside ∷ parts) h = some_head parts h
-some_head (passed_inside byte ∷ parts) h = some_head parts h
-some_head (lone_inside ∷ parts) h = some_head parts h
+some_head (_ ∷ parts) h = some_head parts h
 
 -- the notes and chords of a grace group
 some_grace_head : (parts : List Inner) → has_head parts ≡ true → HasGraceHead (heads_in (map sense parts))
 some_grace_head [] h = absurd cc
 some_grace_head (note_inside f ∷ parts) h = tt
-some_grace_head (letter_inside byte ∷ parts) h = some_grace_head parts h
-some_grace_head (named_inside name ∷ parts) h = some_grace_head parts h
-some_grace_head (tie_inside dotted ∷ parts) h = some_grace_head parts h
-some_grace_head (slur_inside ∷ parts) h = some_grace_head parts h
-some_grace_head (passed_inside byte ∷ parts) h = some_grace_head parts h
-some_grace_head (lone_inside ∷ parts) h = some_grace_head parts h
+some_grace_head (_ ∷ parts) h = some_grace_head parts h
 
 graces_both : (one other : List GraceChord) → AreGoodGraces one → AreGoodGraces other → AreGoodGraces (one ++ other)
 graces_both [] other good more = more
@@ -130,12 +105,7 @@ graces_both (chord ∷ one) other good more = (good.0, graces_both one other goo
 
 single_good : (part : Inner) → AreGoodGraces (body_of_sense (sense part))
 single_good (note_inside f) = (tt, tt)
-single_good (letter_inside byte) = tt
-single_good (named_inside name) = tt
-single_good (tie_inside dotted) = tt
-single_good slur_inside = tt
-single_good (passed_inside byte) = tt
-single_good lone_inside = tt
+single_good _ = tt
 
 good_graces : (bang : Bool) (text : List ℕ) (parts : List GracePart) → Parts GracePart (StandsInGrace bang) text parts → AreGoodGraces (body_of parts)
 good_graces bang _ _ no_part = tt
@@ -174,26 +144,14 @@ inline_good false letter text = tt
 good_piece : (bang : Bool) (f : Form) → IsGood bang f → IsGoodMaybe (meant f)
 good_piece bang (note_form f) good = good_len f.length good.length
 good_piece bang (rest_form seen len) good = good_len len good
-good_piece bang (gap_form len) good = tt
 good_piece bang (measures_form seen count) good = count_three count good
 good_piece bang (chord_form f) good = (some_head f.parts good.0.head, good_heads bang f.inside f.parts good.0.parts, good_len f.length good.0.length)
 good_piece bang (grace_form f) good = good_graces bang f.inside f.parts good.parts
 good_piece bang (tuplet_form f) good = good_tuplet f good
-good_piece bang (slur_form dotted) good = tt
-good_piece bang close_form good = tt
-good_piece bang (tie_form dotted) good = tt
 good_piece bang (broken_form right count) good = good
-good_piece bang (bar_form f) good = tt
-good_piece bang (ending_form bracket digit more) good = tt
-good_piece bang (letter_form byte) good = tt
-good_piece bang (named_form name) good = tt
-good_piece bang (says_form text) good = tt
 good_piece bang (inline_form letter text) good = inline_good (is_kept_field letter) letter text
-good_piece bang (cut_form byte) good = tt
 good_piece bang (space_form blank more) good = tt
-good_piece bang (passed_form byte) good = tt
-good_piece bang lone_form good = tt
-good_piece bang (plus_form text) good = tt
+good_piece bang _ good = tt
 
 good_put : (t : Option Token) (at : ℕ) (ts : List Placed) → IsGoodMaybe t → AreGoodTokens ts → AreGoodTokens (put t at ts)
 good_put None at ts good more = more

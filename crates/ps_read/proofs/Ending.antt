@@ -1,7 +1,6 @@
 -- No good line but the last is `%%EOF`, so no proper prefix of a document is a document.
-use Rattle.std.proofs.Common.{◌≡◌, ℕ, ◌⊎◌, inl, inr, List, [], ◌∷◌, ◌++◌, length, refl, sym, ◌∙◌, ap, subst, arith, codes}
+use Rattle.std.proofs.Common.{◌≡◌, ℕ, ◌⊎◌, inl, inr, List, [], ◌∷◌, ◌++◌, length, refl, sym, ◌∙◌, ap, subst, codes}
 use Rattle.std.specs.Prelude.{⊤}
-use Rattle.std.proofs.lemmas.List.{length-append}
 use mathlib.Core.List.{append_assoc}
 use Rattle.ps_text.specs.Document.{staff_line, system_line, tune_line, heading_line, count_line}
 use Rattle.ps_text.specs.declared.sheet.Frame.{Frame}
@@ -13,7 +12,7 @@ use Rattle.ps_read.specs.Places.{MayCome, after_prolog, next, Leads}
 use Rattle.ps_read.specs.declared.place.Place.{Place}
 use Rattle.ps_read.specs.declared.place.Place.TheVariants as at
 use Rattle.eng_lines.proofs.Words.{one_cut}
-use Rattle.ps_read.proofs.Heads.{may_lack, apart, no_mark, mark_start, join_start, rules_start, title_start}
+use Rattle.ps_read.proofs.Heads.{may_lack, apart, no_mark, mark_start, join_start, rules_start, title_start, no_line}
 use Rattle.ps_read.proofs.Through.{document_way}
 
 -- the prolog is told
@@ -77,16 +76,13 @@ leads_cases (at.Ended x) text h = inr (x, refl, h)
 leads_cases p text h = inl h
 
 both_late : (p q : Place) → IsLate p → IsLate q → IsAbreast p q
-both_late (at.Between s) q h k = (h, k)
-both_late (at.Headed s) q h k = (h, k)
-both_late (at.Items p) q h k = (h, k)
-both_late (at.System o) q h k = (h, k)
-both_late (at.Staff o) q h k = (h, k)
 both_late (at.Marks o s) q h k = (h, k)
-both_late (at.Closed p) q h k = (h, k)
-both_late (at.Trailer s) q h k = (h, k)
-both_late (at.Counted s) q h k = (h, k)
-both_late p q h k = absurd h
+both_late at.Begun q h k = absurd h
+both_late at.Titled q h k = absurd h
+both_late (at.Boxed w k rest) q h l = absurd h
+both_late (at.Framed f rest) q h k = absurd h
+both_late (at.Ended s) q h k = absurd h
+both_late p q h k = (h, k)
 
 -- by the same line two places behind the prolog stay abreast
 late_on : (p q : Place) (s t : List ℕ) → s ≡ t → LeadsOn p s → LeadsOn q t → IsAbreast p q
@@ -113,9 +109,6 @@ at_titled : (q : Place) (w h : ℕ) → IsAbreast at.Titled q → (m : Line) →
 at_titled at.Titled w h a (line.Box v k) b = refl
 at_titled at.Titled w h a m b = absurd b
 at_titled q w h a m b = absurd a.0
-
-no_line : (text more : List ℕ) → [] ≡ text ++ 10 ∷ more → ⊥
-no_line text more e = let n = ap length e in let k = length-append text (10 ∷ more) in omega (arith, n, k)
 
 at_boxed : (q : Place) (w h : ℕ) (rest text : List ℕ) → IsAbreast (at.Boxed w h rest) q → IsFirstLine text rest → (m : Line) → MayCome q m → text ≡ line_text m
     → IsAbreast (at.Boxed w h (behind_line text rest)) (next q m)
@@ -149,16 +142,12 @@ abreast_step at.Titled q (line.Box v k) m h a b e = at_titled q v k h m b
 abreast_step (at.Boxed w k rest) q (line.Fixed text) m h a b e = at_boxed q w k rest text h a m b e
 abreast_step (at.Boxed w k rest) q (line.PageStart x y z) m h a b e = at_scale q w k rest x y z h a.0 m b
 abreast_step (at.Framed f rest) q (line.Fixed text) m h a b e = at_framed q f rest text h m b e
-abreast_step (at.Between s) q l m h a b e = late (at.Between s) q l m h.0 h.1 a b e
-abreast_step (at.Headed s) q l m h a b e = late (at.Headed s) q l m h.0 h.1 a b e
-abreast_step (at.Items p) q l m h a b e = late (at.Items p) q l m h.0 h.1 a b e
-abreast_step (at.System o) q l m h a b e = late (at.System o) q l m h.0 h.1 a b e
-abreast_step (at.Staff o) q l m h a b e = late (at.Staff o) q l m h.0 h.1 a b e
-abreast_step (at.Marks o s) q l m h a b e = late (at.Marks o s) q l m h.0 h.1 a b e
-abreast_step (at.Closed p) q l m h a b e = late (at.Closed p) q l m h.0 h.1 a b e
-abreast_step (at.Trailer s) q l m h a b e = late (at.Trailer s) q l m h.0 h.1 a b e
-abreast_step (at.Counted s) q l m h a b e = late (at.Counted s) q l m h.0 h.1 a b e
-abreast_step p q l m h a b e = absurd a
+abreast_step at.Begun q l m h a b e = absurd a
+abreast_step at.Titled q l m h a b e = absurd a
+abreast_step (at.Boxed w k rest) q l m h a b e = absurd a
+abreast_step (at.Framed f rest) q l m h a b e = absurd a
+abreast_step (at.Ended s) q l m h a b e = absurd a
+abreast_step p q l m h a b e = late p q l m h.0 h.1 a b e
 
 ended_abreast : (s : Sheet) (q : Place) → IsAbreast (at.Ended s) q → (m : Line) → MayCome q m → ⊥
 ended_abreast s (at.Ended t) h m k = absurd k

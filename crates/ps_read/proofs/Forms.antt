@@ -1,7 +1,6 @@
 -- The text of a line, each part in front of what follows it, and that its numbers may stand on a page.
-use Rattle.std.proofs.Common.{◌≡◌, ℕ, ℤ, pos, ◌≤◌, ◌^◌, true, ◌+◌, ◌/◌, ◌%◌, ◌<◌, List, [], ◌∷◌, ◌++◌, Option, Some, None, is_some, refl, sym, ◌∙◌, ap, arith, codes, decimal}
-use Rattle.std.proofs.lemmas.Bool.{true≢false}
-use Rattle.std.proofs.lemmas.Fmt.{decimal_by_steps}
+use Rattle.std.proofs.Common.{◌≡◌, ℕ, ℤ, pos, ◌≤◌, ◌^◌, true, ◌+◌, ◌/◌, ◌%◌, List, [], ◌∷◌, ◌++◌, Option, Some, None, is_some, refl, sym, ◌∙◌, ap, arith, codes, decimal, true≢false}
+use Rattle.std.proofs.lemmas.Fmt.{decimal_digit}
 use Rattle.std.specs.List.{flat_map, list_all}
 use Rattle.std.proofs.lemmas.Int.{ints}
 use mathlib.Core.List.{append_assoc}
@@ -54,13 +53,9 @@ page_form l b s =
     (append_assoc (d ++ 32 ∷ g ++ t ++ f) (32 ∷ f) page_end
     ∙ (append_assoc (d ++ 32 ∷ g ++ t) f (32 ∷ (f ++ page_end)) ∙ (append_assoc (d ++ 32 ∷ g) t (after_bottom s) ∙ append_assoc d (32 ∷ g) (t ++ after_bottom s))))
 
--- a number of one digit, and a percent
-decimal_small : (d : ℕ) → d < 10 → decimal d ≡ (48 + d) ∷ []
-decimal_small d l = decimal_by_steps (λ n ds. n < 10 → ds ≡ (48 + n) ∷ []) (λ n h k. refl) (λ n ds ge h k. absurd (omega (arith, ge, k))) d (omega (arith, l)) l
-
 pub percent_bytes : (p : ℕ) (rest : List ℕ) → p ≤ 150 → percent p ++ rest ≡ (48 + p / 100) ∷ 46 ∷ (48 + p / 10 % 10) ∷ (48 + p % 10) ∷ rest
 unfolding percent
-percent_bytes p rest l = ap (λ s. (s ++ 46 ∷ (48 + p / 10 % 10) ∷ (48 + p % 10) ∷ []) ++ rest) (decimal_small (p / 100) (omega arith))
+percent_bytes p rest l = ap (λ s. (s ++ 46 ∷ (48 + p / 10 % 10) ∷ (48 + p % 10) ∷ []) ++ rest) (decimal_digit (p / 100) (omega arith))
 
 pub not_some : {A : Type 0} (x : A) → ◌≡◌ {A = Option A} None (Some x) → ⊥
 not_some x e = true≢false (sym (ap is_some e))

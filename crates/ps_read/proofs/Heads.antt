@@ -1,8 +1,7 @@
 -- How lines begin, and that none has an LF within.
-use Rattle.std.proofs.Common.{◌≡◌, ◌≢◌, ℕ, ℤ, pos, negsuc, zero, suc, ◌+◌, ◌/◌, ◌%◌, ◌<◌, ◌≤◌, ◌⊎◌, inl, inr, Bool, true, false, ◌==◌, if◌then◌else◌, List, [], ◌∷◌, ◌++◌, refl, sym, ◌∙◌, ap, subst, arith, codes, IsTrue, nat_lt, ◌&&◌}
+use Rattle.std.proofs.Common.{◌≡◌, ◌≢◌, ℕ, ℤ, pos, negsuc, zero, suc, ◌+◌, ◌/◌, ◌%◌, ◌<◌, ◌≤◌, ◌⊎◌, inl, inr, Bool, true, false, ◌==◌, if◌then◌else◌, List, [], ◌∷◌, ◌++◌, refl, sym, ◌∙◌, ap, subst, arith, codes, IsTrue, nat_lt, ◌&&◌, true≢false, eq-eqb, length, length-append}
 use Rattle.std.specs.Fmt.{decimal, signed_decimal, digits, digits_onto, digit_glyph}
 use Rattle.std.specs.List.{flat_map, list_all}
-use Rattle.std.proofs.lemmas.Bool.{true≢false, eq-eqb}
 use Rattle.mus_units.specs.declared.glyph.Glyph.{Glyph}
 use Rattle.mus_units.specs.declared.glyph.Glyph.TheVariants as glyphs
 use Rattle.mus_units.specs.declared.glyph.Size.{Size}
@@ -189,58 +188,12 @@ size_lacks sizes.Small = lacks_by 10 (codes "t1") refl
 size_lacks sizes.Big = lacks_by 10 (codes "t2") refl
 
 way_lacks : (way : Way) → Lacks 10 (way_name way)
-way_lacks ways.Up = lacks_by 10 (codes "bu") refl
-way_lacks ways.Down = lacks_by 10 (codes "bd") refl
-way_lacks ways.Grace = lacks_by 10 (codes "gb") refl
+way_lacks ways.Up = lacks_by 10 (way_name ways.Up) refl
+way_lacks way = lacks_by 10 (way_name way) refl
 
 glyph_lacks : (g : Glyph) → Lacks 10 (glyph_name g)
-glyph_lacks glyphs.Hb = lacks_by 10 (codes "hb") refl
-glyph_lacks glyphs.Hw = lacks_by 10 (codes "hw") refl
-glyph_lacks glyphs.Hh = lacks_by 10 (codes "hh") refl
-glyph_lacks glyphs.Hq = lacks_by 10 (codes "hq") refl
-glyph_lacks glyphs.Gh = lacks_by 10 (codes "gh") refl
-glyph_lacks glyphs.Dt = lacks_by 10 (codes "dt") refl
-glyph_lacks glyphs.Lg = lacks_by 10 (codes "lg") refl
-glyph_lacks glyphs.Fu = lacks_by 10 (codes "fu") refl
-glyph_lacks glyphs.Fd = lacks_by 10 (codes "fd") refl
-glyph_lacks glyphs.Gf = lacks_by 10 (codes "gf") refl
-glyph_lacks glyphs.Gs = lacks_by 10 (codes "gs") refl
-glyph_lacks glyphs.Sr = lacks_by 10 (codes "sr") refl
-glyph_lacks glyphs.Sl = lacks_by 10 (codes "sl") refl
-glyph_lacks glyphs.R0 = lacks_by 10 (codes "r0") refl
-glyph_lacks glyphs.R1 = lacks_by 10 (codes "r1") refl
-glyph_lacks glyphs.R2 = lacks_by 10 (codes "r2") refl
-glyph_lacks glyphs.R4 = lacks_by 10 (codes "r4") refl
-glyph_lacks glyphs.R8 = lacks_by 10 (codes "r8") refl
-glyph_lacks glyphs.Ax = lacks_by 10 (codes "ax") refl
-glyph_lacks glyphs.As = lacks_by 10 (codes "as") refl
-glyph_lacks glyphs.An = lacks_by 10 (codes "an") refl
-glyph_lacks glyphs.Af = lacks_by 10 (codes "af") refl
-glyph_lacks glyphs.Ag = lacks_by 10 (codes "ag") refl
-glyph_lacks glyphs.Cg = lacks_by 10 (codes "cg") refl
-glyph_lacks glyphs.Cf = lacks_by 10 (codes "cf") refl
-glyph_lacks glyphs.Cc = lacks_by 10 (codes "cc") refl
-glyph_lacks glyphs.Bt = lacks_by 10 (codes "bt") refl
-glyph_lacks glyphs.Bw = lacks_by 10 (codes "bw") refl
-glyph_lacks glyphs.Bf = lacks_by 10 (codes "bf") refl
-glyph_lacks glyphs.Bi = lacks_by 10 (codes "bi") refl
-glyph_lacks glyphs.Bb = lacks_by 10 (codes "bb") refl
-glyph_lacks glyphs.Bo = lacks_by 10 (codes "bo") refl
-glyph_lacks glyphs.Dl = lacks_by 10 (codes "dl") refl
-glyph_lacks glyphs.Dr = lacks_by 10 (codes "dr") refl
-glyph_lacks glyphs.Nn = lacks_by 10 (codes "nn") refl
-glyph_lacks glyphs.Ks = lacks_by 10 (codes "ks") refl
-glyph_lacks glyphs.Kr = lacks_by 10 (codes "kr") refl
-glyph_lacks glyphs.Kf = lacks_by 10 (codes "kf") refl
-glyph_lacks glyphs.Ka = lacks_by 10 (codes "ka") refl
-glyph_lacks glyphs.Km = lacks_by 10 (codes "km") refl
-glyph_lacks glyphs.Kc = lacks_by 10 (codes "kc") refl
-glyph_lacks glyphs.Kp = lacks_by 10 (codes "kp") refl
-glyph_lacks glyphs.Kg = lacks_by 10 (codes "kg") refl
-glyph_lacks glyphs.Kt = lacks_by 10 (codes "kt") refl
-glyph_lacks glyphs.Ku = lacks_by 10 (codes "ku") refl
-glyph_lacks glyphs.Kd = lacks_by 10 (codes "kd") refl
-glyph_lacks glyphs.Kn = lacks_by 10 (codes "kn") refl
+glyph_lacks glyphs.Hb = lacks_by 10 (glyph_name glyphs.Hb) refl
+glyph_lacks g = lacks_by 10 (glyph_name g) refl
 
 percent_lacks : (p : ℕ) → Lacks 10 (percent p)
 unfolding percent
@@ -341,3 +294,7 @@ may_lack (at.Closed p) (line.Fixed text) m = fixed_lacks text (codes "showpage")
 may_lack (at.Trailer s) (line.Fixed text) m = subst (λ s. Lacks 10 s) (sym m) (count_lacks _)
 may_lack (at.Counted s) (line.Fixed text) m = fixed_lacks text (codes "%%EOF") m refl
 may_lack p l m = absurd m
+
+-- no text with a line's end is empty
+pub no_line : (text more : List ℕ) → [] ≡ text ++ 10 ∷ more → ⊥
+no_line text more e = let n = ap length e in let k = length-append text (10 ∷ more) in omega (arith, n, k)

@@ -1,8 +1,6 @@
 -- A line that may come leads on, and where none of those in question may, that is told.
-use Rattle.std.proofs.Common.{◌≡◌, ℕ, ℤ, ◌+◌, ◌<◌, ◌≤◌, ◌^◌, inl, inr, Bool, true, false, not, List, [], ◌∷◌, ◌++◌, length, Option, Some, None, is_some, IsSome, refl, sym, ◌∙◌, ap, subst, arith, codes, decimal, MatchOption, Result, Ok, Err, IfOk}
-use Rattle.std.proofs.lemmas.Bool.{true≢false}
+use Rattle.std.proofs.Common.{◌≡◌, ℕ, ℤ, ◌+◌, ◌<◌, ◌≤◌, ◌^◌, inl, inr, Bool, true, false, not, List, [], ◌∷◌, ◌++◌, length, Option, Some, None, is_some, IsSome, refl, sym, ◌∙◌, ap, arith, codes, decimal, MatchOption, Result, Ok, Err, IfOk, true≢false}
 use Rattle.std.proofs.lemmas.Fmt.{decimal_injective}
-use Rattle.std.proofs.lemmas.List.{length-append}
 use mathlib.Core.List.{append_assoc}
 use Rattle.mus_units.specs.declared.glyph.Size.{Size}
 use Rattle.mus_units.specs.declared.text.Memory.{Memory}
@@ -17,10 +15,9 @@ use Rattle.ps_text.specs.declared.sheet.Staff.{Staff}
 use Rattle.ps_text.specs.declared.sheet.Item.TheVariants as items
 use Rattle.ps_text.specs.declared.sheet.Sheet.{Sheet}
 use Rattle.ps_text.specs.declared.prolog.TheConstants.{BOX}
-use Rattle.eng_lines.specs.Lines.{Lacks}
 use Rattle.ps_read.specs.Lines.{Line, line_text, behind_line, IsFirstLine}
 use Rattle.ps_read.specs.Lines as line
-use Rattle.ps_read.specs.Places.{frame_of, with_item, with_page, with_mark, with_staff, with_join, open_system, ended, IsUnderTop, MayEnd, MayCome, after_prolog, next}
+use Rattle.ps_read.specs.Places.{frame_of, with_item, with_page, with_mark, with_staff, with_join, open_system, IsUnderTop, MayCome, after_prolog, next}
 use Rattle.ps_read.specs.Steps.{NoneOf, IsNextOf, IsStepOf, Any, IsItemLine, IsSystemLine, IsJoinLine, IsNoMark}
 use Rattle.ps_read.specs.Titles.{title_of, joined_of, rules_of, IsMarkRead}
 use Rattle.ps_read.specs.declared.lines.Rules.{Rules}
@@ -31,7 +28,7 @@ use Rattle.ps_read.specs.declared.place.OpenSystem.{OpenSystem}
 use Rattle.ps_read.specs.declared.place.Place.{Place}
 use Rattle.ps_read.specs.declared.place.Place.TheVariants as at
 use Rattle.eng_lines.proofs.Words.{one_field, after_prefix}
-use Rattle.ps_read.proofs.Heads.{apart, no_mark, mark_start, join_start, title_start}
+use Rattle.ps_read.proofs.Heads.{apart, no_mark, mark_start, join_start, title_start, no_line}
 
 -- two numbers behind a prefix, or one, are told by the text
 pub pair_alone : (p : List ℕ) (a b c d : ℕ) → a < 2 ^ 32 → b < 2 ^ 32 → c < 2 ^ 32 → d < 2 ^ 32
@@ -43,9 +40,6 @@ pair_alone p a b c d la lb lc ld e =
 
 pub one_alone : (p : List ℕ) (a b : ℕ) → a < 2 ^ 32 → b < 2 ^ 32 → p ++ decimal a ≡ p ++ decimal b → a ≡ b
 one_alone p a b la lb e = decimal_injective a b (omega (arith, la)) (omega (arith, lb)) (after_prefix p _ (decimal a) (decimal b) refl e)
-
-no_first : (t more : List ℕ) → [] ≡ t ++ 10 ∷ more → ⊥
-no_first t more e = let n = ap length e in let k = length-append t (10 ∷ more) in omega (arith, n, k)
 
 -- the lines of the prolog
 pub on_begun : (raw : List ℕ) → raw ≡ codes "%!PS-Adobe-3.0" → IsNextOf Any at.Begun raw at.Titled
@@ -76,7 +70,7 @@ on_boxed w h rest raw p e is = record { line = line.Fixed raw; asked = tt; spell
   where
     only : (m : Line) → Any m → raw ≡ line_text m → MayCome (at.Boxed w h rest) m → next (at.Boxed w h rest) m ≡ p
     only (line.Fixed text) u q k = ap (λ t. at.Boxed w h (behind_line t rest)) (sym q) ∙ is
-    only (line.PageStart l b s) u q k = absurd (no_first raw (behind_line raw rest) (sym k.0 ∙ e.first))
+    only (line.PageStart l b s) u q k = absurd (no_line raw (behind_line raw rest) (sym k.0 ∙ e.first))
     only m u q k = absurd k
 
 pub on_framed : (f : Frame) (rest raw : List ℕ) (q : Place) → IsFirstLine raw rest → after_prolog f (behind_line raw rest) ≡ q → IsNextOf Any (at.Framed f rest) raw q
@@ -99,7 +93,7 @@ on_page_start w h l b s raw rest e f one is = record { line = line.PageStart l b
     place_of None = at.Begun
 
     only : (m : Line) → Any m → raw ≡ line_text m → MayCome (at.Boxed w h []) m → next (at.Boxed w h []) m ≡ at.Framed (frame_of w h l b s) rest
-    only (line.Fixed text) u q k = absurd (no_first text (behind_line text []) k.first)
+    only (line.Fixed text) u q k = absurd (no_line text (behind_line text []) k.first)
     only (line.PageStart x y z) u q k =
         let g = k.1 in sym (ap place_of (one x y z g.left g.bottom g.greatest_scale q)) ∙ ap (λ r. at.Framed (frame_of w h l b s) r) (sym is)
     only m u q k = absurd k
@@ -244,26 +238,6 @@ on_title p raw t r e g one is = record { line = line.Title t.x t.y t.size t.text
     only (line.Title x y size words) u q k = sym (ap item_of (one x y size words k q)) ∙ ap at.Items (sym is)
     only m u q k = absurd k
 
-none_from_item : (p : OpenPage) (raw : List ℕ) → ((x y : ℤ) (size : Size) (words : List ℕ) → IsTitle x y words → raw ≡ title_line x y size words → ⊥)
-    → NoneOf IsItemLine (at.Items p) raw → NoneOf Any (at.Items p) raw
-none_from_item p raw f h (line.Fixed text) u q k = h (line.Fixed text) tt q k
-none_from_item p raw f h (line.Tune j) u q k = h (line.Tune j) tt q k
-none_from_item p raw f h (line.System a b) u q k = h (line.System a b) tt q k
-none_from_item p raw f h (line.Title x y size words) u q k = f x y size words k q
-none_from_item p raw f h m u q k = absurd k
-
-pub from_item : (p : OpenPage) (raw : List ℕ) (o : Option Place) → ((x y : ℤ) (size : Size) (words : List ℕ) → IsTitle x y words → raw ≡ title_line x y size words → ⊥)
-    → IsStepOf IsItemLine (at.Items p) raw o → IsStepOf Any (at.Items p) raw o
-from_item p raw None f h = none_from_item p raw f h
-from_item p raw (Some r) f h = record { line = h.line; asked = tt; spelled = h.spelled; may = h.may; only = only }
-  where
-    only : (m : Line) → Any m → raw ≡ line_text m → MayCome (at.Items p) m → next (at.Items p) m ≡ r
-    only (line.Fixed text) u q k = h.only (line.Fixed text) tt q k
-    only (line.Tune j) u q k = h.only (line.Tune j) tt q k
-    only (line.System a b) u q k = h.only (line.System a b) tt q k
-    only (line.Title x y size words) u q k = absurd (f x y size words k q)
-    only m u q k = absurd k
-
 -- the lines of systems
 pub on_join : (o : OpenSystem) (raw : List ℕ) (j : Joined) (r : OpenSystem) → o.join ≡ None → raw ≡ join_line j.top j.foot → IsNumber j.top → IsNumber j.foot
     → ((top foot : ℤ) → IsNumber top → IsNumber foot → raw ≡ join_line top foot → j ≡ joined_of top foot) → r ≡ with_join o j.top j.foot
@@ -284,20 +258,6 @@ on_first_staff o raw e = record { line = line.StaffHead 0; asked = tt; spelled =
     only : (m : Line) → Any m → raw ≡ line_text m → MayCome (at.System o) m → next (at.System o) m ≡ at.Staff o
     only (line.Join x y) u q k = absurd (no_mark 37 _ (staff_line 0) (join_start x y) refl (inl refl) (sym q ∙ e))
     only (line.StaffHead n) u q k = refl
-    only m u q k = absurd k
-
-none_from_join : (o : OpenSystem) (raw : List ℕ) → (raw ≡ staff_line 0 → ⊥) → NoneOf IsJoinLine (at.System o) raw → NoneOf Any (at.System o) raw
-none_from_join o raw f h (line.Join x y) u q k = h (line.Join x y) tt q k
-none_from_join o raw f h (line.StaffHead n) u q k = f (q ∙ ap staff_line k)
-none_from_join o raw f h m u q k = absurd k
-
-pub from_join : (o : OpenSystem) (raw : List ℕ) (r : Option Place) → (raw ≡ staff_line 0 → ⊥) → IsStepOf IsJoinLine (at.System o) raw r → IsStepOf Any (at.System o) raw r
-from_join o raw None f h = none_from_join o raw f h
-from_join o raw (Some r) f h = record { line = h.line; asked = tt; spelled = h.spelled; may = h.may; only = only }
-  where
-    only : (m : Line) → Any m → raw ≡ line_text m → MayCome (at.System o) m → next (at.System o) m ≡ r
-    only (line.Join x y) u q k = h.only (line.Join x y) tt q k
-    only (line.StaffHead n) u q k = absurd (f (q ∙ ap staff_line k))
     only m u q k = absurd k
 
 pub on_rules : (o : OpenSystem) (raw : List ℕ) (w : ℕ) (y : ℤ) → raw ≡ rules_line w y → 1 ≤ w → w ≤ 2 ^ 31 → IsNumber y → IsUnderTop o.join o.staves y
@@ -334,67 +294,6 @@ none_next_staff o s raw e none (line.StaffHead n) u q k = none k.0
 none_next_staff o s raw e none (line.Mark y m) u q k = absurd u
 none_next_staff o s raw e none m u q k = absurd k
 
-none_from_leaving : (o : OpenSystem) (s : Staff) (raw : List ℕ) → (raw ≡ staff_line (length o.staves + 1) → ⊥) → NoneOf IsItemLine (at.Marks o s) raw
-    → NoneOf IsNoMark (at.Marks o s) raw
-none_from_leaving o s raw f h (line.Fixed text) u q k = h (line.Fixed text) tt q k
-none_from_leaving o s raw f h (line.Tune j) u q k = h (line.Tune j) tt q k
-none_from_leaving o s raw f h (line.System a b) u q k = h (line.System a b) tt q k
-none_from_leaving o s raw f h (line.StaffHead n) u q k = f (q ∙ ap staff_line k.1)
-none_from_leaving o s raw f h (line.Mark y m) u q k = absurd u
-none_from_leaving o s raw f h m u q k = absurd k
-
-pub from_leaving : (o : OpenSystem) (s : Staff) (raw : List ℕ) (r : Option Place) → (raw ≡ staff_line (length o.staves + 1) → ⊥) → IsStepOf IsItemLine (at.Marks o s) raw r
-    → IsStepOf IsNoMark (at.Marks o s) raw r
-from_leaving o s raw None f h = none_from_leaving o s raw f h
-from_leaving o s raw (Some r) f h = record { line = h.line; asked = asked h.line h.asked; spelled = h.spelled; may = h.may; only = only }
-  where
-    asked : (l : Line) → IsItemLine l → IsNoMark l
-    asked (line.Fixed text) u = tt
-    asked (line.Tune k) u = tt
-    asked (line.System a b) u = tt
-    asked m u = absurd u
-
-    only : (m : Line) → IsNoMark m → raw ≡ line_text m → MayCome (at.Marks o s) m → next (at.Marks o s) m ≡ r
-    only (line.Fixed text) u q k = h.only (line.Fixed text) tt q k
-    only (line.Tune j) u q k = h.only (line.Tune j) tt q k
-    only (line.System a b) u q k = h.only (line.System a b) tt q k
-    only (line.StaffHead n) u q k = absurd (f (q ∙ ap staff_line k.1))
-    only (line.Mark y m) u q k = absurd u
-    only m u q k = absurd k
-
--- where the system may end, lines of items come as they come on the page that it ends
-pub leaves : (o : OpenSystem) (s : Staff) (raw : List ℕ) (p : OpenPage) (r : Option Place) → MayEnd o.join o.staves s.y → p ≡ ended o s
-    → IsStepOf IsItemLine (at.Items p) raw r → IsStepOf IsItemLine (at.Marks o s) raw r
-leaves o s raw p r end is h = from r (subst (λ p. IsStepOf IsItemLine (at.Items p) raw r) is h)
-  where
-    may : (l : Line) → IsItemLine l → MayCome (at.Items (ended o s)) l → MayCome (at.Marks o s) l
-    may (line.Fixed text) u k = (end, k)
-    may (line.Tune j) u k = (end, k)
-    may (line.System a b) u k = (end, k.0, k.1)
-    may m u k = absurd u
-
-    may_on : (l : Line) → IsItemLine l → MayCome (at.Marks o s) l → MayCome (at.Items (ended o s)) l × (next (at.Marks o s) l ≡ next (at.Items (ended o s)) l)
-    may_on (line.Fixed text) u k = (k.1, refl)
-    may_on (line.Tune j) u k = (k.1, refl)
-    may_on (line.System a b) u k = ((k.1, k.2), refl)
-    may_on m u k = absurd u
-
-    from : (r : Option Place) → IsStepOf IsItemLine (at.Items (ended o s)) raw r → IsStepOf IsItemLine (at.Marks o s) raw r
-    from None h = λ m u q k. h m u q (may_on m u k).0
-    from (Some t) h = record {
-      line = h.line;
-      asked = h.asked;
-      spelled = h.spelled;
-      may = may h.line h.asked h.may;
-      only = λ m u q k. let w = may_on m u k in w.1 ∙ h.only m u q w.0;
-    }
-
-pub none_leaves : (o : OpenSystem) (s : Staff) (raw : List ℕ) → (MayEnd o.join o.staves s.y → ⊥) → NoneOf IsItemLine (at.Marks o s) raw
-none_leaves o s raw f (line.Fixed text) u q k = f k.0
-none_leaves o s raw f (line.Tune j) u q k = f k.0
-none_leaves o s raw f (line.System a b) u q k = f k.0
-none_leaves o s raw f m u q k = absurd u
-
 pub on_mark : (o : OpenSystem) (s : Staff) (raw : List ℕ) (m : PageMark) (r : Staff) → raw ≡ mark_line s.y m → IsPageMark s.y m
     → ((k : PageMark) → IsPageMark s.y k → raw ≡ mark_line s.y k → k ≡ m) → r ≡ with_mark s m → IsNextOf Any (at.Marks o s) raw (at.Marks o r)
 unfolding staff_line tune_line system_line
@@ -407,28 +306,6 @@ on_mark o s raw m r e g one is = record { line = line.Mark s.y m; asked = tt; sp
     only (line.System a b) u q h = absurd (no_mark 37 _ (system_line a b) (mark_start s.y m) refl (inl refl) (sym e ∙ q))
     only (line.StaffHead n) u q h = absurd (no_mark 37 _ (staff_line n) (mark_start s.y m) refl (inl refl) (sym e ∙ q))
     only l u q h = absurd h
-
-none_from_no_mark : (o : OpenSystem) (s : Staff) (raw : List ℕ) → ((m : PageMark) → IsPageMark s.y m → raw ≡ mark_line s.y m → ⊥)
-    → NoneOf IsNoMark (at.Marks o s) raw → NoneOf Any (at.Marks o s) raw
-none_from_no_mark o s raw f h (line.Mark y m) u q k = f m k.1 (q ∙ ap (λ y. mark_line y m) k.0)
-none_from_no_mark o s raw f h (line.Fixed text) u q k = h (line.Fixed text) tt q k
-none_from_no_mark o s raw f h (line.Tune j) u q k = h (line.Tune j) tt q k
-none_from_no_mark o s raw f h (line.System a b) u q k = h (line.System a b) tt q k
-none_from_no_mark o s raw f h (line.StaffHead n) u q k = h (line.StaffHead n) tt q k
-none_from_no_mark o s raw f h l u q k = absurd k
-
-pub from_no_mark : (o : OpenSystem) (s : Staff) (raw : List ℕ) (r : Option Place) → ((m : PageMark) → IsPageMark s.y m → raw ≡ mark_line s.y m → ⊥)
-    → IsStepOf IsNoMark (at.Marks o s) raw r → IsStepOf Any (at.Marks o s) raw r
-from_no_mark o s raw None f h = none_from_no_mark o s raw f h
-from_no_mark o s raw (Some r) f h = record { line = h.line; asked = tt; spelled = h.spelled; may = h.may; only = only }
-  where
-    only : (l : Line) → Any l → raw ≡ line_text l → MayCome (at.Marks o s) l → next (at.Marks o s) l ≡ r
-    only (line.Mark y m) u q k = absurd (f m k.1 (q ∙ ap (λ y. mark_line y m) k.0))
-    only (line.Fixed text) u q k = h.only (line.Fixed text) tt q k
-    only (line.Tune j) u q k = h.only (line.Tune j) tt q k
-    only (line.System a b) u q k = h.only (line.System a b) tt q k
-    only (line.StaffHead n) u q k = h.only (line.StaffHead n) tt q k
-    only l u q k = absurd k
 
 pub some_join : (o : Option Joined) (b : Bool) → is_some o ≡ not b → b ≡ false → IsSome o
 some_join o b e f = e ∙ ap not f

@@ -1,10 +1,8 @@
 -- What the lines so far have told, and that a line that may come adds its text to it.
-use Rattle.std.proofs.Common.{◌≡◌, ℕ, ℤ, pos, suc, ◌+◌, ◌<◌, ◌^◌, ◌+ℤ◌, List, [], ◌∷◌, ◌++◌, length, Option, Some, None, IsSome, refl, sym, ◌∙◌, ap, subst, arith, codes, All, lit<}
+use Rattle.std.proofs.Common.{◌≡◌, ℕ, ℤ, pos, suc, ◌+◌, ◌<◌, ◌^◌, ◌+ℤ◌, List, [], ◌∷◌, ◌++◌, length, Option, Some, None, IsSome, refl, sym, ◌∙◌, ap, subst, arith, codes, All, lit<, length-append, true≢false}
 use Rattle.std.specs.Prelude.{⊤}
 use Rattle.std.specs.List.{flat_map}
-use Rattle.std.proofs.lemmas.List.{length-append}
 use Rattle.std.proofs.lemmas.List.Elements.{All-push, All-nil}
-use Rattle.std.proofs.lemmas.Bool.{true≢false}
 use mathlib.Core.List.{append_assoc, append-nil}
 use Rattle.mus_units.specs.declared.glyph.Size.{Size}
 use Rattle.glyph_paths.specs.Names.{glyphs_in_order}
@@ -112,10 +110,6 @@ staves_push ss s =
     let e : 0 + length ss ≡ length ss = omega arith in
     numbered_push staff_text 0 ss s ∙ ap (λ k. numbered staff_text 0 ss ++ staff_text k s) e
 
-items_push : (is : List Item) (i : Item) → items_text (is ++ i ∷ []) ≡ items_text is ++ item_text i
-unfolding items_text
-items_push is i = flat_push item_text is i
-
 pub marks_push : (k : ℕ) (s : Staff) (m : PageMark) → staff_text k (with_mark s m) ≡ staff_text k s ++ mark_text s.y m
 unfolding staff_text marks_text
 marks_push k s m =
@@ -123,8 +117,9 @@ marks_push k s m =
     ∙ sym (append_assoc (staff_line k ++ 10 ∷ rules_line s.width s.y) (10 ∷ flat_map (mark_text s.y) s.marks) (mark_text s.y m))
 
 pub page_more : (p : OpenPage) (i : Item) → page_front (with_item p i) ≡ page_front p ++ item_text i
+unfolding items_text
 page_more p i =
-    ap (λ t. front p.sheet ++ (heading_text (length p.sheet.pages + 1) ++ t)) (items_push p.items i)
+    ap (λ t. front p.sheet ++ (heading_text (length p.sheet.pages + 1) ++ t)) (flat_push item_text p.items i)
     ∙ (ap (λ t. front p.sheet ++ t) (sym (append_assoc (heading_text (length p.sheet.pages + 1)) (items_text p.items) (item_text i)))
     ∙ sym (append_assoc (front p.sheet) (heading_text (length p.sheet.pages + 1) ++ items_text p.items) (item_text i)))
 
@@ -179,13 +174,11 @@ open_push (i ∷ k ∷ is) j f = open_push (k ∷ is) j f
 
 tune_after : (k : ℕ) (i : Item) → IsAfter i (items.Tune k)
 tune_after k (items.Tune o) = tt
-tune_after k (items.Title x y size words) = tt
-tune_after k (items.System a b ss) = tt
+tune_after k _ = tt
 
 system_after : (a b : ℕ) (ss : List Staff) (i : Item) → IsAfter i (items.System a b ss)
 system_after a b ss (items.Tune o) = tt
-system_after a b ss (items.Title x y size words) = tt
-system_after a b ss (items.System c d ts) = tt
+system_after a b ss _ = tt
 
 free_tune : (k : ℕ) (i : Item) → IsAfter (items.Tune k) i
 free_tune k i = tt
@@ -232,7 +225,7 @@ prolog_ends f [] t e h = (
 )
 prolog_ends f (b ∷ rest) t e h = (e, h)
 
-first_told : codes "%!PS-Adobe-3.0" ++ 10 ∷ [] ≡ first_text
+pub first_told : codes "%!PS-Adobe-3.0" ++ 10 ∷ [] ≡ first_text
 unfolding first_text
 first_told = refl
 

@@ -1,9 +1,7 @@
 -- The lines of a document are good, each after those before it.
-use Rattle.std.proofs.Common.{◌≡◌, ◌≢◌, ℕ, ℤ, pos, suc, ◌+◌, ◌<◌, ◌≤◌, ◌^◌, ◌+ℤ◌, ◌⊎◌, inl, inr, Bool, true, false, ◌==◌, List, [], ◌∷◌, ◌++◌, length, drop, Some, refl, sym, ◌∙◌, ap, subst, arith, codes, All}
+use Rattle.std.proofs.Common.{◌≡◌, ◌≢◌, ℕ, ℤ, pos, suc, ◌+◌, ◌<◌, ◌≤◌, ◌^◌, ◌+ℤ◌, ◌⊎◌, inl, inr, Bool, true, false, ◌==◌, List, [], ◌∷◌, ◌++◌, length, drop, Some, refl, sym, ◌∙◌, ap, subst, arith, codes, All, length-append, true≢false, eq-eqb, eqb-true}
 use Rattle.std.specs.Prelude.{⊤}
-use Rattle.std.proofs.lemmas.List.{length-append}
 use Rattle.std.proofs.lemmas.List.Elements.{All-head, All-tail}
-use Rattle.std.proofs.lemmas.Bool.{true≢false, eq-eqb, eqb-true}
 use mathlib.Core.List.{append_assoc, append-nil}
 use Rattle.mus_units.specs.declared.glyph.Size.{Size}
 use Rattle.glyph_paths.specs.Names.{glyphs_in_order}
@@ -27,6 +25,7 @@ use Rattle.ps_read.specs.declared.place.OpenPage.{OpenPage}
 use Rattle.ps_read.specs.declared.place.OpenSystem.{OpenSystem}
 use Rattle.ps_read.specs.declared.place.Place.{Place}
 use Rattle.ps_read.specs.declared.place.Place.TheVariants as at
+use Rattle.ps_read.proofs.Telling.{first_told}
 
 -- good lines lead from one place to another, and this is their text
 abbrev pub Way : Place → Place → List ℕ → Type 0
@@ -56,9 +55,6 @@ way_is p q s t e w = subst (λ t. Way p q t) e w
 
 way_to : (p q r : Place) (t : List ℕ) → q ≡ r → Way p q t → Way p r t
 way_to p q r t e w = subst (λ q. Way p q t) e w
-
-push_on : {A : Type 0} (xs ys : List A) (x : A) → (xs ++ x ∷ []) ++ ys ≡ xs ++ (x ∷ ys)
-push_on xs ys x = append_assoc xs (x ∷ []) ys
 
 -- the fixed lines of the prolog
 abbrev lines_of : List (List ℕ) → List ℕ
@@ -107,7 +103,7 @@ first_line t r h = record { whole = h; first = ap (λ r. t ++ 10 ∷ r) (sym (dr
 box_way : (w h : ℕ) (ts : List (List ℕ)) → AllLack ts → Way (at.Boxed w h (lines_of ts)) (at.Boxed w h []) (lines_of ts)
 box_way w h [] l = ([], refl, refl)
 box_way w h (t ∷ ts) l =
-    way_is _ _ _ _ (push_on t (lines_of ts) 10)
+    way_is _ _ _ _ (append_assoc t (10 ∷ []) (lines_of ts))
     (way_both (at.Boxed w h (t ++ 10 ∷ lines_of ts)) (at.Boxed w h (lines_of ts)) (at.Boxed w h []) (t ++ 10 ∷ []) (lines_of ts)
     (way_to (at.Boxed w h (t ++ 10 ∷ lines_of ts)) _ _ (t ++ 10 ∷ []) (ap (λ r. at.Boxed w h r) (drop_line t (lines_of ts))) (way_line (at.Boxed w h (t ++ 10 ∷ lines_of ts)) (line.Fixed t) (first_line t (lines_of ts) l.0)))
     (box_way w h ts l.1))
@@ -121,7 +117,7 @@ frame_way f t [] l =
     way_to (at.Framed f (t ++ 10 ∷ [])) _ _ (t ++ 10 ∷ []) (ap (λ r. after_prolog f r) (drop_line t [])) (way_line (at.Framed f (t ++ 10 ∷ [])) (line.Fixed t) (first_line t [] l.0))
 frame_way f t (u ∷ ts) l =
     let r = lines_of (u ∷ ts) in
-    way_is _ _ _ _ (push_on t r 10)
+    way_is _ _ _ _ (append_assoc t (10 ∷ []) r)
     (way_both (at.Framed f (t ++ 10 ∷ r)) (at.Framed f r) (at.Between (record { frame = f; pages = [] })) (t ++ 10 ∷ []) r
     (way_to (at.Framed f (t ++ 10 ∷ r)) _ _ (t ++ 10 ∷ []) (ap (λ r. after_prolog f r) (drop_line t r) ∙ some_left f u (lines_of ts)) (way_line (at.Framed f (t ++ 10 ∷ r)) (line.Fixed t) (first_line t r l.0)))
     (frame_way f u ts l.1))
@@ -137,10 +133,6 @@ last_lined s = ends_behind s _ _ refl
 last_some : (s : List ℕ) → (length (s ++ last_text) ≡ 0 → ⊥)
 unfolding last_text
 last_some s e = let n = length-append s last_text in let k : length last_text ≡ 12 = refl in absurd (omega (arith, n, k))
-
-first_is : codes "%!PS-Adobe-3.0" ++ 10 ∷ [] ≡ first_text
-unfolding first_text
-first_is = refl
 
 prolog_parts : (f : Frame) → first_text ++ ((box_line f.wide f.high ++ 10 ∷ []) ++ (procedures ++ ((page_line f.left f.bottom f.scale ++ 10 ∷ []) ++ (glyph_lines glyphs_in_order ++ last_text)))) ≡ prolog f
 unfolding prolog heading
@@ -169,7 +161,7 @@ prolog_way f h =
     let w = f.wide in let k = f.high in let r = glyph_lines glyphs_in_order ++ last_text in let z = at.Between (record { frame = f; pages = [] }) in
     way_is _ _ _ _ (prolog_parts f)
     (way_both at.Begun at.Titled z first_text _
-    (way_is at.Begun at.Titled _ _ first_is (way_line at.Begun (line.Fixed (codes "%!PS-Adobe-3.0")) refl))
+    (way_is at.Begun at.Titled _ _ first_told (way_line at.Begun (line.Fixed (codes "%!PS-Adobe-3.0")) refl))
     (way_both at.Titled (at.Boxed w k procedures) z (box_line w k ++ 10 ∷ []) _ (way_line at.Titled (line.Box w k) (h.wide, h.high))
     (way_both (at.Boxed w k procedures) (at.Boxed w k []) z procedures _ (boxed_way w k)
     (way_both (at.Boxed w k []) (at.Framed f r) z (page_line f.left f.bottom f.scale ++ 10 ∷ []) r
@@ -184,7 +176,7 @@ marks_way : (o : OpenSystem) (y : ℤ) (w : ℕ) (done ms : List PageMark) → A
 unfolding marks_text mark_text
 marks_way o y w done [] h = ([], refl, ap (λ ms. at.Marks o (staff_of y w ms)) (sym (append-nil done)))
 marks_way o y w done (m ∷ ms) h =
-    way_to _ _ _ _ (ap (λ ms. at.Marks o (staff_of y w ms)) (push_on done ms m))
+    way_to _ _ _ _ (ap (λ ms. at.Marks o (staff_of y w ms)) (append_assoc done (m ∷ []) ms))
     (way_both (at.Marks o (staff_of y w done)) (at.Marks o (staff_of y w (done ++ m ∷ []))) (at.Marks o (staff_of y w ((done ++ m ∷ []) ++ ms))) (mark_text y m) (marks_text y ms)
     (way_line (at.Marks o (staff_of y w done)) (line.Mark y m) (refl, All-head (IsPageMark y) m ms h))
     (marks_way o y w (done ++ m ∷ []) ms (All-tail (IsPageMark y) m ms h)))
@@ -235,7 +227,7 @@ staves_way p a b j done s (u ∷ us) h foot some =
           (staff_way (at.Marks (joined_system p a b j done) s) (joined_system p a b j done2) u (length done + 1)
           (way_line (at.Marks (joined_system p a b j done) s) (line.StaffHead (length done + 1)) (refl, refl)) (All-head IsStaff u us h) (under_later j done s u.y))
           (subst (λ k. Way (at.Marks (joined_system p a b j done2) u) (at.Marks more.0 more.1) (numbered staff_text k us)) e more.2),
-      (more.3.0, more.3.1 ∙ ap (λ ss. with_item p (items.System a b ss)) (push_on done2 us u)),
+      (more.3.0, more.3.1 ∙ ap (λ ss. with_item p (items.System a b ss)) (append_assoc done2 (u ∷ []) us)),
     )
 
 foot_number : (s : Staff) (us : List Staff) → All IsStaff (s ∷ us) → IsNumber (last_base s us)
@@ -316,7 +308,7 @@ item_first : (p : OpenPage) (q : Place) (r : Place) (i : Item) (is : List Item) 
     → Way q (at.Closed (with_items p (i ∷ is))) (items_text (i ∷ is) ++ codes "grestore\n")
 unfolding items_text
 item_first p q r i is a b =
-    way_to _ _ _ _ (ap (λ is. at.Closed (record { sheet = p.sheet; items = is })) (push_on p.items is i))
+    way_to _ _ _ _ (ap (λ is. at.Closed (record { sheet = p.sheet; items = is })) (append_assoc p.items (i ∷ []) is))
     (way_is _ _ _ _ (sym (append_assoc (item_text i) (items_text is) (codes "grestore\n")))
     (way_both q r (at.Closed (with_items (with_item p i) is)) (item_text i) (items_text is ++ codes "grestore\n") a b))
 
@@ -368,7 +360,7 @@ pages_way f done (p ∷ ps) h few =
     let done2 = done ++ p ∷ [] in
     let n = length-append done (p ∷ []) in
     let e : length done2 + 1 ≡ length done + 1 + 1 = omega (arith, n) in
-    way_to _ _ _ _ (ap (λ ps. at.Between (record { frame = f; pages = ps })) (push_on done ps p))
+    way_to _ _ _ _ (ap (λ ps. at.Between (record { frame = f; pages = ps })) (append_assoc done (p ∷ []) ps))
     (way_both (at.Between (record { frame = f; pages = done })) (at.Between (record { frame = f; pages = done2 })) (at.Between (record { frame = f; pages = done2 ++ ps })) (page_text (length done + 1) p) (numbered page_text (length done + 1 + 1) ps)
     (page_way (record { frame = f; pages = done }) p (All-head IsPage p ps h) (omega arith))
     (subst (λ k. Way (at.Between (record { frame = f; pages = done2 })) (at.Between (record { frame = f; pages = done2 ++ ps })) (numbered page_text k ps)) e

@@ -1,7 +1,7 @@
 -- What holds before each line is read, and what follows at the end.
-use Rattle.std.proofs.Common.{◌≡◌, ◌≢◌, ℕ, suc, ◌+◌, ◌≤◌, ◌==◌, true, false, List, [], ◌∷◌, ◌++◌, length, refl, sym, ◌∙◌, ap, subst, arith}
-use Rattle.std.proofs.lemmas.Bool.{true≢false, ne_eqb}
-use Rattle.std.proofs.lemmas.List.{length-append}
+use Rattle.std.proofs.Common.{◌≡◌, ℕ, ◌+◌, ◌≤◌, ◌==◌, true, List, [], ◌∷◌, ◌++◌, length, refl, sym, ◌∙◌, ap, subst, arith, length-append}
+use Rattle.std.proofs.lemmas.List.{nil_from_length}
+use Rattle.std.proofs.lemmas.Bool.{eqb-true}
 use Rattle.ps_text.specs.Document.{Spells}
 use Rattle.ps_text.specs.declared.sheet.Sheet.{Sheet}
 use Rattle.eng_lines.specs.Lines.{Lacks}
@@ -12,7 +12,7 @@ use Rattle.ps_read.specs.Steps.{Any, NoneOf, IsNextOf}
 use Rattle.ps_read.specs.declared.place.Place.{Place}
 use Rattle.ps_read.specs.declared.place.Place.TheVariants as at
 use Rattle.eng_lines.proofs.Words.{one_cut, lacks_none}
-use Rattle.ps_read.proofs.Heads.{may_lack}
+use Rattle.ps_read.proofs.Heads.{may_lack, no_line}
 use Rattle.ps_read.proofs.Telling.{leads_tell}
 use Rattle.ps_read.proofs.Through.{document_way}
 
@@ -24,13 +24,10 @@ leads_more : (p : Place) (ls : List Line) (q : Place) (l : Line) → Leads p ls 
 leads_more p [] q l h m = (subst (λ p. MayCome p l) (sym h) m, ap (λ p. next p l) h)
 leads_more p (k ∷ ls) q l h m = (h.0, leads_more (next p k) ls q l h.1 m)
 
-nothing : (s t : List ℕ) (b : ℕ) → [] ≡ s ++ b ∷ t → ⊥
-nothing s t b e = let n = ap length e in let k = length-append s (b ∷ t) in omega (arith, n, k)
-
 -- good lines that pass through a text are at least as many as others that begin it
 as_many : (p q x y : Place) (ls ms : List Line) (rest : List ℕ) → Leads p ls q → Leads x ms y → lines_then ls rest ≡ lines_then ms [] → length ls ≤ length ms
 as_many p q x y [] ms rest h k e = omega arith
-as_many p q x y (l ∷ ls) [] rest h k e = absurd (nothing (line_text l) (lines_then ls rest) 10 (sym e))
+as_many p q x y (l ∷ ls) [] rest h k e = absurd (no_line (line_text l) (lines_then ls rest) (sym e))
 as_many p q x y (l ∷ ls) (m ∷ ms) rest h k e =
     let c = one_cut 10 (line_text l) (line_text m) (lines_then ls rest) (lines_then ms []) (may_lack p l h.0) (may_lack x m k.0) e in
     let n = as_many (next p l) q (next x m) y ls ms rest h.1 k.1 c.1 in
@@ -89,7 +86,7 @@ pub record IsStuck (p : Place) (rest : List ℕ) : Type 0 where
 pub stuck_at_line : (p : Place) (rest raw behind : List ℕ) → rest ≡ raw ++ 10 ∷ behind → Lacks 10 raw → NoneOf Any p raw → IsStuck p rest
 stuck_at_line p rest raw behind cut lacks none = record {
   line = λ l more e m. none l tt (one_cut 10 raw (line_text l) behind more lacks (may_lack p l m) (sym cut ∙ e)).0 m;
-  last = λ s e is. nothing raw behind 10 (sym e ∙ cut);
+  last = λ s e is. no_line raw behind (sym e ∙ cut);
 }
 
 pub stuck_at_end : (p : Place) (rest : List ℕ) → Lacks 10 rest → ((s : Sheet) → rest ≡ [] → p ≡ at.Ended s → ⊥) → IsStuck p rest
@@ -148,8 +145,4 @@ read_all text s rest number h e =
     last t (k ∷ ks) f l = absurd l.0
 
 pub no_length : (xs : List ℕ) → (length xs == 0) ≡ true → xs ≡ []
-no_length [] e = refl
-no_length (x ∷ xs) e = absurd (true≢false (sym e ∙ more (length xs)))
-  where
-    more : (n : ℕ) → (suc n == 0) ≡ false
-    more n = let ne : suc n ≢ 0 = omega arith in ne_eqb (suc n) 0 ne
+no_length xs e = nil_from_length xs (eqb-true (length xs) 0 e)

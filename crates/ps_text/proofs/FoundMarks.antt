@@ -2,6 +2,7 @@
 use Rattle.std.proofs.Common.{Result, Ok, Err, IfOk, cond, int_div, ◌<◌, ◌≤◌, ◌^◌, suc, ◌≡◌, refl, sym, ◌∙◌, subst, ℕ, ℤ, pos, negsuc, ◌+ℤ◌, ◌-ℤ◌, ◌≤ℤ◌, Bool, true, false, not, ◌&&◌, List, [], ◌∷◌, ◌++◌, append_assoc, length, codes, Option, Some, None, IsTrue, arith}
 use Rattle.std.proofs.lemmas.Int.{ints}
 use Rattle.std.proofs.lemmas.Fmt.{decimal_is_IsNumeral}
+use Rattle.std.proofs.lemmas.Bool.{not-true, and_parts}
 use Rattle.std.specs.Fmt.{decimal, signed_decimal}
 use Rattle.std.specs.Str.Parse.{AllDigits}
 use Rattle.std.specs.Int.RustNames.{FitsSigned}
@@ -67,119 +68,21 @@ is_no_other name = not (bytes_eq name (codes "st")) && (not (bytes_eq name (code
 no_other : (g : Glyph) → is_no_other (glyph_name g) ≡ true
 unfolding is_no_other
 no_other glyphs.Hb = refl
-no_other glyphs.Hw = refl
-no_other glyphs.Hh = refl
-no_other glyphs.Hq = refl
-no_other glyphs.Gh = refl
-no_other glyphs.Dt = refl
-no_other glyphs.Lg = refl
-no_other glyphs.Fu = refl
-no_other glyphs.Fd = refl
-no_other glyphs.Gf = refl
-no_other glyphs.Gs = refl
-no_other glyphs.Sr = refl
-no_other glyphs.Sl = refl
-no_other glyphs.R0 = refl
-no_other glyphs.R1 = refl
-no_other glyphs.R2 = refl
-no_other glyphs.R4 = refl
-no_other glyphs.R8 = refl
-no_other glyphs.Ax = refl
-no_other glyphs.As = refl
-no_other glyphs.An = refl
-no_other glyphs.Af = refl
-no_other glyphs.Ag = refl
-no_other glyphs.Cg = refl
-no_other glyphs.Cf = refl
-no_other glyphs.Cc = refl
-no_other glyphs.Bt = refl
-no_other glyphs.Bw = refl
-no_other glyphs.Bf = refl
-no_other glyphs.Bi = refl
-no_other glyphs.Bb = refl
-no_other glyphs.Bo = refl
-no_other glyphs.Dl = refl
-no_other glyphs.Dr = refl
-no_other glyphs.Nn = refl
-no_other glyphs.Ks = refl
-no_other glyphs.Kr = refl
-no_other glyphs.Kf = refl
-no_other glyphs.Ka = refl
-no_other glyphs.Km = refl
-no_other glyphs.Kc = refl
-no_other glyphs.Kp = refl
-no_other glyphs.Kg = refl
-no_other glyphs.Kt = refl
-no_other glyphs.Ku = refl
-no_other glyphs.Kd = refl
-no_other glyphs.Kn = refl
+no_other _ = refl
 
 pub named : (g : Glyph) → glyph_named (glyph_name g) ≡ Some g
 unfolding glyph_named glyphs_in_order
 named glyphs.Hb = refl
-named glyphs.Hw = refl
-named glyphs.Hh = refl
-named glyphs.Hq = refl
-named glyphs.Gh = refl
-named glyphs.Dt = refl
-named glyphs.Lg = refl
-named glyphs.Fu = refl
-named glyphs.Fd = refl
-named glyphs.Gf = refl
-named glyphs.Gs = refl
-named glyphs.Sr = refl
-named glyphs.Sl = refl
-named glyphs.R0 = refl
-named glyphs.R1 = refl
-named glyphs.R2 = refl
-named glyphs.R4 = refl
-named glyphs.R8 = refl
-named glyphs.Ax = refl
-named glyphs.As = refl
-named glyphs.An = refl
-named glyphs.Af = refl
-named glyphs.Ag = refl
-named glyphs.Cg = refl
-named glyphs.Cf = refl
-named glyphs.Cc = refl
-named glyphs.Bt = refl
-named glyphs.Bw = refl
-named glyphs.Bf = refl
-named glyphs.Bi = refl
-named glyphs.Bb = refl
-named glyphs.Bo = refl
-named glyphs.Dl = refl
-named glyphs.Dr = refl
-named glyphs.Nn = refl
-named glyphs.Ks = refl
-named glyphs.Kr = refl
-named glyphs.Kf = refl
-named glyphs.Ka = refl
-named glyphs.Km = refl
-named glyphs.Kc = refl
-named glyphs.Kp = refl
-named glyphs.Kg = refl
-named glyphs.Kt = refl
-named glyphs.Ku = refl
-named glyphs.Kd = refl
-named glyphs.Kn = refl
-
-is_false : (b : Bool) → not b ≡ true → b ≡ false
-is_false true h = cc
-is_false false h = refl
-
-both : (a b : Bool) → (a && b) ≡ true → (a ≡ true) × (b ≡ true)
-both true b h = (refl, h)
-both false b h = cc
+named _ = refl
 
 by_glyph : (y : ℤ) (zs : List ℤ) (name : List ℕ) → is_no_other name ≡ true → mark_from y zs name ≡ glyph_from zs (glyph_named name)
 unfolding mark_from is_no_other
 by_glyph y zs name h =
-    let a = both (not (bytes_eq name (codes "st"))) (not (bytes_eq name (codes "ac")) && (not (bytes_eq name (codes "bu")) && (not (bytes_eq name (codes "bd")) && not (bytes_eq name (codes "gb"))))) h in
-    let b = both (not (bytes_eq name (codes "ac"))) (not (bytes_eq name (codes "bu")) && (not (bytes_eq name (codes "bd")) && not (bytes_eq name (codes "gb")))) a.1 in
-    let c = both (not (bytes_eq name (codes "bu"))) (not (bytes_eq name (codes "bd")) && not (bytes_eq name (codes "gb"))) b.1 in
-    let d = both (not (bytes_eq name (codes "bd"))) (not (bytes_eq name (codes "gb"))) c.1 in
-    rw (is_false _ a.0, is_false _ b.0, is_false _ c.0, is_false _ d.0, is_false _ d.1) refl
+    let a = and_parts (not (bytes_eq name (codes "st"))) (not (bytes_eq name (codes "ac")) && (not (bytes_eq name (codes "bu")) && (not (bytes_eq name (codes "bd")) && not (bytes_eq name (codes "gb"))))) h in
+    let b = and_parts (not (bytes_eq name (codes "ac"))) (not (bytes_eq name (codes "bu")) && (not (bytes_eq name (codes "bd")) && not (bytes_eq name (codes "gb")))) a.1 in
+    let c = and_parts (not (bytes_eq name (codes "bu"))) (not (bytes_eq name (codes "bd")) && not (bytes_eq name (codes "gb"))) b.1 in
+    let d = and_parts (not (bytes_eq name (codes "bd"))) (not (bytes_eq name (codes "gb"))) c.1 in
+    rw (not-true _ a.0, not-true _ b.0, not-true _ c.0, not-true _ d.0, not-true _ d.1) refl
 
 pub glyph_found : (y x dx dy : ℤ) (g : Glyph) → IsOffset dx → IsOffset dy → mark_from y (dx ∷ dy ∷ x ∷ y ∷ []) (glyph_name g) ≡ Some (marks.Glyph g x dx dy)
 unfolding glyph_at
@@ -254,9 +157,7 @@ wordless_line : (y : ℤ) (m : PageMark) → IsWordless m → mark_line y m ≡ 
 unfolding glyph_line stem_line beam_line arc_line points ends_of
 wordless_line y (marks.Glyph glyph x dx dy) h = refl
 wordless_line y (marks.Words size x dx dy words) h = absurd h
-wordless_line y (marks.Stem x dx from to) h = refl
-wordless_line y (marks.Beam way x1 x2 from to) h = refl
-wordless_line y (marks.Arc x1 x2 from to bulge) h = refl
+wordless_line y _ h = refl
 
 -- a quarter of a distance is within it
 quarter_in : (d : ℤ) → pos 0 ≤ℤ d → (pos 0 ≤ℤ int_div d (pos 4)) × (int_div d (pos 4) ≤ℤ d)
@@ -278,62 +179,13 @@ wordless_numbers y (marks.Arc x1 x2 from to bulge) h =
 
 glyph_is_field : (g : Glyph) → list_all is_field (glyph_name g) ≡ true
 glyph_is_field glyphs.Hb = refl
-glyph_is_field glyphs.Hw = refl
-glyph_is_field glyphs.Hh = refl
-glyph_is_field glyphs.Hq = refl
-glyph_is_field glyphs.Gh = refl
-glyph_is_field glyphs.Dt = refl
-glyph_is_field glyphs.Lg = refl
-glyph_is_field glyphs.Fu = refl
-glyph_is_field glyphs.Fd = refl
-glyph_is_field glyphs.Gf = refl
-glyph_is_field glyphs.Gs = refl
-glyph_is_field glyphs.Sr = refl
-glyph_is_field glyphs.Sl = refl
-glyph_is_field glyphs.R0 = refl
-glyph_is_field glyphs.R1 = refl
-glyph_is_field glyphs.R2 = refl
-glyph_is_field glyphs.R4 = refl
-glyph_is_field glyphs.R8 = refl
-glyph_is_field glyphs.Ax = refl
-glyph_is_field glyphs.As = refl
-glyph_is_field glyphs.An = refl
-glyph_is_field glyphs.Af = refl
-glyph_is_field glyphs.Ag = refl
-glyph_is_field glyphs.Cg = refl
-glyph_is_field glyphs.Cf = refl
-glyph_is_field glyphs.Cc = refl
-glyph_is_field glyphs.Bt = refl
-glyph_is_field glyphs.Bw = refl
-glyph_is_field glyphs.Bf = refl
-glyph_is_field glyphs.Bi = refl
-glyph_is_field glyphs.Bb = refl
-glyph_is_field glyphs.Bo = refl
-glyph_is_field glyphs.Dl = refl
-glyph_is_field glyphs.Dr = refl
-glyph_is_field glyphs.Nn = refl
-glyph_is_field glyphs.Ks = refl
-glyph_is_field glyphs.Kr = refl
-glyph_is_field glyphs.Kf = refl
-glyph_is_field glyphs.Ka = refl
-glyph_is_field glyphs.Km = refl
-glyph_is_field glyphs.Kc = refl
-glyph_is_field glyphs.Kp = refl
-glyph_is_field glyphs.Kg = refl
-glyph_is_field glyphs.Kt = refl
-glyph_is_field glyphs.Ku = refl
-glyph_is_field glyphs.Kd = refl
-glyph_is_field glyphs.Kn = refl
+glyph_is_field _ = refl
 
 name_is_field : (m : PageMark) → list_all is_field (mark_name m) ≡ true
 name_is_field (marks.Glyph glyph x dx dy) = glyph_is_field glyph
 name_is_field (marks.Words sizes.Small x dx dy words) = refl
-name_is_field (marks.Words sizes.Big x dx dy words) = refl
-name_is_field (marks.Stem x dx from to) = refl
 name_is_field (marks.Beam ways.Up x1 x2 from to) = refl
-name_is_field (marks.Beam ways.Down x1 x2 from to) = refl
-name_is_field (marks.Beam ways.Grace x1 x2 from to) = refl
-name_is_field (marks.Arc x1 x2 from to bulge) = refl
+name_is_field _ = refl
 
 wordless_found : (y : ℤ) (m : PageMark) → IsWordless m → IsPageMark y m → mark_from y (mark_numbers y m) (mark_name m) ≡ Some m
 wordless_found y (marks.Glyph glyph x dx dy) w h = glyph_found y x dx dy glyph h.across h.above
@@ -354,9 +206,7 @@ is_wordless : (y : ℤ) (m : PageMark) (first : ℕ) (rest : List ℕ) → (firs
 unfolding words_line in_parentheses
 is_wordless y (marks.Glyph glyph x dx dy) first rest other e = tt
 is_wordless y (marks.Words size x dx dy words) first rest other e = other (cc)
-is_wordless y (marks.Stem x dx from to) first rest other e = tt
-is_wordless y (marks.Beam way x1 x2 from to) first rest other e = tt
-is_wordless y (marks.Arc x1 x2 from to bulge) first rest other e = tt
+is_wordless y _ first rest other e = tt
 
 wordless_open : (y : ℤ) (m : PageMark) (rest : List ℕ) → IsWordless m → IsPageMark y m → mark_line y m ≡ 40 ∷ rest → ⊥
 wordless_open y (marks.Glyph glyph x dx dy) rest w h e = numbers_open dx (dy ∷ x ∷ y ∷ []) (glyph_name glyph) rest (offset_number dx h.across) (sym (wordless_line y (marks.Glyph glyph x dx dy) w) ∙ e)
@@ -376,10 +226,7 @@ found_words y line rest o is reads (marks.Words size x dx dy words) h e =
     let all = wordless_numbers y (marks.Words size x dx dy words) h in
     reads words (dx ∷ dy ∷ x ∷ y ∷ []) (size_name size) h.1.shown all (name_is_field (marks.Words size x dx dy words)) (words_text size x dx dy y words rest (e ∙ is))
     ∙ words_found size y x dx dy words h.0.across h.0.above
-found_words y line rest o is reads (marks.Glyph glyph x dx dy) h e = absurd (wordless_open y (marks.Glyph glyph x dx dy) rest tt h (e ∙ is))
-found_words y line rest o is reads (marks.Stem x dx from to) h e = absurd (wordless_open y (marks.Stem x dx from to) rest tt h (e ∙ is))
-found_words y line rest o is reads (marks.Beam way x1 x2 from to) h e = absurd (wordless_open y (marks.Beam way x1 x2 from to) rest tt h (e ∙ is))
-found_words y line rest o is reads (marks.Arc x1 x2 from to bulge) h e = absurd (wordless_open y (marks.Arc x1 x2 from to bulge) rest tt h (e ∙ is))
+found_words y line rest o is reads m h e = absurd (wordless_open y m rest tt h (e ∙ is))
 
 -- what is found in another line
 pub found_wordless : (y : ℤ) (line rest : List ℕ) (first : ℕ) (o : Option PageMark) → line ≡ first ∷ rest → (first ≡ 40 → ⊥)

@@ -1,5 +1,5 @@
 -- Numbers of a page, as they stand in a line.
-use Rattle.std.proofs.Common.{◌≡◌, ℕ, ℤ, pos, negsuc, ◌<◌, ◌^◌, Bool, true, false, not, ◌==◌, List, [], ◌∷◌, ◌++◌, length, take, drop, refl, arith, suc, ◌&&◌, ◌-◌}
+use Rattle.std.proofs.Common.{◌≡◌, ℕ, ℤ, pos, negsuc, ◌<◌, ◌^◌, Bool, true, false, not, ◌==◌, List, [], ◌∷◌, ◌++◌, length, take, drop, refl, arith, suc, ◌-◌}
 use Rattle.std.proofs.lemmas.Bool.Decides.{nat_tests}
 use Rattle.std.proofs.lemmas.Int.{ints}
 use Rattle.std.proofs.lemmas.Fmt.{decimal_is_IsNumeral}
@@ -12,6 +12,7 @@ use mir.Syntax.{w64}
 use Rattle.std.specs.Int.RustNames.{FitsSigned}
 use Rattle.ps_text.specs.Range.{IsNumber}
 use Rattle.std.proofs.Math.Seq.{take-append_seam, drop-append_seam, take-length, drop-length}
+use Rattle.std.proofs.lemmas.Bool.{and_parts}
 use Rattle.ps_text.specs.Scanning.{is_field, ReadsNumber}
 
 pub small : (z : ℤ) → IsNumber z → mag z < 2 ^ 63
@@ -24,10 +25,6 @@ fits z n = record { sfits = small z n }
 is_false : (b : Bool) → (b ≡ true → ⊥) → not b ≡ true
 is_false true f = absurd (f refl)
 is_false false f = refl
-
-pub both_true : (a b : Bool) → (a && b) ≡ true → (a ≡ true) × (b ≡ true)
-both_true true b h = (refl, h)
-both_true false b h = cc
 
 -- a digit is no space
 digit_is_field : (c : ℕ) → digit_value c < 10 → is_field c ≡ true
@@ -49,13 +46,13 @@ signed_is_field (negsuc n) h = decimal_is_field (suc n) (omega (arith, ints))
 pub prefix_len-field : (xs rest : List ℕ) → list_all is_field xs ≡ true → prefix_len is_field (xs ++ 32 ∷ rest) ≡ length xs
 prefix_len-field [] rest h = refl
 prefix_len-field (x ∷ xs) rest h =
-    let p = both_true (is_field x) (list_all is_field xs) h in
+    let p = and_parts (is_field x) (list_all is_field xs) h in
     rw (p.0, prefix_len-field xs rest p.1) (omega arith)
 
 pub prefix_len-last : (xs : List ℕ) → list_all is_field xs ≡ true → prefix_len is_field xs ≡ length xs
 prefix_len-last [] h = refl
 prefix_len-last (x ∷ xs) h =
-    let p = both_true (is_field x) (list_all is_field xs) h in
+    let p = and_parts (is_field x) (list_all is_field xs) h in
     rw (p.0, prefix_len-last xs p.1) (omega arith)
 
 -- the number at the front, and what stands from its space on

@@ -1,12 +1,12 @@
 -- What is left to be taken from the front of a line.
 use Rattle.std.proofs.Common.{◌≡◌, ℕ, ℤ, List, [], ◌∷◌, ◌++◌, refl, sym, ◌∙◌, append_assoc, append-nil, IsTrue}
+use Rattle.std.proofs.lemmas.Bool.{and_parts}
 use Rattle.std.specs.Fmt.{signed_decimal}
 use Rattle.std.specs.List.{flat_map, list_all, AllByRecursion}
 use Rattle.glyph_paths.specs.Procedure.{numbers}
 use Rattle.ps_text.specs.Fields.{shown}
 use Rattle.ps_text.specs.Range.{is_shown, IsNumber}
 use Rattle.ps_text.specs.Scanning.{ReadsNumber}
-use Rattle.ps_text.proofs.Numbers.{both_true}
 
 -- some words were taken, and the others stand before a closing parenthesis
 pub record WordsLeft (text rest words tail : List ℕ) : Type 0 where
@@ -15,14 +15,11 @@ pub record WordsLeft (text rest words tail : List ℕ) : Type 0 where
   pub good : IsTrue (list_all is_shown left)
   pub follows : rest ≡ flat_map shown left ++ 41 ∷ tail
 
-pub words_start : (bytes words tail : List ℕ) → IsTrue (list_all is_shown words) → bytes ≡ flat_map shown words ++ 41 ∷ tail → WordsLeft [] bytes words tail
-words_start bytes words tail h e = record { left = words; whole = refl; good = h; follows = e }
-
 words_more : (text rest words tail left : List ℕ) (b : ℕ) (after : List ℕ) → text ++ left ≡ words → IsTrue (list_all is_shown left) → rest ≡ flat_map shown left ++ 41 ∷ tail
     → ((x : ℕ) (r : List ℕ) → IsTrue (is_shown x) → rest ≡ shown x ++ r → (b ≡ x) × (after ≡ r)) → ((r : List ℕ) → rest ≡ 41 ∷ r → ⊥) → WordsLeft (text ++ b ∷ []) after words tail
 words_more text rest words tail [] b after w g f reads ends = absurd (ends tail f)
 words_more text rest words tail (x ∷ xs) b after w g f reads ends =
-    let both = both_true (is_shown x) (list_all is_shown xs) g in
+    let both = and_parts (is_shown x) (list_all is_shown xs) g in
     let p = reads x (flat_map shown xs ++ 41 ∷ tail) both.0 (f ∙ append_assoc (shown x) (flat_map shown xs) (41 ∷ tail)) in
     record { left = xs; whole = rw (p.0, append_assoc) w; good = both.1; follows = p.1 }
 
@@ -34,7 +31,7 @@ words_last : (text rest words tail left : List ℕ) → text ++ left ≡ words �
     → ((x : ℕ) (r : List ℕ) → IsTrue (is_shown x) → rest ≡ shown x ++ r → ⊥) → (text ≡ words) × (rest ≡ 41 ∷ tail)
 words_last text rest words tail [] w g f none = (sym (append-nil text) ∙ w, f)
 words_last text rest words tail (x ∷ xs) w g f none =
-    let both = both_true (is_shown x) (list_all is_shown xs) g in
+    let both = and_parts (is_shown x) (list_all is_shown xs) g in
     absurd (none x (flat_map shown xs ++ 41 ∷ tail) both.0 (f ∙ append_assoc (shown x) (flat_map shown xs) (41 ∷ tail)))
 
 pub words_end : (text rest words tail : List ℕ) → WordsLeft text rest words tail → ((x : ℕ) (r : List ℕ) → IsTrue (is_shown x) → rest ≡ shown x ++ r → ⊥) → (text ≡ words) × (rest ≡ 41 ∷ tail)

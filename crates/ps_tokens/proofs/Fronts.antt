@@ -1,10 +1,9 @@
 -- The longest run at the front of a list.
-use Rattle.std.proofs.Common.{◌≡◌, ℕ, ◌+◌, Bool, true, false, cond, List, [], ◌∷◌, ◌++◌, take, drop, get_or, length, ◌≤◌, refl, sym, ◌∙◌, ap, arith}
+use Rattle.std.proofs.Common.{◌≡◌, ℕ, ◌+◌, Bool, true, false, cond, List, [], ◌∷◌, ◌++◌, take, drop, get_or, length, ◌≤◌, refl, sym, ◌∙◌, ap, arith, true≢false}
 use Rattle.std.proofs.Math.Numerals.{one-add}
+use Rattle.std.proofs.lemmas.Bool.{and_parts}
 use Rattle.std.specs.List.{list_all, prefix_len}
-use Rattle.std.proofs.lemmas.Bool.{true≢false}
 use Rattle.ps_steps.specs.Tokens.{begins, is_regular, is_name, IsWord}
-use Rattle.ps_tokens.proofs.Both.{first, second}
 
 pub run_passes : (p : ℕ → Bool) (s : List ℕ) → list_all p (take (prefix_len p s) s) ≡ true
 run_passes p [] = refl
@@ -25,11 +24,11 @@ run_stops p (b ∷ s) = by_test (p b) refl (run_stops p s)
 -- a list begins with one longest run
 pub one_run : (p : ℕ → Bool) (w v r q : List ℕ) → list_all p w ≡ true → list_all p v ≡ true → begins p r ≡ false → begins p q ≡ false → w ++ r ≡ v ++ q → (w ≡ v) × (r ≡ q)
 one_run p [] [] r q a b c d e = (refl, e)
-one_run p [] (x ∷ v) r q a b c d e = absurd (true≢false (sym (first (p x) (list_all p v) b) ∙ (ap (begins p) (sym e) ∙ c)))
-one_run p (x ∷ w) [] r q a b c d e = absurd (true≢false (sym (first (p x) (list_all p w) a) ∙ (ap (begins p) e ∙ d)))
+one_run p [] (x ∷ v) r q a b c d e = absurd (true≢false (sym (and_parts (p x) (list_all p v) b).0 ∙ (ap (begins p) (sym e) ∙ c)))
+one_run p (x ∷ w) [] r q a b c d e = absurd (true≢false (sym (and_parts (p x) (list_all p w) a).0 ∙ (ap (begins p) e ∙ d)))
 one_run p (x ∷ w) (y ∷ v) r q a b c d e =
     let h : x ≡ y = ap (λ s. get_or s 0 0) e in
-    let m = one_run p w v r q (second (p x) (list_all p w) a) (second (p y) (list_all p v) b) c d (ap (drop 1) e) in
+    let m = one_run p w v r q (and_parts (p x) (list_all p w) a).1 (and_parts (p y) (list_all p v) b).1 c d (ap (drop 1) e) in
     (ap (λ t. x ∷ t) m.0 ∙ ap (λ z. z ∷ v) h, m.1)
 
 -- where the longest word is no name, no word is

@@ -1,4 +1,3 @@
-pub mod Both
 pub mod Fronts
 pub mod Digits
 pub mod Bodies

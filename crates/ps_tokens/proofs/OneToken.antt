@@ -3,6 +3,7 @@ use Rattle.std.proofs.Common.{◌≡◌, ℕ, true, false, cond, ◌==◌, appen
 use Rattle.std.specs.List.{list_all, flat_map}
 use Rattle.std.proofs.lemmas.Bool.Decides.{nat_tests}
 use Rattle.std.proofs.lemmas.List.{append_cancel_left}
+use Rattle.std.proofs.lemmas.Bool.{and_parts}
 use Rattle.ps_steps.specs.declared.halt.Cause.{Cause}
 use Rattle.ps_steps.specs.declared.halt.Cause.TheVariants as causes
 use Rattle.ps_steps.specs.declared.token.Simple.{Simple}
@@ -12,7 +13,6 @@ use Rattle.ps_steps.specs.declared.token.Token.TheVariants.{Simple as simple_tok
 use Rattle.ps_steps.specs.Tokens.{Read, found, opening, closing, unread, Front, font_front, label_front, no_label, string_front, open_string, no_string, opening_front, closing_front, stray, word_front, no_word, IsWord, IsString, IsOpen, IsFont, font_line, Body, closes, goes_on, NoBody, unclosed, nested, unread_within, later, TokenAt, simple_at, procedure_at, NoToken, unread_at, closing_at, no_body, is_regular, is_name, word_token, passed}
 use Rattle.ps_text.specs.Fields.{shown}
 use Rattle.ps_tokens.specs.OneToken.{BeginsInOneWay}
-use Rattle.ps_tokens.proofs.Both.{first}
 use Rattle.ps_tokens.proofs.Fronts.{one_run}
 use Rattle.ps_tokens.proofs.Strings.{one_string, one_words}
 
@@ -120,7 +120,7 @@ lead s t b n e = ap class e ∙ ap (λ x. cond x 0 b) n
 word_class : (s w r : List ℕ) → IsWord s w r → class s ≡ 0
 unfolding class
 word_class s [] r i = let l = i.some in absurd (omega arith)
-word_class s (b ∷ w) r i = ap class i.cut ∙ ap (λ x. cond x 0 b) (first (is_regular b) (list_all is_regular w) i.regular)
+word_class s (b ∷ w) r i = ap class i.cut ∙ ap (λ x. cond x 0 b) (and_parts (is_regular b) (list_all is_regular w) i.regular).0
 
 worded_class : (s : List ℕ) (x : Read) → Worded s x → class s ≡ 0
 worded_class s _ (as_word w r t i e) = word_class s w r i
@@ -132,43 +132,31 @@ apart n a b e f d = grind (arith, nat_tests)
 same_rest : (s t u : List ℕ) (b : ℕ) → s ≡ b ∷ t → s ≡ b ∷ u → t ≡ u
 same_rest s t u b e f = cc
 
+-- the byte that it begins with, and 0 for a word
+abbrev number : (s : List ℕ) (x : Read) → Kind s x → ℕ
+number s x (k_part t e p) = 40
+number s x (k_slash t e p) = 47
+number s x (k_open t e p) = 123
+number s x (k_close t e p) = 125
+number s x (k_stray t e p) = 41
+number s x (k_word p) = 0
+
+number_is : (s : List ℕ) (x : Read) (k : Kind s x) → class s ≡ number s x k
+number_is s x (k_part t e p) = lead s t 40 refl e
+number_is s x (k_slash t e p) = lead s t 47 refl e
+number_is s x (k_open t e p) = lead s t 123 refl e
+number_is s x (k_close t e p) = lead s t 125 refl e
+number_is s x (k_stray t e p) = lead s t 41 refl e
+number_is s x (k_word p) = worded_class s x p
+
 one_kind : (s : List ℕ) (x y : Read) → Kind s x → Kind s y → x ≡ y
 one_kind s x y (k_part t e p) (k_part u f q) = one_parted u x y (subst (λ z. Parted z x) (same_rest s t u 40 e f) p) q
-one_kind s x y (k_part t e p) (k_slash u f q) = absurd (apart (class s) 40 47 (lead s t 40 refl e) (lead s u 47 refl f) refl)
-one_kind s x y (k_part t e p) (k_open u f q) = absurd (apart (class s) 40 123 (lead s t 40 refl e) (lead s u 123 refl f) refl)
-one_kind s x y (k_part t e p) (k_close u f q) = absurd (apart (class s) 40 125 (lead s t 40 refl e) (lead s u 125 refl f) refl)
-one_kind s x y (k_part t e p) (k_stray u f q) = absurd (apart (class s) 40 41 (lead s t 40 refl e) (lead s u 41 refl f) refl)
-one_kind s x y (k_part t e p) (k_word q) = absurd (apart (class s) 40 0 (lead s t 40 refl e) (worded_class s y q) refl)
-one_kind s x y (k_slash t e p) (k_part u f q) = absurd (apart (class s) 47 40 (lead s t 47 refl e) (lead s u 40 refl f) refl)
 one_kind s x y (k_slash t e p) (k_slash u f q) = one_slashed s u x y (subst (λ z. Slashed s z x) (same_rest s t u 47 e f) p) q
-one_kind s x y (k_slash t e p) (k_open u f q) = absurd (apart (class s) 47 123 (lead s t 47 refl e) (lead s u 123 refl f) refl)
-one_kind s x y (k_slash t e p) (k_close u f q) = absurd (apart (class s) 47 125 (lead s t 47 refl e) (lead s u 125 refl f) refl)
-one_kind s x y (k_slash t e p) (k_stray u f q) = absurd (apart (class s) 47 41 (lead s t 47 refl e) (lead s u 41 refl f) refl)
-one_kind s x y (k_slash t e p) (k_word q) = absurd (apart (class s) 47 0 (lead s t 47 refl e) (worded_class s y q) refl)
-one_kind s x y (k_open t e p) (k_part u f q) = absurd (apart (class s) 123 40 (lead s t 123 refl e) (lead s u 40 refl f) refl)
-one_kind s x y (k_open t e p) (k_slash u f q) = absurd (apart (class s) 123 47 (lead s t 123 refl e) (lead s u 47 refl f) refl)
 one_kind s x y (k_open t e p) (k_open u f q) = p ∙ (ap opening (same_rest s t u 123 e f) ∙ sym q)
-one_kind s x y (k_open t e p) (k_close u f q) = absurd (apart (class s) 123 125 (lead s t 123 refl e) (lead s u 125 refl f) refl)
-one_kind s x y (k_open t e p) (k_stray u f q) = absurd (apart (class s) 123 41 (lead s t 123 refl e) (lead s u 41 refl f) refl)
-one_kind s x y (k_open t e p) (k_word q) = absurd (apart (class s) 123 0 (lead s t 123 refl e) (worded_class s y q) refl)
-one_kind s x y (k_close t e p) (k_part u f q) = absurd (apart (class s) 125 40 (lead s t 125 refl e) (lead s u 40 refl f) refl)
-one_kind s x y (k_close t e p) (k_slash u f q) = absurd (apart (class s) 125 47 (lead s t 125 refl e) (lead s u 47 refl f) refl)
-one_kind s x y (k_close t e p) (k_open u f q) = absurd (apart (class s) 125 123 (lead s t 125 refl e) (lead s u 123 refl f) refl)
 one_kind s x y (k_close t e p) (k_close u f q) = p ∙ (ap closing (same_rest s t u 125 e f) ∙ sym q)
-one_kind s x y (k_close t e p) (k_stray u f q) = absurd (apart (class s) 125 41 (lead s t 125 refl e) (lead s u 41 refl f) refl)
-one_kind s x y (k_close t e p) (k_word q) = absurd (apart (class s) 125 0 (lead s t 125 refl e) (worded_class s y q) refl)
-one_kind s x y (k_stray t e p) (k_part u f q) = absurd (apart (class s) 41 40 (lead s t 41 refl e) (lead s u 40 refl f) refl)
-one_kind s x y (k_stray t e p) (k_slash u f q) = absurd (apart (class s) 41 47 (lead s t 41 refl e) (lead s u 47 refl f) refl)
-one_kind s x y (k_stray t e p) (k_open u f q) = absurd (apart (class s) 41 123 (lead s t 41 refl e) (lead s u 123 refl f) refl)
-one_kind s x y (k_stray t e p) (k_close u f q) = absurd (apart (class s) 41 125 (lead s t 41 refl e) (lead s u 125 refl f) refl)
 one_kind s x y (k_stray t e p) (k_stray u f q) = p ∙ sym q
-one_kind s x y (k_stray t e p) (k_word q) = absurd (apart (class s) 41 0 (lead s t 41 refl e) (worded_class s y q) refl)
-one_kind s x y (k_word p) (k_part u f q) = absurd (apart (class s) 0 40 (worded_class s x p) (lead s u 40 refl f) refl)
-one_kind s x y (k_word p) (k_slash u f q) = absurd (apart (class s) 0 47 (worded_class s x p) (lead s u 47 refl f) refl)
-one_kind s x y (k_word p) (k_open u f q) = absurd (apart (class s) 0 123 (worded_class s x p) (lead s u 123 refl f) refl)
-one_kind s x y (k_word p) (k_close u f q) = absurd (apart (class s) 0 125 (worded_class s x p) (lead s u 125 refl f) refl)
-one_kind s x y (k_word p) (k_stray u f q) = absurd (apart (class s) 0 41 (worded_class s x p) (lead s u 41 refl f) refl)
 one_kind s x y (k_word p) (k_word q) = one_worded s x y p q
+one_kind s x y k l = absurd (apart (class s) (number s x k) (number s y l) (number_is s x k) (number_is s y l) refl)
 
 one_front : (s : List ℕ) (x y : Read) → Front s x → Front s y → x ≡ y
 one_front s x y a b = one_kind s x y (kind_of s x a) (kind_of s y b)
@@ -198,14 +186,8 @@ closing_same r q e = cc
 
 one_body : (s : List ℕ) (ts us : List Simple) (r q : List ℕ) → Body s ts r → Body s us q → (ts ≡ us) × (r ≡ q)
 one_body _ _ _ _ _ (closes s r f) (closes _ q g) = (refl, closing_same r q (one_front (passed false s) _ _ f g))
-one_body _ _ _ _ _ (closes s r f) (goes_on _ q _ u us g b) = absurd (differ (one_front (passed false s) _ _ f g))
-  where
-    differ : closing r ≡ found u q → ⊥
-    differ e = cc
-one_body _ _ _ _ _ (goes_on s r _ t ts f a) (closes _ q g) = absurd (differ (one_front (passed false s) _ _ f g))
-  where
-    differ : found t r ≡ closing q → ⊥
-    differ e = cc
+one_body _ _ _ _ _ (closes s r f) (goes_on _ q _ u us g b) = let e : closing r ≡ found u q = one_front (passed false s) _ _ f g in cc
+one_body _ _ _ _ _ (goes_on s r _ t ts f a) (closes _ q g) = let e : found t r ≡ closing q = one_front (passed false s) _ _ f g in cc
 one_body _ _ _ _ _ (goes_on s r l t ts f a) (goes_on _ q m u us g b) =
     let z = found_same t u r q (one_front (passed false s) _ _ f g) in
     let y = one_body q ts us l m (subst (λ w. Body w ts l) z.1 a) b in
@@ -213,66 +195,30 @@ one_body _ _ _ _ _ (goes_on s r l t ts f a) (goes_on _ q m u us g b) =
 
 one_token : (s r q : List ℕ) (t u : Token) → TokenAt s t r → TokenAt s u q → (t ≡ u) × (r ≡ q)
 one_token s _ _ _ _ (simple_at t r f) (simple_at u q g) = let z = found_same t u r q (one_front s _ _ f g) in (ap simple_token z.0, z.1)
-one_token s _ _ _ _ (simple_at t r f) (procedure_at o q us g b) = absurd (differ (one_front s _ _ f g))
-  where
-    differ : found t r ≡ opening o → ⊥
-    differ e = cc
-one_token s _ _ _ _ (procedure_at o r ts f a) (simple_at u q g) = absurd (differ (one_front s _ _ f g))
-  where
-    differ : opening o ≡ found u q → ⊥
-    differ e = cc
+one_token s _ _ _ _ (simple_at t r f) (procedure_at o q us g b) = let e : found t r ≡ opening o = one_front s _ _ f g in cc
+one_token s _ _ _ _ (procedure_at o r ts f a) (simple_at u q g) = let e : opening o ≡ found u q = one_front s _ _ f g in cc
 one_token s _ _ _ _ (procedure_at o r ts f a) (procedure_at p q us g b) =
     let y = one_body p ts us r q (subst (λ w. Body w ts r) (opening_same o p (one_front s _ _ f g)) a) b in
     (ap procedure_token y.0, y.1)
 
 body_or_none : (s : List ℕ) (ts : List Simple) (r : List ℕ) (cause : Cause) → Body s ts r → NoBody s cause → ⊥
 body_or_none _ _ _ _ (closes s r f) (unclosed _ e) = front_some (passed false s) (closing r) f e
-body_or_none _ _ _ _ (closes s r f) (nested _ q g) = differ (one_front (passed false s) _ _ f g)
-  where
-    differ : closing r ≡ opening q → ⊥
-    differ e = cc
-body_or_none _ _ _ _ (closes s r f) (unread_within _ cause g) = differ (one_front (passed false s) _ _ f g)
-  where
-    differ : closing r ≡ unread cause → ⊥
-    differ e = cc
-body_or_none _ _ _ _ (closes s r f) (later _ q t cause g n) = differ (one_front (passed false s) _ _ f g)
-  where
-    differ : closing r ≡ found t q → ⊥
-    differ e = cc
+body_or_none _ _ _ _ (closes s r f) (nested _ q g) = let e : closing r ≡ opening q = one_front (passed false s) _ _ f g in cc
+body_or_none _ _ _ _ (closes s r f) (unread_within _ cause g) = let e : closing r ≡ unread cause = one_front (passed false s) _ _ f g in cc
+body_or_none _ _ _ _ (closes s r f) (later _ q t cause g n) = let e : closing r ≡ found t q = one_front (passed false s) _ _ f g in cc
 body_or_none _ _ _ _ (goes_on s r l t ts f a) (unclosed _ e) = front_some (passed false s) (found t r) f e
-body_or_none _ _ _ _ (goes_on s r l t ts f a) (nested _ q g) = differ (one_front (passed false s) _ _ f g)
-  where
-    differ : found t r ≡ opening q → ⊥
-    differ e = cc
-body_or_none _ _ _ _ (goes_on s r l t ts f a) (unread_within _ cause g) = differ (one_front (passed false s) _ _ f g)
-  where
-    differ : found t r ≡ unread cause → ⊥
-    differ e = cc
+body_or_none _ _ _ _ (goes_on s r l t ts f a) (nested _ q g) = let e : found t r ≡ opening q = one_front (passed false s) _ _ f g in cc
+body_or_none _ _ _ _ (goes_on s r l t ts f a) (unread_within _ cause g) = let e : found t r ≡ unread cause = one_front (passed false s) _ _ f g in cc
 body_or_none _ _ _ _ (goes_on s r l t ts f a) (later _ q u cause g n) =
     let z = found_same t u r q (one_front (passed false s) _ _ f g) in
     body_or_none q ts l cause (subst (λ w. Body w ts l) z.1 a) n
 
 not_both : (s r : List ℕ) (t : Token) (cause : Cause) → TokenAt s t r → NoToken s cause → ⊥
-not_both s _ _ _ (simple_at t r f) (unread_at cause g) = differ (one_front s _ _ f g)
-  where
-    differ : found t r ≡ unread cause → ⊥
-    differ e = cc
-not_both s _ _ _ (simple_at t r f) (closing_at q g) = differ (one_front s _ _ f g)
-  where
-    differ : found t r ≡ closing q → ⊥
-    differ e = cc
-not_both s _ _ _ (simple_at t r f) (no_body q cause g n) = differ (one_front s _ _ f g)
-  where
-    differ : found t r ≡ opening q → ⊥
-    differ e = cc
-not_both s _ _ _ (procedure_at o r ts f a) (unread_at cause g) = differ (one_front s _ _ f g)
-  where
-    differ : opening o ≡ unread cause → ⊥
-    differ e = cc
-not_both s _ _ _ (procedure_at o r ts f a) (closing_at q g) = differ (one_front s _ _ f g)
-  where
-    differ : opening o ≡ closing q → ⊥
-    differ e = cc
+not_both s _ _ _ (simple_at t r f) (unread_at cause g) = let e : found t r ≡ unread cause = one_front s _ _ f g in cc
+not_both s _ _ _ (simple_at t r f) (closing_at q g) = let e : found t r ≡ closing q = one_front s _ _ f g in cc
+not_both s _ _ _ (simple_at t r f) (no_body q cause g n) = let e : found t r ≡ opening q = one_front s _ _ f g in cc
+not_both s _ _ _ (procedure_at o r ts f a) (unread_at cause g) = let e : opening o ≡ unread cause = one_front s _ _ f g in cc
+not_both s _ _ _ (procedure_at o r ts f a) (closing_at q g) = let e : opening o ≡ closing q = one_front s _ _ f g in cc
 not_both s _ _ _ (procedure_at o r ts f a) (no_body q cause g n) =
     body_or_none q ts r cause (subst (λ w. Body w ts r) (opening_same o q (one_front s _ _ f g)) a) n
 
@@ -290,64 +236,28 @@ one_fault_within _ _ _ (unclosed s e) (unread_within _ d g) = absurd (front_some
 one_fault_within _ _ _ (unclosed s e) (later _ q t d g n) = absurd (front_some (passed false s) (found t q) g e)
 one_fault_within _ _ _ (nested s r f) (unclosed _ e) = absurd (front_some (passed false s) (opening r) f e)
 one_fault_within _ _ _ (nested s r f) (nested _ q g) = refl
-one_fault_within _ _ _ (nested s r f) (unread_within _ d g) = absurd (differ (one_front (passed false s) _ _ f g))
-  where
-    differ : opening r ≡ unread d → ⊥
-    differ e = cc
-one_fault_within _ _ _ (nested s r f) (later _ q t d g n) = absurd (differ (one_front (passed false s) _ _ f g))
-  where
-    differ : opening r ≡ found t q → ⊥
-    differ e = cc
+one_fault_within _ _ _ (nested s r f) (unread_within _ d g) = let e : opening r ≡ unread d = one_front (passed false s) _ _ f g in cc
+one_fault_within _ _ _ (nested s r f) (later _ q t d g n) = let e : opening r ≡ found t q = one_front (passed false s) _ _ f g in cc
 one_fault_within _ _ _ (unread_within s c f) (unclosed _ e) = absurd (front_some (passed false s) (unread c) f e)
-one_fault_within _ _ _ (unread_within s c f) (nested _ q g) = absurd (differ (one_front (passed false s) _ _ f g))
-  where
-    differ : unread c ≡ opening q → ⊥
-    differ e = cc
+one_fault_within _ _ _ (unread_within s c f) (nested _ q g) = let e : unread c ≡ opening q = one_front (passed false s) _ _ f g in cc
 one_fault_within _ _ _ (unread_within s c f) (unread_within _ d g) = unread_same c d (one_front (passed false s) _ _ f g)
-one_fault_within _ _ _ (unread_within s c f) (later _ q t d g n) = absurd (differ (one_front (passed false s) _ _ f g))
-  where
-    differ : unread c ≡ found t q → ⊥
-    differ e = cc
+one_fault_within _ _ _ (unread_within s c f) (later _ q t d g n) = let e : unread c ≡ found t q = one_front (passed false s) _ _ f g in cc
 one_fault_within _ _ _ (later s r t c f m) (unclosed _ e) = absurd (front_some (passed false s) (found t r) f e)
-one_fault_within _ _ _ (later s r t c f m) (nested _ q g) = absurd (differ (one_front (passed false s) _ _ f g))
-  where
-    differ : found t r ≡ opening q → ⊥
-    differ e = cc
-one_fault_within _ _ _ (later s r t c f m) (unread_within _ d g) = absurd (differ (one_front (passed false s) _ _ f g))
-  where
-    differ : found t r ≡ unread d → ⊥
-    differ e = cc
+one_fault_within _ _ _ (later s r t c f m) (nested _ q g) = let e : found t r ≡ opening q = one_front (passed false s) _ _ f g in cc
+one_fault_within _ _ _ (later s r t c f m) (unread_within _ d g) = let e : found t r ≡ unread d = one_front (passed false s) _ _ f g in cc
 one_fault_within _ _ _ (later s r t c f m) (later _ q u d g n) =
     let z = found_same t u r q (one_front (passed false s) _ _ f g) in
     one_fault_within q c d (subst (λ w. NoBody w c) z.1 m) n
 
 one_fault : (s : List ℕ) (c d : Cause) → NoToken s c → NoToken s d → c ≡ d
 one_fault s _ _ (unread_at c f) (unread_at d g) = unread_same c d (one_front s _ _ f g)
-one_fault s _ _ (unread_at c f) (closing_at q g) = absurd (differ (one_front s _ _ f g))
-  where
-    differ : unread c ≡ closing q → ⊥
-    differ e = cc
-one_fault s _ _ (unread_at c f) (no_body q d g n) = absurd (differ (one_front s _ _ f g))
-  where
-    differ : unread c ≡ opening q → ⊥
-    differ e = cc
-one_fault s _ _ (closing_at r f) (unread_at d g) = absurd (differ (one_front s _ _ f g))
-  where
-    differ : closing r ≡ unread d → ⊥
-    differ e = cc
+one_fault s _ _ (unread_at c f) (closing_at q g) = let e : unread c ≡ closing q = one_front s _ _ f g in cc
+one_fault s _ _ (unread_at c f) (no_body q d g n) = let e : unread c ≡ opening q = one_front s _ _ f g in cc
+one_fault s _ _ (closing_at r f) (unread_at d g) = let e : closing r ≡ unread d = one_front s _ _ f g in cc
 one_fault s _ _ (closing_at r f) (closing_at q g) = refl
-one_fault s _ _ (closing_at r f) (no_body q d g n) = absurd (differ (one_front s _ _ f g))
-  where
-    differ : closing r ≡ opening q → ⊥
-    differ e = cc
-one_fault s _ _ (no_body r c f m) (unread_at d g) = absurd (differ (one_front s _ _ f g))
-  where
-    differ : opening r ≡ unread d → ⊥
-    differ e = cc
-one_fault s _ _ (no_body r c f m) (closing_at q g) = absurd (differ (one_front s _ _ f g))
-  where
-    differ : opening r ≡ closing q → ⊥
-    differ e = cc
+one_fault s _ _ (closing_at r f) (no_body q d g n) = let e : closing r ≡ opening q = one_front s _ _ f g in cc
+one_fault s _ _ (no_body r c f m) (unread_at d g) = let e : opening r ≡ unread d = one_front s _ _ f g in cc
+one_fault s _ _ (no_body r c f m) (closing_at q g) = let e : opening r ≡ closing q = one_front s _ _ f g in cc
 one_fault s _ _ (no_body r c f m) (no_body q d g n) =
     one_fault_within q c d (subst (λ w. NoBody w c) (opening_same r q (one_front s _ _ f g)) m) n
 

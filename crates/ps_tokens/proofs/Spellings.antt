@@ -1,6 +1,5 @@
 -- What spells a byte, what begins to, and what does neither.
-use Rattle.std.proofs.Common.{◌≡◌, ℕ, ◌+◌, ◌-◌, ◌*◌, ◌/◌, ◌%◌, ◌<◌, ◌≤◌, Bool, true, false, List, [], ◌∷◌, ◌++◌, append-nil, length, length-append, refl, sym, ◌∙◌, ap, arith, IsTrue}
-use Rattle.std.proofs.lemmas.Bool.{true≢false}
+use Rattle.std.proofs.Common.{◌≡◌, ℕ, ◌+◌, ◌-◌, ◌*◌, ◌/◌, ◌%◌, ◌<◌, ◌≤◌, Bool, true, false, List, [], ◌∷◌, ◌++◌, append-nil, length, length-append, refl, sym, ◌∙◌, ap, arith, IsTrue, true≢false}
 use Rattle.std.proofs.lemmas.Bool.Decides.{nat_tests}
 use Rattle.ps_text.specs.Fields.{is_special, shown}
 use Rattle.ps_text.specs.Range.{is_shown}
@@ -25,10 +24,6 @@ bare_shown b e = shown_plain b (grind (arith, nat_tests)) (λ k. grind (arith, n
 special_shown : (b : ℕ) → is_special b ≡ true → shown b ≡ 92 ∷ b ∷ []
 unfolding shown
 special_shown b e = rw e refl
-
-pub none_left : (s : List ℕ) → length s ≡ 0 → s ≡ []
-none_left [] e = refl
-none_left (b ∷ s) e = absurd (omega (arith, e))
 
 -- a byte as it is, behind a backslash, and as three octal digits
 pub bare_byte : (b : ℕ) (s : List ℕ) → is_bare b ≡ true → IsByte (b ∷ s) b s

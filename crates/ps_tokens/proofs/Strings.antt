@@ -2,11 +2,11 @@
 use Rattle.std.proofs.Common.{◌≡◌, ℕ, ◌+◌, ◌-◌, ◌*◌, ◌/◌, ◌%◌, ◌<◌, ◌≤◌, true, false, ◌==◌, List, [], ◌∷◌, ◌++◌, append_assoc, Option, Some, None, refl, sym, ◌∙◌, ap, arith, IsTrue}
 use Rattle.std.specs.List.{flat_map, list_all}
 use Rattle.std.proofs.lemmas.Bool.Decides.{nat_tests}
+use Rattle.std.proofs.lemmas.Bool.{and_parts}
 use Rattle.ps_text.specs.Fields.{is_special, shown}
 use Rattle.ps_text.specs.Range.{is_shown}
 use Rattle.ps_text.proofs.Shown.{Sort, is_open, is_close, is_slash, is_plain, is_high, sort_of, shown_open, shown_close, shown_slash, shown_plain, shown_octal, digit_is_plain}
 use Rattle.ps_steps.specs.Tokens.{IsString}
-use Rattle.ps_tokens.proofs.Both.{first, second}
 
 pub octal_read : ℕ → List ℕ → Option (ℕ × List ℕ)
 octal_read a [] = None
@@ -90,12 +90,12 @@ one_words [] [] r q a b e = (refl, ap tail e)
     tail : List ℕ → List ℕ
     tail [] = []
     tail (x ∷ s) = s
-one_words [] (c ∷ v) r q a b e = absurd (not_close c (flat_map shown v ++ 41 ∷ q) r (first (is_shown c) (list_all is_shown v) b) (sym (e ∙ append_assoc (shown c) (flat_map shown v) (41 ∷ q))))
-one_words (x ∷ w) [] r q a b e = absurd (not_close x (flat_map shown w ++ 41 ∷ r) q (first (is_shown x) (list_all is_shown w) a) (sym (append_assoc (shown x) (flat_map shown w) (41 ∷ r)) ∙ e))
+one_words [] (c ∷ v) r q a b e = absurd (not_close c (flat_map shown v ++ 41 ∷ q) r (and_parts (is_shown c) (list_all is_shown v) b).0 (sym (e ∙ append_assoc (shown c) (flat_map shown v) (41 ∷ q))))
+one_words (x ∷ w) [] r q a b e = absurd (not_close x (flat_map shown w ++ 41 ∷ r) q (and_parts (is_shown x) (list_all is_shown w) a).0 (sym (append_assoc (shown x) (flat_map shown w) (41 ∷ r)) ∙ e))
 one_words (x ∷ w) (c ∷ v) r q a b e =
-    let p = one_byte x c (flat_map shown w ++ 41 ∷ r) (flat_map shown v ++ 41 ∷ q) (first (is_shown x) (list_all is_shown w) a) (first (is_shown c) (list_all is_shown v) b)
+    let p = one_byte x c (flat_map shown w ++ 41 ∷ r) (flat_map shown v ++ 41 ∷ q) (and_parts (is_shown x) (list_all is_shown w) a).0 (and_parts (is_shown c) (list_all is_shown v) b).0
     (sym (append_assoc (shown x) (flat_map shown w) (41 ∷ r)) ∙ (e ∙ append_assoc (shown c) (flat_map shown v) (41 ∷ q))) in
-    let rest = one_words w v r q (second (is_shown x) (list_all is_shown w) a) (second (is_shown c) (list_all is_shown v) b) p.1 in
+    let rest = one_words w v r q (and_parts (is_shown x) (list_all is_shown w) a).1 (and_parts (is_shown c) (list_all is_shown v) b).1 p.1 in
     (ap (λ y. y ∷ w) p.0 ∙ ap (λ t. c ∷ t) rest.0, rest.1)
 
 -- a string stands at the front in one way

@@ -3,11 +3,11 @@ use Rattle.std.proofs.Common.{◌≡◌, ℕ, List, [], ◌∷◌, ◌++◌, app
 use Rattle.std.specs.List.{flat_map, list_all}
 use Rattle.std.proofs.lemmas.List.{flat_map_more}
 use Rattle.std.proofs.lemmas.List.Folds.{list_all-append}
+use Rattle.std.proofs.lemmas.Bool.{and_parts}
 use Rattle.ps_text.specs.Fields.{shown}
 use Rattle.ps_text.specs.Range.{is_shown}
 use Rattle.ps_steps.specs.Tokens.{IsString, IsOpen}
 use Rattle.ps_tokens.specs.Spelling.{IsCut, IsBroken}
-use Rattle.ps_tokens.proofs.Both.{first, second}
 use Rattle.ps_tokens.proofs.Strings.{one_byte, not_close}
 
 -- words were read, and the rest is left
@@ -38,12 +38,12 @@ words_open bytes words rest s c = record {
 -- where reading breaks off, no words stand, whatever follows
 no_words : (w v rest t q : List ℕ) → list_all is_shown w ≡ true → list_all is_shown v ≡ true → IsBroken rest → flat_map shown w ++ (rest ++ t) ≡ flat_map shown v ++ 41 ∷ q → ⊥
 no_words [] [] rest t q a b i e = i.no_close t q e
-no_words [] (c ∷ v) rest t q a b i e = i.no_byte c t (flat_map shown v ++ 41 ∷ q) (first (is_shown c) (list_all is_shown v) b) (e ∙ append_assoc (shown c) (flat_map shown v) (41 ∷ q))
-no_words (x ∷ w) [] rest t q a b i e = not_close x (flat_map shown w ++ (rest ++ t)) q (first (is_shown x) (list_all is_shown w) a) (sym (append_assoc (shown x) (flat_map shown w) (rest ++ t)) ∙ e)
+no_words [] (c ∷ v) rest t q a b i e = i.no_byte c t (flat_map shown v ++ 41 ∷ q) (and_parts (is_shown c) (list_all is_shown v) b).0 (e ∙ append_assoc (shown c) (flat_map shown v) (41 ∷ q))
+no_words (x ∷ w) [] rest t q a b i e = not_close x (flat_map shown w ++ (rest ++ t)) q (and_parts (is_shown x) (list_all is_shown w) a).0 (sym (append_assoc (shown x) (flat_map shown w) (rest ++ t)) ∙ e)
 no_words (x ∷ w) (c ∷ v) rest t q a b i e =
-    let p = one_byte x c (flat_map shown w ++ (rest ++ t)) (flat_map shown v ++ 41 ∷ q) (first (is_shown x) (list_all is_shown w) a) (first (is_shown c) (list_all is_shown v) b)
+    let p = one_byte x c (flat_map shown w ++ (rest ++ t)) (flat_map shown v ++ 41 ∷ q) (and_parts (is_shown x) (list_all is_shown w) a).0 (and_parts (is_shown c) (list_all is_shown v) b).0
     (sym (append_assoc (shown x) (flat_map shown w) (rest ++ t)) ∙ (e ∙ append_assoc (shown c) (flat_map shown v) (41 ∷ q))) in
-    no_words w v rest t q (second (is_shown x) (list_all is_shown w) a) (second (is_shown c) (list_all is_shown v) b) i p.1
+    no_words w v rest t q (and_parts (is_shown x) (list_all is_shown w) a).1 (and_parts (is_shown c) (list_all is_shown v) b).1 i p.1
 
 pub words_no_string : (bytes words rest : List ℕ) → WordsStage bytes words rest → IsBroken rest → (v q : List ℕ) → IsString bytes v q → ⊥
 words_no_string bytes words rest s i v q j =

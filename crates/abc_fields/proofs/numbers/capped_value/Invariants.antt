@@ -1,5 +1,4 @@
-use Rattle.std.proofs.Common.{◌≡◌, ◌≤◌, drop}
-use Rattle.std.specs.Prelude.{min}
+use Rattle.std.proofs.Common.{◌≡◌, ◌≤◌, drop, min}
 use Rattle.abc_fields.specs.Numbers.{value_after, value_of}
 use Rattle.abc_fields.proofs.numbers.capped_value.Given as goal
 

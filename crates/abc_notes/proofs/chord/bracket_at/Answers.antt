@@ -1,5 +1,4 @@
-use Rattle.std.proofs.Common.{ap, ◌∙◌}
-use Rattle.std.specs.Prelude.{◌||◌, option_map}
+use Rattle.std.proofs.Common.{ap, ◌∙◌, ◌||◌, option_map}
 use Rattle.abc_notes.specs.Items.{sense_of, is_note}
 use Rattle.abc_notes.specs.Parts.{later_or}
 use Rattle.abc_notes.proofs.InnerLaws.{found_inner, none_inner, inner_less}

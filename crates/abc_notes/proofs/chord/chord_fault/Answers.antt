@@ -1,5 +1,4 @@
-use Rattle.std.proofs.Common.{ap, sym, ◌∙◌, length}
-use Rattle.std.proofs.lemmas.Bool.{eqb-true}
+use Rattle.std.proofs.Common.{ap, sym, ◌∙◌, length, eqb-true}
 use Rattle.abc_notes.specs.Runs.{begins}
 use Rattle.abc_notes.specs.Chords.{is_bracket}
 use Rattle.abc_notes.proofs.ChordLaws.{chord-unclosed, chord-open, chord-headless, chord-flawed, not_empty}

@@ -1,6 +1,4 @@
-use Rattle.std.proofs.Common.{rules, ◌≡◌, ◌^◌, arith, ap, sym, ◌∙◌, Some, length, take, drop, ◌-◌, ◌+◌, ◌≤◌, ◌∷◌}
-use Rattle.std.specs.Prelude.{◌||◌, option_map}
-use Rattle.std.proofs.lemmas.Bool.{eqb-true}
+use Rattle.std.proofs.Common.{rules, ◌≡◌, ◌^◌, arith, ap, sym, ◌∙◌, Some, length, take, drop, ◌-◌, ◌+◌, ◌≤◌, ◌∷◌, ◌||◌, option_map, eqb-true}
 use Rattle.abc_notes.specs.Items.{sense_of, is_note}
 use Rattle.abc_notes.specs.Graces.{body_of_item, item_has_length, inside_of_item}
 use Rattle.abc_notes.specs.Parts.{later_or}

@@ -1,5 +1,4 @@
-use Rattle.std.proofs.Common.{◌+◌, ◌*◌, length}
-use Rattle.std.specs.Prelude.{option_map}
+use Rattle.std.proofs.Common.{◌+◌, ◌*◌, length, option_map}
 use Rattle.abc_notes.proofs.GraceLaws.{SeekingBrace}
 use Rattle.abc_notes.proofs.CrossLaws.{Passing, size_of}
 use Rattle.abc_notes.proofs.grace.+braces.Given as goal

@@ -1,5 +1,4 @@
-use Rattle.std.proofs.Common.{sym, ◌∙◌, length}
-use Rattle.std.proofs.lemmas.Bool.{eqb-true}
+use Rattle.std.proofs.Common.{sym, ◌∙◌, length, eqb-true}
 use Rattle.abc_notes.proofs.ChordLaws.{not_empty}
 use Rattle.abc_notes.proofs.GraceLaws.{grace-unclosed, grace-open, grace-flawed}
 use Rattle.abc_notes.proofs.grace.grace_fault.Goals as goal

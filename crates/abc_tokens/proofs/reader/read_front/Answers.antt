@@ -1,5 +1,4 @@
-use Rattle.std.proofs.Common.{◌≡◌, ◌∷◌, length, arith, rules, ap, subst, List, ℕ, refl}
-use Rattle.std.specs.Prelude.{Some, None}
+use Rattle.std.proofs.Common.{◌≡◌, ◌∷◌, length, arith, rules, ap, subst, List, ℕ, refl, Some, None}
 use Rattle.abc_pieces.specs.Reading.{token_of}
 use Rattle.abc_tokens.specs.Tokens.{FrontAt}
 use Rattle.abc_pieces.specs.declared.token.Before.TheVariants.{Other}

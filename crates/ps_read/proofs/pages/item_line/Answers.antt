@@ -1,5 +1,4 @@
-use Rattle.std.proofs.Common.{◌++◌, sym, ◌∙◌, ap, arith, codes, decimal}
-use Rattle.std.proofs.lemmas.Bool.{true≢false}
+use Rattle.std.proofs.Common.{◌++◌, sym, ◌∙◌, ap, arith, codes, decimal, true≢false}
 use Rattle.ps_read.proofs.Stepping.{on_grestore, on_tune, none_tune_zero, from_system}
 use Rattle.ps_read.proofs.pages.item_line.Goals as goal
 

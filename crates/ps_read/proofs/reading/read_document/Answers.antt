@@ -1,6 +1,4 @@
-use Rattle.std.proofs.Common.{◌==◌, ◌∷◌, length, ap, sym, ◌∙◌, subst, arith}
-use Rattle.std.proofs.lemmas.List.{length-append}
-use Rattle.std.proofs.lemmas.Bool.{true≢false}
+use Rattle.std.proofs.Common.{◌==◌, ◌∷◌, length, ap, sym, ◌∙◌, subst, arith, length-append, true≢false}
 use Rattle.ps_read.specs.Steps.{IsStep}
 use Rattle.ps_read.proofs.Walked.{IsReading, first_fault, stuck_at_line, stuck_at_end, reading_more, read_all, no_length}
 use Rattle.ps_read.proofs.reading.read_document.Goals as goal

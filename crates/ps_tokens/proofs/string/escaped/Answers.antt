@@ -1,10 +1,11 @@
 use Rattle.std.proofs.Common.{rules, ◌≡◌, true}
+use Rattle.std.proofs.lemmas.List.{nil_from_length}
 use Rattle.ps_text.specs.Fields.{is_special}
-use Rattle.ps_tokens.proofs.Spellings.{none_left, cut_slash, special_byte}
+use Rattle.ps_tokens.proofs.Spellings.{cut_slash, special_byte}
 use Rattle.ps_tokens.proofs.string.escaped.Goals as goal
 
 pub returns-in-None : goal.returns-in-None
-returns-in-None c = rw (none_left c.args.bytes.now c.in-None.ensures.cases) cut_slash
+returns-in-None c = rw (nil_from_length c.args.bytes.now c.in-None.ensures.cases) cut_slash
 
 pub returns-then-is_special : goal.returns-then-is_special
 returns-then-is_special c =

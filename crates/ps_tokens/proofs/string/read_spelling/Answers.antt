@@ -1,10 +1,11 @@
 use Rattle.std.proofs.Common.{rules, ◌≡◌, true, false}
+use Rattle.std.proofs.lemmas.List.{nil_from_length}
 use Rattle.ps_tokens.specs.Spelling.{is_bare}
-use Rattle.ps_tokens.proofs.Spellings.{none_left, cut_nil, bare_byte, broken_bare}
+use Rattle.ps_tokens.proofs.Spellings.{cut_nil, bare_byte, broken_bare}
 use Rattle.ps_tokens.proofs.string.read_spelling.Goals as goal
 
 pub returns-in-None : goal.returns-in-None
-returns-in-None c = rw (none_left c.args.bytes.now c.in-None.ensures.cases) cut_nil
+returns-in-None c = rw (nil_from_length c.args.bytes.now c.in-None.ensures.cases) cut_nil
 
 pub returns-then-is_bare : goal.returns-then-is_bare
 returns-then-is_bare c =

@@ -1,6 +1,7 @@
 use Rattle.std.proofs.Common.{rules, ◌≡◌, true, false}
+use Rattle.std.proofs.lemmas.List.{nil_from_length}
 use Rattle.ps_tokens.specs.Spelling.{is_lead, is_octal}
-use Rattle.ps_tokens.proofs.Spellings.{none_left, cut_first, broken_first, broken_second}
+use Rattle.ps_tokens.proofs.Spellings.{cut_first, broken_first, broken_second}
 use Rattle.ps_tokens.proofs.string.second.Goals as goal
 
 pub returns-then-not-is_lead : goal.returns-then-not-is_lead
@@ -11,7 +12,7 @@ returns-then-not-is_lead c =
 pub returns-in-None : goal.returns-in-None
 returns-in-None c =
     let f : is_lead c.args.a ≡ true = search (rules, c.if-not-is_lead.false, c.is_lead.ensures) in
-    rw (none_left c.args.bytes.now c.in-None.ensures.cases) (cut_first c.args.a f)
+    rw (nil_from_length c.args.bytes.now c.in-None.ensures.cases) (cut_first c.args.a f)
 
 pub returns-else-is_octal : goal.returns-else-is_octal
 returns-else-is_octal c =

@@ -1,13 +1,14 @@
 use Rattle.std.proofs.Common.{rules, ◌≡◌, true, false}
+use Rattle.std.proofs.lemmas.List.{nil_from_length}
 use Rattle.ps_tokens.specs.Spelling.{is_octal}
-use Rattle.ps_tokens.proofs.Spellings.{none_left, cut_second, broken_low, broken_third, octal_byte}
+use Rattle.ps_tokens.proofs.Spellings.{cut_second, broken_low, broken_third, octal_byte}
 use Rattle.ps_tokens.proofs.string.third.Goals as goal
 
 pub returns-then-value-lt-FIRST_HIGH : goal.returns-then-value-lt-FIRST_HIGH
 returns-then-value-lt-FIRST_HIGH c = broken_low c.args.a c.args.b c.args.bytes.now c.requires.lead c.if-value-lt-FIRST_HIGH.true
 
 pub returns-in-None : goal.returns-in-None
-returns-in-None c = rw (none_left c.args.bytes.now c.in-None.ensures.cases) (cut_second c.args.a c.args.b c.requires.lead c.requires.octal c.if-value-lt-FIRST_HIGH.false)
+returns-in-None c = rw (nil_from_length c.args.bytes.now c.in-None.ensures.cases) (cut_second c.args.a c.args.b c.requires.lead c.requires.octal c.if-value-lt-FIRST_HIGH.false)
 
 pub returns-then-is_octal : goal.returns-then-is_octal
 returns-then-is_octal c =
