@@ -48,7 +48,6 @@ note_append f v y =
 
 pub inner_append : (f : Inner) (v y : List ℕ) → inner_then f v ++ y ≡ inner_then f (v ++ y)
 inner_append (note_inside f) v y = note_append f v y
-inner_append (letter_inside b) v y = refl
 inner_append (named_inside name) v y = ap (λ t. 33 ∷ t) (append_assoc name (33 ∷ v) y)
 inner_append (tie_inside d) v y = maybe_append d 46 (45 ∷ v) y
 inner_append _ v y = refl
@@ -185,8 +184,6 @@ passed_free : (b : ℕ) → is_passed_inside b ≡ true → free b ≡ true
 passed_free b h = implied is_passed_inside free 42 b refl (below_all (32 ∷ 9 ∷ 40 ∷ 41 ∷ []) 42 b refl h) h
 
 abbrev pub is_named : Inner → Bool
-is_named (note_inside f) = false
-is_named (letter_inside b) = false
 is_named (named_inside name) = true
 is_named _ = false
 
@@ -195,7 +192,6 @@ inner_free bang (note_inside f) good h = note_free f good
 inner_free bang (letter_inside b) good h = and_from (free b) true (letter_inside_free b good) refl
 inner_free bang (named_inside name) good h = absurd cc
 inner_free bang (passed_inside b) good h = and_from (free b) true (passed_free b good) refl
-inner_free bang lone_inside good h = refl
 inner_free bang (tie_inside true) good h = refl
 inner_free bang _ good h = refl
 

@@ -14,7 +14,7 @@ use Rattle.abc_notes.specs.Runs.{copies, maybe}
 use Rattle.abc_notes.specs.Lengths.{LengthForm, whole, over, halved, length_then}
 use Rattle.abc_notes.specs.Notes.{NoteForm, note_then, sign_then, letter_byte}
 use Rattle.abc_notes.specs.Parts.{stuck_here, stuck_later, IsFlaw, walk, is_done, goes_on_length, length_at_place}
-use Rattle.abc_notes.specs.Items.{Inner, note_inside, letter_inside, named_inside, tie_inside, inner_then, StandsInside, Sense, says_note, says_letter, says_name, says_tie, says_nothing, sense, is_note, has_length, IsBadByte, InnerFlawed, inner_at, sensed, inner_flaw}
+use Rattle.abc_notes.specs.Items.{Inner, note_inside, named_inside, tie_inside, inner_then, StandsInside, Sense, says_note, says_letter, says_name, says_tie, says_nothing, sense, is_note, has_length, IsBadByte, InnerFlawed, inner_at, sensed, inner_flaw}
 use Rattle.abc_notes.specs.Chords.{has_head, is_tied, tied_if, heads_of, deco_of, decos_of, senses, last_head, given_head, next_last, heads_after, at_most}
 use Rattle.abc_notes.proofs.ItemLaws.{inner_at-takes, inner_at-reaches}
 use Rattle.abc_notes.proofs.PartLaws.{Reader, less, longest_of, none_of, walk-none, walk-some}
@@ -45,7 +45,6 @@ note-longer f x =
 
 pub inner-longer : (f : Inner) (x : List ℕ) → length x < length (inner_then f x)
 inner-longer (note_inside f) x = note-longer f x
-inner-longer (letter_inside b) x = omega arith
 inner-longer (named_inside name) x = omega (arith, length-append name (33 ∷ x))
 inner-longer (tie_inside d) x = omega (arith, length-maybe d 46 (45 ∷ x))
 inner-longer _ x = omega arith

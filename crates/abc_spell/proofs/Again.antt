@@ -1,6 +1,5 @@
 -- A plain spelling is read as its tokens.
-use Rattle.std.proofs.Common.{◌≡◌, ℕ, ◌-◌, ◌≤◌, Bool, true, false, eqb, List, [], ◌∷◌, ◌++◌, length, Option, Some, None, refl, sym, ap, ◌∙◌, subst, arith}
-use Rattle.std.specs.Prelude.{Result, Ok, Err, IfOk, IfSome, map}
+use Rattle.std.proofs.Common.{◌≡◌, ℕ, ◌-◌, ◌≤◌, Bool, true, false, eqb, List, [], ◌∷◌, ◌++◌, length, Option, Some, None, refl, sym, ap, ◌∙◌, subst, arith, Result, Ok, Err, IfOk, IfSome, map}
 use Rattle.std.specs.Fmt.{decimal}
 use Rattle.std.specs.Str.Parse.{digits_value}
 use Rattle.std.proofs.lemmas.Fmt.{decimal_digit}
@@ -24,7 +23,7 @@ use Rattle.abc_notes.specs.Decorations.{deco_of_letter, deco_of_name}
 use Rattle.abc_notes.specs.Chords.{ChordForm, heads_of, decos_of}
 use Rattle.abc_notes.specs.Graces.{GraceForm, body_of}
 use Rattle.abc_pieces.specs.Tuplets.{bare, with_q, with_r, IsTuplet, is_tuplet_digit, value_or_zero}
-use Rattle.abc_pieces.specs.Forms.{Form, note_form, rest_form, gap_form, measures_form, chord_form, grace_form, tuplet_form, slur_form, close_form, tie_form, broken_form, bar_form, ending_form, letter_form, named_form, says_form, inline_form, cut_form, space_form, passed_form, lone_form, plus_form, spelled, meant, after, IsGood, StandsAt, is_kept_field, inline_token}
+use Rattle.abc_pieces.specs.Forms.{Form, note_form, rest_form, measures_form, chord_form, grace_form, tuplet_form, slur_form, close_form, tie_form, broken_form, bar_form, ending_form, letter_form, named_form, says_form, inline_form, cut_form, space_form, passed_form, spelled, meant, after, IsGood, StandsAt, is_kept_field, inline_token}
 use Rattle.abc_pieces.specs.Reading.{read, piece_at, class_of}
 use Rattle.abc_notes.specs.Parts.{IsLongest}
 use Rattle.abc_notes.proofs.Bounds.{digit_value-is}
@@ -37,7 +36,7 @@ use Rattle.abc_spell.specs.Again.{ReadsAs, IsReadable}
 use Rattle.abc_spell.proofs.Numbers.{digit_from, digits_again, count_again, is_count, count_means, len_form, len_again, head_form, head_good, head_means}
 use Rattle.abc_spell.proofs.Bars.{plain_bar, same_bar}
 use Rattle.abc_spell.proofs.Names.{GoodDeco, letter_good, name_good}
-use Rattle.abc_spell.proofs.Exact.{Stops, at_end, at_quote, IsExact, note_piece, rest_piece, measures_piece, tuplet_piece, slur_piece, close_piece, tie_piece, cut_piece, broken_piece, bar_piece, ending_piece, named_piece, says_piece, inline_piece, space_piece, chord_piece, grace_piece}
+use Rattle.abc_spell.proofs.Exact.{Stops, at_end, at_quote, IsExact, note_piece, rest_piece, measures_piece, tuplet_piece, slur_piece, broken_piece, bar_piece, ending_piece, named_piece, says_piece, inline_piece, space_piece, chord_piece, grace_piece}
 use Rattle.abc_spell.proofs.Groups.{plain_chord, chord_spell, chord_heads, chord_decos, chord_good, chord_whole, chord_opens, heads_from, decos_from, some_heads, plain_grace, grace_spell, body_means, grace_good, body_whole, body_from}
 
 -- a piece that is the plain spelling of the token, and is read as itself
@@ -168,9 +167,9 @@ inline_plain letter text good =
 
 -- what any piece says has a plain spelling
 plain_of : (bang : Bool) (f : Form) → IsGood bang f → IfSome (meant f) IsPlain
+unfolding piece_at class_of
 plain_of bang (note_form f) good = note_plain f good
 plain_of bang (rest_form seen len) good = rest_plain seen len good
-plain_of bang (gap_form len) good = tt
 plain_of bang (measures_form seen count) good = measures_plain seen count good
 plain_of bang (chord_form f) good = chord_plain bang f good
 plain_of bang (grace_form f) good = grace_plain bang f good
@@ -178,8 +177,8 @@ plain_of bang (tuplet_form (bare p)) good = tuplet_plain p [] [] (good, tt, tt)
 plain_of bang (tuplet_form (with_q p q)) good = tuplet_plain p q [] (good.0, good.1, tt)
 plain_of bang (tuplet_form (with_r p q r)) good = tuplet_plain p q r good
 plain_of bang (slur_form dotted) good = record { form = slur_form false; means = refl; spells = λ x. refl; exact = slur_piece }
-plain_of bang close_form good = record { form = close_form; means = refl; spells = λ x. refl; exact = λ x h. close_piece x }
-plain_of bang (tie_form dotted) good = record { form = tie_form false; means = refl; spells = λ x. refl; exact = λ x h. tie_piece x }
+plain_of bang close_form good = record { form = close_form; means = refl; spells = λ x. refl; exact = λ x h. refl }
+plain_of bang (tie_form dotted) good = record { form = tie_form false; means = refl; spells = λ x. refl; exact = λ x h. refl }
 plain_of bang (broken_form right count) good = record { form = broken_form right count; means = refl; spells = λ x. refl; exact = λ x h. broken_piece right count x good.0 good.1 h }
 plain_of bang (bar_form f) good = bar_plain f good
 plain_of bang (ending_form bracket d more) good = record { form = ending_form true d more; means = refl; spells = λ x. refl; exact = λ x h. ending_piece d more x good.0 good.1 h }
@@ -187,11 +186,9 @@ plain_of bang (letter_form b) good = deco_plain (deco_of_letter b) (letter_good 
 plain_of bang (named_form name) good = deco_plain (deco_of_name name) (name_good name good.1)
 plain_of bang (says_form text) good = record { form = says_form text; means = refl; spells = λ x. refl; exact = λ x h. says_piece text x good }
 plain_of bang (inline_form letter text) good = inline_plain letter text good
-plain_of bang (cut_form b) good = record { form = cut_form 36; means = refl; spells = λ x. refl; exact = λ x h. cut_piece x }
+plain_of bang (cut_form b) good = record { form = cut_form 36; means = refl; spells = λ x. refl; exact = λ x h. refl }
 plain_of bang (space_form b more) good = record { form = space_form 32 []; means = refl; spells = λ x. refl; exact = space_piece }
-plain_of bang (passed_form b) good = tt
-plain_of bang lone_form good = tt
-plain_of bang (plus_form text) good = tt
+plain_of bang _ good = tt
 
 -- ---- the line
 
@@ -231,13 +228,10 @@ one n t x ts p stops later =
       same = ap (λ (us : List Token). t ∷ us) later.same;
     }
 
-quote_read : (before : Before) (x : List ℕ) → piece_at false before (96 ∷ x) ≡ read (passed_form 96) x
-unfolding piece_at class_of
-quote_read before x = refl
-
 quoted : (n : ℕ) (before : Before) (s : List ℕ) (ts : List Token) → Found n behind.Other s ts → Found n before (96 ∷ s) ts
+unfolding piece_at class_of
 quoted n before s ts later =
-    let l : IsLongest Form (StandsAt false before) (96 ∷ s) (passed_form 96) s = longest_of (piece_reader false before) (96 ∷ s) (passed_form 96, s) (quote_read before s) in
+    let l : IsLongest Form (StandsAt false before) (96 ∷ s) (passed_form 96) s = longest_of (piece_reader false before) (96 ∷ s) (passed_form 96, s) refl in
     record { placed = later.placed; tokens = goes before (96 ∷ s) (passed_form 96) s later.placed later.placed l later.tokens refl; same = later.same }
 
 next_stops : (ts : List Token) → Stops (all_then next_then ts [])

@@ -1,13 +1,11 @@
 -- Where a backquote or nothing follows, a piece in its plain spelling is read as itself.
-use Rattle.std.proofs.Common.{◌≡◌, ℕ, zero, suc, ◌≤◌, Bool, true, false, eqb, List, [], ◌∷◌, ◌++◌, length, Option, Some, None, refl, sym, ap, ◌∙◌, arith, inl, inr}
-use Rattle.std.specs.Prelude.{not, option_map}
+use Rattle.std.proofs.Common.{◌≡◌, ℕ, zero, suc, ◌≤◌, Bool, true, false, eqb, List, [], ◌∷◌, ◌++◌, length, Option, Some, None, refl, sym, ap, ◌∙◌, arith, inl, inr, not, option_map, append-nil}
 use Rattle.std.specs.List.{list_all}
-use Rattle.std.proofs.lemmas.Bool.{and_parts, ne_eqb, both_ways}
-use Rattle.std.proofs.lemmas.List.{append-nil}
+use Rattle.std.proofs.lemmas.Bool.{and_parts, ne_eqb, both_ways, not-true}
 use Rattle.mus_units.specs.declared.pitch.Alter.{Alter}
-use Rattle.mus_units.specs.declared.pitch.Alter.TheVariants.{Flat2, Flat, Natural, Sharp, Sharp2}
+use Rattle.mus_units.specs.declared.pitch.Alter.TheVariants.{Sharp2}
 use Rattle.mus_units.specs.declared.pitch.Letter.{Letter}
-use Rattle.mus_units.specs.declared.pitch.Letter.TheVariants.{C, D, E, F, G, A, B}
+use Rattle.mus_units.specs.declared.pitch.Letter.TheVariants.{C}
 use Rattle.mus_units.specs.Bytes.{is_digit, is_blank, is_letter}
 use Rattle.abc_notes.specs.Runs.{copies, maybe, span, begins}
 use Rattle.abc_notes.proofs.RunLaws.{skip-yes}
@@ -30,7 +28,7 @@ use Rattle.abc_pieces.proofs.PieceTakes.{opening-behind}
 use Rattle.abc_pieces.specs.declared.token.Before.{Before}
 use Rattle.abc_pieces.specs.declared.token.Before.TheVariants as behind
 use Rattle.abc_pieces.specs.declared.token.Opening.TheVariants as opens
-use Rattle.abc_pieces.specs.Forms.{Form, note_form, rest_form, measures_form, chord_form, grace_form, tuplet_form, slur_form, close_form, tie_form, broken_form, bar_form, ending_form, letter_form, named_form, says_form, inline_form, cut_form, space_form, spelled, is_ending, is_text, arrow, opening}
+use Rattle.abc_pieces.specs.Forms.{Form, note_form, rest_form, measures_form, chord_form, grace_form, tuplet_form, slur_form, broken_form, bar_form, ending_form, letter_form, named_form, says_form, inline_form, space_form, spelled, is_ending, is_text, arrow, opening}
 use Rattle.abc_pieces.specs.Reading.{Read, read, class_of, note_read, rest_read, measures_read, bar_read, chord_read, grace_read, tuplet_read, or_else, ending_read, broken_read, says_read, inline_read, space_read, bang_read, dot_read, opened, piece_at}
 
 pub data Stops : List ℕ → Type 0 where
@@ -44,10 +42,6 @@ stop p _ h (at_quote y) = h
 -- the piece is read as itself
 abbrev pub IsExact : Form → List ℕ → Type 0
 IsExact f x = piece_at false behind.Other (spelled f x) ≡ read f x
-
-not_yes : (b : Bool) → not b ≡ true → b ≡ false
-not_yes true h = absurd cc
-not_yes false h = refl
 
 -- ---- lengths and notes
 
@@ -79,25 +73,10 @@ first : (b : ℕ) (u : List ℕ) → is_note_byte b ≡ true → note_goes_on b 
 first b u h k l m = record { byte = b; rest = u; is = refl; note = h; stops = k; bracket = l; slash = m }
 
 pub first_is : (sign : Option Alter) (low : Bool) (l : Letter) (t : List ℕ) → First (sign_then sign (letter_byte low l ∷ t))
-first_is (Some Sharp2) low l t = first 94 _ refl refl refl refl
-first_is (Some Sharp) low l t = first 94 _ refl refl refl refl
-first_is (Some Flat2) low l t = first 95 _ refl refl refl refl
-first_is (Some Flat) low l t = first 95 _ refl refl refl refl
-first_is (Some Natural) low l t = first 61 _ refl refl refl refl
-first_is None false C t = first 67 t refl refl refl refl
-first_is None false D t = first 68 t refl refl refl refl
-first_is None false E t = first 69 t refl refl refl refl
-first_is None false F t = first 70 t refl refl refl refl
-first_is None false G t = first 71 t refl refl refl refl
-first_is None false A t = first 65 t refl refl refl refl
-first_is None false B t = first 66 t refl refl refl refl
-first_is None true C t = first 99 t refl refl refl refl
-first_is None true D t = first 100 t refl refl refl refl
-first_is None true E t = first 101 t refl refl refl refl
-first_is None true F t = first 102 t refl refl refl refl
-first_is None true G t = first 103 t refl refl refl refl
-first_is None true A t = first 97 t refl refl refl refl
-first_is None true B t = first 98 t refl refl refl refl
+first_is (Some Sharp2) low l t = first _ _ refl refl refl refl
+first_is None false C t = first _ _ refl refl refl refl
+first_is None _ C t = first _ _ refl refl refl refl
+first_is _ _ _ t = first _ _ refl refl refl refl
 
 note_class : (before : Before) (b : ℕ) (u : List ℕ) → is_note_byte b ≡ true → piece_at false before (b ∷ u) ≡ note_read (b ∷ u)
 unfolding piece_at class_of
@@ -146,18 +125,6 @@ pub slur_piece : (x : List ℕ) → Stops x → IsExact (slur_form false) x
 unfolding piece_at class_of tuplet_read tuplet_at
 slur_piece _ at_end = refl
 slur_piece _ (at_quote y) = refl
-
-pub close_piece : (x : List ℕ) → IsExact close_form x
-unfolding piece_at class_of
-close_piece x = refl
-
-pub tie_piece : (x : List ℕ) → IsExact (tie_form false) x
-unfolding piece_at class_of
-tie_piece x = refl
-
-pub cut_piece : (x : List ℕ) → IsExact (cut_form 36) x
-unfolding piece_at class_of
-cut_piece x = refl
 
 abbrev is_it : ℕ → ℕ → Bool
 is_it b y = eqb y b
@@ -237,7 +204,7 @@ says_piece text x pass = rw (span_all-append is_text text (34 ∷ x) pass, span_
 opened_inline : (l : ℕ) (t : List ℕ) → is_letter l ≡ true → opened (opening (l ∷ 58 ∷ t)) false (l ∷ 58 ∷ t) ≡ inline_read (l ∷ 58 ∷ t)
 opened_inline l t letter =
     let p = and_parts (not (eqb l 124)) (not (is_digit l)) (letter_apart l letter) in
-    rw (not_yes (eqb l 124) p.0, not_yes (is_digit l) p.1, letter) refl
+    rw (not-true (eqb l 124) p.0, not-true (is_digit l) p.1, letter) refl
 
 inline_is_read : (l : ℕ) (text x : List ℕ) → list_all is_inside text ≡ true → inline_read (l ∷ 58 ∷ (text ++ (93 ∷ x))) ≡ read (inline_form l text) x
 unfolding inline_read

@@ -1,15 +1,14 @@
 -- Chords and grace groups in their plain spelling are read as themselves.
-use Rattle.std.proofs.Common.{◌≡◌, ℕ, ◌≤◌, Bool, true, false, eqb, List, [], ◌∷◌, ◌++◌, length, Option, Some, None, refl, sym, ap, ◌∙◌, arith, inl, inr, append_assoc}
-use Rattle.std.specs.Prelude.{◌||◌, not, option_map, map}
+use Rattle.std.proofs.Common.{◌≡◌, ℕ, ◌≤◌, Bool, true, false, eqb, List, [], ◌∷◌, ◌++◌, length, Option, Some, None, refl, sym, ap, ◌∙◌, arith, inl, inr, append_assoc, not, option_map, map}
 use Rattle.std.specs.List.{list_all}
 use Rattle.std.specs.Fmt.{decimal}
-use Rattle.std.proofs.lemmas.Bool.{or_cases, and_parts, and_from, eqb-true, ne_eqb}
+use Rattle.std.proofs.lemmas.Bool.{or_cases, and_parts, eqb-true, ne_eqb, not-true, or_parts}
 use Rattle.mus_units.specs.declared.note.Deco.{Deco}
 use Rattle.mus_units.specs.declared.note.Head.{Head}
 use Rattle.mus_units.specs.declared.pitch.Alter.{Alter}
-use Rattle.mus_units.specs.declared.pitch.Alter.TheVariants.{Flat2, Flat, Natural, Sharp, Sharp2}
+use Rattle.mus_units.specs.declared.pitch.Alter.TheVariants.{Sharp2}
 use Rattle.mus_units.specs.declared.pitch.Letter.{Letter}
-use Rattle.mus_units.specs.declared.pitch.Letter.TheVariants.{C, D, E, F, G, A, B}
+use Rattle.mus_units.specs.declared.pitch.Letter.TheVariants.{C}
 use Rattle.abc_notes.specs.declared.part.GraceChord.{GraceChord}
 use Rattle.abc_notes.specs.declared.part.Len.{Len}
 use Rattle.abc_pieces.specs.declared.token.Opening.TheVariants as opens
@@ -19,7 +18,7 @@ use Rattle.abc_notes.specs.Lengths.{LengthForm, whole, length_then, len_of}
 use Rattle.abc_notes.proofs.LengthLaws.{goes_on, count-digits}
 use Rattle.abc_notes.specs.Notes.{NoteForm, note_then, sign_then, letter_byte, IsNote, head_of, note_at}
 use Rattle.abc_notes.proofs.NoteLaws.{note_goes_on}
-use Rattle.abc_notes.specs.Items.{Inner, note_inside, letter_inside, named_inside, tie_inside, slur_inside, passed_inside, lone_inside, inner_then, IsInner, IsName, sense, InnerParts, inner_at, item_class, is_note_byte}
+use Rattle.abc_notes.specs.Items.{Inner, note_inside, letter_inside, named_inside, tie_inside, lone_inside, inner_then, IsInner, IsName, sense, InnerParts, inner_at, item_class, is_note_byte}
 use Rattle.abc_notes.proofs.ItemLaws.{name_at-reads}
 use Rattle.abc_notes.proofs.InnerLaws.{inner_reader}
 use Rattle.abc_notes.proofs.PartLaws.{longest_of}
@@ -29,6 +28,7 @@ use Rattle.abc_notes.specs.Chords.{ChordForm, chord_then, has_head, IsChord, is_
 use Rattle.abc_notes.specs.Graces.{GracePart, single, chorded, grace_part_then, IsGracePart, GraceParts, GraceForm, is_slash_byte, IsGrace, heads_in, body_of, grace_part_at, single_read, chorded_read}
 use Rattle.abc_notes.proofs.GraceLaws.{part_reader, at_bracket, lone_part_is, has_lone_part}
 use Rattle.abc_notes.proofs.ChordLaws.{has_lone}
+use Rattle.abc_notes.proofs.CutLaws.{maybe_append, sign_append, wider}
 use Rattle.abc_pieces.specs.Forms.{opening}
 use Rattle.abc_spell.specs.Plain.{all_then, len_then, marks_of, is_small, head_then, chord_head_then, name_of, deco_then, heads_then, grace_chord_then}
 use Rattle.abc_spell.proofs.Numbers.{GoodLen, len_form, len_again, head_form, head_good, head_means, good_marks}
@@ -37,24 +37,12 @@ use Rattle.abc_spell.proofs.Exact.{First, first_is, note_exact, chord_exact}
 
 -- ---- lists of bytes that pass
 
-wider : (p q : ℕ → Bool) (s : List ℕ) → ((b : ℕ) → p b ≡ true → q b ≡ true) → list_all p s ≡ true → list_all q s ≡ true
-wider p q [] k h = refl
-wider p q (b ∷ s) k h = let r = and_parts (p b) (list_all p s) h in and_from (q b) (list_all q s) (k b r.0) (wider p q s k r.1)
-
 -- a byte that closes no chord and no grace group
 -- ---- spelling in front of more
 
 all_append : {I : Type 0} (f : I → List ℕ → List ℕ) → ((a : I) (s x : List ℕ) → f a s ++ x ≡ f a (s ++ x)) → (list : List I) (s x : List ℕ) → all_then f list s ++ x ≡ all_then f list (s ++ x)
 all_append f h [] s x = refl
 all_append f h (a ∷ list) s x = h a (all_then f list s) x ∙ ap (f a) (all_append f h list s x)
-
-sign_append : (sign : Option Alter) (s x : List ℕ) → sign_then sign s ++ x ≡ sign_then sign (s ++ x)
-sign_append None s x = refl
-sign_append (Some Sharp2) s x = refl
-sign_append (Some Sharp) s x = refl
-sign_append (Some Flat2) s x = refl
-sign_append (Some Flat) s x = refl
-sign_append (Some Natural) s x = refl
 
 head_append : (head : Head) (s x : List ℕ) → head_then head s ++ x ≡ head_then head (s ++ x)
 head_append head s x =
@@ -64,10 +52,6 @@ head_append head s x =
 
 len_append : (len : Len) (s x : List ℕ) → len_then len s ++ x ≡ len_then len (s ++ x)
 len_append len s x = append_assoc (decimal len.num) (47 ∷ (decimal len.den ++ s)) x ∙ ap (λ t. decimal len.num ++ (47 ∷ t)) (append_assoc (decimal len.den) s x)
-
-maybe_append : (d : Bool) (b : ℕ) (s x : List ℕ) → maybe d b s ++ x ≡ maybe d b (s ++ x)
-maybe_append true b s x = refl
-maybe_append false b s x = refl
 
 chord_head_append : (h : Head × Len) (s x : List ℕ) → chord_head_then h s ++ x ≡ chord_head_then h (s ++ x)
 chord_head_append h s x =
@@ -212,10 +196,6 @@ inner_named : (name x : List ℕ) → IsName name → inner_at false (33 ∷ (na
 unfolding inner_at item_class
 inner_named name x good = rw (name_at-reads name x good) refl
 
-inner_tie : (x : List ℕ) → inner_at false (45 ∷ x) ≡ Some (inner_pair (tie_inside false) x)
-unfolding inner_at item_class
-inner_tie x = refl
-
 head_stops : (head : Head) (x : List ℕ) → begins note_goes_on (head_then head x) ≡ false
 head_stops head x =
     let b = first_is head.sign (is_small head.pitch.octave) head.pitch.letter (marks_of head.pitch.octave ++ x) in
@@ -230,7 +210,8 @@ tied_stop true hs = refl
 tied_stop false hs = heads_stop hs
 
 tie_part : (b : Bool) (ps : List Inner) → InnerParts false (all_then inner_then ps []) ps → InnerParts false (all_then inner_then (tied_parts b ps) []) (tied_parts b ps)
-tie_part true ps later = part (tie_inside false) (all_then inner_then ps []) ps (inner_tie (all_then inner_then ps [])) later
+unfolding inner_at item_class
+tie_part true ps later = part (tie_inside false) (all_then inner_then ps []) ps refl later
 tie_part false ps later = later
 
 heads_parts : (hs : List (Head × Len)) → GoodHeads hs → InnerParts false (all_then inner_then (head_parts hs) []) (head_parts hs)
@@ -275,24 +256,10 @@ is_colon b = eqb b 58
 
 open_head : (sign : Option Alter) (low : Bool) (l : Letter) (u : List ℕ) → begins is_colon u ≡ false → opening (sign_then sign (letter_byte low l ∷ u)) ≡ opens.Chord
 open_head (Some Sharp2) low l u h = refl
-open_head (Some Sharp) low l u h = refl
-open_head (Some Flat2) low l u h = refl
-open_head (Some Flat) low l u h = refl
-open_head (Some Natural) low l u h = refl
+open_head (Some _) low l u h = refl
 open_head None false C u h = rw h refl
-open_head None false D u h = rw h refl
-open_head None false E u h = rw h refl
-open_head None false F u h = rw h refl
-open_head None false G u h = rw h refl
-open_head None false A u h = rw h refl
-open_head None false B u h = rw h refl
-open_head None true C u h = rw h refl
-open_head None true D u h = rw h refl
-open_head None true E u h = rw h refl
-open_head None true F u h = rw h refl
-open_head None true G u h = rw h refl
-open_head None true A u h = rw h refl
-open_head None true B u h = rw h refl
+open_head None _ C u h = rw h refl
+open_head None _ _ u h = rw h refl
 
 digit_colon : (b : ℕ) → is_digit b ≡ true → not (eqb b 58) ≡ true
 digit_colon b h = let r = digit_range b h in rw (ne_eqb b 58 (omega (arith, r.1))) refl
@@ -300,13 +267,9 @@ digit_colon b h = let r = digit_range b h in rw (ne_eqb b 58 (omega (arith, r.1)
 mark_colon : (b : ℕ) → is_mark b ≡ true → not (eqb b 58) ≡ true
 mark_colon b h = elim (or_cases (eqb b 39) (eqb b 44) h) [ inl prime ↦ rw (eqb-true b 39 prime) refl | inr comma ↦ rw (eqb-true b 44 comma) refl ]
 
-not_yes : (b : Bool) → not b ≡ true → b ≡ false
-not_yes true h = absurd cc
-not_yes false h = refl
-
 no_colon_first : (a x : List ℕ) → list_all (λ b. not (eqb b 58)) a ≡ true → begins is_colon x ≡ false → begins is_colon (a ++ x) ≡ false
 no_colon_first [] x h k = k
-no_colon_first (b ∷ a) x h k = not_yes (eqb b 58) (and_parts (not (eqb b 58)) (list_all (λ c. not (eqb c 58)) a) h).0
+no_colon_first (b ∷ a) x h k = not-true (eqb b 58) (and_parts (not (eqb b 58)) (list_all (λ c. not (eqb c 58)) a) h).0
 
 opens_chord : (hs : List (Head × Len)) (ds : List Deco) (x : List ℕ) → 1 ≤ length hs → GoodHeads hs → opening (all_then deco_then ds (all_then chord_head_then hs x)) ≡ opens.Chord
 opens_chord hs (d ∷ ds) x some good = refl
@@ -326,25 +289,16 @@ chord_opens hs ds len some good = ap opening (chord_spell hs ds (93 ∷ len_then
 
 heads_add : (bang : Bool) (f : Inner) (more : List Inner) → IsInner bang f → GoodHeads (heads_of (map sense more)) → GoodHeads (heads_of (map sense (f ∷ more)))
 heads_add bang (note_inside f) more good h = (len_again f.length good.length, h)
-heads_add bang (letter_inside b) more good h = h
-heads_add bang (named_inside name) more good h = h
-heads_add bang (tie_inside d) more good h = h
-heads_add bang slur_inside more good h = h
-heads_add bang (passed_inside b) more good h = h
-heads_add bang lone_inside more good h = h
+heads_add bang _ more good h = h
 
 pub heads_from : (bang : Bool) (text : List ℕ) (parts : List Inner) → InnerParts bang text parts → GoodHeads (heads_of (map sense parts))
 heads_from bang _ _ no_part = tt
 heads_from bang _ _ (then_part text f rest more l later) = heads_add bang f more l.stands.good (heads_from bang rest more later)
 
 decos_add : (bang : Bool) (f : Inner) (more : List Inner) → IsInner bang f → GoodDecos (decos_of (map sense more)) → GoodDecos (decos_of (map sense (f ∷ more)))
-decos_add bang (note_inside f) more good h = h
 decos_add bang (letter_inside b) more good h = (letter_good b, h)
 decos_add bang (named_inside name) more good h = (name_good name good.1, h)
-decos_add bang (tie_inside d) more good h = h
-decos_add bang slur_inside more good h = h
-decos_add bang (passed_inside b) more good h = h
-decos_add bang lone_inside more good h = h
+decos_add bang _ more good h = h
 
 pub decos_from : (bang : Bool) (text : List ℕ) (parts : List Inner) → InnerParts bang text parts → GoodDecos (decos_of (map sense parts))
 decos_from bang _ _ no_part = tt
@@ -353,12 +307,7 @@ decos_from bang _ _ (then_part text f rest more l later) = decos_add bang f more
 pub some_heads : (parts : List Inner) → has_head parts ≡ true → 1 ≤ length (heads_of (map sense parts))
 some_heads [] h = absurd cc
 some_heads (note_inside f ∷ more) h = omega arith
-some_heads (letter_inside b ∷ more) h = some_heads more h
-some_heads (named_inside name ∷ more) h = some_heads more h
-some_heads (tie_inside d ∷ more) h = some_heads more h
-some_heads (slur_inside ∷ more) h = some_heads more h
-some_heads (passed_inside b ∷ more) h = some_heads more h
-some_heads (lone_inside ∷ more) h = some_heads more h
+some_heads (_ ∷ more) h = some_heads more h
 
 -- ---- grace groups
 
@@ -442,13 +391,9 @@ notes_chord h hs = record {
   length = tt;
 }
 
-not_second : (p q : Bool) → (p || q) ≡ false → q ≡ false
-not_second true q h = absurd cc
-not_second false q h = h
-
 narrower : (x : List ℕ) → begins note_goes_on x ≡ false → begins goes_on x ≡ false
 narrower [] h = refl
-narrower (b ∷ x) h = not_second (is_mark b) (goes_on b) h
+narrower (b ∷ x) h = (or_parts (is_mark b) (goes_on b) h).1
 
 abbrev part_pair : GracePart → List ℕ → GracePart × List ℕ
 part_pair p x = (p, x)
@@ -514,32 +459,17 @@ grace_good slash body good = record {
 heads_untied : (parts : List Inner) → Untied (heads_in (map sense parts))
 heads_untied [] = tt
 heads_untied (note_inside f ∷ more) = (refl, heads_untied more)
-heads_untied (letter_inside b ∷ more) = heads_untied more
-heads_untied (named_inside name ∷ more) = heads_untied more
-heads_untied (tie_inside d ∷ more) = heads_untied more
-heads_untied (slur_inside ∷ more) = heads_untied more
-heads_untied (passed_inside b ∷ more) = heads_untied more
-heads_untied (lone_inside ∷ more) = heads_untied more
+heads_untied (_ ∷ more) = heads_untied more
 
 some_plain_heads : (parts : List Inner) → has_head parts ≡ true → 1 ≤ length (heads_in (map sense parts))
 some_plain_heads [] h = absurd cc
 some_plain_heads (note_inside f ∷ more) h = omega arith
-some_plain_heads (letter_inside b ∷ more) h = some_plain_heads more h
-some_plain_heads (named_inside name ∷ more) h = some_plain_heads more h
-some_plain_heads (tie_inside d ∷ more) h = some_plain_heads more h
-some_plain_heads (slur_inside ∷ more) h = some_plain_heads more h
-some_plain_heads (passed_inside b ∷ more) h = some_plain_heads more h
-some_plain_heads (lone_inside ∷ more) h = some_plain_heads more h
+some_plain_heads (_ ∷ more) h = some_plain_heads more h
 
 body_add : (bang : Bool) (p : GracePart) (more : List GracePart) → IsGracePart bang p → GoodBody (body_of more) → GoodBody (body_of (p ∷ more))
 body_add bang (single (note_inside f)) more good h = (omega arith, (refl, tt), h)
-body_add bang (single (letter_inside b)) more good h = h
-body_add bang (single (named_inside name)) more good h = h
-body_add bang (single (tie_inside d)) more good h = h
-body_add bang (single slur_inside) more good h = h
-body_add bang (single (passed_inside b)) more good h = h
-body_add bang (single lone_inside) more good h = h
 body_add bang (chorded f) more good h = (some_plain_heads f.parts good.head, heads_untied f.parts, h)
+body_add bang (single _) more good h = h
 
 pub body_from : (bang : Bool) (text : List ℕ) (parts : List GracePart) → GraceParts bang text parts → GoodBody (body_of parts)
 body_from bang _ _ no_part = tt

@@ -1,6 +1,5 @@
 -- The plain name of a decoration is read as it.
-use Rattle.std.proofs.Common.{◌≡◌, ℕ, cond, eqb, List, [], ◌∷◌, refl, sym, ap, ◌∙◌, subst, arith, inl, inr, ◌⊎◌}
-use Rattle.std.specs.Prelude.{codes}
+use Rattle.std.proofs.Common.{◌≡◌, ℕ, cond, eqb, List, [], ◌∷◌, refl, sym, ap, ◌∙◌, subst, arith, inl, inr, ◌⊎◌, codes}
 use Rattle.std.proofs.lemmas.Bool.{cond_both}
 use Rattle.mus_units.specs.declared.note.Deco.{Deco}
 use Rattle.mus_units.specs.declared.note.Deco.TheVariants.{Ks, Kr, Kf, Ka, Km, Kc, Kp, Kg, Kt, Ku, Kd, Kn, Below, Above, Quiet}
@@ -14,56 +13,23 @@ pub record GoodDeco (d : Deco) : Type 0 where
   pub name : IsName (name_of d)
 
 abbrev pub IsListed : Deco → Type 0
-IsListed Ks = Unit {0}
-IsListed Kr = Unit {0}
-IsListed Kf = Unit {0}
-IsListed Ka = Unit {0}
-IsListed Km = Unit {0}
-IsListed Kc = Unit {0}
-IsListed Kp = Unit {0}
-IsListed Kg = Unit {0}
-IsListed Kt = Unit {0}
-IsListed Ku = Unit {0}
-IsListed Kd = Unit {0}
-IsListed Kn = Unit {0}
 IsListed (Below text) = ⊥
 IsListed (Above text) = ⊥
 IsListed (Quiet text) = ⊥
+IsListed _ = Unit {0}
 
 listed_means : (d : Deco) → IsListed d → deco_of_name (name_of d) ≡ d
 unfolding deco_of_name is_accent
-listed_means Ks h = refl
-listed_means Kr h = refl
-listed_means Kf h = refl
-listed_means Ka h = refl
-listed_means Km h = refl
-listed_means Kc h = refl
-listed_means Kp h = refl
-listed_means Kg h = refl
-listed_means Kt h = refl
-listed_means Ku h = refl
-listed_means Kd h = refl
-listed_means Kn h = refl
 listed_means (Below text) h = absurd h
 listed_means (Above text) h = absurd h
 listed_means (Quiet text) h = absurd h
+listed_means _ h = refl
 
 listed_name : (d : Deco) → IsListed d → IsName (name_of d)
-listed_name Ks h = record { some = omega arith; bytes = refl }
-listed_name Kr h = record { some = omega arith; bytes = refl }
-listed_name Kf h = record { some = omega arith; bytes = refl }
-listed_name Ka h = record { some = omega arith; bytes = refl }
-listed_name Km h = record { some = omega arith; bytes = refl }
-listed_name Kc h = record { some = omega arith; bytes = refl }
-listed_name Kp h = record { some = omega arith; bytes = refl }
-listed_name Kg h = record { some = omega arith; bytes = refl }
-listed_name Kt h = record { some = omega arith; bytes = refl }
-listed_name Ku h = record { some = omega arith; bytes = refl }
-listed_name Kd h = record { some = omega arith; bytes = refl }
-listed_name Kn h = record { some = omega arith; bytes = refl }
 listed_name (Below text) h = absurd h
 listed_name (Above text) h = absurd h
 listed_name (Quiet text) h = absurd h
+listed_name _ h = record { some = omega arith; bytes = refl }
 
 listed_good : (d : Deco) → IsListed d → GoodDeco d
 listed_good d h = record { means = listed_means d h; name = listed_name d h }

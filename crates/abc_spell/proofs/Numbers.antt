@@ -1,6 +1,5 @@
 -- Numbers, lengths and octaves in their plain spelling are read as themselves.
-use Rattle.std.proofs.Common.{◌≡◌, ℕ, zero, suc, ◌+◌, ◌-◌, ◌^◌, ◌≤◌, ◌<◌, Bool, true, false, cond, eqb, leb, List, [], ◌∷◌, length, get_or, refl, sym, ap, ◌∙◌, subst, arith}
-use Rattle.std.specs.Prelude.{ℤ, pos, negsuc, ◌-ℤ◌, replicate, count_by}
+use Rattle.std.proofs.Common.{◌≡◌, ℕ, zero, suc, ◌+◌, ◌-◌, ◌^◌, ◌≤◌, ◌<◌, Bool, true, false, cond, eqb, leb, List, [], ◌∷◌, length, get_or, refl, sym, ap, ◌∙◌, subst, arith, ℤ, pos, negsuc, ◌-ℤ◌, replicate, count_by, ◌*◌}
 use Rattle.std.specs.List.{list_all}
 use Rattle.std.specs.Fmt.{decimal}
 use Rattle.std.specs.Str.Parse.{digits_value}
@@ -42,12 +41,8 @@ model : IsNumeralModel AreDigits (digits_value 10)
 model = numerals_by_value AreDigits tells
 
 few_digits : (n : ℕ) → n ≤ 4 → 10 ^ n ≤ 10000
-few_digits zero h = omega arith
-few_digits (suc zero) h = omega arith
-few_digits (suc (suc zero)) h = omega arith
-few_digits (suc (suc (suc zero))) h = omega arith
-few_digits (suc (suc (suc (suc zero)))) h = omega arith
 few_digits (suc (suc (suc (suc (suc n))))) h = absurd (omega arith)
+few_digits _ h = omega arith
 
 not_zero_first : (ds : List ℕ) → begins (λ b. eqb b 48) ds ≡ false → 0 < length ds → get_or ds 0 0 ≡ 48 → length ds ≡ 1
 not_zero_first [] h some e = absurd (omega (arith, some))
@@ -126,23 +121,14 @@ len_again (halved c k) h = both_again (len_of (halved c k)) (count_again 4 c (om
 
 -- ---- octaves
 
-primes_count : (n : ℕ) → count_by (λ b. eqb b 39) (replicate n 39) ≡ n
-primes_count n = sum_by-replicate (λ b. cond (eqb b 39) 1 0) n 39 ∙ omega arith
-
-no_commas : (n : ℕ) → count_by (λ b. eqb b 44) (replicate n 39) ≡ 0
-no_commas n = sum_by-replicate (λ b. cond (eqb b 44) 1 0) n 39 ∙ omega arith
-
-commas_count : (n : ℕ) → count_by (λ b. eqb b 44) (replicate n 44) ≡ n
-commas_count n = sum_by-replicate (λ b. cond (eqb b 44) 1 0) n 44 ∙ omega arith
-
-no_primes : (n : ℕ) → count_by (λ b. eqb b 39) (replicate n 44) ≡ 0
-no_primes n = sum_by-replicate (λ b. cond (eqb b 39) 1 0) n 44 ∙ omega arith
+counted : (b k n : ℕ) → count_by (λ c. eqb c b) (replicate n k) ≡ n * cond (eqb k b) 1 0
+counted b k n = sum_by-replicate (λ c. cond (eqb c b) 1 0) n k
 
 octave_up : (n : ℕ) → octave_of true (replicate n 39) ≡ pos (5 + n)
-octave_up n = rw (primes_count, no_commas) (omega (arith, ints))
+octave_up n = rw (counted 39 39 n, counted 44 39 n) (omega (arith, ints))
 
 octave_down : (n : ℕ) → octave_of false (replicate n 44) ≡ pos 4 -ℤ pos n
-octave_down n = rw (no_primes, commas_count) (omega (arith, ints))
+octave_down n = rw (counted 39 44 n, counted 44 44 n) (omega (arith, ints))
 
 same_octave : (o : ℤ) → octave_of (is_small o) (marks_of o) ≡ o
 same_octave (pos n) = by_test (leb 5 n) refl

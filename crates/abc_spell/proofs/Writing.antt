@@ -1,7 +1,5 @@
 -- Writing a list one by one.
-use Rattle.std.proofs.Common.{◌≡◌, ℕ, zero, suc, ◌+◌, List, ◌∷◌, ◌++◌, refl, ap, ◌∙◌, replicate}
-use Rattle.std.specs.Prelude.{Result, Ok, Err, OnOk}
-use Rattle.std.proofs.lemmas.List.{append_assoc}
+use Rattle.std.proofs.Common.{◌≡◌, ℕ, zero, suc, List, ◌∷◌, ◌++◌, refl, ap, ◌∙◌, replicate, Result, Ok, Err, OnOk, append_assoc}
 use Rattle.abc_notes.specs.Runs.{copies}
 use Rattle.abc_spell.specs.Plain.{Puts}
 

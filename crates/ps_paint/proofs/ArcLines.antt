@@ -1,6 +1,5 @@
 -- The lines of arcs.
-use Rattle.std.proofs.Common.{◌≡◌, true, ℤ, pos, negsuc, List, [], ◌∷◌, ◌++◌, refl, arith}
-use Rattle.std.specs.Prelude.{codes, int_div}
+use Rattle.std.proofs.Common.{◌≡◌, true, ℤ, pos, negsuc, List, [], ◌∷◌, ◌++◌, refl, arith, codes, int_div}
 use Rattle.std.proofs.Math.IntN.{◌+ℤ◌, ◌-ℤ◌, +ℤ_idl}
 use Rattle.std.specs.Int.Signed.{◌≤ℤ◌}
 use Rattle.std.proofs.lemmas.Int.{ints}

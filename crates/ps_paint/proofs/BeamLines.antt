@@ -35,8 +35,7 @@ record IsEdge (d : ℤ) : Type 0 where
 
 edge_small : (way : Way) → IsEdge (edge way)
 edge_small ways.Up = record { low = omega (arith, ints); high = omega (arith, ints) }
-edge_small ways.Down = record { low = omega (arith, ints); high = omega (arith, ints) }
-edge_small ways.Grace = record { low = omega (arith, ints); high = omega (arith, ints) }
+edge_small _ = record { low = omega (arith, ints); high = omega (arith, ints) }
 
 edge_close : (d : ℤ) → IsEdge d → IsClose d
 edge_close d e = record { low = omega (arith, ints); high = omega (arith, ints) }
@@ -49,8 +48,7 @@ zero_close = record { low = omega (arith, ints); high = omega (arith, ints) }
 
 way_word : (way : Way) → IsTokenWord (name_token (way_name way)) (way_name way)
 way_word ways.Up = record { some = omega arith; regular = refl; token = refl }
-way_word ways.Down = record { some = omega arith; regular = refl; token = refl }
-way_word ways.Grace = record { some = omega arith; regular = refl; token = refl }
+way_word _ = record { some = omega arith; regular = refl; token = refl }
 
 module _ (f : Frame) (ds : Names) (fr : IsFrame f) (made : Made f ds) where
   beam_runs : (d x1 x2 a b up vp : ℤ) (st : List Value) (saved : List Graphics) (ps : List Paint) (pages : List PagePaint)

@@ -1,15 +1,13 @@
 -- Comment lines: they are passed over.
-use Rattle.std.proofs.Common.{◌≡◌, ℕ, Bool, true, false, List, [], ◌∷◌, ◌++◌, append_assoc, refl, sym, subst, ◌∙◌, ap, arith, decimal}
-use Rattle.std.specs.Prelude.{not, ◌==◌}
+use Rattle.std.proofs.Common.{◌≡◌, ℕ, Bool, true, false, List, [], ◌∷◌, ◌++◌, append_assoc, refl, sym, subst, ◌∙◌, ap, arith, decimal, not, ◌==◌}
 use Rattle.std.specs.List.{list_all}
-use Rattle.std.proofs.lemmas.Bool.{true≢false}
+use Rattle.std.proofs.lemmas.Bool.{true≢false, and_parts}
 use Rattle.std.proofs.lemmas.Bool.Decides.{nat_tests}
 use Rattle.std.proofs.lemmas.List.Folds.{list_all-append}
 use Rattle.mus_units.specs.Bytes.{is_digit}
 use Rattle.ps_steps.specs.Tokens.{passed}
 use Rattle.ps_steps.specs.State.{State}
 use Rattle.ps_steps.specs.Steps.{at, Steps, here}
-use Rattle.ps_text.proofs.Numbers.{both_true}
 use Rattle.ps_paint.proofs.Takes.{Takes, decimal_digits}
 
 -- other than LF
@@ -19,7 +17,7 @@ in_line b = not (b == 10)
 -- a comment ends before the next LF
 skip_line : (line s : List ℕ) → list_all in_line line ≡ true → passed true (line ++ 10 ∷ s) ≡ passed false s
 skip_line [] s e = refl
-skip_line (b ∷ line) s e = one (b == 10) ((both_true (in_line b) (list_all in_line line) e).0) (skip_line line s ((both_true (in_line b) (list_all in_line line) e).1))
+skip_line (b ∷ line) s e = one (b == 10) ((and_parts (in_line b) (list_all in_line line) e).0) (skip_line line s ((and_parts (in_line b) (list_all in_line line) e).1))
   where
     one : (t : Bool) → not t ≡ true → passed true (line ++ 10 ∷ s) ≡ passed false s
         → elim t as (λ _. List ℕ) [ true ↦ passed false (line ++ 10 ∷ s) | false ↦ passed true (line ++ 10 ∷ s) ] ≡ passed false s
@@ -38,7 +36,7 @@ digit_in_line b e = grind (arith, nat_tests)
 
 digits_in_line : (ds : List ℕ) → list_all is_digit ds ≡ true → list_all in_line ds ≡ true
 digits_in_line [] e = refl
-digits_in_line (b ∷ ds) e = rw (digit_in_line b ((both_true (is_digit b) (list_all is_digit ds) e).0), digits_in_line ds ((both_true (is_digit b) (list_all is_digit ds) e).1)) refl
+digits_in_line (b ∷ ds) e = rw (digit_in_line b ((and_parts (is_digit b) (list_all is_digit ds) e).0), digits_in_line ds ((and_parts (is_digit b) (list_all is_digit ds) e).1)) refl
 
 pub number_in_line : (n : ℕ) → list_all in_line (decimal n) ≡ true
 number_in_line n = digits_in_line (decimal n) (decimal_digits n)

@@ -1,16 +1,14 @@
 -- What the lines of a prolog define.
-use Rattle.std.proofs.Common.{◌≡◌, ℕ, ℤ, true, false, Bool, ◌&&◌, List, [], ◌∷◌, ◌++◌, append_assoc, None, refl, sym, ◌∙◌, ap, arith}
-use Rattle.std.specs.Prelude.{codes}
+use Rattle.std.proofs.Common.{◌≡◌, ℕ, ℤ, true, false, Bool, ◌&&◌, List, [], ◌∷◌, ◌++◌, append_assoc, None, refl, sym, ◌∙◌, ap, arith, codes}
 use Rattle.std.specs.List.{flat_map}
 use Rattle.std.proofs.lemmas.Int.{ints}
-use Rattle.std.proofs.lemmas.Bool.{true≢false}
+use Rattle.std.proofs.lemmas.Bool.{true≢false, and_parts}
 use Rattle.mus_units.specs.declared.glyph.Glyph.{Glyph}
 use Rattle.glyph_paths.specs.declared.paths.PathOp.{PathOp}
 use Rattle.glyph_paths.specs.declared.paths.PathOp.TheVariants as ops
 use Rattle.glyph_paths.specs.Names.{glyph_name}
 use Rattle.glyph_paths.specs.Outlines.{outline_of}
 use Rattle.glyph_paths.specs.Procedure.{step_text, path_text, procedure_text}
-use Rattle.ps_text.proofs.Numbers.{both_true}
 use Rattle.ps_steps.specs.declared.token.Simple.{Simple}
 use Rattle.ps_steps.specs.declared.token.Simple.TheVariants.{Label as label_token, Name as name_token}
 use Rattle.ps_steps.specs.declared.token.Token.TheVariants.{Simple as simple_token, Procedure as procedure_token}
@@ -32,15 +30,15 @@ small_near : (z : ℤ) → is_small z ≡ true → is_near z ≡ true
 small_near z e = let s = small_is z e in near z (omega (arith, ints)) (omega (arith, ints))
 
 two_near : (x y : ℤ) → (is_small x && is_small y) ≡ true → all_near (x ∷ y ∷ []) ≡ true
-two_near x y e = let t = both_true (is_small x) (is_small y) e in rw (small_near x t.0, small_near y t.1) refl
+two_near x y e = let t = and_parts (is_small x) (is_small y) e in rw (small_near x t.0, small_near y t.1) refl
 
 six_near : (a b c d x y : ℤ) → (((is_small a && is_small b) && (is_small c && is_small d)) && (is_small x && is_small y)) ≡ true → all_near (a ∷ b ∷ c ∷ d ∷ x ∷ y ∷ []) ≡ true
 six_near a b c d x y e =
-    let t = both_true ((is_small a && is_small b) && (is_small c && is_small d)) (is_small x && is_small y) e in
-    let u = both_true (is_small a && is_small b) (is_small c && is_small d) t.0 in
-    let p = both_true (is_small a) (is_small b) u.0 in
-    let q = both_true (is_small c) (is_small d) u.1 in
-    let r = both_true (is_small x) (is_small y) t.1 in
+    let t = and_parts ((is_small a && is_small b) && (is_small c && is_small d)) (is_small x && is_small y) e in
+    let u = and_parts (is_small a && is_small b) (is_small c && is_small d) t.0 in
+    let p = and_parts (is_small a) (is_small b) u.0 in
+    let q = and_parts (is_small c) (is_small d) u.1 in
+    let r = and_parts (is_small x) (is_small y) t.1 in
     rw (small_near a p.0, small_near b p.1, small_near c q.0, small_near d q.1, small_near x r.0, small_near y r.1) refl
 
 word_of_m : IsTokenWord m_name (codes "m")
@@ -62,15 +60,15 @@ word_of_k = record { some = omega arith; regular = refl; token = refl }
 lex_steps : (has : Bool) (steps : List PathOp) → is_drawn has steps ≡ true → Lexes (flat_map step_text steps) (flat_map step_tokens steps)
 lex_steps has [] e = nothing_lexed
 lex_steps has (ops.Move x y ∷ rest) e =
-    let t = both_true (is_small x && is_small y) (is_drawn true rest) e in
+    let t = and_parts (is_small x && is_small y) (is_drawn true rest) e in
     both_lexed (both_lexed (lex_numbers (x ∷ y ∷ []) (two_near x y t.0)) (lex_one (word_stands word_of_m) space_passed)) (lex_steps true rest t.1)
 lex_steps false (ops.Line x y ∷ rest) e = absurd (true≢false (sym e))
 lex_steps true (ops.Line x y ∷ rest) e =
-    let t = both_true (is_small x && is_small y) (is_drawn true rest) e in
+    let t = and_parts (is_small x && is_small y) (is_drawn true rest) e in
     both_lexed (both_lexed (lex_numbers (x ∷ y ∷ []) (two_near x y t.0)) (lex_one (word_stands word_of_l) space_passed)) (lex_steps true rest t.1)
 lex_steps false (ops.Curve a b c d x y ∷ rest) e = absurd (true≢false (sym e))
 lex_steps true (ops.Curve a b c d x y ∷ rest) e =
-    let t = both_true (((is_small a && is_small b) && (is_small c && is_small d)) && (is_small x && is_small y)) (is_drawn true rest) e in
+    let t = and_parts (((is_small a && is_small b) && (is_small c && is_small d)) && (is_small x && is_small y)) (is_drawn true rest) e in
     both_lexed (both_lexed (lex_numbers (a ∷ b ∷ c ∷ d ∷ x ∷ y ∷ []) (six_near a b c d x y t.0)) (lex_one (word_stands word_of_c) space_passed)) (lex_steps true rest t.1)
 lex_steps false (ops.Fill ∷ rest) e = absurd (true≢false (sym e))
 lex_steps true (ops.Fill ∷ rest) e = both_lexed (lex_one (word_stands word_of_h) space_passed) (lex_steps false rest e)

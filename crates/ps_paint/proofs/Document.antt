@@ -1,6 +1,5 @@
 -- A document paints its sheet.
-use Rattle.std.proofs.Common.{◌≡◌, ℕ, List, [], ◌∷◌, ◌++◌, length, append_assoc, append-nil, map, refl, subst, ap, arith, decimal}
-use Rattle.std.specs.Prelude.{codes}
+use Rattle.std.proofs.Common.{◌≡◌, ℕ, List, [], ◌∷◌, ◌++◌, length, append_assoc, append-nil, map, refl, subst, ap, arith, decimal, codes}
 use Rattle.ps_text.specs.Document.{document, trailer, count_line}
 use Rattle.ps_text.specs.declared.sheet.Sheet.{Sheet}
 use Rattle.ps_text.specs.Range.{IsSheet}

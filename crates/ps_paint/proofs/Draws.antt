@@ -1,6 +1,5 @@
 -- What the short procedures of the prolog draw.
-use Rattle.std.proofs.Common.{◌≡◌, ℤ, pos, true, List, [], ◌∷◌, ◌++◌, refl}
-use Rattle.std.specs.Prelude.{codes}
+use Rattle.std.proofs.Common.{◌≡◌, ℤ, pos, true, List, [], ◌∷◌, ◌++◌, refl, codes}
 use Rattle.std.proofs.Math.IntN.{◌+ℤ◌, ◌*ℤ◌, +ℤ_idl}
 use Rattle.ps_text.specs.declared.sheet.Frame.{Frame}
 use Rattle.ps_text.specs.Range.{IsFrame}

@@ -1,9 +1,8 @@
 -- The lines of glyphs.
-use Rattle.std.proofs.Common.{◌≡◌, ℕ, suc, ◌+◌, ◌≤◌, ℤ, pos, true, List, [], ◌∷◌, ◌++◌, refl, arith}
-use Rattle.std.specs.Prelude.{nat_le}
+use Rattle.std.proofs.Common.{◌≡◌, suc, ◌+◌, ◌≤◌, ℤ, pos, true, List, [], ◌∷◌, ◌++◌, refl, arith}
 use Rattle.std.proofs.Math.IntN.{◌+ℤ◌}
 use Rattle.std.proofs.lemmas.Int.{ints}
-use Rattle.std.proofs.lemmas.Bool.Decides.{nat_tests}
+use Rattle.std.proofs.lemmas.Bool.{leb-true}
 use Rattle.mus_units.specs.declared.glyph.Glyph.{Glyph}
 use Rattle.glyph_paths.specs.Names.{glyph_name}
 use Rattle.glyph_paths.specs.Outlines.{outline_of}
@@ -32,9 +31,6 @@ use Rattle.ps_paint.proofs.Lines.{Draws, on_page, line_drawn, page_near, offset_
 
 glyph_word : (g : Glyph) → IsTokenWord (name_token (glyph_name g)) (glyph_name g)
 glyph_word g = let t = fine g in record { some = name_some (glyph_name g) t.good; regular = t.regular; token = t.token }
-
-at_most : (a b : ℕ) → nat_le a b ≡ true → a ≤ b
-at_most a b e = grind (arith, nat_tests)
 
 wide : (v : ℤ) → IsMid v → IsClose v
 wide v m = record { low = omega (arith, ints); high = omega (arith, ints) }
@@ -66,6 +62,6 @@ module _ (f : Frame) (ds : Names) (fr : IsFrame f) (made : Made f ds) where
   glyph_line_drawn g y x dx dy s =
       let zs = dx ∷ dy ∷ x ∷ y ∷ [] in
       let near : all_near zs ≡ true = rw (offset_near dx s.across, offset_near dy s.above, page_near x s.anchor, page_near y s.base) refl in
-      let low : cost (outline_of g) ≤ 90 = at_most (cost (outline_of g)) 90 ((fine g).few) in
+      let low : cost (outline_of g) ≤ 90 = leb-true (cost (outline_of g)) 90 ((fine g).few) in
       line_drawn zs (glyph_name g) near (glyph_word g) (made.glyph g) (omega (arith, low))
       (λ st saved ps pages. glyph_runs g x y dx dy st saved ps pages (mid_number x s.anchor) (mid_number y s.base) (mid_sum x dx s.anchor s.across) (mid_sum y dy s.base s.above))

@@ -1,11 +1,10 @@
 -- Any outline is drawn as it is painted.
-use Rattle.std.proofs.Common.{◌≡◌, ℕ, ◌+◌, ℤ, pos, negsuc, true, false, Bool, ◌&&◌, List, [], ◌∷◌, ◌++◌, append_assoc, append-nil, sym, arith}
-use Rattle.std.specs.Prelude.{int_le}
+use Rattle.std.proofs.Common.{◌≡◌, ℕ, ◌+◌, ℤ, pos, negsuc, true, false, Bool, ◌&&◌, List, [], ◌∷◌, ◌++◌, append_assoc, append-nil, sym, arith, int_le}
 use Rattle.std.specs.List.{flat_map}
 use Rattle.std.proofs.Math.IntN.{◌+ℤ◌}
 use Rattle.std.specs.Int.Signed.{◌≤ℤ◌}
 use Rattle.std.proofs.lemmas.Int.{ints}
-use Rattle.std.proofs.lemmas.Bool.{true≢false}
+use Rattle.std.proofs.lemmas.Bool.{true≢false, and_parts}
 use Rattle.glyph_paths.specs.declared.paths.PathOp.{PathOp}
 use Rattle.glyph_paths.specs.declared.paths.PathOp.TheVariants as ops
 use Rattle.ps_text.specs.declared.sheet.Frame.{Frame}
@@ -16,7 +15,6 @@ use Rattle.ps_steps.specs.declared.paint.PagePaint.{PagePaint}
 use Rattle.ps_steps.specs.declared.value.Value.{Value}
 use Rattle.ps_steps.specs.declared.graphics.Graphics.{Graphics}
 use Rattle.ps_steps.specs.State.{State, Names}
-use Rattle.ps_text.proofs.Numbers.{both_true}
 use Rattle.ps_paint.specs.PaintOf.{move, line, curve, stroked, filled, outline_paints}
 use Rattle.ps_paint.proofs.Bodies.{Made, step_tokens}
 use Rattle.ps_paint.proofs.Scales.{IsClose}
@@ -71,7 +69,7 @@ close : (x a : ℤ) → IsMid x → IsSmall a → IsClose (x +ℤ a)
 close x a h k = record { low = omega (arith, ints); high = omega (arith, ints) }
 
 both_close : (x y a b : ℤ) → IsMid x → IsMid y → (is_small a && is_small b) ≡ true → IsClose (x +ℤ a) × IsClose (y +ℤ b)
-both_close x y a b mx my e = (close x a mx (small_is a ((both_true (is_small a) (is_small b) e).0)), close y b my (small_is b ((both_true (is_small a) (is_small b) e).1)))
+both_close x y a b mx my e = (close x a mx (small_is a ((and_parts (is_small a) (is_small b) e).0)), close y b my (small_is b ((and_parts (is_small a) (is_small b) e).1)))
 
 -- whether there is a path
 abbrev pub some_path : List Seg → Bool
@@ -86,29 +84,29 @@ module _ (f : Frame) (ds : Names) (fr : IsFrame f) (made : Made f ds) (font : �
       → Runs (cost steps) (flat_map step_tokens steps) (before path ps) (before (left f x y path steps) (ps ++ outline_paints f x y path steps))
   outline_runs [] path ps e = rw (append-nil ps) no_more
   outline_runs (ops.Move a b ∷ rest) [] ps e =
-      let sm = (both_true (is_small a && is_small b) (is_drawn true rest) e).0 in
-      let more = (both_true (is_small a && is_small b) (is_drawn true rest) e).1 in
+      let sm = (and_parts (is_small a && is_small b) (is_drawn true rest) e).0 in
+      let more = (and_parts (is_small a && is_small b) (is_drawn true rest) e).1 in
       let c = both_close x y a b mx my sm in
       both_runs (pushes (a ∷ b ∷ []) (before [] ps)) (both_runs (moves f ds fr made saved ps pages a b x y [] font st c.0 c.1) (outline_runs rest (move f (x +ℤ a) (y +ℤ b) ∷ []) ps more))
   outline_runs (ops.Move a b ∷ rest) (s ∷ path) ps e =
-      let sm = (both_true (is_small a && is_small b) (is_drawn true rest) e).0 in
-      let more = (both_true (is_small a && is_small b) (is_drawn true rest) e).1 in
+      let sm = (and_parts (is_small a && is_small b) (is_drawn true rest) e).0 in
+      let more = (and_parts (is_small a && is_small b) (is_drawn true rest) e).1 in
       let c = both_close x y a b mx my sm in
       both_runs (pushes (a ∷ b ∷ []) (before (s ∷ path) ps)) (both_runs (moves f ds fr made saved ps pages a b x y (s ∷ path) font st c.0 c.1) (outline_runs rest (s ∷ path ++ move f (x +ℤ a) (y +ℤ b) ∷ []) ps more))
   outline_runs (ops.Line a b ∷ rest) [] ps e = absurd (true≢false (sym e))
   outline_runs (ops.Line a b ∷ rest) (s ∷ path) ps e =
-      let sm = (both_true (is_small a && is_small b) (is_drawn true rest) e).0 in
-      let more = (both_true (is_small a && is_small b) (is_drawn true rest) e).1 in
+      let sm = (and_parts (is_small a && is_small b) (is_drawn true rest) e).0 in
+      let more = (and_parts (is_small a && is_small b) (is_drawn true rest) e).1 in
       let c = both_close x y a b mx my sm in
       both_runs (pushes (a ∷ b ∷ []) (before (s ∷ path) ps)) (both_runs (lines f ds fr made saved ps pages a b x y s path font st c.0 c.1) (outline_runs rest (s ∷ path ++ line f (x +ℤ a) (y +ℤ b) ∷ []) ps more))
   outline_runs (ops.Curve a b c d p q ∷ rest) [] ps e = absurd (true≢false (sym e))
   outline_runs (ops.Curve a b c d p q ∷ rest) (s ∷ path) ps e =
-      let t = (both_true (((is_small a && is_small b) && (is_small c && is_small d)) && (is_small p && is_small q)) (is_drawn true rest) e).0 in
-      let more = (both_true (((is_small a && is_small b) && (is_small c && is_small d)) && (is_small p && is_small q)) (is_drawn true rest) e).1 in
-      let u = (both_true ((is_small a && is_small b) && (is_small c && is_small d)) (is_small p && is_small q) t).0 in
-      let c3 = both_close x y p q mx my ((both_true ((is_small a && is_small b) && (is_small c && is_small d)) (is_small p && is_small q) t).1) in
-      let c1 = both_close x y a b mx my ((both_true (is_small a && is_small b) (is_small c && is_small d) u).0) in
-      let c2 = both_close x y c d mx my ((both_true (is_small a && is_small b) (is_small c && is_small d) u).1) in
+      let t = (and_parts (((is_small a && is_small b) && (is_small c && is_small d)) && (is_small p && is_small q)) (is_drawn true rest) e).0 in
+      let more = (and_parts (((is_small a && is_small b) && (is_small c && is_small d)) && (is_small p && is_small q)) (is_drawn true rest) e).1 in
+      let u = (and_parts ((is_small a && is_small b) && (is_small c && is_small d)) (is_small p && is_small q) t).0 in
+      let c3 = both_close x y p q mx my ((and_parts ((is_small a && is_small b) && (is_small c && is_small d)) (is_small p && is_small q) t).1) in
+      let c1 = both_close x y a b mx my ((and_parts (is_small a && is_small b) (is_small c && is_small d) u).0) in
+      let c2 = both_close x y c d mx my ((and_parts (is_small a && is_small b) (is_small c && is_small d) u).1) in
       both_runs (pushes (a ∷ b ∷ c ∷ d ∷ p ∷ q ∷ []) (before (s ∷ path) ps))
       (both_runs (curves f ds fr made saved ps pages a b c d p q x y s path font st c1.0 c1.1 c2.0 c2.1 c3.0 c3.1)
       (outline_runs rest (s ∷ path ++ curve f (x +ℤ a) (y +ℤ b) (x +ℤ c) (y +ℤ d) (x +ℤ p) (y +ℤ q) ∷ []) ps more))

@@ -1,12 +1,10 @@
 -- The tokens in the text of a procedure.
-use Rattle.std.proofs.Common.{◌≡◌, ℕ, ℤ, true, false, Bool, ◌&&◌, List, [], ◌∷◌, ◌++◌, drop, append_assoc, map, Option, Some, None, refl, sym, subst, ◌∙◌, ap, arith}
-use Rattle.std.specs.Prelude.{◌==◌, not}
+use Rattle.std.proofs.Common.{◌≡◌, ℕ, ℤ, true, false, Bool, ◌&&◌, List, [], ◌∷◌, ◌++◌, drop, append_assoc, map, Option, Some, None, refl, sym, subst, ◌∙◌, ap, arith, ◌==◌, not}
 use Rattle.std.specs.List.{flat_map, list_all}
 use Rattle.std.specs.Fmt.{signed_decimal}
-use Rattle.std.proofs.lemmas.Bool.{true≢false}
+use Rattle.std.proofs.lemmas.Bool.{true≢false, not-true, and_parts}
 use Rattle.std.proofs.lemmas.Bool.Decides.{nat_tests}
 use Rattle.glyph_paths.specs.Procedure.{numbers}
-use Rattle.ps_text.proofs.Numbers.{both_true}
 use Rattle.ps_steps.specs.declared.token.Simple.{Simple}
 use Rattle.ps_steps.specs.declared.token.Simple.TheVariants.{Whole as whole_token, Label as label_token}
 use Rattle.ps_steps.specs.Near.{is_near}
@@ -71,8 +69,8 @@ pub lex_numbers : (zs : List ℤ) → all_near zs ≡ true → Lexes (numbers zs
 unfolding numbers
 lex_numbers [] e = nothing_lexed
 lex_numbers (z ∷ zs) e =
-    let one : Lexes (signed_decimal z ++ 32 ∷ []) (whole_token z ∷ []) = lex_one (word_stands (number_word z ((both_true (is_near z) (all_near zs) e).0))) space_passed in
-    both_lexed one (lex_numbers zs ((both_true (is_near z) (all_near zs) e).1))
+    let one : Lexes (signed_decimal z ++ 32 ∷ []) (whole_token z ∷ []) = lex_one (word_stands (number_word z ((and_parts (is_near z) (all_near zs) e).0))) space_passed in
+    both_lexed one (lex_numbers zs ((and_parts (is_near z) (all_near zs) e).1))
 
 -- the token that a piece between two spaces is, if it may be one
 abbrev label_piece : List ℕ → Option Simple
@@ -88,19 +86,15 @@ piece_token (b ∷ w) = elim (b == 47) [ true ↦ label_piece w | false ↦ word
 none_some : (t : Simple) → None ≡ Some t → ⊥
 none_some t e = cc
 
-not_true : (a : Bool) → not a ≡ true → a ≡ false
-not_true true e = absurd (true≢false (sym e))
-not_true false e = refl
-
 label_is : (w : List ℕ) (t : Simple) → label_piece w ≡ Some t → Stands t (47 ∷ w)
 label_is w t e = by_test (list_all is_regular w && (is_name w && not (begins (λ b. b == 67) w))) refl e
   where
     by_test : (x : Bool) → (list_all is_regular w && (is_name w && not (begins (λ b. b == 67) w))) ≡ x → elim x as (λ _. Option Simple) [ true ↦ Some (label_token w) | false ↦ None ] ≡ Some t → Stands t (47 ∷ w)
     by_test true h k =
-        let p = both_true (list_all is_regular w) (is_name w && not (begins (λ b. b == 67) w)) h in
-        let q = both_true (is_name w) (not (begins (λ b. b == 67) w)) p.1 in
+        let p = and_parts (list_all is_regular w) (is_name w && not (begins (λ b. b == 67) w)) h in
+        let q = and_parts (is_name w) (not (begins (λ b. b == 67) w)) p.1 in
         let same : label_token w ≡ t = cc in
-        subst (λ u. Stands u (47 ∷ w)) same (label_stands (record { regular = p.0; good = q.0; other = not_true (begins (λ b. b == 67) w) q.1 }))
+        subst (λ u. Stands u (47 ∷ w)) same (label_stands (record { regular = p.0; good = q.0; other = not-true (begins (λ b. b == 67) w) q.1 }))
     by_test false h k = absurd (none_some t k)
 
 word_is : (b : ℕ) (w : List ℕ) (t : Simple) → word_piece (b ∷ w) ≡ Some t → Stands t (b ∷ w)

@@ -1,6 +1,5 @@
 -- What whole lines of a page draw.
-use Rattle.std.proofs.Common.{◌≡◌, ℕ, suc, ◌+◌, ◌*◌, ◌≤◌, ℤ, pos, true, List, [], ◌∷◌, ◌++◌, length, length-append, append_assoc, append-nil, Some, arith}
-use Rattle.std.specs.Prelude.{All}
+use Rattle.std.proofs.Common.{◌≡◌, ℕ, suc, ◌+◌, ◌*◌, ◌≤◌, ℤ, pos, true, List, [], ◌∷◌, ◌++◌, length, length-append, append_assoc, append-nil, Some, arith, All}
 use Rattle.std.specs.List.{flat_map}
 use Rattle.std.proofs.Math.IntN.{◌+ℤ◌}
 use Rattle.std.proofs.lemmas.Int.{ints}

@@ -1,6 +1,5 @@
 -- The definitions that the prolog makes.
-use Rattle.std.proofs.Common.{◌≡◌, List, [], ◌∷◌, Some, None, refl}
-use Rattle.std.specs.Prelude.{codes}
+use Rattle.std.proofs.Common.{◌≡◌, List, [], ◌∷◌, Some, None, refl, codes}
 use Rattle.mus_units.specs.declared.glyph.Glyph.{Glyph}
 use Rattle.mus_units.specs.declared.glyph.Glyph.TheVariants as glyphs
 use Rattle.mus_units.specs.declared.glyph.Way.{Way}
@@ -9,7 +8,7 @@ use Rattle.glyph_paths.specs.Names.{glyph_name, glyphs_in_order}
 use Rattle.ps_text.specs.Names.{way_name}
 use Rattle.ps_text.specs.declared.sheet.Frame.{Frame}
 use Rattle.ps_steps.specs.State.{Names, no_names}
-use Rattle.ps_steps.specs.Operators.{Operator, operator_name, defined, def_op, moveto_op, lineto_op, curveto_op, closepath_op, fill_op, stroke_op, gsave_op, grestore_op, translate_op, scale_op, setlinewidth_op, findfont_op, scalefont_op, setfont_op, show_op, showpage_op}
+use Rattle.ps_steps.specs.Operators.{Operator, operator_name, defined, def_op}
 use Rattle.ps_paint.specs.PaintOf.{edge}
 use Rattle.ps_paint.proofs.Bodies.{Made, m_body, l_body, c_body, h_body, k_body, sf_body, vl_body, st_body, beam_body, ac_body, t1_body, t2_body, pg_body, glyph_body}
 
@@ -71,78 +70,17 @@ all_names f = with_glyphs glyphs_in_order (with_pg f)
 free : (f : Frame) (o : Operator) → all_names f (operator_name o) ≡ None
 unfolding glyphs_in_order
 free f def_op = refl
-free f moveto_op = refl
-free f lineto_op = refl
-free f curveto_op = refl
-free f closepath_op = refl
-free f fill_op = refl
-free f stroke_op = refl
-free f gsave_op = refl
-free f grestore_op = refl
-free f translate_op = refl
-free f scale_op = refl
-free f setlinewidth_op = refl
-free f findfont_op = refl
-free f scalefont_op = refl
-free f setfont_op = refl
-free f show_op = refl
-free f showpage_op = refl
+free f _ = refl
 
 of_glyph : (f : Frame) (g : Glyph) → all_names f (glyph_name g) ≡ Some (glyph_body g)
 unfolding glyphs_in_order
 of_glyph f glyphs.Hb = refl
-of_glyph f glyphs.Hw = refl
-of_glyph f glyphs.Hh = refl
-of_glyph f glyphs.Hq = refl
-of_glyph f glyphs.Gh = refl
-of_glyph f glyphs.Dt = refl
-of_glyph f glyphs.Lg = refl
-of_glyph f glyphs.Fu = refl
-of_glyph f glyphs.Fd = refl
-of_glyph f glyphs.Gf = refl
-of_glyph f glyphs.Gs = refl
-of_glyph f glyphs.Sr = refl
-of_glyph f glyphs.Sl = refl
-of_glyph f glyphs.R0 = refl
-of_glyph f glyphs.R1 = refl
-of_glyph f glyphs.R2 = refl
-of_glyph f glyphs.R4 = refl
-of_glyph f glyphs.R8 = refl
-of_glyph f glyphs.Ax = refl
-of_glyph f glyphs.As = refl
-of_glyph f glyphs.An = refl
-of_glyph f glyphs.Af = refl
-of_glyph f glyphs.Ag = refl
-of_glyph f glyphs.Cg = refl
-of_glyph f glyphs.Cf = refl
-of_glyph f glyphs.Cc = refl
-of_glyph f glyphs.Bt = refl
-of_glyph f glyphs.Bw = refl
-of_glyph f glyphs.Bf = refl
-of_glyph f glyphs.Bi = refl
-of_glyph f glyphs.Bb = refl
-of_glyph f glyphs.Bo = refl
-of_glyph f glyphs.Dl = refl
-of_glyph f glyphs.Dr = refl
-of_glyph f glyphs.Nn = refl
-of_glyph f glyphs.Ks = refl
-of_glyph f glyphs.Kr = refl
-of_glyph f glyphs.Kf = refl
-of_glyph f glyphs.Ka = refl
-of_glyph f glyphs.Km = refl
-of_glyph f glyphs.Kc = refl
-of_glyph f glyphs.Kp = refl
-of_glyph f glyphs.Kg = refl
-of_glyph f glyphs.Kt = refl
-of_glyph f glyphs.Ku = refl
-of_glyph f glyphs.Kd = refl
-of_glyph f glyphs.Kn = refl
+of_glyph f _ = refl
 
 of_beam : (f : Frame) (way : Way) → all_names f (way_name way) ≡ Some (beam_body (edge way))
 unfolding glyphs_in_order
 of_beam f ways.Up = refl
-of_beam f ways.Down = refl
-of_beam f ways.Grace = refl
+of_beam f _ = refl
 
 pub all_made : (f : Frame) → Made f (all_names f)
 unfolding glyphs_in_order

@@ -1,7 +1,5 @@
 -- A prolog makes its definitions and its font.
-use Rattle.std.proofs.Common.{◌≡◌, ℕ, ◌+◌, ◌*◌, ◌/◌, ◌%◌, ◌<◌, ◌≤◌, pos, true, false, cond, Bool, List, [], ◌∷◌, ◌++◌, length, length-append, append_assoc, map, Some, None, refl, subst, ◌∙◌, ap, arith, decimal}
-use Rattle.std.specs.Prelude.{codes, ◌==◌}
-use Rattle.std.specs.List.{list_all}
+use Rattle.std.proofs.Common.{◌≡◌, ℕ, ◌+◌, ◌*◌, ◌/◌, ◌%◌, ◌<◌, ◌≤◌, pos, true, false, cond, Bool, List, [], ◌∷◌, ◌++◌, length, length-append, append_assoc, map, Some, None, refl, subst, ◌∙◌, ap, arith, decimal, codes}
 use Rattle.std.specs.Char.{digit_value}
 use Rattle.mus_units.specs.Bytes.{is_digit}
 use Rattle.std.proofs.lemmas.Fmt.{decimal_digit}
@@ -18,7 +16,7 @@ use Rattle.ps_steps.specs.declared.token.Simple.{Simple}
 use Rattle.ps_steps.specs.declared.token.Simple.TheVariants.{Pointed as pointed_token, Whole as whole_token, Label as label_token, Name as name_token, Font as font_token}
 use Rattle.ps_steps.specs.declared.token.Token.TheVariants.{Simple as simple_token}
 use Rattle.ps_steps.specs.Near.{is_near, is_near_hundredths}
-use Rattle.ps_steps.specs.Tokens.{font_line, font_front, simple_at, Body, word_token, pointed_number, is_regular}
+use Rattle.ps_steps.specs.Tokens.{font_line, font_front, simple_at, Body, word_token, pointed_number}
 use Rattle.ps_steps.specs.State.{State, Names, first_graphics, first_state, no_names}
 use Rattle.ps_steps.specs.Operators.{defined}
 use Rattle.ps_steps.specs.Steps.{at, from_text, Step, here, step}
@@ -42,48 +40,6 @@ being ds made = record { stack = []; names = ds; made = made; now = first_graphi
 fixed : (name front last : List ℕ) (body : List Simple) (ds : Names) → IsNewName name → spaced (pieces_of front) ≡ front → map piece_token (pieces_of front ++ last ∷ []) ≡ map (λ t. Some t) body
     → ds (codes "def") ≡ None → Takes 3 (definition name (front ++ last)) (being ds false) (being (defined name body ds) false)
 fixed name front last body ds new e f free = takes_definition name (front ++ last) body (being ds false) new (lexed_to front last body e f) free
-
-line_m : Takes 3 (codes "/m {moveto} def\n") (being no_names false) (being with_m false)
-line_m = fixed (codes "m") [] (codes "moveto") m_body no_names (record { regular = refl; good = refl; other = refl }) refl refl refl
-
-line_l : Takes 3 (codes "/l {lineto} def\n") (being with_m false) (being with_l false)
-line_l = fixed (codes "l") [] (codes "lineto") l_body with_m (record { regular = refl; good = refl; other = refl }) refl refl refl
-
-line_c : Takes 3 (codes "/c {curveto} def\n") (being with_l false) (being with_c false)
-line_c = fixed (codes "c") [] (codes "curveto") c_body with_l (record { regular = refl; good = refl; other = refl }) refl refl refl
-
-line_h : Takes 3 (codes "/h {closepath fill} def\n") (being with_c false) (being with_h false)
-line_h = fixed (codes "h") (codes "closepath ") (codes "fill") h_body with_c (record { regular = refl; good = refl; other = refl }) refl refl refl
-
-line_k : Takes 3 (codes "/k {stroke} def\n") (being with_h false) (being with_k false)
-line_k = fixed (codes "k") [] (codes "stroke") k_body with_h (record { regular = refl; good = refl; other = refl }) refl refl refl
-
-line_sf : Takes 3 (codes "/sf {gsave translate 0 0 m l 0 500 m l 0 1000 m l 0 1500 m l 0 2000 m l stroke grestore} def\n") (being with_k false) (being with_sf false)
-line_sf = fixed (codes "sf") (codes "gsave translate 0 0 m l 0 500 m l 0 1000 m l 0 1500 m l 0 2000 m l stroke ") (codes "grestore") sf_body with_k (record { regular = refl; good = refl; other = refl }) refl refl refl
-
-line_vl : Takes 3 (codes "/vl {m l stroke} def\n") (being with_sf false) (being with_vl false)
-line_vl = fixed (codes "vl") (codes "m l ") (codes "stroke") vl_body with_sf (record { regular = refl; good = refl; other = refl }) refl refl refl
-
-line_st : Takes 3 (codes "/st {gsave translate m l stroke grestore} def\n") (being with_vl false) (being with_st false)
-line_st = fixed (codes "st") (codes "gsave translate m l stroke ") (codes "grestore") st_body with_vl (record { regular = refl; good = refl; other = refl }) refl refl refl
-
-line_bu : Takes 3 (codes "/bu {gsave 280 0 translate m l l l h grestore} def\n") (being with_st false) (being with_bu false)
-line_bu = fixed (codes "bu") (codes "gsave 280 0 translate m l l l h ") (codes "grestore") (beam_body (edge ways.Up)) with_st (record { regular = refl; good = refl; other = refl }) refl refl refl
-
-line_bd : Takes 3 (codes "/bd {gsave -280 0 translate m l l l h grestore} def\n") (being with_bu false) (being with_bd false)
-line_bd = fixed (codes "bd") (codes "gsave -280 0 translate m l l l h ") (codes "grestore") (beam_body (edge ways.Down)) with_bu (record { regular = refl; good = refl; other = refl }) refl refl refl
-
-line_gb : Takes 3 (codes "/gb {gsave 190 0 translate m l l l h grestore} def\n") (being with_bd false) (being with_gb false)
-line_gb = fixed (codes "gb") (codes "gsave 190 0 translate m l l l h ") (codes "grestore") (beam_body (edge ways.Grace)) with_bd (record { regular = refl; good = refl; other = refl }) refl refl refl
-
-line_ac : Takes 3 (codes "/ac {m c stroke} def\n") (being with_gb false) (being with_ac false)
-line_ac = fixed (codes "ac") (codes "m c ") (codes "stroke") ac_body with_gb (record { regular = refl; good = refl; other = refl }) refl refl refl
-
-line_t1 : Takes 3 (codes "/t1 {gsave translate m show grestore} def\n") (being with_ac false) (being with_t1 false)
-line_t1 = fixed (codes "t1") (codes "gsave translate m show ") (codes "grestore") t1_body with_ac (record { regular = refl; good = refl; other = refl }) refl refl refl
-
-line_t2 : Takes 3 (codes "/t2 {gsave /EngFont findfont 1600 scalefont setfont translate m show grestore} def\n") (being with_t1 false) (being with_t2 false)
-line_t2 = fixed (codes "t2") (codes "gsave /EngFont findfont 1600 scalefont setfont translate m show ") (codes "grestore") t2_body with_t1 (record { regular = refl; good = refl; other = refl }) refl refl refl
 
 -- the line that makes the font
 font_taken : Takes 1 (font_line ++ 10 ∷ []) (being with_t2 false) (being with_t2 true)
@@ -110,6 +66,20 @@ procedures_taken =
     let pages = both_taken level (takes_comment (codes "%Pages: (atend)") m refl) in
     let comments = both_taken pages (takes_comment (codes "%EndComments") m refl) in
     let begins = both_taken comments (takes_comment (codes "%BeginProlog") m refl) in
+    let line_m = fixed (codes "m") [] (codes "moveto") m_body no_names (record { regular = refl; good = refl; other = refl }) refl refl refl in
+    let line_l = fixed (codes "l") [] (codes "lineto") l_body with_m (record { regular = refl; good = refl; other = refl }) refl refl refl in
+    let line_c = fixed (codes "c") [] (codes "curveto") c_body with_l (record { regular = refl; good = refl; other = refl }) refl refl refl in
+    let line_h = fixed (codes "h") (codes "closepath ") (codes "fill") h_body with_c (record { regular = refl; good = refl; other = refl }) refl refl refl in
+    let line_k = fixed (codes "k") [] (codes "stroke") k_body with_h (record { regular = refl; good = refl; other = refl }) refl refl refl in
+    let line_sf = fixed (codes "sf") (codes "gsave translate 0 0 m l 0 500 m l 0 1000 m l 0 1500 m l 0 2000 m l stroke ") (codes "grestore") sf_body with_k (record { regular = refl; good = refl; other = refl }) refl refl refl in
+    let line_vl = fixed (codes "vl") (codes "m l ") (codes "stroke") vl_body with_sf (record { regular = refl; good = refl; other = refl }) refl refl refl in
+    let line_st = fixed (codes "st") (codes "gsave translate m l stroke ") (codes "grestore") st_body with_vl (record { regular = refl; good = refl; other = refl }) refl refl refl in
+    let line_bu = fixed (codes "bu") (codes "gsave 280 0 translate m l l l h ") (codes "grestore") (beam_body (edge ways.Up)) with_st (record { regular = refl; good = refl; other = refl }) refl refl refl in
+    let line_bd = fixed (codes "bd") (codes "gsave -280 0 translate m l l l h ") (codes "grestore") (beam_body (edge ways.Down)) with_bu (record { regular = refl; good = refl; other = refl }) refl refl refl in
+    let line_gb = fixed (codes "gb") (codes "gsave 190 0 translate m l l l h ") (codes "grestore") (beam_body (edge ways.Grace)) with_bd (record { regular = refl; good = refl; other = refl }) refl refl refl in
+    let line_ac = fixed (codes "ac") (codes "m c ") (codes "stroke") ac_body with_gb (record { regular = refl; good = refl; other = refl }) refl refl refl in
+    let line_t1 = fixed (codes "t1") (codes "gsave translate m show ") (codes "grestore") t1_body with_ac (record { regular = refl; good = refl; other = refl }) refl refl refl in
+    let line_t2 = fixed (codes "t2") (codes "gsave /EngFont findfont 1600 scalefont setfont translate m show ") (codes "grestore") t2_body with_t1 (record { regular = refl; good = refl; other = refl }) refl refl refl in
     let short = both_taken (both_taken (both_taken (both_taken (both_taken begins line_m) line_l) line_c) line_h) line_k in
     let lines = both_taken (both_taken (both_taken short line_sf) line_vl) line_st in
     let beams = both_taken (both_taken (both_taken lines line_bu) line_bd) line_gb in
@@ -183,14 +153,6 @@ pg_definition f =
     ∙ ap (λ x. codes "/pg {" ++ x)
     (pg_parts (codes "gsave 0.01 0.01 scale ") (decimal f.left) (decimal f.bottom) (codes "translate ") (percent f.scale) (codes "scale 60 setlinewidth /EngFont findfont 900 scalefont ") (codes "setfont") (codes "} def\n"))
 
-first_taken : (m : State) → Takes 0 first_text m m
-unfolding first_text
-first_taken m = takes_comment (codes "!PS-Adobe-3.0") m refl
-
-last_taken : (m : State) → Takes 0 last_text m m
-unfolding last_text
-last_taken m = takes_comment (codes "%EndProlog") m refl
-
 box_taken : (f : Frame) → Takes 0 (box_line f.wide f.high ++ 10 ∷ []) (being no_names false) (being no_names false)
 unfolding box_line box_start
 box_taken f = takes_comment ((codes "%BoundingBox: 0 0 " ++ decimal f.wide) ++ 32 ∷ decimal f.high) (being no_names false) (two_in_line f.wide f.high)
@@ -220,13 +182,14 @@ prolog_parts f = parts first_text (box_line f.wide f.high) procedures (page_line
     parts a b c p g l = simp append_assoc
 
 pub prolog_taken : (f : Frame) → IsFrame f → Leads (prolog f) first_state (between (all_names f) [])
+unfolding first_text last_text
 prolog_taken f fr =
     let m = being no_names false in
     let box : Takes 0 (box_line f.wide f.high ++ 10 ∷ []) m m = box_taken f in
     let definition_of_page : Takes 3 (page_line f.left f.bottom f.scale ++ 10 ∷ []) (being with_t2 true) (being (with_pg f) true) =
     rw (pg_definition f) (takes_definition (codes "pg") (pg_text f ++ codes "setfont") (pg_body f) (being with_t2 true) (record { regular = refl; good = refl; other = refl }) (pg_lexed f fr) refl) in
     let glyphs = glyphs_taken glyphs_in_order (with_pg f) refl in
-    let all = both_taken (both_taken (both_taken (both_taken (both_taken (first_taken m) box) procedures_taken) definition_of_page) glyphs) (last_taken (being (all_names f) true)) in
+    let all = both_taken (both_taken (both_taken (both_taken (both_taken (takes_comment (codes "!PS-Adobe-3.0") m refl) box) procedures_taken) definition_of_page) glyphs) (takes_comment (codes "%EndProlog") (being (all_names f) true) refl) in
     rw (prolog_parts f) (record {
       count = ((((0 + 0) + 43) + 3) + 3 * length glyphs_in_order) + 0;
       few = few_tokens f;

@@ -1,6 +1,5 @@
 -- How a page begins and ends.
-use Rattle.std.proofs.Common.{◌≡◌, ℕ, ℤ, pos, true, false, ◌&&◌, List, [], ◌∷◌, ◌++◌, append_assoc, refl, ◌∙◌, ap, arith, decimal}
-use Rattle.std.specs.Prelude.{codes, int_le, int_div, int_rem}
+use Rattle.std.proofs.Common.{◌≡◌, ℕ, ℤ, pos, true, false, ◌&&◌, List, [], ◌∷◌, ◌++◌, append_assoc, refl, ◌∙◌, ap, arith, decimal, codes, int_le, int_div, int_rem}
 use Rattle.std.proofs.Math.IntN.{◌+ℤ◌, ◌*ℤ◌}
 use Rattle.std.proofs.lemmas.Int.{ints}
 use Rattle.ps_text.specs.Document.{heading_text, heading_line, closing}

@@ -1,6 +1,5 @@
 -- Stems, and the lines that join staves.
-use Rattle.std.proofs.Common.{◌≡◌, true, ℤ, pos, List, [], ◌∷◌, ◌++◌, refl, arith}
-use Rattle.std.specs.Prelude.{codes}
+use Rattle.std.proofs.Common.{◌≡◌, true, ℤ, pos, List, [], ◌∷◌, ◌++◌, refl, arith, codes}
 use Rattle.std.proofs.Math.IntN.{◌+ℤ◌, +ℤ_idl}
 use Rattle.std.proofs.lemmas.Int.{ints}
 use Rattle.ps_text.specs.Document.{mark_text, join_line}

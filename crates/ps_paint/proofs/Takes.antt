@@ -1,13 +1,12 @@
 -- The tokens of texts that are written: a text that is tokens with blanks behind them.
-use Rattle.std.proofs.Common.{◌≡◌, ℕ, zero, suc, ◌+◌, ◌/◌, ◌%◌, ◌<◌, ◌≤◌, ◌^◌, ℤ, pos, negsuc, true, false, cond, Bool, List, [], ◌∷◌, ◌++◌, length, append_assoc, Some, refl, sym, subst, ◌∙◌, ap, arith, decimal}
+use Rattle.std.proofs.Common.{◌≡◌, ℕ, zero, suc, ◌+◌, ◌/◌, ◌%◌, ◌<◌, ◌≤◌, ◌^◌, ℤ, pos, negsuc, true, false, cond, Bool, List, [], ◌∷◌, ◌++◌, length, append_assoc, Some, refl, sym, subst, ◌∙◌, ap, arith, decimal, ◌||◌, ◌==◌}
 use Rattle.std.proofs.Math.IntN.{neg_ℤ}
 use Rattle.std.proofs.Math.Numerals.{one-add}
-use Rattle.std.specs.Prelude.{not, ◌||◌, ◌==◌}
 use Rattle.std.specs.Str.Parse.{digits_value}
 use Rattle.std.specs.List.{list_all}
 use Rattle.std.specs.Fmt.{digit_glyph, digits, digits_onto, signed_decimal}
 use Rattle.std.proofs.lemmas.Int.{ints}
-use Rattle.std.proofs.lemmas.Bool.{true≢false}
+use Rattle.std.proofs.lemmas.Bool.{true≢false, and_parts, or_parts, not-true}
 use Rattle.std.proofs.lemmas.Bool.Decides.{nat_tests}
 use Rattle.std.proofs.lemmas.Fmt.{decimal_nonempty, decimal_is_IsNumeral}
 use Rattle.mus_units.specs.Bytes.{is_digit}
@@ -22,7 +21,6 @@ use Rattle.ps_steps.specs.State.{State}
 use Rattle.ps_steps.specs.Operators.{went, executed, called, all_near}
 use Rattle.ps_steps.specs.Steps.{at, NextToken, from_text, behind, Steps, here, step}
 use Rattle.ps_steps.proofs.Joined.{joined}
-use Rattle.ps_text.proofs.Numbers.{both_true}
 use Rattle.ps_paint.proofs.Runs.{Runs, pushed}
 
 -- whatever follows, the text leads from one state to another in n steps
@@ -43,27 +41,17 @@ pub name_some : (name : List ℕ) → is_name name ≡ true → 1 ≤ length nam
 name_some [] e = absurd (true≢false (sym e))
 name_some (b ∷ w) e = omega arith
 
-neither : (x y : Bool) → not (x || y) ≡ true → (x ≡ false) × (y ≡ false)
-neither true true e = absurd (true≢false (sym e))
-neither true false e = absurd (true≢false (sym e))
-neither false true e = absurd (true≢false (sym e))
-neither false false e = (refl, refl)
-
-last_false : (x y : Bool) → (x || y) ≡ false → y ≡ false
-last_false true y e = absurd (true≢false e)
-last_false false y e = e
-
 skip_regular : (b : ℕ) (s : List ℕ) → is_regular b ≡ true → passed false (b ∷ s) ≡ b ∷ s
 skip_regular b s e =
-    let n = neither (is_blank b) (is_delimiter b) e in
-    let p : (b == 37) ≡ false = last_false _ (b == 37) n.1 in
+    let n = or_parts (is_blank b) (is_delimiter b) (not-true (is_blank b || is_delimiter b) e) in
+    let p : (b == 37) ≡ false = (or_parts _ (b == 37) n.1).1 in
     ap (λ x. elim x as (λ _. List ℕ) [ true ↦ passed false s | false ↦ elim (b == 37) as (λ _. List ℕ) [ true ↦ passed true s | false ↦ b ∷ s ] ]) n.0
     ∙ ap (λ x. elim x as (λ _. List ℕ) [ true ↦ passed true s | false ↦ b ∷ s ]) p
 
 -- a word is no blank and no comment
 pub word_stays : (w rest : List ℕ) → 1 ≤ length w → list_all is_regular w ≡ true → passed false (w ++ rest) ≡ w ++ rest
 word_stays [] rest l e = absurd (omega arith)
-word_stays (b ∷ w) rest l e = skip_regular b (w ++ rest) ((both_true (is_regular b) (list_all is_regular w) e).0)
+word_stays (b ∷ w) rest l e = skip_regular b (w ++ rest) ((and_parts (is_regular b) (list_all is_regular w) e).0)
 
 -- digits
 glyph_digit : (d : ℕ) → d < 10 → is_digit (digit_glyph false d) ≡ true
@@ -93,11 +81,11 @@ digit_no_minus b e = grind (arith, nat_tests)
 
 pub digits_regular : (ds : List ℕ) → list_all is_digit ds ≡ true → list_all is_regular ds ≡ true
 digits_regular [] e = refl
-digits_regular (b ∷ ds) e = rw (digit_regular b ((both_true (is_digit b) (list_all is_digit ds) e).0), digits_regular ds ((both_true (is_digit b) (list_all is_digit ds) e).1)) refl
+digits_regular (b ∷ ds) e = rw (digit_regular b ((and_parts (is_digit b) (list_all is_digit ds) e).0), digits_regular ds ((and_parts (is_digit b) (list_all is_digit ds) e).1)) refl
 
 digits_word : (ds : List ℕ) → 0 < length ds → list_all is_digit ds ≡ true → word_token ds ≡ Some (whole_number (pos (digits_value 10 ds)))
 digits_word [] l e = absurd (omega arith)
-digits_word (b ∷ ds) l e = rw (digit_no_minus b ((both_true (is_digit b) (list_all is_digit ds) e).0), e) refl
+digits_word (b ∷ ds) l e = rw (digit_no_minus b ((and_parts (is_digit b) (list_all is_digit ds) e).0), e) refl
 
 minus_word : (ds : List ℕ) → 0 < length ds → list_all is_digit ds ≡ true → word_token (45 ∷ ds) ≡ Some (whole_number (neg_ℤ (pos (digits_value 10 ds))))
 minus_word [] l e = absurd (omega arith)
@@ -174,8 +162,8 @@ unfolding numbers
 takes_numbers [] m e = nothing_taken
 takes_numbers (z ∷ zs) m e =
     let k : State = record m { stack = whole_value z ∷ m.stack } in
-    let one : Takes 1 (signed_decimal z ++ 32 ∷ []) m k = takes_word (number_word z ((both_true (is_near z) (all_near zs) e).0)) space_passed refl in
-    subst (λ c. Takes c (numbers (z ∷ zs)) m (record m { stack = pushed zs (whole_value z ∷ m.stack) })) (one-add (length zs)) (both_taken one (takes_numbers zs k ((both_true (is_near z) (all_near zs) e).1)))
+    let one : Takes 1 (signed_decimal z ++ 32 ∷ []) m k = takes_word (number_word z ((and_parts (is_near z) (all_near zs) e).0)) space_passed refl in
+    subst (λ c. Takes c (numbers (z ∷ zs)) m (record m { stack = pushed zs (whole_value z ∷ m.stack) })) (one-add (length zs)) (both_taken one (takes_numbers zs k ((and_parts (is_near z) (all_near zs) e).1)))
 
 -- a line of numbers and of a name that runs a procedure
 pub takes_line : {n : ℕ} {body : List Simple} {m k : State} (zs : List ℤ) (name : List ℕ) → all_near zs ≡ true → IsTokenWord (name_token name) name → m.names name ≡ Some body

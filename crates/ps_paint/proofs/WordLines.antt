@@ -1,6 +1,5 @@
 -- Words are shown where their line says, in marks and in titles.
-use Rattle.std.proofs.Common.{◌≡◌, ℕ, suc, ◌+◌, ◌≤◌, ℤ, pos, true, List, [], ◌∷◌, ◌++◌, length-append, append_assoc, Some, refl, arith, IsTrue}
-use Rattle.std.specs.Prelude.{codes}
+use Rattle.std.proofs.Common.{◌≡◌, ℕ, suc, ◌+◌, ◌≤◌, ℤ, pos, true, List, [], ◌∷◌, ◌++◌, length-append, append_assoc, Some, refl, arith, IsTrue, codes}
 use Rattle.std.specs.List.{flat_map, list_all}
 use Rattle.std.proofs.Math.IntN.{◌+ℤ◌, ◌*ℤ◌, +ℤ_idr}
 use Rattle.std.proofs.lemmas.Int.{ints}

@@ -1,5 +1,4 @@
-use Rattle.std.proofs.Common.{◌≡◌, ◌++◌, length, List}
-use Rattle.std.specs.Prelude.{All, flat_map}
+use Rattle.std.proofs.Common.{◌≡◌, ◌++◌, length, List, All, flat_map}
 use Rattle.abc_tokens.specs.Good.{AreGoodTokens}
 use Rattle.abc_items.specs.Good.{IsGoodItem}
 use Rattle.std.specs.Vec.Iter.{into_iter_items, into_iter_len}

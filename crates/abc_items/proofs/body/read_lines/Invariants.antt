@@ -1,5 +1,4 @@
-use Rattle.std.proofs.Common.{◌≤◌, ◌^◌, take, drop}
-use Rattle.std.specs.Prelude.{All}
+use Rattle.std.proofs.Common.{◌≤◌, ◌^◌, take, drop, All}
 use Rattle.abc_items.specs.Good.{IsGoodItem}
 use Rattle.abc_lines.specs.Good.{size_of}
 use Rattle.abc_items.specs.Body.{BodyGives}

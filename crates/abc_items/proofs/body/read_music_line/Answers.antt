@@ -1,5 +1,4 @@
-use Rattle.std.proofs.Common.{◌++◌, refl}
-use Rattle.std.specs.Prelude.{flat_map}
+use Rattle.std.proofs.Common.{◌++◌, refl, flat_map}
 use Rattle.abc_items.specs.Body.{placed_given, end_given, MusicGives}
 use Rattle.abc_items.proofs.Laws.{reads_both, stops_by, stops_before}
 use Rattle.abc_items.proofs.body.read_music_line.Goals as goal

@@ -1,5 +1,4 @@
-use Rattle.std.proofs.Common.{◌≡◌, drop}
-use Rattle.std.specs.Prelude.{fold}
+use Rattle.std.proofs.Common.{◌≡◌, drop, fold}
 use Rattle.abc_items.specs.Voices.{ids_after, ids_of}
 use Rattle.abc_items.proofs.voices.ids_of.Given as goal
 

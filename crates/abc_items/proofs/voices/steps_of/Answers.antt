@@ -1,5 +1,4 @@
-use Rattle.std.proofs.Common.{arith, subst, sym}
-use Rattle.std.specs.Prelude.{All}
+use Rattle.std.proofs.Common.{arith, subst, sym, All}
 use Rattle.abc_steps.specs.Good.{IsGoodStood}
 use Rattle.abc_items.proofs.Laws.{steps_good, steps_whole}
 use Rattle.abc_items.proofs.voices.steps_of.Goals as goal
