@@ -3,7 +3,7 @@ ghost use Rattle.abc_lines.specs.Good.{IsGoodTune};
 ghost use Rattle.abc_header.specs.Good.{IsGoodDefaults};
 ghost use Rattle.mus_score.specs.GoodScore.{IsGoodScore};
 
-use abc_header::{Defaults, read_defaults, read_header};
+use abc_header::{Defaults, Header, read_defaults, read_header};
 use abc_lines::{TuneError, TuneText, cut_book};
 use abc_score::build;
 use case_texts::within_limit;
@@ -41,29 +41,30 @@ impl Asked {
     }
 }
 
-fn tune_score(
+fn read_tune(
     alloc: Global,
     tune: &TuneText,
     defaults: &Defaults,
     flow: bool,
-) -> Result<Score, TuneError>
+) -> Result<(Header, Score), TuneError>
     requires tune { IsGoodTune tune.now }
     requires defaults { IsGoodDefaults defaults.now }
-    ensures { IfOk result IsGoodScore }
+    ensures { IfOk result (λ read. IsGoodScore read.1) }
 {
     let header = match read_header(alloc, tune, defaults) {
         Ok(header) => header,
         Err(error) => return Err(error),
     };
     match build(alloc, &header, tune, flow) {
-        Ok(score) => Ok(score),
+        Ok(score) => Ok((header, score)),
         Err(error) => Err(error),
     }
 }
 
-/// The score of the first tune of a book; a book without a tune answers as if memory were short.
-pub(crate) fn score_of(alloc: Global, bytes: &[u8], flow: bool) -> Result<Score, TuneError>
-    ensures { IfOk result IsGoodScore }
+/// The header and the score of the first tune of a book; a book without a tune answers as if memory
+/// were short.
+pub(crate) fn tune_of(alloc: Global, bytes: &[u8], flow: bool) -> Result<(Header, Score), TuneError>
+    ensures { IfOk result (λ read. IsGoodScore read.1) }
 {
     let Ok(book) = cut_book(alloc, within_limit(bytes)) else {
         return Err(TuneError::Memory);
@@ -71,7 +72,7 @@ pub(crate) fn score_of(alloc: Global, bytes: &[u8], flow: bool) -> Result<Score,
     let defaults = read_defaults(&book);
     match book.tunes.as_slice() {
         [] => Err(TuneError::Memory),
-        [tune, ..] => tune_score(alloc, tune, &defaults, flow),
+        [tune, ..] => read_tune(alloc, tune, &defaults, flow),
     }
 }
 
