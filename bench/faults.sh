@@ -10,7 +10,7 @@ program=${1:-$root/abcps}
 folder=$(mktemp -d)
 trap 'rm -rf "$folder"' EXIT
 
-# One file NAME.abc for each example, and beside it NAME.told with what must be told.
+# One file NAME.abc for each example, and beside it NAME.told with what must be told and NAME.words with the options.
 python3 - "$root/docs/FAULTS.md" "$folder" <<'PYTHON' || exit 2
 import re, sys
 
@@ -36,6 +36,7 @@ for row in open(document, encoding="utf-8"):
         text, behind = text.split(" is told as ")
         told = behind.strip("`") + "\n"
         assert told.split(": ")[1].split()[0] == fault, row
+    text, _, options = text.partition(" with `")
     if text in MADE:
         lines = MADE[text]
     elif text.startswith("`"):
@@ -48,13 +49,14 @@ for row in open(document, encoding="utf-8"):
     name = f"{folder}/{count:03}-{fault}"
     open(name + ".abc", "w").write("\n".join(lines) + "\n")
     open(name + ".told", "w").write(told)
+    open(name + ".words", "w").write(options.strip("`"))
 PYTHON
 
 tried=0
 differ=0
 for book in "$folder"/*.abc; do
     # shellcheck disable=SC2086
-    $program set <"$book" >"$folder/out" 2>"$folder/errors"
+    $program set $(cat "${book%.abc}.words") <"$book" >"$folder/out" 2>"$folder/errors"
     tried=$((tried + 1))
     if ! cmp -s "$folder/errors" "${book%.abc}.told"; then
         echo "differs: $(basename "${book%.abc}"): told '$(head -c 300 "$folder/errors")', the document says '$(cat "${book%.abc}.told")'"
