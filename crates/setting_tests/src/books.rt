@@ -13,7 +13,7 @@ use set_lists::{
     fault_count, has_fault, outcomes_are_listable, put_listing, put_reports, put_systems,
     set_count, system_count, total_of,
 };
-use set_tune::SetTune;
+use set_tune::{How, SetTune};
 use std::alloc::Global;
 use std::thread::Threads;
 
@@ -95,7 +95,7 @@ pub(crate) fn put_book<R: Threads + Sync>(
     put_word(out, b"body")?;
     put_numbers(out, &[i64::from(width), i64::from(height)])?;
     end_line(out)?;
-    let outcomes = set_all(rt, alloc, &book, &paper, false, jobs, &Open)?;
+    let outcomes = set_all(rt, alloc, &book, &paper, How::unmoved(false), jobs, &Open)?;
     outcomes_are_listable();
     put_outcomes(out, outcomes.as_slice())?;
     put_counts(out, outcomes.as_slice())?;

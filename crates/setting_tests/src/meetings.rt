@@ -8,6 +8,7 @@ use answer_texts::{end_line, put_count, put_word};
 use mus_units::{Memory, Text};
 use set_book::{Gate, set_all};
 use set_halves::{Work, work_all};
+use set_tune::How;
 use std::alloc::Global;
 use std::sync::atomic::AtomicBool;
 use std::sync::atomic::Ordering::SeqCst;
@@ -95,7 +96,7 @@ fn put_gate<R: Threads + Sync>(
     let book = cut_book(alloc, b"X:1\nK:C\nc|\n\nX:2\nK:C\nd|\n")?;
     let paper = read_paper(&book);
     let meeting = make_meeting(turns);
-    let outcomes = set_all(rt, alloc, &book, &paper, false, 2, &meeting)?;
+    let outcomes = set_all(rt, alloc, &book, &paper, How::unmoved(false), 2, &meeting)?;
     put_count(out, outcomes.len() as u64)?;
     put_met(out, &meeting)
 }
