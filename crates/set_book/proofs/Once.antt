@@ -26,7 +26,7 @@ use Rattle.lay_tune.specs.Layout.{IsNoWay}
 use Rattle.set_tune.specs.declared.how.How.{How}
 use Rattle.set_tune.specs.declared.tune.SetTune.{SetTune}
 use Rattle.set_tune.specs.Blocks.{blocks_of}
-use Rattle.set_tune.specs.Setting.{CantMove, HasHeader, HasScore, IsLaidTune, IsSetTune, IsWritten, layout_fault, IsFaultOfTune, IsScoreRefusal, of_header, of_score, of_move, no_way, too_tall}
+use Rattle.set_tune.specs.Setting.{CantMove, HasHeader, HasScore, IsLaidTune, IsSetTune, IsWritten, layout_fault, IsFaultOfTune, IsMovedRefusal, of_header, of_score, of_move, no_way, too_tall}
 use Rattle.set_book.specs.declared.outcome.Outcome.{Outcome}
 use Rattle.set_book.specs.Outcomes.{IsResult, IsOutcome, AreOutcomes}
 use Rattle.set_book.specs.Once.{HaveOneOutcome, IsOneSystem}
@@ -207,10 +207,11 @@ outcomes_once defaults paper how (tune ∷ tunes) (o ∷ os) (p ∷ ps) a b =
 
 -- ---- the law
 
--- a tune that has a score has no fault up to its score
-no_refusal : (tune : TuneText) (defaults : Defaults) (how : How) (h : Header) (s : Score) (f : Fault) → HasScore tune defaults how h s → IsScoreRefusal tune defaults (errors.Fault f) → ⊥
-no_refusal tune defaults how h s f a (inl of_head) = clear_header _ f a.is.read.clear of_head
-no_refusal tune defaults how h s f a (inr (k, read, fault)) = scored tune defaults how.flow h k a.written f a.is read fault
+-- a tune that has a score has no fault up to it
+no_refusal : (tune : TuneText) (defaults : Defaults) (how : How) (h : Header) (s : Score) (f : Fault) → HasScore tune defaults how h s → IsMovedRefusal tune defaults how (errors.Fault f) → ⊥
+no_refusal tune defaults how h s f a (inl (inl of_head)) = clear_header _ f a.is.read.clear of_head
+no_refusal tune defaults how h s f a (inl (inr (k, read, fault))) = scored tune defaults how.flow h k a.written f a.is read fault
+no_refusal tune defaults how h s f a (inr (cant, at)) = cant_have tune defaults how h s cant a
 
 called_system : (s : Score) (a b : ℕ) → (m : SystemMarks) × IsOneSystem s a b m
 called_system s a b =

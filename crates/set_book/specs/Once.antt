@@ -12,7 +12,7 @@ use Rattle.mus_laid.specs.declared.laid.SystemMarks.{SystemMarks}
 use Rattle.lay_tune.specs.Spans.{IsSystem}
 use Rattle.set_tune.specs.declared.how.How.{How}
 use Rattle.set_tune.specs.declared.tune.SetTune.{SetTune}
-use Rattle.set_tune.specs.Setting.{HasScore, IsFaultOfTune, IsScoreRefusal, IsSetTune}
+use Rattle.set_tune.specs.Setting.{HasScore, IsFaultOfTune, IsMovedRefusal, IsSetTune}
 use Rattle.set_book.specs.declared.outcome.Outcome.{Outcome}
 use Rattle.set_book.specs.Outcomes.{AreOutcomes}
 
@@ -39,6 +39,6 @@ pub record HaveOneOutcome : Type 0 where
       → HasScore tune defaults how h s → HasScore tune defaults how k t → s ≡ t
   -- a tune that has a score has no fault of its header, its body or its score
   pub scored : (tune : TuneText) (defaults : Defaults) (how : How) (h : Header) (s : Score) (f : Fault)
-      → HasScore tune defaults how h s → IsScoreRefusal tune defaults (errors.Fault f) → ⊥
+      → HasScore tune defaults how h s → IsMovedRefusal tune defaults how (errors.Fault f) → ⊥
   -- a score calls for one system of any measures
   pub system : (s : Score) (a b : ℕ) → (m : SystemMarks) × IsOneSystem s a b m

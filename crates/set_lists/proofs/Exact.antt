@@ -15,7 +15,7 @@ use Rattle.lay_breaks.specs.declared.costs.Span.{Span}
 use Rattle.lay_tune.specs.Layout.{IsNoWay}
 use Rattle.set_tune.specs.declared.how.How.{How}
 use Rattle.set_tune.specs.declared.tune.SetTune.{SetTune}
-use Rattle.set_tune.specs.Setting.{HasScore, IsFaultOfTune, IsLaidTune, layout_fault, no_way, of_header, of_score, too_tall}
+use Rattle.set_tune.specs.Setting.{HasScore, IsFaultOfTune, IsLaidTune, layout_fault, no_way, of_header, of_move, of_score, too_tall}
 use Rattle.set_book.specs.declared.outcome.Outcome.{Outcome}
 use Rattle.set_book.specs.Once.{HaveOneOutcome}
 use Rattle.set_book.specs.Outcomes.{AreOutcomes, IsResult}
@@ -62,8 +62,9 @@ module _ (one : HaveOneOutcome) (tune : TuneText) (defaults : Defaults) (paper :
 
   told : (f : Fault) (reached : ℕ) → f.kind ≡ faults.NoWay reached → IsFaultOfTune tune defaults paper how f
       → (breaks : List ℕ) → IsLegalIn score (width_of paper) breaks → ⊥
-  told _ reached e (of_header f fault) breaks legal = one.scored tune defaults how header score f has (inl fault)
-  told _ reached e (of_score h f read fault) breaks legal = one.scored tune defaults how header score f has (inr (h, read, fault))
+  told _ reached e (of_header f fault) breaks legal = one.scored tune defaults how header score f has (inl (inl fault))
+  told _ reached e (of_score h f read fault) breaks legal = one.scored tune defaults how header score f has (inl (inr (h, read, fault)))
+  told _ reached e (of_move c) breaks legal = let clash : faults.BadMove ≡ faults.NoWay reached = e in cc
   told _ reached e (no_way h s i spans scored way) breaks legal =
       none_legal one s (width_of paper) i spans way breaks
       (subst (λ x. IsLegalIn x (width_of paper) breaks) (one.score tune defaults how header h score s has scored) legal)
@@ -71,8 +72,9 @@ module _ (one : HaveOneOutcome) (tune : TuneText) (defaults : Defaults) (paper :
 
   came_by : (f : Fault) → IsFaultOfTune tune defaults paper how f → ((breaks : List ℕ) → IsLegalIn score (width_of paper) breaks → ⊥)
       → (reached : ℕ) × (f ≡ layout_fault tune (faults.NoWay reached))
-  came_by _ (of_header f fault) none = absurd (one.scored tune defaults how header score f has (inl fault))
-  came_by _ (of_score h f read fault) none = absurd (one.scored tune defaults how header score f has (inr (h, read, fault)))
+  came_by _ (of_header f fault) none = absurd (one.scored tune defaults how header score f has (inl (inl fault)))
+  came_by _ (of_score h f read fault) none = absurd (one.scored tune defaults how header score f has (inl (inr (h, read, fault))))
+  came_by _ (of_move c) none = absurd (one.scored tune defaults how header score (layout_fault tune faults.BadMove) has (inr (c, refl)))
   came_by _ (no_way h s i spans scored way) none = (i, refl)
   came_by _ (too_tall t block laid tall) none = absurd (none t.breaking.breaks (laid_legal t laid))
 

@@ -9,6 +9,7 @@ use Rattle.abc_lines.specs.Books.{begins_tune, book_of, tune_at, tunes_behind}
 use Rattle.abc_lines.specs.Lines.{byte_order_mark, is_end, lines_of, reading, readings, without_last_empty, without_mark}
 use Rattle.abc_header.specs.declared.defaults.Defaults.{Defaults}
 use Rattle.abc_header.specs.declared.paper.Paper.{Paper}
+use Rattle.set_tune.specs.declared.how.How.{How}
 use Rattle.set_book.specs.declared.outcome.Outcome.{Outcome}
 use Rattle.set_book.specs.Outcomes.{AreOutcomes}
 use Rattle.set_lists.specs.Laws.{BookRises, OrdinalsRise}

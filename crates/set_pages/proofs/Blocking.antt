@@ -20,7 +20,7 @@ use Rattle.lay_shown.specs.Titles.{IsGoodRow}
 use Rattle.lay_shown.proofs.TitleRows.{rows_stand}
 use Rattle.set_tune.specs.declared.tune.SetTune.{SetTune}
 use Rattle.set_tune.specs.Blocks.{block_height, blocks_of, is_some_list, system_block, system_blocks, title_blocks}
-use Rattle.set_tune.proofs.Laid.{heard}
+use Rattle.set_tune.proofs.Laid.{heard_moved}
 use Rattle.set_book.specs.declared.outcome.Outcome.{Outcome}
 use Rattle.set_staves.specs.Drawn.{IsBase, IsOnPage, IsTop}
 use Rattle.set_staves.specs.Marks.{RisesAlong}
@@ -72,7 +72,7 @@ result_zip Q paper ordinal of titled (Ok t) good some set =
     let rows : All (IsGoodRow (width_of paper) t.title.height) t.title.rows =
     subst (λ (b : TitleBlock). All (IsGoodRow (width_of paper) b.height) b.rows) (sym laid.title) (rows_stand (width_of paper) t.header.titles t.header.composers t.header.tempo) in
     tune_zip Q (width_of paper) ordinal of titled t.title.rows t.title.height (is_some_list t.heights) t.systems t.placed t.heights some rows
-    (tune_laid (width_of paper) t laid.score.good (heard t.header set.0 set.2 t.score laid.score.value) (paper_narrow paper good) laid.layout)
+    (tune_laid (width_of paper) t laid.score.good (heard_moved set.0 set.1 set.2 t.header t.score laid.score) (paper_narrow paper good) laid.layout)
 
 zip_append : {A B : Type 0} (R : A → B → Type 0) (xs ys : List A) (vs ws : List B) → AllZip R xs vs → AllZip R ys ws → AllZip R (xs ++ ys) (vs ++ ws)
 zip_append R [] ys [] ws front back = back
