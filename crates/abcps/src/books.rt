@@ -246,7 +246,7 @@ pub(crate) fn trial<R: Threads + Sync, O: Sink, E: Sink, G: Gate + Sync>(
     if text.len() > 1_073_741_824 {
         return Status::Memory;
     }
-    let Ok(book) = set_text(rt, alloc, text.as_slice(), How::unmoved(flow), jobs, gate) else {
+    let Ok(book) = set_text(rt, alloc, text.as_slice(), How { flow, by: 0 }, jobs, gate) else {
         return Status::Memory;
     };
     write_trial(
