@@ -1,24 +1,13 @@
 -- The book that is found is good: numbers rise, and the lines of a part are no longer than the input.
 use Rattle.std.proofs.Common.{◌≡◌, ℕ, zero, suc, ◌+◌, ◌-◌, ◌≤◌, ◌^◌, Bool, true, false, cond, eqb, List, [], ◌∷◌, ◌++◌, length, take, drop, refl, ap, ◌∙◌, subst, arith}
 use Rattle.std.specs.Prelude.{map, sum, ◌&&◌, All, nat_eq}
-use Rattle.std.specs.List.{starts_with, ends_with, prefix_len, suffix_len}
-use Rattle.std.specs.Str.{is_utf8, chars}
-use Rattle.std.proofs.lemmas.Str.{encodes-chars, length-le-encodes, IsUtf8-from_is_utf8}
-use Rattle.std.proofs.lemmas.Bool.{cond_both, eqb-true, and_parts}
-use Rattle.std.proofs.lemmas.List.{length-append, length-drop, map-append}
-use Rattle.std.proofs.lemmas.List.Sums.{sum_by-append}
-use Rattle.std.proofs.lemmas.List.Elements.{All-cons}
-use Rattle.abc_lines.specs.declared.book.Line.{Line}
-use Rattle.abc_lines.specs.declared.book.TuneText.{TuneText}
-use Rattle.abc_lines.specs.declared.reading.Reading.{Reading}
-use Rattle.abc_lines.specs.declared.reading.Reading.TheVariants.{Empty, Comment, Written}
-use Rattle.abc_lines.specs.Kinds.{is_blank, is_field, is_percent_line, field_text}
+use Rattle.std.proofs.lemmas.{Str.encodes-chars, Str.length-le-encodes, Str.IsUtf8-from_is_utf8, Bool.cond_both, Bool.eqb-true, Bool.and_parts, List.length-append, List.length-drop, List.map-append, List.Sums.sum_by-append, List.Elements.All-cons}
+use Rattle.std.specs.{List.starts_with, List.ends_with, List.prefix_len, List.suffix_len, Str.is_utf8, Str.chars}
 use Rattle.abc_lines.specs.Lines.{without_mark, without_return, narrow, in_latin, comment_len, without_comment, is_empty_text, written, reading, readings, byte_order_mark, first_line}
-use Rattle.abc_lines.specs.Books.{begins_tune, is_end_of_part, is_joining, goes_on, added, joined, whole_text, line_at, book_of}
-use Rattle.abc_lines.specs.Forward.{part_from, tune_from, tunes_from, book_from}
-use Rattle.abc_lines.specs.Good.{IsGoodTune, IsGoodBook, NumbersRise, size_of}
-use Rattle.abc_lines.proofs.LineLaws.{first_line_off, readings-nil}
-use Rattle.abc_lines.proofs.Backwards.{forwards, part-nil, part-cons, tunes-nil, tunes-cons}
+use Rattle.abc_lines.specs.{declared.book.Line.Line, declared.book.TuneText.TuneText, declared.reading.Reading.Reading, Kinds.is_blank, Kinds.is_field, Kinds.is_percent_line, Kinds.field_text, Books.begins_tune, Books.is_end_of_part, Books.is_joining, Books.goes_on, Books.added, Books.joined}
+use Rattle.abc_lines.specs.{Books.whole_text, Books.line_at, Books.book_of, Forward.part_from, Forward.tune_from, Forward.tunes_from, Forward.book_from, Good.IsGoodTune, Good.IsGoodBook, Good.NumbersRise, Good.size_of, declared.reading.Reading.TheVariants.Empty}
+use Rattle.abc_lines.{specs.declared.reading.Reading.TheVariants.Comment, specs.declared.reading.Reading.TheVariants.Written, proofs.LineLaws.first_line_off, proofs.LineLaws.readings-nil, proofs.Backwards.forwards, proofs.Backwards.part-nil, proofs.Backwards.part-cons, proofs.Backwards.tunes-nil}
+use Rattle.abc_lines.proofs.Backwards.{tunes-cons}
 
 -- the bytes of the text of lines
 abbrev pub text_len : Reading → ℕ

@@ -1,16 +1,9 @@
 -- What the loops of the cutting keep, and each of their steps.
 use Rattle.std.proofs.Common.{◌≡◌, ℕ, suc, ◌+◌, ◌≤◌, ◌<◌, ◌^◌, Bool, true, false, List, [], ◌∷◌, ◌++◌, length, refl, sym, ap, ◌∙◌, arith, append_assoc, append-nil, add-one}
-use Rattle.std.specs.Prelude.{◌||◌}
-use Rattle.std.proofs.lemmas.Grind.{length_at_push}
-use Rattle.abc_lines.specs.declared.book.Line.{Line}
-use Rattle.abc_lines.specs.declared.book.TuneText.{TuneText}
-use Rattle.abc_lines.specs.declared.book.Book.{Book}
-use Rattle.abc_lines.specs.declared.reading.Reading.{Reading}
-use Rattle.abc_lines.specs.Books.{begins_tune, is_empty, is_end_of_part, goes_on, added, joined, line_at}
-use Rattle.abc_lines.specs.Forward.{part_from, tune_from, tunes_from, book_from}
-use Rattle.abc_lines.specs.Lines.{reading, readings, without_mark}
-use Rattle.abc_lines.proofs.LineLaws.{Off, readings-none}
-use Rattle.abc_lines.proofs.Backwards.{part-nil, part-cons, tunes-nil, tunes-cons}
+use Rattle.std.{proofs.lemmas.Grind.length_at_push, specs.Prelude.◌||◌}
+use Rattle.abc_lines.specs.{declared.book.Line.Line, declared.book.TuneText.TuneText, declared.book.Book.Book, declared.reading.Reading.Reading, Books.begins_tune, Books.is_empty, Books.is_end_of_part, Books.goes_on, Books.added, Books.joined, Books.line_at, Forward.part_from, Forward.tune_from}
+use Rattle.abc_lines.{specs.Forward.tunes_from, specs.Forward.book_from, specs.Lines.reading, specs.Lines.readings, specs.Lines.without_mark, proofs.LineLaws.Off, proofs.LineLaws.readings-none, proofs.Backwards.part-nil, proofs.Backwards.part-cons, proofs.Backwards.tunes-nil}
+use Rattle.abc_lines.proofs.Backwards.{tunes-cons}
 
 pub join-next : (out new total s line rest : List ℕ) (r : Reading) → Off s line rest → r ≡ reading line → goes_on r ≡ true → new ≡ out ++ added r →
     out ++ joined (readings s) ≡ total → new ++ joined (readings rest) ≡ total

@@ -3,13 +3,8 @@
 use Prim.Native.Char.{code}
 use Rattle.std.specs.Prelude.{ℕ, suc, List, [], ◌∷◌, ◌++◌, length, Bool, true, false, ◌==◌, ◌&&◌, ◌||◌, not, if◌then◌else◌, Option, Some, None, nat_eq, codes}
 use Rattle.std.specs.List.{starts_with}
-use Rattle.abc_lines.specs.declared.book.Line.{Line}
-use Rattle.abc_lines.specs.declared.book.TuneText.{TuneText}
-use Rattle.abc_lines.specs.declared.book.Book.{Book}
-use Rattle.abc_lines.specs.declared.reading.Reading.{Reading}
-use Rattle.abc_lines.specs.declared.reading.Reading.TheVariants.{Empty, Comment, Written}
-use Rattle.abc_lines.specs.Kinds.{is_field, field_text}
-use Rattle.abc_lines.specs.Lines.{readings, without_mark}
+use Rattle.abc_lines.specs.{declared.book.Line.Line, declared.book.TuneText.TuneText, declared.book.Book.Book, declared.reading.Reading.Reading, Kinds.is_field, Kinds.field_text, Lines.readings, Lines.without_mark, declared.reading.Reading.TheVariants.Empty}
+use Rattle.abc_lines.specs.declared.reading.Reading.TheVariants.{Comment, Written}
 
 -- a line that begins `X:` begins a tune
 abbrev pub begins_tune : Reading → Bool

@@ -1,8 +1,6 @@
 -- Good lines and tunes: what each call that takes one asks, and each that makes one gives.
 use Rattle.std.specs.Prelude.{◌≤◌, ◌<◌, ◌^◌, ⊤, ℕ, List, [], ◌∷◌, length, sum, map, All}
-use Rattle.abc_lines.specs.declared.book.Line.{Line}
-use Rattle.abc_lines.specs.declared.book.TuneText.{TuneText}
-use Rattle.abc_lines.specs.declared.book.Book.{Book}
+use Rattle.abc_lines.specs.{declared.book.Line.Line, declared.book.TuneText.TuneText, declared.book.Book.Book}
 
 -- a line has at most 2^30 bytes
 abbrev pub IsGoodLine : Line → Type 0

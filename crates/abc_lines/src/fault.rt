@@ -46,6 +46,10 @@ pub enum FaultKind {
     TooManyEvents,
     /// A ninth line of words on one music line.
     TooManyVerses,
+    /// `%%score` pairs its signs badly, or names no voice, one twice or one that isn't there.
+    BadScore,
+    /// Two voices of one staff differ in first clef, key or meter, or in their changes.
+    BadShare,
     /// A key, a sign or a head that can't be moved so far.
     BadMove,
     /// No legal breaking; `reached` is the greatest bar at which a legal prefix ends.

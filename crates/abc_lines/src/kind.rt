@@ -1,5 +1,4 @@
-ghost use Rattle.std.specs.Prelude.{◌≡◌, ◌≤◌, length, drop};
-ghost use Rattle.std.specs.List.{prefix_len};
+ghost use Rattle.std.specs.{Prelude.◌≡◌, Prelude.◌≤◌, Prelude.length, Prelude.drop, List.prefix_len};
 ghost use Rattle.abc_lines.specs.Kinds.{is_blank, is_letter, is_music_letter, begins_bar, is_field, is_percent_line, field_kind, kind_of, behind_blanks, field_text};
 
 use crate::book::Line;

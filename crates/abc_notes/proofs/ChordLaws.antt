@@ -1,25 +1,14 @@
 -- Reading a chord gives the longest, and where there is none its fault is found.
 use Rattle.std.proofs.Common.{◌≡◌, ℕ, ◌+◌, ◌-◌, ◌≤◌, ◌<◌, Bool, true, false, cond, eqb, zero, suc, List, [], ◌∷◌, ◌++◌, length, take, drop, Option, Some, None, refl, sym, ap, ◌∙◌, subst, arith, inl, inr, ◌⊎◌, append_assoc, append-nil, add-one, ◌&&◌, ◌||◌, not, IfSome, option_map}
-use Rattle.std.specs.List.{list_all}
-use Rattle.std.proofs.lemmas.Bool.{cond_both, and_parts, eqb-true, ne_eqb, not-false, not-true}
-use Rattle.std.proofs.lemmas.List.{length-append, append_cancel_left, append_cancel_right, nil_from_length}
-use Rattle.std.proofs.Math.Seq.{take-append_seam, drop-append_seam}
-use Rattle.std.proofs.Math.Bool.{or-false, or_assoc}
-use Rattle.std.proofs.lemmas.Option.{same_Some}
+use Rattle.std.proofs.lemmas.{Bool.cond_both, Bool.and_parts, Bool.eqb-true, Bool.ne_eqb, Bool.not-false, Bool.not-true, List.length-append, List.append_cancel_left, List.append_cancel_right, List.nil_from_length}
+use Rattle.std.{proofs.Math.Seq.take-append_seam, proofs.Math.Seq.drop-append_seam, proofs.Math.Bool.or-false, proofs.Math.Bool.or_assoc, proofs.lemmas.Option.same_Some, specs.List.list_all}
 use Rattle.abc_lines.specs.declared.fault.FaultKind.TheVariants.{BadByte, Unclosed}
-use Rattle.abc_notes.specs.declared.part.Flaw.{Flaw}
-use Rattle.abc_notes.specs.Runs.{span_all, begins}
-use Rattle.abc_notes.specs.Decorations.{is_name_byte}
-use Rattle.abc_notes.specs.Lengths.{LengthForm, length_then, IsLength, length_at}
-use Rattle.abc_notes.specs.Parts.{HasNone, no_part, then_part, walk, is_done, spelled_then, later_or}
-use Rattle.abc_notes.specs.Items.{Inner, lone_inside, inner_then, IsName, StandsInside, has_length, InnerParts, InnerFlawed, name_at, item_class, inner_at}
 use Rattle.abc_notes.specs.Chords.{ChordForm, InnerLeads, is_inside, is_bracket, has_head, chord_then, IsChord, ChordFault, chord_unclosed, chord_open, chord_headless, chord_flawed, bracket_here, bracket_in, bracket_in_name, last_bracket, bracket_at, chord_from, chord_at}
-use Rattle.abc_notes.proofs.SpanLaws.{span_all-takes, span_all-pass, span_all-after, span_all-append, span_all-stops}
-use Rattle.abc_notes.proofs.LengthLaws.{length_at-takes, length_at-reaches}
-use Rattle.abc_notes.proofs.ItemLaws.{name_at-takes, name_at-reads}
-use Rattle.abc_notes.proofs.PartLaws.{stands_at, less, longest_of, none_of, longest_is, walk-none, walk-some, parts_of_walk, walk_of_parts}
-use Rattle.abc_notes.proofs.InnerLaws.{inner_reader, length-length_then}
 use Rattle.abc_notes.proofs.CutLaws.{inner_append, inner_local, read_cut, walk_spells, leads_of_walk, free, CrossesIn, crossing, lone_at, clear_parts, all_parts, cut_at, Cut, first_same, rest_same, length_append, length_free, all_span}
+use Rattle.abc_notes.specs.{declared.part.Flaw.Flaw, Runs.span_all, Runs.begins, Decorations.is_name_byte, Lengths.LengthForm, Lengths.length_then, Lengths.IsLength, Lengths.length_at, Parts.HasNone, Parts.no_part, Parts.then_part, Parts.walk, Parts.is_done, Parts.spelled_then, Parts.later_or}
+use Rattle.abc_notes.specs.Items.{Inner, lone_inside, inner_then, IsName, StandsInside, has_length, InnerParts, InnerFlawed, name_at, item_class, inner_at}
+use Rattle.abc_notes.proofs.{SpanLaws.span_all-takes, SpanLaws.span_all-pass, SpanLaws.span_all-after, SpanLaws.span_all-append, SpanLaws.span_all-stops, LengthLaws.length_at-takes, LengthLaws.length_at-reaches, ItemLaws.name_at-takes, ItemLaws.name_at-reads, PartLaws.stands_at, PartLaws.less}
+use Rattle.abc_notes.proofs.{PartLaws.longest_of, PartLaws.none_of, PartLaws.longest_is, PartLaws.walk-none, PartLaws.walk-some, PartLaws.parts_of_walk, PartLaws.walk_of_parts, InnerLaws.inner_reader, InnerLaws.length-length_then}
 
 inside_wide : (b : ℕ) → free b ≡ true → is_inside b ≡ true
 inside_wide b h = (and_parts (not (eqb b 93)) (not (eqb b 125)) h).0

@@ -1,30 +1,14 @@
 -- The last brace within a chord at which a grace group may end stands behind one of the shorter
 -- chords that begin at the same bracket.
 use Rattle.std.proofs.Common.{◌≡◌, ℕ, suc, ◌+◌, ◌-◌, ◌≤◌, Bool, true, false, cond, eqb, List, [], ◌∷◌, ◌++◌, length, take, drop, Bor, Option, Some, None, refl, sym, ap, ◌∙◌, subst, arith, append_assoc, append-nil, not, ◌&&◌, ◌||◌, IfSome, option_map}
-use Rattle.std.specs.List.{list_all}
-use Rattle.std.proofs.lemmas.Bool.{cond_both, and_parts, eqb-true, not-true}
-use Rattle.std.proofs.lemmas.List.{length-append, append_cancel_right, nil_from_length}
-use Rattle.std.proofs.Math.Seq.{drop-append_seam}
-use Rattle.abc_notes.specs.declared.part.GraceChord.{GraceChord}
-use Rattle.abc_notes.specs.declared.part.GraceItem.{GraceItem}
-use Rattle.abc_notes.specs.declared.part.GraceItem.TheVariants as found
-use Rattle.abc_notes.specs.declared.part.ItemClass.TheVariants as class
-use Rattle.abc_notes.specs.Runs.{span_all}
-use Rattle.abc_notes.specs.Decorations.{is_name_byte}
-use Rattle.abc_notes.specs.Parts.{no_part, then_part, walk, is_done, later_or}
-use Rattle.abc_notes.specs.Items.{Inner, named_inside, lone_inside, inner_then, IsInner, IsName, has_length, InnerParts, name_at, named_or, inner_at}
-use Rattle.abc_notes.specs.Chords.{is_inside, has_head, bracket_in_name, bracket_at}
-use Rattle.abc_notes.specs.declared.part.Len.{Len}
-use Rattle.abc_notes.specs.Lengths.{length_then, length_at, len_of, length_read}
+use Rattle.std.{proofs.lemmas.Bool.cond_both, proofs.lemmas.Bool.and_parts, proofs.lemmas.Bool.eqb-true, proofs.lemmas.Bool.not-true, proofs.lemmas.List.length-append, proofs.lemmas.List.append_cancel_right, proofs.lemmas.List.nil_from_length, proofs.Math.Seq.drop-append_seam, specs.List.list_all}
 use Rattle.abc_notes.specs.Graces.{GracePart, single, chorded, StandsInGrace, is_in_grace, brace_at, brace_in_chord, brace_behind, brace_between, brace_in_item, brace_in_part, inside_of_item, inside_of_part, IsItemAt, stands_behind, at_most_bytes}
-use Rattle.abc_notes.proofs.SpanLaws.{span_all-takes}
-use Rattle.abc_notes.proofs.ItemLaws.{name_at-reads, at_class, bang_class}
-use Rattle.abc_notes.proofs.PartLaws.{stands_at, longest_is, walk-none, walk-some, walk_of_parts}
-use Rattle.abc_notes.proofs.LengthLaws.{length_at-takes}
-use Rattle.abc_notes.proofs.InnerLaws.{inner_reader, length-length_then}
-use Rattle.abc_notes.proofs.CutLaws.{inner_append, length_append, inner_local, read_cut, all_parts, lone_at, is_named, first_same}
-use Rattle.abc_notes.proofs.ChordLaws.{is_lone, last_at, last_at-none, last_at-some, bracket_at-closes, bracket_within, in_name-finds, later_assoc, later_none, cut_off}
-use Rattle.abc_notes.proofs.GraceLaws.{FoundPart, part_reader, ClosedGroup, brace_at-closes, none_there, chord-none, chord-some}
+use Rattle.abc_notes.specs.{declared.part.GraceChord.GraceChord, declared.part.GraceItem.GraceItem, Runs.span_all, Decorations.is_name_byte, Parts.no_part, Parts.then_part, Parts.walk, Parts.is_done, Parts.later_or, Items.Inner, Items.named_inside, Items.lone_inside, Items.inner_then, Items.IsInner}
+use Rattle.abc_notes.specs.{Items.IsName, Items.has_length, Items.InnerParts, Items.name_at, Items.named_or, Items.inner_at, Chords.is_inside, Chords.has_head, Chords.bracket_in_name, Chords.bracket_at, declared.part.Len.Len, Lengths.length_then, Lengths.length_at, Lengths.len_of}
+use Rattle.abc_notes.{specs.Lengths.length_read, specs.declared.part.ItemClass.ItemClass, proofs.SpanLaws.span_all-takes, proofs.ItemLaws.name_at-reads, proofs.ItemLaws.at_class, proofs.ItemLaws.bang_class, proofs.PartLaws.stands_at, proofs.PartLaws.longest_is, proofs.PartLaws.walk-none}
+use Rattle.abc_notes.proofs.{PartLaws.walk-some, PartLaws.walk_of_parts, LengthLaws.length_at-takes, InnerLaws.inner_reader, InnerLaws.length-length_then, CutLaws.inner_append, CutLaws.length_append, CutLaws.inner_local, CutLaws.read_cut, CutLaws.all_parts, CutLaws.lone_at, CutLaws.is_named}
+use Rattle.abc_notes.proofs.{CutLaws.first_same, ChordLaws.is_lone, ChordLaws.last_at, ChordLaws.last_at-none, ChordLaws.last_at-some, ChordLaws.bracket_at-closes, ChordLaws.bracket_within, ChordLaws.in_name-finds, ChordLaws.later_assoc, ChordLaws.later_none, ChordLaws.cut_off, GraceLaws.FoundPart}
+use Rattle.abc_notes.proofs.GraceLaws.{part_reader, ClosedGroup, brace_at-closes, none_there, chord-none, chord-some}
 
 -- ---- the bracket in a name that is a part
 
@@ -59,7 +43,7 @@ some_inner : (p q : Inner × List ℕ) → Some p ≡ Some q → p ≡ q
 some_inner p q e = cc
 
 mark_read : (bang : Bool) (s : List ℕ) → bang ≡ false → inner_at bang (33 ∷ s) ≡ named_or (name_at s) s
-mark_read bang s off = at_class bang 33 s class.Bang bang_class ∙ rw off refl
+mark_read bang s off = at_class bang 33 s ItemClass.Bang bang_class ∙ rw off refl
 
 no_name : (r : Option (List ℕ × List ℕ)) (s : List ℕ) → named_or r s ≡ Some (inner_pair lone_inside s) → r ≡ None
 no_name None s e = refl
@@ -313,10 +297,10 @@ clear-none bang w clear = none_there bang (91 ∷ w) (brace_at bang (91 ∷ w)) 
 -- ---- the part as the code reads it
 
 same_brace_in : (bang : Bool) (item : GraceItem) (part : GracePart) (text : List ℕ) → inside_of_item item ≡ inside_of_part part → brace_in_item bang item text ≡ brace_in_part bang part text
-same_brace_in bang (found.Part p) (single f) text e = refl
-same_brace_in bang (found.Part p) (chorded f) text e = absurd cc
-same_brace_in bang (found.Chord inside) (single f) text e = absurd cc
-same_brace_in bang (found.Chord inside) (chorded f) text e =
+same_brace_in bang (GraceItem.Part p) (single f) text e = refl
+same_brace_in bang (GraceItem.Part p) (chorded f) text e = absurd cc
+same_brace_in bang (GraceItem.Chord inside) (single f) text e = absurd cc
+same_brace_in bang (GraceItem.Chord inside) (chorded f) text e =
     let same : inside.now ≡ f.inside = cc in
     ap (λ (t : List ℕ). option_map (λ (b : List ℕ). b ++ drop (suc (length t)) text) (brace_in_chord bang t)) same
 
@@ -324,9 +308,9 @@ pub item-brace : (bang : Bool) (item : GraceItem) (text : List ℕ) (body : List
 item-brace bang item text body lengthy behind f = same_brace_in bang item f.part text f.encloses
 
 item_stands : (bang : Bool) (item : GraceItem) (part : GracePart) (text behind : List ℕ) → inside_of_item item ≡ inside_of_part part → StandsInGrace bang part text behind → IsItemAt bang item text
-item_stands bang (found.Part p) part text behind e stands = tt
-item_stands bang (found.Chord inside) (single f) text behind e stands = absurd cc
-item_stands bang (found.Chord inside) (chorded f) text behind e stands =
+item_stands bang (GraceItem.Part p) part text behind e stands = tt
+item_stands bang (GraceItem.Chord inside) (single f) text behind e stands = absurd cc
+item_stands bang (GraceItem.Chord inside) (chorded f) text behind e stands =
     let same : inside.now ≡ f.inside = cc in
     let tail = 93 ∷ length_then f.length behind in
     let drops : drop (suc (length inside.now)) text ≡ tail = ap (λ (t : List ℕ). drop (suc (length t)) text) same ∙ ap (drop (suc (length f.inside))) stands.cut ∙ drop-append_seam (91 ∷ f.inside) tail in (
@@ -382,9 +366,9 @@ drops_in_chord bang text inside brace cut found =
     let line : text ≡ k.front ++ (brace ++ tail) = cut ∙ ap (λ t. t ++ tail) k.cut ∙ append_assoc k.front brace tail in
     ap (λ n. drop n text) count ∙ ap (drop (length k.front)) line ∙ drop-append_seam k.front (brace ++ tail)
 
-pub chord-brace : (bang : Bool) (item : GraceItem) (text brace : List ℕ) (inside : Bor (List ℕ)) → item ≡ found.Chord inside → IsItemAt bang item text → Some brace ≡ brace_in_chord bang inside.now → Some (drop (length inside.now + 1 - length brace) text) ≡ brace_in_item bang item text
+pub chord-brace : (bang : Bool) (item : GraceItem) (text brace : List ℕ) (inside : Bor (List ℕ)) → item ≡ GraceItem.Chord inside → IsItemAt bang item text → Some brace ≡ brace_in_chord bang inside.now → Some (drop (length inside.now + 1 - length brace) text) ≡ brace_in_item bang item text
 chord-brace bang item text brace inside is at some =
-    let here : IsItemAt bang (found.Chord inside) text = subst (λ i. IsItemAt bang i text) is at in
+    let here : IsItemAt bang (GraceItem.Chord inside) text = subst (λ i. IsItemAt bang i text) is at in
     ap Some (drops_in_chord bang text inside.now brace here.2 some)
     ∙ ap (option_map (λ (b : List ℕ). b ++ drop (suc (length inside.now)) text)) some
     ∙ ap (λ i. brace_in_item bang i text) (sym is)

@@ -1,25 +1,11 @@
 -- Parts at the front of a text that goes on, and of the text that is cut off there.
 use Rattle.std.proofs.Common.{◌≡◌, ℕ, zero, suc, ◌≤◌, ◌<◌, Bool, true, false, eqb, List, [], ◌∷◌, ◌++◌, length, Option, Some, None, refl, sym, ap, ◌∙◌, subst, arith, inl, inr, append_assoc, append-nil, ◌&&◌, not, length-append}
-use Rattle.std.specs.List.{list_all}
-use Rattle.std.proofs.lemmas.Bool.{or_cases, and_parts, and_from, eqb-true, ne_eqb}
-use Rattle.std.proofs.lemmas.List.Folds.{list_all-append}
-use Rattle.mus_units.specs.declared.pitch.Alter.{Alter}
-use Rattle.mus_units.specs.declared.pitch.Alter.TheVariants.{Sharp2}
-use Rattle.mus_units.specs.declared.pitch.Letter.{Letter}
-use Rattle.mus_units.specs.declared.pitch.Letter.TheVariants.{C}
-use Rattle.abc_notes.specs.declared.part.ItemClass.TheVariants as class
-use Rattle.mus_units.specs.Bytes.{is_digit}
-use Rattle.abc_notes.specs.Runs.{copies, maybe, is_mark, span_all}
-use Rattle.abc_notes.specs.Lengths.{LengthForm, whole, over, halved, length_then, IsLength}
-use Rattle.abc_notes.specs.Notes.{NoteForm, note_then, sign_then, letter_byte, IsNote}
-use Rattle.abc_notes.specs.Decorations.{is_name_byte}
-use Rattle.abc_notes.specs.Parts.{no_part, then_part, Leads, leads_here, leads_on, walk, spelled_then}
+use Rattle.std.{proofs.lemmas.Bool.or_cases, proofs.lemmas.Bool.and_parts, proofs.lemmas.Bool.and_from, proofs.lemmas.Bool.eqb-true, proofs.lemmas.Bool.ne_eqb, proofs.lemmas.List.Folds.list_all-append, specs.List.list_all}
+use Rattle.mus_units.specs.{declared.pitch.Alter.Alter, declared.pitch.Letter.Letter, Bytes.is_digit, declared.pitch.Alter.TheVariants.Sharp2, declared.pitch.Letter.TheVariants.C}
 use Rattle.abc_notes.specs.Items.{Inner, note_inside, letter_inside, named_inside, tie_inside, passed_inside, lone_inside, inner_then, IsName, is_passed_inside, is_letter_inside, IsInner, StandsInside, InnerParts, closed_name, name_at, inner_at}
-use Rattle.abc_notes.proofs.Bounds.{digit_range}
-use Rattle.abc_notes.proofs.SpanLaws.{span_all-append}
-use Rattle.abc_notes.proofs.LengthLaws.{count-digits}
-use Rattle.abc_notes.proofs.ItemLaws.{below_all, implied, at_class, bang_class}
-use Rattle.abc_notes.proofs.PartLaws.{Reader, stands_at, less, longest_of, walk-none, walk-some}
+use Rattle.abc_notes.specs.{declared.part.ItemClass.ItemClass, Runs.copies, Runs.maybe, Runs.is_mark, Runs.span_all, Lengths.LengthForm, Lengths.whole, Lengths.over, Lengths.halved, Lengths.length_then, Lengths.IsLength, Notes.NoteForm, Notes.note_then, Notes.sign_then, Notes.letter_byte}
+use Rattle.abc_notes.{specs.Notes.IsNote, specs.Decorations.is_name_byte, specs.Parts.no_part, specs.Parts.then_part, specs.Parts.Leads, specs.Parts.leads_here, specs.Parts.leads_on, specs.Parts.walk, specs.Parts.spelled_then, proofs.Bounds.digit_range, proofs.SpanLaws.span_all-append}
+use Rattle.abc_notes.proofs.{LengthLaws.count-digits, ItemLaws.below_all, ItemLaws.implied, ItemLaws.at_class, ItemLaws.bang_class, PartLaws.Reader, PartLaws.stands_at, PartLaws.less, PartLaws.longest_of, PartLaws.walk-none, PartLaws.walk-some}
 
 -- ---- a part and what follows it
 
@@ -258,7 +244,7 @@ unnamed (b ∷ s) = refl
 -- where a name is not closed the exclamation mark is alone
 pub lone_at : (bang : Bool) (s : List ℕ) → bang ≡ false → list_all is_name_byte s ≡ true → inner_at bang (33 ∷ s) ≡ Some (lone_inside, s)
 unfolding name_at
-lone_at bang s off h = at_class bang 33 s class.Bang bang_class ∙ rw (off, all_span is_name_byte s h, unnamed s) refl
+lone_at bang s off h = at_class bang 33 s ItemClass.Bang bang_class ∙ rw (off, all_span is_name_byte s h, unnamed s) refl
 
 pub named_bad : (f : Inner) (rest : List ℕ) → is_named f ≡ true → list_all is_name_byte (inner_then f rest) ≡ true → ⊥
 named_bad (note_inside f) rest n k = absurd cc

@@ -1,20 +1,10 @@
 -- Reading a part of a chord or a grace gives the longest.
 use Rattle.std.proofs.Common.{◌≡◌, ℕ, ◌≤◌, ◌<◌, Bool, true, false, cond, eqb, ltb, List, [], ◌∷◌, ◌++◌, length, Option, Some, None, refl, ap, ◌∙◌, subst, arith, inl, inr, ◌⊎◌, ◌||◌, not, IfSome, option_map, append-nil, length-append}
-use Rattle.std.specs.List.{list_all}
-use Rattle.std.proofs.lemmas.Bool.{cond_both, or_right, or_cases, and_parts, eqb-true, agree_below, agree_below_at, ltb-true}
-use Rattle.mus_units.specs.declared.pitch.Alter.{Alter}
-use Rattle.mus_units.specs.declared.pitch.Alter.TheVariants.{Sharp2}
-use Rattle.mus_units.specs.declared.pitch.Letter.{Letter}
-use Rattle.mus_units.specs.declared.pitch.Letter.TheVariants.{C}
-use Rattle.abc_notes.specs.declared.part.ItemClass.{ItemClass}
-use Rattle.abc_notes.specs.declared.part.ItemClass.TheVariants as class
-use Rattle.abc_notes.specs.Runs.{one_of, span_all}
-use Rattle.abc_notes.specs.Lengths.{length_then}
-use Rattle.abc_notes.specs.Notes.{NoteForm, note_then, sign_then, letter_byte, note_at, IsNote}
-use Rattle.abc_notes.specs.Decorations.{is_deco_letter, is_name_byte}
+use Rattle.std.{proofs.lemmas.Bool.cond_both, proofs.lemmas.Bool.or_right, proofs.lemmas.Bool.or_cases, proofs.lemmas.Bool.and_parts, proofs.lemmas.Bool.eqb-true, proofs.lemmas.Bool.agree_below, proofs.lemmas.Bool.agree_below_at, proofs.lemmas.Bool.ltb-true, specs.List.list_all}
+use Rattle.mus_units.specs.declared.pitch.{Alter.Alter, Letter.Letter, Alter.TheVariants.Sharp2, Letter.TheVariants.C}
 use Rattle.abc_notes.specs.Items.{Inner, note_inside, letter_inside, named_inside, tie_inside, slur_inside, passed_inside, lone_inside, inner_then, IsName, is_passed_inside, is_letter_inside, IsInner, StandsInside, ReadInner, inner_read, closed_name, name_at, is_note_byte, item_class, dot_inside, named_or, inner_by_class, inner_at}
-use Rattle.abc_notes.proofs.SpanLaws.{span_all-takes, span_all-pass, span_all-append, span_all-stops}
-use Rattle.abc_notes.proofs.NoteLaws.{TakesNote, note_at-takes, note_at-reaches}
+use Rattle.abc_notes.specs.{declared.part.ItemClass.ItemClass, Runs.one_of, Runs.span_all, Lengths.length_then, Notes.NoteForm, Notes.note_then, Notes.sign_then, Notes.letter_byte, Notes.note_at, Notes.IsNote, Decorations.is_deco_letter, Decorations.is_name_byte}
+use Rattle.abc_notes.proofs.{SpanLaws.span_all-takes, SpanLaws.span_all-pass, SpanLaws.span_all-append, SpanLaws.span_all-stops, NoteLaws.TakesNote, NoteLaws.note_at-takes, NoteLaws.note_at-reaches}
 
 abbrev pair : List ℕ → List ℕ → List ℕ × List ℕ
 pair a b = (a, b)
@@ -70,13 +60,13 @@ abbrev pub TakesInner : Bool → List ℕ → ReadInner → Type 0
 TakesInner bang s r = IfSome r (λ z. StandsInside bang z.0 s z.1)
 
 abbrev Fact : ItemClass → ℕ → Type 0
-Fact class.Note b = Unit {0}
-Fact class.Dot b = b ≡ 46
-Fact class.Letter b = is_deco_letter b ≡ true
-Fact class.Tie b = b ≡ 45
-Fact class.Passed b = is_passed_inside b ≡ true
-Fact class.Bang b = b ≡ 33
-Fact class.Nothing b = Unit {0}
+Fact ItemClass.Note b = Unit {0}
+Fact ItemClass.Dot b = b ≡ 46
+Fact ItemClass.Letter b = is_deco_letter b ≡ true
+Fact ItemClass.Tie b = b ≡ 45
+Fact ItemClass.Passed b = is_passed_inside b ≡ true
+Fact ItemClass.Bang b = b ≡ 33
+Fact ItemClass.Nothing b = Unit {0}
 
 fact : (b : ℕ) → Fact (item_class b) b
 unfolding item_class
@@ -107,13 +97,13 @@ bang-takes bang s None off t = record { good = off; cut = refl }
 bang-takes bang s (Some z) off t = record { good = (off, t.0); cut = ap (λ x. 33 ∷ x) t.1 }
 
 by-takes : (c : ItemClass) (bang : Bool) (b : ℕ) (s : List ℕ) → Fact c b → TakesInner bang (b ∷ s) (inner_by_class c bang b s)
-by-takes class.Note bang b s h = from_note bang (b ∷ s) (note_at (b ∷ s)) (note_at-takes (b ∷ s))
-by-takes class.Dot bang b s h = rw h (dot-takes bang s)
-by-takes class.Letter bang b s h = record { good = or_right (eqb b 46) (is_deco_letter b) h; cut = refl }
-by-takes class.Tie bang b s h = record { good = tt; cut = ap (λ x. x ∷ s) h }
-by-takes class.Passed bang b s h = record { good = h; cut = refl }
-by-takes class.Bang bang b s h = rw h (cond_both bang None (named_or (name_at s) s) (TakesInner bang (33 ∷ s)) (λ e. tt) (λ e. bang-takes bang s (name_at s) e (name_at-takes s)))
-by-takes class.Nothing bang b s h = tt
+by-takes ItemClass.Note bang b s h = from_note bang (b ∷ s) (note_at (b ∷ s)) (note_at-takes (b ∷ s))
+by-takes ItemClass.Dot bang b s h = rw h (dot-takes bang s)
+by-takes ItemClass.Letter bang b s h = record { good = or_right (eqb b 46) (is_deco_letter b) h; cut = refl }
+by-takes ItemClass.Tie bang b s h = record { good = tt; cut = ap (λ x. x ∷ s) h }
+by-takes ItemClass.Passed bang b s h = record { good = h; cut = refl }
+by-takes ItemClass.Bang bang b s h = rw h (cond_both bang None (named_or (name_at s) s) (TakesInner bang (33 ∷ s)) (λ e. tt) (λ e. bang-takes bang s (name_at s) e (name_at-takes s)))
+by-takes ItemClass.Nothing bang b s h = tt
 
 pub inner_at-takes : (bang : Bool) (s : List ℕ) → TakesInner bang s (inner_at bang s)
 unfolding inner_at
@@ -156,34 +146,34 @@ unfolding inner_at
 at_class bang b s c h = rw h refl
 
 abbrev is_Letter : ItemClass → Bool
-is_Letter class.Letter = true
+is_Letter ItemClass.Letter = true
 is_Letter _ = false
 
 abbrev is_Passed : ItemClass → Bool
-is_Passed class.Passed = true
+is_Passed ItemClass.Passed = true
 is_Passed _ = false
 
-Letter-is : (c : ItemClass) → is_Letter c ≡ true → c ≡ class.Letter
-Letter-is class.Letter h = refl
+Letter-is : (c : ItemClass) → is_Letter c ≡ true → c ≡ ItemClass.Letter
+Letter-is ItemClass.Letter h = refl
 Letter-is _ h = absurd cc
 
-Passed-is : (c : ItemClass) → is_Passed c ≡ true → c ≡ class.Passed
-Passed-is class.Passed h = refl
+Passed-is : (c : ItemClass) → is_Passed c ≡ true → c ≡ ItemClass.Passed
+Passed-is ItemClass.Passed h = refl
 Passed-is _ h = absurd cc
 
-letter_class : (b : ℕ) → is_deco_letter b ≡ true → item_class b ≡ class.Letter
+letter_class : (b : ℕ) → is_deco_letter b ≡ true → item_class b ≡ ItemClass.Letter
 unfolding item_class
 letter_class b h = Letter-is (item_class b) (implied is_deco_letter (λ x. is_Letter (item_class x)) 127 b refl (below_all (126 ∷ 72 ∷ 76 ∷ 77 ∷ 79 ∷ 80 ∷ 83 ∷ 84 ∷ 117 ∷ 118 ∷ []) 127 b refl h) h)
 
-passed_class : (b : ℕ) → is_passed_inside b ≡ true → item_class b ≡ class.Passed
+passed_class : (b : ℕ) → is_passed_inside b ≡ true → item_class b ≡ ItemClass.Passed
 unfolding item_class
 passed_class b h = Passed-is (item_class b) (implied is_passed_inside (λ x. is_Passed (item_class x)) 42 b refl (below_all (32 ∷ 9 ∷ 40 ∷ 41 ∷ []) 42 b refl h) h)
 
-dot_class : item_class 46 ≡ class.Dot
+dot_class : item_class 46 ≡ ItemClass.Dot
 unfolding item_class
 dot_class = refl
 
-pub bang_class : item_class 33 ≡ class.Bang
+pub bang_class : item_class 33 ≡ ItemClass.Bang
 unfolding item_class
 bang_class = refl
 
@@ -199,8 +189,8 @@ dot-reaches (b ∷ x) =
 letter-reaches : (bang : Bool) (b : ℕ) (x : List ℕ) → is_letter_inside b ≡ true → ReachesInner x (letter_inside b) (inner_at bang (b ∷ x))
 letter-reaches bang b x h =
     elim (or_cases (eqb b 46) (is_deco_letter b) h) [
-      | inl dot ↦ rw (eqb-true b 46 dot, at_class bang 46 x class.Dot dot_class) (dot-reaches x)
-      | inr letter ↦ rw (at_class bang b x class.Letter (letter_class b letter)) (same x (letter_inside b))
+      | inl dot ↦ rw (eqb-true b 46 dot, at_class bang 46 x ItemClass.Dot dot_class) (dot-reaches x)
+      | inr letter ↦ rw (at_class bang b x ItemClass.Letter (letter_class b letter)) (same x (letter_inside b))
     ]
 
 lone-reaches : (x : List ℕ) (r : Option (List ℕ × List ℕ)) → IfSome r (λ z. IsName z.0 × (x ≡ z.0 ++ (33 ∷ z.1))) → ReachesInner x lone_inside (named_or r x)
@@ -211,9 +201,9 @@ pub inner_at-reaches : (bang : Bool) (f : Inner) (x : List ℕ) → IsInner bang
 unfolding item_class
 inner_at-reaches bang (note_inside f) x good = rw (by_sign bang f.sign f.low f.letter (f.marks ++ length_then f.length x)) (note-reaches f x good)
 inner_at-reaches bang (letter_inside b) x good = letter-reaches bang b x good
-inner_at-reaches bang (named_inside name) x good = rw (at_class bang 33 (name ++ (33 ∷ x)) class.Bang bang_class, good.0, name_at-reads name x good.1) (same x (named_inside name))
-inner_at-reaches bang (tie_inside true) x good = rw (at_class bang 46 (45 ∷ x) class.Dot dot_class) (same x (tie_inside true))
-inner_at-reaches bang (tie_inside false) x good = rw (at_class bang 45 x class.Tie refl) (same x (tie_inside false))
-inner_at-reaches bang slur_inside x good = rw (at_class bang 46 (40 ∷ x) class.Dot dot_class) (same x slur_inside)
-inner_at-reaches bang (passed_inside b) x good = rw (at_class bang b x class.Passed (passed_class b good)) (same x (passed_inside b))
-inner_at-reaches bang lone_inside x good = rw (at_class bang 33 x class.Bang bang_class, good) (lone-reaches x (name_at x) (name_at-takes x))
+inner_at-reaches bang (named_inside name) x good = rw (at_class bang 33 (name ++ (33 ∷ x)) ItemClass.Bang bang_class, good.0, name_at-reads name x good.1) (same x (named_inside name))
+inner_at-reaches bang (tie_inside true) x good = rw (at_class bang 46 (45 ∷ x) ItemClass.Dot dot_class) (same x (tie_inside true))
+inner_at-reaches bang (tie_inside false) x good = rw (at_class bang 45 x ItemClass.Tie refl) (same x (tie_inside false))
+inner_at-reaches bang slur_inside x good = rw (at_class bang 46 (40 ∷ x) ItemClass.Dot dot_class) (same x slur_inside)
+inner_at-reaches bang (passed_inside b) x good = rw (at_class bang b x ItemClass.Passed (passed_class b good)) (same x (passed_inside b))
+inner_at-reaches bang lone_inside x good = rw (at_class bang 33 x ItemClass.Bang bang_class, good) (lone-reaches x (name_at x) (name_at-takes x))

@@ -3,16 +3,11 @@
 use Prim.Native.Char.{code}
 use Rattle.std.specs.Prelude.{◌≡◌, ◌≤◌, ◌-◌, ℕ, suc, List, [], ◌∷◌, ◌++◌, length, take, drop, map, Bool, true, false, not, ◌==◌, ◌||◌, ◌&&◌, if◌then◌else◌, Option, Some, None}
 use Rattle.std.specs.List.{list_all}
-use Rattle.mus_units.specs.declared.note.Head.{Head}
-use Rattle.mus_units.specs.declared.note.Deco.{Deco}
+use Rattle.mus_units.specs.{declared.note.Head.Head, declared.note.Deco.Deco}
 use Rattle.abc_lines.specs.declared.fault.FaultKind.TheVariants.{BadByte, Unclosed}
-use Rattle.abc_notes.specs.declared.part.Flaw.{Flaw}
-use Rattle.abc_notes.specs.declared.part.Len.{Len}
-use Rattle.abc_notes.specs.Runs.{span_all}
-use Rattle.abc_notes.specs.Lengths.{LengthForm, length_then, IsLength, length_at}
-use Rattle.abc_notes.specs.Decorations.{deco_of_letter, deco_of_name}
 use Rattle.abc_notes.specs.Items.{Inner, Sense, says_note, says_letter, says_name, says_tie, says_nothing, sense, inner_then, has_length, StandsInside, InnerParts, InnerFlawed, name_at, inner_at}
-use Rattle.abc_notes.specs.Parts.{HasNone, Leads, walk, is_done, spelled_then, later_or}
+use Rattle.abc_notes.specs.{declared.part.Flaw.Flaw, declared.part.Len.Len, Runs.span_all, Lengths.LengthForm, Lengths.length_then, Lengths.IsLength, Lengths.length_at, Decorations.deco_of_letter, Decorations.deco_of_name, Parts.HasNone, Parts.Leads, Parts.walk, Parts.is_done, Parts.spelled_then}
+use Rattle.abc_notes.specs.Parts.{later_or}
 
 pub record ChordForm : Type 0 where
   pub inside : List ℕ

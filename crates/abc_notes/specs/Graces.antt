@@ -5,14 +5,8 @@ use Rattle.std.specs.Prelude.{◌≡◌, ◌≤◌, ◌<◌, ◌-◌, ℕ, zero,
 use Rattle.std.specs.List.{list_all}
 use Rattle.mus_units.specs.declared.note.Head.{Head}
 use Rattle.abc_lines.specs.declared.fault.FaultKind.TheVariants.{Unclosed}
-use Rattle.abc_notes.specs.declared.part.Flaw.{Flaw}
-use Rattle.abc_notes.specs.declared.part.GraceChord.{GraceChord}
-use Rattle.abc_notes.specs.declared.part.GraceItem.{GraceItem}
-use Rattle.abc_notes.specs.declared.part.GraceItem.TheVariants as found
-use Rattle.abc_notes.specs.Runs.{maybe, skip, span_all, begins}
 use Rattle.abc_notes.specs.Items.{Inner, Sense, says_note, says_letter, says_name, says_tie, says_nothing, sense, inner_then, IsInner, has_length, name_at, inner_at, IsBadByte, sense_of, is_note}
-use Rattle.abc_notes.specs.Chords.{ChordForm, chord_then, IsChord, ChordFault, chord_at, senses}
-use Rattle.abc_notes.specs.Lengths.{length_at}
+use Rattle.abc_notes.specs.{declared.part.Flaw.Flaw, declared.part.GraceChord.GraceChord, declared.part.GraceItem.GraceItem, Runs.maybe, Runs.skip, Runs.span_all, Runs.begins, Chords.ChordForm, Chords.chord_then, Chords.IsChord, Chords.ChordFault, Chords.chord_at, Chords.senses, Lengths.length_at}
 use Rattle.abc_notes.specs.Parts.{Parts, Leads, Flawed, IsFlaw, goes_on_length, walk, is_done}
 
 pub data GracePart : Type 0 where
@@ -201,25 +195,25 @@ inside_of_part (single part) = None
 inside_of_part (chorded f) = Some f.inside
 
 abbrev pub inside_of_item : GraceItem → Option (List ℕ)
-inside_of_item (found.Part part) = None
-inside_of_item (found.Chord inside) = Some inside.now
+inside_of_item (GraceItem.Part part) = None
+inside_of_item (GraceItem.Chord inside) = Some inside.now
 
 -- a part that the code has read off a text
 abbrev pub IsItemAt : Bool → GraceItem → List ℕ → Type 0
-IsItemAt bang (found.Part part) text = Unit {0}
-IsItemAt bang (found.Chord inside) text = (length inside.now < length text) × (is_done (walk (inner_at bang) inside.now) ≡ true) × (text ≡ (code "[" ∷ inside.now) ++ drop (suc (length inside.now)) text)
+IsItemAt bang (GraceItem.Part part) text = Unit {0}
+IsItemAt bang (GraceItem.Chord inside) text = (length inside.now < length text) × (is_done (walk (inner_at bang) inside.now) ≡ true) × (text ≡ (code "[" ∷ inside.now) ++ drop (suc (length inside.now)) text)
 
 abbrev pub brace_in_item : Bool → GraceItem → List ℕ → Option (List ℕ)
-brace_in_item bang (found.Part part) text = brace_in_name bang text
-brace_in_item bang (found.Chord inside) text = option_map (λ brace. brace ++ drop (suc (length inside.now)) text) (brace_in_chord bang inside.now)
+brace_in_item bang (GraceItem.Part part) text = brace_in_name bang text
+brace_in_item bang (GraceItem.Chord inside) text = option_map (λ brace. brace ++ drop (suc (length inside.now)) text) (brace_in_chord bang inside.now)
 
 abbrev pub body_of_item : Bool → GraceItem → List GraceChord
-body_of_item bang (found.Part part) = body_of_sense (sense_of part)
-body_of_item bang (found.Chord inside) = record { heads = heads_in (senses bang inside.now) } ∷ []
+body_of_item bang (GraceItem.Part part) = body_of_sense (sense_of part)
+body_of_item bang (GraceItem.Chord inside) = record { heads = heads_in (senses bang inside.now) } ∷ []
 
 abbrev pub item_has_length : GraceItem → Bool
-item_has_length (found.Part part) = is_note (sense_of part)
-item_has_length (found.Chord inside) = true
+item_has_length (GraceItem.Part part) = is_note (sense_of part)
+item_has_length (GraceItem.Chord inside) = true
 
 abbrev pub body_inside : Bool → List ℕ → List GraceChord
 body_inside bang inside = body_of (walk (grace_part_at bang) inside).0
@@ -241,8 +235,8 @@ IsPartFlaw bang before (byte ∷ rest) flaw = IsFlaw (IsGraceOwn bang) before by
 
 -- the text of a chord that is a part has at most so many bytes
 abbrev pub item_within : GraceItem → ℕ → Type 0
-item_within (found.Part part) most = Unit {0}
-item_within (found.Chord inside) most = length inside.now ≤ most
+item_within (GraceItem.Part part) most = Unit {0}
+item_within (GraceItem.Chord inside) most = length inside.now ≤ most
 
 abbrev pub goes_on_first : List ℕ → Bool
 goes_on_first [] = false

@@ -5,17 +5,8 @@ use Rattle.std.specs.Prelude.{◌≡◌, ◌≤◌, ℕ, List, [], ◌∷◌, �
 use Rattle.std.specs.List.{list_all}
 use Rattle.mus_units.specs.declared.note.Head.{Head}
 use Rattle.abc_lines.specs.declared.fault.FaultKind.TheVariants.{BadByte, BadLength}
-use Rattle.abc_notes.specs.declared.part.Flaw.{Flaw}
-use Rattle.abc_notes.specs.declared.part.Len.{Len}
-use Rattle.abc_notes.specs.declared.part.Item.{Item}
-use Rattle.abc_notes.specs.declared.part.Item.TheVariants as item
-use Rattle.abc_notes.specs.declared.part.ItemClass.{ItemClass}
-use Rattle.abc_notes.specs.declared.part.ItemClass.TheVariants as class
-use Rattle.abc_notes.specs.Runs.{maybe, one_of, is_note_letter, span_all}
-use Rattle.abc_notes.specs.Lengths.{len_of}
-use Rattle.abc_notes.specs.Notes.{NoteForm, note_then, IsNote, head_of, note_at}
-use Rattle.abc_notes.specs.Decorations.{is_deco_letter, is_name_byte}
-use Rattle.abc_notes.specs.Parts.{Parts, Flawed, goes_on_length}
+use Rattle.abc_notes.specs.{declared.part.Flaw.Flaw, declared.part.Len.Len, declared.part.Item.Item, declared.part.ItemClass.ItemClass, Runs.maybe, Runs.one_of, Runs.is_note_letter, Runs.span_all, Lengths.len_of, Notes.NoteForm, Notes.note_then, Notes.IsNote, Notes.head_of, Notes.note_at}
+use Rattle.abc_notes.specs.{Decorations.is_deco_letter, Decorations.is_name_byte, Parts.Parts, Parts.Flawed, Parts.goes_on_length}
 
 pub data Inner : Type 0 where
   note_inside : NoteForm → Inner
@@ -120,13 +111,13 @@ is_note_byte byte = is_note_letter byte || one_of (codes "^_=") byte
 
 unfoldable pub item_class : ℕ → ItemClass
 item_class byte =
-    if is_note_byte byte then class.Note
-    else (if byte == code "." then class.Dot
-    else (if is_deco_letter byte then class.Letter
-    else (if byte == code "-" then class.Tie
-    else (if is_passed_inside byte then class.Passed
-    else (if byte == code "!" then class.Bang
-    else class.Nothing)))))
+    if is_note_byte byte then ItemClass.Note
+    else (if byte == code "." then ItemClass.Dot
+    else (if is_deco_letter byte then ItemClass.Letter
+    else (if byte == code "-" then ItemClass.Tie
+    else (if is_passed_inside byte then ItemClass.Passed
+    else (if byte == code "!" then ItemClass.Bang
+    else ItemClass.Nothing)))))
 
 abbrev pub dot_inside : List ℕ → ReadInner
 dot_inside [] = inner_read (letter_inside (code ".")) []
@@ -140,13 +131,13 @@ named_or None text = inner_read lone_inside text
 named_or (Some named) text = inner_read (named_inside named.0) named.1
 
 abbrev pub inner_by_class : ItemClass → Bool → ℕ → List ℕ → ReadInner
-inner_by_class class.Note bang byte rest = option_map (λ z. (note_inside z.0, z.1)) (note_at (byte ∷ rest))
-inner_by_class class.Dot bang byte rest = dot_inside rest
-inner_by_class class.Letter bang byte rest = inner_read (letter_inside byte) rest
-inner_by_class class.Tie bang byte rest = inner_read (tie_inside false) rest
-inner_by_class class.Passed bang byte rest = inner_read (passed_inside byte) rest
-inner_by_class class.Bang bang byte rest = if bang then None else named_or (name_at rest) rest
-inner_by_class class.Nothing bang byte rest = None
+inner_by_class ItemClass.Note bang byte rest = option_map (λ z. (note_inside z.0, z.1)) (note_at (byte ∷ rest))
+inner_by_class ItemClass.Dot bang byte rest = dot_inside rest
+inner_by_class ItemClass.Letter bang byte rest = inner_read (letter_inside byte) rest
+inner_by_class ItemClass.Tie bang byte rest = inner_read (tie_inside false) rest
+inner_by_class ItemClass.Passed bang byte rest = inner_read (passed_inside byte) rest
+inner_by_class ItemClass.Bang bang byte rest = if bang then None else named_or (name_at rest) rest
+inner_by_class ItemClass.Nothing bang byte rest = None
 
 unfoldable pub inner_at : Bool → List ℕ → ReadInner
 inner_at bang [] = None
@@ -154,11 +145,11 @@ inner_at bang (byte ∷ rest) = inner_by_class (item_class byte) bang byte rest
 
 -- what the code has read of a part
 abbrev pub sense_of : Item → Sense
-sense_of (item.Note head len) = says_note head len
-sense_of (item.Letter byte) = says_letter byte
-sense_of (item.Named name) = says_name name.now
-sense_of item.Tie = says_tie
-sense_of item.Passed = says_nothing
+sense_of (Item.Note head len) = says_note head len
+sense_of (Item.Letter byte) = says_letter byte
+sense_of (Item.Named name) = says_name name.now
+sense_of Item.Tie = says_tie
+sense_of Item.Passed = says_nothing
 
 abbrev pub sensed : Sense → List ℕ → Sense × List ℕ
 sensed part rest = (part, rest)

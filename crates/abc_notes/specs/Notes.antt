@@ -4,14 +4,9 @@
 use Prim.Native.Char.{code}
 use Rattle.std.specs.Prelude.{◌≡◌, ℕ, ℤ, pos, ◌+ℤ◌, ◌-ℤ◌, List, [], ◌∷◌, ◌++◌, Bool, true, false, ◌==◌, if◌then◌else◌, Option, Some, None, count_by}
 use Rattle.std.specs.List.{list_all}
-use Rattle.mus_units.specs.declared.pitch.Alter.{Alter}
-use Rattle.mus_units.specs.declared.pitch.Alter.TheVariants.{Flat2, Flat, Natural, Sharp, Sharp2}
-use Rattle.mus_units.specs.declared.pitch.Letter.{Letter}
-use Rattle.mus_units.specs.declared.pitch.Letter.TheVariants.{C, D, E, F, G, A, B}
-use Rattle.mus_units.specs.declared.note.Head.{Head}
-use Rattle.abc_notes.specs.declared.part.Len.{Len}
-use Rattle.abc_notes.specs.Runs.{skip, span_all, is_mark}
-use Rattle.abc_notes.specs.Lengths.{LengthForm, length_then, IsLength, length_at}
+use Rattle.mus_units.specs.declared.{pitch.Alter.Alter, pitch.Letter.Letter, note.Head.Head, pitch.Alter.TheVariants.Flat2, pitch.Alter.TheVariants.Flat, pitch.Alter.TheVariants.Natural, pitch.Alter.TheVariants.Sharp, pitch.Alter.TheVariants.Sharp2, pitch.Letter.TheVariants.C}
+use Rattle.mus_units.specs.declared.pitch.Letter.TheVariants.{D, E, F, G, A, B}
+use Rattle.abc_notes.specs.{declared.part.Len.Len, Runs.skip, Runs.span_all, Runs.is_mark, Lengths.LengthForm, Lengths.length_then, Lengths.IsLength, Lengths.length_at}
 
 pub record NoteForm : Type 0 where
   pub sign : Option Alter

@@ -2,36 +2,31 @@
 use Rattle.std.proofs.Common.{◌≡◌, ℕ, ◌≤◌, ◌<◌, Bool, true, false, cond, eqb, leb, [], ◌∷◌, refl, subst, arith, inl, inr, ◌||◌, ◌&&◌, not}
 use Rattle.std.proofs.lemmas.Bool.{cond_both, eqb-true, leb-true, or_cases, and_parts, both_ways}
 use Rattle.mus_units.specs.Bytes.{is_digit, is_blank, is_letter}
-use Rattle.abc_pieces.specs.declared.token.Class.{Class}
-use Rattle.abc_pieces.specs.declared.token.Class.TheVariants as class
-use Rattle.abc_notes.specs.Decorations.{is_deco_letter}
-use Rattle.abc_notes.specs.Items.{is_note_byte}
-use Rattle.abc_pieces.specs.Forms.{is_passed, is_passed_sign, is_passed_letter, arrow, rest_byte, measures_byte}
-use Rattle.abc_pieces.specs.Reading.{class_of}
-use Rattle.abc_notes.proofs.ItemLaws.{implied, below_all}
+use Rattle.abc_pieces.specs.{declared.token.Class.Class, Forms.is_passed, Forms.is_passed_sign, Forms.is_passed_letter, Forms.arrow, Forms.rest_byte, Forms.measures_byte, Reading.class_of}
+use Rattle.abc_notes.{specs.Decorations.is_deco_letter, specs.Items.is_note_byte, proofs.ItemLaws.implied, proofs.ItemLaws.below_all}
 
 abbrev pub Fact : Class → ℕ → Type 0
-Fact class.Note b = Unit {0}
-Fact class.Rest b = b ≡ rest_byte (eqb b 122)
-Fact class.Gap b = b ≡ 121
-Fact class.Measures b = b ≡ measures_byte (eqb b 90)
-Fact class.Bar b = Unit {0}
-Fact class.Dot b = b ≡ 46
-Fact class.Bracket b = b ≡ 91
-Fact class.Brace b = b ≡ 123
-Fact class.Paren b = b ≡ 40
-Fact class.Close b = b ≡ 41
-Fact class.Tie b = b ≡ 45
-Fact class.Digit b = is_digit b ≡ true
-Fact class.Broken b = b ≡ arrow (eqb b 62)
-Fact class.Quote b = b ≡ 34
-Fact class.Bang b = b ≡ 33
-Fact class.Plus b = b ≡ 43
-Fact class.Blank b = is_blank b ≡ true
-Fact class.Letter b = is_deco_letter b ≡ true
-Fact class.Dollar b = b ≡ 36
-Fact class.Passed b = is_passed b ≡ true
-Fact class.Nothing b = Unit {0}
+Fact Class.Note b = Unit {0}
+Fact Class.Rest b = b ≡ rest_byte (eqb b 122)
+Fact Class.Gap b = b ≡ 121
+Fact Class.Measures b = b ≡ measures_byte (eqb b 90)
+Fact Class.Bar b = Unit {0}
+Fact Class.Dot b = b ≡ 46
+Fact Class.Bracket b = b ≡ 91
+Fact Class.Brace b = b ≡ 123
+Fact Class.Paren b = b ≡ 40
+Fact Class.Close b = b ≡ 41
+Fact Class.Tie b = b ≡ 45
+Fact Class.Digit b = is_digit b ≡ true
+Fact Class.Broken b = b ≡ arrow (eqb b 62)
+Fact Class.Quote b = b ≡ 34
+Fact Class.Bang b = b ≡ 33
+Fact Class.Plus b = b ≡ 43
+Fact Class.Blank b = is_blank b ≡ true
+Fact Class.Letter b = is_deco_letter b ≡ true
+Fact Class.Dollar b = b ≡ 36
+Fact Class.Passed b = is_passed b ≡ true
+Fact Class.Nothing b = Unit {0}
 
 two : (b c d : ℕ) → (eqb b c || eqb b d) ≡ true → b ≡ cond (eqb b c) c d
 two b c d h = cond_both (eqb b c) c d (λ n. b ≡ n)
@@ -67,52 +62,52 @@ pub fact_of : (b : ℕ) (c : Class) → class_of b ≡ c → Fact c b
 fact_of b c e = subst (λ k. Fact k b) e (fact b)
 
 abbrev is_Digit : Class → Bool
-is_Digit class.Digit = true
+is_Digit Class.Digit = true
 is_Digit _ = false
 
 abbrev is_Blank : Class → Bool
-is_Blank class.Blank = true
+is_Blank Class.Blank = true
 is_Blank _ = false
 
 abbrev is_Letter : Class → Bool
-is_Letter class.Letter = true
+is_Letter Class.Letter = true
 is_Letter _ = false
 
 abbrev is_Passed : Class → Bool
-is_Passed class.Passed = true
+is_Passed Class.Passed = true
 is_Passed _ = false
 
-Digit-is : (c : Class) → is_Digit c ≡ true → c ≡ class.Digit
-Digit-is class.Digit h = refl
+Digit-is : (c : Class) → is_Digit c ≡ true → c ≡ Class.Digit
+Digit-is Class.Digit h = refl
 Digit-is _ h = absurd cc
 
-Blank-is : (c : Class) → is_Blank c ≡ true → c ≡ class.Blank
-Blank-is class.Blank h = refl
+Blank-is : (c : Class) → is_Blank c ≡ true → c ≡ Class.Blank
+Blank-is Class.Blank h = refl
 Blank-is _ h = absurd cc
 
-Letter-is : (c : Class) → is_Letter c ≡ true → c ≡ class.Letter
-Letter-is class.Letter h = refl
+Letter-is : (c : Class) → is_Letter c ≡ true → c ≡ Class.Letter
+Letter-is Class.Letter h = refl
 Letter-is _ h = absurd cc
 
-Passed-is : (c : Class) → is_Passed c ≡ true → c ≡ class.Passed
-Passed-is class.Passed h = refl
+Passed-is : (c : Class) → is_Passed c ≡ true → c ≡ Class.Passed
+Passed-is Class.Passed h = refl
 Passed-is _ h = absurd cc
 
 pub digit_below : (b : ℕ) → is_digit b ≡ true → b < 58
 digit_below b h = let p = and_parts _ _ h in let high = leb-true b 57 p.1 in omega arith
 
-pub digit_class : (b : ℕ) → is_digit b ≡ true → class_of b ≡ class.Digit
+pub digit_class : (b : ℕ) → is_digit b ≡ true → class_of b ≡ Class.Digit
 unfolding class_of
 digit_class b h = Digit-is (class_of b) (implied is_digit (λ x. is_Digit (class_of x)) 58 b refl (digit_below b h) h)
 
 blank_below : (b : ℕ) → is_blank b ≡ true → b < 58
 blank_below b h = elim (or_cases _ _ h) [ inl space ↦ (let e = eqb-true b 32 space in omega arith) | inr tab ↦ (let e = eqb-true b 9 tab in omega arith) ]
 
-pub blank_class : (b : ℕ) → is_blank b ≡ true → class_of b ≡ class.Blank
+pub blank_class : (b : ℕ) → is_blank b ≡ true → class_of b ≡ Class.Blank
 unfolding class_of
 blank_class b h = Blank-is (class_of b) (implied is_blank (λ x. is_Blank (class_of x)) 58 b refl (blank_below b h) h)
 
-pub letter_class : (b : ℕ) → is_deco_letter b ≡ true → class_of b ≡ class.Letter
+pub letter_class : (b : ℕ) → is_deco_letter b ≡ true → class_of b ≡ Class.Letter
 unfolding class_of
 letter_class b h = Letter-is (class_of b) (implied is_deco_letter (λ x. is_Letter (class_of x)) 127 b refl (below_all (126 ∷ 72 ∷ 76 ∷ 77 ∷ 79 ∷ 80 ∷ 83 ∷ 84 ∷ 117 ∷ 118 ∷ []) 127 b refl h) h)
 
@@ -126,7 +121,7 @@ passed_below b h =
       | inr letter ↦ (let p = and_parts (leb 104 b) (leb b 116) letter in let high : b ≤ 116 = leb-true b 116 p.1 in omega arith)
     ]
 
-pub passed_class : (b : ℕ) → is_passed b ≡ true → class_of b ≡ class.Passed
+pub passed_class : (b : ℕ) → is_passed b ≡ true → class_of b ≡ Class.Passed
 unfolding class_of
 passed_class b h = Passed-is (class_of b) (implied is_passed (λ x. is_Passed (class_of x)) 127 b refl (passed_below b h) h)
 

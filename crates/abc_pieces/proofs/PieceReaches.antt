@@ -1,38 +1,17 @@
 -- A piece that is read is as long as each that stands there.
 use Rattle.std.proofs.Common.{◌≡◌, ℕ, zero, suc, ◌+◌, ◌-◌, ◌≤◌, ◌<◌, Bool, true, false, cond, eqb, List, [], ◌∷◌, ◌++◌, length, Option, Some, None, refl, ap, ◌∙◌, subst, arith, inl, inr, ◌⊎◌, ◌||◌, ◌&&◌, not, option_map, IfSome, append-nil, length-append}
-use Rattle.std.specs.List.{list_all}
-use Rattle.std.proofs.lemmas.Bool.{cond_both, or_cases, and_parts, eqb-true, ne_eqb, both_ways, eq-eqb, not-true}
-use Rattle.mus_units.specs.declared.pitch.Alter.{Alter}
-use Rattle.mus_units.specs.declared.pitch.Alter.TheVariants.{Sharp2}
-use Rattle.mus_units.specs.declared.pitch.Letter.{Letter}
-use Rattle.mus_units.specs.declared.pitch.Letter.TheVariants.{C}
-use Rattle.mus_units.specs.Bytes.{is_digit, is_blank, is_letter}
-use Rattle.abc_notes.specs.Runs.{copies, maybe, span, span_all}
-use Rattle.abc_notes.proofs.SpanLaws.{span-append, span-less, span_all-append, span_all-less, span_all-stops, span_all-takes}
+use Rattle.std.{proofs.lemmas.Bool.cond_both, proofs.lemmas.Bool.or_cases, proofs.lemmas.Bool.and_parts, proofs.lemmas.Bool.eqb-true, proofs.lemmas.Bool.ne_eqb, proofs.lemmas.Bool.both_ways, proofs.lemmas.Bool.eq-eqb, proofs.lemmas.Bool.not-true, specs.List.list_all}
+use Rattle.mus_units.specs.{declared.pitch.Alter.Alter, declared.pitch.Letter.Letter, Bytes.is_digit, Bytes.is_blank, Bytes.is_letter, declared.pitch.Alter.TheVariants.Sharp2, declared.pitch.Letter.TheVariants.C}
+use Rattle.abc_notes.specs.{Runs.copies, Runs.maybe, Runs.span, Runs.span_all, Lengths.LengthForm, Lengths.length_then, Lengths.length_at, Lengths.IsLength, Lengths.IsCount, Lengths.number_at, Notes.NoteForm, Notes.note_then, Notes.sign_then, Notes.letter_byte, Notes.IsNote}
+use Rattle.abc_notes.specs.{Decorations.is_deco_letter, Items.IsName, Items.name_at, Items.is_letter_inside, Chords.ChordForm, Chords.chord_then, Chords.is_inside, Chords.IsChord, Graces.GraceForm, Graces.grace_then, Graces.IsGrace}
+use Rattle.abc_notes.proofs.{SpanLaws.span-append, SpanLaws.span-less, SpanLaws.span_all-append, SpanLaws.span_all-less, SpanLaws.span_all-stops, SpanLaws.span_all-takes, LengthLaws.length_at-reaches, LengthLaws.count-reads, NoteLaws.note_at-reaches, ItemLaws.name_at-takes, ItemLaws.name_at-reads}
+use Rattle.abc_notes.proofs.{InnerLaws.length-copies_then, InnerLaws.length-maybe, InnerLaws.length-length_then, InnerLaws.note-longer, ChordLaws.chord_at-reaches, ChordLaws.chord-longer, GraceLaws.grace_at-reaches, GraceLaws.grace-longer}
 use Rattle.abc_pieces.specs.Bars.{BarForm, signs, colons, form_at, spelled as bar_then, IsGood as IsBar}
 use Rattle.abc_pieces.proofs.BarLaws.{TakesIf as TakesBarIf, form_at-takes, form_at-reaches}
-use Rattle.abc_notes.specs.Lengths.{LengthForm, length_then, length_at, IsLength, IsCount, number_at}
-use Rattle.abc_notes.specs.Notes.{NoteForm, note_then, sign_then, letter_byte, IsNote}
-use Rattle.abc_notes.specs.Decorations.{is_deco_letter}
-use Rattle.abc_notes.specs.Items.{IsName, name_at, is_letter_inside}
-use Rattle.abc_notes.specs.Chords.{ChordForm, chord_then, is_inside, IsChord}
-use Rattle.abc_notes.specs.Graces.{GraceForm, grace_then, IsGrace}
-use Rattle.abc_pieces.specs.Tuplets.{TupletForm, tuplet_then, tuplet_at, IsTuplet}
-use Rattle.abc_notes.proofs.LengthLaws.{length_at-reaches, count-reads}
-use Rattle.abc_notes.proofs.NoteLaws.{note_at-reaches}
-use Rattle.abc_notes.proofs.ItemLaws.{name_at-takes, name_at-reads}
-use Rattle.abc_notes.proofs.InnerLaws.{length-copies_then, length-maybe, length-length_then, note-longer}
-use Rattle.abc_notes.proofs.ChordLaws.{chord_at-reaches, chord-longer}
-use Rattle.abc_notes.proofs.GraceLaws.{grace_at-reaches, grace-longer}
-use Rattle.abc_pieces.proofs.TupletLaws.{TakesTuplet, tuplet_at-takes, tuplet_at-reaches, tuplet-longer}
-use Rattle.abc_pieces.specs.declared.token.Before.{Before}
-use Rattle.abc_pieces.specs.declared.token.Class.{Class}
-use Rattle.abc_pieces.specs.declared.token.Class.TheVariants as class
-use Rattle.abc_pieces.specs.declared.token.Opening.TheVariants as opens
 use Rattle.abc_pieces.specs.Forms.{Form, note_form, rest_form, gap_form, measures_form, chord_form, grace_form, tuplet_form, slur_form, close_form, tie_form, broken_form, bar_form, ending_form, letter_form, named_form, says_form, inline_form, cut_form, space_form, passed_form, lone_form, plus_form, spelled, IsGood, IsAllowed, is_ending, is_text, is_plus_byte, is_passed, arrow, rest_byte, measures_byte, is_broken, opening, is_cut}
 use Rattle.abc_pieces.specs.Reading.{Read, read, class_of, note_read, rest_read, gap_read, measures_read, bar_read, chord_read, grace_read, tuplet_read, or_else, ending_read, broken_read, says_read, plus_closed, plus_read, inline_read, space_read, named_or_lone, bang_read, dot_behind, dot_read, opened, by_class, piece_at}
-use Rattle.abc_pieces.proofs.Classes.{digit_below, digit_class, blank_class, letter_class, passed_class, letter_apart}
-use Rattle.abc_pieces.proofs.PieceTakes.{opening-behind}
+use Rattle.abc_pieces.{specs.Tuplets.TupletForm, specs.Tuplets.tuplet_then, specs.Tuplets.tuplet_at, specs.Tuplets.IsTuplet, specs.declared.token.Before.Before, specs.declared.token.Class.Class, proofs.TupletLaws.TakesTuplet, proofs.TupletLaws.tuplet_at-takes, proofs.TupletLaws.tuplet_at-reaches}
+use Rattle.abc_pieces.{proofs.TupletLaws.tuplet-longer, proofs.Classes.digit_below, proofs.Classes.digit_class, proofs.Classes.blank_class, proofs.Classes.letter_class, proofs.Classes.passed_class, proofs.Classes.letter_apart, proofs.PieceTakes.opening-behind, specs.declared.token.Opening.Opening}
 
 pub record Reaches (x : List ℕ) (f : Form) (r : Read) : Type 0 where
   pub form : Form
@@ -215,17 +194,17 @@ at_class : (bang : Bool) (before : Before) (b : ℕ) (s : List ℕ) (c : Class) 
 unfolding piece_at
 at_class bang before b s c h = rw h refl
 
-arrow_class : (right : Bool) → class_of (arrow right) ≡ class.Broken
+arrow_class : (right : Bool) → class_of (arrow right) ≡ Class.Broken
 unfolding class_of
 arrow_class true = refl
 arrow_class false = refl
 
-rest_class : (seen : Bool) → class_of (rest_byte seen) ≡ class.Rest
+rest_class : (seen : Bool) → class_of (rest_byte seen) ≡ Class.Rest
 unfolding class_of
 rest_class true = refl
 rest_class false = refl
 
-measures_class : (seen : Bool) → class_of (measures_byte seen) ≡ class.Measures
+measures_class : (seen : Bool) → class_of (measures_byte seen) ≡ Class.Measures
 unfolding class_of
 measures_class true = refl
 measures_class false = refl
@@ -302,24 +281,24 @@ letter-reaches : (bang : Bool) (before : Before) (b : ℕ) (x : List ℕ) → is
 unfolding class_of dot_read
 letter-reaches bang before b x h =
     elim (or_cases (eqb b 46) (is_deco_letter b) h) [
-      | inl dot ↦ rw (eqb-true b 46 dot, at_class bang before 46 x class.Dot refl) (behind_dot x _ (dot_or x))
-      | inr letter ↦ rw (at_class bang before b x class.Letter (letter_class b letter)) (same x (letter_form b))
+      | inl dot ↦ rw (eqb-true b 46 dot, at_class bang before 46 x Class.Dot refl) (behind_dot x _ (dot_or x))
+      | inr letter ↦ rw (at_class bang before b x Class.Letter (letter_class b letter)) (same x (letter_form b))
     ]
 
 passed-reaches : (bang : Bool) (before : Before) (b : ℕ) (x : List ℕ) → (is_passed b || eqb b 43) ≡ true → Reaches x (passed_form b) (piece_at bang before (b ∷ x))
 unfolding class_of
 passed-reaches bang before b x h =
     elim (or_cases (is_passed b) (eqb b 43) h) [
-      | inl passes ↦ rw (at_class bang before b x class.Passed (passed_class b passes)) (same x (passed_form b))
-      | inr plus ↦ rw (eqb-true b 43 plus, at_class bang before 43 x class.Plus refl) (lone_plus-reaches x)
+      | inl passes ↦ rw (at_class bang before b x Class.Passed (passed_class b passes)) (same x (passed_form b))
+      | inr plus ↦ rw (eqb-true b 43 plus, at_class bang before 43 x Class.Plus refl) (lone_plus-reaches x)
     ]
 
 cut-reaches : (bang : Bool) (before : Before) (b : ℕ) (x : List ℕ) → is_cut bang b ≡ true → Reaches x (cut_form b) (piece_at bang before (b ∷ x))
 unfolding class_of bang_read
 cut-reaches bang before b x h =
     elim (or_cases (eqb b 36) (bang && eqb b 33) h) [
-      | inl dollar ↦ rw (eqb-true b 36 dollar, at_class bang before 36 x class.Dollar refl) (same x (cut_form 36))
-      | inr mark ↦ (let p = and_parts bang (eqb b 33) mark in rw (eqb-true b 33 p.1, at_class bang before 33 x class.Bang refl, p.0) (same x (cut_form 33)))
+      | inl dollar ↦ rw (eqb-true b 36 dollar, at_class bang before 36 x Class.Dollar refl) (same x (cut_form 36))
+      | inr mark ↦ (let p = and_parts bang (eqb b 33) mark in rw (eqb-true b 33 p.1, at_class bang before 33 x Class.Bang refl, p.0) (same x (cut_form 33)))
     ]
 
 -- ---- behind a bracket
@@ -332,44 +311,44 @@ opened_inline bang l t letter =
     let p = and_parts (not (eqb l 124)) (not (is_digit l)) (letter_apart l letter) in
     rw (not-true (eqb l 124) p.0, not-true (is_digit l) p.1, letter) refl
 
-opened_chord : (bang : Bool) (f : ChordForm) (x : List ℕ) → opening (chord_then f []) ≡ opens.Chord → opened (opening (chord_then f x)) bang (chord_then f x) ≡ chord_read bang (chord_then f x)
-opened_chord bang f x h = let e : opening (chord_then f x) ≡ opens.Chord = opening-behind f.inside (length_then f.length x) (length_then f.length []) ∙ h in rw e refl
+opened_chord : (bang : Bool) (f : ChordForm) (x : List ℕ) → opening (chord_then f []) ≡ Opening.Chord → opened (opening (chord_then f x)) bang (chord_then f x) ≡ chord_read bang (chord_then f x)
+opened_chord bang f x h = let e : opening (chord_then f x) ≡ Opening.Chord = opening-behind f.inside (length_then f.length x) (length_then f.length []) ∙ h in rw e refl
 
 ending_at-reaches : (bang : Bool) (before : Before) (bracket : Bool) (d : ℕ) (more x : List ℕ) → is_digit d ≡ true → list_all is_ending more ≡ true → IsAllowed before (ending_form bracket d more) →
     Reaches x (ending_form bracket d more) (piece_at bang before (spelled (ending_form bracket d more) x))
 unfolding class_of
 ending_at-reaches bang before true d more x digit pass allowed =
-    rw (at_class bang before 91 (d ∷ (more ++ x)) class.Bracket refl ∙ opened_ending bang d (more ++ x) digit) (ending-reaches true d more x digit pass)
+    rw (at_class bang before 91 (d ∷ (more ++ x)) Class.Bracket refl ∙ opened_ending bang d (more ++ x) digit) (ending-reaches true d more x digit pass)
 ending_at-reaches bang before false d more x digit pass allowed =
-    rw (at_class bang before d (more ++ x) class.Digit (digit_class d digit), allowed) (ending-reaches false d more x digit pass)
+    rw (at_class bang before d (more ++ x) Class.Digit (digit_class d digit), allowed) (ending-reaches false d more x digit pass)
 
 pub piece_at-reaches : (bang : Bool) (before : Before) (f : Form) (x : List ℕ) → IsGood bang f → IsAllowed before f → Reaches x f (piece_at bang before (spelled f x))
 unfolding class_of dot_read bang_read tuplet_read
 piece_at-reaches bang before (note_form f) x good allowed = rw (by_sign bang before f.sign f.low f.letter (f.marks ++ length_then f.length x)) (note-reaches f x good)
-piece_at-reaches bang before (rest_form seen len) x good allowed = rw (at_class bang before (rest_byte seen) (length_then len x) class.Rest (rest_class seen)) (rest-reaches seen len x good)
-piece_at-reaches bang before (gap_form len) x good allowed = rw (at_class bang before 121 (length_then len x) class.Gap refl) (gap-reaches len x good)
-piece_at-reaches bang before (measures_form seen count) x good allowed = rw (at_class bang before (measures_byte seen) (count ++ x) class.Measures (measures_class seen)) (measures-reaches seen count x good)
-piece_at-reaches bang before (chord_form f) x good allowed = rw (at_class bang before 91 (chord_then f x) class.Bracket refl ∙ opened_chord bang f x good.1) (chord-reaches bang f x good.0)
-piece_at-reaches bang before (grace_form f) x good allowed = rw (at_class bang before 123 (grace_then f x) class.Brace refl) (grace-reaches bang f x good)
-piece_at-reaches bang before (tuplet_form f) x good allowed = rw (at_class bang before 40 (tuplet_then f x) class.Paren refl) (either-reaches x (tuplet_form f) (tuplet_read (tuplet_then f x)) _ (tuplet-reaches f x good))
-piece_at-reaches bang before (slur_form true) x good allowed = rw (at_class bang before 46 (40 ∷ x) class.Dot refl) (same x (slur_form true))
-piece_at-reaches bang before (slur_form false) x good allowed = rw (at_class bang before 40 x class.Paren refl) (slur_or x (tuplet_at x) (tuplet_at-takes x))
-piece_at-reaches bang before close_form x good allowed = rw (at_class bang before 41 x class.Close refl) (same x close_form)
-piece_at-reaches bang before (tie_form true) x good allowed = rw (at_class bang before 46 (45 ∷ x) class.Dot refl) (same x (tie_form true))
-piece_at-reaches bang before (tie_form false) x good allowed = rw (at_class bang before 45 x class.Tie refl) (same x (tie_form false))
+piece_at-reaches bang before (rest_form seen len) x good allowed = rw (at_class bang before (rest_byte seen) (length_then len x) Class.Rest (rest_class seen)) (rest-reaches seen len x good)
+piece_at-reaches bang before (gap_form len) x good allowed = rw (at_class bang before 121 (length_then len x) Class.Gap refl) (gap-reaches len x good)
+piece_at-reaches bang before (measures_form seen count) x good allowed = rw (at_class bang before (measures_byte seen) (count ++ x) Class.Measures (measures_class seen)) (measures-reaches seen count x good)
+piece_at-reaches bang before (chord_form f) x good allowed = rw (at_class bang before 91 (chord_then f x) Class.Bracket refl ∙ opened_chord bang f x good.1) (chord-reaches bang f x good.0)
+piece_at-reaches bang before (grace_form f) x good allowed = rw (at_class bang before 123 (grace_then f x) Class.Brace refl) (grace-reaches bang f x good)
+piece_at-reaches bang before (tuplet_form f) x good allowed = rw (at_class bang before 40 (tuplet_then f x) Class.Paren refl) (either-reaches x (tuplet_form f) (tuplet_read (tuplet_then f x)) _ (tuplet-reaches f x good))
+piece_at-reaches bang before (slur_form true) x good allowed = rw (at_class bang before 46 (40 ∷ x) Class.Dot refl) (same x (slur_form true))
+piece_at-reaches bang before (slur_form false) x good allowed = rw (at_class bang before 40 x Class.Paren refl) (slur_or x (tuplet_at x) (tuplet_at-takes x))
+piece_at-reaches bang before close_form x good allowed = rw (at_class bang before 41 x Class.Close refl) (same x close_form)
+piece_at-reaches bang before (tie_form true) x good allowed = rw (at_class bang before 46 (45 ∷ x) Class.Dot refl) (same x (tie_form true))
+piece_at-reaches bang before (tie_form false) x good allowed = rw (at_class bang before 45 x Class.Tie refl) (same x (tie_form false))
 piece_at-reaches bang before (broken_form right zero) x good allowed = absurd (omega (arith, good.0))
-piece_at-reaches bang before (broken_form right (suc k)) x good allowed = rw (at_class bang before (arrow right) (copies k (arrow right) x) class.Broken (arrow_class right)) (broken-reaches before right k x allowed good.1)
+piece_at-reaches bang before (broken_form right (suc k)) x good allowed = rw (at_class bang before (arrow right) (copies k (arrow right) x) Class.Broken (arrow_class right)) (broken-reaches before right k x allowed good.1)
 piece_at-reaches bang before (bar_form f) x good allowed = bar_at-reaches bang before f x good
 piece_at-reaches bang before (ending_form bracket d more) x good allowed = ending_at-reaches bang before bracket d more x good.0 good.1 allowed
 piece_at-reaches bang before (letter_form b) x good allowed = letter-reaches bang before b x good
-piece_at-reaches bang before (named_form name) x good allowed = rw (at_class bang before 33 (name ++ (33 ∷ x)) class.Bang refl, good.0) (named-reaches name x good.1)
-piece_at-reaches bang before (says_form text) x good allowed = rw (at_class bang before 34 (text ++ (34 ∷ x)) class.Quote refl) (says-reaches text x good)
-piece_at-reaches bang before (inline_form letter text) x good allowed = rw (at_class bang before 91 (letter ∷ 58 ∷ (text ++ (93 ∷ x))) class.Bracket refl ∙ opened_inline bang letter (text ++ (93 ∷ x)) good.0) (inline-reaches letter text x good.1)
+piece_at-reaches bang before (named_form name) x good allowed = rw (at_class bang before 33 (name ++ (33 ∷ x)) Class.Bang refl, good.0) (named-reaches name x good.1)
+piece_at-reaches bang before (says_form text) x good allowed = rw (at_class bang before 34 (text ++ (34 ∷ x)) Class.Quote refl) (says-reaches text x good)
+piece_at-reaches bang before (inline_form letter text) x good allowed = rw (at_class bang before 91 (letter ∷ 58 ∷ (text ++ (93 ∷ x))) Class.Bracket refl ∙ opened_inline bang letter (text ++ (93 ∷ x)) good.0) (inline-reaches letter text x good.1)
 piece_at-reaches bang before (cut_form b) x good allowed = cut-reaches bang before b x good
-piece_at-reaches bang before (space_form b more) x good allowed = rw (at_class bang before b (more ++ x) class.Blank (blank_class b good.0)) (space-reaches b more x good.1)
+piece_at-reaches bang before (space_form b more) x good allowed = rw (at_class bang before b (more ++ x) Class.Blank (blank_class b good.0)) (space-reaches b more x good.1)
 piece_at-reaches bang before (passed_form b) x good allowed = passed-reaches bang before b x good
-piece_at-reaches bang before lone_form x good allowed = rw (at_class bang before 33 x class.Bang refl, good) (lone_or x (name_at x) (name_at-takes x))
-piece_at-reaches bang before (plus_form text) x good allowed = rw (at_class bang before 43 (text ++ (43 ∷ x)) class.Plus refl) (plus-reaches text x good)
+piece_at-reaches bang before lone_form x good allowed = rw (at_class bang before 33 x Class.Bang refl, good) (lone_or x (name_at x) (name_at-takes x))
+piece_at-reaches bang before (plus_form text) x good allowed = rw (at_class bang before 43 (text ++ (43 ∷ x)) Class.Plus refl) (plus-reaches text x good)
 
 -- ---- a piece has a byte
 

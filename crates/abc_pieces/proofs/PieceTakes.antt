@@ -1,32 +1,15 @@
 -- A piece that is read stands at the front.
 use Rattle.std.proofs.Common.{◌≡◌, ℕ, suc, Bool, true, false, cond, eqb, List, [], ◌∷◌, ◌++◌, length, Option, Some, None, refl, sym, ap, ◌∙◌, arith, ◌&&◌, IfSome, option_map}
-use Rattle.std.specs.List.{list_all}
-use Rattle.std.proofs.lemmas.Bool.{cond_both, or_left, or_right, and_parts, eqb-true, not-false, eq-eqb}
+use Rattle.std.{proofs.lemmas.Bool.cond_both, proofs.lemmas.Bool.or_left, proofs.lemmas.Bool.or_right, proofs.lemmas.Bool.and_parts, proofs.lemmas.Bool.eqb-true, proofs.lemmas.Bool.not-false, proofs.lemmas.Bool.eq-eqb, specs.List.list_all}
 use Rattle.mus_units.specs.Bytes.{is_digit, is_blank, is_letter}
-use Rattle.abc_notes.specs.Runs.{copies, span, span_all, begins}
-use Rattle.abc_notes.proofs.SpanLaws.{span-takes, span-pass, span-length, span_all-takes, span_all-pass, span_all-after}
-use Rattle.abc_pieces.specs.Bars.{BarForm, form_at}
-use Rattle.abc_pieces.proofs.BarLaws.{TakesIf as TakesBarIf, form_at-takes}
-use Rattle.abc_notes.specs.Notes.{NoteForm, note_at}
-use Rattle.abc_notes.specs.Decorations.{is_deco_letter}
-use Rattle.abc_notes.specs.Items.{IsName, name_at}
-use Rattle.abc_notes.specs.Chords.{ChordForm, chord_at, is_inside}
-use Rattle.abc_notes.specs.Graces.{GraceForm, grace_at}
-use Rattle.abc_pieces.specs.Tuplets.{TupletForm, tuplet_at}
-use Rattle.abc_notes.proofs.LengthLaws.{length_at-takes, number-takes, number-count}
-use Rattle.abc_notes.proofs.NoteLaws.{TakesNote, note_at-takes}
-use Rattle.abc_notes.proofs.ItemLaws.{name_at-takes}
-use Rattle.abc_notes.proofs.ChordLaws.{TakesChord, chord_at-takes}
-use Rattle.abc_notes.proofs.GraceLaws.{TakesGrace, grace_at-takes}
-use Rattle.abc_pieces.proofs.TupletLaws.{TakesTuplet, tuplet_at-takes}
-use Rattle.abc_pieces.specs.declared.token.Before.{Before}
-use Rattle.abc_pieces.specs.declared.token.Class.{Class}
-use Rattle.abc_pieces.specs.declared.token.Class.TheVariants as class
-use Rattle.abc_pieces.specs.declared.token.Opening.{Opening}
-use Rattle.abc_pieces.specs.declared.token.Opening.TheVariants as opens
+use Rattle.abc_notes.specs.{Runs.copies, Runs.span, Runs.span_all, Runs.begins, Notes.NoteForm, Notes.note_at, Decorations.is_deco_letter, Items.IsName, Items.name_at, Chords.ChordForm, Chords.chord_at, Chords.is_inside, Graces.GraceForm, Graces.grace_at}
+use Rattle.abc_notes.proofs.{SpanLaws.span-takes, SpanLaws.span-pass, SpanLaws.span-length, SpanLaws.span_all-takes, SpanLaws.span_all-pass, SpanLaws.span_all-after, LengthLaws.length_at-takes, LengthLaws.number-takes, LengthLaws.number-count, NoteLaws.TakesNote, NoteLaws.note_at-takes}
+use Rattle.abc_notes.proofs.{ItemLaws.name_at-takes, ChordLaws.TakesChord, ChordLaws.chord_at-takes, GraceLaws.TakesGrace, GraceLaws.grace_at-takes}
 use Rattle.abc_pieces.specs.Forms.{Form, note_form, chord_form, grace_form, tuplet_form, slur_form, tie_form, broken_form, bar_form, ending_form, letter_form, says_form, inline_form, passed_form, plus_form, spelled, IsGood, IsAllowed, is_ending, is_text, is_plus_byte, is_passed, arrow, rest_byte, measures_byte, is_bar, is_broken, opening}
 use Rattle.abc_pieces.specs.Reading.{Read, read, class_of, note_read, rest_read, gap_read, measures_read, bar_read, chord_read, grace_read, tuplet_read, or_else, ending_read, broken_read, closed, says_read, plus_closed, plus_read, inline_read, space_read, named_or_lone, bang_read, dot_behind, dot_read, opened, by_class, piece_at}
+use Rattle.abc_pieces.{specs.Bars.BarForm, specs.Bars.form_at, specs.Tuplets.TupletForm, specs.Tuplets.tuplet_at, specs.declared.token.Before.Before, specs.declared.token.Class.Class, specs.declared.token.Opening.Opening, proofs.TupletLaws.TakesTuplet, proofs.TupletLaws.tuplet_at-takes}
 use Rattle.abc_pieces.proofs.Classes.{Fact, fact}
+use Rattle.abc_pieces.proofs.BarLaws.{TakesIf as TakesBarIf, form_at-takes}
 
 pub record Stands (bang : Bool) (before : Before) (s : List ℕ) (f : Form) (rest : List ℕ) : Type 0 where
   pub good : IsGood bang f
@@ -85,11 +68,11 @@ pub opening-behind : (w x y : List ℕ) → opening (w ++ (93 ∷ x)) ≡ openin
 opening-behind (b ∷ []) x y = refl
 opening-behind _ x y = refl
 
-from_chord : (bang : Bool) (before : Before) (s : List ℕ) (r : Option (ChordForm × List ℕ)) → opening s ≡ opens.Chord → TakesChord bang s r → Takes bang before (91 ∷ s) (option_map (λ z. (chord_form z.0, z.1)) r)
+from_chord : (bang : Bool) (before : Before) (s : List ℕ) (r : Option (ChordForm × List ℕ)) → opening s ≡ Opening.Chord → TakesChord bang s r → Takes bang before (91 ∷ s) (option_map (λ z. (chord_form z.0, z.1)) r)
 from_chord bang before s None o t = tt
 from_chord bang before s (Some z) o t = record { good = (t.0, opening-behind z.0.inside _ _ ∙ ap opening (sym t.1) ∙ o); allowed = tt; cut = ap (λ x. 91 ∷ x) t.1 }
 
-chord-takes : (bang : Bool) (before : Before) (s : List ℕ) → opening s ≡ opens.Chord → Takes bang before (91 ∷ s) (chord_read bang s)
+chord-takes : (bang : Bool) (before : Before) (s : List ℕ) → opening s ≡ Opening.Chord → Takes bang before (91 ∷ s) (chord_read bang s)
 unfolding chord_read
 chord-takes bang before s o = from_chord bang before s (chord_at bang s) o (chord_at-takes bang s)
 
@@ -108,23 +91,23 @@ inline_first : (bang : Bool) (before : Before) (l : ℕ) (t : List ℕ) → is_l
 inline_first bang before l [] letter h = absurd cc
 inline_first bang before l (c ∷ t) letter h = inline_text bang before l c t letter (eqb-true c 58 h)
 
-inline-takes : (bang : Bool) (before : Before) (s : List ℕ) → opening s ≡ opens.Inline → Takes bang before (91 ∷ s) (inline_read s)
+inline-takes : (bang : Bool) (before : Before) (s : List ℕ) → opening s ≡ Opening.Inline → Takes bang before (91 ∷ s) (inline_read s)
 inline-takes bang before [] o = absurd cc
 inline-takes bang before (l ∷ t) o =
-    cond_both {A = Opening} (eqb l 124) opens.Bar (cond (is_digit l) opens.Ending (cond (is_letter l && begins (λ b. eqb b 58) t) opens.Inline opens.Chord)) (λ k. k ≡ opens.Inline → Takes bang before (91 ∷ l ∷ t) (inline_read (l ∷ t)))
+    cond_both {A = Opening} (eqb l 124) Opening.Bar (cond (is_digit l) Opening.Ending (cond (is_letter l && begins (λ b. eqb b 58) t) Opening.Inline Opening.Chord)) (λ k. k ≡ Opening.Inline → Takes bang before (91 ∷ l ∷ t) (inline_read (l ∷ t)))
     (λ e h. absurd cc)
-    (λ e. cond_both {A = Opening} (is_digit l) opens.Ending (cond (is_letter l && begins (λ b. eqb b 58) t) opens.Inline opens.Chord) (λ k. k ≡ opens.Inline → Takes bang before (91 ∷ l ∷ t) (inline_read (l ∷ t)))
+    (λ e. cond_both {A = Opening} (is_digit l) Opening.Ending (cond (is_letter l && begins (λ b. eqb b 58) t) Opening.Inline Opening.Chord) (λ k. k ≡ Opening.Inline → Takes bang before (91 ∷ l ∷ t) (inline_read (l ∷ t)))
     (λ f h. absurd cc)
-    (λ f. cond_both {A = Opening} (is_letter l && begins (λ b. eqb b 58) t) opens.Inline opens.Chord (λ k. k ≡ opens.Inline → Takes bang before (91 ∷ l ∷ t) (inline_read (l ∷ t)))
+    (λ f. cond_both {A = Opening} (is_letter l && begins (λ b. eqb b 58) t) Opening.Inline Opening.Chord (λ k. k ≡ Opening.Inline → Takes bang before (91 ∷ l ∷ t) (inline_read (l ∷ t)))
     (λ g h. let p = and_parts (is_letter l) (begins (λ b. eqb b 58) t) g in inline_first bang before l t p.0 p.1)
     (λ g h. absurd cc)))
     o
 
 opened-takes : (o : Opening) (bang : Bool) (before : Before) (s : List ℕ) → opening s ≡ o → Takes bang before (91 ∷ s) (opened o bang s)
-opened-takes opens.Bar bang before s h = bar-takes bang before (91 ∷ s)
-opened-takes opens.Ending bang before s h = bracket-takes bang before s
-opened-takes opens.Inline bang before s h = inline-takes bang before s h
-opened-takes opens.Chord bang before s h = chord-takes bang before s h
+opened-takes Opening.Bar bang before s h = bar-takes bang before (91 ∷ s)
+opened-takes Opening.Ending bang before s h = bracket-takes bang before s
+opened-takes Opening.Inline bang before s h = inline-takes bang before s h
+opened-takes Opening.Chord bang before s h = chord-takes bang before s h
 
 -- ---- the others
 
@@ -218,27 +201,27 @@ unfolding dot_read
 dot-takes bang before s = dot_behind-takes bang before s _ (either-takes bang before (46 ∷ s) (bar_read (46 ∷ s)) (read (letter_form 46) s) (bar-takes bang before (46 ∷ s)) (record { good = refl; allowed = tt; cut = refl }))
 
 by-takes : (c : Class) (bang : Bool) (before : Before) (b : ℕ) (s : List ℕ) → Fact c b → Takes bang before (b ∷ s) (by_class c bang before b s)
-by-takes class.Note bang before b s h = note-takes bang before (b ∷ s)
-by-takes class.Rest bang before b s h = rest-takes bang before b s h
-by-takes class.Gap bang before b s h = rw h (gap-takes bang before s)
-by-takes class.Measures bang before b s h = measures-takes bang before b s h
-by-takes class.Bar bang before b s h = bar-takes bang before (b ∷ s)
-by-takes class.Dot bang before b s h = rw h (dot-takes bang before s)
-by-takes class.Bracket bang before b s h = rw h (opened-takes (opening s) bang before s refl)
-by-takes class.Brace bang before b s h = rw h (grace-takes bang before s)
-by-takes class.Paren bang before b s h = rw h (either-takes bang before (40 ∷ s) (tuplet_read s) (read (slur_form false) s) (tuplet-takes bang before s) (record { good = tt; allowed = tt; cut = refl }))
-by-takes class.Close bang before b s h = record { good = tt; allowed = tt; cut = ap (λ x. x ∷ s) h }
-by-takes class.Tie bang before b s h = record { good = tt; allowed = tt; cut = ap (λ x. x ∷ s) h }
-by-takes class.Digit bang before b s h = cond_both (is_bar before) (ending_read false (b ∷ s)) None (Takes bang before (b ∷ s)) (λ e. digit-takes bang before b s e) (λ e. tt)
-by-takes class.Broken bang before b s h = broken-takes bang before b s h
-by-takes class.Quote bang before b s h = rw h (says-takes bang before s)
-by-takes class.Bang bang before b s h = rw h (bang-takes bang before s)
-by-takes class.Plus bang before b s h = rw h (plus-takes bang before s)
-by-takes class.Blank bang before b s h = space-takes bang before b s h
-by-takes class.Letter bang before b s h = record { good = or_right (eqb b 46) (is_deco_letter b) h; allowed = tt; cut = refl }
-by-takes class.Dollar bang before b s h = record { good = or_left (eqb b 36) (bang && eqb b 33) (eq-eqb b 36 h); allowed = tt; cut = refl }
-by-takes class.Passed bang before b s h = record { good = or_left (is_passed b) (eqb b 43) h; allowed = tt; cut = refl }
-by-takes class.Nothing bang before b s h = tt
+by-takes Class.Note bang before b s h = note-takes bang before (b ∷ s)
+by-takes Class.Rest bang before b s h = rest-takes bang before b s h
+by-takes Class.Gap bang before b s h = rw h (gap-takes bang before s)
+by-takes Class.Measures bang before b s h = measures-takes bang before b s h
+by-takes Class.Bar bang before b s h = bar-takes bang before (b ∷ s)
+by-takes Class.Dot bang before b s h = rw h (dot-takes bang before s)
+by-takes Class.Bracket bang before b s h = rw h (opened-takes (opening s) bang before s refl)
+by-takes Class.Brace bang before b s h = rw h (grace-takes bang before s)
+by-takes Class.Paren bang before b s h = rw h (either-takes bang before (40 ∷ s) (tuplet_read s) (read (slur_form false) s) (tuplet-takes bang before s) (record { good = tt; allowed = tt; cut = refl }))
+by-takes Class.Close bang before b s h = record { good = tt; allowed = tt; cut = ap (λ x. x ∷ s) h }
+by-takes Class.Tie bang before b s h = record { good = tt; allowed = tt; cut = ap (λ x. x ∷ s) h }
+by-takes Class.Digit bang before b s h = cond_both (is_bar before) (ending_read false (b ∷ s)) None (Takes bang before (b ∷ s)) (λ e. digit-takes bang before b s e) (λ e. tt)
+by-takes Class.Broken bang before b s h = broken-takes bang before b s h
+by-takes Class.Quote bang before b s h = rw h (says-takes bang before s)
+by-takes Class.Bang bang before b s h = rw h (bang-takes bang before s)
+by-takes Class.Plus bang before b s h = rw h (plus-takes bang before s)
+by-takes Class.Blank bang before b s h = space-takes bang before b s h
+by-takes Class.Letter bang before b s h = record { good = or_right (eqb b 46) (is_deco_letter b) h; allowed = tt; cut = refl }
+by-takes Class.Dollar bang before b s h = record { good = or_left (eqb b 36) (bang && eqb b 33) (eq-eqb b 36 h); allowed = tt; cut = refl }
+by-takes Class.Passed bang before b s h = record { good = or_left (is_passed b) (eqb b 43) h; allowed = tt; cut = refl }
+by-takes Class.Nothing bang before b s h = tt
 
 pub piece_at-takes : (bang : Bool) (before : Before) (s : List ℕ) → Takes bang before s (piece_at bang before s)
 unfolding piece_at

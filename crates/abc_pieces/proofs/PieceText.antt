@@ -2,31 +2,24 @@
 use Rattle.std.proofs.Common.{◌≡◌, ℕ, suc, ◌+◌, Bool, true, List, ◌∷◌, Option, Some, None, take, drop, refl, ap, arith}
 use Rattle.std.specs.List.{prefix_len}
 use Rattle.mus_units.specs.Bytes.{is_digit}
-use Rattle.abc_notes.specs.Runs.{span_all}
-use Rattle.abc_pieces.specs.declared.token.Before.{Before}
-use Rattle.abc_pieces.specs.declared.token.Before.TheVariants as behind
-use Rattle.abc_pieces.specs.declared.token.Class.TheVariants as class
-use Rattle.abc_pieces.specs.declared.token.Token.{Token}
-use Rattle.abc_pieces.specs.declared.token.Token.TheVariants as token
-use Rattle.abc_notes.specs.Decorations.{deco_of_letter}
-use Rattle.abc_pieces.specs.Forms.{is_ending, letter_form}
-use Rattle.abc_pieces.specs.Reading.{Read, read, or_else, ending_read, seen, meaning, class_of}
+use Rattle.abc_notes.specs.{Runs.span_all, Decorations.deco_of_letter}
+use Rattle.abc_pieces.specs.{declared.token.Before.Before, declared.token.Token.Token, Forms.is_ending, Forms.letter_form, Reading.Read, Reading.read, Reading.or_else, Reading.ending_read, Reading.seen, Reading.meaning, Reading.class_of, declared.token.Class.Class}
 use Rattle.abc_pieces.proofs.Classes.{fact_of}
 
 pub ending_is : (bracket : Bool) (s : List ℕ) (b : ℕ) (rest : List ℕ) (k : ℕ) (text after : List ℕ) → s ≡ b ∷ rest → is_digit b ≡ true → k ≡ prefix_len is_ending rest → text ≡ take (1 + k) s → after ≡ drop (1 + k) s →
-    Some (seen (Some (token.Ending text)) behind.Other after) ≡ meaning (ending_read bracket s)
+    Some (seen (Some (Token.Ending text)) Before.Other after) ≡ meaning (ending_read bracket s)
 unfolding ending_read span_all
 ending_is bracket s b rest k text after cut digit count front back =
     let more : 1 + k ≡ suc k = omega arith in
     rw (front, back, more, cut, digit, ← count) refl
 
-pub letter_or_bar : (r : Read) (t : Option Token) (next : Before) (rest left : List ℕ) → None ≡ meaning r → seen t next left ≡ seen (Some (token.Deco (deco_of_letter 46))) behind.Other rest →
+pub letter_or_bar : (r : Read) (t : Option Token) (next : Before) (rest left : List ℕ) → None ≡ meaning r → seen t next left ≡ seen (Some (Token.Deco (deco_of_letter 46))) Before.Other rest →
     Some (seen t next left) ≡ meaning (or_else r (read (letter_form 46) rest))
 letter_or_bar None t next rest left none is = ap Some is
 letter_or_bar (Some z) t next rest left none is = absurd cc
 
-pub first_dot : (b : ℕ) → class_of b ≡ class.Dot → b ≡ 46
-first_dot b e = fact_of b class.Dot e
+pub first_dot : (b : ℕ) → class_of b ≡ Class.Dot → b ≡ 46
+first_dot b e = fact_of b Class.Dot e
 
-pub first_bracket : (b : ℕ) → class_of b ≡ class.Bracket → b ≡ 91
-first_bracket b e = fact_of b class.Bracket e
+pub first_bracket : (b : ℕ) → class_of b ≡ Class.Bracket → b ≡ 91
+first_bracket b e = fact_of b Class.Bracket e

@@ -4,21 +4,10 @@ use Prim.Native.Char.{code}
 use Rattle.std.specs.Prelude.{◌≡◌, ℕ, ◌≤◌, List, [], ◌∷◌, ◌++◌, map, Bool, true, false, not, ◌==◌, ◌&&◌, ◌||◌, if◌then◌else◌, Option, Some, None, codes}
 use Rattle.std.specs.List.{list_all}
 use Rattle.mus_units.specs.Bytes.{is_within, is_either, is_digit, is_blank, is_letter}
-use Rattle.abc_notes.specs.Runs.{copies, maybe, one_of, begins}
+use Rattle.abc_notes.specs.{Runs.copies, Runs.maybe, Runs.one_of, Runs.begins, Lengths.LengthForm, Lengths.length_then, Lengths.IsLength, Lengths.len_of, Lengths.IsCount, Lengths.count_of, Notes.NoteForm, Notes.note_then, Notes.IsNote, Notes.head_of, Decorations.deco_of_letter}
+use Rattle.abc_notes.specs.{Decorations.deco_of_name, Items.IsName, Items.is_letter_inside, Items.sense, Chords.ChordForm, Chords.chord_then, Chords.IsChord, Chords.heads_of, Chords.decos_of, Chords.is_inside, Graces.GraceForm, Graces.grace_then, Graces.IsGrace, Graces.body_of}
 use Rattle.abc_pieces.specs.Bars.{BarForm, spelled as bar_then, IsGood as IsBar, meant as bar_of}
-use Rattle.abc_notes.specs.Lengths.{LengthForm, length_then, IsLength, len_of, IsCount, count_of}
-use Rattle.abc_notes.specs.Notes.{NoteForm, note_then, IsNote, head_of}
-use Rattle.abc_notes.specs.Decorations.{deco_of_letter, deco_of_name}
-use Rattle.abc_notes.specs.Items.{IsName, is_letter_inside, sense}
-use Rattle.abc_notes.specs.Chords.{ChordForm, chord_then, IsChord, heads_of, decos_of, is_inside}
-use Rattle.abc_notes.specs.Graces.{GraceForm, grace_then, IsGrace, body_of}
-use Rattle.abc_pieces.specs.Tuplets.{TupletForm, tuplet_then, IsTuplet, p_of, q_of, r_of}
-use Rattle.abc_pieces.specs.declared.token.Token.{Token}
-use Rattle.abc_pieces.specs.declared.token.Token.TheVariants as token
-use Rattle.abc_pieces.specs.declared.token.Before.{Before}
-use Rattle.abc_pieces.specs.declared.token.Before.TheVariants as behind
-use Rattle.abc_pieces.specs.declared.token.Opening.{Opening}
-use Rattle.abc_pieces.specs.declared.token.Opening.TheVariants as opens
+use Rattle.abc_pieces.specs.{Tuplets.TupletForm, Tuplets.tuplet_then, Tuplets.IsTuplet, Tuplets.p_of, Tuplets.q_of, Tuplets.r_of, declared.token.Token.Token, declared.token.Before.Before, declared.token.Opening.Opening}
 
 pub data Form : Type 0 where
   note_form : NoteForm → Form
@@ -106,12 +95,12 @@ spelled (plus_form text) x = code "+" ∷ (text ++ (code "+" ∷ x))
 -- what stands behind an opening bracket: a bar sign makes a bar, a digit an ending, a letter and
 -- a colon an inline field; all else is a chord
 abbrev pub opening : List ℕ → Opening
-opening [] = opens.Chord
+opening [] = Opening.Chord
 opening (byte ∷ rest) =
-    if byte == code "|" then opens.Bar
-    else (if is_digit byte then opens.Ending
-    else (if is_letter byte && begins (λ b. b == code ":") rest then opens.Inline
-    else opens.Chord))
+    if byte == code "|" then Opening.Bar
+    else (if is_digit byte then Opening.Ending
+    else (if is_letter byte && begins (λ b. b == code ":") rest then Opening.Inline
+    else Opening.Chord))
 
 -- a dollar sign, and where it is a line break an exclamation mark
 abbrev pub is_cut : Bool → ℕ → Bool
@@ -122,7 +111,7 @@ IsGood bang (note_form f) = IsNote f
 IsGood bang (rest_form seen len) = IsLength len
 IsGood bang (gap_form len) = IsLength len
 IsGood bang (measures_form seen count) = IsCount 3 count
-IsGood bang (chord_form f) = IsChord bang f × (opening (chord_then f []) ≡ opens.Chord)
+IsGood bang (chord_form f) = IsChord bang f × (opening (chord_then f []) ≡ Opening.Chord)
 IsGood bang (grace_form f) = IsGrace bang f
 IsGood bang (tuplet_form f) = IsTuplet f
 IsGood bang (slur_form dotted) = Unit {0}
@@ -146,75 +135,75 @@ abbrev pub is_kept_field : ℕ → Bool
 is_kept_field letter = one_of (codes "KLMV") letter
 
 abbrev pub inline_token : ℕ → List ℕ → Option Token
-inline_token letter text = if is_kept_field letter then Some (token.Inline letter text) else None
+inline_token letter text = if is_kept_field letter then Some (Token.Inline letter text) else None
 
 -- the token that a piece spells, if it spells one
 abbrev pub meant : Form → Option Token
-meant (note_form f) = Some (token.Note (head_of f) (len_of f.length))
-meant (rest_form seen len) = Some (token.Rest seen (len_of len))
+meant (note_form f) = Some (Token.Note (head_of f) (len_of f.length))
+meant (rest_form seen len) = Some (Token.Rest seen (len_of len))
 meant (gap_form len) = None
-meant (measures_form seen count) = Some (token.Measures seen (count_of count))
-meant (chord_form f) = let said = map sense f.parts in Some (token.Chord (heads_of said) (decos_of said) (len_of f.length))
-meant (grace_form f) = Some (token.Grace f.slash (body_of f.parts))
-meant (tuplet_form f) = Some (token.Tuplet (p_of f) (q_of f) (r_of f))
-meant (slur_form dotted) = Some token.SlurOn
-meant close_form = Some token.SlurOff
-meant (tie_form dotted) = Some token.Tie
-meant (broken_form right count) = Some (token.Broken right count)
-meant (bar_form f) = Some (token.Bar (bar_of f))
-meant (ending_form bracket digit more) = Some (token.Ending (digit ∷ more))
-meant (letter_form byte) = Some (token.Deco (deco_of_letter byte))
-meant (named_form name) = Some (token.Deco (deco_of_name name))
-meant (says_form text) = Some (token.Says text)
+meant (measures_form seen count) = Some (Token.Measures seen (count_of count))
+meant (chord_form f) = let said = map sense f.parts in Some (Token.Chord (heads_of said) (decos_of said) (len_of f.length))
+meant (grace_form f) = Some (Token.Grace f.slash (body_of f.parts))
+meant (tuplet_form f) = Some (Token.Tuplet (p_of f) (q_of f) (r_of f))
+meant (slur_form dotted) = Some Token.SlurOn
+meant close_form = Some Token.SlurOff
+meant (tie_form dotted) = Some Token.Tie
+meant (broken_form right count) = Some (Token.Broken right count)
+meant (bar_form f) = Some (Token.Bar (bar_of f))
+meant (ending_form bracket digit more) = Some (Token.Ending (digit ∷ more))
+meant (letter_form byte) = Some (Token.Deco (deco_of_letter byte))
+meant (named_form name) = Some (Token.Deco (deco_of_name name))
+meant (says_form text) = Some (Token.Says text)
 meant (inline_form letter text) = inline_token letter text
-meant (cut_form byte) = Some token.Cut
-meant (space_form blank more) = Some token.Space
+meant (cut_form byte) = Some Token.Cut
+meant (space_form blank more) = Some Token.Space
 meant (passed_form byte) = None
 meant lone_form = None
 meant (plus_form text) = None
 
 -- what a piece tells of the next
 abbrev pub after : Form → Before
-after (note_form f) = behind.Lengthy
-after (rest_form seen len) = behind.Lengthy
-after (gap_form len) = behind.Lengthy
-after (measures_form seen count) = behind.Other
-after (chord_form f) = behind.Lengthy
-after (grace_form f) = behind.Other
-after (tuplet_form f) = behind.Paren
-after (slur_form dotted) = if dotted then behind.Other else behind.Paren
-after close_form = behind.Other
-after (tie_form dotted) = behind.Other
-after (broken_form right count) = behind.Broken right
-after (bar_form f) = behind.Bar
-after (ending_form bracket digit more) = behind.Other
-after (letter_form byte) = behind.Other
-after (named_form name) = behind.Other
-after (says_form text) = behind.Other
-after (inline_form letter text) = behind.Other
-after (cut_form byte) = behind.Other
-after (space_form blank more) = behind.Other
-after (passed_form byte) = behind.Other
-after lone_form = behind.Other
-after (plus_form text) = behind.Other
+after (note_form f) = Before.Lengthy
+after (rest_form seen len) = Before.Lengthy
+after (gap_form len) = Before.Lengthy
+after (measures_form seen count) = Before.Other
+after (chord_form f) = Before.Lengthy
+after (grace_form f) = Before.Other
+after (tuplet_form f) = Before.Paren
+after (slur_form dotted) = if dotted then Before.Other else Before.Paren
+after close_form = Before.Other
+after (tie_form dotted) = Before.Other
+after (broken_form right count) = Before.Broken right
+after (bar_form f) = Before.Bar
+after (ending_form bracket digit more) = Before.Other
+after (letter_form byte) = Before.Other
+after (named_form name) = Before.Other
+after (says_form text) = Before.Other
+after (inline_form letter text) = Before.Other
+after (cut_form byte) = Before.Other
+after (space_form blank more) = Before.Other
+after (passed_form byte) = Before.Other
+after lone_form = Before.Other
+after (plus_form text) = Before.Other
 
 abbrev pub is_bar : Before → Bool
-is_bar behind.Bar = true
-is_bar (behind.Broken right) = false
-is_bar behind.Lengthy = false
-is_bar behind.Paren = false
-is_bar behind.Other = false
+is_bar Before.Bar = true
+is_bar (Before.Broken right) = false
+is_bar Before.Lengthy = false
+is_bar Before.Paren = false
+is_bar Before.Other = false
 
 abbrev pub same_way : Bool → Bool → Bool
 same_way true right = right
 same_way false right = not right
 
 abbrev pub is_broken : Bool → Before → Bool
-is_broken right behind.Bar = false
-is_broken right (behind.Broken other) = same_way right other
-is_broken right behind.Lengthy = false
-is_broken right behind.Paren = false
-is_broken right behind.Other = false
+is_broken right Before.Bar = false
+is_broken right (Before.Broken other) = same_way right other
+is_broken right Before.Lengthy = false
+is_broken right Before.Paren = false
+is_broken right Before.Other = false
 
 -- digits are an ending only after a bar, and an arrow stands behind no arrow of its way
 abbrev pub IsAllowed : Before → Form → Type 0

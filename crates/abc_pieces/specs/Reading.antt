@@ -2,51 +2,34 @@
 use Prim.Native.Char.{code}
 use Rattle.std.specs.Prelude.{◌≤◌, ℕ, suc, List, [], ◌∷◌, length, Bool, true, false, ◌==◌, ◌||◌, if◌then◌else◌, Option, Some, None, option_map}
 use Rattle.mus_units.specs.Bytes.{is_digit, is_blank}
-use Rattle.abc_notes.specs.Runs.{span, span_all}
-use Rattle.abc_pieces.specs.Bars.{form_at}
-use Rattle.abc_notes.specs.Lengths.{length_at, number_at}
-use Rattle.abc_notes.specs.Notes.{note_at}
-use Rattle.abc_notes.specs.Decorations.{is_deco_letter, deco_of_letter, deco_of_name}
-use Rattle.abc_notes.specs.Items.{is_note_byte, name_at}
-use Rattle.abc_notes.specs.Chords.{chord_at, is_inside, heads_of, decos_of, senses}
-use Rattle.abc_notes.specs.Graces.{grace_at, grace_part_at, body_of}
-use Rattle.abc_notes.specs.Parts.{walk}
-use Rattle.abc_pieces.specs.Tuplets.{tuplet_at}
-use Rattle.abc_pieces.specs.declared.piece.Piece.{Piece}
-use Rattle.abc_pieces.specs.declared.token.Before.{Before}
-use Rattle.abc_pieces.specs.declared.token.Class.{Class}
-use Rattle.abc_pieces.specs.declared.token.Class.TheVariants as class
-use Rattle.abc_pieces.specs.declared.token.Opening.{Opening}
-use Rattle.abc_pieces.specs.declared.token.Opening.TheVariants as opens
-use Rattle.abc_pieces.specs.declared.token.Token.{Token}
-use Rattle.abc_pieces.specs.declared.token.Token.TheVariants as token
-use Rattle.abc_pieces.specs.declared.token.Found.{Found}
-use Rattle.abc_pieces.specs.declared.token.Found.TheVariants as found
+use Rattle.abc_notes.specs.{Runs.span, Runs.span_all, Lengths.length_at, Lengths.number_at, Notes.note_at, Decorations.is_deco_letter, Decorations.deco_of_letter, Decorations.deco_of_name, Items.is_note_byte, Items.name_at, Chords.chord_at, Chords.is_inside, Chords.heads_of, Chords.decos_of}
+use Rattle.abc_notes.specs.{Chords.senses, Graces.grace_at, Graces.grace_part_at, Graces.body_of, Parts.walk}
 use Rattle.abc_pieces.specs.Forms.{Form, note_form, rest_form, gap_form, measures_form, chord_form, grace_form, tuplet_form, slur_form, close_form, tie_form, broken_form, bar_form, ending_form, letter_form, named_form, says_form, inline_form, cut_form, space_form, passed_form, lone_form, plus_form, is_ending, is_text, is_plus_byte, is_passed, opening, inline_token, is_bar, is_broken, meant, after}
+use Rattle.abc_pieces.specs.{Bars.form_at, Tuplets.tuplet_at, declared.piece.Piece.Piece, declared.token.Before.Before, declared.token.Class.Class, declared.token.Opening.Opening, declared.token.Token.Token, declared.token.Found.Found}
 
 unfoldable pub class_of : ℕ → Class
 class_of b =
-    if is_note_byte b then class.Note
-    else (if b == code "z" || b == code "x" then class.Rest
-    else (if b == code "y" then class.Gap
-    else (if b == code "Z" || b == code "X" then class.Measures
-    else (if b == code ":" || b == code "|" then class.Bar
-    else (if b == code "." then class.Dot
-    else (if b == code "[" then class.Bracket
-    else (if b == code "{" then class.Brace
-    else (if b == code "(" then class.Paren
-    else (if b == code ")" then class.Close
-    else (if b == code "-" then class.Tie
-    else (if is_digit b then class.Digit
-    else (if b == code ">" || b == code "<" then class.Broken
-    else (if b == code "\"" then class.Quote
-    else (if b == code "!" then class.Bang
-    else (if b == code "+" then class.Plus
-    else (if is_blank b then class.Blank
-    else (if is_deco_letter b then class.Letter
-    else (if b == code "$" then class.Dollar
-    else (if is_passed b then class.Passed
-    else class.Nothing)))))))))))))))))))
+    if is_note_byte b then Class.Note
+    else (if b == code "z" || b == code "x" then Class.Rest
+    else (if b == code "y" then Class.Gap
+    else (if b == code "Z" || b == code "X" then Class.Measures
+    else (if b == code ":" || b == code "|" then Class.Bar
+    else (if b == code "." then Class.Dot
+    else (if b == code "[" then Class.Bracket
+    else (if b == code "{" then Class.Brace
+    else (if b == code "(" then Class.Paren
+    else (if b == code ")" then Class.Close
+    else (if b == code "-" then Class.Tie
+    else (if is_digit b then Class.Digit
+    else (if b == code ">" || b == code "<" then Class.Broken
+    else (if b == code "\"" then Class.Quote
+    else (if b == code "!" then Class.Bang
+    else (if b == code "+" then Class.Plus
+    else (if is_blank b then Class.Blank
+    else (if is_deco_letter b then Class.Letter
+    else (if b == code "$" then Class.Dollar
+    else (if is_passed b then Class.Passed
+    else Class.Nothing)))))))))))))))))))
 
 abbrev pub Read : Type 0
 Read = Option (Form × List ℕ)
@@ -130,33 +113,33 @@ unfoldable pub dot_read : List ℕ → Read
 dot_read s = dot_behind s (or_else (bar_read (code "." ∷ s)) (read (letter_form (code ".")) s))
 
 abbrev pub opened : Opening → Bool → List ℕ → Read
-opened opens.Bar bang s = bar_read (code "[" ∷ s)
-opened opens.Ending bang s = ending_read true s
-opened opens.Inline bang s = inline_read s
-opened opens.Chord bang s = chord_read bang s
+opened Opening.Bar bang s = bar_read (code "[" ∷ s)
+opened Opening.Ending bang s = ending_read true s
+opened Opening.Inline bang s = inline_read s
+opened Opening.Chord bang s = chord_read bang s
 
 abbrev pub by_class : Class → Bool → Before → ℕ → List ℕ → Read
-by_class class.Note bang before b s = note_read (b ∷ s)
-by_class class.Rest bang before b s = rest_read b s
-by_class class.Gap bang before b s = gap_read s
-by_class class.Measures bang before b s = measures_read b s
-by_class class.Bar bang before b s = bar_read (b ∷ s)
-by_class class.Dot bang before b s = dot_read s
-by_class class.Bracket bang before b s = opened (opening s) bang s
-by_class class.Brace bang before b s = grace_read bang s
-by_class class.Paren bang before b s = or_else (tuplet_read s) (read (slur_form false) s)
-by_class class.Close bang before b s = read close_form s
-by_class class.Tie bang before b s = read (tie_form false) s
-by_class class.Digit bang before b s = if is_bar before then ending_read false (b ∷ s) else None
-by_class class.Broken bang before b s = broken_read before b s
-by_class class.Quote bang before b s = says_read s
-by_class class.Bang bang before b s = bang_read bang s
-by_class class.Plus bang before b s = plus_read s
-by_class class.Blank bang before b s = space_read b s
-by_class class.Letter bang before b s = read (letter_form b) s
-by_class class.Dollar bang before b s = read (cut_form b) s
-by_class class.Passed bang before b s = read (passed_form b) s
-by_class class.Nothing bang before b s = None
+by_class Class.Note bang before b s = note_read (b ∷ s)
+by_class Class.Rest bang before b s = rest_read b s
+by_class Class.Gap bang before b s = gap_read s
+by_class Class.Measures bang before b s = measures_read b s
+by_class Class.Bar bang before b s = bar_read (b ∷ s)
+by_class Class.Dot bang before b s = dot_read s
+by_class Class.Bracket bang before b s = opened (opening s) bang s
+by_class Class.Brace bang before b s = grace_read bang s
+by_class Class.Paren bang before b s = or_else (tuplet_read s) (read (slur_form false) s)
+by_class Class.Close bang before b s = read close_form s
+by_class Class.Tie bang before b s = read (tie_form false) s
+by_class Class.Digit bang before b s = if is_bar before then ending_read false (b ∷ s) else None
+by_class Class.Broken bang before b s = broken_read before b s
+by_class Class.Quote bang before b s = says_read s
+by_class Class.Bang bang before b s = bang_read bang s
+by_class Class.Plus bang before b s = plus_read s
+by_class Class.Blank bang before b s = space_read b s
+by_class Class.Letter bang before b s = read (letter_form b) s
+by_class Class.Dollar bang before b s = read (cut_form b) s
+by_class Class.Passed bang before b s = read (passed_form b) s
+by_class Class.Nothing bang before b s = None
 
 unfoldable pub piece_at : Bool → Before → List ℕ → Read
 piece_at bang before [] = None
@@ -164,25 +147,25 @@ piece_at bang before (b ∷ s) = by_class (class_of b) bang before b s
 
 -- what is found, as a token
 abbrev pub token_of : Bool → Found → Option Token
-token_of bang (found.Note head len) = Some (token.Note head len)
-token_of bang (found.Rest seen len) = Some (token.Rest seen len)
-token_of bang (found.Measures seen count) = Some (token.Measures seen count)
-token_of bang (found.Chord inside len) = let said = senses bang inside.now in Some (token.Chord (heads_of said) (decos_of said) len)
-token_of bang (found.Grace slash inside) = Some (token.Grace slash (body_of (walk (grace_part_at bang) inside.now).0))
-token_of bang (found.Tuplet p q r) = Some (token.Tuplet p q r)
-token_of bang found.SlurOn = Some token.SlurOn
-token_of bang found.SlurOff = Some token.SlurOff
-token_of bang found.Tie = Some token.Tie
-token_of bang (found.Broken right dots) = Some (token.Broken right dots)
-token_of bang (found.Bar b) = Some (token.Bar b)
-token_of bang (found.Ending text) = Some (token.Ending text.now)
-token_of bang (found.Letter byte) = Some (token.Deco (deco_of_letter byte))
-token_of bang (found.Named name) = Some (token.Deco (deco_of_name name.now))
-token_of bang (found.Says text) = Some (token.Says text.now)
-token_of bang (found.Inline letter text) = inline_token letter text.now
-token_of bang found.Cut = Some token.Cut
-token_of bang found.Space = Some token.Space
-token_of bang found.Passed = None
+token_of bang (Found.Note head len) = Some (Token.Note head len)
+token_of bang (Found.Rest seen len) = Some (Token.Rest seen len)
+token_of bang (Found.Measures seen count) = Some (Token.Measures seen count)
+token_of bang (Found.Chord inside len) = let said = senses bang inside.now in Some (Token.Chord (heads_of said) (decos_of said) len)
+token_of bang (Found.Grace slash inside) = Some (Token.Grace slash (body_of (walk (grace_part_at bang) inside.now).0))
+token_of bang (Found.Tuplet p q r) = Some (Token.Tuplet p q r)
+token_of bang Found.SlurOn = Some Token.SlurOn
+token_of bang Found.SlurOff = Some Token.SlurOff
+token_of bang Found.Tie = Some Token.Tie
+token_of bang (Found.Broken right dots) = Some (Token.Broken right dots)
+token_of bang (Found.Bar b) = Some (Token.Bar b)
+token_of bang (Found.Ending text) = Some (Token.Ending text.now)
+token_of bang (Found.Letter byte) = Some (Token.Deco (deco_of_letter byte))
+token_of bang (Found.Named name) = Some (Token.Deco (deco_of_name name.now))
+token_of bang (Found.Says text) = Some (Token.Says text.now)
+token_of bang (Found.Inline letter text) = inline_token letter text.now
+token_of bang Found.Cut = Some Token.Cut
+token_of bang Found.Space = Some Token.Space
+token_of bang Found.Passed = None
 
 -- a token, what it tells of the next piece, and what follows
 abbrev pub seen : Option Token → Before → List ℕ → Option Token × Before × List ℕ
@@ -196,6 +179,6 @@ meaning z = option_map (λ x. seen (meant x.0) (after x.0) x.1) z
 
 -- the text of a chord or a grace has at most so many bytes
 abbrev pub found_within : Found → ℕ → Type 0
-found_within (found.Chord inside len) most = length inside.now ≤ most
-found_within (found.Grace slash inside) most = length inside.now ≤ most
+found_within (Found.Chord inside len) most = length inside.now ≤ most
+found_within (Found.Grace slash inside) most = length inside.now ≤ most
 found_within _ most = Unit {0}

@@ -3,8 +3,7 @@ use Prim.Native.Char.{code}
 use Rattle.std.specs.Prelude.{◌≡◌, ◌-◌, ℕ, List, [], ◌∷◌, ◌++◌, Bool, true, if◌then◌else◌, Option, Some, None, codes}
 use Rattle.std.specs.Str.Parse.{digits_value}
 use Rattle.mus_units.specs.Bytes.{is_within}
-use Rattle.abc_notes.specs.Runs.{skip}
-use Rattle.abc_notes.specs.Lengths.{IsCount, number_at}
+use Rattle.abc_notes.specs.{Runs.skip, Lengths.IsCount, Lengths.number_at}
 
 pub data TupletForm : Type 0 where
   bare : (p : ℕ) → TupletForm

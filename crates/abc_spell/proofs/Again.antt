@@ -1,43 +1,18 @@
 -- A plain spelling is read as its tokens.
 use Rattle.std.proofs.Common.{◌≡◌, ℕ, ◌-◌, ◌≤◌, Bool, true, false, eqb, List, [], ◌∷◌, ◌++◌, length, Option, Some, None, refl, sym, ap, ◌∙◌, subst, arith, Result, Ok, Err, IfOk, IfSome, map}
-use Rattle.std.specs.Fmt.{decimal}
-use Rattle.std.specs.Str.Parse.{digits_value}
-use Rattle.std.proofs.lemmas.Fmt.{decimal_digit}
-use Rattle.std.proofs.lemmas.Bool.{cond_both, and_parts, leb-true, ne_eqb, both_ways, eq-eqb}
-use Rattle.mus_units.specs.declared.note.Bar.{Bar}
-use Rattle.mus_units.specs.declared.note.Deco.{Deco}
-use Rattle.mus_units.specs.declared.note.Head.{Head}
-use Rattle.abc_pieces.specs.declared.token.Before.{Before}
-use Rattle.abc_pieces.specs.declared.token.Before.TheVariants as behind
-use Rattle.abc_notes.specs.declared.part.GraceChord.{GraceChord}
-use Rattle.abc_notes.specs.declared.part.Len.{Len}
-use Rattle.abc_pieces.specs.declared.token.Token.{Token}
-use Rattle.abc_pieces.specs.declared.token.Token.TheVariants as token
-use Rattle.mus_units.specs.Bytes.{is_digit}
-use Rattle.abc_notes.specs.Runs.{maybe}
-use Rattle.abc_notes.specs.Lengths.{LengthForm, IsCount, count_of, len_of, IsLength}
-use Rattle.abc_notes.specs.Notes.{NoteForm, IsNote, head_of}
-use Rattle.abc_pieces.specs.Bars.{BarForm, meant as bar_of}
-use Rattle.abc_notes.specs.Items.{sense}
-use Rattle.abc_notes.specs.Decorations.{deco_of_letter, deco_of_name}
-use Rattle.abc_notes.specs.Chords.{ChordForm, heads_of, decos_of}
-use Rattle.abc_notes.specs.Graces.{GraceForm, body_of}
-use Rattle.abc_pieces.specs.Tuplets.{bare, with_q, with_r, IsTuplet, is_tuplet_digit, value_or_zero}
+use Rattle.std.{proofs.lemmas.Fmt.decimal_digit, proofs.lemmas.Bool.cond_both, proofs.lemmas.Bool.and_parts, proofs.lemmas.Bool.leb-true, proofs.lemmas.Bool.ne_eqb, proofs.lemmas.Bool.both_ways, proofs.lemmas.Bool.eq-eqb, specs.Fmt.decimal, specs.Str.Parse.digits_value}
+use Rattle.mus_units.specs.{declared.note.Bar.Bar, declared.note.Deco.Deco, declared.note.Head.Head, Bytes.is_digit}
 use Rattle.abc_pieces.specs.Forms.{Form, note_form, rest_form, measures_form, chord_form, grace_form, tuplet_form, slur_form, close_form, tie_form, broken_form, bar_form, ending_form, letter_form, named_form, says_form, inline_form, cut_form, space_form, passed_form, spelled, meant, after, IsGood, StandsAt, is_kept_field, inline_token}
-use Rattle.abc_pieces.specs.Reading.{read, piece_at, class_of}
-use Rattle.abc_notes.specs.Parts.{IsLongest}
-use Rattle.abc_notes.proofs.Bounds.{digit_value-is}
-use Rattle.abc_notes.proofs.PartLaws.{longest_of}
+use Rattle.abc_pieces.specs.{declared.token.Before.Before, declared.token.Token.Token, Tuplets.bare, Tuplets.with_q, Tuplets.with_r, Tuplets.IsTuplet, Tuplets.is_tuplet_digit, Tuplets.value_or_zero, Reading.read, Reading.piece_at, Reading.class_of}
 use Rattle.abc_pieces.proofs.PieceReader.{piece_reader}
-use Rattle.abc_tokens.specs.declared.token.Placed.{Placed}
-use Rattle.abc_tokens.specs.Tokens.{Tokens, ends, goes, column, put}
-use Rattle.abc_spell.specs.Plain.{all_then, len_then, number_or_empty, name_of, token_then, next_then, plain_text}
-use Rattle.abc_spell.specs.Again.{ReadsAs, IsReadable}
-use Rattle.abc_spell.proofs.Numbers.{digit_from, digits_again, count_again, is_count, count_means, len_form, len_again, head_form, head_good, head_means}
-use Rattle.abc_spell.proofs.Bars.{plain_bar, same_bar}
-use Rattle.abc_spell.proofs.Names.{GoodDeco, letter_good, name_good}
+use Rattle.abc_notes.specs.{declared.part.GraceChord.GraceChord, declared.part.Len.Len, Runs.maybe, Lengths.LengthForm, Lengths.IsCount, Lengths.count_of, Lengths.len_of, Lengths.IsLength, Notes.NoteForm, Notes.IsNote, Notes.head_of, Items.sense, Decorations.deco_of_letter, Decorations.deco_of_name}
+use Rattle.abc_notes.{specs.Chords.ChordForm, specs.Chords.heads_of, specs.Chords.decos_of, specs.Graces.GraceForm, specs.Graces.body_of, specs.Parts.IsLongest, proofs.Bounds.digit_value-is, proofs.PartLaws.longest_of}
+use Rattle.abc_pieces.specs.Bars.{BarForm, meant as bar_of}
+use Rattle.abc_tokens.specs.{declared.token.Placed.Placed, Tokens.Tokens, Tokens.ends, Tokens.goes, Tokens.column, Tokens.put}
 use Rattle.abc_spell.proofs.Exact.{Stops, at_end, at_quote, IsExact, note_piece, rest_piece, measures_piece, tuplet_piece, slur_piece, broken_piece, bar_piece, ending_piece, named_piece, says_piece, inline_piece, space_piece, chord_piece, grace_piece}
 use Rattle.abc_spell.proofs.Groups.{plain_chord, chord_spell, chord_heads, chord_decos, chord_good, chord_whole, chord_opens, heads_from, decos_from, some_heads, plain_grace, grace_spell, body_means, grace_good, body_whole, body_from}
+use Rattle.abc_spell.{specs.Plain.all_then, specs.Plain.len_then, specs.Plain.number_or_empty, specs.Plain.name_of, specs.Plain.token_then, specs.Plain.next_then, specs.Plain.plain_text, specs.Again.ReadsAs, specs.Again.IsReadable, proofs.Numbers.digit_from, proofs.Numbers.digits_again}
+use Rattle.abc_spell.proofs.{Numbers.count_again, Numbers.is_count, Numbers.count_means, Numbers.len_form, Numbers.len_again, Numbers.head_form, Numbers.head_good, Numbers.head_means, Bars.plain_bar, Bars.same_bar, Names.GoodDeco, Names.letter_good, Names.name_good}
 
 -- a piece that is the plain spelling of the token, and is read as itself
 pub record IsPlain (t : Token) : Type 0 where
@@ -48,40 +23,40 @@ pub record IsPlain (t : Token) : Type 0 where
 
 -- ---- each kind
 
-note_plain : (f : NoteForm) → IsNote f → IsPlain (token.Note (head_of f) (len_of f.length))
+note_plain : (f : NoteForm) → IsNote f → IsPlain (Token.Note (head_of f) (len_of f.length))
 note_plain f good =
     let head = head_of f in
     let len = len_of f.length in
     let l = len_again f.length good.length in
     record {
       form = note_form (head_form head (len_form len));
-      means = ap (λ (h : Head). Some (token.Note h (len_of (len_form len)))) (head_means head (len_form len)) ∙ ap (λ (k : Len). Some (token.Note head k)) l.means;
+      means = ap (λ (h : Head). Some (Token.Note h (len_of (len_form len)))) (head_means head (len_form len)) ∙ ap (λ (k : Len). Some (Token.Note head k)) l.means;
       spells = λ x. refl;
       exact = λ x h. note_piece (head_form head (len_form len)) x (head_good head (len_form len) l.good) h;
     }
 
-rest_plain : (seen : Bool) (f : LengthForm) → IsLength f → IsPlain (token.Rest seen (len_of f))
+rest_plain : (seen : Bool) (f : LengthForm) → IsLength f → IsPlain (Token.Rest seen (len_of f))
 rest_plain seen f good =
     let l = len_again f good in
     record {
       form = rest_form seen (len_form (len_of f));
-      means = ap (λ (k : Len). Some (token.Rest seen k)) l.means;
+      means = ap (λ (k : Len). Some (Token.Rest seen k)) l.means;
       spells = λ x. refl;
       exact = λ x h. rest_piece seen (len_form (len_of f)) x l.good h;
     }
 
-measures_plain : (seen : Bool) (count : List ℕ) → IsCount 3 count → IsPlain (token.Measures seen (count_of count))
+measures_plain : (seen : Bool) (count : List ℕ) → IsCount 3 count → IsPlain (Token.Measures seen (count_of count))
 measures_plain seen count good =
     let a = count_again 3 count (omega arith) (omega arith) good in
     let n = count_of count in
     record {
       form = measures_form seen (decimal n);
-      means = ap (λ (k : ℕ). Some (token.Measures seen k)) (count_means 3 n a);
+      means = ap (λ (k : ℕ). Some (Token.Measures seen k)) (count_means 3 n a);
       spells = λ x. refl;
       exact = λ x h. measures_piece seen (decimal n) x (is_count 3 n a) h;
     }
 
-chord_plain : (bang : Bool) (f : ChordForm) → IsGood bang (chord_form f) → IsPlain (token.Chord (heads_of (map sense f.parts)) (decos_of (map sense f.parts)) (len_of f.length))
+chord_plain : (bang : Bool) (f : ChordForm) → IsGood bang (chord_form f) → IsPlain (Token.Chord (heads_of (map sense f.parts)) (decos_of (map sense f.parts)) (len_of f.length))
 chord_plain bang f good =
     let hs = heads_of (map sense f.parts) in
     let ds = decos_of (map sense f.parts) in
@@ -93,20 +68,20 @@ chord_plain bang f good =
     let plain = plain_chord hs ds len in
     record {
       form = chord_form plain;
-      means = ap (λ (list : List (Head × Len)). Some (token.Chord list (decos_of (map sense plain.parts)) (len_of (len_form len)))) (chord_heads hs ds heads)
-          ∙ ap (λ (list : List Deco). Some (token.Chord hs list (len_of (len_form len)))) (chord_decos hs ds decos)
-          ∙ ap (λ (k : Len). Some (token.Chord hs ds k)) l.means;
+      means = ap (λ (list : List (Head × Len)). Some (Token.Chord list (decos_of (map sense plain.parts)) (len_of (len_form len)))) (chord_heads hs ds heads)
+          ∙ ap (λ (list : List Deco). Some (Token.Chord hs list (len_of (len_form len)))) (chord_decos hs ds decos)
+          ∙ ap (λ (k : Len). Some (Token.Chord hs ds k)) l.means;
       spells = λ x. ap (λ s. 91 ∷ s) (chord_spell hs ds (93 ∷ len_then len x));
       exact = λ x h. chord_piece plain x (chord_good hs ds len some heads decos l) (chord_whole hs ds) (chord_opens hs ds len some heads) h;
     }
 
-grace_plain : (bang : Bool) (f : GraceForm) → IsGood bang (grace_form f) → IsPlain (token.Grace f.slash (body_of f.parts))
+grace_plain : (bang : Bool) (f : GraceForm) → IsGood bang (grace_form f) → IsPlain (Token.Grace f.slash (body_of f.parts))
 grace_plain bang f good =
     let body = body_of f.parts in
     let b = body_from bang f.inside f.parts good.parts in
     record {
       form = grace_form (plain_grace f.slash body);
-      means = ap (λ (list : List GraceChord). Some (token.Grace f.slash list)) (body_means body b);
+      means = ap (λ (list : List GraceChord). Some (Token.Grace f.slash list)) (body_means body b);
       spells = λ x. ap (λ s. 123 ∷ maybe f.slash 47 s) (grace_spell body (125 ∷ x) b);
       exact = λ x h. grace_piece (plain_grace f.slash body) x (grace_good f.slash body b) (body_whole body b);
     }
@@ -131,7 +106,7 @@ empty_again most (d ∷ ds) few good =
     let not_zero : eqb n 0 ≡ false = ne_eqb n 0 (λ z. both_ways (eqb d 48) good.no_zero (eq-eqb d 48 (first_of d 48 ds (sym (decimal_digit 0 (omega arith)) ∙ sym (ap decimal z) ∙ is)))) in
     rw not_zero is
 
-tuplet_plain : (p : ℕ) (q r : List ℕ) → IsTuplet (with_r p q r) → IsPlain (token.Tuplet (p - 48) (value_or_zero q) (value_or_zero r))
+tuplet_plain : (p : ℕ) (q r : List ℕ) → IsTuplet (with_r p q r) → IsPlain (Token.Tuplet (p - 48) (value_or_zero q) (value_or_zero r))
 tuplet_plain p q r good =
     let digit = tuplet_number p (tuplet_digit p good.0) in
     let second = empty_again 1 q (omega arith) good.1 in
@@ -146,22 +121,22 @@ tuplet_plain p q r good =
       exact = λ x h. tuplet_piece p q r x good h;
     }
 
-bar_plain : (f : BarForm) → IsGood false (bar_form f) → IsPlain (token.Bar (bar_of f))
+bar_plain : (f : BarForm) → IsGood false (bar_form f) → IsPlain (Token.Bar (bar_of f))
 bar_plain f good =
     let s = same_bar f good in
     record {
       form = bar_form (plain_bar (bar_of f));
-      means = ap (λ (b : Bar). Some (token.Bar b)) s.0;
+      means = ap (λ (b : Bar). Some (Token.Bar b)) s.0;
       spells = s.2;
       exact = λ x h. bar_piece (plain_bar (bar_of f)) x s.1 h;
     }
 
-deco_plain : (d : Deco) → GoodDeco d → IsPlain (token.Deco d)
-deco_plain d good = record { form = named_form (name_of d); means = ap (λ (e : Deco). Some (token.Deco e)) good.means; spells = λ x. refl; exact = λ x h. named_piece (name_of d) x good.name }
+deco_plain : (d : Deco) → GoodDeco d → IsPlain (Token.Deco d)
+deco_plain d good = record { form = named_form (name_of d); means = ap (λ (e : Deco). Some (Token.Deco e)) good.means; spells = λ x. refl; exact = λ x h. named_piece (name_of d) x good.name }
 
 inline_plain : (letter : ℕ) (text : List ℕ) → IsGood false (inline_form letter text) → IfSome (inline_token letter text) IsPlain
 inline_plain letter text good =
-    cond_both (is_kept_field letter) (Some (token.Inline letter text)) None (λ o. IfSome o IsPlain)
+    cond_both (is_kept_field letter) (Some (Token.Inline letter text)) None (λ o. IfSome o IsPlain)
     (λ kept. record { form = inline_form letter text; means = rw kept refl; spells = λ x. refl; exact = λ x h. inline_piece letter text x good.0 good.1 })
     (λ dropped. tt)
 
@@ -209,26 +184,26 @@ plain_tokens bang n _ _ _ (goes before s f rest ts all l more is) =
     subst (λ us. AllPlain (tokens_in us)) (sym is) (put_plain (meant f) (column n (length s)) ts (plain_of bang f l.stands.good) (plain_tokens bang n (after f) rest ts more))
 
 readable_plain : (ts : List Token) → IsReadable ts → AllPlain ts
-readable_plain ts h = subst AllPlain h.reads.same (plain_tokens h.bang (length h.line) behind.Other h.line h.reads.placed h.reads.reads)
+readable_plain ts h = subst AllPlain h.reads.same (plain_tokens h.bang (length h.line) Before.Other h.line h.reads.placed h.reads.reads)
 
 pub record Found (n : ℕ) (before : Before) (s : List ℕ) (ts : List Token) : Type 0 where
   pub placed : List Placed
   pub tokens : Tokens false n before s placed
   pub same : tokens_in placed ≡ ts
 
-one : (n : ℕ) (t : Token) (x : List ℕ) (ts : List Token) → (p : IsPlain t) → Stops x → Found n (after p.form) x ts → Found n behind.Other (token_then t x) (t ∷ ts)
+one : (n : ℕ) (t : Token) (x : List ℕ) (ts : List Token) → (p : IsPlain t) → Stops x → Found n (after p.form) x ts → Found n Before.Other (token_then t x) (t ∷ ts)
 one n t x ts p stops later =
     let s = token_then t x in
     let c = column n (length s) in
-    let e : piece_at false behind.Other s ≡ read p.form x = ap (piece_at false behind.Other) (sym (p.spells x)) ∙ p.exact x stops in
-    let l : IsLongest Form (StandsAt false behind.Other) s p.form x = longest_of (piece_reader false behind.Other) s (p.form, x) e in
+    let e : piece_at false Before.Other s ≡ read p.form x = ap (piece_at false Before.Other) (sym (p.spells x)) ∙ p.exact x stops in
+    let l : IsLongest Form (StandsAt false Before.Other) s p.form x = longest_of (piece_reader false Before.Other) s (p.form, x) e in
     record {
       placed = record { token = t; column = c } ∷ later.placed;
-      tokens = goes behind.Other s p.form x later.placed (record { token = t; column = c } ∷ later.placed) l later.tokens (ap (λ o. put o c later.placed) (sym p.means));
+      tokens = goes Before.Other s p.form x later.placed (record { token = t; column = c } ∷ later.placed) l later.tokens (ap (λ o. put o c later.placed) (sym p.means));
       same = ap (λ (us : List Token). t ∷ us) later.same;
     }
 
-quoted : (n : ℕ) (before : Before) (s : List ℕ) (ts : List Token) → Found n behind.Other s ts → Found n before (96 ∷ s) ts
+quoted : (n : ℕ) (before : Before) (s : List ℕ) (ts : List Token) → Found n Before.Other s ts → Found n before (96 ∷ s) ts
 unfolding piece_at class_of
 quoted n before s ts later =
     let l : IsLongest Form (StandsAt false before) (96 ∷ s) (passed_form 96) s = longest_of (piece_reader false before) (96 ∷ s) (passed_form 96, s) refl in
@@ -244,8 +219,8 @@ next_found n before (t ∷ ts) good =
     let x = all_then next_then ts [] in
     quoted n before (token_then t x) (t ∷ ts) (one n t x ts good.0 (next_stops ts) (next_found n (after good.0.form) ts good.1))
 
-text_found : (n : ℕ) (ts : List Token) → AllPlain ts → Found n behind.Other (plain_text ts) ts
-text_found n [] good = record { placed = []; tokens = ends behind.Other; same = refl }
+text_found : (n : ℕ) (ts : List Token) → AllPlain ts → Found n Before.Other (plain_text ts) ts
+text_found n [] good = record { placed = []; tokens = ends Before.Other; same = refl }
 text_found n (t ∷ ts) good = one n t (all_then next_then ts []) ts good.0 (next_stops ts) (next_found n (after good.0.form) ts good.1)
 
 -- what is spelled is read again

@@ -1,35 +1,16 @@
 -- Where a backquote or nothing follows, a piece in its plain spelling is read as itself.
 use Rattle.std.proofs.Common.{◌≡◌, ℕ, zero, suc, ◌≤◌, Bool, true, false, eqb, List, [], ◌∷◌, ◌++◌, length, Option, Some, None, refl, sym, ap, ◌∙◌, arith, inl, inr, not, option_map, append-nil}
-use Rattle.std.specs.List.{list_all}
-use Rattle.std.proofs.lemmas.Bool.{and_parts, ne_eqb, both_ways, not-true}
-use Rattle.mus_units.specs.declared.pitch.Alter.{Alter}
-use Rattle.mus_units.specs.declared.pitch.Alter.TheVariants.{Sharp2}
-use Rattle.mus_units.specs.declared.pitch.Letter.{Letter}
-use Rattle.mus_units.specs.declared.pitch.Letter.TheVariants.{C}
-use Rattle.mus_units.specs.Bytes.{is_digit, is_blank, is_letter}
-use Rattle.abc_notes.specs.Runs.{copies, maybe, span, begins}
-use Rattle.abc_notes.proofs.RunLaws.{skip-yes}
-use Rattle.abc_notes.proofs.SpanLaws.{span-cons, span-zero, span-stops, span_all-append, span_all-stops}
+use Rattle.std.{proofs.lemmas.Bool.and_parts, proofs.lemmas.Bool.ne_eqb, proofs.lemmas.Bool.both_ways, proofs.lemmas.Bool.not-true, specs.List.list_all}
+use Rattle.mus_units.specs.{declared.pitch.Alter.Alter, declared.pitch.Letter.Letter, Bytes.is_digit, Bytes.is_blank, Bytes.is_letter, declared.pitch.Alter.TheVariants.Sharp2, declared.pitch.Letter.TheVariants.C}
+use Rattle.abc_notes.specs.{Runs.copies, Runs.maybe, Runs.span, Runs.begins, Lengths.LengthForm, Lengths.length_then, Lengths.length_at, Lengths.IsLength, Lengths.IsCount, Lengths.number_at, Notes.NoteForm, Notes.note_then, Notes.sign_then, Notes.letter_byte, Notes.IsNote, Notes.note_at}
+use Rattle.abc_notes.{specs.Items.IsName, specs.Items.is_note_byte, specs.Chords.ChordForm, specs.Chords.chord_then, specs.Chords.is_inside, specs.Chords.IsChord, specs.Chords.chord_at, specs.Graces.GraceForm, specs.Graces.IsGrace, specs.Graces.is_slash_byte, proofs.RunLaws.skip-yes}
+use Rattle.abc_notes.proofs.{SpanLaws.span-cons, SpanLaws.span-zero, SpanLaws.span-stops, SpanLaws.span_all-append, SpanLaws.span_all-stops, LengthLaws.goes_on, LengthLaws.length_at-reaches, LengthLaws.count-reads, LengthLaws.count-stops, NoteLaws.note_goes_on, NoteLaws.note_at-reaches}
+use Rattle.abc_notes.proofs.{ItemLaws.name_at-reads, GraceLaws.grace-reads, GraceLaws.has_lone_part, ChordLaws.chord-reads, ChordLaws.has_lone}
 use Rattle.abc_pieces.specs.Bars.{BarForm, signs, colons, form_at, spelled as bar_then, IsGood as IsBar}
 use Rattle.abc_pieces.proofs.BarLaws.{form_at-reaches, goes_on as bar_goes_on}
-use Rattle.abc_notes.specs.Lengths.{LengthForm, length_then, length_at, IsLength, IsCount, number_at}
-use Rattle.abc_notes.proofs.LengthLaws.{goes_on, length_at-reaches, count-reads, count-stops}
-use Rattle.abc_notes.specs.Notes.{NoteForm, note_then, sign_then, letter_byte, IsNote, note_at}
-use Rattle.abc_notes.proofs.NoteLaws.{note_goes_on, note_at-reaches}
-use Rattle.abc_notes.specs.Items.{IsName, is_note_byte}
-use Rattle.abc_notes.proofs.ItemLaws.{name_at-reads}
-use Rattle.abc_notes.specs.Chords.{ChordForm, chord_then, is_inside, IsChord, chord_at}
-use Rattle.abc_notes.specs.Graces.{GraceForm, IsGrace, is_slash_byte}
-use Rattle.abc_notes.proofs.GraceLaws.{grace-reads, has_lone_part}
-use Rattle.abc_notes.proofs.ChordLaws.{chord-reads, has_lone}
-use Rattle.abc_pieces.specs.Tuplets.{with_r, tuplet_then, tuplet_at, IsTuplet}
-use Rattle.abc_pieces.proofs.Classes.{digit_below, letter_apart}
-use Rattle.abc_pieces.proofs.PieceTakes.{opening-behind}
-use Rattle.abc_pieces.specs.declared.token.Before.{Before}
-use Rattle.abc_pieces.specs.declared.token.Before.TheVariants as behind
-use Rattle.abc_pieces.specs.declared.token.Opening.TheVariants as opens
 use Rattle.abc_pieces.specs.Forms.{Form, note_form, rest_form, measures_form, chord_form, grace_form, tuplet_form, slur_form, broken_form, bar_form, ending_form, letter_form, named_form, says_form, inline_form, space_form, spelled, is_ending, is_text, arrow, opening}
 use Rattle.abc_pieces.specs.Reading.{Read, read, class_of, note_read, rest_read, measures_read, bar_read, chord_read, grace_read, tuplet_read, or_else, ending_read, broken_read, says_read, inline_read, space_read, bang_read, dot_read, opened, piece_at}
+use Rattle.abc_pieces.{specs.Tuplets.with_r, specs.Tuplets.tuplet_then, specs.Tuplets.tuplet_at, specs.Tuplets.IsTuplet, specs.declared.token.Before.Before, proofs.Classes.digit_below, proofs.Classes.letter_apart, proofs.PieceTakes.opening-behind, specs.declared.token.Opening.Opening}
 
 pub data Stops : List ℕ → Type 0 where
   at_end : Stops []
@@ -41,7 +22,7 @@ stop p _ h (at_quote y) = h
 
 -- the piece is read as itself
 abbrev pub IsExact : Form → List ℕ → Type 0
-IsExact f x = piece_at false behind.Other (spelled f x) ≡ read f x
+IsExact f x = piece_at false Before.Other (spelled f x) ≡ read f x
 
 -- ---- lengths and notes
 
@@ -92,7 +73,7 @@ note_is_read f x good h = ap (option_map (λ (z : NoteForm × List ℕ). form_pa
 pub note_piece : (f : NoteForm) (x : List ℕ) → IsNote f → Stops x → IsExact (note_form f) x
 note_piece f x good h =
     let b = first_is f.sign f.low f.letter (f.marks ++ length_then f.length x) in
-    ap (piece_at false behind.Other) b.is ∙ note_class behind.Other b.byte b.rest b.note ∙ ap note_read (sym b.is) ∙ note_is_read f x good (stop note_goes_on x refl h)
+    ap (piece_at false Before.Other) b.is ∙ note_class Before.Other b.byte b.rest b.note ∙ ap note_read (sym b.is) ∙ note_is_read f x good (stop note_goes_on x refl h)
 
 pub rest_piece : (seen : Bool) (len : LengthForm) (x : List ℕ) → IsLength len → Stops x → IsExact (rest_form seen len) x
 unfolding piece_at class_of rest_read
@@ -230,10 +211,10 @@ chord_is_read : (f : ChordForm) (x : List ℕ) → IsChord false f → has_lone 
 unfolding chord_read
 chord_is_read f x good whole h = ap (option_map (λ (z : ChordForm × List ℕ). form_pair (chord_form z.0) z.1)) (chord_exact f x good whole (stop goes_on x refl h))
 
-opened_chord : (f : ChordForm) (x : List ℕ) → opening (chord_then f []) ≡ opens.Chord → opened (opening (chord_then f x)) false (chord_then f x) ≡ chord_read false (chord_then f x)
-opened_chord f x h = let e : opening (chord_then f x) ≡ opens.Chord = opening-behind f.inside (length_then f.length x) (length_then f.length []) ∙ h in rw e refl
+opened_chord : (f : ChordForm) (x : List ℕ) → opening (chord_then f []) ≡ Opening.Chord → opened (opening (chord_then f x)) false (chord_then f x) ≡ chord_read false (chord_then f x)
+opened_chord f x h = let e : opening (chord_then f x) ≡ Opening.Chord = opening-behind f.inside (length_then f.length x) (length_then f.length []) ∙ h in rw e refl
 
-pub chord_piece : (f : ChordForm) (x : List ℕ) → IsChord false f → has_lone f.parts ≡ false → opening (chord_then f []) ≡ opens.Chord → Stops x → IsExact (chord_form f) x
+pub chord_piece : (f : ChordForm) (x : List ℕ) → IsChord false f → has_lone f.parts ≡ false → opening (chord_then f []) ≡ Opening.Chord → Stops x → IsExact (chord_form f) x
 unfolding piece_at class_of
 chord_piece f x good whole o h = opened_chord f x o ∙ chord_is_read f x good whole h
 

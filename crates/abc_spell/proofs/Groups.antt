@@ -1,39 +1,16 @@
 -- Chords and grace groups in their plain spelling are read as themselves.
 use Rattle.std.proofs.Common.{◌≡◌, ℕ, ◌≤◌, Bool, true, false, eqb, List, [], ◌∷◌, ◌++◌, length, Option, Some, None, refl, sym, ap, ◌∙◌, arith, inl, inr, append_assoc, not, option_map, map}
-use Rattle.std.specs.List.{list_all}
-use Rattle.std.specs.Fmt.{decimal}
-use Rattle.std.proofs.lemmas.Bool.{or_cases, and_parts, eqb-true, ne_eqb, not-true, or_parts}
-use Rattle.mus_units.specs.declared.note.Deco.{Deco}
-use Rattle.mus_units.specs.declared.note.Head.{Head}
-use Rattle.mus_units.specs.declared.pitch.Alter.{Alter}
-use Rattle.mus_units.specs.declared.pitch.Alter.TheVariants.{Sharp2}
-use Rattle.mus_units.specs.declared.pitch.Letter.{Letter}
-use Rattle.mus_units.specs.declared.pitch.Letter.TheVariants.{C}
-use Rattle.abc_notes.specs.declared.part.GraceChord.{GraceChord}
-use Rattle.abc_notes.specs.declared.part.Len.{Len}
-use Rattle.abc_pieces.specs.declared.token.Opening.TheVariants as opens
-use Rattle.mus_units.specs.Bytes.{is_digit}
-use Rattle.abc_notes.specs.Runs.{maybe, begins, is_mark}
-use Rattle.abc_notes.specs.Lengths.{LengthForm, whole, length_then, len_of}
-use Rattle.abc_notes.proofs.LengthLaws.{goes_on, count-digits}
-use Rattle.abc_notes.specs.Notes.{NoteForm, note_then, sign_then, letter_byte, IsNote, head_of, note_at}
-use Rattle.abc_notes.proofs.NoteLaws.{note_goes_on}
+use Rattle.std.{proofs.lemmas.Bool.or_cases, proofs.lemmas.Bool.and_parts, proofs.lemmas.Bool.eqb-true, proofs.lemmas.Bool.ne_eqb, proofs.lemmas.Bool.not-true, proofs.lemmas.Bool.or_parts, specs.List.list_all, specs.Fmt.decimal}
+use Rattle.mus_units.specs.{declared.note.Deco.Deco, declared.note.Head.Head, declared.pitch.Alter.Alter, declared.pitch.Letter.Letter, Bytes.is_digit, declared.pitch.Alter.TheVariants.Sharp2, declared.pitch.Letter.TheVariants.C}
 use Rattle.abc_notes.specs.Items.{Inner, note_inside, letter_inside, named_inside, tie_inside, lone_inside, inner_then, IsInner, IsName, sense, InnerParts, inner_at, item_class, is_note_byte}
-use Rattle.abc_notes.proofs.ItemLaws.{name_at-reads}
-use Rattle.abc_notes.proofs.InnerLaws.{inner_reader}
-use Rattle.abc_notes.proofs.PartLaws.{longest_of}
-use Rattle.abc_notes.proofs.Bounds.{digit_range}
-use Rattle.abc_notes.specs.Parts.{no_part, then_part}
-use Rattle.abc_notes.specs.Chords.{ChordForm, chord_then, has_head, IsChord, is_tied, tied_if, heads_of, decos_of}
 use Rattle.abc_notes.specs.Graces.{GracePart, single, chorded, grace_part_then, IsGracePart, GraceParts, GraceForm, is_slash_byte, IsGrace, heads_in, body_of, grace_part_at, single_read, chorded_read}
-use Rattle.abc_notes.proofs.GraceLaws.{part_reader, at_bracket, lone_part_is, has_lone_part}
-use Rattle.abc_notes.proofs.ChordLaws.{has_lone}
+use Rattle.abc_notes.specs.{declared.part.GraceChord.GraceChord, declared.part.Len.Len, Runs.maybe, Runs.begins, Runs.is_mark, Lengths.LengthForm, Lengths.whole, Lengths.length_then, Lengths.len_of, Notes.NoteForm, Notes.note_then, Notes.sign_then, Notes.letter_byte, Notes.IsNote, Notes.head_of}
+use Rattle.abc_notes.{specs.Notes.note_at, specs.Parts.no_part, specs.Parts.then_part, specs.Chords.ChordForm, specs.Chords.chord_then, specs.Chords.has_head, specs.Chords.IsChord, specs.Chords.is_tied, specs.Chords.tied_if, specs.Chords.heads_of, specs.Chords.decos_of, proofs.LengthLaws.goes_on}
+use Rattle.abc_notes.proofs.{LengthLaws.count-digits, NoteLaws.note_goes_on, ItemLaws.name_at-reads, InnerLaws.inner_reader, PartLaws.longest_of, Bounds.digit_range, GraceLaws.part_reader, GraceLaws.at_bracket, GraceLaws.lone_part_is, GraceLaws.has_lone_part, ChordLaws.has_lone}
 use Rattle.abc_notes.proofs.CutLaws.{maybe_append, sign_append, wider}
-use Rattle.abc_pieces.specs.Forms.{opening}
-use Rattle.abc_spell.specs.Plain.{all_then, len_then, marks_of, is_small, head_then, chord_head_then, name_of, deco_then, heads_then, grace_chord_then}
-use Rattle.abc_spell.proofs.Numbers.{GoodLen, len_form, len_again, head_form, head_good, head_means, good_marks}
-use Rattle.abc_spell.proofs.Names.{GoodDeco, letter_good, name_good}
-use Rattle.abc_spell.proofs.Exact.{First, first_is, note_exact, chord_exact}
+use Rattle.abc_pieces.specs.{declared.token.Opening.Opening, Forms.opening}
+use Rattle.abc_spell.{specs.Plain.all_then, specs.Plain.len_then, specs.Plain.marks_of, specs.Plain.is_small, specs.Plain.head_then, specs.Plain.chord_head_then, specs.Plain.name_of, specs.Plain.deco_then, specs.Plain.heads_then, specs.Plain.grace_chord_then, proofs.Numbers.GoodLen}
+use Rattle.abc_spell.proofs.{Numbers.len_form, Numbers.len_again, Numbers.head_form, Numbers.head_good, Numbers.head_means, Numbers.good_marks, Names.GoodDeco, Names.letter_good, Names.name_good, Exact.First, Exact.first_is, Exact.note_exact, Exact.chord_exact}
 
 -- ---- lists of bytes that pass
 
@@ -254,7 +231,7 @@ chord_good (h ∷ hs) ds len some heads decos good = record {
 abbrev is_colon : ℕ → Bool
 is_colon b = eqb b 58
 
-open_head : (sign : Option Alter) (low : Bool) (l : Letter) (u : List ℕ) → begins is_colon u ≡ false → opening (sign_then sign (letter_byte low l ∷ u)) ≡ opens.Chord
+open_head : (sign : Option Alter) (low : Bool) (l : Letter) (u : List ℕ) → begins is_colon u ≡ false → opening (sign_then sign (letter_byte low l ∷ u)) ≡ Opening.Chord
 open_head (Some Sharp2) low l u h = refl
 open_head (Some _) low l u h = refl
 open_head None false C u h = rw h refl
@@ -271,7 +248,7 @@ no_colon_first : (a x : List ℕ) → list_all (λ b. not (eqb b 58)) a ≡ true
 no_colon_first [] x h k = k
 no_colon_first (b ∷ a) x h k = not-true (eqb b 58) (and_parts (not (eqb b 58)) (list_all (λ c. not (eqb c 58)) a) h).0
 
-opens_chord : (hs : List (Head × Len)) (ds : List Deco) (x : List ℕ) → 1 ≤ length hs → GoodHeads hs → opening (all_then deco_then ds (all_then chord_head_then hs x)) ≡ opens.Chord
+opens_chord : (hs : List (Head × Len)) (ds : List Deco) (x : List ℕ) → 1 ≤ length hs → GoodHeads hs → opening (all_then deco_then ds (all_then chord_head_then hs x)) ≡ Opening.Chord
 opens_chord hs (d ∷ ds) x some good = refl
 opens_chord [] [] x some good = absurd (omega (arith, some))
 opens_chord (h ∷ hs) [] x some good =
@@ -282,7 +259,7 @@ opens_chord (h ∷ hs) [] x some good =
     let marks = no_colon_first (marks_of o) (num ++ t) (wider is_mark (λ b. not (eqb b 58)) (marks_of o) mark_colon (good_marks o)) digits in
     open_head h.0.sign (is_small o) h.0.pitch.letter (marks_of o ++ (num ++ t)) marks
 
-pub chord_opens : (hs : List (Head × Len)) (ds : List Deco) (len : Len) → 1 ≤ length hs → GoodHeads hs → opening (chord_then (plain_chord hs ds len) []) ≡ opens.Chord
+pub chord_opens : (hs : List (Head × Len)) (ds : List Deco) (len : Len) → 1 ≤ length hs → GoodHeads hs → opening (chord_then (plain_chord hs ds len) []) ≡ Opening.Chord
 chord_opens hs ds len some good = ap opening (chord_spell hs ds (93 ∷ len_then len [])) ∙ opens_chord hs ds (93 ∷ len_then len []) some good
 
 -- ---- what any chord says can be written

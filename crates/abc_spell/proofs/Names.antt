@@ -3,8 +3,7 @@ use Rattle.std.proofs.Common.{◌≡◌, ℕ, cond, eqb, List, [], ◌∷◌, re
 use Rattle.std.proofs.lemmas.Bool.{cond_both}
 use Rattle.mus_units.specs.declared.note.Deco.{Deco}
 use Rattle.mus_units.specs.declared.note.Deco.TheVariants.{Ks, Kr, Kf, Ka, Km, Kc, Kp, Kg, Kt, Ku, Kd, Kn, Below, Above, Quiet}
-use Rattle.abc_notes.specs.Decorations.{deco_of_letter, deco_of_name, deco_of_text, is_text, is_one_of, is_accent, is_dynamic, is_finger}
-use Rattle.abc_notes.specs.Items.{IsName}
+use Rattle.abc_notes.specs.{Decorations.deco_of_letter, Decorations.deco_of_name, Decorations.deco_of_text, Decorations.is_text, Decorations.is_one_of, Decorations.is_accent, Decorations.is_dynamic, Decorations.is_finger, Items.IsName}
 use Rattle.abc_spell.specs.Plain.{name_of}
 
 -- the name means the decoration, and may stand between exclamation marks

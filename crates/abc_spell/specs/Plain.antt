@@ -6,17 +6,10 @@
 use Prim.Native.Char.{code}
 use Rattle.std.specs.Prelude.{◌≡◌, ℕ, ℤ, pos, negsuc, ◌+◌, ◌-◌, List, [], ◌∷◌, ◌++◌, Bool, false, not, ◌==◌, ◌&&◌, nat_le, if◌then◌else◌, replicate, codes}
 use Rattle.std.specs.Fmt.{decimal}
-use Rattle.mus_units.specs.declared.note.Bar.{Bar}
-use Rattle.mus_units.specs.declared.note.Deco.{Deco}
+use Rattle.mus_units.specs.{declared.note.Bar.Bar, declared.note.Deco.Deco, declared.note.Head.Head}
 use Rattle.mus_units.specs.declared.note.Deco.TheVariants.{Ks, Kr, Kf, Ka, Km, Kc, Kp, Kg, Kt, Ku, Kd, Kn, Below, Above, Quiet}
-use Rattle.mus_units.specs.declared.note.Head.{Head}
-use Rattle.abc_notes.specs.declared.part.GraceChord.{GraceChord}
-use Rattle.abc_notes.specs.declared.part.Len.{Len}
-use Rattle.abc_pieces.specs.declared.token.Token.{Token}
-use Rattle.abc_pieces.specs.declared.token.Token.TheVariants as token
-use Rattle.abc_notes.specs.Runs.{copies, maybe}
-use Rattle.abc_notes.specs.Notes.{sign_then, letter_byte}
-use Rattle.abc_pieces.specs.Forms.{arrow, rest_byte, measures_byte}
+use Rattle.abc_notes.specs.{declared.part.GraceChord.GraceChord, declared.part.Len.Len, Runs.copies, Runs.maybe, Notes.sign_then, Notes.letter_byte}
+use Rattle.abc_pieces.specs.{declared.token.Token.Token, Forms.arrow, Forms.rest_byte, Forms.measures_byte}
 
 -- one after the other, and what follows them
 abbrev pub all_then : {A : Type 0} → (A → List ℕ → List ℕ) → List A → List ℕ → List ℕ
@@ -97,23 +90,23 @@ bar_then b x = if b.unseen then code "[" ∷ code "|" ∷ code "]" ∷ x else (i
 
 -- the plain spelling of a token, and what follows it
 abbrev pub token_then : Token → List ℕ → List ℕ
-token_then (token.Note head len) x = head_then head (len_then len x)
-token_then (token.Rest seen len) x = rest_byte seen ∷ len_then len x
-token_then (token.Measures seen count) x = measures_byte seen ∷ (decimal count ++ x)
-token_then (token.Chord heads decos len) x = code "[" ∷ all_then deco_then decos (all_then chord_head_then heads (code "]" ∷ len_then len x))
-token_then (token.Grace slash body) x = code "{" ∷ maybe slash (code "/") (all_then grace_chord_then body (code "}" ∷ x))
-token_then (token.Tuplet p q r) x = code "(" ∷ tuplet_then p q r x
-token_then token.SlurOn x = code "(" ∷ x
-token_then token.SlurOff x = code ")" ∷ x
-token_then token.Tie x = code "-" ∷ x
-token_then (token.Broken right dots) x = copies dots (arrow right) x
-token_then (token.Bar b) x = bar_then b x
-token_then (token.Ending text) x = code "[" ∷ (text ++ x)
-token_then (token.Deco deco) x = deco_then deco x
-token_then (token.Says text) x = code "\"" ∷ (text ++ (code "\"" ∷ x))
-token_then (token.Inline letter text) x = code "[" ∷ letter ∷ code ":" ∷ (text ++ (code "]" ∷ x))
-token_then token.Cut x = code "$" ∷ x
-token_then token.Space x = code " " ∷ x
+token_then (Token.Note head len) x = head_then head (len_then len x)
+token_then (Token.Rest seen len) x = rest_byte seen ∷ len_then len x
+token_then (Token.Measures seen count) x = measures_byte seen ∷ (decimal count ++ x)
+token_then (Token.Chord heads decos len) x = code "[" ∷ all_then deco_then decos (all_then chord_head_then heads (code "]" ∷ len_then len x))
+token_then (Token.Grace slash body) x = code "{" ∷ maybe slash (code "/") (all_then grace_chord_then body (code "}" ∷ x))
+token_then (Token.Tuplet p q r) x = code "(" ∷ tuplet_then p q r x
+token_then Token.SlurOn x = code "(" ∷ x
+token_then Token.SlurOff x = code ")" ∷ x
+token_then Token.Tie x = code "-" ∷ x
+token_then (Token.Broken right dots) x = copies dots (arrow right) x
+token_then (Token.Bar b) x = bar_then b x
+token_then (Token.Ending text) x = code "[" ∷ (text ++ x)
+token_then (Token.Deco deco) x = deco_then deco x
+token_then (Token.Says text) x = code "\"" ∷ (text ++ (code "\"" ∷ x))
+token_then (Token.Inline letter text) x = code "[" ∷ letter ∷ code ":" ∷ (text ++ (code "]" ∷ x))
+token_then Token.Cut x = code "$" ∷ x
+token_then Token.Space x = code " " ∷ x
 
 -- a backquote, and a token behind it
 abbrev pub next_then : Token → List ℕ → List ℕ

@@ -1,28 +1,14 @@
 -- What a piece spells is a good token.
 use Rattle.std.proofs.Common.{◌≡◌, ℕ, suc, ◌+◌, ◌*◌, ◌-◌, ◌^◌, ◌≤◌, ◌<◌, Bool, true, false, List, [], ◌∷◌, ◌++◌, map, length, sym, subst, arith}
-use Rattle.std.specs.Prelude.{Option, Some, None, ◌==◌, if◌then◌else◌, ⊤}
-use Rattle.std.specs.List.{list_all}
-use Rattle.std.specs.Char.{digit_value}
-use Rattle.std.specs.Str.Parse.{AllDigits, digits_value, digits_value_after}
-use Rattle.std.proofs.lemmas.Int.Digits.{digits_value-lt}
-use Rattle.std.proofs.lemmas.Bool.{and_parts, leb-true, eqb-false}
+use Rattle.std.{proofs.lemmas.Int.Digits.digits_value-lt, proofs.lemmas.Bool.and_parts, proofs.lemmas.Bool.leb-true, proofs.lemmas.Bool.eqb-false, specs.Prelude.Option, specs.Prelude.Some, specs.Prelude.None, specs.Prelude.◌==◌, specs.Prelude.if◌then◌else◌, specs.Prelude.⊤, specs.List.list_all}
+use Rattle.std.specs.{Char.digit_value, Str.Parse.AllDigits, Str.Parse.digits_value, Str.Parse.digits_value_after}
 use Rattle.mus_units.specs.Bytes.{is_digit}
-use Rattle.abc_notes.specs.Lengths.{LengthForm, whole, over, halved, IsNumber, IsCount, count_of, IsLength, len_of}
-use Rattle.abc_notes.specs.Graces.{GracePart, single, chorded, StandsInGrace, heads_in, body_of_sense, body_of}
-use Rattle.abc_notes.specs.Items.{Inner, note_inside, StandsInside, sense}
-use Rattle.abc_notes.specs.Chords.{has_head, heads_of}
-use Rattle.abc_pieces.specs.Tuplets.{TupletForm, bare, with_q, with_r, is_tuplet_digit, IsTuplet, value_or_zero, p_of, q_of, r_of}
-use Rattle.abc_notes.specs.Parts.{Parts, no_part, then_part}
-use Rattle.abc_pieces.specs.Forms.{Form, note_form, rest_form, measures_form, chord_form, grace_form, tuplet_form, broken_form, inline_form, space_form, IsGood, is_kept_field, meant, after}
-use Rattle.abc_pieces.specs.declared.token.Token.{Token}
-use Rattle.abc_pieces.specs.declared.token.Token.TheVariants as token
-use Rattle.abc_pieces.specs.declared.token.Before.{Before}
-use Rattle.abc_notes.specs.declared.part.Flaw.{Flaw}
-use Rattle.abc_notes.specs.declared.part.GraceChord.{GraceChord}
+use Rattle.abc_notes.specs.{Lengths.LengthForm, Lengths.whole, Lengths.over, Lengths.halved, Lengths.IsNumber, Lengths.IsCount, Lengths.count_of, Lengths.IsLength, Lengths.len_of, Graces.GracePart, Graces.single, Graces.chorded, Graces.StandsInGrace, Graces.heads_in, Graces.body_of_sense}
+use Rattle.abc_notes.specs.{Graces.body_of, Items.Inner, Items.note_inside, Items.StandsInside, Items.sense, Chords.has_head, Chords.heads_of, Parts.Parts, Parts.no_part, Parts.then_part, declared.part.Flaw.Flaw, declared.part.GraceChord.GraceChord}
 use Rattle.abc_notes.proofs.Bounds.{digit_range, digit_value-is}
-use Rattle.abc_tokens.specs.declared.token.Placed.{Placed}
-use Rattle.abc_tokens.specs.Good.{IsGoodLen, AreGoodHeads, HasHead, HasGraceHead, AreGoodGraces, IsGoodTuplet, IsGoodToken, AreGoodTokens}
-use Rattle.abc_tokens.specs.Tokens.{Front, clear, breaks, leads, put, column}
+use Rattle.abc_pieces.specs.Forms.{Form, note_form, rest_form, measures_form, chord_form, grace_form, tuplet_form, broken_form, inline_form, space_form, IsGood, is_kept_field, meant, after}
+use Rattle.abc_pieces.specs.{Tuplets.TupletForm, Tuplets.bare, Tuplets.with_q, Tuplets.with_r, Tuplets.is_tuplet_digit, Tuplets.IsTuplet, Tuplets.value_or_zero, Tuplets.p_of, Tuplets.q_of, Tuplets.r_of, declared.token.Token.Token, declared.token.Before.Before}
+use Rattle.abc_tokens.specs.{declared.token.Placed.Placed, Good.IsGoodLen, Good.AreGoodHeads, Good.HasHead, Good.HasGraceHead, Good.AreGoodGraces, Good.IsGoodTuplet, Good.IsGoodToken, Good.AreGoodTokens, Tokens.Front, Tokens.clear, Tokens.breaks, Tokens.leads, Tokens.put, Tokens.column}
 
 -- numbers of a few digits
 digit_small : (b : ℕ) → is_digit b ≡ true → digit_value b < 10
@@ -137,7 +123,7 @@ abbrev IsGoodMaybe : Option Token → Type 0
 IsGoodMaybe None = ⊤
 IsGoodMaybe (Some t) = IsGoodToken t
 
-inline_good : (b : Bool) (letter : ℕ) (text : List ℕ) → IsGoodMaybe (if b then Some (token.Inline letter text) else None)
+inline_good : (b : Bool) (letter : ℕ) (text : List ℕ) → IsGoodMaybe (if b then Some (Token.Inline letter text) else None)
 inline_good true letter text = tt
 inline_good false letter text = tt
 

@@ -1,20 +1,10 @@
 -- A line as a loop reads it.
 use Rattle.std.proofs.Common.{◌≡◌, ℕ, ◌≤◌, ◌<◌, Bool, List, [], ◌∷◌, ◌++◌, length, Option, Some, None, refl, sym, ap, ◌∙◌, subst, arith, append_assoc, append-nil, option_map}
-use Rattle.abc_lines.specs.declared.book.Line.{Line}
-use Rattle.abc_lines.specs.declared.fault.Fault.{Fault}
-use Rattle.abc_lines.specs.declared.fault.TuneError.TheVariants as error
-use Rattle.abc_notes.specs.Parts.{IsLongest, HasNone}
-use Rattle.abc_notes.specs.Chords.{ChordForm, chord_at}
-use Rattle.abc_notes.specs.Graces.{GraceForm, grace_at}
-use Rattle.abc_pieces.specs.Forms.{Form, chord_form, grace_form, StandsAt, meant, after, opening}
-use Rattle.abc_pieces.specs.Reading.{Read, read, piece_at, seen, meaning, class_of, opened, chord_read, grace_read}
-use Rattle.abc_pieces.specs.declared.token.Token.{Token}
-use Rattle.abc_notes.specs.declared.part.Flaw.{Flaw}
-use Rattle.abc_pieces.specs.declared.token.Before.{Before}
-use Rattle.abc_pieces.specs.declared.token.Before.TheVariants as behind
-use Rattle.abc_pieces.specs.declared.token.Opening.TheVariants as opens
-use Rattle.abc_notes.proofs.PartLaws.{less, longest_of, none_of, longest_is, at_nil}
-use Rattle.abc_pieces.proofs.PieceReader.{piece_reader}
+use Rattle.abc_lines.specs.declared.{book.Line.Line, fault.Fault.Fault, fault.TuneError.TuneError}
+use Rattle.abc_notes.{specs.Parts.IsLongest, specs.Parts.HasNone, specs.Chords.ChordForm, specs.Chords.chord_at, specs.Graces.GraceForm, specs.Graces.grace_at, specs.declared.part.Flaw.Flaw, proofs.PartLaws.less, proofs.PartLaws.longest_of, proofs.PartLaws.none_of, proofs.PartLaws.longest_is}
+use Rattle.abc_notes.proofs.PartLaws.{at_nil}
+use Rattle.abc_pieces.specs.{Forms.Form, Forms.chord_form, Forms.grace_form, Forms.StandsAt, Forms.meant, Forms.after, Forms.opening, Reading.Read, Reading.read, Reading.piece_at, Reading.seen, Reading.meaning, Reading.class_of, Reading.opened, Reading.chord_read, Reading.grace_read}
+use Rattle.abc_pieces.{specs.declared.token.Token.Token, specs.declared.token.Before.Before, specs.declared.token.Opening.Opening, proofs.PieceReader.piece_reader}
 use Rattle.abc_tokens.specs.declared.token.Placed.{Placed}
 use Rattle.abc_tokens.specs.Tokens.{Tokens, ends, goes, Faulty, stuck, later, Front, clear, breaks, leads, column, put, TokensOf, FrontAt, FrontOf, IsLineFlaw, fault_at, IsErrorOf}
 
@@ -158,16 +148,16 @@ no_end line None e = refl
 no_end line (Some flaw) e = absurd cc
 
 pub tokens_of : (bang : Bool) (line : Line) (ts : List Placed) (fault : Option Fault) → FrontOf bang line ts fault → fault ≡ None → TokensOf bang line.text ts
-tokens_of bang line ts fault front none = front_tokens bang (length line.text) behind.Other 0 line.text ts front.0 front.1 (no_end line front.0 (sym none ∙ front.2))
+tokens_of bang line ts fault front none = front_tokens bang (length line.text) Before.Other 0 line.text ts front.0 front.1 (no_end line front.0 (sym none ∙ front.2))
 
-error_by : (bang : Bool) (line : Line) (ts : List Placed) (fault : Fault) (end : Option Flaw) → FrontAt bang line.text ts end → Some fault ≡ option_map (fault_at line) end → IsErrorOf bang line (error.Fault fault)
+error_by : (bang : Bool) (line : Line) (ts : List Placed) (fault : Fault) (end : Option Flaw) → FrontAt bang line.text ts end → Some fault ≡ option_map (fault_at line) end → IsErrorOf bang line (TuneError.Fault fault)
 error_by bang line ts fault None front e = absurd cc
 error_by bang line ts fault (Some flaw) front e =
-    let whole = front_flaw bang (length line.text) behind.Other 0 line.text ts (Some flaw) flaw front refl in
+    let whole = front_flaw bang (length line.text) Before.Other 0 line.text ts (Some flaw) flaw front refl in
     let is : fault ≡ fault_at line flaw = cc in
-    (flaw, whole, is, λ us. no_list bang (length line.text) behind.Other 0 line.text flaw us whole)
+    (flaw, whole, is, λ us. no_list bang (length line.text) Before.Other 0 line.text flaw us whole)
 
-pub error_of : (bang : Bool) (line : Line) (ts : List Placed) (fault : Option Fault) (one : Fault) → FrontOf bang line ts fault → fault ≡ Some one → IsErrorOf bang line (error.Fault one)
+pub error_of : (bang : Bool) (line : Line) (ts : List Placed) (fault : Option Fault) (one : Fault) → FrontOf bang line ts fault → fault ≡ Some one → IsErrorOf bang line (TuneError.Fault one)
 error_of bang line ts fault one front is = error_by bang line ts one front.0 front.1 (sym is ∙ front.2)
 
 -- ---- where no piece stands, no chord and no grace group does
@@ -180,11 +170,11 @@ from_grace : (r : Option (GraceForm × List ℕ)) → option_map {U = Form × Li
 from_grace None e = refl
 from_grace (Some z) e = absurd cc
 
-pub no_chord : (bang : Bool) (before : Before) (byte : ℕ) (t : List ℕ) → byte ≡ 91 → piece_at bang before (byte ∷ t) ≡ None → opening t ≡ opens.Chord → chord_at bang t ≡ None
+pub no_chord : (bang : Bool) (before : Before) (byte : ℕ) (t : List ℕ) → byte ≡ 91 → piece_at bang before (byte ∷ t) ≡ None → opening t ≡ Opening.Chord → chord_at bang t ≡ None
 unfolding piece_at class_of chord_read
 no_chord bang before byte t is none chord =
     let here : piece_at bang before (91 ∷ t) ≡ None = ap (λ b. piece_at bang before (b ∷ t)) (sym is) ∙ none in
-    let opened_is : opened opens.Chord bang t ≡ None = ap (λ o. opened o bang t) (sym chord) ∙ here in
+    let opened_is : opened Opening.Chord bang t ≡ None = ap (λ o. opened o bang t) (sym chord) ∙ here in
     from_chord (chord_at bang t) opened_is
 
 pub no_grace : (bang : Bool) (before : Before) (byte : ℕ) (t : List ℕ) → byte ≡ 123 → piece_at bang before (byte ∷ t) ≡ None → grace_at bang t ≡ None

@@ -2,10 +2,8 @@
 -- each chord, and a head in each note or chord of a grace group.
 use Rattle.std.specs.Prelude.{ℕ, ◌≤◌, ⊤, List, [], ◌∷◌}
 use Rattle.mus_units.specs.declared.note.Head.{Head}
-use Rattle.abc_notes.specs.declared.part.Len.{Len}
-use Rattle.abc_notes.specs.declared.part.GraceChord.{GraceChord}
+use Rattle.abc_notes.specs.{declared.part.Len.Len, declared.part.GraceChord.GraceChord}
 use Rattle.abc_pieces.specs.declared.token.Token.{Token}
-use Rattle.abc_pieces.specs.declared.token.Token.TheVariants as token
 use Rattle.abc_tokens.specs.declared.token.Placed.{Placed}
 
 -- numbers of one to four digits, and no zero
@@ -41,13 +39,13 @@ pub record IsGoodTuplet (p q r : ℕ) : Type 0 where
   pub r_high : r ≤ 99
 
 abbrev pub IsGoodToken : Token → Type 0
-IsGoodToken (token.Note head len) = IsGoodLen len
-IsGoodToken (token.Rest seen len) = IsGoodLen len
-IsGoodToken (token.Measures seen count) = (1 ≤ count) × (count ≤ 999)
-IsGoodToken (token.Chord heads decos len) = HasHead heads × AreGoodHeads heads × IsGoodLen len
-IsGoodToken (token.Grace slash body) = AreGoodGraces body
-IsGoodToken (token.Tuplet p q r) = IsGoodTuplet p q r
-IsGoodToken (token.Broken right dots) = (1 ≤ dots) × (dots ≤ 3)
+IsGoodToken (Token.Note head len) = IsGoodLen len
+IsGoodToken (Token.Rest seen len) = IsGoodLen len
+IsGoodToken (Token.Measures seen count) = (1 ≤ count) × (count ≤ 999)
+IsGoodToken (Token.Chord heads decos len) = HasHead heads × AreGoodHeads heads × IsGoodLen len
+IsGoodToken (Token.Grace slash body) = AreGoodGraces body
+IsGoodToken (Token.Tuplet p q r) = IsGoodTuplet p q r
+IsGoodToken (Token.Broken right dots) = (1 ≤ dots) × (dots ≤ 3)
 IsGoodToken _ = ⊤
 
 abbrev pub AreGoodTokens : List Placed → Type 0

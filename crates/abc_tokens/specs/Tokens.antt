@@ -2,23 +2,10 @@
 -- left; and the first fault of a line that has no such list.
 use Prim.Native.Char.{code}
 use Rattle.std.specs.Prelude.{◌≡◌, ℕ, ◌+◌, ◌-◌, List, [], ◌∷◌, length, Bool, ◌==◌, if◌then◌else◌, Option, Some, None, MatchBool, MatchOption, option_map}
-use Rattle.abc_lines.specs.declared.book.Line.{Line}
-use Rattle.abc_lines.specs.declared.fault.Fault.{Fault}
-use Rattle.abc_lines.specs.declared.fault.FaultKind.{FaultKind}
-use Rattle.abc_lines.specs.declared.fault.FaultKind.TheVariants.{BadByte, Unclosed, BadLength, BadTuplet}
-use Rattle.abc_lines.specs.declared.fault.TuneError.{TuneError}
-use Rattle.abc_lines.specs.declared.fault.TuneError.TheVariants as error
+use Rattle.abc_lines.specs.declared.{book.Line.Line, fault.Fault.Fault, fault.FaultKind.FaultKind, fault.TuneError.TuneError, fault.FaultKind.TheVariants.BadByte, fault.FaultKind.TheVariants.Unclosed, fault.FaultKind.TheVariants.BadLength, fault.FaultKind.TheVariants.BadTuplet}
 use Rattle.mus_units.specs.Bytes.{is_digit}
-use Rattle.abc_notes.specs.Parts.{IsLongest, HasNone, goes_on_length}
-use Rattle.abc_notes.specs.Chords.{ChordFault}
-use Rattle.abc_notes.specs.Graces.{GraceFault}
-use Rattle.abc_pieces.specs.Forms.{Form, StandsAt, meant, after, arrow, opening}
-use Rattle.abc_pieces.specs.declared.token.Token.{Token}
-use Rattle.abc_notes.specs.declared.part.Flaw.{Flaw}
-use Rattle.abc_pieces.specs.declared.token.Before.{Before}
-use Rattle.abc_pieces.specs.declared.token.Before.TheVariants as behind
-use Rattle.abc_pieces.specs.declared.token.Opening.{Opening}
-use Rattle.abc_pieces.specs.declared.token.Opening.TheVariants as opens
+use Rattle.abc_notes.specs.{Parts.IsLongest, Parts.HasNone, Parts.goes_on_length, Chords.ChordFault, Graces.GraceFault, declared.part.Flaw.Flaw}
+use Rattle.abc_pieces.specs.{Forms.Form, Forms.StandsAt, Forms.meant, Forms.after, Forms.arrow, Forms.opening, declared.token.Token.Token, declared.token.Before.Before, declared.token.Opening.Opening}
 use Rattle.abc_tokens.specs.declared.token.Placed.{Placed}
 
 -- where s begins in a line of n bytes that ends with it
@@ -40,11 +27,11 @@ abbrev pub kind_if : Bool → FaultKind → Option FaultKind
 kind_if goes_on kind = if goes_on then Some kind else None
 
 abbrev pub kind_behind : Before → ℕ → Option FaultKind
-kind_behind behind.Bar byte = None
-kind_behind (behind.Broken right) byte = kind_if (byte == arrow right) BadLength
-kind_behind behind.Lengthy byte = kind_if (goes_on_length byte) BadLength
-kind_behind behind.Paren byte = kind_if (is_digit byte) BadTuplet
-kind_behind behind.Other byte = None
+kind_behind Before.Bar byte = None
+kind_behind (Before.Broken right) byte = kind_if (byte == arrow right) BadLength
+kind_behind Before.Lengthy byte = kind_if (goes_on_length byte) BadLength
+kind_behind Before.Paren byte = kind_if (is_digit byte) BadTuplet
+kind_behind Before.Other byte = None
 
 -- a fault of this kind at the first of the bytes
 abbrev pub IsHere : FaultKind → List ℕ → Flaw → Type 0
@@ -53,10 +40,10 @@ IsHere kind s flaw = flaw ≡ record { kind = kind; left = length s }
 -- behind a bracket: an inline field that is not closed, or the fault of a chord; a bar sign and a
 -- digit always make a piece there
 abbrev pub IsBracketFlaw : Opening → Bool → ℕ → List ℕ → Flaw → Type 0
-IsBracketFlaw opens.Bar bang byte s flaw = IsHere BadByte (byte ∷ s) flaw
-IsBracketFlaw opens.Ending bang byte s flaw = IsHere BadByte (byte ∷ s) flaw
-IsBracketFlaw opens.Inline bang byte s flaw = IsHere Unclosed (byte ∷ s) flaw
-IsBracketFlaw opens.Chord bang byte s flaw = ChordFault bang s flaw
+IsBracketFlaw Opening.Bar bang byte s flaw = IsHere BadByte (byte ∷ s) flaw
+IsBracketFlaw Opening.Ending bang byte s flaw = IsHere BadByte (byte ∷ s) flaw
+IsBracketFlaw Opening.Inline bang byte s flaw = IsHere Unclosed (byte ∷ s) flaw
+IsBracketFlaw Opening.Chord bang byte s flaw = ChordFault bang s flaw
 
 -- a byte at which no piece stands: a quote that is not closed, what a bracket or a brace opens, or
 -- the byte itself
@@ -86,21 +73,21 @@ pub data Front (bang : Bool) (n : ℕ) : Before → ℕ → List ℕ → List Pl
 
 -- the tokens of a music line
 abbrev pub TokensOf : Bool → List ℕ → List Placed → Type 0
-TokensOf bang text ts = Tokens bang (length text) behind.Other text ts
+TokensOf bang text ts = Tokens bang (length text) Before.Other text ts
 
 abbrev pub FlawOf : Bool → List ℕ → Flaw → Type 0
-FlawOf bang text flaw = Faulty bang behind.Other 0 text flaw
+FlawOf bang text flaw = Faulty bang Before.Other 0 text flaw
 
 abbrev pub FrontAt : Bool → List ℕ → List Placed → Option Flaw → Type 0
-FrontAt bang text ts end = Front bang (length text) behind.Other 0 text ts end
+FrontAt bang text ts end = Front bang (length text) Before.Other 0 text ts end
 
 abbrev pub fault_at : Line → Flaw → Fault
 fault_at line flaw = record { kind = flaw.kind; line = line.number; column = column (length line.text) flaw.left }
 
 -- a fault is the first of the line, and comes only where no list is; Memory is free
 abbrev pub IsErrorOf : Bool → Line → TuneError → Type 0
-IsErrorOf bang line error.Memory = Unit {0}
-IsErrorOf bang line (error.Fault fault) = (flaw : Flaw) × FlawOf bang line.text flaw × (fault ≡ fault_at line flaw) × ((ts : List Placed) → TokensOf bang line.text ts → ⊥)
+IsErrorOf bang line TuneError.Memory = Unit {0}
+IsErrorOf bang line (TuneError.Fault fault) = (flaw : Flaw) × FlawOf bang line.text flaw × (fault ≡ fault_at line flaw) × ((ts : List Placed) → TokensOf bang line.text ts → ⊥)
 
 -- the tokens before the first fault of a line, and that fault if the line has one
 abbrev pub FrontOf : Bool → Line → List Placed → Option Fault → Type 0

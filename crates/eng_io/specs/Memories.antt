@@ -1,7 +1,6 @@
 -- What a call of a source or sink over memory leaves as it was, and when a failed write counts as refused.
 use Rattle.std.specs.Prelude.{◌≡◌, ℕ, ◌+◌, ◌-◌, ◌^◌, min, Result, Ok, Err}
-use Rattle.eng_io.specs.declared.memory.MemSource.{MemSource}
-use Rattle.eng_io.specs.declared.memory.MemSink.{MemSink}
+use Rattle.eng_io.specs.{declared.memory.MemSource.MemSource, declared.memory.MemSink.MemSink}
 
 -- the bytes, the size of the pieces and the calls that fail stay
 pub record IsSameSource (old new : MemSource) : Type 0 where

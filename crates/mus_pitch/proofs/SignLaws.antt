@@ -1,18 +1,11 @@
 -- A key has at most one sign for each letter: the keys of the circle do, and signs laid on a key keep it so.
 use Rattle.std.proofs.Common.{◌≡◌, refl, ℕ, zero, suc, ◌+◌, ◌≤◌, List, [], ◌∷◌, ◌++◌, Bool, true, false, not, take, map, arith, cond}
+use Rattle.std.proofs.{lemmas.Grind.common_steps, lemmas.List.take-map, lemmas.List.Sums.sum_by-cons, Math.Nat.le_trans}
 use Rattle.std.specs.Prelude.{ℤ, pos, negsuc, reverse, filter, count_by}
-use Rattle.std.proofs.lemmas.Grind.{common_steps}
-use Rattle.std.proofs.lemmas.List.{take-map}
-use Rattle.std.proofs.lemmas.List.Sums.{sum_by-cons}
-use Rattle.std.proofs.Math.Nat.{le_trans}
-use Rattle.mus_units.specs.declared.pitch.Letter.{Letter}
+use Rattle.mus_units.specs.{declared.pitch.Letter.Letter, declared.pitch.Alter.Alter, declared.key.Sign.Sign, Good.AreGoodSigns, Good.same_letter}
 use Rattle.mus_units.specs.declared.pitch.Letter.TheVariants as letters
-use Rattle.mus_units.specs.declared.pitch.Alter.{Alter}
 use Rattle.mus_units.specs.declared.pitch.Alter.TheVariants as alters
-use Rattle.mus_units.specs.declared.key.Sign.{Sign}
-use Rattle.mus_pitch.specs.Circle.{sharp_order, signed, signs_of}
-use Rattle.mus_units.specs.Good.{AreGoodSigns, same_letter}
-use Rattle.mus_pitch.specs.Signs.{with_sign, laid}
+use Rattle.mus_pitch.specs.{Circle.sharp_order, Circle.signed, Circle.signs_of, Signs.with_sign, Signs.laid}
 
 count_by-cons : {X : Type 0} (p : X → Bool) (x : X) (xs : List X) → count_by p (x ∷ xs) ≡ cond (p x) 1 0 + count_by p xs
 count_by-cons p x xs = sum_by-cons (λ y. cond (p y) 1 0) x xs

@@ -1,7 +1,6 @@
 -- How further signs are laid on those of a key.
 use Rattle.std.specs.Prelude.{◌==◌, ◌≤◌, ◌++◌, not, List, [], ◌∷◌, filter, count_by, Bool}
-use Rattle.mus_units.specs.Good.{same_letter}
-use Rattle.mus_units.specs.declared.key.Sign.{Sign}
+use Rattle.mus_units.specs.{Good.same_letter, declared.key.Sign.Sign}
 
 -- an added sign takes away the sign of its letter and goes last
 abbrev pub with_sign : List Sign → Sign → List Sign

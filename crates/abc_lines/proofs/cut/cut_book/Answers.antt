@@ -1,7 +1,5 @@
 use Rattle.std.proofs.Common.{sym, ◌∙◌, subst}
-use Rattle.abc_lines.specs.Good.{IsGoodBook}
-use Rattle.abc_lines.proofs.GoodLaws.{good, book-is}
-use Rattle.abc_lines.proofs.Stages.{book_found}
+use Rattle.abc_lines.{specs.Good.IsGoodBook, proofs.GoodLaws.good, proofs.GoodLaws.book-is, proofs.Stages.book_found}
 use Rattle.abc_lines.proofs.cut.cut_book.Goals as goal
 
 pub returns-clause-book : goal.returns-clause-book

@@ -1,6 +1,5 @@
 use Rattle.std.proofs.Common.{◌≡◌, ◌++◌, length}
-use Rattle.abc_lines.specs.Books.{joined}
-use Rattle.abc_lines.specs.Lines.{readings}
+use Rattle.abc_lines.specs.{Books.joined, Lines.readings}
 use Rattle.abc_lines.proofs.cut.join.Given as goal
 
 abbrev pub invariant-lines : goal.invariant-lines

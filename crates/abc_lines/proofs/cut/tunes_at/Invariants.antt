@@ -1,7 +1,5 @@
 use Rattle.std.proofs.Common.{length}
-use Rattle.abc_lines.specs.Forward.{tunes_from}
-use Rattle.abc_lines.specs.Lines.{readings}
-use Rattle.abc_lines.proofs.Stages.{Tunes}
+use Rattle.abc_lines.{specs.Forward.tunes_from, specs.Lines.readings, proofs.Stages.Tunes}
 use Rattle.abc_lines.proofs.cut.tunes_at.Given as goal
 
 abbrev pub invariant-lines : goal.invariant-lines

@@ -1,7 +1,5 @@
 use Rattle.std.proofs.Common.{arith, ap, sym, ◌∙◌, List, ℕ}
-use Rattle.abc_notes.specs.Items.{Inner, sense_of}
-use Rattle.abc_notes.proofs.PartLaws.{walk-none, walk-some}
-use Rattle.abc_notes.proofs.InnerLaws.{inner_reader, found_inner, none_inner, inner_less}
+use Rattle.abc_notes.{specs.Items.Inner, specs.Items.sense_of, proofs.PartLaws.walk-none, proofs.PartLaws.walk-some, proofs.InnerLaws.inner_reader, proofs.InnerLaws.found_inner, proofs.InnerLaws.none_inner, proofs.InnerLaws.inner_less}
 use Rattle.abc_notes.proofs.chord.behind_parts.Goals as goal
 
 pub parts-smaller : goal.parts-smaller

@@ -1,6 +1,5 @@
 use Rattle.std.proofs.Common.{◌≡◌, ◌≤◌, length}
-use Rattle.abc_notes.specs.Parts.{walk}
-use Rattle.abc_notes.specs.Items.{inner_at}
+use Rattle.abc_notes.specs.{Parts.walk, Items.inner_at}
 use Rattle.abc_notes.proofs.chord.behind_parts.Given as goal
 
 abbrev pub invariant-parts : goal.invariant-parts

@@ -1,8 +1,5 @@
 use Rattle.std.proofs.Common.{ap, ◌∙◌, ◌||◌, option_map}
-use Rattle.abc_notes.specs.Items.{sense_of, is_note}
-use Rattle.abc_notes.specs.Parts.{later_or}
-use Rattle.abc_notes.proofs.InnerLaws.{found_inner, none_inner, inner_less}
-use Rattle.abc_notes.proofs.ChordLaws.{seeking-begins, seeking-next, seeking-ends, all-within}
+use Rattle.abc_notes.{specs.Items.sense_of, specs.Items.is_note, specs.Parts.later_or, proofs.InnerLaws.found_inner, proofs.InnerLaws.none_inner, proofs.InnerLaws.inner_less, proofs.ChordLaws.seeking-begins, proofs.ChordLaws.seeking-next, proofs.ChordLaws.seeking-ends, proofs.ChordLaws.all-within}
 use Rattle.abc_notes.proofs.chord.bracket_at.Goals as goal
 
 pub parts-init : goal.parts-init

@@ -1,7 +1,5 @@
 use Rattle.std.proofs.Common.{ap, sym, ◌∙◌, length, eqb-true}
-use Rattle.abc_notes.specs.Runs.{begins}
-use Rattle.abc_notes.specs.Chords.{is_bracket}
-use Rattle.abc_notes.proofs.ChordLaws.{chord-unclosed, chord-open, chord-headless, chord-flawed, not_empty}
+use Rattle.abc_notes.{specs.Runs.begins, specs.Chords.is_bracket, proofs.ChordLaws.chord-unclosed, proofs.ChordLaws.chord-open, proofs.ChordLaws.chord-headless, proofs.ChordLaws.chord-flawed, proofs.ChordLaws.not_empty}
 use Rattle.abc_notes.proofs.chord.chord_fault.Goals as goal
 
 pub returns-then-is_empty-clause-fault : goal.returns-then-is_empty-clause-fault

@@ -1,6 +1,5 @@
 use Rattle.std.proofs.Common.{rules}
-use Rattle.abc_notes.specs.Items.{sense_of}
-use Rattle.abc_notes.proofs.InnerLaws.{inside-next, inside-stuck, inside-ends, found_inner, none_inner, inner_less}
+use Rattle.abc_notes.{specs.Items.sense_of, proofs.InnerLaws.inside-next, proofs.InnerLaws.inside-stuck, proofs.InnerLaws.inside-ends, proofs.InnerLaws.found_inner, proofs.InnerLaws.none_inner, proofs.InnerLaws.inner_less}
 use Rattle.abc_notes.proofs.chord.inside_state.Goals as goal
 
 pub returns-in_default-item_at : goal.returns-in_default-item_at

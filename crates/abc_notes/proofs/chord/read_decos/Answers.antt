@@ -1,7 +1,5 @@
 use Rattle.std.proofs.Common.{arith}
-use Rattle.abc_notes.specs.Items.{sense_of}
-use Rattle.abc_notes.specs.Chords.{decos_of, senses}
-use Rattle.abc_notes.proofs.InnerLaws.{decos-next, decos-end, found_inner, none_inner, inner_less}
+use Rattle.abc_notes.{specs.Items.sense_of, specs.Chords.decos_of, specs.Chords.senses, proofs.InnerLaws.decos-next, proofs.InnerLaws.decos-end, proofs.InnerLaws.found_inner, proofs.InnerLaws.none_inner, proofs.InnerLaws.inner_less}
 use Rattle.abc_notes.proofs.chord.read_decos.Goals as goal
 
 pub parts-smaller : goal.parts-smaller

@@ -1,7 +1,5 @@
 use Rattle.std.proofs.Common.{arith, ◌∙◌, None}
-use Rattle.abc_notes.specs.Items.{sense_of}
-use Rattle.abc_notes.specs.Chords.{heads_after, senses}
-use Rattle.abc_notes.proofs.InnerLaws.{heads-next, heads-end, heads-are, found_inner, none_inner, inner_less}
+use Rattle.abc_notes.{specs.Items.sense_of, specs.Chords.heads_after, specs.Chords.senses, proofs.InnerLaws.heads-next, proofs.InnerLaws.heads-end, proofs.InnerLaws.heads-are, proofs.InnerLaws.found_inner, proofs.InnerLaws.none_inner, proofs.InnerLaws.inner_less}
 use Rattle.abc_notes.proofs.chord.read_heads.Goals as goal
 
 pub parts-smaller : goal.parts-smaller

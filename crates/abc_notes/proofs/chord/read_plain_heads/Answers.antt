@@ -1,8 +1,5 @@
 use Rattle.std.proofs.Common.{arith}
-use Rattle.abc_notes.specs.Items.{sense_of}
-use Rattle.abc_notes.specs.Chords.{senses}
-use Rattle.abc_notes.specs.Graces.{heads_in}
-use Rattle.abc_notes.proofs.InnerLaws.{plain-next, plain-end, found_inner, none_inner, inner_less}
+use Rattle.abc_notes.{specs.Items.sense_of, specs.Chords.senses, specs.Graces.heads_in, proofs.InnerLaws.plain-next, proofs.InnerLaws.plain-end, proofs.InnerLaws.found_inner, proofs.InnerLaws.none_inner, proofs.InnerLaws.inner_less}
 use Rattle.abc_notes.proofs.chord.read_plain_heads.Goals as goal
 
 pub parts-smaller : goal.parts-smaller

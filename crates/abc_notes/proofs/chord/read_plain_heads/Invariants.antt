@@ -1,6 +1,5 @@
 use Rattle.std.proofs.Common.{◌≡◌, ◌≤◌, ◌++◌, length}
-use Rattle.abc_notes.specs.Chords.{senses}
-use Rattle.abc_notes.specs.Graces.{heads_in}
+use Rattle.abc_notes.specs.{Chords.senses, Graces.heads_in}
 use Rattle.abc_notes.proofs.chord.read_plain_heads.Given as goal
 
 abbrev pub invariant-parts : goal.invariant-parts

@@ -1,10 +1,7 @@
 use Rattle.std.proofs.Common.{rules, ◌≡◌, ◌^◌, arith, ap, sym, ◌∙◌, Some, length, take, drop, ◌-◌, ◌+◌, ◌≤◌, ◌∷◌, ◌||◌, option_map, eqb-true}
-use Rattle.abc_notes.specs.Items.{sense_of, is_note}
-use Rattle.abc_notes.specs.Graces.{body_of_item, item_has_length, inside_of_item}
-use Rattle.abc_notes.specs.Parts.{later_or}
-use Rattle.abc_notes.proofs.InnerLaws.{found_inner, none_inner, inner_less}
-use Rattle.abc_notes.proofs.GraceLaws.{found_part, none_part, part_less, seeking-begins, seeking-next, seeking-ends, all-within, no_brace}
 use Rattle.abc_notes.proofs.CrossLaws.{brace_upto, passing-begins, passing-found, closing-behind, rest-behind, passing-small, passing-size, passing-next, passing-ends, all-in-chord, clear-none, item-brace, item-at, length_shorter, brace_fits, past_is, chord-brace}
+use Rattle.abc_notes.{specs.Items.sense_of, specs.Items.is_note, specs.Graces.body_of_item, specs.Graces.item_has_length, specs.Graces.inside_of_item, specs.Parts.later_or, proofs.InnerLaws.found_inner, proofs.InnerLaws.none_inner, proofs.InnerLaws.inner_less, proofs.GraceLaws.found_part}
+use Rattle.abc_notes.proofs.GraceLaws.{none_part, part_less, seeking-begins, seeking-next, seeking-ends, all-within, no_brace}
 use Rattle.abc_notes.proofs.grace.+braces.Goals as goal
 
 pub brace_at-parts-init : goal.brace_at-parts-init

@@ -1,6 +1,5 @@
 use Rattle.std.proofs.Common.{◌+◌, ◌*◌, length, option_map}
-use Rattle.abc_notes.proofs.GraceLaws.{SeekingBrace}
-use Rattle.abc_notes.proofs.CrossLaws.{Passing, size_of}
+use Rattle.abc_notes.proofs.{GraceLaws.SeekingBrace, CrossLaws.Passing, CrossLaws.size_of}
 use Rattle.abc_notes.proofs.grace.+braces.Given as goal
 
 abbrev pub decreases-brace_at : goal.decreases-brace_at

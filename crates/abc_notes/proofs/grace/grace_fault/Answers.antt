@@ -1,6 +1,5 @@
 use Rattle.std.proofs.Common.{sym, ◌∙◌, length, eqb-true}
-use Rattle.abc_notes.proofs.ChordLaws.{not_empty}
-use Rattle.abc_notes.proofs.GraceLaws.{grace-unclosed, grace-open, grace-flawed}
+use Rattle.abc_notes.proofs.{ChordLaws.not_empty, GraceLaws.grace-unclosed, GraceLaws.grace-open, GraceLaws.grace-flawed}
 use Rattle.abc_notes.proofs.grace.grace_fault.Goals as goal
 
 pub returns-then-is_empty-clause-fault : goal.returns-then-is_empty-clause-fault

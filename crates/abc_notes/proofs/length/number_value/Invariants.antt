@@ -1,5 +1,4 @@
-use Rattle.std.proofs.Common.{◌≡◌, ◌<◌, take}
-use Rattle.std.specs.Str.Parse.{digits_value}
+use Rattle.std.{proofs.Common.◌≡◌, proofs.Common.◌<◌, proofs.Common.take, specs.Str.Parse.digits_value}
 use Rattle.abc_notes.specs.Lengths.{limit_at}
 use Rattle.abc_notes.proofs.length.number_value.Given as goal
 

@@ -1,9 +1,6 @@
 use Rattle.std.proofs.Common.{◌≡◌, ◌∷◌, length, arith, rules, ap, subst, List, ℕ, refl, Some, None}
-use Rattle.abc_pieces.specs.Reading.{token_of}
-use Rattle.abc_tokens.specs.Tokens.{FrontAt}
-use Rattle.abc_pieces.specs.declared.token.Before.TheVariants.{Other}
-use Rattle.abc_tokens.proofs.GoodLaws.{good_front}
-use Rattle.abc_tokens.proofs.Line.{done_at, stuck_at, step, consumes}
+use Rattle.abc_pieces.specs.{Reading.token_of, declared.token.Before.TheVariants.Other}
+use Rattle.abc_tokens.{specs.Tokens.FrontAt, proofs.GoodLaws.good_front, proofs.Line.done_at, proofs.Line.stuck_at, proofs.Line.step, proofs.Line.consumes}
 use Rattle.abc_tokens.proofs.reader.read_front.Goals as goal
 
 pub fault_at-requires-clause-within : goal.fault_at-requires-clause-within

@@ -1,7 +1,5 @@
-use Rattle.std.proofs.Common.{decimal, ◌∙◌, ap}
+use Rattle.std.proofs.{Common.decimal, Common.◌∙◌, Common.ap, lemmas.Fmt.parse-decimal, lemmas.Fmt.IsAscii-decimal, lemmas.Str.IsUtf8-from_ascii}
 use Rattle.std.specs.Result.{result_ok}
-use Rattle.std.proofs.lemmas.Fmt.{parse-decimal, IsAscii-decimal}
-use Rattle.std.proofs.lemmas.Str.{IsUtf8-from_ascii}
 use Rattle.eng_lines.proofs.numbers.parsed.Goals as goal
 
 pub returns-in-Ok : goal.returns-in-Ok

@@ -1,5 +1,4 @@
-use Rattle.std.proofs.Common.{sym, ◌∙◌, arith}
-use Rattle.std.proofs.lemmas.Fmt.{decimal_injective}
+use Rattle.std.proofs.{Common.sym, Common.◌∙◌, Common.arith, lemmas.Fmt.decimal_injective}
 use Rattle.eng_lines.proofs.numbers.small_number.Goals as goal
 
 pub returns-in_default : goal.returns-in_default
