@@ -1,23 +1,11 @@
 -- The values of signs have at most three dots.
 use Rattle.std.proofs.Common.{◌≡◌, refl, sym, ap, ◌∙◌, subst, ℕ, zero, suc, ◌+◌, ◌-◌, ◌≤◌, List, [], ◌∷◌, ◌++◌, length, Bool, true, false, cond, Option, Some, None, arith, nat_le, reverse, take, drop, append-nil}
-use Rattle.std.proofs.lemmas.List.{drop_all}
 use Rattle.std.specs.Prelude.{unwrap_or, find, option_map, ◌&&◌, ◌==◌, ◌*◌, ◌/◌, ⊤}
-use Rattle.std.specs.List.{All, list_all}
-use Rattle.mus_units.specs.declared.value.Value.{Value}
-use Rattle.mus_units.specs.Parts.{units_of, all_values, longest_within, cut_next, cut_in, parts_list}
-use Rattle.abc_steps.specs.declared.step.Sound.{Sound}
-use Rattle.abc_steps.specs.declared.step.Step.{Step}
-use Rattle.abc_steps.specs.declared.step.Step.TheVariants as step
-use Rattle.abc_steps.specs.declared.step.Stood.{Stood}
-use Rattle.abc_steps.specs.declared.force.InForce.{InForce}
-use Rattle.abc_steps.specs.Looks.{Steps, since_event}
-use Rattle.abc_steps.specs.Lengths.{written_length}
-use Rattle.abc_steps.specs.Tuplets.{fits, or_default, usual_q}
-use Rattle.abc_steps.specs.declared.place.Place.{Place}
-use Rattle.abc_events.specs.declared.written.Sign.{Sign}
-use Rattle.abc_events.specs.declared.written.Sign.TheVariants as sign
-use Rattle.abc_steps.specs.Places.{place_at, measure_of}
-use Rattle.abc_events.specs.Signs.{IsDrawn, sound_written, rest_written, further_rests, tuplet_of, signs_of, signs, parted_at, whole_value}
+use Rattle.std.{proofs.lemmas.List.drop_all, specs.List.All, specs.List.list_all}
+use Rattle.mus_units.specs.{declared.value.Value.Value, Parts.units_of, Parts.all_values, Parts.longest_within, Parts.cut_next, Parts.cut_in, Parts.parts_list}
+use Rattle.abc_steps.specs.{declared.step.Sound.Sound, declared.step.Step.Step, declared.step.Stood.Stood, declared.force.InForce.InForce, Looks.Steps, Looks.since_event, Lengths.written_length, Tuplets.fits, Tuplets.or_default, Tuplets.usual_q, declared.place.Place.Place, Places.place_at}
+use Rattle.abc_steps.specs.Places.{measure_of}
+use Rattle.abc_events.specs.{declared.written.Sign.Sign, Signs.IsDrawn, Signs.sound_written, Signs.rest_written, Signs.further_rests, Signs.tuplet_of, Signs.signs_of, Signs.signs, Signs.parted_at, Signs.whole_value}
 
 abbrev IsFew : Value → Type 0
 IsFew v = v.dots ≤ 3
@@ -103,15 +91,15 @@ further_drawn now at seen measure (suc n) = one_more IsDrawn _ (further_rests no
 
 tuplet_drawn : (now : Place) (p q r : ℕ) → All IsDrawn (tuplet_of now p q r)
 tuplet_drawn now p q r = by_test (fits (or_default p r) now.taking) where
-  by_test : (b : Bool) → All IsDrawn (cond b (sign.Opens (measure_of now) p (or_default (usual_q p now.force.meter) q) (or_default p r) ∷ []) [])
+  by_test : (b : Bool) → All IsDrawn (cond b (Sign.Opens (measure_of now) p (or_default (usual_q p now.force.meter) q) (or_default p r) ∷ []) [])
   by_test true = one_more IsDrawn _ [] tt (none_few IsDrawn)
   by_test false = none_few IsDrawn
 
 step_drawn : (now : Place) (before behind : Steps) (at : Stood) (s : Step) → All IsDrawn (signs_of now before at behind s)
 unfolding signs_of
-step_drawn now before behind at (step.Sound s) = one_more IsDrawn _ [] (sound_few now before behind at s) (none_few IsDrawn)
-step_drawn now before behind at (step.Measures seen count) = one_more IsDrawn _ (further_rests now at seen (measure_of now + 1) (count - 1)) (rest_few now at seen (measure_of now) (parted_at now (since_event before))) (further_drawn now at seen (measure_of now + 1) (count - 1))
-step_drawn now before behind at (step.Tuplet p q r) = tuplet_drawn now p q r
+step_drawn now before behind at (Step.Sound s) = one_more IsDrawn _ [] (sound_few now before behind at s) (none_few IsDrawn)
+step_drawn now before behind at (Step.Measures seen count) = one_more IsDrawn _ (further_rests now at seen (measure_of now + 1) (count - 1)) (rest_few now at seen (measure_of now) (parted_at now (since_event before))) (further_drawn now at seen (measure_of now + 1) (count - 1))
+step_drawn now before behind at (Step.Tuplet p q r) = tuplet_drawn now p q r
 step_drawn now before behind at _ = none_few IsDrawn
 
 signs_drawn : (first : InForce) (before behind : Steps) → All IsDrawn (signs first before behind)

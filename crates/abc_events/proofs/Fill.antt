@@ -1,9 +1,8 @@
 -- What the open tuplets take.
 use Rattle.std.proofs.Common.{◌≡◌, refl, sym, ap, ◌∙◌, ℕ, zero, suc, ◌-◌, ◌≤◌, List, [], ◌∷◌, ◌++◌, arith, append-nil, append_assoc, subst}
 use Rattle.mus_score.specs.declared.score.Music.{Music}
+use Rattle.abc_events.specs.{declared.nesting.Open.Open, Nesting.Forest, Nesting.none_more, Nesting.one, Nesting.group, Nesting.cut, Nesting.music_of, Nesting.Filled, Nesting.filled, Nesting.finish, Nesting.fill, Nesting.fill_one, Nesting.whole, Nesting.IsReady, Nesting.Puts}
 use Rattle.mus_score.specs.declared.score.Music.TheVariants as music
-use Rattle.abc_events.specs.declared.nesting.Open.{Open}
-use Rattle.abc_events.specs.Nesting.{Forest, none_more, one, group, cut, music_of, Filled, filled, finish, fill, fill_one, whole, IsReady, Puts}
 
 pub fill_last : (os : List Open) (o : Open) (z : Filled) → fill (os ++ o ∷ []) z ≡ fill os (fill_one o z)
 fill_last [] o z = refl

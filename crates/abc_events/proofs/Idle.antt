@@ -2,12 +2,8 @@
 use Rattle.std.proofs.Common.{◌≡◌, ◌∙◌, refl, sym, ap, List, [], true, length}
 use Rattle.std.specs.Prelude.{◌==◌, ◌&&◌}
 use Rattle.mus_units.specs.declared.note.Deco.{Deco}
-use Rattle.abc_steps.specs.declared.force.InForce.{InForce}
-use Rattle.abc_steps.specs.Looks.{Steps}
-use Rattle.abc_steps.specs.Force.{changes_at}
-use Rattle.abc_steps.proofs.Between.{is_none}
-use Rattle.abc_events.specs.Waits.{nothing, waiting_of}
-use Rattle.abc_events.proofs.Drawn.{both_true}
+use Rattle.abc_steps.{specs.declared.force.InForce.InForce, specs.Looks.Steps, specs.Force.changes_at, proofs.Between.is_none}
+use Rattle.abc_events.{specs.Waits.nothing, specs.Waits.waiting_of, proofs.Drawn.both_true}
 
 none_waits : (now : InForce) → nothing ≡ waiting_of now [] []
 unfolding waiting_of changes_at

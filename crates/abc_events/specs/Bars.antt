@@ -2,13 +2,7 @@
 use Rattle.std.specs.Prelude.{ℕ, ◌+◌, List, [], ◌∷◌, ◌++◌, map, reverse, Bool, true, false, not, ◌==◌, ◌&&◌, ◌||◌, if◌then◌else◌, nat_le, nat_lt, Option, Some, None}
 use Rattle.std.specs.List.{list_any, range_with_len}
 use Rattle.mus_units.specs.declared.note.Bar.{Bar}
-use Rattle.abc_steps.specs.declared.step.Step.{Step}
-use Rattle.abc_steps.specs.declared.step.Step.TheVariants as step
-use Rattle.abc_steps.specs.declared.counts.Counts.{Counts}
-use Rattle.abc_steps.specs.declared.counts.Nearest.{Nearest}
-use Rattle.abc_steps.specs.declared.counts.Nearest.TheVariants as nearest
-use Rattle.abc_steps.specs.Looks.{Steps}
-use Rattle.abc_steps.specs.Counts.{counts_of, measures_begun}
+use Rattle.abc_steps.specs.{declared.step.Step.Step, declared.counts.Counts.Counts, declared.counts.Nearest.Nearest, Looks.Steps, Counts.counts_of, Counts.measures_begun}
 
 abbrev pub plain_bar : Bar
 plain_bar = record { end = false; start = false; last = false; initial = false; double = false; dotted = false; unseen = false }
@@ -33,7 +27,7 @@ joined b = record b { unseen = b.unseen && not (is_seen b) }
 
 -- the bars among some steps behind which `begun` measures had begun, and not more
 unfoldable pub bars_behind : ℕ → ℕ → Step → Option Bar → Option Bar
-bars_behind begun now (step.Bar bar) all = if begun == now then Some (union_with all bar) else all
+bars_behind begun now (Step.Bar bar) all = if begun == now then Some (union_with all bar) else all
 bars_behind begun now _ all = all
 
 abbrev pub bars_at : ℕ → Steps → Option Bar
@@ -62,7 +56,7 @@ bars_of steps n = map (bar_of steps) (range_with_len 0 n)
 -- Forced bars: the bar before a line break, where the nearest event or bar is a bar. The bar at
 -- which a voice begins and the one at which it ends are none; each counts once.
 abbrev pub is_near_bar : Nearest → Bool
-is_near_bar nearest.Bar = true
+is_near_bar Nearest.Bar = true
 is_near_bar _ = false
 
 abbrev pub is_forced : ℕ → Counts → Bool
@@ -72,7 +66,7 @@ abbrev pub with_bar : ℕ → List ℕ → List ℕ
 with_bar bar forced = if list_any (λ b. b == bar) forced then forced else forced ++ bar ∷ []
 
 unfoldable pub forced_behind : ℕ → Counts → Step → List ℕ → List ℕ
-forced_behind n counts step.Break forced = if is_forced n counts then with_bar (counts.groups + counts.further) forced else forced
+forced_behind n counts Step.Break forced = if is_forced n counts then with_bar (counts.groups + counts.further) forced else forced
 forced_behind n counts _ forced = forced
 
 abbrev pub forced_at : ℕ → Steps → List ℕ

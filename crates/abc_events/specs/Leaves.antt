@@ -1,22 +1,10 @@
 -- The leaves of a voice: each written event as its nodes, which are the graces before it and its parts.
 use Rattle.std.specs.Prelude.{ℕ, ◌+◌, List, [], ◌∷◌, ◌++◌, map, length, replicate, slice_get, Bool, true, false, if◌then◌else◌, Option, None, unwrap_or}
-use Rattle.mus_units.specs.declared.note.Head.{Head}
-use Rattle.mus_units.specs.declared.value.Base.TheVariants as bases
-use Rattle.mus_units.specs.declared.value.Value.{Value}
-use Rattle.mus_units.specs.Value.{value_length}
-use Rattle.mus_score.specs.declared.score.Look.TheVariants as looks
-use Rattle.mus_score.specs.declared.score.Event.{Event}
-use Rattle.mus_score.specs.declared.score.Music.{Music}
-use Rattle.mus_score.specs.declared.score.Music.TheVariants as music
+use Rattle.mus_units.specs.{declared.note.Head.Head, declared.value.Value.Value, Value.value_length, declared.value.Base.Base}
+use Rattle.mus_score.specs.declared.score.{Look.Look, Event.Event, Music.Music}
 use Rattle.abc_notes.specs.declared.part.GraceChord.{GraceChord}
-use Rattle.abc_events.specs.declared.written.Written.{Written}
-use Rattle.abc_events.specs.declared.written.Waiting.{Waiting}
-use Rattle.abc_events.specs.declared.written.Sign.{Sign}
-use Rattle.abc_events.specs.declared.written.Sign.TheVariants as sign
-use Rattle.abc_events.specs.declared.leaves.Leaf.{Leaf}
-use Rattle.abc_events.specs.declared.leaves.Leaf.TheVariants as leaf
-use Rattle.abc_events.specs.Waits.{no_changes}
-use Rattle.abc_events.specs.Signs.{with_tie}
+use Rattle.abc_events.specs.{declared.written.Written.Written, declared.written.Waiting.Waiting, declared.written.Sign.Sign, declared.leaves.Leaf.Leaf, Waits.no_changes, Signs.with_tie}
+use Rattle.mus_score.specs.declared.score.Music.TheVariants as music
 
 -- the words of an event, a place for each verse
 abbrev pub Words : Type 0
@@ -86,13 +74,13 @@ node_of e = note_or_rest e.heads e
 
 -- a note or a chord of a grace group has its heads and the value of an eighth
 abbrev pub eighth : Value
-eighth = record { base = bases.Eighth; dots = 0 }
+eighth = record { base = Base.Eighth; dots = 0 }
 
 unfoldable pub grace_event : List Head → Event
 grace_event heads = record {
   id = 0;
   heads = heads;
-  look = looks.Seen;
+  look = Look.Seen;
   value = eighth;
   ticks = value_length eighth;
   parted = false;
@@ -122,8 +110,8 @@ words_at words k = unwrap_or (slice_get words k) []
 
 abbrev pub leaves_from : List Words → ℕ → ℕ → List Sign → List Leaf
 leaves_from words k id [] = []
-leaves_from words k id (sign.Event w waiting ∷ signs) = leaf.Event w.measure (nodes_of w waiting (words_at words k) id) ∷ leaves_from words (k + 1) (id + length w.values) signs
-leaves_from words k id (sign.Opens measure p q r ∷ signs) = leaf.Opens measure p q r ∷ leaves_from words k id signs
+leaves_from words k id (Sign.Event w waiting ∷ signs) = Leaf.Event w.measure (nodes_of w waiting (words_at words k) id) ∷ leaves_from words (k + 1) (id + length w.values) signs
+leaves_from words k id (Sign.Opens measure p q r ∷ signs) = Leaf.Opens measure p q r ∷ leaves_from words k id signs
 
 abbrev pub leaves_of : List Words → List Sign → List Leaf
 leaves_of words signs = leaves_from words 0 0 signs

@@ -1,18 +1,12 @@
 -- The measures of a voice: in each the tree of its leaves, and its bar.
-use Rattle.std.specs.Prelude.{ℕ, ◌==◌, List, map, filter, length, slice_index_or}
-use Rattle.std.specs.List.{range_with_len}
+use Rattle.std.specs.{Prelude.ℕ, Prelude.◌==◌, Prelude.List, Prelude.map, Prelude.filter, Prelude.length, Prelude.slice_index_or, List.range_with_len}
 use Rattle.mus_units.specs.declared.note.Bar.{Bar}
 use Rattle.mus_score.specs.declared.score.Measure.{Measure}
-use Rattle.abc_events.specs.declared.written.Sign.{Sign}
-use Rattle.abc_events.specs.declared.leaves.Leaf.{Leaf}
-use Rattle.abc_events.specs.declared.leaves.Leaf.TheVariants as leaf
-use Rattle.abc_events.specs.Bars.{plain_bar}
-use Rattle.abc_events.specs.Leaves.{Words, leaves_of}
-use Rattle.abc_events.specs.Nesting.{tree_of}
+use Rattle.abc_events.specs.{declared.written.Sign.Sign, declared.leaves.Leaf.Leaf, Bars.plain_bar, Leaves.Words, Leaves.leaves_of, Nesting.tree_of}
 
 abbrev pub leaf_measure : Leaf → ℕ
-leaf_measure (leaf.Event measure nodes) = measure
-leaf_measure (leaf.Opens measure p q r) = measure
+leaf_measure (Leaf.Event measure nodes) = measure
+leaf_measure (Leaf.Opens measure p q r) = measure
 
 abbrev pub leaves_in : ℕ → List Leaf → List Leaf
 leaves_in measure leaves = filter (λ l. leaf_measure l == measure) leaves

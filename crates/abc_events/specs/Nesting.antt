@@ -1,10 +1,8 @@
 -- The tree of a measure: its leaves in a row, in which each tuplet takes the next events behind it.
 use Rattle.std.specs.Prelude.{◌≡◌, ℕ, zero, suc, ◌-◌, ◌≤◌, List, [], ◌∷◌, ◌++◌}
 use Rattle.mus_score.specs.declared.score.Music.{Music}
+use Rattle.abc_events.specs.{declared.leaves.Leaf.Leaf, declared.nesting.Open.Open}
 use Rattle.mus_score.specs.declared.score.Music.TheVariants as music
-use Rattle.abc_events.specs.declared.leaves.Leaf.{Leaf}
-use Rattle.abc_events.specs.declared.leaves.Leaf.TheVariants as leaf
-use Rattle.abc_events.specs.declared.nesting.Open.{Open}
 
 -- a row of events, each with its nodes, and of tuplets that take so many events, each with a row of its own
 pub data Forest : Type 0 where
@@ -25,8 +23,8 @@ cut (suc r) (group p q takes inner f) = let c = cut (suc r - takes) f in record 
 
 -- a tuplet takes the next r events behind it
 abbrev pub put_in_front : Leaf → Forest → Forest
-put_in_front (leaf.Event measure nodes) f = one nodes f
-put_in_front (leaf.Opens measure p q r) f = let c = cut r f in group p q r c.taken c.left
+put_in_front (Leaf.Event measure nodes) f = one nodes f
+put_in_front (Leaf.Opens measure p q r) f = let c = cut r f in group p q r c.taken c.left
 
 abbrev pub nest : List Leaf → Forest
 nest [] = none_more

@@ -1,27 +1,11 @@
 -- The signs of a voice: its written events and the tuplets that begin in it, in the order of the text.
 use Rattle.std.specs.Prelude.{ℕ, zero, suc, ◌+◌, ◌-◌, ◌≤◌, List, [], ◌∷◌, ◌++◌, map, Bool, false, ◌||◌, if◌then◌else◌, nat_le, Some, None, unwrap_or, ⊤}
 use Rattle.std.specs.List.{All}
-use Rattle.mus_units.specs.declared.note.Head.{Head}
-use Rattle.mus_units.specs.declared.value.Base.TheVariants as bases
-use Rattle.mus_units.specs.declared.value.Value.{Value}
-use Rattle.mus_units.specs.Parts.{parts_list}
+use Rattle.mus_units.specs.{declared.note.Head.Head, declared.value.Value.Value, Parts.parts_list, declared.value.Base.Base}
 use Rattle.mus_score.specs.declared.score.Look.{Look}
-use Rattle.mus_score.specs.declared.score.Look.TheVariants as looks
-use Rattle.abc_steps.specs.declared.step.Sound.{Sound}
-use Rattle.abc_steps.specs.declared.step.Step.{Step}
-use Rattle.abc_steps.specs.declared.step.Step.TheVariants as step
-use Rattle.abc_steps.specs.declared.step.Stood.{Stood}
-use Rattle.abc_steps.specs.declared.force.InForce.{InForce}
-use Rattle.abc_steps.specs.Looks.{Steps, since_event, is_tied, slurs_begun, slurs_ended, has_parting}
-use Rattle.abc_steps.specs.Lengths.{written_length}
-use Rattle.abc_steps.specs.Tuplets.{or_default, fits, usual_q}
-use Rattle.abc_steps.specs.Force.{meter_ticks}
-use Rattle.abc_events.specs.declared.written.Written.{Written}
-use Rattle.abc_events.specs.declared.written.Sign.{Sign}
-use Rattle.abc_events.specs.declared.written.Sign.TheVariants as sign
-use Rattle.abc_steps.specs.declared.place.Place.{Place}
-use Rattle.abc_steps.specs.Places.{place_at, measure_of}
-use Rattle.abc_events.specs.Waits.{waiting_of, nothing}
+use Rattle.abc_steps.specs.{declared.step.Sound.Sound, declared.step.Step.Step, declared.step.Stood.Stood, declared.force.InForce.InForce, Looks.Steps, Looks.since_event, Looks.is_tied, Looks.slurs_begun, Looks.slurs_ended, Looks.has_parting, Lengths.written_length, Tuplets.or_default, Tuplets.fits}
+use Rattle.abc_steps.specs.{Tuplets.usual_q, Force.meter_ticks, declared.place.Place.Place, Places.place_at, Places.measure_of}
+use Rattle.abc_events.specs.{declared.written.Written.Written, declared.written.Sign.Sign, Waits.waiting_of, Waits.nothing}
 
 -- a space or the end of a line stands between an event and the one before it; a voice's first event has none before it
 abbrev pub parted_at : Place → Steps → Bool
@@ -41,10 +25,10 @@ for_note [] n = 0
 for_note (h ∷ hs) n = n
 
 abbrev pub look_of : Bool → Look
-look_of seen = if seen then looks.Seen else looks.Unseen
+look_of seen = if seen then Look.Seen else Look.Unseen
 
 abbrev pub whole_look : Bool → Look
-whole_look seen = if seen then looks.Whole else looks.Unseen
+whole_look seen = if seen then Look.Whole else Look.Unseen
 
 -- a note, a chord or a rest
 unfoldable pub sound_written : Place → Steps → Stood → Sound → Steps → Written
@@ -65,7 +49,7 @@ sound_written now before at s behind =
 
 -- one of several whole measure rests: it lasts the meter, and its value is a whole without dots
 abbrev pub whole_value : Value
-whole_value = record { base = bases.Whole; dots = 0 }
+whole_value = record { base = Base.Whole; dots = 0 }
 
 unfoldable pub rest_written : Place → Stood → Bool → ℕ → Bool → Written
 rest_written now at seen measure parted = record {
@@ -84,20 +68,20 @@ rest_written now at seen measure parted = record {
 -- the further ones, a measure each, for which nothing waits
 abbrev pub further_rests : Place → Stood → Bool → ℕ → ℕ → List Sign
 further_rests now at seen measure zero = []
-further_rests now at seen measure (suc n) = sign.Event (rest_written now at seen measure false) nothing ∷ further_rests now at seen (measure + 1) n
+further_rests now at seen measure (suc n) = Sign.Event (rest_written now at seen measure false) nothing ∷ further_rests now at seen (measure + 1) n
 
 abbrev pub rests_of : Place → Steps → Stood → Bool → ℕ → List Sign
 rests_of now waits at seen count =
-    sign.Event (rest_written now at seen (measure_of now) (parted_at now waits)) (waiting_of now.force waits []) ∷ further_rests now at seen (measure_of now + 1) (count - 1)
+    Sign.Event (rest_written now at seen (measure_of now) (parted_at now waits)) (waiting_of now.force waits []) ∷ further_rests now at seen (measure_of now + 1) (count - 1)
 
 -- a tuplet that doesn't fit into the open ones begins nothing
 abbrev pub tuplet_of : Place → ℕ → ℕ → ℕ → List Sign
-tuplet_of now p q r = if fits (or_default p r) now.taking then sign.Opens (measure_of now) p (or_default (usual_q p now.force.meter) q) (or_default p r) ∷ [] else []
+tuplet_of now p q r = if fits (or_default p r) now.taking then Sign.Opens (measure_of now) p (or_default (usual_q p now.force.meter) q) (or_default p r) ∷ [] else []
 
 unfoldable pub signs_of : Place → Steps → Stood → Steps → Step → List Sign
-signs_of now before at behind (step.Sound s) = sign.Event (sound_written now before at s behind) (waiting_of now.force (since_event before) s.decos) ∷ []
-signs_of now before at behind (step.Measures seen count) = rests_of now (since_event before) at seen count
-signs_of now before at behind (step.Tuplet p q r) = tuplet_of now p q r
+signs_of now before at behind (Step.Sound s) = Sign.Event (sound_written now before at s behind) (waiting_of now.force (since_event before) s.decos) ∷ []
+signs_of now before at behind (Step.Measures seen count) = rests_of now (since_event before) at seen count
+signs_of now before at behind (Step.Tuplet p q r) = tuplet_of now p q r
 signs_of now before at behind _ = []
 
 -- every step of a voice in turn, with what stands before it, the nearest first, and what follows it
@@ -107,5 +91,5 @@ signs first before (at ∷ behind) = signs_of (place_at first before) before at 
 
 -- Good signs: each value has at most three dots.
 abbrev pub IsDrawn : Sign → Type 0
-IsDrawn (sign.Event w waiting) = All (λ v. v.dots ≤ 3) w.values
-IsDrawn (sign.Opens measure p q r) = ⊤
+IsDrawn (Sign.Event w waiting) = All (λ v. v.dots ≤ 3) w.values
+IsDrawn (Sign.Opens measure p q r) = ⊤

@@ -3,18 +3,13 @@
 use Rattle.std.specs.Prelude.{ℕ, List, [], ◌∷◌, ◌++◌, flat_map, Bool, true, false, ◌==◌, ◌||◌, if◌then◌else◌, Option, Some, None}
 use Rattle.std.specs.List.{list_any}
 use Rattle.mus_units.specs.declared.note.Deco.{Deco}
-use Rattle.mus_score.specs.declared.score.Mention.{Mention}
-use Rattle.mus_score.specs.declared.score.Changes.{Changes}
+use Rattle.mus_score.specs.{declared.score.Mention.Mention, declared.score.Changes.Changes}
 use Rattle.abc_notes.specs.declared.part.GraceChord.{GraceChord}
-use Rattle.abc_steps.specs.declared.step.Step.{Step}
-use Rattle.abc_steps.specs.declared.step.Step.TheVariants as step
-use Rattle.abc_steps.specs.declared.force.InForce.{InForce}
-use Rattle.abc_steps.specs.Looks.{Steps}
-use Rattle.abc_steps.specs.Force.{changes_at}
+use Rattle.abc_steps.specs.{declared.step.Step.Step, declared.force.InForce.InForce, Looks.Steps, Force.changes_at}
 use Rattle.abc_events.specs.declared.written.Waiting.{Waiting}
 
 unfoldable pub decos_in : Step → List Deco
-decos_in (step.Deco deco) = deco ∷ []
+decos_in (Step.Deco deco) = deco ∷ []
 decos_in _ = []
 
 -- a first character of ^ < > @ is an annotation above, and _ one below, both without it; any other
@@ -27,20 +22,20 @@ mention_of [] = record { below = false; text = [] }
 mention_of (c ∷ text) = if is_above c then record { below = false; text = text } else (if c == 95 then record { below = true; text = text } else record { below = false; text = c ∷ text })
 
 unfoldable pub mentions_in : Step → List Mention
-mentions_in (step.Says text) = mention_of text ∷ []
+mentions_in (Step.Says text) = mention_of text ∷ []
 mentions_in _ = []
 
 unfoldable pub graces_in : Step → List GraceChord
-graces_in (step.Grace slash body) = body
+graces_in (Step.Grace slash body) = body
 graces_in _ = []
 
 unfoldable pub has_slash : Step → Bool
-has_slash (step.Grace slash body) = slash
+has_slash (Step.Grace slash body) = slash
 has_slash _ = false
 
 -- of several endings the last counts
 unfoldable pub ending_behind : Step → Option (List ℕ) → Option (List ℕ)
-ending_behind (step.Ending text) ending = Some text
+ending_behind (Step.Ending text) ending = Some text
 ending_behind _ ending = ending
 
 abbrev pub last_ending : Option (List ℕ) → Steps → Option (List ℕ)

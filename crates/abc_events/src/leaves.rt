@@ -1,8 +1,7 @@
 ghost use Rattle.std.specs.Prelude.{◌≡◌, ◌≤◌, ◌+◌, ◌++◌, ◌∷◌, [], List, map, length, replicate, unwrap_or, false, None, IfOk, OnOk};
-ghost use Rattle.mus_units.specs.Value.{value_length};
 ghost use Rattle.std.specs.List.{All};
-ghost use Rattle.abc_events.specs.declared.written.Sign.{Sign};
-ghost use Rattle.abc_events.specs.Signs.{IsDrawn};
+ghost use Rattle.mus_units.specs.Value.{value_length};
+ghost use Rattle.abc_events.specs.{declared.written.Sign.Sign, Signs.IsDrawn};
 ghost use Rattle.abc_events.specs.Leaves.{ends_at, first_part, later_head, later_part, some_more, later_parts, parts, node_of, grace_event, grace_note, grace_nodes, nodes_of, words_at, leaves_from, leaves_of};
 
 use crate::reading::with_ties;

@@ -1,7 +1,5 @@
-ghost use Rattle.std.specs.Prelude.{◌≡◌, ◌<◌, ◌+◌, ◌++◌, ◌∷◌, [], ℕ, length, slice_index_or, IfOk, OnOk};
-ghost use Rattle.std.specs.List.{All};
-ghost use Rattle.abc_events.specs.Signs.{IsDrawn};
-ghost use Rattle.abc_events.specs.Measures.{leaf_measure, leaves_in, measures_in, measures_of};
+ghost use Rattle.std.specs.{Prelude.◌≡◌, Prelude.◌<◌, Prelude.◌+◌, Prelude.◌++◌, Prelude.◌∷◌, Prelude.[], Prelude.ℕ, Prelude.length, Prelude.slice_index_or, Prelude.IfOk, Prelude.OnOk, List.All};
+ghost use Rattle.abc_events.specs.{Signs.IsDrawn, Measures.leaf_measure, Measures.leaves_in, Measures.measures_in, Measures.measures_of};
 
 use crate::leaves::{Leaf, leaves_of};
 use crate::nesting::tree_of;

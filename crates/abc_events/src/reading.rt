@@ -1,10 +1,7 @@
 ghost use Rattle.std.specs.Prelude.{◌≡◌, ◌≤◌, ◌<◌, ◌^◌, ◌+◌, ◌-◌, ◌++◌, ◌∷◌, [], map, length, reverse, unwrap_or, true, false, IfOk, OnOk};
 ghost use Rattle.std.specs.List.{All};
-ghost use Rattle.mus_units.specs.Parts.{parts_list};
-ghost use Rattle.mus_units.specs.Good.{IsGoodMeter};
-ghost use Rattle.abc_steps.specs.Looks.{since_event, slurs_begun, slurs_ended};
-ghost use Rattle.abc_steps.specs.Lengths.{IsLength};
-ghost use Rattle.abc_steps.specs.Good.{IsGoodForce, IsGoodStood, IsGoodStep, IsGoodSound};
+ghost use Rattle.mus_units.specs.{Parts.parts_list, Good.IsGoodMeter};
+ghost use Rattle.abc_steps.specs.{Looks.since_event, Looks.slurs_begun, Looks.slurs_ended, Lengths.IsLength, Good.IsGoodForce, Good.IsGoodStood, Good.IsGoodStep, Good.IsGoodSound};
 ghost use Rattle.abc_events.specs.Signs.{with_tie, tied_heads, for_note, look_of, whole_look, parted_at, sound_written, whole_value, rest_written, further_rests, rests_of, tuplet_of, signs_of, signs, IsDrawn};
 
 use crate::waits::{nothing, waiting_of};

@@ -1,10 +1,7 @@
 -- A length that a value has is that value alone, cut into parts.
 use Rattle.std.proofs.Common.{◌≡◌, ◌∙◌, sym, ap, ℕ, ◌-◌, ◌≤◌, [], ◌∷◌, true, false, Option, Some, None, option_map, arith}
 use Rattle.std.specs.Prelude.{MatchOption, is_some, is_none}
-use Rattle.mus_units.specs.declared.value.Value.{Value}
-use Rattle.mus_units.specs.Parts.{IsValueOf, IsLongest, units_of, parts_list}
-use Rattle.mus_units.proofs.Longest.{value_some}
-use Rattle.mus_units.proofs.Listed.{cut_at_end, cut_on, listed_is}
+use Rattle.mus_units.{specs.declared.value.Value.Value, specs.Parts.IsValueOf, specs.Parts.IsLongest, specs.Parts.units_of, specs.Parts.parts_list, proofs.Longest.value_some, proofs.Listed.cut_at_end, proofs.Listed.cut_on, proofs.Listed.listed_is}
 use Rattle.abc_faults.specs.Weights.{count_parts}
 
 one_part : (num den : ℕ) (v : Value) → 1 ≤ den → IsValueOf num den v → parts_list num den ≡ Some (v ∷ [])

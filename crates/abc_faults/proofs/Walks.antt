@@ -3,15 +3,8 @@ use Rattle.std.proofs.Common.{◌≡◌, ◌∙◌, sym, ap, ℕ, ◌+◌, ◌<�
 use Rattle.std.proofs.lemmas.List.{drop_more, drop_all, take_more, reverse-append}
 use Rattle.mus_units.specs.declared.pitch.Clef.{Clef}
 use Rattle.abc_lines.specs.declared.fault.Fault.{Fault}
-use Rattle.abc_steps.specs.declared.step.Stood.{Stood}
-use Rattle.abc_steps.specs.declared.force.InForce.{InForce}
-use Rattle.abc_steps.specs.Looks.{Steps}
-use Rattle.abc_faults.specs.First.{earlier, first_of}
-use Rattle.abc_faults.specs.Faults.{grace_faults_of, grace_faults, faults_of, faults_in}
-use Rattle.abc_faults.specs.declared.weights.Weight.{Weight}
-use Rattle.abc_faults.specs.Weights.{weights_of, weights_in}
-use Rattle.abc_steps.specs.Places.{place_at}
-use Rattle.abc_faults.proofs.Firsts.{earlier_none}
+use Rattle.abc_steps.specs.{declared.step.Stood.Stood, declared.force.InForce.InForce, Looks.Steps, Places.place_at}
+use Rattle.abc_faults.{specs.First.earlier, specs.First.first_of, specs.Faults.grace_faults_of, specs.Faults.grace_faults, specs.Faults.faults_of, specs.Faults.faults_in, specs.declared.weights.Weight.Weight, specs.Weights.weights_of, specs.Weights.weights_in, proofs.Firsts.earlier_none}
 
 at_front : (steps : Steps) (i : ℕ) (at : Stood) → i < length steps → at ≡ get_or steps i at → drop i steps ≡ at ∷ drop (i + 1) steps
 at_front steps i at less is = drop_more steps i at less ∙ ap (λ x. x ∷ drop (i + 1) steps) (sym is)

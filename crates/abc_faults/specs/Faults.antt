@@ -2,29 +2,11 @@
 -- the nearest first, and what follows it.
 use Rattle.std.specs.Prelude.{ℕ, ◌+◌, ◌-◌, List, [], ◌∷◌, ◌++◌, Bool, true, false, not, ◌&&◌, ◌||◌, nat_le, nat_lt, int_lt, pos, negsuc, is_none, if◌then◌else◌, count_by, flat_map}
 use Rattle.std.specs.List.{before_first, list_any}
-use Rattle.mus_units.specs.declared.note.Head.{Head}
-use Rattle.mus_units.specs.declared.pitch.Clef.{Clef}
-use Rattle.mus_units.specs.declared.key.Meter.{Meter}
-use Rattle.mus_units.specs.declared.key.Meter.TheVariants as meters
-use Rattle.mus_units.specs.Pitch.{height_of}
-use Rattle.mus_units.specs.Parts.{parts_list}
-use Rattle.abc_lines.specs.declared.fault.FaultKind.{FaultKind}
-use Rattle.abc_lines.specs.declared.fault.FaultKind.TheVariants as kinds
-use Rattle.abc_lines.specs.declared.fault.Fault.{Fault}
+use Rattle.mus_units.specs.{declared.note.Head.Head, declared.pitch.Clef.Clef, declared.key.Meter.Meter, Pitch.height_of, Parts.parts_list}
+use Rattle.abc_lines.specs.{declared.fault.FaultKind.FaultKind, declared.fault.Fault.Fault}
 use Rattle.abc_notes.specs.declared.part.GraceChord.{GraceChord}
-use Rattle.abc_steps.specs.declared.step.Sound.{Sound}
-use Rattle.abc_steps.specs.declared.step.Step.{Step}
-use Rattle.abc_steps.specs.declared.step.Step.TheVariants as step
-use Rattle.abc_steps.specs.declared.step.Stood.{Stood}
-use Rattle.abc_steps.specs.declared.force.InForce.{InForce}
-use Rattle.abc_steps.specs.declared.tuplets.Taking.{Taking}
-use Rattle.abc_steps.specs.declared.tuplets.Taking.TheVariants as taking
-use Rattle.abc_steps.specs.Kinds.{is_sound}
-use Rattle.abc_steps.specs.Looks.{Steps, since_event, has_left, has_right}
-use Rattle.abc_steps.specs.Lengths.{written_length}
-use Rattle.abc_steps.specs.Tuplets.{or_default, fits}
-use Rattle.abc_steps.specs.declared.place.Place.{Place}
-use Rattle.abc_steps.specs.Places.{place_at, measure_of}
+use Rattle.abc_steps.specs.{declared.step.Sound.Sound, declared.step.Step.Step, declared.step.Stood.Stood, declared.force.InForce.InForce, declared.tuplets.Taking.Taking, Kinds.is_sound, Looks.Steps, Looks.since_event, Looks.has_left, Looks.has_right, Lengths.written_length, Tuplets.or_default}
+use Rattle.abc_steps.specs.{Tuplets.fits, declared.place.Place.Place, Places.place_at, Places.measure_of}
 
 -- a fault of that kind at a step
 abbrev pub fault_at : FaultKind → Stood → Fault
@@ -36,8 +18,8 @@ fault_if false kind at = []
 
 -- Tuplets. Bars and whole measure rests end those that are open.
 unfoldable pub ends_tuplets : Step → Bool
-ends_tuplets (step.Bar bar) = true
-ends_tuplets (step.Measures seen count) = true
+ends_tuplets (Step.Bar bar) = true
+ends_tuplets (Step.Measures seen count) = true
 ends_tuplets _ = false
 
 -- the events that a tuplet at the place could take
@@ -46,13 +28,13 @@ sounds_behind behind = count_by (λ s. is_sound s.step) (before_first (λ s. end
 
 -- one that doesn't fit would stand within two, or is of more events than the one around it still takes
 abbrev pub misfit_of : Taking → FaultKind
-misfit_of (taking.Two inner outer) = kinds.TooDeep
-misfit_of _ = kinds.TupletCrosses
+misfit_of (Taking.Two inner outer) = FaultKind.TooDeep
+misfit_of _ = FaultKind.TupletCrosses
 
 -- one that fits is short where the measure ends before it has its events
 abbrev pub tuplet_faults : ℕ → Taking → Stood → Steps → List Fault
 tuplet_faults r open_ones at behind =
-    if fits r open_ones then fault_if (nat_lt (sounds_behind behind) r) kinds.TupletShort at else fault_at (misfit_of open_ones) at ∷ []
+    if fits r open_ones then fault_if (nat_lt (sounds_behind behind) r) FaultKind.TupletShort at else fault_at (misfit_of open_ones) at ∷ []
 
 -- Heads. They stand from 14 steps below the bottom line of the staff to 22 above it.
 abbrev pub is_off : Clef → Head → Bool
@@ -66,7 +48,7 @@ any_grace_off clef body = list_any (λ chord. any_off clef chord.heads) body
 
 -- the graces among what waits for an event, each group at its own place, in the clef of the event
 unfoldable pub grace_faults_of : Clef → Stood → Step → List Fault
-grace_faults_of clef at (step.Grace slash body) = fault_if (any_grace_off clef body) kinds.StepRange at
+grace_faults_of clef at (Step.Grace slash body) = fault_if (any_grace_off clef body) FaultKind.StepRange at
 grace_faults_of clef at _ = []
 
 abbrev pub grace_faults : Clef → Steps → List Fault
@@ -77,15 +59,15 @@ abbrev pub is_past : ℕ → Bool
 is_past measure = nat_le 2000 measure
 
 abbrev pub is_free : Meter → Bool
-is_free meters.Free = true
+is_free Meter.Free = true
 is_free _ = false
 
 -- a note, a chord or a rest, without its graces: it is undrawable where its length has no parts
 abbrev pub sound_faults_if : Bool → Place → Stood → Sound → List Fault
 sound_faults_if undrawable now at s =
-    fault_if undrawable kinds.Undrawable at
-    ++ fault_if (any_off now.force.clef s.heads) kinds.StepRange at
-    ++ fault_if (is_past (measure_of now)) kinds.TooManyMeasures at
+    fault_if undrawable FaultKind.Undrawable at
+    ++ fault_if (any_off now.force.clef s.heads) FaultKind.StepRange at
+    ++ fault_if (is_past (measure_of now)) FaultKind.TooManyMeasures at
 
 unfoldable pub sound_faults : Place → Steps → Stood → Sound → Steps → List Fault
 sound_faults now before at s behind =
@@ -95,14 +77,14 @@ sound_faults now before at s behind =
 -- whole measure rests, without their graces: the last of them must stand in a good measure too
 abbrev pub rest_faults : Place → Stood → ℕ → List Fault
 rest_faults now at count =
-    fault_if (is_free now.force.meter) kinds.RestWithoutMeter at
-    ++ fault_if (is_past (measure_of now + (count - 1))) kinds.TooManyMeasures at
+    fault_if (is_free now.force.meter) FaultKind.RestWithoutMeter at
+    ++ fault_if (is_past (measure_of now + (count - 1))) FaultKind.TooManyMeasures at
 
 unfoldable pub faults_of : Place → Steps → Stood → Steps → Step → List Fault
-faults_of now before at behind (step.Sound s) = sound_faults now before at s behind ++ grace_faults now.force.clef (since_event before)
-faults_of now before at behind (step.Measures seen count) = rest_faults now at count ++ grace_faults now.force.clef (since_event before)
-faults_of now before at behind (step.Tuplet p q r) = tuplet_faults (or_default p r) now.taking at behind
-faults_of now before at behind (step.Broken right dots) = fault_if (not (has_left before && has_right behind)) kinds.BrokenAlone at
+faults_of now before at behind (Step.Sound s) = sound_faults now before at s behind ++ grace_faults now.force.clef (since_event before)
+faults_of now before at behind (Step.Measures seen count) = rest_faults now at count ++ grace_faults now.force.clef (since_event before)
+faults_of now before at behind (Step.Tuplet p q r) = tuplet_faults (or_default p r) now.taking at behind
+faults_of now before at behind (Step.Broken right dots) = fault_if (not (has_left before && has_right behind)) FaultKind.BrokenAlone at
 faults_of now before at behind _ = []
 
 abbrev pub faults_in : InForce → Steps → Steps → List Fault

@@ -1,34 +1,34 @@
 -- The first of a set of faults: by line, then by column, then by the order in which faults at one place count.
 use Rattle.std.specs.Prelude.{◌≡◌, ℕ, Bool, false, ◌&&◌, ◌||◌, ◌==◌, nat_lt, if◌then◌else◌, List, [], ◌∷◌, Contains, Option, Some, None}
-use Rattle.abc_lines.specs.declared.fault.FaultKind.{FaultKind}
-use Rattle.abc_lines.specs.declared.fault.FaultKind.TheVariants as kinds
-use Rattle.abc_lines.specs.declared.fault.Fault.{Fault}
+use Rattle.abc_lines.specs.{declared.fault.FaultKind.FaultKind, declared.fault.Fault.Fault}
 
 -- the place of a kind in that order
 abbrev pub rank_of : FaultKind → ℕ
-rank_of kinds.NoKey = 0
-rank_of kinds.BadMeter = 1
-rank_of kinds.BadUnit = 2
-rank_of kinds.BadKey = 3
-rank_of kinds.BadVoice = 4
-rank_of kinds.TooManyVoices = 5
-rank_of kinds.BadByte = 6
-rank_of kinds.Unclosed = 7
-rank_of kinds.BadLength = 8
-rank_of kinds.BadTuplet = 9
-rank_of kinds.TooDeep = 10
-rank_of kinds.TupletCrosses = 11
-rank_of kinds.TupletShort = 12
-rank_of kinds.BrokenAlone = 13
-rank_of kinds.Undrawable = 14
-rank_of kinds.StepRange = 15
-rank_of kinds.RestWithoutMeter = 16
-rank_of kinds.TooManyMeasures = 17
-rank_of kinds.TooManyEvents = 18
-rank_of kinds.TooManyVerses = 19
-rank_of kinds.BadMove = 20
-rank_of (kinds.NoWay reached) = 21
-rank_of (kinds.TooTall block) = 22
+rank_of FaultKind.NoKey = 0
+rank_of FaultKind.BadMeter = 1
+rank_of FaultKind.BadUnit = 2
+rank_of FaultKind.BadKey = 3
+rank_of FaultKind.BadVoice = 4
+rank_of FaultKind.TooManyVoices = 5
+rank_of FaultKind.BadByte = 6
+rank_of FaultKind.Unclosed = 7
+rank_of FaultKind.BadLength = 8
+rank_of FaultKind.BadTuplet = 9
+rank_of FaultKind.TooDeep = 10
+rank_of FaultKind.TupletCrosses = 11
+rank_of FaultKind.TupletShort = 12
+rank_of FaultKind.BrokenAlone = 13
+rank_of FaultKind.Undrawable = 14
+rank_of FaultKind.StepRange = 15
+rank_of FaultKind.RestWithoutMeter = 16
+rank_of FaultKind.TooManyMeasures = 17
+rank_of FaultKind.TooManyEvents = 18
+rank_of FaultKind.TooManyVerses = 19
+rank_of FaultKind.BadScore = 20
+rank_of FaultKind.BadShare = 21
+rank_of FaultKind.BadMove = 22
+rank_of (FaultKind.NoWay reached) = 23
+rank_of (FaultKind.TooTall block) = 24
 
 -- the first numbers decide, and where they are equal the others
 abbrev pub then_below : ℕ → ℕ → Bool → Bool

@@ -1,22 +1,11 @@
 -- How many heads and rests stand at each place, and where there are too many of them so far.
 use Rattle.std.specs.Prelude.{◌≡◌, ⊤, false, ℕ, ◌*◌, List, [], ◌∷◌, ◌++◌, length, max, Bool, nat_lt, if◌then◌else◌, sum_by, flat_map, Option, Some, None}
 use Rattle.std.specs.List.{AllByRecursion}
-use Rattle.mus_units.specs.declared.value.Value.{Value}
-use Rattle.mus_units.specs.Parts.{parts_list}
-use Rattle.abc_lines.specs.declared.fault.FaultKind.TheVariants as kinds
-use Rattle.abc_lines.specs.declared.fault.Fault.{Fault}
+use Rattle.mus_units.specs.{declared.value.Value.Value, Parts.parts_list}
+use Rattle.abc_lines.specs.declared.fault.{FaultKind.FaultKind, Fault.Fault}
 use Rattle.abc_notes.specs.declared.part.GraceChord.{GraceChord}
-use Rattle.abc_steps.specs.declared.step.Sound.{Sound}
-use Rattle.abc_steps.specs.declared.step.Step.{Step}
-use Rattle.abc_steps.specs.declared.step.Step.TheVariants as step
-use Rattle.abc_steps.specs.declared.step.Stood.{Stood}
-use Rattle.abc_steps.specs.declared.force.InForce.{InForce}
-use Rattle.abc_steps.specs.Looks.{Steps, since_event}
-use Rattle.abc_steps.specs.Lengths.{written_length}
-use Rattle.abc_steps.specs.declared.place.Place.{Place}
-use Rattle.abc_faults.specs.declared.weights.Weight.{Weight}
-use Rattle.abc_steps.specs.Places.{place_at}
-use Rattle.abc_faults.specs.First.{then_below}
+use Rattle.abc_steps.specs.{declared.step.Sound.Sound, declared.step.Step.Step, declared.step.Stood.Stood, declared.force.InForce.InForce, Looks.Steps, Looks.since_event, Lengths.written_length, declared.place.Place.Place, Places.place_at}
+use Rattle.abc_faults.specs.{declared.weights.Weight.Weight, First.then_below}
 
 abbrev pub weight_at : ℕ → Stood → Weight
 weight_at count at = record { line = at.line; column = at.column; count = count }
@@ -37,15 +26,15 @@ grace_count body = sum_by (λ chord. length chord.heads) body
 
 -- the groups of graces among what waits for an event, each at its own place
 unfoldable pub grace_weights_of : Stood → Step → List Weight
-grace_weights_of at (step.Grace slash body) = weight_at (grace_count body) at ∷ []
+grace_weights_of at (Step.Grace slash body) = weight_at (grace_count body) at ∷ []
 grace_weights_of at _ = []
 
 abbrev pub grace_weights : Steps → List Weight
 grace_weights waits = flat_map (λ s. grace_weights_of s s.step) waits
 
 unfoldable pub weights_of : Place → Steps → Stood → Steps → Step → List Weight
-weights_of now before at behind (step.Sound s) = grace_weights (since_event before) ++ weight_at (sound_count now before s behind) at ∷ []
-weights_of now before at behind (step.Measures seen count) = grace_weights (since_event before) ++ weight_at count at ∷ []
+weights_of now before at behind (Step.Sound s) = grace_weights (since_event before) ++ weight_at (sound_count now before s behind) at ∷ []
+weights_of now before at behind (Step.Measures seen count) = grace_weights (since_event before) ++ weight_at count at ∷ []
 weights_of now before at behind _ = []
 
 -- every step of a voice in turn, with what stands before it, the nearest first, and what follows it
@@ -74,7 +63,7 @@ crowd_up_to weights w = sum_by (count_up_to w) weights
 
 -- at most 50,000 heads and rests stand in a tune
 abbrev pub crowd_fault : Weight → Fault
-crowd_fault w = record { kind = kinds.TooManyEvents; line = w.line; column = w.column }
+crowd_fault w = record { kind = FaultKind.TooManyEvents; line = w.line; column = w.column }
 
 abbrev pub crowd_faults_at : List Weight → Weight → List Fault
 crowd_faults_at weights w = if nat_lt 50000 (crowd_up_to weights w) then crowd_fault w ∷ [] else []

@@ -1,7 +1,5 @@
-ghost use Rattle.std.specs.Prelude.{◌≡◌, IfOk};
-ghost use Rattle.std.specs.List.Sorted.{IsPermutation};
-ghost use Rattle.abc_faults.specs.First.{first_of, IsFirst};
-ghost use Rattle.abc_faults.specs.Weights.{AreInOrder, crowded, crowd_fault};
+ghost use Rattle.std.specs.{Prelude.◌≡◌, Prelude.IfOk, List.Sorted.IsPermutation};
+ghost use Rattle.abc_faults.specs.{First.first_of, First.IsFirst, Weights.AreInOrder, Weights.crowded, Weights.crowd_fault};
 
 use crate::weights::Weight;
 use abc_lines::{Fault, FaultKind};

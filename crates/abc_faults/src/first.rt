@@ -29,9 +29,11 @@ fn rank(kind: FaultKind) -> u8
         FaultKind::TooManyMeasures => 17,
         FaultKind::TooManyEvents => 18,
         FaultKind::TooManyVerses => 19,
-        FaultKind::BadMove => 20,
-        FaultKind::NoWay { reached: _ } => 21,
-        FaultKind::TooTall { block: _ } => 22,
+        FaultKind::BadScore => 20,
+        FaultKind::BadShare => 21,
+        FaultKind::BadMove => 22,
+        FaultKind::NoWay { reached: _ } => 23,
+        FaultKind::TooTall { block: _ } => 24,
     }
 }
 

@@ -1,7 +1,5 @@
-ghost use Rattle.std.specs.Prelude.{◌≡◌, ◌≤◌, ◌^◌, ◌++◌, ◌∷◌, [], length, reverse, nat_lt, IfOk, OnOk};
-ghost use Rattle.std.specs.List.{All};
-ghost use Rattle.abc_steps.specs.Looks.{since_event};
-ghost use Rattle.abc_steps.specs.Good.{IsGoodForce, IsGoodStood, IsGoodSound};
+ghost use Rattle.std.specs.{Prelude.◌≡◌, Prelude.◌≤◌, Prelude.◌^◌, Prelude.◌++◌, Prelude.◌∷◌, Prelude.[], Prelude.length, Prelude.reverse, Prelude.nat_lt, Prelude.IfOk, Prelude.OnOk, List.All};
+ghost use Rattle.abc_steps.specs.{Looks.since_event, Good.IsGoodForce, Good.IsGoodStood, Good.IsGoodSound};
 ghost use Rattle.abc_faults.specs.First.{first_of, IsFirst};
 ghost use Rattle.abc_faults.specs.Faults.{fault_at, fault_if, ends_tuplets, sounds_behind, misfit_of, tuplet_faults, is_off, any_off, any_grace_off, grace_faults_of, grace_faults, is_past, is_free, sound_faults_if, sound_faults, rest_faults, faults_of, faults_in};
 ghost use Rattle.abc_faults.specs.Weights.{weight_at, sound_count, grace_weights, weights_of, weights_in};

@@ -1,36 +1,14 @@
 -- The function that the code follows and the relation that is meant agree: a line reads as a field
 -- exactly where it says it, and is refused exactly where it says nothing.
 use Rattle.std.proofs.Common.{◌≡◌, refl, sym, ap, ◌∙◌, subst, ℕ, List, Bool, true, false, ◌==◌, ◌||◌, Option, Some, None, Result, Ok, Err, IfOk, IfErr, unwrap_or, codes}
-use Rattle.std.specs.Str.{bytes_eq}
-use Rattle.std.proofs.lemmas.Bool.{eqb-true, not-true, or_parts}
-use Rattle.std.proofs.lemmas.Slice.Eq.{bytes_eq-Decides}
+use Rattle.std.{proofs.lemmas.Bool.eqb-true, proofs.lemmas.Bool.not-true, proofs.lemmas.Bool.or_parts, proofs.lemmas.Slice.Eq.bytes_eq-Decides, specs.Str.bytes_eq}
 use Rattle.mus_units.specs.declared.key.Spread.{Spread}
-use Rattle.mus_units.specs.declared.key.Spread.TheVariants as spreads
-use Rattle.abc_lines.specs.declared.book.Line.{Line}
-use Rattle.abc_lines.specs.declared.fault.FaultKind.{FaultKind}
-use Rattle.abc_lines.specs.declared.fault.FaultKind.TheVariants as faults
-use Rattle.abc_lines.specs.declared.fault.TuneError.{TuneError}
-use Rattle.abc_lines.specs.declared.fault.TuneError.TheVariants as errors
-use Rattle.abc_lines.specs.declared.kind.LineKind.{LineKind}
-use Rattle.abc_lines.specs.declared.kind.LineKind.TheVariants as kinds
-use Rattle.abc_lines.specs.Kinds.{kind_of, field_text}
-use Rattle.abc_fields.specs.declared.directive.Breaks.{Breaks}
-use Rattle.abc_fields.specs.declared.field.Field.{Field}
-use Rattle.abc_fields.specs.declared.field.Field.TheVariants as fields
-use Rattle.abc_fields.specs.declared.field.FieldError.{FieldError}
-use Rattle.abc_fields.specs.declared.field.FieldError.TheVariants as refusals
-use Rattle.abc_fields.specs.Directives.{name_of, rest_of, has_word, names_breaks, breaks_of, spread_of}
-use Rattle.abc_fields.specs.Keys.{key_of}
-use Rattle.abc_fields.specs.Meters.{meter_of, unit_of}
-use Rattle.abc_fields.specs.Voices.{voice_of}
+use Rattle.abc_lines.specs.{declared.book.Line.Line, declared.fault.FaultKind.FaultKind, declared.fault.TuneError.TuneError, declared.kind.LineKind.LineKind, Kinds.kind_of, Kinds.field_text}
 use Rattle.abc_fields.specs.Fields.{key_field, meter_field, unit_field, voice_field, written_field, named_field, breaks_field, spread_field, directive_field, field_by, field_of, Refuses, IsFaultOfLine}
-use Rattle.abc_fields.specs.MeterSpelling.{SaysMeter, SaysUnit}
-use Rattle.abc_fields.specs.FieldSpelling.{SaysBreaks, SaysSpread, is_known, NamedSays, DirectiveSays, KindSays, Says, NamedBad, KindBad, IsBad, NamedRefuses, IsBadLine}
-use Rattle.abc_fields.specs.KeySpelling.{SaysKey}
-use Rattle.abc_fields.specs.VoiceSpelling.{SaysVoice}
-use Rattle.abc_fields.proofs.KeyForms.{key-says, key-read}
-use Rattle.abc_fields.proofs.MeterForms.{none_is_some, meter-says, meter-read, unit-says, unit-read, same_bytes}
-use Rattle.abc_fields.proofs.VoiceForms.{voice-says, voice-read}
+use Rattle.abc_fields.specs.{declared.directive.Breaks.Breaks, declared.field.Field.Field, declared.field.FieldError.FieldError, Directives.name_of, Directives.rest_of, Directives.has_word, Directives.names_breaks, Directives.breaks_of, Directives.spread_of, Keys.key_of, Meters.meter_of}
+use Rattle.abc_fields.specs.{Meters.unit_of, Voices.voice_of, MeterSpelling.SaysMeter, MeterSpelling.SaysUnit, FieldSpelling.SaysBreaks, FieldSpelling.SaysSpread, FieldSpelling.is_known, FieldSpelling.NamedSays, FieldSpelling.DirectiveSays, FieldSpelling.KindSays, FieldSpelling.Says}
+use Rattle.abc_fields.{specs.FieldSpelling.NamedBad, specs.FieldSpelling.KindBad, specs.FieldSpelling.IsBad, specs.FieldSpelling.NamedRefuses, specs.FieldSpelling.IsBadLine, specs.KeySpelling.SaysKey, specs.VoiceSpelling.SaysVoice, proofs.KeyForms.key-says, proofs.KeyForms.key-read}
+use Rattle.abc_fields.proofs.{MeterForms.none_is_some, MeterForms.meter-says, MeterForms.meter-read, MeterForms.unit-says, MeterForms.unit-read, MeterForms.same_bytes, VoiceForms.voice-says, VoiceForms.voice-read}
 
 abbrev Reading : Type 0
 Reading = Result Field FaultKind
@@ -87,10 +65,10 @@ written_says letter text false false false false un e f g h = rw (e, f, g, h) (r
 named_if : (letter : ℕ) (text : List ℕ) (field : Field) (k m l v : Bool) → (letter == 75) ≡ k → (letter == 77) ≡ m → (letter == 76) ≡ l → (letter == 86) ≡ v
     → named_field letter text ≡ Ok field → NamedSays letter text field
 unfolding named_field
-named_if letter text field true m l v e f g d h = read_case letter text field faults.BadKey fields.Key key_field (key_of text) refl (λ key. refl) (λ key said. (eqb-true letter 75 e, key-says text key said)) (rw e at h)
-named_if letter text field false true l v e f g d h = read_case letter text field faults.BadMeter fields.Meter meter_field (meter_of text) refl (λ meter. refl) (λ meter said. (eqb-true letter 77 f, meter-says text meter said)) (rw (e, f) at h)
-named_if letter text field false false true v e f g d h = read_case letter text field faults.BadUnit fields.Unit unit_field (unit_of text) refl (λ unit. refl) (λ unit said. (eqb-true letter 76 g, unit-says text unit said)) (rw (e, f, g) at h)
-named_if letter text field false false false true e f g d h = read_case letter text field faults.BadVoice fields.Voice voice_field (voice_of text) refl (λ voice. refl) (λ voice said. (eqb-true letter 86 d, voice-says text voice said)) (rw (e, f, g, d) at h)
+named_if letter text field true m l v e f g d h = read_case letter text field FaultKind.BadKey Field.Key key_field (key_of text) refl (λ key. refl) (λ key said. (eqb-true letter 75 e, key-says text key said)) (rw e at h)
+named_if letter text field false true l v e f g d h = read_case letter text field FaultKind.BadMeter Field.Meter meter_field (meter_of text) refl (λ meter. refl) (λ meter said. (eqb-true letter 77 f, meter-says text meter said)) (rw (e, f) at h)
+named_if letter text field false false true v e f g d h = read_case letter text field FaultKind.BadUnit Field.Unit unit_field (unit_of text) refl (λ unit. refl) (λ unit said. (eqb-true letter 76 g, unit-says text unit said)) (rw (e, f, g) at h)
+named_if letter text field false false false true e f g d h = read_case letter text field FaultKind.BadVoice Field.Voice voice_field (voice_of text) refl (λ voice. refl) (λ voice said. (eqb-true letter 86 d, voice-says text voice said)) (rw (e, f, g, d) at h)
 named_if letter text field false false false false e f g d h =
     says-at letter text (written_field letter text) field
     (written_says letter text (letter == 119) (letter == 84) (letter == 67) (letter == 81) (record { key = e; meter = f; unit = g; voice = d }) refl refl refl refl)
@@ -101,7 +79,7 @@ named-says letter text field h = named_if letter text field (letter == 75) (lett
 
 -- What a letter and a text say is read.
 
-named-other : (letter : ℕ) (text : List ℕ) → is_known letter ≡ false → named_field letter text ≡ Ok fields.Other
+named-other : (letter : ℕ) (text : List ℕ) → is_known letter ≡ false → named_field letter text ≡ Ok Field.Other
 unfolding named_field
 named-other letter text un =
     let parts = or_parts ((letter == 75 || letter == 77) || (letter == 76 || letter == 86)) ((letter == 119 || letter == 84) || (letter == 67 || letter == 81)) un in
@@ -115,17 +93,17 @@ named-other letter text un =
 
 pub named-read : (letter : ℕ) (text : List ℕ) (field : Field) → NamedSays letter text field → named_field letter text ≡ Ok field
 unfolding named_field
-named-read letter text (fields.Key key) says = ap (λ b. named_field b text) says.0 ∙ ap key_field (key-read text key says.1)
-named-read letter text (fields.Meter meter) says = ap (λ b. named_field b text) says.0 ∙ ap meter_field (meter-read text meter says.1)
-named-read letter text (fields.Unit unit) says = ap (λ b. named_field b text) says.0 ∙ ap unit_field (unit-read text unit says.1)
-named-read letter text (fields.Voice voice) says = ap (λ b. named_field b text) says.0 ∙ ap voice_field (voice-read text voice says.1)
-named-read letter text (fields.Words words) says = ap (λ b. named_field b text) says.0 ∙ ap (λ t. Ok (fields.Words t)) (sym says.1)
-named-read letter text (fields.Title title) says = ap (λ b. named_field b text) says.0 ∙ ap (λ t. Ok (fields.Title t)) (sym says.1)
-named-read letter text (fields.Composer composer) says = ap (λ b. named_field b text) says.0 ∙ ap (λ t. Ok (fields.Composer t)) (sym says.1)
-named-read letter text (fields.Tempo tempo) says = ap (λ b. named_field b text) says.0 ∙ ap (λ t. Ok (fields.Tempo t)) (sym says.1)
-named-read letter text (fields.Breaks breaks) says = absurd says
-named-read letter text (fields.Spread spread) says = absurd says
-named-read letter text fields.Other says = named-other letter text (not-true (is_known letter) says)
+named-read letter text (Field.Key key) says = ap (λ b. named_field b text) says.0 ∙ ap key_field (key-read text key says.1)
+named-read letter text (Field.Meter meter) says = ap (λ b. named_field b text) says.0 ∙ ap meter_field (meter-read text meter says.1)
+named-read letter text (Field.Unit unit) says = ap (λ b. named_field b text) says.0 ∙ ap unit_field (unit-read text unit says.1)
+named-read letter text (Field.Voice voice) says = ap (λ b. named_field b text) says.0 ∙ ap voice_field (voice-read text voice says.1)
+named-read letter text (Field.Words words) says = ap (λ b. named_field b text) says.0 ∙ ap (λ t. Ok (Field.Words t)) (sym says.1)
+named-read letter text (Field.Title title) says = ap (λ b. named_field b text) says.0 ∙ ap (λ t. Ok (Field.Title t)) (sym says.1)
+named-read letter text (Field.Composer composer) says = ap (λ b. named_field b text) says.0 ∙ ap (λ t. Ok (Field.Composer t)) (sym says.1)
+named-read letter text (Field.Tempo tempo) says = ap (λ b. named_field b text) says.0 ∙ ap (λ t. Ok (Field.Tempo t)) (sym says.1)
+named-read letter text (Field.Breaks breaks) says = absurd says
+named-read letter text (Field.Spread spread) says = absurd says
+named-read letter text Field.Other says = named-other letter text (not-true (is_known letter) says)
 
 -- A letter and a text that are refused are in no good form of that letter.
 
@@ -141,10 +119,10 @@ bad_case letter text read kind wrap reading (Some x) none some bad h = absurd (o
 bad_if : (letter : ℕ) (text : List ℕ) (kind : FaultKind) (k m l v : Bool) → (letter == 75) ≡ k → (letter == 77) ≡ m → (letter == 76) ≡ l → (letter == 86) ≡ v
     → named_field letter text ≡ Err kind → NamedBad letter text kind
 unfolding named_field
-bad_if letter text kind true m l v e f g d h = bad_case letter text faults.BadKey kind fields.Key key_field (key_of text) refl (λ key. refl) (λ none. (eqb-true letter 75 e, λ key says. none_is_some key (sym none ∙ key-read text key says))) (rw e at h)
-bad_if letter text kind false true l v e f g d h = bad_case letter text faults.BadMeter kind fields.Meter meter_field (meter_of text) refl (λ meter. refl) (λ none. (eqb-true letter 77 f, λ meter says. none_is_some meter (sym none ∙ meter-read text meter says))) (rw (e, f) at h)
-bad_if letter text kind false false true v e f g d h = bad_case letter text faults.BadUnit kind fields.Unit unit_field (unit_of text) refl (λ unit. refl) (λ none. (eqb-true letter 76 g, λ unit says. none_is_some unit (sym none ∙ unit-read text unit says))) (rw (e, f, g) at h)
-bad_if letter text kind false false false true e f g d h = bad_case letter text faults.BadVoice kind fields.Voice voice_field (voice_of text) refl (λ voice. refl) (λ none. (eqb-true letter 86 d, λ voice says. none_is_some voice (sym none ∙ voice-read text voice says))) (rw (e, f, g, d) at h)
+bad_if letter text kind true m l v e f g d h = bad_case letter text FaultKind.BadKey kind Field.Key key_field (key_of text) refl (λ key. refl) (λ none. (eqb-true letter 75 e, λ key says. none_is_some key (sym none ∙ key-read text key says))) (rw e at h)
+bad_if letter text kind false true l v e f g d h = bad_case letter text FaultKind.BadMeter kind Field.Meter meter_field (meter_of text) refl (λ meter. refl) (λ none. (eqb-true letter 77 f, λ meter says. none_is_some meter (sym none ∙ meter-read text meter says))) (rw (e, f) at h)
+bad_if letter text kind false false true v e f g d h = bad_case letter text FaultKind.BadUnit kind Field.Unit unit_field (unit_of text) refl (λ unit. refl) (λ none. (eqb-true letter 76 g, λ unit says. none_is_some unit (sym none ∙ unit-read text unit says))) (rw (e, f, g) at h)
+bad_if letter text kind false false false true e f g d h = bad_case letter text FaultKind.BadVoice kind Field.Voice voice_field (voice_of text) refl (λ voice. refl) (λ none. (eqb-true letter 86 d, λ voice says. none_is_some voice (sym none ∙ voice-read text voice says))) (rw (e, f, g, d) at h)
 bad_if letter text kind false false false false e f g d h = absurd (ok_is_err (written_field letter text) kind (rw (e, f, g, d) at h))
 
 pub named-bad : (letter : ℕ) (text : List ℕ) (kind : FaultKind) → named_field letter text ≡ Err kind → NamedBad letter text kind
@@ -158,10 +136,10 @@ refused field Says kind (Some x) none says bad = absurd (bad x (says x refl))
 
 pub named-refused : (letter : ℕ) (text : List ℕ) (kind : FaultKind) → NamedBad letter text kind → named_field letter text ≡ Err kind
 unfolding named_field
-named-refused letter text faults.BadKey bad = ap (λ b. named_field b text) bad.0 ∙ refused key_field (SaysKey text) faults.BadKey (key_of text) refl (key-says text) bad.1
-named-refused letter text faults.BadMeter bad = ap (λ b. named_field b text) bad.0 ∙ refused meter_field (SaysMeter text) faults.BadMeter (meter_of text) refl (meter-says text) bad.1
-named-refused letter text faults.BadUnit bad = ap (λ b. named_field b text) bad.0 ∙ refused unit_field (SaysUnit text) faults.BadUnit (unit_of text) refl (unit-says text) bad.1
-named-refused letter text faults.BadVoice bad = ap (λ b. named_field b text) bad.0 ∙ refused voice_field (SaysVoice text) faults.BadVoice (voice_of text) refl (voice-says text) bad.1
+named-refused letter text FaultKind.BadKey bad = ap (λ b. named_field b text) bad.0 ∙ refused key_field (SaysKey text) FaultKind.BadKey (key_of text) refl (key-says text) bad.1
+named-refused letter text FaultKind.BadMeter bad = ap (λ b. named_field b text) bad.0 ∙ refused meter_field (SaysMeter text) FaultKind.BadMeter (meter_of text) refl (meter-says text) bad.1
+named-refused letter text FaultKind.BadUnit bad = ap (λ b. named_field b text) bad.0 ∙ refused unit_field (SaysUnit text) FaultKind.BadUnit (unit_of text) refl (unit-says text) bad.1
+named-refused letter text FaultKind.BadVoice bad = ap (λ b. named_field b text) bad.0 ∙ refused voice_field (SaysVoice text) FaultKind.BadVoice (voice_of text) refl (voice-says text) bad.1
 named-refused letter text _ bad = absurd bad
 
 -- Directives.
@@ -199,9 +177,9 @@ spread-at text read spread says h = subst (λ s. SaysSpread text s) (ap (λ o. u
 spread_if : (text : List ℕ) (spread : Spread) (none octave pitch : Bool) → bytes_eq text (codes "not") ≡ none → bytes_eq text (codes "octave") ≡ octave → bytes_eq text (codes "pitch") ≡ pitch
     → spread_of text ≡ Some spread → SaysSpread text spread
 unfolding spread_of
-spread_if text spread true octave pitch e f g h = spread-at text spreads.Not spread (same_bytes text (codes "not") e) (rw e at h)
-spread_if text spread false true pitch e f g h = spread-at text spreads.Octave spread (same_bytes text (codes "octave") f) (rw (e, f) at h)
-spread_if text spread false false true e f g h = spread-at text spreads.Pitch spread (same_bytes text (codes "pitch") g) (rw (e, f, g) at h)
+spread_if text spread true octave pitch e f g h = spread-at text Spread.Not spread (same_bytes text (codes "not") e) (rw e at h)
+spread_if text spread false true pitch e f g h = spread-at text Spread.Octave spread (same_bytes text (codes "octave") f) (rw (e, f) at h)
+spread_if text spread false false true e f g h = spread-at text Spread.Pitch spread (same_bytes text (codes "pitch") g) (rw (e, f, g) at h)
 spread_if text spread false false false e f g h = absurd (none_is_some spread (rw (e, f, g) at h))
 
 pub spread-says : (text : List ℕ) (spread : Spread) → spread_of text ≡ Some spread → SaysSpread text spread
@@ -209,9 +187,9 @@ spread-says text spread h = spread_if text spread (bytes_eq text (codes "not")) 
 
 pub spread-read : (text : List ℕ) (spread : Spread) → SaysSpread text spread → spread_of text ≡ Some spread
 unfolding spread_of
-spread-read text spreads.Not says = ap spread_of says
-spread-read text spreads.Octave says = ap spread_of says
-spread-read text spreads.Pitch says = ap spread_of says
+spread-read text Spread.Not says = ap spread_of says
+spread-read text Spread.Octave says = ap spread_of says
+spread-read text Spread.Pitch says = ap spread_of says
 
 two_names : (name : List ℕ) → name ≡ codes "linebreak" → name ≡ codes "propagate-accidentals" → ⊥
 two_names name one two = let same : bytes_eq (codes "linebreak") (codes "propagate-accidentals") ≡ true = is_name (codes "linebreak") (codes "propagate-accidentals") (sym one ∙ two) in cc
@@ -243,26 +221,26 @@ one_spread : (rest : List ℕ) (one two : Spread) → SaysSpread rest one → Sa
 one_spread rest one two says says_two = ap (λ o. unwrap_or o one) (sym (spread-read rest one says) ∙ spread-read rest two says_two)
 
 pub directive-one : (name rest : List ℕ) (one two : Field) → DirectiveSays name rest one → DirectiveSays name rest two → one ≡ two
-directive-one name rest (fields.Breaks one) (fields.Breaks two) a b = ap (λ x. fields.Breaks x) (one_breaks rest one two a.1 b.1)
-directive-one name rest (fields.Breaks one) (fields.Spread two) a b = absurd (two_names name a.0 b.0)
-directive-one name rest (fields.Breaks one) fields.Other a b = absurd (b.0 one a)
-directive-one name rest (fields.Spread one) (fields.Breaks two) a b = absurd (two_names name b.0 a.0)
-directive-one name rest (fields.Spread one) (fields.Spread two) a b = ap (λ x. fields.Spread x) (one_spread rest one two a.1 b.1)
-directive-one name rest (fields.Spread one) fields.Other a b = absurd (b.1 one a)
-directive-one name rest fields.Other (fields.Breaks two) a b = absurd (a.0 two b)
-directive-one name rest fields.Other (fields.Spread two) a b = absurd (a.1 two b)
-directive-one name rest fields.Other fields.Other a b = refl
-directive-one name rest (fields.Breaks one) _ a b = absurd b
-directive-one name rest (fields.Spread one) _ a b = absurd b
-directive-one name rest fields.Other _ a b = absurd b
+directive-one name rest (Field.Breaks one) (Field.Breaks two) a b = ap (λ x. Field.Breaks x) (one_breaks rest one two a.1 b.1)
+directive-one name rest (Field.Breaks one) (Field.Spread two) a b = absurd (two_names name a.0 b.0)
+directive-one name rest (Field.Breaks one) Field.Other a b = absurd (b.0 one a)
+directive-one name rest (Field.Spread one) (Field.Breaks two) a b = absurd (two_names name b.0 a.0)
+directive-one name rest (Field.Spread one) (Field.Spread two) a b = ap (λ x. Field.Spread x) (one_spread rest one two a.1 b.1)
+directive-one name rest (Field.Spread one) Field.Other a b = absurd (b.1 one a)
+directive-one name rest Field.Other (Field.Breaks two) a b = absurd (a.0 two b)
+directive-one name rest Field.Other (Field.Spread two) a b = absurd (a.1 two b)
+directive-one name rest Field.Other Field.Other a b = refl
+directive-one name rest (Field.Breaks one) _ a b = absurd b
+directive-one name rest (Field.Spread one) _ a b = absurd b
+directive-one name rest Field.Other _ a b = absurd b
 directive-one name rest _ two a b = absurd a
 
 -- Lines.
 
 kind-says : (line : List ℕ) (kind : LineKind) (field : Field) → field_by line kind ≡ Ok field → KindSays line kind field
-kind-says line (kinds.Field letter) field h = named-says letter (field_text line) field h
-kind-says line kinds.Directive field h = subst (λ f. DirectiveSays (name_of (field_text line)) (rest_of (field_text line)) f) (ok_same (directive_field (name_of (field_text line)) (rest_of (field_text line))) field h) (directive-says (name_of (field_text line)) (rest_of (field_text line)))
-kind-says line kinds.Music field h = sym (ok_same fields.Other field h)
+kind-says line (LineKind.Field letter) field h = named-says letter (field_text line) field h
+kind-says line LineKind.Directive field h = subst (λ f. DirectiveSays (name_of (field_text line)) (rest_of (field_text line)) f) (ok_same (directive_field (name_of (field_text line)) (rest_of (field_text line))) field h) (directive-says (name_of (field_text line)) (rest_of (field_text line)))
+kind-says line LineKind.Music field h = sym (ok_same Field.Other field h)
 
 -- a line reads as a field only where it says it
 pub line-says : (line : List ℕ) (field : Field) → field_of line ≡ Ok field → Says line field
@@ -270,9 +248,9 @@ unfolding field_of
 line-says line field h = kind-says line (kind_of line) field h
 
 kind-read : (line : List ℕ) (kind : LineKind) (field : Field) → KindSays line kind field → field_by line kind ≡ Ok field
-kind-read line (kinds.Field letter) field says = named-read letter (field_text line) field says
-kind-read line kinds.Directive field says = ap Ok (directive-one (name_of (field_text line)) (rest_of (field_text line)) (directive_field (name_of (field_text line)) (rest_of (field_text line))) field (directive-says (name_of (field_text line)) (rest_of (field_text line))) says)
-kind-read line kinds.Music field says = ap Ok (sym says)
+kind-read line (LineKind.Field letter) field says = named-read letter (field_text line) field says
+kind-read line LineKind.Directive field says = ap Ok (directive-one (name_of (field_text line)) (rest_of (field_text line)) (directive_field (name_of (field_text line)) (rest_of (field_text line))) field (directive-says (name_of (field_text line)) (rest_of (field_text line))) says)
+kind-read line LineKind.Music field says = ap Ok (sym says)
 
 -- and wherever it does
 pub line-read : (line : List ℕ) (field : Field) → Says line field → field_of line ≡ Ok field
@@ -280,9 +258,9 @@ unfolding field_of
 line-read line field says = kind-read line (kind_of line) field says
 
 kind-bad : (line : List ℕ) (kind : LineKind) (fault : FaultKind) → field_by line kind ≡ Err fault → KindBad line kind fault
-kind-bad line (kinds.Field letter) fault h = named-bad letter (field_text line) fault h
-kind-bad line kinds.Directive fault h = ok_is_err (directive_field (name_of (field_text line)) (rest_of (field_text line))) fault h
-kind-bad line kinds.Music fault h = ok_is_err fields.Other fault h
+kind-bad line (LineKind.Field letter) fault h = named-bad letter (field_text line) fault h
+kind-bad line LineKind.Directive fault h = ok_is_err (directive_field (name_of (field_text line)) (rest_of (field_text line))) fault h
+kind-bad line LineKind.Music fault h = ok_is_err Field.Other fault h
 
 -- a line is refused only where its text is in no good form
 pub line-bad : (line : List ℕ) (fault : FaultKind) → field_of line ≡ Err fault → IsBad line fault
@@ -290,9 +268,9 @@ unfolding field_of
 line-bad line fault h = kind-bad line (kind_of line) fault h
 
 kind-refused : (line : List ℕ) (kind : LineKind) (fault : FaultKind) → KindBad line kind fault → field_by line kind ≡ Err fault
-kind-refused line (kinds.Field letter) fault bad = named-refused letter (field_text line) fault bad
-kind-refused line kinds.Directive fault bad = absurd bad
-kind-refused line kinds.Music fault bad = absurd bad
+kind-refused line (LineKind.Field letter) fault bad = named-refused letter (field_text line) fault bad
+kind-refused line LineKind.Directive fault bad = absurd bad
+kind-refused line LineKind.Music fault bad = absurd bad
 
 -- and wherever it is
 pub line-refused : (line : List ℕ) (fault : FaultKind) → IsBad line fault → field_of line ≡ Err fault
@@ -306,8 +284,8 @@ named_answers letter text (Ok field) h = named-says letter text field h
 named_answers letter text (Err e) h = tt
 
 named_refusals : (letter : ℕ) (text : List ℕ) (e : FieldError) → Refuses (named_field letter text) e → NamedRefuses letter text e
-named_refusals letter text refusals.Memory h = tt
-named_refusals letter text (refusals.Fault kind) h = named-bad letter text kind h
+named_refusals letter text FieldError.Memory h = tt
+named_refusals letter text (FieldError.Fault kind) h = named-bad letter text kind h
 
 pub named_refuses : (letter : ℕ) (text : List ℕ) (answer : Result Field FieldError) → IfErr answer (λ e. Refuses (named_field letter text) e) → IfErr answer (λ e. NamedRefuses letter text e)
 named_refuses letter text (Ok field) h = tt
@@ -318,8 +296,8 @@ line_answers line (Ok field) h = line-says line field h
 line_answers line (Err e) h = tt
 
 line_faults : (line : Line) (e : TuneError) → IsFaultOfLine line e → IsBadLine line e
-line_faults line errors.Memory h = tt
-line_faults line (errors.Fault fault) h = (line-bad line.text fault.kind h.0, h.1, h.2)
+line_faults line TuneError.Memory h = tt
+line_faults line (TuneError.Fault fault) h = (line-bad line.text fault.kind h.0, h.1, h.2)
 
 pub line_refuses : (line : Line) (answer : Result Field TuneError) → IfErr answer (λ e. IsFaultOfLine line e) → IfErr answer (λ e. IsBadLine line e)
 line_refuses line (Ok field) h = tt

@@ -1,28 +1,12 @@
 -- A text reads as a key exactly where a good form of it spells the words of the text.
 use Rattle.std.proofs.Common.{◌≡◌, refl, sym, ap, ◌∙◌, subst, ℕ, List, [], ◌∷◌, Bool, true, false, map, inl, inr, ◌==◌, ◌⊎◌, pos, Option, Some, None, codes}
-use Rattle.std.specs.Char.{to_ascii_lowercase}
-use Rattle.std.specs.Option.{option_map, option_and_then, option_or}
-use Rattle.std.specs.Str.{bytes_eq}
-use Rattle.std.proofs.lemmas.Bool.{eqb-true, eqb-false, ne_eqb}
-use Rattle.std.proofs.lemmas.Slice.Eq.{bytes_eq-Decides}
-use Rattle.std.proofs.Math.Bool.{and-false}
-use Rattle.mus_units.specs.declared.pitch.Alter.{Alter}
-use Rattle.mus_units.specs.declared.pitch.Alter.TheVariants as alters
-use Rattle.mus_units.specs.declared.pitch.Letter.{Letter}
-use Rattle.mus_units.specs.declared.pitch.Letter.TheVariants as letters
+use Rattle.std.{proofs.lemmas.Bool.eqb-true, proofs.lemmas.Bool.eqb-false, proofs.lemmas.Bool.ne_eqb, proofs.lemmas.Slice.Eq.bytes_eq-Decides, proofs.Math.Bool.and-false, specs.Char.to_ascii_lowercase, specs.Option.option_map, specs.Option.option_and_then, specs.Option.option_or, specs.Str.bytes_eq}
+use Rattle.mus_units.specs.{declared.pitch.Alter.Alter, declared.pitch.Letter.Letter}
 use Rattle.mus_pitch.specs.declared.circle.Mode.{Mode}
-use Rattle.mus_pitch.specs.declared.circle.Mode.TheVariants as modes
-use Rattle.abc_fields.specs.declared.key.KeyText.{KeyText}
-use Rattle.abc_fields.specs.declared.key.KeyWord.{KeyWord}
-use Rattle.abc_fields.specs.declared.key.Start.{Start}
-use Rattle.abc_fields.specs.declared.key.Start.TheVariants as starts
-use Rattle.abc_fields.specs.declared.key.Tonic.{Tonic}
 use Rattle.abc_fields.specs.Keys.{natural_of, signed, key_words, major_like, minor_like, mode_named, mode_by_three, mode_of, start_of, start_with, with_next_mode, without_mode, by_mode, mode_on, altered, tonic_of, fixed_start, first_words, key_by, key_from, key_of}
-use Rattle.abc_fields.specs.Words.{words_of}
 use Rattle.abc_fields.specs.KeySpelling.{letter_byte, word_spelled, ModeName, maj_name, ion_name, mix_name, lyd_name, min_name, aeo_name, dor_name, phr_name, loc_name, three_letters, mode_of_name, ModeForm, minor_form, named_form, mode_spelled, IsGoodMode, mode_meant, Accident, plain_tonic, sharp_tonic, flat_tonic, accident_spelled, accident_meant, tonic_spelled, KeyHead, empty_head, none_head, bagpipe_head, signed_bagpipe_head, tonic_head, written_head, parted_head, kept_head, head_spelled, NoMode, BeginsNoKey, BeginOther, IsGoodHead, head_meant, SaysKey}
-use Rattle.abc_fields.proofs.MeterForms.{none_is_some, same_bytes}
-use Rattle.abc_fields.proofs.WordForms.{words-spelled, words-of-spelled}
-use Rattle.abc_fields.proofs.KeyWordForms.{natural-takes, words-take, words-read}
+use Rattle.abc_fields.{specs.declared.key.KeyText.KeyText, specs.declared.key.KeyWord.KeyWord, specs.declared.key.Start.Start, specs.declared.key.Tonic.Tonic, specs.Words.words_of, proofs.MeterForms.none_is_some, proofs.MeterForms.same_bytes, proofs.WordForms.words-spelled}
+use Rattle.abc_fields.proofs.{WordForms.words-of-spelled, KeyWordForms.natural-takes, KeyWordForms.words-take, KeyWordForms.words-read}
 
 -- Modes.
 
@@ -33,7 +17,7 @@ three_read _ = refl
 longer : (a b : ℕ) (s : List ℕ) → bytes_eq (a ∷ b ∷ s) (codes "m") ≡ false
 longer a b s = and-false (a == 109)
 
-mode-minor : mode_of (codes "m") ≡ Some modes.Min
+mode-minor : mode_of (codes "m") ≡ Some Mode.Min
 unfolding mode_of
 mode-minor = refl
 
@@ -102,7 +86,7 @@ mode-takes s mode h = mode_if s mode (bytes_eq s (codes "m")) refl h
 
 tonic-at : (letter : Letter) (s : List ℕ) → tonic_of (letter_byte letter ∷ s) ≡ altered letter s
 unfolding tonic_of
-tonic-at letters.C s = refl
+tonic-at Letter.C s = refl
 tonic-at _ s = refl
 
 tonic-plain : (letter : Letter) (accident : Accident) → tonic_of (tonic_spelled letter accident []) ≡ Some (record { letter = letter; alter = accident_meant accident; mode = None })
@@ -116,14 +100,14 @@ with_mode letter alter mode = record { letter = letter; alter = alter; mode = So
 on-read : (letter : Letter) (alter : Alter) (b : ℕ) (s : List ℕ) (mode : Mode) → mode_of (b ∷ s) ≡ Some mode → mode_on letter alter (b ∷ s) ≡ Some (with_mode letter alter mode)
 on-read letter alter b s mode h = ap (λ o. option_map (λ m. with_mode letter alter m) o) h
 
-altered-plain : (letter : Letter) (b : ℕ) (s : List ℕ) → (b == 35) ≡ false → (b == 98) ≡ false → altered letter (b ∷ s) ≡ mode_on letter alters.Natural (b ∷ s)
+altered-plain : (letter : Letter) (b : ℕ) (s : List ℕ) → (b == 35) ≡ false → (b == 98) ≡ false → altered letter (b ∷ s) ≡ mode_on letter Alter.Natural (b ∷ s)
 altered-plain letter b s e f = rw (e, f) refl
 
 altered-read : (letter : Letter) (accident : Accident) (b : ℕ) (s : List ℕ) (mode : Mode) → (b == 35) ≡ false → (b == 98) ≡ false → mode_of (b ∷ s) ≡ Some mode
     → altered letter (accident_spelled accident (b ∷ s)) ≡ Some (with_mode letter (accident_meant accident) mode)
-altered-read letter plain_tonic b s mode e f h = altered-plain letter b s e f ∙ on-read letter alters.Natural b s mode h
-altered-read letter sharp_tonic b s mode e f h = on-read letter alters.Sharp b s mode h
-altered-read letter flat_tonic b s mode e f h = on-read letter alters.Flat b s mode h
+altered-read letter plain_tonic b s mode e f h = altered-plain letter b s e f ∙ on-read letter Alter.Natural b s mode h
+altered-read letter sharp_tonic b s mode e f h = on-read letter Alter.Sharp b s mode h
+altered-read letter flat_tonic b s mode e f h = on-read letter Alter.Flat b s mode h
 
 abbrev first_of : List ℕ → ℕ
 first_of [] = 0
@@ -146,7 +130,7 @@ begins_other name k a b c low other good = ne_eqb a k (λ is. eqb_not (first_of 
 
 tonic-written : (letter : Letter) (accident : Accident) (mode : ModeForm) → IsGoodMode mode → tonic_of (tonic_spelled letter accident (mode_spelled mode)) ≡ Some (with_mode letter (accident_meant accident) (mode_meant mode))
 tonic-written letter accident minor_form good =
-    tonic-at letter (accident_spelled accident (codes "m")) ∙ altered-read letter accident 109 [] modes.Min refl refl mode-minor
+    tonic-at letter (accident_spelled accident (codes "m")) ∙ altered-read letter accident 109 [] Mode.Min refl refl mode-minor
 tonic-written letter accident (named_form name a b c more) good =
     tonic-at letter (accident_spelled accident (a ∷ b ∷ c ∷ more))
     ∙ altered-read letter accident a (b ∷ c ∷ more) (mode_of_name name) (begins_other name 35 a b c refl (not_sharp name) good) (begins_other name 98 a b c refl (not_flat name) good) (mode-read (named_form name a b c more) good)
@@ -192,14 +176,14 @@ abbrev begun : Start → List (List ℕ) → Begun
 begun start more = (start, more)
 
 tonic-fixed : (letter : Letter) (s : List ℕ) → fixed_start (letter_byte letter ∷ s) ≡ None
-tonic-fixed letters.C s = refl
+tonic-fixed Letter.C s = refl
 tonic-fixed _ s = refl
 
 words_by_tonic : (w : List ℕ) (more : List (List ℕ)) (tonic : Tonic) → fixed_start w ≡ None → tonic_of w ≡ Some tonic → first_words (w ∷ more) ≡ by_mode tonic.letter tonic.alter tonic.mode more
 unfolding first_words
 words_by_tonic w more tonic e f = rw (e, f) refl
 
-words_kept : (w : List ℕ) (more : List (List ℕ)) → fixed_start w ≡ None → tonic_of w ≡ None → first_words (w ∷ more) ≡ begun starts.Kept (w ∷ more)
+words_kept : (w : List ℕ) (more : List (List ℕ)) → fixed_start w ≡ None → tonic_of w ≡ None → first_words (w ∷ more) ≡ begun Start.Kept (w ∷ more)
 unfolding first_words
 words_kept w more e f = rw (e, f) refl
 
@@ -207,7 +191,7 @@ no_mode_if : (w : List ℕ) (o : Option Mode) → mode_of w ≡ o → ((mode : M
 no_mode_if w None e none = refl
 no_mode_if w (Some mode) e none = let is = mode-takes w mode e in absurd (none is.form is.good is.spelled)
 
-unmoded : (letter : Letter) (alter : Alter) (more : List (List ℕ)) → NoMode more → without_mode letter alter more ≡ begun (start_of letter alter modes.Maj) more
+unmoded : (letter : Letter) (alter : Alter) (more : List (List ℕ)) → NoMode more → without_mode letter alter more ≡ begun (start_of letter alter Mode.Maj) more
 unmoded letter alter [] none = refl
 unmoded letter alter (w ∷ more) none = ap (with_next_mode letter alter w more) (no_mode_if w (mode_of w) refl none)
 
@@ -228,7 +212,7 @@ untonic : (w : List ℕ) (o : Option Tonic) → tonic_of w ≡ o → BeginsNoKey
 untonic w None e no_key = refl
 untonic w (Some tonic) e no_key = absurd (untonic_form w no_key (tonic-takes w tonic e))
 
-kept-read : (more : List (List ℕ)) → BeginOther more → first_words more ≡ begun starts.Kept more
+kept-read : (more : List (List ℕ)) → BeginOther more → first_words more ≡ begun Start.Kept more
 kept-read [] good = absurd good
 kept-read (w ∷ more) good =
     words_kept w more (fixed_if w (bytes_eq w (codes "none")) (bytes_eq w (codes "HP")) (bytes_eq w (codes "Hp")) refl refl refl good) (untonic w (tonic_of w) refl good)
@@ -236,7 +220,7 @@ kept-read (w ∷ more) good =
 -- a good beginning is read
 head-read : (head : KeyHead) (more : List (List ℕ)) → IsGoodHead head more → first_words (head_spelled head more) ≡ begun (head_meant head) more
 unfolding first_words
-head-read empty_head more good = ap first_words good ∙ ap (λ t. begun (starts.Sharps (pos 0)) t) (sym good)
+head-read empty_head more good = ap first_words good ∙ ap (λ t. begun (Start.Sharps (pos 0)) t) (sym good)
 head-read none_head more good = refl
 head-read bagpipe_head more good = refl
 head-read signed_bagpipe_head more good = refl

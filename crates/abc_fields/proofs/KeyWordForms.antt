@@ -1,23 +1,11 @@
 -- A word of a key reads as a sign, a clef or another word exactly where a good form of it spells it.
 use Rattle.std.proofs.Common.{◌≡◌, refl, sym, ap, ◌∙◌, ℕ, ◌+◌, ◌-◌, ◌≤◌, List, [], ◌∷◌, ◌++◌, Bool, true, false, map, arith, inl, inr, ◌==◌, ◌⊎◌, Option, Some, None, unwrap_or, codes, if◌then◌else◌, eqb-true}
-use Rattle.std.specs.List.{list_any}
-use Rattle.std.specs.Option.{option_map, option_and_then, option_or}
-use Rattle.std.specs.Str.{bytes_eq}
-use Rattle.mus_units.specs.declared.key.Sign.{Sign}
-use Rattle.mus_units.specs.declared.pitch.Alter.{Alter}
-use Rattle.mus_units.specs.declared.pitch.Alter.TheVariants as alters
-use Rattle.mus_units.specs.declared.pitch.Clef.{Clef}
-use Rattle.mus_units.specs.declared.pitch.Clef.TheVariants as clefs
-use Rattle.mus_units.specs.declared.pitch.Letter.{Letter}
-use Rattle.mus_units.specs.declared.pitch.Letter.TheVariants as letters
-use Rattle.abc_fields.specs.declared.key.KeyWord.{KeyWord}
-use Rattle.abc_fields.specs.declared.key.KeyWord.TheVariants as words
-use Rattle.abc_fields.specs.Keys.{natural_of, letter_alone, signed, sign_of, clef_of, by_name, by_clef, by_sign, key_word, key_words}
-use Rattle.abc_fields.specs.VoiceSpelling.{ClefForm, plain_clef, above_clef, below_clef, clef_spelled, clef_meant}
-use Rattle.abc_fields.specs.Words.{behind}
+use Rattle.std.specs.{List.list_any, Option.option_map, Option.option_and_then, Option.option_or, Str.bytes_eq}
+use Rattle.mus_units.specs.{declared.key.Sign.Sign, declared.pitch.Alter.Alter, declared.pitch.Clef.Clef, declared.pitch.Letter.Letter}
 use Rattle.abc_fields.specs.KeySpelling.{letter_byte, letter_spelled, alter_spelled, KeyWordForm, exp_word, sign_word, clef_word, name_word, passed_word, word_spelled, IsPassed, IsGoodWord, AreGoodWords, word_meant}
-use Rattle.abc_fields.proofs.MeterForms.{none_is_some, behind-takes, same_bytes}
-use Rattle.abc_fields.proofs.VoiceForms.{clef-read, clef-takes, no_clef_read, no_front, behind-clef}
+use Rattle.abc_fields.specs.{declared.key.KeyWord.KeyWord, Keys.natural_of, Keys.letter_alone, Keys.signed, Keys.sign_of, Keys.clef_of, Keys.by_name, Keys.by_clef, Keys.by_sign, Keys.key_word, Keys.key_words, VoiceSpelling.ClefForm, VoiceSpelling.plain_clef, VoiceSpelling.above_clef}
+use Rattle.abc_fields.{specs.VoiceSpelling.below_clef, specs.VoiceSpelling.clef_spelled, specs.VoiceSpelling.clef_meant, specs.Words.behind, proofs.MeterForms.none_is_some, proofs.MeterForms.behind-takes, proofs.MeterForms.same_bytes, proofs.VoiceForms.clef-read, proofs.VoiceForms.clef-takes}
+use Rattle.abc_fields.proofs.VoiceForms.{no_clef_read, no_front, behind-clef}
 
 -- Letters.
 
@@ -36,7 +24,7 @@ pub natural-takes : (b : ℕ) (letter : Letter) → natural_of b ≡ Some letter
 natural-takes b letter h = letter_if b letter (b == 67) (b == 68) (b == 69) (b == 70) (b == 71) (b == 65) (b == 66) refl refl refl refl refl refl refl h
 
 byte-past : (letter : Letter) → 65 ≤ letter_byte letter
-byte-past letters.C = omega arith
+byte-past Letter.C = omega arith
 byte-past _ = omega arith
 
 record IsLetter (b : ℕ) (letter : Letter) : Type 0 where
@@ -81,30 +69,30 @@ or_either (Some x) b sign h = inl h
 abbrev signed_by : List ℕ → Alter → Option Sign
 signed_by w alter = signed alter (behind (alter_spelled alter) w)
 
-sign_last : (w : List ℕ) (sign : Sign) → (signed_by w alters.Flat ≡ Some sign) ⊎ (signed_by w alters.Natural ≡ Some sign) → IsSign w sign
-sign_last w sign (inl h) = signed-takes alters.Flat w sign (behind (codes "_") w) refl h
-sign_last w sign (inr h) = signed-takes alters.Natural w sign (behind (codes "=") w) refl h
+sign_last : (w : List ℕ) (sign : Sign) → (signed_by w Alter.Flat ≡ Some sign) ⊎ (signed_by w Alter.Natural ≡ Some sign) → IsSign w sign
+sign_last w sign (inl h) = signed-takes Alter.Flat w sign (behind (codes "_") w) refl h
+sign_last w sign (inr h) = signed-takes Alter.Natural w sign (behind (codes "=") w) refl h
 
-sign_third : (w : List ℕ) (sign : Sign) → (signed_by w alters.Flat2 ≡ Some sign) ⊎ (option_or (signed_by w alters.Flat) (signed_by w alters.Natural) ≡ Some sign) → IsSign w sign
-sign_third w sign (inl h) = signed-takes alters.Flat2 w sign (behind (codes "__") w) refl h
-sign_third w sign (inr h) = sign_last w sign (or_either (signed_by w alters.Flat) (signed_by w alters.Natural) sign h)
+sign_third : (w : List ℕ) (sign : Sign) → (signed_by w Alter.Flat2 ≡ Some sign) ⊎ (option_or (signed_by w Alter.Flat) (signed_by w Alter.Natural) ≡ Some sign) → IsSign w sign
+sign_third w sign (inl h) = signed-takes Alter.Flat2 w sign (behind (codes "__") w) refl h
+sign_third w sign (inr h) = sign_last w sign (or_either (signed_by w Alter.Flat) (signed_by w Alter.Natural) sign h)
 
-sign_second : (w : List ℕ) (sign : Sign) → (signed_by w alters.Sharp ≡ Some sign) ⊎ (option_or (signed_by w alters.Flat2) (option_or (signed_by w alters.Flat) (signed_by w alters.Natural)) ≡ Some sign) → IsSign w sign
-sign_second w sign (inl h) = signed-takes alters.Sharp w sign (behind (codes "^") w) refl h
-sign_second w sign (inr h) = sign_third w sign (or_either (signed_by w alters.Flat2) (option_or (signed_by w alters.Flat) (signed_by w alters.Natural)) sign h)
+sign_second : (w : List ℕ) (sign : Sign) → (signed_by w Alter.Sharp ≡ Some sign) ⊎ (option_or (signed_by w Alter.Flat2) (option_or (signed_by w Alter.Flat) (signed_by w Alter.Natural)) ≡ Some sign) → IsSign w sign
+sign_second w sign (inl h) = signed-takes Alter.Sharp w sign (behind (codes "^") w) refl h
+sign_second w sign (inr h) = sign_third w sign (or_either (signed_by w Alter.Flat2) (option_or (signed_by w Alter.Flat) (signed_by w Alter.Natural)) sign h)
 
-sign_first : (w : List ℕ) (sign : Sign) → (signed_by w alters.Sharp2 ≡ Some sign) ⊎ (option_or (signed_by w alters.Sharp) (option_or (signed_by w alters.Flat2) (option_or (signed_by w alters.Flat) (signed_by w alters.Natural))) ≡ Some sign) → IsSign w sign
-sign_first w sign (inl h) = signed-takes alters.Sharp2 w sign (behind (codes "^^") w) refl h
-sign_first w sign (inr h) = sign_second w sign (or_either (signed_by w alters.Sharp) (option_or (signed_by w alters.Flat2) (option_or (signed_by w alters.Flat) (signed_by w alters.Natural))) sign h)
+sign_first : (w : List ℕ) (sign : Sign) → (signed_by w Alter.Sharp2 ≡ Some sign) ⊎ (option_or (signed_by w Alter.Sharp) (option_or (signed_by w Alter.Flat2) (option_or (signed_by w Alter.Flat) (signed_by w Alter.Natural))) ≡ Some sign) → IsSign w sign
+sign_first w sign (inl h) = signed-takes Alter.Sharp2 w sign (behind (codes "^^") w) refl h
+sign_first w sign (inr h) = sign_second w sign (or_either (signed_by w Alter.Sharp) (option_or (signed_by w Alter.Flat2) (option_or (signed_by w Alter.Flat) (signed_by w Alter.Natural))) sign h)
 
 sign-takes : (w : List ℕ) (sign : Sign) → sign_of w ≡ Some sign → IsSign w sign
 unfolding sign_of
-sign-takes w sign h = sign_first w sign (or_either (signed_by w alters.Sharp2) (option_or (signed_by w alters.Sharp) (option_or (signed_by w alters.Flat2) (option_or (signed_by w alters.Flat) (signed_by w alters.Natural)))) sign h)
+sign-takes w sign h = sign_first w sign (or_either (signed_by w Alter.Sharp2) (option_or (signed_by w Alter.Sharp) (option_or (signed_by w Alter.Flat2) (option_or (signed_by w Alter.Flat) (signed_by w Alter.Natural)))) sign h)
 
 sign-read : (alter : Alter) (letter : Letter) (lower : Bool) → sign_of (alter_spelled alter ++ letter_spelled letter lower ∷ []) ≡ Some (record { letter = letter; alter = alter })
 unfolding sign_of behind
-sign-read alters.Sharp2 letters.C true = refl
-sign-read _ letters.C true = refl
+sign-read Alter.Sharp2 Letter.C true = refl
+sign-read _ Letter.C true = refl
 sign-read _ _ true = refl
 sign-read _ _ _ = refl
 
@@ -112,20 +100,20 @@ sign-read _ _ _ = refl
 
 word_sign : (alter : Alter) (letter : Letter) (lower : Bool) → key_word (alter_spelled alter ++ letter_spelled letter lower ∷ []) ≡ by_sign (alter_spelled alter ++ letter_spelled letter lower ∷ []) (sign_of (alter_spelled alter ++ letter_spelled letter lower ∷ []))
 unfolding key_word
-word_sign alters.Sharp2 letter lower = refl
+word_sign Alter.Sharp2 letter lower = refl
 word_sign _ letter lower = refl
 
-word_name : (form : ClefForm) → key_word (clef_spelled form) ≡ Some (words.Names (clef_meant form))
+word_name : (form : ClefForm) → key_word (clef_spelled form) ≡ Some (KeyWord.Names (clef_meant form))
 unfolding key_word sign_of behind clef_of
-word_name (plain_clef clefs.Treble) = refl
-word_name (above_clef clefs.Treble) = refl
-word_name (below_clef clefs.Treble) = refl
+word_name (plain_clef Clef.Treble) = refl
+word_name (above_clef Clef.Treble) = refl
+word_name (below_clef Clef.Treble) = refl
 word_name _ = refl
 
 clef-no-equals : (form : ClefForm) → list_any (λ b. b == 61) (clef_spelled form) ≡ false
-clef-no-equals (plain_clef clefs.Treble) = refl
-clef-no-equals (above_clef clefs.Treble) = refl
-clef-no-equals (below_clef clefs.Treble) = refl
+clef-no-equals (plain_clef Clef.Treble) = refl
+clef-no-equals (above_clef Clef.Treble) = refl
+clef-no-equals (below_clef Clef.Treble) = refl
 clef-no-equals _ = refl
 
 abbrev has_equals : List ℕ → Bool
@@ -142,7 +130,7 @@ no_sign_if : (w : List ℕ) (o : Option Sign) → sign_of w ≡ o → ((alter : 
 no_sign_if w None e none = refl
 no_sign_if w (Some sign) e none = let is = sign-takes w sign e in absurd (none is.alter is.letter is.lower is.spelled)
 
-word_passed : (w : List ℕ) → IsPassed w → key_word w ≡ Some words.Passed
+word_passed : (w : List ℕ) → IsPassed w → key_word w ≡ Some KeyWord.Passed
 unfolding key_word
 word_passed w good =
     let not_exp : bytes_eq w (codes "exp") ≡ false = not_exp_if w (bytes_eq w (codes "exp")) refl good.equals in
@@ -156,7 +144,7 @@ word-read : (form : KeyWordForm) → IsGoodWord form → key_word (word_spelled 
 unfolding key_word sign_of behind
 word-read exp_word good = refl
 word-read (sign_word alter letter lower) good = word_sign alter letter lower ∙ ap (by_sign (alter_spelled alter ++ letter_spelled letter lower ∷ [])) (sign-read alter letter lower)
-word-read (clef_word clef) good = ap (λ o. option_map (λ c. words.Names c) o) (clef-read clef)
+word-read (clef_word clef) good = ap (λ o. option_map (λ c. KeyWord.Names c) o) (clef-read clef)
 word-read (name_word clef) good = word_name clef
 word-read (passed_word word) good = word_passed word good
 
@@ -171,23 +159,23 @@ some_word word read h = ap (λ o. unwrap_or o read) h
 
 passed_if : (w : List ℕ) (read : KeyWord) (equals : Bool) → has_equals w ≡ equals
     → ((alter : Alter) (letter : Letter) (lower : Bool) → w ≡ alter_spelled alter ++ letter_spelled letter lower ∷ [] → ⊥) → ((name : List ℕ) → w ≡ codes "clef=" ++ name → ⊥)
-    → (if equals then Some words.Passed else None) ≡ Some read → IsWord w read
+    → (if equals then Some KeyWord.Passed else None) ≡ Some read → IsWord w read
 passed_if w read false e no_sign no_clef h = absurd (none_is_some read h)
-passed_if w read true e no_sign no_clef h = record { form = passed_word w; good = record { equals = e; no_sign = no_sign; no_clef = no_clef }; spelled = refl; meant = some_word words.Passed read h }
+passed_if w read true e no_sign no_clef h = record { form = passed_word w; good = record { equals = e; no_sign = no_sign; no_clef = no_clef }; spelled = refl; meant = some_word KeyWord.Passed read h }
 
 name_if : (w : List ℕ) (read : KeyWord) (o : Option Clef) → clef_of w ≡ o
     → ((alter : Alter) (letter : Letter) (lower : Bool) → w ≡ alter_spelled alter ++ letter_spelled letter lower ∷ [] → ⊥) → ((name : List ℕ) → w ≡ codes "clef=" ++ name → ⊥)
     → by_name w o ≡ Some read → IsWord w read
 name_if w read (Some clef) e no_sign no_clef h =
     let found = clef-takes w clef e in
-    record { form = name_word found.form; good = tt; spelled = found.spelled; meant = ap (λ c. words.Names c) found.meant ∙ some_word (words.Names clef) read h }
+    record { form = name_word found.form; good = tt; spelled = found.spelled; meant = ap (λ c. KeyWord.Names c) found.meant ∙ some_word (KeyWord.Names clef) read h }
 name_if w read None e no_sign no_clef h = passed_if w read (has_equals w) refl no_sign no_clef h
 
-clef_if : (w name : List ℕ) (read : KeyWord) (o : Option Clef) → w ≡ codes "clef=" ++ name → clef_of name ≡ o → option_map (λ c. words.Names c) o ≡ Some read → IsWord w read
+clef_if : (w name : List ℕ) (read : KeyWord) (o : Option Clef) → w ≡ codes "clef=" ++ name → clef_of name ≡ o → option_map (λ c. KeyWord.Names c) o ≡ Some read → IsWord w read
 clef_if w name read None is e h = absurd (none_is_some read h)
 clef_if w name read (Some clef) is e h =
     let found = clef-takes name clef e in
-    record { form = clef_word found.form; good = tt; spelled = is ∙ ap (λ t. codes "clef=" ++ t) found.spelled; meant = ap (λ c. words.Names c) found.meant ∙ some_word (words.Names clef) read h }
+    record { form = clef_word found.form; good = tt; spelled = is ∙ ap (λ t. codes "clef=" ++ t) found.spelled; meant = ap (λ c. KeyWord.Names c) found.meant ∙ some_word (KeyWord.Names clef) read h }
 
 front_if : (w : List ℕ) (read : KeyWord) (o : Option (List ℕ)) → behind (codes "clef=") w ≡ o
     → ((alter : Alter) (letter : Letter) (lower : Bool) → w ≡ alter_spelled alter ++ letter_spelled letter lower ∷ [] → ⊥)
@@ -198,13 +186,13 @@ front_if w read None e no_sign h = name_if w read (clef_of w) refl no_sign (λ n
 sign_if : (w : List ℕ) (read : KeyWord) (o : Option Sign) → sign_of w ≡ o → by_sign w o ≡ Some read → IsWord w read
 sign_if w read (Some sign) e h =
     let found = sign-takes w sign e in
-    record { form = sign_word found.alter found.letter found.lower; good = tt; spelled = found.spelled; meant = ap (λ s. words.Adds s) found.meant ∙ some_word (words.Adds sign) read h }
+    record { form = sign_word found.alter found.letter found.lower; good = tt; spelled = found.spelled; meant = ap (λ s. KeyWord.Adds s) found.meant ∙ some_word (KeyWord.Adds sign) read h }
 sign_if w read None e h =
     front_if w read (behind (codes "clef=") w) refl (λ alter letter lower is. none_is_some (record { letter = letter; alter = alter }) (sym e ∙ ap sign_of is ∙ sign-read alter letter lower)) h
 
 exp_if : (w : List ℕ) (read : KeyWord) (exp : Bool) → bytes_eq w (codes "exp") ≡ exp → key_word w ≡ Some read → IsWord w read
 unfolding key_word
-exp_if w read true e h = record { form = exp_word; good = tt; spelled = same_bytes w (codes "exp") e; meant = some_word words.Empties read (rw e at h) }
+exp_if w read true e h = record { form = exp_word; good = tt; spelled = same_bytes w (codes "exp") e; meant = some_word KeyWord.Empties read (rw e at h) }
 exp_if w read false e h = sign_if w read (sign_of w) refl (rw e at h)
 
 word-takes : (w : List ℕ) (read : KeyWord) → key_word w ≡ Some read → IsWord w read

@@ -1,22 +1,13 @@
 -- A text reads as a meter exactly where a good form of that meter spells it; likewise unit lengths.
 use Rattle.std.proofs.Common.{◌≡◌, refl, sym, ap, ◌∙◌, subst, ℕ, suc, ◌+◌, ◌≤◌, ◌<◌, List, [], ◌∷◌, ◌++◌, Bool, true, false, length, take, drop, arith, inl, inr, ◌==◌, ◌⊎◌, not, nat_eq, nat_le, Option, Some, None, unwrap_or, codes, take-append-drop}
-use Rattle.std.specs.List.{list_all, join_with_byte, slice_split, starts_with}
-use Rattle.std.specs.Str.{bytes_eq}
-use Rattle.std.proofs.lemmas.Bool.{and_parts, leb-true, le-leb, eqb-true, ne_eqb}
-use Rattle.std.proofs.lemmas.List.Folds.{list_all-append}
-use Rattle.std.proofs.lemmas.List.Splits.{join_with_byte-slice_split, length-slice_split}
-use Rattle.std.proofs.lemmas.Slice.Eq.{bytes_eq-Decides}
-use Rattle.std.proofs.Math.Seq.{take-append_seam, drop-append_seam}
-use Rattle.mus_units.specs.declared.key.Meter.{Meter}
-use Rattle.mus_units.specs.declared.key.Meter.TheVariants as meters
-use Rattle.mus_units.specs.declared.value.Frac.{Frac}
+use Rattle.std.proofs.lemmas.{Bool.and_parts, Bool.leb-true, Bool.le-leb, Bool.eqb-true, Bool.ne_eqb, List.Folds.list_all-append, List.Splits.join_with_byte-slice_split, List.Splits.length-slice_split, Slice.Eq.bytes_eq-Decides}
+use Rattle.std.{proofs.Math.Seq.take-append_seam, proofs.Math.Seq.drop-append_seam, specs.List.list_all, specs.List.join_with_byte, specs.List.slice_split, specs.List.starts_with, specs.Str.bytes_eq}
+use Rattle.mus_units.specs.{declared.key.Meter.Meter, declared.value.Frac.Frac, Good.is_halving}
 use Rattle.abc_lines.specs.Kinds.{is_blank}
-use Rattle.abc_fields.specs.Numbers.{is_digit, is_number, value_of, number_of, place_of, before, from_first, behind_one}
-use Rattle.abc_fields.specs.Words.{trimmed, behind}
-use Rattle.mus_units.specs.Good.{is_halving}
 use Rattle.abc_fields.specs.Meters.{is_plus, halving_of, added, sum_of, ratio, below_of, below_behind, plain_ratio, wrapped_ratio, ratio_by, ratio_of, meter_at, meter_of, one_over, unit_at, unit_of}
 use Rattle.abc_fields.specs.MeterSpelling.{MeterForm, common_form, cut_form, none_form, empty_form, sum_form, wrapped_form, meter_spelled, value_sum, IsGoodSum, IsGoodMeterForm, meter_meant, WritesMeter, SaysMeter, UnitForm, whole_form, over_form, unit_spelled, IsGoodUnitForm, unit_meant, WritesUnit, SaysUnit}
-use Rattle.abc_fields.proofs.BlankLaws.{trimmed-between, between-trimmed}
+use Rattle.abc_fields.{specs.Numbers.is_digit, specs.Numbers.is_number, specs.Numbers.value_of, specs.Numbers.number_of, specs.Numbers.place_of, specs.Numbers.before, specs.Numbers.from_first, specs.Numbers.behind_one, specs.Words.trimmed, specs.Words.behind, proofs.BlankLaws.trimmed-between}
+use Rattle.abc_fields.proofs.BlankLaws.{between-trimmed}
 
 -- no byte of s is this one
 abbrev pub lacks : ℕ → List ℕ → Bool
@@ -233,11 +224,11 @@ sum-takes s n h =
 
 -- Both, in parentheses or not.
 
-plain-read : (above below : List ℕ) (n d : ℕ) → lacks 47 above ≡ true → sum_of above ≡ Some n → below_of below ≡ Some d → plain_ratio (above ++ 47 ∷ below) ≡ Some (meters.Ratio n d)
+plain-read : (above below : List ℕ) (n d : ℕ) → lacks 47 above ≡ true → sum_of above ≡ Some n → below_of below ≡ Some d → plain_ratio (above ++ 47 ∷ below) ≡ Some (Meter.Ratio n d)
 unfolding plain_ratio
 plain-read above below n d none sum half = rw (before-at 47 above below refl none, from-at 47 above below refl none, sum, half) refl
 
-wrapped-read : (above below : List ℕ) (n d : ℕ) → lacks 41 above ≡ true → sum_of above ≡ Some n → below_of below ≡ Some d → wrapped_ratio (above ++ 41 ∷ 47 ∷ below) ≡ Some (meters.Ratio n d)
+wrapped-read : (above below : List ℕ) (n d : ℕ) → lacks 41 above ≡ true → sum_of above ≡ Some n → below_of below ≡ Some d → wrapped_ratio (above ++ 41 ∷ 47 ∷ below) ≡ Some (Meter.Ratio n d)
 unfolding wrapped_ratio behind
 wrapped-read above below n d none sum half = rw (before-at 41 above (47 ∷ below) refl none, from-at 41 above (47 ∷ below) refl none, sum, half) refl
 
@@ -246,7 +237,7 @@ record IsRatio (above below : Option ℕ) (meter : Meter) : Type 0 where
   den : ℕ
   above_is : above ≡ Some num
   below_is : below ≡ Some den
-  meter_is : meters.Ratio num den ≡ meter
+  meter_is : Meter.Ratio num den ≡ meter
 
 ratio-takes : (above below : Option ℕ) (meter : Meter) → ratio above below ≡ Some meter → IsRatio above below meter
 ratio-takes None below meter h = absurd (none_is_some meter h)
@@ -259,8 +250,8 @@ sum-good : (above below : List ℕ) (n d : ℕ) → (sum : Sum above n) → Belo
 sum-good above below n d sum half =
     record { some = sum.some; numbers = sum.numbers; few = sum.few; number = half.number; halving = half.halving }
 
-ratio-same : (n d k e : ℕ) (meter : Meter) → k ≡ n → e ≡ d → meters.Ratio n d ≡ meter → meters.Ratio k e ≡ meter
-ratio-same n d k e meter nums dens is = ap (λ x. meters.Ratio x e) nums ∙ ap (λ x. meters.Ratio n x) dens ∙ is
+ratio-same : (n d k e : ℕ) (meter : Meter) → k ≡ n → e ≡ d → Meter.Ratio n d ≡ meter → Meter.Ratio k e ≡ meter
+ratio-same n d k e meter nums dens is = ap (λ x. Meter.Ratio x e) nums ∙ ap (λ x. Meter.Ratio n x) dens ∙ is
 
 -- where something stands from the first such byte on, that byte stands there
 begun : (byte : ℕ) (t : List ℕ) → Found byte t → ((t ≡ []) → ⊥) → t ≡ byte ∷ behind_one t
@@ -334,10 +325,10 @@ at_if : (s : List ℕ) (meter : Meter) (common cut none empty : Bool)
     → bytes_eq s (codes "C") ≡ common → bytes_eq s (codes "C|") ≡ cut → bytes_eq s (codes "none") ≡ none → bytes_eq s [] ≡ empty
     → meter_at s ≡ Some meter → WritesMeter s meter
 unfolding meter_at
-at_if s meter true cut none empty e f g k h = record { form = common_form; good = tt; spelled = same_bytes s (codes "C") e; meant = some_is meters.Common meter (rw e at h) }
-at_if s meter false true none empty e f g k h = record { form = cut_form; good = tt; spelled = same_bytes s (codes "C|") f; meant = some_is meters.Cut meter (rw (e, f) at h) }
-at_if s meter false false true empty e f g k h = record { form = none_form; good = tt; spelled = same_bytes s (codes "none") g; meant = some_is meters.Free meter (rw (e, f, g) at h) }
-at_if s meter false false false true e f g k h = record { form = empty_form; good = tt; spelled = same_bytes s [] k; meant = some_is meters.Free meter (rw (e, f, g, k) at h) }
+at_if s meter true cut none empty e f g k h = record { form = common_form; good = tt; spelled = same_bytes s (codes "C") e; meant = some_is Meter.Common meter (rw e at h) }
+at_if s meter false true none empty e f g k h = record { form = cut_form; good = tt; spelled = same_bytes s (codes "C|") f; meant = some_is Meter.Cut meter (rw (e, f) at h) }
+at_if s meter false false true empty e f g k h = record { form = none_form; good = tt; spelled = same_bytes s (codes "none") g; meant = some_is Meter.Free meter (rw (e, f, g) at h) }
+at_if s meter false false false true e f g k h = record { form = empty_form; good = tt; spelled = same_bytes s [] k; meant = some_is Meter.Free meter (rw (e, f, g, k) at h) }
 at_if s meter false false false false e f g k h = ratio_of-takes s meter (rw (e, f, g, k) at h)
 
 meter_at-takes : (s : List ℕ) (meter : Meter) → meter_at s ≡ Some meter → WritesMeter s meter
@@ -358,7 +349,7 @@ digit_begins [] terms below h = cc
 digit_begins (d ∷ ds) [] below h = digit-first d (ds ++ 47 ∷ below) (and_parts _ _ (number-digits (d ∷ ds) h)).0
 digit_begins (d ∷ ds) (next ∷ terms) below h = digit-first d ((ds ++ 43 ∷ join_with_byte 43 (next ∷ terms)) ++ 47 ∷ below) (and_parts _ _ (number-digits (d ∷ ds) h)).0
 
-sum-read : (terms : List (List ℕ)) (below : List ℕ) → IsGoodSum terms below → meter_at (join_with_byte 43 terms ++ 47 ∷ below) ≡ Some (meters.Ratio (value_sum terms) (value_of below))
+sum-read : (terms : List (List ℕ)) (below : List ℕ) → IsGoodSum terms below → meter_at (join_with_byte 43 terms ++ 47 ∷ below) ≡ Some (Meter.Ratio (value_sum terms) (value_of below))
 sum-read [] below good = let some : 1 ≤ 0 = good.some in absurd (omega (arith, some))
 sum-read (term ∷ terms) below good =
     digit_begins term terms below (and_parts _ _ good.numbers).0
@@ -369,7 +360,7 @@ open-first : (s : List ℕ) → meter_at (40 ∷ s) ≡ wrapped_ratio s
 unfolding meter_at ratio_of behind
 open-first s = refl
 
-wrapped-sum-read : (terms : List (List ℕ)) (below : List ℕ) → IsGoodSum terms below → meter_at (40 ∷ (join_with_byte 43 terms ++ 41 ∷ 47 ∷ below)) ≡ Some (meters.Ratio (value_sum terms) (value_of below))
+wrapped-sum-read : (terms : List (List ℕ)) (below : List ℕ) → IsGoodSum terms below → meter_at (40 ∷ (join_with_byte 43 terms ++ 41 ∷ 47 ∷ below)) ≡ Some (Meter.Ratio (value_sum terms) (value_of below))
 wrapped-sum-read [] below good = let some : 1 ≤ 0 = good.some in absurd (omega (arith, some))
 wrapped-sum-read (term ∷ terms) below good =
     open-first (join_with_byte 43 (term ∷ terms) ++ 41 ∷ 47 ∷ below)

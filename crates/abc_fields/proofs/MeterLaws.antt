@@ -1,8 +1,7 @@
 -- Terms of a sum: the first of them, and those behind it.
 use Rattle.std.proofs.Common.{◌≡◌, refl, ℕ, suc, ◌+◌, List, [], ◌∷◌, Bool, true, false, take, drop, arith, ◌==◌}
 use Rattle.std.specs.List.{slice_split}
-use Rattle.abc_fields.specs.Numbers.{place_of, before, from_first}
-use Rattle.abc_fields.specs.Meters.{is_plus, terms_after}
+use Rattle.abc_fields.specs.{Numbers.place_of, Numbers.before, Numbers.from_first, Meters.is_plus, Meters.terms_after}
 
 split_more : (b : ℕ) (s : List ℕ) (plus : Bool) → (b == 43) ≡ plus
     → slice_split is_plus s ≡ take (place_of 43 s) s ∷ terms_after (drop (place_of 43 s) s)

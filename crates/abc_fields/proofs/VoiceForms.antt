@@ -1,32 +1,19 @@
 -- A text reads as a clef, and as a voice, exactly where a good form of it spells it.
 use Rattle.std.proofs.Common.{◌≡◌, refl, sym, ap, ◌∙◌, ℕ, ◌-◌, ◌≤◌, List, [], ◌∷◌, ◌++◌, Bool, true, false, length, take, drop, map, not, nat_eq, nat_le, Option, Some, None, unwrap_or, codes, take-append-drop}
-use Rattle.std.specs.List.{ends_with}
-use Rattle.std.specs.Option.{option_map, option_and_then}
-use Rattle.std.specs.Str.{bytes_eq}
-use Rattle.std.proofs.lemmas.Bool.{and_parts, leb-true, le-leb}
-use Rattle.std.proofs.lemmas.Slice.Eq.{bytes_eq-Decides}
-use Rattle.mus_units.specs.declared.pitch.Clef.{Clef}
-use Rattle.mus_units.specs.declared.pitch.Clef.TheVariants as clefs
-use Rattle.mus_units.specs.declared.note.Wish.{Wish}
-use Rattle.mus_units.specs.declared.note.Wish.TheVariants as wishes
-use Rattle.abc_fields.specs.declared.voice.VoiceDef.{VoiceDef}
-use Rattle.abc_fields.specs.declared.voice.VoiceWord.{VoiceWord}
-use Rattle.abc_fields.specs.declared.voice.VoiceWord.TheVariants as words
-use Rattle.abc_fields.specs.Keys.{named_clef, has_octave, without_octave, clef_of}
-use Rattle.abc_fields.specs.Voices.{wish_of, named_or_passed, by_stem, by_clef, voice_word, voice_words, voice_def, is_good_voice, voice_by_id, voice_of}
-use Rattle.abc_fields.specs.Words.{next_word, properties_of, ends_quoted, behind}
-use Rattle.abc_fields.specs.WordSpelling.{IsFirstWord}
+use Rattle.std.{proofs.lemmas.Bool.and_parts, proofs.lemmas.Bool.leb-true, proofs.lemmas.Bool.le-leb, proofs.lemmas.Slice.Eq.bytes_eq-Decides, specs.List.ends_with, specs.Option.option_map, specs.Option.option_and_then, specs.Str.bytes_eq}
+use Rattle.mus_units.specs.{declared.pitch.Clef.Clef, declared.note.Wish.Wish}
 use Rattle.abc_fields.specs.VoiceSpelling.{ClefForm, plain_clef, above_clef, below_clef, clef_name, clef_spelled, clef_meant, PropertyForm, clef_property, name_property, stem_property, other_property, way_name, property_spelled, IsOther, IsGoodProperty, AreGoodProperties, property_meant, SaysVoice}
-use Rattle.abc_fields.proofs.MeterForms.{none_is_some, behind-takes, same_bytes}
-use Rattle.abc_fields.proofs.WordForms.{first-takes, first-read}
+use Rattle.abc_fields.specs.{declared.voice.VoiceDef.VoiceDef, declared.voice.VoiceWord.VoiceWord, Keys.named_clef, Keys.has_octave, Keys.without_octave, Keys.clef_of, Voices.wish_of, Voices.named_or_passed, Voices.by_stem, Voices.by_clef, Voices.voice_word, Voices.voice_words, Voices.voice_def}
+use Rattle.abc_fields.{specs.Voices.is_good_voice, specs.Voices.voice_by_id, specs.Voices.voice_of, specs.Words.next_word, specs.Words.properties_of, specs.Words.ends_quoted, specs.Words.behind, specs.WordSpelling.IsFirstWord, proofs.MeterForms.none_is_some, proofs.MeterForms.behind-takes}
+use Rattle.abc_fields.proofs.{MeterForms.same_bytes, WordForms.first-takes, WordForms.first-read}
 
 -- Clefs.
 
 pub clef-read : (form : ClefForm) → clef_of (clef_spelled form) ≡ Some (clef_meant form)
 unfolding clef_of
-clef-read (plain_clef clefs.Treble) = refl
-clef-read (above_clef clefs.Treble) = refl
-clef-read (below_clef clefs.Treble) = refl
+clef-read (plain_clef Clef.Treble) = refl
+clef-read (above_clef Clef.Treble) = refl
+clef-read (below_clef Clef.Treble) = refl
 clef-read _ = refl
 
 some_clef : (clef read : Clef) → Some clef ≡ Some read → clef ≡ read
@@ -34,10 +21,10 @@ some_clef clef read h = ap (λ o. unwrap_or o read) h
 
 named_if : (w : List ℕ) (clef : Clef) (treble bass alto tenor : Bool) → bytes_eq w (codes "treble") ≡ treble → bytes_eq w (codes "bass") ≡ bass → bytes_eq w (codes "alto") ≡ alto → bytes_eq w (codes "tenor") ≡ tenor
     → named_clef w ≡ Some clef → w ≡ clef_name clef
-named_if w clef true bass alto tenor e f g k h = same_bytes w (codes "treble") e ∙ ap clef_name (some_clef clefs.Treble clef (rw e at h))
-named_if w clef false true alto tenor e f g k h = same_bytes w (codes "bass") f ∙ ap clef_name (some_clef clefs.Bass clef (rw (e, f) at h))
-named_if w clef false false true tenor e f g k h = same_bytes w (codes "alto") g ∙ ap clef_name (some_clef clefs.Alto clef (rw (e, f, g) at h))
-named_if w clef false false false true e f g k h = same_bytes w (codes "tenor") k ∙ ap clef_name (some_clef clefs.Tenor clef (rw (e, f, g, k) at h))
+named_if w clef true bass alto tenor e f g k h = same_bytes w (codes "treble") e ∙ ap clef_name (some_clef Clef.Treble clef (rw e at h))
+named_if w clef false true alto tenor e f g k h = same_bytes w (codes "bass") f ∙ ap clef_name (some_clef Clef.Bass clef (rw (e, f) at h))
+named_if w clef false false true tenor e f g k h = same_bytes w (codes "alto") g ∙ ap clef_name (some_clef Clef.Alto clef (rw (e, f, g) at h))
+named_if w clef false false false true e f g k h = same_bytes w (codes "tenor") k ∙ ap clef_name (some_clef Clef.Tenor clef (rw (e, f, g, k) at h))
 named_if w clef false false false false e f g k h = absurd (none_is_some clef (rw (e, f, g, k) at h))
 
 named-takes : (w : List ℕ) (clef : Clef) → named_clef w ≡ Some clef → w ≡ clef_name clef
@@ -98,28 +85,28 @@ behind-clef name = refl
 
 -- Properties.
 
-property-clef : (name : List ℕ) → voice_word (codes "clef=" ++ name) ≡ option_map (λ clef. words.Names clef) (clef_of name)
+property-clef : (name : List ℕ) → voice_word (codes "clef=" ++ name) ≡ option_map (λ clef. VoiceWord.Names clef) (clef_of name)
 unfolding voice_word
 property-clef name = rw (behind-clef name) refl
 
-property-name : (form : ClefForm) → voice_word (clef_spelled form) ≡ Some (words.Names (clef_meant form))
+property-name : (form : ClefForm) → voice_word (clef_spelled form) ≡ Some (VoiceWord.Names (clef_meant form))
 unfolding voice_word behind clef_of
-property-name (plain_clef clefs.Treble) = refl
-property-name (above_clef clefs.Treble) = refl
-property-name (below_clef clefs.Treble) = refl
+property-name (plain_clef Clef.Treble) = refl
+property-name (above_clef Clef.Treble) = refl
+property-name (below_clef Clef.Treble) = refl
 property-name _ = refl
 
-property-way : (way : Wish) → voice_word (codes "stem=" ++ way_name way) ≡ Some (words.Asks way)
+property-way : (way : Wish) → voice_word (codes "stem=" ++ way_name way) ≡ Some (VoiceWord.Asks way)
 unfolding voice_word behind
-property-way wishes.Up = refl
+property-way Wish.Up = refl
 property-way _ = refl
 
-property-other : (word : List ℕ) → IsOther word → voice_word word ≡ Some words.Passed
+property-other : (word : List ℕ) → IsOther word → voice_word word ≡ Some VoiceWord.Passed
 unfolding voice_word
 property-other word good = rw (no_front (codes "clef=") word good.no_clef, no_front (codes "stem=") word good.no_stem, no_clef_read word good.no_name) refl
 
 property-read : (form : PropertyForm) → IsGoodProperty form → voice_word (property_spelled form) ≡ Some (property_meant form)
-property-read (clef_property clef) good = property-clef (clef_spelled clef) ∙ ap (λ o. option_map (λ c. words.Names c) o) (clef-read clef)
+property-read (clef_property clef) good = property-clef (clef_spelled clef) ∙ ap (λ o. option_map (λ c. VoiceWord.Names c) o) (clef-read clef)
 property-read (name_property clef) good = property-name clef
 property-read (stem_property way) good = property-way way
 property-read (other_property word) good = property-other word good
@@ -133,11 +120,11 @@ record IsProperty (w : List ℕ) (read : VoiceWord) : Type 0 where
 some_property : (word read : VoiceWord) → Some word ≡ Some read → word ≡ read
 some_property word read h = ap (λ o. unwrap_or o read) h
 
-clef_property_if : (w name : List ℕ) (read : VoiceWord) (o : Option Clef) → w ≡ codes "clef=" ++ name → clef_of name ≡ o → option_map (λ clef. words.Names clef) o ≡ Some read → IsProperty w read
+clef_property_if : (w name : List ℕ) (read : VoiceWord) (o : Option Clef) → w ≡ codes "clef=" ++ name → clef_of name ≡ o → option_map (λ clef. VoiceWord.Names clef) o ≡ Some read → IsProperty w read
 clef_property_if w name read None is e h = absurd (none_is_some read h)
 clef_property_if w name read (Some clef) is e h =
     let found = clef-takes name clef e in
-    record { form = clef_property found.form; good = tt; spelled = is ∙ ap (λ t. codes "clef=" ++ t) found.spelled; meant = ap (λ c. words.Names c) found.meant ∙ some_property (words.Names clef) read h }
+    record { form = clef_property found.form; good = tt; spelled = is ∙ ap (λ t. codes "clef=" ++ t) found.spelled; meant = ap (λ c. VoiceWord.Names c) found.meant ∙ some_property (VoiceWord.Names clef) read h }
 
 way_if : (way : List ℕ) (wish : Wish) (up down auto : Bool) → bytes_eq way (codes "up") ≡ up → bytes_eq way (codes "down") ≡ down → bytes_eq way (codes "auto") ≡ auto → wish_of way ≡ Some wish → way ≡ way_name wish
 way_if way wish true down auto e f g h = same_bytes way (codes "up") e ∙ ap way_name (ap (λ o. unwrap_or o wish) (rw e at h))
@@ -145,11 +132,11 @@ way_if way wish false true auto e f g h = same_bytes way (codes "down") f ∙ ap
 way_if way wish false false true e f g h = same_bytes way (codes "auto") g ∙ ap way_name (ap (λ o. unwrap_or o wish) (rw (e, f, g) at h))
 way_if way wish false false false e f g h = absurd (none_is_some wish (rw (e, f, g) at h))
 
-stem_property_if : (w way : List ℕ) (read : VoiceWord) (o : Option Wish) → w ≡ codes "stem=" ++ way → wish_of way ≡ o → option_map (λ wish. words.Asks wish) o ≡ Some read → IsProperty w read
+stem_property_if : (w way : List ℕ) (read : VoiceWord) (o : Option Wish) → w ≡ codes "stem=" ++ way → wish_of way ≡ o → option_map (λ wish. VoiceWord.Asks wish) o ≡ Some read → IsProperty w read
 stem_property_if w way read None is e h = absurd (none_is_some read h)
 stem_property_if w way read (Some wish) is e h =
     let name = way_if way wish (bytes_eq way (codes "up")) (bytes_eq way (codes "down")) (bytes_eq way (codes "auto")) refl refl refl e in
-    record { form = stem_property wish; good = tt; spelled = is ∙ ap (λ t. codes "stem=" ++ t) name; meant = some_property (words.Asks wish) read h }
+    record { form = stem_property wish; good = tt; spelled = is ∙ ap (λ t. codes "stem=" ++ t) name; meant = some_property (VoiceWord.Asks wish) read h }
 
 other_property_if : (w : List ℕ) (read : VoiceWord) (o : Option Clef) → clef_of w ≡ o
     → ((name : List ℕ) → w ≡ codes "clef=" ++ name → ⊥) → ((way : List ℕ) → w ≡ codes "stem=" ++ way → ⊥) → Some (named_or_passed o) ≡ Some read → IsProperty w read
@@ -158,11 +145,11 @@ other_property_if w read None e no_clef no_stem h =
       form = other_property w;
       good = record { no_clef = no_clef; no_stem = no_stem; no_name = λ form is. none_is_some (clef_meant form) (sym e ∙ ap clef_of is ∙ clef-read form) };
       spelled = refl;
-      meant = some_property words.Passed read h;
+      meant = some_property VoiceWord.Passed read h;
     }
 other_property_if w read (Some clef) e no_clef no_stem h =
     let found = clef-takes w clef e in
-    record { form = name_property found.form; good = tt; spelled = found.spelled; meant = ap (λ c. words.Names c) found.meant ∙ some_property (words.Names clef) read h }
+    record { form = name_property found.form; good = tt; spelled = found.spelled; meant = ap (λ c. VoiceWord.Names c) found.meant ∙ some_property (VoiceWord.Names clef) read h }
 
 by_stem-takes : (w : List ℕ) (read : VoiceWord) (o : Option (List ℕ)) → behind (codes "stem=") w ≡ o → ((name : List ℕ) → w ≡ codes "clef=" ++ name → ⊥) → by_stem w o ≡ Some read → IsProperty w read
 unfolding behind

@@ -1,12 +1,9 @@
 -- Directives: their name, and what those that bear on breaks and on signs say.
 use Rattle.std.specs.Prelude.{ℕ, List, Bool, ◌||◌, not, if◌then◌else◌, take, drop, codes, Option, Some, None}
-use Rattle.std.specs.List.{prefix_len, list_any}
-use Rattle.std.specs.Str.{bytes_eq}
+use Rattle.std.specs.{List.prefix_len, List.list_any, Str.bytes_eq}
 use Rattle.mus_units.specs.declared.key.Spread.{Spread}
-use Rattle.mus_units.specs.declared.key.Spread.TheVariants as spreads
 use Rattle.abc_lines.specs.Kinds.{is_blank}
-use Rattle.abc_fields.specs.declared.directive.Breaks.{Breaks}
-use Rattle.abc_fields.specs.Words.{words_of, trimmed}
+use Rattle.abc_fields.specs.{declared.directive.Breaks.Breaks, Words.words_of, Words.trimmed}
 
 -- the name is what stands before the first blank
 abbrev pub name_len : List ℕ → ℕ
@@ -30,4 +27,4 @@ unfoldable pub breaks_of : List ℕ → Option Breaks
 breaks_of text = if names_breaks text then Some (record { eol = has_word text (codes "<EOL>"); dollar = has_word text (codes "$"); bang = has_word text (codes "!") }) else None
 
 unfoldable pub spread_of : List ℕ → Option Spread
-spread_of text = if bytes_eq text (codes "not") then Some spreads.Not else (if bytes_eq text (codes "octave") then Some spreads.Octave else (if bytes_eq text (codes "pitch") then Some spreads.Pitch else None))
+spread_of text = if bytes_eq text (codes "not") then Some Spread.Not else (if bytes_eq text (codes "octave") then Some Spread.Octave else (if bytes_eq text (codes "pitch") then Some Spread.Pitch else None))

@@ -1,43 +1,31 @@
 -- How keys are written: words, each a form with its spelling, when it is good, and what it means.
 use Prim.Native.Char.{code}
 use Rattle.std.specs.Prelude.{◌≡◌, ℕ, ◌+◌, pos, List, [], ◌∷◌, ◌++◌, Bool, true, false, IsTrue, ⊤, ◌==◌, map, codes, Some}
-use Rattle.std.specs.Char.{to_ascii_lowercase}
-use Rattle.std.specs.List.{list_any}
-use Rattle.mus_units.specs.declared.pitch.Alter.{Alter}
-use Rattle.mus_units.specs.declared.pitch.Alter.TheVariants as alters
-use Rattle.mus_units.specs.declared.pitch.Letter.{Letter}
-use Rattle.mus_units.specs.declared.pitch.Letter.TheVariants as letters
+use Rattle.std.specs.{Char.to_ascii_lowercase, List.list_any}
+use Rattle.mus_units.specs.{declared.pitch.Alter.Alter, declared.pitch.Letter.Letter}
 use Rattle.mus_pitch.specs.declared.circle.Mode.{Mode}
-use Rattle.mus_pitch.specs.declared.circle.Mode.TheVariants as modes
-use Rattle.abc_fields.specs.declared.key.KeyText.{KeyText}
-use Rattle.abc_fields.specs.declared.key.KeyWord.{KeyWord}
-use Rattle.abc_fields.specs.declared.key.KeyWord.TheVariants as words
-use Rattle.abc_fields.specs.declared.key.Start.{Start}
-use Rattle.abc_fields.specs.declared.key.Start.TheVariants as starts
-use Rattle.abc_fields.specs.Keys.{start_of, start_with, key_by}
-use Rattle.abc_fields.specs.VoiceSpelling.{ClefForm, clef_spelled, clef_meant}
-use Rattle.abc_fields.specs.WordSpelling.{HasWords}
+use Rattle.abc_fields.specs.{declared.key.KeyText.KeyText, declared.key.KeyWord.KeyWord, declared.key.Start.Start, Keys.start_of, Keys.start_with, Keys.key_by, VoiceSpelling.ClefForm, VoiceSpelling.clef_spelled, VoiceSpelling.clef_meant, WordSpelling.HasWords}
 
 -- A to G; a small letter stands 32 further
 abbrev pub letter_byte : Letter → ℕ
-letter_byte letters.C = code "C"
-letter_byte letters.D = code "D"
-letter_byte letters.E = code "E"
-letter_byte letters.F = code "F"
-letter_byte letters.G = code "G"
-letter_byte letters.A = code "A"
-letter_byte letters.B = code "B"
+letter_byte Letter.C = code "C"
+letter_byte Letter.D = code "D"
+letter_byte Letter.E = code "E"
+letter_byte Letter.F = code "F"
+letter_byte Letter.G = code "G"
+letter_byte Letter.A = code "A"
+letter_byte Letter.B = code "B"
 
 abbrev pub letter_spelled : Letter → Bool → ℕ
 letter_spelled letter false = letter_byte letter
 letter_spelled letter true = letter_byte letter + 32
 
 abbrev pub alter_spelled : Alter → List ℕ
-alter_spelled alters.Sharp2 = codes "^^"
-alter_spelled alters.Sharp = codes "^"
-alter_spelled alters.Flat2 = codes "__"
-alter_spelled alters.Flat = codes "_"
-alter_spelled alters.Natural = codes "="
+alter_spelled Alter.Sharp2 = codes "^^"
+alter_spelled Alter.Sharp = codes "^"
+alter_spelled Alter.Flat2 = codes "__"
+alter_spelled Alter.Flat = codes "_"
+alter_spelled Alter.Natural = codes "="
 
 -- A word behind the beginning: `exp`; a sign and a letter of either case; a clef behind `clef=` or
 -- by its name alone; or another word with an equals sign in it, which is passed over.
@@ -71,11 +59,11 @@ AreGoodWords [] = ⊤
 AreGoodWords (form ∷ forms) = IsGoodWord form × AreGoodWords forms
 
 abbrev pub word_meant : KeyWordForm → KeyWord
-word_meant exp_word = words.Empties
-word_meant (sign_word alter letter lower) = words.Adds (record { letter = letter; alter = alter })
-word_meant (clef_word clef) = words.Names (clef_meant clef)
-word_meant (name_word clef) = words.Names (clef_meant clef)
-word_meant (passed_word word) = words.Passed
+word_meant exp_word = KeyWord.Empties
+word_meant (sign_word alter letter lower) = KeyWord.Adds (record { letter = letter; alter = alter })
+word_meant (clef_word clef) = KeyWord.Names (clef_meant clef)
+word_meant (name_word clef) = KeyWord.Names (clef_meant clef)
+word_meant (passed_word word) = KeyWord.Passed
 
 -- A mode is `m`, or a word whose first three letters are a mode's in any case.
 pub data ModeName : Type 0 where
@@ -101,15 +89,15 @@ three_letters phr_name = codes "phr"
 three_letters loc_name = codes "loc"
 
 abbrev pub mode_of_name : ModeName → Mode
-mode_of_name maj_name = modes.Maj
-mode_of_name ion_name = modes.Maj
-mode_of_name mix_name = modes.Mix
-mode_of_name lyd_name = modes.Lyd
-mode_of_name min_name = modes.Min
-mode_of_name aeo_name = modes.Min
-mode_of_name dor_name = modes.Dor
-mode_of_name phr_name = modes.Phr
-mode_of_name loc_name = modes.Loc
+mode_of_name maj_name = Mode.Maj
+mode_of_name ion_name = Mode.Maj
+mode_of_name mix_name = Mode.Mix
+mode_of_name lyd_name = Mode.Lyd
+mode_of_name min_name = Mode.Min
+mode_of_name aeo_name = Mode.Min
+mode_of_name dor_name = Mode.Dor
+mode_of_name phr_name = Mode.Phr
+mode_of_name loc_name = Mode.Loc
 
 pub data ModeForm : Type 0 where
   minor_form : ModeForm
@@ -124,7 +112,7 @@ IsGoodMode minor_form = ⊤
 IsGoodMode (named_form name a b c more) = to_ascii_lowercase a ∷ to_ascii_lowercase b ∷ to_ascii_lowercase c ∷ [] ≡ three_letters name
 
 abbrev pub mode_meant : ModeForm → Mode
-mode_meant minor_form = modes.Min
+mode_meant minor_form = Mode.Min
 mode_meant (named_form name a b c more) = mode_of_name name
 
 -- A tonic is a letter, and a sharp, a flat or none of them.
@@ -139,9 +127,9 @@ accident_spelled sharp_tonic more = code "#" ∷ more
 accident_spelled flat_tonic more = code "b" ∷ more
 
 abbrev pub accident_meant : Accident → Alter
-accident_meant plain_tonic = alters.Natural
-accident_meant sharp_tonic = alters.Sharp
-accident_meant flat_tonic = alters.Flat
+accident_meant plain_tonic = Alter.Natural
+accident_meant sharp_tonic = Alter.Sharp
+accident_meant flat_tonic = Alter.Flat
 
 -- a tonic, and what is written on
 abbrev pub tonic_spelled : Letter → Accident → List ℕ → List ℕ
@@ -200,14 +188,14 @@ IsGoodHead kept_head more = BeginOther more
 
 -- what the key begins with, before its other words count
 abbrev pub head_meant : KeyHead → Start
-head_meant empty_head = starts.Sharps (pos 0)
-head_meant none_head = starts.Sharps (pos 0)
-head_meant bagpipe_head = starts.Sharps (pos 0)
-head_meant signed_bagpipe_head = starts.Pipes
-head_meant (tonic_head letter accident) = start_of letter (accident_meant accident) modes.Maj
+head_meant empty_head = Start.Sharps (pos 0)
+head_meant none_head = Start.Sharps (pos 0)
+head_meant bagpipe_head = Start.Sharps (pos 0)
+head_meant signed_bagpipe_head = Start.Pipes
+head_meant (tonic_head letter accident) = start_of letter (accident_meant accident) Mode.Maj
 head_meant (written_head letter accident mode) = start_of letter (accident_meant accident) (mode_meant mode)
 head_meant (parted_head letter accident mode) = start_of letter (accident_meant accident) (mode_meant mode)
-head_meant kept_head = starts.Kept
+head_meant kept_head = Start.Kept
 
 -- The words of the text are a good beginning and good other words, and the key is what these make of
 -- that beginning. There is none where the signature has more than seven signs and no `exp` empties it.

@@ -1,34 +1,13 @@
 -- What a key's text says: which signs, and which clef.
 use Prim.Native.Char.{code}
 use Rattle.std.specs.Prelude.{ℕ, ℤ, pos, List, [], ◌∷◌, Bool, true, false, ◌==◌, ◌||◌, ⊤, nat_eq, if◌then◌else◌, length, take, codes, Option, Some, None, ◌-◌}
-use Rattle.std.specs.List.{list_any, filter_map, ends_with, after_last}
-use Rattle.std.specs.Option.{option_map, option_and_then, option_or}
-use Rattle.std.specs.Str.{bytes_eq}
-use Rattle.mus_units.specs.declared.pitch.Letter.{Letter}
-use Rattle.mus_units.specs.declared.pitch.Letter.TheVariants as letters
-use Rattle.mus_units.specs.declared.pitch.Alter.{Alter}
-use Rattle.mus_units.specs.declared.pitch.Alter.TheVariants as alters
-use Rattle.mus_units.specs.declared.pitch.Clef.{Clef}
-use Rattle.mus_units.specs.declared.pitch.Clef.TheVariants as clefs
-use Rattle.mus_units.specs.declared.key.Sign.{Sign}
-use Rattle.mus_pitch.specs.declared.circle.Mode.{Mode}
-use Rattle.mus_pitch.specs.declared.circle.Mode.TheVariants as modes
-use Rattle.mus_pitch.specs.Circle.{signature_of, signs_of}
-use Rattle.mus_units.specs.Good.{IsGoodKey}
-use Rattle.mus_pitch.specs.Signs.{laid}
-use Rattle.mus_units.specs.declared.key.Key.{Key}
-use Rattle.abc_fields.specs.declared.key.Tonic.{Tonic}
-use Rattle.abc_fields.specs.Last.{last_of}
-use Rattle.std.specs.Char.{to_ascii_lowercase}
-use Rattle.abc_fields.specs.declared.key.KeyText.{KeyText}
-use Rattle.abc_fields.specs.declared.key.KeyWord.{KeyWord}
-use Rattle.abc_fields.specs.declared.key.KeyWord.TheVariants as words
-use Rattle.abc_fields.specs.declared.key.Start.{Start}
-use Rattle.abc_fields.specs.declared.key.Start.TheVariants as starts
-use Rattle.abc_fields.specs.Words.{words_of, behind}
+use Rattle.std.specs.{List.list_any, List.filter_map, List.ends_with, List.after_last, Option.option_map, Option.option_and_then, Option.option_or, Str.bytes_eq, Char.to_ascii_lowercase}
+use Rattle.mus_units.specs.{declared.pitch.Letter.Letter, declared.pitch.Alter.Alter, declared.pitch.Clef.Clef, declared.key.Sign.Sign, Good.IsGoodKey, declared.key.Key.Key}
+use Rattle.mus_pitch.specs.{declared.circle.Mode.Mode, Circle.signature_of, Circle.signs_of, Signs.laid}
+use Rattle.abc_fields.specs.{declared.key.Tonic.Tonic, Last.last_of, declared.key.KeyText.KeyText, declared.key.KeyWord.KeyWord, declared.key.Start.Start, Words.words_of, Words.behind}
 
 abbrev pub natural_of : ℕ → Option Letter
-natural_of b = if b == code "C" then Some letters.C else (if b == code "D" then Some letters.D else (if b == code "E" then Some letters.E else (if b == code "F" then Some letters.F else (if b == code "G" then Some letters.G else (if b == code "A" then Some letters.A else (if b == code "B" then Some letters.B else None))))))
+natural_of b = if b == code "C" then Some Letter.C else (if b == code "D" then Some Letter.D else (if b == code "E" then Some Letter.E else (if b == code "F" then Some Letter.F else (if b == code "G" then Some Letter.G else (if b == code "A" then Some Letter.A else (if b == code "B" then Some Letter.B else None))))))
 
 -- a letter of either case, which stands 32 further
 abbrev pub letter_of : ℕ → Option Letter
@@ -46,11 +25,11 @@ signed alter (Some s) = option_map (λ l. record { letter = l; alter = alter }) 
 
 -- a sign and a letter: the first of these fronts that the word has is its sign
 unfoldable pub sign_of : List ℕ → Option Sign
-sign_of w = option_or (signed alters.Sharp2 (behind (codes "^^") w)) (option_or (signed alters.Sharp (behind (codes "^") w)) (option_or (signed alters.Flat2 (behind (codes "__") w)) (option_or (signed alters.Flat (behind (codes "_") w)) (signed alters.Natural (behind (codes "=") w)))))
+sign_of w = option_or (signed Alter.Sharp2 (behind (codes "^^") w)) (option_or (signed Alter.Sharp (behind (codes "^") w)) (option_or (signed Alter.Flat2 (behind (codes "__") w)) (option_or (signed Alter.Flat (behind (codes "_") w)) (signed Alter.Natural (behind (codes "=") w)))))
 
 -- the clef of that name
 abbrev pub named_clef : List ℕ → Option Clef
-named_clef w = if bytes_eq w (codes "treble") then Some clefs.Treble else (if bytes_eq w (codes "bass") then Some clefs.Bass else (if bytes_eq w (codes "alto") then Some clefs.Alto else (if bytes_eq w (codes "tenor") then Some clefs.Tenor else None)))
+named_clef w = if bytes_eq w (codes "treble") then Some Clef.Treble else (if bytes_eq w (codes "bass") then Some Clef.Bass else (if bytes_eq w (codes "alto") then Some Clef.Alto else (if bytes_eq w (codes "tenor") then Some Clef.Tenor else None)))
 
 -- an octave above or below at a clef's name is passed over
 abbrev pub has_octave : List ℕ → Bool
@@ -65,19 +44,19 @@ clef_of w = named_clef (without_octave w)
 -- Words behind the tonic. `exp` empties what was listed so far, a sign word adds a sign, a clef
 -- is named with or without `clef=`, and other words with an equals sign are passed over.
 abbrev pub by_name : List ℕ → Option Clef → Option KeyWord
-by_name w (Some clef) = Some (words.Names clef)
-by_name w None = if list_any (λ b. b == code "=") w then Some words.Passed else None
+by_name w (Some clef) = Some (KeyWord.Names clef)
+by_name w None = if list_any (λ b. b == code "=") w then Some KeyWord.Passed else None
 
 abbrev pub by_clef : List ℕ → Option (List ℕ) → Option KeyWord
-by_clef w (Some name) = option_map (λ c. words.Names c) (clef_of name)
+by_clef w (Some name) = option_map (λ c. KeyWord.Names c) (clef_of name)
 by_clef w None = by_name w (clef_of w)
 
 abbrev pub by_sign : List ℕ → Option Sign → Option KeyWord
-by_sign w (Some sign) = Some (words.Adds sign)
+by_sign w (Some sign) = Some (KeyWord.Adds sign)
 by_sign w None = by_clef w (behind (codes "clef=") w)
 
 unfoldable pub key_word : List ℕ → Option KeyWord
-key_word w = if bytes_eq w (codes "exp") then Some words.Empties else by_sign w (sign_of w)
+key_word w = if bytes_eq w (codes "exp") then Some KeyWord.Empties else by_sign w (sign_of w)
 
 -- all words, or none where one is of no such kind
 abbrev pub key_words : List (List ℕ) → Option (List KeyWord)
@@ -86,10 +65,10 @@ key_words (w ∷ ws) = option_and_then (λ k. option_map (λ ks. k ∷ ks) (key_
 
 -- a mode counts by its first three letters in any case
 abbrev pub major_like : List ℕ → Option Mode
-major_like w = if bytes_eq w (codes "maj") then Some modes.Maj else (if bytes_eq w (codes "ion") then Some modes.Maj else (if bytes_eq w (codes "mix") then Some modes.Mix else (if bytes_eq w (codes "lyd") then Some modes.Lyd else None)))
+major_like w = if bytes_eq w (codes "maj") then Some Mode.Maj else (if bytes_eq w (codes "ion") then Some Mode.Maj else (if bytes_eq w (codes "mix") then Some Mode.Mix else (if bytes_eq w (codes "lyd") then Some Mode.Lyd else None)))
 
 abbrev pub minor_like : List ℕ → Option Mode
-minor_like w = if bytes_eq w (codes "min") then Some modes.Min else (if bytes_eq w (codes "aeo") then Some modes.Min else (if bytes_eq w (codes "dor") then Some modes.Dor else (if bytes_eq w (codes "phr") then Some modes.Phr else (if bytes_eq w (codes "loc") then Some modes.Loc else None))))
+minor_like w = if bytes_eq w (codes "min") then Some Mode.Min else (if bytes_eq w (codes "aeo") then Some Mode.Min else (if bytes_eq w (codes "dor") then Some Mode.Dor else (if bytes_eq w (codes "phr") then Some Mode.Phr else (if bytes_eq w (codes "loc") then Some Mode.Loc else None))))
 
 abbrev pub mode_named : List ℕ → Option Mode
 mode_named w = option_or (major_like w) (minor_like w)
@@ -100,23 +79,23 @@ mode_by_three _ = None
 
 -- `m` alone is minor
 unfoldable pub mode_of : List ℕ → Option Mode
-mode_of w = if bytes_eq w (codes "m") then Some modes.Min else mode_by_three w
+mode_of w = if bytes_eq w (codes "m") then Some Mode.Min else mode_by_three w
 
 -- what a tonic and its mode begin with: so many sharps, or more than a signature has
 abbrev pub started_by : Option ℤ → Start
-started_by None = starts.Beyond
-started_by (Some n) = starts.Sharps n
+started_by None = Start.Beyond
+started_by (Some n) = Start.Sharps n
 
 abbrev pub start_of : Letter → Alter → Mode → Start
 start_of letter alter mode = started_by (signature_of letter alter mode)
 
 -- the mode that the next word names goes with the tonic
 abbrev pub with_next_mode : Letter → Alter → List ℕ → List (List ℕ) → Option Mode → Start × List (List ℕ)
-with_next_mode letter alter w ws None = (start_of letter alter modes.Maj, w ∷ ws)
+with_next_mode letter alter w ws None = (start_of letter alter Mode.Maj, w ∷ ws)
 with_next_mode letter alter w ws (Some mode) = (start_of letter alter mode, ws)
 
 abbrev pub without_mode : Letter → Alter → List (List ℕ) → Start × List (List ℕ)
-without_mode letter alter [] = (start_of letter alter modes.Maj, [])
+without_mode letter alter [] = (start_of letter alter Mode.Maj, [])
 without_mode letter alter (w ∷ ws) = with_next_mode letter alter w ws (mode_of w)
 
 abbrev pub by_mode : Letter → Alter → Option Mode → List (List ℕ) → Start × List (List ℕ)
@@ -129,19 +108,19 @@ mode_on letter alter [] = Some (record { letter = letter; alter = alter; mode = 
 mode_on letter alter (b ∷ s) = option_map (λ mode. record { letter = letter; alter = alter; mode = Some mode }) (mode_of (b ∷ s))
 
 abbrev pub altered : Letter → List ℕ → Option Tonic
-altered letter [] = mode_on letter alters.Natural []
-altered letter (b ∷ s) = if b == code "#" then mode_on letter alters.Sharp s else (if b == code "b" then mode_on letter alters.Flat s else mode_on letter alters.Natural (b ∷ s))
+altered letter [] = mode_on letter Alter.Natural []
+altered letter (b ∷ s) = if b == code "#" then mode_on letter Alter.Sharp s else (if b == code "b" then mode_on letter Alter.Flat s else mode_on letter Alter.Natural (b ∷ s))
 
 unfoldable pub tonic_of : List ℕ → Option Tonic
 tonic_of [] = None
 tonic_of (b ∷ s) = option_and_then (λ letter. altered letter s) (natural_of b)
 
 abbrev pub by_tonic : Option Tonic → List ℕ → List (List ℕ) → Start × List (List ℕ)
-by_tonic None w ws = (starts.Kept, w ∷ ws)
+by_tonic None w ws = (Start.Kept, w ∷ ws)
 by_tonic (Some tonic) w ws = by_mode tonic.letter tonic.alter tonic.mode ws
 
 abbrev pub fixed_start : List ℕ → Option Start
-fixed_start w = if bytes_eq w (codes "none") then Some (starts.Sharps (pos 0)) else (if bytes_eq w (codes "HP") then Some (starts.Sharps (pos 0)) else (if bytes_eq w (codes "Hp") then Some starts.Pipes else None))
+fixed_start w = if bytes_eq w (codes "none") then Some (Start.Sharps (pos 0)) else (if bytes_eq w (codes "HP") then Some (Start.Sharps (pos 0)) else (if bytes_eq w (codes "Hp") then Some Start.Pipes else None))
 
 abbrev pub by_fixed : Option Start → List ℕ → List (List ℕ) → Start × List (List ℕ)
 by_fixed (Some start) w ws = (start, ws)
@@ -149,20 +128,20 @@ by_fixed None w ws = by_tonic (tonic_of w) w ws
 
 -- the first word: `none` and `HP` have no sign, `Hp` has those of the pipes, a tonic has those of its key; any other is no start
 unfoldable pub first_words : List (List ℕ) → Start × List (List ℕ)
-first_words [] = (starts.Sharps (pos 0), [])
+first_words [] = (Start.Sharps (pos 0), [])
 first_words (w ∷ ws) = by_fixed (fixed_start w) w ws
 
 -- What the words mean.
 abbrev pub is_exp : KeyWord → Bool
-is_exp words.Empties = true
+is_exp KeyWord.Empties = true
 is_exp _ = false
 
 abbrev pub sign_in : KeyWord → Option Sign
-sign_in (words.Adds sign) = Some sign
+sign_in (KeyWord.Adds sign) = Some sign
 sign_in _ = None
 
 abbrev pub clef_in : KeyWord → Option Clef
-clef_in (words.Names clef) = Some clef
+clef_in (KeyWord.Names clef) = Some clef
 clef_in _ = None
 
 -- the signs listed behind the last `exp`
@@ -171,20 +150,20 @@ listed ks = filter_map sign_in (after_last is_exp ks)
 
 -- with an `exp` the signature begins empty
 abbrev pub start_with : Start → List KeyWord → Start
-start_with start ks = if list_any is_exp ks then starts.Sharps (pos 0) else start
+start_with start ks = if list_any is_exp ks then Start.Sharps (pos 0) else start
 
 abbrev pub pipe_signs : List Sign
-pipe_signs = record { letter = letters.F; alter = alters.Sharp } ∷ record { letter = letters.C; alter = alters.Sharp } ∷ record { letter = letters.G; alter = alters.Natural } ∷ []
+pipe_signs = record { letter = Letter.F; alter = Alter.Sharp } ∷ record { letter = Letter.C; alter = Alter.Sharp } ∷ record { letter = Letter.G; alter = Alter.Natural } ∷ []
 
 -- a whole key: the listed signs are laid on what it begins with
 abbrev pub whole : List Sign → List KeyWord → Option KeyText
 whole base ks = Some (record { key = Some (record { signs = laid base (listed ks) }); adds = []; clef = last_of clef_in ks })
 
 abbrev pub key_by : Start → List KeyWord → Option KeyText
-key_by starts.Kept ks = Some (record { key = None; adds = listed ks; clef = last_of clef_in ks })
-key_by starts.Beyond ks = None
-key_by (starts.Sharps n) ks = whole (signs_of n) ks
-key_by starts.Pipes ks = whole pipe_signs ks
+key_by Start.Kept ks = Some (record { key = None; adds = listed ks; clef = last_of clef_in ks })
+key_by Start.Beyond ks = None
+key_by (Start.Sharps n) ks = whole (signs_of n) ks
+key_by Start.Pipes ks = whole pipe_signs ks
 
 abbrev pub key_from : Start → Option (List KeyWord) → Option KeyText
 key_from start None = None

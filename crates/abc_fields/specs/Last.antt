@@ -1,6 +1,5 @@
 -- The last of a list that names something.
-use Rattle.std.specs.Prelude.{List, [], ◌∷◌, Option, None}
-use Rattle.std.specs.Option.{option_or}
+use Rattle.std.specs.{Prelude.List, Prelude.[], Prelude.◌∷◌, Prelude.Option, Prelude.None, Option.option_or}
 
 -- a later one counts before an earlier one
 abbrev pub last_of : {X Y : Type 0} → (X → Option Y) → List X → Option Y

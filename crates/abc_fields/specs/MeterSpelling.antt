@@ -3,12 +3,8 @@
 use Prim.Native.Char.{code}
 use Rattle.std.specs.Prelude.{◌≡◌, ℕ, ◌+◌, ◌≤◌, List, [], ◌∷◌, ◌++◌, IsTrue, ⊤, length, codes}
 use Rattle.std.specs.List.{list_all, join_with_byte}
-use Rattle.mus_units.specs.declared.key.Meter.{Meter}
-use Rattle.mus_units.specs.declared.key.Meter.TheVariants as meters
-use Rattle.mus_units.specs.declared.value.Frac.{Frac}
-use Rattle.abc_fields.specs.Numbers.{is_number, value_of}
-use Rattle.mus_units.specs.Good.{is_halving}
-use Rattle.abc_fields.specs.WordSpelling.{IsBetweenBlanks}
+use Rattle.mus_units.specs.{declared.key.Meter.Meter, declared.value.Frac.Frac, Good.is_halving}
+use Rattle.abc_fields.specs.{Numbers.is_number, Numbers.value_of, WordSpelling.IsBetweenBlanks}
 
 -- A meter is C, C with a bar line, the word none or nothing; or numbers with a plus sign between
 -- each two, over a number, with or without parentheses round what stands above.
@@ -55,12 +51,12 @@ IsGoodMeterForm (sum_form terms below) = IsGoodSum terms below
 IsGoodMeterForm (wrapped_form terms below) = IsGoodSum terms below
 
 abbrev pub meter_meant : MeterForm → Meter
-meter_meant common_form = meters.Common
-meter_meant cut_form = meters.Cut
-meter_meant none_form = meters.Free
-meter_meant empty_form = meters.Free
-meter_meant (sum_form terms below) = meters.Ratio (value_sum terms) (value_of below)
-meter_meant (wrapped_form terms below) = meters.Ratio (value_sum terms) (value_of below)
+meter_meant common_form = Meter.Common
+meter_meant cut_form = Meter.Cut
+meter_meant none_form = Meter.Free
+meter_meant empty_form = Meter.Free
+meter_meant (sum_form terms below) = Meter.Ratio (value_sum terms) (value_of below)
+meter_meant (wrapped_form terms below) = Meter.Ratio (value_sum terms) (value_of below)
 
 -- s is how the meter is written
 pub record WritesMeter (s : List ℕ) (meter : Meter) : Type 0 where

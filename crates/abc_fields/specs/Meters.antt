@@ -1,15 +1,9 @@
 -- Meters and unit lengths: how they are written and what they mean.
 use Prim.Native.Char.{code}
 use Rattle.std.specs.Prelude.{ℕ, ◌+◌, ◌*◌, List, [], ◌∷◌, Bool, ◌==◌, nat_le, nat_lt, codes, Option, Some, None, if◌then◌else◌}
-use Rattle.std.specs.List.{slice_split}
-use Rattle.std.specs.Option.{option_and_then}
-use Rattle.std.specs.Str.{bytes_eq}
-use Rattle.mus_units.specs.declared.key.Meter.{Meter}
-use Rattle.mus_units.specs.declared.key.Meter.TheVariants as meters
-use Rattle.mus_units.specs.declared.value.Frac.{Frac}
-use Rattle.abc_fields.specs.Numbers.{number_of, before, from_first, behind_one}
-use Rattle.mus_units.specs.Good.{is_halving}
-use Rattle.abc_fields.specs.Words.{trimmed, behind}
+use Rattle.std.specs.{List.slice_split, Option.option_and_then, Str.bytes_eq}
+use Rattle.mus_units.specs.{declared.key.Meter.Meter, declared.value.Frac.Frac, Good.is_halving}
+use Rattle.abc_fields.specs.{Numbers.number_of, Numbers.before, Numbers.from_first, Numbers.behind_one, Words.trimmed, Words.behind}
 
 abbrev pub halving_of : Option ℕ → Option ℕ
 halving_of None = None
@@ -39,7 +33,7 @@ terms_after (b ∷ s) = slice_split is_plus s
 abbrev pub ratio : Option ℕ → Option ℕ → Option Meter
 ratio None den = None
 ratio (Some num) None = None
-ratio (Some num) (Some den) = Some (meters.Ratio num den)
+ratio (Some num) (Some den) = Some (Meter.Ratio num den)
 
 abbrev pub below_of : List ℕ → Option ℕ
 below_of s = halving_of (number_of s)
@@ -62,7 +56,7 @@ unfoldable pub ratio_of : List ℕ → Option Meter
 ratio_of s = ratio_by s (behind (codes "(") s)
 
 unfoldable pub meter_at : List ℕ → Option Meter
-meter_at s = if bytes_eq s (codes "C") then Some meters.Common else (if bytes_eq s (codes "C|") then Some meters.Cut else (if bytes_eq s (codes "none") then Some meters.Free else (if bytes_eq s [] then Some meters.Free else ratio_of s)))
+meter_at s = if bytes_eq s (codes "C") then Some Meter.Common else (if bytes_eq s (codes "C|") then Some Meter.Cut else (if bytes_eq s (codes "none") then Some Meter.Free else (if bytes_eq s [] then Some Meter.Free else ratio_of s)))
 
 unfoldable pub meter_of : List ℕ → Option Meter
 meter_of text = meter_at (trimmed text)
@@ -80,5 +74,5 @@ unit_of text = unit_at (trimmed text)
 
 -- without a unit: a sixteenth where the meter is below 3/4, else an eighth
 abbrev pub default_unit : Meter → Frac
-default_unit (meters.Ratio num den) = if nat_lt (4 * num) (3 * den) then record { num = 1; den = 16 } else record { num = 1; den = 8 }
+default_unit (Meter.Ratio num den) = if nat_lt (4 * num) (3 * den) then record { num = 1; den = 16 } else record { num = 1; den = 8 }
 default_unit _ = record { num = 1; den = 8 }

@@ -1,16 +1,8 @@
 -- How clefs and voices are written: each form with its spelling, when it is good, and what it
 -- means.
 use Rattle.std.specs.Prelude.{◌≡◌, ℕ, ◌≤◌, List, [], ◌∷◌, ◌++◌, false, IsTrue, ⊤, not, length, map, codes}
-use Rattle.mus_units.specs.declared.pitch.Clef.{Clef}
-use Rattle.mus_units.specs.declared.pitch.Clef.TheVariants as clefs
-use Rattle.mus_units.specs.declared.note.Wish.{Wish}
-use Rattle.mus_units.specs.declared.note.Wish.TheVariants as wishes
-use Rattle.abc_fields.specs.declared.voice.VoiceDef.{VoiceDef}
-use Rattle.abc_fields.specs.declared.voice.VoiceWord.{VoiceWord}
-use Rattle.abc_fields.specs.declared.voice.VoiceWord.TheVariants as words
-use Rattle.abc_fields.specs.Voices.{voice_def}
-use Rattle.abc_fields.specs.WordSpelling.{IsFirstWord}
-use Rattle.abc_fields.specs.Words.{properties_of, ends_quoted}
+use Rattle.mus_units.specs.{declared.pitch.Clef.Clef, declared.note.Wish.Wish}
+use Rattle.abc_fields.specs.{declared.voice.VoiceDef.VoiceDef, declared.voice.VoiceWord.VoiceWord, Voices.voice_def, WordSpelling.IsFirstWord, Words.properties_of, Words.ends_quoted}
 
 -- A clef is its name; an octave above or below may stand behind it, and counts for nothing.
 pub data ClefForm : Type 0 where
@@ -19,10 +11,10 @@ pub data ClefForm : Type 0 where
   below_clef : (clef : Clef) → ClefForm
 
 abbrev pub clef_name : Clef → List ℕ
-clef_name clefs.Treble = codes "treble"
-clef_name clefs.Bass = codes "bass"
-clef_name clefs.Alto = codes "alto"
-clef_name clefs.Tenor = codes "tenor"
+clef_name Clef.Treble = codes "treble"
+clef_name Clef.Bass = codes "bass"
+clef_name Clef.Alto = codes "alto"
+clef_name Clef.Tenor = codes "tenor"
 
 abbrev pub clef_spelled : ClefForm → List ℕ
 clef_spelled (plain_clef clef) = clef_name clef
@@ -43,9 +35,9 @@ pub data PropertyForm : Type 0 where
   other_property : (word : List ℕ) → PropertyForm
 
 abbrev pub way_name : Wish → List ℕ
-way_name wishes.Up = codes "up"
-way_name wishes.Down = codes "down"
-way_name wishes.Auto = codes "auto"
+way_name Wish.Up = codes "up"
+way_name Wish.Down = codes "down"
+way_name Wish.Auto = codes "auto"
 
 abbrev pub property_spelled : PropertyForm → List ℕ
 property_spelled (clef_property clef) = codes "clef=" ++ clef_spelled clef
@@ -68,10 +60,10 @@ AreGoodProperties [] = ⊤
 AreGoodProperties (form ∷ forms) = IsGoodProperty form × AreGoodProperties forms
 
 abbrev pub property_meant : PropertyForm → VoiceWord
-property_meant (clef_property clef) = words.Names (clef_meant clef)
-property_meant (name_property clef) = words.Names (clef_meant clef)
-property_meant (stem_property way) = words.Asks way
-property_meant (other_property word) = words.Passed
+property_meant (clef_property clef) = VoiceWord.Names (clef_meant clef)
+property_meant (name_property clef) = VoiceWord.Names (clef_meant clef)
+property_meant (stem_property way) = VoiceWord.Asks way
+property_meant (other_property word) = VoiceWord.Passed
 
 -- A voice is an id of at most 20 bytes, the first word of the text, and properties, which are
 -- parted at blanks outside quotes; no quote stands open behind the id. Of several clefs the last

@@ -1,31 +1,23 @@
 -- What a voice's text says: its id, its clef and the way of its stems.
 use Rattle.std.specs.Prelude.{ℕ, List, [], ◌∷◌, Bool, false, ◌&&◌, not, nat_le, if◌then◌else◌, length, codes, Option, Some, None, is_some, unwrap_or}
-use Rattle.std.specs.Option.{option_map, option_and_then}
-use Rattle.std.specs.Str.{bytes_eq}
-use Rattle.mus_units.specs.declared.pitch.Clef.{Clef}
-use Rattle.mus_units.specs.declared.note.Wish.{Wish}
-use Rattle.mus_units.specs.declared.note.Wish.TheVariants as wishes
-use Rattle.abc_fields.specs.declared.voice.VoiceDef.{VoiceDef}
-use Rattle.abc_fields.specs.declared.voice.VoiceWord.{VoiceWord}
-use Rattle.abc_fields.specs.declared.voice.VoiceWord.TheVariants as words
-use Rattle.abc_fields.specs.Keys.{clef_of}
-use Rattle.abc_fields.specs.Last.{last_of}
-use Rattle.abc_fields.specs.Words.{next_word, properties_of, ends_quoted, behind}
+use Rattle.std.specs.{Option.option_map, Option.option_and_then, Str.bytes_eq}
+use Rattle.mus_units.specs.{declared.pitch.Clef.Clef, declared.note.Wish.Wish}
+use Rattle.abc_fields.specs.{declared.voice.VoiceDef.VoiceDef, declared.voice.VoiceWord.VoiceWord, Keys.clef_of, Last.last_of, Words.next_word, Words.properties_of, Words.ends_quoted, Words.behind}
 
 abbrev pub wish_of : List ℕ → Option Wish
-wish_of w = if bytes_eq w (codes "up") then Some wishes.Up else (if bytes_eq w (codes "down") then Some wishes.Down else (if bytes_eq w (codes "auto") then Some wishes.Auto else None))
+wish_of w = if bytes_eq w (codes "up") then Some Wish.Up else (if bytes_eq w (codes "down") then Some Wish.Down else (if bytes_eq w (codes "auto") then Some Wish.Auto else None))
 
 -- a property: `clef=` and a clef, `stem=` and a way, a clef's name, or one that is passed over
 abbrev pub named_or_passed : Option Clef → VoiceWord
-named_or_passed (Some clef) = words.Names clef
-named_or_passed None = words.Passed
+named_or_passed (Some clef) = VoiceWord.Names clef
+named_or_passed None = VoiceWord.Passed
 
 abbrev pub by_stem : List ℕ → Option (List ℕ) → Option VoiceWord
-by_stem w (Some way) = option_map (λ wish. words.Asks wish) (wish_of way)
+by_stem w (Some way) = option_map (λ wish. VoiceWord.Asks wish) (wish_of way)
 by_stem w None = Some (named_or_passed (clef_of w))
 
 abbrev pub by_clef : List ℕ → Option (List ℕ) → Option VoiceWord
-by_clef w (Some name) = option_map (λ clef. words.Names clef) (clef_of name)
+by_clef w (Some name) = option_map (λ clef. VoiceWord.Names clef) (clef_of name)
 by_clef w None = by_stem w (behind (codes "stem=") w)
 
 unfoldable pub voice_word : List ℕ → Option VoiceWord
@@ -37,16 +29,16 @@ voice_words [] = Some []
 voice_words (w ∷ ws) = option_and_then (λ v. option_map (λ vs. v ∷ vs) (voice_words ws)) (voice_word w)
 
 abbrev pub clef_in : VoiceWord → Option Clef
-clef_in (words.Names clef) = Some clef
+clef_in (VoiceWord.Names clef) = Some clef
 clef_in _ = None
 
 abbrev pub wish_in : VoiceWord → Option Wish
-wish_in (words.Asks wish) = Some wish
+wish_in (VoiceWord.Asks wish) = Some wish
 wish_in _ = None
 
 -- the last clef and the last way count
 abbrev pub voice_def : List ℕ → List VoiceWord → VoiceDef
-voice_def id vs = record { id = id; clef = last_of clef_in vs; stem = unwrap_or (last_of wish_in vs) wishes.Auto; asks = is_some (last_of wish_in vs) }
+voice_def id vs = record { id = id; clef = last_of clef_in vs; stem = unwrap_or (last_of wish_in vs) Wish.Auto; asks = is_some (last_of wish_in vs) }
 
 -- an id has at most 20 bytes, and no quote stands open behind it
 abbrev pub is_good_voice : List ℕ → List ℕ → Bool

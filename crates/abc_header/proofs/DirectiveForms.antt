@@ -1,25 +1,12 @@
 -- A line is read as a directive of a name, with what it says, exactly where it is written as one.
 use Rattle.std.proofs.Common.{◌≡◌, refl, sym, ap, ◌∙◌, subst, ℕ, zero, suc, ◌+◌, ◌-◌, List, [], ◌∷◌, ◌++◌, Bool, true, false, length, take, drop, arith, length-append}
 use Rattle.std.specs.Prelude.{◌==◌, not, reverse, if◌then◌else◌, Some}
-use Rattle.std.specs.List.{list_all, prefix_len, suffix_len}
-use Rattle.std.specs.Str.{bytes_eq}
-use Rattle.std.proofs.lemmas.Bool.{and_parts, eqb-true, not-true}
-use Rattle.std.proofs.lemmas.List.{take-append-drop, append-nil, reverse-append, length-reverse, length-drop}
-use Rattle.std.proofs.lemmas.List.Folds.{list_all-append}
-use Rattle.std.proofs.lemmas.List.Sums.{suffix_len-le-length}
-use Rattle.std.proofs.lemmas.Slice.Eq.{bytes_eq-Decides}
-use Rattle.std.proofs.Math.Seq.{take-append_seam, drop-append_seam}
-use Rattle.abc_lines.specs.declared.kind.LineKind.{LineKind}
-use Rattle.abc_lines.specs.declared.kind.LineKind.TheVariants as kinds
-use Rattle.abc_lines.specs.Kinds.{is_blank, is_percent_line, is_field, field_kind, kind_of, behind_blanks, field_text}
-use Rattle.abc_fields.specs.Directives.{name_len, name_of, rest_of}
-use Rattle.abc_fields.specs.Words.{is_empty, trimmed}
-use Rattle.abc_fields.specs.WordSpelling.{Parts, IsFirstWord, IsBetweenBlanks}
-use Rattle.abc_fields.proofs.BlankLaws.{front-passes, blanks-passed, trimmed-between}
-use Rattle.abc_fields.proofs.MeterForms.{none_is_some}
-use Rattle.abc_fields.proofs.WordLaws.{BeginsWord, behind-begins}
-use Rattle.abc_header.specs.Defaults.{rest_named, rest_if, said_by}
-use Rattle.abc_header.specs.DirectiveSpelling.{Lead, percents, instruction, lead_spelled, BeginsBare, IsBare, IsDirective}
+use Rattle.std.proofs.lemmas.{Bool.and_parts, Bool.eqb-true, Bool.not-true, List.take-append-drop, List.append-nil, List.reverse-append, List.length-reverse, List.length-drop, List.Folds.list_all-append, List.Sums.suffix_len-le-length, Slice.Eq.bytes_eq-Decides}
+use Rattle.std.{proofs.Math.Seq.take-append_seam, proofs.Math.Seq.drop-append_seam, specs.List.list_all, specs.List.prefix_len, specs.List.suffix_len, specs.Str.bytes_eq}
+use Rattle.abc_lines.specs.{declared.kind.LineKind.LineKind, Kinds.is_blank, Kinds.is_percent_line, Kinds.is_field, Kinds.field_kind, Kinds.kind_of, Kinds.behind_blanks, Kinds.field_text}
+use Rattle.abc_fields.{specs.Directives.name_len, specs.Directives.name_of, specs.Directives.rest_of, specs.Words.is_empty, specs.Words.trimmed, specs.WordSpelling.Parts, specs.WordSpelling.IsFirstWord, specs.WordSpelling.IsBetweenBlanks, proofs.BlankLaws.front-passes}
+use Rattle.abc_fields.proofs.{BlankLaws.blanks-passed, BlankLaws.trimmed-between, MeterForms.none_is_some, WordLaws.BeginsWord, WordLaws.behind-begins}
+use Rattle.abc_header.specs.{Defaults.rest_named, Defaults.rest_if, Defaults.said_by, DirectiveSpelling.Lead, DirectiveSpelling.percents, DirectiveSpelling.instruction, DirectiveSpelling.lead_spelled, DirectiveSpelling.BeginsBare, DirectiveSpelling.IsBare, DirectiveSpelling.IsDirective}
 use Rattle.abc_header.proofs.PaperForms.{some_is, Stops, front-length}
 
 -- What stands between blanks and has none at its ends is left without them.
@@ -104,7 +91,7 @@ trimmed-bare text =
 -- The lead of a directive.
 
 abbrev IsDirectiveKind : LineKind → Type 0
-IsDirectiveKind kinds.Directive = Unit {0}
+IsDirectiveKind LineKind.Directive = Unit {0}
 IsDirectiveKind _ = ⊥
 
 record IsLed (line : List ℕ) : Type 0 where
@@ -118,9 +105,9 @@ pair a b s = a ∷ b ∷ s
 pub pair-is : (a b k l : ℕ) (s : List ℕ) → (a == k) ≡ true → (b == l) ≡ true → a ∷ b ∷ s ≡ k ∷ l ∷ s
 pair-is a b k l s e f = ap (λ x. pair x b s) (eqb-true a k e) ∙ ap (λ x. pair k x s) (eqb-true b l f)
 
-field_if : (a b : ℕ) (s : List ℕ) (is letter : Bool) → is_field (a ∷ b ∷ s) ≡ is → (a == 73) ≡ letter → IsDirectiveKind (if is then field_kind a else kinds.Music) → IsLed (a ∷ b ∷ s)
+field_if : (a b : ℕ) (s : List ℕ) (is letter : Bool) → is_field (a ∷ b ∷ s) ≡ is → (a == 73) ≡ letter → IsDirectiveKind (if is then field_kind a else LineKind.Music) → IsLed (a ∷ b ∷ s)
 field_if a b s false letter e f h = absurd h
-field_if a b s true false e f h = let wrong : IsDirectiveKind (kinds.Field a) = rw f at h in absurd wrong
+field_if a b s true false e f h = let wrong : IsDirectiveKind (LineKind.Field a) = rw f at h in absurd wrong
 field_if a b s true true e f h =
     let colon : (b == 58) ≡ true = (and_parts _ _ (and_parts _ _ e).0).1 in
     record { lead = instruction; text = s; led = pair-is a b 73 58 s f colon }
@@ -136,7 +123,7 @@ directive-led [] h = absurd h
 directive-led (a ∷ []) h = absurd h
 directive-led (a ∷ b ∷ s) h = percent_if a b s (is_percent_line (a ∷ b ∷ s)) refl h
 
-lead-kind : (lead : Lead) (text : List ℕ) → kind_of (lead_spelled lead ++ text) ≡ kinds.Directive
+lead-kind : (lead : Lead) (text : List ℕ) → kind_of (lead_spelled lead ++ text) ≡ LineKind.Directive
 lead-kind percents text = refl
 lead-kind instruction text = refl
 
@@ -218,9 +205,9 @@ named_if text name says true e h =
     }
 
 kind_takes : (line name says : List ℕ) (kind : LineKind) → rest_if name line kind ≡ Some says → IsDirectiveKind kind × IsNamed (field_text line) name says
-kind_takes line name says (kinds.Field letter) h = absurd (none_is_some says h)
-kind_takes line name says kinds.Music h = absurd (none_is_some says h)
-kind_takes line name says kinds.Directive h = (tt, named_if (field_text line) name says (bytes_eq (name_of (field_text line)) name) refl h)
+kind_takes line name says (LineKind.Field letter) h = absurd (none_is_some says h)
+kind_takes line name says LineKind.Music h = absurd (none_is_some says h)
+kind_takes line name says LineKind.Directive h = (tt, named_if (field_text line) name says (bytes_eq (name_of (field_text line)) name) refl h)
 
 -- and what is read as one is a directive of that name, which has a byte
 pub directive-takes : (line name says : List ℕ) → not (is_empty name) ≡ true → said_by name line ≡ Some says → IsDirective line name says

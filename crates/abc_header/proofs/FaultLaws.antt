@@ -1,24 +1,11 @@
 -- The fault that is found line by line, with the ids of voices carried along, is the first fault.
 use Rattle.std.proofs.Common.{◌≡◌, refl, sym, ap, ◌∙◌, subst, ℕ, ◌<◌, List, [], ◌∷◌, ◌++◌, Bool, true, false, length, append_assoc, inl, inr}
 use Rattle.std.specs.Prelude.{nat_lt, if◌then◌else◌, fold, Option, Some, None, Result, Ok, Err, IfOk, IfErr, unwrap_or}
-use Rattle.std.specs.Option.{option_or}
-use Rattle.std.proofs.lemmas.Bool.{ltb-true, lt-ltb}
-use Rattle.std.proofs.lemmas.List.{append-nil}
-use Rattle.abc_lines.specs.declared.book.Line.{Line}
-use Rattle.abc_lines.specs.declared.book.TuneText.{TuneText}
-use Rattle.abc_lines.specs.declared.fault.FaultKind.{FaultKind}
-use Rattle.abc_lines.specs.declared.fault.FaultKind.TheVariants as faults
-use Rattle.abc_lines.specs.declared.fault.Fault.{Fault}
-use Rattle.abc_lines.specs.declared.fault.TuneError.{TuneError}
-use Rattle.abc_lines.specs.declared.fault.TuneError.TheVariants as errors
-use Rattle.abc_fields.specs.declared.field.Field.{Field}
-use Rattle.abc_header.specs.declared.header.Header.{Header}
-use Rattle.abc_fields.specs.Fields.{field_of}
-use Rattle.abc_header.specs.HeaderFaults.{IsFaultBehind, AreClear, IsFirstFault, IsFaultBy, IsFaultOfHeader, IsClearBy, IsClearHeader, IsHeaderRefusal}
-use Rattle.abc_header.specs.Headers.{key_place, put_field, fields_of, line_fault, fault_at, ids_with, first_fault, head_lines, no_key, fault_by, header_fault, IsHeaderFault}
-use Rattle.abc_header.specs.Voicing.{ids_after, ids_of}
-use Rattle.abc_fields.proofs.FieldForms.{line-says, line-read, line-bad, line-refused}
-use Rattle.abc_fields.proofs.MeterForms.{none_is_some}
+use Rattle.std.{proofs.lemmas.Bool.ltb-true, proofs.lemmas.Bool.lt-ltb, proofs.lemmas.List.append-nil, specs.Option.option_or}
+use Rattle.abc_lines.specs.declared.{book.Line.Line, book.TuneText.TuneText, fault.FaultKind.FaultKind, fault.Fault.Fault, fault.TuneError.TuneError}
+use Rattle.abc_fields.{specs.declared.field.Field.Field, specs.Fields.field_of, proofs.FieldForms.line-says, proofs.FieldForms.line-read, proofs.FieldForms.line-bad, proofs.FieldForms.line-refused, proofs.MeterForms.none_is_some}
+use Rattle.abc_header.specs.{declared.header.Header.Header, HeaderFaults.IsFaultBehind, HeaderFaults.AreClear, HeaderFaults.IsFirstFault, HeaderFaults.IsFaultBy, HeaderFaults.IsFaultOfHeader, HeaderFaults.IsClearBy, HeaderFaults.IsClearHeader, HeaderFaults.IsHeaderRefusal, Headers.key_place}
+use Rattle.abc_header.specs.{Headers.put_field, Headers.fields_of, Headers.line_fault, Headers.fault_at, Headers.ids_with, Headers.first_fault, Headers.head_lines, Headers.no_key, Headers.fault_by, Headers.header_fault, Headers.IsHeaderFault, Voicing.ids_after, Voicing.ids_of}
 
 abbrev Reading : Type 0
 Reading = Result Field FaultKind
@@ -51,14 +38,14 @@ some_fault : (one fault : Fault) → Some one ≡ Some fault → one ≡ fault
 some_fault one fault h = ap (λ o. unwrap_or o fault) h
 
 many_if : (before : List Line) (line : Line) (f : Field) (fault : Fault) (many : Bool) → field_of line.text ≡ Ok f → nat_lt 16 (length (ids_after (ids_of (fields_of before)) f)) ≡ many
-    → (if many then Some (line_fault faults.TooManyVoices line) else None) ≡ Some fault → IsFaultBehind before line fault
+    → (if many then Some (line_fault FaultKind.TooManyVoices line) else None) ≡ Some fault → IsFaultBehind before line fault
 many_if before line f fault false read e h = absurd (none_is_some fault h)
 many_if before line f fault true read e h =
     inr (record {
       field = f;
       says = line-says line.text f read;
       many = subst (λ ids. 16 < length ids) (sym (fold-push (fields_of before) f [])) (ltb-true 16 (length (ids_after (ids_of (fields_of before)) f)) e);
-      is = some_fault (line_fault faults.TooManyVoices line) fault h;
+      is = some_fault (line_fault FaultKind.TooManyVoices line) fault h;
     })
 
 read_fault : (before : List Line) (line : Line) (read : Reading) (fault : Fault) → field_of line.text ≡ read → fault_at (ids_of (fields_of before)) line read ≡ Some fault → IsFaultBehind before line fault
@@ -71,7 +58,7 @@ fault_of_line before line = fault_at (ids_of (fields_of before)) line (field_of 
 fault-takes : (before : List Line) (line : Line) (fault : Fault) → fault_of_line before line ≡ Some fault → IsFaultBehind before line fault
 fault-takes before line fault h = read_fault before line (field_of line.text) fault refl h
 
-many-read : (before : List Line) (line : Line) (f : Field) → 16 < length (ids_of (fields_of before ++ f ∷ [])) → fault_at (ids_of (fields_of before)) line (Ok f) ≡ Some (line_fault faults.TooManyVoices line)
+many-read : (before : List Line) (line : Line) (f : Field) → 16 < length (ids_of (fields_of before ++ f ∷ [])) → fault_at (ids_of (fields_of before)) line (Ok f) ≡ Some (line_fault FaultKind.TooManyVoices line)
 many-read before line f many =
     let more : 16 < length (ids_after (ids_of (fields_of before)) f) = subst (λ ids. 16 < length ids) (fold-push (fields_of before) f []) many in
     let test : nat_lt 16 (length (ids_after (ids_of (fields_of before)) f)) ≡ true = lt-ltb 16 (length (ids_after (ids_of (fields_of before)) f)) more in
@@ -207,8 +194,8 @@ header_answers tune (Ok header) h = header-clear tune h
 header_answers tune (Err e) h = tt
 
 header_refusal : (tune : TuneText) (e : TuneError) → IsHeaderFault tune e → IsHeaderRefusal tune e
-header_refusal tune errors.Memory h = tt
-header_refusal tune (errors.Fault fault) h = header-fault tune fault h
+header_refusal tune TuneError.Memory h = tt
+header_refusal tune (TuneError.Fault fault) h = header-fault tune fault h
 
 pub header_refuses : (tune : TuneText) (answer : Result Header TuneError) → IfErr answer (λ e. IsHeaderFault tune e) → IfErr answer (λ e. IsHeaderRefusal tune e)
 header_refuses tune (Ok header) h = tt

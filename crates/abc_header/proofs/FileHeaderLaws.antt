@@ -1,28 +1,16 @@
 -- What is read off the lines of a file header is what they state: of each kind the last.
 use Rattle.std.proofs.Common.{◌≡◌, refl, sym, ap, ◌∙◌, subst, ℕ, ◌-◌, List, [], ◌∷◌, ◌++◌, Bool, true, false, length, take, inl, inr}
-use Rattle.std.specs.Prelude.{◌⊎◌, ◌==◌, not, nat_le, if◌then◌else◌, Option, Some, None, unwrap_or, codes}
-use Rattle.std.specs.List.{suffix_len}
-use Rattle.std.specs.Option.{option_or, option_and_then}
-use Rattle.std.proofs.lemmas.Bool.{and_parts, leb-true, le-leb}
-use Rattle.mus_units.specs.declared.key.Meter.TheVariants as meters
-use Rattle.mus_units.specs.declared.key.Spread.TheVariants as spreads
-use Rattle.abc_lines.specs.declared.book.Line.{Line}
-use Rattle.abc_lines.specs.Kinds.{is_blank, is_percent_line, is_field, kind_of, behind_blanks}
-use Rattle.abc_fields.specs.Directives.{breaks_of, spread_of}
-use Rattle.abc_fields.specs.Last.{last_of}
-use Rattle.abc_fields.specs.Meters.{meter_at, meter_of, unit_at, unit_of}
-use Rattle.abc_fields.specs.Words.{is_empty, trimmed}
-use Rattle.abc_fields.proofs.FieldForms.{breaks-says, breaks-read, spread-says, spread-read}
-use Rattle.abc_fields.proofs.MeterForms.{none_is_some, meter-says, meter-read, unit-says, unit-read}
-use Rattle.abc_fields.proofs.WordLaws.{behind-begins}
-use Rattle.abc_header.specs.declared.defaults.Defaults.{Defaults}
-use Rattle.abc_header.specs.declared.paper.Paper.{Paper}
-use Rattle.abc_header.specs.Defaults.{text_if, text_of, said_by, line_meter, line_unit, line_breaks, line_spread, default_breaks, defaults_of}
-use Rattle.abc_header.specs.Lengths.{length_of, scale_of}
-use Rattle.abc_header.specs.Papers.{line_length, line_scale, length_in, scale_in, default_paper, stated, width_of, height_of, is_wide_enough, paper_of}
-use Rattle.abc_header.specs.FileHeader.{StatesMeter, StatesUnit, StatesBreaks, StatesSpread, StatesLength, StatesScale, AreSilent, IsLastOf, IsLastOr, IsLastIfAny, AreDefaultsBy, IsStatedPaper, HasRoom, IsPaperBy}
-use Rattle.abc_header.proofs.DirectiveForms.{directive-takes, directive-read, word-stays, pair-is}
-use Rattle.abc_header.proofs.PaperForms.{some_is, then-takes, length-writes, length-read, scale-writes, scale-read}
+use Rattle.std.specs.Prelude.{◌⊎◌, ◌==◌, not, nat_le, if◌then◌else◌, Option, Some, None, Result, Ok, Err, IfOk, unwrap_or, codes}
+use Rattle.std.{proofs.lemmas.Bool.and_parts, proofs.lemmas.Bool.leb-true, proofs.lemmas.Bool.le-leb, specs.List.suffix_len, specs.Option.option_or, specs.Option.option_and_then, specs.Option.option_map}
+use Rattle.mus_units.specs.declared.{key.Meter.Meter, key.Spread.Spread, text.Memory.Memory}
+use Rattle.abc_lines.specs.{declared.book.Line.Line, declared.book.TuneText.TuneText, declared.fault.TuneError.TuneError, Kinds.is_blank, Kinds.is_percent_line, Kinds.is_field, Kinds.kind_of, Kinds.behind_blanks}
+use Rattle.abc_fields.{specs.Directives.breaks_of, specs.Directives.spread_of, specs.Last.last_of, specs.Meters.meter_at, specs.Meters.meter_of, specs.Meters.unit_at, specs.Meters.unit_of, specs.Words.is_empty, specs.Words.trimmed, proofs.FieldForms.breaks-says, proofs.FieldForms.breaks-read}
+use Rattle.abc_fields.proofs.{FieldForms.spread-says, FieldForms.spread-read, MeterForms.none_is_some, MeterForms.meter-says, MeterForms.meter-read, MeterForms.unit-says, MeterForms.unit-read, WordLaws.behind-begins}
+use Rattle.abc_header.specs.FileHeader.{StatesMeter, StatesUnit, StatesBreaks, StatesSpread, StatesStaves, StatesLength, StatesScale, AreSilent, IsLastOf, IsLastOr, IsLastIfAny, AreDefaultsBy, AreStavesBy, AreStavesOf, AreStavesUpTo, IsStatedPaper, HasRoom, IsPaperBy}
+use Rattle.abc_header.specs.{declared.defaults.Defaults.Defaults, declared.header.Header.Header, declared.paper.Paper.Paper, Headers.IsHeaderBy, Headers.IsHeaderOf, Headers.first_line, Headers.head_lines, Headers.key_place, Headers.staves_by, Defaults.text_if, Defaults.text_of, Defaults.said_by}
+use Rattle.abc_header.specs.{Defaults.line_meter, Defaults.line_unit, Defaults.line_breaks, Defaults.line_of, Defaults.line_spread, Defaults.line_staves, Defaults.default_breaks, Defaults.defaults_of, Lengths.length_of, Lengths.scale_of, Papers.line_length, Papers.line_scale, Papers.length_in}
+use Rattle.abc_header.{specs.Papers.scale_in, specs.Papers.default_paper, specs.Papers.stated, specs.Papers.width_of, specs.Papers.height_of, specs.Papers.is_wide_enough, specs.Papers.paper_of, proofs.DirectiveForms.directive-takes, proofs.DirectiveForms.directive-read}
+use Rattle.abc_header.proofs.{DirectiveForms.word-stays, DirectiveForms.pair-is, PaperForms.some_is, PaperForms.then-takes, PaperForms.length-writes, PaperForms.length-read, PaperForms.scale-writes, PaperForms.scale-read}
 
 -- The last that is stated.
 
@@ -133,6 +121,23 @@ spread-reads =
       reaches = λ line spread states. ap (option_and_then spread_of) (directive-read line.text (codes "propagate-accidentals") states.text states.directive) ∙ spread-read states.text spread states.says;
     }
 
+mapped_said : (line : Line) (said : Option (List ℕ)) (staves : Line) → option_map (line_of line.number) said ≡ Some staves → (said ≡ Some staves.text) × (staves.number ≡ line.number)
+mapped_said line None staves h = absurd (none_is_some staves h)
+mapped_said line (Some text) staves h =
+    let same = some_is (line_of line.number text) staves h in
+    (ap (λ (l : Line). Some l.text) same, sym (ap (λ (l : Line). l.number) same))
+
+staves-reads : Reads StatesStaves line_staves
+unfolding line_staves
+staves-reads =
+    record {
+      takes = λ line staves h.
+          let said = mapped_said line (said_by (codes "score") line.text) staves h in
+          record { directive = directive-takes line.text (codes "score") staves.text refl said.0; number = said.1 };
+      reaches = λ line staves states.
+          ap (option_map (line_of line.number)) (directive-read line.text (codes "score") staves.text states.directive) ∙ ap (λ n. Some (line_of n staves.text)) (sym states.number);
+    }
+
 -- Fields.
 
 blanks-once : (text : List ℕ) → behind_blanks (behind_blanks text) ≡ behind_blanks text
@@ -211,25 +216,59 @@ unit-reads =
 pub defaults-are : (lines : List Line) → AreDefaultsBy lines (defaults_of lines)
 defaults-are lines =
     record {
-      meter = last-or StatesMeter line_meter meters.Free lines meter-reads;
+      meter = last-or StatesMeter line_meter Meter.Free lines meter-reads;
       unit = last_any_if StatesUnit line_unit lines (last_of line_unit lines) unit-reads refl;
       breaks = last-or StatesBreaks line_breaks default_breaks lines breaks-reads;
-      spread = last-or StatesSpread line_spread spreads.Pitch lines spread-reads;
+      spread = last-or StatesSpread line_spread Spread.Pitch lines spread-reads;
+      staves = last_any_if StatesStaves line_staves lines (last_of line_staves lines) staves-reads refl;
     }
 
-same_defaults : (d e : Defaults) → d.meter ≡ e.meter → d.unit ≡ e.unit → d.breaks ≡ e.breaks → d.spread ≡ e.spread → d ≡ e
-same_defaults d e m u b s =
-    let same : record { meter = d.meter; unit = d.unit; breaks = d.breaks; spread = d.spread } ≡ e = rw (m, u, b, s) refl in
+same_defaults : (d e : Defaults) → d.meter ≡ e.meter → d.unit ≡ e.unit → d.breaks ≡ e.breaks → d.spread ≡ e.spread → d.staves ≡ e.staves → d ≡ e
+same_defaults d e m u b s v =
+    let same : record { meter = d.meter; unit = d.unit; breaks = d.breaks; spread = d.spread; staves = d.staves } ≡ e = rw (m, u, b, s, v) refl in
     same
 
 -- and no other values are
 pub defaults-one : (lines : List Line) (defaults : Defaults) → AreDefaultsBy lines defaults → defaults ≡ defaults_of lines
 defaults-one lines defaults are =
     same_defaults defaults (defaults_of lines)
-    (last-or-one StatesMeter line_meter meters.Free lines defaults.meter meter-reads are.meter)
+    (last-or-one StatesMeter line_meter Meter.Free lines defaults.meter meter-reads are.meter)
     (last-any-one StatesUnit line_unit lines defaults.unit unit-reads are.unit)
     (last-or-one StatesBreaks line_breaks default_breaks lines defaults.breaks breaks-reads are.breaks)
-    (last-or-one StatesSpread line_spread spreads.Pitch lines defaults.spread spread-reads are.spread)
+    (last-or-one StatesSpread line_spread Spread.Pitch lines defaults.spread spread-reads are.spread)
+    (last-any-one StatesStaves line_staves lines defaults.staves staves-reads are.staves)
+
+-- the answers of `read_defaults`
+pub defaults_answer : (lines : List Line) (answer : Result Defaults Memory) → IfOk answer (λ d. d ≡ defaults_of lines) → IfOk answer (AreDefaultsBy lines)
+defaults_answer lines (Ok d) h = subst (AreDefaultsBy lines) (sym h) (defaults-are lines)
+defaults_answer lines (Err e) h = tt
+
+pub defaults_answer_one : (lines : List Line) (answer : Result Defaults Memory) → IfOk answer (λ d. d ≡ defaults_of lines)
+    → IfOk answer (λ d. (defaults : Defaults) → AreDefaultsBy lines defaults → defaults ≡ d)
+defaults_answer_one lines (Ok d) h = λ defaults are. defaults-one lines defaults are ∙ sym h
+defaults_answer_one lines (Err e) h = tt
+
+-- The staves of a tune.
+
+staves_if : (lines : List Line) (first : ℕ) (other own : Option Line) → last_of line_staves lines ≡ own → AreStavesBy lines first other (staves_by own other first)
+staves_if lines first other None e = inr (unread-silent StatesStaves line_staves staves-reads lines e, refl)
+staves_if lines first other (Some own) e = inl (own, last-takes StatesStaves line_staves staves-reads lines own e, refl)
+
+staves_up_to : (tune : TuneText) (defaults : Defaults) (header : Header) (place : Option ℕ) → IsHeaderBy tune defaults header place → AreStavesUpTo tune defaults.staves place header.staves
+staves_up_to tune defaults header None h = h
+staves_up_to tune defaults header (Some place) h =
+    let lines = head_lines tune place in
+    subst (AreStavesBy lines (first_line tune.lines) defaults.staves) (sym (ap (λ (r : Header). r.staves) h))
+    (staves_if lines (first_line tune.lines) defaults.staves (last_of line_staves lines) refl)
+
+header_staves : (tune : TuneText) (defaults : Defaults) (header : Header) → IsHeaderOf tune defaults header → AreStavesOf tune defaults header.staves
+unfolding IsHeaderOf
+header_staves tune defaults header h = staves_up_to tune defaults header (key_place tune.lines) h
+
+pub staves_answer : (tune : TuneText) (defaults : Defaults) (answer : Result Header TuneError) → IfOk answer (IsHeaderOf tune defaults)
+    → IfOk answer (λ header. AreStavesOf tune defaults header.staves)
+staves_answer tune defaults (Ok header) h = header_staves tune defaults header h
+staves_answer tune defaults (Err e) h = tt
 
 -- The paper.
 

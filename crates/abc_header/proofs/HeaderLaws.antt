@@ -1,39 +1,27 @@
 -- What good fields give is good, and the ids that fields mention are distinct.
 use Rattle.std.proofs.Common.{◌≡◌, refl, ap, sym, ◌∙◌, ℕ, suc, ◌+◌, ◌≤◌, List, [], ◌∷◌, ◌++◌, Bool, true, false, map, length, arith, subst, cond, Bor, ◌<◌, get_or, drop, drop-cons, append_assoc}
 use Rattle.std.specs.Prelude.{Option, Some, None, IfSome, if◌then◌else◌, count_by, fold, Ok}
-use Rattle.std.specs.List.{list_any}
-use Rattle.std.specs.Option.{option_or, option_copied}
-use Rattle.std.specs.Str.{bytes_eq}
-use Rattle.std.proofs.lemmas.List.Sums.{sum_by-cons}
-use Rattle.std.proofs.lemmas.Slice.Eq.{bytes_eq-Decides}
-use Rattle.mus_units.specs.declared.value.Frac.{Frac}
+use Rattle.std.{proofs.lemmas.List.Sums.sum_by-cons, proofs.lemmas.Slice.Eq.bytes_eq-Decides, specs.List.list_any, specs.Option.option_or, specs.Option.option_copied, specs.Str.bytes_eq}
+use Rattle.mus_units.specs.{declared.value.Frac.Frac, Good.IsGoodMeter, Good.IsGoodUnit}
 use Rattle.abc_lines.specs.declared.book.Line.{Line}
-use Rattle.abc_fields.specs.declared.field.Field.{Field}
-use Rattle.abc_fields.specs.declared.field.Field.TheVariants as fields
-use Rattle.abc_fields.specs.declared.key.KeyText.{KeyText}
-use Rattle.abc_fields.specs.declared.voice.VoiceDef.{VoiceDef}
-use Rattle.abc_fields.specs.Fields.{IsGoodField, field_of}
-use Rattle.mus_units.specs.Good.{IsGoodMeter, IsGoodUnit}
-use Rattle.abc_header.specs.Good.{GoodUnitIn}
-use Rattle.abc_fields.specs.Keys.{IsGoodKeyText}
-use Rattle.abc_fields.specs.Last.{last_of}
-use Rattle.abc_header.specs.Headers.{AllGood, AreDistinct, key_in, meter_in, unit_in, fields_of, put_field, first_fault, fault_at, ids_with}
-use Rattle.abc_header.specs.Voicing.{ids_after, ids_of, voice_from, voices_of}
+use Rattle.abc_fields.specs.{declared.field.Field.Field, declared.key.KeyText.KeyText, declared.voice.VoiceDef.VoiceDef, Fields.IsGoodField, Fields.field_of, Keys.IsGoodKeyText, Last.last_of}
+use Rattle.abc_header.specs.{Good.GoodUnitIn, Headers.AllGood, Headers.AreDistinct, Headers.key_in, Headers.meter_in, Headers.unit_in, Headers.fields_of, Headers.put_field, Headers.first_fault, Headers.fault_at, Headers.ids_with, Voicing.ids_after, Voicing.ids_of, Voicing.voice_from}
+use Rattle.abc_header.specs.Voicing.{voices_of}
 
 or-some : {X : Type 0} (P : X → Type 0) (a b : Option X) → IfSome a P → IfSome b P → IfSome (option_or a b) P
 or-some P None b ha hb = hb
 or-some P (Some x) b ha hb = ha
 
 key-some : (f : Field) → IsGoodField f → IfSome (key_in f) (λ k. IsGoodKeyText k)
-key-some (fields.Key k) good = good
+key-some (Field.Key k) good = good
 key-some _ good = tt
 
 meter-some : (f : Field) → IsGoodField f → IfSome (meter_in f) (λ m. IsGoodMeter m)
-meter-some (fields.Meter m) good = good
+meter-some (Field.Meter m) good = good
 meter-some _ good = tt
 
 unit-some : (f : Field) → IsGoodField f → IfSome (unit_in f) (λ u. IsGoodUnit u)
-unit-some (fields.Unit u) good = good
+unit-some (Field.Unit u) good = good
 unit-some _ good = tt
 
 pub last_key-good : (fs : List Field) → AllGood fs → IfSome (last_of key_in fs) (λ k. IsGoodKeyText k)
@@ -97,7 +85,7 @@ once_either ids id true e once = once
 once_either ids id false e once = λ x. once_new ids id x (bytes_eq x id) refl e (once x)
 
 once_after : (ids : List (List ℕ)) (f : Field) → Once ids → Once (ids_after ids f)
-once_after ids (fields.Voice def) once = once_either ids def.id (list_any (bytes_eq def.id) ids) refl once
+once_after ids (Field.Voice def) once = once_either ids def.id (list_any (bytes_eq def.id) ids) refl once
 once_after ids _ once = once
 
 once_all : (fs : List Field) (ids : List (List ℕ)) → Once ids → Once (fold ids_after ids fs)

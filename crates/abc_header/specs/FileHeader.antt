@@ -1,20 +1,11 @@
--- What the file header states for all tunes and of the paper: of each kind the last line that
--- states one counts, and a line in another form states nothing.
+-- What the file header states for all tunes and of the paper, and a tune's header of its staves: of
+-- each kind the last line that states one counts, and a line in another form states nothing.
 use Rattle.std.specs.Prelude.{◌≡◌, ◌⊎◌, ◌≤◌, ℕ, List, [], ◌∷◌, ◌++◌, ⊤, Option, Some, None, codes}
-use Rattle.mus_units.specs.declared.key.Meter.{Meter}
-use Rattle.mus_units.specs.declared.key.Meter.TheVariants as meters
-use Rattle.mus_units.specs.declared.key.Spread.{Spread}
-use Rattle.mus_units.specs.declared.key.Spread.TheVariants as spreads
-use Rattle.mus_units.specs.declared.value.Frac.{Frac}
-use Rattle.abc_lines.specs.declared.book.Line.{Line}
-use Rattle.abc_fields.specs.declared.directive.Breaks.{Breaks}
-use Rattle.abc_fields.specs.FieldSpelling.{SaysBreaks, SaysSpread}
-use Rattle.abc_fields.specs.MeterSpelling.{SaysMeter, SaysUnit}
-use Rattle.abc_header.specs.declared.defaults.Defaults.{Defaults}
-use Rattle.abc_header.specs.declared.paper.Paper.{Paper}
-use Rattle.abc_header.specs.Defaults.{default_breaks}
-use Rattle.abc_header.specs.DirectiveSpelling.{IsDirective}
-use Rattle.abc_header.specs.Papers.{default_paper, width_of, height_of}
+use Rattle.std.specs.Option.{option_map}
+use Rattle.mus_units.specs.{declared.key.Meter.Meter, declared.key.Spread.Spread, declared.value.Frac.Frac}
+use Rattle.abc_lines.specs.{declared.book.Line.Line, declared.book.TuneText.TuneText}
+use Rattle.abc_fields.specs.{declared.directive.Breaks.Breaks, FieldSpelling.SaysBreaks, FieldSpelling.SaysSpread, MeterSpelling.SaysMeter, MeterSpelling.SaysUnit}
+use Rattle.abc_header.specs.{declared.defaults.Defaults.Defaults, declared.paper.Paper.Paper, Defaults.default_breaks, Defaults.line_of, DirectiveSpelling.IsDirective, Headers.first_line, Headers.head_lines, Headers.key_place, Papers.default_paper, Papers.width_of, Papers.height_of}
 use Rattle.abc_header.specs.PaperSpelling.{WritesLength, WritesScale}
 
 -- What one line states.
@@ -40,6 +31,11 @@ pub record StatesSpread (line : Line) (spread : Spread) : Type 0 where
   pub text : List ℕ
   pub directive : IsDirective line.text (codes "propagate-accidentals") text
   pub says : SaysSpread text spread
+
+-- `%%score` and a text, at the line's number
+pub record StatesStaves (line : Line) (staves : Line) : Type 0 where
+  pub directive : IsDirective line.text (codes "score") staves.text
+  pub number : staves.number ≡ line.number
 
 -- a directive of that name and a length
 pub record StatesLength (name : List ℕ) (line : Line) (size : ℕ) : Type 0 where
@@ -78,10 +74,26 @@ IsLastIfAny States lines (Some x) = IsLastOf States lines x
 
 -- the defaults of a book whose file header has these lines
 pub record AreDefaultsBy (lines : List Line) (defaults : Defaults) : Type 0 where
-  pub meter : IsLastOr StatesMeter meters.Free lines defaults.meter
+  pub meter : IsLastOr StatesMeter Meter.Free lines defaults.meter
   pub unit : IsLastIfAny StatesUnit lines defaults.unit
   pub breaks : IsLastOr StatesBreaks default_breaks lines defaults.breaks
-  pub spread : IsLastOr StatesSpread spreads.Pitch lines defaults.spread
+  pub spread : IsLastOr StatesSpread Spread.Pitch lines defaults.spread
+  pub staves : IsLastIfAny StatesStaves lines defaults.staves
+
+-- The staves of a tune whose header has these lines and whose first line has this number: the last
+-- that its lines state, else the file's, told of at that line.
+abbrev pub AreStavesBy : List Line → ℕ → Option Line → Option Line → Type 0
+AreStavesBy lines first other staves =
+    ((own : Line) × IsLastOf StatesStaves lines own × (staves ≡ Some own))
+    ⊎ (AreSilent StatesStaves lines × (staves ≡ option_map (λ (line : Line). line_of first line.text) other))
+
+-- a tune's header ends with its first `K:`
+abbrev pub AreStavesUpTo : TuneText → Option Line → Option ℕ → Option Line → Type 0
+AreStavesUpTo tune other None staves = ⊥
+AreStavesUpTo tune other (Some place) staves = AreStavesBy (head_lines tune place) (first_line tune.lines) other staves
+
+abbrev pub AreStavesOf : TuneText → Defaults → Option Line → Type 0
+AreStavesOf tune defaults staves = AreStavesUpTo tune defaults.staves (key_place tune.lines) staves
 
 -- each value is the last that is stated, or its default
 pub record IsStatedPaper (lines : List Line) (paper : Paper) : Type 0 where

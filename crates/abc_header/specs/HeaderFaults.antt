@@ -1,16 +1,8 @@
 -- When a line of a header is at fault, by the lines before it, and which fault is the first.
 use Rattle.std.specs.Prelude.{◌≡◌, ◌<◌, ◌⊎◌, ℕ, List, [], ◌∷◌, ◌++◌, length, ⊤, Option, Some, None}
-use Rattle.abc_lines.specs.declared.book.Line.{Line}
-use Rattle.abc_lines.specs.declared.book.TuneText.{TuneText}
-use Rattle.abc_lines.specs.declared.fault.FaultKind.{FaultKind}
-use Rattle.abc_lines.specs.declared.fault.FaultKind.TheVariants as faults
-use Rattle.abc_lines.specs.declared.fault.Fault.{Fault}
-use Rattle.abc_lines.specs.declared.fault.TuneError.{TuneError}
-use Rattle.abc_lines.specs.declared.fault.TuneError.TheVariants as errors
-use Rattle.abc_fields.specs.declared.field.Field.{Field}
-use Rattle.abc_fields.specs.FieldSpelling.{Says, IsBad}
-use Rattle.abc_header.specs.Headers.{key_place, fields_of, line_fault, head_lines, no_key}
-use Rattle.abc_header.specs.Voicing.{ids_of}
+use Rattle.abc_lines.specs.declared.{book.Line.Line, book.TuneText.TuneText, fault.FaultKind.FaultKind, fault.Fault.Fault, fault.TuneError.TuneError}
+use Rattle.abc_fields.specs.{declared.field.Field.Field, FieldSpelling.Says, FieldSpelling.IsBad}
+use Rattle.abc_header.specs.{Headers.key_place, Headers.fields_of, Headers.line_fault, Headers.head_lines, Headers.no_key, Voicing.ids_of}
 
 -- the text of the line is in no good form of its letter
 pub record HasBadText (line : Line) (fault : Fault) : Type 0 where
@@ -23,7 +15,7 @@ pub record HasVoiceTooMany (before : List Line) (line : Line) (fault : Fault) : 
   pub field : Field
   pub says : Says line.text field
   pub many : 16 < length (ids_of (fields_of before ++ field ∷ []))
-  pub is : line_fault faults.TooManyVoices line ≡ fault
+  pub is : line_fault FaultKind.TooManyVoices line ≡ fault
 
 -- the fault that a line is behind these lines
 abbrev pub IsFaultBehind : List Line → Line → Fault → Type 0
@@ -61,5 +53,5 @@ IsClearHeader tune = IsClearBy tune (key_place tune.lines)
 
 -- why there is no header: its fault, or want of memory
 abbrev pub IsHeaderRefusal : TuneText → TuneError → Type 0
-IsHeaderRefusal tune errors.Memory = ⊤
-IsHeaderRefusal tune (errors.Fault fault) = IsFaultOfHeader tune fault
+IsHeaderRefusal tune TuneError.Memory = ⊤
+IsHeaderRefusal tune (TuneError.Fault fault) = IsFaultOfHeader tune fault

@@ -1,36 +1,11 @@
 -- The header of a tune: what counts of its lines up to the first `K:`, and its first fault.
 use Prim.Native.Char.{code}
 use Rattle.std.specs.Prelude.{◌≡◌, ℕ, ◌+◌, ◌≤◌, List, [], ◌∷◌, Bool, nat_lt, if◌then◌else◌, length, take, position, Option, Some, None, Result, Ok, Err, is_some, unwrap_or, ⊤, count_by}
-use Rattle.std.specs.List.{filter_map}
-use Rattle.std.specs.Option.{option_or}
-use Rattle.std.specs.Str.{bytes_eq}
-use Rattle.mus_units.specs.declared.pitch.Clef.{Clef}
-use Rattle.mus_units.specs.declared.pitch.Clef.TheVariants as clefs
-use Rattle.mus_units.specs.declared.key.Meter.{Meter}
-use Rattle.mus_units.specs.declared.key.Sign.{Sign}
-use Rattle.mus_units.specs.declared.key.Spread.{Spread}
-use Rattle.mus_units.specs.declared.value.Frac.{Frac}
-use Rattle.abc_lines.specs.declared.book.Line.{Line}
-use Rattle.abc_lines.specs.declared.book.TuneText.{TuneText}
-use Rattle.abc_lines.specs.declared.fault.FaultKind.{FaultKind}
-use Rattle.abc_lines.specs.declared.fault.FaultKind.TheVariants as faults
-use Rattle.abc_lines.specs.declared.fault.Fault.{Fault}
-use Rattle.abc_lines.specs.declared.fault.TuneError.{TuneError}
-use Rattle.abc_lines.specs.declared.fault.TuneError.TheVariants as errors
-use Rattle.abc_header.specs.declared.defaults.Defaults.{Defaults}
-use Rattle.abc_fields.specs.declared.directive.Breaks.{Breaks}
-use Rattle.abc_fields.specs.declared.key.KeyText.{KeyText}
-use Rattle.abc_fields.specs.declared.voice.VoiceDef.{VoiceDef}
-use Rattle.abc_fields.specs.declared.field.Field.{Field}
-use Rattle.abc_fields.specs.declared.field.Field.TheVariants as fields
-use Rattle.abc_header.specs.declared.header.Header.{Header}
-use Rattle.abc_header.specs.Defaults.{text_of}
-use Rattle.abc_fields.specs.Fields.{field_of, IsGoodField}
-use Rattle.mus_units.specs.Good.{IsGoodKey, IsGoodMeter, IsGoodUnit}
-use Rattle.abc_fields.specs.Keys.{key_over}
-use Rattle.abc_fields.specs.Last.{last_of}
-use Rattle.abc_fields.specs.Meters.{default_unit}
-use Rattle.abc_header.specs.Voicing.{ids_after, voices_of}
+use Rattle.std.specs.{List.filter_map, Option.option_map, Option.option_or, Str.bytes_eq}
+use Rattle.mus_units.specs.{declared.pitch.Clef.Clef, declared.key.Meter.Meter, declared.key.Sign.Sign, declared.key.Spread.Spread, declared.value.Frac.Frac, Good.IsGoodKey, Good.IsGoodMeter, Good.IsGoodUnit}
+use Rattle.abc_lines.specs.declared.{book.Line.Line, book.TuneText.TuneText, fault.FaultKind.FaultKind, fault.Fault.Fault, fault.TuneError.TuneError}
+use Rattle.abc_header.specs.{declared.defaults.Defaults.Defaults, declared.header.Header.Header, Defaults.line_of, Defaults.line_staves, Defaults.text_of, Voicing.ids_after, Voicing.voices_of}
+use Rattle.abc_fields.specs.{declared.directive.Breaks.Breaks, declared.key.KeyText.KeyText, declared.voice.VoiceDef.VoiceDef, declared.field.Field.Field, Fields.field_of, Fields.IsGoodField, Keys.key_over, Last.last_of, Meters.default_unit}
 
 -- the place of the first `K:`
 abbrev pub is_key_line : Line → Bool
@@ -41,35 +16,35 @@ key_place lines = position is_key_line lines
 
 -- What each kind of field gives.
 abbrev pub title_in : Field → Option (List ℕ)
-title_in (fields.Title text) = Some text
+title_in (Field.Title text) = Some text
 title_in _ = None
 
 abbrev pub composer_in : Field → Option (List ℕ)
-composer_in (fields.Composer text) = Some text
+composer_in (Field.Composer text) = Some text
 composer_in _ = None
 
 abbrev pub tempo_in : Field → Option (List ℕ)
-tempo_in (fields.Tempo text) = Some text
+tempo_in (Field.Tempo text) = Some text
 tempo_in _ = None
 
 abbrev pub key_in : Field → Option KeyText
-key_in (fields.Key key) = Some key
+key_in (Field.Key key) = Some key
 key_in _ = None
 
 abbrev pub meter_in : Field → Option Meter
-meter_in (fields.Meter meter) = Some meter
+meter_in (Field.Meter meter) = Some meter
 meter_in _ = None
 
 abbrev pub unit_in : Field → Option Frac
-unit_in (fields.Unit unit) = Some unit
+unit_in (Field.Unit unit) = Some unit
 unit_in _ = None
 
 abbrev pub breaks_in : Field → Option Breaks
-breaks_in (fields.Breaks breaks) = Some breaks
+breaks_in (Field.Breaks breaks) = Some breaks
 breaks_in _ = None
 
 abbrev pub spread_in : Field → Option Spread
-spread_in (fields.Spread spread) = Some spread
+spread_in (Field.Spread spread) = Some spread
 spread_in _ = None
 
 -- the header's key is laid on no sign, and its clef is treble where none is named
@@ -78,8 +53,8 @@ key_signs None = []
 key_signs (Some key) = key_over [] key
 
 abbrev pub key_clef : Option KeyText → Clef
-key_clef None = clefs.Treble
-key_clef (Some key) = unwrap_or key.clef clefs.Treble
+key_clef None = Clef.Treble
+key_clef (Some key) = unwrap_or key.clef Clef.Treble
 
 -- the tune's last unit, else the file's, else by the tune's meter
 abbrev pub unit_by : Option Frac → Option Frac → Meter → Frac
@@ -90,9 +65,16 @@ unit_by None None meter = default_unit meter
 abbrev pub meter_from : List Field → Defaults → Meter
 meter_from fs defaults = unwrap_or (last_of meter_in fs) defaults.meter
 
+-- the tune's last `%%score`, else the file's, which is told of at the tune's first line
+abbrev pub staves_by : Option Line → Option Line → ℕ → Option Line
+staves_by own other first = option_or own (option_map (λ (line : Line). line_of first line.text) other)
+
+abbrev pub staves_from : List Line → Defaults → ℕ → Option Line
+staves_from lines defaults first = staves_by (last_of line_staves lines) defaults.staves first
+
 -- of each kind the last counts, and every title and composer
-abbrev pub header_of : List Field → Defaults → ℕ → Header
-header_of fs defaults body = record {
+abbrev pub header_of : List Field → Defaults → Option Line → ℕ → Header
+header_of fs defaults staves body = record {
   titles = filter_map title_in fs;
   composers = filter_map composer_in fs;
   tempo = last_of tempo_in fs;
@@ -103,6 +85,7 @@ header_of fs defaults body = record {
   voices = voices_of fs;
   breaks = unwrap_or (last_of breaks_in fs) defaults.breaks;
   spread = unwrap_or (last_of spread_in fs) defaults.spread;
+  staves = staves;
   body = body;
 }
 
@@ -121,7 +104,7 @@ line_fault kind line = record { kind = kind; line = line.number; column = 1 }
 
 abbrev pub fault_at : List (List ℕ) → Line → Result Field FaultKind → Option Fault
 fault_at ids line (Err kind) = Some (line_fault kind line)
-fault_at ids line (Ok f) = if nat_lt 16 (length (ids_after ids f)) then Some (line_fault faults.TooManyVoices line) else None
+fault_at ids line (Ok f) = if nat_lt 16 (length (ids_after ids f)) then Some (line_fault FaultKind.TooManyVoices line) else None
 
 abbrev pub ids_with : List (List ℕ) → Result Field FaultKind → List (List ℕ)
 ids_with ids (Ok f) = ids_after ids f
@@ -141,7 +124,7 @@ first_line [] = 0
 first_line (line ∷ lines) = line.number
 
 abbrev pub no_key : TuneText → Fault
-no_key tune = record { kind = faults.NoKey; line = first_line tune.lines; column = 1 }
+no_key tune = record { kind = FaultKind.NoKey; line = first_line tune.lines; column = 1 }
 
 -- the header's fault, if it has one: without a `K:` it is at the `X:`, else the first of its lines
 abbrev pub fault_by : TuneText → Option ℕ → Option Fault
@@ -153,15 +136,16 @@ header_fault tune = fault_by tune (key_place tune.lines)
 
 abbrev pub IsHeaderBy : TuneText → Defaults → Header → Option ℕ → Type 0
 IsHeaderBy tune defaults header None = ⊥
-IsHeaderBy tune defaults header (Some place) = header ≡ header_of (fields_of (head_lines tune place)) defaults (place + 1)
+IsHeaderBy tune defaults header (Some place) =
+    header ≡ header_of (fields_of (head_lines tune place)) defaults (staves_from (head_lines tune place) defaults (first_line tune.lines)) (place + 1)
 
 -- the header of a tune that has a `K:`
 unfoldable pub IsHeaderOf : TuneText → Defaults → Header → Type 0
 IsHeaderOf tune defaults header = IsHeaderBy tune defaults header (key_place tune.lines)
 
 abbrev pub IsHeaderFault : TuneText → TuneError → Type 0
-IsHeaderFault tune errors.Memory = ⊤
-IsHeaderFault tune (errors.Fault fault) = header_fault tune ≡ Some fault
+IsHeaderFault tune TuneError.Memory = ⊤
+IsHeaderFault tune (TuneError.Fault fault) = header_fault tune ≡ Some fault
 
 -- each of a list
 abbrev pub AllGood : List Field → Type 0

@@ -2,10 +2,8 @@
 use Rattle.std.specs.Prelude.{ℕ, ◌+◌, ◌-◌, ◌*◌, ◌/◌, ◌≤◌, List, Bool, ◌&&◌, nat_le, if◌then◌else◌, codes, Option, unwrap_or}
 use Rattle.std.specs.Option.{option_and_then}
 use Rattle.abc_lines.specs.declared.book.Line.{Line}
-use Rattle.abc_header.specs.declared.paper.Paper.{Paper}
-use Rattle.abc_header.specs.Defaults.{said_by}
+use Rattle.abc_header.specs.{declared.paper.Paper.Paper, Defaults.said_by, Lengths.length_of, Lengths.scale_of}
 use Rattle.abc_fields.specs.Last.{last_of}
-use Rattle.abc_header.specs.Lengths.{length_of, scale_of}
 
 unfoldable pub line_length : List ℕ → Line → Option ℕ
 line_length name line = option_and_then length_of (said_by name line.text)

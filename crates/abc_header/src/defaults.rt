@@ -1,45 +1,63 @@
-ghost use Rattle.std.specs.Prelude.{◌≡◌, IfSome, Some, None};
-ghost use Rattle.std.specs.Option.{option_copied};
+ghost use Rattle.std.specs.{Prelude.◌≡◌, Prelude.IfOk, Prelude.IfSome, Prelude.Some, Prelude.None, Option.option_copied, Option.option_map};
 ghost use Rattle.mus_units.specs.Good.{IsGoodMeter, IsGoodUnit};
-ghost use Rattle.abc_header.specs.Good.{IsGoodDefaults, GoodUnitIn};
+ghost use Rattle.abc_header.specs.{Good.IsGoodDefaults, Good.GoodUnitIn, declared.defaults.Defaults.Defaults, FileHeader.AreDefaultsBy};
+ghost use Rattle.abc_header.specs.Defaults.{text_of, rest_named, said_by, line_meter, line_unit, line_breaks, line_of, line_spread, line_staves, defaults_of};
 ghost use Rattle.abc_fields.specs.Last.{last_of};
-ghost use Rattle.abc_header.specs.declared.defaults.Defaults.{Defaults};
-ghost use Rattle.abc_header.specs.FileHeader.{AreDefaultsBy};
-ghost use Rattle.abc_header.specs.Defaults.{text_of, rest_named, said_by, line_meter, line_unit, line_breaks, line_spread, defaults_of};
 
 use abc_fields::directive::{Breaks, cut_name, read_breaks, read_spread};
 use abc_fields::meter::{read_meter, read_unit};
 use abc_lines::{Book, Line, LineKind, field_text, kind_of};
 use mus_units::bytes::is_same;
-use mus_units::{Frac, Meter, Spread};
+use mus_units::{Frac, Memory, Meter, Spread, Text};
+use std::alloc::Global;
 
 /// What the file header sets for every tune. Without a unit each tune's own meter
-/// decides it.
-#[derive(Clone, Copy, PartialEq, Eq)]
+/// decides it. `staves` is the line of the last `%%score`: its number, and what it says.
+#[derive(Drop)]
 pub struct Defaults {
     pub meter: Meter,
     pub unit: Option<Frac>,
     pub breaks: Breaks,
     pub spread: Spread,
+    pub staves: Option<Line>,
+}
+
+/// What a `%%score` says, and the number of its line.
+#[derive(Clone, Copy)]
+pub(crate) struct Said<'a> {
+    pub(crate) number: u32,
+    pub(crate) text: &'a [u8],
+}
+
+impl Said<'_> {
+    /// The same as a line of its own.
+    pub(crate) fn to_line(self, alloc: Global) -> Result<Line, Memory>
+        ensures { IfOk result (λ line. line ≡ line_of self.entry.number self.entry.text.now) }
+    {
+        Ok(Line {
+            number: self.number,
+            text: Text::from_slice(alloc, self.text)?,
+        })
+    }
 }
 
 /// The last good values of the file header, else free meter, no unit, breaks at
-/// line ends and `$`, and signs that reach every octave. Takes no memory.
-pub fn read_defaults(book: &Book) -> Defaults
-    ensures states { AreDefaultsBy book.now.header result }
-    ensures only { (defaults : Defaults) → AreDefaultsBy book.now.header defaults → defaults ≡ result }
-    ensures value { result ≡ defaults_of book.now.header }
-    ensures good { IsGoodDefaults result }
+/// line ends and `$`, and signs that reach every octave; and its last `%%score`.
+pub fn read_defaults(alloc: Global, book: &Book) -> Result<Defaults, Memory>
+    ensures states { IfOk result (AreDefaultsBy book.now.header) }
+    ensures only { IfOk result (λ d. (defaults : Defaults) → AreDefaultsBy book.now.header defaults → defaults ≡ d) }
+    ensures value { IfOk result (λ d. d ≡ defaults_of book.now.header) }
+    ensures good { IfOk result IsGoodDefaults }
 {
-    defaults_of(book)
+    defaults_of(alloc, book)
 }
 
-fn defaults_of(book: &Book) -> Defaults
-    ensures value { result ≡ defaults_of book.now.header }
-    ensures good { IsGoodDefaults result }
+fn defaults_of(alloc: Global, book: &Book) -> Result<Defaults, Memory>
+    ensures value { IfOk result (λ d. d ≡ defaults_of book.now.header) }
+    ensures good { IfOk result IsGoodDefaults }
 {
     let lines = book.header.as_slice();
-    Defaults {
+    Ok(Defaults {
         meter: last_meter(lines).unwrap_or(Meter::Free),
         unit: last_unit(lines),
         breaks: last_breaks(lines).unwrap_or(Breaks {
@@ -48,7 +66,35 @@ fn defaults_of(book: &Book) -> Defaults
             bang: false,
         }),
         spread: last_spread(lines).unwrap_or(Spread::Pitch),
+        staves: last_staves(alloc, lines)?,
+    })
+}
+
+/// The line of the last `%%score`.
+pub(crate) fn last_staves(alloc: Global, lines: &[Line]) -> Result<Option<Line>, Memory>
+    ensures { IfOk result (λ last. last ≡ last_of line_staves lines.now) }
+{
+    match staves_said(lines) {
+        Some(said) => Ok(Some(said.to_line(alloc)?)),
+        None => Ok(None),
     }
+}
+
+/// What the last `%%score` says.
+#[tactic(auto, unfolding(crate::specs::Defaults::line_staves))]
+fn staves_said(lines: &[Line]) -> Option<Said<'_>>
+    ensures { option_map (λ said. line_of said.number said.text.now) result ≡ last_of line_staves lines.now }
+{
+    let mut last = None;
+    for line in lines {
+        if let Some(text) = said_by(b"score", line) {
+            last = Some(Said {
+                number: line.number,
+                text,
+            });
+        }
+    }
+    last
 }
 
 fn last_meter(lines: &[Line]) -> Option<Meter>

@@ -1,16 +1,12 @@
 ghost use Rattle.std.specs.Prelude.{◌≡◌, ◌≤◌, ◌<◌, length, map, position, IfOk, IfErr, IfSome, Some, None, Ok, unwrap_or, nat_lt, []};
-ghost use Rattle.std.specs.List.{filter_map};
-ghost use Rattle.std.specs.Option.{option_map, option_copied};
-ghost use Rattle.abc_fields.specs.Fields.{field_of, IsGoodField};
+ghost use Rattle.std.specs.{List.filter_map, Option.option_map, Option.option_copied};
+ghost use Rattle.abc_fields.specs.{Fields.field_of, Fields.IsGoodField, Keys.key_over, Keys.IsGoodKeyText, Last.last_of};
 ghost use Rattle.mus_units.specs.Good.{IsGoodKey, IsGoodMeter, IsGoodUnit};
-ghost use Rattle.abc_header.specs.Good.{IsGoodDefaults, GoodUnitIn};
-ghost use Rattle.abc_fields.specs.Keys.{key_over, IsGoodKeyText};
-ghost use Rattle.abc_fields.specs.Last.{last_of};
-ghost use Rattle.abc_header.specs.Voicing.{with_id, ids_after, ids_of, clef_for, wish_for, voice_from, voices_of};
-ghost use Rattle.abc_header.specs.HeaderFaults.{IsClearHeader, IsHeaderRefusal};
-ghost use Rattle.abc_header.specs.Headers.{is_key_line, key_place, title_in, composer_in, tempo_in, key_in, meter_in, unit_in, breaks_in, spread_in, key_signs, key_clef, unit_by, meter_from, header_of, fields_of, line_fault, fault_at, no_key, first_fault, header_fault, first_line, head_lines, IsHeaderOf, IsHeaderFault, AllGood, HasGoodValues, IsGoodHeader};
+ghost use Rattle.abc_header.specs.{Good.IsGoodDefaults, Good.GoodUnitIn, Voicing.with_id, Voicing.ids_after, Voicing.ids_of, Voicing.clef_for, Voicing.wish_for, Voicing.voice_from, Voicing.voices_of};
+ghost use Rattle.abc_header.specs.{FileHeader.AreStavesOf, HeaderFaults.IsClearHeader, HeaderFaults.IsHeaderRefusal};
+ghost use Rattle.abc_header.specs.Headers.{is_key_line, key_place, title_in, composer_in, tempo_in, key_in, meter_in, unit_in, breaks_in, spread_in, key_signs, key_clef, unit_by, meter_from, staves_from, header_of, fields_of, line_fault, fault_at, no_key, first_fault, header_fault, first_line, head_lines, IsHeaderOf, IsHeaderFault, AllGood, HasGoodValues, IsGoodHeader};
 
-use crate::defaults::{Defaults, text_of};
+use crate::defaults::{Defaults, last_staves, text_of};
 use crate::voicing::{VoiceIds, mention, voices_of};
 use abc_fields::directive::Breaks;
 use abc_fields::field::{Field, FieldError, field_at};
@@ -23,8 +19,9 @@ use mus_units::{Clef, Frac, Key, Memory, Meter, Row, Sign, Spread, Text};
 use std::alloc::Global;
 
 /// The header of a tune. `voices` are in order of first mention, each with the last
-/// clef and the last way of stems that its lines name. `body` is the index of the
-/// first line behind the `K:`.
+/// clef and the last way of stems that its lines name. `staves` is what the last
+/// `%%score` says, at the number of its line, else what the file's says, at the number of
+/// the tune's first line. `body` is the index of the first line behind the `K:`.
 #[derive(Drop)]
 pub struct Header {
     pub titles: Row<Text>,
@@ -37,6 +34,7 @@ pub struct Header {
     pub voices: Row<VoiceDef>,
     pub breaks: Breaks,
     pub spread: Spread,
+    pub staves: Option<Line>,
     pub body: u32,
 }
 
@@ -50,6 +48,7 @@ pub fn read_header(alloc: Global, tune: &TuneText, defaults: &Defaults) -> Resul
     ensures none { IfOk result (λ header. header_fault tune.now ≡ None) }
     ensures good { IfOk result (λ header. IsGoodHeader tune.now header) }
     ensures first { IfErr result (λ e. IsHeaderRefusal tune.now e) }
+    ensures staves { IfOk result (λ header. AreStavesOf tune.now defaults.now header.staves) }
     ensures fault { IfErr result (λ e. IsHeaderFault tune.now e) }
 {
     tune_header(alloc, tune, defaults)
@@ -84,7 +83,14 @@ fn header_or_fault(
 {
     let lines = tune.lines.as_slice();
     match key_place(lines) {
-        Some(place) => read_head(alloc, lines.split_at(place + 1).0, defaults),
+        Some(place) => {
+            read_head(
+                alloc,
+                lines.split_at(place + 1).0,
+                defaults,
+                first_line(lines),
+            )
+        }
         None => Ok(Err(no_key(tune))),
     }
 }
@@ -123,20 +129,24 @@ fn is_key_line(line: &Line) -> bool
     text_of(b'K', line).is_some()
 }
 
-/// The header that these lines are, the `K:` last.
+/// The header that these lines are, the `K:` last, of a tune whose first line has this number.
 fn read_head(
     alloc: Global,
     lines: &[Line],
     defaults: &Defaults,
+    first: u32,
 ) -> Result<Result<Header, Fault>, Memory>
     requires { IsGoodDefaults defaults.now }
-    ensures value { IfOk result (λ read. IfOk read (λ header. header ≡ header_of (fields_of lines.now) defaults.now (length lines.now))) }
+    ensures value { IfOk result (λ read. IfOk read (λ header. header ≡ header_of (fields_of lines.now) defaults.now (staves_from lines.now defaults.now first) (length lines.now))) }
     ensures none { IfOk result (λ read. IfOk read (λ header. first_fault [] lines.now ≡ None)) }
     ensures good { IfOk result (λ read. IfOk read (λ header. HasGoodValues header)) }
     ensures fault { IfOk result (λ read. IfErr read (λ fault. first_fault [] lines.now ≡ Some fault)) }
 {
     match read_fields(alloc, lines)? {
-        Ok(read) => Ok(Ok(header_of(alloc, &read, defaults, lines.len())?)),
+        Ok(read) => {
+            let staves = staves_from(alloc, lines, defaults, first)?;
+            Ok(Ok(header_of(alloc, &read, defaults, staves, lines.len())?))
+        }
         Err(fault) => Ok(Err(fault)),
     }
 }
@@ -217,13 +227,40 @@ fn line_fault(kind: FaultKind, line: &Line) -> Fault
     }
 }
 
+/// The line of the tune's last `%%score`, else of the file's, at the tune's first line.
+fn staves_from(
+    alloc: Global,
+    lines: &[Line],
+    defaults: &Defaults,
+    first: u32,
+) -> Result<Option<Line>, Memory>
+    ensures { IfOk result (λ staves. staves ≡ staves_from lines.now defaults.now first) }
+{
+    if let Some(own) = last_staves(alloc, lines)? {
+        return Ok(Some(own));
+    }
+    match &defaults.staves {
+        Some(other) => Ok(Some(Line {
+            number: first,
+            text: other.text.copy(alloc)?,
+        })),
+        None => Ok(None),
+    }
+}
+
 /// What counts of the fields of a header.
-fn header_of(alloc: Global, read: &Read, defaults: &Defaults, body: usize) -> Result<Header, Memory>
+fn header_of(
+    alloc: Global,
+    read: &Read,
+    defaults: &Defaults,
+    staves: Option<Line>,
+    body: usize,
+) -> Result<Header, Memory>
     requires ids { read.now.ids ≡ ids_of read.now.fields }
     requires few { length read.now.ids ≤ 16 }
     requires good { AllGood read.now.fields }
     requires defaults { IsGoodDefaults defaults.now }
-    ensures value { IfOk result (λ header. header ≡ header_of read.now.fields defaults.now body) }
+    ensures value { IfOk result (λ header. header ≡ header_of read.now.fields defaults.now staves body) }
     ensures good { IfOk result (λ header. HasGoodValues header) }
 {
     let fields = read.fields.as_slice();
@@ -242,6 +279,7 @@ fn header_of(alloc: Global, read: &Read, defaults: &Defaults, body: usize) -> Re
         voices: voices_of(alloc, &read.ids, fields)?,
         breaks: last_breaks(fields).unwrap_or(defaults.breaks),
         spread: last_spread(fields).unwrap_or(defaults.spread),
+        staves,
         body,
     })
 }

@@ -1,29 +1,15 @@
 -- What is read goes on from part to part.
 use Rattle.std.proofs.Common.{◌≡◌, ℕ, suc, ◌+◌, ◌<◌, ◌≤◌, ◌^◌, List, [], ◌∷◌, ◌++◌, length, map, take, drop, get_or, refl, sym, ap, ◌∙◌, subst, arith, append_assoc, append-nil, drop-cons, Option, Some, None, Bool, true, false, ◌&&◌, All, flat_map}
-use Rattle.std.proofs.Math.Seq.{take-suc}
-use Rattle.std.proofs.Math.ListN.{drop_of_length-le}
-use Rattle.std.proofs.lemmas.List.Sums.{sum_by-cons}
+use Rattle.std.proofs.{Math.Seq.take-suc, Math.ListN.drop_of_length-le, lemmas.List.Sums.sum_by-cons, lemmas.List.Elements.All-nil, lemmas.List.Elements.All-push, lemmas.List.Elements.All-append, lemmas.List.Elements.All-head, lemmas.List.Elements.All-tail}
 use Rattle.std.specs.Str.{bytes_eq}
-use Rattle.std.proofs.lemmas.List.Elements.{All-nil, All-push, All-append, All-head, All-tail}
 use Rattle.mus_units.specs.declared.pitch.Clef.{Clef}
-use Rattle.abc_steps.specs.declared.step.Step.TheVariants as step
-use Rattle.abc_steps.specs.declared.step.Stood.{Stood}
-use Rattle.abc_steps.specs.declared.step.Item.TheVariants as item
-use Rattle.abc_steps.specs.Good.{IsGoodStood}
-use Rattle.abc_items.specs.Good.{IsGoodItem}
-use Rattle.abc_lines.specs.declared.book.Line.{Line}
-use Rattle.abc_lines.specs.declared.fault.Fault.{Fault}
-use Rattle.abc_lines.specs.declared.fault.TuneError.{TuneError}
-use Rattle.abc_lines.specs.declared.fault.TuneError.TheVariants as errors
-use Rattle.abc_lines.specs.Good.{size_of}
+use Rattle.abc_steps.specs.{declared.step.Step.Step, declared.step.Stood.Stood, Good.IsGoodStood, declared.step.Item.Item}
+use Rattle.abc_items.specs.{Good.IsGoodItem, declared.body.Body.Body, Voices.ids_after, Voices.declared_ids, Voices.stood, Voices.break_if, Voices.one_if, Voices.named_step, Voices.steps_in, Voices.voice_next, Voices.steps_from, Body.Given, Body.gives, Body.fails, Body.item_judged, Body.judged}
+use Rattle.abc_items.specs.{Body.first_fault, Body.items_in, Body.LineGives, Body.BodyGives, Body.no_lines, Body.one_line, Body.IsBody, Body.IsBodyError, Reading.Reads, Reading.Stops, Reading.ReadsSome, Reading.StopsBy, Reading.LinesStop}
+use Rattle.abc_lines.specs.{declared.book.Line.Line, declared.fault.Fault.Fault, declared.fault.TuneError.TuneError, Good.size_of}
 use Rattle.abc_tokens.specs.declared.token.Placed.{Placed}
 use Rattle.abc_fields.specs.declared.directive.Breaks.{Breaks}
 use Rattle.abc_header.specs.declared.header.Header.{Header}
-use Rattle.abc_steps.specs.declared.step.Item.{Item}
-use Rattle.abc_items.specs.declared.body.Body.{Body}
-use Rattle.abc_items.specs.Voices.{ids_after, declared_ids, stood, break_if, one_if, named_step, steps_in, voice_next, steps_from}
-use Rattle.abc_items.specs.Body.{Given, gives, fails, item_judged, judged, first_fault, items_in, LineGives, BodyGives, no_lines, one_line, IsBody, IsBodyError}
-use Rattle.abc_items.specs.Reading.{Reads, Stops, ReadsSome, StopsBy, LinesStop}
 
 -- one element more of a row that is made of another
 pub mapped-more : {X Y : Type 0} (f : X → Y) (xs : List X) (i : ℕ) (x : X) (done new : List Y) (y : Y)
@@ -57,12 +43,12 @@ stays ids (gives i ∷ g) h fault e = through (item_judged ids i) (judged (ids_a
   through (gives i) g h fault f e = f e
 
 pub stops_before : (b : Body) (g h : List Given) (e : TuneError) → Stops b g e → Stops b (g ++ h) e
-stops_before b g h errors.Memory s = s
-stops_before b g h (errors.Fault fault) s = stays b.ids g h fault s
+stops_before b g h TuneError.Memory s = s
+stops_before b g h (TuneError.Fault fault) s = stays b.ids g h fault s
 
 pub stops_behind : (a b : Body) (g h : List Given) (e : TuneError) → Reads a g b → Stops b h e → Stops a (g ++ h) e
-stops_behind a b g h errors.Memory r s = s
-stops_behind a b g h (errors.Fault fault) r s = ap (λ x. first_fault (judged a.ids (g ++ x))) (sym (append-nil h)) ∙ first_more a b g h r ∙ s where
+stops_behind a b g h TuneError.Memory r s = s
+stops_behind a b g h (TuneError.Fault fault) r s = ap (λ x. first_fault (judged a.ids (g ++ x))) (sym (append-nil h)) ∙ first_more a b g h r ∙ s where
   first_more : (a b : Body) (g h : List Given) → Reads a g b → first_fault (judged a.ids (g ++ (h ++ []))) ≡ first_fault (judged b.ids h)
   first_more a b g h r = r.faults (h ++ []) ∙ ap (λ x. first_fault (judged b.ids x)) (append-nil h)
 
@@ -79,15 +65,15 @@ pub all_items : (b c : Body) (g : List Given) → Reads b g c → b.items ≡ []
 all_items b c g r none = sym (append-nil c.items) ∙ sym (r.items []) ∙ ap (λ x. x ++ items_in (g ++ [])) none ∙ ap items_in (append-nil g)
 
 pub stops_by : (Gives : List Given → Type 0) (b : Body) (g : List Given) (e : TuneError) → Gives g → Stops b g e → StopsBy Gives b e
-stops_by Gives b g errors.Memory so s = tt
-stops_by Gives b g (errors.Fault fault) so s = record { given = g; gives_so = so; stops = s }
+stops_by Gives b g TuneError.Memory so s = tt
+stops_by Gives b g (TuneError.Fault fault) so s = record { given = g; gives_so = so; stops = s }
 
 -- a token that stops
 pub stops_within : (of : Placed → List Given) (a b : Body) (all rest more : List Placed) (x : Placed) (e : TuneError)
     → ((h : List Given) → first_fault (judged a.ids (flat_map of all ++ h)) ≡ first_fault (judged b.ids (flat_map of rest ++ h)))
     → rest ≡ x ∷ more → Stops b (of x) e → Stops a (flat_map of all) e
-stops_within of a b all rest more x errors.Memory faults is s = tt
-stops_within of a b all rest more x (errors.Fault fault) faults is s =
+stops_within of a b all rest more x TuneError.Memory faults is s = tt
+stops_within of a b all rest more x (TuneError.Fault fault) faults is s =
     ap (λ g. first_fault (judged a.ids g)) (sym (append-nil (flat_map of all))) ∙ faults []
     ∙ ap (λ r. first_fault (judged b.ids (flat_map of r ++ []))) is
     ∙ ap (λ g. first_fault (judged b.ids g)) (append-nil (of x ++ flat_map of more))
@@ -106,14 +92,14 @@ lines_more breaks lines i line a b c inside here so_far one =
 
 pub lines_stop : (breaks : Breaks) (lines : List Line) (i : ℕ) (line : Line) (a b : Body) (e : TuneError) → i < length lines → line ≡ get_or lines i line
     → ReadsSome (BodyGives breaks (take i lines)) a b → StopsBy (LineGives breaks line) b e → LinesStop breaks lines a e
-lines_stop breaks lines i line a b errors.Memory inside here so_far one = tt
-lines_stop breaks lines i line a b (errors.Fault fault) inside here so_far one =
+lines_stop breaks lines i line a b TuneError.Memory inside here so_far one = tt
+lines_stop breaks lines i line a b (TuneError.Fault fault) inside here so_far one =
     let taken : take i lines ++ line ∷ [] ≡ take (i + 1) lines = ap (λ l. take i lines ++ l ∷ []) here ∙ sym (take-suc lines i line inside) ∙ ap (λ n. take n lines) (let e : suc i ≡ i + 1 = omega arith in e) in (
       i + 1,
       record {
         given = so_far.given ++ one.given;
         gives_so = subst (λ ls. BodyGives breaks ls (so_far.given ++ one.given)) taken (line_more breaks (take i lines) line so_far.given one.given so_far.gives_so one.gives_so);
-        stops = stops_behind a b so_far.given one.given (errors.Fault fault) so_far.reads one.stops;
+        stops = stops_behind a b so_far.given one.given (TuneError.Fault fault) so_far.reads one.stops;
       },
     )
 
@@ -141,8 +127,8 @@ body_is header lines b c ids items all = record {
 }
 
 pub body_error : (header : Header) (lines : List Line) (b : Body) (e : TuneError) → b.ids ≡ declared_ids header → LinesStop header.breaks lines b e → IsBodyError header lines e
-body_error header lines b errors.Memory ids all = tt
-body_error header lines b (errors.Fault fault) ids all = record {
+body_error header lines b TuneError.Memory ids all = tt
+body_error header lines b (TuneError.Fault fault) ids all = record {
   count = all.0;
   given = all.1.given;
   gives_so = all.1.gives_so;
@@ -154,23 +140,23 @@ own_good : (own : Bool) (s : Stood) → IsGoodStood s → All IsGoodStood (one_i
 own_good true s good = All-push IsGoodStood [] s (All-nil IsGoodStood) good
 own_good false s good = All-nil IsGoodStood
 
-end_good : (line column : ℕ) → All IsGoodStood (stood step.LineEnd line column ∷ [])
-end_good line column = All-push IsGoodStood [] (stood step.LineEnd line column) (All-nil IsGoodStood) tt
+end_good : (line column : ℕ) → All IsGoodStood (stood Step.LineEnd line column ∷ [])
+end_good line column = All-push IsGoodStood [] (stood Step.LineEnd line column) (All-nil IsGoodStood) tt
 
-break_good : (breaks : Bool) (line column : ℕ) → All IsGoodStood (stood step.LineEnd line column ∷ break_if breaks line column)
-break_good true line column = All-push IsGoodStood (stood step.LineEnd line column ∷ []) (stood step.Break line column) (end_good line column) tt
+break_good : (breaks : Bool) (line column : ℕ) → All IsGoodStood (stood Step.LineEnd line column ∷ break_if breaks line column)
+break_good true line column = All-push IsGoodStood (stood Step.LineEnd line column ∷ []) (stood Step.Break line column) (end_good line column) tt
 break_good false line column = end_good line column
 
 clef_good : (named : Bool) (clef : Option Clef) (line column : ℕ) → All IsGoodStood (named_step named clef line column)
 clef_good true None line column = All-nil IsGoodStood
-clef_good true (Some clef) line column = All-push IsGoodStood [] (stood (step.Clef clef) line column) (All-nil IsGoodStood) tt
+clef_good true (Some clef) line column = All-push IsGoodStood [] (stood (Step.Clef clef) line column) (All-nil IsGoodStood) tt
 clef_good false clef line column = All-nil IsGoodStood
 
 item_steps_good : (id now : List ℕ) (i : Item) → IsGoodItem i → All IsGoodStood (steps_in id now i)
-item_steps_good id now (item.Step s) good = own_good (bytes_eq id now) s good
-item_steps_good id now (item.LineEnd joined breaks line column) good = break_good (breaks && bytes_eq id now) line column
-item_steps_good id now (item.Voice def line column) good = clef_good (bytes_eq id def.id) def.clef line column
-item_steps_good id now (item.Words text line) good = All-nil IsGoodStood
+item_steps_good id now (Item.Step s) good = own_good (bytes_eq id now) s good
+item_steps_good id now (Item.LineEnd joined breaks line column) good = break_good (breaks && bytes_eq id now) line column
+item_steps_good id now (Item.Voice def line column) good = clef_good (bytes_eq id def.id) def.clef line column
+item_steps_good id now (Item.Words text line) good = All-nil IsGoodStood
 
 pub steps_good : (id now : List ℕ) (items : List Item) → All IsGoodItem items → All IsGoodStood (steps_from id now items)
 steps_good id now [] good = All-nil IsGoodStood

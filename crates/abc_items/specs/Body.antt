@@ -1,34 +1,15 @@
 -- What the lines of a body give, line by line and token by token in the order of the text: items
 -- or faults. The body is its items where no fault is among them, and else has the first of them.
 use Rattle.std.specs.Prelude.{◌≡◌, ℕ, ◌+◌, ◌-◌, ◌*◌, ◌==◌, ◌&&◌, not, nat_lt, List, [], ◌∷◌, ◌++◌, Bool, true, false, if◌then◌else◌, map, flat_map, length, take, get_or, Option, Some, None, Result, Ok, Err, ⊤}
-use Rattle.std.specs.List.{ends_with}
-use Rattle.std.specs.Prelude.{nat_eq}
+use Rattle.std.specs.{List.ends_with, Prelude.nat_eq}
 use Rattle.mus_units.specs.declared.note.Head.{Head}
-use Rattle.abc_lines.specs.declared.book.Line.{Line}
-use Rattle.abc_lines.specs.declared.fault.Fault.{Fault}
-use Rattle.abc_lines.specs.declared.fault.FaultKind.{FaultKind}
-use Rattle.abc_lines.specs.declared.fault.FaultKind.TheVariants as faults
-use Rattle.abc_lines.specs.declared.fault.TuneError.{TuneError}
-use Rattle.abc_lines.specs.declared.fault.TuneError.TheVariants as errors
-use Rattle.abc_lines.specs.declared.kind.LineKind.{LineKind}
-use Rattle.abc_lines.specs.declared.kind.LineKind.TheVariants as kinds
-use Rattle.abc_lines.specs.Kinds.{kind_of}
+use Rattle.abc_lines.specs.{declared.book.Line.Line, declared.fault.Fault.Fault, declared.fault.FaultKind.FaultKind, declared.fault.TuneError.TuneError, declared.kind.LineKind.LineKind, Kinds.kind_of}
 use Rattle.abc_pieces.specs.declared.token.Token.{Token}
-use Rattle.abc_pieces.specs.declared.token.Token.TheVariants as token
 use Rattle.abc_notes.specs.declared.part.Len.{Len}
-use Rattle.abc_tokens.specs.declared.token.Placed.{Placed}
-use Rattle.abc_tokens.specs.Tokens.{FrontOf}
-use Rattle.abc_fields.specs.declared.directive.Breaks.{Breaks}
-use Rattle.abc_fields.specs.declared.field.Field.{Field}
-use Rattle.abc_fields.specs.declared.field.Field.TheVariants as fields
-use Rattle.abc_header.specs.declared.header.Header.{Header}
-use Rattle.abc_fields.specs.Fields.{field_of, named_field}
-use Rattle.abc_header.specs.Voicing.{with_id}
-use Rattle.abc_steps.specs.declared.step.Sound.{Sound}
-use Rattle.abc_steps.specs.declared.step.Step.{Step}
-use Rattle.abc_steps.specs.declared.step.Step.TheVariants as step
-use Rattle.abc_steps.specs.declared.step.Item.{Item}
-use Rattle.abc_steps.specs.declared.step.Item.TheVariants as item
+use Rattle.abc_tokens.specs.{declared.token.Placed.Placed, Tokens.FrontOf}
+use Rattle.abc_fields.specs.{declared.directive.Breaks.Breaks, declared.field.Field.Field, Fields.field_of, Fields.named_field}
+use Rattle.abc_header.specs.{declared.header.Header.Header, Voicing.with_id}
+use Rattle.abc_steps.specs.{declared.step.Sound.Sound, declared.step.Step.Step, declared.step.Item.Item}
 use Rattle.abc_items.specs.Voices.{stood, ids_after, declared_ids}
 
 pub data Given : Type 0 where
@@ -36,16 +17,16 @@ pub data Given : Type 0 where
   fails : Fault → Given
 
 abbrev pub step_at : Step → ℕ → ℕ → List Given
-step_at s line column = gives (item.Step (stood s line column)) ∷ []
+step_at s line column = gives (Item.Step (stood s line column)) ∷ []
 
 -- A field: keys, meters and unit lengths are steps, a voice becomes current, words are kept; every
 -- other field says nothing in a body. What is no good field is a fault at its place.
 abbrev pub field_item : Field → ℕ → ℕ → List Given
-field_item (fields.Key text) line column = step_at (step.Key text) line column
-field_item (fields.Meter meter) line column = step_at (step.Meter meter) line column
-field_item (fields.Unit unit) line column = step_at (step.Unit unit) line column
-field_item (fields.Voice def) line column = gives (item.Voice def line column) ∷ []
-field_item (fields.Words text) line column = gives (item.Words text line) ∷ []
+field_item (Field.Key text) line column = step_at (Step.Key text) line column
+field_item (Field.Meter meter) line column = step_at (Step.Meter meter) line column
+field_item (Field.Unit unit) line column = step_at (Step.Unit unit) line column
+field_item (Field.Voice def) line column = gives (Item.Voice def line column) ∷ []
+field_item (Field.Words text) line column = gives (Item.Words text line) ∷ []
 field_item _ line column = []
 
 abbrev pub field_given : Result Field FaultKind → ℕ → ℕ → List Given
@@ -68,28 +49,28 @@ abbrev pub is_on : Breaks → ℕ → Bool
 is_on breaks byte = if byte == 36 then breaks.dollar else breaks.bang
 
 abbrev pub cut_given : Bool → ℕ → ℕ → List Given
-cut_given true line column = step_at step.Break line column
+cut_given true line column = step_at Step.Break line column
 cut_given false line column = []
 
 unfoldable pub token_given : Breaks → Line → ℕ → Token → List Given
-token_given breaks line column (token.Note head len) = step_at (step.Sound (sound (head ∷ []) true len.num len.den)) line.number column
-token_given breaks line column (token.Rest seen len) = step_at (step.Sound (sound [] seen len.num len.den)) line.number column
-token_given breaks line column (token.Measures seen count) = step_at (step.Measures seen count) line.number column
-token_given breaks line column (token.Chord heads decos len) =
-    step_at (step.Sound (record { heads = map head_of heads; seen = true; decos = decos; num = (first_len heads).num * len.num; den = (first_len heads).den * len.den })) line.number column
-token_given breaks line column (token.Grace slash body) = step_at (step.Grace slash body) line.number column
-token_given breaks line column (token.Tuplet p q r) = step_at (step.Tuplet p q r) line.number column
-token_given breaks line column token.SlurOn = step_at step.SlurOn line.number column
-token_given breaks line column token.SlurOff = step_at step.SlurOff line.number column
-token_given breaks line column token.Tie = step_at step.Tie line.number column
-token_given breaks line column (token.Broken right dots) = step_at (step.Broken right dots) line.number column
-token_given breaks line column (token.Bar bar) = step_at (step.Bar bar) line.number column
-token_given breaks line column (token.Ending text) = step_at (step.Ending text) line.number column
-token_given breaks line column (token.Deco deco) = step_at (step.Deco deco) line.number column
-token_given breaks line column (token.Says text) = step_at (step.Says text) line.number column
-token_given breaks line column (token.Inline letter text) = field_given (named_field letter text) line.number column
-token_given breaks line column token.Cut = cut_given (is_on breaks (get_or line.text (column - 1) 0)) line.number column
-token_given breaks line column token.Space = step_at step.Space line.number column
+token_given breaks line column (Token.Note head len) = step_at (Step.Sound (sound (head ∷ []) true len.num len.den)) line.number column
+token_given breaks line column (Token.Rest seen len) = step_at (Step.Sound (sound [] seen len.num len.den)) line.number column
+token_given breaks line column (Token.Measures seen count) = step_at (Step.Measures seen count) line.number column
+token_given breaks line column (Token.Chord heads decos len) =
+    step_at (Step.Sound (record { heads = map head_of heads; seen = true; decos = decos; num = (first_len heads).num * len.num; den = (first_len heads).den * len.den })) line.number column
+token_given breaks line column (Token.Grace slash body) = step_at (Step.Grace slash body) line.number column
+token_given breaks line column (Token.Tuplet p q r) = step_at (Step.Tuplet p q r) line.number column
+token_given breaks line column Token.SlurOn = step_at Step.SlurOn line.number column
+token_given breaks line column Token.SlurOff = step_at Step.SlurOff line.number column
+token_given breaks line column Token.Tie = step_at Step.Tie line.number column
+token_given breaks line column (Token.Broken right dots) = step_at (Step.Broken right dots) line.number column
+token_given breaks line column (Token.Bar bar) = step_at (Step.Bar bar) line.number column
+token_given breaks line column (Token.Ending text) = step_at (Step.Ending text) line.number column
+token_given breaks line column (Token.Deco deco) = step_at (Step.Deco deco) line.number column
+token_given breaks line column (Token.Says text) = step_at (Step.Says text) line.number column
+token_given breaks line column (Token.Inline letter text) = field_given (named_field letter text) line.number column
+token_given breaks line column Token.Cut = cut_given (is_on breaks (get_or line.text (column - 1) 0)) line.number column
+token_given breaks line column Token.Space = step_at Step.Space line.number column
 
 abbrev pub placed_given : Breaks → Line → Placed → List Given
 placed_given breaks line placed = token_given breaks line placed.column placed.token
@@ -100,7 +81,7 @@ abbrev pub is_joined : List ℕ → Bool
 is_joined text = ends_with nat_eq text (92 ∷ [])
 
 abbrev pub end_item : Breaks → Line → Item
-end_item breaks line = item.LineEnd (is_joined line.text) (breaks.eol && not (is_joined line.text)) line.number (length line.text + 1)
+end_item breaks line = Item.LineEnd (is_joined line.text) (breaks.eol && not (is_joined line.text)) line.number (length line.text + 1)
 
 abbrev pub end_given : Breaks → Line → Option Fault → List Given
 end_given breaks line None = gives (end_item breaks line) ∷ []
@@ -112,7 +93,7 @@ abbrev pub MusicGives : Breaks → Line → List Given → Type 0
 MusicGives breaks line given = (tokens : List Placed) × (fault : Option Fault) × FrontOf breaks.bang line tokens fault × (given ≡ flat_map (placed_given breaks line) tokens ++ end_given breaks line fault)
 
 abbrev pub KindGives : Breaks → Line → LineKind → List Given → Type 0
-KindGives breaks line kinds.Music given = MusicGives breaks line given
+KindGives breaks line LineKind.Music given = MusicGives breaks line given
 KindGives breaks line _ given = given ≡ field_given (field_of line.text) line.number 1
 
 abbrev pub LineGives : Breaks → Line → List Given → Type 0
@@ -124,11 +105,11 @@ pub data BodyGives (breaks : Breaks) : List Line → List Given → Type 0 where
 
 -- a voice field that mentions a seventeenth voice is a fault, `ids` being those mentioned before
 abbrev pub voice_judged : Bool → Item → ℕ → ℕ → Given
-voice_judged true i line column = fails (record { kind = faults.TooManyVoices; line = line; column = column })
+voice_judged true i line column = fails (record { kind = FaultKind.TooManyVoices; line = line; column = column })
 voice_judged false i line column = gives i
 
 abbrev pub item_judged : List (List ℕ) → Item → Given
-item_judged ids (item.Voice def line column) = voice_judged (nat_lt 16 (length (with_id ids def.id))) (item.Voice def line column) line column
+item_judged ids (Item.Voice def line column) = voice_judged (nat_lt 16 (length (with_id ids def.id))) (Item.Voice def line column) line column
 item_judged ids i = gives i
 
 abbrev pub judged : List (List ℕ) → List Given → List Given
@@ -161,5 +142,5 @@ pub record HasFault (header : Header) (lines : List Line) (fault : Fault) : Type
   pub first : first_fault (judged (declared_ids header) given) ≡ Some fault
 
 abbrev pub IsBodyError : Header → List Line → TuneError → Type 0
-IsBodyError header lines errors.Memory = ⊤
-IsBodyError header lines (errors.Fault fault) = HasFault header lines fault
+IsBodyError header lines TuneError.Memory = ⊤
+IsBodyError header lines (TuneError.Fault fault) = HasFault header lines fault

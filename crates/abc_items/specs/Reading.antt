@@ -1,22 +1,17 @@
 -- Between what a body is and the code: what has been read so far, whatever follows.
 use Rattle.std.specs.Prelude.{◌≡◌, ℕ, List, [], ◌∷◌, ◌++◌, take, Option, Some, None, Bool, true, false, ⊤}
-use Rattle.abc_lines.specs.declared.book.Line.{Line}
-use Rattle.abc_lines.specs.declared.fault.Fault.{Fault}
-use Rattle.abc_lines.specs.declared.fault.FaultKind.TheVariants as faults
-use Rattle.abc_lines.specs.declared.fault.TuneError.{TuneError}
-use Rattle.abc_lines.specs.declared.fault.TuneError.TheVariants as errors
+use Rattle.abc_lines.specs.declared.{book.Line.Line, fault.Fault.Fault, fault.TuneError.TuneError, fault.FaultKind.FaultKind}
 use Rattle.abc_fields.specs.declared.directive.Breaks.{Breaks}
 use Rattle.abc_steps.specs.declared.step.Item.{Item}
-use Rattle.abc_items.specs.declared.body.Body.{Body}
-use Rattle.abc_items.specs.Body.{Given, gives, fails, BodyGives, judged, first_fault, items_in}
+use Rattle.abc_items.specs.{declared.body.Body.Body, Body.Given, Body.gives, Body.fails, Body.BodyGives, Body.judged, Body.first_fault, Body.items_in}
 
 abbrev pub maybe_given : Option Item → List Given
 maybe_given None = []
 maybe_given (Some i) = gives i ∷ []
 
 abbrev pub IsGivenError : List Given → TuneError → Type 0
-IsGivenError given errors.Memory = ⊤
-IsGivenError given (errors.Fault fault) = given ≡ fails fault ∷ []
+IsGivenError given TuneError.Memory = ⊤
+IsGivenError given (TuneError.Fault fault) = given ≡ fails fault ∷ []
 
 -- what is given has no fault, and whatever follows goes on behind it
 pub record Reads (before : Body) (given : List Given) (after : Body) : Type 0 where
@@ -24,8 +19,8 @@ pub record Reads (before : Body) (given : List Given) (after : Body) : Type 0 wh
   pub items : (h : List Given) → before.items ++ items_in (given ++ h) ≡ after.items ++ items_in h
 
 abbrev pub Stops : Body → List Given → TuneError → Type 0
-Stops before given errors.Memory = ⊤
-Stops before given (errors.Fault fault) = first_fault (judged before.ids given) ≡ Some fault
+Stops before given TuneError.Memory = ⊤
+Stops before given (TuneError.Fault fault) = first_fault (judged before.ids given) ≡ Some fault
 
 pub record ReadsSome (Gives : List Given → Type 0) (before after : Body) : Type 0 where
   pub given : List Given
@@ -38,17 +33,17 @@ pub record StopsSome (Gives : List Given → Type 0) (before : Body) (e : TuneEr
   pub stops : Stops before given e
 
 abbrev pub StopsBy : (List Given → Type 0) → Body → TuneError → Type 0
-StopsBy Gives before errors.Memory = ⊤
-StopsBy Gives before (errors.Fault fault) = StopsSome Gives before (errors.Fault fault)
+StopsBy Gives before TuneError.Memory = ⊤
+StopsBy Gives before (TuneError.Fault fault) = StopsSome Gives before (TuneError.Fault fault)
 
 abbrev pub LinesStop : Breaks → List Line → Body → TuneError → Type 0
-LinesStop breaks lines before errors.Memory = ⊤
-LinesStop breaks lines before (errors.Fault fault) = (count : ℕ) × StopsSome (BodyGives breaks (take count lines)) before (errors.Fault fault)
+LinesStop breaks lines before TuneError.Memory = ⊤
+LinesStop breaks lines before (TuneError.Fault fault) = (count : ℕ) × StopsSome (BodyGives breaks (take count lines)) before (TuneError.Fault fault)
 
 abbrev pub judged_as : Option Fault → Item → Given
 judged_as None i = gives i
 judged_as (Some fault) i = fails fault
 
 abbrev pub past_fault : Bool → ℕ → ℕ → Option Fault
-past_fault true line column = Some (record { kind = faults.TooManyVoices; line = line; column = column })
+past_fault true line column = Some (record { kind = FaultKind.TooManyVoices; line = line; column = column })
 past_fault false line column = None

@@ -2,30 +2,22 @@
 -- which steps of the body are its own.
 use Rattle.std.specs.Prelude.{ℕ, List, [], ◌∷◌, ◌++◌, ◌==◌, ◌&&◌, not, Bool, true, false, if◌then◌else◌, map, fold, find, length, Option, Some, None, unwrap_or}
 use Rattle.std.specs.Str.{bytes_eq}
-use Rattle.mus_units.specs.declared.pitch.Clef.{Clef}
-use Rattle.mus_units.specs.declared.note.Wish.{Wish}
-use Rattle.mus_units.specs.declared.note.Wish.TheVariants as wishes
-use Rattle.abc_fields.specs.declared.voice.VoiceDef.{VoiceDef}
-use Rattle.abc_header.specs.declared.header.Header.{Header}
-use Rattle.abc_fields.specs.Last.{last_of}
-use Rattle.abc_header.specs.Voicing.{with_id}
-use Rattle.abc_steps.specs.declared.step.Step.{Step}
-use Rattle.abc_steps.specs.declared.step.Step.TheVariants as step
-use Rattle.abc_steps.specs.declared.step.Stood.{Stood}
-use Rattle.abc_steps.specs.declared.step.Item.{Item}
-use Rattle.abc_steps.specs.declared.step.Item.TheVariants as item
+use Rattle.mus_units.specs.{declared.pitch.Clef.Clef, declared.note.Wish.Wish}
+use Rattle.abc_fields.specs.{declared.voice.VoiceDef.VoiceDef, Last.last_of}
+use Rattle.abc_header.specs.{declared.header.Header.Header, Voicing.with_id}
+use Rattle.abc_steps.specs.{declared.step.Step.Step, declared.step.Stood.Stood, declared.step.Item.Item}
 use Rattle.abc_items.specs.declared.voices.VoiceStart.{VoiceStart}
 
 -- whether a step makes its voice, and its line one of its voice: spaces, line breaks, line ends
 -- and fields don't
 unfoldable pub claims : Step → Bool
-claims step.Space = false
-claims step.Break = false
-claims step.LineEnd = false
-claims (step.Key text) = false
-claims (step.Meter meter) = false
-claims (step.Unit unit) = false
-claims (step.Clef clef) = false
+claims Step.Space = false
+claims Step.Break = false
+claims Step.LineEnd = false
+claims (Step.Key text) = false
+claims (Step.Meter meter) = false
+claims (Step.Unit unit) = false
+claims (Step.Clef clef) = false
 claims _ = true
 
 -- the id of the voice that music without any voice makes
@@ -40,10 +32,10 @@ ids_by_step [] false = []
 ids_by_step (id ∷ ids) b = id ∷ ids
 
 abbrev pub ids_after : List (List ℕ) → Item → List (List ℕ)
-ids_after ids (item.Step s) = ids_by_step ids (claims s.step)
-ids_after ids (item.LineEnd joined breaks line column) = ids
-ids_after ids (item.Voice def line column) = with_id ids def.id
-ids_after ids (item.Words text line) = ids
+ids_after ids (Item.Step s) = ids_by_step ids (claims s.step)
+ids_after ids (Item.LineEnd joined breaks line column) = ids
+ids_after ids (Item.Voice def line column) = with_id ids def.id
+ids_after ids (Item.Words text line) = ids
 
 abbrev pub declared_ids : Header → List (List ℕ)
 declared_ids header = map (λ (def : VoiceDef). def.id) header.voices
@@ -67,17 +59,17 @@ declared header id = find (λ (def : VoiceDef). bytes_eq def.id id) header.voice
 -- the clef of the first voice field of an id; none where music that stands before any voice field
 -- has mentioned the voice 1. `alone` says that no voice was declared or named so far.
 abbrev pub decides : List ℕ → Bool → Item → Bool
-decides id alone (item.Voice def line column) = bytes_eq def.id id
-decides id alone (item.Step s) = alone && claims s.step && bytes_eq id voice_one
+decides id alone (Item.Voice def line column) = bytes_eq def.id id
+decides id alone (Item.Step s) = alone && claims s.step && bytes_eq id voice_one
 decides id alone _ = false
 
 abbrev pub clef_in : Item → Option Clef
-clef_in (item.Voice def line column) = def.clef
+clef_in (Item.Voice def line column) = def.clef
 clef_in _ = None
 
 abbrev pub still_alone : Bool → Item → Bool
-still_alone alone (item.Voice def line column) = false
-still_alone alone (item.Step s) = alone && not (claims s.step)
+still_alone alone (Item.Voice def line column) = false
+still_alone alone (Item.Step s) = alone && not (claims s.step)
 still_alone alone _ = alone
 
 abbrev pub first_clef : List ℕ → Bool → List Item → Option Clef
@@ -97,12 +89,12 @@ wish_if true wish = Some wish
 wish_if false wish = None
 
 abbrev pub wish_in : List ℕ → Item → Option Wish
-wish_in id (item.Voice def line column) = wish_if (bytes_eq def.id id && def.asks) def.stem
+wish_in id (Item.Voice def line column) = wish_if (bytes_eq def.id id && def.asks) def.stem
 wish_in id _ = None
 
 abbrev pub declared_wish : Option VoiceDef → Wish
-declared_wish None = wishes.Auto
-declared_wish (Some def) = if def.asks then def.stem else wishes.Auto
+declared_wish None = Wish.Auto
+declared_wish (Some def) = if def.asks then def.stem else Wish.Auto
 
 abbrev pub start_stem : Header → List Item → List ℕ → Wish
 start_stem header items id = unwrap_or (last_of (wish_in id) items) (declared_wish (declared header id))
@@ -120,12 +112,12 @@ abbrev pub stood : Step → ℕ → ℕ → Stood
 stood s line column = record { step = s; line = line; column = column }
 
 abbrev pub break_if : Bool → ℕ → ℕ → List Stood
-break_if true line column = stood step.Break line column ∷ []
+break_if true line column = stood Step.Break line column ∷ []
 break_if false line column = []
 
 abbrev pub clef_step : Option Clef → ℕ → ℕ → List Stood
 clef_step None line column = []
-clef_step (Some clef) line column = stood (step.Clef clef) line column ∷ []
+clef_step (Some clef) line column = stood (Step.Clef clef) line column ∷ []
 
 abbrev pub one_if : Bool → Stood → List Stood
 one_if true s = s ∷ []
@@ -136,13 +128,13 @@ named_step true clef line column = clef_step clef line column
 named_step false clef line column = []
 
 abbrev pub steps_in : List ℕ → List ℕ → Item → List Stood
-steps_in id now (item.Step s) = one_if (bytes_eq id now) s
-steps_in id now (item.LineEnd joined breaks line column) = stood step.LineEnd line column ∷ break_if (breaks && bytes_eq id now) line column
-steps_in id now (item.Voice def line column) = named_step (bytes_eq id def.id) def.clef line column
-steps_in id now (item.Words text line) = []
+steps_in id now (Item.Step s) = one_if (bytes_eq id now) s
+steps_in id now (Item.LineEnd joined breaks line column) = stood Step.LineEnd line column ∷ break_if (breaks && bytes_eq id now) line column
+steps_in id now (Item.Voice def line column) = named_step (bytes_eq id def.id) def.clef line column
+steps_in id now (Item.Words text line) = []
 
 abbrev pub voice_next : Item → List ℕ → List ℕ
-voice_next (item.Voice def line column) now = def.id
+voice_next (Item.Voice def line column) now = def.id
 voice_next _ now = now
 
 abbrev pub steps_from : List ℕ → List ℕ → List Item → List Stood

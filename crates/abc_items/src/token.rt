@@ -3,9 +3,8 @@
 ghost use Rattle.std.specs.Prelude.{◌≡◌, ◌≤◌, ◌^◌, true, ◌*◌, ◌-◌, ◌∷◌, [], map, get_or, IfOk, IfErr, IfSome, Ok, Err};
 ghost use Rattle.abc_tokens.specs.Good.{AreGoodHeads, IsGoodLen, IsGoodToken};
 ghost use Rattle.abc_steps.specs.Good.{IsGoodSound};
-ghost use Rattle.abc_fields.specs.Fields.{IsGoodField};
+ghost use Rattle.abc_fields.specs.Fields.{IsGoodField, named_field};
 ghost use Rattle.abc_items.specs.Good.{IsGoodItem};
-ghost use Rattle.abc_fields.specs.Fields.{named_field};
 ghost use Rattle.abc_items.specs.Body.{head_of, first_len, sound, is_on, cut_given, step_at, field_item, field_given, token_given, placed_given};
 ghost use Rattle.abc_items.specs.Reading.{maybe_given, IsGivenError};
 

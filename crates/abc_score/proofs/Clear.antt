@@ -1,31 +1,14 @@
 -- What a score without faults has: voices without verses that are too many, and at most 2000 measures.
 use Rattle.std.proofs.Common.{◌≡◌, ◌∙◌, refl, sym, ap, subst, ℕ, ◌+◌, ◌-◌, ◌≤◌, ◌<◌, List, [], ◌∷◌, ◌++◌, append-nil, append_assoc, Bool, true, false, cond, None, arith, map, reverse}
-use Rattle.std.proofs.lemmas.List.{reverse-append}
-use Rattle.std.proofs.lemmas.List.Elements.{All-nil, All-cons}
-use Rattle.std.specs.Prelude.{fold, max, flat_map, nat_le, is_none}
-use Rattle.std.specs.List.{All}
+use Rattle.std.{proofs.lemmas.List.reverse-append, proofs.lemmas.List.Elements.All-nil, proofs.lemmas.List.Elements.All-cons, specs.Prelude.fold, specs.Prelude.max, specs.Prelude.flat_map, specs.Prelude.nat_le, specs.Prelude.is_none, specs.List.All}
 use Rattle.abc_lines.specs.declared.fault.FaultKind.{FaultKind}
-use Rattle.abc_lines.specs.declared.fault.FaultKind.TheVariants as kinds
-use Rattle.abc_steps.specs.declared.step.Item.{Item}
-use Rattle.abc_steps.specs.declared.step.Sound.{Sound}
-use Rattle.abc_steps.specs.declared.step.Step.{Step}
-use Rattle.abc_steps.specs.declared.step.Step.TheVariants as step
-use Rattle.abc_steps.specs.declared.step.Stood.{Stood}
-use Rattle.abc_steps.specs.declared.force.InForce.{InForce}
-use Rattle.abc_steps.specs.Looks.{Steps, since_event}
-use Rattle.abc_steps.specs.Kinds.{is_event}
-use Rattle.abc_steps.specs.Counts.{further, measure_at, measures_begun}
-use Rattle.abc_steps.specs.Lengths.{written_length}
-use Rattle.mus_units.specs.Parts.{parts_list}
-use Rattle.abc_faults.specs.Faults.{any_off, fault_if, faults_of, faults_in, grace_faults, is_free, is_past, rest_faults, sound_faults}
-use Rattle.abc_faults.specs.Weights.{crowded}
+use Rattle.abc_steps.specs.{declared.step.Item.Item, declared.step.Sound.Sound, declared.step.Step.Step, declared.step.Stood.Stood, declared.force.InForce.InForce, Looks.Steps, Looks.since_event, Kinds.is_event, Counts.further, Counts.measure_at, Counts.measures_begun, Lengths.written_length}
 use Rattle.abc_steps.specs.Places.{place_at, measure_of}
+use Rattle.mus_units.specs.Parts.{parts_list}
+use Rattle.abc_faults.specs.{Faults.any_off, Faults.fault_if, Faults.faults_of, Faults.faults_in, Faults.grace_faults, Faults.is_free, Faults.is_past, Faults.rest_faults, Faults.sound_faults, Weights.crowded}
 use Rattle.abc_words.specs.Verses.{verse_fault, verse_faults}
 use Rattle.abc_words.specs.Verses.{first_of as head_of}
-use Rattle.abc_score.specs.declared.voices.VoiceRead.{VoiceRead}
-use Rattle.abc_score.specs.Faults.{voice_faults, voice_weights, faults_of_voices}
-use Rattle.abc_score.specs.Score.{most_measures, own_measures}
-use Rattle.abc_score.proofs.Basics.{none_before, none_behind}
+use Rattle.abc_score.{specs.declared.voices.VoiceRead.VoiceRead, specs.Faults.voice_faults, specs.Faults.voice_weights, specs.Faults.faults_of_voices, specs.Score.most_measures, specs.Score.own_measures, proofs.Basics.none_before, proofs.Basics.none_behind}
 
 -- a test that gives no fault
 pub no_fault : (b : Bool) (kind : FaultKind) (at : Stood) → fault_if b kind at ≡ [] → b ≡ false
@@ -40,29 +23,29 @@ unfolding sound_faults
 sound_within first before behind at s e =
     let now = place_at first before in
     let length = written_length now.force.unit s before behind in
-    let undrawable = fault_if (is_none (parts_list length.num length.den)) kinds.Undrawable at in
-    let off = fault_if (any_off now.force.clef s.heads) kinds.StepRange at in
-    let past = fault_if (is_past (measure_of now)) kinds.TooManyMeasures at in
+    let undrawable = fault_if (is_none (parts_list length.num length.den)) FaultKind.Undrawable at in
+    let off = fault_if (any_off now.force.clef s.heads) FaultKind.StepRange at in
+    let past = fault_if (is_past (measure_of now)) FaultKind.TooManyMeasures at in
     let e' : past ≡ [] = none_behind (undrawable ++ off) past e in
-    within (measure_at before) (no_fault (is_past (measure_of now)) kinds.TooManyMeasures at e')
+    within (measure_at before) (no_fault (is_past (measure_of now)) FaultKind.TooManyMeasures at e')
 
 rest_within : (first : InForce) (before : Steps) (at : Stood) (count : ℕ) → rest_faults (place_at first before) at count ≡ [] → measure_at before + (count - 1) < 2000
 rest_within first before at count e =
     let now = place_at first before in
-    let free = fault_if (is_free now.force.meter) kinds.RestWithoutMeter at in
-    let past = fault_if (is_past (measure_of now + (count - 1))) kinds.TooManyMeasures at in
+    let free = fault_if (is_free now.force.meter) FaultKind.RestWithoutMeter at in
+    let past = fault_if (is_past (measure_of now + (count - 1))) FaultKind.TooManyMeasures at in
     let e' : past ≡ [] = none_behind free past e in
-    within (measure_at before + (count - 1)) (no_fault (is_past (measure_of now + (count - 1))) kinds.TooManyMeasures at e')
+    within (measure_at before + (count - 1)) (no_fault (is_past (measure_of now + (count - 1))) FaultKind.TooManyMeasures at e')
 
 -- one step more: an event without a fault stands in a good measure
 step_within : (first : InForce) (before behind : Steps) (at : Stood) (s : Step) → faults_of (place_at first before) before at behind s ≡ [] → measures_begun before ≤ 2000
     → cond (is_event s) (measure_at before + further s + 1) (measures_begun before) ≤ 2000
 unfolding faults_of is_event further
-step_within first before behind at (step.Sound s) e few =
+step_within first before behind at (Step.Sound s) e few =
     let now = place_at first before in
     let less = sound_within first before behind at s (none_before (sound_faults now before at s behind) (grace_faults now.force.clef (since_event before)) e) in
     omega (arith, less)
-step_within first before behind at (step.Measures seen count) e few =
+step_within first before behind at (Step.Measures seen count) e few =
     let now = place_at first before in
     let less = rest_within first before at count (none_before (rest_faults now at count) (grace_faults now.force.clef (since_event before)) e) in
     omega (arith, less)

@@ -1,23 +1,12 @@
 -- The events of a body, each with the graces before it, whatever tuplets are around them.
 use Rattle.std.proofs.Common.{◌≡◌, ◌∙◌, refl, sym, ap, subst, ℕ, suc, ◌*◌, List, [], ◌∷◌, ◌++◌, map, length, append-nil, append_assoc, IfSome}
-use Rattle.std.specs.Prelude.{⊤, flat_map}
-use Rattle.std.specs.List.{All, AllByRecursion}
-use Rattle.std.proofs.lemmas.List.{map-append}
-use Rattle.std.proofs.lemmas.List.Concat.{flat_map-append}
-use Rattle.std.proofs.lemmas.List.Elements.{All-nil, All-cons}
-use Rattle.mus_units.specs.declared.pitch.Clef.{Clef}
-use Rattle.mus_units.specs.Good.{IsGoodKey, IsGoodMeter}
-use Rattle.mus_score.specs.declared.score.Event.{Event}
-use Rattle.mus_score.specs.declared.score.Flat.{Flat}
-use Rattle.mus_score.specs.declared.score.Music.{Music}
-use Rattle.mus_score.specs.declared.times.Waits.{Waits}
+use Rattle.std.{proofs.lemmas.List.map-append, proofs.lemmas.List.Concat.flat_map-append, proofs.lemmas.List.Elements.All-nil, proofs.lemmas.List.Elements.All-cons, specs.Prelude.⊤, specs.Prelude.flat_map, specs.List.All, specs.List.AllByRecursion}
+use Rattle.mus_units.specs.{declared.pitch.Clef.Clef, Good.IsGoodKey, Good.IsGoodMeter}
+use Rattle.mus_score.specs.{declared.score.Event.Event, declared.score.Flat.Flat, declared.score.Music.Music, declared.times.Waits.Waits, GoodScore.AreCounted, GoodScore.AreInReach, GoodScore.IsGoodEvent, GoodScore.IsInReach, GoodScore.clef_at, Times.Leafing, Times.in_row, Times.leaves_within}
+use Rattle.mus_score.specs.Times.{flats_of, nothing}
+use Rattle.abc_events.specs.{declared.leaves.Leaf.Leaf, Nesting.Forest, Nesting.none_more, Nesting.one, Nesting.group, Nesting.nest, Nesting.music_of, Nesting.tree_of}
+use Rattle.abc_score.proofs.{Basics.front_all, Basics.back_all, Rows.rows, Rows.leaf_rows, Rows.nest_rows, Rows.leaves_tuplet}
 use Rattle.mus_score.specs.declared.score.Music.TheVariants as music
-use Rattle.mus_score.specs.GoodScore.{AreCounted, AreInReach, IsGoodEvent, IsInReach, clef_at}
-use Rattle.mus_score.specs.Times.{Leafing, in_row, leaves_within, flats_of, nothing}
-use Rattle.abc_events.specs.declared.leaves.Leaf.{Leaf}
-use Rattle.abc_events.specs.Nesting.{Forest, none_more, one, group, nest, music_of, tree_of}
-use Rattle.abc_score.proofs.Basics.{front_all, back_all}
-use Rattle.abc_score.proofs.Rows.{rows, leaf_rows, nest_rows, leaves_tuplet}
 
 -- an event and the graces before it
 abbrev pub Core : Type 0

@@ -1,19 +1,10 @@
 -- The bars that are forced among n measures rise, each behind the first measure and before the last bar.
 use Rattle.std.proofs.Common.{◌≡◌, refl, ℕ, ◌+◌, ◌≤◌, ◌<◌, List, [], ◌∷◌, ◌++◌, Bool, true, false, cond, reverse, arith}
-use Rattle.std.proofs.lemmas.Bool.Decides.{nat_tests}
-use Rattle.std.specs.Prelude.{⊤, ◌==◌, ◌&&◌, nat_le, nat_lt}
-use Rattle.std.specs.List.{list_any}
+use Rattle.std.{proofs.lemmas.Bool.Decides.nat_tests, specs.Prelude.⊤, specs.Prelude.◌==◌, specs.Prelude.◌&&◌, specs.Prelude.nat_le, specs.Prelude.nat_lt, specs.List.list_any}
 use Rattle.mus_score.specs.Walks.{RiseWithin}
-use Rattle.abc_steps.specs.declared.step.Step.{Step}
-use Rattle.abc_steps.specs.declared.step.Step.TheVariants as step
-use Rattle.abc_steps.specs.declared.step.Stood.{Stood}
-use Rattle.abc_steps.specs.declared.counts.Counts.{Counts}
-use Rattle.abc_steps.specs.Looks.{Steps}
-use Rattle.abc_steps.specs.Counts.{all_further, begins_group, counts_of, further, groups, measure_at, nearest_at}
+use Rattle.abc_steps.specs.{declared.step.Step.Step, declared.step.Stood.Stood, declared.counts.Counts.Counts, Looks.Steps, Counts.all_further, Counts.begins_group, Counts.counts_of, Counts.further, Counts.groups, Counts.measure_at, Counts.nearest_at}
 use Rattle.abc_events.specs.Bars.{forced_at, forced_bars, forced_behind, is_forced, is_near_bar, with_bar}
-use Rattle.abc_score.specs.declared.voices.VoiceRead.{VoiceRead}
-use Rattle.abc_score.specs.Score.{forced_of}
-use Rattle.abc_score.proofs.Basics.{both_hold, neither}
+use Rattle.abc_score.{specs.declared.voices.VoiceRead.VoiceRead, specs.Score.forced_of, proofs.Basics.both_hold, proofs.Basics.neither}
 
 -- bars that rise from behind one, before n and not past another
 abbrev Rises : ℕ → ℕ → ℕ → List ℕ → Type 0
@@ -52,7 +43,7 @@ inside bar n e =
 
 step_rises : (n : ℕ) (counts : Counts) (s : Step) (bs : List ℕ) → Rises 0 n (counts.groups + counts.further) bs → Rises 0 n (counts.groups + counts.further) (forced_behind n counts s bs)
 unfolding forced_behind
-step_rises n counts step.Break bs rise = by_test (is_forced n counts) refl where
+step_rises n counts Step.Break bs rise = by_test (is_forced n counts) refl where
   by_test : (t : Bool) → is_forced n counts ≡ t → Rises 0 n (counts.groups + counts.further) (cond t (with_bar (counts.groups + counts.further) bs) bs)
   by_test true e =
       let bar = counts.groups + counts.further in

@@ -1,27 +1,13 @@
 -- The frame of a score that is put together from voices without faults.
 use Rattle.std.proofs.Common.{◌≡◌, ◌≢◌, ◌∙◌, refl, sym, ℕ, suc, ◌≤◌, List, [], ◌∷◌, length, map, Bool, None, arith}
-use Rattle.std.proofs.lemmas.List.{length-map}
-use Rattle.std.proofs.lemmas.List.Elements.{All-nil, All-cons}
-use Rattle.std.proofs.lemmas.List.FromFn.{length-map-range_with_len}
-use Rattle.std.specs.List.{All, AllByRecursion}
-use Rattle.mus_score.specs.declared.score.Voice.{Voice}
-use Rattle.mus_score.specs.Walks.{Distinct}
-use Rattle.mus_score.proofs.Scores.{all_within_bars, distinct_pairs, rising_bars}
-use Rattle.abc_header.specs.declared.header.Header.{Header}
-use Rattle.abc_header.specs.Headers.{HasGoodValues}
+use Rattle.std.{proofs.lemmas.List.length-map, proofs.lemmas.List.Elements.All-nil, proofs.lemmas.List.Elements.All-cons, proofs.lemmas.List.FromFn.length-map-range_with_len, specs.List.All, specs.List.AllByRecursion}
+use Rattle.mus_score.{specs.declared.score.Voice.Voice, specs.GoodScore.IsLed, specs.Walks.Distinct, proofs.Scores.all_within_bars, proofs.Scores.distinct_pairs, proofs.Scores.rising_bars}
+use Rattle.abc_header.specs.{declared.header.Header.Header, Headers.HasGoodValues}
 use Rattle.abc_steps.specs.declared.step.Item.{Item}
 use Rattle.abc_items.specs.Voices.{unnamed_of}
-use Rattle.abc_events.specs.Bars.{bar_of, bars_of}
-use Rattle.abc_events.specs.Leaves.{leaves_of}
-use Rattle.abc_events.specs.Measures.{measure_of}
-use Rattle.abc_events.specs.Signs.{signs}
-use Rattle.abc_words.specs.Rows.{row_count}
-use Rattle.abc_words.specs.Verses.{verse_fault, verses_of}
-use Rattle.abc_words.proofs.FaultLaws.{few_verses}
-use Rattle.abc_score.specs.declared.voices.VoiceRead.{VoiceRead}
-use Rattle.abc_score.specs.Voices.{AreApart, IsOther, read_ids}
-use Rattle.abc_score.specs.Framed.{IsFramed, IsFramedVoice}
-use Rattle.abc_score.specs.Score.{forced_of, most_measures, score_with, sung_words, voice_of, written_measures}
+use Rattle.abc_events.specs.{Bars.bar_of, Bars.bars_of, Leaves.leaves_of, Measures.measure_of, Signs.signs}
+use Rattle.abc_words.{specs.Rows.row_count, specs.Verses.verse_fault, specs.Verses.verses_of, proofs.FaultLaws.few_verses}
+use Rattle.abc_score.specs.{declared.voices.VoiceRead.VoiceRead, Voices.AreApart, Voices.IsOther, Voices.read_ids, Framed.IsFramed, Framed.IsFramedVoice, Score.forced_of, Score.most_measures, Score.score_with, Score.sung_words, Score.voice_of, Score.written_measures}
 use Rattle.abc_score.proofs.Forced.{forced_rise}
 
 -- a voice has as many measures as it is given
@@ -58,6 +44,7 @@ voice_framed : (header : Header) (items : List Item) (n : ℕ) (v : VoiceRead) �
 unfolding voice_of
 voice_framed header items n v good clear = record {
   few_verses = few_verses (verses_of v.start.id (unnamed_of header) items) (row_count items) clear;
+  near = omega arith;
   key = good.key;
   meter = good.meter;
 }
@@ -67,6 +54,12 @@ voices_framed header items n [] good clear = All-nil IsFramedVoice
 voices_framed header items n (v ∷ voices) good clear =
     All-cons IsFramedVoice (voice_of header items n v) (map (voice_of header items n) voices) (voice_framed header items n v good (clear 0 v (omega arith)))
     (voices_framed header items n voices good (λ k d less. clear (suc k) d (omega arith)))
+
+-- a voice as it is read has its staff for itself
+voices_led : (header : Header) (items : List Item) (n : ℕ) (voices : List VoiceRead) → IsLed (map (voice_of header items n) voices)
+unfolding voice_of
+voices_led header items n [] = tt
+voices_led header items n (v ∷ voices) = refl
 
 pub framed : (header : Header) (items : List Item) (flow : Bool) (voices : List VoiceRead) → HasGoodValues header → All (λ v. verse_fault v.start.id (unnamed_of header) items ≡ None) voices
     → length voices ≤ 16 → AreApart (read_ids voices) → most_measures voices ≤ 2000 → IsFramed (score_with header items flow voices)
@@ -82,4 +75,5 @@ framed header items flow voices good clear few apart within =
       ids = distinct_pairs (map (voice_of header items n) voices) (voices_apart header items n voices apart);
       forced = all_within_bars n (forced_of flow voices n) (forced_rise flow voices n);
       forced_rise = rising_bars n (forced_of flow voices n) (forced_rise flow voices n);
+      led = voices_led header items n voices;
     }

@@ -1,44 +1,18 @@
 -- In each measure of a voice without faults tuplets are full and events good.
 use Rattle.std.proofs.Common.{◌≡◌, ◌∙◌, refl, sym, subst, ℕ, zero, suc, ◌+◌, ◌-◌, ◌≤◌, List, [], ◌∷◌, ◌++◌, length, Bool, true, false, cond, ◌==◌, ◌||◌, reverse, take, None, arith}
-use Rattle.std.proofs.lemmas.List.{reverse-append}
-use Rattle.std.proofs.lemmas.List.Elements.{recursion_from_All}
-use Rattle.std.specs.Prelude.{flat_map}
-use Rattle.std.specs.List.{AllByRecursion, before_first, position_or_len}
-use Rattle.mus_units.specs.declared.note.Deco.{Deco}
-use Rattle.mus_units.specs.declared.key.Meter.{Meter}
-use Rattle.mus_units.specs.Good.{IsGoodMeter}
-use Rattle.mus_score.specs.declared.score.Music.{Music}
-use Rattle.mus_score.specs.Good.{outside}
+use Rattle.std.{proofs.lemmas.List.reverse-append, proofs.lemmas.List.Elements.recursion_from_All, specs.Prelude.flat_map, specs.List.AllByRecursion, specs.List.before_first, specs.List.position_or_len}
+use Rattle.mus_units.specs.{declared.note.Deco.Deco, declared.key.Meter.Meter, Good.IsGoodMeter}
+use Rattle.mus_score.specs.{declared.score.Music.Music, Good.outside}
 use Rattle.abc_notes.specs.declared.part.GraceChord.{GraceChord}
 use Rattle.abc_tokens.specs.Good.{AreGoodGraces}
-use Rattle.abc_steps.specs.declared.step.Sound.{Sound}
-use Rattle.abc_steps.specs.declared.step.Step.{Step}
-use Rattle.abc_steps.specs.declared.step.Step.TheVariants as step
-use Rattle.abc_steps.specs.declared.step.Stood.{Stood}
-use Rattle.abc_steps.specs.declared.force.InForce.{InForce}
-use Rattle.abc_steps.specs.declared.place.Place.{Place}
-use Rattle.abc_steps.specs.declared.tuplets.Taking.{Taking}
-use Rattle.abc_steps.specs.declared.tuplets.Taking.TheVariants as taking
-use Rattle.abc_steps.specs.Counts.{all_further, begins_group, further, groups, measure_at, nearest_at}
-use Rattle.abc_steps.specs.Force.{force_at}
-use Rattle.abc_steps.specs.Good.{IsGoodForce, IsGoodStep, IsGoodStood}
-use Rattle.abc_steps.specs.Kinds.{is_event, is_sound}
-use Rattle.abc_steps.specs.Looks.{Steps, since_event}
-use Rattle.abc_steps.specs.Places.{place_at, measure_of}
-use Rattle.abc_steps.specs.Tuplets.{after_event, fits, is_compound, opened, or_default, taking_at, taking_behind, usual_q}
-use Rattle.abc_events.specs.declared.leaves.Leaf.{Leaf}
-use Rattle.abc_events.specs.declared.leaves.Leaf.TheVariants as leaves
-use Rattle.abc_events.specs.declared.written.Sign.{Sign}
-use Rattle.abc_events.specs.declared.written.Sign.TheVariants as sign
-use Rattle.abc_events.specs.Leaves.{Words, leaves_from, nodes_of, words_at}
-use Rattle.abc_events.specs.Measures.{leaves_in}
-use Rattle.abc_events.specs.Signs.{IsDrawn, further_rests, parted_at, rest_written, signs, signs_of, sound_written}
+use Rattle.abc_steps.specs.{declared.step.Sound.Sound, declared.step.Step.Step, declared.step.Stood.Stood, declared.force.InForce.InForce, declared.place.Place.Place, declared.tuplets.Taking.Taking, Counts.all_further, Counts.begins_group, Counts.further, Counts.groups, Counts.measure_at}
+use Rattle.abc_steps.specs.{Counts.nearest_at, Force.force_at, Good.IsGoodForce, Good.IsGoodStep, Good.IsGoodStood, Kinds.is_event, Kinds.is_sound, Looks.Steps, Looks.since_event, Places.place_at, Places.measure_of, Tuplets.after_event, Tuplets.fits, Tuplets.is_compound, Tuplets.opened}
+use Rattle.abc_steps.specs.Tuplets.{or_default, taking_at, taking_behind, usual_q}
+use Rattle.abc_events.specs.{declared.leaves.Leaf.Leaf, declared.written.Sign.Sign, Leaves.Words, Leaves.leaves_from, Leaves.nodes_of, Leaves.words_at, Measures.leaves_in, Signs.IsDrawn, Signs.further_rests, Signs.parted_at, Signs.rest_written, Signs.signs, Signs.signs_of, Signs.sound_written}
 use Rattle.abc_events.specs.Waits.{graces_in, nothing, waiting_of}
 use Rattle.abc_faults.specs.Faults.{ends_tuplets, faults_in, faults_of, grace_faults, is_free, rest_faults, sound_faults, sounds_behind}
-use Rattle.abc_score.proofs.Nested.{HasSome, IsGoodAt, IsRatio, WellNested, place_of}
-use Rattle.abc_score.proofs.Judging.{IsFew, rest_good, rest_values, sound_good, sound_some}
-use Rattle.abc_score.proofs.Basics.{back_all, front_all, none_before, none_behind}
-use Rattle.abc_score.proofs.Walks.{Enough, default_some, next_enough, none_open, rest_clear, sound_parts, sounds_on, tuplet_clear, walk_force}
+use Rattle.abc_score.proofs.{Nested.HasSome, Nested.IsGoodAt, Nested.IsRatio, Nested.WellNested, Nested.place_of, Judging.IsFew, Judging.rest_good, Judging.rest_values, Judging.sound_good, Judging.sound_some, Basics.back_all, Basics.front_all, Basics.none_before, Basics.none_behind, Walks.Enough}
+use Rattle.abc_score.proofs.Walks.{default_some, next_enough, none_open, rest_clear, sound_parts, sounds_on, tuplet_clear, walk_force}
 
 -- ---- graces that wait
 
@@ -66,7 +40,7 @@ more_graces (x ∷ xs) ys a b = (a.0, more_graces xs ys a.1 b)
 
 step_graces : (s : Step) → IsGoodStep s → AreGoodGraces (graces_in s)
 unfolding graces_in
-step_graces (step.Grace slash body) good = good
+step_graces (Step.Grace slash body) good = good
 step_graces _ good = tt
 
 waits_graces : (waits : Steps) → AllByRecursion IsGoodStood waits → AreGoodGraces (flat_map (λ s. graces_in s.step) waits)
@@ -81,43 +55,43 @@ waiting_graces now before decos all = waits_graces (since_event before) (all_sin
 
 -- what the open tuplets take of the events of a measure
 abbrev pub taken_in : ℕ → ℕ → Taking → Taking
-taken_in k m t = cond (m == k) t taking.Nothing
+taken_in k m t = cond (m == k) t Taking.Nothing
 
 own_event : (k m n : ℕ) (t : Taking) (nodes : List Music) (ls : List Leaf) → n ≡ m → IsGoodAt (place_of t) nodes → HasSome (place_of t) nodes → WellNested (taken_in k n (after_event t)) ls
-    → WellNested (taken_in k m t) (cond (m == k) (leaves.Event m nodes ∷ ls) ls)
+    → WellNested (taken_in k m t) (cond (m == k) (Leaf.Event m nodes ∷ ls) ls)
 own_event k m n t nodes ls same good some h = by_test (m == k) (subst (λ i. WellNested (taken_in k i (after_event t)) ls) same h) where
-  by_test : (b : Bool) → WellNested (cond b (after_event t) taking.Nothing) ls → WellNested (cond b t taking.Nothing) (cond b (leaves.Event m nodes ∷ ls) ls)
+  by_test : (b : Bool) → WellNested (cond b (after_event t) Taking.Nothing) ls → WellNested (cond b t Taking.Nothing) (cond b (Leaf.Event m nodes ∷ ls) ls)
   by_test true h = (good, some, h)
   by_test false h = h
 
 at_event : (k i m n : ℕ) (t : Taking) (nodes : List Music) (ls : List Leaf) → i ≡ m → n ≡ m → IsGoodAt (place_of t) nodes → HasSome (place_of t) nodes → WellNested (taken_in k n (after_event t)) ls
-    → WellNested (taken_in k m t) (cond (i == k) (leaves.Event i nodes ∷ ls) ls)
+    → WellNested (taken_in k m t) (cond (i == k) (Leaf.Event i nodes ∷ ls) ls)
 at_event k i m n t nodes ls is same good some h =
-    subst (λ x. WellNested (taken_in k x t) (cond (i == k) (leaves.Event i nodes ∷ ls) ls)) is (own_event k i n t nodes ls (same ∙ sym is) good some h)
+    subst (λ x. WellNested (taken_in k x t) (cond (i == k) (Leaf.Event i nodes ∷ ls) ls)) is (own_event k i n t nodes ls (same ∙ sym is) good some h)
 
 at_tuplet : (k m n : ℕ) (t : Taking) (p q r : ℕ) (ls : List Leaf) → n ≡ m → fits r t ≡ true → 1 ≤ r → IsRatio p q → WellNested (taken_in k n (opened r t)) ls
-    → WellNested (taken_in k m t) (cond (m == k) (leaves.Opens m p q r ∷ ls) ls)
+    → WellNested (taken_in k m t) (cond (m == k) (Leaf.Opens m p q r ∷ ls) ls)
 at_tuplet k m n t p q r ls same fit some ratio h = by_test (m == k) (subst (λ i. WellNested (taken_in k i (opened r t)) ls) same h) where
-  by_test : (b : Bool) → WellNested (cond b (opened r t) taking.Nothing) ls → WellNested (cond b t taking.Nothing) (cond b (leaves.Opens m p q r ∷ ls) ls)
+  by_test : (b : Bool) → WellNested (cond b (opened r t) Taking.Nothing) ls → WellNested (cond b t Taking.Nothing) (cond b (Leaf.Opens m p q r ∷ ls) ls)
   by_test true h = (fit, some, ratio, h)
   by_test false h = h
 
-at_rest : (k m : ℕ) (nodes : List Music) (ls : List Leaf) → IsGoodAt outside nodes → HasSome outside nodes → WellNested taking.Nothing ls → WellNested taking.Nothing (cond (m == k) (leaves.Event m nodes ∷ ls) ls)
+at_rest : (k m : ℕ) (nodes : List Music) (ls : List Leaf) → IsGoodAt outside nodes → HasSome outside nodes → WellNested Taking.Nothing ls → WellNested Taking.Nothing (cond (m == k) (Leaf.Event m nodes ∷ ls) ls)
 unfolding after_event
 at_rest k m nodes ls good some h = by_test (m == k) where
-  by_test : (b : Bool) → WellNested taking.Nothing (cond b (leaves.Event m nodes ∷ ls) ls)
+  by_test : (b : Bool) → WellNested Taking.Nothing (cond b (Leaf.Event m nodes ∷ ls) ls)
   by_test true = (good, some, h)
   by_test false = h
 
-none_taken : (b : Bool) (t : Taking) → t ≡ taking.Nothing → cond b t taking.Nothing ≡ taking.Nothing
+none_taken : (b : Bool) (t : Taking) → t ≡ Taking.Nothing → cond b t Taking.Nothing ≡ Taking.Nothing
 none_taken true t none = none
 none_taken false t none = refl
 
-from_nothing : (k m : ℕ) (t : Taking) (ls : List Leaf) → t ≡ taking.Nothing → WellNested taking.Nothing ls → WellNested (taken_in k m t) ls
+from_nothing : (k m : ℕ) (t : Taking) (ls : List Leaf) → t ≡ Taking.Nothing → WellNested Taking.Nothing ls → WellNested (taken_in k m t) ls
 from_nothing k m t ls none h = subst (λ x. WellNested x ls) (sym (none_taken (m == k) t none)) h
 
-to_nothing : (k m : ℕ) (ls : List Leaf) → WellNested (taken_in k m taking.Nothing) ls → WellNested taking.Nothing ls
-to_nothing k m ls h = subst (λ x. WellNested x ls) (none_taken (m == k) taking.Nothing refl) h
+to_nothing : (k m : ℕ) (ls : List Leaf) → WellNested (taken_in k m Taking.Nothing) ls → WellNested Taking.Nothing ls
+to_nothing k m ls h = subst (λ x. WellNested x ls) (none_taken (m == k) Taking.Nothing refl) h
 
 same_place : (k m n : ℕ) (t : Taking) (ls : List Leaf) → n ≡ m → WellNested (taken_in k n t) ls → WellNested (taken_in k m t) ls
 same_place k m n t ls same h = subst (λ i. WellNested (taken_in k i t) ls) same h
@@ -133,8 +107,8 @@ unfolding sound_written
 sound_whole now before behind at s = refl
 
 rests_full : (words : List Words) (k : ℕ) (now : Place) (at : Stood) (seen : Bool) (measure n : ℕ) (rest : List Sign) → is_free now.force.meter ≡ false → IsGoodMeter now.force.meter
-    → ((j id : ℕ) → WellNested taking.Nothing (leaves_in k (leaves_from words j id rest)))
-    → (j id : ℕ) → WellNested taking.Nothing (leaves_in k (leaves_from words j id (further_rests now at seen measure n ++ rest)))
+    → ((j id : ℕ) → WellNested Taking.Nothing (leaves_in k (leaves_from words j id rest)))
+    → (j id : ℕ) → WellNested Taking.Nothing (leaves_in k (leaves_from words j id (further_rests now at seen measure n ++ rest)))
 rests_full words k now at seen measure zero rest held good h j id = h j id
 rests_full words k now at seen measure (suc n) rest held good h j id =
     let w = rest_written now at seen measure false in
@@ -166,7 +140,7 @@ step_full : (words : List Words) (k : ℕ) (first : InForce) (before behind : St
     → ((j id : ℕ) → WellNested (taken_in k (cond (begins_group s (nearest_at before)) (groups before + 1) (groups before) + (all_further before + further s)) (taking_behind s (taking_at before))) (leaves_in k (leaves_from words j id rest)))
     → (j id : ℕ) → WellNested (taken_in k (measure_at before) (taking_at before)) (leaves_in k (leaves_from words j id (signs_of (place_at first before) before at behind s ++ rest)))
 unfolding signs_of faults_of begins_group further taking_behind ends_tuplets is_sound
-step_full words k first before behind at (step.Sound s) rest force goods good e drawn enough h j id =
+step_full words k first before behind at (Step.Sound s) rest force goods good e drawn enough h j id =
     let now = place_at first before in
     let w = sound_written now before at s behind in
     let waiting = waiting_of now.force (since_event before) s.decos in
@@ -177,7 +151,7 @@ step_full words k first before behind at (step.Sound s) rest force goods good e 
     (sound_good (taking_at before) w waiting (words_at words j) id (sound_whole now before behind at s) (recursion_from_All IsFew w.values drawn.0) (waiting_graces now.force before s.decos goods))
     (sound_some (place_of (taking_at before)) w waiting (words_at words j) id (sound_parts now before behind at s force.unit good clear))
     (h (j + 1) (id + length w.values))
-step_full words k first before behind at (step.Measures seen count) rest force goods good e drawn enough h j id =
+step_full words k first before behind at (Step.Measures seen count) rest force goods good e drawn enough h j id =
     let now = place_at first before in
     let waits = since_event before in
     let waiting = waiting_of now.force waits [] in
@@ -185,16 +159,16 @@ step_full words k first before behind at (step.Measures seen count) rest force g
     let held = rest_clear now at count (none_before (rest_faults now at count) (grace_faults now.force.clef waits) e) in
     let more = further_rests now at seen (measure_of now + 1) (count - 1) ++ rest in
     let ls = leaves_in k (leaves_from words (j + 1) (id + length w.values) more) in
-    from_nothing k (measure_at before) (taking_at before) (cond (w.measure == k) (leaves.Event w.measure (nodes_of w waiting (words_at words j) id) ∷ ls) ls) (none_open (taking_at before) enough)
+    from_nothing k (measure_at before) (taking_at before) (cond (w.measure == k) (Leaf.Event w.measure (nodes_of w waiting (words_at words j) id) ∷ ls) ls) (none_open (taking_at before) enough)
     (at_rest k w.measure (nodes_of w waiting (words_at words j) id) ls
     (rest_good now at seen (measure_of now) (parted_at now waits) waiting (words_at words j) id held force.meter (waiting_graces now.force before [] goods))
     (sound_some outside w waiting (words_at words j) id (rest_values now at seen (measure_of now) (parted_at now waits)))
     (rests_full words k now at seen (measure_of now + 1) (count - 1) rest held force.meter
     (λ j id. to_nothing k (groups before + (all_further before + (count - 1))) (leaves_in k (leaves_from words j id rest)) (h j id)) (j + 1) (id + length w.values)))
-step_full words k first before behind at (step.Bar bar) rest force goods good e drawn enough h j id =
+step_full words k first before behind at (Step.Bar bar) rest force goods good e drawn enough h j id =
     from_nothing k (measure_at before) (taking_at before) (leaves_in k (leaves_from words j id rest)) (none_open (taking_at before) enough)
     (to_nothing k _ (leaves_in k (leaves_from words j id rest)) (h j id))
-step_full words k first before behind at (step.Tuplet p q r) rest force goods good e drawn enough h j id =
+step_full words k first before behind at (Step.Tuplet p q r) rest force goods good e drawn enough h j id =
     let now = place_at first before in
     let wanted = or_default (usual_q p now.force.meter) q in
     let takes = or_default p r in
@@ -203,7 +177,7 @@ step_full words k first before behind at (step.Tuplet p q r) rest force goods go
     let low : 1 ≤ wanted = default_low (usual_q p now.force.meter) q usual.0 in
     let high : wanted ≤ 9 = default_high (usual_q p now.force.meter) q usual.1 good.q_high in
     let same : groups before + (all_further before + 0) ≡ groups before + all_further before = omega arith in
-    subst (λ b. WellNested (taken_in k (measure_at before) (taking_at before)) (leaves_in k (leaves_from words j id (cond b (sign.Opens (measure_of now) p wanted takes ∷ []) [] ++ rest)))) (sym clear.0)
+    subst (λ b. WellNested (taken_in k (measure_at before) (taking_at before)) (leaves_in k (leaves_from words j id (cond b (Sign.Opens (measure_of now) p wanted takes ∷ []) [] ++ rest)))) (sym clear.0)
     (at_tuplet k (measure_at before) (groups before + (all_further before + 0)) (taking_at before) p wanted takes (leaves_in k (leaves_from words j id rest)) same clear.0
     (default_some p r good.p_low) (record { p_low = good.p_low; p_high = good.p_high; q_low = low; q_high = high }) (h j id))
 step_full words k first before behind at _ rest force goods good e drawn enough h j id =
@@ -234,6 +208,6 @@ walk_full words k first before (at ∷ behind) force good goods e drawn enough j
     (next_enough now before behind at at.step goods.0 clear suffices) j id) j id
 
 pub all_full : (words : List Words) (k : ℕ) (first : InForce) (steps : Steps) → IsGoodForce first → AllByRecursion IsGoodStood steps → faults_in first [] steps ≡ [] → AllByRecursion IsDrawn (signs first [] steps)
-    → WellNested taking.Nothing (leaves_in k (leaves_from words 0 0 (signs first [] steps)))
+    → WellNested Taking.Nothing (leaves_in k (leaves_from words 0 0 (signs first [] steps)))
 all_full words k first steps force goods e drawn =
     to_nothing k 0 (leaves_in k (leaves_from words 0 0 (signs first [] steps))) (walk_full words k first [] steps force tt goods e drawn tt 0 0)

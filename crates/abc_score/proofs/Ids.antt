@@ -1,24 +1,14 @@
 -- The voices of a body: no two have one id, and at most 16 are mentioned.
 use Rattle.std.proofs.Common.{◌≡◌, ◌∙◌, refl, sym, ap, subst, ℕ, ◌+◌, ◌≤◌, List, [], ◌∷◌, ◌++◌, length, map, Bool, true, false, cond, None, suc, arith}
-use Rattle.std.proofs.lemmas.Bool.Decides.{nat_tests, not_from_Decides}
-use Rattle.std.proofs.lemmas.List.Sums.{sum_by-cons}
-use Rattle.std.proofs.lemmas.Slice.Eq.{bytes_eq-Decides}
-use Rattle.std.specs.Prelude.{◌≢◌, count_by, fold, nat_lt}
-use Rattle.std.specs.List.{list_any}
+use Rattle.std.{proofs.lemmas.Bool.Decides.nat_tests, proofs.lemmas.Bool.Decides.not_from_Decides, proofs.lemmas.List.Sums.sum_by-cons, proofs.lemmas.Slice.Eq.bytes_eq-Decides, specs.Prelude.◌≢◌, specs.Prelude.count_by, specs.Prelude.fold, specs.Prelude.nat_lt, specs.List.list_any}
 use Rattle.std.specs.Str.{bytes_eq}
 use Rattle.abc_lines.specs.declared.book.Line.{Line}
-use Rattle.abc_header.specs.declared.header.Header.{Header}
+use Rattle.abc_header.specs.{declared.header.Header.Header, Headers.AreDistinct, Headers.HasGoodValues, Voicing.with_id}
 use Rattle.abc_fields.specs.declared.voice.VoiceDef.{VoiceDef}
-use Rattle.abc_header.specs.Headers.{AreDistinct, HasGoodValues}
-use Rattle.abc_header.specs.Voicing.{with_id}
 use Rattle.abc_steps.specs.declared.step.Item.{Item}
-use Rattle.abc_steps.specs.declared.step.Item.TheVariants as item
-use Rattle.abc_items.specs.Voices.{claims, declared_ids, ids_after, ids_by_step, ids_of, start_of, starts_of}
-use Rattle.abc_items.specs.declared.voices.VoiceStart.{VoiceStart}
-use Rattle.abc_score.specs.declared.voices.VoiceRead.{VoiceRead}
-use Rattle.abc_score.proofs.Basics.{neither}
-use Rattle.abc_score.specs.Voices.{AreApart, IsOther, read_ids, voice_read}
-use Rattle.abc_items.specs.Body.{Given, gives, fails, first_fault, items_in, judged, voice_judged, IsBody}
+use Rattle.abc_items.specs.{Voices.claims, Voices.declared_ids, Voices.ids_after, Voices.ids_by_step, Voices.ids_of, Voices.start_of, Voices.starts_of, declared.voices.VoiceStart.VoiceStart, Body.Given, Body.gives, Body.fails, Body.first_fault, Body.items_in, Body.judged, Body.voice_judged}
+use Rattle.abc_items.specs.Body.{IsBody}
+use Rattle.abc_score.{specs.declared.voices.VoiceRead.VoiceRead, specs.Voices.AreApart, specs.Voices.IsOther, specs.Voices.read_ids, specs.Voices.voice_read, proofs.Basics.neither}
 
 differ : (s t : List ℕ) → bytes_eq s t ≡ false → s ≢ t
 differ s t e = not_from_Decides (bytes_eq s t) (bytes_eq-Decides s t) e
@@ -76,10 +66,10 @@ step_apart [] false apart = tt
 step_apart (id ∷ ids) claimed apart = apart
 
 item_apart : (ids : List (List ℕ)) (i : Item) → AreApart ids → AreApart (ids_after ids i)
-item_apart ids (item.Step s) apart = step_apart ids (claims s.step) apart
-item_apart ids (item.LineEnd joined breaks line column) apart = apart
-item_apart ids (item.Voice def line column) apart = with_apart ids def.id apart
-item_apart ids (item.Words text line) apart = apart
+item_apart ids (Item.Step s) apart = step_apart ids (claims s.step) apart
+item_apart ids (Item.LineEnd joined breaks line column) apart = apart
+item_apart ids (Item.Voice def line column) apart = with_apart ids def.id apart
+item_apart ids (Item.Words text line) apart = apart
 
 items_apart : (ids : List (List ℕ)) (items : List Item) → AreApart ids → AreApart (fold ids_after ids items)
 items_apart ids [] apart = apart
@@ -97,12 +87,12 @@ few_by_step (id ∷ ids) claimed few = few
 few_given : (ids : List (List ℕ)) (given : List Given) → length ids ≤ 16 → first_fault (judged ids given) ≡ None → length (fold ids_after ids (items_in given)) ≤ 16
 few_given ids [] few clear = few
 few_given ids (fails fault ∷ given) few clear = absurd cc
-few_given ids (gives (item.Step s) ∷ given) few clear = few_given (ids_by_step ids (claims s.step)) given (few_by_step ids (claims s.step) few) clear
-few_given ids (gives (item.LineEnd joined breaks line column) ∷ given) few clear = few_given ids given few clear
-few_given ids (gives (item.Words text line) ∷ given) few clear = few_given ids given few clear
-few_given ids (gives (item.Voice def line column) ∷ given) few clear = by_test (few_given (with_id ids def.id) given) (nat_lt 16 (length (with_id ids def.id))) refl clear where
+few_given ids (gives (Item.Step s) ∷ given) few clear = few_given (ids_by_step ids (claims s.step)) given (few_by_step ids (claims s.step) few) clear
+few_given ids (gives (Item.LineEnd joined breaks line column) ∷ given) few clear = few_given ids given few clear
+few_given ids (gives (Item.Words text line) ∷ given) few clear = few_given ids given few clear
+few_given ids (gives (Item.Voice def line column) ∷ given) few clear = by_test (few_given (with_id ids def.id) given) (nat_lt 16 (length (with_id ids def.id))) refl clear where
   by_test : (length (with_id ids def.id) ≤ 16 → first_fault (judged (with_id ids def.id) given) ≡ None → length (fold ids_after (with_id ids def.id) (items_in given)) ≤ 16)
-      → (t : Bool) → nat_lt 16 (length (with_id ids def.id)) ≡ t → first_fault (voice_judged t (item.Voice def line column) line column ∷ judged (with_id ids def.id) given) ≡ None → length (fold ids_after (with_id ids def.id) (items_in given)) ≤ 16
+      → (t : Bool) → nat_lt 16 (length (with_id ids def.id)) ≡ t → first_fault (voice_judged t (Item.Voice def line column) line column ∷ judged (with_id ids def.id) given) ≡ None → length (fold ids_after (with_id ids def.id) (items_in given)) ≤ 16
   by_test others true e clear = absurd cc
   by_test others false e clear = others (grind (arith, nat_tests, e)) clear
 

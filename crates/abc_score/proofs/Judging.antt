@@ -1,58 +1,38 @@
 -- The nodes of a written event are good: of a note, a chord or a rest wherever it stands, and of a whole measure rest outside tuplets.
 use Rattle.std.proofs.Common.{◌≡◌, ◌∙◌, refl, sym, ap, subst, ℕ, zero, suc, ◌+◌, ◌*◌, ◌/◌, ◌≤◌, List, [], ◌∷◌, map, length, Bool, true, false, ◌&&◌, ◌||◌, ◌==◌, nat_le, None, unwrap_or, IsTrue, div-le_self, le_trans, mul-le-mul_right, lit≤, arith}
-use Rattle.std.proofs.lemmas.Bool.Decides.{nat_tests}
-use Rattle.std.proofs.lemmas.Nat.{le-div}
-use Rattle.std.specs.List.{AllByRecursion}
-use Rattle.mus_units.specs.declared.note.Head.{Head}
-use Rattle.mus_units.specs.declared.key.Meter.{Meter}
-use Rattle.mus_units.specs.declared.key.Meter.TheVariants as meters
-use Rattle.mus_units.specs.declared.value.Base.{Base}
-use Rattle.mus_units.specs.declared.value.Base.TheVariants as bases
-use Rattle.mus_units.specs.declared.value.Value.{Value}
-use Rattle.mus_units.specs.declared.value.TheConstants.{WHOLE}
-use Rattle.mus_units.specs.Good.{IsGoodMeter, is_halving}
-use Rattle.mus_units.specs.Value.{base_length, with_dots, value_length}
-use Rattle.mus_score.specs.declared.score.Event.{Event}
-use Rattle.mus_score.specs.declared.good.Judged.{Judged}
-use Rattle.mus_score.specs.declared.good.Place.{Place}
-use Rattle.mus_score.specs.Good.{judged_within, is_rest, outside}
+use Rattle.std.{proofs.lemmas.Bool.Decides.nat_tests, proofs.lemmas.Nat.le-div, specs.List.AllByRecursion}
+use Rattle.mus_units.specs.{declared.note.Head.Head, declared.key.Meter.Meter, declared.value.Base.Base, declared.value.Value.Value, declared.value.TheConstants.WHOLE, Good.IsGoodMeter, Good.is_halving, Value.base_length, Value.with_dots, Value.value_length}
+use Rattle.mus_score.specs.{declared.score.Event.Event, declared.good.Judged.Judged, declared.good.Place.Place, Good.judged_within, Good.is_rest, Good.outside}
 use Rattle.abc_notes.specs.declared.part.GraceChord.{GraceChord}
 use Rattle.abc_tokens.specs.Good.{AreGoodGraces, HasGraceHead}
-use Rattle.abc_steps.specs.declared.step.Stood.{Stood}
+use Rattle.abc_steps.specs.{declared.step.Stood.Stood, declared.tuplets.Taking.Taking, Force.meter_ticks}
 use Rattle.abc_steps.specs.declared.place.Place.{Place as Stand}
-use Rattle.abc_steps.specs.declared.tuplets.Taking.{Taking}
-use Rattle.abc_steps.specs.declared.tuplets.Taking.TheVariants as taking
-use Rattle.abc_steps.specs.Force.{meter_ticks}
-use Rattle.abc_events.specs.declared.written.Written.{Written}
-use Rattle.abc_events.specs.declared.written.Waiting.{Waiting}
-use Rattle.abc_events.specs.Leaves.{Words, eighth, first_part, later_part, later_parts, parts, some_more, node_of, note_or_rest, grace_event, grace_note, grace_nodes, nodes_of}
-use Rattle.abc_events.specs.Signs.{rest_written, whole_value}
+use Rattle.abc_events.specs.{declared.written.Written.Written, declared.written.Waiting.Waiting, Leaves.Words, Leaves.eighth, Leaves.first_part, Leaves.later_part, Leaves.later_parts, Leaves.parts, Leaves.some_more, Leaves.node_of, Leaves.note_or_rest, Leaves.grace_event, Leaves.grace_note}
+use Rattle.abc_events.specs.{Leaves.grace_nodes, Leaves.nodes_of, Signs.rest_written, Signs.whole_value}
 use Rattle.abc_faults.specs.Faults.{is_free}
-use Rattle.abc_score.proofs.Rows.{judged_note, judged_rest, judged_grace}
-use Rattle.abc_score.proofs.Basics.{both_from}
-use Rattle.abc_score.proofs.Nested.{IsGoodAt, HasSome, judged_at, place_of, good_append, some_behind}
+use Rattle.abc_score.proofs.{Rows.judged_note, Rows.judged_rest, Rows.judged_grace, Basics.both_from, Nested.IsGoodAt, Nested.HasSome, Nested.judged_at, Nested.place_of, Nested.good_append, Nested.some_behind}
 
 -- ---- lengths of values
 
 base_low : (b : Base) → 1 ≤ base_length b
-base_low bases.Breve = lit≤ tt
-base_low bases.Whole = lit≤ tt
-base_low bases.Half = lit≤ tt
-base_low bases.Quarter = lit≤ tt
-base_low bases.Eighth = lit≤ tt
-base_low bases.N16 = lit≤ tt
-base_low bases.N32 = lit≤ tt
-base_low bases.N64 = lit≤ tt
+base_low Base.Breve = lit≤ tt
+base_low Base.Whole = lit≤ tt
+base_low Base.Half = lit≤ tt
+base_low Base.Quarter = lit≤ tt
+base_low Base.Eighth = lit≤ tt
+base_low Base.N16 = lit≤ tt
+base_low Base.N32 = lit≤ tt
+base_low Base.N64 = lit≤ tt
 
 base_high : (b : Base) → base_length b ≤ 2 * WHOLE
-base_high bases.Breve = lit≤ tt
-base_high bases.Whole = lit≤ tt
-base_high bases.Half = lit≤ tt
-base_high bases.Quarter = lit≤ tt
-base_high bases.Eighth = lit≤ tt
-base_high bases.N16 = lit≤ tt
-base_high bases.N32 = lit≤ tt
-base_high bases.N64 = lit≤ tt
+base_high Base.Breve = lit≤ tt
+base_high Base.Whole = lit≤ tt
+base_high Base.Half = lit≤ tt
+base_high Base.Quarter = lit≤ tt
+base_high Base.Eighth = lit≤ tt
+base_high Base.N16 = lit≤ tt
+base_high Base.N32 = lit≤ tt
+base_high Base.N64 = lit≤ tt
 
 dots_low : (dots n : ℕ) → n ≤ with_dots dots n
 dots_low zero n = omega arith
@@ -90,14 +70,14 @@ is_inner_rest : (e : Event) → length e.heads ≡ 0 → IsPlayed e → is_rest 
 is_inner_rest e none played = inner_test (length e.heads) e.value.dots e.ticks (value_length e.value) none played.dots played.ticks
 
 rest_at : (t : Taking) (e : Event) → length e.heads ≡ 0 → IsPlayed e → (judged_within (note_or_rest [] e) (place_of t)).good ≡ true
-rest_at taking.Nothing e none played =
+rest_at Taking.Nothing e none played =
     let ticks : e.ticks ≡ value_length e.value = played.ticks in
     let low = value_some e.value in
     let high = value_high e.value in
-    ap (λ (j : Place → Judged). (j (place_of taking.Nothing)).good) (judged_rest e)
+    ap (λ (j : Place → Judged). (j (place_of Taking.Nothing)).good) (judged_rest e)
     ∙ is_outer_rest e none played.dots (subst (λ n. 1 ≤ n) (sym ticks) low) (subst (λ n. n ≤ 99 * WHOLE) (sym ticks) high)
-rest_at (taking.One left) e none played = ap (λ (j : Place → Judged). (j (place_of (taking.One left))).good) (judged_rest e) ∙ is_inner_rest e none played
-rest_at (taking.Two inner outer) e none played = ap (λ (j : Place → Judged). (j (place_of (taking.Two inner outer))).good) (judged_rest e) ∙ is_inner_rest e none played
+rest_at (Taking.One left) e none played = ap (λ (j : Place → Judged). (j (place_of (Taking.One left))).good) (judged_rest e) ∙ is_inner_rest e none played
+rest_at (Taking.Two inner outer) e none played = ap (λ (j : Place → Judged). (j (place_of (Taking.Two inner outer))).good) (judged_rest e) ∙ is_inner_rest e none played
 
 node_at : (t : Taking) (hs : List Head) (e : Event) → e.heads ≡ hs → IsPlayed e → (judged_within (note_or_rest hs e) (place_of t)).good ≡ true
 node_at t [] e is played = rest_at t e (ap length is) played
@@ -137,12 +117,12 @@ chords_good at (g ∷ gs) good = both_from (judged_within (grace_note g) at).goo
 
 group_at : (t : Taking) (gs : List GraceChord) (slash : Bool) → AreGoodGraces gs → IsGoodAt (place_of t) (grace_nodes gs slash)
 group_at t [] slash good = refl
-group_at taking.Nothing (g ∷ gs) slash good =
-    both_from _ true (ap (λ (j : Place → Judged). (j (place_of taking.Nothing)).good) (judged_grace (map grace_note (g ∷ gs)) slash) ∙ chords_good (record outside { grace = true }) (g ∷ gs) good) refl
-group_at (taking.One left) (g ∷ gs) slash good =
-    both_from _ true (ap (λ (j : Place → Judged). (j (place_of (taking.One left))).good) (judged_grace (map grace_note (g ∷ gs)) slash) ∙ chords_good (record { deeper = 1; inner = true; grace = true }) (g ∷ gs) good) refl
-group_at (taking.Two inner outer) (g ∷ gs) slash good =
-    both_from _ true (ap (λ (j : Place → Judged). (j (place_of (taking.Two inner outer))).good) (judged_grace (map grace_note (g ∷ gs)) slash) ∙ chords_good (record { deeper = 0; inner = true; grace = true }) (g ∷ gs) good) refl
+group_at Taking.Nothing (g ∷ gs) slash good =
+    both_from _ true (ap (λ (j : Place → Judged). (j (place_of Taking.Nothing)).good) (judged_grace (map grace_note (g ∷ gs)) slash) ∙ chords_good (record outside { grace = true }) (g ∷ gs) good) refl
+group_at (Taking.One left) (g ∷ gs) slash good =
+    both_from _ true (ap (λ (j : Place → Judged). (j (place_of (Taking.One left))).good) (judged_grace (map grace_note (g ∷ gs)) slash) ∙ chords_good (record { deeper = 1; inner = true; grace = true }) (g ∷ gs) good) refl
+group_at (Taking.Two inner outer) (g ∷ gs) slash good =
+    both_from _ true (ap (λ (j : Place → Judged). (j (place_of (Taking.Two inner outer))).good) (judged_grace (map grace_note (g ∷ gs)) slash) ∙ chords_good (record { deeper = 0; inner = true; grace = true }) (g ∷ gs) good) refl
 
 -- ---- a note, a chord or a rest
 
@@ -187,20 +167,20 @@ halving_high : (n : ℕ) → IsTrue (is_halving n) → n ≤ 64
 halving_high n h = grind arith
 
 meter_some : (m : Meter) → is_free m ≡ false → IsGoodMeter m → 1 ≤ unwrap_or (meter_ticks m) 0
-meter_some meters.Free held good = absurd cc
-meter_some meters.Common held good = lit≤ tt
-meter_some meters.Cut held good = lit≤ tt
-meter_some (meters.Ratio num den) held good =
+meter_some Meter.Free held good = absurd cc
+meter_some Meter.Common held good = lit≤ tt
+meter_some Meter.Cut held good = lit≤ tt
+meter_some (Meter.Ratio num den) held good =
     let low : 1 ≤ num = good.0 in
     let few : den ≤ 64 = halving_high den good.2 in
     let long : 1 * WHOLE ≤ num * WHOLE = mul-le-mul_right WHOLE low in
     le-div 1 (num * WHOLE) den (halving_some den good.2) (omega (arith, few, long))
 
 meter_high : (m : Meter) → IsGoodMeter m → unwrap_or (meter_ticks m) 0 ≤ 99 * WHOLE
-meter_high meters.Free good = lit≤ tt
-meter_high meters.Common good = lit≤ tt
-meter_high meters.Cut good = lit≤ tt
-meter_high (meters.Ratio num den) good = le_trans (div-le_self (num * WHOLE) den) (mul-le-mul_right WHOLE good.1)
+meter_high Meter.Free good = lit≤ tt
+meter_high Meter.Common good = lit≤ tt
+meter_high Meter.Cut good = lit≤ tt
+meter_high (Meter.Ratio num den) good = le_trans (div-le_self (num * WHOLE) den) (mul-le-mul_right WHOLE good.1)
 
 empty_rest : (e : Event) → e.heads ≡ [] → e.value.dots ≤ 3 → 1 ≤ e.ticks → e.ticks ≤ 99 * WHOLE → (judged_within (node_of e) outside).good ≡ true
 empty_rest e none few some less =
@@ -220,7 +200,7 @@ unfolding rest_written
 rest_good now at seen measure parted waiting words id held good graces =
     let w = rest_written now at seen measure parted in
     let first = first_part w waiting words id false whole_value in
-    good_append outside (grace_nodes waiting.graces waiting.slash) (node_of first ∷ []) (group_at taking.Nothing waiting.graces waiting.slash graces)
+    good_append outside (grace_nodes waiting.graces waiting.slash) (node_of first ∷ []) (group_at Taking.Nothing waiting.graces waiting.slash graces)
     (both_from (judged_within (node_of first) outside).good true (whole_part now at seen measure parted waiting words id held good) refl)
 
 pub rest_values : (now : Stand) (at : Stood) (seen : Bool) (measure : ℕ) (parted : Bool) → 1 ≤ length (rest_written now at seen measure parted).values

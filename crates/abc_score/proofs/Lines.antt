@@ -1,23 +1,12 @@
 -- The words of a body stand on its lines in their order, so their lines rise.
 use Rattle.std.proofs.Common.{◌≡◌, ◌∙◌, refl, sym, ap, subst, ℕ, zero, suc, ◌≤◌, ◌<◌, List, [], ◌∷◌, ◌++◌, Bool, true, false, Option, Some, None, drop, arith}
 use Rattle.std.specs.Prelude.{⊤, flat_map, Result, Ok, Err}
-use Rattle.abc_lines.specs.declared.book.Line.{Line}
-use Rattle.abc_lines.specs.declared.fault.Fault.{Fault}
-use Rattle.abc_lines.specs.declared.fault.FaultKind.{FaultKind}
-use Rattle.abc_lines.specs.declared.kind.LineKind.{LineKind}
-use Rattle.abc_lines.specs.declared.kind.LineKind.TheVariants as kinds
-use Rattle.abc_lines.specs.Good.{NumbersRise}
-use Rattle.abc_lines.specs.Kinds.{kind_of}
+use Rattle.abc_lines.specs.{declared.book.Line.Line, declared.fault.Fault.Fault, declared.fault.FaultKind.FaultKind, declared.kind.LineKind.LineKind, Good.NumbersRise, Kinds.kind_of}
 use Rattle.abc_pieces.specs.declared.token.Token.{Token}
-use Rattle.abc_pieces.specs.declared.token.Token.TheVariants as token
 use Rattle.abc_tokens.specs.declared.token.Placed.{Placed}
-use Rattle.abc_fields.specs.declared.directive.Breaks.{Breaks}
-use Rattle.abc_fields.specs.declared.field.Field.{Field}
-use Rattle.abc_fields.specs.declared.field.Field.TheVariants as fields
+use Rattle.abc_fields.specs.{declared.directive.Breaks.Breaks, declared.field.Field.Field, Fields.field_of, Fields.named_field}
 use Rattle.abc_header.specs.declared.header.Header.{Header}
-use Rattle.abc_fields.specs.Fields.{field_of, named_field}
 use Rattle.abc_steps.specs.declared.step.Item.{Item}
-use Rattle.abc_steps.specs.declared.step.Item.TheVariants as item
 use Rattle.abc_items.specs.Body.{Given, gives, fails, field_item, field_given, cut_given, is_on, token_given, placed_given, end_given, KindGives, BodyGives, no_lines, one_line, items_in, IsBody}
 use Rattle.abc_score.specs.Order.{DoWordsRiseFrom, DoWordsRise}
 
@@ -25,21 +14,21 @@ use Rattle.abc_score.specs.Order.{DoWordsRiseFrom, DoWordsRise}
 abbrev AreAt : ℕ → List Given → Type 0
 AreAt line [] = ⊤
 AreAt line (fails fault ∷ given) = AreAt line given
-AreAt line (gives (item.Words text at) ∷ given) = (at ≡ line) × AreAt line given
-AreAt line (gives (item.Step s) ∷ given) = AreAt line given
-AreAt line (gives (item.LineEnd joined breaks at column) ∷ given) = AreAt line given
-AreAt line (gives (item.Voice def at column) ∷ given) = AreAt line given
+AreAt line (gives (Item.Words text at) ∷ given) = (at ≡ line) × AreAt line given
+AreAt line (gives (Item.Step s) ∷ given) = AreAt line given
+AreAt line (gives (Item.LineEnd joined breaks at column) ∷ given) = AreAt line given
+AreAt line (gives (Item.Voice def at column) ∷ given) = AreAt line given
 
 both_at : (line : ℕ) (g h : List Given) → AreAt line g → AreAt line h → AreAt line (g ++ h)
 both_at line [] h are also = also
 both_at line (fails fault ∷ g) h are also = both_at line g h are also
-both_at line (gives (item.Words text at) ∷ g) h are also = (are.0, both_at line g h are.1 also)
-both_at line (gives (item.Step s) ∷ g) h are also = both_at line g h are also
-both_at line (gives (item.LineEnd joined breaks at column) ∷ g) h are also = both_at line g h are also
-both_at line (gives (item.Voice def at column) ∷ g) h are also = both_at line g h are also
+both_at line (gives (Item.Words text at) ∷ g) h are also = (are.0, both_at line g h are.1 also)
+both_at line (gives (Item.Step s) ∷ g) h are also = both_at line g h are also
+both_at line (gives (Item.LineEnd joined breaks at column) ∷ g) h are also = both_at line g h are also
+both_at line (gives (Item.Voice def at column) ∷ g) h are also = both_at line g h are also
 
 field_at : (field : Field) (line column : ℕ) → AreAt line (field_item field line column)
-field_at (fields.Words text) line column = (refl, tt)
+field_at (Field.Words text) line column = (refl, tt)
 field_at _ line column = tt
 
 given_at : (read : Result Field FaultKind) (line column : ℕ) → AreAt line (field_given read line column)
@@ -52,8 +41,8 @@ cut_at false line column = tt
 
 token_at : (breaks : Breaks) (line : Line) (column : ℕ) (t : Token) → AreAt line.number (token_given breaks line column t)
 unfolding token_given
-token_at breaks line column (token.Inline letter text) = given_at (named_field letter text) line.number column
-token_at breaks line column token.Cut = cut_at (is_on breaks _) line.number column
+token_at breaks line column (Token.Inline letter text) = given_at (named_field letter text) line.number column
+token_at breaks line column Token.Cut = cut_at (is_on breaks _) line.number column
 token_at breaks line column _ = tt
 
 tokens_at : (breaks : Breaks) (line : Line) (tokens : List Placed) → AreAt line.number (flat_map (placed_given breaks line) tokens)
@@ -65,28 +54,28 @@ end_at breaks line None = tt
 end_at breaks line (Some fault) = tt
 
 line_at : (breaks : Breaks) (line : Line) (kind : LineKind) (given : List Given) → KindGives breaks line kind given → AreAt line.number given
-line_at breaks line kinds.Music given (tokens, fault, front, is) =
+line_at breaks line LineKind.Music given (tokens, fault, front, is) =
     subst (AreAt line.number) (sym is) (both_at line.number (flat_map (placed_given breaks line) tokens) (end_given breaks line fault) (tokens_at breaks line tokens) (end_at breaks line fault))
-line_at breaks line kinds.Directive given is = subst (AreAt line.number) (sym is) (given_at (field_of line.text) line.number 1)
-line_at breaks line (kinds.Field letter) given is = subst (AreAt line.number) (sym is) (given_at (field_of line.text) line.number 1)
+line_at breaks line LineKind.Directive given is = subst (AreAt line.number) (sym is) (given_at (field_of line.text) line.number 1)
+line_at breaks line (LineKind.Field letter) given is = subst (AreAt line.number) (sym is) (given_at (field_of line.text) line.number 1)
 
 -- from a lower line on
 from_lower : (low high : ℕ) (items : List Item) → low ≤ high → DoWordsRiseFrom high items → DoWordsRiseFrom low items
 from_lower low high [] less rise = tt
-from_lower low high (item.Words text line ∷ items) less rise = let first : high ≤ line = rise.0 in (omega arith, rise.1)
-from_lower low high (item.Step s ∷ items) less rise = from_lower low high items less rise
-from_lower low high (item.LineEnd joined breaks line column ∷ items) less rise = from_lower low high items less rise
-from_lower low high (item.Voice def line column ∷ items) less rise = from_lower low high items less rise
+from_lower low high (Item.Words text line ∷ items) less rise = let first : high ≤ line = rise.0 in (omega arith, rise.1)
+from_lower low high (Item.Step s ∷ items) less rise = from_lower low high items less rise
+from_lower low high (Item.LineEnd joined breaks line column ∷ items) less rise = from_lower low high items less rise
+from_lower low high (Item.Voice def line column ∷ items) less rise = from_lower low high items less rise
 
 with_line : (line low : ℕ) (g : List Given) (others : List Item) → low ≤ line → AreAt line g → DoWordsRiseFrom line others → DoWordsRiseFrom low (items_in g ++ others)
 with_line line low [] others less are rise = from_lower low line others less rise
 with_line line low (fails fault ∷ g) others less are rise = with_line line low g others less are rise
-with_line line low (gives (item.Words text at) ∷ g) others less are rise =
+with_line line low (gives (Item.Words text at) ∷ g) others less are rise =
     let same : at ≡ line = are.0 in
     (omega arith, with_line line at g others (omega arith) are.1 rise)
-with_line line low (gives (item.Step s) ∷ g) others less are rise = with_line line low g others less are rise
-with_line line low (gives (item.LineEnd joined breaks at column) ∷ g) others less are rise = with_line line low g others less are rise
-with_line line low (gives (item.Voice def at column) ∷ g) others less are rise = with_line line low g others less are rise
+with_line line low (gives (Item.Step s) ∷ g) others less are rise = with_line line low g others less are rise
+with_line line low (gives (Item.LineEnd joined breaks at column) ∷ g) others less are rise = with_line line low g others less are rise
+with_line line low (gives (Item.Voice def at column) ∷ g) others less are rise = with_line line low g others less are rise
 
 items_both : (g h : List Given) → items_in (g ++ h) ≡ items_in g ++ items_in h
 items_both [] h = refl

@@ -1,21 +1,11 @@
 -- The tree of a measure is good where its tuplets are full and its events good.
 use Rattle.std.proofs.Common.{◌≡◌, ◌∙◌, refl, sym, ap, subst, ℕ, zero, suc, ◌-◌, ◌≤◌, List, [], ◌∷◌, ◌++◌, map, Bool, true, false, cond, ◌&&◌, ◌||◌, nat_le, arith}
-use Rattle.std.proofs.lemmas.Bool.{leb-true}
-use Rattle.std.proofs.lemmas.Bool.Decides.{nat_tests}
-use Rattle.std.specs.Prelude.{⊤}
-use Rattle.mus_score.specs.declared.score.Music.{Music}
+use Rattle.std.{proofs.lemmas.Bool.leb-true, proofs.lemmas.Bool.Decides.nat_tests, specs.Prelude.⊤}
+use Rattle.mus_score.specs.{declared.score.Music.Music, declared.good.Judged.Judged, declared.good.Place.Place, Good.all_judged, Good.judged_within, Good.outside}
+use Rattle.abc_steps.specs.{declared.tuplets.Taking.Taking, Tuplets.fits, Tuplets.one_less, Tuplets.after_event, Tuplets.opened}
+use Rattle.abc_events.specs.{declared.leaves.Leaf.Leaf, Nesting.Forest, Nesting.none_more, Nesting.one, Nesting.group, Nesting.cut, Nesting.nest, Nesting.music_of, Nesting.tree_of}
+use Rattle.abc_score.proofs.{Basics.both_hold, Basics.both_from, Rows.judged_tuplet}
 use Rattle.mus_score.specs.declared.score.Music.TheVariants as music
-use Rattle.mus_score.specs.declared.good.Judged.{Judged}
-use Rattle.mus_score.specs.declared.good.Place.{Place}
-use Rattle.mus_score.specs.Good.{all_judged, judged_within, outside}
-use Rattle.abc_steps.specs.declared.tuplets.Taking.{Taking}
-use Rattle.abc_steps.specs.declared.tuplets.Taking.TheVariants as taking
-use Rattle.abc_steps.specs.Tuplets.{fits, one_less, after_event, opened}
-use Rattle.abc_events.specs.declared.leaves.Leaf.{Leaf}
-use Rattle.abc_events.specs.declared.leaves.Leaf.TheVariants as leaves
-use Rattle.abc_events.specs.Nesting.{Forest, none_more, one, group, cut, nest, music_of, tree_of}
-use Rattle.abc_score.proofs.Basics.{both_hold, both_from}
-use Rattle.abc_score.proofs.Rows.{judged_tuplet}
 
 -- ---- bodies at a place
 
@@ -59,9 +49,9 @@ abbrev pub within_two : Place
 within_two = record { deeper = 0; inner = true; grace = false }
 
 abbrev pub place_of : Taking → Place
-place_of taking.Nothing = outside
-place_of (taking.One left) = within_one
-place_of (taking.Two inner outer) = within_two
+place_of Taking.Nothing = outside
+place_of (Taking.One left) = within_one
+place_of (Taking.Two inner outer) = within_two
 
 pub record IsRatio (p q : ℕ) : Type 0 where
   pub p_low : 2 ≤ p
@@ -96,9 +86,9 @@ inner_some p q body some = ap (λ (j : Place → Judged). (j within_one).some) (
 -- ---- what the open tuplets take is good, and what is left
 
 abbrev pub IsOpen : Taking → Type 0
-IsOpen taking.Nothing = ⊤
-IsOpen (taking.One left) = 1 ≤ left
-IsOpen (taking.Two inner outer) = (1 ≤ inner) × (inner ≤ outer)
+IsOpen Taking.Nothing = ⊤
+IsOpen (Taking.One left) = 1 ≤ left
+IsOpen (Taking.Two inner outer) = (1 ≤ inner) × (inner ≤ outer)
 
 pub record FineOne (left : ℕ) (f : Forest) : Type 0 where
   pub open_one : 1 ≤ left
@@ -115,9 +105,9 @@ pub record FineTwo (inner rest outer : ℕ) (f : Forest) : Type 0 where
   pub behind : IsGoodAt outside (music_of (cut rest (cut inner f).left).left)
 
 abbrev pub Fine : Taking → Forest → Type 0
-Fine taking.Nothing f = IsGoodAt outside (music_of f)
-Fine (taking.One left) f = FineOne left f
-Fine (taking.Two inner outer) f = FineTwo inner (outer - inner) outer f
+Fine Taking.Nothing f = IsGoodAt outside (music_of f)
+Fine (Taking.One left) f = FineOne left f
+Fine (Taking.Two inner outer) f = FineTwo inner (outer - inner) outer f
 
 -- an event within one tuplet
 event_last : (nodes : List Music) (f : Forest) → IsGoodAt within_one nodes → HasSome within_one nodes → IsGoodAt outside (music_of f) → FineOne 1 (one nodes f)
@@ -138,7 +128,7 @@ event_more r nodes f good some fine = record {
 
 event_in_one : (r : ℕ) (nodes : List Music) (f : Forest) → IsGoodAt within_one nodes → HasSome within_one nodes → Fine (one_less (suc r)) f → FineOne (suc r) (one nodes f)
 event_in_one r nodes f good some fine = by_test (nat_le (suc r) 1) refl fine where
-  by_test : (b : Bool) → nat_le (suc r) 1 ≡ b → Fine (cond b taking.Nothing (taking.One (suc r - 1))) f → FineOne (suc r) (one nodes f)
+  by_test : (b : Bool) → nat_le (suc r) 1 ≡ b → Fine (cond b Taking.Nothing (Taking.One (suc r - 1))) f → FineOne (suc r) (one nodes f)
   by_test true e fine =
       let low : suc r ≤ 1 = leb-true (suc r) 1 e in
       let is : 1 ≡ suc r = omega arith in
@@ -150,7 +140,7 @@ event_in_one r nodes f good some fine = by_test (nat_le (suc r) 1) refl fine whe
 -- within two
 event_last_two : (s rest : ℕ) (nodes : List Music) (f : Forest) → rest ≡ s → IsGoodAt within_two nodes → HasSome within_two nodes → Fine (one_less (suc s)) f → FineTwo 1 rest (suc s) (one nodes f)
 event_last_two s rest nodes f same good some fine = by_test (nat_le (suc s) 1) refl fine where
-  by_test : (b : Bool) → nat_le (suc s) 1 ≡ b → Fine (cond b taking.Nothing (taking.One (suc s - 1))) f → FineTwo 1 rest (suc s) (one nodes f)
+  by_test : (b : Bool) → nat_le (suc s) 1 ≡ b → Fine (cond b Taking.Nothing (Taking.One (suc s - 1))) f → FineTwo 1 rest (suc s) (one nodes f)
   by_test true e fine =
       let low : suc s ≤ 1 = leb-true (suc s) 1 e in
       let is : 0 ≡ rest = omega arith in
@@ -184,9 +174,9 @@ event_more_two r rest s nodes f good some fine = record {
   behind = fine.behind;
 }
 
-event_in_two : (r s : ℕ) (nodes : List Music) (f : Forest) → suc r ≤ suc s → IsGoodAt within_two nodes → HasSome within_two nodes → Fine (cond (nat_le (suc r) 1) (one_less (suc s)) (taking.Two (suc r - 1) (suc s - 1))) f → FineTwo (suc r) (suc s - suc r) (suc s) (one nodes f)
+event_in_two : (r s : ℕ) (nodes : List Music) (f : Forest) → suc r ≤ suc s → IsGoodAt within_two nodes → HasSome within_two nodes → Fine (cond (nat_le (suc r) 1) (one_less (suc s)) (Taking.Two (suc r - 1) (suc s - 1))) f → FineTwo (suc r) (suc s - suc r) (suc s) (one nodes f)
 event_in_two r s nodes f less good some fine = by_test (nat_le (suc r) 1) refl fine where
-  by_test : (b : Bool) → nat_le (suc r) 1 ≡ b → Fine (cond b (one_less (suc s)) (taking.Two (suc r - 1) (suc s - 1))) f → FineTwo (suc r) (suc s - suc r) (suc s) (one nodes f)
+  by_test : (b : Bool) → nat_le (suc r) 1 ≡ b → Fine (cond b (one_less (suc s)) (Taking.Two (suc r - 1) (suc s - 1))) f → FineTwo (suc r) (suc s - suc r) (suc s) (one nodes f)
   by_test true e fine =
       let low : suc r ≤ 1 = leb-true (suc r) 1 e in
       let is : 1 ≡ suc r = omega arith in
@@ -201,12 +191,12 @@ event_in_two r s nodes f less good some fine = by_test (nat_le (suc r) 1) refl f
 
 event_fine : (t : Taking) (nodes : List Music) (f : Forest) → IsOpen t → IsGoodAt (place_of t) nodes → HasSome (place_of t) nodes → Fine (after_event t) f → Fine t (one nodes f)
 unfolding after_event
-event_fine taking.Nothing nodes f is good some fine = good_append outside nodes (music_of f) good fine
-event_fine (taking.One zero) nodes f is good some fine = absurd (omega (arith, is))
-event_fine (taking.One (suc r)) nodes f is good some fine = event_in_one r nodes f good some fine
-event_fine (taking.Two zero outer) nodes f is good some fine = absurd (omega (arith, is.0))
-event_fine (taking.Two (suc r) zero) nodes f is good some fine = absurd (omega (arith, is.1))
-event_fine (taking.Two (suc r) (suc s)) nodes f is good some fine = event_in_two r s nodes f is.1 good some fine
+event_fine Taking.Nothing nodes f is good some fine = good_append outside nodes (music_of f) good fine
+event_fine (Taking.One zero) nodes f is good some fine = absurd (omega (arith, is))
+event_fine (Taking.One (suc r)) nodes f is good some fine = event_in_one r nodes f good some fine
+event_fine (Taking.Two zero outer) nodes f is good some fine = absurd (omega (arith, is.0))
+event_fine (Taking.Two (suc r) zero) nodes f is good some fine = absurd (omega (arith, is.1))
+event_fine (Taking.Two (suc r) (suc s)) nodes f is good some fine = event_in_two r s nodes f is.1 good some fine
 
 -- a tuplet that opens within another
 opens_in_one : (left p q r : ℕ) (f : Forest) → IsRatio p q → FineTwo r (left - r) left f → FineOne left (group p q r (cut r f).taken (cut r f).left)
@@ -225,50 +215,50 @@ opens_in_one (suc l) p q r f ratio fine =
 
 opens_fine : (t : Taking) (p q r : ℕ) (f : Forest) → fits r t ≡ true → IsRatio p q → Fine (opened r t) f → Fine t (group p q r (cut r f).taken (cut r f).left)
 unfolding fits
-opens_fine taking.Nothing p q r f fit ratio fine =
+opens_fine Taking.Nothing p q r f fit ratio fine =
     let inner = music_of (cut r f).taken in
     both_from (judged_within (music.Tuplet p q inner) outside).good (judged_at outside (music_of (cut r f).left)).good (outer_tuplet p q inner ratio fine.some fine.taken) fine.behind
-opens_fine (taking.One left) p q r f fit ratio fine =
-    opens_in_one left p q r f ratio (subst (λ b. Fine (cond b (taking.Two r left) (taking.One left)) f) fit fine)
-opens_fine (taking.Two inner outer) p q r f fit ratio fine = absurd cc
+opens_fine (Taking.One left) p q r f fit ratio fine =
+    opens_in_one left p q r f ratio (subst (λ b. Fine (cond b (Taking.Two r left) (Taking.One left)) f) fit fine)
+opens_fine (Taking.Two inner outer) p q r f fit ratio fine = absurd cc
 
 -- ---- the leaves of a measure
 
 abbrev pub WellNested : Taking → List Leaf → Type 0
-WellNested t [] = t ≡ taking.Nothing
-WellNested t (leaves.Event measure nodes ∷ ls) = IsGoodAt (place_of t) nodes × HasSome (place_of t) nodes × WellNested (after_event t) ls
-WellNested t (leaves.Opens measure p q r ∷ ls) = (fits r t ≡ true) × (1 ≤ r) × IsRatio p q × WellNested (opened r t) ls
+WellNested t [] = t ≡ Taking.Nothing
+WellNested t (Leaf.Event measure nodes ∷ ls) = IsGoodAt (place_of t) nodes × HasSome (place_of t) nodes × WellNested (after_event t) ls
+WellNested t (Leaf.Opens measure p q r ∷ ls) = (fits r t ≡ true) × (1 ≤ r) × IsRatio p q × WellNested (opened r t) ls
 
 pub above_one : (n : ℕ) → nat_le n 1 ≡ false → 2 ≤ n
 above_one n e = grind (arith, nat_tests)
 
 open_less : (left : ℕ) → 1 ≤ left → IsOpen (one_less left)
 open_less left some = by_test (nat_le left 1) refl where
-  by_test : (b : Bool) → nat_le left 1 ≡ b → IsOpen (cond b taking.Nothing (taking.One (left - 1)))
+  by_test : (b : Bool) → nat_le left 1 ≡ b → IsOpen (cond b Taking.Nothing (Taking.One (left - 1)))
   by_test true e = tt
   by_test false e = let more : 2 ≤ left = above_one left e in omega arith
 
 pub open_after : (t : Taking) → IsOpen t → IsOpen (after_event t)
 unfolding after_event
-open_after taking.Nothing is = tt
-open_after (taking.One left) is = open_less left is
-open_after (taking.Two inner outer) is = by_test (nat_le inner 1) refl where
-  by_test : (b : Bool) → nat_le inner 1 ≡ b → IsOpen (cond b (one_less outer) (taking.Two (inner - 1) (outer - 1)))
+open_after Taking.Nothing is = tt
+open_after (Taking.One left) is = open_less left is
+open_after (Taking.Two inner outer) is = by_test (nat_le inner 1) refl where
+  by_test : (b : Bool) → nat_le inner 1 ≡ b → IsOpen (cond b (one_less outer) (Taking.Two (inner - 1) (outer - 1)))
   by_test true e = open_less outer (omega (arith, is.0, is.1))
   by_test false e = let more : 2 ≤ inner = above_one inner e in (omega arith, omega (arith, is.1))
 
 pub open_opened : (r : ℕ) (t : Taking) → 1 ≤ r → IsOpen t → IsOpen (opened r t)
-open_opened r taking.Nothing some is = some
-open_opened r (taking.One left) some is = by_test (nat_le r left) refl where
-  by_test : (b : Bool) → nat_le r left ≡ b → IsOpen (cond b (taking.Two r left) (taking.One left))
+open_opened r Taking.Nothing some is = some
+open_opened r (Taking.One left) some is = by_test (nat_le r left) refl where
+  by_test : (b : Bool) → nat_le r left ≡ b → IsOpen (cond b (Taking.Two r left) (Taking.One left))
   by_test true e = (some, leb-true r left e)
   by_test false e = is
-open_opened r (taking.Two inner outer) some is = is
+open_opened r (Taking.Two inner outer) some is = is
 
 nested_fine : (ls : List Leaf) (t : Taking) → IsOpen t → WellNested t ls → Fine t (nest ls)
 nested_fine [] t is h = subst (λ x. Fine x none_more) (sym h) refl
-nested_fine (leaves.Event measure nodes ∷ ls) t is h = event_fine t nodes (nest ls) is h.0 h.1 (nested_fine ls (after_event t) (open_after t is) h.2)
-nested_fine (leaves.Opens measure p q r ∷ ls) t is h = opens_fine t p q r (nest ls) h.0 h.2 (nested_fine ls (opened r t) (open_opened r t h.1 is) h.3)
+nested_fine (Leaf.Event measure nodes ∷ ls) t is h = event_fine t nodes (nest ls) is h.0 h.1 (nested_fine ls (after_event t) (open_after t is) h.2)
+nested_fine (Leaf.Opens measure p q r ∷ ls) t is h = opens_fine t p q r (nest ls) h.0 h.2 (nested_fine ls (opened r t) (open_opened r t h.1 is) h.3)
 
-pub nested_good : (ls : List Leaf) → WellNested taking.Nothing ls → IsGoodAt outside (tree_of ls)
-nested_good ls h = nested_fine ls taking.Nothing tt h
+pub nested_good : (ls : List Leaf) → WellNested Taking.Nothing ls → IsGoodAt outside (tree_of ls)
+nested_good ls h = nested_fine ls Taking.Nothing tt h

@@ -1,25 +1,12 @@
 -- The parts of a written event as a good voice asks for them: numbered, within reach, with words and good changes.
 use Rattle.std.proofs.Common.{◌≡◌, refl, sym, subst, ℕ, suc, ◌+◌, ◌≤◌, ◌<◌, List, [], ◌∷◌, ◌++◌, map, length, Bool, None, IfSome, unwrap_or, add-one, arith}
-use Rattle.std.proofs.lemmas.List.{length-replicate}
-use Rattle.std.proofs.lemmas.List.Elements.{All-nil, All-from_recursion}
-use Rattle.std.specs.Prelude.{⊤, flat_map}
-use Rattle.std.specs.List.{All, AllByRecursion}
-use Rattle.mus_units.specs.declared.note.Head.{Head}
-use Rattle.mus_units.specs.declared.pitch.Clef.{Clef}
-use Rattle.mus_units.specs.declared.value.Value.{Value}
-use Rattle.mus_units.specs.Good.{IsGoodKey, IsGoodMeter}
-use Rattle.mus_score.specs.declared.score.Event.{Event}
-use Rattle.mus_score.specs.GoodScore.{IsInReach, clef_at}
+use Rattle.std.{proofs.lemmas.List.length-replicate, proofs.lemmas.List.Elements.All-nil, proofs.lemmas.List.Elements.All-from_recursion, specs.Prelude.⊤, specs.Prelude.flat_map, specs.List.All, specs.List.AllByRecursion}
+use Rattle.mus_units.specs.{declared.note.Head.Head, declared.pitch.Clef.Clef, declared.value.Value.Value, Good.IsGoodKey, Good.IsGoodMeter}
+use Rattle.mus_score.specs.{declared.score.Event.Event, GoodScore.IsInReach, GoodScore.clef_at}
 use Rattle.abc_notes.specs.declared.part.GraceChord.{GraceChord}
-use Rattle.abc_events.specs.declared.written.Written.{Written}
-use Rattle.abc_events.specs.declared.written.Waiting.{Waiting}
-use Rattle.abc_events.specs.declared.written.Sign.{Sign}
-use Rattle.abc_events.specs.declared.written.Sign.TheVariants as sign
-use Rattle.abc_events.specs.Leaves.{Words, first_part, later_part, later_parts, parts, some_more, later_head, grace_event, leaves_from, words_at}
-use Rattle.abc_events.specs.Signs.{with_tie}
-use Rattle.abc_score.proofs.Rows.{leaf_rows}
-use Rattle.abc_score.proofs.Cores.{Core, CoresCount, CoresReach, IsGoodCore, IsSung, sung}
-use Rattle.abc_score.proofs.Singing.{plain, with_graces, grace_of, nodes_sung, nodes_are_sung}
+use Rattle.abc_events.specs.{declared.written.Written.Written, declared.written.Waiting.Waiting, declared.written.Sign.Sign, Leaves.Words, Leaves.first_part, Leaves.later_part, Leaves.later_parts, Leaves.parts, Leaves.some_more, Leaves.later_head, Leaves.grace_event, Leaves.leaves_from}
+use Rattle.abc_events.specs.{Leaves.words_at, Signs.with_tie}
+use Rattle.abc_score.proofs.{Rows.leaf_rows, Cores.Core, Cores.CoresCount, Cores.CoresReach, Cores.IsGoodCore, Cores.IsSung, Cores.sung, Singing.plain, Singing.with_graces, Singing.grace_of, Singing.nodes_sung, Singing.nodes_are_sung}
 
 -- ---- numbers
 
@@ -129,60 +116,60 @@ parts_good gs w waiting words id (v ∷ vs) cs verses long key meter h = (
 
 -- a written event has parts
 abbrev pub HasParts : Sign → Type 0
-HasParts (sign.Event w waiting) = 1 ≤ length w.values
-HasParts (sign.Opens measure p q r) = ⊤
+HasParts (Sign.Event w waiting) = 1 ≤ length w.values
+HasParts (Sign.Opens measure p q r) = ⊤
 
 abbrev pub HasGoodChanges : Sign → Type 0
-HasGoodChanges (sign.Event w waiting) = IfSome waiting.changes.key IsGoodKey × IfSome waiting.changes.meter IsGoodMeter
-HasGoodChanges (sign.Opens measure p q r) = ⊤
+HasGoodChanges (Sign.Event w waiting) = IfSome waiting.changes.key IsGoodKey × IfSome waiting.changes.meter IsGoodMeter
+HasGoodChanges (Sign.Opens measure p q r) = ⊤
 
 -- heads and graces are within reach, in the clef at their event
 abbrev pub SignsReach : Clef → List Sign → Type 0
 SignsReach before [] = ⊤
-SignsReach before (sign.Event w waiting ∷ ss) =
+SignsReach before (Sign.Event w waiting ∷ ss) =
     AllByRecursion (IsInReach (unwrap_or waiting.changes.clef before)) w.heads
     × AllByRecursion (λ (g : GraceChord). AllByRecursion (IsInReach (unwrap_or waiting.changes.clef before)) g.heads) waiting.graces
     × SignsReach (unwrap_or waiting.changes.clef before) ss
-SignsReach before (sign.Opens measure p q r ∷ ss) = SignsReach before ss
+SignsReach before (Sign.Opens measure p q r ∷ ss) = SignsReach before ss
 
 abbrev pub cores_from : List Words → ℕ → ℕ → List Sign → List Core
 cores_from words k id ss = flat_map sung (leaf_rows (leaves_from words k id ss))
 
 pub signs_sung : (words : List Words) (k id : ℕ) (ss : List Sign) → AllByRecursion HasParts ss → AllByRecursion IsSung (leaf_rows (leaves_from words k id ss))
 signs_sung words k id [] all = tt
-signs_sung words k id (sign.Event w waiting ∷ ss) all = (nodes_are_sung w waiting (words_at words k) id all.0, signs_sung words (k + 1) (id + length w.values) ss all.1)
-signs_sung words k id (sign.Opens measure p q r ∷ ss) all = signs_sung words k id ss all.1
+signs_sung words k id (Sign.Event w waiting ∷ ss) all = (nodes_are_sung w waiting (words_at words k) id all.0, signs_sung words (k + 1) (id + length w.values) ss all.1)
+signs_sung words k id (Sign.Opens measure p q r ∷ ss) all = signs_sung words k id ss all.1
 
 pub signs_count : (words : List Words) (k id : ℕ) (ss : List Sign) → AllByRecursion HasParts ss → CoresCount id (cores_from words k id ss)
 signs_count words k id [] all = tt
-signs_count words k id (sign.Event w waiting ∷ ss) all =
+signs_count words k id (Sign.Event w waiting ∷ ss) all =
     let others = cores_from words (k + 1) (id + length w.values) ss in
     subst (λ z. CoresCount id (z ++ others)) (sym (nodes_sung w waiting (words_at words k) id all.0))
     (parts_count (map grace_of waiting.graces) w waiting (words_at words k) id w.values others (signs_count words (k + 1) (id + length w.values) ss all.1))
-signs_count words k id (sign.Opens measure p q r ∷ ss) all = signs_count words k id ss all.1
+signs_count words k id (Sign.Opens measure p q r ∷ ss) all = signs_count words k id ss all.1
 
 pub signs_reach : (words : List Words) (k id : ℕ) (before : Clef) (ss : List Sign) → AllByRecursion HasParts ss → SignsReach before ss → CoresReach before (cores_from words k id ss)
 signs_reach words k id before [] all reach = tt
-signs_reach words k id before (sign.Event w waiting ∷ ss) all reach =
+signs_reach words k id before (Sign.Event w waiting ∷ ss) all reach =
     let clef = unwrap_or waiting.changes.clef before in
     let others = cores_from words (k + 1) (id + length w.values) ss in
     let graces = All-from_recursion (λ (g : Event). All (IsInReach clef) g.heads) (map grace_of waiting.graces) (graces_reach clef waiting.graces reach.1) in
     subst (λ z. CoresReach before (z ++ others)) (sym (nodes_sung w waiting (words_at words k) id all.0))
     (parts_reach before (map grace_of waiting.graces) w waiting (words_at words k) id w.values others all.0 reach.0 graces (signs_reach words (k + 1) (id + length w.values) clef ss all.1 reach.2))
-signs_reach words k id before (sign.Opens measure p q r ∷ ss) all reach = signs_reach words k id before ss all.1 reach
+signs_reach words k id before (Sign.Opens measure p q r ∷ ss) all reach = signs_reach words k id before ss all.1 reach
 
 -- how many of the signs are events
 abbrev pub event_number : List Sign → ℕ
 event_number [] = 0
-event_number (sign.Event w waiting ∷ ss) = suc (event_number ss)
-event_number (sign.Opens measure p q r ∷ ss) = event_number ss
+event_number (Sign.Event w waiting ∷ ss) = suc (event_number ss)
+event_number (Sign.Opens measure p q r ∷ ss) = event_number ss
 
 pub signs_good : (words : List Words) (verses k id : ℕ) (ss : List Sign) → AllByRecursion HasParts ss → AllByRecursion HasGoodChanges ss → ((j : ℕ) → j < k + event_number ss → length (words_at words j) ≡ verses)
     → AllByRecursion (IsGoodCore verses) (cores_from words k id ss)
 signs_good words verses k id [] all good each = tt
-signs_good words verses k id (sign.Event w waiting ∷ ss) all good each =
+signs_good words verses k id (Sign.Event w waiting ∷ ss) all good each =
     let others = cores_from words (k + 1) (id + length w.values) ss in
     subst (λ z. AllByRecursion (IsGoodCore verses) (z ++ others)) (sym (nodes_sung w waiting (words_at words k) id all.0))
     (parts_good (map grace_of waiting.graces) w waiting (words_at words k) id w.values others verses (each k (omega arith)) good.0.0 good.0.1
     (signs_good words verses (k + 1) (id + length w.values) ss all.1 good.1 (λ j less. each j (omega (arith, less)))))
-signs_good words verses k id (sign.Opens measure p q r ∷ ss) all good each = signs_good words verses k id ss all.1 good.1 each
+signs_good words verses k id (Sign.Opens measure p q r ∷ ss) all good each = signs_good words verses k id ss all.1 good.1 each

@@ -1,38 +1,15 @@
 -- Heads and graces of a voice without faults are within reach, in the clef at their event.
 use Rattle.std.proofs.Common.{◌≡◌, ◌∙◌, refl, sym, ap, subst, ℕ, zero, suc, ◌+◌, ◌-◌, ℤ, pos, negsuc, ◌≤ℤ◌, int_lt, List, [], ◌∷◌, ◌++◌, Bool, true, false, cond, not, ◌||◌, reverse, Option, Some, None, is_some, unwrap_or, arith}
-use Rattle.std.proofs.lemmas.Int.{ints}
-use Rattle.std.proofs.lemmas.List.{reverse-append}
-use Rattle.std.proofs.lemmas.List.Sums.{take_while-cons}
-use Rattle.std.proofs.lemmas.List.Folds.{list_any-append}
-use Rattle.std.specs.Prelude.{flat_map}
-use Rattle.std.specs.List.{AllByRecursion, before_first, list_any, take_while}
-use Rattle.mus_units.specs.declared.note.Head.{Head}
-use Rattle.mus_units.specs.declared.note.Deco.{Deco}
-use Rattle.mus_units.specs.declared.pitch.Clef.{Clef}
-use Rattle.mus_units.specs.Pitch.{height_of}
+use Rattle.std.{proofs.lemmas.Int.ints, proofs.lemmas.List.reverse-append, proofs.lemmas.List.Sums.take_while-cons, proofs.lemmas.List.Folds.list_any-append, specs.Prelude.flat_map, specs.List.AllByRecursion, specs.List.before_first, specs.List.list_any, specs.List.take_while}
+use Rattle.mus_units.specs.{declared.note.Head.Head, declared.note.Deco.Deco, declared.pitch.Clef.Clef, Pitch.height_of}
 use Rattle.mus_score.specs.GoodScore.{IsInReach}
-use Rattle.abc_lines.specs.declared.fault.FaultKind.TheVariants as kinds
+use Rattle.abc_lines.specs.declared.fault.FaultKind.{FaultKind}
 use Rattle.abc_notes.specs.declared.part.GraceChord.{GraceChord}
-use Rattle.abc_steps.specs.declared.step.Sound.{Sound}
-use Rattle.abc_steps.specs.declared.step.Step.{Step}
-use Rattle.abc_steps.specs.declared.step.Step.TheVariants as step
-use Rattle.abc_steps.specs.declared.step.Stood.{Stood}
-use Rattle.abc_steps.specs.declared.force.InForce.{InForce}
-use Rattle.abc_steps.specs.declared.place.Place.{Place}
-use Rattle.abc_steps.specs.Force.{changes_at, force_at, force_behind, names_clef, when}
-use Rattle.abc_steps.specs.Kinds.{is_event}
-use Rattle.abc_steps.specs.Looks.{Steps, is_tied, since_event}
-use Rattle.abc_steps.specs.Places.{place_at, measure_of}
-use Rattle.abc_steps.specs.Tuplets.{fits, or_default, usual_q}
-use Rattle.abc_events.specs.declared.written.Sign.{Sign}
-use Rattle.abc_events.specs.declared.written.Sign.TheVariants as sign
-use Rattle.abc_events.specs.Signs.{further_rests, parted_at, rest_written, signs, signs_of, sound_written, tied_heads, tuplet_of, with_tie}
-use Rattle.abc_events.specs.Waits.{graces_in, waiting_of}
+use Rattle.abc_steps.specs.{declared.step.Sound.Sound, declared.step.Step.Step, declared.step.Stood.Stood, declared.force.InForce.InForce, declared.place.Place.Place, Force.changes_at, Force.force_at, Force.force_behind, Force.names_clef, Force.when, Kinds.is_event, Looks.Steps, Looks.is_tied}
+use Rattle.abc_steps.specs.{Looks.since_event, Places.place_at, Places.measure_of, Tuplets.fits, Tuplets.or_default, Tuplets.usual_q}
+use Rattle.abc_events.specs.{declared.written.Sign.Sign, Signs.further_rests, Signs.parted_at, Signs.rest_written, Signs.signs, Signs.signs_of, Signs.sound_written, Signs.tied_heads, Signs.tuplet_of, Signs.with_tie, Waits.graces_in, Waits.waiting_of}
 use Rattle.abc_faults.specs.Faults.{any_grace_off, any_off, faults_in, faults_of, grace_faults, grace_faults_of, is_off, rest_faults, sound_faults}
-use Rattle.abc_score.proofs.Parts.{SignsReach, heads_reach}
-use Rattle.abc_score.proofs.Basics.{all_both, neither, none_before, none_behind}
-use Rattle.abc_score.proofs.Clear.{no_fault}
-use Rattle.abc_score.proofs.Walks.{sound_clear}
+use Rattle.abc_score.proofs.{Parts.SignsReach, Parts.heads_reach, Basics.all_both, Basics.neither, Basics.none_before, Basics.none_behind, Clear.no_fault, Walks.sound_clear}
 
 -- ---- heads and graces
 
@@ -72,7 +49,7 @@ chords_reach clef (g ∷ gs) e = let parts = neither (any_off clef g.heads) (any
 
 step_graces : (clef : Clef) (at : Stood) (s : Step) → grace_faults_of clef at s ≡ [] → GracesReach clef (graces_in s)
 unfolding graces_in grace_faults_of
-step_graces clef at (step.Grace slash body) e = chords_reach clef body (no_fault (any_grace_off clef body) kinds.StepRange at e)
+step_graces clef at (Step.Grace slash body) e = chords_reach clef body (no_fault (any_grace_off clef body) FaultKind.StepRange at e)
 step_graces clef at _ e = tt
 
 waits_reach : (clef : Clef) (waits : Steps) → grace_faults clef waits ≡ [] → GracesReach clef (flat_map (λ s. graces_in s.step) waits)
@@ -132,8 +109,8 @@ any_since before = any_reversed (before_first (λ s. is_event s.step) before) �
 
 event_force : (s : Step) (now : InForce) → is_event s ≡ true → force_behind s now ≡ now
 unfolding is_event force_behind
-event_force (step.Sound s) now e = refl
-event_force (step.Measures seen count) now e = refl
+event_force (Step.Sound s) now e = refl
+event_force (Step.Measures seen count) now e = refl
 event_force _ now e = absurd cc
 
 no_clef : (o : Option Clef) (clef : Clef) → is_some o ≡ false → unwrap_or o clef ≡ clef
@@ -142,8 +119,8 @@ no_clef (Some c) clef e = absurd cc
 
 not_clef : (s : Step) (now : InForce) → names_clef s ≡ false → (force_behind s now).clef ≡ now.clef
 unfolding names_clef force_behind
-not_clef (step.Clef clef) now e = absurd cc
-not_clef (step.Key text) now e = no_clef text.clef now.clef e
+not_clef (Step.Clef clef) now e = absurd cc
+not_clef (Step.Key text) now e = no_clef text.clef now.clef e
 not_clef _ now e = refl
 
 clef_here : (first : InForce) (before : Steps) → unwrap_or (when (any_near before) (force_at first before).clef) (event_clef first before) ≡ (force_at first before).clef
@@ -178,14 +155,14 @@ further_reach clef now at seen measure (suc n) rest h = (no_heads clef now at se
 
 tuplet_reach : (clef : Clef) (now : Place) (p q r : ℕ) (rest : List Sign) → SignsReach clef rest → SignsReach clef (tuplet_of now p q r ++ rest)
 tuplet_reach clef now p q r rest h = by_test (fits (or_default p r) now.taking) where
-  by_test : (b : Bool) → SignsReach clef (cond b (sign.Opens (measure_of now) p (or_default (usual_q p now.force.meter) q) (or_default p r) ∷ []) [] ++ rest)
+  by_test : (b : Bool) → SignsReach clef (cond b (Sign.Opens (measure_of now) p (or_default (usual_q p now.force.meter) q) (or_default p r) ∷ []) [] ++ rest)
   by_test true = h
   by_test false = h
 
 step_reach : (first : InForce) (before behind : Steps) (at : Stood) (s : Step) (rest : List Sign) → faults_of (place_at first before) before at behind s ≡ []
     → SignsReach (cond (is_event s) (force_at first before).clef (event_clef first before)) rest → SignsReach (event_clef first before) (signs_of (place_at first before) before at behind s ++ rest)
 unfolding signs_of faults_of is_event
-step_reach first before behind at (step.Sound s) rest e h =
+step_reach first before behind at (Step.Sound s) rest e h =
     let now = place_at first before in
     let clef = (force_at first before).clef in
     let w = sound_written now before at s behind in
@@ -195,7 +172,7 @@ step_reach first before behind at (step.Sound s) rest e h =
       waiting_reach clef (force_at first before) (since_event before) s.decos (none_behind (sound_faults now before at s behind) (grace_faults clef (since_event before)) e),
       h,
     )
-step_reach first before behind at (step.Measures seen count) rest e h =
+step_reach first before behind at (Step.Measures seen count) rest e h =
     let now = place_at first before in
     let clef = (force_at first before).clef in
     let waits = since_event before in
@@ -207,7 +184,7 @@ step_reach first before behind at (step.Measures seen count) rest e h =
       waiting_reach clef (force_at first before) waits [] (none_behind (rest_faults now at count) (grace_faults clef waits) e),
       further_reach clef now at seen (measure_of now + 1) (count - 1) rest h,
     )
-step_reach first before behind at (step.Tuplet p q r) rest e h = tuplet_reach (event_clef first before) (place_at first before) p q r rest h
+step_reach first before behind at (Step.Tuplet p q r) rest e h = tuplet_reach (event_clef first before) (place_at first before) p q r rest h
 step_reach first before behind at _ rest e h = h
 
 walk_reach : (first : InForce) (before behind : Steps) → faults_in first before behind ≡ [] → SignsReach (event_clef first before) (signs first before behind)

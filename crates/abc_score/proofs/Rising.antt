@@ -1,43 +1,26 @@
 -- No event of a voice stands in an earlier measure than one before it, and none past its own measures.
 use Rattle.std.proofs.Common.{◌≡◌, ◌∙◌, refl, sym, ap, subst, ℕ, zero, suc, ◌+◌, ◌-◌, ◌≤◌, ◌<◌, List, [], ◌∷◌, ◌++◌, map, length, Bool, true, false, cond, reverse, max, append-nil, append_assoc, arith}
-use Rattle.std.proofs.lemmas.List.{reverse-append}
-use Rattle.std.specs.Prelude.{⊤, fold}
-use Rattle.std.specs.List.{AllByRecursion}
-use Rattle.abc_steps.specs.declared.step.Step.{Step}
-use Rattle.abc_steps.specs.declared.step.Step.TheVariants as step
-use Rattle.abc_steps.specs.declared.step.Stood.{Stood}
-use Rattle.abc_steps.specs.declared.force.InForce.{InForce}
-use Rattle.abc_steps.specs.declared.place.Place.{Place}
-use Rattle.abc_steps.specs.Counts.{all_further, begins_group, further, groups, measure_at, measures_begun, nearest_at}
-use Rattle.abc_steps.specs.Good.{IsGoodStep, IsGoodStood}
-use Rattle.abc_steps.specs.Kinds.{is_event}
-use Rattle.abc_steps.specs.Looks.{Steps, since_event}
-use Rattle.abc_steps.specs.Places.{place_at, measure_of}
-use Rattle.abc_steps.specs.Tuplets.{fits, or_default, usual_q}
-use Rattle.abc_events.specs.declared.written.Sign.{Sign}
-use Rattle.abc_events.specs.declared.written.Sign.TheVariants as sign
-use Rattle.abc_events.specs.Leaves.{Words, leaves_from}
-use Rattle.abc_events.specs.Signs.{further_rests, parted_at, rest_written, signs, signs_of, sound_written, tuplet_of}
-use Rattle.abc_score.specs.declared.voices.VoiceRead.{VoiceRead}
-use Rattle.abc_score.specs.Score.{most_measures, own_measures}
-use Rattle.abc_score.proofs.Full.{sound_measure}
-use Rattle.abc_score.proofs.Segments.{Rise}
+use Rattle.std.{proofs.lemmas.List.reverse-append, specs.Prelude.⊤, specs.Prelude.fold, specs.List.AllByRecursion}
+use Rattle.abc_steps.specs.{declared.step.Step.Step, declared.step.Stood.Stood, declared.force.InForce.InForce, declared.place.Place.Place, Counts.all_further, Counts.begins_group, Counts.further, Counts.groups, Counts.measure_at, Counts.measures_begun, Counts.nearest_at, Good.IsGoodStep}
+use Rattle.abc_steps.specs.{Good.IsGoodStood, Kinds.is_event, Looks.Steps, Looks.since_event, Places.place_at, Places.measure_of, Tuplets.fits, Tuplets.or_default, Tuplets.usual_q}
+use Rattle.abc_events.specs.{declared.written.Sign.Sign, Leaves.Words, Leaves.leaves_from, Signs.further_rests, Signs.parted_at, Signs.rest_written, Signs.signs, Signs.signs_of, Signs.sound_written, Signs.tuplet_of}
+use Rattle.abc_score.{specs.declared.voices.VoiceRead.VoiceRead, specs.Score.most_measures, specs.Score.own_measures, proofs.Full.sound_measure, proofs.Segments.Rise}
 
 -- the same of signs
 abbrev pub SignsRise : ℕ → ℕ → List Sign → Type 0
 SignsRise low top [] = ⊤
-SignsRise low top (sign.Event w waiting ∷ ss) = (low ≤ w.measure) × (w.measure < top) × SignsRise w.measure top ss
-SignsRise low top (sign.Opens measure p q r ∷ ss) = SignsRise low top ss
+SignsRise low top (Sign.Event w waiting ∷ ss) = (low ≤ w.measure) × (w.measure < top) × SignsRise w.measure top ss
+SignsRise low top (Sign.Opens measure p q r ∷ ss) = SignsRise low top ss
 
 leaves_rise : (words : List Words) (k id low top : ℕ) (ss : List Sign) → SignsRise low top ss → Rise low top (leaves_from words k id ss)
 leaves_rise words k id low top [] rise = tt
-leaves_rise words k id low top (sign.Event w waiting ∷ ss) rise = (rise.0, rise.1, leaves_rise words (k + 1) (id + length w.values) w.measure top ss rise.2)
-leaves_rise words k id low top (sign.Opens measure p q r ∷ ss) rise = leaves_rise words k id low top ss rise
+leaves_rise words k id low top (Sign.Event w waiting ∷ ss) rise = (rise.0, rise.1, leaves_rise words (k + 1) (id + length w.values) w.measure top ss rise.2)
+leaves_rise words k id low top (Sign.Opens measure p q r ∷ ss) rise = leaves_rise words k id low top ss rise
 
 lower : (low high top : ℕ) (ss : List Sign) → low ≤ high → SignsRise high top ss → SignsRise low top ss
 lower low high top [] less rise = tt
-lower low high top (sign.Event w waiting ∷ ss) less rise = let first : high ≤ w.measure = rise.0 in (omega arith, rise.1, rise.2)
-lower low high top (sign.Opens measure p q r ∷ ss) less rise = lower low high top ss less rise
+lower low high top (Sign.Event w waiting ∷ ss) less rise = let first : high ≤ w.measure = rise.0 in (omega arith, rise.1, rise.2)
+lower low high top (Sign.Opens measure p q r ∷ ss) less rise = lower low high top ss less rise
 
 -- ---- measures begun
 
@@ -88,19 +71,19 @@ further_rise now at seen low (suc n) end top rest e less rise =
 
 tuplet_rise : (now : Place) (p q r low top : ℕ) (rest : List Sign) → SignsRise low top rest → SignsRise low top (tuplet_of now p q r ++ rest)
 tuplet_rise now p q r low top rest rise = by_test (fits (or_default p r) now.taking) where
-  by_test : (b : Bool) → SignsRise low top (cond b (sign.Opens (measure_of now) p (or_default (usual_q p now.force.meter) q) (or_default p r) ∷ []) [] ++ rest)
+  by_test : (b : Bool) → SignsRise low top (cond b (Sign.Opens (measure_of now) p (or_default (usual_q p now.force.meter) q) (or_default p r) ∷ []) [] ++ rest)
   by_test true = rise
   by_test false = rise
 
 step_rise : (first : InForce) (before behind : Steps) (at : Stood) (s : Step) (top : ℕ) (rest : List Sign) → IsGoodStep s → cond (is_event s) (measure_at before + further s + 1) 0 ≤ top
     → SignsRise (measure_at before + further s) top rest → SignsRise (measure_at before) top (signs_of (place_at first before) before at behind s ++ rest)
 unfolding signs_of is_event further
-step_rise first before behind at (step.Sound s) top rest good less rise =
+step_rise first before behind at (Step.Sound s) top rest good less rise =
     let now = place_at first before in
     let w = sound_written now before at s behind in
     let is : w.measure ≡ measure_at before = sound_measure now before behind at s in
     (omega (arith, is), omega (arith, is, less), subst (λ m. SignsRise m top rest) (sym is) (lower (measure_at before) (measure_at before + 0) top rest (omega arith) rise))
-step_rise first before behind at (step.Measures seen count) top rest good less rise =
+step_rise first before behind at (Step.Measures seen count) top rest good less rise =
     let now = place_at first before in
     let w = rest_written now at seen (measure_of now) (parted_at now (since_event before)) in
     let is : w.measure ≡ measure_at before = rest_measure now at seen (measure_of now) (parted_at now (since_event before)) in
@@ -109,7 +92,7 @@ step_rise first before behind at (step.Measures seen count) top rest good less r
       omega (arith, is, less),
       subst (λ m. SignsRise m top others) (sym is) (further_rise now at seen (measure_at before) (count - 1) (measure_at before + (count - 1)) top rest refl (omega (arith, less)) rise),
     )
-step_rise first before behind at (step.Tuplet p q r) top rest good less rise =
+step_rise first before behind at (Step.Tuplet p q r) top rest good less rise =
     tuplet_rise (place_at first before) p q r (measure_at before) top rest (lower (measure_at before) (measure_at before + 0) top rest (omega arith) rise)
 step_rise first before behind at _ top rest good less rise = lower (measure_at before) (measure_at before + 0) top rest (omega arith) rise
 

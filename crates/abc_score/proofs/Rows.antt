@@ -1,20 +1,10 @@
 -- The events of a tree in a row: tuplets around them change neither what they are nor what they weigh.
 use Rattle.std.proofs.Common.{◌≡◌, ◌∙◌, refl, sym, ap, ℕ, zero, suc, ◌+◌, ◌-◌, List, [], ◌∷◌, ◌++◌, map, sum, sum_by, length, Bool, append_assoc, arith}
-use Rattle.std.proofs.lemmas.List.{map-append}
-use Rattle.std.proofs.lemmas.List.Sums.{sum_by-cons, sum_by-append}
-use Rattle.mus_score.specs.declared.score.Event.{Event}
-use Rattle.mus_score.specs.declared.score.Music.{Music}
+use Rattle.std.proofs.{lemmas.List.map-append, lemmas.List.Sums.sum_by-cons, lemmas.List.Sums.sum_by-append}
+use Rattle.mus_score.specs.{declared.score.Event.Event, declared.score.Music.Music, declared.score.Music.TheOpen.Music-F, declared.score.Music.TheViews.roll-Music, declared.score.Music.TheFolds.fold-roll-Music, declared.good.Judged.Judged, declared.good.Place.Place, Good.weight, Good.weight_step}
+use Rattle.mus_score.specs.{Good.judged_within, Good.good_step, Times.Leafing, Times.leaf, Times.leaves_step, Times.leaves_within}
+use Rattle.abc_events.specs.{declared.leaves.Leaf.Leaf, Nesting.Forest, Nesting.none_more, Nesting.one, Nesting.group, Nesting.cut, Nesting.nest, Nesting.music_of}
 use Rattle.mus_score.specs.declared.score.Music.TheVariants as music
-use Rattle.mus_score.specs.declared.score.Music.TheOpen.{Music-F}
-use Rattle.mus_score.specs.declared.score.Music.TheViews.{roll-Music}
-use Rattle.mus_score.specs.declared.score.Music.TheFolds.{fold-roll-Music}
-use Rattle.mus_score.specs.declared.good.Judged.{Judged}
-use Rattle.mus_score.specs.declared.good.Place.{Place}
-use Rattle.mus_score.specs.Good.{weight, weight_step, judged_within, good_step}
-use Rattle.mus_score.specs.Times.{Leafing, leaf, leaves_step, leaves_within}
-use Rattle.abc_events.specs.declared.leaves.Leaf.{Leaf}
-use Rattle.abc_events.specs.declared.leaves.Leaf.TheVariants as leaves
-use Rattle.abc_events.specs.Nesting.{Forest, none_more, one, group, cut, nest, music_of}
 
 -- the nodes of each event, from the first to the last
 abbrev pub rows : Forest → List (List Music)
@@ -24,8 +14,8 @@ rows (group p q takes inner f) = rows inner ++ rows f
 
 abbrev pub leaf_rows : List Leaf → List (List Music)
 leaf_rows [] = []
-leaf_rows (leaves.Event measure nodes ∷ ls) = nodes ∷ leaf_rows ls
-leaf_rows (leaves.Opens measure p q r ∷ ls) = leaf_rows ls
+leaf_rows (Leaf.Event measure nodes ∷ ls) = nodes ∷ leaf_rows ls
+leaf_rows (Leaf.Opens measure p q r ∷ ls) = leaf_rows ls
 
 cut_rows : (r : ℕ) (f : Forest) → rows (cut r f).taken ++ rows (cut r f).left ≡ rows f
 cut_rows zero f = refl
@@ -35,8 +25,8 @@ cut_rows (suc r) (group p q takes inner f) = append_assoc (rows inner) (rows (cu
 
 pub nest_rows : (ls : List Leaf) → rows (nest ls) ≡ leaf_rows ls
 nest_rows [] = refl
-nest_rows (leaves.Event measure nodes ∷ ls) = ap (λ z. nodes ∷ z) (nest_rows ls)
-nest_rows (leaves.Opens measure p q r ∷ ls) = cut_rows r (nest ls) ∙ nest_rows ls
+nest_rows (Leaf.Event measure nodes ∷ ls) = ap (λ z. nodes ∷ z) (nest_rows ls)
+nest_rows (Leaf.Opens measure p q r ∷ ls) = cut_rows r (nest ls) ∙ nest_rows ls
 
 -- What folds make of each kind of node.
 pub weight_note : (e : Event) → weight (music.Note e) ≡ length e.heads

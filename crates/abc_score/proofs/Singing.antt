@@ -1,20 +1,13 @@
 -- The nodes of a written event: its parts, the first with its graces, and what they weigh.
 use Rattle.std.proofs.Common.{◌≡◌, ◌∙◌, refl, sym, ap, subst, ℕ, suc, ◌+◌, ◌*◌, ◌≤◌, max, List, [], ◌∷◌, ◌++◌, map, sum_by, length, Bool, arith}
-use Rattle.std.proofs.lemmas.List.{length-map}
-use Rattle.std.proofs.lemmas.List.Sums.{sum_by-cons}
-use Rattle.mus_units.specs.declared.note.Head.{Head}
-use Rattle.mus_units.specs.declared.value.Value.{Value}
-use Rattle.mus_score.specs.declared.score.Event.{Event}
-use Rattle.mus_score.specs.declared.score.Music.TheVariants as music
-use Rattle.mus_score.specs.declared.score.Music.TheOpen.{Music-F}
-use Rattle.mus_score.specs.Good.{weight}
-use Rattle.mus_score.specs.Times.{Leafing, in_row, leaf, leaves_step, leaves_within, nothing}
+use Rattle.std.proofs.{lemmas.List.length-map, lemmas.List.Sums.sum_by-cons}
+use Rattle.mus_units.specs.{declared.note.Head.Head, declared.value.Value.Value}
+use Rattle.mus_score.specs.{declared.score.Event.Event, declared.score.Music.TheOpen.Music-F, Good.weight, Times.Leafing, Times.in_row, Times.leaf, Times.leaves_step, Times.leaves_within, Times.nothing, declared.score.Music.Music}
 use Rattle.abc_notes.specs.declared.part.GraceChord.{GraceChord}
-use Rattle.abc_events.specs.declared.written.Written.{Written}
-use Rattle.abc_events.specs.declared.written.Waiting.{Waiting}
+use Rattle.abc_events.specs.{declared.written.Written.Written, declared.written.Waiting.Waiting}
 use Rattle.abc_events.specs.Leaves.{Words, first_part, later_part, later_parts, parts, some_more, node_of, note_or_rest, grace_event, grace_note, grace_nodes, nodes_of}
-use Rattle.abc_score.proofs.Rows.{weight_of, weight_of-append, weight_of-cons, weight_note, weight_rest, weight_grace, leaves_note, leaves_rest, leaves_grace}
-use Rattle.abc_score.proofs.Cores.{Core, core, Sings, sings_none, sings_append, sung, IsSung}
+use Rattle.abc_score.proofs.{Rows.weight_of, Rows.weight_of-append, Rows.weight_of-cons, Rows.weight_note, Rows.weight_rest, Rows.weight_grace, Rows.leaves_note, Rows.leaves_rest, Rows.leaves_grace, Cores.Core, Cores.core, Cores.Sings, Cores.sings_none, Cores.sings_append, Cores.sung, Cores.IsSung}
+use Rattle.mus_score.specs.declared.score.Music.TheVariants as music
 
 -- ---- which events
 

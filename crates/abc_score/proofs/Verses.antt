@@ -1,14 +1,10 @@
 -- The verses that are too many, in a body whose lines of words rise: the first of the list comes first.
 use Rattle.std.proofs.Common.{◌≡◌, ◌∙◌, refl, sym, ap, subst, ℕ, ◌≤◌, List, [], ◌∷◌, ◌++◌, Bool, true, false, cond, Option, Some, None, arith}
-use Rattle.std.proofs.lemmas.Bool.Decides.{nat_tests}
-use Rattle.std.specs.Prelude.{⊤, nat_lt, nat_le}
+use Rattle.std.{proofs.lemmas.Bool.Decides.nat_tests, specs.Prelude.⊤, specs.Prelude.nat_lt, specs.Prelude.nat_le}
 use Rattle.abc_lines.specs.declared.fault.Fault.{Fault}
 use Rattle.abc_steps.specs.declared.step.Item.{Item}
-use Rattle.abc_steps.specs.declared.step.Item.TheVariants as item
 use Rattle.abc_faults.specs.First.{is_before, earlier, first_of, then_below}
-use Rattle.abc_words.specs.declared.verses.Verse.{Verse}
-use Rattle.abc_words.specs.Rows.{place_at}
-use Rattle.abc_words.specs.Verses.{verse_if, verses_from, verses_of, number_on, too_many, faults_from, verse_faults}
+use Rattle.abc_words.specs.{declared.verses.Verse.Verse, Rows.place_at, Verses.verse_if, Verses.verses_from, Verses.verses_of, Verses.number_on, Verses.too_many, Verses.faults_from, Verses.verse_faults}
 use Rattle.abc_words.specs.Verses.{first_of as head_of}
 use Rattle.abc_score.specs.Order.{DoWordsRiseFrom, DoWordsRise}
 
@@ -28,12 +24,12 @@ with_verse false last text low line vs less rise = lower low line vs less rise
 
 verses_rise : (id unnamed : List ℕ) (before behind : List Item) (low : ℕ) → DoWordsRiseFrom low behind → DoLinesRise low (verses_from id unnamed before behind)
 verses_rise id unnamed before [] low rise = tt
-verses_rise id unnamed before (item.Words text line ∷ behind) low rise =
+verses_rise id unnamed before (Item.Words text line ∷ behind) low rise =
     let place = place_at id unnamed before in
-    with_verse place.current place.last text low line (verses_from id unnamed (item.Words text line ∷ before) behind) rise.0 (verses_rise id unnamed (item.Words text line ∷ before) behind line rise.1)
-verses_rise id unnamed before (item.Step s ∷ behind) low rise = verses_rise id unnamed (item.Step s ∷ before) behind low rise
-verses_rise id unnamed before (item.LineEnd joined breaks line column ∷ behind) low rise = verses_rise id unnamed (item.LineEnd joined breaks line column ∷ before) behind low rise
-verses_rise id unnamed before (item.Voice def line column ∷ behind) low rise = verses_rise id unnamed (item.Voice def line column ∷ before) behind low rise
+    with_verse place.current place.last text low line (verses_from id unnamed (Item.Words text line ∷ before) behind) rise.0 (verses_rise id unnamed (Item.Words text line ∷ before) behind line rise.1)
+verses_rise id unnamed before (Item.Step s ∷ behind) low rise = verses_rise id unnamed (Item.Step s ∷ before) behind low rise
+verses_rise id unnamed before (Item.LineEnd joined breaks line column ∷ behind) low rise = verses_rise id unnamed (Item.LineEnd joined breaks line column ∷ before) behind low rise
+verses_rise id unnamed before (Item.Voice def line column ∷ behind) low rise = verses_rise id unnamed (Item.Voice def line column ∷ before) behind low rise
 
 -- faults of verses from a line on: none of them, or the head of the list, comes before one on that line
 abbrev IsFrom : ℕ → Option Fault → Type 0

@@ -1,46 +1,19 @@
 -- What the steps of a voice without faults are: each event has parts and good changes, and tuplets are full.
 use Rattle.std.proofs.Common.{◌≡◌, ◌∙◌, refl, sym, ap, subst, ℕ, zero, suc, ◌+◌, ◌-◌, ◌*◌, ◌/◌, ◌≤◌, List, [], ◌∷◌, ◌++◌, length, Bool, true, false, cond, not, nat_le, ◌==◌, Option, Some, None, IfSome, unwrap_or, is_none, option_map, zero-add, eqb-true, arith}
-use Rattle.std.proofs.lemmas.Bool.{leb-true}
-use Rattle.std.proofs.lemmas.Bool.Decides.{nat_tests}
-use Rattle.std.proofs.lemmas.Nat.{mul-le}
-use Rattle.std.proofs.lemmas.List.Sums.{sum_by-cons, take_while-cons}
-use Rattle.std.specs.Prelude.{⊤, count_by, nat_lt}
-use Rattle.std.specs.List.{AllByRecursion, list_any, take_while}
-use Rattle.mus_units.specs.declared.note.Deco.{Deco}
-use Rattle.mus_units.specs.declared.key.Key.{Key}
+use Rattle.std.{proofs.lemmas.Bool.leb-true, proofs.lemmas.Bool.Decides.nat_tests, proofs.lemmas.Nat.mul-le, proofs.lemmas.List.Sums.sum_by-cons, proofs.lemmas.List.Sums.take_while-cons, specs.Prelude.⊤, specs.Prelude.count_by, specs.Prelude.nat_lt, specs.List.AllByRecursion, specs.List.list_any}
+use Rattle.std.specs.List.{take_while}
+use Rattle.mus_units.specs.{declared.note.Deco.Deco, declared.key.Key.Key, declared.key.Meter.Meter, declared.value.Frac.Frac, declared.value.Value.Value, Good.AreGoodSigns, Good.IsGoodKey, Good.IsGoodMeter, Good.IsGoodUnit, Parts.cut_in, Parts.cut_next, Parts.longest_within, Parts.parts_list}
+use Rattle.mus_units.specs.Parts.{units_of}
 use Rattle.mus_units.specs.declared.key.Sign.{Sign as KeySign}
-use Rattle.mus_units.specs.declared.key.Meter.{Meter}
-use Rattle.mus_units.specs.declared.value.Frac.{Frac}
-use Rattle.mus_units.specs.declared.value.Value.{Value}
-use Rattle.mus_units.specs.Good.{AreGoodSigns, IsGoodKey, IsGoodMeter, IsGoodUnit}
-use Rattle.mus_units.specs.Parts.{cut_in, cut_next, longest_within, parts_list, units_of}
 use Rattle.mus_pitch.proofs.SignLaws.{laid_good}
-use Rattle.abc_lines.specs.declared.fault.FaultKind.TheVariants as kinds
+use Rattle.abc_lines.specs.declared.fault.FaultKind.{FaultKind}
 use Rattle.abc_fields.specs.Keys.{GoodKeyIn, over_by}
-use Rattle.abc_steps.specs.declared.step.Sound.{Sound}
-use Rattle.abc_steps.specs.declared.step.Step.{Step}
-use Rattle.abc_steps.specs.declared.step.Step.TheVariants as step
-use Rattle.abc_steps.specs.declared.step.Stood.{Stood}
-use Rattle.abc_steps.specs.declared.force.InForce.{InForce}
-use Rattle.abc_steps.specs.declared.place.Place.{Place}
-use Rattle.abc_steps.specs.declared.tuplets.Taking.{Taking}
-use Rattle.abc_steps.specs.declared.tuplets.Taking.TheVariants as taking
-use Rattle.abc_steps.specs.Force.{changes_at, force_at, force_behind, names_key, names_meter, when}
-use Rattle.abc_steps.specs.Good.{IsGoodForce, IsGoodSound, IsGoodStep, IsGoodStood}
-use Rattle.abc_steps.specs.Kinds.{is_sound}
-use Rattle.abc_steps.specs.Lengths.{left_factor, left_side, long_side, right_factor, right_side, short_side, written_length}
-use Rattle.abc_steps.specs.Looks.{Steps, broken_before, broken_behind, since_event}
-use Rattle.abc_steps.specs.Places.{place_at, measure_of}
-use Rattle.abc_steps.specs.Tuplets.{after_event, fits, one_less, opened, or_default, taking_behind, usual_q}
-use Rattle.abc_events.specs.declared.written.Sign.TheVariants as sign
-use Rattle.abc_events.specs.Signs.{further_rests, parted_at, signs, signs_of, sound_written, tuplet_of}
-use Rattle.abc_events.specs.Waits.{waiting_of}
+use Rattle.abc_steps.specs.{declared.step.Sound.Sound, declared.step.Step.Step, declared.step.Stood.Stood, declared.force.InForce.InForce, declared.place.Place.Place, declared.tuplets.Taking.Taking, Force.changes_at, Force.force_at, Force.force_behind, Force.names_key, Force.names_meter, Force.when}
+use Rattle.abc_steps.specs.{Good.IsGoodForce, Good.IsGoodSound, Good.IsGoodStep, Good.IsGoodStood, Kinds.is_sound, Lengths.left_factor, Lengths.left_side, Lengths.long_side, Lengths.right_factor, Lengths.right_side, Lengths.short_side, Lengths.written_length, Looks.Steps, Looks.broken_before}
+use Rattle.abc_steps.specs.{Looks.broken_behind, Looks.since_event, Places.place_at, Places.measure_of, Tuplets.after_event, Tuplets.fits, Tuplets.one_less, Tuplets.opened, Tuplets.or_default, Tuplets.taking_behind, Tuplets.usual_q}
+use Rattle.abc_events.specs.{declared.written.Sign.Sign, Signs.further_rests, Signs.parted_at, Signs.signs, Signs.signs_of, Signs.sound_written, Signs.tuplet_of, Waits.waiting_of}
 use Rattle.abc_faults.specs.Faults.{any_off, ends_tuplets, fault_at, fault_if, faults_in, faults_of, grace_faults, is_free, is_past, misfit_of, rest_faults, sound_faults, sounds_behind, tuplet_faults}
-use Rattle.abc_score.proofs.Basics.{all_both, none_before, none_behind}
-use Rattle.abc_score.proofs.Clear.{no_fault}
-use Rattle.abc_score.proofs.Nested.{above_one}
-use Rattle.abc_score.proofs.Parts.{HasParts, HasGoodChanges}
-use Rattle.abc_score.proofs.Judging.{rest_values}
+use Rattle.abc_score.proofs.{Basics.all_both, Basics.none_before, Basics.none_behind, Clear.no_fault, Nested.above_one, Parts.HasParts, Parts.HasGoodChanges, Judging.rest_values}
 
 -- ---- what each kind of step shows
 
@@ -49,25 +22,25 @@ pub sound_clear : (now : Place) (before behind : Steps) (at : Stood) (s : Sound)
 unfolding sound_faults
 sound_clear now before behind at s e =
     let whole = written_length now.force.unit s before behind in
-    let undrawable = fault_if (is_none (parts_list whole.num whole.den)) kinds.Undrawable at in
-    let off = fault_if (any_off now.force.clef s.heads) kinds.StepRange at in
-    let past = fault_if (is_past (measure_of now)) kinds.TooManyMeasures at in
+    let undrawable = fault_if (is_none (parts_list whole.num whole.den)) FaultKind.Undrawable at in
+    let off = fault_if (any_off now.force.clef s.heads) FaultKind.StepRange at in
+    let past = fault_if (is_past (measure_of now)) FaultKind.TooManyMeasures at in
     let front : undrawable ++ off ≡ [] = none_before (undrawable ++ off) past e in
-    (no_fault (is_none (parts_list whole.num whole.den)) kinds.Undrawable at (none_before undrawable off front), no_fault (any_off now.force.clef s.heads) kinds.StepRange at (none_behind undrawable off front))
+    (no_fault (is_none (parts_list whole.num whole.den)) FaultKind.Undrawable at (none_before undrawable off front), no_fault (any_off now.force.clef s.heads) FaultKind.StepRange at (none_behind undrawable off front))
 
 pub rest_clear : (now : Place) (at : Stood) (count : ℕ) → rest_faults now at count ≡ [] → is_free now.force.meter ≡ false
 rest_clear now at count e =
-    let free = fault_if (is_free now.force.meter) kinds.RestWithoutMeter at in
-    let past = fault_if (is_past (measure_of now + (count - 1))) kinds.TooManyMeasures at in
-    no_fault (is_free now.force.meter) kinds.RestWithoutMeter at (none_before free past e)
+    let free = fault_if (is_free now.force.meter) FaultKind.RestWithoutMeter at in
+    let past = fault_if (is_past (measure_of now + (count - 1))) FaultKind.TooManyMeasures at in
+    no_fault (is_free now.force.meter) FaultKind.RestWithoutMeter at (none_before free past e)
 
 not_short : (n r : ℕ) → nat_lt n r ≡ false → r ≤ n
 not_short n r e = grind (arith, nat_tests)
 
 pub tuplet_clear : (r : ℕ) (t : Taking) (at : Stood) (behind : Steps) → tuplet_faults r t at behind ≡ [] → (fits r t ≡ true) × (r ≤ sounds_behind behind)
 tuplet_clear r t at behind e = by_test (fits r t) refl e where
-  by_test : (b : Bool) → fits r t ≡ b → cond b (fault_if (nat_lt (sounds_behind behind) r) kinds.TupletShort at) (fault_at (misfit_of t) at ∷ []) ≡ [] → (fits r t ≡ true) × (r ≤ sounds_behind behind)
-  by_test true is e = (is, not_short (sounds_behind behind) r (no_fault (nat_lt (sounds_behind behind) r) kinds.TupletShort at e))
+  by_test : (b : Bool) → fits r t ≡ b → cond b (fault_if (nat_lt (sounds_behind behind) r) FaultKind.TupletShort at) (fault_at (misfit_of t) at ∷ []) ≡ [] → (fits r t ≡ true) × (r ≤ sounds_behind behind)
+  by_test true is e = (is, not_short (sounds_behind behind) r (no_fault (nat_lt (sounds_behind behind) r) FaultKind.TupletShort at e))
   by_test false is e = absurd cc
 
 -- ---- parts
@@ -113,14 +86,14 @@ short_some dots = by_tests (nat_le dots 1) (nat_le dots 2) where
 
 left_some : (s : Step) → 1 ≤ (left_side s).num
 unfolding left_side
-left_some (step.Broken true dots) = long_some dots
-left_some (step.Broken false dots) = short_some dots
+left_some (Step.Broken true dots) = long_some dots
+left_some (Step.Broken false dots) = short_some dots
 left_some _ = omega arith
 
 right_some : (s : Step) → 1 ≤ (right_side s).num
 unfolding right_side
-right_some (step.Broken true dots) = short_some dots
-right_some (step.Broken false dots) = long_some dots
+right_some (Step.Broken true dots) = short_some dots
+right_some (Step.Broken false dots) = long_some dots
 right_some _ = omega arith
 
 left_factor_some : (o : Option Stood) → 1 ≤ (left_factor o).num
@@ -153,15 +126,15 @@ further_parts now at seen measure (suc n) = (rest_values now at seen measure fal
 
 tuplet_parts : (now : Place) (p q r : ℕ) → AllByRecursion HasParts (tuplet_of now p q r)
 tuplet_parts now p q r = by_test (fits (or_default p r) now.taking) where
-  by_test : (b : Bool) → AllByRecursion HasParts (cond b (sign.Opens (measure_of now) p (or_default (usual_q p now.force.meter) q) (or_default p r) ∷ []) [])
+  by_test : (b : Bool) → AllByRecursion HasParts (cond b (Sign.Opens (measure_of now) p (or_default (usual_q p now.force.meter) q) (or_default p r) ∷ []) [])
   by_test true = (tt, tt)
   by_test false = tt
 
 step_parts : (now : Place) (before behind : Steps) (at : Stood) (s : Step) → IsGoodForce now.force → IsGoodStep s → faults_of now before at behind s ≡ [] → AllByRecursion HasParts (signs_of now before at behind s)
 unfolding signs_of faults_of
-step_parts now before behind at (step.Sound s) force good e = (sound_parts now before behind at s force.unit good (none_before (sound_faults now before at s behind) (grace_faults now.force.clef (since_event before)) e), tt)
-step_parts now before behind at (step.Measures seen count) force good e = (rest_values now at seen (measure_of now) (parted_at now (since_event before)), further_parts now at seen (measure_of now + 1) (count - 1))
-step_parts now before behind at (step.Tuplet p q r) force good e = tuplet_parts now p q r
+step_parts now before behind at (Step.Sound s) force good e = (sound_parts now before behind at s force.unit good (none_before (sound_faults now before at s behind) (grace_faults now.force.clef (since_event before)) e), tt)
+step_parts now before behind at (Step.Measures seen count) force good e = (rest_values now at seen (measure_of now) (parted_at now (since_event before)), further_parts now at seen (measure_of now + 1) (count - 1))
+step_parts now before behind at (Step.Tuplet p q r) force good e = tuplet_parts now p q r
 step_parts now before behind at _ force good e = tt
 
 -- ---- what is in force
@@ -172,10 +145,10 @@ over_good signs adds (Some key) good whole = whole
 
 force_good : (s : Step) (now : InForce) → IsGoodForce now → IsGoodStep s → IsGoodForce (force_behind s now)
 unfolding force_behind
-force_good (step.Clef clef) now force good = record { key = force.key; meter = force.meter; unit = force.unit }
-force_good (step.Key text) now force good = record { key = over_good now.key.signs text.adds text.key force.key good; meter = force.meter; unit = force.unit }
-force_good (step.Meter meter) now force good = record { key = force.key; meter = good; unit = force.unit }
-force_good (step.Unit unit) now force good = record { key = force.key; meter = force.meter; unit = good }
+force_good (Step.Clef clef) now force good = record { key = force.key; meter = force.meter; unit = force.unit }
+force_good (Step.Key text) now force good = record { key = over_good now.key.signs text.adds text.key force.key good; meter = force.meter; unit = force.unit }
+force_good (Step.Meter meter) now force good = record { key = force.key; meter = good; unit = force.unit }
+force_good (Step.Unit unit) now force good = record { key = force.key; meter = force.meter; unit = good }
 force_good _ now force good = force
 
 pub walk_force : (first : InForce) (before : Steps) → IsGoodForce first → AllByRecursion IsGoodStood before → IsGoodForce (force_at first before)
@@ -211,15 +184,15 @@ further_changes now at seen measure (suc n) = ((tt, tt), further_changes now at 
 
 tuplet_changes : (now : Place) (p q r : ℕ) → AllByRecursion HasGoodChanges (tuplet_of now p q r)
 tuplet_changes now p q r = by_test (fits (or_default p r) now.taking) where
-  by_test : (b : Bool) → AllByRecursion HasGoodChanges (cond b (sign.Opens (measure_of now) p (or_default (usual_q p now.force.meter) q) (or_default p r) ∷ []) [])
+  by_test : (b : Bool) → AllByRecursion HasGoodChanges (cond b (Sign.Opens (measure_of now) p (or_default (usual_q p now.force.meter) q) (or_default p r) ∷ []) [])
   by_test true = (tt, tt)
   by_test false = tt
 
 step_changes : (now : Place) (before behind : Steps) (at : Stood) (s : Step) → IsGoodForce now.force → AllByRecursion HasGoodChanges (signs_of now before at behind s)
 unfolding signs_of
-step_changes now before behind at (step.Sound s) force = (waiting_changes now.force (since_event before) s.decos force, tt)
-step_changes now before behind at (step.Measures seen count) force = (waiting_changes now.force (since_event before) [] force, further_changes now at seen (measure_of now + 1) (count - 1))
-step_changes now before behind at (step.Tuplet p q r) force = tuplet_changes now p q r
+step_changes now before behind at (Step.Sound s) force = (waiting_changes now.force (since_event before) s.decos force, tt)
+step_changes now before behind at (Step.Measures seen count) force = (waiting_changes now.force (since_event before) [] force, further_changes now at seen (measure_of now + 1) (count - 1))
+step_changes now before behind at (Step.Tuplet p q r) force = tuplet_changes now p q r
 step_changes now before behind at _ force = tt
 
 pub walk_changes : (first : InForce) (before behind : Steps) → IsGoodForce first → AllByRecursion IsGoodStood before → AllByRecursion IsGoodStood behind → AllByRecursion HasGoodChanges (signs first before behind)
@@ -246,27 +219,27 @@ sounds_on s rest =
 
 -- so many events suffice for the open ones
 abbrev pub Enough : Taking → ℕ → Type 0
-Enough taking.Nothing n = ⊤
-Enough (taking.One left) n = (1 ≤ left) × (left ≤ n)
-Enough (taking.Two inner outer) n = (1 ≤ inner) × (inner ≤ outer) × (outer ≤ n)
+Enough Taking.Nothing n = ⊤
+Enough (Taking.One left) n = (1 ≤ left) × (left ≤ n)
+Enough (Taking.Two inner outer) n = (1 ≤ inner) × (inner ≤ outer) × (outer ≤ n)
 
-pub none_open : (t : Taking) → Enough t 0 → t ≡ taking.Nothing
-none_open taking.Nothing enough = refl
-none_open (taking.One left) enough = absurd (omega (arith, enough.0, enough.1))
-none_open (taking.Two inner outer) enough = absurd (omega (arith, enough.0, enough.1, enough.2))
+pub none_open : (t : Taking) → Enough t 0 → t ≡ Taking.Nothing
+none_open Taking.Nothing enough = refl
+none_open (Taking.One left) enough = absurd (omega (arith, enough.0, enough.1))
+none_open (Taking.Two inner outer) enough = absurd (omega (arith, enough.0, enough.1, enough.2))
 
 less_enough : (left n : ℕ) → left ≤ 1 + n → Enough (one_less left) n
 less_enough left n few = by_test (nat_le left 1) refl where
-  by_test : (b : Bool) → nat_le left 1 ≡ b → Enough (cond b taking.Nothing (taking.One (left - 1))) n
+  by_test : (b : Bool) → nat_le left 1 ≡ b → Enough (cond b Taking.Nothing (Taking.One (left - 1))) n
   by_test true e = tt
   by_test false e = let more : 2 ≤ left = above_one left e in (omega arith, omega arith)
 
 after_enough : (t : Taking) (n : ℕ) → Enough t (1 + n) → Enough (after_event t) n
 unfolding after_event
-after_enough taking.Nothing n enough = tt
-after_enough (taking.One left) n enough = less_enough left n enough.1
-after_enough (taking.Two inner outer) n enough = by_test (nat_le inner 1) refl where
-  by_test : (b : Bool) → nat_le inner 1 ≡ b → Enough (cond b (one_less outer) (taking.Two (inner - 1) (outer - 1))) n
+after_enough Taking.Nothing n enough = tt
+after_enough (Taking.One left) n enough = less_enough left n enough.1
+after_enough (Taking.Two inner outer) n enough = by_test (nat_le inner 1) refl where
+  by_test : (b : Bool) → nat_le inner 1 ≡ b → Enough (cond b (one_less outer) (Taking.Two (inner - 1) (outer - 1))) n
   by_test true e = less_enough outer n enough.2
   by_test false e =
       let more : 2 ≤ inner = above_one inner e in
@@ -276,10 +249,10 @@ after_enough (taking.Two inner outer) n enough = by_test (nat_le inner 1) refl w
 
 opened_enough : (r : ℕ) (t : Taking) (n : ℕ) → fits r t ≡ true → 1 ≤ r → r ≤ n → Enough t n → Enough (opened r t) n
 unfolding fits
-opened_enough r taking.Nothing n fit some few enough = (some, few)
-opened_enough r (taking.One left) n fit some few enough =
-    subst (λ b. Enough (cond b (taking.Two r left) (taking.One left)) n) (sym fit) (some, leb-true r left fit, enough.1)
-opened_enough r (taking.Two inner outer) n fit some few enough = absurd cc
+opened_enough r Taking.Nothing n fit some few enough = (some, few)
+opened_enough r (Taking.One left) n fit some few enough =
+    subst (λ b. Enough (cond b (Taking.Two r left) (Taking.One left)) n) (sym fit) (some, leb-true r left fit, enough.1)
+opened_enough r (Taking.Two inner outer) n fit some few enough = absurd cc
 
 pub default_some : (p r : ℕ) → 2 ≤ p → 1 ≤ or_default p r
 default_some p zero low = omega arith
@@ -290,10 +263,10 @@ no_more t n enough = subst (Enough t) (zero-add n) enough
 
 pub next_enough : (now : Place) (before behind : Steps) (at : Stood) (s : Step) → IsGoodStep s → faults_of now before at behind s ≡ [] → Enough now.taking (cond (ends_tuplets s) 0 (cond (is_sound s) 1 0 + sounds_behind behind)) → Enough (taking_behind s now.taking) (sounds_behind behind)
 unfolding faults_of ends_tuplets is_sound taking_behind
-next_enough now before behind at (step.Sound s) good e enough = after_enough now.taking (sounds_behind behind) enough
-next_enough now before behind at (step.Measures seen count) good e enough = tt
-next_enough now before behind at (step.Bar bar) good e enough = tt
-next_enough now before behind at (step.Tuplet p q r) good e enough =
+next_enough now before behind at (Step.Sound s) good e enough = after_enough now.taking (sounds_behind behind) enough
+next_enough now before behind at (Step.Measures seen count) good e enough = tt
+next_enough now before behind at (Step.Bar bar) good e enough = tt
+next_enough now before behind at (Step.Tuplet p q r) good e enough =
     let clear = tuplet_clear (or_default p r) now.taking at behind e in
     opened_enough (or_default p r) now.taking (sounds_behind behind) clear.0 (default_some p r good.p_low) clear.1 (no_more now.taking (sounds_behind behind) enough)
 next_enough now before behind at _ good e enough = no_more now.taking (sounds_behind behind) enough

@@ -1,40 +1,16 @@
 -- What the signs of a voice weigh is at most what its steps weigh, and that of all voices is at most 50,000 where they aren't crowded.
 use Rattle.std.proofs.Common.{◌≡◌, ◌∙◌, refl, sym, ap, subst, ℕ, zero, suc, ◌+◌, ◌-◌, ◌*◌, ◌≤◌, max, List, [], ◌∷◌, ◌++◌, sum_by, length, Bool, true, false, cond, Option, Some, None, mul_comm, mul-le-mul_left, arith}
-use Rattle.std.proofs.lemmas.Bool.Decides.{nat_tests}
-use Rattle.std.proofs.lemmas.List.{length-map}
-use Rattle.std.proofs.lemmas.List.Sums.{sum_by-cons, sum_by-append}
-use Rattle.std.specs.Prelude.{flat_map, nat_lt, unwrap_or}
-use Rattle.std.specs.List.{AllByRecursion}
-use Rattle.mus_units.specs.declared.note.Head.{Head}
-use Rattle.mus_units.specs.declared.value.Value.{Value}
-use Rattle.mus_units.specs.declared.note.Deco.{Deco}
-use Rattle.mus_units.specs.Parts.{parts_list}
+use Rattle.std.{proofs.lemmas.Bool.Decides.nat_tests, proofs.lemmas.List.length-map, proofs.lemmas.List.Sums.sum_by-cons, proofs.lemmas.List.Sums.sum_by-append, specs.Prelude.flat_map, specs.Prelude.nat_lt, specs.Prelude.unwrap_or, specs.List.AllByRecursion}
+use Rattle.mus_units.specs.{declared.note.Head.Head, declared.value.Value.Value, declared.note.Deco.Deco, Parts.parts_list}
 use Rattle.abc_notes.specs.declared.part.GraceChord.{GraceChord}
 use Rattle.abc_lines.specs.declared.fault.Fault.{Fault}
-use Rattle.abc_steps.specs.declared.step.Sound.{Sound}
-use Rattle.abc_steps.specs.declared.step.Step.{Step}
-use Rattle.abc_steps.specs.declared.step.Step.TheVariants as step
-use Rattle.abc_steps.specs.declared.step.Stood.{Stood}
-use Rattle.abc_steps.specs.declared.force.InForce.{InForce}
-use Rattle.abc_steps.specs.declared.place.Place.{Place}
-use Rattle.abc_steps.specs.Good.{IsGoodStep, IsGoodStood}
-use Rattle.abc_steps.specs.Lengths.{written_length}
-use Rattle.abc_steps.specs.Looks.{Steps, is_tied, since_event}
-use Rattle.abc_steps.specs.Places.{place_at, measure_of}
-use Rattle.abc_steps.specs.Tuplets.{fits, or_default, usual_q}
-use Rattle.abc_events.specs.declared.written.Written.{Written}
-use Rattle.abc_events.specs.declared.written.Waiting.{Waiting}
-use Rattle.abc_events.specs.declared.written.Sign.{Sign}
-use Rattle.abc_events.specs.declared.written.Sign.TheVariants as sign
-use Rattle.abc_events.specs.Leaves.{Words, leaves_from, nodes_of, words_at}
-use Rattle.abc_events.specs.Signs.{further_rests, parted_at, rest_written, signs, signs_of, sound_written, tied_heads, tuplet_of, with_tie}
-use Rattle.abc_events.specs.Waits.{graces_in, nothing, waiting_of}
-use Rattle.abc_faults.specs.declared.weights.Weight.{Weight}
-use Rattle.abc_faults.specs.First.{then_below}
+use Rattle.abc_steps.specs.{declared.step.Sound.Sound, declared.step.Step.Step, declared.step.Stood.Stood, declared.force.InForce.InForce, declared.place.Place.Place, Good.IsGoodStep, Good.IsGoodStood, Lengths.written_length, Looks.Steps, Looks.is_tied, Looks.since_event, Places.place_at}
+use Rattle.abc_steps.specs.{Places.measure_of, Tuplets.fits, Tuplets.or_default, Tuplets.usual_q}
+use Rattle.abc_events.specs.{declared.written.Written.Written, declared.written.Waiting.Waiting, declared.written.Sign.Sign, Leaves.Words, Leaves.leaves_from, Leaves.nodes_of, Leaves.words_at, Signs.further_rests, Signs.parted_at, Signs.rest_written, Signs.signs, Signs.signs_of, Signs.sound_written}
+use Rattle.abc_events.specs.{Signs.tied_heads, Signs.tuplet_of, Signs.with_tie, Waits.graces_in, Waits.nothing, Waits.waiting_of}
+use Rattle.abc_faults.specs.{declared.weights.Weight.Weight, First.then_below}
 use Rattle.abc_faults.specs.Weights.{count_parts, count_up_to, crowd_faults_at, crowd_fault, crowd_up_to, crowded, grace_weights, grace_weights_of, sound_count, stands_before, weight_at, weights_in, weights_of}
-use Rattle.abc_score.proofs.Basics.{none_before, none_behind}
-use Rattle.abc_score.proofs.Rows.{leaf_rows, weight_of}
-use Rattle.abc_score.proofs.Singing.{heads_of_graces, nodes_weight}
+use Rattle.abc_score.proofs.{Basics.none_before, Basics.none_behind, Rows.leaf_rows, Rows.weight_of, Singing.heads_of_graces, Singing.nodes_weight}
 
 -- ---- signs
 
@@ -42,28 +18,28 @@ abbrev pub written_weight : Written → Waiting → ℕ
 written_weight w waiting = heads_of_graces waiting.graces + length w.values * max 1 (length w.heads)
 
 abbrev pub sign_weight : Sign → ℕ
-sign_weight (sign.Event w waiting) = written_weight w waiting
-sign_weight (sign.Opens measure p q r) = 0
+sign_weight (Sign.Event w waiting) = written_weight w waiting
+sign_weight (Sign.Opens measure p q r) = 0
 
 pub leaves_weigh : (words : List Words) (k id : ℕ) (ss : List Sign) → sum_by weight_of (leaf_rows (leaves_from words k id ss)) ≡ sum_by sign_weight ss
 leaves_weigh words k id [] = refl
-leaves_weigh words k id (sign.Event w waiting ∷ ss) =
+leaves_weigh words k id (Sign.Event w waiting ∷ ss) =
     let nodes = nodes_of w waiting (words_at words k) id in
     let others = leaf_rows (leaves_from words (k + 1) (id + length w.values) ss) in
     let a = sum_by-cons weight_of nodes others in
-    let b = sum_by-cons sign_weight (sign.Event w waiting) ss in
+    let b = sum_by-cons sign_weight (Sign.Event w waiting) ss in
     let own = nodes_weight w waiting (words_at words k) id in
     let rest = leaves_weigh words (k + 1) (id + length w.values) ss in
     a ∙ (ap (λ n. n + sum_by weight_of others) own ∙ (ap (λ n. written_weight w waiting + n) rest ∙ sym b))
-leaves_weigh words k id (sign.Opens measure p q r ∷ ss) =
-    leaves_weigh words k id ss ∙ sym (sum_by-cons sign_weight (sign.Opens measure p q r) ss ∙ omega arith)
+leaves_weigh words k id (Sign.Opens measure p q r ∷ ss) =
+    leaves_weigh words k id ss ∙ sym (sum_by-cons sign_weight (Sign.Opens measure p q r) ss ∙ omega arith)
 
 abbrev pub count : Weight → ℕ
 count w = w.count
 
 waits_step : (at : Stood) (s : Step) → heads_of_graces (graces_in s) ≡ sum_by count (grace_weights_of at s)
 unfolding graces_in grace_weights_of
-waits_step at (step.Grace slash body) = omega arith
+waits_step at (Step.Grace slash body) = omega arith
 waits_step at _ = refl
 
 waits_weight : (waits : Steps) → heads_of_graces (flat_map (λ s. graces_in s.step) waits) ≡ sum_by count (grace_weights waits)
@@ -112,25 +88,25 @@ rest_weight now at seen measure parted waiting = omega arith
 further_weight : (now : Place) (at : Stood) (seen : Bool) (measure n : ℕ) → sum_by sign_weight (further_rests now at seen measure n) ≡ n
 further_weight now at seen measure zero = refl
 further_weight now at seen measure (suc n) =
-    let all = sum_by-cons sign_weight (sign.Event (rest_written now at seen measure false) nothing) (further_rests now at seen (measure + 1) n) in
+    let all = sum_by-cons sign_weight (Sign.Event (rest_written now at seen measure false) nothing) (further_rests now at seen (measure + 1) n) in
     let own = rest_weight now at seen measure false nothing in
     let others = further_weight now at seen (measure + 1) n in
     all ∙ (ap (λ k. k + sum_by sign_weight (further_rests now at seen (measure + 1) n)) own ∙ (ap (λ k. 1 + k) others ∙ omega arith))
 
 tuplet_weight : (now : Place) (p q r : ℕ) → sum_by sign_weight (tuplet_of now p q r) ≤ 0
 tuplet_weight now p q r = by_test (fits (or_default p r) now.taking) where
-  by_test : (b : Bool) → sum_by sign_weight (cond b (sign.Opens (measure_of now) p (or_default (usual_q p now.force.meter) q) (or_default p r) ∷ []) []) ≤ 0
+  by_test : (b : Bool) → sum_by sign_weight (cond b (Sign.Opens (measure_of now) p (or_default (usual_q p now.force.meter) q) (or_default p r) ∷ []) []) ≤ 0
   by_test true = omega arith
   by_test false = omega arith
 
 step_weight : (now : Place) (before behind : Steps) (at : Stood) (s : Step) → IsGoodStep s → sum_by sign_weight (signs_of now before at behind s) ≤ sum_by count (weights_of now before at behind s)
 unfolding signs_of weights_of
-step_weight now before behind at (step.Sound s) good =
+step_weight now before behind at (Step.Sound s) good =
     let waits = since_event before in
     let own = sound_weight now before behind at s (waiting_of now.force waits s.decos) (waiting_weight now.force waits s.decos) in
     let all = sum_by-append count (grace_weights waits) (weight_at (sound_count now before s behind) at ∷ []) in
     omega (arith, own, all)
-step_weight now before behind at (step.Measures seen n) good =
+step_weight now before behind at (Step.Measures seen n) good =
     let waits = since_event before in
     let waiting = waiting_of now.force waits [] in
     let first = rest_written now at seen (measure_of now) (parted_at now waits) in
@@ -138,11 +114,11 @@ step_weight now before behind at (step.Measures seen n) good =
     let own = rest_weight now at seen (measure_of now) (parted_at now waits) waiting in
     let graces = waiting_weight now.force waits [] in
     let others = further_weight now at seen (measure_of now + 1) (n - 1) in
-    let here = sum_by-cons sign_weight (sign.Event first waiting) more in
+    let here = sum_by-cons sign_weight (Sign.Event first waiting) more in
     let all = sum_by-append count (grace_weights waits) (weight_at n at ∷ []) in
     let some : 1 ≤ n = good.0 in
     omega (arith, own, graces, others, here, all, some)
-step_weight now before behind at (step.Tuplet p q r) good = tuplet_weight now p q r
+step_weight now before behind at (Step.Tuplet p q r) good = tuplet_weight now p q r
 step_weight now before behind at _ good = omega arith
 
 pub signs_weigh : (first : InForce) (before behind : Steps) → AllByRecursion IsGoodStood behind → sum_by sign_weight (signs first before behind) ≤ sum_by count (weights_in first before behind)

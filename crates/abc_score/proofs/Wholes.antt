@@ -1,58 +1,21 @@
 -- A score of voices without faults is good.
 use Rattle.std.proofs.Common.{◌≡◌, ◌∙◌, refl, sym, ap, subst, ℕ, zero, suc, ◌+◌, ◌≤◌, ◌<◌, List, [], ◌∷◌, ◌++◌, map, sum_by, length, reverse, take, drop, Bool, true, false, cond, ◌==◌, Option, Some, None, unwrap_or, slice_get, append-nil, arith}
-use Rattle.std.proofs.lemmas.List.{drop_all}
-use Rattle.std.proofs.lemmas.List.Elements.{All-from_recursion, recursion_from_All}
-use Rattle.std.proofs.lemmas.List.FromFn.{length-map-range_with_len}
-use Rattle.std.proofs.lemmas.List.Sums.{sum_by-cons, sum_by-append}
-use Rattle.std.specs.Prelude.{flat_map}
+use Rattle.std.{proofs.lemmas.List.drop_all, proofs.lemmas.List.Elements.All-from_recursion, proofs.lemmas.List.Elements.recursion_from_All, proofs.lemmas.List.FromFn.length-map-range_with_len, proofs.lemmas.List.Sums.sum_by-cons, proofs.lemmas.List.Sums.sum_by-append, specs.Prelude.flat_map}
 use Rattle.std.specs.List.{All, AllByRecursion, range_with_len}
-use Rattle.mus_units.specs.declared.pitch.Clef.{Clef}
-use Rattle.mus_units.specs.Good.{IsGoodKey, IsGoodMeter}
-use Rattle.mus_score.specs.declared.score.Measure.{Measure}
-use Rattle.mus_score.specs.declared.score.Voice.{Voice}
-use Rattle.mus_score.specs.Good.{IsGoodBody}
-use Rattle.mus_score.specs.GoodScore.{AreCounted, AreInReach, IsGoodEvent, IsGoodScore, IsGoodVoice, events_of, voice_weight}
-use Rattle.abc_header.specs.declared.header.Header.{Header}
-use Rattle.abc_header.specs.Headers.{HasGoodValues}
-use Rattle.abc_steps.specs.declared.step.Item.{Item}
-use Rattle.abc_steps.specs.declared.force.InForce.{InForce}
-use Rattle.abc_steps.specs.Good.{IsGoodStood}
-use Rattle.abc_steps.specs.Looks.{Steps}
-use Rattle.abc_items.specs.declared.voices.VoiceStart.{VoiceStart}
-use Rattle.abc_items.specs.Voices.{starts_of, unnamed_of}
-use Rattle.abc_events.specs.declared.leaves.Leaf.{Leaf}
-use Rattle.abc_events.specs.declared.leaves.Leaf.TheVariants as leaves
-use Rattle.abc_events.specs.declared.written.Sign.{Sign}
-use Rattle.abc_events.specs.declared.written.Sign.TheVariants as sign
-use Rattle.abc_events.specs.Bars.{bar_of, bars_of}
-use Rattle.abc_events.specs.Leaves.{Words, leaves_from, words_at}
-use Rattle.abc_events.specs.Measures.{leaves_in, measure_of, measures_in}
-use Rattle.abc_events.specs.Nesting.{tree_of}
-use Rattle.abc_events.specs.Signs.{IsDrawn, signs}
+use Rattle.mus_units.specs.{declared.pitch.Clef.Clef, Good.IsGoodKey, Good.IsGoodMeter}
+use Rattle.mus_score.specs.{declared.score.Measure.Measure, declared.score.Voice.Voice, Good.IsGoodBody, GoodScore.AreCounted, GoodScore.AreInReach, GoodScore.IsGoodEvent, GoodScore.IsGoodScore, GoodScore.IsGoodVoice, GoodScore.events_of, GoodScore.voice_weight}
+use Rattle.abc_header.specs.{declared.header.Header.Header, Headers.HasGoodValues}
+use Rattle.abc_steps.specs.{declared.step.Item.Item, declared.force.InForce.InForce, Good.IsGoodStood, Looks.Steps}
+use Rattle.abc_items.specs.{declared.voices.VoiceStart.VoiceStart, Voices.starts_of, Voices.unnamed_of}
+use Rattle.abc_events.specs.{declared.leaves.Leaf.Leaf, declared.written.Sign.Sign, Bars.bar_of, Bars.bars_of, Leaves.Words, Leaves.leaves_from, Leaves.words_at, Measures.leaves_in, Measures.measure_of, Measures.measures_in, Nesting.tree_of, Signs.IsDrawn, Signs.signs}
 use Rattle.abc_events.proofs.Drawn.{walk_drawn}
-use Rattle.abc_faults.specs.Faults.{faults_in}
-use Rattle.abc_faults.specs.Weights.{crowded}
-use Rattle.abc_words.specs.declared.music.MusicRow.{MusicRow}
-use Rattle.abc_words.specs.Rows.{row_count}
-use Rattle.abc_words.specs.Verses.{verse_count, verse_fault, verse_faults, verses_of}
-use Rattle.abc_words.specs.Words.{event_words, music_rows, verse_sung, word_of}
+use Rattle.abc_faults.specs.{Faults.faults_in, Weights.crowded}
+use Rattle.abc_words.specs.{declared.music.MusicRow.MusicRow, Rows.row_count, Verses.verse_count, Verses.verse_fault, Verses.verse_faults, Verses.verses_of, Words.event_words, Words.music_rows, Words.verse_sung, Words.word_of}
 use Rattle.abc_words.proofs.FaultLaws.{few_verses}
-use Rattle.abc_score.specs.declared.voices.VoiceRead.{VoiceRead}
-use Rattle.abc_score.specs.Faults.{faults_of_voices, voice_faults, voice_weights}
-use Rattle.abc_score.specs.Framed.{IsFramed}
-use Rattle.abc_score.specs.Score.{event_count, most_measures, notes_from, own_measures, score_with, sung_words, voice_of, written_measures}
-use Rattle.abc_score.specs.Voices.{IsGoodRead, voice_read, voices_read}
-use Rattle.abc_score.proofs.Basics.{none_before, none_behind}
-use Rattle.abc_score.proofs.Rows.{leaf_rows, tree_weight, weight_of}
-use Rattle.abc_score.proofs.Cores.{CoresCount, CoresReach, IsGoodCore, count_of, events_of_cores, reach_of}
-use Rattle.abc_score.proofs.Segments.{Rise, measures_sing, measures_weigh}
-use Rattle.abc_score.proofs.Parts.{event_number, signs_count, signs_good, signs_reach, signs_sung}
-use Rattle.abc_score.proofs.Nested.{nested_good}
-use Rattle.abc_score.proofs.Walks.{walk_changes, walk_parts}
-use Rattle.abc_score.proofs.Full.{all_full}
-use Rattle.abc_score.proofs.Reaching.{voice_reach}
-use Rattle.abc_score.proofs.Rising.{own_most, voice_rise}
-use Rattle.abc_score.proofs.Weighing.{count, leaves_weigh, not_crowded, sign_weight, signs_weigh}
+use Rattle.abc_score.specs.{declared.voices.VoiceRead.VoiceRead, Faults.faults_of_voices, Faults.voice_faults, Faults.voice_weights, Framed.IsFramed, Score.event_count, Score.most_measures, Score.notes_from, Score.own_measures, Score.score_with, Score.sung_words, Score.voice_of}
+use Rattle.abc_score.{specs.Score.written_measures, specs.Voices.IsGoodRead, specs.Voices.voice_read, specs.Voices.voices_read, proofs.Basics.none_before, proofs.Basics.none_behind, proofs.Rows.leaf_rows, proofs.Rows.tree_weight, proofs.Rows.weight_of, proofs.Cores.CoresCount}
+use Rattle.abc_score.proofs.{Cores.CoresReach, Cores.IsGoodCore, Cores.count_of, Cores.events_of_cores, Cores.reach_of, Segments.Rise, Segments.measures_sing, Segments.measures_weigh, Parts.event_number, Parts.signs_count, Parts.signs_good, Parts.signs_reach, Parts.signs_sung, Nested.nested_good}
+use Rattle.abc_score.proofs.{Walks.walk_changes, Walks.walk_parts, Full.all_full, Reaching.voice_reach, Rising.own_most, Rising.voice_rise, Weighing.count, Weighing.leaves_weigh, Weighing.not_crowded, Weighing.sign_weight, Weighing.signs_weigh}
 
 -- ---- words
 
@@ -65,8 +28,8 @@ made_at f (suc n) from (suc k) less =
 
 count_is : (ss : List Sign) → event_count ss ≡ event_number ss
 count_is [] = refl
-count_is (sign.Event w waiting ∷ ss) = omega (arith, count_is ss)
-count_is (sign.Opens measure p q r ∷ ss) = count_is ss
+count_is (Sign.Event w waiting ∷ ss) = omega (arith, count_is ss)
+count_is (Sign.Opens measure p q r ∷ ss) = count_is ss
 
 length_words : (rows : List MusicRow) (verses event : ℕ) → length (event_words rows verses event) ≡ verses
 length_words rows verses event = length-map-range_with_len (λ verse. word_of (verse_sung rows verse) event) 0 verses
@@ -96,15 +59,15 @@ all_made P f each (k ∷ ks) = (each k, all_made P f each ks)
 -- a measure weighs no more than all
 weight_in : (k : ℕ) (ls : List Leaf) → sum_by weight_of (leaf_rows (leaves_in k ls)) ≤ sum_by weight_of (leaf_rows ls)
 weight_in k [] = omega arith
-weight_in k (leaves.Event m nodes ∷ ls) =
+weight_in k (Leaf.Event m nodes ∷ ls) =
     let all = sum_by-cons weight_of nodes (leaf_rows ls) in
     by_test (m == k) (weight_in k ls) all where
       by_test : (b : Bool) → sum_by weight_of (leaf_rows (leaves_in k ls)) ≤ sum_by weight_of (leaf_rows ls) → sum_by weight_of (nodes ∷ leaf_rows ls) ≡ weight_of nodes + sum_by weight_of (leaf_rows ls)
-          → sum_by weight_of (leaf_rows (cond b (leaves.Event m nodes ∷ leaves_in k ls) (leaves_in k ls))) ≤ sum_by weight_of (nodes ∷ leaf_rows ls)
+          → sum_by weight_of (leaf_rows (cond b (Leaf.Event m nodes ∷ leaves_in k ls) (leaves_in k ls))) ≤ sum_by weight_of (nodes ∷ leaf_rows ls)
       by_test true less all = let own = sum_by-cons weight_of nodes (leaf_rows (leaves_in k ls)) in omega (arith, less, all, own)
       by_test false less all = omega (arith, less, all)
-weight_in k (leaves.Opens m p q r ∷ ls) = by_test (m == k) (weight_in k ls) where
-  by_test : (b : Bool) → sum_by weight_of (leaf_rows (leaves_in k ls)) ≤ sum_by weight_of (leaf_rows ls) → sum_by weight_of (leaf_rows (cond b (leaves.Opens m p q r ∷ leaves_in k ls) (leaves_in k ls))) ≤ sum_by weight_of (leaf_rows ls)
+weight_in k (Leaf.Opens m p q r ∷ ls) = by_test (m == k) (weight_in k ls) where
+  by_test : (b : Bool) → sum_by weight_of (leaf_rows (leaves_in k ls)) ≤ sum_by weight_of (leaf_rows ls) → sum_by weight_of (leaf_rows (cond b (Leaf.Opens m p q r ∷ leaves_in k ls) (leaves_in k ls))) ≤ sum_by weight_of (leaf_rows ls)
   by_test true less = less
   by_test false less = less
 
@@ -212,6 +175,7 @@ length_measures header items n v = length-map-range_with_len (measure_of (leaves
 
 pub record HasGoodFrame (v : Voice) : Type 0 where
   pub few_verses : v.verses ≤ 8
+  pub near : v.gap ≤ 1000
   pub key : IsGoodKey v.key
   pub meter : IsGoodMeter v.meter
 
@@ -219,6 +183,7 @@ voice_frame : (header : Header) (items : List Item) (n : ℕ) (v : VoiceRead) �
 unfolding voice_of
 voice_frame header items n v good clear = record {
   few_verses = few_verses (verses_of v.start.id (unnamed_of header) items) (row_count items) clear;
+  near = omega arith;
   key = good.key;
   meter = good.meter;
 }
@@ -232,6 +197,7 @@ voice_good header items n v good most is few =
     record {
       few_measures = omega (arith, long, most);
       few_verses = frame.few_verses;
+      near = frame.near;
       few_heads = omega (arith, weight, few);
       key = frame.key;
       meter = frame.meter;
@@ -300,4 +266,5 @@ good_score header items flow voices good reads verses are most e framed =
       ids = framed.ids;
       forced = framed.forced;
       forced_rise = framed.forced_rise;
+      led = framed.led;
     }

@@ -1,18 +1,13 @@
 -- What the building of a tune's score answers: the score of a body without fault, or the first
 -- fault, of the body and only then of the score.
 use Rattle.std.specs.Prelude.{◌≡◌, ◌⊎◌, ⊤, List, drop, Bool, Some, None}
-use Rattle.abc_lines.specs.declared.book.Line.{Line}
-use Rattle.abc_lines.specs.declared.book.TuneText.{TuneText}
-use Rattle.abc_lines.specs.declared.fault.Fault.{Fault}
-use Rattle.abc_lines.specs.declared.fault.TuneError.{TuneError}
-use Rattle.abc_lines.specs.declared.fault.TuneError.TheVariants as errors
+use Rattle.abc_lines.specs.{declared.book.Line.Line, declared.book.TuneText.TuneText, declared.fault.Fault.Fault, declared.fault.TuneError.TuneError}
 use Rattle.abc_header.specs.declared.header.Header.{Header}
 use Rattle.abc_steps.specs.declared.step.Item.{Item}
 use Rattle.abc_items.specs.Body.{HasFault, IsBody}
 use Rattle.abc_faults.specs.First.{IsFirst}
 use Rattle.mus_score.specs.declared.score.Score.{Score}
-use Rattle.abc_score.specs.Faults.{score_faults}
-use Rattle.abc_score.specs.Score.{score_of}
+use Rattle.abc_score.specs.{Faults.score_faults, Score.score_of}
 
 -- the lines behind the header
 abbrev pub body_lines : Header → TuneText → List Line
@@ -32,10 +27,10 @@ pub record HasScoreFault (header : Header) (tune : TuneText) (fault : Fault) : T
   pub first : IsFirst (score_faults header items) (Some fault)
 
 abbrev pub IsFaultOf : Header → TuneText → TuneError → Type 0
-IsFaultOf header tune errors.Memory = ⊤
-IsFaultOf header tune (errors.Fault fault) = HasFault header (body_lines header tune) fault ⊎ HasScoreFault header tune fault
+IsFaultOf header tune TuneError.Memory = ⊤
+IsFaultOf header tune (TuneError.Fault fault) = HasFault header (body_lines header tune) fault ⊎ HasScoreFault header tune fault
 
 -- the same of a body that is read
 abbrev pub IsErrorIn : Header → List Item → TuneError → Type 0
-IsErrorIn header items errors.Memory = ⊤
-IsErrorIn header items (errors.Fault fault) = IsFirst (score_faults header items) (Some fault)
+IsErrorIn header items TuneError.Memory = ⊤
+IsErrorIn header items (TuneError.Fault fault) = IsFirst (score_faults header items) (Some fault)

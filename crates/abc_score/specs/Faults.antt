@@ -5,12 +5,9 @@ use Rattle.abc_lines.specs.declared.fault.Fault.{Fault}
 use Rattle.abc_header.specs.declared.header.Header.{Header}
 use Rattle.abc_steps.specs.declared.step.Item.{Item}
 use Rattle.abc_items.specs.Voices.{unnamed_of}
-use Rattle.abc_faults.specs.declared.weights.Weight.{Weight}
-use Rattle.abc_faults.specs.Faults.{faults_in}
-use Rattle.abc_faults.specs.Weights.{crowded, weights_in}
+use Rattle.abc_faults.specs.{declared.weights.Weight.Weight, Faults.faults_in, Weights.crowded, Weights.weights_in}
 use Rattle.abc_words.specs.Verses.{verse_faults}
-use Rattle.abc_score.specs.declared.voices.VoiceRead.{VoiceRead}
-use Rattle.abc_score.specs.Voices.{voices_read}
+use Rattle.abc_score.specs.{declared.voices.VoiceRead.VoiceRead, Voices.voices_read}
 
 abbrev pub voice_faults : List ℕ → List Item → VoiceRead → List Fault
 voice_faults unnamed items v = faults_in v.first [] v.steps ++ verse_faults v.start.id unnamed items

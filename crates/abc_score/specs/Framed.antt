@@ -1,14 +1,12 @@
 -- The frame of a score: what a good score asks of all but the music of its voices.
-use Rattle.std.specs.Prelude.{◌≡◌, ◌≢◌, ◌≤◌, ◌<◌, length}
-use Rattle.std.specs.List.{All, AllPairs}
-use Rattle.std.specs.List.Sorted.{IsStrictlyIncreasing}
+use Rattle.std.specs.{Prelude.◌≡◌, Prelude.◌≢◌, Prelude.◌≤◌, Prelude.◌<◌, Prelude.length, List.All, List.AllPairs, List.Sorted.IsStrictlyIncreasing}
 use Rattle.mus_units.specs.Good.{IsGoodKey, IsGoodMeter}
-use Rattle.mus_score.specs.declared.score.Voice.{Voice}
-use Rattle.mus_score.specs.declared.score.Score.{Score}
+use Rattle.mus_score.specs.{declared.score.Voice.Voice, declared.score.Score.Score, GoodScore.IsLed}
 
--- of a voice: at most 8 verses, and a good key and a good meter
+-- of a voice: at most 8 verses, a gap of at most 1000 u above its staff, a good key and a good meter
 pub record IsFramedVoice (v : Voice) : Type 0 where
   pub few_verses : v.verses ≤ 8
+  pub near : v.gap ≤ 1000
   pub key : IsGoodKey v.key
   pub meter : IsGoodMeter v.meter
 
@@ -20,3 +18,4 @@ pub record IsFramed (s : Score) : Type 0 where
   pub ids : AllPairs (λ v w. v.id ≢ w.id) s.voices
   pub forced : All (λ b. (1 ≤ b) × (b < s.measures)) s.forced
   pub forced_rise : IsStrictlyIncreasing s.forced
+  pub led : IsLed s.voices

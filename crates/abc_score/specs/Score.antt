@@ -1,24 +1,13 @@
 -- The score of a body, put together from its voices.
 use Rattle.std.specs.Prelude.{ℕ, ◌+◌, List, [], ◌∷◌, ◌++◌, map, fold, max, reverse, Bool, true, false, Option}
 use Rattle.mus_units.specs.declared.note.Head.{Head}
-use Rattle.mus_score.specs.declared.score.Measure.{Measure}
-use Rattle.mus_score.specs.declared.score.Voice.{Voice}
-use Rattle.mus_score.specs.declared.score.Score.{Score}
+use Rattle.mus_score.specs.{declared.score.Measure.Measure, declared.score.Voice.Voice, declared.score.Score.Score, Seats.usual_gap, declared.score.Seat.Seat}
 use Rattle.abc_header.specs.declared.header.Header.{Header}
-use Rattle.abc_steps.specs.declared.step.Item.{Item}
-use Rattle.abc_steps.specs.Counts.{measures_begun}
+use Rattle.abc_steps.specs.{declared.step.Item.Item, Counts.measures_begun}
 use Rattle.abc_items.specs.Voices.{unnamed_of}
-use Rattle.abc_events.specs.declared.written.Written.{Written}
-use Rattle.abc_events.specs.declared.written.Sign.{Sign}
-use Rattle.abc_events.specs.declared.written.Sign.TheVariants as sign
-use Rattle.abc_events.specs.Signs.{signs}
-use Rattle.abc_events.specs.Bars.{bars_of, first_bar, forced_bars}
-use Rattle.abc_events.specs.Measures.{measures_of}
-use Rattle.abc_words.specs.declared.music.SungNote.{SungNote}
-use Rattle.abc_words.specs.Verses.{verse_count}
-use Rattle.abc_words.specs.Words.{words_of}
-use Rattle.abc_score.specs.declared.voices.VoiceRead.{VoiceRead}
-use Rattle.abc_score.specs.Voices.{voices_read}
+use Rattle.abc_events.specs.{declared.written.Written.Written, declared.written.Sign.Sign, Signs.signs, Bars.bars_of, Bars.first_bar, Bars.forced_bars, Measures.measures_of}
+use Rattle.abc_words.specs.{declared.music.SungNote.SungNote, Verses.verse_count, Words.words_of}
+use Rattle.abc_score.specs.{declared.voices.VoiceRead.VoiceRead, Voices.voices_read}
 
 -- Words are sung on written events with heads, each numbered among all written events of its voice.
 abbrev pub note_if : List Head → ℕ → Written → List SungNote
@@ -27,13 +16,13 @@ note_if (h ∷ hs) event w = record { event = event; line = w.line; measure = w.
 
 abbrev pub notes_from : ℕ → List Sign → List SungNote
 notes_from event [] = []
-notes_from event (sign.Event w waiting ∷ signs) = note_if w.heads event w ++ notes_from (event + 1) signs
-notes_from event (sign.Opens measure p q r ∷ signs) = notes_from event signs
+notes_from event (Sign.Event w waiting ∷ signs) = note_if w.heads event w ++ notes_from (event + 1) signs
+notes_from event (Sign.Opens measure p q r ∷ signs) = notes_from event signs
 
 abbrev pub event_count : List Sign → ℕ
 event_count [] = 0
-event_count (sign.Event w waiting ∷ signs) = 1 + event_count signs
-event_count (sign.Opens measure p q r ∷ signs) = event_count signs
+event_count (Sign.Event w waiting ∷ signs) = 1 + event_count signs
+event_count (Sign.Opens measure p q r ∷ signs) = event_count signs
 
 -- the words of each written event, a place for each verse
 unfoldable pub sung_words : List ℕ → List ℕ → List Item → List Sign → List (List (Option (List ℕ)))
@@ -48,6 +37,8 @@ written_measures unnamed items n v =
 unfoldable pub voice_of : Header → List Item → ℕ → VoiceRead → Voice
 voice_of header items n v = record {
   id = v.start.id;
+  seat = Seat.Alone;
+  gap = usual_gap;
   clef = v.start.clef;
   key = header.key;
   meter = header.meter;

@@ -2,11 +2,8 @@
 use Rattle.std.specs.Prelude.{◌≢◌, ⊤, ℕ, ◌≤◌, ◌^◌, List, [], ◌∷◌, map, length}
 use Rattle.std.specs.List.{All}
 use Rattle.abc_header.specs.declared.header.Header.{Header}
-use Rattle.abc_steps.specs.declared.step.Item.{Item}
-use Rattle.abc_steps.specs.declared.force.InForce.{InForce}
-use Rattle.abc_steps.specs.Good.{IsGoodForce, IsGoodStood}
-use Rattle.abc_items.specs.declared.voices.VoiceStart.{VoiceStart}
-use Rattle.abc_items.specs.Voices.{starts_of, steps_from, unnamed_of}
+use Rattle.abc_steps.specs.{declared.step.Item.Item, declared.force.InForce.InForce, Good.IsGoodForce, Good.IsGoodStood}
+use Rattle.abc_items.specs.{declared.voices.VoiceStart.VoiceStart, Voices.starts_of, Voices.steps_from, Voices.unnamed_of}
 use Rattle.abc_score.specs.declared.voices.VoiceRead.{VoiceRead}
 
 -- a voice begins with its own first clef, and with the key, the meter and the unit length of the header

@@ -1,9 +1,6 @@
-ghost use Rattle.std.specs.Prelude.{◌≡◌, ◌++◌, [], flat_map, IfOk, OnOk};
-ghost use Rattle.std.specs.List.{All};
+ghost use Rattle.std.specs.{Prelude.◌≡◌, Prelude.◌++◌, Prelude.[], Prelude.flat_map, Prelude.IfOk, Prelude.OnOk, List.All};
 ghost use Rattle.abc_faults.specs.First.{first_of, IsFirst};
-ghost use Rattle.abc_score.specs.Voices.{IsGoodRead};
-ghost use Rattle.abc_score.specs.Faults.{faults_of_voices, voice_faults, voice_weights};
-ghost use Rattle.abc_score.specs.Order.{DoWordsRise};
+ghost use Rattle.abc_score.specs.{Voices.IsGoodRead, Faults.faults_of_voices, Faults.voice_faults, Faults.voice_weights, Order.DoWordsRise};
 
 use crate::voices::VoiceRead;
 use abc_faults::{Weight, crowding, earlier, judge_voice};

@@ -1,11 +1,8 @@
-ghost use Rattle.std.specs.Prelude.{◌≡◌, ◌≤◌, length, map, IfOk, None};
-ghost use Rattle.std.specs.List.{All};
+ghost use Rattle.std.specs.{Prelude.◌≡◌, Prelude.◌≤◌, Prelude.length, Prelude.map, Prelude.IfOk, Prelude.None, List.All};
 ghost use Rattle.abc_header.specs.Headers.{HasGoodValues};
 ghost use Rattle.abc_items.specs.Voices.{unnamed_of};
 ghost use Rattle.abc_words.specs.Verses.{verse_count, verse_fault};
-ghost use Rattle.abc_score.specs.Voices.{read_ids, AreApart, IsGoodRead};
-ghost use Rattle.abc_score.specs.Framed.{IsFramed};
-ghost use Rattle.abc_score.specs.Score.{forced_of, most_measures, score_with, voice_of, written_measures};
+ghost use Rattle.abc_score.specs.{Voices.read_ids, Voices.AreApart, Voices.IsGoodRead, Framed.IsFramed, Score.forced_of, Score.most_measures, Score.score_with, Score.voice_of, Score.written_measures};
 
 use crate::sung::sung_words;
 use crate::voices::VoiceRead;
@@ -14,7 +11,7 @@ use abc_header::Header;
 use abc_items::unnamed_of;
 use abc_steps::Item;
 use abc_words::verse_count;
-use mus_score::{Measure, Score, Voice};
+use mus_score::{Measure, Score, Seat, Voice};
 use mus_units::{Memory, Row};
 use std::alloc::Global;
 use std::cmp::max;
@@ -65,6 +62,8 @@ fn voice_of(
     let key = header.key.copy(alloc)?;
     Ok(Voice {
         id: v.start.id,
+        seat: Seat::Alone,
+        gap: 500,
         clef: v.start.clef,
         key,
         meter: header.meter,

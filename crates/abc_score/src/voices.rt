@@ -1,8 +1,6 @@
-ghost use Rattle.std.specs.Prelude.{◌≡◌, ◌≤◌, ◌^◌, length, map, IfOk};
-ghost use Rattle.std.specs.List.{All};
+ghost use Rattle.std.specs.{Prelude.◌≡◌, Prelude.◌≤◌, Prelude.◌^◌, Prelude.length, Prelude.map, Prelude.IfOk, List.All};
 ghost use Rattle.abc_header.specs.Headers.{HasGoodValues};
-ghost use Rattle.abc_items.specs.Good.{IsGoodItem};
-ghost use Rattle.abc_items.specs.Voices.{ids_of};
+ghost use Rattle.abc_items.specs.{Good.IsGoodItem, Voices.ids_of};
 ghost use Rattle.abc_score.specs.Voices.{first_force, read_ids, voice_read, voices_read, AreApart, IsGoodRead};
 
 use abc_header::Header;

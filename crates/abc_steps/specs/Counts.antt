@@ -1,25 +1,19 @@
 -- Measures: how many bars and whole measure rests stand before a place of a voice.
 use Rattle.std.specs.Prelude.{ℕ, ◌+◌, ◌-◌, [], ◌∷◌, Bool, true, false, if◌then◌else◌}
-use Rattle.abc_steps.specs.declared.step.Step.{Step}
-use Rattle.abc_steps.specs.declared.step.Step.TheVariants as step
-use Rattle.abc_steps.specs.declared.counts.Nearest.{Nearest}
-use Rattle.abc_steps.specs.declared.counts.Nearest.TheVariants as nearest
-use Rattle.abc_steps.specs.declared.counts.Counts.{Counts}
-use Rattle.abc_steps.specs.Kinds.{is_event, is_bar}
-use Rattle.abc_steps.specs.Looks.{Steps}
+use Rattle.abc_steps.specs.{declared.step.Step.Step, declared.counts.Nearest.Nearest, declared.counts.Counts.Counts, Kinds.is_event, Kinds.is_bar, Looks.Steps}
 
 -- whether the nearest event or bar is an event or a bar
 abbrev pub nearest_at : Steps → Nearest
-nearest_at [] = nearest.Nothing
-nearest_at (s ∷ before) = if is_event s.step then nearest.Event else (if is_bar s.step then nearest.Bar else nearest_at before)
+nearest_at [] = Nearest.Nothing
+nearest_at (s ∷ before) = if is_event s.step then Nearest.Event else (if is_bar s.step then Nearest.Bar else nearest_at before)
 
 abbrev pub is_near_event : Nearest → Bool
-is_near_event nearest.Event = true
+is_near_event Nearest.Event = true
 is_near_event _ = false
 
 -- the groups of bars behind the first event: a bar behind an event begins one
 unfoldable pub begins_group : Step → Nearest → Bool
-begins_group (step.Bar bar) near = is_near_event near
+begins_group (Step.Bar bar) near = is_near_event near
 begins_group _ near = false
 
 abbrev pub groups : Steps → ℕ
@@ -28,7 +22,7 @@ groups (s ∷ before) = if begins_group s.step (nearest_at before) then groups b
 
 -- n whole measure rests add n - 1 measures to their own
 unfoldable pub further : Step → ℕ
-further (step.Measures seen count) = count - 1
+further (Step.Measures seen count) = count - 1
 further _ = 0
 
 abbrev pub all_further : Steps → ℕ

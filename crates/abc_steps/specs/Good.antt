@@ -4,11 +4,7 @@ use Rattle.std.specs.Prelude.{⊤, ◌≤◌, ◌^◌}
 use Rattle.abc_tokens.specs.Good.{AreGoodGraces, IsGoodTuplet}
 use Rattle.mus_units.specs.Good.{IsGoodKey, IsGoodMeter, IsGoodUnit}
 use Rattle.abc_fields.specs.Keys.{IsGoodKeyText}
-use Rattle.abc_steps.specs.declared.step.Sound.{Sound}
-use Rattle.abc_steps.specs.declared.step.Step.{Step}
-use Rattle.abc_steps.specs.declared.step.Step.TheVariants as step
-use Rattle.abc_steps.specs.declared.step.Stood.{Stood}
-use Rattle.abc_steps.specs.declared.force.InForce.{InForce}
+use Rattle.abc_steps.specs.{declared.step.Sound.Sound, declared.step.Step.Step, declared.step.Stood.Stood, declared.force.InForce.InForce}
 
 pub record IsGoodSound (s : Sound) : Type 0 where
   pub some : 1 ≤ s.num
@@ -17,13 +13,13 @@ pub record IsGoodSound (s : Sound) : Type 0 where
   pub den_high : s.den ≤ 2 ^ 40
 
 abbrev pub IsGoodStep : Step → Type 0
-IsGoodStep (step.Sound s) = IsGoodSound s
-IsGoodStep (step.Measures seen count) = (1 ≤ count) × (count ≤ 999)
-IsGoodStep (step.Grace slash body) = AreGoodGraces body
-IsGoodStep (step.Tuplet p q r) = IsGoodTuplet p q r
-IsGoodStep (step.Key text) = IsGoodKeyText text
-IsGoodStep (step.Meter meter) = IsGoodMeter meter
-IsGoodStep (step.Unit unit) = IsGoodUnit unit
+IsGoodStep (Step.Sound s) = IsGoodSound s
+IsGoodStep (Step.Measures seen count) = (1 ≤ count) × (count ≤ 999)
+IsGoodStep (Step.Grace slash body) = AreGoodGraces body
+IsGoodStep (Step.Tuplet p q r) = IsGoodTuplet p q r
+IsGoodStep (Step.Key text) = IsGoodKeyText text
+IsGoodStep (Step.Meter meter) = IsGoodMeter meter
+IsGoodStep (Step.Unit unit) = IsGoodUnit unit
 IsGoodStep _ = ⊤
 
 abbrev pub IsGoodStood : Stood → Type 0

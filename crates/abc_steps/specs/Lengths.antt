@@ -1,11 +1,7 @@
 -- The written length of a note, a chord or a rest: its length times the unit and its broken factors.
 use Rattle.std.specs.Prelude.{ℕ, ◌*◌, ◌≤◌, ◌^◌, nat_le, true, false, if◌then◌else◌, Option, Some, None}
 use Rattle.mus_units.specs.declared.value.Frac.{Frac}
-use Rattle.abc_steps.specs.declared.step.Sound.{Sound}
-use Rattle.abc_steps.specs.declared.step.Stood.{Stood}
-use Rattle.abc_steps.specs.declared.step.Step.{Step}
-use Rattle.abc_steps.specs.declared.step.Step.TheVariants as step
-use Rattle.abc_steps.specs.Looks.{Steps, broken_before, broken_behind}
+use Rattle.abc_steps.specs.{declared.step.Sound.Sound, declared.step.Stood.Stood, declared.step.Step.Step, Looks.Steps, Looks.broken_before, Looks.broken_behind}
 
 abbrev pub once : Frac
 once = record { num = 1; den = 1 }
@@ -20,13 +16,13 @@ short_side dots = if nat_le dots 1 then record { num = 1; den = 2 } else (if nat
 
 -- behind a side that is lengthened the right one is shortened, and the other way round
 unfoldable pub left_side : Step → Frac
-left_side (step.Broken true dots) = long_side dots
-left_side (step.Broken false dots) = short_side dots
+left_side (Step.Broken true dots) = long_side dots
+left_side (Step.Broken false dots) = short_side dots
 left_side _ = once
 
 unfoldable pub right_side : Step → Frac
-right_side (step.Broken true dots) = short_side dots
-right_side (step.Broken false dots) = long_side dots
+right_side (Step.Broken true dots) = short_side dots
+right_side (Step.Broken false dots) = long_side dots
 right_side _ = once
 
 unfoldable pub left_factor : Option Stood → Frac

@@ -1,11 +1,6 @@
 -- What holds at a place of a voice: the counts of its measure, what is in force, and what the open tuplets take.
 use Rattle.std.specs.Prelude.{ℕ, ◌+◌}
-use Rattle.abc_steps.specs.declared.force.InForce.{InForce}
-use Rattle.abc_steps.specs.Looks.{Steps}
-use Rattle.abc_steps.specs.Counts.{counts_of}
-use Rattle.abc_steps.specs.Force.{force_at}
-use Rattle.abc_steps.specs.Tuplets.{taking_at}
-use Rattle.abc_steps.specs.declared.place.Place.{Place}
+use Rattle.abc_steps.specs.{declared.force.InForce.InForce, Looks.Steps, Counts.counts_of, Force.force_at, Tuplets.taking_at, declared.place.Place.Place}
 
 abbrev pub place_at : InForce → Steps → Place
 place_at first before = record { counts = counts_of before; force = force_at first before; taking = taking_at before }

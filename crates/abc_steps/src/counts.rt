@@ -1,7 +1,5 @@
 ghost use Rattle.std.specs.Prelude.{◌≡◌, ◌≤◌, ◌<◌, ◌^◌, ◌+◌, ◌∷◌, [], if◌then◌else◌};
-ghost use Rattle.abc_steps.specs.Kinds.{is_event, is_bar};
-ghost use Rattle.abc_steps.specs.Looks.{Steps};
-ghost use Rattle.abc_steps.specs.Counts.{begins_group, is_near_event, further, counts_of};
+ghost use Rattle.abc_steps.specs.{Kinds.is_event, Kinds.is_bar, Looks.Steps, Counts.begins_group, Counts.is_near_event, Counts.further, Counts.counts_of};
 
 use crate::kinds::{is_bar, is_event};
 use crate::step::{Step, Stood};

@@ -1,5 +1,4 @@
-ghost use Rattle.std.specs.Prelude.{◌≡◌, ◌≤◌, ◌^◌, ◌<◌, reverse, length, find, count_by, IfSome, Bool};
-ghost use Rattle.std.specs.Option.{option_copied};
+ghost use Rattle.std.specs.{Prelude.◌≡◌, Prelude.◌≤◌, Prelude.◌^◌, Prelude.◌<◌, Prelude.reverse, Prelude.length, Prelude.find, Prelude.count_by, Prelude.IfSome, Prelude.Bool, Option.option_copied};
 ghost use Rattle.std.specs.List.{position, before_first, list_any};
 ghost use Rattle.abc_steps.specs.declared.step.Stood.{Stood};
 ghost use Rattle.abc_steps.specs.Kinds.{is_note, is_event, is_bar, is_broken, is_tie, is_slur_on, is_slur_off, is_event_or_bar, is_left_stop, is_tie_stop};

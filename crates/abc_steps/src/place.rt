@@ -1,8 +1,5 @@
 ghost use Rattle.std.specs.Prelude.{◌≡◌, ◌≤◌, ◌^◌, ◌+◌, ◌∷◌, [], IfOk, OnOk};
-ghost use Rattle.abc_steps.specs.declared.force.InForce.{InForce};
-ghost use Rattle.abc_steps.specs.Looks.{Steps};
-ghost use Rattle.abc_steps.specs.Good.{IsGoodForce, IsGoodStood};
-ghost use Rattle.abc_steps.specs.Places.{place_at, measure_of};
+ghost use Rattle.abc_steps.specs.{declared.force.InForce.InForce, Looks.Steps, Good.IsGoodForce, Good.IsGoodStood, Places.place_at, Places.measure_of};
 
 use crate::counts::{Counts, counted, no_counts};
 use crate::force::{InForce, change_force};

@@ -1,27 +1,12 @@
 -- Where notes have events of their own, the words of an event are those of its own row.
 use Rattle.std.proofs.Common.{◌≡◌, ℕ, zero, suc, ◌+◌, ◌<◌, ◌≤◌, List, [], ◌∷◌, ◌++◌, Bool, true, false, cond, length, map, get_or, slice_index_or, inl, inr, refl, sym, ap, ◌∙◌, arith, append_assoc, append-nil, reverse, nat_lt, slice_get, length-append}
-use Rattle.std.specs.Prelude.{Option, Some, None, filter, ◌==◌, ◌⊎◌}
-use Rattle.std.specs.List.{All, range_with_len}
-use Rattle.std.specs.Option.{option_or}
-use Rattle.std.proofs.lemmas.Bool.{cases_lt, eqb-true, ne_eqb}
-use Rattle.std.proofs.lemmas.List.{get_or_default, reverse-append}
-use Rattle.std.proofs.lemmas.List.Elements.{All-nil, All-cons, All-head, All-tail}
-use Rattle.std.proofs.lemmas.List.FromFn.{get_or-map-range_with_len}
-use Rattle.mus_lyric.specs.declared.singing.NoteAt.{NoteAt}
-use Rattle.mus_lyric.specs.declared.singing.Sung.{Sung}
-use Rattle.mus_lyric.specs.declared.syllable.Syl.{Syl}
-use Rattle.mus_lyric.specs.declared.syllable.Syl.TheVariants.{Print, Skip, Bar}
-use Rattle.mus_lyric.specs.Syllables.{syllables_of}
-use Rattle.mus_lyric.specs.Singing.{first_measure, notes_from, on_first, sung_from, sung_on}
+use Rattle.std.proofs.lemmas.{Bool.cases_lt, Bool.eqb-true, Bool.ne_eqb, List.get_or_default, List.reverse-append, List.Elements.All-nil, List.Elements.All-cons, List.Elements.All-head, List.Elements.All-tail, List.FromFn.get_or-map-range_with_len}
+use Rattle.std.specs.{Prelude.Option, Prelude.Some, Prelude.None, Prelude.filter, Prelude.◌==◌, Prelude.◌⊎◌, List.All, List.range_with_len, Option.option_or}
+use Rattle.mus_lyric.specs.{declared.singing.NoteAt.NoteAt, declared.singing.Sung.Sung, declared.syllable.Syl.Syl, Syllables.syllables_of, Singing.first_measure, Singing.notes_from, Singing.on_first, Singing.sung_from, Singing.sung_on, declared.syllable.Syl.TheVariants.Print}
+use Rattle.mus_lyric.specs.declared.syllable.Syl.TheVariants.{Skip, Bar}
 use Rattle.abc_steps.specs.declared.step.Item.{Item}
-use Rattle.abc_steps.specs.declared.step.Item.TheVariants as item
-use Rattle.abc_words.specs.declared.music.MusicRow.{MusicRow}
-use Rattle.abc_words.specs.declared.music.SungNote.{SungNote}
-use Rattle.abc_words.specs.Rows.{row_at, row_behind, row_count}
-use Rattle.abc_words.specs.Verses.{verse_count, verses_of}
 use Rattle.abc_words.specs.Words.{AreApart, end_if, event_words, music_row, music_rows, note_at, notes_on, own_word, row_end, row_ends, row_of, sung_in, sung_with, verse_sung, word_at, word_of, words_of}
-use Rattle.abc_words.proofs.Lines.{row_of_within}
-use Rattle.abc_words.proofs.WordLaws.{or_none}
+use Rattle.abc_words.{specs.declared.music.MusicRow.MusicRow, specs.declared.music.SungNote.SungNote, specs.Rows.row_at, specs.Rows.row_behind, specs.Rows.row_count, specs.Verses.verse_count, specs.Verses.verses_of, proofs.Lines.row_of_within, proofs.WordLaws.or_none}
 
 -- notes none of which is this event's
 abbrev IsFree : ℕ → List NoteAt → Type 0
@@ -107,13 +92,13 @@ one_sings rows verse event own from (suc n) none le less =
 
 -- a body has a row more than it has ends of rows
 row_more : (i : Item) (row : ℕ) → row_behind i row ≡ row + length (row_end i)
-row_more (item.Step s) row = omega arith
-row_more (item.LineEnd joined breaks line column) row = by_test joined where
+row_more (Item.Step s) row = omega arith
+row_more (Item.LineEnd joined breaks line column) row = by_test joined where
   by_test : (b : Bool) → cond b row (row + 1) ≡ row + length (end_if b line)
   by_test true = omega arith
   by_test false = omega arith
-row_more (item.Voice def line column) row = omega arith
-row_more (item.Words text line) row = omega arith
+row_more (Item.Voice def line column) row = omega arith
+row_more (Item.Words text line) row = omega arith
 
 rows_behind : (items before : List Item) → row_at (reverse items ++ before) ≡ row_at before + length (row_ends items)
 rows_behind [] before = omega arith

@@ -1,15 +1,8 @@
 -- Verses stand on rows of the body; and a row without a fault has at most eight.
 use Rattle.std.proofs.Common.{◌≡◌, ℕ, ◌+◌, ◌<◌, List, [], ◌∷◌, ◌++◌, Bool, true, false, cond, reverse, sym, ap, ◌∙◌, subst, arith, append_assoc, append-nil}
-use Rattle.std.specs.Prelude.{Option, Some, None, ⊤}
-use Rattle.std.specs.List.{All}
-use Rattle.std.proofs.lemmas.List.{reverse-append}
-use Rattle.std.proofs.lemmas.List.Elements.{All-nil, All-cons, All-append}
+use Rattle.std.{proofs.lemmas.List.reverse-append, proofs.lemmas.List.Elements.All-nil, proofs.lemmas.List.Elements.All-cons, proofs.lemmas.List.Elements.All-append, specs.Prelude.Option, specs.Prelude.Some, specs.Prelude.None, specs.Prelude.⊤, specs.List.All}
 use Rattle.abc_steps.specs.declared.step.Item.{Item}
-use Rattle.abc_steps.specs.declared.step.Item.TheVariants as item
-use Rattle.abc_words.specs.declared.rows.Place.{Place}
-use Rattle.abc_words.specs.declared.verses.Verse.{Verse}
-use Rattle.abc_words.specs.Rows.{row_behind, row_at, row_count, is_line_of, last_row, place_at}
-use Rattle.abc_words.specs.Verses.{verse_if, verse_at, verses_from, verses_of}
+use Rattle.abc_words.specs.{declared.rows.Place.Place, declared.verses.Verse.Verse, Rows.row_behind, Rows.row_at, Rows.row_count, Rows.is_line_of, Rows.last_row, Rows.place_at, Verses.verse_if, Verses.verse_at, Verses.verses_from, Verses.verses_of}
 
 abbrev IsWithin : ℕ → Verse → Type 0
 IsWithin n v = v.row < n
@@ -19,32 +12,32 @@ LastWithin n None = ⊤
 LastWithin n (Some row) = row < n
 
 row_before : (i : Item) (row n : ℕ) → row_behind i row < n → row < n
-row_before (item.Step s) row n less = less
-row_before (item.LineEnd joined breaks line column) row n less = by_test joined less where
+row_before (Item.Step s) row n less = less
+row_before (Item.LineEnd joined breaks line column) row n less = by_test joined less where
   by_test : (b : Bool) → cond b row (row + 1) < n → row < n
   by_test true less = less
   by_test false less = omega arith
-row_before (item.Voice def line column) row n less = less
-row_before (item.Words text line) row n less = less
+row_before (Item.Voice def line column) row n less = less
+row_before (Item.Words text line) row n less = less
 
 -- the rows of a voice begin before their place
 last_within : (id unnamed : List ℕ) (before : List Item) (n : ℕ) → row_at before < n → LastWithin n (last_row id unnamed before)
 last_within id unnamed [] n less = tt
-last_within id unnamed (item.Step s ∷ before) n less = last_within id unnamed before n less
-last_within id unnamed (item.LineEnd joined breaks line column ∷ before) n less =
-    let here : row_at before < n = row_before (item.LineEnd joined breaks line column) (row_at before) n less in
+last_within id unnamed (Item.Step s ∷ before) n less = last_within id unnamed before n less
+last_within id unnamed (Item.LineEnd joined breaks line column ∷ before) n less =
+    let here : row_at before < n = row_before (Item.LineEnd joined breaks line column) (row_at before) n less in
     by_test (is_line_of id unnamed before) here (last_within id unnamed before n here) where
       by_test : (b : Bool) → row_at before < n → LastWithin n (last_row id unnamed before) → LastWithin n (cond b (Some (row_at before)) (last_row id unnamed before))
       by_test true here rest = here
       by_test false here rest = rest
-last_within id unnamed (item.Voice def line column ∷ before) n less = last_within id unnamed before n less
-last_within id unnamed (item.Words text line ∷ before) n less = last_within id unnamed before n less
+last_within id unnamed (Item.Voice def line column ∷ before) n less = last_within id unnamed before n less
+last_within id unnamed (Item.Words text line ∷ before) n less = last_within id unnamed before n less
 
 verse_within : (place : Place) (i : Item) (n : ℕ) → LastWithin n place.last → All (IsWithin n) (verse_at place i)
-verse_within place (item.Step s) n h = All-nil (IsWithin n)
-verse_within place (item.LineEnd joined breaks line column) n h = All-nil (IsWithin n)
-verse_within place (item.Voice def line column) n h = All-nil (IsWithin n)
-verse_within place (item.Words text line) n h = by_cases place.current place.last h where
+verse_within place (Item.Step s) n h = All-nil (IsWithin n)
+verse_within place (Item.LineEnd joined breaks line column) n h = All-nil (IsWithin n)
+verse_within place (Item.Voice def line column) n h = All-nil (IsWithin n)
+verse_within place (Item.Words text line) n h = by_cases place.current place.last h where
   by_cases : (current : Bool) (last : Option ℕ) → LastWithin n last → All (IsWithin n) (verse_if current last text line)
   by_cases true (Some row) h = All-cons (IsWithin n) _ [] h (All-nil (IsWithin n))
   by_cases true None h = All-nil (IsWithin n)

@@ -1,31 +1,28 @@
 -- Bodies whose rows and verses are known.
 use Rattle.std.proofs.Common.{◌≡◌, ℕ, List, [], ◌∷◌, true, false, refl}
 use Rattle.std.specs.Prelude.{codes, None}
-use Rattle.mus_units.specs.declared.note.Wish.TheVariants as wishes
-use Rattle.abc_steps.specs.declared.step.Step.TheVariants as step
-use Rattle.abc_steps.specs.declared.step.Item.{Item}
-use Rattle.abc_steps.specs.declared.step.Item.TheVariants as item
+use Rattle.mus_units.specs.declared.note.Wish.{Wish}
+use Rattle.abc_steps.specs.declared.step.{Step.Step, Item.Item}
 use Rattle.abc_items.specs.Voices.{claims}
-use Rattle.abc_words.specs.declared.verses.Verse.{Verse}
-use Rattle.abc_words.specs.Verses.{too_many, verse_count, verse_faults, verses_of}
+use Rattle.abc_words.specs.{declared.verses.Verse.Verse, Verses.too_many, Verses.verse_count, Verses.verse_faults, Verses.verses_of}
 
 note : ℕ → Item
-note line = item.Step (record { step = step.Tie; line = line; column = 1 })
+note line = Item.Step (record { step = Step.Tie; line = line; column = 1 })
 
 space : ℕ → Item
-space line = item.Step (record { step = step.Space; line = line; column = 1 })
+space line = Item.Step (record { step = Step.Space; line = line; column = 1 })
 
 ends : ℕ → Item
-ends line = item.LineEnd false false line 9
+ends line = Item.LineEnd false false line 9
 
 joins : ℕ → Item
-joins line = item.LineEnd true false line 9
+joins line = Item.LineEnd true false line 9
 
 voice : List ℕ → ℕ → Item
-voice id line = item.Voice (record { id = id; clef = None; stem = wishes.Auto; asks = false }) line 1
+voice id line = Item.Voice (record { id = id; clef = None; stem = Wish.Auto; asks = false }) line 1
 
 words : ℕ → Item
-words line = item.Words (codes "a") line
+words line = Item.Words (codes "a") line
 
 on : ℕ → ℕ → Verse
 on row line = record { row = row; line = line; text = codes "a" }

@@ -3,13 +3,12 @@
 use Rattle.std.specs.Prelude.{ℕ, ◌+◌, List, [], ◌∷◌, Bool, false, not, ◌&&◌, ◌||◌, if◌then◌else◌, reverse, Option, Some, None}
 use Rattle.std.specs.Str.{bytes_eq}
 use Rattle.abc_steps.specs.declared.step.Item.{Item}
-use Rattle.abc_steps.specs.declared.step.Item.TheVariants as item
 use Rattle.abc_items.specs.Voices.{claims, voice_next}
 use Rattle.abc_words.specs.declared.rows.Place.{Place}
 
 -- the row of a place: how many music lines before it end without a backslash
 abbrev pub row_behind : Item → ℕ → ℕ
-row_behind (item.LineEnd joined breaks line column) row = if joined then row else row + 1
+row_behind (Item.LineEnd joined breaks line column) row = if joined then row else row + 1
 row_behind _ row = row
 
 abbrev pub row_at : List Item → ℕ
@@ -31,15 +30,15 @@ is_current id unnamed before = bytes_eq id (voice_at unnamed before)
 -- whether a step before on the same physical line claims its voice
 abbrev pub is_claimed : List Item → Bool
 is_claimed [] = false
-is_claimed (item.LineEnd joined breaks line column ∷ before) = false
-is_claimed (item.Step s ∷ before) = claims s.step || is_claimed before
+is_claimed (Item.LineEnd joined breaks line column ∷ before) = false
+is_claimed (Item.Step s ∷ before) = claims s.step || is_claimed before
 is_claimed (i ∷ before) = is_claimed before
 
 -- whether one does while this voice is current
 abbrev pub is_own : List ℕ → List ℕ → List Item → Bool
 is_own id unnamed [] = false
-is_own id unnamed (item.LineEnd joined breaks line column ∷ before) = false
-is_own id unnamed (item.Step s ∷ before) = (claims s.step && is_current id unnamed before) || is_own id unnamed before
+is_own id unnamed (Item.LineEnd joined breaks line column ∷ before) = false
+is_own id unnamed (Item.Step s ∷ before) = (claims s.step && is_current id unnamed before) || is_own id unnamed before
 is_own id unnamed (i ∷ before) = is_own id unnamed before
 
 -- A physical line that ends at a place is a line of each voice that one of its steps claims; where
@@ -50,7 +49,7 @@ is_line_of id unnamed before = is_own id unnamed before || (not (is_claimed befo
 -- the row of the last line of a voice before a place
 abbrev pub last_row : List ℕ → List ℕ → List Item → Option ℕ
 last_row id unnamed [] = None
-last_row id unnamed (item.LineEnd joined breaks line column ∷ before) = if is_line_of id unnamed before then Some (row_at before) else last_row id unnamed before
+last_row id unnamed (Item.LineEnd joined breaks line column ∷ before) = if is_line_of id unnamed before then Some (row_at before) else last_row id unnamed before
 last_row id unnamed (i ∷ before) = last_row id unnamed before
 
 -- what a walk along the items knows of a place

@@ -2,13 +2,9 @@
 -- the voice has; and which texts are too many.
 use Rattle.std.specs.Prelude.{ℕ, ◌==◌, nat_le, max, List, [], ◌∷◌, ◌++◌, Bool, true, false, if◌then◌else◌, map, fold, count_by, Option, Some, None}
 use Rattle.std.specs.List.{range_with_len}
-use Rattle.abc_lines.specs.declared.fault.Fault.{Fault}
-use Rattle.abc_lines.specs.declared.fault.FaultKind.TheVariants as faults
+use Rattle.abc_lines.specs.declared.fault.{Fault.Fault, FaultKind.FaultKind}
 use Rattle.abc_steps.specs.declared.step.Item.{Item}
-use Rattle.abc_steps.specs.declared.step.Item.TheVariants as item
-use Rattle.abc_words.specs.declared.rows.Place.{Place}
-use Rattle.abc_words.specs.declared.verses.Verse.{Verse}
-use Rattle.abc_words.specs.Rows.{place_at, row_count}
+use Rattle.abc_words.specs.{declared.rows.Place.Place, declared.verses.Verse.Verse, Rows.place_at, Rows.row_count}
 
 -- Words belong to the voice that is current, on its last row; they are passed over where it has none.
 abbrev pub verse_if : Bool → Option ℕ → List ℕ → ℕ → List Verse
@@ -17,7 +13,7 @@ verse_if true None text line = []
 verse_if false last text line = []
 
 abbrev pub verse_at : Place → Item → List Verse
-verse_at place (item.Words text line) = verse_if place.current place.last text line
+verse_at place (Item.Words text line) = verse_if place.current place.last text line
 verse_at place _ = []
 
 abbrev pub verses_from : List ℕ → List ℕ → List Item → List Item → List Verse
@@ -40,7 +36,7 @@ verse_count id unnamed items = most_on (row_count items) (verses_of id unnamed i
 
 -- a verse with eight or more before it on its row is one too many
 abbrev pub too_many : ℕ → Fault
-too_many line = record { kind = faults.TooManyVerses; line = line; column = 1 }
+too_many line = record { kind = FaultKind.TooManyVerses; line = line; column = 1 }
 
 abbrev pub fault_in : List Verse → Verse → List Fault
 fault_in before v = if nat_le 8 (number_on v.row before) then too_many v.line ∷ [] else []

@@ -1,5 +1,4 @@
-ghost use Rattle.std.specs.Prelude.{◌≡◌, ◌<◌, ◌≤◌, ◌+◌, ◌^◌, ◌∷◌, [], List, ℕ};
-ghost use Rattle.std.specs.Str.{bytes_eq};
+ghost use Rattle.std.specs.{Prelude.◌≡◌, Prelude.◌<◌, Prelude.◌≤◌, Prelude.◌+◌, Prelude.◌^◌, Prelude.◌∷◌, Prelude.[], Prelude.List, Prelude.ℕ, Str.bytes_eq};
 ghost use Rattle.abc_steps.specs.declared.step.Item.{Item};
 ghost use Rattle.abc_words.specs.Rows.{behind_end, behind_step, place_at};
 

@@ -1,12 +1,9 @@
 -- Lines of words whose syllables are known, on the notes of `CDEFG|AzB|`.
 use Rattle.std.proofs.Common.{◌≡◌, ℕ, List, [], ◌∷◌, refl}
 use Rattle.std.specs.Prelude.{codes}
-use Rattle.mus_lyric.specs.declared.singing.NoteAt.{NoteAt}
-use Rattle.mus_lyric.specs.declared.singing.Sung.{Sung}
-use Rattle.mus_lyric.specs.declared.syllable.Syl.TheVariants.{Print, Skip, Bar}
-use Rattle.mus_lyric.specs.Characters.{character_of}
-use Rattle.mus_lyric.specs.Singing.{sung_on}
+use Rattle.mus_lyric.specs.{declared.singing.NoteAt.NoteAt, declared.singing.Sung.Sung, Characters.character_of, Singing.sung_on}
 use Rattle.mus_lyric.specs.Syllables.{syllables_of}
+use Rattle.mus_lyric.specs.declared.syllable.Syl.TheVariants.{Print, Skip, Bar}
 
 note : ℕ → ℕ → NoteAt
 note event measure = record { event = event; measure = measure }

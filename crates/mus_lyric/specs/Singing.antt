@@ -1,9 +1,7 @@
 -- On which notes syllables are sung.
 use Rattle.std.specs.Prelude.{◌≡◌, ◌≤◌, ◌<◌, ℕ, ◌+◌, List, [], ◌∷◌, ◌++◌, nat_lt, if◌then◌else◌}
 use Rattle.std.specs.List.{All}
-use Rattle.mus_lyric.specs.declared.singing.NoteAt.{NoteAt}
-use Rattle.mus_lyric.specs.declared.singing.Sung.{Sung}
-use Rattle.mus_lyric.specs.declared.syllable.Syl.{Syl}
+use Rattle.mus_lyric.specs.{declared.singing.NoteAt.NoteAt, declared.singing.Sung.Sung, declared.syllable.Syl.Syl}
 use Rattle.mus_lyric.specs.declared.syllable.Syl.TheVariants.{Print, Skip, Bar}
 
 -- what a syllable or a skip puts on the note that it takes

@@ -1,49 +1,34 @@
 -- What good music keeps: products on the way are small, durations are neither 0 nor too long, and no head is lost.
 use Rattle.std.proofs.Common.{◌≡◌, ℕ, zero, suc, ◌+◌, ◌*◌, ◌/◌, ◌≤◌, List, [], ◌∷◌, ◌++◌, map, Bool, true, false, ◌&&◌, max, length, length-append, refl, sym, ◌∙◌, ap, subst, nat_le, arith, lit≤, inl, inr, ◌⊎◌, if◌then◌else◌, mul_assoc, one-mul, div-le_self, le-mul_of_pos_right, le_trans, add-mul, mul-le-mul_right}
+use Rattle.std.proofs.lemmas.{Bool.Decides.nat_tests, List.Sums.sum_by-cons, List.Sums.sum_by-append, Bool.leb-true, List.map-append, List.length-map, List.Elements.All-from_recursion, Nat.le-div, Nat.mul-le}
 use Rattle.std.specs.List.{sum, sum_by, AllByRecursion, All}
-use Rattle.std.proofs.lemmas.Bool.Decides.{nat_tests}
-use Rattle.std.proofs.lemmas.List.Sums.{sum_by-cons, sum_by-append}
-use Rattle.std.proofs.lemmas.Bool.{leb-true}
-use Rattle.std.proofs.lemmas.List.{map-append, length-map}
-use Rattle.std.proofs.lemmas.List.Elements.{All-from_recursion}
-use Rattle.std.proofs.lemmas.Nat.{le-div, mul-le}
-use Rattle.mus_units.specs.declared.value.Base.{Base}
-use Rattle.mus_units.specs.declared.value.Base.TheVariants as bases
-use Rattle.mus_units.specs.declared.value.Value.{Value}
-use Rattle.mus_units.specs.Value.{base_length, with_dots, value_length, whole_note}
-use Rattle.mus_score.specs.declared.good.Judged.{Judged}
-use Rattle.mus_score.specs.declared.good.Place.{Place}
-use Rattle.mus_score.specs.declared.score.Event.{Event}
-use Rattle.mus_score.specs.declared.score.Flat.{Flat}
-use Rattle.mus_score.specs.declared.times.Waits.{Waits}
-use Rattle.mus_score.specs.declared.score.Music.{Music}
-use Rattle.mus_score.specs.declared.score.Music.TheOpen.{Music-F}
-use Rattle.mus_score.specs.declared.score.Music.TheFolds.{fold-roll-Music, map-Music, ind-Music}
-use Rattle.mus_score.specs.declared.score.Music.TheViews.{roll-Music}
+use Rattle.mus_units.specs.{declared.value.Base.Base, declared.value.Value.Value, Value.base_length, Value.with_dots, Value.value_length, Value.whole_note}
 use Rattle.mus_score.specs.Good.{IsGoodNode, judged, all_judged, tuplet_judged, good_step, judged_within, weight_step, weight, outside, IsGoodBody, is_note, is_rest, longest_ticks, IsGoodFlat, total_ticks, heads_in, flat_weight, flat_count}
 use Rattle.mus_score.specs.Times.{all_products_fit, durations_within, duration_of, flats_of, InTuplets, Leafing, scaled, is_scalable, all_fit, sum_within, leaf, in_row, nothing, duration_step, duration_within, products_step, products_fit, leaves_step, leaves_within}
+use Rattle.mus_score.specs.declared.{good.Judged.Judged, good.Place.Place, score.Event.Event, score.Flat.Flat, times.Waits.Waits, score.Music.Music, score.Music.TheOpen.Music-F, score.Music.TheFolds.fold-roll-Music, score.Music.TheFolds.map-Music, score.Music.TheFolds.ind-Music}
+use Rattle.mus_score.specs.declared.score.Music.TheViews.{roll-Music}
 
 -- The length of a value.
 
 base_low : (b : Base) → 81 ≤ base_length b
-base_low bases.Breve = lit≤ tt
-base_low bases.Whole = lit≤ tt
-base_low bases.Half = lit≤ tt
-base_low bases.Quarter = lit≤ tt
-base_low bases.Eighth = lit≤ tt
-base_low bases.N16 = lit≤ tt
-base_low bases.N32 = lit≤ tt
-base_low bases.N64 = lit≤ tt
+base_low Base.Breve = lit≤ tt
+base_low Base.Whole = lit≤ tt
+base_low Base.Half = lit≤ tt
+base_low Base.Quarter = lit≤ tt
+base_low Base.Eighth = lit≤ tt
+base_low Base.N16 = lit≤ tt
+base_low Base.N32 = lit≤ tt
+base_low Base.N64 = lit≤ tt
 
 base_high : (b : Base) → base_length b ≤ 2 * whole_note
-base_high bases.Breve = lit≤ tt
-base_high bases.Whole = lit≤ tt
-base_high bases.Half = lit≤ tt
-base_high bases.Quarter = lit≤ tt
-base_high bases.Eighth = lit≤ tt
-base_high bases.N16 = lit≤ tt
-base_high bases.N32 = lit≤ tt
-base_high bases.N64 = lit≤ tt
+base_high Base.Breve = lit≤ tt
+base_high Base.Whole = lit≤ tt
+base_high Base.Half = lit≤ tt
+base_high Base.Quarter = lit≤ tt
+base_high Base.Eighth = lit≤ tt
+base_high Base.N16 = lit≤ tt
+base_high Base.N32 = lit≤ tt
+base_high Base.N64 = lit≤ tt
 
 dots_low : (dots n : ℕ) → n ≤ with_dots dots n
 dots_low zero n = omega arith

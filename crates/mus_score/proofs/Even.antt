@@ -1,26 +1,12 @@
 -- In a good body every duration comes out even: a value's ticks are a multiple of 2^6 * 3^4 * 5^2 * 7^2,
 -- and so is a product of two numbers from 2 to 9 a divisor of that.
 use Rattle.std.proofs.Common.{◌≡◌, ℕ, zero, suc, ◌*◌, ◌/◌, ◌≤◌, List, [], ◌∷◌, ◌++◌, map, Bool, true, false, refl, sym, ◌∙◌, ap, subst, arith, if◌then◌else◌}
-use Rattle.std.specs.List.{AllByRecursion, AllZip}
-use Rattle.std.proofs.Math.Nat.{mul-div_cancel_left}
-use Rattle.mus_units.specs.declared.value.Base.{Base}
-use Rattle.mus_units.specs.declared.value.Base.TheVariants as bases
-use Rattle.mus_units.specs.declared.value.Value.{Value}
-use Rattle.mus_units.specs.Value.{base_length, with_dots, value_length}
-use Rattle.mus_units.specs.Parts.{base_units, units_of}
-use Rattle.mus_score.specs.declared.good.Judged.{Judged}
-use Rattle.mus_score.specs.declared.good.Place.{Place}
-use Rattle.mus_score.specs.declared.score.Event.{Event}
-use Rattle.mus_score.specs.declared.score.Flat.{Flat}
-use Rattle.mus_score.specs.declared.times.Waits.{Waits}
-use Rattle.mus_score.specs.declared.score.Music.{Music}
-use Rattle.mus_score.specs.declared.score.Music.TheOpen.{Music-F}
-use Rattle.mus_score.specs.declared.score.Music.TheFolds.{fold-roll-Music, map-Music, ind-Music}
-use Rattle.mus_score.specs.declared.score.Music.TheViews.{roll-Music}
-use Rattle.mus_score.specs.Good.{IsGoodNode, judged, all_judged, good_step, judged_within, outside, IsGoodBody, is_note, is_rest}
-use Rattle.mus_score.specs.Times.{flats_of, InTuplets, Leafing, scaled, leaf, in_row, nothing, leaves_step, leaves_within}
-use Rattle.mus_score.specs.Even.{Ratio, ratios_in_row, ratios_step, ratios_within, IsEven, AreEven}
-use Rattle.mus_score.proofs.Bounds.{note_ticks, note_dots, rest_ticks_inner, rest_dots, guarded, both, GoodTuplet, tuplet_good}
+use Rattle.std.{proofs.Math.Nat.mul-div_cancel_left, specs.List.AllByRecursion, specs.List.AllZip}
+use Rattle.mus_units.specs.{declared.value.Base.Base, declared.value.Value.Value, Value.base_length, Value.with_dots, Value.value_length, Parts.base_units, Parts.units_of}
+use Rattle.mus_score.specs.declared.{good.Judged.Judged, good.Place.Place, score.Event.Event, score.Flat.Flat, times.Waits.Waits, score.Music.Music, score.Music.TheOpen.Music-F, score.Music.TheFolds.fold-roll-Music, score.Music.TheFolds.map-Music, score.Music.TheFolds.ind-Music}
+use Rattle.mus_score.specs.{declared.score.Music.TheViews.roll-Music, Good.IsGoodNode, Good.judged, Good.all_judged, Good.good_step, Good.judged_within, Good.outside, Good.IsGoodBody, Good.is_note, Good.is_rest, Times.flats_of, Times.InTuplets, Times.Leafing, Times.scaled, Times.leaf, Times.in_row}
+use Rattle.mus_score.{specs.Times.nothing, specs.Times.leaves_step, specs.Times.leaves_within, specs.Even.Ratio, specs.Even.ratios_in_row, specs.Even.ratios_step, specs.Even.ratios_within, specs.Even.IsEven, specs.Even.AreEven, proofs.Bounds.note_ticks, proofs.Bounds.note_dots}
+use Rattle.mus_score.proofs.Bounds.{rest_ticks_inner, rest_dots, guarded, both, GoodTuplet, tuplet_good}
 
 -- The ticks of a value.
 
@@ -28,44 +14,44 @@ abbrev part : ℕ
 part = 6350400
 
 undotted : (b : Base) → with_dots 0 (base_length b) ≡ with_dots 0 (base_units b) * part
-undotted bases.Breve = refl
-undotted bases.Whole = refl
-undotted bases.Half = refl
-undotted bases.Quarter = refl
-undotted bases.Eighth = refl
-undotted bases.N16 = refl
-undotted bases.N32 = refl
-undotted bases.N64 = refl
+undotted Base.Breve = refl
+undotted Base.Whole = refl
+undotted Base.Half = refl
+undotted Base.Quarter = refl
+undotted Base.Eighth = refl
+undotted Base.N16 = refl
+undotted Base.N32 = refl
+undotted Base.N64 = refl
 
 one_dot : (b : Base) → with_dots 1 (base_length b) ≡ with_dots 1 (base_units b) * part
-one_dot bases.Breve = refl
-one_dot bases.Whole = refl
-one_dot bases.Half = refl
-one_dot bases.Quarter = refl
-one_dot bases.Eighth = refl
-one_dot bases.N16 = refl
-one_dot bases.N32 = refl
-one_dot bases.N64 = refl
+one_dot Base.Breve = refl
+one_dot Base.Whole = refl
+one_dot Base.Half = refl
+one_dot Base.Quarter = refl
+one_dot Base.Eighth = refl
+one_dot Base.N16 = refl
+one_dot Base.N32 = refl
+one_dot Base.N64 = refl
 
 two_dots : (b : Base) → with_dots 2 (base_length b) ≡ with_dots 2 (base_units b) * part
-two_dots bases.Breve = refl
-two_dots bases.Whole = refl
-two_dots bases.Half = refl
-two_dots bases.Quarter = refl
-two_dots bases.Eighth = refl
-two_dots bases.N16 = refl
-two_dots bases.N32 = refl
-two_dots bases.N64 = refl
+two_dots Base.Breve = refl
+two_dots Base.Whole = refl
+two_dots Base.Half = refl
+two_dots Base.Quarter = refl
+two_dots Base.Eighth = refl
+two_dots Base.N16 = refl
+two_dots Base.N32 = refl
+two_dots Base.N64 = refl
 
 three_dots : (b : Base) → with_dots 3 (base_length b) ≡ with_dots 3 (base_units b) * part
-three_dots bases.Breve = refl
-three_dots bases.Whole = refl
-three_dots bases.Half = refl
-three_dots bases.Quarter = refl
-three_dots bases.Eighth = refl
-three_dots bases.N16 = refl
-three_dots bases.N32 = refl
-three_dots bases.N64 = refl
+three_dots Base.Breve = refl
+three_dots Base.Whole = refl
+three_dots Base.Half = refl
+three_dots Base.Quarter = refl
+three_dots Base.Eighth = refl
+three_dots Base.N16 = refl
+three_dots Base.N32 = refl
+three_dots Base.N64 = refl
 
 dotted : (b : Base) (dots : ℕ) → dots ≤ 3 → with_dots dots (base_length b) ≡ with_dots dots (base_units b) * part
 dotted b zero few = undotted b

@@ -1,17 +1,8 @@
 -- Good scores: what each call that takes a score or a voice asks of it, and each call that makes one gives.
-use Rattle.std.specs.Prelude.{◌≡◌, ◌≢◌, ⊤, ℕ, suc, pos, negsuc, ◌≤◌, ◌<◌, ◌≤ℤ◌, List, [], ◌∷◌, length, map, sum, sum_by, flat_map, All, AllPairs, IfSome, unwrap_or}
+use Rattle.std.specs.Prelude.{◌≡◌, ◌≢◌, ⊤, ℕ, suc, pos, negsuc, ◌≤◌, ◌<◌, ◌≤ℤ◌, List, [], ◌∷◌, length, map, sum, sum_by, flat_map, false, All, AllPairs, IfSome, unwrap_or}
 use Rattle.std.specs.List.Sorted.{IsStrictlyIncreasing}
-use Rattle.mus_units.specs.declared.note.Head.{Head}
-use Rattle.mus_units.specs.declared.pitch.Clef.{Clef}
-use Rattle.mus_units.specs.Good.{IsGoodKey, IsGoodMeter}
-use Rattle.mus_units.specs.Pitch.{height_of}
-use Rattle.mus_score.specs.declared.score.Event.{Event}
-use Rattle.mus_score.specs.declared.score.Flat.{Flat}
-use Rattle.mus_score.specs.declared.score.Measure.{Measure}
-use Rattle.mus_score.specs.declared.score.Voice.{Voice}
-use Rattle.mus_score.specs.declared.score.Score.{Score}
-use Rattle.mus_score.specs.Good.{IsGoodBody, weight}
-use Rattle.mus_score.specs.Times.{flats_of}
+use Rattle.mus_units.specs.{declared.note.Head.Head, declared.pitch.Clef.Clef, Good.IsGoodKey, Good.IsGoodMeter, Pitch.height_of}
+use Rattle.mus_score.specs.{declared.score.Event.Event, declared.score.Flat.Flat, declared.score.Measure.Measure, declared.score.Voice.Voice, declared.score.Score.Score, Good.IsGoodBody, Good.weight, Seats.is_lower, Times.flats_of}
 
 -- the events of measures, from the first to the last
 abbrev pub events_of : List Measure → List Flat
@@ -50,6 +41,7 @@ voice_weight v = sum_by (λ m. sum (map weight m.body)) v.measures
 pub record IsGoodVoice (v : Voice) : Type 0 where
   pub few_measures : length v.measures ≤ 2000
   pub few_verses : v.verses ≤ 8
+  pub near : v.gap ≤ 1000
   pub few_heads : voice_weight v ≤ 50000
   pub key : IsGoodKey v.key
   pub meter : IsGoodMeter v.meter
@@ -57,6 +49,11 @@ pub record IsGoodVoice (v : Voice) : Type 0 where
   pub events : All (IsGoodEvent v.verses) (events_of v.measures)
   pub reach : AreInReach v.clef (events_of v.measures)
   pub ids : AreCounted 0 (events_of v.measures)
+
+-- the first voice begins a staff
+abbrev pub IsLed : List Voice → Type 0
+IsLed [] = ⊤
+IsLed (v ∷ vs) = is_lower v.seat ≡ false
 
 pub record IsGoodScore (s : Score) : Type 0 where
   pub few_voices : length s.voices ≤ 16
@@ -67,3 +64,4 @@ pub record IsGoodScore (s : Score) : Type 0 where
   pub ids : AllPairs (λ v w. v.id ≢ w.id) s.voices
   pub forced : All (λ b. (1 ≤ b) × (b < s.measures)) s.forced
   pub forced_rise : IsStrictlyIncreasing s.forced
+  pub led : IsLed s.voices

@@ -2,5 +2,6 @@ pub mod Even
 pub mod Good
 pub mod GoodScore
 pub mod Plain
+pub mod Seats
 pub mod Times
 pub mod Walks

@@ -1,6 +1,5 @@
 ghost use Rattle.std.specs.Prelude.{◌≡◌, All, IfOk, OnOk, ◌++◌};
-ghost use Rattle.mus_score.specs.Good.{IsGoodBody};
-ghost use Rattle.mus_score.specs.GoodScore.{events_of};
+ghost use Rattle.mus_score.specs.{Good.IsGoodBody, GoodScore.events_of};
 
 use crate::score::{Flat, Measure};
 use crate::times::flatten;

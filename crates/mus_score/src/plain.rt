@@ -1,6 +1,4 @@
-ghost use Rattle.std.specs.Prelude.{◌≡◌, not};
-ghost use Rattle.std.specs.List.{list_all};
-ghost use Rattle.std.specs.Option.{is_none};
+ghost use Rattle.std.specs.{Prelude.◌≡◌, Prelude.not, List.list_all, Option.is_none};
 ghost use Rattle.mus_score.specs.Plain.{is_plain, is_plain_body, is_plain_event, is_plain_node};
 
 use crate::score::{Event, Measure, Music, Score, Voice};

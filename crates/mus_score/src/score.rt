@@ -1,3 +1,6 @@
+ghost use Rattle.std.specs.Prelude.{◌≡◌};
+ghost use Rattle.mus_score.specs.Seats.{is_lower};
+
 use mus_units::{Bar, Clef, Deco, Head, Key, Meter, Row, Spread, Text, Value, Wish};
 
 /// How a rest or a note is drawn: seen, unseen, or as a rest of a whole measure.
@@ -61,11 +64,37 @@ pub struct Measure {
     pub bar: Bar,
 }
 
-/// A voice: its id, what it begins with, the number of its verses, the bar before its first event,
-/// and its measures.
+/// Where a voice stands among the staves of its score.
+#[derive(Clone, Copy, PartialEq, Eq)]
+pub enum Seat {
+    /// It has its staff for itself.
+    Alone,
+    /// It is the first of several voices on its staff.
+    Upper,
+    /// It stands on the staff of the voice before it.
+    Lower,
+}
+
+impl Seat {
+    /// Whether the voice stands on the staff of the voice before it.
+    pub fn is_lower(self) -> bool
+        ensures { result ≡ is_lower self }
+    {
+        match self {
+            Seat::Lower => true,
+            Seat::Alone | Seat::Upper => false,
+        }
+    }
+}
+
+/// A voice: its id, where it stands, and how far its staff keeps from the one above, in u (of a
+/// lower voice that says nothing); what it begins with, the number of its verses, the bar before
+/// its first event, and its measures.
 #[derive(Drop)]
 pub struct Voice {
     pub id: Text,
+    pub seat: Seat,
+    pub gap: u32,
     pub clef: Clef,
     pub key: Key,
     pub meter: Meter,
@@ -75,7 +104,8 @@ pub struct Voice {
     pub measures: Row<Measure>,
 }
 
-/// A tune: its voices, which all have `measures` measures, and the bars at which a system must end.
+/// A tune: its voices, which all have `measures` measures and by their seats say which staves there
+/// are, and the bars at which a system must end.
 #[derive(Drop)]
 pub struct Score {
     pub voices: Row<Voice>,

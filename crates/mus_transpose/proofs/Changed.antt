@@ -1,15 +1,7 @@
 -- Folds over a tree with each event changed.
 use Rattle.std.proofs.Common.{◌≡◌, ℕ, Bool, List, [], ◌∷◌, ◌++◌, ◌*◌, map, refl, sym, ◌∙◌, ap, subst}
-use Rattle.std.specs.List.{AllZip}
-use Rattle.std.proofs.lemmas.List.{map-append}
-use Rattle.std.proofs.lemmas.List.Elements.{same_from_all_zip}
-use Rattle.mus_score.specs.declared.score.Event.{Event}
-use Rattle.mus_score.specs.declared.score.Flat.{Flat}
-use Rattle.mus_score.specs.declared.score.Music.{Music, map-Music}
-use Rattle.mus_score.specs.declared.score.Music.TheOpen.{Music-F}
-use Rattle.mus_score.specs.declared.score.Music.TheViews.{roll-Music}
-use Rattle.mus_score.specs.declared.score.Music.TheFolds.{fold-Music, fold-roll-Music, ind-Music}
-use Rattle.mus_score.specs.declared.times.Waits.{Waits}
+use Rattle.std.{proofs.lemmas.List.map-append, proofs.lemmas.List.Elements.same_from_all_zip, specs.List.AllZip}
+use Rattle.mus_score.specs.declared.{score.Event.Event, score.Flat.Flat, score.Music.Music, score.Music.map-Music, score.Music.TheOpen.Music-F, score.Music.TheViews.roll-Music, score.Music.TheFolds.fold-Music, score.Music.TheFolds.fold-roll-Music, score.Music.TheFolds.ind-Music, times.Waits.Waits}
 use Rattle.mus_score.specs.Times.{Leafing, Leaves, flats_of, in_row, leaf, leaves_step, leaves_within, nothing}
 use Rattle.mus_transpose.specs.Moved.{changed, changed_flat, changed_layer, changed_step}
 

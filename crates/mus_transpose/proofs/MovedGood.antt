@@ -1,40 +1,15 @@
 -- A moved score in reach is good, and where there is no move it is the score.
 use Rattle.std.proofs.Common.{◌≡◌, ◌≢◌, ℕ, suc, ◌==◌, ◌&&◌, ◌*◌, ◌+ℤ◌, ◌<◌, nat_le, Bool, true, false, List, get_or, [], ◌∷◌, ◌++◌, length, map, refl, sym, ◌∙◌, Decides, ap, subst, arith, sum, if◌then◌else◌}
-use Rattle.std.specs.Int.{int_div_euclid}
 use Rattle.std.specs.Prelude.{pos, negsuc, ◌≤ℤ◌, int_le, All, AllPairs, IfSome, Option, Some, None, sum_by, ℤ}
-use Rattle.std.specs.Option.{option_map}
-use Rattle.std.specs.List.{list_all}
-use Rattle.std.proofs.Math.Path.{fun_ext}
-use Rattle.std.proofs.lemmas.Bool.{false≢true}
-use Rattle.std.proofs.lemmas.Bool.Decides.{Decides-and, Decides-by_and, Decides-like}
-use Rattle.std.proofs.lemmas.Int.{ints}
-use Rattle.std.proofs.lemmas.List.{get_or-map, length-map, map-append, map-id}
-use Rattle.std.proofs.lemmas.List.Elements.{All-map, All-weaker}
-use Rattle.std.proofs.lemmas.List.Sums.{sum-map}
-use Rattle.std.proofs.lemmas.Simd.{map-map}
-use Rattle.mus_units.specs.Good.{IsGoodKey}
-use Rattle.mus_units.specs.Pitch.{height_of, number_of}
-use Rattle.mus_units.specs.Value.{value_length, whole_note}
-use Rattle.mus_units.specs.declared.key.Key.{Key}
-use Rattle.mus_units.specs.declared.note.Head.{Head}
-use Rattle.mus_units.specs.declared.pitch.Clef.{Clef}
-use Rattle.mus_units.specs.declared.pitch.Letter.{Letter}
-use Rattle.mus_units.specs.declared.pitch.Letter.TheVariants as letters
+use Rattle.std.proofs.{Math.Path.fun_ext, lemmas.Bool.false≢true, lemmas.Bool.Decides.Decides-and, lemmas.Bool.Decides.Decides-by_and, lemmas.Bool.Decides.Decides-like, lemmas.Int.ints, lemmas.List.get_or-map, lemmas.List.length-map, lemmas.List.map-append, lemmas.List.map-id}
+use Rattle.std.{proofs.lemmas.List.Elements.All-map, proofs.lemmas.List.Elements.All-weaker, proofs.lemmas.List.Sums.sum-map, proofs.lemmas.Simd.map-map, specs.Int.int_div_euclid, specs.Option.option_map, specs.List.list_all}
+use Rattle.mus_units.specs.{Good.IsGoodKey, Pitch.height_of, Pitch.number_of, Value.value_length, Value.whole_note, declared.key.Key.Key, declared.note.Head.Head, declared.pitch.Clef.Clef, declared.pitch.Letter.Letter}
 use Rattle.mus_pitch.proofs.SignLaws.{signs_of_good}
-use Rattle.mus_score.specs.declared.score.Event.{Event}
-use Rattle.mus_score.specs.declared.score.Flat.{Flat}
-use Rattle.mus_score.specs.declared.score.Measure.{Measure}
-use Rattle.mus_score.specs.declared.score.Music.{Music}
-use Rattle.mus_score.specs.declared.score.Music.TheOpen.{Music-F}
-use Rattle.mus_score.specs.declared.score.Score.{Score}
-use Rattle.mus_score.specs.declared.score.Voice.{Voice}
-use Rattle.mus_score.specs.declared.good.Place.{Place}
-use Rattle.mus_score.specs.Good.{IsGoodBody, all_judged, good_step, has_value_ticks, judged, outside, weight, weight_step}
-use Rattle.mus_score.specs.GoodScore.{AreCounted, AreInReach, IsInReach, clef_at, IsGoodEvent, IsGoodScore, IsGoodVoice, events_of, voice_weight}
-use Rattle.mus_score.specs.Times.{flats_of}
-use Rattle.mus_transpose.specs.declared.moves.Move.{Move}
+use Rattle.mus_score.specs.{declared.score.Event.Event, declared.score.Flat.Flat, declared.score.Measure.Measure, declared.score.Music.Music, declared.score.Music.TheOpen.Music-F, declared.score.Score.Score, declared.score.Voice.Voice, declared.good.Place.Place, Good.IsGoodBody, Good.all_judged}
+use Rattle.mus_score.specs.{Good.good_step, Good.has_value_ticks, Good.judged, Good.outside, Good.weight, Good.weight_step, GoodScore.AreCounted, GoodScore.AreInReach, GoodScore.IsInReach, GoodScore.clef_at, GoodScore.IsGoodEvent, GoodScore.IsGoodScore, GoodScore.IsGoodVoice, GoodScore.IsLed}
+use Rattle.mus_score.specs.{GoodScore.events_of, GoodScore.voice_weight, Times.flats_of}
 use Rattle.mus_transpose.specs.Moved.{CanMove, Within, are_in_reach, event_by, in_reach, key_by, body_by, changed, changed_flat, measure_by, move_from, moved_head, moved_score, on_circle, score_by, sharps_in, voice_by, voice_may}
-use Rattle.mus_transpose.proofs.Changed.{flats_changed, fold_same, unchanged}
+use Rattle.mus_transpose.{specs.declared.moves.Move.Move, proofs.Changed.flats_changed, proofs.Changed.fold_same, proofs.Changed.unchanged}
 
 -- ---- numbers
 
@@ -43,13 +18,13 @@ twelfth_fits (pos a) h = let low = h.0 in let high = h.1 in (omega (arith, ints)
 twelfth_fits (negsuc a) h = let low = h.0 in let high = h.1 in (omega (arith, ints), omega (arith, ints))
 
 pub few_letters : (l : Letter) → number_of l < 7
-few_letters letters.C = omega arith
-few_letters letters.D = omega arith
-few_letters letters.E = omega arith
-few_letters letters.F = omega arith
-few_letters letters.G = omega arith
-few_letters letters.A = omega arith
-few_letters letters.B = omega arith
+few_letters Letter.C = omega arith
+few_letters Letter.D = omega arith
+few_letters Letter.E = omega arith
+few_letters Letter.F = omega arith
+few_letters Letter.G = omega arith
+few_letters Letter.A = omega arith
+few_letters Letter.B = omega arith
 
 -- ---- bodies
 
@@ -108,6 +83,7 @@ voice_good m v reach good =
     record {
       few_measures = omega (arith, length-map v.measures (measure_by (Some m)), good.few_measures);
       few_verses = good.few_verses;
+      near = good.near;
       few_heads = omega (arith, voice_weight_kept m v, good.few_heads);
       key = signs_of_good (sharps_in v.key.signs +ℤ m.sharps);
       meter = good.meter;
@@ -138,6 +114,10 @@ ids_apart m vs h = λ i j d below lt.
     let f = ap (λ (v : Voice). v.id) (get_or-map (voice_by (Some m)) vs j d d inside) in
     λ same. h i j d below inside (sym e ∙ same ∙ f)
 
+led_still : (m : Move) (vs : List Voice) → IsLed vs → IsLed (map (voice_by (Some m)) vs)
+led_still m [] h = tt
+led_still m (v ∷ vs) h = h
+
 pub moved_good : (m : Move) (s : Score) → IsGoodScore s → ReachAll (score_by (Some m) s).voices → IsGoodScore (score_by (Some m) s)
 moved_good m s good reach = record {
   few_voices = omega (arith, length-map s.voices (voice_by (Some m)), good.few_voices);
@@ -148,6 +128,7 @@ moved_good m s good reach = record {
   ids = ids_apart m s.voices good.ids;
   forced = good.forced;
   forced_rise = good.forced_rise;
+  led = led_still m s.voices good.led;
 }
 
 -- ---- where there is no move

@@ -1,62 +1,37 @@
 -- Moved scores. A head moves by letters, and a sign before it becomes the one that is as many semitones higher; a key moves by
 -- sharps. Beside each stands the test whether it can be moved; where there is no move all is left as it is.
 use Rattle.std.specs.Prelude.{◌≡◌, ◌≢◌, ⊤, zero, suc, ℕ, ℤ, pos, negsuc, ◌+ℤ◌, ◌-ℤ◌, ◌*ℤ◌, ◌≤ℤ◌, ◌&&◌, nat_le, int_le, Bool, true, false, List, [], ◌∷◌, length, map, All, MatchOption, Option, Some, None, Result, Ok, Err, is_some, unwrap_or}
-use Rattle.std.specs.Cmp.Lexicographic.{pointwise}
-use Rattle.std.specs.Int.{int_div_euclid, int_rem_euclid}
-use Rattle.std.specs.List.{list_all}
-use Rattle.std.specs.Option.{option_map}
-use Rattle.std.specs.Ordering.{int_eq}
-use Rattle.mus_units.specs.Good.{same_letter}
-use Rattle.mus_units.specs.Pitch.{height_of}
-use Rattle.mus_units.specs.declared.key.Key.{Key}
-use Rattle.mus_units.specs.declared.key.Sign.{Sign}
-use Rattle.mus_units.specs.declared.note.Head.{Head}
-use Rattle.mus_units.specs.declared.pitch.Alter.{Alter}
-use Rattle.mus_units.specs.declared.pitch.Alter.TheVariants as alters
-use Rattle.mus_units.specs.declared.pitch.Clef.{Clef}
-use Rattle.mus_units.specs.declared.pitch.Letter.{Letter}
-use Rattle.mus_units.specs.declared.pitch.Letter.TheVariants as letters
-use Rattle.mus_units.specs.declared.pitch.Pitch.{Pitch}
-use Rattle.mus_pitch.specs.Circle.{is_signature, signs_of}
-use Rattle.mus_pitch.specs.Steps.{pitch_of_steps, steps}
-use Rattle.mus_score.specs.declared.score.Event.{Event}
-use Rattle.mus_score.specs.declared.score.Flat.{Flat}
-use Rattle.mus_score.specs.declared.score.Measure.{Measure}
-use Rattle.mus_score.specs.declared.score.Music.{Music}
-use Rattle.mus_score.specs.declared.score.Music.TheOpen.{Music-F}
-use Rattle.mus_score.specs.declared.score.Music.TheViews.{roll-Music}
-use Rattle.mus_score.specs.declared.score.Music.TheFolds.{fold-Music}
-use Rattle.mus_score.specs.declared.score.Score.{Score}
-use Rattle.mus_score.specs.declared.score.Voice.{Voice}
+use Rattle.std.specs.{Cmp.Lexicographic.pointwise, Int.int_div_euclid, Int.int_rem_euclid, List.list_all, Option.option_map, Ordering.int_eq}
+use Rattle.mus_units.specs.{Good.same_letter, Pitch.height_of, declared.key.Key.Key, declared.key.Sign.Sign, declared.note.Head.Head, declared.pitch.Alter.Alter, declared.pitch.Clef.Clef, declared.pitch.Letter.Letter, declared.pitch.Pitch.Pitch}
+use Rattle.mus_pitch.specs.{Circle.is_signature, Circle.signs_of, Steps.pitch_of_steps, Steps.steps}
+use Rattle.mus_score.specs.declared.score.{Event.Event, Flat.Flat, Measure.Measure, Music.Music, Music.TheOpen.Music-F, Music.TheViews.roll-Music, Music.TheFolds.fold-Music, Score.Score, Voice.Voice}
 use Rattle.mus_score.specs.GoodScore.{AreInReach, clef_at, events_of}
-use Rattle.mus_transpose.specs.declared.moves.Move.{Move}
-use Rattle.mus_transpose.specs.declared.moves.MoveError.{MoveError}
-use Rattle.mus_transpose.specs.declared.moves.MoveError.TheVariants as errors
+use Rattle.mus_transpose.specs.{declared.moves.Move.Move, declared.moves.MoveError.MoveError}
 
 -- the semitones from C to a letter
 abbrev pub natural_of : Letter → ℕ
-natural_of letters.C = 0
-natural_of letters.D = 2
-natural_of letters.E = 4
-natural_of letters.F = 5
-natural_of letters.G = 7
-natural_of letters.A = 9
-natural_of letters.B = 11
+natural_of Letter.C = 0
+natural_of Letter.D = 2
+natural_of Letter.E = 4
+natural_of Letter.F = 5
+natural_of Letter.G = 7
+natural_of Letter.A = 9
+natural_of Letter.B = 11
 
 abbrev pub alter_of : Alter → ℤ
-alter_of alters.Flat2 = negsuc 1
-alter_of alters.Flat = negsuc 0
-alter_of alters.Natural = pos 0
-alter_of alters.Sharp = pos 1
-alter_of alters.Sharp2 = pos 2
+alter_of Alter.Flat2 = negsuc 1
+alter_of Alter.Flat = negsuc 0
+alter_of Alter.Natural = pos 0
+alter_of Alter.Sharp = pos 1
+alter_of Alter.Sharp2 = pos 2
 
 -- the alteration of so many semitones, where there is one
 abbrev pub alter_from : ℤ → Option Alter
-alter_from (pos zero) = Some alters.Natural
-alter_from (pos (suc zero)) = Some alters.Sharp
-alter_from (pos (suc (suc zero))) = Some alters.Sharp2
-alter_from (negsuc zero) = Some alters.Flat
-alter_from (negsuc (suc zero)) = Some alters.Flat2
+alter_from (pos zero) = Some Alter.Natural
+alter_from (pos (suc zero)) = Some Alter.Sharp
+alter_from (pos (suc (suc zero))) = Some Alter.Sharp2
+alter_from (negsuc zero) = Some Alter.Flat
+alter_from (negsuc (suc zero)) = Some Alter.Flat2
 alter_from _ = None
 
 unfoldable pub semitones : Pitch → Alter → ℤ
@@ -94,7 +69,7 @@ is_near m p = int_le (pos 4) (moved_steps m p) && int_le (moved_steps m p) (pos 
 
 -- the alteration at the moved pitch with which a head is so many semitones higher, where there is one
 unfoldable pub moved_alter : Move → Pitch → Alter → Option Alter
-moved_alter m p a = alter_from ((semitones p a +ℤ m.semitones) -ℤ semitones (moved_pitch m p) alters.Natural)
+moved_alter m p a = alter_from ((semitones p a +ℤ m.semitones) -ℤ semitones (moved_pitch m p) Alter.Natural)
 
 -- a sign that is past a double one stays, but its score can't be moved
 abbrev pub moved_sign : Move → Pitch → Option Alter → Option Alter
@@ -113,7 +88,7 @@ head_moves m h = is_near m h.pitch && sign_moves m h.pitch h.sign
 
 -- the sharps of a key by its first sign, a flat counting as one less
 abbrev pub sharps_by : Alter → ℤ → ℤ
-sharps_by alters.Flat count = pos 0 -ℤ count
+sharps_by Alter.Flat count = pos 0 -ℤ count
 sharps_by _ count = count
 
 abbrev pub sharps_in : List Sign → ℤ
@@ -204,8 +179,8 @@ score_by by s = record s { voices = map (voice_by by) s.voices }
 -- what a call gives by a move: the moved value where all in it can be moved, else no move
 abbrev pub Gives : {A : Type 0} → Option Move → Bool → A → Result A MoveError → Type 0
 Gives by may x (Ok r) = (may ≡ true) × (r ≡ x)
-Gives by may x (Err errors.NoMove) = (is_some by ≡ true) × (may ≡ false)
-Gives by may x (Err errors.Memory) = ⊤
+Gives by may x (Err MoveError.NoMove) = (is_some by ≡ true) × (may ≡ false)
+Gives by may x (Err MoveError.Memory) = ⊤
 
 -- ---- what is in reach: the same as `AreInReach`, as a test
 

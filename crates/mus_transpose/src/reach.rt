@@ -1,5 +1,4 @@
-ghost use Rattle.std.specs.Prelude.{◌≡◌};
-ghost use Rattle.std.specs.List.{list_all};
+ghost use Rattle.std.specs.{Prelude.◌≡◌, List.list_all};
 ghost use Rattle.mus_score.specs.GoodScore.{clef_at};
 ghost use Rattle.mus_transpose.specs.Moved.{are_in_reach, in_reach};
 

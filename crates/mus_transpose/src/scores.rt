@@ -1,7 +1,5 @@
-ghost use Rattle.std.specs.Prelude.{◌≡◌, length, pos, negsuc, All, IfOk, IfSome, MatchOption, true, map};
-ghost use Rattle.std.specs.List.{list_all};
-ghost use Rattle.mus_score.specs.Good.{IsGoodBody};
-ghost use Rattle.mus_score.specs.GoodScore.{IsGoodScore, events_of};
+ghost use Rattle.std.specs.{Prelude.◌≡◌, Prelude.length, Prelude.pos, Prelude.negsuc, Prelude.All, Prelude.IfOk, Prelude.IfSome, Prelude.MatchOption, Prelude.true, Prelude.map, List.list_all};
+ghost use Rattle.mus_score.specs.{Good.IsGoodBody, GoodScore.IsGoodScore, GoodScore.events_of};
 ghost use Rattle.mus_transpose.specs.Moved.{Within, CanMove, Gives, IsMoved, are_in_reach, body_may, measure_by, move_from, moved_score, on_circle, score_by, voice_by, voice_may};
 
 use crate::keys::{key_by, on_circle, sharps_in};
@@ -30,6 +28,8 @@ fn voice_by(alloc: Global, by: Option<Move>, v: &Voice) -> Moved<Voice>
 {
     Ok(Voice {
         id: v.id.copy(alloc)?,
+        seat: v.seat,
+        gap: v.gap,
         clef: v.clef,
         key: key_by(alloc, by, &v.key)?,
         meter: v.meter,

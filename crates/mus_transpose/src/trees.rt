@@ -1,5 +1,4 @@
-ghost use Rattle.std.specs.Prelude.{◌≡◌, map, Some};
-ghost use Rattle.std.specs.List.{list_all};
+ghost use Rattle.std.specs.{Prelude.◌≡◌, Prelude.map, Prelude.Some, List.list_all};
 ghost use Rattle.mus_transpose.specs.Moved.{Gives, all_pass, body_by, body_may, changed, event_by, event_may, head_moves, moved_head};
 
 use crate::heads::moved_head;

@@ -1,6 +1,4 @@
-use Rattle.std.proofs.Common.{◌≡◌}
-use Rattle.std.specs.Prelude.{map}
-use Rattle.std.specs.List.{range_with_len}
+use Rattle.std.{proofs.Common.◌≡◌, specs.Prelude.map, specs.List.range_with_len}
 use Rattle.abc_events.specs.Bars.{bar_of}
 use Rattle.abc_events.proofs.bars.bars_of.Given as goal
 

@@ -1,8 +1,5 @@
-use Rattle.std.proofs.Common.{◌∙◌, sym, ap, ◌++◌}
-use Rattle.std.specs.Vec.Iter.{into_iter_items}
-use Rattle.abc_events.specs.Signs.{IsDrawn}
-use Rattle.abc_events.specs.Leaves.{leaves_from}
-use Rattle.abc_events.proofs.Taken.{all_left, count_left}
+use Rattle.std.{proofs.Common.◌∙◌, proofs.Common.sym, proofs.Common.ap, proofs.Common.◌++◌, specs.Vec.Iter.into_iter_items}
+use Rattle.abc_events.{specs.Signs.IsDrawn, specs.Leaves.leaves_from, proofs.Taken.all_left, proofs.Taken.count_left}
 use Rattle.abc_events.proofs.leaves.leaves_of.Goals as goal
 
 pub loop-sign-preserved : goal.loop-sign-preserved

@@ -1,8 +1,5 @@
-use Rattle.std.proofs.Common.{◌≡◌, ◌++◌, length}
-use Rattle.std.specs.List.{All}
-use Rattle.std.specs.Vec.Iter.{into_iter_items, into_iter_len}
-use Rattle.abc_events.specs.Leaves.{leaves_from}
-use Rattle.abc_events.specs.Signs.{IsDrawn}
+use Rattle.std.{proofs.Common.◌≡◌, proofs.Common.◌++◌, proofs.Common.length, specs.List.All, specs.Vec.Iter.into_iter_items, specs.Vec.Iter.into_iter_len}
+use Rattle.abc_events.specs.{Leaves.leaves_from, Signs.IsDrawn}
 use Rattle.abc_events.proofs.leaves.leaves_of.Given as goal
 
 abbrev pub invariant-loop-sign : goal.invariant-loop-sign

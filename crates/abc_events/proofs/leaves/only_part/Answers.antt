@@ -1,7 +1,5 @@
 use Rattle.std.proofs.Common.{◌≡◌, map, false}
-use Rattle.abc_events.specs.Signs.{with_tie}
-use Rattle.abc_events.specs.Leaves.{first_part}
-use Rattle.abc_events.proofs.Heads.{untied}
+use Rattle.abc_events.{specs.Signs.with_tie, specs.Leaves.first_part, proofs.Heads.untied}
 use Rattle.abc_events.proofs.leaves.only_part.Goals as goal
 
 pub returns : goal.returns

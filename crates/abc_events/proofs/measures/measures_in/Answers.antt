@@ -1,6 +1,5 @@
 use Rattle.std.specs.Vec.Iter.{into_iter_items}
-use Rattle.abc_events.proofs.MeasureRows.{other_rows, measure_pushed, count_more}
-use Rattle.abc_events.proofs.Taken.{count_left}
+use Rattle.abc_events.proofs.{MeasureRows.other_rows, MeasureRows.measure_pushed, MeasureRows.count_more, Taken.count_left}
 use Rattle.abc_events.proofs.measures.measures_in.Goals as goal
 
 pub loop-row-preserved : goal.loop-row-preserved

@@ -1,6 +1,5 @@
 use Rattle.std.proofs.Common.{◌≡◌, ◌<◌, ◌+◌, [], ℕ, map, length, slice_index_or}
-use Rattle.std.specs.List.{range_with_len}
-use Rattle.std.specs.Vec.Iter.{into_iter_items, into_iter_len}
+use Rattle.std.specs.{List.range_with_len, Vec.Iter.into_iter_items, Vec.Iter.into_iter_len}
 use Rattle.abc_events.specs.Measures.{leaves_in, measure_of}
 use Rattle.abc_events.proofs.measures.measures_in.Given as goal
 

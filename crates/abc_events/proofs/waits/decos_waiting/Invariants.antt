@@ -1,5 +1,4 @@
-use Rattle.std.proofs.Common.{◌≡◌, ◌++◌, drop}
-use Rattle.std.specs.Prelude.{flat_map}
+use Rattle.std.{proofs.Common.◌≡◌, proofs.Common.◌++◌, proofs.Common.drop, specs.Prelude.flat_map}
 use Rattle.abc_events.specs.Waits.{decos_in}
 use Rattle.abc_events.proofs.waits.decos_waiting.Given as goal
 

@@ -1,9 +1,5 @@
 use Rattle.std.proofs.Common.{List, subst}
-use Rattle.abc_faults.specs.declared.weights.Weight.{Weight}
-use Rattle.abc_faults.specs.First.{IsFirst, first_of}
-use Rattle.abc_faults.specs.Weights.{crowded}
-use Rattle.abc_faults.proofs.Crowds.{first_along, same_crowd}
-use Rattle.abc_faults.proofs.Firsts.{first_is}
+use Rattle.abc_faults.{specs.declared.weights.Weight.Weight, specs.First.IsFirst, specs.First.first_of, specs.Weights.crowded, proofs.Crowds.first_along, proofs.Crowds.same_crowd, proofs.Firsts.first_is}
 use Rattle.abc_faults.proofs.crowd.crowding.Goals as goal
 
 first : (c : goal.After-drop-weights-inside) → IsFirst (crowded c.args.weights) c.first_crowded.result

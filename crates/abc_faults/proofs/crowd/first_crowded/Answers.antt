@@ -1,8 +1,5 @@
 use Rattle.std.proofs.Common.{sym, subst}
-use Rattle.abc_faults.specs.declared.weights.Weight.{Weight}
-use Rattle.abc_faults.specs.First.{IsLeast}
-use Rattle.abc_faults.specs.Weights.{crowded}
-use Rattle.abc_faults.proofs.Crowds.{found_at, none_found}
+use Rattle.abc_faults.{specs.declared.weights.Weight.Weight, specs.First.IsLeast, specs.Weights.crowded, proofs.Crowds.found_at, proofs.Crowds.none_found}
 use Rattle.abc_faults.proofs.crowd.first_crowded.Goals as goal
 
 pub returns-then-w-left : goal.returns-then-w-left

@@ -1,5 +1,4 @@
-use Rattle.std.proofs.Common.{◌≡◌, ◌+◌, take}
-use Rattle.std.specs.Prelude.{sum_by}
+use Rattle.std.{proofs.Common.◌≡◌, proofs.Common.◌+◌, proofs.Common.take, specs.Prelude.sum_by}
 use Rattle.abc_faults.proofs.crowd.first_crowded.Given as goal
 
 abbrev pub invariant-loop-w : goal.invariant-loop-w

@@ -1,7 +1,6 @@
 use Rattle.std.proofs.Common.{◌≡◌, ◌++◌, take, drop, length, sym, subst, arith}
 use Rattle.std.proofs.lemmas.Grind.{common_steps}
-use Rattle.abc_faults.specs.Weights.{AreInOrder}
-use Rattle.abc_faults.proofs.Orders.{order_from_sorted}
+use Rattle.abc_faults.{specs.Weights.AreInOrder, proofs.Orders.order_from_sorted}
 use Rattle.abc_faults.proofs.crowd.in_order.Goals as goal
 
 pub returns-clause-order : goal.returns-clause-order

@@ -1,6 +1,5 @@
 use Rattle.std.proofs.Common.{◌≡◌, drop}
-use Rattle.abc_faults.specs.First.{earlier, first_of}
-use Rattle.abc_faults.specs.Faults.{grace_faults}
+use Rattle.abc_faults.specs.{First.earlier, First.first_of, Faults.grace_faults}
 use Rattle.abc_faults.proofs.voice.grace_fault.Given as goal
 
 abbrev pub invariant-loop-s : goal.invariant-loop-s

@@ -1,9 +1,6 @@
 use Rattle.std.proofs.Common.{◌≡◌, ◌≤◌, ◌*◌, ◌++◌, [], reverse, take, drop}
-use Rattle.abc_steps.specs.Good.{IsGoodForce}
-use Rattle.abc_faults.specs.First.{earlier, first_of}
-use Rattle.abc_faults.specs.Faults.{faults_in}
-use Rattle.abc_faults.specs.Weights.{weights_in}
-use Rattle.abc_steps.specs.Places.{place_at}
+use Rattle.abc_steps.specs.{Good.IsGoodForce, Places.place_at}
+use Rattle.abc_faults.specs.{First.earlier, First.first_of, Faults.faults_in, Weights.weights_in}
 use Rattle.abc_faults.proofs.voice.judge_voice.Given as goal
 
 abbrev pub invariant-loop-i : goal.invariant-loop-i

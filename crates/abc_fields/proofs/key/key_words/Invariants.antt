@@ -1,7 +1,5 @@
-use Rattle.std.proofs.Common.{◌≡◌, ◌++◌, length}
-use Rattle.std.specs.Option.{option_map}
-use Rattle.abc_fields.specs.Words.{words_of}
-use Rattle.abc_fields.specs.Keys.{key_words}
+use Rattle.std.{proofs.Common.◌≡◌, proofs.Common.◌++◌, proofs.Common.length, specs.Option.option_map}
+use Rattle.abc_fields.specs.{Words.words_of, Keys.key_words}
 use Rattle.abc_fields.proofs.key.key_words.Given as goal
 
 abbrev pub invariant-loop-word : goal.invariant-loop-word

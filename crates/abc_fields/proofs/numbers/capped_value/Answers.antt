@@ -1,6 +1,5 @@
 use Rattle.std.proofs.Common.{◌≡◌, ℕ, suc, ◌∷◌, ◌+◌, ◌*◌, ◌-◌, List, drop, get_or, arith, drop-cons, sym, ◌∙◌, ap, length, ◌<◌, min}
-use Rattle.abc_fields.specs.Numbers.{value_after}
-use Rattle.abc_fields.proofs.NumberLaws.{value_after-min}
+use Rattle.abc_fields.{specs.Numbers.value_after, proofs.NumberLaws.value_after-min}
 use Rattle.abc_fields.proofs.numbers.capped_value.Goals as goal
 
 pub loop-digit-preserved : goal.loop-digit-preserved

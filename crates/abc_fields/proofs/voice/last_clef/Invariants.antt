@@ -1,7 +1,5 @@
-use Rattle.std.proofs.Common.{◌≡◌, drop}
-use Rattle.std.specs.Option.{option_or}
-use Rattle.abc_fields.specs.Last.{last_of}
-use Rattle.abc_fields.specs.Voices.{clef_in}
+use Rattle.std.{proofs.Common.◌≡◌, proofs.Common.drop, specs.Option.option_or}
+use Rattle.abc_fields.specs.{Last.last_of, Voices.clef_in}
 use Rattle.abc_fields.proofs.voice.last_clef.Given as goal
 
 abbrev pub invariant-loop-word : goal.invariant-loop-word

@@ -1,7 +1,5 @@
-use Rattle.std.proofs.Common.{◌≡◌, ◌++◌, length}
-use Rattle.std.specs.Option.{option_map}
-use Rattle.abc_fields.specs.Words.{properties_of}
-use Rattle.abc_fields.specs.Voices.{voice_words}
+use Rattle.std.{proofs.Common.◌≡◌, proofs.Common.◌++◌, proofs.Common.length, specs.Option.option_map}
+use Rattle.abc_fields.specs.{Words.properties_of, Voices.voice_words}
 use Rattle.abc_fields.proofs.voice.voice_words.Given as goal
 
 abbrev pub invariant-loop-word : goal.invariant-loop-word

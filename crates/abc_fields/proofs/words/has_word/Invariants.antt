@@ -1,6 +1,4 @@
-use Rattle.std.proofs.Common.{◌≡◌, length}
-use Rattle.std.specs.List.{list_any}
-use Rattle.std.specs.Str.{bytes_eq}
+use Rattle.std.{proofs.Common.◌≡◌, proofs.Common.length, specs.List.list_any, specs.Str.bytes_eq}
 use Rattle.abc_fields.specs.Words.{words_of}
 use Rattle.abc_fields.proofs.words.has_word.Given as goal
 

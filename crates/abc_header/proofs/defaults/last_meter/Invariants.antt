@@ -1,6 +1,4 @@
-use Rattle.std.proofs.Common.{◌≡◌, drop}
-use Rattle.std.specs.Prelude.{IfSome}
-use Rattle.std.specs.Option.{option_or}
+use Rattle.std.{proofs.Common.◌≡◌, proofs.Common.drop, specs.Prelude.IfSome, specs.Option.option_or}
 use Rattle.mus_units.specs.Good.{IsGoodMeter}
 use Rattle.abc_fields.specs.Last.{last_of}
 use Rattle.abc_header.specs.Defaults.{line_meter}

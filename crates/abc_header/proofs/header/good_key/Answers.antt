@@ -1,5 +1,4 @@
-use Rattle.std.proofs.Common.{subst, sym}
-use Rattle.std.specs.Prelude.{IfSome}
+use Rattle.std.{proofs.Common.subst, proofs.Common.sym, specs.Prelude.IfSome}
 use Rattle.abc_fields.specs.Keys.{IsGoodKeyText}
 use Rattle.abc_header.proofs.HeaderLaws.{last_key-good, good_copied}
 use Rattle.abc_header.proofs.header.good_key.Goals as goal

@@ -1,7 +1,5 @@
 use Rattle.std.proofs.Common.{◌≡◌, ◌≤◌, ◌∙◌, ap, subst, sym, map, length}
-use Rattle.abc_header.specs.Voicing.{voice_from, ids_of, voices_of}
-use Rattle.abc_header.specs.Headers.{AreDistinct}
-use Rattle.abc_header.proofs.HeaderLaws.{voices-distinct, voices-few}
+use Rattle.abc_header.{specs.Voicing.voice_from, specs.Voicing.ids_of, specs.Voicing.voices_of, specs.Headers.AreDistinct, proofs.HeaderLaws.voices-distinct, proofs.HeaderLaws.voices-few}
 use Rattle.abc_header.proofs.header.header_of.Goals as goal
 
 pub returns-clause-good : goal.returns-clause-good

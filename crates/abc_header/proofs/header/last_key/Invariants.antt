@@ -1,5 +1,4 @@
-use Rattle.std.proofs.Common.{◌≡◌, drop}
-use Rattle.std.specs.Option.{option_or, option_copied}
+use Rattle.std.{proofs.Common.◌≡◌, proofs.Common.drop, specs.Option.option_or, specs.Option.option_copied}
 use Rattle.abc_fields.specs.Last.{last_of}
 use Rattle.abc_header.specs.Headers.{key_in}
 use Rattle.abc_header.proofs.header.last_key.Given as goal

@@ -1,5 +1,4 @@
-use Rattle.std.proofs.Common.{◌≡◌, ◌++◌, drop}
-use Rattle.std.specs.List.{filter_map}
+use Rattle.std.{proofs.Common.◌≡◌, proofs.Common.◌++◌, proofs.Common.drop, specs.List.filter_map}
 use Rattle.abc_header.specs.Headers.{title_in}
 use Rattle.abc_header.proofs.header.titles_of.Given as goal
 

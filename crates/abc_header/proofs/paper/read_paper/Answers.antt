@@ -1,6 +1,5 @@
 use Rattle.std.proofs.Common.{subst, sym, ◌∙◌}
-use Rattle.abc_header.specs.FileHeader.{IsPaperBy}
-use Rattle.abc_header.proofs.FileHeaderLaws.{paper-is, paper-one}
+use Rattle.abc_header.{specs.FileHeader.IsPaperBy, proofs.FileHeaderLaws.paper-is, proofs.FileHeaderLaws.paper-one}
 use Rattle.abc_header.proofs.paper.read_paper.Goals as goal
 
 pub returns-clause-states : goal.returns-clause-states

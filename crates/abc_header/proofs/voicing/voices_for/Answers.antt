@@ -1,6 +1,5 @@
 use Rattle.std.proofs.Common.{◌∙◌, ap, arith, length, ◌<◌}
-use Rattle.abc_header.specs.Voicing.{voice_from}
-use Rattle.abc_header.proofs.VoiceLaws.{voices-more}
+use Rattle.abc_header.{specs.Voicing.voice_from, proofs.VoiceLaws.voices-more}
 use Rattle.abc_header.proofs.voicing.voices_for.Goals as goal
 
 pub loop-id-preserved : goal.loop-id-preserved

@@ -1,7 +1,5 @@
-use Rattle.std.specs.Vec.Iter.{into_iter_items}
-use Rattle.std.proofs.Common.{◌≡◌, rules}
-use Rattle.abc_items.specs.Body.{placed_given}
-use Rattle.abc_items.proofs.Laws.{stops_within}
+use Rattle.std.{specs.Vec.Iter.into_iter_items, proofs.Common.◌≡◌, proofs.Common.rules}
+use Rattle.abc_items.{specs.Body.placed_given, proofs.Laws.stops_within}
 use Rattle.abc_items.proofs.body.put_tokens.Goals as goal
 
 pub returns-in-Err-clause-stops : goal.returns-in-Err-clause-stops

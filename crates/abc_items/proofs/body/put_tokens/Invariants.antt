@@ -1,8 +1,7 @@
 use Rattle.std.proofs.Common.{◌≡◌, ◌++◌, length, List, All, flat_map}
-use Rattle.abc_tokens.specs.Good.{AreGoodTokens}
-use Rattle.abc_items.specs.Good.{IsGoodItem}
 use Rattle.std.specs.Vec.Iter.{into_iter_items, into_iter_len}
-use Rattle.abc_items.specs.Body.{Given, placed_given, judged, first_fault, items_in}
+use Rattle.abc_tokens.specs.Good.{AreGoodTokens}
+use Rattle.abc_items.specs.{Good.IsGoodItem, Body.Given, Body.placed_given, Body.judged, Body.first_fault, Body.items_in}
 use Rattle.abc_items.proofs.body.put_tokens.Given as goal
 
 abbrev pub invariant-loop-placed : goal.invariant-loop-placed

@@ -1,6 +1,5 @@
 use Rattle.std.proofs.Common.{◌++◌, refl, flat_map}
-use Rattle.abc_items.specs.Body.{placed_given, end_given, MusicGives}
-use Rattle.abc_items.proofs.Laws.{reads_both, stops_by, stops_before}
+use Rattle.abc_items.{specs.Body.placed_given, specs.Body.end_given, specs.Body.MusicGives, proofs.Laws.reads_both, proofs.Laws.stops_by, proofs.Laws.stops_before}
 use Rattle.abc_items.proofs.body.read_music_line.Goals as goal
 
 pub returns-in-Err-clause-stops : goal.returns-in-Err-clause-stops

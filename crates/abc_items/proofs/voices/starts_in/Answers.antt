@@ -1,6 +1,5 @@
 use Rattle.std.proofs.Common.{arith, length, ◌<◌}
-use Rattle.abc_items.specs.Voices.{start_of}
-use Rattle.abc_items.proofs.Laws.{mapped-more}
+use Rattle.abc_items.{specs.Voices.start_of, proofs.Laws.mapped-more}
 use Rattle.abc_items.proofs.voices.starts_in.Goals as goal
 
 pub loop-id-preserved : goal.loop-id-preserved

@@ -2,11 +2,7 @@ use Rattle.std.proofs.Common.{◌∙◌, List, ℕ, ap, subst, sym}
 use Rattle.abc_faults.specs.First.{IsFirst}
 use Rattle.mus_score.specs.GoodScore.{IsGoodScore}
 use Rattle.abc_items.specs.Voices.{unnamed_of}
-use Rattle.abc_score.specs.declared.voices.VoiceRead.{VoiceRead}
-use Rattle.abc_score.specs.Faults.{faults_of_voices}
-use Rattle.abc_score.specs.Framed.{IsFramed}
-use Rattle.abc_score.proofs.Clear.{clear_verses, few_measures}
-use Rattle.abc_score.proofs.Wholes.{good_score}
+use Rattle.abc_score.{specs.declared.voices.VoiceRead.VoiceRead, specs.Faults.faults_of_voices, specs.Framed.IsFramed, proofs.Clear.clear_verses, proofs.Clear.few_measures, proofs.Wholes.good_score}
 use Rattle.abc_score.proofs.building.score_in.Goals as goal
 
 pub score_with-requires-clause-clear : goal.score_with-requires-clause-clear

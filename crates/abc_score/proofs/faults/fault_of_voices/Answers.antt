@@ -1,8 +1,5 @@
-use Rattle.std.proofs.Common.{◌∙◌, ◌+◌, ◌∷◌, drop, ap, sym}
-use Rattle.std.proofs.lemmas.List.{drop_more}
-use Rattle.std.specs.Prelude.{flat_map}
-use Rattle.abc_faults.proofs.Firsts.{found_more}
-use Rattle.abc_faults.proofs.Walks.{weigh_more}
+use Rattle.std.{proofs.Common.◌∙◌, proofs.Common.◌+◌, proofs.Common.◌∷◌, proofs.Common.drop, proofs.Common.ap, proofs.Common.sym, proofs.lemmas.List.drop_more, specs.Prelude.flat_map}
+use Rattle.abc_faults.proofs.{Firsts.found_more, Walks.weigh_more}
 use Rattle.abc_score.specs.Faults.{voice_faults, voice_weights}
 use Rattle.abc_score.proofs.faults.fault_of_voices.Goals as goal
 

@@ -1,5 +1,4 @@
-use Rattle.std.proofs.Common.{◌≡◌, ◌++◌, drop}
-use Rattle.std.specs.Prelude.{flat_map}
+use Rattle.std.{proofs.Common.◌≡◌, proofs.Common.◌++◌, proofs.Common.drop, specs.Prelude.flat_map}
 use Rattle.abc_faults.specs.First.{earlier, first_of}
 use Rattle.abc_score.specs.Faults.{voice_faults, voice_weights}
 use Rattle.abc_score.proofs.faults.fault_of_voices.Given as goal

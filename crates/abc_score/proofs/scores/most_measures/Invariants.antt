@@ -1,5 +1,4 @@
-use Rattle.std.proofs.Common.{◌≡◌, drop}
-use Rattle.std.specs.Prelude.{fold, map, max}
+use Rattle.std.{proofs.Common.◌≡◌, proofs.Common.drop, specs.Prelude.fold, specs.Prelude.map, specs.Prelude.max}
 use Rattle.abc_score.specs.Score.{own_measures}
 use Rattle.abc_score.proofs.scores.most_measures.Given as goal
 

@@ -1,6 +1,5 @@
 use Rattle.std.proofs.Common.{subst, sym}
-use Rattle.abc_score.specs.Framed.{IsFramed}
-use Rattle.abc_score.proofs.Frames.{framed}
+use Rattle.abc_score.{specs.Framed.IsFramed, proofs.Frames.framed}
 use Rattle.abc_score.proofs.scores.score_with.Goals as goal
 
 pub returns-clause-framed : goal.returns-clause-framed

@@ -1,13 +1,8 @@
-use Rattle.std.proofs.Common.{◌≡◌}
-use Rattle.std.specs.Prelude.{None}
-use Rattle.std.specs.Vec.Iter.{into_iter_items}
+use Rattle.std.{proofs.Common.◌≡◌, specs.Prelude.None, specs.Vec.Iter.into_iter_items}
 use Rattle.abc_items.specs.Voices.{unnamed_of}
 use Rattle.abc_words.specs.Verses.{verse_fault}
-use Rattle.abc_score.specs.declared.voices.VoiceRead.{VoiceRead}
-use Rattle.abc_score.specs.Voices.{IsGoodRead}
-use Rattle.abc_score.specs.Score.{voice_of}
+use Rattle.abc_score.{specs.declared.voices.VoiceRead.VoiceRead, specs.Voices.IsGoodRead, specs.Score.voice_of, proofs.Taken.mapped_taken}
 use Rattle.abc_events.proofs.Taken.{all_left, count_left}
-use Rattle.abc_score.proofs.Taken.{mapped_taken}
 use Rattle.abc_score.proofs.scores.voices_with.Goals as goal
 
 pub loop-v-preserved : goal.loop-v-preserved

@@ -1,11 +1,7 @@
-use Rattle.std.proofs.Common.{◌≡◌, ◌++◌, map, length}
-use Rattle.std.specs.List.{All}
-use Rattle.std.specs.Prelude.{None}
-use Rattle.std.specs.Vec.Iter.{into_iter_items, into_iter_len}
+use Rattle.std.{proofs.Common.◌≡◌, proofs.Common.◌++◌, proofs.Common.map, proofs.Common.length, specs.List.All, specs.Prelude.None, specs.Vec.Iter.into_iter_items, specs.Vec.Iter.into_iter_len}
 use Rattle.abc_items.specs.Voices.{unnamed_of}
 use Rattle.abc_words.specs.Verses.{verse_fault}
-use Rattle.abc_score.specs.Voices.{IsGoodRead}
-use Rattle.abc_score.specs.Score.{voice_of}
+use Rattle.abc_score.specs.{Voices.IsGoodRead, Score.voice_of}
 use Rattle.abc_score.proofs.scores.voices_with.Given as goal
 
 abbrev pub invariant-loop-v : goal.invariant-loop-v

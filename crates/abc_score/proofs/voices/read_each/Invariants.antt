@@ -1,6 +1,4 @@
-use Rattle.std.proofs.Common.{◌≡◌, ◌++◌, map, length}
-use Rattle.std.specs.List.{All}
-use Rattle.std.specs.Vec.Iter.{into_iter_items, into_iter_len}
+use Rattle.std.{proofs.Common.◌≡◌, proofs.Common.◌++◌, proofs.Common.map, proofs.Common.length, specs.List.All, specs.Vec.Iter.into_iter_items, specs.Vec.Iter.into_iter_len}
 use Rattle.abc_score.specs.Voices.{voice_read, IsGoodRead}
 use Rattle.abc_score.proofs.voices.read_each.Given as goal
 

@@ -1,5 +1,4 @@
-use Rattle.std.proofs.Common.{subst, sym}
-use Rattle.std.specs.List.{All}
+use Rattle.std.{proofs.Common.subst, proofs.Common.sym, specs.List.All}
 use Rattle.abc_steps.specs.Good.{IsGoodForce, IsGoodStood}
 use Rattle.abc_score.specs.Voices.{first_force}
 use Rattle.abc_score.proofs.voices.read_voice.Goals as goal

@@ -1,7 +1,5 @@
-use Rattle.std.proofs.Common.{◌≡◌, take, ap, ◌∙◌}
-use Rattle.std.proofs.lemmas.List.{take_all}
-use Rattle.abc_words.specs.Verses.{number_on}
-use Rattle.abc_words.proofs.Places.{from_places}
+use Rattle.std.proofs.{Common.◌≡◌, Common.take, Common.ap, Common.◌∙◌, lemmas.List.take_all}
+use Rattle.abc_words.{specs.Verses.number_on, proofs.Places.from_places}
 use Rattle.abc_words.proofs.verses.counts_of.Goals as goal
 
 pub returns : goal.returns

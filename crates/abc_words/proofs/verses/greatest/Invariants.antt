@@ -1,5 +1,4 @@
-use Rattle.std.proofs.Common.{◌≡◌, drop}
-use Rattle.std.specs.Prelude.{fold, max}
+use Rattle.std.{proofs.Common.◌≡◌, proofs.Common.drop, specs.Prelude.fold, specs.Prelude.max}
 use Rattle.abc_words.proofs.verses.greatest.Given as goal
 
 abbrev pub invariant-loop-n : goal.invariant-loop-n

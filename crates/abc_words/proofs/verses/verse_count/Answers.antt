@@ -1,8 +1,5 @@
-use Rattle.std.proofs.Common.{◌≡◌, arith}
-use Rattle.std.proofs.lemmas.Grind.{common_steps}
-use Rattle.abc_words.specs.Rows.{row_count}
-use Rattle.abc_words.specs.Verses.{verse_count, verses_of}
-use Rattle.abc_words.proofs.FaultLaws.{few_verses}
+use Rattle.std.proofs.{Common.◌≡◌, Common.arith, lemmas.Grind.common_steps}
+use Rattle.abc_words.{specs.Rows.row_count, specs.Verses.verse_count, specs.Verses.verses_of, proofs.FaultLaws.few_verses}
 use Rattle.abc_words.proofs.verses.verse_count.Goals as goal
 
 pub returns-clause-few : goal.returns-clause-few

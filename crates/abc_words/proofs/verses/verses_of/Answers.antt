@@ -1,8 +1,5 @@
-use Rattle.std.proofs.Common.{◌≡◌, ◌+◌, arith}
-use Rattle.std.proofs.lemmas.Grind.{common_steps}
-use Rattle.abc_words.specs.Rows.{row_count}
-use Rattle.abc_words.specs.Verses.{verses_of}
-use Rattle.abc_words.proofs.VerseLaws.{found_within}
+use Rattle.std.proofs.{Common.◌≡◌, Common.◌+◌, Common.arith, lemmas.Grind.common_steps}
+use Rattle.abc_words.{specs.Rows.row_count, specs.Verses.verses_of, proofs.VerseLaws.found_within}
 use Rattle.abc_words.proofs.verses.verses_of.Goals as goal
 
 pub returns-clause-within : goal.returns-clause-within

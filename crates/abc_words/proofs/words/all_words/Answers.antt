@@ -1,8 +1,5 @@
-use Rattle.std.proofs.Common.{◌∙◌, ap, map}
-use Rattle.std.specs.List.{range_with_len}
-use Rattle.abc_words.specs.Words.{word_of}
-use Rattle.abc_words.proofs.Places.{made_more}
-use Rattle.abc_words.proofs.WordLaws.{verse_places}
+use Rattle.std.{proofs.Common.◌∙◌, proofs.Common.ap, proofs.Common.map, specs.List.range_with_len}
+use Rattle.abc_words.{specs.Words.word_of, proofs.Places.made_more, proofs.WordLaws.verse_places}
 use Rattle.abc_words.proofs.words.all_words.Goals as goal
 
 pub loop-verse-preserved : goal.loop-verse-preserved

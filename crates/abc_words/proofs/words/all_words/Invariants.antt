@@ -1,6 +1,4 @@
-use Rattle.std.proofs.Common.{◌≡◌}
-use Rattle.std.specs.Prelude.{map}
-use Rattle.std.specs.List.{range_with_len}
+use Rattle.std.{proofs.Common.◌≡◌, specs.Prelude.map, specs.List.range_with_len}
 use Rattle.abc_words.specs.Words.{verse_sung, word_of}
 use Rattle.abc_words.proofs.words.all_words.Given as goal
 

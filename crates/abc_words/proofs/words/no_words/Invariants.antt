@@ -1,5 +1,4 @@
-use Rattle.std.proofs.Common.{◌≡◌, None}
-use Rattle.std.specs.Prelude.{replicate}
+use Rattle.std.{proofs.Common.◌≡◌, proofs.Common.None, specs.Prelude.replicate}
 use Rattle.abc_words.proofs.words.no_words.Given as goal
 
 abbrev pub invariant-loop-place : goal.invariant-loop-place

@@ -1,8 +1,5 @@
-use Rattle.std.proofs.Common.{◌≡◌}
-use Rattle.std.specs.Prelude.{map}
-use Rattle.std.specs.List.{range_with_len}
-use Rattle.abc_words.specs.Verses.{verse_count}
-use Rattle.abc_words.specs.Words.{event_words, music_rows}
+use Rattle.std.{proofs.Common.◌≡◌, specs.Prelude.map, specs.List.range_with_len}
+use Rattle.abc_words.specs.{Verses.verse_count, Words.event_words, Words.music_rows}
 use Rattle.abc_words.proofs.words.words_of.Given as goal
 
 abbrev pub invariant-loop-event : goal.invariant-loop-event

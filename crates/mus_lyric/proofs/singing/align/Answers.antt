@@ -1,5 +1,4 @@
-use Rattle.std.proofs.Common.{◌≡◌, arith}
-use Rattle.std.proofs.lemmas.Grind.{common_steps}
+use Rattle.std.proofs.{Common.◌≡◌, Common.arith, lemmas.Grind.common_steps}
 use Rattle.mus_lyric.specs.Singing.{first_measure, sung_from}
 use Rattle.mus_lyric.proofs.SingingLaws.{is_sung, is_one, is_value}
 use Rattle.mus_lyric.proofs.singing.align.Goals as goal

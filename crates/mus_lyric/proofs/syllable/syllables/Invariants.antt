@@ -1,6 +1,5 @@
 use Rattle.std.proofs.Common.{◌≡◌, ◌++◌, [], length}
-use Rattle.mus_lyric.specs.Characters.{characters}
-use Rattle.mus_lyric.specs.Syllables.{behind_run}
+use Rattle.mus_lyric.specs.{Characters.characters, Syllables.behind_run}
 use Rattle.mus_lyric.proofs.syllable.syllables.Given as goal
 
 abbrev pub invariant-characters : goal.invariant-characters

@@ -1,5 +1,4 @@
-use Rattle.std.proofs.Common.{◌≡◌, map, min, take}
-use Rattle.std.specs.List.{sum}
+use Rattle.std.{proofs.Common.◌≡◌, proofs.Common.map, proofs.Common.min, proofs.Common.take, specs.List.sum}
 use Rattle.mus_score.specs.Good.{weight}
 use Rattle.mus_score.proofs.good.+weighing.Given as goal
 

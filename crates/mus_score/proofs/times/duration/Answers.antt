@@ -1,6 +1,5 @@
 use Rattle.std.proofs.Common.{◌∙◌}
-use Rattle.mus_score.proofs.Bounds.{node_total}
-use Rattle.mus_score.proofs.Even.{node_even}
+use Rattle.mus_score.proofs.{Bounds.node_total, Even.node_even}
 use Rattle.mus_score.proofs.times.duration.Goals as goal
 
 pub returns-clause-total : goal.returns-clause-total

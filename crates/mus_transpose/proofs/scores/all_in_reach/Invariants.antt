@@ -1,5 +1,4 @@
-use Rattle.std.proofs.Common.{◌≡◌, drop}
-use Rattle.std.specs.List.{list_all}
+use Rattle.std.{proofs.Common.◌≡◌, proofs.Common.drop, specs.List.list_all}
 use Rattle.mus_score.specs.GoodScore.{events_of}
 use Rattle.mus_transpose.specs.Moved.{are_in_reach}
 use Rattle.mus_transpose.proofs.scores.all_in_reach.Given as goal

@@ -1,5 +1,4 @@
-use Rattle.std.proofs.Common.{◌≡◌, ◌++◌, drop, map}
-use Rattle.std.specs.List.{list_all}
+use Rattle.std.{proofs.Common.◌≡◌, proofs.Common.◌++◌, proofs.Common.drop, proofs.Common.map, specs.List.list_all}
 use Rattle.mus_transpose.specs.Moved.{head_moves, moved_head}
 use Rattle.mus_transpose.proofs.trees.moved_heads.Given as goal
 

@@ -1,6 +1,5 @@
 use Rattle.std.proofs.Common.{◌∙◌, ap, map}
-use Rattle.abc_header.specs.Voicing.{with_id}
-use Rattle.abc_header.proofs.VoiceLaws.{names_insert}
+use Rattle.abc_header.{specs.Voicing.with_id, proofs.VoiceLaws.names_insert}
 use Rattle.abc_header.proofs.voicing.VoiceIds.mention.Goals as goal
 
 pub returns : goal.returns
