@@ -1,8 +1,6 @@
 -- The arcs that are found from the last event back are those of the rule.
 use Rattle.std.proofs.Common.{◌≡◌, ◌<◌, ℕ, suc, ◌+◌, ◌-◌, List, [], ◌∷◌, ◌++◌, drop, append_assoc, refl, sym, ◌∙◌, ap, arith, add-one}
-use Rattle.mus_arcs.specs.declared.pairing.Arc.{Arc}
-use Rattle.mus_arcs.specs.declared.pairing.Spot.{Spot}
-use Rattle.mus_arcs.specs.Arcs.{copies, slur, slurs}
+use Rattle.mus_arcs.specs.{declared.pairing.Arc.Arc, declared.pairing.Spot.Spot, Arcs.copies, Arcs.slur, Arcs.slurs}
 
 pub copies-more : (n : ℕ) (at : Spot) → copies (n + 1) at ≡ at ∷ copies n at
 copies-more n at = rw add-one refl

@@ -1,10 +1,7 @@
 -- Events whose arcs are known.
 use Rattle.std.proofs.Common.{◌≡◌, ℕ, pos, List, [], ◌∷◌, None, Bool, true, false, refl}
-use Rattle.mus_units.specs.declared.pitch.Letter.{Letter}
-use Rattle.mus_units.specs.declared.pitch.Letter.TheVariants.{C, D, E}
-use Rattle.mus_arcs.specs.declared.events.EventAt.{EventAt}
-use Rattle.mus_arcs.specs.declared.pairing.Arc.{Arc}
-use Rattle.mus_arcs.specs.Arcs.{arcs_of, slurs_by_ends}
+use Rattle.mus_units.specs.declared.pitch.Letter.{Letter, TheVariants.C, TheVariants.D, TheVariants.E}
+use Rattle.mus_arcs.specs.{declared.events.EventAt.EventAt, declared.pairing.Arc.Arc, Arcs.arcs_of, Arcs.slurs_by_ends}
 
 note : ℕ → ℕ → ℕ → Letter → Bool → ℕ → EventAt
 note event measure begins letter tied ends = record { event = event; measure = measure; begins = begins; ends = ends; heads = record { pitch = record { letter = letter; octave = pos 5 }; sign = None; tied = tied } ∷ [] }

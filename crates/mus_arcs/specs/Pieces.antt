@@ -1,7 +1,6 @@
 -- Where a system has a piece of an arc.
 use Rattle.std.specs.Prelude.{◌<◌, ◌≤◌, ℕ, nat_lt, nat_le, ◌&&◌, if◌then◌else◌, Option, Some, None}
-use Rattle.mus_arcs.specs.declared.pairing.Arc.{Arc}
-use Rattle.mus_arcs.specs.declared.cutting.Piece.{Piece}
+use Rattle.mus_arcs.specs.{declared.pairing.Arc.Arc, declared.cutting.Piece.Piece}
 
 -- the arc begins before the system's end, and ends at its first measure or later
 abbrev pub HasPiece : Arc → ℕ → ℕ → Type 0

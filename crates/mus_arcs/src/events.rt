@@ -1,5 +1,4 @@
-ghost use Rattle.std.specs.Prelude.{◌≡◌, ◌++◌, ◌∷◌, [], ◌≤◌, length, map, IfOk, OnOk};
-ghost use Rattle.std.specs.List.{All};
+ghost use Rattle.std.specs.{Prelude.◌≡◌, Prelude.◌++◌, Prelude.◌∷◌, Prelude.[], Prelude.◌≤◌, Prelude.length, Prelude.map, Prelude.IfOk, Prelude.OnOk, List.All};
 ghost use Rattle.mus_score.specs.GoodScore.{IsGoodVoice};
 ghost use Rattle.mus_arcs.specs.Events.{at_measure, events_in, events_of_voice, events_within, walked_from};
 

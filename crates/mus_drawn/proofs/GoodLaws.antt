@@ -1,25 +1,12 @@
 -- What is drawn of a good voice is good.
 use Rattle.std.proofs.Common.{◌≡◌, ◌≤◌, ◌+◌, ℕ, List, [], ◌∷◌, ◌++◌, length, map, max, refl, sym, ap, ◌∙◌, subst, arith}
 use Rattle.std.specs.Prelude.{Option, Some, None, IfSome, unwrap_or, is_some, count_by}
-use Rattle.std.specs.List.{All, sum_by}
-use Rattle.std.proofs.lemmas.List.Elements.{All-head, All-tail}
-use Rattle.std.proofs.lemmas.List.Sums.{sum_by-cons}
-use Rattle.mus_units.specs.declared.key.Key.{Key}
-use Rattle.mus_units.specs.declared.pitch.Clef.{Clef}
-use Rattle.mus_units.specs.Good.{AreGoodSigns, IsGoodKey}
-use Rattle.mus_score.specs.declared.score.Event.{Event}
-use Rattle.mus_score.specs.declared.score.Flat.{Flat}
-use Rattle.mus_score.specs.Good.{flat_count, flat_weight, heads_in}
-use Rattle.mus_score.specs.GoodScore.{AreInReach, IsInReach, IsGoodEvent, clef_at}
-use Rattle.mus_stems.specs.declared.plans.StemPlan.{StemPlan}
-use Rattle.mus_stems.specs.Plans.{AllEndsNear}
-use Rattle.mus_units.specs.declared.note.Bar.{Bar}
-use Rattle.mus_drawn.specs.declared.drawn.DrawnEvent.{DrawnEvent}
-use Rattle.mus_drawn.specs.declared.drawn.Opening.{Opening}
-use Rattle.mus_drawn.specs.declared.standing.Standing.{Standing}
-use Rattle.mus_drawn.specs.Drawn.{standing_after, standing_behind, old_signs, opening_of, drawn_events}
-use Rattle.mus_drawn.specs.Good.{CanDraw, AllCanDraw, CanGrace, AllCanGrace, IsGoodDrawn, AreGoodDrawn, IsGoodMeasure}
-use Rattle.mus_drawn.proofs.Reaches.{near_of}
+use Rattle.std.{proofs.lemmas.List.Elements.All-head, proofs.lemmas.List.Elements.All-tail, proofs.lemmas.List.Sums.sum_by-cons, specs.List.All, specs.List.sum_by}
+use Rattle.mus_units.specs.{declared.key.Key.Key, declared.pitch.Clef.Clef, Good.AreGoodSigns, Good.IsGoodKey, declared.note.Bar.Bar}
+use Rattle.mus_score.specs.{declared.score.Event.Event, declared.score.Flat.Flat, Good.flat_count, Good.flat_weight, Good.heads_in, GoodScore.AreInReach, GoodScore.IsInReach, GoodScore.IsGoodEvent, GoodScore.clef_at}
+use Rattle.mus_stems.specs.{declared.plans.StemPlan.StemPlan, Plans.AllEndsNear}
+use Rattle.mus_drawn.specs.{declared.drawn.DrawnEvent.DrawnEvent, declared.drawn.Opening.Opening, declared.drawn.Style.Style, declared.standing.Standing.Standing, Drawn.standing_after, Drawn.standing_behind, Drawn.old_signs, Drawn.opening_of, Drawn.drawn_events, Good.CanDraw, Good.AllCanDraw}
+use Rattle.mus_drawn.{specs.Good.CanGrace, specs.Good.AllCanGrace, specs.Good.IsGoodDrawn, specs.Good.AreGoodDrawn, specs.Good.IsGoodMeasure, proofs.Reaches.near_of}
 
 key_after : (key : Key) (new : Option Key) → IsGoodKey key → IfSome new IsGoodKey → IsGoodKey (unwrap_or new key)
 key_after key None good h = good
@@ -48,11 +35,11 @@ graces_good clef (g ∷ graces) h few =
 few_in : (f : Flat) (n : ℕ) → max 1 (length f.event.heads) + heads_in f.graces + n ≤ 50000 → heads_in f.graces ≤ 50000
 few_in f n h = omega (arith, h)
 
-drawn_good : (tick : ℕ) (now : Standing) (fs : List Flat) (ps : List StemPlan) → IsGoodKey now.key → AreInReach now.clef fs → AllCanDraw fs → AllEndsNear ps → sum_by flat_weight fs ≤ 50000 → sum_by flat_count fs ≤ 50000
-    → AreGoodDrawn (drawn_events tick now fs ps)
-drawn_good tick now [] ps good reach can near few count = tt
-drawn_good tick now (f ∷ fs) [] good reach can near few count = tt
-drawn_good tick now (f ∷ fs) (p ∷ ps) good reach can near few count =
+drawn_good : (style : Style) (tick : ℕ) (now : Standing) (fs : List Flat) (ps : List StemPlan) → IsGoodKey now.key → AreInReach now.clef fs → AllCanDraw fs → AllEndsNear ps → sum_by flat_weight fs ≤ 50000 → sum_by flat_count fs ≤ 50000
+    → AreGoodDrawn (drawn_events style tick now fs ps)
+drawn_good style tick now [] ps good reach can near few count = tt
+drawn_good style tick now (f ∷ fs) [] good reach can near few count = tt
+drawn_good style tick now (f ∷ fs) (p ∷ ps) good reach can near few count =
     let weights = sum_by-cons flat_weight f fs in
     let counts = sum_by-cons flat_count f fs in (
       record {
@@ -63,17 +50,17 @@ drawn_good tick now (f ∷ fs) (p ∷ ps) good reach can near few count =
         words = can.0.words;
         end = near.0;
       },
-      drawn_good (tick + f.duration) (standing_after now f.event.changes) fs ps (key_after now.key f.event.changes.key good can.0.key) reach.2 can.1 near.1 (omega (arith, weights, few)) (omega (arith, counts, count)),
+      drawn_good style (tick + f.duration) (standing_after now f.event.changes) fs ps (key_after now.key f.event.changes.key good can.0.key) reach.2 can.1 near.1 (omega (arith, weights, few)) (omega (arith, counts, count)),
     )
 
-pub measure_good : (now before : Standing) (fs flats : List Flat) (plans : List StemPlan) (o : Opening) (es : List DrawnEvent) (bar : Bar) → flats ≡ fs → o ≡ opening_of now flats → before ≡ now → es ≡ drawn_events 0 before flats plans
-    → IsGoodKey now.key → AreInReach now.clef fs → AllCanDraw fs → AllEndsNear plans → sum_by flat_weight flats ≤ 50000 → sum_by flat_count flats ≤ 50000 → IsGoodMeasure (record { opening = o; events = es; bar = bar })
-measure_good now before fs flats plans o es bar same opens begins made good reach can near few count =
+pub measure_good : (style : Style) (now before : Standing) (fs flats : List Flat) (plans : List StemPlan) (o : Opening) (es : List DrawnEvent) (bar : Bar) → flats ≡ fs → o ≡ opening_of now flats → before ≡ now → es ≡ drawn_events style 0 before flats plans
+    → IsGoodKey now.key → AreInReach now.clef fs → AllCanDraw fs → AllEndsNear plans → sum_by flat_weight flats ≤ 50000 → sum_by flat_count flats ≤ 50000 → IsGoodMeasure (record { seat = style.seat; opening = o; events = es; bar = bar })
+measure_good style now before fs flats plans o es bar same opens begins made good reach can near few count =
     let can_here = subst AllCanDraw (sym same) can in
     let reach_here = subst (AreInReach now.clef) (sym same) reach in
     record {
       opening = subst (λ x. IsGoodKey x.key) (sym opens) (opening_good now flats good can_here);
-      events = subst AreGoodDrawn (sym made) (subst (λ b. AreGoodDrawn (drawn_events 0 b flats plans)) (sym begins) (drawn_good 0 now flats plans good reach_here can_here near few count));
+      events = subst AreGoodDrawn (sym made) (subst (λ b. AreGoodDrawn (drawn_events style 0 b flats plans)) (sym begins) (drawn_good style 0 now flats plans good reach_here can_here near few count));
     }
 
 pub can_cut : (fs gs : List Flat) → AllCanDraw (fs ++ gs) → AllCanDraw fs × AllCanDraw gs

@@ -1,17 +1,10 @@
 -- Events within reach of the staff can be drawn.
 use Rattle.std.proofs.Common.{◌≡◌, ◌≤◌, ◌+◌, ◌*◌, ℕ, List, [], ◌∷◌, ◌++◌, length, map, max, refl, arith}
-use Rattle.std.specs.List.{All, sum_by}
-use Rattle.std.proofs.lemmas.List.Elements.{All-head, All-tail}
-use Rattle.std.proofs.lemmas.List.Sums.{sum_by-cons}
-use Rattle.mus_units.specs.declared.note.Head.{Head}
-use Rattle.mus_units.specs.declared.pitch.Clef.{Clef}
-use Rattle.mus_score.specs.declared.score.Flat.{Flat}
-use Rattle.mus_score.specs.Good.{IsGoodFlat, flat_weight, heads_in}
-use Rattle.mus_score.specs.GoodScore.{AreInReach, IsInReach, clef_at}
-use Rattle.mus_stems.specs.Heads.{AllNear, stand_of}
-use Rattle.mus_stems.specs.Stills.{AllCanStand, CanStand}
-use Rattle.mus_drawn.specs.declared.standing.Standing.{Standing}
-use Rattle.mus_drawn.specs.Drawn.{clefs_from, standing_after, standing_behind}
+use Rattle.std.{proofs.lemmas.List.Elements.All-head, proofs.lemmas.List.Elements.All-tail, proofs.lemmas.List.Sums.sum_by-cons, specs.List.All, specs.List.sum_by}
+use Rattle.mus_units.specs.{declared.note.Head.Head, declared.pitch.Clef.Clef}
+use Rattle.mus_score.specs.{declared.score.Flat.Flat, Good.IsGoodFlat, Good.flat_weight, Good.heads_in, GoodScore.AreInReach, GoodScore.IsInReach, GoodScore.clef_at}
+use Rattle.mus_stems.specs.{Heads.AllNear, Heads.stand_of, Stills.AllCanStand, Stills.CanStand}
+use Rattle.mus_drawn.specs.{declared.standing.Standing.Standing, Drawn.clefs_from, Drawn.standing_after, Drawn.standing_behind}
 
 pub near_of : (clef : Clef) (heads : List Head) → All (IsInReach clef) heads → AllNear (map (stand_of clef) heads)
 unfolding stand_of

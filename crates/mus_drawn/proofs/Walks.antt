@@ -1,15 +1,7 @@
 -- From measure to measure.
 use Rattle.std.proofs.Common.{◌≡◌, ◌<◌, ℕ, suc, ◌+◌, List, [], ◌∷◌, ◌++◌, append_assoc, drop, drop-cons, length, get_or, refl, sym, ap, ◌∙◌, subst, arith}
-use Rattle.mus_units.specs.declared.note.Wish.{Wish}
-use Rattle.mus_score.specs.declared.score.Flat.{Flat}
-use Rattle.mus_score.specs.declared.score.Measure.{Measure}
-use Rattle.mus_score.specs.GoodScore.{AreInReach, events_of}
-use Rattle.mus_score.specs.Times.{flats_of}
-use Rattle.mus_drawn.specs.declared.drawn.DrawnMeasure.{DrawnMeasure}
-use Rattle.mus_drawn.specs.declared.standing.Standing.{Standing}
-use Rattle.mus_drawn.specs.Drawn.{standing_behind, drawn_measure, drawn_measures}
-use Rattle.mus_drawn.specs.Good.{AllCanDraw}
-use Rattle.mus_drawn.proofs.Reaches.{reach_cut}
+use Rattle.mus_score.specs.{declared.score.Flat.Flat, declared.score.Measure.Measure, GoodScore.AreInReach, GoodScore.events_of, Times.flats_of}
+use Rattle.mus_drawn.{specs.declared.drawn.DrawnMeasure.DrawnMeasure, specs.declared.drawn.Style.Style, specs.declared.standing.Standing.Standing, specs.Drawn.standing_behind, specs.Drawn.drawn_measure, specs.Drawn.drawn_measures, specs.Good.AllCanDraw, proofs.Reaches.reach_cut}
 use Rattle.mus_drawn.proofs.GoodLaws.{can_cut}
 
 pub measures_cut : (ms : List Measure) (i : ℕ) (m : Measure) → i < length ms → m ≡ get_or ms i m → drop i ms ≡ m ∷ drop (i + 1) ms
@@ -25,10 +17,10 @@ reach_here now ms i m inside here h =
 pub can_here : (ms : List Measure) (i : ℕ) (m : Measure) → i < length ms → m ≡ get_or ms i m → AllCanDraw (events_of (drop i ms)) → AllCanDraw (flats_of m.body) × AllCanDraw (events_of (drop (i + 1) ms))
 can_here ms i m inside here h = can_cut (flats_of m.body) (events_of (drop (i + 1) ms)) (subst (λ x. AllCanDraw (events_of x)) (measures_cut ms i m inside here) h)
 
-pub measures_step : (wish : Wish) (now first after : Standing) (ms : List Measure) (i : ℕ) (m : Measure) (d : DrawnMeasure) (out new : List DrawnMeasure) → i < length ms → m ≡ get_or ms i m
-    → new ≡ out ++ d ∷ [] → d ≡ drawn_measure wish now m → after ≡ standing_behind now (flats_of m.body)
-    → out ++ drawn_measures wish now (drop i ms) ≡ drawn_measures wish first ms → new ++ drawn_measures wish after (drop (i + 1) ms) ≡ drawn_measures wish first ms
-measures_step wish now first after ms i m d out new inside here pushed made behind so_far =
-    ap (λ x. x ++ drawn_measures wish after (drop (i + 1) ms)) pushed ∙ append_assoc out (d ∷ []) (drawn_measures wish after (drop (i + 1) ms))
-    ∙ ap (λ x. out ++ x ∷ drawn_measures wish after (drop (i + 1) ms)) made ∙ ap (λ x. out ++ drawn_measure wish now m ∷ drawn_measures wish x (drop (i + 1) ms)) behind
-    ∙ ap (λ x. out ++ drawn_measures wish now x) (sym (measures_cut ms i m inside here)) ∙ so_far
+pub measures_step : (style : Style) (now first after : Standing) (ms : List Measure) (i : ℕ) (m : Measure) (d : DrawnMeasure) (out new : List DrawnMeasure) → i < length ms → m ≡ get_or ms i m
+    → new ≡ out ++ d ∷ [] → d ≡ drawn_measure style now m → after ≡ standing_behind now (flats_of m.body)
+    → out ++ drawn_measures style now (drop i ms) ≡ drawn_measures style first ms → new ++ drawn_measures style after (drop (i + 1) ms) ≡ drawn_measures style first ms
+measures_step style now first after ms i m d out new inside here pushed made behind so_far =
+    ap (λ x. x ++ drawn_measures style after (drop (i + 1) ms)) pushed ∙ append_assoc out (d ∷ []) (drawn_measures style after (drop (i + 1) ms))
+    ∙ ap (λ x. out ++ x ∷ drawn_measures style after (drop (i + 1) ms)) made ∙ ap (λ x. out ++ drawn_measure style now m ∷ drawn_measures style x (drop (i + 1) ms)) behind
+    ∙ ap (λ x. out ++ drawn_measures style now x) (sym (measures_cut ms i m inside here)) ∙ so_far

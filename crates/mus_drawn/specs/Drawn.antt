@@ -1,25 +1,11 @@
 -- A voice as it is drawn: its events one after the other, each with what is in force there, its place
--- in time and its stem plan.
-use Rattle.std.specs.Prelude.{ℕ, ◌+◌, Bool, true, false, is_some, List, [], ◌∷◌, Option, Some, None, unwrap_or}
-use Rattle.mus_units.specs.declared.pitch.Clef.{Clef}
-use Rattle.mus_units.specs.declared.key.Key.{Key}
-use Rattle.mus_units.specs.declared.key.Sign.{Sign}
-use Rattle.mus_units.specs.declared.note.Wish.{Wish}
-use Rattle.mus_score.specs.declared.score.Changes.{Changes}
-use Rattle.mus_score.specs.declared.score.Flat.{Flat}
-use Rattle.mus_score.specs.declared.score.Measure.{Measure}
-use Rattle.mus_score.specs.declared.score.Voice.{Voice}
-use Rattle.mus_score.specs.GoodScore.{clef_at}
-use Rattle.mus_score.specs.Times.{flats_of}
-use Rattle.mus_arcs.specs.Arcs.{arcs_of}
-use Rattle.mus_arcs.specs.Events.{events_of_voice}
-use Rattle.mus_stems.specs.declared.plans.StemPlan.{StemPlan}
-use Rattle.mus_stems.specs.Plans.{stems_of}
-use Rattle.mus_drawn.specs.declared.standing.Standing.{Standing}
-use Rattle.mus_drawn.specs.declared.drawn.DrawnEvent.{DrawnEvent}
-use Rattle.mus_drawn.specs.declared.drawn.DrawnMeasure.{DrawnMeasure}
-use Rattle.mus_drawn.specs.declared.drawn.DrawnVoice.{DrawnVoice}
-use Rattle.mus_drawn.specs.declared.drawn.Opening.{Opening}
+-- in time and its stem plan; and how it gives way to other voices on its staff.
+use Rattle.std.specs.Prelude.{ℕ, ◌+◌, ℤ, pos, negsuc, Bool, true, false, is_some, List, [], ◌∷◌, Option, Some, None, unwrap_or}
+use Rattle.mus_units.specs.{declared.pitch.Clef.Clef, declared.key.Key.Key, declared.key.Sign.Sign, declared.note.Wish.Wish}
+use Rattle.mus_score.specs.{declared.score.Changes.Changes, declared.score.Flat.Flat, declared.score.Measure.Measure, declared.score.Voice.Voice, declared.score.Seat.Seat, GoodScore.clef_at, Times.flats_of}
+use Rattle.mus_arcs.specs.{Arcs.arcs_of, Events.events_of_voice}
+use Rattle.mus_stems.specs.{declared.plans.StemPlan.StemPlan, Plans.stems_of}
+use Rattle.mus_drawn.specs.declared.{standing.Standing.Standing, drawn.DrawnEvent.DrawnEvent, drawn.DrawnMeasure.DrawnMeasure, drawn.DrawnVoice.DrawnVoice, drawn.Opening.Opening, drawn.Style.Style}
 
 -- Clef, key and meter in force are those of the last event that names them, else those with which the
 -- voice begins.
@@ -43,14 +29,30 @@ abbrev pub old_signs : Key → Option Key → List Sign
 old_signs key None = []
 old_signs key (Some new) = key.signs
 
--- Events, each as long after the beginning as those before it last. `now` is what is in force before the first.
-abbrev pub drawn_event : ℕ → Standing → Flat → StemPlan → DrawnEvent
-drawn_event tick now f p = record { flat = f; tick = tick; clef = clef_at now.clef f.event; old = old_signs now.key f.event.changes.key; plan = p }
+-- Where voices share a staff, the stems of the first go up and those of the others down, where nothing else is asked.
+abbrev pub wish_in : Seat → Wish → Wish
+wish_in Seat.Upper Wish.Auto = Wish.Up
+wish_in Seat.Lower Wish.Auto = Wish.Down
+wish_in seat wish = wish
 
-abbrev pub drawn_events : ℕ → Standing → List Flat → List StemPlan → List DrawnEvent
-drawn_events tick now [] ps = []
-drawn_events tick now (f ∷ fs) [] = []
-drawn_events tick now (f ∷ fs) (p ∷ ps) = drawn_event tick now f p ∷ drawn_events (tick + f.duration) (standing_after now f.event.changes) fs ps
+abbrev pub style_of : Voice → Style
+style_of v = record { seat = v.seat; wish = wish_in v.seat v.stem }
+
+-- their rests stand apart, too: those of the first higher, in u, and those of the others lower
+abbrev pub raise_of : Seat → ℤ
+raise_of Seat.Alone = pos 0
+raise_of Seat.Upper = pos 1000
+raise_of Seat.Lower = negsuc 999
+
+-- Events, each as long after the beginning as those before it last. `now` is what is in force before the first.
+abbrev pub drawn_event : Style → ℕ → Standing → Flat → StemPlan → DrawnEvent
+drawn_event style tick now f p = record { seat = style.seat; flat = f; tick = tick; clef = clef_at now.clef f.event; old = old_signs now.key f.event.changes.key; plan = p }
+
+abbrev pub drawn_events : Style → ℕ → Standing → List Flat → List StemPlan → List DrawnEvent
+drawn_events style tick now [] ps = []
+drawn_events style tick now (f ∷ fs) [] = []
+drawn_events style tick now (f ∷ fs) (p ∷ ps) =
+    drawn_event style tick now f p ∷ drawn_events style (tick + f.duration) (standing_after now f.event.changes) fs ps
 
 -- What a head shows: what is in force at the first event of the measure, or before it where it has none.
 abbrev pub opening_at : Standing → Bool → Opening
@@ -60,14 +62,18 @@ abbrev pub opening_of : Standing → List Flat → Opening
 opening_of now [] = opening_at now false
 opening_of now (f ∷ fs) = opening_at (standing_after now f.event.changes) (is_some f.event.changes.meter)
 
-unfoldable pub drawn_measure : Wish → Standing → Measure → DrawnMeasure
-drawn_measure wish now m =
-    let flats = flats_of m.body in
-    record { opening = opening_of now flats; events = drawn_events 0 now flats (stems_of wish flats (clefs_from now.clef flats)); bar = m.bar }
+unfoldable pub drawn_measure : Style → Standing → Measure → DrawnMeasure
+drawn_measure style now m =
+    let flats = flats_of m.body in record {
+      seat = style.seat;
+      opening = opening_of now flats;
+      events = drawn_events style 0 now flats (stems_of style.wish flats (clefs_from now.clef flats));
+      bar = m.bar;
+    }
 
-abbrev pub drawn_measures : Wish → Standing → List Measure → List DrawnMeasure
-drawn_measures wish now [] = []
-drawn_measures wish now (m ∷ ms) = drawn_measure wish now m ∷ drawn_measures wish (standing_behind now (flats_of m.body)) ms
+abbrev pub drawn_measures : Style → Standing → List Measure → List DrawnMeasure
+drawn_measures style now [] = []
+drawn_measures style now (m ∷ ms) = drawn_measure style now m ∷ drawn_measures style (standing_behind now (flats_of m.body)) ms
 
 unfoldable pub drawn_voice : Voice → DrawnVoice
-drawn_voice v = record { first = v.first; measures = drawn_measures v.stem (standing_of v) v.measures; arcs = arcs_of (events_of_voice v); verses = v.verses }
+drawn_voice v = record { seat = v.seat; first = v.first; measures = drawn_measures (style_of v) (standing_of v) v.measures; arcs = arcs_of (events_of_voice v); verses = v.verses }

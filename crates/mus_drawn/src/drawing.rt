@@ -1,32 +1,65 @@
 ghost use Rattle.std.specs.Prelude.{◌≡◌, ◌≤◌, ◌*◌, All, IfOk, OnOk, length, sum_by};
 ghost use Rattle.mus_units.specs.Good.{IsGoodKey};
-ghost use Rattle.mus_score.specs.Good.{IsGoodBody, flat_count, IsGoodFlat, flat_weight, longest_ticks, total_ticks};
-ghost use Rattle.mus_score.specs.Times.{flats_of};
+ghost use Rattle.mus_score.specs.{Good.IsGoodBody, Good.flat_count, Good.IsGoodFlat, Good.flat_weight, Good.longest_ticks, Good.total_ticks, Times.flats_of};
 ghost use Rattle.mus_score.specs.GoodScore.{AreInReach, IsGoodEvent, IsGoodVoice, events_of};
 ghost use Rattle.mus_stems.specs.Plans.{stems_of, AllEndsNear};
-ghost use Rattle.mus_drawn.specs.Drawn.{standing_behind, clefs_from, drawn_event, drawn_events, drawn_measure, drawn_measures, drawn_voice};
+ghost use Rattle.mus_drawn.specs.Drawn.{standing_behind, clefs_from, drawn_event, drawn_events, drawn_measure, drawn_measures, drawn_voice, raise_of, style_of, wish_in};
 ghost use Rattle.mus_drawn.specs.Good.{AllCanDraw, IsGoodMeasure, AreGoodMeasures};
 
-use crate::drawn::{DrawnEvent, DrawnMeasure, DrawnVoice};
+use crate::drawn::{DrawnEvent, DrawnMeasure, DrawnVoice, Style};
 use crate::standing::{
     Standing, change, change_all, clefs_from, copy_standing, old_signs, opening_of, standing_of,
 };
 use mus_arcs::arcs;
-use mus_score::{Flat, Measure, Voice, flatten};
+use mus_score::{Flat, Measure, Seat, Voice, flatten};
 use mus_stems::{StemPlan, stems};
 use mus_units::{Clef, Memory, Row, Wish};
 use std::alloc::Global;
 
+/// The way of the stems of a voice: on a shared staff up for the first and down for the others, where
+/// nothing else is asked.
+fn wish_in(seat: Seat, wish: Wish) -> Wish
+    ensures { result ≡ wish_in seat wish }
+{
+    match (seat, wish) {
+        (Seat::Upper, Wish::Auto) => Wish::Up,
+        (Seat::Lower, Wish::Auto) => Wish::Down,
+        (_, wish) => wish,
+    }
+}
+
+fn style_of(v: &Voice) -> Style
+    ensures { result ≡ style_of v.now }
+{
+    Style {
+        seat: v.seat,
+        wish: wish_in(v.seat, v.stem),
+    }
+}
+
+/// How much higher the rests of a voice stand by its seat, in u.
+pub fn raise_of(seat: Seat) -> i32
+    ensures { result ≡ raise_of seat }
+{
+    match seat {
+        Seat::Alone => 0,
+        Seat::Upper => 1000,
+        Seat::Lower => -1000,
+    }
+}
+
 fn draw_event(
     alloc: Global,
+    style: Style,
     tick: u64,
     now: &Standing,
     flat: Flat,
     plan: StemPlan,
 ) -> Result<DrawnEvent, Memory>
-    ensures { IfOk result (λ e. e ≡ drawn_event tick now.now flat plan) }
+    ensures { IfOk result (λ e. e ≡ drawn_event style tick now.now flat plan) }
 {
     Ok(DrawnEvent {
+        seat: style.seat,
         tick,
         clef: flat.event.changes.clef.unwrap_or(now.clef),
         old: old_signs(alloc, &now.key, &flat.event.changes.key)?,
@@ -39,12 +72,13 @@ fn draw_event(
 /// them.
 fn draw_events(
     alloc: Global,
+    style: Style,
     before: Standing,
     flats: Row<Flat>,
     plans: Row<StemPlan>,
 ) -> Result<Row<DrawnEvent>, Memory>
     requires { total_ticks flats ≤ 50000 * longest_ticks }
-    ensures { IfOk result (λ r. r ≡ drawn_events 0 before flats plans) }
+    ensures { IfOk result (λ r. r ≡ drawn_events style 0 before flats plans) }
 {
     let mut out = Row::new(alloc);
     let mut now = before;
@@ -54,7 +88,7 @@ fn draw_events(
         let Some(plan) = plans.next() else {
             return Ok(out);
         };
-        let event = draw_event(alloc, tick, &now, flat, plan)?;
+        let event = draw_event(alloc, style, tick, &now, flat, plan)?;
         tick += event.flat.duration;
         change(alloc, &mut now, &event.flat.event.changes)?;
         out.push(event)?;
@@ -80,7 +114,7 @@ fn plans_of(alloc: Global, wish: Wish, clef: Clef, flats: &[Flat]) -> Result<Row
 #[tactic(auto, unfolding(crate::specs::Drawn::drawn_measure))]
 fn draw_measure(
     alloc: Global,
-    wish: Wish,
+    style: Style,
     now: &mut Standing,
     m: &Measure,
 ) -> Result<DrawnMeasure, Memory>
@@ -90,24 +124,25 @@ fn draw_measure(
     requires events { AllCanDraw (flats_of m.now.body) }
     ensures good { IfOk result IsGoodMeasure }
     ensures key { OnOk result (IsGoodKey now.new.key) }
-    ensures measure { IfOk result (λ r. r ≡ drawn_measure wish now.old m.now) }
+    ensures measure { IfOk result (λ r. r ≡ drawn_measure style now.old m.now) }
     ensures now { OnOk result (now.new ≡ standing_behind now.old (flats_of m.now.body)) }
 {
     let flats = flatten(alloc, m.body.as_slice())?;
     let opening = opening_of(alloc, now, flats.as_slice())?;
-    let plans = plans_of(alloc, wish, now.clef, flats.as_slice())?;
+    let plans = plans_of(alloc, style.wish, now.clef, flats.as_slice())?;
     let before = copy_standing(alloc, now)?;
     change_all(alloc, now, flats.as_slice())?;
     Ok(DrawnMeasure {
+        seat: style.seat,
         opening,
-        events: draw_events(alloc, before, flats, plans)?,
+        events: draw_events(alloc, style, before, flats, plans)?,
         bar: m.bar,
     })
 }
 
 fn draw_measures(
     alloc: Global,
-    wish: Wish,
+    style: Style,
     now: &mut Standing,
     measures: &[Measure],
 ) -> Result<Row<DrawnMeasure>, Memory>
@@ -115,12 +150,12 @@ fn draw_measures(
     requires key { IsGoodKey now.old.key }
     requires reach { AreInReach now.old.clef (events_of measures.now) }
     requires events { AllCanDraw (events_of measures.now) }
-    ensures measures { IfOk result (λ r. r ≡ drawn_measures wish now.old measures.now) }
+    ensures measures { IfOk result (λ r. r ≡ drawn_measures style now.old measures.now) }
     ensures good { IfOk result AreGoodMeasures }
 {
     let mut out = Row::new(alloc);
     for m in measures {
-        out.push(draw_measure(alloc, wish, now, m)?)?;
+        out.push(draw_measure(alloc, style, now, m)?)?;
     }
     Ok(out)
 }
@@ -133,8 +168,9 @@ pub fn draw_voice(alloc: Global, v: &Voice) -> Result<DrawnVoice, Memory>
     ensures good { IfOk result (λ r. AreGoodMeasures r.measures) }
 {
     let mut now = standing_of(alloc, v)?;
-    let measures = draw_measures(alloc, v.stem, &mut now, v.measures.as_slice())?;
+    let measures = draw_measures(alloc, style_of(v), &mut now, v.measures.as_slice())?;
     Ok(DrawnVoice {
+        seat: v.seat,
         first: v.first,
         measures,
         arcs: arcs(alloc, v)?,

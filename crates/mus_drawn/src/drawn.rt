@@ -1,12 +1,21 @@
 use mus_arcs::Arc;
-use mus_score::Flat;
+use mus_score::{Flat, Seat};
 use mus_stems::StemPlan;
-use mus_units::{Bar, Clef, Key, Meter, Row, Sign};
+use mus_units::{Bar, Clef, Key, Meter, Row, Sign, Wish};
 
-/// An event as it is drawn: the ticks from the beginning of its measure, the clef in force there,
-/// the signs of the key before it where it changes the key, and how its stem is drawn.
+/// How the events of a voice are drawn: by where it stands, and by the way of its stems.
+#[derive(Clone, Copy, PartialEq, Eq)]
+pub struct Style {
+    pub seat: Seat,
+    pub wish: Wish,
+}
+
+/// An event as it is drawn: where its voice stands, the ticks from the beginning of its measure, the
+/// clef in force there, the signs of the key before it where it changes the key, and how its stem is
+/// drawn.
 #[derive(Drop)]
 pub struct DrawnEvent {
+    pub seat: Seat,
     pub flat: Flat,
     pub tick: u64,
     pub clef: Clef,
@@ -24,18 +33,20 @@ pub struct Opening {
     pub anew: bool,
 }
 
-/// A measure of a voice as it is drawn, and the bar behind it.
+/// A measure of a voice as it is drawn, where the voice stands, and the bar behind it.
 #[derive(Drop)]
 pub struct DrawnMeasure {
+    pub seat: Seat,
     pub opening: Opening,
     pub events: Row<DrawnEvent>,
     pub bar: Bar,
 }
 
-/// A voice as it is drawn: the bar before its first event, its measures, its arcs, and how many
-/// verses it has.
+/// A voice as it is drawn: where it stands, the bar before its first event, its measures, its arcs,
+/// and how many verses it has.
 #[derive(Drop)]
 pub struct DrawnVoice {
+    pub seat: Seat,
     pub first: Bar,
     pub measures: Row<DrawnMeasure>,
     pub arcs: Row<Arc>,

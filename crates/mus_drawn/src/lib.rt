@@ -7,7 +7,7 @@ pub mod drawn;
 pub mod sounds;
 pub mod standing;
 
-pub use drawing::draw_voice;
-pub use drawn::{DrawnEvent, DrawnMeasure, DrawnVoice, Opening};
+pub use drawing::{draw_voice, raise_of};
+pub use drawn::{DrawnEvent, DrawnMeasure, DrawnVoice, Opening, Style};
 pub use sounds::{Sound, sounding};
 pub use standing::Standing;

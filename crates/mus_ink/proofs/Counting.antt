@@ -1,14 +1,8 @@
 -- One more of what is counted.
 use Rattle.std.proofs.Common.{◌≡◌, ℕ, suc, ◌+◌, ◌-◌, ◌*◌, ◌<◌, ℤ, pos, Bool, List, ◌∷◌, ◌++◌, refl, sym, ap, ◌∙◌, append_assoc, arith}
 use Rattle.mus_units.specs.declared.glyph.Glyph.{Glyph}
-use Rattle.mus_units.specs.declared.glyph.Glyph.TheVariants as glyphs
-use Rattle.mus_ink.specs.declared.beams.Stem.{Stem}
-use Rattle.mus_ink.specs.Drawing.{glyph, loose_glyph}
-use Rattle.mus_ink.specs.Distances.{dot_side, dot_step, rest_dot_line}
-use Rattle.mus_ink.specs.Kinds.{flag_glyph, stub_glyph}
-use Rattle.mus_ink.specs.Stems.{stem_dx, flag_dy, flag_marks, lower_edge, stub_marks}
-use Rattle.mus_ink.specs.Rests.{raised, short_dy, short_rests, rest_dots}
-use Rattle.mus_ink.specs.Beams.{level_from, last_at, levels_from}
+use Rattle.mus_ink.specs.{declared.beams.Stem.Stem, Drawing.glyph, Drawing.loose_glyph, Distances.dot_side, Distances.dot_step, Distances.rest_dot_line, Kinds.flag_glyph, Kinds.stub_glyph, Stems.stem_dx, Stems.flag_dy, Stems.flag_marks, Stems.lower_edge, Stems.stub_marks, Rests.raised}
+use Rattle.mus_ink.specs.{Rests.short_dy, Rests.short_rests, Rests.rest_dots, Beams.level_from, Beams.last_at, Beams.levels_from}
 
 pub one_less : (k n : ℕ) → k < n → n - k ≡ suc (n - (k + 1))
 one_less k n lt = omega arith
@@ -26,7 +20,7 @@ pub rests_step : (g : Glyph) (top : ℤ) (k n : ℕ) → k < n →
 rests_step g top k n lt = rw (one_less k n lt) refl
 
 pub dots_step : (raise : ℤ) (k n : ℕ) → k < n →
-    rest_dots raise k (n - k) ≡ glyph glyphs.Dt (pos (dot_side + dot_step * k)) (raised raise (pos rest_dot_line)) ∷ rest_dots raise (k + 1) (n - (k + 1))
+    rest_dots raise k (n - k) ≡ glyph Glyph.Dt (pos (dot_side + dot_step * k)) (raised raise (pos rest_dot_line)) ∷ rest_dots raise (k + 1) (n - (k + 1))
 dots_step raise k n lt = rw (one_less k n lt) refl
 
 pub levels_step : (k n : ℕ) (p : Stem) (qs : List Stem) → k < n →

@@ -1,6 +1,5 @@
 -- Cutting a height in steps before its dy is taken changes nothing.
-use Rattle.std.proofs.Common.{◌≡◌, ℤ, arith}
-use Rattle.std.proofs.lemmas.Int.{ints, clamps}
+use Rattle.std.proofs.{Common.◌≡◌, Common.ℤ, Common.arith, lemmas.Int.ints, lemmas.Int.clamps}
 use Rattle.mus_ink.specs.Drawing.{cut, steps_dy}
 
 pub cut_inside : (z : ℤ) → steps_dy (cut z) ≡ steps_dy z

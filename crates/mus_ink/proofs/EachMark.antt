@@ -1,40 +1,15 @@
 -- One walk over the marks of each part: what holds of a glyph in the main lane, of a loose glyph, of a stem, and of
 -- the marks of a good meter holds of all marks of the parts.
 use Rattle.std.proofs.Common.{ℕ, zero, suc, ℤ, ◌+◌, ◌-◌, max, Bool, true, false, ◌==◌, ◌&&◌, if◌then◌else◌, List, [], ◌∷◌, ◌++◌, Option, Some, None}
-use Rattle.std.specs.List.{AllByRecursion}
-use Rattle.std.specs.Prelude.{IfSome}
-use Rattle.mus_units.specs.declared.glyph.Glyph.{Glyph}
-use Rattle.mus_units.specs.declared.key.Key.{Key}
-use Rattle.mus_units.specs.declared.key.Meter.{Meter}
-use Rattle.mus_units.specs.declared.key.Sign.{Sign}
-use Rattle.mus_units.specs.declared.note.Bar.{Bar}
-use Rattle.mus_units.specs.declared.note.Deco.{Deco}
-use Rattle.mus_units.specs.declared.note.Head.{Head}
-use Rattle.mus_units.specs.declared.pitch.Alter.{Alter}
-use Rattle.mus_units.specs.declared.pitch.Clef.{Clef}
-use Rattle.mus_units.specs.declared.value.Base.{Base}
-use Rattle.mus_units.specs.declared.value.Base.TheVariants as bases
-use Rattle.mus_units.specs.Good.{IsGoodMeter}
-use Rattle.mus_score.specs.declared.score.Changes.{Changes}
-use Rattle.mus_score.specs.declared.score.Event.{Event}
-use Rattle.mus_score.specs.declared.score.Look.{Look}
-use Rattle.mus_score.specs.declared.score.Look.TheVariants as looks
-use Rattle.mus_stems.proofs.RunLaws.{all_append}
-use Rattle.mus_stems.specs.declared.dots.Spot.{Spot}
-use Rattle.mus_stems.specs.declared.plans.StemPlan.{StemPlan}
-use Rattle.mus_ink.specs.declared.graces.Group.{Group}
-use Rattle.mus_ink.specs.Bars.{bar_marks, glyph_if}
-use Rattle.mus_ink.specs.Changes.{behind_clef, change_marks, clef_if, head_marks, key_if, new_entries}
-use Rattle.mus_ink.specs.Decos.{behind_deco, body_marks, deco_mark, deco_marks, note_marks}
-use Rattle.mus_ink.specs.Distances.{entry_gap, signature_side}
-use Rattle.mus_ink.specs.Kinds.{deco_glyph, head_glyph}
-use Rattle.mus_ink.specs.Graces.{at_end, grace_body, grace_heads, grace_marks}
-use Rattle.mus_ink.specs.Notes.{dot_marks, heads_marks, ledger_marks, note_heads, sign_mark, sign_marks}
-use Rattle.mus_ink.specs.Rests.{rest_dots, rest_glyphs, rest_marks, short_rests}
-use Rattle.mus_ink.specs.Signatures.{entry_mark, entry_marks, meter_if, meter_marks}
-use Rattle.mus_ink.specs.Stems.{flag_marks, flags_or_stubs, stem_if, stem_marks, stub_marks}
+use Rattle.std.specs.{List.AllByRecursion, Prelude.IfSome}
+use Rattle.mus_units.specs.{declared.glyph.Glyph.Glyph, declared.key.Key.Key, declared.key.Meter.Meter, declared.key.Sign.Sign, declared.note.Bar.Bar, declared.note.Deco.Deco, declared.note.Head.Head, declared.pitch.Alter.Alter, declared.pitch.Clef.Clef, declared.value.Base.Base, Good.IsGoodMeter}
+use Rattle.mus_score.specs.{declared.score.Changes.Changes, declared.score.Event.Event, declared.score.Look.Look}
+use Rattle.mus_stems.{proofs.RunLaws.all_append, specs.declared.dots.Spot.Spot, specs.declared.plans.StemPlan.StemPlan}
+use Rattle.mus_ink.specs.{declared.graces.Group.Group, Bars.bar_marks, Bars.glyph_if, Changes.behind_clef, Changes.change_marks, Changes.clef_if, Changes.head_marks, Changes.key_if, Changes.new_entries, Decos.behind_deco, Decos.body_marks, Decos.deco_mark, Decos.deco_marks, Decos.note_marks}
+use Rattle.mus_ink.specs.{Distances.entry_gap, Distances.signature_side, Kinds.deco_glyph, Kinds.head_glyph, Graces.at_end, Graces.grace_body, Graces.grace_heads, Graces.grace_marks, Notes.dot_marks, Notes.heads_marks, Notes.ledger_marks, Notes.note_heads, Notes.sign_mark, Notes.sign_marks}
+use Rattle.mus_ink.specs.{Rests.rest_dots, Rests.rest_glyphs, Rests.rest_marks, Rests.short_rests, Signatures.entry_mark, Signatures.entry_marks, Signatures.meter_if, Signatures.meter_marks, Stems.flag_marks, Stems.flags_or_stubs, Stems.stem_if, Stems.stem_marks, Stems.stub_marks, Drawing.glyph}
+use Rattle.mus_ink.specs.Drawing.{loose_glyph, stem}
 use Rattle.mus_laid.specs.declared.drawn.Drawn.{Drawn}
-use Rattle.mus_ink.specs.Drawing.{glyph, loose_glyph, stem}
 
 -- what is asked of each kind of mark
 pub record OfMarks (P : Drawn → Type 0) : Type 0 where
@@ -152,23 +127,23 @@ module _ (P : Drawn → Type 0) (w : OfMarks P) where
   shorts g top k (suc n) = (w.of_glyph _ _ _, shorts g top (k + 1) n)
 
   rest_by : (raise : ℤ) (base : Base) (n : ℕ) → AllByRecursion P (rest_glyphs raise base n)
-  rest_by raise bases.Breve n = (w.of_glyph _ _ _, tt)
-  rest_by raise bases.Whole n = (w.of_glyph _ _ _, tt)
-  rest_by raise bases.Half n = (w.of_glyph _ _ _, tt)
-  rest_by raise bases.Quarter n = (w.of_glyph _ _ _, tt)
-  rest_by raise bases.Eighth n = shorts _ _ 0 n
-  rest_by raise bases.N16 n = shorts _ _ 0 n
-  rest_by raise bases.N32 n = shorts _ _ 0 n
-  rest_by raise bases.N64 n = shorts _ _ 0 n
+  rest_by raise Base.Breve n = (w.of_glyph _ _ _, tt)
+  rest_by raise Base.Whole n = (w.of_glyph _ _ _, tt)
+  rest_by raise Base.Half n = (w.of_glyph _ _ _, tt)
+  rest_by raise Base.Quarter n = (w.of_glyph _ _ _, tt)
+  rest_by raise Base.Eighth n = shorts _ _ 0 n
+  rest_by raise Base.N16 n = shorts _ _ 0 n
+  rest_by raise Base.N32 n = shorts _ _ 0 n
+  rest_by raise Base.N64 n = shorts _ _ 0 n
 
   rest_dotted : (raise : ℤ) (k n : ℕ) → AllByRecursion P (rest_dots raise k n)
   rest_dotted raise k zero = tt
   rest_dotted raise k (suc n) = (w.of_glyph _ _ _, rest_dotted raise (k + 1) n)
 
   rest : (raise : ℤ) (look : Look) (base : Base) (n flags : ℕ) → AllByRecursion P (rest_marks raise look base n flags)
-  rest raise looks.Unseen base n flags = (w.of_glyph _ _ _, tt)
-  rest raise looks.Whole base n flags = (w.of_glyph _ _ _, tt)
-  rest raise looks.Seen base n flags = two (rest_glyphs raise base flags) _ (rest_by raise base flags) (rest_dotted raise 0 n)
+  rest raise Look.Unseen base n flags = (w.of_glyph _ _ _, tt)
+  rest raise Look.Whole base n flags = (w.of_glyph _ _ _, tt)
+  rest raise Look.Seen base n flags = two (rest_glyphs raise base flags) _ (rest_by raise base flags) (rest_dotted raise 0 n)
 
   -- ---- events
   deco : (dy : ℤ) (g : Option Glyph) → AllByRecursion P (deco_mark dy g)

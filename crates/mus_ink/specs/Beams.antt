@@ -1,21 +1,17 @@
 -- The beams of a measure, over the stems of its events, each with the key of its column.
 use Rattle.std.specs.Prelude.{ℕ, zero, suc, ◌+◌, ◌-◌, Bool, true, false, ◌&&◌, ◌==◌, nat_lt, if◌then◌else◌, List, [], ◌∷◌, ◌++◌}
 use Rattle.mus_units.specs.declared.glyph.Way.{Way}
-use Rattle.mus_units.specs.declared.glyph.Way.TheVariants as ways
 use Rattle.mus_stems.specs.declared.plans.StemPlan.{StemPlan}
 use Rattle.mus_laid.specs.declared.drawn.Bridge.{Bridge}
-use Rattle.mus_time.specs.declared.keys.ColumnKey.{ColumnKey}
-use Rattle.mus_time.specs.Order.{same_key}
-use Rattle.mus_ink.specs.declared.beams.Stem.{Stem}
-use Rattle.mus_ink.specs.Drawing.{beam}
-use Rattle.mus_ink.specs.Stems.{lower_edge}
+use Rattle.mus_time.specs.{declared.keys.ColumnKey.ColumnKey, Order.same_key}
+use Rattle.mus_ink.specs.{declared.beams.Stem.Stem, Drawing.beam, Stems.lower_edge}
 
 unfoldable pub stem_of : ColumnKey → StemPlan → Stem
 stem_of key plan = record { key = key; up = plan.up; to = plan.to; group = plan.group; flags = plan.flags }
 
 abbrev pub way_of : Bool → Way
-way_of true = ways.Up
-way_of false = ways.Down
+way_of true = Way.Up
+way_of false = Way.Down
 
 -- whether the next event is in the same beam and has level k, from 0, too
 unfoldable pub goes_on : ℕ → Stem → Stem → Bool

@@ -1,23 +1,13 @@
 -- Graces: each has a column of its own, and those before one event are a group.
 use Rattle.std.specs.Prelude.{ℤ, pos, ◌+ℤ◌, ◌-ℤ◌, Bool, true, false, ◌&&◌, ◌==◌, if◌then◌else◌, List, [], ◌∷◌, ◌++◌, length, map}
 use Rattle.std.specs.Int.{int_max}
-use Rattle.mus_units.specs.declared.glyph.Glyph.{Glyph}
-use Rattle.mus_units.specs.declared.glyph.Glyph.TheVariants as glyphs
-use Rattle.mus_units.specs.declared.glyph.Way.TheVariants as ways
-use Rattle.mus_units.specs.declared.pitch.Clef.{Clef}
-use Rattle.mus_units.specs.declared.note.Head.{Head}
+use Rattle.mus_units.specs.declared.{glyph.Glyph.Glyph, pitch.Clef.Clef, note.Head.Head, glyph.Way.Way}
 use Rattle.mus_score.specs.declared.score.Event.{Event}
-use Rattle.mus_stems.specs.Heads.{stand_of}
-use Rattle.mus_stems.specs.Signs.{signs_from}
-use Rattle.mus_stems.specs.Ends.{low_of, high_of}
-use Rattle.mus_stems.specs.Ledgers.{ledgers_of}
-use Rattle.mus_laid.specs.declared.drawn.Drawn.{Drawn}
-use Rattle.mus_laid.specs.declared.drawn.Bridge.{Bridge}
+use Rattle.mus_stems.specs.{Heads.stand_of, Signs.signs_from, Ends.low_of, Ends.high_of, Ledgers.ledgers_of}
+use Rattle.mus_laid.specs.{declared.drawn.Drawn.Drawn, declared.drawn.Bridge.Bridge}
 use Rattle.mus_time.specs.declared.keys.ColumnKey.{ColumnKey}
-use Rattle.mus_ink.specs.declared.graces.Group.{Group}
-use Rattle.mus_ink.specs.Distances.{beam_thickness, grace_sign_side, grace_stem_length, grace_stem_side}
-use Rattle.mus_ink.specs.Drawing.{back, beam, cut, glyph, stem}
-use Rattle.mus_ink.specs.Notes.{dy_of, highest_dy, lowest_dy, sign_marks, ledger_marks}
+use Rattle.mus_ink.specs.{declared.graces.Group.Group, Distances.beam_thickness, Distances.grace_sign_side, Distances.grace_stem_length, Distances.grace_stem_side, Drawing.back, Drawing.beam, Drawing.cut, Drawing.glyph, Drawing.stem, Notes.dy_of, Notes.highest_dy, Notes.lowest_dy, Notes.sign_marks}
+use Rattle.mus_ink.specs.Notes.{ledger_marks}
 
 -- where the stem of a grace alone ends, by its highest head
 unfoldable pub above_head : ℤ → ℤ
@@ -41,7 +31,7 @@ group_of c graces slash = record { end = group_end c graces; alone = length grac
 
 abbrev pub grace_heads : Clef → List Head → List Drawn
 grace_heads c [] = []
-grace_heads c (h ∷ hs) = glyph glyphs.Gh (pos 0) (dy_of c h) ∷ grace_heads c hs
+grace_heads c (h ∷ hs) = glyph Glyph.Gh (pos 0) (dy_of c h) ∷ grace_heads c hs
 
 abbrev pub stem_from : Clef → List Head → ℤ
 stem_from c [] = pos 0
@@ -61,11 +51,11 @@ grace_body c heads =
 unfoldable pub grace_marks : Clef → Group → Bool → Event → List Drawn
 grace_marks c group first g =
     grace_body c g.heads ++ stem (pos grace_stem_side) (stem_from c g.heads) group.end
-    ∷ at_end group.alone glyphs.Gf group.end ++ at_end (first && group.slash) glyphs.Gs group.end
+    ∷ at_end group.alone Glyph.Gf group.end ++ at_end (first && group.slash) Glyph.Gs group.end
 
 -- the beam of a group of two graces or more, from the column of the first to that of the last
 unfoldable pub beam_edge : ℤ → ℤ
 beam_edge end = cut (end -ℤ pos beam_thickness)
 
 unfoldable pub grace_beam : ColumnKey → ColumnKey → Group → List Bridge
-grace_beam first last group = if group.alone then [] else beam ways.Grace first last (beam_edge group.end) (beam_edge group.end) ∷ []
+grace_beam first last group = if group.alone then [] else beam Way.Grace first last (beam_edge group.end) (beam_edge group.end) ∷ []

@@ -5,10 +5,7 @@ use Rattle.std.specs.Prelude.{◌≡◌, ℕ, ◌+◌, ◌≤◌, Bool, false, �
 use Rattle.std.specs.List.{AllByRecursion}
 use Rattle.mus_stems.specs.Runs.{AreMaximalRuns}
 use Rattle.mus_laid.specs.declared.drawn.Bridge.{Bridge}
-use Rattle.mus_ink.specs.declared.beams.Stem.{Stem}
-use Rattle.mus_ink.specs.Drawing.{beam}
-use Rattle.mus_ink.specs.Stems.{lower_edge}
-use Rattle.mus_ink.specs.Beams.{way_of, beam_marks}
+use Rattle.mus_ink.specs.{declared.beams.Stem.Stem, Drawing.beam, Stems.lower_edge, Beams.way_of, Beams.beam_marks}
 use Rattle.mus_time.specs.Order.{same_key}
 
 -- whether level k joins two neighbours: both are in one beam and have it

@@ -1,18 +1,10 @@
 -- The heads of an event, and what stands beside them: signs, ledger lines and dots.
 use Rattle.std.specs.Prelude.{ℤ, pos, List, [], ◌∷◌, ◌++◌, Option, Some}
 use Rattle.std.specs.Int.{int_max, int_min}
-use Rattle.mus_units.specs.Pitch.{height_of}
-use Rattle.mus_units.specs.declared.glyph.Glyph.{Glyph}
-use Rattle.mus_units.specs.declared.glyph.Glyph.TheVariants as glyphs
-use Rattle.mus_units.specs.declared.pitch.Alter.{Alter}
-use Rattle.mus_units.specs.declared.pitch.Clef.{Clef}
-use Rattle.mus_units.specs.declared.note.Head.{Head}
-use Rattle.mus_units.specs.declared.value.Base.{Base}
-use Rattle.mus_stems.specs.declared.dots.Spot.{Spot}
-use Rattle.mus_stems.specs.declared.plans.StemPlan.{StemPlan}
+use Rattle.mus_units.specs.{Pitch.height_of, declared.glyph.Glyph.Glyph, declared.pitch.Alter.Alter, declared.pitch.Clef.Clef, declared.note.Head.Head, declared.value.Base.Base}
+use Rattle.mus_stems.specs.{declared.dots.Spot.Spot, declared.plans.StemPlan.StemPlan}
 use Rattle.mus_laid.specs.declared.drawn.Drawn.{Drawn}
-use Rattle.mus_ink.specs.Drawing.{glyph, steps_dy}
-use Rattle.mus_ink.specs.Kinds.{head_glyph, sign_glyph}
+use Rattle.mus_ink.specs.{Drawing.glyph, Drawing.steps_dy, Kinds.head_glyph, Kinds.sign_glyph}
 
 unfoldable pub dy_of : Clef → Head → ℤ
 dy_of c h = steps_dy (height_of h.pitch c)
@@ -37,7 +29,7 @@ sign_marks c (h ∷ hs) (dx ∷ dxs) = sign_mark (dy_of c h) h.sign dx ++ sign_m
 
 abbrev pub ledger_marks : List ℤ → List Drawn
 ledger_marks [] = []
-ledger_marks (dy ∷ dys) = glyph glyphs.Lg (pos 0) dy ∷ ledger_marks dys
+ledger_marks (dy ∷ dys) = glyph Glyph.Lg (pos 0) dy ∷ ledger_marks dys
 
 -- each head with its shift
 abbrev pub note_heads : Clef → Glyph → List Head → List ℤ → List Drawn
@@ -47,7 +39,7 @@ note_heads c g (h ∷ hs) (dx ∷ dxs) = glyph g dx (dy_of c h) ∷ note_heads c
 
 abbrev pub dot_marks : List Spot → List Drawn
 dot_marks [] = []
-dot_marks (s ∷ ss) = glyph glyphs.Dt s.dx s.dy ∷ dot_marks ss
+dot_marks (s ∷ ss) = glyph Glyph.Dt s.dx s.dy ∷ dot_marks ss
 
 -- signs, ledgers, heads and dots
 unfoldable pub heads_marks : Clef → Base → List Head → StemPlan → List Drawn

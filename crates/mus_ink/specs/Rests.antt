@@ -1,16 +1,9 @@
 -- Rests. raise is 0 where a voice has a staff of its own.
 use Rattle.std.specs.Prelude.{ℕ, zero, suc, ℤ, pos, ◌+◌, ◌*◌, ◌+ℤ◌, ◌-ℤ◌, List, [], ◌∷◌, ◌++◌}
-use Rattle.mus_units.specs.declared.glyph.Glyph.{Glyph}
-use Rattle.mus_units.specs.declared.glyph.Glyph.TheVariants as glyphs
-use Rattle.mus_units.specs.declared.value.Base.{Base}
-use Rattle.mus_units.specs.declared.value.Base.TheVariants as bases
+use Rattle.mus_units.specs.{declared.glyph.Glyph.Glyph, declared.value.Base.Base}
 use Rattle.mus_score.specs.declared.score.Look.{Look}
-use Rattle.mus_score.specs.declared.score.Look.TheVariants as looks
 use Rattle.mus_laid.specs.declared.drawn.Drawn.{Drawn}
-use Rattle.mus_ink.specs.declared.kinds.RestRow.{RestRow}
-use Rattle.mus_ink.specs.Distances.{dot_side, dot_step, rest_dot_line, rest_step}
-use Rattle.mus_ink.specs.Drawing.{cut, glyph, steps_dy}
-use Rattle.mus_ink.specs.Kinds.{rest_row}
+use Rattle.mus_ink.specs.{declared.kinds.RestRow.RestRow, Distances.dot_side, Distances.dot_step, Distances.rest_dot_line, Distances.rest_step, Drawing.cut, Drawing.glyph, Drawing.steps_dy, Kinds.rest_row}
 
 unfoldable pub raised : ℤ → ℤ → ℤ
 raised raise dy = cut (dy +ℤ raise)
@@ -30,19 +23,19 @@ abbrev pub rest_glyph : ℤ → RestRow → Drawn
 rest_glyph raise row = glyph row.glyph (pos 0) (rest_dy raise row)
 
 abbrev pub rest_glyphs : ℤ → Base → ℕ → List Drawn
-rest_glyphs raise bases.Breve flags = rest_glyph raise (rest_row bases.Breve) ∷ []
-rest_glyphs raise bases.Whole flags = rest_glyph raise (rest_row bases.Whole) ∷ []
-rest_glyphs raise bases.Half flags = rest_glyph raise (rest_row bases.Half) ∷ []
-rest_glyphs raise bases.Quarter flags = rest_glyph raise (rest_row bases.Quarter) ∷ []
+rest_glyphs raise Base.Breve flags = rest_glyph raise (rest_row Base.Breve) ∷ []
+rest_glyphs raise Base.Whole flags = rest_glyph raise (rest_row Base.Whole) ∷ []
+rest_glyphs raise Base.Half flags = rest_glyph raise (rest_row Base.Half) ∷ []
+rest_glyphs raise Base.Quarter flags = rest_glyph raise (rest_row Base.Quarter) ∷ []
 rest_glyphs raise base flags = short_rests (rest_row base).glyph (rest_dy raise (rest_row base)) 0 flags
 
 -- dots, the k-th first
 abbrev pub rest_dots : ℤ → ℕ → ℕ → List Drawn
 rest_dots raise k zero = []
-rest_dots raise k (suc n) = glyph glyphs.Dt (pos (dot_side + dot_step * k)) (raised raise (pos rest_dot_line)) ∷ rest_dots raise (k + 1) n
+rest_dots raise k (suc n) = glyph Glyph.Dt (pos (dot_side + dot_step * k)) (raised raise (pos rest_dot_line)) ∷ rest_dots raise (k + 1) n
 
 -- an unseen rest has an empty glyph; a rest of a whole measure hangs as a whole rest, whatever it lasts
 abbrev pub rest_marks : ℤ → Look → Base → ℕ → ℕ → List Drawn
-rest_marks raise looks.Unseen base dots flags = glyph glyphs.Nn (pos 0) (raised raise (pos 0)) ∷ []
-rest_marks raise looks.Whole base dots flags = rest_glyph raise (rest_row bases.Whole) ∷ []
-rest_marks raise looks.Seen base dots flags = rest_glyphs raise base flags ++ rest_dots raise 0 dots
+rest_marks raise Look.Unseen base dots flags = glyph Glyph.Nn (pos 0) (raised raise (pos 0)) ∷ []
+rest_marks raise Look.Whole base dots flags = rest_glyph raise (rest_row Base.Whole) ∷ []
+rest_marks raise Look.Seen base dots flags = rest_glyphs raise base flags ++ rest_dots raise 0 dots

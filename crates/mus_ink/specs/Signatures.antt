@@ -1,42 +1,31 @@
 -- Clefs, the entries of key signatures, and meters.
 use Rattle.std.specs.Prelude.{ℕ, ℤ, pos, ◌+◌, ◌*◌, Bool, true, false, List, [], ◌∷◌, Option, Some, None, codes, decimal}
-use Rattle.mus_units.specs.declared.pitch.Letter.{Letter}
-use Rattle.mus_units.specs.declared.pitch.Letter.TheVariants as letters
-use Rattle.mus_units.specs.declared.pitch.Alter.{Alter}
-use Rattle.mus_units.specs.declared.pitch.Alter.TheVariants as alters
-use Rattle.mus_units.specs.declared.pitch.Clef.{Clef}
-use Rattle.mus_units.specs.declared.key.Sign.{Sign}
-use Rattle.mus_units.specs.declared.key.Meter.{Meter}
-use Rattle.mus_units.specs.declared.key.Meter.TheVariants as meters
+use Rattle.mus_units.specs.declared.{pitch.Letter.Letter, pitch.Alter.Alter, pitch.Clef.Clef, key.Sign.Sign, key.Meter.Meter}
 use Rattle.mus_laid.specs.declared.drawn.Drawn.{Drawn}
-use Rattle.mus_ink.specs.declared.kinds.ClefRow.{ClefRow}
-use Rattle.mus_ink.specs.declared.kinds.Entries.{Entries}
-use Rattle.mus_ink.specs.Distances.{entry_step, lower_number_line, meter_sign_line, upper_number_line}
-use Rattle.mus_ink.specs.Drawing.{big_text, glyph, steps_dy}
-use Rattle.mus_ink.specs.Kinds.{clef_row, sign_glyph}
+use Rattle.mus_ink.specs.{declared.kinds.ClefRow.ClefRow, declared.kinds.Entries.Entries, Distances.entry_step, Distances.lower_number_line, Distances.meter_sign_line, Distances.upper_number_line, Drawing.big_text, Drawing.glyph, Drawing.steps_dy, Kinds.clef_row, Kinds.sign_glyph}
 
 -- a clef stands at the line that it names
 abbrev pub clef_mark : ℕ → Clef → Drawn
 clef_mark dx c = glyph (clef_row c).glyph (pos dx) (steps_dy (clef_row c).line)
 
 abbrev pub height_at : Letter → Entries → ℤ
-height_at letters.F es = es.f
-height_at letters.C es = es.c
-height_at letters.G es = es.g
-height_at letters.D es = es.d
-height_at letters.A es = es.a
-height_at letters.E es = es.e
-height_at letters.B es = es.b
+height_at Letter.F es = es.f
+height_at Letter.C es = es.c
+height_at Letter.G es = es.g
+height_at Letter.D es = es.d
+height_at Letter.A es = es.a
+height_at Letter.E es = es.e
+height_at Letter.B es = es.b
 
 -- naturals stand where sharps do, and double signs where single ones do
 abbrev pub entries_for : Alter → ClefRow → Entries
-entries_for alters.Flat2 row = row.flats
-entries_for alters.Flat row = row.flats
+entries_for Alter.Flat2 row = row.flats
+entries_for Alter.Flat row = row.flats
 entries_for _ row = row.sharps
 
 -- a key that ends shows naturals
 abbrev pub shown : Bool → Alter → Alter
-shown true a = alters.Natural
+shown true a = Alter.Natural
 shown false a = a
 
 unfoldable pub entry_dy : Clef → Alter → Letter → ℤ
@@ -52,10 +41,10 @@ entry_marks c ends first k (s ∷ ss) = entry_mark c (shown ends s.alter) s.lett
 
 -- two numbers, one above the other, or a sign for 4/4 and 2/2; a free meter has none
 unfoldable pub meter_marks : ℕ → Meter → List Drawn
-meter_marks dx meters.Free = []
-meter_marks dx meters.Common = big_text (pos dx) (pos meter_sign_line) (codes "C") ∷ []
-meter_marks dx meters.Cut = big_text (pos dx) (pos meter_sign_line) (codes "C|") ∷ []
-meter_marks dx (meters.Ratio num den) = big_text (pos dx) (pos upper_number_line) (decimal num) ∷ big_text (pos dx) (pos lower_number_line) (decimal den) ∷ []
+meter_marks dx Meter.Free = []
+meter_marks dx Meter.Common = big_text (pos dx) (pos meter_sign_line) (codes "C") ∷ []
+meter_marks dx Meter.Cut = big_text (pos dx) (pos meter_sign_line) (codes "C|") ∷ []
+meter_marks dx (Meter.Ratio num den) = big_text (pos dx) (pos upper_number_line) (decimal num) ∷ big_text (pos dx) (pos lower_number_line) (decimal den) ∷ []
 
 abbrev pub meter_if : ℕ → Option Meter → List Drawn
 meter_if dx None = []

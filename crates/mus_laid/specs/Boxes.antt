@@ -1,21 +1,14 @@
 -- The boxes that marks fill: from the least to the greatest height, and from the left to the right
 -- of the column. Stems, beams and arcs have heights alone.
 use Rattle.std.specs.Prelude.{ℕ, ℤ, pos, negsuc, ◌*◌, ◌≤◌, ◌+ℤ◌, ⊤, List, [], ◌∷◌, map, fold, length, Option, Some, None}
-use Rattle.std.specs.Int.{int_min, int_max}
-use Rattle.std.specs.List.{AllByRecursion}
-use Rattle.mus_units.specs.declared.glyph.Glyph.{Glyph}
-use Rattle.mus_units.specs.declared.glyph.Size.{Size}
-use Rattle.mus_units.specs.declared.glyph.Size.TheVariants as sizes
+use Rattle.std.specs.{Int.int_min, Int.int_max, List.AllByRecursion}
+use Rattle.mus_units.specs.{declared.glyph.Glyph.Glyph, declared.glyph.Size.Size}
 use Rattle.glyph_paths.specs.Bounds.{bounds_in}
-use Rattle.mus_laid.specs.declared.laid.Mark.{Mark}
-use Rattle.mus_laid.specs.declared.laid.Mark.TheVariants as marks
-use Rattle.mus_laid.specs.declared.laid.Laid.{Laid}
-use Rattle.mus_laid.specs.declared.boxes.Heights.{Heights}
-use Rattle.mus_laid.specs.declared.boxes.Sides.{Sides}
+use Rattle.mus_laid.specs.{declared.laid.Mark.Mark, declared.laid.Laid.Laid, declared.boxes.Heights.Heights, declared.boxes.Sides.Sides}
 
 -- a text has at most 60 characters
 abbrev pub IsGoodMark : Mark → Type 0
-IsGoodMark (marks.Words size rank dx dy text) = length text ≤ 60
+IsGoodMark (Mark.Words size rank dx dy text) = length text ≤ 60
 IsGoodMark _ = ⊤
 
 abbrev pub AreGoodMarks : List Laid → Type 0
@@ -23,16 +16,16 @@ AreGoodMarks = AllByRecursion (λ laid. IsGoodMark laid.mark)
 
 -- the width of a character, and how far a line of text goes below and above its base
 abbrev pub character_width : Size → ℕ
-character_width sizes.Small = 540
-character_width sizes.Big = 960
+character_width Size.Small = 540
+character_width Size.Big = 960
 
 abbrev pub text_low : Size → ℤ
-text_low sizes.Small = negsuc 269
-text_low sizes.Big = negsuc 479
+text_low Size.Small = negsuc 269
+text_low Size.Big = negsuc 479
 
 abbrev pub text_high : Size → ℤ
-text_high sizes.Small = pos 720
-text_high sizes.Big = pos 1280
+text_high Size.Small = pos 720
+text_high Size.Big = pos 1280
 
 abbrev pub heights : ℤ → ℤ → Heights
 heights low high = record { low = low; high = high }
@@ -60,11 +53,11 @@ unfoldable pub arc_heights : ℤ → ℤ → ℤ → Heights
 arc_heights from to bulge = over_four from to (from +ℤ bulge) (to +ℤ bulge)
 
 abbrev pub heights_of : Mark → Heights
-heights_of (marks.Glyph glyph rank dx dy) = glyph_heights glyph dy
-heights_of (marks.Words size rank dx dy text) = text_heights size dy
-heights_of (marks.Stem rank dx from to) = stem_heights from to
-heights_of (marks.Beam way first last from to) = beam_heights from to
-heights_of (marks.Arc first last from to bulge) = arc_heights from to bulge
+heights_of (Mark.Glyph glyph rank dx dy) = glyph_heights glyph dy
+heights_of (Mark.Words size rank dx dy text) = text_heights size dy
+heights_of (Mark.Stem rank dx from to) = stem_heights from to
+heights_of (Mark.Beam way first last from to) = beam_heights from to
+heights_of (Mark.Arc first last from to bulge) = arc_heights from to bulge
 
 -- from the column, where the mark stands at one
 unfoldable pub glyph_sides : Glyph → ℤ → Sides
@@ -74,11 +67,11 @@ unfoldable pub text_sides : Size → ℤ → ℕ → Sides
 text_sides size dx count = record { left = dx; right = dx +ℤ pos (character_width size * count) }
 
 abbrev pub sides_of : Mark → Option Sides
-sides_of (marks.Glyph glyph rank dx dy) = Some (glyph_sides glyph dx)
-sides_of (marks.Words size rank dx dy text) = Some (text_sides size dx (length text))
-sides_of (marks.Stem rank dx from to) = None
-sides_of (marks.Beam way first last from to) = None
-sides_of (marks.Arc first last from to bulge) = None
+sides_of (Mark.Glyph glyph rank dx dy) = Some (glyph_sides glyph dx)
+sides_of (Mark.Words size rank dx dy text) = Some (text_sides size dx (length text))
+sides_of (Mark.Stem rank dx from to) = None
+sides_of (Mark.Beam way first last from to) = None
+sides_of (Mark.Arc first last from to bulge) = None
 
 -- over all marks of a staff, and at least over its lines
 abbrev pub widened : Heights → Heights → Heights

@@ -1,32 +1,60 @@
 -- Marks by the ranks of their columns: what is drawn in a column by the rank of the column, and what goes from one
 -- column to another by the ranks of both. Nothing else of a mark depends on the system that it stands in.
-use Rattle.std.specs.Prelude.{ℕ, List}
-use Rattle.mus_time.specs.declared.keys.ColumnKey.{ColumnKey}
-use Rattle.mus_time.specs.Order.{rank_of}
-use Rattle.mus_laid.specs.declared.drawn.Ink.{Ink}
-use Rattle.mus_laid.specs.declared.drawn.Ink.TheVariants as inks
-use Rattle.mus_laid.specs.declared.drawn.Drawn.{Drawn}
-use Rattle.mus_laid.specs.declared.drawn.Span.{Span}
-use Rattle.mus_laid.specs.declared.drawn.Span.TheVariants as spans
-use Rattle.mus_laid.specs.declared.drawn.Bridge.{Bridge}
-use Rattle.mus_laid.specs.declared.laid.Lane.TheVariants as lanes
-use Rattle.mus_laid.specs.declared.laid.Laid.{Laid}
-use Rattle.mus_laid.specs.declared.laid.Mark.{Mark}
-use Rattle.mus_laid.specs.declared.laid.Mark.TheVariants as marks
+use Rattle.std.specs.Prelude.{ℕ, ◌+◌, Bool, false, ◌==◌, List, [], ◌∷◌, ◌++◌, filter, flat_map, if◌then◌else◌, Option, Some, None}
+use Rattle.std.specs.List.{range_with_len}
+use Rattle.mus_time.specs.{declared.keys.ColumnKey.ColumnKey, Order.rank_of}
+use Rattle.mus_laid.specs.declared.{drawn.Ink.Ink, drawn.Drawn.Drawn, drawn.Span.Span, drawn.Bridge.Bridge, laid.Laid.Laid, laid.Mark.Mark, laid.Lane.Lane}
 
 abbrev pub ink_at : ℕ → Ink → Mark
-ink_at r (inks.Glyph glyph dx dy) = marks.Glyph glyph r dx dy
-ink_at r (inks.Words size dx dy text) = marks.Words size r dx dy text
-ink_at r (inks.Stem dx from to) = marks.Stem r dx from to
+ink_at r (Ink.Glyph glyph dx dy) = Mark.Glyph glyph r dx dy
+ink_at r (Ink.Words size dx dy text) = Mark.Words size r dx dy text
+ink_at r (Ink.Stem dx from to) = Mark.Stem r dx from to
 
 -- in the column of rank r
 abbrev pub drawn_at : ℕ → Drawn → Laid
 drawn_at r d = record { mark = ink_at r d.ink; lane = d.lane }
 
 abbrev pub span_at : ℕ → ℕ → Span → Mark
-span_at first last (spans.Beam way from to) = marks.Beam way first last from to
-span_at first last (spans.Arc from to bulge) = marks.Arc first last from to bulge
+span_at first last (Span.Beam way from to) = Mark.Beam way first last from to
+span_at first last (Span.Arc from to bulge) = Mark.Arc first last from to bulge
+
+-- the rank of the column in which a glyph, words or a stem stands; beams and arcs go between columns
+abbrev pub anchor_rank : Mark → Option ℕ
+anchor_rank (Mark.Glyph glyph rank dx dy) = Some rank
+anchor_rank (Mark.Words size rank dx dy text) = Some rank
+anchor_rank (Mark.Stem rank dx from to) = Some rank
+anchor_rank (Mark.Beam way first last from to) = None
+anchor_rank (Mark.Arc first last from to bulge) = None
+
+abbrev pub is_rank : ℕ → Option ℕ → Bool
+is_rank n None = false
+is_rank n (Some r) = n == r
+
+abbrev pub stands_at : ℕ → Laid → Bool
+stands_at r x = is_rank r (anchor_rank x.mark)
+
+-- Lists of marks put together by columns: in each of n columns what stands there of the first list, then of the second, and
+-- so on. One list stays as it is.
+abbrev pub at_rank : List (List Laid) → ℕ → List Laid
+at_rank parts r = flat_map (λ part. filter (stands_at r) part) parts
+
+abbrev pub by_columns : ℕ → List (List Laid) → List Laid
+by_columns n (part ∷ []) = part
+by_columns n parts = flat_map (at_rank parts) (range_with_len 0 n)
+
+-- columns from rank r on, with a mark behind what stands in its column; and with the marks of a part, and those of some parts
+abbrev pub with_mark : ℕ → Laid → List (List Laid) → List (List Laid)
+with_mark r x [] = []
+with_mark r x (column ∷ columns) = (if stands_at r x then column ++ x ∷ [] else column) ∷ with_mark (r + 1) x columns
+
+abbrev pub with_part : List Laid → List (List Laid) → List (List Laid)
+with_part [] columns = columns
+with_part (x ∷ xs) columns = with_part xs (with_mark 0 x columns)
+
+abbrev pub with_parts : List (List Laid) → List (List Laid) → List (List Laid)
+with_parts [] columns = columns
+with_parts (part ∷ parts) columns = with_parts parts (with_part part columns)
 
 -- between two columns of the system with these keys, in no lane
 abbrev pub bridge_at : List ColumnKey → Bridge → Laid
-bridge_at keys b = record { mark = span_at (rank_of keys b.first) (rank_of keys b.last) b.span; lane = lanes.Loose }
+bridge_at keys b = record { mark = span_at (rank_of keys b.first) (rank_of keys b.last) b.span; lane = Lane.Loose }

@@ -1,18 +1,14 @@
 -- What of a mark doesn't hang on how far stems reach: its kind, its column or columns, its lane, where it stands beside its
 -- column, and what it shows. Its heights are left out.
 use Rattle.std.specs.Prelude.{◌≡◌, pos, List, map}
-use Rattle.mus_laid.specs.declared.laid.Laid.{Laid}
-use Rattle.mus_laid.specs.declared.laid.Mark.{Mark}
-use Rattle.mus_laid.specs.declared.laid.Mark.TheVariants as marks
-use Rattle.mus_laid.specs.declared.laid.StaffMarks.{StaffMarks}
-use Rattle.mus_laid.specs.declared.laid.SystemMarks.{SystemMarks}
+use Rattle.mus_laid.specs.declared.laid.{Laid.Laid, Mark.Mark, StaffMarks.StaffMarks, SystemMarks.SystemMarks}
 
 abbrev pub mark_shape : Mark → Mark
-mark_shape (marks.Glyph glyph rank dx dy) = marks.Glyph glyph rank dx (pos 0)
-mark_shape (marks.Words size rank dx dy text) = marks.Words size rank dx (pos 0) text
-mark_shape (marks.Stem rank dx from to) = marks.Stem rank dx (pos 0) (pos 0)
-mark_shape (marks.Beam way first last from to) = marks.Beam way first last (pos 0) (pos 0)
-mark_shape (marks.Arc first last from to bulge) = marks.Arc first last (pos 0) (pos 0) bulge
+mark_shape (Mark.Glyph glyph rank dx dy) = Mark.Glyph glyph rank dx (pos 0)
+mark_shape (Mark.Words size rank dx dy text) = Mark.Words size rank dx (pos 0) text
+mark_shape (Mark.Stem rank dx from to) = Mark.Stem rank dx (pos 0) (pos 0)
+mark_shape (Mark.Beam way first last from to) = Mark.Beam way first last (pos 0) (pos 0)
+mark_shape (Mark.Arc first last from to bulge) = Mark.Arc first last (pos 0) (pos 0) bulge
 
 abbrev pub laid_shape : Laid → Laid
 laid_shape x = record { mark = mark_shape x.mark; lane = x.lane }

@@ -1,5 +1,4 @@
-ghost use Rattle.std.specs.Prelude.{◌≡◌, ◌+ℤ◌, ◌≤◌, length};
-ghost use Rattle.std.specs.Int.{int_min, int_max};
+ghost use Rattle.std.specs.{Prelude.◌≡◌, Prelude.◌+ℤ◌, Prelude.◌≤◌, Prelude.length, Int.int_min, Int.int_max};
 ghost use Rattle.mus_laid.specs.Boxes.{IsGoodMark, character_width, text_low, text_high, glyph_heights, text_heights, stem_heights, beam_heights, over_four, arc_heights, heights_of, glyph_sides, text_sides, sides_of, widened, staff_heights};
 
 use crate::laid::{Laid, Mark};

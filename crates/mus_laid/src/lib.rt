@@ -4,12 +4,14 @@
 #![tactic(auto)]
 
 pub mod boxes;
+pub mod columns;
 pub mod drawn;
 pub mod laid;
 pub mod printing;
 pub mod ranking;
 
 pub use boxes::{Heights, Sides, heights_of, sides_of, staff_heights};
+pub use columns::{anchor_rank, by_columns};
 pub use drawn::{Bridge, Drawn, Ink, Span};
 pub use laid::{Laid, Lane, Mark, StaffMarks, SystemMarks};
 pub use mus_units::{Glyph, Size, Way};

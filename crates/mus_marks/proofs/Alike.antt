@@ -1,68 +1,27 @@
 -- Other ends of stems leave all but heights as it was: what is drawn of a voice has the shape of what is drawn of it with all
 -- ends at 0. So tilted marks are those that are called for, but for their heights.
-use Rattle.std.proofs.Common.{◌≡◌, ◌∙◌, ℕ, zero, suc, ℤ, pos, ◌+◌, ◌-◌, max, Bool, true, false, ◌&&◌, ◌==◌, nat_lt, if◌then◌else◌, List, [], ◌∷◌, ◌++◌, length, map, take, drop, Option, Some, None, refl, sym, ap, subst}
-use Rattle.std.specs.List.{find, flat_map, slice_get, slice_range, All}
-use Rattle.std.specs.Option.{option_map}
-use Rattle.std.proofs.lemmas.List.{drop-map, map-append, take-map}
-use Rattle.std.proofs.lemmas.Option.{slice_get-map}
-use Rattle.std.proofs.lemmas.Simd.{map-map}
-use Rattle.std.proofs.lemmas.List.Elements.{All-map}
-use Rattle.mus_units.specs.declared.glyph.Glyph.{Glyph}
-use Rattle.mus_units.specs.declared.note.Bar.{Bar}
-use Rattle.mus_units.specs.declared.note.Deco.{Deco}
-use Rattle.mus_units.specs.declared.note.Head.{Head}
-use Rattle.mus_units.specs.declared.pitch.Clef.{Clef}
-use Rattle.mus_score.specs.declared.score.Event.{Event}
-use Rattle.mus_score.specs.declared.score.Flat.{Flat}
-use Rattle.mus_score.specs.declared.score.Score.{Score}
-use Rattle.mus_score.specs.declared.score.Voice.{Voice}
-use Rattle.mus_score.specs.GoodScore.{IsGoodScore}
-use Rattle.mus_time.specs.declared.keys.ColumnKey.{ColumnKey}
-use Rattle.mus_time.specs.Order.{same_key}
-use Rattle.mus_time.specs.declared.times.Timeline.{Timeline}
-use Rattle.mus_time.specs.Keys.{called_keys}
-use Rattle.mus_arcs.specs.declared.cutting.Piece.{Piece}
-use Rattle.mus_arcs.specs.declared.pairing.Arc.{Arc}
-use Rattle.mus_arcs.specs.Pieces.{piece_of}
-use Rattle.mus_stems.specs.declared.plans.StemPlan.{StemPlan}
-use Rattle.mus_stems.specs.Slope.{with_end}
-use Rattle.mus_laid.specs.declared.drawn.Bridge.{Bridge}
-use Rattle.mus_laid.specs.declared.drawn.Drawn.{Drawn}
-use Rattle.mus_laid.specs.declared.laid.Laid.{Laid}
-use Rattle.mus_laid.specs.Printed.{printed}
-use Rattle.mus_laid.specs.Ranked.{bridge_at, drawn_at}
-use Rattle.mus_laid.specs.Shapes.{laid_shape, marks_shape, staff_shape, AreAlike}
-use Rattle.mus_laid.specs.declared.laid.SystemMarks.{SystemMarks}
-use Rattle.mus_laid.specs.Boxes.{AreGoodMarks}
-use Rattle.mus_laid.specs.declared.laid.Lane.TheVariants as lanes
-use Rattle.mus_ink.specs.declared.beams.Stem.{Stem}
-use Rattle.mus_ink.specs.Beams.{beam_marks, beams_at, beams_from, goes_on, last_at, level_from, levels_before, levels_from, stem_of, way_of}
-use Rattle.mus_ink.specs.Decos.{behind_deco, body_marks, deco_mark, deco_marks, first_deco, next_deco, note_marks, top_of}
-use Rattle.mus_ink.specs.Distances.{half_character}
-use Rattle.mus_ink.specs.Drawing.{back, beam, glyph, loose_glyph}
-use Rattle.mus_ink.specs.Kinds.{deco_glyph, flag_glyph, stub_glyph}
-use Rattle.mus_ink.specs.Notes.{heads_marks}
-use Rattle.mus_ink.specs.Stems.{flag_dy, flag_marks, flags_or_stubs, lower_edge, stem_dx, stem_if, stem_marks, stub_marks}
-use Rattle.mus_words.specs.Arcs.{arc_mark, slur_mark, tie_mark}
-use Rattle.mus_words.specs.Syllables.{syllable_dx, syllable_if, syllables_from, verse_dy}
-use Rattle.mus_words.specs.Texts.{above_dy, above_from, below_dy, below_from, text_marks, texts_above, texts_below}
+use Rattle.std.proofs.Common.{◌≡◌, ◌∙◌, ℕ, zero, suc, ℤ, pos, ◌+◌, ◌-◌, max, sum, Bool, true, false, ◌&&◌, ◌||◌, ◌==◌, nat_lt, if◌then◌else◌, cond, List, [], ◌∷◌, ◌++◌, length, map, take, drop, Option, Some, None, refl, sym, ap, subst}
+use Rattle.std.{proofs.lemmas.List.drop-map, proofs.lemmas.List.map-append, proofs.lemmas.List.take-map, proofs.lemmas.Option.slice_get-map, proofs.lemmas.Simd.map-map, proofs.lemmas.List.Sums.sum_by-cons, specs.List.All, specs.List.AllByRecursion, specs.List.count_by, specs.List.filter}
+use Rattle.std.specs.{List.find, List.flat_map, List.range_with_len, List.slice_get, List.slice_index_or, List.slice_range, Option.option_map}
+use Rattle.mus_units.specs.declared.{glyph.Glyph.Glyph, note.Bar.Bar, note.Deco.Deco, note.Head.Head, pitch.Clef.Clef}
+use Rattle.mus_score.specs.{declared.score.Event.Event, declared.score.Flat.Flat, declared.score.Score.Score, declared.score.Seat.Seat, GoodScore.IsGoodScore, Seats.is_lower}
+use Rattle.mus_time.specs.{declared.keys.ColumnKey.ColumnKey, Order.same_key, declared.times.Timeline.Timeline, Keys.called_keys}
+use Rattle.mus_arcs.specs.{declared.cutting.Piece.Piece, declared.pairing.Arc.Arc, Pieces.piece_of}
+use Rattle.mus_stems.specs.{declared.plans.StemPlan.StemPlan, Slope.with_end}
+use Rattle.mus_laid.specs.{declared.drawn.Bridge.Bridge, declared.drawn.Drawn.Drawn, declared.laid.Laid.Laid, declared.laid.Mark.Mark, Printed.printed, Ranked.anchor_rank, Ranked.at_rank, Ranked.bridge_at, Ranked.by_columns, Ranked.drawn_at, Ranked.is_rank, Ranked.stands_at, Shapes.AreAlike}
+use Rattle.mus_laid.specs.{Shapes.laid_shape, Shapes.mark_shape, Shapes.marks_shape, Shapes.staff_shape, declared.laid.SystemMarks.SystemMarks, Boxes.AreGoodMarks, declared.laid.Lane.Lane}
+use Rattle.mus_ink.specs.{declared.beams.Stem.Stem, Beams.beam_marks, Beams.beams_at, Beams.beams_from, Beams.goes_on, Beams.last_at, Beams.level_from, Beams.levels_before, Beams.levels_from, Beams.stem_of, Beams.way_of, Decos.behind_deco, Decos.body_marks, Decos.deco_mark, Decos.deco_marks}
+use Rattle.mus_ink.specs.{Decos.first_deco, Decos.next_deco, Decos.note_marks, Decos.top_of, Distances.half_character, Drawing.back, Drawing.beam, Drawing.glyph, Drawing.loose_glyph, Kinds.deco_glyph, Kinds.flag_glyph, Kinds.stub_glyph, Notes.heads_marks, Stems.flag_dy, Stems.flag_marks}
+use Rattle.mus_ink.specs.Stems.{flags_or_stubs, lower_edge, stem_dx, stem_if, stem_marks, stub_marks}
+use Rattle.mus_words.specs.{Arcs.arc_mark, Arcs.slur_mark, Arcs.tie_mark, Syllables.syllable_dx, Syllables.syllable_if, Syllables.syllables_from, Syllables.verse_dy, Texts.above_dy, Texts.above_from, Texts.below_dy, Texts.below_from, Texts.text_marks, Texts.texts_above, Texts.texts_below}
 use Rattle.mus_words.specs.Words.{words}
-use Rattle.mus_drawn.specs.declared.drawn.DrawnEvent.{DrawnEvent}
-use Rattle.mus_drawn.specs.declared.drawn.DrawnMeasure.{DrawnMeasure}
-use Rattle.mus_drawn.specs.declared.drawn.DrawnVoice.{DrawnVoice}
-use Rattle.mus_drawn.specs.Drawn.{drawn_voice}
-use Rattle.mus_marks.specs.declared.events.Room.{Room}
-use Rattle.mus_marks.specs.Arcs.{arc_between, arc_in, arcs_between, event_at, event_in, has_id, left_key, piece_between, right_key, seen_of}
-use Rattle.mus_marks.specs.Bridges.{beams_between, bridges_of, event_grace_beam, grace_beams_between, stem_at}
-use Rattle.mus_marks.specs.Events.{bar_part, change_part, event_marks, events_marks, graces_part, levels_behind, levels_in, measures_marks, note_part, note_rank, text_place, words_marks, words_part}
-use Rattle.mus_marks.specs.Staff.{columns_part, first_part, head_part, room_over, staff_marks, staff_over, voice_marks}
-use Rattle.mus_marks.specs.System.{IsCall, staff_of}
-use Rattle.mus_marks.specs.Tilt.{IsTilted, tilted_staff_of, voice_tilted}
-use Rattle.mus_marks.proofs.Ending.{flat_event, flat_measure, ended_fits, flat_voice}
-use Rattle.mus_marks.proofs.Fitting.{voice_fits}
-use Rattle.mus_marks.proofs.OneList.{same_keys}
-use Rattle.mus_marks.proofs.Parts.{staff_all}
-use Rattle.mus_marks.proofs.Texts.{IsGood, goods}
+use Rattle.mus_drawn.specs.{declared.drawn.DrawnEvent.DrawnEvent, declared.drawn.DrawnMeasure.DrawnMeasure, declared.drawn.DrawnVoice.DrawnVoice, Drawn.raise_of}
+use Rattle.mus_marks.specs.Events.{bar_part, change_part, event_marks, events_marks, graces_part, levels_behind, levels_in, measures_marks, no_texts, note_part, note_rank, text_place, words_marks, words_part}
+use Rattle.mus_marks.specs.Staff.{bare_marks, columns_part, first_part, head_part, is_above, is_below_staff, is_words, own_part, room_over, staff_marks, staff_over, text_above, text_below, texts_behind}
+use Rattle.mus_marks.specs.{declared.events.Place.Place, declared.events.Room.Room, declared.events.Texts.Texts, Arcs.arc_between, Arcs.arc_in, Arcs.arcs_between, Arcs.event_at, Arcs.event_in, Arcs.has_id, Arcs.left_key, Arcs.piece_between, Arcs.right_key, Arcs.seen_of, Bridges.beams_between}
+use Rattle.mus_marks.specs.{Bridges.bridges_of, Bridges.event_grace_beam, Bridges.grace_beams_between, Bridges.stem_at, Staff.texts_with, Staff.verses_on, Staff.written_parts, System.IsCall, System.drawn_staves, Tilt.IsTilted, Tilt.tilted_staff, Tilt.voice_tilted}
+use Rattle.mus_marks.proofs.{Ending.flat_event, Ending.flat_measure, Ending.ended_fits, Ending.flat_voice, Fitting.staves_fit, OneList.same_keys, Parts.FitsVoice, GoodMarks.staves_good}
+use Rattle.mus_laid.specs.declared.laid.Lane.TheVariants as lanes
 
 joined : {X Y : Type 0} (f : X → Y) (xs ys us vs : List X) → map f xs ≡ map f us → map f ys ≡ map f vs → map f (xs ++ ys) ≡ map f (us ++ vs)
 joined f xs ys us vs p q = map-append f xs ys ∙ ap (λ t. t ++ map f ys) p ∙ ap (λ t. map f us ++ t) q ∙ sym (map-append f us vs)
@@ -123,7 +82,7 @@ module _ (r : ℕ) where
   -- syllables and texts, in any room
   syllable_of : (y z : ℤ) (n : ℕ) (w : Option (List ℕ)) → map shape (syllable_if y n w) ≡ map shape (syllable_if z n w)
   syllable_of y z n None = refl
-  syllable_of y z n (Some t) = either shape (length (printed t) == 0) [] (words (lanes.Verse n) (syllable_dx (length (printed t))) (verse_dy y n) (printed t) ∷ []) [] _ refl refl
+  syllable_of y z n (Some t) = either shape (length (printed t) == 0) [] (words (Lane.Verse n) (syllable_dx (length (printed t))) (verse_dy y n) (printed t) ∷ []) [] _ refl refl
 
   syllables : (y z : ℤ) (n : ℕ) (ws : List (Option (List ℕ))) → map shape (syllables_from y n ws) ≡ map shape (syllables_from z n ws)
   syllables y z n [] = refl
@@ -131,7 +90,7 @@ module _ (r : ℕ) where
 
   aboves : (y z : ℤ) (k : ℕ) (ts : List (List ℕ)) → map shape (above_from y k ts) ≡ map shape (above_from z k ts)
   aboves y z k [] = refl
-  aboves y z k (t ∷ ts) = ap (λ u. shape (words lanes.Above (back half_character) (above_dy y k) t) ∷ u) (aboves y z (k + 1) ts)
+  aboves y z k (t ∷ ts) = ap (λ u. shape (words Lane.Above (back half_character) (above_dy y k) t) ∷ u) (aboves y z (k + 1) ts)
 
   belows : (y z : ℤ) (verses k : ℕ) (ts : List (List ℕ)) → map shape (below_from y verses k ts) ≡ map shape (below_from z verses k ts)
   belows y z verses k [] = refl
@@ -140,65 +99,143 @@ module _ (r : ℕ) where
 abbrev no_room : ℕ → Room
 no_room verses = record { low = pos 0; high = pos 0; verses = verses }
 
-all_words : (r : ℕ) (room : Room) (f : Flat) → map (shape r) (words_marks (Some room) f) ≡ map (shape r) (words_marks (Some (no_room room.verses)) f)
+abbrev unplaced : Place → Place
+unplaced place = record place { room = no_room place.room.verses }
+
+all_words : (r : ℕ) (place : Place) (f : Flat) → map (shape r) (words_marks (Some place) r f) ≡ map (shape r) (words_marks (Some (unplaced place)) r f)
 unfolding text_marks
-all_words r room f =
-    joined (shape r) (syllables_from room.low 1 f.event.words) (text_marks (text_place room) f) (syllables_from (pos 0) 1 f.event.words) (text_marks (text_place (no_room room.verses)) f)
-    (syllables r room.low (pos 0) 1 f.event.words)
-    (joined (shape r) (above_from room.high 0 (texts_above f)) (below_from room.low room.verses 0 (texts_below f)) (above_from (pos 0) 0 (texts_above f)) (below_from (pos 0) room.verses 0 (texts_below f))
-    (aboves r room.high (pos 0) 0 (texts_above f)) (belows r room.low (pos 0) room.verses 0 (texts_below f)))
+all_words r place f =
+    let room = place.room in let none = no_room room.verses in let t = slice_index_or place.before r no_texts in
+    joined (shape r) (syllables_from room.low place.first f.event.words) (text_marks (text_place room t) f) (syllables_from (pos 0) place.first f.event.words) (text_marks (text_place none t) f)
+    (syllables r room.low (pos 0) place.first f.event.words)
+    (joined (shape r) (above_from room.high t.above (texts_above f)) (below_from room.low room.verses t.below (texts_below f)) (above_from (pos 0) t.above (texts_above f)) (below_from (pos 0) room.verses t.below (texts_below f))
+    (aboves r room.high (pos 0) t.above (texts_above f)) (belows r room.low (pos 0) room.verses t.below (texts_below f)))
 
 -- ---- the columns of a voice
-module _ (keys : List ColumnKey) (room : Room) where
-  abbrev none : Room
-  none = no_room room.verses
+module _ (keys : List ColumnKey) (place : Place) where
+  abbrev none : Place
+  none = unplaced place
 
   change : (m : ℕ) (in_head : Bool) (e : DrawnEvent) → change_part keys m in_head e ≡ change_part keys m in_head (flat_event e)
   change m true e = refl
   change m false e = refl
 
   event : (m : ℕ) (in_head : Bool) (before after : ℕ) (e : DrawnEvent)
-      → marks_shape (event_marks keys (Some room) m in_head before after e) ≡ marks_shape (event_marks keys (Some none) m in_head before after (flat_event e))
+      → marks_shape (event_marks keys (Some place) m in_head before after e) ≡ marks_shape (event_marks keys (Some none) m in_head before after (flat_event e))
   unfolding event_marks
   event m in_head before after e =
-      let r = note_rank keys m e in
-      let front = change_part keys m in_head (flat_event e) ++ graces_part keys m e in
-      joined laid_shape (change_part keys m in_head e ++ graces_part keys m e ++ note_part keys m before after e) (words_part r (Some room) e.flat) (front ++ note_part keys m before after (flat_event e)) (words_part r (Some none) e.flat)
-      (joined laid_shape (change_part keys m in_head e ++ graces_part keys m e) (note_part keys m before after e) front (note_part keys m before after (flat_event e))
-      (ap (λ t. marks_shape (t ++ graces_part keys m e)) (change m in_head e)) (ranked r _ _ (note r e.clef (pos 0) e.flat.event e.plan (pos 0) before after)))
-      (ranked r _ _ (all_words r room e.flat))
+      let r = note_rank keys m e in let drawn = in_head || is_lower e.seat in
+      let front = change_part keys m drawn (flat_event e) ++ graces_part keys m e in
+      joined laid_shape (change_part keys m drawn e ++ graces_part keys m e ++ note_part keys m before after e) (words_part r (Some place) e.flat) (front ++ note_part keys m before after (flat_event e)) (words_part r (Some none) e.flat)
+      (joined laid_shape (change_part keys m drawn e ++ graces_part keys m e) (note_part keys m before after e) front (note_part keys m before after (flat_event e))
+      (ap (λ t. marks_shape (t ++ graces_part keys m e)) (change m drawn e)) (ranked r _ _ (note r e.clef (raise_of e.seat) e.flat.event e.plan (pos 0) before after)))
+      (ranked r _ _ (all_words r place e.flat))
 
   behind : (p : StemPlan) (es : List DrawnEvent) → levels_behind p es ≡ levels_behind (with_end p (pos 0)) (map flat_event es)
   behind p [] = refl
   behind p (e ∷ es) = refl
 
   events : (m : ℕ) (in_head : Bool) (group flags : ℕ) (es : List DrawnEvent)
-      → marks_shape (events_marks keys (Some room) m in_head group flags es) ≡ marks_shape (events_marks keys (Some none) m in_head group flags (map flat_event es))
+      → marks_shape (events_marks keys (Some place) m in_head group flags es) ≡ marks_shape (events_marks keys (Some none) m in_head group flags (map flat_event es))
   events m in_head group flags [] = refl
   events m in_head group flags (e ∷ es) =
-      joined laid_shape (event_marks keys (Some room) m in_head (levels_in e.plan group flags) (levels_behind e.plan es) e) (events_marks keys (Some room) m false e.plan.group e.plan.flags es) _ _
+      joined laid_shape (event_marks keys (Some place) m in_head (levels_in e.plan group flags) (levels_behind e.plan es) e) (events_marks keys (Some place) m false e.plan.group e.plan.flags es) _ _
       (event m in_head (levels_in e.plan group flags) (levels_behind e.plan es) e
       ∙ ap (λ n. marks_shape (event_marks keys (Some none) m in_head (levels_in e.plan group flags) n (flat_event e))) (behind e.plan es))
       (events m false e.plan.group e.plan.flags es)
 
   measures : (lengths : List ℕ) (m : ℕ) (in_head : Bool) (ds : List DrawnMeasure)
-      → marks_shape (measures_marks keys lengths (Some room) m in_head ds) ≡ marks_shape (measures_marks keys lengths (Some none) m in_head (map flat_measure ds))
+      → marks_shape (measures_marks keys lengths (Some place) m in_head ds) ≡ marks_shape (measures_marks keys lengths (Some none) m in_head (map flat_measure ds))
   measures lengths m in_head [] = refl
   measures lengths m in_head (d ∷ ds) =
-      joined laid_shape (events_marks keys (Some room) m in_head 0 0 d.events ++ bar_part keys lengths m d) (measures_marks keys lengths (Some room) (m + 1) false ds) _ _
-      (joined laid_shape (events_marks keys (Some room) m in_head 0 0 d.events) (bar_part keys lengths m d) (events_marks keys (Some none) m in_head 0 0 (map flat_event d.events)) _ (events m in_head 0 0 d.events) refl)
+      joined laid_shape (events_marks keys (Some place) m in_head 0 0 d.events ++ bar_part keys lengths m d) (measures_marks keys lengths (Some place) (m + 1) false ds) _ _
+      (joined laid_shape (events_marks keys (Some place) m in_head 0 0 d.events) (bar_part keys lengths m d) (events_marks keys (Some none) m in_head 0 0 (map flat_event d.events)) _ (events m in_head 0 0 d.events) refl)
       (measures lengths (m + 1) false ds)
 
   head : (a : ℕ) (ds : List DrawnMeasure) → head_part keys a ds ≡ head_part keys a (map flat_measure ds)
   head a [] = refl
   head a (d ∷ ds) = refl
 
-  columns : (lengths : List ℕ) (a : ℕ) (first : Bar) (ds : List DrawnMeasure)
-      → marks_shape (columns_part keys lengths (Some room) a first ds) ≡ marks_shape (columns_part keys lengths (Some none) a first (map flat_measure ds))
+  columns : (lengths : List ℕ) (a : ℕ) (seat : Seat) (first : Bar) (ds : List DrawnMeasure)
+      → marks_shape (columns_part keys lengths (Some place) a seat first ds) ≡ marks_shape (columns_part keys lengths (Some none) a seat first (map flat_measure ds))
   unfolding columns_part
-  columns lengths a first ds =
-      joined laid_shape (head_part keys a ds ++ first_part keys a first) (measures_marks keys lengths (Some room) a true ds) (head_part keys a (map flat_measure ds) ++ first_part keys a first) _
-      (ap (λ t. marks_shape (t ++ first_part keys a first)) (head a ds)) (measures lengths a true ds)
+  columns lengths a seat first ds =
+      joined laid_shape (head_part keys a ds ++ first_part keys a seat first) (measures_marks keys lengths (Some place) a true ds) (head_part keys a (map flat_measure ds) ++ first_part keys a seat first) _
+      (ap (λ t. marks_shape (t ++ first_part keys a seat first)) (head a ds)) (measures lengths a true ds)
+
+-- ---- columns and texts hang on the shape of marks alone
+rank_shaped : (m : Mark) → anchor_rank (mark_shape m) ≡ anchor_rank m
+rank_shaped (Mark.Glyph glyph rank dx dy) = refl
+rank_shaped (Mark.Words size rank dx dy text) = refl
+rank_shaped (Mark.Stem rank dx from to) = refl
+rank_shaped (Mark.Beam way first last from to) = refl
+rank_shaped (Mark.Arc first last from to bulge) = refl
+
+words_shaped : (m : Mark) → is_words (mark_shape m) ≡ is_words m
+words_shaped (Mark.Glyph glyph rank dx dy) = refl
+words_shaped (Mark.Words size rank dx dy text) = refl
+words_shaped (Mark.Stem rank dx from to) = refl
+words_shaped (Mark.Beam way first last from to) = refl
+words_shaped (Mark.Arc first last from to bulge) = refl
+
+stands_shaped : (r : ℕ) (x : Laid) → stands_at r (laid_shape x) ≡ stands_at r x
+stands_shaped r x = ap (is_rank r) (rank_shaped x.mark)
+
+filter_shaped : (r : ℕ) (xs : List Laid) → marks_shape (filter (stands_at r) xs) ≡ filter (stands_at r) (marks_shape xs)
+filter_shaped r [] = refl
+filter_shaped r (x ∷ xs) =
+    by (stands_at r x) (filter_shaped r xs)
+    ∙ ap (λ b. cond b (laid_shape x ∷ filter (stands_at r) (marks_shape xs)) (filter (stands_at r) (marks_shape xs))) (sym (stands_shaped r x))
+  where
+    by : (b : Bool) → marks_shape (filter (stands_at r) xs) ≡ filter (stands_at r) (marks_shape xs)
+        → marks_shape (cond b (x ∷ filter (stands_at r) xs) (filter (stands_at r) xs)) ≡ cond b (laid_shape x ∷ filter (stands_at r) (marks_shape xs)) (filter (stands_at r) (marks_shape xs))
+    by true more = ap (λ t. laid_shape x ∷ t) more
+    by false more = more
+
+at_shaped : (r : ℕ) (parts : List (List Laid)) → marks_shape (at_rank parts r) ≡ at_rank (map marks_shape parts) r
+at_shaped r [] = refl
+at_shaped r (part ∷ parts) =
+    map-append laid_shape (filter (stands_at r) part) (at_rank parts r)
+    ∙ ap (λ t. t ++ marks_shape (at_rank parts r)) (filter_shaped r part) ∙ ap (λ t. filter (stands_at r) (marks_shape part) ++ t) (at_shaped r parts)
+
+ranks_shaped : (parts : List (List Laid)) (ns : List ℕ) → marks_shape (flat_map (at_rank parts) ns) ≡ flat_map (at_rank (map marks_shape parts)) ns
+ranks_shaped parts [] = refl
+ranks_shaped parts (n ∷ ns) =
+    map-append laid_shape (at_rank parts n) (flat_map (at_rank parts) ns)
+    ∙ ap (λ t. t ++ marks_shape (flat_map (at_rank parts) ns)) (at_shaped n parts) ∙ ap (λ t. at_rank (map marks_shape parts) n ++ t) (ranks_shaped parts ns)
+
+columns_shaped : (n : ℕ) (parts : List (List Laid)) → marks_shape (by_columns n parts) ≡ by_columns n (map marks_shape parts)
+columns_shaped n [] = ranks_shaped [] (range_with_len 0 n)
+columns_shaped n (part ∷ []) = refl
+columns_shaped n (part ∷ other ∷ parts) = ranks_shaped (part ∷ other ∷ parts) (range_with_len 0 n)
+
+count_shaped : (test : Laid → Bool) → ((x : Laid) → test (laid_shape x) ≡ test x) → (xs : List Laid) → count_by test (marks_shape xs) ≡ count_by test xs
+count_shaped test same [] = refl
+count_shaped test same (x ∷ xs) =
+    let one : Laid → ℕ = λ y. cond (test y) 1 0 in
+    sum_by-cons one (laid_shape x) (marks_shape xs) ∙ ap (λ b. cond b 1 0 + count_by test (marks_shape xs)) (same x) ∙ ap (λ k. cond (test x) 1 0 + k) (count_shaped test same xs) ∙ sym (sum_by-cons one x xs)
+
+above_shaped : (r : ℕ) (x : Laid) → text_above r (laid_shape x) ≡ text_above r x
+above_shaped r x = ap (λ b. b && is_words (mark_shape x.mark) && is_above x.lane) (stands_shaped r x) ∙ ap (λ b. stands_at r x && b && is_above x.lane) (words_shaped x.mark)
+
+below_shaped : (r : ℕ) (x : Laid) → text_below r (laid_shape x) ≡ text_below r x
+below_shaped r x = ap (λ b. b && is_words (mark_shape x.mark) && is_below_staff x.lane) (stands_shaped r x) ∙ ap (λ b. stands_at r x && b && is_below_staff x.lane) (words_shaped x.mark)
+
+with_shaped : (t : Texts) (part : List Laid) (r : ℕ) → texts_with t (marks_shape part) r ≡ texts_with t part r
+with_shaped t part r =
+    ap (λ n. record { above = t.above + n; below = t.below + count_by (text_below r) (marks_shape part) }) (count_shaped (text_above r) (above_shaped r) part)
+    ∙ ap (λ n. record { above = t.above + count_by (text_above r) part; below = t.below + n }) (count_shaped (text_below r) (below_shaped r) part)
+
+texts_shaped : (before : List Texts) (part : List Laid) (ns : List ℕ)
+    → map (λ r. texts_with (slice_index_or before r no_texts) (marks_shape part) r) ns ≡ map (λ r. texts_with (slice_index_or before r no_texts) part r) ns
+texts_shaped before part [] = refl
+texts_shaped before part (n ∷ ns) =
+    ap (λ t. t ∷ map (λ r. texts_with (slice_index_or before r no_texts) (marks_shape part) r) ns) (with_shaped (slice_index_or before n no_texts) part n)
+    ∙ ap (λ t. texts_with (slice_index_or before n no_texts) part n ∷ t) (texts_shaped before part ns)
+
+same_texts : (n : ℕ) (before : List Texts) (part other : List Laid) → marks_shape part ≡ marks_shape other → texts_behind n before part ≡ texts_behind n before other
+same_texts n before part other e =
+    sym (texts_shaped before part (range_with_len 0 n)) ∙ ap (texts_behind n before) e ∙ texts_shaped before other (range_with_len 0 n)
 
 -- ---- beams and arcs
 abbrev flat : Stem → Stem
@@ -309,27 +346,64 @@ module _ (keys : List ColumnKey) (lengths : List ℕ) (a b : ℕ) where
       (all_beams keys a ds ∙ ap (λ t. map (span keys) (beams_between a t)) (slice_flat a b v.measures))
       (ap (map (span keys)) (grace_beams keys a ds ∙ ap (grace_beams_between a) (slice_flat a b v.measures)))) (arcs keys lengths a b v.measures v.arcs)
 
-  voice : (room : Room) (v : DrawnVoice) → marks_shape (voice_marks keys lengths (Some room) a b v) ≡ marks_shape (voice_marks keys lengths (Some (no_room room.verses)) a b (flat_all v))
-  unfolding voice_marks
-  voice room v =
-      let ds = slice_range v.measures a b in
-      joined laid_shape (columns_part keys lengths (Some room) a v.first ds) (map (bridge_at keys) (bridges_of lengths a b v)) _ (map (bridge_at keys) (bridges_of lengths a b (flat_all v)))
-      (columns keys room lengths a v.first ds ∙ ap (λ t. marks_shape (columns_part keys lengths (Some (no_room room.verses)) a v.first t)) (slice_flat a b v.measures))
-      (map-map laid_shape (bridge_at keys) (bridges_of lengths a b v) ∙ bridges v ∙ sym (map-map laid_shape (bridge_at keys) (bridges_of lengths a b (flat_all v))))
+  own : (place : Place) (v : DrawnVoice) → marks_shape (own_part keys lengths (Some place) a b v) ≡ marks_shape (own_part keys lengths (Some (unplaced place)) a b (flat_all v))
+  own place v =
+      columns keys place lengths a v.seat v.first (slice_range v.measures a b)
+      ∙ ap (λ t. marks_shape (columns_part keys lengths (Some (unplaced place)) a v.seat v.first t)) (slice_flat a b v.measures)
 
-  staff : (v : DrawnVoice) → staff_shape (staff_marks keys lengths a b v) ≡ marks_shape (voice_marks keys lengths (Some (no_room v.verses)) a b (flat_all v))
+  written : (room : Room) (first : ℕ) (before : List Texts) (vs : List DrawnVoice)
+      → map marks_shape (written_parts keys lengths room a b first before vs) ≡ map marks_shape (written_parts keys lengths (no_room room.verses) a b first before (map flat_all vs))
+  written room first before [] = refl
+  written room first before (v ∷ vs) =
+      let place : Place = record { room = room; first = first; before = before } in
+      let part = own_part keys lengths (Some place) a b v in
+      let other = own_part keys lengths (Some (unplaced place)) a b (flat_all v) in
+      ap (λ t. t ∷ map marks_shape (written_parts keys lengths room a b (first + v.verses) (texts_behind (length keys) before part) vs)) (own place v)
+      ∙ ap (λ t. marks_shape other ∷ t) (written room (first + v.verses) (texts_behind (length keys) before part) vs
+      ∙ ap (λ t. map marks_shape (written_parts keys lengths (no_room room.verses) a b (first + v.verses) t (map flat_all vs))) (same_texts (length keys) before part other (own place v)))
+
+  all_bridges : (vs : List DrawnVoice) → map (span keys) (flat_map (bridges_of lengths a b) vs) ≡ map (span keys) (flat_map (bridges_of lengths a b) (map flat_all vs))
+  all_bridges [] = refl
+  all_bridges (v ∷ vs) = joined (span keys) (bridges_of lengths a b v) (flat_map (bridges_of lengths a b) vs) (bridges_of lengths a b (flat_all v)) _ (bridges v) (all_bridges vs)
+
+  -- a staff of voices with all ends at 0
+  abbrev flat_staff : ℕ → List DrawnVoice → List Laid
+  flat_staff verses vs =
+      by_columns (length keys) (map marks_shape (written_parts keys lengths (no_room verses) a b 1 [] vs)) ++ map (span keys) (flat_map (bridges_of lengths a b) vs)
+
+  staff : (vs : List DrawnVoice) → staff_shape (staff_marks keys lengths a b vs) ≡ flat_staff (verses_on vs) (map flat_all vs)
   unfolding staff_marks staff_over room_over
-  staff v = voice (room_over v.verses (voice_marks keys lengths None a b v)) v
+  staff vs =
+      let room = room_over (verses_on vs) (bare_marks keys lengths a b vs) in
+      let parts = written_parts keys lengths room a b 1 [] vs in
+      let bridges = flat_map (bridges_of lengths a b) vs in
+      map-append laid_shape (by_columns (length keys) parts) (map (bridge_at keys) bridges)
+      ∙ ap (λ t. t ++ marks_shape (map (bridge_at keys) bridges)) (columns_shaped (length keys) parts ∙ ap (by_columns (length keys)) (written room 1 [] vs))
+      ∙ ap (λ t. by_columns (length keys) (map marks_shape (written_parts keys lengths (no_room (verses_on vs)) a b 1 [] (map flat_all vs))) ++ t)
+      (map-map laid_shape (bridge_at keys) bridges ∙ all_bridges vs)
 
-  each_alike : (at : List ℤ) (vs : List Voice) → map staff_shape (map (staff_of keys lengths a b) vs) ≡ map staff_shape (map (tilted_staff_of keys lengths at a b) vs)
+  tilted_flat : (at : List ℤ) (vs : List DrawnVoice) → map flat_all (map (voice_tilted keys at a b) vs) ≡ map flat_all vs
+  tilted_flat at [] = refl
+  tilted_flat at (v ∷ vs) =
+      ap (λ t. record v { measures = t } ∷ map flat_all (map (voice_tilted keys at a b) vs)) (flat_voice a _ v) ∙ ap (λ t. flat_all v ∷ t) (tilted_flat at vs)
+
+  each_alike : (at : List ℤ) (staves : List (List DrawnVoice)) → map staff_shape (map (staff_marks keys lengths a b) staves) ≡ map staff_shape (map (tilted_staff keys lengths at a b) staves)
   each_alike at [] = refl
-  each_alike at (v ∷ vs) =
-      let d = drawn_voice v in
-      ap (λ x. x ∷ map staff_shape (map (staff_of keys lengths a b) vs))
-      (staff d ∙ ap (λ t. marks_shape (voice_marks keys lengths (Some (no_room d.verses)) a b (record d { measures = t }))) (sym (flat_voice a _ d)) ∙ sym (staff (voice_tilted keys at a b d)))
-      ∙ ap (λ xs. staff_shape (tilted_staff_of keys lengths at a b v) ∷ xs) (each_alike at vs)
+  each_alike at (vs ∷ staves) =
+      let tilted = map (voice_tilted keys at a b) vs in
+      ap (λ x. x ∷ map staff_shape (map (staff_marks keys lengths a b) staves))
+      (staff vs ∙ ap (λ n. flat_staff n (map flat_all vs)) (ap sum (sym (map-map (λ v. v.verses) (voice_tilted keys at a b) vs))) ∙ ap (flat_staff (verses_on tilted)) (sym (tilted_flat at vs)) ∙ sym (staff tilted))
+      ∙ ap (λ xs. staff_shape (tilted_staff keys lengths at a b vs) ∷ xs) (each_alike at staves)
 
 -- ---- tilted marks
+tilted_fit : (keys : List ColumnKey) (at : List ℤ) (a b : ℕ) (vs : List DrawnVoice) → AllByRecursion FitsVoice vs → AllByRecursion FitsVoice (map (voice_tilted keys at a b) vs)
+tilted_fit keys at a b [] fit = tt
+tilted_fit keys at a b (v ∷ vs) fit = (ended_fits v.verses a _ v fit.0, tilted_fit keys at a b vs fit.1)
+
+staves_tilted : (keys : List ColumnKey) (at : List ℤ) (a b : ℕ) (staves : List (List DrawnVoice)) → AllByRecursion (AllByRecursion FitsVoice) staves → AllByRecursion (AllByRecursion FitsVoice) (map (map (voice_tilted keys at a b)) staves)
+staves_tilted keys at a b [] fit = tt
+staves_tilted keys at a b (vs ∷ staves) fit = (tilted_fit keys at a b vs fit.0, staves_tilted keys at a b staves fit.1)
+
 module _ (s : Score) (t : Timeline) (a b : ℕ) (at : List ℤ) (m : SystemMarks) (is : IsTilted s t a b at m) where
   pub tilted_alike : (flat : SystemMarks) → IsCall s t a b flat → AreAlike flat m
   tilted_alike flat call =
@@ -338,11 +412,10 @@ module _ (s : Score) (t : Timeline) (a b : ℕ) (at : List ℤ) (m : SystemMarks
         from = call.from ∙ sym is.from;
         to = call.to ∙ sym is.to;
         keys = same;
-        staves = ap (map staff_shape) (call.staves ∙ ap (λ ks. map (staff_of ks t.lengths a b) s.voices) same) ∙ each_alike m.keys t.lengths a b at s.voices ∙ ap (map staff_shape) (sym is.staves);
+        staves = ap (map staff_shape) (call.staves ∙ ap (λ ks. map (staff_marks ks t.lengths a b) (drawn_staves s)) same) ∙ each_alike m.keys t.lengths a b at (drawn_staves s) ∙ ap (map staff_shape) (sym is.staves);
       }
 
   pub tilted_good : IsGoodScore s → All (λ staff. AreGoodMarks staff.marks) m.staves
   tilted_good good =
-      subst (All (λ staff. AreGoodMarks staff.marks)) (sym is.staves)
-      (All-map (λ staff. AreGoodMarks staff.marks) (tilted_staff_of m.keys t.lengths at a b) s.voices
-      (λ k d inside. staff_all _ m.keys IsGood (goods _ m.keys) t.lengths a b (voice_tilted m.keys at a b (drawn_voice _)) (ended_fits _ a _ (drawn_voice _) (voice_fits _ (good.voices k d inside)))))
+      subst (All (λ staff. AreGoodMarks staff.marks)) (map-map (staff_marks m.keys t.lengths a b) (map (voice_tilted m.keys at a b)) (drawn_staves s) ∙ sym is.staves)
+      (staves_good m.keys t.lengths a b (map (map (voice_tilted m.keys at a b)) (drawn_staves s)) (staves_tilted m.keys at a b (drawn_staves s) (staves_fit s good)))

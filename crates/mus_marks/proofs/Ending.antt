@@ -1,15 +1,10 @@
 -- Events with other ends: the walks that write them, what stays as it was, and how it is undone.
-use Rattle.std.proofs.Common.{◌≡◌, ◌∙◌, ℕ, zero, suc, ℤ, pos, ◌+◌, ◌<◌, ◌≤◌, List, [], ◌∷◌, ◌++◌, length, get_or, set, take, drop, map, refl, sym, ap, arith}
-use Rattle.std.specs.List.{AllByRecursion}
-use Rattle.std.proofs.lemmas.List.{length-map, map-append, set-get_or, take-append-drop}
+use Rattle.std.proofs.Common.{◌≡◌, ◌∙◌, ℕ, zero, suc, ℤ, pos, ◌+◌, ◌<◌, ◌≤◌, List, [], ◌∷◌, ◌++◌, length, get_or, set, take, drop, map, refl, sym, ap, subst, arith}
+use Rattle.std.{proofs.lemmas.List.length-map, proofs.lemmas.List.map-append, proofs.lemmas.List.set-get_or, proofs.lemmas.List.take-append-drop, proofs.lemmas.List.Elements.All-from_recursion, proofs.lemmas.List.Elements.recursion_from_All, specs.List.All, specs.List.AllByRecursion}
 use Rattle.mus_time.specs.declared.keys.ColumnKey.{ColumnKey}
 use Rattle.mus_stems.proofs.RunLaws.{all_append, all_drop, all_take}
-use Rattle.mus_drawn.specs.declared.drawn.DrawnEvent.{DrawnEvent}
-use Rattle.mus_drawn.specs.declared.drawn.DrawnMeasure.{DrawnMeasure}
-use Rattle.mus_drawn.specs.declared.drawn.DrawnVoice.{DrawnVoice}
-use Rattle.mus_drawn.specs.Good.{AreGoodMeasures, IsGoodDrawn, IsGoodMeasure}
-use Rattle.mus_marks.specs.Tilt.{event_ended, measure_ended, over, plain_ends, sloped_over, voice_ended}
-use Rattle.mus_marks.proofs.Parts.{Fits, FitsEvent, FitsMeasure}
+use Rattle.mus_drawn.specs.{declared.drawn.DrawnEvent.DrawnEvent, declared.drawn.DrawnMeasure.DrawnMeasure, declared.drawn.DrawnVoice.DrawnVoice, Good.AreGoodMeasures, Good.IsGoodDrawn, Good.IsGoodMeasure}
+use Rattle.mus_marks.{specs.Tilt.event_ended, specs.Tilt.measure_ended, specs.Tilt.over, specs.Tilt.plain_ends, specs.Tilt.sloped_over, specs.Tilt.voice_ended, proofs.Parts.Fits, proofs.Parts.FitsEvent, proofs.Parts.FitsMeasure}
 
 -- ---- f of each element and what a list has for it
 module _ {A B : Type 0} (f : B → A → A) where
@@ -130,3 +125,9 @@ ended_back a n ends v within few =
 pub sloped_length : (keys : List ColumnKey) (at : List ℤ) (m : ℕ) (ds : List DrawnMeasure) → length (sloped_over keys at m ds) ≡ length ds
 sloped_length keys at m [] = refl
 sloped_length keys at m (d ∷ ds) = ap suc (sloped_length keys at (m + 1) ds)
+
+-- voices whose measures have other ends have as many
+pub ended_long : (a : ℕ) (ends : List (List (List ℤ))) (vs ws : List DrawnVoice) → All (λ v. a ≤ length v.measures) vs → ws ≡ over (voice_ended a) ends vs → All (λ v. a ≤ length v.measures) ws
+ended_long a ends vs ws long is =
+    subst (All (λ v. a ≤ length v.measures)) (sym is) (All-from_recursion (λ v. a ≤ length v.measures) (over (voice_ended a) ends vs)
+    (over_all (voice_ended a) (λ v. a ≤ length v.measures) (λ es v h. omega (arith, h, ended_length a es v)) ends vs (recursion_from_All (λ v. a ≤ length v.measures) vs long)))

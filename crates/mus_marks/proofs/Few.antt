@@ -1,24 +1,11 @@
 -- A system has fewer columns than ranks have numbers.
 use Rattle.std.proofs.Common.{◌≡◌, ◌∙◌, ℕ, zero, suc, ◌+◌, ◌-◌, ◌*◌, ◌≤◌, ◌<◌, Bool, true, false, not, ◌&&◌, ◌==◌, if◌then◌else◌, List, [], ◌∷◌, ◌++◌, length, length-append, drop, refl, sym, ap, subst, arith}
+use Rattle.std.proofs.{lemmas.List.length-take, lemmas.List.Sums.count_by-le-length, lemmas.List.Sums.length-filter, lemmas.List.Sums.sum_by-cons, lemmas.List.Elements.recursion_from_All}
 use Rattle.std.specs.List.{AllByRecursion, Contains, flat_map, slice_index, slice_index_or, slice_range, sum_by}
-use Rattle.std.proofs.lemmas.List.{length-take}
-use Rattle.std.proofs.lemmas.List.Sums.{sum_by-cons}
-use Rattle.std.proofs.lemmas.List.Elements.{recursion_from_All}
-use Rattle.mus_score.specs.declared.score.Event.{Event}
-use Rattle.mus_score.specs.declared.score.Flat.{Flat}
-use Rattle.mus_score.specs.declared.score.Measure.{Measure}
-use Rattle.mus_score.specs.declared.score.Score.{Score}
-use Rattle.mus_score.specs.declared.score.Voice.{Voice}
-use Rattle.mus_score.specs.Good.{IsGoodBody, flat_count, total_ticks}
-use Rattle.mus_score.specs.GoodScore.{IsGoodScore, IsGoodVoice}
-use Rattle.mus_score.specs.Times.{flats_of}
+use Rattle.mus_score.specs.{declared.score.Event.Event, declared.score.Flat.Flat, declared.score.Measure.Measure, declared.score.Score.Score, declared.score.Voice.Voice, Good.IsGoodBody, Good.flat_count, Good.total_ticks, Seats.is_lower, GoodScore.IsGoodScore, GoodScore.IsGoodVoice, Times.flats_of}
 use Rattle.mus_score.proofs.Bounds.{flats_few}
-use Rattle.mus_time.specs.declared.keys.ColumnKey.{ColumnKey}
-use Rattle.mus_time.specs.declared.keys.Class.TheVariants as classes
-use Rattle.mus_time.specs.Keys.{AreKeys, called_keys, change_has_mark, change_keys, event_keys, events_keys, first_keys, grace_keys, has_features, key_at, measures_keys, signed_after, signed_at, signed_through, voice_keys, measure_keys, further_keys}
-use Rattle.mus_time.specs.Order.{BelowAll, Rises, is_below}
-use Rattle.mus_time.proofs.Orders.{not_itself}
-use Rattle.mus_time.proofs.RankLaws.{false_not_true}
+use Rattle.mus_time.specs.Keys.{all_keys, AreKeys, called_keys, change_has_mark, change_keys, event_keys, events_keys, first_keys, grace_keys, has_features, is_for_each, key_at, keys_by, measures_keys, signed_after, signed_at, signed_through, voice_keys, measure_keys, further_keys}
+use Rattle.mus_time.{specs.declared.keys.ColumnKey.ColumnKey, specs.Order.BelowAll, specs.Order.Rises, specs.Order.is_below, specs.declared.keys.Class.Class, proofs.Orders.not_itself, proofs.RankLaws.false_not_true}
 use Rattle.mus_stems.proofs.RunLaws.{all_drop, all_take}
 
 -- a list without the element at a place
@@ -71,9 +58,9 @@ event_few : (m tick : ℕ) (in_head signed : Bool) (f : Flat) → length (event_
 event_few m tick in_head signed f =
     let changes = change_keys m tick in_head signed f.event.changes in
     let graces = grace_keys m tick 0 f.graces in
-    let a = length-append (changes ++ graces) (key_at m tick classes.Note 0 ∷ []) in
+    let a = length-append (changes ++ graces) (key_at m tick Class.Note 0 ∷ []) in
     let b = length-append changes graces in
-    let c : length changes ≤ 1 = one_at_most (not in_head && change_has_mark signed f.event.changes) (key_at m tick classes.Change 0) in
+    let c : length changes ≤ 1 = one_at_most (not in_head && change_has_mark signed f.event.changes) (key_at m tick Class.Change 0) in
     let d = graces_few m tick 0 f.graces in
     omega (arith, a, b, c, d)
 
@@ -93,18 +80,26 @@ measures_few lengths m in_head signed (x ∷ xs) good =
     let here = events_few m in_head signed [] fs in
     let few = flats_few x.body good.0 in
     let more = measures_few lengths (m + 1) false (signed_through signed fs) xs good.1 in
-    let both = length-append (events_keys m in_head signed [] fs) (key_at m (slice_index lengths m) classes.Bar 0 ∷ measures_keys lengths (m + 1) false (signed_through signed fs) xs) in
+    let both = length-append (events_keys m in_head signed [] fs) (key_at m (slice_index lengths m) Class.Bar 0 ∷ measures_keys lengths (m + 1) false (signed_through signed fs) xs) in
     omega (arith, here, few, more, both)
 
-voice_few : (lengths : List ℕ) (a b : ℕ) (v : Voice) → b ≤ 2000 → IsGoodVoice v → length (voice_keys lengths a b v) ≤ 200002002
-voice_few lengths a b v within good =
+-- a voice has no more keys on its staff
+kept_few : (lower : Bool) (ks : List ColumnKey) → length (keys_by lower ks) ≤ length ks
+kept_few true ks = let count = length-filter is_for_each ks in omega (arith, count, count_by-le-length is_for_each ks)
+kept_few false ks = omega arith
+
+all_few : (lengths : List ℕ) (a b : ℕ) (v : Voice) → b ≤ 2000 → IsGoodVoice v → length (all_keys lengths a b v) ≤ 200002002
+all_few lengths a b v within good =
     let xs = slice_range v.measures a b in
     let bodies = all_take (λ x. IsGoodBody x.body) (b - a) (drop a v.measures) (all_drop (λ x. IsGoodBody x.body) a v.measures (recursion_from_All (λ m. IsGoodBody m.body) v.measures good.bodies)) in
     let more = measures_few lengths a true (signed_at a v) xs bodies in
     let count = length-take (b - a) (drop a v.measures) in
-    let first : length (first_keys a v.first) ≤ 1 = one_at_most ((a == 0) && has_features v.first) (key_at 0 0 classes.First 0) in
+    let first : length (first_keys a v.first) ≤ 1 = one_at_most ((a == 0) && has_features v.first) (key_at 0 0 Class.First 0) in
     let both = length-append (first_keys a v.first) (measures_keys lengths a true (signed_at a v) xs) in
     omega (arith, more, count, first, both, within)
+
+voice_few : (lengths : List ℕ) (a b : ℕ) (v : Voice) → b ≤ 2000 → IsGoodVoice v → length (voice_keys lengths a b v) ≤ 200002002
+voice_few lengths a b v within good = omega (arith, kept_few (is_lower v.seat) (all_keys lengths a b v), all_few lengths a b v within good)
 
 voices_few : (lengths : List ℕ) (a b : ℕ) (vs : List Voice) → b ≤ 2000 → AllByRecursion IsGoodVoice vs → length (flat_map (voice_keys lengths a b) vs) ≤ 200002002 * length vs
 voices_few lengths a b [] within good = omega arith
@@ -120,7 +115,7 @@ measure_few lengths m v good =
     let bodies = all_take (λ x. IsGoodBody x.body) (m + 1 - m) (drop m v.measures) (all_drop (λ x. IsGoodBody x.body) m v.measures (recursion_from_All (λ m. IsGoodBody m.body) v.measures good.bodies)) in
     let more = measures_few lengths m false (signed_at m v) xs bodies in
     let count : length xs ≤ 1 = omega (arith, length-take (m + 1 - m) (drop m v.measures)) in
-    omega (arith, more, count)
+    omega (arith, more, count, kept_few (is_lower v.seat) (measures_keys lengths m false (signed_at m v) xs))
 
 further_few : (lengths : List ℕ) (m : ℕ) (vs : List Voice) → AllByRecursion IsGoodVoice vs → length (flat_map (measure_keys lengths m) vs) ≤ 100001 * length vs
 further_few lengths m [] good = omega arith

@@ -1,8 +1,11 @@
--- Good measures: the first of them, and some of them.
+-- What holds of all elements holds of those behind the first; good measures: the first of them, and some of them.
 use Rattle.std.proofs.Common.{◌≡◌, ℕ, ◌≤◌, List, [], ◌∷◌, length, get_or, take, drop, subst, sym, arith}
+use Rattle.std.{proofs.lemmas.List.Elements.All-from_recursion, proofs.lemmas.List.Elements.recursion_from_All, specs.List.All}
 use Rattle.mus_stems.proofs.RunLaws.{all_drop, all_take}
-use Rattle.mus_drawn.specs.declared.drawn.DrawnMeasure.{DrawnMeasure}
-use Rattle.mus_drawn.specs.Good.{IsGoodMeasure, AreGoodMeasures}
+use Rattle.mus_drawn.specs.{declared.drawn.DrawnMeasure.DrawnMeasure, Good.IsGoodMeasure, Good.AreGoodMeasures}
+
+pub all_behind : {A : Type 0} (P : A → Type 0) (x : A) (xs all : List A) → all ≡ x ∷ xs → All P all → All P xs
+all_behind P x xs all is h = All-from_recursion P xs (recursion_from_All P (x ∷ xs) (subst (All P) is h)).1
 
 pub first_good : (ms : List DrawnMeasure) (m : DrawnMeasure) → 1 ≤ length ms → m ≡ get_or ms 0 m → AreGoodMeasures ms → IsGoodMeasure m
 first_good [] m some is good = absurd (omega (arith, some))

@@ -1,18 +1,9 @@
 -- Marks reach at least over the lines of their staff, and voices have as many measures drawn as they have.
 use Rattle.std.proofs.Common.{◌≡◌, ◌∙◌, ℕ, suc, ℤ, pos, ◌≤ℤ◌, List, [], ◌∷◌, length, map, refl, ap, arith}
-use Rattle.std.specs.List.{All}
-use Rattle.std.proofs.lemmas.Int.{ints, clamps}
-use Rattle.std.proofs.lemmas.List.Elements.{All-map}
-use Rattle.mus_units.specs.declared.note.Wish.{Wish}
-use Rattle.mus_score.specs.declared.score.Measure.{Measure}
-use Rattle.mus_score.specs.declared.score.Voice.{Voice}
-use Rattle.mus_score.specs.Times.{flats_of}
-use Rattle.mus_drawn.specs.declared.standing.Standing.{Standing}
-use Rattle.mus_drawn.specs.declared.drawn.DrawnVoice.{DrawnVoice}
-use Rattle.mus_drawn.specs.Drawn.{drawn_measures, drawn_voice, standing_behind, standing_of}
-use Rattle.mus_laid.specs.declared.boxes.Heights.{Heights}
-use Rattle.mus_laid.specs.declared.laid.Laid.{Laid}
-use Rattle.mus_laid.specs.Boxes.{heights, heights_of, over_marks, staff_heights, widened}
+use Rattle.std.{proofs.lemmas.Int.ints, proofs.lemmas.Int.clamps, proofs.lemmas.List.Elements.All-map, specs.List.All}
+use Rattle.mus_score.specs.{declared.score.Measure.Measure, declared.score.Voice.Voice, Times.flats_of}
+use Rattle.mus_drawn.specs.{declared.standing.Standing.Standing, declared.drawn.DrawnVoice.DrawnVoice, declared.drawn.Style.Style, Drawn.drawn_measures, Drawn.drawn_voice, Drawn.standing_behind, Drawn.standing_of, Drawn.style_of}
+use Rattle.mus_laid.specs.{declared.boxes.Heights.Heights, declared.laid.Laid.Laid, Boxes.heights, Boxes.heights_of, Boxes.over_marks, Boxes.staff_heights, Boxes.widened}
 use Rattle.mus_ink.specs.Drawing.{cut}
 use Rattle.mus_marks.specs.Staff.{CoversLines, staff_over}
 
@@ -39,13 +30,13 @@ covers all = (
   cut_high (staff_heights all).high (high_over (pos 2000) (heights (pos 0) (pos 2000)) all (omega (arith, ints))),
 )
 
-drawn_count : (wish : Wish) (now : Standing) (ms : List Measure) → length (drawn_measures wish now ms) ≡ length ms
-drawn_count wish now [] = refl
-drawn_count wish now (m ∷ ms) = ap suc (drawn_count wish (standing_behind now (flats_of m.body)) ms)
+drawn_count : (style : Style) (now : Standing) (ms : List Measure) → length (drawn_measures style now ms) ≡ length ms
+drawn_count style now [] = refl
+drawn_count style now (m ∷ ms) = ap suc (drawn_count style (standing_behind now (flats_of m.body)) ms)
 
 pub voice_count : (v : Voice) → length (drawn_voice v).measures ≡ length v.measures
 unfolding drawn_voice
-voice_count v = drawn_count v.stem (standing_of v) v.measures
+voice_count v = drawn_count (style_of v) (standing_of v) v.measures
 
 pub voices_count : (n : ℕ) (vs : List Voice) → All (λ v. length v.measures ≡ n) vs → All (λ (v : DrawnVoice). length v.measures ≡ n) (map drawn_voice vs)
 voices_count n vs h = All-map (λ v. length v.measures ≡ n) drawn_voice vs (λ k d inside. voice_count _ ∙ h k d inside)

@@ -1,11 +1,8 @@
 -- A rising list has its keys once and in order: there is one list of the keys of a system.
 use Rattle.std.proofs.Common.{◌≡◌, ◌∙◌, zero, suc, ◌⊎◌, inl, inr, true, List, [], ◌∷◌, refl, sym, ap, subst, arith}
-use Rattle.std.specs.List.{Contains}
-use Rattle.std.proofs.lemmas.Bool.Decides.{nat_tests}
-use Rattle.mus_time.specs.declared.keys.ColumnKey.{ColumnKey}
-use Rattle.mus_time.specs.Keys.{AreKeys}
-use Rattle.mus_time.specs.Order.{BelowAll, is_below, Rises}
-use Rattle.mus_marks.proofs.Inside.{here, there}
+use Rattle.std.{proofs.lemmas.Bool.Decides.nat_tests, specs.List.Contains}
+use Rattle.mus_time.specs.{declared.keys.ColumnKey.ColumnKey, Keys.AreKeys, Order.BelowAll, Order.is_below, Order.Rises}
+use Rattle.mus_marks.proofs.Inside.{here, none_there, there}
 
 not_both : (k l : ColumnKey) → is_below k l ≡ true → is_below l k ≡ true → ⊥
 unfolding is_below
@@ -19,9 +16,6 @@ below_in k l (m ∷ ls) below (suc i, inside, is) = below_in k l ls below.1 (i, 
 pub first_or : (x y : ColumnKey) (ys : List ColumnKey) → Contains (y ∷ ys) x → (y ≡ x) ⊎ Contains ys x
 first_or x y ys (zero, inside, is) = inl is
 first_or x y ys (suc i, inside, is) = inr (i, omega (arith, inside), is)
-
-pub none_in : (x : ColumnKey) → Contains [] x → ⊥
-none_in x (i, inside, is) = omega (arith, inside)
 
 heads_same : (x y : ColumnKey) (xs ys : List ColumnKey) → BelowAll x xs → BelowAll y ys → (y ≡ x) ⊎ Contains ys x → (x ≡ y) ⊎ Contains xs y → x ≡ y
 heads_same x y xs ys bx by (inl e) h = sym e
@@ -40,8 +34,8 @@ behind x y xs ys e below all k h = by (first_or k y ys (all k (there k x xs h)))
 
 pub unique : (xs ys : List ColumnKey) → Rises xs → Rises ys → ((k : ColumnKey) → Contains xs k → Contains ys k) → ((k : ColumnKey) → Contains ys k → Contains xs k) → xs ≡ ys
 unique [] [] rx ry all only = refl
-unique [] (y ∷ ys) rx ry all only = absurd (none_in y (only y (here y ys)))
-unique (x ∷ xs) [] rx ry all only = absurd (none_in x (all x (here x xs)))
+unique [] (y ∷ ys) rx ry all only = absurd (none_there y (only y (here y ys)))
+unique (x ∷ xs) [] rx ry all only = absurd (none_there x (all x (here x xs)))
 unique (x ∷ xs) (y ∷ ys) rx ry all only =
     let e = heads_same x y xs ys rx.0 ry.0 (first_or x y ys (all x (here x xs))) (first_or y x xs (only y (here y ys))) in
     let more = unique xs ys rx.1 ry.1 (behind x y xs ys e rx.0 all) (behind y x ys xs (sym e) ry.0 only) in

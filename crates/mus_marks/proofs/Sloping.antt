@@ -1,26 +1,12 @@
 -- Stems of drawn events can end on lines: own ends and abscissas are in range, and abscissas rise from event to event.
-use Rattle.std.proofs.Common.{◌≡◌, ℕ, zero, suc, ℤ, pos, ◌+◌, ◌-◌, ◌<◌, ◌<ℤ◌, List, [], ◌∷◌, length, map, drop, subst, arith}
-use Rattle.std.proofs.lemmas.Int.{ints}
-use Rattle.std.proofs.lemmas.List.{get_or-map, length-map}
-use Rattle.std.proofs.lemmas.List.Elements.{All-map}
-use Rattle.std.specs.List.{All, AllByRecursion, slice_index_or, slice_range}
-use Rattle.mus_score.specs.declared.score.Score.{Score}
-use Rattle.mus_score.specs.GoodScore.{IsGoodScore}
-use Rattle.mus_time.specs.declared.keys.ColumnKey.{ColumnKey}
-use Rattle.mus_time.specs.declared.times.Timeline.{Timeline}
-use Rattle.mus_time.specs.Keys.{AreKeys, called_keys}
-use Rattle.mus_time.proofs.RankLaws.{rank_less, rank_rises_more}
-use Rattle.mus_stems.specs.Slope.{anchor_of, AreAnchors, IsPlace, RisesAfter, RisesInBeams}
-use Rattle.mus_stems.proofs.RunLaws.{all_drop, all_take}
-use Rattle.mus_drawn.specs.declared.drawn.DrawnEvent.{DrawnEvent}
-use Rattle.mus_drawn.specs.declared.drawn.DrawnMeasure.{DrawnMeasure}
-use Rattle.mus_drawn.specs.Drawn.{drawn_voice}
-use Rattle.mus_drawn.specs.Good.{AreGoodDrawn, AreGoodMeasures}
-use Rattle.mus_marks.specs.Events.{note_key, note_rank}
-use Rattle.mus_marks.specs.Tilt.{AllCanTilt, AreAbscissas, anchor_at}
-use Rattle.mus_marks.proofs.GoingOn.{AllGoOn, GoOn, later_below, voice_goes_on}
-use Rattle.mus_marks.proofs.Goods.{good_slice}
-use Rattle.mus_marks.proofs.Inside.{HasEvent, HasMeasures, measures_inside}
+use Rattle.std.proofs.Common.{◌≡◌, ℕ, zero, suc, ℤ, pos, ◌+◌, ◌-◌, ◌<◌, ◌≤◌, ◌<ℤ◌, List, [], ◌∷◌, length, map, drop, subst, arith}
+use Rattle.std.{proofs.lemmas.Int.ints, proofs.lemmas.List.get_or-map, proofs.lemmas.List.length-map, proofs.lemmas.List.Elements.All-map, specs.List.All, specs.List.AllByRecursion, specs.List.slice_index_or, specs.List.slice_range}
+use Rattle.mus_score.specs.{declared.score.Score.Score, GoodScore.IsGoodScore}
+use Rattle.mus_time.{specs.declared.keys.ColumnKey.ColumnKey, specs.declared.times.Timeline.Timeline, specs.Keys.AreKeys, specs.Keys.called_keys, proofs.RankLaws.rank_less, proofs.RankLaws.rank_rises_more}
+use Rattle.mus_stems.{specs.Slope.anchor_of, specs.Slope.AreAnchors, specs.Slope.IsPlace, specs.Slope.RisesAfter, specs.Slope.RisesInBeams, proofs.RunLaws.all_drop, proofs.RunLaws.all_take}
+use Rattle.mus_drawn.specs.{declared.drawn.DrawnEvent.DrawnEvent, declared.drawn.DrawnMeasure.DrawnMeasure, Drawn.drawn_voice, Good.AreGoodDrawn, Good.AreGoodMeasures}
+use Rattle.mus_marks.{specs.Events.note_key, specs.Events.note_rank, specs.Tilt.AllCanTilt, specs.Tilt.AreAbscissas, specs.Tilt.anchor_at, proofs.GoingOn.AllGoOn, proofs.GoingOn.GoOn, proofs.GoingOn.later_below, proofs.GoingOn.voice_goes_on, proofs.Goods.good_slice, proofs.Inside.HasEvent}
+use Rattle.mus_marks.proofs.Inside.{HasMeasures, measures_inside}
 
 module _ (s : Score) (t : Timeline) (a b : ℕ) (keys : List ColumnKey) (at : List ℤ) (places : AreAbscissas s t a b at) (are : AreKeys keys (called_keys s t.lengths a b)) where
   further : (i n : ℕ) → i + suc n < length at → slice_index_or at i (pos 0) <ℤ slice_index_or at (i + suc n) (pos 0)
@@ -64,11 +50,11 @@ module _ (s : Score) (t : Timeline) (a b : ℕ) (keys : List ColumnKey) (at : Li
       (record { anchors = all_in m d.events has.0.events good.0.events; rise = rises m d.events has.0.events on.0 }, measures (m + 1) ds has.1 good.1 on.1)
 
   -- each voice of a good score
-  pub voices_can : IsGoodScore s → All (λ v. AreGoodMeasures v.measures) (map drawn_voice s.voices) → All (λ v. AllCanTilt keys at a (slice_range v.measures a b)) (map drawn_voice s.voices)
-  voices_can good drawn = All-map (λ v. AllCanTilt keys at a (slice_range v.measures a b)) drawn_voice s.voices (λ k d inside.
+  pub voices_can : IsGoodScore s → b ≤ s.measures → All (λ v. AreGoodMeasures v.measures) (map drawn_voice s.voices) → All (λ v. AllCanTilt keys at a (slice_range v.measures a b)) (map drawn_voice s.voices)
+  voices_can good within drawn = All-map (λ v. AllCanTilt keys at a (slice_range v.measures a b)) drawn_voice s.voices (λ k d inside.
       let v = slice_index_or s.voices k d in
       let ds = (drawn_voice v).measures in
       let count = length-map s.voices drawn_voice in
       let goods = subst (λ w. AreGoodMeasures w.measures) (get_or-map drawn_voice s.voices k d (drawn_voice d) inside) (drawn k (drawn_voice d) (omega (arith, inside, count))) in
-      measures a (slice_range ds a b) (measures_inside s t.lengths a b keys are k d inside) (good_slice a (b - a) ds goods)
+      measures a (slice_range ds a b) (measures_inside s t.lengths a b keys good within are k d inside) (good_slice a (b - a) ds goods)
       (all_take (λ d. GoOn d.events) (b - a) (drop a ds) (all_drop (λ d. GoOn d.events) a ds (voice_goes_on v (good.voices k d inside)))))

@@ -1,17 +1,11 @@
 -- What a voice has between the columns of a system: the beams of notes, those of graces, and the arcs.
 use Rattle.std.specs.Prelude.{ℕ, ◌+◌, List, [], ◌∷◌, ◌++◌, length, map, flat_map, slice_range}
 use Rattle.mus_score.specs.declared.score.Event.{Event}
-use Rattle.mus_time.specs.declared.keys.Class.TheVariants as classes
-use Rattle.mus_time.specs.Keys.{key_at}
+use Rattle.mus_time.specs.{declared.keys.Class.Class, Keys.key_at}
 use Rattle.mus_laid.specs.declared.drawn.Bridge.{Bridge}
-use Rattle.mus_ink.specs.declared.beams.Stem.{Stem}
-use Rattle.mus_ink.specs.Beams.{beam_marks, stem_of}
-use Rattle.mus_ink.specs.Graces.{grace_beam, group_of}
-use Rattle.mus_drawn.specs.declared.drawn.DrawnEvent.{DrawnEvent}
-use Rattle.mus_drawn.specs.declared.drawn.DrawnMeasure.{DrawnMeasure}
-use Rattle.mus_drawn.specs.declared.drawn.DrawnVoice.{DrawnVoice}
-use Rattle.mus_marks.specs.Arcs.{arcs_between}
-use Rattle.mus_marks.specs.Events.{note_key}
+use Rattle.mus_ink.specs.{declared.beams.Stem.Stem, Beams.beam_marks, Beams.stem_of, Graces.grace_beam, Graces.group_of}
+use Rattle.mus_drawn.specs.{declared.drawn.DrawnEvent.DrawnEvent, declared.drawn.DrawnMeasure.DrawnMeasure, declared.drawn.DrawnVoice.DrawnVoice}
+use Rattle.mus_marks.specs.{Arcs.arcs_between, Events.note_key}
 
 -- the beams of notes, measure by measure from number m on
 abbrev pub stem_at : ℕ → DrawnEvent → Stem
@@ -25,7 +19,7 @@ beams_between m (d ∷ ds) = beam_marks (map (stem_at m) d.events) ++ beams_betw
 abbrev pub beam_over : ℕ → DrawnEvent → List Event → List Bridge
 beam_over m e [] = []
 beam_over m e (g ∷ gs) =
-    grace_beam (key_at m e.tick classes.Grace 0) (key_at m e.tick classes.Grace (length gs)) (group_of e.clef e.flat.graces e.flat.slash)
+    grace_beam (key_at m e.tick Class.Grace 0) (key_at m e.tick Class.Grace (length gs)) (group_of e.clef e.flat.graces e.flat.slash)
 
 abbrev pub event_grace_beam : ℕ → DrawnEvent → List Bridge
 event_grace_beam m e = beam_over m e e.flat.graces

@@ -1,6 +1,7 @@
 pub mod Arcs
 pub mod Bridges
 pub mod Events
+pub mod Places
 pub mod Staff
 pub mod System
 pub mod Tilt

@@ -1,60 +1,101 @@
--- The marks of a staff in a system: the head, the bar before the first measure, the measures, then
--- the beams of notes, those of graces, and the arcs.
-use Rattle.std.specs.Prelude.{ℕ, pos, ◌≤ℤ◌, ◌==◌, true, ◌&&◌, ◌||◌, if◌then◌else◌, List, [], ◌∷◌, ◌++◌, map, slice_range, Option, Some, None}
-use Rattle.mus_units.specs.declared.key.Meter.{Meter}
-use Rattle.mus_units.specs.declared.note.Bar.{Bar}
-use Rattle.mus_time.specs.declared.keys.Class.TheVariants as classes
-use Rattle.mus_time.specs.declared.keys.ColumnKey.{ColumnKey}
-use Rattle.mus_time.specs.Keys.{has_features, head_key}
-use Rattle.mus_time.specs.Order.{rank_of}
-use Rattle.mus_time.specs.Ranks.{rank_at}
-use Rattle.mus_laid.specs.declared.laid.Laid.{Laid}
-use Rattle.mus_laid.specs.declared.laid.StaffMarks.{StaffMarks}
-use Rattle.mus_laid.specs.Boxes.{staff_heights}
-use Rattle.mus_laid.specs.Ranked.{bridge_at, drawn_at}
-use Rattle.mus_ink.specs.Bars.{bar_marks}
-use Rattle.mus_ink.specs.Changes.{head_marks}
-use Rattle.mus_ink.specs.Drawing.{cut}
-use Rattle.mus_drawn.specs.declared.drawn.DrawnMeasure.{DrawnMeasure}
-use Rattle.mus_drawn.specs.declared.drawn.DrawnVoice.{DrawnVoice}
-use Rattle.mus_drawn.specs.declared.drawn.Opening.{Opening}
-use Rattle.mus_marks.specs.declared.events.Room.{Room}
-use Rattle.mus_marks.specs.Bridges.{bridges_of}
-use Rattle.mus_marks.specs.Events.{measures_marks}
+-- The marks of a staff in a system, of the voices that stand on it: in the columns the head, the bar before the first measure and
+-- the measures; then the beams of notes, those of graces, and the arcs.
+use Rattle.std.specs.Prelude.{ℕ, ◌+◌, pos, ◌≤ℤ◌, ◌==◌, Bool, true, false, not, ◌&&◌, ◌||◌, if◌then◌else◌, List, [], ◌∷◌, ◌++◌, length, map, sum, flat_map, count_by, slice_range, slice_index_or, Option, Some, None}
+use Rattle.std.specs.List.{range_with_len}
+use Rattle.mus_units.specs.{declared.key.Meter.Meter, declared.note.Bar.Bar}
+use Rattle.mus_score.specs.{declared.score.Seat.Seat, Seats.is_lower}
+use Rattle.mus_time.specs.{declared.keys.Class.Class, declared.keys.ColumnKey.ColumnKey, Keys.has_features, Keys.head_key, Order.rank_of, Ranks.rank_at}
+use Rattle.mus_laid.specs.{declared.laid.Laid.Laid, declared.laid.Lane.Lane, declared.laid.Mark.Mark, declared.laid.StaffMarks.StaffMarks, Boxes.staff_heights, Ranked.bridge_at, Ranked.by_columns, Ranked.drawn_at, Ranked.stands_at}
+use Rattle.mus_ink.specs.{Bars.bar_marks, Changes.head_marks, Drawing.cut}
+use Rattle.mus_drawn.specs.{declared.drawn.DrawnMeasure.DrawnMeasure, declared.drawn.DrawnVoice.DrawnVoice, declared.drawn.Opening.Opening}
+use Rattle.mus_marks.specs.{declared.events.Place.Place, declared.events.Room.Room, declared.events.Texts.Texts, Bridges.bridges_of, Events.measures_marks, Events.no_texts}
 
 -- the meter is drawn where the voice begins and where it changes
 abbrev pub meter_shown : ℕ → Opening → Option Meter
 meter_shown a o = if (a == 0) || o.anew then Some o.meter else None
 
--- the head, by the first of the system's measures
+-- the head, by the first of the system's measures; the first voice of a staff draws it
 abbrev pub head_part : List ColumnKey → ℕ → List DrawnMeasure → List Laid
 head_part keys a [] = []
-head_part keys a (d ∷ ds) = map (drawn_at (rank_of keys (head_key a))) (head_marks d.opening.clef d.opening.key.signs (meter_shown a d.opening))
+head_part keys a (d ∷ ds) =
+    if is_lower d.seat then []
+    else map (drawn_at (rank_of keys (head_key a))) (head_marks d.opening.clef d.opening.key.signs (meter_shown a d.opening))
 
--- the bar before the first measure, where it has features
-abbrev pub first_part : List ColumnKey → ℕ → Bar → List Laid
-first_part keys a bar = if (a == 0) && has_features bar then map (drawn_at (rank_at keys 0 0 classes.First 0)) (bar_marks bar) else []
+-- the bar before the first measure, where it has features; the first voice of a staff draws it
+abbrev pub first_part : List ColumnKey → ℕ → Seat → Bar → List Laid
+first_part keys a seat bar =
+    if not (is_lower seat) && (a == 0) && has_features bar then map (drawn_at (rank_at keys 0 0 Class.First 0)) (bar_marks bar) else []
 
-unfoldable pub columns_part : List ColumnKey → List ℕ → Option Room → ℕ → Bar → List DrawnMeasure → List Laid
-columns_part keys lengths room a first ds = head_part keys a ds ++ first_part keys a first ++ measures_marks keys lengths room a true ds
+unfoldable pub columns_part : List ColumnKey → List ℕ → Option Place → ℕ → Seat → Bar → List DrawnMeasure → List Laid
+columns_part keys lengths place a seat first ds = head_part keys a ds ++ first_part keys a seat first ++ measures_marks keys lengths place a true ds
 
--- the marks of a voice in measures a to b - 1, with its syllables and texts where their room is known: column by
--- column, then what goes between columns
-unfoldable pub voice_marks : List ColumnKey → List ℕ → Option Room → ℕ → ℕ → DrawnVoice → List Laid
-voice_marks keys lengths room a b v =
-    columns_part keys lengths room a v.first (slice_range v.measures a b) ++ map (bridge_at keys) (bridges_of lengths a b v)
+-- what a voice has in the columns of measures a to b - 1, with its syllables and texts where their place is known
+abbrev pub own_part : List ColumnKey → List ℕ → Option Place → ℕ → ℕ → DrawnVoice → List Laid
+own_part keys lengths place a b v = columns_part keys lengths place a v.seat v.first (slice_range v.measures a b)
 
--- marks, and how low and how high they reach
-unfoldable pub staff_over : List Laid → StaffMarks
-staff_over all = record { marks = all; low = cut (staff_heights all).low; high = cut (staff_heights all).high }
+-- what the voices of a staff have between columns
+abbrev pub staff_bridges : List ColumnKey → List ℕ → ℕ → ℕ → List DrawnVoice → List Laid
+staff_bridges keys lengths a b voices = map (bridge_at keys) (flat_map (bridges_of lengths a b) voices)
+
+-- all marks of a staff but syllables and texts
+abbrev pub bare_marks : List ColumnKey → List ℕ → ℕ → ℕ → List DrawnVoice → List Laid
+bare_marks keys lengths a b voices = flat_map (own_part keys lengths None a b) voices ++ staff_bridges keys lengths a b voices
 
 -- syllables and texts stand outside of all other marks of their staff
 unfoldable pub room_over : ℕ → List Laid → Room
 room_over verses others = record { low = cut (staff_heights others).low; high = cut (staff_heights others).high; verses = verses }
 
-unfoldable pub staff_marks : List ColumnKey → List ℕ → ℕ → ℕ → DrawnVoice → StaffMarks
-staff_marks keys lengths a b v =
-    staff_over (voice_marks keys lengths (Some (room_over v.verses (voice_marks keys lengths None a b v))) a b v)
+-- the verses of a staff are those of its voices, one after the other
+abbrev pub verses_on : List DrawnVoice → ℕ
+verses_on voices = sum (map (λ v. v.verses) voices)
+
+-- a text that stands in the column of rank r, above the staff and below it
+abbrev pub is_above : Lane → Bool
+is_above Lane.Above = true
+is_above _ = false
+
+abbrev pub is_below_staff : Lane → Bool
+is_below_staff Lane.Below = true
+is_below_staff _ = false
+
+abbrev pub is_words : Mark → Bool
+is_words (Mark.Words size rank dx dy text) = true
+is_words _ = false
+
+abbrev pub text_above : ℕ → Laid → Bool
+text_above r x = stands_at r x && is_words x.mark && is_above x.lane
+
+abbrev pub text_below : ℕ → Laid → Bool
+text_below r x = stands_at r x && is_words x.mark && is_below_staff x.lane
+
+-- the texts that a column has behind those of a part, where it had some before
+abbrev pub texts_with : Texts → List Laid → ℕ → Texts
+texts_with before part r = record {
+  above = before.above + count_by (text_above r) part;
+  below = before.below + count_by (text_below r) part;
+}
+
+-- of n columns
+abbrev pub texts_behind : ℕ → List Texts → List Laid → List Texts
+texts_behind n before part = map (λ r. texts_with (slice_index_or before r no_texts) part r) (range_with_len 0 n)
+
+-- the voices of a staff one after the other, each behind the verses and the texts of those before it
+abbrev pub written_parts : List ColumnKey → List ℕ → Room → ℕ → ℕ → ℕ → List Texts → List DrawnVoice → List (List Laid)
+written_parts keys lengths room a b first before [] = []
+written_parts keys lengths room a b first before (v ∷ vs) =
+    let part = own_part keys lengths (Some (record { room = room; first = first; before = before })) a b v in
+    part ∷ written_parts keys lengths room a b (first + v.verses) (texts_behind (length keys) before part) vs
+
+-- marks, and how low and how high they reach
+unfoldable pub staff_over : List Laid → StaffMarks
+staff_over all = record { marks = all; low = cut (staff_heights all).low; high = cut (staff_heights all).high }
+
+-- The marks of a staff in measures a to b - 1: column by column, in each what the voices have there one after the other; then
+-- what goes between columns, voice by voice. The head, the bar before the first measure, changes and bars are the first voice's.
+unfoldable pub staff_marks : List ColumnKey → List ℕ → ℕ → ℕ → List DrawnVoice → StaffMarks
+staff_marks keys lengths a b voices =
+    let room = room_over (verses_on voices) (bare_marks keys lengths a b voices) in
+    staff_over (by_columns (length keys) (written_parts keys lengths room a b 1 [] voices) ++ staff_bridges keys lengths a b voices)
 
 -- a staff covers at least its lines
 abbrev pub CoversLines : StaffMarks → Type 0

@@ -2,20 +2,11 @@
 -- on its line. What stands on the ends of stems (beams, decorations, texts, arcs) follows them.
 use Rattle.std.specs.Prelude.{◌≡◌, ℕ, ◌+◌, ◌^◌, ℤ, pos, ◌≤ℤ◌, ◌<ℤ◌, ◌<◌, ⊤, List, [], ◌∷◌, ◌++◌, length, map, take, drop, slice_range, slice_index_or}
 use Rattle.mus_score.specs.declared.score.Score.{Score}
-use Rattle.mus_score.specs.declared.score.Voice.{Voice}
-use Rattle.mus_time.specs.declared.keys.ColumnKey.{ColumnKey}
-use Rattle.mus_time.specs.declared.times.Timeline.{Timeline}
-use Rattle.mus_time.specs.Keys.{AreKeys, called_keys}
-use Rattle.mus_stems.specs.declared.slopes.Anchor.{Anchor}
-use Rattle.mus_stems.specs.Slope.{anchor_of, sloped_ends, with_end, AreAnchors, RisesInBeams}
-use Rattle.mus_laid.specs.declared.laid.StaffMarks.{StaffMarks}
-use Rattle.mus_laid.specs.declared.laid.SystemMarks.{SystemMarks}
-use Rattle.mus_drawn.specs.declared.drawn.DrawnEvent.{DrawnEvent}
-use Rattle.mus_drawn.specs.declared.drawn.DrawnMeasure.{DrawnMeasure}
-use Rattle.mus_drawn.specs.declared.drawn.DrawnVoice.{DrawnVoice}
-use Rattle.mus_drawn.specs.Drawn.{drawn_voice}
-use Rattle.mus_marks.specs.Events.{note_rank}
-use Rattle.mus_marks.specs.Staff.{staff_marks}
+use Rattle.mus_time.specs.{declared.keys.ColumnKey.ColumnKey, declared.times.Timeline.Timeline, Keys.AreKeys, Keys.called_keys}
+use Rattle.mus_stems.specs.{declared.slopes.Anchor.Anchor, Slope.anchor_of, Slope.sloped_ends, Slope.with_end, Slope.AreAnchors, Slope.RisesInBeams}
+use Rattle.mus_laid.specs.{declared.laid.StaffMarks.StaffMarks, declared.laid.SystemMarks.SystemMarks}
+use Rattle.mus_drawn.specs.{declared.drawn.DrawnEvent.DrawnEvent, declared.drawn.DrawnMeasure.DrawnMeasure, declared.drawn.DrawnVoice.DrawnVoice}
+use Rattle.mus_marks.specs.{Events.note_rank, Staff.staff_marks, System.drawn_staves}
 
 -- what the line of its beam takes from an event of measure m: where its column stands is its abscissa
 abbrev pub anchor_at : List ColumnKey → List ℤ → ℕ → DrawnEvent → Anchor
@@ -65,15 +56,16 @@ voice_ended a ends v = record v { measures = take a v.measures ++ over measure_e
 abbrev pub voice_tilted : List ColumnKey → List ℤ → ℕ → ℕ → DrawnVoice → DrawnVoice
 voice_tilted keys at a b v = voice_ended a (sloped_over keys at a (slice_range v.measures a b)) v
 
-abbrev pub tilted_staff_of : List ColumnKey → List ℕ → List ℤ → ℕ → ℕ → Voice → StaffMarks
-tilted_staff_of keys lengths at a b v = staff_marks keys lengths a b (voice_tilted keys at a b (drawn_voice v))
+-- the marks of a staff whose voices are tilted
+abbrev pub tilted_staff : List ColumnKey → List ℕ → List ℤ → ℕ → ℕ → List DrawnVoice → StaffMarks
+tilted_staff keys lengths at a b voices = staff_marks keys lengths a b (map (voice_tilted keys at a b) voices)
 
 -- What a score calls for in a system of measures a to b - 1 whose columns stand at these abscissas.
 pub record IsTilted (s : Score) (t : Timeline) (a b : ℕ) (at : List ℤ) (m : SystemMarks) : Type 0 where
   pub from : m.a ≡ a
   pub to : m.b ≡ b
   pub keys : AreKeys m.keys (called_keys s t.lengths a b)
-  pub staves : m.staves ≡ map (tilted_staff_of m.keys t.lengths at a b) s.voices
+  pub staves : m.staves ≡ map (tilted_staff m.keys t.lengths at a b) (drawn_staves s)
 
 -- an abscissa for each column of the system, rising from 0 on to at most 2^40
 pub record AreAbscissas (s : Score) (t : Timeline) (a b : ℕ) (at : List ℤ) : Type 0 where

@@ -1,5 +1,4 @@
-ghost use Rattle.std.specs.Prelude.{◌≡◌, ◌≤◌, ◌++◌, length, OnOk, option_copied};
-ghost use Rattle.std.specs.List.{find};
+ghost use Rattle.std.specs.{Prelude.◌≡◌, Prelude.◌≤◌, Prelude.◌++◌, Prelude.length, Prelude.OnOk, Prelude.option_copied, List.find};
 ghost use Rattle.mus_words.specs.Arcs.{seen};
 ghost use Rattle.mus_marks.specs.Arcs.{has_id, event_at, seen_of, left_key, right_key, arc_between, piece_between, arc_in, arcs_between};
 

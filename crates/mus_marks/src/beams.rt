@@ -1,6 +1,5 @@
 ghost use Rattle.std.specs.Prelude.{◌≡◌, ◌≤◌, ◌+◌, ◌++◌, length, map, flat_map, IfOk, OnOk};
-ghost use Rattle.mus_time.specs.Keys.{key_at};
-ghost use Rattle.mus_time.specs.declared.keys.Class.TheVariants.{Grace};
+ghost use Rattle.mus_time.specs.{Keys.key_at, declared.keys.Class.TheVariants.Grace};
 ghost use Rattle.mus_drawn.specs.Good.{AreGoodDrawn, AreGoodMeasures, IsGoodDrawn};
 ghost use Rattle.mus_ink.specs.Beams.{beam_marks};
 ghost use Rattle.mus_marks.specs.Bridges.{stem_at, beams_between, beam_over, event_grace_beam, grace_beams_between};

@@ -1,12 +1,13 @@
-ghost use Rattle.std.specs.Prelude.{◌≡◌, ◌≤◌, ◌++◌, length, map, IfOk, OnOk};
+ghost use Rattle.std.specs.Prelude.{◌≡◌, ◌≤◌, ◌++◌, length, map, option_copied, slice_index_or, IfOk, OnOk};
 ghost use Rattle.mus_time.specs.Ranks.{AreRanked};
 ghost use Rattle.mus_stems.specs.Heads.{AllNear, stand_of};
 ghost use Rattle.mus_laid.specs.Ranked.{drawn_at};
 ghost use Rattle.mus_ink.specs.Graces.{grace_marks};
 ghost use Rattle.mus_drawn.specs.Good.{AllCanGrace, AreGoodDrawn, IsGoodDrawn};
-ghost use Rattle.mus_marks.specs.Events.{note_key, note_rank, changes_nothing, change_part, graces_from, graces_part, note_part, text_place, words_marks, words_part, event_marks, levels_in, levels_behind, events_marks};
+ghost use Rattle.mus_marks.specs.Events.{note_key, note_rank, changes_nothing, change_part, graces_from, graces_part, note_part, no_texts, text_place, words_marks, words_part, event_marks, levels_in, levels_behind, events_marks};
+ghost use Rattle.mus_marks.specs.Places.{HasVerses};
 
-use mus_drawn::DrawnEvent;
+use mus_drawn::{DrawnEvent, raise_of};
 use mus_ink::{Group, group_of, put_change, put_grace, put_note};
 use mus_laid::{Drawn, Laid, put_ranked};
 use mus_score::{Changes, Event, Flat};
@@ -23,6 +24,22 @@ pub struct Room {
     pub low: i32,
     pub high: i32,
     pub verses: u8,
+}
+
+/// How many texts a column has above the staff and below it.
+#[derive(Clone, Copy, PartialEq, Eq)]
+pub struct Texts {
+    pub above: usize,
+    pub below: usize,
+}
+
+/// Where the words of a voice go: into the room of its staff, its verses from number `first` on, and
+/// behind the texts that each column has already, by rank; a column that `before` lacks has none.
+#[derive(Drop)]
+pub struct Place {
+    pub room: Room,
+    pub first: u8,
+    pub before: Row<Texts>,
 }
 
 /// How many marks most events have at most; room for so many is made at once.
@@ -46,20 +63,20 @@ fn changes_nothing(changes: &Changes) -> bool
     changes.clef.is_none() && changes.key.is_none() && changes.meter.is_none()
 }
 
-/// Lays the change before an event, unless the head draws it.
+/// Lays the change before an event, unless it is `drawn` already: by the head, or by the voice above.
 fn put_change_part(
     alloc: Global,
     out: &mut Row<Laid>,
     keys: &[ColumnKey],
     measure: u32,
-    in_head: bool,
+    drawn: bool,
     e: &DrawnEvent,
 ) -> Result<(), Memory>
     requires keys { AreRanked keys.now }
     requires good { IsGoodDrawn e.now }
-    ensures { OnOk result (out.new ≡ out.old ++ change_part keys.now measure in_head e.now) }
+    ensures { OnOk result (out.new ≡ out.old ++ change_part keys.now measure drawn e.now) }
 {
-    if in_head {
+    if drawn {
         return Ok(());
     }
     let changes = &e.flat.event.changes;
@@ -67,9 +84,9 @@ fn put_change_part(
         return Ok(());
     }
     let rank = rank_at(keys, measure, e.tick, Class::Change, 0);
-    let mut drawn = Row::new(alloc);
-    put_change(alloc, &mut drawn, e.clef, e.old.as_slice(), changes)?;
-    put_ranked(alloc, out, rank, drawn.as_slice())
+    let mut marks = Row::new(alloc);
+    put_change(alloc, &mut marks, e.clef, e.old.as_slice(), changes)?;
+    put_ranked(alloc, out, rank, marks.as_slice())
 }
 
 /// Lays a grace of a group in its column.
@@ -131,17 +148,27 @@ fn put_graces_part(
     put_graces(alloc, out, keys, measure, e.tick, e.clef, group, graces)
 }
 
-/// Where the texts of a voice go that has a staff for itself.
-fn text_place(room: Room) -> TextPlace
-    ensures { result ≡ text_place room }
+/// Where the texts of an event go in a column that has some already.
+fn text_place(room: Room, before: Texts) -> TextPlace
+    ensures { result ≡ text_place room before }
 {
     TextPlace {
         low: room.low,
         high: room.high,
         verses: room.verses,
-        above: 0,
-        below: 0,
+        above: before.above,
+        below: before.below,
     }
+}
+
+/// The texts that the column of a rank has already.
+pub(crate) fn texts_at(before: &[Texts], rank: usize) -> Texts
+    ensures { result ≡ slice_index_or before.now rank no_texts }
+{
+    before
+        .get(rank)
+        .copied()
+        .unwrap_or(Texts { above: 0, below: 0 })
 }
 
 /// Lays an event in its column, but for its syllables and texts.
@@ -159,7 +186,10 @@ fn put_note_part(
 {
     let (event, plan) = (&e.flat.event, &e.plan);
     let mut drawn = Row::new(alloc);
-    put_note(&mut drawn, e.clef, 0, event, plan, plan.to, before, after)?;
+    let raise = raise_of(e.seat);
+    put_note(
+        &mut drawn, e.clef, raise, event, plan, plan.to, before, after,
+    )?;
     put_ranked(
         alloc,
         out,
@@ -168,32 +198,40 @@ fn put_note_part(
     )
 }
 
-/// The syllables and texts of an event, if their room is known.
-fn words_marks(alloc: Global, room: Option<Room>, flat: &Flat) -> Result<Row<Drawn>, Memory>
-    requires { length flat.now.event.words ≤ 8 }
-    ensures { IfOk result (λ r. r ≡ words_marks room flat.now) }
+/// The syllables and texts of an event in the column of `rank`, if their place is known.
+fn words_marks(
+    alloc: Global,
+    place: Option<&Place>,
+    rank: u32,
+    flat: &Flat,
+) -> Result<Row<Drawn>, Memory>
+    requires words { length flat.now.event.words ≤ 8 }
+    requires verses { HasVerses (option_copied place) }
+    ensures { IfOk result (λ r. r ≡ words_marks (option_copied place.entry) rank flat.now) }
 {
     let mut drawn = Row::new(alloc);
-    if let Some(room) = room {
+    if let Some(place) = place {
         let words = flat.event.words.as_slice();
-        put_syllables(alloc, &mut drawn, 1, room.low, words)?;
-        put_texts(alloc, &mut drawn, text_place(room), flat)?;
+        put_syllables(alloc, &mut drawn, place.first, place.room.low, words)?;
+        let before = texts_at(place.before.as_slice(), rank as usize);
+        put_texts(alloc, &mut drawn, text_place(place.room, before), flat)?;
     }
     Ok(drawn)
 }
 
-/// Lays the syllables and texts of an event, if their room is known.
+/// Lays the syllables and texts of an event, if their place is known.
 fn put_words_part(
     alloc: Global,
     out: &mut Row<Laid>,
     rank: u32,
-    room: Option<Room>,
+    place: Option<&Place>,
     flat: &Flat,
 ) -> Result<(), Memory>
-    requires { length flat.now.event.words ≤ 8 }
-    ensures { OnOk result (out.new ≡ out.old ++ words_part rank room flat.now) }
+    requires words { length flat.now.event.words ≤ 8 }
+    requires verses { HasVerses (option_copied place) }
+    ensures { OnOk result (out.new ≡ out.old ++ words_part rank (option_copied place.entry) flat.now) }
 {
-    let drawn = words_marks(alloc, room, flat)?;
+    let drawn = words_marks(alloc, place, rank, flat)?;
     put_ranked(alloc, out, rank, drawn.as_slice())
 }
 
@@ -204,7 +242,7 @@ fn put_event(
     alloc: Global,
     out: &mut Row<Laid>,
     keys: &[ColumnKey],
-    room: Option<Room>,
+    place: Option<&Place>,
     measure: u32,
     in_head: bool,
     before: u8,
@@ -213,13 +251,15 @@ fn put_event(
 ) -> Result<(), Memory>
     requires keys { AreRanked keys.now }
     requires good { IsGoodDrawn e.now }
-    ensures { OnOk result (out.new ≡ out.old ++ event_marks keys.now room measure in_head before after e.now) }
+    requires verses { HasVerses (option_copied place) }
+    ensures { OnOk result (out.new ≡ out.old ++ event_marks keys.now (option_copied place.entry) measure in_head before after e.now) }
 {
-    put_change_part(alloc, out, keys, measure, in_head, e)?;
+    let drawn = in_head || e.seat.is_lower();
+    put_change_part(alloc, out, keys, measure, drawn, e)?;
     put_graces_part(alloc, out, keys, measure, e)?;
     put_note_part(alloc, out, keys, measure, before, after, e)?;
     let rank = rank_of(keys, note_key(measure, e));
-    put_words_part(alloc, out, rank, room, &e.flat)
+    put_words_part(alloc, out, rank, place, &e.flat)
 }
 
 /// The levels of an event that are in a plan's beam.
@@ -240,19 +280,20 @@ fn levels_behind(plan: &StemPlan, behind: &[DrawnEvent]) -> u8
 }
 
 /// Lays the events of a measure, each with the change and the graces before it; the first without its
-/// change, if the head draws that. Syllables and texts are laid where their room is known.
+/// change, if the head draws that. Syllables and texts are laid where their place is known.
 pub(crate) fn put_events(
     alloc: Global,
     out: &mut Row<Laid>,
     keys: &[ColumnKey],
-    room: Option<Room>,
+    place: Option<&Place>,
     measure: u32,
     in_head: bool,
     events: &[DrawnEvent],
 ) -> Result<(), Memory>
     requires keys { AreRanked keys.now }
     requires good { AreGoodDrawn events.now }
-    ensures { OnOk result (out.new ≡ out.old ++ events_marks keys.now room measure in_head 0 0 events.now) }
+    requires verses { HasVerses (option_copied place) }
+    ensures { OnOk result (out.new ≡ out.old ++ events_marks keys.now (option_copied place.entry) measure in_head 0 0 events.now) }
 {
     out.items
         .reserve(events.len().saturating_mul(MARKS_OF_EVENT))?;
@@ -261,7 +302,7 @@ pub(crate) fn put_events(
     while let Some((e, behind)) = rest.split_first() {
         let before = levels_in(&e.plan, group, flags);
         let after = levels_behind(&e.plan, behind);
-        put_event(alloc, out, keys, room, measure, drawn, before, after, e)?;
+        put_event(alloc, out, keys, place, measure, drawn, before, after, e)?;
         drawn = false;
         group = e.plan.group;
         flags = e.plan.flags;

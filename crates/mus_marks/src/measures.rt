@@ -1,16 +1,15 @@
-ghost use Rattle.std.specs.Prelude.{◌≡◌, ◌≤◌, ◌<◌, ◌+◌, ◌++◌, length, map, OnOk};
-ghost use Rattle.mus_time.specs.Keys.{has_features};
-ghost use Rattle.mus_time.specs.Ranks.{AreRanked};
+ghost use Rattle.std.specs.Prelude.{◌≡◌, ◌≤◌, ◌<◌, ◌+◌, ◌++◌, length, map, option_copied, OnOk};
+ghost use Rattle.mus_time.specs.{Keys.has_features, Ranks.AreRanked};
 ghost use Rattle.mus_laid.specs.Ranked.{drawn_at};
 ghost use Rattle.mus_ink.specs.Bars.{bar_marks};
 ghost use Rattle.mus_drawn.specs.Good.{AreGoodMeasures, IsGoodMeasure};
-ghost use Rattle.mus_marks.specs.Events.{bar_part, events_marks, measures_marks};
-ghost use Rattle.mus_marks.specs.Staff.{meter_shown, head_part, first_part, columns_part};
+ghost use Rattle.mus_marks.specs.{Events.bar_part, Events.events_marks, Events.measures_marks, Places.HasVerses, Staff.meter_shown, Staff.head_part, Staff.first_part, Staff.columns_part};
 
-use crate::events::{Room, put_events};
+use crate::events::{Place, put_events};
 use mus_drawn::{DrawnMeasure, Opening};
 use mus_ink::{put_bar, put_head};
 use mus_laid::{Laid, put_ranked};
+use mus_score::Seat;
 use mus_time::{Class, ColumnKey, rank_at};
 use mus_units::{Bar, Memory, Meter, Row};
 use std::alloc::Global;
@@ -24,7 +23,7 @@ fn put_bar_at(alloc: Global, out: &mut Row<Laid>, rank: u32, bar: Bar) -> Result
     put_ranked(alloc, out, rank, drawn.as_slice())
 }
 
-/// Lays the bar behind a measure.
+/// Lays the bar behind a measure, unless the voice above draws it.
 fn put_bar_part(
     alloc: Global,
     out: &mut Row<Laid>,
@@ -37,6 +36,9 @@ fn put_bar_part(
     requires inside { measure < length lengths.now }
     ensures { OnOk result (out.new ≡ out.old ++ bar_part keys.now lengths.now measure d.now) }
 {
+    if d.seat.is_lower() {
+        return Ok(());
+    }
     let tick = lengths[measure as usize];
     put_bar_at(
         alloc,
@@ -51,7 +53,7 @@ fn put_measure(
     out: &mut Row<Laid>,
     keys: &[ColumnKey],
     lengths: &[u64],
-    room: Option<Room>,
+    place: Option<&Place>,
     measure: u32,
     in_head: bool,
     d: &DrawnMeasure,
@@ -59,13 +61,14 @@ fn put_measure(
     requires keys { AreRanked keys.now }
     requires inside { measure < length lengths.now }
     requires good { IsGoodMeasure d.now }
-    ensures { OnOk result (out.new ≡ out.old ++ events_marks keys.now room measure in_head 0 0 d.now.events ++ bar_part keys.now lengths.now measure d.now) }
+    requires verses { HasVerses (option_copied place) }
+    ensures { OnOk result (out.new ≡ out.old ++ events_marks keys.now (option_copied place.entry) measure in_head 0 0 d.now.events ++ bar_part keys.now lengths.now measure d.now) }
 {
     put_events(
         alloc,
         out,
         keys,
-        room,
+        place,
         measure,
         in_head,
         d.events.as_slice(),
@@ -75,13 +78,13 @@ fn put_measure(
 
 /// Lays the events and bars of measures of a system, from number `a` on, by the ranks of the keys; the
 /// change before the first event of the first of them is left out where the head of the system draws
-/// it. Syllables and texts are laid where their room is known. The only error is want of memory.
+/// it. Syllables and texts are laid where their place is known. The only error is want of memory.
 pub fn put_measures(
     alloc: Global,
     out: &mut Row<Laid>,
     keys: &[ColumnKey],
     lengths: &[u64],
-    room: Option<Room>,
+    place: Option<&Place>,
     a: u32,
     in_head: bool,
     measures: &[DrawnMeasure],
@@ -90,12 +93,13 @@ pub fn put_measures(
     requires fits { a + length measures.now ≤ length lengths.now }
     requires few { length lengths.now ≤ 2000 }
     requires good { AreGoodMeasures measures.now }
-    ensures { OnOk result (out.new ≡ out.old ++ measures_marks keys.now lengths.now room a in_head measures.now) }
+    requires verses { HasVerses (option_copied place) }
+    ensures { OnOk result (out.new ≡ out.old ++ measures_marks keys.now lengths.now (option_copied place.entry) a in_head measures.now) }
 {
     let mut measure = a;
     let mut in_head = in_head;
     for d in measures {
-        put_measure(alloc, out, keys, lengths, room, measure, in_head, d)?;
+        put_measure(alloc, out, keys, lengths, place, measure, in_head, d)?;
         in_head = false;
         measure += 1;
     }
@@ -113,7 +117,8 @@ fn meter_shown(a: u32, opening: &Opening) -> Option<Meter>
     }
 }
 
-/// Lays the head of the system that begins with the first of these measures.
+/// Lays the head of the system that begins with the first of these measures, unless the voice above
+/// draws it.
 fn put_head_part(
     alloc: Global,
     out: &mut Row<Laid>,
@@ -128,6 +133,9 @@ fn put_head_part(
     let [first, ..] = measures else {
         return Ok(());
     };
+    if first.seat.is_lower() {
+        return Ok(());
+    }
     let opening = &first.opening;
     let rank = rank_at(keys, a, 0, Class::Head, 0);
     let meter = meter_shown(a, opening);
@@ -143,33 +151,36 @@ fn is_featured(bar: Bar) -> bool
     bar.end || bar.start || bar.last || bar.initial || bar.double || bar.dotted || bar.unseen
 }
 
-/// Lays the bar before the first measure, where it has features.
+/// Lays the bar before the first measure, where it has features, unless the voice above draws it.
 fn put_first_part(
     alloc: Global,
     out: &mut Row<Laid>,
     keys: &[ColumnKey],
     a: u32,
+    seat: Seat,
     bar: Bar,
 ) -> Result<(), Memory>
     requires { AreRanked keys.now }
-    ensures { OnOk result (out.new ≡ out.old ++ first_part keys.now a bar) }
+    ensures { OnOk result (out.new ≡ out.old ++ first_part keys.now a seat bar) }
 {
-    if a != 0 || !is_featured(bar) {
+    if seat.is_lower() || a != 0 || !is_featured(bar) {
         return Ok(());
     }
     put_bar_at(alloc, out, rank_at(keys, 0, 0, Class::First, 0), bar)
 }
 
 /// Lays what stands in the columns of a system from measure `a` on: its head, the bar before the first
-/// measure, its events and its bars. The only error is want of memory.
+/// measure, its events and its bars. A voice that stands lower on its staff has events alone. The only
+/// error is want of memory.
 #[tactic(auto, unfolding(crate::specs::Staff::columns_part))]
 pub fn put_columns_part(
     alloc: Global,
     out: &mut Row<Laid>,
     keys: &[ColumnKey],
     lengths: &[u64],
-    room: Option<Room>,
+    place: Option<&Place>,
     a: u32,
+    seat: Seat,
     first: Bar,
     measures: &[DrawnMeasure],
 ) -> Result<(), Memory>
@@ -177,9 +188,10 @@ pub fn put_columns_part(
     requires fits { a + length measures.now ≤ length lengths.now }
     requires few { length lengths.now ≤ 2000 }
     requires good { AreGoodMeasures measures.now }
-    ensures { OnOk result (out.new ≡ out.old ++ columns_part keys.now lengths.now room a first measures.now) }
+    requires verses { HasVerses (option_copied place) }
+    ensures { OnOk result (out.new ≡ out.old ++ columns_part keys.now lengths.now (option_copied place.entry) a seat first measures.now) }
 {
     put_head_part(alloc, out, keys, a, measures)?;
-    put_first_part(alloc, out, keys, a, first)?;
-    put_measures(alloc, out, keys, lengths, room, a, true, measures)
+    put_first_part(alloc, out, keys, a, seat, first)?;
+    put_measures(alloc, out, keys, lengths, place, a, true, measures)
 }

@@ -1,19 +1,15 @@
-ghost use Rattle.std.specs.Prelude.{◌≡◌, ◌≤◌, ◌<◌, length, map, All, IfOk};
+ghost use Rattle.std.specs.Prelude.{◌≡◌, ◌≤◌, ◌<◌, map, All, IfOk};
 ghost use Rattle.mus_score.specs.GoodScore.{IsGoodScore, IsGoodVoice};
-ghost use Rattle.mus_time.specs.Keys.{IsInSystem};
-ghost use Rattle.mus_time.specs.Onsets.{timeline_of};
-ghost use Rattle.mus_time.specs.Ranks.{AreRanked};
-ghost use Rattle.mus_drawn.specs.Drawn.{drawn_voice};
-ghost use Rattle.mus_drawn.specs.Good.{AreGoodMeasures};
+ghost use Rattle.mus_time.specs.{Keys.IsInSystem, Onsets.timeline_of};
+ghost use Rattle.mus_drawn.specs.{Drawn.drawn_voice, Good.AreGoodMeasures};
 ghost use Rattle.mus_laid.specs.Boxes.{AreGoodMarks};
-ghost use Rattle.mus_marks.specs.Staff.{CoversLines, staff_marks};
-ghost use Rattle.mus_marks.specs.System.{IsCall};
+ghost use Rattle.mus_marks.specs.{Staff.CoversLines, System.IsCall};
 
-use crate::staves::staff_marks;
+use crate::staves::staves;
 use mus_drawn::{DrawnVoice, draw_voice};
-use mus_laid::{StaffMarks, SystemMarks};
+use mus_laid::SystemMarks;
 use mus_score::{Score, Voice};
-use mus_time::{ColumnKey, Timeline, keys_of};
+use mus_time::{Timeline, keys_of};
 use mus_units::{Memory, Row};
 use std::alloc::Global;
 
@@ -37,31 +33,6 @@ pub fn draw_voices(alloc: Global, s: &Score) -> Result<Row<DrawnVoice>, Memory>
     ensures good { IfOk result (All (λ v. AreGoodMeasures v.measures)) }
 {
     draw_all(alloc, s.voices.as_slice())
-}
-
-/// The staves of voices in measures `a` to `b` - 1.
-fn staves(
-    alloc: Global,
-    keys: &[ColumnKey],
-    lengths: &[u64],
-    a: u32,
-    b: u32,
-    voices: &[DrawnVoice],
-) -> Result<Row<StaffMarks>, Memory>
-    requires keys { AreRanked keys.now }
-    requires order { a < b }
-    requires within { b ≤ length lengths.now }
-    requires few { length lengths.now ≤ 2000 }
-    requires each { All (λ v. length v.measures ≡ length lengths.now) voices.now }
-    requires good { All (λ v. AreGoodMeasures v.measures) voices.now }
-    ensures staves { IfOk result (λ r. r ≡ map (staff_marks keys.now lengths.now a b) voices.now) }
-    ensures lines { IfOk result (All CoversLines) }
-{
-    let mut staves = Row::new(alloc);
-    for v in voices {
-        staves.push(staff_marks(alloc, keys, lengths, a, b, v)?)?;
-    }
-    Ok(staves)
 }
 
 /// The marks of the system of measures `a` to `b` - 1, as `marks` gives them, where the voices of the
@@ -92,12 +63,13 @@ pub fn marks_of(
 }
 
 /// The marks that a score calls for in the system of measures `a` to `b` - 1: the keys of its columns,
-/// rising, and for each voice, in order, the marks of its staff; `t` is the timeline of the score.
+/// rising, and for each staff, in order, its marks; `t` is the timeline of the score.
 ///
 /// A staff has its columns from the left to the right: the head, the bar before the first measure where
 /// it has features, and each event behind its change and its graces, with its syllables and its texts
-/// outside of all other marks; then the beams of its notes, those of its graces, and its arcs. The only
-/// error is want of memory.
+/// outside of all other marks; then the beams of its notes, those of its graces, and its arcs. Where
+/// voices share it, each column has what the first has there, then what the second has, and so on, and
+/// the head, the bars and the changes are the first voice's. The only error is want of memory.
 pub fn marks(alloc: Global, s: &Score, t: &Timeline, a: u32, b: u32) -> Result<SystemMarks, Memory>
     requires good { IsGoodScore s.now }
     requires times { t.now ≡ timeline_of s.now }

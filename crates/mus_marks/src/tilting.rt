@@ -1,18 +1,13 @@
 ghost use Rattle.std.specs.Prelude.{◌≡◌, ◌≤◌, ◌<◌, ◌+◌, length, map, slice_range, All, IfOk};
-ghost use Rattle.mus_score.specs.GoodScore.{IsGoodScore};
-ghost use Rattle.mus_time.specs.Keys.{IsInSystem};
-ghost use Rattle.mus_time.specs.Onsets.{timeline_of};
-ghost use Rattle.mus_time.specs.Ranks.{AreRanked};
-ghost use Rattle.mus_drawn.specs.Drawn.{drawn_voice};
-ghost use Rattle.mus_drawn.specs.Good.{AreGoodMeasures};
-ghost use Rattle.mus_laid.specs.Boxes.{AreGoodMarks};
-ghost use Rattle.mus_laid.specs.Shapes.{AreAlike};
-ghost use Rattle.mus_marks.specs.Staff.{CoversLines, staff_marks};
-ghost use Rattle.mus_marks.specs.System.{IsCall};
-ghost use Rattle.mus_marks.specs.Tilt.{anchor_at, CanTilt, AllCanTilt, ends_over, sloped_over, plain_ends, over, event_ended, measure_ended, voice_ended, voice_tilted, AreAbscissas, IsTilted};
+ghost use Rattle.mus_score.specs.{GoodScore.IsGoodScore, Seats.grouped};
+ghost use Rattle.mus_time.specs.{Keys.IsInSystem, Onsets.timeline_of, Ranks.AreRanked};
+ghost use Rattle.mus_drawn.specs.{Drawn.drawn_voice, Good.AreGoodMeasures};
+ghost use Rattle.mus_laid.specs.{Boxes.AreGoodMarks, Shapes.AreAlike};
+ghost use Rattle.mus_marks.specs.{Staff.CoversLines, Staff.verses_on, System.IsCall, System.stands_lower};
+ghost use Rattle.mus_marks.specs.Tilt.{anchor_at, CanTilt, AllCanTilt, ends_over, sloped_over, plain_ends, over, event_ended, measure_ended, voice_ended, tilted_staff, AreAbscissas, IsTilted};
 
 use crate::events::note_key;
-use crate::staves::staff_marks;
+use crate::staves::staves;
 use crate::systems::draw_voices;
 use mus_drawn::{DrawnEvent, DrawnMeasure, DrawnVoice};
 use mus_laid::{StaffMarks, SystemMarks};
@@ -142,34 +137,59 @@ fn end_voice(v: &mut DrawnVoice, a: u32, ends: &[Row<i32>])
     end_measures(&mut v.measures.items.as_mut_slice()[a as usize..], ends);
 }
 
-/// The marks of a voice's staff over abscissas. The voice is left as it was.
-fn tilted_staff(
+/// The ends that the events of voices have in measures `a` to `b` - 1.
+fn plain_voices(
+    alloc: Global,
+    a: u32,
+    b: u32,
+    voices: &[DrawnVoice],
+) -> Result<Row<Row<Row<i32>>>, Memory>
+    requires order { a < b }
+    requires within { All (λ v. b ≤ length v.measures) voices.now }
+    ensures { IfOk result (λ r. r ≡ map (λ v. plain_ends (slice_range v.measures a b)) voices.now) }
+{
+    let mut ends = Row::new(alloc);
+    for v in voices {
+        let measures = &v.measures.as_slice()[a as usize..b as usize];
+        ends.push(plain_ends(alloc, measures)?)?;
+    }
+    Ok(ends)
+}
+
+/// The ends of the events of voices in measures `a` to `b` - 1, on the lines of their beams.
+fn sloped_voices(
     alloc: Global,
     keys: &[ColumnKey],
-    lengths: &[u64],
     at: &[i64],
     a: u32,
     b: u32,
-    v: &mut DrawnVoice,
-) -> Result<StaffMarks, Memory>
+    voices: &[DrawnVoice],
+) -> Result<Row<Row<Row<i32>>>, Memory>
     requires keys { AreRanked keys.now }
     requires order { a < b }
-    requires within { b ≤ length v.old.measures }
-    requires lengths { length lengths.now ≡ length v.old.measures }
-    requires few { length lengths.now ≤ 2000 }
-    requires good { AreGoodMeasures v.old.measures }
-    requires slopes { AllCanTilt keys.now at.now a (slice_range v.old.measures a b) }
-    ensures kept { v.new ≡ v.old }
-    ensures staff { IfOk result (λ r. r ≡ staff_marks keys.now lengths.now a b (voice_tilted keys.now at.now a b v.old)) }
-    ensures lines { IfOk result CoversLines }
+    requires few { b ≤ 2000 }
+    requires within { All (λ v. b ≤ length v.measures) voices.now }
+    requires slopes { All (λ v. AllCanTilt keys.now at.now a (slice_range v.measures a b)) voices.now }
+    ensures { IfOk result (λ r. r ≡ map (λ v. sloped_over keys.now at.now a (slice_range v.measures a b)) voices.now) }
 {
-    let measures = &v.measures.as_slice()[a as usize..b as usize];
-    let plain = plain_ends(alloc, measures)?;
-    let sloped = sloped_over(alloc, keys, at, a, measures)?;
-    end_voice(v, a, sloped.as_slice());
-    let staff = staff_marks(alloc, keys, lengths, a, b, v);
-    end_voice(v, a, plain.as_slice());
-    staff
+    let mut ends = Row::new(alloc);
+    for v in voices {
+        let measures = &v.measures.as_slice()[a as usize..b as usize];
+        ends.push(sloped_over(alloc, keys, at, a, measures)?)?;
+    }
+    Ok(ends)
+}
+
+/// Gives the events of voices other ends, from measure `a` on.
+fn end_voices(voices: &mut [DrawnVoice], a: u32, ends: &[Row<Row<i32>>])
+    requires { All (λ v. a ≤ length v.measures) voices.old }
+    ensures { voices.new ≡ over (voice_ended a) ends.now voices.old }
+{
+    for (i, v) in voices.iter_mut().enumerate() {
+        if let Some(own) = ends.get(i) {
+            end_voice(v, a, own.as_slice());
+        }
+    }
 }
 
 /// The staves of voices over abscissas. The voices are left as they were.
@@ -188,16 +208,18 @@ fn tilted_staves(
     requires few { length lengths.now ≤ 2000 }
     requires each { All (λ v. length v.measures ≡ length lengths.now) voices.old }
     requires good { All (λ v. AreGoodMeasures v.measures) voices.old }
+    requires verses { verses_on voices.old ≤ 128 }
     requires slopes { All (λ v. AllCanTilt keys.now at.now a (slice_range v.measures a b)) voices.old }
     ensures kept { voices.new ≡ voices.old }
-    ensures staves { IfOk result (λ r. r ≡ map (λ v. staff_marks keys.now lengths.now a b (voice_tilted keys.now at.now a b v)) voices.old) }
+    ensures staves { IfOk result (λ r. r ≡ map (tilted_staff keys.now lengths.now at.now a b) (grouped stands_lower voices.old)) }
     ensures lines { IfOk result (All CoversLines) }
 {
-    let mut staves = Row::new(alloc);
-    for v in voices.iter_mut() {
-        staves.push(tilted_staff(alloc, keys, lengths, at, a, b, v)?)?;
-    }
-    Ok(staves)
+    let plain = plain_voices(alloc, a, b, voices)?;
+    let sloped = sloped_voices(alloc, keys, at, a, b, voices)?;
+    end_voices(voices, a, sloped.as_slice());
+    let staves = staves(alloc, keys, lengths, a, b, voices);
+    end_voices(voices, a, plain.as_slice());
+    staves
 }
 
 /// The marks of the system of measures `a` to `b` - 1 over the abscissas of its columns, as `tilt`

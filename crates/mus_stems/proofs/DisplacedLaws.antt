@@ -1,15 +1,8 @@
 -- Heads are displaced as they should be, and in one way alone.
 use Rattle.std.proofs.Common.{◌≡◌, ℕ, zero, suc, ◌<◌, ℤ, pos, Bool, true, false, cond, not, ◌&&◌, List, [], ◌∷◌, length, replicate, refl, sym, ◌∙◌, ap, subst, Option, Some, None, arith, length-set, get_or-set_same, get_or-set_other, ext_get_or}
-use Rattle.std.proofs.lemmas.List.{get_or-replicate, length-replicate}
-use Rattle.std.specs.Prelude.{slice_get, slice_set, slice_index_or}
-use Rattle.std.specs.Ordering.{int_eq}
-use Rattle.std.specs.List.{AllByRecursion}
-use Rattle.mus_stems.specs.declared.heads.Stand.{Stand}
-use Rattle.mus_stems.specs.declared.heads.Last.{Last}
-use Rattle.mus_stems.specs.Heads.{AllNear, Taken, taken, is_step_past, gives_way, shifted, shift_of, shifts_of}
-use Rattle.mus_stems.specs.Order.{head_at, IsHead, AreTaken}
-use Rattle.mus_stems.specs.Displaced.{dx_of, is_displaced, dx_where, DisplacedAfter, Displaced, AreDisplaced}
-use Rattle.mus_stems.proofs.OrderLaws.{of_each, Apart, are_apart, taken_are, one_order}
+use Rattle.std.{proofs.lemmas.List.get_or-replicate, proofs.lemmas.List.length-replicate, specs.Prelude.slice_get, specs.Prelude.slice_set, specs.Prelude.slice_index_or, specs.Ordering.int_eq, specs.List.AllByRecursion}
+use Rattle.mus_stems.specs.{declared.heads.Stand.Stand, declared.heads.Last.Last, Heads.AllNear, Heads.Taken, Heads.taken, Heads.is_step_past, Heads.gives_way, Heads.shifted, Heads.shift_of, Heads.shifts_of, Order.head_at, Order.IsHead, Order.AreTaken, Displaced.dx_of, Displaced.is_displaced}
+use Rattle.mus_stems.{specs.Displaced.dx_where, specs.Displaced.DisplacedAfter, specs.Displaced.Displaced, specs.Displaced.AreDisplaced, proofs.OrderLaws.of_each, proofs.OrderLaws.Apart, proofs.OrderLaws.are_apart, proofs.OrderLaws.taken_are, proofs.OrderLaws.one_order}
 
 -- places within a list
 

@@ -1,23 +1,10 @@
 -- Beams are told by the groups of plans, where the ids of events rise.
 use Rattle.std.proofs.Common.{◌≡◌, ℕ, suc, ◌+◌, ◌<◌, ℤ, Bool, true, false, cond, eqb, List, [], ◌∷◌, ◌++◌, length, map, refl, sym, subst, ap, ◌∙◌, arith}
-use Rattle.std.specs.Prelude.{slice_index}
-use Rattle.std.specs.List.{flat_map}
-use Rattle.std.specs.List.Sorted.{IsStrictlyIncreasing}
-use Rattle.std.proofs.lemmas.Bool.{eq-eqb, ne_eqb}
-use Rattle.std.proofs.lemmas.List.Folds.{flat_map-map}
-use Rattle.std.proofs.lemmas.List.{length-map}
+use Rattle.std.{proofs.lemmas.Bool.eq-eqb, proofs.lemmas.Bool.ne_eqb, proofs.lemmas.List.Folds.flat_map-map, proofs.lemmas.List.length-map, specs.Prelude.slice_index, specs.List.flat_map, specs.List.Sorted.IsStrictlyIncreasing}
 use Rattle.mus_units.specs.declared.note.Wish.{Wish}
-use Rattle.mus_stems.specs.declared.stills.Still.{Still}
-use Rattle.mus_stems.specs.declared.plans.StemPlan.{StemPlan}
-use Rattle.mus_stems.specs.declared.slopes.Anchor.{Anchor}
-use Rattle.mus_stems.specs.Runs.{runs, put_before, JoinedAfter, EndsBefore, AreRuns}
-use Rattle.mus_stems.specs.Beams.{is_joined, beams}
-use Rattle.mus_stems.specs.Ends.{stands_up, run_end}
-use Rattle.mus_stems.specs.Plans.{plan_of, plans_along, run_plans, plans_of_runs}
-use Rattle.mus_stems.specs.Slope.{anchor_of, anchors, shares_beam}
-use Rattle.mus_stems.specs.Groups.{same_group, IdsRise, BeamsByGroups, SlopesByBeams}
-use Rattle.mus_stems.proofs.RunLaws.{runs_are_maximal, runs_length, runs_of_whole}
-use Rattle.mus_stems.proofs.EndLaws.{run_length}
+use Rattle.mus_stems.specs.{declared.stills.Still.Still, declared.plans.StemPlan.StemPlan, declared.slopes.Anchor.Anchor, Runs.runs, Runs.put_before, Runs.JoinedAfter, Runs.EndsBefore, Runs.AreRuns, Beams.is_joined, Beams.beams, Ends.stands_up, Ends.run_end, Plans.plan_of, Plans.plans_along}
+use Rattle.mus_stems.{specs.Plans.run_plans, specs.Plans.plans_of_runs, specs.Slope.anchor_of, specs.Slope.anchors, specs.Slope.shares_beam, specs.Groups.same_group, specs.Groups.IdsRise, specs.Groups.BeamsByGroups, specs.Groups.SlopesByBeams, proofs.RunLaws.runs_are_maximal}
+use Rattle.mus_stems.proofs.{RunLaws.runs_length, RunLaws.runs_of_whole, EndLaws.run_length}
 
 -- ids that rise from event to event, the first of them above one before
 

@@ -2,19 +2,9 @@
 use Rattle.std.proofs.Common.{◌≡◌, List, [], ◌∷◌, ◌++◌, map, refl, sym, ◌∙◌, ap, subst}
 use Rattle.std.specs.List.{AllByRecursion, AllZip}
 use Rattle.mus_units.specs.declared.note.Wish.{Wish}
-use Rattle.mus_stems.specs.declared.stills.Still.{Still}
-use Rattle.mus_stems.specs.declared.plans.StemPlan.{StemPlan}
-use Rattle.mus_stems.specs.Stills.{IsGoodStill, AllGood}
-use Rattle.mus_stems.specs.Beams.{is_joined, beams}
-use Rattle.mus_stems.specs.Ends.{stands_up, run_end, from_of, own_end}
-use Rattle.mus_stems.specs.Dots.{first_dot, dots_along}
-use Rattle.mus_stems.specs.Signs.{first_sign}
-use Rattle.mus_stems.specs.Displaced.{AreDisplaced}
-use Rattle.mus_stems.specs.Columns.{AreInColumns}
-use Rattle.mus_stems.specs.Plans.{first_id, plan_of, plans_along, run_plans, plans_of_runs, InRun, in_run, in_runs, IsPlan, ArePlans, OnePlan}
-use Rattle.mus_stems.proofs.RunLaws.{runs_are_maximal, all_in_runs, maximal_runs}
-use Rattle.mus_stems.proofs.DisplacedLaws.{shifts_displace, one_displacing}
-use Rattle.mus_stems.proofs.ColumnLaws.{signs_in_columns, one_column}
+use Rattle.mus_stems.specs.{declared.stills.Still.Still, declared.plans.StemPlan.StemPlan, Stills.IsGoodStill, Stills.AllGood, Beams.is_joined, Beams.beams, Ends.stands_up, Ends.run_end, Ends.from_of, Ends.own_end, Dots.first_dot, Dots.dots_along, Signs.first_sign, Displaced.AreDisplaced}
+use Rattle.mus_stems.specs.{Columns.AreInColumns, Plans.first_id, Plans.plan_of, Plans.plans_along, Plans.run_plans, Plans.plans_of_runs, Plans.InRun, Plans.in_run, Plans.in_runs, Plans.IsPlan, Plans.ArePlans, Plans.OnePlan}
+use Rattle.mus_stems.proofs.{RunLaws.runs_are_maximal, RunLaws.all_in_runs, RunLaws.maximal_runs, DisplacedLaws.shifts_displace, DisplacedLaws.one_displacing, ColumnLaws.signs_in_columns, ColumnLaws.one_column}
 
 is_plan : (wish : Wish) (run : List Still) (e : Still) → IsGoodStill e → IsPlan wish (in_run run e) (plan_of (stands_up wish run) (run_end (stands_up wish run) run) (first_id run) e)
 unfolding plan_of

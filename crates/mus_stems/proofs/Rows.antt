@@ -1,12 +1,7 @@
 -- Rows worked by hand: the definitions compute to them.
 use Rattle.std.proofs.Common.{◌≡◌, ℕ, ℤ, pos, negsuc, true, false, [], ◌∷◌, refl, Some}
-use Rattle.mus_stems.specs.declared.heads.Stand.{Stand}
-use Rattle.mus_stems.specs.declared.slopes.Anchor.{Anchor}
-use Rattle.mus_stems.specs.Heads.{shifts_of, taken, taken_one, level_of, gives_way, is_step_past, shift_of}
-use Rattle.mus_stems.specs.Signs.{signs_from, sign_at}
-use Rattle.mus_stems.specs.Ledgers.{ledgers_of, line_below, line_above}
-use Rattle.mus_stems.specs.Ends.{further}
-use Rattle.mus_stems.specs.Slope.{sloped_ends, shares_beam, line_of, rise_at}
+use Rattle.mus_stems.specs.{declared.heads.Stand.Stand, declared.slopes.Anchor.Anchor, Heads.shifts_of, Heads.taken, Heads.taken_one, Heads.level_of, Heads.gives_way, Heads.is_step_past, Heads.shift_of, Signs.signs_from, Signs.sign_at, Ledgers.ledgers_of, Ledgers.line_below, Ledgers.line_above}
+use Rattle.mus_stems.specs.{Ends.further, Slope.sloped_ends, Slope.shares_beam, Slope.line_of, Slope.rise_at}
 
 at : ℤ → Stand
 at h = record { height = h; signed = true }

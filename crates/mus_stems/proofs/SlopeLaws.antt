@@ -1,17 +1,8 @@
 -- Lines of beams: what events stand over them, and how far they rise.
 use Rattle.std.proofs.Common.{◌≡◌, ℕ, zero, suc, ◌+◌, ◌*◌, ◌/◌, ◌<◌, ◌≤◌, ℤ, pos, negsuc, ◌-ℤ◌, ◌*ℤ◌, ◌≤ℤ◌, ◌<ℤ◌, Bool, true, false, cond, List, [], ◌∷◌, take, drop, refl, subst, sym, ap, ◌∙◌, length, arith}
-use Rattle.std.proofs.lemmas.Int.{ints, clamps, unsigned_abs-mul}
-use Rattle.std.proofs.Math.Nat.{div-le_of_le-mul, div-lt_iff_lt-mul, mul-le-mul}
-use Rattle.std.specs.Int.RustNames.{unsigned_abs}
-use Rattle.std.specs.Int.{int_div_euclid}
-use Rattle.mus_stems.specs.declared.plans.StemPlan.{StemPlan}
-use Rattle.mus_stems.specs.declared.slopes.Anchor.{Anchor}
-use Rattle.mus_stems.specs.declared.slopes.Line.{Line}
-use Rattle.mus_stems.specs.Plans.{AllEndsNear}
-use Rattle.mus_stems.specs.Runs.{run_more}
+use Rattle.std.{proofs.lemmas.Int.ints, proofs.lemmas.Int.clamps, proofs.lemmas.Int.unsigned_abs-mul, proofs.Math.Nat.div-le_of_le-mul, proofs.Math.Nat.div-lt_iff_lt-mul, proofs.Math.Nat.mul-le-mul, specs.Int.RustNames.unsigned_abs, specs.Int.int_div_euclid}
 use Rattle.mus_stems.specs.Slope.{anchor_of, anchors, shares_beam, last_of, line_of, rise_at, base_along, ends_along, beam_ends, sloped_ends, with_ends, sloped, ArePlaces, RisesInBeams, RisesAfter, IsAnchor, AreAnchors, IsLine, IsOver, AreOver, Rise, RiseFrom, IsBase}
-use Rattle.mus_stems.specs.Ends.{further}
-use Rattle.mus_stems.proofs.RunLaws.{run_is, runs_length}
+use Rattle.mus_stems.{specs.declared.plans.StemPlan.StemPlan, specs.declared.slopes.Anchor.Anchor, specs.declared.slopes.Line.Line, specs.Plans.AllEndsNear, specs.Runs.run_more, specs.Ends.further, proofs.RunLaws.run_is, proofs.RunLaws.runs_length}
 
 all_anchors : (ps : List StemPlan) (xs : List ℤ) → AllEndsNear ps → ArePlaces xs → AreAnchors (anchors ps xs)
 unfolding anchor_of

@@ -1,11 +1,8 @@
 -- What is taken from events that can be drawn is good.
 use Rattle.std.proofs.Common.{◌≡◌, ◌≤◌, List, [], ◌∷◌, length, map, refl, subst, sym, ap, suc, arith}
-use Rattle.mus_units.specs.declared.pitch.Clef.{Clef}
-use Rattle.mus_units.specs.declared.note.Head.{Head}
+use Rattle.mus_units.specs.{declared.pitch.Clef.Clef, declared.note.Head.Head}
 use Rattle.mus_score.specs.declared.score.Flat.{Flat}
-use Rattle.mus_stems.specs.declared.stills.Still.{Still}
-use Rattle.mus_stems.specs.Heads.{stand_of}
-use Rattle.mus_stems.specs.Stills.{still_of, stills, CanStand, AllCanStand, IsGoodStill, AllGood}
+use Rattle.mus_stems.specs.{declared.stills.Still.Still, Heads.stand_of, Stills.still_of, Stills.stills, Stills.CanStand, Stills.AllCanStand, Stills.IsGoodStill, Stills.AllGood}
 
 length-stands : (c : Clef) (hs : List Head) → length (map (stand_of c) hs) ≡ length hs
 length-stands c [] = refl

@@ -1,9 +1,7 @@
 -- Which neighbours of a voice and measure a beam joins: notes of 1/8 and less with no space and no line end between
 -- them. A beam is a maximal run of two or more such notes; a run of one is an event without a beam.
 use Rattle.std.specs.Prelude.{Bool, not, ◌&&◌, nat_lt, List, length}
-use Rattle.mus_stems.specs.declared.stills.Still.{Still}
-use Rattle.mus_stems.specs.Stills.{flags_of}
-use Rattle.mus_stems.specs.Runs.{runs}
+use Rattle.mus_stems.specs.{declared.stills.Still.Still, Stills.flags_of, Runs.runs}
 
 -- whether an event can be in a beam: a note with a flag
 unfoldable pub is_beamed : Still → Bool

@@ -1,10 +1,7 @@
 -- The columns of signs. The written signs of an event are counted from the highest head down, at one height in the order
 -- of the text. Each stands in a column of its own, one further left than the sign before it.
 use Rattle.std.specs.Prelude.{◌≡◌, ℕ, ◌+◌, ℤ, Bool, false, if◌then◌else◌, ⊤, List, [], ◌∷◌, length, slice_index_or, Option, Some, None}
-use Rattle.mus_stems.specs.declared.heads.Stand.{Stand}
-use Rattle.mus_stems.specs.Heads.{Taken}
-use Rattle.mus_stems.specs.Signs.{sign_at}
-use Rattle.mus_stems.specs.Order.{AreTaken}
+use Rattle.mus_stems.specs.{declared.heads.Stand.Stand, Heads.Taken, Signs.sign_at, Order.AreTaken}
 
 -- what a list in the order of the text has for a head: the dx of its sign, if it has one
 abbrev pub sign_of : List (Option ℤ) → Taken → Option ℤ

@@ -2,12 +2,7 @@
 use Rattle.std.specs.Prelude.{ℤ, pos, ◌+ℤ◌, ◌-ℤ◌, ◌*ℤ◌, Bool, true, false, ◌&&◌, nat_lt, int_lt, if◌then◌else◌, List, [], ◌∷◌, length}
 use Rattle.std.specs.Int.{int_min, int_max}
 use Rattle.mus_units.specs.declared.note.Wish.{Wish}
-use Rattle.mus_units.specs.declared.note.Wish.TheVariants as wishes
-use Rattle.mus_stems.specs.declared.heads.Stand.{Stand}
-use Rattle.mus_stems.specs.declared.stills.Still.{Still}
-use Rattle.mus_stems.specs.Distances.{step, middle_line, stem_length}
-use Rattle.mus_stems.specs.Heads.{lowest, highest}
-use Rattle.mus_stems.specs.Stills.{is_short}
+use Rattle.mus_stems.specs.{declared.heads.Stand.Stand, declared.stills.Still.Still, Distances.step, Distances.middle_line, Distances.stem_length, Heads.lowest, Heads.highest, Stills.is_short}
 
 -- the heights of the lowest and the highest head, 0 without a head
 abbrev pub low_of : List Stand → ℤ
@@ -37,9 +32,9 @@ run_high (e ∷ es) = highest_in (high_of e.stands) es
 
 -- the way that is wished for; else up where the lowest and the highest height sum to less than 8
 abbrev pub is_up : Wish → ℤ → ℤ → Bool
-is_up wishes.Up low high = true
-is_up wishes.Down low high = false
-is_up wishes.Auto low high = int_lt (low +ℤ high) (pos 8)
+is_up Wish.Up low high = true
+is_up Wish.Down low high = false
+is_up Wish.Auto low high = int_lt (low +ℤ high) (pos 8)
 
 unfoldable pub stands_up : Wish → List Still → Bool
 stands_up wish run = is_up wish (run_low run) (run_high run)

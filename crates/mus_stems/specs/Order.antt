@@ -2,8 +2,7 @@
 -- where it goes down, and heads of one height in the order of the text.
 use Rattle.std.specs.Prelude.{◌≡◌, ℕ, ◌<◌, ◌<ℤ◌, ◌⊎◌, ⊤, Bool, List, [], ◌∷◌, slice_get, Some}
 use Rattle.std.specs.List.{AllByRecursion}
-use Rattle.mus_stems.specs.declared.heads.Stand.{Stand}
-use Rattle.mus_stems.specs.Heads.{Taken, level_of}
+use Rattle.mus_stems.specs.{declared.heads.Stand.Stand, Heads.Taken, Heads.level_of}
 
 -- a head is taken before another where it stands less far in the way in which heads are taken, or as far and earlier
 -- in the text

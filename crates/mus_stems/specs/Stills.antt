@@ -2,25 +2,22 @@
 -- where its heads stand in its clef.
 use Rattle.std.specs.Prelude.{ℕ, ◌≤◌, Bool, true, false, ⊤, List, [], ◌∷◌, length, map}
 use Rattle.std.specs.List.{AllByRecursion}
-use Rattle.mus_units.specs.declared.value.Base.{Base}
-use Rattle.mus_units.specs.declared.value.Base.TheVariants as bases
-use Rattle.mus_units.specs.declared.pitch.Clef.{Clef}
+use Rattle.mus_units.specs.{declared.value.Base.Base, declared.pitch.Clef.Clef}
 use Rattle.mus_score.specs.declared.score.Flat.{Flat}
-use Rattle.mus_stems.specs.declared.stills.Still.{Still}
-use Rattle.mus_stems.specs.Heads.{AllNear, stand_of}
+use Rattle.mus_stems.specs.{declared.stills.Still.Still, Heads.AllNear, Heads.stand_of}
 
 -- the flags of a base: one for 1/8, one more for each halving
 abbrev pub flags_of : Base → ℕ
-flags_of bases.Eighth = 1
-flags_of bases.N16 = 2
-flags_of bases.N32 = 3
-flags_of bases.N64 = 4
+flags_of Base.Eighth = 1
+flags_of Base.N16 = 2
+flags_of Base.N32 = 3
+flags_of Base.N64 = 4
 flags_of _ = 0
 
 -- 1/2 and less have a stem
 abbrev pub is_short : Base → Bool
-is_short bases.Breve = false
-is_short bases.Whole = false
+is_short Base.Breve = false
+is_short Base.Whole = false
 is_short _ = true
 
 unfoldable pub still_of : Flat → Clef → Still

@@ -1,6 +1,5 @@
 ghost use Rattle.std.specs.Prelude.{◌≡◌, ◌≤◌, length};
-ghost use Rattle.mus_stems.specs.Beams.{is_beamed, is_joined};
-ghost use Rattle.mus_stems.specs.Runs.{run_more};
+ghost use Rattle.mus_stems.specs.{Beams.is_beamed, Beams.is_joined, Runs.run_more};
 
 use crate::stills::{Still, flags_for};
 

@@ -1,5 +1,4 @@
-ghost use Rattle.mus_stems.specs.Groups.{BeamsByGroups, SlopesByBeams};
-ghost use Rattle.mus_stems.specs.Plans.{OnePlan};
+ghost use Rattle.mus_stems.specs.{Groups.BeamsByGroups, Groups.SlopesByBeams, Plans.OnePlan};
 
 /// The law of groups: where the ids of a measure's events rise, the maximal runs of neighbouring
 /// plans with one `group` are the plans of its beams, beam for beam. An event without a beam is a

@@ -1,5 +1,4 @@
-ghost use Rattle.std.specs.Prelude.{◌≡◌, ◌≤ℤ◌, ◌<◌, ◌≤◌, ◌+◌, List, negsuc, length, false, IfOk};
-ghost use Rattle.std.specs.List.{list_any};
+ghost use Rattle.std.specs.{Prelude.◌≡◌, Prelude.◌≤ℤ◌, Prelude.◌<◌, Prelude.◌≤◌, Prelude.◌+◌, Prelude.List, Prelude.negsuc, Prelude.length, Prelude.false, Prelude.IfOk, List.list_any};
 ghost use Rattle.mus_stems.specs.Heads.{IsNear, AllNear, Taken, taken_one, taken_at, taken};
 ghost use Rattle.mus_stems.specs.Signs.{is_left, first_sign, sign_at, signs_along, signs_from};
 

@@ -2,8 +2,7 @@
 -- a key is below all that it is below.
 use Rattle.std.proofs.Common.{◌≡◌, ℕ, ◌<◌, Bool, true, false, nat_lt, refl, arith}
 use Rattle.std.proofs.lemmas.Bool.Decides.{nat_tests}
-use Rattle.mus_time.specs.declared.keys.ColumnKey.{ColumnKey}
-use Rattle.mus_time.specs.Order.{is_below, class_number, then_below}
+use Rattle.mus_time.specs.{declared.keys.ColumnKey.ColumnKey, Order.is_below, Order.class_number, Order.then_below}
 
 pub not_itself : (k : ColumnKey) → is_below k k ≡ false
 unfolding is_below

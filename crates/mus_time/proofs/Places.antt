@@ -1,23 +1,11 @@
 -- The keys that voices call for stand in the system's measures, and none behind its measure's end.
-use Rattle.std.proofs.Common.{◌≡◌, ℕ, zero, zero-add, suc, ◌+◌, ◌-◌, ◌≤◌, ◌<◌, List, [], ◌∷◌, ◌++◌, length, length-take, get_or, drop, take, refl, sym, subst, Bool, true, false, ◌&&◌, ◌==◌, not, if◌then◌else◌, arith}
+use Rattle.std.proofs.Common.{◌≡◌, ℕ, zero, zero-add, suc, ◌+◌, ◌-◌, ◌≤◌, ◌<◌, List, [], ◌∷◌, ◌++◌, length, length-take, get_or, drop, take, filter, refl, sym, subst, Bool, true, false, ◌&&◌, ◌==◌, not, if◌then◌else◌, arith}
+use Rattle.std.proofs.lemmas.{List.Sums.sum_by-cons, Bool.Decides.nat_tests, List.Elements.All-contains, List.Elements.All-from_recursion, List.Elements.Contains-get_or, List.Elements.recursion_from_All, List.FromFn.length-map-range_with_len, List.FromFn.get_or-map-range_with_len}
 use Rattle.std.specs.List.{All, AllByRecursion, flat_map, slice_get, slice_index, slice_range}
-use Rattle.std.proofs.lemmas.List.Sums.{sum_by-cons}
-use Rattle.std.proofs.lemmas.Bool.Decides.{nat_tests}
-use Rattle.std.proofs.lemmas.List.Elements.{All-contains, All-from_recursion, Contains-get_or, recursion_from_All}
-use Rattle.std.proofs.lemmas.List.FromFn.{length-map-range_with_len, get_or-map-range_with_len}
-use Rattle.mus_score.specs.declared.score.Event.{Event}
-use Rattle.mus_score.specs.declared.score.Flat.{Flat}
-use Rattle.mus_score.specs.declared.score.Measure.{Measure}
-use Rattle.mus_score.specs.declared.score.Score.{Score}
-use Rattle.mus_score.specs.declared.score.Voice.{Voice}
-use Rattle.mus_score.specs.Good.{total_ticks}
-use Rattle.mus_score.specs.GoodScore.{IsGoodScore}
-use Rattle.mus_score.specs.Times.{flats_of}
+use Rattle.mus_score.specs.{declared.score.Event.Event, declared.score.Flat.Flat, declared.score.Measure.Measure, declared.score.Score.Score, declared.score.Voice.Voice, Good.total_ticks, GoodScore.IsGoodScore, Seats.is_lower, Times.flats_of}
 use Rattle.mus_units.specs.declared.note.Bar.{Bar}
-use Rattle.mus_time.specs.declared.keys.ColumnKey.{ColumnKey}
-use Rattle.mus_time.specs.declared.keys.Class.TheVariants as classes
-use Rattle.mus_time.specs.Keys.{key_at, change_keys, change_has_mark, grace_keys, event_keys, events_keys, signed_after, signed_through, measures_keys, first_keys, has_features, signed_at, voice_keys, called_keys, measure_keys, further_keys, AreKeys, IsInSystem}
-use Rattle.mus_time.specs.Onsets.{greatest, length_in, length_at, ticks_of_some, timeline_of}
+use Rattle.mus_time.specs.Keys.{key_at, change_keys, change_has_mark, grace_keys, event_keys, events_keys, signed_after, signed_through, measures_keys, first_keys, has_features, signed_at, voice_keys, all_keys, keys_by, is_for_each, called_keys, measure_keys, further_keys, AreKeys, IsInSystem}
+use Rattle.mus_time.specs.{declared.keys.ColumnKey.ColumnKey, Onsets.greatest, Onsets.length_in, Onsets.length_at, Onsets.ticks_of_some, Onsets.timeline_of, declared.keys.Class.Class}
 
 pub length_of_lengths : (s : Score) → length (timeline_of s).lengths ≡ s.measures
 length_of_lengths s = length-map-range_with_len (length_at s.voices) 0 s.measures
@@ -41,7 +29,7 @@ pub record UpTo (m high : ℕ) (k : ColumnKey) : Type 0 where
   pub measure : k.measure ≡ m
   pub tick : k.tick ≤ high
 
-change_up_to : (m tick high : ℕ) (b : Bool) → tick ≤ high → AllByRecursion (UpTo m high) (if b then key_at m tick classes.Change 0 ∷ [] else [])
+change_up_to : (m tick high : ℕ) (b : Bool) → tick ≤ high → AllByRecursion (UpTo m high) (if b then key_at m tick Class.Change 0 ∷ [] else [])
 change_up_to m tick high true h = (record { measure = refl; tick = h }, tt)
 change_up_to m tick high false h = tt
 
@@ -51,7 +39,7 @@ graces_up_to m tick high i (g ∷ gs) h = (record { measure = refl; tick = h }, 
 
 event_up_to : (m tick high : ℕ) (in_head signed : Bool) (f : Flat) → tick ≤ high → AllByRecursion (UpTo m high) (event_keys m tick in_head signed f)
 event_up_to m tick high in_head signed f h =
-    all_append (UpTo m high) (change_keys m tick in_head signed f.event.changes ++ grace_keys m tick 0 f.graces) (key_at m tick classes.Note 0 ∷ [])
+    all_append (UpTo m high) (change_keys m tick in_head signed f.event.changes ++ grace_keys m tick 0 f.graces) (key_at m tick Class.Note 0 ∷ [])
     (all_append (UpTo m high) (change_keys m tick in_head signed f.event.changes) (grace_keys m tick 0 f.graces)
     (change_up_to m tick high (not in_head && change_has_mark signed f.event.changes) h)
     (graces_up_to m tick high 0 f.graces h))
@@ -90,9 +78,9 @@ measures_in lengths a b m in_head signed (x ∷ xs) from to fit =
     let fs = flats_of x.body in
     let high : total_ticks [] + total_ticks fs ≤ slice_index lengths m = omega (arith, fit.0) in
     let before : m < b = omega arith in
-    all_append (IsInSystem lengths a b) (events_keys m in_head signed [] fs) (key_at m (slice_index lengths m) classes.Bar 0 ∷ measures_keys lengths (m + 1) false (signed_through signed fs) xs)
+    all_append (IsInSystem lengths a b) (events_keys m in_head signed [] fs) (key_at m (slice_index lengths m) Class.Bar 0 ∷ measures_keys lengths (m + 1) false (signed_through signed fs) xs)
     (all_weaker (UpTo m (slice_index lengths m)) (IsInSystem lengths a b) (in_system lengths a b m from before) (events_keys m in_head signed [] fs) (events_up_to m (slice_index lengths m) in_head signed [] fs high)) (
-      in_system lengths a b m from before (key_at m (slice_index lengths m) classes.Bar 0) (record { measure = refl; tick = omega arith }),
+      in_system lengths a b m from before (key_at m (slice_index lengths m) Class.Bar 0) (record { measure = refl; tick = omega arith }),
       measures_in lengths a b (m + 1) false (signed_through signed fs) xs (omega arith) (omega arith) fit.1,
     )
 
@@ -115,7 +103,7 @@ fit_drop lengths m (suc a) (x ∷ xs) h = subst (λ z. MeasuresFit lengths z (dr
 
 -- Voices.
 
-first_if : (lengths : List ℕ) (a b : ℕ) (c : Bool) → (c ≡ true → a ≡ 0) → a < b → AllByRecursion (IsInSystem lengths a b) (if c then key_at 0 0 classes.First 0 ∷ [] else [])
+first_if : (lengths : List ℕ) (a b : ℕ) (c : Bool) → (c ≡ true → a ≡ 0) → a < b → AllByRecursion (IsInSystem lengths a b) (if c then key_at 0 0 Class.First 0 ∷ [] else [])
 first_if lengths a b true z h = let e : a ≡ 0 = z refl in (record { from = omega arith; to = omega arith; within = omega arith }, tt)
 first_if lengths a b false z h = tt
 
@@ -127,10 +115,21 @@ voice_fits lengths m v fits =
     subst (λ z. MeasuresFit lengths z (drop m v.measures)) (zero-add m)
     (fit_drop lengths 0 m v.measures (fit_from lengths 0 v.measures (λ i k. subst (λ z. length_in i v ≤ slice_index lengths z) (omega arith) (fits i k))))
 
+-- what holds of all keys of a voice holds of those that it has on its staff
+kept_one : (P : ColumnKey → Type 0) (c : Bool) (k : ColumnKey) (ks : List ColumnKey) → P k → AllByRecursion P ks → AllByRecursion P (if c then k ∷ ks else ks)
+kept_one P true k ks h all = (h, all)
+kept_one P false k ks h all = all
+
+kept_all : (P : ColumnKey → Type 0) (lower : Bool) (ks : List ColumnKey) → AllByRecursion P ks → AllByRecursion P (keys_by lower ks)
+kept_all P false ks h = h
+kept_all P true [] h = tt
+kept_all P true (k ∷ ks) h = kept_one P (is_for_each k) k (filter is_for_each ks) h.0 (kept_all P true ks h.1)
+
 voice_in : (lengths : List ℕ) (a b : ℕ) (v : Voice) → a < b → b ≤ length v.measures → ((k : ℕ) → k < length v.measures → length_in k v ≤ slice_index lengths k) → AllByRecursion (IsInSystem lengths a b) (voice_keys lengths a b v)
 voice_in lengths a b v order within fits =
     let some = slice_range v.measures a b in
-    let count : length some ≤ b - a = omega (arith, length-take (b - a) (drop a v.measures)) in (
+    let count : length some ≤ b - a = omega (arith, length-take (b - a) (drop a v.measures)) in
+    kept_all (IsInSystem lengths a b) (is_lower v.seat) (all_keys lengths a b v) (
       record { from = omega arith; to = order; within = omega arith },
       all_append (IsInSystem lengths a b) (first_keys a v.first) (measures_keys lengths a true (signed_at a v) some)
           (first_in lengths a b v.first order)
@@ -161,8 +160,9 @@ further_in lengths m n [] order same fits = tt
 further_in lengths m n (v ∷ vs) order same fits =
     let count : length (slice_range v.measures m (m + 1)) ≤ 1 = omega (arith, length-take (m + 1 - m) (drop m v.measures)) in
     all_append (IsInSystem lengths m (m + 1)) (measure_keys lengths m v) (flat_map (measure_keys lengths m) vs)
+    (kept_all (IsInSystem lengths m (m + 1)) (is_lower v.seat) (measures_keys lengths m false (signed_at m v) (slice_range v.measures m (m + 1)))
     (measures_in lengths m (m + 1) m false (signed_at m v) (slice_range v.measures m (m + 1)) (omega arith) (omega arith)
-    (fit_take lengths m (m + 1 - m) (drop m v.measures) (voice_fits lengths m v (λ k h. omega (arith, fits k (omega (arith, same.0)))))))
+    (fit_take lengths m (m + 1 - m) (drop m v.measures) (voice_fits lengths m v (λ k h. omega (arith, fits k (omega (arith, same.0))))))))
     (further_in lengths m n vs order same.1 (λ k h. omega (arith, fits k h)))
 
 pub further_places : (s : Score) (m : ℕ) (keys : List ColumnKey) → IsGoodScore s → m < s.measures → AreKeys keys (further_keys s (timeline_of s).lengths m) → All (IsInSystem (timeline_of s).lengths m (m + 1)) keys

@@ -1,16 +1,9 @@
 -- The derived order of column keys is the order of columns.
 use Rattle.std.proofs.Common.{◌≡◌, ◌<◌, List, [], ◌∷◌, true, refl, arith}
-use Rattle.std.specs.List.{AllByRecursion}
-use Rattle.std.specs.List.Sorted.{IsStrictlySortedBy}
-use Rattle.std.specs.Ordering.{nat_cmp, ordering_then}
-use Rattle.std.specs.declared.cmp.Ordering.TheVariants.{Less, Equal}
-use Rattle.std.proofs.lemmas.Bool.Decides.{nat_tests}
-use Rattle.mus_time.specs.contracts.keys.ColumnKeyOrd.TheImpl.{ghosts}
+use Rattle.std.{proofs.lemmas.Bool.Decides.nat_tests, specs.List.AllByRecursion, specs.List.Sorted.IsStrictlySortedBy, specs.Ordering.nat_cmp, specs.Ordering.ordering_then, specs.declared.cmp.Ordering.TheVariants.Less, specs.declared.cmp.Ordering.TheVariants.Equal}
+use Rattle.mus_time.specs.{contracts.keys.ColumnKeyOrd.TheImpl.ghosts, declared.keys.Class.Class, declared.keys.ColumnKey.ColumnKey, Order.is_below, Order.class_number, Order.BelowAll, Order.Rises}
 use Rattle.mus_time.specs.contracts.keys.ColumnKeyPartialEq.TheImpl as equal
 use Rattle.mus_time.specs.contracts.keys.ClassOrd.TheImpl as classes
-use Rattle.mus_time.specs.declared.keys.Class.{Class}
-use Rattle.mus_time.specs.declared.keys.ColumnKey.{ColumnKey}
-use Rattle.mus_time.specs.Order.{is_below, class_number, BelowAll, Rises}
 
 class_less : (k l : Class) → classes.ghosts.cmp k l ≡ Less → class_number k < class_number l
 class_less k l h = grind (arith, nat_tests)

@@ -1,15 +1,9 @@
 -- The tree and the events in a row tell the same of the key in force.
 use Rattle.std.proofs.Common.{◌≡◌, ◌∙◌, ℕ, Bool, List, [], ◌∷◌, ◌++◌, ap, map, refl, subst, sym}
 use Rattle.std.specs.List.{AllByRecursion}
-use Rattle.mus_score.specs.declared.score.Flat.{Flat}
-use Rattle.mus_score.specs.declared.score.Music.{Music}
-use Rattle.mus_score.specs.declared.score.Music.TheOpen.{Music-F}
-use Rattle.mus_score.specs.declared.score.Music.TheFolds.{fold-roll-Music, ind-Music, map-Music}
-use Rattle.mus_score.specs.declared.score.Music.TheViews.{roll-Music}
-use Rattle.mus_score.specs.declared.times.Waits.{Waits}
+use Rattle.mus_score.specs.declared.{score.Flat.Flat, score.Music.Music, score.Music.TheOpen.Music-F, score.Music.TheFolds.fold-roll-Music, score.Music.TheFolds.ind-Music, score.Music.TheFolds.map-Music, score.Music.TheViews.roll-Music, times.Waits.Waits}
 use Rattle.mus_score.specs.Times.{Leafing, flats_of, in_row, leaves_step, leaves_within, nothing}
-use Rattle.mus_time.specs.Keys.{signed_after, signed_through}
-use Rattle.mus_time.specs.Signed.{signed_in, signed_step, signed_within}
+use Rattle.mus_time.specs.{Keys.signed_after, Keys.signed_through, Signed.signed_in, Signed.signed_step, Signed.signed_within}
 
 signed_through_append : (s : Bool) (fs gs : List Flat) → signed_through s (fs ++ gs) ≡ signed_through (signed_through s fs) gs
 signed_through_append s [] gs = refl

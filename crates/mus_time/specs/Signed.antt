@@ -1,8 +1,6 @@
 -- Whether the key in force has entries behind a node of music, read off the tree.
 use Rattle.std.specs.Prelude.{Bool, List, [], ◌∷◌, map}
-use Rattle.mus_score.specs.declared.score.Music.{Music}
-use Rattle.mus_score.specs.declared.score.Music.TheOpen.{Music-F}
-use Rattle.mus_score.specs.declared.score.Music.TheFolds.{fold-Music}
+use Rattle.mus_score.specs.{declared.score.Music.Music, declared.score.Music.TheOpen.Music-F, declared.score.Music.TheFolds.fold-Music}
 use Rattle.mus_time.specs.Keys.{signed_after}
 
 abbrev pub in_turn : List (Bool → Bool) → Bool → Bool

@@ -1,11 +1,7 @@
-ghost use Rattle.std.specs.Prelude.{◌≡◌, ◌≤◌, ◌<◌, ◌+◌, ◌*◌, ◌++◌, All, Contains, IfOk, OnOk, [], ◌∷◌, flat_map, length, slice_range, true};
-ghost use Rattle.mus_score.specs.Good.{IsGoodBody, longest_ticks, total_ticks};
-ghost use Rattle.mus_score.specs.GoodScore.{IsGoodScore, IsGoodVoice};
-ghost use Rattle.mus_score.specs.Times.{flats_of};
-ghost use Rattle.mus_time.specs.Keys.{AreKeys, IsInSystem, called_keys, change_has_mark, event_keys, events_keys, first_keys, further_keys, grace_keys, has_entries, has_features, key_at, key_has_mark, measure_keys, measures_keys, meter_has_mark, signed_after, signed_at, signed_behind, signed_through, voice_keys};
-ghost use Rattle.mus_time.specs.Onsets.{timeline_of};
-ghost use Rattle.mus_time.specs.Order.{Rises};
-ghost use Rattle.mus_time.specs.Signed.{signed_in, signed_within};
+ghost use Rattle.std.specs.Prelude.{◌≡◌, ◌≤◌, ◌<◌, ◌+◌, ◌*◌, ◌++◌, All, Contains, IfOk, OnOk, [], ◌∷◌, filter, flat_map, length, slice_range, false, true};
+ghost use Rattle.mus_score.specs.{Good.IsGoodBody, Good.longest_ticks, Good.total_ticks, GoodScore.IsGoodScore, GoodScore.IsGoodVoice, Times.flats_of};
+ghost use Rattle.mus_time.specs.Keys.{AreKeys, IsInSystem, all_keys, called_keys, change_has_mark, event_keys, events_keys, first_keys, further_keys, grace_keys, is_for_each, has_entries, has_features, key_at, key_has_mark, measure_keys, measures_keys, meter_has_mark, signed_after, signed_at, signed_behind, signed_through, voice_keys};
+ghost use Rattle.mus_time.specs.{Onsets.timeline_of, Order.Rises, Signed.signed_in, Signed.signed_within};
 
 use crate::keys::{Class, ColumnKey};
 use crate::times::Timeline;
@@ -262,8 +258,9 @@ fn put_first(out: &mut Row<ColumnKey>, a: u32, bar: Bar) -> Result<(), Memory>
     })
 }
 
-/// The keys of a voice: its head, the bar before the first measure, its events and its bars.
-fn put_voice(
+/// Puts the keys of a voice as if it had a staff for itself: its head, the bar before the first
+/// measure, its events and its bars.
+fn put_all_keys(
     alloc: Global,
     out: &mut Row<ColumnKey>,
     lengths: &[u64],
@@ -275,7 +272,7 @@ fn put_voice(
     requires order { a < b }
     requires within { b ≤ length v.now.measures }
     requires lengths { length lengths.now ≡ length v.now.measures }
-    ensures { OnOk result (out.new ≡ out.old ++ voice_keys lengths.now a b v.now) }
+    ensures { OnOk result (out.new ≡ out.old ++ all_keys lengths.now a b v.now) }
 {
     let measures = v.measures.as_slice();
     out.push(ColumnKey {
@@ -291,7 +288,74 @@ fn put_voice(
     put_measures(alloc, out, lengths, a, true, signed, measures)
 }
 
-/// The keys of measure `m` of a voice, in a system that begins before it: its events and its bar.
+fn is_for_each(key: ColumnKey) -> bool
+    ensures { result ≡ is_for_each key }
+{
+    match key.class {
+        Class::Grace | Class::Note => true,
+        Class::Head | Class::First | Class::Change | Class::Bar => false,
+    }
+}
+
+/// Puts those of the keys that each voice of a staff has for itself.
+fn put_own(out: &mut Row<ColumnKey>, keys: &[ColumnKey]) -> Result<(), Memory>
+    ensures { OnOk result (out.new ≡ out.old ++ filter is_for_each keys.now) }
+{
+    for key in keys {
+        if is_for_each(*key) {
+            out.push(*key)?;
+        }
+    }
+    Ok(())
+}
+
+/// The keys of a voice: its head, the bar before the first measure, its events and its bars; of a
+/// lower voice those of its notes and graces.
+fn put_voice(
+    alloc: Global,
+    out: &mut Row<ColumnKey>,
+    lengths: &[u64],
+    a: u32,
+    b: u32,
+    v: &Voice,
+) -> Result<(), Memory>
+    requires good { IsGoodVoice v.now }
+    requires order { a < b }
+    requires within { b ≤ length v.now.measures }
+    requires lengths { length lengths.now ≡ length v.now.measures }
+    ensures { OnOk result (out.new ≡ out.old ++ voice_keys lengths.now a b v.now) }
+{
+    if !v.seat.is_lower() {
+        return put_all_keys(alloc, out, lengths, a, b, v);
+    }
+    let mut all = Row::new(alloc);
+    put_all_keys(alloc, &mut all, lengths, a, b, v)?;
+    put_own(out, all.as_slice())
+}
+
+/// Puts the keys of measure `m` of a voice as if it had a staff for itself, in a system that begins
+/// before it: its events and its bar.
+fn put_all_of(
+    alloc: Global,
+    out: &mut Row<ColumnKey>,
+    lengths: &[u64],
+    m: u32,
+    v: &Voice,
+) -> Result<(), Memory>
+    requires good { IsGoodVoice v.now }
+    requires within { m < length v.now.measures }
+    requires lengths { length lengths.now ≡ length v.now.measures }
+    ensures { OnOk result (out.new ≡ out.old ++ measures_keys lengths.now m false (signed_at m v.now) (slice_range v.now.measures m (m + 1))) }
+{
+    let measures = v.measures.as_slice();
+    let before = &measures[..m as usize];
+    let signed = signed_behind_measures(is_signed(&v.key), before);
+    let measures = &measures[m as usize..m as usize + 1];
+    put_measures(alloc, out, lengths, m, false, signed, measures)
+}
+
+/// The keys of measure `m` of a voice, in a system that begins before it; of a lower voice those of
+/// its notes and graces.
 fn put_measure_of(
     alloc: Global,
     out: &mut Row<ColumnKey>,
@@ -304,11 +368,12 @@ fn put_measure_of(
     requires lengths { length lengths.now ≡ length v.now.measures }
     ensures { OnOk result (out.new ≡ out.old ++ measure_keys lengths.now m v.now) }
 {
-    let measures = v.measures.as_slice();
-    let before = &measures[..m as usize];
-    let signed = signed_behind_measures(is_signed(&v.key), before);
-    let measures = &measures[m as usize..m as usize + 1];
-    put_measures(alloc, out, lengths, m, false, signed, measures)
+    if !v.seat.is_lower() {
+        return put_all_of(alloc, out, lengths, m, v);
+    }
+    let mut all = Row::new(alloc);
+    put_all_of(alloc, &mut all, lengths, m, v)?;
+    put_own(out, all.as_slice())
 }
 
 fn put_voices(

@@ -1,6 +1,5 @@
 ghost use Rattle.std.specs.Prelude.{◌≡◌};
-ghost use Rattle.mus_time.specs.Order.{class_number, is_below, rank_of, same_key};
-ghost use Rattle.mus_time.specs.Ranks.{AreRanked, rank_at};
+ghost use Rattle.mus_time.specs.{Order.class_number, Order.is_below, Order.rank_of, Order.same_key, Ranks.AreRanked, Ranks.rank_at};
 
 use crate::keys::{Class, ColumnKey};
 

@@ -1,8 +1,5 @@
-ghost use Rattle.std.specs.Prelude.{◌≡◌, ◌≤◌, ◌<◌, ◌*◌, ◌++◌, [], All, IfOk, OnOk, length, map};
-ghost use Rattle.std.specs.List.{range_with_len};
-ghost use Rattle.mus_score.specs.Good.{IsGoodBody, longest_ticks, total_ticks};
-ghost use Rattle.mus_score.specs.GoodScore.{IsGoodScore, IsGoodVoice};
-ghost use Rattle.mus_score.specs.Times.{flats_of};
+ghost use Rattle.std.specs.{Prelude.◌≡◌, Prelude.◌≤◌, Prelude.◌<◌, Prelude.◌*◌, Prelude.◌++◌, Prelude.[], Prelude.All, Prelude.IfOk, Prelude.OnOk, Prelude.length, Prelude.map, List.range_with_len};
+ghost use Rattle.mus_score.specs.{Good.IsGoodBody, Good.longest_ticks, Good.total_ticks, GoodScore.IsGoodScore, GoodScore.IsGoodVoice, Times.flats_of};
 ghost use Rattle.mus_time.specs.Onsets.{event_onsets, greatest, length_at, length_in, measure_onsets, timeline_of, voice_onsets};
 
 use mus_score::{Flat, Measure, Music, Score, Voice, body_duration, flatten};

@@ -1,24 +1,15 @@
 -- One walk over the syllables and texts of an event: what holds of a syllable of each verse, and of a text above and
 -- one below, as they are printed, holds of all of them. What prints nothing is not drawn.
 use Rattle.std.proofs.Common.{◌≡◌, ℕ, suc, ℤ, ◌+◌, ◌≤◌, ◌<◌, Bool, true, false, ◌==◌, if◌then◌else◌, List, [], ◌∷◌, ◌++◌, length, Option, Some, None, refl, subst, arith}
-use Rattle.std.specs.List.{AllByRecursion, flat_map}
-use Rattle.std.specs.Prelude.{decimal}
-use Rattle.std.proofs.lemmas.Bool.Decides.{nat_tests}
-use Rattle.std.proofs.Math.Bool.{beq}
+use Rattle.std.{proofs.lemmas.Bool.Decides.nat_tests, proofs.Math.Bool.beq, specs.List.AllByRecursion, specs.List.flat_map, specs.Prelude.decimal}
 use Rattle.mus_units.specs.declared.note.Deco.{Deco}
-use Rattle.mus_units.specs.declared.note.Deco.TheVariants as decos
-use Rattle.mus_score.specs.declared.score.Flat.{Flat}
-use Rattle.mus_score.specs.declared.score.Mention.{Mention}
+use Rattle.mus_score.specs.{declared.score.Flat.Flat, declared.score.Mention.Mention}
 use Rattle.mus_stems.proofs.RunLaws.{all_append}
-use Rattle.mus_laid.specs.declared.drawn.Drawn.{Drawn}
+use Rattle.mus_laid.specs.{declared.drawn.Drawn.Drawn, Printed.printed, declared.laid.Lane.Lane}
+use Rattle.mus_ink.specs.{Distances.half_character, Drawing.back}
+use Rattle.mus_words.specs.{declared.texts.TextPlace.TextPlace, Syllables.syllable_dx, Syllables.syllable_if, Syllables.syllables_from, Syllables.verse_dy, Texts.above_from, Texts.below_from, Texts.shown_deco, Texts.shown_ending, Texts.shown_mention, Texts.shown_number, Texts.text_marks}
+use Rattle.mus_words.specs.{Texts.texts_above, Texts.texts_below, Words.shown, Words.words}
 use Rattle.mus_laid.specs.declared.laid.Lane.TheVariants as lanes
-use Rattle.mus_laid.specs.Printed.{printed}
-use Rattle.mus_ink.specs.Distances.{half_character}
-use Rattle.mus_ink.specs.Drawing.{back}
-use Rattle.mus_words.specs.declared.texts.TextPlace.{TextPlace}
-use Rattle.mus_words.specs.Syllables.{syllable_dx, syllable_if, syllables_from, verse_dy}
-use Rattle.mus_words.specs.Texts.{above_from, below_from, shown_deco, shown_ending, shown_mention, shown_number, text_marks, texts_above, texts_below}
-use Rattle.mus_words.specs.Words.{shown, words}
 
 -- what is printed of a text, if that is anything
 pub record IsShown (t : List ℕ) : Type 0 where
@@ -28,8 +19,8 @@ pub record IsShown (t : List ℕ) : Type 0 where
 
 -- what is asked of each kind of text
 pub record OfWords (IsVerse : ℕ → Type 0) (P : Drawn → Type 0) : Type 0 where
-  pub of_syllable : (low : ℤ) (n : ℕ) (t : List ℕ) → IsVerse n → IsShown t → P (words (lanes.Verse n) (syllable_dx (length t)) (verse_dy low n) t)
-  pub of_above : (dy : ℤ) (t : List ℕ) → IsShown t → P (words lanes.Above (back half_character) dy t)
+  pub of_syllable : (low : ℤ) (n : ℕ) (t : List ℕ) → IsVerse n → IsShown t → P (words (Lane.Verse n) (syllable_dx (length t)) (verse_dy low n) t)
+  pub of_above : (dy : ℤ) (t : List ℕ) → IsShown t → P (words Lane.Above (back half_character) dy t)
   pub of_below : (dy : ℤ) (t : List ℕ) → IsShown t → P (words lanes.Below (back half_character) dy t)
 
 is_shown : (t : List ℕ) → (length (printed t) == 0) ≡ false → IsShown (printed t)
@@ -48,8 +39,8 @@ ending_shown None = tt
 ending_shown (Some t) = text_shown t
 
 deco_shown : (below : Bool) (d : Deco) → AllByRecursion IsShown (shown_deco below d)
-deco_shown false (decos.Above t) = text_shown t
-deco_shown true (decos.Below t) = text_shown t
+deco_shown false (Deco.Above t) = text_shown t
+deco_shown true (Deco.Below t) = text_shown t
 deco_shown _ _ = tt
 
 if_shown : (b : Bool) (t : List ℕ) → AllByRecursion IsShown (if b then shown t else [])
@@ -81,7 +72,7 @@ below_shown f =
 
 module _ (IsVerse : ℕ → Type 0) (P : Drawn → Type 0) (w : OfWords IsVerse P) where
   syllable_any : (low : ℤ) (n : ℕ) (b : Bool) (t : List ℕ) → (length (printed t) == 0) ≡ b → IsVerse n
-      → AllByRecursion P (if b then [] else words (lanes.Verse n) (syllable_dx (length (printed t))) (verse_dy low n) (printed t) ∷ [])
+      → AllByRecursion P (if b then [] else words (Lane.Verse n) (syllable_dx (length (printed t))) (verse_dy low n) (printed t) ∷ [])
   syllable_any low n true t e verse = tt
   syllable_any low n false t e verse = (w.of_syllable low n (printed t) verse (is_shown t e), tt)
 

@@ -1,20 +1,12 @@
 -- Slurs and ties: the heights of their two ends, and how far they bulge.
 use Rattle.std.specs.Prelude.{ℕ, ℤ, pos, ◌+ℤ◌, Bool, true, false, ◌&&◌, not, if◌then◌else◌, List, Option, Some, None}
 use Rattle.std.specs.List.{find, slice_get}
-use Rattle.mus_units.specs.declared.pitch.Clef.{Clef}
-use Rattle.mus_units.specs.declared.note.Head.{Head}
-use Rattle.mus_stems.specs.declared.plans.StemPlan.{StemPlan}
-use Rattle.mus_arcs.specs.declared.pairing.Arc.{Arc}
-use Rattle.mus_arcs.specs.declared.cutting.Piece.{Piece}
-use Rattle.mus_arcs.specs.Arcs.{has_pitch}
-use Rattle.mus_laid.specs.declared.drawn.Span.TheVariants as spans
-use Rattle.mus_laid.specs.declared.drawn.Bridge.{Bridge}
+use Rattle.mus_units.specs.{declared.pitch.Clef.Clef, declared.note.Head.Head}
+use Rattle.mus_stems.specs.{declared.plans.StemPlan.StemPlan, Slope.with_end}
+use Rattle.mus_arcs.specs.{declared.pairing.Arc.Arc, declared.cutting.Piece.Piece, Arcs.has_pitch}
+use Rattle.mus_laid.specs.declared.drawn.{Span.Span, Bridge.Bridge}
 use Rattle.mus_time.specs.declared.keys.ColumnKey.{ColumnKey}
-use Rattle.mus_ink.specs.Distances.{cut_arc_line, slur_bulge, slur_gap, tie_gap}
-use Rattle.mus_ink.specs.Drawing.{back, cut}
-use Rattle.mus_ink.specs.Notes.{dy_of}
-use Rattle.mus_ink.specs.Decos.{top_of}
-use Rattle.mus_stems.specs.Slope.{with_end}
+use Rattle.mus_ink.specs.{Distances.cut_arc_line, Distances.slur_bulge, Distances.slur_gap, Distances.tie_gap, Drawing.back, Drawing.cut, Notes.dy_of, Decos.top_of}
 use Rattle.mus_words.specs.declared.arcs.End.{End}
 
 -- the event at an end of an arc
@@ -27,7 +19,7 @@ abbrev pub seen : End → Seen
 seen e = record { clef = e.clef; heads = e.heads.now; plan = with_end e.plan.now e.to }
 
 abbrev pub arc_between : ColumnKey → ColumnKey → ℤ → ℤ → ℤ → Bridge
-arc_between first last from to bulge = record { first = first; last = last; span = spans.Arc from to bulge }
+arc_between first last from to bulge = record { first = first; last = last; span = Span.Arc from to bulge }
 
 -- where an end of a piece stands, by where it would stand if no end were cut: a cut end is as high as
 -- the other one, and a piece with two of them has a height of its own

@@ -1,10 +1,7 @@
 -- The syllables of an event: one for each verse in which it has one, each in the lane of its verse.
 use Rattle.std.specs.Prelude.{ℕ, ℤ, pos, ◌+◌, ◌*◌, ◌-ℤ◌, ◌==◌, if◌then◌else◌, List, [], ◌∷◌, ◌++◌, length, Option, Some, None}
-use Rattle.mus_laid.specs.declared.laid.Lane.TheVariants as lanes
-use Rattle.mus_laid.specs.declared.drawn.Drawn.{Drawn}
-use Rattle.mus_laid.specs.Printed.{printed}
-use Rattle.mus_ink.specs.Distances.{half_character, verse_step}
-use Rattle.mus_ink.specs.Drawing.{back, cut}
+use Rattle.mus_laid.specs.{declared.laid.Lane.Lane, declared.drawn.Drawn.Drawn, Printed.printed}
+use Rattle.mus_ink.specs.{Distances.half_character, Distances.verse_step, Drawing.back, Drawing.cut}
 use Rattle.mus_words.specs.Words.{words}
 
 -- a syllable has its middle at the column: half a character's width to the left for each of its characters
@@ -17,7 +14,7 @@ verse_dy low n = cut (low -ℤ pos (verse_step * n))
 
 -- what is printed of a syllable of verse n
 abbrev pub syllable : ℤ → ℕ → List ℕ → List Drawn
-syllable low n t = if length t == 0 then [] else words (lanes.Verse n) (syllable_dx (length t)) (verse_dy low n) t ∷ []
+syllable low n t = if length t == 0 then [] else words (Lane.Verse n) (syllable_dx (length t)) (verse_dy low n) t ∷ []
 
 abbrev pub syllable_if : ℤ → ℕ → Option (List ℕ) → List Drawn
 syllable_if low n None = []

@@ -2,15 +2,11 @@
 use Rattle.std.specs.Prelude.{ℕ, ℤ, pos, ◌+◌, ◌*◌, ◌+ℤ◌, ◌-ℤ◌, Bool, true, false, if◌then◌else◌, List, [], ◌∷◌, ◌++◌, flat_map, Option, Some, None, decimal}
 use Rattle.std.proofs.Math.Bool.{beq}
 use Rattle.mus_units.specs.declared.note.Deco.{Deco}
-use Rattle.mus_units.specs.declared.note.Deco.TheVariants as decos
-use Rattle.mus_score.specs.declared.score.Flat.{Flat}
-use Rattle.mus_score.specs.declared.score.Mention.{Mention}
+use Rattle.mus_score.specs.{declared.score.Flat.Flat, declared.score.Mention.Mention}
+use Rattle.mus_laid.specs.declared.{laid.Lane.Lane, drawn.Drawn.Drawn}
+use Rattle.mus_ink.specs.{Distances.half_character, Distances.text_gap, Distances.text_step, Distances.verse_step, Drawing.back, Drawing.cut}
+use Rattle.mus_words.specs.{declared.texts.TextPlace.TextPlace, Words.words, Words.shown}
 use Rattle.mus_laid.specs.declared.laid.Lane.TheVariants as lanes
-use Rattle.mus_laid.specs.declared.drawn.Drawn.{Drawn}
-use Rattle.mus_ink.specs.Distances.{half_character, text_gap, text_step, verse_step}
-use Rattle.mus_ink.specs.Drawing.{back, cut}
-use Rattle.mus_words.specs.declared.texts.TextPlace.{TextPlace}
-use Rattle.mus_words.specs.Words.{words, shown}
 
 abbrev pub shown_ending : Option (List ℕ) → List (List ℕ)
 shown_ending None = []
@@ -23,8 +19,8 @@ shown_number p = shown (decimal p)
 -- on one side of the staff, below it or above: a fingering stands above, a dynamic mark below, and other
 -- decorations are no text
 abbrev pub shown_deco : Bool → Deco → List (List ℕ)
-shown_deco false (decos.Above t) = shown t
-shown_deco true (decos.Below t) = shown t
+shown_deco false (Deco.Above t) = shown t
+shown_deco true (Deco.Below t) = shown t
 shown_deco _ _ = []
 
 -- a text between quotes says where it stands
@@ -50,7 +46,7 @@ below_dy low verses k = cut (low -ℤ pos (verse_step * verses + text_step * (1 
 
 abbrev pub above_from : ℤ → ℕ → List (List ℕ) → List Drawn
 above_from high k [] = []
-above_from high k (t ∷ ts) = words lanes.Above (back half_character) (above_dy high k) t ∷ above_from high (k + 1) ts
+above_from high k (t ∷ ts) = words Lane.Above (back half_character) (above_dy high k) t ∷ above_from high (k + 1) ts
 
 abbrev pub below_from : ℤ → ℕ → ℕ → List (List ℕ) → List Drawn
 below_from low verses k [] = []

@@ -1,8 +1,5 @@
 use Rattle.std.proofs.Common.{◌≡◌, sym, subst, rules}
-use Rattle.mus_arcs.specs.Arcs.{AreArcsOf, arcs_of}
-use Rattle.mus_arcs.specs.Events.{events_of_voice}
-use Rattle.mus_arcs.proofs.OrderLaws.{voice-in_order}
-use Rattle.mus_arcs.proofs.RuleLaws.{arcs_of-by_rule, arcs_of-ties_are}
+use Rattle.mus_arcs.{specs.Arcs.AreArcsOf, specs.Arcs.arcs_of, specs.Events.events_of_voice, proofs.OrderLaws.voice-in_order, proofs.RuleLaws.arcs_of-by_rule, proofs.RuleLaws.arcs_of-ties_are}
 use Rattle.mus_arcs.proofs.pairing.arcs.Goals as goal
 
 pub returns-clause-arcs : goal.returns-clause-arcs

@@ -1,5 +1,4 @@
-use Rattle.std.proofs.Common.{◌≡◌, ◌∷◌, reverse, arith}
-use Rattle.std.proofs.lemmas.Grind.{common_steps}
+use Rattle.std.proofs.{Common.◌≡◌, Common.◌∷◌, Common.reverse, Common.arith, lemmas.Grind.common_steps}
 use Rattle.mus_arcs.proofs.ArcLaws.{slurs-step, drop-step, slurs-none}
 use Rattle.mus_arcs.proofs.pairing.put_slurs.Goals as goal
 

@@ -1,13 +1,7 @@
-use Rattle.std.proofs.Common.{subst, sym, ap, ◌≤◌, ◌∙◌}
-use Rattle.std.specs.Prelude.{map, sum}
-use Rattle.std.specs.List.{sum_by}
-use Rattle.mus_score.specs.Good.{weight}
+use Rattle.std.{proofs.Common.subst, proofs.Common.sym, proofs.Common.ap, proofs.Common.◌≤◌, proofs.Common.◌∙◌, proofs.Common.arith, specs.Prelude.map, specs.Prelude.sum, specs.List.sum_by}
+use Rattle.mus_score.specs.{Good.weight, Times.flats_of}
 use Rattle.mus_units.specs.Good.{IsGoodKey}
-use Rattle.mus_score.specs.Times.{flats_of}
-use Rattle.mus_drawn.specs.Drawn.{opening_of, standing_behind}
-use Rattle.mus_drawn.specs.Good.{AllCanDraw}
-use Rattle.mus_drawn.proofs.GoodLaws.{key_behind, measure_good}
-use Rattle.std.proofs.Common.{arith}
+use Rattle.mus_drawn.{specs.Drawn.opening_of, specs.Drawn.standing_behind, specs.Good.AllCanDraw, proofs.GoodLaws.key_behind, proofs.GoodLaws.measure_good}
 use Rattle.mus_drawn.proofs.drawing.draw_measure.Goals as goal
 
 pub returns-clause-good : goal.returns-clause-good
@@ -15,7 +9,7 @@ returns-clause-good c =
     let heads = c.in_ok-flats.ensures.heads in
     let few = c.requires.body.few in
     let weights = ap (λ body. sum (map weight body)) c.as_slice.ensures in
-    measure_good c.args.now.now c.in_ok-before.before (flats_of c.args.m.now.body) c.in_ok-flats.flats c.in_ok-plans.plans c.in_ok-opening.opening c.in_ok-draw_events.field-0 c.args.m.now.bar
+    measure_good c.args.style c.args.now.now c.in_ok-before.before (flats_of c.args.m.now.body) c.in_ok-flats.flats c.in_ok-plans.plans c.in_ok-opening.opening c.in_ok-draw_events.field-0 c.args.m.now.bar
     (c.in_ok-flats.ensures.flats ∙ ap flats_of c.as_slice.ensures) (c.in_ok-opening.ensures ∙ ap (opening_of c.args.now.now) c.as_slice-2.ensures) c.in_ok-before.ensures c.in_ok-draw_events.ensures
     c.requires.key c.requires.reach c.requires.events c.in_ok-plans.ensures.ends (omega (arith, heads, few, weights)) c.in_ok-flats.ensures.count
 

@@ -1,5 +1,4 @@
-use Rattle.std.proofs.Common.{◌≡◌, drop}
-use Rattle.std.specs.List.{list_any}
+use Rattle.std.{proofs.Common.◌≡◌, proofs.Common.drop, specs.List.list_any}
 use Rattle.mus_drawn.specs.Hearing.{is_heard_at}
 use Rattle.mus_drawn.proofs.sounds.is_heard.Given as goal
 

@@ -1,6 +1,5 @@
 use Rattle.std.proofs.Common.{◌≡◌, ◌++◌, [], drop}
-use Rattle.mus_drawn.specs.Drawn.{standing_behind}
-use Rattle.mus_drawn.specs.Hearing.{events_sounds, heard_behind}
+use Rattle.mus_drawn.specs.{Drawn.standing_behind, Hearing.events_sounds, Hearing.heard_behind}
 use Rattle.mus_drawn.proofs.sounds.put_events.Given as goal
 
 abbrev pub invariant-loop-flat : goal.invariant-loop-flat

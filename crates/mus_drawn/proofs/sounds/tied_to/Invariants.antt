@@ -1,5 +1,4 @@
-use Rattle.std.proofs.Common.{◌≡◌, drop}
-use Rattle.std.specs.List.{find}
+use Rattle.std.{proofs.Common.◌≡◌, proofs.Common.drop, specs.List.find}
 use Rattle.mus_drawn.specs.Hearing.{is_tied_to}
 use Rattle.mus_drawn.proofs.sounds.tied_to.Given as goal
 

@@ -1,5 +1,4 @@
-use Rattle.std.proofs.Common.{◌≡◌, arith, ◌+ℤ◌, to_z, of_z, w64}
-use Rattle.std.proofs.lemmas.Int.{ints}
+use Rattle.std.proofs.{Common.◌≡◌, Common.arith, Common.◌+ℤ◌, Common.to_z, Common.of_z, Common.w64, lemmas.Int.ints}
 use Rattle.mus_laid.specs.Boxes.{arc_heights}
 use Rattle.mus_laid.proofs.boxes.arc_heights.Goals as goal
 

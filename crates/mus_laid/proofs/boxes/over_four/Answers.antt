@@ -1,5 +1,4 @@
-use Rattle.std.proofs.Common.{◌≡◌, arith}
-use Rattle.std.proofs.lemmas.Int.{ints}
+use Rattle.std.proofs.{Common.◌≡◌, Common.arith, lemmas.Int.ints}
 use mir.Syntax.{w64}
 use mir.Val.{to_z, of_z}
 use Rattle.mus_laid.proofs.boxes.over_four.Goals as goal

@@ -1,5 +1,4 @@
-use Rattle.std.proofs.Common.{◌≡◌, drop}
-use Rattle.std.specs.List.{find}
+use Rattle.std.{proofs.Common.◌≡◌, proofs.Common.drop, specs.List.find}
 use Rattle.mus_marks.specs.Arcs.{has_id}
 use Rattle.mus_marks.proofs.arcs.event_with.Given as goal
 

@@ -1,5 +1,4 @@
-use Rattle.std.proofs.Common.{◌≡◌, ◌++◌, drop}
-use Rattle.std.specs.List.{flat_map}
+use Rattle.std.{proofs.Common.◌≡◌, proofs.Common.◌++◌, proofs.Common.drop, specs.List.flat_map}
 use Rattle.mus_drawn.specs.Good.{AreGoodDrawn}
 use Rattle.mus_marks.specs.Bridges.{event_grace_beam}
 use Rattle.mus_marks.proofs.beams.put_measure_grace_beams.Given as goal

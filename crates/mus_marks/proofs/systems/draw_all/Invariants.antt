@@ -1,7 +1,5 @@
-use Rattle.std.proofs.Common.{◌≡◌, ◌++◌, drop, map}
-use Rattle.std.specs.List.{All}
-use Rattle.mus_drawn.specs.Drawn.{drawn_voice}
-use Rattle.mus_drawn.specs.Good.{AreGoodMeasures}
+use Rattle.std.{proofs.Common.◌≡◌, proofs.Common.◌++◌, proofs.Common.drop, proofs.Common.map, specs.List.All}
+use Rattle.mus_drawn.specs.{Drawn.drawn_voice, Good.AreGoodMeasures}
 use Rattle.mus_marks.proofs.systems.draw_all.Given as goal
 
 abbrev pub invariant-loop-v : goal.invariant-loop-v

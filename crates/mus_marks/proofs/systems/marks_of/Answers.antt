@@ -1,14 +1,9 @@
-use Rattle.std.proofs.Common.{◌≡◌, ◌∙◌, length, map, refl, ap, subst, sym, arith}
+use Rattle.std.proofs.Common.{◌≡◌, ◌∙◌, ◌≤◌, length, map, refl, ap, subst, sym, arith}
 use Rattle.std.specs.List.{All}
-use Rattle.std.proofs.lemmas.Simd.{map-map}
-use Rattle.mus_time.proofs.Places.{length_of_lengths}
-use Rattle.mus_drawn.specs.Drawn.{drawn_voice}
+use Rattle.mus_score.specs.Seats.{grouped}
+use Rattle.mus_time.{proofs.Places.length_of_lengths, specs.Ranks.AreRanked}
 use Rattle.mus_laid.specs.Boxes.{AreGoodMarks}
-use Rattle.mus_marks.specs.Staff.{staff_marks}
-use Rattle.mus_time.specs.Ranks.{AreRanked}
-use Rattle.mus_marks.proofs.Few.{few_keys}
-use Rattle.mus_marks.proofs.Texts.{staves_good}
-use Rattle.mus_marks.proofs.Lines.{voices_count}
+use Rattle.mus_marks.{specs.Staff.staff_marks, specs.Staff.verses_on, specs.System.drawn_staves, specs.System.stands_lower, proofs.Few.few_keys, proofs.Fitting.few_verses, proofs.Fitting.staves_fit, proofs.GoodMarks.staves_good, proofs.Lines.voices_count}
 use Rattle.mus_marks.proofs.systems.marks_of.Goals as goal
 
 pub staves-requires-clause-within : goal.staves-requires-clause-within
@@ -36,21 +31,18 @@ returns-clause-call c = record {
   to = refl;
   keys = c.in_ok-keys.ensures.keys;
   staves = c.in_ok-staves.ensures.staves
-      ∙ ap (λ ks. map (staff_marks ks c.as_slice-lengths.result.now c.args.a c.args.b) c.args.voices.now) c.as_slice.ensures
-      ∙ ap (λ ls. map (staff_marks c.in_ok-keys.keys ls c.args.a c.args.b) c.args.voices.now) c.as_slice-lengths.ensures
-      ∙ ap (map (staff_marks c.in_ok-keys.keys c.args.t.now.lengths c.args.a c.args.b)) c.requires.voices
-      ∙ map-map (staff_marks c.in_ok-keys.keys c.args.t.now.lengths c.args.a c.args.b) drawn_voice c.args.s.now.voices;
+      ∙ ap (λ ks. map (staff_marks ks c.as_slice-lengths.result.now c.args.a c.args.b) (grouped stands_lower c.args.voices.now)) c.as_slice.ensures
+      ∙ ap (λ ls. map (staff_marks c.in_ok-keys.keys ls c.args.a c.args.b) (grouped stands_lower c.args.voices.now)) c.as_slice-lengths.ensures
+      ∙ ap (λ vs. map (staff_marks c.in_ok-keys.keys c.args.t.now.lengths c.args.a c.args.b) (grouped stands_lower vs)) c.requires.voices;
 }
 
 pub returns-clause-good : goal.returns-clause-good
 returns-clause-good c =
-    let keys = c.in_ok-keys.keys in let lengths = c.args.t.now.lengths in
-    let staves = c.in_ok-staves.ensures.staves
-    ∙ ap (λ ks. map (staff_marks ks c.as_slice-lengths.result.now c.args.a c.args.b) c.args.voices.now) c.as_slice.ensures
-    ∙ ap (λ ls. map (staff_marks keys ls c.args.a c.args.b) c.args.voices.now) c.as_slice-lengths.ensures
-    ∙ ap (map (staff_marks keys lengths c.args.a c.args.b)) c.requires.voices
-    ∙ map-map (staff_marks keys lengths c.args.a c.args.b) drawn_voice c.args.s.now.voices in
-    subst (λ ss. All (λ s. AreGoodMarks s.marks) ss) (sym staves) (staves_good keys lengths c.args.a c.args.b c.args.s.now.voices c.requires.good.voices)
+    let call = returns-clause-call c in
+    subst (λ ss. All (λ s. AreGoodMarks s.marks) ss) (sym call.staves) (staves_good c.in_ok-keys.keys c.args.t.now.lengths c.args.a c.args.b (drawn_staves c.args.s.now) (staves_fit c.args.s.now c.requires.good))
+
+pub staves-requires-clause-verses : goal.staves-requires-clause-verses
+staves-requires-clause-verses c = subst (λ vs. verses_on vs ≤ 128) (sym c.requires.voices) (few_verses c.args.s.now c.requires.good)
 
 pub staves-requires-clause-keys : goal.staves-requires-clause-keys
 staves-requires-clause-keys c =

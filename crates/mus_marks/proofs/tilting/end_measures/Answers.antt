@@ -1,8 +1,6 @@
 use Rattle.std.proofs.Common.{arith}
-use Rattle.mus_marks.specs.Tilt.{measure_ended}
-use Rattle.mus_marks.proofs.Ending.{turn_none, turn_some, walk_done}
+use Rattle.mus_marks.{specs.Tilt.measure_ended, proofs.Ending.turn_none, proofs.Ending.turn_some, proofs.Ending.walk_done, proofs.tilting.end_measures.Goals.in-Some, proofs.tilting.end_measures.Goals.in_default}
 use Rattle.mus_marks.proofs.tilting.end_measures.Goals as goal
-use Rattle.mus_marks.proofs.tilting.end_measures.Goals.{in-Some, in_default}
 
 pub loop-i-preserved : goal.loop-i-preserved
 loop-i-preserved c = elim c.match-get.branch [

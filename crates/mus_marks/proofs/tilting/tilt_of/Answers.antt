@@ -1,16 +1,9 @@
-use Rattle.std.proofs.Common.{◌≡◌, ◌∙◌, length, map, refl, ap, subst, sym, arith}
+use Rattle.std.proofs.Common.{◌≡◌, ◌∙◌, ◌≤◌, length, map, refl, ap, subst, sym, arith}
 use Rattle.std.specs.List.{All, slice_range}
-use Rattle.std.proofs.lemmas.Simd.{map-map}
-use Rattle.mus_time.specs.Ranks.{AreRanked}
-use Rattle.mus_time.proofs.Places.{length_of_lengths}
-use Rattle.mus_drawn.specs.Drawn.{drawn_voice}
+use Rattle.mus_score.specs.Seats.{grouped}
+use Rattle.mus_time.{specs.Ranks.AreRanked, proofs.Places.length_of_lengths}
 use Rattle.mus_drawn.specs.Good.{AreGoodMeasures}
-use Rattle.mus_marks.specs.Staff.{staff_marks}
-use Rattle.mus_marks.specs.Tilt.{AllCanTilt, voice_tilted}
-use Rattle.mus_marks.proofs.Few.{few_keys}
-use Rattle.mus_marks.proofs.Lines.{voices_count}
-use Rattle.mus_marks.proofs.Sloping.{voices_can}
-use Rattle.mus_marks.proofs.Alike.{tilted_alike, tilted_good}
+use Rattle.mus_marks.{specs.Staff.verses_on, specs.System.stands_lower, specs.Tilt.AllCanTilt, specs.Tilt.tilted_staff, proofs.Few.few_keys, proofs.Fitting.few_verses, proofs.Lines.voices_count, proofs.Sloping.voices_can, proofs.Alike.tilted_alike, proofs.Alike.tilted_good}
 use Rattle.mus_marks.proofs.tilting.tilt_of.Goals as goal
 
 count : (c : goal.After-tilted_staves-arg-1) → length c.as_slice-lengths.result.now ≡ c.args.s.now.measures
@@ -38,7 +31,10 @@ pub tilted_staves-requires-clause-slopes : goal.tilted_staves-requires-clause-sl
 tilted_staves-requires-clause-slopes c =
     subst (λ ks. All (λ v. AllCanTilt ks c.args.at.now c.args.a (slice_range v.measures c.args.a c.args.b)) c.args.voices.now) (sym c.as_slice.ensures)
     (subst (All (λ v. AllCanTilt c.in_ok-keys.keys c.args.at.now c.args.a (slice_range v.measures c.args.a c.args.b))) (sym c.requires.voices)
-    (voices_can c.args.s.now c.args.t.now c.args.a c.args.b c.in_ok-keys.keys c.args.at.now c.requires.places c.in_ok-keys.ensures.keys c.requires.good (subst (All (λ v. AreGoodMeasures v.measures)) c.requires.voices c.requires.drawn)))
+    (voices_can c.args.s.now c.args.t.now c.args.a c.args.b c.in_ok-keys.keys c.args.at.now c.requires.places c.in_ok-keys.ensures.keys c.requires.good c.requires.within (subst (All (λ v. AreGoodMeasures v.measures)) c.requires.voices c.requires.drawn)))
+
+pub tilted_staves-requires-clause-verses : goal.tilted_staves-requires-clause-verses
+tilted_staves-requires-clause-verses c = subst (λ vs. verses_on vs ≤ 128) (sym c.requires.voices) (few_verses c.args.s.now c.requires.good)
 
 pub returns-clause-tilted : goal.returns-clause-tilted
 returns-clause-tilted c =
@@ -48,10 +44,9 @@ returns-clause-tilted c =
       to = refl;
       keys = c.in_ok-keys.ensures.keys;
       staves = c.in_ok-staves.ensures.staves
-          ∙ ap (λ ks. map (λ v. staff_marks ks c.as_slice-lengths.result.now a b (voice_tilted ks at a b v)) c.args.voices.now) c.as_slice.ensures
-          ∙ ap (λ ls. map (λ v. staff_marks keys ls a b (voice_tilted keys at a b v)) c.args.voices.now) c.as_slice-lengths.ensures
-          ∙ ap (map (λ v. staff_marks keys lengths a b (voice_tilted keys at a b v))) c.requires.voices
-          ∙ map-map (λ v. staff_marks keys lengths a b (voice_tilted keys at a b v)) drawn_voice c.args.s.now.voices;
+          ∙ ap (λ ks. map (tilted_staff ks c.as_slice-lengths.result.now at a b) (grouped stands_lower c.args.voices.now)) c.as_slice.ensures
+          ∙ ap (λ ls. map (tilted_staff keys ls at a b) (grouped stands_lower c.args.voices.now)) c.as_slice-lengths.ensures
+          ∙ ap (λ vs. map (tilted_staff keys lengths at a b) (grouped stands_lower vs)) c.requires.voices;
     }
 
 pub returns-clause-alike : goal.returns-clause-alike

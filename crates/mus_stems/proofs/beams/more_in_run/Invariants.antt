@@ -1,6 +1,5 @@
 use Rattle.std.proofs.Common.{◌≡◌, ◌+◌, drop}
-use Rattle.mus_stems.specs.Beams.{is_joined}
-use Rattle.mus_stems.specs.Runs.{run_more}
+use Rattle.mus_stems.specs.{Beams.is_joined, Runs.run_more}
 use Rattle.mus_stems.proofs.beams.more_in_run.Given as goal
 
 abbrev pub invariant-loop-e : goal.invariant-loop-e

@@ -1,6 +1,5 @@
 use Rattle.std.proofs.Common.{◌≡◌, ◌++◌, drop}
-use Rattle.mus_stems.specs.Dots.{dots_along}
-use Rattle.mus_stems.specs.Heads.{AllNear}
+use Rattle.mus_stems.specs.{Dots.dots_along, Heads.AllNear}
 use Rattle.mus_stems.proofs.dots.put_dots.Given as goal
 
 abbrev pub invariant-loop-s : goal.invariant-loop-s

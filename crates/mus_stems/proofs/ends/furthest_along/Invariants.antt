@@ -1,6 +1,5 @@
 use Rattle.std.proofs.Common.{◌≡◌, drop}
-use Rattle.mus_stems.specs.Ends.{furthest}
-use Rattle.mus_stems.specs.Stills.{AllGood}
+use Rattle.mus_stems.specs.{Ends.furthest, Stills.AllGood}
 use Rattle.mus_stems.proofs.ends.furthest_along.Given as goal
 
 abbrev pub invariant-loop-e : goal.invariant-loop-e

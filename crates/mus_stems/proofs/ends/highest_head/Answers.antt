@@ -1,5 +1,4 @@
-use Rattle.std.proofs.Common.{arith}
-use Rattle.std.proofs.lemmas.Int.{ints}
+use Rattle.std.proofs.{Common.arith, lemmas.Int.ints}
 use Rattle.mus_stems.proofs.Ranges.{high_near}
 use Rattle.mus_stems.proofs.ends.highest_head.Goals as goal
 

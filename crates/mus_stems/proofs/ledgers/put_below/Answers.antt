@@ -1,7 +1,5 @@
-use Rattle.std.proofs.Common.{◌≡◌, ◌∙◌, to_z, of_z, w32, arith}
-use Rattle.std.proofs.lemmas.Int.{ints}
-use Rattle.mus_stems.specs.Ledgers.{line_below}
-use Rattle.mus_stems.proofs.Counting.{lines_step, pushed}
+use Rattle.std.proofs.{Common.◌≡◌, Common.◌∙◌, Common.to_z, Common.of_z, Common.w32, Common.arith, lemmas.Int.ints}
+use Rattle.mus_stems.{specs.Ledgers.line_below, proofs.Counting.lines_step, proofs.Counting.pushed}
 use Rattle.mus_stems.proofs.ledgers.put_below.Goals as goal
 
 pub loop-k-preserved : goal.loop-k-preserved

@@ -1,8 +1,5 @@
 use Rattle.std.proofs.Common.{subst, sym}
-use Rattle.mus_stems.specs.Beams.{is_joined}
-use Rattle.mus_stems.specs.Plans.{run_plans}
-use Rattle.mus_stems.specs.Stills.{IsGoodStill, AllGood}
-use Rattle.mus_stems.proofs.RunLaws.{run_step, all_take, all_drop}
+use Rattle.mus_stems.{specs.Beams.is_joined, specs.Plans.run_plans, specs.Stills.IsGoodStill, specs.Stills.AllGood, proofs.RunLaws.run_step, proofs.RunLaws.all_take, proofs.RunLaws.all_drop}
 use Rattle.mus_stems.proofs.plans.put_all_runs.Goals as goal
 
 pub loop-d-preserved : goal.loop-d-preserved

@@ -1,7 +1,5 @@
 use Rattle.std.proofs.Common.{◌≡◌, ◌++◌, length}
-use Rattle.mus_stems.specs.Beams.{beams}
-use Rattle.mus_stems.specs.Plans.{plans_of_runs}
-use Rattle.mus_stems.specs.Stills.{AllGood}
+use Rattle.mus_stems.specs.{Beams.beams, Plans.plans_of_runs, Stills.AllGood}
 use Rattle.mus_stems.proofs.plans.put_all_runs.Given as goal
 
 abbrev pub invariant-loop-d : goal.invariant-loop-d

@@ -1,6 +1,5 @@
 use Rattle.std.proofs.Common.{◌≡◌, ◌++◌, drop}
-use Rattle.mus_stems.specs.Plans.{plans_along}
-use Rattle.mus_stems.specs.Stills.{AllGood}
+use Rattle.mus_stems.specs.{Plans.plans_along, Stills.AllGood}
 use Rattle.mus_stems.proofs.plans.put_plans.Given as goal
 
 abbrev pub invariant-loop-e : goal.invariant-loop-e

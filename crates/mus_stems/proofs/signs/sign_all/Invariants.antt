@@ -1,6 +1,5 @@
 use Rattle.std.proofs.Common.{◌≡◌, ◌≤◌, ◌-ℤ◌, ◌-◌, ◌*◌, pos, false}
-use Rattle.mus_stems.specs.Heads.{taken, taken_from}
-use Rattle.mus_stems.specs.Signs.{signs_along}
+use Rattle.mus_stems.specs.{Heads.taken, Heads.taken_from, Signs.signs_along}
 use Rattle.mus_stems.proofs.signs.sign_all.Given as goal
 
 abbrev pub invariant-loop-n : goal.invariant-loop-n

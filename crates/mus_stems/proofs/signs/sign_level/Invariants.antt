@@ -1,6 +1,5 @@
 use Rattle.std.proofs.Common.{◌≡◌, ◌≤◌, ◌+◌, List, drop, false}
-use Rattle.mus_stems.specs.Heads.{AllNear, Taken, taken_at}
-use Rattle.mus_stems.specs.Signs.{signs_along}
+use Rattle.mus_stems.specs.{Heads.AllNear, Heads.Taken, Heads.taken_at, Signs.signs_along}
 use Rattle.mus_stems.proofs.signs.sign_level.Given as goal
 
 abbrev pub invariant-loop-s : goal.invariant-loop-s

@@ -1,6 +1,5 @@
 use Rattle.std.proofs.Common.{◌≡◌, ◌+◌, drop}
-use Rattle.mus_stems.specs.Runs.{run_more}
-use Rattle.mus_stems.specs.Slope.{shares_beam}
+use Rattle.mus_stems.specs.{Runs.run_more, Slope.shares_beam}
 use Rattle.mus_stems.proofs.slopes.more_in_beam.Given as goal
 
 abbrev pub invariant-loop-a : goal.invariant-loop-a

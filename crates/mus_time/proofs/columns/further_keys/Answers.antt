@@ -1,8 +1,6 @@
 use Rattle.std.proofs.Common.{◌≡◌, ◌∙◌, ◌+◌, ap, arith, length, subst, sym}
 use Rattle.std.specs.List.{All, flat_map}
-use Rattle.mus_time.proofs.Places.{length_of_lengths, further_places}
-use Rattle.mus_time.specs.Keys.{AreKeys, IsInSystem, measure_keys}
-use Rattle.mus_time.specs.Onsets.{timeline_of}
+use Rattle.mus_time.{proofs.Places.length_of_lengths, proofs.Places.further_places, specs.Keys.AreKeys, specs.Keys.IsInSystem, specs.Keys.measure_keys, specs.Onsets.timeline_of}
 use Rattle.mus_time.proofs.columns.further_keys.Goals as goal
 
 pub put_measure_of_voices-requires-clause-within : goal.put_measure_of_voices-requires-clause-within

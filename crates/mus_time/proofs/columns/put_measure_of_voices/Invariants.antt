@@ -1,5 +1,4 @@
-use Rattle.std.proofs.Common.{◌≡◌, ◌++◌, drop}
-use Rattle.std.specs.List.{flat_map}
+use Rattle.std.{proofs.Common.◌≡◌, proofs.Common.◌++◌, proofs.Common.drop, specs.List.flat_map}
 use Rattle.mus_time.specs.Keys.{measure_keys}
 use Rattle.mus_time.proofs.columns.put_measure_of_voices.Given as goal
 

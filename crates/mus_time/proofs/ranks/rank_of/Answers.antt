@@ -1,7 +1,5 @@
-use Rattle.std.proofs.Common.{rules}
-use Rattle.std.proofs.lemmas.List.Sorted.{IsPartitionPoint-from_clause}
-use Rattle.mus_time.specs.Order.{is_below}
-use Rattle.mus_time.proofs.RankLaws.{parted, ranked}
+use Rattle.std.proofs.{Common.rules, lemmas.List.Sorted.IsPartitionPoint-from_clause}
+use Rattle.mus_time.{specs.Order.is_below, proofs.RankLaws.parted, proofs.RankLaws.ranked}
 use Rattle.mus_time.proofs.ranks.rank_of.Goals as goal
 
 pub returns : goal.returns

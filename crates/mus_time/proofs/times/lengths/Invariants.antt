@@ -1,5 +1,4 @@
-use Rattle.std.proofs.Common.{◌≡◌, map}
-use Rattle.std.specs.List.{range_with_len}
+use Rattle.std.{proofs.Common.◌≡◌, proofs.Common.map, specs.List.range_with_len}
 use Rattle.mus_time.specs.Onsets.{length_at}
 use Rattle.mus_time.proofs.times.lengths.Given as goal
 

@@ -1,5 +1,4 @@
-use Rattle.std.proofs.Common.{◌≡◌, drop}
-use Rattle.std.specs.List.{find}
+use Rattle.std.{proofs.Common.◌≡◌, proofs.Common.drop, specs.List.find}
 use Rattle.mus_arcs.specs.Arcs.{has_pitch}
 use Rattle.mus_words.proofs.arcs.head_at.Given as goal
 

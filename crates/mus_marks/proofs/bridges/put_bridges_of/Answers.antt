@@ -1,7 +1,7 @@
 use Rattle.std.proofs.Common.{◌-◌, take, drop, subst, sym}
 use Rattle.mus_drawn.specs.Good.{AreGoodMeasures}
 use Rattle.mus_marks.proofs.Goods.{good_slice}
-use Rattle.mus_marks.proofs.bridges.bridges_of.Goals as goal
+use Rattle.mus_marks.proofs.bridges.put_bridges_of.Goals as goal
 
 pub put_grace_beams_between-requires-clause-good : goal.put_grace_beams_between-requires-clause-good
 put_grace_beams_between-requires-clause-good c =

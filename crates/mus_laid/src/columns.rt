@@ -1,0 +1,117 @@
+ghost use Rattle.std.specs.{Prelude.◌≡◌, Prelude.◌++◌, Prelude.[], Prelude.map, Prelude.flat_map, Prelude.IfOk, Prelude.OnOk, List.range_with_len};
+ghost use Rattle.mus_laid.specs.Ranked.{anchor_rank, at_rank, by_columns, with_mark, with_part, with_parts};
+
+use crate::laid::{Laid, Mark};
+use mus_units::{Memory, Row};
+use std::alloc::Global;
+
+/// The rank of the column in which a glyph, words or a stem stands. None for beams and arcs, which go
+/// between columns.
+pub fn anchor_rank(mark: &Mark) -> Option<u32>
+    ensures { result ≡ anchor_rank mark.now }
+{
+    match mark {
+        Mark::Glyph {
+            glyph: _,
+            rank,
+            dx: _,
+            dy: _,
+        } => Some(*rank),
+        Mark::Words {
+            size: _,
+            rank,
+            dx: _,
+            dy: _,
+            text: _,
+        } => Some(*rank),
+        Mark::Stem {
+            rank,
+            dx: _,
+            from: _,
+            to: _,
+        } => Some(*rank),
+        _ => None,
+    }
+}
+
+/// Puts a mark behind those of its column, if it has one.
+#[tactic(auto, using(crate::proofs::ByColumns::put_there, crate::proofs::ByColumns::put_nowhere))]
+fn put_mark(columns: &mut Row<Row<Laid>>, laid: Laid) -> Result<(), Memory>
+    ensures { OnOk result (columns.new ≡ with_mark 0 laid columns.old) }
+{
+    if let Some(rank) = anchor_rank(&laid.mark) {
+        let place = rank as usize;
+        if place < columns.len() {
+            columns.items[place].push(laid)?;
+        }
+    }
+    Ok(())
+}
+
+/// Puts each mark of a part behind those of its column.
+fn put_part(columns: &mut Row<Row<Laid>>, part: Row<Laid>) -> Result<(), Memory>
+    ensures { OnOk result (columns.new ≡ with_part part columns.old) }
+{
+    for laid in part.items {
+        put_mark(columns, laid)?;
+    }
+    Ok(())
+}
+
+/// Puts the marks of parts, one part after the other.
+fn put_parts(columns: &mut Row<Row<Laid>>, parts: Row<Row<Laid>>) -> Result<(), Memory>
+    ensures { OnOk result (columns.new ≡ with_parts parts columns.old) }
+{
+    for part in parts.items {
+        put_part(columns, part)?;
+    }
+    Ok(())
+}
+
+/// So many columns with nothing in them.
+fn empty_columns(alloc: Global, count: usize) -> Result<Row<Row<Laid>>, Memory>
+    ensures { IfOk result (λ r. r ≡ map (at_rank []) (range_with_len 0 count)) }
+{
+    let mut columns = Row::new(alloc);
+    for i in 0..count {
+        columns.push(Row::new(alloc))?;
+    }
+    Ok(columns)
+}
+
+fn put_column(out: &mut Row<Laid>, column: Row<Laid>) -> Result<(), Memory>
+    ensures { OnOk result (out.new ≡ out.old ++ column) }
+{
+    for laid in column.items {
+        out.push(laid)?;
+    }
+    Ok(())
+}
+
+fn joined(alloc: Global, columns: Row<Row<Laid>>) -> Result<Row<Laid>, Memory>
+    ensures { IfOk result (λ r. r ≡ flat_map (λ column. column) columns) }
+{
+    let mut out = Row::new(alloc);
+    for column in columns.items {
+        put_column(&mut out, column)?;
+    }
+    Ok(out)
+}
+
+/// Lists of marks put together by columns: in each of so many columns what stands there of the first
+/// list, then of the second, and so on. What stands in no such column is left out; but a list alone
+/// stays as it is. The only error is want of memory.
+#[tactic(auto, using(crate::proofs::ByColumns::columns_joined))]
+pub fn by_columns(alloc: Global, columns: usize, parts: Row<Row<Laid>>) -> Result<Row<Laid>, Memory>
+    ensures { IfOk result (λ r. r ≡ by_columns columns parts) }
+{
+    let mut parts = parts;
+    if parts.len() == 1 {
+        if let Some(part) = parts.items.pop() {
+            return Ok(part);
+        }
+    }
+    let mut placed = empty_columns(alloc, columns)?;
+    put_parts(&mut placed, parts)?;
+    joined(alloc, placed)
+}

@@ -1,0 +1,47 @@
+-- Voices that are tilted all at once: what they keep, how they are put back, and the staves that they stand on.
+use Rattle.std.proofs.Common.{◌≡◌, ◌∙◌, ℕ, ℤ, ◌-◌, ◌≤◌, List, [], ◌∷◌, length, sum, map, drop, refl, sym, ap, subst, arith}
+use Rattle.std.{proofs.lemmas.List.length-take, proofs.lemmas.Simd.map-map, proofs.lemmas.List.Elements.All-map, proofs.lemmas.List.Elements.recursion_from_All, specs.List.All, specs.List.AllByRecursion, specs.List.slice_index_or, specs.List.slice_range}
+use Rattle.mus_score.specs.Seats.{grouped}
+use Rattle.mus_time.specs.declared.keys.ColumnKey.{ColumnKey}
+use Rattle.mus_drawn.specs.{declared.drawn.DrawnVoice.DrawnVoice, Good.AreGoodMeasures}
+use Rattle.mus_marks.{specs.Staff.staff_marks, specs.Staff.verses_on, specs.System.stands_lower, specs.Tilt.over, specs.Tilt.plain_ends, specs.Tilt.sloped_over, specs.Tilt.tilted_staff, specs.Tilt.voice_ended, specs.Tilt.voice_tilted, proofs.Ending.ended_back, proofs.Ending.ended_good}
+use Rattle.mus_marks.proofs.{Ending.ended_length, Ending.sloped_length, Groups.grouped_map}
+
+over_own : {A B : Type 0} (f : B → A → A) (g : A → B) (xs : List A) → over f (map g xs) xs ≡ map (λ x. f (g x) x) xs
+over_own f g [] = refl
+over_own f g (x ∷ xs) = ap (λ t. f (g x) x ∷ t) (over_own f g xs)
+
+module _ (keys : List ColumnKey) (at : List ℤ) (a b : ℕ) where
+  pub all_tilted : (vs ws : List DrawnVoice) (ends : List (List (List ℤ))) → ws ≡ over (voice_ended a) ends vs → ends ≡ map (λ v. sloped_over keys at a (slice_range v.measures a b)) vs → ws ≡ map (voice_tilted keys at a b) vs
+  all_tilted vs ws ends is are = is ∙ ap (λ es. over (voice_ended a) es vs) are ∙ over_own (voice_ended a) (λ v. sloped_over keys at a (slice_range v.measures a b)) vs
+
+  pub tilted_count : (n : ℕ) (vs ws : List DrawnVoice) → ws ≡ map (voice_tilted keys at a b) vs → All (λ v. length v.measures ≡ n) vs → All (λ v. length v.measures ≡ n) ws
+  tilted_count n vs ws is each =
+      subst (All (λ v. length v.measures ≡ n)) (sym is) (All-map (λ v. length v.measures ≡ n) (voice_tilted keys at a b) vs
+      (λ k d inside. let v = slice_index_or vs k d in ended_length a (sloped_over keys at a (slice_range v.measures a b)) v ∙ each k d inside))
+
+  pub tilted_goods : (vs ws : List DrawnVoice) → ws ≡ map (voice_tilted keys at a b) vs → All (λ v. AreGoodMeasures v.measures) vs → All (λ v. AreGoodMeasures v.measures) ws
+  tilted_goods vs ws is good =
+      subst (All (λ v. AreGoodMeasures v.measures)) (sym is) (All-map (λ v. AreGoodMeasures v.measures) (voice_tilted keys at a b) vs
+      (λ k d inside. let v = slice_index_or vs k d in ended_good a (sloped_over keys at a (slice_range v.measures a b)) v (good k d inside)))
+
+  pub tilted_verses : (vs ws : List DrawnVoice) → ws ≡ map (voice_tilted keys at a b) vs → verses_on ws ≡ verses_on vs
+  tilted_verses vs ws is = ap verses_on is ∙ ap sum (map-map (λ v. v.verses) (voice_tilted keys at a b) vs)
+
+  back : (vs : List DrawnVoice) → AllByRecursion (λ v. a ≤ length v.measures) vs → over (voice_ended a) (map (λ v. plain_ends (slice_range v.measures a b)) vs) (map (voice_tilted keys at a b) vs) ≡ vs
+  back [] long = refl
+  back (v ∷ vs) long =
+      let ends = sloped_over keys at a (slice_range v.measures a b) in
+      let some = sloped_length keys at a (slice_range v.measures a b) in
+      let few = length-take (b - a) (drop a v.measures) in
+      ap (λ t. t ∷ over (voice_ended a) (map (λ w. plain_ends (slice_range w.measures a b)) vs) (map (voice_tilted keys at a b) vs)) (ended_back a (b - a) ends v long.0 (omega (arith, some, few)))
+      ∙ ap (λ t. v ∷ t) (back vs long.1)
+
+  pub put_back : (vs : List DrawnVoice) → All (λ v. a ≤ length v.measures) vs → over (voice_ended a) (map (λ v. plain_ends (slice_range v.measures a b)) vs) (map (voice_tilted keys at a b) vs) ≡ vs
+  put_back vs long = back vs (recursion_from_All (λ v. a ≤ length v.measures) vs long)
+
+  -- the staves of tilted voices are the tilted staves
+  pub staves_tilted : (lengths : List ℕ) (vs : List DrawnVoice) → map (staff_marks keys lengths a b) (grouped stands_lower (map (voice_tilted keys at a b) vs)) ≡ map (tilted_staff keys lengths at a b) (grouped stands_lower vs)
+  staves_tilted lengths vs =
+      ap (map (staff_marks keys lengths a b)) (grouped_map (voice_tilted keys at a b) stands_lower stands_lower (λ v. refl) vs)
+      ∙ map-map (staff_marks keys lengths a b) (map (voice_tilted keys at a b)) (grouped stands_lower vs)

@@ -1,0 +1,18 @@
+use Rattle.std.proofs.Common.{◌≡◌, ◌++◌, ◌≤◌, length, map}
+use Rattle.std.specs.List.{All}
+use Rattle.mus_score.specs.Seats.{grouped}
+use Rattle.mus_drawn.specs.Good.{AreGoodMeasures}
+use Rattle.mus_marks.specs.{Staff.CoversLines, Staff.staff_marks, Staff.verses_on, System.stands_lower}
+use Rattle.mus_marks.proofs.staves.staves.Given as goal
+
+abbrev pub invariant-loop-behind : goal.invariant-loop-behind
+invariant-loop-behind l = record {
+  each : All (λ v. length v.measures ≡ length l.lengths) l.rest;
+  good : All (λ v. AreGoodMeasures v.measures) l.rest;
+  verses : verses_on l.rest ≤ 128;
+  staves : l.staves ++ map (staff_marks l.keys l.lengths l.a l.b) (grouped stands_lower l.rest) ≡ map (staff_marks l.keys l.lengths l.a l.b) (grouped stands_lower l.voices);
+  lines : All CoversLines l.staves;
+}
+
+abbrev pub decreases-loop-behind : goal.decreases-loop-behind
+decreases-loop-behind l = length l.rest

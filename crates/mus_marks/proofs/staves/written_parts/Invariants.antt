@@ -1,0 +1,18 @@
+use Rattle.std.proofs.Common.{◌≡◌, ◌++◌, ◌+◌, ◌≤◌, [], length}
+use Rattle.std.specs.List.{All}
+use Rattle.mus_drawn.specs.Good.{AreGoodMeasures}
+use Rattle.mus_marks.specs.Staff.{verses_on, written_parts}
+use Rattle.mus_marks.proofs.staves.written_parts.Given as goal
+
+abbrev pub invariant-loop-v : goal.invariant-loop-v
+invariant-loop-v l = record {
+  each : All (λ v. length v.measures ≡ length l.lengths) l.rest;
+  good : All (λ v. AreGoodMeasures v.measures) l.rest;
+  first : l.place.first ≤ 129;
+  room : l.place.room ≡ l.fn.room;
+  verses : l.place.first + verses_on l.rest ≤ 129;
+  parts : l.parts ++ written_parts l.keys l.lengths l.fn.room l.a l.b l.place.first l.place.before l.rest ≡ written_parts l.keys l.lengths l.fn.room l.a l.b 1 [] l.voices;
+}
+
+abbrev pub decreases-loop-v : goal.decreases-loop-v
+decreases-loop-v l = length l.rest

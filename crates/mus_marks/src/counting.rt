@@ -1,0 +1,86 @@
+ghost use Rattle.std.specs.{Prelude.◌≡◌, Prelude.map, Prelude.slice_index_or, Prelude.IfOk, Prelude.OnOk, List.range_with_len};
+ghost use Rattle.mus_marks.specs.{Events.no_texts, Places.counted, Places.with_text, Places.with_texts, Staff.is_words, Staff.texts_behind};
+
+use crate::events::{Texts, texts_at};
+use mus_laid::{Laid, Lane, Mark, anchor_rank};
+use mus_units::{Memory, Row};
+use std::alloc::Global;
+
+fn is_words(mark: &Mark) -> bool
+    ensures { result ≡ is_words mark.now }
+{
+    match mark {
+        Mark::Words {
+            size: _,
+            rank: _,
+            dx: _,
+            dy: _,
+            text: _,
+        } => true,
+        _ => false,
+    }
+}
+
+/// The texts of a column, with a mark that stands in it.
+fn counted(laid: &Laid, texts: Texts) -> Result<Texts, Memory>
+    ensures { IfOk result (λ t. t ≡ counted laid.now texts) }
+{
+    let mut texts = texts;
+    if is_words(&laid.mark) {
+        match laid.lane {
+            Lane::Above => texts.above = texts.above.checked_add(1).ok_or(Memory)?,
+            Lane::Below => texts.below = texts.below.checked_add(1).ok_or(Memory)?,
+            Lane::Main | Lane::Verse(_) | Lane::Loose => {}
+        }
+    }
+    Ok(texts)
+}
+
+/// Counts a mark in its column, if it is a text above or below.
+#[tactic(auto, using(crate::proofs::Counts::counted_there, crate::proofs::Counts::counted_nowhere))]
+fn count_mark(texts: &mut Row<Texts>, laid: &Laid) -> Result<(), Memory>
+    ensures { OnOk result (texts.new ≡ with_text 0 laid.now texts.old) }
+{
+    if let Some(rank) = anchor_rank(&laid.mark) {
+        let place = rank as usize;
+        if place < texts.len() {
+            texts.items[place] = counted(laid, texts.items[place])?;
+        }
+    }
+    Ok(())
+}
+
+fn count_marks(texts: &mut Row<Texts>, part: &[Laid]) -> Result<(), Memory>
+    ensures { OnOk result (texts.new ≡ with_texts part.now texts.old) }
+{
+    for laid in part {
+        count_mark(texts, laid)?;
+    }
+    Ok(())
+}
+
+/// The texts that columns have already.
+fn texts_of(alloc: Global, columns: usize, before: &[Texts]) -> Result<Row<Texts>, Memory>
+    ensures { IfOk result (λ r. r ≡ map (λ k. slice_index_or before.now k no_texts) (range_with_len 0 columns)) }
+{
+    let mut texts = Row::new(alloc);
+    for rank in 0..columns {
+        texts.push(texts_at(before, rank))?;
+    }
+    Ok(texts)
+}
+
+/// The texts that so many columns have behind those of a part, where they had some before.
+#[tactic(auto, using(crate::proofs::Counts::all_counted))]
+pub(crate) fn texts_behind(
+    alloc: Global,
+    columns: usize,
+    before: &[Texts],
+    part: &[Laid],
+) -> Result<Row<Texts>, Memory>
+    ensures { IfOk result (λ r. r ≡ texts_behind columns before.now part.now) }
+{
+    let mut texts = texts_of(alloc, columns, before)?;
+    count_marks(&mut texts, part)?;
+    Ok(texts)
+}
