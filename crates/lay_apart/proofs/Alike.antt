@@ -1,20 +1,13 @@
 -- Marks that are alike but for their heights have the same boxes.
 use Rattle.std.proofs.Common.{◌≡◌, ◌∙◌, sym, ap, subst, refl, ℕ, ◌<◌, ℤ, pos, ◌+ℤ◌, ◌≤ℤ◌, List, length, get_or, arith}
-use Rattle.std.specs.List.{Contains}
-use Rattle.std.proofs.lemmas.List.{get_or-map, length-map}
-use Rattle.std.proofs.lemmas.List.Elements.{Contains-get_or}
-use Rattle.mus_laid.specs.Boxes.{sides_of}
-use Rattle.mus_laid.specs.Shapes.{laid_shape, mark_shape, marks_shape}
-use Rattle.mus_laid.specs.declared.boxes.Sides.{Sides}
-use Rattle.mus_laid.specs.declared.laid.Laid.{Laid}
-use Rattle.mus_laid.specs.declared.laid.Mark.{Mark}
-use Rattle.mus_laid.specs.declared.laid.Mark.TheVariants as marks
+use Rattle.std.{proofs.lemmas.List.get_or-map, proofs.lemmas.List.length-map, proofs.lemmas.List.Elements.Contains-get_or, specs.List.Contains}
+use Rattle.mus_laid.specs.{Boxes.sides_of, Shapes.laid_shape, Shapes.mark_shape, Shapes.marks_shape, declared.boxes.Sides.Sides, declared.laid.Laid.Laid, declared.laid.Mark.Mark}
 use Rattle.lay_columns.specs.Reaches.{rank_of}
 use Rattle.lay_tune.specs.Systems.{x_at}
 use Rattle.lay_apart.specs.Apart.{AreApart, IsBoxed, Keeps, gap_of}
 
 box_shape : (x : Mark) → (rank_of (mark_shape x) ≡ rank_of x) × (sides_of (mark_shape x) ≡ sides_of x)
-box_shape (marks.Glyph glyph rank dx dy) = (refl, refl)
+box_shape (Mark.Glyph glyph rank dx dy) = (refl, refl)
 box_shape _ = (refl, refl)
 
 boxed_alike : (x y : Laid) (r : ℕ) (box : Sides) → laid_shape x ≡ laid_shape y → IsBoxed y r box → IsBoxed x r box

@@ -1,17 +1,15 @@
 -- The lanes of the staves of a system: where they stand among all lanes, and the gaps in them.
 use Rattle.std.proofs.Common.{◌≡◌, ◌∙◌, ℕ, zero, suc, ◌+◌, ◌<◌, ◌≤◌, ◌==◌, if◌then◌else◌, List, [], ◌∷◌, length, Some, None, refl, sym, ap, subst, arith}
+use Rattle.std.proofs.lemmas.{Bool.Decides.nat_tests, List.get_or-append-add, List.get_or_append_left, List.get_or-replicate, List.length-append, List.length-replicate, Option.none-some, Option.same_Some}
 use Rattle.std.specs.List.{slice_get, slice_index}
-use Rattle.std.proofs.lemmas.Bool.Decides.{nat_tests}
-use Rattle.std.proofs.lemmas.List.{get_or-append-add, get_or_append_left, get_or-replicate, length-append, length-replicate}
-use Rattle.std.proofs.lemmas.Option.{none-some, same_Some}
 use Rattle.mus_laid.specs.declared.laid.Lane.{Lane}
-use Rattle.mus_laid.specs.declared.laid.Lane.TheVariants as lanes
 use Rattle.lay_columns.specs.Lanes.{gaps_of, lane_count, lane_number, lane_start, staff_gaps}
 use Rattle.lay_apart.specs.Apart.{gap_of, Keeps}
+use Rattle.mus_laid.specs.declared.laid.Lane.TheVariants as lanes
 
 -- verses count from 1
 abbrev pub HasLane : ℕ → Lane → Type 0
-HasLane verses (lanes.Verse n) = (1 ≤ n) × (n ≤ verses)
+HasLane verses (Lane.Verse n) = (1 ≤ n) × (n ≤ verses)
 HasLane verses _ = Unit {0}
 
 gaps_long : (verses : ℕ) → length (staff_gaps verses) ≡ lane_count verses
@@ -63,10 +61,10 @@ verse_number : (n : ℕ) → 1 ≤ n → (if n == 0 then None else Some (2 + n))
 verse_number n l = grind (arith, nat_tests)
 
 pub number_of : (count : ℕ) (lane : Lane) → Keeps lane → HasLane count lane → (number : ℕ) × IsNumber count lane number
-number_of count lanes.Main keeps has = (0, record { is = refl; low = omega arith; gap = refl })
-number_of count lanes.Above keeps has = (1, record { is = refl; low = omega arith; gap = gap_behind count 0 (omega arith) })
+number_of count Lane.Main keeps has = (0, record { is = refl; low = omega arith; gap = refl })
+number_of count Lane.Above keeps has = (1, record { is = refl; low = omega arith; gap = gap_behind count 0 (omega arith) })
 number_of count lanes.Below keeps has = (2, record { is = refl; low = omega arith; gap = gap_behind count 1 (omega arith) })
-number_of count (lanes.Verse n) keeps (low, high) =
+number_of count (Lane.Verse n) keeps (low, high) =
     let e : suc (1 + n) ≡ 2 + n = omega arith in (
       2 + n,
       record {
@@ -75,4 +73,4 @@ number_of count (lanes.Verse n) keeps (low, high) =
         gap = subst (λ k. slice_index (staff_gaps count) k ≡ 300) e (gap_behind count (1 + n) (omega (arith, high)));
       },
     )
-number_of count lanes.Loose keeps has = absurd keeps
+number_of count Lane.Loose keeps has = absurd keeps

@@ -1,49 +1,33 @@
 -- The columns of a system that is set rise within the width, and boxes of marks in one lane of a staff stay apart there.
-use Rattle.std.proofs.Common.{◌≡◌, ◌∙◌, sym, ap, subst, refl, ℕ, ◌^◌, ◌<◌, ◌≤◌, ◌==◌, List, length, map, get_or, Option, Some, None, option_map, arith}
-use Rattle.std.specs.List.{All, Contains, slice_get}
-use Rattle.std.proofs.lemmas.Option.{get_or_from_slice_get, none-some, same_Some, slice_get-get_or, slice_get-map, slice_get_within}
-use Rattle.mus_score.specs.declared.score.Score.{Score}
-use Rattle.mus_score.specs.declared.score.Voice.{Voice}
-use Rattle.mus_score.specs.GoodScore.{IsGoodScore, IsGoodVoice}
+use Rattle.std.proofs.Common.{◌≡◌, ◌∙◌, sym, ap, subst, refl, ℕ, ◌^◌, ◌<◌, ◌≤◌, ◌==◌, List, [], ◌∷◌, length, map, get_or, Option, Some, None, option_map, arith}
+use Rattle.std.proofs.lemmas.{Option.get_or_from_slice_get, Option.none-some, Option.same_Some, Option.slice_get-get_or, Option.slice_get-map, Option.slice_get_within, List.Elements.All-from_recursion}
+use Rattle.std.specs.List.{All, AllByRecursion, Contains, slice_get}
+use Rattle.mus_score.specs.{declared.score.Score.Score, declared.score.Voice.Voice, GoodScore.IsGoodScore, Seats.grouped}
 use Rattle.mus_time.specs.Onsets.{timeline_of}
-use Rattle.mus_laid.specs.declared.laid.Laid.{Laid}
-use Rattle.mus_laid.specs.declared.laid.StaffMarks.{StaffMarks}
-use Rattle.mus_laid.specs.declared.laid.SystemMarks.{SystemMarks}
-use Rattle.mus_laid.specs.Shapes.{staff_shape}
-use Rattle.mus_marks.specs.System.{staff_of}
-use Rattle.lay_springs.specs.declared.margin.Placed.{Placed}
-use Rattle.lay_springs.specs.Place.{length_at, reach_at}
-use Rattle.lay_columns.specs.Columns.{column_reach}
-use Rattle.lay_columns.proofs.Covering.{columns_cover}
-use Rattle.lay_shown.specs.Ranks.{AreRanked}
-use Rattle.lay_shown.specs.Shown.{IsShown}
-use Rattle.lay_shown.proofs.Alike.{same_in}
-use Rattle.lay_tune.specs.Spans.{IsSystem, column_length, score_gaps, system_columns, verses_of}
-use Rattle.lay_tune.specs.Systems.{IsPlaced, IsSetSystem, StandWithin}
-use Rattle.lay_tune.proofs.Within.{justified_within, placed_stand, system_count}
-use Rattle.lay_apart.specs.Apart.{AreApart}
-use Rattle.lay_apart.proofs.Alike.{same_apart}
-use Rattle.lay_apart.proofs.EndKeys.{some_keys}
-use Rattle.lay_apart.proofs.LaneGaps.{HasLane}
-use Rattle.lay_apart.proofs.LaneMarks.{lane_of}
-use Rattle.lay_apart.proofs.SystemColumns.{first_stands, last_stands}
-use Rattle.lay_apart.proofs.Uncut.{StandBetween, staff_apart}
+use Rattle.mus_laid.specs.{declared.laid.Laid.Laid, declared.laid.StaffMarks.StaffMarks, declared.laid.SystemMarks.SystemMarks, Shapes.staff_shape}
+use Rattle.mus_drawn.specs.{declared.drawn.DrawnVoice.DrawnVoice, Drawn.drawn_voice}
+use Rattle.mus_marks.{specs.Staff.staff_marks, specs.Staff.verses_on, specs.System.drawn_staves, specs.System.stands_lower, proofs.Fitting.staves_fit, proofs.Parts.FitsVoice}
+use Rattle.lay_springs.specs.{declared.margin.Placed.Placed, Place.length_at, Place.reach_at}
+use Rattle.lay_columns.{specs.Columns.column_reach, proofs.Covering.columns_cover}
+use Rattle.lay_shown.{specs.Ranks.AreRanked, specs.Shown.IsShown, proofs.Alike.same_in}
+use Rattle.lay_tune.{specs.Spans.IsSystem, specs.Spans.column_length, specs.Spans.score_gaps, specs.Spans.system_columns, specs.Spans.verses_of, specs.Systems.IsPlaced, specs.Systems.IsSetSystem, specs.Systems.StandWithin, proofs.Within.justified_within, proofs.Within.placed_stand}
+use Rattle.lay_tune.proofs.Within.{system_count}
+use Rattle.lay_apart.{specs.Apart.AreApart, proofs.Alike.same_apart, proofs.EndKeys.some_keys, proofs.LaneGaps.HasLane, proofs.LaneMarks.lane_of, proofs.SystemColumns.first_stands, proofs.SystemColumns.last_stands, proofs.Uncut.StandBetween, proofs.Uncut.staff_apart}
 
 pub columns_stand : (s : Score) (width a b : ℕ) (m : SystemMarks) (p : Placed) → IsSetSystem s width a b m p → StandWithin width (length m.keys) p.at
 columns_stand s width a b m p set =
     subst (λ keys. StandWithin width (length keys) p.at) set.alike.keys (placed_stand s width set.flat p set.placed)
 
--- the voice of a staff
-voice_of : (f : Voice → StaffMarks) (vs : List Voice) (k : ℕ) (staff : StaffMarks) → slice_get (map f vs) k ≡ Some staff
-    → (v : Voice) × (slice_get vs k ≡ Some v) × (f v ≡ staff)
-voice_of f vs k staff e = by (slice_get vs k) refl (sym (slice_get-map f vs k) ∙ e)
+-- the voices of a staff
+made_of : {X Y : Type 0} (f : X → Y) (xs : List X) (k : ℕ) (y : Y) → slice_get (map f xs) k ≡ Some y → (x : X) × (slice_get xs k ≡ Some x) × (f x ≡ y)
+made_of {X} f xs k y e = by (slice_get xs k) refl (sym (slice_get-map f xs k) ∙ e)
   where
-    by : (o : Option Voice) → slice_get vs k ≡ o → option_map f o ≡ Some staff → (v : Voice) × (slice_get vs k ≡ Some v) × (f v ≡ staff)
-    by None there h = absurd (none-some staff h)
-    by (Some v) there h = (v, there, same_Some (f v) staff h)
+    by : (o : Option X) → slice_get xs k ≡ o → option_map f o ≡ Some y → (x : X) × (slice_get xs k ≡ Some x) × (f x ≡ y)
+    by None there h = absurd (none-some y h)
+    by (Some x) there h = (x, there, same_Some (f x) y h)
 
-good_at : (vs : List Voice) (k : ℕ) (v : Voice) → All IsGoodVoice vs → slice_get vs k ≡ Some v → IsGoodVoice v
-good_at vs k v good e = subst IsGoodVoice (get_or_from_slice_get vs k v v e) (good k v (slice_get_within vs k v e))
+good_at : {X : Type 0} (P : X → Type 0) (xs : List X) (k : ℕ) (x : X) → All P xs → slice_get xs k ≡ Some x → P x
+good_at P xs k x good e = subst P (get_or_from_slice_get xs k x x e) (good k x (slice_get_within xs k x e))
 
 module _ (s : Score) (width a b : ℕ) (m : SystemMarks) (p : Placed) (good : IsGoodScore s) (order : a < b) (within : b ≤ s.measures)
     (is : IsSystem s a b m) (placed : IsPlaced s width m p) (small : width < 2 ^ 20) where
@@ -59,15 +43,25 @@ module _ (s : Score) (width a b : ℕ) (m : SystemMarks) (p : Placed) (good : Is
         last = last_stands s a b m good order within is some;
       }
 
+  -- a score with a staff has a voice
+  some_voice : (k : ℕ) (voices : List DrawnVoice) → slice_get (drawn_staves s) k ≡ Some voices → 1 ≤ length s.voices
+  some_voice k voices e = by s.voices e
+    where
+      by : (vs : List Voice) → slice_get (grouped stands_lower (map drawn_voice vs)) k ≡ Some voices → 1 ≤ length vs
+      by [] h = absurd (none-some voices h)
+      by (v ∷ vs) h = omega arith
+
   one_apart : (k : ℕ) (staff : StaffMarks) → slice_get m.staves k ≡ Some staff → AreRanked (length m.keys) staff.marks → AreApart width p.at staff.marks
   one_apart k staff at ranked =
-      let voice = voice_of (staff_of m.keys (timeline_of s).lengths a b) s.voices k staff (ap (λ staves. slice_get staves k) (sym is.staves) ∙ at) in
-      let inside = slice_get_within s.voices k voice.0 voice.1 in
-      staff_apart m.staves (verses_of s.voices) (system_columns s m) (length_at column_length (system_columns s m) p.force) width p.at (between (omega arith)) small
-      (columns_cover m.staves (timeline_of s).lengths (verses_of s.voices) m.keys) k voice.0.verses staff at
-      (slice_get-map (λ v. v.verses) s.voices k ∙ ap (option_map (λ v. v.verses)) voice.1)
-      (subst (λ (found : StaffMarks). (x : Laid) → Contains found.marks x → HasLane voice.0.verses x.lane) voice.2
-      (lane_of m.keys (timeline_of s).lengths a b voice.0 (good_at s.voices k voice.0 good.voices voice.1)))
+      let marks = staff_marks m.keys (timeline_of s).lengths a b in
+      let voices = made_of marks (drawn_staves s) k staff (ap (λ staves. slice_get staves k) (sym is.staves) ∙ at) in
+      let count = verses_on voices.0 in
+      let fit = good_at (AllByRecursion FitsVoice) (drawn_staves s) k voices.0 (All-from_recursion (AllByRecursion FitsVoice) (drawn_staves s) (staves_fit s good)) voices.1 in
+      staff_apart m.staves (verses_of s) (system_columns s m) (length_at column_length (system_columns s m) p.force) width p.at (between (some_voice k voices.0 voices.1)) small
+      (columns_cover m.staves (timeline_of s).lengths (verses_of s) m.keys) k count staff at
+      (slice_get-map verses_on (drawn_staves s) k ∙ ap (option_map verses_on) voices.1)
+      (subst (λ (found : StaffMarks). (x : Laid) → Contains found.marks x → HasLane count x.lane) voices.2
+      (lane_of m.keys (timeline_of s).lengths a b voices.0 fit))
       (subst (λ n. AreRanked n staff.marks) (sym (system_count s m)) ranked)
 
   all_apart : All (λ staff. AreRanked (length m.keys) staff.marks) m.staves → All (λ staff. AreApart width p.at staff.marks) m.staves

@@ -1,26 +1,13 @@
 -- The columns of a system: as many as its keys, and the first and the last stand in each lane.
 use Rattle.std.proofs.Common.{◌≡◌, ◌∙◌, sym, ap, subst, ℕ, ◌-◌, ◌<◌, ◌≤◌, true, List, [], length, get_or, arith}
-use Rattle.std.proofs.lemmas.List.{get_or-map, length-map}
-use Rattle.std.proofs.lemmas.Option.{slice_get-get_or}
-use Rattle.mus_score.specs.declared.score.Score.{Score}
-use Rattle.mus_score.specs.GoodScore.{IsGoodScore}
-use Rattle.mus_time.specs.declared.keys.Class.TheVariants as classes
-use Rattle.mus_time.specs.declared.keys.ColumnKey.{ColumnKey}
-use Rattle.mus_time.specs.Keys.{key_at}
-use Rattle.mus_time.specs.Onsets.{timeline_of}
-use Rattle.mus_laid.specs.declared.laid.StaffMarks.{StaffMarks}
-use Rattle.mus_laid.specs.declared.laid.SystemMarks.{SystemMarks}
-use Rattle.mus_marks.specs.System.{staff_of}
-use Rattle.lay_springs.specs.Fit.{StandsInAll}
-use Rattle.lay_springs.specs.Place.{reach_at}
-use Rattle.lay_springs.proofs.Placing.{reach_is}
-use Rattle.lay_columns.specs.declared.column.Column.{Column}
-use Rattle.lay_columns.specs.Columns.{StandsWhereDue, column_reach, columns_of}
-use Rattle.lay_columns.specs.Lanes.{gaps_of}
-use Rattle.lay_columns.specs.Reaches.{stands_always}
-use Rattle.lay_columns.proofs.Facts.{columns_keys, columns_stand}
-use Rattle.lay_tune.specs.Spans.{IsSystem, score_gaps, system_columns, verses_of}
-use Rattle.lay_tune.proofs.Within.{columns_count, system_count}
+use Rattle.std.proofs.{lemmas.List.get_or-map, lemmas.List.length-map, lemmas.Option.slice_get-get_or}
+use Rattle.mus_score.specs.{declared.score.Score.Score, GoodScore.IsGoodScore}
+use Rattle.mus_time.specs.{declared.keys.Class.Class, declared.keys.ColumnKey.ColumnKey, Keys.key_at, Onsets.timeline_of}
+use Rattle.mus_laid.specs.{declared.laid.StaffMarks.StaffMarks, declared.laid.SystemMarks.SystemMarks}
+use Rattle.mus_marks.specs.{Staff.staff_marks, Staff.verses_on, System.drawn_staves}
+use Rattle.lay_springs.{specs.Fit.StandsInAll, specs.Place.reach_at, proofs.Placing.reach_is}
+use Rattle.lay_columns.{specs.declared.column.Column.Column, specs.Columns.StandsWhereDue, specs.Columns.column_reach, specs.Columns.columns_of, specs.Lanes.gaps_of, specs.Reaches.stands_always, proofs.Facts.columns_keys, proofs.Facts.columns_stand}
+use Rattle.lay_tune.{specs.Spans.IsSystem, specs.Spans.score_gaps, specs.Spans.system_columns, specs.Spans.verses_of, proofs.Within.columns_count, proofs.Within.system_count}
 use Rattle.lay_apart.proofs.EndKeys.{first_class, last_class, some_keys}
 
 module _ (keys : List ColumnKey) (staves : List StaffMarks) (lengths verses : List ℕ) where
@@ -28,7 +15,7 @@ module _ (keys : List ColumnKey) (staves : List StaffMarks) (lengths verses : Li
   columns = columns_of keys staves lengths verses
 
   abbrev no_column : Column
-  no_column = record { key = key_at 0 0 classes.Head 0; reaches = []; natural = 0 }
+  no_column = record { key = key_at 0 0 Class.Head 0; reaches = []; natural = 0 }
 
   -- a column of a class that stands in each lane does so
   pub stands_at : (i : ℕ) → i < length keys → length verses ≡ length staves → ((d : ColumnKey) → stands_always (get_or keys i d).class ≡ true)
@@ -43,17 +30,17 @@ module _ (keys : List ColumnKey) (staves : List StaffMarks) (lengths verses : Li
       (stands.0, reach_is column_reach columns i column (slice_get-get_or columns i no_column inside) lane ∙ stands.1)
 
 module _ (s : Score) (a b : ℕ) (m : SystemMarks) (good : IsGoodScore s) (order : a < b) (within : b ≤ s.measures) (is : IsSystem s a b m) where
-  same_staves : length (verses_of s.voices) ≡ length m.staves
-  same_staves = length-map s.voices (λ v. v.verses) ∙ sym (ap (λ staves. length staves) is.staves ∙ length-map s.voices (staff_of m.keys (timeline_of s).lengths a b))
+  same_staves : length (verses_of s) ≡ length m.staves
+  same_staves = length-map (drawn_staves s) verses_on ∙ sym (ap (λ staves. length staves) is.staves ∙ length-map (drawn_staves s) (staff_marks m.keys (timeline_of s).lengths a b))
 
   pub first_stands : 1 ≤ length s.voices → StandsInAll (reach_at column_reach (system_columns s m) 0) (length (score_gaps s))
   first_stands some =
-      stands_at m.keys m.staves (timeline_of s).lengths (verses_of s.voices) 0 (some_keys s a b m.keys good order within some is.keys) same_staves
+      stands_at m.keys m.staves (timeline_of s).lengths (verses_of s) 0 (some_keys s a b m.keys good order within some is.keys) same_staves
       (λ d. ap stands_always (first_class s a b m.keys good order within some is.keys d))
 
   pub last_stands : 1 ≤ length s.voices → StandsInAll (reach_at column_reach (system_columns s m) (length (system_columns s m) - 1)) (length (score_gaps s))
   last_stands some =
       let n = some_keys s a b m.keys good order within some is.keys in
       subst (λ n. StandsInAll (reach_at column_reach (system_columns s m) (n - 1)) (length (score_gaps s))) (sym (system_count s m))
-      (stands_at m.keys m.staves (timeline_of s).lengths (verses_of s.voices) (length m.keys - 1) (omega arith) same_staves
+      (stands_at m.keys m.staves (timeline_of s).lengths (verses_of s) (length m.keys - 1) (omega arith) same_staves
       (λ d. ap stands_always (last_class s a b m.keys good order within some is.keys d)))

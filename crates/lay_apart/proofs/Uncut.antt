@@ -1,29 +1,13 @@
 -- Where columns stand within less than 2^20, no reach is cut: the first and the last column stand in each lane, and what is cut would
 -- push one of them out. So the boxes of marks stay apart as the reaches of their columns do.
 use Rattle.std.proofs.Common.{◌≡◌, ◌∙◌, sym, ap, subst, inl, inr, ℕ, ◌+◌, ◌-◌, ◌^◌, ◌<◌, ℤ, pos, neg_ℤ, ◌+ℤ◌, ◌≤ℤ◌, List, length, Option, Some, arith}
-use Rattle.std.specs.List.{Contains, slice_get}
-use Rattle.std.proofs.lemmas.Bool.{cases_lt}
-use Rattle.std.proofs.lemmas.Int.{ints}
-use Rattle.std.proofs.lemmas.List.Elements.{All-contains}
-use Rattle.std.proofs.lemmas.Option.{none-some, same_Some}
-use Rattle.mus_laid.specs.Boxes.{sides_of}
-use Rattle.mus_laid.specs.declared.boxes.Sides.{Sides}
-use Rattle.mus_laid.specs.declared.laid.Laid.{Laid}
-use Rattle.mus_laid.specs.declared.laid.Mark.{Mark}
-use Rattle.mus_laid.specs.declared.laid.Mark.TheVariants as marks
-use Rattle.mus_laid.specs.declared.laid.StaffMarks.{StaffMarks}
-use Rattle.lay_springs.specs.declared.traits.Reach.{Reach}
-use Rattle.lay_springs.specs.Fit.{StandsInAll}
-use Rattle.lay_springs.specs.Place.{StandApart, reach_at}
-use Rattle.lay_columns.specs.declared.column.Column.{Column}
-use Rattle.lay_columns.specs.Columns.{CoverMarks, Covers, column_reach}
-use Rattle.lay_columns.specs.Lanes.{gaps_of, lane_count, lane_number, lane_start}
-use Rattle.lay_columns.specs.Reaches.{rank_of}
+use Rattle.std.{proofs.lemmas.Bool.cases_lt, proofs.lemmas.Int.ints, proofs.lemmas.List.Elements.All-contains, proofs.lemmas.Option.none-some, proofs.lemmas.Option.same_Some, specs.List.Contains, specs.List.slice_get}
+use Rattle.mus_laid.specs.{Boxes.sides_of, declared.boxes.Sides.Sides, declared.laid.Laid.Laid, declared.laid.Mark.Mark, declared.laid.StaffMarks.StaffMarks}
+use Rattle.lay_springs.specs.{declared.traits.Reach.Reach, Fit.StandsInAll, Place.StandApart, Place.reach_at}
+use Rattle.lay_columns.specs.{declared.column.Column.Column, Columns.CoverMarks, Columns.Covers, Columns.column_reach, Lanes.gaps_of, Lanes.lane_count, Lanes.lane_number, Lanes.lane_start, Reaches.rank_of}
 use Rattle.lay_shown.specs.Ranks.{AreRanked, IsRanked}
-use Rattle.lay_tune.specs.Systems.{x_at}
-use Rattle.lay_tune.proofs.Within.{EndsWithin}
-use Rattle.lay_apart.specs.Apart.{AreApart, IsBoxed, gap_of}
-use Rattle.lay_apart.proofs.LaneGaps.{HasLane, number_of, place_of_lane}
+use Rattle.lay_tune.{specs.Systems.x_at, proofs.Within.EndsWithin}
+use Rattle.lay_apart.{specs.Apart.AreApart, specs.Apart.IsBoxed, specs.Apart.gap_of, proofs.LaneGaps.HasLane, proofs.LaneGaps.number_of, proofs.LaneGaps.place_of_lane}
 
 -- columns that stand apart within a width, of which the first and the last stand in each lane
 pub record StandBetween (n : ℕ) (reach : ℕ → ℕ → Option Reach) (gaps : List ℕ) (spring : ℕ → ℕ) (width : ℕ) (at : List ℤ) : Type 0 where
@@ -91,11 +75,11 @@ box_high x right reach width inside l = omega (arith, ints)
 
 -- a mark that has a box stands at one of the columns
 ranked_below : (n r : ℕ) (mark : Mark) → IsRanked n mark → rank_of mark ≡ Some r → r < n
-ranked_below n r (marks.Glyph glyph rank dx dy) below e = subst (λ k. k < n) (same_Some rank r e) below
-ranked_below n r (marks.Words size rank dx dy text) below e = subst (λ k. k < n) (same_Some rank r e) below
-ranked_below n r (marks.Stem rank dx from to) below e = absurd (none-some r e)
-ranked_below n r (marks.Beam way first last from to) below e = absurd (none-some r e)
-ranked_below n r (marks.Arc first last from to bulge) below e = absurd (none-some r e)
+ranked_below n r (Mark.Glyph glyph rank dx dy) below e = subst (λ k. k < n) (same_Some rank r e) below
+ranked_below n r (Mark.Words size rank dx dy text) below e = subst (λ k. k < n) (same_Some rank r e) below
+ranked_below n r (Mark.Stem rank dx from to) below e = absurd (none-some r e)
+ranked_below n r (Mark.Beam way first last from to) below e = absurd (none-some r e)
+ranked_below n r (Mark.Arc first last from to bulge) below e = absurd (none-some r e)
 
 -- a staff of columns that cover their marks
 module _ (staves : List StaffMarks) (verses : List ℕ) (columns : List Column) (spring : ℕ → ℕ) (width : ℕ) (at : List ℤ)

@@ -1,22 +1,18 @@
 -- Boxes of marks where their columns stand: those of one lane of a staff in different columns are at least the lane's gap apart,
 -- and each box of a lane lies within the width. Loose marks are in no lane.
 use Rattle.std.specs.Prelude.{◌≡◌, ℕ, ◌<◌, ℤ, pos, ◌+ℤ◌, ◌≤ℤ◌, List, Some, Contains}
-use Rattle.mus_laid.specs.Boxes.{sides_of}
-use Rattle.mus_laid.specs.declared.boxes.Sides.{Sides}
-use Rattle.mus_laid.specs.declared.laid.Laid.{Laid}
-use Rattle.mus_laid.specs.declared.laid.Lane.{Lane}
-use Rattle.mus_laid.specs.declared.laid.Lane.TheVariants as lanes
+use Rattle.mus_laid.specs.{Boxes.sides_of, declared.boxes.Sides.Sides, declared.laid.Laid.Laid, declared.laid.Lane.Lane}
 use Rattle.lay_columns.specs.Reaches.{rank_of}
 use Rattle.lay_tune.specs.Systems.{x_at}
 
 -- 100 in the main lane, 300 in each other
 abbrev pub gap_of : Lane → ℕ
-gap_of lanes.Main = 100
+gap_of Lane.Main = 100
 gap_of _ = 300
 
 -- a lane keeps its marks apart
 abbrev pub Keeps : Lane → Type 0
-Keeps lanes.Loose = ⊥
+Keeps Lane.Loose = ⊥
 Keeps _ = Unit {0}
 
 -- a mark of a lane that has a box and stands at a rank

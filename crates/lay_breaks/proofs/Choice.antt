@@ -1,7 +1,6 @@
 -- The list that the table leads back is the chosen one.
 use Rattle.std.proofs.Common.{◌≡◌, ℕ, ◌+◌, ◌<◌, ◌≤◌, Bool, List, [], ◌∷◌, Option, Some, None, unwrap_or, refl, sym, ◌∙◌, subst, arith, inl, inr, slice_index, slice_index_or}
-use Rattle.std.proofs.lemmas.Bool.{cases_lt, cases_eq}
-use Rattle.std.proofs.lemmas.Option.{none-some, same_Some}
+use Rattle.std.proofs.{lemmas.Bool.cases_lt, lemmas.Bool.cases_eq, lemmas.Option.none-some, lemmas.Option.same_Some}
 use Rattle.lay_breaks.specs.Breaking.{LexAtMost}
 use Rattle.lay_breaks.specs.Table.{top, IsSpan, IsBack, sum_back, LeadsTo, IsRow, IsLeastBack, IsTable, Follows}
 

@@ -1,25 +1,12 @@
 -- A text is cut into good lines in one way.
 use Rattle.std.proofs.Common.{◌≡◌, ℕ, ◌<◌, ◌≤◌, ◌^◌, ◌==◌, Bool, true, false, List, [], ◌∷◌, ◌++◌, Option, Some, None, refl, sym, ◌∙◌, ap, subst, arith, inl, codes, decimal, if◌then◌else◌}
-use Rattle.std.proofs.lemmas.Bool.{true≢false, eq-eqb}
-use Rattle.std.proofs.lemmas.Fmt.{decimal_injective}
+use Rattle.std.proofs.{lemmas.Bool.true≢false, lemmas.Bool.eq-eqb, lemmas.Fmt.decimal_injective}
 use mathlib.Core.List.{append_assoc}
-use Rattle.lay_breaks.specs.Breaking.{last_from, IsPotential}
-use Rattle.lay_breaks.specs.Spans.{AreSpans, listed}
-use Rattle.lay_breaks.specs.declared.costs.Span.{Span}
-use Rattle.lay_cert.specs.Lines.{line_text, lines_then, sum_text}
-use Rattle.eng_lines.specs.Lines.{Lacks}
-use Rattle.lay_cert.specs.Listing.{Entry, none_forced, IsListing, listing_lines}
-use Rattle.lay_cert.specs.Places.{Place, begun, between, choosing, proving, ended, MayCome, next, Leads, IsStuck}
-use Rattle.lay_cert.specs.Told.{IsGood}
-use Rattle.lay_cert.specs.Laws.{GoodByLines, TellsOne, FaultsTellNone, NoPrefix}
-use Rattle.lay_cert.specs.declared.lines.Line.{Line}
-use Rattle.lay_cert.specs.declared.lines.Line.TheVariants as line
-use Rattle.eng_lines.proofs.Words.{lacks_both, decimal_lacks, one_cut, one_field, after_prefix, head_of}
-use Rattle.lay_cert.proofs.Forms.{span_text, tune_text}
-use Rattle.lay_cert.proofs.Grown.{listed_within}
-use Rattle.lay_cert.proofs.Sums.{total_within, least_within, one_potential}
-use Rattle.lay_cert.proofs.Steps.{step_good, leads_good, leads_lines}
-use Rattle.lay_cert.proofs.Through.{listing_leads}
+use Rattle.lay_breaks.specs.{Breaking.last_from, Breaking.IsPotential, Spans.AreSpans, Spans.listed, declared.costs.Span.Span}
+use Rattle.lay_cert.specs.{Lines.line_text, Lines.lines_then, Lines.sum_text, Listing.Entry, Listing.none_forced, Listing.IsListing, Listing.listing_lines, Places.Place, Places.begun, Places.between, Places.choosing, Places.proving, Places.ended, Places.MayCome, Places.next, Places.Leads}
+use Rattle.lay_cert.{specs.Places.IsStuck, specs.Told.IsGood, specs.Laws.GoodByLines, specs.Laws.TellsOne, specs.Laws.FaultsTellNone, specs.Laws.NoPrefix, specs.declared.lines.Line.Line, proofs.Forms.span_text, proofs.Forms.tune_text, proofs.Grown.listed_within, proofs.Sums.total_within}
+use Rattle.lay_cert.proofs.{Sums.least_within, Sums.one_potential, Steps.step_good, Steps.leads_good, Steps.leads_lines, Through.listing_leads}
+use Rattle.eng_lines.{specs.Lines.Lacks, proofs.Words.lacks_both, proofs.Words.decimal_lacks, proofs.Words.one_cut, proofs.Words.one_field, proofs.Words.after_prefix, proofs.Words.head_of}
 
 abbrev lacks_test : ℕ → List ℕ → Bool
 lacks_test b [] = true
@@ -45,29 +32,29 @@ sum_lacks (Some v) i n spans l h k = let w = least_within n i v spans h k in dig
 
 -- no good line has a line feed within
 pub may_lack : (p : Place) (l : Line) → MayCome p l → IsGood p → Lacks 10 (line_text l)
-may_lack begun line.Listing m g = lacks_by 10 (codes "listing 1") refl
-may_lack (between es) (line.Tune tune bars) m g =
+may_lack begun Line.Listing m g = lacks_by 10 (codes "listing 1") refl
+may_lack (between es) (Line.Tune tune bars) m g =
     lacks_both 10 (codes "tune " ++ decimal tune ++ 32 ∷ codes "measures ") (decimal bars)
     (lacks_both 10 (codes "tune " ++ decimal tune) (32 ∷ codes "measures ")
     (lacks_both 10 (codes "tune ") (decimal tune) (lacks_by 10 (codes "tune ") refl) (let l = m.1 in digits_lack tune (omega arith)))
     (lacks_by 10 (32 ∷ codes "measures ") refl))
     (let l = m.2 in digits_lack bars (omega arith))
-may_lack (between es) line.End m g = lacks_by 10 (codes "end") refl
-may_lack (choosing es e) (line.OneSpan s) m g =
+may_lack (between es) Line.End m g = lacks_by 10 (codes "end") refl
+may_lack (choosing es e) (Line.OneSpan s) m g =
     let r = m.1.rises in let w = m.1.within in let k = m.1.small in let f = g.1.few in
     lacks_both 10 (codes "span " ++ decimal s.a ++ 32 ∷ decimal s.b) (32 ∷ decimal s.badness)
     (lacks_both 10 (codes "span " ++ decimal s.a) (32 ∷ decimal s.b)
     (lacks_both 10 (codes "span ") (decimal s.a) (lacks_by 10 (codes "span ") refl) (digits_lack s.a (omega arith)))
     (space_lacks (decimal s.b) (digits_lack s.b (omega arith))))
     (space_lacks (decimal s.badness) (digits_lack s.badness (omega arith)))
-may_lack (choosing es e) (line.Choose bar) m g =
+may_lack (choosing es e) (Line.Choose bar) m g =
     let w = (listed_within e.bars None e.spans (last_from 0 e.breaks) bar g.1.spans m).1 in let f = g.1.few in
     lacks_both 10 (codes "choose ") (decimal bar) (lacks_by 10 (codes "choose ") refl) (digits_lack bar (omega arith))
-may_lack (choosing es e) (line.Total total) m g =
+may_lack (choosing es e) (Line.Total total) m g =
     let t = total_within e.bars (last_from 0 e.breaks) e.spans e.breaks g.1.spans g.1.choice in
     let f = g.1.few in let is = m.1 in let ends = m.0 in
     lacks_both 10 (codes "total ") (decimal total) (lacks_by 10 (codes "total ") refl) (digits_lack total (omega arith))
-may_lack (proving es e) (line.Potential bar least) m g =
+may_lack (proving es e) (Line.Potential bar least) m g =
     let f = g.1.begun.few in let s = g.1.some_left in let is = m.0 in
     lacks_both 10 (codes "potential " ++ decimal bar) (32 ∷ sum_text least)
     (lacks_both 10 (codes "potential ") (decimal bar) (lacks_by 10 (codes "potential ") refl) (digits_lack bar (omega arith)))
@@ -83,88 +70,88 @@ span_of a b badness = record { a = a; b = b; badness = badness }
 
 -- lines of one kind with the same text tell the same
 pub tune_alone : (tune bars t b : ℕ) → tune < 2 ^ 64 → bars < 2 ^ 64 → t < 2 ^ 64 → b < 2 ^ 64
-    → line_text (line.Tune tune bars) ≡ line_text (line.Tune t b) → (tune ≡ t) × (bars ≡ b)
+    → line_text (Line.Tune tune bars) ≡ line_text (Line.Tune t b) → (tune ≡ t) × (bars ≡ b)
 tune_alone tune bars t b la lb ka kb e =
-    let r = after_prefix (codes "tune ") (line_text (line.Tune tune bars)) (decimal tune ++ (32 ∷ (codes "measures " ++ decimal bars))) (decimal t ++ (32 ∷ (codes "measures " ++ decimal b)))
+    let r = after_prefix (codes "tune ") (line_text (Line.Tune tune bars)) (decimal tune ++ (32 ∷ (codes "measures " ++ decimal bars))) (decimal t ++ (32 ∷ (codes "measures " ++ decimal b)))
     (tune_text tune bars) (e ∙ tune_text t b) in
     let f = one_field tune t _ (codes "measures " ++ decimal bars) (codes "measures " ++ decimal b) la ka refl r in
     (f.0, decimal_injective bars b lb kb (after_prefix (codes "measures ") (codes "measures " ++ decimal bars) (decimal bars) (decimal b) refl f.1))
 
 pub span_alone : (s t : Span) → s.a < 2 ^ 64 → s.b < 2 ^ 64 → s.badness < 2 ^ 64 → t.a < 2 ^ 64 → t.b < 2 ^ 64 → t.badness < 2 ^ 64
-    → line_text (line.OneSpan s) ≡ line_text (line.OneSpan t) → s ≡ t
+    → line_text (Line.OneSpan s) ≡ line_text (Line.OneSpan t) → s ≡ t
 span_alone s t ha hb hc ka kb kc e =
-    let r = after_prefix (codes "span ") (line_text (line.OneSpan s)) (decimal s.a ++ (32 ∷ (decimal s.b ++ (32 ∷ decimal s.badness)))) (decimal t.a ++ (32 ∷ (decimal t.b ++ (32 ∷ decimal t.badness))))
+    let r = after_prefix (codes "span ") (line_text (Line.OneSpan s)) (decimal s.a ++ (32 ∷ (decimal s.b ++ (32 ∷ decimal s.badness)))) (decimal t.a ++ (32 ∷ (decimal t.b ++ (32 ∷ decimal t.badness))))
     (span_text s) (e ∙ span_text t) in
     let a = one_field s.a t.a _ (decimal s.b ++ (32 ∷ decimal s.badness)) (decimal t.b ++ (32 ∷ decimal t.badness)) ha ka refl r in
     let b = one_field s.b t.b _ (decimal s.badness) (decimal t.badness) hb kb refl a.1 in
     let c = decimal_injective s.badness t.badness hc kc b.1 in
     ap (λ a. span_of a s.b s.badness) a.0 ∙ (ap (λ b. span_of t.a b s.badness) b.0 ∙ ap (λ c. span_of t.a t.b c) c)
 
-pub choice_alone : (bar b : ℕ) → bar < 2 ^ 64 → b < 2 ^ 64 → line_text (line.Choose bar) ≡ line_text (line.Choose b) → bar ≡ b
-choice_alone bar b l k e = decimal_injective bar b l k (after_prefix (codes "choose ") (line_text (line.Choose bar)) (decimal bar) (decimal b) refl e)
+pub choice_alone : (bar b : ℕ) → bar < 2 ^ 64 → b < 2 ^ 64 → line_text (Line.Choose bar) ≡ line_text (Line.Choose b) → bar ≡ b
+choice_alone bar b l k e = decimal_injective bar b l k (after_prefix (codes "choose ") (line_text (Line.Choose bar)) (decimal bar) (decimal b) refl e)
 
-same_tune : (es : List Entry) (tune bars : ℕ) (m : Line) → MayCome (between es) (line.Tune tune bars) → MayCome (between es) m
-    → line_text (line.Tune tune bars) ≡ line_text m → line.Tune tune bars ≡ m
-same_tune es tune bars (line.Tune t b) h k e =
+same_tune : (es : List Entry) (tune bars : ℕ) (m : Line) → MayCome (between es) (Line.Tune tune bars) → MayCome (between es) m
+    → line_text (Line.Tune tune bars) ≡ line_text m → Line.Tune tune bars ≡ m
+same_tune es tune bars (Line.Tune t b) h k e =
     let la = h.1 in let lb = h.2 in let ka = k.1 in let kb = k.2 in
     let f = tune_alone tune bars t b (omega arith) (omega arith) (omega arith) (omega arith) e in
-    ap (λ t. line.Tune t bars) f.0 ∙ ap (λ b. line.Tune t b) f.1
-same_tune es tune bars line.End h k e = absurd (apart _ _ refl e)
+    ap (λ t. Line.Tune t bars) f.0 ∙ ap (λ b. Line.Tune t b) f.1
+same_tune es tune bars Line.End h k e = absurd (apart _ _ refl e)
 same_tune es tune bars m h k e = absurd k
 
-same_end : (es : List Entry) (m : Line) → MayCome (between es) m → line_text line.End ≡ line_text m → line.End ≡ m
-same_end es line.End k e = refl
-same_end es (line.Tune t b) k e = absurd (apart _ _ refl e)
+same_end : (es : List Entry) (m : Line) → MayCome (between es) m → line_text Line.End ≡ line_text m → Line.End ≡ m
+same_end es Line.End k e = refl
+same_end es (Line.Tune t b) k e = absurd (apart _ _ refl e)
 same_end es m k e = absurd k
 
-same_span : (es : List Entry) (x : Entry) (s : Span) (m : Line) → x.bars ≤ 4000 → MayCome (choosing es x) (line.OneSpan s) → MayCome (choosing es x) m
-    → line_text (line.OneSpan s) ≡ line_text m → line.OneSpan s ≡ m
-same_span es x s (line.OneSpan t) f h k e =
+same_span : (es : List Entry) (x : Entry) (s : Span) (m : Line) → x.bars ≤ 4000 → MayCome (choosing es x) (Line.OneSpan s) → MayCome (choosing es x) m
+    → line_text (Line.OneSpan s) ≡ line_text m → Line.OneSpan s ≡ m
+same_span es x s (Line.OneSpan t) f h k e =
     let ha = h.1.rises in let hb = h.1.within in let hc = h.1.small in let ka = k.1.rises in let kb = k.1.within in let kc = k.1.small in
-    ap line.OneSpan (span_alone s t (omega arith) (omega arith) (omega arith) (omega arith) (omega arith) (omega arith) e)
-same_span es x s (line.Choose b) f h k e = absurd (apart _ _ refl e)
-same_span es x s (line.Total t) f h k e = absurd (apart _ _ refl e)
+    ap Line.OneSpan (span_alone s t (omega arith) (omega arith) (omega arith) (omega arith) (omega arith) (omega arith) e)
+same_span es x s (Line.Choose b) f h k e = absurd (apart _ _ refl e)
+same_span es x s (Line.Total t) f h k e = absurd (apart _ _ refl e)
 same_span es x s m f h k e = absurd k
 
-same_choice : (es : List Entry) (x : Entry) (bar : ℕ) (m : Line) → IsGood (choosing es x) → MayCome (choosing es x) (line.Choose bar) → MayCome (choosing es x) m
-    → line_text (line.Choose bar) ≡ line_text m → line.Choose bar ≡ m
-same_choice es x bar (line.Choose b) g h k e =
+same_choice : (es : List Entry) (x : Entry) (bar : ℕ) (m : Line) → IsGood (choosing es x) → MayCome (choosing es x) (Line.Choose bar) → MayCome (choosing es x) m
+    → line_text (Line.Choose bar) ≡ line_text m → Line.Choose bar ≡ m
+same_choice es x bar (Line.Choose b) g h k e =
     let w = (listed_within x.bars None x.spans (last_from 0 x.breaks) bar g.1.spans h).1 in
     let v = (listed_within x.bars None x.spans (last_from 0 x.breaks) b g.1.spans k).1 in
     let f = g.1.few in
-    ap line.Choose (choice_alone bar b (omega arith) (omega arith) e)
-same_choice es x bar (line.OneSpan s) g h k e = absurd (apart _ _ refl e)
-same_choice es x bar (line.Total t) g h k e = absurd (apart _ _ refl e)
+    ap Line.Choose (choice_alone bar b (omega arith) (omega arith) e)
+same_choice es x bar (Line.OneSpan s) g h k e = absurd (apart _ _ refl e)
+same_choice es x bar (Line.Total t) g h k e = absurd (apart _ _ refl e)
 same_choice es x bar m g h k e = absurd k
 
-same_total : (es : List Entry) (x : Entry) (total : ℕ) (m : Line) → MayCome (choosing es x) (line.Total total) → MayCome (choosing es x) m
-    → line_text (line.Total total) ≡ line_text m → line.Total total ≡ m
-same_total es x total (line.Total t) h k e = ap line.Total (h.1 ∙ sym k.1)
-same_total es x total (line.OneSpan s) h k e = absurd (apart _ _ refl e)
-same_total es x total (line.Choose b) h k e = absurd (apart _ _ refl e)
+same_total : (es : List Entry) (x : Entry) (total : ℕ) (m : Line) → MayCome (choosing es x) (Line.Total total) → MayCome (choosing es x) m
+    → line_text (Line.Total total) ≡ line_text m → Line.Total total ≡ m
+same_total es x total (Line.Total t) h k e = ap Line.Total (h.1 ∙ sym k.1)
+same_total es x total (Line.OneSpan s) h k e = absurd (apart _ _ refl e)
+same_total es x total (Line.Choose b) h k e = absurd (apart _ _ refl e)
 same_total es x total m h k e = absurd k
 
-same_potential : (es : List Entry) (x : Entry) (bar : ℕ) (least : Option ℕ) (m : Line) → MayCome (proving es x) (line.Potential bar least)
-    → MayCome (proving es x) m → line.Potential bar least ≡ m
-same_potential es x bar least (line.Potential b o) h k =
+same_potential : (es : List Entry) (x : Entry) (bar : ℕ) (least : Option ℕ) (m : Line) → MayCome (proving es x) (Line.Potential bar least)
+    → MayCome (proving es x) m → Line.Potential bar least ≡ m
+same_potential es x bar least (Line.Potential b o) h k =
     let e : bar ≡ b = h.0 ∙ sym k.0 in
     let f = one_potential (listed x.spans) none_forced bar least o h.1 (subst (λ i. IsPotential (listed x.spans) none_forced i o) (sym e) k.1) in
-    ap (λ i. line.Potential i least) e ∙ ap (λ o. line.Potential b o) f
+    ap (λ i. Line.Potential i least) e ∙ ap (λ o. Line.Potential b o) f
 same_potential es x bar least m h k = absurd k
 
-same_listing : (m : Line) → MayCome begun m → line.Listing ≡ m
-same_listing line.Listing k = refl
+same_listing : (m : Line) → MayCome begun m → Line.Listing ≡ m
+same_listing Line.Listing k = refl
 same_listing m k = absurd k
 
 -- of the lines that may come here each has a text of its own
 pub one_line : (p : Place) (l m : Line) → MayCome p l → MayCome p m → IsGood p → line_text l ≡ line_text m → l ≡ m
-one_line begun line.Listing m h k g e = same_listing m k
-one_line (between es) (line.Tune tune bars) m h k g e = same_tune es tune bars m h k e
-one_line (between es) line.End m h k g e = same_end es m k e
-one_line (choosing es x) (line.OneSpan s) m h k g e = same_span es x s m g.1.few h k e
-one_line (choosing es x) (line.Choose bar) m h k g e = same_choice es x bar m g h k e
-one_line (choosing es x) (line.Total total) m h k g e = same_total es x total m h k e
-one_line (proving es x) (line.Potential bar least) m h k g e = same_potential es x bar least m h k
+one_line begun Line.Listing m h k g e = same_listing m k
+one_line (between es) (Line.Tune tune bars) m h k g e = same_tune es tune bars m h k e
+one_line (between es) Line.End m h k g e = same_end es m k e
+one_line (choosing es x) (Line.OneSpan s) m h k g e = same_span es x s m g.1.few h k e
+one_line (choosing es x) (Line.Choose bar) m h k g e = same_choice es x bar m g h k e
+one_line (choosing es x) (Line.Total total) m h k g e = same_total es x total m h k e
+one_line (proving es x) (Line.Potential bar least) m h k g e = same_potential es x bar least m h k
 one_line p l m h k g e = absurd h
 
 -- From one place good lines through the same text are the same lines.

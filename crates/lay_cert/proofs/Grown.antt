@@ -2,12 +2,8 @@
 use Rattle.std.proofs.Common.{◌≡◌, ℕ, suc, ◌+◌, ◌<◌, ◌≤◌, Bool, true, false, List, [], ◌∷◌, ◌++◌, length, map, Option, Some, IsSome, refl, sym, ◌∙◌, ap, arith, if◌then◌else◌}
 use Rattle.std.proofs.lemmas.Bool.{true≢false}
 use mathlib.Core.List.{append_assoc, append-nil}
-use Rattle.lay_breaks.specs.Breaking.{RisesFrom, FitsFrom, last_from, IsLegal}
-use Rattle.lay_breaks.specs.Spans.{MayFollow, SpansFrom, listed, has_ends, ends_are}
-use Rattle.lay_breaks.specs.declared.costs.Span.{Span}
-use Rattle.lay_cert.specs.Listing.{Entry, IsEntry, EntriesFrom, none_forced, entry_lines, all_lines, potential_lines}
-use Rattle.lay_cert.specs.Places.{last_tune_from, last_span_from}
-use Rattle.lay_cert.specs.declared.lines.Line.TheVariants as line
+use Rattle.lay_breaks.specs.{Breaking.RisesFrom, Breaking.FitsFrom, Breaking.last_from, Breaking.IsLegal, Spans.MayFollow, Spans.SpansFrom, Spans.listed, Spans.has_ends, Spans.ends_are, declared.costs.Span.Span}
+use Rattle.lay_cert.specs.{Listing.Entry, Listing.IsEntry, Listing.EntriesFrom, Listing.none_forced, Listing.entry_lines, Listing.all_lines, Listing.potential_lines, Places.last_tune_from, Places.last_span_from, declared.lines.Line.Line}
 
 pub push_map : {A B : Type 0} (f : A → B) (xs : List A) (x : A) → map f (xs ++ x ∷ []) ≡ map f xs ++ f x ∷ []
 push_map f [] x = refl
@@ -18,11 +14,11 @@ pub push_on : {A : Type 0} (xs ys : List A) (x : A) → xs ++ (x ∷ ys) ≡ (xs
 push_on xs ys x = sym (append_assoc xs (x ∷ []) ys)
 
 pub push_potential : (i : ℕ) (ps : List (Option ℕ)) (p : Option ℕ)
-    → potential_lines i (ps ++ p ∷ []) ≡ potential_lines i ps ++ line.Potential (i + length ps) p ∷ []
-push_potential i [] p = let e : i ≡ i + 0 = omega arith in ap (λ j. line.Potential j p ∷ []) e
+    → potential_lines i (ps ++ p ∷ []) ≡ potential_lines i ps ++ Line.Potential (i + length ps) p ∷ []
+push_potential i [] p = let e : i ≡ i + 0 = omega arith in ap (λ j. Line.Potential j p ∷ []) e
 push_potential i (q ∷ ps) p =
     let e : i + 1 + length ps ≡ i + suc (length ps) = omega arith in
-    ap (λ t. line.Potential i q ∷ t) (push_potential (i + 1) ps p ∙ ap (λ j. potential_lines (i + 1) ps ++ line.Potential j p ∷ []) e)
+    ap (λ t. Line.Potential i q ∷ t) (push_potential (i + 1) ps p ∙ ap (λ j. potential_lines (i + 1) ps ++ Line.Potential j p ∷ []) e)
 
 pub push_entry : (es : List Entry) (e : Entry) → all_lines (es ++ e ∷ []) ≡ all_lines es ++ entry_lines e
 push_entry [] e = append-nil (entry_lines e)

@@ -1,73 +1,54 @@
 -- A step of the checker is one line, and its end is the end of the listing or the first fault.
 use Rattle.std.proofs.Common.{◌≡◌, ◌≢◌, ℕ, suc, ◌+◌, ◌^◌, ◌<◌, ◌≤◌, ◌⊎◌, inl, inr, true, false, List, [], ◌∷◌, ◌++◌, length, Option, Some, None, is_some, refl, sym, ◌∙◌, ap, subst, arith, slice_index_or, if◌then◌else◌, ◌==◌}
-use Rattle.std.proofs.lemmas.Bool.{true≢false, eq-eqb, ne_eqb}
-use Rattle.std.proofs.lemmas.List.{length-append}
-use Rattle.lay_breaks.specs.Breaking.{last_from}
-use Rattle.lay_breaks.specs.Spans.{MayFollow, listed}
-use Rattle.lay_breaks.specs.declared.costs.Span.{Span}
-use Rattle.lay_cert.specs.Lines.{line_text, lines_then}
-use Rattle.eng_lines.specs.Lines.{Lacks}
-use Rattle.lay_cert.specs.Listing.{Entry, IsListing}
-use Rattle.lay_cert.specs.Places.{Place, begun, between, choosing, proving, ended, MayCome, next, Leads, IsStuck, IsFirstFault, last_tune_from, last_span_from}
-use Rattle.lay_cert.specs.Verdicts.{AreVerdicts, IsVerdict}
-use Rattle.lay_cert.specs.Stands.{IsChoosing, Proves, Stands, NoneMayCome, IsStep, entry_of}
-use Rattle.lay_cert.specs.Answers.{IsJudged}
-use Rattle.lay_cert.specs.declared.lines.Line.{Line}
-use Rattle.lay_cert.specs.declared.lines.Line.TheVariants as line
-use Rattle.lay_cert.specs.declared.check.Judged.{Judged}
-use Rattle.lay_cert.specs.declared.check.Verdict.{Verdict}
-use Rattle.lay_cert.specs.declared.check.Verdict.TheVariants as verdict
-use Rattle.lay_cert.specs.declared.place.Choosing.{Choosing}
-use Rattle.lay_cert.specs.declared.place.Proving.{Proving}
-use Rattle.lay_cert.specs.declared.place.Stage.{Stage}
-use Rattle.lay_cert.specs.declared.place.Stage.TheVariants as stage
-use Rattle.eng_lines.proofs.Words.{one_cut, lacks_none}
-use Rattle.lay_cert.proofs.Grown.{listed_within, push_tune}
-use Rattle.lay_cert.proofs.Steps.{leads_good, leads_more, one_more}
-use Rattle.lay_cert.proofs.Through.{begun_with}
+use Rattle.std.proofs.{lemmas.Bool.true≢false, lemmas.Bool.eq-eqb, lemmas.Bool.ne_eqb, lemmas.List.length-append}
+use Rattle.lay_breaks.specs.{Breaking.last_from, Spans.MayFollow, Spans.listed, declared.costs.Span.Span}
+use Rattle.lay_cert.specs.{Lines.line_text, Lines.lines_then, Listing.Entry, Listing.IsListing, Places.Place, Places.begun, Places.between, Places.choosing, Places.proving, Places.ended, Places.MayCome, Places.next, Places.Leads, Places.IsStuck, Places.IsFirstFault, Places.last_tune_from}
+use Rattle.lay_cert.specs.{Places.last_span_from, Verdicts.AreVerdicts, Verdicts.IsVerdict, Stands.IsChoosing, Stands.Proves, Stands.Stands, Stands.NoneMayCome, Stands.IsStep, Stands.entry_of, Answers.IsJudged, declared.lines.Line.Line, declared.check.Judged.Judged, declared.check.Verdict.Verdict}
+use Rattle.lay_cert.{specs.declared.place.Choosing.Choosing, specs.declared.place.Proving.Proving, specs.declared.place.Stage.Stage, proofs.Grown.listed_within, proofs.Grown.push_tune, proofs.Steps.leads_good, proofs.Steps.leads_more, proofs.Steps.one_more, proofs.Through.begun_with}
 use Rattle.lay_cert.proofs.Alone.{apart, tune_alone, span_alone, choice_alone, may_lack, told_by_lines, faults_tell_none}
+use Rattle.eng_lines.{specs.Lines.Lacks, proofs.Words.one_cut, proofs.Words.lacks_none}
 
-pub none_refused : (es : List Entry) (raw : List ℕ) (tune bars : ℕ) → raw ≡ line_text (line.Tune tune bars) → tune < 2 ^ 32 → bars < 2 ^ 32
+pub none_refused : (es : List Entry) (raw : List ℕ) (tune bars : ℕ) → raw ≡ line_text (Line.Tune tune bars) → tune < 2 ^ 32 → bars < 2 ^ 32
     → (tune ≤ last_tune_from 0 es) ⊎ (4000 < bars) → NoneMayCome (between es) raw
-none_refused es raw tune bars is lt lb out (line.Tune t b) e m =
+none_refused es raw tune bars is lt lb out (Line.Tune t b) e m =
     let k0 = m.0 in let k1 = m.1 in let k2 = m.2 in
     let f = tune_alone tune bars t b (omega arith) (omega arith) (omega arith) (omega arith) (sym is ∙ e) in
     let f0 = f.0 in let f1 = f.1 in
     elim out [ inl h ↦ absurd (omega arith) | inr h ↦ absurd (omega arith) ]
-none_refused es raw tune bars is lt lb out line.End e m = apart _ _ refl (sym is ∙ e)
+none_refused es raw tune bars is lt lb out Line.End e m = apart _ _ refl (sym is ∙ e)
 none_refused es raw tune bars is lt lb out l e m = absurd m
 
 pub none_span : (es : List Entry) (c : Choosing) (s : Span) → IsChoosing c → s.a < 2 ^ 32 → s.b < 2 ^ 32 → s.badness < 2 ^ 64
-    → (c.breaks ≡ [] → MayFollow c.bars c.last s → ⊥) → NoneMayCome (choosing es (entry_of c)) (line_text (line.OneSpan s))
-none_span es c s h la lb lc f (line.OneSpan t) e m =
+    → (c.breaks ≡ [] → MayFollow c.bars c.last s → ⊥) → NoneMayCome (choosing es (entry_of c)) (line_text (Line.OneSpan s))
+none_span es c s h la lb lc f (Line.OneSpan t) e m =
     let ka = m.1.rises in let kb = m.1.within in let kc = m.1.small in let few = h.few in
     let is : t ≡ s = sym (span_alone s t (omega arith) (omega arith) lc (omega arith) (omega arith) (omega arith) e) in
     f m.0 (subst (λ o. MayFollow c.bars o s) (sym h.last) (subst (λ t. MayFollow c.bars (last_span_from None c.spans) t) is m.1))
-none_span es c s h la lb lc f (line.Choose b) e m = apart _ _ refl e
-none_span es c s h la lb lc f (line.Total t) e m = apart _ _ refl e
+none_span es c s h la lb lc f (Line.Choose b) e m = apart _ _ refl e
+none_span es c s h la lb lc f (Line.Total t) e m = apart _ _ refl e
 none_span es c s h la lb lc f l e m = absurd m
 
 pub none_break : (es : List Entry) (c : Choosing) (bar : ℕ) → IsChoosing c → bar < 2 ^ 32 → listed c.spans c.at bar ≡ None
-    → NoneMayCome (choosing es (entry_of c)) (line_text (line.Choose bar))
-none_break es c bar h l f (line.Choose b) e m =
+    → NoneMayCome (choosing es (entry_of c)) (line_text (Line.Choose bar))
+none_break es c bar h l f (Line.Choose b) e m =
     let w = (listed_within c.bars None c.spans (last_from 0 c.breaks) b h.spans m).1 in let few = h.few in
     let is : b ≡ bar = sym (choice_alone bar b (omega arith) (omega arith) e) in
     let n : listed c.spans (last_from 0 c.breaks) b ≡ None = ap (λ b. listed c.spans (last_from 0 c.breaks) b) is ∙ (ap (λ a. listed c.spans a bar) (sym h.at) ∙ f) in
     true≢false (sym m ∙ ap is_some n)
-none_break es c bar h l f (line.OneSpan s) e m = apart _ _ refl e
-none_break es c bar h l f (line.Total t) e m = apart _ _ refl e
+none_break es c bar h l f (Line.OneSpan s) e m = apart _ _ refl e
+none_break es c bar h l f (Line.Total t) e m = apart _ _ refl e
 none_break es c bar h l f m e k = absurd k
 
 pub none_choosing : (es : List Entry) (c : Choosing) (raw : List ℕ) → IsChoosing c
-    → ((s : Span) → s.a < 2 ^ 32 → s.b < 2 ^ 32 → s.badness < 2 ^ 64 → raw ≡ line_text (line.OneSpan s) → ⊥)
-    → ((bar : ℕ) → bar < 2 ^ 32 → raw ≡ line_text (line.Choose bar) → ⊥)
-    → (c.at ≡ c.bars → raw ≡ line_text (line.Total c.total) → ⊥) → NoneMayCome (choosing es (entry_of c)) raw
-none_choosing es c raw h f g k (line.OneSpan s) e m =
+    → ((s : Span) → s.a < 2 ^ 32 → s.b < 2 ^ 32 → s.badness < 2 ^ 64 → raw ≡ line_text (Line.OneSpan s) → ⊥)
+    → ((bar : ℕ) → bar < 2 ^ 32 → raw ≡ line_text (Line.Choose bar) → ⊥)
+    → (c.at ≡ c.bars → raw ≡ line_text (Line.Total c.total) → ⊥) → NoneMayCome (choosing es (entry_of c)) raw
+none_choosing es c raw h f g k (Line.OneSpan s) e m =
     let ka = m.1.rises in let kb = m.1.within in let kc = m.1.small in let few = h.few in f s (omega arith) (omega arith) (omega arith) e
-none_choosing es c raw h f g k (line.Choose b) e m =
+none_choosing es c raw h f g k (Line.Choose b) e m =
     let w = (listed_within c.bars None c.spans (last_from 0 c.breaks) b h.spans m).1 in let few = h.few in g b (omega arith) e
-none_choosing es c raw h f g k (line.Total t) e m =
-    k (h.at ∙ m.0) (e ∙ ap (λ t. line_text (line.Total t)) (m.1 ∙ sym h.total))
+none_choosing es c raw h f g k (Line.Total t) e m =
+    k (h.at ∙ m.0) (e ∙ ap (λ t. line_text (Line.Total t)) (m.1 ∙ sym h.total))
 none_choosing es c raw h f g k l e m = absurd m
 
 -- an entry is known by its parts
@@ -84,7 +65,7 @@ verdicts_more [] (k ∷ js) e j h t v = absurd h
 verdicts_more (x ∷ es) [] e j h t v = absurd h
 verdicts_more (x ∷ es) (k ∷ js) e j h t v = (h.0, h.1, verdicts_more es js e j h.2 t v)
 
-pub at_ended : (Q : Place → Type 0) (js : List Judged) (p : Place) → Stands stage.Ended js p
+pub at_ended : (Q : Place → Type 0) (js : List Judged) (p : Place) → Stands Stage.Ended js p
     → ((es : List Entry) → AreVerdicts es js → Q (ended es)) → Q p
 at_ended Q js (ended es) h q = q es h
 at_ended Q js p h q = absurd h
@@ -135,53 +116,53 @@ stuck_at_line text s js ks rest raw behind number h cut lacks step = (
 pub stuck_at_end : (p : Place) (rest : List ℕ) → Lacks 10 rest → ((es : List Entry) → rest ≡ [] → p ≡ ended es → ⊥) → IsStuck p rest
 stuck_at_end p rest lacks f = ((λ l more e m. lacks_none 10 (line_text l) more rest lacks e), f)
 
-pub judged_all : (text : List ℕ) (js : List Judged) (rest : List ℕ) (number : ℕ) → IsReading text stage.Ended js rest number → rest ≡ [] → IsJudged text js
+pub judged_all : (text : List ℕ) (js : List Judged) (rest : List ℕ) (number : ℕ) → IsReading text Stage.Ended js rest number → rest ≡ [] → IsJudged text js
 judged_all text js rest number h e =
     at_ended (λ p. Leads begun h.lines p → IsJudged text js) js h.place h.stands
     (λ es v l. (es, told_by_lines text h.lines es (h.so_far ∙ ap (λ r. lines_then h.lines r) e) l, v)) h.leads
 
 -- only the last stage stands for the end
-pub ended_stage : (s : Stage) (js : List Judged) (es : List Entry) → Stands s js (ended es) → s ≡ stage.Ended
-ended_stage stage.Ended js es h = refl
+pub ended_stage : (s : Stage) (js : List Judged) (es : List Entry) → Stands s js (ended es) → s ≡ Stage.Ended
+ended_stage Stage.Ended js es h = refl
 ended_stage s js es h = absurd h
 
 potential_here : (es : List Entry) (e : Entry) (v : Proving) → Proves v e
-    → MayCome (proving es e) (line.Potential v.next (slice_index_or v.potentials v.next None))
+    → MayCome (proving es e) (Line.Potential v.next (slice_index_or v.potentials v.next None))
 potential_here es e v h = let le = h.kept.some_left in let eb = h.bars in (h.next, h.potentials v.next (omega arith))
 
 -- the potential of the last bar
 pub proved_all : (es : List Entry) (js : List Judged) (e : Entry) (v : Proving) (raw : List ℕ) → AreVerdicts es js → Proves v e → v.next ≡ v.bars
-    → raw ≡ line_text (line.Potential v.next (slice_index_or v.potentials v.next None))
-    → IsStep (proving es e) raw (js ++ record { tune = v.tune; verdict = v.verdict } ∷ []) (Some (stage.Between v.tune))
+    → raw ≡ line_text (Line.Potential v.next (slice_index_or v.potentials v.next None))
+    → IsStep (proving es e) raw (js ++ record { tune = v.tune; verdict = v.verdict } ∷ []) (Some (Stage.Between v.tune))
 proved_all es js e v raw known h last is =
     let p : Option ℕ = slice_index_or v.potentials v.next None in
     let n = h.next in let b = h.bars in
     let all : length e.potentials ≡ e.bars = omega arith in
     let j : Judged = record { tune = v.tune; verdict = v.verdict } in (
-      line.Potential v.next p,
+      Line.Potential v.next p,
       is,
       potential_here es e v h,
-      subst (λ t. Stands (stage.Between v.tune) (js ++ j ∷ []) (if t then between (es ++ one_more e p ∷ []) else proving es (one_more e p))) (sym (eq-eqb (length e.potentials) e.bars all))
+      subst (λ t. Stands (Stage.Between v.tune) (js ++ j ∷ []) (if t then between (es ++ one_more e p ∷ []) else proving es (one_more e p))) (sym (eq-eqb (length e.potentials) e.bars all))
           (h.tune ∙ sym (push_tune 0 es (one_more e p)), verdicts_more es js (one_more e p) j known h.tune (verdict_on v.verdict h.verdict)),
     )
   where
     verdict_on : (w : Verdict) → IsVerdict e w → IsVerdict (one_more e (slice_index_or v.potentials v.next None)) w
-    verdict_on (verdict.Least t) k = k
-    verdict_on (verdict.NotLeast t b bs) k = k
+    verdict_on (Verdict.Least t) k = k
+    verdict_on (Verdict.NotLeast t b bs) k = k
 
 -- the potential of a bar before it
 pub proved_one : (es : List Entry) (js : List Judged) (e : Entry) (v : Proving) (raw : List ℕ) → AreVerdicts es js → Proves v e → v.next ≢ v.bars
-    → raw ≡ line_text (line.Potential v.next (slice_index_or v.potentials v.next None))
-    → IsStep (proving es e) raw js (Some (stage.Proving (record { tune = v.tune; bars = v.bars; potentials = v.potentials; next = v.next + 1; verdict = v.verdict })))
+    → raw ≡ line_text (Line.Potential v.next (slice_index_or v.potentials v.next None))
+    → IsStep (proving es e) raw js (Some (Stage.Proving (record { tune = v.tune; bars = v.bars; potentials = v.potentials; next = v.next + 1; verdict = v.verdict })))
 proved_one es js e v raw known h last is =
     let p : Option ℕ = slice_index_or v.potentials v.next None in
     let n = h.next in let b = h.bars in
     let part : length e.potentials ≢ e.bars = omega arith in
     let le = h.kept.some_left in let some : v.next < v.bars = omega arith in (
-      line.Potential v.next p,
+      Line.Potential v.next p,
       is,
       potential_here es e v h,
-      subst (λ t. Stands (stage.Proving (record { tune = v.tune; bars = v.bars; potentials = v.potentials; next = v.next + 1; verdict = v.verdict })) js
+      subst (λ t. Stands (Stage.Proving (record { tune = v.tune; bars = v.bars; potentials = v.potentials; next = v.next + 1; verdict = v.verdict })) js
           (if t then between (es ++ one_more e p ∷ []) else proving es (one_more e p))) (sym (ne_eqb (length e.potentials) e.bars part)) (
             known,
             record {
@@ -196,8 +177,8 @@ proved_one es js e v raw known h last is =
     )
   where
     verdict_on : (w : Verdict) → IsVerdict e w → IsVerdict (one_more e (slice_index_or v.potentials v.next None)) w
-    verdict_on (verdict.Least t) k = k
-    verdict_on (verdict.NotLeast t b bs) k = k
+    verdict_on (Verdict.Least t) k = k
+    verdict_on (Verdict.NotLeast t b bs) k = k
 
 pub no_length : (xs : List ℕ) → (length xs == 0) ≡ true → xs ≡ []
 no_length [] e = refl

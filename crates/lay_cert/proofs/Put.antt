@@ -1,14 +1,8 @@
 -- The text of lines, one after the other.
 use Rattle.std.proofs.Common.{decimal, ◌≡◌, ℕ, ◌+◌, ◌<◌, List, [], ◌∷◌, ◌++◌, length, map, take, Option, None, refl, sym, ◌∙◌, ap, arith, slice_index_or}
-use Rattle.std.proofs.Common.{rules}
-use Rattle.std.proofs.lemmas.List.{take_more, length-take}
+use Rattle.std.proofs.{Common.rules, lemmas.List.take_more, lemmas.List.length-take}
 use mathlib.Core.List.{append_assoc, append-nil}
-use Rattle.lay_cert.specs.Lines.{line_text, lines_then}
-use Rattle.lay_cert.specs.Laws.{InParts}
-use Rattle.lay_cert.specs.Reports.{bars_text}
-use Rattle.lay_cert.specs.Listing.{Entry, entry_lines, all_lines, entries_text, potential_lines}
-use Rattle.lay_cert.specs.declared.lines.Line.{Line}
-use Rattle.lay_cert.specs.declared.lines.Line.TheVariants as line
+use Rattle.lay_cert.specs.{Lines.line_text, Lines.lines_then, Laws.InParts, Reports.bars_text, Listing.Entry, Listing.entry_lines, Listing.all_lines, Listing.entries_text, Listing.potential_lines, declared.lines.Line.Line}
 use Rattle.lay_cert.proofs.Grown.{push_potential, push_map}
 
 pub lines_both : (ls ms : List Line) → lines_then (ls ++ ms) [] ≡ lines_then ls [] ++ lines_then ms []
@@ -39,13 +33,13 @@ put_next f xs i d old now new l e g =
     ∙ ap (λ t. old ++ lines_then (map f t) []) (sym (take_more xs i d l)))
 
 pub put_next_potential : (ps : List (Option ℕ)) (i bar : ℕ) (old now new : List ℕ) → i < length ps → bar ≡ i
-    → now ≡ old ++ lines_then (potential_lines 0 (take i ps)) [] → new ≡ now ++ lines_then (line.Potential bar (slice_index_or ps i None) ∷ []) []
+    → now ≡ old ++ lines_then (potential_lines 0 (take i ps)) [] → new ≡ now ++ lines_then (Line.Potential bar (slice_index_or ps i None) ∷ []) []
     → new ≡ old ++ lines_then (potential_lines 0 (take (i + 1) ps)) []
 put_next_potential ps i bar old now new l is e g =
     let n : length (take i ps) ≡ i = search (rules, length-take) in
     let at : 0 + length (take i ps) ≡ bar = omega arith in
-    put_more old now new (potential_lines 0 (take i ps)) (line.Potential bar (slice_index_or ps i None)) e g
-    ∙ (ap (λ j. old ++ lines_then (potential_lines 0 (take i ps) ++ line.Potential j (slice_index_or ps i None) ∷ []) []) (sym at)
+    put_more old now new (potential_lines 0 (take i ps)) (Line.Potential bar (slice_index_or ps i None)) e g
+    ∙ (ap (λ j. old ++ lines_then (potential_lines 0 (take i ps) ++ Line.Potential j (slice_index_or ps i None) ∷ []) []) (sym at)
     ∙ (ap (λ ls. old ++ lines_then ls []) (sym (push_potential 0 (take i ps) (slice_index_or ps i None)))
     ∙ ap (λ t. old ++ lines_then (potential_lines 0 t) []) (sym (take_more ps i None l))))
 
@@ -65,9 +59,9 @@ entries_are (e ∷ es) = lines_both (entry_lines e) (all_lines es) ∙ ap (λ t.
 
 pub in_parts : InParts
 in_parts es =
-    lines_both (line.Listing ∷ all_lines es) (line.End ∷ [])
-    ∙ ap (λ t. t ++ lines_then (line.End ∷ []) []) (lines_both (line.Listing ∷ []) (all_lines es)
-    ∙ ap (λ t. lines_then (line.Listing ∷ []) [] ++ t) (entries_are es))
+    lines_both (Line.Listing ∷ all_lines es) (Line.End ∷ [])
+    ∙ ap (λ t. t ++ lines_then (Line.End ∷ []) []) (lines_both (Line.Listing ∷ []) (all_lines es)
+    ∙ ap (λ t. lines_then (Line.Listing ∷ []) [] ++ t) (entries_are es))
 
 bars_more : (bs : List ℕ) (b : ℕ) → bars_text (bs ++ b ∷ []) ≡ bars_text bs ++ (32 ∷ decimal b)
 bars_more [] b = append-nil (32 ∷ decimal b)

@@ -1,19 +1,11 @@
 -- A line that may come keeps what holds of the entries told, and is the next of their lines.
 use Rattle.std.proofs.Common.{◌≡◌, ℕ, ◌+◌, ◌<◌, ◌≤◌, ◌==◌, Bool, true, false, List, [], ◌∷◌, ◌++◌, length, map, Option, None, refl, sym, ◌∙◌, ap, subst, arith, inl, inr, if◌then◌else◌, slice_index_or}
-use Rattle.std.proofs.lemmas.Bool.{cases_lt, true≢false}
-use Rattle.std.proofs.lemmas.Bool.Decides.{nat_tests}
-use Rattle.std.proofs.lemmas.List.{length-append, get_or_append_left}
-use Rattle.std.proofs.Math.Seq.{get_or-append_seam}
+use Rattle.std.proofs.{lemmas.Bool.cases_lt, lemmas.Bool.true≢false, lemmas.Bool.Decides.nat_tests, lemmas.List.length-append, lemmas.List.get_or_append_left, Math.Seq.get_or-append_seam}
 use mathlib.Core.List.{append_assoc, append-nil}
-use Rattle.lay_breaks.specs.Breaking.{IsLegal, last_from, IsPotential}
-use Rattle.lay_breaks.specs.Spans.{listed}
-use Rattle.lay_breaks.specs.declared.costs.Span.{Span}
-use Rattle.lay_cert.specs.Listing.{Entry, IsEntry, none_forced, entry_lines, all_lines, potential_lines}
-use Rattle.lay_cert.specs.Places.{Place, begun, between, choosing, proving, MayCome, next, Leads, last_tune_from}
-use Rattle.lay_cert.specs.Told.{IsBegun, IsProving, IsGood, lines_of, begun_lines}
-use Rattle.lay_cert.specs.declared.lines.Line.{Line}
-use Rattle.lay_cert.specs.declared.lines.Line.TheVariants as line
-use Rattle.lay_cert.proofs.Grown.{push_map, push_potential, push_entry, push_entries, push_span, push_legal, listed_within}
+use Rattle.lay_breaks.specs.{Breaking.IsLegal, Breaking.last_from, Breaking.IsPotential, Spans.listed, declared.costs.Span.Span}
+use Rattle.lay_cert.specs.{Listing.Entry, Listing.IsEntry, Listing.none_forced, Listing.entry_lines, Listing.all_lines, Listing.potential_lines, Places.Place, Places.begun, Places.between, Places.choosing, Places.proving, Places.MayCome, Places.next, Places.Leads, Places.last_tune_from}
+use Rattle.lay_cert.{specs.Told.IsBegun, specs.Told.IsProving, specs.Told.IsGood, specs.Told.lines_of, specs.Told.begun_lines, specs.declared.lines.Line.Line, proofs.Grown.push_map, proofs.Grown.push_potential, proofs.Grown.push_entry, proofs.Grown.push_entries, proofs.Grown.push_span}
+use Rattle.lay_cert.proofs.Grown.{push_legal, listed_within}
 
 -- an entry in the making with one more potential
 abbrev pub one_more : Entry → Option ℕ → Entry
@@ -73,13 +65,13 @@ potential_cases e P f g le = at (length e.potentials == e.bars) refl
         less is = grind (arith, nat_tests)
 
 pub step_good : (p : Place) (l : Line) → MayCome p l → IsGood p → IsGood (next p l)
-step_good begun line.Listing m h = tt
-step_good (between es) (line.Tune tune bars) m h = (
+step_good begun Line.Listing m h = tt
+step_good (between es) (Line.Tune tune bars) m h = (
   h,
   record { past = m.0; numbered = m.1; few = m.2; spans = tt; choice = record { rises = tt; ends = refl; every_forced = λ f le t. absurd (true≢false (sym t)); fits = tt } },
 )
-step_good (between es) line.End m h = h
-step_good (choosing es e) (line.OneSpan s) m h = (
+step_good (between es) Line.End m h = h
+step_good (choosing es e) (Line.OneSpan s) m h = (
   h.0,
   record {
     past = h.1.past;
@@ -90,10 +82,10 @@ step_good (choosing es e) (line.OneSpan s) m h = (
         (record { rises = tt; ends = refl; every_forced = λ f le t. absurd (true≢false (sym t)); fits = tt });
   },
 )
-step_good (choosing es e) (line.Choose bar) m h =
+step_good (choosing es e) (Line.Choose bar) m h =
     let w = listed_within e.bars None e.spans (last_from 0 e.breaks) bar h.1.spans m in
     (h.0, record { past = h.1.past; numbered = h.1.numbered; few = h.1.few; spans = h.1.spans; choice = push_legal (listed e.spans) e.breaks bar h.1.choice w.0 m })
-step_good (choosing es e) (line.Total total) m h = (
+step_good (choosing es e) (Line.Total total) m h = (
   h.0,
   record {
     begun = record { past = h.1.past; numbered = h.1.numbered; few = h.1.few; spans = h.1.spans; choice = h.1.choice };
@@ -103,7 +95,7 @@ step_good (choosing es e) (line.Total total) m h = (
     potentials = λ i l. absurd (omega arith);
   },
 )
-step_good (proving es e) (line.Potential bar least) m h =
+step_good (proving es e) (Line.Potential bar least) m h =
     let known = subst (λ i. IsPotential (listed e.spans) none_forced i least) m.0 m.1 in
     potential_cases e (λ t. IsGood (if t then between (es ++ one_more e least ∷ []) else proving es (one_more e least)))
     (λ is. push_entries 0 es (one_more e least) h.0 h.1.begun.past (whole (last_tune_from 0 es) e least h.1 is known))
@@ -112,45 +104,45 @@ step_good p l m h = absurd m
 
 -- one more line behind the entries told
 behind : (es : List Entry) (xs ys : List Line) (l : Line) → xs ≡ ys ++ l ∷ []
-    → (line.Listing ∷ all_lines es) ++ xs ≡ ((line.Listing ∷ all_lines es) ++ ys) ++ l ∷ []
-behind es xs ys l e = ap (λ t. (line.Listing ∷ all_lines es) ++ t) e ∙ sym (append_assoc (line.Listing ∷ all_lines es) ys (l ∷ []))
+    → (Line.Listing ∷ all_lines es) ++ xs ≡ ((Line.Listing ∷ all_lines es) ++ ys) ++ l ∷ []
+behind es xs ys l e = ap (λ t. (Line.Listing ∷ all_lines es) ++ t) e ∙ sym (append_assoc (Line.Listing ∷ all_lines es) ys (l ∷ []))
 
 begun_span : (tune bars : ℕ) (spans : List Span) (breaks : List ℕ) (s : Span) → breaks ≡ []
-    → line.Tune tune bars ∷ map line.OneSpan (spans ++ s ∷ []) ++ map line.Choose breaks
-    ≡ (line.Tune tune bars ∷ map line.OneSpan spans ++ map line.Choose breaks) ++ line.OneSpan s ∷ []
+    → Line.Tune tune bars ∷ map Line.OneSpan (spans ++ s ∷ []) ++ map Line.Choose breaks
+    ≡ (Line.Tune tune bars ∷ map Line.OneSpan spans ++ map Line.Choose breaks) ++ Line.OneSpan s ∷ []
 begun_span tune bars spans breaks s e =
-    subst (λ bs. line.Tune tune bars ∷ map line.OneSpan (spans ++ s ∷ []) ++ map line.Choose bs
-    ≡ (line.Tune tune bars ∷ map line.OneSpan spans ++ map line.Choose bs) ++ line.OneSpan s ∷ []) (sym e)
-    (ap (λ t. line.Tune tune bars ∷ t) (append-nil (map line.OneSpan (spans ++ s ∷ []))
-    ∙ (push_map line.OneSpan spans s ∙ ap (λ t. t ++ line.OneSpan s ∷ []) (sym (append-nil (map line.OneSpan spans))))))
+    subst (λ bs. Line.Tune tune bars ∷ map Line.OneSpan (spans ++ s ∷ []) ++ map Line.Choose bs
+    ≡ (Line.Tune tune bars ∷ map Line.OneSpan spans ++ map Line.Choose bs) ++ Line.OneSpan s ∷ []) (sym e)
+    (ap (λ t. Line.Tune tune bars ∷ t) (append-nil (map Line.OneSpan (spans ++ s ∷ []))
+    ∙ (push_map Line.OneSpan spans s ∙ ap (λ t. t ++ Line.OneSpan s ∷ []) (sym (append-nil (map Line.OneSpan spans))))))
 
 begun_break : (tune bars : ℕ) (spans : List Span) (breaks : List ℕ) (bar : ℕ)
-    → line.Tune tune bars ∷ map line.OneSpan spans ++ map line.Choose (breaks ++ bar ∷ [])
-    ≡ (line.Tune tune bars ∷ map line.OneSpan spans ++ map line.Choose breaks) ++ line.Choose bar ∷ []
+    → Line.Tune tune bars ∷ map Line.OneSpan spans ++ map Line.Choose (breaks ++ bar ∷ [])
+    ≡ (Line.Tune tune bars ∷ map Line.OneSpan spans ++ map Line.Choose breaks) ++ Line.Choose bar ∷ []
 begun_break tune bars spans breaks bar =
-    ap (λ t. line.Tune tune bars ∷ map line.OneSpan spans ++ t) (push_map line.Choose breaks bar)
-    ∙ sym (append_assoc (line.Tune tune bars ∷ map line.OneSpan spans) (map line.Choose breaks) (line.Choose bar ∷ []))
+    ap (λ t. Line.Tune tune bars ∷ map Line.OneSpan spans ++ t) (push_map Line.Choose breaks bar)
+    ∙ sym (append_assoc (Line.Tune tune bars ∷ map Line.OneSpan spans) (map Line.Choose breaks) (Line.Choose bar ∷ []))
 
 proved_more : (e : Entry) (bar : ℕ) (least : Option ℕ) → bar ≡ length e.potentials
-    → entry_lines (one_more e least) ≡ entry_lines e ++ line.Potential bar least ∷ []
+    → entry_lines (one_more e least) ≡ entry_lines e ++ Line.Potential bar least ∷ []
 proved_more e bar least is =
     let at : 0 + length e.potentials ≡ bar = omega arith in
-    let more = push_potential 0 e.potentials least ∙ ap (λ i. potential_lines 0 e.potentials ++ line.Potential i least ∷ []) at in
-    ap (λ t. begun_lines e ++ line.Total e.total ∷ t) more
-    ∙ sym (append_assoc (begun_lines e) (line.Total e.total ∷ potential_lines 0 e.potentials) (line.Potential bar least ∷ []))
+    let more = push_potential 0 e.potentials least ∙ ap (λ i. potential_lines 0 e.potentials ++ Line.Potential i least ∷ []) at in
+    ap (λ t. begun_lines e ++ Line.Total e.total ∷ t) more
+    ∙ sym (append_assoc (begun_lines e) (Line.Total e.total ∷ potential_lines 0 e.potentials) (Line.Potential bar least ∷ []))
 
 pub step_lines : (p : Place) (l : Line) → MayCome p l → IsGood p → lines_of (next p l) ≡ lines_of p ++ l ∷ []
-step_lines begun line.Listing m h = refl
-step_lines (between es) (line.Tune tune bars) m h = refl
-step_lines (between es) line.End m h = refl
-step_lines (choosing es e) (line.OneSpan s) m h = behind es _ (begun_lines e) (line.OneSpan s) (begun_span e.tune e.bars e.spans e.breaks s m.0)
-step_lines (choosing es e) (line.Choose bar) m h = behind es _ (begun_lines e) (line.Choose bar) (begun_break e.tune e.bars e.spans e.breaks bar)
-step_lines (choosing es e) (line.Total total) m h = sym (append_assoc (line.Listing ∷ all_lines es) (begun_lines e) (line.Total total ∷ []))
-step_lines (proving es e) (line.Potential bar least) m h =
-    let told = behind es (entry_lines (one_more e least)) (entry_lines e) (line.Potential bar least) (proved_more e bar least m.0) in
+step_lines begun Line.Listing m h = refl
+step_lines (between es) (Line.Tune tune bars) m h = refl
+step_lines (between es) Line.End m h = refl
+step_lines (choosing es e) (Line.OneSpan s) m h = behind es _ (begun_lines e) (Line.OneSpan s) (begun_span e.tune e.bars e.spans e.breaks s m.0)
+step_lines (choosing es e) (Line.Choose bar) m h = behind es _ (begun_lines e) (Line.Choose bar) (begun_break e.tune e.bars e.spans e.breaks bar)
+step_lines (choosing es e) (Line.Total total) m h = sym (append_assoc (Line.Listing ∷ all_lines es) (begun_lines e) (Line.Total total ∷ []))
+step_lines (proving es e) (Line.Potential bar least) m h =
+    let told = behind es (entry_lines (one_more e least)) (entry_lines e) (Line.Potential bar least) (proved_more e bar least m.0) in
     potential_cases e
-    (λ t. lines_of (if t then between (es ++ one_more e least ∷ []) else proving es (one_more e least)) ≡ ((line.Listing ∷ all_lines es) ++ entry_lines e) ++ line.Potential bar least ∷ [])
-    (λ is. ap (λ t. line.Listing ∷ t) (push_entry es (one_more e least)) ∙ told)
+    (λ t. lines_of (if t then between (es ++ one_more e least ∷ []) else proving es (one_more e least)) ≡ ((Line.Listing ∷ all_lines es) ++ entry_lines e) ++ Line.Potential bar least ∷ [])
+    (λ is. ap (λ t. Line.Listing ∷ t) (push_entry es (one_more e least)) ∙ told)
     (λ l. told) h.1.some_left
 step_lines p l m h = absurd m
 

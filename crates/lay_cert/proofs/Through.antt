@@ -1,16 +1,10 @@
 -- The lines of a listing are good, each after those before it.
 use Rattle.std.proofs.Common.{◌≡◌, ℕ, suc, ◌+◌, ◌<◌, ◌≤◌, List, [], ◌∷◌, ◌++◌, length, map, Option, None, refl, sym, ap, subst, arith, if◌then◌else◌, slice_index_or}
-use Rattle.std.proofs.lemmas.Bool.{eq-eqb, ne_eqb}
-use Rattle.std.proofs.lemmas.List.{length-append}
+use Rattle.std.proofs.{lemmas.Bool.eq-eqb, lemmas.Bool.ne_eqb, lemmas.List.length-append}
 use mathlib.Core.List.{append-nil}
-use Rattle.lay_breaks.specs.Breaking.{FitsFrom, last_from, IsPotential}
-use Rattle.lay_breaks.specs.Spans.{SpansFrom, listed}
-use Rattle.lay_breaks.specs.declared.costs.Span.{Span}
-use Rattle.lay_cert.specs.Listing.{Entry, IsEntry, EntriesFrom, none_forced, entry_lines, all_lines, listing_lines, potential_lines}
-use Rattle.lay_cert.specs.Places.{begun, between, choosing, proving, ended, Leads, last_tune_from, last_span_from}
-use Rattle.lay_cert.specs.declared.lines.Line.TheVariants as line
-use Rattle.lay_cert.proofs.Grown.{push_on, push_last_span, push_last, push_tune}
-use Rattle.lay_cert.proofs.Steps.{leads_both}
+use Rattle.lay_breaks.specs.{Breaking.FitsFrom, Breaking.last_from, Breaking.IsPotential, Spans.SpansFrom, Spans.listed, declared.costs.Span.Span}
+use Rattle.lay_cert.specs.{Listing.Entry, Listing.IsEntry, Listing.EntriesFrom, Listing.none_forced, Listing.entry_lines, Listing.all_lines, Listing.listing_lines, Listing.potential_lines, Places.begun, Places.between, Places.choosing, Places.proving, Places.ended, Places.Leads}
+use Rattle.lay_cert.{specs.Places.last_tune_from, specs.Places.last_span_from, specs.declared.lines.Line.Line, proofs.Grown.push_on, proofs.Grown.push_last_span, proofs.Grown.push_last, proofs.Grown.push_tune, proofs.Steps.leads_both}
 
 abbrev pub begun_with : ℕ → ℕ → List Span → List ℕ → Entry
 begun_with k n spans breaks = record { tune = k; bars = n; spans = spans; breaks = breaks; total = 0; potentials = [] }
@@ -19,20 +13,20 @@ abbrev told : Entry → List (Option ℕ) → Entry
 told e ps = record { tune = e.tune; bars = e.bars; spans = e.spans; breaks = e.breaks; total = e.total; potentials = ps }
 
 spans_lead : (es : List Entry) (k n : ℕ) (so_far ss : List Span) → SpansFrom n (last_span_from None so_far) ss
-    → Leads (choosing es (begun_with k n so_far [])) (map line.OneSpan ss) (choosing es (begun_with k n (so_far ++ ss) []))
+    → Leads (choosing es (begun_with k n so_far [])) (map Line.OneSpan ss) (choosing es (begun_with k n (so_far ++ ss) []))
 spans_lead es k n so_far [] h = ap (λ t. choosing es (begun_with k n t [])) (sym (append-nil so_far))
 spans_lead es k n so_far (s ∷ ss) h = (
   (refl, h.0),
-  subst (λ t. Leads (choosing es (begun_with k n (so_far ++ s ∷ []) [])) (map line.OneSpan ss) (choosing es (begun_with k n t []))) (sym (push_on so_far ss s))
+  subst (λ t. Leads (choosing es (begun_with k n (so_far ++ s ∷ []) [])) (map Line.OneSpan ss) (choosing es (begun_with k n t []))) (sym (push_on so_far ss s))
       (spans_lead es k n (so_far ++ s ∷ []) ss (subst (λ o. SpansFrom n o ss) (sym (push_last_span None so_far s)) h.1)),
 )
 
 breaks_lead : (es : List Entry) (k n : ℕ) (spans : List Span) (so_far bs : List ℕ) → FitsFrom (listed spans) (last_from 0 so_far) bs
-    → Leads (choosing es (begun_with k n spans so_far)) (map line.Choose bs) (choosing es (begun_with k n spans (so_far ++ bs)))
+    → Leads (choosing es (begun_with k n spans so_far)) (map Line.Choose bs) (choosing es (begun_with k n spans (so_far ++ bs)))
 breaks_lead es k n spans so_far [] h = ap (λ t. choosing es (begun_with k n spans t)) (sym (append-nil so_far))
 breaks_lead es k n spans so_far (b ∷ bs) h = (
   h.0,
-  subst (λ t. Leads (choosing es (begun_with k n spans (so_far ++ b ∷ []))) (map line.Choose bs) (choosing es (begun_with k n spans t))) (sym (push_on so_far bs b))
+  subst (λ t. Leads (choosing es (begun_with k n spans (so_far ++ b ∷ []))) (map Line.Choose bs) (choosing es (begun_with k n spans t))) (sym (push_on so_far bs b))
       (breaks_lead es k n spans (so_far ++ b ∷ []) bs (subst (λ i. FitsFrom (listed spans) i bs) (sym (push_last 0 b so_far)) h.1)),
 )
 
@@ -85,4 +79,4 @@ all_lead (e ∷ es) done h =
     (all_lead es (done ++ e ∷ []) (subst (λ k. EntriesFrom k es) (sym (push_tune 0 done e)) h.2)))
 
 pub listing_leads : (es : List Entry) → EntriesFrom 0 es → Leads begun (listing_lines es) (ended es)
-listing_leads es h = (tt, leads_both (between []) (all_lines es) (between es) (line.End ∷ []) (ended es) (all_lead es [] h) (tt, refl))
+listing_leads es h = (tt, leads_both (between []) (all_lines es) (between es) (Line.End ∷ []) (ended es) (all_lead es [] h) (tt, refl))

@@ -1,7 +1,6 @@
 -- Where the spans from each bar begin in the list of spans, and what is found by it.
 use Rattle.std.specs.Prelude.{◌≡◌, ℕ, ◌+◌, ◌-◌, ◌≤◌, ◌^◌, List, length, Option, Some, None, IfSome, option_and_then, if◌then◌else◌, slice_get, slice_index, refl}
-use Rattle.lay_breaks.specs.Spans.{has_ends, listed}
-use Rattle.lay_breaks.specs.declared.costs.Span.{Span}
+use Rattle.lay_breaks.specs.{Spans.has_ends, Spans.listed, declared.costs.Span.Span}
 
 abbrev pub cost_if : ℕ → ℕ → Span → Option ℕ
 cost_if a b s = if has_ends a b s then Some s.badness else None

@@ -1,7 +1,6 @@
 -- The lines of a listing, as they are printed.
 use Rattle.std.specs.Prelude.{ℕ, List, [], ◌∷◌, ◌++◌, Option, Some, None, codes, decimal}
-use Rattle.lay_cert.specs.declared.lines.Line.{Line}
-use Rattle.lay_cert.specs.declared.lines.Line.TheVariants.{Listing, Tune, OneSpan, Choose, Total, Potential, End}
+use Rattle.lay_cert.specs.declared.lines.Line.{Line, TheVariants.Listing, TheVariants.Tune, TheVariants.OneSpan, TheVariants.Choose, TheVariants.Total, TheVariants.Potential, TheVariants.End}
 
 -- a sum, or the word none
 abbrev pub sum_text : Option ℕ → List ℕ

@@ -1,12 +1,7 @@
 -- Which line may come after which: the lines of a listing, each judged by the lines before it alone.
 use Rattle.std.specs.Prelude.{◌≡◌, ℕ, ◌+◌, ◌<◌, ◌≤◌, ◌^◌, ◌==◌, List, [], ◌∷◌, ◌++◌, length, Option, Some, None, IsSome, if◌then◌else◌}
-use Rattle.lay_breaks.specs.Breaking.{last_from, sum_from, IsPotential}
-use Rattle.lay_breaks.specs.Spans.{MayFollow, listed}
-use Rattle.lay_breaks.specs.declared.costs.Span.{Span}
-use Rattle.lay_cert.specs.Lines.{line_text, lines_then}
-use Rattle.lay_cert.specs.Listing.{Entry, none_forced}
-use Rattle.lay_cert.specs.declared.lines.Line.{Line}
-use Rattle.lay_cert.specs.declared.lines.Line.TheVariants as line
+use Rattle.lay_breaks.specs.{Breaking.last_from, Breaking.sum_from, Breaking.IsPotential, Spans.MayFollow, Spans.listed, declared.costs.Span.Span}
+use Rattle.lay_cert.specs.{Lines.line_text, Lines.lines_then, Listing.Entry, Listing.none_forced, declared.lines.Line.Line}
 
 -- What the lines so far have told: nothing; whole entries; these and the spans and breaks of one more; these and its total
 -- and the potentials of its first bars; all.
@@ -29,13 +24,13 @@ last_span_from last (s ∷ ss) = last_span_from (Some s) ss
 -- spans asks; a break where the span from the break before it, or 0, is listed; the total where the last break is the last bar,
 -- and only as the sum; a potential only for the next bar, and only as the least sum.
 abbrev pub MayCome : Place → Line → Type 0
-MayCome begun line.Listing = Unit {0}
-MayCome (between es) (line.Tune tune bars) = (last_tune_from 0 es < tune) × (tune < 2 ^ 32) × (bars ≤ 4000)
-MayCome (between es) line.End = Unit {0}
-MayCome (choosing es e) (line.OneSpan s) = (e.breaks ≡ []) × MayFollow e.bars (last_span_from None e.spans) s
-MayCome (choosing es e) (line.Choose bar) = IsSome (listed e.spans (last_from 0 e.breaks) bar)
-MayCome (choosing es e) (line.Total total) = (last_from 0 e.breaks ≡ e.bars) × (total ≡ sum_from (listed e.spans) 0 e.breaks)
-MayCome (proving es e) (line.Potential bar least) = (bar ≡ length e.potentials) × IsPotential (listed e.spans) none_forced bar least
+MayCome begun Line.Listing = Unit {0}
+MayCome (between es) (Line.Tune tune bars) = (last_tune_from 0 es < tune) × (tune < 2 ^ 32) × (bars ≤ 4000)
+MayCome (between es) Line.End = Unit {0}
+MayCome (choosing es e) (Line.OneSpan s) = (e.breaks ≡ []) × MayFollow e.bars (last_span_from None e.spans) s
+MayCome (choosing es e) (Line.Choose bar) = IsSome (listed e.spans (last_from 0 e.breaks) bar)
+MayCome (choosing es e) (Line.Total total) = (last_from 0 e.breaks ≡ e.bars) × (total ≡ sum_from (listed e.spans) 0 e.breaks)
+MayCome (proving es e) (Line.Potential bar least) = (bar ≡ length e.potentials) × IsPotential (listed e.spans) none_forced bar least
 MayCome p l = ⊥
 
 -- one more potential: the entry is whole with that of its last bar
@@ -46,13 +41,13 @@ with_potential es e p =
 
 -- what stands once the line has come
 abbrev pub next : Place → Line → Place
-next begun line.Listing = between []
-next (between es) (line.Tune tune bars) = choosing es (record { tune = tune; bars = bars; spans = []; breaks = []; total = 0; potentials = [] })
-next (between es) line.End = ended es
-next (choosing es e) (line.OneSpan s) = choosing es (record { tune = e.tune; bars = e.bars; spans = e.spans ++ s ∷ []; breaks = e.breaks; total = 0; potentials = [] })
-next (choosing es e) (line.Choose bar) = choosing es (record { tune = e.tune; bars = e.bars; spans = e.spans; breaks = e.breaks ++ bar ∷ []; total = 0; potentials = [] })
-next (choosing es e) (line.Total total) = proving es (record { tune = e.tune; bars = e.bars; spans = e.spans; breaks = e.breaks; total = total; potentials = [] })
-next (proving es e) (line.Potential bar least) = with_potential es e least
+next begun Line.Listing = between []
+next (between es) (Line.Tune tune bars) = choosing es (record { tune = tune; bars = bars; spans = []; breaks = []; total = 0; potentials = [] })
+next (between es) Line.End = ended es
+next (choosing es e) (Line.OneSpan s) = choosing es (record { tune = e.tune; bars = e.bars; spans = e.spans ++ s ∷ []; breaks = e.breaks; total = 0; potentials = [] })
+next (choosing es e) (Line.Choose bar) = choosing es (record { tune = e.tune; bars = e.bars; spans = e.spans; breaks = e.breaks ++ bar ∷ []; total = 0; potentials = [] })
+next (choosing es e) (Line.Total total) = proving es (record { tune = e.tune; bars = e.bars; spans = e.spans; breaks = e.breaks; total = total; potentials = [] })
+next (proving es e) (Line.Potential bar least) = with_potential es e least
 next p l = p
 
 -- the lines are good, each after those before it, and lead from one place to another

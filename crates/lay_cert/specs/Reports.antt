@@ -1,8 +1,7 @@
 -- What is written of a verdict: `least`, the tune and its total; or `notleast`, the tune, its total, the least total and the
 -- bars of the chosen breaking. One line each.
 use Rattle.std.specs.Prelude.{ℕ, List, [], ◌∷◌, ◌++◌, codes, decimal}
-use Rattle.lay_cert.specs.declared.check.Verdict.{Verdict}
-use Rattle.lay_cert.specs.declared.check.Verdict.TheVariants.{Least, NotLeast}
+use Rattle.lay_cert.specs.declared.check.Verdict.{Verdict, TheVariants.Least, TheVariants.NotLeast}
 
 -- each bar behind a space
 abbrev pub bars_text : List ℕ → List ℕ

@@ -1,19 +1,9 @@
 -- How the checker keeps what the lines so far have told.
 use Rattle.std.specs.Prelude.{◌≡◌, ℕ, ◌+◌, ◌≤◌, List, [], length, Option, None, MatchOption, slice_index_or}
-use Rattle.lay_breaks.specs.Breaking.{IsLegal, last_from, sum_from, IsPotential}
-use Rattle.lay_breaks.specs.Spans.{AreSpans, listed}
-use Rattle.lay_cert.specs.Indexed.{IsIndexed}
-use Rattle.lay_cert.specs.Lines.{line_text}
-use Rattle.lay_cert.specs.Listing.{Entry, none_forced}
+use Rattle.lay_breaks.specs.{Breaking.IsLegal, Breaking.last_from, Breaking.sum_from, Breaking.IsPotential, Spans.AreSpans, Spans.listed}
+use Rattle.lay_cert.specs.{Indexed.IsIndexed, Lines.line_text, Listing.Entry, Listing.none_forced, Places.MayCome, Places.next, Places.last_tune_from, Places.last_span_from, Verdicts.AreVerdicts, Verdicts.IsVerdict, declared.lines.Line.Line, declared.check.Judged.Judged}
+use Rattle.lay_cert.specs.declared.place.{Choosing.Choosing, Proving.Proving, Stage.Stage}
 use Rattle.lay_cert.specs.Places as place
-use Rattle.lay_cert.specs.Places.{MayCome, next, last_tune_from, last_span_from}
-use Rattle.lay_cert.specs.Verdicts.{AreVerdicts, IsVerdict}
-use Rattle.lay_cert.specs.declared.lines.Line.{Line}
-use Rattle.lay_cert.specs.declared.check.Judged.{Judged}
-use Rattle.lay_cert.specs.declared.place.Choosing.{Choosing}
-use Rattle.lay_cert.specs.declared.place.Proving.{Proving}
-use Rattle.lay_cert.specs.declared.place.Stage.{Stage}
-use Rattle.lay_cert.specs.declared.place.Stage.TheVariants as stage
 
 -- the entry as far as its spans and breaks are told
 abbrev pub entry_of : Choosing → Entry
@@ -48,17 +38,17 @@ pub record Proves (v : Proving) (e : Entry) : Type 0 where
   pub potentials : (i : ℕ) → i ≤ e.bars → IsPotential (listed e.spans) none_forced i (slice_index_or v.potentials i None)
 
 abbrev pub IsSound : Stage → Type 0
-IsSound (stage.Choosing c) = IsChoosing c
-IsSound (stage.Proving v) = IsKept v
+IsSound (Stage.Choosing c) = IsChoosing c
+IsSound (Stage.Proving v) = IsKept v
 IsSound s = Unit {0}
 
 -- the checker's stage, with the verdicts so far, stands for the place
 abbrev pub Stands : Stage → List Judged → place.Place → Type 0
-Stands stage.Begun js place.begun = js ≡ []
-Stands (stage.Between last) js (place.between es) = (last ≡ last_tune_from 0 es) × AreVerdicts es js
-Stands (stage.Choosing c) js (place.choosing es e) = AreVerdicts es js × IsChoosing c × (e ≡ entry_of c)
-Stands (stage.Proving v) js (place.proving es e) = AreVerdicts es js × Proves v e
-Stands stage.Ended js (place.ended es) = AreVerdicts es js
+Stands Stage.Begun js place.begun = js ≡ []
+Stands (Stage.Between last) js (place.between es) = (last ≡ last_tune_from 0 es) × AreVerdicts es js
+Stands (Stage.Choosing c) js (place.choosing es e) = AreVerdicts es js × IsChoosing c × (e ≡ entry_of c)
+Stands (Stage.Proving v) js (place.proving es e) = AreVerdicts es js × Proves v e
+Stands Stage.Ended js (place.ended es) = AreVerdicts es js
 Stands s js p = ⊥
 
 -- no good line at the place has this text

@@ -1,11 +1,7 @@
 -- What holds of the entries that the lines so far have told, and which lines those are.
 use Rattle.std.specs.Prelude.{◌≡◌, ℕ, ◌<◌, ◌≤◌, ◌^◌, List, [], ◌∷◌, ◌++◌, length, None, map, slice_index_or}
-use Rattle.lay_breaks.specs.Breaking.{IsLegal, last_from, sum_from, IsPotential}
-use Rattle.lay_breaks.specs.Spans.{AreSpans, listed}
-use Rattle.lay_cert.specs.Listing.{Entry, EntriesFrom, none_forced, entry_lines, all_lines, listing_lines}
-use Rattle.lay_cert.specs.Places.{Place, begun, between, choosing, proving, ended, last_tune_from}
-use Rattle.lay_cert.specs.declared.lines.Line.{Line}
-use Rattle.lay_cert.specs.declared.lines.Line.TheVariants as line
+use Rattle.lay_breaks.specs.{Breaking.IsLegal, Breaking.last_from, Breaking.sum_from, Breaking.IsPotential, Spans.AreSpans, Spans.listed}
+use Rattle.lay_cert.specs.{Listing.Entry, Listing.EntriesFrom, Listing.none_forced, Listing.entry_lines, Listing.all_lines, Listing.listing_lines, Places.Place, Places.begun, Places.between, Places.choosing, Places.proving, Places.ended, Places.last_tune_from, declared.lines.Line.Line}
 
 -- spans and a legal prefix of a choice, behind tunes up to number k
 pub record IsBegun (k : ℕ) (e : Entry) : Type 0 where
@@ -31,11 +27,11 @@ IsGood (proving es e) = EntriesFrom 0 es × IsProving (last_tune_from 0 es) e
 IsGood (ended es) = EntriesFrom 0 es
 
 abbrev pub begun_lines : Entry → List Line
-begun_lines e = line.Tune e.tune e.bars ∷ map line.OneSpan e.spans ++ map line.Choose e.breaks
+begun_lines e = Line.Tune e.tune e.bars ∷ map Line.OneSpan e.spans ++ map Line.Choose e.breaks
 
 abbrev pub lines_of : Place → List Line
 lines_of begun = []
-lines_of (between es) = line.Listing ∷ all_lines es
-lines_of (choosing es e) = (line.Listing ∷ all_lines es) ++ begun_lines e
-lines_of (proving es e) = (line.Listing ∷ all_lines es) ++ entry_lines e
+lines_of (between es) = Line.Listing ∷ all_lines es
+lines_of (choosing es e) = (Line.Listing ∷ all_lines es) ++ begun_lines e
+lines_of (proving es e) = (Line.Listing ∷ all_lines es) ++ entry_lines e
 lines_of (ended es) = listing_lines es

@@ -1,20 +1,10 @@
 -- Columns of two lists of measures, one after the other.
 use Rattle.std.proofs.Common.{◌≡◌, ◌≢◌, ℕ, ◌+◌, ◌-◌, ◌<◌, ◌==◌, Bool, true, false, List, [], ◌∷◌, ◌++◌, map, length, Option, Some, None, refl, ap, ◌∙◌, arith, if◌then◌else◌, get_or}
-use Rattle.std.specs.List.{All, find}
-use Rattle.std.proofs.lemmas.List.{append-nil}
-use Rattle.std.proofs.lemmas.List.Elements.{All-head, All-tail}
+use Rattle.std.{proofs.lemmas.List.append-nil, proofs.lemmas.List.Elements.All-head, proofs.lemmas.List.Elements.All-tail, specs.List.All, specs.List.find}
 use Rattle.mus_time.specs.declared.keys.ColumnKey.{ColumnKey}
-use Rattle.mus_laid.specs.Boxes.{sides_of}
-use Rattle.mus_laid.specs.declared.boxes.Sides.{Sides}
-use Rattle.mus_laid.specs.declared.laid.Laid.{Laid}
-use Rattle.mus_laid.specs.declared.laid.Mark.{Mark}
-use Rattle.mus_laid.specs.declared.laid.Mark.TheVariants as marks
-use Rattle.mus_laid.specs.declared.laid.StaffMarks.{StaffMarks}
-use Rattle.lay_columns.specs.Columns.{columns_from}
-use Rattle.lay_columns.specs.Joining.{ColumnsJoin, IsBelow, MarksJoin, moved, moved_mark, OfOtherMeasures, StavesJoin}
-use Rattle.lay_columns.specs.Lanes.{lane_count}
-use Rattle.lay_columns.specs.Naturals.{is_note, is_note_of, natural_for, natural_of, tick_or_end}
-use Rattle.lay_columns.specs.Reaches.{box_at, boxes_at, drawn_reach, is_number, rank_of, reach_over, reaches_of, staff_reaches, standing, stands_always}
+use Rattle.mus_laid.specs.{Boxes.sides_of, declared.boxes.Sides.Sides, declared.laid.Laid.Laid, declared.laid.Mark.Mark, declared.laid.StaffMarks.StaffMarks}
+use Rattle.lay_columns.specs.{Columns.columns_from, Joining.ColumnsJoin, Joining.IsBelow, Joining.MarksJoin, Joining.moved, Joining.moved_mark, Joining.OfOtherMeasures, Joining.StavesJoin, Lanes.lane_count, Naturals.is_note, Naturals.is_note_of, Naturals.natural_for, Naturals.natural_of}
+use Rattle.lay_columns.specs.{Naturals.tick_or_end, Reaches.box_at, Reaches.boxes_at, Reaches.drawn_reach, Reaches.is_number, Reaches.rank_of, Reaches.reach_over, Reaches.reaches_of, Reaches.staff_reaches, Reaches.standing, Reaches.stands_always}
 use Rattle.lay_columns.proofs.Rows.{same_range}
 
 -- ---- reaches
@@ -118,18 +108,18 @@ no_rank : (rank lane : ℕ) (laid : Laid) → is_number rank (rank_of laid.mark)
 no_rank rank lane laid e = rw e refl
 
 ranked_moved : (n rank : ℕ) (mark : Mark) → is_number (n + rank) (rank_of (moved_mark n mark)) ≡ is_number rank (rank_of mark)
-ranked_moved n rank (marks.Glyph glyph r dx dy) = grind arith
-ranked_moved n rank (marks.Words size r dx dy text) = grind arith
-ranked_moved n rank (marks.Stem r dx from to) = refl
-ranked_moved n rank (marks.Beam way first last from to) = refl
-ranked_moved n rank (marks.Arc first last from to bulge) = refl
+ranked_moved n rank (Mark.Glyph glyph r dx dy) = grind arith
+ranked_moved n rank (Mark.Words size r dx dy text) = grind arith
+ranked_moved n rank (Mark.Stem r dx from to) = refl
+ranked_moved n rank (Mark.Beam way first last from to) = refl
+ranked_moved n rank (Mark.Arc first last from to bulge) = refl
 
 sides_moved : (n : ℕ) (mark : Mark) → sides_of (moved_mark n mark) ≡ sides_of mark
-sides_moved n (marks.Glyph glyph r dx dy) = refl
-sides_moved n (marks.Words size r dx dy text) = refl
-sides_moved n (marks.Stem r dx from to) = refl
-sides_moved n (marks.Beam way first last from to) = refl
-sides_moved n (marks.Arc first last from to bulge) = refl
+sides_moved n (Mark.Glyph glyph r dx dy) = refl
+sides_moved n (Mark.Words size r dx dy text) = refl
+sides_moved n (Mark.Stem r dx from to) = refl
+sides_moved n (Mark.Beam way first last from to) = refl
+sides_moved n (Mark.Arc first last from to bulge) = refl
 
 box_moved : (n rank lane : ℕ) (laid : Laid) → box_at (n + rank) lane (moved n laid) ≡ box_at rank lane laid
 box_moved n rank lane laid = rw (ranked_moved n rank laid.mark, sides_moved n laid.mark) refl
@@ -139,11 +129,11 @@ boxes_moved n rank lane [] = refl
 boxes_moved n rank lane (x ∷ xs) = rw (box_moved n rank lane x, boxes_moved n rank lane xs) refl
 
 before_moved : (n rank : ℕ) (mark : Mark) → rank < n → is_number rank (rank_of (moved_mark n mark)) ≡ false
-before_moved n rank (marks.Glyph glyph r dx dy) l = grind (arith, l)
-before_moved n rank (marks.Words size r dx dy text) l = grind (arith, l)
-before_moved n rank (marks.Stem r dx from to) l = refl
-before_moved n rank (marks.Beam way first last from to) l = refl
-before_moved n rank (marks.Arc first last from to bulge) l = refl
+before_moved n rank (Mark.Glyph glyph r dx dy) l = grind (arith, l)
+before_moved n rank (Mark.Words size r dx dy text) l = grind (arith, l)
+before_moved n rank (Mark.Stem r dx from to) l = refl
+before_moved n rank (Mark.Beam way first last from to) l = refl
+before_moved n rank (Mark.Arc first last from to bulge) l = refl
 
 none_moved : (n rank lane : ℕ) (xs : List Laid) → rank < n → boxes_at rank lane (map (moved n) xs) ≡ []
 none_moved n rank lane [] l = refl

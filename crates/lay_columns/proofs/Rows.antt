@@ -1,17 +1,10 @@
 -- The reaches of a column in a staff's lanes, mark by mark.
 use Rattle.std.proofs.Common.{◌≡◌, ◌≢◌, ℕ, ◌<◌, ◌&&◌, ◌==◌, max, true, List, [], ◌∷◌, ◌++◌, map, length, Option, Some, None, refl, sym, ap, ◌∙◌, subst, arith, inl, inr, if◌then◌else◌, nat_lt, filter_map, get_or, set, get_or-set_same, get_or-set_other}
-use Rattle.std.specs.List.{range_with_len}
-use Rattle.std.proofs.lemmas.Bool.{cases_eq}
-use Rattle.std.proofs.lemmas.List.{append-nil, length-set}
-use Rattle.std.proofs.lemmas.List.FromFn.{fill_by_all, length-map-range_with_len, get_or-map-range_with_len}
+use Rattle.std.{proofs.lemmas.Bool.cases_eq, proofs.lemmas.List.append-nil, proofs.lemmas.List.length-set, proofs.lemmas.List.FromFn.fill_by_all, proofs.lemmas.List.FromFn.length-map-range_with_len, proofs.lemmas.List.FromFn.get_or-map-range_with_len, specs.List.range_with_len}
 use Rattle.mus_time.specs.Onsets.{greatest}
-use Rattle.mus_laid.specs.Boxes.{sides_of}
-use Rattle.mus_laid.specs.declared.boxes.Sides.{Sides}
-use Rattle.mus_laid.specs.declared.laid.Laid.{Laid}
+use Rattle.mus_laid.specs.{Boxes.sides_of, declared.boxes.Sides.Sides, declared.laid.Laid.Laid}
 use Rattle.lay_springs.specs.declared.traits.Reach.{Reach}
-use Rattle.lay_columns.specs.Lanes.{lane_number}
-use Rattle.lay_columns.specs.Reaches.{left_of, right_of, rank_of, box_at, boxes_at, reach_over, drawn_reach, drawn_row}
-use Rattle.lay_columns.specs.Widened.{widened, widened_row}
+use Rattle.lay_columns.specs.{Lanes.lane_number, Reaches.left_of, Reaches.right_of, Reaches.rank_of, Reaches.box_at, Reaches.boxes_at, Reaches.reach_over, Reaches.drawn_reach, Reaches.drawn_row, Widened.widened, Widened.widened_row}
 
 -- ---- one more box
 greatest_more : (xs : List ℕ) (n : ℕ) → greatest (xs ++ n ∷ []) ≡ max (greatest xs) n

@@ -2,18 +2,9 @@
 -- the spring behind it.
 use Rattle.std.specs.Prelude.{◌≡◌, ℕ, ◌+◌, ◌*◌, ◌/◌, ◌<◌, ◌≤◌, ◌⊎◌, pos, neg_ℤ, ◌≤ℤ◌, true, List, [], ◌∷◌, length, All, Contains, Option, Some, IfSome, option_and_then, slice_get}
 use Rattle.mus_time.specs.declared.keys.ColumnKey.{ColumnKey}
-use Rattle.mus_laid.specs.Boxes.{sides_of}
-use Rattle.mus_laid.specs.declared.boxes.Sides.{Sides}
-use Rattle.mus_laid.specs.declared.laid.Laid.{Laid}
-use Rattle.mus_laid.specs.declared.laid.StaffMarks.{StaffMarks}
-use Rattle.lay_springs.specs.declared.traits.Reach.{Reach}
-use Rattle.lay_springs.specs.Fit.{StandsInAll}
-use Rattle.lay_springs.specs.Place.{reach_at}
-use Rattle.lay_columns.specs.declared.column.Column.{Column}
-use Rattle.lay_columns.specs.Column.{length_at, most_reach, reach_in}
-use Rattle.lay_columns.specs.Lanes.{gaps_of, lane_count, lane_number, lane_start}
-use Rattle.lay_columns.specs.Naturals.{natural_of}
-use Rattle.lay_columns.specs.Reaches.{rank_of, reaches_of, stands_always}
+use Rattle.mus_laid.specs.{Boxes.sides_of, declared.boxes.Sides.Sides, declared.laid.Laid.Laid, declared.laid.StaffMarks.StaffMarks}
+use Rattle.lay_springs.specs.{declared.traits.Reach.Reach, Fit.StandsInAll, Place.reach_at}
+use Rattle.lay_columns.specs.{declared.column.Column.Column, Column.length_at, Column.most_reach, Column.reach_in, Lanes.gaps_of, Lanes.lane_count, Lanes.lane_number, Lanes.lane_start, Naturals.natural_of, Reaches.rank_of, Reaches.reaches_of, Reaches.stands_always}
 
 -- keys from some rank on
 abbrev pub columns_from : ℕ → List ColumnKey → List StaffMarks → List ℕ → List ℕ → List Column

@@ -2,12 +2,8 @@
 -- marks of the second keep their columns by ranks moved by the number of keys of the first.
 use Rattle.std.specs.Prelude.{◌≡◌, ◌≢◌, ℕ, ◌+◌, ◌<◌, ⊤, List, [], ◌∷◌, ◌++◌, length, map, All, Option, Some, None}
 use Rattle.mus_time.specs.declared.keys.ColumnKey.{ColumnKey}
-use Rattle.mus_laid.specs.declared.laid.Laid.{Laid}
-use Rattle.mus_laid.specs.declared.laid.Mark.{Mark}
-use Rattle.mus_laid.specs.declared.laid.Mark.TheVariants as marks
-use Rattle.mus_laid.specs.declared.laid.StaffMarks.{StaffMarks}
-use Rattle.lay_columns.specs.Columns.{columns_of}
-use Rattle.lay_columns.specs.Reaches.{boxes_at, rank_of}
+use Rattle.mus_laid.specs.{declared.laid.Laid.Laid, declared.laid.Mark.Mark, declared.laid.StaffMarks.StaffMarks}
+use Rattle.lay_columns.specs.{Columns.columns_of, Reaches.boxes_at, Reaches.rank_of}
 
 -- the marks of a staff have the boxes of the first marks in the first n columns, and behind them
 -- the boxes of the second
@@ -36,11 +32,11 @@ ColumnsJoin = (front behind : List ColumnKey) (joined first second : List StaffM
 
 -- a mark in the column that stands n further on
 abbrev pub moved_mark : ℕ → Mark → Mark
-moved_mark n (marks.Glyph glyph rank dx dy) = marks.Glyph glyph (n + rank) dx dy
-moved_mark n (marks.Words size rank dx dy text) = marks.Words size (n + rank) dx dy text
-moved_mark n (marks.Stem rank dx from to) = marks.Stem (n + rank) dx from to
-moved_mark n (marks.Beam way first last from to) = marks.Beam way (n + first) (n + last) from to
-moved_mark n (marks.Arc first last from to bulge) = marks.Arc (n + first) (n + last) from to bulge
+moved_mark n (Mark.Glyph glyph rank dx dy) = Mark.Glyph glyph (n + rank) dx dy
+moved_mark n (Mark.Words size rank dx dy text) = Mark.Words size (n + rank) dx dy text
+moved_mark n (Mark.Stem rank dx from to) = Mark.Stem (n + rank) dx from to
+moved_mark n (Mark.Beam way first last from to) = Mark.Beam way (n + first) (n + last) from to
+moved_mark n (Mark.Arc first last from to bulge) = Mark.Arc (n + first) (n + last) from to bulge
 
 abbrev pub moved : ℕ → Laid → Laid
 moved n laid = record { mark = moved_mark n laid.mark; lane = laid.lane }

@@ -2,18 +2,10 @@
 -- right, at least 0, and cut at 2^20.
 use Rattle.std.specs.Prelude.{ℕ, ℤ, pos, negsuc, ◌+◌, min, Bool, true, false, ◌&&◌, ◌==◌, if◌then◌else◌, List, [], ◌∷◌, ◌++◌, map, filter_map, Option, Some, None}
 use Rattle.std.specs.List.{range_with_len}
-use Rattle.mus_time.specs.Onsets.{greatest}
-use Rattle.mus_time.specs.declared.keys.Class.{Class}
-use Rattle.mus_time.specs.declared.keys.Class.TheVariants as classes
-use Rattle.mus_laid.specs.Boxes.{sides_of}
-use Rattle.mus_laid.specs.declared.boxes.Sides.{Sides}
-use Rattle.mus_laid.specs.declared.laid.Mark.{Mark}
-use Rattle.mus_laid.specs.declared.laid.Mark.TheVariants as marks
-use Rattle.mus_laid.specs.declared.laid.Laid.{Laid}
-use Rattle.mus_laid.specs.declared.laid.StaffMarks.{StaffMarks}
+use Rattle.mus_time.specs.{Onsets.greatest, declared.keys.Class.Class}
+use Rattle.mus_laid.specs.{Boxes.sides_of, declared.boxes.Sides.Sides, declared.laid.Mark.Mark, declared.laid.Laid.Laid, declared.laid.StaffMarks.StaffMarks}
 use Rattle.lay_springs.specs.declared.traits.Reach.{Reach}
-use Rattle.lay_columns.specs.Column.{most_reach}
-use Rattle.lay_columns.specs.Lanes.{lane_count, lane_number}
+use Rattle.lay_columns.specs.{Column.most_reach, Lanes.lane_count, Lanes.lane_number}
 
 -- how far a box goes to the left, and to the right, of its column
 unfoldable pub left_of : ℤ → ℕ
@@ -26,11 +18,11 @@ right_of (negsuc n) = 0
 
 -- a glyph and a text stand at one column
 abbrev pub rank_of : Mark → Option ℕ
-rank_of (marks.Glyph glyph rank dx dy) = Some rank
-rank_of (marks.Words size rank dx dy text) = Some rank
-rank_of (marks.Stem rank dx from to) = None
-rank_of (marks.Beam way first last from to) = None
-rank_of (marks.Arc first last from to bulge) = None
+rank_of (Mark.Glyph glyph rank dx dy) = Some rank
+rank_of (Mark.Words size rank dx dy text) = Some rank
+rank_of (Mark.Stem rank dx from to) = None
+rank_of (Mark.Beam way first last from to) = None
+rank_of (Mark.Arc first last from to bulge) = None
 
 abbrev pub is_number : ℕ → Option ℕ → Bool
 is_number n None = false
@@ -61,12 +53,12 @@ drawn_row marks lanes rank = map (drawn_reach marks rank) (range_with_len 0 lane
 
 -- the head of a system, the bar before the first measure, and bars stand in each lane
 abbrev pub stands_always : Class → Bool
-stands_always classes.Head = true
-stands_always classes.First = true
-stands_always classes.Change = false
-stands_always classes.Grace = false
-stands_always classes.Note = false
-stands_always classes.Bar = true
+stands_always Class.Head = true
+stands_always Class.First = true
+stands_always Class.Change = false
+stands_always Class.Grace = false
+stands_always Class.Note = false
+stands_always Class.Bar = true
 
 abbrev pub standing : Bool → Option Reach → Option Reach
 standing always (Some reach) = Some reach

@@ -1,5 +1,4 @@
-ghost use Rattle.std.specs.Prelude.{◌≡◌};
-ghost use Rattle.std.specs.List.{find};
+ghost use Rattle.std.specs.{Prelude.◌≡◌, List.find};
 ghost use Rattle.lay_columns.specs.Naturals.{natural_for, is_note, is_note_of, length_of, tick_or_end, natural_of};
 
 use mus_time::{Class, ColumnKey};

@@ -1,7 +1,5 @@
 ghost use Rattle.std.specs.Prelude.{◌≡◌, All, length, map, IfOk, Option};
-ghost use Rattle.lay_columns.specs.Reaches.{standing, stands_always};
-ghost use Rattle.lay_columns.specs.Columns.{columns_of, CoverMarks, IsSmall, IsUncut, StandsWhereDue};
-ghost use Rattle.lay_columns.specs.Lanes.{gaps_of};
+ghost use Rattle.lay_columns.specs.{Reaches.standing, Reaches.stands_always, Columns.columns_of, Columns.CoverMarks, Columns.IsSmall, Columns.IsUncut, Columns.StandsWhereDue, Lanes.gaps_of};
 ghost use Rattle.lay_columns.specs.Widened.{AreGoodStaves, bare_column, bare_columns};
 
 use crate::column::Column;

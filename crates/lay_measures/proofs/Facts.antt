@@ -1,28 +1,16 @@
 -- What is true of the columns of one measure: they stand in it, the last is its bar, and texts are short.
-use Rattle.std.proofs.Common.{◌≡◌, ◌∙◌, ℕ, zero, suc, ◌+◌, ◌-◌, ◌<◌, ◌≤◌, Bool, true, false, List, [], ◌∷◌, length, map, take, drop, Ok, Err, IfOk, Result, refl, sym, ap, subst, arith}
-use Rattle.std.specs.List.{All, AllByRecursion, Contains, flat_map, slice_index, slice_range}
-use Rattle.std.proofs.lemmas.Bool.Decides.{nat_tests}
-use Rattle.std.proofs.lemmas.List.Elements.{All-from_recursion, All-map, Contains-append_left, Contains-append_right, recursion_from_All}
-use Rattle.mus_score.specs.declared.score.Measure.{Measure}
-use Rattle.mus_score.specs.declared.score.Score.{Score}
-use Rattle.mus_score.specs.declared.score.Voice.{Voice}
-use Rattle.mus_score.specs.GoodScore.{IsGoodVoice}
-use Rattle.mus_score.specs.Times.{flats_of}
-use Rattle.mus_time.specs.declared.keys.Class.{Class}
-use Rattle.mus_time.specs.declared.keys.Class.TheVariants as classes
-use Rattle.mus_time.specs.declared.keys.ColumnKey.{ColumnKey}
-use Rattle.mus_time.specs.Keys.{bar_key, called_keys, events_keys, first_keys, further_keys, IsInSystem, key_at, measure_keys, measures_keys, signed_at, voice_keys}
-use Rattle.mus_time.specs.Order.{BelowAll, is_below, Rises}
-use Rattle.mus_drawn.specs.declared.drawn.DrawnMeasure.{DrawnMeasure}
-use Rattle.mus_drawn.specs.Drawn.{drawn_voice}
+use Rattle.std.proofs.Common.{◌≡◌, ◌∙◌, ℕ, zero, suc, ◌+◌, ◌-◌, ◌<◌, ◌≤◌, Bool, true, false, List, [], ◌∷◌, length, map, take, drop, Some, Ok, Err, IfOk, Result, refl, sym, ap, subst, arith}
+use Rattle.std.{proofs.lemmas.Bool.Decides.nat_tests, proofs.lemmas.List.Elements.All-from_recursion, proofs.lemmas.List.Elements.Contains-append_left, proofs.lemmas.List.Elements.Contains-append_right, proofs.lemmas.List.Elements.recursion_from_All, specs.List.All, specs.List.AllByRecursion}
+use Rattle.std.specs.List.{Contains, flat_map, slice_index, slice_range}
+use Rattle.mus_score.specs.{declared.score.Measure.Measure, declared.score.Score.Score, declared.score.Voice.Voice, Seats.is_lower, Times.flats_of, GoodScore.IsGoodScore, GoodScore.IsLed}
+use Rattle.mus_time.specs.{declared.keys.Class.Class, declared.keys.ColumnKey.ColumnKey, Keys.all_keys, Keys.bar_key, Keys.called_keys, Keys.events_keys, Keys.first_keys, Keys.further_keys, Keys.IsInSystem, Keys.key_at, Keys.keys_by, Keys.measures_keys, Keys.signed_at, Order.BelowAll}
+use Rattle.mus_time.specs.Order.{is_below, Rises}
+use Rattle.mus_drawn.specs.{declared.drawn.DrawnMeasure.DrawnMeasure, declared.drawn.DrawnVoice.DrawnVoice}
 use Rattle.mus_laid.specs.Boxes.{AreGoodMarks}
-use Rattle.mus_stems.proofs.RunLaws.{all_drop, all_take}
-use Rattle.mus_marks.proofs.Fitting.{voice_fits}
-use Rattle.mus_marks.proofs.Parts.{columns_all, Fits, FitsMeasure, measures_all}
-use Rattle.mus_marks.proofs.Texts.{goods, IsGood}
-use Rattle.lay_columns.specs.declared.column.Column.{Column}
-use Rattle.lay_columns.specs.Widened.{AreGoodStaves}
-use Rattle.lay_measures.specs.Measures.{EndWithBar, first_staff, further_staff, keys_in}
+use Rattle.mus_stems.proofs.RunLaws.{all_append, all_drop, all_take}
+use Rattle.mus_marks.{specs.System.drawn_staves, proofs.Fitting.staves_fit, proofs.Parts.columns_all, proofs.Parts.Fits, proofs.Parts.FitsMeasure, proofs.Parts.FitsVoice, proofs.Parts.measures_all, proofs.GoodMarks.goods, proofs.GoodMarks.IsGood}
+use Rattle.lay_columns.specs.{declared.column.Column.Column, Widened.AreGoodStaves}
+use Rattle.lay_measures.specs.Measures.{EndWithBar, fixed_place, keys_in, measure_part, measure_staff, parts_from}
 
 -- ---- one measure of some
 single : {X : Type 0} (m : ℕ) (xs : List X) → m < length xs → (x : X) × (take 1 (drop m xs) ≡ x ∷ [])
@@ -50,20 +38,20 @@ pub places : (P : ColumnKey → Type 0) (keys : List ColumnKey) (cs : List Colum
 places P keys cs all e = All-from_recursion (λ c. P c.key) cs (keys_all P cs (recursion_from_All P (keys_in cs) (subst (λ ks. All P ks) (sym e) all)))
 
 -- ---- the bar
-bar_class : (lengths : List ℕ) (m : ℕ) (k : ColumnKey) → is_below (bar_key lengths m) k ≡ true → IsInSystem lengths m (m + 1) k → k.class ≡ classes.Bar
+bar_class : (lengths : List ℕ) (m : ℕ) (k : ColumnKey) → is_below (bar_key lengths m) k ≡ true → IsInSystem lengths m (m + 1) k → k.class ≡ Class.Bar
 unfolding is_below
 bar_class lengths m k below place =
     let same : k.measure ≡ m = let from = place.from in let to = place.to in omega (arith, from, to) in
     let late : k.tick ≤ slice_index lengths m = subst (λ n. k.tick ≤ slice_index lengths n) same place.within in
     by k.class refl same late
   where
-    by : (class : Class) → k.class ≡ class → k.measure ≡ m → k.tick ≤ slice_index lengths m → class ≡ classes.Bar
-    by classes.Head e same late = grind (arith, nat_tests, e, same, late, below)
-    by classes.First e same late = grind (arith, nat_tests, e, same, late, below)
-    by classes.Change e same late = grind (arith, nat_tests, e, same, late, below)
-    by classes.Grace e same late = grind (arith, nat_tests, e, same, late, below)
-    by classes.Note e same late = grind (arith, nat_tests, e, same, late, below)
-    by classes.Bar e same late = refl
+    by : (class : Class) → k.class ≡ class → k.measure ≡ m → k.tick ≤ slice_index lengths m → class ≡ Class.Bar
+    by Class.Head e same late = grind (arith, nat_tests, e, same, late, below)
+    by Class.First e same late = grind (arith, nat_tests, e, same, late, below)
+    by Class.Change e same late = grind (arith, nat_tests, e, same, late, below)
+    by Class.Grace e same late = grind (arith, nat_tests, e, same, late, below)
+    by Class.Note e same late = grind (arith, nat_tests, e, same, late, below)
+    by Class.Bar e same late = refl
 
 past_bar : (lengths : List ℕ) (m : ℕ) (c : Column) (cs : List Column) → BelowAll (bar_key lengths m) (keys_in (c ∷ cs)) → AllByRecursion (λ c. IsInSystem lengths m (m + 1) c.key) (c ∷ cs) → EndWithBar (c ∷ cs)
 past_bar lengths m c [] below all = record { front = []; last = c; parts = refl; bar = bar_class lengths m c.key below.0 all.0 }
@@ -93,33 +81,48 @@ slice_bar lengths m in_head signed xs h =
     let one = slice_one m xs h in
     subst (λ t. Contains (measures_keys lengths m in_head signed t) (bar_key lengths m)) (sym one.1) (has_bar lengths m in_head signed one.0)
 
-pub some_voice : (f : Voice → List ColumnKey) (n : ℕ) (k : ColumnKey) (vs : List Voice) → 1 ≤ length vs → All (λ v. length v.measures ≡ n) vs → ((v : Voice) → length v.measures ≡ n → Contains (f v) k) → Contains (flat_map f vs) k
-some_voice f n k [] h same has = absurd (omega (arith, h))
-some_voice f n k (v ∷ vs) h same has = Contains-append_left (f v) (flat_map f vs) k (has v (same 0 v (omega arith)))
+-- the first voice calls for all keys of its own
+pub led_voice : (f : Voice → List ColumnKey) (n : ℕ) (k : ColumnKey) (vs : List Voice) → 1 ≤ length vs → IsLed vs → All (λ v. length v.measures ≡ n) vs
+    → ((v : Voice) → length v.measures ≡ n → Contains (f v) k) → Contains (flat_map (λ v. keys_by (is_lower v.seat) (f v)) vs) k
+led_voice f n k [] h led same has = absurd (omega (arith, h))
+led_voice f n k (v ∷ vs) h led same has =
+    Contains-append_left (keys_by (is_lower v.seat) (f v)) (flat_map (λ v. keys_by (is_lower v.seat) (f v)) vs) k
+    (subst (λ lower. Contains (keys_by lower (f v)) k) (sym led) (has v (same 0 v (omega arith))))
 
-pub called_bar : (s : Score) (lengths : List ℕ) (m : ℕ) → 1 ≤ length s.voices → All (λ v. length v.measures ≡ s.measures) s.voices → m < s.measures → Contains (called_keys s lengths m (m + 1)) (bar_key lengths m)
-called_bar s lengths m some same within =
-    some_voice (voice_keys lengths m (m + 1)) s.measures (bar_key lengths m) s.voices some same (λ v e.
-    Contains-append_right (key_at m 0 classes.Head 0 ∷ first_keys m v.first) (measures_keys lengths m true (signed_at m v) (slice_range v.measures m (m + 1))) (bar_key lengths m)
+pub called_bar : (s : Score) (lengths : List ℕ) (m : ℕ) → IsGoodScore s → 1 ≤ length s.voices → m < s.measures → Contains (called_keys s lengths m (m + 1)) (bar_key lengths m)
+called_bar s lengths m good some within =
+    led_voice (all_keys lengths m (m + 1)) s.measures (bar_key lengths m) s.voices some good.led good.measures (λ v e.
+    Contains-append_right (key_at m 0 Class.Head 0 ∷ first_keys m v.first) (measures_keys lengths m true (signed_at m v) (slice_range v.measures m (m + 1))) (bar_key lengths m)
     (slice_bar lengths m true (signed_at m v) v.measures (omega (arith, within, e))))
 
-pub further_bar : (s : Score) (lengths : List ℕ) (m : ℕ) → 1 ≤ length s.voices → All (λ v. length v.measures ≡ s.measures) s.voices → m < s.measures → Contains (further_keys s lengths m) (bar_key lengths m)
-further_bar s lengths m some same within =
-    some_voice (measure_keys lengths m) s.measures (bar_key lengths m) s.voices some same (λ v e.
+pub further_bar : (s : Score) (lengths : List ℕ) (m : ℕ) → IsGoodScore s → 1 ≤ length s.voices → m < s.measures → Contains (further_keys s lengths m) (bar_key lengths m)
+further_bar s lengths m good some within =
+    led_voice (λ v. measures_keys lengths m false (signed_at m v) (slice_range v.measures m (m + 1))) s.measures (bar_key lengths m) s.voices some good.led good.measures (λ v e.
     slice_bar lengths m false (signed_at m v) v.measures (omega (arith, within, e)))
 
 -- ---- texts
 sliced : (verses m : ℕ) (ds : List DrawnMeasure) → Fits verses ds → Fits verses (slice_range ds m (m + 1))
 sliced verses m ds fits = all_take (FitsMeasure verses) (m + 1 - m) (drop m ds) (all_drop (FitsMeasure verses) m ds fits)
 
-pub first_good : (keys : List ColumnKey) (lengths : List ℕ) (m : ℕ) (vs : List Voice) → All IsGoodVoice vs → AreGoodStaves (map (first_staff keys lengths m) (map drawn_voice vs))
-first_good keys lengths m vs good =
-    All-map (λ s. AreGoodMarks s.marks) (first_staff keys lengths m) (map drawn_voice vs)
-    (All-map (λ v. AreGoodMarks (first_staff keys lengths m v).marks) drawn_voice vs
-    (λ k d inside. columns_all _ keys IsGood (goods _ keys) lengths _ m _ _ (sliced _ m _ (voice_fits _ (good k d inside)))))
+module _ (keys : List ColumnKey) (lengths : List ℕ) (m : ℕ) where
+  part_good : (begins : Bool) (first : ℕ) (v : DrawnVoice) → 1 ≤ first → FitsVoice v → AllByRecursion IsGood (measure_part begins keys lengths m first v)
+  part_good true first v some fits =
+      columns_all (first + v.verses) keys IsGood (goods (first + v.verses) keys) v.verses lengths (Some (fixed_place first)) m v.seat v.first (slice_range v.measures m (m + 1))
+      (some, omega arith) (sliced v.verses m v.measures fits)
+  part_good false first v some fits =
+      measures_all (first + v.verses) keys IsGood (goods (first + v.verses) keys) v.verses lengths (Some (fixed_place first)) m false (slice_range v.measures m (m + 1))
+      (some, omega arith) (sliced v.verses m v.measures fits)
 
-pub further_good : (keys : List ColumnKey) (lengths : List ℕ) (m : ℕ) (vs : List Voice) → All IsGoodVoice vs → AreGoodStaves (map (further_staff keys lengths m) (map drawn_voice vs))
-further_good keys lengths m vs good =
-    All-map (λ s. AreGoodMarks s.marks) (further_staff keys lengths m) (map drawn_voice vs)
-    (All-map (λ v. AreGoodMarks (further_staff keys lengths m v).marks) drawn_voice vs
-    (λ k d inside. measures_all _ keys IsGood (goods _ keys) lengths _ m false _ (sliced _ m _ (voice_fits _ (good k d inside)))))
+  parts_good : (begins : Bool) (first : ℕ) (vs : List DrawnVoice) → 1 ≤ first → AllByRecursion FitsVoice vs → AllByRecursion IsGood (parts_from (measure_part begins keys lengths m) first vs)
+  parts_good begins first [] some fits = tt
+  parts_good begins first (v ∷ vs) some fits =
+      all_append IsGood (measure_part begins keys lengths m first v) (parts_from (measure_part begins keys lengths m) (first + v.verses) vs)
+      (part_good begins first v some fits.0) (parts_good begins (first + v.verses) vs (omega (arith, some)) fits.1)
+
+  each_good : (begins : Bool) (staves : List (List DrawnVoice)) → AllByRecursion (AllByRecursion FitsVoice) staves → AllByRecursion (λ s. AreGoodMarks s.marks) (map (measure_staff begins keys lengths m) staves)
+  each_good begins [] fits = tt
+  each_good begins (vs ∷ staves) fits = (parts_good begins 1 vs (omega arith) fits.0, each_good begins staves fits.1)
+
+  pub staves_good : (begins : Bool) (s : Score) → IsGoodScore s → AreGoodStaves (map (measure_staff begins keys lengths m) (drawn_staves s))
+  staves_good begins s good =
+      All-from_recursion (λ s. AreGoodMarks s.marks) (map (measure_staff begins keys lengths m) (drawn_staves s)) (each_good begins (drawn_staves s) (staves_fit s good))

@@ -1,17 +1,10 @@
 -- Keys of a system one measure longer: those of the system, then those of the further measure.
 use Rattle.std.proofs.Common.{◌≡◌, ◌∙◌, ℕ, zero, suc, ◌+◌, ◌-◌, ◌<◌, ◌≤◌, ◌⊎◌, inl, inr, Bool, true, false, List, [], ◌∷◌, ◌++◌, length, take, drop, refl, sym, ap, subst, arith}
-use Rattle.std.specs.List.{AllByRecursion, Contains, flat_map, slice_range}
-use Rattle.std.proofs.lemmas.List.{append_assoc}
-use Rattle.std.proofs.lemmas.List.Elements.{Contains-append_cases, Contains-append_left, Contains-append_right}
-use Rattle.mus_score.specs.declared.score.Measure.{Measure}
-use Rattle.mus_score.specs.declared.score.Score.{Score}
-use Rattle.mus_score.specs.declared.score.Voice.{Voice}
-use Rattle.mus_score.specs.Times.{flats_of}
-use Rattle.mus_time.specs.declared.keys.Class.TheVariants as classes
-use Rattle.mus_time.specs.declared.keys.ColumnKey.{ColumnKey}
-use Rattle.mus_time.specs.Keys.{AreKeys, called_keys, events_keys, first_keys, further_keys, has_entries, key_at, measure_keys, measures_keys, signed_at, signed_behind, signed_through, voice_keys}
-use Rattle.mus_time.proofs.RankLaws.{rises_join}
-use Rattle.std.specs.Prelude.{slice_index}
+use Rattle.std.{proofs.lemmas.List.append_assoc, proofs.lemmas.List.Elements.Contains-append_cases, proofs.lemmas.List.Elements.Contains-append_left, proofs.lemmas.List.Elements.Contains-append_right, proofs.lemmas.List.Elements.filter-append, specs.List.AllByRecursion, specs.List.Contains}
+use Rattle.std.specs.{List.flat_map, List.slice_range, Prelude.slice_index}
+use Rattle.mus_score.specs.{declared.score.Measure.Measure, declared.score.Score.Score, declared.score.Voice.Voice, Seats.is_lower, Times.flats_of}
+use Rattle.mus_time.specs.Keys.{AreKeys, all_keys, called_keys, events_keys, first_keys, further_keys, has_entries, is_for_each, key_at, keys_by, measure_keys, measures_keys, signed_at, signed_behind, signed_through, voice_keys}
+use Rattle.mus_time.{specs.declared.keys.Class.Class, specs.declared.keys.ColumnKey.ColumnKey, proofs.RankLaws.rises_join}
 
 -- ---- one more of some
 cut_more : {X : Type 0} (n : ℕ) (xs : List X) → take (n + 1) xs ≡ take n xs ++ take 1 (drop n xs)
@@ -75,11 +68,11 @@ keys_on : (lengths : List ℕ) (m : ℕ) (signed : Bool) (xs ys : List Measure)
 keys_on lengths m signed [] ys = let e : m ≡ m + 0 = omega arith in ap (λ k. measures_keys lengths k false signed ys) e
 keys_on lengths m signed (x ∷ xs) ys =
     let fs = flats_of x.body in
-    let own = events_keys m false signed [] fs ++ key_at m (slice_index lengths m) classes.Bar 0 ∷ [] in
+    let own = events_keys m false signed [] fs ++ key_at m (slice_index lengths m) Class.Bar 0 ∷ [] in
     let e : m + 1 + length xs ≡ m + length (x ∷ xs) = omega arith in
     let more = keys_on lengths (m + 1) (signed_through signed fs) xs ys in
     let last = ap (λ k. measures_keys lengths k false (signed_behind signed (x ∷ xs)) ys) e in
-    behind_own (events_keys m false signed [] fs) (key_at m (slice_index lengths m) classes.Bar 0) _ _ _ (more ∙ ap (λ t. measures_keys lengths (m + 1) false (signed_through signed fs) xs ++ t) last)
+    behind_own (events_keys m false signed [] fs) (key_at m (slice_index lengths m) Class.Bar 0) _ _ _ (more ∙ ap (λ t. measures_keys lengths (m + 1) false (signed_through signed fs) xs ++ t) last)
   where
     behind_own : (ks : List ColumnKey) (k : ColumnKey) (xs ys zs : List ColumnKey) → xs ≡ ys ++ zs → ks ++ k ∷ xs ≡ (ks ++ k ∷ ys) ++ zs
     behind_own ks k xs ys zs e = ap (λ t. ks ++ k ∷ t) e ∙ sym (append_assoc ks (k ∷ ys) zs)
@@ -92,24 +85,31 @@ keys_from lengths m signed (x ∷ xs) ys some =
     let e : m + 1 + length xs ≡ m + length (x ∷ xs) = omega arith in
     let more = keys_on lengths (m + 1) (signed_through signed fs) xs ys in
     let last = ap (λ k. measures_keys lengths k false (signed_behind signed (x ∷ xs)) ys) e in
-    ap (λ t. events_keys m true signed [] fs ++ key_at m (slice_index lengths m) classes.Bar 0 ∷ t)
+    ap (λ t. events_keys m true signed [] fs ++ key_at m (slice_index lengths m) Class.Bar 0 ∷ t)
     (more ∙ ap (λ t. measures_keys lengths (m + 1) false (signed_through signed fs) xs ++ t) last)
-    ∙ sym (append_assoc (events_keys m true signed [] fs) (key_at m (slice_index lengths m) classes.Bar 0 ∷ measures_keys lengths (m + 1) false (signed_through signed fs) xs)
+    ∙ sym (append_assoc (events_keys m true signed [] fs) (key_at m (slice_index lengths m) Class.Bar 0 ∷ measures_keys lengths (m + 1) false (signed_through signed fs) xs)
     (measures_keys lengths (m + length (x ∷ xs)) false (signed_behind signed (x ∷ xs)) ys))
 
-pub voice_more : (lengths : List ℕ) (a b : ℕ) (v : Voice) → a < b → b < length v.measures → voice_keys lengths a (b + 1) v ≡ voice_keys lengths a b v ++ measure_keys lengths b v
+keys_by_more : (lower : Bool) (xs ys : List ColumnKey) → keys_by lower (xs ++ ys) ≡ keys_by lower xs ++ keys_by lower ys
+keys_by_more true xs ys = filter-append is_for_each xs ys
+keys_by_more false xs ys = refl
+
+voice_more : (lengths : List ℕ) (a b : ℕ) (v : Voice) → a < b → b < length v.measures → voice_keys lengths a (b + 1) v ≡ voice_keys lengths a b v ++ measure_keys lengths b v
 voice_more lengths a b v h w =
     let xs = slice_range v.measures a b in
     let ys = slice_range v.measures b (b + 1) in
     let long = slice_long a b v.measures (omega (arith, w)) in
     let e : a + length xs ≡ b = omega (arith, long, h) in
     let signed = signed_at_more a b v (omega (arith, h)) in
-    let head = key_at a 0 classes.Head 0 ∷ first_keys a v.first in
+    let head = key_at a 0 Class.Head 0 ∷ first_keys a v.first in
+    let more = measures_keys lengths b false (signed_at b v) ys in
+    let all : all_keys lengths a (b + 1) v ≡ all_keys lengths a b v ++ more =
     ap (λ t. head ++ measures_keys lengths a true (signed_at a v) t) (slice_more a b v.measures (omega (arith, h)))
     ∙ ap (λ t. head ++ t) (keys_from lengths a (signed_at a v) xs ys (omega (arith, long, h)))
     ∙ ap (λ k. head ++ (measures_keys lengths a true (signed_at a v) xs ++ measures_keys lengths k false (signed_behind (signed_at a v) xs) ys)) e
     ∙ ap (λ k. head ++ (measures_keys lengths a true (signed_at a v) xs ++ measures_keys lengths b false k ys)) signed
-    ∙ sym (append_assoc head (measures_keys lengths a true (signed_at a v) xs) (measure_keys lengths b v))
+    ∙ sym (append_assoc head (measures_keys lengths a true (signed_at a v) xs) more) in
+    ap (keys_by (is_lower v.seat)) all ∙ keys_by_more (is_lower v.seat) (all_keys lengths a b v) more
 
 -- ---- voice by voice
 module _ (f g h : Voice → List ColumnKey) (k : ColumnKey) where

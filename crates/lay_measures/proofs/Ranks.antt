@@ -1,39 +1,17 @@
 -- Ranks among the keys of a system and those of a further measure, and the keys of slots.
-use Rattle.std.proofs.Common.{◌≡◌, ◌∙◌, ℕ, pos, zero, suc, ◌+◌, ◌-◌, ◌<◌, ◌≤◌, Bool, true, false, ◌==◌, ◌&&◌, if◌then◌else◌, List, [], ◌∷◌, ◌++◌, length, take, drop, Option, Some, None, refl, sym, ap, subst, arith}
-use Rattle.std.specs.List.{AllByRecursion, Contains, slice_get, slice_index, slice_range}
-use Rattle.std.proofs.lemmas.Bool.Decides.{nat_tests}
-use Rattle.std.proofs.lemmas.List.Elements.{Contains-append_right}
-use Rattle.std.proofs.lemmas.List.Sums.{sum_by-cons}
-use Rattle.mus_units.specs.declared.note.Bar.{Bar}
-use Rattle.mus_units.specs.declared.note.Wish.{Wish}
-use Rattle.mus_units.specs.declared.pitch.Clef.{Clef}
-use Rattle.mus_score.specs.declared.score.Event.{Event}
-use Rattle.mus_score.specs.declared.score.Flat.{Flat}
-use Rattle.mus_score.specs.declared.score.Measure.{Measure}
-use Rattle.mus_score.specs.declared.score.Voice.{Voice}
-use Rattle.mus_score.specs.Good.{total_ticks}
-use Rattle.mus_score.specs.Times.{flats_of}
+use Rattle.std.proofs.Common.{◌≡◌, ◌∙◌, ℕ, zero, suc, ◌+◌, ◌-◌, ◌<◌, ◌≤◌, Bool, true, false, ◌==◌, ◌&&◌, ◌||◌, not, if◌then◌else◌, List, [], ◌∷◌, ◌++◌, length, take, drop, refl, sym, ap, subst, arith}
+use Rattle.std.{proofs.lemmas.Bool.Decides.nat_tests, proofs.lemmas.List.Elements.Contains-append_right, proofs.lemmas.List.Sums.sum_by-cons, specs.List.AllByRecursion, specs.List.Contains, specs.List.slice_get, specs.List.slice_index, specs.List.slice_range}
+use Rattle.mus_units.specs.{declared.note.Bar.Bar, declared.pitch.Clef.Clef}
+use Rattle.mus_score.specs.{declared.score.Event.Event, declared.score.Flat.Flat, declared.score.Measure.Measure, declared.score.Seat.Seat, declared.score.Voice.Voice, Good.total_ticks, Seats.is_lower, Times.flats_of}
 use Rattle.mus_stems.specs.declared.plans.StemPlan.{StemPlan}
-use Rattle.mus_time.specs.declared.keys.Class.{Class}
-use Rattle.mus_time.specs.declared.keys.Class.TheVariants as classes
-use Rattle.mus_time.specs.declared.keys.ColumnKey.{ColumnKey}
-use Rattle.mus_time.specs.Keys.{bar_key, events_keys, has_features, key_at, measures_keys, signed_through}
-use Rattle.mus_time.specs.Onsets.{length_in, ticks_of_some}
-use Rattle.mus_time.specs.Order.{class_number, is_below, rank_of}
-use Rattle.mus_time.proofs.Orders.{lower}
-use Rattle.mus_time.proofs.RankLaws.{rank_most}
-use Rattle.mus_ink.specs.declared.graces.Group.{Group}
+use Rattle.mus_time.specs.{declared.keys.Class.Class, declared.keys.ColumnKey.ColumnKey, Keys.bar_key, Keys.events_keys, Keys.has_features, Keys.key_at, Keys.measures_keys, Keys.signed_through, Onsets.length_in, Onsets.ticks_of_some, Order.class_number, Order.is_below, Order.rank_of}
+use Rattle.mus_time.proofs.{Orders.lower, RankLaws.rank_most}
+use Rattle.mus_ink.specs.{declared.graces.Group.Group, Bars.bar_marks, Decos.note_marks, Graces.group_of}
 use Rattle.mus_laid.specs.declared.drawn.Drawn.{Drawn}
-use Rattle.mus_ink.specs.Bars.{bar_marks}
-use Rattle.mus_ink.specs.Decos.{note_marks}
-use Rattle.mus_ink.specs.Graces.{group_of}
-use Rattle.mus_drawn.specs.declared.drawn.DrawnEvent.{DrawnEvent}
-use Rattle.mus_drawn.specs.declared.drawn.DrawnMeasure.{DrawnMeasure}
-use Rattle.mus_drawn.specs.declared.standing.Standing.{Standing}
-use Rattle.mus_drawn.specs.Drawn.{drawn_events, drawn_measure, drawn_measures, drawn_voice, standing_after, standing_behind, standing_of}
-use Rattle.mus_marks.specs.declared.events.Room.{Room}
-use Rattle.mus_marks.specs.Events.{levels_behind, levels_in, note_key, words_marks}
-use Rattle.lay_measures.proofs.Slots.{Slot, change_slots, columns_slots, event_slots, events_slots, first_slots, graces_slots, head_slots, measures_slots, slot}
+use Rattle.mus_drawn.specs.{declared.drawn.DrawnEvent.DrawnEvent, declared.drawn.DrawnMeasure.DrawnMeasure, declared.drawn.Style.Style, declared.standing.Standing.Standing}
+use Rattle.mus_drawn.specs.Drawn.{drawn_events, drawn_measure, drawn_measures, drawn_voice, raise_of, standing_after, standing_behind, standing_of, style_of}
+use Rattle.mus_marks.specs.Events.{levels_behind, levels_in, note_key}
+use Rattle.lay_measures.proofs.Slots.{Slot, bar_slots, change_slots, columns_slots, event_slots, events_slots, first_slots, graces_slots, head_slots, measures_slots, slot, words_of}
 
 -- ---- ranks
 upper : (k l : ColumnKey) → k.measure < l.measure → is_below l k ≡ false
@@ -99,33 +77,33 @@ bar_itself lengths m = grind (arith, nat_tests)
 abbrev pub Ticks : ℕ → List DrawnEvent → Type 0
 Ticks high es = AllByRecursion (λ e. e.tick ≤ high) es
 
-events_ticks : (high tick : ℕ) (now : Standing) (fs : List Flat) (ps : List StemPlan) → tick + total_ticks fs ≤ high → Ticks high (drawn_events tick now fs ps)
-events_ticks high tick now [] ps h = tt
-events_ticks high tick now (f ∷ fs) [] h = tt
-events_ticks high tick now (f ∷ fs) (p ∷ ps) h =
+events_ticks : (style : Style) (high tick : ℕ) (now : Standing) (fs : List Flat) (ps : List StemPlan) → tick + total_ticks fs ≤ high → Ticks high (drawn_events style tick now fs ps)
+events_ticks style high tick now [] ps h = tt
+events_ticks style high tick now (f ∷ fs) [] h = tt
+events_ticks style high tick now (f ∷ fs) (p ∷ ps) h =
     let e = sum_by-cons (λ x. x.duration) f fs in
-    (omega (arith, h), events_ticks high (tick + f.duration) (standing_after now f.event.changes) fs ps (omega (arith, h, e)))
+    (omega (arith, h), events_ticks style high (tick + f.duration) (standing_after now f.event.changes) fs ps (omega (arith, h, e)))
 
 -- measures from number m on are within their lengths
 abbrev pub Fit : List ℕ → ℕ → List DrawnMeasure → Type 0
 Fit lengths m [] = Unit {0}
 Fit lengths m (d ∷ ds) = Ticks (slice_index lengths m) d.events × Fit lengths (m + 1) ds
 
-measure_ticks : (high : ℕ) (wish : Wish) (now : Standing) (m : Measure) → total_ticks (flats_of m.body) ≤ high → Ticks high (drawn_measure wish now m).events
+measure_ticks : (high : ℕ) (style : Style) (now : Standing) (m : Measure) → total_ticks (flats_of m.body) ≤ high → Ticks high (drawn_measure style now m).events
 unfolding drawn_measure
-measure_ticks high wish now m h = events_ticks high 0 now (flats_of m.body) _ (omega (arith, h))
+measure_ticks high style now m h = events_ticks style high 0 now (flats_of m.body) _ (omega (arith, h))
 
-measures_fit : (lengths : List ℕ) (m : ℕ) (wish : Wish) (now : Standing) (ms : List Measure) → ((i : ℕ) → i < length ms → ticks_of_some (slice_get ms i) ≤ slice_index lengths (m + i)) → Fit lengths m (drawn_measures wish now ms)
-measures_fit lengths m wish now [] h = tt
-measures_fit lengths m wish now (x ∷ xs) h = (
-  measure_ticks (slice_index lengths m) wish now x (subst (λ z. total_ticks (flats_of x.body) ≤ slice_index lengths z) (omega arith) (h 0 (omega arith))),
-  measures_fit lengths (m + 1) wish (standing_behind now (flats_of x.body)) xs
+measures_fit : (lengths : List ℕ) (m : ℕ) (style : Style) (now : Standing) (ms : List Measure) → ((i : ℕ) → i < length ms → ticks_of_some (slice_get ms i) ≤ slice_index lengths (m + i)) → Fit lengths m (drawn_measures style now ms)
+measures_fit lengths m style now [] h = tt
+measures_fit lengths m style now (x ∷ xs) h = (
+  measure_ticks (slice_index lengths m) style now x (subst (λ z. total_ticks (flats_of x.body) ≤ slice_index lengths z) (omega arith) (h 0 (omega arith))),
+  measures_fit lengths (m + 1) style (standing_behind now (flats_of x.body)) xs
       (λ i k. subst (λ z. ticks_of_some (slice_get xs i) ≤ slice_index lengths z) (omega arith) (h (suc i) (omega (arith, k)))),
 )
 
 pub voice_fit : (lengths : List ℕ) (v : Voice) → ((k : ℕ) → k < length v.measures → length_in k v ≤ slice_index lengths k) → Fit lengths 0 (drawn_voice v).measures
 unfolding drawn_voice
-voice_fit lengths v h = measures_fit lengths 0 v.stem (standing_of v) v.measures (λ i k. subst (λ z. length_in i v ≤ slice_index lengths z) (omega arith) (h i k))
+voice_fit lengths v h = measures_fit lengths 0 (style_of v) (standing_of v) v.measures (λ i k. subst (λ z. length_in i v ≤ slice_index lengths z) (omega arith) (h i k))
 
 fit_take : (lengths : List ℕ) (m n : ℕ) (xs : List DrawnMeasure) → Fit lengths m xs → Fit lengths m (take n xs)
 fit_take lengths m zero xs h = tt
@@ -141,7 +119,7 @@ pub slice_fit : (lengths : List ℕ) (a b : ℕ) (xs : List DrawnMeasure) → Fi
 slice_fit lengths a b xs h = fit_take lengths a (b - a) (drop a xs) (subst (λ z. Fit lengths z (drop a xs)) (omega arith) (fit_drop lengths 0 a xs h))
 
 -- ---- the keys of slots
-all_append : {X : Type 0} (P : X → Type 0) (xs ys : List X) → AllByRecursion P xs → AllByRecursion P ys → AllByRecursion P (xs ++ ys)
+pub all_append : {X : Type 0} (P : X → Type 0) (xs ys : List X) → AllByRecursion P xs → AllByRecursion P ys → AllByRecursion P (xs ++ ys)
 all_append P [] ys p q = q
 all_append P (x ∷ xs) ys p q = (p.0, all_append P xs ys p.1 q)
 
@@ -157,53 +135,59 @@ module _ (lengths : List ℕ) (a b : ℕ) where
 
   change_in : (m : ℕ) (in_head : Bool) (e : DrawnEvent) → a ≤ m → m < b → e.tick ≤ slice_index lengths m → AreIn (change_slots m in_head e)
   change_in m true e from to h = tt
-  change_in m false e from to h = (placed_at m e.tick classes.Change 0 from to h (omega arith), tt)
+  change_in m false e from to h = (placed_at m e.tick Class.Change 0 from to h (omega arith), tt)
 
   graces_in : (m tick : ℕ) (clef : Clef) (group : Group) (i : ℕ) (gs : List Event) → a ≤ m → m < b → tick ≤ slice_index lengths m → AreIn (graces_slots m tick clef group i gs)
   graces_in m tick clef group i [] from to h = tt
-  graces_in m tick clef group i (g ∷ gs) from to h = (placed_at m tick classes.Grace i from to h (omega arith), graces_in m tick clef group (i + 1) gs from to h)
+  graces_in m tick clef group i (g ∷ gs) from to h = (placed_at m tick Class.Grace i from to h (omega arith), graces_in m tick clef group (i + 1) gs from to h)
 
   note_in : (m : ℕ) (e : DrawnEvent) (xs : List Drawn) → a ≤ m → m < b → e.tick ≤ slice_index lengths m → AreIn (slot (note_key m e) xs)
-  note_in m e xs from to h = (placed_at m e.tick classes.Note 0 from to h (omega arith), tt)
+  note_in m e xs from to h = (placed_at m e.tick Class.Note 0 from to h (omega arith), tt)
 
-  event_in : (room : Option Room) (m : ℕ) (in_head : Bool) (before after : ℕ) (e : DrawnEvent) → a ≤ m → m < b → e.tick ≤ slice_index lengths m → AreIn (event_slots room m in_head before after e)
-  event_in room m in_head before after e from to h =
-      let graces = graces_slots m e.tick e.clef (group_of e.clef e.flat.graces e.flat.slash) 0 e.flat.graces in
-      let own = note_marks e.clef (pos 0) e.flat.event e.plan before after in
-      both_in (change_slots m in_head e ++ graces ++ slot (note_key m e) own) (slot (note_key m e) (words_marks room e.flat))
-      (both_in (change_slots m in_head e ++ graces) (slot (note_key m e) own)
-      (both_in (change_slots m in_head e) graces (change_in m in_head e from to h) (graces_in m e.tick e.clef _ 0 e.flat.graces from to h))
-      (note_in m e own from to h))
-      (note_in m e (words_marks room e.flat) from to h)
+  none_or : (c : Bool) (k : ColumnKey) (xs : List Drawn) → IsPlaced lengths a b k → AreIn (if c then [] else slot k xs)
+  none_or true k xs h = tt
+  none_or false k xs h = (h, tt)
 
-  events_in : (room : Option Room) (m : ℕ) (in_head : Bool) (group flags : ℕ) (es : List DrawnEvent) → a ≤ m → m < b → Ticks (slice_index lengths m) es → AreIn (events_slots room m in_head group flags es)
-  events_in room m in_head group flags [] from to h = tt
-  events_in room m in_head group flags (e ∷ es) from to h =
-      both_in (event_slots room m in_head (levels_in e.plan group flags) (levels_behind e.plan es) e) (events_slots room m false e.plan.group e.plan.flags es)
-      (event_in room m in_head (levels_in e.plan group flags) (levels_behind e.plan es) e from to h.0) (events_in room m false e.plan.group e.plan.flags es from to h.1)
+  module _ (first : ℕ) where
+    event_in : (m : ℕ) (in_head : Bool) (before after : ℕ) (e : DrawnEvent) → a ≤ m → m < b → e.tick ≤ slice_index lengths m → AreIn (event_slots first m in_head before after e)
+    event_in m in_head before after e from to h =
+        let changes = change_slots m (in_head || is_lower e.seat) e in
+        let graces = graces_slots m e.tick e.clef (group_of e.clef e.flat.graces e.flat.slash) 0 e.flat.graces in
+        let own = note_marks e.clef (raise_of e.seat) e.flat.event e.plan before after in
+        both_in (changes ++ graces ++ slot (note_key m e) own) (slot (note_key m e) (words_of first e.flat))
+        (both_in (changes ++ graces) (slot (note_key m e) own)
+        (both_in changes graces (change_in m (in_head || is_lower e.seat) e from to h) (graces_in m e.tick e.clef _ 0 e.flat.graces from to h))
+        (note_in m e own from to h))
+        (note_in m e (words_of first e.flat) from to h)
 
-  pub measures_in : (room : Option Room) (m : ℕ) (in_head : Bool) (ds : List DrawnMeasure) → a ≤ m → m + length ds ≤ b → Fit lengths m ds → AreIn (measures_slots lengths room m in_head ds)
-  measures_in room m in_head [] from to h = tt
-  measures_in room m in_head (d ∷ ds) from to h =
-      let here : m < b = omega (arith, to) in
-      both_in (events_slots room m in_head 0 0 d.events ++ slot (bar_key lengths m) _) (measures_slots lengths room (m + 1) false ds)
-      (both_in (events_slots room m in_head 0 0 d.events) (slot (bar_key lengths m) _)
-      (events_in room m in_head 0 0 d.events from here h.0) (record { from = from; to = here; within = bar_itself lengths m }, tt))
-      (measures_in room (m + 1) false ds (omega (arith, from)) (omega (arith, to)) h.1)
+    events_in : (m : ℕ) (in_head : Bool) (group flags : ℕ) (es : List DrawnEvent) → a ≤ m → m < b → Ticks (slice_index lengths m) es → AreIn (events_slots first m in_head group flags es)
+    events_in m in_head group flags [] from to h = tt
+    events_in m in_head group flags (e ∷ es) from to h =
+        both_in (event_slots first m in_head (levels_in e.plan group flags) (levels_behind e.plan es) e) (events_slots first m false e.plan.group e.plan.flags es)
+        (event_in m in_head (levels_in e.plan group flags) (levels_behind e.plan es) e from to h.0) (events_in m false e.plan.group e.plan.flags es from to h.1)
+
+    pub measures_in : (m : ℕ) (in_head : Bool) (ds : List DrawnMeasure) → a ≤ m → m + length ds ≤ b → Fit lengths m ds → AreIn (measures_slots lengths first m in_head ds)
+    measures_in m in_head [] from to h = tt
+    measures_in m in_head (d ∷ ds) from to h =
+        let here : m < b = omega (arith, to) in
+        both_in (events_slots first m in_head 0 0 d.events ++ bar_slots lengths m d) (measures_slots lengths first (m + 1) false ds)
+        (both_in (events_slots first m in_head 0 0 d.events) (bar_slots lengths m d)
+        (events_in m in_head 0 0 d.events from here h.0) (none_or (is_lower d.seat) (bar_key lengths m) _ (record { from = from; to = here; within = bar_itself lengths m })))
+        (measures_in (m + 1) false ds (omega (arith, from)) (omega (arith, to)) h.1)
 
   head_in : (ds : List DrawnMeasure) → a < b → AreIn (head_slots a ds)
   head_in [] h = tt
-  head_in (d ∷ ds) h = (placed_at a 0 classes.Head 0 (omega arith) h (omega arith) (omega arith), tt)
+  head_in (d ∷ ds) h = none_or (is_lower d.seat) (key_at a 0 Class.Head 0) _ (placed_at a 0 Class.Head 0 (omega arith) h (omega arith) (omega arith))
 
-  first_in : (bar : Bar) → a < b → AreIn (first_slots a bar)
-  first_in bar h = by ((a == 0) && has_features bar) (λ t. grind (arith, nat_tests))
+  first_in : (seat : Seat) (bar : Bar) → a < b → AreIn (first_slots a seat bar)
+  first_in seat bar h = by (not (is_lower seat) && (a == 0) && has_features bar) (λ t. grind (arith, nat_tests))
     where
-      by : (c : Bool) → (c ≡ true → a ≡ 0) → AreIn (if c then slot (key_at 0 0 classes.First 0) (bar_marks bar) else [])
-      by true z = let e = z refl in (placed_at 0 0 classes.First 0 (omega (arith, e)) (omega (arith, h)) (omega arith) (omega arith), tt)
+      by : (c : Bool) → (c ≡ true → a ≡ 0) → AreIn (if c then slot (key_at 0 0 Class.First 0) (bar_marks bar) else [])
+      by true z = let e = z refl in (placed_at 0 0 Class.First 0 (omega (arith, e)) (omega (arith, h)) (omega arith) (omega arith), tt)
       by false z = tt
 
-  pub columns_in : (room : Option Room) (bar : Bar) (ds : List DrawnMeasure) → a < b → a + length ds ≤ b → Fit lengths a ds → AreIn (columns_slots lengths room a bar ds)
-  columns_in room bar ds h to fit =
-      both_in (head_slots a ds ++ first_slots a bar) (measures_slots lengths room a true ds)
-      (both_in (head_slots a ds) (first_slots a bar) (head_in ds h) (first_in bar h))
-      (measures_in room a true ds (omega arith) to fit)
+  pub columns_in : (first : ℕ) (seat : Seat) (bar : Bar) (ds : List DrawnMeasure) → a < b → a + length ds ≤ b → Fit lengths a ds → AreIn (columns_slots lengths first a seat bar ds)
+  columns_in first seat bar ds h to fit =
+      both_in (head_slots a ds ++ first_slots a seat bar) (measures_slots lengths first a true ds)
+      (both_in (head_slots a ds) (first_slots a seat bar) (head_in ds h) (first_in seat bar h))
+      (measures_in first a true ds (omega arith) to fit)

@@ -1,32 +1,21 @@
--- Marks with the same boxes: a room changes heights alone, and beams and arcs have no box.
-use Rattle.std.proofs.Common.{◌≡◌, ◌∙◌, ℕ, ℤ, ◌+◌, ◌==◌, Bool, true, false, if◌then◌else◌, List, [], ◌∷◌, ◌++◌, length, map, Option, Some, None, refl, sym, ap}
-use Rattle.std.specs.List.{slice_range}
-use Rattle.std.proofs.lemmas.List.{append-nil, map-append}
-use Rattle.std.proofs.lemmas.List.Elements.{filter_map-append}
+-- Marks with the same boxes: where words go changes heights alone, and beams and arcs have no box.
+use Rattle.std.proofs.Common.{◌≡◌, ◌∙◌, ℕ, ℤ, ◌+◌, ◌<◌, ◌==◌, ◌&&◌, ◌||◌, Bool, true, false, if◌then◌else◌, List, [], ◌∷◌, ◌++◌, length, map, Option, Some, None, refl, sym, ap, subst}
+use Rattle.std.{proofs.lemmas.List.append-nil, proofs.lemmas.List.map-append, proofs.lemmas.List.Elements.filter_map-append, specs.List.flat_map, specs.List.slice_range}
 use Rattle.mus_units.specs.declared.note.Bar.{Bar}
-use Rattle.mus_score.specs.declared.score.Flat.{Flat}
+use Rattle.mus_score.specs.{declared.score.Flat.Flat, declared.score.Seat.Seat, Seats.is_lower}
 use Rattle.mus_time.specs.declared.keys.ColumnKey.{ColumnKey}
-use Rattle.mus_laid.specs.Printed.{printed}
-use Rattle.mus_laid.specs.Ranked.{bridge_at, drawn_at}
-use Rattle.mus_laid.specs.declared.drawn.Bridge.{Bridge}
-use Rattle.mus_laid.specs.declared.drawn.Drawn.{Drawn}
-use Rattle.mus_laid.specs.declared.drawn.Span.{Span}
-use Rattle.mus_laid.specs.declared.drawn.Span.TheVariants as spans
+use Rattle.mus_laid.specs.{declared.laid.Laid.Laid, declared.laid.Mark.Mark, Ranked.anchor_rank, Ranked.bridge_at, Ranked.by_columns, Ranked.drawn_at, Ranked.is_rank, Ranked.stands_at}
+use Rattle.mus_laid.specs.{Boxes.sides_of, Printed.printed, declared.drawn.Bridge.Bridge, declared.drawn.Drawn.Drawn, declared.drawn.Span.Span, declared.laid.Lane.Lane}
+use Rattle.mus_ink.specs.{Distances.half_character, Drawing.back}
+use Rattle.mus_words.specs.{Syllables.syllable, Syllables.syllable_dx, Syllables.syllable_if, Syllables.syllables_from, Syllables.verse_dy, declared.texts.TextPlace.TextPlace, Words.words, Texts.above_dy, Texts.above_from, Texts.below_dy, Texts.below_from, Texts.text_marks, Texts.texts_above}
+use Rattle.mus_words.specs.Texts.{texts_below}
+use Rattle.mus_drawn.specs.{declared.drawn.DrawnEvent.DrawnEvent, declared.drawn.DrawnMeasure.DrawnMeasure, declared.drawn.DrawnVoice.DrawnVoice}
+use Rattle.mus_marks.specs.Staff.{bare_marks, columns_part, first_part, head_part, own_part, room_over, staff_bridges, staff_marks, staff_over, texts_behind, verses_on, written_parts}
+use Rattle.mus_marks.specs.{declared.events.Place.Place, declared.events.Room.Room, declared.events.Texts.Texts, Bridges.bridges_of, Events.bar_part, Events.change_part, Events.event_marks, Events.events_marks, Events.graces_part, Events.levels_behind, Events.levels_in, Events.measures_marks}
+use Rattle.mus_marks.{specs.Events.note_part, specs.Events.note_rank, specs.Events.words_part, proofs.Columned.columned_taken}
+use Rattle.lay_columns.specs.{Lanes.lane_number, Reaches.box_at, Reaches.boxes_at, Reaches.is_number, Reaches.rank_of as mark_rank}
+use Rattle.lay_measures.specs.Measures.{fixed_place, parts_from}
 use Rattle.mus_laid.specs.declared.laid.Lane.TheVariants as lanes
-use Rattle.mus_laid.specs.declared.laid.Laid.{Laid}
-use Rattle.mus_ink.specs.Distances.{half_character}
-use Rattle.mus_ink.specs.Drawing.{back}
-use Rattle.mus_words.specs.Syllables.{syllable, syllable_dx, syllable_if, syllables_from, verse_dy}
-use Rattle.mus_words.specs.Texts.{above_dy, above_from, below_dy, below_from, text_marks, texts_above, texts_below}
-use Rattle.mus_words.specs.Words.{words}
-use Rattle.mus_drawn.specs.declared.drawn.DrawnEvent.{DrawnEvent}
-use Rattle.mus_drawn.specs.declared.drawn.DrawnMeasure.{DrawnMeasure}
-use Rattle.mus_drawn.specs.declared.drawn.DrawnVoice.{DrawnVoice}
-use Rattle.mus_marks.specs.declared.events.Room.{Room}
-use Rattle.mus_marks.specs.Bridges.{bridges_of}
-use Rattle.mus_marks.specs.Events.{bar_part, change_part, event_marks, events_marks, graces_part, levels_behind, levels_in, measures_marks, note_part, note_rank, text_place, words_part}
-use Rattle.mus_marks.specs.Staff.{columns_part, first_part, head_part, voice_marks}
-use Rattle.lay_columns.specs.Reaches.{box_at, boxes_at}
 
 abbrev pub Same : List Laid → List Laid → Type 0
 Same xs ys = (rank lane : ℕ) → boxes_at rank lane xs ≡ boxes_at rank lane ys
@@ -53,7 +42,7 @@ alike_append ds dt es et h g r rank lane =
 syllable_alike : (low high : ℤ) (n : ℕ) (t : List ℕ) → Alike (syllable low n t) (syllable high n t)
 syllable_alike low high n t = by (length t == 0)
   where
-    by : (b : Bool) → Alike (if b then [] else words (lanes.Verse n) (syllable_dx (length t)) (verse_dy low n) t ∷ []) (if b then [] else words (lanes.Verse n) (syllable_dx (length t)) (verse_dy high n) t ∷ [])
+    by : (b : Bool) → Alike (if b then [] else words (Lane.Verse n) (syllable_dx (length t)) (verse_dy low n) t ∷ []) (if b then [] else words (Lane.Verse n) (syllable_dx (length t)) (verse_dy high n) t ∷ [])
     by true r rank lane = refl
     by false r rank lane = refl
 
@@ -67,76 +56,108 @@ syllables low high n (w ∷ ws) r rank lane =
     alike_append (syllable_if low n w) (syllable_if high n w) (syllables_from low (n + 1) ws) (syllables_from high (n + 1) ws)
     (syllable_of low high n w) (syllables low high (n + 1) ws) r rank lane
 
-above : (low high : ℤ) (k : ℕ) (ts : List (List ℕ)) → Alike (above_from low k ts) (above_from high k ts)
-above low high k [] r rank lane = refl
-above low high k (t ∷ ts) r rank lane =
-    alike_append (words lanes.Above (back half_character) (above_dy low k) t ∷ []) (words lanes.Above (back half_character) (above_dy high k) t ∷ [])
-    (above_from low (k + 1) ts) (above_from high (k + 1) ts) (λ r rank lane. refl) (above low high (k + 1) ts) r rank lane
+above : (low high : ℤ) (k l : ℕ) (ts : List (List ℕ)) → Alike (above_from low k ts) (above_from high l ts)
+above low high k l [] r rank lane = refl
+above low high k l (t ∷ ts) r rank lane =
+    alike_append (words Lane.Above (back half_character) (above_dy low k) t ∷ []) (words Lane.Above (back half_character) (above_dy high l) t ∷ [])
+    (above_from low (k + 1) ts) (above_from high (l + 1) ts) (λ r rank lane. refl) (above low high (k + 1) (l + 1) ts) r rank lane
 
-below : (low high : ℤ) (v w k : ℕ) (ts : List (List ℕ)) → Alike (below_from low v k ts) (below_from high w k ts)
-below low high v w k [] r rank lane = refl
-below low high v w k (t ∷ ts) r rank lane =
-    alike_append (words lanes.Below (back half_character) (below_dy low v k) t ∷ []) (words lanes.Below (back half_character) (below_dy high w k) t ∷ [])
-    (below_from low v (k + 1) ts) (below_from high w (k + 1) ts) (λ r rank lane. refl) (below low high v w (k + 1) ts) r rank lane
+below : (low high : ℤ) (v w k l : ℕ) (ts : List (List ℕ)) → Alike (below_from low v k ts) (below_from high w l ts)
+below low high v w k l [] r rank lane = refl
+below low high v w k l (t ∷ ts) r rank lane =
+    alike_append (words lanes.Below (back half_character) (below_dy low v k) t ∷ []) (words lanes.Below (back half_character) (below_dy high w l) t ∷ [])
+    (below_from low v (k + 1) ts) (below_from high w (l + 1) ts) (λ r rank lane. refl) (below low high v w (k + 1) (l + 1) ts) r rank lane
 
-texts : (x y : Room) (f : Flat) → Alike (text_marks (text_place x) f) (text_marks (text_place y) f)
+texts : (x y : TextPlace) (f : Flat) → Alike (text_marks x f) (text_marks y f)
 unfolding text_marks
 texts x y f =
-    alike_append (above_from x.high 0 (texts_above f)) (above_from y.high 0 (texts_above f)) (below_from x.low x.verses 0 (texts_below f)) (below_from y.low y.verses 0 (texts_below f))
-    (above x.high y.high 0 (texts_above f)) (below x.low y.low x.verses y.verses 0 (texts_below f))
+    alike_append (above_from x.high x.above (texts_above f)) (above_from y.high y.above (texts_above f)) (below_from x.low x.verses x.below (texts_below f)) (below_from y.low y.verses y.below (texts_below f))
+    (above x.high y.high x.above y.above (texts_above f)) (below x.low y.low x.verses y.verses x.below y.below (texts_below f))
 
-words_same : (r : ℕ) (x y : Room) (f : Flat) → Same (words_part r (Some x) f) (words_part r (Some y) f)
-words_same r x y f =
-    alike_append (syllables_from x.low 1 f.event.words) (syllables_from y.low 1 f.event.words) (text_marks (text_place x) f) (text_marks (text_place y) f)
-    (syllables x.low y.low 1 f.event.words) (texts x y f) r
+module _ (x y : Place) (same : y.first ≡ x.first) where
+  words_same : (r : ℕ) (f : Flat) → Same (words_part r (Some x) f) (words_part r (Some y) f)
+  words_same r f =
+      let low = syllables_from y.room.low y.first f.event.words in
+      alike_append (syllables_from x.room.low x.first f.event.words) low _ _
+      (subst (λ n. Alike (syllables_from x.room.low x.first f.event.words) (syllables_from y.room.low n f.event.words)) (sym same) (syllables x.room.low y.room.low x.first f.event.words))
+      (texts _ _ f) r
 
-module _ (keys : List ColumnKey) (lengths : List ℕ) (x y : Room) where
-  event_same : (m : ℕ) (in_head : Bool) (before after : ℕ) (e : DrawnEvent) → Same (event_marks keys (Some x) m in_head before after e) (event_marks keys (Some y) m in_head before after e)
-  unfolding event_marks
-  event_same m in_head before after e =
-      let others = change_part keys m in_head e ++ graces_part keys m e ++ note_part keys m before after e in
-      same_append others others (words_part (note_rank keys m e) (Some x) e.flat) (words_part (note_rank keys m e) (Some y) e.flat)
-      (same_itself others) (words_same (note_rank keys m e) x y e.flat)
+  module _ (keys : List ColumnKey) (lengths : List ℕ) where
+    event_same : (m : ℕ) (in_head : Bool) (before after : ℕ) (e : DrawnEvent) → Same (event_marks keys (Some x) m in_head before after e) (event_marks keys (Some y) m in_head before after e)
+    unfolding event_marks
+    event_same m in_head before after e =
+        let others = change_part keys m (in_head || is_lower e.seat) e ++ graces_part keys m e ++ note_part keys m before after e in
+        same_append others others (words_part (note_rank keys m e) (Some x) e.flat) (words_part (note_rank keys m e) (Some y) e.flat)
+        (same_itself others) (words_same (note_rank keys m e) e.flat)
 
-  events_same : (m : ℕ) (in_head : Bool) (group flags : ℕ) (es : List DrawnEvent) → Same (events_marks keys (Some x) m in_head group flags es) (events_marks keys (Some y) m in_head group flags es)
-  events_same m in_head group flags [] rank lane = refl
-  events_same m in_head group flags (e ∷ es) rank lane =
-      let before = levels_in e.plan group flags in let after = levels_behind e.plan es in
-      same_append (event_marks keys (Some x) m in_head before after e) (event_marks keys (Some y) m in_head before after e)
-      (events_marks keys (Some x) m false e.plan.group e.plan.flags es) (events_marks keys (Some y) m false e.plan.group e.plan.flags es)
-      (event_same m in_head before after e) (events_same m false e.plan.group e.plan.flags es) rank lane
+    events_same : (m : ℕ) (in_head : Bool) (group flags : ℕ) (es : List DrawnEvent) → Same (events_marks keys (Some x) m in_head group flags es) (events_marks keys (Some y) m in_head group flags es)
+    events_same m in_head group flags [] rank lane = refl
+    events_same m in_head group flags (e ∷ es) rank lane =
+        let before = levels_in e.plan group flags in let after = levels_behind e.plan es in
+        same_append (event_marks keys (Some x) m in_head before after e) (event_marks keys (Some y) m in_head before after e)
+        (events_marks keys (Some x) m false e.plan.group e.plan.flags es) (events_marks keys (Some y) m false e.plan.group e.plan.flags es)
+        (event_same m in_head before after e) (events_same m false e.plan.group e.plan.flags es) rank lane
 
-  measures_same : (m : ℕ) (in_head : Bool) (ds : List DrawnMeasure) → Same (measures_marks keys lengths (Some x) m in_head ds) (measures_marks keys lengths (Some y) m in_head ds)
-  measures_same m in_head [] rank lane = refl
-  measures_same m in_head (d ∷ ds) rank lane =
-      let bar = bar_part keys lengths m d in
-      same_append (events_marks keys (Some x) m in_head 0 0 d.events ++ bar) (events_marks keys (Some y) m in_head 0 0 d.events ++ bar)
-      (measures_marks keys lengths (Some x) (m + 1) false ds) (measures_marks keys lengths (Some y) (m + 1) false ds)
-      (same_append (events_marks keys (Some x) m in_head 0 0 d.events) (events_marks keys (Some y) m in_head 0 0 d.events) bar bar (events_same m in_head 0 0 d.events) (same_itself bar))
-      (measures_same (m + 1) false ds) rank lane
+    measures_same : (m : ℕ) (in_head : Bool) (ds : List DrawnMeasure) → Same (measures_marks keys lengths (Some x) m in_head ds) (measures_marks keys lengths (Some y) m in_head ds)
+    measures_same m in_head [] rank lane = refl
+    measures_same m in_head (d ∷ ds) rank lane =
+        let bar = bar_part keys lengths m d in
+        same_append (events_marks keys (Some x) m in_head 0 0 d.events ++ bar) (events_marks keys (Some y) m in_head 0 0 d.events ++ bar)
+        (measures_marks keys lengths (Some x) (m + 1) false ds) (measures_marks keys lengths (Some y) (m + 1) false ds)
+        (same_append (events_marks keys (Some x) m in_head 0 0 d.events) (events_marks keys (Some y) m in_head 0 0 d.events) bar bar (events_same m in_head 0 0 d.events) (same_itself bar))
+        (measures_same (m + 1) false ds) rank lane
 
-  columns_same : (a : ℕ) (first : Bar) (ds : List DrawnMeasure) → Same (columns_part keys lengths (Some x) a first ds) (columns_part keys lengths (Some y) a first ds)
-  unfolding columns_part
-  columns_same a first ds =
-      let others = head_part keys a ds ++ first_part keys a first in
-      same_append others others (measures_marks keys lengths (Some x) a true ds) (measures_marks keys lengths (Some y) a true ds) (same_itself others) (measures_same a true ds)
+    columns_same : (a : ℕ) (seat : Seat) (first : Bar) (ds : List DrawnMeasure) → Same (columns_part keys lengths (Some x) a seat first ds) (columns_part keys lengths (Some y) a seat first ds)
+    unfolding columns_part
+    columns_same a seat first ds =
+        let others = head_part keys a ds ++ first_part keys a seat first in
+        same_append others others (measures_marks keys lengths (Some x) a true ds) (measures_marks keys lengths (Some y) a true ds) (same_itself others) (measures_same a true ds)
 
 -- ---- beams and arcs have no box
 bridge_none : (keys : List ColumnKey) (lane rank : ℕ) (first last : ColumnKey) (span : Span) (bs : List Bridge)
     → boxes_at rank lane (bridge_at keys (record { first = first; last = last; span = span }) ∷ map (bridge_at keys) bs) ≡ boxes_at rank lane (map (bridge_at keys) bs)
-bridge_none keys lane rank first last (spans.Beam way from to) bs = refl
-bridge_none keys lane rank first last (spans.Arc from to bulge) bs = refl
+bridge_none keys lane rank first last (Span.Beam way from to) bs = refl
+bridge_none keys lane rank first last (Span.Arc from to bulge) bs = refl
 
 bridges_none : (keys : List ColumnKey) (bs : List Bridge) → Same (map (bridge_at keys) bs) []
 bridges_none keys [] rank lane = refl
 bridges_none keys (b ∷ bs) rank lane = bridge_none keys lane rank b.first b.last b.span bs ∙ bridges_none keys bs rank lane
 
--- ---- a staff has the boxes of its columns alone, in any room
-pub voice_same : (keys : List ColumnKey) (lengths : List ℕ) (x y : Room) (a b : ℕ) (v : DrawnVoice) → Same (voice_marks keys lengths (Some x) a b v) (columns_part keys lengths (Some y) a v.first (slice_range v.measures a b))
-unfolding voice_marks
-voice_same keys lengths x y a b v rank lane =
-    let ds = slice_range v.measures a b in
-    let same = columns_part keys lengths (Some y) a v.first ds in
-    same_append (columns_part keys lengths (Some x) a v.first ds) same (map (bridge_at keys) (bridges_of lengths a b v)) []
-    (columns_same keys lengths x y a v.first ds) (bridges_none keys (bridges_of lengths a b v)) rank lane
-    ∙ ap (boxes_at rank lane) (append-nil same)
+-- ---- a mark that stands elsewhere has no box in a column
+not_here : (rank : ℕ) (m : Mark) → is_rank rank (anchor_rank m) ≡ false → is_number rank (mark_rank m) ≡ false
+not_here rank (Mark.Glyph glyph r dx dy) h = h
+not_here rank (Mark.Words size r dx dy text) h = h
+not_here rank (Mark.Stem r dx from to) h = refl
+not_here rank (Mark.Beam way first last from to) h = refl
+not_here rank (Mark.Arc first last from to bulge) h = refl
+
+no_box : (rank lane : ℕ) (x : Laid) → stands_at rank x ≡ false → box_at rank lane x ≡ None
+no_box rank lane x h = ap (λ c. if c && is_number lane (lane_number x.lane) then sides_of x.mark else None) (not_here rank x.mark h)
+
+-- ---- a staff has the boxes of its columns alone, in any place
+abbrev pub core_part : List ColumnKey → List ℕ → ℕ → ℕ → ℕ → DrawnVoice → List Laid
+core_part keys lengths a b first v = columns_part keys lengths (Some (fixed_place first)) a v.seat v.first (slice_range v.measures a b)
+
+written_same : (keys : List ColumnKey) (lengths : List ℕ) (room : Room) (a b first : ℕ) (before : List Texts) (vs : List DrawnVoice) (rank lane : ℕ)
+    → flat_map (boxes_at rank lane) (written_parts keys lengths room a b first before vs) ≡ boxes_at rank lane (parts_from (core_part keys lengths a b) first vs)
+written_same keys lengths room a b first before [] rank lane = refl
+written_same keys lengths room a b first before (v ∷ vs) rank lane =
+    let place : Place = record { room = room; first = first; before = before } in
+    let part = own_part keys lengths (Some place) a b v in
+    let core = core_part keys lengths a b in
+    ap (λ t. boxes_at rank lane part ++ t) (written_same keys lengths room a b (first + v.verses) (texts_behind (length keys) before part) vs rank lane)
+    ∙ ap (λ t. t ++ boxes_at rank lane (parts_from core (first + v.verses) vs)) (columns_same place (fixed_place first) refl keys lengths a v.seat v.first (slice_range v.measures a b) rank lane)
+    ∙ sym (filter_map-append (box_at rank lane) (core first v) (parts_from core (first + v.verses) vs))
+
+pub staff_same : (keys : List ColumnKey) (lengths : List ℕ) (a b : ℕ) (vs : List DrawnVoice) (rank lane : ℕ) → rank < length keys
+    → boxes_at rank lane (parts_from (core_part keys lengths a b) 1 vs) ≡ boxes_at rank lane (staff_marks keys lengths a b vs).marks
+unfolding staff_marks staff_over
+staff_same keys lengths a b vs rank lane inside =
+    let room = room_over (verses_on vs) (bare_marks keys lengths a b vs) in
+    let parts = written_parts keys lengths room a b 1 [] vs in
+    let bridges = staff_bridges keys lengths a b vs in
+    sym (filter_map-append (box_at rank lane) (by_columns (length keys) parts) bridges
+    ∙ ap (λ t. boxes_at rank lane (by_columns (length keys) parts) ++ t) (bridges_none keys (flat_map (bridges_of lengths a b) vs) rank lane)
+    ∙ append-nil (boxes_at rank lane (by_columns (length keys) parts))
+    ∙ columned_taken (box_at rank lane) rank (no_box rank lane) (length keys) parts inside
+    ∙ written_same keys lengths room a b 1 [] vs rank lane)

@@ -4,6 +4,8 @@
 
 pub mod law;
 pub mod measures;
+pub mod staves;
 
 pub use law::measures_join;
 pub use measures::{first_columns, further_columns};
+pub use staves::staff_verses;

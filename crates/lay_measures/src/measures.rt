@@ -1,31 +1,34 @@
-ghost use Rattle.std.specs.Prelude.{◌≡◌, ◌≤◌, ◌<◌, ◌+◌, All, IfOk, length, map};
-ghost use Rattle.mus_score.specs.GoodScore.{IsGoodScore};
-ghost use Rattle.mus_time.specs.Keys.{IsInSystem};
-ghost use Rattle.mus_time.specs.Onsets.{timeline_of};
-ghost use Rattle.mus_drawn.specs.Drawn.{drawn_voice};
-ghost use Rattle.mus_drawn.specs.Good.{AreGoodMeasures};
-ghost use Rattle.mus_time.specs.Ranks.{AreRanked};
-ghost use Rattle.lay_columns.specs.Columns.{IsSmall, IsUncut, StandsWhereDue};
-ghost use Rattle.lay_columns.specs.Lanes.{gaps_of};
-ghost use Rattle.lay_measures.specs.Measures.{AreFirst, AreFurther, EndWithBar, first_staff, fixed_room, further_staff, staff_of_columns};
+ghost use Rattle.std.specs.Prelude.{◌≡◌, ◌≤◌, ◌<◌, ◌+◌, ◌++◌, All, IfOk, OnOk, length, map};
+ghost use Rattle.mus_score.specs.{GoodScore.IsGoodScore, Seats.grouped};
+ghost use Rattle.mus_time.specs.{Keys.IsInSystem, Onsets.timeline_of, Ranks.AreRanked};
+ghost use Rattle.mus_drawn.specs.{Drawn.drawn_voice, Good.AreGoodMeasures};
+ghost use Rattle.mus_marks.specs.{Staff.verses_on, System.drawn_staves, System.stands_lower};
+ghost use Rattle.lay_columns.specs.{Columns.IsSmall, Columns.IsUncut, Columns.StandsWhereDue, Lanes.gaps_of};
+ghost use Rattle.lay_measures.specs.Measures.{AreFirst, AreFurther, EndWithBar, fixed_place, measure_part, measure_staff, staff_of_columns};
 
+use crate::staves::lower_count;
 use lay_columns::{Column, columns_in};
 use mus_drawn::DrawnVoice;
 use mus_laid::{Laid, StaffMarks};
-use mus_marks::{Room, put_columns_part, put_measures};
+use mus_marks::{Place, Room, put_columns_part, put_measures};
 use mus_score::Score;
 use mus_time::{ColumnKey, Timeline, further_keys, keys_of};
 use mus_units::{Memory, Row};
 use std::alloc::Global;
 
-/// A room for syllables and texts: heights are of no account to columns.
-fn fixed_room(verses: u8) -> Room
-    ensures { result ≡ fixed_room verses }
+/// Where the words of a voice go whose verses count from `first` on: heights, and the texts that stand
+/// there before, are of no account to columns.
+fn fixed_place(alloc: Global, first: u8) -> Place
+    ensures { result ≡ fixed_place first }
 {
-    Room {
-        low: 0,
-        high: 2000,
-        verses,
+    Place {
+        room: Room {
+            low: 0,
+            high: 2000,
+            verses: 0,
+        },
+        first,
+        before: Row::new(alloc),
     }
 }
 
@@ -39,78 +42,72 @@ fn staff_of_columns(marks: Row<Laid>) -> StaffMarks
     }
 }
 
-/// What stands in the columns of measure `m` of a voice, where the system begins with it.
-fn first_staff(
+/// Lays what stands in the columns of measure `m` of a voice whose verses count from `first` on; `begins`
+/// tells whether the system begins with the measure.
+fn put_part(
     alloc: Global,
+    out: &mut Row<Laid>,
     keys: &[ColumnKey],
     lengths: &[u64],
     m: u32,
+    begins: bool,
+    first: u8,
     v: &DrawnVoice,
-) -> Result<StaffMarks, Memory>
+) -> Result<(), Memory>
     requires keys { AreRanked keys.now }
     requires within { m < length lengths.now }
     requires lengths { length v.now.measures ≡ length lengths.now }
     requires few { length lengths.now ≤ 2000 }
     requires good { AreGoodMeasures v.now.measures }
-    ensures { IfOk result (λ r. r ≡ first_staff keys.now lengths.now m v.now) }
+    requires first { first ≤ 129 }
+    ensures { OnOk result (out.new ≡ out.old ++ measure_part begins keys.now lengths.now m first v.now) }
 {
     let all = v.measures.as_slice();
     let measures = &all[m as usize..m as usize + 1];
-    let room = Some(fixed_room(v.verses));
-    let mut marks = Row::new(alloc);
-    put_columns_part(alloc, &mut marks, keys, lengths, room, m, v.first, measures)?;
-    Ok(staff_of_columns(marks))
-}
-
-/// What stands in the columns of measure `m` of a voice, where the system began before it.
-fn further_staff(
-    alloc: Global,
-    keys: &[ColumnKey],
-    lengths: &[u64],
-    m: u32,
-    v: &DrawnVoice,
-) -> Result<StaffMarks, Memory>
-    requires keys { AreRanked keys.now }
-    requires within { m < length lengths.now }
-    requires lengths { length v.now.measures ≡ length lengths.now }
-    requires few { length lengths.now ≤ 2000 }
-    requires good { AreGoodMeasures v.now.measures }
-    ensures { IfOk result (λ r. r ≡ further_staff keys.now lengths.now m v.now) }
-{
-    let all = v.measures.as_slice();
-    let measures = &all[m as usize..m as usize + 1];
-    let room = Some(fixed_room(v.verses));
-    let mut marks = Row::new(alloc);
-    put_measures(alloc, &mut marks, keys, lengths, room, m, false, measures)?;
-    Ok(staff_of_columns(marks))
-}
-
-fn first_staves(
-    alloc: Global,
-    keys: &[ColumnKey],
-    lengths: &[u64],
-    m: u32,
-    voices: &[DrawnVoice],
-) -> Result<Row<StaffMarks>, Memory>
-    requires keys { AreRanked keys.now }
-    requires within { m < length lengths.now }
-    requires few { length lengths.now ≤ 2000 }
-    requires each { All (λ v. length v.measures ≡ length lengths.now) voices.now }
-    requires good { All (λ v. AreGoodMeasures v.measures) voices.now }
-    ensures { IfOk result (λ r. r ≡ map (first_staff keys.now lengths.now m) voices.now) }
-{
-    let mut staves = Row::new(alloc);
-    for v in voices {
-        staves.push(first_staff(alloc, keys, lengths, m, v)?)?;
+    let fixed = fixed_place(alloc, first);
+    let place = Some(&fixed);
+    if begins {
+        put_columns_part(
+            alloc, out, keys, lengths, place, m, v.seat, v.first, measures,
+        )
+    } else {
+        put_measures(alloc, out, keys, lengths, place, m, false, measures)
     }
-    Ok(staves)
 }
 
-fn further_staves(
+/// What stands in the columns of measure `m` of a staff with these voices.
+fn measure_staff(
     alloc: Global,
     keys: &[ColumnKey],
     lengths: &[u64],
     m: u32,
+    begins: bool,
+    voices: &[DrawnVoice],
+) -> Result<StaffMarks, Memory>
+    requires keys { AreRanked keys.now }
+    requires within { m < length lengths.now }
+    requires few { length lengths.now ≤ 2000 }
+    requires each { All (λ v. length v.measures ≡ length lengths.now) voices.now }
+    requires good { All (λ v. AreGoodMeasures v.measures) voices.now }
+    requires verses { verses_on voices.now ≤ 128 }
+    ensures { IfOk result (λ r. r ≡ measure_staff begins keys.now lengths.now m voices.now) }
+{
+    let mut marks = Row::new(alloc);
+    let mut first = 1;
+    for v in voices {
+        put_part(alloc, &mut marks, keys, lengths, m, begins, first, v)?;
+        first += v.verses;
+    }
+    Ok(staff_of_columns(marks))
+}
+
+/// What stands in the columns of measure `m` of each staff.
+fn measure_staves(
+    alloc: Global,
+    keys: &[ColumnKey],
+    lengths: &[u64],
+    m: u32,
+    begins: bool,
     voices: &[DrawnVoice],
 ) -> Result<Row<StaffMarks>, Memory>
     requires keys { AreRanked keys.now }
@@ -118,11 +115,15 @@ fn further_staves(
     requires few { length lengths.now ≤ 2000 }
     requires each { All (λ v. length v.measures ≡ length lengths.now) voices.now }
     requires good { All (λ v. AreGoodMeasures v.measures) voices.now }
-    ensures { IfOk result (λ r. r ≡ map (further_staff keys.now lengths.now m) voices.now) }
+    requires verses { verses_on voices.now ≤ 128 }
+    ensures { IfOk result (λ r. r ≡ map (measure_staff begins keys.now lengths.now m) (grouped stands_lower voices.now)) }
 {
     let mut staves = Row::new(alloc);
-    for v in voices {
-        staves.push(further_staff(alloc, keys, lengths, m, v)?)?;
+    let mut rest = voices;
+    'staves: while let Some((_, behind)) = rest.split_first() {
+        let (staff, more) = rest.split_at(lower_count(behind) + 1);
+        staves.push(measure_staff(alloc, keys, lengths, m, begins, staff)?)?;
+        rest = more;
     }
     Ok(staves)
 }
@@ -145,7 +146,7 @@ pub fn first_columns(
     requires within { m < s.now.measures }
     requires voices { voices.now ≡ map drawn_voice s.now.voices }
     requires drawn { All (λ v. AreGoodMeasures v.measures) voices.now }
-    requires counts { length verses.now ≡ length s.now.voices }
+    requires counts { length verses.now ≡ length (drawn_staves s.now) }
     ensures columns { IfOk result (AreFirst s.now t.now m verses.now) }
     ensures places { IfOk result (All (λ c. IsInSystem t.now.lengths m (m + 1) c.key)) }
     ensures bar { IfOk result (λ r. 1 ≤ length s.now.voices → EndWithBar r) }
@@ -156,7 +157,7 @@ pub fn first_columns(
 {
     let keys = keys_of(alloc, s, t, m, m + 1)?;
     let lengths = t.lengths.as_slice();
-    let staves = first_staves(alloc, keys.as_slice(), lengths, m, voices)?;
+    let staves = measure_staves(alloc, keys.as_slice(), lengths, m, true, voices)?;
     columns_in(alloc, keys.as_slice(), staves.as_slice(), lengths, verses)
 }
 
@@ -176,7 +177,7 @@ pub fn further_columns(
     requires within { m < s.now.measures }
     requires voices { voices.now ≡ map drawn_voice s.now.voices }
     requires drawn { All (λ v. AreGoodMeasures v.measures) voices.now }
-    requires counts { length verses.now ≡ length s.now.voices }
+    requires counts { length verses.now ≡ length (drawn_staves s.now) }
     ensures columns { IfOk result (AreFurther s.now t.now m verses.now) }
     ensures places { IfOk result (All (λ c. IsInSystem t.now.lengths m (m + 1) c.key)) }
     ensures bar { IfOk result (λ r. 1 ≤ length s.now.voices → EndWithBar r) }
@@ -187,6 +188,6 @@ pub fn further_columns(
 {
     let keys = further_keys(alloc, s, t, m)?;
     let lengths = t.lengths.as_slice();
-    let staves = further_staves(alloc, keys.as_slice(), lengths, m, voices)?;
+    let staves = measure_staves(alloc, keys.as_slice(), lengths, m, false, voices)?;
     columns_in(alloc, keys.as_slice(), staves.as_slice(), lengths, verses)
 }

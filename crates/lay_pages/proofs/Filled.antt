@@ -1,17 +1,14 @@
 -- Where blocks are placed one after the other, each follows the one before it.
 use Rattle.std.proofs.Common.{◌≡◌, refl, ap, ◌∙◌, ℕ, ◌+◌, ◌≤◌, ℤ, pos, negsuc, ◌-ℤ◌, ◌≤ℤ◌, ◌<ℤ◌, Bool, true, false, List, [], ◌∷◌, arith}
-use Rattle.std.proofs.lemmas.Bool.Decides.{nat_tests}
-use Rattle.std.specs.Prelude.{◌||◌, nat_le}
-use Rattle.std.proofs.lemmas.Int.{ints}
-use Rattle.lay_pages.specs.declared.filling.Block.{Block}
-use Rattle.lay_pages.specs.declared.filling.Place.{Place}
+use Rattle.std.{proofs.lemmas.Bool.Decides.nat_tests, proofs.lemmas.Int.ints, specs.Prelude.◌||◌, specs.Prelude.nat_le}
+use Rattle.lay_pages.specs.{declared.filling.Block.Block, declared.filling.Place.Place}
 use Rattle.lay_pages.specs.Filling.{AreGoodBlocks, height_of, group_height, under, place_by, next_place, spot_at, spots_from, spots_of, Follows, same_page, next_page, FollowOn, AreFilled}
 
-below : (high down : ℕ) (height : ℤ) → pos 0 ≤ℤ height → pos high -ℤ pos (down + height_of height + 1500) ≡ ((pos high -ℤ pos down) -ℤ height) -ℤ pos 1500
+pub below : (high down : ℕ) (height : ℤ) → pos 0 ≤ℤ height → pos high -ℤ pos (down + height_of height + 1500) ≡ ((pos high -ℤ pos down) -ℤ height) -ℤ pos 1500
 below high down (pos n) good = omega (arith, ints)
 below high down (negsuc n) good = absurd (omega (arith, ints))
 
-at_top : (high : ℕ) → pos high -ℤ pos 0 ≡ pos high
+pub at_top : (high : ℕ) → pos high -ℤ pos 0 ≡ pos high
 at_top high = omega (arith, ints)
 
 too_high : (high down group : ℕ) (height : ℤ) → pos 0 ≤ℤ height → nat_le (down + height_of height + 1500 + group) high ≡ false → (((pos high -ℤ pos down) -ℤ height) -ℤ pos 1500) <ℤ pos group

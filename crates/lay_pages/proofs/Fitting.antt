@@ -1,13 +1,9 @@
 -- A group that fits where it begins: each of its blocks lies on the page, and so does what follows.
 use Rattle.std.proofs.Common.{◌≡◌, refl, ap, sym, ◌∙◌, ℕ, suc, ◌+◌, ◌≤◌, ◌^◌, ℤ, pos, negsuc, ◌-ℤ◌, ◌≤ℤ◌, Bool, true, false, not, List, [], ◌∷◌, ◌++◌, append_assoc, length, subst, arith}
-use Rattle.std.proofs.lemmas.Bool.Decides.{nat_tests}
+use Rattle.std.proofs.{lemmas.Bool.Decides.nat_tests, lemmas.Int.ints}
 use Rattle.std.specs.Prelude.{◌==◌, ◌&&◌, ◌||◌, nat_le, nat_lt, Option, Some, None}
-use Rattle.std.proofs.lemmas.Int.{ints}
-use Rattle.lay_pages.specs.declared.filling.Block.{Block}
-use Rattle.lay_pages.specs.declared.filling.Place.{Place}
-use Rattle.lay_pages.specs.declared.filling.Spot.{Spot}
-use Rattle.lay_pages.specs.declared.filling.Standing.{Standing}
 use Rattle.lay_pages.specs.Filling.{AreGoodBlocks, CanFollow, IsLoose, down_behind, first_place, height_of, with_kept, group_height, under, place_by, next_place, spot_at, spots_from, standing_from, tall_by, tall_from, AreWithin}
+use Rattle.lay_pages.specs.declared.filling.{Block.Block, Place.Place, Spot.Spot, Standing.Standing}
 
 -- the group that begins here ends on the page, and no group from here on is too tall
 pub record IsReady (high : ℕ) (place : Place) (blocks : List Block) : Type 0 where
@@ -28,7 +24,7 @@ first_low block (next ∷ more) = kept_low block.keep (height_of block.height) (
 pub top_within : (high down : ℕ) → (pos high -ℤ pos down) ≤ℤ pos high
 top_within high down = omega (arith, ints)
 
-bottom_within : (high down : ℕ) (height : ℤ) → pos 0 ≤ℤ height → down + height_of height ≤ high → pos 0 ≤ℤ ((pos high -ℤ pos down) -ℤ height)
+pub bottom_within : (high down : ℕ) (height : ℤ) → pos 0 ≤ℤ height → down + height_of height ≤ high → pos 0 ≤ℤ ((pos high -ℤ pos down) -ℤ height)
 bottom_within high down (pos n) good fits = omega (arith, ints)
 bottom_within high down (negsuc n) good fits = absurd (omega (arith, ints))
 

@@ -1,3 +1,4 @@
 pub mod Fitting
 pub mod Under
+pub mod Pages
 pub mod Filled

@@ -1,12 +1,7 @@
 -- Blocks on pages, from the top of a page down. A block that is tied to the next stands on one page
 -- with it; such a run of blocks is a group.
 use Rattle.std.specs.Prelude.{◌≡◌, ◌^◌, ◌≤◌, ⊤, ℕ, suc, ◌+◌, nat_le, nat_lt, ℤ, pos, negsuc, ◌-ℤ◌, ◌≤ℤ◌, ◌<ℤ◌, Bool, true, false, not, ◌&&◌, ◌||◌, List, [], ◌∷◌, Option, Some, None}
-use Rattle.lay_pages.specs.declared.filling.Block.{Block}
-use Rattle.lay_pages.specs.declared.filling.Spot.{Spot}
-use Rattle.lay_pages.specs.declared.filling.Place.{Place}
-use Rattle.lay_pages.specs.declared.filling.Standing.{Standing}
-use Rattle.lay_pages.specs.declared.filling.PageError.{PageError}
-use Rattle.lay_pages.specs.declared.filling.PageError.TheVariants as errors
+use Rattle.lay_pages.specs.declared.filling.{Block.Block, Spot.Spot, Place.Place, Standing.Standing, PageError.PageError}
 
 -- heights of 0 to 2^40
 abbrev pub AreGoodBlocks : List Block → Type 0
@@ -134,5 +129,5 @@ abbrev pub AreFilled : ℕ → List Block → List Spot → Type 0
 AreFilled high blocks spots = BeginOn high spots × FollowOn high blocks spots
 
 abbrev pub IsPageError : ℕ → List Block → PageError → Type 0
-IsPageError high blocks errors.Memory = ⊤
-IsPageError high blocks (errors.TooTall block) = first_tall high blocks ≡ Some block
+IsPageError high blocks PageError.Memory = ⊤
+IsPageError high blocks (PageError.TooTall block) = first_tall high blocks ≡ Some block

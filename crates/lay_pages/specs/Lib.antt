@@ -1,3 +1,4 @@
 pub mod Filling
+pub mod Even
 pub mod Stacking
 pub mod Titles

@@ -8,13 +8,14 @@ abbrev pub AreGoodStaves : List StaffMarks → Type 0
 AreGoodStaves [] = ⊤
 AreGoodStaves (staff ∷ more) = ((staff.low ≤ℤ pos 0) × (pos 2000 ≤ℤ staff.high)) × AreGoodStaves more
 
--- The first staff has its highest mark at the top; each next one has its highest mark 500 u under
--- the lowest mark of the one before; and the bottom is the lowest mark of the last.
-abbrev pub AreStacked : ℤ → List StaffMarks → List ℤ → ℤ → Type 0
-AreStacked top [] [] bottom = bottom ≡ top
-AreStacked top (staff ∷ []) (base ∷ []) bottom = (base +ℤ staff.high ≡ top) × (bottom ≡ base +ℤ staff.low)
-AreStacked top (staff ∷ next ∷ more) (base ∷ bases) bottom = (base +ℤ staff.high ≡ top) × AreStacked ((base +ℤ staff.low) -ℤ pos 500) (next ∷ more) bases bottom
-AreStacked top _ _ bottom = ⊥
+-- The first staff has its highest mark at the top; each next one has its highest mark under the lowest mark of the one before, as
+-- far as the gap before it says; and the bottom is the lowest mark of the last.
+abbrev pub AreStacked : ℤ → List ℕ → List StaffMarks → List ℤ → ℤ → Type 0
+AreStacked top [] [] [] bottom = bottom ≡ top
+AreStacked top [] (staff ∷ []) (base ∷ []) bottom = (base +ℤ staff.high ≡ top) × (bottom ≡ base +ℤ staff.low)
+AreStacked top (gap ∷ gaps) (staff ∷ next ∷ more) (base ∷ bases) bottom =
+    (base +ℤ staff.high ≡ top) × AreStacked ((base +ℤ staff.low) -ℤ pos gap) gaps (next ∷ more) bases bottom
+AreStacked top _ _ _ bottom = ⊥
 
 -- The same by how far each base line lies under the top of the block.
 abbrev pub above_base : ℤ → ℕ
@@ -28,11 +29,23 @@ below_base (negsuc n) = suc n
 abbrev pub under_top : ℕ → ℤ
 under_top down = pos 0 -ℤ pos down
 
-abbrev pub bases_under : ℕ → List StaffMarks → List ℤ
-bases_under top [] = []
-bases_under top (staff ∷ more) = under_top (top + above_base staff.high) ∷ bases_under (top + above_base staff.high + below_base staff.low + 500) more
+-- staves under one whose lowest mark lies so far under the top
+abbrev pub bases_behind : ℕ → List StaffMarks → List ℕ → List ℤ
+bases_behind bottom [] gaps = []
+bases_behind bottom (staff ∷ more) [] = []
+bases_behind bottom (staff ∷ more) (gap ∷ gaps) =
+    under_top (bottom + gap + above_base staff.high) ∷ bases_behind (bottom + gap + above_base staff.high + below_base staff.low) more gaps
 
--- the lowest mark of the last staff; `bottom` is that of the staves above
-abbrev pub bottom_from : ℕ → ℕ → List StaffMarks → ℕ
-bottom_from bottom top [] = bottom
-bottom_from bottom top (staff ∷ more) = bottom_from (top + above_base staff.high + below_base staff.low) (top + above_base staff.high + below_base staff.low + 500) more
+abbrev pub bases_under : List StaffMarks → List ℕ → List ℤ
+bases_under [] gaps = []
+bases_under (staff ∷ more) gaps = under_top (above_base staff.high) ∷ bases_behind (above_base staff.high + below_base staff.low) more gaps
+
+-- the lowest mark of the last staff
+abbrev pub bottom_behind : ℕ → List StaffMarks → List ℕ → ℕ
+bottom_behind bottom [] gaps = bottom
+bottom_behind bottom (staff ∷ more) [] = bottom
+bottom_behind bottom (staff ∷ more) (gap ∷ gaps) = bottom_behind (bottom + gap + above_base staff.high + below_base staff.low) more gaps
+
+abbrev pub bottom_under : List StaffMarks → List ℕ → ℕ
+bottom_under [] gaps = 0
+bottom_under (staff ∷ more) gaps = bottom_behind (above_base staff.high + below_base staff.low) more gaps

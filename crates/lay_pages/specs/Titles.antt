@@ -2,27 +2,22 @@
 -- right; and a row for the tempo, at the left. A text of which nothing is printed has no row.
 use Rattle.std.specs.Prelude.{ℕ, ◌+◌, ◌-◌, ◌*◌, ◌/◌, pos, min, List, [], ◌∷◌, ◌++◌, length, Option, Some, None}
 use Rattle.mus_units.specs.declared.glyph.Size.{Size}
-use Rattle.mus_units.specs.declared.glyph.Size.TheVariants as sizes
-use Rattle.mus_laid.specs.Boxes.{character_width}
-use Rattle.mus_laid.specs.Printed.{printed_within}
-use Rattle.lay_pages.specs.declared.titles.Place.{Place}
-use Rattle.lay_pages.specs.declared.titles.Place.TheVariants as places
-use Rattle.lay_pages.specs.declared.titles.TitleRow.{TitleRow}
-use Rattle.lay_pages.specs.declared.titles.TitleBlock.{TitleBlock}
+use Rattle.mus_laid.specs.{Boxes.character_width, Printed.printed_within}
+use Rattle.lay_pages.specs.{declared.titles.Place.Place, declared.titles.TitleRow.TitleRow, declared.titles.TitleBlock.TitleBlock}
 
 -- a row is so high, and its base line so far below its top
 abbrev pub row_height : Size → ℕ
-row_height sizes.Big = 2400
-row_height sizes.Small = 1400
+row_height Size.Big = 2400
+row_height Size.Small = 1400
 
 abbrev pub base_below : Size → ℕ
-base_below sizes.Big = 1800
-base_below sizes.Small = 1000
+base_below Size.Big = 1800
+base_below Size.Small = 1000
 
 -- titles are big, all else is small
 abbrev pub size_at : Place → Size
-size_at places.Middle = sizes.Big
-size_at _ = sizes.Small
+size_at Place.Middle = Size.Big
+size_at _ = Size.Small
 
 -- at most 60 characters, and no more than the width holds
 abbrev pub most_within : ℕ → Size → ℕ
@@ -32,9 +27,9 @@ unfoldable pub row_text : ℕ → Place → List ℕ → List ℕ
 row_text width place text = printed_within (most_within width (size_at place)) text
 
 abbrev pub row_x : ℕ → Place → ℕ → ℕ
-row_x width places.Middle count = (width - character_width sizes.Big * count) / 2
-row_x width places.Right count = width - character_width sizes.Small * count
-row_x width places.Left count = 0
+row_x width Place.Middle count = (width - character_width Size.Big * count) / 2
+row_x width Place.Right count = width - character_width Size.Small * count
+row_x width Place.Left count = 0
 
 -- the row of a text, its block being so high above it
 abbrev pub row_at : ℕ → ℕ → Place → List ℕ → TitleRow
@@ -61,4 +56,4 @@ no_rows = record { rows = []; height = 0 }
 
 abbrev pub title_block_of : ℕ → List (List ℕ) → List (List ℕ) → Option (List ℕ) → TitleBlock
 title_block_of width titles composers tempo =
-    with_texts width places.Left (with_texts width places.Right (with_texts width places.Middle no_rows titles) composers) (tempo_texts tempo)
+    with_texts width Place.Left (with_texts width Place.Right (with_texts width Place.Middle no_rows titles) composers) (tempo_texts tempo)

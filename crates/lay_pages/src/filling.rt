@@ -79,7 +79,7 @@ pub struct Placement {
     pub behind: Option<Standing>,
 }
 
-fn height_of(height: i64) -> u64
+pub(crate) fn height_of(height: i64) -> u64
     requires { height ≤ℤ pos (2 ^ 40) }
     ensures value { result ≡ height_of height }
     ensures most { result ≤ 2 ^ 40 }
@@ -88,7 +88,7 @@ fn height_of(height: i64) -> u64
 }
 
 /// The height of the group that begins here.
-fn group_height(blocks: &[Block]) -> u128
+pub(crate) fn group_height(blocks: &[Block]) -> u128
     requires few { length blocks.now < 2 ^ 32 }
     requires good { AreGoodBlocks blocks.now }
     ensures value { result ≡ group_height blocks.now }
@@ -117,7 +117,7 @@ fn is_tall(high: u32, blocks: &[Block]) -> bool
 }
 
 /// The block with which the first group begins that is higher than a page.
-fn first_tall(blocks: &[Block], high: u32) -> Option<u32>
+pub(crate) fn first_tall(blocks: &[Block], high: u32) -> Option<u32>
     requires few { length blocks.now < 2 ^ 32 }
     requires good { AreGoodBlocks blocks.now }
     ensures { result ≡ first_tall high blocks.now }
@@ -167,7 +167,7 @@ fn next_place(high: u32, place: Place, block: Block, more: &[Block]) -> Place
     }
 }
 
-fn spot_at(high: u32, place: Place) -> Spot
+pub(crate) fn spot_at(high: u32, place: Place) -> Spot
     requires { place.down ≤ 2 ^ 32 }
     ensures { result ≡ spot_at high place }
 {

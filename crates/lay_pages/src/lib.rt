@@ -2,10 +2,12 @@
 //! and blocks filled into pages.
 #![tactic(auto)]
 
+pub mod even;
 pub mod filling;
 pub mod stacking;
 pub mod titles;
 
+pub use even::{PageCosts, fill_even};
 pub use filling::{Block, PageError, Placement, Spot, Standing, fill, fill_behind};
 pub use mus_laid::{StaffMarks, SystemMarks};
 pub use stacking::{Heights, stack};

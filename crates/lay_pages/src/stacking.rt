@@ -1,5 +1,5 @@
-ghost use Rattle.std.specs.Prelude.{◌≡◌, ◌≤◌, ◌+◌, ◌^◌, pos, ◌-ℤ◌, ◌≤ℤ◌, length, IfOk};
-ghost use Rattle.lay_pages.specs.Stacking.{AreGoodStaves, AreStacked, above_base, below_base, under_top, bases_under, bottom_from};
+ghost use Rattle.std.specs.Prelude.{◌≡◌, ◌≤◌, ◌-◌, ◌++◌, ◌^◌, pos, ◌-ℤ◌, ◌≤ℤ◌, length, IfOk, OnOk};
+ghost use Rattle.lay_pages.specs.Stacking.{AreGoodStaves, AreStacked, above_base, below_base, under_top, bases_behind, bases_under, bottom_behind, bottom_under};
 
 use mus_laid::{StaffMarks, SystemMarks};
 use mus_units::{Memory, Row};
@@ -14,16 +14,18 @@ pub struct Heights {
 }
 
 /// The staves of a system under one another: the highest mark of the first is at
-/// the top, and each next staff's highest mark is 500 u under the lowest mark of
-/// the one before. The block ends at the lowest mark of the last.
-pub fn stack(alloc: Global, system: &SystemMarks) -> Result<Heights, Memory>
+/// the top, and each next staff's highest mark lies under the lowest mark of the
+/// one before, as far as the gap before it says. There is a gap for each staff but
+/// the first, in u. The block ends at the lowest mark of the last.
+pub fn stack(alloc: Global, system: &SystemMarks, gaps: &[u32]) -> Result<Heights, Memory>
     requires few { length system.now.staves ≤ 16 }
     requires good { AreGoodStaves system.now.staves }
-    ensures stacked { IfOk result (λ h. AreStacked (pos 0) system.now.staves h.bases (pos 0 -ℤ h.height)) }
+    requires gaps { length gaps.now ≡ length system.now.staves - 1 }
+    ensures stacked { IfOk result (λ h. AreStacked (pos 0) gaps.now system.now.staves h.bases (pos 0 -ℤ h.height)) }
     ensures low { IfOk result (λ h. pos 0 ≤ℤ h.height) }
     ensures high { IfOk result (λ h. h.height ≤ℤ pos (2 ^ 40)) }
 {
-    let (bases, bottom) = bases_under(alloc, system.staves.as_slice())?;
+    let (bases, bottom) = bases_under(alloc, system.staves.as_slice(), gaps)?;
     Ok(Heights {
         bases,
         height: bottom as i64,
@@ -58,21 +60,48 @@ fn under_top(down: u64) -> i64
     -(down as i64)
 }
 
+/// The bases of staves under one whose lowest mark lies so far below the top. Tells how far
+/// the lowest mark of the last of all lies below it.
+fn put_bases(
+    bases: &mut Row<i64>,
+    bottom: u64,
+    staves: &[StaffMarks],
+    gaps: &[u32],
+) -> Result<u64, Memory>
+    requires few { length staves.now ≤ 16 }
+    requires each { length gaps.now ≡ length staves.now }
+    requires low { bottom ≤ 2 ^ 33 }
+    ensures bases { OnOk result (bases.new ≡ bases.old ++ bases_behind bottom staves.now gaps.now) }
+    ensures bottom { IfOk result (λ r. r ≡ bottom_behind bottom staves.now gaps.now) }
+    ensures within { IfOk result (λ r. r ≤ 2 ^ 40) }
+{
+    let mut bottom = bottom;
+    for (staff, gap) in staves.iter().zip(gaps) {
+        let base = bottom + u64::from(*gap) + above_base(staff.high);
+        bases.push(under_top(base))?;
+        bottom = base + below_base(staff.low);
+    }
+    Ok(bottom)
+}
+
 /// The bases of staves, and how far the lowest mark of the last lies below the top.
-fn bases_under(alloc: Global, staves: &[StaffMarks]) -> Result<(Row<i64>, u64), Memory>
-    requires { length staves.now ≤ 16 }
-    ensures bases { IfOk result (λ r. r.0 ≡ bases_under 0 staves.now) }
-    ensures bottom { IfOk result (λ r. r.1 ≡ bottom_from 0 0 staves.now) }
+fn bases_under(
+    alloc: Global,
+    staves: &[StaffMarks],
+    gaps: &[u32],
+) -> Result<(Row<i64>, u64), Memory>
+    requires few { length staves.now ≤ 16 }
+    requires each { length gaps.now ≡ length staves.now - 1 }
+    ensures bases { IfOk result (λ r. r.0 ≡ bases_under staves.now gaps.now) }
+    ensures bottom { IfOk result (λ r. r.1 ≡ bottom_under staves.now gaps.now) }
     ensures within { IfOk result (λ r. r.1 ≤ 2 ^ 40) }
 {
     let mut bases = Row::new(alloc);
-    let mut top: u64 = 0;
-    let mut bottom: u64 = 0;
-    for staff in staves {
-        let base = top + above_base(staff.high);
-        bases.push(under_top(base))?;
-        bottom = base + below_base(staff.low);
-        top = bottom + 500;
-    }
+    let [first, more @ ..] = staves else {
+        return Ok((bases, 0));
+    };
+    let base = above_base(first.high);
+    bases.push(under_top(base))?;
+    let bottom = put_bases(&mut bases, base + below_base(first.low), more, gaps)?;
     Ok((bases, bottom))
 }

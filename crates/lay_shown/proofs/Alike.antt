@@ -1,16 +1,8 @@
 -- Marks that are alike but for their heights stand at the same columns and show the same texts.
 use Rattle.std.proofs.Common.{◌≡◌, ◌∙◌, sym, ap, subst, refl, ℕ, ◌<◌, List, [], ◌∷◌, ◌++◌, length, map, flat_map, get_or, arith}
-use Rattle.std.specs.List.{All}
-use Rattle.std.proofs.lemmas.List.{get_or-map, length-map}
-use Rattle.mus_laid.specs.declared.laid.Laid.{Laid}
-use Rattle.mus_laid.specs.declared.laid.Mark.{Mark}
-use Rattle.mus_laid.specs.declared.laid.Mark.TheVariants as marks
-use Rattle.mus_laid.specs.declared.laid.StaffMarks.{StaffMarks}
-use Rattle.mus_laid.specs.declared.laid.SystemMarks.{SystemMarks}
-use Rattle.mus_laid.specs.Shapes.{AreAlike, laid_shape, mark_shape, marks_shape, staff_shape}
-use Rattle.lay_shown.specs.Ranks.{AreAnchored, AreRanked, IsRanked, marks_ranks, staves_ranks}
-use Rattle.lay_shown.specs.Shown.{IsShown}
-use Rattle.lay_shown.specs.Texts.{HasPrinted}
+use Rattle.std.{proofs.lemmas.List.get_or-map, proofs.lemmas.List.length-map, specs.List.All}
+use Rattle.mus_laid.specs.{declared.laid.Laid.Laid, declared.laid.Mark.Mark, declared.laid.StaffMarks.StaffMarks, declared.laid.SystemMarks.SystemMarks, Shapes.AreAlike, Shapes.laid_shape, Shapes.mark_shape, Shapes.marks_shape, Shapes.staff_shape}
+use Rattle.lay_shown.specs.{Ranks.AreAnchored, Ranks.AreRanked, Ranks.IsRanked, Ranks.marks_ranks, Ranks.staves_ranks, Shown.IsShown, Texts.HasPrinted}
 
 -- what holds of things holds of others that come to the same
 pub same_in : {X Y : Type 0} (f : X → Y) (P : X → Type 0) → ((x y : X) → f x ≡ f y → P x → P y)
@@ -21,11 +13,11 @@ same_in f P h xs ys e all k d l =
     (sym (get_or-map f xs k d (f d) less) ∙ ap (λ zs. get_or zs k (f d)) e ∙ get_or-map f ys k d (f d) l) (all k d less)
 
 ranked_shape : (n : ℕ) (x : Mark) → IsRanked n (mark_shape x) ≡ IsRanked n x
-ranked_shape n (marks.Glyph glyph rank dx dy) = refl
+ranked_shape n (Mark.Glyph glyph rank dx dy) = refl
 ranked_shape n _ = refl
 
 printed_shape : (x : Mark) → HasPrinted (mark_shape x) ≡ HasPrinted x
-printed_shape (marks.Glyph glyph rank dx dy) = refl
+printed_shape (Mark.Glyph glyph rank dx dy) = refl
 printed_shape _ = refl
 
 ranks_shape : (all : List Laid) → marks_ranks (marks_shape all) ≡ marks_ranks all
@@ -34,9 +26,9 @@ ranks_shape (x ∷ all) = by x.mark (ranks_shape all)
   where
     by : (mark : Mark) → marks_ranks (marks_shape all) ≡ marks_ranks all
         → marks_ranks (marks_shape (record { mark = mark; lane = x.lane } ∷ all)) ≡ marks_ranks (record { mark = mark; lane = x.lane } ∷ all)
-    by (marks.Glyph glyph rank dx dy) e = ap (λ t. rank ∷ t) e
-    by (marks.Words size rank dx dy text) e = ap (λ t. rank ∷ t) e
-    by (marks.Stem rank dx from to) e = ap (λ t. rank ∷ t) e
+    by (Mark.Glyph glyph rank dx dy) e = ap (λ t. rank ∷ t) e
+    by (Mark.Words size rank dx dy text) e = ap (λ t. rank ∷ t) e
+    by (Mark.Stem rank dx from to) e = ap (λ t. rank ∷ t) e
     by _ e = e
 
 staves_shape : (staves : List StaffMarks) → staves_ranks staves ≡ flat_map marks_ranks (map staff_shape staves)

@@ -2,15 +2,9 @@
 use Rattle.std.proofs.Common.{◌≡◌, Bool, true, false, if◌then◌else◌, List, [], ◌∷◌, ◌++◌, length, map, refl}
 use Rattle.std.specs.List.{AllByRecursion, Contains}
 use Rattle.mus_stems.proofs.RunLaws.{all_append}
-use Rattle.mus_time.specs.declared.keys.ColumnKey.{ColumnKey}
-use Rattle.mus_time.specs.Order.{is_below, rank_of}
-use Rattle.mus_time.proofs.RankLaws.{rank_less, rank_rises_more}
-use Rattle.mus_laid.specs.declared.drawn.Bridge.{Bridge}
-use Rattle.mus_laid.specs.declared.drawn.Span.{Span}
-use Rattle.mus_laid.specs.declared.drawn.Span.TheVariants as spans
-use Rattle.mus_laid.specs.Ranked.{bridge_at, span_at}
-use Rattle.lay_shown.specs.Ranks.{IsRanked}
-use Rattle.lay_shown.proofs.Standing.{Ranked}
+use Rattle.mus_time.{specs.declared.keys.ColumnKey.ColumnKey, specs.Order.is_below, specs.Order.rank_of, proofs.RankLaws.rank_less, proofs.RankLaws.rank_rises_more}
+use Rattle.mus_laid.specs.{declared.drawn.Bridge.Bridge, declared.drawn.Span.Span, Ranked.bridge_at, Ranked.span_at}
+use Rattle.lay_shown.{specs.Ranks.IsRanked, proofs.Standing.Ranked}
 
 module _ (keys : List ColumnKey) where
   -- from one of the columns to a later one
@@ -30,8 +24,8 @@ module _ (keys : List ColumnKey) where
   unless false b h = (h refl, tt)
 
   span_ranked : (left right : ColumnKey) (s : Span) → IsBetween left right → IsRanked (length keys) (span_at (rank_of keys left) (rank_of keys right) s)
-  span_ranked left right (spans.Beam way from to) h = (rank_rises_more keys left right h.rise h.first, rank_less keys right h.last)
-  span_ranked left right (spans.Arc from to bulge) h = (rank_rises_more keys left right h.rise h.first, rank_less keys right h.last)
+  span_ranked left right (Span.Beam way from to) h = (rank_rises_more keys left right h.rise h.first, rank_less keys right h.last)
+  span_ranked left right (Span.Arc from to bulge) h = (rank_rises_more keys left right h.rise h.first, rank_less keys right h.last)
 
   pub bridges_ranked : (bs : List Bridge) → AreBetween bs → Ranked (length keys) (map (bridge_at keys) bs)
   bridges_ranked [] h = tt

@@ -1,23 +1,12 @@
 -- Beams and arcs of a voice go from one of the columns of its system to a later one.
 use Rattle.std.proofs.Common.{◌∙◌, ℕ, ◌-◌, ◌<◌, ◌≤◌, List, ◌++◌, drop, get_or, arith}
 use Rattle.std.specs.List.{All, slice_range}
-use Rattle.mus_score.specs.declared.score.Score.{Score}
-use Rattle.mus_score.specs.GoodScore.{IsGoodScore, IsGoodVoice}
-use Rattle.mus_time.specs.declared.keys.ColumnKey.{ColumnKey}
-use Rattle.mus_time.specs.Keys.{AreKeys, called_keys, head_key}
-use Rattle.mus_time.specs.Onsets.{timeline_of}
-use Rattle.mus_time.proofs.Places.{places_of}
+use Rattle.mus_score.specs.{declared.score.Score.Score, GoodScore.IsGoodScore, GoodScore.IsGoodVoice}
+use Rattle.mus_time.{specs.declared.keys.ColumnKey.ColumnKey, specs.Keys.AreKeys, specs.Keys.called_keys, specs.Onsets.timeline_of, proofs.Places.places_of}
 use Rattle.mus_stems.proofs.RunLaws.{all_drop, all_take}
 use Rattle.mus_drawn.specs.Drawn.{drawn_voice}
-use Rattle.mus_marks.specs.Arcs.{arcs_between}
-use Rattle.mus_marks.specs.Bridges.{beams_between, bridges_of, grace_beams_between}
-use Rattle.mus_marks.proofs.Lines.{voice_count}
-use Rattle.lay_shown.proofs.Arcs.{arcs_go_on, voice_arcs_go}
-use Rattle.mus_marks.proofs.GoingOn.{GoOn, voice_goes_on}
-use Rattle.lay_shown.proofs.Beams.{beams_go}
-use Rattle.lay_shown.proofs.Between.{AreBetween, both}
-use Rattle.lay_shown.proofs.GraceBeams.{grace_beams_go}
-use Rattle.mus_marks.proofs.Inside.{here, measures_inside, voices_called}
+use Rattle.mus_marks.{specs.Arcs.arcs_between, specs.Bridges.beams_between, specs.Bridges.bridges_of, specs.Bridges.grace_beams_between, proofs.Lines.voice_count, proofs.GoingOn.GoOn, proofs.GoingOn.voice_goes_on, proofs.Inside.head_inside, proofs.Inside.measures_inside}
+use Rattle.lay_shown.proofs.{Arcs.arcs_go_on, Arcs.voice_arcs_go, Beams.beams_go, Between.AreBetween, Between.both, GraceBeams.grace_beams_go}
 
 module _ (s : Score) (a b : ℕ) (keys : List ColumnKey) (good : IsGoodScore s) (order : a < b) (within : b ≤ s.measures) (are : AreKeys keys (called_keys s (timeline_of s).lengths a b)) where
   pub voices_between : All (λ v. AreBetween keys (bridges_of (timeline_of s).lengths a b (drawn_voice v))) s.voices
@@ -29,7 +18,7 @@ module _ (s : Score) (a b : ℕ) (keys : List ColumnKey) (good : IsGoodScore s) 
       let ds = (drawn_voice v).measures in
       let some = slice_range ds a b in
       let on = voice_goes_on v own in
-      let have = measures_inside s lengths a b keys are k d inside in
+      let have = measures_inside s lengths a b keys good within are k d inside in
       both keys (beams_between a some ++ grace_beams_between a some) (arcs_between lengths a b ds (drawn_voice v).arcs)
       (both keys (beams_between a some) (grace_beams_between a some)
       (beams_go keys lengths a some have (all_take (λ d. GoOn d.events) (b - a) (drop a ds) (all_drop (λ d. GoOn d.events) a ds on)))
@@ -37,7 +26,7 @@ module _ (s : Score) (a b : ℕ) (keys : List ColumnKey) (good : IsGoodScore s) 
       (arcs_go_on keys lengths a b ds (record {
         order = order;
         enough = omega (arith, count, within);
-        head = voices_called s lengths a b keys are k d inside (head_key a) (here (head_key a) _);
+        head = head_inside s lengths a b keys good (omega (arith, inside)) are;
         measures = have;
         places = places_of s a b keys good order within are;
         on = on;

@@ -2,35 +2,13 @@
 -- just where it changes what is drawn.
 use Rattle.std.proofs.Common.{◌≡◌, ◌∙◌, ℕ, zero, suc, ℤ, ◌+◌, ◌*◌, ◌≤◌, Bool, true, false, ◌||◌, nat_le, List, [], ◌∷◌, ◌++◌, length, Option, Some, None, is_some, refl, ap, arith}
 use Rattle.std.proofs.lemmas.Bool.Decides.{nat_tests}
-use Rattle.mus_units.specs.declared.glyph.Glyph.{Glyph}
-use Rattle.mus_units.specs.declared.key.Key.{Key}
-use Rattle.mus_units.specs.declared.key.Meter.{Meter}
-use Rattle.mus_units.specs.declared.key.Meter.TheVariants as meters
-use Rattle.mus_units.specs.declared.key.Sign.{Sign}
-use Rattle.mus_units.specs.declared.note.Bar.{Bar}
-use Rattle.mus_units.specs.declared.note.Head.{Head}
-use Rattle.mus_units.specs.declared.pitch.Clef.{Clef}
-use Rattle.mus_units.specs.declared.value.Base.{Base}
-use Rattle.mus_units.specs.declared.value.Base.TheVariants as bases
-use Rattle.mus_score.specs.declared.score.Changes.{Changes}
-use Rattle.mus_score.specs.declared.score.Event.{Event}
-use Rattle.mus_score.specs.declared.score.Look.{Look}
-use Rattle.mus_score.specs.declared.score.Look.TheVariants as looks
-use Rattle.mus_stems.specs.declared.plans.StemPlan.{StemPlan}
-use Rattle.mus_stems.specs.Stills.{flags_of}
-use Rattle.mus_time.specs.Keys.{change_has_mark, key_has_mark, meter_has_mark}
-use Rattle.mus_time.proofs.RankLaws.{false_not_true}
+use Rattle.mus_units.specs.declared.{glyph.Glyph.Glyph, key.Key.Key, key.Meter.Meter, key.Sign.Sign, note.Bar.Bar, note.Head.Head, pitch.Clef.Clef, value.Base.Base}
+use Rattle.mus_score.specs.{declared.score.Changes.Changes, declared.score.Event.Event, declared.score.Look.Look}
+use Rattle.mus_stems.specs.{declared.plans.StemPlan.StemPlan, Stills.flags_of}
+use Rattle.mus_time.{specs.Keys.change_has_mark, specs.Keys.key_has_mark, specs.Keys.meter_has_mark, proofs.RankLaws.false_not_true}
 use Rattle.mus_laid.specs.declared.drawn.Drawn.{Drawn}
-use Rattle.mus_ink.specs.declared.graces.Group.{Group}
-use Rattle.mus_ink.specs.Bars.{bar_marks}
-use Rattle.mus_ink.specs.Changes.{behind_clef, change_marks, clef_if, count_if, head_marks, key_if, new_entries}
-use Rattle.mus_ink.specs.Decos.{body_marks, note_marks}
-use Rattle.mus_ink.specs.Distances.{entry_gap, entry_step}
-use Rattle.mus_ink.specs.Graces.{grace_body, grace_marks}
-use Rattle.mus_ink.specs.Kinds.{head_glyph}
-use Rattle.mus_ink.specs.Notes.{dot_marks, heads_marks, ledger_marks, note_heads, sign_marks}
-use Rattle.mus_ink.specs.Rests.{rest_dots, rest_glyphs, rest_marks, short_rests}
-use Rattle.mus_ink.specs.Signatures.{meter_if, meter_marks}
+use Rattle.mus_ink.specs.{declared.graces.Group.Group, Bars.bar_marks, Changes.behind_clef, Changes.change_marks, Changes.clef_if, Changes.count_if, Changes.head_marks, Changes.key_if, Changes.new_entries, Decos.body_marks, Decos.note_marks, Distances.entry_gap, Distances.entry_step}
+use Rattle.mus_ink.specs.{Graces.grace_body, Graces.grace_marks, Kinds.head_glyph, Notes.dot_marks, Notes.heads_marks, Notes.ledger_marks, Notes.note_heads, Notes.sign_marks, Rests.rest_dots, Rests.rest_glyphs, Rests.rest_marks, Rests.short_rests, Signatures.meter_if, Signatures.meter_marks}
 use Rattle.mus_ink.specs.Stems.{stem_marks}
 use Rattle.lay_shown.proofs.Planned.{IsPlanOf}
 
@@ -79,10 +57,10 @@ key_has c first old (Some k) = signs_have c first old k.signs
 meter_has : (dx : ℕ) (m : Option Meter) → has_some (meter_if dx m) ≡ meter_has_mark m
 unfolding meter_marks
 meter_has dx None = refl
-meter_has dx (Some meters.Free) = refl
-meter_has dx (Some meters.Common) = refl
-meter_has dx (Some meters.Cut) = refl
-meter_has dx (Some (meters.Ratio num den)) = refl
+meter_has dx (Some Meter.Free) = refl
+meter_has dx (Some Meter.Common) = refl
+meter_has dx (Some Meter.Cut) = refl
+meter_has dx (Some (Meter.Ratio num den)) = refl
 
 pub change_has : (c : Clef) (old : List Sign) (ch : Changes) → has_some (change_marks c old ch) ≡ change_has_mark (nat_le 1 (length old)) ch
 unfolding change_marks
@@ -100,19 +78,19 @@ shorts_some g top zero h = absurd (omega (arith, h))
 shorts_some g top (suc n) h = refl
 
 rest_some : (raise : ℤ) (base : Base) (n : ℕ) → n ≡ flags_of base → HasSome (rest_glyphs raise base n)
-rest_some raise bases.Breve n e = refl
-rest_some raise bases.Whole n e = refl
-rest_some raise bases.Half n e = refl
-rest_some raise bases.Quarter n e = refl
-rest_some raise bases.Eighth n e = shorts_some _ _ n (omega (arith, e))
-rest_some raise bases.N16 n e = shorts_some _ _ n (omega (arith, e))
-rest_some raise bases.N32 n e = shorts_some _ _ n (omega (arith, e))
-rest_some raise bases.N64 n e = shorts_some _ _ n (omega (arith, e))
+rest_some raise Base.Breve n e = refl
+rest_some raise Base.Whole n e = refl
+rest_some raise Base.Half n e = refl
+rest_some raise Base.Quarter n e = refl
+rest_some raise Base.Eighth n e = shorts_some _ _ n (omega (arith, e))
+rest_some raise Base.N16 n e = shorts_some _ _ n (omega (arith, e))
+rest_some raise Base.N32 n e = shorts_some _ _ n (omega (arith, e))
+rest_some raise Base.N64 n e = shorts_some _ _ n (omega (arith, e))
 
 look_some : (raise : ℤ) (look : Look) (base : Base) (dots n : ℕ) → n ≡ flags_of base → HasSome (rest_marks raise look base dots n)
-look_some raise looks.Unseen base dots n e = refl
-look_some raise looks.Whole base dots n e = refl
-look_some raise looks.Seen base dots n e = left (rest_glyphs raise base n) (rest_dots raise 0 dots) (rest_some raise base n e)
+look_some raise Look.Unseen base dots n e = refl
+look_some raise Look.Whole base dots n e = refl
+look_some raise Look.Seen base dots n e = left (rest_glyphs raise base n) (rest_dots raise 0 dots) (rest_some raise base n e)
 
 heads_some : (c : Clef) (g : Glyph) (h : Head) (hs : List Head) (dxs : List ℤ) → length dxs ≡ length (h ∷ hs) → HasSome (note_heads c g (h ∷ hs) dxs)
 heads_some c g h hs [] e = absurd (omega (arith, e))

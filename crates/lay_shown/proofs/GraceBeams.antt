@@ -1,20 +1,14 @@
 -- The beam of graces goes from the column of the first to that of the last, where there are two or more.
 use Rattle.std.proofs.Common.{◌≡◌, ℕ, suc, ◌+◌, ◌<◌, true, false, ◌==◌, List, [], ◌∷◌, length, refl, ap, subst, arith}
-use Rattle.std.specs.List.{AllByRecursion, flat_map}
-use Rattle.std.proofs.lemmas.Bool.Decides.{nat_tests}
+use Rattle.std.{proofs.lemmas.Bool.Decides.nat_tests, specs.List.AllByRecursion, specs.List.flat_map}
 use Rattle.mus_score.specs.declared.score.Event.{Event}
-use Rattle.mus_time.specs.declared.keys.Class.TheVariants as classes
-use Rattle.mus_time.specs.declared.keys.ColumnKey.{ColumnKey}
-use Rattle.mus_time.specs.Keys.{key_at}
-use Rattle.mus_time.specs.Order.{is_below}
+use Rattle.mus_time.specs.{declared.keys.Class.Class, declared.keys.ColumnKey.ColumnKey, Keys.key_at, Order.is_below}
 use Rattle.mus_ink.specs.Graces.{grace_beam, group_of}
-use Rattle.mus_drawn.specs.declared.drawn.DrawnEvent.{DrawnEvent}
-use Rattle.mus_drawn.specs.declared.drawn.DrawnMeasure.{DrawnMeasure}
-use Rattle.mus_marks.specs.Bridges.{beam_over, event_grace_beam, grace_beams_between}
+use Rattle.mus_drawn.specs.{declared.drawn.DrawnEvent.DrawnEvent, declared.drawn.DrawnMeasure.DrawnMeasure}
+use Rattle.mus_marks.{specs.Bridges.beam_over, specs.Bridges.event_grace_beam, specs.Bridges.grace_beams_between, proofs.Inside.HasEvent, proofs.Inside.HasMeasures}
 use Rattle.lay_shown.proofs.Between.{AreBetween, both, unless}
-use Rattle.mus_marks.proofs.Inside.{HasEvent, HasMeasures}
 
-further_below : (m tick i j : ℕ) → i < j → is_below (key_at m tick classes.Grace i) (key_at m tick classes.Grace j) ≡ true
+further_below : (m tick i j : ℕ) → i < j → is_below (key_at m tick Class.Grace i) (key_at m tick Class.Grace j) ≡ true
 unfolding is_below
 further_below m tick i j h = grind (arith, nat_tests)
 

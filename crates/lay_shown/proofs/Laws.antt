@@ -1,89 +1,129 @@
 -- A system that a good score calls for can be shown.
-use Rattle.std.proofs.Common.{◌≡◌, ◌∙◌, sym, ap, subst, ℕ, ◌<◌, ◌≤◌, true, ◌==◌, get_or, inl, inr, List, [], ◌∷◌, length, map, arith}
-use Rattle.std.specs.List.{AllByRecursion, Contains, flat_map, list_any}
-use Rattle.std.specs.Prelude.{All, IsTrue}
-use Rattle.std.proofs.lemmas.Bool.Decides.{nat_tests}
-use Rattle.std.proofs.lemmas.List.{length-map}
-use Rattle.std.proofs.lemmas.List.Elements.{All-from_recursion, All-map, Contains-append_cases, Contains-append_left, Contains-append_right, Contains-get_or, recursion_from_All}
-use Rattle.std.proofs.lemmas.List.Folds.{flat_map-map, list_any_at}
-use Rattle.mus_score.specs.declared.score.Score.{Score}
-use Rattle.mus_score.specs.declared.score.Voice.{Voice}
-use Rattle.mus_score.specs.GoodScore.{IsGoodScore}
-use Rattle.mus_time.specs.Keys.{head_key, voice_keys}
-use Rattle.mus_time.specs.Onsets.{timeline_of}
-use Rattle.mus_time.specs.Order.{rank_of}
-use Rattle.mus_time.proofs.RankLaws.{rank_at_place}
-use Rattle.mus_laid.specs.declared.laid.StaffMarks.{StaffMarks}
-use Rattle.mus_laid.specs.declared.laid.SystemMarks.{SystemMarks}
-use Rattle.mus_drawn.specs.Drawn.{drawn_voice}
-use Rattle.mus_marks.specs.Bridges.{bridges_of}
-use Rattle.mus_marks.specs.System.{IsCall, staff_of}
-use Rattle.lay_shown.specs.Ranks.{AreAnchored, AreRanked, IsRanked, marks_ranks, staves_ranks}
-use Rattle.lay_shown.specs.Shown.{IsShown}
-use Rattle.lay_shown.proofs.Between.{bridges_ranked}
-use Rattle.lay_shown.proofs.Bridged.{voices_between}
-use Rattle.mus_marks.proofs.Inside.{voices_called}
-use Rattle.lay_shown.proofs.Printed.{texts_printed}
-use Rattle.lay_shown.proofs.Standing.{Fill, staff_fills}
+use Rattle.std.proofs.Common.{◌≡◌, ◌∙◌, refl, sym, ap, subst, ℕ, zero, suc, ◌<◌, ◌≤◌, true, ◌==◌, get_or, inl, inr, List, [], ◌∷◌, ◌++◌, length, map, Option, Some, None, arith}
+use Rattle.std.proofs.lemmas.{Bool.Decides.nat_tests, Grind.flat_map-append, List.length-map, List.Elements.All-from_recursion, List.Elements.All-map, List.Elements.Contains-append_cases, List.Elements.Contains-append_left, List.Elements.Contains-append_right, List.Elements.Contains-get_or}
+use Rattle.std.{proofs.lemmas.List.Elements.recursion_from_All, proofs.lemmas.List.Folds.flat_map-map, proofs.lemmas.List.Folds.list_any_at, specs.List.AllByRecursion, specs.List.Contains, specs.List.cons_option, specs.List.flat_map, specs.List.list_any, specs.Prelude.All, specs.Prelude.IsTrue}
+use Rattle.mus_score.specs.{declared.score.Score.Score, declared.score.Voice.Voice, GoodScore.IsGoodScore, Seats.is_lower}
+use Rattle.mus_time.{specs.declared.keys.ColumnKey.ColumnKey, specs.Keys.head_key, specs.Keys.keys_by, specs.Keys.voice_keys, specs.Onsets.timeline_of, specs.Order.rank_of, proofs.RankLaws.false_not_true, proofs.RankLaws.rank_at_place}
+use Rattle.mus_laid.specs.{declared.laid.Laid.Laid, declared.laid.StaffMarks.StaffMarks, declared.laid.SystemMarks.SystemMarks, Ranked.anchor_rank, Ranked.is_rank}
+use Rattle.mus_drawn.specs.{declared.drawn.DrawnVoice.DrawnVoice, Drawn.drawn_voice}
+use Rattle.mus_marks.specs.{Staff.staff_marks, System.IsCall, System.drawn_staves, System.stands_lower}
+use Rattle.mus_marks.proofs.{Groups.grouped_all, Groups.grouped_whole, Inside.AreAmong, Inside.here, Inside.there, Inside.voice_same, Inside.voices_called, Lines.voice_count}
+use Rattle.lay_shown.{specs.Ranks.AreAnchored, specs.Ranks.AreRanked, specs.Ranks.IsRanked, specs.Ranks.marks_ranks, specs.Ranks.staves_ranks, specs.Shown.IsShown, proofs.Bridged.voices_between, proofs.Planned.voice_planned, proofs.Printed.texts_printed, proofs.Standing.HasRank}
+use Rattle.lay_shown.proofs.{Standing.same_rank, Staves.IsInside, Staves.own_columns, Staves.staff_holds, Staves.staff_ranked}
 
--- what one of the voices has, the staff of that voice has
-of_voices : {K N : Type 0} (f : Voice → List K) (g : Voice → List N) (k : K) (n : N) (vs : List Voice) → AllByRecursion (λ v. Contains (f v) k → Contains (g v) n) vs
-    → Contains (flat_map f vs) k → Contains (flat_map g vs) n
-of_voices f g k n [] h (i, inside, is) = absurd (omega (arith, inside))
-of_voices f g k n (v ∷ vs) h has = elim (Contains-append_cases (f v) (flat_map f vs) k has) [
-  | inl own ↦ Contains-append_left (g v) (flat_map g vs) n (h.0 own)
-  | inr more ↦ Contains-append_right (g v) (flat_map g vs) n (of_voices f g k n vs h.1 more)
+-- what one of some things has, others have by that thing
+of_each : {X K N : Type 0} (f : X → List K) (g : X → List N) (k : K) (n : N) (xs : List X) → AllByRecursion (λ x. Contains (f x) k → Contains (g x) n) xs
+    → Contains (flat_map f xs) k → Contains (flat_map g xs) n
+of_each f g k n [] h (i, inside, is) = absurd (omega (arith, inside))
+of_each f g k n (x ∷ xs) h has = elim (Contains-append_cases (f x) (flat_map f xs) k has) [
+  | inl own ↦ Contains-append_left (g x) (flat_map g xs) n (h.0 own)
+  | inr more ↦ Contains-append_right (g x) (flat_map g xs) n (of_each f g k n xs h.1 more)
 ]
 
-same_rank : (n : ℕ) → (n == n) ≡ true
-same_rank n = grind (arith, nat_tests)
+over_groups : {X Y : Type 0} (f : X → List Y) (groups : List (List X)) → flat_map f (flat_map (λ g. g) groups) ≡ flat_map (flat_map f) groups
+over_groups f [] = refl
+over_groups f (g ∷ groups) = flat_map-append f g (flat_map (λ g. g) groups) ∙ ap (λ t. flat_map f g ++ t) (over_groups f groups)
+
+-- the rank of a mark is among those of its list
+equal : (r q : ℕ) → (r == q) ≡ true → q ≡ r
+equal r q e = grind (arith, nat_tests)
+
+rank_is : (r : ℕ) (o : Option ℕ) → is_rank r o ≡ true → o ≡ Some r
+rank_is r None e = absurd (false_not_true e)
+rank_is r (Some q) e = ap Some (equal r q e)
+
+rank_held : (r : ℕ) (x : Laid) (xs : List Laid) → anchor_rank x.mark ≡ Some r → Contains xs x → Contains (marks_ranks xs) r
+rank_held r x [] is (i, inside, same) = absurd (omega (arith, inside))
+rank_held r x (y ∷ xs) is (zero, inside, same) =
+    subst (λ o. Contains (cons_option o (marks_ranks xs)) r) (sym (ap (λ (l : Laid). anchor_rank l.mark) same ∙ is)) (here r (marks_ranks xs))
+rank_held r x (y ∷ xs) is (suc i, inside, same) = by (anchor_rank y.mark) (rank_held r x xs is (i, omega (arith, inside), same))
+  where
+    by : (o : Option ℕ) → Contains (marks_ranks xs) r → Contains (cons_option o (marks_ranks xs)) r
+    by None more = more
+    by (Some q) more = there r q (marks_ranks xs) more
+
+ranks_hold : (r : ℕ) (xs : List Laid) → HasRank r xs → Contains (marks_ranks xs) r
+ranks_hold r xs h = rank_held r h.0 xs (rank_is r (anchor_rank h.0.mark) h.2) h.1
 
 found : (n : ℕ) (ranks : List ℕ) → Contains ranks n → IsTrue (list_any (λ r. n == r) ranks)
 found n ranks (i, inside, is) = list_any_at (λ r. n == r) ranks i n inside (ap (λ r. n == r) is ∙ same_rank n)
+
+own_same : (lengths : List ℕ) (a b : ℕ) (v : Voice) → voice_keys lengths a b v ≡ own_columns lengths a b (drawn_voice v)
+unfolding drawn_voice
+own_same lengths a b v = ap (keys_by (is_lower v.seat)) (voice_same lengths a b v)
 
 module _ (s : Score) (a b : ℕ) (m : SystemMarks) (good : IsGoodScore s) (rises : a < b) (within : b ≤ s.measures) (call : IsCall s (timeline_of s) a b m) where
   abbrev lengths : List ℕ
   lengths = (timeline_of s).lengths
 
-  abbrev staff : Voice → StaffMarks
-  staff = staff_of m.keys lengths a b
+  abbrev staff : List DrawnVoice → StaffMarks
+  staff = staff_marks m.keys lengths a b
 
-  staves_fill : All (λ v. Fill m.keys (voice_keys lengths a b v) (staff v).marks) s.voices
-  staves_fill k d inside =
+  voices_inside : All (IsInside m.keys lengths a b) (map drawn_voice s.voices)
+  voices_inside = All-map (IsInside m.keys lengths a b) drawn_voice s.voices (λ k d inside.
       let v = get_or s.voices k d in
-      let same = good.measures k d inside in
-      staff_fills m.keys lengths a b v rises (omega (arith, within, same))
-      (bridges_ranked m.keys (bridges_of lengths a b (drawn_voice v)) (voices_between s a b m.keys good rises within call.keys k d inside))
+      let same = voice_count v ∙ good.measures k d inside in record {
+        long = omega (arith, within, same);
+        planned = voice_planned v;
+        among = subst (λ t. AreAmong t m.keys) (own_same lengths a b v) (voices_called s lengths a b m.keys call.keys k d inside);
+        between = voices_between s a b m.keys good rises within call.keys k d inside;
+      })
 
-  staves_ranked : All (λ v. AreRanked (length m.keys) (staff v).marks) s.voices
-  staves_ranked k d inside =
-      All-from_recursion (λ laid. IsRanked (length m.keys) laid.mark) (staff (get_or s.voices k d)).marks
-      ((staves_fill k d inside).ranked (voices_called s lengths a b m.keys call.keys k d inside))
+  staves_inside : AllByRecursion (AllByRecursion (IsInside m.keys lengths a b)) (drawn_staves s)
+  staves_inside =
+      let voices = map drawn_voice s.voices in
+      grouped_all stands_lower (IsInside m.keys lengths a b) voices (recursion_from_All (IsInside m.keys lengths a b) voices voices_inside)
 
-  staves_anchored : AreAnchored (length m.keys) (staves_ranks (map staff s.voices))
+  each_ranked : (staves : List (List DrawnVoice)) → AllByRecursion (AllByRecursion (IsInside m.keys lengths a b)) staves → AllByRecursion (λ (s : StaffMarks). AreRanked (length m.keys) s.marks) (map staff staves)
+  each_ranked [] h = tt
+  each_ranked (voices ∷ staves) h =
+      (All-from_recursion (λ laid. IsRanked (length m.keys) laid.mark) (staff voices).marks (staff_ranked m.keys lengths a b voices rises h.0), each_ranked staves h.1)
+
+  each_holds : (k : ColumnKey) → Contains m.keys k → (staves : List (List DrawnVoice)) → AllByRecursion (AllByRecursion (IsInside m.keys lengths a b)) staves
+      → AllByRecursion (λ voices. Contains (flat_map (own_columns lengths a b) voices) k → Contains (marks_ranks (staff voices).marks) (rank_of m.keys k)) staves
+  each_holds k inside [] h = tt
+  each_holds k inside (voices ∷ staves) h =
+      (λ has. ranks_hold (rank_of m.keys k) (staff voices).marks (staff_holds m.keys lengths a b voices rises h.0 k inside has), each_holds k inside staves h.1)
+
+  -- a column that is called for is called for by a staff
+  staff_calls : (k : ColumnKey) → Contains m.keys k → Contains (flat_map (flat_map (own_columns lengths a b)) (drawn_staves s)) k
+  staff_calls k inside =
+      let own = own_columns lengths a b in
+      let voices = map drawn_voice s.voices in
+      subst (λ t. Contains t k) (over_groups own (drawn_staves s))
+      (subst (λ t. Contains (flat_map own t) k) (sym (grouped_whole stands_lower voices))
+      (subst (λ t. Contains t k) (sym (flat_map-map own drawn_voice s.voices))
+      (of_each (voice_keys lengths a b) (λ v. own (drawn_voice v)) k k s.voices
+      (recursion_from_All _ s.voices (λ i d within'. subst (λ t. Contains t k) (own_same lengths a b _))) (call.keys.only k inside))))
+
+  staves_anchored : AreAnchored (length m.keys) (staves_ranks (map staff (drawn_staves s)))
   staves_anchored i inside =
       let key = get_or m.keys i (head_key a) in
-      let ranks = λ (v : Voice). marks_ranks (staff v).marks in
-      let each : All (λ v. Contains (voice_keys lengths a b v) key → Contains (ranks v) (rank_of m.keys key)) s.voices = λ k d within'. (staves_fill k d within').anchored key in
-      found i (staves_ranks (map staff s.voices))
-      (subst (λ ns. Contains ns i) (sym (flat_map-map (λ t. marks_ranks t.marks) staff s.voices))
-      (subst (Contains (flat_map ranks s.voices)) (rank_at_place m.keys i (head_key a) call.keys.rise inside)
-      (of_voices (voice_keys lengths a b) ranks key (rank_of m.keys key) s.voices (recursion_from_All _ s.voices each)
-      (call.keys.only key (Contains-get_or m.keys i (head_key a) inside)))))
+      let held = Contains-get_or m.keys i (head_key a) inside in
+      let ranks = λ (voices : List DrawnVoice). marks_ranks (staff voices).marks in
+      found i (staves_ranks (map staff (drawn_staves s)))
+      (subst (λ ns. Contains ns i) (sym (flat_map-map (λ (t : StaffMarks). marks_ranks t.marks) staff (drawn_staves s)))
+      (subst (Contains (flat_map ranks (drawn_staves s))) (rank_at_place m.keys i (head_key a) call.keys.rise inside)
+      (of_each (flat_map (own_columns lengths a b)) ranks key (rank_of m.keys key) (drawn_staves s) (each_holds key held (drawn_staves s) staves_inside) (staff_calls key held))))
 
-  staves_some : 1 ≤ length s.voices → 1 ≤ length m.staves
-  staves_some some =
-      subst (λ (staves : List StaffMarks). 1 ≤ length staves) (sym call.staves)
-      (let same = length-map s.voices staff in omega (arith, same, some))
+  staves_some : 1 ≤ length s.voices → 1 ≤ length (drawn_staves s)
+  staves_some some = by (drawn_staves s) (grouped_whole stands_lower (map drawn_voice s.voices))
+    where
+      by : (staves : List (List DrawnVoice)) → flat_map (λ g. g) staves ≡ map drawn_voice s.voices → 1 ≤ length staves
+      by [] e = let long = ap (λ vs. length vs) e in let count = length-map s.voices drawn_voice in omega (arith, long, count, some)
+      by (voices ∷ staves) e = omega arith
 
 -- what a score with a voice calls for in some of its measures can be shown
 pub call_shown : (s : Score) (a b : ℕ) (m : SystemMarks) → IsGoodScore s → 1 ≤ length s.voices → a < b → b ≤ s.measures → IsCall s (timeline_of s) a b m → IsShown m
-call_shown s a b m good some rises within call = record {
-  rises = let from = call.from in let to = call.to in omega (arith, rises);
-  staves = staves_some s a b m good rises within call some;
-  ranked =
-      subst (λ staves. All (λ (staff : StaffMarks). AreRanked (length m.keys) staff.marks) staves) (sym call.staves)
-      (All-map (λ (staff : StaffMarks). AreRanked (length m.keys) staff.marks) (staff_of m.keys (timeline_of s).lengths a b) s.voices (staves_ranked s a b m good rises within call));
-  anchored = subst (λ staves. AreAnchored (length m.keys) (staves_ranks staves)) (sym call.staves) (staves_anchored s a b m good rises within call);
-  texts = texts_printed s (timeline_of s) a b m good call;
-}
+call_shown s a b m good some rises within call =
+    let staff = staff_marks m.keys (timeline_of s).lengths a b in
+    let count = length-map (drawn_staves s) staff in
+    let staves = staves_some s a b m good rises within call some in record {
+      rises = let from = call.from in let to = call.to in omega (arith, rises);
+      staves = subst (λ (staves : List StaffMarks). 1 ≤ length staves) (sym call.staves) (omega (arith, count, staves));
+      ranked = subst (λ staves. All (λ (staff : StaffMarks). AreRanked (length m.keys) staff.marks) staves) (sym call.staves)
+          (All-from_recursion (λ (staff : StaffMarks). AreRanked (length m.keys) staff.marks) (map staff (drawn_staves s))
+          (each_ranked s a b m good rises within call (drawn_staves s) (staves_inside s a b m good rises within call)));
+      anchored = subst (λ staves. AreAnchored (length m.keys) (staves_ranks staves)) (sym call.staves) (staves_anchored s a b m good rises within call);
+      texts = texts_printed s (timeline_of s) a b m good call;
+    }

@@ -10,4 +10,5 @@ pub mod Planned
 pub mod Printed
 pub mod PrintedTexts
 pub mod Standing
+pub mod Staves
 pub mod TitleRows

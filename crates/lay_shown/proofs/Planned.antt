@@ -1,29 +1,12 @@
 -- The plan of each drawn event has its flags, and a shift for each of its heads.
 use Rattle.std.proofs.Common.{◌≡◌, ◌∙◌, ℕ, ℤ, pos, ◌+◌, Bool, true, false, if◌then◌else◌, List, [], ◌∷◌, ◌++◌, length, Option, Some, None, refl, ap, subst}
-use Rattle.std.specs.List.{AllByRecursion, flat_map, slice_set}
-use Rattle.std.specs.Prelude.{replicate}
-use Rattle.std.proofs.lemmas.List.{length-map, length-replicate, length-set}
-use Rattle.mus_units.specs.declared.note.Wish.{Wish}
-use Rattle.mus_units.specs.declared.pitch.Clef.{Clef}
-use Rattle.mus_score.specs.declared.score.Event.{Event}
-use Rattle.mus_score.specs.declared.score.Flat.{Flat}
-use Rattle.mus_score.specs.declared.score.Measure.{Measure}
-use Rattle.mus_score.specs.declared.score.Voice.{Voice}
-use Rattle.mus_score.specs.GoodScore.{clef_at}
-use Rattle.mus_score.specs.Times.{flats_of}
-use Rattle.mus_stems.specs.declared.heads.Last.{Last}
-use Rattle.mus_stems.specs.declared.heads.Stand.{Stand}
-use Rattle.mus_stems.specs.declared.plans.StemPlan.{StemPlan}
-use Rattle.mus_stems.specs.declared.stills.Still.{Still}
-use Rattle.mus_stems.specs.Beams.{beams, is_joined}
-use Rattle.mus_stems.specs.Ends.{run_end, stands_up}
-use Rattle.mus_stems.specs.Heads.{Taken, gives_way, shift_of, shifted, shifts_of, stand_of, taken}
-use Rattle.mus_stems.specs.Plans.{first_id, plan_of, plans_along, plans_of_runs, run_plans, stems_of}
-use Rattle.mus_stems.specs.Stills.{flags_of, still_of, stills}
-use Rattle.mus_stems.proofs.RunLaws.{runs_are_maximal}
-use Rattle.mus_drawn.specs.declared.drawn.DrawnEvent.{DrawnEvent}
-use Rattle.mus_drawn.specs.declared.standing.Standing.{Standing}
-use Rattle.mus_drawn.specs.Drawn.{clefs_from, drawn_events, drawn_measure, drawn_measures, drawn_voice, standing_after, standing_behind, standing_of}
+use Rattle.std.{proofs.lemmas.List.length-map, proofs.lemmas.List.length-replicate, proofs.lemmas.List.length-set, specs.List.AllByRecursion, specs.List.flat_map, specs.List.slice_set, specs.Prelude.replicate}
+use Rattle.mus_units.specs.{declared.note.Wish.Wish, declared.pitch.Clef.Clef}
+use Rattle.mus_score.specs.{declared.score.Event.Event, declared.score.Flat.Flat, declared.score.Measure.Measure, declared.score.Voice.Voice, declared.score.Seat.Seat, GoodScore.clef_at, Times.flats_of}
+use Rattle.mus_stems.specs.{declared.heads.Last.Last, declared.heads.Stand.Stand, declared.plans.StemPlan.StemPlan, declared.stills.Still.Still, Beams.beams, Beams.is_joined, Ends.run_end, Ends.stands_up, Heads.Taken, Heads.gives_way, Heads.shift_of, Heads.shifted, Heads.shifts_of, Heads.stand_of}
+use Rattle.mus_stems.{specs.Heads.taken, specs.Plans.first_id, specs.Plans.plan_of, specs.Plans.plans_along, specs.Plans.plans_of_runs, specs.Plans.run_plans, specs.Plans.stems_of, specs.Stills.flags_of, specs.Stills.still_of, specs.Stills.stills, proofs.RunLaws.runs_are_maximal}
+use Rattle.mus_drawn.specs.{declared.drawn.DrawnEvent.DrawnEvent, declared.drawn.DrawnMeasure.DrawnMeasure, declared.drawn.Style.Style, declared.standing.Standing.Standing, Drawn.clefs_from, Drawn.drawn_events, Drawn.drawn_measure, Drawn.drawn_measures, Drawn.drawn_voice, Drawn.standing_after}
+use Rattle.mus_drawn.specs.Drawn.{standing_behind, standing_of, style_of}
 
 pub record IsPlanOf (e : Event) (p : StemPlan) : Type 0 where
   pub flags : p.flags ≡ flags_of e.value.base
@@ -111,22 +94,35 @@ stems_planned wish clef fs =
     (subst (λ t. Along IsPlanned t (plans_of_runs wish (beams es))) (runs_are_maximal is_joined es).whole (runs_planned wish (beams es)))
 
 -- ---- drawn events
-abbrev pub ArePlanned : List DrawnEvent → Type 0
-ArePlanned es = AllByRecursion (λ e. IsPlanOf e.flat.event e.plan) es
+-- of a voice at a seat
+pub record IsDrawnAt (seat : Seat) (e : DrawnEvent) : Type 0 where
+  pub sits : e.seat ≡ seat
+  pub plan : IsPlanOf e.flat.event e.plan
 
-events_planned : (tick : ℕ) (now : Standing) (fs : List Flat) (ps : List StemPlan) → Along (λ f p. IsPlanOf f.event p) fs ps → ArePlanned (drawn_events tick now fs ps)
-events_planned tick now [] ps h = tt
-events_planned tick now (f ∷ fs) [] h = tt
-events_planned tick now (f ∷ fs) (p ∷ ps) h = (h.0, events_planned (tick + f.duration) (standing_after now f.event.changes) fs ps h.1)
+abbrev pub ArePlanned : Seat → List DrawnEvent → Type 0
+ArePlanned seat es = AllByRecursion (IsDrawnAt seat) es
 
-measure_planned : (wish : Wish) (now : Standing) (m : Measure) → ArePlanned (drawn_measure wish now m).events
-unfolding drawn_measure
-measure_planned wish now m = events_planned 0 now (flats_of m.body) _ (stems_planned wish now.clef (flats_of m.body))
+-- measures of such a voice
+pub record IsMeasureAt (seat : Seat) (d : DrawnMeasure) : Type 0 where
+  pub sits : d.seat ≡ seat
+  pub events : ArePlanned seat d.events
 
-measures_planned : (wish : Wish) (now : Standing) (ms : List Measure) → AllByRecursion (λ d. ArePlanned d.events) (drawn_measures wish now ms)
-measures_planned wish now [] = tt
-measures_planned wish now (m ∷ ms) = (measure_planned wish now m, measures_planned wish (standing_behind now (flats_of m.body)) ms)
+module _ (style : Style) where
+  events_planned : (tick : ℕ) (now : Standing) (fs : List Flat) (ps : List StemPlan) → Along (λ f p. IsPlanOf f.event p) fs ps
+      → ArePlanned style.seat (drawn_events style tick now fs ps)
+  events_planned tick now [] ps h = tt
+  events_planned tick now (f ∷ fs) [] h = tt
+  events_planned tick now (f ∷ fs) (p ∷ ps) h =
+      (record { sits = refl; plan = h.0 }, events_planned (tick + f.duration) (standing_after now f.event.changes) fs ps h.1)
 
-pub voice_planned : (v : Voice) → AllByRecursion (λ d. ArePlanned d.events) (drawn_voice v).measures
+  measure_planned : (now : Standing) (m : Measure) → IsMeasureAt style.seat (drawn_measure style now m)
+  unfolding drawn_measure
+  measure_planned now m = record { sits = refl; events = events_planned 0 now (flats_of m.body) _ (stems_planned style.wish now.clef (flats_of m.body)) }
+
+  measures_planned : (now : Standing) (ms : List Measure) → AllByRecursion (IsMeasureAt style.seat) (drawn_measures style now ms)
+  measures_planned now [] = tt
+  measures_planned now (m ∷ ms) = (measure_planned now m, measures_planned (standing_behind now (flats_of m.body)) ms)
+
+pub voice_planned : (v : Voice) → AllByRecursion (IsMeasureAt (drawn_voice v).seat) (drawn_voice v).measures
 unfolding drawn_voice
-voice_planned v = measures_planned v.stem (standing_of v) v.measures
+voice_planned v = measures_planned (style_of v) (standing_of v) v.measures

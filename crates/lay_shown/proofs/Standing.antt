@@ -1,41 +1,19 @@
--- The marks of a voice that stand in columns stand in those that the voice draws in, and each of these holds one.
-use Rattle.std.proofs.Common.{ℕ, zero, suc, pos, ◌+◌, ◌-◌, ◌<◌, ◌≤◌, inl, inr, Bool, true, false, ◌==◌, ◌&&◌, if◌then◌else◌, List, [], ◌∷◌, ◌++◌, append_assoc, length, length-drop, length-take, map, drop, Option, sym, subst, arith}
-use Rattle.std.specs.List.{AllByRecursion, Contains, slice_range}
-use Rattle.std.proofs.lemmas.List.Elements.{Contains-append_cases, Contains-append_left, Contains-append_right, filter_map-append}
-use Rattle.mus_units.specs.declared.note.Bar.{Bar}
-use Rattle.mus_units.specs.declared.pitch.Clef.{Clef}
-use Rattle.mus_score.specs.declared.score.Event.{Event}
-use Rattle.mus_score.specs.declared.score.Voice.{Voice}
+-- The marks of the voices of a staff that stand in columns stand in those that these voices call for, and each of these holds one. A lower
+-- voice of a staff has columns of its notes and graces alone.
+use Rattle.std.proofs.Common.{◌≡◌, ℕ, zero, suc, ◌+◌, ◌-◌, ◌<◌, ◌≤◌, inl, inr, Bool, true, false, not, ◌==◌, ◌&&◌, ◌||◌, if◌then◌else◌, List, [], ◌∷◌, ◌++◌, append_assoc, length, length-drop, length-take, map, drop, Option, refl, subst, arith}
+use Rattle.std.{proofs.lemmas.Bool.Decides.nat_tests, proofs.lemmas.List.Elements.Contains-append_cases, proofs.lemmas.List.Elements.Contains-append_left, proofs.lemmas.List.Elements.Contains-append_right, proofs.lemmas.List.Elements.filter-append, specs.List.AllByRecursion, specs.List.Contains}
+use Rattle.std.specs.List.{slice_range}
+use Rattle.mus_units.specs.{declared.note.Bar.Bar, declared.pitch.Clef.Clef}
+use Rattle.mus_score.specs.{declared.score.Event.Event, declared.score.Seat.Seat, Seats.is_lower}
 use Rattle.mus_stems.proofs.RunLaws.{all_append, all_drop, all_take}
-use Rattle.mus_time.specs.declared.keys.Class.TheVariants as classes
-use Rattle.mus_time.specs.declared.keys.ColumnKey.{ColumnKey}
-use Rattle.mus_time.specs.Keys.{bar_key, change_keys, event_keys, first_keys, grace_keys, has_features, head_key, key_at, voice_keys}
-use Rattle.mus_time.specs.Order.{rank_of}
+use Rattle.mus_time.specs.{declared.keys.Class.Class, declared.keys.ColumnKey.ColumnKey, Order.rank_of, Keys.bar_key, Keys.change_has_mark, Keys.change_keys, Keys.event_keys, Keys.grace_keys, Keys.has_features, Keys.head_key, Keys.is_for_each, Keys.key_at, Keys.keys_by}
 use Rattle.mus_time.proofs.RankLaws.{rank_less}
-use Rattle.mus_laid.specs.declared.drawn.Drawn.{Drawn}
-use Rattle.mus_laid.specs.declared.drawn.Ink.{Ink}
-use Rattle.mus_laid.specs.declared.drawn.Ink.TheVariants as inks
-use Rattle.mus_laid.specs.declared.laid.Laid.{Laid}
-use Rattle.mus_laid.specs.Ranked.{bridge_at, drawn_at, ink_at}
-use Rattle.mus_ink.specs.declared.graces.Group.{Group}
-use Rattle.mus_ink.specs.Bars.{bar_marks}
-use Rattle.mus_ink.specs.Changes.{change_marks, head_marks}
-use Rattle.mus_ink.specs.Decos.{note_marks}
-use Rattle.mus_ink.specs.Graces.{grace_marks, group_of}
-use Rattle.mus_drawn.specs.declared.drawn.DrawnEvent.{DrawnEvent}
-use Rattle.mus_drawn.specs.declared.drawn.DrawnMeasure.{DrawnMeasure}
-use Rattle.mus_drawn.specs.declared.drawn.DrawnVoice.{DrawnVoice}
-use Rattle.mus_drawn.specs.Drawn.{drawn_voice}
-use Rattle.mus_marks.specs.declared.events.Room.{Room}
-use Rattle.mus_marks.specs.Bridges.{bridges_of}
-use Rattle.mus_marks.specs.Events.{change_part, event_marks, events_marks, graces_from, levels_behind, levels_in, measures_marks, note_key, words_marks, words_part}
-use Rattle.mus_marks.specs.Staff.{columns_part, first_part, head_part, meter_shown, staff_marks, staff_over, voice_marks}
-use Rattle.mus_marks.specs.System.{staff_of}
-use Rattle.mus_marks.proofs.Lines.{voice_count}
-use Rattle.lay_shown.specs.Ranks.{IsRanked, anchor_rank, marks_ranks}
-use Rattle.lay_shown.proofs.Filled.{HasSome, bar_some, change_has, grace_some, has_some, head_some, note_some}
-use Rattle.mus_marks.proofs.Inside.{AreAmong, among_left, among_right, events_columns, has_old, here, measures_columns, voice_columns, voice_same}
-use Rattle.lay_shown.proofs.Planned.{ArePlanned, IsPlanOf, voice_planned}
+use Rattle.mus_laid.specs.{declared.drawn.Drawn.Drawn, declared.drawn.Ink.Ink, declared.laid.Laid.Laid, Ranked.anchor_rank, Ranked.drawn_at, Ranked.ink_at, Ranked.is_rank, Ranked.stands_at}
+use Rattle.mus_ink.specs.{declared.graces.Group.Group, Bars.bar_marks, Changes.change_marks, Changes.head_marks, Decos.note_marks, Graces.grace_marks, Graces.group_of}
+use Rattle.mus_drawn.specs.{declared.drawn.DrawnEvent.DrawnEvent, declared.drawn.DrawnMeasure.DrawnMeasure, declared.drawn.DrawnVoice.DrawnVoice, Drawn.raise_of}
+use Rattle.mus_marks.specs.{declared.events.Place.Place, Events.change_part, Events.event_marks, Events.events_marks, Events.graces_from, Events.levels_behind, Events.levels_in, Events.measures_marks, Events.note_key, Events.words_marks, Events.words_part, Staff.columns_part, Staff.head_part}
+use Rattle.mus_marks.{specs.Staff.meter_shown, specs.Staff.own_part, proofs.Inside.AreAmong, proofs.Inside.among_left, proofs.Inside.among_right, proofs.Inside.events_columns, proofs.Inside.has_old, proofs.Inside.here, proofs.Inside.measures_columns, proofs.Inside.voice_columns}
+use Rattle.lay_shown.{specs.Ranks.IsRanked, proofs.Filled.HasSome, proofs.Filled.bar_some, proofs.Filled.change_has, proofs.Filled.grace_some, proofs.Filled.has_some, proofs.Filled.head_some, proofs.Filled.note_some, proofs.Planned.ArePlanned, proofs.Planned.IsMeasureAt, proofs.Planned.IsPlanOf}
 
 -- `AreRanked` by recursion on the marks
 abbrev pub Ranked : ℕ → List Laid → Type 0
@@ -43,146 +21,179 @@ Ranked n all = AllByRecursion (λ laid. IsRanked n laid.mark) all
 
 -- a mark stands in the column of rank r
 abbrev pub HasRank : ℕ → List Laid → Type 0
-HasRank r xs = Contains (marks_ranks xs) r
+HasRank r xs = (x : Laid) × Contains xs x × (stands_at r x ≡ true)
 
 -- ---- what is drawn in one column
 ink_ranked : (n r : ℕ) (ink : Ink) → r < n → IsRanked n (ink_at r ink)
-ink_ranked n r (inks.Glyph glyph dx dy) less = less
-ink_ranked n r (inks.Words size dx dy text) less = less
-ink_ranked n r (inks.Stem dx from to) less = less
+ink_ranked n r (Ink.Glyph glyph dx dy) less = less
+ink_ranked n r (Ink.Words size dx dy text) less = less
+ink_ranked n r (Ink.Stem dx from to) less = less
 
 drawn_ranked : (n r : ℕ) (ds : List Drawn) → r < n → Ranked n (map (drawn_at r) ds)
 drawn_ranked n r [] less = tt
 drawn_ranked n r (d ∷ ds) less = (ink_ranked n r d.ink less, drawn_ranked n r ds less)
 
+pub same_rank : (r : ℕ) → (r == r) ≡ true
+same_rank r = grind (arith, nat_tests)
+
 ink_anchored : (r : ℕ) (d : Drawn) (more : List Laid) → HasRank r (drawn_at r d ∷ more)
-ink_anchored r d more = by d.ink
+ink_anchored r d more = (drawn_at r d, here (drawn_at r d) more, by d.ink)
   where
-    by : (ink : Ink) → HasRank r (drawn_at r (record { ink = ink; lane = d.lane }) ∷ more)
-    by (inks.Glyph glyph dx dy) = here r (marks_ranks more)
-    by (inks.Words size dx dy text) = here r (marks_ranks more)
-    by (inks.Stem dx from to) = here r (marks_ranks more)
+    by : (ink : Ink) → is_rank r (anchor_rank (ink_at r ink)) ≡ true
+    by (Ink.Glyph glyph dx dy) = same_rank r
+    by (Ink.Words size dx dy text) = same_rank r
+    by (Ink.Stem dx from to) = same_rank r
 
-rank_left : (r : ℕ) (xs ys : List Laid) → HasRank r xs → HasRank r (xs ++ ys)
-rank_left r xs ys h =
-    subst (λ t. Contains t r) (sym (filter_map-append (λ laid. anchor_rank laid.mark) xs ys)) (Contains-append_left (marks_ranks xs) (marks_ranks ys) r h)
+pub rank_left : (r : ℕ) (xs ys : List Laid) → HasRank r xs → HasRank r (xs ++ ys)
+rank_left r xs ys h = (h.0, Contains-append_left xs ys h.0 h.1, h.2)
 
-rank_right : (r : ℕ) (xs ys : List Laid) → HasRank r ys → HasRank r (xs ++ ys)
-rank_right r xs ys h =
-    subst (λ t. Contains t r) (sym (filter_map-append (λ laid. anchor_rank laid.mark) xs ys)) (Contains-append_right (marks_ranks xs) (marks_ranks ys) r h)
+pub rank_right : (r : ℕ) (xs ys : List Laid) → HasRank r ys → HasRank r (xs ++ ys)
+rank_right r xs ys h = (h.0, Contains-append_right xs ys h.0 h.1, h.2)
+
+-- ---- the columns of a voice on its staff
+keys_join : (lower : Bool) (ks ls : List ColumnKey) → keys_by lower (ks ++ ls) ≡ keys_by lower ks ++ keys_by lower ls
+keys_join true ks ls = filter-append is_for_each ks ls
+keys_join false ks ls = refl
+
+no_key : (lower : Bool) (k : ColumnKey) → Contains (keys_by lower []) k → ⊥
+no_key true k has = let inside = has.1 in absurd (omega (arith, inside))
+no_key false k has = let inside = has.1 in absurd (omega (arith, inside))
+
+-- a column of each voice
+kept : (lower : Bool) (key : ColumnKey) → is_for_each key ≡ true → keys_by lower (key ∷ []) ≡ key ∷ []
+kept true key own = rw own refl
+kept false key own = refl
+
+-- a column of the first voice
+left_out : (b : Bool) (key : ColumnKey) → is_for_each key ≡ false → keys_by true (if b then key ∷ [] else []) ≡ []
+left_out true key other = rw other refl
+left_out false key other = refl
 
 module _ (keys : List ColumnKey) where
-  -- marks stand in the columns of some keys, each of which holds one of them
-  pub record Fill (ks : List ColumnKey) (xs : List Laid) : Type 0 where
-    pub ranked : AreAmong ks keys → Ranked (length keys) xs
-    pub anchored : (k : ColumnKey) → Contains ks k → HasRank (rank_of keys k) xs
+  -- marks stand in the columns of some keys that a voice has on its staff, each of which holds one of them
+  pub record Fill (lower : Bool) (ks : List ColumnKey) (xs : List Laid) : Type 0 where
+    pub ranked : AreAmong (keys_by lower ks) keys → Ranked (length keys) xs
+    pub anchored : (k : ColumnKey) → Contains (keys_by lower ks) k → HasRank (rank_of keys k) xs
 
-  two : {ks ls : List ColumnKey} {xs ys : List Laid} → Fill ks xs → Fill ls ys → Fill (ks ++ ls) (xs ++ ys)
-  two {ks} {ls} {xs} {ys} p q = record {
-    ranked = λ among. all_append (λ l. IsRanked (length keys) l.mark) xs ys (p.ranked (among_left ks ls keys among)) (q.ranked (among_right ks ls keys among));
-    anchored = λ k has. elim (Contains-append_cases ks ls k has) [
-      | inl h ↦ rank_left (rank_of keys k) xs ys (p.anchored k h)
-      | inr h ↦ rank_right (rank_of keys k) xs ys (q.anchored k h)
-    ];
-  }
+  two : {lower : Bool} {ks ls : List ColumnKey} {xs ys : List Laid} → Fill lower ks xs → Fill lower ls ys → Fill lower (ks ++ ls) (xs ++ ys)
+  two {lower} {ks} {ls} {xs} {ys} p q =
+      let own = keys_by lower ks in let more = keys_by lower ls in record {
+        ranked = λ among.
+            let all = subst (λ t. AreAmong t keys) (keys_join lower ks ls) among in
+            all_append (λ l. IsRanked (length keys) l.mark) xs ys (p.ranked (among_left own more keys all)) (q.ranked (among_right own more keys all));
+        anchored = λ k has. elim (Contains-append_cases own more k (subst (λ t. Contains t k) (keys_join lower ks ls) has)) [
+          | inl h ↦ rank_left (rank_of keys k) xs ys (p.anchored k h)
+          | inr h ↦ rank_right (rank_of keys k) xs ys (q.anchored k h)
+        ];
+      }
 
-  none : Fill [] []
-  none = record { ranked = λ among. tt; anchored = λ k has. let inside = has.1 in absurd (omega (arith, inside)) }
+  none : (lower : Bool) → Fill lower [] []
+  none lower = record { ranked = λ among. tt; anchored = λ k has. absurd (no_key lower k has) }
 
   -- one column, if it has a mark
-  any : (key : ColumnKey) (ds : List Drawn) → Fill (if has_some ds then key ∷ [] else []) (map (drawn_at (rank_of keys key)) ds)
-  any key [] = none
-  any key (d ∷ ds) = record {
-    ranked = λ among. drawn_ranked (length keys) (rank_of keys key) (d ∷ ds) (rank_less keys key (among key (here key [])));
-    anchored = only;
+  any : (lower : Bool) (key : ColumnKey) (ds : List Drawn) → keys_by lower (key ∷ []) ≡ key ∷ []
+      → Fill lower (if has_some ds then key ∷ [] else []) (map (drawn_at (rank_of keys key)) ds)
+  any lower key [] own = none lower
+  any lower key (d ∷ ds) own = record {
+    ranked = λ among. drawn_ranked (length keys) (rank_of keys key) (d ∷ ds) (rank_less keys key (subst (λ t. AreAmong t keys) own among key (here key [])));
+    anchored = λ k has. only k (subst (λ t. Contains t k) own has);
   }
     where
       only : (k : ColumnKey) → Contains (key ∷ []) k → HasRank (rank_of keys k) (map (drawn_at (rank_of keys key)) (d ∷ ds))
       only k (zero, inside, is) = subst (λ k. HasRank (rank_of keys k) (map (drawn_at (rank_of keys key)) (d ∷ ds))) is (ink_anchored (rank_of keys key) d (map (drawn_at (rank_of keys key)) ds))
       only k (suc i, inside, is) = absurd (omega (arith, inside))
 
-  one : (key : ColumnKey) (ds : List Drawn) → HasSome ds → Fill (key ∷ []) (map (drawn_at (rank_of keys key)) ds)
-  one key ds some = subst (λ b. Fill (if b then key ∷ [] else []) (map (drawn_at (rank_of keys key)) ds)) some (any key ds)
+  one : (lower : Bool) (key : ColumnKey) (ds : List Drawn) → keys_by lower (key ∷ []) ≡ key ∷ [] → HasSome ds → Fill lower (key ∷ []) (map (drawn_at (rank_of keys key)) ds)
+  one lower key ds own some = subst (λ b. Fill lower (if b then key ∷ [] else []) (map (drawn_at (rank_of keys key)) ds)) some (any lower key ds own)
+
+  -- a column that a lower voice leaves to the first of its staff
+  not_lower : (b : Bool) (key : ColumnKey) → is_for_each key ≡ false → Fill true (if b then key ∷ [] else []) []
+  not_lower b key other = record { ranked = λ among. tt; anchored = λ k has. absurd (no_key false k (subst (λ t. Contains t k) (left_out b key other) has)) }
+
+  by_first : (lower : Bool) (key : ColumnKey) (ds : List Drawn) → is_for_each key ≡ false → HasSome ds
+      → Fill lower (key ∷ []) (if lower then [] else map (drawn_at (rank_of keys key)) ds)
+  by_first true key ds other some = not_lower true key other
+  by_first false key ds other some = one false key ds refl some
 
   -- what else stands among the columns of the system
-  beside : {ks : List ColumnKey} {xs : List Laid} (ys : List Laid) → (AreAmong ks keys → Ranked (length keys) ys) → Fill ks xs → Fill ks (xs ++ ys)
-  beside {ks} {xs} ys h p = record {
+  beside : {lower : Bool} {ks : List ColumnKey} {xs : List Laid} (ys : List Laid) → (AreAmong (keys_by lower ks) keys → Ranked (length keys) ys) → Fill lower ks xs → Fill lower ks (xs ++ ys)
+  beside {lower} {ks} {xs} ys h p = record {
     ranked = λ among. all_append (λ l. IsRanked (length keys) l.mark) xs ys (p.ranked among) (h among);
     anchored = λ k has. rank_left (rank_of keys k) xs ys (p.anchored k has);
   }
 
   -- ---- events
-  change : (m : ℕ) (in_head : Bool) (e : DrawnEvent) → Fill (change_keys m e.tick in_head (has_old e) e.flat.event.changes) (change_part keys m in_head e)
-  change m true e = none
-  change m false e =
-      subst (λ b. Fill (if b then key_at m e.tick classes.Change 0 ∷ [] else []) (change_part keys m false e)) (change_has e.clef e.old e.flat.event.changes)
-      (any (key_at m e.tick classes.Change 0) (change_marks e.clef e.old e.flat.event.changes))
+  change : (lower : Bool) (m : ℕ) (in_head : Bool) (e : DrawnEvent) → Fill lower (change_keys m e.tick in_head (has_old e) e.flat.event.changes) (change_part keys m (in_head || lower) e)
+  change lower m true e = none lower
+  change true m false e = not_lower (change_has_mark (has_old e) e.flat.event.changes) (key_at m e.tick Class.Change 0) refl
+  change false m false e =
+      subst (λ b. Fill false (if b then key_at m e.tick Class.Change 0 ∷ [] else []) (change_part keys m false e)) (change_has e.clef e.old e.flat.event.changes)
+      (any false (key_at m e.tick Class.Change 0) (change_marks e.clef e.old e.flat.event.changes) refl)
 
-  graces : (m tick : ℕ) (clef : Clef) (group : Group) (i : ℕ) (gs : List Event) → Fill (grace_keys m tick i gs) (graces_from keys m tick clef group i gs)
-  graces m tick clef group i [] = none
-  graces m tick clef group i (g ∷ gs) =
-      two (one (key_at m tick classes.Grace i) (grace_marks clef group (i == 0) g) (grace_some clef group (i == 0) g)) (graces m tick clef group (i + 1) gs)
+  graces : (lower : Bool) (m tick : ℕ) (clef : Clef) (group : Group) (i : ℕ) (gs : List Event) → Fill lower (grace_keys m tick i gs) (graces_from keys m tick clef group i gs)
+  graces lower m tick clef group i [] = none lower
+  graces lower m tick clef group i (g ∷ gs) =
+      let key = key_at m tick Class.Grace i in
+      two (one lower key (grace_marks clef group (i == 0) g) (kept lower key refl) (grace_some clef group (i == 0) g)) (graces lower m tick clef group (i + 1) gs)
 
-  event : (room : Option Room) (m : ℕ) (in_head : Bool) (before after : ℕ) (e : DrawnEvent) → IsPlanOf e.flat.event e.plan → Fill (event_keys m e.tick in_head (has_old e) e.flat) (event_marks keys room m in_head before after e)
+  event : (place : Option Place) (m : ℕ) (in_head : Bool) (before after : ℕ) (e : DrawnEvent) → IsPlanOf e.flat.event e.plan
+      → Fill (is_lower e.seat) (event_keys m e.tick in_head (has_old e) e.flat) (event_marks keys place m in_head before after e)
   unfolding event_marks
-  event room m in_head before after e plan =
+  event place m in_head before after e plan =
       let key = note_key m e in
+      let lower = is_lower e.seat in
+      let own = kept lower key refl in
       let front = change_keys m e.tick in_head (has_old e) e.flat.event.changes ++ grace_keys m e.tick 0 e.flat.graces in
-      beside (words_part (rank_of keys key) room e.flat)
-      (λ among. drawn_ranked (length keys) (rank_of keys key) (words_marks room e.flat) (rank_less keys key (among_right front (key ∷ []) keys among key (here key []))))
-      (two (two (change m in_head e) (graces m e.tick e.clef (group_of e.clef e.flat.graces e.flat.slash) 0 e.flat.graces))
-      (one key (note_marks e.clef (pos 0) e.flat.event e.plan before after) (note_some e.clef (pos 0) e.flat.event e.plan before after plan)))
+      beside (words_part (rank_of keys key) place e.flat)
+      (λ among.
+      let all = subst (λ t. AreAmong t keys) (keys_join lower front (key ∷ [])) among in
+      let last = subst (λ t. AreAmong t keys) own (among_right (keys_by lower front) (keys_by lower (key ∷ [])) keys all) in
+      drawn_ranked (length keys) (rank_of keys key) (words_marks place (rank_of keys key) e.flat) (rank_less keys key (last key (here key []))))
+      (two (two (change lower m in_head e) (graces lower m e.tick e.clef (group_of e.clef e.flat.graces e.flat.slash) 0 e.flat.graces))
+      (one lower key (note_marks e.clef (raise_of e.seat) e.flat.event e.plan before after) own (note_some e.clef (raise_of e.seat) e.flat.event e.plan before after plan)))
 
-  events : (room : Option Room) (m : ℕ) (in_head : Bool) (group flags : ℕ) (es : List DrawnEvent) → ArePlanned es → Fill (events_columns m in_head es) (events_marks keys room m in_head group flags es)
-  events room m in_head group flags [] plans = none
-  events room m in_head group flags (e ∷ es) plans =
-      two (event room m in_head (levels_in e.plan group flags) (levels_behind e.plan es) e plans.0) (events room m false e.plan.group e.plan.flags es plans.1)
+  events : (seat : Seat) (place : Option Place) (m : ℕ) (in_head : Bool) (group flags : ℕ) (es : List DrawnEvent) → ArePlanned seat es
+      → Fill (is_lower seat) (events_columns m in_head es) (events_marks keys place m in_head group flags es)
+  events seat place m in_head group flags [] plans = none (is_lower seat)
+  events seat place m in_head group flags (e ∷ es) plans =
+      let before = levels_in e.plan group flags in let after = levels_behind e.plan es in
+      two (subst (λ s. Fill (is_lower s) (event_keys m e.tick in_head (has_old e) e.flat) (event_marks keys place m in_head before after e)) plans.0.sits
+      (event place m in_head before after e plans.0.plan)) (events seat place m false e.plan.group e.plan.flags es plans.1)
 
   -- ---- measures
-  measures : (lengths : List ℕ) (room : Option Room) (m : ℕ) (in_head : Bool) (ds : List DrawnMeasure) → AllByRecursion (λ d. ArePlanned d.events) ds → Fill (measures_columns lengths m in_head ds) (measures_marks keys lengths room m in_head ds)
-  measures lengths room m in_head [] plans = none
-  measures lengths room m in_head (d ∷ ds) plans =
+  measures : (lengths : List ℕ) (seat : Seat) (place : Option Place) (m : ℕ) (in_head : Bool) (ds : List DrawnMeasure) → AllByRecursion (IsMeasureAt seat) ds
+      → Fill (is_lower seat) (measures_columns lengths m in_head ds) (measures_marks keys lengths place m in_head ds)
+  measures lengths seat place m in_head [] plans = none (is_lower seat)
+  measures lengths seat place m in_head (d ∷ ds) plans =
       let bar = bar_key lengths m in
-      subst (λ ks. Fill ks (measures_marks keys lengths room m in_head (d ∷ ds))) (append_assoc (events_columns m in_head d.events) (bar ∷ []) (measures_columns lengths (m + 1) false ds))
-      (two (two (events room m in_head 0 0 d.events plans.0) (one bar (bar_marks d.bar) (bar_some d.bar))) (measures lengths room (m + 1) false ds plans.1))
+      subst (λ ks. Fill (is_lower seat) ks (measures_marks keys lengths place m in_head (d ∷ ds))) (append_assoc (events_columns m in_head d.events) (bar ∷ []) (measures_columns lengths (m + 1) false ds))
+      (two (two (events seat place m in_head 0 0 d.events plans.0.events)
+      (subst (λ s. Fill (is_lower s) (bar ∷ []) (if is_lower d.seat then [] else map (drawn_at (rank_of keys bar)) (bar_marks d.bar))) plans.0.sits
+      (by_first (is_lower d.seat) bar (bar_marks d.bar) refl (bar_some d.bar))))
+      (measures lengths seat place (m + 1) false ds plans.1))
 
-  head : (a : ℕ) (ds : List DrawnMeasure) → 1 ≤ length ds → Fill (head_key a ∷ []) (head_part keys a ds)
-  head a [] some = absurd (omega (arith, some))
-  head a (d ∷ ds) some = one (head_key a) (head_marks d.opening.clef d.opening.key.signs (meter_shown a d.opening)) (head_some d.opening.clef d.opening.key.signs (meter_shown a d.opening))
+  head : (seat : Seat) (a : ℕ) (ds : List DrawnMeasure) → 1 ≤ length ds → AllByRecursion (IsMeasureAt seat) ds → Fill (is_lower seat) (head_key a ∷ []) (head_part keys a ds)
+  head seat a [] some plans = absurd (omega (arith, some))
+  head seat a (d ∷ ds) some plans =
+      let shown = meter_shown a d.opening in
+      subst (λ s. Fill (is_lower s) (head_key a ∷ []) (head_part keys a (d ∷ ds))) plans.0.sits
+      (by_first (is_lower d.seat) (head_key a) (head_marks d.opening.clef d.opening.key.signs shown) refl (head_some d.opening.clef d.opening.key.signs shown))
 
-  first : (a : ℕ) (b : Bar) → Fill (first_keys a b) (first_part keys a b)
-  first a b = by ((a == 0) && has_features b)
-    where
-      key : ColumnKey
-      key = key_at 0 0 classes.First 0
-
-      by : (c : Bool) → Fill (if c then key ∷ [] else []) (if c then map (drawn_at (rank_of keys key)) (bar_marks b) else [])
-      by true = one key (bar_marks b) (bar_some b)
-      by false = none
+  first : (lower : Bool) (b c : Bool) (bar : Bar) → Fill lower (if b && c then key_at 0 0 Class.First 0 ∷ [] else [])
+      (if not lower && b && c then map (drawn_at (rank_of keys (key_at 0 0 Class.First 0))) (bar_marks bar) else [])
+  first true b c bar = not_lower (b && c) (key_at 0 0 Class.First 0) refl
+  first false true true bar = one false (key_at 0 0 Class.First 0) (bar_marks bar) refl (bar_some bar)
+  first false true false bar = none false
+  first false false c bar = none false
 
   -- ---- a voice
-  columns : (lengths : List ℕ) (room : Option Room) (a b : ℕ) (v : DrawnVoice) → a < b → b ≤ length v.measures → AllByRecursion (λ d. ArePlanned d.events) v.measures
-      → Fill (voice_columns lengths a b v) (columns_part keys lengths room a v.first (slice_range v.measures a b))
+  pub columns : (lengths : List ℕ) (place : Option Place) (a b : ℕ) (v : DrawnVoice) → a < b → b ≤ length v.measures → AllByRecursion (IsMeasureAt v.seat) v.measures
+      → Fill (is_lower v.seat) (voice_columns lengths a b v) (own_part keys lengths place a b v)
   unfolding columns_part
-  columns lengths room a b v order within plans =
+  columns lengths place a b v order within plans =
       let ds = slice_range v.measures a b in
       let taken = length-take (b - a) (drop a v.measures) in
       let behind = length-drop a v.measures in
       let some : 1 ≤ length ds = omega (arith, taken, behind, order, within) in
-      let sliced = all_take (λ d. ArePlanned d.events) (b - a) (drop a v.measures) (all_drop (λ d. ArePlanned d.events) a v.measures plans) in
-      two (two (head a ds some) (first a v.first)) (measures lengths room a true ds sliced)
-
-  -- beams and arcs stand beside the marks of columns
-  marks : (lengths : List ℕ) (room : Option Room) (a b : ℕ) (v : DrawnVoice) → a < b → b ≤ length v.measures → AllByRecursion (λ d. ArePlanned d.events) v.measures
-      → Ranked (length keys) (map (bridge_at keys) (bridges_of lengths a b v)) → Fill (voice_columns lengths a b v) (voice_marks keys lengths room a b v)
-  unfolding voice_marks
-  marks lengths room a b v order within plans bridges =
-      beside (map (bridge_at keys) (bridges_of lengths a b v)) (λ among. bridges) (columns lengths room a b v order within plans)
-
-  -- the columns of a staff are those that its voice calls for
-  pub staff_fills : (lengths : List ℕ) (a b : ℕ) (v : Voice) → a < b → b ≤ length v.measures → Ranked (length keys) (map (bridge_at keys) (bridges_of lengths a b (drawn_voice v)))
-      → Fill (voice_keys lengths a b v) (staff_of keys lengths a b v).marks
-  unfolding staff_marks staff_over
-  staff_fills lengths a b v order within bridges =
-      let count = voice_count v in
-      subst (λ ks. Fill ks (staff_of keys lengths a b v).marks) (sym (voice_same lengths a b v)) (marks lengths _ a b (drawn_voice v) order (omega (arith, within, count)) (voice_planned v) bridges)
+      let sliced = all_take (IsMeasureAt v.seat) (b - a) (drop a v.measures) (all_drop (IsMeasureAt v.seat) a v.measures plans) in
+      two (two (head v.seat a ds some sliced) (first (is_lower v.seat) (a == 0) (has_features v.first) v.first)) (measures lengths v.seat place a true ds sliced)

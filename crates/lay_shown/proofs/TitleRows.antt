@@ -1,19 +1,11 @@
 -- The rows of a title block stand within it, and their texts can be printed.
 use Rattle.std.proofs.Common.{ℕ, ◌+◌, ◌≤◌, List, [], ◌∷◌, length, Option, arith}
-use Rattle.std.specs.List.{All, AllByRecursion}
-use Rattle.std.proofs.lemmas.Int.{ints}
-use Rattle.std.proofs.lemmas.List.Elements.{All-from_recursion}
+use Rattle.std.{proofs.lemmas.Int.ints, proofs.lemmas.List.Elements.All-from_recursion, specs.List.All, specs.List.AllByRecursion}
 use Rattle.mus_units.specs.declared.glyph.Size.{Size}
-use Rattle.mus_units.specs.declared.glyph.Size.TheVariants as sizes
 use Rattle.mus_stems.proofs.RunLaws.{all_append}
-use Rattle.lay_pages.specs.declared.titles.Place.{Place}
-use Rattle.lay_pages.specs.declared.titles.Place.TheVariants as places
-use Rattle.lay_pages.specs.declared.titles.TitleRow.{TitleRow}
-use Rattle.lay_pages.specs.declared.titles.TitleBlock.{TitleBlock}
+use Rattle.lay_pages.specs.{declared.titles.Place.Place, declared.titles.TitleRow.TitleRow, declared.titles.TitleBlock.TitleBlock}
 use Rattle.lay_pages.specs.Titles.{base_below, most_within, row_at, row_height, row_text, row_x, size_at, tempo_texts, title_block_of, with_row, with_text, with_texts}
-use Rattle.lay_shown.specs.Texts.{IsPrinted}
-use Rattle.lay_shown.specs.Titles.{IsGoodRow}
-use Rattle.lay_shown.proofs.PrintedTexts.{within_printed}
+use Rattle.lay_shown.{specs.Texts.IsPrinted, specs.Titles.IsGoodRow, proofs.PrintedTexts.within_printed}
 
 -- rows stay within a block that grows
 abbrev Stand : ℕ → ℕ → List TitleRow → Type 0
@@ -29,13 +21,13 @@ stand_in_more width low high (row ∷ rows) more stand = (good_in_more width low
 
 -- a row
 base_within : (size : Size) → base_below size ≤ row_height size
-base_within sizes.Big = omega arith
-base_within sizes.Small = omega arith
+base_within Size.Big = omega arith
+base_within Size.Small = omega arith
 
 x_within : (width : ℕ) (place : Place) (count : ℕ) → row_x width place count ≤ width
-x_within width places.Middle count = omega arith
-x_within width places.Right count = omega arith
-x_within width places.Left count = omega arith
+x_within width Place.Middle count = omega arith
+x_within width Place.Right count = omega arith
+x_within width Place.Left count = omega arith
 
 row_good : (width above : ℕ) (place : Place) (text : List ℕ) → IsPrinted text → IsGoodRow width (above + row_height (size_at place)) (row_at width above place text)
 row_good width above place text printed =
@@ -66,4 +58,4 @@ pub rows_stand : (width : ℕ) (titles composers : List (List ℕ)) (tempo : Opt
     → All (IsGoodRow width (title_block_of width titles composers tempo).height) (title_block_of width titles composers tempo).rows
 rows_stand width titles composers tempo =
     All-from_recursion (IsGoodRow width (title_block_of width titles composers tempo).height) _
-    (texts_stand width places.Left _ (tempo_texts tempo) (texts_stand width places.Right _ composers (texts_stand width places.Middle _ titles tt)))
+    (texts_stand width Place.Left _ (tempo_texts tempo) (texts_stand width Place.Right _ composers (texts_stand width Place.Middle _ titles tt)))

@@ -1,10 +1,6 @@
 -- The texts of marks, as they can be printed.
-use Rattle.std.specs.Prelude.{ℕ, ⊤, ◌≤◌, IsTrue, List, length, All}
-use Rattle.std.specs.List.{list_all}
-use Rattle.mus_laid.specs.declared.laid.Mark.{Mark}
-use Rattle.mus_laid.specs.declared.laid.Mark.TheVariants as marks
-use Rattle.mus_laid.specs.declared.laid.Laid.{Laid}
-use Rattle.mus_laid.specs.Printed.{is_printable}
+use Rattle.std.specs.{Prelude.ℕ, Prelude.⊤, Prelude.◌≤◌, Prelude.IsTrue, Prelude.List, Prelude.length, Prelude.All, List.list_all}
+use Rattle.mus_laid.specs.{declared.laid.Mark.Mark, declared.laid.Laid.Laid, Printed.is_printable}
 
 -- 1 to 60 characters, none of which is a control character
 pub record IsPrinted (text : List ℕ) : Type 0 where
@@ -13,7 +9,7 @@ pub record IsPrinted (text : List ℕ) : Type 0 where
   pub few : length text ≤ 60
 
 abbrev pub HasPrinted : Mark → Type 0
-HasPrinted (marks.Words size rank dx dy text) = IsPrinted text
+HasPrinted (Mark.Words size rank dx dy text) = IsPrinted text
 HasPrinted _ = ⊤
 
 abbrev pub HavePrinted : List Laid → Type 0

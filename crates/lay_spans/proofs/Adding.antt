@@ -1,11 +1,7 @@
 -- The columns of a span, and how they grow by a measure.
 use Rattle.std.proofs.Common.{◌≡◌, ℕ, zero, suc, ◌+◌, ◌-◌, ◌<◌, ◌≤◌, List, [], ◌∷◌, ◌++◌, length, take, drop, flat_map, sum_by, slice_index_or, get_or, Option, option_and_then, slice_get, arith, sym, ◌∙◌, ap, subst, refl, length-append}
-use Rattle.std.proofs.lemmas.List.{take_more, get_or-drop, append_assoc, length-drop}
-use Rattle.std.proofs.lemmas.List.Concat.{length-flat_map, flat_map-append}
-use Rattle.std.proofs.lemmas.List.Sums.{sum_by-cons, sum_by-take-le, sum_by-take-drop, get_or-le-sum_by}
-use Rattle.lay_springs.specs.declared.traits.Reach.{Reach}
-use Rattle.lay_springs.specs.Place.{reach_at}
-use Rattle.lay_springs.specs.Fit.{StandsInAll}
+use Rattle.std.proofs.lemmas.List.{take_more, get_or-drop, append_assoc, length-drop, Concat.length-flat_map, Concat.flat_map-append, Sums.sum_by-cons, Sums.sum_by-take-le, Sums.sum_by-take-drop, Sums.get_or-le-sum_by}
+use Rattle.lay_springs.specs.{declared.traits.Reach.Reach, Place.reach_at, Fit.StandsInAll}
 use Rattle.lay_spans.specs.Columns.{measures_from, span_columns, column_count, EndsInAll}
 
 -- a span has no more columns than all measures together

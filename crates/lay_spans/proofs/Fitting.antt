@@ -1,16 +1,8 @@
 -- Which spans fit.
 use Rattle.std.proofs.Common.{◌≡◌, ℕ, zero, suc, ◌+◌, ◌-◌, ◌<◌, ◌≤◌, List, [], ◌∷◌, ◌++◌, length, map, Option, None, Some, option_map, option_and_then, unwrap_or, slice_get, slice_index_or, arith, sym, ◌∙◌, ap, subst, refl, inl, inr, length-append}
-use Rattle.std.proofs.Math.Path.{fun_ext}
-use Rattle.std.proofs.lemmas.Bool.{cases_lt}
-use Rattle.std.proofs.lemmas.Option.{slice_get_past}
-use Rattle.std.proofs.lemmas.List.{append_assoc, length-map}
-use Rattle.lay_springs.specs.declared.traits.Reach.{Reach}
-use Rattle.lay_springs.specs.Place.{reach_at, length_at}
-use Rattle.lay_springs.specs.Fit.{Fits, Passes, CanStand, StandsInAll}
-use Rattle.lay_springs.proofs.Longer.{cannot_stand, longer_fits_less}
-use Rattle.lay_spans.specs.Columns.{span_columns, AreMeasures}
-use Rattle.lay_spans.specs.SpanList.{StandsAt, IsForce}
-use Rattle.lay_spans.proofs.Adding.{columns_some, columns_continue, ends_so}
+use Rattle.std.proofs.{Math.Path.fun_ext, lemmas.Bool.cases_lt, lemmas.Option.slice_get_past, lemmas.List.append_assoc, lemmas.List.length-map}
+use Rattle.lay_springs.{specs.declared.traits.Reach.Reach, specs.Place.reach_at, specs.Place.length_at, specs.Fit.Fits, specs.Fit.Passes, specs.Fit.CanStand, specs.Fit.StandsInAll, proofs.Longer.cannot_stand, proofs.Longer.longer_fits_less}
+use Rattle.lay_spans.{specs.Columns.span_columns, specs.Columns.AreMeasures, specs.SpanList.StandsAt, specs.SpanList.IsForce, proofs.Adding.columns_some, proofs.Adding.columns_continue, proofs.Adding.ends_so}
 
 -- a longer span can't stand where a shorter one can't
 pub longer_stands : {C : Type 0} (reach : C → ℕ → Option Reach) (len : C → ℕ → ℕ) (gaps : List ℕ) (width force : ℕ) (starts others : List (List C)) (a b c : ℕ)

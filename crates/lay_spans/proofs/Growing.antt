@@ -1,20 +1,10 @@
 -- The row of a bar, and the rows, while they grow.
 use Rattle.std.proofs.Common.{◌≡◌, ℕ, ◌+◌, ◌-◌, ◌*◌, ◌<◌, ◌≤◌, ◌^◌, ◌==◌, nat_le, if◌then◌else◌, Result, Ok, Err, IfOk, Bool, List, [], ◌∷◌, ◌++◌, length, map, Option, None, Some, IsSome, slice_index, slice_index_or, get_or, true, false, arith, sym, ◌∙◌, ap, subst, refl, inl, inr, length-append}
-use Rattle.std.proofs.lemmas.Bool.{cases_lt, cases_eq, true≢false}
-use Rattle.std.proofs.lemmas.List.{get_or_append_left, length-map}
-use Rattle.std.proofs.lemmas.Option.{none-some, same_Some}
-use Rattle.lay_springs.specs.declared.traits.Reach.{Reach}
-use Rattle.std.proofs.Math.Nat.{mul-le-mul_left}
-use Rattle.lay_springs.specs.Fit.{counted, is_ragged}
+use Rattle.std.proofs.{lemmas.Bool.cases_lt, lemmas.Bool.cases_eq, lemmas.Bool.true≢false, lemmas.List.get_or_append_left, lemmas.List.length-map, lemmas.Option.none-some, lemmas.Option.same_Some, Math.Nat.mul-le-mul_left}
+use Rattle.lay_springs.specs.{declared.traits.Reach.Reach, Fit.counted, Fit.is_ragged}
 use Rattle.lay_breaks.specs.Spans.{AreSpans, listed}
-use Rattle.lay_spans.specs.Badness.{badness_of, badness_at}
-use Rattle.lay_spans.specs.Columns.{measures_from, span_columns, column_count, AreMeasures}
-use Rattle.lay_spans.specs.Forced.{ForcedInside}
-use Rattle.lay_spans.specs.SpanList.{StandsAt, IsCost, IsNoSpan, IsSpanList}
-use Rattle.lay_spans.specs.Rows.{IsRowFrom, AreRows, rows_spans}
-use Rattle.lay_spans.proofs.Adding.{columns_few, columns_some, columns_more}
-use Rattle.lay_spans.proofs.Fitting.{longer_stands}
-use Rattle.lay_spans.proofs.Listing.{in_rows, past_rows, rows_form}
+use Rattle.lay_spans.specs.{Badness.badness_of, Badness.badness_at, Columns.measures_from, Columns.span_columns, Columns.column_count, Columns.AreMeasures, Forced.ForcedInside, SpanList.StandsAt, SpanList.IsCost, SpanList.IsNoSpan, SpanList.IsSpanList, Rows.IsRowFrom, Rows.AreRows, Rows.rows_spans}
+use Rattle.lay_spans.proofs.{Adding.columns_few, Adding.columns_some, Adding.columns_more, Fitting.longer_stands, Listing.in_rows, Listing.past_rows, Listing.rows_form}
 
 -- the columns that are seen, with one measure more
 pub seen_more : {D C : Type 0} (f : D → C) (old new : List D) (starts others : List (List C)) (a m : ℕ) → a ≤ m → m < length starts → length others ≡ length starts

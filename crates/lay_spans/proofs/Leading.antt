@@ -1,16 +1,8 @@
 -- A list of spans as rows of costs.
 use Rattle.std.proofs.Common.{◌≡◌, ℕ, Bool, zero, suc, ◌+◌, ◌-◌, ◌<◌, ◌≤◌, ◌^◌, ◌⊎◌, ◌==◌, List, [], ◌∷◌, ◌++◌, length, drop, Option, None, Some, All, slice_get, option_and_then, true, false, nat_lt, arith, sym, ◌∙◌, ap, subst, refl, inl, inr}
-use Rattle.std.proofs.Math.Path.{fun_ext}
-use Rattle.std.proofs.lemmas.Bool.{cases_lt, cases_eq}
-use Rattle.std.proofs.lemmas.Option.{slice_get_past}
-use Rattle.std.proofs.lemmas.List.{append_assoc, drop-drop, length-drop}
-use Rattle.std.proofs.lemmas.List.Elements.{All-cons}
-use Rattle.std.proofs.lemmas.Bool.Decides.{nat_tests}
-use Rattle.lay_breaks.specs.declared.costs.Span.{Span}
-use Rattle.lay_breaks.specs.Rows.{AreSmall}
-use Rattle.lay_breaks.specs.Spans.{AreSpans, SpansFrom, IsNext, listed}
-use Rattle.lay_spans.specs.Costs.{leading, rows_from, cost_in}
-use Rattle.lay_spans.proofs.Listing.{listed_here, listed_behind}
+use Rattle.std.proofs.{Math.Path.fun_ext, lemmas.Bool.cases_lt, lemmas.Bool.cases_eq, lemmas.Option.slice_get_past, lemmas.List.append_assoc, lemmas.List.drop-drop, lemmas.List.length-drop, lemmas.List.Elements.All-cons, lemmas.Bool.Decides.nat_tests}
+use Rattle.lay_breaks.specs.{declared.costs.Span.Span, Rows.AreSmall, Spans.AreSpans, Spans.SpansFrom, Spans.IsNext, Spans.listed}
+use Rattle.lay_spans.{specs.Costs.leading, specs.Costs.rows_from, specs.Costs.cost_in, proofs.Listing.listed_here, proofs.Listing.listed_behind}
 
 pub leads : (a : ℕ) (s : Span) (ss : List Span) → s.a ≡ a → leading a (s ∷ ss) ≡ s.badness ∷ leading a ss
 leads a s ss e = let t : (s.a == a) ≡ true = grind (arith, nat_tests) in rw t refl

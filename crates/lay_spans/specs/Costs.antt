@@ -1,9 +1,7 @@
 -- The costs of spans kept as rows, one for each bar.
 use Rattle.std.specs.Prelude.{◌≡◌, ℕ, zero, suc, ◌+◌, ◌<◌, ◌≤◌, ◌^◌, ◌==◌, nat_lt, true, List, [], ◌∷◌, length, drop, Option, None, IfSome, if◌then◌else◌, refl}
-use Rattle.std.proofs.Common.{arith, sym, ◌∙◌}
-use Rattle.std.proofs.lemmas.Bool.Decides.{nat_tests}
-use Rattle.lay_breaks.specs.declared.costs.Span.{Span}
-use Rattle.lay_breaks.specs.Rows.{row_cost, rows_stop, rows_small, AreSmall}
+use Rattle.std.proofs.{Common.arith, Common.sym, Common.◌∙◌, lemmas.Bool.Decides.nat_tests}
+use Rattle.lay_breaks.specs.{declared.costs.Span.Span, Rows.row_cost, Rows.rows_stop, Rows.rows_small, Rows.AreSmall}
 
 -- what the span from a to b costs, by the row of bar a
 abbrev pub cost_in : List (List ℕ) → ℕ → ℕ → Option ℕ

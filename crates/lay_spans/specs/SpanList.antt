@@ -1,13 +1,8 @@
 -- The spans of measures that fit within a width, and what each costs.
 use Rattle.std.specs.Prelude.{◌≡◌, ℕ, ◌<◌, ◌≤◌, ◌⊎◌, ◌==◌, Bool, List, length, Option, Some, None, IsSome}
-use Rattle.lay_springs.specs.declared.traits.Reach.{Reach}
-use Rattle.lay_springs.specs.Place.{reach_at, length_at}
-use Rattle.lay_springs.specs.Fit.{Fits, CanStand}
-use Rattle.lay_breaks.specs.declared.costs.Span.{Span}
-use Rattle.lay_breaks.specs.Spans.{listed}
-use Rattle.lay_spans.specs.Badness.{badness_of}
-use Rattle.lay_spans.specs.Columns.{span_columns}
-use Rattle.lay_spans.specs.Forced.{ForcedInside}
+use Rattle.lay_springs.specs.{declared.traits.Reach.Reach, Place.reach_at, Place.length_at, Fit.Fits, Fit.CanStand}
+use Rattle.lay_breaks.specs.{declared.costs.Span.Span, Spans.listed}
+use Rattle.lay_spans.specs.{Badness.badness_of, Columns.span_columns, Forced.ForcedInside}
 
 -- the end of the columns at a force is at most the width
 abbrev pub FitsAt : {C : Type 0} → (C → ℕ → Option Reach) → (C → ℕ → ℕ) → List ℕ → ℕ → ℕ → List C → Type 0

@@ -1,8 +1,6 @@
 ghost use Rattle.std.specs.Prelude.{◌≡◌, ℕ, IfOk, length, slice_index_or, false};
-ghost use Rattle.lay_breaks.specs.Rows.{AreSmall};
-ghost use Rattle.lay_breaks.specs.Spans.{AreSpans, listed};
-ghost use Rattle.lay_spans.specs.Costs.{cost_in, cost_stops, cost_small, leading, rows_from};
-ghost use Rattle.lay_spans.specs.Forced.{is_forced};
+ghost use Rattle.lay_breaks.specs.{Rows.AreSmall, Spans.AreSpans, Spans.listed};
+ghost use Rattle.lay_spans.specs.{Costs.cost_in, Costs.cost_stops, Costs.cost_small, Costs.leading, Costs.rows_from, Forced.is_forced};
 
 use crate::marks::marks_of;
 use lay_breaks::{Costs, Span};

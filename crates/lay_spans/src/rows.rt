@@ -1,6 +1,5 @@
 ghost use Rattle.std.specs.Prelude.{◌≡◌, ◌+◌, ◌-◌, ◌<◌, ◌≤◌, ◌^◌, ◌++◌, ℕ, IfOk, OnOk, length, map, slice_index, slice_index_or, false, []};
-ghost use Rattle.lay_spans.specs.Columns.{measures_from, column_count, AreMeasures};
-ghost use Rattle.lay_spans.specs.Rows.{IsRowFrom, AreRows, row_spans, rows_spans};
+ghost use Rattle.lay_spans.specs.{Columns.measures_from, Columns.column_count, Columns.AreMeasures, Rows.IsRowFrom, Rows.AreRows, Rows.row_spans, Rows.rows_spans};
 
 use crate::forces::badness;
 use crate::seen::Seen;

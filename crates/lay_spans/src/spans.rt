@@ -1,8 +1,6 @@
 ghost use Rattle.std.specs.Prelude.{◌≡◌, ◌+◌, ◌<◌, ◌≤◌, ◌^◌, ℕ, IfOk, length, map, slice_index};
 ghost use Rattle.lay_breaks.specs.Spans.{AreSpans};
-ghost use Rattle.lay_spans.specs.Columns.{AreMeasures, column_count, span_columns};
-ghost use Rattle.lay_spans.specs.Forced.{is_forced};
-ghost use Rattle.lay_spans.specs.SpanList.{IsSpanList};
+ghost use Rattle.lay_spans.specs.{Columns.AreMeasures, Columns.column_count, Columns.span_columns, Forced.is_forced, SpanList.IsSpanList};
 
 use crate::marks::marks_of;
 use crate::rows::{count_columns, list_rows, measure, rows_of, see};

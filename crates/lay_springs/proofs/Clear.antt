@@ -1,10 +1,7 @@
 -- One lane more.
 use Rattle.std.proofs.Common.{◌≡◌, ℕ, ◌+◌, ◌<◌, ◌≤◌, ℤ, pos, ◌≤ℤ◌, Option, Some, IfSome, sym, ◌∙◌, arith, inl, inr, subst}
-use Rattle.std.proofs.lemmas.Bool.{cases_lt}
-use Rattle.std.proofs.lemmas.Option.{same_Some}
-use Rattle.std.proofs.lemmas.Int.{ints}
-use Rattle.lay_springs.specs.declared.traits.Reach.{Reach}
-use Rattle.lay_springs.specs.Place.{IsInside}
+use Rattle.std.proofs.{lemmas.Bool.cases_lt, lemmas.Option.same_Some, lemmas.Int.ints}
+use Rattle.lay_springs.specs.{declared.traits.Reach.Reach, Place.IsInside}
 
 -- what stands at k below n, or at n
 pub below_or_at : (P : ℕ → Type 0) (k n : ℕ) → k < n + 1 → (k < n → P k) → P n → P k

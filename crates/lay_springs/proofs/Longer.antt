@@ -1,8 +1,7 @@
 -- More columns need more room.
 use Rattle.std.proofs.Common.{◌≡◌, ℕ, zero, suc, ◌+◌, ◌-◌, ◌<◌, ◌≤◌, ℤ, pos, ◌≤ℤ◌, List, [], ◌∷◌, ◌++◌, length, Option, option_map, option_and_then, unwrap_or, slice_get, slice_index_or, arith, ◌∙◌, ap, refl, length-append}
 use Rattle.std.proofs.lemmas.Int.{ints}
-use Rattle.lay_springs.specs.declared.traits.Reach.{Reach}
-use Rattle.lay_springs.specs.Place.{reach_at, length_at, StandApart}
+use Rattle.lay_springs.specs.{declared.traits.Reach.Reach, Place.reach_at, Place.length_at, Place.StandApart}
 use Rattle.lay_springs.specs.Fit.{Fits, Passes, CanStand, StandsInAll, LongerFitsLess}
 use Rattle.lay_springs.proofs.Ends.{apart_down}
 

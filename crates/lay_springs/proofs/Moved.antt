@@ -1,12 +1,7 @@
 -- Columns that are set to the width still stand apart, and end at it.
 use Rattle.std.proofs.Common.{◌≡◌, sym, subst, inl, inr, ℕ, ◌+◌, ◌-◌, ◌*◌, ◌/◌, ◌<◌, ◌≤◌, ℤ, pos, ◌+ℤ◌, List, Option, slice_index_or, arith}
-use Rattle.std.proofs.lemmas.Int.{ints}
-use Rattle.std.proofs.lemmas.Nat.{le-div}
-use Rattle.std.proofs.Math.Nat.{div-mul-le_self}
-use Rattle.lay_springs.specs.declared.traits.Reach.{Reach}
-use Rattle.std.proofs.lemmas.Bool.{cases_lt}
-use Rattle.lay_springs.specs.Place.{StandApart}
-use Rattle.lay_springs.specs.Fit.{IsSet}
+use Rattle.std.proofs.{lemmas.Int.ints, lemmas.Nat.le-div, Math.Nat.div-mul-le_self, lemmas.Bool.cases_lt}
+use Rattle.lay_springs.specs.{declared.traits.Reach.Reach, Place.StandApart, Fit.IsSet}
 
 share_rises : (rest i k d : ℕ) → 0 < d → i ≤ k → rest * i / d ≤ rest * k / d
 share_rises rest i k d pos_d l = le-div (rest * i / d) (rest * k) d pos_d (grind (arith, div-mul-le_self (rest * i) d))

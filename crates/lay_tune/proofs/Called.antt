@@ -1,16 +1,10 @@
 -- A score calls for one system of given measures.
 use Rattle.std.proofs.Common.{◌≡◌, ◌∙◌, ℕ, ℤ, List, map, refl, sym, ap}
 use Rattle.mus_score.specs.declared.score.Score.{Score}
-use Rattle.mus_time.specs.declared.keys.ColumnKey.{ColumnKey}
-use Rattle.mus_time.specs.Keys.{AreKeys, called_keys}
-use Rattle.mus_time.specs.Onsets.{timeline_of}
-use Rattle.mus_laid.specs.declared.laid.StaffMarks.{StaffMarks}
-use Rattle.mus_laid.specs.declared.laid.SystemMarks.{SystemMarks}
-use Rattle.mus_marks.specs.System.{staff_of}
-use Rattle.mus_marks.specs.Tilt.{IsTilted, tilted_staff_of}
-use Rattle.lay_tune.specs.Spans.{IsSystem}
-use Rattle.mus_marks.proofs.OneList.{same_keys}
-use Rattle.lay_tune.proofs.RisingKeys.{have_keys}
+use Rattle.mus_time.specs.{declared.keys.ColumnKey.ColumnKey, Keys.AreKeys, Keys.called_keys, Onsets.timeline_of}
+use Rattle.mus_laid.specs.{declared.laid.StaffMarks.StaffMarks, declared.laid.SystemMarks.SystemMarks}
+use Rattle.mus_marks.{specs.Staff.staff_marks, specs.System.drawn_staves, specs.Tilt.IsTilted, specs.Tilt.tilted_staff, proofs.OneList.same_keys}
+use Rattle.lay_tune.{specs.Spans.IsSystem, proofs.RisingKeys.have_keys}
 
 abbrev marks_of : ℕ → ℕ → List ColumnKey → List StaffMarks → SystemMarks
 marks_of a b keys staves = record { a = a; b = b; keys = keys; staves = staves }
@@ -25,7 +19,7 @@ same_marks a b c d keys others staves more e f g h =
 pub has_system : (s : Score) (a b : ℕ) → (m : SystemMarks) × IsSystem s a b m
 has_system s a b =
     let keys = have_keys (called_keys s (timeline_of s).lengths a b) in
-    (marks_of a b keys.0 (map (staff_of keys.0 (timeline_of s).lengths a b) s.voices), record { from = refl; to = refl; keys = keys.1; staves = refl })
+    (marks_of a b keys.0 (map (staff_marks keys.0 (timeline_of s).lengths a b) (drawn_staves s)), record { from = refl; to = refl; keys = keys.1; staves = refl })
 
 -- and it is one, whose keys tell its staves
 one_called : (s : Score) (a b : ℕ) (staves_of : List ColumnKey → List StaffMarks) (m n : SystemMarks) → m.a ≡ a → n.a ≡ a → m.b ≡ b → n.b ≡ b
@@ -37,9 +31,9 @@ one_called s a b staves_of m n from start to end called keyed staves stand =
 
 pub one_system : (s : Score) (a b : ℕ) (m n : SystemMarks) → IsSystem s a b m → IsSystem s a b n → m ≡ n
 one_system s a b m n h k =
-    one_called s a b (λ keys. map (staff_of keys (timeline_of s).lengths a b) s.voices) m n h.from k.from h.to k.to h.keys k.keys h.staves k.staves
+    one_called s a b (λ keys. map (staff_marks keys (timeline_of s).lengths a b) (drawn_staves s)) m n h.from k.from h.to k.to h.keys k.keys h.staves k.staves
 
 -- so are the marks that are tilted over some abscissas
 pub one_tilted : (s : Score) (a b : ℕ) (at : List ℤ) (m n : SystemMarks) → IsTilted s (timeline_of s) a b at m → IsTilted s (timeline_of s) a b at n → m ≡ n
 one_tilted s a b at m n h k =
-    one_called s a b (λ keys. map (tilted_staff_of keys (timeline_of s).lengths at a b) s.voices) m n h.from k.from h.to k.to h.keys k.keys h.staves k.staves
+    one_called s a b (λ keys. map (tilted_staff keys (timeline_of s).lengths at a b) (drawn_staves s)) m n h.from k.from h.to k.to h.keys k.keys h.staves k.staves

@@ -1,22 +1,12 @@
 -- The columns of each measure are what spans of measures are tried with, and those of the systems.
 use Rattle.std.proofs.Common.{◌≡◌, ◌∙◌, ℕ, suc, ◌+◌, ◌-◌, ◌<◌, ◌≤◌, List, [], ◌∷◌, ◌++◌, length, length-append, take, drop, flat_map, get_or, refl, sym, ap, subst, arith}
-use Rattle.std.specs.List.{All}
-use Rattle.std.proofs.lemmas.List.{get_or-drop, get_or-take, length-drop, length-take-le}
-use Rattle.mus_score.specs.declared.score.Score.{Score}
-use Rattle.mus_score.specs.GoodScore.{IsGoodScore}
-use Rattle.mus_time.specs.declared.times.Timeline.{Timeline}
-use Rattle.mus_time.specs.Onsets.{timeline_of}
-use Rattle.lay_columns.specs.declared.column.Column.{Column}
-use Rattle.lay_columns.specs.Columns.{StandsWhereDue, column_reach}
-use Rattle.lay_columns.specs.Lanes.{gaps_of}
-use Rattle.lay_columns.specs.Reaches.{stands_always}
-use Rattle.lay_measures.specs.Measures.{AreFirst, AreFurther, EndWithBar}
-use Rattle.lay_measures.specs.Law.{AreFurtherOnes, MeasuresJoin}
-use Rattle.lay_spans.specs.Columns.{EndsInAll, measures_from}
-use Rattle.lay_spans.proofs.Adding.{ends_so}
-use Rattle.lay_spans.proofs.Growing.{at_end, each_more}
-use Rattle.lay_tune.specs.Measures.{EachMeasure, IsOther, IsStart}
-use Rattle.lay_tune.specs.Spans.{AreColumnsOf, system_columns, verses_of}
+use Rattle.std.{proofs.lemmas.List.get_or-drop, proofs.lemmas.List.get_or-take, proofs.lemmas.List.length-drop, proofs.lemmas.List.length-take-le, specs.List.All}
+use Rattle.mus_score.specs.{declared.score.Score.Score, GoodScore.IsGoodScore}
+use Rattle.mus_time.specs.{declared.times.Timeline.Timeline, Onsets.timeline_of}
+use Rattle.lay_columns.specs.{declared.column.Column.Column, Columns.StandsWhereDue, Columns.column_reach, Lanes.gaps_of, Reaches.stands_always}
+use Rattle.lay_measures.specs.{Measures.AreFirst, Measures.AreFurther, Measures.EndWithBar, Law.AreFurtherOnes, Law.MeasuresJoin}
+use Rattle.lay_spans.{specs.Columns.EndsInAll, specs.Columns.measures_from, proofs.Adding.ends_so, proofs.Growing.at_end, proofs.Growing.each_more}
+use Rattle.lay_tune.specs.{Measures.EachMeasure, Measures.IsOther, Measures.IsStart, Spans.AreColumnsOf, Spans.system_columns, Spans.verses_of}
 
 -- columns that end with a bar end in each lane
 bar_ends : (verses : List ℕ) (columns : List Column) → EndWithBar columns → All (StandsWhereDue verses) columns
@@ -31,17 +21,17 @@ bar_ends verses columns h stands =
     subst (λ cs. EndsInAll column_reach (length (gaps_of verses)) cs) (sym h.parts)
     (record { some = omega arith; last = ends_so column_reach (length (gaps_of verses)) h.front (h.last ∷ []) one })
 
-pub start_of : (s : Score) (t : Timeline) (m : ℕ) (verses : List ℕ) (columns : List Column) → t ≡ timeline_of s → verses ≡ verses_of s.voices
+pub start_of : (s : Score) (t : Timeline) (m : ℕ) (verses : List ℕ) (columns : List Column) → t ≡ timeline_of s → verses ≡ verses_of s
     → AreFirst s t m verses columns → EndWithBar columns → All (StandsWhereDue verses) columns → IsStart s m columns
 start_of s t m verses columns times is h bar stands = record {
-  first = subst (λ t. AreFirst s t m (verses_of s.voices) columns) times (subst (λ vs. AreFirst s t m vs columns) is h);
+  first = subst (λ t. AreFirst s t m (verses_of s) columns) times (subst (λ vs. AreFirst s t m vs columns) is h);
   ends = subst (λ vs. EndsInAll column_reach (length (gaps_of vs)) columns) is (bar_ends verses columns bar stands);
 }
 
-pub other_of : (s : Score) (t : Timeline) (m : ℕ) (verses : List ℕ) (columns : List Column) → t ≡ timeline_of s → verses ≡ verses_of s.voices
+pub other_of : (s : Score) (t : Timeline) (m : ℕ) (verses : List ℕ) (columns : List Column) → t ≡ timeline_of s → verses ≡ verses_of s
     → AreFurther s t m verses columns → EndWithBar columns → All (StandsWhereDue verses) columns → IsOther s m columns
 other_of s t m verses columns times is h bar stands = record {
-  further = subst (λ t. AreFurther s t m (verses_of s.voices) columns) times (subst (λ vs. AreFurther s t m vs columns) is h);
+  further = subst (λ t. AreFurther s t m (verses_of s) columns) times (subst (λ vs. AreFurther s t m vs columns) is h);
   ends = subst (λ vs. EndsInAll column_reach (length (gaps_of vs)) columns) is (bar_ends verses columns bar stands);
 }
 
@@ -57,27 +47,27 @@ measure_more P n rows columns h p =
 
 -- those of the measures from i on
 further_ones : (s : Score) (i : ℕ) (rows : List (List Column))
-    → ((j : ℕ) → j < length rows → AreFurther s (timeline_of s) (i + j) (verses_of s.voices) (get_or rows j []))
-    → AreFurtherOnes s (timeline_of s) i (verses_of s.voices) rows
+    → ((j : ℕ) → j < length rows → AreFurther s (timeline_of s) (i + j) (verses_of s) (get_or rows j []))
+    → AreFurtherOnes s (timeline_of s) i (verses_of s) rows
 further_ones s i [] h = tt
 further_ones s i (row ∷ rows) h =
     let here : i + 0 ≡ i = omega arith in (
-      subst (λ m. AreFurther s (timeline_of s) m (verses_of s.voices) row) here (h 0 (omega arith)),
+      subst (λ m. AreFurther s (timeline_of s) m (verses_of s) row) here (h 0 (omega arith)),
       further_ones s (i + 1) rows (λ j less.
           let next : i + suc j ≡ i + 1 + j = omega arith in
-          subst (λ m. AreFurther s (timeline_of s) m (verses_of s.voices) (get_or rows j [])) next (h (suc j) (omega arith))),
+          subst (λ m. AreFurther s (timeline_of s) m (verses_of s) (get_or rows j [])) next (h (suc j) (omega arith))),
     )
 
 -- those of measures i to i + k - 1
 further_part : (s : Score) (others : List (List Column)) → EachMeasure (IsOther s) s.measures others → (i k : ℕ) → i + k ≤ s.measures
-    → AreFurtherOnes s (timeline_of s) i (verses_of s.voices) (take k (drop i others))
+    → AreFurtherOnes s (timeline_of s) i (verses_of s) (take k (drop i others))
 further_part s others h i k within =
     let n = h.count in
     let d = length-drop i others in
     let l : length (take k (drop i others)) ≡ k = length-take-le k (drop i others) (omega arith) in
     further_ones s i (take k (drop i others)) (λ j less.
     let below : j < k = omega arith in
-    subst (λ row. AreFurther s (timeline_of s) (i + j) (verses_of s.voices) row)
+    subst (λ row. AreFurther s (timeline_of s) (i + j) (verses_of s) row)
     (sym (get_or-take k (drop i others) j [] below ∙ get_or-drop i others j []))
     (h.each (i + j) (omega arith)).further)
 
@@ -90,6 +80,6 @@ columns_join law s starts others good firsts furthers = λ a b m less within cal
     let k : length (take (b - (a + 1)) (drop (a + 1) others)) ≡ b - (a + 1) = length-take-le (b - (a + 1)) (drop (a + 1) others) (omega arith) in
     let e : b - a ≡ suc (b - (a + 1)) = omega arith in
     subst (λ i. system_columns s m ≡ flat_map (λ measure. measure) (take i (measures_from starts others a))) (sym e)
-    (law s (timeline_of s) a b m (verses_of s.voices) (get_or starts a []) (take (b - (a + 1)) (drop (a + 1) others))
+    (law s (timeline_of s) a b m (verses_of s) (get_or starts a []) (take (b - (a + 1)) (drop (a + 1) others))
     good refl (omega arith) within call (firsts.each a (omega arith)).first
     (further_part s others furthers (a + 1) (b - (a + 1)) (omega arith)))

@@ -3,4 +3,5 @@ pub mod Joins
 pub mod Open
 pub mod RisingKeys
 pub mod Rows
+pub mod StaffCounts
 pub mod Within

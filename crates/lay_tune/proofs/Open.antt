@@ -1,33 +1,17 @@
 -- The spans of a score, and what stands open to a breaking of them.
-use Rattle.std.proofs.Common.{◌≡◌, ℕ, ◌+◌, ◌<◌, ◌≤◌, ◌*◌, ◌==◌, List, [], ◌∷◌, length, Option, Some, None, IsSome, sym, ◌∙◌, ap, subst, refl, arith}
-use Rattle.std.proofs.lemmas.Bool.{true≢false}
-use Rattle.std.specs.List.{All}
-use Rattle.std.proofs.lemmas.List.{length-map}
-use Rattle.std.proofs.lemmas.List.Elements.{All-cons, All-head, All-nil, All-tail}
-use Rattle.mus_score.specs.declared.score.Score.{Score}
-use Rattle.mus_score.specs.declared.score.Voice.{Voice}
-use Rattle.mus_score.specs.GoodScore.{IsGoodScore, IsGoodVoice}
-use Rattle.lay_columns.specs.declared.column.Column.{Column}
-use Rattle.lay_columns.specs.Column.{length_rises}
-use Rattle.lay_columns.specs.Columns.{column_reach}
-use Rattle.lay_springs.specs.Place.{length_at, reach_at}
-use Rattle.lay_springs.specs.Fit.{Passes}
+use Rattle.std.proofs.Common.{◌≡◌, ℕ, ◌+◌, ◌-◌, ◌<◌, ◌≤◌, ◌*◌, ◌==◌, not, List, [], ◌∷◌, length, map, Option, Some, None, IsSome, sym, ◌∙◌, ap, subst, refl, arith}
+use Rattle.std.{proofs.lemmas.Bool.true≢false, proofs.lemmas.List.length-map, proofs.lemmas.List.Elements.All-from_recursion, proofs.lemmas.List.Sums.sum-map, specs.List.All, specs.List.AllByRecursion, specs.List.filter, specs.List.sum_by}
+use Rattle.mus_score.specs.{declared.score.Score.Score, declared.score.Voice.Voice, GoodScore.IsGoodScore, Seats.grouped, Seats.is_lower, Seats.stands_lower as lower}
+use Rattle.mus_laid.specs.{declared.laid.StaffMarks.StaffMarks, declared.laid.SystemMarks.SystemMarks}
+use Rattle.mus_drawn.specs.{declared.drawn.DrawnVoice.DrawnVoice, Drawn.drawn_voice}
+use Rattle.mus_marks.{specs.Staff.verses_on, specs.System.drawn_staves, specs.System.stands_lower, proofs.Fitting.few_verses, proofs.Groups.grouped_map}
+use Rattle.lay_columns.specs.{declared.column.Column.Column, Column.length_rises, Columns.column_reach}
+use Rattle.lay_springs.{specs.Place.length_at, specs.Place.reach_at, specs.Fit.Passes, proofs.Longer.cannot_stand, proofs.Longer.stands}
 use Rattle.lay_springs.proofs.Ends.{length_rises as lengths_rise}
-use Rattle.lay_springs.proofs.Longer.{cannot_stand, stands}
-use Rattle.lay_breaks.specs.declared.costs.Span.{Span}
-use Rattle.lay_breaks.specs.declared.breaking.BreakError.{BreakError}
-use Rattle.lay_breaks.specs.declared.breaking.BreakError.TheVariants as causes
-use Rattle.lay_breaks.specs.Answers.{IsCause}
-use Rattle.lay_breaks.specs.Breaking.{FitsFrom, IsChosen, IsReached, NoneLegal, RisesFrom, last_from}
-use Rattle.lay_breaks.specs.Spans.{AreSpans, listed}
-use Rattle.lay_spans.specs.Badness.{badness_of}
-use Rattle.lay_spans.specs.Columns.{AreMeasures, column_count, span_columns}
-use Rattle.lay_spans.specs.Forced.{is_forced}
-use Rattle.lay_spans.specs.SpanList.{IsSpanList}
-use Rattle.lay_spans.proofs.Adding.{columns_few, columns_some}
-use Rattle.lay_tune.specs.Spans.{AreColumnsOf, AreSpansOf, CanStandIn, IsForceOf, column_length, is_forced_in, score_gaps, verses_of}
-use Rattle.lay_tune.specs.Layout.{IsCauseIn, IsNoWay, layout_error}
-use Rattle.lay_tune.specs.Systems.{AllSpans, CanBeSet, HaveForce}
+use Rattle.lay_breaks.specs.{declared.costs.Span.Span, declared.breaking.BreakError.BreakError, Answers.IsCause, Breaking.FitsFrom, Breaking.IsChosen, Breaking.IsReached, Breaking.NoneLegal, Breaking.RisesFrom, Breaking.last_from, Spans.AreSpans, Spans.listed}
+use Rattle.lay_spans.{specs.Badness.badness_of, specs.Columns.AreMeasures, specs.Columns.column_count, specs.Columns.span_columns, specs.Forced.is_forced, specs.SpanList.IsSpanList, proofs.Adding.columns_few, proofs.Adding.columns_some}
+use Rattle.lay_tune.{proofs.StaffCounts.count_grouped, proofs.StaffCounts.few_groups, proofs.StaffCounts.none_more, specs.Spans.AreColumnsOf, specs.Spans.AreSpansOf, specs.Spans.CanStandIn, specs.Spans.IsForceOf, specs.Spans.column_length, specs.Spans.is_forced_in, specs.Spans.score_gaps}
+use Rattle.lay_tune.specs.{Spans.verses_of, Layout.IsCauseIn, Layout.IsNoWay, Layout.layout_error, Systems.AllSpans, Systems.CanBeSet, Systems.HaveForce, Systems.gaps_between}
 
 -- columns that have a force don't pass the width at force 0
 pub never_passes : (gaps : List ℕ) (width : ℕ) (columns : List Column) → HaveForce gaps width columns
@@ -154,21 +138,53 @@ pub cause_read : (s : Score) (width : ℕ) (spans read : List Span) (forced : Li
     → forced ≡ s.forced → read ≡ spans → AreSpans s.measures spans → AreSpansOf s width spans
     → IsCause (listed read) (is_forced s.measures forced) s.measures error
     → IsCauseIn s width (layout_error error)
-cause_read s width spans read forced (causes.NoWay reached) all same form exact h =
+cause_read s width spans read forced (BreakError.NoWay reached) all same form exact h =
     no_way_read s width reached spans read forced all same form exact h.0 h.1
-cause_read s width spans read forced causes.Memory all same form exact h = tt
+cause_read s width spans read forced BreakError.Memory all same form exact h = tt
 
 -- a score has few lanes
-small_verses : (voices : List Voice) → All IsGoodVoice voices → All (λ v. v ≤ 255) (verses_of voices)
-small_verses [] h = All-nil (λ v. v ≤ 255)
-small_verses (v ∷ vs) h =
-    let few = (All-head IsGoodVoice v vs h).few_verses in
-    All-cons (λ n. n ≤ 255) v.verses (verses_of vs) (omega arith) (small_verses vs (All-tail IsGoodVoice v vs h))
+small_sums : (n : ℕ) (staves : List (List DrawnVoice)) → n ≤ 255 → AllByRecursion (λ vs. sum_by (λ v. v.verses) vs ≤ n) staves → AllByRecursion (λ k. k ≤ 255) (map verses_on staves)
+small_sums n [] l h = tt
+small_sums n (vs ∷ staves) l h =
+    let all = sum-map (λ (v : DrawnVoice). v.verses) vs in
+    let here = h.0 in
+    (omega (arith, l, all, here), small_sums n staves l h.1)
 
-pub few_lanes : (s : Score) (verses gaps : List ℕ) → IsGoodScore s → verses ≡ verses_of s.voices
+small_verses : (s : Score) → IsGoodScore s → All (λ n. n ≤ 255) (verses_of s)
+small_verses s good =
+    let voices = map drawn_voice s.voices in
+    let most = few_verses s good in
+    let all = sum-map (λ (v : DrawnVoice). v.verses) (map drawn_voice s.voices) in
+    All-from_recursion (λ n. n ≤ 255) (verses_of s)
+    (small_sums (sum_by (λ v. v.verses) voices) (drawn_staves s) (omega (arith, most, all)) (none_more stands_lower (λ v. v.verses) voices))
+
+-- and no more staves than voices
+pub staves_count : (s : Score) → length (drawn_staves s) ≤ length s.voices
+staves_count s = let few = few_groups stands_lower (map drawn_voice s.voices) in let each = length-map s.voices drawn_voice in omega (arith, few, each)
+
+pub few_lanes : (s : Score) (verses gaps : List ℕ) → IsGoodScore s → verses ≡ verses_of s
     → (All (λ v. v ≤ 255) verses → length gaps ≤ 258 * length verses) → length gaps < 4294967296
 few_lanes s verses gaps good is few =
-    let small = few (subst (λ these. All (λ v. v ≤ 255) these) (sym is) (small_verses s.voices good.voices)) in
-    let count : length verses ≡ length s.voices = ap (λ these. length these) is ∙ length-map s.voices (λ v. v.verses) in
+    let small = few (subst (λ these. All (λ v. v ≤ 255) these) (sym is) (small_verses s good)) in
+    let count : length verses ≡ length (drawn_staves s) = ap (λ these. length these) is ∙ length-map (drawn_staves s) verses_on in
+    let staves = staves_count s in
     let voices = good.few_voices in
     omega arith
+
+-- as many gaps as staves but the first
+same_seat : (v : Voice) → is_lower (drawn_voice v).seat ≡ is_lower v.seat
+unfolding drawn_voice
+same_seat v = refl
+
+gaps_of_voices : (vs : List Voice) → length (gaps_between vs) ≡ length (grouped stands_lower (map drawn_voice vs)) - 1
+gaps_of_voices [] = refl
+gaps_of_voices (v ∷ vs) =
+    let drawn = ap (λ groups. length groups) (grouped_map drawn_voice lower stands_lower same_seat (v ∷ vs)) in
+    let same = length-map (grouped lower (v ∷ vs)) (map drawn_voice) in
+    let all = length-map (filter (λ v. not (lower v)) vs) (λ v. v.gap) in
+    omega (arith, drawn, same, all, count_grouped lower v vs)
+
+pub gaps_count : (s : Score) (m : SystemMarks) (gaps : List ℕ) (staff : List DrawnVoice → StaffMarks) → gaps ≡ gaps_between s.voices → m.staves ≡ map staff (drawn_staves s)
+    → length gaps ≡ length m.staves - 1
+gaps_count s m gaps staff is stand =
+    ap (λ gs. length gs) is ∙ gaps_of_voices s.voices ∙ ap (λ n. n - 1) (sym (ap (λ these. length these) stand ∙ length-map (drawn_staves s) staff))

@@ -1,14 +1,8 @@
 -- Every list of column keys has a rising list of the same keys.
 use Rattle.std.proofs.Common.{◌≡◌, ◌∙◌, ℕ, inl, inr, Bool, true, false, nat_lt, List, [], ◌∷◌, refl, sym, ap, subst, arith}
-use Rattle.std.specs.List.{Contains}
-use Rattle.std.proofs.lemmas.Bool.Decides.{nat_tests}
-use Rattle.mus_time.specs.declared.keys.Class.{Class}
-use Rattle.mus_time.specs.declared.keys.ColumnKey.{ColumnKey}
-use Rattle.mus_time.specs.Keys.{AreKeys, key_at}
-use Rattle.mus_time.proofs.Orders.{below_through}
-use Rattle.mus_marks.proofs.Inside.{there}
-use Rattle.mus_marks.proofs.OneList.{below_in, first_or}
-use Rattle.mus_time.specs.Order.{BelowAll, Rises, class_number, is_below, then_below}
+use Rattle.std.{proofs.lemmas.Bool.Decides.nat_tests, specs.List.Contains}
+use Rattle.mus_time.{specs.declared.keys.Class.Class, specs.declared.keys.ColumnKey.ColumnKey, specs.Keys.AreKeys, specs.Keys.key_at, specs.Order.BelowAll, specs.Order.Rises, specs.Order.class_number, specs.Order.is_below, specs.Order.then_below, proofs.Orders.below_through}
+use Rattle.mus_marks.proofs.{Inside.there, OneList.below_in, OneList.first_or}
 
 -- ---- the order of keys
 neither_first : (a b : ℕ) (p q : Bool) → then_below a b p ≡ false → then_below b a q ≡ false → (a ≡ b) × (p ≡ false) × (q ≡ false)

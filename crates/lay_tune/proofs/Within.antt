@@ -1,30 +1,15 @@
 -- Columns that stand apart rise from 0, and those of a system end within the width.
 use Rattle.std.proofs.Common.{◌≡◌, ◌∙◌, sym, ap, subst, refl, inl, inr, ℕ, zero, suc, ◌+◌, ◌-◌, ◌*◌, ◌/◌, ◌<◌, ◌≤◌, ◌==◌, ◌^◌, ℤ, pos, ◌+ℤ◌, ◌≤ℤ◌, Bool, true, false, List, length, map, Option, Some, Result, Ok, Err, IfOk, arith}
-use Rattle.std.proofs.lemmas.Bool.{cases_lt}
-use Rattle.std.proofs.lemmas.Bool.Decides.{nat_tests}
-use Rattle.std.proofs.lemmas.Int.{ints}
-use Rattle.std.proofs.lemmas.List.{length-map}
+use Rattle.std.proofs.{lemmas.Bool.cases_lt, lemmas.Bool.Decides.nat_tests, lemmas.Int.ints, lemmas.List.length-map}
 use Rattle.mus_score.specs.declared.score.Score.{Score}
-use Rattle.mus_time.specs.declared.keys.ColumnKey.{ColumnKey}
-use Rattle.mus_time.specs.Keys.{called_keys}
-use Rattle.mus_time.specs.Onsets.{timeline_of}
-use Rattle.mus_laid.specs.declared.laid.StaffMarks.{StaffMarks}
-use Rattle.mus_laid.specs.declared.laid.SystemMarks.{SystemMarks}
-use Rattle.mus_marks.specs.Tilt.{AreAbscissas}
-use Rattle.lay_springs.specs.declared.traits.Reach.{Reach}
-use Rattle.lay_springs.specs.declared.margin.Placed.{Placed}
-use Rattle.lay_springs.specs.Fit.{Fits, IsSet, counted, is_ragged}
-use Rattle.lay_springs.specs.Place.{IsPlace, StandApart, length_at, reach_at}
+use Rattle.mus_time.specs.{declared.keys.ColumnKey.ColumnKey, Keys.called_keys, Onsets.timeline_of}
+use Rattle.mus_laid.specs.{declared.laid.StaffMarks.StaffMarks, declared.laid.SystemMarks.SystemMarks}
+use Rattle.mus_marks.{specs.Tilt.AreAbscissas, proofs.OneList.same_keys}
+use Rattle.lay_springs.specs.{declared.traits.Reach.Reach, declared.margin.Placed.Placed, Fit.Fits, Fit.IsSet, Fit.counted, Fit.is_ragged, Place.IsPlace, Place.StandApart, Place.length_at, Place.reach_at}
 use Rattle.lay_springs.proofs.Ends.{apart_down, length_rises as lengths_rise}
-use Rattle.lay_columns.specs.declared.column.Column.{Column}
-use Rattle.lay_columns.specs.Column.{length_rises}
-use Rattle.lay_columns.specs.Columns.{column_reach, columns_of}
-use Rattle.lay_columns.proofs.Facts.{columns_keys}
-use Rattle.mus_marks.proofs.OneList.{same_keys}
-use Rattle.lay_spans.specs.Columns.{span_columns}
-use Rattle.lay_spans.proofs.Fitting.{seen_as}
-use Rattle.lay_tune.specs.Spans.{AreColumnsOf, IsForceOf, IsSystem, column_length, score_gaps, system_columns, verses_of}
-use Rattle.lay_tune.specs.Systems.{CanBeSet, HaveForce, IsJustified, IsPlaced, StandWithin, x_at}
+use Rattle.lay_columns.{specs.declared.column.Column.Column, specs.Column.length_rises, specs.Columns.column_reach, specs.Columns.columns_of, proofs.Facts.columns_keys}
+use Rattle.lay_spans.{specs.Columns.span_columns, proofs.Fitting.seen_as}
+use Rattle.lay_tune.specs.{Spans.AreColumnsOf, Spans.IsForceOf, Spans.IsSystem, Spans.column_length, Spans.score_gaps, Spans.system_columns, Spans.verses_of, Systems.CanBeSet, Systems.HaveForce, Systems.IsJustified, Systems.IsPlaced, Systems.StandWithin, Systems.x_at}
 use Rattle.lay_tune.proofs.Called.{has_system}
 
 -- the last of n columns stands within the width, and reaches no further
@@ -150,7 +135,7 @@ columns_count keys staves lengths verses =
     sym (length-map (columns_of keys staves lengths verses) (λ c. c.key)) ∙ ap (λ ks. length ks) (columns_keys staves lengths verses 0 keys)
 
 pub system_count : (s : Score) (m : SystemMarks) → length (system_columns s m) ≡ length m.keys
-system_count s m = columns_count m.keys m.staves (timeline_of s).lengths (verses_of s.voices)
+system_count s m = columns_count m.keys m.staves (timeline_of s).lengths (verses_of s)
 
 -- what is known of a span that can be set, by the columns of its measures
 pub span_set : {s : Score} {width room a b : ℕ} {gaps : List ℕ} (starts others : List (List Column)) (columns : List Column)

@@ -1,14 +1,8 @@
 -- Why a score has no layout.
 use Rattle.std.specs.Prelude.{ℕ, ⊤, List}
 use Rattle.mus_score.specs.declared.score.Score.{Score}
-use Rattle.lay_breaks.specs.declared.costs.Span.{Span}
-use Rattle.lay_breaks.specs.declared.breaking.BreakError.{BreakError}
-use Rattle.lay_breaks.specs.declared.breaking.BreakError.TheVariants as causes
-use Rattle.lay_breaks.specs.Breaking.{IsReached, NoneLegal}
-use Rattle.lay_breaks.specs.Spans.{AreSpans, listed}
-use Rattle.lay_tune.specs.declared.layout.LayoutError.{LayoutError}
-use Rattle.lay_tune.specs.declared.layout.LayoutError.TheVariants.{NoWay, Memory}
-use Rattle.lay_tune.specs.Spans.{AreSpansOf, is_forced_in}
+use Rattle.lay_breaks.specs.{declared.costs.Span.Span, declared.breaking.BreakError.BreakError, Breaking.IsReached, Breaking.NoneLegal, Spans.AreSpans, Spans.listed}
+use Rattle.lay_tune.specs.{declared.layout.LayoutError.LayoutError, Spans.AreSpansOf, Spans.is_forced_in, declared.layout.LayoutError.TheVariants.NoWay, declared.layout.LayoutError.TheVariants.Memory}
 
 -- no breaking into the spans that fit is legal; `reached` is the greatest bar at which a legal prefix ends
 pub record IsNoWay (s : Score) (width reached : ℕ) (spans : List Span) : Type 0 where
@@ -23,5 +17,5 @@ IsCauseIn s width (NoWay reached) = (spans : List Span) × IsNoWay s width reach
 IsCauseIn s width Memory = ⊤
 
 abbrev pub layout_error : BreakError → LayoutError
-layout_error (causes.NoWay reached) = NoWay reached
-layout_error causes.Memory = Memory
+layout_error (BreakError.NoWay reached) = NoWay reached
+layout_error BreakError.Memory = Memory

@@ -2,20 +2,19 @@
 use Rattle.std.specs.Prelude.{◌≡◌, ℕ, ◌<◌, List, [], length, slice_index_or}
 use Rattle.mus_score.specs.declared.score.Score.{Score}
 use Rattle.mus_time.specs.Onsets.{timeline_of}
-use Rattle.lay_columns.specs.declared.column.Column.{Column}
-use Rattle.lay_columns.specs.Columns.{column_reach}
+use Rattle.lay_columns.specs.{declared.column.Column.Column, Columns.column_reach}
 use Rattle.lay_measures.specs.Measures.{AreFirst, AreFurther}
 use Rattle.lay_spans.specs.Columns.{EndsInAll}
 use Rattle.lay_tune.specs.Spans.{score_gaps, verses_of}
 
 -- of measure m in a system that begins with it; the last stands in each lane
 pub record IsStart (s : Score) (m : ℕ) (columns : List Column) : Type 0 where
-  pub first : AreFirst s (timeline_of s) m (verses_of s.voices) columns
+  pub first : AreFirst s (timeline_of s) m (verses_of s) columns
   pub ends : EndsInAll column_reach (length (score_gaps s)) columns
 
 -- of measure m in a system that began before; the last stands in each lane
 pub record IsOther (s : Score) (m : ℕ) (columns : List Column) : Type 0 where
-  pub further : AreFurther s (timeline_of s) m (verses_of s.voices) columns
+  pub further : AreFurther s (timeline_of s) m (verses_of s) columns
   pub ends : EndsInAll column_reach (length (score_gaps s)) columns
 
 -- a list of columns for each of the first n measures

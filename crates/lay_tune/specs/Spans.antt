@@ -1,28 +1,20 @@
 -- The spans of a score that fit a width, told from the marks that the score calls for in each.
 use Rattle.std.specs.Prelude.{◌≡◌, ℕ, ◌<◌, ◌≤◌, ◌==◌, Bool, List, map, Some, IsSome}
 use Rattle.mus_score.specs.declared.score.Score.{Score}
-use Rattle.mus_score.specs.declared.score.Voice.{Voice}
 use Rattle.mus_time.specs.Onsets.{timeline_of}
 use Rattle.mus_laid.specs.declared.laid.SystemMarks.{SystemMarks}
-use Rattle.mus_marks.specs.System.{IsCall}
-use Rattle.lay_columns.specs.declared.column.Column.{Column}
-use Rattle.lay_columns.specs.Column.{length_at}
-use Rattle.lay_columns.specs.Columns.{column_reach, columns_of}
-use Rattle.lay_columns.specs.Lanes.{gaps_of}
-use Rattle.lay_breaks.specs.declared.costs.Span.{Span}
-use Rattle.lay_breaks.specs.Spans.{listed}
-use Rattle.lay_spans.specs.Badness.{badness_of}
-use Rattle.lay_spans.specs.Columns.{span_columns}
-use Rattle.lay_spans.specs.Forced.{ForcedInside, is_forced}
-use Rattle.lay_spans.specs.SpanList.{IsForce, StandsAt}
+use Rattle.mus_marks.specs.{Staff.verses_on, System.IsCall, System.drawn_staves}
+use Rattle.lay_columns.specs.{declared.column.Column.Column, Column.length_at, Columns.column_reach, Columns.columns_of, Lanes.gaps_of}
+use Rattle.lay_breaks.specs.{declared.costs.Span.Span, Spans.listed}
+use Rattle.lay_spans.specs.{Badness.badness_of, Columns.span_columns, Forced.ForcedInside, Forced.is_forced, SpanList.IsForce, SpanList.StandsAt}
 
--- how many verses each voice has
-abbrev pub verses_of : List Voice → List ℕ
-verses_of voices = map (λ v. v.verses) voices
+-- how many verses each staff has
+abbrev pub verses_of : Score → List ℕ
+verses_of s = map verses_on (drawn_staves s)
 
 -- the gaps that the columns of a score keep in their lanes
 abbrev pub score_gaps : Score → List ℕ
-score_gaps s = gaps_of (verses_of s.voices)
+score_gaps s = gaps_of (verses_of s)
 
 abbrev pub is_forced_in : Score → ℕ → Bool
 is_forced_in s = is_forced s.measures s.forced
@@ -33,7 +25,7 @@ IsSystem s a b m = IsCall s (timeline_of s) a b m
 
 -- the columns of a system, by its marks
 abbrev pub system_columns : Score → SystemMarks → List Column
-system_columns s m = columns_of m.keys m.staves (timeline_of s).lengths (verses_of s.voices)
+system_columns s m = columns_of m.keys m.staves (timeline_of s).lengths (verses_of s)
 
 -- the length of the spring at a column
 abbrev pub column_length : Column → ℕ → ℕ

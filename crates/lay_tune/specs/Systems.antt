@@ -1,17 +1,12 @@
 -- The systems of a breaking: where their columns stand, and their staves under one another.
-use Rattle.std.specs.Prelude.{◌≡◌, ⊤, ℕ, ◌+◌, ◌<◌, ◌≤◌, ◌==◌, ◌^◌, Bool, true, false, ℤ, pos, ◌-ℤ◌, ◌≤ℤ◌, ◌<ℤ◌, List, [], ◌∷◌, length, slice_index_or}
-use Rattle.mus_score.specs.declared.score.Score.{Score}
+use Rattle.std.specs.Prelude.{◌≡◌, ⊤, ℕ, ◌+◌, ◌<◌, ◌≤◌, ◌==◌, ◌^◌, Bool, true, false, not, ℤ, pos, ◌-ℤ◌, ◌≤ℤ◌, ◌<ℤ◌, List, [], ◌∷◌, length, map, filter, drop, slice_index_or}
+use Rattle.mus_score.specs.{declared.score.Score.Score, declared.score.Voice.Voice, Seats.stands_lower}
 use Rattle.mus_time.specs.Onsets.{timeline_of}
-use Rattle.mus_laid.specs.declared.laid.SystemMarks.{SystemMarks}
-use Rattle.mus_laid.specs.Shapes.{AreAlike}
+use Rattle.mus_laid.specs.{declared.laid.SystemMarks.SystemMarks, Shapes.AreAlike}
 use Rattle.mus_marks.specs.Tilt.{IsTilted}
-use Rattle.lay_columns.specs.declared.column.Column.{Column}
-use Rattle.lay_columns.specs.Columns.{column_reach}
-use Rattle.lay_springs.specs.declared.margin.Placed.{Placed}
-use Rattle.lay_springs.specs.Place.{IsPlace, StandApart, length_at, reach_at}
-use Rattle.lay_springs.specs.Fit.{IsSet, counted, is_ragged}
-use Rattle.lay_pages.specs.declared.stacking.Heights.{Heights}
-use Rattle.lay_pages.specs.Stacking.{AreStacked}
+use Rattle.lay_columns.specs.{declared.column.Column.Column, Columns.column_reach}
+use Rattle.lay_springs.specs.{declared.margin.Placed.Placed, Place.IsPlace, Place.StandApart, Place.length_at, Place.reach_at, Fit.IsSet, Fit.counted, Fit.is_ragged}
+use Rattle.lay_pages.specs.{declared.stacking.Heights.Heights, Stacking.AreStacked}
 use Rattle.lay_tune.specs.Spans.{IsForceOf, IsSystem, column_length, score_gaps, system_columns}
 
 -- Two things for each span of a breaking, in order; the first span begins at bar a.
@@ -49,9 +44,13 @@ pub record IsSetSystem (s : Score) (width a b : ℕ) (m : SystemMarks) (p : Plac
   pub tilted : IsTilted s (timeline_of s) a b p.at m
   pub alike : AreAlike flat m
 
--- the staves of a system stand under one another
-pub record IsStack (m : SystemMarks) (h : Heights) : Type 0 where
-  pub stacked : AreStacked (pos 0) m.staves h.bases (pos 0 -ℤ h.height)
+-- how far the staff of each voice that isn't lower keeps from the one above it, but for the first voice
+abbrev pub gaps_between : List Voice → List ℕ
+gaps_between voices = map (λ v. v.gap) (filter (λ v. not (stands_lower v)) (drop 1 voices))
+
+-- the staves of a system of the score stand under one another
+pub record IsStack (s : Score) (m : SystemMarks) (h : Heights) : Type 0 where
+  pub stacked : AreStacked (pos 0) (gaps_between s.voices) m.staves h.bases (pos 0 -ℤ h.height)
   pub low : pos 0 ≤ℤ h.height
   pub high : h.height ≤ℤ pos (2 ^ 40)
 

@@ -1,24 +1,20 @@
 ghost use Rattle.std.specs.Prelude.{◌≡◌, ◌+◌, ◌<◌, ◌≤◌, ℕ, Option, All, IfErr, IfOk, length, map, slice_index_or};
 ghost use Rattle.mus_score.specs.GoodScore.{IsGoodScore};
 ghost use Rattle.mus_time.specs.Onsets.{timeline_of};
-ghost use Rattle.mus_drawn.specs.Drawn.{drawn_voice};
-ghost use Rattle.mus_drawn.specs.Good.{AreGoodMeasures};
+ghost use Rattle.mus_drawn.specs.{Drawn.drawn_voice, Good.AreGoodMeasures};
 ghost use Rattle.mus_laid.specs.Boxes.{AreGoodMarks};
 ghost use Rattle.lay_columns.specs.Columns.{column_reach};
-ghost use Rattle.lay_breaks.specs.Breaking.{IsChosen, IsPotential, sum_from};
-ghost use Rattle.lay_breaks.specs.Spans.{AreSpans, listed};
+ghost use Rattle.lay_breaks.specs.{Breaking.IsChosen, Breaking.IsPotential, Breaking.sum_from, Spans.AreSpans, Spans.listed};
 ghost use Rattle.lay_spans.specs.Columns.{AreMeasures};
 ghost use Rattle.lay_tune.specs.declared.layout.LayoutError.TheVariants as errors;
-ghost use Rattle.lay_tune.specs.Layout.{IsCauseIn, layout_error};
-ghost use Rattle.lay_tune.specs.Spans.{AreColumnsOf, AreSpansOf, is_forced_in, score_gaps, verses_of};
+ghost use Rattle.lay_tune.specs.{Layout.IsCauseIn, Layout.layout_error, Spans.AreColumnsOf, Spans.AreSpansOf, Spans.is_forced_in, Spans.score_gaps, Spans.verses_of};
 ghost use Rattle.lay_tune.specs.Systems.{Beside, EachSpan, IsSetSystem, IsStack};
 
 use crate::measures::{columns_within, others_of, starts_of};
 use crate::systems::{Systems, set_systems};
-use crate::verses::verses_of;
 use lay_breaks::{BreakError, Breaking, Span};
 use lay_columns::{Column, gaps_of};
-use lay_measures::measures_join;
+use lay_measures::{measures_join, staff_verses};
 use lay_pages::Heights;
 use lay_spans::{break_of, places_of, spans_of};
 use lay_springs::Placed;
@@ -84,7 +80,7 @@ fn lay_out_measures(
     requires times { t.now ≡ timeline_of s.now }
     requires voices { voices.old ≡ map drawn_voice s.now.voices }
     requires drawn { All (λ v. AreGoodMeasures v.measures) voices.old }
-    requires verses { verses.now ≡ verses_of s.now.voices }
+    requires verses { verses.now ≡ verses_of s.now }
     requires count { length starts.now ≡ s.now.measures }
     requires measures { AreMeasures column_reach (length (score_gaps s.now)) starts.now others.now }
     requires columns { AreColumnsOf s.now starts.now others.now }
@@ -96,7 +92,7 @@ fn lay_out_measures(
     ensures potentials { IfOk result (λ l. (i : ℕ) → i ≤ s.now.measures
         → IsPotential (listed l.spans) (is_forced_in s.now) i (slice_index_or l.breaking.potentials i Option.None)) }
     ensures systems { IfOk result (λ l. EachSpan (IsSetSystem s.now width) 0 l.breaking.breaks l.systems l.placed) }
-    ensures heights { IfOk result (λ l. Beside IsStack l.systems l.heights) }
+    ensures heights { IfOk result (λ l. Beside (IsStack s.now) l.systems l.heights) }
     ensures texts { IfOk result (λ l. All (λ m. All (λ staff. AreGoodMarks staff.marks) m.staves) l.systems) }
     ensures no_way { IfErr result (IsCauseIn s.now width) }
 {
@@ -163,15 +159,15 @@ pub fn lay_out(alloc: Global, s: &Score, width: u32) -> Result<Layout, LayoutErr
     ensures potentials { IfOk result (λ l. (i : ℕ) → i ≤ s.now.measures
         → IsPotential (listed l.spans) (is_forced_in s.now) i (slice_index_or l.breaking.potentials i Option.None)) }
     ensures systems { IfOk result (λ l. EachSpan (IsSetSystem s.now width) 0 l.breaking.breaks l.systems l.placed) }
-    ensures heights { IfOk result (λ l. Beside IsStack l.systems l.heights) }
+    ensures heights { IfOk result (λ l. Beside (IsStack s.now) l.systems l.heights) }
     ensures texts { IfOk result (λ l. All (λ m. All (λ staff. AreGoodMarks staff.marks) m.staves) l.systems) }
     ensures no_way { IfErr result (IsCauseIn s.now width) }
 {
     let t = onsets(alloc, s)?;
     let mut drawn = draw_voices(alloc, s)?;
-    let voices = drawn.items.as_mut_slice();
-    let counts = verses_of(alloc, s.voices.as_slice())?;
+    let counts = staff_verses(alloc, drawn.as_slice())?;
     let verses = counts.as_slice();
+    let voices = drawn.items.as_mut_slice();
     let begun = starts_of(alloc, s, voices, &t, verses)?;
     let starts = begun.as_slice();
     let further = others_of(alloc, s, voices, &t, verses)?;

@@ -2,10 +2,10 @@
 //! badness, and for each system its marks, where its columns stand and how its staves are stacked.
 #![tactic(auto)]
 
+mod gaps;
 pub mod layout;
 mod measures;
 mod systems;
-mod verses;
 
 pub use lay_breaks::{Breaking, Span};
 pub use lay_pages::Heights;

@@ -1,11 +1,9 @@
 ghost use Rattle.std.specs.Prelude.{◌≡◌, ◌≤◌, ◌<◌, All, IfOk, length, map, min};
 ghost use Rattle.mus_score.specs.GoodScore.{IsGoodScore};
 ghost use Rattle.mus_time.specs.Onsets.{timeline_of};
-ghost use Rattle.mus_drawn.specs.Drawn.{drawn_voice};
-ghost use Rattle.mus_drawn.specs.Good.{AreGoodMeasures};
+ghost use Rattle.mus_drawn.specs.{Drawn.drawn_voice, Good.AreGoodMeasures};
 ghost use Rattle.lay_spans.specs.Columns.{column_count};
-ghost use Rattle.lay_tune.specs.Measures.{EachMeasure, IsOther, IsStart};
-ghost use Rattle.lay_tune.specs.Spans.{verses_of};
+ghost use Rattle.lay_tune.specs.{Measures.EachMeasure, Measures.IsOther, Measures.IsStart, Spans.verses_of};
 
 use lay_columns::Column;
 use lay_measures::{first_columns, further_columns};
@@ -27,7 +25,7 @@ pub(crate) fn starts_of(
     requires times { t.now ≡ timeline_of s.now }
     requires voices { voices.now ≡ map drawn_voice s.now.voices }
     requires drawn { All (λ v. AreGoodMeasures v.measures) voices.now }
-    requires verses { verses.now ≡ verses_of s.now.voices }
+    requires verses { verses.now ≡ verses_of s.now }
     requires heard { 0 < s.now.measures → 1 ≤ length s.now.voices }
     ensures { IfOk result (EachMeasure (IsStart s.now) s.now.measures) }
 {
@@ -51,7 +49,7 @@ pub(crate) fn others_of(
     requires times { t.now ≡ timeline_of s.now }
     requires voices { voices.now ≡ map drawn_voice s.now.voices }
     requires drawn { All (λ v. AreGoodMeasures v.measures) voices.now }
-    requires verses { verses.now ≡ verses_of s.now.voices }
+    requires verses { verses.now ≡ verses_of s.now }
     requires heard { 0 < s.now.measures → 1 ≤ length s.now.voices }
     ensures { IfOk result (EachMeasure (IsOther s.now) s.now.measures) }
 {

@@ -1,12 +1,12 @@
 ghost use Rattle.std.specs.Prelude.{◌≡◌, ◌+◌, ◌<◌, ◌≤◌, ◌^◌, ◌==◌, ℕ, All, IfOk, length, map, slice_index};
 ghost use Rattle.mus_score.specs.GoodScore.{IsGoodScore};
 ghost use Rattle.mus_time.specs.Onsets.{timeline_of};
-ghost use Rattle.mus_drawn.specs.Drawn.{drawn_voice};
-ghost use Rattle.mus_drawn.specs.Good.{AreGoodMeasures};
+ghost use Rattle.mus_drawn.specs.{Drawn.drawn_voice, Good.AreGoodMeasures};
 ghost use Rattle.mus_laid.specs.Boxes.{AreGoodMarks};
 ghost use Rattle.lay_tune.specs.Spans.{AreColumnsOf, score_gaps};
 ghost use Rattle.lay_tune.specs.Systems.{AllSpans, Beside, CanBeSet, EachSpan, HaveForce, IsJustified, IsSetSystem, IsStack};
 
+use crate::gaps::gaps_between;
 use lay_columns::Column;
 use lay_pages::{Heights, stack};
 use lay_spans::{Seen, columns_in};
@@ -76,7 +76,7 @@ fn set_system(
     requires fits { CanBeSet s.now width (length scratch.old) a b }
     ensures kept { voices.new ≡ voices.old }
     ensures system { IfOk result (λ set. IsSetSystem s.now width a b set.marks set.placed) }
-    ensures heights { IfOk result (λ set. IsStack set.marks set.heights) }
+    ensures heights { IfOk result (λ set. IsStack s.now set.marks set.heights) }
     ensures good { IfOk result (λ set. All (λ staff. AreGoodMarks staff.marks) set.marks.staves) }
 {
     let columns = columns_in(alloc, starts, others, a as usize, b as usize)?;
@@ -89,7 +89,8 @@ fn set_system(
         scratch,
     )?;
     let marks = tilt_of(alloc, s, voices, t, a, b, placed.at.as_slice())?;
-    let heights = stack(alloc, &marks)?;
+    let between = gaps_between(alloc, s.voices.as_slice())?;
+    let heights = stack(alloc, &marks, between.as_slice())?;
     Ok(SetSystem {
         marks,
         placed,
@@ -131,7 +132,7 @@ pub(crate) fn set_systems(
     requires narrow { (lane : ℕ) → lane < length gaps.now → slice_index gaps.now lane ≤ 2 ^ 20 }
     requires fits { AllSpans (CanBeSet s.now width (length scratch.old)) 0 breaks.now }
     ensures systems { IfOk result (λ r. EachSpan (IsSetSystem s.now width) 0 breaks.now r.marks r.placed) }
-    ensures heights { IfOk result (λ r. Beside IsStack r.marks r.heights) }
+    ensures heights { IfOk result (λ r. Beside (IsStack s.now) r.marks r.heights) }
     ensures good { IfOk result (λ r. All (λ m. All (λ staff. AreGoodMarks staff.marks) m.staves) r.marks) }
 {
     let mut marks = Row::new(alloc);

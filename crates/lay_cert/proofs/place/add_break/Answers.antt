@@ -1,6 +1,5 @@
 use Rattle.std.proofs.Common.{sym, subst, ◌+◌, arith}
-use Rattle.lay_cert.specs.Stands.{IsChoosing}
-use Rattle.lay_cert.proofs.Kept.{total_fits, kept_break}
+use Rattle.lay_cert.{specs.Stands.IsChoosing, proofs.Kept.total_fits, proofs.Kept.kept_break}
 use Rattle.lay_cert.proofs.place.add_break.Goals as goal
 
 pub overflow_add-choosing : goal.overflow_add-choosing

@@ -1,6 +1,5 @@
 use Rattle.std.proofs.Common.{ap, sym, subst, Some, ◌∙◌, slice_set}
-use Rattle.lay_cert.specs.Stands.{IsChoosing}
-use Rattle.lay_cert.proofs.Kept.{kept_span}
+use Rattle.lay_cert.{specs.Stands.IsChoosing, proofs.Kept.kept_span}
 use Rattle.lay_cert.proofs.place.add_span.Goals as goal
 
 pub returns-clause-sound : goal.returns-clause-sound

@@ -1,10 +1,9 @@
 use Rattle.std.proofs.Common.{◌<◌, ◌≤◌, [], subst, inl, inr}
-use Rattle.lay_cert.specs.declared.lines.Line.TheVariants as line
-use Rattle.lay_cert.proofs.Judging.{none_refused, entry_same}
+use Rattle.lay_cert.{specs.declared.lines.Line.Line, proofs.Judging.none_refused, proofs.Judging.entry_same}
 use Rattle.lay_cert.proofs.place.after_entry.Goals as goal
 
 pub returns-then-branch-clause-step : goal.returns-then-branch-clause-step
-returns-then-branch-clause-step c es js e v = (line.End, c.in_ok-is_line.ensures.0 c.if-branch.true, tt, v)
+returns-then-branch-clause-step c es js e v = (Line.End, c.in_ok-is_line.ensures.0 c.if-branch.true, tt, v)
 
 pub returns-then-tune-last-clause-step : goal.returns-then-tune-last-clause-step
 returns-then-tune-last-clause-step c es js e v =
@@ -16,7 +15,7 @@ pub returns-clause-step : goal.returns-clause-step
 returns-clause-step c es js e v =
     let r = c.in-Some.ensures in
     let m = c.in_ok-open_entry.ensures.empty in (
-      line.Tune c.in-Some.tune c.in-Some.bars,
+      Line.Tune c.in-Some.tune c.in-Some.bars,
       r.0,
       (subst (λ k. k < c.in-Some.tune) e c.if-tune-last.false, r.1, c.if-bars-gt4000.false),
       (

@@ -1,9 +1,6 @@
-use Rattle.std.proofs.Common.{sym, ◌∙◌}
-use Rattle.std.proofs.lemmas.Bool.{true≢false}
-use Rattle.lay_cert.specs.declared.lines.Line.TheVariants as line
-use Rattle.lay_cert.proofs.Judging.{none_choosing}
+use Rattle.std.proofs.{Common.sym, Common.◌∙◌, lemmas.Bool.true≢false}
+use Rattle.lay_cert.{specs.declared.lines.Line.Line, proofs.Judging.none_choosing, proofs.place.after_heading.Goals.then-choosing-via-then-choosing, proofs.place.after_heading.Goals.then-choosing-via-else-choosing+in_ok-is_line+then-not-branch}
 use Rattle.lay_cert.proofs.place.after_heading.Goals as goal
-use Rattle.lay_cert.proofs.place.after_heading.Goals.{then-choosing-via-then-choosing, then-choosing-via-else-choosing+in_ok-is_line+then-not-branch}
 
 pub returns-then-choosing-clause-step : goal.returns-then-choosing-clause-step
 returns-then-choosing-clause-step c es js v =
@@ -17,7 +14,7 @@ returns-then-choosing-clause-step c es js v =
 pub returns-clause-step : goal.returns-clause-step
 returns-clause-step c es js v =
     let h = c.requires.sound in (
-      line.Total c.args.choosing.total,
+      Line.Total c.args.choosing.total,
       c.in_ok-is_line.ensures.0 c.if-not-branch.false,
       (sym h.at ∙ c.if-choosing.false, h.total),
       (v, c.in_ok-prove.ensures),

@@ -1,21 +1,16 @@
 use Rattle.std.proofs.Common.{None, Some, ap, sym, ◌∙◌, subst, slice_index_or}
-use Rattle.lay_cert.specs.Lines.{line_text}
-use Rattle.lay_cert.specs.Places.{proving}
-use Rattle.lay_cert.specs.Stands.{IsStep}
-use Rattle.lay_cert.specs.declared.lines.Line.TheVariants as line
-use Rattle.lay_cert.specs.declared.place.Stage.TheVariants as stage
-use Rattle.lay_cert.proofs.Judging.{proved_all, proved_one}
+use Rattle.lay_cert.{specs.Lines.line_text, specs.Places.proving, specs.Stands.IsStep, specs.declared.lines.Line.Line, specs.declared.place.Stage.Stage, proofs.Judging.proved_all, proofs.Judging.proved_one}
 use Rattle.lay_cert.proofs.place.after_total.Goals as goal
 
 pub returns-then-next-bars-clause-step : goal.returns-then-next-bars-clause-step
 returns-then-next-bars-clause-step c es e v k =
     let p = c.args.proving in
-    let is = c.in_ok-is_line.ensures.0 c.if-not-branch.false ∙ ap (λ ps. line_text (line.Potential p.next (slice_index_or ps p.next None))) c.as_slice.ensures in
-    subst (λ js. IsStep (proving es e) c.args.raw.now js (Some (stage.Between p.tune))) (sym c.in_ok-push.ensures.ok)
+    let is = c.in_ok-is_line.ensures.0 c.if-not-branch.false ∙ ap (λ ps. line_text (Line.Potential p.next (slice_index_or ps p.next None))) c.as_slice.ensures in
+    subst (λ js. IsStep (proving es e) c.args.raw.now js (Some (Stage.Between p.tune))) (sym c.in_ok-push.ensures.ok)
     (proved_all es c.args.judged.now e p c.args.raw.now v k c.if-next-bars.true is)
 
 pub returns-clause-step : goal.returns-clause-step
 returns-clause-step c es e v k =
     let p = c.args.proving in
-    let is = c.in_ok-is_line.ensures.0 c.if-not-branch.false ∙ ap (λ ps. line_text (line.Potential p.next (slice_index_or ps p.next None))) c.as_slice.ensures in
+    let is = c.in_ok-is_line.ensures.0 c.if-not-branch.false ∙ ap (λ ps. line_text (Line.Potential p.next (slice_index_or ps p.next None))) c.as_slice.ensures in
     proved_one es c.args.judged.now e p c.args.raw.now v k c.if-next-bars.false is

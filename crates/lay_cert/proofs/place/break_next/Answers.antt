@@ -1,7 +1,6 @@
 use Rattle.std.proofs.Common.{[], ◌∷◌, ◌++◌, ap, sym, ◌∙◌, refl, is_some}
 use Rattle.lay_breaks.specs.Spans.{listed}
-use Rattle.lay_cert.specs.declared.lines.Line.TheVariants as line
-use Rattle.lay_cert.proofs.Judging.{none_break, entry_same}
+use Rattle.lay_cert.{specs.declared.lines.Line.Line, proofs.Judging.none_break, proofs.Judging.entry_same}
 use Rattle.lay_cert.proofs.place.break_next.Goals as goal
 
 pub returns-in_ok-add_break-in-Some-clause-step : goal.returns-in_ok-add_break-in-Some-clause-step
@@ -9,7 +8,7 @@ returns-in_ok-add_break-in-Some-clause-step c es js v =
     let k = c.args.choosing in
     let m = c.in_ok-add_break-in-Some.ensures.more in
     let at = c.requires.sound.at in (
-      line.Choose c.args.bar,
+      Line.Choose c.args.bar,
       refl,
       ap is_some (ap (λ a. listed k.spans a c.args.bar) (sym at) ∙ (sym c.next_cost.ensures ∙ c.in-Some.is)),
       (

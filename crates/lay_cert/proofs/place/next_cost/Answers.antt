@@ -1,7 +1,5 @@
 use Rattle.std.proofs.Common.{ap, ◌∙◌, arith, length}
-use Rattle.lay_cert.specs.Indexed.{looked_up}
-use Rattle.lay_cert.proofs.Kept.{listed_past, at_within}
-use Rattle.lay_cert.proofs.Indexing.{agrees}
+use Rattle.lay_cert.{specs.Indexed.looked_up, proofs.Kept.listed_past, proofs.Kept.at_within, proofs.Indexing.agrees}
 use Rattle.lay_cert.proofs.place.next_cost.Goals as goal
 
 pub returns-then-bar-choosing : goal.returns-then-bar-choosing

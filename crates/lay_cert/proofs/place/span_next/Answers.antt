@@ -1,10 +1,8 @@
 use Rattle.std.proofs.Common.{◌≡◌, ◌==◌, [], ◌∷◌, ◌++◌, length, ap, sym, ◌∙◌, refl, subst}
 use Rattle.std.proofs.lemmas.Bool.{true≢false}
 use Rattle.lay_breaks.specs.Spans.{MayFollow}
-use Rattle.lay_cert.specs.declared.lines.Line.TheVariants as line
-use Rattle.lay_cert.proofs.Judging.{none_span, entry_same, no_length}
+use Rattle.lay_cert.{specs.declared.lines.Line.Line, proofs.Judging.none_span, proofs.Judging.entry_same, proofs.Judging.no_length, proofs.place.span_next.Goals.then-not-is_empty-via-then-not-is_empty, proofs.place.span_next.Goals.then-not-is_empty-via-else-not-is_empty+then-not-may_follow}
 use Rattle.lay_cert.proofs.place.span_next.Goals as goal
-use Rattle.lay_cert.proofs.place.span_next.Goals.{then-not-is_empty-via-then-not-is_empty, then-not-is_empty-via-else-not-is_empty+then-not-may_follow}
 
 pub returns-then-not-is_empty-clause-step : goal.returns-then-not-is_empty-clause-step
 returns-then-not-is_empty-clause-step c es js v =
@@ -20,7 +18,7 @@ returns-clause-step c es js v =
     let k = c.args.choosing in
     let m = c.in_ok-add_span.ensures.more in
     let none : k.breaks ≡ [] = sym c.as_slice.ensures ∙ no_length c.as_slice.result.now (sym c.is_empty.ensures ∙ c.if-not-is_empty.false) in (
-      line.OneSpan c.args.span,
+      Line.OneSpan c.args.span,
       refl,
       (none, subst (λ o. MayFollow k.bars o c.args.span) c.requires.sound.last (c.may_follow.ensures.yes c.if-not-may_follow.false)),
       (

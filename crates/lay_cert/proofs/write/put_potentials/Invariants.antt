@@ -1,6 +1,5 @@
 use Rattle.std.proofs.Common.{◌≡◌, ◌++◌, [], take}
-use Rattle.lay_cert.specs.Lines.{lines_then}
-use Rattle.lay_cert.specs.Listing.{potential_lines}
+use Rattle.lay_cert.specs.{Lines.lines_then, Listing.potential_lines}
 use Rattle.lay_cert.proofs.write.put_potentials.Given as goal
 
 abbrev pub invariant-loop-least : goal.invariant-loop-least

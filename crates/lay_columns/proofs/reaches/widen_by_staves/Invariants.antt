@@ -1,6 +1,5 @@
 use Rattle.std.proofs.Common.{◌≡◌, ◌+◌, drop, length}
-use Rattle.lay_columns.specs.Lanes.{lanes_of}
-use Rattle.lay_columns.specs.Widened.{AreGoodStaves, widened_by_staves}
+use Rattle.lay_columns.specs.{Lanes.lanes_of, Widened.AreGoodStaves, Widened.widened_by_staves}
 use Rattle.lay_columns.proofs.reaches.widen_by_staves.Given as goal
 
 abbrev pub invariant-loop-staff : goal.invariant-loop-staff

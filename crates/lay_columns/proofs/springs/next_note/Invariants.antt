@@ -1,5 +1,4 @@
-use Rattle.std.proofs.Common.{◌≡◌, drop}
-use Rattle.std.specs.List.{find}
+use Rattle.std.{proofs.Common.◌≡◌, proofs.Common.drop, specs.List.find}
 use Rattle.lay_columns.specs.Naturals.{is_note_of}
 use Rattle.lay_columns.proofs.springs.next_note.Given as goal
 

@@ -1,6 +1,5 @@
-use Rattle.std.proofs.Common.{◌≤◌, ◌+◌, ap, sym, subst, arith}
-use Rattle.lay_pages.specs.Filling.{AreWithin, CanFollow, down_behind, first_place, group_height, standing_from, tall_from}
-use Rattle.lay_pages.proofs.Fitting.{behind_within, end_of, first_room}
+use Rattle.std.proofs.Common.{◌≤◌, ◌+◌, sym, subst, arith}
+use Rattle.lay_pages.{specs.Filling.CanFollow, specs.Filling.down_behind, specs.Filling.group_height, proofs.Fitting.behind_within, proofs.Fitting.end_of, proofs.Fitting.first_room}
 use Rattle.lay_pages.proofs.filling.fill_behind.Goals as goal
 
 pub spots_from-requires-clause-room : goal.spots_from-requires-clause-room

@@ -1,5 +1,4 @@
-use Rattle.std.proofs.Common.{◌≡◌, pos, arith, to_z, w64}
-use Rattle.std.proofs.lemmas.Int.{ints}
+use Rattle.std.proofs.{Common.◌≡◌, Common.pos, Common.arith, Common.to_z, Common.w64, lemmas.Int.ints}
 use Rattle.lay_pages.proofs.Under.{stacked_at}
 use Rattle.lay_pages.proofs.stacking.stack.Goals as goal
 
@@ -7,4 +6,4 @@ pub returns-clause-stacked : goal.returns-clause-stacked
 returns-clause-stacked c =
     let within = c.in_ok-bases.ensures.within in
     let bottom : to_z w64 c.in_ok-bases.bottom ≡ pos c.in_ok-bases.bottom = omega (arith, ints, within) in
-    stacked_at c.args.system.now.staves c.as_slice.result.now c.in_ok-bases.bases c.in_ok-bases.bottom (to_z w64 c.in_ok-bases.bottom) c.as_slice.ensures c.in_ok-bases.ensures.bases c.in_ok-bases.ensures.bottom bottom c.requires.good
+    stacked_at c.args.gaps.now c.args.system.now.staves c.as_slice.result.now c.in_ok-bases.bases c.in_ok-bases.bottom (to_z w64 c.in_ok-bases.bottom) c.as_slice.ensures c.in_ok-bases.ensures.bases c.in_ok-bases.ensures.bottom bottom c.requires.gaps c.requires.good

@@ -1,10 +1,6 @@
 use Rattle.std.proofs.Common.{◌≡◌, ◌≤◌, ℕ, IfOk, IfErr, None, slice_index_or, false}
-use Rattle.lay_breaks.specs.Answers.{IsCause}
-use Rattle.lay_breaks.specs.Breaking.{IsChosen, sum_from, IsPotential}
-use Rattle.lay_breaks.specs.Spans.{listed}
-use Rattle.lay_spans.specs.Costs.{cost_in}
-use Rattle.lay_spans.specs.Forced.{is_forced}
-use Rattle.lay_spans.proofs.Leading.{of_equal}
+use Rattle.lay_breaks.specs.{Answers.IsCause, Breaking.IsChosen, Breaking.sum_from, Breaking.IsPotential, Spans.listed}
+use Rattle.lay_spans.{specs.Costs.cost_in, specs.Forced.is_forced, proofs.Leading.of_equal}
 use Rattle.lay_spans.proofs.breaks.break_of.Goals as goal
 
 pub returns-in-Ok-clause-chosen : goal.returns-in-Ok-clause-chosen

@@ -1,7 +1,6 @@
 use Rattle.std.proofs.Common.{length, sym, ◌∙◌, ap, subst}
 use Rattle.lay_breaks.specs.Rows.{AreSmall}
-use Rattle.lay_spans.specs.Costs.{cost_in}
-use Rattle.lay_spans.proofs.Leading.{costs_listed, rows_count, rows_small}
+use Rattle.lay_spans.{specs.Costs.cost_in, proofs.Leading.costs_listed, proofs.Leading.rows_count, proofs.Leading.rows_small}
 use Rattle.lay_spans.proofs.costs.costs_of.Goals as goal
 
 pub invariant_of-result : goal.invariant_of-result

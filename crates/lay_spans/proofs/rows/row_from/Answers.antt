@@ -1,11 +1,7 @@
 use Rattle.std.proofs.Common.{◌≡◌, ◌+◌, ◌++◌, ◌<◌, ◌≤◌, ◌∷◌, [], map, length, length-append, false, slice_index_or, arith, sym, ◌∙◌, ap, subst, rules}
-use Rattle.lay_spans.specs.Columns.{span_columns, column_count}
-use Rattle.lay_spans.specs.SpanList.{IsForce, IsCost}
-use Rattle.lay_spans.proofs.Adding.{columns_some}
-use Rattle.lay_spans.proofs.Fitting.{force_of, still_above, never_stands}
-use Rattle.lay_spans.proofs.Growing.{seen_more, seen_few, costs_more, free_more, stops_at, stops_behind}
+use Rattle.lay_spans.{specs.Columns.span_columns, specs.Columns.column_count, specs.SpanList.IsForce, specs.SpanList.IsCost, proofs.Adding.columns_some, proofs.Fitting.force_of, proofs.Fitting.still_above, proofs.Fitting.never_stands, proofs.Growing.seen_more, proofs.Growing.seen_few}
+use Rattle.lay_spans.proofs.{Growing.costs_more, Growing.free_more, Growing.stops_at, Growing.stops_behind, rows.row_from.Goals.After-fit_within-arg-1, rows.row_from.Goals.In_ok-push}
 use Rattle.lay_spans.proofs.rows.row_from.Goals as goal
-use Rattle.lay_spans.proofs.rows.row_from.Goals.{After-fit_within-arg-1, In_ok-push}
 
 inside : (g : _) (c : After-fit_within-arg-1 g) → c.loop-m.m < length c.args.starts.now
 inside g c = let l = c.loop-m-test.true in omega arith

@@ -1,6 +1,5 @@
 use Rattle.std.proofs.Common.{◌+◌, slice_index_or, false, sym, subst, arith}
-use Rattle.lay_spans.specs.Rows.{AreRows}
-use Rattle.lay_spans.proofs.Growing.{rows_more}
+use Rattle.lay_spans.{specs.Rows.AreRows, proofs.Growing.rows_more}
 use Rattle.lay_spans.proofs.rows.rows_of.Goals as goal
 
 pub loop-a-preserved : goal.loop-a-preserved

@@ -1,6 +1,5 @@
 use Rattle.std.proofs.Common.{◌+◌, ◌≤◌, length, slice_index_or, false}
-use Rattle.lay_spans.specs.Columns.{column_count}
-use Rattle.lay_spans.specs.Rows.{AreRows}
+use Rattle.lay_spans.specs.{Columns.column_count, Rows.AreRows}
 use Rattle.lay_spans.proofs.rows.rows_of.Given as goal
 
 abbrev pub invariant-loop-a : goal.invariant-loop-a

@@ -1,12 +1,7 @@
-use Rattle.std.proofs.Common.{length, slice_index_or, false, sym, ◌∙◌, ap, subst}
-use Rattle.std.proofs.Math.Path.{fun_ext}
+use Rattle.std.proofs.{Common.length, Common.slice_index_or, Common.false, Common.sym, Common.◌∙◌, Common.ap, Common.subst, Math.Path.fun_ext}
 use Rattle.lay_breaks.specs.Spans.{AreSpans}
-use Rattle.lay_spans.specs.Forced.{is_forced}
-use Rattle.lay_spans.specs.SpanList.{IsSpanList}
-use Rattle.lay_spans.specs.Rows.{AreRows, rows_spans}
-use Rattle.lay_spans.proofs.Growing.{rows_are_spans, rows_tell_spans, on_ok}
+use Rattle.lay_spans.{specs.Forced.is_forced, specs.SpanList.IsSpanList, specs.Rows.AreRows, specs.Rows.rows_spans, proofs.Growing.rows_are_spans, proofs.Growing.rows_tell_spans, proofs.Growing.on_ok, proofs.spans.spans_of.Goals.After-list_rows}
 use Rattle.lay_spans.proofs.spans.spans_of.Goals as goal
-use Rattle.lay_spans.proofs.spans.spans_of.Goals.{After-list_rows}
 
 rows : (g : _) (c : After-list_rows g)
     → AreRows g.C.Spaced.reach_of g.C.Spring.length_of c.args.gaps.now c.args.width c.args.starts.now c.args.others.now

@@ -1,5 +1,4 @@
-use Rattle.std.proofs.Common.{◌≡◌, Some, arith, sym, ◌∙◌}
-use Rattle.std.proofs.lemmas.Int.{ints}
+use Rattle.std.proofs.{Common.◌≡◌, Common.Some, Common.arith, Common.sym, Common.◌∙◌, lemmas.Int.ints}
 use Rattle.lay_springs.proofs.Ends.{end_more}
 use Rattle.lay_springs.proofs.forces.end_of.Goals as goal
 

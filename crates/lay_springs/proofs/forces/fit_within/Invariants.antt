@@ -1,6 +1,5 @@
 use Rattle.std.proofs.Common.{◌≡◌, ◌+◌, ◌-◌, ◌*◌, ◌<◌, ◌≤◌, length}
-use Rattle.lay_springs.specs.Place.{reach_at, length_at}
-use Rattle.lay_springs.specs.Fit.{Fits, Passes}
+use Rattle.lay_springs.specs.{Place.reach_at, Place.length_at, Fit.Fits, Fit.Passes}
 use Rattle.lay_springs.proofs.forces.fit_within.Given as goal
 
 abbrev pub invariant-loop-low : goal.invariant-loop-low

@@ -1,5 +1,4 @@
-use Rattle.std.proofs.Common.{◌≡◌, Some, arith, sym, ◌∙◌}
-use Rattle.std.proofs.lemmas.Int.{ints}
+use Rattle.std.proofs.{Common.◌≡◌, Common.Some, Common.arith, Common.sym, Common.◌∙◌, lemmas.Int.ints}
 use Rattle.lay_springs.proofs.Clear.{inside_more, inside_less}
 use Rattle.lay_springs.proofs.least.first_of.Goals as goal
 

@@ -1,12 +1,10 @@
 use Rattle.std.proofs.Common.{◌≡◌, ◌+◌, ◌-◌, ◌*◌, ◌≤◌, ℤ, pos, ◌+ℤ◌, ◌≤ℤ◌, List, length, Some, slice_get, slice_index_or, to_z, of_z, w64, arith, sym, ◌∙◌, refl}
+use Rattle.std.proofs.{lemmas.Int.ints, lemmas.Int.to_z-of_z, lemmas.Option.slice_get_read}
 use Rattle.std.specs.Prelude.{FitsSigned}
-use Rattle.std.proofs.lemmas.Int.{ints, to_z-of_z}
-use Rattle.std.proofs.lemmas.Option.{slice_get_read}
 use Rattle.lay_springs.specs.Place.{length_at, reach_at, StandApart}
 use Rattle.lay_springs.proofs.Placing.{placed_more, length_is, past_read, past_written, near_at}
-use Rattle.lay_springs.proofs.Fronts.{front_clear, front_below, past_bound}
+use Rattle.lay_springs.proofs.{Fronts.front_clear, Fronts.front_below, Fronts.past_bound, least.next_of.Goals.After-past_front}
 use Rattle.lay_springs.proofs.least.next_of.Goals as goal
-use Rattle.lay_springs.proofs.least.next_of.Goals.{After-past_front}
 
 -- the spring that was read
 spring_is : (g : _) (c : After-past_front g) → length_at g.C.Spring.length_of c.args.cols.now c.args.force (c.args.j - 1) ≡ c.length.result

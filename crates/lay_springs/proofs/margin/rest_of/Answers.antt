@@ -1,11 +1,8 @@
 use Rattle.std.proofs.Common.{◌≡◌, ◌-◌, ℤ, pos, length, Some, slice_get, slice_index_or, arith, refl, to_z, of_z, w64}
-use Rattle.std.proofs.lemmas.Int.{ints}
-use Rattle.std.proofs.lemmas.Option.{slice_get_read}
-use Rattle.lay_springs.specs.Place.{reach_at}
-use Rattle.lay_springs.specs.Fit.{IsEndOf}
-use Rattle.lay_springs.proofs.Ends.{end_read}
+use Rattle.std.proofs.{lemmas.Int.ints, lemmas.Option.slice_get_read}
+use Rattle.lay_springs.specs.{Place.reach_at, Fit.IsEndOf}
+use Rattle.lay_springs.proofs.{Ends.end_read, margin.rest_of.Goals.After-end_of}
 use Rattle.lay_springs.proofs.margin.rest_of.Goals as goal
-use Rattle.lay_springs.proofs.margin.rest_of.Goals.{After-end_of}
 
 ends : (g : _) (c : After-end_of g) → IsEndOf (reach_at g.C.Spaced.reach_of c.args.cols.now (length c.args.cols.now - 1)) (length c.args.gaps.now)
     (slice_index_or c.args.at.now (length c.args.cols.now - 1) (pos 0)) c.end_of.result

@@ -1,7 +1,11 @@
-use Rattle.std.proofs.Common.{subst, sym}
-use Rattle.lay_tune.specs.Spans.{AreColumnsOf}
-use Rattle.lay_tune.proofs.Joins.{columns_join}
+use Rattle.std.proofs.Common.{◌∙◌, ◌≤◌, subst, sym}
+use Rattle.mus_marks.{specs.Staff.verses_on, proofs.Fitting.few_verses}
+use Rattle.lay_tune.{specs.Spans.AreColumnsOf, proofs.Joins.columns_join}
 use Rattle.lay_tune.proofs.layout.lay_out.Goals as goal
+
+pub staff_verses-requires : goal.staff_verses-requires
+staff_verses-requires c =
+    subst (λ vs. verses_on vs ≤ 128) (sym (c.as_slice.ensures ∙ c.in_ok-drawn.ensures.voices)) (few_verses c.args.s.now c.requires.good)
 
 pub lay_out_measures-requires-clause-columns : goal.lay_out_measures-requires-clause-columns
 lay_out_measures-requires-clause-columns c =

@@ -1,8 +1,7 @@
 use Rattle.std.proofs.Common.{◌∙◌, ap, arith, length, subst, sym, ◌<◌}
 use Rattle.lay_columns.specs.Lanes.{gaps_of}
 use Rattle.lay_breaks.specs.Spans.{AreSpans}
-use Rattle.lay_tune.specs.Layout.{IsCauseIn}
-use Rattle.lay_tune.proofs.Open.{cause_read, chosen_read, few_lanes, spans_read}
+use Rattle.lay_tune.{specs.Layout.IsCauseIn, proofs.Open.cause_read, proofs.Open.chosen_read, proofs.Open.few_lanes, proofs.Open.spans_read}
 use Rattle.lay_tune.proofs.layout.lay_out_measures.Goals as goal
 
 pub returns-in-Err-clause-no_way : goal.returns-in-Err-clause-no_way
@@ -15,6 +14,17 @@ returns-in-Err-clause-no_way c =
     c.requires.count (c.as_slice.ensures ∙ c.in_ok-gaps.ensures.value ∙ ap gaps_of c.requires.verses) c.as_slice-forced.ensures
     c.requires.columns c.in_ok-spans.ensures.exact)
     c.in-Err.ensures.no_way)
+
+pub places_of-requires-clause-lanes : goal.places_of-requires-clause-lanes
+places_of-requires-clause-lanes c =
+    let few = few_lanes c.args.s.now c.args.verses.now c.in_ok-gaps.gaps c.requires.good c.requires.verses c.in_ok-gaps.ensures.few in
+    let count = c.len.ensures in
+    omega (arith, few, count)
+
+pub spans_of-requires-clause-lanes : goal.spans_of-requires-clause-lanes
+spans_of-requires-clause-lanes c =
+    subst (λ gaps. length gaps < 4294967296) (sym c.as_slice.ensures)
+    (few_lanes c.args.s.now c.args.verses.now c.in_ok-gaps.gaps c.requires.good c.requires.verses c.in_ok-gaps.ensures.few)
 
 pub set_systems-requires-clause-lanes : goal.set_systems-requires-clause-lanes
 set_systems-requires-clause-lanes c =

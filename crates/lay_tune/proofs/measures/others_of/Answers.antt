@@ -1,6 +1,5 @@
 use Rattle.std.proofs.Common.{◌+◌, sym, subst, arith}
-use Rattle.lay_tune.specs.Measures.{EachMeasure, IsOther}
-use Rattle.lay_tune.proofs.Joins.{measure_more, other_of}
+use Rattle.lay_tune.{specs.Measures.EachMeasure, specs.Measures.IsOther, proofs.Joins.measure_more, proofs.Joins.other_of}
 use Rattle.lay_tune.proofs.measures.others_of.Goals as goal
 
 pub loop-m-preserved : goal.loop-m-preserved

@@ -1,6 +1,5 @@
 use Rattle.std.proofs.Common.{◌+◌, sym, subst, arith}
-use Rattle.lay_tune.specs.Measures.{EachMeasure, IsStart}
-use Rattle.lay_tune.proofs.Joins.{measure_more, start_of}
+use Rattle.lay_tune.{specs.Measures.EachMeasure, specs.Measures.IsStart, proofs.Joins.measure_more, proofs.Joins.start_of}
 use Rattle.lay_tune.proofs.measures.starts_of.Goals as goal
 
 pub loop-m-preserved : goal.loop-m-preserved

@@ -2,9 +2,7 @@ use Rattle.std.proofs.Common.{map, refl, subst, arith}
 use Rattle.lay_springs.specs.Fit.{Passes}
 use Rattle.lay_columns.specs.Columns.{column_reach}
 use Rattle.lay_spans.proofs.Fitting.{force_of, seen_as}
-use Rattle.lay_tune.specs.Spans.{column_length}
-use Rattle.lay_tune.proofs.Open.{never_passes}
-use Rattle.lay_tune.proofs.Within.{justified_seen}
+use Rattle.lay_tune.{specs.Spans.column_length, proofs.Open.never_passes, proofs.Within.justified_seen}
 use Rattle.lay_tune.proofs.systems.press.Goals as goal
 
 pub unreachable-requires : goal.unreachable-requires

@@ -1,10 +1,6 @@
-use Rattle.std.proofs.Common.{◌∙◌, map, subst, sym, ap, arith}
-use Rattle.std.proofs.lemmas.List.{length-map}
-use Rattle.mus_marks.specs.System.{IsCall}
-use Rattle.mus_marks.specs.Tilt.{AreAbscissas, IsTilted}
-use Rattle.lay_tune.proofs.Called.{has_system}
-use Rattle.lay_tune.proofs.Rows.{good_staves}
-use Rattle.lay_tune.proofs.Within.{abscissas_of, span_set}
+use Rattle.std.proofs.{Common.◌∙◌, Common.map, Common.subst, Common.sym, Common.ap, Common.arith, Common.length, lemmas.List.length-map}
+use Rattle.mus_marks.specs.{System.IsCall, System.drawn_staves, Tilt.AreAbscissas, Tilt.IsTilted, Tilt.tilted_staff}
+use Rattle.lay_tune.{specs.Systems.gaps_between, proofs.Called.has_system, proofs.Open.gaps_count, proofs.Open.staves_count, proofs.Rows.good_staves, proofs.Within.abscissas_of, proofs.Within.span_set}
 use Rattle.lay_tune.proofs.systems.set_system.Goals as goal
 
 pub press-requires-clause-fits : goal.press-requires-clause-fits
@@ -31,6 +27,18 @@ tilt_of-requires-clause-places c =
 
 pub stack-requires-clause-good : goal.stack-requires-clause-good
 stack-requires-clause-good c = good_staves c.in_ok-marks.marks.staves c.in_ok-marks.ensures.lines
+
+pub stack-requires-clause-few : goal.stack-requires-clause-few
+stack-requires-clause-few c =
+    let count = ap (λ these. length these) c.in_ok-marks.ensures.tilted.staves ∙ length-map (drawn_staves c.args.s.now) (tilted_staff c.in_ok-marks.marks.keys c.args.t.now.lengths c.as_slice-2.result.now c.args.a c.args.b) in
+    let staves = staves_count c.args.s.now in
+    let voices = c.requires.good.few_voices in
+    omega (arith, count, staves, voices)
+
+pub stack-requires-clause-gaps : goal.stack-requires-clause-gaps
+stack-requires-clause-gaps c =
+    gaps_count c.args.s.now c.in_ok-marks.marks c.as_slice-4.result.now (tilted_staff c.in_ok-marks.marks.keys c.args.t.now.lengths c.as_slice-2.result.now c.args.a c.args.b)
+    (c.as_slice-4.ensures ∙ c.in_ok-between.ensures ∙ ap gaps_between c.as_slice-3.ensures) c.in_ok-marks.ensures.tilted.staves
 
 pub returns-clause-system : goal.returns-clause-system
 returns-clause-system c =

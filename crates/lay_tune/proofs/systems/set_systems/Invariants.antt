@@ -1,7 +1,6 @@
 use Rattle.std.proofs.Common.{◌≡◌, ◌++◌, List, drop, length, map}
 use Rattle.std.specs.List.{All}
-use Rattle.mus_laid.specs.declared.laid.SystemMarks.{SystemMarks}
-use Rattle.mus_laid.specs.Boxes.{AreGoodMarks}
+use Rattle.mus_laid.specs.{declared.laid.SystemMarks.SystemMarks, Boxes.AreGoodMarks}
 use Rattle.mus_drawn.specs.Drawn.{drawn_voice}
 use Rattle.lay_springs.specs.declared.margin.Placed.{Placed}
 use Rattle.lay_tune.specs.Systems.{AllSpans, Beside, CanBeSet, EachSpan, IsSetSystem, IsStack}
@@ -12,7 +11,7 @@ invariant-loop-b l = record {
   kept : l.voices ≡ map drawn_voice l.s.voices;
   systems : (more : List SystemMarks) (at : List Placed) → EachSpan (IsSetSystem l.s l.width) l.a (drop l.b-index l.breaks) more at
       → EachSpan (IsSetSystem l.s l.width) 0 l.breaks (l.marks ++ more) (l.placed ++ at);
-  heights : Beside IsStack l.marks l.heights;
+  heights : Beside (IsStack l.s) l.marks l.heights;
   good : All (λ m. All (λ staff. AreGoodMarks staff.marks) m.staves) l.marks;
   fits : AllSpans (CanBeSet l.s l.width (length l.scratch)) l.a (drop l.b-index l.breaks);
 }

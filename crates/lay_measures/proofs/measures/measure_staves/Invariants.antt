@@ -1,0 +1,18 @@
+use Rattle.std.proofs.Common.{◌≡◌, ◌≤◌, ◌++◌, length, map}
+use Rattle.std.specs.List.{All}
+use Rattle.mus_score.specs.Seats.{grouped}
+use Rattle.mus_drawn.specs.Good.{AreGoodMeasures}
+use Rattle.mus_marks.specs.{Staff.verses_on, System.stands_lower}
+use Rattle.lay_measures.specs.Measures.{measure_staff}
+use Rattle.lay_measures.proofs.measures.measure_staves.Given as goal
+
+abbrev pub invariant-staves : goal.invariant-staves
+invariant-staves l = record {
+  staves : l.staves ++ map (measure_staff l.begins l.keys l.lengths l.m) (grouped stands_lower l.rest) ≡ map (measure_staff l.begins l.keys l.lengths l.m) (grouped stands_lower l.voices);
+  each : All (λ v. length v.measures ≡ length l.lengths) l.rest;
+  good : All (λ v. AreGoodMeasures v.measures) l.rest;
+  verses : verses_on l.rest ≤ 128;
+}
+
+abbrev pub decreases-staves : goal.decreases-staves
+decreases-staves l = length l.rest

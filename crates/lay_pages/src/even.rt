@@ -1,0 +1,200 @@
+ghost use Rattle.std.specs.Prelude.{◌≡◌, ◌<◌, ◌≤◌, ◌-◌, ◌^◌, pos, ◌≤ℤ◌, false, refl, true, All, length, IfOk, IfErr, None};
+ghost use Rattle.lay_breaks.specs.Breaking.{IsChosen};
+ghost use Rattle.lay_pages.specs.Even.{AreFitting, AreHeights, AreSpots, AreStacked, ends_behind, group_heights, groups_behind, cost_small, cost_stops, page_cost, page_height, parted_spots, place_behind, turns};
+ghost use Rattle.lay_pages.specs.Filling.{AreGoodBlocks, AreWithin, IsPageError, first_tall};
+
+use crate::filling::{
+    Block, PageError, Place, Spot, fill, first_tall, group_height, height_of, spot_at,
+};
+use lay_breaks::{BreakError, Costs, least};
+use mus_units::{Memory, Row};
+use std::alloc::Global;
+
+/// So many groups may be parted evenly.
+const MOST_GROUPS: usize = 8_388_608;
+
+/// What pages of groups cost: groups as bars, by their heights in u, of which each fits on a page
+/// that is `high` u high. A page costs the square of what it leaves free, by 100; the last nothing.
+#[derive(Drop)]
+pub struct PageCosts {
+    pub heights: Row<i64>,
+    pub high: u32,
+    ghost small: { high ≤ 2 ^ 26 },
+    ghost within: { AreHeights high heights },
+}
+
+/// The height of groups on a page, with 1500 u between two.
+fn page_height(heights: &[i64]) -> u64
+    requires few { length heights.now < 2 ^ 32 }
+    requires good { All (λ h. h ≤ℤ pos (2 ^ 26)) heights.now }
+    ensures { result ≡ page_height heights.now }
+{
+    let mut stacked: u64 = 0;
+    for height in heights {
+        stacked += height_of(*height) + 1500;
+    }
+    stacked.saturating_sub(1500)
+}
+
+impl Costs for PageCosts {
+    ghost bars = { λ s. length s.heights };
+
+    ghost badness = { λ s a b. page_cost s.high s.heights a b };
+
+    ghost is_forced = { λ s b. false };
+
+    fn cost(&self, a: u32, b: u32) -> Option<u64> {
+        let heights = self.heights.as_slice();
+        let height = page_height(&heights[a as usize..b as usize]);
+        if height > u64::from(self.high) {
+            return None;
+        }
+        if b as usize == heights.len() {
+            return Some(0);
+        }
+        let free = (u64::from(self.high) - height) / 100;
+        Some(free * free)
+    }
+
+    fn forced(&self, _b: u32) -> bool {
+        false
+    }
+
+    ghost stays_none = { λ s a b c l m h e. cost_stops s.high s.heights a b c l m e };
+
+    ghost is_small = { λ s a b l h. cost_small s.high s.heights s.small a b };
+
+    ghost begins_free = { λ s. refl };
+}
+
+/// The heights of the groups of blocks, in order.
+fn group_heights(alloc: Global, blocks: &[Block], high: u32) -> Result<Row<i64>, Memory>
+    requires few { length blocks.now < 2 ^ 32 }
+    requires good { AreGoodBlocks blocks.now }
+    requires fits { first_tall high blocks.now ≡ None }
+    ensures value { IfOk result (λ heights. heights ≡ group_heights blocks.now) }
+    ensures within { IfOk result (AreHeights high) }
+{
+    let mut heights = Row::new(alloc);
+    let mut tied = false;
+    let mut rest = blocks;
+    'groups: while let Some((block, more)) = rest.split_first() {
+        if !tied {
+            heights.push(group_height(rest) as i64)?;
+        }
+        tied = block.keep;
+        rest = more;
+    }
+    Ok(heights)
+}
+
+/// The chosen parting of groups into pages: the numbers of groups up to the end of each.
+fn even_breaks(alloc: Global, costs: PageCosts, groups: u32) -> Result<Row<u32>, Memory>
+    requires few { groups ≤ 8388608 }
+    requires all { groups ≡ length costs.heights }
+    ensures { IfOk result (IsChosen (page_cost costs.high costs.heights) (λ b. false) groups) }
+{
+    match least(alloc, &costs, groups) {
+        Ok(breaking) => Ok(breaking.breaks),
+        Err(BreakError::Memory) => Err(Memory),
+        Err(BreakError::NoWay { .. }) => unreachable!(),
+    }
+}
+
+/// Whether a page ends with a block that stands behind so many whole groups.
+fn turns(ends: &[u32], group: u32, block: Block) -> bool
+    requires { group < 2 ^ 32 - 1 }
+    ensures { result ≡ turns ends.now group block }
+{
+    match ends.first() {
+        Some(end) => !block.keep && *end == group + 1,
+        None => false,
+    }
+}
+
+/// The ends of the pages behind a block.
+fn ends_behind(turned: bool, ends: &[u32]) -> &[u32]
+    ensures { result.now ≡ ends_behind turned ends.now }
+{
+    match ends.split_first() {
+        Some((_, later)) if turned => later,
+        _ => ends,
+    }
+}
+
+/// The place of the block behind one at a place.
+fn place_behind(turned: bool, place: Place, block: Block) -> Place
+    requires height { block.height ≤ℤ pos (2 ^ 40) }
+    requires page { place.page < 2 ^ 32 - 1 }
+    requires down { place.down ≤ 2 ^ 32 }
+    ensures { result ≡ place_behind turned place block }
+{
+    if turned {
+        return Place {
+            page: place.page + 1,
+            down: 0,
+        };
+    }
+    Place {
+        page: place.page,
+        down: place.down + height_of(block.height) + 1500,
+    }
+}
+
+/// How many groups ended up to the end of a block.
+fn groups_behind(group: u32, block: Block) -> u32
+    requires { group < 2 ^ 32 - 1 }
+    ensures { result ≡ groups_behind group block }
+{
+    if block.keep { group } else { group + 1 }
+}
+
+/// Where blocks stand on pages that end behind these numbers of groups.
+fn part(alloc: Global, high: u32, breaks: &[u32], blocks: &[Block]) -> Result<Row<Spot>, Memory>
+    requires few { length blocks.now < 2 ^ 32 }
+    requires good { AreGoodBlocks blocks.now }
+    requires fits { AreFitting high 0 0 breaks.now (group_heights blocks.now) }
+    ensures { IfOk result (λ spots. spots ≡ parted_spots high breaks.now blocks.now) }
+{
+    let mut spots = Row::new(alloc);
+    let mut place = Place { page: 0, down: 0 };
+    let mut ends = breaks;
+    let mut group: u32 = 0;
+    let mut rest = blocks;
+    'placing: while let Some((block, more)) = rest.split_first() {
+        spots.push(spot_at(high, place))?;
+        let turned = turns(ends, group, *block);
+        ends = ends_behind(turned, ends);
+        place = place_behind(turned, place, *block);
+        group = groups_behind(group, *block);
+        rest = more;
+    }
+    Ok(spots)
+}
+
+/// Where blocks stand on pages that are `high` u high and filled evenly: their groups are parted into
+/// pages so that no other parting into pages that fit costs less, where each page but the last costs
+/// the square of what it leaves free, by 100. On a page blocks stand under one another as `fill`
+/// places them. More than 8,388,608 groups are filled by `fill`.
+pub fn fill_even(alloc: Global, blocks: &[Block], high: u32) -> Result<Row<Spot>, PageError>
+    requires few { length blocks.now < 2 ^ 32 }
+    requires good { AreGoodBlocks blocks.now }
+    requires page { high ≤ 2 ^ 26 }
+    ensures spots { IfOk result (AreSpots true high blocks.now) }
+    ensures within { IfOk result (AreWithin high blocks.now) }
+    ensures stacked { IfOk result (AreStacked high blocks.now) }
+    ensures fits { IfOk result (λ spots. first_tall high blocks.now ≡ None) }
+    ensures tall { IfErr result (IsPageError high blocks.now) }
+{
+    if let Some(block) = first_tall(blocks, high) {
+        return Err(PageError::TooTall { block });
+    }
+    let heights = group_heights(alloc, blocks, high)?;
+    let groups = heights.len();
+    if groups > MOST_GROUPS {
+        return fill(alloc, blocks, high);
+    }
+    let breaks = even_breaks(alloc, PageCosts { heights, high }, groups as u32)?;
+    let spots = part(alloc, high, breaks.as_slice(), blocks)?;
+    Ok(spots)
+}

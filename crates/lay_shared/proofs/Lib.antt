@@ -1,0 +1,5 @@
+pub mod DrawnLaws
+mod EachLaws
+pub mod PlanLaws
+mod SignLaws
+mod TreeLaws

@@ -1,0 +1,44 @@
+-- The trees of a `%%score` line, as they are written: a voice by itself has a staff of its own, voices
+-- in parentheses share one, and brackets stand round trees.
+use Rattle.std.specs.Prelude.{ℕ, List, [], ◌∷◌, ◌++◌, Bool, true, false}
+use Rattle.lay_shared.specs.declared.{signs.Bracket.Bracket, signs.Sign.Sign, plan.PlannedStaff.PlannedStaff}
+
+-- a row of trees: the first, and those behind it
+pub data Trees : Type 0 where
+  no_tree : Trees
+  voice_tree : ℕ → Trees → Trees
+  staff_tree : ℕ → List ℕ → Trees → Trees
+  group_tree : Bracket → Trees → Trees → Trees
+
+-- The signs of trees, in front of what follows them.
+abbrev pub voice_signs : List ℕ → List Sign → List Sign
+voice_signs [] behind = behind
+voice_signs (v ∷ vs) behind = Sign.Voice v ∷ voice_signs vs behind
+
+abbrev pub tree_signs : Trees → List Sign → List Sign
+tree_signs no_tree behind = behind
+tree_signs (voice_tree v more) behind = Sign.Voice v ∷ tree_signs more behind
+tree_signs (staff_tree v vs more) behind = Sign.StaffOpens ∷ Sign.Voice v ∷ voice_signs vs (Sign.StaffEnds ∷ tree_signs more behind)
+tree_signs (group_tree b inner more) behind = Sign.Opens b ∷ tree_signs inner (Sign.Ends b ∷ tree_signs more behind)
+
+-- the voices of each staff, in the order of the text
+abbrev pub shares_of : Trees → List (List ℕ)
+shares_of no_tree = []
+shares_of (voice_tree v more) = (v ∷ []) ∷ shares_of more
+shares_of (staff_tree v vs more) = (v ∷ vs) ∷ shares_of more
+shares_of (group_tree b inner more) = shares_of inner ++ shares_of more
+
+abbrev pub planned : Bool → List ℕ → PlannedStaff
+planned leads voices = record { leads = leads; voices = voices }
+
+-- the staves of one group: the first of them leads it, where none of it stands before them
+abbrev pub group_of : Bool → List (List ℕ) → List PlannedStaff
+group_of leads [] = []
+group_of leads (voices ∷ more) = planned leads voices ∷ group_of false more
+
+-- the staves of outermost trees, each of which is a group of its own
+abbrev pub staves_of : Trees → List PlannedStaff
+staves_of no_tree = []
+staves_of (voice_tree v more) = planned true (v ∷ []) ∷ staves_of more
+staves_of (staff_tree v vs more) = planned true (v ∷ vs) ∷ staves_of more
+staves_of (group_tree b inner more) = group_of true (shares_of inner) ++ staves_of more

@@ -1,0 +1,197 @@
+//! Staves read sign by sign.
+
+ghost use Rattle.std.specs.Prelude.{◌≡◌, ◌∷◌, ◌++◌, [], None, Some, IfOk, OnOk, MatchOption, cond};
+ghost use Rattle.lay_shared.specs.Reading.{closed, ended, entered, is_empty, left, opened, run, same_bracket, start, step, with_staff, with_voice};
+
+use crate::plan::PlannedStaff;
+use crate::signs::{Bracket, Sign};
+use mus_units::{Memory, Row};
+use std::alloc::Global;
+use std::marker::Model;
+
+/// The brackets that are open; contracts see the innermost first.
+#[derive(Drop)]
+pub struct Brackets {
+    stack: Vec<Bracket>,
+}
+
+impl Model for Brackets {
+    ghost use Rattle.std.specs.Prelude.{List, reverse};
+    ghost use Rattle.lay_shared.specs.declared.signs.Bracket.{Bracket};
+
+    ghost Value = { List Bracket };
+
+    ghost view = { λ b. reverse b.stack.items };
+}
+
+impl Brackets {
+    fn new(alloc: Global) -> Brackets
+        ensures { result ≡ [] }
+    {
+        Brackets {
+            stack: Vec::new(alloc),
+        }
+    }
+
+    fn is_empty(&self) -> bool
+        ensures { result ≡ is_empty self.now }
+    {
+        self.stack.is_empty()
+    }
+
+    fn open(&mut self, bracket: Bracket) -> Result<(), Memory>
+        ensures { OnOk result (self.new ≡ bracket ∷ self.old) }
+    {
+        self.stack.push(bracket)?;
+        Ok(())
+    }
+
+    /// Takes the innermost one.
+    fn close(&mut self) -> Option<Bracket>
+        ensures { MatchOption result ((self.old ≡ []) × (self.new ≡ [])) (λ b. self.old ≡ b ∷ self.new) }
+    {
+        self.stack.pop()
+    }
+}
+
+/// How far the signs were read: the brackets that are open, the voices since a `(` that isn't
+/// closed, whether the next staff leads an outermost group, and the staves.
+#[derive(Drop)]
+pub struct Reading {
+    pub brackets: Brackets,
+    pub inside: Option<Row<u32>>,
+    pub leads: bool,
+    pub staves: Row<PlannedStaff>,
+}
+
+impl Reading {
+    fn new(alloc: Global) -> Reading
+        ensures { result ≡ start }
+    {
+        Reading {
+            brackets: Brackets::new(alloc),
+            inside: None,
+            leads: true,
+            staves: Row::new(alloc),
+        }
+    }
+
+    /// Puts a staff of these voices.
+    fn put_staff(&mut self, voices: Row<u32>) -> Result<(), Memory>
+        ensures { OnOk result (self.new ≡ with_staff self.old voices) }
+    {
+        self.inside = None;
+        let leads = self.leads;
+        self.staves.push(PlannedStaff { leads, voices })?;
+        self.leads = self.brackets.is_empty();
+        Ok(())
+    }
+
+    fn take_voice(&mut self, alloc: Global, voice: u32) -> Result<(), Memory>
+        ensures { OnOk result (self.new ≡ with_voice self.old voice self.old.inside) }
+    {
+        if let Some(voices) = &mut self.inside {
+            return voices.push(voice);
+        }
+        let mut voices = Row::new(alloc);
+        voices.push(voice)?;
+        self.put_staff(voices)
+    }
+
+    fn open_staff(&mut self, alloc: Global) -> bool
+        ensures { cond result (opened self.old self.old.inside ≡ Some self.new) (opened self.old self.old.inside ≡ None) }
+    {
+        if self.inside.is_some() {
+            return false;
+        }
+        self.inside = Some(Row::new(alloc));
+        true
+    }
+
+    fn close_staff(&mut self) -> Result<bool, Memory>
+        ensures { IfOk result (λ went. cond went (closed self.old self.old.inside ≡ Some self.new) (closed self.old self.old.inside ≡ None)) }
+    {
+        match self.inside.take() {
+            Some(voices) if voices.len() > 0 => {
+                self.put_staff(voices)?;
+                Ok(true)
+            }
+            _ => Ok(false),
+        }
+    }
+
+    fn enter(&mut self, bracket: Bracket) -> Result<bool, Memory>
+        ensures { IfOk result (λ went. cond went (entered self.old bracket self.old.inside ≡ Some self.new) (entered self.old bracket self.old.inside ≡ None)) }
+    {
+        if self.inside.is_some() {
+            return Ok(false);
+        }
+        self.brackets.open(bracket)?;
+        Ok(true)
+    }
+
+    fn leave(&mut self, bracket: Bracket) -> bool
+        ensures { cond result (left self.old bracket self.old.inside ≡ Some self.new) (left self.old bracket self.old.inside ≡ None) }
+    {
+        if self.inside.is_some() {
+            return false;
+        }
+        match self.brackets.close() {
+            Some(last) if is_same(bracket, last) => {
+                self.leads = self.leads || self.brackets.is_empty();
+                true
+            }
+            _ => false,
+        }
+    }
+
+    /// Reads one sign more; false where it can't stand there.
+    fn take_sign(&mut self, alloc: Global, sign: Sign) -> Result<bool, Memory>
+        ensures { IfOk result (λ went. cond went (step self.old sign ≡ Some self.new) (step self.old sign ≡ None)) }
+    {
+        match sign {
+            Sign::Voice { place } => {
+                self.take_voice(alloc, place)?;
+                Ok(true)
+            }
+            Sign::Stranger => Ok(false),
+            Sign::StaffOpens => Ok(self.open_staff(alloc)),
+            Sign::StaffEnds => self.close_staff(),
+            Sign::Opens { bracket } => self.enter(bracket),
+            Sign::Ends { bracket } => Ok(self.leave(bracket)),
+        }
+    }
+
+    /// The staves, where nothing is open.
+    fn end(self) -> Option<Row<PlannedStaff>>
+        ensures { result ≡ ended self }
+    {
+        if self.inside.is_none() && self.brackets.is_empty() {
+            Some(self.staves)
+        } else {
+            None
+        }
+    }
+}
+
+fn is_same(bracket: Bracket, other: Bracket) -> bool
+    ensures { result ≡ same_bracket bracket other }
+{
+    matches!(
+        (bracket, other),
+        (Bracket::Square, Bracket::Square) | (Bracket::Curly, Bracket::Curly)
+    )
+}
+
+/// The staves that signs ask for, or None where the signs don't pair or stand where they can't.
+pub(crate) fn staves_by(alloc: Global, signs: &[Sign]) -> Result<Option<Row<PlannedStaff>>, Memory>
+    ensures { IfOk result (λ read. read ≡ run start signs.now) }
+{
+    let mut at = Reading::new(alloc);
+    for sign in signs {
+        if !at.take_sign(alloc, *sign)? {
+            return Ok(None);
+        }
+    }
+    Ok(at.end())
+}

@@ -1,0 +1,120 @@
+//! The signs of a `%%score` line.
+
+ghost use Rattle.std.specs.{Prelude.◌≡◌, Prelude.◌<◌, Prelude.◌^◌, Prelude.◌++◌, Prelude.[], Prelude.length, Prelude.IfOk, Prelude.IfSome, Prelude.OnOk, Option.option_to_list};
+ghost use Rattle.lay_shared.specs.{Reading.place_of, Reading.signs_from, Reading.voice_sign, Reading.word_signs, Signs.is_id, Signs.is_passed, Signs.sign_at};
+
+use mus_units::bytes::is_same;
+use mus_units::{Memory, Row, Text};
+use std::alloc::Global;
+
+/// The two kinds of brackets round staves, `[ ]` and `{ }`.
+#[derive(Clone, Copy)]
+pub enum Bracket {
+    Square,
+    Curly,
+}
+
+/// A sign of the text: a voice, by its place, or an id of none; `(` and `)` round voices of one
+/// staff; and brackets round staves.
+#[derive(Clone, Copy)]
+pub enum Sign {
+    Voice { place: u32 },
+    Stranger,
+    StaffOpens,
+    StaffEnds,
+    Opens { bracket: Bracket },
+    Ends { bracket: Bracket },
+}
+
+/// The signs of a text, in order.
+pub(crate) fn signs_of(alloc: Global, text: &[u8], ids: &[Text]) -> Result<Row<Sign>, Memory>
+    requires { length ids.now < 2 ^ 32 }
+    ensures { IfOk result (λ signs. signs ≡ signs_from ids.now [] text.now) }
+{
+    let mut signs = Row::new(alloc);
+    let mut word = Text::new(alloc);
+    for byte in text {
+        if is_id(*byte) {
+            word.push(*byte)?;
+        } else {
+            put_word(&mut signs, word.as_slice(), ids)?;
+            word = Text::new(alloc);
+            put_sign(&mut signs, *byte)?;
+        }
+    }
+    put_word(&mut signs, word.as_slice(), ids)?;
+    Ok(signs)
+}
+
+/// Puts the voice that a word names; a word without a byte names none.
+fn put_word(signs: &mut Row<Sign>, word: &[u8], ids: &[Text]) -> Result<(), Memory>
+    requires { length ids.now < 2 ^ 32 }
+    ensures { OnOk result (signs.new ≡ signs.old ++ word_signs ids.now word.now) }
+{
+    if word.is_empty() {
+        return Ok(());
+    }
+    signs.push(voice_sign(place_of(word, ids)))
+}
+
+fn put_sign(signs: &mut Row<Sign>, byte: u8) -> Result<(), Memory>
+    ensures { OnOk result (signs.new ≡ signs.old ++ option_to_list (sign_at byte)) }
+{
+    match sign_at(byte) {
+        Some(sign) => signs.push(sign),
+        None => Ok(()),
+    }
+}
+
+fn voice_sign(place: Option<usize>) -> Sign
+    requires { IfSome place (λ p. p < 2 ^ 32) }
+    ensures { result ≡ voice_sign place }
+{
+    match place {
+        Some(place) => Sign::Voice {
+            place: place as u32,
+        },
+        None => Sign::Stranger,
+    }
+}
+
+fn place_of(word: &[u8], ids: &[Text]) -> Option<usize>
+    ensures value { result ≡ place_of word.now ids.now }
+    ensures within { IfSome result (λ p. p < length ids.now) }
+{
+    ids.iter().position(|id| is_same(id.as_slice(), word))
+}
+
+fn is_passed(byte: u8) -> bool
+    ensures { result ≡ is_passed byte }
+{
+    matches!(byte, b' ' | b'\t' | b'|' | b'*' | b'+' | b'~')
+}
+
+fn sign_at(byte: u8) -> Option<Sign>
+    ensures { result ≡ sign_at byte }
+{
+    match byte {
+        b'(' => Some(Sign::StaffOpens),
+        b')' => Some(Sign::StaffEnds),
+        b'[' => Some(Sign::Opens {
+            bracket: Bracket::Square,
+        }),
+        b']' => Some(Sign::Ends {
+            bracket: Bracket::Square,
+        }),
+        b'{' => Some(Sign::Opens {
+            bracket: Bracket::Curly,
+        }),
+        b'}' => Some(Sign::Ends {
+            bracket: Bracket::Curly,
+        }),
+        _ => None,
+    }
+}
+
+fn is_id(byte: u8) -> bool
+    ensures { result ≡ is_id byte }
+{
+    !is_passed(byte) && sign_at(byte).is_none()
+}
