@@ -4,30 +4,23 @@
 -- the number of tokens that were executed before, and the cause.
 use Rattle.std.specs.Prelude.{ℕ, ℤ, List, [], ◌∷◌, ◌++◌, codes, decimal, flat_map}
 use Rattle.std.specs.Fmt.{signed_decimal}
-use Rattle.ps_text.specs.Document.{numbered}
-use Rattle.ps_text.specs.Fields.{quoted}
-use Rattle.ps_steps.specs.declared.halt.Cause.{Cause}
-use Rattle.ps_steps.specs.declared.halt.Cause.TheVariants as causes
-use Rattle.ps_steps.specs.declared.paint.Seg.{Seg}
-use Rattle.ps_steps.specs.declared.paint.Seg.TheVariants as segs
-use Rattle.ps_steps.specs.declared.paint.Paint.{Paint}
-use Rattle.ps_steps.specs.declared.paint.Paint.TheVariants as paints
-use Rattle.ps_steps.specs.declared.paint.PagePaint.{PagePaint}
+use Rattle.ps_text.specs.{Document.numbered, Fields.quoted}
+use Rattle.ps_steps.specs.{declared.halt.Cause.Cause, declared.paint.Seg.Seg, declared.paint.Paint.Paint, declared.paint.PagePaint.PagePaint}
 
 -- numbers in decimal, a space before each
 unfoldable pub spaced : List ℤ → List ℕ
 spaced zs = flat_map (λ z. 32 ∷ signed_decimal z) zs
 
 abbrev pub seg_text : Seg → List ℕ
-seg_text (segs.Move x y) = spaced (x ∷ y ∷ []) ++ codes " m"
-seg_text (segs.Line x y) = spaced (x ∷ y ∷ []) ++ codes " l"
-seg_text (segs.Curve a b c d x y) = spaced (a ∷ b ∷ c ∷ d ∷ x ∷ y ∷ []) ++ codes " c"
-seg_text segs.Close = codes " z"
+seg_text (Seg.Move x y) = spaced (x ∷ y ∷ []) ++ codes " m"
+seg_text (Seg.Line x y) = spaced (x ∷ y ∷ []) ++ codes " l"
+seg_text (Seg.Curve a b c d x y) = spaced (a ∷ b ∷ c ∷ d ∷ x ∷ y ∷ []) ++ codes " c"
+seg_text Seg.Close = codes " z"
 
 abbrev pub paint_line : Paint → List ℕ
-paint_line (paints.Fill path) = codes "fill" ++ flat_map seg_text path ++ codes "\n"
-paint_line (paints.Stroke width path) = codes "stroke" ++ spaced (width ∷ []) ++ flat_map seg_text path ++ codes "\n"
-paint_line (paints.Show size x y words) = codes "show" ++ spaced (size ∷ x ∷ y ∷ []) ++ codes " " ++ quoted words ++ codes "\n"
+paint_line (Paint.Fill path) = codes "fill" ++ flat_map seg_text path ++ codes "\n"
+paint_line (Paint.Stroke width path) = codes "stroke" ++ spaced (width ∷ []) ++ flat_map seg_text path ++ codes "\n"
+paint_line (Paint.Show size x y words) = codes "show" ++ spaced (size ∷ x ∷ y ∷ []) ++ codes " " ++ quoted words ++ codes "\n"
 
 abbrev pub page_text : ℕ → PagePaint → List ℕ
 page_text k page = codes "page " ++ decimal k ++ codes "\n" ++ flat_map paint_line page.paints
@@ -36,16 +29,16 @@ abbrev pub paint_text : List PagePaint → List ℕ
 paint_text pages = numbered page_text 1 pages
 
 abbrev pub cause_name : Cause → List ℕ
-cause_name causes.BadToken = codes "BadToken"
-cause_name causes.Unclosed = codes "Unclosed"
-cause_name causes.Stack = codes "Stack"
-cause_name causes.Kind = codes "Kind"
-cause_name causes.Name = codes "Name"
-cause_name causes.Point = codes "Point"
-cause_name causes.Restore = codes "Restore"
-cause_name causes.Scale = codes "Scale"
-cause_name causes.Range = codes "Range"
-cause_name causes.Budget = codes "Budget"
+cause_name Cause.BadToken = codes "BadToken"
+cause_name Cause.Unclosed = codes "Unclosed"
+cause_name Cause.Stack = codes "Stack"
+cause_name Cause.Kind = codes "Kind"
+cause_name Cause.Name = codes "Name"
+cause_name Cause.Point = codes "Point"
+cause_name Cause.Restore = codes "Restore"
+cause_name Cause.Scale = codes "Scale"
+cause_name Cause.Range = codes "Range"
+cause_name Cause.Budget = codes "Budget"
 
 -- the line of a run that halts
 abbrev pub halt_line : ℕ → Cause → List ℕ

@@ -1,7 +1,6 @@
 //! Pages as text.
 
-ghost use Rattle.std.specs.Prelude.{◌≡◌, ◌++◌, ◌∷◌, [], codes, flat_map, OnOk};
-ghost use Rattle.std.specs.Fmt.{signed_decimal};
+ghost use Rattle.std.specs.{Prelude.◌≡◌, Prelude.◌++◌, Prelude.◌∷◌, Prelude.[], Prelude.codes, Prelude.flat_map, Prelude.OnOk, Fmt.signed_decimal};
 ghost use Rattle.ps_text.specs.Fields.{quoted};
 ghost use Rattle.paint_text.specs.PaintText.{spaced, seg_text, paint_line, page_text, paint_text};
 

@@ -1,25 +1,11 @@
 -- Columns that are filled mark after mark are the columns of the marks.
 use Rattle.std.proofs.Common.{◌≡◌, refl, sym, ap, ◌∙◌, subst, ℕ, zero, suc, ◌+◌, ◌<◌, Bool, true, false, ◌&&◌, List, [], ◌∷◌, ◌++◌, length, get_or, set, drop, drop-cons, arith, ℤ, pos, ◌-ℤ◌, append-nil, append_assoc}
-use Rattle.std.specs.Prelude.{if◌then◌else◌}
-use Rattle.std.specs.List.{flat_map, list_any}
-use Rattle.std.specs.List.Sorted.{IsStrictlySortedBy}
-use Rattle.std.specs.Ordering.{int_cmp, int_eq, is_eq, ordering_reverse}
-use Rattle.std.specs.declared.cmp.Ordering.TheVariants.{Less}
-use Rattle.std.proofs.lemmas.Bool.{false≢true, or_parts}
-use Rattle.std.proofs.lemmas.Cmp.{int_cmp_total}
-use Rattle.std.proofs.lemmas.Grind.{flat_map-append}
-use Rattle.mus_units.specs.declared.glyph.Glyph.{Glyph}
-use Rattle.mus_units.specs.declared.glyph.Size.{Size}
-use Rattle.mus_units.specs.declared.glyph.Way.{Way}
+use Rattle.std.{proofs.lemmas.Bool.false≢true, proofs.lemmas.Bool.or_parts, proofs.lemmas.Cmp.int_cmp_total, proofs.lemmas.Grind.flat_map-append, specs.Prelude.if◌then◌else◌, specs.List.flat_map, specs.List.list_any, specs.List.Sorted.IsStrictlySortedBy, specs.Ordering.int_cmp}
+use Rattle.std.specs.{Ordering.int_eq, Ordering.is_eq, Ordering.ordering_reverse, declared.cmp.Ordering.TheVariants.Less}
+use Rattle.mus_units.specs.{declared.glyph.Glyph.Glyph, declared.glyph.Size.Size, declared.glyph.Way.Way}
 use Rattle.ps_text.specs.declared.marks.PageMark.{PageMark}
-use Rattle.ps_text.specs.declared.marks.PageMark.TheVariants as marks
-use Rattle.ps_heard.specs.declared.column.Column.{Column}
-use Rattle.ps_heard.specs.declared.column.Noted.{Noted}
-use Rattle.ps_heard.specs.declared.column.Role.{Role}
-use Rattle.ps_heard.specs.Columns.{column_at, columns_from, is_tie, note_at, noted, tie_at}
-use Rattle.ps_heard.specs.Filling.{at_place, with_mark, with_marks, with_note, with_tie}
-use Rattle.ps_heard.specs.Roles.{role_of}
-use Rattle.ps_heard.proofs.Places.{Below, itself, not_among}
+use Rattle.ps_heard.specs.{declared.column.Column.Column, declared.column.Noted.Noted, declared.column.Role.Role, Columns.column_at, Columns.columns_from, Columns.is_tie, Columns.note_at, Columns.noted, Columns.tie_at, Filling.at_place, Filling.with_mark, Filling.with_marks, Filling.with_note}
+use Rattle.ps_heard.{specs.Filling.with_tie, specs.Roles.role_of, proofs.Places.Below, proofs.Places.itself, proofs.Places.not_among}
 
 -- ---- one column changed
 
@@ -86,17 +72,17 @@ glyph_one c true ns = ap (λ t. record { leads = c.leads; notes = c.notes ++ ns;
 glyph_one c false ns = nothing_one c
 
 glyph_told : (g : Glyph) (x dx dy : ℤ) (ys : List ℤ) (cs : List Column)
-    → with_mark (marks.Glyph g x dx dy) ys cs ≡ at_place x (with_note (role_of g dy) dy) ys cs
+    → with_mark (PageMark.Glyph g x dx dy) ys cs ≡ at_place x (with_note (role_of g dy) dy) ys cs
 glyph_told g x dx dy [] cs = refl
 glyph_told g x dx dy (y ∷ ys) [] = refl
 glyph_told g x dx dy (y ∷ ys) (c ∷ cs) =
-    joined (record c { notes = c.notes ++ note_at y (marks.Glyph g x dx dy); ties = c.ties ++ [] }) (if int_eq x y then with_note (role_of g dy) dy c else c)
-    (with_mark (marks.Glyph g x dx dy) ys cs) (at_place x (with_note (role_of g dy) dy) ys cs)
+    joined (record c { notes = c.notes ++ note_at y (PageMark.Glyph g x dx dy); ties = c.ties ++ [] }) (if int_eq x y then with_note (role_of g dy) dy c else c)
+    (with_mark (PageMark.Glyph g x dx dy) ys cs) (at_place x (with_note (role_of g dy) dy) ys cs)
     (glyph_one c (int_eq x y) (noted (role_of g dy) dy)) (glyph_told g x dx dy ys cs)
 
 -- the same of what was passed
 pub glyph_passed : (g : Glyph) (x dx dy at low high : ℤ) (role : Role) (ys : List ℤ) (cs new : List Column) → at ≡ x → low ≡ dy → high ≡ dy → role ≡ role_of g low
-    → new ≡ at_place at (with_note role high) ys cs → new ≡ with_mark (marks.Glyph g x dx dy) ys cs
+    → new ≡ at_place at (with_note role high) ys cs → new ≡ with_mark (PageMark.Glyph g x dx dy) ys cs
 glyph_passed g x dx dy at low high role ys cs new e f h k is =
     is ∙ ap (λ z. at_place z (with_note role high) ys cs) e
     ∙ ap (λ r. at_place x (with_note r high) ys cs) (k ∙ ap (role_of g) f)
@@ -110,16 +96,16 @@ tie_one c true true dy e = ap (λ t. record { leads = c.leads; notes = t; ties =
 tie_one c false true dy e = nothing_one c
 
 tie_told : (x1 x2 from to bulge : ℤ) (ys : List ℤ) (cs : List Column) → is_tie bulge ≡ true
-    → with_mark (marks.Arc x1 x2 from to bulge) ys cs ≡ at_place x2 (with_tie (to -ℤ bulge)) ys cs
+    → with_mark (PageMark.Arc x1 x2 from to bulge) ys cs ≡ at_place x2 (with_tie (to -ℤ bulge)) ys cs
 tie_told x1 x2 from to bulge [] cs e = refl
 tie_told x1 x2 from to bulge (y ∷ ys) [] e = refl
 tie_told x1 x2 from to bulge (y ∷ ys) (c ∷ cs) e =
-    joined (record c { notes = c.notes ++ []; ties = c.ties ++ tie_at y (marks.Arc x1 x2 from to bulge) }) (if int_eq x2 y then with_tie (to -ℤ bulge) c else c)
-    (with_mark (marks.Arc x1 x2 from to bulge) ys cs) (at_place x2 (with_tie (to -ℤ bulge)) ys cs)
+    joined (record c { notes = c.notes ++ []; ties = c.ties ++ tie_at y (PageMark.Arc x1 x2 from to bulge) }) (if int_eq x2 y then with_tie (to -ℤ bulge) c else c)
+    (with_mark (PageMark.Arc x1 x2 from to bulge) ys cs) (at_place x2 (with_tie (to -ℤ bulge)) ys cs)
     (tie_one c (int_eq x2 y) (is_tie bulge) (to -ℤ bulge) e) (tie_told x1 x2 from to bulge ys cs e)
 
 pub tie_passed : (x1 x2 from to bulge at end passed : ℤ) (ys : List ℤ) (cs new : List Column) → is_tie bulge ≡ true → at ≡ x2 → passed ≡ end → end ≡ to -ℤ bulge
-    → new ≡ at_place at (with_tie passed) ys cs → new ≡ with_mark (marks.Arc x1 x2 from to bulge) ys cs
+    → new ≡ at_place at (with_tie passed) ys cs → new ≡ with_mark (PageMark.Arc x1 x2 from to bulge) ys cs
 tie_passed x1 x2 from to bulge at end passed ys cs new tie e f h is =
     is ∙ ap (λ z. at_place z (with_tie passed) ys cs) e
     ∙ ap (λ z. at_place x2 (with_tie z) ys cs) (f ∙ h)
@@ -139,22 +125,22 @@ quiet_told m (y ∷ ys) (c ∷ cs) e f =
     joined (record c { notes = c.notes ++ note_at y m; ties = c.ties ++ tie_at y m }) c (with_mark m ys cs) cs
     (quiet_one c (note_at y m) (tie_at y m) (e y) (f y)) (quiet_told m ys cs e f)
 
-pub words_told : (size : Size) (x dx dy : ℤ) (text : List ℕ) (ys : List ℤ) (cs : List Column) → with_mark (marks.Words size x dx dy text) ys cs ≡ cs
-words_told size x dx dy text ys cs = quiet_told (marks.Words size x dx dy text) ys cs (λ y. refl) (λ y. refl)
+pub words_told : (size : Size) (x dx dy : ℤ) (text : List ℕ) (ys : List ℤ) (cs : List Column) → with_mark (PageMark.Words size x dx dy text) ys cs ≡ cs
+words_told size x dx dy text ys cs = quiet_told (PageMark.Words size x dx dy text) ys cs (λ y. refl) (λ y. refl)
 
-pub stem_told : (x dx from to : ℤ) (ys : List ℤ) (cs : List Column) → with_mark (marks.Stem x dx from to) ys cs ≡ cs
-stem_told x dx from to ys cs = quiet_told (marks.Stem x dx from to) ys cs (λ y. refl) (λ y. refl)
+pub stem_told : (x dx from to : ℤ) (ys : List ℤ) (cs : List Column) → with_mark (PageMark.Stem x dx from to) ys cs ≡ cs
+stem_told x dx from to ys cs = quiet_told (PageMark.Stem x dx from to) ys cs (λ y. refl) (λ y. refl)
 
-pub beam_told : (way : Way) (x1 x2 from to : ℤ) (ys : List ℤ) (cs : List Column) → with_mark (marks.Beam way x1 x2 from to) ys cs ≡ cs
-beam_told way x1 x2 from to ys cs = quiet_told (marks.Beam way x1 x2 from to) ys cs (λ y. refl) (λ y. refl)
+pub beam_told : (way : Way) (x1 x2 from to : ℤ) (ys : List ℤ) (cs : List Column) → with_mark (PageMark.Beam way x1 x2 from to) ys cs ≡ cs
+beam_told way x1 x2 from to ys cs = quiet_told (PageMark.Beam way x1 x2 from to) ys cs (λ y. refl) (λ y. refl)
 
 no_tie : (b t : Bool) (dy : ℤ) → t ≡ false → (if b && t then dy ∷ [] else []) ≡ []
 no_tie true t dy e = ap (λ u. if u then dy ∷ [] else []) e
 no_tie false t dy e = refl
 
-pub slur_told : (x1 x2 from to bulge : ℤ) (ys : List ℤ) (cs : List Column) → is_tie bulge ≡ false → with_mark (marks.Arc x1 x2 from to bulge) ys cs ≡ cs
+pub slur_told : (x1 x2 from to bulge : ℤ) (ys : List ℤ) (cs : List Column) → is_tie bulge ≡ false → with_mark (PageMark.Arc x1 x2 from to bulge) ys cs ≡ cs
 slur_told x1 x2 from to bulge ys cs e =
-    quiet_told (marks.Arc x1 x2 from to bulge) ys cs (λ y. refl) (λ y. no_tie (int_eq x2 y) (is_tie bulge) (to -ℤ bulge) e)
+    quiet_told (PageMark.Arc x1 x2 from to bulge) ys cs (λ y. refl) (λ y. no_tie (int_eq x2 y) (is_tie bulge) (to -ℤ bulge) e)
 
 -- ---- mark after mark
 

@@ -1,19 +1,8 @@
 -- Numbers in rising order, each once, and one of them sought.
 use Rattle.std.proofs.Common.{◌≡◌, refl, sym, ap, ◌∙◌, subst, ℕ, ◌<◌, ◌≤◌, Bool, true, false, cond, ◌||◌, nat_lt, List, [], ◌∷◌, length, get_or, arith, ℤ}
-use Rattle.std.specs.Prelude.{int_lt, if◌then◌else◌}
-use Rattle.std.specs.List.{AllByRecursion, Contains, list_any}
-use Rattle.std.specs.List.Sorted.{IsNonDecreasingBy, IsPartitionPoint, IsStrictlySortedBy}
-use Rattle.std.specs.Ordering.{int_cmp, int_eq, is_eq, is_gt, ordering_index}
-use Rattle.std.specs.declared.cmp.Ordering.{Ordering}
-use Rattle.std.specs.declared.cmp.Ordering.TheVariants.{Less, Equal, Greater}
-use Rattle.std.specs.FinMap.{int_cmp-IsAntisymmetric}
-use Rattle.std.proofs.lemmas.Bool.{false≢true}
-use Rattle.std.proofs.lemmas.Bool.Decides.{nat_tests}
-use Rattle.std.proofs.lemmas.Cmp.{int_cmp_total}
-use Rattle.std.proofs.lemmas.Int.{ints}
-use Rattle.std.proofs.lemmas.Map.Keys.{Less-from_sorted}
-use Rattle.std.proofs.lemmas.Map.Views.{Contains-from_any, list_any-from_Contains}
-use Rattle.std.proofs.lemmas.Cmp.{int_eq_equiv}
+use Rattle.std.proofs.lemmas.{Bool.false≢true, Bool.Decides.nat_tests, Cmp.int_cmp_total, Int.ints, Map.Keys.Less-from_sorted, Map.Views.Contains-from_any, Map.Views.list_any-from_Contains, Cmp.int_eq_equiv}
+use Rattle.std.specs.{Prelude.int_lt, Prelude.if◌then◌else◌, List.AllByRecursion, List.Contains, List.list_any, List.Sorted.IsNonDecreasingBy, List.Sorted.IsPartitionPoint, List.Sorted.IsStrictlySortedBy, Ordering.int_cmp, Ordering.int_eq, Ordering.is_eq, Ordering.is_gt, Ordering.ordering_index}
+use Rattle.std.specs.{declared.cmp.Ordering.Ordering, FinMap.int_cmp-IsAntisymmetric, declared.cmp.Ordering.TheVariants.Less, declared.cmp.Ordering.TheVariants.Equal, declared.cmp.Ordering.TheVariants.Greater}
 use Rattle.ps_heard.specs.Columns.{inserted, rising}
 
 abbrev pub Below : ℤ → List ℤ → Type 0

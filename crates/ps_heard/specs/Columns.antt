@@ -4,21 +4,16 @@
 use Rattle.std.specs.Prelude.{ℤ, pos, negsuc, ◌-ℤ◌, ◌||◌, ◌&&◌, int_lt, if◌then◌else◌, Bool, true, false, List, [], ◌∷◌, flat_map}
 use Rattle.std.specs.Ordering.{int_eq}
 use Rattle.ps_text.specs.declared.marks.PageMark.{PageMark}
-use Rattle.ps_text.specs.declared.marks.PageMark.TheVariants as marks
-use Rattle.ps_heard.specs.declared.column.Column.{Column}
-use Rattle.ps_heard.specs.declared.column.Noted.{Noted}
-use Rattle.ps_heard.specs.declared.column.Role.{Role}
-use Rattle.ps_heard.specs.declared.column.Role.TheVariants as roles
-use Rattle.ps_heard.specs.Roles.{role_of}
+use Rattle.ps_heard.specs.{declared.column.Column.Column, declared.column.Noted.Noted, declared.column.Role.Role, Roles.role_of}
 
 -- quiet glyphs tell nothing
 abbrev pub noted : Role → ℤ → List Noted
-noted roles.Quiet dy = []
+noted Role.Quiet dy = []
 noted role dy = record { role = role; dy = dy } ∷ []
 
 -- what a mark tells at an anchor: only glyphs tell something
 abbrev pub note_at : ℤ → PageMark → List Noted
-note_at x (marks.Glyph glyph at dx dy) = if int_eq at x then noted (role_of glyph dy) dy else []
+note_at x (PageMark.Glyph glyph at dx dy) = if int_eq at x then noted (role_of glyph dy) dy else []
 note_at x _ = []
 
 abbrev pub is_tie : ℤ → Bool
@@ -26,7 +21,7 @@ is_tie bulge = int_eq bulge (pos 400) || int_eq bulge (negsuc 399)
 
 -- the height of the head at which a tie ends at an anchor
 abbrev pub tie_at : ℤ → PageMark → List ℤ
-tie_at x (marks.Arc x1 x2 from to bulge) = if int_eq x2 x && is_tie bulge then (to -ℤ bulge) ∷ [] else []
+tie_at x (PageMark.Arc x1 x2 from to bulge) = if int_eq x2 x && is_tie bulge then (to -ℤ bulge) ∷ [] else []
 tie_at x _ = []
 
 unfoldable pub column_at : Bool → List PageMark → ℤ → Column

@@ -1,12 +1,8 @@
 -- What a listener keeps in mind, column after column from the left. This is the way that the program takes; what it comes
 -- to is said in Hearing.
 use Rattle.std.specs.Prelude.{if◌then◌else◌, List, [], ◌∷◌, ◌++◌}
-use Rattle.mus_units.specs.declared.key.Spread.{Spread}
-use Rattle.mus_units.specs.declared.pitch.Clef.TheVariants as clefs
-use Rattle.ps_heard.specs.declared.column.Column.{Column}
-use Rattle.ps_heard.specs.declared.column.Ear.{Ear}
-use Rattle.ps_heard.specs.declared.column.Noted.{Noted}
-use Rattle.ps_heard.specs.Hearing.{clef_behind, entries, gives_key, head_at, heard_at, last_or, listed, said_with}
+use Rattle.mus_units.specs.declared.{key.Spread.Spread, pitch.Clef.Clef}
+use Rattle.ps_heard.specs.{declared.column.Column.Column, declared.column.Ear.Ear, declared.column.Noted.Noted, Hearing.clef_behind, Hearing.entries, Hearing.gives_key, Hearing.head_at, Hearing.heard_at, Hearing.last_or, Hearing.listed, Hearing.said_with}
 
 -- a mark: a bar ends the measure, a head is said, and listed where it is no grace note's
 abbrev pub hear_one : Spread → Column → Ear → Noted → Ear
@@ -39,4 +35,4 @@ hear_columns spread ear (col ∷ cols) = hear_columns spread (hear_column spread
 
 -- at first
 abbrev pub fresh : Ear
-fresh = record { clef = clefs.Treble; key = record { signs = [] }; said = []; before = []; here = []; heard = [] }
+fresh = record { clef = Clef.Treble; key = record { signs = [] }; said = []; before = []; here = []; heard = [] }

@@ -2,33 +2,26 @@
 -- `staff` and its place; and for each head a line with its letter in capital, its alteration in half steps, -2 to 2, and its octave.
 use Rattle.std.specs.Prelude.{ℕ, ℤ, pos, negsuc, List, ◌++◌, codes, decimal, flat_map}
 use Rattle.std.specs.Fmt.{signed_decimal}
-use Rattle.mus_units.specs.declared.key.Spread.{Spread}
-use Rattle.mus_units.specs.declared.pitch.Alter.{Alter}
-use Rattle.mus_units.specs.declared.pitch.Alter.TheVariants as alters
-use Rattle.mus_units.specs.declared.pitch.Letter.{Letter}
-use Rattle.mus_units.specs.declared.pitch.Letter.TheVariants as letters
-use Rattle.ps_text.specs.Document.{numbered}
-use Rattle.ps_text.specs.declared.sheet.Sheet.{Sheet}
-use Rattle.ps_heard.specs.declared.column.Heard.{Heard}
-use Rattle.ps_heard.specs.declared.tunes.Part.{Part}
-use Rattle.ps_heard.specs.Tunes.{items_of, staves_heard, tunes_of}
+use Rattle.mus_units.specs.{declared.key.Spread.Spread, declared.pitch.Alter.Alter, declared.pitch.Letter.Letter}
+use Rattle.ps_text.specs.{Document.numbered, declared.sheet.Sheet.Sheet}
+use Rattle.ps_heard.specs.{declared.column.Heard.Heard, declared.tunes.Part.Part, Tunes.items_of, Tunes.staves_heard, Tunes.tunes_of}
 
 abbrev pub letter_text : Letter → List ℕ
-letter_text letters.C = codes "C"
-letter_text letters.D = codes "D"
-letter_text letters.E = codes "E"
-letter_text letters.F = codes "F"
-letter_text letters.G = codes "G"
-letter_text letters.A = codes "A"
-letter_text letters.B = codes "B"
+letter_text Letter.C = codes "C"
+letter_text Letter.D = codes "D"
+letter_text Letter.E = codes "E"
+letter_text Letter.F = codes "F"
+letter_text Letter.G = codes "G"
+letter_text Letter.A = codes "A"
+letter_text Letter.B = codes "B"
 
 -- half steps up
 abbrev pub half_steps : Alter → ℤ
-half_steps alters.Flat2 = negsuc 1
-half_steps alters.Flat = negsuc 0
-half_steps alters.Natural = pos 0
-half_steps alters.Sharp = pos 1
-half_steps alters.Sharp2 = pos 2
+half_steps Alter.Flat2 = negsuc 1
+half_steps Alter.Flat = negsuc 0
+half_steps Alter.Natural = pos 0
+half_steps Alter.Sharp = pos 1
+half_steps Alter.Sharp2 = pos 2
 
 abbrev pub head_line : Heard → List ℕ
 head_line x = letter_text x.pitch.letter ++ codes " " ++ signed_decimal (half_steps x.alter) ++ codes " " ++ signed_decimal x.pitch.octave ++ codes "\n"

@@ -6,29 +6,14 @@
 -- head of its measure that the spread reaches; its key's; natural. The head before a tie is the first of that letter and
 -- octave in the last earlier column of heads. Heads of grace notes count for signs, and are not listed.
 use Rattle.std.specs.Prelude.{ℤ, ◌||◌, ◌&&◌, not, Bool, true, false, if◌then◌else◌, List, [], ◌∷◌, ◌++◌, reverse, Option, Some, None, unwrap_or}
-use Rattle.std.specs.List.{find, list_any}
-use Rattle.std.specs.Option.{option_map}
-use Rattle.std.specs.Ordering.{int_eq}
-use Rattle.mus_units.specs.Good.{same_letter}
-use Rattle.mus_units.specs.declared.key.Sign.{Sign}
-use Rattle.mus_units.specs.declared.key.Spread.{Spread}
-use Rattle.mus_units.specs.declared.note.Head.{Head}
-use Rattle.mus_units.specs.declared.pitch.Alter.{Alter}
-use Rattle.mus_units.specs.declared.pitch.Alter.TheVariants as alters
-use Rattle.mus_units.specs.declared.pitch.Clef.{Clef}
-use Rattle.mus_units.specs.declared.pitch.Clef.TheVariants as clefs
-use Rattle.mus_units.specs.declared.pitch.Pitch.{Pitch}
+use Rattle.std.specs.{List.find, List.list_any, Option.option_map, Ordering.int_eq}
+use Rattle.mus_units.specs.{Good.same_letter, declared.key.Sign.Sign, declared.key.Spread.Spread, declared.note.Head.Head, declared.pitch.Alter.Alter, declared.pitch.Clef.Clef, declared.pitch.Pitch.Pitch}
 use Rattle.mus_pitch.specs.Alteration.{key_sign, said_sign}
-use Rattle.ps_heard.specs.declared.column.Column.{Column}
-use Rattle.ps_heard.specs.declared.column.Heard.{Heard}
-use Rattle.ps_heard.specs.declared.column.Noted.{Noted}
-use Rattle.ps_heard.specs.declared.column.Role.{Role}
-use Rattle.ps_heard.specs.declared.column.Role.TheVariants as roles
-use Rattle.ps_heard.specs.Roles.{pitch_at}
+use Rattle.ps_heard.specs.{declared.column.Column.Column, declared.column.Heard.Heard, declared.column.Noted.Noted, declared.column.Role.Role, Roles.pitch_at}
 
 -- the last clef among what is noted, else the one before
 abbrev pub clef_or : Clef → Role → Clef
-clef_or c (roles.Clef new) = new
+clef_or c (Role.Clef new) = new
 clef_or c _ = c
 
 abbrev pub clef_behind : Clef → List Noted → Clef
@@ -36,12 +21,12 @@ clef_behind c [] = c
 clef_behind c (n ∷ ns) = clef_behind (clef_or c n.role) ns
 
 abbrev pub clef_at : List Column → Clef
-clef_at [] = clefs.Treble
+clef_at [] = Clef.Treble
 clef_at (col ∷ earlier) = clef_behind (clef_at earlier) col.notes
 
 -- signs as entries of a key, by height and clef; the first of a letter counts, as in each key
 abbrev pub entry : Clef → ℤ → Role → List Sign
-entry c dy (roles.Sign a) = record { letter = (pitch_at c dy).letter; alter = a } ∷ []
+entry c dy (Role.Sign a) = record { letter = (pitch_at c dy).letter; alter = a } ∷ []
 entry c dy _ = []
 
 abbrev pub entries : Clef → List Noted → List Sign
@@ -49,12 +34,12 @@ entries c [] = []
 entries c (n ∷ ns) = entry c n.dy n.role ++ entries c ns
 
 abbrev pub is_sign : Role → Bool
-is_sign (roles.Sign a) = true
+is_sign (Role.Sign a) = true
 is_sign _ = false
 
 abbrev pub is_head : Role → Bool
-is_head roles.Head = true
-is_head roles.Grace = true
+is_head Role.Head = true
+is_head Role.Grace = true
 is_head _ = false
 
 -- the first column of a system gives the key, and each that has signs and no heads
@@ -67,7 +52,7 @@ key_at (col ∷ earlier) = if gives_key col.leads col.notes then entries (clef_a
 
 -- the first sign at a height
 abbrev pub sign_if : ℤ → ℤ → Role → Option Alter
-sign_if dy at (roles.Sign a) = if int_eq at dy then Some a else None
+sign_if dy at (Role.Sign a) = if int_eq at dy then Some a else None
 sign_if dy at _ = None
 
 abbrev pub first_of : Option Alter → Option Alter → Option Alter
@@ -84,9 +69,9 @@ head_at c dy ns = record { pitch = pitch_at c dy; sign = sign_at dy ns; tied = f
 
 -- the heads so far in a measure: none behind a bar, and one more behind each head
 abbrev pub said_with : Role → Head → List Head → List Head
-said_with roles.Bar h said = []
-said_with roles.Head h said = said ++ h ∷ []
-said_with roles.Grace h said = said ++ h ∷ []
+said_with Role.Bar h said = []
+said_with Role.Head h said = said ++ h ∷ []
+said_with Role.Grace h said = said ++ h ∷ []
 said_with _ h said = said
 
 abbrev pub said_behind : Clef → Column → List Head → List Noted → List Head
@@ -107,7 +92,7 @@ tied_from false before p = None
 
 -- the first of these that there is: its own sign, the alteration before its tie, the last sign that reaches it, its key's, natural
 abbrev pub first_there : Option Alter → Option Alter → Option Alter → Option Alter → Alter
-first_there own tied said key = unwrap_or own (unwrap_or tied (unwrap_or said (unwrap_or key alters.Natural)))
+first_there own tied said key = unwrap_or own (unwrap_or tied (unwrap_or said (unwrap_or key Alter.Natural)))
 
 -- a head at a height of a column, behind the heads of its measure
 abbrev pub heard_at : Spread → Column → Clef → List Sign → List Heard → List Head → ℤ → Heard
@@ -121,7 +106,7 @@ heard_at spread col c key before said dy = record {
 
 -- only heads of notes are listed
 abbrev pub listed : Role → Heard → List Heard
-listed roles.Head x = x ∷ []
+listed Role.Head x = x ∷ []
 listed _ x = []
 
 -- the heads of a column, each behind those before it

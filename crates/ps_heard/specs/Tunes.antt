@@ -3,17 +3,8 @@
 use Rattle.std.specs.Prelude.{ℕ, ℤ, max, List, [], ◌∷◌, length, map, flat_map, slice_get, Option, Some, None}
 use Rattle.std.specs.List.{range_with_len}
 use Rattle.mus_units.specs.declared.key.Spread.{Spread}
-use Rattle.ps_text.specs.Ranks.{anchors}
-use Rattle.ps_text.specs.declared.sheet.Item.{Item}
-use Rattle.ps_text.specs.declared.sheet.Item.TheVariants as items
-use Rattle.ps_text.specs.declared.sheet.Page.{Page}
-use Rattle.ps_text.specs.declared.sheet.Sheet.{Sheet}
-use Rattle.ps_text.specs.declared.sheet.Staff.{Staff}
-use Rattle.ps_heard.specs.declared.column.Column.{Column}
-use Rattle.ps_heard.specs.declared.column.Heard.{Heard}
-use Rattle.ps_heard.specs.declared.tunes.Part.{Part}
-use Rattle.ps_heard.specs.Columns.{columns_of}
-use Rattle.ps_heard.specs.Hearing.{heard_of}
+use Rattle.ps_text.specs.{Ranks.anchors, declared.sheet.Item.Item, declared.sheet.Page.Page, declared.sheet.Sheet.Sheet, declared.sheet.Staff.Staff}
+use Rattle.ps_heard.specs.{declared.column.Column.Column, declared.column.Heard.Heard, declared.tunes.Part.Part, Columns.columns_of, Hearing.heard_of}
 
 -- the items of a sheet, page after page
 abbrev pub items_of : Sheet → List Item
@@ -22,16 +13,16 @@ items_of s = flat_map (λ (p : Page). p.items) s.pages
 -- the systems before the next tune
 abbrev pub systems_till : List Item → List (List Staff)
 systems_till [] = []
-systems_till (items.Tune ordinal ∷ rest) = []
-systems_till (items.Title x y size text ∷ rest) = systems_till rest
-systems_till (items.System a b staves ∷ rest) = staves ∷ systems_till rest
+systems_till (Item.Tune ordinal ∷ rest) = []
+systems_till (Item.Title x y size text ∷ rest) = systems_till rest
+systems_till (Item.System a b staves ∷ rest) = staves ∷ systems_till rest
 
 -- the tunes in order: the ordinal of each, and its systems
 abbrev pub tunes_of : List Item → List Part
 tunes_of [] = []
-tunes_of (items.Tune ordinal ∷ rest) = record { ordinal = ordinal; systems = systems_till rest } ∷ tunes_of rest
-tunes_of (items.Title x y size text ∷ rest) = tunes_of rest
-tunes_of (items.System a b staves ∷ rest) = tunes_of rest
+tunes_of (Item.Tune ordinal ∷ rest) = record { ordinal = ordinal; systems = systems_till rest } ∷ tunes_of rest
+tunes_of (Item.Title x y size text ∷ rest) = tunes_of rest
+tunes_of (Item.System a b staves ∷ rest) = tunes_of rest
 
 -- the columns of staff k of a system, if it has that staff
 abbrev pub columns_if : List ℤ → Option Staff → List Column

@@ -1,8 +1,5 @@
-ghost use Rattle.std.specs.Prelude.{◌≡◌, ◌++◌, ◌-ℤ◌, [], true, length, IfOk, OnOk};
-ghost use Rattle.std.specs.List.Sorted.{IsStrictlySortedBy};
-ghost use Rattle.std.specs.Ordering.{int_cmp};
-ghost use Rattle.ps_heard.specs.Columns.{columns_from, is_tie};
-ghost use Rattle.ps_heard.specs.Filling.{at_place, with_mark, with_note, with_tie};
+ghost use Rattle.std.specs.{Prelude.◌≡◌, Prelude.◌++◌, Prelude.◌-ℤ◌, Prelude.[], Prelude.true, Prelude.length, Prelude.IfOk, Prelude.OnOk, List.Sorted.IsStrictlySortedBy, Ordering.int_cmp};
+ghost use Rattle.ps_heard.specs.{Columns.columns_from, Columns.is_tie, Filling.at_place, Filling.with_mark, Filling.with_note, Filling.with_tie};
 
 use crate::anchors::place_of;
 use crate::column::{Column, Noted, Role};

@@ -1,7 +1,6 @@
 //! The clef and the key of a column.
 
-ghost use Rattle.std.specs.Prelude.{◌≡◌, IfOk};
-ghost use Rattle.std.specs.List.{list_any};
+ghost use Rattle.std.specs.{Prelude.◌≡◌, Prelude.IfOk, List.list_any};
 ghost use Rattle.ps_heard.specs.Hearing.{clef_or, clef_behind, entries, is_sign, is_head, gives_key};
 
 use crate::column::{Noted, Role};

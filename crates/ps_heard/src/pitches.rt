@@ -1,5 +1,4 @@
-ghost use Rattle.std.specs.Prelude.{◌≡◌, ◌≤ℤ◌, pos};
-ghost use Rattle.std.specs.Int.{int_div_euclid};
+ghost use Rattle.std.specs.{Prelude.◌≡◌, Prelude.◌≤ℤ◌, Prelude.pos, Int.int_div_euclid};
 ghost use Rattle.mus_units.specs.Pitch.{bottom_of};
 ghost use Rattle.ps_heard.specs.Roles.{pitch_at};
 

@@ -1,8 +1,7 @@
 //! What the tunes of a sheet sound.
 
 ghost use Rattle.std.specs.Prelude.{◌≡◌, IfOk, OnOk, flat_map};
-ghost use Rattle.ps_heard.specs.Ear.{hear_columns};
-ghost use Rattle.ps_heard.specs.Tunes.{staff_columns, staff_heard, staves_heard, heard_in};
+ghost use Rattle.ps_heard.specs.{Ear.hear_columns, Tunes.staff_columns, Tunes.staff_heard, Tunes.staves_heard, Tunes.heard_in};
 
 use crate::anchors::places_of;
 use crate::column::{Ear, Heard};

@@ -1,7 +1,6 @@
 //! What a sheet sounds, as text.
 
-ghost use Rattle.std.specs.Prelude.{◌≡◌, ◌++◌, flat_map, OnOk};
-ghost use Rattle.std.specs.Fmt.{signed_decimal};
+ghost use Rattle.std.specs.{Prelude.◌≡◌, Prelude.◌++◌, Prelude.flat_map, Prelude.OnOk, Fmt.signed_decimal};
 ghost use Rattle.ps_text.specs.Document.{numbered};
 ghost use Rattle.ps_heard.specs.HeardText.{half_steps, head_line, heard_text, letter_text, staff_text, tune_text};
 

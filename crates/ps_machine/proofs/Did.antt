@@ -1,25 +1,18 @@
 -- What operators do, told step by step.
 use Rattle.std.proofs.Common.{◌≡◌, ℤ, Bool, true, false, ◌&&◌, List, [], ◌∷◌, ◌++◌, refl, sym, ◌∙◌, ap}
-use Rattle.std.proofs.lemmas.Bool.{true≢false}
-use Rattle.ps_steps.specs.declared.halt.Cause.TheVariants as causes
-use Rattle.std.specs.Prelude.{Err}
-use Rattle.ps_steps.specs.Near.{is_near}
-use Rattle.ps_machine.specs.declared.state.Stop.{Stop}
-use Rattle.ps_machine.specs.declared.state.Stop.TheVariants as stops
-use Rattle.ps_machine.specs.Doing.{DidOrStopped, IsPoint}
-use Rattle.ps_steps.specs.declared.paint.Seg.TheVariants as segs
-use Rattle.ps_steps.specs.State.{State}
-use Rattle.ps_steps.specs.declared.graphics.Graphics.{Graphics}
-use Rattle.ps_steps.specs.Operators.{Outcome, went, halted, lineto, curveto, add_seg, at_point, in_range, across, above, all_near}
+use Rattle.std.{proofs.lemmas.Bool.true≢false, specs.Prelude.Err}
+use Rattle.ps_steps.specs.{declared.halt.Cause.Cause, Near.is_near, State.State, declared.graphics.Graphics.Graphics, Operators.Outcome, Operators.went, Operators.halted, Operators.lineto, Operators.curveto, Operators.add_seg, Operators.at_point, Operators.in_range, Operators.across}
+use Rattle.ps_steps.specs.{Operators.above, Operators.all_near, declared.paint.Seg.Seg}
+use Rattle.ps_machine.specs.{declared.state.Stop.Stop, Doing.DidOrStopped, Doing.IsPoint}
 
 is_in_range : (zs : List ℤ) (x : Outcome) → all_near zs ≡ true → in_range zs x ≡ x
 is_in_range zs x e = rw (e, in_range) refl
 
 pub line_did : (x y : ℤ) (m : State) (p q : ℤ) → ((o : Outcome) → at_point m.now.path o ≡ o) → (p ≡ across m.now x) × (q ≡ above m.now y) × (all_near (across m.now x ∷ above m.now y ∷ []) ≡ true)
-    → lineto x y m ≡ went [] (record m { now = record m.now { path = m.now.path ++ segs.Line p q ∷ [] } })
+    → lineto x y m ≡ went [] (record m { now = record m.now { path = m.now.path ++ Seg.Line p q ∷ [] } })
 line_did x y m p q on h = on _ ∙ is_in_range (across m.now x ∷ above m.now y ∷ []) _ h.2 ∙ rw (h.0, h.1) refl
 
-out_of_range : (zs : List ℤ) (x : Outcome) → all_near zs ≡ false → in_range zs x ≡ halted causes.Range
+out_of_range : (zs : List ℤ) (x : Outcome) → all_near zs ≡ false → in_range zs x ≡ halted Cause.Range
 out_of_range zs x e = rw (e, in_range) refl
 
 six_near : (a b c d x y : ℤ) → all_near (a ∷ b ∷ []) ≡ true → all_near (c ∷ d ∷ []) ≡ true → all_near (x ∷ y ∷ []) ≡ true → all_near (a ∷ b ∷ c ∷ d ∷ x ∷ y ∷ []) ≡ true
@@ -68,27 +61,27 @@ abbrev pub IsThere : Graphics → ℤ → ℤ → ℤ → ℤ → Type 0
 IsThere g x y p q = (p ≡ across g x) × (q ≡ above g y) × (all_near (across g x ∷ above g y ∷ []) ≡ true)
 
 pub curve_did : (a b c d x y : ℤ) (m : State) (p q r s t u : ℤ) → ((o : Outcome) → at_point m.now.path o ≡ o) → IsThere m.now a b p q → IsThere m.now c d r s → IsThere m.now x y t u
-    → curveto (a ∷ b ∷ c ∷ d ∷ x ∷ y ∷ []) m ≡ went [] (record m { now = record m.now { path = m.now.path ++ segs.Curve p q r s t u ∷ [] } })
+    → curveto (a ∷ b ∷ c ∷ d ∷ x ∷ y ∷ []) m ≡ went [] (record m { now = record m.now { path = m.now.path ++ Seg.Curve p q r s t u ∷ [] } })
 curve_did a b c d x y m p q r s t u on h k l =
     on _
     ∙ (is_in_range (across m.now a ∷ above m.now b ∷ across m.now c ∷ above m.now d ∷ across m.now x ∷ above m.now y ∷ []) _ (six_near (across m.now a) (above m.now b) (across m.now c) (above m.now d) (across m.now x) (above m.now y) h.2 k.2 l.2)
     ∙ rw (h.0, h.1, k.0, k.1, l.0, l.1) refl)
 
 curve_far : (a b c d x y : ℤ) (m : State) → ((o : Outcome) → at_point m.now.path o ≡ o)
-    → all_near (across m.now a ∷ above m.now b ∷ across m.now c ∷ above m.now d ∷ across m.now x ∷ above m.now y ∷ []) ≡ false → curveto (a ∷ b ∷ c ∷ d ∷ x ∷ y ∷ []) m ≡ halted causes.Range
+    → all_near (across m.now a ∷ above m.now b ∷ across m.now c ∷ above m.now d ∷ across m.now x ∷ above m.now y ∷ []) ≡ false → curveto (a ∷ b ∷ c ∷ d ∷ x ∷ y ∷ []) m ≡ halted Cause.Range
 curve_far a b c d x y m on e =
-    let piece = segs.Curve (across m.now a) (above m.now b) (across m.now c) (above m.now d) (across m.now x) (above m.now y) in
+    let piece = Seg.Curve (across m.now a) (above m.now b) (across m.now c) (above m.now d) (across m.now x) (above m.now y) in
     on _ ∙ out_of_range (across m.now a ∷ above m.now b ∷ across m.now c ∷ above m.now d ∷ across m.now x ∷ above m.now y ∷ []) (add_seg piece m) e
 
 -- a curve stops where one of its points is past the range
 pub first_stops : (a b c d x y : ℤ) (m k : State) (e : Stop) → ((o : Outcome) → at_point m.now.path o ≡ o) → IsPoint m.now a b (Err e) → DidOrStopped (curveto (a ∷ b ∷ c ∷ d ∷ x ∷ y ∷ []) m) (Err e) k
-first_stops a b c d x y m k (stops.Halted cause) on h = curve_far a b c d x y m on (first_far (across m.now a) (above m.now b) (across m.now c) (above m.now d) (across m.now x) (above m.now y) h.1) ∙ ap halted (sym h.0)
-first_stops a b c d x y m k stops.Memory on h = absurd h
+first_stops a b c d x y m k (Stop.Halted cause) on h = curve_far a b c d x y m on (first_far (across m.now a) (above m.now b) (across m.now c) (above m.now d) (across m.now x) (above m.now y) h.1) ∙ ap halted (sym h.0)
+first_stops a b c d x y m k Stop.Memory on h = absurd h
 
 pub second_stops : (a b c d x y : ℤ) (m k : State) (e : Stop) → ((o : Outcome) → at_point m.now.path o ≡ o) → IsPoint m.now c d (Err e) → DidOrStopped (curveto (a ∷ b ∷ c ∷ d ∷ x ∷ y ∷ []) m) (Err e) k
-second_stops a b c d x y m k (stops.Halted cause) on h = curve_far a b c d x y m on (second_far (across m.now a) (above m.now b) (across m.now c) (above m.now d) (across m.now x) (above m.now y) h.1) ∙ ap halted (sym h.0)
-second_stops a b c d x y m k stops.Memory on h = absurd h
+second_stops a b c d x y m k (Stop.Halted cause) on h = curve_far a b c d x y m on (second_far (across m.now a) (above m.now b) (across m.now c) (above m.now d) (across m.now x) (above m.now y) h.1) ∙ ap halted (sym h.0)
+second_stops a b c d x y m k Stop.Memory on h = absurd h
 
 pub third_stops : (a b c d x y : ℤ) (m k : State) (e : Stop) → ((o : Outcome) → at_point m.now.path o ≡ o) → IsPoint m.now x y (Err e) → DidOrStopped (curveto (a ∷ b ∷ c ∷ d ∷ x ∷ y ∷ []) m) (Err e) k
-third_stops a b c d x y m k (stops.Halted cause) on h = curve_far a b c d x y m on (third_far (across m.now a) (above m.now b) (across m.now c) (above m.now d) (across m.now x) (above m.now y) h.1) ∙ ap halted (sym h.0)
-third_stops a b c d x y m k stops.Memory on h = absurd h
+third_stops a b c d x y m k (Stop.Halted cause) on h = curve_far a b c d x y m on (third_far (across m.now a) (above m.now b) (across m.now c) (above m.now d) (across m.now x) (above m.now y) h.1) ∙ ap halted (sym h.0)
+third_stops a b c d x y m k Stop.Memory on h = absurd h

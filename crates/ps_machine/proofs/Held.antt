@@ -1,13 +1,8 @@
 -- A piece more, for the state that is drawn with and for those that are saved.
 use Rattle.std.proofs.Common.{◌≡◌, ◌≤◌, ◌∙◌, refl, sym, ap, subst, List, [], ◌∷◌, ◌++◌, length, take, drop, reverse, Some, ℕ, arith, length-append}
 use Rattle.std.proofs.lemmas.List.{drop-append-le, take-append-le, reverse-append}
-use Rattle.ps_steps.specs.declared.paint.Seg.{Seg}
-use Rattle.ps_steps.specs.declared.paint.Seg.TheVariants as segs
-use Rattle.ps_steps.specs.Points.{end_of, last_move}
-use Rattle.ps_machine.specs.Drawing.{Drawing}
-use Rattle.ps_machine.specs.Pens.{AreHeld, IsHeld, drawing_of, followed, graphics_of, saved_of}
-use Rattle.ps_machine.specs.declared.canvas.Pen.{Pen}
-use Rattle.ps_machine.specs.declared.canvas.Saved.{Saved}
+use Rattle.ps_steps.specs.{declared.paint.Seg.Seg, Points.end_of, Points.last_move}
+use Rattle.ps_machine.specs.{Drawing.Drawing, Pens.AreHeld, Pens.IsHeld, Pens.drawing_of, Pens.followed, Pens.graphics_of, Pens.saved_of, declared.canvas.Pen.Pen, declared.canvas.Saved.Saved}
 
 -- the path with one more piece, the last first
 turned : (n : ℕ) (pieces : List Seg) (x : Seg) → n ≤ length pieces → reverse (drop n (pieces ++ x ∷ [])) ≡ x ∷ reverse (drop n pieces)
@@ -17,18 +12,18 @@ longer : (n : ℕ) (pieces : List Seg) (x : Seg) → n ≤ length pieces → n �
 longer n pieces x within = let both = length-append pieces (x ∷ []) in omega (arith, both, within)
 
 pub held_more : (pieces : List Seg) (pen : Pen) (x : Seg) → IsHeld pieces pen → IsHeld (pieces ++ x ∷ []) (followed pen x)
-held_more pieces pen (segs.Move x y) h =
-    let e = turned pen.first pieces (segs.Move x y) h.0 in
-    (longer pen.first pieces (segs.Move x y) h.0, sym (ap end_of e), sym (ap last_move e))
-held_more pieces pen (segs.Line x y) h =
-    let e = turned pen.first pieces (segs.Line x y) h.0 in
-    (longer pen.first pieces (segs.Line x y) h.0, sym (ap end_of e), h.2 ∙ sym (ap last_move e))
-held_more pieces pen (segs.Curve a b c d x y) h =
-    let e = turned pen.first pieces (segs.Curve a b c d x y) h.0 in
-    (longer pen.first pieces (segs.Curve a b c d x y) h.0, sym (ap end_of e), h.2 ∙ sym (ap last_move e))
-held_more pieces pen segs.Close h =
-    let e = turned pen.first pieces segs.Close h.0 in
-    (longer pen.first pieces segs.Close h.0, ap Some h.2 ∙ sym (ap end_of e), h.2 ∙ sym (ap last_move e))
+held_more pieces pen (Seg.Move x y) h =
+    let e = turned pen.first pieces (Seg.Move x y) h.0 in
+    (longer pen.first pieces (Seg.Move x y) h.0, sym (ap end_of e), sym (ap last_move e))
+held_more pieces pen (Seg.Line x y) h =
+    let e = turned pen.first pieces (Seg.Line x y) h.0 in
+    (longer pen.first pieces (Seg.Line x y) h.0, sym (ap end_of e), h.2 ∙ sym (ap last_move e))
+held_more pieces pen (Seg.Curve a b c d x y) h =
+    let e = turned pen.first pieces (Seg.Curve a b c d x y) h.0 in
+    (longer pen.first pieces (Seg.Curve a b c d x y) h.0, sym (ap end_of e), h.2 ∙ sym (ap last_move e))
+held_more pieces pen Seg.Close h =
+    let e = turned pen.first pieces Seg.Close h.0 in
+    (longer pen.first pieces Seg.Close h.0, ap Some h.2 ∙ sym (ap end_of e), h.2 ∙ sym (ap last_move e))
 
 pub all_held_more : (pieces : List Seg) (saved : List Saved) (x : Seg) → AreHeld pieces saved → AreHeld (pieces ++ x ∷ []) saved
 all_held_more pieces [] x h = tt
@@ -46,10 +41,10 @@ with_piece d x = record d { now = record d.now { path = d.now.path ++ x ∷ [] }
 
 graphics_more : (pieces : List Seg) (pen : Pen) (x : Seg) → pen.first ≤ length pieces
     → graphics_of (pieces ++ x ∷ []) (followed pen x) ≡ record (graphics_of pieces pen) { path = drop pen.first pieces ++ x ∷ [] }
-graphics_more pieces pen (segs.Move x y) within = ap (λ p. record (graphics_of pieces pen) { path = p }) (drop-append-le pen.first pieces (segs.Move x y ∷ []) within)
-graphics_more pieces pen (segs.Line x y) within = ap (λ p. record (graphics_of pieces pen) { path = p }) (drop-append-le pen.first pieces (segs.Line x y ∷ []) within)
-graphics_more pieces pen (segs.Curve a b c d x y) within = ap (λ p. record (graphics_of pieces pen) { path = p }) (drop-append-le pen.first pieces (segs.Curve a b c d x y ∷ []) within)
-graphics_more pieces pen segs.Close within = ap (λ p. record (graphics_of pieces pen) { path = p }) (drop-append-le pen.first pieces (segs.Close ∷ []) within)
+graphics_more pieces pen (Seg.Move x y) within = ap (λ p. record (graphics_of pieces pen) { path = p }) (drop-append-le pen.first pieces (Seg.Move x y ∷ []) within)
+graphics_more pieces pen (Seg.Line x y) within = ap (λ p. record (graphics_of pieces pen) { path = p }) (drop-append-le pen.first pieces (Seg.Line x y ∷ []) within)
+graphics_more pieces pen (Seg.Curve a b c d x y) within = ap (λ p. record (graphics_of pieces pen) { path = p }) (drop-append-le pen.first pieces (Seg.Curve a b c d x y ∷ []) within)
+graphics_more pieces pen Seg.Close within = ap (λ p. record (graphics_of pieces pen) { path = p }) (drop-append-le pen.first pieces (Seg.Close ∷ []) within)
 
 pub drawing_more : (pieces : List Seg) (pen : Pen) (saved : List Saved) (x : Seg) → IsHeld pieces pen → AreHeld pieces saved
     → drawing_of (pieces ++ x ∷ []) (followed pen x) saved ≡ with_piece (drawing_of pieces pen saved) x

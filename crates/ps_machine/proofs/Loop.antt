@@ -1,18 +1,9 @@
 -- How a run goes on, token by token.
 use Rattle.std.proofs.Common.{◌≡◌, ℕ, ◌+◌, ◌<◌, ◌≤◌, false, List, [], ◌∷◌, ◌++◌, Option, Some, None, refl, arith}
-use Rattle.ps_steps.specs.declared.halt.Cause.{Cause}
-use Rattle.ps_steps.specs.declared.halt.Cause.TheVariants as causes
-use Rattle.ps_steps.specs.declared.token.Simple.{Simple}
-use Rattle.ps_steps.specs.declared.token.Token.{Token}
-use Rattle.ps_steps.specs.Tokens.{NoToken, passed}
-use Rattle.ps_steps.specs.State.{State, first_state}
-use Rattle.ps_steps.specs.Operators.{went, halted, executed}
-use Rattle.ps_steps.specs.Steps.{Place, at, NextToken, from_pending, from_text, Steps, here, step, Paints, unreadable, used_up, stuck, Halts}
-use Rattle.ps_steps.proofs.Joined.{now, joined}
+use Rattle.ps_steps.specs.{declared.halt.Cause.Cause, declared.token.Simple.Simple, declared.token.Token.Token, Tokens.NoToken, Tokens.passed, State.State, State.first_state, Operators.went, Operators.halted, Operators.executed, Steps.Place, Steps.at, Steps.NextToken, Steps.from_pending}
+use Rattle.ps_steps.{specs.Steps.from_text, specs.Steps.Steps, specs.Steps.here, specs.Steps.step, specs.Steps.Paints, specs.Steps.unreadable, specs.Steps.used_up, specs.Steps.stuck, specs.Steps.Halts, proofs.Joined.now, proofs.Joined.joined}
 use Rattle.ps_tokens.specs.Programs.{IsRead, all_read, fault_read, token_read}
-use Rattle.ps_machine.specs.declared.run.Next.{Next}
-use Rattle.ps_machine.specs.declared.run.Next.TheVariants as nexts
-use Rattle.ps_machine.specs.Nexts.{token_of, IsTaken, of_calls, of_text, IsFirst, IsNext}
+use Rattle.ps_machine.specs.{declared.run.Next.Next, Nexts.token_of, Nexts.IsTaken, Nexts.of_calls, Nexts.of_text, Nexts.IsFirst, Nexts.IsNext}
 
 -- the run has come so far: its calls, its state, and the tokens of the text that are left
 pub record Come (text : List ℕ) (budget count : ℕ) (calls : List Simple) (m : State) (left : List Token) (fault : Option Cause) : Type 0 where
@@ -74,7 +65,7 @@ module _ (text : List ℕ) (budget count : ℕ) (calls : List Simple) (m : State
           read = x.read;
         }
 
-    pub come_used : count ≡ budget → Halts text budget count causes.Budget
+    pub come_used : count ≡ budget → Halts text budget count Cause.Budget
     come_used e =
         let x = comes c.rest calls m left fault t calls2 left2 c.read taken in
         record { last = now calls m c.rest; within = c.within; run = c.run; halted = used_up e (record { token = t; rest = now calls2 m x.rest; next = x.next }) }
@@ -86,5 +77,5 @@ module _ (text : List ℕ) (budget count : ℕ) (calls : List Simple) (m : State
 
 -- where no call is left, the first token of the text comes next
 pub next_of_text : (calls left : List Simple) (text : List Token) (n : Next) → calls ≡ [] → left ≡ [] → IsFirst text n → IsNext calls text n left
-next_of_text calls left text nexts.End e g h = (e, h)
-next_of_text calls left text (nexts.Token t rest) e g h = rw g (of_text (token_of t) rest.now e h)
+next_of_text calls left text Next.End e g h = (e, h)
+next_of_text calls left text (Next.Token t rest) e g h = rw g (of_text (token_of t) rest.now e h)

@@ -1,7 +1,5 @@
 -- The procedures that names were given, as the code keeps them: a map from names to tokens.
-use Rattle.std.specs.BTreeMap.{get_by}
-use Rattle.std.specs.Cmp.Lexicographic.{slice_cmp}
-use Rattle.std.specs.Ordering.{nat_cmp}
+use Rattle.std.specs.{BTreeMap.get_by, Cmp.Lexicographic.slice_cmp, Ordering.nat_cmp}
 use Rattle.ps_steps.specs.State.{Names}
 use Rattle.ps_machine.specs.declared.definitions.Definitions.{Definitions}
 

@@ -1,8 +1,6 @@
 -- A run has one answer: it paints one list of pages, or it halts at one token for one cause.
 use Rattle.std.specs.Prelude.{◌≡◌, ℕ, List}
-use Rattle.ps_steps.specs.declared.halt.Cause.{Cause}
-use Rattle.ps_steps.specs.declared.paint.PagePaint.{PagePaint}
-use Rattle.ps_steps.specs.Steps.{Paints, Halts}
+use Rattle.ps_steps.specs.{declared.halt.Cause.Cause, declared.paint.PagePaint.PagePaint, Steps.Paints, Steps.Halts}
 
 pub record HasOneAnswer : Type 0 where
   pub painted : (text : List ℕ) (budget : ℕ) (ps qs : List PagePaint) → Paints text budget ps → Paints text budget qs → ps ≡ qs

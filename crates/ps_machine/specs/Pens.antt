@@ -1,13 +1,8 @@
 -- How the code keeps graphics states. The pieces of all paths stand in one list. The path of the state that is drawn with is what stands there
 -- from its first piece on. A saved state has of the pieces those that stood there when it was saved, and so have those that were saved before it.
 use Rattle.std.specs.Prelude.{◌≡◌, ◌≤◌, ⊤, List, [], ◌∷◌, length, take, drop, reverse, Some}
-use Rattle.ps_steps.specs.declared.graphics.Graphics.{Graphics}
-use Rattle.ps_steps.specs.declared.paint.Seg.{Seg}
-use Rattle.ps_steps.specs.Points.{current, last_move}
-use Rattle.ps_steps.specs.declared.paint.Seg.TheVariants as segs
-use Rattle.ps_machine.specs.Drawing.{Drawing}
-use Rattle.ps_machine.specs.declared.canvas.Pen.{Pen}
-use Rattle.ps_machine.specs.declared.canvas.Saved.{Saved}
+use Rattle.ps_steps.specs.{declared.graphics.Graphics.Graphics, declared.paint.Seg.Seg, Points.current, Points.last_move}
+use Rattle.ps_machine.specs.{Drawing.Drawing, declared.canvas.Pen.Pen, declared.canvas.Saved.Saved}
 
 abbrev pub graphics_of : List Seg → Pen → Graphics
 graphics_of pieces pen = record { path = drop pen.first pieces; scale = pen.scale; x = pen.x; y = pen.y; font = pen.font; line = pen.line }
@@ -29,7 +24,7 @@ AreHeld pieces (s ∷ saved) = (s.count ≤ length pieces) × IsHeld (take s.cou
 
 -- a state once a piece was added to its path: it knows the new points
 abbrev pub followed : Pen → Seg → Pen
-followed pen (segs.Move x y) = record pen { start = (x, y); end = Some (x, y) }
-followed pen (segs.Line x y) = record pen { end = Some (x, y) }
-followed pen (segs.Curve a b c d x y) = record pen { end = Some (x, y) }
-followed pen segs.Close = record pen { end = Some pen.start }
+followed pen (Seg.Move x y) = record pen { start = (x, y); end = Some (x, y) }
+followed pen (Seg.Line x y) = record pen { end = Some (x, y) }
+followed pen (Seg.Curve a b c d x y) = record pen { end = Some (x, y) }
+followed pen Seg.Close = record pen { end = Some pen.start }

@@ -1,7 +1,6 @@
 //! The operators on names, fonts and pages.
 
-ghost use Rattle.std.specs.Prelude.{◌≡◌, codes};
-ghost use Rattle.std.specs.Str.{bytes_eq};
+ghost use Rattle.std.specs.{Prelude.◌≡◌, Prelude.codes, Str.bytes_eq};
 ghost use Rattle.ps_steps.specs.Operators.{operated, def_op, scale_op, setlinewidth_op, findfont_op, scalefont_op, setfont_op, showpage_op};
 ghost use Rattle.ps_machine.specs.Doing.{state_of, DidOrStopped};
 

@@ -1,7 +1,6 @@
 //! The operators, by their names.
 
-ghost use Rattle.std.specs.Prelude.{◌≡◌};
-ghost use Rattle.std.specs.Str.{bytes_eq};
+ghost use Rattle.std.specs.{Prelude.◌≡◌, Str.bytes_eq};
 ghost use Rattle.ps_steps.specs.Operators.{operated_if, operator_named};
 ghost use Rattle.ps_machine.specs.Doing.{state_of, DidOrStopped};
 

@@ -1,11 +1,8 @@
 //! Runs of a text.
 
 ghost use Rattle.std.specs.Prelude.{◌≡◌, IfOk, IfErr};
-ghost use Rattle.ps_steps.specs.State.{first_state};
-ghost use Rattle.ps_steps.specs.Steps.{Paints, IsHalt};
-ghost use Rattle.ps_machine.specs.Doing.{state_of};
-ghost use Rattle.ps_machine.specs.Nexts.{IsFirst, IsNext};
-ghost use Rattle.ps_machine.specs.Sheets.{GivesItsSheet};
+ghost use Rattle.ps_steps.specs.{State.first_state, Steps.Paints, Steps.IsHalt};
+ghost use Rattle.ps_machine.specs.{Doing.state_of, Nexts.IsFirst, Nexts.IsNext, Sheets.GivesItsSheet};
 
 use crate::calls::Calls;
 use crate::canvas::Canvas;

@@ -1,26 +1,11 @@
 -- The lines of arcs.
 use Rattle.std.proofs.Common.{◌≡◌, true, ℤ, pos, negsuc, List, [], ◌∷◌, ◌++◌, refl, arith, codes, int_div}
-use Rattle.std.proofs.Math.IntN.{◌+ℤ◌, ◌-ℤ◌, +ℤ_idl}
-use Rattle.std.specs.Int.Signed.{◌≤ℤ◌}
-use Rattle.std.proofs.lemmas.Int.{ints}
-use Rattle.ps_text.specs.Range.{IsFrame, IsNumber, IsSpan, IsStretch}
-use Rattle.ps_text.specs.Line.{arc_line, points, ends_of, quarter}
-use Rattle.ps_text.specs.Document.{mark_text}
-use Rattle.ps_text.specs.declared.sheet.Frame.{Frame}
-use Rattle.ps_text.specs.declared.marks.PageMark.TheVariants as marks
-use Rattle.ps_steps.specs.declared.paint.Paint.{Paint}
-use Rattle.ps_steps.specs.declared.paint.PagePaint.{PagePaint}
-use Rattle.ps_steps.specs.declared.value.Value.{Value}
+use Rattle.std.{proofs.Math.IntN.◌+ℤ◌, proofs.Math.IntN.◌-ℤ◌, proofs.Math.IntN.+ℤ_idl, proofs.lemmas.Int.ints, specs.Int.Signed.◌≤ℤ◌}
+use Rattle.ps_text.specs.{Range.IsFrame, Range.IsNumber, Range.IsSpan, Range.IsStretch, Line.arc_line, Line.points, Line.ends_of, Line.quarter, Document.mark_text, declared.sheet.Frame.Frame, declared.marks.PageMark.PageMark}
+use Rattle.ps_steps.specs.{declared.paint.Paint.Paint, declared.paint.PagePaint.PagePaint, declared.value.Value.Value, declared.graphics.Graphics.Graphics, State.Names, Operators.all_near}
 use Rattle.ps_steps.specs.declared.value.Value.TheVariants.{Whole as whole_value}
-use Rattle.ps_steps.specs.declared.graphics.Graphics.{Graphics}
-use Rattle.ps_steps.specs.State.{Names}
-use Rattle.ps_steps.specs.Operators.{all_near}
-use Rattle.ps_paint.specs.PaintOf.{move, curve, stroked, mark_paints}
-use Rattle.ps_paint.proofs.Bodies.{Made, ac_body}
-use Rattle.ps_paint.proofs.Runs.{Runs, no_more, then, both_runs}
-use Rattle.ps_paint.proofs.Draws.{moves, curves, strokes}
-use Rattle.ps_paint.proofs.Lines.{Draws, on_page, line_drawn, page_near}
-use Rattle.ps_paint.proofs.StemLines.{zero_sum}
+use Rattle.ps_paint.{specs.PaintOf.move, specs.PaintOf.curve, specs.PaintOf.stroked, specs.PaintOf.mark_paints, proofs.Bodies.Made, proofs.Bodies.ac_body, proofs.Runs.Runs, proofs.Runs.no_more, proofs.Runs.then, proofs.Runs.both_runs, proofs.Draws.moves, proofs.Draws.curves, proofs.Draws.strokes}
+use Rattle.ps_paint.proofs.{Lines.Draws, Lines.on_page, Lines.line_drawn, Lines.page_near, StemLines.zero_sum}
 
 record IsPart (d e : ℤ) : Type 0 where
   low : pos 0 ≤ℤ e
@@ -58,7 +43,7 @@ module _ (f : Frame) (ds : Names) (fr : IsFrame f) (made : Made f ds) where
       (both_runs (curves f ds fr made saved ps pages p u q v x2 g (pos 0) (pos 0) m [] (pos 900) st (zero_sum p np) (zero_sum u nu) (zero_sum q nq) (zero_sum v nv) (zero_sum x2 n2) (zero_sum g ng))
       (then (strokes f ds fr made saved ps pages (pos 0) (pos 0) (m ∷ c ∷ []) (pos 900) st) no_more))
 
-  pub arc_drawn : (y x1 x2 from to bulge : ℤ) → IsSpan y x1 x2 from to bulge → Draws f ds (mark_text y (marks.Arc x1 x2 from to bulge)) (mark_paints f y (marks.Arc x1 x2 from to bulge))
+  pub arc_drawn : (y x1 x2 from to bulge : ℤ) → IsSpan y x1 x2 from to bulge → Draws f ds (mark_text y (PageMark.Arc x1 x2 from to bulge)) (mark_paints f y (PageMark.Arc x1 x2 from to bulge))
   unfolding mark_text arc_line points ends_of
   arc_drawn y x1 x2 from to bulge s =
       let a = y +ℤ from in

@@ -1,32 +1,13 @@
 -- The lines of beams.
 use Rattle.std.proofs.Common.{◌≡◌, true, ℤ, pos, negsuc, List, [], ◌∷◌, ◌++◌, refl, arith}
-use Rattle.std.proofs.Math.IntN.{◌+ℤ◌, +ℤ_idl, +ℤ_comm}
-use Rattle.std.specs.Int.Signed.{◌≤ℤ◌}
-use Rattle.std.proofs.lemmas.Int.{ints}
+use Rattle.std.{proofs.Math.IntN.◌+ℤ◌, proofs.Math.IntN.+ℤ_idl, proofs.Math.IntN.+ℤ_comm, proofs.lemmas.Int.ints, specs.Int.Signed.◌≤ℤ◌}
 use Rattle.mus_units.specs.declared.glyph.Way.{Way}
-use Rattle.mus_units.specs.declared.glyph.Way.TheVariants as ways
-use Rattle.ps_text.specs.Range.{IsFrame, IsNumber, IsSpan}
-use Rattle.ps_text.specs.Line.{beam_line, points, ends_of}
-use Rattle.ps_text.specs.Names.{way_name}
-use Rattle.ps_text.specs.Document.{mark_text}
-use Rattle.ps_text.specs.declared.sheet.Frame.{Frame}
-use Rattle.ps_text.specs.declared.marks.PageMark.TheVariants as marks
-use Rattle.ps_steps.specs.declared.paint.Paint.{Paint}
-use Rattle.ps_steps.specs.declared.paint.PagePaint.{PagePaint}
+use Rattle.ps_text.specs.{Range.IsFrame, Range.IsNumber, Range.IsSpan, Line.beam_line, Line.points, Line.ends_of, Names.way_name, Document.mark_text, declared.sheet.Frame.Frame, declared.marks.PageMark.PageMark}
+use Rattle.ps_steps.specs.{declared.paint.Paint.Paint, declared.paint.PagePaint.PagePaint, declared.value.Value.Value, declared.graphics.Graphics.Graphics, State.Names, Operators.all_near}
 use Rattle.ps_steps.specs.declared.token.Simple.TheVariants.{Name as name_token}
-use Rattle.ps_steps.specs.declared.value.Value.{Value}
 use Rattle.ps_steps.specs.declared.value.Value.TheVariants.{Whole as whole_value}
-use Rattle.ps_steps.specs.declared.graphics.Graphics.{Graphics}
-use Rattle.ps_steps.specs.State.{Names}
-use Rattle.ps_steps.specs.Operators.{all_near}
-use Rattle.ps_paint.specs.PaintOf.{move, line, filled, edge, mark_paints}
-use Rattle.ps_paint.proofs.Bodies.{Made, beam_body}
-use Rattle.ps_paint.proofs.Scales.{IsClose}
-use Rattle.ps_paint.proofs.Runs.{Runs, no_more, then, both_runs, pushes}
-use Rattle.ps_paint.proofs.Draws.{drawing, corner, page, moves, lines, fill_runs, saves, restores, places}
-use Rattle.ps_paint.proofs.Takes.{IsTokenWord}
-use Rattle.ps_paint.proofs.Lines.{Draws, on_page, line_drawn, page_near}
-use Rattle.ps_paint.proofs.StemLines.{zero_sum}
+use Rattle.ps_paint.{specs.PaintOf.move, specs.PaintOf.line, specs.PaintOf.filled, specs.PaintOf.edge, specs.PaintOf.mark_paints, proofs.Bodies.Made, proofs.Bodies.beam_body, proofs.Scales.IsClose, proofs.Runs.Runs, proofs.Runs.no_more, proofs.Runs.then, proofs.Runs.both_runs, proofs.Runs.pushes}
+use Rattle.ps_paint.proofs.{Draws.drawing, Draws.corner, Draws.page, Draws.moves, Draws.lines, Draws.fill_runs, Draws.saves, Draws.restores, Draws.places, Takes.IsTokenWord, Lines.Draws, Lines.on_page, Lines.line_drawn, Lines.page_near, StemLines.zero_sum}
 
 -- an edge is small
 record IsEdge (d : ℤ) : Type 0 where
@@ -34,7 +15,7 @@ record IsEdge (d : ℤ) : Type 0 where
   high : d ≤ℤ pos 1000
 
 edge_small : (way : Way) → IsEdge (edge way)
-edge_small ways.Up = record { low = omega (arith, ints); high = omega (arith, ints) }
+edge_small Way.Up = record { low = omega (arith, ints); high = omega (arith, ints) }
 edge_small _ = record { low = omega (arith, ints); high = omega (arith, ints) }
 
 edge_close : (d : ℤ) → IsEdge d → IsClose d
@@ -47,7 +28,7 @@ zero_close : IsClose (pos 0)
 zero_close = record { low = omega (arith, ints); high = omega (arith, ints) }
 
 way_word : (way : Way) → IsTokenWord (name_token (way_name way)) (way_name way)
-way_word ways.Up = record { some = omega arith; regular = refl; token = refl }
+way_word Way.Up = record { some = omega arith; regular = refl; token = refl }
 way_word _ = record { some = omega arith; regular = refl; token = refl }
 
 module _ (f : Frame) (ds : Names) (fr : IsFrame f) (made : Made f ds) where
@@ -78,7 +59,7 @@ module _ (f : Frame) (ds : Names) (fr : IsFrame f) (made : Made f ds) where
       (both_runs (fill_runs f ds fr made k ps pages d (pos 0) m (l1 ∷ l2 ∷ l3 ∷ []) (pos 900) st)
       (then (restores f ds fr made saved q pages st (drawing f d (pos 0) [] (pos 900)) o) no_more))))))))
 
-  pub beam_drawn : (y : ℤ) (way : Way) (x1 x2 from to : ℤ) → IsSpan y x1 x2 from to (pos 250) → Draws f ds (mark_text y (marks.Beam way x1 x2 from to)) (mark_paints f y (marks.Beam way x1 x2 from to))
+  pub beam_drawn : (y : ℤ) (way : Way) (x1 x2 from to : ℤ) → IsSpan y x1 x2 from to (pos 250) → Draws f ds (mark_text y (PageMark.Beam way x1 x2 from to)) (mark_paints f y (PageMark.Beam way x1 x2 from to))
   unfolding mark_text beam_line points ends_of
   beam_drawn y way x1 x2 from to s =
       let a = y +ℤ from in

@@ -1,18 +1,11 @@
 -- The procedures that the prolog defines, as tokens.
 use Rattle.std.specs.Prelude.{◌≡◌, ℤ, pos, List, [], ◌∷◌, ◌++◌, codes, Some, None}
 use Rattle.std.specs.List.{flat_map}
-use Rattle.mus_units.specs.declared.glyph.Glyph.{Glyph}
-use Rattle.mus_units.specs.declared.glyph.Way.{Way}
-use Rattle.glyph_paths.specs.declared.paths.PathOp.{PathOp}
-use Rattle.glyph_paths.specs.declared.paths.PathOp.TheVariants as ops
-use Rattle.glyph_paths.specs.Names.{glyph_name}
-use Rattle.glyph_paths.specs.Outlines.{outline_of}
-use Rattle.ps_text.specs.Names.{way_name}
-use Rattle.ps_text.specs.declared.sheet.Frame.{Frame}
-use Rattle.ps_steps.specs.declared.token.Simple.{Simple}
+use Rattle.mus_units.specs.{declared.glyph.Glyph.Glyph, declared.glyph.Way.Way}
+use Rattle.glyph_paths.specs.{declared.paths.PathOp.PathOp, Names.glyph_name, Outlines.outline_of}
+use Rattle.ps_text.specs.{Names.way_name, declared.sheet.Frame.Frame}
+use Rattle.ps_steps.specs.{declared.token.Simple.Simple, State.Names, Operators.Operator, Operators.operator_name}
 use Rattle.ps_steps.specs.declared.token.Simple.TheVariants.{Whole as whole_token, Pointed as pointed_token, Label as label_token, Name as name_token}
-use Rattle.ps_steps.specs.State.{Names}
-use Rattle.ps_steps.specs.Operators.{Operator, operator_name}
 use Rattle.ps_paint.specs.PaintOf.{edge}
 
 abbrev pub gsave_name : Simple
@@ -100,11 +93,11 @@ pg_body f = gsave_name ∷ pointed_token (pos 1) ∷ pointed_token (pos 1) ∷ s
 
 -- a step of a path
 abbrev pub step_tokens : PathOp → List Simple
-step_tokens (ops.Move x y) = whole_token x ∷ whole_token y ∷ m_name ∷ []
-step_tokens (ops.Line x y) = whole_token x ∷ whole_token y ∷ l_name ∷ []
-step_tokens (ops.Curve a b c d x y) = whole_token a ∷ whole_token b ∷ whole_token c ∷ whole_token d ∷ whole_token x ∷ whole_token y ∷ c_name ∷ []
-step_tokens ops.Fill = h_name ∷ []
-step_tokens ops.Stroke = k_name ∷ []
+step_tokens (PathOp.Move x y) = whole_token x ∷ whole_token y ∷ m_name ∷ []
+step_tokens (PathOp.Line x y) = whole_token x ∷ whole_token y ∷ l_name ∷ []
+step_tokens (PathOp.Curve a b c d x y) = whole_token a ∷ whole_token b ∷ whole_token c ∷ whole_token d ∷ whole_token x ∷ whole_token y ∷ c_name ∷ []
+step_tokens PathOp.Fill = h_name ∷ []
+step_tokens PathOp.Stroke = k_name ∷ []
 
 abbrev pub glyph_body : Glyph → List Simple
 glyph_body g = gsave_name ∷ translate_name ∷ translate_name ∷ flat_map step_tokens (outline_of g) ++ grestore_name ∷ []

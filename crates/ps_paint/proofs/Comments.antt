@@ -1,13 +1,8 @@
 -- Comment lines: they are passed over.
 use Rattle.std.proofs.Common.{◌≡◌, ℕ, Bool, true, false, List, [], ◌∷◌, ◌++◌, append_assoc, refl, sym, subst, ◌∙◌, ap, arith, decimal, not, ◌==◌}
-use Rattle.std.specs.List.{list_all}
-use Rattle.std.proofs.lemmas.Bool.{true≢false, and_parts}
-use Rattle.std.proofs.lemmas.Bool.Decides.{nat_tests}
-use Rattle.std.proofs.lemmas.List.Folds.{list_all-append}
+use Rattle.std.{proofs.lemmas.Bool.true≢false, proofs.lemmas.Bool.and_parts, proofs.lemmas.Bool.Decides.nat_tests, proofs.lemmas.List.Folds.list_all-append, specs.List.list_all}
 use Rattle.mus_units.specs.Bytes.{is_digit}
-use Rattle.ps_steps.specs.Tokens.{passed}
-use Rattle.ps_steps.specs.State.{State}
-use Rattle.ps_steps.specs.Steps.{at, Steps, here}
+use Rattle.ps_steps.specs.{Tokens.passed, State.State, Steps.at, Steps.Steps, Steps.here}
 use Rattle.ps_paint.proofs.Takes.{Takes, decimal_digits}
 
 -- other than LF

@@ -1,30 +1,15 @@
 -- What the lines of a prolog define.
 use Rattle.std.proofs.Common.{◌≡◌, ℕ, ℤ, true, false, Bool, ◌&&◌, List, [], ◌∷◌, ◌++◌, append_assoc, None, refl, sym, ◌∙◌, ap, arith, codes}
-use Rattle.std.specs.List.{flat_map}
-use Rattle.std.proofs.lemmas.Int.{ints}
-use Rattle.std.proofs.lemmas.Bool.{true≢false, and_parts}
+use Rattle.std.{proofs.lemmas.Int.ints, proofs.lemmas.Bool.true≢false, proofs.lemmas.Bool.and_parts, specs.List.flat_map}
 use Rattle.mus_units.specs.declared.glyph.Glyph.{Glyph}
-use Rattle.glyph_paths.specs.declared.paths.PathOp.{PathOp}
-use Rattle.glyph_paths.specs.declared.paths.PathOp.TheVariants as ops
-use Rattle.glyph_paths.specs.Names.{glyph_name}
-use Rattle.glyph_paths.specs.Outlines.{outline_of}
-use Rattle.glyph_paths.specs.Procedure.{step_text, path_text, procedure_text}
-use Rattle.ps_steps.specs.declared.token.Simple.{Simple}
+use Rattle.glyph_paths.specs.{declared.paths.PathOp.PathOp, Names.glyph_name, Outlines.outline_of, Procedure.step_text, Procedure.path_text, Procedure.procedure_text}
+use Rattle.ps_steps.specs.{declared.token.Simple.Simple, Near.is_near, Tokens.opening_front, Tokens.simple_at, Tokens.procedure_at, Tokens.Body, State.State, Operators.went, Operators.def_op, Operators.all_near, Operators.defined, Steps.at, Steps.NextToken, Steps.from_text, Steps.Step, Steps.step}
 use Rattle.ps_steps.specs.declared.token.Simple.TheVariants.{Label as label_token, Name as name_token}
 use Rattle.ps_steps.specs.declared.token.Token.TheVariants.{Simple as simple_token, Procedure as procedure_token}
-use Rattle.ps_steps.specs.Near.{is_near}
-use Rattle.ps_steps.specs.Tokens.{opening_front, simple_at, procedure_at, Body}
 use Rattle.ps_steps.specs.declared.value.Value.TheVariants.{Label as label_value, Body as body_value}
-use Rattle.ps_steps.specs.State.{State}
-use Rattle.ps_steps.specs.Operators.{went, def_op, all_near, defined}
-use Rattle.ps_steps.specs.Steps.{at, NextToken, from_text, Step, step}
-use Rattle.ps_paint.proofs.Bodies.{gsave_name, grestore_name, translate_name, m_name, l_name, c_name, h_name, k_name, step_tokens, glyph_body}
-use Rattle.ps_paint.proofs.Glyphs.{is_small, is_drawn, small_is}
-use Rattle.ps_paint.proofs.GlyphTable.{fine}
-use Rattle.ps_paint.proofs.Scales.{near}
-use Rattle.ps_paint.proofs.Runs.{does}
-use Rattle.ps_paint.proofs.Takes.{Takes, takes_word, IsTokenWord, space_passed, line_end_passed}
-use Rattle.ps_paint.proofs.Lexing.{Lexes, nothing_lexed, both_lexed, word_stands, IsNewName, label_stands, lex_one, ends, lex_numbers, piece_stands, lexed}
+use Rattle.ps_paint.proofs.{Bodies.gsave_name, Bodies.grestore_name, Bodies.translate_name, Bodies.m_name, Bodies.l_name, Bodies.c_name, Bodies.h_name, Bodies.k_name, Bodies.step_tokens, Bodies.glyph_body, Glyphs.is_small, Glyphs.is_drawn, Glyphs.small_is, GlyphTable.fine, Scales.near, Runs.does}
+use Rattle.ps_paint.proofs.{Takes.Takes, Takes.takes_word, Takes.IsTokenWord, Takes.space_passed, Takes.line_end_passed, Lexing.Lexes, Lexing.nothing_lexed, Lexing.both_lexed, Lexing.word_stands, Lexing.IsNewName, Lexing.label_stands, Lexing.lex_one, Lexing.ends, Lexing.lex_numbers}
+use Rattle.ps_paint.proofs.Lexing.{piece_stands, lexed}
 
 small_near : (z : ℤ) → is_small z ≡ true → is_near z ≡ true
 small_near z e = let s = small_is z e in near z (omega (arith, ints)) (omega (arith, ints))
@@ -59,21 +44,21 @@ word_of_k = record { some = omega arith; regular = refl; token = refl }
 -- the steps of a path; the flag says whether there is a path so far
 lex_steps : (has : Bool) (steps : List PathOp) → is_drawn has steps ≡ true → Lexes (flat_map step_text steps) (flat_map step_tokens steps)
 lex_steps has [] e = nothing_lexed
-lex_steps has (ops.Move x y ∷ rest) e =
+lex_steps has (PathOp.Move x y ∷ rest) e =
     let t = and_parts (is_small x && is_small y) (is_drawn true rest) e in
     both_lexed (both_lexed (lex_numbers (x ∷ y ∷ []) (two_near x y t.0)) (lex_one (word_stands word_of_m) space_passed)) (lex_steps true rest t.1)
-lex_steps false (ops.Line x y ∷ rest) e = absurd (true≢false (sym e))
-lex_steps true (ops.Line x y ∷ rest) e =
+lex_steps false (PathOp.Line x y ∷ rest) e = absurd (true≢false (sym e))
+lex_steps true (PathOp.Line x y ∷ rest) e =
     let t = and_parts (is_small x && is_small y) (is_drawn true rest) e in
     both_lexed (both_lexed (lex_numbers (x ∷ y ∷ []) (two_near x y t.0)) (lex_one (word_stands word_of_l) space_passed)) (lex_steps true rest t.1)
-lex_steps false (ops.Curve a b c d x y ∷ rest) e = absurd (true≢false (sym e))
-lex_steps true (ops.Curve a b c d x y ∷ rest) e =
+lex_steps false (PathOp.Curve a b c d x y ∷ rest) e = absurd (true≢false (sym e))
+lex_steps true (PathOp.Curve a b c d x y ∷ rest) e =
     let t = and_parts (((is_small a && is_small b) && (is_small c && is_small d)) && (is_small x && is_small y)) (is_drawn true rest) e in
     both_lexed (both_lexed (lex_numbers (a ∷ b ∷ c ∷ d ∷ x ∷ y ∷ []) (six_near a b c d x y t.0)) (lex_one (word_stands word_of_c) space_passed)) (lex_steps true rest t.1)
-lex_steps false (ops.Fill ∷ rest) e = absurd (true≢false (sym e))
-lex_steps true (ops.Fill ∷ rest) e = both_lexed (lex_one (word_stands word_of_h) space_passed) (lex_steps false rest e)
-lex_steps false (ops.Stroke ∷ rest) e = absurd (true≢false (sym e))
-lex_steps true (ops.Stroke ∷ rest) e = both_lexed (lex_one (word_stands word_of_k) space_passed) (lex_steps false rest e)
+lex_steps false (PathOp.Fill ∷ rest) e = absurd (true≢false (sym e))
+lex_steps true (PathOp.Fill ∷ rest) e = both_lexed (lex_one (word_stands word_of_h) space_passed) (lex_steps false rest e)
+lex_steps false (PathOp.Stroke ∷ rest) e = absurd (true≢false (sym e))
+lex_steps true (PathOp.Stroke ∷ rest) e = both_lexed (lex_one (word_stands word_of_k) space_passed) (lex_steps false rest e)
 
 label_next : (name t : List ℕ) (m : State) → IsNewName name → NextToken (at m (47 ∷ name ++ 32 ∷ t)) (simple_token (label_token name)) (at m t)
 label_next name t m n =

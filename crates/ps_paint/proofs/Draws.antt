@@ -1,23 +1,13 @@
 -- What the short procedures of the prolog draw.
 use Rattle.std.proofs.Common.{◌≡◌, ℤ, pos, true, List, [], ◌∷◌, ◌++◌, refl, codes}
 use Rattle.std.proofs.Math.IntN.{◌+ℤ◌, ◌*ℤ◌, +ℤ_idl}
-use Rattle.ps_text.specs.declared.sheet.Frame.{Frame}
-use Rattle.ps_text.specs.Range.{IsFrame}
-use Rattle.ps_steps.specs.declared.paint.Seg.{Seg}
-use Rattle.ps_steps.specs.declared.paint.Seg.TheVariants as segs
-use Rattle.ps_steps.specs.declared.paint.Paint.{Paint}
-use Rattle.ps_steps.specs.declared.paint.PagePaint.{PagePaint}
-use Rattle.ps_steps.specs.Near.{is_near}
-use Rattle.ps_steps.specs.declared.token.Token.TheVariants.{Simple as simple_token}
-use Rattle.ps_steps.specs.declared.value.Value.{Value}
-use Rattle.ps_steps.specs.declared.value.Value.TheVariants.{Whole as whole_value}
-use Rattle.ps_steps.specs.declared.graphics.Graphics.{Graphics}
-use Rattle.ps_steps.specs.State.{State, Names}
+use Rattle.ps_text.specs.{declared.sheet.Frame.Frame, Range.IsFrame}
 use Rattle.ps_steps.specs.Operators.{Outcome, went, executed, operated, in_range, moveto_op, lineto_op, curveto_op, closepath_op, fill_op, stroke_op, gsave_op, grestore_op, translate_op}
-use Rattle.ps_paint.specs.PaintOf.{to_x, to_y, move, line, curve, stroked, filled}
-use Rattle.ps_paint.proofs.Bodies.{Made, gsave_name, grestore_name, translate_name, stroke_name, m_name, l_name, c_name, h_name, k_name}
-use Rattle.ps_paint.proofs.Scales.{IsClose, moved_x, moved_y, near_x, near_y, near_width}
-use Rattle.ps_paint.proofs.Runs.{Runs, no_more, then, calls, does, is_in_range}
+use Rattle.ps_steps.specs.{declared.paint.Seg.Seg, declared.paint.Paint.Paint, declared.paint.PagePaint.PagePaint, Near.is_near, declared.value.Value.Value, declared.graphics.Graphics.Graphics, State.State, State.Names}
+use Rattle.ps_steps.specs.declared.token.Token.TheVariants.{Simple as simple_token}
+use Rattle.ps_steps.specs.declared.value.Value.TheVariants.{Whole as whole_value}
+use Rattle.ps_paint.{specs.PaintOf.to_x, specs.PaintOf.to_y, specs.PaintOf.move, specs.PaintOf.line, specs.PaintOf.curve, specs.PaintOf.stroked, specs.PaintOf.filled, proofs.Bodies.Made, proofs.Bodies.gsave_name, proofs.Bodies.grestore_name, proofs.Bodies.translate_name, proofs.Bodies.stroke_name}
+use Rattle.ps_paint.proofs.{Bodies.m_name, Bodies.l_name, Bodies.c_name, Bodies.h_name, Bodies.k_name, Scales.IsClose, Scales.moved_x, Scales.moved_y, Scales.near_x, Scales.near_y, Scales.near_width, Runs.Runs, Runs.no_more, Runs.then, Runs.calls, Runs.does, Runs.is_in_range}
 
 -- the graphics of a page with the origin at (x, y)
 abbrev pub drawing : Frame → ℤ → ℤ → List Seg → ℤ → Graphics
@@ -105,7 +95,7 @@ module _ (f : Frame) (ds : Names) (fr : IsFrame f) (made : Made f ds) (saved : L
       → Runs 3 (h_name ∷ []) (on st (drawing f x y (s ∷ path) font)) (page ds st (drawing f x y [] font) saved (ps ++ filled (s ∷ path) ∷ []) pages)
   fill_runs x y s path font st =
       let m = on st (drawing f x y (s ∷ path) font) in
-      let k = on st (drawing f x y (s ∷ path ++ segs.Close ∷ []) font) in
+      let k = on st (drawing f x y (s ∷ path ++ Seg.Close ∷ []) font) in
       let l = page ds st (drawing f x y [] font) saved (ps ++ filled (s ∷ path) ∷ []) pages in
       calls made.h
       (then (does (codes "closepath") closepath_op m (went [] k) (made.free closepath_op) refl refl)

@@ -1,33 +1,14 @@
 -- The lines of glyphs.
 use Rattle.std.proofs.Common.{◌≡◌, suc, ◌+◌, ◌≤◌, ℤ, pos, true, List, [], ◌∷◌, ◌++◌, refl, arith}
-use Rattle.std.proofs.Math.IntN.{◌+ℤ◌}
-use Rattle.std.proofs.lemmas.Int.{ints}
-use Rattle.std.proofs.lemmas.Bool.{leb-true}
+use Rattle.std.proofs.{Math.IntN.◌+ℤ◌, lemmas.Int.ints, lemmas.Bool.leb-true}
 use Rattle.mus_units.specs.declared.glyph.Glyph.{Glyph}
-use Rattle.glyph_paths.specs.Names.{glyph_name}
-use Rattle.glyph_paths.specs.Outlines.{outline_of}
-use Rattle.ps_text.specs.Document.{mark_text}
-use Rattle.ps_text.specs.Line.{glyph_line}
-use Rattle.ps_text.specs.declared.sheet.Frame.{Frame}
-use Rattle.ps_text.specs.Range.{IsFrame, IsNumber, IsOffset, IsPlaced}
-use Rattle.ps_text.specs.declared.marks.PageMark.TheVariants as marks
-use Rattle.ps_steps.specs.declared.paint.Paint.{Paint}
-use Rattle.ps_steps.specs.declared.paint.PagePaint.{PagePaint}
+use Rattle.glyph_paths.specs.{Names.glyph_name, Outlines.outline_of}
+use Rattle.ps_text.specs.{Document.mark_text, Line.glyph_line, declared.sheet.Frame.Frame, Range.IsFrame, Range.IsNumber, Range.IsOffset, Range.IsPlaced, declared.marks.PageMark.PageMark}
+use Rattle.ps_steps.specs.{declared.paint.Paint.Paint, declared.paint.PagePaint.PagePaint, declared.value.Value.Value, declared.graphics.Graphics.Graphics, State.Names, Operators.all_near}
 use Rattle.ps_steps.specs.declared.token.Simple.TheVariants.{Name as name_token}
-use Rattle.ps_steps.specs.declared.value.Value.{Value}
 use Rattle.ps_steps.specs.declared.value.Value.TheVariants.{Whole as whole_value}
-use Rattle.ps_steps.specs.declared.graphics.Graphics.{Graphics}
-use Rattle.ps_steps.specs.State.{Names}
-use Rattle.ps_steps.specs.Operators.{all_near}
-use Rattle.ps_paint.specs.PaintOf.{mark_paints, outline_paints}
-use Rattle.ps_paint.proofs.Bodies.{Made, glyph_body}
-use Rattle.ps_paint.proofs.Scales.{IsClose}
-use Rattle.ps_paint.proofs.Runs.{Runs, no_more, then, both_runs}
-use Rattle.ps_paint.proofs.Draws.{drawing, corner, saves, restores, translates, places}
-use Rattle.ps_paint.proofs.Glyphs.{IsMid, cost, left, outline_runs}
-use Rattle.ps_paint.proofs.GlyphTable.{fine}
-use Rattle.ps_paint.proofs.Takes.{IsTokenWord, name_some}
-use Rattle.ps_paint.proofs.Lines.{Draws, on_page, line_drawn, page_near, offset_near}
+use Rattle.ps_paint.{specs.PaintOf.mark_paints, specs.PaintOf.outline_paints, proofs.Bodies.Made, proofs.Bodies.glyph_body, proofs.Scales.IsClose, proofs.Runs.Runs, proofs.Runs.no_more, proofs.Runs.then, proofs.Runs.both_runs, proofs.Draws.drawing, proofs.Draws.corner, proofs.Draws.saves}
+use Rattle.ps_paint.proofs.{Draws.restores, Draws.translates, Draws.places, Glyphs.IsMid, Glyphs.cost, Glyphs.left, Glyphs.outline_runs, GlyphTable.fine, Takes.IsTokenWord, Takes.name_some, Lines.Draws, Lines.on_page, Lines.line_drawn, Lines.page_near, Lines.offset_near}
 
 glyph_word : (g : Glyph) → IsTokenWord (name_token (glyph_name g)) (glyph_name g)
 glyph_word g = let t = fine g in record { some = name_some (glyph_name g) t.good; regular = t.regular; token = t.token }
@@ -45,7 +26,7 @@ module _ (f : Frame) (ds : Names) (fr : IsFrame f) (made : Made f ds) where
   glyph_runs : (g : Glyph) (x y dx dy : ℤ) (st : List Value) (saved : List Graphics) (ps : List Paint) (pages : List PagePaint)
       → IsMid x → IsMid y → IsMid (x +ℤ dx) → IsMid (y +ℤ dy)
       → Runs (suc (suc (suc (cost (outline_of g) + 1)))) (glyph_body g) (on_page f ds (whole_value y ∷ whole_value x ∷ whole_value dy ∷ whole_value dx ∷ st) saved ps pages)
-      (on_page f ds st saved (ps ++ mark_paints f y (marks.Glyph g x dx dy)) pages)
+      (on_page f ds st saved (ps ++ mark_paints f y (PageMark.Glyph g x dx dy)) pages)
   glyph_runs g x y dx dy st saved ps pages mx my mp mq =
       let o = corner f (pos 900) in
       let s1 = whole_value dy ∷ whole_value dx ∷ st in
@@ -57,7 +38,7 @@ module _ (f : Frame) (ds : Names) (fr : IsFrame f) (made : Made f ds) where
       (both_runs (outline_runs f ds fr made (pos 900) st (o ∷ saved) pages u v mp mq (outline_of g) [] ps ((fine g).drawn))
       (then (restores f ds fr made saved (ps ++ outline_paints f u v [] (outline_of g)) pages st (drawing f u v (left f u v [] (outline_of g)) (pos 900)) o) no_more))))
 
-  pub glyph_line_drawn : (g : Glyph) (y x dx dy : ℤ) → IsPlaced y x dx dy → Draws f ds (mark_text y (marks.Glyph g x dx dy)) (mark_paints f y (marks.Glyph g x dx dy))
+  pub glyph_line_drawn : (g : Glyph) (y x dx dy : ℤ) → IsPlaced y x dx dy → Draws f ds (mark_text y (PageMark.Glyph g x dx dy)) (mark_paints f y (PageMark.Glyph g x dx dy))
   unfolding mark_text glyph_line
   glyph_line_drawn g y x dx dy s =
       let zs = dx ∷ dy ∷ x ∷ y ∷ [] in

@@ -1,11 +1,8 @@
 -- What holds of the name and of the outline of each glyph.
 use Rattle.std.proofs.Common.{◌≡◌, true, false, Some, refl, codes, nat_le, ◌==◌}
-use Rattle.std.specs.List.{list_all}
-use Rattle.std.specs.Str.{bytes_eq}
+use Rattle.std.specs.{List.list_all, Str.bytes_eq}
 use Rattle.mus_units.specs.declared.glyph.Glyph.{Glyph}
-use Rattle.mus_units.specs.declared.glyph.Glyph.TheVariants as glyphs
-use Rattle.glyph_paths.specs.Names.{glyph_name}
-use Rattle.glyph_paths.specs.Outlines.{outline_of}
+use Rattle.glyph_paths.specs.{Names.glyph_name, Outlines.outline_of}
 use Rattle.ps_steps.specs.declared.token.Simple.TheVariants.{Name as name_token}
 use Rattle.ps_steps.specs.Tokens.{is_regular, is_name, begins, word_token}
 use Rattle.ps_paint.proofs.Glyphs.{is_drawn, cost}
@@ -21,5 +18,5 @@ pub record IsFine (g : Glyph) : Type 0 where
   pub few : nat_le (cost (outline_of g)) 90 ≡ true
 
 pub fine : (g : Glyph) → IsFine g
-fine glyphs.Hb = record { regular = refl; good = refl; other = refl; token = refl; no_def = refl; drawn = refl; few = refl }
+fine Glyph.Hb = record { regular = refl; good = refl; other = refl; token = refl; no_def = refl; drawn = refl; few = refl }
 fine _ = record { regular = refl; good = refl; other = refl; token = refl; no_def = refl; drawn = refl; few = refl }

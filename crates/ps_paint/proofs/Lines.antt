@@ -1,25 +1,11 @@
 -- What whole lines of a page draw.
 use Rattle.std.proofs.Common.{◌≡◌, ℕ, suc, ◌+◌, ◌*◌, ◌≤◌, ℤ, pos, true, List, [], ◌∷◌, ◌++◌, length, length-append, append_assoc, append-nil, Some, arith, All}
-use Rattle.std.specs.List.{flat_map}
-use Rattle.std.proofs.Math.IntN.{◌+ℤ◌}
-use Rattle.std.proofs.lemmas.Int.{ints}
-use Rattle.std.proofs.lemmas.List.Elements.{All-head, All-tail}
+use Rattle.std.{proofs.Math.IntN.◌+ℤ◌, proofs.lemmas.Int.ints, proofs.lemmas.List.Elements.All-head, proofs.lemmas.List.Elements.All-tail, specs.List.flat_map}
 use Rattle.glyph_paths.specs.Procedure.{numbers}
-use Rattle.ps_text.specs.declared.sheet.Frame.{Frame}
-use Rattle.ps_text.specs.Range.{IsNumber, IsOffset}
-use Rattle.ps_steps.specs.declared.paint.Paint.{Paint}
-use Rattle.ps_steps.specs.declared.paint.PagePaint.{PagePaint}
-use Rattle.ps_steps.specs.Near.{is_near}
-use Rattle.ps_steps.specs.declared.token.Simple.{Simple}
+use Rattle.ps_text.specs.{declared.sheet.Frame.Frame, Range.IsNumber, Range.IsOffset}
+use Rattle.ps_steps.specs.{declared.paint.Paint.Paint, declared.paint.PagePaint.PagePaint, Near.is_near, declared.token.Simple.Simple, declared.value.Value.Value, declared.graphics.Graphics.Graphics, State.State, State.Names, Operators.all_near}
 use Rattle.ps_steps.specs.declared.token.Simple.TheVariants.{Name as name_token}
-use Rattle.ps_steps.specs.declared.value.Value.{Value}
-use Rattle.ps_steps.specs.declared.graphics.Graphics.{Graphics}
-use Rattle.ps_steps.specs.State.{State, Names}
-use Rattle.ps_steps.specs.Operators.{all_near}
-use Rattle.ps_paint.proofs.Scales.{IsClose, near}
-use Rattle.ps_paint.proofs.Runs.{Runs, pushed}
-use Rattle.ps_paint.proofs.Draws.{corner, page}
-use Rattle.ps_paint.proofs.Takes.{Takes, IsTokenWord, nothing_taken, both_taken, takes_line}
+use Rattle.ps_paint.proofs.{Scales.IsClose, Scales.near, Runs.Runs, Runs.pushed, Draws.corner, Draws.page, Takes.Takes, Takes.IsTokenWord, Takes.nothing_taken, Takes.both_taken, Takes.takes_line}
 
 -- before and after each line of a page
 abbrev pub on_page : Frame → Names → List Value → List Graphics → List Paint → List PagePaint → State

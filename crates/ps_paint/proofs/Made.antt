@@ -1,14 +1,9 @@
 -- The definitions that the prolog makes.
 use Rattle.std.proofs.Common.{◌≡◌, List, [], ◌∷◌, Some, None, refl, codes}
-use Rattle.mus_units.specs.declared.glyph.Glyph.{Glyph}
-use Rattle.mus_units.specs.declared.glyph.Glyph.TheVariants as glyphs
-use Rattle.mus_units.specs.declared.glyph.Way.{Way}
-use Rattle.mus_units.specs.declared.glyph.Way.TheVariants as ways
+use Rattle.mus_units.specs.{declared.glyph.Glyph.Glyph, declared.glyph.Way.Way}
 use Rattle.glyph_paths.specs.Names.{glyph_name, glyphs_in_order}
-use Rattle.ps_text.specs.Names.{way_name}
-use Rattle.ps_text.specs.declared.sheet.Frame.{Frame}
-use Rattle.ps_steps.specs.State.{Names, no_names}
-use Rattle.ps_steps.specs.Operators.{Operator, operator_name, defined, def_op}
+use Rattle.ps_text.specs.{Names.way_name, declared.sheet.Frame.Frame}
+use Rattle.ps_steps.specs.{State.Names, State.no_names, Operators.Operator, Operators.operator_name, Operators.defined, Operators.def_op}
 use Rattle.ps_paint.specs.PaintOf.{edge}
 use Rattle.ps_paint.proofs.Bodies.{Made, m_body, l_body, c_body, h_body, k_body, sf_body, vl_body, st_body, beam_body, ac_body, t1_body, t2_body, pg_body, glyph_body}
 
@@ -38,13 +33,13 @@ abbrev pub with_st : Names
 with_st = defined (codes "st") st_body with_vl
 
 abbrev pub with_bu : Names
-with_bu = defined (codes "bu") (beam_body (edge ways.Up)) with_st
+with_bu = defined (codes "bu") (beam_body (edge Way.Up)) with_st
 
 abbrev pub with_bd : Names
-with_bd = defined (codes "bd") (beam_body (edge ways.Down)) with_bu
+with_bd = defined (codes "bd") (beam_body (edge Way.Down)) with_bu
 
 abbrev pub with_gb : Names
-with_gb = defined (codes "gb") (beam_body (edge ways.Grace)) with_bd
+with_gb = defined (codes "gb") (beam_body (edge Way.Grace)) with_bd
 
 abbrev pub with_ac : Names
 with_ac = defined (codes "ac") ac_body with_gb
@@ -74,12 +69,12 @@ free f _ = refl
 
 of_glyph : (f : Frame) (g : Glyph) → all_names f (glyph_name g) ≡ Some (glyph_body g)
 unfolding glyphs_in_order
-of_glyph f glyphs.Hb = refl
+of_glyph f Glyph.Hb = refl
 of_glyph f _ = refl
 
 of_beam : (f : Frame) (way : Way) → all_names f (way_name way) ≡ Some (beam_body (edge way))
 unfolding glyphs_in_order
-of_beam f ways.Up = refl
+of_beam f Way.Up = refl
 of_beam f _ = refl
 
 pub all_made : (f : Frame) → Made f (all_names f)

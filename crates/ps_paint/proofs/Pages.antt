@@ -1,32 +1,12 @@
 -- Marks, staves, systems, items and pages are drawn as they are painted.
 use Rattle.std.proofs.Common.{◌≡◌, ℕ, ◌+◌, ◌*◌, ◌≤◌, ℤ, pos, List, [], ◌∷◌, ◌++◌, length, length-append, append_assoc, append-nil, map, refl, sym, subst, ◌∙◌, ap, arith, decimal, codes, All}
-use Rattle.std.specs.List.{flat_map}
-use Rattle.std.proofs.Math.IntN.{◌+ℤ◌}
-use Rattle.std.proofs.lemmas.Int.{ints}
-use Rattle.std.proofs.lemmas.List.Elements.{All-head, All-tail}
+use Rattle.std.{proofs.Math.IntN.◌+ℤ◌, proofs.lemmas.Int.ints, proofs.lemmas.List.Elements.All-head, proofs.lemmas.List.Elements.All-tail, specs.List.flat_map}
 use Rattle.ps_text.specs.Document.{numbered, mark_text, marks_text, rules_line, staff_line, staff_text, last_base, join_text, system_line, system_text, tune_line, tune_text, item_text, items_text, page_text, heading_text, heading_line, closing}
-use Rattle.ps_text.specs.declared.marks.PageMark.{PageMark}
-use Rattle.ps_text.specs.declared.marks.PageMark.TheVariants as marks
-use Rattle.ps_text.specs.declared.sheet.Frame.{Frame}
-use Rattle.ps_text.specs.declared.sheet.Staff.{Staff}
-use Rattle.ps_text.specs.declared.sheet.Item.{Item}
-use Rattle.ps_text.specs.declared.sheet.Item.TheVariants as items
-use Rattle.ps_text.specs.declared.sheet.Page.{Page}
-use Rattle.ps_text.specs.Range.{IsFrame, IsNumber, IsPageMark, IsStaff, IsJoined, IsItem, IsPage}
-use Rattle.ps_steps.specs.declared.paint.PagePaint.{PagePaint}
-use Rattle.ps_steps.specs.State.{State, Names, first_graphics}
-use Rattle.ps_paint.specs.PaintOf.{mark_paints, staff_paints, join_paints, item_paints, page_paint}
-use Rattle.ps_paint.proofs.Bodies.{Made}
-use Rattle.ps_paint.proofs.Takes.{Takes, nothing_taken, both_taken}
-use Rattle.ps_paint.proofs.Comments.{takes_comment, number_in_line, two_in_line}
-use Rattle.ps_paint.proofs.Lines.{Draws, nothing_drawn, passed_over, both_drawn, all_drawn}
-use Rattle.ps_paint.proofs.StemLines.{stem_drawn, join_drawn}
-use Rattle.ps_paint.proofs.StaffLines.{rules_drawn}
-use Rattle.ps_paint.proofs.GlyphLines.{glyph_line_drawn}
-use Rattle.ps_paint.proofs.WordLines.{words_drawn, title_drawn}
-use Rattle.ps_paint.proofs.BeamLines.{beam_drawn}
-use Rattle.ps_paint.proofs.ArcLines.{arc_drawn}
-use Rattle.ps_paint.proofs.Starts.{between, page_begun, page_ended}
+use Rattle.ps_text.specs.{declared.marks.PageMark.PageMark, declared.sheet.Frame.Frame, declared.sheet.Staff.Staff, declared.sheet.Item.Item, declared.sheet.Page.Page, Range.IsFrame, Range.IsNumber, Range.IsPageMark, Range.IsStaff, Range.IsJoined, Range.IsItem, Range.IsPage}
+use Rattle.ps_steps.specs.{declared.paint.PagePaint.PagePaint, State.State, State.Names, State.first_graphics}
+use Rattle.ps_paint.{specs.PaintOf.mark_paints, specs.PaintOf.staff_paints, specs.PaintOf.join_paints, specs.PaintOf.item_paints, specs.PaintOf.page_paint, proofs.Bodies.Made, proofs.Takes.Takes, proofs.Takes.nothing_taken, proofs.Takes.both_taken, proofs.Comments.takes_comment}
+use Rattle.ps_paint.proofs.{Comments.number_in_line, Comments.two_in_line, Lines.Draws, Lines.nothing_drawn, Lines.passed_over, Lines.both_drawn, Lines.all_drawn, StemLines.stem_drawn, StemLines.join_drawn, StaffLines.rules_drawn, GlyphLines.glyph_line_drawn, WordLines.words_drawn}
+use Rattle.ps_paint.proofs.{WordLines.title_drawn, BeamLines.beam_drawn, ArcLines.arc_drawn, Starts.between, Starts.page_begun, Starts.page_ended}
 
 -- a text leads from one state to another, in at most 100 tokens a byte
 pub record Leads (text : List ℕ) (m k : State) : Type 0 where
@@ -58,11 +38,11 @@ page_parts k p = refl
 
 module _ (f : Frame) (ds : Names) (fr : IsFrame f) (made : Made f ds) where
   mark_drawn : (y : ℤ) (m : PageMark) → IsPageMark y m → Draws f ds (mark_text y m) (mark_paints f y m)
-  mark_drawn y (marks.Glyph glyph x dx dy) h = glyph_line_drawn f ds fr made glyph y x dx dy h
-  mark_drawn y (marks.Words size x dx dy words) h = words_drawn f ds fr made size y x dx dy words h.0 h.1
-  mark_drawn y (marks.Stem x dx from to) h = stem_drawn f ds fr made y x dx from to h
-  mark_drawn y (marks.Beam way x1 x2 from to) h = beam_drawn f ds fr made y way x1 x2 from to h
-  mark_drawn y (marks.Arc x1 x2 from to bulge) h = arc_drawn f ds fr made y x1 x2 from to bulge h
+  mark_drawn y (PageMark.Glyph glyph x dx dy) h = glyph_line_drawn f ds fr made glyph y x dx dy h
+  mark_drawn y (PageMark.Words size x dx dy words) h = words_drawn f ds fr made size y x dx dy words h.0 h.1
+  mark_drawn y (PageMark.Stem x dx from to) h = stem_drawn f ds fr made y x dx from to h
+  mark_drawn y (PageMark.Beam way x1 x2 from to) h = beam_drawn f ds fr made y way x1 x2 from to h
+  mark_drawn y (PageMark.Arc x1 x2 from to bulge) h = arc_drawn f ds fr made y x1 x2 from to bulge h
 
   staff_drawn : (k : ℕ) (s : Staff) → IsStaff s → Draws f ds (staff_text k s) (staff_paints f s)
   unfolding staff_text staff_line marks_text
@@ -86,12 +66,12 @@ module _ (f : Frame) (ds : Names) (fr : IsFrame f) (made : Made f ds) where
 
   item_drawn : (i : Item) → IsItem i → Draws f ds (item_text i) (item_paints f i)
   unfolding tune_text tune_line system_text system_line
-  item_drawn (items.Tune ordinal) h = passed_over (λ m. takes_comment (codes " tune " ++ decimal ordinal) m (number_in_line ordinal))
-  item_drawn (items.Title x y size words) h = title_drawn f ds fr made x y size words h
-  item_drawn (items.System a b staves) h =
+  item_drawn (Item.Tune ordinal) h = passed_over (λ m. takes_comment (codes " tune " ++ decimal ordinal) m (number_in_line ordinal))
+  item_drawn (Item.Title x y size words) h = title_drawn f ds fr made x y size words h
+  item_drawn (Item.System a b staves) h =
       let c = 37 ∷ (codes " system " ++ decimal a ++ 32 ∷ decimal b) in
       let comment : Draws f ds (c ++ 10 ∷ []) [] = passed_over (λ m. takes_comment (codes " system " ++ decimal a ++ 32 ∷ decimal b) m (two_in_line a b)) in
-      subst (λ t. Draws f ds (t ++ numbered staff_text 0 staves) (item_paints f (items.System a b staves))) (append_assoc c (10 ∷ []) (join_text staves)) (both_drawn (both_drawn comment (joined_drawn staves h.joined h.good)) (staves_drawn 0 staves h.good))
+      subst (λ t. Draws f ds (t ++ numbered staff_text 0 staves) (item_paints f (Item.System a b staves))) (append_assoc c (10 ∷ []) (join_text staves)) (both_drawn (both_drawn comment (joined_drawn staves h.joined h.good)) (staves_drawn 0 staves h.good))
 
   page_drawn : (k : ℕ) (p : Page) (pages : List PagePaint) → IsPage p → Leads (page_text k p) (between ds pages) (between ds (pages ++ page_paint f p ∷ []))
   page_drawn k p pages h =

@@ -1,36 +1,18 @@
 -- A prolog makes its definitions and its font.
 use Rattle.std.proofs.Common.{◌≡◌, ℕ, ◌+◌, ◌*◌, ◌/◌, ◌%◌, ◌<◌, ◌≤◌, pos, true, false, cond, Bool, List, [], ◌∷◌, ◌++◌, length, length-append, append_assoc, map, Some, None, refl, subst, ◌∙◌, ap, arith, decimal, codes}
-use Rattle.std.specs.Char.{digit_value}
-use Rattle.mus_units.specs.Bytes.{is_digit}
-use Rattle.std.proofs.lemmas.Fmt.{decimal_digit}
-use Rattle.std.proofs.lemmas.Int.{ints}
-use Rattle.std.proofs.lemmas.Bool.Decides.{nat_tests}
-use Rattle.mus_units.specs.declared.glyph.Glyph.{Glyph}
-use Rattle.mus_units.specs.declared.glyph.Way.TheVariants as ways
-use Rattle.glyph_paths.specs.Names.{glyph_name, glyphs_in_order}
-use Rattle.glyph_paths.specs.Procedure.{numbers}
-use Rattle.ps_text.specs.Prolog.{percent, first_text, box_start, procedures, page_start, page_end, last_text, box_line, scaling, page_line, glyph_lines, heading, prolog}
-use Rattle.ps_text.specs.declared.sheet.Frame.{Frame}
-use Rattle.ps_text.specs.Range.{IsFrame}
-use Rattle.ps_steps.specs.declared.token.Simple.{Simple}
+use Rattle.std.{proofs.lemmas.Fmt.decimal_digit, proofs.lemmas.Int.ints, proofs.lemmas.Bool.Decides.nat_tests, specs.Char.digit_value}
+use Rattle.mus_units.specs.{Bytes.is_digit, declared.glyph.Glyph.Glyph, declared.glyph.Way.Way}
+use Rattle.glyph_paths.specs.{Names.glyph_name, Names.glyphs_in_order, Procedure.numbers}
+use Rattle.ps_text.specs.{Prolog.percent, Prolog.first_text, Prolog.box_start, Prolog.procedures, Prolog.page_start, Prolog.page_end, Prolog.last_text, Prolog.box_line, Prolog.scaling, Prolog.page_line, Prolog.glyph_lines, Prolog.heading, Prolog.prolog, declared.sheet.Frame.Frame, Range.IsFrame}
+use Rattle.ps_steps.specs.{declared.token.Simple.Simple, Near.is_near, Near.is_near_hundredths, Tokens.font_line, Tokens.font_front, Tokens.simple_at, Tokens.Body, Tokens.word_token, Tokens.pointed_number, State.State, State.Names, State.first_graphics, State.first_state, State.no_names}
+use Rattle.ps_steps.specs.{Operators.defined, Steps.at, Steps.from_text, Steps.Step, Steps.here, Steps.step}
 use Rattle.ps_steps.specs.declared.token.Simple.TheVariants.{Pointed as pointed_token, Whole as whole_token, Label as label_token, Name as name_token, Font as font_token}
 use Rattle.ps_steps.specs.declared.token.Token.TheVariants.{Simple as simple_token}
-use Rattle.ps_steps.specs.Near.{is_near, is_near_hundredths}
-use Rattle.ps_steps.specs.Tokens.{font_line, font_front, simple_at, Body, word_token, pointed_number}
-use Rattle.ps_steps.specs.State.{State, Names, first_graphics, first_state, no_names}
-use Rattle.ps_steps.specs.Operators.{defined}
-use Rattle.ps_steps.specs.Steps.{at, from_text, Step, here, step}
-use Rattle.ps_paint.specs.PaintOf.{edge}
 use Rattle.ps_paint.proofs.Bodies.{m_body, l_body, c_body, h_body, k_body, sf_body, vl_body, st_body, beam_body, ac_body, t1_body, t2_body, pg_body, glyph_body, scale_name, translate_name, gsave_name}
-use Rattle.ps_paint.proofs.Scales.{near}
-use Rattle.ps_paint.proofs.Takes.{Takes, nothing_taken, both_taken, space_passed, IsTokenWord, digit_regular, digit_no_minus}
-use Rattle.ps_paint.proofs.Comments.{takes_comment, two_in_line}
-use Rattle.ps_paint.proofs.Lexing.{Lexes, both_lexed, word_stands, IsNewName, lex_one, ends, lex_numbers, pieces_of, spaced, piece_token, piece_stands, lexed, lexed_to}
-use Rattle.ps_paint.proofs.Defining.{definition, takes_definition, takes_glyph}
-use Rattle.ps_paint.proofs.GlyphTable.{fine}
-use Rattle.ps_paint.proofs.Starts.{between}
-use Rattle.ps_paint.proofs.Pages.{Leads}
 use Rattle.ps_paint.proofs.Made.{with_m, with_l, with_c, with_h, with_k, with_sf, with_vl, with_st, with_bu, with_bd, with_gb, with_ac, with_t1, with_t2, with_pg, with_glyphs, all_names}
+use Rattle.ps_paint.{specs.PaintOf.edge, proofs.Scales.near, proofs.Takes.Takes, proofs.Takes.nothing_taken, proofs.Takes.both_taken, proofs.Takes.space_passed, proofs.Takes.IsTokenWord, proofs.Takes.digit_regular, proofs.Takes.digit_no_minus, proofs.Comments.takes_comment}
+use Rattle.ps_paint.proofs.{Comments.two_in_line, Lexing.Lexes, Lexing.both_lexed, Lexing.word_stands, Lexing.IsNewName, Lexing.lex_one, Lexing.ends, Lexing.lex_numbers, Lexing.pieces_of, Lexing.spaced, Lexing.piece_token, Lexing.piece_stands, Lexing.lexed, Lexing.lexed_to, Defining.definition}
+use Rattle.ps_paint.proofs.{Defining.takes_definition, Defining.takes_glyph, GlyphTable.fine, Starts.between, Pages.Leads}
 
 -- a state in which nothing was done but definitions
 abbrev pub being : Names → Bool → State
@@ -74,9 +56,9 @@ procedures_taken =
     let line_sf = fixed (codes "sf") (codes "gsave translate 0 0 m l 0 500 m l 0 1000 m l 0 1500 m l 0 2000 m l stroke ") (codes "grestore") sf_body with_k (record { regular = refl; good = refl; other = refl }) refl refl refl in
     let line_vl = fixed (codes "vl") (codes "m l ") (codes "stroke") vl_body with_sf (record { regular = refl; good = refl; other = refl }) refl refl refl in
     let line_st = fixed (codes "st") (codes "gsave translate m l stroke ") (codes "grestore") st_body with_vl (record { regular = refl; good = refl; other = refl }) refl refl refl in
-    let line_bu = fixed (codes "bu") (codes "gsave 280 0 translate m l l l h ") (codes "grestore") (beam_body (edge ways.Up)) with_st (record { regular = refl; good = refl; other = refl }) refl refl refl in
-    let line_bd = fixed (codes "bd") (codes "gsave -280 0 translate m l l l h ") (codes "grestore") (beam_body (edge ways.Down)) with_bu (record { regular = refl; good = refl; other = refl }) refl refl refl in
-    let line_gb = fixed (codes "gb") (codes "gsave 190 0 translate m l l l h ") (codes "grestore") (beam_body (edge ways.Grace)) with_bd (record { regular = refl; good = refl; other = refl }) refl refl refl in
+    let line_bu = fixed (codes "bu") (codes "gsave 280 0 translate m l l l h ") (codes "grestore") (beam_body (edge Way.Up)) with_st (record { regular = refl; good = refl; other = refl }) refl refl refl in
+    let line_bd = fixed (codes "bd") (codes "gsave -280 0 translate m l l l h ") (codes "grestore") (beam_body (edge Way.Down)) with_bu (record { regular = refl; good = refl; other = refl }) refl refl refl in
+    let line_gb = fixed (codes "gb") (codes "gsave 190 0 translate m l l l h ") (codes "grestore") (beam_body (edge Way.Grace)) with_bd (record { regular = refl; good = refl; other = refl }) refl refl refl in
     let line_ac = fixed (codes "ac") (codes "m c ") (codes "stroke") ac_body with_gb (record { regular = refl; good = refl; other = refl }) refl refl refl in
     let line_t1 = fixed (codes "t1") (codes "gsave translate m show ") (codes "grestore") t1_body with_ac (record { regular = refl; good = refl; other = refl }) refl refl refl in
     let line_t2 = fixed (codes "t2") (codes "gsave /EngFont findfont 1600 scalefont setfont translate m show ") (codes "grestore") t2_body with_t1 (record { regular = refl; good = refl; other = refl }) refl refl refl in

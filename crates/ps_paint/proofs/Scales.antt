@@ -1,12 +1,8 @@
 -- Coordinates: how they add up, and that they are near.
 use Rattle.std.proofs.Common.{◌≡◌, ℕ, zero, suc, ◌*◌, ℤ, pos, negsuc, true, refl, arith}
-use Rattle.std.proofs.Math.IntN.{◌+ℤ◌, ◌*ℤ◌, suc_ℤ-*ℤ, zero-*ℤ}
-use Rattle.std.specs.Int.Signed.{◌≤ℤ◌}
-use Rattle.std.proofs.lemmas.Int.{ints}
+use Rattle.std.{proofs.Math.IntN.◌+ℤ◌, proofs.Math.IntN.◌*ℤ◌, proofs.Math.IntN.suc_ℤ-*ℤ, proofs.Math.IntN.zero-*ℤ, proofs.lemmas.Int.ints, specs.Int.Signed.◌≤ℤ◌}
 use Rattle.mus_units.specs.declared.glyph.Size.{Size}
-use Rattle.mus_units.specs.declared.glyph.Size.TheVariants as sizes
-use Rattle.ps_text.specs.declared.sheet.Frame.{Frame}
-use Rattle.ps_text.specs.Range.{IsFrame}
+use Rattle.ps_text.specs.{declared.sheet.Frame.Frame, Range.IsFrame}
 use Rattle.ps_steps.specs.Near.{is_near}
 use Rattle.ps_paint.specs.PaintOf.{to_x, to_y, height_of}
 
@@ -49,5 +45,5 @@ pub near_width : (f : Frame) → IsFrame f → is_near (pos 60 *ℤ pos f.scale)
 near_width f g = near (pos 60 *ℤ pos f.scale) (omega (arith, ints)) (omega (arith, ints))
 
 pub near_size : (f : Frame) (size : Size) → IsFrame f → is_near (height_of size *ℤ pos f.scale) ≡ true
-near_size f sizes.Small g = near (pos 900 *ℤ pos f.scale) (omega (arith, ints)) (omega (arith, ints))
-near_size f sizes.Big g = near (pos 1600 *ℤ pos f.scale) (omega (arith, ints)) (omega (arith, ints))
+near_size f Size.Small g = near (pos 900 *ℤ pos f.scale) (omega (arith, ints)) (omega (arith, ints))
+near_size f Size.Big g = near (pos 1600 *ℤ pos f.scale) (omega (arith, ints)) (omega (arith, ints))

@@ -1,26 +1,12 @@
 -- The lines of staves.
 use Rattle.std.proofs.Common.{◌≡◌, ℕ, true, ℤ, pos, List, [], ◌∷◌, ◌++◌, refl, arith, nat_le, codes}
-use Rattle.std.proofs.Math.IntN.{◌+ℤ◌, +ℤ_idl, +ℤ_idr}
-use Rattle.std.proofs.lemmas.Int.{ints}
+use Rattle.std.proofs.{Math.IntN.◌+ℤ◌, Math.IntN.+ℤ_idl, Math.IntN.+ℤ_idr, lemmas.Int.ints}
 use Rattle.glyph_paths.specs.Procedure.{numbers}
-use Rattle.ps_text.specs.Document.{rules_line}
-use Rattle.ps_text.specs.declared.sheet.Frame.{Frame}
-use Rattle.ps_text.specs.Range.{IsFrame, IsNumber, IsOffset}
-use Rattle.ps_steps.specs.declared.paint.Paint.{Paint}
-use Rattle.ps_steps.specs.declared.paint.Seg.{Seg}
-use Rattle.ps_steps.specs.declared.paint.PagePaint.{PagePaint}
-use Rattle.ps_steps.specs.declared.value.Value.{Value}
+use Rattle.ps_text.specs.{Document.rules_line, declared.sheet.Frame.Frame, Range.IsFrame, Range.IsNumber, Range.IsOffset}
+use Rattle.ps_steps.specs.{declared.paint.Paint.Paint, declared.paint.Seg.Seg, declared.paint.PagePaint.PagePaint, declared.value.Value.Value, declared.graphics.Graphics.Graphics, State.Names, Operators.all_near}
 use Rattle.ps_steps.specs.declared.value.Value.TheVariants.{Whole as whole_value}
-use Rattle.ps_steps.specs.declared.graphics.Graphics.{Graphics}
-use Rattle.ps_steps.specs.State.{Names}
-use Rattle.ps_steps.specs.Operators.{all_near}
-use Rattle.ps_paint.specs.PaintOf.{move, line, stroked, rules}
-use Rattle.ps_paint.proofs.Bodies.{Made, sf_body, rule_tokens}
-use Rattle.ps_paint.proofs.Scales.{IsClose}
-use Rattle.ps_paint.proofs.Runs.{Runs, no_more, then, both_runs, pushes}
-use Rattle.ps_paint.proofs.Draws.{drawing, corner, page, moves, lines, saves, restores, places, strokes}
-use Rattle.ps_paint.proofs.Lines.{Draws, on_page, line_drawn, page_near, close_number, close_sum}
-use Rattle.ps_paint.proofs.StemLines.{zero_sum}
+use Rattle.ps_paint.{specs.PaintOf.move, specs.PaintOf.line, specs.PaintOf.stroked, specs.PaintOf.rules, proofs.Bodies.Made, proofs.Bodies.sf_body, proofs.Bodies.rule_tokens, proofs.Scales.IsClose, proofs.Runs.Runs, proofs.Runs.no_more, proofs.Runs.then, proofs.Runs.both_runs, proofs.Runs.pushes}
+use Rattle.ps_paint.proofs.{Draws.drawing, Draws.corner, Draws.page, Draws.moves, Draws.lines, Draws.saves, Draws.restores, Draws.places, Draws.strokes, Lines.Draws, Lines.on_page, Lines.line_drawn, Lines.page_near, Lines.close_number, Lines.close_sum, StemLines.zero_sum}
 
 module _ (f : Frame) (ds : Names) (fr : IsFrame f) (made : Made f ds) where
   -- a line of the staff at y, before others and behind others

@@ -1,29 +1,13 @@
 -- How a page begins and ends.
 use Rattle.std.proofs.Common.{◌≡◌, ℕ, ℤ, pos, true, false, ◌&&◌, List, [], ◌∷◌, ◌++◌, append_assoc, refl, ◌∙◌, ap, arith, decimal, codes, int_le, int_div, int_rem}
-use Rattle.std.proofs.Math.IntN.{◌+ℤ◌, ◌*ℤ◌}
-use Rattle.std.proofs.lemmas.Int.{ints}
-use Rattle.ps_text.specs.Document.{heading_text, heading_line, closing}
-use Rattle.ps_text.specs.declared.sheet.Frame.{Frame}
-use Rattle.ps_text.specs.Range.{IsFrame}
-use Rattle.ps_steps.specs.declared.halt.Cause.TheVariants as causes
-use Rattle.ps_steps.specs.declared.paint.Paint.{Paint}
-use Rattle.ps_steps.specs.declared.paint.PagePaint.{PagePaint}
-use Rattle.ps_steps.specs.declared.graphics.Graphics.{Graphics}
-use Rattle.ps_steps.specs.declared.value.Value.{Value}
+use Rattle.std.proofs.{Math.IntN.◌+ℤ◌, Math.IntN.◌*ℤ◌, lemmas.Int.ints}
+use Rattle.ps_text.specs.{Document.heading_text, Document.heading_line, Document.closing, declared.sheet.Frame.Frame, Range.IsFrame}
+use Rattle.ps_steps.specs.{declared.halt.Cause.Cause, declared.paint.Paint.Paint, declared.paint.PagePaint.PagePaint, declared.graphics.Graphics.Graphics, declared.value.Value.Value, Near.is_near, State.State, State.Names, State.first_graphics, Operators.Outcome, Operators.went, Operators.halted}
+use Rattle.ps_steps.specs.Operators.{operated, in_range, same, scaled, scale_op, translate_op, setlinewidth_op, showpage_op}
 use Rattle.ps_steps.specs.declared.value.Value.TheVariants.{Whole as whole_value, Pointed as pointed_value}
 use Rattle.ps_steps.specs.declared.token.Simple.TheVariants.{Name as name_token}
-use Rattle.ps_steps.specs.Near.{is_near}
-use Rattle.ps_steps.specs.State.{State, Names, first_graphics}
-use Rattle.ps_steps.specs.Operators.{Outcome, went, halted, operated, in_range, same, scaled, scale_op, translate_op, setlinewidth_op, showpage_op}
-use Rattle.ps_paint.specs.PaintOf.{to_x, to_y}
-use Rattle.ps_paint.proofs.Bodies.{Made, pg_body}
-use Rattle.ps_paint.proofs.Scales.{near}
-use Rattle.ps_paint.proofs.Runs.{Runs, then, both_runs, pushes, does, is_in_range}
-use Rattle.ps_paint.proofs.Draws.{corner, page, saves, restores}
-use Rattle.ps_paint.proofs.Takes.{Takes, both_taken, takes_word, takes_call, IsTokenWord, line_end_passed}
-use Rattle.ps_paint.proofs.Comments.{takes_comment, two_in_line}
-use Rattle.ps_paint.proofs.Lines.{on_page}
-use Rattle.ps_paint.proofs.WordLines.{sets_font}
+use Rattle.ps_paint.{specs.PaintOf.to_x, specs.PaintOf.to_y, proofs.Bodies.Made, proofs.Bodies.pg_body, proofs.Scales.near, proofs.Runs.Runs, proofs.Runs.then, proofs.Runs.both_runs, proofs.Runs.pushes, proofs.Runs.does, proofs.Runs.is_in_range, proofs.Draws.corner, proofs.Draws.page}
+use Rattle.ps_paint.proofs.{Draws.saves, Draws.restores, Takes.Takes, Takes.both_taken, Takes.takes_word, Takes.takes_call, Takes.IsTokenWord, Takes.line_end_passed, Comments.takes_comment, Comments.two_in_line, Lines.on_page, WordLines.sets_font}
 
 -- between two pages
 abbrev pub between : Names → List PagePaint → State
@@ -39,7 +23,7 @@ scaled_to : (z q : ℤ) (m : State) → int_rem z (pos 100) ≡ pos 0 → int_le
 scaled_to z q m r l d n =
     let k : ℤ → Outcome = λ s. went [] (record m { now = record m.now { scale = s } }) in
     let t : (same (int_rem z (pos 100)) (pos 0) && int_le (pos 100) z) ≡ true = rw (r, l) refl in
-    ap (λ x. elim x as (λ _. Outcome) [ true ↦ in_range (int_div z (pos 100) ∷ []) (k (int_div z (pos 100))) | false ↦ halted causes.Scale ]) t
+    ap (λ x. elim x as (λ _. Outcome) [ true ↦ in_range (int_div z (pos 100) ∷ []) (k (int_div z (pos 100))) | false ↦ halted Cause.Scale ]) t
     ∙ (ap (λ s. in_range (s ∷ []) (k s)) d ∙ is_in_range (q ∷ []) (k q) (rw n refl))
 
 itself : (n : ℕ) → same (pos n) (pos n) ≡ true
@@ -49,7 +33,7 @@ scaled_twice : (p : ℕ) (q : ℤ) (m : State) → int_rem (m.now.scale *ℤ pos
     → (st : List Value) → m.stack ≡ pointed_value (pos p) ∷ pointed_value (pos p) ∷ st → operated scale_op m ≡ went [] (record m { stack = st; now = record m.now { scale = q } })
 scaled_twice p q m r l d n st e =
     let k : State = record m { stack = st } in
-    rw e (ap (λ x. elim x as (λ _. Outcome) [ true ↦ scaled (m.now.scale *ℤ pos p) k | false ↦ halted causes.Scale ]) (itself p) ∙ scaled_to (m.now.scale *ℤ pos p) q k r l d n)
+    rw e (ap (λ x. elim x as (λ _. Outcome) [ true ↦ scaled (m.now.scale *ℤ pos p) k | false ↦ halted Cause.Scale ]) (itself p) ∙ scaled_to (m.now.scale *ℤ pos p) q k r l d n)
 
 no_rest : (p : ℕ) → int_rem (pos 100 *ℤ pos p) (pos 100) ≡ pos 0
 no_rest p = omega (arith, ints)

@@ -1,25 +1,11 @@
 -- Stems, and the lines that join staves.
 use Rattle.std.proofs.Common.{◌≡◌, true, ℤ, pos, List, [], ◌∷◌, ◌++◌, refl, arith, codes}
-use Rattle.std.proofs.Math.IntN.{◌+ℤ◌, +ℤ_idl}
-use Rattle.std.proofs.lemmas.Int.{ints}
-use Rattle.ps_text.specs.Document.{mark_text, join_line}
-use Rattle.ps_text.specs.Line.{stem_line}
-use Rattle.ps_text.specs.declared.sheet.Frame.{Frame}
-use Rattle.ps_text.specs.Range.{IsFrame, IsStem, IsNumber}
-use Rattle.ps_text.specs.declared.marks.PageMark.TheVariants as marks
-use Rattle.ps_steps.specs.declared.paint.Paint.{Paint}
-use Rattle.ps_steps.specs.declared.paint.PagePaint.{PagePaint}
-use Rattle.ps_steps.specs.declared.value.Value.{Value}
+use Rattle.std.proofs.{Math.IntN.◌+ℤ◌, Math.IntN.+ℤ_idl, lemmas.Int.ints}
+use Rattle.ps_text.specs.{Document.mark_text, Document.join_line, Line.stem_line, declared.sheet.Frame.Frame, Range.IsFrame, Range.IsStem, Range.IsNumber, declared.marks.PageMark.PageMark}
+use Rattle.ps_steps.specs.{declared.paint.Paint.Paint, declared.paint.PagePaint.PagePaint, declared.value.Value.Value, declared.graphics.Graphics.Graphics, State.Names, Operators.all_near}
 use Rattle.ps_steps.specs.declared.value.Value.TheVariants.{Whole as whole_value}
-use Rattle.ps_steps.specs.declared.graphics.Graphics.{Graphics}
-use Rattle.ps_steps.specs.State.{Names}
-use Rattle.ps_steps.specs.Operators.{all_near}
-use Rattle.ps_paint.specs.PaintOf.{move, line, stroked, mark_paints}
-use Rattle.ps_paint.proofs.Bodies.{Made, st_body, vl_body}
-use Rattle.ps_paint.proofs.Scales.{IsClose}
-use Rattle.ps_paint.proofs.Runs.{Runs, no_more, then, both_runs}
-use Rattle.ps_paint.proofs.Draws.{drawing, corner, moves, lines, saves, restores, places, strokes}
-use Rattle.ps_paint.proofs.Lines.{Draws, on_page, line_drawn, page_near, offset_near, close_number, close_sum}
+use Rattle.ps_paint.{specs.PaintOf.move, specs.PaintOf.line, specs.PaintOf.stroked, specs.PaintOf.mark_paints, proofs.Bodies.Made, proofs.Bodies.st_body, proofs.Bodies.vl_body, proofs.Scales.IsClose, proofs.Runs.Runs, proofs.Runs.no_more, proofs.Runs.then, proofs.Runs.both_runs}
+use Rattle.ps_paint.proofs.{Draws.drawing, Draws.corner, Draws.moves, Draws.lines, Draws.saves, Draws.restores, Draws.places, Draws.strokes, Lines.Draws, Lines.on_page, Lines.line_drawn, Lines.page_near, Lines.offset_near, Lines.close_number, Lines.close_sum}
 
 pub zero_sum : (y : ℤ) → IsNumber y → IsClose (pos 0 +ℤ y)
 zero_sum y n = rw (+ℤ_idl y) (close_number y n)
@@ -28,14 +14,14 @@ module _ (f : Frame) (ds : Names) (fr : IsFrame f) (made : Made f ds) where
   stem_runs : (x y dx from to : ℤ) (st : List Value) (saved : List Graphics) (ps : List Paint) (pages : List PagePaint)
       → IsClose x → IsClose y → IsClose (x +ℤ dx) → IsClose (y +ℤ from) → IsClose (y +ℤ to)
       → Runs 8 st_body (on_page f ds (whole_value y ∷ whole_value x ∷ whole_value from ∷ whole_value dx ∷ whole_value to ∷ whole_value dx ∷ st) saved ps pages)
-      (on_page f ds st saved (ps ++ mark_paints f y (marks.Stem x dx from to)) pages)
+      (on_page f ds st saved (ps ++ mark_paints f y (PageMark.Stem x dx from to)) pages)
   stem_runs x y dx from to st saved ps pages cx cy cd cf ct =
       let g = corner f (pos 900) in
       let s1 = whole_value to ∷ whole_value dx ∷ st in
       let s2 = whole_value from ∷ whole_value dx ∷ s1 in
       let a = move f (x +ℤ dx) (y +ℤ from) in
       let b = line f (x +ℤ dx) (y +ℤ to) in
-      let q = ps ++ mark_paints f y (marks.Stem x dx from to) in
+      let q = ps ++ mark_paints f y (PageMark.Stem x dx from to) in
       then (saves f ds fr made saved ps pages (whole_value y ∷ whole_value x ∷ s2) g)
       (then (places f ds fr made (g ∷ saved) ps pages x y (pos 900) s2 cx cy)
       (both_runs (moves f ds fr made (g ∷ saved) ps pages dx from x y [] (pos 900) s1 cd cf)
@@ -43,7 +29,7 @@ module _ (f : Frame) (ds : Names) (fr : IsFrame f) (made : Made f ds) where
       (then (strokes f ds fr made (g ∷ saved) ps pages x y (a ∷ b ∷ []) (pos 900) st)
       (then (restores f ds fr made saved q pages st (drawing f x y [] (pos 900)) g) no_more)))))
 
-  pub stem_drawn : (y x dx from to : ℤ) → IsStem y x dx from to → Draws f ds (mark_text y (marks.Stem x dx from to)) (mark_paints f y (marks.Stem x dx from to))
+  pub stem_drawn : (y x dx from to : ℤ) → IsStem y x dx from to → Draws f ds (mark_text y (PageMark.Stem x dx from to)) (mark_paints f y (PageMark.Stem x dx from to))
   unfolding mark_text stem_line
   stem_drawn y x dx from to s =
       let zs = dx ∷ to ∷ dx ∷ from ∷ x ∷ y ∷ [] in

@@ -1,26 +1,14 @@
 -- The tokens of texts that are written: a text that is tokens with blanks behind them.
 use Rattle.std.proofs.Common.{◌≡◌, ℕ, zero, suc, ◌+◌, ◌/◌, ◌%◌, ◌<◌, ◌≤◌, ◌^◌, ℤ, pos, negsuc, true, false, cond, Bool, List, [], ◌∷◌, ◌++◌, length, append_assoc, Some, refl, sym, subst, ◌∙◌, ap, arith, decimal, ◌||◌, ◌==◌}
-use Rattle.std.proofs.Math.IntN.{neg_ℤ}
-use Rattle.std.proofs.Math.Numerals.{one-add}
-use Rattle.std.specs.Str.Parse.{digits_value}
-use Rattle.std.specs.List.{list_all}
-use Rattle.std.specs.Fmt.{digit_glyph, digits, digits_onto, signed_decimal}
-use Rattle.std.proofs.lemmas.Int.{ints}
-use Rattle.std.proofs.lemmas.Bool.{true≢false, and_parts, or_parts, not-true}
-use Rattle.std.proofs.lemmas.Bool.Decides.{nat_tests}
-use Rattle.std.proofs.lemmas.Fmt.{decimal_nonempty, decimal_is_IsNumeral}
+use Rattle.std.proofs.{Math.IntN.neg_ℤ, Math.Numerals.one-add, lemmas.Int.ints, lemmas.Bool.true≢false, lemmas.Bool.and_parts, lemmas.Bool.or_parts, lemmas.Bool.not-true, lemmas.Bool.Decides.nat_tests, lemmas.Fmt.decimal_nonempty, lemmas.Fmt.decimal_is_IsNumeral}
+use Rattle.std.specs.{Str.Parse.digits_value, List.list_all, Fmt.digit_glyph, Fmt.digits, Fmt.digits_onto, Fmt.signed_decimal}
 use Rattle.mus_units.specs.Bytes.{is_digit}
 use Rattle.glyph_paths.specs.Procedure.{numbers}
-use Rattle.ps_steps.specs.Near.{is_near}
-use Rattle.ps_steps.specs.declared.token.Simple.{Simple}
+use Rattle.ps_steps.specs.{Near.is_near, declared.token.Simple.Simple, Tokens.passed, Tokens.IsWord, Tokens.word_front, Tokens.simple_at, Tokens.is_regular, Tokens.is_blank, Tokens.is_delimiter, Tokens.whole_number, Tokens.word_token, Tokens.is_name, State.State, Operators.went, Operators.executed}
+use Rattle.ps_steps.{specs.Operators.called, specs.Operators.all_near, specs.Steps.at, specs.Steps.NextToken, specs.Steps.from_text, specs.Steps.behind, specs.Steps.Steps, specs.Steps.here, specs.Steps.step, proofs.Joined.joined}
 use Rattle.ps_steps.specs.declared.token.Simple.TheVariants.{Name as name_token, Whole as whole_token}
 use Rattle.ps_steps.specs.declared.token.Token.TheVariants.{Simple as simple_token}
-use Rattle.ps_steps.specs.Tokens.{passed, IsWord, word_front, simple_at, is_regular, is_blank, is_delimiter, whole_number, word_token, is_name}
 use Rattle.ps_steps.specs.declared.value.Value.TheVariants.{Whole as whole_value}
-use Rattle.ps_steps.specs.State.{State}
-use Rattle.ps_steps.specs.Operators.{went, executed, called, all_near}
-use Rattle.ps_steps.specs.Steps.{at, NextToken, from_text, behind, Steps, here, step}
-use Rattle.ps_steps.proofs.Joined.{joined}
 use Rattle.ps_paint.proofs.Runs.{Runs, pushed}
 
 -- whatever follows, the text leads from one state to another in n steps

@@ -1,38 +1,18 @@
 -- Words are shown where their line says, in marks and in titles.
 use Rattle.std.proofs.Common.{◌≡◌, ℕ, suc, ◌+◌, ◌≤◌, ℤ, pos, true, List, [], ◌∷◌, ◌++◌, length-append, append_assoc, Some, refl, arith, IsTrue, codes}
-use Rattle.std.specs.List.{flat_map, list_all}
-use Rattle.std.proofs.Math.IntN.{◌+ℤ◌, ◌*ℤ◌, +ℤ_idr}
-use Rattle.std.proofs.lemmas.Int.{ints}
+use Rattle.std.{proofs.Math.IntN.◌+ℤ◌, proofs.Math.IntN.◌*ℤ◌, proofs.Math.IntN.+ℤ_idr, proofs.lemmas.Int.ints, specs.List.flat_map, specs.List.list_all}
 use Rattle.mus_units.specs.declared.glyph.Size.{Size}
-use Rattle.mus_units.specs.declared.glyph.Size.TheVariants as sizes
 use Rattle.glyph_paths.specs.Procedure.{numbers}
-use Rattle.ps_text.specs.Fields.{shown, in_parentheses}
-use Rattle.ps_text.specs.Range.{is_shown, IsFrame, IsOffset, IsPlaced, IsTitle, IsWords}
-use Rattle.ps_text.specs.Line.{words_line}
-use Rattle.ps_text.specs.Names.{size_name}
-use Rattle.ps_text.specs.Document.{mark_text, title_line, title_text}
-use Rattle.ps_text.specs.declared.sheet.Frame.{Frame}
-use Rattle.ps_text.specs.declared.marks.PageMark.TheVariants as marks
-use Rattle.ps_steps.specs.declared.paint.Paint.{Paint}
-use Rattle.ps_steps.specs.declared.paint.PagePaint.{PagePaint}
-use Rattle.ps_steps.specs.Near.{is_near}
-use Rattle.ps_steps.specs.declared.token.Simple.{Simple}
+use Rattle.ps_text.specs.{Fields.shown, Fields.in_parentheses, Range.is_shown, Range.IsFrame, Range.IsOffset, Range.IsPlaced, Range.IsTitle, Range.IsWords, Line.words_line, Names.size_name, Document.mark_text, Document.title_line, Document.title_text, declared.sheet.Frame.Frame}
+use Rattle.ps_text.specs.declared.marks.PageMark.{PageMark}
+use Rattle.ps_steps.specs.{declared.paint.Paint.Paint, declared.paint.PagePaint.PagePaint, Near.is_near, declared.token.Simple.Simple, Tokens.string_front, Tokens.simple_at, declared.value.Value.Value, declared.graphics.Graphics.Graphics, State.State, State.Names, Operators.went, Operators.executed}
+use Rattle.ps_steps.specs.{Operators.operated, Operators.show_op, Operators.findfont_op, Operators.scalefont_op, Operators.setfont_op, Operators.all_near, Steps.at, Steps.from_text, Steps.Step, Steps.here, Steps.step}
 use Rattle.ps_steps.specs.declared.token.Simple.TheVariants.{Name as name_token, Words as words_token}
 use Rattle.ps_steps.specs.declared.token.Token.TheVariants.{Simple as simple_token}
-use Rattle.ps_steps.specs.Tokens.{string_front, simple_at}
-use Rattle.ps_steps.specs.declared.value.Value.{Value}
 use Rattle.ps_steps.specs.declared.value.Value.TheVariants.{Whole as whole_value, Label as label_value, Font as font_value, Words as words_value}
-use Rattle.ps_steps.specs.declared.graphics.Graphics.{Graphics}
-use Rattle.ps_steps.specs.State.{State, Names}
-use Rattle.ps_steps.specs.Operators.{went, executed, operated, show_op, findfont_op, scalefont_op, setfont_op, all_near}
-use Rattle.ps_steps.specs.Steps.{at, from_text, Step, here, step}
-use Rattle.ps_paint.specs.PaintOf.{move, words_paint, mark_paints, height_of}
-use Rattle.ps_paint.proofs.Bodies.{Made, t1_body, t2_body, m_name, translate_name, show_name, grestore_name, font_tokens}
-use Rattle.ps_paint.proofs.Scales.{IsClose, near_size}
-use Rattle.ps_paint.proofs.Runs.{Runs, no_more, then, both_runs, does, is_in_range}
-use Rattle.ps_paint.proofs.Draws.{drawing, corner, page, moves, saves, restores, places}
-use Rattle.ps_paint.proofs.Takes.{Takes, both_taken, takes_line, IsTokenWord}
-use Rattle.ps_paint.proofs.Lines.{Draws, on_page, page_near, offset_near, close_number, close_sum}
+use Rattle.ps_paint.{specs.PaintOf.move, specs.PaintOf.words_paint, specs.PaintOf.mark_paints, specs.PaintOf.height_of, proofs.Bodies.Made, proofs.Bodies.t1_body, proofs.Bodies.t2_body, proofs.Bodies.m_name, proofs.Bodies.translate_name, proofs.Bodies.show_name, proofs.Bodies.grestore_name}
+use Rattle.ps_paint.proofs.{Bodies.font_tokens, Scales.IsClose, Scales.near_size, Runs.Runs, Runs.no_more, Runs.then, Runs.both_runs, Runs.does, Runs.is_in_range, Draws.drawing, Draws.corner, Draws.page, Draws.moves, Draws.saves, Draws.restores, Draws.places, Takes.Takes, Takes.both_taken}
+use Rattle.ps_paint.proofs.{Takes.takes_line, Takes.IsTokenWord, Lines.Draws, Lines.on_page, Lines.page_near, Lines.offset_near, Lines.close_number, Lines.close_sum}
 
 -- words in parentheses and a space are pushed
 takes_words : (words : List ℕ) (m : State) → IsTrue (list_all is_shown words) → Takes 1 (in_parentheses words) m (record m { stack = words_value words ∷ m.stack })
@@ -54,28 +34,28 @@ takes_words words m good = record {
 }
 
 size_word : (size : Size) → IsTokenWord (name_token (size_name size)) (size_name size)
-size_word sizes.Small = record { some = omega arith; regular = refl; token = refl }
-size_word sizes.Big = record { some = omega arith; regular = refl; token = refl }
+size_word Size.Small = record { some = omega arith; regular = refl; token = refl }
+size_word Size.Big = record { some = omega arith; regular = refl; token = refl }
 
 -- the procedure of a size, and how many tokens it executes
 size_body : Size → List Simple
-size_body sizes.Small = t1_body
-size_body sizes.Big = t2_body
+size_body Size.Small = t1_body
+size_body Size.Big = t2_body
 
 size_cost : Size → ℕ
-size_cost sizes.Small = 6
-size_cost sizes.Big = 11
+size_cost Size.Small = 6
+size_cost Size.Big = 11
 
 size_few : (size : Size) → 5 + size_cost size ≤ 50
 unfolding size_cost
-size_few sizes.Small = omega arith
-size_few sizes.Big = omega arith
+size_few Size.Small = omega arith
+size_few Size.Big = omega arith
 
 module _ (f : Frame) (ds : Names) (fr : IsFrame f) (made : Made f ds) where
   size_made : (size : Size) → ds (size_name size) ≡ Some (size_body size)
   unfolding size_body
-  size_made sizes.Small = made.t1
-  size_made sizes.Big = made.t2
+  size_made Size.Small = made.t1
+  size_made Size.Big = made.t2
 
   -- the font in another size
   pub sets_font : (g h : Graphics) (z : ℤ) (st : List Value) (saved : List Graphics) (ps : List Paint) (pages : List PagePaint) → is_near (pos 1 *ℤ z) ≡ true
@@ -107,12 +87,12 @@ module _ (f : Frame) (ds : Names) (fr : IsFrame f) (made : Made f ds) where
       → IsClose x → IsClose y → IsClose (x +ℤ dx) → IsClose (y +ℤ dy)
       → Runs 5 (translate_name ∷ m_name ∷ show_name ∷ grestore_name ∷ [])
       (page ds (whole_value y ∷ whole_value x ∷ whole_value dy ∷ whole_value dx ∷ words_value words ∷ st) (corner f (height_of size)) (corner f (pos 900) ∷ saved) ps pages)
-      (on_page f ds st saved (ps ++ mark_paints f y (marks.Words size x dx dy words)) pages)
+      (on_page f ds st saved (ps ++ mark_paints f y (PageMark.Words size x dx dy words)) pages)
   places_words size x y dx dy words st saved ps pages cx cy cd ce =
       let o = corner f (pos 900) in
       let s1 = words_value words ∷ st in
       let s2 = whole_value dy ∷ whole_value dx ∷ s1 in
-      let q = ps ++ mark_paints f y (marks.Words size x dx dy words) in
+      let q = ps ++ mark_paints f y (PageMark.Words size x dx dy words) in
       then (places f ds fr made (o ∷ saved) ps pages x y (height_of size) s2 cx cy)
       (both_runs (moves f ds fr made (o ∷ saved) ps pages dx dy x y [] (height_of size) s1 cd ce)
       (then (shows size (x +ℤ dx) (y +ℤ dy) x y words st (o ∷ saved) ps pages)
@@ -121,18 +101,18 @@ module _ (f : Frame) (ds : Names) (fr : IsFrame f) (made : Made f ds) where
   words_runs : (size : Size) (x y dx dy : ℤ) (words : List ℕ) (st : List Value) (saved : List Graphics) (ps : List Paint) (pages : List PagePaint)
       → IsClose x → IsClose y → IsClose (x +ℤ dx) → IsClose (y +ℤ dy)
       → Runs (size_cost size) (size_body size) (on_page f ds (whole_value y ∷ whole_value x ∷ whole_value dy ∷ whole_value dx ∷ words_value words ∷ st) saved ps pages)
-      (on_page f ds st saved (ps ++ mark_paints f y (marks.Words size x dx dy words)) pages)
+      (on_page f ds st saved (ps ++ mark_paints f y (PageMark.Words size x dx dy words)) pages)
   unfolding size_body size_cost
-  words_runs sizes.Small x y dx dy words st saved ps pages cx cy cd ce =
+  words_runs Size.Small x y dx dy words st saved ps pages cx cy cd ce =
       let s = whole_value y ∷ whole_value x ∷ whole_value dy ∷ whole_value dx ∷ words_value words ∷ st in
-      then (saves f ds fr made saved ps pages s (corner f (pos 900))) (places_words sizes.Small x y dx dy words st saved ps pages cx cy cd ce)
-  words_runs sizes.Big x y dx dy words st saved ps pages cx cy cd ce =
+      then (saves f ds fr made saved ps pages s (corner f (pos 900))) (places_words Size.Small x y dx dy words st saved ps pages cx cy cd ce)
+  words_runs Size.Big x y dx dy words st saved ps pages cx cy cd ce =
       let s = whole_value y ∷ whole_value x ∷ whole_value dy ∷ whole_value dx ∷ words_value words ∷ st in
       let o = corner f (pos 900) in
       then (saves f ds fr made saved ps pages s o)
-      (both_runs (sets_font o (corner f (pos 1600)) (pos 1600) s (o ∷ saved) ps pages refl refl) (places_words sizes.Big x y dx dy words st saved ps pages cx cy cd ce))
+      (both_runs (sets_font o (corner f (pos 1600)) (pos 1600) s (o ∷ saved) ps pages refl refl) (places_words Size.Big x y dx dy words st saved ps pages cx cy cd ce))
 
-  pub words_drawn : (size : Size) (y x dx dy : ℤ) (words : List ℕ) → IsPlaced y x dx dy → IsWords words → Draws f ds (mark_text y (marks.Words size x dx dy words)) (mark_paints f y (marks.Words size x dx dy words))
+  pub words_drawn : (size : Size) (y x dx dy : ℤ) (words : List ℕ) → IsPlaced y x dx dy → IsWords words → Draws f ds (mark_text y (PageMark.Words size x dx dy words)) (mark_paints f y (PageMark.Words size x dx dy words))
   unfolding mark_text words_line
   words_drawn size y x dx dy words s w =
       let zs = dx ∷ dy ∷ x ∷ y ∷ [] in

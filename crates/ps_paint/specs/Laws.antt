@@ -1,7 +1,6 @@
 -- The law of the painting machine about documents: a text that a sheet spells paints that sheet, within 100 tokens a byte.
 use Rattle.std.specs.Prelude.{◌≤◌, ◌*◌, ℕ, List, length}
-use Rattle.ps_text.specs.Document.{Spells}
-use Rattle.ps_text.specs.declared.sheet.Sheet.{Sheet}
+use Rattle.ps_text.specs.{Document.Spells, declared.sheet.Sheet.Sheet}
 use Rattle.ps_steps.specs.Steps.{Paints}
 use Rattle.ps_paint.specs.PaintOf.{paint_of}
 

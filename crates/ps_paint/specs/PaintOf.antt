@@ -2,28 +2,10 @@
 -- and the words that are shown.
 use Rattle.std.specs.Prelude.{ℕ, ℤ, pos, ◌*◌, ◌+ℤ◌, ◌-ℤ◌, ◌*ℤ◌, List, [], ◌∷◌, ◌++◌, map}
 use Rattle.std.specs.List.{flat_map}
-use Rattle.mus_units.specs.declared.glyph.Size.{Size}
-use Rattle.mus_units.specs.declared.glyph.Size.TheVariants as sizes
-use Rattle.mus_units.specs.declared.glyph.Way.{Way}
-use Rattle.mus_units.specs.declared.glyph.Way.TheVariants as ways
-use Rattle.glyph_paths.specs.declared.paths.PathOp.{PathOp}
-use Rattle.glyph_paths.specs.declared.paths.PathOp.TheVariants as ops
-use Rattle.glyph_paths.specs.Outlines.{neg, outline_of}
-use Rattle.ps_text.specs.Line.{quarter}
-use Rattle.ps_text.specs.Document.{last_base}
-use Rattle.ps_text.specs.declared.marks.PageMark.{PageMark}
-use Rattle.ps_text.specs.declared.marks.PageMark.TheVariants as marks
-use Rattle.ps_text.specs.declared.sheet.Frame.{Frame}
-use Rattle.ps_text.specs.declared.sheet.Staff.{Staff}
-use Rattle.ps_text.specs.declared.sheet.Item.{Item}
-use Rattle.ps_text.specs.declared.sheet.Item.TheVariants as items
-use Rattle.ps_text.specs.declared.sheet.Page.{Page}
-use Rattle.ps_text.specs.declared.sheet.Sheet.{Sheet}
-use Rattle.ps_steps.specs.declared.paint.Seg.{Seg}
-use Rattle.ps_steps.specs.declared.paint.Seg.TheVariants as segs
-use Rattle.ps_steps.specs.declared.paint.Paint.{Paint}
-use Rattle.ps_steps.specs.declared.paint.Paint.TheVariants as paints
-use Rattle.ps_steps.specs.declared.paint.PagePaint.{PagePaint}
+use Rattle.mus_units.specs.{declared.glyph.Size.Size, declared.glyph.Way.Way}
+use Rattle.glyph_paths.specs.{declared.paths.PathOp.PathOp, Outlines.neg, Outlines.outline_of}
+use Rattle.ps_text.specs.{Line.quarter, Document.last_base, declared.marks.PageMark.PageMark, declared.sheet.Frame.Frame, declared.sheet.Staff.Staff, declared.sheet.Item.Item, declared.sheet.Page.Page, declared.sheet.Sheet.Sheet}
+use Rattle.ps_steps.specs.{declared.paint.Seg.Seg, declared.paint.Paint.Paint, declared.paint.PagePaint.PagePaint}
 
 -- where an abscissa and a height of a page come to lie: 100 times the margin, plus the percent of the scale times them
 abbrev pub to_x : Frame → ℤ → ℤ
@@ -34,41 +16,41 @@ to_y f v = pos (100 * f.bottom) +ℤ (pos f.scale *ℤ v)
 
 -- the pieces of a path to a point of a page
 abbrev pub move : Frame → ℤ → ℤ → Seg
-move f x y = segs.Move (to_x f x) (to_y f y)
+move f x y = Seg.Move (to_x f x) (to_y f y)
 
 abbrev pub line : Frame → ℤ → ℤ → Seg
-line f x y = segs.Line (to_x f x) (to_y f y)
+line f x y = Seg.Line (to_x f x) (to_y f y)
 
 abbrev pub curve : Frame → ℤ → ℤ → ℤ → ℤ → ℤ → ℤ → Seg
-curve f a b c d x y = segs.Curve (to_x f a) (to_y f b) (to_x f c) (to_y f d) (to_x f x) (to_y f y)
+curve f a b c d x y = Seg.Curve (to_x f a) (to_y f b) (to_x f c) (to_y f d) (to_x f x) (to_y f y)
 
 -- lines are 60 u wide
 abbrev pub stroked : Frame → List Seg → Paint
-stroked f path = paints.Stroke (pos 60 *ℤ pos f.scale) path
+stroked f path = Paint.Stroke (pos 60 *ℤ pos f.scale) path
 
 -- a path is closed and filled
 abbrev pub filled : List Seg → Paint
-filled path = paints.Fill (path ++ segs.Close ∷ [])
+filled path = Paint.Fill (path ++ Seg.Close ∷ [])
 
 -- how large words are, in u
 abbrev pub height_of : Size → ℤ
-height_of sizes.Small = pos 900
-height_of sizes.Big = pos 1600
+height_of Size.Small = pos 900
+height_of Size.Big = pos 1600
 
 -- words that begin at (x, y)
 abbrev pub words_paint : Frame → Size → ℤ → ℤ → List ℕ → Paint
-words_paint f size x y words = paints.Show (height_of size *ℤ pos f.scale) (to_x f x) (to_y f y) words
+words_paint f size x y words = Paint.Show (height_of size *ℤ pos f.scale) (to_x f x) (to_y f y) words
 
 -- an outline moved by (x, y), behind the pieces of the path that it goes on with: a paint for each Fill and each Stroke,
 -- of the pieces since the last one
 abbrev pub outline_paints : Frame → ℤ → ℤ → List Seg → List PathOp → List Paint
 outline_paints f x y path [] = []
-outline_paints f x y path (ops.Move a b ∷ rest) = outline_paints f x y (path ++ move f (x +ℤ a) (y +ℤ b) ∷ []) rest
-outline_paints f x y path (ops.Line a b ∷ rest) = outline_paints f x y (path ++ line f (x +ℤ a) (y +ℤ b) ∷ []) rest
-outline_paints f x y path (ops.Curve a b c d p q ∷ rest) =
+outline_paints f x y path (PathOp.Move a b ∷ rest) = outline_paints f x y (path ++ move f (x +ℤ a) (y +ℤ b) ∷ []) rest
+outline_paints f x y path (PathOp.Line a b ∷ rest) = outline_paints f x y (path ++ line f (x +ℤ a) (y +ℤ b) ∷ []) rest
+outline_paints f x y path (PathOp.Curve a b c d p q ∷ rest) =
     outline_paints f x y (path ++ curve f (x +ℤ a) (y +ℤ b) (x +ℤ c) (y +ℤ d) (x +ℤ p) (y +ℤ q) ∷ []) rest
-outline_paints f x y path (ops.Fill ∷ rest) = filled path ∷ outline_paints f x y [] rest
-outline_paints f x y path (ops.Stroke ∷ rest) = stroked f path ∷ outline_paints f x y [] rest
+outline_paints f x y path (PathOp.Fill ∷ rest) = filled path ∷ outline_paints f x y [] rest
+outline_paints f x y path (PathOp.Stroke ∷ rest) = stroked f path ∷ outline_paints f x y [] rest
 
 -- a glyph is its outline, moved by its place
 abbrev pub glyph_paints : Frame → ℤ → ℤ → List PathOp → List Paint
@@ -76,9 +58,9 @@ glyph_paints f x y outline = outline_paints f x y [] outline
 
 -- how far the edges of a beam are to the right of the ends of its line
 abbrev pub edge : Way → ℤ
-edge ways.Up = pos 280
-edge ways.Down = neg 280
-edge ways.Grace = pos 190
+edge Way.Up = pos 280
+edge Way.Down = neg 280
+edge Way.Grace = pos 190
 
 -- a beam from (x1, a) to (x2, b) is 250 thick
 abbrev pub beam_paint : Frame → ℤ → ℤ → ℤ → ℤ → Paint
@@ -91,11 +73,11 @@ arc_paint f x1 a x2 b bulge =
 
 -- a mark of a staff at y
 abbrev pub mark_paints : Frame → ℤ → PageMark → List Paint
-mark_paints f y (marks.Glyph glyph x dx dy) = glyph_paints f (x +ℤ dx) (y +ℤ dy) (outline_of glyph)
-mark_paints f y (marks.Words size x dx dy words) = words_paint f size (x +ℤ dx) (y +ℤ dy) words ∷ []
-mark_paints f y (marks.Stem x dx from to) = stroked f (move f (x +ℤ dx) (y +ℤ from) ∷ line f (x +ℤ dx) (y +ℤ to) ∷ []) ∷ []
-mark_paints f y (marks.Beam way x1 x2 from to) = beam_paint f (x1 +ℤ edge way) (y +ℤ from) (x2 +ℤ edge way) (y +ℤ to) ∷ []
-mark_paints f y (marks.Arc x1 x2 from to bulge) = arc_paint f x1 (y +ℤ from) x2 (y +ℤ to) bulge ∷ []
+mark_paints f y (PageMark.Glyph glyph x dx dy) = glyph_paints f (x +ℤ dx) (y +ℤ dy) (outline_of glyph)
+mark_paints f y (PageMark.Words size x dx dy words) = words_paint f size (x +ℤ dx) (y +ℤ dy) words ∷ []
+mark_paints f y (PageMark.Stem x dx from to) = stroked f (move f (x +ℤ dx) (y +ℤ from) ∷ line f (x +ℤ dx) (y +ℤ to) ∷ []) ∷ []
+mark_paints f y (PageMark.Beam way x1 x2 from to) = beam_paint f (x1 +ℤ edge way) (y +ℤ from) (x2 +ℤ edge way) (y +ℤ to) ∷ []
+mark_paints f y (PageMark.Arc x1 x2 from to bulge) = arc_paint f x1 (y +ℤ from) x2 (y +ℤ to) bulge ∷ []
 
 -- a line of a staff, from the left margin
 abbrev pub rule : Frame → ℤ → ℤ → List Seg
@@ -118,9 +100,9 @@ join_paints f (s ∷ t ∷ rest) = stroked f (move f (pos 0) (last_base t rest) 
 
 -- the beginning of a tune paints nothing; a title is shown; a system is its joining line and its staves
 abbrev pub item_paints : Frame → Item → List Paint
-item_paints f (items.Tune ordinal) = []
-item_paints f (items.Title x y size words) = words_paint f size x y words ∷ []
-item_paints f (items.System a b staves) = join_paints f staves ++ flat_map (staff_paints f) staves
+item_paints f (Item.Tune ordinal) = []
+item_paints f (Item.Title x y size words) = words_paint f size x y words ∷ []
+item_paints f (Item.System a b staves) = join_paints f staves ++ flat_map (staff_paints f) staves
 
 abbrev pub page_paint : Frame → Page → PagePaint
 page_paint f p = record { paints = flat_map (item_paints f) p.items }

@@ -1,18 +1,10 @@
 -- The text of a line, each part in front of what follows it, and that its numbers may stand on a page.
 use Rattle.std.proofs.Common.{◌≡◌, ℕ, ℤ, pos, ◌≤◌, ◌^◌, true, ◌+◌, ◌/◌, ◌%◌, List, [], ◌∷◌, ◌++◌, Option, Some, None, is_some, refl, sym, ◌∙◌, ap, arith, codes, decimal, true≢false}
-use Rattle.std.proofs.lemmas.Fmt.{decimal_digit}
-use Rattle.std.specs.List.{flat_map, list_all}
-use Rattle.std.proofs.lemmas.Int.{ints}
+use Rattle.std.{proofs.lemmas.Fmt.decimal_digit, proofs.lemmas.Int.ints, specs.List.flat_map, specs.List.list_all}
 use mathlib.Core.List.{append_assoc}
 use Rattle.mus_units.specs.declared.glyph.Size.{Size}
-use Rattle.mus_units.specs.declared.glyph.Size.TheVariants as sizes
 use Rattle.glyph_paths.specs.Procedure.{numbers}
-use Rattle.ps_text.specs.Document.{rules_line, join_line, title_line}
-use Rattle.ps_text.specs.Fields.{shown, in_parentheses}
-use Rattle.ps_text.specs.Names.{size_name}
-use Rattle.ps_text.specs.Prolog.{page_line, page_start, page_end, scaling, percent}
-use Rattle.ps_text.specs.declared.prolog.TheConstants.{PAGE_START}
-use Rattle.ps_text.specs.Range.{IsNumber}
+use Rattle.ps_text.specs.{Document.rules_line, Document.join_line, Document.title_line, Fields.shown, Fields.in_parentheses, Names.size_name, Prolog.page_line, Prolog.page_start, Prolog.page_end, Prolog.scaling, Prolog.percent, declared.prolog.TheConstants.PAGE_START, Range.IsNumber}
 use Rattle.ps_text.specs.Scanning.{is_field}
 
 abbrev pub title_numbers : ℤ → ℤ → List ℤ
@@ -27,8 +19,8 @@ pub small_number : (n : ℕ) → n ≤ 2 ^ 31 → IsNumber (pos n)
 small_number n l = record { low = omega (arith, ints); high = omega (arith, ints, l) }
 
 pub size_is_field : (size : Size) → list_all is_field (size_name size) ≡ true
-size_is_field sizes.Small = refl
-size_is_field sizes.Big = refl
+size_is_field Size.Small = refl
+size_is_field Size.Big = refl
 
 pub join_form : (top foot : ℤ) → join_line top foot ≡ numbers (pos 0 ∷ top ∷ pos 0 ∷ foot ∷ []) ++ codes "vl"
 unfolding join_line

@@ -1,30 +1,14 @@
 -- How lines begin, and that none has an LF within.
 use Rattle.std.proofs.Common.{◌≡◌, ◌≢◌, ℕ, ℤ, pos, negsuc, zero, suc, ◌+◌, ◌/◌, ◌%◌, ◌<◌, ◌≤◌, ◌⊎◌, inl, inr, Bool, true, false, ◌==◌, if◌then◌else◌, List, [], ◌∷◌, ◌++◌, refl, sym, ◌∙◌, ap, subst, arith, codes, IsTrue, nat_lt, ◌&&◌, true≢false, eq-eqb, length, length-append}
-use Rattle.std.specs.Fmt.{decimal, signed_decimal, digits, digits_onto, digit_glyph}
-use Rattle.std.specs.List.{flat_map, list_all}
-use Rattle.mus_units.specs.declared.glyph.Glyph.{Glyph}
-use Rattle.mus_units.specs.declared.glyph.Glyph.TheVariants as glyphs
-use Rattle.mus_units.specs.declared.glyph.Size.{Size}
-use Rattle.mus_units.specs.declared.glyph.Size.TheVariants as sizes
-use Rattle.mus_units.specs.declared.glyph.Way.{Way}
-use Rattle.mus_units.specs.declared.glyph.Way.TheVariants as ways
-use Rattle.glyph_paths.specs.Names.{glyph_name}
-use Rattle.glyph_paths.specs.Procedure.{numbers}
-use Rattle.ps_text.specs.Document.{rules_line, staff_line, join_line, system_line, title_line, tune_line, heading_line, count_line}
-use Rattle.ps_text.specs.Fields.{shown, in_parentheses, is_special}
-use Rattle.ps_text.specs.Line.{glyph_line, words_line, stem_line, beam_line, arc_line, points, mark_line}
-use Rattle.ps_text.specs.Names.{size_name, way_name}
-use Rattle.ps_text.specs.Prolog.{box_line, page_line, box_start, page_start, page_end, scaling, percent}
-use Rattle.ps_text.specs.Range.{is_shown, IsWords, IsPageMark}
+use Rattle.std.specs.{Fmt.decimal, Fmt.signed_decimal, Fmt.digits, Fmt.digits_onto, Fmt.digit_glyph, List.flat_map, List.list_all}
+use Rattle.mus_units.specs.{declared.glyph.Glyph.Glyph, declared.glyph.Size.Size, declared.glyph.Way.Way}
+use Rattle.glyph_paths.specs.{Names.glyph_name, Procedure.numbers}
+use Rattle.ps_text.specs.{Document.rules_line, Document.staff_line, Document.join_line, Document.system_line, Document.title_line, Document.tune_line, Document.heading_line, Document.count_line, Fields.shown, Fields.in_parentheses, Fields.is_special, Line.glyph_line, Line.words_line, Line.stem_line}
+use Rattle.ps_text.specs.{Line.beam_line, Line.arc_line, Line.points, Line.mark_line, Names.size_name, Names.way_name, Prolog.box_line, Prolog.page_line, Prolog.box_start, Prolog.page_start, Prolog.page_end, Prolog.scaling, Prolog.percent, Range.is_shown, Range.IsWords, Range.IsPageMark}
 use Rattle.ps_text.specs.declared.marks.PageMark.{PageMark}
-use Rattle.ps_text.specs.declared.marks.PageMark.TheVariants as marks
-use Rattle.eng_lines.specs.Lines.{Lacks}
-use Rattle.ps_read.specs.Lines.{Line, line_text}
+use Rattle.eng_lines.{specs.Lines.Lacks, proofs.Words.lacks_both, proofs.Words.head_of}
+use Rattle.ps_read.specs.{Lines.Line, Lines.line_text, Places.MayCome, declared.place.Place.Place}
 use Rattle.ps_read.specs.Lines as line
-use Rattle.ps_read.specs.Places.{MayCome}
-use Rattle.ps_read.specs.declared.place.Place.{Place}
-use Rattle.ps_read.specs.declared.place.Place.TheVariants as at
-use Rattle.eng_lines.proofs.Words.{lacks_both, head_of}
 
 abbrev lacks_test : ℕ → List ℕ → Bool
 lacks_test b [] = true
@@ -103,11 +87,11 @@ numbers_start (negsuc n) zs name = inr (inl refl)
 
 pub mark_start : (y : ℤ) (m : PageMark) → IsMarkStart (head_of (mark_line y m))
 unfolding glyph_line words_line in_parentheses stem_line beam_line arc_line points
-mark_start y (marks.Glyph g x dx dy) = numbers_start dx _ (glyph_name g)
-mark_start y (marks.Words size x dx dy words) = inl refl
-mark_start y (marks.Stem x dx from to) = numbers_start dx _ (codes "st")
-mark_start y (marks.Beam way x1 x2 from to) = numbers_start _ _ (way_name way)
-mark_start y (marks.Arc x1 x2 from to bulge) = numbers_start _ _ (codes "ac")
+mark_start y (PageMark.Glyph g x dx dy) = numbers_start dx _ (glyph_name g)
+mark_start y (PageMark.Words size x dx dy words) = inl refl
+mark_start y (PageMark.Stem x dx from to) = numbers_start dx _ (codes "st")
+mark_start y (PageMark.Beam way x1 x2 from to) = numbers_start _ _ (way_name way)
+mark_start y (PageMark.Arc x1 x2 from to bulge) = numbers_start _ _ (codes "ac")
 
 pub rules_start : (w : ℕ) (y : ℤ) → IsMarkStart (head_of (rules_line w y))
 unfolding rules_line
@@ -184,15 +168,15 @@ unfolding in_parentheses
 parentheses_lack words h = ((λ e. absurd (omega arith)), lacks_both 10 (flat_map shown words) (41 ∷ 32 ∷ []) (words_lack words h) (lacks_by 10 (41 ∷ 32 ∷ []) refl))
 
 size_lacks : (size : Size) → Lacks 10 (size_name size)
-size_lacks sizes.Small = lacks_by 10 (codes "t1") refl
-size_lacks sizes.Big = lacks_by 10 (codes "t2") refl
+size_lacks Size.Small = lacks_by 10 (codes "t1") refl
+size_lacks Size.Big = lacks_by 10 (codes "t2") refl
 
 way_lacks : (way : Way) → Lacks 10 (way_name way)
-way_lacks ways.Up = lacks_by 10 (way_name ways.Up) refl
+way_lacks Way.Up = lacks_by 10 (way_name Way.Up) refl
 way_lacks way = lacks_by 10 (way_name way) refl
 
 glyph_lacks : (g : Glyph) → Lacks 10 (glyph_name g)
-glyph_lacks glyphs.Hb = lacks_by 10 (glyph_name glyphs.Hb) refl
+glyph_lacks Glyph.Hb = lacks_by 10 (glyph_name Glyph.Hb) refl
 glyph_lacks g = lacks_by 10 (glyph_name g) refl
 
 percent_lacks : (p : ℕ) → Lacks 10 (percent p)
@@ -208,11 +192,11 @@ title_lacks x y size words h =
 
 pub mark_lacks : (y : ℤ) (m : PageMark) → IsPageMark y m → Lacks 10 (mark_line y m)
 unfolding glyph_line words_line stem_line beam_line arc_line points
-mark_lacks y (marks.Glyph g x dx dy) h = lacks_both 10 _ (glyph_name g) (numbers_lack _) (glyph_lacks g)
-mark_lacks y (marks.Words size x dx dy words) h = lacks_both 10 _ (size_name size) (lacks_both 10 (in_parentheses words) _ (parentheses_lack words h.1.shown) (numbers_lack _)) (size_lacks size)
-mark_lacks y (marks.Stem x dx from to) h = lacks_both 10 _ (codes "st") (numbers_lack _) (lacks_by 10 (codes "st") refl)
-mark_lacks y (marks.Beam way x1 x2 from to) h = lacks_both 10 _ (way_name way) (numbers_lack _) (way_lacks way)
-mark_lacks y (marks.Arc x1 x2 from to bulge) h = lacks_both 10 _ (codes "ac") (numbers_lack _) (lacks_by 10 (codes "ac") refl)
+mark_lacks y (PageMark.Glyph g x dx dy) h = lacks_both 10 _ (glyph_name g) (numbers_lack _) (glyph_lacks g)
+mark_lacks y (PageMark.Words size x dx dy words) h = lacks_both 10 _ (size_name size) (lacks_both 10 (in_parentheses words) _ (parentheses_lack words h.1.shown) (numbers_lack _)) (size_lacks size)
+mark_lacks y (PageMark.Stem x dx from to) h = lacks_both 10 _ (codes "st") (numbers_lack _) (lacks_by 10 (codes "st") refl)
+mark_lacks y (PageMark.Beam way x1 x2 from to) h = lacks_both 10 _ (way_name way) (numbers_lack _) (way_lacks way)
+mark_lacks y (PageMark.Arc x1 x2 from to bulge) h = lacks_both 10 _ (codes "ac") (numbers_lack _) (lacks_by 10 (codes "ac") refl)
 
 named_lacks : (prefix : List ℕ) (n : ℕ) → lacks_test 10 prefix ≡ true → Lacks 10 (prefix ++ decimal n)
 named_lacks prefix n e = lacks_both 10 prefix (decimal n) (lacks_by 10 prefix e) (decimal_lacks n)
@@ -270,29 +254,29 @@ fixed_lacks text other e t = subst (λ s. Lacks 10 s) (sym e) (lacks_by 10 other
 
 -- no good line has an LF within
 pub may_lack : (p : Place) (l : Line) → MayCome p l → Lacks 10 (line_text l)
-may_lack at.Begun (line.Fixed text) m = fixed_lacks text (codes "%!PS-Adobe-3.0") m refl
-may_lack at.Titled (line.Box w h) m = box_lacks w h
-may_lack (at.Boxed w h rest) (line.Fixed text) m = m.whole
-may_lack (at.Boxed w h rest) (line.PageStart l b s) m = page_lacks l b s
-may_lack (at.Framed f rest) (line.Fixed text) m = m.whole
-may_lack (at.Between s) (line.Heading k) m = heading_lacks k
-may_lack (at.Between s) (line.Fixed text) m = fixed_lacks text (codes "%%Trailer") m refl
-may_lack (at.Headed s) (line.Fixed text) m = fixed_lacks text (codes "pg") m refl
-may_lack (at.Items p) (line.Tune k) m = tune_lacks k
-may_lack (at.Items p) (line.Title x y size words) m = title_lacks x y size words m.good
-may_lack (at.Items p) (line.System a b) m = system_lacks a b
-may_lack (at.Items p) (line.Fixed text) m = fixed_lacks text (codes "grestore") m refl
-may_lack (at.System o) (line.Join top foot) m = join_lacks top foot
-may_lack (at.System o) (line.StaffHead k) m = staff_lacks k
-may_lack (at.Staff o) (line.Rules w y) m = rules_lacks w y
-may_lack (at.Marks o s) (line.Mark y k) m = let P : ℤ → Type 0 = λ y. Lacks 10 (mark_line y k) in subst P (sym m.0) (mark_lacks s.y k m.1)
-may_lack (at.Marks o s) (line.StaffHead k) m = staff_lacks k
-may_lack (at.Marks o s) (line.Tune k) m = tune_lacks k
-may_lack (at.Marks o s) (line.System a b) m = system_lacks a b
-may_lack (at.Marks o s) (line.Fixed text) m = fixed_lacks text (codes "grestore") m.1 refl
-may_lack (at.Closed p) (line.Fixed text) m = fixed_lacks text (codes "showpage") m refl
-may_lack (at.Trailer s) (line.Fixed text) m = subst (λ s. Lacks 10 s) (sym m) (count_lacks _)
-may_lack (at.Counted s) (line.Fixed text) m = fixed_lacks text (codes "%%EOF") m refl
+may_lack Place.Begun (line.Fixed text) m = fixed_lacks text (codes "%!PS-Adobe-3.0") m refl
+may_lack Place.Titled (line.Box w h) m = box_lacks w h
+may_lack (Place.Boxed w h rest) (line.Fixed text) m = m.whole
+may_lack (Place.Boxed w h rest) (line.PageStart l b s) m = page_lacks l b s
+may_lack (Place.Framed f rest) (line.Fixed text) m = m.whole
+may_lack (Place.Between s) (line.Heading k) m = heading_lacks k
+may_lack (Place.Between s) (line.Fixed text) m = fixed_lacks text (codes "%%Trailer") m refl
+may_lack (Place.Headed s) (line.Fixed text) m = fixed_lacks text (codes "pg") m refl
+may_lack (Place.Items p) (line.Tune k) m = tune_lacks k
+may_lack (Place.Items p) (line.Title x y size words) m = title_lacks x y size words m.good
+may_lack (Place.Items p) (line.System a b) m = system_lacks a b
+may_lack (Place.Items p) (line.Fixed text) m = fixed_lacks text (codes "grestore") m refl
+may_lack (Place.System o) (line.Join top foot) m = join_lacks top foot
+may_lack (Place.System o) (line.StaffHead k) m = staff_lacks k
+may_lack (Place.Staff o) (line.Rules w y) m = rules_lacks w y
+may_lack (Place.Marks o s) (line.Mark y k) m = let P : ℤ → Type 0 = λ y. Lacks 10 (mark_line y k) in subst P (sym m.0) (mark_lacks s.y k m.1)
+may_lack (Place.Marks o s) (line.StaffHead k) m = staff_lacks k
+may_lack (Place.Marks o s) (line.Tune k) m = tune_lacks k
+may_lack (Place.Marks o s) (line.System a b) m = system_lacks a b
+may_lack (Place.Marks o s) (line.Fixed text) m = fixed_lacks text (codes "grestore") m.1 refl
+may_lack (Place.Closed p) (line.Fixed text) m = fixed_lacks text (codes "showpage") m refl
+may_lack (Place.Trailer s) (line.Fixed text) m = subst (λ s. Lacks 10 s) (sym m) (count_lacks _)
+may_lack (Place.Counted s) (line.Fixed text) m = fixed_lacks text (codes "%%EOF") m refl
 may_lack p l m = absurd m
 
 -- no text with a line's end is empty

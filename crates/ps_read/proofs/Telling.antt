@@ -1,30 +1,15 @@
 -- What the lines so far have told, and that a line that may come adds its text to it.
 use Rattle.std.proofs.Common.{◌≡◌, ℕ, ℤ, pos, suc, ◌+◌, ◌<◌, ◌^◌, ◌+ℤ◌, List, [], ◌∷◌, ◌++◌, length, Option, Some, None, IsSome, refl, sym, ◌∙◌, ap, subst, arith, codes, All, lit<, length-append, true≢false}
-use Rattle.std.specs.Prelude.{⊤}
-use Rattle.std.specs.List.{flat_map}
-use Rattle.std.proofs.lemmas.List.Elements.{All-push, All-nil}
+use Rattle.std.{proofs.lemmas.List.Elements.All-push, proofs.lemmas.List.Elements.All-nil, specs.Prelude.⊤, specs.List.flat_map}
 use mathlib.Core.List.{append_assoc, append-nil}
 use Rattle.mus_units.specs.declared.glyph.Size.{Size}
 use Rattle.glyph_paths.specs.Names.{glyphs_in_order}
 use Rattle.ps_text.specs.Document.{numbered, mark_text, marks_text, rules_line, staff_line, staff_text, last_base, join_line, join_text, system_line, system_text, title_line, title_text, tune_line, tune_text, item_text, items_text, heading_line, heading_text, closing, page_text, count_line, trailer, document, Spells}
-use Rattle.ps_text.specs.Line.{mark_line}
-use Rattle.ps_text.specs.Prolog.{first_text, box_line, heading, procedures, page_line, glyph_lines, last_text, prolog}
-use Rattle.ps_text.specs.Range.{IsNumber, IsPageMark, IsStaff, IsJoined, IsOrdinal, IsItem, IsAfter, InOrder, IsPage, IsFrame, IsSheet}
-use Rattle.ps_text.specs.declared.marks.PageMark.{PageMark}
-use Rattle.ps_text.specs.declared.sheet.Frame.{Frame}
-use Rattle.ps_text.specs.declared.sheet.Staff.{Staff}
-use Rattle.ps_text.specs.declared.sheet.Item.{Item}
-use Rattle.ps_text.specs.declared.sheet.Item.TheVariants as items
-use Rattle.ps_text.specs.declared.sheet.Page.{Page}
-use Rattle.ps_text.specs.declared.sheet.Sheet.{Sheet}
-use Rattle.ps_read.specs.Lines.{Line, line_text, lines_then, behind_line, IsFirstLine}
+use Rattle.ps_text.specs.{Line.mark_line, Prolog.first_text, Prolog.box_line, Prolog.heading, Prolog.procedures, Prolog.page_line, Prolog.glyph_lines, Prolog.last_text, Prolog.prolog, Range.IsNumber, Range.IsPageMark, Range.IsStaff, Range.IsJoined, Range.IsOrdinal, Range.IsItem, Range.IsAfter}
+use Rattle.ps_text.specs.{Range.InOrder, Range.IsPage, Range.IsFrame, Range.IsSheet, declared.marks.PageMark.PageMark, declared.sheet.Frame.Frame, declared.sheet.Staff.Staff, declared.sheet.Item.Item, declared.sheet.Page.Page, declared.sheet.Sheet.Sheet}
+use Rattle.ps_read.specs.{Lines.Line, Lines.line_text, Lines.lines_then, Lines.behind_line, Lines.IsFirstLine, Places.frame_of, Places.with_item, Places.with_page, Places.with_mark, Places.with_staff, Places.open_system, Places.ended, Places.IsUnderTop, Places.MayEnd, Places.MayCome}
+use Rattle.ps_read.specs.{Places.after_prolog, Places.next, Places.Leads, declared.place.Joined.Joined, declared.place.OpenPage.OpenPage, declared.place.OpenSystem.OpenSystem, declared.place.Place.Place}
 use Rattle.ps_read.specs.Lines as line
-use Rattle.ps_read.specs.Places.{frame_of, with_item, with_page, with_mark, with_staff, open_system, ended, IsUnderTop, MayEnd, MayCome, after_prolog, next, Leads}
-use Rattle.ps_read.specs.declared.place.Joined.{Joined}
-use Rattle.ps_read.specs.declared.place.OpenPage.{OpenPage}
-use Rattle.ps_read.specs.declared.place.OpenSystem.{OpenSystem}
-use Rattle.ps_read.specs.declared.place.Place.{Place}
-use Rattle.ps_read.specs.declared.place.Place.TheVariants as at
 
 -- the text of whole pages, of a page whose items are being listed, and of a system whose staves are
 abbrev pub front : Sheet → List ℕ
@@ -73,20 +58,20 @@ pub record IsOpenStaff (o : OpenSystem) (s : Staff) : Type 0 where
 
 -- the text tells the place
 abbrev pub Tells : Place → List ℕ → Type 0
-Tells at.Begun t = t ≡ []
-Tells at.Titled t = t ≡ first_text
-Tells (at.Boxed w h rest) t = t ++ rest ≡ (first_text ++ (box_line w h ++ 10 ∷ [])) ++ procedures
-Tells (at.Framed f rest) t = (t ++ rest ≡ prolog f) × IsFrame f
-Tells (at.Between s) t = (t ≡ front s) × IsSheet s
-Tells (at.Headed s) t = (t ≡ front s ++ (heading_line (length s.pages + 1) ++ 10 ∷ [])) × IsSheet s × (length s.pages + 1 < 2 ^ 32)
-Tells (at.Items p) t = (t ≡ page_front p) × IsOpenPage p × IsOpenTo p.items
-Tells (at.System o) t = (t ≡ system_front o) × IsOpenSystem o × (o.staves ≡ [])
-Tells (at.Staff o) t = (t ≡ system_front o ++ (staff_line (length o.staves) ++ 10 ∷ [])) × IsOpenSystem o
-Tells (at.Marks o s) t = (t ≡ system_front (with_staff o s)) × IsOpenStaff o s
-Tells (at.Closed p) t = (t ≡ page_front p ++ codes "grestore\n") × IsOpenPage p
-Tells (at.Trailer s) t = (t ≡ front s ++ codes "%%Trailer\n") × IsSheet s
-Tells (at.Counted s) t = (t ≡ front s ++ (codes "%%Trailer\n" ++ (count_line (length s.pages) ++ 10 ∷ []))) × IsSheet s
-Tells (at.Ended s) t = Spells s t
+Tells Place.Begun t = t ≡ []
+Tells Place.Titled t = t ≡ first_text
+Tells (Place.Boxed w h rest) t = t ++ rest ≡ (first_text ++ (box_line w h ++ 10 ∷ [])) ++ procedures
+Tells (Place.Framed f rest) t = (t ++ rest ≡ prolog f) × IsFrame f
+Tells (Place.Between s) t = (t ≡ front s) × IsSheet s
+Tells (Place.Headed s) t = (t ≡ front s ++ (heading_line (length s.pages + 1) ++ 10 ∷ [])) × IsSheet s × (length s.pages + 1 < 2 ^ 32)
+Tells (Place.Items p) t = (t ≡ page_front p) × IsOpenPage p × IsOpenTo p.items
+Tells (Place.System o) t = (t ≡ system_front o) × IsOpenSystem o × (o.staves ≡ [])
+Tells (Place.Staff o) t = (t ≡ system_front o ++ (staff_line (length o.staves) ++ 10 ∷ [])) × IsOpenSystem o
+Tells (Place.Marks o s) t = (t ≡ system_front (with_staff o s)) × IsOpenStaff o s
+Tells (Place.Closed p) t = (t ≡ page_front p ++ codes "grestore\n") × IsOpenPage p
+Tells (Place.Trailer s) t = (t ≡ front s ++ codes "%%Trailer\n") × IsSheet s
+Tells (Place.Counted s) t = (t ≡ front s ++ (codes "%%Trailer\n" ++ (count_line (length s.pages) ++ 10 ∷ []))) × IsSheet s
+Tells (Place.Ended s) t = Spells s t
 
 -- one more at the end
 pub numbered_push : {A : Type 0} (f : ℕ → A → List ℕ) (k : ℕ) (xs : List A) (x : A) → numbered f k (xs ++ x ∷ []) ≡ numbered f k xs ++ f (k + length xs) x
@@ -146,7 +131,7 @@ pub ended_text : (o : OpenSystem) (s : Staff) → IsJoinedBy o.join o.staves →
 unfolding system_text
 ended_text o s h m =
     let l = system_line o.a o.b in let ss = o.staves ++ s ∷ [] in let n = numbered staff_text 0 ss in
-    page_more o.page (items.System o.a o.b ss)
+    page_more o.page (Item.System o.a o.b ss)
     ∙ ap (λ v. page_front o.page ++ v)
     (ap (λ j. (l ++ 10 ∷ j) ++ n) (joins o.join o.staves s h m) ∙ append_assoc l (10 ∷ joining o.join) n)
 
@@ -172,18 +157,18 @@ open_push [] j f = f
 open_push (i ∷ []) j f = f
 open_push (i ∷ k ∷ is) j f = open_push (k ∷ is) j f
 
-tune_after : (k : ℕ) (i : Item) → IsAfter i (items.Tune k)
-tune_after k (items.Tune o) = tt
+tune_after : (k : ℕ) (i : Item) → IsAfter i (Item.Tune k)
+tune_after k (Item.Tune o) = tt
 tune_after k _ = tt
 
-system_after : (a b : ℕ) (ss : List Staff) (i : Item) → IsAfter i (items.System a b ss)
-system_after a b ss (items.Tune o) = tt
+system_after : (a b : ℕ) (ss : List Staff) (i : Item) → IsAfter i (Item.System a b ss)
+system_after a b ss (Item.Tune o) = tt
 system_after a b ss _ = tt
 
-free_tune : (k : ℕ) (i : Item) → IsAfter (items.Tune k) i
+free_tune : (k : ℕ) (i : Item) → IsAfter (Item.Tune k) i
 free_tune k i = tt
 
-free_title : (x y : ℤ) (size : Size) (words : List ℕ) (i : Item) → IsAfter (items.Title x y size words) i
+free_title : (x y : ℤ) (size : Size) (words : List ℕ) (i : Item) → IsAfter (Item.Title x y size words) i
 free_title x y size words i = tt
 
 pub open_more : (p : OpenPage) (i : Item) → IsOpenPage p → IsItem i → InOrder (p.items ++ i ∷ []) → IsOpenPage (with_item p i)
@@ -193,7 +178,7 @@ pub ended_good : (o : OpenSystem) (s : Staff) → IsOpenStaff o s → MayEnd o.j
 ended_good o s h m =
     let n = length-append o.staves (s ∷ []) in
     let y = h.system in
-    let i = items.System o.a o.b (o.staves ++ s ∷ []) in
+    let i = Item.System o.a o.b (o.staves ++ s ∷ []) in
     open_more o.page i y.page
     (record {
       rising = y.rising;
@@ -204,10 +189,10 @@ ended_good o s h m =
     })
     (order_other o.page.items i y.page.order (system_after o.a o.b (o.staves ++ s ∷ [])))
 
-tune_more : (p : OpenPage) (k : ℕ) → IsOpenPage p → IsOrdinal k → IsOpenPage (with_item p (items.Tune k)) × IsOpenTo (p.items ++ items.Tune k ∷ [])
+tune_more : (p : OpenPage) (k : ℕ) → IsOpenPage p → IsOrdinal k → IsOpenPage (with_item p (Item.Tune k)) × IsOpenTo (p.items ++ Item.Tune k ∷ [])
 tune_more p k h m = (
-  open_more p (items.Tune k) h m (order_other p.items (items.Tune k) h.order (tune_after k)),
-  open_push p.items (items.Tune k) (free_tune k),
+  open_more p (Item.Tune k) h m (order_other p.items (Item.Tune k) h.order (tune_after k)),
+  open_push p.items (Item.Tune k) (free_tune k),
 )
 
 -- a line put behind a text
@@ -234,11 +219,11 @@ scale_told : (w h l b s : ℕ) (t : List ℕ) → t ≡ (first_text ++ (box_line
 unfolding prolog heading
 scale_told w h l b s t e = rw e (simp append_assoc)
 
-tune_told : (k : ℕ) → tune_line k ++ 10 ∷ [] ≡ item_text (items.Tune k)
+tune_told : (k : ℕ) → tune_line k ++ 10 ∷ [] ≡ item_text (Item.Tune k)
 unfolding tune_text
 tune_told k = refl
 
-title_told : (x y : ℤ) (size : Size) (words : List ℕ) → title_line x y size words ++ 10 ∷ [] ≡ item_text (items.Title x y size words)
+title_told : (x y : ℤ) (size : Size) (words : List ℕ) → title_line x y size words ++ 10 ∷ [] ≡ item_text (Item.Title x y size words)
 unfolding title_text
 title_told x y size words = refl
 
@@ -313,34 +298,34 @@ open_system_good : (p : OpenPage) (a b : ℕ) → IsOpenPage p → a < b → b <
 open_system_good p a b h l k = record { page = h; rising = l; last = k; joined = refl; good = All-nil IsStaff }
 
 pub step_tells : (p : Place) (l : Line) (t : List ℕ) → MayCome p l → Tells p t → Tells (next p l) (t ++ (line_text l ++ 10 ∷ []))
-step_tells at.Begun (line.Fixed text) t m h = told t [] text (codes "%!PS-Adobe-3.0") h m ∙ first_told
-step_tells at.Titled (line.Box w k) t m h = ap (λ t. (t ++ (box_line w k ++ 10 ∷ [])) ++ procedures) h
-step_tells (at.Boxed w k rest) (line.Fixed text) t m h = line_taken t text rest (behind_line text rest) _ m.first h
-step_tells (at.Boxed w k rest) (line.PageStart l b s) t m h =
+step_tells Place.Begun (line.Fixed text) t m h = told t [] text (codes "%!PS-Adobe-3.0") h m ∙ first_told
+step_tells Place.Titled (line.Box w k) t m h = ap (λ t. (t ++ (box_line w k ++ 10 ∷ [])) ++ procedures) h
+step_tells (Place.Boxed w k rest) (line.Fixed text) t m h = line_taken t text rest (behind_line text rest) _ m.first h
+step_tells (Place.Boxed w k rest) (line.PageStart l b s) t m h =
     (scale_told w k l b s t (sym (append-nil t) ∙ (ap (λ r. t ++ r) (sym m.0) ∙ h)), m.1)
-step_tells (at.Framed f rest) (line.Fixed text) t m h =
+step_tells (Place.Framed f rest) (line.Fixed text) t m h =
     prolog_ends f (behind_line text rest) (t ++ (text ++ 10 ∷ [])) (line_taken t text rest (behind_line text rest) (prolog f) m.first h.0) h.1
-step_tells (at.Between s) (line.Heading k) t m h =
+step_tells (Place.Between s) (line.Heading k) t m h =
     (told t (front s) (heading_line k) (heading_line (length s.pages + 1)) h.0 (ap heading_line m.0), h.1, let e = m.0 in let l = m.1 in omega (arith, e, l))
-step_tells (at.Between s) (line.Fixed text) t m h = (told t (front s) text (codes "%%Trailer") h.0 m, h.1)
-step_tells (at.Headed s) (line.Fixed text) t m h = (
+step_tells (Place.Between s) (line.Fixed text) t m h = (told t (front s) text (codes "%%Trailer") h.0 m, h.1)
+step_tells (Place.Headed s) (line.Fixed text) t m h = (
   told t (front s ++ (heading_line (length s.pages + 1) ++ 10 ∷ [])) text (codes "pg") h.0 m ∙ head_told (length s.pages + 1) (front s),
   record { sheet = h.1; few = h.2; items = All-nil IsItem; order = tt },
   tt,
 )
-step_tells (at.Items p) (line.Tune k) t m h =
+step_tells (Place.Items p) (line.Tune k) t m h =
     let g = tune_more p k h.1 m in
-    (ap (λ t. t ++ (tune_line k ++ 10 ∷ [])) h.0 ∙ (ap (λ v. page_front p ++ v) (tune_told k) ∙ sym (page_more p (items.Tune k))), g.0, g.1)
-step_tells (at.Items p) (line.Title x y size words) t m h =
-    let i = items.Title x y size words in (
+    (ap (λ t. t ++ (tune_line k ++ 10 ∷ [])) h.0 ∙ (ap (λ v. page_front p ++ v) (tune_told k) ∙ sym (page_more p (Item.Tune k))), g.0, g.1)
+step_tells (Place.Items p) (line.Title x y size words) t m h =
+    let i = Item.Title x y size words in (
       ap (λ t. t ++ (title_line x y size words ++ 10 ∷ [])) h.0 ∙ (ap (λ v. page_front p ++ v) (title_told x y size words) ∙ sym (page_more p i)),
       open_more p i h.1 m (order_free p.items i h.1.order h.2),
       open_push p.items i (free_title x y size words),
     )
-step_tells (at.Items p) (line.System a b) t m h =
+step_tells (Place.Items p) (line.System a b) t m h =
     (ap (λ t. t ++ (system_line a b ++ 10 ∷ [])) h.0, open_system_good p a b h.1 m.0 m.1, refl)
-step_tells (at.Items p) (line.Fixed text) t m h = (told t (page_front p) text (codes "grestore") h.0 m, h.1)
-step_tells (at.System o) (line.Join top foot) t m h = (
+step_tells (Place.Items p) (line.Fixed text) t m h = (told t (page_front p) text (codes "grestore") h.0 m, h.1)
+step_tells (Place.System o) (line.Join top foot) t m h = (
   join_told (page_front o.page) (system_line o.a o.b) (join_line top foot) t o.join o.staves m.0 h.2 h.0,
   record {
     page = h.1.page;
@@ -351,11 +336,11 @@ step_tells (at.System o) (line.Join top foot) t m h = (
   },
   h.2,
 )
-step_tells (at.System o) (line.StaffHead k) t m h =
+step_tells (Place.System o) (line.StaffHead k) t m h =
     (told t (system_front o) (staff_line k) (staff_line (length o.staves)) h.0 (ap staff_line (m ∙ sym (ap length h.2))), h.1)
-step_tells (at.Staff o) (line.Rules w y) t m h =
+step_tells (Place.Staff o) (line.Rules w y) t m h =
     (rules_told o w y t h.0, record { system = h.1; staff = record { base = m.2; some = m.0; wide = m.1; drawn = All-nil (IsPageMark y) }; under = m.3 })
-step_tells (at.Marks o s) (line.Mark y k) t m h = (
+step_tells (Place.Marks o s) (line.Mark y k) t m h = (
   ap (λ y. t ++ (mark_line y k ++ 10 ∷ [])) m.0 ∙ mark_told o s k t h.0,
   record {
     system = h.1.system;
@@ -363,27 +348,27 @@ step_tells (at.Marks o s) (line.Mark y k) t m h = (
     under = h.1.under;
   },
 )
-step_tells (at.Marks o s) (line.StaffHead k) t m h = (
+step_tells (Place.Marks o s) (line.StaffHead k) t m h = (
   told t (system_front (with_staff o s)) (staff_line k) (staff_line (length (o.staves ++ s ∷ []))) h.0 (ap staff_line (m.1 ∙ sym (length-append o.staves (s ∷ [])))),
   staff_good o s h.1 m.0,
 )
-step_tells (at.Marks o s) (line.Tune k) t m h =
+step_tells (Place.Marks o s) (line.Tune k) t m h =
     let p = ended o s in
     let g = tune_more p k (ended_good o s h.1 m.0) m.1 in (
-      ap (λ t. t ++ (tune_line k ++ 10 ∷ [])) (h.0 ∙ sym (ended_text o s h.1.system.joined m.0)) ∙ (ap (λ v. page_front p ++ v) (tune_told k) ∙ sym (page_more p (items.Tune k))),
+      ap (λ t. t ++ (tune_line k ++ 10 ∷ [])) (h.0 ∙ sym (ended_text o s h.1.system.joined m.0)) ∙ (ap (λ v. page_front p ++ v) (tune_told k) ∙ sym (page_more p (Item.Tune k))),
       g.0,
       g.1,
     )
-step_tells (at.Marks o s) (line.System a b) t m h = (
+step_tells (Place.Marks o s) (line.System a b) t m h = (
   ap (λ t. t ++ (system_line a b ++ 10 ∷ [])) (h.0 ∙ sym (ended_text o s h.1.system.joined m.0)),
   open_system_good (ended o s) a b (ended_good o s h.1 m.0) m.1 m.2,
   refl,
 )
-step_tells (at.Marks o s) (line.Fixed text) t m h = (
+step_tells (Place.Marks o s) (line.Fixed text) t m h = (
   told t (page_front (ended o s)) text (codes "grestore") (h.0 ∙ sym (ended_text o s h.1.system.joined m.0)) m.1,
   ended_good o s h.1 m.0,
 )
-step_tells (at.Closed p) (line.Fixed text) t m h =
+step_tells (Place.Closed p) (line.Fixed text) t m h =
     let n = length-append p.sheet.pages (record { items = p.items } ∷ []) in let few = h.1.few in (
       told t (page_front p ++ codes "grestore\n") text (codes "showpage") h.0 m ∙ page_told p (page_front p ++ codes "grestore\n") refl,
       record {
@@ -392,12 +377,12 @@ step_tells (at.Closed p) (line.Fixed text) t m h =
         pages = All-push IsPage p.sheet.pages (record { items = p.items }) h.1.sheet.pages (record { items = h.1.items; order = h.1.order });
       },
     )
-step_tells (at.Trailer s) (line.Fixed text) t m h = (
+step_tells (Place.Trailer s) (line.Fixed text) t m h = (
   told t (front s ++ codes "%%Trailer\n") text (count_line (length s.pages)) h.0 m
       ∙ append_assoc (front s) (codes "%%Trailer\n") (count_line (length s.pages) ++ 10 ∷ []),
   h.1,
 )
-step_tells (at.Counted s) (line.Fixed text) t m h = record {
+step_tells (Place.Counted s) (line.Fixed text) t m h = record {
   good = h.1;
   spelled = end_told s t h.0 ∙ ap (λ l. t ++ (l ++ 10 ∷ [])) (sym m);
 }

@@ -1,20 +1,10 @@
 -- What holds before each line is read, and what follows at the end.
 use Rattle.std.proofs.Common.{◌≡◌, ℕ, ◌+◌, ◌≤◌, ◌==◌, true, List, [], ◌∷◌, ◌++◌, length, refl, sym, ◌∙◌, ap, subst, arith, length-append}
-use Rattle.std.proofs.lemmas.List.{nil_from_length}
-use Rattle.std.proofs.lemmas.Bool.{eqb-true}
-use Rattle.ps_text.specs.Document.{Spells}
-use Rattle.ps_text.specs.declared.sheet.Sheet.{Sheet}
-use Rattle.eng_lines.specs.Lines.{Lacks}
-use Rattle.ps_read.specs.Lines.{Line, line_text, lines_then}
-use Rattle.ps_read.specs.Places.{MayCome, next, Leads}
-use Rattle.ps_read.specs.Answers.{IsGoodThroughout, IsFirstFault, IsRead}
-use Rattle.ps_read.specs.Steps.{Any, NoneOf, IsNextOf}
-use Rattle.ps_read.specs.declared.place.Place.{Place}
-use Rattle.ps_read.specs.declared.place.Place.TheVariants as at
-use Rattle.eng_lines.proofs.Words.{one_cut, lacks_none}
-use Rattle.ps_read.proofs.Heads.{may_lack, no_line}
-use Rattle.ps_read.proofs.Telling.{leads_tell}
-use Rattle.ps_read.proofs.Through.{document_way}
+use Rattle.std.proofs.{lemmas.List.nil_from_length, lemmas.Bool.eqb-true}
+use Rattle.ps_text.specs.{Document.Spells, declared.sheet.Sheet.Sheet}
+use Rattle.eng_lines.{specs.Lines.Lacks, proofs.Words.one_cut, proofs.Words.lacks_none}
+use Rattle.ps_read.specs.{Lines.Line, Lines.line_text, Lines.lines_then, Places.MayCome, Places.next, Places.Leads, Answers.IsGoodThroughout, Answers.IsFirstFault, Answers.IsRead, Steps.Any, Steps.NoneOf, Steps.IsNextOf, declared.place.Place.Place}
+use Rattle.ps_read.proofs.{Heads.may_lack, Heads.no_line, Telling.leads_tell, Through.document_way}
 
 lines_push : (ls : List Line) (l : Line) (rest : List ℕ) → lines_then (ls ++ l ∷ []) rest ≡ lines_then ls (line_text l ++ 10 ∷ rest)
 lines_push [] l rest = refl
@@ -35,14 +25,14 @@ as_many p q x y (l ∷ ls) (m ∷ ms) rest h k e =
 
 -- the ways of good lines from a place on through what is left
 abbrev pub WaysOn : List ℕ → ℕ → Place → List ℕ → Type 0
-WaysOn text count p rest = (ms : List Line) (r : List ℕ) (q : Place) → text ≡ lines_then ms r → Leads at.Begun ms q → count ≤ length ms
+WaysOn text count p rest = (ms : List Line) (r : List ℕ) (q : Place) → text ≡ lines_then ms r → Leads Place.Begun ms q → count ≤ length ms
     → (ks : List Line) × (rest ≡ lines_then ks r) × Leads p ks q × (length ms ≡ count + length ks)
 
 -- the lines so far lead to the place, and each way of good lines through so many lines passes there
 pub record IsReading (text : List ℕ) (p : Place) (rest : List ℕ) (number : ℕ) : Type 0 where
   pub lines : List Line
   pub so_far : text ≡ lines_then lines rest
-  pub leads : Leads at.Begun lines p
+  pub leads : Leads Place.Begun lines p
   pub counted : number ≡ length lines + 1
   pub ways : WaysOn text (length lines) p rest
 
@@ -73,7 +63,7 @@ reading_more text p t rest raw behind number h cut lacks step =
     record {
       lines = more;
       so_far = h.so_far ∙ (ap (λ r. lines_then h.lines r) (cut ∙ ap (λ r. r ++ 10 ∷ behind) step.spelled) ∙ sym (lines_push h.lines l behind));
-      leads = subst (λ q. Leads at.Begun more q) (step.only l tt step.spelled step.may) (leads_more at.Begun h.lines p l h.leads step.may);
+      leads = subst (λ q. Leads Place.Begun more q) (step.only l tt step.spelled step.may) (leads_more Place.Begun h.lines p l h.leads step.may);
       counted = omega (arith, k, n);
       ways = subst (λ c. WaysOn text c t behind) e (ways_more text (length h.lines) p t rest raw behind h.ways cut lacks step);
     }
@@ -81,7 +71,7 @@ reading_more text p t rest raw behind number h cut lacks step =
 -- no good line comes next, nor is this the end
 pub record IsStuck (p : Place) (rest : List ℕ) : Type 0 where
   pub line : (l : Line) (more : List ℕ) → rest ≡ line_text l ++ 10 ∷ more → MayCome p l → ⊥
-  pub last : (s : Sheet) → rest ≡ [] → p ≡ at.Ended s → ⊥
+  pub last : (s : Sheet) → rest ≡ [] → p ≡ Place.Ended s → ⊥
 
 pub stuck_at_line : (p : Place) (rest raw behind : List ℕ) → rest ≡ raw ++ 10 ∷ behind → Lacks 10 raw → NoneOf Any p raw → IsStuck p rest
 stuck_at_line p rest raw behind cut lacks none = record {
@@ -89,7 +79,7 @@ stuck_at_line p rest raw behind cut lacks none = record {
   last = λ s e is. no_line raw behind (sym e ∙ cut);
 }
 
-pub stuck_at_end : (p : Place) (rest : List ℕ) → Lacks 10 rest → ((s : Sheet) → rest ≡ [] → p ≡ at.Ended s → ⊥) → IsStuck p rest
+pub stuck_at_end : (p : Place) (rest : List ℕ) → Lacks 10 rest → ((s : Sheet) → rest ≡ [] → p ≡ Place.Ended s → ⊥) → IsStuck p rest
 stuck_at_end p rest lacks f = record { line = λ l more e m. lacks_none 10 (line_text l) more rest lacks e; last = f }
 
 -- the cause of a fault
@@ -113,34 +103,34 @@ first_fault text p rest number h stuck = (
     one_on r q [] e l n = omega (arith, n)
     one_on r q (k ∷ ks) e l n = stuck.line k (lines_then ks r) e l.0
 
-    end_on : (s : Sheet) (ks : List Line) → rest ≡ lines_then ks [] → Leads p ks (at.Ended s) → ⊥
+    end_on : (s : Sheet) (ks : List Line) → rest ≡ lines_then ks [] → Leads p ks (Place.Ended s) → ⊥
     end_on s [] e l = stuck.last s e l
     end_on s (k ∷ ks) e l = stuck.line k (lines_then ks []) e l.0
 
     whole : (s : Sheet) → IsGoodThroughout text s → ⊥
     whole s k =
-        let n = as_many at.Begun p at.Begun (at.Ended s) h.lines k.0 rest h.leads k.2 (sym h.so_far ∙ k.1) in
-        let w = h.ways k.0 [] (at.Ended s) k.1 k.2 n in
+        let n = as_many Place.Begun p Place.Begun (Place.Ended s) h.lines k.0 rest h.leads k.2 (sym h.so_far ∙ k.1) in
+        let w = h.ways k.0 [] (Place.Ended s) k.1 k.2 n in
         end_on s w.0 w.1 w.2
 
 -- the sheet at the end
-pub read_all : (text : List ℕ) (s : Sheet) (rest : List ℕ) (number : ℕ) → IsReading text (at.Ended s) rest number → rest ≡ [] → IsRead text s
+pub read_all : (text : List ℕ) (s : Sheet) (rest : List ℕ) (number : ℕ) → IsReading text (Place.Ended s) rest number → rest ≡ [] → IsRead text s
 read_all text s rest number h e =
     let so_far : text ≡ lines_then h.lines [] = h.so_far ∙ ap (λ r. lines_then h.lines r) e in
-    let k = leads_tell at.Begun (at.Ended s) h.lines [] h.leads refl in
+    let k = leads_tell Place.Begun (Place.Ended s) h.lines [] h.leads refl in
     record {
       spells = record { good = k.good; spelled = k.spelled ∙ sym so_far };
       only = λ t g. let w = document_way t g.good in
-          let n = as_many at.Begun (at.Ended s) at.Begun (at.Ended t) h.lines w.0 rest h.leads w.2 (sym h.so_far ∙ (sym g.spelled ∙ w.1)) in
-          let v = h.ways w.0 [] (at.Ended t) (sym g.spelled ∙ w.1) w.2 n in
+          let n = as_many Place.Begun (Place.Ended s) Place.Begun (Place.Ended t) h.lines w.0 rest h.leads w.2 (sym h.so_far ∙ (sym g.spelled ∙ w.1)) in
+          let v = h.ways w.0 [] (Place.Ended t) (sym g.spelled ∙ w.1) w.2 n in
           last t v.0 v.1 v.2;
     }
   where
     sheet_of : Place → Sheet
-    sheet_of (at.Ended t) = t
+    sheet_of (Place.Ended t) = t
     sheet_of p = s
 
-    last : (t : Sheet) (ks : List Line) → rest ≡ lines_then ks [] → Leads (at.Ended s) ks (at.Ended t) → t ≡ s
+    last : (t : Sheet) (ks : List Line) → rest ≡ lines_then ks [] → Leads (Place.Ended s) ks (Place.Ended t) → t ≡ s
     last t [] f l = sym (ap sheet_of l)
     last t (k ∷ ks) f l = absurd l.0
 

@@ -1,13 +1,7 @@
 -- What the answers of the reader say.
 use Rattle.std.specs.Prelude.{◌≡◌, ℕ, ◌+◌, List, [], length}
-use Rattle.ps_text.specs.Document.{Spells}
-use Rattle.ps_text.specs.declared.sheet.Sheet.{Sheet}
-use Rattle.ps_read.specs.Lines.{Line, lines_then}
-use Rattle.ps_read.specs.Places.{Leads}
-use Rattle.ps_read.specs.declared.place.Place.{Place}
-use Rattle.ps_read.specs.declared.place.Place.TheVariants as at
-use Rattle.ps_read.specs.declared.reading.PagesError.{PagesError}
-use Rattle.ps_read.specs.declared.reading.PagesError.TheVariants.{NotPages, Memory}
+use Rattle.ps_text.specs.{Document.Spells, declared.sheet.Sheet.Sheet}
+use Rattle.ps_read.specs.{Lines.Line, Lines.lines_then, Places.Leads, declared.place.Place.Place, declared.reading.PagesError.PagesError, declared.reading.PagesError.TheVariants.NotPages, declared.reading.PagesError.TheVariants.Memory}
 
 -- a text begins with so many good lines
 pub record GoodLines (text : List ℕ) (count : ℕ) : Type 0 where
@@ -15,12 +9,12 @@ pub record GoodLines (text : List ℕ) (count : ℕ) : Type 0 where
   pub rest : List ℕ
   pub place : Place
   pub parted : text ≡ lines_then lines rest
-  pub leads : Leads at.Begun lines place
+  pub leads : Leads Place.Begun lines place
   pub counted : count ≡ length lines
 
 -- each line of the text is good, and the last is `%%EOF`: the lines tell this sheet
 abbrev pub IsGoodThroughout : List ℕ → Sheet → Type 0
-IsGoodThroughout text s = (ls : List Line) × (text ≡ lines_then ls []) × Leads at.Begun ls (at.Ended s)
+IsGoodThroughout text s = (ls : List Line) × (text ≡ lines_then ls []) × Leads Place.Begun ls (Place.Ended s)
 
 -- the lines before this one are good, and this one isn't, or isn't there; and the text doesn't end with `%%EOF`
 pub record IsFirstFault (text : List ℕ) (number : ℕ) : Type 0 where

@@ -1,9 +1,6 @@
 ghost use Rattle.std.specs.Prelude.{◌≡◌, ◌+◌, IfOk, Decides};
-ghost use Rattle.ps_text.specs.Document.{staff_line};
-ghost use Rattle.ps_text.specs.Range.{IsNumber};
-ghost use Rattle.ps_read.specs.Places.{IsUnderTop, MayEnd};
-ghost use Rattle.ps_read.specs.Steps.{IsStep, IsStepOf, IsJoinLine, IsItemLine, IsNoMark};
-ghost use Rattle.ps_read.specs.Titles.{IsMarkRead};
+ghost use Rattle.ps_text.specs.{Document.staff_line, Range.IsNumber};
+ghost use Rattle.ps_read.specs.{Places.IsUnderTop, Places.MayEnd, Steps.IsStep, Steps.IsStepOf, Steps.IsJoinLine, Steps.IsItemLine, Steps.IsNoMark, Titles.IsMarkRead};
 ghost use Rattle.ps_read.specs.declared.place.Place.TheVariants as at;
 
 use crate::lines::{Rules, is_staff_line, read_join, read_rules};

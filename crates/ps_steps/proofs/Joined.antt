@@ -1,9 +1,6 @@
 -- Steps and further steps.
-use Rattle.std.proofs.Common.{ℕ, ◌+◌, List}
-use Rattle.std.proofs.Math.Nat.{zero-add, suc-add}
-use Rattle.ps_steps.specs.Tokens.{Simple}
-use Rattle.ps_steps.specs.State.{State}
-use Rattle.ps_steps.specs.Steps.{Place, Steps, here, step}
+use Rattle.std.proofs.{Common.ℕ, Common.◌+◌, Common.List, Math.Nat.zero-add, Math.Nat.suc-add}
+use Rattle.ps_steps.specs.{Tokens.Simple, State.State, Steps.Place, Steps.Steps, Steps.here, Steps.step}
 
 abbrev pub now : List Simple → State → List ℕ → Place
 now ts m s = record { pending = ts; state = m; text = s }

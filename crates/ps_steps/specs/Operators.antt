@@ -3,18 +3,9 @@
 -- where it has too few operands (Stack), else where one is of another kind (Kind), and then for what is its own. A number
 -- with a point is an operand of `scale` alone.
 use Rattle.std.specs.Prelude.{ℕ, zero, suc, ℤ, pos, ◌+ℤ◌, ◌*ℤ◌, int_le, int_div, int_rem, Bool, true, false, ◌&&◌, List, [], ◌∷◌, ◌++◌, codes, Option, Some, None}
-use Rattle.std.specs.Str.{bytes_eq}
-use Rattle.std.specs.Map.{update}
-use Rattle.ps_steps.specs.declared.halt.Cause.{Cause}
-use Rattle.ps_steps.specs.declared.halt.Cause.TheVariants as causes
-use Rattle.ps_steps.specs.declared.paint.Seg.{Seg}
-use Rattle.ps_steps.specs.declared.paint.Seg.TheVariants as segs
-use Rattle.ps_steps.specs.declared.paint.Paint.{Paint}
-use Rattle.ps_steps.specs.declared.paint.Paint.TheVariants as paints
-use Rattle.ps_steps.specs.Tokens.{Simple, whole_token, pointed_token, far_token, words_token, label_token, name_token, font_token, Token, simple_token, procedure_token}
-use Rattle.ps_steps.specs.Near.{is_near}
-use Rattle.ps_steps.specs.Points.{current}
-use Rattle.ps_steps.specs.State.{Value, whole_value, pointed_value, words_value, label_value, body_value, font_value, Graphics, Names, State}
+use Rattle.std.specs.{Str.bytes_eq, Map.update}
+use Rattle.ps_steps.specs.{declared.halt.Cause.Cause, declared.paint.Seg.Seg, declared.paint.Paint.Paint, Tokens.Simple, Tokens.whole_token, Tokens.pointed_token, Tokens.far_token, Tokens.words_token, Tokens.label_token, Tokens.name_token, Tokens.font_token, Tokens.Token, Tokens.simple_token}
+use Rattle.ps_steps.specs.{Tokens.procedure_token, Near.is_near, Points.current, State.Value, State.whole_value, State.pointed_value, State.words_value, State.label_value, State.body_value, State.font_value, State.Graphics, State.Names, State.State}
 
 -- a token changes the state, and may call for the tokens of a procedure; or the run halts there
 pub data Outcome : Type 0 where
@@ -34,7 +25,7 @@ all_near (z ∷ zs) = is_near z && all_near zs
 
 -- Range where a number is past 2^60 in size
 abbrev pub in_range : List ℤ → Outcome → Outcome
-in_range zs o = elim (all_near zs) [ true ↦ o | false ↦ halted causes.Range ]
+in_range zs o = elim (all_near zs) [ true ↦ o | false ↦ halted Cause.Range ]
 
 -- a coordinate: the origin's plus the scale times it
 abbrev pub across : Graphics → ℤ → ℤ
@@ -46,8 +37,8 @@ above g y = g.y +ℤ (g.scale *ℤ y)
 -- two whole numbers, the second on top
 abbrev pub with_two : List Value → State → (ℤ → ℤ → State → Outcome) → Outcome
 with_two (whole_value y ∷ whole_value x ∷ st) m f = f x y (record m { stack = st })
-with_two (b ∷ a ∷ st) m f = halted causes.Kind
-with_two st m f = halted causes.Stack
+with_two (b ∷ a ∷ st) m f = halted Cause.Kind
+with_two st m f = halted Cause.Stack
 
 -- whether there are so many values
 abbrev pub has : ℕ → List Value → Bool
@@ -59,11 +50,11 @@ has (suc n) (v ∷ st) = has n st
 abbrev pub pick : List ℤ → ℕ → List Value → State → (List ℤ → State → Outcome) → Outcome
 pick zs zero st m f = f zs (record m { stack = st })
 pick zs (suc n) (whole_value z ∷ st) m f = pick (z ∷ zs) n st m f
-pick zs (suc n) _ m f = halted causes.Kind
+pick zs (suc n) _ m f = halted Cause.Kind
 
 -- six whole numbers, the last on top
 abbrev pub with_six : List Value → State → (List ℤ → State → Outcome) → Outcome
-with_six st m f = elim (has 6 st) [ true ↦ pick [] 6 st m f | false ↦ halted causes.Stack ]
+with_six st m f = elim (has 6 st) [ true ↦ pick [] 6 st m f | false ↦ halted Cause.Stack ]
 
 -- a piece at the end of the path
 abbrev pub add_seg : Seg → State → Outcome
@@ -71,41 +62,41 @@ add_seg s m = done (record m { now = record m.now { path = m.now.path ++ s ∷ [
 
 -- a piece to a point, where that is in range
 abbrev pub moveto : ℤ → ℤ → State → Outcome
-moveto x y m = in_range (across m.now x ∷ above m.now y ∷ []) (add_seg (segs.Move (across m.now x) (above m.now y)) m)
+moveto x y m = in_range (across m.now x ∷ above m.now y ∷ []) (add_seg (Seg.Move (across m.now x) (above m.now y)) m)
 
 -- there is a current point exactly where the path isn't empty
 abbrev pub at_point : List Seg → Outcome → Outcome
-at_point [] o = halted causes.Point
+at_point [] o = halted Cause.Point
 at_point (g ∷ path) o = o
 
 abbrev pub lineto : ℤ → ℤ → State → Outcome
-lineto x y m = at_point m.now.path (in_range (across m.now x ∷ above m.now y ∷ []) (add_seg (segs.Line (across m.now x) (above m.now y)) m))
+lineto x y m = at_point m.now.path (in_range (across m.now x ∷ above m.now y ∷ []) (add_seg (Seg.Line (across m.now x) (above m.now y)) m))
 
 abbrev pub curveto : List ℤ → State → Outcome
 curveto (a ∷ b ∷ c ∷ d ∷ x ∷ y ∷ []) m = at_point m.now.path
     (in_range (across m.now a ∷ above m.now b ∷ across m.now c ∷ above m.now d ∷ across m.now x ∷ above m.now y ∷ [])
-    (add_seg (segs.Curve (across m.now a) (above m.now b) (across m.now c) (above m.now d) (across m.now x) (above m.now y)) m))
-curveto _ m = halted causes.Stack
+    (add_seg (Seg.Curve (across m.now a) (above m.now b) (across m.now c) (above m.now d) (across m.now x) (above m.now y)) m))
+curveto _ m = halted Cause.Stack
 
 -- without a current point a Close does nothing
 abbrev pub close_path : List Seg → State → Outcome
 close_path [] m = done m
-close_path (g ∷ path) m = add_seg segs.Close m
+close_path (g ∷ path) m = add_seg Seg.Close m
 
 -- paints and empties the path
 abbrev pub painted : Paint → State → Outcome
 painted p m = done (record m { paints = m.paints ++ p ∷ []; now = record m.now { path = [] } })
 
 abbrev pub fill : State → Outcome
-fill m = painted (paints.Fill m.now.path) m
+fill m = painted (Paint.Fill m.now.path) m
 
 -- the width of lines is painted times the scale
 abbrev pub stroke : State → Outcome
-stroke m = let w = m.now.line *ℤ m.now.scale in in_range (w ∷ []) (painted (paints.Stroke w m.now.path) m)
+stroke m = let w = m.now.line *ℤ m.now.scale in in_range (w ∷ []) (painted (Paint.Stroke w m.now.path) m)
 
 -- the path and the graphics state that were kept last come back
 abbrev pub grestore : List Graphics → State → Outcome
-grestore [] m = halted causes.Restore
+grestore [] m = halted Cause.Restore
 grestore (g ∷ gs) m = done (record m { now = g; saved = gs })
 
 -- the origin moves by the scale times two numbers
@@ -125,54 +116,54 @@ same a b = int_le a b && int_le b a
 abbrev pub scaled : ℤ → State → Outcome
 scaled p m = elim (same (int_rem p (pos 100)) (pos 0) && int_le (pos 100) p) [
   | true ↦ in_range (int_div p (pos 100) ∷ []) (done (record m { now = record m.now { scale = int_div p (pos 100) } }))
-  | false ↦ halted causes.Scale
+  | false ↦ halted Cause.Scale
 ]
 
 -- both factors, in hundredths, where they are numbers
 abbrev pub with_factors : Option ℤ → Option ℤ → State → Outcome
-with_factors (Some a) (Some b) m = elim (same a b) [ true ↦ scaled (m.now.scale *ℤ a) m | false ↦ halted causes.Scale ]
-with_factors _ _ m = halted causes.Kind
+with_factors (Some a) (Some b) m = elim (same a b) [ true ↦ scaled (m.now.scale *ℤ a) m | false ↦ halted Cause.Scale ]
+with_factors _ _ m = halted Cause.Kind
 
 -- the scale is multiplied by a factor, which stands there twice
 abbrev pub scale : List Value → State → Outcome
 scale (b ∷ a ∷ st) m = with_factors (factor a) (factor b) (record m { stack = st })
-scale _ m = halted causes.Stack
+scale _ m = halted Cause.Stack
 
 abbrev pub setlinewidth : List Value → State → Outcome
 setlinewidth (whole_value z ∷ st) m = done (record m { stack = st; now = record m.now { line = z } })
-setlinewidth (v ∷ st) m = halted causes.Kind
-setlinewidth [] m = halted causes.Stack
+setlinewidth (v ∷ st) m = halted Cause.Kind
+setlinewidth [] m = halted Cause.Stack
 
 -- the font that was made, at size 1
 abbrev pub findfont : List Value → State → Outcome
 findfont (label_value name ∷ st) m = elim (m.made && bytes_eq name (codes "EngFont")) [
   | true ↦ done (record m { stack = font_value (pos 1) ∷ st })
-  | false ↦ halted causes.Name
+  | false ↦ halted Cause.Name
 ]
-findfont (v ∷ st) m = halted causes.Kind
-findfont [] m = halted causes.Stack
+findfont (v ∷ st) m = halted Cause.Kind
+findfont [] m = halted Cause.Stack
 
 abbrev pub scalefont : List Value → State → Outcome
 scalefont (whole_value z ∷ font_value s ∷ st) m = in_range ((s *ℤ z) ∷ []) (done (record m { stack = font_value (s *ℤ z) ∷ st }))
-scalefont (b ∷ a ∷ st) m = halted causes.Kind
-scalefont _ m = halted causes.Stack
+scalefont (b ∷ a ∷ st) m = halted Cause.Kind
+scalefont _ m = halted Cause.Stack
 
 abbrev pub setfont : List Value → State → Outcome
 setfont (font_value s ∷ st) m = done (record m { stack = st; now = record m.now { font = s } })
-setfont (v ∷ st) m = halted causes.Kind
-setfont [] m = halted causes.Stack
+setfont (v ∷ st) m = halted Cause.Kind
+setfont [] m = halted Cause.Stack
 
 -- words are shown at the current point, in the size of the font times the scale, and the path stays as it is
 abbrev pub shown_at : List ℕ → Option (ℤ × ℤ) → State → Outcome
-shown_at words None m = halted causes.Point
+shown_at words None m = halted Cause.Point
 shown_at words (Some p) m =
     let size = m.now.font *ℤ m.now.scale in
-    in_range (size ∷ []) (done (record m { paints = m.paints ++ paints.Show size p.0 p.1 words ∷ [] }))
+    in_range (size ∷ []) (done (record m { paints = m.paints ++ Paint.Show size p.0 p.1 words ∷ [] }))
 
 abbrev pub show : List Value → State → Outcome
 show (words_value words ∷ st) m = shown_at words (current m.now.path) (record m { stack = st })
-show (v ∷ st) m = halted causes.Kind
-show [] m = halted causes.Stack
+show (v ∷ st) m = halted Cause.Kind
+show [] m = halted Cause.Stack
 
 -- a later definition replaces an earlier one
 abbrev pub defined : List ℕ → List Simple → Names → Names
@@ -180,8 +171,8 @@ defined name body names = update bytes_eq names name (Some body)
 
 abbrev pub define : List Value → State → Outcome
 define (body_value body ∷ label_value name ∷ st) m = done (record m { stack = st; names = defined name body m.names })
-define (b ∷ a ∷ st) m = halted causes.Kind
-define _ m = halted causes.Stack
+define (b ∷ a ∷ st) m = halted Cause.Kind
+define _ m = halted Cause.Stack
 
 -- a page ends, and the rest of the state stays as it is
 abbrev pub showpage : State → Outcome
@@ -258,7 +249,7 @@ operated show_op m = show m.stack m
 operated showpage_op m = showpage m
 
 abbrev pub operated_if : Option Operator → State → Outcome
-operated_if None m = halted causes.Name
+operated_if None m = halted Cause.Name
 operated_if (Some o) m = operated o m
 
 -- a name calls the procedure that it was given, or else is an operator
@@ -269,7 +260,7 @@ called None name m = operated_if (operator_named name) m
 abbrev pub executed : Token → State → Outcome
 executed (simple_token (whole_token z)) m = push (whole_value z) m
 executed (simple_token (pointed_token z)) m = push (pointed_value z) m
-executed (simple_token far_token) m = halted causes.Range
+executed (simple_token far_token) m = halted Cause.Range
 executed (simple_token (words_token words)) m = push (words_value words) m
 executed (simple_token (label_token name)) m = push (label_value name) m
 executed (simple_token (name_token name)) m = called (m.names name) name m

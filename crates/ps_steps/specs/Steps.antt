@@ -1,13 +1,7 @@
 -- Runs: the steps of the machine, and its answers.
 use Rattle.std.specs.Prelude.{◌≡◌, ℕ, zero, suc, ◌<◌, ◌≤◌, false, List, [], ◌∷◌, ◌++◌}
-use Rattle.ps_steps.specs.declared.halt.Cause.{Cause}
-use Rattle.ps_steps.specs.declared.halt.Cause.TheVariants as causes
-use Rattle.ps_steps.specs.declared.halt.MachineError.{MachineError}
-use Rattle.ps_steps.specs.declared.halt.MachineError.TheVariants.{Halt, Memory}
-use Rattle.ps_steps.specs.declared.paint.PagePaint.{PagePaint}
-use Rattle.ps_steps.specs.Tokens.{Simple, Token, simple_token, TokenAt, NoToken, passed}
-use Rattle.ps_steps.specs.State.{State, first_state}
-use Rattle.ps_steps.specs.Operators.{went, halted, executed}
+use Rattle.ps_steps.specs.{declared.halt.Cause.Cause, declared.halt.MachineError.MachineError, declared.paint.PagePaint.PagePaint, Tokens.Simple, Tokens.Token, Tokens.simple_token, Tokens.TokenAt, Tokens.NoToken, Tokens.passed, State.State, State.first_state, Operators.went, Operators.halted}
+use Rattle.ps_steps.specs.{Operators.executed, declared.halt.MachineError.TheVariants.Halt, declared.halt.MachineError.TheVariants.Memory}
 
 -- where a run stands: the tokens of procedures that are still to be executed, the state, and the text that is left,
 -- which begins with no blank and no comment
@@ -79,7 +73,7 @@ pub record Paints (text : List ℕ) (budget : ℕ) (pages : List PagePaint) : Ty
 -- why a run may not go on: the bytes begin no token; or the budget is used up; or the token can't be executed
 pub data Cannot (budget count : ℕ) (p : Place) : Cause → Type 0 where
   unreadable : (cause : Cause) → Unreadable p cause → Cannot budget count p cause
-  used_up : count ≡ budget → Ready p → Cannot budget count p causes.Budget
+  used_up : count ≡ budget → Ready p → Cannot budget count p Cause.Budget
   stuck : (cause : Cause) → count < budget → Stuck p cause → Cannot budget count p cause
 
 pub record Halts (text : List ℕ) (budget token : ℕ) (cause : Cause) : Type 0 where

@@ -6,18 +6,13 @@
 -- is one token. A procedure from its `{` to its `}` is one token, and has no other procedure in it.
 use Prim.Native.Char.{code}
 use Rattle.std.specs.Prelude.{◌≡◌, ℕ, ℤ, pos, neg_ℤ, ◌-◌, ◌≤◌, Bool, true, false, ◌&&◌, ◌||◌, not, ◌==◌, IsTrue, if◌then◌else◌, List, [], ◌∷◌, ◌++◌, length, take, drop, codes, Option, Some, None}
-use Rattle.std.specs.List.{list_all, flat_map}
-use Rattle.std.specs.Str.Parse.{digits_value}
+use Rattle.std.specs.{List.list_all, List.flat_map, Str.Parse.digits_value}
 use Rattle.mus_units.specs.Bytes.{is_digit, is_letter}
-use Rattle.ps_text.specs.Fields.{shown}
-use Rattle.ps_text.specs.Range.{is_shown}
-use Rattle.ps_steps.specs.Near.{is_near, is_near_hundredths}
-pub use Rattle.ps_steps.specs.declared.token.Simple.{Simple}
+use Rattle.ps_text.specs.{Fields.shown, Range.is_shown}
+use Rattle.ps_steps.specs.{Near.is_near, Near.is_near_hundredths, declared.halt.Cause.Cause}
+pub use Rattle.ps_steps.specs.{declared.token.Simple.Simple, declared.token.Token.Token}
 pub use Rattle.ps_steps.specs.declared.token.Simple.TheVariants.{Whole as whole_token, Pointed as pointed_token, Far as far_token, Words as words_token, Label as label_token, Name as name_token, Font as font_token}
-pub use Rattle.ps_steps.specs.declared.token.Token.{Token}
 pub use Rattle.ps_steps.specs.declared.token.Token.TheVariants.{Simple as simple_token, Procedure as procedure_token}
-use Rattle.ps_steps.specs.declared.halt.Cause.{Cause}
-use Rattle.ps_steps.specs.declared.halt.Cause.TheVariants as causes
 
 -- space, tab, CR and LF
 abbrev pub is_blank : ℕ → Bool
@@ -139,15 +134,15 @@ IsFont s rest = s ≡ font_line ++ rest
 pub data Front (s : List ℕ) : Read → Type 0 where
   font_front : (rest : List ℕ) → IsFont s rest → Front s (found font_token rest)
   label_front : (t w rest : List ℕ) → s ≡ code "/" ∷ t → ((r : List ℕ) → IsFont s r → ⊥) → IsWord t w rest → is_name w ≡ true → Front s (found (label_token w) rest)
-  no_label : (t : List ℕ) → s ≡ code "/" ∷ t → ((r : List ℕ) → IsFont s r → ⊥) → ((w rest : List ℕ) → IsWord t w rest → is_name w ≡ true → ⊥) → Front s (unread causes.BadToken)
+  no_label : (t : List ℕ) → s ≡ code "/" ∷ t → ((r : List ℕ) → IsFont s r → ⊥) → ((w rest : List ℕ) → IsWord t w rest → is_name w ≡ true → ⊥) → Front s (unread Cause.BadToken)
   string_front : (t words rest : List ℕ) → s ≡ code "(" ∷ t → IsString t words rest → Front s (found (words_token words) rest)
-  open_string : (t : List ℕ) → s ≡ code "(" ∷ t → IsOpen t → Front s (unread causes.Unclosed)
-  no_string : (t : List ℕ) → s ≡ code "(" ∷ t → ((words rest : List ℕ) → IsString t words rest → ⊥) → (IsOpen t → ⊥) → Front s (unread causes.BadToken)
+  open_string : (t : List ℕ) → s ≡ code "(" ∷ t → IsOpen t → Front s (unread Cause.Unclosed)
+  no_string : (t : List ℕ) → s ≡ code "(" ∷ t → ((words rest : List ℕ) → IsString t words rest → ⊥) → (IsOpen t → ⊥) → Front s (unread Cause.BadToken)
   opening_front : (rest : List ℕ) → s ≡ code "{" ∷ rest → Front s (opening rest)
   closing_front : (rest : List ℕ) → s ≡ code "}" ∷ rest → Front s (closing rest)
-  stray : (rest : List ℕ) → s ≡ code ")" ∷ rest → Front s (unread causes.BadToken)
+  stray : (rest : List ℕ) → s ≡ code ")" ∷ rest → Front s (unread Cause.BadToken)
   word_front : (w rest : List ℕ) (t : Simple) → IsWord s w rest → word_token w ≡ Some t → Front s (found t rest)
-  no_word : (w rest : List ℕ) → IsWord s w rest → word_token w ≡ None → Front s (unread causes.BadToken)
+  no_word : (w rest : List ℕ) → IsWord s w rest → word_token w ≡ None → Front s (unread Cause.BadToken)
 
 -- the tokens of a procedure, from behind its `{`, and what stands behind its `}`
 pub data Body : List ℕ → List Simple → List ℕ → Type 0 where
@@ -156,8 +151,8 @@ pub data Body : List ℕ → List Simple → List ℕ → Type 0 where
 
 -- why it is none
 pub data NoBody : List ℕ → Cause → Type 0 where
-  unclosed : (s : List ℕ) → passed false s ≡ [] → NoBody s causes.Unclosed
-  nested : (s rest : List ℕ) → Front (passed false s) (opening rest) → NoBody s causes.BadToken
+  unclosed : (s : List ℕ) → passed false s ≡ [] → NoBody s Cause.Unclosed
+  nested : (s rest : List ℕ) → Front (passed false s) (opening rest) → NoBody s Cause.BadToken
   unread_within : (s : List ℕ) (cause : Cause) → Front (passed false s) (unread cause) → NoBody s cause
   later : (s r : List ℕ) (t : Simple) (cause : Cause) → Front (passed false s) (found t r) → NoBody r cause → NoBody s cause
 
@@ -169,5 +164,5 @@ pub data TokenAt (s : List ℕ) : Token → List ℕ → Type 0 where
 -- none does
 pub data NoToken (s : List ℕ) : Cause → Type 0 where
   unread_at : (cause : Cause) → Front s (unread cause) → NoToken s cause
-  closing_at : (r : List ℕ) → Front s (closing r) → NoToken s causes.Unclosed
+  closing_at : (r : List ℕ) → Front s (closing r) → NoToken s Cause.Unclosed
   no_body : (r : List ℕ) (cause : Cause) → Front s (opening r) → NoBody r cause → NoToken s cause

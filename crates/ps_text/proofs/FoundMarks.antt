@@ -1,32 +1,14 @@
 -- A mark is found again from its numbers and its name.
 use Rattle.std.proofs.Common.{Result, Ok, Err, IfOk, cond, int_div, ◌<◌, ◌≤◌, ◌^◌, suc, ◌≡◌, refl, sym, ◌∙◌, subst, ℕ, ℤ, pos, negsuc, ◌+ℤ◌, ◌-ℤ◌, ◌≤ℤ◌, Bool, true, false, not, ◌&&◌, List, [], ◌∷◌, ◌++◌, append_assoc, length, codes, Option, Some, None, IsTrue, arith}
-use Rattle.std.proofs.lemmas.Int.{ints}
-use Rattle.std.proofs.lemmas.Fmt.{decimal_is_IsNumeral}
-use Rattle.std.proofs.lemmas.Bool.{not-true, and_parts}
-use Rattle.std.specs.Fmt.{decimal, signed_decimal}
-use Rattle.std.specs.Str.Parse.{AllDigits}
-use Rattle.std.specs.Int.RustNames.{FitsSigned}
+use Rattle.std.{proofs.lemmas.Int.ints, proofs.lemmas.Fmt.decimal_is_IsNumeral, proofs.lemmas.Bool.not-true, proofs.lemmas.Bool.and_parts, specs.Fmt.decimal, specs.Fmt.signed_decimal, specs.Str.Parse.AllDigits, specs.Int.RustNames.FitsSigned, specs.Str.bytes_eq, specs.List.list_all}
+use Rattle.std.specs.List.{AllByRecursion, flat_map}
 use lib.Signed.{mag}
 use mir.Syntax.{w64}
-use Rattle.ps_text.specs.Fields.{shown, in_parentheses}
-use Rattle.std.specs.Str.{bytes_eq}
-use Rattle.std.specs.List.{list_all, AllByRecursion, flat_map}
-use Rattle.mus_units.specs.declared.glyph.Glyph.{Glyph}
-use Rattle.mus_units.specs.declared.glyph.Glyph.TheVariants as glyphs
-use Rattle.mus_units.specs.declared.glyph.Size.{Size}
-use Rattle.mus_units.specs.declared.glyph.Size.TheVariants as sizes
-use Rattle.mus_units.specs.declared.glyph.Way.{Way}
-use Rattle.mus_units.specs.declared.glyph.Way.TheVariants as ways
-use Rattle.glyph_paths.specs.Names.{glyph_name, glyphs_in_order}
-use Rattle.glyph_paths.specs.Procedure.{numbers}
-use Rattle.ps_text.specs.declared.marks.PageMark.{PageMark}
-use Rattle.ps_text.specs.declared.marks.PageMark.TheVariants as marks
-use Rattle.ps_text.specs.Names.{size_name, way_name}
-use Rattle.ps_text.specs.Range.{IsNumber, IsOffset, IsPageMark, is_shown}
-use Rattle.ps_text.specs.Line.{mark_line, glyph_line, stem_line, beam_line, arc_line, words_line, points, ends_of, quarter}
-use Rattle.ps_text.specs.Scanning.{is_field}
-use Rattle.ps_text.proofs.Taken.{numbers_cons}
-use Rattle.ps_text.specs.Reading.{is_small, glyph_named, glyph_at, glyph_from, words_at, words_from, stem_at, stem_from, offset_from, beam_from, arc_from, mark_from}
+use Rattle.ps_text.specs.{Fields.shown, Fields.in_parentheses, declared.marks.PageMark.PageMark, Names.size_name, Names.way_name, Range.IsNumber, Range.IsOffset, Range.IsPageMark, Range.is_shown, Line.mark_line, Line.glyph_line, Line.stem_line, Line.beam_line, Line.arc_line, Line.words_line}
+use Rattle.ps_text.specs.{Line.points, Line.ends_of, Line.quarter, Scanning.is_field, Reading.is_small, Reading.glyph_named, Reading.glyph_at, Reading.glyph_from, Reading.words_at, Reading.words_from, Reading.stem_at, Reading.stem_from, Reading.offset_from, Reading.beam_from, Reading.arc_from}
+use Rattle.ps_text.{specs.Reading.mark_from, proofs.Taken.numbers_cons}
+use Rattle.mus_units.specs.{declared.glyph.Glyph.Glyph, declared.glyph.Size.Size, declared.glyph.Way.Way}
+use Rattle.glyph_paths.specs.{Names.glyph_name, Names.glyphs_in_order, Procedure.numbers}
 
 pub small_low : (z : ℤ) → is_small z ≡ true → negsuc 2147483647 ≤ℤ z
 unfolding is_small
@@ -67,12 +49,12 @@ is_no_other name = not (bytes_eq name (codes "st")) && (not (bytes_eq name (code
 
 no_other : (g : Glyph) → is_no_other (glyph_name g) ≡ true
 unfolding is_no_other
-no_other glyphs.Hb = refl
+no_other Glyph.Hb = refl
 no_other _ = refl
 
 pub named : (g : Glyph) → glyph_named (glyph_name g) ≡ Some g
 unfolding glyph_named glyphs_in_order
-named glyphs.Hb = refl
+named Glyph.Hb = refl
 named _ = refl
 
 by_glyph : (y : ℤ) (zs : List ℤ) (name : List ℕ) → is_no_other name ≡ true → mark_from y zs name ≡ glyph_from zs (glyph_named name)
@@ -84,11 +66,11 @@ by_glyph y zs name h =
     let d = and_parts (not (bytes_eq name (codes "bd"))) (not (bytes_eq name (codes "gb"))) c.1 in
     rw (not-true _ a.0, not-true _ b.0, not-true _ c.0, not-true _ d.0, not-true _ d.1) refl
 
-pub glyph_found : (y x dx dy : ℤ) (g : Glyph) → IsOffset dx → IsOffset dy → mark_from y (dx ∷ dy ∷ x ∷ y ∷ []) (glyph_name g) ≡ Some (marks.Glyph g x dx dy)
+pub glyph_found : (y x dx dy : ℤ) (g : Glyph) → IsOffset dx → IsOffset dy → mark_from y (dx ∷ dy ∷ x ∷ y ∷ []) (glyph_name g) ≡ Some (PageMark.Glyph g x dx dy)
 unfolding glyph_at
 glyph_found y x dx dy g a b = by_glyph y (dx ∷ dy ∷ x ∷ y ∷ []) (glyph_name g) (no_other g) ∙ rw (named g, offset_small dx a, offset_small dy b) refl
 
-pub stem_found : (y x dx from to : ℤ) → IsOffset dx → IsOffset from → IsOffset to → mark_from y (dx ∷ to ∷ dx ∷ from ∷ x ∷ y ∷ []) (codes "st") ≡ Some (marks.Stem x dx from to)
+pub stem_found : (y x dx from to : ℤ) → IsOffset dx → IsOffset from → IsOffset to → mark_from y (dx ∷ to ∷ dx ∷ from ∷ x ∷ y ∷ []) (codes "st") ≡ Some (PageMark.Stem x dx from to)
 unfolding mark_from stem_from stem_at
 stem_found y x dx from to a b c = rw (offset_small dx a, offset_small from b, offset_small to c) refl
 
@@ -96,25 +78,25 @@ offset_back : (y z : ℤ) → IsOffset z → offset_from (y +ℤ z) y ≡ Some z
 unfolding offset_from
 offset_back y z h = rw (back y z, offset_small z h) refl
 
-beam_back : (way : Way) (y x1 x2 from to p q r s : ℤ) → IsOffset from → IsOffset to → beam_from way y (p ∷ q ∷ r ∷ s ∷ x2 ∷ (y +ℤ to) ∷ x1 ∷ (y +ℤ from) ∷ []) ≡ Some (marks.Beam way x1 x2 from to)
+beam_back : (way : Way) (y x1 x2 from to p q r s : ℤ) → IsOffset from → IsOffset to → beam_from way y (p ∷ q ∷ r ∷ s ∷ x2 ∷ (y +ℤ to) ∷ x1 ∷ (y +ℤ from) ∷ []) ≡ Some (PageMark.Beam way x1 x2 from to)
 unfolding beam_from
 beam_back way y x1 x2 from to p q r s a b = rw (offset_back y from a, offset_back y to b) refl
 
-pub beam_found : (way : Way) (y x1 x2 from to p q r s : ℤ) → IsOffset from → IsOffset to → mark_from y (p ∷ q ∷ r ∷ s ∷ x2 ∷ (y +ℤ to) ∷ x1 ∷ (y +ℤ from) ∷ []) (way_name way) ≡ Some (marks.Beam way x1 x2 from to)
+pub beam_found : (way : Way) (y x1 x2 from to p q r s : ℤ) → IsOffset from → IsOffset to → mark_from y (p ∷ q ∷ r ∷ s ∷ x2 ∷ (y +ℤ to) ∷ x1 ∷ (y +ℤ from) ∷ []) (way_name way) ≡ Some (PageMark.Beam way x1 x2 from to)
 unfolding mark_from
-beam_found ways.Up y x1 x2 from to p q r s a b = beam_back ways.Up y x1 x2 from to p q r s a b
-beam_found ways.Down y x1 x2 from to p q r s a b = beam_back ways.Down y x1 x2 from to p q r s a b
-beam_found ways.Grace y x1 x2 from to p q r s a b = beam_back ways.Grace y x1 x2 from to p q r s a b
+beam_found Way.Up y x1 x2 from to p q r s a b = beam_back Way.Up y x1 x2 from to p q r s a b
+beam_found Way.Down y x1 x2 from to p q r s a b = beam_back Way.Down y x1 x2 from to p q r s a b
+beam_found Way.Grace y x1 x2 from to p q r s a b = beam_back Way.Grace y x1 x2 from to p q r s a b
 
 pub arc_found : (y x1 x2 from to bulge p q s : ℤ) → IsOffset from → IsOffset to → IsOffset bulge
-    → mark_from y (p ∷ ((y +ℤ from) +ℤ bulge) ∷ q ∷ s ∷ x2 ∷ (y +ℤ to) ∷ x1 ∷ (y +ℤ from) ∷ []) (codes "ac") ≡ Some (marks.Arc x1 x2 from to bulge)
+    → mark_from y (p ∷ ((y +ℤ from) +ℤ bulge) ∷ q ∷ s ∷ x2 ∷ (y +ℤ to) ∷ x1 ∷ (y +ℤ from) ∷ []) (codes "ac") ≡ Some (PageMark.Arc x1 x2 from to bulge)
 unfolding mark_from arc_from
 arc_found y x1 x2 from to bulge p q s a b c = rw (offset_back y from a, offset_back y to b, offset_back (y +ℤ from) bulge c) refl
 
-pub words_found : (size : Size) (y x dx dy : ℤ) (words : List ℕ) → IsOffset dx → IsOffset dy → words_from words (dx ∷ dy ∷ x ∷ y ∷ []) (size_name size) ≡ Some (marks.Words size x dx dy words)
+pub words_found : (size : Size) (y x dx dy : ℤ) (words : List ℕ) → IsOffset dx → IsOffset dy → words_from words (dx ∷ dy ∷ x ∷ y ∷ []) (size_name size) ≡ Some (PageMark.Words size x dx dy words)
 unfolding words_from words_at
-words_found sizes.Small y x dx dy words a b = rw (offset_small dx a, offset_small dy b) refl
-words_found sizes.Big y x dx dy words a b = rw (offset_small dx a, offset_small dy b) refl
+words_found Size.Small y x dx dy words a b = rw (offset_small dx a, offset_small dy b) refl
+words_found Size.Big y x dx dy words a b = rw (offset_small dx a, offset_small dy b) refl
 
 -- no number begins with an opening parenthesis
 digits_open : (xs t rest : List ℕ) → 1 ≤ length xs → AllDigits 10 xs → xs ++ t ≡ 40 ∷ rest → ⊥
@@ -136,27 +118,27 @@ numbers_open z zs name rest h e = number_open z (32 ∷ (numbers zs ++ name)) re
 
 -- the numbers and the name of a mark that has no words
 abbrev mark_numbers : ℤ → PageMark → List ℤ
-mark_numbers y (marks.Glyph glyph x dx dy) = dx ∷ dy ∷ x ∷ y ∷ []
-mark_numbers y (marks.Words size x dx dy words) = dx ∷ dy ∷ x ∷ y ∷ []
-mark_numbers y (marks.Stem x dx from to) = dx ∷ to ∷ dx ∷ from ∷ x ∷ y ∷ []
-mark_numbers y (marks.Beam way x1 x2 from to) = x1 ∷ ((y +ℤ from) +ℤ pos 250) ∷ x2 ∷ ((y +ℤ to) +ℤ pos 250) ∷ x2 ∷ (y +ℤ to) ∷ x1 ∷ (y +ℤ from) ∷ []
-mark_numbers y (marks.Arc x1 x2 from to bulge) = (x1 +ℤ quarter x1 x2) ∷ ((y +ℤ from) +ℤ bulge) ∷ (x2 -ℤ quarter x1 x2) ∷ ((y +ℤ to) +ℤ bulge) ∷ x2 ∷ (y +ℤ to) ∷ x1 ∷ (y +ℤ from) ∷ []
+mark_numbers y (PageMark.Glyph glyph x dx dy) = dx ∷ dy ∷ x ∷ y ∷ []
+mark_numbers y (PageMark.Words size x dx dy words) = dx ∷ dy ∷ x ∷ y ∷ []
+mark_numbers y (PageMark.Stem x dx from to) = dx ∷ to ∷ dx ∷ from ∷ x ∷ y ∷ []
+mark_numbers y (PageMark.Beam way x1 x2 from to) = x1 ∷ ((y +ℤ from) +ℤ pos 250) ∷ x2 ∷ ((y +ℤ to) +ℤ pos 250) ∷ x2 ∷ (y +ℤ to) ∷ x1 ∷ (y +ℤ from) ∷ []
+mark_numbers y (PageMark.Arc x1 x2 from to bulge) = (x1 +ℤ quarter x1 x2) ∷ ((y +ℤ from) +ℤ bulge) ∷ (x2 -ℤ quarter x1 x2) ∷ ((y +ℤ to) +ℤ bulge) ∷ x2 ∷ (y +ℤ to) ∷ x1 ∷ (y +ℤ from) ∷ []
 
 abbrev mark_name : PageMark → List ℕ
-mark_name (marks.Glyph glyph x dx dy) = glyph_name glyph
-mark_name (marks.Words size x dx dy words) = size_name size
-mark_name (marks.Stem x dx from to) = codes "st"
-mark_name (marks.Beam way x1 x2 from to) = way_name way
-mark_name (marks.Arc x1 x2 from to bulge) = codes "ac"
+mark_name (PageMark.Glyph glyph x dx dy) = glyph_name glyph
+mark_name (PageMark.Words size x dx dy words) = size_name size
+mark_name (PageMark.Stem x dx from to) = codes "st"
+mark_name (PageMark.Beam way x1 x2 from to) = way_name way
+mark_name (PageMark.Arc x1 x2 from to bulge) = codes "ac"
 
 abbrev IsWordless : PageMark → Type 0
-IsWordless (marks.Words size x dx dy words) = ⊥
+IsWordless (PageMark.Words size x dx dy words) = ⊥
 IsWordless _ = Unit {0}
 
 wordless_line : (y : ℤ) (m : PageMark) → IsWordless m → mark_line y m ≡ numbers (mark_numbers y m) ++ mark_name m
 unfolding glyph_line stem_line beam_line arc_line points ends_of
-wordless_line y (marks.Glyph glyph x dx dy) h = refl
-wordless_line y (marks.Words size x dx dy words) h = absurd h
+wordless_line y (PageMark.Glyph glyph x dx dy) h = refl
+wordless_line y (PageMark.Words size x dx dy words) h = absurd h
 wordless_line y _ h = refl
 
 -- a quarter of a distance is within it
@@ -165,34 +147,34 @@ quarter_in (pos n) h = (omega (arith, ints), omega (arith, ints))
 quarter_in (negsuc n) h = absurd (omega (arith, ints))
 
 wordless_numbers : (y : ℤ) (m : PageMark) → IsPageMark y m → AllByRecursion IsNumber (mark_numbers y m)
-wordless_numbers y (marks.Glyph glyph x dx dy) h = (offset_number dx h.across, (offset_number dy h.above, (h.anchor, (h.base, tt))))
-wordless_numbers y (marks.Words size x dx dy words) h = (offset_number dx h.0.across, (offset_number dy h.0.above, (h.0.anchor, (h.0.base, tt))))
-wordless_numbers y (marks.Stem x dx from to) h =
+wordless_numbers y (PageMark.Glyph glyph x dx dy) h = (offset_number dx h.across, (offset_number dy h.above, (h.anchor, (h.base, tt))))
+wordless_numbers y (PageMark.Words size x dx dy words) h = (offset_number dx h.0.across, (offset_number dy h.0.above, (h.0.anchor, (h.0.base, tt))))
+wordless_numbers y (PageMark.Stem x dx from to) h =
     (offset_number dx h.start.across, (offset_number to h.end, (offset_number dx h.start.across, (offset_number from h.start.above, (h.start.anchor, (h.start.base, tt))))))
-wordless_numbers y (marks.Beam way x1 x2 from to) h =
+wordless_numbers y (PageMark.Beam way x1 x2 from to) h =
     (h.stretch.first, (h.left.above, (h.stretch.last, (h.right.above, (h.stretch.last, (h.right.point, (h.stretch.first, (h.left.point, tt))))))))
-wordless_numbers y (marks.Arc x1 x2 from to bulge) h =
+wordless_numbers y (PageMark.Arc x1 x2 from to bulge) h =
     let q = quarter_in (x2 -ℤ x1) (omega (arith, ints, h.stretch.rising)) in
     let inner : IsNumber (x1 +ℤ quarter x1 x2) = record { low = omega (arith, ints, q.0, h.stretch.first.low); high = omega (arith, ints, q.1, h.stretch.last.high) } in
     let outer : IsNumber (x2 -ℤ quarter x1 x2) = record { low = omega (arith, ints, q.1, h.stretch.first.low); high = omega (arith, ints, q.0, h.stretch.last.high) } in
     (inner, (h.left.above, (outer, (h.right.above, (h.stretch.last, (h.right.point, (h.stretch.first, (h.left.point, tt))))))))
 
 glyph_is_field : (g : Glyph) → list_all is_field (glyph_name g) ≡ true
-glyph_is_field glyphs.Hb = refl
+glyph_is_field Glyph.Hb = refl
 glyph_is_field _ = refl
 
 name_is_field : (m : PageMark) → list_all is_field (mark_name m) ≡ true
-name_is_field (marks.Glyph glyph x dx dy) = glyph_is_field glyph
-name_is_field (marks.Words sizes.Small x dx dy words) = refl
-name_is_field (marks.Beam ways.Up x1 x2 from to) = refl
+name_is_field (PageMark.Glyph glyph x dx dy) = glyph_is_field glyph
+name_is_field (PageMark.Words Size.Small x dx dy words) = refl
+name_is_field (PageMark.Beam Way.Up x1 x2 from to) = refl
 name_is_field _ = refl
 
 wordless_found : (y : ℤ) (m : PageMark) → IsWordless m → IsPageMark y m → mark_from y (mark_numbers y m) (mark_name m) ≡ Some m
-wordless_found y (marks.Glyph glyph x dx dy) w h = glyph_found y x dx dy glyph h.across h.above
-wordless_found y (marks.Words size x dx dy words) w h = absurd w
-wordless_found y (marks.Stem x dx from to) w h = stem_found y x dx from to h.start.across h.start.above h.end
-wordless_found y (marks.Beam way x1 x2 from to) w h = beam_found way y x1 x2 from to x1 ((y +ℤ from) +ℤ pos 250) x2 ((y +ℤ to) +ℤ pos 250) h.left.offset h.right.offset
-wordless_found y (marks.Arc x1 x2 from to bulge) w h =
+wordless_found y (PageMark.Glyph glyph x dx dy) w h = glyph_found y x dx dy glyph h.across h.above
+wordless_found y (PageMark.Words size x dx dy words) w h = absurd w
+wordless_found y (PageMark.Stem x dx from to) w h = stem_found y x dx from to h.start.across h.start.above h.end
+wordless_found y (PageMark.Beam way x1 x2 from to) w h = beam_found way y x1 x2 from to x1 ((y +ℤ from) +ℤ pos 250) x2 ((y +ℤ to) +ℤ pos 250) h.left.offset h.right.offset
+wordless_found y (PageMark.Arc x1 x2 from to bulge) w h =
     arc_found y x1 x2 from to bulge (x1 +ℤ quarter x1 x2) (x2 -ℤ quarter x1 x2) ((y +ℤ to) +ℤ bulge) h.left.offset h.right.offset h.rises
 
 words_text : (size : Size) (x dx dy y : ℤ) (words rest : List ℕ) → words_line size x dx dy words y ≡ 40 ∷ rest
@@ -204,27 +186,27 @@ words_text size x dx dy y words rest e =
 
 is_wordless : (y : ℤ) (m : PageMark) (first : ℕ) (rest : List ℕ) → (first ≡ 40 → ⊥) → mark_line y m ≡ first ∷ rest → IsWordless m
 unfolding words_line in_parentheses
-is_wordless y (marks.Glyph glyph x dx dy) first rest other e = tt
-is_wordless y (marks.Words size x dx dy words) first rest other e = other (cc)
+is_wordless y (PageMark.Glyph glyph x dx dy) first rest other e = tt
+is_wordless y (PageMark.Words size x dx dy words) first rest other e = other (cc)
 is_wordless y _ first rest other e = tt
 
 wordless_open : (y : ℤ) (m : PageMark) (rest : List ℕ) → IsWordless m → IsPageMark y m → mark_line y m ≡ 40 ∷ rest → ⊥
-wordless_open y (marks.Glyph glyph x dx dy) rest w h e = numbers_open dx (dy ∷ x ∷ y ∷ []) (glyph_name glyph) rest (offset_number dx h.across) (sym (wordless_line y (marks.Glyph glyph x dx dy) w) ∙ e)
-wordless_open y (marks.Words size x dx dy words) rest w h e = w
-wordless_open y (marks.Stem x dx from to) rest w h e = numbers_open dx (to ∷ dx ∷ from ∷ x ∷ y ∷ []) (codes "st") rest (offset_number dx h.start.across) (sym (wordless_line y (marks.Stem x dx from to) w) ∙ e)
-wordless_open y (marks.Beam way x1 x2 from to) rest w h e =
-    (let all = wordless_numbers y (marks.Beam way x1 x2 from to) h in numbers_open x1 _ (way_name way) rest all.0 (sym (wordless_line y (marks.Beam way x1 x2 from to) w) ∙ e))
-wordless_open y (marks.Arc x1 x2 from to bulge) rest w h e =
-    (let all = wordless_numbers y (marks.Arc x1 x2 from to bulge) h in numbers_open (x1 +ℤ quarter x1 x2) _ (codes "ac") rest all.0 (sym (wordless_line y (marks.Arc x1 x2 from to bulge) w) ∙ e))
+wordless_open y (PageMark.Glyph glyph x dx dy) rest w h e = numbers_open dx (dy ∷ x ∷ y ∷ []) (glyph_name glyph) rest (offset_number dx h.across) (sym (wordless_line y (PageMark.Glyph glyph x dx dy) w) ∙ e)
+wordless_open y (PageMark.Words size x dx dy words) rest w h e = w
+wordless_open y (PageMark.Stem x dx from to) rest w h e = numbers_open dx (to ∷ dx ∷ from ∷ x ∷ y ∷ []) (codes "st") rest (offset_number dx h.start.across) (sym (wordless_line y (PageMark.Stem x dx from to) w) ∙ e)
+wordless_open y (PageMark.Beam way x1 x2 from to) rest w h e =
+    (let all = wordless_numbers y (PageMark.Beam way x1 x2 from to) h in numbers_open x1 _ (way_name way) rest all.0 (sym (wordless_line y (PageMark.Beam way x1 x2 from to) w) ∙ e))
+wordless_open y (PageMark.Arc x1 x2 from to bulge) rest w h e =
+    (let all = wordless_numbers y (PageMark.Arc x1 x2 from to bulge) h in numbers_open (x1 +ℤ quarter x1 x2) _ (codes "ac") rest all.0 (sym (wordless_line y (PageMark.Arc x1 x2 from to bulge) w) ∙ e))
 
 -- what is found behind an opening parenthesis
 pub found_words : (y : ℤ) (line rest : List ℕ) (o : Option PageMark) → line ≡ 40 ∷ rest
     → ((words : List ℕ) (zs : List ℤ) (name : List ℕ) → IsTrue (list_all is_shown words) → AllByRecursion IsNumber zs → list_all is_field name ≡ true
     → rest ≡ flat_map shown words ++ 41 ∷ 32 ∷ (numbers zs ++ name) → o ≡ words_from words zs name)
     → (m : PageMark) → IsPageMark y m → mark_line y m ≡ line → o ≡ Some m
-found_words y line rest o is reads (marks.Words size x dx dy words) h e =
-    let all = wordless_numbers y (marks.Words size x dx dy words) h in
-    reads words (dx ∷ dy ∷ x ∷ y ∷ []) (size_name size) h.1.shown all (name_is_field (marks.Words size x dx dy words)) (words_text size x dx dy y words rest (e ∙ is))
+found_words y line rest o is reads (PageMark.Words size x dx dy words) h e =
+    let all = wordless_numbers y (PageMark.Words size x dx dy words) h in
+    reads words (dx ∷ dy ∷ x ∷ y ∷ []) (size_name size) h.1.shown all (name_is_field (PageMark.Words size x dx dy words)) (words_text size x dx dy y words rest (e ∙ is))
     ∙ words_found size y x dx dy words h.0.across h.0.above
 found_words y line rest o is reads m h e = absurd (wordless_open y m rest tt h (e ∙ is))
 
@@ -246,11 +228,11 @@ numbers_some z zs name e = not_empty (signed_decimal z) (numbers zs ++ name) 32 
 
 pub line_some : (y : ℤ) (m : PageMark) → mark_line y m ≡ [] → ⊥
 unfolding words_line in_parentheses
-line_some y (marks.Words size x dx dy words) e = cc
-line_some y (marks.Glyph glyph x dx dy) e = numbers_some dx (dy ∷ x ∷ y ∷ []) (glyph_name glyph) (sym (wordless_line y (marks.Glyph glyph x dx dy) tt) ∙ e)
-line_some y (marks.Stem x dx from to) e = numbers_some dx (to ∷ dx ∷ from ∷ x ∷ y ∷ []) (codes "st") (sym (wordless_line y (marks.Stem x dx from to) tt) ∙ e)
-line_some y (marks.Beam way x1 x2 from to) e = numbers_some x1 _ (way_name way) (sym (wordless_line y (marks.Beam way x1 x2 from to) tt) ∙ e)
-line_some y (marks.Arc x1 x2 from to bulge) e = numbers_some (x1 +ℤ quarter x1 x2) _ (codes "ac") (sym (wordless_line y (marks.Arc x1 x2 from to bulge) tt) ∙ e)
+line_some y (PageMark.Words size x dx dy words) e = cc
+line_some y (PageMark.Glyph glyph x dx dy) e = numbers_some dx (dy ∷ x ∷ y ∷ []) (glyph_name glyph) (sym (wordless_line y (PageMark.Glyph glyph x dx dy) tt) ∙ e)
+line_some y (PageMark.Stem x dx from to) e = numbers_some dx (to ∷ dx ∷ from ∷ x ∷ y ∷ []) (codes "st") (sym (wordless_line y (PageMark.Stem x dx from to) tt) ∙ e)
+line_some y (PageMark.Beam way x1 x2 from to) e = numbers_some x1 _ (way_name way) (sym (wordless_line y (PageMark.Beam way x1 x2 from to) tt) ∙ e)
+line_some y (PageMark.Arc x1 x2 from to bulge) e = numbers_some (x1 +ℤ quarter x1 x2) _ (codes "ac") (sym (wordless_line y (PageMark.Arc x1 x2 from to bulge) tt) ∙ e)
 
 -- what follows from a fact of an answer
 pub if_ok : {T E : Type 0} (r : Result T E) (P Q : T → Type 0) → ((x : T) → P x → Q x) → IfOk r P → IfOk r Q

@@ -2,19 +2,8 @@
 use Rattle.std.specs.Prelude.{◌≡◌, ℕ, ℤ, pos, ◌+◌, ◌+ℤ◌, List, [], ◌∷◌, ◌++◌, length, codes, decimal}
 use Rattle.std.specs.List.{flat_map}
 use Rattle.mus_units.specs.declared.glyph.Size.{Size}
-use Rattle.glyph_paths.specs.Characters.{line_end, space}
-use Rattle.glyph_paths.specs.Procedure.{numbers}
-use Rattle.ps_text.specs.Fields.{in_parentheses}
-use Rattle.ps_text.specs.Line.{mark_line}
-use Rattle.ps_text.specs.Names.{size_name}
-use Rattle.ps_text.specs.Prolog.{prolog}
-use Rattle.ps_text.specs.Range.{IsSheet}
-use Rattle.ps_text.specs.declared.marks.PageMark.{PageMark}
-use Rattle.ps_text.specs.declared.sheet.Staff.{Staff}
-use Rattle.ps_text.specs.declared.sheet.Item.{Item}
-use Rattle.ps_text.specs.declared.sheet.Item.TheVariants as items
-use Rattle.ps_text.specs.declared.sheet.Page.{Page}
-use Rattle.ps_text.specs.declared.sheet.Sheet.{Sheet}
+use Rattle.glyph_paths.specs.{Characters.line_end, Characters.space, Procedure.numbers}
+use Rattle.ps_text.specs.{Fields.in_parentheses, Line.mark_line, Names.size_name, Prolog.prolog, Range.IsSheet, declared.marks.PageMark.PageMark, declared.sheet.Staff.Staff, declared.sheet.Item.Item, declared.sheet.Page.Page, declared.sheet.Sheet.Sheet}
 
 -- the text of a numbered thing for each of a list, the first with the number k
 abbrev pub numbered : {A : Type 0} → (ℕ → A → List ℕ) → ℕ → List A → List ℕ
@@ -76,9 +65,9 @@ unfoldable pub tune_text : ℕ → List ℕ
 tune_text ordinal = tune_line ordinal ++ line_end ∷ []
 
 abbrev pub item_text : Item → List ℕ
-item_text (items.Tune ordinal) = tune_text ordinal
-item_text (items.Title x y size words) = title_text x y size words
-item_text (items.System a b staves) = system_text a b staves
+item_text (Item.Tune ordinal) = tune_text ordinal
+item_text (Item.Title x y size words) = title_text x y size words
+item_text (Item.System a b staves) = system_text a b staves
 
 unfoldable pub items_text : List Item → List ℕ
 items_text items = flat_map item_text items

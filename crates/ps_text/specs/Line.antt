@@ -1,15 +1,8 @@
 -- The line that spells a mark on a staff at y, without the LF that ends it.
 use Rattle.std.specs.Prelude.{ℕ, ℤ, pos, ◌+ℤ◌, ◌-ℤ◌, int_div, List, [], ◌∷◌, ◌++◌, codes}
-use Rattle.mus_units.specs.declared.glyph.Glyph.{Glyph}
-use Rattle.mus_units.specs.declared.glyph.Size.{Size}
-use Rattle.mus_units.specs.declared.glyph.Way.{Way}
-use Rattle.glyph_paths.specs.Names.{glyph_name}
-use Rattle.glyph_paths.specs.Procedure.{numbers}
-use Rattle.ps_text.specs.Fields.{in_parentheses}
-use Rattle.ps_text.specs.Names.{size_name, way_name}
-use Rattle.ps_text.specs.declared.writing.Ends.{Ends}
-use Rattle.ps_text.specs.declared.marks.PageMark.{PageMark}
-use Rattle.ps_text.specs.declared.marks.PageMark.TheVariants as marks
+use Rattle.mus_units.specs.{declared.glyph.Glyph.Glyph, declared.glyph.Size.Size, declared.glyph.Way.Way}
+use Rattle.glyph_paths.specs.{Names.glyph_name, Procedure.numbers}
+use Rattle.ps_text.specs.{Fields.in_parentheses, Names.size_name, Names.way_name, declared.writing.Ends.Ends, declared.marks.PageMark.PageMark}
 
 unfoldable pub glyph_line : Glyph → ℤ → ℤ → ℤ → ℤ → List ℕ
 glyph_line glyph x dx dy y = numbers (dx ∷ dy ∷ x ∷ y ∷ []) ++ glyph_name glyph
@@ -50,8 +43,8 @@ arc_line x1 x2 from to bulge y =
 
 -- the line of a mark on a staff at y
 abbrev pub mark_line : ℤ → PageMark → List ℕ
-mark_line y (marks.Glyph glyph x dx dy) = glyph_line glyph x dx dy y
-mark_line y (marks.Words size x dx dy words) = words_line size x dx dy words y
-mark_line y (marks.Stem x dx from to) = stem_line x dx from to y
-mark_line y (marks.Beam way x1 x2 from to) = beam_line way x1 x2 from to y
-mark_line y (marks.Arc x1 x2 from to bulge) = arc_line x1 x2 from to bulge y
+mark_line y (PageMark.Glyph glyph x dx dy) = glyph_line glyph x dx dy y
+mark_line y (PageMark.Words size x dx dy words) = words_line size x dx dy words y
+mark_line y (PageMark.Stem x dx from to) = stem_line x dx from to y
+mark_line y (PageMark.Beam way x1 x2 from to) = beam_line way x1 x2 from to y
+mark_line y (PageMark.Arc x1 x2 from to bulge) = arc_line x1 x2 from to bulge y

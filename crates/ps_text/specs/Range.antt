@@ -2,14 +2,7 @@
 -- values that have a text.
 use Rattle.std.specs.Prelude.{ℕ, ℤ, pos, negsuc, ◌^◌, ◌<◌, ◌≤◌, ◌+ℤ◌, ◌<ℤ◌, ◌≤ℤ◌, Bool, ◌&&◌, ◌||◌, nat_le, IsTrue, List, [], ◌∷◌, length, All, ⊤}
 use Rattle.std.specs.List.{list_all}
-use Rattle.ps_text.specs.declared.marks.PageMark.{PageMark}
-use Rattle.ps_text.specs.declared.marks.PageMark.TheVariants as marks
-use Rattle.ps_text.specs.declared.sheet.Frame.{Frame}
-use Rattle.ps_text.specs.declared.sheet.Staff.{Staff}
-use Rattle.ps_text.specs.declared.sheet.Item.{Item}
-use Rattle.ps_text.specs.declared.sheet.Item.TheVariants as items
-use Rattle.ps_text.specs.declared.sheet.Page.{Page}
-use Rattle.ps_text.specs.declared.sheet.Sheet.{Sheet}
+use Rattle.ps_text.specs.declared.{marks.PageMark.PageMark, sheet.Frame.Frame, sheet.Staff.Staff, sheet.Item.Item, sheet.Page.Page, sheet.Sheet.Sheet}
 
 -- a number of a page is within 2^40 of 0
 pub record IsNumber (z : ℤ) : Type 0 where
@@ -71,11 +64,11 @@ pub record IsSpan (y x1 x2 from to rise : ℤ) : Type 0 where
 
 -- a mark that may stand on a staff at y; a beam is 250 thick
 abbrev pub IsPageMark : ℤ → PageMark → Type 0
-IsPageMark y (marks.Glyph glyph x dx dy) = IsPlaced y x dx dy
-IsPageMark y (marks.Words size x dx dy words) = IsPlaced y x dx dy × IsWords words
-IsPageMark y (marks.Stem x dx from to) = IsStem y x dx from to
-IsPageMark y (marks.Beam way x1 x2 from to) = IsSpan y x1 x2 from to (pos 250)
-IsPageMark y (marks.Arc x1 x2 from to bulge) = IsSpan y x1 x2 from to bulge
+IsPageMark y (PageMark.Glyph glyph x dx dy) = IsPlaced y x dx dy
+IsPageMark y (PageMark.Words size x dx dy words) = IsPlaced y x dx dy × IsWords words
+IsPageMark y (PageMark.Stem x dx from to) = IsStem y x dx from to
+IsPageMark y (PageMark.Beam way x1 x2 from to) = IsSpan y x1 x2 from to (pos 250)
+IsPageMark y (PageMark.Arc x1 x2 from to bulge) = IsSpan y x1 x2 from to bulge
 
 -- a staff has lines of 1 to 2^31, and marks that may stand on it
 pub record IsStaff (s : Staff) : Type 0 where
@@ -109,13 +102,13 @@ pub record IsOrdinal (k : ℕ) : Type 0 where
   pub high : k < 2 ^ 32
 
 abbrev pub IsItem : Item → Type 0
-IsItem (items.Tune ordinal) = IsOrdinal ordinal
-IsItem (items.Title x y size words) = IsTitle x y words
-IsItem (items.System a b staves) = IsSystem a b staves
+IsItem (Item.Tune ordinal) = IsOrdinal ordinal
+IsItem (Item.Title x y size words) = IsTitle x y words
+IsItem (Item.System a b staves) = IsSystem a b staves
 
 -- whether a title may stand directly after an item: not after a system
 abbrev pub IsAfter : Item → Item → Type 0
-IsAfter (items.System a b staves) (items.Title x y size words) = ⊥
+IsAfter (Item.System a b staves) (Item.Title x y size words) = ⊥
 IsAfter _ _ = ⊤
 
 -- each item may stand directly after the one before it

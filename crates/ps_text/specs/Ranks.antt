@@ -2,9 +2,7 @@
 -- number of smaller anchors of its system.
 use Rattle.std.specs.Prelude.{ℕ, ℤ, pos, ◌+◌, Bool, ◌&&◌, not, int_lt, int_le, if◌then◌else◌, List, [], ◌∷◌, flat_map, Option, Some, None}
 use Rattle.std.specs.List.{list_any}
-use Rattle.ps_text.specs.declared.marks.PageMark.{PageMark}
-use Rattle.ps_text.specs.declared.marks.PageMark.TheVariants as marks
-use Rattle.ps_text.specs.declared.sheet.Staff.{Staff}
+use Rattle.ps_text.specs.{declared.marks.PageMark.PageMark, declared.sheet.Staff.Staff}
 
 -- a step that may give nothing
 infixl 10 ◌>>=◌
@@ -14,11 +12,11 @@ None >>= f = None
 
 -- glyphs, words and stems stand at an anchor; beams and arcs go between anchors
 abbrev pub anchor_of : PageMark → List ℤ
-anchor_of (marks.Glyph glyph x dx dy) = x ∷ []
-anchor_of (marks.Words size x dx dy words) = x ∷ []
-anchor_of (marks.Stem x dx from to) = x ∷ []
-anchor_of (marks.Beam way x1 x2 from to) = []
-anchor_of (marks.Arc x1 x2 from to bulge) = []
+anchor_of (PageMark.Glyph glyph x dx dy) = x ∷ []
+anchor_of (PageMark.Words size x dx dy words) = x ∷ []
+anchor_of (PageMark.Stem x dx from to) = x ∷ []
+anchor_of (PageMark.Beam way x1 x2 from to) = []
+anchor_of (PageMark.Arc x1 x2 from to bulge) = []
 
 -- the anchors of all staves of a system, with repetitions
 unfoldable pub anchors : List Staff → List ℤ
@@ -38,11 +36,11 @@ rank_of all x = if list_any (is_same x) all then Some (pos (count_below x all)) 
 
 -- a mark with ranks in place of its abscissas
 abbrev pub ranked : List ℤ → PageMark → Option PageMark
-ranked all (marks.Glyph glyph x dx dy) = rank_of all x >>= λ r. Some (marks.Glyph glyph r dx dy)
-ranked all (marks.Words size x dx dy words) = rank_of all x >>= λ r. Some (marks.Words size r dx dy words)
-ranked all (marks.Stem x dx from to) = rank_of all x >>= λ r. Some (marks.Stem r dx from to)
-ranked all (marks.Beam way x1 x2 from to) = rank_of all x1 >>= λ r. rank_of all x2 >>= λ t. Some (marks.Beam way r t from to)
-ranked all (marks.Arc x1 x2 from to bulge) = rank_of all x1 >>= λ r. rank_of all x2 >>= λ t. Some (marks.Arc r t from to bulge)
+ranked all (PageMark.Glyph glyph x dx dy) = rank_of all x >>= λ r. Some (PageMark.Glyph glyph r dx dy)
+ranked all (PageMark.Words size x dx dy words) = rank_of all x >>= λ r. Some (PageMark.Words size r dx dy words)
+ranked all (PageMark.Stem x dx from to) = rank_of all x >>= λ r. Some (PageMark.Stem r dx from to)
+ranked all (PageMark.Beam way x1 x2 from to) = rank_of all x1 >>= λ r. rank_of all x2 >>= λ t. Some (PageMark.Beam way r t from to)
+ranked all (PageMark.Arc x1 x2 from to bulge) = rank_of all x1 >>= λ r. rank_of all x2 >>= λ t. Some (PageMark.Arc r t from to bulge)
 
 abbrev pub all_ranked : List ℤ → List PageMark → Option (List PageMark)
 all_ranked all [] = Some []

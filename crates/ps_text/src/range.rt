@@ -1,5 +1,4 @@
-ghost use Rattle.std.specs.Prelude.{◌≡◌, ◌+ℤ◌, ◌↔◌, ◌≤◌, IsTrue};
-ghost use Rattle.std.specs.List.{list_all};
+ghost use Rattle.std.specs.{Prelude.◌≡◌, Prelude.◌+ℤ◌, Prelude.◌↔◌, Prelude.◌≤◌, Prelude.IsTrue, List.list_all};
 ghost use Rattle.ps_text.specs.Range.{IsNear, IsNumber, IsOffset, IsWords, IsEnd, IsPlaced, IsStem, IsStretch, IsSpan, is_shown};
 
 const LARGEST: i64 = 1_099_511_627_776;

@@ -1,35 +1,27 @@
 -- A text begins with one token at most, and where none stands there is one cause.
 use Rattle.std.proofs.Common.{◌≡◌, ℕ, true, false, cond, ◌==◌, append_assoc, List, [], ◌∷◌, ◌++◌, drop, Option, Some, None, refl, sym, subst, ◌∙◌, ap, arith}
-use Rattle.std.specs.List.{list_all, flat_map}
-use Rattle.std.proofs.lemmas.Bool.Decides.{nat_tests}
-use Rattle.std.proofs.lemmas.List.{append_cancel_left}
-use Rattle.std.proofs.lemmas.Bool.{and_parts}
-use Rattle.ps_steps.specs.declared.halt.Cause.{Cause}
-use Rattle.ps_steps.specs.declared.halt.Cause.TheVariants as causes
-use Rattle.ps_steps.specs.declared.token.Simple.{Simple}
-use Rattle.ps_steps.specs.declared.token.Simple.TheVariants.{Words as words_token, Label as label_token, Font as font_token}
-use Rattle.ps_steps.specs.declared.token.Token.{Token}
-use Rattle.ps_steps.specs.declared.token.Token.TheVariants.{Simple as simple_token, Procedure as procedure_token}
+use Rattle.std.{proofs.lemmas.Bool.Decides.nat_tests, proofs.lemmas.List.append_cancel_left, proofs.lemmas.Bool.and_parts, specs.List.list_all, specs.List.flat_map}
+use Rattle.ps_steps.specs.{declared.halt.Cause.Cause, declared.token.Simple.Simple, declared.token.Token.Token}
 use Rattle.ps_steps.specs.Tokens.{Read, found, opening, closing, unread, Front, font_front, label_front, no_label, string_front, open_string, no_string, opening_front, closing_front, stray, word_front, no_word, IsWord, IsString, IsOpen, IsFont, font_line, Body, closes, goes_on, NoBody, unclosed, nested, unread_within, later, TokenAt, simple_at, procedure_at, NoToken, unread_at, closing_at, no_body, is_regular, is_name, word_token, passed}
+use Rattle.ps_steps.specs.declared.token.Simple.TheVariants.{Words as words_token, Label as label_token, Font as font_token}
+use Rattle.ps_steps.specs.declared.token.Token.TheVariants.{Simple as simple_token, Procedure as procedure_token}
 use Rattle.ps_text.specs.Fields.{shown}
-use Rattle.ps_tokens.specs.OneToken.{BeginsInOneWay}
-use Rattle.ps_tokens.proofs.Fronts.{one_run}
-use Rattle.ps_tokens.proofs.Strings.{one_string, one_words}
+use Rattle.ps_tokens.{specs.OneToken.BeginsInOneWay, proofs.Fronts.one_run, proofs.Strings.one_string, proofs.Strings.one_words}
 
 -- what stands behind a slash, behind a parenthesis, and at a byte of a word
 data Slashed (s t : List ℕ) : Read → Type 0 where
   as_font : (rest : List ℕ) → IsFont s rest → Slashed s t (found font_token rest)
   as_label : (w rest : List ℕ) → ((r : List ℕ) → IsFont s r → ⊥) → IsWord t w rest → is_name w ≡ true → Slashed s t (found (label_token w) rest)
-  as_none : ((r : List ℕ) → IsFont s r → ⊥) → ((w rest : List ℕ) → IsWord t w rest → is_name w ≡ true → ⊥) → Slashed s t (unread causes.BadToken)
+  as_none : ((r : List ℕ) → IsFont s r → ⊥) → ((w rest : List ℕ) → IsWord t w rest → is_name w ≡ true → ⊥) → Slashed s t (unread Cause.BadToken)
 
 data Parted (t : List ℕ) : Read → Type 0 where
   as_string : (words rest : List ℕ) → IsString t words rest → Parted t (found (words_token words) rest)
-  as_open : IsOpen t → Parted t (unread causes.Unclosed)
-  as_broken : ((words rest : List ℕ) → IsString t words rest → ⊥) → (IsOpen t → ⊥) → Parted t (unread causes.BadToken)
+  as_open : IsOpen t → Parted t (unread Cause.Unclosed)
+  as_broken : ((words rest : List ℕ) → IsString t words rest → ⊥) → (IsOpen t → ⊥) → Parted t (unread Cause.BadToken)
 
 data Worded (s : List ℕ) : Read → Type 0 where
   as_word : (w rest : List ℕ) (t : Simple) → IsWord s w rest → word_token w ≡ Some t → Worded s (found t rest)
-  as_no_word : (w rest : List ℕ) → IsWord s w rest → word_token w ≡ None → Worded s (unread causes.BadToken)
+  as_no_word : (w rest : List ℕ) → IsWord s w rest → word_token w ≡ None → Worded s (unread Cause.BadToken)
 
 nil_cons : {A : Type 0} (xs : List A) (x : A) (ys : List A) → xs ++ x ∷ ys ≡ [] → ⊥
 nil_cons [] x ys e = cc
@@ -88,7 +80,7 @@ data Kind (s : List ℕ) (x : Read) : Type 0 where
   k_slash : (t : List ℕ) → s ≡ 47 ∷ t → Slashed s t x → Kind s x
   k_open : (t : List ℕ) → s ≡ 123 ∷ t → x ≡ opening t → Kind s x
   k_close : (t : List ℕ) → s ≡ 125 ∷ t → x ≡ closing t → Kind s x
-  k_stray : (t : List ℕ) → s ≡ 41 ∷ t → x ≡ unread causes.BadToken → Kind s x
+  k_stray : (t : List ℕ) → s ≡ 41 ∷ t → x ≡ unread Cause.BadToken → Kind s x
   k_word : Worded s x → Kind s x
 
 kind_of : (s : List ℕ) (x : Read) → Front s x → Kind s x

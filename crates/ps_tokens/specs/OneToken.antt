@@ -1,8 +1,6 @@
 -- A text begins with one token at most, and where none stands there is one cause.
 use Rattle.std.specs.Prelude.{◌≡◌, ℕ, List, []}
-use Rattle.ps_steps.specs.declared.halt.Cause.{Cause}
-use Rattle.ps_steps.specs.declared.token.Token.{Token}
-use Rattle.ps_steps.specs.Tokens.{TokenAt, NoToken}
+use Rattle.ps_steps.specs.{declared.halt.Cause.Cause, declared.token.Token.Token, Tokens.TokenAt, Tokens.NoToken}
 
 pub record BeginsInOneWay : Type 0 where
   pub token : (s r q : List ℕ) (t u : Token) → TokenAt s t r → TokenAt s u q → (t ≡ u) × (r ≡ q)

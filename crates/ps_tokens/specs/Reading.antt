@@ -2,10 +2,7 @@
 use Rattle.std.specs.Prelude.{ℕ, List}
 use Rattle.ps_tokens.specs.declared.front.Read.{Read as Given}
 use Rattle.ps_tokens.specs.declared.front.Read.TheVariants as given
-use Rattle.ps_tokens.specs.declared.body.BodyRead.{BodyRead}
-use Rattle.ps_tokens.specs.declared.body.BodyRead.TheVariants as bodies
-use Rattle.ps_tokens.specs.declared.body.TokenRead.{TokenRead}
-use Rattle.ps_tokens.specs.declared.body.TokenRead.TheVariants as tokens
+use Rattle.ps_tokens.specs.{declared.body.BodyRead.BodyRead, declared.body.TokenRead.TokenRead}
 use Rattle.ps_steps.specs.Tokens.{Read, found, opening, closing, unread, Body, NoBody, TokenAt, NoToken}
 
 abbrev pub read_of : Given → Read
@@ -15,9 +12,9 @@ read_of (given.Closing rest) = closing rest.now
 read_of (given.Unread cause) = unread cause
 
 abbrev pub IsBodyRead : List ℕ → BodyRead → Type 0
-IsBodyRead s (bodies.Whole ts rest) = Body s ts rest.now
-IsBodyRead s (bodies.Not cause) = NoBody s cause
+IsBodyRead s (BodyRead.Whole ts rest) = Body s ts rest.now
+IsBodyRead s (BodyRead.Not cause) = NoBody s cause
 
 abbrev pub IsTokenRead : List ℕ → TokenRead → Type 0
-IsTokenRead s (tokens.Found t rest) = TokenAt s t rest.now
-IsTokenRead s (tokens.Not cause) = NoToken s cause
+IsTokenRead s (TokenRead.Found t rest) = TokenAt s t rest.now
+IsTokenRead s (TokenRead.Not cause) = NoToken s cause

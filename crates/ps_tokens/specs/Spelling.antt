@@ -2,10 +2,8 @@
 use Prim.Native.Char.{code}
 use Rattle.std.specs.Prelude.{◌≡◌, ℕ, Bool, ◌&&◌, not, IsTrue, List, ◌∷◌, ◌++◌, codes}
 use Rattle.mus_units.specs.Bytes.{is_within}
-use Rattle.ps_text.specs.Fields.{is_special, shown}
-use Rattle.ps_text.specs.Range.{is_shown}
+use Rattle.ps_text.specs.{Fields.is_special, Fields.shown, Range.is_shown}
 use Rattle.ps_tokens.specs.declared.string.Spelling.{Spelling}
-use Rattle.ps_tokens.specs.declared.string.Spelling.TheVariants as spellings
 
 -- a byte that stands for itself
 abbrev pub is_bare : ℕ → Bool
@@ -37,7 +35,7 @@ pub record IsBroken (s : List ℕ) : Type 0 where
   pub no_close : (t u : List ℕ) → s ++ t ≡ code ")" ∷ u → ⊥
 
 abbrev pub IsSpelling : List ℕ → Spelling → Type 0
-IsSpelling s (spellings.Byte b rest) = IsByte s b rest.now
-IsSpelling s (spellings.Close rest) = s ≡ code ")" ∷ rest.now
-IsSpelling s spellings.Cut = IsCut s
-IsSpelling s spellings.Broken = IsBroken s
+IsSpelling s (Spelling.Byte b rest) = IsByte s b rest.now
+IsSpelling s (Spelling.Close rest) = s ≡ code ")" ∷ rest.now
+IsSpelling s Spelling.Cut = IsCut s
+IsSpelling s Spelling.Broken = IsBroken s

@@ -1,16 +1,9 @@
 -- A document that has gone out up to some byte, and what follows there.
 use Rattle.std.proofs.Common.{◌≡◌, ℕ, suc, ◌+◌, ◌<◌, ◌≤◌, List, [], ◌∷◌, ◌++◌, length, take, drop, refl, sym, ap, ◌∙◌, subst, get_or, zero-add, add-one, drop-cons, append-nil, append_assoc, length-append, arith, Option, Some, None, Result, Ok, Err}
-use Rattle.std.proofs.lemmas.List.{take-append-drop, take-append-le, length-take-le}
-use Rattle.std.proofs.Math.Seq.{drop-length, take-append-add, take-append_seam, take-length, drop-append-add, drop-append_seam}
+use Rattle.std.proofs.{lemmas.List.take-append-drop, lemmas.List.take-append-le, lemmas.List.length-take-le, Math.Seq.drop-length, Math.Seq.take-append-add, Math.Seq.take-append_seam, Math.Seq.take-length, Math.Seq.drop-append-add, Math.Seq.drop-append_seam, KnownBytes.Appends-trans}
 use Rattle.std.specs.Io.KnownBytes.{Appends}
-use Rattle.std.proofs.KnownBytes.{Appends-trans}
-use Rattle.ps_text.specs.Document.{document, numbered, page_text, trailer}
-use Rattle.ps_text.specs.Prolog.{prolog}
-use Rattle.ps_text.specs.declared.sheet.Page.{Page}
-use Rattle.ps_text.specs.declared.sheet.Sheet.{Sheet}
-use Rattle.ps_write.specs.Written.{WroteFront, counted_from}
-use Rattle.ps_write.specs.declared.steps.DocError.{DocError}
-use Rattle.ps_write.specs.declared.steps.DocError.TheVariants as errors
+use Rattle.ps_text.specs.{Document.document, Document.numbered, Document.page_text, Document.trailer, Prolog.prolog, declared.sheet.Page.Page, declared.sheet.Sheet.Sheet}
+use Rattle.ps_write.specs.{Written.WroteFront, Written.counted_from, declared.steps.DocError.DocError}
 
 -- a text that stands in a document after its first n bytes
 pub record StandsAt (doc : List ℕ) (n : ℕ) (text rest : List ℕ) : Type 0 where
@@ -56,16 +49,16 @@ sent_part old mid new doc n k text rest s h p q = rw (take_part doc n k text res
 
 -- a step that failed, told for the document
 pub wrote_part : (old mid new : Option (List ℕ)) (doc : List ℕ) (n : ℕ) (text rest : List ℕ) (e : DocError) → StandsAt doc n text rest → Appends old mid (take n doc) → WroteFront mid new text e → WroteFront old new doc (counted_from n e)
-wrote_part old mid new doc n text rest (errors.Write e) s p w =
+wrote_part old mid new doc n text rest (DocError.Write e) s p w =
     (sent_part old mid new doc n e.written text rest s w.1 p w.0, omega (arith, within_part doc n text rest s, w.1))
-wrote_part old mid new doc n text rest errors.Memory s p w =
+wrote_part old mid new doc n text rest DocError.Memory s p w =
     (n + w.0, sent_part old mid new doc n w.0 text rest s w.2 p w.1, omega (arith, within_part doc n text rest s, w.2))
 
 -- a first step that failed
 pub wrote_first : (old new : Option (List ℕ)) (doc text rest : List ℕ) (e : DocError) → doc ≡ text ++ rest → WroteFront old new text e → WroteFront old new doc e
-wrote_first old new doc text rest (errors.Write e) d w =
+wrote_first old new doc text rest (DocError.Write e) d w =
     (rw (d, take-append-le e.written text rest w.1) w.0, omega (arith, ap length d, length-append text rest, w.1))
-wrote_first old new doc text rest errors.Memory d w =
+wrote_first old new doc text rest DocError.Memory d w =
     (w.0, rw (d, take-append-le w.0 text rest w.2) w.1, omega (arith, ap length d, length-append text rest, w.2))
 
 -- a first step that went out

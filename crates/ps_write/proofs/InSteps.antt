@@ -1,13 +1,8 @@
 -- The steps of a writer, taken one after another, write the whole document.
 use Rattle.std.proofs.Common.{◌≡◌, ℕ, ◌+◌, List, [], ◌∷◌, ◌++◌, length, append-nil, append_assoc, sym, Option}
-use Rattle.std.specs.Io.KnownBytes.{Appends}
-use Rattle.std.proofs.KnownBytes.{Appends-nil, Appends-trans}
-use Rattle.ps_text.specs.Document.{document, numbered, page_text, trailer}
-use Rattle.ps_text.specs.Prolog.{prolog}
-use Rattle.ps_text.specs.declared.sheet.Page.{Page}
-use Rattle.ps_text.specs.declared.sheet.Sheet.{Sheet}
-use Rattle.ps_write.proofs.Fronts.{document_start}
-use Rattle.ps_write.specs.Written.{WrotePages}
+use Rattle.std.{proofs.KnownBytes.Appends-nil, proofs.KnownBytes.Appends-trans, specs.Io.KnownBytes.Appends}
+use Rattle.ps_text.specs.{Document.document, Document.numbered, Document.page_text, Document.trailer, Prolog.prolog, declared.sheet.Page.Page, declared.sheet.Sheet.Sheet}
+use Rattle.ps_write.{proofs.Fronts.document_start, specs.Written.WrotePages}
 
 pub pages_in_steps : (k : ℕ) (ps : List Page) (old new : Option (List ℕ)) → WrotePages k ps old new → Appends old new (numbered page_text k ps)
 pages_in_steps k [] old new w = rw w (Appends-nil old)

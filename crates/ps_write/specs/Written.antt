@@ -2,17 +2,14 @@
 use Rattle.std.specs.Prelude.{◌≡◌, ℕ, ◌+◌, ◌^◌, ◌<◌, ◌≤◌, length, take, List, [], ◌∷◌, Option, Result, Ok, Err, ⊤}
 use Rattle.std.specs.Io.KnownBytes.{Appends}
 use Rattle.eng_io.specs.Causes.{Rose}
-use Rattle.ps_text.specs.Document.{page_text}
-use Rattle.ps_text.specs.declared.sheet.Page.{Page}
-use Rattle.ps_write.specs.declared.steps.DocError.{DocError}
-use Rattle.ps_write.specs.declared.steps.DocError.TheVariants as errors
-use Rattle.ps_write.specs.declared.steps.DocWriter.{DocWriter}
+use Rattle.ps_text.specs.{Document.page_text, declared.sheet.Page.Page}
+use Rattle.ps_write.specs.{declared.steps.DocError.DocError, declared.steps.DocWriter.DocWriter}
 
 -- exactly the first bytes that the error counts went out, or, for want of
 -- memory, a front of the text
 abbrev pub WroteFront : Option (List ℕ) → Option (List ℕ) → List ℕ → DocError → Type 0
-WroteFront old new text (errors.Write e) = Appends old new (take e.written text) × (e.written ≤ length text)
-WroteFront old new text errors.Memory = (n : ℕ) × Appends old new (take n text) × (n ≤ length text)
+WroteFront old new text (DocError.Write e) = Appends old new (take e.written text) × (e.written ≤ length text)
+WroteFront old new text DocError.Memory = (n : ℕ) × Appends old new (take n text) × (n ≤ length text)
 
 -- the whole text went out, or a front of it
 abbrev pub Wrote : {T : Type 0} → Option (List ℕ) → Option (List ℕ) → List ℕ → Result T DocError → Type 0
@@ -23,13 +20,13 @@ Wrote old new text (Err e) = WroteFront old new text e
 -- leaves the count as it was
 abbrev pub Counted : {T : Type 0} → ℕ → ℕ → Result T DocError → Type 0
 Counted before now (Ok _) = now ≡ before
-Counted before now (Err (errors.Write e)) = Rose before now
-Counted before now (Err errors.Memory) = now ≡ before
+Counted before now (Err (DocError.Write e)) = Rose before now
+Counted before now (Err DocError.Memory) = now ≡ before
 
 -- the bytes written by an error, after those before, are fewer than 2^64
 abbrev pub FitsError : ℕ → DocError → Type 0
-FitsError before (errors.Write e) = before + e.written < 2 ^ 64
-FitsError before errors.Memory = ⊤
+FitsError before (DocError.Write e) = before + e.written < 2 ^ 64
+FitsError before DocError.Memory = ⊤
 
 abbrev pub FitsAfter : {T : Type 0} → ℕ → Result T DocError → Type 0
 FitsAfter before (Ok _) = ⊤
@@ -42,8 +39,8 @@ pub record IsNext (pages before : ℕ) (text : List ℕ) (w : DocWriter) : Type 
 
 -- an error of a step that began after some bytes, told for the whole
 abbrev pub counted_from : ℕ → DocError → DocError
-counted_from before (errors.Write e) = errors.Write (record { written = before + e.written })
-counted_from before errors.Memory = errors.Memory
+counted_from before (DocError.Write e) = DocError.Write (record { written = before + e.written })
+counted_from before DocError.Memory = DocError.Memory
 
 -- pages, the first with the number k, went out one after another
 abbrev pub WrotePages : ℕ → List Page → Option (List ℕ) → Option (List ℕ) → Type 0

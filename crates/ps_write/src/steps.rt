@@ -1,7 +1,5 @@
 ghost use Rattle.std.specs.Prelude.{◌≡◌, ◌+◌, ◌-◌, ◌^◌, ◌<◌, length, IfOk};
-ghost use Rattle.ps_text.specs.Document.{page_text, trailer};
-ghost use Rattle.ps_text.specs.Prolog.{prolog};
-ghost use Rattle.ps_text.specs.Range.{IsFrame, IsPage};
+ghost use Rattle.ps_text.specs.{Document.page_text, Document.trailer, Prolog.prolog, Range.IsFrame, Range.IsPage};
 ghost use Rattle.ps_write.specs.Written.{Wrote, Counted, FitsAfter, IsNext};
 
 use eng_io::{Sink, WriteError, write_all};

@@ -1,6 +1,5 @@
 ghost use Rattle.std.specs.Prelude.{◌≡◌, ◌+◌, ◌-◌, ◌^◌, ◌<◌, Err};
-ghost use Rattle.ps_text.specs.Document.{document};
-ghost use Rattle.ps_text.specs.Range.{IsSheet};
+ghost use Rattle.ps_text.specs.{Document.document, Range.IsSheet};
 ghost use Rattle.ps_write.specs.Written.{Wrote, Counted, FitsError, counted_from};
 
 use crate::steps::{DocError, begin, finish, page};

@@ -1,5 +1,4 @@
-use Rattle.std.proofs.Common.{◌≡◌, ◌++◌, take}
-use Rattle.std.specs.List.{flat_map}
+use Rattle.std.{proofs.Common.◌≡◌, proofs.Common.◌++◌, proofs.Common.take, specs.List.flat_map}
 use Rattle.paint_text.specs.PaintText.{paint_line}
 use Rattle.paint_text.proofs.painted.put_paints.Given as goal
 

@@ -1,6 +1,5 @@
 use Rattle.std.proofs.Common.{◌≡◌, [], true, drop, length}
-use Rattle.ps_heard.specs.Columns.{columns_from}
-use Rattle.ps_heard.specs.Filling.{with_marks}
+use Rattle.ps_heard.specs.{Columns.columns_from, Filling.with_marks}
 use Rattle.ps_heard.proofs.columns.fill.Given as goal
 
 abbrev pub invariant-loop-mark : goal.invariant-loop-mark

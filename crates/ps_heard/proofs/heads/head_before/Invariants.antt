@@ -1,5 +1,4 @@
-use Rattle.std.proofs.Common.{◌≡◌, drop}
-use Rattle.std.specs.List.{find}
+use Rattle.std.{proofs.Common.◌≡◌, proofs.Common.drop, specs.List.find}
 use Rattle.ps_heard.specs.Hearing.{is_at}
 use Rattle.ps_heard.proofs.heads.head_before.Given as goal
 

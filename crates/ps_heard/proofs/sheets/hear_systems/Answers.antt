@@ -1,7 +1,5 @@
 use Rattle.std.proofs.Common.{ap, ◌∙◌}
-use Rattle.ps_heard.specs.Ear.{hear_columns}
-use Rattle.ps_heard.specs.Tunes.{staff_columns}
-use Rattle.ps_heard.proofs.EarLaws.{system_more}
+use Rattle.ps_heard.{specs.Ear.hear_columns, specs.Tunes.staff_columns, proofs.EarLaws.system_more}
 use Rattle.ps_heard.proofs.sheets.hear_systems.Goals as goal
 
 pub loop-system-preserved : goal.loop-system-preserved

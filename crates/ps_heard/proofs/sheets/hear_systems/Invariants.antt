@@ -1,7 +1,5 @@
-use Rattle.std.proofs.Common.{◌≡◌, drop}
-use Rattle.std.specs.List.{flat_map}
-use Rattle.ps_heard.specs.Ear.{hear_columns}
-use Rattle.ps_heard.specs.Tunes.{staff_columns}
+use Rattle.std.{proofs.Common.◌≡◌, proofs.Common.drop, specs.List.flat_map}
+use Rattle.ps_heard.specs.{Ear.hear_columns, Tunes.staff_columns}
 use Rattle.ps_heard.proofs.sheets.hear_systems.Given as goal
 
 abbrev pub invariant-loop-system : goal.invariant-loop-system

@@ -1,5 +1,4 @@
-use Rattle.ps_heard.specs.Tunes.{staff_heard}
-use Rattle.ps_heard.proofs.EarLaws.{list_more}
+use Rattle.ps_heard.{specs.Tunes.staff_heard, proofs.EarLaws.list_more}
 use Rattle.ps_heard.proofs.sheets.hear_tune.Goals as goal
 
 pub loop-k-preserved : goal.loop-k-preserved

@@ -1,5 +1,4 @@
-use Rattle.std.proofs.Common.{◌≡◌, ◌++◌, ◌-◌, map}
-use Rattle.std.specs.List.{range_with_len}
+use Rattle.std.{proofs.Common.◌≡◌, proofs.Common.◌++◌, proofs.Common.◌-◌, proofs.Common.map, specs.List.range_with_len}
 use Rattle.ps_heard.specs.Tunes.{most_staves, staff_heard}
 use Rattle.ps_heard.proofs.sheets.hear_tune.Given as goal
 

@@ -1,5 +1,4 @@
-use Rattle.std.proofs.Common.{◌≡◌, ◌++◌, drop}
-use Rattle.std.specs.List.{flat_map}
+use Rattle.std.{proofs.Common.◌≡◌, proofs.Common.◌++◌, proofs.Common.drop, specs.List.flat_map}
 use Rattle.ps_heard.specs.HeardText.{heard_text, tune_text}
 use Rattle.ps_heard.proofs.telling.put_heard.Given as goal
 

@@ -1,5 +1,4 @@
-use Rattle.std.proofs.Common.{◌≡◌, drop}
-use Rattle.std.specs.Prelude.{max}
+use Rattle.std.{proofs.Common.◌≡◌, proofs.Common.drop, specs.Prelude.max}
 use Rattle.ps_heard.specs.Tunes.{most_staves}
 use Rattle.ps_heard.proofs.tunes.most_staves.Given as goal
 

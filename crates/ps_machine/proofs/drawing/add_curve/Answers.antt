@@ -1,9 +1,7 @@
 use Rattle.std.proofs.Common.{◌≡◌, rules, sym, subst, FitsSigned, w64, to_z, of_z}
-use Rattle.std.specs.Prelude.{Err}
-use Rattle.std.proofs.lemmas.Int.{to_z-of_z}
+use Rattle.std.{proofs.lemmas.Int.to_z-of_z, specs.Prelude.Err}
 use Rattle.ps_steps.specs.Operators.{curveto}
-use Rattle.ps_machine.specs.Doing.{state_of, DidOrStopped, IsPoint, numbers_of}
-use Rattle.ps_machine.proofs.Did.{curve_did, first_stops, second_stops, third_stops}
+use Rattle.ps_machine.{specs.Doing.state_of, specs.Doing.DidOrStopped, specs.Doing.IsPoint, specs.Doing.numbers_of, proofs.Did.curve_did, proofs.Did.first_stops, proofs.Did.second_stops, proofs.Did.third_stops}
 use Rattle.ps_machine.proofs.drawing.add_curve.Goals as goal
 
 pub returns-in_err-a : goal.returns-in_err-a

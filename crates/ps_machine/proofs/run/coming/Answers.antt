@@ -1,5 +1,4 @@
-use Rattle.ps_machine.specs.Nexts.{of_calls}
-use Rattle.ps_machine.proofs.Loop.{next_of_text}
+use Rattle.ps_machine.{specs.Nexts.of_calls, proofs.Loop.next_of_text}
 use Rattle.ps_machine.proofs.run.coming.Goals as goal
 
 pub returns-in-Some : goal.returns-in-Some

@@ -1,6 +1,5 @@
 use Rattle.std.proofs.Common.{◌-◌}
-use Rattle.ps_machine.specs.Doing.{state_of}
-use Rattle.ps_machine.proofs.Loop.{Come}
+use Rattle.ps_machine.{specs.Doing.state_of, proofs.Loop.Come}
 use Rattle.ps_machine.proofs.run.run_bytes.Given as goal
 
 abbrev pub invariant-loop-calls : goal.invariant-loop-calls

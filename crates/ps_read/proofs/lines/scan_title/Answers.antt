@@ -1,11 +1,9 @@
 use Rattle.std.proofs.Common.{◌∷◌, ◌++◌, Some, ◌∙◌, ap, codes, lit≤}
 use Rattle.std.specs.List.{flat_map}
 use Rattle.glyph_paths.specs.Procedure.{numbers}
-use Rattle.ps_text.specs.Fields.{shown}
-use Rattle.ps_text.specs.Names.{size_name}
-use Rattle.ps_read.specs.Titles.{title_of}
+use Rattle.ps_text.specs.{Fields.shown, Names.size_name}
+use Rattle.ps_read.{specs.Titles.title_of, proofs.Forms.title_numbers, proofs.Forms.title_form, proofs.Forms.small_number, proofs.Forms.size_is_field}
 use Rattle.eng_lines.proofs.Words.{after_prefix}
-use Rattle.ps_read.proofs.Forms.{title_numbers, title_form, small_number, size_is_field}
 use Rattle.ps_read.proofs.lines.scan_title.Goals as goal
 
 pub returns-in_default : goal.returns-in_default

@@ -1,14 +1,12 @@
 use Rattle.std.proofs.Common.{sym, subst, None, arith}
-use Rattle.ps_read.specs.Steps.{IsNextOf, IsSystemLine}
-use Rattle.ps_read.specs.declared.place.Place.TheVariants as at
-use Rattle.ps_read.proofs.Stepping.{on_system, none_system, not_rising}
+use Rattle.ps_read.{specs.Steps.IsNextOf, specs.Steps.IsSystemLine, specs.declared.place.Place.Place, proofs.Stepping.on_system, proofs.Stepping.none_system, proofs.Stepping.not_rising, proofs.pages.system_line.Goals.in_default-via-in-Some+else-a-b}
+use Rattle.ps_read.proofs.pages.system_line.Goals.{in_default-via-in_default}
 use Rattle.ps_read.proofs.pages.system_line.Goals as goal
-use Rattle.ps_read.proofs.pages.system_line.Goals.{in_default-via-in-Some+else-a-b, in_default-via-in_default}
 
 pub returns-in-Some : goal.returns-in-Some
 returns-in-Some c =
     let k = c.in-Some.ensures in let a = c.in-Some.a in let b = c.in-Some.b in
-    subst (λ ss. IsNextOf IsSystemLine (at.Items c.args.page) c.args.raw.now (at.System (record { page = c.args.page; a = a; b = b; join = None; staves = ss })))
+    subst (λ ss. IsNextOf IsSystemLine (Place.Items c.args.page) c.args.raw.now (Place.System (record { page = c.args.page; a = a; b = b; join = None; staves = ss })))
     (sym c.new.ensures) (on_system c.args.page c.args.raw.now a b k.0 k.1 k.2 c.if-a-b.true)
 
 pub returns-in_default : goal.returns-in_default

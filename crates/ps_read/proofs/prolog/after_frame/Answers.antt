@@ -1,7 +1,5 @@
 use Rattle.std.proofs.Common.{◌∙◌, ap, sym, subst}
-use Rattle.ps_read.specs.Lines.{IsFirstLine, behind_line}
-use Rattle.ps_read.specs.Places.{after_prolog}
-use Rattle.ps_read.proofs.Stepping.{on_framed}
+use Rattle.ps_read.{specs.Lines.IsFirstLine, specs.Lines.behind_line, specs.Places.after_prolog, proofs.Stepping.on_framed}
 use Rattle.ps_read.proofs.prolog.after_frame.Goals as goal
 
 pub returns-in-Some : goal.returns-in-Some

@@ -1,6 +1,5 @@
 use Rattle.std.proofs.Common.{◌++◌, ◌∙◌, ap}
-use Rattle.ps_text.specs.Prolog.{glyph_lines, last_text}
-use Rattle.ps_text.specs.declared.prolog.TheConstants.{LAST}
+use Rattle.ps_text.specs.{Prolog.glyph_lines, Prolog.last_text, declared.prolog.TheConstants.LAST}
 use Rattle.ps_read.proofs.prolog.last_lines.Goals as goal
 
 pub returns : goal.returns

@@ -1,8 +1,6 @@
-use Rattle.std.proofs.Common.{subst, w64}
-use Rattle.std.proofs.lemmas.Int.{to_z-of_z}
+use Rattle.std.proofs.{Common.subst, Common.w64, lemmas.Int.to_z-of_z}
 use Rattle.ps_text.proofs.Numbers.{fits}
-use Rattle.ps_read.specs.Titles.{IsRulesRead}
-use Rattle.ps_read.proofs.Stepping.{on_rules}
+use Rattle.ps_read.{specs.Titles.IsRulesRead, proofs.Stepping.on_rules}
 use Rattle.ps_read.proofs.systems.after_staff.Goals as goal
 
 pub returns : goal.returns

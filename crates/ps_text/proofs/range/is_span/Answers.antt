@@ -1,5 +1,4 @@
-use Rattle.std.proofs.Common.{rules}
-use Rattle.std.proofs.lemmas.Int.{to_z-of_z}
+use Rattle.std.proofs.{Common.rules, lemmas.Int.to_z-of_z}
 use mir.Syntax.{w64}
 use Rattle.ps_text.proofs.Ranges.{span_of}
 use Rattle.ps_text.proofs.range.is_span.Goals as goal

@@ -1,5 +1,4 @@
-use Rattle.std.proofs.Common.{◌≡◌, to_z, of_z, w64, arith}
-use Rattle.std.proofs.lemmas.Int.{ints}
+use Rattle.std.proofs.{Common.◌≡◌, Common.to_z, Common.of_z, Common.w64, Common.arith, lemmas.Int.ints}
 use Rattle.ps_text.proofs.FoundMarks.{too_far}
 use Rattle.ps_text.proofs.reading.offset_from.Goals as goal
 

@@ -1,6 +1,5 @@
-use Rattle.std.proofs.lemmas.Int.{ints, to_z-of_z}
+use Rattle.std.proofs.{lemmas.Int.ints, lemmas.Int.to_z-of_z, Common.arith}
 use mir.Syntax.{w64}
-use Rattle.std.proofs.Common.{arith}
 use Rattle.ps_text.proofs.Taken.{numbers_step, numbers_end}
 use Rattle.ps_text.proofs.scanning.take_numbers.Goals as goal
 

@@ -1,6 +1,5 @@
 use Rattle.std.proofs.Common.{arith, sym, ◌∙◌, ap, length}
-use Rattle.ps_text.proofs.Numbers.{tail_of}
-use Rattle.ps_text.proofs.Shown.{slashed, bare, shows_of, first_of}
+use Rattle.ps_text.proofs.{Numbers.tail_of, Shown.slashed, Shown.bare, Shown.shows_of, Shown.first_of}
 use Rattle.ps_text.proofs.words.take_shown.Goals as goal
 
 pub returns-in-empty-clause-reads : goal.returns-in-empty-clause-reads

@@ -1,8 +1,6 @@
 use Rattle.std.proofs.Common.{◌≡◌, ℕ, ◌++◌, ◌∷◌, List, length, IsTrue}
 use Rattle.std.specs.List.{flat_map, list_all}
-use Rattle.ps_text.specs.Fields.{shown}
-use Rattle.ps_text.specs.Range.{is_shown}
-use Rattle.ps_text.proofs.Taken.{WordsLeft}
+use Rattle.ps_text.{specs.Fields.shown, specs.Range.is_shown, proofs.Taken.WordsLeft}
 use Rattle.ps_text.proofs.words.take_words.Given as goal
 
 abbrev pub invariant-loop-b : goal.invariant-loop-b

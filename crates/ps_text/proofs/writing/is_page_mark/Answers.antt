@@ -1,5 +1,4 @@
-use Rattle.std.proofs.Common.{◌≡◌, arith}
-use Rattle.std.proofs.lemmas.Int.{ints, to_z-of_z}
+use Rattle.std.proofs.{Common.◌≡◌, Common.arith, lemmas.Int.ints, lemmas.Int.to_z-of_z}
 use mir.Syntax.{w64}
 use Rattle.ps_text.proofs.writing.is_page_mark.Goals as goal
 

@@ -1,5 +1,4 @@
-use Rattle.std.proofs.Common.{append_assoc}
-use Rattle.std.proofs.lemmas.Int.{to_z-of_z}
+use Rattle.std.proofs.{Common.append_assoc, lemmas.Int.to_z-of_z}
 use mir.Syntax.{w64}
 use Rattle.ps_text.specs.Line.{beam_line}
 use Rattle.ps_text.proofs.writing.put_beam.Goals as goal

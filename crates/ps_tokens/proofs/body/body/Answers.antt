@@ -1,14 +1,12 @@
 use Rattle.std.proofs.Common.{◌≡◌, [], sym, ◌∙◌, append-nil, arith}
-use Rattle.ps_steps.specs.declared.halt.Cause.TheVariants as causes
-use Rattle.ps_steps.specs.Tokens.{unclosed, nested, unread_within, closes, found, Front}
-use Rattle.ps_tokens.proofs.Bodies.{body_more}
-use Rattle.ps_tokens.proofs.Shorter.{found_shorter, passed_length}
+use Rattle.ps_steps.specs.{declared.halt.Cause.Cause, Tokens.unclosed, Tokens.nested, Tokens.unread_within, Tokens.closes, Tokens.found, Tokens.Front}
+use Rattle.ps_tokens.proofs.{Bodies.body_more, Shorter.found_shorter, Shorter.passed_length}
 use Rattle.ps_tokens.proofs.body.body.Goals as goal
 
 pub returns-then-is_empty : goal.returns-then-is_empty
 returns-then-is_empty c =
     let e : c.skip-here.result.now ≡ [] = grind (arith, c.if-is_empty.true, c.is_empty.ensures) in
-    c.loop-here.invariant.none causes.Unclosed (unclosed c.loop-here.rest.now (sym c.skip-here.ensures.passed ∙ e))
+    c.loop-here.invariant.none Cause.Unclosed (unclosed c.loop-here.rest.now (sym c.skip-here.ensures.passed ∙ e))
 
 pub loop-here-smaller : goal.loop-here-smaller
 loop-here-smaller c =
@@ -26,7 +24,7 @@ returns-in-Closing c =
 
 pub returns-in-Opening : goal.returns-in-Opening
 returns-in-Opening c =
-    c.loop-here.invariant.none causes.BadToken (nested c.loop-here.rest.now c.in-Opening.field-0.now (rw (c.in-Opening.is, c.skip-here.ensures.passed) at c.in_ok-t.ensures))
+    c.loop-here.invariant.none Cause.BadToken (nested c.loop-here.rest.now c.in-Opening.field-0.now (rw (c.in-Opening.is, c.skip-here.ensures.passed) at c.in_ok-t.ensures))
 
 pub returns-in-Unread : goal.returns-in-Unread
 returns-in-Unread c =
