@@ -1,16 +1,12 @@
 -- What is answered where both texts are written, and where something else is called for.
 use Rattle.std.proofs.Common.{◌≡◌, refl, sym, subst, ◌⊎◌, inl, inr, List, [], ℕ, ◌≤◌, length, Option}
 use Rattle.std.specs.Io.KnownBytes.{Consumes, IsAtEnd}
-use Rattle.abcps_words.specs.declared.command.Command.{Command}
+use Rattle.abcps_words.specs.{declared.command.Command.Command, Command.Asks, Command.limit_of}
 use Rattle.abcps_words.specs.declared.command.Command.TheVariants as command
-use Rattle.abcps.specs.Called.{Called}
-use Rattle.abcps.specs.Calls.{Calls, Refuses}
-use Rattle.abcps.specs.Refusals.{refusal_line, refusal_status}
-use Rattle.abcps.specs.declared.refusing.Refusal.{Refusal}
-use Rattle.abcps.specs.declared.refusing.Refusal.TheVariants as refusals
-use Rattle.abcps_words.specs.Command.{Asks, limit_of}
+use Rattle.abcps.specs.{Called.Called, Calls.Calls, Calls.Refuses, Refusals.refusal_line, Refusals.refusal_status, declared.refusing.Refusal.Refusal}
 use Rattle.abcps.specs.Outcome.{IsAnswer, IsAnswered, IsEnd, IsObeyed, IsQuiet, IsRead, IsReader, IsRun, ReadAll, Stream, TookAll, TookFront, WasTold}
 use Rattle.abcps.specs.declared.status.Status.{Status}
+use Rattle.abcps.specs.declared.refusing.Refusal.TheVariants as refusals
 use Rattle.abcps.specs.declared.status.Status.TheVariants as status
 
 abbrev Is : Called → Called → Type 0
@@ -32,6 +28,16 @@ answered_end called o e s end page (inl told) =
     answered_whole called o e s (subst IsEnd (sym told.0) end) told.0 page told.1
 answered_end called o e s end page (inr cut) =
     subst (λ t. IsAnswered (Is called) t o e) (sym cut.0) (called, refl, inr (page, cut.1))
+
+-- what is answered for something is answered for what it is
+pub answered_weaker : (C D : Called → Type 0) → ((called : Called) → C called → D called) → (o e : Stream) (s : Status) → IsAnswered C s o e → IsAnswered D s o e
+answered_weaker C D give o e status.Done r = (r.0, give r.0 r.1, r.2, r.3, r.4)
+answered_weaker C D give o e status.SomeRefused r = (r.0, give r.0 r.1, r.2, r.3, r.4)
+answered_weaker C D give o e status.NotLeast r = (r.0, give r.0 r.1, r.2, r.3, r.4)
+answered_weaker C D give o e status.WriteFault r = (r.0, give r.0 r.1, r.2)
+answered_weaker C D give o e status.Memory (quiet, inl none) = (quiet, inl none)
+answered_weaker C D give o e status.Memory (quiet, inr part) = (quiet, inr (part.0, give part.0 part.1, part.2))
+answered_weaker C D give o e s r = absurd r
 
 -- what is answered for something is answered for what a command calls for, if that is it
 pub answer_of : (c : Command) (text : List ℕ) (C : Called → Type 0) → ((called : Called) → C called → Calls c text called)
@@ -61,7 +67,7 @@ answer_refused c text (refusals.Halted token cause) o e s refuses quiet (inr tol
 -- what was read of a command that reads
 pub read_of : (c : Command) (i : Stream) (text : List ℕ) → IsReader c → ReadAll (limit_of c) i text → IsRead c i text
 read_of (command.Make tunes) i text reads read = absurd reads
-read_of (command.Trial tunes flow jobs) i text reads read = absurd reads
+read_of (command.Trial tunes flow jobs even) i text reads read = absurd reads
 read_of c i text reads read = read
 
 -- a command that was answered was obeyed

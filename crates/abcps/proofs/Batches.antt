@@ -1,28 +1,19 @@
 -- A book that is set a batch of tunes at a time, and whose pages are written as they fill.
 use Rattle.std.proofs.Common.{◌≡◌, refl, sym, ap, ◌∙◌, subst, ℕ, ◌+◌, ◌≤◌, Bool, List, [], ◌++◌, append_assoc, length, take, drop, Option, arith}
-use Rattle.std.proofs.lemmas.Grind.{flat_map-append}
-use Rattle.std.proofs.lemmas.List.{append-nil, length-append, take-append-drop}
+use Rattle.std.proofs.{lemmas.Grind.flat_map-append, lemmas.List.append-nil, lemmas.List.length-append, lemmas.List.take-append-drop}
 use Rattle.std.proofs.lemmas.List.Folds.{list_any-append}
 use Rattle.std.specs.Prelude.{◌||◌, All, OnOk, Result, Ok, Err}
 use Rattle.abc_lines.specs.declared.book.TuneText.{TuneText}
-use Rattle.abc_header.specs.declared.defaults.Defaults.{Defaults}
-use Rattle.abc_header.specs.declared.paper.Paper.{Paper}
-use Rattle.ps_text.specs.Document.{numbered, page_text}
-use Rattle.ps_text.specs.Prolog.{prolog}
-use Rattle.ps_text.specs.declared.sheet.Page.{Page}
+use Rattle.abc_header.specs.{declared.defaults.Defaults.Defaults, declared.paper.Paper.Paper}
+use Rattle.ps_text.specs.{Document.numbered, Document.page_text, Prolog.prolog, declared.sheet.Page.Page}
 use Rattle.set_tune.specs.declared.how.How.{How}
-use Rattle.set_book.specs.declared.outcome.Outcome.{Outcome}
-use Rattle.set_book.specs.Outcomes.{AreOutcomes, IsOutcome}
+use Rattle.set_book.specs.{declared.outcome.Outcome.Outcome, Outcomes.AreOutcomes, Outcomes.IsOutcome}
 use Rattle.set_lists.specs.Reports.{is_faulty, report, reports, some_fault}
-use Rattle.set_pages.specs.Press.{IsOpen, IsPressed, done_pages, no_press}
-use Rattle.set_pages.specs.Sheet.{IsSetUnder, frame_of}
-use Rattle.set_pages.proofs.Joined.{zip_append}
-use Rattle.set_pages.proofs.Readying.{set_outcomes}
-use Rattle.set_pages.proofs.Whole.{none_open, none_pressed}
+use Rattle.set_pages.specs.{declared.plan.Plan.Plan, Press.IsOpen, Press.IsPressed, Press.RisesBy, Press.done_pages, Press.no_press, Sheet.IsSetUnder, Sheet.frame_of}
+use Rattle.set_pages.proofs.{Joined.zip_append, Readying.set_outcomes, Whole.none_open, Whole.none_pressed}
 use Rattle.abcps.specs.Outcome.{Stream, TookAll}
 use Rattle.abcps.specs.Pressed.{AreCutOff, AreRunning, AreTaken, IsBegun, IsRunning, WasStopped, first_text}
-use Rattle.abcps.specs.declared.pressing.Running.{Running}
-use Rattle.abcps.specs.declared.status.Status.{Status}
+use Rattle.abcps.specs.{declared.pressing.Running.Running, declared.status.Status.Status}
 use Rattle.abcps.specs.declared.status.Status.TheVariants as status
 use Rattle.abcps.proofs.Sent.{first_more, memory_behind, stopped_behind, stopped_longer, stream, took_behind}
 
@@ -39,9 +30,9 @@ pub none_told : [] ≡ reports []
 unfolding reports
 none_told = refl
 
-pub running_more : (paper : Paper) (outcomes more : List Outcome) (given : List Page) (r s : Running) → (IsPressed paper outcomes given r.press → IsPressed paper (outcomes ++ more) given s.press)
-    → s.told ≡ r.told ++ reports more → s.refused ≡ (r.refused || some_fault more) → s.writer ≡ r.writer → IsRunning paper outcomes given r → IsRunning paper (outcomes ++ more) given s
-running_more paper outcomes more given r s press told refused writer running = record {
+pub running_more : (plan : Plan) (paper : Paper) (outcomes more : List Outcome) (given : List Page) (r s : Running) → (IsPressed plan paper outcomes given r.press → IsPressed plan paper (outcomes ++ more) given s.press)
+    → s.told ≡ r.told ++ reports more → s.refused ≡ (r.refused || some_fault more) → s.writer ≡ r.writer → IsRunning plan paper outcomes given r → IsRunning plan paper (outcomes ++ more) given s
+running_more plan paper outcomes more given r s press told refused writer running = record {
   pressed = press running.pressed;
   told = told ∙ ap (λ text. text ++ reports more) running.told ∙ sym (reports_append outcomes more);
   refused = refused ∙ ap (λ b. b || some_fault more) running.refused ∙ sym (list_any-append is_faulty outcomes more);
@@ -49,9 +40,9 @@ running_more paper outcomes more given r s press told refused writer running = r
 }
 
 -- the pages that are done are written
-pub running_written : (paper : Paper) (outcomes : List Outcome) (given : List Page) (r s : Running) → (IsPressed paper outcomes given r.press → IsPressed paper outcomes (given ++ done_pages r.press) s.press)
-    → s.told ≡ r.told → s.refused ≡ r.refused → s.writer.pages ≡ r.writer.pages + length (done_pages r.press) → IsRunning paper outcomes given r → IsRunning paper outcomes (given ++ done_pages r.press) s
-running_written paper outcomes given r s press told refused count running =
+pub running_written : (plan : Plan) (paper : Paper) (outcomes : List Outcome) (given : List Page) (r s : Running) → (IsPressed plan paper outcomes given r.press → IsPressed plan paper outcomes (given ++ done_pages r.press) s.press)
+    → s.told ≡ r.told → s.refused ≡ r.refused → s.writer.pages ≡ r.writer.pages + length (done_pages r.press) → IsRunning plan paper outcomes given r → IsRunning plan paper outcomes (given ++ done_pages r.press) s
+running_written plan paper outcomes given r s press told refused count running =
     let both = length-append given (done_pages r.press) in
     let before = running.count in
     record {
@@ -71,30 +62,30 @@ pub batch_set : (defaults : Defaults) (paper : Paper) (how : How) (batch : List 
 batch_set defaults paper how batch outcomes at counted same set = subst (λ os. All (IsSetUnder paper) os) (sym same) (set_outcomes defaults paper how batch outcomes counted set)
 
 -- the tunes before those that are left were set, and the document was written so far
-pub record IsUnderway (defaults : Defaults) (paper : Paper) (how : How) (tunes rest : List TuneText) (o : Stream) (r : Running) : Type 0 where
+pub record IsUnderway (defaults : Defaults) (plan : Plan) (paper : Paper) (how : How) (tunes rest : List TuneText) (o : Stream) (r : Running) : Type 0 where
   pub before : List TuneText
   pub whole : before ++ rest ≡ tunes
-  pub running : AreRunning defaults paper how before o r
+  pub running : AreRunning defaults plan paper how before o r
 
-pub underway_first : (defaults : Defaults) (paper : Paper) (how : How) (tunes : List TuneText) (o : Stream) (r : Running) → TookAll o (prolog (frame_of paper)) → IsBegun r
-    → IsUnderway defaults paper how tunes tunes o r
-underway_first defaults paper how tunes o r took begun = record {
+pub underway_first : (defaults : Defaults) (plan : Plan) (paper : Paper) (how : How) (tunes : List TuneText) (o : Stream) (r : Running) → RisesBy plan → TookAll o (prolog (frame_of paper)) → IsBegun r
+    → IsUnderway defaults plan paper how tunes tunes o r
+underway_first defaults plan paper how tunes o r rises took begun = record {
   before = [];
   whole = refl;
   running = record {
     outcomes = [];
     given = [];
     set = tt;
-    running = begun.none paper;
+    running = begun.none plan paper rises;
     free = begun.free;
     wrote = subst (λ text. TookAll o text) (sym (append-nil (prolog (frame_of paper)))) took;
   };
 }
 
 -- the document was not begun
-pub cut_first : (defaults : Defaults) (paper : Paper) (how : How) (tunes : List TuneText) (o : Stream) (why : Status) → WasStopped why o (prolog (frame_of paper))
-    → AreCutOff defaults paper how tunes o why
-cut_first defaults paper how tunes o why stopped = record {
+pub cut_first : (defaults : Defaults) (plan : Plan) (paper : Paper) (how : How) (tunes : List TuneText) (o : Stream) (why : Status) → RisesBy plan → WasStopped why o (prolog (frame_of paper))
+    → AreCutOff defaults plan paper how tunes o why
+cut_first defaults plan paper how tunes o why rises stopped = record {
   before = [];
   rest = tunes;
   whole = refl;
@@ -102,17 +93,17 @@ cut_first defaults paper how tunes o why stopped = record {
   set = tt;
   given = [];
   press = no_press;
-  pressed = none_pressed paper;
+  pressed = none_pressed plan paper rises;
   free = none_open;
   wrote = stopped_longer why o (prolog (frame_of paper)) [] stopped;
 }
 
-module _ (defaults : Defaults) (paper : Paper) (how : How) (tunes rest : List TuneText) where
+module _ (defaults : Defaults) (plan : Plan) (paper : Paper) (how : How) (tunes rest : List TuneText) where
   -- the pages that are done were written before the next batch
-  pub underway_written : (b m a : Option (List ℕ)) (n k l : ℕ) (r s : Running) (way : IsUnderway defaults paper how tunes rest (stream b m n k) r)
+  pub underway_written : (b m a : Option (List ℕ)) (n k l : ℕ) (r s : Running) (way : IsUnderway defaults plan paper how tunes rest (stream b m n k) r)
       → TookAll (stream m a k l) (numbered page_text (r.writer.pages + 1) (done_pages r.press))
-      → ((outcomes : List Outcome) (given : List Page) → IsRunning paper outcomes given r → IsRunning paper outcomes (given ++ done_pages r.press) s) → IsOpen s.press
-      → IsUnderway defaults paper how tunes rest (stream b a n l) s
+      → ((outcomes : List Outcome) (given : List Page) → IsRunning plan paper outcomes given r → IsRunning plan paper outcomes (given ++ done_pages r.press) s) → IsOpen s.press
+      → IsUnderway defaults plan paper how tunes rest (stream b a n l) s
   underway_written b m a n k l r s way took written free =
       let run = way.running in
       let sent = subst (λ j. TookAll (stream m a k l) (numbered page_text (j + 1) (done_pages r.press))) run.running.count took in
@@ -131,8 +122,8 @@ module _ (defaults : Defaults) (paper : Paper) (how : How) (tunes rest : List Tu
       }
 
   -- or were not
-  pub cut_written : (b m a : Option (List ℕ)) (n k l : ℕ) (r : Running) (why : Status) → IsUnderway defaults paper how tunes rest (stream b m n k) r
-      → WasStopped why (stream m a k l) (numbered page_text (r.writer.pages + 1) (done_pages r.press)) → AreCutOff defaults paper how tunes (stream b a n l) why
+  pub cut_written : (b m a : Option (List ℕ)) (n k l : ℕ) (r : Running) (why : Status) → IsUnderway defaults plan paper how tunes rest (stream b m n k) r
+      → WasStopped why (stream m a k l) (numbered page_text (r.writer.pages + 1) (done_pages r.press)) → AreCutOff defaults plan paper how tunes (stream b a n l) why
   cut_written b m a n k l r why way stopped =
       let run = way.running in
       let sent = subst (λ j. WasStopped why (stream m a k l) (numbered page_text (j + 1) (done_pages r.press))) run.running.count stopped in
@@ -151,8 +142,8 @@ module _ (defaults : Defaults) (paper : Paper) (how : How) (tunes rest : List Tu
       }
 
   -- a batch was set
-  pub underway_more : (batch later : List TuneText) (n : ℕ) (o : Stream) (r s : Running) → batch ≡ take n rest → later ≡ drop n rest → AreTaken defaults paper how batch r s → IsOpen s.press
-      → IsUnderway defaults paper how tunes rest o r → IsUnderway defaults paper how tunes later o s
+  pub underway_more : (batch later : List TuneText) (n : ℕ) (o : Stream) (r s : Running) → batch ≡ take n rest → later ≡ drop n rest → AreTaken defaults plan paper how batch r s → IsOpen s.press
+      → IsUnderway defaults plan paper how tunes rest o r → IsUnderway defaults plan paper how tunes later o s
   underway_more batch later n o r s front back taken free way =
       let run = way.running in
       record {
@@ -171,7 +162,7 @@ module _ (defaults : Defaults) (paper : Paper) (how : How) (tunes rest : List Tu
       }
 
   -- or was not, for want of memory
-  pub cut_memory : (o : Stream) (r : Running) (why : Status) → why ≡ status.Memory → IsUnderway defaults paper how tunes rest o r → AreCutOff defaults paper how tunes o why
+  pub cut_memory : (o : Stream) (r : Running) (why : Status) → why ≡ status.Memory → IsUnderway defaults plan paper how tunes rest o r → AreCutOff defaults plan paper how tunes o why
   cut_memory o r why is way =
       let run = way.running in
       record {

@@ -1,17 +1,16 @@
 -- What is called for of a book that was set.
 use Rattle.std.proofs.Common.{◌≡◌, ◌≤◌, ◌^◌, ◌∙◌, refl, sym, ap, subst, List, ℕ, Bool, true, false, length}
 use Rattle.std.specs.List.{All}
-use Rattle.abc_header.specs.declared.paper.Paper.{Paper}
-use Rattle.abc_header.specs.Defaults.{defaults_of}
+use Rattle.abc_header.specs.{declared.paper.Paper.Paper, Defaults.defaults_of}
 use Rattle.abc_lines.specs.Books.{book_of}
 use Rattle.gen_book.specs.Book.{book}
 use Rattle.set_tune.specs.declared.how.How.{How}
 use Rattle.set_book.specs.declared.outcome.Outcome.{Outcome}
-use Rattle.set_pages.specs.Sheet.{IsSetUnder, sheet_of}
+use Rattle.set_pages.specs.Sheet.{IsPlan, IsSetUnder, sheet_of}
 use Rattle.set_pages.proofs.Readying.{book_counted, set_outcomes}
-use Rattle.set_lists.specs.Laws.{ListsTheBook}
-use Rattle.set_lists.specs.Trials.{trial_text}
-use Rattle.abcps.specs.Books.{AreSet, CallsSystems, IsListedBy, Tries, paper_in, systems_by, systems_called, trial_called, trial_of}
+use Rattle.set_lists.specs.{Laws.ListsTheBook, Trials.trial_text}
+use Rattle.abcps.specs.Books.{AreSet, CallsSystems, IsListedBy, IsTried, Tries, paper_in, systems_by, systems_called, trial_of}
+use Rattle.abcps.specs.Called.{Called}
 
 -- the tunes of a book are set on its paper
 pub set_under : (how : How) (text : List ℕ) (paper : Paper) (outcomes : List Outcome) → paper ≡ paper_in text → AreSet how text outcomes → All (IsSetUnder paper) outcomes
@@ -38,11 +37,17 @@ calls_systems lists how table text outcomes short set = record {
 }
 
 -- what `trial` calls for
-pub tries : (tunes : ℕ) (how : How) (text : List ℕ) (paper : Paper) (outcomes : List Outcome) → text ≡ book tunes → paper ≡ paper_in text → AreSet how text outcomes
-    → Tries tunes how (trial_called tunes paper outcomes)
-tries tunes how text paper outcomes is on set = record {
-  outcomes = outcomes;
-  set = subst (λ t. AreSet how t outcomes) is set;
-  page = ap (λ (p : Paper). trial_text (trial_of tunes outcomes (sheet_of p outcomes))) (on ∙ ap paper_in is);
-  quietly = record { told = refl; status = refl };
-}
+pub tries : (tunes : ℕ) (how : How) (even : Bool) (text : List ℕ) (paper : Paper) (outcomes : List Outcome) (c : Called) → text ≡ book tunes → paper ≡ paper_in text → AreSet how text outcomes
+    → IsTried tunes even paper outcomes c → Tries tunes how even c
+tries tunes how even text paper outcomes c is on set tried =
+    let same = on ∙ ap paper_in is in
+    let booked = tried.booked in
+    let sheet = booked.made.value ∙ ap (λ (p : Paper). sheet_of booked.plan p outcomes) same in
+    record {
+      outcomes = outcomes;
+      set = subst (λ t. AreSet how t outcomes) is set;
+      plan = booked.plan;
+      parted = subst (λ (p : Paper). IsPlan even p outcomes booked.plan) same booked.planned;
+      page = ap (λ (d : Called). d.page) tried.called ∙ ap (λ s. trial_text (trial_of tunes outcomes s)) sheet;
+      quietly = record { told = ap (λ (d : Called). d.told) tried.called; status = ap (λ (d : Called). d.status) tried.called };
+    }

@@ -6,3 +6,4 @@ mod Batches
 mod Closing
 mod Cut
 mod Promised
+mod Gathered

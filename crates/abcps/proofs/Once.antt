@@ -1,38 +1,30 @@
 -- A command calls for one answer on an input, however many jobs set its book; and for none on an input that it refuses.
 use Rattle.std.proofs.Common.{◌≡◌, ◌∙◌, refl, sym, ap, subst, ℕ, List, [], ◌∷◌, Bool, arith}
 use Rattle.abc_lines.specs.Books.{book_of}
-use Rattle.abc_header.specs.Defaults.{defaults_of}
+use Rattle.abc_header.specs.{declared.paper.Paper.Paper, Defaults.defaults_of}
 use Rattle.gen_book.specs.Book.{book}
-use Rattle.lay_breaks.specs.Breaking.{sum_from}
-use Rattle.lay_breaks.specs.Spans.{listed}
+use Rattle.lay_breaks.specs.{Breaking.sum_from, Spans.listed}
 use Rattle.lay_breaks.proofs.Unique.{one_is_chosen}
-use Rattle.lay_cert.specs.Answers.{IsJudged}
-use Rattle.lay_cert.specs.Listing.{Entry, none_forced}
-use Rattle.lay_cert.specs.Verdicts.{IsVerdict, AreVerdicts}
-use Rattle.lay_cert.specs.declared.check.Judged.{Judged}
-use Rattle.lay_cert.specs.declared.check.Verdict.{Verdict}
+use Rattle.lay_cert.specs.{Answers.IsJudged, Listing.Entry, Listing.none_forced, Verdicts.IsVerdict, Verdicts.AreVerdicts}
+use Rattle.lay_cert.specs.{declared.check.Judged.Judged, declared.check.Verdict.Verdict}
 use Rattle.lay_cert.specs.declared.check.Verdict.TheVariants.{Least, NotLeast}
 use Rattle.lay_cert.proofs.Alone.{tells_one}
 use Rattle.paint_text.specs.PaintText.{paint_text}
 use Rattle.ps_machine.specs.OneAnswer.{HasOneAnswer}
 use Rattle.ps_heard.specs.HeardText.{heard_text}
-use Rattle.ps_text.specs.Document.{document}
-use Rattle.ps_text.specs.declared.sheet.Sheet.{Sheet}
-use Rattle.set_tune.specs.declared.how.How.{How}
-use Rattle.set_tune.specs.How.{how_of, unmoved}
-use Rattle.set_book.specs.declared.outcome.Outcome.{Outcome}
-use Rattle.set_pages.specs.Sheet.{sheet_of}
-use Rattle.set_lists.specs.Reports.{reports}
-use Rattle.set_lists.specs.Trials.{trial_text}
-use Rattle.set_book.specs.Once.{HaveOneOutcome}
+use Rattle.ps_text.specs.{Document.document, declared.sheet.Sheet.Sheet}
+use Rattle.set_tune.specs.{declared.how.How.How, How.how_of, How.unmoved}
+use Rattle.set_book.specs.{declared.outcome.Outcome.Outcome, Once.HaveOneOutcome}
+use Rattle.set_pages.specs.{declared.plan.Plan.Plan, Sheet.IsPlan, Sheet.sheet_of}
+use Rattle.set_pages.proofs.Whole.{one_plan}
+use Rattle.set_lists.specs.{Reports.reports, Trials.trial_text}
 use Rattle.abcps_words.specs.declared.command.Command.{Command}
 use Rattle.abcps_words.specs.declared.command.Command.TheVariants as command
-use Rattle.abcps.specs.declared.status.Status.{Status}
-use Rattle.abcps.specs.Called.{Called, IsQuietly}
+use Rattle.abcps.specs.{declared.status.Status.Status, Called.Called, Called.IsQuietly}
 use Rattle.abcps.specs.Books.{AreSet, CallsPages, CallsSystems, Tries, paper_in, status_of, systems_by, trial_of}
 use Rattle.abcps.specs.Calls.{Calls, CallsOne, IsPainted, Judges, NeverBoth, Shows, budget_of, by_one_job, status_by, verdicts_text}
-use Rattle.abcps.specs.declared.refusing.Refusal.TheVariants as refusals
 use Rattle.abcps.specs.Outputs.{sheet_report}
+use Rattle.abcps.specs.declared.refusing.Refusal.TheVariants as refusals
 
 abbrev called_of : List ℕ → List ℕ → Status → Called
 called_of page told status = record { page = page; told = told; status = status }
@@ -49,11 +41,16 @@ quiet_called c d page a b = same_called c d page (a.told ∙ sym b.told) (a.stat
 one_set : HaveOneOutcome → (how : How) (text : List ℕ) (os ps : List Outcome) → AreSet how text os → AreSet how text ps → os ≡ ps
 one_set one how text os ps a b = one.outcomes (defaults_of (book_of text).header) (paper_in text) how (book_of text).tunes os ps a b
 
-pages_once : HaveOneOutcome → (how : How) (text : List ℕ) (c d : Called) → CallsPages how text c → CallsPages how text d → c ≡ d
-pages_once one how text c d a b =
+-- what one outcome and one plan give is one
+by_plan : {A : Type 0} (make : Plan → List Outcome → A) (even : Bool) (paper : Paper) (os ps : List Outcome) (plan other : Plan) → os ≡ ps → IsPlan even paper os plan → IsPlan even paper ps other → make plan os ≡ make other ps
+by_plan make even paper os ps plan other same is also =
+    ap (λ l. make plan l) same ∙ ap (λ p. make p ps) (one_plan even paper ps other plan also (subst (λ l. IsPlan even paper l plan) same is))
+
+pages_once : HaveOneOutcome → (how : How) (even : Bool) (text : List ℕ) (c d : Called) → CallsPages how even text c → CallsPages how even text d → c ≡ d
+pages_once one how even text c d a b =
     let same = one_set one how text a.outcomes b.outcomes a.set b.set in
     same_called c d
-    (sym a.sheet.spelled ∙ ap (λ os. document (sheet_of (paper_in text) os)) same ∙ b.sheet.spelled)
+    (sym a.sheet.spelled ∙ by_plan (λ p os. document (sheet_of p (paper_in text) os)) even (paper_in text) a.outcomes b.outcomes a.plan b.plan same a.parted b.parted ∙ b.sheet.spelled)
     (a.told ∙ ap reports same ∙ sym b.told)
     (a.status ∙ ap status_of same ∙ sym b.status)
 
@@ -65,10 +62,11 @@ systems_once one how table text c d a b =
     (a.told ∙ ap reports same ∙ sym b.told)
     (a.status ∙ ap status_of same ∙ sym b.status)
 
-trial_once : HaveOneOutcome → (tunes : ℕ) (how : How) (c d : Called) → Tries tunes how c → Tries tunes how d → c ≡ d
-trial_once one tunes how c d a b =
+trial_once : HaveOneOutcome → (tunes : ℕ) (how : How) (even : Bool) (c d : Called) → Tries tunes how even c → Tries tunes how even d → c ≡ d
+trial_once one tunes how even c d a b =
     let same = one_set one how (book tunes) a.outcomes b.outcomes a.set b.set in
-    quiet_called c d (a.page ∙ ap (λ os. trial_text (trial_of tunes os (sheet_of (paper_in (book tunes)) os))) same ∙ sym b.page) a.quietly b.quietly
+    let paper = paper_in (book tunes) in
+    quiet_called c d (a.page ∙ by_plan (λ p os. trial_text (trial_of tunes os (sheet_of p paper os))) even paper a.outcomes b.outcomes a.plan b.plan same a.parted b.parted ∙ sym b.page) a.quietly b.quietly
 
 -- ---- the others
 
@@ -127,18 +125,18 @@ painted_once alone text c d a b = quiet_called c d (a.page ∙ ap paint_text (al
 
 -- a command calls for one answer
 called_once : HaveOneOutcome → HasOneAnswer → (c : Command) (text : List ℕ) (called other : Called) → Calls c text called → Calls c text other → called ≡ other
-called_once one alone (command.Set flow jobs by) text called other a b = pages_once one (how_of flow by) text called other a b
+called_once one alone (command.Set flow jobs by even) text called other a b = pages_once one (how_of flow by) even text called other a b
 called_once one alone (command.Systems flow table by) text called other a b = systems_once one (how_of flow by) table text called other a b
 called_once one alone command.Inspect text called other a b = sheet_once sheet_report text called other a b
 called_once one alone command.Check text called other a b = verdicts_once text called other a b
 called_once one alone (command.Make tunes) text called other a b = quiet_called called other (a.page ∙ sym b.page) a.quietly b.quietly
-called_once one alone (command.Trial tunes flow jobs) text called other a b = trial_once one tunes (unmoved flow) called other a b
+called_once one alone (command.Trial tunes flow jobs even) text called other a b = trial_once one tunes (unmoved flow) even called other a b
 called_once one alone command.Paint text called other a b = painted_once alone text called other a b
 called_once one alone (command.Hear spread) text called other a b = sheet_once (heard_text spread) text called other a b
 
 -- what is called for doesn't hang on jobs
 by_one : (c : Command) (text : List ℕ) (called : Called) → Calls c text called → Calls (by_one_job c) text called
-by_one (command.Set flow jobs by) text called a = a
+by_one (command.Set flow jobs by even) text called a = a
 by_one c text called a = a
 
 -- commands that differ in nothing but jobs call for one answer

@@ -1,12 +1,9 @@
 -- The promises of a run, from its answer by cases.
 use Rattle.std.proofs.Common.{◌≡◌, refl, sym, ◌∙◌, ap, subst, ◌⊎◌, inl, inr, ℕ, ◌≤◌, List, ◌++◌, length, length-append, append-nil, Option, Some, None, arith}
 use Rattle.std.specs.Io.KnownBytes.{Consumes, IsAtEnd}
-use Rattle.abcps_words.specs.Command.{Asks, AsksOne, IsListed, limit_of}
-use Rattle.abcps_words.specs.declared.command.Command.{Command}
+use Rattle.abcps_words.specs.{Command.Asks, Command.AsksOne, Command.IsListed, Command.limit_of, declared.command.Command.Command}
 use Rattle.abcps_words.specs.declared.command.Command.TheVariants as command
-use Rattle.abcps.specs.Called.{Called}
-use Rattle.abcps.specs.Calls.{Calls, CallsOne, NeverBoth, Refuses}
-use Rattle.abcps.specs.Refusals.{IsRefusal}
+use Rattle.abcps.specs.{Called.Called, Calls.Calls, Calls.CallsOne, Calls.NeverBoth, Calls.Refuses, Refusals.IsRefusal}
 use Rattle.abcps.specs.declared.refusing.Refusal.{Refusal}
 use Rattle.abcps.specs.Outcome.{HasFailed, HasPart, Stream, IsObeyed, IsQuiet, IsRead, IsReader, IsRun, ReadAll, ReadTooMuch, TookAll, WasCut, WasRefused}
 use Rattle.abcps.specs.Promises.{IsDone, IsGiven, IsRefused, IsToldTo, IsWhole, NoFault, Promises}
@@ -91,17 +88,17 @@ module _ (alone : CallsOne) (either : NeverBoth) (words : List (List ℕ)) (i o 
   -- a command reads its input, or none
   reads_or_not : (c : Command) → IsReader c ⊎ (IsReader c → ⊥)
   reads_or_not (command.Make tunes) = inr (λ reads. reads)
-  reads_or_not (command.Trial tunes flow jobs) = inr (λ reads. reads)
+  reads_or_not (command.Trial tunes flow jobs even) = inr (λ reads. reads)
   reads_or_not c = inl tt
 
   told_reader : (c : Command) (told : List ℕ) → IsReader c → IsToldTo c i told → (i.before ≡ Some told) × (length told ≤ limit_of c)
   told_reader (command.Make tunes) told reads is = absurd reads
-  told_reader (command.Trial tunes flow jobs) told reads is = absurd reads
+  told_reader (command.Trial tunes flow jobs even) told reads is = absurd reads
   told_reader c told reads is = is
 
   read_reader : (c : Command) (text : List ℕ) → IsReader c → IsRead c i text → ReadAll (limit_of c) i text
   read_reader (command.Make tunes) text reads read = absurd reads
-  read_reader (command.Trial tunes flow jobs) text reads read = absurd reads
+  read_reader (command.Trial tunes flow jobs even) text reads read = absurd reads
   read_reader c text reads read = read
 
   read_told : (c : Command) (told text : List ℕ) → IsReader c → IsToldTo c i told → IsRead c i text → text ≡ told
@@ -110,7 +107,7 @@ module _ (alone : CallsOne) (either : NeverBoth) (words : List (List ℕ)) (i o 
   -- a command that reads nothing calls for the same of any text
   unread_calls : (c : Command) (told text : List ℕ) (called : Called) → (IsReader c → ⊥) → Calls c text called → Calls c told called
   unread_calls (command.Make tunes) told text called not calls = calls
-  unread_calls (command.Trial tunes flow jobs) told text called not calls = calls
+  unread_calls (command.Trial tunes flow jobs even) told text called not calls = calls
   unread_calls c told text called not calls = absurd (not tt)
 
   calls_told : (c : Command) (told text : List ℕ) (called : Called) → IsToldTo c i told → IsRead c i text → Calls c text called → Calls c told called

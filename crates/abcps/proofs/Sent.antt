@@ -2,23 +2,18 @@
 use Rattle.std.proofs.Common.{◌≡◌, refl, sym, ap, ◌∙◌, subst, ℕ, zero, suc, ◌+◌, ◌<◌, List, [], ◌∷◌, ◌++◌, length, take, drop, get_or, Option, Err, arith}
 use Rattle.std.proofs.lemmas.List.{append-nil, append_assoc, length-take-le, take-append-drop, take_more}
 use Rattle.std.proofs.Math.Seq.{drop-append_seam, take-append-add, take-append_seam}
-use Rattle.std.specs.Io.KnownBytes.{Appends}
 use Rattle.std.proofs.KnownBytes.{Appends-nil, Appends-trans}
+use Rattle.std.specs.Io.KnownBytes.{Appends}
 use Rattle.eng_io.specs.Causes.{Rose}
 use Rattle.abc_header.specs.declared.paper.Paper.{Paper}
-use Rattle.ps_text.specs.Document.{document, numbered, page_text, trailer}
-use Rattle.ps_text.specs.Prolog.{prolog}
-use Rattle.ps_text.specs.declared.sheet.Page.{Page}
+use Rattle.ps_text.specs.{Document.document, Document.numbered, Document.page_text, Document.trailer, Prolog.prolog, declared.sheet.Page.Page}
 use Rattle.ps_text.specs.declared.sheet.Sheet.{Sheet}
-use Rattle.ps_write.specs.Written.{Counted, WroteFront}
-use Rattle.ps_write.specs.declared.steps.DocError.{DocError}
-use Rattle.ps_write.specs.declared.steps.DocWriter.{DocWriter}
+use Rattle.ps_write.specs.{Written.Counted, Written.WroteFront, declared.steps.DocError.DocError, declared.steps.DocWriter.DocWriter}
 use Rattle.ps_write.specs.declared.steps.DocError.TheVariants as errors
 use Rattle.set_pages.specs.Sheet.{frame_of}
 use Rattle.set_pages.proofs.Fronts.{IsFront}
 use Rattle.abcps.specs.Outcome.{HasFront, Stream, TookAll}
-use Rattle.abcps.specs.Pressed.{WasCounted, WasStopped, first_text, rest_text}
-use Rattle.abcps.specs.Status.{status_after}
+use Rattle.abcps.specs.{Pressed.WasCounted, Pressed.WasStopped, Pressed.first_text, Pressed.rest_text, Status.status_after}
 use Rattle.abcps.specs.declared.status.Status.{Status}
 use Rattle.abcps.specs.declared.status.Status.TheVariants as status
 

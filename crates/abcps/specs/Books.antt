@@ -1,25 +1,15 @@
 -- What the commands that set a book call for.
 use Rattle.std.specs.Prelude.{◌≡◌, ⊤, ℕ, List, [], Bool, true, false, if◌then◌else◌, length}
 use Rattle.abc_lines.specs.Books.{book_of}
-use Rattle.abc_header.specs.declared.paper.Paper.{Paper}
-use Rattle.abc_header.specs.Defaults.{defaults_of}
-use Rattle.abc_header.specs.Papers.{paper_of}
+use Rattle.abc_header.specs.{declared.paper.Paper.Paper, Defaults.defaults_of, Papers.paper_of}
 use Rattle.gen_book.specs.Book.{book}
-use Rattle.ps_text.specs.Document.{Spells, document}
-use Rattle.ps_text.specs.declared.sheet.Sheet.{Sheet}
+use Rattle.ps_text.specs.{Document.Spells, Document.document, declared.sheet.Sheet.Sheet}
 use Rattle.set_tune.specs.declared.how.How.{How}
-use Rattle.set_book.specs.declared.outcome.Outcome.{Outcome}
-use Rattle.set_book.specs.Outcomes.{AreOutcomes}
-use Rattle.set_pages.specs.Clear.{AreClear}
-use Rattle.set_pages.specs.Sheet.{AllShown, AreStanding, sheet_of}
-use Rattle.set_lists.specs.declared.trials.Trial.{Trial}
-use Rattle.set_lists.specs.Reports.{reports, some_fault}
-use Rattle.set_lists.specs.Systems.{systems_text}
-use Rattle.set_lists.specs.Laws.{ListsTheScores}
-use Rattle.set_lists.specs.Listing.{listing_text}
-use Rattle.set_lists.specs.Trials.{fault_count, set_count, system_count, total_of, trial_text}
-use Rattle.abcps.specs.Called.{Called, IsQuietly}
-use Rattle.abcps.specs.declared.status.Status.{Status}
+use Rattle.set_book.specs.{declared.outcome.Outcome.Outcome, Outcomes.AreOutcomes}
+use Rattle.set_pages.specs.{declared.plan.Plan.Plan, Clear.AreClear, Press.IsBookSheet, Sheet.AllShown, Sheet.AreStanding, Sheet.IsPlan, Sheet.sheet_of}
+use Rattle.set_lists.specs.{declared.trials.Trial.Trial, Reports.reports, Reports.some_fault, Systems.systems_text, Laws.ListsTheScores}
+use Rattle.set_lists.specs.{Listing.listing_text, Trials.fault_count, Trials.set_count, Trials.system_count, Trials.total_of, Trials.trial_text}
+use Rattle.abcps.specs.{Called.Called, Called.IsQuietly, declared.status.Status.Status}
 use Rattle.abcps.specs.declared.status.Status.TheVariants as status
 
 -- the paper that a book states
@@ -35,19 +25,22 @@ status_of outcomes = if some_fault outcomes then status.SomeRefused else status.
 
 -- Of `set`: the page, read back, is the one sheet that the tunes without fault call for; on it the ranks read off each staff are the
 -- marks that the score calls for, boxes of one lane in different columns stay apart, and so do staves, and each block lies on its page
--- and follows the one before it; and each fault is told.
-pub record CallsPages (how : How) (text : List ℕ) (c : Called) : Type 0 where
+-- and follows the one before it; with even pages no other parting of the groups into pages that fit has a smaller total; and each fault
+-- is told.
+pub record CallsPages (how : How) (even : Bool) (text : List ℕ) (c : Called) : Type 0 where
   pub outcomes : List Outcome
   pub set : AreSet how text outcomes
-  pub sheet : Spells (sheet_of (paper_in text) outcomes) c.page
-  pub symbols : AllShown (paper_in text) outcomes
-  pub apart : AreClear (paper_in text) outcomes
-  pub blocks : AreStanding (paper_in text) outcomes
+  pub plan : Plan
+  pub parted : IsPlan even (paper_in text) outcomes plan
+  pub sheet : Spells (sheet_of plan (paper_in text) outcomes) c.page
+  pub symbols : AllShown plan (paper_in text) outcomes
+  pub apart : AreClear plan (paper_in text) outcomes
+  pub blocks : AreStanding plan (paper_in text) outcomes
   pub told : c.told ≡ reports outcomes
   pub status : c.status ≡ status_of outcomes
 
-abbrev pub pages_called : Paper → List Outcome → Called
-pages_called paper outcomes = record { page = document (sheet_of paper outcomes); told = reports outcomes; status = status_of outcomes }
+abbrev pub pages_called : Plan → Paper → List Outcome → Called
+pages_called plan paper outcomes = record { page = document (sheet_of plan paper outcomes); told = reports outcomes; status = status_of outcomes }
 
 -- Of `systems`: the systems of each tune that is set, or the listing of their spans.
 abbrev pub systems_by : Bool → List Outcome → List ℕ
@@ -82,11 +75,19 @@ trial_of tunes outcomes sheet = record {
   total = total_of outcomes;
 }
 
-pub record Tries (tunes : ℕ) (how : How) (c : Called) : Type 0 where
+pub record Tries (tunes : ℕ) (how : How) (even : Bool) (c : Called) : Type 0 where
   pub outcomes : List Outcome
   pub set : AreSet how (book tunes) outcomes
-  pub page : c.page ≡ trial_text (trial_of tunes outcomes (sheet_of (paper_in (book tunes)) outcomes))
+  pub plan : Plan
+  pub parted : IsPlan even (paper_in (book tunes)) outcomes plan
+  pub page : c.page ≡ trial_text (trial_of tunes outcomes (sheet_of plan (paper_in (book tunes)) outcomes))
   pub quietly : IsQuietly c
 
-abbrev pub trial_called : ℕ → Paper → List Outcome → Called
-trial_called tunes paper outcomes = record { page = trial_text (trial_of tunes outcomes (sheet_of paper outcomes)); told = []; status = status.Done }
+abbrev pub trial_called : ℕ → List Outcome → Sheet → Called
+trial_called tunes outcomes sheet = record { page = trial_text (trial_of tunes outcomes sheet); told = []; status = status.Done }
+
+-- what is called for of a generated book, by one of its sheets
+pub record IsTried (tunes : ℕ) (even : Bool) (paper : Paper) (outcomes : List Outcome) (c : Called) : Type 0 where
+  pub sheet : Sheet
+  pub booked : IsBookSheet even paper outcomes sheet
+  pub called : c ≡ trial_called tunes outcomes sheet

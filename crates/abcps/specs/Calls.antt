@@ -2,29 +2,21 @@
 use Rattle.std.specs.Prelude.{◌≡◌, ℕ, ◌*◌, List, [], Bool, true, false, if◌then◌else◌, length, flat_map}
 use Rattle.std.specs.List.{list_any}
 use Rattle.gen_book.specs.Book.{book}
-use Rattle.ps_text.specs.Document.{Spells}
-use Rattle.ps_text.specs.declared.sheet.Sheet.{Sheet}
+use Rattle.ps_text.specs.{Document.Spells, declared.sheet.Sheet.Sheet}
 use Rattle.ps_read.specs.Answers.{IsRead, IsFirstFault}
 use Rattle.ps_heard.specs.HeardText.{heard_text}
-use Rattle.ps_steps.specs.declared.paint.PagePaint.{PagePaint}
-use Rattle.ps_steps.specs.Steps.{Paints, Halts}
+use Rattle.ps_steps.specs.{declared.paint.PagePaint.PagePaint, Steps.Paints, Steps.Halts}
 use Rattle.paint_text.specs.PaintText.{paint_text}
-use Rattle.lay_cert.specs.declared.check.Judged.{Judged}
-use Rattle.lay_cert.specs.declared.check.Verdict.{Verdict}
-use Rattle.lay_cert.specs.declared.check.Verdict.TheVariants as verdicts
-use Rattle.lay_cert.specs.Answers.{IsJudged}
-use Rattle.lay_cert.specs.Listing.{Entry, IsListing}
-use Rattle.lay_cert.specs.Places as listing
+use Rattle.lay_cert.specs.{declared.check.Judged.Judged, declared.check.Verdict.Verdict, Answers.IsJudged, Listing.Entry, Listing.IsListing}
 use Rattle.lay_cert.specs.Reports.{verdict_text}
+use Rattle.lay_cert.specs.declared.check.Verdict.TheVariants as verdicts
+use Rattle.lay_cert.specs.Places as listing
 use Rattle.abcps_words.specs.declared.command.Command.{Command}
 use Rattle.abcps_words.specs.declared.command.Command.TheVariants as command
 use Rattle.set_tune.specs.How.{how_of, unmoved}
-use Rattle.abcps.specs.Called.{Called, IsQuietly}
-use Rattle.abcps.specs.Books.{CallsPages, CallsSystems, Tries}
-use Rattle.abcps.specs.Outputs.{sheet_report}
-use Rattle.abcps.specs.declared.refusing.Refusal.{Refusal}
+use Rattle.abcps.specs.{Called.Called, Called.IsQuietly, Books.CallsPages, Books.CallsSystems, Books.Tries, Outputs.sheet_report}
+use Rattle.abcps.specs.{declared.refusing.Refusal.Refusal, declared.status.Status.Status}
 use Rattle.abcps.specs.declared.refusing.Refusal.TheVariants as refusals
-use Rattle.abcps.specs.declared.status.Status.{Status}
 use Rattle.abcps.specs.declared.status.Status.TheVariants as status
 
 -- Of `inspect` and `hear`: a report on the one sheet that spells the input, which is all that it shows, or what its tunes sound.
@@ -71,19 +63,19 @@ pub record IsPainted (text : List ℕ) (c : Called) : Type 0 where
   pub quietly : IsQuietly c
 
 abbrev pub Calls : Command → List ℕ → Called → Type 0
-Calls (command.Set flow jobs by) text c = CallsPages (how_of flow by) text c
+Calls (command.Set flow jobs by even) text c = CallsPages (how_of flow by) even text c
 Calls (command.Systems flow table by) text c = CallsSystems (how_of flow by) table text c
 Calls command.Inspect text c = Shows sheet_report text c
 Calls command.Check text c = Judges text c
 Calls (command.Make tunes) text c = Makes tunes c
-Calls (command.Trial tunes flow jobs) text c = Tries tunes (unmoved flow) c
+Calls (command.Trial tunes flow jobs even) text c = Tries tunes (unmoved flow) even c
 Calls command.Paint text c = IsPainted text c
 Calls (command.Hear spread) text c = Shows (heard_text spread) text c
 
 -- the same command with one job, where it takes a number of jobs
 abbrev pub by_one_job : Command → Command
-by_one_job (command.Set flow jobs by) = command.Set flow 1 by
-by_one_job (command.Trial tunes flow jobs) = command.Trial tunes flow 1
+by_one_job (command.Set flow jobs by even) = command.Set flow 1 by even
+by_one_job (command.Trial tunes flow jobs even) = command.Trial tunes flow 1 even
 by_one_job c = c
 
 -- What commands that differ in nothing but jobs call for of an input is one.

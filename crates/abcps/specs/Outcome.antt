@@ -1,25 +1,18 @@
 -- What a run answers, and what it leaves on each stream: by cases on the answer.
-use Rattle.std.specs.Prelude.{◌≡◌, ◌⊎◌, ◌<◌, ◌≤◌, ℕ, ◌+◌, List, [], Bool, length, take, Option}
+use Rattle.std.specs.Prelude.{◌≡◌, ◌⊎◌, ◌<◌, ◌≤◌, ℕ, ◌+◌, List, [], Bool, false, length, take, Option}
 use Rattle.std.specs.Io.KnownBytes.{Keeps, Appends, Consumes, IsAtEnd}
 use Rattle.eng_io.specs.Causes.{Rose}
 use Rattle.abc_lines.specs.Books.{book_of}
 use Rattle.abc_header.specs.Defaults.{defaults_of}
 use Rattle.ps_text.specs.Document.{document}
-use Rattle.set_tune.specs.declared.how.How.{How}
-use Rattle.set_tune.specs.How.{how_of}
-use Rattle.set_book.specs.declared.outcome.Outcome.{Outcome}
-use Rattle.set_book.specs.Outcomes.{AreOutcomes}
+use Rattle.set_tune.specs.{declared.how.How.How, How.how_of}
+use Rattle.set_book.specs.{declared.outcome.Outcome.Outcome, Outcomes.AreOutcomes}
 use Rattle.set_pages.specs.Sheet.{sheet_of}
-use Rattle.abcps_words.specs.Command.{Asks, IsListed, limit_of}
-use Rattle.abcps_words.specs.declared.command.Command.{Command}
+use Rattle.set_pages.specs.declared.plan.Plan.TheVariants as plans
+use Rattle.abcps_words.specs.{Command.Asks, Command.IsListed, Command.limit_of, declared.command.Command.Command, Usage.usage_line}
 use Rattle.abcps_words.specs.declared.command.Command.TheVariants as command
-use Rattle.abcps_words.specs.Usage.{usage_line}
-use Rattle.abcps.specs.Called.{Called}
-use Rattle.abcps.specs.Books.{CallsPages, paper_in}
-use Rattle.abcps.specs.Calls.{Calls, Refuses}
-use Rattle.abcps.specs.Refusals.{refusal_line, refusal_status}
-use Rattle.abcps.specs.declared.refusing.Refusal.{Refusal}
-use Rattle.abcps.specs.declared.status.Status.{Status}
+use Rattle.abcps.specs.{Called.Called, Books.CallsPages, Books.paper_in, Calls.Calls, Calls.Refuses, Refusals.refusal_line, Refusals.refusal_status}
+use Rattle.abcps.specs.{declared.refusing.Refusal.Refusal, declared.status.Status.Status}
 use Rattle.abcps.specs.declared.status.Status.TheVariants as status
 
 -- a stream before and after a call: its bytes, where known, and its count of faults
@@ -70,18 +63,18 @@ WasTold s line = TookAll s line ⊎ TookFront s line
 abbrev pub WasCut : Called → Stream → Stream → Type 0
 WasCut called o e = (TookFront o called.page × IsQuiet e) ⊎ (TookAll o called.page × TookFront e called.told)
 
--- `set` ended while some tunes of its book were left: so many were set, and what output took is a front of their document, and of whatever
--- is called for of the whole book.
-pub record IsCutShort (how : How) (text : List ℕ) (o : Stream) : Type 0 where
+-- `set` ended while some tunes of its book were left: so many were set, and what output took is a front of whatever is called for of the
+-- whole book, and where blocks are filled of the document of these tunes alone.
+pub record IsCutShort (how : How) (even : Bool) (text : List ℕ) (o : Stream) : Type 0 where
   pub count : ℕ
   pub left : count < length (book_of text).tunes
   pub outcomes : List Outcome
   pub set : AreOutcomes (defaults_of (book_of text).header) (paper_in text) how (take count (book_of text).tunes) outcomes
-  pub first : HasFront o (document (sheet_of (paper_in text) outcomes))
-  pub all : (called : Called) → CallsPages how text called → HasFront o called.page
+  pub first : even ≡ false → HasFront o (document (sheet_of plans.Filled (paper_in text) outcomes))
+  pub all : (called : Called) → CallsPages how even text called → HasFront o called.page
 
 abbrev pub WasCutShort : Command → List ℕ → Stream → Type 0
-WasCutShort (command.Set flow jobs by) text o = IsCutShort (how_of flow by) text o
+WasCutShort (command.Set flow jobs by even) text o = IsCutShort (how_of flow by) even text o
 WasCutShort _ text o = ⊥
 
 -- A sink failed while what is called for was written, or output did before `set` had set all tunes.
@@ -95,13 +88,13 @@ HasPart c text o = ((called : Called) × Calls c text called × TookPart o calle
 -- What a command read: of an input all, and those that make a book themselves nothing.
 abbrev pub IsRead : Command → Stream → List ℕ → Type 0
 IsRead (command.Make tunes) i text = IsQuiet i × (text ≡ [])
-IsRead (command.Trial tunes flow jobs) i text = IsQuiet i × (text ≡ [])
+IsRead (command.Trial tunes flow jobs even) i text = IsQuiet i × (text ≡ [])
 IsRead c i text = ReadAll (limit_of c) i text
 
 -- a command that reads its input
 abbrev pub IsReader : Command → Type 0
 IsReader (command.Make tunes) = ⊥
-IsReader (command.Trial tunes flow jobs) = ⊥
+IsReader (command.Trial tunes flow jobs even) = ⊥
 IsReader c = Unit {0}
 
 -- a status with which all was written

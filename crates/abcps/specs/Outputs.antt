@@ -5,17 +5,11 @@ use Rattle.std.specs.List.{flat_map}
 use Rattle.mus_units.specs.declared.glyph.Size.{Size}
 use Rattle.glyph_paths.specs.Names.{glyph_name}
 use Rattle.paint_text.specs.PaintText.{spaced}
-use Rattle.ps_text.specs.Fields.{quoted}
-use Rattle.ps_text.specs.Names.{size_name, way_name}
-use Rattle.ps_text.specs.Document.{numbered}
-use Rattle.ps_text.specs.declared.marks.PageMark.{PageMark}
-use Rattle.ps_text.specs.declared.marks.PageMark.TheVariants as marks
-use Rattle.ps_text.specs.declared.sheet.Frame.{Frame}
-use Rattle.ps_text.specs.declared.sheet.Staff.{Staff}
-use Rattle.ps_text.specs.declared.sheet.Item.{Item}
-use Rattle.ps_text.specs.declared.sheet.Item.TheVariants as items
-use Rattle.ps_text.specs.declared.sheet.Page.{Page}
+use Rattle.ps_text.specs.{Fields.quoted, Names.size_name, Names.way_name, Document.numbered, declared.marks.PageMark.PageMark}
+use Rattle.ps_text.specs.{declared.sheet.Frame.Frame, declared.sheet.Staff.Staff, declared.sheet.Item.Item, declared.sheet.Page.Page}
 use Rattle.ps_text.specs.declared.sheet.Sheet.{Sheet}
+use Rattle.ps_text.specs.declared.marks.PageMark.TheVariants as marks
+use Rattle.ps_text.specs.declared.sheet.Item.TheVariants as items
 
 -- a line of a kind and numbers
 unfoldable pub plain_line : List ℕ → List ℤ → List ℕ

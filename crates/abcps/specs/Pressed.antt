@@ -1,27 +1,20 @@
 -- A book as it is set, pressed and written, a batch of its tunes after another.
-use Rattle.std.specs.Prelude.{◌≡◌, ℕ, ◌+◌, List, [], ◌++◌, Bool, if◌then◌else◌, drop, length, Result, Ok, Err}
+use Rattle.std.specs.Prelude.{◌≡◌, ℕ, ◌+◌, List, [], ◌++◌, Bool, true, false, if◌then◌else◌, drop, length, Result, Ok, Err}
 use Rattle.abc_lines.specs.declared.book.TuneText.{TuneText}
-use Rattle.abc_header.specs.declared.defaults.Defaults.{Defaults}
-use Rattle.abc_header.specs.declared.paper.Paper.{Paper}
-use Rattle.abc_header.specs.Papers.{IsGoodPaper}
+use Rattle.abc_header.specs.{declared.defaults.Defaults.Defaults, declared.paper.Paper.Paper, Papers.IsGoodPaper}
 use Rattle.eng_io.specs.Causes.{Rose}
-use Rattle.ps_text.specs.Document.{numbered, page_text, trailer}
-use Rattle.ps_text.specs.Prolog.{prolog}
-use Rattle.ps_text.specs.declared.sheet.Page.{Page}
+use Rattle.ps_text.specs.{Document.numbered, Document.page_text, Document.trailer, Prolog.prolog, declared.sheet.Page.Page}
 use Rattle.ps_text.specs.declared.sheet.Sheet.{Sheet}
 use Rattle.set_tune.specs.declared.how.How.{How}
-use Rattle.set_book.specs.declared.outcome.Outcome.{Outcome}
-use Rattle.set_book.specs.Outcomes.{AreOutcomes}
+use Rattle.set_book.specs.{declared.outcome.Outcome.Outcome, Outcomes.AreOutcomes}
 use Rattle.set_lists.specs.Reports.{reports, some_fault}
-use Rattle.set_pages.specs.Press.{IsOpen, IsPressed, done_pages}
-use Rattle.set_pages.specs.Sheet.{frame_of, sheet_of}
-use Rattle.set_pages.specs.declared.press.Press.{Press}
-use Rattle.abcps.specs.Called.{Called}
-use Rattle.abcps.specs.Books.{CallsPages, status_of}
+use Rattle.lay_pages.specs.{declared.filling.Block.Block, Filling.AreGoodBlocks}
+use Rattle.set_pages.specs.{Press.IsOpen, Press.IsPressed, Press.RisesBy, Press.done_pages, Sheet.IsPlan, Sheet.frame_of, Sheet.sheet_of, declared.press.Press.Press}
+use Rattle.set_pages.specs.{Drawings.all_blocks, declared.plan.Plan.Plan}
+use Rattle.set_pages.specs.declared.plan.Plan.TheVariants as plans
+use Rattle.abcps.specs.{Called.Called, Books.CallsPages, Books.status_of}
 use Rattle.abcps.specs.Outcome.{IsCutShort, IsQuiet, Stream, TookAll, TookFront, TookPart}
-use Rattle.abcps.specs.declared.pressing.Printed.{Printed}
-use Rattle.abcps.specs.declared.pressing.Running.{Running}
-use Rattle.abcps.specs.declared.status.Status.{Status}
+use Rattle.abcps.specs.{declared.pressing.Printed.Printed, declared.pressing.Running.Running, declared.status.Status.Status}
 use Rattle.abcps.specs.declared.status.Status.TheVariants as status
 
 abbrev pub status_if : Bool → Status
@@ -39,30 +32,43 @@ WasGiven s text (Ok x) = TookAll s text
 WasGiven s text (Err why) = WasStopped why s text
 
 -- these outcomes were taken, and these pages written
-pub record IsRunning (paper : Paper) (outcomes : List Outcome) (given : List Page) (r : Running) : Type 0 where
-  pub pressed : IsPressed paper outcomes given r.press
+pub record IsRunning (plan : Plan) (paper : Paper) (outcomes : List Outcome) (given : List Page) (r : Running) : Type 0 where
+  pub pressed : IsPressed plan paper outcomes given r.press
   pub told : r.told ≡ reports outcomes
   pub refused : r.refused ≡ some_fault outcomes
   pub count : r.writer.pages ≡ length given
 
 -- the same of some outcomes and some pages
 pub record IsUnderWay (r : Running) : Type 0 where
+  pub plan : Plan
   pub paper : Paper
   pub good : IsGoodPaper paper
   pub outcomes : List Outcome
   pub given : List Page
-  pub running : IsRunning paper outcomes given r
+  pub running : IsRunning plan paper outcomes given r
 
 -- no outcome was taken yet
 pub record IsBegun (r : Running) : Type 0 where
   pub free : IsOpen r.press
-  pub none : (paper : Paper) → IsRunning paper [] [] r
+  pub none : (plan : Plan) (paper : Paper) → RisesBy plan → IsRunning plan paper [] [] r
 
--- what came of these tunes was taken behind what was taken before
-pub record AreTaken (defaults : Defaults) (paper : Paper) (how : How) (tunes : List TuneText) (old new : Running) : Type 0 where
+-- the blocks of some tunes, once they were set
+pub record AreGathered (defaults : Defaults) (paper : Paper) (how : How) (tunes : List TuneText) (blocks : List Block) : Type 0 where
   pub outcomes : List Outcome
   pub set : AreOutcomes defaults paper how tunes outcomes
-  pub taken : (before : List Outcome) (given : List Page) → IsRunning paper before given old → IsRunning paper (before ++ outcomes) given new
+  pub value : blocks ≡ all_blocks outcomes
+  pub good : AreGoodBlocks blocks
+
+-- the plan of these tunes: filled, or the even one of their outcomes
+abbrev pub IsPlanned : Bool → Defaults → Paper → How → List TuneText → Plan → Type 0
+IsPlanned false defaults paper how tunes plan = plan ≡ plans.Filled
+IsPlanned true defaults paper how tunes plan = (all : List Outcome) × AreOutcomes defaults paper how tunes all × IsPlan true paper all plan
+
+-- what came of these tunes was taken behind what was taken before
+pub record AreTaken (defaults : Defaults) (plan : Plan) (paper : Paper) (how : How) (tunes : List TuneText) (old new : Running) : Type 0 where
+  pub outcomes : List Outcome
+  pub set : AreOutcomes defaults paper how tunes outcomes
+  pub taken : (before : List Outcome) (given : List Page) → IsRunning plan paper before given old → IsRunning plan paper (before ++ outcomes) given new
 
 -- the text of a document up to the end of its first pages, and what stands behind them
 abbrev pub first_text : Paper → List Page → List ℕ
@@ -72,21 +78,21 @@ abbrev pub rest_text : List Page → Sheet → List ℕ
 rest_text given sheet = numbered page_text (length given + 1) (drop (length given) sheet.pages) ++ trailer (length sheet.pages)
 
 -- all that is left of the document of these outcomes was written behind these pages
-abbrev pub IsClosed : Paper → List Outcome → List Page → Stream → Result Printed Status → Type 0
-IsClosed paper outcomes given o (Ok p) = TookAll o (rest_text given (sheet_of paper outcomes)) × (p.told ≡ reports outcomes) × (p.status ≡ status_of outcomes)
-IsClosed paper outcomes given o (Err why) = WasStopped why o (rest_text given (sheet_of paper outcomes))
+abbrev pub IsClosed : Plan → Paper → List Outcome → List Page → Stream → Result Printed Status → Type 0
+IsClosed plan paper outcomes given o (Ok p) = TookAll o (rest_text given (sheet_of plan paper outcomes)) × (p.told ≡ reports outcomes) × (p.status ≡ status_of outcomes)
+IsClosed plan paper outcomes given o (Err why) = WasStopped why o (rest_text given (sheet_of plan paper outcomes))
 
 -- these tunes were set, and the document was written up to the end of these pages
-pub record AreRunning (defaults : Defaults) (paper : Paper) (how : How) (tunes : List TuneText) (o : Stream) (r : Running) : Type 0 where
+pub record AreRunning (defaults : Defaults) (plan : Plan) (paper : Paper) (how : How) (tunes : List TuneText) (o : Stream) (r : Running) : Type 0 where
   pub outcomes : List Outcome
   pub given : List Page
   pub set : AreOutcomes defaults paper how tunes outcomes
-  pub running : IsRunning paper outcomes given r
+  pub running : IsRunning plan paper outcomes given r
   pub free : IsOpen r.press
   pub wrote : TookAll o (first_text paper given)
 
 -- The first of these tunes were set, and the document was being written up to the last page that they fill.
-pub record AreCutOff (defaults : Defaults) (paper : Paper) (how : How) (tunes : List TuneText) (o : Stream) (why : Status) : Type 0 where
+pub record AreCutOff (defaults : Defaults) (plan : Plan) (paper : Paper) (how : How) (tunes : List TuneText) (o : Stream) (why : Status) : Type 0 where
   pub before : List TuneText
   pub rest : List TuneText
   pub whole : before ++ rest ≡ tunes
@@ -94,13 +100,13 @@ pub record AreCutOff (defaults : Defaults) (paper : Paper) (how : How) (tunes : 
   pub set : AreOutcomes defaults paper how before outcomes
   pub given : List Page
   pub press : Press
-  pub pressed : IsPressed paper outcomes given press
+  pub pressed : IsPressed plan paper outcomes given press
   pub free : IsOpen press
   pub wrote : WasStopped why o (first_text paper (given ++ done_pages press))
 
-abbrev pub ArePrinted : Defaults → Paper → How → List TuneText → Stream → Result Running Status → Type 0
-ArePrinted defaults paper how tunes o (Ok r) = AreRunning defaults paper how tunes o r
-ArePrinted defaults paper how tunes o (Err why) = AreCutOff defaults paper how tunes o why
+abbrev pub ArePrinted : Defaults → Plan → Paper → How → List TuneText → Stream → Result Running Status → Type 0
+ArePrinted defaults plan paper how tunes o (Ok r) = AreRunning defaults plan paper how tunes o r
+ArePrinted defaults plan paper how tunes o (Err why) = AreCutOff defaults plan paper how tunes o why
 
 -- how a sink counted where this answer came before a text's end
 abbrev pub WasCounted : Status → Stream → Type 0
@@ -109,11 +115,11 @@ WasCounted status.Memory s = s.count_after ≡ s.count_before
 WasCounted _ s = ⊥
 
 -- why the document of a book was not written to its end: memory ran out before it was begun, or all tunes were set, or some were left
-pub data IsUnprinted (how : How) (text : List ℕ) (o : Stream) (why : Status) : Type 0 where
-  unbegun : why ≡ status.Memory → IsQuiet o → IsUnprinted how text o why
-  all_set : (called : Called) → CallsPages how text called → WasStopped why o called.page → IsUnprinted how text o why
-  some_left : IsCutShort how text o → WasCounted why o → IsUnprinted how text o why
+pub data IsUnprinted (how : How) (even : Bool) (text : List ℕ) (o : Stream) (why : Status) : Type 0 where
+  unbegun : why ≡ status.Memory → IsQuiet o → IsUnprinted how even text o why
+  all_set : (called : Called) → CallsPages how even text called → WasStopped why o called.page → IsUnprinted how even text o why
+  some_left : IsCutShort how even text o → WasCounted why o → IsUnprinted how even text o why
 
-abbrev pub IsPrinted : How → List ℕ → Stream → Result Printed Status → Type 0
-IsPrinted how text o (Ok p) = (called : Called) × CallsPages how text called × (p.told ≡ called.told) × (p.status ≡ called.status) × TookAll o called.page
-IsPrinted how text o (Err why) = IsUnprinted how text o why
+abbrev pub IsPrinted : How → Bool → List ℕ → Stream → Result Printed Status → Type 0
+IsPrinted how even text o (Ok p) = (called : Called) × CallsPages how even text called × (p.told ≡ called.told) × (p.status ≡ called.status) × TookAll o called.page
+IsPrinted how even text o (Err why) = IsUnprinted how even text o why

@@ -1,15 +1,11 @@
 -- What a run promises, one fact for each name.
 use Rattle.std.specs.Prelude.{◌≡◌, ◌≢◌, ◌⊎◌, ◌≤◌, ◌↔◌, List, ℕ, length, Some}
 use Rattle.eng_io.specs.Causes.{Rose}
-use Rattle.abcps_words.specs.Command.{Asks, IsListed, limit_of}
-use Rattle.abcps_words.specs.declared.command.Command.{Command}
+use Rattle.abcps_words.specs.{Command.Asks, Command.IsListed, Command.limit_of, declared.command.Command.Command, Usage.usage_line}
 use Rattle.abcps_words.specs.declared.command.Command.TheVariants as command
-use Rattle.abcps_words.specs.Usage.{usage_line}
-use Rattle.abcps.specs.Called.{Called}
-use Rattle.abcps.specs.Calls.{Calls, Refuses, by_one_job}
+use Rattle.abcps.specs.{Called.Called, Calls.Calls, Calls.Refuses, Calls.by_one_job}
 use Rattle.abcps.specs.Outcome.{HasFailed, HasPart, Stream, IsQuiet, IsRead, IsReader, ReadTooMuch, TookAll, WasTold}
-use Rattle.abcps.specs.Refusals.{IsRefusal, refusal_line, refusal_status}
-use Rattle.abcps.specs.declared.refusing.Refusal.{Refusal}
+use Rattle.abcps.specs.{Refusals.IsRefusal, Refusals.refusal_line, Refusals.refusal_status, declared.refusing.Refusal.Refusal}
 use Rattle.abcps.specs.declared.status.Status.{Status}
 use Rattle.abcps.specs.declared.status.Status.TheVariants as status
 
@@ -22,7 +18,7 @@ pub record NoFault (i o e : Stream) : Type 0 where
 -- the input told its bytes, which are within the limit; of a command that reads none nothing is asked
 abbrev pub IsToldTo : Command → Stream → List ℕ → Type 0
 IsToldTo (command.Make tunes) i text = Unit {0}
-IsToldTo (command.Trial tunes flow jobs) i text = Unit {0}
+IsToldTo (command.Trial tunes flow jobs even) i text = Unit {0}
 IsToldTo c i text = (i.before ≡ Some text) × (length text ≤ limit_of c)
 
 -- the words ask for this command, no fault was counted, and the input is this text

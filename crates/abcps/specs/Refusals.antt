@@ -1,9 +1,8 @@
 -- What is answered to an input that is refused: the status, and the line on errors.
 use Rattle.std.specs.Prelude.{ℕ, List, [], ◌∷◌, ◌++◌, codes, decimal}
 use Rattle.paint_text.specs.PaintText.{halt_line}
-use Rattle.abcps.specs.declared.refusing.Refusal.{Refusal}
+use Rattle.abcps.specs.{declared.refusing.Refusal.Refusal, declared.status.Status.Status}
 use Rattle.abcps.specs.declared.refusing.Refusal.TheVariants as refusals
-use Rattle.abcps.specs.declared.status.Status.{Status}
 use Rattle.abcps.specs.declared.status.Status.TheVariants as status
 
 abbrev pub not_pages_line : ℕ → List ℕ

@@ -2,12 +2,14 @@ ghost use Rattle.std.specs.Prelude.{◌≡◌, ◌≤◌, ◌^◌, [], All, IfOk
 ghost use Rattle.abc_header.specs.Papers.{IsGoodPaper};
 ghost use Rattle.gen_book.specs.Book.{book};
 ghost use Rattle.ps_text.specs.Document.{document};
+ghost use Rattle.ps_text.specs.declared.sheet.Sheet as sheet;
 ghost use Rattle.ps_text.specs.Range.{IsSheet};
 ghost use Rattle.set_lists.specs.Listing.{AreListable};
 ghost use Rattle.set_lists.specs.Reports.{reports};
 ghost use Rattle.set_lists.specs.Trials.{trial_text};
-ghost use Rattle.set_pages.specs.Sheet.{IsSetUnder, sheet_of};
-ghost use Rattle.abcps.specs.Books.{AreSet, paper_in, status_of, systems_by, systems_called, trial_called, trial_of};
+ghost use Rattle.set_pages.specs.Press.{IsBookSheet};
+ghost use Rattle.set_pages.specs.Sheet.{IsSetUnder};
+ghost use Rattle.abcps.specs.Books.{AreSet, IsTried, paper_in, status_of, systems_by, systems_called, trial_of};
 ghost use Rattle.abcps.specs.Outcome.{IsAnswer, IsAnswered, IsEnd};
 ghost use Rattle.abcps_words.specs.declared.command.Command.TheVariants as command;
 
@@ -83,6 +85,7 @@ pub(crate) fn set<R: Threads + Sync, O: Sink, E: Sink, G: Gate + Sync>(
     alloc: Global,
     text: &[u8],
     how: How,
+    even: bool,
     jobs: u8,
     output: &mut O,
     errors: &mut E,
@@ -91,11 +94,11 @@ pub(crate) fn set<R: Threads + Sync, O: Sink, E: Sink, G: Gate + Sync>(
     requires some { 1 ≤ jobs }
     requires few { jobs ≤ 64 }
     requires within { length text.now ≤ 8388608 }
-    ensures { IsAnswer (command.Set how.flow jobs how.by) result text.now
+    ensures { IsAnswer (command.Set how.flow jobs how.by even) result text.now
         (record { before = O.taken output.old; after = O.taken output.new; count_before = O.faults output.old; count_after = O.faults output.new })
         (record { before = E.taken errors.old; after = E.taken errors.new; count_before = E.faults errors.old; count_after = E.faults errors.new }) }
 {
-    match print_book(rt, alloc, text, how, jobs, output, gate) {
+    match print_book(rt, alloc, text, how, even, jobs, output, gate) {
         Ok(printed) => end(errors, printed.told.as_slice(), printed.status),
         Err(why) => why,
     }
@@ -180,12 +183,13 @@ fn trial_line(
     tunes: u32,
     paper: &Paper,
     outcomes: &[Outcome],
+    even: bool,
 ) -> Result<Text, Memory>
     requires paper { IsGoodPaper paper.now }
     requires set { All (IsSetUnder paper.now) outcomes.now }
-    ensures { IfOk result (λ text. text ≡ trial_text (trial_of tunes outcomes.now (sheet_of paper.now outcomes.now))) }
+    ensures { IfOk result (λ text. (sheet : sheet.Sheet) × IsBookSheet even paper.now outcomes.now sheet × (text ≡ trial_text (trial_of tunes outcomes.now sheet))) }
 {
-    let sheet = sheet_for(alloc, paper, outcomes)?;
+    let sheet = sheet_for(alloc, paper, outcomes, even)?;
     let trial = Trial {
         tunes: u64::from(tunes),
         set: set_count(outcomes),
@@ -206,16 +210,17 @@ fn write_trial<O: Sink, E: Sink>(
     tunes: u32,
     paper: &Paper,
     outcomes: &[Outcome],
+    even: bool,
     output: &mut O,
     errors: &mut E,
 ) -> Status
     requires paper { IsGoodPaper paper.now }
     requires set { All (IsSetUnder paper.now) outcomes.now }
-    ensures { IsAnswered (λ called. called ≡ trial_called tunes paper.now outcomes.now) result
+    ensures { IsAnswered (IsTried tunes even paper.now outcomes.now) result
         (record { before = O.taken output.old; after = O.taken output.new; count_before = O.faults output.old; count_after = O.faults output.new })
         (record { before = E.taken errors.old; after = E.taken errors.new; count_before = E.faults errors.old; count_after = E.faults errors.new }) }
 {
-    let Ok(line) = trial_line(alloc, tunes, paper, outcomes) else {
+    let Ok(line) = trial_line(alloc, tunes, paper, outcomes, even) else {
         return Status::Memory;
     };
     write_both(output, errors, line.as_slice(), b"", Status::Done)
@@ -227,6 +232,7 @@ pub(crate) fn trial<R: Threads + Sync, O: Sink, E: Sink, G: Gate + Sync>(
     alloc: Global,
     tunes: u32,
     flow: bool,
+    even: bool,
     jobs: u8,
     output: &mut O,
     errors: &mut E,
@@ -236,7 +242,7 @@ pub(crate) fn trial<R: Threads + Sync, O: Sink, E: Sink, G: Gate + Sync>(
     requires few_tunes { tunes ≤ 500 }
     requires some { 1 ≤ jobs }
     requires few { jobs ≤ 64 }
-    ensures { IsAnswer (command.Trial tunes flow jobs) result []
+    ensures { IsAnswer (command.Trial tunes flow jobs even) result []
         (record { before = O.taken output.old; after = O.taken output.new; count_before = O.faults output.old; count_after = O.faults output.new })
         (record { before = E.taken errors.old; after = E.taken errors.new; count_before = E.faults errors.old; count_after = E.faults errors.new }) }
 {
@@ -254,6 +260,7 @@ pub(crate) fn trial<R: Threads + Sync, O: Sink, E: Sink, G: Gate + Sync>(
         tunes,
         &book.paper,
         book.outcomes.as_slice(),
+        even,
         output,
         errors,
     )

@@ -3,13 +3,15 @@ ghost use Rattle.abc_lines.specs.Good.{IsGoodTune};
 ghost use Rattle.abc_header.specs.declared.defaults.Defaults as defaults;
 ghost use Rattle.abc_header.specs.declared.paper.Paper as paper;
 ghost use Rattle.abc_header.specs.Good.{IsGoodDefaults};
-ghost use Rattle.abc_header.specs.Papers.{IsGoodPaper};
+ghost use Rattle.abc_header.specs.Papers.{IsGoodPaper, height_of};
 ghost use Rattle.ps_text.specs.declared.sheet.Page as page;
 ghost use Rattle.ps_text.specs.Document.{numbered, page_text};
 ghost use Rattle.ps_text.specs.Prolog.{prolog};
 ghost use Rattle.ps_text.specs.Range.{IsPage};
 ghost use Rattle.set_book.specs.declared.outcome.Outcome as outcome;
-ghost use Rattle.set_pages.specs.Press.{IsOpen, done_pages};
+ghost use Rattle.set_pages.specs.declared.plan.Plan as plan;
+ghost use Rattle.set_pages.specs.Drawings.{all_blocks};
+ghost use Rattle.set_pages.specs.Press.{HasRoom, IsOpen, done_pages};
 ghost use Rattle.set_pages.specs.Sheet.{IsSetUnder, frame_of};
 ghost use Rattle.abcps.specs.Outcome.{IsEnd};
 ghost use Rattle.abcps.specs.Pressed.{IsBegun, IsClosed, IsRunning, IsUnderWay, WasGiven, status_if};
@@ -22,7 +24,7 @@ use ps_text::Page;
 use ps_write::{DocWriter, begin, finish, page};
 use set_book::Outcome;
 use set_lists::{has_fault, put_reports};
-use set_pages::{Press, close_press, frame_of, open_press, press_outcomes, take_done};
+use set_pages::{Plan, Press, close_press, frame_of, open_press, press_outcomes, take_done};
 use std::alloc::Global;
 
 /// What runs along while the tunes of a book are set and its pages are written: the pages that were
@@ -74,20 +76,22 @@ pub(crate) fn begin_run<O: Sink>(
     })
 }
 
-/// Takes what came of some tunes behind those before them.
+/// Takes what came of some tunes behind those before them; their blocks stand by the plan.
 pub(crate) fn take(
     alloc: Global,
     paper: &Paper,
+    plan: &Plan,
     outcomes: &[Outcome],
     run: &mut Running,
 ) -> Result<(), Memory>
     requires paper { IsGoodPaper paper.now }
     requires outcomes { All (IsSetUnder paper.now) outcomes.now }
+    requires room { HasRoom plan.now (height_of paper.now) run.old.press (all_blocks outcomes.now) }
     requires open { IsOpen run.old.press }
-    ensures running { OnOk result ((before : List outcome.Outcome) (given : List page.Page) → IsRunning paper.now before given run.old → IsRunning paper.now (before ++ outcomes.now) given run.new) }
+    ensures running { OnOk result ((before : List outcome.Outcome) (given : List page.Page) → IsRunning plan.now paper.now before given run.old → IsRunning plan.now paper.now (before ++ outcomes.now) given run.new) }
     ensures open { OnOk result (IsOpen run.new.press) }
 {
-    press_outcomes(alloc, paper, outcomes, &mut run.press)?;
+    press_outcomes(alloc, paper, plan, outcomes, &mut run.press)?;
     put_reports(&mut run.told, outcomes)?;
     run.refused = run.refused || has_fault(outcomes);
     Ok(())
@@ -121,7 +125,7 @@ pub(crate) fn write_done<O: Sink>(
     requires way { IsUnderWay run }
     requires open { IsOpen run.press }
     ensures wrote { WasGiven (record { before = O.taken output.old; after = O.taken output.new; count_before = O.faults output.old; count_after = O.faults output.new }) (numbered page_text (run.writer.pages + 1) (done_pages run.press)) result }
-    ensures running { IfOk result (λ next. (paper : paper.Paper) (outcomes : List outcome.Outcome) (given : List page.Page) → IsRunning paper outcomes given run → IsRunning paper outcomes (given ++ done_pages run.press) next) }
+    ensures running { IfOk result (λ next. (plan : plan.Plan) (paper : paper.Paper) (outcomes : List outcome.Outcome) (given : List page.Page) → IsRunning plan paper outcomes given run → IsRunning plan paper outcomes (given ++ done_pages run.press) next) }
     ensures open { IfOk result (λ next. IsOpen next.press) }
 {
     let mut press = run.press;
@@ -143,7 +147,7 @@ pub(crate) fn end_run<O: Sink>(
 ) -> Result<Printed, Status>
     requires way { IsUnderWay run }
     requires open { IsOpen run.press }
-    ensures { (paper : paper.Paper) (outcomes : List outcome.Outcome) (given : List page.Page) → IsGoodPaper paper → IsRunning paper outcomes given run → IsClosed paper outcomes given (record { before = O.taken output.old; after = O.taken output.new; count_before = O.faults output.old; count_after = O.faults output.new }) result }
+    ensures { (plan : plan.Plan) (paper : paper.Paper) (outcomes : List outcome.Outcome) (given : List page.Page) → IsGoodPaper paper → IsRunning plan paper outcomes given run → IsClosed plan paper outcomes given (record { before = O.taken output.old; after = O.taken output.new; count_before = O.faults output.old; count_after = O.faults output.new }) result }
 {
     let pages = close_press(alloc, run.press)?;
     let writer = write_pages(alloc, pages.as_slice(), run.writer, output)?;

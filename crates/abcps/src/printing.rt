@@ -1,18 +1,23 @@
-ghost use Rattle.std.specs.Prelude.{◌≤◌, ◌^◌, ◌++◌, List, All, OnOk, length};
+ghost use Rattle.std.specs.Prelude.{◌≤◌, ◌^◌, ◌++◌, Bool, List, All, IfOk, OnOk, length};
 ghost use Rattle.abc_lines.specs.declared.book.TuneText as tune_text;
 ghost use Rattle.abc_lines.specs.Good.{IsGoodTune};
 ghost use Rattle.abc_header.specs.Good.{IsGoodDefaults};
-ghost use Rattle.abc_header.specs.Papers.{IsGoodPaper};
-ghost use Rattle.set_pages.specs.Press.{IsOpen};
-ghost use Rattle.abcps.specs.Pressed.{ArePrinted, AreTaken, IsPrinted};
+ghost use Rattle.abc_header.specs.Papers.{IsGoodPaper, height_of};
+ghost use Rattle.set_book.specs.declared.outcome.Outcome as outcome;
+ghost use Rattle.set_book.specs.Outcomes.{AreOutcomes};
+ghost use Rattle.set_pages.specs.Drawings.{all_blocks};
+ghost use Rattle.set_pages.specs.Press.{HasRoom, IsOpen};
+ghost use Rattle.abcps.specs.Pressed.{AreGathered, ArePrinted, AreTaken, IsPlanned, IsPrinted};
 
 use crate::pressing::{Printed, Running, begin_run, end_run, take, write_done};
 use crate::status::Status;
 use abc_header::{Defaults, Paper, read_defaults, read_paper};
 use abc_lines::{TuneText, cut_book};
 use eng_io::Sink;
-use mus_units::Memory;
+use lay_pages::Block;
+use mus_units::{Memory, Row};
 use set_book::{Gate, set_tunes};
+use set_pages::{Plan, even_plan, gather_blocks};
 use set_tune::How;
 use std::alloc::Global;
 use std::thread::Threads;
@@ -27,6 +32,7 @@ fn take_batch<R: Threads + Sync, G: Gate + Sync>(
     batch: &[TuneText],
     defaults: &Defaults,
     paper: &Paper,
+    plan: &Plan,
     how: How,
     jobs: u8,
     run: &mut Running,
@@ -39,11 +45,105 @@ fn take_batch<R: Threads + Sync, G: Gate + Sync>(
     requires some { 1 ≤ jobs }
     requires few { jobs ≤ 64 }
     requires open { IsOpen run.old.press }
-    ensures taken { OnOk result (AreTaken defaults.now paper.now how batch.now run.old run.new) }
+    requires room { (outcomes : List outcome.Outcome) → AreOutcomes defaults.now paper.now how batch.now outcomes → HasRoom plan.now (height_of paper.now) run.old.press (all_blocks outcomes) }
+    ensures taken { OnOk result (AreTaken defaults.now plan.now paper.now how batch.now run.old run.new) }
     ensures open { OnOk result (IsOpen run.new.press) }
 {
     let outcomes = set_tunes(rt, alloc, batch, defaults, paper, how, jobs, gate)?;
-    take(alloc, paper, outcomes.as_slice(), run)
+    take(alloc, paper, plan, outcomes.as_slice(), run)
+}
+
+/// Sets a batch of tunes, and keeps their blocks alone.
+fn gather_batch<R: Threads + Sync, G: Gate + Sync>(
+    rt: &R,
+    alloc: Global,
+    batch: &[TuneText],
+    defaults: &Defaults,
+    paper: &Paper,
+    how: How,
+    jobs: u8,
+    blocks: &mut Row<Block>,
+    gate: &G,
+) -> Result<(), Memory>
+    requires tunes { All IsGoodTune batch.now }
+    requires counted { All (λ tune. 1 ≤ tune.ordinal) batch.now }
+    requires defaults { IsGoodDefaults defaults.now }
+    requires paper { IsGoodPaper paper.now }
+    requires some { 1 ≤ jobs }
+    requires few { jobs ≤ 64 }
+    ensures { OnOk result ((before : List tune_text.TuneText) → AreGathered defaults.now paper.now how before blocks.old → AreGathered defaults.now paper.now how (before ++ batch.now) blocks.new) }
+{
+    let outcomes = set_tunes(rt, alloc, batch, defaults, paper, how, jobs, gate)?;
+    gather_blocks(alloc, outcomes.as_slice(), blocks)?;
+    Ok(())
+}
+
+/// The blocks of tunes, which are set a batch at a time.
+fn gather_tunes<R: Threads + Sync, G: Gate + Sync>(
+    rt: &R,
+    alloc: Global,
+    tunes: &[TuneText],
+    defaults: &Defaults,
+    paper: &Paper,
+    how: How,
+    jobs: u8,
+    gate: &G,
+) -> Result<Row<Block>, Memory>
+    requires tunes { All IsGoodTune tunes.now }
+    requires counted { All (λ tune. 1 ≤ tune.ordinal) tunes.now }
+    requires defaults { IsGoodDefaults defaults.now }
+    requires paper { IsGoodPaper paper.now }
+    requires some { 1 ≤ jobs }
+    requires few { jobs ≤ 64 }
+    ensures { IfOk result (AreGathered defaults.now paper.now how tunes.now) }
+{
+    let mut blocks = Row::new(alloc);
+    let mut rest = tunes;
+    'batches: while !rest.is_empty() {
+        let (batch, later) = rest.split_at(rest.len().min(BATCH));
+        gather_batch(
+            rt,
+            alloc,
+            batch,
+            defaults,
+            paper,
+            how,
+            jobs,
+            &mut blocks,
+            gate,
+        )?;
+        rest = later;
+    }
+    Ok(blocks)
+}
+
+/// The plan of the pages of tunes: filled, or with even pages from the blocks of all tunes, which are
+/// set once for that.
+fn plan_tunes<R: Threads + Sync, G: Gate + Sync>(
+    rt: &R,
+    alloc: Global,
+    tunes: &[TuneText],
+    defaults: &Defaults,
+    paper: &Paper,
+    how: How,
+    even: bool,
+    jobs: u8,
+    gate: &G,
+) -> Result<Plan, Memory>
+    requires tunes { All IsGoodTune tunes.now }
+    requires counted { All (λ tune. 1 ≤ tune.ordinal) tunes.now }
+    requires defaults { IsGoodDefaults defaults.now }
+    requires paper { IsGoodPaper paper.now }
+    requires some { 1 ≤ jobs }
+    requires few { jobs ≤ 64 }
+    ensures { IfOk result (IsPlanned even defaults.now paper.now how tunes.now) }
+{
+    if !even {
+        return Ok(Plan::Filled);
+    }
+    let blocks = gather_tunes(rt, alloc, tunes, defaults, paper, how, jobs, gate)?;
+    let plan = even_plan(alloc, paper, blocks.as_slice())?;
+    Ok(plan)
 }
 
 /// Sets tunes a batch at a time. What is written before a batch is set are the pages that the
@@ -54,6 +154,7 @@ fn print_tunes<R: Threads + Sync, O: Sink, G: Gate + Sync>(
     tunes: &[TuneText],
     defaults: &Defaults,
     paper: &Paper,
+    plan: &Plan,
     how: How,
     jobs: u8,
     output: &mut O,
@@ -65,25 +166,30 @@ fn print_tunes<R: Threads + Sync, O: Sink, G: Gate + Sync>(
     requires paper { IsGoodPaper paper.now }
     requires some { 1 ≤ jobs }
     requires few { jobs ≤ 64 }
-    ensures { ArePrinted defaults.now paper.now how tunes.now (record { before = O.taken output.old; after = O.taken output.new; count_before = O.faults output.old; count_after = O.faults output.new }) result }
+    requires planned { (even : Bool) × IsPlanned even defaults.now paper.now how tunes.now plan.now }
+    ensures { ArePrinted defaults.now plan.now paper.now how tunes.now (record { before = O.taken output.old; after = O.taken output.new; count_before = O.faults output.old; count_after = O.faults output.new }) result }
 {
     let mut run = begin_run(alloc, paper, output)?;
     let mut rest = tunes;
     'batches: while !rest.is_empty() {
         run = write_done(alloc, run, output)?;
         let (batch, later) = rest.split_at(rest.len().min(BATCH));
-        take_batch(rt, alloc, batch, defaults, paper, how, jobs, &mut run, gate)?;
+        take_batch(
+            rt, alloc, batch, defaults, paper, plan, how, jobs, &mut run, gate,
+        )?;
         rest = later;
     }
     Ok(run)
 }
 
-/// Sets the tunes of a book and writes its document, whose pages go out as they fill.
+/// Sets the tunes of a book and writes its document, whose pages go out as they fill. For even pages
+/// the tunes are set twice: first for the heights of their blocks, and then to be written.
 pub(crate) fn print_book<R: Threads + Sync, O: Sink, G: Gate + Sync>(
     rt: &R,
     alloc: Global,
     text: &[u8],
     how: How,
+    even: bool,
     jobs: u8,
     output: &mut O,
     gate: &G,
@@ -91,12 +197,15 @@ pub(crate) fn print_book<R: Threads + Sync, O: Sink, G: Gate + Sync>(
     requires some { 1 ≤ jobs }
     requires few { jobs ≤ 64 }
     requires within { length text.now ≤ 2 ^ 30 }
-    ensures { IsPrinted how text.now (record { before = O.taken output.old; after = O.taken output.new; count_before = O.faults output.old; count_after = O.faults output.new }) result }
+    ensures { IsPrinted how even text.now (record { before = O.taken output.old; after = O.taken output.new; count_before = O.faults output.old; count_after = O.faults output.new }) result }
 {
     let book = cut_book(alloc, text)?;
     let paper = read_paper(&book);
-    let defaults = read_defaults(&book);
+    let defaults = read_defaults(alloc, &book)?;
     let tunes = book.tunes.as_slice();
-    let run = print_tunes(rt, alloc, tunes, &defaults, &paper, how, jobs, output, gate)?;
+    let plan = plan_tunes(rt, alloc, tunes, &defaults, &paper, how, even, jobs, gate)?;
+    let run = print_tunes(
+        rt, alloc, tunes, &defaults, &paper, &plan, how, jobs, output, gate,
+    )?;
     end_run(alloc, run, output)
 }

@@ -39,12 +39,18 @@ fn answer<R: Threads + Sync, O: Sink, E: Sink, G: Gate + Sync>(
         (record { before = E.taken errors.old; after = E.taken errors.new; count_before = E.faults errors.old; count_after = E.faults errors.new }) }
 {
     match command {
-        Command::Set { flow, jobs, by } => {
+        Command::Set {
+            flow,
+            jobs,
+            by,
+            even,
+        } => {
             set(
                 rt,
                 alloc,
                 text,
                 How { flow, by },
+                even,
                 jobs,
                 output,
                 errors,
@@ -105,9 +111,12 @@ fn obey<R: Threads + Sync, S: Source, O: Sink, E: Sink, G: Gate + Sync>(
 {
     match command {
         Command::Make { tunes } => make_book(alloc, tunes, output, errors),
-        Command::Trial { tunes, flow, jobs } => {
-            trial(rt, alloc, tunes, flow, jobs, output, errors, gate)
-        }
+        Command::Trial {
+            tunes,
+            flow,
+            jobs,
+            even,
+        } => trial(rt, alloc, tunes, flow, even, jobs, output, errors, gate),
         _ => read_and_answer(rt, alloc, command, input, output, errors, gate),
     }
 }
@@ -164,9 +173,12 @@ pub fn never_both()
 /// tunes are left, what went out is a front of whatever the book calls for, and nothing is told.
 ///
 /// Faulty tunes of `set` and `systems` are told on `errors`, a line each. With `flow` no bar is
-/// forced, and a score is moved by `by` semitones before it is set; `jobs` tunes are set side by side, where threads can be made, and what is written is the
-/// same for every number of them. Each tune enters `gate` once, before it is set. What each answer
-/// means, and what it leaves on each stream, is said by name in the promises.
+/// forced, and a score is moved by `by` semitones before it is set; with `even` the groups of blocks
+/// are parted into pages so that no other parting that fits has a smaller total. `jobs` tunes are set
+/// side by side, where threads can be made, and what is written is the same for every number of them.
+/// Each tune enters `gate` before it is set: once, and by `set` with `even` twice, since there the
+/// tunes are set for their heights first. What each answer means, and what it leaves on each stream,
+/// is said by name in the promises.
 pub fn run<R: Threads + Sync, S: Source, O: Sink, E: Sink, G: Gate + Sync>(
     rt: &R,
     alloc: Global,

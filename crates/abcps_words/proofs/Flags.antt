@@ -1,21 +1,14 @@
 -- Options read one after another from the front: what stands read at each step, and that no other options have the same words.
 use Rattle.std.proofs.Common.{◌≡◌, ℕ, ℤ, pos, negsuc, ◌+◌, ◌<◌, ◌≤◌, ◌^◌, Bool, true, false, cond, ◌||◌, List, [], ◌∷◌, ◌++◌, length, Option, Some, None, is_some, unwrap_or, All, flat_map, refl, sym, ◌∙◌, ap, subst, arith, decimal, append_assoc}
-use Rattle.std.specs.Int.Signed.{mag}
-use Rattle.std.specs.List.{list_any, count_by}
-use Rattle.std.specs.Option.{option_or}
-use Rattle.std.proofs.lemmas.Bool.{true≢false}
-use Rattle.std.proofs.lemmas.Fmt.{decimal_injective, signed_decimal_injective}
-use Rattle.std.proofs.lemmas.Int.{ints}
-use Rattle.std.proofs.lemmas.List.{append-nil}
-use Rattle.std.proofs.lemmas.List.Elements.{All-head, All-tail, All-push}
-use Rattle.std.proofs.lemmas.List.Sums.{sum_by-append}
-use Rattle.std.proofs.lemmas.Grind.{flat_map-append}
-use Rattle.abcps_words.specs.declared.options.Flag.{Flag}
-use Rattle.abcps_words.specs.declared.options.Flag.TheVariants as flag
-use Rattle.abcps_words.specs.declared.options.Options.{Options}
+use Rattle.std.proofs.{lemmas.Bool.true≢false, lemmas.Fmt.decimal_injective, lemmas.Fmt.signed_decimal_injective, lemmas.Int.ints}
+use Rattle.std.proofs.{lemmas.List.append-nil, lemmas.List.Elements.All-head, lemmas.List.Elements.All-tail, lemmas.List.Elements.All-push}
+use Rattle.std.proofs.{lemmas.List.Sums.sum_by-append, lemmas.Grind.flat_map-append}
+use Rattle.std.specs.{Int.Signed.mag, List.list_any, List.count_by, Option.option_or}
+use Rattle.abcps_words.specs.{declared.options.Flag.Flag, declared.options.Options.Options}
 use Rattle.abcps_words.specs.Words.{IsWithin, IsMove, flag_words, IsFlag, same_kind, IsOnce, IsSpelled, jobs_of, half_steps_of, first_said, said}
-use Rattle.abcps_words.proofs.Fronts.{head_of, tail_of, clash}
 use Rattle.abcps_words.specs.Adding.{has_kind, with_flag, added}
+use Rattle.abcps_words.specs.declared.options.Flag.TheVariants as flag
+use Rattle.abcps_words.proofs.Fronts.{head_of, tail_of, clash}
 
 one_number : (n m : ℕ) → IsWithin 64 n → IsWithin 64 m → decimal n ≡ decimal m → n ≡ m
 one_number n m a b e = decimal_injective n m (omega (arith, a)) (omega (arith, b)) e
@@ -33,6 +26,7 @@ small (negsuc n) move = omega (arith, ints)
 one_flag : (f g : Flag) (xs ys : List (List ℕ)) → IsFlag f → IsFlag g → flag_words f ++ xs ≡ flag_words g ++ ys → (f ≡ g) × (xs ≡ ys)
 one_flag flag.Flow flag.Flow xs ys a b e = (refl, ap tail_of e)
 one_flag flag.Table flag.Table xs ys a b e = (refl, ap tail_of e)
+one_flag flag.Even flag.Even xs ys a b e = (refl, ap tail_of e)
 one_flag (flag.Jobs n) (flag.Jobs m) xs ys a b e = (ap flag.Jobs (one_number n m a b (ap second e)), ap (λ ws. tail_of (tail_of ws)) e)
 one_flag (flag.Transpose y) (flag.Transpose z) xs ys a b e = (ap flag.Transpose (signed_decimal_injective y z (small y a) (small z b) (ap second e)), ap (λ ws. tail_of (tail_of ws)) e)
 one_flag f g xs ys a b e = absurd (clash (head_of (flag_words f)) (flag_words f ++ xs) (flag_words g ++ ys) e refl refl)
@@ -124,6 +118,7 @@ own_kind f = refl
 kinds_alike : (o : Options) (f g : Flag) → same_kind g f ≡ true → has_kind o f ≡ has_kind o g
 kinds_alike o flag.Flow flag.Flow is = refl
 kinds_alike o flag.Table flag.Table is = refl
+kinds_alike o flag.Even flag.Even is = refl
 kinds_alike o (flag.Jobs n) (flag.Jobs m) is = refl
 kinds_alike o (flag.Transpose y) (flag.Transpose z) is = refl
 kinds_alike o f g is = absurd (true≢false (sym is))
@@ -131,19 +126,24 @@ kinds_alike o f g is = absurd (true≢false (sym is))
 kinds_said : (f : Flag) (seen : List Flag) → has_kind (said seen) f ≡ list_any (same_kind f) seen
 kinds_said flag.Flow seen = refl
 kinds_said flag.Table seen = refl
+kinds_said flag.Even seen = refl
 kinds_said (flag.Jobs n) seen = jobs_any n seen
 kinds_said (flag.Transpose z) seen = half_steps_any z seen
 
 -- what options say with one more
 said_more : (seen : List Flag) (f : Flag) → has_kind (said seen) f ≡ false → with_flag (said seen) f ≡ said (seen ++ f ∷ [])
-said_more seen flag.Flow none = rw (any_new (same_kind flag.Flow) seen flag.Flow refl, any_kept (same_kind flag.Table) seen flag.Flow refl, first_kept jobs_of seen flag.Flow refl, first_kept half_steps_of seen flag.Flow refl) refl
-said_more seen flag.Table none = rw (any_kept (same_kind flag.Flow) seen flag.Table refl, any_new (same_kind flag.Table) seen flag.Table refl, first_kept jobs_of seen flag.Table refl, first_kept half_steps_of seen flag.Table refl) refl
+said_more seen flag.Flow none =
+    rw (any_new (same_kind flag.Flow) seen flag.Flow refl, any_kept (same_kind flag.Table) seen flag.Flow refl, any_kept (same_kind flag.Even) seen flag.Flow refl, first_kept jobs_of seen flag.Flow refl, first_kept half_steps_of seen flag.Flow refl) refl
+said_more seen flag.Table none =
+    rw (any_kept (same_kind flag.Flow) seen flag.Table refl, any_new (same_kind flag.Table) seen flag.Table refl, any_kept (same_kind flag.Even) seen flag.Table refl, first_kept jobs_of seen flag.Table refl, first_kept half_steps_of seen flag.Table refl) refl
+said_more seen flag.Even none =
+    rw (any_kept (same_kind flag.Flow) seen flag.Even refl, any_kept (same_kind flag.Table) seen flag.Even refl, any_new (same_kind flag.Even) seen flag.Even refl, first_kept jobs_of seen flag.Even refl, first_kept half_steps_of seen flag.Even refl) refl
 said_more seen (flag.Jobs n) none =
     let f = flag.Jobs n in
-    rw (any_kept (same_kind flag.Flow) seen f refl, any_kept (same_kind flag.Table) seen f refl, first_behind jobs_of seen (f ∷ []) none, first_kept half_steps_of seen f refl) refl
+    rw (any_kept (same_kind flag.Flow) seen f refl, any_kept (same_kind flag.Table) seen f refl, any_kept (same_kind flag.Even) seen f refl, first_behind jobs_of seen (f ∷ []) none, first_kept half_steps_of seen f refl) refl
 said_more seen (flag.Transpose z) none =
     let f = flag.Transpose z in
-    rw (any_kept (same_kind flag.Flow) seen f refl, any_kept (same_kind flag.Table) seen f refl, first_kept jobs_of seen f refl, first_behind half_steps_of seen (f ∷ []) none) refl
+    rw (any_kept (same_kind flag.Flow) seen f refl, any_kept (same_kind flag.Table) seen f refl, any_kept (same_kind flag.Even) seen f refl, first_kept jobs_of seen f refl, first_behind half_steps_of seen (f ∷ []) none) refl
 
 -- one more option that may stand
 fits : (seen : List Flag) → IsOnce seen → (f : Flag) → has_kind (said seen) f ≡ false → IsOnce (seen ++ f ∷ [])

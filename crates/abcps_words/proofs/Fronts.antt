@@ -1,16 +1,13 @@
 -- What the first words can't be, and where the front of a command ends.
 use Rattle.std.proofs.Common.{◌≡◌, ℕ, ℤ, ◌+◌, true, false, ◌||◌, ◌==◌, if◌then◌else◌, List, [], ◌∷◌, ◌++◌, take, drop, codes, refl, sym, ◌∙◌, ap, arith, decimal}
-use Rattle.std.proofs.lemmas.Bool.{true≢false}
-use Rattle.std.proofs.lemmas.Bool.Decides.{nat_tests}
+use Rattle.std.proofs.{lemmas.Bool.true≢false, lemmas.Bool.Decides.nat_tests}
 use Rattle.std.specs.Fmt.{signed_decimal}
 use Rattle.mus_units.specs.declared.key.Spread.{Spread}
-use Rattle.abcps_words.specs.declared.options.Flag.{Flag}
-use Rattle.abcps_words.specs.declared.options.Flag.TheVariants as flag
-use Rattle.abcps_words.specs.declared.command.Name.{Name}
-use Rattle.abcps_words.specs.declared.command.Name.TheVariants as name
-use Rattle.abcps_words.specs.declared.command.Command.{Command}
-use Rattle.abcps_words.specs.declared.command.Command.TheVariants as command
+use Rattle.abcps_words.specs.{declared.options.Flag.Flag, declared.command.Name.Name, declared.command.Command.Command}
 use Rattle.abcps_words.specs.Words.{IsWithin, IsMove, name_bytes, spread_word, front_of, HasTunes, flag_words, IsFlag}
+use Rattle.abcps_words.specs.declared.options.Flag.TheVariants as flag
+use Rattle.abcps_words.specs.declared.command.Name.TheVariants as name
+use Rattle.abcps_words.specs.declared.command.Command.TheVariants as command
 
 -- the words begin with no number from 1 to the most
 abbrev pub LacksNumber : ℕ → List (List ℕ) → Type 0
@@ -55,21 +52,21 @@ no_half_steps word words is none (flag.Transpose z) rest good e = none z rest go
 no_half_steps word words is none f rest good e = clash (codes "--transpose") (word ∷ words) (flag_words f ++ rest) e is refl
 
 pub unnamed : (word : List ℕ) (words : List (List ℕ)) → ((n : Name) → word ≡ name_bytes n → ⊥) → (c : Command) (rest : List (List ℕ)) → word ∷ words ≡ front_of c ++ rest → ⊥
-unnamed word words none (command.Set flow jobs by) rest e = none name.Set (ap head_of e)
+unnamed word words none (command.Set flow jobs by even) rest e = none name.Set (ap head_of e)
 unnamed word words none (command.Systems flow table by) rest e = none name.Systems (ap head_of e)
 unnamed word words none command.Inspect rest e = none name.Inspect (ap head_of e)
 unnamed word words none command.Check rest e = none name.Check (ap head_of e)
 unnamed word words none command.Paint rest e = none name.Paint (ap head_of e)
 unnamed word words none (command.Hear spread) rest e = none name.Hear (ap head_of e)
 unnamed word words none (command.Make tunes) rest e = none name.Make (ap head_of e)
-unnamed word words none (command.Trial tunes flow jobs) rest e = none name.Trial (ap head_of e)
+unnamed word words none (command.Trial tunes flow jobs even) rest e = none name.Trial (ap head_of e)
 
 pub no_make : (word : List ℕ) (words : List (List ℕ)) → word ≡ name_bytes name.Make → LacksNumber 500 words → (c : Command) (rest : List (List ℕ)) → HasTunes c → word ∷ words ≡ front_of c ++ rest → ⊥
 no_make word words is none (command.Make tunes) rest good e = none tunes rest good (ap tail_of e)
 no_make word words is none c rest good e = clash (codes "make") (word ∷ words) (front_of c ++ rest) e is refl
 
 pub no_trial : (word : List ℕ) (words : List (List ℕ)) → word ≡ name_bytes name.Trial → LacksNumber 500 words → (c : Command) (rest : List (List ℕ)) → HasTunes c → word ∷ words ≡ front_of c ++ rest → ⊥
-no_trial word words is none (command.Trial tunes flow jobs) rest good e = none tunes rest good (ap tail_of e)
+no_trial word words is none (command.Trial tunes flow jobs even) rest good e = none tunes rest good (ap tail_of e)
 no_trial word words is none c rest good e = clash (codes "trial") (word ∷ words) (front_of c ++ rest) e is refl
 
 pub no_hear : (word : List ℕ) (words : List (List ℕ)) → word ≡ name_bytes name.Hear → LacksSpread words → (c : Command) (rest : List (List ℕ)) → word ∷ words ≡ front_of c ++ rest → ⊥
@@ -81,11 +78,11 @@ abbrev front_length : List (List ℕ) → ℕ
 front_length words = if (key_of (head_of words) == 414) || (key_of (head_of words) == 432) || (key_of (head_of words) == 416) then 2 else 1
 
 front_is : (c : Command) (rest : List (List ℕ)) → take (front_length (front_of c ++ rest)) (front_of c ++ rest) ≡ front_of c
-front_is (command.Set flow jobs by) rest = refl
+front_is (command.Set flow jobs by even) rest = refl
 front_is c rest = refl
 
 rest_is : (c : Command) (rest : List (List ℕ)) → drop (front_length (front_of c ++ rest)) (front_of c ++ rest) ≡ rest
-rest_is (command.Set flow jobs by) rest = refl
+rest_is (command.Set flow jobs by even) rest = refl
 rest_is c rest = refl
 
 pub same_front : (c d : Command) (xs ys : List (List ℕ)) → front_of c ++ xs ≡ front_of d ++ ys → (front_of c ≡ front_of d) × (xs ≡ ys)

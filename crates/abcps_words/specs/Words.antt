@@ -1,17 +1,13 @@
 -- The words of a command: its name, the number of tunes or the spread where it takes one, and its options in any order, each at
 -- most once.
 use Rattle.std.specs.Prelude.{◌≡◌, ◌≤◌, ◌≤ℤ◌, ⊤, ℕ, ℤ, pos, negsuc, Bool, true, false, List, [], ◌∷◌, All, Option, Some, None, unwrap_or, codes, decimal, flat_map, count_by}
-use Rattle.std.specs.Fmt.{signed_decimal}
-use Rattle.std.specs.List.{list_any}
-use Rattle.std.specs.Option.{option_or}
+use Rattle.std.specs.{Fmt.signed_decimal, List.list_any, Option.option_or}
 use Rattle.mus_units.specs.declared.key.Spread.{Spread}
 use Rattle.mus_units.specs.declared.key.Spread.TheVariants as spreads
-use Rattle.abcps_words.specs.declared.options.Flag.{Flag}
-use Rattle.abcps_words.specs.declared.options.Flag.TheVariants as flag
-use Rattle.abcps_words.specs.declared.options.Options.{Options}
-use Rattle.abcps_words.specs.declared.command.Name.{Name}
-use Rattle.abcps_words.specs.declared.command.Name.TheVariants as name
+use Rattle.abcps_words.specs.{declared.options.Flag.Flag, declared.options.Options.Options, declared.command.Name.Name}
 use Rattle.abcps_words.specs.declared.command.Command.{Command}
+use Rattle.abcps_words.specs.declared.options.Flag.TheVariants as flag
+use Rattle.abcps_words.specs.declared.command.Name.TheVariants as name
 use Rattle.abcps_words.specs.declared.command.Command.TheVariants as command
 
 -- a number from 1 to the most
@@ -43,20 +39,20 @@ spread_word spreads.Pitch = codes "pitch"
 
 -- the words before the options: the name, and directly behind it the number of tunes or the spread
 abbrev pub front_of : Command → List (List ℕ)
-front_of (command.Set flow jobs by) = name_bytes name.Set ∷ []
+front_of (command.Set flow jobs by even) = name_bytes name.Set ∷ []
 front_of (command.Systems flow table by) = name_bytes name.Systems ∷ []
 front_of command.Inspect = name_bytes name.Inspect ∷ []
 front_of command.Check = name_bytes name.Check ∷ []
 front_of (command.Make tunes) = name_bytes name.Make ∷ decimal tunes ∷ []
-front_of (command.Trial tunes flow jobs) = name_bytes name.Trial ∷ decimal tunes ∷ []
+front_of (command.Trial tunes flow jobs even) = name_bytes name.Trial ∷ decimal tunes ∷ []
 front_of command.Paint = name_bytes name.Paint ∷ []
 front_of (command.Hear spread) = name_bytes name.Hear ∷ spread_word spread ∷ []
 
 -- a number of tunes is 1 to 500
 abbrev pub HasTunes : Command → Type 0
 HasTunes (command.Make tunes) = IsWithin 500 tunes
-HasTunes (command.Trial tunes flow jobs) = IsWithin 500 tunes
-HasTunes (command.Set flow jobs by) = ⊤
+HasTunes (command.Trial tunes flow jobs even) = IsWithin 500 tunes
+HasTunes (command.Set flow jobs by even) = ⊤
 HasTunes (command.Systems flow table by) = ⊤
 HasTunes command.Inspect = ⊤
 HasTunes command.Check = ⊤
@@ -67,6 +63,7 @@ HasTunes (command.Hear spread) = ⊤
 abbrev pub flag_words : Flag → List (List ℕ)
 flag_words flag.Flow = codes "--flow" ∷ []
 flag_words flag.Table = codes "--table" ∷ []
+flag_words flag.Even = codes "--even" ∷ []
 flag_words (flag.Jobs jobs) = codes "--jobs" ∷ decimal jobs ∷ []
 flag_words (flag.Transpose by) = codes "--transpose" ∷ signed_decimal by ∷ []
 
@@ -74,6 +71,7 @@ flag_words (flag.Transpose by) = codes "--transpose" ∷ signed_decimal by ∷ [
 abbrev pub IsFlag : Flag → Type 0
 IsFlag flag.Flow = ⊤
 IsFlag flag.Table = ⊤
+IsFlag flag.Even = ⊤
 IsFlag (flag.Jobs jobs) = IsWithin 64 jobs
 IsFlag (flag.Transpose by) = IsMove by
 
@@ -81,6 +79,7 @@ IsFlag (flag.Transpose by) = IsMove by
 abbrev pub same_kind : Flag → Flag → Bool
 same_kind flag.Flow flag.Flow = true
 same_kind flag.Table flag.Table = true
+same_kind flag.Even flag.Even = true
 same_kind (flag.Jobs n) (flag.Jobs m) = true
 same_kind (flag.Transpose y) (flag.Transpose z) = true
 same_kind _ _ = false
@@ -114,6 +113,7 @@ abbrev pub said : List Flag → Options
 said flags = record {
   flow = list_any (same_kind flag.Flow) flags;
   table = list_any (same_kind flag.Table) flags;
+  even = list_any (same_kind flag.Even) flags;
   jobs = first_said jobs_of flags;
   by = first_said half_steps_of flags;
 }
@@ -122,16 +122,17 @@ said flags = record {
 pub record IsBare (o : Options) : Type 0 where
   pub flow : o.flow ≡ false
   pub table : o.table ≡ false
+  pub even : o.even ≡ false
   pub jobs : o.jobs ≡ None
   pub by : o.by ≡ None
 
 -- A command says what its options say, and takes no others: 1 job where none says how many, and no half step.
 abbrev pub Says : Options → Command → Type 0
-Says o (command.Set flow jobs by) = (flow ≡ o.flow) × (jobs ≡ unwrap_or o.jobs 1) × (by ≡ unwrap_or o.by (pos 0)) × (o.table ≡ false)
-Says o (command.Systems flow table by) = (flow ≡ o.flow) × (table ≡ o.table) × (by ≡ unwrap_or o.by (pos 0)) × (o.jobs ≡ None)
+Says o (command.Set flow jobs by even) = (flow ≡ o.flow) × (jobs ≡ unwrap_or o.jobs 1) × (by ≡ unwrap_or o.by (pos 0)) × (even ≡ o.even) × (o.table ≡ false)
+Says o (command.Systems flow table by) = (flow ≡ o.flow) × (table ≡ o.table) × (by ≡ unwrap_or o.by (pos 0)) × (o.jobs ≡ None) × (o.even ≡ false)
 Says o command.Inspect = IsBare o
 Says o command.Check = IsBare o
 Says o (command.Make tunes) = IsBare o
-Says o (command.Trial tunes flow jobs) = (flow ≡ o.flow) × (jobs ≡ unwrap_or o.jobs 1) × (o.table ≡ false) × (o.by ≡ None)
+Says o (command.Trial tunes flow jobs even) = (flow ≡ o.flow) × (jobs ≡ unwrap_or o.jobs 1) × (even ≡ o.even) × (o.table ≡ false) × (o.by ≡ None)
 Says o command.Paint = IsBare o
 Says o (command.Hear spread) = IsBare o

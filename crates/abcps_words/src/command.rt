@@ -24,23 +24,42 @@ enum Name {
 #[derive(Clone, Copy, PartialEq, Eq)]
 pub enum Command {
     /// Read a book, and write its pages: `flow` with no line break forced, by 1 to
-    /// 64 `jobs`, and -12 to 12 half steps higher.
-    Set { flow: bool, jobs: u8, by: i8 },
+    /// 64 `jobs`, -12 to 12 half steps higher, and with `even` on even pages.
+    Set {
+        flow: bool,
+        jobs: u8,
+        by: i8,
+        even: bool,
+    },
     /// Read a book, and write its systems: with `table` as a listing, and -12 to 12
     /// half steps higher.
-    Systems { flow: bool, table: bool, by: i8 },
+    Systems {
+        flow: bool,
+        table: bool,
+        by: i8,
+    },
     /// Read pages, and print what they show.
     Inspect,
     /// Read a listing, and judge it.
     Check,
     /// Write the generated book of 1 to 500 tunes.
-    Make { tunes: u32 },
-    /// Set the generated book of 1 to 500 tunes by 1 to 64 `jobs`, and write one line on it.
-    Trial { tunes: u32, flow: bool, jobs: u8 },
+    Make {
+        tunes: u32,
+    },
+    /// Set the generated book of 1 to 500 tunes by 1 to 64 `jobs`, with `even` on even pages, and
+    /// write one line on it.
+    Trial {
+        tunes: u32,
+        flow: bool,
+        jobs: u8,
+        even: bool,
+    },
     /// Run any bytes as pages, and print what they paint.
     Paint,
     /// Read pages, and print what their tunes sound where a sign reaches as far as `spread` says.
-    Hear { spread: Spread },
+    Hear {
+        spread: Spread,
+    },
 }
 
 /// The most bytes that a book may have.
@@ -59,7 +78,7 @@ const DEFAULT_HALF_STEPS: i8 = 0;
 
 /// The text of the usage line; `usage` gives it.
 const USAGE: &[u8] =
-    b"usage: abcps set [--flow] [--jobs N] [--transpose N] | systems [--flow] [--table] [--transpose N] | inspect | check | make N | trial N [--flow] [--jobs N] | paint | hear W\n";
+    b"usage: abcps set [--flow] [--jobs N] [--transpose N] [--even] | systems [--flow] [--table] [--transpose N] | inspect | check | make N | trial N [--flow] [--jobs N] [--even] | paint | hear W\n";
 
 impl Command {
     /// The most bytes that its input may have; 0 where it reads none.
@@ -86,17 +105,21 @@ impl Command {
                 flow: options.flow,
                 jobs: options.jobs.unwrap_or(DEFAULT_JOBS),
                 by: options.by.unwrap_or(DEFAULT_HALF_STEPS),
+                even: options.even,
             }),
-            Command::Systems { .. } if options.jobs.is_none() => Some(Command::Systems {
-                flow: options.flow,
-                table: options.table,
-                by: options.by.unwrap_or(DEFAULT_HALF_STEPS),
-            }),
+            Command::Systems { .. } if options.jobs.is_none() && !options.even => Some(
+                Command::Systems {
+                    flow: options.flow,
+                    table: options.table,
+                    by: options.by.unwrap_or(DEFAULT_HALF_STEPS),
+                },
+            ),
             Command::Trial { tunes, .. } if !options.table && options.by.is_none() => Some(
                 Command::Trial {
                     tunes,
                     flow: options.flow,
                     jobs: options.jobs.unwrap_or(DEFAULT_JOBS),
+                    even: options.even,
                 },
             ),
             Command::Inspect
@@ -173,6 +196,7 @@ fn take_front(words: &[String]) -> Option<(Command, &[String])>
                 flow: false,
                 jobs: DEFAULT_JOBS,
                 by: DEFAULT_HALF_STEPS,
+                even: false,
             },
             rest,
         )),
@@ -202,6 +226,7 @@ fn take_front(words: &[String]) -> Option<(Command, &[String])>
                     tunes,
                     flow: false,
                     jobs: DEFAULT_JOBS,
+                    even: false,
                 },
                 rest,
             ))

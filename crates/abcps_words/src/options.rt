@@ -12,6 +12,8 @@ pub enum Flag {
     Flow,
     /// `--table`
     Table,
+    /// `--even`
+    Even,
     /// `--jobs` and a number.
     Jobs(u8),
     /// `--transpose` and a number of half steps.
@@ -25,6 +27,8 @@ pub struct Options {
     pub flow: bool,
     /// Whether `--table` is among them.
     pub table: bool,
+    /// Whether `--even` is among them.
+    pub even: bool,
     /// The number of `--jobs`, where it is among them.
     pub jobs: Option<u8>,
     /// The half steps of `--transpose`, where it is among them.
@@ -54,6 +58,8 @@ fn take_flag(words: &[String]) -> Option<(Flag, &[String])>
         Some((Flag::Flow, rest))
     } else if is_word(word.as_bytes(), b"--table") {
         Some((Flag::Table, rest))
+    } else if is_word(word.as_bytes(), b"--even") {
+        Some((Flag::Even, rest))
     } else if is_word(word.as_bytes(), b"--jobs") {
         let (jobs, rest) = take_jobs(rest)?;
         Some((Flag::Jobs(jobs), rest))
@@ -73,6 +79,7 @@ impl Options {
         Options {
             flow: false,
             table: false,
+            even: false,
             jobs: None,
             by: None,
         }
@@ -88,6 +95,7 @@ impl Options {
                 table: true,
                 ..self
             }),
+            Flag::Even if !self.even => Some(Options { even: true, ..self }),
             Flag::Jobs(jobs) if self.jobs.is_none() => Some(Options {
                 jobs: Some(jobs),
                 ..self

@@ -1,19 +1,12 @@
 -- The lines of a body give one list of items and faults.
 use Rattle.std.proofs.Common.{◌≡◌, ◌∙◌, refl, sym, ap, subst, ◌≤◌, List, [], ◌∷◌, ◌++◌, take, drop, Option, Some, arith, append_assoc, ⊎_elim}
-use Rattle.std.specs.Prelude.{flat_map}
-use Rattle.std.proofs.lemmas.Bool.{cases_lt}
-use Rattle.std.proofs.lemmas.List.{take-append-drop, take-take}
-use Rattle.abc_lines.specs.declared.book.Line.{Line}
-use Rattle.abc_lines.specs.declared.fault.Fault.{Fault}
-use Rattle.abc_lines.specs.declared.kind.LineKind.{LineKind}
-use Rattle.abc_lines.specs.declared.kind.LineKind.TheVariants as kinds
-use Rattle.abc_lines.specs.Kinds.{kind_of}
+use Rattle.std.{proofs.lemmas.Bool.cases_lt, proofs.lemmas.List.take-append-drop, proofs.lemmas.List.take-take, specs.Prelude.flat_map}
+use Rattle.abc_lines.specs.{declared.book.Line.Line, declared.fault.Fault.Fault, declared.kind.LineKind.LineKind, Kinds.kind_of}
 use Rattle.abc_tokens.specs.declared.token.Placed.{Placed}
 use Rattle.abc_fields.specs.declared.directive.Breaks.{Breaks}
 use Rattle.abc_header.specs.declared.header.Header.{Header}
 use Rattle.abc_steps.specs.declared.step.Item.{Item}
-use Rattle.abc_items.specs.Body.{Given, placed_given, end_given, MusicGives, KindGives, LineGives, BodyGives, no_lines, one_line, judged, first_fault, items_in, IsBody, HasFault}
-use Rattle.abc_items.specs.Voices.{declared_ids}
+use Rattle.abc_items.specs.{Body.Given, Body.placed_given, Body.end_given, Body.MusicGives, Body.KindGives, Body.LineGives, Body.BodyGives, Body.no_lines, Body.one_line, Body.judged, Body.first_fault, Body.items_in, Body.IsBody, Body.HasFault, Voices.declared_ids}
 use Rattle.abc_items.proofs.Laws.{stays}
 use Rattle.set_book.proofs.LineFaults.{one_front_of}
 
@@ -28,9 +21,9 @@ one_music breaks line g h a b =
     a.3 ∙ ap (λ ts. music_given breaks line ts a.1) o.0 ∙ ap (λ f. music_given breaks line b.0 f) o.1 ∙ sym b.3
 
 one_by_kind : (breaks : Breaks) (line : Line) (kind : LineKind) (g h : List Given) → KindGives breaks line kind g → KindGives breaks line kind h → g ≡ h
-one_by_kind breaks line kinds.Music g h a b = one_music breaks line g h a b
-one_by_kind breaks line (kinds.Field letter) g h a b = a ∙ sym b
-one_by_kind breaks line kinds.Directive g h a b = a ∙ sym b
+one_by_kind breaks line LineKind.Music g h a b = one_music breaks line g h a b
+one_by_kind breaks line (LineKind.Field letter) g h a b = a ∙ sym b
+one_by_kind breaks line LineKind.Directive g h a b = a ∙ sym b
 
 one_line_given : (breaks : Breaks) (line : Line) (g h : List Given) → LineGives breaks line g → LineGives breaks line h → g ≡ h
 one_line_given breaks line g h a b = one_by_kind breaks line (kind_of line.text) g h a b

@@ -1,19 +1,11 @@
 -- The columns of a system stand in one way.
 use Rattle.std.proofs.Common.{◌≡◌, ◌∙◌, ℕ, ◌-◌, ◌*◌, ◌/◌, ◌<◌, inl, inr, ◌==◌, Bool, true, false, ℤ, pos, ◌+ℤ◌, List, length, slice_index_or, Option, refl, sym, ap, subst, arith}
-use Rattle.std.proofs.lemmas.Int.{ints}
-use Rattle.std.proofs.lemmas.Bool.{cases_lt}
-use Rattle.std.proofs.lemmas.List.{ext_get_or}
+use Rattle.std.proofs.{lemmas.Int.ints, lemmas.Bool.cases_lt, lemmas.List.ext_get_or}
 use Rattle.mus_score.specs.declared.score.Score.{Score}
 use Rattle.mus_laid.specs.declared.laid.SystemMarks.{SystemMarks}
-use Rattle.lay_columns.specs.declared.column.Column.{Column}
-use Rattle.lay_columns.specs.Columns.{column_reach}
-use Rattle.lay_springs.specs.declared.margin.Placed.{Placed}
-use Rattle.lay_springs.specs.declared.traits.Reach.{Reach}
-use Rattle.lay_springs.specs.Place.{IsPlace, length_at, reach_at}
-use Rattle.lay_springs.specs.Fit.{IsEndOf, IsSet, counted, is_ragged}
-use Rattle.lay_springs.proofs.Unique.{one_place}
-use Rattle.lay_tune.specs.Spans.{column_length, score_gaps, system_columns}
-use Rattle.lay_tune.specs.Systems.{IsJustified, IsPlaced}
+use Rattle.lay_columns.specs.{declared.column.Column.Column, Columns.column_reach}
+use Rattle.lay_springs.{specs.declared.margin.Placed.Placed, specs.declared.traits.Reach.Reach, specs.Place.IsPlace, specs.Place.length_at, specs.Place.reach_at, specs.Fit.IsEndOf, specs.Fit.IsSet, specs.Fit.counted, specs.Fit.is_ragged, proofs.Unique.one_place}
+use Rattle.lay_tune.specs.{Spans.column_length, Spans.score_gaps, Spans.system_columns, Systems.IsJustified, Systems.IsPlaced}
 use Rattle.set_book.proofs.Spanned.{one_force}
 
 -- ---- columns set to a width

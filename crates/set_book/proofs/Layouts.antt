@@ -1,23 +1,14 @@
 -- A score has one layout on a width.
 use Rattle.std.proofs.Common.{◌≡◌, ◌∙◌, ℕ, List, [], ◌∷◌, refl, sym, ap, subst}
-use Rattle.mus_score.specs.declared.score.Score.{Score}
-use Rattle.mus_score.specs.GoodScore.{IsGoodScore}
+use Rattle.mus_score.specs.{declared.score.Score.Score, GoodScore.IsGoodScore}
 use Rattle.mus_time.specs.Onsets.{timeline_of}
 use Rattle.mus_laid.specs.declared.laid.SystemMarks.{SystemMarks}
 use Rattle.mus_marks.specs.Tilt.{IsTilted}
 use Rattle.lay_springs.specs.declared.margin.Placed.{Placed}
-use Rattle.lay_breaks.specs.declared.breaking.Breaking.{Breaking}
-use Rattle.lay_breaks.specs.declared.costs.Span.{Span}
-use Rattle.lay_breaks.specs.Spans.{listed}
-use Rattle.lay_tune.specs.Spans.{is_forced_in}
-use Rattle.lay_tune.specs.Systems.{Beside, EachSpan, IsPlaced, IsSetSystem, IsStack}
-use Rattle.set_tune.specs.declared.tune.SetTune.{SetTune}
-use Rattle.set_tune.specs.Setting.{IsLaidOut}
-use Rattle.lay_tune.proofs.Called.{one_system, one_tilted}
-use Rattle.set_book.proofs.Chosen.{IsBreaking, one_breaking}
-use Rattle.set_book.proofs.Justified.{one_placed}
-use Rattle.set_book.proofs.Spanned.{one_list}
-use Rattle.set_book.proofs.Stacked.{one_beside, one_stacked}
+use Rattle.lay_breaks.specs.{declared.breaking.Breaking.Breaking, declared.costs.Span.Span, Spans.listed}
+use Rattle.lay_tune.{specs.Spans.is_forced_in, specs.Systems.Beside, specs.Systems.EachSpan, specs.Systems.IsPlaced, specs.Systems.IsSetSystem, specs.Systems.IsStack, proofs.Called.one_system, proofs.Called.one_tilted}
+use Rattle.set_tune.specs.{declared.tune.SetTune.SetTune, Setting.IsLaidOut}
+use Rattle.set_book.proofs.{Chosen.IsBreaking, Chosen.one_breaking, Justified.one_placed, Spanned.one_list, Stacked.one_beside, Stacked.one_stacked}
 
 -- a score has one system of any measures on a width
 one_set : (s : Score) (width a b : ℕ) (m n : SystemMarks) (p q : Placed) → IsSetSystem s width a b m p → IsSetSystem s width a b n q → (m ≡ n) × (p ≡ q)
@@ -68,8 +59,8 @@ module _ (width : ℕ) (s : Score) (t u : SetTune) (h : IsLaidOut width (under s
 
   same_heights : t.heights ≡ u.heights
   same_heights =
-      one_beside IsStack one_stacked u.systems t.heights u.heights
-      (subst (λ systems. Beside IsStack systems t.heights) same_systems.0 h.heights) k.heights
+      one_beside (IsStack s) (one_stacked s) u.systems t.heights u.heights
+      (subst (λ systems. Beside (IsStack s) systems t.heights) same_systems.0 h.heights) k.heights
 
 -- a score has one layout on a width
 pub one_layout : (width : ℕ) (t u : SetTune) → t.score ≡ u.score → IsGoodScore t.score → IsLaidOut width t → IsLaidOut width u

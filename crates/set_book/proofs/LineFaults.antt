@@ -1,31 +1,20 @@
 -- A music line gives one list of tokens up to its first fault, and one such fault, or none.
 use Rattle.std.proofs.Common.{◌≡◌, ◌∙◌, refl, sym, ap, subst, ℕ, List, [], ◌∷◌, length, Bool, Option, Some, None}
 use Rattle.std.specs.Prelude.{MatchBool, MatchOption, ◌==◌, option_map}
-use Rattle.abc_lines.specs.declared.book.Line.{Line}
-use Rattle.abc_lines.specs.declared.fault.Fault.{Fault}
-use Rattle.abc_lines.specs.declared.fault.FaultKind.{FaultKind}
-use Rattle.abc_lines.specs.declared.fault.FaultKind.TheVariants.{BadByte, Unclosed}
-use Rattle.abc_notes.specs.declared.part.Flaw.{Flaw}
-use Rattle.abc_notes.specs.Parts.{IsLongest, HasNone}
-use Rattle.abc_notes.specs.Graces.{GraceFault}
-use Rattle.abc_pieces.specs.Forms.{Form, StandsAt, meant, after, opening}
-use Rattle.abc_pieces.specs.declared.token.Before.{Before}
-use Rattle.abc_pieces.specs.declared.token.Opening.{Opening}
-use Rattle.abc_pieces.specs.declared.token.Opening.TheVariants as opens
-use Rattle.abc_pieces.proofs.PieceReader.{piece_reader}
-use Rattle.abc_tokens.specs.declared.token.Placed.{Placed}
-use Rattle.abc_tokens.specs.Tokens.{Front, clear, breaks, leads, FrontOf, column, put, kind_behind, IsHere, IsBracketFlaw, IsOwnFlaw, IsLineFlaw, fault_at}
-use Rattle.set_book.proofs.PartFaults.{by_test, none_at_end, one_longest}
-use Rattle.set_book.proofs.ChordFaults.{one_chord_fault, one_grace_fault}
+use Rattle.abc_lines.specs.declared.{book.Line.Line, fault.Fault.Fault, fault.FaultKind.FaultKind, fault.FaultKind.TheVariants.BadByte, fault.FaultKind.TheVariants.Unclosed}
+use Rattle.abc_notes.specs.{declared.part.Flaw.Flaw, Parts.IsLongest, Parts.HasNone, Graces.GraceFault}
+use Rattle.abc_pieces.{specs.Forms.Form, specs.Forms.StandsAt, specs.Forms.meant, specs.Forms.after, specs.Forms.opening, specs.declared.token.Before.Before, specs.declared.token.Opening.Opening, proofs.PieceReader.piece_reader}
+use Rattle.abc_tokens.specs.{declared.token.Placed.Placed, Tokens.Front, Tokens.clear, Tokens.breaks, Tokens.leads, Tokens.FrontOf, Tokens.column, Tokens.put, Tokens.kind_behind, Tokens.IsHere, Tokens.IsBracketFlaw, Tokens.IsOwnFlaw, Tokens.IsLineFlaw, Tokens.fault_at}
+use Rattle.set_book.proofs.{PartFaults.by_test, PartFaults.none_at_end, PartFaults.one_longest, ChordFaults.one_chord_fault, ChordFaults.one_grace_fault}
 
 one_here : (kind : FaultKind) (s : List ℕ) (f g : Flaw) → IsHere kind s f → IsHere kind s g → f ≡ g
 one_here kind s f g a b = a ∙ sym b
 
 one_bracket : (o : Opening) (bang : Bool) (byte : ℕ) (s : List ℕ) (f g : Flaw) → IsBracketFlaw o bang byte s f → IsBracketFlaw o bang byte s g → f ≡ g
-one_bracket opens.Bar bang byte s f g a b = one_here BadByte (byte ∷ s) f g a b
-one_bracket opens.Ending bang byte s f g a b = one_here BadByte (byte ∷ s) f g a b
-one_bracket opens.Inline bang byte s f g a b = one_here Unclosed (byte ∷ s) f g a b
-one_bracket opens.Chord bang byte s f g a b = one_chord_fault bang s f g a b
+one_bracket Opening.Bar bang byte s f g a b = one_here BadByte (byte ∷ s) f g a b
+one_bracket Opening.Ending bang byte s f g a b = one_here BadByte (byte ∷ s) f g a b
+one_bracket Opening.Inline bang byte s f g a b = one_here Unclosed (byte ∷ s) f g a b
+one_bracket Opening.Chord bang byte s f g a b = one_chord_fault bang s f g a b
 
 one_brace : (bang : Bool) (byte : ℕ) (s : List ℕ) (f g : Flaw) → MatchBool (byte == 123) (GraceFault bang s f) (IsHere BadByte (byte ∷ s) f) → MatchBool (byte == 123) (GraceFault bang s g) (IsHere BadByte (byte ∷ s) g) → f ≡ g
 one_brace bang byte s f g a b = by_test (GraceFault bang s) (IsHere BadByte (byte ∷ s)) f g (one_grace_fault bang s f g) (one_here BadByte (byte ∷ s) f g) (byte == 123) a b

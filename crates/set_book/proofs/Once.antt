@@ -1,39 +1,22 @@
 -- A tune has one outcome.
 use Rattle.std.proofs.Common.{◌≡◌, ◌∙◌, refl, sym, ap, subst, ℕ, zero, suc, ℤ, pos, negsuc, List, [], ◌∷◌, Bool, Option, Some, None, Result, Ok, Err, inl, inr}
-use Rattle.std.specs.Prelude.{MatchOption}
-use Rattle.std.proofs.lemmas.Option.{same_Some}
-use Rattle.abc_lines.specs.declared.book.TuneText.{TuneText}
+use Rattle.std.{proofs.lemmas.Option.same_Some, specs.Prelude.MatchOption}
+use Rattle.abc_lines.specs.declared.{book.Line.Line, book.TuneText.TuneText, fault.Fault.Fault, fault.FaultKind.FaultKind, fault.TuneError.TuneError}
 use Rattle.mus_units.specs.declared.key.Key.{Key}
 use Rattle.mus_transpose.specs.Moved.{CanMove, IsMoved, moved_score}
-use Rattle.abc_lines.specs.declared.fault.Fault.{Fault}
-use Rattle.abc_lines.specs.declared.fault.FaultKind.TheVariants as faults
-use Rattle.abc_lines.specs.declared.fault.TuneError.TheVariants as errors
-use Rattle.abc_header.specs.declared.defaults.Defaults.{Defaults}
-use Rattle.abc_header.specs.declared.header.Header.{Header}
-use Rattle.abc_header.specs.declared.paper.Paper.{Paper}
-use Rattle.abc_header.specs.Papers.{height_of, width_of}
+use Rattle.abc_header.specs.{declared.defaults.Defaults.Defaults, declared.header.Header.Header, declared.paper.Paper.Paper, Papers.height_of, Papers.width_of}
 use Rattle.abc_score.specs.Build.{IsFaultOf, IsScoreOf}
-use Rattle.mus_score.specs.declared.score.Score.{Score}
-use Rattle.lay_breaks.specs.declared.costs.Span.{Span}
-use Rattle.lay_breaks.specs.declared.breaking.Breaking.{Breaking}
-use Rattle.lay_pages.specs.declared.stacking.Heights.{Heights}
-use Rattle.lay_pages.specs.declared.titles.TitleBlock.{TitleBlock}
+use Rattle.mus_score.specs.{declared.score.Score.Score, GoodScore.IsGoodScore}
+use Rattle.lay_shared.{specs.Alike.DoShare, specs.Drawn.drawn_of, specs.Plans.ids_of, proofs.PlanLaws.apart_ids, proofs.PlanLaws.one_plan}
+use Rattle.lay_breaks.specs.{declared.costs.Span.Span, declared.breaking.Breaking.Breaking}
+use Rattle.lay_pages.specs.{declared.stacking.Heights.Heights, declared.titles.TitleBlock.TitleBlock, Filling.first_tall, Titles.title_block_of}
 use Rattle.lay_springs.specs.declared.margin.Placed.{Placed}
 use Rattle.mus_laid.specs.declared.laid.SystemMarks.{SystemMarks}
-use Rattle.lay_pages.specs.Filling.{first_tall}
-use Rattle.lay_pages.specs.Titles.{title_block_of}
-use Rattle.lay_tune.specs.Layout.{IsNoWay}
-use Rattle.set_tune.specs.declared.how.How.{How}
-use Rattle.set_tune.specs.declared.tune.SetTune.{SetTune}
-use Rattle.set_tune.specs.Blocks.{blocks_of}
-use Rattle.set_tune.specs.Setting.{CantMove, HasHeader, HasScore, IsLaidTune, IsSetTune, IsWritten, layout_fault, IsFaultOfTune, IsMovedRefusal, of_header, of_score, of_move, no_way, too_tall}
-use Rattle.set_book.specs.declared.outcome.Outcome.{Outcome}
-use Rattle.set_book.specs.Outcomes.{IsResult, IsOutcome, AreOutcomes}
-use Rattle.set_book.specs.Once.{HaveOneOutcome, IsOneSystem}
-use Rattle.lay_tune.proofs.Called.{has_system, one_system}
-use Rattle.set_book.proofs.Scores.{one_header, one_score, one_score_fault, no_score_fault}
-use Rattle.set_book.proofs.Layouts.{one_layout}
-use Rattle.set_book.proofs.Faults.{one_way, no_way_laid}
+use Rattle.lay_tune.{specs.Layout.IsNoWay, proofs.Called.has_system, proofs.Called.one_system}
+use Rattle.set_tune.specs.Setting.{CantDraw, CantMove, HasHeader, HasScore, IsDrawn, IsLaidTune, IsSetTune, IsWritten, layout_fault, IsFaultOfTune, IsMovedRefusal, of_header, of_score, of_share, of_move, no_way, too_tall}
+use Rattle.set_tune.{specs.declared.how.How.How, specs.declared.tune.SetTune.SetTune, specs.Blocks.blocks_of, proofs.Laid.same_Ok}
+use Rattle.set_book.{specs.declared.outcome.Outcome.Outcome, specs.Outcomes.IsResult, specs.Outcomes.IsOutcome, specs.Outcomes.AreOutcomes, specs.Once.HaveOneOutcome, specs.Once.IsOneSystem, proofs.Scores.one_header, proofs.Scores.one_score, proofs.Scores.one_score_fault}
+use Rattle.set_book.proofs.{Scores.no_score_fault, Layouts.one_layout, Faults.one_way, Faults.no_way_laid}
 
 -- ---- what a tune is, whatever the height of the page
 
@@ -57,16 +40,40 @@ moved_once w key (pos zero) r q a b = a.same refl ∙ sym (b.same refl)
 moved_once w key (pos (suc n)) r q a b = one_of (CanMove w key (pos (suc n))) (moved_score w key (pos (suc n))) r q (a.higher (λ e. cc)) (b.higher (λ e. cc))
 moved_once w key (negsuc n) r q a b = one_of (CanMove w key (negsuc n)) (moved_score w key (negsuc n)) r q (a.higher (λ e. cc)) (b.higher (λ e. cc))
 
--- what comes of moving the written score is one
-moved_alike : (tune : TuneText) (defaults : Defaults) (how : How) (h k : Header) (w v : Score) (r q : Option Score) → IsWritten tune defaults how.flow h w → IsWritten tune defaults how.flow k v
-    → IsMoved w h.key how.by r → IsMoved v k.key how.by q → r ≡ q
-moved_alike tune defaults how h k w v r q a b moved other =
+-- the score is drawn in one way, or the line of its staves has one fault
+drawn_once : (staves : Option Line) (w : Score) (r q : Result Score Fault) → IsGoodScore w → IsDrawn staves w r → IsDrawn staves w q → r ≡ q
+drawn_once None w r q good a b = a ∙ sym b
+drawn_once (Some line) w (Ok s) (Ok t) good (p, spells, share, is) (o, spelled, shared, at) =
+    let same = one_plan (ids_of w) line.text o p (apart_ids w good) spelled spells in
+    ap Ok (is ∙ sym (at ∙ ap (drawn_of w) same))
+drawn_once (Some line) w (Ok s) (Err g) good (p, spells, share, is) (inl (none, at)) = absurd (none p spells)
+drawn_once (Some line) w (Ok s) (Err g) good (p, spells, share, is) (inr (o, spelled, apart, at)) =
+    absurd (apart (subst (DoShare w) (one_plan (ids_of w) line.text p o (apart_ids w good) spells spelled) share))
+drawn_once (Some line) w (Err f) (Ok t) good (inl (none, is)) (o, spelled, shared, at) = absurd (none o spelled)
+drawn_once (Some line) w (Err f) (Ok t) good (inr (p, spells, apart, is)) (o, spelled, shared, at) =
+    absurd (apart (subst (DoShare w) (one_plan (ids_of w) line.text o p (apart_ids w good) spelled spells) shared))
+drawn_once (Some line) w (Err f) (Err g) good (inl (none, is)) (inl (other, at)) = ap Err (is ∙ sym at)
+drawn_once (Some line) w (Err f) (Err g) good (inl (none, is)) (inr (o, spelled, apart, at)) = absurd (none o spelled)
+drawn_once (Some line) w (Err f) (Err g) good (inr (p, spells, apart, is)) (inl (none, at)) = absurd (none p spells)
+drawn_once (Some line) w (Err f) (Err g) good (inr (p, spells, apart, is)) (inr (o, spelled, other, at)) = ap Err (is ∙ sym at)
+
+drawn_alike : (tune : TuneText) (defaults : Defaults) (flow : Bool) (h k : Header) (w v : Score) (r q : Result Score Fault) → IsWritten tune defaults flow h w → IsWritten tune defaults flow k v
+    → IsDrawn h.staves w r → IsDrawn k.staves v q → r ≡ q
+drawn_alike tune defaults flow h k w v r q a b draws other =
     let header = one_read tune defaults k h b.read a.read in
-    let written = one_written tune defaults how.flow k h v w b a in
-    moved_once w h.key how.by r q moved (subst (λ x. IsMoved x h.key how.by q) written (subst (λ x. IsMoved v x.key how.by q) header other))
+    let written = one_written tune defaults flow k h v w b a in
+    drawn_once h.staves w r q a.good draws (subst (λ x. IsDrawn h.staves x q) written (subst (λ x. IsDrawn x.staves v q) header other))
+
+-- what comes of moving the drawn score is one
+moved_alike : (tune : TuneText) (defaults : Defaults) (how : How) (h k : Header) (w v d e : Score) (r q : Option Score) → IsWritten tune defaults how.flow h w → IsWritten tune defaults how.flow k v
+    → IsDrawn h.staves w (Ok d) → IsDrawn k.staves v (Ok e) → IsMoved d h.key how.by r → IsMoved e k.key how.by q → r ≡ q
+moved_alike tune defaults how h k w v d e r q a b draws others moved other =
+    let header = one_read tune defaults k h b.read a.read in
+    let drawn = same_Ok e d (drawn_alike tune defaults how.flow k h v w (Ok e) (Ok d) b a others draws) in
+    moved_once d h.key how.by r q moved (subst (λ x. IsMoved x h.key how.by q) drawn (subst (λ x. IsMoved e x.key how.by q) header other))
 
 one_music : (tune : TuneText) (defaults : Defaults) (how : How) (h k : Header) (s t : Score) → HasScore tune defaults how h s → HasScore tune defaults how k t → s ≡ t
-one_music tune defaults how h k s t a b = same_Some s t (moved_alike tune defaults how h k a.written b.written (Some s) (Some t) a.is b.is a.moved b.moved)
+one_music tune defaults how h k s t a b = same_Some s t (moved_alike tune defaults how h k a.written b.written a.drawn b.drawn (Some s) (Some t) a.is b.is a.draws b.draws a.moved b.moved)
 
 abbrev tune_of : Header → Score → TitleBlock → List Span → Breaking → List SystemMarks → List Placed → List Heights → SetTune
 tune_of header score title spans breaking systems placed heights = record {
@@ -104,15 +111,24 @@ clear_header : (o : Option Fault) (f : Fault) → o ≡ None → o ≡ Some f �
 clear_header o f e d = let clash = sym e ∙ d in cc
 
 -- what has a score has no fault of its score
-scored : (tune : TuneText) (defaults : Defaults) (flow : Bool) (h k : Header) (s : Score) (f : Fault) → IsWritten tune defaults flow h s → HasHeader tune defaults k → IsFaultOf k tune (errors.Fault f) → ⊥
+scored : (tune : TuneText) (defaults : Defaults) (flow : Bool) (h k : Header) (s : Score) (f : Fault) → IsWritten tune defaults flow h s → HasHeader tune defaults k → IsFaultOf k tune (TuneError.Fault f) → ⊥
 scored tune defaults flow h k s f a b fault =
     let same = one_read tune defaults k h b a.read in
-    no_score_fault h tune flow s f a.value (subst (λ x. IsFaultOf x tune (errors.Fault f)) same fault)
+    no_score_fault h tune flow s f a.value (subst (λ x. IsFaultOf x tune (TuneError.Fault f)) same fault)
 
 -- what is moved can be moved
 cant_have : (tune : TuneText) (defaults : Defaults) (how : How) (h : Header) (s : Score) → CantMove tune defaults how → HasScore tune defaults how h s → ⊥
 cant_have tune defaults how h s a b =
-    let clash = moved_alike tune defaults how a.header h a.written b.written None (Some s) a.is b.is a.moved b.moved in cc
+    let clash = moved_alike tune defaults how a.header h a.written b.written a.drawn b.drawn None (Some s) a.is b.is a.draws b.draws a.moved b.moved in cc
+
+-- what is drawn can be drawn
+no_draw : (tune : TuneText) (defaults : Defaults) (how : How) (h : Header) (w d : Score) (f : Fault) → CantDraw tune defaults how f → IsWritten tune defaults how.flow h w → IsDrawn h.staves w (Ok d) → ⊥
+no_draw tune defaults how h w d f c is draws =
+    let clash = drawn_alike tune defaults how.flow c.header h c.written w (Err f) (Ok d) c.is is c.draws draws in cc
+
+two_draws : (tune : TuneText) (defaults : Defaults) (how : How) (f g : Fault) → CantDraw tune defaults how f → CantDraw tune defaults how g → f ≡ g
+two_draws tune defaults how f g a b =
+    let both = drawn_alike tune defaults how.flow a.header b.header a.written b.written (Err f) (Err g) a.is b.is a.draws b.draws in cc
 
 -- what is laid out has a way
 laid_way : (tune : TuneText) (defaults : Defaults) (paper : Paper) (how : How) (t : SetTune) (h : Header) (s : Score) (reached : ℕ) (spans : List Span) → IsLaidTune tune defaults paper how t → HasScore tune defaults how h s →
@@ -121,10 +137,10 @@ laid_way tune defaults paper how t h s reached spans a b way =
     let same = one_music tune defaults how h t.header s t.score b a.score in
     no_way_laid (width_of paper) t reached spans (subst (λ x. IsNoWay x (width_of paper) reached spans) same way) a.layout
 
-two_scores : (tune : TuneText) (defaults : Defaults) (h k : Header) (f g : Fault) → HasHeader tune defaults h → HasHeader tune defaults k → IsFaultOf h tune (errors.Fault f) → IsFaultOf k tune (errors.Fault g) → f ≡ g
+two_scores : (tune : TuneText) (defaults : Defaults) (h k : Header) (f g : Fault) → HasHeader tune defaults h → HasHeader tune defaults k → IsFaultOf h tune (TuneError.Fault f) → IsFaultOf k tune (TuneError.Fault g) → f ≡ g
 two_scores tune defaults h k f g a b x y =
     let same = one_read tune defaults k h b a in
-    one_score_fault h tune f g x (subst (λ z. IsFaultOf z tune (errors.Fault g)) same y)
+    one_score_fault h tune f g x (subst (λ z. IsFaultOf z tune (TuneError.Fault g)) same y)
 
 two_ways : (tune : TuneText) (defaults : Defaults) (paper : Paper) (how : How) (h k : Header) (s t : Score) (i j : ℕ) (xs ys : List Span) → HasScore tune defaults how h s → HasScore tune defaults how k t →
     IsNoWay s (width_of paper) i xs → IsNoWay t (width_of paper) j ys → i ≡ j
@@ -142,34 +158,46 @@ two_tall tune defaults paper how t u i j a b x y =
 pub fault_once : (tune : TuneText) (defaults : Defaults) (paper : Paper) (how : How) (f g : Fault) → IsFaultOfTune tune defaults paper how f → IsFaultOfTune tune defaults paper how g → f ≡ g
 fault_once tune defaults paper how _ _ (of_header f e) (of_header g d) = let both = sym e ∙ d in cc
 fault_once tune defaults paper how _ _ (of_header f e) (of_score k g read fault) = absurd (clear_header _ f read.clear e)
+fault_once tune defaults paper how _ _ (of_header f e) (of_share g c) = absurd (clear_header _ f c.is.read.clear e)
 fault_once tune defaults paper how _ _ (of_header f e) (of_move c) = absurd (clear_header _ f c.is.read.clear e)
 fault_once tune defaults paper how _ _ (of_header f e) (no_way k s j ys has way) = absurd (clear_header _ f has.is.read.clear e)
 fault_once tune defaults paper how _ _ (of_header f e) (too_tall u j laid tall) = absurd (clear_header _ f laid.score.is.read.clear e)
 fault_once tune defaults paper how _ _ (of_score h f read fault) (of_header g d) = absurd (clear_header _ g read.clear d)
 fault_once tune defaults paper how _ _ (of_score h f read fault) (of_score k g other more) = two_scores tune defaults h k f g read other fault more
+fault_once tune defaults paper how _ _ (of_score h f read fault) (of_share g c) = absurd (scored tune defaults how.flow c.header h c.written f c.is read fault)
 fault_once tune defaults paper how _ _ (of_score h f read fault) (of_move c) = absurd (scored tune defaults how.flow c.header h c.written f c.is read fault)
 fault_once tune defaults paper how _ _ (of_score h f read fault) (no_way k s j ys has way) = absurd (scored tune defaults how.flow k h has.written f has.is read fault)
 fault_once tune defaults paper how _ _ (of_score h f read fault) (too_tall u j laid tall) = absurd (scored tune defaults how.flow u.header h laid.score.written f laid.score.is read fault)
+fault_once tune defaults paper how _ _ (of_share f c) (of_header g d) = absurd (clear_header _ g c.is.read.clear d)
+fault_once tune defaults paper how _ _ (of_share f c) (of_score k g read fault) = absurd (scored tune defaults how.flow c.header k c.written g c.is read fault)
+fault_once tune defaults paper how _ _ (of_share f c) (of_share g d) = two_draws tune defaults how f g c d
+fault_once tune defaults paper how _ _ (of_share f c) (of_move d) = absurd (no_draw tune defaults how d.header d.written d.drawn f c d.is d.draws)
+fault_once tune defaults paper how _ _ (of_share f c) (no_way k s j ys has way) = absurd (no_draw tune defaults how k has.written has.drawn f c has.is has.draws)
+fault_once tune defaults paper how _ _ (of_share f c) (too_tall u j laid tall) = absurd (no_draw tune defaults how u.header laid.score.written laid.score.drawn f c laid.score.is laid.score.draws)
 fault_once tune defaults paper how _ _ (of_move c) (of_header g d) = absurd (clear_header _ g c.is.read.clear d)
 fault_once tune defaults paper how _ _ (of_move c) (of_score k g read fault) = absurd (scored tune defaults how.flow c.header k c.written g c.is read fault)
+fault_once tune defaults paper how _ _ (of_move c) (of_share g d) = absurd (no_draw tune defaults how c.header c.written c.drawn g d c.is c.draws)
 fault_once tune defaults paper how _ _ (of_move c) (of_move d) = refl
 fault_once tune defaults paper how _ _ (of_move c) (no_way k s j ys has way) = absurd (cant_have tune defaults how k s c has)
 fault_once tune defaults paper how _ _ (of_move c) (too_tall u j laid tall) = absurd (cant_have tune defaults how u.header u.score c laid.score)
 fault_once tune defaults paper how _ _ (no_way h s i xs has way) (of_header g d) = absurd (clear_header _ g has.is.read.clear d)
 fault_once tune defaults paper how _ _ (no_way h s i xs has way) (of_score k g read fault) = absurd (scored tune defaults how.flow h k has.written g has.is read fault)
+fault_once tune defaults paper how _ _ (no_way h s i xs has way) (of_share g c) = absurd (no_draw tune defaults how h has.written has.drawn g c has.is has.draws)
 fault_once tune defaults paper how _ _ (no_way h s i xs has way) (of_move c) = absurd (cant_have tune defaults how h s c has)
-fault_once tune defaults paper how _ _ (no_way h s i xs has way) (no_way k t j ys other more) = ap (λ n. layout_fault tune (faults.NoWay n)) (two_ways tune defaults paper how h k s t i j xs ys has other way more)
+fault_once tune defaults paper how _ _ (no_way h s i xs has way) (no_way k t j ys other more) = ap (λ n. layout_fault tune (FaultKind.NoWay n)) (two_ways tune defaults paper how h k s t i j xs ys has other way more)
 fault_once tune defaults paper how _ _ (no_way h s i xs has way) (too_tall u j laid tall) = absurd (laid_way tune defaults paper how u h s i xs laid has way)
 fault_once tune defaults paper how _ _ (too_tall t i laid tall) (of_header g d) = absurd (clear_header _ g laid.score.is.read.clear d)
 fault_once tune defaults paper how _ _ (too_tall t i laid tall) (of_score k g read fault) = absurd (scored tune defaults how.flow t.header k laid.score.written g laid.score.is read fault)
+fault_once tune defaults paper how _ _ (too_tall t i laid tall) (of_share g c) = absurd (no_draw tune defaults how t.header laid.score.written laid.score.drawn g c laid.score.is laid.score.draws)
 fault_once tune defaults paper how _ _ (too_tall t i laid tall) (of_move c) = absurd (cant_have tune defaults how t.header t.score c laid.score)
 fault_once tune defaults paper how _ _ (too_tall t i laid tall) (no_way k s j ys has way) = absurd (laid_way tune defaults paper how t k s j ys laid has way)
-fault_once tune defaults paper how _ _ (too_tall t i laid tall) (too_tall u j other more) = ap (λ n. layout_fault tune (faults.TooTall n)) (two_tall tune defaults paper how t u i j laid other tall more)
+fault_once tune defaults paper how _ _ (too_tall t i laid tall) (too_tall u j other more) = ap (λ n. layout_fault tune (FaultKind.TooTall n)) (two_tall tune defaults paper how t u i j laid other tall more)
 
 -- no tune that is set has a fault
 pub never_both : (tune : TuneText) (defaults : Defaults) (paper : Paper) (how : How) (t : SetTune) (f : Fault) → IsSetTune tune defaults paper how t → IsFaultOfTune tune defaults paper how f → ⊥
 never_both tune defaults paper how t _ a (of_header f e) = clear_header _ f a.laid.score.is.read.clear e
 never_both tune defaults paper how t _ a (of_score h f read fault) = scored tune defaults how.flow t.header h a.laid.score.written f a.laid.score.is read fault
+never_both tune defaults paper how t _ a (of_share f c) = no_draw tune defaults how t.header a.laid.score.written a.laid.score.drawn f c a.laid.score.is a.laid.score.draws
 never_both tune defaults paper how t _ a (of_move c) = cant_have tune defaults how t.header t.score c a.laid.score
 never_both tune defaults paper how t _ a (no_way h s reached spans has way) = laid_way tune defaults paper how t h s reached spans a.laid has way
 never_both tune defaults paper how t _ a (too_tall u block laid tall) =
@@ -208,10 +236,11 @@ outcomes_once defaults paper how (tune ∷ tunes) (o ∷ os) (p ∷ ps) a b =
 -- ---- the law
 
 -- a tune that has a score has no fault up to it
-no_refusal : (tune : TuneText) (defaults : Defaults) (how : How) (h : Header) (s : Score) (f : Fault) → HasScore tune defaults how h s → IsMovedRefusal tune defaults how (errors.Fault f) → ⊥
+no_refusal : (tune : TuneText) (defaults : Defaults) (how : How) (h : Header) (s : Score) (f : Fault) → HasScore tune defaults how h s → IsMovedRefusal tune defaults how (TuneError.Fault f) → ⊥
 no_refusal tune defaults how h s f a (inl (inl of_head)) = clear_header _ f a.is.read.clear of_head
 no_refusal tune defaults how h s f a (inl (inr (k, read, fault))) = scored tune defaults how.flow h k a.written f a.is read fault
-no_refusal tune defaults how h s f a (inr (cant, at)) = cant_have tune defaults how h s cant a
+no_refusal tune defaults how h s f a (inr (inl cant)) = no_draw tune defaults how h a.written a.drawn f cant a.is a.draws
+no_refusal tune defaults how h s f a (inr (inr (cant, at))) = cant_have tune defaults how h s cant a
 
 called_system : (s : Score) (a b : ℕ) → (m : SystemMarks) × IsOneSystem s a b m
 called_system s a b =

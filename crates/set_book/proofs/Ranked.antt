@@ -1,73 +1,54 @@
 -- There is one first of the faults of a score: of their kinds each has a rank of its own.
 use Rattle.std.proofs.Common.{◌≡◌, ◌∙◌, refl, sym, ap, subst, ℕ, ◌+◌, ◌<◌, List, [], ◌∷◌, ◌++◌, get_or, Bool, true, false, cond, None, arith}
 use Rattle.std.specs.Prelude.{◌-◌, ◌&&◌, not, nat_le, nat_lt, is_none, flat_map}
-use Rattle.std.specs.List.{AllByRecursion, Contains}
-use Rattle.std.proofs.lemmas.List.Elements.{All-from_recursion, All-contains}
-use Rattle.std.proofs.lemmas.Bool.Decides.{nat_tests}
-use Rattle.abc_lines.specs.declared.fault.Fault.{Fault}
-use Rattle.abc_lines.specs.declared.fault.FaultKind.{FaultKind}
-use Rattle.abc_lines.specs.declared.fault.FaultKind.TheVariants as kinds
+use Rattle.std.{proofs.lemmas.List.Elements.All-from_recursion, proofs.lemmas.List.Elements.All-contains, proofs.lemmas.Bool.Decides.nat_tests, specs.List.AllByRecursion, specs.List.Contains}
+use Rattle.abc_lines.specs.{declared.fault.Fault.Fault, declared.fault.FaultKind.FaultKind}
 use Rattle.abc_header.specs.declared.header.Header.{Header}
-use Rattle.mus_units.specs.declared.pitch.Clef.{Clef}
-use Rattle.abc_steps.specs.declared.force.InForce.{InForce}
-use Rattle.abc_steps.specs.declared.place.Place.{Place}
-use Rattle.abc_steps.specs.declared.step.Item.{Item}
-use Rattle.abc_steps.specs.declared.step.Sound.{Sound}
-use Rattle.abc_steps.specs.declared.step.Step.{Step}
-use Rattle.abc_steps.specs.declared.step.Step.TheVariants as step
-use Rattle.abc_steps.specs.declared.step.Stood.{Stood}
-use Rattle.abc_steps.specs.declared.tuplets.Taking.{Taking}
-use Rattle.abc_steps.specs.declared.tuplets.Taking.TheVariants as taking
-use Rattle.mus_units.specs.Parts.{parts_list}
-use Rattle.abc_steps.specs.Lengths.{written_length}
-use Rattle.abc_steps.specs.Looks.{Steps, since_event, has_left, has_right}
-use Rattle.abc_steps.specs.Places.{place_at, measure_of}
-use Rattle.abc_steps.specs.Tuplets.{fits, or_default}
-use Rattle.abc_faults.specs.declared.weights.Weight.{Weight}
-use Rattle.abc_faults.specs.First.{rank_of, then_below, is_before, IsLeast, IsFirst}
+use Rattle.mus_units.specs.{declared.pitch.Clef.Clef, Parts.parts_list}
+use Rattle.abc_steps.specs.{declared.force.InForce.InForce, declared.place.Place.Place, declared.step.Item.Item, declared.step.Sound.Sound, declared.step.Step.Step, declared.step.Stood.Stood, declared.tuplets.Taking.Taking, Lengths.written_length, Looks.Steps, Looks.since_event, Looks.has_left}
+use Rattle.abc_steps.specs.{Looks.has_right, Places.place_at, Places.measure_of, Tuplets.fits, Tuplets.or_default}
 use Rattle.abc_faults.specs.Faults.{fault_at, fault_if, misfit_of, tuplet_faults, sounds_behind, any_off, any_grace_off, is_past, is_free, grace_faults_of, grace_faults, sound_faults, rest_faults, faults_of, faults_in}
-use Rattle.abc_faults.specs.Weights.{crowd_fault, crowd_faults_at, crowd_up_to, crowded}
-use Rattle.abc_words.specs.declared.verses.Verse.{Verse}
-use Rattle.abc_words.specs.Verses.{fault_in, faults_from, verse_faults, verses_of, number_on, too_many}
+use Rattle.abc_faults.specs.{declared.weights.Weight.Weight, First.rank_of, First.then_below, First.is_before, First.IsLeast, First.IsFirst, Weights.crowd_fault, Weights.crowd_faults_at, Weights.crowd_up_to, Weights.crowded}
+use Rattle.abc_words.specs.{declared.verses.Verse.Verse, Verses.fault_in, Verses.faults_from, Verses.verse_faults, Verses.verses_of, Verses.number_on, Verses.too_many}
 use Rattle.abc_items.specs.Voices.{unnamed_of}
-use Rattle.abc_score.specs.declared.voices.VoiceRead.{VoiceRead}
-use Rattle.abc_score.specs.Voices.{voices_read}
-use Rattle.abc_score.specs.Faults.{voice_faults, voice_weights, faults_of_voices, score_faults}
+use Rattle.abc_score.specs.{declared.voices.VoiceRead.VoiceRead, Voices.voices_read, Faults.voice_faults, Faults.voice_weights, Faults.faults_of_voices, Faults.score_faults}
 
 -- ---- the kind of a rank
 
--- the kinds in order, but for the faults of a move and of a layout
+-- the kinds in order, but for the faults of shared staves, of a move and of a layout
 abbrev ranked : List FaultKind
-ranked = kinds.NoKey ∷ kinds.BadMeter ∷ kinds.BadUnit ∷ kinds.BadKey ∷ kinds.BadVoice ∷ kinds.TooManyVoices ∷ kinds.BadByte ∷ kinds.Unclosed ∷ kinds.BadLength ∷ kinds.BadTuplet ∷ kinds.TooDeep
-    ∷ kinds.TupletCrosses ∷ kinds.TupletShort ∷ kinds.BrokenAlone ∷ kinds.Undrawable ∷ kinds.StepRange ∷ kinds.RestWithoutMeter ∷ kinds.TooManyMeasures ∷ kinds.TooManyEvents ∷ kinds.TooManyVerses ∷ []
+ranked = FaultKind.NoKey ∷ FaultKind.BadMeter ∷ FaultKind.BadUnit ∷ FaultKind.BadKey ∷ FaultKind.BadVoice ∷ FaultKind.TooManyVoices ∷ FaultKind.BadByte ∷ FaultKind.Unclosed ∷ FaultKind.BadLength ∷ FaultKind.BadTuplet ∷ FaultKind.TooDeep
+    ∷ FaultKind.TupletCrosses ∷ FaultKind.TupletShort ∷ FaultKind.BrokenAlone ∷ FaultKind.Undrawable ∷ FaultKind.StepRange ∷ FaultKind.RestWithoutMeter ∷ FaultKind.TooManyMeasures ∷ FaultKind.TooManyEvents ∷ FaultKind.TooManyVerses ∷ []
 
 abbrev kind_at : ℕ → FaultKind
-kind_at rank = get_or ranked rank kinds.NoKey
+kind_at rank = get_or ranked rank FaultKind.NoKey
 
 kind_is : (kind : FaultKind) → rank_of kind < 20 → kind ≡ kind_at (rank_of kind)
-kind_is kinds.NoKey h = refl
-kind_is kinds.BadMeter h = refl
-kind_is kinds.BadUnit h = refl
-kind_is kinds.BadKey h = refl
-kind_is kinds.BadVoice h = refl
-kind_is kinds.TooManyVoices h = refl
-kind_is kinds.BadByte h = refl
-kind_is kinds.Unclosed h = refl
-kind_is kinds.BadLength h = refl
-kind_is kinds.BadTuplet h = refl
-kind_is kinds.TooDeep h = refl
-kind_is kinds.TupletCrosses h = refl
-kind_is kinds.TupletShort h = refl
-kind_is kinds.BrokenAlone h = refl
-kind_is kinds.Undrawable h = refl
-kind_is kinds.StepRange h = refl
-kind_is kinds.RestWithoutMeter h = refl
-kind_is kinds.TooManyMeasures h = refl
-kind_is kinds.TooManyEvents h = refl
-kind_is kinds.TooManyVerses h = refl
-kind_is kinds.BadMove h = absurd (omega (arith, h))
-kind_is (kinds.NoWay reached) h = absurd (omega (arith, h))
-kind_is (kinds.TooTall block) h = absurd (omega (arith, h))
+kind_is FaultKind.NoKey h = refl
+kind_is FaultKind.BadMeter h = refl
+kind_is FaultKind.BadUnit h = refl
+kind_is FaultKind.BadKey h = refl
+kind_is FaultKind.BadVoice h = refl
+kind_is FaultKind.TooManyVoices h = refl
+kind_is FaultKind.BadByte h = refl
+kind_is FaultKind.Unclosed h = refl
+kind_is FaultKind.BadLength h = refl
+kind_is FaultKind.BadTuplet h = refl
+kind_is FaultKind.TooDeep h = refl
+kind_is FaultKind.TupletCrosses h = refl
+kind_is FaultKind.TupletShort h = refl
+kind_is FaultKind.BrokenAlone h = refl
+kind_is FaultKind.Undrawable h = refl
+kind_is FaultKind.StepRange h = refl
+kind_is FaultKind.RestWithoutMeter h = refl
+kind_is FaultKind.TooManyMeasures h = refl
+kind_is FaultKind.TooManyEvents h = refl
+kind_is FaultKind.TooManyVerses h = refl
+kind_is FaultKind.BadScore h = absurd (omega (arith, h))
+kind_is FaultKind.BadShare h = absurd (omega (arith, h))
+kind_is FaultKind.BadMove h = absurd (omega (arith, h))
+kind_is (FaultKind.NoWay reached) h = absurd (omega (arith, h))
+kind_is (FaultKind.TooTall block) h = absurd (omega (arith, h))
 
 -- ---- faults of which the rank tells the kind
 
@@ -90,11 +71,11 @@ if_ranked true kind at h = (h, tt)
 if_ranked false kind at h = tt
 
 misfit_ranked : (t : Taking) → rank_of (misfit_of t) < 20
-misfit_ranked (taking.Two inner outer) = omega arith
+misfit_ranked (Taking.Two inner outer) = omega arith
 misfit_ranked _ = omega arith
 
-tuplet_by : (b : Bool) (r : ℕ) (open_ones : Taking) (at : Stood) (behind : Steps) → AreRanked (cond b (fault_if (nat_lt (sounds_behind behind) r) kinds.TupletShort at) (fault_at (misfit_of open_ones) at ∷ []))
-tuplet_by true r open_ones at behind = if_ranked (nat_lt (sounds_behind behind) r) kinds.TupletShort at (omega arith)
+tuplet_by : (b : Bool) (r : ℕ) (open_ones : Taking) (at : Stood) (behind : Steps) → AreRanked (cond b (fault_if (nat_lt (sounds_behind behind) r) FaultKind.TupletShort at) (fault_at (misfit_of open_ones) at ∷ []))
+tuplet_by true r open_ones at behind = if_ranked (nat_lt (sounds_behind behind) r) FaultKind.TupletShort at (omega arith)
 tuplet_by false r open_ones at behind = (misfit_ranked open_ones, tt)
 
 tuplets_ranked : (r : ℕ) (open_ones : Taking) (at : Stood) (behind : Steps) → AreRanked (tuplet_faults r open_ones at behind)
@@ -102,16 +83,16 @@ tuplets_ranked r open_ones at behind = tuplet_by (fits r open_ones) r open_ones 
 
 grace_ranked : (clef : Clef) (at : Stood) (s : Step) → AreRanked (grace_faults_of clef at s)
 unfolding grace_faults_of
-grace_ranked clef at (step.Grace slash body) = if_ranked (any_grace_off clef body) kinds.StepRange at (omega arith)
+grace_ranked clef at (Step.Grace slash body) = if_ranked (any_grace_off clef body) FaultKind.StepRange at (omega arith)
 grace_ranked clef at _ = tt
 
 graces_ranked : (clef : Clef) (waits : Steps) → AreRanked (grace_faults clef waits)
 graces_ranked clef waits = each_ranked (λ s. grace_faults_of clef s s.step) waits (λ s. grace_ranked clef s s.step)
 
-three_ranked : (a b c : Bool) (at : Stood) → AreRanked (fault_if a kinds.Undrawable at ++ fault_if b kinds.StepRange at ++ fault_if c kinds.TooManyMeasures at)
+three_ranked : (a b c : Bool) (at : Stood) → AreRanked (fault_if a FaultKind.Undrawable at ++ fault_if b FaultKind.StepRange at ++ fault_if c FaultKind.TooManyMeasures at)
 three_ranked a b c at =
-    both_ranked (fault_if a kinds.Undrawable at ++ fault_if b kinds.StepRange at) (fault_if c kinds.TooManyMeasures at)
-    (both_ranked (fault_if a kinds.Undrawable at) (fault_if b kinds.StepRange at) (if_ranked a kinds.Undrawable at (omega arith)) (if_ranked b kinds.StepRange at (omega arith))) (if_ranked c kinds.TooManyMeasures at (omega arith))
+    both_ranked (fault_if a FaultKind.Undrawable at ++ fault_if b FaultKind.StepRange at) (fault_if c FaultKind.TooManyMeasures at)
+    (both_ranked (fault_if a FaultKind.Undrawable at) (fault_if b FaultKind.StepRange at) (if_ranked a FaultKind.Undrawable at (omega arith)) (if_ranked b FaultKind.StepRange at (omega arith))) (if_ranked c FaultKind.TooManyMeasures at (omega arith))
 
 sound_ranked : (now : Place) (before : Steps) (at : Stood) (s : Sound) (behind : Steps) → AreRanked (sound_faults now before at s behind)
 unfolding sound_faults
@@ -123,14 +104,14 @@ rest_ranked : (now : Place) (at : Stood) (count : ℕ) → AreRanked (rest_fault
 rest_ranked now at count =
     let free = is_free now.force.meter in
     let past = is_past (measure_of now + (count - 1)) in
-    both_ranked (fault_if free kinds.RestWithoutMeter at) (fault_if past kinds.TooManyMeasures at) (if_ranked free kinds.RestWithoutMeter at (omega arith)) (if_ranked past kinds.TooManyMeasures at (omega arith))
+    both_ranked (fault_if free FaultKind.RestWithoutMeter at) (fault_if past FaultKind.TooManyMeasures at) (if_ranked free FaultKind.RestWithoutMeter at (omega arith)) (if_ranked past FaultKind.TooManyMeasures at (omega arith))
 
 step_ranked : (now : Place) (before : Steps) (at : Stood) (behind : Steps) (s : Step) → AreRanked (faults_of now before at behind s)
 unfolding faults_of
-step_ranked now before at behind (step.Sound s) = both_ranked (sound_faults now before at s behind) (grace_faults now.force.clef (since_event before)) (sound_ranked now before at s behind) (graces_ranked now.force.clef (since_event before))
-step_ranked now before at behind (step.Measures seen count) = both_ranked (rest_faults now at count) (grace_faults now.force.clef (since_event before)) (rest_ranked now at count) (graces_ranked now.force.clef (since_event before))
-step_ranked now before at behind (step.Tuplet p q r) = tuplets_ranked (or_default p r) now.taking at behind
-step_ranked now before at behind (step.Broken right dots) = if_ranked (not (has_left before && has_right behind)) kinds.BrokenAlone at (omega arith)
+step_ranked now before at behind (Step.Sound s) = both_ranked (sound_faults now before at s behind) (grace_faults now.force.clef (since_event before)) (sound_ranked now before at s behind) (graces_ranked now.force.clef (since_event before))
+step_ranked now before at behind (Step.Measures seen count) = both_ranked (rest_faults now at count) (grace_faults now.force.clef (since_event before)) (rest_ranked now at count) (graces_ranked now.force.clef (since_event before))
+step_ranked now before at behind (Step.Tuplet p q r) = tuplets_ranked (or_default p r) now.taking at behind
+step_ranked now before at behind (Step.Broken right dots) = if_ranked (not (has_left before && has_right behind)) FaultKind.BrokenAlone at (omega arith)
 step_ranked now before at behind _ = tt
 
 steps_ranked : (first : InForce) (before behind : Steps) → AreRanked (faults_in first before behind)

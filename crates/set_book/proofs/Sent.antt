@@ -30,8 +30,10 @@ use Rattle.mus_units.specs.contracts.value.Value as Value
 use Rattle.mus_units.specs.contracts.glyph.Glyph as Glyph
 use Rattle.mus_units.specs.contracts.glyph.Size as Size
 use Rattle.mus_units.specs.contracts.glyph.Way as Way
+use Rattle.abc_lines.specs.contracts.book.Line as Line
 use Rattle.mus_score.specs.contracts.score.Look as Look
 use Rattle.mus_score.specs.contracts.score.Mention as Mention
+use Rattle.mus_score.specs.contracts.score.Seat as Seat
 use Rattle.mus_score.specs.contracts.score.Changes as Changes
 use Rattle.mus_score.specs.contracts.score.Event as Event
 use Rattle.mus_score.specs.contracts.score.Music as Music
@@ -157,6 +159,9 @@ way_send = search sendable depth 40
 look_send : IsSend Look.the_row
 look_send = search sendable depth 40
 
+seat_send : IsSend Seat.the_row
+seat_send = search sendable depth 40
+
 mention_send : IsSend Mention.the_row
 mention_send = declared_send Mention.the_type (bool_send, (text, tt))
 
@@ -208,7 +213,7 @@ measure_send : IsSend Measure.the_row
 measure_send = declared_send Measure.the_type (row _ music_send, (bar_send, tt))
 
 voice_send : IsSend Voice.the_row
-voice_send = declared_send Voice.the_type (text, (clef_send, (key_send, (meter_send, (wish_send, (u8_send, (bar_send, (row _ measure_send, tt))))))))
+voice_send = declared_send Voice.the_type (text, (seat_send, (u32_send, (clef_send, (key_send, (meter_send, (wish_send, (u8_send, (bar_send, (row _ measure_send, tt))))))))))
 
 score_send : IsSend Score.the_row
 score_send = declared_send Score.the_type (row _ voice_send, (u32_send, (row _ u32_send, (spread_send, tt))))
@@ -220,6 +225,9 @@ voice_def_send = declared_send VoiceDef.the_type (text, (option_send _ clef_send
 breaks_send : IsSend Breaks.the_row
 breaks_send = search sendable depth 40
 
+line_send : IsSend Line.the_row
+line_send = declared_send Line.the_type (u32_send, (text, tt))
+
 header_send : IsSend Header.the_row
 header_send = declared_send Header.the_type (
   row _ text_send,
@@ -227,7 +235,7 @@ header_send = declared_send Header.the_type (
     row _ text_send,
     (
       option_send _ text_send,
-      (key_send, (clef_send, (meter_send, (frac_send, (row _ voice_def_send, (breaks_send, (spread_send, (u32_send, tt)))))))),
+      (key_send, (clef_send, (meter_send, (frac_send, (row _ voice_def_send, (breaks_send, (spread_send, (option_send _ line_send, (u32_send, tt))))))))),
     ),
   ),
 )

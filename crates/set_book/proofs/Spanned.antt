@@ -1,20 +1,13 @@
 -- A score has one list of the spans that fit a width.
 use Rattle.std.proofs.Common.{◌≡◌, ◌∙◌, ℕ, ◌<◌, ◌≤◌, ◌==◌, ◌⊎◌, inl, inr, Bool, true, false, if◌then◌else◌, List, [], ◌∷◌, length, Option, Some, None, refl, sym, ap, subst, arith}
-use Rattle.std.proofs.lemmas.Bool.{cases_lt}
-use Rattle.std.proofs.lemmas.Option.{none-some, same_Some}
+use Rattle.std.proofs.{lemmas.Bool.cases_lt, lemmas.Option.none-some, lemmas.Option.same_Some}
 use Rattle.mus_score.specs.declared.score.Score.{Score}
-use Rattle.lay_columns.specs.declared.column.Column.{Column}
-use Rattle.lay_columns.specs.Column.{length_rises}
-use Rattle.lay_columns.specs.Columns.{column_reach}
-use Rattle.lay_springs.specs.Place.{length_at, reach_at}
+use Rattle.lay_columns.specs.{declared.column.Column.Column, Column.length_rises, Columns.column_reach}
+use Rattle.lay_springs.{specs.Place.length_at, specs.Place.reach_at, proofs.Longer.stands}
 use Rattle.lay_springs.proofs.Ends as springs
-use Rattle.lay_springs.proofs.Longer.{stands}
-use Rattle.lay_breaks.specs.declared.costs.Span.{Span}
-use Rattle.lay_breaks.specs.Spans.{AreSpans, IsNext, SpansFrom, ends_are, has_ends, has_these, listed}
+use Rattle.lay_breaks.specs.{declared.costs.Span.Span, Spans.AreSpans, Spans.IsNext, Spans.SpansFrom, Spans.ends_are, Spans.has_ends, Spans.has_these, Spans.listed}
 use Rattle.lay_spans.specs.Badness.{badness_of}
-use Rattle.lay_tune.specs.Spans.{AreSpansOf, CanStandIn, IsForceOf, IsSpanCost, column_length, score_gaps, system_columns}
-use Rattle.lay_tune.proofs.Called.{has_system}
-use Rattle.lay_tune.proofs.Open.{some_of}
+use Rattle.lay_tune.{specs.Spans.AreSpansOf, specs.Spans.CanStandIn, specs.Spans.IsForceOf, specs.Spans.IsSpanCost, specs.Spans.column_length, specs.Spans.score_gaps, specs.Spans.system_columns, proofs.Called.has_system, proofs.Open.some_of}
 
 -- ---- the force of columns
 -- a weaker force is not the greatest at which they can stand

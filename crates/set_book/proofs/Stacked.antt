@@ -1,34 +1,36 @@
 -- The staves of a system are stacked in one way.
-use Rattle.std.proofs.Common.{◌≡◌, ◌∙◌, ℤ, pos, ◌+ℤ◌, ◌-ℤ◌, List, [], ◌∷◌, refl, sym, ap, subst, arith}
+use Rattle.std.proofs.Common.{◌≡◌, ◌∙◌, ℕ, ℤ, pos, ◌+ℤ◌, ◌-ℤ◌, List, [], ◌∷◌, refl, sym, ap, subst, arith}
 use Rattle.std.proofs.lemmas.Int.{ints}
-use Rattle.mus_laid.specs.declared.laid.StaffMarks.{StaffMarks}
-use Rattle.mus_laid.specs.declared.laid.SystemMarks.{SystemMarks}
-use Rattle.lay_pages.specs.declared.stacking.Heights.{Heights}
-use Rattle.lay_pages.specs.Stacking.{AreStacked}
-use Rattle.lay_tune.specs.Systems.{Beside, IsStack}
+use Rattle.mus_score.specs.declared.score.Score.{Score}
+use Rattle.mus_laid.specs.{declared.laid.StaffMarks.StaffMarks, declared.laid.SystemMarks.SystemMarks}
+use Rattle.lay_pages.specs.{declared.stacking.Heights.Heights, Stacking.AreStacked}
+use Rattle.lay_tune.specs.Systems.{Beside, IsStack, gaps_between}
 
 same_base : (top b c high : ℤ) → b +ℤ high ≡ top → c +ℤ high ≡ top → b ≡ c
 same_base top b c high h k = omega (arith, ints)
 
 -- base lines, and the bottom of the last staff
-one_stack : (top : ℤ) (staves : List StaffMarks) (bases others : List ℤ) (bottom floor : ℤ)
-    → AreStacked top staves bases bottom → AreStacked top staves others floor → (bases ≡ others) × (bottom ≡ floor)
-one_stack top [] [] [] bottom floor h k = (refl, h ∙ sym k)
-one_stack top [] [] (c ∷ cs) bottom floor h k = absurd k
-one_stack top [] (b ∷ bs) others bottom floor h k = absurd h
-one_stack top (staff ∷ []) [] others bottom floor h k = absurd h
-one_stack top (staff ∷ []) (b ∷ b2 ∷ bs) others bottom floor h k = absurd h
-one_stack top (staff ∷ []) (b ∷ []) [] bottom floor h k = absurd k
-one_stack top (staff ∷ []) (b ∷ []) (c ∷ c2 ∷ cs) bottom floor h k = absurd k
-one_stack top (staff ∷ []) (b ∷ []) (c ∷ []) bottom floor h k =
+one_stack : (top : ℤ) (gaps : List ℕ) (staves : List StaffMarks) (bases others : List ℤ) (bottom floor : ℤ)
+    → AreStacked top gaps staves bases bottom → AreStacked top gaps staves others floor → (bases ≡ others) × (bottom ≡ floor)
+one_stack top [] [] [] [] bottom floor h k = (refl, h ∙ sym k)
+one_stack top [] [] [] (c ∷ cs) bottom floor h k = absurd k
+one_stack top [] [] (b ∷ bs) others bottom floor h k = absurd h
+one_stack top [] (staff ∷ []) [] others bottom floor h k = absurd h
+one_stack top [] (staff ∷ []) (b ∷ b2 ∷ bs) others bottom floor h k = absurd h
+one_stack top [] (staff ∷ []) (b ∷ []) [] bottom floor h k = absurd k
+one_stack top [] (staff ∷ []) (b ∷ []) (c ∷ c2 ∷ cs) bottom floor h k = absurd k
+one_stack top [] (staff ∷ []) (b ∷ []) (c ∷ []) bottom floor h k =
     let e = same_base top b c staff.high h.0 k.0 in
     (ap (λ x. x ∷ []) e, h.1 ∙ (ap (λ x. x +ℤ staff.low) e ∙ sym k.1))
-one_stack top (staff ∷ next ∷ more) [] others bottom floor h k = absurd h
-one_stack top (staff ∷ next ∷ more) (b ∷ bs) [] bottom floor h k = absurd k
-one_stack top (staff ∷ next ∷ more) (b ∷ bs) (c ∷ cs) bottom floor h k =
+one_stack top [] (staff ∷ next ∷ more) bases others bottom floor h k = absurd h
+one_stack top (gap ∷ gaps) [] bases others bottom floor h k = absurd h
+one_stack top (gap ∷ gaps) (staff ∷ []) bases others bottom floor h k = absurd h
+one_stack top (gap ∷ gaps) (staff ∷ next ∷ more) [] others bottom floor h k = absurd h
+one_stack top (gap ∷ gaps) (staff ∷ next ∷ more) (b ∷ bs) [] bottom floor h k = absurd k
+one_stack top (gap ∷ gaps) (staff ∷ next ∷ more) (b ∷ bs) (c ∷ cs) bottom floor h k =
     let e = same_base top b c staff.high h.0 k.0 in
-    let rest = one_stack ((b +ℤ staff.low) -ℤ pos 500) (next ∷ more) bs cs bottom floor h.1
-    (subst (λ x. AreStacked ((x +ℤ staff.low) -ℤ pos 500) (next ∷ more) cs floor) (sym e) k.1) in
+    let rest = one_stack ((b +ℤ staff.low) -ℤ pos gap) gaps (next ∷ more) bs cs bottom floor h.1
+    (subst (λ x. AreStacked ((x +ℤ staff.low) -ℤ pos gap) gaps (next ∷ more) cs floor) (sym e) k.1) in
     (ap (λ x. x ∷ bs) e ∙ ap (λ t. c ∷ t) rest.0, rest.1)
 
 same_height : (high higher : ℤ) → pos 0 -ℤ high ≡ pos 0 -ℤ higher → high ≡ higher
@@ -41,9 +43,9 @@ same_heights : (bases others : List ℤ) (high higher : ℤ) → bases ≡ other
 same_heights bases others high higher e f = ap (λ x. heights_of x high) e ∙ ap (λ x. heights_of others x) f
 
 -- the staves of a system are stacked in one way
-pub one_stacked : (m : SystemMarks) (x y : Heights) → IsStack m x → IsStack m y → x ≡ y
-one_stacked m x y h k =
-    let both = one_stack (pos 0) m.staves x.bases y.bases (pos 0 -ℤ x.height) (pos 0 -ℤ y.height) h.stacked k.stacked in
+pub one_stacked : (s : Score) (m : SystemMarks) (x y : Heights) → IsStack s m x → IsStack s m y → x ≡ y
+one_stacked s m x y h k =
+    let both = one_stack (pos 0) (gaps_between s.voices) m.staves x.bases y.bases (pos 0 -ℤ x.height) (pos 0 -ℤ y.height) h.stacked k.stacked in
     same_heights x.bases y.bases x.height y.height both.0 (same_height x.height y.height both.1)
 
 -- what belongs beside things one by one, where one thing belongs beside each

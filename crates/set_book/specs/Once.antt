@@ -1,20 +1,13 @@
 -- A tune has one outcome: what it is set as, or its fault, follows from the tune, its defaults, its paper and whether bars are forced,
 -- and from nothing of how it was set. So a book has one list of outcomes, however many jobs set it.
 use Rattle.std.specs.Prelude.{◌≡◌, ℕ, Bool, List}
-use Rattle.abc_lines.specs.declared.book.TuneText.{TuneText}
-use Rattle.abc_lines.specs.declared.fault.Fault.{Fault}
-use Rattle.abc_lines.specs.declared.fault.TuneError.TheVariants as errors
-use Rattle.abc_header.specs.declared.defaults.Defaults.{Defaults}
-use Rattle.abc_header.specs.declared.header.Header.{Header}
-use Rattle.abc_header.specs.declared.paper.Paper.{Paper}
+use Rattle.abc_lines.specs.declared.{book.TuneText.TuneText, fault.Fault.Fault, fault.TuneError.TuneError}
+use Rattle.abc_header.specs.{declared.defaults.Defaults.Defaults, declared.header.Header.Header, declared.paper.Paper.Paper}
 use Rattle.mus_score.specs.declared.score.Score.{Score}
 use Rattle.mus_laid.specs.declared.laid.SystemMarks.{SystemMarks}
 use Rattle.lay_tune.specs.Spans.{IsSystem}
-use Rattle.set_tune.specs.declared.how.How.{How}
-use Rattle.set_tune.specs.declared.tune.SetTune.{SetTune}
-use Rattle.set_tune.specs.Setting.{HasScore, IsFaultOfTune, IsMovedRefusal, IsSetTune}
-use Rattle.set_book.specs.declared.outcome.Outcome.{Outcome}
-use Rattle.set_book.specs.Outcomes.{AreOutcomes}
+use Rattle.set_tune.specs.{declared.how.How.How, declared.tune.SetTune.SetTune, Setting.HasScore, Setting.IsFaultOfTune, Setting.IsMovedRefusal, Setting.IsSetTune}
+use Rattle.set_book.specs.{declared.outcome.Outcome.Outcome, Outcomes.AreOutcomes}
 
 -- the one system of these measures of a score
 pub record IsOneSystem (score : Score) (a b : ℕ) (marks : SystemMarks) : Type 0 where
@@ -39,6 +32,6 @@ pub record HaveOneOutcome : Type 0 where
       → HasScore tune defaults how h s → HasScore tune defaults how k t → s ≡ t
   -- a tune that has a score has no fault of its header, its body or its score
   pub scored : (tune : TuneText) (defaults : Defaults) (how : How) (h : Header) (s : Score) (f : Fault)
-      → HasScore tune defaults how h s → IsMovedRefusal tune defaults how (errors.Fault f) → ⊥
+      → HasScore tune defaults how h s → IsMovedRefusal tune defaults how (TuneError.Fault f) → ⊥
   -- a score calls for one system of any measures
   pub system : (s : Score) (a b : ℕ) → (m : SystemMarks) × IsOneSystem s a b m

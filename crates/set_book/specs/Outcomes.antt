@@ -1,13 +1,8 @@
 -- What comes of the tunes of a book: one outcome for each, in order.
-use Rattle.std.specs.Prelude.{◌≡◌, List, Bool, Result, Ok, Err}
-use Rattle.std.specs.List.{AllZip}
-use Rattle.abc_lines.specs.declared.book.TuneText.{TuneText}
-use Rattle.abc_lines.specs.declared.fault.Fault.{Fault}
-use Rattle.abc_header.specs.declared.defaults.Defaults.{Defaults}
-use Rattle.abc_header.specs.declared.paper.Paper.{Paper}
-use Rattle.set_tune.specs.declared.how.How.{How}
-use Rattle.set_tune.specs.declared.tune.SetTune.{SetTune}
-use Rattle.set_tune.specs.Setting.{IsFaultOfTune, IsSetTune}
+use Rattle.std.specs.{Prelude.◌≡◌, Prelude.List, Prelude.Bool, Prelude.Result, Prelude.Ok, Prelude.Err, List.AllZip}
+use Rattle.abc_lines.specs.{declared.book.TuneText.TuneText, declared.fault.Fault.Fault}
+use Rattle.abc_header.specs.{declared.defaults.Defaults.Defaults, declared.paper.Paper.Paper}
+use Rattle.set_tune.specs.{declared.how.How.How, declared.tune.SetTune.SetTune, Setting.IsFaultOfTune, Setting.IsSetTune}
 use Rattle.set_book.specs.declared.outcome.Outcome.{Outcome}
 
 abbrev pub IsResult : TuneText → Defaults → Paper → How → Result SetTune Fault → Type 0

@@ -1,10 +1,7 @@
 ghost use Rattle.std.specs.Prelude.{◌≡◌, ◌≤◌, IfOk, All};
 ghost use Rattle.abc_lines.specs.Good.{IsGoodBook, IsGoodTune};
-ghost use Rattle.abc_header.specs.Defaults.{defaults_of};
-ghost use Rattle.abc_header.specs.Good.{IsGoodDefaults};
-ghost use Rattle.abc_header.specs.Papers.{IsGoodPaper};
-ghost use Rattle.set_book.specs.Once.{HaveOneOutcome};
-ghost use Rattle.set_book.specs.Outcomes.{AreOutcomes, IsOutcome};
+ghost use Rattle.abc_header.specs.{Defaults.defaults_of, Good.IsGoodDefaults, Papers.IsGoodPaper};
+ghost use Rattle.set_book.specs.{Once.HaveOneOutcome, Outcomes.AreOutcomes, Outcomes.IsOutcome};
 
 use crate::gate::Gate;
 use crate::outcome::Outcome;
@@ -94,7 +91,7 @@ pub fn set_all<R: Threads + Sync, G: Gate + Sync>(
     requires few { jobs ≤ 64 }
     ensures { IfOk result (AreOutcomes (defaults_of book.now.header) paper.now how book.now.tunes) }
 {
-    let defaults = read_defaults(book);
+    let defaults = read_defaults(alloc, book)?;
     let tunes = book.tunes.as_slice();
     let outcomes = set_tunes(rt, alloc, tunes, &defaults, paper, how, jobs, gate)?;
     Ok(outcomes)

@@ -1,9 +1,7 @@
 -- What holds of two lists place by place.
 use Rattle.std.proofs.Common.{ℕ, List, [], ◌∷◌, ◌++◌, ◌+◌, ◌<◌, ◌≡◌, take, drop, length, get_or, subst}
-use Rattle.std.proofs.lemmas.List.{take-append-drop}
+use Rattle.std.proofs.{lemmas.List.take-append-drop, lemmas.List.take_more, lemmas.Slice.Zip.all_zipped_more}
 use Rattle.std.specs.List.{AllZip}
-use Rattle.std.proofs.lemmas.List.{take_more}
-use Rattle.std.proofs.lemmas.Slice.Zip.{all_zipped_more}
 
 module _ {A B : Type 0} (R : A → B → Type 0) where
   -- what holds of two pairs of lists holds of each pair's lists in one

@@ -1,12 +1,8 @@
 -- The text of a listing, put in its parts.
 use Rattle.std.proofs.Common.{◌≡◌, ℕ, List, [], ◌∷◌, ◌++◌, Result, Ok, Err, refl, sym, ◌∙◌, ap}
-use Rattle.std.specs.List.{cons_option}
-use Rattle.std.proofs.lemmas.List.{append_assoc}
+use Rattle.std.{proofs.lemmas.List.append_assoc, specs.List.cons_option}
 use Rattle.abc_lines.specs.declared.fault.Fault.{Fault}
-use Rattle.lay_cert.specs.Lines.{lines_then}
-use Rattle.lay_cert.specs.Listing.{entries_text}
-use Rattle.lay_cert.specs.declared.lines.Line.TheVariants as line
-use Rattle.lay_cert.proofs.Put.{in_parts}
+use Rattle.lay_cert.{specs.Lines.lines_then, specs.Listing.entries_text, specs.declared.lines.Line.Line, proofs.Put.in_parts}
 use Rattle.set_tune.specs.declared.tune.SetTune.{SetTune}
 use Rattle.set_book.specs.declared.outcome.Outcome.{Outcome}
 use Rattle.set_lists.specs.Listing.{entries_of, listing_text, outcomes_text, result_entry, result_text}
@@ -21,11 +17,11 @@ outcomes_are (o ∷ os) = ap (λ t. result_text o.ordinal o.result ++ t) (outcom
     at (Err fault) = refl
 
 -- the first line, the entries and the last line put
-pub put_all : (os : List Outcome) (old one two three : List ℕ) → one ≡ old ++ lines_then (line.Listing ∷ []) [] → two ≡ one ++ outcomes_text os
-    → three ≡ two ++ lines_then (line.End ∷ []) [] → three ≡ old ++ listing_text os
+pub put_all : (os : List Outcome) (old one two three : List ℕ) → one ≡ old ++ lines_then (Line.Listing ∷ []) [] → two ≡ one ++ outcomes_text os
+    → three ≡ two ++ lines_then (Line.End ∷ []) [] → three ≡ old ++ listing_text os
 put_all os old one two three e f g =
-    let first = lines_then (line.Listing ∷ []) [] in
-    let last = lines_then (line.End ∷ []) [] in
+    let first = lines_then (Line.Listing ∷ []) [] in
+    let last = lines_then (Line.End ∷ []) [] in
     let middle = outcomes_text os in
     g ∙ (ap (λ t. t ++ last) (f ∙ ap (λ t. t ++ middle) e)
     ∙ (append_assoc (old ++ first) middle last ∙ (append_assoc old first (middle ++ last)

@@ -1,28 +1,14 @@
 -- What is written of a book is a listing of its scores' breakings, and no way is told exactly where a score has none.
 use Rattle.std.proofs.Common.{◌≡◌, refl, ap, subst, inl, inr, ℕ, Bool, List, [], ◌∷◌, Result, Ok, Err}
-use Rattle.std.specs.List.{All}
-use Rattle.std.proofs.lemmas.List.Elements.{All-cons, All-nil}
-use Rattle.abc_lines.specs.declared.book.TuneText.{TuneText}
-use Rattle.abc_lines.specs.declared.fault.Fault.{Fault}
-use Rattle.abc_lines.specs.declared.fault.FaultKind.TheVariants as faults
-use Rattle.abc_lines.specs.Books.{book_of}
-use Rattle.abc_header.specs.declared.defaults.Defaults.{Defaults}
-use Rattle.abc_header.specs.declared.header.Header.{Header}
-use Rattle.abc_header.specs.declared.paper.Paper.{Paper}
-use Rattle.abc_header.specs.Papers.{width_of}
+use Rattle.std.{proofs.lemmas.List.Elements.All-cons, proofs.lemmas.List.Elements.All-nil, specs.List.All}
+use Rattle.abc_lines.specs.{declared.book.TuneText.TuneText, declared.fault.Fault.Fault, Books.book_of, declared.fault.FaultKind.FaultKind}
+use Rattle.abc_header.specs.{declared.defaults.Defaults.Defaults, declared.header.Header.Header, declared.paper.Paper.Paper, Papers.width_of}
 use Rattle.mus_score.specs.declared.score.Score.{Score}
 use Rattle.lay_breaks.specs.declared.costs.Span.{Span}
 use Rattle.lay_tune.specs.Layout.{IsNoWay}
-use Rattle.set_tune.specs.declared.how.How.{How}
-use Rattle.set_tune.specs.declared.tune.SetTune.{SetTune}
-use Rattle.set_tune.specs.Setting.{HasScore, IsFaultOfTune, IsLaidTune, layout_fault, no_way, of_header, of_move, of_score, too_tall}
-use Rattle.set_book.specs.declared.outcome.Outcome.{Outcome}
-use Rattle.set_book.specs.Once.{HaveOneOutcome}
-use Rattle.set_book.specs.Outcomes.{AreOutcomes, IsResult}
-use Rattle.set_lists.specs.Laws.{HasItsBreakings, IsLegalIn, ListsTheBook, NoWayIsExact}
-use Rattle.set_lists.proofs.Legal.{breakings_of_listing}
-use Rattle.set_lists.proofs.Numbers.{book_rises}
-use Rattle.set_lists.proofs.Told.{lists_the_set, unforced}
+use Rattle.set_tune.specs.{declared.how.How.How, declared.tune.SetTune.SetTune, Setting.HasScore, Setting.IsFaultOfTune, Setting.IsLaidTune, Setting.layout_fault, Setting.no_way, Setting.of_header, Setting.of_move, Setting.of_score, Setting.of_share, Setting.too_tall}
+use Rattle.set_book.specs.{declared.outcome.Outcome.Outcome, Once.HaveOneOutcome, Outcomes.AreOutcomes, Outcomes.IsResult}
+use Rattle.set_lists.{specs.Laws.HasItsBreakings, specs.Laws.IsLegalIn, specs.Laws.ListsTheBook, specs.Laws.NoWayIsExact, proofs.Legal.breakings_of_listing, proofs.Numbers.book_rises, proofs.Told.lists_the_set, proofs.Told.unforced}
 
 -- ---- the listing of a book
 module _ (one : HaveOneOutcome) (defaults : Defaults) (paper : Paper) (how : How) where
@@ -60,32 +46,34 @@ module _ (one : HaveOneOutcome) (tune : TuneText) (defaults : Defaults) (paper :
       let legal = (breakings_of_listing one t.score (width_of paper) t.spans layout.form layout.spans t.breaking.breaks).0 free in
       subst (λ s. IsLegalIn s (width_of paper) t.breaking.breaks) (one.score tune defaults how t.header header t.score score laid.score has) legal
 
-  told : (f : Fault) (reached : ℕ) → f.kind ≡ faults.NoWay reached → IsFaultOfTune tune defaults paper how f
+  told : (f : Fault) (reached : ℕ) → f.kind ≡ FaultKind.NoWay reached → IsFaultOfTune tune defaults paper how f
       → (breaks : List ℕ) → IsLegalIn score (width_of paper) breaks → ⊥
   told _ reached e (of_header f fault) breaks legal = one.scored tune defaults how header score f has (inl (inl fault))
   told _ reached e (of_score h f read fault) breaks legal = one.scored tune defaults how header score f has (inl (inr (h, read, fault)))
-  told _ reached e (of_move c) breaks legal = let clash : faults.BadMove ≡ faults.NoWay reached = e in cc
+  told _ reached e (of_share f c) breaks legal = one.scored tune defaults how header score f has (inr (inl c))
+  told _ reached e (of_move c) breaks legal = let clash : FaultKind.BadMove ≡ FaultKind.NoWay reached = e in cc
   told _ reached e (no_way h s i spans scored way) breaks legal =
       none_legal one s (width_of paper) i spans way breaks
       (subst (λ x. IsLegalIn x (width_of paper) breaks) (one.score tune defaults how header h score s has scored) legal)
-  told _ reached e (too_tall t block laid tall) breaks legal = let clash : faults.TooTall block ≡ faults.NoWay reached = e in cc
+  told _ reached e (too_tall t block laid tall) breaks legal = let clash : FaultKind.TooTall block ≡ FaultKind.NoWay reached = e in cc
 
   came_by : (f : Fault) → IsFaultOfTune tune defaults paper how f → ((breaks : List ℕ) → IsLegalIn score (width_of paper) breaks → ⊥)
-      → (reached : ℕ) × (f ≡ layout_fault tune (faults.NoWay reached))
+      → (reached : ℕ) × (f ≡ layout_fault tune (FaultKind.NoWay reached))
   came_by _ (of_header f fault) none = absurd (one.scored tune defaults how header score f has (inl (inl fault)))
   came_by _ (of_score h f read fault) none = absurd (one.scored tune defaults how header score f has (inl (inr (h, read, fault))))
-  came_by _ (of_move c) none = absurd (one.scored tune defaults how header score (layout_fault tune faults.BadMove) has (inr (c, refl)))
+  came_by _ (of_share f c) none = absurd (one.scored tune defaults how header score f has (inr (inl c)))
+  came_by _ (of_move c) none = absurd (one.scored tune defaults how header score (layout_fault tune FaultKind.BadMove) has (inr (inr (c, refl))))
   came_by _ (no_way h s i spans scored way) none = (i, refl)
   came_by _ (too_tall t block laid tall) none = absurd (none t.breaking.breaks (laid_legal t laid))
 
   came : (r : Result SetTune Fault) → IsResult tune defaults paper how r → ((breaks : List ℕ) → IsLegalIn score (width_of paper) breaks → ⊥)
-      → (reached : ℕ) × (r ≡ Err (layout_fault tune (faults.NoWay reached)))
+      → (reached : ℕ) × (r ≡ Err (layout_fault tune (FaultKind.NoWay reached)))
   came (Ok t) is none = absurd (none t.breaking.breaks (laid_legal t is.laid))
   came (Err f) is none = let by = came_by f is none in (by.0, ap Err by.1)
 
 pub no_way_is_exact : HaveOneOutcome → NoWayIsExact
 no_way_is_exact one tune defaults paper how header score outcome has is = (
-  (λ way. told one tune defaults paper how header score has (layout_fault tune (faults.NoWay way.0)) way.0 refl
+  (λ way. told one tune defaults paper how header score has (layout_fault tune (FaultKind.NoWay way.0)) way.0 refl
       (subst (λ r. IsResult tune defaults paper how r) way.1 is.result)),
   came one tune defaults paper how header score has outcome.result is.result,
 )

@@ -1,11 +1,7 @@
 -- Where a listed span stands.
 use Rattle.std.proofs.Common.{◌≡◌, ℕ, zero, suc, ◌+◌, ◌<◌, ◌≤◌, Bool, true, false, nat_lt, List, [], ◌∷◌, length, drop, Option, Some, None, option_map, if◌then◌else◌, arith, refl, sym, ◌∙◌, ap, subst, inl, inr, unwrap_or}
-use Rattle.std.specs.List.{AllWithin, find, slice_index_or}
-use Rattle.std.specs.List.Sorted.{IsNonDecreasingBy}
-use Rattle.std.proofs.lemmas.Bool.Decides.{nat_tests}
-use Rattle.std.proofs.lemmas.List.Sorted.{IsNonDecreasingBy-from_all_adjacent}
-use Rattle.lay_breaks.specs.declared.costs.Span.{Span}
-use Rattle.lay_breaks.specs.Spans.{AreSpans, IsNext, SpansFrom, has_ends, listed}
+use Rattle.std.{proofs.lemmas.Bool.Decides.nat_tests, proofs.lemmas.List.Sorted.IsNonDecreasingBy-from_all_adjacent, specs.List.AllWithin, specs.List.find, specs.List.slice_index_or, specs.List.Sorted.IsNonDecreasingBy}
+use Rattle.lay_breaks.specs.{declared.costs.Span.Span, Spans.AreSpans, Spans.IsNext, Spans.SpansFrom, Spans.has_ends, Spans.listed}
 
 next_begins : (p s : Span) → IsNext p s → p.a ≤ s.a
 next_begins p s (inl h) = let l = h.0 in omega arith

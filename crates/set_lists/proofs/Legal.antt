@@ -3,21 +3,13 @@ use Rattle.std.proofs.Common.{◌≡◌, ℕ, ◌≤◌, List, [], ◌∷◌, le
 use Rattle.std.proofs.lemmas.Bool.{true≢false}
 use Rattle.mus_score.specs.declared.score.Score.{Score}
 use Rattle.mus_laid.specs.declared.laid.SystemMarks.{SystemMarks}
-use Rattle.lay_springs.specs.Place.{length_at, reach_at}
+use Rattle.lay_springs.{specs.Place.length_at, specs.Place.reach_at, proofs.Longer.stands}
 use Rattle.lay_springs.proofs.Ends as springs
-use Rattle.lay_springs.proofs.Longer.{stands}
-use Rattle.lay_columns.specs.Column.{length_rises}
-use Rattle.lay_columns.specs.declared.column.Column.{Column}
-use Rattle.lay_columns.specs.Columns.{column_reach}
-use Rattle.lay_breaks.specs.declared.costs.Span.{Span}
-use Rattle.lay_breaks.specs.Breaking.{FitsFrom, RisesFrom, last_from}
-use Rattle.lay_breaks.specs.Spans.{AreSpans, listed}
-use Rattle.lay_tune.specs.Spans.{AreSpansOf, CanStandIn, IsForceOf, column_length, score_gaps, system_columns}
-use Rattle.lay_tune.specs.Systems.{AllSpans}
-use Rattle.set_book.specs.Once.{HaveOneOutcome, IsOneSystem}
-use Rattle.set_lists.specs.Laws.{BreakingsOfListing, CanBeSystem}
-use Rattle.set_book.proofs.Spanned.{listed_within}
-use Rattle.set_lists.proofs.Told.{unforced}
+use Rattle.lay_columns.specs.{Column.length_rises, declared.column.Column.Column, Columns.column_reach}
+use Rattle.lay_breaks.specs.{declared.costs.Span.Span, Breaking.FitsFrom, Breaking.RisesFrom, Breaking.last_from, Spans.AreSpans, Spans.listed}
+use Rattle.lay_tune.specs.{Spans.AreSpansOf, Spans.CanStandIn, Spans.IsForceOf, Spans.column_length, Spans.score_gaps, Spans.system_columns, Systems.AllSpans}
+use Rattle.set_book.{specs.Once.HaveOneOutcome, specs.Once.IsOneSystem, proofs.Spanned.listed_within}
+use Rattle.set_lists.{specs.Laws.BreakingsOfListing, specs.Laws.CanBeSystem, proofs.Told.unforced}
 
 -- columns that can be pressed by a force can stand
 can_stand : (gaps : List ℕ) (width : ℕ) (columns : List Column) (force : ℕ) → IsForceOf gaps width columns force → CanStandIn gaps width columns

@@ -1,29 +1,15 @@
 -- What comes of tunes can be listed, and its listing tells the tunes that are set.
 use Rattle.std.proofs.Common.{◌≡◌, ◌∙◌, sym, ℕ, ◌<◌, ◌≤◌, ◌^◌, Bool, true, List, [], ◌∷◌, Option, Some, None, Result, Ok, Err, arith, refl}
-use Rattle.std.specs.List.{All, cons_option, slice_index_or}
-use Rattle.std.proofs.lemmas.List.Elements.{All-cons, All-nil}
-use Rattle.abc_lines.specs.declared.book.TuneText.{TuneText}
-use Rattle.abc_lines.specs.declared.fault.Fault.{Fault}
-use Rattle.abc_header.specs.declared.defaults.Defaults.{Defaults}
-use Rattle.abc_header.specs.declared.paper.Paper.{Paper}
-use Rattle.abc_header.specs.Papers.{width_of}
+use Rattle.std.{proofs.lemmas.List.Elements.All-cons, proofs.lemmas.List.Elements.All-nil, specs.List.All, specs.List.cons_option, specs.List.slice_index_or}
+use Rattle.abc_lines.specs.{declared.book.TuneText.TuneText, declared.fault.Fault.Fault}
+use Rattle.abc_header.specs.{declared.defaults.Defaults.Defaults, declared.paper.Paper.Paper, Papers.width_of}
 use Rattle.mus_score.specs.declared.score.Score.{Score}
-use Rattle.lay_breaks.specs.declared.costs.Span.{Span}
-use Rattle.lay_breaks.specs.Breaking.{IsLegal, IsPotential}
-use Rattle.lay_breaks.specs.Spans.{AreSpans, listed}
-use Rattle.lay_tune.specs.Spans.{AreSpansOf, is_forced_in}
-use Rattle.lay_tune.specs.Systems.{IsSetSystem}
-use Rattle.lay_tune.proofs.Rows.{span_count}
-use Rattle.lay_cert.specs.Listing.{EntriesFrom, IsEntry, none_forced}
-use Rattle.lay_cert.proofs.Unforced.{forced_by_spans}
-use Rattle.set_tune.specs.declared.how.How.{How}
-use Rattle.set_tune.specs.declared.tune.SetTune.{SetTune}
-use Rattle.set_tune.specs.Setting.{IsSetTune}
-use Rattle.set_book.proofs.Spanned.{listed_within}
-use Rattle.set_book.specs.declared.outcome.Outcome.{Outcome}
-use Rattle.set_book.specs.Outcomes.{AreOutcomes, IsResult}
-use Rattle.set_lists.specs.Laws.{ListsTheSet, OrdinalsRise, OutcomesAreListable}
-use Rattle.set_lists.specs.Listing.{CanBeListed, IsListable, entries_of, entry_of, result_entry}
+use Rattle.lay_breaks.specs.{declared.costs.Span.Span, Breaking.IsLegal, Breaking.IsPotential, Spans.AreSpans, Spans.listed}
+use Rattle.lay_tune.{specs.Spans.AreSpansOf, specs.Spans.is_forced_in, specs.Systems.IsSetSystem, proofs.Rows.span_count}
+use Rattle.lay_cert.{specs.Listing.EntriesFrom, specs.Listing.IsEntry, specs.Listing.none_forced, proofs.Unforced.forced_by_spans}
+use Rattle.set_tune.specs.{declared.how.How.How, declared.tune.SetTune.SetTune, Setting.IsSetTune}
+use Rattle.set_book.{proofs.Spanned.listed_within, specs.declared.outcome.Outcome.Outcome, specs.Outcomes.AreOutcomes, specs.Outcomes.IsResult}
+use Rattle.set_lists.specs.{Laws.ListsTheSet, Laws.OrdinalsRise, Laws.OutcomesAreListable, Listing.CanBeListed, Listing.IsListable, Listing.entries_of, Listing.entry_of, Listing.result_entry}
 
 -- ---- spans pass no forced bar
 pub unforced : (s : Score) (width : ℕ) (spans : List Span) → AreSpans s.measures spans → AreSpansOf s width spans

@@ -1,27 +1,15 @@
 -- The laws of the listing of a book.
 use Rattle.std.specs.Prelude.{◌≡◌, ℕ, ◌<◌, ◌≤◌, ◌^◌, ◌↔◌, ⊤, Bool, true, All, List, [], ◌∷◌, length, Contains, Result, Ok, Err}
-use Rattle.abc_lines.specs.declared.book.TuneText.{TuneText}
-use Rattle.abc_lines.specs.declared.fault.Fault.{Fault}
-use Rattle.abc_lines.specs.declared.fault.FaultKind.TheVariants as faults
-use Rattle.abc_lines.specs.Books.{book_of}
-use Rattle.abc_header.specs.declared.defaults.Defaults.{Defaults}
-use Rattle.abc_header.specs.declared.header.Header.{Header}
-use Rattle.abc_header.specs.declared.paper.Paper.{Paper}
-use Rattle.abc_header.specs.Papers.{width_of}
+use Rattle.abc_lines.specs.{declared.book.TuneText.TuneText, declared.fault.Fault.Fault, Books.book_of, declared.fault.FaultKind.FaultKind}
+use Rattle.abc_header.specs.{declared.defaults.Defaults.Defaults, declared.header.Header.Header, declared.paper.Paper.Paper, Papers.width_of}
 use Rattle.mus_score.specs.declared.score.Score.{Score}
 use Rattle.mus_laid.specs.declared.laid.SystemMarks.{SystemMarks}
-use Rattle.lay_breaks.specs.declared.costs.Span.{Span}
-use Rattle.lay_breaks.specs.Breaking.{IsLegal, RisesFrom, last_from}
-use Rattle.lay_breaks.specs.Spans.{AreSpans, listed}
+use Rattle.lay_breaks.specs.{declared.costs.Span.Span, Breaking.IsLegal, Breaking.RisesFrom, Breaking.last_from, Spans.AreSpans, Spans.listed}
 use Rattle.lay_spans.specs.Forced.{ForcedInside}
-use Rattle.lay_tune.specs.Spans.{AreSpansOf, CanStandIn, IsSystem, is_forced_in, score_gaps, system_columns}
-use Rattle.lay_tune.specs.Systems.{AllSpans}
+use Rattle.lay_tune.specs.{Spans.AreSpansOf, Spans.CanStandIn, Spans.IsSystem, Spans.is_forced_in, Spans.score_gaps, Spans.system_columns, Systems.AllSpans}
 use Rattle.lay_cert.specs.Listing.{IsListing, none_forced}
-use Rattle.set_tune.specs.declared.how.How.{How}
-use Rattle.set_tune.specs.declared.tune.SetTune.{SetTune}
-use Rattle.set_tune.specs.Setting.{HasScore, layout_fault}
-use Rattle.set_book.specs.declared.outcome.Outcome.{Outcome}
-use Rattle.set_book.specs.Outcomes.{AreOutcomes, IsOutcome}
+use Rattle.set_tune.specs.{declared.how.How.How, declared.tune.SetTune.SetTune, Setting.HasScore, Setting.layout_fault}
+use Rattle.set_book.specs.{declared.outcome.Outcome.Outcome, Outcomes.AreOutcomes, Outcomes.IsOutcome}
 use Rattle.set_lists.specs.Listing.{AreListable, entries_of, listing_text}
 
 -- the numbers of the tunes rise, the first past k, and have 32 bits
@@ -80,7 +68,7 @@ ListsTheBook = (bytes : List ℕ) (defaults : Defaults) (paper : Paper) (how : H
 
 -- the tune is told that it has no way: legal breakings of its first measures go up to some bar, and none to the last
 abbrev pub HasNoWay : TuneText → Outcome → Type 0
-HasNoWay tune outcome = (reached : ℕ) × (outcome.result ≡ Err (layout_fault tune (faults.NoWay reached)))
+HasNoWay tune outcome = (reached : ℕ) × (outcome.result ≡ Err (layout_fault tune (FaultKind.NoWay reached)))
 
 -- A tune that has a score is told that it has no way exactly where its score has no legal breaking on the width of the body.
 abbrev pub NoWayIsExact : Type 0

@@ -1,37 +1,37 @@
 -- The reports of a book: a line for each tune that has a fault, in order.
 use Rattle.std.specs.Prelude.{ℕ, Bool, List, [], ◌∷◌, ◌++◌, codes, decimal, Result, Ok, Err, is_err}
 use Rattle.std.specs.List.{flat_map, list_any}
-use Rattle.abc_lines.specs.declared.fault.Fault.{Fault}
-use Rattle.abc_lines.specs.declared.fault.FaultKind.{FaultKind}
-use Rattle.abc_lines.specs.declared.fault.FaultKind.TheVariants as kinds
+use Rattle.abc_lines.specs.{declared.fault.Fault.Fault, declared.fault.FaultKind.FaultKind}
 use Rattle.set_tune.specs.declared.tune.SetTune.{SetTune}
 use Rattle.set_book.specs.declared.outcome.Outcome.{Outcome}
 
 -- the name of a kind of fault, and its number behind a space where it has one
 abbrev pub kind_name : FaultKind → List ℕ
-kind_name kinds.NoKey = codes "NoKey"
-kind_name kinds.BadMeter = codes "BadMeter"
-kind_name kinds.BadUnit = codes "BadUnit"
-kind_name kinds.BadKey = codes "BadKey"
-kind_name kinds.BadVoice = codes "BadVoice"
-kind_name kinds.TooManyVoices = codes "TooManyVoices"
-kind_name kinds.BadByte = codes "BadByte"
-kind_name kinds.Unclosed = codes "Unclosed"
-kind_name kinds.BadLength = codes "BadLength"
-kind_name kinds.BadTuplet = codes "BadTuplet"
-kind_name kinds.TooDeep = codes "TooDeep"
-kind_name kinds.TupletCrosses = codes "TupletCrosses"
-kind_name kinds.TupletShort = codes "TupletShort"
-kind_name kinds.BrokenAlone = codes "BrokenAlone"
-kind_name kinds.Undrawable = codes "Undrawable"
-kind_name kinds.StepRange = codes "StepRange"
-kind_name kinds.RestWithoutMeter = codes "RestWithoutMeter"
-kind_name kinds.TooManyMeasures = codes "TooManyMeasures"
-kind_name kinds.TooManyEvents = codes "TooManyEvents"
-kind_name kinds.TooManyVerses = codes "TooManyVerses"
-kind_name kinds.BadMove = codes "BadMove"
-kind_name (kinds.NoWay reached) = codes "NoWay " ++ decimal reached
-kind_name (kinds.TooTall block) = codes "TooTall " ++ decimal block
+kind_name FaultKind.NoKey = codes "NoKey"
+kind_name FaultKind.BadMeter = codes "BadMeter"
+kind_name FaultKind.BadUnit = codes "BadUnit"
+kind_name FaultKind.BadKey = codes "BadKey"
+kind_name FaultKind.BadVoice = codes "BadVoice"
+kind_name FaultKind.TooManyVoices = codes "TooManyVoices"
+kind_name FaultKind.BadByte = codes "BadByte"
+kind_name FaultKind.Unclosed = codes "Unclosed"
+kind_name FaultKind.BadLength = codes "BadLength"
+kind_name FaultKind.BadTuplet = codes "BadTuplet"
+kind_name FaultKind.TooDeep = codes "TooDeep"
+kind_name FaultKind.TupletCrosses = codes "TupletCrosses"
+kind_name FaultKind.TupletShort = codes "TupletShort"
+kind_name FaultKind.BrokenAlone = codes "BrokenAlone"
+kind_name FaultKind.Undrawable = codes "Undrawable"
+kind_name FaultKind.StepRange = codes "StepRange"
+kind_name FaultKind.RestWithoutMeter = codes "RestWithoutMeter"
+kind_name FaultKind.TooManyMeasures = codes "TooManyMeasures"
+kind_name FaultKind.TooManyEvents = codes "TooManyEvents"
+kind_name FaultKind.TooManyVerses = codes "TooManyVerses"
+kind_name FaultKind.BadScore = codes "BadScore"
+kind_name FaultKind.BadShare = codes "BadShare"
+kind_name FaultKind.BadMove = codes "BadMove"
+kind_name (FaultKind.NoWay reached) = codes "NoWay " ++ decimal reached
+kind_name (FaultKind.TooTall block) = codes "TooTall " ++ decimal block
 
 -- the line of a tune's fault
 unfoldable pub fault_report : ℕ → Fault → List ℕ

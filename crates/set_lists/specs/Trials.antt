@@ -3,8 +3,7 @@ use Rattle.std.specs.Prelude.{ℕ, Bool, List, [], ◌∷◌, ◌++◌, codes, d
 use Rattle.abc_lines.specs.declared.fault.Fault.{Fault}
 use Rattle.set_tune.specs.declared.tune.SetTune.{SetTune}
 use Rattle.set_book.specs.declared.outcome.Outcome.{Outcome}
-use Rattle.set_lists.specs.declared.trials.Trial.{Trial}
-use Rattle.set_lists.specs.Reports.{is_faulty}
+use Rattle.set_lists.specs.{declared.trials.Trial.Trial, Reports.is_faulty}
 
 unfoldable pub trial_text : Trial → List ℕ
 trial_text t =

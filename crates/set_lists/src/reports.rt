@@ -31,6 +31,8 @@ fn put_kind(out: &mut Text, kind: FaultKind) -> Result<(), Memory>
         FaultKind::TooManyMeasures => out.append(b"TooManyMeasures"),
         FaultKind::TooManyEvents => out.append(b"TooManyEvents"),
         FaultKind::TooManyVerses => out.append(b"TooManyVerses"),
+        FaultKind::BadScore => out.append(b"BadScore"),
+        FaultKind::BadShare => out.append(b"BadShare"),
         FaultKind::BadMove => out.append(b"BadMove"),
         FaultKind::NoWay { reached } => put_word(out, b"NoWay ", u128::from(reached)),
         FaultKind::TooTall { block } => put_word(out, b"TooTall ", u128::from(block)),

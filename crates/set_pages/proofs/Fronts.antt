@@ -1,27 +1,14 @@
 -- Pages that were given up are the first of the sheet, whatever is pressed behind them.
-use Rattle.std.proofs.Common.{◌≡◌, refl, sym, ap, ◌∙◌, subst, inl, inr, ℕ, suc, ◌+◌, Bool, true, false, cond, List, [], ◌∷◌, ◌++◌, length, None}
-use Rattle.std.proofs.lemmas.List.{append-nil, append_assoc}
-use Rattle.std.proofs.lemmas.List.Elements.{All-cons, All-head, All-nil, All-tail}
+use Rattle.std.proofs.Common.{◌≡◌, refl, sym, ap, ◌∙◌, subst, inl, inr, ℕ, zero, suc, ◌+◌, Bool, true, false, cond, List, [], ◌∷◌, ◌++◌, length, take}
 use Rattle.std.specs.Prelude.{◌||◌, ◌⊎◌, nat_le, nat_lt, All}
-use Rattle.abc_header.specs.declared.paper.Paper.{Paper}
-use Rattle.abc_header.specs.Papers.{height_of, width_of}
-use Rattle.lay_pages.specs.declared.filling.Block.{Block}
-use Rattle.lay_pages.specs.declared.filling.Place.{Place}
-use Rattle.lay_pages.specs.declared.filling.Spot.{Spot}
-use Rattle.lay_pages.specs.Filling.{behind_after, group_height, next_place, place_by, spots_behind, spots_from, spots_of, under}
+use Rattle.std.proofs.lemmas.List.{append-nil, append_assoc, Elements.All-cons, Elements.All-head, Elements.All-nil, Elements.All-tail}
+use Rattle.abc_header.specs.{declared.paper.Paper.Paper, Papers.height_of, Papers.width_of}
+use Rattle.lay_pages.specs.{declared.filling.Block.Block, declared.filling.Place.Place, declared.filling.Spot.Spot, Filling.group_height, Filling.next_place, Filling.place_by, Filling.spots_from, Filling.spots_of, Filling.under}
 use Rattle.ps_text.specs.declared.sheet.Page.{Page}
 use Rattle.set_book.specs.declared.outcome.Outcome.{Outcome}
-use Rattle.set_pages.specs.declared.pages.Pages.{Pages}
-use Rattle.set_pages.specs.declared.press.Press.{Press}
-use Rattle.set_pages.specs.Drawings.{Drawing, all_blocks, all_drawings, drawn}
-use Rattle.set_pages.specs.Filling.{done_count, no_pages, restored, turned, with_drawing, with_drawings, with_items}
-use Rattle.set_pages.specs.Press.{IsPressed, done_pages}
-use Rattle.set_pages.specs.Ready.{AreRising, AreRisingFrom, IsDrawn}
-use Rattle.set_pages.specs.Sheet.{IsSetUnder, all_spots, pages_of, sheet_of}
-use Rattle.set_pages.proofs.Joined.{all_loose, blocks_append, drawings_append, drawn_join, spots_join}
-use Rattle.set_pages.proofs.Readying.{all_whole}
-use Rattle.set_pages.proofs.Standing.{all_count}
-use Rattle.set_pages.proofs.Turned.{all_put}
+use Rattle.set_pages.specs.{declared.pages.Pages.Pages, declared.plan.Plan.Plan, declared.press.Press.Press, Drawings.Drawing, Drawings.all_blocks, Drawings.all_drawings, Drawings.drawn, Filling.done_count, Filling.no_pages, Filling.restored, Filling.turned, Filling.with_drawing}
+use Rattle.set_pages.specs.{Filling.with_drawings, Filling.with_items, Press.IsPressed, Press.RisesBy, Press.done_pages, Press.next_spots, Ready.AreRising, Ready.AreRisingFrom, Ready.IsDrawn, Sheet.all_spots, Sheet.pages_of, Sheet.sheet_of}
+use Rattle.set_pages.proofs.{Joined.drawings_append, Joined.drawn_join, Joined.spots_append, Turned.all_put, Zips.zip_length}
 
 -- what is done stays done
 pub record IsGrown (p q : Pages) : Type 0 where
@@ -47,11 +34,6 @@ grown_all width p (d ∷ ds) [] = grown_same p
 grown_all width p (d ∷ ds) (s ∷ ss) =
     grown_on p (with_drawing width p d s) (with_drawings width (with_drawing width p d s) ds ss) (grown_by p (nat_lt (done_count p) s.page) (drawn width s.top d))
     (grown_all width (with_drawing width p d s) ds ss)
-
--- there is a spot for each block, and their pages rise by one at most
-spots_count : (high : ℕ) (place : Place) (bs : List Block) → length (spots_from high place bs) ≡ length bs
-spots_count high place [] = refl
-spots_count high place (b ∷ bs) = ap suc (spots_count high (next_place high place b bs) bs)
 
 rises_by : (b : Bool) (page down : ℕ) → ((place_by b page down).page ≡ page) ⊎ ((place_by b page down).page ≡ suc page)
 rises_by true page down = inl refl
@@ -84,41 +66,55 @@ put_front width ds (s ∷ ss) same rising =
 front_of_front : (xs ys zs : List Page) → IsFront xs ys → IsFront ys zs → IsFront xs zs
 front_of_front xs ys zs one two = record { rest = one.rest ++ two.rest; whole = two.whole ∙ ap (λ l. l ++ two.rest) one.whole ∙ append_assoc xs one.rest two.rest }
 
+rising_take_from : (n page : ℕ) (ss : List Spot) → AreRisingFrom page ss → AreRisingFrom page (take n ss)
+rising_take_from zero page ss rising = tt
+rising_take_from (suc n) page [] rising = tt
+rising_take_from (suc n) page (s ∷ ss) rising = (rising.0, rising_take_from n s.page ss rising.1)
+
+rising_take : (n : ℕ) (ss : List Spot) → AreRising ss → AreRising (take n ss)
+rising_take zero ss rising = tt
+rising_take (suc n) [] rising = tt
+rising_take (suc n) (s ∷ ss) rising = (rising.0, rising_take_from n s.page ss rising.1)
+
+pub plan_rising : (plan : Plan) (paper : Paper) (outcomes : List Outcome) → RisesBy plan → AreRising (all_spots plan paper outcomes)
+plan_rising Plan.Filled paper outcomes rising = rises (height_of paper) (all_blocks outcomes)
+plan_rising (Plan.At spots) paper outcomes rising = rising_take (length (all_blocks outcomes)) spots rising
+
 -- what is put behind the outcomes that were pressed
-put_behind : (paper : Paper) (first more : List Outcome) (given : List Page) (p : Press) → IsPressed paper first given p
-    → with_drawings (width_of paper) no_pages (all_drawings (first ++ more)) (all_spots paper (first ++ more))
-    ≡ with_drawings (width_of paper) (restored given p.pages) (all_drawings more) (spots_behind (height_of paper) (behind_after (height_of paper) None (all_blocks first)) (all_blocks more))
-put_behind paper first more given p pressed =
+put_behind : (plan : Plan) (paper : Paper) (first more : List Outcome) (given : List Page) (p : Press) → IsPressed plan paper first given p
+    → with_drawings (width_of paper) no_pages (all_drawings (first ++ more)) (all_spots plan paper (first ++ more))
+    ≡ with_drawings (width_of paper) (restored given p.pages) (all_drawings more) (next_spots plan (height_of paper) p (all_blocks more))
+put_behind plan paper first more given p pressed =
     let width = width_of paper in
-    let high = height_of paper in
-    let behind = spots_behind high (behind_after high None (all_blocks first)) (all_blocks more) in
-    ap (λ ds. with_drawings width no_pages ds (all_spots paper (first ++ more))) (drawings_append first more)
-    ∙ ap (λ bs. with_drawings width no_pages (all_drawings first ++ all_drawings more) (spots_of high bs)) (blocks_append first more)
-    ∙ ap (λ ss. with_drawings width no_pages (all_drawings first ++ all_drawings more) ss) (spots_join high (all_blocks first) (all_blocks more) (all_loose first))
-    ∙ drawn_join (IsDrawn width) width no_pages (all_drawings first) (all_drawings more) (all_spots paper first) behind pressed.drawn
+    let behind = next_spots plan (height_of paper) p (all_blocks more) in
+    ap (λ ds. with_drawings width no_pages ds (all_spots plan paper (first ++ more))) (drawings_append first more)
+    ∙ ap (λ ss. with_drawings width no_pages (all_drawings first ++ all_drawings more) ss) (spots_append plan paper first more p behind pressed.behind pressed.put refl)
+    ∙ drawn_join (IsDrawn width) width no_pages (all_drawings first) (all_drawings more) (all_spots plan paper first) behind pressed.drawn
     ∙ ap (λ q. with_drawings width q (all_drawings more) behind) (sym pressed.pages)
 
 -- The pages that are done when some outcomes are pressed, those that were given up among them, are the first pages of the sheet of these
 -- outcomes and of whatever comes behind them.
-pub done_front : (paper : Paper) (first more : List Outcome) (given : List Page) (p : Press) → IsPressed paper first given p → All (IsSetUnder paper) (first ++ more)
-    → IsFront (given ++ done_pages p) (sheet_of paper (first ++ more)).pages
+pub done_front : (plan : Plan) (paper : Paper) (first more : List Outcome) (given : List Page) (p : Press) → IsPressed plan paper first given p
+    → length (all_drawings (first ++ more)) ≡ length (all_spots plan paper (first ++ more)) → IsFront (given ++ done_pages p) (sheet_of plan paper (first ++ more)).pages
 unfolding sheet_of
-done_front paper first more given p pressed set =
+done_front plan paper first more given p pressed count =
     let width = width_of paper in
-    let high = height_of paper in
     let all = first ++ more in
-    let behind = spots_behind high (behind_after high None (all_blocks first)) (all_blocks more) in
-    let grown = grown_all width (restored given p.pages) (all_drawings more) behind in
-    let count = all_count all (all_whole paper all set) ∙ sym (spots_count high (record { page = 0; down = 0 }) (all_blocks all)) in
-    front_of_front (given ++ done_pages p) (with_drawings width no_pages (all_drawings all) (all_spots paper all)).done (pages_of width (all_drawings all) (all_spots paper all))
-    (record { rest = grown.more; whole = ap (λ (q : Pages). q.done) (put_behind paper first more given p pressed) ∙ grown.done })
-    (put_front width (all_drawings all) (all_spots paper all) count (rises high (all_blocks all)))
+    let grown = grown_all width (restored given p.pages) (all_drawings more) (next_spots plan (height_of paper) p (all_blocks more)) in
+    front_of_front (given ++ done_pages p) (with_drawings width no_pages (all_drawings all) (all_spots plan paper all)).done (pages_of width (all_drawings all) (all_spots plan paper all))
+    (record { rest = grown.more; whole = ap (λ (q : Pages). q.done) (put_behind plan paper first more given p pressed) ∙ grown.done })
+    (put_front width (all_drawings all) (all_spots plan paper all) count (plan_rising plan paper all pressed.rises))
 
 -- the same of the sheet of these outcomes alone
-pub done_first : (paper : Paper) (outcomes : List Outcome) (given : List Page) (p : Press) → IsPressed paper outcomes given p → IsFront (given ++ done_pages p) (sheet_of paper outcomes).pages
-done_first paper outcomes given p pressed =
-    subst (λ os. IsFront (given ++ done_pages p) (sheet_of paper os).pages) (append-nil outcomes)
-    (done_front paper outcomes [] given p pressed (subst (λ os. All (IsSetUnder paper) os) (sym (append-nil outcomes)) pressed.set))
+pub done_first : (plan : Plan) (paper : Paper) (outcomes : List Outcome) (given : List Page) (p : Press) → IsPressed plan paper outcomes given p
+    → IsFront (given ++ done_pages p) (sheet_of plan paper outcomes).pages
+unfolding sheet_of
+done_first plan paper outcomes given p pressed =
+    let width = width_of paper in
+    let ds = all_drawings outcomes in
+    let ss = all_spots plan paper outcomes in
+    subst (λ front. IsFront front (pages_of width ds ss)) (ap (λ (q : Pages). q.done) (sym pressed.pages))
+    (put_front width ds ss (zip_length (IsDrawn width) ds ss pressed.drawn) (plan_rising plan paper outcomes pressed.rises))
 
 -- what holds of all holds of those in front, and of those behind
 pub all_left : {X : Type 0} (P : X → Type 0) (xs ys : List X) → All P (xs ++ ys) → All P xs

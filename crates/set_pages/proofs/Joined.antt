@@ -1,27 +1,14 @@
 -- Blocks that are filled and drawn a list at a time are those of all lists, one after another.
-use Rattle.std.proofs.Common.{◌≡◌, refl, sym, ap, ◌∙◌, subst, ℕ, ◌+◌, List, [], ◌∷◌, ◌++◌, None}
-use Rattle.std.proofs.lemmas.Grind.{flat_map-append}
-use Rattle.std.proofs.lemmas.List.Elements.{All-append}
-use Rattle.std.specs.Prelude.{◌||◌, nat_le, All}
-use Rattle.std.specs.List.{AllZip}
-use Rattle.abc_header.specs.declared.paper.Paper.{Paper}
-use Rattle.abc_header.specs.Papers.{height_of, width_of}
-use Rattle.lay_pages.specs.declared.filling.Block.{Block}
-use Rattle.lay_pages.specs.declared.filling.Place.{Place}
-use Rattle.lay_pages.specs.declared.filling.Spot.{Spot}
-use Rattle.lay_pages.specs.Filling.{AreGoodBlocks, IsLoose, behind_after, next_place, place_by, spot_at, spots_behind, spots_from, spots_of, standing_from, under}
+use Rattle.std.proofs.Common.{◌≡◌, refl, sym, ap, ◌∙◌, subst, ℕ, ◌+◌, List, [], ◌∷◌, ◌++◌, length, take, drop, Option, None}
+use Rattle.std.{proofs.lemmas.Grind.flat_map-append, proofs.lemmas.List.Elements.All-append, proofs.lemmas.List.length-append, proofs.Math.Seq.take-add, specs.Prelude.◌||◌, specs.Prelude.nat_le, specs.Prelude.All, specs.List.AllZip}
+use Rattle.abc_header.specs.{declared.paper.Paper.Paper, Papers.height_of, Papers.width_of}
+use Rattle.lay_pages.specs.{declared.filling.Block.Block, declared.filling.Place.Place, declared.filling.Spot.Spot, declared.filling.Standing.Standing, Filling.AreGoodBlocks, Filling.IsLoose, Filling.behind_after, Filling.next_place, Filling.place_by, Filling.spot_at, Filling.spots_behind}
+use Rattle.lay_pages.specs.Filling.{spots_from, spots_of, standing_from, under}
 use Rattle.ps_text.specs.declared.sheet.Page.{Page}
 use Rattle.set_book.specs.declared.outcome.Outcome.{Outcome}
-use Rattle.set_pages.specs.declared.pages.Pages.{Pages}
-use Rattle.set_pages.specs.declared.press.Press.{Press}
-use Rattle.set_pages.specs.Drawings.{Drawing, all_blocks, all_drawings, outcome_blocks, outcome_drawings}
-use Rattle.set_pages.specs.Filling.{no_pages, restored, with_drawing, with_drawings}
-use Rattle.set_pages.specs.Press.{IsPressed}
-use Rattle.set_pages.specs.Ready.{IsDrawn}
-use Rattle.set_pages.specs.Sheet.{IsSetUnder, all_spots}
-use Rattle.set_pages.proofs.Fitting.{group_append, result_loose}
-use Rattle.set_pages.proofs.Restored.{all_same, gone_all}
-use Rattle.set_pages.proofs.Standing.{good_append}
+use Rattle.set_pages.specs.{Filling.no_pages, Filling.restored, Filling.with_drawing, Filling.with_drawings, Press.IsPressed, Press.behind_by, Press.next_behind, Press.next_spots, Ready.IsDrawn}
+use Rattle.set_pages.specs.{declared.pages.Pages.Pages, declared.plan.Plan.Plan, declared.press.Press.Press, Drawings.Drawing, Drawings.all_blocks, Drawings.all_drawings, Drawings.outcome_blocks, Drawings.outcome_drawings, Sheet.IsSetUnder, Sheet.all_spots}
+use Rattle.set_pages.proofs.{Fitting.group_append, Fitting.result_loose, Restored.all_same, Restored.gone_all, Standing.good_append}
 
 -- the place of a block doesn't hang on what stands behind its group
 next_same : (high : ℕ) (place : Place) (block next : Block) (bs more : List Block) → IsLoose (next ∷ bs)
@@ -85,37 +72,51 @@ blocks_append outcomes more = flat_map-append outcome_blocks outcomes more
 pub drawings_append : (outcomes more : List Outcome) → all_drawings (outcomes ++ more) ≡ all_drawings outcomes ++ all_drawings more
 drawings_append outcomes more = flat_map-append outcome_drawings outcomes more
 
-spots_append : (paper : Paper) (outcomes more : List Outcome) (p : Press) (spots : List Spot) → p.behind ≡ behind_after (height_of paper) None (all_blocks outcomes)
-    → spots ≡ spots_behind (height_of paper) p.behind (all_blocks more) → all_spots paper (outcomes ++ more) ≡ all_spots paper outcomes ++ spots
-spots_append paper outcomes more p spots behind at =
+pub spots_append : (plan : Plan) (paper : Paper) (outcomes more : List Outcome) (p : Press) (spots : List Spot) → p.behind ≡ behind_by plan paper outcomes → p.put ≡ length (all_blocks outcomes)
+    → spots ≡ next_spots plan (height_of paper) p (all_blocks more) → all_spots plan paper (outcomes ++ more) ≡ all_spots plan paper outcomes ++ spots
+spots_append Plan.Filled paper outcomes more p spots behind put at =
     ap (spots_of (height_of paper)) (blocks_append outcomes more)
     ∙ spots_join (height_of paper) (all_blocks outcomes) (all_blocks more) (all_loose outcomes)
-    ∙ ap (λ b. all_spots paper outcomes ++ spots_behind (height_of paper) b (all_blocks more)) (sym behind)
-    ∙ ap (λ ss. all_spots paper outcomes ++ ss) (sym at)
+    ∙ ap (λ b. spots_of (height_of paper) (all_blocks outcomes) ++ spots_behind (height_of paper) b (all_blocks more)) (sym behind)
+    ∙ ap (λ ss. spots_of (height_of paper) (all_blocks outcomes) ++ ss) (sym at)
+spots_append (Plan.At all) paper outcomes more p spots behind put at =
+    ap (λ bs. take (length bs) all) (blocks_append outcomes more)
+    ∙ ap (λ n. take n all) (length-append (all_blocks outcomes) (all_blocks more))
+    ∙ take-add (length (all_blocks outcomes)) (length (all_blocks more)) all
+    ∙ ap (λ n. take (length (all_blocks outcomes)) all ++ take (length (all_blocks more)) (drop n all)) (sym put)
+    ∙ ap (λ ss. take (length (all_blocks outcomes)) all ++ ss) (sym at)
+
+behind_append : (plan : Plan) (paper : Paper) (outcomes more : List Outcome) (p : Press) (behind : Option Standing) → p.behind ≡ behind_by plan paper outcomes
+    → behind ≡ next_behind plan (height_of paper) p (all_blocks more) → behind ≡ behind_by plan paper (outcomes ++ more)
+behind_append Plan.Filled paper outcomes more p behind before at =
+    at ∙ ap (λ b. behind_after (height_of paper) b (all_blocks more)) before
+    ∙ sym (behind_join (height_of paper) (all_blocks outcomes) (all_blocks more) (all_loose outcomes))
+    ∙ ap (behind_after (height_of paper) None) (sym (blocks_append outcomes more))
+behind_append (Plan.At all) paper outcomes more p behind before at = at
 
 -- outcomes that are pressed behind others
-pub pressed_more : (paper : Paper) (outcomes more : List Outcome) (given : List Page) (p q : Press) (spots : List Spot) → IsPressed paper outcomes given p → All (IsSetUnder paper) more
-    → spots ≡ spots_behind (height_of paper) p.behind (all_blocks more) → q.pages ≡ with_drawings (width_of paper) p.pages (all_drawings more) spots
-    → q.behind ≡ behind_after (height_of paper) p.behind (all_blocks more) → AllZip (IsDrawn (width_of paper)) (all_drawings more) spots → AreGoodBlocks (all_blocks more)
-    → IsPressed paper (outcomes ++ more) given q
-pressed_more paper outcomes more given p q spots pressed set at pages behind drawn good =
-    let joined = spots_append paper outcomes more p spots pressed.behind at in
+pub pressed_more : (plan : Plan) (paper : Paper) (outcomes more : List Outcome) (given : List Page) (p q : Press) (spots : List Spot) → IsPressed plan paper outcomes given p → All (IsSetUnder paper) more
+    → spots ≡ next_spots plan (height_of paper) p (all_blocks more) → q.pages ≡ with_drawings (width_of paper) p.pages (all_drawings more) spots
+    → q.behind ≡ next_behind plan (height_of paper) p (all_blocks more) → q.put ≡ p.put + length (all_blocks more) → AllZip (IsDrawn (width_of paper)) (all_drawings more) spots
+    → AreGoodBlocks (all_blocks more) → IsPressed plan paper (outcomes ++ more) given q
+pressed_more plan paper outcomes more given p q spots pressed set at pages behind put drawn good =
+    let joined = spots_append plan paper outcomes more p spots pressed.behind pressed.put at in
     record {
+      rises = pressed.rises;
       set = All-append (IsSetUnder paper) outcomes more pressed.set set;
       gone = ap (λ (r : Pages). r.gone) pages ∙ gone_all (width_of paper) p.pages (all_drawings more) spots ∙ pressed.gone;
       pages =
           ap (restored given) pages ∙ all_same given (width_of paper) p.pages (all_drawings more) spots pressed.gone
           ∙ ap (λ r. with_drawings (width_of paper) r (all_drawings more) spots) pressed.pages
-          ∙ sym (drawn_join (IsDrawn (width_of paper)) (width_of paper) no_pages (all_drawings outcomes) (all_drawings more) (all_spots paper outcomes) spots pressed.drawn)
-          ∙ ap (λ ds. with_drawings (width_of paper) no_pages ds (all_spots paper outcomes ++ spots)) (sym (drawings_append outcomes more))
+          ∙ sym (drawn_join (IsDrawn (width_of paper)) (width_of paper) no_pages (all_drawings outcomes) (all_drawings more) (all_spots plan paper outcomes) spots pressed.drawn)
+          ∙ ap (λ ds. with_drawings (width_of paper) no_pages ds (all_spots plan paper outcomes ++ spots)) (sym (drawings_append outcomes more))
           ∙ ap (λ ss. with_drawings (width_of paper) no_pages (all_drawings (outcomes ++ more)) ss) (sym joined);
-      behind =
-          behind ∙ ap (λ b. behind_after (height_of paper) b (all_blocks more)) pressed.behind
-          ∙ sym (behind_join (height_of paper) (all_blocks outcomes) (all_blocks more) (all_loose outcomes))
-          ∙ ap (behind_after (height_of paper) None) (sym (blocks_append outcomes more));
+      behind = behind_append plan paper outcomes more p q.behind pressed.behind behind;
+      put =
+          put ∙ ap (λ n. n + length (all_blocks more)) pressed.put ∙ sym (length-append (all_blocks outcomes) (all_blocks more)) ∙ ap length (sym (blocks_append outcomes more));
       drawn =
-          subst (λ ds. AllZip (IsDrawn (width_of paper)) ds (all_spots paper (outcomes ++ more))) (sym (drawings_append outcomes more))
+          subst (λ ds. AllZip (IsDrawn (width_of paper)) ds (all_spots plan paper (outcomes ++ more))) (sym (drawings_append outcomes more))
           (subst (AllZip (IsDrawn (width_of paper)) (all_drawings outcomes ++ all_drawings more)) (sym joined)
-          (zip_append (IsDrawn (width_of paper)) (all_drawings outcomes) (all_drawings more) (all_spots paper outcomes) spots pressed.drawn drawn));
+          (zip_append (IsDrawn (width_of paper)) (all_drawings outcomes) (all_drawings more) (all_spots plan paper outcomes) spots pressed.drawn drawn));
       good = subst AreGoodBlocks (sym (blocks_append outcomes more)) (good_append (all_blocks outcomes) (all_blocks more) pressed.good good);
     }

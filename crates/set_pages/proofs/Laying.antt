@@ -2,42 +2,34 @@
 -- its staves stand under one another.
 use Rattle.std.proofs.Common.{ℕ, ◌*◌, ◌+◌, ◌-◌, ◌/◌, ◌^◌, ◌<◌, ◌≤◌, List, [], ◌∷◌, length, arith}
 use Rattle.std.specs.Prelude.{⊤, All}
-use Rattle.abc_header.specs.declared.paper.Paper.{Paper}
-use Rattle.abc_header.specs.Papers.{IsGoodPaper, width_of}
-use Rattle.mus_score.specs.declared.score.Score.{Score}
-use Rattle.mus_score.specs.GoodScore.{IsGoodScore}
+use Rattle.abc_header.specs.{declared.paper.Paper.Paper, Papers.IsGoodPaper, Papers.width_of}
+use Rattle.mus_score.specs.{declared.score.Score.Score, GoodScore.IsGoodScore}
 use Rattle.mus_laid.specs.declared.laid.SystemMarks.{SystemMarks}
 use Rattle.lay_springs.specs.declared.margin.Placed.{Placed}
 use Rattle.lay_breaks.specs.Breaking.{RisesFrom, last_from}
-use Rattle.lay_pages.specs.declared.stacking.Heights.{Heights}
-use Rattle.lay_pages.specs.Stacking.{AreGoodStaves}
-use Rattle.lay_tune.specs.Systems.{Beside, EachSpan, IsSetSystem, IsStack, StandWithin}
-use Rattle.lay_tune.proofs.Open.{past_last}
-use Rattle.lay_shown.specs.Shown.{IsShown}
-use Rattle.lay_shown.proofs.Alike.{alike_shown}
-use Rattle.lay_shown.proofs.Laws.{call_shown}
-use Rattle.lay_apart.specs.Apart.{AreApart}
-use Rattle.lay_apart.proofs.Laws.{boxes_apart, columns_stand}
-use Rattle.set_tune.specs.declared.tune.SetTune.{SetTune}
-use Rattle.set_tune.specs.Setting.{IsLaidOut}
+use Rattle.lay_pages.specs.{declared.stacking.Heights.Heights, Stacking.AreGoodStaves}
+use Rattle.lay_tune.{specs.Systems.Beside, specs.Systems.EachSpan, specs.Systems.IsSetSystem, specs.Systems.IsStack, specs.Systems.StandWithin, proofs.Open.past_last}
+use Rattle.lay_shown.{specs.Shown.IsShown, proofs.Alike.alike_shown, proofs.Laws.call_shown}
+use Rattle.lay_apart.{specs.Apart.AreApart, proofs.Laws.boxes_apart, proofs.Laws.columns_stand}
+use Rattle.set_tune.specs.{declared.tune.SetTune.SetTune, Setting.IsLaidOut}
 use Rattle.set_pages.proofs.Stacks.{tilted_good}
 
 -- a system that is laid out
-pub record IsLaidSystem (width : ℕ) (m : SystemMarks) (p : Placed) (h : Heights) : Type 0 where
+pub record IsLaidSystem (s : Score) (width : ℕ) (m : SystemMarks) (p : Placed) (h : Heights) : Type 0 where
   pub shown : IsShown m
   pub columns : StandWithin width (length m.keys) p.at
-  pub boxes : All (λ s. AreApart width p.at s.marks) m.staves
+  pub boxes : All (λ staff. AreApart width p.at staff.marks) m.staves
   pub staves : AreGoodStaves m.staves
-  pub stack : IsStack m h
+  pub stack : IsStack s m h
 
 -- all systems of a tune
-abbrev pub AreLaid : ℕ → List SystemMarks → List Placed → List Heights → Type 0
-AreLaid width [] [] [] = ⊤
-AreLaid width (m ∷ systems) (p ∷ placed) (h ∷ heights) = IsLaidSystem width m p h × AreLaid width systems placed heights
-AreLaid width _ _ _ = ⊥
+abbrev pub AreLaid : Score → ℕ → List SystemMarks → List Placed → List Heights → Type 0
+AreLaid s width [] [] [] = ⊤
+AreLaid s width (m ∷ systems) (p ∷ placed) (h ∷ heights) = IsLaidSystem s width m p h × AreLaid s width systems placed heights
+AreLaid s width _ _ _ = ⊥
 
 system_laid : (s : Score) (width a b : ℕ) (m : SystemMarks) (p : Placed) (h : Heights) → IsGoodScore s → 1 ≤ length s.voices → width < 2 ^ 20 → a < b → b ≤ s.measures
-    → IsSetSystem s width a b m p → IsStack m h → IsLaidSystem width m p h
+    → IsSetSystem s width a b m p → IsStack s m h → IsLaidSystem s width m p h
 system_laid s width a b m p h good some narrow rises within set stack =
     let shown = call_shown s a b set.flat good some rises within set.called in record {
       shown = alike_shown set.flat m set.alike shown;
@@ -49,7 +41,7 @@ system_laid s width a b m p h good some narrow rises within set stack =
 
 systems_laid : (s : Score) (width a : ℕ) (breaks : List ℕ) (systems : List SystemMarks) (placed : List Placed) (heights : List Heights) → IsGoodScore s
     → (0 < s.measures → 1 ≤ length s.voices) → width < 2 ^ 20 → RisesFrom a breaks → last_from a breaks ≤ s.measures
-    → EachSpan (IsSetSystem s width) a breaks systems placed → Beside IsStack systems heights → AreLaid width systems placed heights
+    → EachSpan (IsSetSystem s width) a breaks systems placed → Beside (IsStack s) systems heights → AreLaid s width systems placed heights
 systems_laid s width a [] [] [] [] good some narrow rises within set stack = tt
 systems_laid s width a [] [] [] (h ∷ heights) good some narrow rises within set stack = absurd stack
 systems_laid s width a (b ∷ breaks) (m ∷ systems) (p ∷ placed) [] good some narrow rises within set stack = absurd stack
@@ -69,7 +61,7 @@ paper_narrow paper good =
     quotient_narrow ((paper.wide - (paper.left + paper.right)) * 100) paper.scale (omega arith) good.low_scale
 
 pub tune_laid : (width : ℕ) (t : SetTune) → IsGoodScore t.score → (0 < t.score.measures → 1 ≤ length t.score.voices) → width < 2 ^ 20 → IsLaidOut width t
-    → AreLaid width t.systems t.placed t.heights
+    → AreLaid t.score width t.systems t.placed t.heights
 tune_laid width t good heard narrow laid =
     let legal = laid.chosen.legal in
     let within : last_from 0 t.breaking.breaks ≤ t.score.measures = omega (arith, legal.ends) in

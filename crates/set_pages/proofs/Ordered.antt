@@ -1,23 +1,16 @@
 -- The items of each page are good and in order: a title stands only in the block that begins a tune.
 use Rattle.std.proofs.Common.{ℕ, zero, suc, ℤ, Bool, true, false, cond, List, [], ◌∷◌, ◌++◌, map, Option, Some, None}
-use Rattle.std.proofs.lemmas.List.Elements.{All-append, All-cons, All-nil}
-use Rattle.std.specs.Prelude.{◌==◌, ⊤, All, Result, Ok, Err}
-use Rattle.std.specs.List.{AllZip}
+use Rattle.std.{proofs.lemmas.List.Elements.All-append, proofs.lemmas.List.Elements.All-cons, proofs.lemmas.List.Elements.All-nil, specs.Prelude.◌==◌, specs.Prelude.⊤, specs.Prelude.All, specs.Prelude.Result, specs.Prelude.Ok, specs.Prelude.Err, specs.List.AllZip}
 use Rattle.abc_lines.specs.declared.fault.Fault.{Fault}
 use Rattle.lay_springs.specs.declared.margin.Placed.{Placed}
-use Rattle.lay_pages.specs.declared.filling.Spot.{Spot}
-use Rattle.lay_pages.specs.declared.stacking.Heights.{Heights}
-use Rattle.lay_pages.specs.declared.titles.TitleRow.{TitleRow}
+use Rattle.lay_pages.specs.{declared.filling.Spot.Spot, declared.stacking.Heights.Heights, declared.titles.TitleRow.TitleRow}
 use Rattle.mus_laid.specs.declared.laid.SystemMarks.{SystemMarks}
-use Rattle.ps_text.specs.declared.sheet.Item.{Item}
-use Rattle.ps_text.specs.declared.sheet.Item.TheVariants as items
-use Rattle.ps_text.specs.Range.{InOrder, IsAfter, IsItem, IsPage}
+use Rattle.ps_text.specs.{declared.sheet.Item.Item, Range.InOrder, Range.IsAfter, Range.IsItem, Range.IsPage}
 use Rattle.set_tune.specs.declared.tune.SetTune.{SetTune}
 use Rattle.set_book.specs.declared.outcome.Outcome.{Outcome}
 use Rattle.set_staves.specs.Marks.{system_at}
 use Rattle.set_pages.specs.Drawings.{Content, Drawing, title, system, all_drawings, content_items, drawings_from, drawn, outcome_drawings, result_drawings, row_at, system_contents, systems_of, title_contents, tune_items}
-use Rattle.set_pages.specs.Ready.{IsDrawn}
-use Rattle.set_pages.specs.Sheet.{items_on, pages_from}
+use Rattle.set_pages.specs.{Ready.IsDrawn, Sheet.items_on, Sheet.pages_from}
 
 -- each may stand behind any item
 abbrev pub BeginsFree : List Item → Type 0
@@ -44,15 +37,15 @@ free_append (i ∷ xs) ys front back = front
 ordered_append : (xs ys : List Item) → IsOrdered xs → IsOrdered ys → IsOrdered (xs ++ ys)
 ordered_append xs ys front back = record { order = order_append xs ys front.order back.order back.free; free = free_append xs ys front.free back.free }
 
-free_tune : (ordinal : ℕ) (i : Item) → IsAfter i (items.Tune ordinal)
-free_tune ordinal (items.Tune other) = tt
-free_tune ordinal (items.Title x y size words) = tt
-free_tune ordinal (items.System a b staves) = tt
+free_tune : (ordinal : ℕ) (i : Item) → IsAfter i (Item.Tune ordinal)
+free_tune ordinal (Item.Tune other) = tt
+free_tune ordinal (Item.Title x y size words) = tt
+free_tune ordinal (Item.System a b staves) = tt
 
 free_system : (width : ℕ) (top : ℤ) (m : SystemMarks) (at bases : List ℤ) (i : Item) → IsAfter i (system_at width at top m bases)
-free_system width top m at bases (items.Tune other) = tt
-free_system width top m at bases (items.Title x y size words) = tt
-free_system width top m at bases (items.System a b staves) = tt
+free_system width top m at bases (Item.Tune other) = tt
+free_system width top m at bases (Item.Title x y size words) = tt
+free_system width top m at bases (Item.System a b staves) = tt
 
 -- a block with a title begins a tune
 abbrev pub begun : Option ℕ → Content → Type 0
@@ -67,7 +60,7 @@ titles_order : (top : ℤ) (row : TitleRow) (rows : List TitleRow) → InOrder (
 titles_order top row [] = tt
 titles_order top row (next ∷ rows) = (tt, titles_order top next rows)
 
-tune_order : (ordinal : ℕ) (top : ℤ) (rows : List TitleRow) → InOrder (items.Tune ordinal ∷ map (row_at top) rows)
+tune_order : (ordinal : ℕ) (top : ℤ) (rows : List TitleRow) → InOrder (Item.Tune ordinal ∷ map (row_at top) rows)
 tune_order ordinal top [] = tt
 tune_order ordinal top (row ∷ rows) = (tt, titles_order top row rows)
 

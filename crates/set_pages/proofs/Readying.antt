@@ -1,35 +1,20 @@
 -- What is set on a paper: a placement and good heights for each system of a tune, and no group that is higher than the page.
 use Rattle.std.proofs.Common.{◌≡◌, ◌∙◌, refl, sym, subst, ℕ, suc, ◌≤◌, Bool, true, false, if◌then◌else◌, List, [], ◌∷◌, length, None, arith}
-use Rattle.std.proofs.lemmas.List.Elements.{All-cons, All-head, All-nil, All-tail, All-weaker}
-use Rattle.std.specs.Prelude.{All, Result, Ok, Err}
-use Rattle.abc_lines.specs.declared.book.TuneText.{TuneText}
-use Rattle.abc_lines.specs.declared.fault.Fault.{Fault}
-use Rattle.abc_lines.specs.declared.reading.Reading.{Reading}
-use Rattle.abc_lines.specs.Books.{begins_tune, book_of, tune_at, tunes_behind}
-use Rattle.abc_lines.specs.Lines.{readings, without_mark}
-use Rattle.abc_header.specs.declared.defaults.Defaults.{Defaults}
-use Rattle.abc_header.specs.declared.paper.Paper.{Paper}
-use Rattle.abc_header.specs.Papers.{height_of, width_of}
+use Rattle.std.{proofs.lemmas.List.Elements.All-cons, proofs.lemmas.List.Elements.All-head, proofs.lemmas.List.Elements.All-nil, proofs.lemmas.List.Elements.All-tail, proofs.lemmas.List.Elements.All-weaker, specs.Prelude.All, specs.Prelude.Result, specs.Prelude.Ok, specs.Prelude.Err}
+use Rattle.abc_lines.specs.{declared.book.TuneText.TuneText, declared.fault.Fault.Fault, declared.reading.Reading.Reading, Books.begins_tune, Books.book_of, Books.tune_at, Books.tunes_behind, Lines.readings, Lines.without_mark}
+use Rattle.abc_header.specs.{declared.defaults.Defaults.Defaults, declared.paper.Paper.Paper, Papers.height_of, Papers.width_of}
 use Rattle.lay_pages.specs.Filling.{first_tall}
-use Rattle.lay_tune.specs.Systems.{IsSetSystem, IsStack}
-use Rattle.lay_tune.proofs.Rows.{beside_count, span_count}
-use Rattle.set_tune.specs.declared.how.How.{How}
-use Rattle.set_tune.specs.declared.tune.SetTune.{SetTune}
-use Rattle.set_tune.specs.Setting.{IsLaidOut}
-use Rattle.set_tune.proofs.Laid.{good_heights}
-use Rattle.set_book.specs.declared.outcome.Outcome.{Outcome}
-use Rattle.set_book.specs.Outcomes.{AreOutcomes, IsOutcome, IsResult}
-use Rattle.set_pages.specs.Drawings.{result_blocks}
-use Rattle.set_pages.specs.Ready.{HasAllRows, IsWhole, IsWholeResult}
-use Rattle.set_pages.specs.Sheet.{IsSetResult, IsSetUnder}
-use Rattle.set_pages.proofs.Fitting.{AllFit}
+use Rattle.lay_tune.{specs.Systems.IsSetSystem, specs.Systems.IsStack, proofs.Rows.beside_count, proofs.Rows.span_count}
+use Rattle.set_tune.{specs.declared.how.How.How, specs.declared.tune.SetTune.SetTune, specs.Setting.IsLaidOut, proofs.Laid.good_heights}
+use Rattle.set_book.specs.{declared.outcome.Outcome.Outcome, Outcomes.AreOutcomes, Outcomes.IsOutcome, Outcomes.IsResult}
+use Rattle.set_pages.{specs.Drawings.result_blocks, specs.Ready.HasAllRows, specs.Ready.IsWhole, specs.Ready.IsWholeResult, specs.Sheet.IsSetResult, specs.Sheet.IsSetUnder, proofs.Fitting.AllFit}
 
 -- the systems of a tune
 pub laid_whole : (width : ℕ) (t : SetTune) → IsLaidOut width t → HasAllRows t
 laid_whole width t laid = record {
   placed = let both = span_count (IsSetSystem t.score width) 0 t.breaking.breaks t.systems t.placed laid.systems in both.1 ∙ sym both.0;
-  heights = beside_count IsStack t.systems t.heights laid.heights;
-  good = good_heights t.systems t.heights laid.heights;
+  heights = beside_count (IsStack t.score) t.systems t.heights laid.heights;
+  good = good_heights t.score t.systems t.heights laid.heights;
 }
 
 result_whole : (paper : Paper) (r : Result SetTune Fault) → IsSetResult paper r → IsWholeResult r

@@ -1,12 +1,9 @@
 -- Pages are filled alike with those that were given up before them.
 use Rattle.std.proofs.Common.{◌≡◌, refl, sym, ap, ◌∙◌, ℕ, Bool, true, false, cond, List, [], ◌∷◌, length, arith}
-use Rattle.std.proofs.lemmas.List.{append_assoc, length-append}
-use Rattle.std.specs.Prelude.{nat_lt}
+use Rattle.std.{proofs.lemmas.List.append_assoc, proofs.lemmas.List.length-append, specs.Prelude.nat_lt}
 use Rattle.lay_pages.specs.declared.filling.Spot.{Spot}
 use Rattle.ps_text.specs.declared.sheet.Page.{Page}
-use Rattle.set_pages.specs.declared.pages.Pages.{Pages}
-use Rattle.set_pages.specs.Drawings.{Drawing, drawn}
-use Rattle.set_pages.specs.Filling.{at_page, done_count, restored, turned, with_drawing, with_drawings, with_items}
+use Rattle.set_pages.specs.{declared.pages.Pages.Pages, Drawings.Drawing, Drawings.drawn, Filling.at_page, Filling.done_count, Filling.restored, Filling.turned, Filling.with_drawing, Filling.with_drawings, Filling.with_items}
 
 -- they are as many
 count_same : (given : List Page) (p : Pages) → p.gone ≡ length given → done_count (restored given p) ≡ done_count p

@@ -1,41 +1,30 @@
 -- Blocks that fill pages: their pages rise by one at most, their tops lie on the page, and there is a drawing for each.
 use Rattle.std.proofs.Common.{◌≡◌, refl, ap, ◌∙◌, inl, inr, ℕ, suc, ◌+◌, ◌^◌, ◌≤◌, ℤ, pos, ◌-ℤ◌, ◌≤ℤ◌, Bool, List, [], ◌∷◌, ◌++◌, length, Option, Some, None, arith}
-use Rattle.std.proofs.lemmas.Int.{ints}
-use Rattle.std.proofs.lemmas.List.{length-append}
-use Rattle.std.specs.Prelude.{◌⊎◌, All, Result, Ok, Err}
-use Rattle.std.specs.List.{AllZip}
-use Rattle.std.proofs.lemmas.List.Elements.{All-head, All-tail}
+use Rattle.std.{proofs.lemmas.Int.ints, proofs.lemmas.List.length-append, proofs.lemmas.List.Elements.All-head, proofs.lemmas.List.Elements.All-tail, specs.Prelude.◌⊎◌, specs.Prelude.All, specs.Prelude.Result, specs.Prelude.Ok, specs.Prelude.Err, specs.List.AllZip}
 use Rattle.abc_lines.specs.declared.fault.Fault.{Fault}
 use Rattle.mus_laid.specs.declared.laid.SystemMarks.{SystemMarks}
 use Rattle.lay_springs.specs.declared.margin.Placed.{Placed}
-use Rattle.lay_pages.specs.declared.filling.Block.{Block}
-use Rattle.lay_pages.specs.declared.filling.Spot.{Spot}
-use Rattle.lay_pages.specs.declared.stacking.Heights.{Heights}
-use Rattle.lay_pages.specs.declared.titles.TitleRow.{TitleRow}
-use Rattle.lay_pages.specs.Filling.{AreFilled, AreGoodBlocks, AreWithin, Follows, same_page, next_page, FollowOn}
-use Rattle.set_tune.specs.declared.tune.SetTune.{SetTune}
-use Rattle.set_tune.specs.Blocks.{blocks_of, is_some_list, system_blocks, title_blocks}
+use Rattle.lay_pages.specs.{declared.filling.Block.Block, declared.filling.Spot.Spot, declared.stacking.Heights.Heights, declared.titles.TitleRow.TitleRow, Even.AreStacked, Even.ComeBehind, Even.ComesBehind, Even.same_page, Even.next_page, Filling.AreGoodBlocks, Filling.AreWithin}
+use Rattle.set_tune.specs.{declared.tune.SetTune.SetTune, Blocks.blocks_of, Blocks.is_some_list, Blocks.system_blocks, Blocks.title_blocks}
 use Rattle.set_book.specs.declared.outcome.Outcome.{Outcome}
 use Rattle.set_staves.specs.Drawn.{IsTop}
 use Rattle.set_pages.specs.Drawings.{Content, Drawing, all_blocks, all_drawings, drawings_from, result_blocks, result_drawings, system_contents, systems_of, title_contents}
 use Rattle.set_pages.specs.Ready.{AreRising, AreRisingFrom, HasAllRows, IsReady, IsReadyOn, IsWhole, IsWholeResult}
 
 -- pages rise by one at most
-follows_page : (high : ℕ) (block : Block) (spot : Spot) (more : List Block) (next : Spot) → Follows high block spot more next → (next.page ≡ spot.page) ⊎ (next.page ≡ suc spot.page)
-follows_page high block spot more next (same_page page top) = inl page
-follows_page high block spot more next (next_page keep low page top) = inr page
+comes_page : (high : ℕ) (block : Block) (spot next : Spot) → ComesBehind high block spot next → (next.page ≡ spot.page) ⊎ (next.page ≡ suc spot.page)
+comes_page high block spot next (same_page page top) = inl page
+comes_page high block spot next (next_page keep page top) = inr page
 
-rising_from : (high : ℕ) (block : Block) (blocks : List Block) (spot : Spot) (spots : List Spot) → AreWithin high (block ∷ blocks) (spot ∷ spots) → FollowOn high (block ∷ blocks) (spot ∷ spots) → AreRisingFrom spot.page spots
-rising_from high block [] spot [] within follow = tt
-rising_from high block [] spot (next ∷ spots) within follow = absurd within.1
-rising_from high block (more ∷ blocks) spot [] within follow = absurd within.1
-rising_from high block (more ∷ blocks) spot (next ∷ spots) within follow =
-    (follows_page high block spot (more ∷ blocks) next follow.0, rising_from high more blocks next spots within.1 follow.1)
+rising_from : (high : ℕ) (block : Block) (blocks : List Block) (spot : Spot) (spots : List Spot) → AreWithin high (block ∷ blocks) (spot ∷ spots) → ComeBehind high (block ∷ blocks) (spot ∷ spots) → AreRisingFrom spot.page spots
+rising_from high block blocks spot [] within come = tt
+rising_from high block [] spot (next ∷ spots) within come = absurd within.1
+rising_from high block (more ∷ blocks) spot (next ∷ spots) within come = (comes_page high block spot next come.0, rising_from high more blocks next spots within.1 come.1)
 
-pub rising : (high : ℕ) (blocks : List Block) (spots : List Spot) → AreWithin high blocks spots → AreFilled high blocks spots → AreRising spots
-rising high blocks [] within filled = tt
-rising high [] (spot ∷ spots) within filled = absurd within
-rising high (block ∷ blocks) (spot ∷ spots) within filled = (filled.0.0, rising_from high block blocks spot spots within filled.1)
+pub rising : (high : ℕ) (blocks : List Block) (spots : List Spot) → AreWithin high blocks spots → AreStacked high blocks spots → AreRising spots
+rising high blocks [] within stacked = tt
+rising high [] (spot ∷ spots) within stacked = absurd within
+rising high (block ∷ blocks) (spot ∷ spots) within stacked = (stacked.0.0, rising_from high block blocks spot spots within stacked.1)
 
 -- a top lies on the page
 top_within : (high : ℕ) (height top : ℤ) → pos 0 ≤ℤ height → top ≤ℤ pos high → pos 0 ≤ℤ (top -ℤ height) → high ≤ 2 ^ 39 → IsTop top

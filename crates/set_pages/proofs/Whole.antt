@@ -1,48 +1,27 @@
 -- The whole sheet: its value, and that it may be written.
-use Rattle.std.proofs.Common.{◌≡◌, refl, sym, ap, ◌∙◌, subst, ℕ, ◌-◌, ◌*◌, ◌/◌, ◌+◌, ◌^◌, ◌<◌, ◌≤◌, List, [], ◌∷◌, ◌++◌, length, true, false, Option, Some, None, arith}
-use Rattle.std.proofs.lemmas.List.{append_assoc, length-append}
-use Rattle.std.proofs.lemmas.List.Elements.{All-nil}
-use Rattle.std.specs.Prelude.{All, is_some}
-use Rattle.std.specs.List.{AllZip}
-use Rattle.abc_header.specs.declared.paper.Paper.{Paper}
-use Rattle.abc_header.specs.Papers.{IsGoodPaper, height_of, width_of}
-use Rattle.lay_pages.specs.declared.filling.Block.{Block}
-use Rattle.lay_pages.specs.declared.filling.Place.{Place}
-use Rattle.lay_pages.specs.declared.filling.Spot.{Spot}
-use Rattle.lay_pages.specs.declared.filling.Standing.{Standing}
-use Rattle.lay_pages.specs.Filling.{AreGoodBlocks, AreWithin, behind_after, first_tall, next_place, spot_at, spots_behind, spots_from, spots_of, standing_from}
-use Rattle.lay_pages.proofs.Filled.{filled_so}
-use Rattle.lay_pages.proofs.Fitting.{ready_first, within_from}
-use Rattle.ps_text.specs.declared.sheet.Frame.{Frame}
-use Rattle.ps_text.specs.declared.sheet.Page.{Page}
-use Rattle.ps_text.specs.Range.{IsFrame, IsPage}
+use Rattle.std.proofs.Common.{◌≡◌, refl, sym, ap, ◌∙◌, subst, ℕ, ◌-◌, ◌*◌, ◌/◌, ◌+◌, ◌^◌, ◌<◌, ◌≤◌, List, [], ◌∷◌, ◌++◌, length, take, drop, Bool, true, false, Some, None, arith}
+use Rattle.std.proofs.{lemmas.List.append-nil, lemmas.List.append_assoc, lemmas.List.length-append, lemmas.List.take_all, lemmas.Option.none-some, lemmas.Bool.Decides.nat_tests, lemmas.List.Elements.All-nil}
+use Rattle.std.specs.{Prelude.All, Prelude.nat_lt, List.AllZip}
+use Rattle.abc_header.specs.{declared.paper.Paper.Paper, Papers.IsGoodPaper, Papers.height_of, Papers.width_of}
+use Rattle.lay_pages.{specs.declared.filling.Block.Block, specs.declared.filling.Spot.Spot, specs.Even.AreSpots, specs.Even.AreStacked, specs.Filling.AreGoodBlocks, specs.Filling.AreWithin, specs.Filling.first_tall, specs.Filling.spots_of, proofs.Filled.filled_so, proofs.Fitting.ready_first}
+use Rattle.lay_pages.proofs.{Fitting.within_from, Pages.filled_stacked, Pages.one_spots}
+use Rattle.ps_text.specs.{declared.sheet.Frame.Frame, declared.sheet.Page.Page, declared.sheet.Sheet.Sheet, Range.IsFrame, Range.IsPage}
 use Rattle.set_book.specs.declared.outcome.Outcome.{Outcome}
-use Rattle.set_pages.specs.declared.pages.Pages.{Pages}
-use Rattle.set_pages.specs.declared.press.Press.{Press}
-use Rattle.set_pages.specs.Drawings.{Drawing, all_blocks, all_drawings}
-use Rattle.set_pages.specs.Filling.{done_count, no_pages, restored, turned, with_drawings}
-use Rattle.set_pages.specs.Press.{AreLast, IsOpen, IsPressed, IsSheetOf, done_pages, no_press}
-use Rattle.set_pages.specs.Ready.{AreRising, IsDrawn, IsReady, IsReadyOn}
-use Rattle.set_pages.specs.Sheet.{AreStanding, IsSetUnder, ShowsDrawing, all_spots, frame_of, page_count, pages_of, points, sheet_of}
-use Rattle.set_pages.proofs.Fitting.{all_fit}
-use Rattle.set_pages.proofs.Fronts.{all_left, all_right, done_first}
-use Rattle.set_pages.proofs.Joined.{pressed_more}
-use Rattle.set_pages.proofs.Ordered.{all_begun, pages_good}
-use Rattle.set_pages.proofs.Blocking.{all_clear, all_ready}
-use Rattle.set_pages.proofs.Readying.{each_fits}
-use Rattle.set_pages.proofs.Standing.{ready_at, rising}
-use Rattle.set_pages.proofs.Turned.{all_put, closed}
-use Rattle.set_pages.proofs.Zips.{zip_length, zip_weaker}
+use Rattle.set_pages.specs.Press.{AreBlocksOn, AreLast, HasRoom, IsBookSheet, IsOpen, IsPressed, IsSheetOf, RisesBy, StandClear, behind_by, done_pages, next_behind, next_spots, no_press}
+use Rattle.set_pages.specs.{declared.plan.Plan.Plan, declared.pages.Pages.Pages, declared.press.Press.Press, Drawings.Drawing, Drawings.all_blocks, Drawings.all_drawings, Filling.done_count, Filling.no_pages, Filling.restored, Filling.turned, Filling.with_drawings, Ready.AreRising, Ready.IsDrawn}
+use Rattle.set_pages.specs.{Ready.IsReady, Ready.IsReadyOn, Sheet.AreStanding, Sheet.IsEvenPlan, Sheet.IsPlan, Sheet.IsSetUnder, Sheet.ShowsDrawing, Sheet.all_spots, Sheet.frame_of, Sheet.page_count, Sheet.pages_of, Sheet.points, Sheet.sheet_of}
+use Rattle.set_pages.proofs.{Fitting.all_fit, Fronts.all_left, Fronts.all_right, Fronts.done_first, Fronts.plan_rising, Joined.blocks_append, Joined.pressed_more, Ordered.all_begun, Ordered.pages_good, Blocking.all_clear, Blocking.all_ready, Readying.all_whole, Readying.each_fits}
+use Rattle.set_pages.proofs.{Standing.all_count, Standing.ready_at, Standing.rising, Turned.all_put, Turned.closed, Zips.zip_length, Zips.zip_weaker}
 
 -- no group of the book is too tall
 pub fits_at : (paper : Paper) (outcomes : List Outcome) (high : ℕ) (slice blocks : List Block) → high ≡ height_of paper → slice ≡ blocks → blocks ≡ all_blocks outcomes → All (IsSetUnder paper) outcomes → first_tall high slice ≡ None
 fits_at paper outcomes high slice blocks h a b set =
     ap (λ n. first_tall n slice) h ∙ ap (λ l. first_tall (height_of paper) l) (a ∙ b) ∙ all_fit (height_of paper) outcomes (each_fits paper outcomes set)
 
-quotient_small : (x s : ℕ) → x ≤ 10000000 → 40 ≤ s → x / s ≤ 2 ^ 39
+quotient_small : (x s : ℕ) → x ≤ 10000000 → 40 ≤ s → x / s ≤ 2 ^ 26
 quotient_small x s few some = grind arith
 
-height_small : (paper : Paper) → IsGoodPaper paper → height_of paper ≤ 2 ^ 39
+pub height_small : (paper : Paper) → IsGoodPaper paper → height_of paper ≤ 2 ^ 26
 height_small paper good =
     let high = good.small_high in
     quotient_small ((paper.high - (paper.top + paper.bottom)) * 100) paper.scale (omega arith) good.low_scale
@@ -51,65 +30,150 @@ height_small paper good =
 pub ready_spots : (paper : Paper) (outcomes : List Outcome) (high : ℕ) (slice blocks : List Block) (spots at : List Spot) → IsGoodPaper paper → high ≡ height_of paper → slice ≡ blocks → blocks ≡ all_blocks outcomes
     → AreGoodBlocks blocks → All (IsSetUnder paper) outcomes → AreWithin high slice spots → at ≡ spots → AllZip IsReady (all_drawings outcomes) at
 ready_spots paper outcomes high slice blocks spots at paper_good h a b good set within e =
-    let low : high ≤ 2 ^ 39 = subst (λ n. n ≤ 2 ^ 39) (sym h) (height_small paper paper_good) in
+    let small = height_small paper paper_good in
+    let low : high ≤ 2 ^ 39 = omega (arith, h, small) in
     let on = subst (λ bs. AllZip IsReadyOn (all_drawings outcomes) bs) (sym (a ∙ b)) (all_ready paper outcomes paper_good set) in
     subst (λ l. AllZip IsReady (all_drawings outcomes) l) (sym e)
     (ready_at high (all_drawings outcomes) slice spots low (subst AreGoodBlocks (sym a) good) on within)
 
 -- outcomes that are pressed behind others, by what is at hand
-pub pressed_by : (paper : Paper) (outcomes more : List Outcome) (given : List Page) (p q : Press) (width high : ℕ) (slice : List Block) (spots at : List Spot) → width ≡ width_of paper → high ≡ height_of paper → slice ≡ all_blocks more → All (IsSetUnder paper) more
-    → spots ≡ spots_behind high p.behind slice → at ≡ spots → q.pages ≡ with_drawings width p.pages (all_drawings more) at → q.behind ≡ behind_after high p.behind slice
-    → AllZip (IsDrawn width) (all_drawings more) at → AreGoodBlocks slice → IsPressed paper outcomes given p → IsPressed paper (outcomes ++ more) given q
-pressed_by paper outcomes more given p q width high slice spots at w h b set s e pages behind drawn good pressed =
-    pressed_more paper outcomes more given p q at pressed set
-    (e ∙ s ∙ ap (λ n. spots_behind n p.behind slice) h ∙ ap (λ l. spots_behind (height_of paper) p.behind l) b)
+pub pressed_by : (plan : Plan) (paper : Paper) (outcomes more : List Outcome) (given : List Page) (p q : Press) (width high n : ℕ) (slice : List Block) (spots at : List Spot) → width ≡ width_of paper → high ≡ height_of paper
+    → slice ≡ all_blocks more → All (IsSetUnder paper) more → spots ≡ next_spots plan high p slice → at ≡ spots → q.pages ≡ with_drawings width p.pages (all_drawings more) at
+    → q.behind ≡ next_behind plan high p slice → q.put ≡ p.put + n → n ≡ length (all_blocks more) → AllZip (IsDrawn width) (all_drawings more) at → AreGoodBlocks slice
+    → IsPressed plan paper outcomes given p → IsPressed plan paper (outcomes ++ more) given q
+pressed_by plan paper outcomes more given p q width high n slice spots at w h b set s e pages behind put count drawn good pressed =
+    pressed_more plan paper outcomes more given p q at pressed set
+    (e ∙ s ∙ ap (λ n. next_spots plan n p slice) h ∙ ap (λ l. next_spots plan (height_of paper) p l) b)
     (pages ∙ ap (λ n. with_drawings n p.pages (all_drawings more) at) w)
-    (behind ∙ ap (λ n. behind_after n p.behind slice) h ∙ ap (λ l. behind_after (height_of paper) p.behind l) b)
+    (behind ∙ ap (λ n. next_behind plan n p slice) h ∙ ap (λ l. next_behind plan (height_of paper) p l) b)
+    (put ∙ ap (λ k. p.put + k) count)
     (subst (λ n. AllZip (IsDrawn n) (all_drawings more) at) w drawn) (subst AreGoodBlocks b good)
 
--- each block lies on its page, and follows the one before it
-all_standing : (paper : Paper) (outcomes : List Outcome) → All (IsSetUnder paper) outcomes → AreGoodBlocks (all_blocks outcomes) → AreStanding paper outcomes
+-- where blocks are filled, each lies on its page, and follows the one before it
+all_standing : (paper : Paper) (outcomes : List Outcome) → All (IsSetUnder paper) outcomes → AreGoodBlocks (all_blocks outcomes) → AreStanding Plan.Filled paper outcomes
 all_standing paper outcomes set good =
     let none = all_fit (height_of paper) outcomes (each_fits paper outcomes set) in
+    let within = within_from (height_of paper) (record { page = 0; down = 0 }) (all_blocks outcomes) good (ready_first (height_of paper) (all_blocks outcomes) none) in
+    let filled = filled_so (height_of paper) (all_blocks outcomes) good in
     record {
-      within = within_from (height_of paper) (record { page = 0; down = 0 }) (all_blocks outcomes) good (ready_first (height_of paper) (all_blocks outcomes) none);
-      filled = filled_so (height_of paper) (all_blocks outcomes) good;
+      within = within;
+      stacked = filled_stacked (height_of paper) (all_blocks outcomes) (spots_of (height_of paper) (all_blocks outcomes)) within filled;
+      filled = filled;
     }
 
--- the pages when all is put: that of the last block is turned
-abbrev pub done_of : Option Standing → Pages → List Page
-done_of None p = p.done
-done_of (Some last) p = closed p
+-- where they are parted, too
+whole_count : (high : ℕ) (blocks : List Block) (spots : List Spot) → AreWithin high blocks spots → length spots ≡ length blocks
+whole_count high [] [] within = omega arith
+whole_count high [] (spot ∷ spots) within = absurd within
+whole_count high (block ∷ blocks) [] within = absurd within
+whole_count high (block ∷ blocks) (spot ∷ spots) within = let more = whole_count high blocks spots within.1 in omega (arith, more)
 
-some_behind : (high : ℕ) (place : Place) (block : Block) (bs : List Block) (p : Pages) → done_of (standing_from high place (block ∷ bs)) p ≡ closed p
-some_behind high place block [] p = refl
-some_behind high place block (next ∷ bs) p = some_behind high (next_place high place block (next ∷ bs)) next bs p
+planned_spots : (paper : Paper) (outcomes : List Outcome) (spots : List Spot) → IsEvenPlan paper outcomes spots → all_spots (Plan.At spots) paper outcomes ≡ spots
+planned_spots paper outcomes spots even = take_all (length (all_blocks outcomes)) spots (let count = whole_count (height_of paper) (all_blocks outcomes) spots even.within in omega (arith, count))
+
+standing_by : (even : Bool) (paper : Paper) (outcomes : List Outcome) (plan : Plan) → All (IsSetUnder paper) outcomes → AreGoodBlocks (all_blocks outcomes) → IsPlan even paper outcomes plan → AreStanding plan paper outcomes
+standing_by false paper outcomes plan set good is = subst (λ p. AreStanding p paper outcomes) (sym is) (all_standing paper outcomes set good)
+standing_by true paper outcomes Plan.Filled set good is = absurd is
+standing_by true paper outcomes (Plan.At spots) set good is = record {
+  within = subst (λ ss. AreWithin (height_of paper) (all_blocks outcomes) ss) (sym (planned_spots paper outcomes spots is)) is.within;
+  stacked = subst (λ ss. AreStacked (height_of paper) (all_blocks outcomes) ss) (sym (planned_spots paper outcomes spots is)) is.stacked;
+  filled = tt;
+}
+
+pub plan_stands : (even : Bool) (paper : Paper) (outcomes : List Outcome) (plan : Plan) → IsGoodPaper paper → All (IsSetUnder paper) outcomes → AreGoodBlocks (all_blocks outcomes) → IsPlan even paper outcomes plan
+    → StandClear plan paper outcomes
+plan_stands even paper outcomes plan good set blocks is =
+    let stand = standing_by even paper outcomes plan set blocks is in
+    record { stand = stand; clear = all_clear paper outcomes (all_spots plan paper outcomes) good set stand.within }
+
+-- a plan of a book rises, has room for all its blocks, and is the only one
+pub plan_rises : (even : Bool) (paper : Paper) (outcomes : List Outcome) (plan : Plan) → IsPlan even paper outcomes plan → RisesBy plan
+plan_rises false paper outcomes plan is = subst RisesBy (sym is) tt
+plan_rises true paper outcomes Plan.Filled is = absurd is
+plan_rises true paper outcomes (Plan.At spots) is = rising (height_of paper) (all_blocks outcomes) spots is.within is.stacked
+
+pub one_plan : (even : Bool) (paper : Paper) (outcomes : List Outcome) (plan other : Plan) → IsPlan even paper outcomes plan → IsPlan even paper outcomes other → other ≡ plan
+one_plan false paper outcomes plan other is also = also ∙ sym is
+one_plan true paper outcomes Plan.Filled other is also = absurd is
+one_plan true paper outcomes (Plan.At spots) Plan.Filled is also = absurd also
+one_plan true paper outcomes (Plan.At spots) (Plan.At others) is also = ap Plan.At (one_spots true (height_of paper) (all_blocks outcomes) others spots also.chosen is.chosen)
+
+within_back : (high : ℕ) (xs ys : List Block) (spots : List Spot) → AreWithin high (xs ++ ys) spots → AreWithin high ys (drop (length xs) spots)
+within_back high [] ys spots within = within
+within_back high (x ∷ xs) ys [] within = absurd within
+within_back high (x ∷ xs) ys (spot ∷ spots) within = within_back high xs ys spots within.1
+
+within_front : (high : ℕ) (xs ys : List Block) (spots : List Spot) → AreWithin high (xs ++ ys) spots → AreWithin high xs (take (length xs) spots)
+within_front high [] ys spots within = tt
+within_front high (x ∷ xs) ys [] within = absurd within
+within_front high (x ∷ xs) ys (spot ∷ spots) within = (within.0, within_front high xs ys spots within.1)
+
+-- of the outcomes of a book those in the middle find room behind the first
+pub room_by : (even : Bool) (paper : Paper) (first more rest : List Outcome) (plan : Plan) (p : Press) → p.put ≡ length (all_blocks first) → IsPlan even paper (first ++ (more ++ rest)) plan
+    → HasRoom plan (height_of paper) p (all_blocks more)
+room_by even paper first more rest Plan.Filled p put is = tt
+room_by false paper first more rest (Plan.At spots) p put is = absurd cc
+room_by true paper first more rest (Plan.At spots) p put is =
+    let high = height_of paper in
+    let whole = subst (λ bs. AreWithin high bs spots) (blocks_append first (more ++ rest) ∙ ap (λ bs. all_blocks first ++ bs) (blocks_append more rest)) is.within in
+    let count = whole_count high (all_blocks first ++ (all_blocks more ++ all_blocks rest)) spots whole in
+    let one = length-append (all_blocks first) (all_blocks more ++ all_blocks rest) in
+    let two = length-append (all_blocks more) (all_blocks rest) in (
+      omega (arith, put, count, one, two),
+      within_front high (all_blocks more) (all_blocks rest) (drop p.put spots)
+          (subst (λ n. AreWithin high (all_blocks more ++ all_blocks rest) (drop n spots)) (sym put) (within_back high (all_blocks first) (all_blocks more ++ all_blocks rest) spots whole)),
+    )
+
+-- the even plan of blocks of outcomes
+pub even_planned : (paper : Paper) (outcomes : List Outcome) (high : ℕ) (blocks : List Block) (spots : List Spot) → high ≡ height_of paper → blocks ≡ all_blocks outcomes → AreSpots true high blocks spots
+    → AreWithin high blocks spots → AreStacked high blocks spots → IsPlan true paper outcomes (Plan.At spots)
+even_planned paper outcomes high blocks spots h b chosen within stacked = record {
+  chosen = subst (λ n. AreSpots true n (all_blocks outcomes) spots) h (subst (λ bs. AreSpots true high bs spots) b chosen);
+  within = subst (λ n. AreWithin n (all_blocks outcomes) spots) h (subst (λ bs. AreWithin high bs spots) b within);
+  stacked = subst (λ n. AreStacked n (all_blocks outcomes) spots) h (subst (λ bs. AreStacked high bs spots) b stacked);
+}
+
+-- no group of them is too tall
+pub even_fits : (paper : Paper) (high : ℕ) (blocks : List Block) (block : ℕ) → high ≡ height_of paper → AreBlocksOn paper blocks → first_tall high blocks ≡ Some block → ⊥
+even_fits paper high blocks block h on tall =
+    absurd (none-some block (sym (fits_at paper on.outcomes high blocks (all_blocks on.outcomes) h on.value refl on.set) ∙ tall))
+
+-- the pages when all is put: where a block was, its page is turned
+abbrev pub done_of : Bool → Pages → List Page
+done_of false p = p.done
+done_of true p = closed p
 
 none_put : (width : ℕ) (ds : List Drawing) → (with_drawings width no_pages ds []).done ≡ pages_of width ds []
 none_put width [] = refl
 none_put width (d ∷ ds) = refl
 
-all_done : (width high : ℕ) (ds : List Drawing) (bs : List Block) (behind : Option Standing) (p : Pages) → AllZip (IsDrawn width) ds (spots_of high bs) → AreRising (spots_of high bs)
-    → p ≡ with_drawings width no_pages ds (spots_of high bs) → behind ≡ behind_after high None bs → done_of behind p ≡ pages_of width ds (spots_of high bs)
-all_done width high ds [] behind p drawn rise pages is = ap (λ b. done_of b p) is ∙ ap (λ q. q.done) pages ∙ none_put width ds
-all_done width high ds (block ∷ bs) behind p drawn rise pages is =
-    let first : Place = record { page = 0; down = 0 } in
-    ap (λ b. done_of b p) is ∙ some_behind high first block bs p ∙ ap closed pages
-    ∙ all_put width ds (spot_at high first) (spots_from high (next_place high first block bs) bs) (zip_length (IsDrawn width) ds (spots_of high (block ∷ bs)) drawn) rise
+abbrev are_some : List Spot → Bool
+are_some [] = false
+are_some (s ∷ ss) = true
+
+some_by : (n : ℕ) (ss : List Spot) → n ≡ length ss → nat_lt 0 n ≡ are_some ss
+some_by n [] e = grind (arith, nat_tests)
+some_by n (s ∷ ss) e = grind (arith, nat_tests)
+
+all_done : (width : ℕ) (ds : List Drawing) (ss : List Spot) (some : Bool) (p : Pages) → AllZip (IsDrawn width) ds ss → AreRising ss → p ≡ with_drawings width no_pages ds ss → some ≡ are_some ss
+    → done_of some p ≡ pages_of width ds ss
+all_done width ds [] some p drawn rise pages is = ap (λ b. done_of b p) is ∙ ap (λ (q : Pages). q.done) pages ∙ none_put width ds
+all_done width ds (s ∷ ss) some p drawn rise pages is =
+    ap (λ b. done_of b p) is ∙ ap closed pages ∙ all_put width ds s ss (zip_length (IsDrawn width) ds (s ∷ ss) drawn) rise
 
 -- with the pages that were given up before them
-done_behind : (given : List Page) (behind : Option Standing) (p : Pages) → given ++ done_of behind p ≡ done_of behind (restored given p)
-done_behind given None p = refl
-done_behind given (Some last) p = sym (append_assoc given p.done (record { items = p.items } ∷ []))
+done_behind : (given : List Page) (some : Bool) (p : Pages) → given ++ done_of some p ≡ done_of some (restored given p)
+done_behind given false p = refl
+done_behind given true p = sym (append_assoc given p.done (record { items = p.items } ∷ []))
 
-last_count : (behind : Option Standing) (p : Pages) → length (done_of behind p) ≤ length p.done + 1
-last_count None p = omega arith
-last_count (Some last) p = let both = length-append p.done (record { items = p.items } ∷ []) in omega (arith, both)
+last_count : (some : Bool) (p : Pages) → length (done_of some p) ≤ length p.done + 1
+last_count false p = omega arith
+last_count true p = let both = length-append p.done (record { items = p.items } ∷ []) in omega (arith, both)
 
-few_pages : (given : List Page) (behind : Option Standing) (p : Pages) → p.gone ≡ length given → done_count p < 2 ^ 32 - 1 → length (given ++ done_of behind p) < 2 ^ 32
-few_pages given behind p gone few =
-    let both = length-append given (done_of behind p) in
-    let last = last_count behind p in
+few_pages : (given : List Page) (some : Bool) (p : Pages) → p.gone ≡ length given → done_count p < 2 ^ 32 - 1 → length (given ++ done_of some p) < 2 ^ 32
+few_pages given some p gone few =
+    let both = length-append given (done_of some p) in
+    let last = last_count some p in
     omega (arith, both, last, gone, few)
 
 -- a frame of a good paper is good
@@ -126,72 +190,104 @@ frame_good paper good = record {
   greatest_scale = good.high_scale;
 }
 
--- the sheet of what was pressed: its pages are those that were given up and those that are left
-whole_pages : (paper : Paper) (outcomes : List Outcome) (given : List Page) (press : Press) → IsPressed paper outcomes given press
-    → pages_of (width_of paper) (all_drawings outcomes) (all_spots paper outcomes) ≡ given ++ done_of press.behind press.pages
-whole_pages paper outcomes given press pressed =
-    let stand = all_standing paper outcomes pressed.set pressed.good in
-    let rise = rising (height_of paper) (all_blocks outcomes) (all_spots paper outcomes) stand.within stand.filled in
-    sym (done_behind given press.behind press.pages
-    ∙ all_done (width_of paper) (height_of paper) (all_drawings outcomes) (all_blocks outcomes) press.behind (restored given press.pages) pressed.drawn rise pressed.pages pressed.behind)
+-- whether a block was put
+abbrev pub is_begun : Press → Bool
+is_begun press = nat_lt 0 press.put
 
-pub sheet_whole : (paper : Paper) (outcomes : List Outcome) (given : List Page) (press : Press) → IsGoodPaper paper → IsOpen press → IsPressed paper outcomes given press
-    → IsSheetOf paper outcomes (sheet_of paper outcomes)
+pub done_some : (some : Bool) (p q : Pages) → some ≡ true → q ≡ turned p → q.done ≡ done_of some p
+done_some true p q some turn = ap (λ (r : Pages). r.done) turn
+done_some false p q some turn = absurd cc
+
+pub done_none : (some : Bool) (p : Pages) → some ≡ false → p.done ≡ done_of some p
+done_none true p none = absurd cc
+done_none false p none = refl
+
+-- the sheet of what was pressed: its pages are those that were given up and those that are left
+whole_pages : (plan : Plan) (paper : Paper) (outcomes : List Outcome) (given : List Page) (press : Press) → IsPressed plan paper outcomes given press
+    → pages_of (width_of paper) (all_drawings outcomes) (all_spots plan paper outcomes) ≡ given ++ done_of (is_begun press) press.pages
+whole_pages plan paper outcomes given press pressed =
+    let ds = all_drawings outcomes in
+    let ss = all_spots plan paper outcomes in
+    let put : press.put ≡ length ss =
+    pressed.put ∙ sym (all_count outcomes (all_whole paper outcomes pressed.set)) ∙ zip_length (IsDrawn (width_of paper)) ds ss pressed.drawn in
+    sym (done_behind given (is_begun press) press.pages
+    ∙ all_done (width_of paper) ds ss (is_begun press) (restored given press.pages) pressed.drawn (plan_rising plan paper outcomes pressed.rises) pressed.pages (some_by press.put ss put))
+
+pub sheet_whole : (plan : Plan) (paper : Paper) (outcomes : List Outcome) (given : List Page) (press : Press) → IsGoodPaper paper → IsOpen press → IsPressed plan paper outcomes given press
+    → IsSheetOf plan paper outcomes (sheet_of plan paper outcomes)
 unfolding sheet_of
-sheet_whole paper outcomes given press good is_open pressed = record {
+sheet_whole plan paper outcomes given press good is_open pressed = record {
   value = refl;
   good = record {
     frame = frame_good paper good;
-    few = subst (λ l. length l < 2 ^ 32) (sym (whole_pages paper outcomes given press pressed)) (few_pages given press.behind press.pages pressed.gone is_open.few);
-    pages = pages_good (width_of paper) (all_drawings outcomes) (all_spots paper outcomes) 0 (page_count (all_spots paper outcomes)) pressed.drawn (all_begun outcomes);
+    few = subst (λ l. length l < 2 ^ 32) (sym (whole_pages plan paper outcomes given press pressed)) (few_pages given (is_begun press) press.pages pressed.gone is_open.few);
+    pages = pages_good (width_of paper) (all_drawings outcomes) (all_spots plan paper outcomes) 0 (page_count (all_spots plan paper outcomes)) pressed.drawn (all_begun outcomes);
   };
-  shows = zip_weaker (IsDrawn (width_of paper)) (ShowsDrawing (width_of paper)) (λ d spot g. g.shows) (all_drawings outcomes) (all_spots paper outcomes) pressed.drawn;
-  stand = all_standing paper outcomes pressed.set pressed.good;
-  clear = all_clear paper outcomes (all_spots paper outcomes) good pressed.set (all_standing paper outcomes pressed.set pressed.good).within;
+  shows = zip_weaker (IsDrawn (width_of paper)) (ShowsDrawing (width_of paper)) (λ d spot g. g.shows) (all_drawings outcomes) (all_spots plan paper outcomes) pressed.drawn;
 }
 
-left_whole : (paper : Paper) (outcomes : List Outcome) (given pages : List Page) (press : Press) → IsPressed paper outcomes given press → pages ≡ done_of press.behind press.pages
-    → (sheet_of paper outcomes).pages ≡ given ++ pages
+left_whole : (plan : Plan) (paper : Paper) (outcomes : List Outcome) (given pages : List Page) (press : Press) → IsPressed plan paper outcomes given press → pages ≡ done_of (is_begun press) press.pages
+    → (sheet_of plan paper outcomes).pages ≡ given ++ pages
 unfolding sheet_of
-left_whole paper outcomes given pages press pressed is = whole_pages paper outcomes given press pressed ∙ ap (λ l. given ++ l) (sym is)
+left_whole plan paper outcomes given pages press pressed is = whole_pages plan paper outcomes given press pressed ∙ ap (λ l. given ++ l) (sym is)
 
-pub are_last : (paper : Paper) (outcomes : List Outcome) (given pages : List Page) (press : Press) → IsOpen press → pages ≡ done_of press.behind press.pages → IsGoodPaper paper
-    → IsPressed paper outcomes given press → AreLast paper outcomes given pages
-are_last paper outcomes given pages press is_open is good pressed = record {
-  whole = left_whole paper outcomes given pages press pressed is;
-  sheet = sheet_whole paper outcomes given press good is_open pressed;
+pub are_last : (plan : Plan) (paper : Paper) (outcomes : List Outcome) (given pages : List Page) (press : Press) → IsOpen press → pages ≡ done_of (is_begun press) press.pages → IsGoodPaper paper
+    → IsPressed plan paper outcomes given press → AreLast plan paper outcomes given pages
+are_last plan paper outcomes given pages press is_open is good pressed = record {
+  whole = left_whole plan paper outcomes given pages press pressed is;
+  sheet = sheet_whole plan paper outcomes given press good is_open pressed;
 }
 
-pages_of_sheet : (paper : Paper) (outcomes : List Outcome) (frame : Frame) (pages : List Page) → frame ≡ frame_of paper → (sheet_of paper outcomes).pages ≡ pages
-    → record { frame = frame; pages = pages } ≡ sheet_of paper outcomes
+pages_of_sheet : (plan : Plan) (paper : Paper) (outcomes : List Outcome) (frame : Frame) (pages : List Page) → frame ≡ frame_of paper → (sheet_of plan paper outcomes).pages ≡ pages
+    → record { frame = frame; pages = pages } ≡ sheet_of plan paper outcomes
 unfolding sheet_of
-pages_of_sheet paper outcomes frame pages f p = ap (λ x. record { frame = x; pages = pages }) f ∙ ap (λ x. record { frame = frame_of paper; pages = x }) (sym p)
+pages_of_sheet plan paper outcomes frame pages f p = ap (λ x. record { frame = x; pages = pages }) f ∙ ap (λ x. record { frame = frame_of paper; pages = x }) (sym p)
 
 -- the sheet of what was pressed where no page was given up
-pub sheet_pressed : (paper : Paper) (outcomes : List Outcome) (frame : Frame) (pages : List Page) → frame ≡ frame_of paper → AreLast paper outcomes [] pages
-    → IsSheetOf paper outcomes (record { frame = frame; pages = pages })
-sheet_pressed paper outcomes frame pages f last =
-    subst (λ sheet. IsSheetOf paper outcomes sheet) (sym (pages_of_sheet paper outcomes frame pages f last.whole)) last.sheet
-
-pub done_some : (behind : Option Standing) (p q : Pages) → is_some behind ≡ true → q ≡ turned p → q.done ≡ done_of behind p
-done_some None p q some turn = absurd cc
-done_some (Some last) p q some turn = ap (λ r. r.done) turn
-
-pub done_none : (behind : Option Standing) (p : Pages) → is_some behind ≡ false → p.done ≡ done_of behind p
-done_none None p none = refl
-done_none (Some last) p none = absurd cc
+pub sheet_pressed : (plan : Plan) (paper : Paper) (outcomes : List Outcome) (frame : Frame) (pages : List Page) → frame ≡ frame_of paper → AreLast plan paper outcomes [] pages
+    → IsSheetOf plan paper outcomes (record { frame = frame; pages = pages })
+sheet_pressed plan paper outcomes frame pages f last =
+    subst (λ sheet. IsSheetOf plan paper outcomes sheet) (sym (pages_of_sheet plan paper outcomes frame pages f last.whole)) last.sheet
 
 -- the pages that are done may be written
-pub done_good : (paper : Paper) (outcomes : List Outcome) (given : List Page) (p : Press) → IsPressed paper outcomes given p → All IsPage (done_pages p)
+pub done_good : (plan : Plan) (paper : Paper) (outcomes : List Outcome) (given : List Page) (p : Press) → IsPressed plan paper outcomes given p → All IsPage (done_pages p)
 unfolding sheet_of
-done_good paper outcomes given p pressed =
-    let front = done_first paper outcomes given p pressed in
-    let all = pages_good (width_of paper) (all_drawings outcomes) (all_spots paper outcomes) 0 (page_count (all_spots paper outcomes)) pressed.drawn (all_begun outcomes) in
+done_good plan paper outcomes given p pressed =
+    let front = done_first plan paper outcomes given p pressed in
+    let ss = all_spots plan paper outcomes in
+    let all = pages_good (width_of paper) (all_drawings outcomes) ss 0 (page_count ss) pressed.drawn (all_begun outcomes) in
     all_right IsPage given p.pages.done (all_left IsPage (given ++ p.pages.done) front.rest (subst (λ l. All IsPage l) front.whole all))
 
--- nothing was pressed yet, whatever the paper
-pub none_pressed : (paper : Paper) → IsPressed paper [] [] no_press
-none_pressed paper = record { set = All-nil (IsSetUnder paper); gone = refl; pages = refl; behind = refl; drawn = tt; good = tt }
+-- nothing was pressed yet, whatever the plan and the paper
+none_spots : (plan : Plan) (paper : Paper) → all_spots plan paper [] ≡ []
+none_spots Plan.Filled paper = refl
+none_spots (Plan.At spots) paper = refl
+
+none_behind : (plan : Plan) (paper : Paper) → None ≡ behind_by plan paper []
+none_behind Plan.Filled paper = refl
+none_behind (Plan.At spots) paper = refl
+
+pub none_pressed : (plan : Plan) (paper : Paper) → RisesBy plan → IsPressed plan paper [] [] no_press
+none_pressed plan paper rises = record {
+  rises = rises;
+  set = All-nil (IsSetUnder paper);
+  gone = refl;
+  pages = refl;
+  behind = none_behind plan paper;
+  put = refl;
+  drawn = subst (AllZip (IsDrawn (width_of paper)) []) (sym (none_spots plan paper)) tt;
+  good = tt;
+}
 
 pub none_open : IsOpen no_press
 none_open = record { behind = tt; few = omega arith }
+
+-- the sheet of a book, whose outcomes are pressed at once
+pub room_alone : (even : Bool) (paper : Paper) (outcomes : List Outcome) (plan : Plan) (p : Press) → p ≡ no_press → IsPlan even paper outcomes plan → HasRoom plan (height_of paper) p (all_blocks outcomes)
+room_alone even paper outcomes plan p is planned =
+    room_by even paper [] outcomes [] plan p (ap (λ (q : Press). q.put) is) (subst (λ os. IsPlan even paper os plan) (sym (append-nil outcomes)) planned)
+
+pub book_sheet : (even : Bool) (paper : Paper) (outcomes : List Outcome) (plan : Plan) (sheet : Sheet) (p : Press) → IsGoodPaper paper → IsPlan even paper outcomes plan → IsPressed plan paper outcomes [] p
+    → IsSheetOf plan paper outcomes sheet → IsBookSheet even paper outcomes sheet
+book_sheet even paper outcomes plan sheet p good planned pressed is =
+    record { plan = plan; planned = planned; made = is; stand = plan_stands even paper outcomes plan good pressed.set pressed.good planned }

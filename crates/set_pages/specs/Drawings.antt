@@ -3,13 +3,9 @@ use Rattle.std.specs.Prelude.{⊤, ℕ, ℤ, ◌-ℤ◌, List, [], ◌∷◌, �
 use Rattle.abc_lines.specs.declared.fault.Fault.{Fault}
 use Rattle.mus_laid.specs.declared.laid.SystemMarks.{SystemMarks}
 use Rattle.lay_springs.specs.declared.margin.Placed.{Placed}
-use Rattle.lay_pages.specs.declared.filling.Block.{Block}
-use Rattle.lay_pages.specs.declared.stacking.Heights.{Heights}
-use Rattle.lay_pages.specs.declared.titles.TitleRow.{TitleRow}
+use Rattle.lay_pages.specs.{declared.filling.Block.Block, declared.stacking.Heights.Heights, declared.titles.TitleRow.TitleRow}
 use Rattle.ps_text.specs.declared.sheet.Item.{Item}
-use Rattle.ps_text.specs.declared.sheet.Item.TheVariants as items
-use Rattle.set_tune.specs.declared.tune.SetTune.{SetTune}
-use Rattle.set_tune.specs.Blocks.{blocks_of}
+use Rattle.set_tune.specs.{declared.tune.SetTune.SetTune, Blocks.blocks_of}
 use Rattle.set_book.specs.declared.outcome.Outcome.{Outcome}
 use Rattle.set_staves.specs.Marks.{ShowsCall, staves_at, system_at}
 
@@ -28,7 +24,7 @@ drawing begins content = record { begins = begins; content = content }
 
 -- a row begins at its x, and its base line lies so far below the top of its block
 abbrev pub row_at : ℤ → TitleRow → Item
-row_at top row = items.Title row.x (top -ℤ row.down) row.size row.text
+row_at top row = Item.Title row.x (top -ℤ row.down) row.size row.text
 
 -- the items of a block whose top is at a height
 abbrev pub content_items : ℕ → ℤ → Content → List Item
@@ -37,7 +33,7 @@ content_items width top (system m at bases) = system_at width at top m bases ∷
 
 abbrev pub tune_items : Option ℕ → List Item
 tune_items None = []
-tune_items (Some ordinal) = items.Tune ordinal ∷ []
+tune_items (Some ordinal) = Item.Tune ordinal ∷ []
 
 abbrev pub drawn : ℕ → ℤ → Drawing → List Item
 drawn width top d = tune_items d.begins ++ content_items width top d.content

@@ -1,23 +1,14 @@
--- The sheet of a book, from the outcomes of its tunes: the blocks of all tunes without fault are filled into pages, and each
--- page has what its blocks draw.
-use Rattle.std.specs.Prelude.{⊤, ℕ, zero, suc, ◌+◌, ◌/◌, ◌≤◌, ◌==◌, if◌then◌else◌, List, [], ◌∷◌, ◌++◌, Result, Ok, Err, Bool}
+-- The sheet of a book, from the outcomes of its tunes: the blocks of all tunes without fault stand on pages, filled or where a
+-- plan says, and each page has what its blocks draw.
+use Rattle.std.specs.Prelude.{⊤, ℕ, zero, suc, ◌+◌, ◌/◌, ◌≤◌, ◌==◌, if◌then◌else◌, List, [], ◌∷◌, ◌++◌, Result, Ok, Err, Bool, true, false, ◌≡◌, take, length}
 use Rattle.std.specs.List.{AllZip}
-use Rattle.abc_lines.specs.declared.book.TuneText.{TuneText}
-use Rattle.abc_lines.specs.declared.fault.Fault.{Fault}
-use Rattle.abc_header.specs.declared.defaults.Defaults.{Defaults}
-use Rattle.abc_header.specs.declared.paper.Paper.{Paper}
-use Rattle.abc_header.specs.Papers.{height_of, width_of}
-use Rattle.lay_pages.specs.declared.filling.Spot.{Spot}
-use Rattle.lay_pages.specs.Filling.{AreFilled, AreWithin, spots_of}
-use Rattle.ps_text.specs.declared.sheet.Frame.{Frame}
-use Rattle.ps_text.specs.declared.sheet.Item.{Item}
-use Rattle.ps_text.specs.declared.sheet.Page.{Page}
-use Rattle.ps_text.specs.declared.sheet.Sheet.{Sheet}
-use Rattle.set_tune.specs.declared.how.How.{How}
-use Rattle.set_tune.specs.declared.tune.SetTune.{SetTune}
-use Rattle.set_tune.specs.Setting.{IsSetTune}
+use Rattle.abc_lines.specs.{declared.book.TuneText.TuneText, declared.fault.Fault.Fault}
+use Rattle.abc_header.specs.{declared.defaults.Defaults.Defaults, declared.paper.Paper.Paper, Papers.height_of, Papers.width_of}
+use Rattle.lay_pages.specs.{declared.filling.Spot.Spot, Even.AreSpots, Even.AreStacked, Filling.AreFilled, Filling.AreWithin, Filling.spots_of}
+use Rattle.set_pages.specs.{declared.plan.Plan.Plan, Drawings.Drawing, Drawings.ShowsContent, Drawings.all_blocks, Drawings.all_drawings, Drawings.drawn}
+use Rattle.ps_text.specs.{declared.sheet.Frame.Frame, declared.sheet.Item.Item, declared.sheet.Page.Page, declared.sheet.Sheet.Sheet}
+use Rattle.set_tune.specs.{declared.how.How.How, declared.tune.SetTune.SetTune, Setting.IsSetTune}
 use Rattle.set_book.specs.declared.outcome.Outcome.{Outcome}
-use Rattle.set_pages.specs.Drawings.{Drawing, ShowsContent, all_blocks, all_drawings, drawn}
 
 -- whole points, rounded up
 abbrev pub points : ℕ → ℕ
@@ -45,24 +36,42 @@ page_count (s ∷ next ∷ spots) = page_count (next ∷ spots)
 abbrev pub pages_of : ℕ → List Drawing → List Spot → List Page
 pages_of width drawings spots = pages_from width drawings spots 0 (page_count spots)
 
--- where all blocks stand
-abbrev pub all_spots : Paper → List Outcome → List Spot
-all_spots paper outcomes = spots_of (height_of paper) (all_blocks outcomes)
+-- where all blocks stand: filled one under another, or where the plan says
+abbrev pub all_spots : Plan → Paper → List Outcome → List Spot
+all_spots Plan.Filled paper outcomes = spots_of (height_of paper) (all_blocks outcomes)
+all_spots (Plan.At spots) paper outcomes = take (length (all_blocks outcomes)) spots
 
-unfoldable pub sheet_of : Paper → List Outcome → Sheet
-sheet_of paper outcomes = record { frame = frame_of paper; pages = pages_of (width_of paper) (all_drawings outcomes) (all_spots paper outcomes) }
+unfoldable pub sheet_of : Plan → Paper → List Outcome → Sheet
+sheet_of plan paper outcomes = record { frame = frame_of paper; pages = pages_of (width_of paper) (all_drawings outcomes) (all_spots plan paper outcomes) }
 
 -- each system shows the marks that its score calls for
 abbrev pub ShowsDrawing : ℕ → Drawing → Spot → Type 0
 ShowsDrawing width d s = ShowsContent width s.top d.content
 
-abbrev pub AllShown : Paper → List Outcome → Type 0
-AllShown paper outcomes = AllZip (ShowsDrawing (width_of paper)) (all_drawings outcomes) (all_spots paper outcomes)
+abbrev pub AllShown : Plan → Paper → List Outcome → Type 0
+AllShown plan paper outcomes = AllZip (ShowsDrawing (width_of paper)) (all_drawings outcomes) (all_spots plan paper outcomes)
 
--- each block lies on its page, and follows the one before it as near as it can
-pub record AreStanding (paper : Paper) (outcomes : List Outcome) : Type 0 where
-  pub within : AreWithin (height_of paper) (all_blocks outcomes) (all_spots paper outcomes)
-  pub filled : AreFilled (height_of paper) (all_blocks outcomes) (all_spots paper outcomes)
+-- where blocks are filled, each follows the one before it as near as it can
+abbrev pub AreFilledBy : Plan → Paper → List Outcome → Type 0
+AreFilledBy Plan.Filled paper outcomes = AreFilled (height_of paper) (all_blocks outcomes) (all_spots Plan.Filled paper outcomes)
+AreFilledBy (Plan.At spots) paper outcomes = ⊤
+
+-- each block lies on its page, 1500 under the one before it or at the top of the next page
+pub record AreStanding (plan : Plan) (paper : Paper) (outcomes : List Outcome) : Type 0 where
+  pub within : AreWithin (height_of paper) (all_blocks outcomes) (all_spots plan paper outcomes)
+  pub stacked : AreStacked (height_of paper) (all_blocks outcomes) (all_spots plan paper outcomes)
+  pub filled : AreFilledBy plan paper outcomes
+
+-- The plan of a book: its blocks are filled; or evenly parted, so that no other parting of their groups into pages that fit costs less.
+pub record IsEvenPlan (paper : Paper) (outcomes : List Outcome) (spots : List Spot) : Type 0 where
+  pub chosen : AreSpots true (height_of paper) (all_blocks outcomes) spots
+  pub within : AreWithin (height_of paper) (all_blocks outcomes) spots
+  pub stacked : AreStacked (height_of paper) (all_blocks outcomes) spots
+
+abbrev pub IsPlan : Bool → Paper → List Outcome → Plan → Type 0
+IsPlan false paper outcomes plan = plan ≡ Plan.Filled
+IsPlan true paper outcomes Plan.Filled = ⊥
+IsPlan true paper outcomes (Plan.At spots) = IsEvenPlan paper outcomes spots
 
 -- a tune is set on the paper, or has a fault
 abbrev pub IsSetResult : Paper → Result SetTune Fault → Type 0

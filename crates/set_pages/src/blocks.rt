@@ -1,7 +1,6 @@
 ghost use Rattle.std.specs.Prelude.{◌≡◌, ◌++◌, All, IfOk, OnOk};
 ghost use Rattle.lay_pages.specs.Filling.{AreGoodBlocks};
-ghost use Rattle.set_pages.specs.Drawings.{all_blocks, outcome_blocks};
-ghost use Rattle.set_pages.specs.Ready.{IsWhole};
+ghost use Rattle.set_pages.specs.{Drawings.all_blocks, Drawings.outcome_blocks, Ready.IsWhole};
 
 use lay_pages::Block;
 use mus_units::{Memory, Row};
@@ -32,6 +31,22 @@ fn put_blocks(alloc: Global, outcome: &Outcome, blocks: &mut Row<Block>) -> Resu
     }
 }
 
+/// Puts the blocks of the tunes without fault, in order, behind others.
+pub fn gather_blocks(
+    alloc: Global,
+    outcomes: &[Outcome],
+    blocks: &mut Row<Block>,
+) -> Result<(), Memory>
+    requires { All IsWhole outcomes.now }
+    ensures value { OnOk result (blocks.new ≡ blocks.old ++ all_blocks outcomes.now) }
+    ensures good { OnOk result (AreGoodBlocks blocks.old → AreGoodBlocks blocks.new) }
+{
+    for outcome in outcomes {
+        put_blocks(alloc, outcome, blocks)?;
+    }
+    Ok(())
+}
+
 /// The blocks of the tunes without fault, in order.
 pub(crate) fn all_blocks(alloc: Global, outcomes: &[Outcome]) -> Result<Row<Block>, Memory>
     requires { All IsWhole outcomes.now }
@@ -39,8 +54,6 @@ pub(crate) fn all_blocks(alloc: Global, outcomes: &[Outcome]) -> Result<Row<Bloc
     ensures good { IfOk result AreGoodBlocks }
 {
     let mut blocks = Row::new(alloc);
-    for outcome in outcomes {
-        put_blocks(alloc, outcome, &mut blocks)?;
-    }
+    gather_blocks(alloc, outcomes, &mut blocks)?;
     Ok(blocks)
 }

@@ -1,16 +1,10 @@
 -- What stands on a page has numbers of a page, and bytes that can be printed may be shown there.
 use Rattle.std.proofs.Common.{◌≡◌, ℕ, suc, ◌<◌, ℤ, pos, List, [], ◌∷◌, length, get_or, refl, sym, subst, arith}
-use Rattle.std.specs.List.{All, list_all}
-use Rattle.std.specs.Prelude.{IsTrue}
-use Rattle.std.proofs.lemmas.Bool.{and_from, and_parts}
-use Rattle.std.proofs.lemmas.Bool.Decides.{nat_tests}
-use Rattle.std.proofs.lemmas.Int.{ints}
+use Rattle.std.{proofs.lemmas.Bool.and_from, proofs.lemmas.Bool.and_parts, proofs.lemmas.Bool.Decides.nat_tests, proofs.lemmas.Int.ints, specs.List.All, specs.List.list_all, specs.Prelude.IsTrue}
 use Rattle.mus_laid.specs.Printed.{is_printable}
 use Rattle.ps_text.specs.Range.{IsEnd, IsNumber, IsOffset, IsSpan, IsStretch, IsWords, is_shown}
 use Rattle.lay_shown.specs.Texts.{IsPrinted}
-use Rattle.set_staves.specs.Drawn.{IsOnPage}
-use Rattle.set_staves.specs.Marks.{RisesAlong, x_at}
-use Rattle.set_staves.proofs.Rising.{rises}
+use Rattle.set_staves.{specs.Drawn.IsOnPage, specs.Marks.RisesAlong, specs.Marks.x_at, proofs.Rising.rises}
 
 number : (z : ℤ) → IsOnPage z → IsNumber z
 number z h = record { low = omega (arith, ints, h.low, h.high); high = omega (arith, ints, h.low, h.high) }

@@ -1,26 +1,19 @@
 -- The ranks read off a system are those that its marks call for.
 use Rattle.std.proofs.Common.{◌≡◌, ℕ, ◌<◌, List, [], ◌∷◌, ◌++◌, length, map, ℤ, pos, ◌+ℤ◌, Some, refl, sym, ap, ap₂, ◌∙◌, arith, flat_map}
-use Rattle.std.specs.List.{All, AllByRecursion, cons_option}
-use Rattle.std.proofs.lemmas.List.{map-append}
-use Rattle.std.proofs.lemmas.List.Elements.{All-head, All-tail, recursion_from_All}
-use Rattle.mus_laid.specs.declared.laid.Mark.{Mark}
-use Rattle.mus_laid.specs.declared.laid.Mark.TheVariants as marks
-use Rattle.mus_laid.specs.declared.laid.Laid.{Laid}
-use Rattle.mus_laid.specs.declared.laid.StaffMarks.{StaffMarks}
-use Rattle.ps_text.specs.Ranks.{anchor_of, anchors, rank_of, ranked, all_ranked, ranks}
-use Rattle.ps_text.specs.declared.sheet.Staff.{Staff}
-use Rattle.lay_shown.specs.Ranks.{AreAnchored, AreRanked, IsRanked, anchor_rank, marks_ranks, staves_ranks}
-use Rattle.set_staves.specs.Marks.{x_at, page_mark, called_mark, called_marks, staff_at, staves_at, RisesAlong, ShowsIn, ShowsCall}
-use Rattle.set_staves.proofs.Rising.{ranked_at}
+use Rattle.std.{proofs.lemmas.List.map-append, proofs.lemmas.List.Elements.All-head, proofs.lemmas.List.Elements.All-tail, proofs.lemmas.List.Elements.recursion_from_All, specs.List.All, specs.List.AllByRecursion, specs.List.cons_option}
+use Rattle.mus_laid.specs.{declared.laid.Mark.Mark, declared.laid.Laid.Laid, declared.laid.StaffMarks.StaffMarks, Ranked.anchor_rank}
+use Rattle.ps_text.specs.{Ranks.anchor_of, Ranks.anchors, Ranks.rank_of, Ranks.ranked, Ranks.all_ranked, Ranks.ranks, declared.sheet.Staff.Staff}
+use Rattle.lay_shown.specs.Ranks.{AreAnchored, AreRanked, IsRanked, marks_ranks, staves_ranks}
+use Rattle.set_staves.{specs.Marks.x_at, specs.Marks.page_mark, specs.Marks.called_mark, specs.Marks.called_marks, specs.Marks.staff_at, specs.Marks.staves_at, specs.Marks.RisesAlong, specs.Marks.ShowsIn, specs.Marks.ShowsCall, proofs.Rising.ranked_at}
 
 -- ---- the anchors of a system are the abscissas of its anchors' ranks
 mark_anchors : (at : List ℤ) (mark : Mark) (xs : List ℤ) (rs : List ℕ) → xs ≡ map (x_at at) rs
     → anchor_of (page_mark at mark) ++ xs ≡ map (x_at at) (cons_option (anchor_rank mark) rs)
-mark_anchors at (marks.Glyph glyph rank dx dy) xs rs e = ap (λ t. x_at at rank ∷ t) e
-mark_anchors at (marks.Words size rank dx dy text) xs rs e = ap (λ t. x_at at rank ∷ t) e
-mark_anchors at (marks.Stem rank dx from to) xs rs e = ap (λ t. x_at at rank ∷ t) e
-mark_anchors at (marks.Beam way first last from to) xs rs e = e
-mark_anchors at (marks.Arc first last from to bulge) xs rs e = e
+mark_anchors at (Mark.Glyph glyph rank dx dy) xs rs e = ap (λ t. x_at at rank ∷ t) e
+mark_anchors at (Mark.Words size rank dx dy text) xs rs e = ap (λ t. x_at at rank ∷ t) e
+mark_anchors at (Mark.Stem rank dx from to) xs rs e = ap (λ t. x_at at rank ∷ t) e
+mark_anchors at (Mark.Beam way first last from to) xs rs e = e
+mark_anchors at (Mark.Arc first last from to bulge) xs rs e = e
 
 marks_anchors : (at : List ℤ) (all : List Laid) → flat_map anchor_of (map (λ laid. page_mark at laid.mark) all) ≡ map (x_at at) (marks_ranks all)
 marks_anchors at [] = refl
@@ -48,11 +41,11 @@ below_both n [] more h k = k
 below_both n (r ∷ rs) more (here, rest) k = (here, below_both n rs more rest k)
 
 mark_below : (n : ℕ) (mark : Mark) (rs : List ℕ) → IsRanked n mark → AreBelow n rs → AreBelow n (cons_option (anchor_rank mark) rs)
-mark_below n (marks.Glyph glyph rank dx dy) rs h k = (h, k)
-mark_below n (marks.Words size rank dx dy text) rs h k = (h, k)
-mark_below n (marks.Stem rank dx from to) rs h k = (h, k)
-mark_below n (marks.Beam way first last from to) rs h k = k
-mark_below n (marks.Arc first last from to bulge) rs h k = k
+mark_below n (Mark.Glyph glyph rank dx dy) rs h k = (h, k)
+mark_below n (Mark.Words size rank dx dy text) rs h k = (h, k)
+mark_below n (Mark.Stem rank dx from to) rs h k = (h, k)
+mark_below n (Mark.Beam way first last from to) rs h k = k
+mark_below n (Mark.Arc first last from to bulge) rs h k = k
 
 -- marks, and staves of them, of which each has its ranks below a number
 abbrev Ranked : ℕ → List Laid → Type 0
@@ -74,11 +67,11 @@ abbrev IsRead : List ℤ → List ℤ → Type 0
 IsRead at all = (i : ℕ) → i < length at → rank_of all (x_at at i) ≡ Some (pos i)
 
 mark_read : (at all : List ℤ) → IsRead at all → (mark : Mark) → IsRanked (length at) mark → ranked all (page_mark at mark) ≡ Some (called_mark mark)
-mark_read at all read (marks.Glyph glyph rank dx dy) h = rw (read rank h) refl
-mark_read at all read (marks.Words size rank dx dy text) h = rw (read rank h) refl
-mark_read at all read (marks.Stem rank dx from to) h = rw (read rank h) refl
-mark_read at all read (marks.Beam way first last from to) h = rw (read first (omega (arith, h.0, h.1)), read last h.1) refl
-mark_read at all read (marks.Arc first last from to bulge) h = rw (read first (omega (arith, h.0, h.1)), read last h.1) refl
+mark_read at all read (Mark.Glyph glyph rank dx dy) h = rw (read rank h) refl
+mark_read at all read (Mark.Words size rank dx dy text) h = rw (read rank h) refl
+mark_read at all read (Mark.Stem rank dx from to) h = rw (read rank h) refl
+mark_read at all read (Mark.Beam way first last from to) h = rw (read first (omega (arith, h.0, h.1)), read last h.1) refl
+mark_read at all read (Mark.Arc first last from to bulge) h = rw (read first (omega (arith, h.0, h.1)), read last h.1) refl
 
 marks_read : (at all : List ℤ) → IsRead at all → (ms : List Laid) → Ranked (length at) ms
     → all_ranked all (map (λ laid. page_mark at laid.mark) ms) ≡ Some (map (λ laid. called_mark laid.mark) ms)

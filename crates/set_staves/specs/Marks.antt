@@ -1,16 +1,8 @@
 -- The marks that a system calls for, as they stand on a page: each rank is replaced by where the column
 -- of that rank stands. They are shown where the ranks read off the page are those that were called for.
 use Rattle.std.specs.Prelude.{◌≡◌, ℕ, ◌+◌, ◌<◌, ℤ, pos, ◌+ℤ◌, ◌<ℤ◌, ⊤, List, [], ◌∷◌, length, map, Some, slice_index_or}
-use Rattle.mus_laid.specs.declared.laid.Mark.{Mark}
-use Rattle.mus_laid.specs.declared.laid.Mark.TheVariants as marks
-use Rattle.mus_laid.specs.declared.laid.StaffMarks.{StaffMarks}
-use Rattle.mus_laid.specs.declared.laid.SystemMarks.{SystemMarks}
-use Rattle.ps_text.specs.Ranks.{ranks}
-use Rattle.ps_text.specs.declared.marks.PageMark.{PageMark}
-use Rattle.ps_text.specs.declared.marks.PageMark.TheVariants as page
-use Rattle.ps_text.specs.declared.sheet.Staff.{Staff}
-use Rattle.ps_text.specs.declared.sheet.Item.{Item}
-use Rattle.ps_text.specs.declared.sheet.Item.TheVariants as items
+use Rattle.mus_laid.specs.{declared.laid.Mark.Mark, declared.laid.StaffMarks.StaffMarks, declared.laid.SystemMarks.SystemMarks}
+use Rattle.ps_text.specs.{Ranks.ranks, declared.marks.PageMark.PageMark, declared.sheet.Staff.Staff, declared.sheet.Item.Item}
 
 -- where the column of a rank stands; 0 where there is no such column
 abbrev pub x_at : List ℤ → ℕ → ℤ
@@ -18,11 +10,11 @@ x_at at rank = slice_index_or at rank (pos 0)
 
 -- a mark with an abscissa for each of its ranks
 abbrev pub mark_at : (ℕ → ℤ) → Mark → PageMark
-mark_at x (marks.Glyph glyph rank dx dy) = page.Glyph glyph (x rank) dx dy
-mark_at x (marks.Words size rank dx dy text) = page.Words size (x rank) dx dy text
-mark_at x (marks.Stem rank dx from to) = page.Stem (x rank) dx from to
-mark_at x (marks.Beam way first last from to) = page.Beam way (x first) (x last) from to
-mark_at x (marks.Arc first last from to bulge) = page.Arc (x first) (x last) from to bulge
+mark_at x (Mark.Glyph glyph rank dx dy) = PageMark.Glyph glyph (x rank) dx dy
+mark_at x (Mark.Words size rank dx dy text) = PageMark.Words size (x rank) dx dy text
+mark_at x (Mark.Stem rank dx from to) = PageMark.Stem (x rank) dx from to
+mark_at x (Mark.Beam way first last from to) = PageMark.Beam way (x first) (x last) from to
+mark_at x (Mark.Arc first last from to bulge) = PageMark.Arc (x first) (x last) from to bulge
 
 -- a mark where its columns stand
 abbrev pub page_mark : List ℤ → Mark → PageMark
@@ -46,7 +38,7 @@ staves_at width at top (s ∷ more) [] = []
 staves_at width at top (s ∷ more) (b ∷ bases) = staff_at width at (top +ℤ b) s ∷ staves_at width at top more bases
 
 abbrev pub system_at : ℕ → List ℤ → ℤ → SystemMarks → List ℤ → Item
-system_at width at top m bases = items.System m.a m.b (staves_at width at top m.staves bases)
+system_at width at top m bases = Item.System m.a m.b (staves_at width at top m.staves bases)
 
 -- each column stands to the right of the one before it
 abbrev pub RisesAlong : List ℤ → Type 0
@@ -65,5 +57,5 @@ ShowsCall staves called = ShowsIn staves staves called
 
 -- the staves of a system; other items have none
 abbrev pub staves_of : Item → List Staff
-staves_of (items.System a b staves) = staves
+staves_of (Item.System a b staves) = staves
 staves_of _ = []

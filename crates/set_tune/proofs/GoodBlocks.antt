@@ -1,11 +1,7 @@
 -- The blocks of a tune have good heights.
 use Rattle.std.proofs.Common.{ℕ, ◌≤◌, ◌^◌, pos, ◌≤ℤ◌, Bool, List, [], ◌∷◌, ◌++◌, arith}
-use Rattle.std.proofs.lemmas.Int.{ints}
-use Rattle.std.specs.List.{All}
-use Rattle.std.proofs.lemmas.List.Elements.{All-head, All-tail}
-use Rattle.lay_pages.specs.declared.stacking.Heights.{Heights}
-use Rattle.lay_pages.specs.declared.titles.TitleRow.{TitleRow}
-use Rattle.lay_pages.specs.Filling.{AreGoodBlocks}
+use Rattle.std.{proofs.lemmas.Int.ints, proofs.lemmas.List.Elements.All-head, proofs.lemmas.List.Elements.All-tail, specs.List.All}
+use Rattle.lay_pages.specs.{declared.stacking.Heights.Heights, declared.titles.TitleRow.TitleRow, Filling.AreGoodBlocks}
 use Rattle.set_tune.specs.Blocks.{HasGoodHeight, block_height, system_blocks, title_blocks}
 
 good_systems : (heights : List Heights) → All HasGoodHeight heights → AreGoodBlocks (system_blocks heights)

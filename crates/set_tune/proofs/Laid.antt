@@ -1,40 +1,20 @@
 -- What the setting of a tune rests on: a score with measures has a voice, a tune has few titles, and few blocks of good heights.
 use Rattle.std.proofs.Common.{◌≡◌, ℕ, ℤ, pos, negsuc, zero, suc, ◌+◌, ◌<◌, ◌≤◌, ◌^◌, Bool, List, [], ◌∷◌, ◌++◌, length, map, take, Option, Some, None, Result, Ok, Err, sym, subst, refl, arith}
-use Rattle.std.specs.List.{cons_option}
-use Rattle.std.specs.List.{All, filter_map}
-use Rattle.std.proofs.lemmas.List.{length-append, length-map}
-use Rattle.std.proofs.lemmas.List.Sums.{sum_by-cons}
-use Rattle.std.proofs.lemmas.Option.{same_Some}
-use Rattle.std.proofs.lemmas.List.Elements.{All-cons, All-nil}
-use Rattle.abc_lines.specs.declared.book.Line.{Line}
-use Rattle.abc_lines.specs.declared.book.TuneText.{TuneText}
-use Rattle.abc_lines.specs.declared.fault.FaultKind.{FaultKind}
-use Rattle.abc_lines.specs.Good.{IsGoodTune, size_of}
-use Rattle.abc_fields.specs.declared.field.Field.{Field}
-use Rattle.abc_fields.specs.declared.field.Field.TheVariants as fields
-use Rattle.abc_fields.specs.Fields.{field_of}
-use Rattle.abc_header.specs.declared.defaults.Defaults.{Defaults}
-use Rattle.abc_header.specs.declared.header.Header.{Header}
-use Rattle.abc_header.specs.Headers.{IsHeaderBy, IsHeaderOf, composer_in, fields_of, key_place, put_field, title_in}
+use Rattle.std.{proofs.lemmas.List.length-append, proofs.lemmas.List.length-map, proofs.lemmas.List.Sums.sum_by-cons, proofs.lemmas.Option.same_Some, proofs.lemmas.List.Elements.All-cons, proofs.lemmas.List.Elements.All-nil, specs.List.cons_option, specs.List.All, specs.List.filter_map}
+use Rattle.abc_lines.specs.{declared.book.Line.Line, declared.book.TuneText.TuneText, declared.fault.Fault.Fault, declared.fault.FaultKind.FaultKind, Good.IsGoodTune, Good.size_of}
+use Rattle.abc_fields.specs.{declared.field.Field.Field, Fields.field_of}
+use Rattle.abc_header.specs.{declared.defaults.Defaults.Defaults, declared.header.Header.Header, Headers.IsHeaderBy, Headers.IsHeaderOf, Headers.composer_in, Headers.fields_of, Headers.key_place, Headers.put_field, Headers.title_in}
 use Rattle.abc_steps.specs.declared.step.Item.{Item}
-use Rattle.abc_score.specs.declared.voices.VoiceRead.{VoiceRead}
-use Rattle.abc_score.specs.Build.{IsScoreOf}
-use Rattle.abc_score.specs.Score.{score_with}
-use Rattle.abc_score.specs.Voices.{voices_read}
+use Rattle.abc_score.specs.{declared.voices.VoiceRead.VoiceRead, Build.IsScoreOf, Score.score_with, Voices.voices_read}
 use Rattle.mus_units.specs.declared.key.Key.{Key}
 use Rattle.mus_transpose.specs.Moved.{IsMoved, move_from, voice_by}
-use Rattle.mus_score.specs.declared.score.Score.{Score}
-use Rattle.mus_score.specs.GoodScore.{IsGoodScore}
+use Rattle.lay_shared.{specs.Plans.IsPlanFor, specs.Plans.ids_of, proofs.DrawnLaws.drawn_heard, proofs.PlanLaws.spelled-plan}
+use Rattle.mus_score.specs.{declared.score.Score.Score, declared.score.Voice.Voice, GoodScore.IsGoodScore}
 use Rattle.mus_laid.specs.declared.laid.SystemMarks.{SystemMarks}
 use Rattle.lay_breaks.specs.Breaking.{RisesFrom, last_from}
-use Rattle.lay_pages.specs.declared.stacking.Heights.{Heights}
-use Rattle.lay_pages.specs.declared.titles.TitleRow.{TitleRow}
-use Rattle.lay_tune.specs.Systems.{Beside, IsSetSystem, IsStack}
-use Rattle.lay_tune.proofs.Rows.{beside_count, span_count}
-use Rattle.set_tune.specs.declared.tune.SetTune.{SetTune}
-use Rattle.set_tune.specs.Blocks.{HasGoodHeight, blocks_of, is_some_list, system_block, system_blocks, title_blocks}
-use Rattle.set_tune.specs.declared.how.How.{How}
-use Rattle.set_tune.specs.Setting.{HasScore, IsLaidOut}
+use Rattle.lay_pages.specs.{declared.stacking.Heights.Heights, declared.titles.TitleRow.TitleRow}
+use Rattle.lay_tune.{specs.Systems.Beside, specs.Systems.IsSetSystem, specs.Systems.IsStack, proofs.Rows.beside_count, proofs.Rows.span_count}
+use Rattle.set_tune.specs.{declared.tune.SetTune.SetTune, Blocks.HasGoodHeight, Blocks.blocks_of, Blocks.is_some_list, Blocks.system_block, Blocks.system_blocks, Blocks.title_blocks, declared.how.How.How, Setting.HasScore, Setting.IsDrawn, Setting.IsLaidOut}
 
 -- ---- voices
 
@@ -51,6 +31,12 @@ heard header tune flow score h some =
     subst (λ (s : Score). 1 ≤ length s.voices) (sym h.value)
     (has_voice header h.items flow (voices_read header h.items) (subst (λ (s : Score). 0 < s.measures) h.value some))
 
+abbrev pub drawn_as : Score → Result Score Fault
+drawn_as s = Ok s
+
+pub same_Ok : (s t : Score) → drawn_as s ≡ drawn_as t → s ≡ t
+same_Ok s t e = cc
+
 -- a moved score has as many voices and measures
 abbrev IsLike : Score → Score → Type 0
 IsLike s t = (length t.voices ≡ length s.voices) × (t.measures ≡ s.measures)
@@ -60,19 +46,28 @@ like_moved s t key (pos zero) is = subst (IsLike s) (sym (same_Some t s (is.same
 like_moved s t key (pos (suc n)) is = subst (IsLike s) (sym (is.higher (λ e. cc)).1) (length-map s.voices (voice_by (Some (move_from key (pos (suc n))))), refl)
 like_moved s t key (negsuc n) is = subst (IsLike s) (sym (is.higher (λ e. cc)).1) (length-map s.voices (voice_by (Some (move_from key (negsuc n)))), refl)
 
+-- drawn too
+heard_drawn : (staves : Option Line) (written drawn : Score) → IsDrawn staves written (Ok drawn) → (0 < written.measures → 1 ≤ length written.voices) → 0 < drawn.measures → 1 ≤ length drawn.voices
+heard_drawn None written drawn draws h some =
+    let same = same_Ok drawn written draws in
+    subst (λ (s : Score). 1 ≤ length s.voices) (sym same) (h (subst (λ (s : Score). 0 < s.measures) same some))
+heard_drawn (Some line) written drawn (plan, spells, share, is) h some =
+    let fits = subst (λ n. IsPlanFor n plan) (length-map written.voices (λ (v : Voice). v.id)) (spelled-plan (ids_of written) line.text plan spells) in
+    subst (λ (s : Score). 1 ≤ length s.voices) (sym is) (drawn_heard written plan fits)
+
 -- moved too
 pub heard_moved : (tune : TuneText) (defaults : Defaults) (how : How) (header : Header) (score : Score) → HasScore tune defaults how header score
     → 0 < score.measures → 1 ≤ length score.voices
 heard_moved tune defaults how header score has some =
-    let like = like_moved has.written score header.key how.by has.moved in
+    let like = like_moved has.drawn score header.key how.by has.moved in
     let voices = like.0 in
-    let first = heard header tune how.flow has.written has.is.value (subst (λ n. 0 < n) like.1 some) in
+    let first = heard_drawn header.staves has.written has.drawn has.draws (heard header tune how.flow has.written has.is.value) (subst (λ n. 0 < n) like.1 some) in
     omega (arith, first, voices)
 
 -- ---- titles and composers
 
 -- what a field gives, where a field of another kind gives nothing, comes of a line that has a byte
-given_first : (f : Field → Option (List ℕ)) → f fields.Other ≡ None → (fs : List Field) (n : ℕ) → length (filter_map f fs) ≤ n
+given_first : (f : Field → Option (List ℕ)) → f Field.Other ≡ None → (fs : List Field) (n : ℕ) → length (filter_map f fs) ≤ n
     → length (filter_map f (put_field (field_of []) fs)) ≤ n
 unfolding field_of
 given_first f none fs n h = subst (λ (o : Option (List ℕ)). length (cons_option o (filter_map f fs)) ≤ n) (sym none) h
@@ -86,7 +81,7 @@ given_put : (f : Field → Option (List ℕ)) (r : Result Field FaultKind) (fs :
 given_put f (Err kind) fs n h = omega (arith, h)
 given_put f (Ok g) fs n h = cons_few (f g) (filter_map f fs) n h
 
-given_few : (f : Field → Option (List ℕ)) → f fields.Other ≡ None → (text : List ℕ) (fs : List Field) (n : ℕ)
+given_few : (f : Field → Option (List ℕ)) → f Field.Other ≡ None → (text : List ℕ) (fs : List Field) (n : ℕ)
     → length (filter_map f fs) ≤ n → length (filter_map f (put_field (field_of text) fs)) ≤ length text + n
 given_few f none [] fs n h = omega (arith, given_first f none fs n h)
 given_few f none (byte ∷ text) fs n h = omega (arith, given_put f (field_of (byte ∷ text)) fs n h)
@@ -94,7 +89,7 @@ given_few f none (byte ∷ text) fs n h = omega (arith, given_put f (field_of (b
 size_cons : (line : Line) (lines : List Line) → size_of (line ∷ lines) ≡ length line.text + size_of lines
 size_cons line lines = sum_by-cons (λ x. x) (length line.text) (map (λ (l : Line). length l.text) lines)
 
-fields_few : (f : Field → Option (List ℕ)) → f fields.Other ≡ None → (lines : List Line)
+fields_few : (f : Field → Option (List ℕ)) → f Field.Other ≡ None → (lines : List Line)
     → length (filter_map f (fields_of lines)) ≤ size_of lines
 fields_few f none [] = omega arith
 fields_few f none (line ∷ lines) =
@@ -105,7 +100,7 @@ size_within zero lines = omega arith
 size_within (suc n) [] = omega arith
 size_within (suc n) (line ∷ lines) = omega (arith, size_within n lines, size_cons line (take n lines), size_cons line lines)
 
-few_by : (f : Field → Option (List ℕ)) → f fields.Other ≡ None → (tune : TuneText) (n : ℕ) → IsGoodTune tune
+few_by : (f : Field → Option (List ℕ)) → f Field.Other ≡ None → (tune : TuneText) (n : ℕ) → IsGoodTune tune
     → length (filter_map f (fields_of (take n tune.lines))) ≤ 2 ^ 32
 few_by f none tune n good = omega (arith, fields_few f none (take n tune.lines), size_within n tune.lines, good.small)
 
@@ -126,10 +121,10 @@ few_titles tune defaults header good is = titles_by tune defaults header (key_pl
 -- ---- blocks
 
 -- stacked systems have good heights
-pub good_heights : (systems : List SystemMarks) (heights : List Heights) → Beside IsStack systems heights → All HasGoodHeight heights
-good_heights [] [] h = All-nil HasGoodHeight
-good_heights (m ∷ ms) (h ∷ hs) is = All-cons HasGoodHeight h hs (record { low = is.0.low; high = is.0.high }) (good_heights ms hs is.1)
-good_heights _ _ is = absurd is
+pub good_heights : (s : Score) (systems : List SystemMarks) (heights : List Heights) → Beside (IsStack s) systems heights → All HasGoodHeight heights
+good_heights s [] [] h = All-nil HasGoodHeight
+good_heights s (m ∷ ms) (h ∷ hs) is = All-cons HasGoodHeight h hs (record { low = is.0.low; high = is.0.high }) (good_heights s ms hs is.1)
+good_heights s _ _ is = absurd is
 
 few_breaks : (a : ℕ) (breaks : List ℕ) → RisesFrom a breaks → a + length breaks ≤ last_from a breaks
 few_breaks a [] h = omega arith
@@ -151,7 +146,7 @@ few_blocks width t good laid =
       together,
       mapped,
       count_titles t.title.rows t.title.height (is_some_list t.heights),
-      beside_count IsStack t.systems t.heights laid.heights,
+      beside_count (IsStack t.score) t.systems t.heights laid.heights,
       (span_count (IsSetSystem t.score width) 0 t.breaking.breaks t.systems t.placed laid.systems).0,
       few_breaks 0 t.breaking.breaks laid.chosen.legal.rises,
       laid.chosen.legal.ends,

@@ -1,44 +1,29 @@
 -- The stages of a tune's setting, put together: what each refuses is the one fault of the tune.
-use Rattle.std.proofs.Common.{◌≡◌, sym, subst, inl, inr, ℕ, Bool, Some, Result, Ok, Err, IfErr}
-use Rattle.abc_lines.specs.declared.book.TuneText.{TuneText}
-use Rattle.abc_lines.specs.declared.fault.TuneError.{TuneError}
-use Rattle.abc_lines.specs.declared.fault.TuneError.TheVariants as errors
-use Rattle.abc_header.specs.declared.defaults.Defaults.{Defaults}
-use Rattle.abc_header.specs.declared.header.Header.{Header}
-use Rattle.abc_header.specs.declared.paper.Paper.{Paper}
-use Rattle.abc_header.specs.Papers.{height_of, width_of}
+use Rattle.std.proofs.Common.{◌≡◌, sym, subst, inl, inr, ℕ, Bool, None, Some, Result, Ok, Err, IfErr}
+use Rattle.abc_lines.specs.{declared.book.TuneText.TuneText, declared.fault.TuneError.TuneError}
+use Rattle.abc_header.specs.{declared.defaults.Defaults.Defaults, declared.header.Header.Header, declared.paper.Paper.Paper, Papers.height_of, Papers.width_of}
 use Rattle.mus_score.specs.declared.score.Score.{Score}
-use Rattle.lay_pages.specs.Titles.{title_block_of}
-use Rattle.lay_pages.specs.Filling.{first_tall}
+use Rattle.lay_pages.specs.{Titles.title_block_of, Filling.first_tall}
 use Rattle.lay_tune.specs.Layout.{IsNoWay}
-use Rattle.set_tune.specs.declared.how.How.{How}
-use Rattle.set_tune.specs.declared.tune.SetTune.{SetTune}
-use Rattle.set_tune.specs.Blocks.{blocks_of}
-use Rattle.set_tune.specs.Setting.{HasScore, IsFaultOfTune, IsLaid, IsLaidOut, IsLaidTune, IsLayoutRefusal, IsMoveRefusal, IsMovedRefusal, IsRefusal, IsScoreRefusal, IsTallRefusal, IsWritten, of_header, of_score, of_move, no_way, too_tall}
+use Rattle.set_tune.specs.{declared.how.How.How, declared.tune.SetTune.SetTune, Blocks.blocks_of}
+use Rattle.set_tune.specs.Setting.{HasScore, IsDrawn, IsDrawRefusal, IsFaultOfTune, IsLaid, IsLaidOut, IsLaidTune, IsLayoutRefusal, IsMoveRefusal, IsMovedRefusal, IsRefusal, IsScoreRefusal, IsTallRefusal, IsWritten, of_header, of_score, of_share, of_move, no_way, too_tall}
 
--- a fault up to the move
-pub written_refused : (tune : TuneText) (defaults : Defaults) (how : How) (e : TuneError) → IsScoreRefusal tune defaults e → IsMovedRefusal tune defaults how e
-written_refused tune defaults how errors.Memory h = tt
-written_refused tune defaults how (errors.Fault fault) h = inl h
-
-pub move_refused : (tune : TuneText) (defaults : Defaults) (how : How) (header : Header) (written : Score) (e : TuneError)
-    → IsWritten tune defaults how.flow header written → IsMoveRefusal tune written header.key how.by e → IsMovedRefusal tune defaults how e
-move_refused tune defaults how header written errors.Memory is h = tt
-move_refused tune defaults how header written (errors.Fault fault) is (moved, at) =
-    inr (record { header = header; written = written; is = is; moved = moved }, at)
+pub none_some : {X : Type 0} (x : X) → None ≡ Some x → ⊥
+none_some x e = cc
 
 pub score_refused : (tune : TuneText) (defaults : Defaults) (paper : Paper) (how : How) (e : TuneError)
     → IsMovedRefusal tune defaults how e → IsRefusal tune defaults paper how e
-score_refused tune defaults paper how errors.Memory h = tt
-score_refused tune defaults paper how (errors.Fault fault) (inl (inl h)) = of_header fault h
-score_refused tune defaults paper how (errors.Fault fault) (inl (inr (header, has, is))) = of_score header fault has is
-score_refused tune defaults paper how (errors.Fault fault) (inr (cant, at)) = subst (IsFaultOfTune tune defaults paper how) (sym at) (of_move cant)
+score_refused tune defaults paper how TuneError.Memory h = tt
+score_refused tune defaults paper how (TuneError.Fault fault) (inl (inl h)) = of_header fault h
+score_refused tune defaults paper how (TuneError.Fault fault) (inl (inr (header, has, is))) = of_score header fault has is
+score_refused tune defaults paper how (TuneError.Fault fault) (inr (inl cant)) = of_share fault cant
+score_refused tune defaults paper how (TuneError.Fault fault) (inr (inr (cant, at))) = subst (IsFaultOfTune tune defaults paper how) (sym at) (of_move cant)
 
 -- no breaking is legal
 pub layout_refused : (tune : TuneText) (defaults : Defaults) (paper : Paper) (how : How) (header : Header) (score : Score) (width : ℕ) (e : TuneError)
     → HasScore tune defaults how header score → width ≡ width_of paper → IsLayoutRefusal tune width score e → IsRefusal tune defaults paper how e
-layout_refused tune defaults paper how header score width errors.Memory has is h = tt
-layout_refused tune defaults paper how header score width (errors.Fault fault) has is (reached, spans, none, at) =
+layout_refused tune defaults paper how header score width TuneError.Memory has is h = tt
+layout_refused tune defaults paper how header score width (TuneError.Fault fault) has is (reached, spans, none, at) =
     subst (IsFaultOfTune tune defaults paper how) (sym at)
     (no_way header score reached spans has (subst (λ w. IsNoWay score w reached spans) is none))
 
@@ -54,8 +39,8 @@ laid_tune tune defaults paper how header score width t has is laid = record {
 
 tall_error : (tune : TuneText) (defaults : Defaults) (paper : Paper) (how : How) (high : ℕ) (t : SetTune) (e : TuneError)
     → IsLaidTune tune defaults paper how t → high ≡ height_of paper → IsTallRefusal tune high t e → IsRefusal tune defaults paper how e
-tall_error tune defaults paper how high t errors.Memory laid is h = tt
-tall_error tune defaults paper how high t (errors.Fault fault) laid is (block, first, at) =
+tall_error tune defaults paper how high t TuneError.Memory laid is h = tt
+tall_error tune defaults paper how high t (TuneError.Fault fault) laid is (block, first, at) =
     subst (IsFaultOfTune tune defaults paper how) (sym at)
     (too_tall t block laid (subst (λ n. first_tall n (blocks_of t.title t.heights) ≡ Some block) is first))
 

@@ -1,33 +1,17 @@
 -- A tune that is set, and the one fault of a tune that isn't.
-use Rattle.std.specs.Prelude.{◌≡◌, ◌⊎◌, ⊤, ℕ, ◌+◌, ◌≤◌, ℤ, List, Bool, All, length, slice_index_or, Option, Some, None}
-use Rattle.abc_lines.specs.declared.book.TuneText.{TuneText}
-use Rattle.abc_lines.specs.declared.fault.Fault.{Fault}
-use Rattle.abc_lines.specs.declared.fault.FaultKind.{FaultKind}
-use Rattle.abc_lines.specs.declared.fault.FaultKind.TheVariants as faults
-use Rattle.abc_lines.specs.declared.fault.TuneError.{TuneError}
-use Rattle.abc_lines.specs.declared.fault.TuneError.TheVariants as errors
-use Rattle.abc_header.specs.declared.defaults.Defaults.{Defaults}
-use Rattle.abc_header.specs.declared.header.Header.{Header}
-use Rattle.abc_header.specs.declared.paper.Paper.{Paper}
-use Rattle.abc_header.specs.Headers.{IsHeaderOf, first_line, header_fault}
-use Rattle.abc_header.specs.Papers.{height_of, width_of}
+use Rattle.std.specs.Prelude.{◌≡◌, ◌⊎◌, ⊤, ℕ, ◌+◌, ◌≤◌, ℤ, List, Bool, All, length, slice_index_or, Option, Some, None, Result, Ok, Err}
+use Rattle.abc_lines.specs.declared.{book.Line.Line, book.TuneText.TuneText, fault.Fault.Fault, fault.FaultKind.FaultKind, fault.TuneError.TuneError}
+use Rattle.abc_header.specs.{declared.defaults.Defaults.Defaults, declared.header.Header.Header, declared.paper.Paper.Paper, Headers.IsHeaderOf, Headers.first_line, Headers.header_fault, Papers.height_of, Papers.width_of}
 use Rattle.abc_score.specs.Build.{IsFaultOf, IsScoreOf}
-use Rattle.mus_score.specs.declared.score.Score.{Score}
-use Rattle.mus_score.specs.GoodScore.{IsGoodScore}
+use Rattle.mus_score.specs.{declared.score.Score.Score, GoodScore.IsGoodScore}
 use Rattle.mus_laid.specs.Boxes.{AreGoodMarks}
-use Rattle.lay_breaks.specs.declared.costs.Span.{Span}
-use Rattle.lay_breaks.specs.Breaking.{IsChosen, IsPotential, sum_from}
-use Rattle.lay_breaks.specs.Spans.{AreSpans, listed}
-use Rattle.lay_pages.specs.Filling.{first_tall}
-use Rattle.lay_pages.specs.Titles.{title_block_of}
-use Rattle.lay_tune.specs.Layout.{IsNoWay}
-use Rattle.lay_tune.specs.Spans.{AreSpansOf, is_forced_in}
-use Rattle.lay_tune.specs.Systems.{Beside, EachSpan, IsSetSystem, IsStack}
+use Rattle.lay_breaks.specs.{declared.costs.Span.Span, Breaking.IsChosen, Breaking.IsPotential, Breaking.sum_from, Spans.AreSpans, Spans.listed}
+use Rattle.lay_pages.specs.{Filling.first_tall, Titles.title_block_of}
+use Rattle.lay_tune.specs.{Layout.IsNoWay, Spans.AreSpansOf, Spans.is_forced_in, Systems.Beside, Systems.EachSpan, Systems.IsSetSystem, Systems.IsStack}
+use Rattle.lay_shared.specs.{declared.plan.Plan.Plan, Alike.DoShare, Drawn.drawn_of, Plans.Spells, Plans.ids_of}
 use Rattle.mus_units.specs.declared.key.Key.{Key}
 use Rattle.mus_transpose.specs.Moved.{IsMoved}
-use Rattle.set_tune.specs.declared.how.How.{How}
-use Rattle.set_tune.specs.declared.tune.SetTune.{SetTune}
-use Rattle.set_tune.specs.Blocks.{blocks_of}
+use Rattle.set_tune.specs.{declared.how.How.How, declared.tune.SetTune.SetTune, Blocks.blocks_of}
 
 -- The header of the tune, which has no fault.
 pub record HasHeader (tune : TuneText) (defaults : Defaults) (header : Header) : Type 0 where
@@ -40,19 +24,47 @@ pub record IsWritten (tune : TuneText) (defaults : Defaults) (flow : Bool) (head
   pub value : IsScoreOf header tune flow score
   pub good : IsGoodScore score
 
--- The header, and the score that is set: the written one, moved.
+-- a fault of the line that says how voices share staves stands there, in column 1
+abbrev pub share_fault : Line → FaultKind → Fault
+share_fault line kind = record { kind = kind; line = line.number; column = 1 }
+
+-- the line spells no plan of the written score's staves, or two voices of one staff differ
+abbrev pub IsUnshared : Line → Score → Fault → Type 0
+IsUnshared line written fault =
+    (((plan : Plan) → Spells (ids_of written) line.text plan → ⊥) × (fault ≡ share_fault line FaultKind.BadScore))
+    ⊎ ((plan : Plan) × Spells (ids_of written) line.text plan × (DoShare written plan → ⊥) × (fault ≡ share_fault line FaultKind.BadShare))
+
+-- What comes of the written score and that line, where there is one: the score that is drawn, or a fault. Without a line the score
+-- that is drawn is the written one.
+abbrev pub IsDrawn : Option Line → Score → Result Score Fault → Type 0
+IsDrawn None written drawn = drawn ≡ Ok written
+IsDrawn (Some line) written (Ok drawn) = (plan : Plan) × Spells (ids_of written) line.text plan × DoShare written plan × (drawn ≡ drawn_of written plan)
+IsDrawn (Some line) written (Err fault) = IsUnshared line written fault
+
+-- The header, and the score that is set: the drawn one, moved.
 pub record HasScore (tune : TuneText) (defaults : Defaults) (how : How) (header : Header) (score : Score) : Type 0 where
   pub written : Score
   pub is : IsWritten tune defaults how.flow header written
-  pub moved : IsMoved written header.key how.by (Some score)
+  pub drawn : Score
+  pub draws : IsDrawn header.staves written (Ok drawn)
+  pub moved : IsMoved drawn header.key how.by (Some score)
   pub good : IsGoodScore score
+
+-- The voices of the tune can't share staves as its line says.
+pub record CantDraw (tune : TuneText) (defaults : Defaults) (how : How) (fault : Fault) : Type 0 where
+  pub header : Header
+  pub written : Score
+  pub is : IsWritten tune defaults how.flow header written
+  pub draws : IsDrawn header.staves written (Err fault)
 
 -- The score of the tune can't be moved so far.
 pub record CantMove (tune : TuneText) (defaults : Defaults) (how : How) : Type 0 where
   pub header : Header
   pub written : Score
   pub is : IsWritten tune defaults how.flow header written
-  pub moved : IsMoved written header.key how.by None
+  pub drawn : Score
+  pub draws : IsDrawn header.staves written (Ok drawn)
+  pub moved : IsMoved drawn header.key how.by None
 
 -- The score laid out on a width: the listed spans are exactly those that fit, the breaking is the chosen one over them, and each
 -- of its systems has the marks that the score calls for, set to the width and tilted there, and its staves under one another.
@@ -64,7 +76,7 @@ pub record IsLaidOut (width : ℕ) (t : SetTune) : Type 0 where
   pub one_each : length t.breaking.potentials ≡ t.score.measures + 1
   pub potentials : (i : ℕ) → i ≤ t.score.measures → IsPotential (listed t.spans) (is_forced_in t.score) i (slice_index_or t.breaking.potentials i None)
   pub systems : EachSpan (IsSetSystem t.score width) 0 t.breaking.breaks t.systems t.placed
-  pub heights : Beside IsStack t.systems t.heights
+  pub heights : Beside (IsStack t.score) t.systems t.heights
   pub texts : All (λ m. All (λ staff. AreGoodMarks staff.marks) m.staves) t.systems
 
 -- a header and a score laid out under a title block
@@ -90,49 +102,55 @@ abbrev pub layout_fault : TuneText → FaultKind → Fault
 layout_fault tune kind = record { kind = kind; line = first_line tune.lines; column = 1 }
 
 -- The one fault of a tune, by stages: of its header; where that has none, of its body or its score; where the score has none,
--- that it can't be moved; where it can, that no breaking is legal; and where one is, that a group of blocks is higher than the
+-- that its voices can't share staves as they should; where they can, that it can't be moved; where it can, that no breaking is legal; and where one is, that a group of blocks is higher than the
 -- page.
 pub data IsFaultOfTune (tune : TuneText) (defaults : Defaults) (paper : Paper) (how : How) : Fault → Type 0 where
   of_header : (fault : Fault) → header_fault tune ≡ Some fault → IsFaultOfTune tune defaults paper how fault
-  of_score : (header : Header) (fault : Fault) → HasHeader tune defaults header → IsFaultOf header tune (errors.Fault fault)
+  of_score : (header : Header) (fault : Fault) → HasHeader tune defaults header → IsFaultOf header tune (TuneError.Fault fault)
       → IsFaultOfTune tune defaults paper how fault
-  of_move : CantMove tune defaults how → IsFaultOfTune tune defaults paper how (layout_fault tune faults.BadMove)
+  of_share : (fault : Fault) → CantDraw tune defaults how fault → IsFaultOfTune tune defaults paper how fault
+  of_move : CantMove tune defaults how → IsFaultOfTune tune defaults paper how (layout_fault tune FaultKind.BadMove)
   no_way : (header : Header) (score : Score) (reached : ℕ) (spans : List Span) → HasScore tune defaults how header score
-      → IsNoWay score (width_of paper) reached spans → IsFaultOfTune tune defaults paper how (layout_fault tune (faults.NoWay reached))
+      → IsNoWay score (width_of paper) reached spans → IsFaultOfTune tune defaults paper how (layout_fault tune (FaultKind.NoWay reached))
   too_tall : (t : SetTune) (block : ℕ) → IsLaidTune tune defaults paper how t
       → first_tall (height_of paper) (blocks_of t.title t.heights) ≡ Some block
-      → IsFaultOfTune tune defaults paper how (layout_fault tune (faults.TooTall block))
+      → IsFaultOfTune tune defaults paper how (layout_fault tune (FaultKind.TooTall block))
 
 -- The same of the stages up to the score; want of memory says nothing.
 abbrev pub IsScoreRefusal : TuneText → Defaults → TuneError → Type 0
-IsScoreRefusal tune defaults errors.Memory = ⊤
-IsScoreRefusal tune defaults (errors.Fault fault) =
-    (header_fault tune ≡ Some fault) ⊎ ((header : Header) × HasHeader tune defaults header × IsFaultOf header tune (errors.Fault fault))
+IsScoreRefusal tune defaults TuneError.Memory = ⊤
+IsScoreRefusal tune defaults (TuneError.Fault fault) =
+    (header_fault tune ≡ Some fault) ⊎ ((header : Header) × HasHeader tune defaults header × IsFaultOf header tune (TuneError.Fault fault))
 
--- why the written score isn't moved
+-- why the written score isn't drawn
+abbrev pub IsDrawRefusal : Option Line → Score → TuneError → Type 0
+IsDrawRefusal staves written TuneError.Memory = ⊤
+IsDrawRefusal staves written (TuneError.Fault fault) = IsDrawn staves written (Err fault)
+
+-- why the drawn score isn't moved
 abbrev pub IsMoveRefusal : TuneText → Score → Key → ℤ → TuneError → Type 0
-IsMoveRefusal tune written key by errors.Memory = ⊤
-IsMoveRefusal tune written key by (errors.Fault fault) = IsMoved written key by None × (fault ≡ layout_fault tune faults.BadMove)
+IsMoveRefusal tune drawn key by TuneError.Memory = ⊤
+IsMoveRefusal tune drawn key by (TuneError.Fault fault) = IsMoved drawn key by None × (fault ≡ layout_fault tune FaultKind.BadMove)
 
 -- why there is no score to lay out
 abbrev pub IsMovedRefusal : TuneText → Defaults → How → TuneError → Type 0
-IsMovedRefusal tune defaults how errors.Memory = ⊤
-IsMovedRefusal tune defaults how (errors.Fault fault) =
-    IsScoreRefusal tune defaults (errors.Fault fault) ⊎ (CantMove tune defaults how × (fault ≡ layout_fault tune faults.BadMove))
+IsMovedRefusal tune defaults how TuneError.Memory = ⊤
+IsMovedRefusal tune defaults how (TuneError.Fault fault) =
+    IsScoreRefusal tune defaults (TuneError.Fault fault) ⊎ (CantDraw tune defaults how fault ⊎ (CantMove tune defaults how × (fault ≡ layout_fault tune FaultKind.BadMove)))
 
 -- why the score isn't laid out
 abbrev pub IsLayoutRefusal : TuneText → ℕ → Score → TuneError → Type 0
-IsLayoutRefusal tune width score errors.Memory = ⊤
-IsLayoutRefusal tune width score (errors.Fault fault) =
-    (reached : ℕ) × (spans : List Span) × IsNoWay score width reached spans × (fault ≡ layout_fault tune (faults.NoWay reached))
+IsLayoutRefusal tune width score TuneError.Memory = ⊤
+IsLayoutRefusal tune width score (TuneError.Fault fault) =
+    (reached : ℕ) × (spans : List Span) × IsNoWay score width reached spans × (fault ≡ layout_fault tune (FaultKind.NoWay reached))
 
 -- why a tune that is laid out isn't set
 abbrev pub IsTallRefusal : TuneText → ℕ → SetTune → TuneError → Type 0
-IsTallRefusal tune high t errors.Memory = ⊤
-IsTallRefusal tune high t (errors.Fault fault) =
-    (block : ℕ) × (first_tall high (blocks_of t.title t.heights) ≡ Some block) × (fault ≡ layout_fault tune (faults.TooTall block))
+IsTallRefusal tune high t TuneError.Memory = ⊤
+IsTallRefusal tune high t (TuneError.Fault fault) =
+    (block : ℕ) × (first_tall high (blocks_of t.title t.heights) ≡ Some block) × (fault ≡ layout_fault tune (FaultKind.TooTall block))
 
 -- want of memory says nothing
 abbrev pub IsRefusal : TuneText → Defaults → Paper → How → TuneError → Type 0
-IsRefusal tune defaults paper how errors.Memory = ⊤
-IsRefusal tune defaults paper how (errors.Fault fault) = IsFaultOfTune tune defaults paper how fault
+IsRefusal tune defaults paper how TuneError.Memory = ⊤
+IsRefusal tune defaults paper how (TuneError.Fault fault) = IsFaultOfTune tune defaults paper how fault

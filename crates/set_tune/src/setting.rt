@@ -1,17 +1,14 @@
-ghost use Rattle.std.specs.Prelude.{◌≡◌, ◌≤◌, ◌<◌, ◌^◌, ℕ, length, IfErr, IfOk, None, Some};
+ghost use Rattle.std.specs.Prelude.{◌≡◌, ◌≤◌, ◌<◌, ◌^◌, ℕ, length, IfErr, IfOk, IfSome, None, Some, Ok};
 ghost use Rattle.std.specs.Option.{option_copied};
 ghost use Rattle.mus_score.specs.GoodScore.{IsGoodScore};
 ghost use Rattle.abc_lines.specs.Good.{IsGoodTune};
 ghost use Rattle.abc_lines.specs.declared.fault.TuneError.TheVariants as errors;
-ghost use Rattle.abc_header.specs.Good.{IsGoodDefaults};
-ghost use Rattle.abc_header.specs.Headers.{first_line};
-ghost use Rattle.abc_header.specs.Papers.{IsGoodPaper, height_of, width_of};
-ghost use Rattle.lay_pages.specs.Filling.{first_tall};
-ghost use Rattle.lay_pages.specs.Titles.{title_block_of};
-ghost use Rattle.set_tune.specs.Blocks.{blocks_of};
+ghost use Rattle.abc_header.specs.{Good.IsGoodDefaults, Headers.first_line, Papers.IsGoodPaper, Papers.height_of, Papers.width_of};
+ghost use Rattle.lay_pages.specs.{Filling.first_tall, Titles.title_block_of};
+ghost use Rattle.set_tune.specs.{Blocks.blocks_of, How.unmoved};
+ghost use Rattle.set_tune.specs.Setting.{HasScore, IsDrawn, IsDrawRefusal, IsLaid, IsLaidOut, IsLayoutRefusal, IsMoveRefusal, IsMovedRefusal, IsRefusal, IsScoreRefusal, IsSetTune, IsTallRefusal, IsWritten, layout_fault, share_fault};
+ghost use Rattle.lay_shared.specs.{Plans.IsPlanFor, Plans.Spells, Plans.ids_of, declared.plan.Plan.Plan};
 ghost use Rattle.mus_transpose.specs.Moved.{IsMoved};
-ghost use Rattle.set_tune.specs.How.{unmoved};
-ghost use Rattle.set_tune.specs.Setting.{HasScore, IsLaid, IsLaidOut, IsLayoutRefusal, IsMoveRefusal, IsMovedRefusal, IsRefusal, IsScoreRefusal, IsSetTune, IsTallRefusal, IsWritten, layout_fault};
 
 use crate::blocks::blocks_of;
 use crate::how::How;
@@ -20,6 +17,7 @@ use abc_header::{Defaults, Header, Paper, body_of, read_header};
 use abc_lines::{Fault, FaultKind, Line, TuneError, TuneText};
 use abc_score::build;
 use lay_pages::{PageError, TitleBlock, fill, title_block};
+use lay_shared::{Plan, drawn, ids_of, read_plan, shared};
 use lay_tune::{Layout, LayoutError, lay_out};
 use mus_score::Score;
 use mus_transpose::moved_or_same;
@@ -43,13 +41,14 @@ pub fn set(
     set_how(alloc, tune, defaults, paper, How::unmoved(flow))
 }
 
-/// A tune set on paper: its header, its score, moved by so many semitones as `how` says, the score
-/// laid out on the width of the body, and its title block; or the first of its faults. Where `how`
+/// A tune set on paper: its header, its score as it is drawn, moved by so many semitones as `how`
+/// says, the score laid out on the width of the body, and its title block; or the first of its faults. Where `how`
 /// says so, no bar is forced.
 ///
-/// A fault is of the header, or else of the body, or else of the score; or else the score can't be
-/// moved so far, or else no breaking of its measures is legal, or else a group of its blocks is
-/// higher than the body. The last three are told at the tune's first line.
+/// A fault is of the header, or else of the body, or else of the score; or else its voices can't
+/// share staves as `%%score` says, or else the score can't be moved so far, or else no breaking of
+/// its measures is legal, or else a group of its blocks is higher than the body. The last three are
+/// told at the tune's first line, and so is a fault of the file's `%%score`.
 pub fn set_how(
     alloc: Global,
     tune: &TuneText,
@@ -74,7 +73,7 @@ pub fn set_how(
     }
 }
 
-/// The header of a tune and its score, moved, or the first fault up to there.
+/// The header of a tune and its score, drawn and moved, or the first fault up to there.
 fn moved_score(
     alloc: Global,
     tune: &TuneText,
@@ -90,7 +89,11 @@ fn moved_score(
         Ok(read) => read,
         Err(error) => return Err(error),
     };
-    match move_score(alloc, tune, written, &header, how.by) {
+    let drawn = match draw_score(alloc, written, &header.staves) {
+        Ok(drawn) => drawn,
+        Err(error) => return Err(error),
+    };
+    match move_score(alloc, tune, drawn, &header, how.by) {
         Ok(score) => Ok((header, score)),
         Err(error) => Err(error),
     }
@@ -118,20 +121,72 @@ fn read_score(
     }
 }
 
+/// The score that is drawn: the written one, or what the line of its staves makes of it.
+fn draw_score(alloc: Global, written: Score, staves: &Option<Line>) -> Result<Score, TuneError>
+    requires { IsGoodScore written }
+    ensures drawn { IfOk result (λ drawn. IsDrawn staves.now written (Ok drawn)) }
+    ensures good { IfOk result IsGoodScore }
+    ensures fault { IfErr result (IsDrawRefusal staves.now written) }
+{
+    match staves {
+        Some(line) => draw_by(alloc, &written, line),
+        None => Ok(written),
+    }
+}
+
+/// The score that is drawn as a line says, or the fault of the line.
+fn draw_by(alloc: Global, written: &Score, line: &Line) -> Result<Score, TuneError>
+    requires { IsGoodScore written.now }
+    ensures drawn { IfOk result (λ drawn. IsDrawn (Some line.now) written.now (Ok drawn)) }
+    ensures good { IfOk result IsGoodScore }
+    ensures fault { IfErr result (IsDrawRefusal (Some line.now) written.now) }
+{
+    let plan = match plan_of(alloc, written, line)? {
+        Some(plan) => plan,
+        None => return Err(share_fault(line, FaultKind::BadScore)),
+    };
+    if !shared(alloc, written, &plan)? {
+        return Err(share_fault(line, FaultKind::BadShare));
+    }
+    Ok(drawn(alloc, written, &plan)?)
+}
+
+/// The plan that a line spells for the voices of a score.
+fn plan_of(alloc: Global, written: &Score, line: &Line) -> Result<Option<Plan>, Memory>
+    requires { IsGoodScore written.now }
+    ensures spells { IfOk result (λ read. IfSome read (Spells (ids_of written.now) line.now.text)) }
+    ensures only { IfOk result (λ read. (plan : Plan) → Spells (ids_of written.now) line.now.text plan → read ≡ Some plan) }
+    ensures good { IfOk result (λ read. IfSome read (IsPlanFor (length written.now.voices))) }
+{
+    let ids = ids_of(alloc, written)?;
+    read_plan(alloc, line.text.as_slice(), ids.as_slice())
+}
+
+/// A fault of the line that says how voices share staves.
+fn share_fault(line: &Line, kind: FaultKind) -> TuneError
+    ensures { result ≡ errors.Fault (share_fault line.now kind) }
+{
+    TuneError::Fault(Fault {
+        kind,
+        line: line.number,
+        column: 1,
+    })
+}
+
 /// The score moved by so many semitones, or the fault of one that can't be moved so far.
 fn move_score(
     alloc: Global,
     tune: &TuneText,
-    written: Score,
+    drawn: Score,
     header: &Header,
     by: i8,
 ) -> Result<Score, TuneError>
-    requires { IsGoodScore written }
-    ensures moved { IfOk result (λ score. IsMoved written header.now.key by (Some score)) }
+    requires { IsGoodScore drawn }
+    ensures moved { IfOk result (λ score. IsMoved drawn header.now.key by (Some score)) }
     ensures good { IfOk result IsGoodScore }
-    ensures fault { IfErr result (IsMoveRefusal tune.now written header.now.key by) }
+    ensures fault { IfErr result (IsMoveRefusal tune.now drawn header.now.key by) }
 {
-    match moved_or_same(alloc, written, &header.key, by)? {
+    match moved_or_same(alloc, drawn, &header.key, by)? {
         Some(score) => Ok(score),
         None => Err(layout_fault(tune, FaultKind::BadMove)),
     }

@@ -4,8 +4,7 @@ use Rattle.abc_lines.specs.Books.{book_of}
 use Rattle.set_lists.specs.Listing.{AreListable}
 use Rattle.abcps.specs.Books.{AreSet, paper_in, systems_called}
 use Rattle.abcps_words.specs.declared.command.Command.TheVariants as command
-use Rattle.abcps.proofs.Answered.{answer_by}
-use Rattle.abcps.proofs.BookCalls.{calls_systems}
+use Rattle.abcps.proofs.{Answered.answer_by, BookCalls.calls_systems}
 use Rattle.abcps.proofs.books.systems.Goals as goal
 
 pub write_systems-requires : goal.write_systems-requires

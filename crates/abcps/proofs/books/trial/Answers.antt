@@ -2,10 +2,9 @@ use Rattle.set_tune.specs.How.{unmoved}
 use Rattle.std.proofs.Common.{◌∙◌, [], subst, sym}
 use Rattle.std.specs.List.{All}
 use Rattle.set_pages.specs.Sheet.{IsSetUnder}
-use Rattle.abcps.specs.Books.{AreSet, trial_called}
+use Rattle.abcps.specs.Books.{AreSet, IsTried}
 use Rattle.abcps_words.specs.declared.command.Command.TheVariants as command
-use Rattle.abcps.proofs.Answered.{answer_by}
-use Rattle.abcps.proofs.BookCalls.{set_under, tries}
+use Rattle.abcps.proofs.{Answered.answer_of, BookCalls.set_under, BookCalls.tries}
 use Rattle.abcps.proofs.books.trial.Goals as goal
 
 pub write_trial-requires-clause-set : goal.write_trial-requires-clause-set
@@ -15,7 +14,7 @@ write_trial-requires-clause-set g c =
 
 pub returns : goal.returns
 returns g c =
-    answer_by (command.Trial c.args.tunes c.args.flow c.args.jobs) [] (trial_called c.args.tunes c.in-Ok-set_text.book.paper c.as_slice-2.result.now)
-    (tries c.args.tunes (unmoved c.args.flow) c.as_slice.result.now c.in-Ok-set_text.book.paper c.as_slice-2.result.now (c.as_slice.ensures ∙ c.in-Ok.ensures) c.in-Ok-set_text.ensures.paper
-    (subst (λ outcomes. AreSet (unmoved c.args.flow) c.as_slice.result.now outcomes) (sym c.as_slice-2.ensures) c.in-Ok-set_text.ensures.set))
+    answer_of (command.Trial c.args.tunes c.args.flow c.args.jobs c.args.even) [] (IsTried c.args.tunes c.args.even c.in-Ok-set_text.book.paper c.as_slice-2.result.now)
+    (λ called tried. tries c.args.tunes (unmoved c.args.flow) c.args.even c.as_slice.result.now c.in-Ok-set_text.book.paper c.as_slice-2.result.now called (c.as_slice.ensures ∙ c.in-Ok.ensures) c.in-Ok-set_text.ensures.paper
+    (subst (λ outcomes. AreSet (unmoved c.args.flow) c.as_slice.result.now outcomes) (sym c.as_slice-2.ensures) c.in-Ok-set_text.ensures.set) tried)
     _ _ c.write_trial.result c.write_trial.ensures

@@ -1,5 +1,4 @@
-use Rattle.std.proofs.Common.{refl, subst}
-use Rattle.std.proofs.KnownBytes.{Keeps-refl}
+use Rattle.std.proofs.{Common.refl, Common.subst, KnownBytes.Keeps-refl}
 use Rattle.abcps_words.specs.declared.command.Command.TheVariants as command
 use Rattle.ps_steps.specs.Steps.{Halts}
 use Rattle.abcps.specs.declared.refusing.Refusal.TheVariants as refusals

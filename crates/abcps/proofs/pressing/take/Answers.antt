@@ -1,9 +1,8 @@
 use Rattle.std.proofs.Common.{◌≡◌, ◌∙◌, refl, ap, sym}
 use Rattle.std.specs.Prelude.{◌||◌}
 use Rattle.set_lists.specs.Reports.{some_fault}
-use Rattle.abcps.proofs.Batches.{running_more}
+use Rattle.abcps.proofs.{Batches.running_more, pressing.take.Goals.then-run, pressing.take.Goals.else-run}
 use Rattle.abcps.proofs.pressing.take.Goals as goal
-use Rattle.abcps.proofs.pressing.take.Goals.{then-run, else-run}
 
 pub returns-clause-running : goal.returns-clause-running
 returns-clause-running c before given running =
@@ -12,4 +11,4 @@ returns-clause-running c before given running =
       | then-run w ↦ w.run-is ∙ w.if-run.true ∙ sym (ap (λ b. b || some_fault c.args.outcomes.now) w.if-run.true)
       | else-run w ↦ w.run-is ∙ w.has_fault-run.ensures ∙ sym (ap (λ b. b || some_fault c.args.outcomes.now) w.if-run.false)
     ] in
-    running_more c.args.paper.now before c.args.outcomes.now given _ _ (c.in_ok-press_outcomes.ensures.pressed before given) c.in_ok-put_reports.ensures refused refl running
+    running_more c.args.plan.now c.args.paper.now before c.args.outcomes.now given _ _ (c.in_ok-press_outcomes.ensures.pressed before given) c.in_ok-put_reports.ensures refused refl running

@@ -1,7 +1,6 @@
 use Rattle.std.proofs.Common.{◌≡◌, ◌∙◌, ◌<◌, ◌+◌, length, sym, subst, arith, rules, Err}
 use Rattle.ps_text.specs.Document.{numbered, page_text}
-use Rattle.abcps.specs.Pressed.{WasGiven}
-use Rattle.abcps.specs.Status.{status_after}
+use Rattle.abcps.specs.{Pressed.WasGiven, Status.status_after}
 use Rattle.abcps.proofs.Sent.{page_sent, page_stopped, stream}
 use Rattle.abcps.proofs.pressing.write_pages.Goals as goal
 

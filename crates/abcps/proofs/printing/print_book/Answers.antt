@@ -1,13 +1,11 @@
-use Rattle.std.proofs.Common.{◌≡◌, ◌∙◌, sym, ap, subst, rules, Err}
+use Rattle.std.proofs.Common.{◌≡◌, ◌∙◌, refl, sym, ap, subst, rules, Err}
 use Rattle.std.specs.Prelude.{All}
 use Rattle.abc_lines.specs.declared.book.Book.{Book}
 use Rattle.abc_header.specs.Papers.{IsGoodPaper}
-use Rattle.abcps.specs.Books.{paper_in}
-use Rattle.abcps.specs.Pressed.{AreCutOff, AreRunning, IsPrinted}
+use Rattle.abcps.specs.declared.status.Status.TheVariants as status
+use Rattle.abcps.specs.{Books.paper_in, Outcome.IsQuiet, Pressed.unbegun, Pressed.AreCutOff, Pressed.AreRunning, Pressed.IsPlanned, Pressed.IsPrinted}
 use Rattle.set_pages.proofs.Readying.{book_counted}
-use Rattle.abcps.proofs.Batches.{IsCounted}
-use Rattle.abcps.proofs.Cut.{of_book, printed, unprinted}
-use Rattle.abcps.proofs.Sent.{stream}
+use Rattle.abcps.proofs.{Batches.IsCounted, Cut.of_book, Cut.printed, Cut.unprinted, Sent.stream}
 use Rattle.abcps.proofs.printing.print_book.Goals as goal
 
 pub print_tunes-requires-clause-counted : goal.print_tunes-requires-clause-counted
@@ -15,29 +13,50 @@ print_tunes-requires-clause-counted g c κs within =
     let same = c.as_slice-tunes.ensures ∙ ap (λ (b : Book). b.tunes) c.in_ok-book.ensures.book in
     subst (λ tunes. All IsCounted tunes) (sym same) (book_counted c.args.text.now)
 
+pub plan_tunes-requires-clause-counted : goal.plan_tunes-requires-clause-counted
+plan_tunes-requires-clause-counted g c κs within =
+    let same = c.as_slice-tunes.ensures ∙ ap (λ (b : Book). b.tunes) c.in_ok-book.ensures.book in
+    subst (λ tunes. All IsCounted tunes) (sym same) (book_counted c.args.text.now)
+
+pub print_tunes-requires-clause-planned : goal.print_tunes-requires-clause-planned
+print_tunes-requires-clause-planned g c κs within = (c.args.even, c.in_ok-plan.ensures)
+
+pub returns-in_err-plan : goal.returns-in_err-plan
+returns-in_err-plan g c =
+    let is : c.from_residual-in_err-plan.result ≡ Err status.Memory = search rules in
+    let quiet : IsQuiet (stream (g.O.Sink.taken c.args.output.now) (g.O.Sink.taken c.args.output.now) (g.O.Sink.faults c.args.output.now) (g.O.Sink.faults c.args.output.now)) = search rules in
+    subst (λ r. IsPrinted c.args.how c.args.even c.args.text.now (stream (g.O.Sink.taken c.args.output.now) (g.O.Sink.taken c.args.output.now) (g.O.Sink.faults c.args.output.now) (g.O.Sink.faults c.args.output.now)) r) (sym is)
+    (unbegun refl quiet)
+
 pub returns-in_err-run : goal.returns-in_err-run
 returns-in_err-run g c =
     let is : c.from_residual-in_err-run.result ≡ Err c.in_err-run.field-0.0 = search rules in
     let text = c.args.text.now in
     let good : IsGoodPaper (paper_in text) =
-    of_book (λ defaults paper tunes. IsGoodPaper paper) text c.in_ok-book.book c.read_paper-paper.result c.read_defaults-defaults.result c.as_slice-tunes.result.now c.in_ok-book.ensures.book c.read_paper-paper.ensures.value
-    c.read_defaults-defaults.ensures.value c.as_slice-tunes.ensures c.read_paper-paper.ensures.good in
+    of_book (λ defaults paper tunes. IsGoodPaper paper) text c.in_ok-book.book c.read_paper-paper.result c.in_ok-defaults.defaults c.as_slice-tunes.result.now c.in_ok-book.ensures.book c.read_paper-paper.ensures.value
+    c.in_ok-defaults.ensures.value c.as_slice-tunes.ensures c.read_paper-paper.ensures.good in
+    let planned =
+    of_book (λ defaults paper tunes. IsPlanned c.args.even defaults paper c.args.how tunes c.in_ok-plan.plan) text c.in_ok-book.book c.read_paper-paper.result c.in_ok-defaults.defaults c.as_slice-tunes.result.now c.in_ok-book.ensures.book
+    c.read_paper-paper.ensures.value c.in_ok-defaults.ensures.value c.as_slice-tunes.ensures c.in_ok-plan.ensures in
     let cut =
-    of_book (λ defaults paper tunes. AreCutOff defaults paper c.args.how tunes (stream (g.O.Sink.taken c.args.output.now) (g.O.Sink.taken c.print_tunes.new.output) (g.O.Sink.faults c.args.output.now) (g.O.Sink.faults c.print_tunes.new.output)) c.in_err-run.field-0.0)
-    text c.in_ok-book.book c.read_paper-paper.result c.read_defaults-defaults.result c.as_slice-tunes.result.now c.in_ok-book.ensures.book c.read_paper-paper.ensures.value
-    c.read_defaults-defaults.ensures.value c.as_slice-tunes.ensures c.in_err-run.ensures in
-    subst (λ r. IsPrinted c.args.how text (stream (g.O.Sink.taken c.args.output.now) (g.O.Sink.taken c.print_tunes.new.output) (g.O.Sink.faults c.args.output.now) (g.O.Sink.faults c.print_tunes.new.output)) r) (sym is)
-    (unprinted c.args.how text _ c.in_err-run.field-0.0 good cut)
+    of_book (λ defaults paper tunes. AreCutOff defaults c.in_ok-plan.plan paper c.args.how tunes (stream (g.O.Sink.taken c.args.output.now) (g.O.Sink.taken c.print_tunes.new.output) (g.O.Sink.faults c.args.output.now) (g.O.Sink.faults c.print_tunes.new.output)) c.in_err-run.field-0.0)
+    text c.in_ok-book.book c.read_paper-paper.result c.in_ok-defaults.defaults c.as_slice-tunes.result.now c.in_ok-book.ensures.book c.read_paper-paper.ensures.value
+    c.in_ok-defaults.ensures.value c.as_slice-tunes.ensures c.in_err-run.ensures in
+    subst (λ r. IsPrinted c.args.how c.args.even text (stream (g.O.Sink.taken c.args.output.now) (g.O.Sink.taken c.print_tunes.new.output) (g.O.Sink.faults c.args.output.now) (g.O.Sink.faults c.print_tunes.new.output)) r) (sym is)
+    (unprinted c.args.how c.args.even text c.in_ok-plan.plan _ c.in_err-run.field-0.0 good planned cut)
 
 pub returns : goal.returns
 returns g c =
     let text = c.args.text.now in
     let good : IsGoodPaper (paper_in text) =
-    of_book (λ defaults paper tunes. IsGoodPaper paper) text c.in_ok-book.book c.read_paper-paper.result c.read_defaults-defaults.result c.as_slice-tunes.result.now c.in_ok-book.ensures.book c.read_paper-paper.ensures.value
-    c.read_defaults-defaults.ensures.value c.as_slice-tunes.ensures c.read_paper-paper.ensures.good in
+    of_book (λ defaults paper tunes. IsGoodPaper paper) text c.in_ok-book.book c.read_paper-paper.result c.in_ok-defaults.defaults c.as_slice-tunes.result.now c.in_ok-book.ensures.book c.read_paper-paper.ensures.value
+    c.in_ok-defaults.ensures.value c.as_slice-tunes.ensures c.read_paper-paper.ensures.good in
+    let planned =
+    of_book (λ defaults paper tunes. IsPlanned c.args.even defaults paper c.args.how tunes c.in_ok-plan.plan) text c.in_ok-book.book c.read_paper-paper.result c.in_ok-defaults.defaults c.as_slice-tunes.result.now c.in_ok-book.ensures.book
+    c.read_paper-paper.ensures.value c.in_ok-defaults.ensures.value c.as_slice-tunes.ensures c.in_ok-plan.ensures in
     let run =
-    of_book (λ defaults paper tunes. AreRunning defaults paper c.args.how tunes (stream (g.O.Sink.taken c.args.output.now) (g.O.Sink.taken c.print_tunes.new.output) (g.O.Sink.faults c.args.output.now) (g.O.Sink.faults c.print_tunes.new.output)) c.in_ok-run.run')
-    text c.in_ok-book.book c.read_paper-paper.result c.read_defaults-defaults.result c.as_slice-tunes.result.now c.in_ok-book.ensures.book c.read_paper-paper.ensures.value
-    c.read_defaults-defaults.ensures.value c.as_slice-tunes.ensures c.in_ok-run.ensures in
-    printed c.args.how text (g.O.Sink.taken c.args.output.now) (g.O.Sink.taken c.print_tunes.new.output) (g.O.Sink.taken c.end_run.new.output) (g.O.Sink.faults c.args.output.now) (g.O.Sink.faults c.print_tunes.new.output)
-    (g.O.Sink.faults c.end_run.new.output) c.in_ok-run.run' good run c.end_run.result (c.end_run.ensures (paper_in text) run.outcomes run.given good run.running)
+    of_book (λ defaults paper tunes. AreRunning defaults c.in_ok-plan.plan paper c.args.how tunes (stream (g.O.Sink.taken c.args.output.now) (g.O.Sink.taken c.print_tunes.new.output) (g.O.Sink.faults c.args.output.now) (g.O.Sink.faults c.print_tunes.new.output)) c.in_ok-run.run')
+    text c.in_ok-book.book c.read_paper-paper.result c.in_ok-defaults.defaults c.as_slice-tunes.result.now c.in_ok-book.ensures.book c.read_paper-paper.ensures.value
+    c.in_ok-defaults.ensures.value c.as_slice-tunes.ensures c.in_ok-run.ensures in
+    printed c.args.how c.args.even text c.in_ok-plan.plan (g.O.Sink.taken c.args.output.now) (g.O.Sink.taken c.print_tunes.new.output) (g.O.Sink.taken c.end_run.new.output) (g.O.Sink.faults c.args.output.now) (g.O.Sink.faults c.print_tunes.new.output)
+    (g.O.Sink.faults c.end_run.new.output) c.in_ok-run.run' good planned run c.end_run.result (c.end_run.ensures c.in_ok-plan.plan (paper_in text) run.outcomes run.given good run.running)

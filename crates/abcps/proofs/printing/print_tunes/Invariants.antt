@@ -1,14 +1,13 @@
 use Rattle.std.proofs.Common.{length}
 use Rattle.std.specs.Prelude.{All}
 use Rattle.abc_lines.specs.Good.{IsGoodTune}
-use Rattle.abcps.proofs.Batches.{IsCounted, IsUnderway}
-use Rattle.abcps.proofs.Sent.{stream}
+use Rattle.abcps.proofs.{Batches.IsCounted, Batches.IsUnderway, Sent.stream}
 use Rattle.abcps.proofs.printing.print_tunes.Given as goal
 
 abbrev pub invariant-batches : goal.invariant-batches
 invariant-batches g l = record {
   underway :
-      IsUnderway l.defaults l.paper l.how l.tunes l.rest
+      IsUnderway l.defaults l.plan l.paper l.how l.tunes l.rest
       (stream (g.O.Sink.taken l.fn.output) (g.O.Sink.taken l.output) (g.O.Sink.faults l.fn.output) (g.O.Sink.faults l.output)) l.run;
   good : All IsGoodTune l.rest;
   counted : All IsCounted l.rest;

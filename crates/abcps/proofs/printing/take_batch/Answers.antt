@@ -7,6 +7,10 @@ pub take-requires-clause-outcomes : goal.take-requires-clause-outcomes
 take-requires-clause-outcomes g c =
     batch_set c.args.defaults.now c.args.paper.now c.args.how c.args.batch.now c.in_ok-outcomes.outcomes c.as_slice.result.now c.requires.counted c.as_slice.ensures c.in_ok-outcomes.ensures
 
+pub take-requires-clause-room : goal.take-requires-clause-room
+take-requires-clause-room g c =
+    c.requires.room c.as_slice.result.now (subst (λ outcomes. AreOutcomes c.args.defaults.now c.args.paper.now c.args.how c.args.batch.now outcomes) (sym c.as_slice.ensures) c.in_ok-outcomes.ensures)
+
 pub returns-clause-taken : goal.returns-clause-taken
 returns-clause-taken g c =
     on_ok c.take.result

@@ -1,5 +1,4 @@
-use Rattle.std.proofs.Common.{refl}
-use Rattle.std.proofs.KnownBytes.{Keeps-refl}
+use Rattle.std.proofs.{Common.refl, KnownBytes.Keeps-refl}
 use Rattle.abcps_words.specs.declared.command.Command.TheVariants as command
 use Rattle.abcps.proofs.Answered.{unread_obeyed}
 use Rattle.abcps.proofs.running.obey.Goals as goal
@@ -11,6 +10,6 @@ returns-in-Make g c =
 
 pub returns-in-Trial : goal.returns-in-Trial
 returns-in-Trial g c =
-    unread_obeyed c.args.command (command.Trial c.in-Trial.tunes c.in-Trial.flow c.in-Trial.jobs) (g.S.Source.left c.args.input.now)
+    unread_obeyed c.args.command (command.Trial c.in-Trial.tunes c.in-Trial.flow c.in-Trial.jobs c.in-Trial.even) (g.S.Source.left c.args.input.now)
     (g.S.Source.faults c.args.input.now) _ _ c.trial.result
     c.in-Trial.is ((Keeps-refl (g.S.Source.left c.args.input.now), refl), refl) c.trial.ensures

@@ -6,5 +6,5 @@ use Rattle.set_book.proofs.setting.set_all.Goals as goal
 pub returns : goal.returns
 returns g c =
     subst (λ tunes. AreOutcomes (defaults_of c.args.book.now.header) c.args.paper.now c.args.how tunes c.in_ok-outcomes.outcomes) c.as_slice-tunes.ensures
-    (subst (λ defaults. AreOutcomes defaults c.args.paper.now c.args.how c.as_slice-tunes.result.now c.in_ok-outcomes.outcomes) c.read_defaults-defaults.ensures.value
+    (subst (λ defaults. AreOutcomes defaults c.args.paper.now c.args.how c.as_slice-tunes.result.now c.in_ok-outcomes.outcomes) c.in_ok-defaults.ensures.value
     c.in_ok-outcomes.ensures)

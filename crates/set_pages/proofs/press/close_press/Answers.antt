@@ -1,13 +1,12 @@
 use Rattle.std.proofs.Common.{◌≡◌, ◌∙◌, ap, rules}
-use Rattle.set_pages.proofs.Whole.{are_last, done_none, done_of, done_some}
+use Rattle.set_pages.{specs.declared.pages.Pages.Pages, proofs.Whole.are_last, proofs.Whole.done_none, proofs.Whole.done_of, proofs.Whole.done_some, proofs.Whole.is_begun, proofs.press.close_press.Goals.then-press-gt0+in_ok-turn, proofs.press.close_press.Goals.else-press-gt0}
 use Rattle.set_pages.proofs.press.close_press.Goals as goal
-use Rattle.set_pages.proofs.press.close_press.Goals.{then-is_some+in_ok-turn, else-is_some}
 
 pub returns : goal.returns
-returns c paper outcomes given good pressed =
-    let done : c.if-is_some.pages.done ≡ done_of c.args.press.behind c.args.press.pages =
-    elim c.if-is_some.branch [
-      | then-is_some+in_ok-turn w ↦ ap (λ p. p.done) w.pages-is ∙ done_some c.args.press.behind c.args.press.pages w.turn.new.pages (search rules) w.in_ok-turn.ensures
-      | else-is_some w ↦ ap (λ p. p.done) w.pages-is ∙ done_none c.args.press.behind c.args.press.pages (search rules)
+returns c plan paper outcomes given good pressed =
+    let done : c.if-press-gt0.pages.done ≡ done_of (is_begun c.args.press) c.args.press.pages =
+    elim c.if-press-gt0.branch [
+      | then-press-gt0+in_ok-turn w ↦ ap (λ (p : Pages). p.done) w.pages-is ∙ done_some (is_begun c.args.press) c.args.press.pages w.turn.new.pages (search rules) w.in_ok-turn.ensures
+      | else-press-gt0 w ↦ ap (λ (p : Pages). p.done) w.pages-is ∙ done_none (is_begun c.args.press) c.args.press.pages (search rules)
     ] in
-    are_last paper outcomes given c.if-is_some.pages.done c.args.press c.requires done good pressed
+    are_last plan paper outcomes given c.if-press-gt0.pages.done c.args.press c.requires done good pressed

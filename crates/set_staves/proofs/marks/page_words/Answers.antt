@@ -1,5 +1,4 @@
-use Rattle.std.proofs.Common.{◌≡◌, subst, sym}
-use Rattle.std.proofs.lemmas.Result.{IfOk-weaker}
+use Rattle.std.proofs.{Common.◌≡◌, Common.subst, Common.sym, lemmas.Result.IfOk-weaker}
 use Rattle.ps_text.specs.Range.{IsWords}
 use Rattle.set_staves.proofs.OnPage.{words_shown}
 use Rattle.set_staves.proofs.marks.page_words.Goals as goal

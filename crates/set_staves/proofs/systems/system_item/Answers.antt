@@ -2,9 +2,7 @@ use Rattle.std.proofs.Common.{◌≡◌, length, sym, subst, rules, arith}
 use Rattle.std.specs.List.{All}
 use Rattle.mus_laid.specs.declared.laid.StaffMarks.{StaffMarks}
 use Rattle.lay_shown.specs.Ranks.{AreAnchored, AreRanked, staves_ranks}
-use Rattle.set_staves.proofs.Ranged.{good_system}
-use Rattle.set_staves.proofs.Shown.{shows_call}
-use Rattle.set_staves.specs.Marks.{ShowsCall, staves_at}
+use Rattle.set_staves.{proofs.Ranged.good_system, proofs.Shown.shows_call, specs.Marks.ShowsCall, specs.Marks.staves_at}
 use Rattle.set_staves.proofs.systems.system_item.Goals as goal
 
 pub returns-clause-good : goal.returns-clause-good

@@ -1,6 +1,5 @@
 use Rattle.std.proofs.Common.{ap}
-use Rattle.set_tune.proofs.Laid.{few_titles, heard_moved}
-use Rattle.set_tune.proofs.Refusals.{laid_tune, layout_refused, score_refused, tall_refused}
+use Rattle.set_tune.proofs.{Laid.few_titles, Laid.heard_moved, Refusals.laid_tune, Refusals.layout_refused, Refusals.score_refused, Refusals.tall_refused}
 use Rattle.set_tune.proofs.setting.set_how.Goals as goal
 
 pub returns-in-Err-clause-fault : goal.returns-in-Err-clause-fault

@@ -1,0 +1,37 @@
+use Rattle.std.proofs.Common.{sym, subst}
+use Rattle.std.proofs.lemmas.List.Elements.{All-drop, All-take}
+use Rattle.std.specs.Prelude.{All}
+use Rattle.abc_lines.specs.Good.{IsGoodTune}
+use Rattle.abcps.proofs.{Batches.IsCounted, Gathered.IsGathering, Gathered.gathering_done, Gathered.gathering_first, Gathered.gathering_more, Gathered.none_left}
+use Rattle.abcps.proofs.printing.gather_tunes.Goals as goal
+
+pub batches-init : goal.batches-init
+batches-init g c = record {
+  gathering =
+      subst (λ blocks. IsGathering c.args.defaults.now c.args.paper.now c.args.how c.args.tunes.now c.args.tunes.now blocks) (sym c.new-blocks.ensures)
+      (gathering_first c.args.defaults.now c.args.paper.now c.args.how c.args.tunes.now);
+  good = c.requires.tunes;
+  counted = c.requires.counted;
+}
+
+pub gather_batch-requires-clause-tunes : goal.gather_batch-requires-clause-tunes
+gather_batch-requires-clause-tunes g c κs within =
+    subst (λ tunes. All IsGoodTune tunes) (sym c.split_at.ensures.front) (All-take IsGoodTune c.min.result c.batches.rest.now c.batches.invariant.good)
+
+pub gather_batch-requires-clause-counted : goal.gather_batch-requires-clause-counted
+gather_batch-requires-clause-counted g c κs within =
+    subst (λ tunes. All IsCounted tunes) (sym c.split_at.ensures.front) (All-take IsCounted c.min.result c.batches.rest.now c.batches.invariant.counted)
+
+pub batches-preserved : goal.batches-preserved
+batches-preserved g c = record {
+  gathering =
+      gathering_more c.args.defaults.now c.args.paper.now c.args.how c.args.tunes.now c.batches.rest.now c.split_at.result.0.now c.split_at.result.1.now c.min.result c.batches.blocks c.gather_batch.new.blocks
+      c.split_at.ensures.front c.split_at.ensures.back c.in_ok-gather_batch.ensures c.batches.invariant.gathering;
+  good = subst (λ tunes. All IsGoodTune tunes) (sym c.split_at.ensures.back) (All-drop IsGoodTune c.min.result c.batches.rest.now c.batches.invariant.good);
+  counted = subst (λ tunes. All IsCounted tunes) (sym c.split_at.ensures.back) (All-drop IsCounted c.min.result c.batches.rest.now c.batches.invariant.counted);
+}
+
+pub returns : goal.returns
+returns g c =
+    gathering_done c.args.defaults.now c.args.paper.now c.args.how c.args.tunes.now c.batches.rest.now c.batches.blocks
+    (none_left c.batches.rest.now c.is_empty.result c.is_empty.ensures c.batches-test.false) c.batches.invariant.gathering

@@ -1,0 +1,15 @@
+use Rattle.std.proofs.Common.{length}
+use Rattle.std.specs.Prelude.{All}
+use Rattle.abc_lines.specs.Good.{IsGoodTune}
+use Rattle.abcps.proofs.{Batches.IsCounted, Gathered.IsGathering}
+use Rattle.abcps.proofs.printing.gather_tunes.Given as goal
+
+abbrev pub invariant-batches : goal.invariant-batches
+invariant-batches g l = record {
+  gathering : IsGathering l.defaults l.paper l.how l.tunes l.rest l.blocks;
+  good : All IsGoodTune l.rest;
+  counted : All IsCounted l.rest;
+}
+
+abbrev pub decreases-batches : goal.decreases-batches
+decreases-batches g l = length l.rest

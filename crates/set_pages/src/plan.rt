@@ -1,0 +1,37 @@
+ghost use Rattle.std.specs.Prelude.{◌≡◌, IfOk, List, true};
+ghost use Rattle.abc_header.specs.Papers.{IsGoodPaper};
+ghost use Rattle.set_book.specs.declared.outcome.Outcome as outcome;
+ghost use Rattle.set_pages.specs.{Drawings.all_blocks, Press.AreBlocksOn, Sheet.IsPlan};
+
+use abc_header::{Paper, body_of};
+use lay_pages::{Block, PageError, Spot, fill_even};
+use mus_units::{Memory, Row};
+use std::alloc::Global;
+
+/// Where the blocks of a book stand: filled one under another, as they come; or at these spots, one for
+/// each block of the book.
+#[derive(Drop)]
+pub enum Plan {
+    Filled,
+    At(Row<Spot>),
+}
+
+/// The plan of a book with even pages, from the blocks of all its tunes: their groups are parted into
+/// pages so that no other parting into pages that fit costs less.
+///
+/// `Memory` comes where memory ran out; 2^32 blocks or more count as past it.
+pub fn even_plan(alloc: Global, paper: &Paper, blocks: &[Block]) -> Result<Plan, Memory>
+    requires paper { IsGoodPaper paper.now }
+    requires blocks { AreBlocksOn paper.now blocks.now }
+    ensures { IfOk result (λ plan. (outcomes : List outcome.Outcome) → blocks.now ≡ all_blocks outcomes → IsPlan true paper.now outcomes plan) }
+{
+    if blocks.len() > u32::MAX as usize {
+        return Err(Memory);
+    }
+    let (_, high) = body_of(paper);
+    match fill_even(alloc, blocks, high) {
+        Ok(spots) => Ok(Plan::At(spots)),
+        Err(PageError::Memory) => Err(Memory),
+        Err(PageError::TooTall { .. }) => unreachable!(),
+    }
+}
