@@ -55,6 +55,8 @@ fn name_of(kind: FaultKind) -> &'static [u8] {
         FaultKind::TooManyMeasures => b"TooManyMeasures",
         FaultKind::TooManyEvents => b"TooManyEvents",
         FaultKind::TooManyVerses => b"TooManyVerses",
+        FaultKind::BadScore => b"BadScore",
+        FaultKind::BadShare => b"BadShare",
         FaultKind::BadMove => b"BadMove",
         FaultKind::NoWay { .. } => b"NoWay",
         FaultKind::TooTall { .. } => b"TooTall",

@@ -7,7 +7,7 @@
 //! layout on a width, `systems W` what its systems draw; `sounds` the sounds.
 //! `printed N` prints the text instead of a tune, whole and within N characters.
 
-ghost use Rattle.std.specs.Prelude.{◌≡◌, ◌≤◌, ◌<◌, ◌^◌, ℕ, IfOk, length, slice_index};
+ghost use Rattle.std.specs.Prelude.{◌≤◌, ◌<◌, ◌^◌, ℕ, length, slice_index};
 ghost use Rattle.mus_score.specs.GoodScore.{IsGoodScore};
 
 use crate::boxes::{put_printed, put_system_boxes};
@@ -21,24 +21,13 @@ use crate::sounds::put_sounds;
 use crate::voices::put_voices;
 use answer_texts::{Call, call_of, count_at, end_line, numbers_of, put_numbers, put_word};
 use lay_columns::{Column, columns, gaps_of};
-use lay_measures::{first_columns, further_columns};
+use lay_measures::{first_columns, further_columns, staff_verses};
 use lay_springs::place;
 use mus_marks::{draw_voices, marks, marks_of, sounding};
-use mus_score::{Score, Voice};
+use mus_score::Score;
 use mus_time::onsets;
-use mus_units::{Memory, Row, Text};
+use mus_units::{Memory, Text};
 use std::alloc::Global;
-
-/// How many verses the voices have.
-fn verses_of(alloc: Global, voices: &[Voice]) -> Result<Row<u8>, Memory>
-    ensures { IfOk result (λ r. length r ≡ length voices.now) }
-{
-    let mut verses = Row::new(alloc);
-    for voice in voices {
-        verses.push(voice.verses)?;
-    }
-    Ok(verses)
-}
 
 /// The marks of a system, or its boxes if so asked.
 fn put_marks(
@@ -64,6 +53,7 @@ fn put_marks(
 }
 
 /// The columns of a system, their gaps, and their places at force 256.
+#[tactic(auto, using(mus_marks::proofs::Fitting::few_verses))]
 fn put_system_columns(
     alloc: Global,
     out: &mut Text,
@@ -79,7 +69,7 @@ fn put_system_columns(
     let times = onsets(alloc, score)?;
     let voices = draw_voices(alloc, score)?;
     let system = marks_of(alloc, score, voices.as_slice(), &times, a, b)?;
-    let verses = verses_of(alloc, score.voices.as_slice())?;
+    let verses = staff_verses(alloc, voices.as_slice())?;
     if verses.len() != system.staves.len() {
         return put_word(out, b"other staves\n");
     }
@@ -112,6 +102,7 @@ fn put_places(alloc: Global, out: &mut Text, columns: &[Column], gaps: &[u32]) -
 }
 
 /// The columns of a measure that begins a system, or of one that doesn't.
+#[tactic(auto, using(mus_marks::proofs::Fitting::few_verses))]
 fn put_measure_columns(
     alloc: Global,
     out: &mut Text,
@@ -127,7 +118,7 @@ fn put_measure_columns(
     let times = onsets(alloc, score)?;
     let drawn = draw_voices(alloc, score)?;
     let voices = drawn.as_slice();
-    let verses = verses_of(alloc, score.voices.as_slice())?;
+    let verses = staff_verses(alloc, voices)?;
     let lanes = verses.as_slice();
     let columns = if begins {
         first_columns(alloc, score, voices, &times, measure, lanes)?

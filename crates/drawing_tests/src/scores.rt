@@ -37,7 +37,7 @@ pub(crate) fn score_of(alloc: Global, bytes: &[u8]) -> Result<Score, TuneError>
     let Ok(book) = cut_book(alloc, bytes) else {
         return Err(TuneError::Memory);
     };
-    let defaults = read_defaults(&book);
+    let defaults = read_defaults(alloc, &book)?;
     match book.tunes.as_slice() {
         [] => Err(TuneError::Memory),
         [tune, ..] => tune_score(alloc, tune, &defaults),

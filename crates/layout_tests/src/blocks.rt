@@ -1,14 +1,15 @@
 //! Staves under one another, and blocks on pages.
 
-ghost use Rattle.std.specs.Prelude.{IsTrue};
+ghost use Rattle.std.specs.Prelude.{◌≡◌, ◌≤◌, ◌^◌, IfOk, IfSome, IsTrue, length};
 ghost use Rattle.lay_pages.specs.Stacking.{AreGoodStaves};
 ghost use Rattle.lay_pages.specs.Filling.{AreGoodBlocks};
 
 use answer_texts::{
-    count_at, end_line, number_at, numbers_of, put_heights, put_number, put_numbers, put_word,
-    small_at,
+    count_at, end_line, number_at, numbers_of, put_breaking, put_heights, put_no_way, put_number,
+    put_numbers, put_word, small_at,
 };
-use lay_pages::{Block, PageError, Spot, fill, stack};
+use lay_breaks::{BreakError, least};
+use lay_pages::{Block, PageCosts, PageError, Spot, fill, fill_even, stack};
 use mus_laid::{StaffMarks, SystemMarks};
 use mus_units::{Memory, Row, Text};
 use std::alloc::Global;
@@ -29,6 +30,15 @@ fn staves_of(alloc: Global, text: &str) -> Result<Row<StaffMarks>, Memory> {
         staves.push(staff_of(alloc, line)?)?;
     }
     Ok(staves)
+}
+
+/// How far each staff keeps from the one before it, by its line; of the first it says nothing.
+fn gaps_of(alloc: Global, text: &str) -> Result<Row<u32>, Memory> {
+    let mut gaps = Row::new(alloc);
+    for line in text.lines() {
+        gaps.push(count_at(&numbers_of(alloc, line)?, 2))?;
+    }
+    Ok(gaps)
 }
 
 /// Whether each staff covers its lines.
@@ -54,7 +64,13 @@ pub(crate) fn put_stack(alloc: Global, out: &mut Text, text: &str) -> Result<(),
     if system.staves.len() > 16 || !are_good_staves(system.staves.as_slice()) {
         return put_word(out, b"no staves\n");
     }
-    put_heights(out, &stack(alloc, &system)?)
+    let gaps = gaps_of(alloc, text)?;
+    match gaps.as_slice() {
+        [_, between @ ..] if between.len() + 1 == system.staves.len() => {
+            put_heights(out, &stack(alloc, &system, between)?)
+        }
+        _ => put_word(out, b"no staves\n"),
+    }
 }
 
 /// A block by its line: its height, and 1 where it is tied to the next.
@@ -86,6 +102,36 @@ fn are_good_blocks(blocks: &[Block]) -> bool
     true
 }
 
+/// What pages of these groups cost, where each fits on a page that is at most 2^26 u high.
+fn costs_of(alloc: Global, high: u32, groups: &[Block]) -> Result<Option<PageCosts>, Memory>
+    requires { high ≤ 2 ^ 26 }
+    ensures { IfOk result (λ o. IfSome o (λ costs. length costs.heights ≡ length groups.now)) }
+{
+    let mut heights = Row::new(alloc);
+    for group in groups {
+        if group.height < 0 || group.height > i64::from(high) {
+            return Ok(None);
+        }
+        heights.push(group.height)?;
+    }
+    Ok(Some(PageCosts { heights, high }))
+}
+
+/// The breaking of groups into pages of a height that costs least.
+fn put_costs(alloc: Global, out: &mut Text, high: u32, groups: &[Block]) -> Result<(), Memory>
+    requires high { high ≤ 2 ^ 26 }
+    requires few { length groups.now ≤ 1000 }
+{
+    let Some(costs) = costs_of(alloc, high, groups)? else {
+        return put_word(out, b"no costs\n");
+    };
+    match least(alloc, &costs, groups.len() as u32) {
+        Ok(breaking) => put_breaking(out, &breaking),
+        Err(BreakError::NoWay { reached }) => put_no_way(out, reached),
+        Err(BreakError::Memory) => Err(Memory),
+    }
+}
+
 fn put_spots(out: &mut Text, spots: &[Spot]) -> Result<(), Memory> {
     for spot in spots {
         put_numbers(out, &[i64::from(spot.page), spot.top])?;
@@ -106,7 +152,28 @@ pub(crate) fn put_fill(
     if blocks.len() > 1000 || !are_good_blocks(blocks.as_slice()) {
         return put_word(out, b"no blocks\n");
     }
-    match fill(alloc, blocks.as_slice(), high) {
+    put_filled(out, fill(alloc, blocks.as_slice(), high))
+}
+
+/// What pages of groups cost, and where these stand on even pages of a height.
+pub(crate) fn put_even(
+    alloc: Global,
+    out: &mut Text,
+    words: &str,
+    text: &str,
+) -> Result<(), Memory> {
+    let high = count_at(&numbers_of(alloc, words)?, 0);
+    let blocks = blocks_of(alloc, text)?;
+    if high > 1 << 26 || blocks.len() > 1000 || !are_good_blocks(blocks.as_slice()) {
+        return put_word(out, b"no blocks\n");
+    }
+    put_costs(alloc, out, high, blocks.as_slice())?;
+    put_filled(out, fill_even(alloc, blocks.as_slice(), high))
+}
+
+/// Where blocks stand, or why they don't.
+fn put_filled(out: &mut Text, filled: Result<Row<Spot>, PageError>) -> Result<(), Memory> {
+    match filled {
         Ok(spots) => put_spots(out, spots.as_slice()),
         Err(PageError::TooTall { block }) => {
             put_word(out, b"too tall")?;

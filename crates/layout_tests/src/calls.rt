@@ -1,11 +1,11 @@
 //! The calls that a case may name.
 //!
 //! Layout: `place`, `fit`, `within`, `set` and `last` on plain columns, `badness F`, `least` on a table of costs,
-//! `check` on a listing. Pages: `stack` and `fill H`; `glyphs`; `glyph`, `words`, `stem`, `beam` and `arc` with a
+//! `check` on a listing. Pages: `stack`, `fill H` and `even H`; `glyphs`; `glyph`, `words`, `stem`, `beam` and `arc` with a
 //! mark's numbers, `read Y` on lines of marks; `document`, `steps` and `whole`, `pages` and `page`, `hear W` and
 //! `hear W PLACE`. The program: `commands`, `make N`. Streams: `source`, `sink`, `streams`.
 
-use crate::blocks::{put_fill, put_stack};
+use crate::blocks::{put_even, put_fill, put_stack};
 use crate::commands::{put_commands, put_made};
 use crate::documents::{put_document, put_pages, put_written};
 use crate::glyphs::put_glyphs;
@@ -31,6 +31,7 @@ fn put_layout_call(
         b"badness" => put_badness(alloc, out, call.rest),
         b"stack" => put_stack(alloc, out, text),
         b"fill" => put_fill(alloc, out, call.rest, text),
+        b"even" => put_even(alloc, out, call.rest, text),
         b"check" => put_verdicts(alloc, out, text),
         _ => put_plain(alloc, out, call.name, call.rest, text),
     }

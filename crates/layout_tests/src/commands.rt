@@ -32,11 +32,21 @@ fn put_spread(out: &mut Text, spread: Spread) -> Result<(), Memory> {
     )
 }
 
+fn put_even(out: &mut Text, even: bool) -> Result<(), Memory> {
+    if even { put_word(out, b"even") } else { Ok(()) }
+}
+
 fn put_command(out: &mut Text, command: Command) -> Result<(), Memory> {
     match command {
-        Command::Set { flow, jobs, by } => {
+        Command::Set {
+            flow,
+            jobs,
+            by,
+            even,
+        } => {
             put_word(out, b"set")?;
             put_flow(out, flow)?;
+            put_even(out, even)?;
             put_number(out, i64::from(jobs))?;
             put_number(out, i64::from(by))
         }
@@ -59,10 +69,16 @@ fn put_command(out: &mut Text, command: Command) -> Result<(), Memory> {
             put_word(out, b"make")?;
             put_number(out, i64::from(tunes))
         }
-        Command::Trial { tunes, flow, jobs } => {
+        Command::Trial {
+            tunes,
+            flow,
+            jobs,
+            even,
+        } => {
             put_word(out, b"trial")?;
             put_number(out, i64::from(tunes))?;
             put_flow(out, flow)?;
+            put_even(out, even)?;
             put_number(out, i64::from(jobs))
         }
     }

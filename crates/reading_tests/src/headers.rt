@@ -3,7 +3,7 @@ ghost use Rattle.abc_header.specs.Good.{IsGoodDefaults};
 use crate::books::book_of;
 use crate::fields::{put_breaks, put_voice};
 use abc_header::{Defaults, Header, VoiceDef, read_defaults, read_header};
-use abc_lines::TuneText;
+use abc_lines::{Line, TuneText};
 use case_texts::{
     put_clef, put_fault, put_frac, put_line, put_meter, put_next, put_number, put_signs,
     put_spread, put_text,
@@ -17,13 +17,24 @@ pub(crate) fn put_defaults_of_book(
     out: &mut Text,
     bytes: &[u8],
 ) -> Result<(), Memory> {
-    let defaults = read_defaults(&book_of(alloc, bytes)?);
+    let defaults = read_defaults(alloc, &book_of(alloc, bytes)?)?;
     put_meter(alloc, out, defaults.meter)?;
     if let Some(unit) = defaults.unit {
         put_frac(alloc, out, b"unit", unit)?;
     }
     put_breaks(out, defaults.breaks)?;
-    put_spread(out, defaults.spread)
+    put_spread(out, defaults.spread)?;
+    put_staves(alloc, out, &defaults.staves)
+}
+
+/// Adds the line that says how voices share staves: its number and its text.
+fn put_staves(alloc: Global, out: &mut Text, staves: &Option<Line>) -> Result<(), Memory> {
+    let Some(line) = staves else {
+        return Ok(());
+    };
+    put_next(out, b"staves ")?;
+    put_number(alloc, out, u64::from(line.number))?;
+    put_next(out, line.text.as_slice())
 }
 
 /// Adds the header of each tune of a book, or its fault.
@@ -33,7 +44,7 @@ pub(crate) fn put_headers_of_book(
     bytes: &[u8],
 ) -> Result<(), Memory> {
     let book = book_of(alloc, bytes)?;
-    let defaults = read_defaults(&book);
+    let defaults = read_defaults(alloc, &book)?;
     for tune in book.tunes.as_slice() {
         put_header_of_tune(alloc, out, tune, &defaults)?;
     }
@@ -57,7 +68,7 @@ fn put_header_of_tune(
 }
 
 /// Adds what a header says: key, clef, meter, unit, voices, texts, breaks, how far signs reach,
-/// and the index of the first line of the body.
+/// its staves, and the index of the first line of the body.
 fn put_header(alloc: Global, out: &mut Text, header: &Header) -> Result<(), Memory> {
     put_signs(out, b"key", header.key.signs.as_slice())?;
     put_clef(out, header.clef)?;
@@ -67,6 +78,7 @@ fn put_header(alloc: Global, out: &mut Text, header: &Header) -> Result<(), Memo
     put_head_texts(out, header)?;
     put_breaks(out, header.breaks)?;
     put_spread(out, header.spread)?;
+    put_staves(alloc, out, &header.staves)?;
     put_next(out, b"body ")?;
     put_number(alloc, out, u64::from(header.body))
 }

@@ -69,7 +69,7 @@ pub(crate) fn tune_of(alloc: Global, bytes: &[u8], flow: bool) -> Result<(Header
     let Ok(book) = cut_book(alloc, within_limit(bytes)) else {
         return Err(TuneError::Memory);
     };
-    let defaults = read_defaults(&book);
+    let defaults = read_defaults(alloc, &book)?;
     match book.tunes.as_slice() {
         [] => Err(TuneError::Memory),
         [tune, ..] => read_tune(alloc, tune, &defaults, flow),
