@@ -1,5 +1,5 @@
 #!/bin/sh
-# Runs the gate from nothing (rt ci --anew; other words are handed to rt ci), and
+# Runs the gate (rt ci, which proves all from nothing; words are handed to it), and
 # prints what each crate took: processor minutes of its proof, of the proof and
 # build of its tests, and of its must-fail edits with what they begin with, and
 # the most memory that one of its processes held. Then the sum, of all crates and
@@ -167,7 +167,7 @@ def main(words):
     if words == ["--sizes"]:
         sizes(used)
         return 0
-    return gate(words or ["--anew"], used)
+    return gate(words, used)
 
 
 sys.exit(main(sys.argv[1:]))

@@ -41,6 +41,26 @@ glyph_sheet() {
     printf 'grestore\nshowpage\n%%%%Trailer\n%%%%Pages: 1\n%%%%EOF\n'
 }
 
+# The pages of some examples side by side in frames: filled one after another above, and evenly (`--even`) below.
+# Each is 220 by 195 points, and drawn at half that size.
+even_sheet() {
+    sed -n '1,/^%%EndProlog$/p' "$folder/one-measure.ps"
+    printf '%%%%Page: 1 1\ngsave\n0.005 0.005 scale\n'
+    row=1
+    for words in set "set --even"; do
+        # shellcheck disable=SC2086
+        (cd "$examples" && $program $words <pages.abc) | awk -v row="$row" '
+            /^\/pg / { sub(/^\/pg \{gsave 0.01 0.01 scale/, ""); sub(/\} def$/, ""); begin = $0 }
+            /^%%Page: / { printf "gsave %d %d translate 100 setlinewidth 0 0 m 22000 0 l 22000 19500 l 0 19500 l closepath k\n", ($2 - 1) * 24000 + 1000, row * 21500 + 1000; inside = 1; next }
+            /^showpage$/ { inside = 0; next }
+            inside && /^pg$/ { printf "gsave %s\n", begin; next }
+            inside && /^grestore$/ { print "grestore grestore"; next }
+            inside { print }'
+        row=$((row - 1))
+    done
+    printf 'grestore\nshowpage\n%%%%Trailer\n%%%%Pages: 1\n%%%%EOF\n'
+}
+
 # Draws the first page of a document: width and height in points, dots an inch.
 draw() {
     gs -q -dSAFER -dBATCH -dNOPAUSE -dLastPage=1 -sDEVICE=pnggray -r"$4" -dTextAlphaBits=4 -dGraphicsAlphaBits=4 \
@@ -53,7 +73,9 @@ page page reel.abc song.abc two-voices.abc
 page decorations decorations.abc
 page engraving engraving.abc
 page bars bars.abc
+page staves staves.abc
 glyph_sheet >"$folder/glyphs.ps"
+even_sheet >"$folder/even.ps"
 
 (cd "$folder" && sha256sum -- *.ps) >"$folder/pages.txt"
 if [ "$check" = yes ]; then
@@ -64,5 +86,7 @@ draw page 595 842 100
 draw decorations 500 120 110
 draw engraving 560 225 110
 draw bars 330 120 110
+draw staves 400 225 110
+draw even 365 220 110
 draw glyphs 595 460 100
 cp "$folder/pages.txt" "$pictures/pages.txt"
