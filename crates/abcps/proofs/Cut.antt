@@ -1,29 +1,29 @@
 -- A book whose document was written, and one whose document was not written to its end.
-use Rattle.std.proofs.Common.{◌≡◌, refl, sym, ap, ◌∙◌, subst, ◌⊎◌, inl, inr, ℕ, ◌<◌, ◌≤◌, Bool, true, false, List, [], ◌∷◌, ◌++◌, length, take, drop, arith, Option}
+use Rattle.std.proofs.Common.{◌≡◌, refl, sym, ap, ◌∙◌, subst, ◌⊎◌, inl, inr, ℕ, ◌<◌, Bool, true, false, List, [], ◌∷◌, ◌++◌, length, take, drop, arith, Option}
 use Rattle.std.proofs.lemmas.List.{append-nil, append_assoc, length-append, take-append-drop}
 use Rattle.std.proofs.Math.Seq.{take-append_seam}
 use Rattle.std.specs.Prelude.{Result, Ok, Err}
 use Rattle.abc_lines.specs.{declared.book.Book.Book, declared.book.TuneText.TuneText, Books.book_of}
 use Rattle.abc_header.specs.{declared.defaults.Defaults.Defaults, declared.paper.Paper.Paper, Defaults.defaults_of}
-use Rattle.abc_header.specs.Papers.{IsGoodPaper, height_of, paper_of, width_of}
+use Rattle.abc_header.specs.Papers.{IsGoodPaper, height_of, paper_of}
 use Rattle.ps_text.specs.{Document.document, declared.sheet.Page.Page}
 use Rattle.set_tune.specs.declared.how.How.{How}
 use Rattle.set_book.specs.{declared.outcome.Outcome.Outcome, Outcomes.AreOutcomes, Outcomes.IsOutcome}
 use Rattle.set_book.proofs.Once.{outcomes_once}
 use Rattle.set_lists.specs.Reports.{some_fault}
 use Rattle.set_pages.specs.{declared.plan.Plan.Plan, Drawings.all_blocks, Drawings.all_drawings, Press.HasRoom, Press.IsOpen, Press.IsPressed, Press.RisesBy, Press.done_pages}
-use Rattle.set_pages.specs.Sheet.{AllShown, IsPlan, ShowsDrawing, all_spots, frame_of, sheet_of}
+use Rattle.set_pages.specs.Sheet.{IsPlan, all_spots, frame_of, sheet_of}
 use Rattle.set_pages.specs.declared.plan.Plan.TheVariants as plans
 use Rattle.set_pages.specs.declared.press.Press.{Press}
-use Rattle.set_pages.proofs.{Fronts.IsFront, Fronts.done_first, Fronts.done_front, Whole.one_plan, Whole.plan_rises, Whole.plan_stands, Whole.room_by, Whole.sheet_whole}
-use Rattle.set_pages.proofs.Zips.{zip_back, zip_front, zip_length}
+use Rattle.set_pages.proofs.{Fronts.IsFront, Fronts.done_first, Fronts.done_front, Whole.one_plan, Whole.plan_rises, Whole.plan_stands, Whole.room_by, Whole.sheet_whole, Whole.stand_count}
+use Rattle.set_pages.proofs.Zips.{zip_back, zip_front}
 use Rattle.abcps.specs.{Called.Called, Books.AreSet, Books.CallsPages, Books.pages_called, Books.paper_in}
 use Rattle.abcps.specs.Outcome.{HasFront, IsAnswer, IsCutShort, IsEnd, IsQuiet, Stream, TookAll, TookFront}
 use Rattle.abcps.specs.Pressed.{AreCutOff, AreRunning, IsClosed, IsPlanned, IsPrinted, IsUnprinted, WasCounted, WasStopped, all_set, first_text, rest_text, some_left, status_if, unbegun}
 use Rattle.abcps.specs.{declared.pressing.Printed.Printed, declared.pressing.Running.Running, declared.status.Status.Status}
 use Rattle.abcps.specs.declared.status.Status.TheVariants as status
 use Rattle.abcps_words.specs.declared.command.Command.TheVariants as command
-use Rattle.abcps.proofs.{Answered.answer_by, Answered.answered_end, Batches.IsUnderway}
+use Rattle.abcps.proofs.{Answered.answer_by, Answered.answered_end, Batches.IsUnderway, BookCalls.set_under}
 use Rattle.abcps.proofs.Sent.{document_parts, front_longer, stopped_behind, stopped_count, stopped_front, stopped_longer, stream, took_behind}
 
 -- pages that were given up are the first of a sheet, and so is their text of its document
@@ -47,12 +47,13 @@ calls_pages how even text outcomes plan given press set planned good free presse
     record {
       outcomes = outcomes;
       set = set;
+      sheet = sheet_of plan (paper_in text) outcomes;
+      read = record { good = sheet.good; spelled = refl };
+      shows = stand.shown;
       plan = plan;
       parted = planned;
-      sheet = record { good = sheet.good; spelled = refl };
-      symbols = sheet.shows;
-      apart = stand.clear;
       blocks = stand.stand;
+      whole = refl;
       told = refl;
       status = refl;
     }
@@ -99,14 +100,14 @@ room_underway even defaults plan paper how tunes rest batch n o r more front pla
 
 -- the pages that were done when some tunes were set are the first of whatever the book calls for
 front_called : (defaults : Defaults) (plan : Plan) (paper : Paper) (how : How) (before rest : List TuneText) (outcomes all : List Outcome) (given : List Page) (press : Press)
-    → AreOutcomes defaults paper how before outcomes → IsPressed plan paper outcomes given press → AreOutcomes defaults paper how (before ++ rest) all → AllShown plan paper all
+    → AreOutcomes defaults paper how before outcomes → IsPressed plan paper outcomes given press → AreOutcomes defaults paper how (before ++ rest) all → length (all_drawings all) ≡ length (all_spots plan paper all)
     → IsFront (given ++ done_pages press) (sheet_of plan paper all).pages
-front_called defaults plan paper how before rest outcomes all given press set pressed whole shown =
+front_called defaults plan paper how before rest outcomes all given press set pressed whole count =
     let parts = first_outcomes defaults paper how before rest outcomes all set whole in
     let more = drop (length before) all in
     subst (λ os. IsFront (given ++ done_pages press) (sheet_of plan paper os).pages) (sym parts)
     (done_front plan paper outcomes more given press pressed
-    (subst (λ os. length (all_drawings os) ≡ length (all_spots plan paper os)) parts (zip_length (ShowsDrawing (width_of paper)) (all_drawings all) (all_spots plan paper all) shown)))
+    (subst (λ os. length (all_drawings os) ≡ length (all_spots plan paper os)) parts count))
 
 text_front : (plan : Plan) (paper : Paper) (outcomes : List Outcome) (given : List Page) (o : Stream) → IsFront given (sheet_of plan paper outcomes).pages → HasFront o (first_text paper given)
     → HasFront o (document (sheet_of plan paper outcomes))
@@ -137,9 +138,10 @@ module _ (how : How) (even : Bool) (text : List ℕ) (plan : Plan) (o : Stream) 
       let given = cut.given ++ done_pages cut.press in
       let whole = subst (λ l. AreOutcomes (defaults_of (book_of text).header) (paper_in text) how l calls.outcomes) (sym cut.whole) calls.set in
       let same = one_plan even (paper_in text) calls.outcomes plan calls.plan (plan_of_all even (defaults_of (book_of text).header) (paper_in text) how (book_of text).tunes plan calls.outcomes planned calls.set) calls.parted in
-      let shown = subst (λ p. AllShown p (paper_in text) calls.outcomes) same calls.symbols in
-      let front = front_called (defaults_of (book_of text).header) plan (paper_in text) how cut.before cut.rest cut.outcomes calls.outcomes cut.given cut.press cut.set cut.pressed whole shown in
-      subst (λ l. HasFront o l) (ap (λ p. document (sheet_of p (paper_in text) calls.outcomes)) (sym same) ∙ calls.sheet.spelled)
+      let count = subst (λ p. length (all_drawings calls.outcomes) ≡ length (all_spots p (paper_in text) calls.outcomes)) same
+          (stand_count calls.plan (paper_in text) calls.outcomes (set_under how text (paper_in text) calls.outcomes refl calls.set) calls.blocks) in
+      let front = front_called (defaults_of (book_of text).header) plan (paper_in text) how cut.before cut.rest cut.outcomes calls.outcomes cut.given cut.press cut.set cut.pressed whole count in
+      subst (λ l. HasFront o l) (ap (λ p. document (sheet_of p (paper_in text) calls.outcomes)) (sym same) ∙ ap document (sym calls.whole) ∙ calls.read.spelled)
       (text_front plan (paper_in text) calls.outcomes given o front (stopped_front why o (first_text (paper_in text) given) cut.wrote))
 
   first_filled : even ≡ false → HasFront o (document (sheet_of plans.Filled (paper_in text) cut.outcomes))

@@ -6,7 +6,7 @@ use Rattle.gen_book.specs.Book.{book}
 use Rattle.ps_text.specs.{Document.Spells, Document.document, declared.sheet.Sheet.Sheet}
 use Rattle.set_tune.specs.declared.how.How.{How}
 use Rattle.set_book.specs.{declared.outcome.Outcome.Outcome, Outcomes.AreOutcomes}
-use Rattle.set_pages.specs.{declared.plan.Plan.Plan, Clear.AreClear, Press.IsBookSheet, Sheet.AllShown, Sheet.AreStanding, Sheet.IsPlan, Sheet.sheet_of}
+use Rattle.set_pages.specs.{declared.plan.Plan.Plan, Press.IsBookSheet, Read.ShowsBook, Sheet.AreStanding, Sheet.IsPlan, Sheet.sheet_of}
 use Rattle.set_lists.specs.{declared.trials.Trial.Trial, Reports.reports, Reports.some_fault, Systems.systems_text, Laws.ListsTheScores}
 use Rattle.set_lists.specs.{Listing.listing_text, Trials.fault_count, Trials.set_count, Trials.system_count, Trials.total_of, Trials.trial_text}
 use Rattle.abcps.specs.{Called.Called, Called.IsQuietly, declared.status.Status.Status}
@@ -23,19 +23,19 @@ AreSet how text outcomes = AreOutcomes (defaults_of (book_of text).header) (pape
 abbrev pub status_of : List Outcome → Status
 status_of outcomes = if some_fault outcomes then status.SomeRefused else status.Done
 
--- Of `set`: the page, read back, is the one sheet that the tunes without fault call for; on it the ranks read off each staff are the
--- marks that the score calls for, boxes of one lane in different columns stay apart, and so do staves, and each block lies on its page
--- and follows the one before it; with even pages no other parting of the groups into pages that fit has a smaller total; and each fault
--- is told.
+-- Of `set`: the page spells one sheet. What a reader finds on it are the tunes without fault, in order: of each the systems of its chosen
+-- breaking, with exactly the marks that its score calls for, set to the margin and apart; each block lies on its page and follows the one
+-- before it; with even pages no other parting of the groups into pages that fit has a smaller total; and each fault is told.
 pub record CallsPages (how : How) (even : Bool) (text : List ℕ) (c : Called) : Type 0 where
   pub outcomes : List Outcome
   pub set : AreSet how text outcomes
+  pub sheet : Sheet
+  pub read : Spells sheet c.page
+  pub shows : ShowsBook (paper_in text) outcomes sheet
   pub plan : Plan
   pub parted : IsPlan even (paper_in text) outcomes plan
-  pub sheet : Spells (sheet_of plan (paper_in text) outcomes) c.page
-  pub symbols : AllShown plan (paper_in text) outcomes
-  pub apart : AreClear plan (paper_in text) outcomes
   pub blocks : AreStanding plan (paper_in text) outcomes
+  pub whole : sheet ≡ sheet_of plan (paper_in text) outcomes
   pub told : c.told ≡ reports outcomes
   pub status : c.status ≡ status_of outcomes
 

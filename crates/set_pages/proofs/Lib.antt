@@ -8,6 +8,7 @@ pub mod Laying
 pub mod Blocking
 pub mod Standing
 pub mod Readying
+pub mod Reading
 pub mod Stepping
 pub mod Joined
 pub mod Fronts

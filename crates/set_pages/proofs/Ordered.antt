@@ -88,7 +88,7 @@ items_good : (width page : ℕ) (ds : List Drawing) (ss : List Spot) → AllZip 
 items_good width page [] ss good = All-nil IsItem
 items_good width page (d ∷ ds) [] good = All-nil IsItem
 items_good width page (d ∷ ds) (s ∷ ss) good =
-    if_good (s.page == page) (drawn width s.top d) (items_on width page ds ss) good.0.good (items_good width page ds ss good.1)
+    if_good (s.page == page) (drawn width s.top d) (items_on width page ds ss) good.0 (items_good width page ds ss good.1)
 
 pub pages_good : (width : ℕ) (ds : List Drawing) (ss : List Spot) (k n : ℕ) → AllZip (IsDrawn width) ds ss → AreBegun ds → All IsPage (pages_from width ds ss k n)
 pages_good width ds ss k zero good begun = All-nil IsPage

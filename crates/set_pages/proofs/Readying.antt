@@ -17,7 +17,7 @@ laid_whole width t laid = record {
   good = good_heights t.score t.systems t.heights laid.heights;
 }
 
-result_whole : (paper : Paper) (r : Result SetTune Fault) → IsSetResult paper r → IsWholeResult r
+pub result_whole : (paper : Paper) (r : Result SetTune Fault) → IsSetResult paper r → IsWholeResult r
 result_whole paper (Ok t) h = laid_whole (width_of paper) t h.3.laid.layout
 result_whole paper (Err fault) h = tt
 

@@ -80,7 +80,7 @@ lie_between : (shift top bottom high base : ℤ) (staff : StaffMarks) → base +
 lie_between shift top bottom high base staff at under below above = record { above = omega (arith, ints); below = omega (arith, ints) }
 
 pub are_under : (shift top bottom high : ℤ) (gaps : List ℕ) (staves : List StaffMarks) (bases : List ℤ) → AreGoodStaves staves → AreStacked top gaps staves bases bottom
-    → (shift +ℤ top) ≤ℤ high → pos 0 ≤ℤ (shift +ℤ bottom) → AreUnder shift high gaps staves bases
+    → (shift +ℤ top) ≤ℤ high → pos 0 ≤ℤ (shift +ℤ bottom) → AreUnder high gaps staves (map (λ base. shift +ℤ base) bases)
 are_under shift top bottom high [] [] [] good stacked below above = tt
 are_under shift top bottom high [] [] (base ∷ bases) good stacked below above = absurd stacked
 are_under shift top bottom high [] (staff ∷ []) [] good stacked below above = absurd stacked

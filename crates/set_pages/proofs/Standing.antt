@@ -67,7 +67,7 @@ pub good_append : (xs ys : List Block) → AreGoodBlocks xs → AreGoodBlocks ys
 good_append [] ys front back = back
 good_append (x ∷ xs) ys front back = (front.0, good_append xs ys front.1 back)
 
-result_count : (ordinal : ℕ) (r : Result SetTune Fault) → IsWholeResult r → length (result_drawings ordinal r) ≡ length (result_blocks r)
+pub result_count : (ordinal : ℕ) (r : Result SetTune Fault) → IsWholeResult r → length (result_drawings ordinal r) ≡ length (result_blocks r)
 unfolding blocks_of
 result_count ordinal (Ok t) whole = drawings_count (Some ordinal) (title_contents t.title.rows ++ systems_of t) ∙ tune_count t whole
 result_count ordinal (Err fault) whole = refl

@@ -7,11 +7,11 @@ use Rattle.lay_pages.{specs.declared.filling.Block.Block, specs.declared.filling
 use Rattle.lay_pages.proofs.{Fitting.within_from, Pages.filled_stacked, Pages.one_spots}
 use Rattle.ps_text.specs.{declared.sheet.Frame.Frame, declared.sheet.Page.Page, declared.sheet.Sheet.Sheet, Range.IsFrame, Range.IsPage}
 use Rattle.set_book.specs.declared.outcome.Outcome.{Outcome}
-use Rattle.set_pages.specs.Press.{AreBlocksOn, AreLast, HasRoom, IsBookSheet, IsOpen, IsPressed, IsSheetOf, RisesBy, StandClear, behind_by, done_pages, next_behind, next_spots, no_press}
+use Rattle.set_pages.specs.Press.{AreBlocksOn, AreLast, HasRoom, IsBookSheet, IsOpen, IsPressed, IsSheetOf, RisesBy, StandShown, behind_by, done_pages, next_behind, next_spots, no_press}
 use Rattle.set_pages.specs.{declared.plan.Plan.Plan, declared.pages.Pages.Pages, declared.press.Press.Press, Drawings.Drawing, Drawings.all_blocks, Drawings.all_drawings, Filling.done_count, Filling.no_pages, Filling.restored, Filling.turned, Filling.with_drawings, Ready.AreRising, Ready.IsDrawn}
-use Rattle.set_pages.specs.{Ready.IsReady, Ready.IsReadyOn, Sheet.AreStanding, Sheet.IsEvenPlan, Sheet.IsPlan, Sheet.IsSetUnder, Sheet.ShowsDrawing, Sheet.all_spots, Sheet.frame_of, Sheet.page_count, Sheet.pages_of, Sheet.points, Sheet.sheet_of}
-use Rattle.set_pages.proofs.{Fitting.all_fit, Fronts.all_left, Fronts.all_right, Fronts.done_first, Fronts.plan_rising, Joined.blocks_append, Joined.pressed_more, Ordered.all_begun, Ordered.pages_good, Blocking.all_clear, Blocking.all_ready, Readying.all_whole, Readying.each_fits}
-use Rattle.set_pages.proofs.{Standing.all_count, Standing.ready_at, Standing.rising, Turned.all_put, Turned.closed, Zips.zip_length, Zips.zip_weaker}
+use Rattle.set_pages.specs.{Read.ShowsBook, Ready.IsReady, Ready.IsReadyOn, Sheet.AreStanding, Sheet.IsEvenPlan, Sheet.IsPlan, Sheet.IsSetUnder, Sheet.all_spots, Sheet.frame_of, Sheet.page_count, Sheet.pages_of, Sheet.points, Sheet.sheet_of}
+use Rattle.set_pages.proofs.{Fitting.all_fit, Fronts.all_left, Fronts.all_right, Fronts.done_first, Fronts.plan_rising, Joined.blocks_append, Joined.pressed_more, Ordered.all_begun, Ordered.pages_good, Blocking.all_ready, Reading.page_items, Reading.parts_at, Reading.parts_whole, Reading.shows_tunes, Readying.all_whole, Readying.each_fits}
+use Rattle.set_pages.proofs.{Standing.all_count, Standing.ready_at, Standing.rising, Turned.all_put, Turned.closed, Zips.zip_length}
 
 -- no group of the book is too tall
 pub fits_at : (paper : Paper) (outcomes : List Outcome) (high : ℕ) (slice blocks : List Block) → high ≡ height_of paper → slice ≡ blocks → blocks ≡ all_blocks outcomes → All (IsSetUnder paper) outcomes → first_tall high slice ≡ None
@@ -80,11 +80,28 @@ standing_by true paper outcomes (Plan.At spots) set good is = record {
   filled = tt;
 }
 
+-- a spot for each thing that is drawn
+pub stand_count : (plan : Plan) (paper : Paper) (outcomes : List Outcome) → All (IsSetUnder paper) outcomes → AreStanding plan paper outcomes → length (all_drawings outcomes) ≡ length (all_spots plan paper outcomes)
+stand_count plan paper outcomes set stand =
+    all_count outcomes (all_whole paper outcomes set) ∙ sym (whole_count (height_of paper) (all_blocks outcomes) (all_spots plan paper outcomes) stand.within)
+
+-- the sheet of a book shows its tunes
+book_shown : (plan : Plan) (paper : Paper) (outcomes : List Outcome) → IsGoodPaper paper → All (IsSetUnder paper) outcomes → AreStanding plan paper outcomes → ShowsBook paper outcomes (sheet_of plan paper outcomes)
+unfolding sheet_of
+book_shown plan paper outcomes good set stand =
+    let ss = all_spots plan paper outcomes in
+    record {
+      frame = refl;
+      parts = parts_at (width_of paper) outcomes ss;
+      whole = page_items (width_of paper) (all_drawings outcomes) ss (stand_count plan paper outcomes set stand) (rising (height_of paper) (all_blocks outcomes) ss stand.within stand.stacked) ∙ parts_whole (width_of paper) outcomes ss;
+      tunes = shows_tunes paper outcomes ss good set stand.within;
+    }
+
 pub plan_stands : (even : Bool) (paper : Paper) (outcomes : List Outcome) (plan : Plan) → IsGoodPaper paper → All (IsSetUnder paper) outcomes → AreGoodBlocks (all_blocks outcomes) → IsPlan even paper outcomes plan
-    → StandClear plan paper outcomes
+    → StandShown plan paper outcomes
 plan_stands even paper outcomes plan good set blocks is =
     let stand = standing_by even paper outcomes plan set blocks is in
-    record { stand = stand; clear = all_clear paper outcomes (all_spots plan paper outcomes) good set stand.within }
+    record { stand = stand; shown = book_shown plan paper outcomes good set stand }
 
 -- a plan of a book rises, has room for all its blocks, and is the only one
 pub plan_rises : (even : Bool) (paper : Paper) (outcomes : List Outcome) (plan : Plan) → IsPlan even paper outcomes plan → RisesBy plan
@@ -223,7 +240,6 @@ sheet_whole plan paper outcomes given press good is_open pressed = record {
     few = subst (λ l. length l < 2 ^ 32) (sym (whole_pages plan paper outcomes given press pressed)) (few_pages given (is_begun press) press.pages pressed.gone is_open.few);
     pages = pages_good (width_of paper) (all_drawings outcomes) (all_spots plan paper outcomes) 0 (page_count (all_spots plan paper outcomes)) pressed.drawn (all_begun outcomes);
   };
-  shows = zip_weaker (IsDrawn (width_of paper)) (ShowsDrawing (width_of paper)) (λ d spot g. g.shows) (all_drawings outcomes) (all_spots plan paper outcomes) pressed.drawn;
 }
 
 left_whole : (plan : Plan) (paper : Paper) (outcomes : List Outcome) (given pages : List Page) (press : Press) → IsPressed plan paper outcomes given press → pages ≡ done_of (is_begun press) press.pages

@@ -22,9 +22,3 @@ pub zip_joined : {A B : Type 0} (R : A → B → Type 0) (xs ys : List A) (zs : 
 zip_joined R [] ys zs front back = back
 zip_joined R (x ∷ xs) ys [] front back = absurd front
 zip_joined R (x ∷ xs) ys (z ∷ zs) front back = (front.0, zip_joined R xs ys zs front.1 back)
-
-pub zip_weaker : {A B : Type 0} (R S : A → B → Type 0) → ((x : A) (y : B) → R x y → S x y) → (xs : List A) (ys : List B) → AllZip R xs ys → AllZip S xs ys
-zip_weaker R S to [] [] h = tt
-zip_weaker R S to [] (y ∷ ys) h = absurd h
-zip_weaker R S to (x ∷ xs) [] h = absurd h
-zip_weaker R S to (x ∷ xs) (y ∷ ys) h = (to x y h.0, zip_weaker R S to xs ys h.1)

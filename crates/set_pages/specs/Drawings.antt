@@ -1,5 +1,5 @@
 -- What the blocks of a book draw: those of the tunes without fault, in order. The first block of a tune begins it.
-use Rattle.std.specs.Prelude.{⊤, ℕ, ℤ, ◌-ℤ◌, List, [], ◌∷◌, ◌++◌, map, flat_map, Option, Some, None, Result, Ok, Err}
+use Rattle.std.specs.Prelude.{ℕ, ℤ, ◌-ℤ◌, List, [], ◌∷◌, ◌++◌, map, flat_map, Option, Some, None, Result, Ok, Err}
 use Rattle.abc_lines.specs.declared.fault.Fault.{Fault}
 use Rattle.mus_laid.specs.declared.laid.SystemMarks.{SystemMarks}
 use Rattle.lay_springs.specs.declared.margin.Placed.{Placed}
@@ -7,7 +7,7 @@ use Rattle.lay_pages.specs.{declared.filling.Block.Block, declared.stacking.Heig
 use Rattle.ps_text.specs.declared.sheet.Item.{Item}
 use Rattle.set_tune.specs.{declared.tune.SetTune.SetTune, Blocks.blocks_of}
 use Rattle.set_book.specs.declared.outcome.Outcome.{Outcome}
-use Rattle.set_staves.specs.Marks.{ShowsCall, staves_at, system_at}
+use Rattle.set_staves.specs.Marks.{system_at}
 
 -- the rows of a title block; or a system, where its columns stand, and how far the bases of its staves lie above its top
 pub data Content : Type 0 where
@@ -83,8 +83,3 @@ outcome_blocks o = result_blocks o.result
 
 abbrev pub all_blocks : List Outcome → List Block
 all_blocks outcomes = flat_map outcome_blocks outcomes
-
--- the ranks read off a system on the page are those that its marks call for
-abbrev pub ShowsContent : ℕ → ℤ → Content → Type 0
-ShowsContent width top (title rows) = ⊤
-ShowsContent width top (system m at bases) = ShowsCall (staves_at width at top m.staves bases) m.staves

@@ -3,7 +3,7 @@ use Rattle.std.specs.Prelude.{◌≡◌, ⊤, ℕ, ◌+◌, ◌-◌, ◌^◌, �
 use Rattle.std.specs.List.{AllZip}
 use Rattle.abc_header.specs.{declared.paper.Paper.Paper, Papers.height_of, Papers.width_of}
 use Rattle.lay_pages.specs.{declared.filling.Block.Block, declared.filling.Spot.Spot, declared.filling.Standing.Standing, Filling.AreGoodBlocks, Filling.AreWithin, Filling.CanFollow, Filling.behind_after, Filling.spots_behind}
-use Rattle.set_pages.specs.{declared.plan.Plan.Plan, declared.press.Press.Press, Clear.AreClear, Drawings.all_blocks, Drawings.all_drawings, Filling.done_count, Filling.no_pages, Filling.restored, Filling.with_drawings, Ready.AreRising, Ready.IsDrawn, Sheet.AllShown, Sheet.AreStanding, Sheet.IsPlan}
+use Rattle.set_pages.specs.{declared.plan.Plan.Plan, declared.press.Press.Press, Drawings.all_blocks, Drawings.all_drawings, Filling.done_count, Filling.no_pages, Filling.restored, Filling.with_drawings, Ready.AreRising, Read.ShowsBook, Ready.IsDrawn, Sheet.AreStanding, Sheet.IsPlan}
 use Rattle.set_pages.specs.Sheet.{IsSetUnder, all_spots, sheet_of}
 use Rattle.ps_text.specs.{declared.sheet.Page.Page, declared.sheet.Sheet.Sheet, Range.IsSheet}
 use Rattle.set_book.specs.declared.outcome.Outcome.{Outcome}
@@ -57,21 +57,20 @@ pub record IsPressed (plan : Plan) (paper : Paper) (outcomes : List Outcome) (gi
   pub drawn : AllZip (IsDrawn (width_of paper)) (all_drawings outcomes) (all_spots plan paper outcomes)
   pub good : AreGoodBlocks (all_blocks outcomes)
 
--- the sheet of these outcomes, which shows what is called for
+-- the sheet of these outcomes, which can be written
 pub record IsSheetOf (plan : Plan) (paper : Paper) (outcomes : List Outcome) (sheet : Sheet) : Type 0 where
   pub value : sheet ≡ sheet_of plan paper outcomes
   pub good : IsSheet sheet
-  pub shows : AllShown plan paper outcomes
 
 -- the pages of the sheet of these outcomes that come behind those that were given up
 pub record AreLast (plan : Plan) (paper : Paper) (outcomes : List Outcome) (given pages : List Page) : Type 0 where
   pub whole : (sheet_of plan paper outcomes).pages ≡ given ++ pages
   pub sheet : IsSheetOf plan paper outcomes (sheet_of plan paper outcomes)
 
--- each block lies on its page as the plan says, and all marks stand clear of each other
-pub record StandClear (plan : Plan) (paper : Paper) (outcomes : List Outcome) : Type 0 where
+-- each block lies on its page as the plan says, and a reader finds there what the scores call for
+pub record StandShown (plan : Plan) (paper : Paper) (outcomes : List Outcome) : Type 0 where
   pub stand : AreStanding plan paper outcomes
-  pub clear : AreClear plan paper outcomes
+  pub shown : ShowsBook paper outcomes (sheet_of plan paper outcomes)
 
 -- blocks of outcomes that were set on a paper
 pub record AreBlocksOn (paper : Paper) (blocks : List Block) : Type 0 where
@@ -85,4 +84,4 @@ pub record IsBookSheet (even : Bool) (paper : Paper) (outcomes : List Outcome) (
   pub plan : Plan
   pub planned : IsPlan even paper outcomes plan
   pub made : IsSheetOf plan paper outcomes sheet
-  pub stand : StandClear plan paper outcomes
+  pub stand : StandShown plan paper outcomes

@@ -8,7 +8,7 @@ use Rattle.ps_text.specs.Range.{IsItem, IsNumber}
 use Rattle.set_tune.specs.{declared.tune.SetTune.SetTune, Blocks.HasGoodHeight}
 use Rattle.set_book.specs.declared.outcome.Outcome.{Outcome}
 use Rattle.set_staves.specs.{Drawn.IsBase, Drawn.IsOnPage, Drawn.IsTop, Marks.RisesAlong}
-use Rattle.set_pages.specs.{Drawings.Content, Drawings.Drawing, Drawings.title, Drawings.system, Drawings.drawn, Sheet.ShowsDrawing}
+use Rattle.set_pages.specs.{Drawings.Content, Drawings.Drawing, Drawings.title, Drawings.system, Drawings.drawn}
 
 -- a row of a title block whose top is at a height
 pub record IsReadyRow (top : ℤ) (row : TitleRow) : Type 0 where
@@ -66,7 +66,6 @@ abbrev pub AreRising : List Spot → Type 0
 AreRising [] = ⊤
 AreRising (s ∷ spots) = (s.page ≡ 0) × AreRisingFrom s.page spots
 
--- what a block draws may stand on a page, and a system shows what is called for
-pub record IsDrawn (width : ℕ) (d : Drawing) (s : Spot) : Type 0 where
-  pub good : All IsItem (drawn width s.top d)
-  pub shows : ShowsDrawing width d s
+-- what a block draws may stand on a page
+abbrev pub IsDrawn : ℕ → Drawing → Spot → Type 0
+IsDrawn width d s = All IsItem (drawn width s.top d)

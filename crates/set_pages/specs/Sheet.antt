@@ -1,11 +1,10 @@
 -- The sheet of a book, from the outcomes of its tunes: the blocks of all tunes without fault stand on pages, filled or where a
 -- plan says, and each page has what its blocks draw.
 use Rattle.std.specs.Prelude.{⊤, ℕ, zero, suc, ◌+◌, ◌/◌, ◌≤◌, ◌==◌, if◌then◌else◌, List, [], ◌∷◌, ◌++◌, Result, Ok, Err, Bool, true, false, ◌≡◌, take, length}
-use Rattle.std.specs.List.{AllZip}
 use Rattle.abc_lines.specs.{declared.book.TuneText.TuneText, declared.fault.Fault.Fault}
 use Rattle.abc_header.specs.{declared.defaults.Defaults.Defaults, declared.paper.Paper.Paper, Papers.height_of, Papers.width_of}
 use Rattle.lay_pages.specs.{declared.filling.Spot.Spot, Even.AreSpots, Even.AreStacked, Filling.AreFilled, Filling.AreWithin, Filling.spots_of}
-use Rattle.set_pages.specs.{declared.plan.Plan.Plan, Drawings.Drawing, Drawings.ShowsContent, Drawings.all_blocks, Drawings.all_drawings, Drawings.drawn}
+use Rattle.set_pages.specs.{declared.plan.Plan.Plan, Drawings.Drawing, Drawings.all_blocks, Drawings.all_drawings, Drawings.drawn}
 use Rattle.ps_text.specs.{declared.sheet.Frame.Frame, declared.sheet.Item.Item, declared.sheet.Page.Page, declared.sheet.Sheet.Sheet}
 use Rattle.set_tune.specs.{declared.how.How.How, declared.tune.SetTune.SetTune, Setting.IsSetTune}
 use Rattle.set_book.specs.declared.outcome.Outcome.{Outcome}
@@ -43,13 +42,6 @@ all_spots (Plan.At spots) paper outcomes = take (length (all_blocks outcomes)) s
 
 unfoldable pub sheet_of : Plan → Paper → List Outcome → Sheet
 sheet_of plan paper outcomes = record { frame = frame_of paper; pages = pages_of (width_of paper) (all_drawings outcomes) (all_spots plan paper outcomes) }
-
--- each system shows the marks that its score calls for
-abbrev pub ShowsDrawing : ℕ → Drawing → Spot → Type 0
-ShowsDrawing width d s = ShowsContent width s.top d.content
-
-abbrev pub AllShown : Plan → Paper → List Outcome → Type 0
-AllShown plan paper outcomes = AllZip (ShowsDrawing (width_of paper)) (all_drawings outcomes) (all_spots plan paper outcomes)
 
 -- where blocks are filled, each follows the one before it as near as it can
 abbrev pub AreFilledBy : Plan → Paper → List Outcome → Type 0

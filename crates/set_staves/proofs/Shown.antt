@@ -1,10 +1,10 @@
 -- The ranks read off a system are those that its marks call for.
-use Rattle.std.proofs.Common.{◌≡◌, ℕ, ◌<◌, List, [], ◌∷◌, ◌++◌, length, map, ℤ, pos, ◌+ℤ◌, Some, refl, sym, ap, ap₂, ◌∙◌, arith, flat_map}
-use Rattle.std.{proofs.lemmas.List.map-append, proofs.lemmas.List.Elements.All-head, proofs.lemmas.List.Elements.All-tail, proofs.lemmas.List.Elements.recursion_from_All, specs.List.All, specs.List.AllByRecursion, specs.List.cons_option}
+use Rattle.std.proofs.Common.{◌≡◌, ℕ, zero, suc, ◌<◌, Bool, true, false, List, [], ◌∷◌, ◌++◌, length, map, get_or, ℤ, pos, ◌+ℤ◌, Some, refl, sym, ap, ap₂, subst, ◌∙◌, arith, flat_map}
+use Rattle.std.{proofs.lemmas.Bool.eqb-true, proofs.lemmas.List.map-append, proofs.lemmas.List.Elements.All-cons, proofs.lemmas.List.Elements.All-head, proofs.lemmas.List.Elements.All-nil, proofs.lemmas.List.Elements.All-tail, proofs.lemmas.List.Elements.recursion_from_All, specs.Prelude.IsTrue, specs.Prelude.◌==◌, specs.Prelude.◌||◌, specs.List.All, specs.List.AllByRecursion, specs.List.Contains, specs.List.cons_option, specs.List.list_any}
 use Rattle.mus_laid.specs.{declared.laid.Mark.Mark, declared.laid.Laid.Laid, declared.laid.StaffMarks.StaffMarks, Ranked.anchor_rank}
 use Rattle.ps_text.specs.{Ranks.anchor_of, Ranks.anchors, Ranks.rank_of, Ranks.ranked, Ranks.all_ranked, Ranks.ranks, declared.sheet.Staff.Staff}
 use Rattle.lay_shown.specs.Ranks.{AreAnchored, AreRanked, IsRanked, marks_ranks, staves_ranks}
-use Rattle.set_staves.{specs.Marks.x_at, specs.Marks.page_mark, specs.Marks.called_mark, specs.Marks.called_marks, specs.Marks.staff_at, specs.Marks.staves_at, specs.Marks.RisesAlong, specs.Marks.ShowsIn, specs.Marks.ShowsCall, proofs.Rising.ranked_at}
+use Rattle.set_staves.{specs.Marks.x_at, specs.Marks.page_mark, specs.Marks.called_mark, specs.Marks.called_marks, specs.Marks.staff_at, specs.Marks.staves_at, specs.Marks.RisesAlong, specs.Marks.HasColumns, specs.Marks.ShowsIn, specs.Marks.ShowsCall, proofs.Rising.ranked_at}
 
 -- ---- the anchors of a system are the abscissas of its anchors' ranks
 mark_anchors : (at : List ℤ) (mark : Mark) (xs : List ℤ) (rs : List ℕ) → xs ≡ map (x_at at) rs
@@ -104,3 +104,31 @@ shows_call width at top staves bases rise e h has =
     staves_read width at top (staves_at width at top staves bases)
     (λ i l. ap (λ t. rank_of t (x_at at i)) (anchors_at width at top staves bases e) ∙ ranked_at at rise i (staves_ranks staves) l below has)
     staves bases e along
+
+-- ---- the columns that are read are those at which marks stand
+pub x_read : (at : List ℤ) (k : ℕ) (d : ℤ) → k < length at → x_at at k ≡ get_or at k d
+x_read [] k d inside = absurd (omega arith)
+x_read (x ∷ at) zero d inside = refl
+x_read (x ∷ at) (suc k) d inside = x_read at k d (omega arith)
+
+each_set : (at : List ℤ) (ranks : List ℕ) → AreBelow (length at) ranks → All (Contains at) (map (x_at at) ranks)
+each_set at [] below = All-nil (Contains at)
+each_set at (r ∷ ranks) below =
+    All-cons (Contains at) (x_at at r) (map (x_at at) ranks) (r, below.0, sym (x_read at r (x_at at r) below.0)) (each_set at ranks below.1)
+
+anchored_by : (at : List ℤ) (k r : ℕ) (ranks : List ℕ) (b : Bool) → (k == r) ≡ b → (IsTrue (list_any (λ r. k == r) ranks) → Contains (map (x_at at) ranks) (x_at at k))
+    → IsTrue (b || list_any (λ r. k == r) ranks) → Contains (x_at at r ∷ map (x_at at) ranks) (x_at at k)
+anchored_by at k r ranks true same behind has = (0, omega arith, ap (x_at at) (sym (eqb-true k r same)))
+anchored_by at k r ranks false other behind has = let more = behind has in (suc more.0, omega (arith, more.1), more.2)
+
+anchored : (at : List ℤ) (k : ℕ) (ranks : List ℕ) → IsTrue (list_any (λ r. k == r) ranks) → Contains (map (x_at at) ranks) (x_at at k)
+anchored at k [] has = absurd cc
+anchored at k (r ∷ ranks) has = anchored_by at k r ranks (k == r) refl (anchored at k ranks) has
+
+pub has_columns : (width : ℕ) (at : List ℤ) (top : ℤ) (staves : List StaffMarks) (bases : List ℤ) → length bases ≡ length staves
+    → All (λ s. AreRanked (length at) s.marks) staves → AreAnchored (length at) (staves_ranks staves) → HasColumns (staves_at width at top staves bases) at
+has_columns width at top staves bases e h has =
+    let same = sym (anchors_at width at top staves bases e) in record {
+      set = subst (All (Contains at)) same (each_set at (staves_ranks staves) (staves_below (length at) staves (by_recursion (length at) staves h)));
+      read = λ k d inside. subst (λ l. Contains l (get_or at k d)) same (subst (Contains (map (x_at at) (staves_ranks staves))) (x_read at k d inside) (anchored at k (staves_ranks staves) (has k inside)));
+    }

@@ -1,8 +1,8 @@
 -- The marks that a system calls for, as they stand on a page: each rank is replaced by where the column
 -- of that rank stands. They are shown where the ranks read off the page are those that were called for.
-use Rattle.std.specs.Prelude.{◌≡◌, ℕ, ◌+◌, ◌<◌, ℤ, pos, ◌+ℤ◌, ◌<ℤ◌, ⊤, List, [], ◌∷◌, length, map, Some, slice_index_or}
+use Rattle.std.specs.Prelude.{◌≡◌, ℕ, ◌+◌, ◌<◌, ℤ, pos, ◌+ℤ◌, ◌<ℤ◌, ⊤, List, [], ◌∷◌, length, map, Some, All, Contains, slice_index_or}
 use Rattle.mus_laid.specs.{declared.laid.Mark.Mark, declared.laid.StaffMarks.StaffMarks, declared.laid.SystemMarks.SystemMarks}
-use Rattle.ps_text.specs.{Ranks.ranks, declared.marks.PageMark.PageMark, declared.sheet.Staff.Staff, declared.sheet.Item.Item}
+use Rattle.ps_text.specs.{Ranks.anchors, Ranks.ranks, declared.marks.PageMark.PageMark, declared.sheet.Staff.Staff, declared.sheet.Item.Item}
 
 -- where the column of a rank stands; 0 where there is no such column
 abbrev pub x_at : List ℤ → ℕ → ℤ
@@ -54,6 +54,11 @@ ShowsIn system (staff ∷ staves) (s ∷ more) = (ranks system staff ≡ Some (c
 -- the same of all its staves
 abbrev pub ShowsCall : List Staff → List StaffMarks → Type 0
 ShowsCall staves called = ShowsIn staves staves called
+
+-- the columns that are read off the staves of a system stand where a list says, all of them and no other
+pub record HasColumns (staves : List Staff) (at : List ℤ) : Type 0 where
+  pub set : All (Contains at) (anchors staves)
+  pub read : All (Contains (anchors staves)) at
 
 -- the staves of a system; other items have none
 abbrev pub staves_of : Item → List Staff
