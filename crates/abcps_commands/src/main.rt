@@ -1,15 +1,18 @@
 //! Runs each command of the top call over streams in memory, and tells of each case in its folder whether what is
 //! answered and written is what stands there: over streams that never fail (the table `cases`), and with each call
-//! of each stream failing in turn (the table `failing`). `case` says how a line of a table is read.
+//! of each stream failing in turn (the table `failing`); and how often each tune of a book enters the gate (the table
+//! `gates`). `case` says how a line of a table is read.
 #![tactic(auto)]
 
 mod case;
 mod failing;
+mod gates;
 mod made;
 mod running;
 
 use crate::case::{Case, named_case, verdict};
 use crate::failing::tell_failures;
+use crate::gates::ran_counted;
 use crate::running::{Streams, ran};
 use std::process::ExitCode;
 use std::rt::Files;
@@ -47,10 +50,29 @@ fn tell_failing<R: Files + AllocGlobal + Threads + Sync + Print>(
     Ok(())
 }
 
+/// Tells each case of a table, and how many tunes entered its gate how often.
+fn tell_gates<R: Files + AllocGlobal + Threads + Sync + Print>(
+    rt: &R,
+    table: &str,
+) -> io::Result<()> {
+    for line in table.lines() {
+        let (name, case) = named_case(rt, line)?;
+        let (finished, entered) = ran_counted(rt, &case)?;
+        let verdict = verdict(case.is_told(&finished));
+        println!(rt;
+            "{name}, {} tunes enter {} to {} times: {verdict}",
+            entered.tunes, entered.least, entered.most
+        )?;
+    }
+    Ok(())
+}
+
 fn main(rt: HostRuntime) -> io::Result<ExitCode> {
     let cases = fs::read_to_string(&rt, "cases")?;
     tell_cases(&rt, cases.as_str())?;
     let failing = fs::read_to_string(&rt, "failing")?;
     tell_failing(&rt, failing.as_str())?;
+    let gates = fs::read_to_string(&rt, "gates")?;
+    tell_gates(&rt, gates.as_str())?;
     Ok(ExitCode::from(0))
 }

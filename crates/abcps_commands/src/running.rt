@@ -1,7 +1,7 @@
 //! Runs of the top call over streams in memory.
 
 use crate::case::Case;
-use abcps::{Open, Status, run};
+use abcps::{Gate, Open, Status, run};
 use eng_io::{MemSink, MemSource};
 use mus_units::{Row, Text};
 use std::alloc::{AllocError, Global};
@@ -148,11 +148,21 @@ fn sink(alloc: Global, pace: Pace) -> Result<MemSink, AllocError> {
     Ok(MemSink::new(alloc, pace.piece, row_of(alloc, pace.fails)?))
 }
 
-/// A run of a case over such streams.
+/// A run of a case over such streams, whose tunes enter no gate.
 pub(crate) fn ran<R: Threads + Sync + AllocGlobal>(
     rt: &R,
     case: &Case,
     streams: &Streams,
+) -> io::Result<Finished> {
+    ran_through(rt, case, streams, &Open)
+}
+
+/// A run of a case over such streams, whose tunes enter a gate.
+pub(crate) fn ran_through<R: Threads + Sync + AllocGlobal, G: Gate + Sync>(
+    rt: &R,
+    case: &Case,
+    streams: &Streams,
+    gate: &G,
 ) -> io::Result<Finished> {
     let alloc = rt.alloc();
     let mut input = source(alloc, &case.input, streams.read_fails)?;
@@ -165,7 +175,7 @@ pub(crate) fn ran<R: Threads + Sync + AllocGlobal>(
         &mut input,
         &mut output,
         &mut errors,
-        &Open,
+        gate,
     );
     Ok(Finished {
         status,

@@ -1,23 +1,8 @@
 -- The columns of a span, and how they grow by a measure.
-use Rattle.std.proofs.Common.{◌≡◌, ℕ, zero, suc, ◌+◌, ◌-◌, ◌<◌, ◌≤◌, List, [], ◌∷◌, ◌++◌, length, take, drop, flat_map, sum_by, slice_index_or, get_or, Option, option_and_then, slice_get, arith, sym, ◌∙◌, ap, subst, refl, length-append}
-use Rattle.std.proofs.lemmas.List.{take_more, get_or-drop, append_assoc, length-drop, Concat.length-flat_map, Concat.flat_map-append, Sums.sum_by-cons, Sums.sum_by-take-le, Sums.sum_by-take-drop, Sums.get_or-le-sum_by}
+use Rattle.std.proofs.Common.{◌≡◌, ℕ, zero, suc, ◌+◌, ◌-◌, ◌<◌, ◌≤◌, List, [], ◌∷◌, ◌++◌, length, take, drop, flat_map, slice_index_or, get_or, Option, option_and_then, slice_get, arith, sym, ◌∙◌, ap, subst, refl, length-append}
+use Rattle.std.proofs.lemmas.List.{take_more, get_or-drop, append_assoc, length-drop, Concat.flat_map-append}
 use Rattle.lay_springs.specs.{declared.traits.Reach.Reach, Place.reach_at, Fit.StandsInAll}
-use Rattle.lay_spans.specs.Columns.{measures_from, span_columns, column_count, EndsInAll}
-
--- a span has no more columns than all measures together
-pub columns_few : {C : Type 0} (starts others : List (List C)) (a b : ℕ) → a < length starts
-    → length (span_columns starts others a b) ≤ column_count starts + column_count others
-columns_few {C} starts others a b l =
-    let whole : length (span_columns starts others a b) ≡ sum_by (λ measure. length measure) (take (b - a) (measures_from starts others a)) =
-    length-flat_map (λ measure. measure) (take (b - a) (measures_from starts others a)) in
-    let part : sum_by (λ measure. length measure) (take (b - a) (measures_from starts others a)) ≤ sum_by (λ measure. length measure) (measures_from starts others a) =
-    sum_by-take-le (λ measure. length measure) (measures_from starts others a) (b - a) in
-    let parts : sum_by (λ measure. length measure) (measures_from starts others a) ≡ length (slice_index_or starts a []) + sum_by (λ measure. length measure) (drop (a + 1) others) =
-    sum_by-cons (λ measure. length measure) (slice_index_or starts a []) (drop (a + 1) others) in
-    let first : length (slice_index_or starts a []) ≤ column_count starts = get_or-le-sum_by (λ measure. length measure) starts a [] l in
-    let rest : sum_by (λ measure. length measure) (take (a + 1) others) + sum_by (λ measure. length measure) (drop (a + 1) others) ≡ column_count others =
-    sum_by-take-drop (λ measure. length measure) others (a + 1) in
-    omega arith
+use Rattle.lay_spans.specs.Columns.{measures_from, span_columns, EndsInAll}
 
 -- a span has the columns of its first measure
 pub columns_some : {C : Type 0} (starts others : List (List C)) (a b : ℕ) → a < b → 0 < length (slice_index_or starts a [])

@@ -1,5 +1,5 @@
 -- Which spans fit.
-use Rattle.std.proofs.Common.{◌≡◌, ℕ, zero, suc, ◌+◌, ◌-◌, ◌<◌, ◌≤◌, List, [], ◌∷◌, ◌++◌, length, map, Option, None, Some, option_map, option_and_then, unwrap_or, slice_get, slice_index_or, arith, sym, ◌∙◌, ap, subst, refl, inl, inr, length-append}
+use Rattle.std.proofs.Common.{◌≡◌, ℕ, zero, suc, ◌+◌, ◌-◌, ◌<◌, ◌≤◌, List, [], ◌∷◌, ◌++◌, length, map, Option, None, Some, IfNone, option_map, option_and_then, unwrap_or, slice_get, slice_index_or, arith, sym, ◌∙◌, ap, subst, refl, inl, inr, length-append}
 use Rattle.std.proofs.{Math.Path.fun_ext, lemmas.Bool.cases_lt, lemmas.Option.slice_get_past, lemmas.List.append_assoc, lemmas.List.length-map}
 use Rattle.lay_springs.{specs.declared.traits.Reach.Reach, specs.Place.reach_at, specs.Place.length_at, specs.Fit.Fits, specs.Fit.Passes, specs.Fit.CanStand, specs.Fit.StandsInAll, proofs.Longer.cannot_stand, proofs.Longer.longer_fits_less}
 use Rattle.lay_spans.{specs.Columns.span_columns, specs.Columns.AreMeasures, specs.SpanList.StandsAt, specs.SpanList.IsForce, proofs.Adding.columns_some, proofs.Adding.columns_continue, proofs.Adding.ends_so}
@@ -84,10 +84,17 @@ force_of f reach len gaps width most seen columns force e small bound fits great
   ];
 }
 
+-- columns whose end passes the width can't stand there
+pub passes_never : {C : Type 0} (reach : C → ℕ → Option Reach) (len : C → ℕ → ℕ) (gaps : List ℕ) (width : ℕ) (columns : List C) (force : Option ℕ)
+    → 0 < length columns → IfNone force (Passes (length columns) (reach_at reach columns) gaps (length_at len columns) width 0)
+    → IfNone force (StandsAt reach len gaps width 0 columns → ⊥)
+passes_never reach len gaps width columns (Some f) some h = tt
+passes_never reach len gaps width columns None some h =
+    cannot_stand (length columns) (reach_at reach columns) gaps (length_at len columns) width 0 0 some (λ i. omega arith) h
+
 pub never_stands : {D C : Type 0} (f : D → C) (reach : C → ℕ → Option Reach) (len : C → ℕ → ℕ) (gaps : List ℕ) (width : ℕ)
-    (seen : List D) (columns : List C) → map f seen ≡ columns → 0 < length columns
-    → Passes (length seen) (reach_at (λ s lane. reach (f s) lane) seen) gaps (length_at (λ s g. len (f s) g) seen) width 0
+    (seen : List D) (columns : List C) → map f seen ≡ columns
+    → (StandsAt (λ s lane. reach (f s) lane) (λ s g. len (f s) g) gaps width 0 seen → ⊥)
     → StandsAt reach len gaps width 0 columns → ⊥
-never_stands f reach len gaps width seen columns e some passes stands =
-    cannot_stand (length columns) (reach_at reach columns) gaps (length_at len columns) width 0 0 some (λ i. omega arith)
-    (subst (λ T. T) (seen_as f reach len (λ n r l. Passes n r gaps l width 0) seen columns e) passes) stands
+never_stands f reach len gaps width seen columns e never stands =
+    never (subst (λ T. T) (sym (seen_as f reach len (λ n r l. CanStand n r gaps l width 0) seen columns e)) stands)

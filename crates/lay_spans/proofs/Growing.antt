@@ -1,10 +1,10 @@
 -- The row of a bar, and the rows, while they grow.
 use Rattle.std.proofs.Common.{◌≡◌, ℕ, ◌+◌, ◌-◌, ◌*◌, ◌<◌, ◌≤◌, ◌^◌, ◌==◌, nat_le, if◌then◌else◌, Result, Ok, Err, IfOk, Bool, List, [], ◌∷◌, ◌++◌, length, map, Option, None, Some, IsSome, slice_index, slice_index_or, get_or, true, false, arith, sym, ◌∙◌, ap, subst, refl, inl, inr, length-append}
-use Rattle.std.proofs.{lemmas.Bool.cases_lt, lemmas.Bool.cases_eq, lemmas.Bool.true≢false, lemmas.List.get_or_append_left, lemmas.List.length-map, lemmas.Option.none-some, lemmas.Option.same_Some, Math.Nat.mul-le-mul_left}
+use Rattle.std.proofs.{lemmas.Bool.cases_lt, lemmas.Bool.cases_eq, lemmas.Bool.true≢false, lemmas.List.get_or_append_left, lemmas.Option.none-some, lemmas.Option.same_Some, Math.Nat.mul-le-mul_left}
 use Rattle.lay_springs.specs.{declared.traits.Reach.Reach, Fit.counted, Fit.is_ragged}
 use Rattle.lay_breaks.specs.Spans.{AreSpans, listed}
-use Rattle.lay_spans.specs.{Badness.badness_of, Badness.badness_at, Columns.measures_from, Columns.span_columns, Columns.column_count, Columns.AreMeasures, Forced.ForcedInside, SpanList.StandsAt, SpanList.IsCost, SpanList.IsNoSpan, SpanList.IsSpanList, Rows.IsRowFrom, Rows.AreRows, Rows.rows_spans}
-use Rattle.lay_spans.proofs.{Adding.columns_few, Adding.columns_some, Adding.columns_more, Fitting.longer_stands, Listing.in_rows, Listing.past_rows, Listing.rows_form}
+use Rattle.lay_spans.specs.{Badness.badness_of, Badness.badness_at, Columns.measures_from, Columns.span_columns, Columns.AreMeasures, Forced.ForcedInside, SpanList.StandsAt, SpanList.IsCost, SpanList.IsNoSpan, SpanList.IsSpanList, Rows.IsRowFrom, Rows.AreRows, Rows.rows_spans}
+use Rattle.lay_spans.proofs.{Adding.columns_some, Adding.columns_more, Fitting.longer_stands, Listing.in_rows, Listing.past_rows, Listing.rows_form}
 
 -- the columns that are seen, with one measure more
 pub seen_more : {D C : Type 0} (f : D → C) (old new : List D) (starts others : List (List C)) (a m : ℕ) → a ≤ m → m < length starts → length others ≡ length starts
@@ -13,14 +13,6 @@ pub seen_more : {D C : Type 0} (f : D → C) (old new : List D) (starts others :
     → map f new ≡ span_columns starts others a (m + 1)
 seen_more f old new starts others a m l k same e added =
     added ∙ ap (λ cs. cs ++ slice_index_or (measures_from starts others a) (m - a) []) e ∙ sym (columns_more starts others a m l k same)
-
-pub seen_few : {D C : Type 0} (f : D → C) (seen : List D) (starts others : List (List C)) (a b : ℕ) → a < length starts
-    → map f seen ≡ span_columns starts others a b → length seen ≤ column_count starts + column_count others
-seen_few f seen starts others a b l e =
-    let n = length-map seen f in
-    let m : length (map f seen) ≡ length (span_columns starts others a b) = ap (λ cs. length cs) e in
-    let k = columns_few starts others a b l in
-    omega arith
 
 -- the last of a list that has grown
 pub at_end : {X : Type 0} (xs : List X) (x d : X) → get_or (xs ++ x ∷ []) (length xs) d ≡ x

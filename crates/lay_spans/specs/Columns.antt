@@ -1,6 +1,6 @@
 -- The columns of measures that stand in a system. `starts` has the columns of each measure in a system that begins with it,
 -- `others` in one that doesn't. The span from bar a to bar b has the measures a to b - 1, counted from 0.
-use Rattle.std.specs.Prelude.{◌≡◌, ℕ, ◌+◌, ◌-◌, ◌<◌, ◌≤◌, List, [], ◌∷◌, length, take, drop, flat_map, sum_by, slice_index_or, Option}
+use Rattle.std.specs.Prelude.{◌≡◌, ℕ, ◌+◌, ◌-◌, ◌<◌, ◌≤◌, List, [], ◌∷◌, length, take, drop, flat_map, slice_index_or, Option}
 use Rattle.lay_springs.specs.{declared.traits.Reach.Reach, Place.reach_at, Fit.StandsInAll}
 
 -- the measures of a system that begins at bar a
@@ -10,10 +10,6 @@ measures_from starts others a = slice_index_or starts a [] ∷ drop (a + 1) othe
 -- the columns of the span from bar a to bar b
 abbrev pub span_columns : {C : Type 0} → List (List C) → List (List C) → ℕ → ℕ → List C
 span_columns starts others a b = flat_map (λ measure. measure) (take (b - a) (measures_from starts others a))
-
--- how many columns there are in all
-abbrev pub column_count : {C : Type 0} → List (List C) → ℕ
-column_count measures = sum_by (λ measure. length measure) measures
 
 -- a list of columns, the last of which stands in each lane
 pub record EndsInAll {C : Type 0} (reach : C → ℕ → Option Reach) (lanes : ℕ) (columns : List C) : Type 0 where
@@ -27,4 +23,3 @@ pub record AreMeasures {C : Type 0} (reach : C → ℕ → Option Reach) (lanes 
   pub few : length starts ≤ 4000
   pub begun : (m : ℕ) → m < length starts → 0 < length (slice_index_or starts m [])
   pub ended : (m : ℕ) → m < length starts → EndsInAll reach lanes (slice_index_or others m [])
-  pub room : column_count starts + column_count others ≤ 200000

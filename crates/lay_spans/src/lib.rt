@@ -9,12 +9,13 @@ pub mod breaks;
 pub mod costs;
 pub mod forces;
 mod marks;
-mod rows;
+pub mod rows;
 pub mod seen;
 pub mod spans;
 
 pub use breaks::break_of;
 pub use costs::{SpanCosts, costs_of};
 pub use forces::badness;
+pub use rows::places_of;
 pub use seen::Seen;
-pub use spans::{columns_in, places_of, spans_of};
+pub use spans::{columns_in, spans_of};

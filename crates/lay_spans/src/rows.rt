@@ -1,23 +1,46 @@
-ghost use Rattle.std.specs.Prelude.{◌≡◌, ◌+◌, ◌-◌, ◌<◌, ◌≤◌, ◌^◌, ◌++◌, ℕ, IfOk, OnOk, length, map, slice_index, slice_index_or, false, []};
-ghost use Rattle.lay_spans.specs.{Columns.measures_from, Columns.column_count, Columns.AreMeasures, Rows.IsRowFrom, Rows.AreRows, Rows.row_spans, Rows.rows_spans};
+ghost use Rattle.std.specs.Prelude.{◌≡◌, ◌+◌, ◌-◌, ◌<◌, ◌≤◌, ◌^◌, ◌++◌, ℕ, IfNone, IfOk, IfSome, OnOk, length, map, slice_index, slice_index_or, false, []};
+ghost use Rattle.lay_springs.specs.Fit.{most_columns};
+ghost use Rattle.lay_spans.specs.{Columns.measures_from, Columns.AreMeasures, Rows.IsRowFrom, Rows.AreRows, Rows.row_spans, Rows.rows_spans, SpanList.FitsAt, SpanList.StandsAt};
 
 use crate::forces::badness;
 use crate::seen::Seen;
 use lay_breaks::Span;
-use lay_springs::{Spaced, Spring, fit_within};
+use lay_springs::{Spaced, Spring, fit_within, most_columns};
 use mus_units::{Memory, Row};
 use std::alloc::Global;
 
-/// How many columns the measures have.
-pub(crate) fn count_columns<C>(measures: &[Row<C>]) -> usize
-    requires { column_count measures.now ≤ 200000 }
-    ensures { result ≡ column_count measures.now }
+/// Room for placing the columns of any span that fits within a width: a place for each column
+/// that can stand there and for each lane.
+pub fn places_of(alloc: Global, width: u32, lanes: usize) -> Result<Vec<i64>, Memory>
+    requires { lanes < 2 ^ 32 }
+    ensures { IfOk result (λ places. length places.items ≡ most_columns width + lanes) }
 {
-    let mut count = 0;
-    for measure in measures {
-        count += measure.len();
+    Ok(vec![in alloc; 0; most_columns(width) + lanes]?)
+}
+
+/// The greatest force of 0 to `most` at which the columns end within the width. None exactly where
+/// they can't stand within it; more than `most_columns` never can.
+fn greatest_force<C: Spaced + Spring>(
+    cols: &[C],
+    gaps: &[u32],
+    width: u32,
+    most: u16,
+    scratch: &mut [i64],
+) -> Option<u16>
+    requires some { 0 < length cols.now }
+    requires lanes { length gaps.now < 2 ^ 32 }
+    requires narrow { (lane : ℕ) → lane < length gaps.now → slice_index gaps.now lane ≤ 2 ^ 20 }
+    requires most { most ≤ 2048 }
+    requires room { most_columns width + length gaps.now ≤ length scratch.old }
+    ensures bound { IfSome result (λ f. f ≤ most) }
+    ensures fits { IfSome result (λ f. FitsAt C.reach_of C.length_of gaps.now width f cols.now) }
+    ensures greatest { IfSome result (λ f. (g : ℕ) → f < g → g ≤ most → StandsAt C.reach_of C.length_of gaps.now width g cols.now → ⊥) }
+    ensures none { IfNone result (StandsAt C.reach_of C.length_of gaps.now width 0 cols.now → ⊥) }
+{
+    if most_columns(width) < cols.len() {
+        return None;
     }
-    count
+    fit_within(cols, gaps, width, most, scratch)
 }
 
 /// The columns of measure `m` in a system that begins at bar `a`.
@@ -51,7 +74,8 @@ pub(crate) fn see<'a, C>(seen: &mut Row<Seen<'a, C>>, columns: &'a [C]) -> Resul
 
 /// What the spans from bar `a` cost, from the shortest to the longest that fits. It adds
 /// one measure's columns at a time, and stops at the first span that doesn't fit or
-/// behind a forced bar.
+/// behind a forced bar. The searches for a force take no memory: room is reserved before
+/// the first.
 fn row_from<C: Spaced + Spring>(
     alloc: Global,
     starts: &[Row<C>],
@@ -60,23 +84,23 @@ fn row_from<C: Spaced + Spring>(
     width: u32,
     marks: &[bool],
     a: usize,
-    scratch: &mut [i64],
 ) -> Result<Row<u64>, Memory>
     requires measures { AreMeasures C.reach_of (length gaps.now) starts.now others.now }
     requires lanes { length gaps.now < 2 ^ 32 }
     requires narrow { (lane : ℕ) → lane < length gaps.now → slice_index gaps.now lane ≤ 2 ^ 20 }
     requires marked { length marks.now ≡ length starts.now + 1 }
-    requires room { column_count starts.now + column_count others.now + length gaps.now ≤ length scratch.old }
     requires inside { a < length starts.now }
     ensures { IfOk result (λ row. IsRowFrom C.reach_of C.length_of gaps.now width starts.now others.now
         (λ b. slice_index_or marks.now b false) a row) }
 {
+    let mut places = places_of(alloc, width, gaps.len())?;
+    let scratch = places.as_mut_slice();
     let mut seen = Row::new(alloc);
     let mut row = Row::new(alloc);
     let mut most = 2048;
     for m in a..starts.len() {
         see(&mut seen, measure(starts, others, a, m))?;
-        let Some(force) = fit_within(seen.as_slice(), gaps, width, most, scratch) else {
+        let Some(force) = greatest_force(seen.as_slice(), gaps, width, most, scratch) else {
             return Ok(row);
         };
         row.push(badness(force, m + 1 == starts.len()))?;
@@ -96,19 +120,17 @@ pub(crate) fn rows_of<C: Spaced + Spring>(
     gaps: &[u32],
     width: u32,
     marks: &[bool],
-    scratch: &mut [i64],
 ) -> Result<Row<Row<u64>>, Memory>
     requires measures { AreMeasures C.reach_of (length gaps.now) starts.now others.now }
     requires lanes { length gaps.now < 2 ^ 32 }
     requires narrow { (lane : ℕ) → lane < length gaps.now → slice_index gaps.now lane ≤ 2 ^ 20 }
     requires marked { length marks.now ≡ length starts.now + 1 }
-    requires room { column_count starts.now + column_count others.now + length gaps.now ≤ length scratch.old }
     ensures { IfOk result (λ rows. AreRows C.reach_of C.length_of gaps.now width starts.now others.now
         (λ b. slice_index_or marks.now b false) (length starts.now) rows) }
 {
     let mut rows = Row::new(alloc);
     for a in 0..starts.len() {
-        let row = row_from(alloc, starts, others, gaps, width, marks, a, scratch)?;
+        let row = row_from(alloc, starts, others, gaps, width, marks, a)?;
         rows.push(row)?;
     }
     Ok(rows)

@@ -1,29 +1,14 @@
 ghost use Rattle.std.specs.Prelude.{◌≡◌, ◌+◌, ◌<◌, ◌≤◌, ◌^◌, ℕ, IfOk, length, map, slice_index};
 ghost use Rattle.lay_breaks.specs.Spans.{AreSpans};
-ghost use Rattle.lay_spans.specs.{Columns.AreMeasures, Columns.column_count, Columns.span_columns, Forced.is_forced, SpanList.IsSpanList};
+ghost use Rattle.lay_spans.specs.{Columns.AreMeasures, Columns.span_columns, Forced.is_forced, SpanList.IsSpanList};
 
 use crate::marks::marks_of;
-use crate::rows::{count_columns, list_rows, measure, rows_of, see};
+use crate::rows::{list_rows, measure, rows_of, see};
 use crate::seen::Seen;
 use lay_breaks::Span;
 use lay_springs::{Spaced, Spring};
 use mus_units::{Memory, Row};
 use std::alloc::Global;
-
-/// Room for placing the columns of any span: a place for each column and for each lane.
-pub fn places_of<C>(
-    alloc: Global,
-    starts: &[Row<C>],
-    others: &[Row<C>],
-    lanes: usize,
-) -> Result<Vec<i64>, Memory>
-    requires few { column_count starts.now + column_count others.now ≤ 200000 }
-    requires lanes { lanes < 2 ^ 32 }
-    ensures { IfOk result (λ places. length places.items ≡ column_count starts.now + column_count others.now + lanes) }
-{
-    let room = count_columns(starts) + count_columns(others) + lanes;
-    Ok(vec![in alloc; 0; room]?)
-}
 
 /// The spans of measures that fit within a width, in u, by the bar after which they
 /// begin and then by the bar with which they end.
@@ -31,8 +16,8 @@ pub fn places_of<C>(
 /// `starts` has the columns of each measure in a system that begins with it, and
 /// `others` in one that doesn't; the span from bar a to bar b has the measures a to
 /// b - 1, counted from 0. A span with a forced bar strictly inside isn't listed.
-/// Bars in `forced` that the tune doesn't have count for nothing. The searches for a
-/// force take no memory: `scratch` has the room that `places_of` reserves.
+/// Bars in `forced` that the tune doesn't have count for nothing. The spans from each bar
+/// have room for placing columns that is reserved before their first search for a force.
 pub fn spans_of<C: Spaced + Spring>(
     alloc: Global,
     starts: &[Row<C>],
@@ -40,26 +25,16 @@ pub fn spans_of<C: Spaced + Spring>(
     gaps: &[u32],
     width: u32,
     forced: &[u32],
-    scratch: &mut [i64],
 ) -> Result<Row<Span>, Memory>
     requires measures { AreMeasures C.reach_of (length gaps.now) starts.now others.now }
     requires lanes { length gaps.now < 2 ^ 32 }
     requires narrow { (lane : ℕ) → lane < length gaps.now → slice_index gaps.now lane ≤ 2 ^ 20 }
-    requires room { column_count starts.now + column_count others.now + length gaps.now ≤ length scratch.old }
     ensures form { IfOk result (λ spans. AreSpans (length starts.now) spans) }
     ensures exact { IfOk result (λ spans. IsSpanList C.reach_of C.length_of gaps.now width starts.now others.now
         (is_forced (length starts.now) forced.now) spans) }
 {
     let marks = marks_of(alloc, forced, starts.len())?;
-    let rows = rows_of(
-        alloc,
-        starts,
-        others,
-        gaps,
-        width,
-        marks.as_slice(),
-        scratch,
-    )?;
+    let rows = rows_of(alloc, starts, others, gaps, width, marks.as_slice())?;
     list_rows(alloc, rows.as_slice())
 }
 

@@ -1,8 +1,8 @@
 -- More columns need more room.
-use Rattle.std.proofs.Common.{◌≡◌, ℕ, zero, suc, ◌+◌, ◌-◌, ◌<◌, ◌≤◌, ℤ, pos, ◌≤ℤ◌, List, [], ◌∷◌, ◌++◌, length, Option, option_map, option_and_then, unwrap_or, slice_get, slice_index_or, arith, ◌∙◌, ap, refl, length-append}
-use Rattle.std.proofs.lemmas.Int.{ints}
+use Rattle.std.proofs.Common.{◌≡◌, ℕ, zero, suc, ◌+◌, ◌-◌, ◌*◌, ◌/◌, ◌<◌, ◌≤◌, ℤ, pos, ◌≤ℤ◌, List, [], ◌∷◌, ◌++◌, length, Option, option_map, option_and_then, unwrap_or, slice_get, slice_index_or, arith, ◌∙◌, ap, refl, length-append}
+use Rattle.std.proofs.lemmas.{Int.ints, Nat.le-div}
 use Rattle.lay_springs.specs.{declared.traits.Reach.Reach, Place.reach_at, Place.length_at, Place.StandApart}
-use Rattle.lay_springs.specs.Fit.{Fits, Passes, CanStand, StandsInAll, LongerFitsLess}
+use Rattle.lay_springs.specs.Fit.{Fits, Passes, CanStand, StandsInAll, LongerFitsLess, most_columns}
 use Rattle.lay_springs.proofs.Ends.{apart_down}
 
 pub stands : (n : ℕ) (reach : ℕ → ℕ → Option Reach) (gaps : List ℕ) (spring : ℕ → ℕ → ℕ) (width force : ℕ)
@@ -33,6 +33,26 @@ rises n reach gaps spring y h (suc d) i l =
     let s = h.steps (i + d) (omega arith) in
     let e : i + suc d ≡ i + d + 1 = omega arith in
     rw e (omega (arith, ints))
+
+-- neighbors stand 100 apart
+spaced : (n : ℕ) (reach : ℕ → ℕ → Option Reach) (gaps : List ℕ) (spring : ℕ → ℕ) (y : List ℤ) → StandApart n reach gaps spring y
+    → (d : ℕ) → d < n → pos (d * 100) ≤ℤ slice_index_or y d (pos 0)
+spaced n reach gaps spring y h zero l = h.begins l
+spaced n reach gaps spring y h (suc d) l =
+    let ih = spaced n reach gaps spring y h d (omega arith) in
+    let s = h.steps d (omega arith) in
+    let e : d + 1 ≡ suc d = omega arith in
+    let s' = rw e at s in
+    omega (arith, ints)
+
+-- so few stand within a width
+pub stand_few : (n : ℕ) (reach : ℕ → ℕ → Option Reach) (gaps : List ℕ) (spring : ℕ → ℕ → ℕ) (width force : ℕ) → 0 < n
+    → CanStand n reach gaps spring width force → n ≤ most_columns width
+stand_few n reach gaps spring width force some h =
+    let last = spaced n reach gaps (spring force) h.y h.apart (n - 1) (omega arith) in
+    let end = h.past in
+    let parts = le-div (n - 1) width 100 (omega arith) (omega (arith, ints)) in
+    omega (arith, parts)
 
 pub stand_prefix : (n m : ℕ) (reach reach' : ℕ → ℕ → Option Reach) (gaps : List ℕ) (spring spring' : ℕ → ℕ → ℕ) (width force : ℕ) → 0 < n → n < m
     → ((i lane : ℕ) → i < n → reach' i lane ≡ reach i lane)

@@ -1,5 +1,5 @@
 -- How hard columns can be pressed apart within a width.
-use Rattle.std.specs.Prelude.{◌≡◌, ℕ, ◌-◌, ◌*◌, ◌/◌, Bool, ◌&&◌, nat_le, if◌then◌else◌, ◌<◌, ℤ, pos, ◌+ℤ◌, ◌≤ℤ◌, ◌<ℤ◌, List, ◌++◌, length, Option, Some, slice_index_or}
+use Rattle.std.specs.Prelude.{◌≡◌, ℕ, ◌+◌, ◌-◌, ◌*◌, ◌/◌, Bool, ◌&&◌, nat_le, if◌then◌else◌, ◌<◌, ℤ, pos, ◌+ℤ◌, ◌≤ℤ◌, ◌<ℤ◌, List, ◌++◌, length, Option, Some, slice_index_or}
 use Rattle.lay_springs.specs.{declared.traits.Reach.Reach, Place.IsPlace, Place.StandApart, Place.reach_at, Place.length_at}
 
 -- e is the end of a column at `at`: the abscissa, or what its reaches come to, whichever is greatest
@@ -46,6 +46,10 @@ pub record CanStand (n : ℕ) (reach : ℕ → ℕ → Option Reach) (gaps : Lis
   pub apart : StandApart n reach gaps (spring force) y
   pub past : slice_index_or y (n - 1) (pos 0) ≤ℤ pos width
   pub reaches : (lane : ℕ) (r : Reach) → lane < length gaps → reach (n - 1) lane ≡ Some r → (slice_index_or y (n - 1) (pos 0) +ℤ pos r.right) ≤ℤ pos width
+
+-- how many columns can stand within a width at the most: neighbors stand 100 apart
+abbrev pub most_columns : ℕ → ℕ
+most_columns width = width / 100 + 1
 
 -- each column stands in each lane
 abbrev pub StandsInAll : (ℕ → Option Reach) → ℕ → Type 0

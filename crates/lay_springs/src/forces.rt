@@ -1,5 +1,5 @@
 ghost use Rattle.std.specs.Prelude.{◌≡◌, ◌+◌, ◌^◌, ◌<◌, ◌≤◌, ℕ, ℤ, pos, ◌≤ℤ◌, IfSome, IfNone, length, slice_index, slice_index_or};
-ghost use Rattle.lay_springs.specs.Fit.{IsEndOf, EndsAt, Fits, CanStand, LongerFitsLess, Passes};
+ghost use Rattle.lay_springs.specs.Fit.{IsEndOf, EndsAt, Fits, CanStand, LongerFitsLess, Passes, most_columns};
 ghost use Rattle.lay_springs.specs.Place.{reach_at, length_at};
 
 use crate::guesses::{crossing, nearest, tight};
@@ -32,20 +32,27 @@ fn end_at<C: Spaced + Spring>(
     front: &mut [i64],
 ) -> i64
     requires some { 0 < length cols.now }
-    requires few { length cols.now ≤ 200000 }
+    requires few { length cols.now ≤ 2 ^ 26 }
     requires lanes { length gaps.now < 2 ^ 32 }
     requires narrow { (lane : ℕ) → lane < length gaps.now → slice_index gaps.now lane ≤ 2 ^ 20 }
     requires room { length at.old ≡ length cols.now }
     requires one_each { length front.old ≡ length gaps.now }
     ensures end { EndsAt (length cols.now) (reach_at C.reach_of cols.now) gaps.now (length_at C.length_of cols.now) force result }
     ensures past { pos 0 ≤ℤ result }
-    ensures below { result ≤ℤ pos (2 ^ 41) }
+    ensures below { result ≤ℤ pos (2 ^ 49) }
     ensures small { (k : ℕ) → k < length cols.now
-        → (pos 0 ≤ℤ slice_index_or at.new k (pos 0)) × (slice_index_or at.new k (pos 0) ≤ℤ pos (2 ^ 40)) }
+        → (pos 0 ≤ℤ slice_index_or at.new k (pos 0)) × (slice_index_or at.new k (pos 0) ≤ℤ pos (2 ^ 48)) }
 {
     settle(cols, gaps, force, at, front);
     let last = cols.len() - 1;
     end_of(&cols[last], gaps.len(), at[last])
+}
+
+/// The most columns that can stand within a width, in u: neighbors stand 100 apart.
+pub fn most_columns(width: u32) -> usize
+    ensures { result ≡ most_columns width }
+{
+    width as usize / 100 + 1
 }
 
 /// The greatest force of 0 to 2048 at which the columns end within the width, in u.
@@ -58,7 +65,7 @@ pub fn fit<C: Spaced + Spring>(
     scratch: &mut [i64],
 ) -> Option<u16>
     requires some { 0 < length cols.now }
-    requires few { length cols.now ≤ 200000 }
+    requires few { length cols.now ≤ 2 ^ 26 }
     requires lanes { length gaps.now < 2 ^ 32 }
     requires narrow { (lane : ℕ) → lane < length gaps.now → slice_index gaps.now lane ≤ 2 ^ 20 }
     requires room { length cols.now + length gaps.now ≤ length scratch.old }
@@ -83,7 +90,7 @@ pub fn fit_within<C: Spaced + Spring>(
     scratch: &mut [i64],
 ) -> Option<u16>
     requires some { 0 < length cols.now }
-    requires few { length cols.now ≤ 200000 }
+    requires few { length cols.now ≤ 2 ^ 26 }
     requires lanes { length gaps.now < 2 ^ 32 }
     requires narrow { (lane : ℕ) → lane < length gaps.now → slice_index gaps.now lane ≤ 2 ^ 20 }
     requires most { most ≤ 2048 }

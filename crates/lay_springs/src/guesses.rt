@@ -6,10 +6,10 @@ use crate::traits::Spring;
 pub(crate) fn tight<C: Spring>(cols: &[C], force: u16, at: &[i64]) -> u64
     requires some { 0 < length cols.now }
     requires room { length at.now ≡ length cols.now }
-    requires few { length cols.now ≤ 200000 }
+    requires few { length cols.now ≤ 2 ^ 26 }
     requires small { (k : ℕ) → k < length at.now
-        → (pos 0 ≤ℤ slice_index_or at.now k (pos 0)) × (slice_index_or at.now k (pos 0) ≤ℤ pos (2 ^ 40)) }
-    ensures { result ≤ 2 ^ 40 }
+        → (pos 0 ≤ℤ slice_index_or at.now k (pos 0)) × (slice_index_or at.now k (pos 0) ≤ℤ pos (2 ^ 48)) }
+    ensures { result ≤ 2 ^ 47 }
 {
     let mut sum = 0;
     for j in 1..cols.len() {
@@ -24,8 +24,8 @@ pub(crate) fn tight<C: Spring>(cols: &[C], force: u16, at: &[i64]) -> u64
 /// The force at which columns that end at `end` at a force would end at the width if
 /// none but the tight springs changed; at most 2048.
 pub(crate) fn crossing(force: u16, end: u64, tight: u64, width: u32) -> u16
-    requires end { end ≤ 2 ^ 41 }
-    requires tight { tight ≤ 2 ^ 40 }
+    requires end { end ≤ 2 ^ 49 }
+    requires tight { tight ≤ 2 ^ 47 }
 {
     let width = u64::from(width);
     if tight == 0 {

@@ -103,14 +103,14 @@ pub(crate) fn settle<C: Spaced + Spring>(
     front: &mut [i64],
 )
     requires some { 0 < length cols.now }
-    requires few { length cols.now ≤ 200000 }
+    requires few { length cols.now ≤ 2 ^ 26 }
     requires lanes { length gaps.now < 2 ^ 32 }
     requires narrow { (lane : ℕ) → lane < length gaps.now → slice_index gaps.now lane ≤ 2 ^ 20 }
     requires room { length at.old ≡ length cols.now }
     requires one_each { length front.old ≡ length gaps.now }
     ensures place { IsPlace (length cols.now) (reach_at C.reach_of cols.now) gaps.now (length_at C.length_of cols.now force) at.new }
     ensures small { (k : ℕ) → k < length cols.now
-        → (pos 0 ≤ℤ slice_index_or at.new k (pos 0)) × (slice_index_or at.new k (pos 0) ≤ℤ pos (2 ^ 40)) }
+        → (pos 0 ≤ℤ slice_index_or at.new k (pos 0)) × (slice_index_or at.new k (pos 0) ≤ℤ pos (2 ^ 48)) }
 {
     place_first(cols, gaps, force, at, front);
     for j in 1..cols.len() {
@@ -148,7 +148,7 @@ fn place_next<C: Spaced + Spring>(
     front: &mut [i64],
     j: usize,
 )
-    requires few { length cols.now ≤ 200000 }
+    requires few { length cols.now ≤ 2 ^ 26 }
     requires lanes { length gaps.now < 2 ^ 32 }
     requires narrow { (lane : ℕ) → lane < length gaps.now → slice_index gaps.now lane ≤ 2 ^ 20 }
     requires room { length at.old ≡ length cols.now }
@@ -174,7 +174,7 @@ fn next_of<C: Spaced + Spring>(
     front: &[i64],
     j: usize,
 ) -> i64
-    requires few { length cols.now ≤ 200000 }
+    requires few { length cols.now ≤ 2 ^ 26 }
     requires lanes { length gaps.now < 2 ^ 32 }
     requires narrow { (lane : ℕ) → lane < length gaps.now → slice_index gaps.now lane ≤ 2 ^ 20 }
     requires room { length at.now ≡ length cols.now }
@@ -212,7 +212,7 @@ pub fn place<C: Spaced + Spring>(
     force: u16,
 ) -> Result<Row<i64>, Memory>
     requires some { 0 < length cols.now }
-    requires few { length cols.now ≤ 200000 }
+    requires few { length cols.now ≤ 2 ^ 26 }
     requires lanes { length gaps.now < 2 ^ 32 }
     requires narrow { (lane : ℕ) → lane < length gaps.now → slice_index gaps.now lane ≤ 2 ^ 20 }
     ensures { IfOk result (λ v. IsPlace (length cols.now) (reach_at C.reach_of cols.now) gaps.now (length_at C.length_of cols.now force) v) }

@@ -11,7 +11,7 @@ pub mod least;
 pub mod margin;
 pub mod traits;
 
-pub use forces::{fit, fit_within, longer_fits_less};
+pub use forces::{fit, fit_within, longer_fits_less, most_columns};
 pub use least::place;
 pub use margin::{Placed, justify};
 pub use traits::{Reach, Spaced, Spring};

@@ -20,9 +20,9 @@ pub struct Placed {
 /// Moves each abscissa right by its part of `rest`.
 fn spread(at: &mut [i64], rest: u32)
     requires some { 1 < length at.old }
-    requires few { length at.old ≤ 200000 }
+    requires few { length at.old ≤ 2 ^ 26 }
     requires small { (k : ℕ) → k < length at.old
-        → (pos 0 ≤ℤ slice_index_or at.old k (pos 0)) × (slice_index_or at.old k (pos 0) ≤ℤ pos (2 ^ 40)) }
+        → (pos 0 ≤ℤ slice_index_or at.old k (pos 0)) × (slice_index_or at.old k (pos 0) ≤ℤ pos (2 ^ 48)) }
     ensures { (k : ℕ) → k < length at.old
         → slice_index_or at.new k (pos 0) ≡ (slice_index_or at.old k (pos 0) +ℤ pos (rest * k / (length at.old - 1))) }
 {
@@ -36,7 +36,7 @@ fn spread(at: &mut [i64], rest: u32)
 fn share(rest: u32, k: usize, last: usize) -> i64
     requires some { 0 < last }
     requires within { k ≤ last }
-    requires few { last ≤ 200000 }
+    requires few { last ≤ 2 ^ 26 }
     ensures value { result ≡ pos (rest * k / last) }
     ensures bound { result ≤ℤ pos rest }
 {
@@ -69,7 +69,7 @@ fn set<C: Spaced + Spring>(
     front: &mut [i64],
 )
     requires some { 0 < length cols.now }
-    requires few { length cols.now ≤ 200000 }
+    requires few { length cols.now ≤ 2 ^ 26 }
     requires lanes { length gaps.now < 2 ^ 32 }
     requires narrow { (lane : ℕ) → lane < length gaps.now → slice_index gaps.now lane ≤ 2 ^ 20 }
     requires room { length at.old ≡ length cols.now }
@@ -98,7 +98,7 @@ pub fn justify<C: Spaced + Spring>(
     last: bool,
 ) -> Result<Placed, Memory>
     requires some { 0 < length cols.now }
-    requires few { length cols.now ≤ 200000 }
+    requires few { length cols.now ≤ 2 ^ 26 }
     requires lanes { length gaps.now < 2 ^ 32 }
     requires narrow { (lane : ℕ) → lane < length gaps.now → slice_index gaps.now lane ≤ 2 ^ 20 }
     requires fits { Fits (length cols.now) (reach_at C.reach_of cols.now) gaps.now (length_at C.length_of cols.now) width force }

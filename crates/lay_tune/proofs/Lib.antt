@@ -1,3 +1,4 @@
+pub mod Breakings
 pub mod Called
 pub mod Joins
 pub mod Open

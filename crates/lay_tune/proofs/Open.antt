@@ -1,16 +1,16 @@
 -- The spans of a score, and what stands open to a breaking of them.
-use Rattle.std.proofs.Common.{◌≡◌, ℕ, ◌+◌, ◌-◌, ◌<◌, ◌≤◌, ◌*◌, ◌==◌, not, List, [], ◌∷◌, length, map, Option, Some, None, IsSome, sym, ◌∙◌, ap, subst, refl, arith}
+use Rattle.std.proofs.Common.{◌≡◌, ℕ, ◌+◌, ◌-◌, ◌<◌, ◌≤◌, ◌*◌, ◌^◌, ◌==◌, not, List, [], ◌∷◌, length, map, Option, Some, None, IsSome, sym, ◌∙◌, ap, subst, refl, arith}
 use Rattle.std.{proofs.lemmas.Bool.true≢false, proofs.lemmas.List.length-map, proofs.lemmas.List.Elements.All-from_recursion, proofs.lemmas.List.Sums.sum-map, specs.List.All, specs.List.AllByRecursion, specs.List.filter, specs.List.sum_by}
 use Rattle.mus_score.specs.{declared.score.Score.Score, declared.score.Voice.Voice, GoodScore.IsGoodScore, Seats.grouped, Seats.is_lower, Seats.stands_lower as lower}
 use Rattle.mus_laid.specs.{declared.laid.StaffMarks.StaffMarks, declared.laid.SystemMarks.SystemMarks}
 use Rattle.mus_drawn.specs.{declared.drawn.DrawnVoice.DrawnVoice, Drawn.drawn_voice}
 use Rattle.mus_marks.{specs.Staff.verses_on, specs.System.drawn_staves, specs.System.stands_lower, proofs.Fitting.few_verses, proofs.Groups.grouped_map}
 use Rattle.lay_columns.specs.{declared.column.Column.Column, Column.length_rises, Columns.column_reach}
-use Rattle.lay_springs.{specs.Place.length_at, specs.Place.reach_at, specs.Fit.Passes, proofs.Longer.cannot_stand, proofs.Longer.stands}
+use Rattle.lay_springs.{specs.Place.length_at, specs.Place.reach_at, specs.Fit.Passes, specs.Fit.most_columns, proofs.Longer.cannot_stand, proofs.Longer.stand_few, proofs.Longer.stands}
 use Rattle.lay_springs.proofs.Ends.{length_rises as lengths_rise}
 use Rattle.lay_breaks.specs.{declared.costs.Span.Span, declared.breaking.BreakError.BreakError, Answers.IsCause, Breaking.FitsFrom, Breaking.IsChosen, Breaking.IsReached, Breaking.NoneLegal, Breaking.RisesFrom, Breaking.last_from, Spans.AreSpans, Spans.listed}
-use Rattle.lay_spans.{specs.Badness.badness_of, specs.Columns.AreMeasures, specs.Columns.column_count, specs.Columns.span_columns, specs.Forced.is_forced, specs.SpanList.IsSpanList, proofs.Adding.columns_few, proofs.Adding.columns_some}
-use Rattle.lay_tune.{proofs.StaffCounts.count_grouped, proofs.StaffCounts.few_groups, proofs.StaffCounts.none_more, specs.Spans.AreColumnsOf, specs.Spans.AreSpansOf, specs.Spans.CanStandIn, specs.Spans.IsForceOf, specs.Spans.column_length, specs.Spans.is_forced_in, specs.Spans.score_gaps}
+use Rattle.lay_spans.{specs.Badness.badness_of, specs.Columns.AreMeasures, specs.Columns.span_columns, specs.Forced.is_forced, specs.SpanList.IsSpanList, proofs.Adding.columns_some}
+use Rattle.lay_tune.{proofs.StaffCounts.count_grouped, proofs.StaffCounts.few_groups, proofs.StaffCounts.none_more, specs.Spans.AreColumnsOf, specs.Spans.AreSpansOf, specs.Spans.CanStandIn, specs.Spans.IsForceOf, specs.Spans.IsSystem, specs.Spans.column_length, specs.Spans.is_forced_in, specs.Spans.score_gaps, specs.Spans.system_columns}
 use Rattle.lay_tune.specs.{Spans.verses_of, Layout.IsCauseIn, Layout.IsNoWay, Layout.layout_error, Systems.AllSpans, Systems.CanBeSet, Systems.HaveForce, Systems.gaps_between}
 
 -- columns that have a force don't pass the width at force 0
@@ -46,26 +46,36 @@ pub some_of : (o : Option ℕ) → IsSome o → (v : ℕ) × (o ≡ Some v)
 some_of None e = absurd (true≢false (sym e))
 some_of (Some v) e = (v, refl)
 
--- a listed span can be set where there is room for the columns of all measures
+-- columns that a force presses are few
+force_few : (gaps : List ℕ) (width : ℕ) (columns : List Column) (force : ℕ) → 0 < length columns → IsForceOf gaps width columns force
+    → length columns ≤ most_columns width
+force_few gaps width columns force some h =
+    stand_few (length columns) (reach_at column_reach columns) gaps (length_at column_length columns) width force some
+    (stands (length columns) (reach_at column_reach columns) gaps (length_at column_length columns) width force h.fits)
+
+-- a listed span can be set where there is room for the columns that can stand within the width
 pub span_open : (s : Score) (width room : ℕ) (starts others : List (List Column)) (spans : List Span) (lanes : ℕ)
     → length starts ≡ s.measures → AreMeasures column_reach lanes starts others → AreColumnsOf s starts others → AreSpansOf s width spans
-    → column_count starts + column_count others + length (score_gaps s) ≤ room
+    → width < 2 ^ 32 → most_columns width + length (score_gaps s) ≤ room
     → (a b : ℕ) → a < b → b ≤ s.measures → IsSome (listed spans a b) → CanBeSet s width room a b
-span_open s width room starts others spans lanes count measures join h roomy a b l m some =
+span_open s width room starts others spans lanes count measures join h narrow roomy a b l m some =
     let v = some_of (listed spans a b) some in
     let cost = h.each a b v.0 l m v.1 in
     let begun = measures.begun a (omega arith) in
-    let all = measures.room in
-    let few : length (span_columns starts others a b) ≤ column_count starts + column_count others = columns_few starts others a b (omega arith) in
+    let first : 0 < length (span_columns starts others a b) = columns_some starts others a b l begun in
+    let some : (marks : SystemMarks) → IsSystem s a b marks → 0 < length (system_columns s marks) =
+    λ marks is. subst (λ columns. 0 < length columns) (sym (join a b marks l m is)) first in
+    let few : (marks : SystemMarks) → IsSystem s a b marks → length (system_columns s marks) ≤ most_columns width =
+    λ marks is. force_few (score_gaps s) width (system_columns s marks) cost.pressed.0 (some marks is) (cost.pressed.2 marks is) in
     record {
       rises = l;
       within = m;
       columns = λ marks is. record {
-        some = subst (λ columns. 0 < length columns) (sym (join a b marks l m is)) (columns_some starts others a b l begun);
-        few = subst (λ columns. length columns ≤ 200000) (sym (join a b marks l m is)) (omega arith);
+        some = some marks is;
+        few = let k = few marks is in omega (arith, k, narrow);
         pressed = (cost.pressed.0, cost.pressed.2 marks is);
       };
-      places = λ marks is. subst (λ columns. length columns + length (score_gaps s) ≤ room) (sym (join a b marks l m is)) (omega arith);
+      places = λ marks is. let k = few marks is in omega (arith, k, roomy);
     }
 
 pub past_last : (a : ℕ) (bs : List ℕ) → RisesFrom a bs → a ≤ last_from a bs
@@ -82,13 +92,13 @@ all_open P cost n h a (b ∷ bs) r f l =
 -- the chosen breaking can be set
 pub chosen_open : (s : Score) (width room : ℕ) (starts others : List (List Column)) (spans : List Span) (lanes : ℕ) (breaks : List ℕ)
     → length starts ≡ s.measures → AreMeasures column_reach lanes starts others → AreColumnsOf s starts others → AreSpansOf s width spans
-    → column_count starts + column_count others + length (score_gaps s) ≤ room
+    → width < 2 ^ 32 → most_columns width + length (score_gaps s) ≤ room
     → IsChosen (listed spans) (is_forced_in s) s.measures breaks
     → AllSpans (CanBeSet s width room) 0 breaks
-chosen_open s width room starts others spans lanes breaks count measures join h roomy chosen =
+chosen_open s width room starts others spans lanes breaks count measures join h narrow roomy chosen =
     let ends = chosen.legal.ends in
     all_open (CanBeSet s width room) (listed spans) s.measures
-    (λ a b l m some. span_open s width room starts others spans lanes count measures join h roomy a b l m some)
+    (λ a b l m some. span_open s width room starts others spans lanes count measures join h narrow roomy a b l m some)
     0 breaks chosen.legal.rises chosen.legal.fits (omega arith)
 
 -- the same where gaps and forced bars were read off the score
@@ -106,14 +116,14 @@ pub chosen_read : (s : Score) (width room : ℕ) (starts others : List (List Col
     → length starts ≡ s.measures → gaps ≡ score_gaps s → forced ≡ s.forced → read ≡ spans → bars ≡ breaks
     → AreMeasures column_reach (length (score_gaps s)) starts others → AreColumnsOf s starts others
     → IsSpanList column_reach column_length gaps width starts others (is_forced (length starts) forced) spans
-    → column_count starts + column_count others + length gaps ≤ room
+    → width < 2 ^ 32 → most_columns width + length gaps ≤ room
     → IsChosen (listed read) (is_forced s.measures forced) s.measures breaks
     → AllSpans (CanBeSet s width room) 0 bars
-chosen_read s width room starts others spans read gaps forced breaks bars count is all same ends measures join h roomy chosen =
+chosen_read s width room starts others spans read gaps forced breaks bars count is all same ends measures join h narrow roomy chosen =
     subst (λ these. AllSpans (CanBeSet s width room) 0 these) (sym ends)
     (chosen_open s width room starts others spans (length (score_gaps s)) breaks count measures join
     (spans_read s width starts others spans gaps forced count is all join h)
-    (subst (λ these. column_count starts + column_count others + length these ≤ room) is roomy)
+    narrow (subst (λ these. most_columns width + length these ≤ room) is roomy)
     (subst (λ these. IsChosen (listed these) (is_forced_in s) s.measures breaks) same
     (subst (λ these. IsChosen (listed read) (is_forced s.measures these) s.measures breaks) all chosen)))
 

@@ -1,3 +1,4 @@
+pub mod Breakings
 pub mod Layout
 pub mod Measures
 pub mod Spans

@@ -57,7 +57,7 @@ pub record IsStack (s : Score) (m : SystemMarks) (h : Heights) : Type 0 where
 -- Columns that can be placed.
 pub record HaveForce (gaps : List ℕ) (width : ℕ) (columns : List Column) : Type 0 where
   pub some : 0 < length columns
-  pub few : length columns ≤ 200000
+  pub few : length columns ≤ 2 ^ 26
   pub pressed : (force : ℕ) × IsForceOf gaps width columns force
 
 -- A span whose columns can be placed, and need no more than `room` places: one for each column and for each lane.

@@ -7,10 +7,10 @@ ghost use Rattle.lay_columns.specs.Columns.{column_reach};
 ghost use Rattle.lay_breaks.specs.{Breaking.IsChosen, Breaking.IsPotential, Breaking.sum_from, Spans.AreSpans, Spans.listed};
 ghost use Rattle.lay_spans.specs.Columns.{AreMeasures};
 ghost use Rattle.lay_tune.specs.declared.layout.LayoutError.TheVariants as errors;
-ghost use Rattle.lay_tune.specs.{Layout.IsCauseIn, Layout.layout_error, Spans.AreColumnsOf, Spans.AreSpansOf, Spans.is_forced_in, Spans.score_gaps, Spans.verses_of};
+ghost use Rattle.lay_tune.specs.{Breakings.IsLeastBreaking, Layout.IsCauseIn, Layout.layout_error, Spans.AreColumnsOf, Spans.AreSpansOf, Spans.is_forced_in, Spans.score_gaps, Spans.verses_of};
 ghost use Rattle.lay_tune.specs.Systems.{Beside, EachSpan, IsSetSystem, IsStack};
 
-use crate::measures::{columns_within, others_of, starts_of};
+use crate::measures::{others_of, starts_of};
 use crate::systems::{Systems, set_systems};
 use lay_breaks::{BreakError, Breaking, Span};
 use lay_columns::{Column, gaps_of};
@@ -88,6 +88,7 @@ fn lay_out_measures(
     ensures spans { IfOk result (λ l. AreSpansOf s.now width l.spans) }
     ensures chosen { IfOk result (λ l. IsChosen (listed l.spans) (is_forced_in s.now) s.now.measures l.breaking.breaks) }
     ensures total { IfOk result (λ l. l.breaking.total ≡ sum_from (listed l.spans) 0 l.breaking.breaks) }
+    ensures least { IfOk result (λ l. IsLeastBreaking s.now width l.breaking.breaks l.breaking.total) }
     ensures one_each { IfOk result (λ l. length l.breaking.potentials ≡ s.now.measures + 1) }
     ensures potentials { IfOk result (λ l. (i : ℕ) → i ≤ s.now.measures
         → IsPotential (listed l.spans) (is_forced_in s.now) i (slice_index_or l.breaking.potentials i Option.None)) }
@@ -98,17 +99,8 @@ fn lay_out_measures(
 {
     let gaps = gaps_of(alloc, verses)?;
     let forced = s.forced.as_slice();
-    let mut places = places_of(alloc, starts, others, gaps.len())?;
-    let scratch = places.as_mut_slice();
-    let spans = spans_of(
-        alloc,
-        starts,
-        others,
-        gaps.as_slice(),
-        width,
-        forced,
-        scratch,
-    )?;
+    let mut places = places_of(alloc, width, gaps.len())?;
+    let spans = spans_of(alloc, starts, others, gaps.as_slice(), width, forced)?;
     let breaking = match break_of(alloc, spans.as_slice(), forced, s.measures) {
         Ok(breaking) => breaking,
         Err(error) => return Err(layout_error(error)),
@@ -128,7 +120,7 @@ fn lay_out_measures(
         gaps.as_slice(),
         width,
         breaks,
-        scratch,
+        places.as_mut_slice(),
     )?;
     Ok(Layout {
         breaking,
@@ -145,9 +137,8 @@ fn lay_out_measures(
 /// a ragged last one.
 ///
 /// A score without voices has no measure. A score of no measures has the empty breaking. `NoWay`
-/// comes exactly where no breaking is legal. Measures of more than 200,000 columns, counted both as
-/// they begin a system and as they don't, want more memory than there is. Room for placing columns
-/// is reserved once, before the first force is searched for, so that no search wants memory.
+/// comes exactly where no breaking is legal. Room for placing columns is reserved before the first
+/// force is searched for, so that no search wants memory.
 pub fn lay_out(alloc: Global, s: &Score, width: u32) -> Result<Layout, LayoutError>
     requires good { IsGoodScore s.now }
     requires heard { 0 < s.now.measures → 1 ≤ length s.now.voices }
@@ -155,6 +146,7 @@ pub fn lay_out(alloc: Global, s: &Score, width: u32) -> Result<Layout, LayoutErr
     ensures spans { IfOk result (λ l. AreSpansOf s.now width l.spans) }
     ensures chosen { IfOk result (λ l. IsChosen (listed l.spans) (is_forced_in s.now) s.now.measures l.breaking.breaks) }
     ensures total { IfOk result (λ l. l.breaking.total ≡ sum_from (listed l.spans) 0 l.breaking.breaks) }
+    ensures least { IfOk result (λ l. IsLeastBreaking s.now width l.breaking.breaks l.breaking.total) }
     ensures one_each { IfOk result (λ l. length l.breaking.potentials ≡ s.now.measures + 1) }
     ensures potentials { IfOk result (λ l. (i : ℕ) → i ≤ s.now.measures
         → IsPotential (listed l.spans) (is_forced_in s.now) i (slice_index_or l.breaking.potentials i Option.None)) }
@@ -172,11 +164,6 @@ pub fn lay_out(alloc: Global, s: &Score, width: u32) -> Result<Layout, LayoutErr
     let starts = begun.as_slice();
     let further = others_of(alloc, s, voices, &t, verses)?;
     let others = further.as_slice();
-    // A good score has at most 50,000 notes and rests, graces counted, and 2000 bars, so that only
-    // one with a change before nearly each of as many notes comes past this.
-    if columns_within(starts) + columns_within(others) > 200_000 {
-        return Err(LayoutError::Memory);
-    }
     measures_join();
     lay_out_measures(alloc, s, voices, &t, verses, starts, others, width)
 }

@@ -1,8 +1,7 @@
-ghost use Rattle.std.specs.Prelude.{◌≡◌, ◌≤◌, ◌<◌, All, IfOk, length, map, min};
+ghost use Rattle.std.specs.Prelude.{◌≡◌, ◌≤◌, ◌<◌, All, IfOk, length, map};
 ghost use Rattle.mus_score.specs.GoodScore.{IsGoodScore};
 ghost use Rattle.mus_time.specs.Onsets.{timeline_of};
 ghost use Rattle.mus_drawn.specs.{Drawn.drawn_voice, Good.AreGoodMeasures};
-ghost use Rattle.lay_spans.specs.Columns.{column_count};
 ghost use Rattle.lay_tune.specs.{Measures.EachMeasure, Measures.IsOther, Measures.IsStart, Spans.verses_of};
 
 use lay_columns::Column;
@@ -59,15 +58,4 @@ pub(crate) fn others_of(
         rows.push(columns)?;
     }
     Ok(rows)
-}
-
-/// How many columns the measures have, or 200,001 where there are more than 200,000.
-pub(crate) fn columns_within(measures: &[Row<Column>]) -> usize
-    ensures { result ≡ min 200001 (column_count measures.now) }
-{
-    let mut count = 0_usize;
-    for measure in measures {
-        count = (count + measure.len().min(200_001)).min(200_001);
-    }
-    count
 }

@@ -1,15 +1,15 @@
 use Rattle.std.proofs.Common.{◌≡◌, ◌+◌, ◌++◌, ◌<◌, ◌≤◌, ◌∷◌, [], map, length, length-append, false, slice_index_or, arith, sym, ◌∙◌, ap, subst, rules}
-use Rattle.lay_spans.{specs.Columns.span_columns, specs.Columns.column_count, specs.SpanList.IsForce, specs.SpanList.IsCost, proofs.Adding.columns_some, proofs.Fitting.force_of, proofs.Fitting.still_above, proofs.Fitting.never_stands, proofs.Growing.seen_more, proofs.Growing.seen_few}
-use Rattle.lay_spans.proofs.{Growing.costs_more, Growing.free_more, Growing.stops_at, Growing.stops_behind, rows.row_from.Goals.After-fit_within-arg-1, rows.row_from.Goals.In_ok-push}
+use Rattle.lay_spans.{specs.Columns.span_columns, specs.SpanList.IsForce, specs.SpanList.IsCost, proofs.Fitting.force_of, proofs.Fitting.still_above, proofs.Fitting.never_stands, proofs.Growing.seen_more}
+use Rattle.lay_spans.proofs.{Growing.costs_more, Growing.free_more, Growing.stops_at, Growing.stops_behind, rows.row_from.Goals.After-greatest_force-arg-1, rows.row_from.Goals.In_ok-push}
 use Rattle.lay_spans.proofs.rows.row_from.Goals as goal
 
-inside : (g : _) (c : After-fit_within-arg-1 g) → c.loop-m.m < length c.args.starts.now
+inside : (g : _) (c : After-greatest_force-arg-1 g) → c.loop-m.m < length c.args.starts.now
 inside g c = let l = c.loop-m-test.true in omega arith
 
-past : (g : _) (c : After-fit_within-arg-1 g) → c.args.a ≤ c.loop-m.m
+past : (g : _) (c : After-greatest_force-arg-1 g) → c.args.a ≤ c.loop-m.m
 past g c = let l = c.loop-m.invariant.count in omega arith
 
-columns : (g : _) (c : After-fit_within-arg-1 g)
+columns : (g : _) (c : After-greatest_force-arg-1 g)
     → map (λ s. s.column.now) c.as_slice.result.now ≡ span_columns c.args.starts.now c.args.others.now c.args.a (c.loop-m.m + 1)
 columns g c =
     ap (λ seen. map (λ s. s.column.now) seen) c.as_slice.ensures
@@ -17,24 +17,14 @@ columns g c =
     (past g c) (inside g c) c.requires.measures.same c.loop-m.invariant.columns
     (c.in_ok-see.ensures ∙ ap (λ r. map (λ s. s.column.now) c.loop-m.seen ++ r) c.measure.ensures)
 
-few : (g : _) (c : After-fit_within-arg-1 g) → length c.as_slice.result.now ≤ column_count c.args.starts.now + column_count c.args.others.now
-few g c = seen_few (λ s. s.column.now) c.as_slice.result.now c.args.starts.now c.args.others.now c.args.a (c.loop-m.m + 1) c.requires.inside (columns g c)
-
-pub fit_within-requires-clause-few : goal.fit_within-requires-clause-few
-fit_within-requires-clause-few g c = let k = few g c in let r = c.requires.measures.room in omega arith
-
-pub fit_within-requires-clause-room : goal.fit_within-requires-clause-room
-fit_within-requires-clause-room g c = let k = few g c in let r = c.loop-m.invariant.room in omega arith
-
 -- no longer span fits
 pub returns-in_default : goal.returns-in_default
 returns-in_default g c =
-    let b = (goal.at.returns-in_default g c).After-fit_within-arg-1 in
+    let b = (goal.at.returns-in_default g c).After-greatest_force-arg-1 in
     stops_at g.C.Spaced.reach_of g.C.Spring.length_of c.args.gaps.now c.args.width c.args.starts.now c.args.others.now (λ b. slice_index_or c.args.marks.now b false)
     c.args.a c.loop-m.m c.loop-m.row c.requires.measures c.requires.inside (inside g b) c.loop-m.invariant.count c.loop-m.invariant.each
     (never_stands (λ s. s.column.now) g.C.Spaced.reach_of g.C.Spring.length_of c.args.gaps.now c.args.width c.as_slice.result.now
     (span_columns c.args.starts.now c.args.others.now c.args.a (c.loop-m.m + 1)) (columns g b)
-    (columns_some c.args.starts.now c.args.others.now c.args.a (c.loop-m.m + 1) (let l = past g b in omega arith) (c.requires.measures.begun c.args.a c.requires.inside))
     c.in_default.ensures.none)
 
 -- the force of the span with this measure
@@ -83,7 +73,7 @@ count g c =
 
 pub returns-then-marks-m : goal.returns-then-marks-m
 returns-then-marks-m g c =
-    let b = (goal.at.returns-then-marks-m g c).After-fit_within-arg-1 in
+    let b = (goal.at.returns-then-marks-m g c).After-greatest_force-arg-1 in
     let pushed = (goal.at.returns-then-marks-m g c).In_ok-push in
     stops_behind g.C.Spaced.reach_of g.C.Spring.length_of c.args.gaps.now c.args.width c.args.starts.now c.args.others.now (λ b. slice_index_or c.args.marks.now b false)
     c.args.a c.loop-m.m c.push.new.self (inside g b) (count g pushed) (past g b)
@@ -92,7 +82,7 @@ returns-then-marks-m g c =
 
 pub loop-m-preserved : goal.loop-m-preserved
 loop-m-preserved g c =
-    let b = (goal.at.loop-m-preserved g c).After-fit_within-arg-1 in
+    let b = (goal.at.loop-m-preserved g c).After-greatest_force-arg-1 in
     let pushed = (goal.at.loop-m-preserved g c).In_ok-push in
     let pressed = force g pushed (columns g b) in
     let l = past g b in
@@ -103,5 +93,5 @@ loop-m-preserved g c =
       free = free_more (λ b. slice_index_or c.args.marks.now b false) c.args.a c.loop-m.m (search rules) c.loop-m.invariant.free;
       most = let b = pressed.bound in omega arith;
       above = λ g past within. (omega arith, pressed.greatest g past within);
-      room = let k = c.fit_within.auto.scratch in let r = c.loop-m.invariant.room in omega arith;
+      room = let k = c.greatest_force.auto.scratch in let r = c.loop-m.invariant.room in omega arith;
     }

@@ -7,7 +7,7 @@ use Rattle.lay_springs.proofs.forces.end_at.Goals as goal
 low : (g : _) (c : After-end_of g) → pos 0 ≤ℤ slice_index_or c.settle.new.at (length c.args.cols.now - 1) (pos 0)
 low g c = (c.settle.ensures.small (length c.args.cols.now - 1) (let s = c.requires.some in omega arith)).0
 
-high : (g : _) (c : After-end_of g) → slice_index_or c.settle.new.at (length c.args.cols.now - 1) (pos 0) ≤ℤ pos 1099511627776
+high : (g : _) (c : After-end_of g) → slice_index_or c.settle.new.at (length c.args.cols.now - 1) (pos 0) ≤ℤ pos 281474976710656
 high g c = (c.settle.ensures.small (length c.args.cols.now - 1) (let s = c.requires.some in omega arith)).1
 
 same : (g : _) (c : After-end_of g)
@@ -44,7 +44,7 @@ pub returns-clause-below : goal.returns-clause-below
 returns-clause-below g c =
     let s = (goal.at.returns-clause-below g c).After-end_of in
     let h = high g s in
-    rw (wrapped g s) ((end g s).least (pos 2199023255552) (omega (arith, ints))
+    rw (wrapped g s) ((end g s).least (pos 562949953421312) (omega (arith, ints))
     (λ lane r l e.
     let near = rw e at (g.met.C.Spaced.is_near c.index-cols-last.result lane (let f = c.requires.lanes in omega arith)) in
     let right = near.1 in

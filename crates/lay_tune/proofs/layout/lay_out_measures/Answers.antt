@@ -1,7 +1,7 @@
 use Rattle.std.proofs.Common.{◌∙◌, ap, arith, length, subst, sym, ◌<◌}
 use Rattle.lay_columns.specs.Lanes.{gaps_of}
 use Rattle.lay_breaks.specs.Spans.{AreSpans}
-use Rattle.lay_tune.{specs.Layout.IsCauseIn, proofs.Open.cause_read, proofs.Open.chosen_read, proofs.Open.few_lanes, proofs.Open.spans_read}
+use Rattle.lay_tune.{specs.Layout.IsCauseIn, proofs.Breakings.least_read, proofs.Open.cause_read, proofs.Open.chosen_read, proofs.Open.few_lanes, proofs.Open.spans_read}
 use Rattle.lay_tune.proofs.layout.lay_out_measures.Goals as goal
 
 pub returns-in-Err-clause-no_way : goal.returns-in-Err-clause-no_way
@@ -15,8 +15,8 @@ returns-in-Err-clause-no_way c =
     c.requires.columns c.in_ok-spans.ensures.exact)
     c.in-Err.ensures.no_way)
 
-pub places_of-requires-clause-lanes : goal.places_of-requires-clause-lanes
-places_of-requires-clause-lanes c =
+pub places_of-requires : goal.places_of-requires
+places_of-requires c =
     let few = few_lanes c.args.s.now c.args.verses.now c.in_ok-gaps.gaps c.requires.good c.requires.verses c.in_ok-gaps.ensures.few in
     let count = c.len.ensures in
     omega (arith, few, count)
@@ -36,16 +36,25 @@ set_systems-requires-clause-fits c =
     let reserved = c.in_ok-places.ensures in
     let lanes = c.len.ensures in
     let read = ap (λ gaps. length gaps) c.as_slice.ensures in
-    let lent = ap (λ places. length places) c.as_mut_slice-scratch.ensures.value in
-    let kept = c.spans_of.auto.scratch in
-    chosen_read c.args.s.now c.args.width (length c.spans_of.new.scratch) c.args.starts.now c.args.others.now c.in_ok-spans.spans c.as_slice-2.result.now
+    let lent = ap (λ places. length places) c.as_mut_slice.ensures.value in
+    let narrow = c.ranges.width.fits in
+    chosen_read c.args.s.now c.args.width (length c.as_mut_slice.result.now) c.args.starts.now c.args.others.now c.in_ok-spans.spans c.as_slice-2.result.now
     c.as_slice.result.now c.as_slice-forced.result.now c.in-Ok.breaking.breaks c.as_slice-breaks.result.now
     c.requires.count (c.as_slice.ensures ∙ c.in_ok-gaps.ensures.value ∙ ap gaps_of c.requires.verses) c.as_slice-forced.ensures
     c.as_slice-2.ensures c.as_slice-breaks.ensures c.requires.measures c.requires.columns c.in_ok-spans.ensures.exact
-    (omega arith) c.in-Ok.ensures.chosen
+    (omega arith) (omega arith) c.in-Ok.ensures.chosen
 
 pub returns-clause-spans : goal.returns-clause-spans
 returns-clause-spans c =
     spans_read c.args.s.now c.args.width c.args.starts.now c.args.others.now c.in_ok-spans.spans c.as_slice.result.now c.as_slice-forced.result.now
     c.requires.count (c.as_slice.ensures ∙ c.in_ok-gaps.ensures.value ∙ ap gaps_of c.requires.verses) c.as_slice-forced.ensures
     c.requires.columns c.in_ok-spans.ensures.exact
+
+pub returns-clause-least : goal.returns-clause-least
+returns-clause-least c =
+    least_read c.args.s.now c.args.width c.in_ok-spans.spans c.as_slice-2.result.now c.as_slice-forced.result.now c.in-Ok.breaking.breaks c.in-Ok.breaking.total
+    c.as_slice-forced.ensures c.as_slice-2.ensures
+    (spans_read c.args.s.now c.args.width c.args.starts.now c.args.others.now c.in_ok-spans.spans c.as_slice.result.now c.as_slice-forced.result.now
+    c.requires.count (c.as_slice.ensures ∙ c.in_ok-gaps.ensures.value ∙ ap gaps_of c.requires.verses) c.as_slice-forced.ensures
+    c.requires.columns c.in_ok-spans.ensures.exact)
+    c.in-Ok.ensures.chosen c.in-Ok.ensures.total

@@ -1,0 +1,76 @@
+//! Gates that count the tunes that enter.
+
+use crate::case::Case;
+use crate::running::{Finished, Streams, ran_through};
+use abcps::Gate;
+use std::alloc::{AllocError, Global};
+use std::io;
+use std::sync::atomic::AtomicU64;
+use std::sync::atomic::Ordering::SeqCst;
+use std::thread::Threads;
+
+/// How many tunes a gate knows.
+const MOST_TUNES: usize = 1000;
+
+/// A gate that keeps how often each tune entered, by its place in the book.
+#[derive(Drop)]
+struct Counter {
+    entered: Vec<AtomicU64>,
+}
+
+impl Gate for Counter {
+    fn enter(&self, tune: u32) {
+        if let Some(count) = self.entered.get(tune as usize) {
+            count.fetch_add(1, SeqCst);
+        }
+    }
+}
+
+fn make_counter(alloc: Global) -> Result<Counter, AllocError> {
+    let mut entered = Vec::new(alloc);
+    for _ in 0..MOST_TUNES {
+        entered.push(AtomicU64::new(0))?;
+    }
+    Ok(Counter { entered })
+}
+
+/// How many tunes entered a gate, and how often: the least of them and the most.
+#[derive(Clone, Copy)]
+pub(crate) struct Entered {
+    pub(crate) tunes: u64,
+    pub(crate) least: u64,
+    pub(crate) most: u64,
+}
+
+impl Counter {
+    fn sum(&self) -> Entered {
+        let mut sum = Entered {
+            tunes: 0,
+            least: 0,
+            most: 0,
+        };
+        for count in &self.entered {
+            let count = count.load(SeqCst);
+            if count > 0 {
+                sum.least = if sum.tunes == 0 {
+                    count
+                } else {
+                    sum.least.min(count)
+                };
+                sum.most = sum.most.max(count);
+                sum.tunes = sum.tunes.saturating_add(1);
+            }
+        }
+        sum
+    }
+}
+
+/// A run of a case over streams that never fail, and who entered its gate.
+pub(crate) fn ran_counted<R: Threads + Sync + AllocGlobal>(
+    rt: &R,
+    case: &Case,
+) -> io::Result<(Finished, Entered)> {
+    let counter = make_counter(rt.alloc())?;
+    let finished = ran_through(rt, case, &Streams::SOUND, &counter)?;
+    Ok((finished, counter.sum()))
+}
