@@ -1,7 +1,7 @@
 -- The values of signs have at most three dots.
 use Rattle.std.proofs.Common.{◌≡◌, refl, sym, ap, ◌∙◌, subst, ℕ, zero, suc, ◌+◌, ◌-◌, ◌≤◌, List, [], ◌∷◌, ◌++◌, length, Bool, true, false, cond, Option, Some, None, arith, nat_le, reverse, take, drop, append-nil}
-use Rattle.std.specs.Prelude.{unwrap_or, find, option_map, ◌&&◌, ◌==◌, ◌*◌, ◌/◌, ⊤}
-use Rattle.std.{proofs.lemmas.List.drop_all, specs.List.All, specs.List.list_all}
+use Rattle.std.specs.Prelude.{unwrap_or, find, option_map, ◌==◌, ◌*◌, ◌/◌, ⊤}
+use Rattle.std.{proofs.lemmas.Bool.and_parts, proofs.lemmas.List.Elements.All-nil, proofs.lemmas.List.Elements.All-cons, proofs.lemmas.List.Elements.All-append, proofs.lemmas.List.drop_all, specs.List.All, specs.List.list_all}
 use Rattle.mus_units.specs.{declared.value.Value.Value, Parts.units_of, Parts.all_values, Parts.longest_within, Parts.cut_next, Parts.cut_in, Parts.parts_list}
 use Rattle.abc_steps.specs.{declared.step.Sound.Sound, declared.step.Step.Step, declared.step.Stood.Stood, declared.force.InForce.InForce, Looks.Steps, Looks.since_event, Lengths.written_length, Tuplets.fits, Tuplets.or_default, Tuplets.usual_q, declared.place.Place.Place, Places.place_at}
 use Rattle.abc_steps.specs.Places.{measure_of}
@@ -12,17 +12,6 @@ IsFew v = v.dots ≤ 3
 
 abbrev AreFew : List Value → Type 0
 AreFew vs = All IsFew vs
-
-none_few : {X : Type 0} (P : X → Type 0) → All P []
-none_few P k d less = absurd (omega arith)
-
-one_more : {X : Type 0} (P : X → Type 0) (x : X) (xs : List X) → P x → All P xs → All P (x ∷ xs)
-one_more P x xs h hs zero d less = h
-one_more P x xs h hs (suc k) d less = hs k d (omega arith)
-
-both : {X : Type 0} (P : X → Type 0) (xs ys : List X) → All P xs → All P ys → All P (xs ++ ys)
-both P [] ys hs is = is
-both P (x ∷ xs) ys hs is = one_more P x (xs ++ ys) (hs 0 x (omega arith)) (both P xs ys (λ k d less. hs (suc k) d (omega arith)) is)
 
 -- the longest value
 abbrev FewIn : Option Value → Type 0
@@ -36,36 +25,32 @@ find_few p (x ∷ xs) few = by_test (p x) (find_few p xs (λ k d less. few (suc 
   by_test true others = few 0 x (omega arith)
   by_test false others = others
 
-pub both_true : (a b : Bool) → (a && b) ≡ true → (a ≡ true) × (b ≡ true)
-both_true true b h = (refl, h)
-both_true false b h = absurd (cc)
-
 few_by_test : (xs : List Value) → list_all (λ v. nat_le v.dots 3) xs ≡ true → AreFew xs
-few_by_test [] h = none_few IsFew
+few_by_test [] h = All-nil IsFew
 few_by_test (x ∷ xs) h =
-    let parts = both_true (nat_le x.dots 3) (list_all (λ v. nat_le v.dots 3) xs) h in
+    let parts = and_parts (nat_le x.dots 3) (list_all (λ v. nat_le v.dots 3) xs) h in
     let test : nat_le x.dots 3 ≡ true = parts.0 in
-    one_more IsFew x xs (grind (arith, test)) (few_by_test xs parts.1)
+    All-cons IsFew x xs (grind (arith, test)) (few_by_test xs parts.1)
 
 values_few : AreFew all_values
 values_few = few_by_test all_values refl
 
 -- the parts of a length
 next_few : (others : ℕ → Option (List Value)) (left : ℕ) (o : Option Value) → ((n : ℕ) → AreFew (unwrap_or (others n) [])) → FewIn o → AreFew (unwrap_or (cut_next others left o) [])
-next_few others left None few is = none_few IsFew
+next_few others left None few is = All-nil IsFew
 next_few others left (Some v) few is = by_rest (others (left - units_of v)) (few (left - units_of v)) where
   by_rest : (o : Option (List Value)) → AreFew (unwrap_or o []) → AreFew (unwrap_or (option_map (λ vs. v ∷ vs) o) [])
-  by_rest None h = none_few IsFew
-  by_rest (Some vs) h = one_more IsFew v vs is h
+  by_rest None h = All-nil IsFew
+  by_rest (Some vs) h = All-cons IsFew v vs is h
 
 cut_few : (n left : ℕ) → AreFew (unwrap_or (cut_in n left) [])
 cut_few zero left = by_test (left == 0) where
   by_test : (b : Bool) → AreFew (unwrap_or (cond b (Some []) None) [])
-  by_test true = none_few IsFew
-  by_test false = none_few IsFew
+  by_test true = All-nil IsFew
+  by_test false = All-nil IsFew
 cut_few (suc n) left = by_test (left == 0) (next_few (cut_in n) left (longest_within left) (cut_few n) (find_few (λ v. nat_le (units_of v) left) all_values values_few)) where
   by_test : (b : Bool) → AreFew (unwrap_or (cut_next (cut_in n) left (longest_within left)) []) → AreFew (unwrap_or (cond b (Some []) (cut_next (cut_in n) left (longest_within left))) [])
-  by_test true others = none_few IsFew
+  by_test true others = All-nil IsFew
   by_test false others = others
 
 parts_few : (num den : ℕ) → AreFew (unwrap_or (parts_list num den) [])
@@ -73,7 +58,7 @@ unfolding parts_list
 parts_few num den = by_test (512 * num / den * den == 512 * num) where
   by_test : (b : Bool) → AreFew (unwrap_or (cond b (cut_in 8 (512 * num / den)) None) [])
   by_test true = cut_few 8 (512 * num / den)
-  by_test false = none_few IsFew
+  by_test false = All-nil IsFew
 
 sound_few : (now : Place) (before behind : Steps) (at : Stood) (s : Sound) → AreFew (sound_written now before at s behind).values
 unfolding sound_written
@@ -83,28 +68,28 @@ sound_few now before behind at s =
 
 rest_few : (now : Place) (at : Stood) (seen : Bool) (measure : ℕ) (parted : Bool) → AreFew (rest_written now at seen measure parted).values
 unfolding rest_written
-rest_few now at seen measure parted = one_more IsFew whole_value [] (omega arith) (none_few IsFew)
+rest_few now at seen measure parted = All-cons IsFew whole_value [] (omega arith) (All-nil IsFew)
 
 further_drawn : (now : Place) (at : Stood) (seen : Bool) (measure n : ℕ) → All IsDrawn (further_rests now at seen measure n)
-further_drawn now at seen measure zero = none_few IsDrawn
-further_drawn now at seen measure (suc n) = one_more IsDrawn _ (further_rests now at seen (measure + 1) n) (rest_few now at seen measure false) (further_drawn now at seen (measure + 1) n)
+further_drawn now at seen measure zero = All-nil IsDrawn
+further_drawn now at seen measure (suc n) = All-cons IsDrawn _ (further_rests now at seen (measure + 1) n) (rest_few now at seen measure false) (further_drawn now at seen (measure + 1) n)
 
 tuplet_drawn : (now : Place) (p q r : ℕ) → All IsDrawn (tuplet_of now p q r)
 tuplet_drawn now p q r = by_test (fits (or_default p r) now.taking) where
   by_test : (b : Bool) → All IsDrawn (cond b (Sign.Opens (measure_of now) p (or_default (usual_q p now.force.meter) q) (or_default p r) ∷ []) [])
-  by_test true = one_more IsDrawn _ [] tt (none_few IsDrawn)
-  by_test false = none_few IsDrawn
+  by_test true = All-cons IsDrawn _ [] tt (All-nil IsDrawn)
+  by_test false = All-nil IsDrawn
 
 step_drawn : (now : Place) (before behind : Steps) (at : Stood) (s : Step) → All IsDrawn (signs_of now before at behind s)
 unfolding signs_of
-step_drawn now before behind at (Step.Sound s) = one_more IsDrawn _ [] (sound_few now before behind at s) (none_few IsDrawn)
-step_drawn now before behind at (Step.Measures seen count) = one_more IsDrawn _ (further_rests now at seen (measure_of now + 1) (count - 1)) (rest_few now at seen (measure_of now) (parted_at now (since_event before))) (further_drawn now at seen (measure_of now + 1) (count - 1))
+step_drawn now before behind at (Step.Sound s) = All-cons IsDrawn _ [] (sound_few now before behind at s) (All-nil IsDrawn)
+step_drawn now before behind at (Step.Measures seen count) = All-cons IsDrawn _ (further_rests now at seen (measure_of now + 1) (count - 1)) (rest_few now at seen (measure_of now) (parted_at now (since_event before))) (further_drawn now at seen (measure_of now + 1) (count - 1))
 step_drawn now before behind at (Step.Tuplet p q r) = tuplet_drawn now p q r
-step_drawn now before behind at _ = none_few IsDrawn
+step_drawn now before behind at _ = All-nil IsDrawn
 
 signs_drawn : (first : InForce) (before behind : Steps) → All IsDrawn (signs first before behind)
-signs_drawn first before [] = none_few IsDrawn
-signs_drawn first before (at ∷ behind) = both IsDrawn (signs_of (place_at first before) before at behind at.step) (signs first (at ∷ before) behind) (step_drawn (place_at first before) before behind at at.step) (signs_drawn first (at ∷ before) behind)
+signs_drawn first before [] = All-nil IsDrawn
+signs_drawn first before (at ∷ behind) = All-append IsDrawn (signs_of (place_at first before) before at behind at.step) (signs first (at ∷ before) behind) (step_drawn (place_at first before) before behind at at.step) (signs_drawn first (at ∷ before) behind)
 
 -- at the end of the walk
 pub walk_drawn : (first : InForce) (steps : Steps) (i : ℕ) (out : List Sign) → length steps ≤ i → out ++ signs first (reverse (take i steps)) (drop i steps) ≡ signs first [] steps → All IsDrawn out

@@ -1,5 +1,4 @@
-ghost use Rattle.std.specs.Prelude.{◌≡◌, ◌≤◌, ◌+◌, ◌++◌, ◌∷◌, [], List, map, length, replicate, unwrap_or, false, None, IfOk, OnOk};
-ghost use Rattle.std.specs.List.{All};
+ghost use Rattle.std.specs.{Prelude.◌≡◌, Prelude.◌≤◌, Prelude.◌+◌, Prelude.◌++◌, Prelude.◌∷◌, Prelude.[], Prelude.List, Prelude.map, Prelude.length, Prelude.replicate, Prelude.unwrap_or, Prelude.false, Prelude.None, Prelude.IfOk, Prelude.OnOk, List.All};
 ghost use Rattle.mus_units.specs.Value.{value_length};
 ghost use Rattle.abc_events.specs.{declared.written.Sign.Sign, Signs.IsDrawn};
 ghost use Rattle.abc_events.specs.Leaves.{ends_at, first_part, later_head, later_part, some_more, later_parts, parts, node_of, grace_event, grace_note, grace_nodes, nodes_of, words_at, leaves_from, leaves_of};
@@ -143,10 +142,7 @@ fn node_of(e: Event) -> Music
 fn next_id(id: u32) -> Result<u32, Memory>
     ensures { IfOk result (λ next. next ≡ id + 1) }
 {
-    match id.checked_add(1) {
-        Some(next) => Ok(next),
-        None => Err(Memory),
-    }
+    id.checked_add(1).ok_or(Memory)
 }
 
 fn some_more(values: &[Value]) -> bool

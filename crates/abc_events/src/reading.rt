@@ -1,5 +1,4 @@
-ghost use Rattle.std.specs.Prelude.{◌≡◌, ◌≤◌, ◌<◌, ◌^◌, ◌+◌, ◌-◌, ◌++◌, ◌∷◌, [], map, length, reverse, unwrap_or, true, false, IfOk, OnOk};
-ghost use Rattle.std.specs.List.{All};
+ghost use Rattle.std.specs.{Prelude.◌≡◌, Prelude.◌≤◌, Prelude.◌<◌, Prelude.◌^◌, Prelude.◌+◌, Prelude.◌-◌, Prelude.◌++◌, Prelude.◌∷◌, Prelude.[], Prelude.map, Prelude.length, Prelude.reverse, Prelude.unwrap_or, Prelude.true, Prelude.false, Prelude.IfOk, Prelude.OnOk, List.All};
 ghost use Rattle.mus_units.specs.{Parts.parts_list, Good.IsGoodMeter};
 ghost use Rattle.abc_steps.specs.{Looks.since_event, Looks.slurs_begun, Looks.slurs_ended, Lengths.IsLength, Good.IsGoodForce, Good.IsGoodStood, Good.IsGoodStep, Good.IsGoodSound};
 ghost use Rattle.abc_events.specs.Signs.{with_tie, tied_heads, for_note, look_of, whole_look, parted_at, sound_written, whole_value, rest_written, further_rests, rests_of, tuplet_of, signs_of, signs, IsDrawn};
@@ -27,34 +26,15 @@ fn with_tie(tie: bool, head: Head) -> Head
     }
 }
 
-/// Heads as they are, which nothing ties.
-fn untied(alloc: Global, heads: &[Head]) -> Result<Row<Head>, Memory>
-    ensures { IfOk result (λ r. r ≡ map (with_tie false) heads.now) }
-{
-    let copy = Row::from_slice(alloc, heads)?;
-    Ok(copy)
-}
-
-/// Heads that are all tied.
-fn all_tied(alloc: Global, heads: &[Head]) -> Result<Row<Head>, Memory>
-    ensures { IfOk result (λ r. r ≡ map (with_tie true) heads.now) }
-{
-    let items = heads
-        .iter()
-        .map(|head| with_tie(true, *head))
-        .collect(alloc)?;
-    Ok(Row { items })
-}
-
 /// Heads that are all tied, or as they are.
 pub fn with_ties(alloc: Global, heads: &[Head], tie: bool) -> Result<Row<Head>, Memory>
     ensures { IfOk result (λ r. r ≡ map (with_tie tie) heads.now) }
 {
-    if tie {
-        all_tied(alloc, heads)
-    } else {
-        untied(alloc, heads)
-    }
+    let items = heads
+        .iter()
+        .map(|head| with_tie(tie, *head))
+        .collect(alloc)?;
+    Ok(Row { items })
 }
 
 fn tied_heads(alloc: Global, heads: &[Head], behind: &[Stood]) -> Result<Row<Head>, Memory>
@@ -109,10 +89,8 @@ fn values_of(alloc: Global, length: Frac) -> Result<Row<Value>, Memory>
     requires { IsLength length }
     ensures { IfOk result (λ r. r ≡ unwrap_or (parts_list length.num length.den) []) }
 {
-    match parts_of(alloc, length.num, length.den)? {
-        Some(values) => Ok(values),
-        None => Ok(Row::new(alloc)),
-    }
+    let values = parts_of(alloc, length.num, length.den)?;
+    Ok(values.unwrap_or(Row::new(alloc)))
 }
 
 /// A note, a chord or a rest as it is written, for which `waits` waits.
@@ -234,16 +212,8 @@ fn put_rests(
     let written = rest_written(alloc, now, at, seen, measure, parted_at(now, waits))?;
     let waiting = waiting_of(alloc, &now.force, waits, &[])?;
     out.push(Sign::Event { written, waiting })?;
-    put_further(
-        alloc,
-        out,
-        now,
-        at,
-        seen,
-        measure + 1,
-        count.saturating_sub(1),
-    )?;
-    Ok(())
+    let further = count.saturating_sub(1);
+    put_further(alloc, out, now, at, seen, measure + 1, further)
 }
 
 /// Puts a tuplet that fits into the open ones.

@@ -1,6 +1,6 @@
 -- Going forwards lists the lines that belong by looking backwards.
 use Rattle.std.proofs.Common.{◌≡◌, ℕ, suc, ◌≤◌, ◌<◌, Bool, true, false, cond, List, [], ◌∷◌, ◌++◌, length, Some, None, refl, sym, ap, ◌∙◌, arith}
-use Rattle.std.{proofs.lemmas.Bool.cond_both, proofs.lemmas.Bool.eqb-true, proofs.lemmas.Bool.eq-eqb, proofs.lemmas.Bool.ne_eqb, specs.Prelude.◌||◌, specs.Prelude.not, specs.Prelude.◌&&◌}
+use Rattle.std.{proofs.lemmas.Bool.cond_both, proofs.lemmas.Bool.eqb-true, proofs.lemmas.Bool.eq-eqb, proofs.lemmas.Bool.ne_eqb, proofs.lemmas.Bool.and_right, specs.Prelude.◌||◌, specs.Prelude.not, specs.Prelude.◌&&◌, proofs.Math.Bool.and-false, proofs.Math.Bool.or-true, proofs.Math.Bool.or-false}
 use Rattle.abc_lines.specs.{declared.book.Line.Line, declared.book.TuneText.TuneText, declared.book.Book.Book, declared.reading.Reading.Reading, Books.begins_tune, Books.is_empty, Books.is_end_of_part, Books.is_in_header, Books.tune_of, Books.is_number, Books.belongs_to, Books.line_at, Books.listed}
 use Rattle.abc_lines.specs.{Books.tune_at, Books.tunes_behind, Books.book_of_lines, Forward.part_from, Forward.tune_from, Forward.tunes_from, Forward.book_from}
 
@@ -27,27 +27,11 @@ tune_of_lines ordinal lines = record { ordinal = ordinal; lines = lines }
 book_parts : (h g : List Line) (t u : List TuneText) → h ≡ g → t ≡ u → ◌≡◌ {A = Book} (record { header = h; tunes = t }) (record { header = g; tunes = u })
 book_parts h g t u e f = rw (e, f) refl
 
-and_no : (a b : Bool) → b ≡ false → (a && b) ≡ false
-and_no true b h = h
-and_no false b h = refl
-
-and-false : (a : Bool) → (a && false) ≡ false
-and-false true = refl
-and-false false = refl
-
-or-true : (a : Bool) → (a || true) ≡ true
-or-true true = refl
-or-true false = refl
-
-or-false : (a : Bool) → (a || false) ≡ a
-or-false true = refl
-or-false false = refl
-
 -- a place is within the header or it is behind it
 header-done : (before more : List Reading) → is_in_header before ≡ false → listed is_in_header before more ≡ []
 header-done before [] h = refl
 header-done before (line ∷ more) h =
-    let here : is_in_header (line ∷ before) ≡ false = and_no (not (is_end_of_part line)) (is_in_header before) h in
+    let here : is_in_header (line ∷ before) ≡ false = and_right (not (is_end_of_part line)) (is_in_header before) h in
     rw here (header-done (line ∷ before) more here)
 
 header-step : (before more : List Reading) (line : Reading) (e : Bool) → is_end_of_part line ≡ e → is_in_header before ≡ true →

@@ -1,13 +1,11 @@
 -- The book that is found is good: numbers rise, and the lines of a part are no longer than the input.
 use Rattle.std.proofs.Common.{◌≡◌, ℕ, zero, suc, ◌+◌, ◌-◌, ◌≤◌, ◌^◌, Bool, true, false, cond, eqb, List, [], ◌∷◌, ◌++◌, length, take, drop, refl, ap, ◌∙◌, subst, arith}
-use Rattle.std.specs.Prelude.{map, sum, ◌&&◌, All, nat_eq}
-use Rattle.std.proofs.lemmas.{Str.encodes-chars, Str.length-le-encodes, Str.IsUtf8-from_is_utf8, Bool.cond_both, Bool.eqb-true, Bool.and_parts, List.length-append, List.length-drop, List.map-append, List.Sums.sum_by-append, List.Elements.All-cons}
-use Rattle.std.specs.{List.starts_with, List.ends_with, List.prefix_len, List.suffix_len, Str.is_utf8, Str.chars}
-use Rattle.abc_lines.specs.Lines.{without_mark, without_return, narrow, in_latin, comment_len, without_comment, is_empty_text, written, reading, readings, byte_order_mark, first_line}
-use Rattle.abc_lines.specs.{declared.book.Line.Line, declared.book.TuneText.TuneText, declared.reading.Reading.Reading, Kinds.is_blank, Kinds.is_field, Kinds.is_percent_line, Kinds.field_text, Books.begins_tune, Books.is_end_of_part, Books.is_joining, Books.goes_on, Books.added, Books.joined}
-use Rattle.abc_lines.specs.{Books.whole_text, Books.line_at, Books.book_of, Forward.part_from, Forward.tune_from, Forward.tunes_from, Forward.book_from, Good.IsGoodTune, Good.IsGoodBook, Good.NumbersRise, Good.size_of, declared.reading.Reading.TheVariants.Empty}
-use Rattle.abc_lines.{specs.declared.reading.Reading.TheVariants.Comment, specs.declared.reading.Reading.TheVariants.Written, proofs.LineLaws.first_line_off, proofs.LineLaws.readings-nil, proofs.Backwards.forwards, proofs.Backwards.part-nil, proofs.Backwards.part-cons, proofs.Backwards.tunes-nil}
-use Rattle.abc_lines.proofs.Backwards.{tunes-cons}
+use Rattle.std.proofs.lemmas.{Bool.cond_both, Bool.eqb-true, Bool.and_parts, List.length-append, List.length-drop, List.map-append, List.length-map, List.Elements.All-cons, List.Sums.sum_by-append, Str.encodes-chars, Str.length-le-encodes, Str.IsUtf8-from_is_utf8}
+use Rattle.std.specs.{List.starts_with, List.ends_with, List.prefix_len, List.suffix_len, Prelude.map, Prelude.sum, Prelude.◌&&◌, Prelude.All, Prelude.nat_eq, Str.is_utf8, Str.chars}
+use Rattle.abc_lines.specs.{Lines.without_mark, Lines.without_return, Lines.narrow, Lines.in_latin, Lines.comment_len, Lines.without_comment, Lines.is_empty_text, Lines.written, Lines.reading, Lines.readings, Lines.byte_order_mark, Lines.first_line, declared.book.Line.Line}
+use Rattle.abc_lines.specs.{declared.book.TuneText.TuneText, declared.reading.Reading.Reading, Kinds.is_blank, Kinds.is_field, Kinds.is_percent_line, Kinds.field_text, Books.begins_tune, Books.is_end_of_part, Books.is_joining, Books.goes_on, Books.added, Books.joined, Books.whole_text}
+use Rattle.abc_lines.specs.{Books.line_at, Books.book_of, Forward.part_from, Forward.tune_from, Forward.tunes_from, Forward.book_from, Good.IsGoodTune, Good.IsGoodBook, Good.NumbersRise, Good.size_of, declared.reading.Reading.TheVariants.Empty, declared.reading.Reading.TheVariants.Comment}
+use Rattle.abc_lines.{specs.declared.reading.Reading.TheVariants.Written, proofs.LineLaws.first_line_off, proofs.LineLaws.readings-nil, proofs.Backwards.forwards, proofs.Backwards.part-nil, proofs.Backwards.part-cons, proofs.Backwards.tunes-nil, proofs.Backwards.tunes-cons}
 
 -- the bytes of the text of lines
 abbrev pub text_len : Reading → ℕ
@@ -28,14 +26,10 @@ length-take-le (suc n) (b ∷ s) = omega (arith, length-take-le n s)
 return-le : (s : List ℕ) → length (without_return s) ≤ length s
 return-le s = cond_both (ends_with nat_eq s (13 ∷ [])) (take (length s - 1) s) s (λ t. length t ≤ length s) (λ e. length-take-le (length s - 1) s) (λ e. omega arith)
 
-length-map : (f : ℕ → ℕ) (s : List ℕ) → length (map f s) ≡ length s
-length-map f [] = refl
-length-map f (b ∷ s) = ap suc (length-map f s)
-
 latin-le : (s : List ℕ) → length (in_latin s) ≤ length s
 unfolding in_latin
 latin-le s = cond_both (is_utf8 s) (map narrow (chars s)) s (λ t. length t ≤ length s)
-    (λ e. let same : length (map narrow (chars s)) ≡ length (chars s) = length-map narrow (chars s) in
+    (λ e. let same : length (map narrow (chars s)) ≡ length (chars s) = length-map (chars s) narrow in
     let back = ap length (encodes-chars s (IsUtf8-from_is_utf8 s e)) in
     omega (arith, same, back, length-le-encodes (chars s)))
     (λ e. omega arith)

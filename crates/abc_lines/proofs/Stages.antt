@@ -1,9 +1,9 @@
 -- What the loops of the cutting keep, and each of their steps.
-use Rattle.std.proofs.Common.{◌≡◌, ℕ, suc, ◌+◌, ◌≤◌, ◌<◌, ◌^◌, Bool, true, false, List, [], ◌∷◌, ◌++◌, length, refl, sym, ap, ◌∙◌, arith, append_assoc, append-nil, add-one}
-use Rattle.std.{proofs.lemmas.Grind.length_at_push, specs.Prelude.◌||◌}
-use Rattle.abc_lines.specs.{declared.book.Line.Line, declared.book.TuneText.TuneText, declared.book.Book.Book, declared.reading.Reading.Reading, Books.begins_tune, Books.is_empty, Books.is_end_of_part, Books.goes_on, Books.added, Books.joined, Books.line_at, Forward.part_from, Forward.tune_from}
-use Rattle.abc_lines.{specs.Forward.tunes_from, specs.Forward.book_from, specs.Lines.reading, specs.Lines.readings, specs.Lines.without_mark, proofs.LineLaws.Off, proofs.LineLaws.readings-none, proofs.Backwards.part-nil, proofs.Backwards.part-cons, proofs.Backwards.tunes-nil}
-use Rattle.abc_lines.proofs.Backwards.{tunes-cons}
+use Rattle.std.proofs.Common.{◌≡◌, ℕ, suc, ◌+◌, ◌≤◌, ◌<◌, ◌^◌, true, false, List, [], ◌∷◌, ◌++◌, length, refl, sym, ap, ◌∙◌, arith, append_assoc, append-nil, add-one}
+use Rattle.std.proofs.lemmas.{Grind.length_at_push, Bool.or_parts}
+use Rattle.abc_lines.specs.declared.{book.Line.Line, book.TuneText.TuneText, book.Book.Book, reading.Reading.Reading}
+use Rattle.abc_lines.specs.{Books.begins_tune, Books.is_empty, Books.is_end_of_part, Books.goes_on, Books.added, Books.joined, Books.line_at, Forward.part_from, Forward.tune_from, Forward.tunes_from, Forward.book_from, Lines.reading, Lines.readings, Lines.without_mark}
+use Rattle.abc_lines.proofs.{LineLaws.Off, LineLaws.readings-none, Backwards.part-nil, Backwards.part-cons, Backwards.tunes-nil, Backwards.tunes-cons}
 
 pub join-next : (out new total s line rest : List ℕ) (r : Reading) → Off s line rest → r ≡ reading line → goes_on r ≡ true → new ≡ out ++ added r →
     out ++ joined (readings s) ≡ total → new ++ joined (readings rest) ≡ total
@@ -32,12 +32,8 @@ pub record Part (first out : List Line) (from number : ℕ) (start s : List ℕ)
 pub part-begins : (out : List Line) (number : ℕ) (s : List ℕ) → Part out out number number s s
 part-begins out number s = record { lines = refl; tunes = λ ordinal. refl; within = omega arith; further = omega arith; counted = omega arith }
 
-or_parts : (a b : Bool) → (a || b) ≡ false → b ≡ false
-or_parts true b e = absurd cc
-or_parts false b e = e
-
 end_yes : (line : Reading) → is_end_of_part line ≡ false → begins_tune line ≡ false
-end_yes line h = or_parts (is_empty line) (begins_tune line) h
+end_yes line h = (or_parts (is_empty line) (begins_tune line) h).1
 
 pub part-next : (first out new : List Line) (from number : ℕ) (start s line rest : List ℕ) (r : Reading) → Off s line rest → r ≡ reading line → is_end_of_part r ≡ false →
     new ≡ out ++ line_at number r (readings rest) → Part first out from number start s → Part first new from (number + 1) start rest

@@ -1,14 +1,14 @@
 -- Reading a chord gives the longest, and where there is none its fault is found.
-use Rattle.std.proofs.Common.{◌≡◌, ℕ, ◌+◌, ◌-◌, ◌≤◌, ◌<◌, Bool, true, false, cond, eqb, zero, suc, List, [], ◌∷◌, ◌++◌, length, take, drop, Option, Some, None, refl, sym, ap, ◌∙◌, subst, arith, inl, inr, ◌⊎◌, append_assoc, append-nil, add-one, ◌&&◌, ◌||◌, not, IfSome, option_map}
-use Rattle.std.proofs.lemmas.{Bool.cond_both, Bool.and_parts, Bool.eqb-true, Bool.ne_eqb, Bool.not-false, Bool.not-true, List.length-append, List.append_cancel_left, List.append_cancel_right, List.nil_from_length}
+use Rattle.std.proofs.Common.{◌≡◌, ℕ, ◌+◌, ◌-◌, ◌≤◌, ◌<◌, Bool, true, false, cond, eqb, suc, List, [], ◌∷◌, ◌++◌, length, take, drop, Option, Some, None, refl, sym, ap, ◌∙◌, subst, arith, inl, inr, ◌⊎◌, append_assoc, append-nil, add-one, ◌&&◌, ◌||◌, not, IfSome, option_map}
+use Rattle.std.proofs.lemmas.{Bool.cond_both, Bool.and_parts, Bool.eqb-true, Bool.ne_eqb, Bool.not-true, Bool.eqb-false, Bool.cases_lt, List.length-append, List.append_cancel_left, List.append_cancel_right, List.nil_from_length}
 use Rattle.std.{proofs.Math.Seq.take-append_seam, proofs.Math.Seq.drop-append_seam, proofs.Math.Bool.or-false, proofs.Math.Bool.or_assoc, proofs.lemmas.Option.same_Some, specs.List.list_all}
 use Rattle.abc_lines.specs.declared.fault.FaultKind.TheVariants.{BadByte, Unclosed}
 use Rattle.abc_notes.specs.Chords.{ChordForm, InnerLeads, is_inside, is_bracket, has_head, chord_then, IsChord, ChordFault, chord_unclosed, chord_open, chord_headless, chord_flawed, bracket_here, bracket_in, bracket_in_name, last_bracket, bracket_at, chord_from, chord_at}
-use Rattle.abc_notes.proofs.CutLaws.{inner_append, inner_local, read_cut, walk_spells, leads_of_walk, free, CrossesIn, crossing, lone_at, clear_parts, all_parts, cut_at, Cut, first_same, rest_same, length_append, length_free, all_span}
+use Rattle.abc_notes.proofs.CutLaws.{two, none_left, some_left, first_close, name_end, length_past, moved, no_shorter, inner_append, inner_local, read_cut, walk_spells, leads_of_walk, free, CrossesIn, crossing, lone_at, clear_parts, all_parts, cut_at, Cut, first_same, rest_same}
 use Rattle.abc_notes.specs.{declared.part.Flaw.Flaw, Runs.span_all, Runs.begins, Decorations.is_name_byte, Lengths.LengthForm, Lengths.length_then, Lengths.IsLength, Lengths.length_at, Parts.HasNone, Parts.no_part, Parts.then_part, Parts.walk, Parts.is_done, Parts.spelled_then, Parts.later_or}
 use Rattle.abc_notes.specs.Items.{Inner, lone_inside, inner_then, IsName, StandsInside, has_length, InnerParts, InnerFlawed, name_at, item_class, inner_at}
-use Rattle.abc_notes.proofs.{SpanLaws.span_all-takes, SpanLaws.span_all-pass, SpanLaws.span_all-after, SpanLaws.span_all-append, SpanLaws.span_all-stops, LengthLaws.length_at-takes, LengthLaws.length_at-reaches, ItemLaws.name_at-takes, ItemLaws.name_at-reads, PartLaws.stands_at, PartLaws.less}
-use Rattle.abc_notes.proofs.{PartLaws.longest_of, PartLaws.none_of, PartLaws.longest_is, PartLaws.walk-none, PartLaws.walk-some, PartLaws.parts_of_walk, PartLaws.walk_of_parts, InnerLaws.inner_reader, InnerLaws.length-length_then}
+use Rattle.abc_notes.proofs.{SpanLaws.span_all-takes, SpanLaws.span_all-after, SpanLaws.span_all-append, SpanLaws.span_all-stops, LengthLaws.length_at-takes, LengthLaws.length_at-reaches, ItemLaws.name_at-takes, ItemLaws.name_at-reads, PartLaws.stands_at, PartLaws.less, PartLaws.by_parts}
+use Rattle.abc_notes.proofs.{PartLaws.stops_at, PartLaws.longest_of, PartLaws.none_of, PartLaws.longest_is, PartLaws.walk-none, PartLaws.walk-some, PartLaws.parts_of_walk, PartLaws.walk_of_parts, InnerLaws.inner_reader, InnerLaws.inner_pair, InnerLaws.length-length_then}
 
 inside_wide : (b : ℕ) → free b ≡ true → is_inside b ≡ true
 inside_wide b h = (and_parts (not (eqb b 93)) (not (eqb b 125)) h).0
@@ -33,13 +33,6 @@ here-closes bang head (b ∷ s) c e =
     record { front = []; rest = s; parts = []; is = sym same ∙ ap (λ x. x ∷ s) (eqb-true b 93 p.0); cut = same; good = no_part; has = or-false head ∙ p.1 })
     (λ h e. absurd cc) e
 
-name_end : (w : List ℕ) → (length w ≡ 0 → ⊥) → begins is_inside w ≡ false → (after : List ℕ) × (w ≡ 93 ∷ after)
-name_end [] some stops = absurd (some refl)
-name_end (b ∷ w) some stops = (w, ap (λ x. x ∷ w) (eqb-true b 93 (not-false (eqb b 93) stops)))
-
-pub not_zero : (n : ℕ) → not (eqb n 0) ≡ true → n ≡ 0 → ⊥
-not_zero n h e = let clash : not (eqb 0 0) ≡ true = subst (λ x. not (eqb x 0) ≡ true) e h in cc
-
 -- behind the exclamation mark that begins a name, up to the bracket
 pub record NameClosed (bang head : Bool) (s c : List ℕ) : Type 0 where
   pub before : List ℕ
@@ -61,7 +54,7 @@ in-closes bang head s c (Some named) off t e =
     (λ h e.
     let p = and_parts (not (eqb (length inside.1) 0)) (is_done w && (head || has_head w.0)) h in
     let q = and_parts (is_done w) (head || has_head w.0) p.1 in
-    let end = name_end inside.1 (not_zero (length inside.1) p.0) (span_all-after is_inside named.0) in
+    let end = name_end 93 inside.1 (eqb-false (length inside.1) 0 (not-true (eqb (length inside.1) 0) p.0)) (span_all-after is_inside named.0) in
     let whole : named.0 ≡ inside.0 ++ (93 ∷ end.0) = span_all-takes is_inside named.0 ∙ ap (λ x. inside.0 ++ x) end.1 in
     let cut : s ≡ inside.0 ++ (93 ∷ (end.0 ++ (33 ∷ named.1))) = t.1 ∙ ap (λ x. x ++ (33 ∷ named.1)) whole ∙ append_assoc inside.0 (93 ∷ end.0) (33 ∷ named.1) in
     let is : c ≡ 93 ∷ (end.0 ++ (33 ∷ named.1)) = sym (same_Some (drop (length inside.0) s) c e) ∙ ap (drop (length inside.0)) cut ∙ drop-append_seam inside.0 (93 ∷ (end.0 ++ (33 ∷ named.1))) in
@@ -137,19 +130,10 @@ either_closes : (bang head : Bool) (text c : List ℕ) (z : Inner × List ℕ) �
 either_closes bang head text c z e next None is found = in_name-closes bang head text c found
 either_closes bang head text c z e next (Some d) is found = then-closes bang head text c z e (next c (is ∙ found))
 
-closes_step : (bang head : Bool) (text c : List ℕ) (o : Option (Inner × List ℕ)) → inner_at bang text ≡ o → ((t : List ℕ) → length t < length text → (h : Bool) (d : List ℕ) → last_at bang h t ≡ Some d → Closed bang h t d) →
-    last_at bang head text ≡ Some c → Closed bang head text c
-closes_step bang head text c None e next found = here-closes bang head text c (sym (last_at-none bang head text e) ∙ found)
-closes_step bang head text c (Some z) e next found =
-    let more = head || has_length z.0 in
-    either_closes bang head text c z e (next z.1 (less (inner_reader bang) text z e) more) (last_at bang more z.1) refl (sym (last_at-some bang head text z e) ∙ found)
-
-closes_within : (n : ℕ) (bang head : Bool) (text c : List ℕ) → length text ≤ n → last_at bang head text ≡ Some c → Closed bang head text c
-closes_within zero bang head text c h found = closes_step bang head text c (inner_at bang text) refl (λ t lt. absurd (omega (arith, lt, h))) found
-closes_within (suc n) bang head text c h found = closes_step bang head text c (inner_at bang text) refl (λ t lt k d f. closes_within n bang k t d (omega (arith, lt, h)) f) found
-
 pub last_at-closes : (bang head : Bool) (text c : List ℕ) → last_at bang head text ≡ Some c → Closed bang head text c
-last_at-closes bang head text c found = closes_within (length text) bang head text c (omega arith) found
+last_at-closes bang head text = by_parts (inner_reader bang) (λ s. (h : Bool) (c : List ℕ) → last_at bang h s ≡ Some c → Closed bang h s c)
+    (λ s e h c found. here-closes bang h s c (sym (last_at-none bang h s e) ∙ found))
+    (λ s z e next h c found. either_closes bang h s c z e (next (h || has_length z.0)) (last_at bang (h || has_length z.0) z.1) refl (sym (last_at-some bang h s z e) ∙ found)) text head
 
 pub bracket_at-closes : (bang : Bool) (text c : List ℕ) → bracket_at bang text ≡ Some c → Closed bang false text c
 unfolding bracket_at
@@ -195,17 +179,11 @@ cross_last bang head text t z e short found (Some c) is =
     let k = last_at-closes bang (head || has_length z.0) z.1 c is in
     record { closing = c; is = last_at-some bang head text z e ∙ ap (λ r. later_or r (bracket_in_name bang head text)) is; ends = inl (omega (arith, short, ap length k.cut, length-append k.front c)) }
 
-abbrev inner_pair : Inner → List ℕ → Inner × List ℕ
-inner_pair f x = (f, x)
-
-some_pair : (f g : Inner) (x y : List ℕ) → Some (inner_pair f x) ≡ Some (inner_pair g y) → inner_pair f x ≡ inner_pair g y
-some_pair f g x y h = cc
-
 same_front : (f g : Inner) (x y : List ℕ) → Some (inner_pair f x) ≡ Some (inner_pair g y) → x ≡ y
-same_front f g x y h = ap (λ (p : Inner × List ℕ). p.1) (some_pair f g x y h)
+same_front f g x y h = ap (λ (p : Inner × List ℕ). p.1) (same_Some (inner_pair f x) (inner_pair g y) h)
 
 same_part : (f g : Inner) (x y : List ℕ) → Some (inner_pair f x) ≡ Some (inner_pair g y) → f ≡ g
-same_part f g x y h = ap (λ (p : Inner × List ℕ). p.0) (some_pair f g x y h)
+same_part f g x y h = ap (λ (p : Inner × List ℕ). p.0) (same_Some (inner_pair f x) (inner_pair g y) h)
 
 cross-found : (bang head : Bool) (u t : List ℕ) (part : Inner) (v : List ℕ) (more : List Inner) (z : Inner × List ℕ) → inner_at bang u ≡ Some (part, v) → InnerParts bang v more → (head || has_head (part ∷ more)) ≡ true →
     inner_at bang (u ++ (93 ∷ t)) ≡ Some z → length z.1 < length (93 ∷ t) → FoundLast bang head (u ++ (93 ∷ t)) t
@@ -220,7 +198,7 @@ cross-found bang head u t part v more z at others has e short =
         let after = k.crosses.after in
         let names = all_parts is_name_byte before (93 ∷ after) (ap (list_all is_name_byte) (sym k.crosses.name_is) ∙ k.good.bytes) in
         let alone : inner_at bang u ≡ Some (lone_inside, before) = ap (inner_at bang) k.crosses.text ∙ lone_at bang before k.off names.0 in
-        let same : inner_pair part v ≡ inner_pair lone_inside before = some_pair part lone_inside v before (sym at ∙ alone) in
+        let same : inner_pair part v ≡ inner_pair lone_inside before = same_Some (inner_pair part v) (inner_pair lone_inside before) (sym at ∙ alone) in
         let inner : InnerParts bang before more = subst (λ (x : List ℕ). InnerParts bang x more) (ap (λ (p : Inner × List ℕ). p.1) same) others in
         let heads : (head || has_head more) ≡ true = sym (ap (λ (p : Inner × List ℕ). head || has_head (p.0 ∷ more)) same) ∙ has in
         let spelled : u ++ (93 ∷ t) ≡ 33 ∷ ((before ++ (93 ∷ after)) ++ (33 ∷ z.1)) = stands.cut ∙ ap (λ f. inner_then f z.1) k.is ∙ ap (λ (n : List ℕ). 33 ∷ (n ++ (33 ∷ z.1))) k.crosses.name_is in
@@ -230,30 +208,18 @@ cross-found bang head u t part v more z at others has e short =
         cross_last bang head (u ++ (93 ∷ t)) t z e short (ap (bracket_in_name bang head) spelled ∙ found ∙ ap Some tail) (last_at bang (head || has_length z.0) z.1) refl
 
 pub le_lt : (a b : ℕ) → (a ≤ b) ⊎ (b < a)
-le_lt zero b = inl (omega arith)
-le_lt (suc a) zero = inr (omega arith)
-le_lt (suc a) (suc b) = elim (le_lt a b) [ inl h ↦ inl (omega (arith, h)) | inr h ↦ inr (omega (arith, h)) ]
-
--- a part that ends before the bracket is the same on the line
-no_shorter : (bang : Bool) (u t v : List ℕ) (part : Inner) (z : Inner × List ℕ) → inner_at bang u ≡ Some (part, v) → inner_at bang (u ++ (93 ∷ t)) ≡ Some z → length z.1 < length (v ++ (93 ∷ t)) → length (93 ∷ t) ≤ length z.1 → ⊥
-no_shorter bang u t v part z at e shorter before =
-    let a = read_cut (inner_reader bang) (inner_local bang) u (93 ∷ t) z e before in
-    let same : a.front ≡ v = same_front z.0 part a.front v (sym a.at_cut ∙ at) in
-    omega (arith, shorter, ap length a.behind, length-append a.front (93 ∷ t), length-append v (93 ∷ t), ap length same)
-
-moved : (bang : Bool) (u t v : List ℕ) (part : Inner) → StandsInside bang part u v → StandsInside bang part (u ++ (93 ∷ t)) (v ++ (93 ∷ t))
-moved bang u t v part stands = record { good = stands.good; cut = ap (λ s. s ++ (93 ∷ t)) stands.cut ∙ inner_append part v (93 ∷ t) }
+le_lt a b = elim (cases_lt b a) [ inl h ↦ inr h | inr h ↦ inl h ]
 
 last-reaches : (bang head : Bool) (u t : List ℕ) (ps : List Inner) → InnerParts bang u ps → (head || has_head ps) ≡ true → FoundLast bang head (u ++ (93 ∷ t)) t
 last-reaches bang head _ t _ no_part has = here-found bang head t (sym (or-false head) ∙ has)
 last-reaches bang head _ t _ (then_part u part v more l others) has =
     let r = inner_reader bang in
     let at = longest_is r u part v l in
-    let o = r.reaches part (u ++ (93 ∷ t)) (v ++ (93 ∷ t)) (moved bang u t v part l.stands) in
+    let o = r.reaches part (u ++ (93 ∷ t)) (v ++ (93 ∷ t)) (moved r (inner_local bang) part u v (93 ∷ t) l.stands) in
     elim o.2 [
       | inr same ↦ then-found bang head (u ++ (93 ∷ t)) t (part, v ++ (93 ∷ t)) (o.1 ∙ ap Some same) (last-reaches bang (head || has_length part) v t more others (or_assoc head (has_length part) (has_head more) ∙ has))
       | inl shorter ↦ elim (le_lt (length (93 ∷ t)) (length o.0.1)) [
-        | inl before ↦ absurd (no_shorter bang u t v part o.0 at o.1 shorter before)
+        | inl before ↦ absurd (no_shorter r (inner_local bang) part u v (93 ∷ t) o.0 at o.1 shorter before)
         | inr past ↦ cross-found bang head u t part v more o.0 at others has o.1 past
       ]
     ]
@@ -284,13 +250,13 @@ last-exact bang head _ t _ no_part has whole = last_at-none bang head (93 ∷ t)
 last-exact bang head _ t _ (then_part u part v more l others) has whole =
     let r = inner_reader bang in
     let at = longest_is r u part v l in
-    let o = r.reaches part (u ++ (93 ∷ t)) (v ++ (93 ∷ t)) (moved bang u t v part l.stands) in
+    let o = r.reaches part (u ++ (93 ∷ t)) (v ++ (93 ∷ t)) (moved r (inner_local bang) part u v (93 ∷ t) l.stands) in
     elim o.2 [
       | inr same ↦
           (let later = last-exact bang (head || has_length part) v t more others (or_assoc head (has_length part) (has_head more) ∙ has) (others_whole (is_lone part) (has_lone more) whole) in
           last_at-some bang head (u ++ (93 ∷ t)) (part, v ++ (93 ∷ t)) (o.1 ∙ ap Some same) ∙ rw later refl)
       | inl shorter ↦ elim (le_lt (length (93 ∷ t)) (length o.0.1)) [
-        | inl before ↦ absurd (no_shorter bang u t v part o.0 at o.1 shorter before)
+        | inl before ↦ absurd (no_shorter r (inner_local bang) part u v (93 ∷ t) o.0 at o.1 shorter before)
         | inr past ↦ absurd (lone_clash part (has_lone more) (cross-lone bang u t v part o.0 at o.1 past) whole)
       ]
     ]
@@ -349,21 +315,9 @@ chord_there bang f x good e =
 behind_length : (l : LengthForm) (x inside front rest : List ℕ) → IsLength l → inside ++ (93 ∷ length_then l x) ≡ front ++ (93 ∷ rest) → length (93 ∷ rest) < length (93 ∷ length_then l x) → length rest < length x
 behind_length l x inside front rest good e shorter = from_cut (cut_at front inside (93 ∷ rest) (93 ∷ length_then l x) (sym e) (omega (arith, shorter)))
   where
-    past : (m : List ℕ) → length_then l x ≡ m ++ (93 ∷ rest) → length x < length (93 ∷ rest) → ⊥
-    past m is far =
-        let c = cut_at (length_then l []) m x (93 ∷ rest) (length_append l [] x ∙ is) (omega (arith, far)) in
-        by_between c.between c.behind c.front
-      where
-        by_between : (b : List ℕ) → 93 ∷ rest ≡ b ++ x → length_then l [] ≡ m ++ b → ⊥
-        by_between [] behind front = omega (arith, far, ap length behind)
-        by_between (b ∷ bs) behind front =
-            let all : list_all free (m ++ (b ∷ bs)) ≡ true = ap (list_all free) (sym front) ∙ length_free l good in
-            let here : free b ≡ true = (and_parts (free b) (list_all free bs) (all_parts free m (b ∷ bs) all).1).0 in
-            let clash : free 93 ≡ true = subst (λ y. free y ≡ true) (sym (first_same 93 b rest (bs ++ x) behind)) here in cc
-
     by_between : (b : List ℕ) → 93 ∷ length_then l x ≡ b ++ (93 ∷ rest) → length rest < length x
     by_between [] is = absurd (omega (arith, shorter, ap length is))
-    by_between (b ∷ m) is = elim (le_lt (length (93 ∷ rest)) (length x)) [ inl near ↦ omega (arith, near) | inr far ↦ absurd (past m (rest_same 93 b (length_then l x) (m ++ (93 ∷ rest)) is) far) ]
+    by_between (b ∷ m) is = elim (le_lt (length (93 ∷ rest)) (length x)) [ inl near ↦ omega (arith, near) | inr far ↦ absurd (length_past 93 l x m (93 ∷ rest) rest refl good refl (rest_same 93 b (length_then l x) (m ++ (93 ∷ rest)) is) far) ]
 
     from_cut : Cut front inside (93 ∷ rest) (93 ∷ length_then l x) → length rest < length x
     from_cut c = by_between c.between c.behind
@@ -436,17 +390,8 @@ all-within now bang text (Some x) e = bracket_within bang text (now x) (sym e)
 
 -- ---- the fault
 
-abbrev two : List ℕ → List ℕ → List ℕ × List ℕ
-two a b = (a, b)
-
-unclosed : (s w r : List ℕ) → two w r ≡ span_all is_inside s → length r ≡ 0 → list_all is_inside s ≡ true
-unclosed s w [] cut none =
-    let whole : s ≡ (span_all is_inside s).0 = span_all-takes is_inside s ∙ ap (λ (t : List ℕ). (span_all is_inside s).0 ++ t) (sym (ap (λ (p : List ℕ × List ℕ). p.1) cut)) ∙ append-nil (span_all is_inside s).0 in
-    ap (λ t. list_all is_inside t) whole ∙ span_all-pass is_inside s
-unclosed s w (b ∷ r) cut none = absurd (omega (arith, none))
-
 pub chord-unclosed : (bang : Bool) (s w r : List ℕ) → two w r ≡ span_all is_inside s → length r ≡ 0 → ChordFault bang s (record { kind = Unclosed; left = length s + 1 })
-chord-unclosed bang s w r cut none = rw add-one (chord_unclosed s (unclosed s w r cut none))
+chord-unclosed bang s w r cut none = rw add-one (chord_unclosed s (none_left is_inside s w r cut none))
 
 inner_leads : (bang : Bool) (s : List ℕ) → InnerLeads bang s (walk (inner_at bang) s).0 (walk (inner_at bang) s).1
 inner_leads bang s = leads_of_walk (inner_reader bang) (inner_local bang) s
@@ -469,44 +414,18 @@ headless_as bang s rest true e stop none =
     let found : bracket_at bang s ≡ Some (93 ∷ rest) = ap (last_bracket bang false (walk (inner_at bang) s).0) stop ∙ last_here bang false (walk (inner_at bang) s).0 rest e in
     absurd (let clash = sym none ∙ at_closing bang s (93 ∷ rest) found in cc)
 
-first_is : (t : List ℕ) → begins is_bracket t ≡ true → (rest : List ℕ) × (t ≡ 93 ∷ rest)
-first_is [] h = absurd cc
-first_is (b ∷ t) h = (t, ap (λ x. x ∷ t) (eqb-true b 93 h))
-
 pub chord-headless : (bang : Bool) (s : List ℕ) → chord_at bang s ≡ None → begins is_bracket (walk (inner_at bang) s).1 ≡ true → ChordFault bang s (record { kind = BadByte; left = length s + 1 })
 chord-headless bang s none at =
     let w = walk (inner_at bang) s in
-    let stop = first_is w.1 at in
+    let stop = first_close 93 w.1 at in
     rw add-one (chord_headless s w.0 stop.0 (subst (λ t. InnerLeads bang s w.0 t) stop.1 (inner_leads bang s)) (headless_as bang s stop.0 (has_head w.0) refl stop.1 none))
 
-closed_somewhere : (s w r : List ℕ) → two w r ≡ span_all is_inside s → (length r ≡ 0 → ⊥) → list_all is_inside s ≡ false
-closed_somewhere s w r cut some = by_all (list_all is_inside s) refl
-  where
-    by_all : (b : Bool) → list_all is_inside s ≡ b → b ≡ false
-    by_all false e = refl
-    by_all true e =
-        let nothing : span_all is_inside s ≡ (s, []) = all_span is_inside s e in
-        absurd (some (ap (λ (p : List ℕ × List ℕ). length p.1) (cut ∙ nothing)))
-
--- no part stands where reading the parts stops
-stops_by : (bang : Bool) (s : List ℕ) (o : Option (Inner × List ℕ)) → inner_at bang s ≡ o → ((t : List ℕ) → length t < length s → inner_at bang (walk (inner_at bang) t).1 ≡ None) → inner_at bang (walk (inner_at bang) s).1 ≡ None
-stops_by bang s None e next = ap (λ (w : List Inner × List ℕ). inner_at bang w.1) (walk-none (inner_reader bang) s e) ∙ e
-stops_by bang s (Some z) e next = ap (λ (w : List Inner × List ℕ). inner_at bang w.1) (walk-some (inner_reader bang) s z e) ∙ next z.1 (less (inner_reader bang) s z e)
-
-stops_within : (bang : Bool) (n : ℕ) (s : List ℕ) → length s ≤ n → inner_at bang (walk (inner_at bang) s).1 ≡ None
-stops_within bang zero s h = stops_by bang s (inner_at bang s) refl (λ t lt. absurd (omega (arith, lt, h)))
-stops_within bang (suc n) s h = stops_by bang s (inner_at bang s) refl (λ t lt. stops_within bang n t (omega (arith, lt, h)))
-
 none_behind : (bang : Bool) (s t : List ℕ) → (walk (inner_at bang) s).1 ≡ t → HasNone Inner (StandsInside bang) t
-none_behind bang s t e = none_of (inner_reader bang) t (ap (inner_at bang) (sym e) ∙ stops_within bang (length s) s (omega arith))
+none_behind bang s t e = none_of (inner_reader bang) t (ap (inner_at bang) (sym e) ∙ stops_at (inner_reader bang) s)
 
 pub chord-flawed : (bang : Bool) (s w r : List ℕ) (flaw : Flaw) → two w r ≡ span_all is_inside s → (length r ≡ 0 → ⊥) → is_done (walk (inner_at bang) s) ≡ false → begins is_bracket (walk (inner_at bang) s).1 ≡ false → InnerFlawed bang None s flaw → ChordFault bang s flaw
 chord-flawed bang s w r flaw cut some stuck other flawed = by_stop (walk (inner_at bang) s).1 refl
   where
     by_stop : (t : List ℕ) → (walk (inner_at bang) s).1 ≡ t → ChordFault bang s flaw
     by_stop [] e = absurd (let clash = sym stuck ∙ ap (λ (t : List ℕ). eqb (length t) 0) e in cc)
-    by_stop (b ∷ t) e = chord_flawed s (walk (inner_at bang) s).0 b t flaw (closed_somewhere s w r cut some) (subst (λ x. InnerLeads bang s (walk (inner_at bang) s).0 x) e (inner_leads bang s)) (none_behind bang s (b ∷ t) e) (sym (ap (begins is_bracket) e) ∙ other) flawed
-
-pub not_empty : (t : List ℕ) → eqb (length t) 0 ≡ false → length t ≡ 0 → ⊥
-not_empty [] h e = absurd cc
-not_empty (b ∷ t) h e = omega (arith, e)
+    by_stop (b ∷ t) e = chord_flawed s (walk (inner_at bang) s).0 b t flaw (some_left is_inside s w r cut some) (subst (λ x. InnerLeads bang s (walk (inner_at bang) s).0 x) e (inner_leads bang s)) (none_behind bang s (b ∷ t) e) (sym (ap (begins is_bracket) e) ∙ other) flawed

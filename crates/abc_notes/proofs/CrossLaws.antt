@@ -1,14 +1,15 @@
 -- The last brace within a chord at which a grace group may end stands behind one of the shorter
 -- chords that begin at the same bracket.
 use Rattle.std.proofs.Common.{◌≡◌, ℕ, suc, ◌+◌, ◌-◌, ◌≤◌, Bool, true, false, cond, eqb, List, [], ◌∷◌, ◌++◌, length, take, drop, Bor, Option, Some, None, refl, sym, ap, ◌∙◌, subst, arith, append_assoc, append-nil, not, ◌&&◌, ◌||◌, IfSome, option_map}
-use Rattle.std.{proofs.lemmas.Bool.cond_both, proofs.lemmas.Bool.and_parts, proofs.lemmas.Bool.eqb-true, proofs.lemmas.Bool.not-true, proofs.lemmas.List.length-append, proofs.lemmas.List.append_cancel_right, proofs.lemmas.List.nil_from_length, proofs.Math.Seq.drop-append_seam, specs.List.list_all}
+use Rattle.std.proofs.lemmas.{Bool.cond_both, Bool.and_parts, Bool.eqb-true, Bool.not-true, Option.same_Some, List.length-append, List.append_cancel_right, List.nil_from_length}
+use Rattle.std.{proofs.Math.Seq.drop-append_seam, specs.List.list_all}
 use Rattle.abc_notes.specs.Graces.{GracePart, single, chorded, StandsInGrace, is_in_grace, brace_at, brace_in_chord, brace_behind, brace_between, brace_in_item, brace_in_part, inside_of_item, inside_of_part, IsItemAt, stands_behind, at_most_bytes}
 use Rattle.abc_notes.specs.{declared.part.GraceChord.GraceChord, declared.part.GraceItem.GraceItem, Runs.span_all, Decorations.is_name_byte, Parts.no_part, Parts.then_part, Parts.walk, Parts.is_done, Parts.later_or, Items.Inner, Items.named_inside, Items.lone_inside, Items.inner_then, Items.IsInner}
 use Rattle.abc_notes.specs.{Items.IsName, Items.has_length, Items.InnerParts, Items.name_at, Items.named_or, Items.inner_at, Chords.is_inside, Chords.has_head, Chords.bracket_in_name, Chords.bracket_at, declared.part.Len.Len, Lengths.length_then, Lengths.length_at, Lengths.len_of}
 use Rattle.abc_notes.{specs.Lengths.length_read, specs.declared.part.ItemClass.ItemClass, proofs.SpanLaws.span_all-takes, proofs.ItemLaws.name_at-reads, proofs.ItemLaws.at_class, proofs.ItemLaws.bang_class, proofs.PartLaws.stands_at, proofs.PartLaws.longest_is, proofs.PartLaws.walk-none}
-use Rattle.abc_notes.proofs.{PartLaws.walk-some, PartLaws.walk_of_parts, LengthLaws.length_at-takes, InnerLaws.inner_reader, InnerLaws.length-length_then, CutLaws.inner_append, CutLaws.length_append, CutLaws.inner_local, CutLaws.read_cut, CutLaws.all_parts, CutLaws.lone_at, CutLaws.is_named}
-use Rattle.abc_notes.proofs.{CutLaws.first_same, ChordLaws.is_lone, ChordLaws.last_at, ChordLaws.last_at-none, ChordLaws.last_at-some, ChordLaws.bracket_at-closes, ChordLaws.bracket_within, ChordLaws.in_name-finds, ChordLaws.later_assoc, ChordLaws.later_none, ChordLaws.cut_off, GraceLaws.FoundPart}
-use Rattle.abc_notes.proofs.GraceLaws.{part_reader, ClosedGroup, brace_at-closes, none_there, chord-none, chord-some}
+use Rattle.abc_notes.proofs.{PartLaws.walk-some, PartLaws.walk_of_parts, LengthLaws.length_at-takes, InnerLaws.inner_reader, InnerLaws.inner_pair, InnerLaws.length-length_then, CutLaws.inner_append, CutLaws.length_append, CutLaws.inner_local, CutLaws.read_cut, CutLaws.all_parts, CutLaws.lone_at}
+use Rattle.abc_notes.proofs.{CutLaws.is_named, CutLaws.first_same, ChordLaws.is_lone, ChordLaws.last_at, ChordLaws.last_at-none, ChordLaws.last_at-some, ChordLaws.bracket_at-closes, ChordLaws.bracket_within, ChordLaws.in_name-finds, ChordLaws.later_assoc, ChordLaws.later_none, ChordLaws.cut_off}
+use Rattle.abc_notes.proofs.GraceLaws.{FoundPart, part_reader, ClosedGroup, brace_at-closes, none_there, chord-none, chord-some}
 
 -- ---- the bracket in a name that is a part
 
@@ -36,26 +37,20 @@ named_own head name x good =
     let drops : drop (length inside.0) (name ++ (33 ∷ x)) ≡ (inside.1 ++ (33 ∷ [])) ++ x = ap (drop (length inside.0)) line ∙ drop-append_seam inside.0 (inside.1 ++ (33 ∷ x)) ∙ sym (append_assoc inside.1 (33 ∷ []) x) in
     rw (name_at-reads name x good) (cond_map (not (eqb (length inside.1) 0) && (is_done w && (head || has_head w.0))) (drop (length inside.0) (name ++ (33 ∷ x))) (inside.1 ++ (33 ∷ [])) x drops)
 
-abbrev inner_pair : Inner → List ℕ → Inner × List ℕ
-inner_pair f x = (f, x)
-
-some_inner : (p q : Inner × List ℕ) → Some p ≡ Some q → p ≡ q
-some_inner p q e = cc
-
 mark_read : (bang : Bool) (s : List ℕ) → bang ≡ false → inner_at bang (33 ∷ s) ≡ named_or (name_at s) s
 mark_read bang s off = at_class bang 33 s ItemClass.Bang bang_class ∙ rw off refl
 
 no_name : (r : Option (List ℕ × List ℕ)) (s : List ℕ) → named_or r s ≡ Some (inner_pair lone_inside s) → r ≡ None
 no_name None s e = refl
-no_name (Some named) s e = absurd (let clash : is_lone (named_inside named.0) ≡ true = ap (λ (p : Inner × List ℕ). is_lone p.0) (some_inner (inner_pair (named_inside named.0) named.1) (inner_pair lone_inside s) e) in cc)
+no_name (Some named) s e = absurd (let clash : is_lone (named_inside named.0) ≡ true = ap (λ (p : Inner × List ℕ). is_lone p.0) (same_Some (inner_pair (named_inside named.0) named.1) (inner_pair lone_inside s) e) in cc)
 
 lone_own : (bang head : Bool) (x : List ℕ) → bang ≡ false → inner_at bang (33 ∷ x) ≡ Some (inner_pair lone_inside x) → bracket_in_name bang head (33 ∷ x) ≡ None
 unfolding bracket_in_name
 lone_own bang head x off e = let none = no_name (name_at x) x (sym (mark_read bang x off) ∙ e) in rw (off, none) refl
 
 kinds : (r : Option (List ℕ × List ℕ)) (s : List ℕ) (z : Inner × List ℕ) → named_or r s ≡ Some z → is_named z.0 ≡ false → is_lone z.0 ≡ false → ⊥
-kinds None s z e n l = let clash : true ≡ false = ap (λ (p : Inner × List ℕ). is_lone p.0) (some_inner (inner_pair lone_inside s) z e) ∙ l in cc
-kinds (Some named) s z e n l = let clash : true ≡ false = ap (λ (p : Inner × List ℕ). is_named p.0) (some_inner (inner_pair (named_inside named.0) named.1) z e) ∙ n in cc
+kinds None s z e n l = let clash : true ≡ false = ap (λ (p : Inner × List ℕ). is_lone p.0) (same_Some (inner_pair lone_inside s) z e) ∙ l in cc
+kinds (Some named) s z e n l = let clash : true ≡ false = ap (λ (p : Inner × List ℕ). is_named p.0) (same_Some (inner_pair (named_inside named.0) named.1) z e) ∙ n in cc
 
 other_own : (bang head : Bool) (text : List ℕ) (z : Inner × List ℕ) → inner_at bang text ≡ Some z → is_named z.0 ≡ false → is_lone z.0 ≡ false → bracket_in_name bang head text ≡ None
 unfolding bracket_in_name

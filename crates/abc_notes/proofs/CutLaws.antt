@@ -1,11 +1,12 @@
 -- Parts at the front of a text that goes on, and of the text that is cut off there.
 use Rattle.std.proofs.Common.{◌≡◌, ℕ, zero, suc, ◌≤◌, ◌<◌, Bool, true, false, eqb, List, [], ◌∷◌, ◌++◌, length, Option, Some, None, refl, sym, ap, ◌∙◌, subst, arith, inl, inr, append_assoc, append-nil, ◌&&◌, not, length-append}
-use Rattle.std.{proofs.lemmas.Bool.or_cases, proofs.lemmas.Bool.and_parts, proofs.lemmas.Bool.and_from, proofs.lemmas.Bool.eqb-true, proofs.lemmas.Bool.ne_eqb, proofs.lemmas.List.Folds.list_all-append, specs.List.list_all}
+use Rattle.std.{proofs.lemmas.Bool.or_cases, proofs.lemmas.Bool.and_parts, proofs.lemmas.Bool.and_from, proofs.lemmas.Bool.eqb-true, proofs.lemmas.Bool.ne_eqb, proofs.lemmas.Bool.not-false, proofs.lemmas.Option.same_Some, proofs.lemmas.List.Folds.list_all-append, specs.List.list_all}
 use Rattle.mus_units.specs.{declared.pitch.Alter.Alter, declared.pitch.Letter.Letter, Bytes.is_digit, declared.pitch.Alter.TheVariants.Sharp2, declared.pitch.Letter.TheVariants.C}
 use Rattle.abc_notes.specs.Items.{Inner, note_inside, letter_inside, named_inside, tie_inside, passed_inside, lone_inside, inner_then, IsName, is_passed_inside, is_letter_inside, IsInner, StandsInside, InnerParts, closed_name, name_at, inner_at}
-use Rattle.abc_notes.specs.{declared.part.ItemClass.ItemClass, Runs.copies, Runs.maybe, Runs.is_mark, Runs.span_all, Lengths.LengthForm, Lengths.whole, Lengths.over, Lengths.halved, Lengths.length_then, Lengths.IsLength, Notes.NoteForm, Notes.note_then, Notes.sign_then, Notes.letter_byte}
-use Rattle.abc_notes.{specs.Notes.IsNote, specs.Decorations.is_name_byte, specs.Parts.no_part, specs.Parts.then_part, specs.Parts.Leads, specs.Parts.leads_here, specs.Parts.leads_on, specs.Parts.walk, specs.Parts.spelled_then, proofs.Bounds.digit_range, proofs.SpanLaws.span_all-append}
-use Rattle.abc_notes.proofs.{LengthLaws.count-digits, ItemLaws.below_all, ItemLaws.implied, ItemLaws.at_class, ItemLaws.bang_class, PartLaws.Reader, PartLaws.stands_at, PartLaws.less, PartLaws.longest_of, PartLaws.walk-none, PartLaws.walk-some}
+use Rattle.abc_notes.specs.{declared.part.ItemClass.ItemClass, Runs.copies, Runs.maybe, Runs.is_mark, Runs.span_all, Runs.begins, Lengths.LengthForm, Lengths.whole, Lengths.over, Lengths.halved, Lengths.length_then, Lengths.IsLength, Notes.NoteForm, Notes.note_then, Notes.sign_then}
+use Rattle.abc_notes.specs.{Notes.letter_byte, Notes.IsNote, Decorations.is_name_byte, Parts.no_part, Parts.then_part, Parts.Leads, Parts.leads_here, Parts.leads_on, Parts.walk, Parts.spelled_then}
+use Rattle.abc_notes.proofs.{Bounds.digit_range, SpanLaws.span_all-append, SpanLaws.span_all-takes, SpanLaws.span_all-pass, LengthLaws.count-digits, ItemLaws.below_all, ItemLaws.implied, ItemLaws.at_class, ItemLaws.bang_class}
+use Rattle.abc_notes.proofs.PartLaws.{Reader, stands_at, by_parts, longest_of, walk-none, walk-some}
 
 -- ---- a part and what follows it
 
@@ -91,29 +92,28 @@ module _ {I : Type 0} {Stands : I → List ℕ → List ℕ → Type 0} {at : Li
         | inr same ↦ record { front = c.between; behind = c.behind; at_cut = o.1 ∙ ap Some same }
       ]
 
+  -- a part that stands at the front of a text stands there too where the text goes on
+  pub moved : (part : I) (u v y : List ℕ) → Stands part u v → Stands part (u ++ y) (v ++ y)
+  moved part u v y stands = k.moves part u v (u ++ y) (v ++ y) stands (ap (λ s. s ++ y) (k.spells part u v stands) ∙ k.appends part v y)
+
+  -- and one that ends before the cut is the same there
+  pub no_shorter : (part : I) (u v y : List ℕ) (z : I × List ℕ) → at u ≡ Some (part, v) → at (u ++ y) ≡ Some z → length z.1 < length (v ++ y) → length y ≤ length z.1 → ⊥
+  no_shorter part u v y z here e shorter before =
+      let a = read_cut u y z e before in
+      let same : a.front ≡ v = ap (λ (p : I × List ℕ). p.1) (same_Some {A = I × List ℕ} (z.0, a.front) (part, v) (sym a.at_cut ∙ here)) in
+      omega (arith, shorter, ap length a.behind, length-append a.front y, length-append v y, ap length same)
+
   -- the bytes of what is read off a text are the text
-  spelled_step : (n : ℕ) (s : List ℕ) (o : Option (I × List ℕ)) → at s ≡ o → length s ≤ n → ((t : List ℕ) → length t < length s → spelled_then one (walk at t).0 (walk at t).1 ≡ t) → spelled_then one (walk at s).0 (walk at s).1 ≡ s
-  spelled_step n s None e h next = rw (walk-none r s e) refl
-  spelled_step n s (Some z) e h next = rw (walk-some r s z e) (ap (one z.0) (next z.1 (less r s z e)) ∙ sym (k.spells z.0 s z.1 (stands_at r s z e)))
-
-  spelled_within : (n : ℕ) (s : List ℕ) → length s ≤ n → spelled_then one (walk at s).0 (walk at s).1 ≡ s
-  spelled_within zero s h = spelled_step 0 s (at s) refl h (λ t lt. absurd (omega (arith, lt, h)))
-  spelled_within (suc n) s h = spelled_step (suc n) s (at s) refl h (λ t lt. spelled_within n t (omega (arith, lt, h)))
-
   pub walk_spells : (s : List ℕ) → spelled_then one (walk at s).0 (walk at s).1 ≡ s
-  walk_spells s = spelled_within (length s) s (omega arith)
+  walk_spells = by_parts r (λ s. spelled_then one (walk at s).0 (walk at s).1 ≡ s)
+    (λ s e. rw (walk-none r s e) refl)
+    (λ s z e next. rw (walk-some r s z e) (ap (one z.0) next ∙ sym (k.spells z.0 s z.1 (stands_at r s z e))))
 
   -- what is read off a text leads up to what is left
-  leads_step : (n : ℕ) (s : List ℕ) (o : Option (I × List ℕ)) → at s ≡ o → length s ≤ n → ((t : List ℕ) → length t < length s → Leads I Stands t (walk at t).0 (walk at t).1) → Leads I Stands s (walk at s).0 (walk at s).1
-  leads_step n s None e h next = rw (walk-none r s e) (leads_here s)
-  leads_step n s (Some z) e h next = rw (walk-some r s z e) (leads_on s z.0 z.1 (walk at z.1).0 (walk at z.1).1 (longest_of r s z e) (next z.1 (less r s z e)))
-
-  leads_within : (n : ℕ) (s : List ℕ) → length s ≤ n → Leads I Stands s (walk at s).0 (walk at s).1
-  leads_within zero s h = leads_step 0 s (at s) refl h (λ t lt. absurd (omega (arith, lt, h)))
-  leads_within (suc n) s h = leads_step (suc n) s (at s) refl h (λ t lt. leads_within n t (omega (arith, lt, h)))
-
   pub leads_of_walk : (s : List ℕ) → Leads I Stands s (walk at s).0 (walk at s).1
-  leads_of_walk s = leads_within (length s) s (omega arith)
+  leads_of_walk = by_parts r (λ s. Leads I Stands s (walk at s).0 (walk at s).1)
+    (λ s e. rw (walk-none r s e) (leads_here s))
+    (λ s z e next. rw (walk-some r s z e) (leads_on s z.0 z.1 (walk at z.1).0 (walk at z.1).1 (longest_of r s z e) next))
 
 -- ---- the bytes of a part that is no name close no group
 
@@ -152,6 +152,20 @@ pub length_free : (f : LengthForm) → IsLength f → list_all free (length_then
 length_free (whole c) good = all_join free c [] (digits_free c (count-digits 4 c good)) refl
 length_free (over c b) good = all_join free c (47 ∷ (b ++ [])) (digits_free c (count-digits 4 c good.0)) (all_join free b [] (digits_free b good.1.digits) refl)
 length_free (halved c k) good = all_join free c (copies k 47 []) (digits_free c (count-digits 4 c good.0)) (copies_free k)
+
+-- no closing byte stands in a length
+pub length_past : (close : ℕ) (l : LengthForm) (rest m d t : List ℕ) → free close ≡ false → IsLength l → d ≡ close ∷ t → length_then l rest ≡ m ++ d → length rest < length d → ⊥
+length_past close l rest m d t closes good is e short =
+    let c = cut_at (length_then l []) m rest d (length_append l [] rest ∙ e) (omega (arith, short)) in
+    by_between c.between c.behind c.front
+  where
+    by_between : (b : List ℕ) → d ≡ b ++ rest → length_then l [] ≡ m ++ b → ⊥
+    by_between [] behind front = omega (arith, short, ap length behind)
+    by_between (b ∷ bs) behind front =
+        let all : list_all free (m ++ (b ∷ bs)) ≡ true = ap (list_all free) (sym front) ∙ length_free l good in
+        let here : free b ≡ true = (and_parts (free b) (list_all free bs) (all_parts free m (b ∷ bs) all).1).0 in
+        let clash : free close ≡ true = subst (λ y. free y ≡ true) (sym (first_same close b t (bs ++ rest) (sym is ∙ behind))) here in
+        let never = sym closes ∙ clash in cc
 
 sign_free : (sign : Option Alter) (x : List ℕ) → list_all free x ≡ true → list_all free (sign_then sign x) ≡ true
 sign_free (Some Sharp2) x h = h
@@ -240,6 +254,33 @@ all_span p s h = sym (ap (span_all p) (append-nil s)) ∙ span_all-append p s []
 unnamed : (s : List ℕ) → closed_name s [] ≡ None
 unnamed [] = refl
 unnamed (b ∷ s) = refl
+
+-- ---- up to the first closing byte
+
+abbrev pub two : List ℕ → List ℕ → List ℕ × List ℕ
+two a b = (a, b)
+
+-- nothing is left where none was cut off
+pub none_left : (p : ℕ → Bool) (s w r : List ℕ) → two w r ≡ span_all p s → length r ≡ 0 → list_all p s ≡ true
+none_left p s w [] cut none =
+    let whole : s ≡ (span_all p s).0 = span_all-takes p s ∙ ap (λ (t : List ℕ). (span_all p s).0 ++ t) (sym (ap (λ (z : List ℕ × List ℕ). z.1) cut)) ∙ append-nil (span_all p s).0 in
+    ap (λ t. list_all p t) whole ∙ span_all-pass p s
+none_left p s w (b ∷ r) cut none = absurd (omega (arith, none))
+
+pub some_left : (p : ℕ → Bool) (s w r : List ℕ) → two w r ≡ span_all p s → (length r ≡ 0 → ⊥) → list_all p s ≡ false
+some_left p s w r cut some = by_all (list_all p s) refl
+  where
+    by_all : (b : Bool) → list_all p s ≡ b → b ≡ false
+    by_all false e = refl
+    by_all true e = absurd (some (ap (λ (z : List ℕ × List ℕ). length z.1) (cut ∙ all_span p s e)))
+
+pub first_close : (close : ℕ) (t : List ℕ) → begins (λ b. eqb b close) t ≡ true → (rest : List ℕ) × (t ≡ close ∷ rest)
+first_close close [] h = absurd cc
+first_close close (b ∷ t) h = (t, ap (λ x. x ∷ t) (eqb-true b close h))
+
+pub name_end : (close : ℕ) (w : List ℕ) → (length w ≡ 0 → ⊥) → begins (λ b. not (eqb b close)) w ≡ false → (after : List ℕ) × (w ≡ close ∷ after)
+name_end close [] some stops = absurd (some refl)
+name_end close (b ∷ w) some stops = (w, ap (λ x. x ∷ w) (eqb-true b close (not-false (eqb b close) stops)))
 
 -- where a name is not closed the exclamation mark is alone
 pub lone_at : (bang : Bool) (s : List ℕ) → bang ≡ false → list_all is_name_byte s ≡ true → inner_at bang (33 ∷ s) ≡ Some (lone_inside, s)

@@ -1,26 +1,24 @@
 -- Reading a part of a grace group, and a group, gives the longest; where there is none its fault
 -- is found.
 use Rattle.std.proofs.Common.{◌≡◌, ℕ, zero, suc, ◌+◌, ◌-◌, ◌≤◌, ◌<◌, Bool, true, false, cond, eqb, List, [], ◌∷◌, ◌++◌, length, take, drop, Option, Some, None, refl, sym, ap, ◌∙◌, subst, arith, inl, inr, ◌⊎◌, append_assoc, append-nil, add-one, not, ◌&&◌, ◌||◌, IfSome, option_map, MatchOption}
-use Rattle.std.proofs.lemmas.{Bool.cond_both, Bool.and_parts, Bool.eqb-true, Bool.not-false, Bool.ne_eqb, Bool.or_cases, Bool.not-true, Bool.or_parts, List.length-append, List.length-drop, List.take-append-drop, List.append_cancel_left, List.append_cancel_right, List.nil_from_length}
+use Rattle.std.proofs.lemmas.{Bool.cond_both, Bool.and_parts, Bool.eqb-true, Bool.ne_eqb, Bool.or_cases, Bool.not-true, Bool.eqb-false, Bool.or_parts, List.length-append, List.length-drop, List.take-append-drop, List.append_cancel_left, List.append_cancel_right, List.nil_from_length}
 use Rattle.std.{proofs.Math.Seq.take-append_seam, proofs.Math.Seq.drop-append_seam, proofs.lemmas.Option.same_Some, specs.List.list_all}
 use Rattle.mus_units.specs.declared.pitch.{Alter.Alter, Letter.Letter, Alter.TheVariants.Sharp2, Letter.TheVariants.C}
 use Rattle.abc_lines.specs.declared.fault.FaultKind.TheVariants.{Unclosed}
 use Rattle.abc_notes.specs.Items.{Inner, note_inside, letter_inside, named_inside, tie_inside, slur_inside, passed_inside, lone_inside, inner_then, IsInner, IsName, StandsInside, name_at, item_class, inner_at, is_letter_inside}
-use Rattle.abc_notes.specs.Graces.{GracePart, single, chorded, grace_part_then, IsGracePart, StandsInGrace, GraceParts, GraceLeads, part_has_length, GraceForm, is_in_grace, is_slash_byte, is_brace, grace_then, IsGrace, body_of_part, GraceFlawed, HasSlash, GraceFault, grace_unclosed, grace_open, grace_flawed, chorded_read, single_read, grace_part_at, brace_here, brace_in, brace_in_name, closes_at, last_closing, brace_in_chord, brace_behind, brace_in_part, brace_at, grace_from, grace_at, bodied, body_inside, inside_of_part, IsPartFlaw, item_within}
-use Rattle.abc_notes.proofs.ChordLaws.{TakesChord, bracket_at-closes, chord_at-takes, chord_at-reaches, chord-reads, chord-longer, has_lone, is_lone, le_lt, later_assoc, later_none, not_zero, cut_off}
-use Rattle.abc_notes.proofs.CutLaws.{inner_append, length_append, length_free, Cut, cut_at, first_same, rest_same, Local, read_cut, leads_of_walk, wider, all_join, all_parts, all_span, clear_parts, free, is_named, inner_free, named_bad, CrossesIn, crossing, lone_at}
-use Rattle.abc_notes.specs.{declared.part.Flaw.Flaw, declared.part.GraceChord.GraceChord, declared.part.GraceItem.GraceItem, Runs.maybe, Runs.skip, Runs.span_all, Runs.begins, Runs.one_of, Lengths.LengthForm, Lengths.length_then, Lengths.IsLength, Lengths.length_at, Notes.sign_then}
-use Rattle.abc_notes.specs.{Notes.letter_byte, Decorations.is_deco_letter, Decorations.is_name_byte, Parts.no_part, Parts.then_part, Parts.stuck_here, Parts.stuck_later, Parts.walk, Parts.is_done, Parts.length_at_place, Parts.later_or, Chords.ChordForm, Chords.chord_then, Chords.IsChord}
-use Rattle.abc_notes.{specs.Chords.bracket_at, specs.Chords.chord_at, specs.Chords.at_most, proofs.RunLaws.Lacks, proofs.RunLaws.skip-takes, proofs.RunLaws.skip-lacks, proofs.SpanLaws.span_all-takes, proofs.SpanLaws.span_all-pass, proofs.SpanLaws.span_all-after, proofs.SpanLaws.span_all-append}
-use Rattle.abc_notes.proofs.{SpanLaws.span_all-stops, PartLaws.Reader, PartLaws.stands_at, PartLaws.less, PartLaws.longest_of, PartLaws.longest_is, PartLaws.none_of, PartLaws.walk-none, PartLaws.walk-some, PartLaws.parts_of_walk, PartLaws.walk_of_parts, LengthLaws.length_at-takes}
-use Rattle.abc_notes.proofs.{InnerLaws.inner_reader, InnerLaws.inner-longer, InnerLaws.place_small, ItemLaws.name_at-takes, ItemLaws.name_at-reads}
+use Rattle.abc_notes.specs.Graces.{GracePart, single, chorded, grace_part_then, IsGracePart, StandsInGrace, GraceParts, GraceLeads, part_has_length, GraceForm, is_in_grace, is_slash_byte, is_brace, grace_then, IsGrace, body_of_part, GraceFlawed, HasSlash, GraceFault, grace_unclosed, grace_open}
+use Rattle.abc_notes.specs.Graces.{grace_flawed, chorded_read, single_read, grace_part_at, brace_here, brace_in, brace_in_name, closes_at, last_closing, brace_in_chord, brace_behind, brace_in_part, brace_at, grace_from, grace_at, bodied, body_inside, inside_of_part, IsPartFlaw, item_within}
+use Rattle.abc_notes.proofs.ChordLaws.{TakesChord, bracket_at-closes, chord_at-takes, chord_at-reaches, chord-reads, chord-longer, has_lone, is_lone, le_lt, later_assoc, later_none, cut_off}
+use Rattle.abc_notes.proofs.CutLaws.{two, none_left, some_left, first_close, name_end, length_past, moved, no_shorter, inner_append, length_append, length_free, Cut, cut_at, first_same, rest_same, Local, read_cut, leads_of_walk, wider, all_join, all_parts, clear_parts, free, is_named, inner_free}
+use Rattle.abc_notes.{proofs.CutLaws.named_bad, proofs.CutLaws.CrossesIn, proofs.CutLaws.crossing, proofs.CutLaws.lone_at, specs.declared.part.Flaw.Flaw}
+use Rattle.abc_notes.specs.{declared.part.GraceChord.GraceChord, declared.part.GraceItem.GraceItem, Runs.maybe, Runs.skip, Runs.span_all, Runs.begins, Runs.one_of, Lengths.LengthForm, Lengths.length_then, Lengths.length_at, Notes.sign_then, Notes.letter_byte, Decorations.is_deco_letter}
+use Rattle.abc_notes.specs.{Decorations.is_name_byte, Parts.no_part, Parts.then_part, Parts.stuck_here, Parts.stuck_later, Parts.walk, Parts.is_done, Parts.length_at_place, Parts.later_or, Chords.ChordForm, Chords.chord_then, Chords.IsChord, Chords.bracket_at, Chords.chord_at, Chords.at_most}
+use Rattle.abc_notes.proofs.{RunLaws.Lacks, RunLaws.skip-takes, RunLaws.skip-lacks, SpanLaws.span_all-takes, SpanLaws.span_all-after, SpanLaws.span_all-append, SpanLaws.span_all-stops, PartLaws.Reader, PartLaws.stands_at, PartLaws.less, PartLaws.longest_of, PartLaws.longest_is, PartLaws.none_of}
+use Rattle.abc_notes.proofs.{PartLaws.walk-none, PartLaws.walk-some, PartLaws.by_parts, PartLaws.parts_of_walk, PartLaws.walk_of_parts, LengthLaws.length_at-takes, InnerLaws.inner_reader, InnerLaws.inner-longer, InnerLaws.place_small, ItemLaws.name_at-takes, ItemLaws.name_at-reads}
 
 abbrev pub at_least : ℕ → Option ℕ → Type 0
 at_least n None = Unit {0}
 at_least n (Some at) = n ≤ at
-
-abbrev two : List ℕ → List ℕ → List ℕ × List ℕ
-two a b = (a, b)
 
 abbrev chord_pair : ChordForm → List ℕ → ChordForm × List ℕ
 chord_pair f x = (f, x)
@@ -38,13 +36,6 @@ in_grace_wide b h = (and_parts (not (eqb b 93)) (not (eqb b 125)) h).1
 
 chord_append : (f : ChordForm) (v y : List ℕ) → chord_then f v ++ y ≡ chord_then f (v ++ y)
 chord_append f v y = append_assoc f.inside (93 ∷ length_then f.length v) y ∙ ap (λ t. f.inside ++ (93 ∷ t)) (length_append f.length v y)
-
--- no brace is left where none was cut off
-pub no_brace : (t w r : List ℕ) → two w r ≡ span_all is_in_grace t → length r ≡ 0 → list_all is_in_grace t ≡ true
-no_brace t w [] cut none =
-    let whole : t ≡ (span_all is_in_grace t).0 = span_all-takes is_in_grace t ∙ ap (λ (u : List ℕ). (span_all is_in_grace t).0 ++ u) (sym (ap (λ (p : List ℕ × List ℕ). p.1) cut)) ∙ append-nil (span_all is_in_grace t).0 in
-    ap (λ u. list_all is_in_grace u) whole ∙ span_all-pass is_in_grace t
-no_brace t w (b ∷ r) cut none = absurd (omega (arith, none))
 
 -- ---- parts
 
@@ -254,10 +245,6 @@ here-closes bang (b ∷ s) c e =
     record { front = []; rest = s; parts = []; is = sym same ∙ ap (λ x. x ∷ s) (eqb-true b 125 h); cut = same; good = no_part })
     (λ h e. absurd cc) e
 
-name_end : (w : List ℕ) → (length w ≡ 0 → ⊥) → begins is_in_grace w ≡ false → (after : List ℕ) × (w ≡ 125 ∷ after)
-name_end [] some stops = absurd (some refl)
-name_end (b ∷ w) some stops = (w, ap (λ x. x ∷ w) (eqb-true b 125 (not-false (eqb b 125) stops)))
-
 lone_part : (bang : Bool) (s : List ℕ) → bang ≡ false → list_all is_name_byte s ≡ true → grace_part_at bang (33 ∷ s) ≡ Some (part_with (single lone_inside) s)
 lone_part bang s off h = other_byte bang 33 s refl ∙ ap (option_map single_read) (lone_at bang s off h)
 
@@ -269,7 +256,7 @@ in-closes bang s c (Some named) off t e =
     cond_both {A = Option (List ℕ)} (not (eqb (length inside.1) 0) && is_done w) (Some (drop (length inside.0) s)) None (λ r. r ≡ Some c → ClosedGroup bang (33 ∷ s) c)
     (λ h e.
     let p = and_parts (not (eqb (length inside.1) 0)) (is_done w) h in
-    let end = name_end inside.1 (not_zero (length inside.1) p.0) (span_all-after is_in_grace named.0) in
+    let end = name_end 125 inside.1 (eqb-false (length inside.1) 0 (not-true (eqb (length inside.1) 0) p.0)) (span_all-after is_in_grace named.0) in
     let whole : named.0 ≡ inside.0 ++ (125 ∷ end.0) = span_all-takes is_in_grace named.0 ∙ ap (λ x. inside.0 ++ x) end.1 in
     let cut : s ≡ inside.0 ++ (125 ∷ (end.0 ++ (33 ∷ named.1))) = t.1 ∙ ap (λ x. x ++ (33 ∷ named.1)) whole ∙ append_assoc inside.0 (125 ∷ end.0) (33 ∷ named.1) in
     let is : c ≡ 125 ∷ (end.0 ++ (33 ∷ named.1)) = sym (same_Some (drop (length inside.0) s) c e) ∙ ap (drop (length inside.0)) cut ∙ drop-append_seam inside.0 (125 ∷ (end.0 ++ (33 ∷ named.1))) in
@@ -311,20 +298,13 @@ then-closes bang text c z e k =
       good = then_part u z.0 k.front k.parts (longest_of r u (z.0, k.front) at) k.good;
     }
 
-some_part : (p q : GracePart) (x y : List ℕ) → Some (part_with p x) ≡ Some (part_with q y) → part_with p x ≡ part_with q y
-some_part p q x y h = cc
-
 -- ---- the last brace before which parts alone stand
-
-first_brace : (t : List ℕ) → begins is_brace t ≡ true → (rest : List ℕ) × (t ≡ 125 ∷ rest)
-first_brace [] h = absurd cc
-first_brace (b ∷ t) h = (t, ap (λ x. x ∷ t) (eqb-true b 125 h))
 
 closes_there : (bang : Bool) (text : List ℕ) (n : ℕ) → closes_at bang text n ≡ true → ClosedGroup bang text (drop n text)
 closes_there bang text n h =
     let w = walk (grace_part_at bang) (take n text) in
     let p = and_parts (begins is_brace (drop n text)) (is_done w) h in
-    let first = first_brace (drop n text) p.0 in
+    let first = first_close 125 (drop n text) p.0 in
     record {
       front = take n text;
       rest = first.0;
@@ -450,7 +430,7 @@ behind_closes : (bang : Bool) (text d : List ℕ) (z : GracePart × List ℕ) �
 behind_closes bang text d z e k short =
     let a = read_cut (part_reader bang) (part_local bang) k.front d z (ap (grace_part_at bang) (sym k.cut) ∙ e) short in
     let f = first_part bang text d z e k in
-    let same : f.behind ≡ a.front = ap (λ (p : GracePart × List ℕ). p.1) (some_part f.part z.0 f.behind a.front (sym f.at ∙ a.at_cut)) in
+    let same : f.behind ≡ a.front = ap (λ (p : GracePart × List ℕ). p.1) (same_Some (part_with f.part f.behind) (part_with z.0 a.front) (sym f.at ∙ a.at_cut)) in
     record { front = a.front; rest = k.rest; parts = f.more; is = k.is; cut = a.behind; good = subst (λ (x : List ℕ). GraceParts bang x f.more) same f.others }
 
 -- what stands in front of a text gives the last brace within it
@@ -544,7 +524,7 @@ cross_single bang text d f rest e k short =
         let first = first_part bang text d (single f, rest) e k in
         let names = all_parts is_name_byte before (125 ∷ after) (ap (list_all is_name_byte) (sym c.crosses.name_is) ∙ c.good.bytes) in
         let alone : grace_part_at bang k.front ≡ Some (part_with (single lone_inside) before) = ap (grace_part_at bang) c.crosses.text ∙ lone_part bang before c.off names.0 in
-        let same : part_with first.part first.behind ≡ part_with (single lone_inside) before = some_part first.part (single lone_inside) first.behind before (sym first.at ∙ alone) in
+        let same : part_with first.part first.behind ≡ part_with (single lone_inside) before = same_Some (part_with first.part first.behind) (part_with (single lone_inside) before) (sym first.at ∙ alone) in
         let group : GraceParts bang before first.more = subst (λ (x : List ℕ). GraceParts bang x first.more) (ap (λ (p : GracePart × List ℕ). p.1) same) first.others in
         let spelled : text ≡ 33 ∷ ((before ++ (125 ∷ after)) ++ (33 ∷ rest)) = cut ∙ ap (λ g. inner_then g rest) c.is ∙ ap (λ (n : List ℕ). 33 ∷ (n ++ (33 ∷ rest))) c.crosses.name_is in
         let found = in_name-found bang before after rest first.more c.off (subst IsName c.crosses.name_is c.good) group in
@@ -556,19 +536,6 @@ in_single : (bang : Bool) (text : List ℕ) (f : Inner) (rest : List ℕ) → gr
 in_single bang text f rest e = record { closes = in_name-closes bang text; reaches = λ d k short. (d, cross_single bang text d f rest e k short, omega arith) }
 
 -- a brace within a chord
-
--- no brace stands in a length
-length_past : (l : LengthForm) (rest m d t : List ℕ) → IsLength l → d ≡ 125 ∷ t → length_then l rest ≡ m ++ d → length rest < length d → ⊥
-length_past l rest m d t good is e short =
-    let c = cut_at (length_then l []) m rest d (length_append l [] rest ∙ e) (omega (arith, short)) in
-    by_between c.between c.behind c.front
-  where
-    by_between : (b : List ℕ) → d ≡ b ++ rest → length_then l [] ≡ m ++ b → ⊥
-    by_between [] behind front = omega (arith, short, ap length behind)
-    by_between (b ∷ bs) behind front =
-        let all : list_all free (m ++ (b ∷ bs)) ≡ true = ap (list_all free) (sym front) ∙ length_free l good in
-        let here : free b ≡ true = (and_parts (free b) (list_all free bs) (all_parts free m (b ∷ bs) all).1).0 in
-        let clash : free 125 ≡ true = subst (λ y. free y ≡ true) (sym (first_same 125 b t (bs ++ rest) (sym is ∙ behind))) here in cc
 
 apart : ◌≡◌ {A = ℕ} 93 125 → ⊥
 apart e = let clash : eqb 93 125 ≡ true = subst (λ x. eqb 93 x ≡ true) e refl in cc
@@ -585,7 +552,7 @@ brace_inside bang f rest d good k short = elim (le_lt (length (tail_of f rest)) 
   where
     by_between : (m : List ℕ) → tail_of f rest ≡ m ++ d → length d < length (tail_of f rest) → ⊥
     by_between [] is near = omega (arith, near, ap length is)
-    by_between (b ∷ m) is near = length_past f.length rest m d k.rest good.length k.is (rest_same 93 b (length_then f.length rest) (m ++ d) is) short
+    by_between (b ∷ m) is near = length_past 125 f.length rest m d k.rest refl good.length k.is (rest_same 93 b (length_then f.length rest) (m ++ d) is) short
 
     by_cut : Cut k.front (91 ∷ f.inside) d (tail_of f rest) → ⊥
     by_cut c = elim (le_lt (length (tail_of f rest)) (length d)) [
@@ -670,12 +637,6 @@ chord-some bang w (b ∷ c) e =
     let tail : drop (suc (length f.inside)) (91 ∷ w) ≡ b ∷ c = ap (λ (t : List ℕ). drop (length t) w) inside ∙ ap (drop (length k.front)) k.cut ∙ drop-append_seam k.front (b ∷ c) in
     brace-part bang (91 ∷ w) (length_at c).1 (chorded f) at ∙ ap (λ (t : List ℕ). later_or (brace_at bang (length_at c).1) (option_map (λ (x : List ℕ). x ++ t) (brace_at bang (91 ∷ f.inside)))) tail
 
-no_shorter : (bang : Bool) (u t v : List ℕ) (part : GracePart) (z : GracePart × List ℕ) → grace_part_at bang u ≡ Some (part, v) → grace_part_at bang (u ++ (125 ∷ t)) ≡ Some z → length z.1 < length (v ++ (125 ∷ t)) → length (125 ∷ t) ≤ length z.1 → ⊥
-no_shorter bang u t v part z at e shorter before =
-    let a = read_cut (part_reader bang) (part_local bang) u (125 ∷ t) z e before in
-    let same : a.front ≡ v = ap (λ (p : GracePart × List ℕ). p.1) (some_part z.0 part a.front v (sym a.at_cut ∙ at)) in
-    omega (arith, shorter, ap length a.behind, length-append a.front (125 ∷ t), length-append v (125 ∷ t), ap length same)
-
 -- where no exclamation mark is passed over, neither in the group nor in its chords, the line is read as the inside is
 abbrev pub lone_part_is : GracePart → Bool
 lone_part_is (single f) = is_lone f
@@ -684,12 +645,6 @@ lone_part_is (chorded f) = has_lone f.parts
 abbrev pub has_lone_part : List GracePart → Bool
 has_lone_part [] = false
 has_lone_part (p ∷ more) = lone_part_is p || has_lone_part more
-
-moved : (bang : Bool) (u t v : List ℕ) (part : GracePart) → StandsInGrace bang part u v → StandsInGrace bang part (u ++ (125 ∷ t)) (v ++ (125 ∷ t))
-moved bang u t v part stands = record { good = stands.good; cut = ap (λ s. s ++ (125 ∷ t)) stands.cut ∙ part_append part v (125 ∷ t) }
-
-some_pair : (p q : GracePart × List ℕ) → Some p ≡ Some q → p ≡ q
-some_pair p q e = cc
 
 abbrev with_length : ChordForm → LengthForm → ChordForm
 with_length f l = record { inside = f.inside; parts = f.parts; length = l }
@@ -700,10 +655,10 @@ chord_kept bang f v t z good whole e =
     let l = length_at (length_then f.length x) in
     let takes = length_at-takes (length_then f.length x) in
     let read : grace_part_at bang (91 ∷ chord_then f x) ≡ Some (part_with (chorded (with_length f l.0)) l.1) = at_bracket bang (chord_then f x) ∙ ap (option_map chorded_read) (chord-reads bang f x good whole) in
-    let same : z.1 ≡ l.1 = ap (λ (p : GracePart × List ℕ). p.1) (some_pair z (part_with (chorded (with_length f l.0)) l.1) (sym e ∙ read)) in
+    let same : z.1 ≡ l.1 = ap (λ (p : GracePart × List ℕ). p.1) (same_Some z (part_with (chorded (with_length f l.0)) l.1) (sym e ∙ read)) in
     elim (le_lt (length (125 ∷ t)) (length z.1)) [
       | inl far ↦ far
-      | inr near ↦ absurd (length_past l.0 l.1 (length_then f.length v) (125 ∷ t) t takes.1 refl (sym takes.0 ∙ sym (length_append f.length v (125 ∷ t))) (omega (arith, near, ap length same)))
+      | inr near ↦ absurd (length_past 125 l.0 l.1 (length_then f.length v) (125 ∷ t) t refl takes.1 refl (sym takes.0 ∙ sym (length_append f.length v (125 ∷ t))) (omega (arith, near, ap length same)))
     ]
 
 lone_clash : (f : Inner) → single f ≡ single lone_inside → is_lone f ≡ false → ⊥
@@ -713,7 +668,7 @@ named_clash : (bang : Bool) (f g : Inner) (v : List ℕ) → grace_part_at bang 
 named_clash bang f g v at whole c =
     let names = all_parts is_name_byte c.crosses.before (125 ∷ c.crosses.after) (ap (list_all is_name_byte) (sym c.crosses.name_is) ∙ c.good.bytes) in
     let alone : grace_part_at bang (inner_then f v) ≡ Some (part_with (single lone_inside) c.crosses.before) = ap (grace_part_at bang) c.crosses.text ∙ lone_part bang c.crosses.before c.off names.0 in
-    lone_clash f (ap (λ (p : GracePart × List ℕ). p.0) (some_part (single f) (single lone_inside) v c.crosses.before (sym at ∙ alone))) whole
+    lone_clash f (ap (λ (p : GracePart × List ℕ). p.0) (same_Some (part_with (single f) v) (part_with (single lone_inside) c.crosses.before) (sym at ∙ alone))) whole
 
 single_from : (bang : Bool) (f : Inner) (v t : List ℕ) (z : GracePart × List ℕ) (r : Option (Inner × List ℕ)) → inner_at bang (inner_then f v ++ (125 ∷ t)) ≡ r → option_map single_read r ≡ Some z → is_lone f ≡ false → grace_part_at bang (inner_then f v) ≡ Some (part_with (single f) v) → length (125 ∷ t) ≤ length z.1
 single_from bang f v t z None e is whole at = absurd cc
@@ -721,7 +676,7 @@ single_from bang f v t z (Some g) e is whole at = elim (le_lt (length (125 ∷ t
   | inl far ↦ far
   | inr near ↦
       (let stands = stands_at (inner_reader bang) (inner_then f v ++ (125 ∷ t)) g e in
-      let same : g.1 ≡ z.1 = ap (λ (p : GracePart × List ℕ). p.1) (some_pair (single_read g) z is) in
+      let same : g.1 ≡ z.1 = ap (λ (p : GracePart × List ℕ). p.1) (same_Some (single_read g) z is) in
       absurd (named_clash bang f g.0 v at whole (crossing bang is_in_grace 125 g.0 (inner_then f v) t g.1 in_grace_wide refl refl stands.good stands.cut (omega (arith, near, ap length same)))))
 ]
 
@@ -738,10 +693,10 @@ nothing_past bang _ t d _ (then_part u part v more l others) whole k =
     let r = part_reader bang in
     let w = or_parts (lone_part_is part) (has_lone_part more) whole in
     let at : grace_part_at bang u ≡ Some (part_with part v) = longest_is r u part v l in
-    let o = r.reaches part (u ++ (125 ∷ t)) (v ++ (125 ∷ t)) (moved bang u t v part l.stands) in
+    let o = r.reaches part (u ++ (125 ∷ t)) (v ++ (125 ∷ t)) (moved r (part_local bang) part u v (125 ∷ t) l.stands) in
     let kept : length (125 ∷ t) ≤ length o.0.1 = part_kept bang part v t o.0 l.stands.good w.0 (ap (grace_part_at bang) (sym l.stands.cut) ∙ at) (ap (λ (x : List ℕ). grace_part_at bang (x ++ (125 ∷ t))) (sym l.stands.cut) ∙ o.1) in
     elim o.2 [
-      | inl shorter ↦ absurd (no_shorter bang u t v part o.0 at o.1 shorter kept)
+      | inl shorter ↦ absurd (no_shorter r (part_local bang) part u v (125 ∷ t) o.0 at o.1 shorter kept)
       | inr same ↦ elim (le_lt (length d) (length o.0.1)) [
         | inl before ↦ nothing_past bang v t d more others w.1 (subst (λ (x : List ℕ). ClosedGroup bang x d) (ap (λ (p : GracePart × List ℕ). p.1) same) (behind_closes bang (u ++ (125 ∷ t)) d o.0 o.1 k before))
         | inr past ↦ omega (arith, kept, past)
@@ -880,7 +835,7 @@ abbrev slashed : Bool → List ℕ → Bool × List ℕ
 slashed b x = (b, x)
 
 pub grace-unclosed : (bang : Bool) (s w r : List ℕ) → two w r ≡ span_all is_in_grace s → length r ≡ 0 → GraceFault bang s (record { kind = Unclosed; left = length s + 1 })
-grace-unclosed bang s w r cut none = rw add-one (grace_unclosed s (no_brace s w r cut none))
+grace-unclosed bang s w r cut none = rw add-one (grace_unclosed s (none_left is_in_grace s w r cut none))
 
 has_slash : (slash : Bool) (s t : List ℕ) → slashed slash t ≡ skip 47 s → HasSlash s slash t
 has_slash slash s t at = record {
@@ -904,18 +859,12 @@ HasBrace bang s = (c : List ℕ) × (brace_at bang s ≡ Some c)
 later_some : (r x : Option (List ℕ)) (c : List ℕ) → r ≡ Some c → later_or r x ≡ Some c
 later_some r x c e = rw e refl
 
-read_off : (bang : Bool) (s rest : List ℕ) (o : Option (GracePart × List ℕ)) → grace_part_at bang s ≡ o → (walk (grace_part_at bang) s).1 ≡ 125 ∷ rest →
-    ((t : List ℕ) → length t < length s → (walk (grace_part_at bang) t).1 ≡ 125 ∷ rest → HasBrace bang t) → HasBrace bang s
-read_off bang s rest None e stop next =
-    let here : s ≡ 125 ∷ rest = sym (ap (λ (w : List GracePart × List ℕ). w.1) (walk-none (part_reader bang) s e)) ∙ stop in
-    (125 ∷ rest, brace-none bang s e ∙ ap brace_here here)
-read_off bang s rest (Some z) e stop next =
-    let o = next z.1 (less (part_reader bang) s z e) (sym (ap (λ (w : List GracePart × List ℕ). w.1) (walk-some (part_reader bang) s z e)) ∙ stop) in
-    (o.0, brace-part bang s z.1 z.0 e ∙ later_some (brace_at bang z.1) (brace_in_part bang z.0 s) o.0 o.1)
-
-closed_within : (bang : Bool) (n : ℕ) (s rest : List ℕ) → length s ≤ n → (walk (grace_part_at bang) s).1 ≡ 125 ∷ rest → HasBrace bang s
-closed_within bang zero s rest h stop = read_off bang s rest (grace_part_at bang s) refl stop (λ t lt. absurd (omega (arith, lt, h)))
-closed_within bang (suc n) s rest h stop = read_off bang s rest (grace_part_at bang s) refl stop (λ t lt. closed_within bang n t rest (omega (arith, lt, h)))
+closed_within : (bang : Bool) (s rest : List ℕ) → (walk (grace_part_at bang) s).1 ≡ 125 ∷ rest → HasBrace bang s
+closed_within bang s rest = by_parts (part_reader bang) (λ t. (walk (grace_part_at bang) t).1 ≡ 125 ∷ rest → HasBrace bang t)
+    (λ t e stop. (125 ∷ rest, brace-none bang t e ∙ ap brace_here (sym (ap (λ (w : List GracePart × List ℕ). w.1) (walk-none (part_reader bang) t e)) ∙ stop)))
+    (λ t z e next stop.
+    let o = next (sym (ap (λ (w : List GracePart × List ℕ). w.1) (walk-some (part_reader bang) t z e)) ∙ stop) in
+    (o.0, brace-part bang t z.1 z.0 e ∙ later_some (brace_at bang z.1) (brace_in_part bang z.0 t) o.0 o.1)) s
 
 from_some : (bang slash : Bool) (s t c : List ℕ) → slashed slash t ≡ skip 47 s → brace_at bang t ≡ Some c → grace_at bang s ≡ None → ⊥
 unfolding grace_at
@@ -926,17 +875,8 @@ from_some bang slash s t (b ∷ c) at found none =
 
 no_brace_there : (bang slash : Bool) (s t rest : List ℕ) → slashed slash t ≡ skip 47 s → grace_at bang s ≡ None → (walk (grace_part_at bang) t).1 ≡ 125 ∷ rest → ⊥
 no_brace_there bang slash s t rest at none stop =
-    let found = closed_within bang (length t) t rest (omega arith) stop in
+    let found = closed_within bang t rest stop in
     from_some bang slash s t found.0 at found.1 none
-
-closed_somewhere : (s w r : List ℕ) → two w r ≡ span_all is_in_grace s → (length r ≡ 0 → ⊥) → list_all is_in_grace s ≡ false
-closed_somewhere s w r cut some = by_all (list_all is_in_grace s) refl
-  where
-    by_all : (b : Bool) → list_all is_in_grace s ≡ b → b ≡ false
-    by_all false e = refl
-    by_all true e =
-        let nothing : span_all is_in_grace s ≡ (s, []) = all_span is_in_grace s e in
-        absurd (some (ap (λ (p : List ℕ × List ℕ). length p.1) (cut ∙ nothing)))
 
 pub grace-flawed : (bang slash : Bool) (s t w r : List ℕ) (flaw : Flaw) → slashed slash t ≡ skip 47 s → two w r ≡ span_all is_in_grace s → (length r ≡ 0 → ⊥) → grace_at bang s ≡ None →
     is_done (walk (grace_part_at bang) t) ≡ false → GraceFlawed bang None t flaw → GraceFault bang s flaw
@@ -948,7 +888,7 @@ grace-flawed bang slash s t w r flaw at cut some none stuck flawed = by_stop (wa
 
     by_stop : (x : List ℕ) → (walk (grace_part_at bang) t).1 ≡ x → GraceFault bang s flaw
     by_stop [] e = absurd (let clash = sym stuck ∙ ap (λ (y : List ℕ). eqb (length y) 0) e in cc)
-    by_stop (b ∷ x) e = grace_flawed s slash t (walk (grace_part_at bang) t).0 b x flaw (closed_somewhere s w r cut some) (has_slash slash s t at) (subst (λ y. GraceLeads bang t (walk (grace_part_at bang) t).0 y) e (grace_leads bang t)) (by_byte b x e (eqb b 125) refl) flawed
+    by_stop (b ∷ x) e = grace_flawed s slash t (walk (grace_part_at bang) t).0 b x flaw (some_left is_in_grace s w r cut some) (has_slash slash s t at) (subst (λ y. GraceLeads bang t (walk (grace_part_at bang) t).0 y) e (grace_leads bang t)) (by_byte b x e (eqb b 125) refl) flawed
 
 -- ---- the text of a chord that is a part
 

@@ -1,12 +1,11 @@
 -- The inside of a chord as loops read it.
 use Rattle.std.proofs.Common.{◌≡◌, ℕ, zero, suc, ◌+◌, ◌≤◌, ◌<◌, Bool, true, false, List, [], ◌∷◌, ◌++◌, length, Option, Some, None, refl, sym, ap, ◌∙◌, subst, arith, inl, inr, append_assoc, append-nil, ◌||◌, option_map, MatchBool, length-append}
-use Rattle.std.proofs.{lemmas.Bool.cond_both, lemmas.Bool.ne_eqb, Math.Bool.or-false, Math.Bool.or_assoc}
-use Rattle.mus_units.specs.declared.{note.Head.Head, note.Deco.Deco, pitch.Alter.Alter, pitch.Alter.TheVariants.Sharp2}
-use Rattle.abc_notes.specs.Items.{Inner, note_inside, named_inside, tie_inside, inner_then, StandsInside, Sense, says_note, says_letter, says_name, says_tie, says_nothing, sense, is_note, has_length, IsBadByte, InnerFlawed, inner_at, sensed, inner_flaw}
+use Rattle.std.proofs.{lemmas.Option.same_Some, lemmas.Bool.cond_both, lemmas.Bool.ne_eqb, Math.Bool.or-false, Math.Bool.or_assoc}
+use Rattle.mus_units.specs.declared.{note.Head.Head, pitch.Alter.Alter, pitch.Alter.TheVariants.Sharp2}
+use Rattle.abc_notes.specs.Items.{Inner, note_inside, named_inside, tie_inside, inner_then, StandsInside, Sense, says_note, says_tie, sense, is_note, has_length, IsBadByte, InnerFlawed, inner_at, sensed, inner_flaw}
 use Rattle.abc_notes.specs.{Graces.heads_in, Graces.plain_head, declared.part.Flaw.Flaw, declared.part.Len.Len, Runs.copies, Runs.maybe, Lengths.LengthForm, Lengths.whole, Lengths.over, Lengths.halved, Lengths.length_then, Notes.NoteForm, Notes.note_then, Notes.sign_then, Notes.letter_byte}
-use Rattle.abc_notes.specs.{Parts.stuck_here, Parts.stuck_later, Parts.IsFlaw, Parts.walk, Parts.is_done, Parts.goes_on_length, Parts.length_at_place, Chords.has_head, Chords.is_tied, Chords.tied_if, Chords.heads_of, Chords.deco_of, Chords.decos_of, Chords.senses, Chords.last_head}
-use Rattle.abc_notes.{specs.Chords.given_head, specs.Chords.next_last, specs.Chords.heads_after, specs.Chords.at_most, proofs.ItemLaws.inner_at-takes, proofs.ItemLaws.inner_at-reaches, proofs.PartLaws.Reader, proofs.PartLaws.less, proofs.PartLaws.longest_of, proofs.PartLaws.none_of}
-use Rattle.abc_notes.proofs.PartLaws.{walk-none, walk-some}
+use Rattle.abc_notes.specs.{Parts.stuck_here, Parts.stuck_later, Parts.IsFlaw, Parts.walk, Parts.is_done, Parts.goes_on_length, Parts.length_at_place, Chords.has_head, Chords.is_tied, Chords.tied_if, Chords.heads_of, Chords.senses, Chords.last_head, Chords.given_head, Chords.next_last}
+use Rattle.abc_notes.{specs.Chords.heads_after, specs.Chords.at_most, proofs.ItemLaws.inner_at-takes, proofs.ItemLaws.inner_at-reaches, proofs.PartLaws.Reader, proofs.PartLaws.less, proofs.PartLaws.longest_of, proofs.PartLaws.none_of, proofs.PartLaws.walk-none, proofs.PartLaws.walk-some}
 use Rattle.abc_lines.specs.declared.fault.FaultKind.TheVariants.{BadByte, BadLength}
 
 -- ---- a part has a byte
@@ -39,18 +38,15 @@ inner-longer (named_inside name) x = omega (arith, length-append name (33 ∷ x)
 inner-longer (tie_inside d) x = omega (arith, length-maybe d 46 (45 ∷ x))
 inner-longer _ x = omega arith
 
-abbrev some_inner : Inner → List ℕ → Inner × List ℕ
-some_inner f x = (f, x)
-
-inner_same : (f g : Inner) (x y : List ℕ) → Some (some_inner f x) ≡ Some (some_inner g y) → some_inner f x ≡ some_inner g y
-inner_same f g x y e = cc
+abbrev pub inner_pair : Inner → List ℕ → Inner × List ℕ
+inner_pair f x = (f, x)
 
 pub inner_reader : (bang : Bool) → Reader Inner (StandsInside bang) (inner_at bang)
 inner_reader bang = record {
   takes = inner_at-takes bang;
   reaches = λ f s x stands.
       let o = inner_at-reaches bang f x stands.good in
-      ((o.part, o.rest), ap (inner_at bang) stands.cut ∙ o.is, elim o.ends [ inl shorter ↦ inl shorter | inr same ↦ inr (inner_same o.part f o.rest x same) ]);
+      ((o.part, o.rest), ap (inner_at bang) stands.cut ∙ o.is, elim o.ends [ inl shorter ↦ inl shorter | inr same ↦ inr (same_Some (inner_pair o.part o.rest) (inner_pair f x) same) ]);
   longer = λ f s x stands. rw stands.cut (inner-longer f x);
 }
 
@@ -58,14 +54,14 @@ inner_reader bang = record {
 
 pub record FoundInner (bang : Bool) (s : List ℕ) (item : Sense) (behind : List ℕ) : Type 0 where
   pub part : Inner
-  pub at : inner_at bang s ≡ Some (some_inner part behind)
+  pub at : inner_at bang s ≡ Some (inner_pair part behind)
   pub says : item ≡ sense part
 
 from_read : (bang : Bool) (s : List ℕ) (item : Sense) (behind : List ℕ) (r : Option (Inner × List ℕ)) → inner_at bang s ≡ r → Some (sensed item behind) ≡ option_map (λ z. sensed (sense z.0) z.1) r → FoundInner bang s item behind
 from_read bang s item behind None e h = absurd cc
 from_read bang s item behind (Some z) e h =
     let same : sensed item behind ≡ sensed (sense z.0) z.1 = cc in
-    record { part = z.0; at = e ∙ ap (λ x. Some (some_inner z.0 x)) (sym (ap (λ p. p.1) same)); says = ap (λ p. p.0) same }
+    record { part = z.0; at = e ∙ ap (λ x. Some (inner_pair z.0 x)) (sym (ap (λ p. p.1) same)); says = ap (λ p. p.0) same }
 
 pub found_inner : (bang : Bool) (s : List ℕ) (item : Sense) (behind : List ℕ) → Some (sensed item behind) ≡ option_map (λ z. sensed (sense z.0) z.1) (inner_at bang s) → FoundInner bang s item behind
 found_inner bang s item behind h = from_read bang s item behind (inner_at bang s) refl h
@@ -157,11 +153,9 @@ heads-behind head len true [] = refl
 heads-behind head len false [] = refl
 heads-behind head len true (says_note other l ∷ more) = ap (λ hs. (tied_if true head, len) ∷ hs) (heads-behind other l false more)
 heads-behind head len false (says_note other l ∷ more) = ap (λ hs. (tied_if false head, len) ∷ hs) (heads-behind other l false more)
-heads-behind head len t (says_letter byte ∷ more) = heads-behind head len t more
-heads-behind head len t (says_name name ∷ more) = heads-behind head len t more
 heads-behind head len true (says_tie ∷ more) = heads-behind head len true more
 heads-behind head len false (says_tie ∷ more) = heads-behind head len true more
-heads-behind head len t (says_nothing ∷ more) = heads-behind head len t more
+heads-behind head len t (_ ∷ more) = heads-behind head len t more
 
 pub heads-are : (more : List Sense) → heads_after None more ≡ heads_of more
 heads-are [] = refl
@@ -178,22 +172,16 @@ pub heads-end : (bang : Bool) (out new total : List (Head × Len)) (last : Optio
 heads-end bang out new total last s none push so_far =
     push ∙ ap (λ ss. out ++ heads_after last ss) (sym (senses-none bang s none)) ∙ so_far
 
-pub decos-next : (bang : Bool) (out new total : List Deco) (s behind : List ℕ) (item : Sense) → FoundInner bang s item behind → new ≡ out ++ deco_of item → out ++ decos_of (senses bang s) ≡ total → new ++ decos_of (senses bang behind) ≡ total
-decos-next bang out new total s behind item f push so_far =
-    let here : decos_of (senses bang s) ≡ deco_of item ++ decos_of (senses bang behind) = rw (senses-some bang s item behind f) refl in
-    rw push (append_assoc out (deco_of item) _ ∙ ap (λ ds. out ++ ds) (sym here) ∙ so_far)
+-- parts that each give what they say of
+pub said-next : {X : Type 0} (gives : List Sense → List X) (one : Sense → List X) → ((item : Sense) (more : List Sense) → gives (item ∷ more) ≡ one item ++ gives more) → (bang : Bool) (out new total : List X) (s behind : List ℕ) (item : Sense) →
+    FoundInner bang s item behind → new ≡ out ++ one item → out ++ gives (senses bang s) ≡ total → new ++ gives (senses bang behind) ≡ total
+said-next gives one cons bang out new total s behind item f push so_far =
+    let here = ap gives (senses-some bang s item behind f) ∙ cons item (senses bang behind) in
+    rw push (append_assoc out (one item) _ ∙ ap (λ xs. out ++ xs) (sym here) ∙ so_far)
 
-pub decos-end : (bang : Bool) (out total : List Deco) (s : List ℕ) → inner_at bang s ≡ None → out ++ decos_of (senses bang s) ≡ total → out ≡ total
-decos-end bang out total s none so_far = sym (append-nil out) ∙ ap (λ ss. out ++ decos_of ss) (sym (senses-none bang s none)) ∙ so_far
+pub said-end : {X : Type 0} (gives : List Sense → List X) → gives [] ≡ [] → (bang : Bool) (out total : List X) (s : List ℕ) → inner_at bang s ≡ None → out ++ gives (senses bang s) ≡ total → out ≡ total
+said-end gives nothing bang out total s none so_far = sym (append-nil out) ∙ ap (λ xs. out ++ xs) (sym (ap gives (senses-none bang s none) ∙ nothing)) ∙ so_far
 
-heads_in-cons : (item : Sense) (more : List Sense) → heads_in (item ∷ more) ≡ plain_head item ++ heads_in more
+pub heads_in-cons : (item : Sense) (more : List Sense) → heads_in (item ∷ more) ≡ plain_head item ++ heads_in more
 heads_in-cons (says_note head len) more = refl
 heads_in-cons _ more = refl
-
-pub plain-next : (bang : Bool) (out new total : List Head) (s behind : List ℕ) (item : Sense) → FoundInner bang s item behind → new ≡ out ++ plain_head item → out ++ heads_in (senses bang s) ≡ total → new ++ heads_in (senses bang behind) ≡ total
-plain-next bang out new total s behind item f push so_far =
-    let here : heads_in (senses bang s) ≡ plain_head item ++ heads_in (senses bang behind) = ap heads_in (senses-some bang s item behind f) ∙ heads_in-cons item (senses bang behind) in
-    rw push (append_assoc out (plain_head item) _ ∙ ap (λ ds. out ++ ds) (sym here) ∙ so_far)
-
-pub plain-end : (bang : Bool) (out total : List Head) (s : List ℕ) → inner_at bang s ≡ None → out ++ heads_in (senses bang s) ≡ total → out ≡ total
-plain-end bang out total s none so_far = sym (append-nil out) ∙ ap (λ ss. out ++ heads_in ss) (sym (senses-none bang s none)) ∙ so_far

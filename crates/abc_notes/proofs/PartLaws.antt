@@ -1,6 +1,7 @@
 -- A reader that gives what stands at the front, and gives as much as any part that stands there,
 -- reads the one list of longest parts.
 use Rattle.std.proofs.Common.{◌≡◌, ℕ, zero, suc, ◌≤◌, ◌<◌, List, [], ◌∷◌, length, Option, Some, None, refl, sym, ap, ◌∙◌, subst, arith, inl, inr, ◌⊎◌, IfSome}
+use Rattle.std.proofs.lemmas.Option.{same_Some}
 use Rattle.abc_notes.specs.Parts.{IsLongest, HasNone, Parts, no_part, then_part, walk_on, walk_from, walk}
 
 pub record Reader (I : Type 0) (Stands : I → List ℕ → List ℕ → Type 0) (at : List ℕ → Option (I × List ℕ)) : Type 0 where
@@ -9,9 +10,6 @@ pub record Reader (I : Type 0) (Stands : I → List ℕ → List ℕ → Type 0)
   pub longer : (f : I) (s x : List ℕ) → Stands f s x → length x < length s
 
 module _ {I : Type 0} {Stands : I → List ℕ → List ℕ → Type 0} {at : List ℕ → Option (I × List ℕ)} (r : Reader I Stands at) where
-  some_is : (p q : I × List ℕ) → Some p ≡ Some q → p ≡ q
-  some_is p q e = cc
-
   pub stands_at : (s : List ℕ) (z : I × List ℕ) → at s ≡ Some z → Stands z.0 s z.1
   stands_at s z e = subst (λ (o : Option (I × List ℕ)). IfSome o (λ y. Stands y.0 s y.1)) e (r.takes s)
 
@@ -23,7 +21,7 @@ module _ {I : Type 0} {Stands : I → List ℕ → List ℕ → Type 0} {at : Li
     stands = stands_at s z e;
     longest = λ other behind stands.
         let o = r.reaches other s behind stands in
-        let same : z ≡ o.0 = some_is z o.0 (sym e ∙ o.1) in
+        let same : z ≡ o.0 = same_Some z o.0 (sym e ∙ o.1) in
         elim o.2 [ inl shorter ↦ rw same (omega (arith, shorter)) | inr equal ↦ rw (same, equal) (omega arith) ];
   }
 
@@ -73,21 +71,35 @@ module _ {I : Type 0} {Stands : I → List ℕ → List ℕ → Type 0} {at : Li
   walk-some [] z e = absurd (omega (arith, less [] z e))
   walk-some (x ∷ s) z e = rw (e, same_fuel (length s) (length z.1) z.1 (omega (arith, less (x ∷ s) z e)) (omega arith)) refl
 
-  read_parts : (n : ℕ) (s : List ℕ) (o : Option (I × List ℕ)) → at s ≡ o → length s ≤ n → ((t : List ℕ) → length t < length s → length (walk at t).1 ≡ 0 → Parts I Stands t (walk at t).0) →
-      length (walk at s).1 ≡ 0 → Parts I Stands s (walk at s).0
-  read_parts n [] None e h next done = rw (walk-none [] e) no_part
-  read_parts n (x ∷ s) None e h next done = absurd (let left = ap (λ (w : List I × List ℕ). length w.1) (walk-none (x ∷ s) e) in omega (arith, left, done))
-  read_parts n s (Some z) e h next done =
-      let step = walk-some s z e in
-      let others : length (walk at z.1).1 ≡ 0 = sym (ap (λ (w : List I × List ℕ). length w.1) step) ∙ done in
-      rw step (then_part s z.0 z.1 (walk at z.1).0 (longest_of s z e) (next z.1 (less s z e) others))
+  -- what holds where no part stands, and in front of a part where it holds behind it, holds of each text
+  pub by_parts : (P : List ℕ → Type 0) → ((s : List ℕ) → at s ≡ None → P s) → ((s : List ℕ) (z : I × List ℕ) → at s ≡ Some z → P z.1 → P s) → (s : List ℕ) → P s
+  by_parts P none some s = within (length s) s (omega arith)
+    where
+      read_on : (t : List ℕ) (o : Option (I × List ℕ)) → at t ≡ o → ((z : I × List ℕ) → length z.1 < length t → P z.1) → P t
+      read_on t None e next = none t e
+      read_on t (Some z) e next = some t z e (next z (less t z e))
 
-  parts_within : (n : ℕ) (s : List ℕ) → length s ≤ n → length (walk at s).1 ≡ 0 → Parts I Stands s (walk at s).0
-  parts_within zero s h done = read_parts 0 s (at s) refl h (λ t lt d. absurd (omega (arith, lt, h))) done
-  parts_within (suc n) s h done = read_parts (suc n) s (at s) refl h (λ t lt d. parts_within n t (omega (arith, lt, h)) d) done
+      within : (n : ℕ) (t : List ℕ) → length t ≤ n → P t
+      within zero t h = read_on t (at t) refl (λ z lt. absurd (omega (arith, lt, h)))
+      within (suc n) t h = read_on t (at t) refl (λ z lt. within n z.1 (omega (arith, lt, h)))
+
+  -- no part stands where reading the parts stops
+  pub stops_at : (s : List ℕ) → at (walk at s).1 ≡ None
+  stops_at = by_parts (λ s. at (walk at s).1 ≡ None)
+    (λ s e. ap (λ (w : List I × List ℕ). at w.1) (walk-none s e) ∙ e)
+    (λ s z e next. ap (λ (w : List I × List ℕ). at w.1) (walk-some s z e) ∙ next)
 
   pub parts_of_walk : (s : List ℕ) → length (walk at s).1 ≡ 0 → Parts I Stands s (walk at s).0
-  parts_of_walk s done = parts_within (length s) s (omega arith) done
+  parts_of_walk = by_parts (λ s. length (walk at s).1 ≡ 0 → Parts I Stands s (walk at s).0) nothing goes_on
+    where
+      nothing : (s : List ℕ) → at s ≡ None → length (walk at s).1 ≡ 0 → Parts I Stands s (walk at s).0
+      nothing [] e done = rw (walk-none [] e) no_part
+      nothing (x ∷ s) e done = absurd (let left = ap (λ (w : List I × List ℕ). length w.1) (walk-none (x ∷ s) e) in omega (arith, left, done))
+
+      goes_on : (s : List ℕ) (z : I × List ℕ) → at s ≡ Some z → (length (walk at z.1).1 ≡ 0 → Parts I Stands z.1 (walk at z.1).0) → length (walk at s).1 ≡ 0 → Parts I Stands s (walk at s).0
+      goes_on s z e next done =
+          let step = walk-some s z e in
+          rw step (then_part s z.0 z.1 (walk at z.1).0 (longest_of s z e) (next (sym (ap (λ (w : List I × List ℕ). length w.1) step) ∙ done)))
 
   pub walk_of_parts : (s : List ℕ) (is : List I) → Parts I Stands s is → walk at s ≡ (is, [])
   walk_of_parts _ _ no_part = walk-none [] at_nil

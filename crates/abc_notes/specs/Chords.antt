@@ -5,7 +5,7 @@ use Rattle.std.specs.Prelude.{◌≡◌, ◌≤◌, ◌-◌, ℕ, suc, List, [],
 use Rattle.std.specs.List.{list_all}
 use Rattle.mus_units.specs.{declared.note.Head.Head, declared.note.Deco.Deco}
 use Rattle.abc_lines.specs.declared.fault.FaultKind.TheVariants.{BadByte, Unclosed}
-use Rattle.abc_notes.specs.Items.{Inner, Sense, says_note, says_letter, says_name, says_tie, says_nothing, sense, inner_then, has_length, StandsInside, InnerParts, InnerFlawed, name_at, inner_at}
+use Rattle.abc_notes.specs.Items.{Inner, Sense, says_note, says_letter, says_name, says_tie, sense, inner_then, has_length, StandsInside, InnerParts, InnerFlawed, name_at, inner_at}
 use Rattle.abc_notes.specs.{declared.part.Flaw.Flaw, declared.part.Len.Len, Runs.span_all, Lengths.LengthForm, Lengths.length_then, Lengths.IsLength, Lengths.length_at, Decorations.deco_of_letter, Decorations.deco_of_name, Parts.HasNone, Parts.Leads, Parts.walk, Parts.is_done, Parts.spelled_then}
 use Rattle.abc_notes.specs.Parts.{later_or}
 
@@ -37,10 +37,8 @@ pub record IsChord (bang : Bool) (f : ChordForm) : Type 0 where
 abbrev pub is_tied : List Sense → Bool
 is_tied [] = false
 is_tied (says_note head len ∷ more) = false
-is_tied (says_letter byte ∷ more) = is_tied more
-is_tied (says_name name ∷ more) = is_tied more
 is_tied (says_tie ∷ more) = true
-is_tied (says_nothing ∷ more) = is_tied more
+is_tied (_ ∷ more) = is_tied more
 
 abbrev pub tied_if : Bool → Head → Head
 tied_if tied head = record { pitch = head.pitch; sign = head.sign; tied = tied }
@@ -48,17 +46,12 @@ tied_if tied head = record { pitch = head.pitch; sign = head.sign; tied = tied }
 abbrev pub heads_of : List Sense → List (Head × Len)
 heads_of [] = []
 heads_of (says_note head len ∷ more) = (tied_if (is_tied more) head, len) ∷ heads_of more
-heads_of (says_letter byte ∷ more) = heads_of more
-heads_of (says_name name ∷ more) = heads_of more
-heads_of (says_tie ∷ more) = heads_of more
-heads_of (says_nothing ∷ more) = heads_of more
+heads_of (_ ∷ more) = heads_of more
 
 abbrev pub deco_of : Sense → List Deco
-deco_of (says_note head len) = []
 deco_of (says_letter byte) = deco_of_letter byte ∷ []
 deco_of (says_name name) = deco_of_name name ∷ []
-deco_of says_tie = []
-deco_of says_nothing = []
+deco_of _ = []
 
 abbrev pub decos_of : List Sense → List Deco
 decos_of [] = []
@@ -135,17 +128,12 @@ tie_last (Some head) = Some (tied_if true head.0, head.1)
 -- a part gives the head before it, which no tie can reach any more, and may be a head itself
 abbrev pub given_head : Option (Head × Len) → Sense → List (Head × Len)
 given_head last (says_note head len) = last_head last
-given_head last (says_letter byte) = []
-given_head last (says_name name) = []
-given_head last says_tie = []
-given_head last says_nothing = []
+given_head last _ = []
 
 abbrev pub next_last : Option (Head × Len) → Sense → Option (Head × Len)
 next_last last (says_note head len) = Some (tied_if false head, len)
-next_last last (says_letter byte) = last
-next_last last (says_name name) = last
 next_last last says_tie = tie_last last
-next_last last says_nothing = last
+next_last last _ = last
 
 abbrev pub heads_after : Option (Head × Len) → List Sense → List (Head × Len)
 heads_after last [] = last_head last

@@ -5,7 +5,7 @@ use Rattle.std.specs.Prelude.{◌≡◌, ◌≤◌, ◌<◌, ◌-◌, ℕ, zero,
 use Rattle.std.specs.List.{list_all}
 use Rattle.mus_units.specs.declared.note.Head.{Head}
 use Rattle.abc_lines.specs.declared.fault.FaultKind.TheVariants.{Unclosed}
-use Rattle.abc_notes.specs.Items.{Inner, Sense, says_note, says_letter, says_name, says_tie, says_nothing, sense, inner_then, IsInner, has_length, name_at, inner_at, IsBadByte, sense_of, is_note}
+use Rattle.abc_notes.specs.Items.{Inner, Sense, says_note, sense, inner_then, IsInner, has_length, name_at, inner_at, IsBadByte, sense_of, is_note}
 use Rattle.abc_notes.specs.{declared.part.Flaw.Flaw, declared.part.GraceChord.GraceChord, declared.part.GraceItem.GraceItem, Runs.maybe, Runs.skip, Runs.span_all, Runs.begins, Chords.ChordForm, Chords.chord_then, Chords.IsChord, Chords.ChordFault, Chords.chord_at, Chords.senses, Lengths.length_at}
 use Rattle.abc_notes.specs.Parts.{Parts, Leads, Flawed, IsFlaw, goes_on_length, walk, is_done}
 
@@ -55,17 +55,11 @@ pub record IsGrace (bang : Bool) (f : GraceForm) : Type 0 where
 abbrev pub heads_in : List Sense → List Head
 heads_in [] = []
 heads_in (says_note head len ∷ more) = head ∷ heads_in more
-heads_in (says_letter byte ∷ more) = heads_in more
-heads_in (says_name name ∷ more) = heads_in more
-heads_in (says_tie ∷ more) = heads_in more
-heads_in (says_nothing ∷ more) = heads_in more
+heads_in (_ ∷ more) = heads_in more
 
 abbrev pub body_of_sense : Sense → List GraceChord
 body_of_sense (says_note head len) = record { heads = head ∷ [] } ∷ []
-body_of_sense (says_letter byte) = []
-body_of_sense (says_name name) = []
-body_of_sense says_tie = []
-body_of_sense says_nothing = []
+body_of_sense _ = []
 
 abbrev pub body_of_part : GracePart → List GraceChord
 body_of_part (single part) = body_of_sense (sense part)
@@ -220,10 +214,7 @@ body_inside bang inside = body_of (walk (grace_part_at bang) inside).0
 
 abbrev pub plain_head : Sense → List Head
 plain_head (says_note head len) = head ∷ []
-plain_head (says_letter byte) = []
-plain_head (says_name name) = []
-plain_head says_tie = []
-plain_head says_nothing = []
+plain_head _ = []
 
 abbrev pub grace_shown : Bool → List GraceChord → List ℕ → List ℕ → Bool × List GraceChord × List ℕ × List ℕ
 grace_shown slash body inside rest = (slash, body, inside, rest)

@@ -71,10 +71,7 @@ sense lone_inside = says_nothing
 
 abbrev pub is_note : Sense → Bool
 is_note (says_note head len) = true
-is_note (says_letter byte) = false
-is_note (says_name name) = false
-is_note says_tie = false
-is_note says_nothing = false
+is_note _ = false
 
 abbrev pub has_length : Inner → Bool
 has_length part = is_note (sense part)

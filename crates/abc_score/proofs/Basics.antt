@@ -1,6 +1,5 @@
 -- Facts of lists and tests that several proofs share.
-use Rattle.std.proofs.Common.{◌≡◌, refl, List, [], ◌∷◌, ◌++◌, Bool, true, false, ◌&&◌, ◌||◌}
-use Rattle.std.specs.List.{AllByRecursion}
+use Rattle.std.{proofs.Common.◌≡◌, proofs.Common.refl, proofs.Common.List, proofs.Common.[], proofs.Common.◌∷◌, proofs.Common.◌++◌, specs.List.AllByRecursion}
 
 -- an empty list has empty parts
 pub none_before : {X : Type 0} (xs ys : List X) → xs ++ ys ≡ [] → xs ≡ []
@@ -23,16 +22,3 @@ front_all P (x ∷ xs) ys h = (h.0, front_all P xs ys h.1)
 pub back_all : {X : Type 0} (P : X → Type 0) (xs ys : List X) → AllByRecursion P (xs ++ ys) → AllByRecursion P ys
 back_all P [] ys h = h
 back_all P (x ∷ xs) ys h = back_all P xs ys h.1
-
--- two tests
-pub both_hold : (a b : Bool) → (a && b) ≡ true → (a ≡ true) × (b ≡ true)
-both_hold true b e = (refl, e)
-both_hold false b e = absurd cc
-
-pub both_from : (a b : Bool) → a ≡ true → b ≡ true → (a && b) ≡ true
-both_from true b h e = e
-both_from false b h e = absurd cc
-
-pub neither : (a b : Bool) → (a || b) ≡ false → (a ≡ false) × (b ≡ false)
-neither true b e = absurd cc
-neither false b e = (refl, e)

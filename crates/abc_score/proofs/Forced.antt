@@ -1,10 +1,10 @@
 -- The bars that are forced among n measures rise, each behind the first measure and before the last bar.
 use Rattle.std.proofs.Common.{◌≡◌, refl, ℕ, ◌+◌, ◌≤◌, ◌<◌, List, [], ◌∷◌, ◌++◌, Bool, true, false, cond, reverse, arith}
-use Rattle.std.{proofs.lemmas.Bool.Decides.nat_tests, specs.Prelude.⊤, specs.Prelude.◌==◌, specs.Prelude.◌&&◌, specs.Prelude.nat_le, specs.Prelude.nat_lt, specs.List.list_any}
+use Rattle.std.{proofs.lemmas.Bool.Decides.nat_tests, specs.Prelude.⊤, specs.Prelude.◌==◌, specs.Prelude.◌&&◌, specs.Prelude.nat_le, specs.Prelude.nat_lt, specs.List.list_any, proofs.lemmas.Bool.and_parts, proofs.lemmas.Bool.or_parts}
 use Rattle.mus_score.specs.Walks.{RiseWithin}
 use Rattle.abc_steps.specs.{declared.step.Step.Step, declared.step.Stood.Stood, declared.counts.Counts.Counts, Looks.Steps, Counts.all_further, Counts.begins_group, Counts.counts_of, Counts.further, Counts.groups, Counts.measure_at, Counts.nearest_at}
 use Rattle.abc_events.specs.Bars.{forced_at, forced_bars, forced_behind, is_forced, is_near_bar, with_bar}
-use Rattle.abc_score.{specs.declared.voices.VoiceRead.VoiceRead, specs.Score.forced_of, proofs.Basics.both_hold, proofs.Basics.neither}
+use Rattle.abc_score.specs.{declared.voices.VoiceRead.VoiceRead, Score.forced_of}
 
 -- bars that rise from behind one, before n and not past another
 abbrev Rises : ℕ → ℕ → ℕ → List ℕ → Type 0
@@ -25,7 +25,7 @@ below_new b top bar new within less = grind (arith, nat_tests)
 with_last : (from n top bar : ℕ) (bs : List ℕ) → list_any (λ b. b == bar) bs ≡ false → from < bar → bar < n → top ≤ bar → Rises from n top bs → Rises from n bar (bs ++ bar ∷ [])
 with_last from n top bar [] new above below less rise = (above, below, omega arith, tt)
 with_last from n top bar (b ∷ bs) new above below less (behind, before, within, rise) =
-    let parts = neither (b == bar) (list_any (λ x. x == bar) bs) new in
+    let parts = or_parts (b == bar) (list_any (λ x. x == bar) bs) new in
     (behind, before, omega (arith, within, less), with_last b n top bar bs parts.1 (below_new b top bar parts.0 within less) below less rise)
 
 with_bar_rises : (n top bar : ℕ) (bs : List ℕ) → 1 ≤ bar → bar < n → top ≤ bar → Rises 0 n top bs → Rises 0 n bar (with_bar bar bs)
@@ -36,7 +36,7 @@ with_bar_rises n top bar bs some below less rise = by_test (list_any (λ b. b ==
 
 inside : (bar n : ℕ) → (nat_le 1 bar && nat_lt bar n) ≡ true → (1 ≤ bar) × (bar < n)
 inside bar n e =
-    let parts = both_hold (nat_le 1 bar) (nat_lt bar n) e in
+    let parts = and_parts (nat_le 1 bar) (nat_lt bar n) e in
     let low : nat_le 1 bar ≡ true = parts.0 in
     let high : nat_lt bar n ≡ true = parts.1 in
     (grind (arith, nat_tests, low), grind (arith, nat_tests, high))
@@ -47,7 +47,7 @@ step_rises n counts Step.Break bs rise = by_test (is_forced n counts) refl where
   by_test : (t : Bool) → is_forced n counts ≡ t → Rises 0 n (counts.groups + counts.further) (cond t (with_bar (counts.groups + counts.further) bs) bs)
   by_test true e =
       let bar = counts.groups + counts.further in
-      let parts = both_hold (is_near_bar counts.nearest) (nat_le 1 bar && nat_lt bar n) e in
+      let parts = and_parts (is_near_bar counts.nearest) (nat_le 1 bar && nat_lt bar n) e in
       let held = inside bar n parts.1 in
       with_bar_rises n bar bar bs held.0 held.1 (omega arith) rise
   by_test false e = rise

@@ -1,6 +1,6 @@
 -- The frame of a score that is put together from voices without faults.
-use Rattle.std.proofs.Common.{◌≡◌, ◌≢◌, ◌∙◌, refl, sym, ℕ, suc, ◌≤◌, List, [], ◌∷◌, length, map, Bool, None, arith}
-use Rattle.std.{proofs.lemmas.List.length-map, proofs.lemmas.List.Elements.All-nil, proofs.lemmas.List.Elements.All-cons, proofs.lemmas.List.FromFn.length-map-range_with_len, specs.List.All, specs.List.AllByRecursion}
+use Rattle.std.proofs.Common.{◌≡◌, ◌≢◌, ◌∙◌, refl, sym, ℕ, ◌≤◌, List, [], ◌∷◌, length, map, Bool, None, arith}
+use Rattle.std.{proofs.lemmas.List.length-map, proofs.lemmas.List.Elements.All-map, proofs.lemmas.List.FromFn.length-map-range_with_len, specs.List.All, specs.List.AllByRecursion}
 use Rattle.mus_score.{specs.declared.score.Voice.Voice, specs.GoodScore.IsLed, specs.Walks.Distinct, proofs.Scores.all_within_bars, proofs.Scores.distinct_pairs, proofs.Scores.rising_bars}
 use Rattle.abc_header.specs.{declared.header.Header.Header, Headers.HasGoodValues}
 use Rattle.abc_steps.specs.declared.step.Item.{Item}
@@ -19,7 +19,7 @@ length_written unnamed items n v =
     let bars = bars_of v.steps n in
     length-map-range_with_len (measure_of leaves bars) 0 (length bars) ∙ length-map-range_with_len (bar_of v.steps) 0 n
 
-length_voice : (header : Header) (items : List Item) (n : ℕ) (v : VoiceRead) → length (voice_of header items n v).measures ≡ n
+pub length_voice : (header : Header) (items : List Item) (n : ℕ) (v : VoiceRead) → length (voice_of header items n v).measures ≡ n
 unfolding voice_of
 length_voice header items n v = length_written (unnamed_of header) items n v
 
@@ -28,8 +28,7 @@ unfolding voice_of
 id_voice header items n v = refl
 
 lengths_agree : (header : Header) (items : List Item) (n : ℕ) (voices : List VoiceRead) → All (λ (v : Voice). length v.measures ≡ n) (map (voice_of header items n) voices)
-lengths_agree header items n [] = All-nil (λ (v : Voice). length v.measures ≡ n)
-lengths_agree header items n (v ∷ voices) = All-cons (λ (v : Voice). length v.measures ≡ n) (voice_of header items n v) (map (voice_of header items n) voices) (length_voice header items n v) (lengths_agree header items n voices)
+lengths_agree header items n voices = All-map (λ (v : Voice). length v.measures ≡ n) (voice_of header items n) voices (λ k d less. length_voice header items n _)
 
 other_voices : (header : Header) (items : List Item) (n : ℕ) (v : VoiceRead) (voices : List VoiceRead) → IsOther v.start.id (read_ids voices) → AllByRecursion (λ (w : Voice). (voice_of header items n v).id ≢ w.id) (map (voice_of header items n) voices)
 other_voices header items n v [] others = tt
@@ -40,7 +39,7 @@ voices_apart : (header : Header) (items : List Item) (n : ℕ) (voices : List Vo
 voices_apart header items n [] apart = tt
 voices_apart header items n (v ∷ voices) apart = (other_voices header items n v voices apart.0, voices_apart header items n voices apart.1)
 
-voice_framed : (header : Header) (items : List Item) (n : ℕ) (v : VoiceRead) → HasGoodValues header → verse_fault v.start.id (unnamed_of header) items ≡ None → IsFramedVoice (voice_of header items n v)
+pub voice_framed : (header : Header) (items : List Item) (n : ℕ) (v : VoiceRead) → HasGoodValues header → verse_fault v.start.id (unnamed_of header) items ≡ None → IsFramedVoice (voice_of header items n v)
 unfolding voice_of
 voice_framed header items n v good clear = record {
   few_verses = few_verses (verses_of v.start.id (unnamed_of header) items) (row_count items) clear;
@@ -50,10 +49,7 @@ voice_framed header items n v good clear = record {
 }
 
 voices_framed : (header : Header) (items : List Item) (n : ℕ) (voices : List VoiceRead) → HasGoodValues header → All (λ v. verse_fault v.start.id (unnamed_of header) items ≡ None) voices → All IsFramedVoice (map (voice_of header items n) voices)
-voices_framed header items n [] good clear = All-nil IsFramedVoice
-voices_framed header items n (v ∷ voices) good clear =
-    All-cons IsFramedVoice (voice_of header items n v) (map (voice_of header items n) voices) (voice_framed header items n v good (clear 0 v (omega arith)))
-    (voices_framed header items n voices good (λ k d less. clear (suc k) d (omega arith)))
+voices_framed header items n voices good clear = All-map IsFramedVoice (voice_of header items n) voices (λ k d less. voice_framed header items n _ good (clear k d less))
 
 -- a voice as it is read has its staff for itself
 voices_led : (header : Header) (items : List Item) (n : ℕ) (voices : List VoiceRead) → IsLed (map (voice_of header items n) voices)

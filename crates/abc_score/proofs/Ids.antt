@@ -1,14 +1,14 @@
 -- The voices of a body: no two have one id, and at most 16 are mentioned.
-use Rattle.std.proofs.Common.{◌≡◌, ◌∙◌, refl, sym, ap, subst, ℕ, ◌+◌, ◌≤◌, List, [], ◌∷◌, ◌++◌, length, map, Bool, true, false, cond, None, suc, arith}
-use Rattle.std.{proofs.lemmas.Bool.Decides.nat_tests, proofs.lemmas.Bool.Decides.not_from_Decides, proofs.lemmas.List.Sums.sum_by-cons, proofs.lemmas.Slice.Eq.bytes_eq-Decides, specs.Prelude.◌≢◌, specs.Prelude.count_by, specs.Prelude.fold, specs.Prelude.nat_lt, specs.List.list_any}
-use Rattle.std.specs.Str.{bytes_eq}
+use Rattle.std.proofs.Common.{◌≡◌, ◌∙◌, refl, sym, ap, subst, ℕ, ◌+◌, ◌≤◌, List, [], ◌∷◌, ◌++◌, length, map, Bool, true, false, cond, None, arith}
+use Rattle.std.proofs.lemmas.{Bool.Decides.nat_tests, Bool.Decides.not_from_Decides, List.Sums.sum_by-cons, Slice.Eq.bytes_eq-Decides}
+use Rattle.std.{specs.Prelude.◌≢◌, specs.Prelude.count_by, specs.Prelude.fold, specs.Prelude.nat_lt, specs.List.list_any, specs.Str.bytes_eq, proofs.lemmas.Bool.or_parts, proofs.lemmas.List.length-map}
 use Rattle.abc_lines.specs.declared.book.Line.{Line}
 use Rattle.abc_header.specs.{declared.header.Header.Header, Headers.AreDistinct, Headers.HasGoodValues, Voicing.with_id}
 use Rattle.abc_fields.specs.declared.voice.VoiceDef.{VoiceDef}
 use Rattle.abc_steps.specs.declared.step.Item.{Item}
-use Rattle.abc_items.specs.{Voices.claims, Voices.declared_ids, Voices.ids_after, Voices.ids_by_step, Voices.ids_of, Voices.start_of, Voices.starts_of, declared.voices.VoiceStart.VoiceStart, Body.Given, Body.gives, Body.fails, Body.first_fault, Body.items_in, Body.judged, Body.voice_judged}
-use Rattle.abc_items.specs.Body.{IsBody}
-use Rattle.abc_score.{specs.declared.voices.VoiceRead.VoiceRead, specs.Voices.AreApart, specs.Voices.IsOther, specs.Voices.read_ids, specs.Voices.voice_read, proofs.Basics.neither}
+use Rattle.abc_items.specs.Voices.{claims, declared_ids, ids_after, ids_by_step, ids_of, start_of, starts_of}
+use Rattle.abc_items.specs.{declared.voices.VoiceStart.VoiceStart, Body.Given, Body.gives, Body.fails, Body.first_fault, Body.items_in, Body.judged, Body.voice_judged, Body.IsBody}
+use Rattle.abc_score.specs.{declared.voices.VoiceRead.VoiceRead, Voices.AreApart, Voices.IsOther, Voices.read_ids, Voices.voice_read}
 
 differ : (s t : List ℕ) → bytes_eq s t ≡ false → s ≢ t
 differ s t e = not_from_Decides (bytes_eq s t) (bytes_eq-Decides s t) e
@@ -20,7 +20,7 @@ other_last id last (other ∷ ids) new others = (others.0, other_last id last id
 apart_last : (id : List ℕ) (ids : List (List ℕ)) → list_any (bytes_eq id) ids ≡ false → AreApart ids → AreApart (ids ++ id ∷ [])
 apart_last id [] new apart = (tt, tt)
 apart_last id (other ∷ ids) new apart =
-    let parts = neither (bytes_eq id other) (list_any (bytes_eq id) ids) new in
+    let parts = or_parts (bytes_eq id other) (list_any (bytes_eq id) ids) new in
     (other_last other id ids (λ e. differ id other parts.0 (sym e)) apart.0, apart_last id ids parts.1 apart.1)
 
 with_apart : (ids : List (List ℕ)) (id : List ℕ) → AreApart ids → AreApart (with_id ids id)
@@ -67,9 +67,8 @@ step_apart (id ∷ ids) claimed apart = apart
 
 item_apart : (ids : List (List ℕ)) (i : Item) → AreApart ids → AreApart (ids_after ids i)
 item_apart ids (Item.Step s) apart = step_apart ids (claims s.step) apart
-item_apart ids (Item.LineEnd joined breaks line column) apart = apart
 item_apart ids (Item.Voice def line column) apart = with_apart ids def.id apart
-item_apart ids (Item.Words text line) apart = apart
+item_apart ids _ apart = apart
 
 items_apart : (ids : List (List ℕ)) (items : List Item) → AreApart ids → AreApart (fold ids_after ids items)
 items_apart ids [] apart = apart
@@ -96,28 +95,20 @@ few_given ids (gives (Item.Voice def line column) ∷ given) few clear = by_test
   by_test others true e clear = absurd cc
   by_test others false e clear = others (grind (arith, nat_tests, e)) clear
 
-length_declared : (defs : List VoiceDef) → length (map (λ (def : VoiceDef). def.id) defs) ≡ length defs
-length_declared [] = refl
-length_declared (def ∷ defs) = ap suc (length_declared defs)
-
 pub few_ids : (header : Header) (lines : List Line) (items : List Item) → HasGoodValues header → IsBody header lines items → length (ids_of header items) ≤ 16
 few_ids header lines items good body =
-    let declared = length_declared header.voices in
+    let declared = length-map header.voices (λ (def : VoiceDef). def.id) in
     let few = few_given (declared_ids header) body.given (omega (arith, declared, good.few)) body.clear in
     subst (λ (is : List Item). length (ids_of header is) ≤ 16) (sym body.are) few
 
 -- those of the voices that are read
-length_read : (header : Header) (items : List Item) (ids : List (List ℕ)) → length (map (voice_read header items) (map (start_of header items) ids)) ≡ length ids
-length_read header items [] = refl
-length_read header items (id ∷ ids) = ap suc (length_read header items ids)
-
 ids_read : (header : Header) (items : List Item) (ids : List (List ℕ)) → read_ids (map (voice_read header items) (map (start_of header items) ids)) ≡ ids
 ids_read header items [] = refl
 ids_read header items (id ∷ ids) = ap (λ others. id ∷ others) (ids_read header items ids)
 
 pub few_read : (header : Header) (items : List Item) (starts : List VoiceStart) (voices : List VoiceRead) → length (ids_of header items) ≤ 16 → starts ≡ starts_of header items → voices ≡ map (voice_read header items) starts → length voices ≤ 16
 few_read header items starts voices few begun read =
-    let long = ap (λ (vs : List VoiceRead). length vs) (read ∙ ap (map (voice_read header items)) begun) ∙ length_read header items (ids_of header items) in
+    let long = ap (λ (vs : List VoiceRead). length vs) (read ∙ ap (map (voice_read header items)) begun) ∙ length-map (starts_of header items) (voice_read header items) ∙ length-map (ids_of header items) (start_of header items) in
     omega (arith, long, few)
 
 pub apart_read : (header : Header) (items : List Item) (starts : List VoiceStart) (voices : List VoiceRead) → HasGoodValues header → starts ≡ starts_of header items → voices ≡ map (voice_read header items) starts → AreApart (read_ids voices)

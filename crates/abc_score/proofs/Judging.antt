@@ -1,52 +1,16 @@
 -- The nodes of a written event are good: of a note, a chord or a rest wherever it stands, and of a whole measure rest outside tuplets.
-use Rattle.std.proofs.Common.{◌≡◌, ◌∙◌, refl, sym, ap, subst, ℕ, zero, suc, ◌+◌, ◌*◌, ◌/◌, ◌≤◌, List, [], ◌∷◌, map, length, Bool, true, false, ◌&&◌, ◌||◌, ◌==◌, nat_le, None, unwrap_or, IsTrue, div-le_self, le_trans, mul-le-mul_right, lit≤, arith}
-use Rattle.std.{proofs.lemmas.Bool.Decides.nat_tests, proofs.lemmas.Nat.le-div, specs.List.AllByRecursion}
-use Rattle.mus_units.specs.{declared.note.Head.Head, declared.key.Meter.Meter, declared.value.Base.Base, declared.value.Value.Value, declared.value.TheConstants.WHOLE, Good.IsGoodMeter, Good.is_halving, Value.base_length, Value.with_dots, Value.value_length}
-use Rattle.mus_score.specs.{declared.score.Event.Event, declared.good.Judged.Judged, declared.good.Place.Place, Good.judged_within, Good.is_rest, Good.outside}
+use Rattle.std.proofs.Common.{◌≡◌, ◌∙◌, refl, ap, ℕ, suc, ◌+◌, ◌*◌, ◌≤◌, List, [], ◌∷◌, map, length, Bool, true, false, ◌&&◌, ◌||◌, ◌==◌, nat_le, None, unwrap_or, IsTrue, div-le_self, le_trans, mul-le-mul_right, lit≤, arith}
+use Rattle.std.{proofs.lemmas.Bool.Decides.nat_tests, proofs.lemmas.Nat.le-div, specs.List.AllByRecursion, proofs.lemmas.Bool.and_from}
+use Rattle.mus_units.specs.{declared.note.Head.Head, declared.key.Meter.Meter, declared.value.Value.Value, declared.value.TheConstants.WHOLE, Good.IsGoodMeter, Good.is_halving, Value.value_length}
+use Rattle.mus_score.{specs.declared.score.Event.Event, specs.declared.good.Judged.Judged, specs.declared.good.Place.Place, specs.Good.judged_within, specs.Good.is_rest, specs.Good.outside, proofs.Bounds.value_low, proofs.Bounds.value_high}
 use Rattle.abc_notes.specs.declared.part.GraceChord.{GraceChord}
 use Rattle.abc_tokens.specs.Good.{AreGoodGraces, HasGraceHead}
 use Rattle.abc_steps.specs.{declared.step.Stood.Stood, declared.tuplets.Taking.Taking, Force.meter_ticks}
-use Rattle.abc_steps.specs.declared.place.Place.{Place as Stand}
-use Rattle.abc_events.specs.{declared.written.Written.Written, declared.written.Waiting.Waiting, Leaves.Words, Leaves.eighth, Leaves.first_part, Leaves.later_part, Leaves.later_parts, Leaves.parts, Leaves.some_more, Leaves.node_of, Leaves.note_or_rest, Leaves.grace_event, Leaves.grace_note}
-use Rattle.abc_events.specs.{Leaves.grace_nodes, Leaves.nodes_of, Signs.rest_written, Signs.whole_value}
+use Rattle.abc_events.specs.declared.written.{Written.Written, Waiting.Waiting}
+use Rattle.abc_events.specs.{Leaves.Words, Leaves.eighth, Leaves.first_part, Leaves.later_part, Leaves.later_parts, Leaves.parts, Leaves.some_more, Leaves.node_of, Leaves.note_or_rest, Leaves.grace_event, Leaves.grace_note, Leaves.grace_nodes, Leaves.nodes_of, Signs.rest_written, Signs.whole_value}
 use Rattle.abc_faults.specs.Faults.{is_free}
-use Rattle.abc_score.proofs.{Rows.judged_note, Rows.judged_rest, Rows.judged_grace, Basics.both_from, Nested.IsGoodAt, Nested.HasSome, Nested.judged_at, Nested.place_of, Nested.good_append, Nested.some_behind}
-
--- ---- lengths of values
-
-base_low : (b : Base) → 1 ≤ base_length b
-base_low Base.Breve = lit≤ tt
-base_low Base.Whole = lit≤ tt
-base_low Base.Half = lit≤ tt
-base_low Base.Quarter = lit≤ tt
-base_low Base.Eighth = lit≤ tt
-base_low Base.N16 = lit≤ tt
-base_low Base.N32 = lit≤ tt
-base_low Base.N64 = lit≤ tt
-
-base_high : (b : Base) → base_length b ≤ 2 * WHOLE
-base_high Base.Breve = lit≤ tt
-base_high Base.Whole = lit≤ tt
-base_high Base.Half = lit≤ tt
-base_high Base.Quarter = lit≤ tt
-base_high Base.Eighth = lit≤ tt
-base_high Base.N16 = lit≤ tt
-base_high Base.N32 = lit≤ tt
-base_high Base.N64 = lit≤ tt
-
-dots_low : (dots n : ℕ) → n ≤ with_dots dots n
-dots_low zero n = omega arith
-dots_low (suc dots) n = omega arith
-
-dots_high : (dots n : ℕ) → with_dots dots n ≤ 2 * n
-dots_high zero n = omega arith
-dots_high (suc dots) n = omega (arith, dots_high dots (n / 2))
-
-value_some : (v : Value) → 1 ≤ value_length v
-value_some v = omega (arith, base_low v.base, dots_low v.dots (base_length v.base))
-
-value_high : (v : Value) → value_length v ≤ 99 * WHOLE
-value_high v = omega (arith, base_high v.base, dots_high v.dots (base_length v.base))
+use Rattle.abc_score.proofs.{Rows.judged_note, Rows.judged_rest, Rows.judged_grace, Nested.IsGoodAt, Nested.HasSome, Nested.judged_at, Nested.place_of, Nested.good_append, Nested.some_behind}
+use Rattle.abc_steps.specs.declared.place.Place.{Place as Stand}
 
 -- ---- events
 
@@ -71,11 +35,10 @@ is_inner_rest e none played = inner_test (length e.heads) e.value.dots e.ticks (
 
 rest_at : (t : Taking) (e : Event) → length e.heads ≡ 0 → IsPlayed e → (judged_within (note_or_rest [] e) (place_of t)).good ≡ true
 rest_at Taking.Nothing e none played =
-    let ticks : e.ticks ≡ value_length e.value = played.ticks in
-    let low = value_some e.value in
-    let high = value_high e.value in
+    let low = value_low e.value in
+    let high : value_length e.value ≤ 99 * WHOLE = value_high e.value in
     ap (λ (j : Place → Judged). (j (place_of Taking.Nothing)).good) (judged_rest e)
-    ∙ is_outer_rest e none played.dots (subst (λ n. 1 ≤ n) (sym ticks) low) (subst (λ n. n ≤ 99 * WHOLE) (sym ticks) high)
+    ∙ is_outer_rest e none played.dots (omega (arith, low, played.ticks)) (omega (arith, high, played.ticks))
 rest_at (Taking.One left) e none played = ap (λ (j : Place → Judged). (j (place_of (Taking.One left))).good) (judged_rest e) ∙ is_inner_rest e none played
 rest_at (Taking.Two inner outer) e none played = ap (λ (j : Place → Judged). (j (place_of (Taking.Two inner outer))).good) (judged_rest e) ∙ is_inner_rest e none played
 
@@ -93,7 +56,7 @@ node_some at (h ∷ hs) e = ap (λ (j : Place → Judged). (j at).some) (judged_
 all_at : (t : Taking) (es : List Event) → AllByRecursion IsPlayed es → IsGoodAt (place_of t) (map node_of es)
 all_at t [] played = refl
 all_at t (e ∷ es) played =
-    both_from (judged_within (node_of e) (place_of t)).good (judged_at (place_of t) (map node_of es)).good (node_at t e.heads e refl played.0) (all_at t es played.1)
+    and_from (judged_within (node_of e) (place_of t)).good (judged_at (place_of t) (map node_of es)).good (node_at t e.heads e refl played.0) (all_at t es played.1)
 
 some_at : (at : Place) (es : List Event) → 1 ≤ length es → HasSome at (map node_of es)
 some_at at [] some = absurd (omega arith)
@@ -113,16 +76,16 @@ chord_good at g has =
 
 chords_good : (at : Place) (gs : List GraceChord) → AreGoodGraces gs → IsGoodAt at (map grace_note gs)
 chords_good at [] good = refl
-chords_good at (g ∷ gs) good = both_from (judged_within (grace_note g) at).good (judged_at at (map grace_note gs)).good (chord_good at g good.0) (chords_good at gs good.1)
+chords_good at (g ∷ gs) good = and_from (judged_within (grace_note g) at).good (judged_at at (map grace_note gs)).good (chord_good at g good.0) (chords_good at gs good.1)
 
 group_at : (t : Taking) (gs : List GraceChord) (slash : Bool) → AreGoodGraces gs → IsGoodAt (place_of t) (grace_nodes gs slash)
 group_at t [] slash good = refl
 group_at Taking.Nothing (g ∷ gs) slash good =
-    both_from _ true (ap (λ (j : Place → Judged). (j (place_of Taking.Nothing)).good) (judged_grace (map grace_note (g ∷ gs)) slash) ∙ chords_good (record outside { grace = true }) (g ∷ gs) good) refl
+    and_from _ true (ap (λ (j : Place → Judged). (j (place_of Taking.Nothing)).good) (judged_grace (map grace_note (g ∷ gs)) slash) ∙ chords_good (record outside { grace = true }) (g ∷ gs) good) refl
 group_at (Taking.One left) (g ∷ gs) slash good =
-    both_from _ true (ap (λ (j : Place → Judged). (j (place_of (Taking.One left))).good) (judged_grace (map grace_note (g ∷ gs)) slash) ∙ chords_good (record { deeper = 1; inner = true; grace = true }) (g ∷ gs) good) refl
+    and_from _ true (ap (λ (j : Place → Judged). (j (place_of (Taking.One left))).good) (judged_grace (map grace_note (g ∷ gs)) slash) ∙ chords_good (record { deeper = 1; inner = true; grace = true }) (g ∷ gs) good) refl
 group_at (Taking.Two inner outer) (g ∷ gs) slash good =
-    both_from _ true (ap (λ (j : Place → Judged). (j (place_of (Taking.Two inner outer))).good) (judged_grace (map grace_note (g ∷ gs)) slash) ∙ chords_good (record { deeper = 0; inner = true; grace = true }) (g ∷ gs) good) refl
+    and_from _ true (ap (λ (j : Place → Judged). (j (place_of (Taking.Two inner outer))).good) (judged_grace (map grace_note (g ∷ gs)) slash) ∙ chords_good (record { deeper = 0; inner = true; grace = true }) (g ∷ gs) good) refl
 
 -- ---- a note, a chord or a rest
 
@@ -201,7 +164,7 @@ rest_good now at seen measure parted waiting words id held good graces =
     let w = rest_written now at seen measure parted in
     let first = first_part w waiting words id false whole_value in
     good_append outside (grace_nodes waiting.graces waiting.slash) (node_of first ∷ []) (group_at Taking.Nothing waiting.graces waiting.slash graces)
-    (both_from (judged_within (node_of first) outside).good true (whole_part now at seen measure parted waiting words id held good) refl)
+    (and_from (judged_within (node_of first) outside).good true (whole_part now at seen measure parted waiting words id held good) refl)
 
 pub rest_values : (now : Stand) (at : Stood) (seen : Bool) (measure : ℕ) (parted : Bool) → 1 ≤ length (rest_written now at seen measure parted).values
 unfolding rest_written

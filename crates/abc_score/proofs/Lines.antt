@@ -13,19 +13,13 @@ use Rattle.abc_score.specs.Order.{DoWordsRiseFrom, DoWordsRise}
 -- words that are given on a line
 abbrev AreAt : ℕ → List Given → Type 0
 AreAt line [] = ⊤
-AreAt line (fails fault ∷ given) = AreAt line given
 AreAt line (gives (Item.Words text at) ∷ given) = (at ≡ line) × AreAt line given
-AreAt line (gives (Item.Step s) ∷ given) = AreAt line given
-AreAt line (gives (Item.LineEnd joined breaks at column) ∷ given) = AreAt line given
-AreAt line (gives (Item.Voice def at column) ∷ given) = AreAt line given
+AreAt line (_ ∷ given) = AreAt line given
 
 both_at : (line : ℕ) (g h : List Given) → AreAt line g → AreAt line h → AreAt line (g ++ h)
 both_at line [] h are also = also
-both_at line (fails fault ∷ g) h are also = both_at line g h are also
 both_at line (gives (Item.Words text at) ∷ g) h are also = (are.0, both_at line g h are.1 also)
-both_at line (gives (Item.Step s) ∷ g) h are also = both_at line g h are also
-both_at line (gives (Item.LineEnd joined breaks at column) ∷ g) h are also = both_at line g h are also
-both_at line (gives (Item.Voice def at column) ∷ g) h are also = both_at line g h are also
+both_at line (_ ∷ g) h are also = both_at line g h are also
 
 field_at : (field : Field) (line column : ℕ) → AreAt line (field_item field line column)
 field_at (Field.Words text) line column = (refl, tt)
@@ -56,26 +50,20 @@ end_at breaks line (Some fault) = tt
 line_at : (breaks : Breaks) (line : Line) (kind : LineKind) (given : List Given) → KindGives breaks line kind given → AreAt line.number given
 line_at breaks line LineKind.Music given (tokens, fault, front, is) =
     subst (AreAt line.number) (sym is) (both_at line.number (flat_map (placed_given breaks line) tokens) (end_given breaks line fault) (tokens_at breaks line tokens) (end_at breaks line fault))
-line_at breaks line LineKind.Directive given is = subst (AreAt line.number) (sym is) (given_at (field_of line.text) line.number 1)
-line_at breaks line (LineKind.Field letter) given is = subst (AreAt line.number) (sym is) (given_at (field_of line.text) line.number 1)
+line_at breaks line _ given is = subst (AreAt line.number) (sym is) (given_at (field_of line.text) line.number 1)
 
 -- from a lower line on
 from_lower : (low high : ℕ) (items : List Item) → low ≤ high → DoWordsRiseFrom high items → DoWordsRiseFrom low items
 from_lower low high [] less rise = tt
 from_lower low high (Item.Words text line ∷ items) less rise = let first : high ≤ line = rise.0 in (omega arith, rise.1)
-from_lower low high (Item.Step s ∷ items) less rise = from_lower low high items less rise
-from_lower low high (Item.LineEnd joined breaks line column ∷ items) less rise = from_lower low high items less rise
-from_lower low high (Item.Voice def line column ∷ items) less rise = from_lower low high items less rise
+from_lower low high (_ ∷ items) less rise = from_lower low high items less rise
 
 with_line : (line low : ℕ) (g : List Given) (others : List Item) → low ≤ line → AreAt line g → DoWordsRiseFrom line others → DoWordsRiseFrom low (items_in g ++ others)
 with_line line low [] others less are rise = from_lower low line others less rise
-with_line line low (fails fault ∷ g) others less are rise = with_line line low g others less are rise
 with_line line low (gives (Item.Words text at) ∷ g) others less are rise =
     let same : at ≡ line = are.0 in
     (omega arith, with_line line at g others (omega arith) are.1 rise)
-with_line line low (gives (Item.Step s) ∷ g) others less are rise = with_line line low g others less are rise
-with_line line low (gives (Item.LineEnd joined breaks at column) ∷ g) others less are rise = with_line line low g others less are rise
-with_line line low (gives (Item.Voice def at column) ∷ g) others less are rise = with_line line low g others less are rise
+with_line line low (_ ∷ g) others less are rise = with_line line low g others less are rise
 
 items_both : (g h : List Given) → items_in (g ++ h) ≡ items_in g ++ items_in h
 items_both [] h = refl

@@ -1,10 +1,10 @@
 -- The tree of a measure is good where its tuplets are full and its events good.
 use Rattle.std.proofs.Common.{◌≡◌, ◌∙◌, refl, sym, ap, subst, ℕ, zero, suc, ◌-◌, ◌≤◌, List, [], ◌∷◌, ◌++◌, map, Bool, true, false, cond, ◌&&◌, ◌||◌, nat_le, arith}
-use Rattle.std.{proofs.lemmas.Bool.leb-true, proofs.lemmas.Bool.Decides.nat_tests, specs.Prelude.⊤}
+use Rattle.std.{proofs.lemmas.Bool.leb-true, proofs.lemmas.Bool.and_parts, proofs.lemmas.Bool.and_from, proofs.lemmas.Bool.or_right, proofs.lemmas.Bool.Decides.nat_tests, specs.Prelude.⊤}
 use Rattle.mus_score.specs.{declared.score.Music.Music, declared.good.Judged.Judged, declared.good.Place.Place, Good.all_judged, Good.judged_within, Good.outside}
 use Rattle.abc_steps.specs.{declared.tuplets.Taking.Taking, Tuplets.fits, Tuplets.one_less, Tuplets.after_event, Tuplets.opened}
 use Rattle.abc_events.specs.{declared.leaves.Leaf.Leaf, Nesting.Forest, Nesting.none_more, Nesting.one, Nesting.group, Nesting.cut, Nesting.nest, Nesting.music_of, Nesting.tree_of}
-use Rattle.abc_score.proofs.{Basics.both_hold, Basics.both_from, Rows.judged_tuplet}
+use Rattle.abc_score.proofs.Rows.{judged_tuplet}
 use Rattle.mus_score.specs.declared.score.Music.TheVariants as music
 
 -- ---- bodies at a place
@@ -22,15 +22,11 @@ or_left : (a b c : Bool) → (a || b) ≡ true → (b ≡ true → c ≡ true) �
 or_left true b c e more = refl
 or_left false b c e more = more e
 
-or_right : (a b : Bool) → b ≡ true → (a || b) ≡ true
-or_right true b e = refl
-or_right false b e = e
-
 pub good_append : (at : Place) (xs ys : List Music) → IsGoodAt at xs → IsGoodAt at ys → IsGoodAt at (xs ++ ys)
 good_append at [] ys a b = b
 good_append at (x ∷ xs) ys a b =
-    let parts = both_hold (judged_within x at).good (judged_at at xs).good a in
-    both_from (judged_within x at).good (judged_at at (xs ++ ys)).good parts.0 (good_append at xs ys parts.1 b)
+    let parts = and_parts (judged_within x at).good (judged_at at xs).good a in
+    and_from (judged_within x at).good (judged_at at (xs ++ ys)).good parts.0 (good_append at xs ys parts.1 b)
 
 pub some_append : (at : Place) (xs ys : List Music) → HasSome at xs → HasSome at (xs ++ ys)
 some_append at [] ys a = absurd cc
@@ -65,9 +61,9 @@ ratio_test p q n b ratio some good =
     let c : nat_le p 9 ≡ true = test p 9 ratio.p_high in
     let d : nat_le 1 q ≡ true = test 1 q ratio.q_low in
     let e : nat_le q 9 ≡ true = test q 9 ratio.q_high in
-    both_from (nat_le 2 p && nat_le p 9 && nat_le 1 q && nat_le q 9 && n) b
-    (both_from (nat_le 2 p && nat_le p 9 && nat_le 1 q && nat_le q 9) n
-    (both_from (nat_le 2 p && nat_le p 9 && nat_le 1 q) (nat_le q 9) (both_from (nat_le 2 p && nat_le p 9) (nat_le 1 q) (both_from (nat_le 2 p) (nat_le p 9) a c) d) e)
+    and_from (nat_le 2 p && nat_le p 9 && nat_le 1 q && nat_le q 9 && n) b
+    (and_from (nat_le 2 p && nat_le p 9 && nat_le 1 q && nat_le q 9) n
+    (and_from (nat_le 2 p && nat_le p 9 && nat_le 1 q) (nat_le q 9) (and_from (nat_le 2 p && nat_le p 9) (nat_le 1 q) (and_from (nat_le 2 p) (nat_le p 9) a c) d) e)
     some) good where
       test : (m n : ℕ) → m ≤ n → nat_le m n ≡ true
       test m n less = grind (arith, nat_tests)
@@ -206,7 +202,7 @@ opens_in_one (suc l) p q r f ratio fine =
     let others = music_of (cut (suc l - r) (cut r f).left).taken in
     record {
       open_one = omega arith;
-      taken = both_from (judged_within (music.Tuplet p q inner) within_one).good (judged_at within_one others).good (inner_tuplet p q inner ratio fine.some fine.taken) fine.others;
+      taken = and_from (judged_within (music.Tuplet p q inner) within_one).good (judged_at within_one others).good (inner_tuplet p q inner ratio fine.some fine.taken) fine.others;
       some = some_append within_one (music.Tuplet p q inner ∷ []) others (tuplet_some p q inner (inner_some p q inner fine.some));
       behind = fine.behind;
     } where
@@ -217,7 +213,7 @@ opens_fine : (t : Taking) (p q r : ℕ) (f : Forest) → fits r t ≡ true → I
 unfolding fits
 opens_fine Taking.Nothing p q r f fit ratio fine =
     let inner = music_of (cut r f).taken in
-    both_from (judged_within (music.Tuplet p q inner) outside).good (judged_at outside (music_of (cut r f).left)).good (outer_tuplet p q inner ratio fine.some fine.taken) fine.behind
+    and_from (judged_within (music.Tuplet p q inner) outside).good (judged_at outside (music_of (cut r f).left)).good (outer_tuplet p q inner ratio fine.some fine.taken) fine.behind
 opens_fine (Taking.One left) p q r f fit ratio fine =
     opens_in_one left p q r f ratio (subst (λ b. Fine (cond b (Taking.Two r left) (Taking.One left)) f) fit fine)
 opens_fine (Taking.Two inner outer) p q r f fit ratio fine = absurd cc

@@ -40,7 +40,7 @@ pub heads_reach : (clef : Clef) (f : Head → Head) → ((h : Head) → IsInReac
 heads_reach clef f keeps [] all = tt
 heads_reach clef f keeps (h ∷ hs) all = (keeps h all.0, heads_reach clef f keeps hs all.1)
 
-abbrev DoReach : Clef → List Head → Type 0
+abbrev pub DoReach : Clef → List Head → Type 0
 DoReach clef hs = AllByRecursion (IsInReach clef) hs
 
 later_reaches : (clef : Clef) (w : Written) (verses id : ℕ) (more : Bool) (v : Value) → DoReach clef w.heads → DoReach clef (later_part w verses id more v).heads

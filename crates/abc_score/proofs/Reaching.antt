@@ -1,15 +1,16 @@
 -- Heads and graces of a voice without faults are within reach, in the clef at their event.
-use Rattle.std.proofs.Common.{◌≡◌, ◌∙◌, refl, sym, ap, subst, ℕ, zero, suc, ◌+◌, ◌-◌, ℤ, pos, negsuc, ◌≤ℤ◌, int_lt, List, [], ◌∷◌, ◌++◌, Bool, true, false, cond, not, ◌||◌, reverse, Option, Some, None, is_some, unwrap_or, arith}
-use Rattle.std.{proofs.lemmas.Int.ints, proofs.lemmas.List.reverse-append, proofs.lemmas.List.Sums.take_while-cons, proofs.lemmas.List.Folds.list_any-append, specs.Prelude.flat_map, specs.List.AllByRecursion, specs.List.before_first, specs.List.list_any, specs.List.take_while}
+use Rattle.std.proofs.Common.{◌≡◌, ◌∙◌, refl, sym, ap, subst, ℕ, zero, suc, ◌+◌, ◌-◌, ℤ, pos, negsuc, ◌≤ℤ◌, int_lt, List, [], ◌∷◌, ◌++◌, Bool, true, false, cond, not, ◌||◌, Option, Some, None, is_some, unwrap_or, arith}
+use Rattle.std.{proofs.lemmas.Int.ints, proofs.lemmas.List.Sums.take_while-cons, specs.Prelude.flat_map, specs.List.AllByRecursion, specs.List.before_first, specs.List.list_any, specs.List.take_while, proofs.lemmas.Bool.or_parts}
 use Rattle.mus_units.specs.{declared.note.Head.Head, declared.note.Deco.Deco, declared.pitch.Clef.Clef, Pitch.height_of}
 use Rattle.mus_score.specs.GoodScore.{IsInReach}
 use Rattle.abc_lines.specs.declared.fault.FaultKind.{FaultKind}
 use Rattle.abc_notes.specs.declared.part.GraceChord.{GraceChord}
-use Rattle.abc_steps.specs.{declared.step.Sound.Sound, declared.step.Step.Step, declared.step.Stood.Stood, declared.force.InForce.InForce, declared.place.Place.Place, Force.changes_at, Force.force_at, Force.force_behind, Force.names_clef, Force.when, Kinds.is_event, Looks.Steps, Looks.is_tied}
-use Rattle.abc_steps.specs.{Looks.since_event, Places.place_at, Places.measure_of, Tuplets.fits, Tuplets.or_default, Tuplets.usual_q}
+use Rattle.abc_steps.specs.declared.{step.Sound.Sound, step.Step.Step, step.Stood.Stood, force.InForce.InForce, place.Place.Place}
+use Rattle.abc_steps.specs.{Force.changes_at, Force.force_at, Force.force_behind, Force.names_clef, Force.when, Kinds.is_event, Looks.Steps, Looks.is_tied, Looks.since_event, Places.place_at, Places.measure_of, Tuplets.fits, Tuplets.or_default, Tuplets.usual_q}
 use Rattle.abc_events.specs.{declared.written.Sign.Sign, Signs.further_rests, Signs.parted_at, Signs.rest_written, Signs.signs, Signs.signs_of, Signs.sound_written, Signs.tied_heads, Signs.tuplet_of, Signs.with_tie, Waits.graces_in, Waits.waiting_of}
+use Rattle.abc_events.proofs.BarRows.{any_reverse}
 use Rattle.abc_faults.specs.Faults.{any_grace_off, any_off, faults_in, faults_of, grace_faults, grace_faults_of, is_off, rest_faults, sound_faults}
-use Rattle.abc_score.proofs.{Parts.SignsReach, Parts.heads_reach, Basics.all_both, Basics.neither, Basics.none_before, Basics.none_behind, Clear.no_fault, Walks.sound_clear}
+use Rattle.abc_score.proofs.{Parts.SignsReach, Parts.heads_reach, Parts.DoReach, Basics.all_both, Basics.none_before, Basics.none_behind, Clear.no_fault, Walks.sound_clear}
 
 -- ---- heads and graces
 
@@ -22,18 +23,15 @@ not_high z h = grind (arith, ints)
 head_reach : (clef : Clef) (h : Head) → is_off clef h ≡ false → IsInReach clef h
 head_reach clef h e =
     let height = height_of h.pitch clef in
-    let parts = neither (int_lt height (negsuc 13)) (int_lt (pos 22) height) e in
+    let parts = or_parts (int_lt height (negsuc 13)) (int_lt (pos 22) height) e in
     (not_low height parts.0, not_high height parts.1)
-
-abbrev DoReach : Clef → List Head → Type 0
-DoReach clef hs = AllByRecursion (IsInReach clef) hs
 
 abbrev GracesReach : Clef → List GraceChord → Type 0
 GracesReach clef gs = AllByRecursion (λ (g : GraceChord). AllByRecursion (IsInReach clef) g.heads) gs
 
 all_reach : (clef : Clef) (hs : List Head) → any_off clef hs ≡ false → DoReach clef hs
 all_reach clef [] e = tt
-all_reach clef (h ∷ hs) e = let parts = neither (is_off clef h) (any_off clef hs) e in (head_reach clef h parts.0, all_reach clef hs parts.1)
+all_reach clef (h ∷ hs) e = let parts = or_parts (is_off clef h) (any_off clef hs) e in (head_reach clef h parts.0, all_reach clef hs parts.1)
 
 tied_reach : (clef : Clef) (hs : List Head) (behind : Steps) → DoReach clef hs → DoReach clef (tied_heads hs behind)
 tied_reach clef [] behind all = tt
@@ -45,7 +43,7 @@ sound_reach now before behind at s e = tied_reach now.force.clef s.heads behind 
 
 chords_reach : (clef : Clef) (gs : List GraceChord) → any_grace_off clef gs ≡ false → GracesReach clef gs
 chords_reach clef [] e = tt
-chords_reach clef (g ∷ gs) e = let parts = neither (any_off clef g.heads) (any_grace_off clef gs) e in (all_reach clef g.heads parts.0, chords_reach clef gs parts.1)
+chords_reach clef (g ∷ gs) e = let parts = or_parts (any_off clef g.heads) (any_grace_off clef gs) e in (all_reach clef g.heads parts.0, chords_reach clef gs parts.1)
 
 step_graces : (clef : Clef) (at : Stood) (s : Step) → grace_faults_of clef at s ≡ [] → GracesReach clef (graces_in s)
 unfolding graces_in grace_faults_of
@@ -78,20 +76,6 @@ any_near (s ∷ before) = cond (is_event s.step) false (names_clef s.step || any
 abbrev any_clef : Steps → Bool
 any_clef steps = list_any (λ (s : Stood). names_clef s.step) steps
 
-either_way : (a b : Bool) → (a || (b || false)) ≡ (b || a)
-either_way true true = refl
-either_way true false = refl
-either_way false true = refl
-either_way false false = refl
-
-any_reversed : (steps : Steps) → any_clef (reverse steps) ≡ any_clef steps
-any_reversed [] = refl
-any_reversed (s ∷ steps) =
-    ap any_clef (reverse-append (s ∷ []) steps)
-    ∙ list_any-append (λ (s : Stood). names_clef s.step) (reverse steps) (s ∷ [])
-    ∙ either_way (any_clef (reverse steps)) (names_clef s.step)
-    ∙ ap (λ b. names_clef s.step || b) (any_reversed steps)
-
 abbrev passes : Stood → Bool
 passes s = not (is_event s.step)
 
@@ -105,7 +89,7 @@ near_is (s ∷ before) =
 
 any_since : (before : Steps) → any_clef (since_event before) ≡ any_near before
 unfolding since_event
-any_since before = any_reversed (before_first (λ s. is_event s.step) before) ∙ near_is before
+any_since before = any_reverse (λ (s : Stood). names_clef s.step) (before_first (λ s. is_event s.step) before) ∙ near_is before
 
 event_force : (s : Step) (now : InForce) → is_event s ≡ true → force_behind s now ≡ now
 unfolding is_event force_behind

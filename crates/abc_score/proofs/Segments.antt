@@ -1,7 +1,7 @@
 -- The measures of a voice one after the other are the voice, where no event stands in an earlier measure than one before it.
 use Rattle.std.proofs.Common.{◌≡◌, ◌∙◌, refl, sym, ap, subst, ℕ, zero, suc, ◌+◌, ◌≤◌, ◌<◌, List, [], ◌∷◌, ◌++◌, map, sum_by, length, Bool, true, false, cond, arith, eqb-true}
-use Rattle.std.{proofs.lemmas.Bool.eqb-false, proofs.lemmas.Bool.Decides.nat_tests, proofs.lemmas.List.map-append, proofs.lemmas.List.Concat.flat_map-append, proofs.lemmas.List.Sums.sum_by-cons, proofs.lemmas.List.Sums.sum_by-append, specs.Prelude.⊤, specs.Prelude.flat_map, specs.Prelude.◌==◌}
-use Rattle.std.specs.List.{AllByRecursion, range_with_len}
+use Rattle.std.proofs.lemmas.{Bool.eqb-false, Bool.eq-eqb, Bool.Decides.nat_tests, List.map-append, List.Concat.flat_map-append, List.Folds.flat_map-map, List.Sums.sum_by-cons, List.Sums.sum_by-append}
+use Rattle.std.specs.{Prelude.⊤, Prelude.flat_map, Prelude.◌==◌, List.AllByRecursion, List.range_with_len}
 use Rattle.mus_units.specs.declared.note.Bar.{Bar}
 use Rattle.mus_score.specs.{declared.score.Flat.Flat, declared.score.Music.Music, declared.score.Measure.Measure, GoodScore.events_of, Times.flats_of}
 use Rattle.abc_events.specs.{declared.leaves.Leaf.Leaf, Nesting.tree_of, Measures.leaves_in, Measures.measure_of, Measures.measures_in}
@@ -23,9 +23,6 @@ other_test a b less = grind (arith, nat_tests)
 
 pub other_test_up : (a b : ℕ) → a < b → (a == b) ≡ false
 other_test_up a b less = grind (arith, nat_tests)
-
-pub same_test : (a b : ℕ) → a ≡ b → (a == b) ≡ true
-same_test a b e = grind (arith, nat_tests)
 
 -- an event in its own measure and in another, and a tuplet
 pub in_own : (k m : ℕ) (nodes : List Music) (ls : List Leaf) → (m == k) ≡ true → leaf_rows (leaves_in k (Leaf.Event m nodes ∷ ls)) ≡ nodes ∷ leaf_rows (leaves_in k ls)
@@ -73,7 +70,7 @@ at_own : (n low top m : ℕ) (nodes : List Music) (ls : List Leaf) → low ≡ m
     → flat_map (λ k. leaf_rows (leaves_in k (Leaf.Event m nodes ∷ ls))) (range_with_len low (suc n)) ≡ nodes ∷ leaf_rows ls
 at_own n low top m nodes ls same e rise others =
     let more = flat_map (λ k. leaf_rows (leaves_in k (Leaf.Event m nodes ∷ ls))) (range_with_len (low + 1) n) in
-    ap (λ z. z ++ more) (in_own low m nodes ls (same_test m low (sym same)))
+    ap (λ z. z ++ more) (in_own low m nodes ls (eq-eqb m low (sym same)))
     ∙ ap (λ z. (nodes ∷ leaf_rows (leaves_in low ls)) ++ z) (later_same m n (low + 1) nodes ls (omega (arith, same)))
     ∙ ap (λ z. nodes ∷ z) (others e (rise_lower low m top ls (omega (arith, same)) rise))
 
@@ -117,10 +114,6 @@ map_flat : {X : Type 0} (f : X → List Flat) (xs : List X) → map core (flat_m
 map_flat f [] = refl
 map_flat f (x ∷ xs) = map-append core (f x) (flat_map f xs) ∙ ap (λ z. map core (f x) ++ z) (map_flat f xs)
 
-flat_of_map : {X Y Z : Type 0} (f : Y → List Z) (g : X → Y) (xs : List X) → flat_map f (map g xs) ≡ flat_map (λ x. f (g x)) xs
-flat_of_map f g [] = refl
-flat_of_map f g (x ∷ xs) = ap (λ z. f (g x) ++ z) (flat_of_map f g xs)
-
 flat_flat : {X Y Z : Type 0} (f : Y → List Z) (g : X → List Y) (xs : List X) → flat_map (λ x. flat_map f (g x)) xs ≡ flat_map f (flat_map g xs)
 flat_flat f g [] = refl
 flat_flat f g (x ∷ xs) = ap (λ z. flat_map f (g x) ++ z) (flat_flat f g xs) ∙ sym (flat_map-append f (g x) (flat_map g xs))
@@ -128,7 +121,7 @@ flat_flat f g (x ∷ xs) = ap (λ z. flat_map f (g x) ++ z) (flat_flat f g xs) �
 pub measures_sing : (leaves : List Leaf) (bars : List Bar) → Rise 0 (length bars) leaves → AllByRecursion IsSung (leaf_rows leaves) → map core (events_of (measures_in leaves bars)) ≡ flat_map sung (leaf_rows leaves)
 measures_sing leaves bars rise all =
     let ks = range_with_len 0 (length bars) in
-    ap (map core) (flat_of_map (λ (m : Measure). flats_of m.body) (measure_of leaves bars) ks)
+    ap (map core) (flat_map-map (λ (m : Measure). flats_of m.body) (measure_of leaves bars) ks)
     ∙ map_flat (λ k. flats_of (tree_of (leaves_in k leaves))) ks
     ∙ flat_same (λ k. map core (flats_of (tree_of (leaves_in k leaves)))) (λ k. flat_map sung (leaf_rows (leaves_in k leaves))) (λ k. tree_sings (leaves_in k leaves) (kept_in IsSung k leaves all)) ks
     ∙ flat_flat sung (λ k. leaf_rows (leaves_in k leaves)) ks

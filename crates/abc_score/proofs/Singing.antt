@@ -111,6 +111,9 @@ later_heads : (w : Written) (verses id : ℕ) (more : Bool) (v : Value) → leng
 unfolding later_part
 later_heads w verses id more v = length-map w.heads _
 
+next_times : (n m : ℕ) → m + n * m ≡ suc n * m
+next_times n m = omega arith
+
 later_weight : (w : Written) (verses id : ℕ) (vs : List Value) → weight_of (map node_of (later_parts w verses id vs)) ≡ length vs * max 1 (length w.heads)
 later_weight w verses id [] = omega arith
 later_weight w verses id (v ∷ vs) =
@@ -119,9 +122,7 @@ later_weight w verses id (v ∷ vs) =
     let all = weight_of-cons (node_of first) (map node_of (later_parts w verses (id + 1) vs)) in
     let own : weight (node_of first) ≡ each = node_weight first ∙ ap (max 1) (later_heads w verses id (some_more vs) v) in
     let others = later_weight w verses (id + 1) vs in
-    all ∙ (ap (λ n. n + weight_of (map node_of (later_parts w verses (id + 1) vs))) own ∙ (ap (λ n. each + n) others ∙ next_times (length vs) each)) where
-      next_times : (n m : ℕ) → m + n * m ≡ suc n * m
-      next_times n m = omega arith
+    all ∙ (ap (λ n. n + weight_of (map node_of (later_parts w verses (id + 1) vs))) own ∙ (ap (λ n. each + n) others ∙ next_times (length vs) each))
 
 parts_weight : (w : Written) (waiting : Waiting) (words : Words) (id : ℕ) (vs : List Value) → weight_of (map node_of (parts w waiting words id vs)) ≡ length vs * max 1 (length w.heads)
 parts_weight w waiting words id [] = omega arith
@@ -131,9 +132,7 @@ parts_weight w waiting words id (v ∷ vs) =
     let all = weight_of-cons (node_of first) (map node_of (later_parts w (length words) (id + 1) vs)) in
     let own : weight (node_of first) ≡ each = node_weight first ∙ ap (max 1) (first_heads w waiting words id (some_more vs) v) in
     let others = later_weight w (length words) (id + 1) vs in
-    all ∙ (ap (λ n. n + weight_of (map node_of (later_parts w (length words) (id + 1) vs))) own ∙ (ap (λ n. each + n) others ∙ next_times (length vs) each)) where
-      next_times : (n m : ℕ) → m + n * m ≡ suc n * m
-      next_times n m = omega arith
+    all ∙ (ap (λ n. n + weight_of (map node_of (later_parts w (length words) (id + 1) vs))) own ∙ (ap (λ n. each + n) others ∙ next_times (length vs) each))
 
 abbrev pub heads_of_graces : List GraceChord → ℕ
 heads_of_graces gs = sum_by (λ g. length g.heads) gs

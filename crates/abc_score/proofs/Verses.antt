@@ -27,9 +27,7 @@ verses_rise id unnamed before [] low rise = tt
 verses_rise id unnamed before (Item.Words text line ∷ behind) low rise =
     let place = place_at id unnamed before in
     with_verse place.current place.last text low line (verses_from id unnamed (Item.Words text line ∷ before) behind) rise.0 (verses_rise id unnamed (Item.Words text line ∷ before) behind line rise.1)
-verses_rise id unnamed before (Item.Step s ∷ behind) low rise = verses_rise id unnamed (Item.Step s ∷ before) behind low rise
-verses_rise id unnamed before (Item.LineEnd joined breaks line column ∷ behind) low rise = verses_rise id unnamed (Item.LineEnd joined breaks line column ∷ before) behind low rise
-verses_rise id unnamed before (Item.Voice def line column ∷ behind) low rise = verses_rise id unnamed (Item.Voice def line column ∷ before) behind low rise
+verses_rise id unnamed before (item ∷ behind) low rise = verses_rise id unnamed (item ∷ before) behind low rise
 
 -- faults of verses from a line on: none of them, or the head of the list, comes before one on that line
 abbrev IsFrom : ℕ → Option Fault → Type 0

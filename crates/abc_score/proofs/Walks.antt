@@ -11,7 +11,7 @@ use Rattle.abc_fields.specs.Keys.{GoodKeyIn, over_by}
 use Rattle.abc_steps.specs.{declared.step.Sound.Sound, declared.step.Step.Step, declared.step.Stood.Stood, declared.force.InForce.InForce, declared.place.Place.Place, declared.tuplets.Taking.Taking, Force.changes_at, Force.force_at, Force.force_behind, Force.names_key, Force.names_meter, Force.when}
 use Rattle.abc_steps.specs.{Good.IsGoodForce, Good.IsGoodSound, Good.IsGoodStep, Good.IsGoodStood, Kinds.is_sound, Lengths.left_factor, Lengths.left_side, Lengths.long_side, Lengths.right_factor, Lengths.right_side, Lengths.short_side, Lengths.written_length, Looks.Steps, Looks.broken_before}
 use Rattle.abc_steps.specs.{Looks.broken_behind, Looks.since_event, Places.place_at, Places.measure_of, Tuplets.after_event, Tuplets.fits, Tuplets.one_less, Tuplets.opened, Tuplets.or_default, Tuplets.taking_behind, Tuplets.usual_q}
-use Rattle.abc_events.specs.{declared.written.Sign.Sign, Signs.further_rests, Signs.parted_at, Signs.signs, Signs.signs_of, Signs.sound_written, Signs.tuplet_of, Waits.waiting_of}
+use Rattle.abc_events.specs.{declared.written.Sign.Sign, Signs.further_rests, Signs.parted_at, Signs.rest_written, Signs.signs, Signs.signs_of, Signs.sound_written, Signs.tuplet_of, Waits.waiting_of, Waits.nothing}
 use Rattle.abc_faults.specs.Faults.{any_off, ends_tuplets, fault_at, fault_if, faults_in, faults_of, grace_faults, is_free, is_past, misfit_of, rest_faults, sound_faults, sounds_behind, tuplet_faults}
 use Rattle.abc_score.proofs.{Basics.all_both, Basics.none_before, Basics.none_behind, Clear.no_fault, Nested.above_one, Parts.HasParts, Parts.HasGoodChanges, Judging.rest_values}
 
@@ -120,21 +120,21 @@ sound_parts now before behind at s unit good e =
     let whole = written_length now.force.unit s before behind in
     parts_some whole.num whole.den (length_some now.force.unit s before behind unit good) (sound_clear now before behind at s e).0
 
-further_parts : (now : Place) (at : Stood) (seen : Bool) (measure n : ℕ) → AllByRecursion HasParts (further_rests now at seen measure n)
-further_parts now at seen measure zero = tt
-further_parts now at seen measure (suc n) = (rest_values now at seen measure false, further_parts now at seen (measure + 1) n)
+further_each : (P : Sign → Type 0) (now : Place) (at : Stood) (seen : Bool) (measure n : ℕ) → ((m : ℕ) → P (Sign.Event (rest_written now at seen m false) nothing)) → AllByRecursion P (further_rests now at seen measure n)
+further_each P now at seen measure zero each = tt
+further_each P now at seen measure (suc n) each = (each measure, further_each P now at seen (measure + 1) n each)
 
-tuplet_parts : (now : Place) (p q r : ℕ) → AllByRecursion HasParts (tuplet_of now p q r)
-tuplet_parts now p q r = by_test (fits (or_default p r) now.taking) where
-  by_test : (b : Bool) → AllByRecursion HasParts (cond b (Sign.Opens (measure_of now) p (or_default (usual_q p now.force.meter) q) (or_default p r) ∷ []) [])
-  by_test true = (tt, tt)
+tuplet_each : (P : Sign → Type 0) (now : Place) (p q r : ℕ) → ((m x y z : ℕ) → P (Sign.Opens m x y z)) → AllByRecursion P (tuplet_of now p q r)
+tuplet_each P now p q r each = by_test (fits (or_default p r) now.taking) where
+  by_test : (b : Bool) → AllByRecursion P (cond b (Sign.Opens (measure_of now) p (or_default (usual_q p now.force.meter) q) (or_default p r) ∷ []) [])
+  by_test true = (each _ _ _ _, tt)
   by_test false = tt
 
 step_parts : (now : Place) (before behind : Steps) (at : Stood) (s : Step) → IsGoodForce now.force → IsGoodStep s → faults_of now before at behind s ≡ [] → AllByRecursion HasParts (signs_of now before at behind s)
 unfolding signs_of faults_of
 step_parts now before behind at (Step.Sound s) force good e = (sound_parts now before behind at s force.unit good (none_before (sound_faults now before at s behind) (grace_faults now.force.clef (since_event before)) e), tt)
-step_parts now before behind at (Step.Measures seen count) force good e = (rest_values now at seen (measure_of now) (parted_at now (since_event before)), further_parts now at seen (measure_of now + 1) (count - 1))
-step_parts now before behind at (Step.Tuplet p q r) force good e = tuplet_parts now p q r
+step_parts now before behind at (Step.Measures seen count) force good e = (rest_values now at seen (measure_of now) (parted_at now (since_event before)), further_each HasParts now at seen (measure_of now + 1) (count - 1) (λ m. rest_values now at seen m false))
+step_parts now before behind at (Step.Tuplet p q r) force good e = tuplet_each HasParts now p q r (λ m x y z. tt)
 step_parts now before behind at _ force good e = tt
 
 -- ---- what is in force
@@ -178,21 +178,11 @@ unfolding waiting_of changes_at
 waiting_changes now waits decos force =
     (key_when (list_any (λ s. names_key s.step) waits) now.key force.key, meter_when (list_any (λ s. names_meter s.step) waits) now.meter force.meter)
 
-further_changes : (now : Place) (at : Stood) (seen : Bool) (measure n : ℕ) → AllByRecursion HasGoodChanges (further_rests now at seen measure n)
-further_changes now at seen measure zero = tt
-further_changes now at seen measure (suc n) = ((tt, tt), further_changes now at seen (measure + 1) n)
-
-tuplet_changes : (now : Place) (p q r : ℕ) → AllByRecursion HasGoodChanges (tuplet_of now p q r)
-tuplet_changes now p q r = by_test (fits (or_default p r) now.taking) where
-  by_test : (b : Bool) → AllByRecursion HasGoodChanges (cond b (Sign.Opens (measure_of now) p (or_default (usual_q p now.force.meter) q) (or_default p r) ∷ []) [])
-  by_test true = (tt, tt)
-  by_test false = tt
-
 step_changes : (now : Place) (before behind : Steps) (at : Stood) (s : Step) → IsGoodForce now.force → AllByRecursion HasGoodChanges (signs_of now before at behind s)
 unfolding signs_of
 step_changes now before behind at (Step.Sound s) force = (waiting_changes now.force (since_event before) s.decos force, tt)
-step_changes now before behind at (Step.Measures seen count) force = (waiting_changes now.force (since_event before) [] force, further_changes now at seen (measure_of now + 1) (count - 1))
-step_changes now before behind at (Step.Tuplet p q r) force = tuplet_changes now p q r
+step_changes now before behind at (Step.Measures seen count) force = (waiting_changes now.force (since_event before) [] force, further_each HasGoodChanges now at seen (measure_of now + 1) (count - 1) (λ m. (tt, tt)))
+step_changes now before behind at (Step.Tuplet p q r) force = tuplet_each HasGoodChanges now p q r (λ m x y z. tt)
 step_changes now before behind at _ force = tt
 
 pub walk_changes : (first : InForce) (before behind : Steps) → IsGoodForce first → AllByRecursion IsGoodStood before → AllByRecursion IsGoodStood behind → AllByRecursion HasGoodChanges (signs first before behind)

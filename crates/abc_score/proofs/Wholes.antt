@@ -1,8 +1,8 @@
 -- A score of voices without faults is good.
 use Rattle.std.proofs.Common.{◌≡◌, ◌∙◌, refl, sym, ap, subst, ℕ, zero, suc, ◌+◌, ◌≤◌, ◌<◌, List, [], ◌∷◌, ◌++◌, map, sum_by, length, reverse, take, drop, Bool, true, false, cond, ◌==◌, Option, Some, None, unwrap_or, slice_get, append-nil, arith}
-use Rattle.std.{proofs.lemmas.List.drop_all, proofs.lemmas.List.Elements.All-from_recursion, proofs.lemmas.List.Elements.recursion_from_All, proofs.lemmas.List.FromFn.length-map-range_with_len, proofs.lemmas.List.Sums.sum_by-cons, proofs.lemmas.List.Sums.sum_by-append, specs.Prelude.flat_map}
-use Rattle.std.specs.List.{All, AllByRecursion, range_with_len}
-use Rattle.mus_units.specs.{declared.pitch.Clef.Clef, Good.IsGoodKey, Good.IsGoodMeter}
+use Rattle.std.proofs.lemmas.List.{drop_all, Elements.All-from_recursion, Elements.recursion_from_All, Elements.All-map, FromFn.length-map-range_with_len, Sums.sum_by-cons, Sums.sum_by-append}
+use Rattle.std.specs.{Prelude.flat_map, List.All, List.AllByRecursion, List.range_with_len}
+use Rattle.mus_units.specs.declared.pitch.Clef.{Clef}
 use Rattle.mus_score.specs.{declared.score.Measure.Measure, declared.score.Voice.Voice, Good.IsGoodBody, GoodScore.AreCounted, GoodScore.AreInReach, GoodScore.IsGoodEvent, GoodScore.IsGoodScore, GoodScore.IsGoodVoice, GoodScore.events_of, GoodScore.voice_weight}
 use Rattle.abc_header.specs.{declared.header.Header.Header, Headers.HasGoodValues}
 use Rattle.abc_steps.specs.{declared.step.Item.Item, declared.force.InForce.InForce, Good.IsGoodStood, Looks.Steps}
@@ -10,12 +10,11 @@ use Rattle.abc_items.specs.{declared.voices.VoiceStart.VoiceStart, Voices.starts
 use Rattle.abc_events.specs.{declared.leaves.Leaf.Leaf, declared.written.Sign.Sign, Bars.bar_of, Bars.bars_of, Leaves.Words, Leaves.leaves_from, Leaves.words_at, Measures.leaves_in, Measures.measure_of, Measures.measures_in, Nesting.tree_of, Signs.IsDrawn, Signs.signs}
 use Rattle.abc_events.proofs.Drawn.{walk_drawn}
 use Rattle.abc_faults.specs.{Faults.faults_in, Weights.crowded}
-use Rattle.abc_words.specs.{declared.music.MusicRow.MusicRow, Rows.row_count, Verses.verse_count, Verses.verse_fault, Verses.verse_faults, Verses.verses_of, Words.event_words, Words.music_rows, Words.verse_sung, Words.word_of}
-use Rattle.abc_words.proofs.FaultLaws.{few_verses}
-use Rattle.abc_score.specs.{declared.voices.VoiceRead.VoiceRead, Faults.faults_of_voices, Faults.voice_faults, Faults.voice_weights, Framed.IsFramed, Score.event_count, Score.most_measures, Score.notes_from, Score.own_measures, Score.score_with, Score.sung_words, Score.voice_of}
-use Rattle.abc_score.{specs.Score.written_measures, specs.Voices.IsGoodRead, specs.Voices.voice_read, specs.Voices.voices_read, proofs.Basics.none_before, proofs.Basics.none_behind, proofs.Rows.leaf_rows, proofs.Rows.tree_weight, proofs.Rows.weight_of, proofs.Cores.CoresCount}
-use Rattle.abc_score.proofs.{Cores.CoresReach, Cores.IsGoodCore, Cores.count_of, Cores.events_of_cores, Cores.reach_of, Segments.Rise, Segments.measures_sing, Segments.measures_weigh, Parts.event_number, Parts.signs_count, Parts.signs_good, Parts.signs_reach, Parts.signs_sung, Nested.nested_good}
-use Rattle.abc_score.proofs.{Walks.walk_changes, Walks.walk_parts, Full.all_full, Reaching.voice_reach, Rising.own_most, Rising.voice_rise, Weighing.count, Weighing.leaves_weigh, Weighing.not_crowded, Weighing.sign_weight, Weighing.signs_weigh}
+use Rattle.abc_words.{specs.declared.music.MusicRow.MusicRow, specs.Verses.verse_count, specs.Verses.verse_fault, specs.Verses.verse_faults, specs.Words.event_words, specs.Words.music_rows, specs.Words.verse_sung, specs.Words.word_of, proofs.FaultLaws.few_verses}
+use Rattle.abc_score.proofs.{Basics.none_before, Basics.none_behind, Cores.CoresCount, Cores.CoresReach, Cores.IsGoodCore, Cores.count_of, Cores.events_of_cores, Cores.reach_of, Frames.length_voice, Frames.voice_framed, Full.all_full, Nested.nested_good, Parts.event_number, Parts.signs_count}
+use Rattle.abc_score.proofs.{Parts.signs_good, Parts.signs_reach, Parts.signs_sung, Reaching.voice_reach, Rising.own_most, Rising.voice_rise, Rows.leaf_rows, Rows.tree_weight, Rows.weight_of, Segments.Rise, Segments.measures_sing, Segments.measures_weigh, Walks.walk_changes, Walks.walk_parts}
+use Rattle.abc_score.{proofs.Weighing.count, proofs.Weighing.leaves_weigh, proofs.Weighing.not_crowded, proofs.Weighing.sign_weight, proofs.Weighing.signs_weigh, specs.Faults.faults_of_voices, specs.Faults.voice_faults, specs.Faults.voice_weights}
+use Rattle.abc_score.specs.{Framed.IsFramed, Score.event_count, Score.most_measures, Score.notes_from, Score.own_measures, Score.score_with, Score.sung_words, Score.voice_of, Score.written_measures, Voices.IsGoodRead, Voices.voice_read, Voices.voices_read, declared.voices.VoiceRead.VoiceRead}
 
 -- ---- words
 
@@ -51,10 +50,6 @@ all_drawn first steps =
     let end : all ++ signs first (reverse (take (length steps) steps)) (drop (length steps) steps) ≡ all =
     ap (λ (z : Steps). all ++ signs first (reverse (take (length steps) steps)) z) (drop_all (length steps) steps (omega arith)) ∙ append-nil all in
     recursion_from_All IsDrawn all (walk_drawn first steps (length steps) all (omega arith) end)
-
-all_made : {X : Type 0} (P : X → Type 0) (f : ℕ → X) → ((k : ℕ) → P (f k)) → (ks : List ℕ) → AllByRecursion P (map f ks)
-all_made P f each [] = tt
-all_made P f each (k ∷ ks) = (each k, all_made P f each ks)
 
 -- a measure weighs no more than all
 weight_in : (k : ℕ) (ls : List Leaf) → sum_by weight_of (leaf_rows (leaves_in k ls)) ≤ sum_by weight_of (leaf_rows ls)
@@ -154,7 +149,7 @@ row_good header items n v is few =
     let changes = walk_changes v.first [] v.steps is.read.first tt (goods v is.read) in
     let sings = sym (measures_sing ls bars (rise_in header items n v is.read is.own) (signs_sung words 0 0 ss parts)) in
     record {
-      bodies = All-from_recursion (λ (m : Measure). IsGoodBody m.body) ms (all_made (λ (m : Measure). IsGoodBody m.body) (measure_of ls bars) (body_good header items n v is few) (range_with_len 0 (length bars)));
+      bodies = All-map (λ (m : Measure). IsGoodBody m.body) (measure_of ls bars) (range_with_len 0 (length bars)) (λ k d less. body_good header items n v is few _);
       events = events_of_cores verses (events_of ms) (subst (AllByRecursion (IsGoodCore verses)) sings (signs_good words verses 0 0 ss parts changes (each_words v.start.id (unnamed_of header) items ss)));
       reach = reach_of v.first.clef (events_of ms) (subst (CoresReach v.first.clef) sings (signs_reach words 0 0 v.first.clef ss parts (voice_reach v.first v.steps is.clear)));
       ids = count_of 0 (events_of ms) (subst (CoresCount 0) sings (signs_count words 0 0 ss parts));
@@ -169,30 +164,11 @@ music_good header items n v is few =
     let own = subst (IsGoodRow verses v.start.clef) (sym (measures_are header items n v)) at_start in
     record { bodies = own.bodies; events = own.events; reach = own.reach; ids = own.ids }
 
-length_measures : (header : Header) (items : List Item) (n : ℕ) (v : VoiceRead) → length (voice_of header items n v).measures ≡ n
-unfolding voice_of written_measures
-length_measures header items n v = length-map-range_with_len (measure_of (leaves_with header items v) (bars_of v.steps n)) 0 (length (bars_of v.steps n)) ∙ length_bars v n
-
-pub record HasGoodFrame (v : Voice) : Type 0 where
-  pub few_verses : v.verses ≤ 8
-  pub near : v.gap ≤ 1000
-  pub key : IsGoodKey v.key
-  pub meter : IsGoodMeter v.meter
-
-voice_frame : (header : Header) (items : List Item) (n : ℕ) (v : VoiceRead) → HasGoodValues header → verse_fault v.start.id (unnamed_of header) items ≡ None → HasGoodFrame (voice_of header items n v)
-unfolding voice_of
-voice_frame header items n v good clear = record {
-  few_verses = few_verses (verses_of v.start.id (unnamed_of header) items) (row_count items) clear;
-  near = omega arith;
-  key = good.key;
-  meter = good.meter;
-}
-
 voice_good : (header : Header) (items : List Item) (n : ℕ) (v : VoiceRead) → HasGoodValues header → n ≤ 2000 → IsClear header items n v → sum_by count (voice_weights v) ≤ 50000 → IsGoodVoice (voice_of header items n v)
 voice_good header items n v good most is few =
-    let long : length (voice_of header items n v).measures ≡ n = length_measures header items n v in
+    let long : length (voice_of header items n v).measures ≡ n = length_voice header items n v in
     let weight = weight_high header items n v is.read is.own in
-    let frame = voice_frame header items n v good is.verses in
+    let frame = voice_framed header items n v good is.verses in
     let music = music_good header items n v is few in
     record {
       few_measures = omega (arith, long, most);

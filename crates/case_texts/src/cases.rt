@@ -1,6 +1,7 @@
 ghost use Rattle.std.specs.Prelude.{◌≤◌, length};
 
 use crate::escapes::put_shown;
+use crate::report::Report;
 use mus_units::{Memory, Text};
 use std::alloc::Global;
 
@@ -44,9 +45,10 @@ pub fn within_limit(bytes: &[u8]) -> &[u8]
 /// The lines that tell of a case: its own line, and what came of it in visible ASCII, each line
 /// of it behind four spaces.
 pub fn told(alloc: Global, line: &str, value: &[u8]) -> Result<Text, Memory> {
-    let mut out = Text::from_slice(alloc, line.as_bytes())?;
+    let mut out = Report::new(alloc);
+    out.append(line.as_bytes())?;
     out.append(b"\n    ")?;
-    put_shown(alloc, &mut out, value)?;
+    put_shown(&mut out, value)?;
     out.push(b'\n')?;
-    Ok(out)
+    Ok(out.text)
 }

@@ -1,3 +1,4 @@
+use crate::report::Report;
 use mus_units::{Memory, Text};
 use std::alloc::Global;
 
@@ -58,20 +59,20 @@ fn digit(byte: u8) -> u8 {
 
 /// Adds bytes in visible ASCII, as `unescaped` reads them, but for line ends, which begin a line
 /// behind four spaces.
-pub fn put_shown(alloc: Global, out: &mut Text, bytes: &[u8]) -> Result<(), Memory> {
+pub fn put_shown(out: &mut Report, bytes: &[u8]) -> Result<(), Memory> {
     for byte in bytes {
-        put_byte(alloc, out, *byte)?;
+        put_byte(out, *byte)?;
     }
     Ok(())
 }
 
-fn put_byte(alloc: Global, out: &mut Text, byte: u8) -> Result<(), Memory> {
+fn put_byte(out: &mut Report, byte: u8) -> Result<(), Memory> {
     match byte {
         b'\n' => out.append(b"\n    "),
         b'\r' => out.append(b"\\r"),
         b'\t' => out.append(b"\\t"),
         b'\\' => out.append(b"\\\\"),
         b' '..=b'~' => out.push(byte),
-        _ => out.append(format!(in alloc; "\\x{byte:02x}")?.as_bytes()),
+        _ => out.append(format!(in out.alloc; "\\x{byte:02x}")?.as_bytes()),
     }
 }

@@ -1,33 +1,31 @@
-use crate::lists::put_next;
-use crate::numbers::put_number;
+use crate::report::Report;
 use abc_lines::{Fault, FaultKind, TuneError};
-use mus_units::{Memory, Text};
-use std::alloc::Global;
+use mus_units::Memory;
 
 /// Adds a fault as its kind and its place, or hands on want of memory.
-pub fn put_fault(alloc: Global, out: &mut Text, error: TuneError) -> Result<(), Memory> {
+pub fn put_fault(out: &mut Report, error: TuneError) -> Result<(), Memory> {
     match error {
-        TuneError::Fault(fault) => put_placed(alloc, out, fault),
+        TuneError::Fault(fault) => put_placed(out, fault),
         TuneError::Memory => Err(Memory),
     }
 }
 
-fn put_placed(alloc: Global, out: &mut Text, fault: Fault) -> Result<(), Memory> {
-    put_next(out, b"fault ")?;
-    put_kind(alloc, out, fault.kind)?;
+fn put_placed(out: &mut Report, fault: Fault) -> Result<(), Memory> {
+    out.next(b"fault ")?;
+    put_kind(out, fault.kind)?;
     out.append(b" line ")?;
-    put_number(alloc, out, u64::from(fault.line))?;
+    out.number(u64::from(fault.line))?;
     out.append(b" column ")?;
-    put_number(alloc, out, u64::from(fault.column))
+    out.number(u64::from(fault.column))
 }
 
 /// Adds the name of a kind of fault, and its number if it has one.
-pub fn put_kind(alloc: Global, out: &mut Text, kind: FaultKind) -> Result<(), Memory> {
+pub fn put_kind(out: &mut Report, kind: FaultKind) -> Result<(), Memory> {
     out.append(name_of(kind))?;
     match kind {
         FaultKind::NoWay { reached: number } | FaultKind::TooTall { block: number } => {
             out.push(b' ')?;
-            put_number(alloc, out, u64::from(number))
+            out.number(u64::from(number))
         }
         _ => Ok(()),
     }

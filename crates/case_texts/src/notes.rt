@@ -1,12 +1,11 @@
-use crate::numbers::put_signed;
+use crate::report::Report;
 use crate::values::put_letter;
 use mus_units::{Alter, Bar, Base, Deco, Head, Memory, Text, Value};
-use std::alloc::Global;
 
 /// Adds a head as its letter, its octave and its sign, and `-` where it is tied: `F5^-`.
-pub fn put_head(alloc: Global, out: &mut Text, head: Head) -> Result<(), Memory> {
+pub fn put_head(out: &mut Report, head: Head) -> Result<(), Memory> {
     put_letter(out, head.pitch.letter)?;
-    put_signed(alloc, out, i64::from(head.pitch.octave))?;
+    out.signed(i64::from(head.pitch.octave))?;
     if let Some(sign) = head.sign {
         out.append(sign_name(sign))?;
     }
@@ -24,7 +23,7 @@ fn sign_name(sign: Alter) -> &'static [u8] {
 }
 
 /// Adds the features of a bar, a letter each: end, start, last, initial, double, dotted, unseen.
-pub fn put_bar(out: &mut Text, bar: Bar) -> Result<(), Memory> {
+pub fn put_bar(out: &mut Report, bar: Bar) -> Result<(), Memory> {
     let features = [
         (bar.end, b'E'),
         (bar.start, b'S'),
@@ -43,7 +42,7 @@ pub fn put_bar(out: &mut Text, bar: Bar) -> Result<(), Memory> {
 }
 
 /// Adds a decoration by the name of its glyph, or its place and its text.
-pub fn put_deco(out: &mut Text, deco: &Deco) -> Result<(), Memory> {
+pub fn put_deco(out: &mut Report, deco: &Deco) -> Result<(), Memory> {
     match deco {
         Deco::Below(text) => put_named(out, b"below ", text),
         Deco::Above(text) => put_named(out, b"above ", text),
@@ -52,7 +51,7 @@ pub fn put_deco(out: &mut Text, deco: &Deco) -> Result<(), Memory> {
     }
 }
 
-fn put_named(out: &mut Text, place: &[u8], text: &Text) -> Result<(), Memory> {
+fn put_named(out: &mut Report, place: &[u8], text: &Text) -> Result<(), Memory> {
     out.append(place)?;
     out.append(text.as_slice())
 }
@@ -76,7 +75,7 @@ fn glyph_name(deco: &Deco) -> &'static [u8] {
 }
 
 /// Adds a value as its base and its dots: `1/4..`.
-pub fn put_value(out: &mut Text, value: Value) -> Result<(), Memory> {
+pub fn put_value(out: &mut Report, value: Value) -> Result<(), Memory> {
     out.append(base_name(value.base))?;
     for _ in 0..value.dots {
         out.push(b'.')?;

@@ -1,5 +1,6 @@
 use crate::cases::{Case, case_of, is_case, told};
 use crate::escapes::unescaped;
+use crate::report::Report;
 use mus_units::{Memory, Text};
 use std::alloc::Global;
 use std::io::Write;
@@ -9,13 +10,7 @@ use std::{fs, io};
 /// What a program of tests answers to its cases.
 pub trait Answers {
     /// Adds the value of a case's call on its input.
-    fn put_answer(
-        &self,
-        alloc: Global,
-        out: &mut Text,
-        case: Case<'_>,
-        input: &[u8],
-    ) -> Result<(), Memory>;
+    fn put_answer(&self, out: &mut Report, case: Case<'_>, input: &[u8]) -> Result<(), Memory>;
 }
 
 /// Tells the cases of tables, which are files, one after another: each case's line, and below it
@@ -60,7 +55,7 @@ fn tell_case<R: Print + AllocGlobal, A: Answers>(
 fn answer<A: Answers>(alloc: Global, answers: &A, line: &str) -> Result<Text, Memory> {
     let case = case_of(line);
     let input = unescaped(alloc, case.input.as_bytes())?;
-    let mut value = Text::new(alloc);
-    answers.put_answer(alloc, &mut value, case, input.as_slice())?;
-    told(alloc, line, value.as_slice())
+    let mut value = Report::new(alloc);
+    answers.put_answer(&mut value, case, input.as_slice())?;
+    told(alloc, line, value.text.as_slice())
 }

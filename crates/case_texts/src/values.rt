@@ -1,15 +1,14 @@
-use crate::lists::put_next;
-use mus_units::{Alter, Clef, Frac, Letter, Memory, Meter, Sign, Spread, Text, Wish};
-use std::alloc::Global;
+use crate::report::Report;
+use mus_units::{Alter, Clef, Frac, Letter, Memory, Meter, Sign, Spread, Wish};
 
 /// Adds a word and a text behind it.
-pub fn put_text(out: &mut Text, name: &[u8], text: &[u8]) -> Result<(), Memory> {
-    put_next(out, name)?;
-    put_next(out, text)
+pub fn put_text(out: &mut Report, name: &[u8], text: &[u8]) -> Result<(), Memory> {
+    out.next(name)?;
+    out.next(text)
 }
 
 /// Adds a letter's name.
-pub fn put_letter(out: &mut Text, letter: Letter) -> Result<(), Memory> {
+pub fn put_letter(out: &mut Report, letter: Letter) -> Result<(), Memory> {
     out.push(match letter {
         Letter::C => b'C',
         Letter::D => b'D',
@@ -56,8 +55,8 @@ pub fn alter_named(name: &str) -> Alter {
 }
 
 /// Adds a word and signs behind it, such as `F# Bb C=`.
-pub fn put_signs(out: &mut Text, name: &[u8], signs: &[Sign]) -> Result<(), Memory> {
-    put_next(out, name)?;
+pub fn put_signs(out: &mut Report, name: &[u8], signs: &[Sign]) -> Result<(), Memory> {
+    out.next(name)?;
     for sign in signs {
         out.push(b' ')?;
         put_letter(out, sign.letter)?;
@@ -67,16 +66,13 @@ pub fn put_signs(out: &mut Text, name: &[u8], signs: &[Sign]) -> Result<(), Memo
 }
 
 /// Adds `clef` and the clef's name.
-pub fn put_clef(out: &mut Text, clef: Clef) -> Result<(), Memory> {
-    put_next(
-        out,
-        match clef {
-            Clef::Treble => b"clef treble",
-            Clef::Bass => b"clef bass",
-            Clef::Alto => b"clef alto",
-            Clef::Tenor => b"clef tenor",
-        },
-    )
+pub fn put_clef(out: &mut Report, clef: Clef) -> Result<(), Memory> {
+    out.next(match clef {
+        Clef::Treble => b"clef treble",
+        Clef::Bass => b"clef bass",
+        Clef::Alto => b"clef alto",
+        Clef::Tenor => b"clef tenor",
+    })
 }
 
 /// The clef of a name, and the treble clef for any other text.
@@ -90,46 +86,37 @@ pub fn clef_named(name: &str) -> Clef {
 }
 
 /// Adds `meter` and the meter.
-pub fn put_meter(alloc: Global, out: &mut Text, meter: Meter) -> Result<(), Memory> {
+pub fn put_meter(out: &mut Report, meter: Meter) -> Result<(), Memory> {
     match meter {
-        Meter::Free => put_next(out, b"meter free"),
-        Meter::Common => put_next(out, b"meter C"),
-        Meter::Cut => put_next(out, b"meter C|"),
+        Meter::Free => out.next(b"meter free"),
+        Meter::Common => out.next(b"meter C"),
+        Meter::Cut => out.next(b"meter C|"),
         Meter::Ratio { num, den } => {
-            put_next(out, format!(in alloc; "meter {num}/{den}")?.as_bytes())
+            out.next(format!(in out.alloc; "meter {num}/{den}")?.as_bytes())
         }
     }
 }
 
 /// Adds a word and a fraction behind it.
-pub fn put_frac(alloc: Global, out: &mut Text, name: &[u8], frac: Frac) -> Result<(), Memory> {
-    put_next(out, name)?;
-    put_next(
-        out,
-        format!(in alloc; "{}/{}", frac.num, frac.den)?.as_bytes(),
-    )
+pub fn put_frac(out: &mut Report, name: &[u8], frac: Frac) -> Result<(), Memory> {
+    out.next(name)?;
+    out.next(format!(in out.alloc; "{}/{}", frac.num, frac.den)?.as_bytes())
 }
 
 /// Adds `spread` and how far signs reach.
-pub fn put_spread(out: &mut Text, spread: Spread) -> Result<(), Memory> {
-    put_next(
-        out,
-        match spread {
-            Spread::Not => b"spread not",
-            Spread::Octave => b"spread octave",
-            Spread::Pitch => b"spread pitch",
-        },
-    )
+pub fn put_spread(out: &mut Report, spread: Spread) -> Result<(), Memory> {
+    out.next(match spread {
+        Spread::Not => b"spread not",
+        Spread::Octave => b"spread octave",
+        Spread::Pitch => b"spread pitch",
+    })
 }
 
 /// Adds `stem` and the way that the stems of a voice are asked to go.
-pub fn put_wish(out: &mut Text, wish: Wish) -> Result<(), Memory> {
-    put_next(
-        out,
-        match wish {
-            Wish::Auto => b"stem auto",
-            Wish::Up => b"stem up",
-            Wish::Down => b"stem down",
-        },
-    )
+pub fn put_wish(out: &mut Report, wish: Wish) -> Result<(), Memory> {
+    out.next(match wish {
+        Wish::Auto => b"stem auto",
+        Wish::Up => b"stem up",
+        Wish::Down => b"stem down",
+    })
 }

@@ -1,34 +1,22 @@
 -- What good music keeps: products on the way are small, durations are neither 0 nor too long, and no head is lost.
-use Rattle.std.proofs.Common.{◌≡◌, ℕ, zero, suc, ◌+◌, ◌*◌, ◌/◌, ◌≤◌, List, [], ◌∷◌, ◌++◌, map, Bool, true, false, ◌&&◌, max, length, length-append, refl, sym, ◌∙◌, ap, subst, nat_le, arith, lit≤, inl, inr, ◌⊎◌, if◌then◌else◌, mul_assoc, one-mul, div-le_self, le-mul_of_pos_right, le_trans, add-mul, mul-le-mul_right}
-use Rattle.std.proofs.lemmas.{Bool.Decides.nat_tests, List.Sums.sum_by-cons, List.Sums.sum_by-append, Bool.leb-true, List.map-append, List.length-map, List.Elements.All-from_recursion, Nat.le-div, Nat.mul-le}
-use Rattle.std.specs.List.{sum, sum_by, AllByRecursion, All}
+use Rattle.std.proofs.Common.{◌≡◌, ℕ, zero, suc, ◌+◌, ◌*◌, ◌/◌, ◌≤◌, List, [], ◌∷◌, ◌++◌, map, Bool, true, false, ◌&&◌, max, length, length-append, refl, sym, ◌∙◌, ap, subst, nat_le, arith, lit≤, inl, inr, if◌then◌else◌, mul_assoc, one-mul, div-le_self, le-mul_of_pos_right, le_trans, add-mul}
+use Rattle.std.proofs.{Common.mul-le-mul_right, lemmas.Bool.and_parts, lemmas.Bool.cases_Bool, lemmas.Bool.leb-true, lemmas.Bool.Decides.nat_tests, lemmas.List.Sums.sum_by-cons, lemmas.List.Sums.sum_by-append, lemmas.List.map-append, lemmas.List.length-map, lemmas.List.Elements.All-from_recursion}
+use Rattle.std.{proofs.lemmas.Nat.le-div, proofs.lemmas.Nat.mul-le, specs.List.sum, specs.List.sum_by, specs.List.AllByRecursion, specs.List.All}
 use Rattle.mus_units.specs.{declared.value.Base.Base, declared.value.Value.Value, Value.base_length, Value.with_dots, Value.value_length, Value.whole_note}
 use Rattle.mus_score.specs.Good.{IsGoodNode, judged, all_judged, tuplet_judged, good_step, judged_within, weight_step, weight, outside, IsGoodBody, is_note, is_rest, longest_ticks, IsGoodFlat, total_ticks, heads_in, flat_weight, flat_count}
 use Rattle.mus_score.specs.Times.{all_products_fit, durations_within, duration_of, flats_of, InTuplets, Leafing, scaled, is_scalable, all_fit, sum_within, leaf, in_row, nothing, duration_step, duration_within, products_step, products_fit, leaves_step, leaves_within}
-use Rattle.mus_score.specs.declared.{good.Judged.Judged, good.Place.Place, score.Event.Event, score.Flat.Flat, times.Waits.Waits, score.Music.Music, score.Music.TheOpen.Music-F, score.Music.TheFolds.fold-roll-Music, score.Music.TheFolds.map-Music, score.Music.TheFolds.ind-Music}
-use Rattle.mus_score.specs.declared.score.Music.TheViews.{roll-Music}
+use Rattle.mus_score.specs.declared.{good.Judged.Judged, good.Place.Place, score.Event.Event, score.Flat.Flat, times.Waits.Waits}
+use Rattle.mus_score.specs.declared.score.Music.{Music, TheOpen.Music-F, TheFolds.fold-roll-Music, TheFolds.map-Music, TheFolds.ind-Music, TheViews.roll-Music}
 
 -- The length of a value.
 
 base_low : (b : Base) → 81 ≤ base_length b
 base_low Base.Breve = lit≤ tt
-base_low Base.Whole = lit≤ tt
-base_low Base.Half = lit≤ tt
-base_low Base.Quarter = lit≤ tt
-base_low Base.Eighth = lit≤ tt
-base_low Base.N16 = lit≤ tt
-base_low Base.N32 = lit≤ tt
-base_low Base.N64 = lit≤ tt
+base_low _ = lit≤ tt
 
 base_high : (b : Base) → base_length b ≤ 2 * whole_note
 base_high Base.Breve = lit≤ tt
-base_high Base.Whole = lit≤ tt
-base_high Base.Half = lit≤ tt
-base_high Base.Quarter = lit≤ tt
-base_high Base.Eighth = lit≤ tt
-base_high Base.N16 = lit≤ tt
-base_high Base.N32 = lit≤ tt
-base_high Base.N64 = lit≤ tt
+base_high _ = lit≤ tt
 
 dots_low : (dots n : ℕ) → n ≤ with_dots dots n
 dots_low zero n = omega arith
@@ -38,10 +26,10 @@ dots_high : (dots n : ℕ) → with_dots dots n ≤ 2 * n
 dots_high zero n = omega arith
 dots_high (suc dots) n = omega (arith, dots_high dots (n / 2))
 
-value_low : (v : Value) → 81 ≤ value_length v
+pub value_low : (v : Value) → 81 ≤ value_length v
 value_low v = omega (arith, base_low v.base, dots_low v.dots (base_length v.base))
 
-value_high : (v : Value) → value_length v ≤ 99 * whole_note
+pub value_high : (v : Value) → value_length v ≤ 99 * whole_note
 value_high v = omega (arith, base_high v.base, dots_high v.dots (base_length v.base))
 
 -- Events.
@@ -115,12 +103,8 @@ scaled_low : (ticks qs ps : ℕ) → ps ≤ ticks → 1 ≤ qs → 1 ≤ ps → 
 scaled_low ticks qs ps t q p =
     le-div 1 (ticks * qs) ps p (subst (λ z. z ≤ ticks * qs) (sym (one-mul ps)) (le_trans t (le-mul_of_pos_right ticks q)))
 
-either : (b : Bool) → (b ≡ true) ⊎ (b ≡ false)
-either true = inl refl
-either false = inr refl
-
 reaches : (at : Place) (ticks qs ps : ℕ) → Around at qs ps → MayLast at ticks → ps ≤ ticks
-reaches at ticks qs ps a m = elim (either at.inner) [
+reaches at ticks qs ps a m = elim (cases_Bool at.inner) [
   | inl i ↦ le_trans (within_nines ps at.deeper a.few_p) (m.long i)
   | inr o ↦ subst (λ z. z ≤ ticks) (sym (a.plain o)) m.low
 ]
@@ -241,14 +225,10 @@ MusicKeeps m = Keeps (judged_within m) (weight m) (products_fit m) (duration_wit
 abbrev BodyKeeps : List Music → Type 0
 BodyKeeps ms = Keeps (all_judged (map judged_within ms)) (sum (map weight ms)) (all_fit (map products_fit ms)) (sum_within (map duration_within ms)) (in_row (map leaves_within ms))
 
-pub both : (a b : Bool) → (a && b) ≡ true → (a ≡ true) × (b ≡ true)
-both true b h = (refl, h)
-both false b h = absurd (cc)
-
 body_keeps : (ms : List Music) → AllByRecursion MusicKeeps ms → BodyKeeps ms
 body_keeps [] all at qs ps a good = none_kept at qs ps
 body_keeps (m ∷ ms) all at qs ps a good =
-    let g = both (judged_within m at).good (all_judged (map judged_within ms) at).good good in
+    let g = and_parts (judged_within m at).good (all_judged (map judged_within ms) at).good good in
     let first = all.0 at qs ps a g.0 in
     let others = body_keeps ms all.1 at qs ps a g.1 in
     let e : weight m + sum (map weight ms) ≡ sum (map weight (m ∷ ms)) = sym (sum_by-cons (λ x. x) (weight m) (map weight ms)) in
@@ -291,11 +271,11 @@ pub record GoodTuplet (p q deeper : ℕ) (j : Place → Judged) : Type 0 where
 
 tuplet_parts : (p q : ℕ) (n b : Bool) → (nat_le 2 p && nat_le p 9 && nat_le 1 q && nat_le q 9 && n && b) ≡ true → (2 ≤ p) × (p ≤ 9) × (1 ≤ q) × (q ≤ 9) × (b ≡ true)
 tuplet_parts p q n b h =
-    let e = both (nat_le 2 p && nat_le p 9 && nat_le 1 q && nat_le q 9 && n) b h in
-    let d = both (nat_le 2 p && nat_le p 9 && nat_le 1 q && nat_le q 9) n e.0 in
-    let c = both (nat_le 2 p && nat_le p 9 && nat_le 1 q) (nat_le q 9) d.0 in
-    let b = both (nat_le 2 p && nat_le p 9) (nat_le 1 q) c.0 in
-    let a = both (nat_le 2 p) (nat_le p 9) b.0 in
+    let e = and_parts (nat_le 2 p && nat_le p 9 && nat_le 1 q && nat_le q 9 && n) b h in
+    let d = and_parts (nat_le 2 p && nat_le p 9 && nat_le 1 q && nat_le q 9) n e.0 in
+    let c = and_parts (nat_le 2 p && nat_le p 9 && nat_le 1 q) (nat_le q 9) d.0 in
+    let b = and_parts (nat_le 2 p && nat_le p 9) (nat_le 1 q) c.0 in
+    let a = and_parts (nat_le 2 p) (nat_le p 9) b.0 in
     (leb-true 2 p a.0, leb-true p 9 a.1, leb-true 1 q b.1, leb-true q 9 c.1, e.1)
 
 pub deeper_good : (p q deeper : ℕ) (js : List (Place → Judged)) → (tuplet_judged p q js deeper).good ≡ true → (d : ℕ) × (deeper ≡ suc d) × GoodTuplet p q d (all_judged js)
@@ -359,22 +339,22 @@ along x h =
     (sym (fold-roll-Music Leafing leaves_step x))
     h
 
-gathered : (ys : List ((m : Music) × MusicKeeps m)) → AllByRecursion MusicKeeps (map (λ e. e.0) ys)
-gathered [] = tt
-gathered (y ∷ ys) = (y.1, gathered ys)
+pub gathered : (P : Music → Type 0) (ys : List ((m : Music) × P m)) → AllByRecursion P (map (λ e. e.0) ys)
+gathered P [] = tt
+gathered P (y ∷ ys) = (y.1, gathered P ys)
+
+pub all_music : (P : Music → Type 0) → ((m : Music) → P m) → (ms : List Music) → AllByRecursion P ms
+all_music P each [] = tt
+all_music P each (m ∷ ms) = (each m, all_music P each ms)
 
 step_keeps : (y : Music-F ((m : Music) × MusicKeeps m)) → StepKeeps (map-Music ((m : Music) × MusicKeeps m) Music (λ e. e.0) y)
 step_keeps (Music-F.Note e) = note_keeps e
 step_keeps (Music-F.Rest e) = rest_keeps e
-step_keeps (Music-F.Grace ys slash) = grace_keeps (map (λ e. e.0) ys) slash (body_keeps (map (λ e. e.0) ys) (gathered ys))
-step_keeps (Music-F.Tuplet p q ys) = tuplet_keeps p q (map (λ e. e.0) ys) (body_keeps (map (λ e. e.0) ys) (gathered ys))
+step_keeps (Music-F.Grace ys slash) = grace_keeps (map (λ e. e.0) ys) slash (body_keeps (map (λ e. e.0) ys) (gathered MusicKeeps ys))
+step_keeps (Music-F.Tuplet p q ys) = tuplet_keeps p q (map (λ e. e.0) ys) (body_keeps (map (λ e. e.0) ys) (gathered MusicKeeps ys))
 
 music_keeps : (m : Music) → MusicKeeps m
 music_keeps = ind-Music MusicKeeps (λ x y is. subst (λ z. MusicKeeps (roll-Music z)) is (along (map-Music ((m : Music) × MusicKeeps m) Music (λ e. e.0) y) (step_keeps y)))
-
-all_music_keeps : (ms : List Music) → AllByRecursion MusicKeeps ms
-all_music_keeps [] = tt
-all_music_keeps (m ∷ ms) = (music_keeps m, all_music_keeps ms)
 
 -- Good bodies.
 
@@ -382,7 +362,7 @@ outermost : Around outside 1 1
 outermost = record { some_q = omega arith; some_p = omega arith; few_q = lit≤ tt; few_p = lit≤ tt; plain = λ _. refl }
 
 good_body : (ms : List Music) → IsGoodBody ms → Kept outside (sum (map weight ms)) (all_fit (map products_fit ms)) (sum_within (map duration_within ms)) (in_row (map leaves_within ms)) 1 1
-good_body ms good = body_keeps ms (all_music_keeps ms) outside 1 1 outermost good.good
+good_body ms good = body_keeps ms (all_music MusicKeeps music_keeps ms) outside 1 1 outermost good.good
 
 pub body_fits : (ms : List Music) → IsGoodBody ms → all_products_fit ms 1 1 ≡ true
 body_fits ms good = (good_body ms good).fits
@@ -391,7 +371,7 @@ pub body_short : (ms : List Music) → IsGoodBody ms → durations_within ms 1 1
 body_short ms good = omega (arith, (good_body ms good).short, good.few)
 
 pub node_fits : (m : Music) → IsGoodNode m → products_fit m 1 1 ≡ true
-node_fits m good = let h : (products_fit m 1 1 && true) ≡ true = body_fits (m ∷ []) good in (both (products_fit m 1 1) true h).0
+node_fits m good = let h : (products_fit m 1 1 && true) ≡ true = body_fits (m ∷ []) good in (and_parts (products_fit m 1 1) true h).0
 
 pub node_short : (m : Music) → IsGoodNode m → duration_of m ≤ 50000 * longest_ticks
 node_short m good = omega (arith, body_short (m ∷ []) good)

@@ -1,64 +1,28 @@
 -- In a good body every duration comes out even: a value's ticks are a multiple of 2^6 * 3^4 * 5^2 * 7^2,
 -- and so is a product of two numbers from 2 to 9 a divisor of that.
 use Rattle.std.proofs.Common.{◌≡◌, ℕ, zero, suc, ◌*◌, ◌/◌, ◌≤◌, List, [], ◌∷◌, ◌++◌, map, Bool, true, false, refl, sym, ◌∙◌, ap, subst, arith, if◌then◌else◌}
-use Rattle.std.{proofs.Math.Nat.mul-div_cancel_left, specs.List.AllByRecursion, specs.List.AllZip}
+use Rattle.std.{proofs.lemmas.Bool.and_parts, proofs.Math.Nat.mul-div_cancel_left, specs.List.AllByRecursion, specs.List.AllZip}
 use Rattle.mus_units.specs.{declared.value.Base.Base, declared.value.Value.Value, Value.base_length, Value.with_dots, Value.value_length, Parts.base_units, Parts.units_of}
 use Rattle.mus_score.specs.declared.{good.Judged.Judged, good.Place.Place, score.Event.Event, score.Flat.Flat, times.Waits.Waits, score.Music.Music, score.Music.TheOpen.Music-F, score.Music.TheFolds.fold-roll-Music, score.Music.TheFolds.map-Music, score.Music.TheFolds.ind-Music}
 use Rattle.mus_score.specs.{declared.score.Music.TheViews.roll-Music, Good.IsGoodNode, Good.judged, Good.all_judged, Good.good_step, Good.judged_within, Good.outside, Good.IsGoodBody, Good.is_note, Good.is_rest, Times.flats_of, Times.InTuplets, Times.Leafing, Times.scaled, Times.leaf, Times.in_row}
 use Rattle.mus_score.{specs.Times.nothing, specs.Times.leaves_step, specs.Times.leaves_within, specs.Even.Ratio, specs.Even.ratios_in_row, specs.Even.ratios_step, specs.Even.ratios_within, specs.Even.IsEven, specs.Even.AreEven, proofs.Bounds.note_ticks, proofs.Bounds.note_dots}
-use Rattle.mus_score.proofs.Bounds.{rest_ticks_inner, rest_dots, guarded, both, GoodTuplet, tuplet_good}
+use Rattle.mus_score.proofs.Bounds.{rest_ticks_inner, rest_dots, guarded, gathered, all_music, GoodTuplet, tuplet_good}
 
 -- The ticks of a value.
 
 abbrev part : ℕ
 part = 6350400
 
-undotted : (b : Base) → with_dots 0 (base_length b) ≡ with_dots 0 (base_units b) * part
-undotted Base.Breve = refl
-undotted Base.Whole = refl
-undotted Base.Half = refl
-undotted Base.Quarter = refl
-undotted Base.Eighth = refl
-undotted Base.N16 = refl
-undotted Base.N32 = refl
-undotted Base.N64 = refl
-
-one_dot : (b : Base) → with_dots 1 (base_length b) ≡ with_dots 1 (base_units b) * part
-one_dot Base.Breve = refl
-one_dot Base.Whole = refl
-one_dot Base.Half = refl
-one_dot Base.Quarter = refl
-one_dot Base.Eighth = refl
-one_dot Base.N16 = refl
-one_dot Base.N32 = refl
-one_dot Base.N64 = refl
-
-two_dots : (b : Base) → with_dots 2 (base_length b) ≡ with_dots 2 (base_units b) * part
-two_dots Base.Breve = refl
-two_dots Base.Whole = refl
-two_dots Base.Half = refl
-two_dots Base.Quarter = refl
-two_dots Base.Eighth = refl
-two_dots Base.N16 = refl
-two_dots Base.N32 = refl
-two_dots Base.N64 = refl
-
-three_dots : (b : Base) → with_dots 3 (base_length b) ≡ with_dots 3 (base_units b) * part
-three_dots Base.Breve = refl
-three_dots Base.Whole = refl
-three_dots Base.Half = refl
-three_dots Base.Quarter = refl
-three_dots Base.Eighth = refl
-three_dots Base.N16 = refl
-three_dots Base.N32 = refl
-three_dots Base.N64 = refl
-
 dotted : (b : Base) (dots : ℕ) → dots ≤ 3 → with_dots dots (base_length b) ≡ with_dots dots (base_units b) * part
-dotted b zero few = undotted b
-dotted b (suc zero) few = one_dot b
-dotted b (suc (suc zero)) few = two_dots b
-dotted b (suc (suc (suc zero))) few = three_dots b
-dotted b (suc (suc (suc (suc n)))) few = absurd (omega arith)
+dotted Base.Breve zero few = refl
+dotted _ zero few = refl
+dotted Base.Breve (suc zero) few = refl
+dotted _ (suc zero) few = refl
+dotted Base.Breve (suc (suc zero)) few = refl
+dotted _ (suc (suc zero)) few = refl
+dotted Base.Breve (suc (suc (suc zero))) few = refl
+dotted _ (suc (suc (suc zero))) few = refl
+dotted _ (suc (suc (suc (suc n)))) few = absurd (omega arith)
 
 pub value_parts : (v : Value) → v.dots ≤ 3 → value_length v ≡ units_of v * part
 value_parts v few = dotted v.base v.dots few
@@ -141,7 +105,7 @@ BodyEven ms = Evens (all_judged (map judged_within ms)) (in_row (map leaves_with
 body_even : (ms : List Music) → AllByRecursion MusicEven ms → BodyEven ms
 body_even [] all at qs ps d good waits = tt
 body_even (m ∷ ms) all at qs ps d good waits =
-    let g = both (judged_within m at).good (all_judged (map judged_within ms) at).good good in
+    let g = and_parts (judged_within m at).good (all_judged (map judged_within ms) at).good good in
     let others = in_row (map leaves_within ms) qs ps (leaves_within m qs ps waits).waits in
     zip_append (leaves_within m qs ps waits).flats others.flats (ratios_within m qs ps) (ratios_in_row (map ratios_within ms) qs ps)
     (all.0 at qs ps d g.0 waits) (body_even ms all.1 at qs ps d g.1 (leaves_within m qs ps waits).waits)
@@ -177,28 +141,20 @@ along x h =
     (sym (fold-roll-Music (InTuplets (List Ratio)) ratios_step x))
     h
 
-gathered : (ys : List ((m : Music) × MusicEven m)) → AllByRecursion MusicEven (map (λ e. e.0) ys)
-gathered [] = tt
-gathered (y ∷ ys) = (y.1, gathered ys)
-
 step_even : (y : Music-F ((m : Music) × MusicEven m)) → StepEven (map-Music ((m : Music) × MusicEven m) Music (λ e. e.0) y)
 step_even (Music-F.Note e) = note_even e
 step_even (Music-F.Rest e) = rest_even e
 step_even (Music-F.Grace ys slash) = λ at qs ps d good waits. tt
-step_even (Music-F.Tuplet p q ys) = tuplet_even p q (map (λ e. e.0) ys) (body_even (map (λ e. e.0) ys) (gathered ys))
+step_even (Music-F.Tuplet p q ys) = tuplet_even p q (map (λ e. e.0) ys) (body_even (map (λ e. e.0) ys) (gathered MusicEven ys))
 
 music_even : (m : Music) → MusicEven m
 music_even = ind-Music MusicEven (λ x y is. subst (λ z. MusicEven (roll-Music z)) is (along (map-Music ((m : Music) × MusicEven m) Music (λ e. e.0) y) (step_even y)))
-
-all_music_even : (ms : List Music) → AllByRecursion MusicEven ms
-all_music_even [] = tt
-all_music_even (m ∷ ms) = (music_even m, all_music_even ms)
 
 outermost : Divides outside 1
 outermost = record { some = omega arith; factor = 1; all = refl; plain = λ _. refl }
 
 pub flats_even : (ms : List Music) → IsGoodBody ms → AreEven (flats_of ms) ms
-flats_even ms good = body_even ms (all_music_even ms) outside 1 1 outermost good.good nothing
+flats_even ms good = body_even ms (all_music MusicEven music_even ms) outside 1 1 outermost good.good nothing
 
 pub node_even : (m : Music) → IsGoodNode m → AreEven (flats_of (m ∷ [])) (m ∷ [])
 node_even m good = flats_even (m ∷ []) good

@@ -57,19 +57,6 @@ none_fits num den all left so_far vs only is cut some short h = by_list c.0 c.2 
   by_list [] e = let k = e in omega arith
   by_list (w ∷ ws) e = let k = value_some w in let m = e.0.within in omega arith
 
--- eight parts, and something is left
-pub eight_few : (num den all left : ℕ) (so_far vs : List Value) → ((left other : ℕ) → left * den ≡ 512 * num → other * den ≡ 512 * num → left ≡ other) → all * den ≡ 512 * num → IsCut all so_far left → 1 ≤ left → length so_far ≡ 8 → IsPartsOf num den vs → ⊥
-eight_few num den all left so_far vs only is cut some eight h = by_list c.0 c.1 c.2 where
-  same : h.parts.0 ≡ all
-  same = only h.parts.0 all h.parts.1 is
-
-  c : (ws : List Value) × (length vs ≡ length so_far + length ws) × ArePartsOf left ws
-  c = cut.only vs (subst (λ l. ArePartsOf l vs) same h.parts.2)
-
-  by_list : (ws : List Value) → length vs ≡ length so_far + length ws → ArePartsOf left ws → ⊥
-  by_list [] e p = let k = p in omega arith
-  by_list (w ∷ ws) e p = let few = h.few in omega arith
-
 pub parts_made : (num den all left : ℕ) (so_far : List Value) → all * den ≡ 512 * num → 1 ≤ num → IsCut all so_far left → left ≡ 0 → length so_far ≤ 8 → IsPartsOf num den so_far
 parts_made num den all left so_far is some cut none few = record { some = by_list so_far made; few = few; parts = (all, is, made) } where
   made : ArePartsOf all so_far

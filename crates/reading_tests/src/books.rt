@@ -2,7 +2,7 @@ ghost use Rattle.std.specs.Prelude.{IfOk};
 ghost use Rattle.abc_lines.specs.Good.{IsGoodBook, IsGoodLine};
 
 use abc_lines::{Book, Line, LineKind, cut_book, field_text, kind_of};
-use case_texts::{put_line, put_number, within_limit};
+use case_texts::{Report, within_limit};
 use mus_units::{Memory, Text};
 use std::alloc::Global;
 
@@ -25,21 +25,19 @@ pub(crate) fn line_of(alloc: Global, bytes: &[u8]) -> Result<Line, Memory>
 
 /// Adds a book line by line: each line as its number and its text, and a tune's lines behind
 /// `#` and its place among the tunes.
-pub(crate) fn put_book(alloc: Global, out: &mut Text, bytes: &[u8]) -> Result<(), Memory> {
-    let book = book_of(alloc, bytes)?;
-    put_lines(alloc, out, book.header.as_slice())?;
+pub(crate) fn put_book(out: &mut Report, bytes: &[u8]) -> Result<(), Memory> {
+    let book = book_of(out.alloc, bytes)?;
+    put_lines(out, book.header.as_slice())?;
     for tune in book.tunes.as_slice() {
-        put_line(out, b"#")?;
-        put_number(alloc, out, u64::from(tune.ordinal))?;
-        put_lines(alloc, out, tune.lines.as_slice())?;
+        out.line_number(b"#", u64::from(tune.ordinal))?;
+        put_lines(out, tune.lines.as_slice())?;
     }
     Ok(())
 }
 
-fn put_lines(alloc: Global, out: &mut Text, lines: &[Line]) -> Result<(), Memory> {
+fn put_lines(out: &mut Report, lines: &[Line]) -> Result<(), Memory> {
     for line in lines {
-        put_line(out, b"")?;
-        put_number(alloc, out, u64::from(line.number))?;
+        out.line_number(b"", u64::from(line.number))?;
         out.push(b':')?;
         out.append(line.text.as_slice())?;
     }
@@ -47,8 +45,8 @@ fn put_lines(alloc: Global, out: &mut Text, lines: &[Line]) -> Result<(), Memory
 }
 
 /// Adds what a line is by its first bytes.
-pub(crate) fn put_line_kind(alloc: Global, out: &mut Text, bytes: &[u8]) -> Result<(), Memory> {
-    match kind_of(&line_of(alloc, bytes)?) {
+pub(crate) fn put_line_kind(out: &mut Report, bytes: &[u8]) -> Result<(), Memory> {
+    match kind_of(&line_of(out.alloc, bytes)?) {
         LineKind::Field { letter } => {
             out.append(b"field ")?;
             out.push(letter)
@@ -59,8 +57,8 @@ pub(crate) fn put_line_kind(alloc: Global, out: &mut Text, bytes: &[u8]) -> Resu
 }
 
 /// Adds what a line has behind its first two bytes, between angle brackets.
-pub(crate) fn put_field_text(alloc: Global, out: &mut Text, bytes: &[u8]) -> Result<(), Memory> {
+pub(crate) fn put_field_text(out: &mut Report, bytes: &[u8]) -> Result<(), Memory> {
     out.push(b'<')?;
-    out.append(field_text(&line_of(alloc, bytes)?))?;
+    out.append(field_text(&line_of(out.alloc, bytes)?))?;
     out.push(b'>')
 }

@@ -1,43 +1,37 @@
 use crate::books::line_of;
 use abc_fields::{Breaks, Field, FieldError, KeyText, VoiceDef, read_field, read_named};
 use case_texts::{
-    put_clef, put_fault, put_frac, put_kind, put_meter, put_next, put_signs, put_spread, put_text,
+    Report, put_clef, put_fault, put_frac, put_kind, put_meter, put_signs, put_spread, put_text,
     put_wish,
 };
-use mus_units::{Memory, Text};
-use std::alloc::Global;
+use mus_units::Memory;
 
 /// Adds what a line says, or its fault.
-pub(crate) fn put_field_of_line(alloc: Global, out: &mut Text, bytes: &[u8]) -> Result<(), Memory> {
-    match read_field(alloc, &line_of(alloc, bytes)?) {
-        Ok(field) => put_field(alloc, out, &field),
-        Err(error) => put_fault(alloc, out, error),
+pub(crate) fn put_field_of_line(out: &mut Report, bytes: &[u8]) -> Result<(), Memory> {
+    match read_field(out.alloc, &line_of(out.alloc, bytes)?) {
+        Ok(field) => put_field(out, &field),
+        Err(error) => put_fault(out, error),
     }
 }
 
 /// Adds what a letter and a text within a music line say, or their fault.
-pub(crate) fn put_named_field(
-    alloc: Global,
-    out: &mut Text,
-    word: &str,
-    bytes: &[u8],
-) -> Result<(), Memory> {
+pub(crate) fn put_named_field(out: &mut Report, word: &str, bytes: &[u8]) -> Result<(), Memory> {
     let letter = word.as_bytes().first().copied().unwrap_or(b'?');
-    match read_named(alloc, letter, bytes) {
-        Ok(field) => put_field(alloc, out, &field),
+    match read_named(out.alloc, letter, bytes) {
+        Ok(field) => put_field(out, &field),
         Err(FieldError::Fault(kind)) => {
             out.append(b"fault ")?;
-            put_kind(alloc, out, kind)
+            put_kind(out, kind)
         }
         Err(FieldError::Memory) => Err(Memory),
     }
 }
 
-fn put_field(alloc: Global, out: &mut Text, field: &Field) -> Result<(), Memory> {
+fn put_field(out: &mut Report, field: &Field) -> Result<(), Memory> {
     match field {
         Field::Key(text) => put_key_text(out, text),
-        Field::Meter(meter) => put_meter(alloc, out, *meter),
-        Field::Unit(unit) => put_frac(alloc, out, b"unit", *unit),
+        Field::Meter(meter) => put_meter(out, *meter),
+        Field::Unit(unit) => put_frac(out, b"unit", *unit),
         Field::Voice(voice) => put_voice(out, voice),
         Field::Breaks(breaks) => put_breaks(out, *breaks),
         Field::Spread(spread) => put_spread(out, *spread),
@@ -46,18 +40,18 @@ fn put_field(alloc: Global, out: &mut Text, field: &Field) -> Result<(), Memory>
 }
 
 /// Adds a field that is kept as written, or `other`.
-fn put_written(out: &mut Text, field: &Field) -> Result<(), Memory> {
+fn put_written(out: &mut Report, field: &Field) -> Result<(), Memory> {
     match field {
         Field::Words(text) => put_text(out, b"words", text.as_slice()),
         Field::Title(text) => put_text(out, b"title", text.as_slice()),
         Field::Composer(text) => put_text(out, b"composer", text.as_slice()),
         Field::Tempo(text) => put_text(out, b"tempo", text.as_slice()),
-        _ => put_next(out, b"other"),
+        _ => out.next(b"other"),
     }
 }
 
 /// Adds `key` and the signs of a whole key, or `adds` and those that are added; then the clef.
-fn put_key_text(out: &mut Text, text: &KeyText) -> Result<(), Memory> {
+fn put_key_text(out: &mut Report, text: &KeyText) -> Result<(), Memory> {
     match &text.key {
         Some(key) => put_signs(out, b"key", key.signs.as_slice())?,
         None => put_signs(out, b"adds", text.adds.as_slice())?,
@@ -69,7 +63,7 @@ fn put_key_text(out: &mut Text, text: &KeyText) -> Result<(), Memory> {
 }
 
 /// Adds `voice`, its id, its clef if it names one, and the way of its stems.
-pub(crate) fn put_voice(out: &mut Text, voice: &VoiceDef) -> Result<(), Memory> {
+pub(crate) fn put_voice(out: &mut Report, voice: &VoiceDef) -> Result<(), Memory> {
     put_text(out, b"voice", voice.id.as_slice())?;
     if let Some(clef) = voice.clef {
         put_clef(out, clef)?;
@@ -78,13 +72,9 @@ pub(crate) fn put_voice(out: &mut Text, voice: &VoiceDef) -> Result<(), Memory> 
 }
 
 /// Adds `breaks` and the names of those that are on.
-pub(crate) fn put_breaks(out: &mut Text, breaks: Breaks) -> Result<(), Memory> {
-    put_next(out, b"breaks")?;
-    put_flag(out, breaks.eol, b"eol")?;
-    put_flag(out, breaks.dollar, b"dollar")?;
-    put_flag(out, breaks.bang, b"bang")
-}
-
-fn put_flag(out: &mut Text, is_on: bool, name: &[u8]) -> Result<(), Memory> {
-    if is_on { put_next(out, name) } else { Ok(()) }
+pub(crate) fn put_breaks(out: &mut Report, breaks: Breaks) -> Result<(), Memory> {
+    out.next(b"breaks")?;
+    out.flag(breaks.eol, b"eol")?;
+    out.flag(breaks.dollar, b"dollar")?;
+    out.flag(breaks.bang, b"bang")
 }

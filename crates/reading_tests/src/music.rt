@@ -3,8 +3,8 @@ use crate::tokens::put_tokens;
 use abc_lines::TuneError;
 use abc_spell::spell;
 use abc_tokens::{Placed, Token, read_front, read_music};
-use case_texts::{put_fault, put_line};
-use mus_units::{Memory, Row, Text};
+use case_texts::{Report, put_fault};
+use mus_units::{Memory, Row};
 use std::alloc::Global;
 
 /// Whether an argument says that an exclamation mark is a line break.
@@ -13,49 +13,34 @@ fn is_bang(word: &str) -> bool {
 }
 
 /// Adds the tokens of a music line, or its fault.
-pub(crate) fn put_music(
-    alloc: Global,
-    out: &mut Text,
-    word: &str,
-    bytes: &[u8],
-) -> Result<(), Memory> {
-    match read_music(alloc, &line_of(alloc, bytes)?, is_bang(word)) {
-        Ok(tokens) => put_tokens(alloc, out, tokens.as_slice()),
-        Err(error) => put_fault(alloc, out, error),
+pub(crate) fn put_music(out: &mut Report, word: &str, bytes: &[u8]) -> Result<(), Memory> {
+    match read_music(out.alloc, &line_of(out.alloc, bytes)?, is_bang(word)) {
+        Ok(tokens) => put_tokens(out, tokens.as_slice()),
+        Err(error) => put_fault(out, error),
     }
 }
 
 /// Adds the tokens of a music line up to its first fault, and that fault if it has one.
-pub(crate) fn put_front(
-    alloc: Global,
-    out: &mut Text,
-    word: &str,
-    bytes: &[u8],
-) -> Result<(), Memory> {
-    let front = read_front(alloc, &line_of(alloc, bytes)?, is_bang(word))?;
-    put_tokens(alloc, out, front.tokens.as_slice())?;
+pub(crate) fn put_front(out: &mut Report, word: &str, bytes: &[u8]) -> Result<(), Memory> {
+    let front = read_front(out.alloc, &line_of(out.alloc, bytes)?, is_bang(word))?;
+    put_tokens(out, front.tokens.as_slice())?;
     match front.fault {
         Some(fault) => {
-            put_line(out, b"then")?;
-            put_fault(alloc, out, TuneError::Fault(fault))
+            out.line(b"then")?;
+            put_fault(out, TuneError::Fault(fault))
         }
         None => Ok(()),
     }
 }
 
 /// Adds the plain spelling of the tokens of a music line, or its fault.
-pub(crate) fn put_spelling(
-    alloc: Global,
-    out: &mut Text,
-    word: &str,
-    bytes: &[u8],
-) -> Result<(), Memory> {
-    match read_music(alloc, &line_of(alloc, bytes)?, is_bang(word)) {
+pub(crate) fn put_spelling(out: &mut Report, word: &str, bytes: &[u8]) -> Result<(), Memory> {
+    match read_music(out.alloc, &line_of(out.alloc, bytes)?, is_bang(word)) {
         Ok(placed) => {
-            let tokens = tokens_of(alloc, placed)?;
-            out.append(spell(alloc, tokens.as_slice())?.as_slice())
+            let tokens = tokens_of(out.alloc, placed)?;
+            out.append(spell(out.alloc, tokens.as_slice())?.as_slice())
         }
-        Err(error) => put_fault(alloc, out, error),
+        Err(error) => put_fault(out, error),
     }
 }
 

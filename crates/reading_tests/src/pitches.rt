@@ -2,21 +2,16 @@ use crate::books::line_of;
 use abc_fields::directive::read_spread;
 use abc_fields::key::read_key;
 use abc_tokens::{Head, Placed, Token, read_front};
-use case_texts::{alter_named, clef_named, letter_named, put_signed, put_signs};
+use case_texts::{Report, alter_named, clef_named, letter_named, put_signs};
 use mus_pitch::{Mode, in_force, key_of, lay, signature};
-use mus_units::{Alter, Memory, Row, Spread, Text, height};
+use mus_units::{Alter, Memory, Row, Spread, height};
 use std::alloc::Global;
 
 /// Adds the height of the first note of a line in a clef.
-pub(crate) fn put_height(
-    alloc: Global,
-    out: &mut Text,
-    word: &str,
-    bytes: &[u8],
-) -> Result<(), Memory> {
-    let heads = heads_of(alloc, bytes)?;
+pub(crate) fn put_height(out: &mut Report, word: &str, bytes: &[u8]) -> Result<(), Memory> {
+    let heads = heads_of(out.alloc, bytes)?;
     match heads.as_slice().first() {
-        Some(head) => put_signed(alloc, out, height(head.pitch, clef_named(word))),
+        Some(head) => out.signed(height(head.pitch, clef_named(word))),
         None => out.append(b"none"),
     }
 }
@@ -41,15 +36,10 @@ fn head_of(placed: &Placed) -> Option<Head> {
 }
 
 /// Adds the number of sharps of a tonic, such as `F#`, in a mode, or `none`.
-pub(crate) fn put_signature(
-    alloc: Global,
-    out: &mut Text,
-    mode: &str,
-    tonic: &str,
-) -> Result<(), Memory> {
+pub(crate) fn put_signature(out: &mut Report, mode: &str, tonic: &str) -> Result<(), Memory> {
     let (letter, alter) = tonic.split_at_checked(1).unwrap_or((tonic, ""));
     match signature(letter_named(letter), alter_named(alter), mode_named(mode)) {
-        Some(sharps) => put_signed(alloc, out, i64::from(sharps)),
+        Some(sharps) => out.signed(i64::from(sharps)),
         None => out.append(b"none"),
     }
 }
@@ -68,45 +58,32 @@ fn mode_named(name: &str) -> Mode {
 
 /// The number of sharps that a text says, negative for flats.
 fn sharps_of(text: &str) -> i8 {
-    match text.parse::<i8>() {
-        Ok(sharps) => sharps,
-        Err(_) => 0,
-    }
+    text.parse::<i8>().unwrap_or(0)
 }
 
 /// Adds the key of a number of sharps.
-pub(crate) fn put_key(alloc: Global, out: &mut Text, sharps: &str) -> Result<(), Memory> {
-    let key = key_of(alloc, sharps_of(sharps))?;
+pub(crate) fn put_key(out: &mut Report, sharps: &str) -> Result<(), Memory> {
+    let key = key_of(out.alloc, sharps_of(sharps))?;
     put_signs(out, b"key", key.signs.as_slice())
 }
 
 /// Adds the key of a number of sharps with further signs laid on it, such as `=F _B`.
-pub(crate) fn put_laid_key(
-    alloc: Global,
-    out: &mut Text,
-    sharps: &str,
-    signs: &[u8],
-) -> Result<(), Memory> {
-    let key = key_of(alloc, sharps_of(sharps))?;
-    let Some(text) = read_key(alloc, signs)? else {
+pub(crate) fn put_laid_key(out: &mut Report, sharps: &str, signs: &[u8]) -> Result<(), Memory> {
+    let key = key_of(out.alloc, sharps_of(sharps))?;
+    let Some(text) = read_key(out.alloc, signs)? else {
         return out.append(b"no signs");
     };
-    let laid = lay(alloc, &key, text.adds.as_slice())?;
+    let laid = lay(out.alloc, &key, text.adds.as_slice())?;
     put_signs(out, b"key", laid.signs.as_slice())
 }
 
 /// Adds the alteration of the last note of a line behind the others: the argument says how far
 /// signs reach and the key's number of sharps, such as `octave 1`.
-pub(crate) fn put_alteration(
-    alloc: Global,
-    out: &mut Text,
-    word: &str,
-    bytes: &[u8],
-) -> Result<(), Memory> {
+pub(crate) fn put_alteration(out: &mut Report, word: &str, bytes: &[u8]) -> Result<(), Memory> {
     let (reach, sharps) = word.split_once(" ").unwrap_or((word, "0"));
     let spread = read_spread(reach.as_bytes()).unwrap_or(Spread::Pitch);
-    let key = key_of(alloc, sharps_of(sharps))?;
-    let heads = heads_of(alloc, bytes)?;
+    let key = key_of(out.alloc, sharps_of(sharps))?;
+    let heads = heads_of(out.alloc, bytes)?;
     match heads.as_slice().split_last() {
         Some((head, said)) => out.append(alteration_name(in_force(
             head.pitch, head.sign, said, spread, &key,

@@ -1,30 +1,41 @@
 use abc_tokens::{Deco, GraceChord, Head, Len, Placed, Token};
-use case_texts::{put_bar, put_deco, put_head, put_next, put_number};
+use case_texts::{Report, put_bar, put_deco, put_head};
 use mus_units::{Memory, Text};
-use std::alloc::Global;
 
 /// Adds tokens, each as its column, a colon and what it says.
-pub(crate) fn put_tokens(alloc: Global, out: &mut Text, tokens: &[Placed]) -> Result<(), Memory> {
+pub(crate) fn put_tokens(out: &mut Report, tokens: &[Placed]) -> Result<(), Memory> {
     for placed in tokens {
-        put_next(out, b"")?;
-        put_number(alloc, out, u64::from(placed.column))?;
+        out.next_number(b"", u64::from(placed.column))?;
         out.push(b':')?;
-        put_token(alloc, out, &placed.token)?;
+        put_token(out, &placed.token)?;
     }
     Ok(())
 }
 
-fn put_token(alloc: Global, out: &mut Text, token: &Token) -> Result<(), Memory> {
+fn put_token(out: &mut Report, token: &Token) -> Result<(), Memory> {
     match token {
-        Token::Note { head, len } => put_note(alloc, out, *head, *len),
-        Token::Rest { seen, len } => put_rest(alloc, out, *seen, *len),
-        Token::Measures { seen, count } => put_measures(alloc, out, *seen, *count),
-        Token::Chord { heads, decos, len } => {
-            put_chord(alloc, out, heads.as_slice(), decos.as_slice(), *len)
+        Token::Note { head, len } => {
+            out.push(b'n')?;
+            put_head(out, *head)?;
+            put_len(out, *len)
         }
-        Token::Grace { slash, body } => put_grace(alloc, out, *slash, body.as_slice()),
-        Token::Tuplet { p, q, r } => put_tuplet(alloc, out, *p, *q, *r),
-        Token::Broken { right, dots } => put_broken(alloc, out, *right, *dots),
+        Token::Rest { seen, len } => {
+            out.push(if *seen { b'z' } else { b'x' })?;
+            put_len(out, *len)
+        }
+        Token::Measures { seen, count } => {
+            out.push(if *seen { b'Z' } else { b'X' })?;
+            out.number(u64::from(*count))
+        }
+        Token::Chord { heads, decos, len } => {
+            put_chord(out, heads.as_slice(), decos.as_slice(), *len)
+        }
+        Token::Grace { slash, body } => put_grace(out, *slash, body.as_slice()),
+        Token::Tuplet { p, q, r } => out.append(format!(in out.alloc; "t{p}:{q}:{r}")?.as_bytes()),
+        Token::Broken { right, dots } => {
+            out.push(if *right { b'>' } else { b'<' })?;
+            out.number(u64::from(*dots))
+        }
         Token::Deco(deco) => {
             out.push(b'd')?;
             put_deco(out, deco)
@@ -34,7 +45,7 @@ fn put_token(alloc: Global, out: &mut Text, token: &Token) -> Result<(), Memory>
 }
 
 /// Adds a token that is a mark or a text alone.
-fn put_plain(out: &mut Text, token: &Token) -> Result<(), Memory> {
+fn put_plain(out: &mut Report, token: &Token) -> Result<(), Memory> {
     match token {
         Token::Bar(bar) => {
             out.push(b'b')?;
@@ -61,59 +72,42 @@ fn mark_of(token: &Token) -> &'static [u8] {
     }
 }
 
-fn put_said(out: &mut Text, letter: u8, text: &Text) -> Result<(), Memory> {
+fn put_said(out: &mut Report, letter: u8, text: &Text) -> Result<(), Memory> {
     out.push(letter)?;
     out.append(text.as_slice())
 }
 
-fn put_note(alloc: Global, out: &mut Text, head: Head, len: Len) -> Result<(), Memory> {
-    out.push(b'n')?;
-    put_head(alloc, out, head)?;
-    put_len(alloc, out, len)
-}
-
-fn put_rest(alloc: Global, out: &mut Text, seen: bool, len: Len) -> Result<(), Memory> {
-    out.push(if seen { b'z' } else { b'x' })?;
-    put_len(alloc, out, len)
-}
-
-fn put_measures(alloc: Global, out: &mut Text, seen: bool, count: u16) -> Result<(), Memory> {
-    out.push(if seen { b'Z' } else { b'X' })?;
-    put_number(alloc, out, u64::from(count))
-}
-
 /// Adds a length, and nothing for a length of 1.
-fn put_len(alloc: Global, out: &mut Text, len: Len) -> Result<(), Memory> {
+fn put_len(out: &mut Report, len: Len) -> Result<(), Memory> {
     if len.num == 1 && len.den == 1 {
         return Ok(());
     }
-    out.append(format!(in alloc; "*{}/{}", len.num, len.den)?.as_bytes())
+    out.append(format!(in out.alloc; "*{}/{}", len.num, len.den)?.as_bytes())
 }
 
 fn put_chord(
-    alloc: Global,
-    out: &mut Text,
+    out: &mut Report,
     heads: &[(Head, Len)],
     decos: &[Deco],
     len: Len,
 ) -> Result<(), Memory> {
     out.append(b"c(")?;
-    put_chord_heads(alloc, out, heads)?;
+    put_chord_heads(out, heads)?;
     put_chord_decos(out, decos)?;
     out.push(b')')?;
-    put_len(alloc, out, len)
+    put_len(out, len)
 }
 
-fn put_chord_heads(alloc: Global, out: &mut Text, heads: &[(Head, Len)]) -> Result<(), Memory> {
+fn put_chord_heads(out: &mut Report, heads: &[(Head, Len)]) -> Result<(), Memory> {
     for (head, len) in heads {
-        put_head(alloc, out, *head)?;
-        put_len(alloc, out, *len)?;
+        put_head(out, *head)?;
+        put_len(out, *len)?;
         out.push(b',')?;
     }
     Ok(())
 }
 
-fn put_chord_decos(out: &mut Text, decos: &[Deco]) -> Result<(), Memory> {
+fn put_chord_decos(out: &mut Report, decos: &[Deco]) -> Result<(), Memory> {
     for deco in decos {
         out.push(b';')?;
         put_deco(out, deco)?;
@@ -121,31 +115,17 @@ fn put_chord_decos(out: &mut Text, decos: &[Deco]) -> Result<(), Memory> {
     Ok(())
 }
 
-fn put_grace(
-    alloc: Global,
-    out: &mut Text,
-    slash: bool,
-    body: &[GraceChord],
-) -> Result<(), Memory> {
+fn put_grace(out: &mut Report, slash: bool, body: &[GraceChord]) -> Result<(), Memory> {
     out.append(if slash { b"g/(" } else { b"g(" })?;
     for chord in body {
-        put_grace_chord(alloc, out, chord.heads.as_slice())?;
+        put_grace_chord(out, chord.heads.as_slice())?;
     }
     out.push(b')')
 }
 
-fn put_grace_chord(alloc: Global, out: &mut Text, heads: &[Head]) -> Result<(), Memory> {
+fn put_grace_chord(out: &mut Report, heads: &[Head]) -> Result<(), Memory> {
     for head in heads {
-        put_head(alloc, out, *head)?;
+        put_head(out, *head)?;
     }
     out.push(b',')
-}
-
-fn put_tuplet(alloc: Global, out: &mut Text, p: u8, q: u8, r: u8) -> Result<(), Memory> {
-    out.append(format!(in alloc; "t{p}:{q}:{r}")?.as_bytes())
-}
-
-fn put_broken(alloc: Global, out: &mut Text, right: bool, dots: u8) -> Result<(), Memory> {
-    out.push(if right { b'>' } else { b'<' })?;
-    put_number(alloc, out, u64::from(dots))
 }

@@ -1,8 +1,7 @@
 ghost use Rattle.std.specs.Prelude.{◌≤◌, ◌^◌};
 
-use case_texts::{number_of, put_next, put_number, put_value};
-use mus_units::{Frac, Memory, Text, parts_of, ticks_of, value_of};
-use std::alloc::Global;
+use case_texts::{Report, number_of, put_value};
+use mus_units::{Frac, Memory, parts_of, ticks_of, value_of};
 
 /// The greatest number that a length is asked with.
 const MOST: u64 = 1 << 56;
@@ -22,7 +21,7 @@ fn fraction_of(text: &str) -> Frac
 }
 
 /// Adds the value that has a length, or `none`.
-pub(crate) fn put_value_of(out: &mut Text, text: &str) -> Result<(), Memory> {
+pub(crate) fn put_value_of(out: &mut Report, text: &str) -> Result<(), Memory> {
     let length = fraction_of(text);
     match value_of(length.num, length.den) {
         Some(value) => put_value(out, value),
@@ -31,22 +30,22 @@ pub(crate) fn put_value_of(out: &mut Text, text: &str) -> Result<(), Memory> {
 }
 
 /// Adds the ticks of the value that has a length, or `none`.
-pub(crate) fn put_ticks(alloc: Global, out: &mut Text, text: &str) -> Result<(), Memory> {
+pub(crate) fn put_ticks(out: &mut Report, text: &str) -> Result<(), Memory> {
     let length = fraction_of(text);
     match value_of(length.num, length.den) {
-        Some(value) => put_number(alloc, out, ticks_of(value)),
+        Some(value) => out.number(ticks_of(value)),
         None => out.append(b"none"),
     }
 }
 
 /// Adds the parts of a length, or `none`.
-pub(crate) fn put_parts(alloc: Global, out: &mut Text, text: &str) -> Result<(), Memory> {
+pub(crate) fn put_parts(out: &mut Report, text: &str) -> Result<(), Memory> {
     let length = fraction_of(text);
-    let Some(parts) = parts_of(alloc, length.num, length.den)? else {
+    let Some(parts) = parts_of(out.alloc, length.num, length.den)? else {
         return out.append(b"none");
     };
     for part in parts.as_slice() {
-        put_next(out, b"")?;
+        out.next(b"")?;
         put_value(out, *part)?;
     }
     Ok(())

@@ -1,27 +1,26 @@
 ghost use Rattle.mus_score.specs.GoodScore.{IsGoodScore};
 
 use crate::times::measures_named;
-use case_texts::{put_line, put_next};
+use case_texts::Report;
 use mus_arcs::{Arc, arcs, pieces};
 use mus_score::Score;
-use mus_units::{Memory, Text};
-use std::alloc::Global;
+use mus_units::Memory;
 
 /// Adds a line for each slur and tie of each voice.
-pub(crate) fn put_arcs(alloc: Global, out: &mut Text, score: &Score) -> Result<(), Memory>
+pub(crate) fn put_arcs(out: &mut Report, score: &Score) -> Result<(), Memory>
     requires { IsGoodScore score.now }
 {
     for voice in score.voices.as_slice() {
-        let arcs = arcs(alloc, voice)?;
-        put_all(alloc, out, arcs.as_slice())?;
+        let arcs = arcs(out.alloc, voice)?;
+        put_all(out, arcs.as_slice())?;
     }
     Ok(())
 }
 
-fn put_all(alloc: Global, out: &mut Text, arcs: &[Arc]) -> Result<(), Memory> {
+fn put_all(out: &mut Report, arcs: &[Arc]) -> Result<(), Memory> {
     for arc in arcs {
-        put_line(out, if arc.tie { b"tie " } else { b"slur " })?;
-        let text = format!(in alloc;
+        out.line(if arc.tie { b"tie " } else { b"slur " })?;
+        let text = format!(in out.alloc;
             "{} to {} head {} measures {} to {}",
             arc.first, arc.last, arc.head, arc.from, arc.to
         )?;
@@ -32,7 +31,7 @@ fn put_all(alloc: Global, out: &mut Text, arcs: &[Arc]) -> Result<(), Memory> {
 
 /// Adds what a system of the measures a to b - 1, which the argument names, draws of a slur of
 /// the measures that the input names.
-pub(crate) fn put_piece(out: &mut Text, word: &str, input: &str) -> Result<(), Memory> {
+pub(crate) fn put_piece(out: &mut Report, word: &str, input: &str) -> Result<(), Memory> {
     let (a, b) = measures_named(word);
     let (from, to) = measures_named(input);
     let arc = Arc {
@@ -45,23 +44,17 @@ pub(crate) fn put_piece(out: &mut Text, word: &str, input: &str) -> Result<(), M
     };
     match pieces(&arc, a, b) {
         Some(piece) => {
-            put_next(
-                out,
-                if piece.cut_left {
-                    b"cut left"
-                } else {
-                    b"whole left"
-                },
-            )?;
-            put_next(
-                out,
-                if piece.cut_right {
-                    b"cut right"
-                } else {
-                    b"whole right"
-                },
-            )
+            out.next(if piece.cut_left {
+                b"cut left"
+            } else {
+                b"whole left"
+            })?;
+            out.next(if piece.cut_right {
+                b"cut right"
+            } else {
+                b"whole right"
+            })
         }
-        None => put_next(out, b"none"),
+        None => out.next(b"none"),
     }
 }

@@ -2,125 +2,112 @@ ghost use Rattle.std.specs.Prelude.{All};
 ghost use Rattle.mus_score.specs.Good.{IsGoodBody};
 ghost use Rattle.mus_score.specs.GoodScore.{IsGoodScore};
 
-use case_texts::{number_of, put_head, put_line, put_next, put_number};
+use case_texts::{Report, number_of, put_head};
 use mus_score::{
     Event, Flat, Measure, Music, Score, body_duration, duration, events, is_good_body,
 };
 use mus_time::{Class, ColumnKey, Timeline, further_keys, keys_of, onsets};
-use mus_units::{Memory, Text};
-use std::alloc::Global;
+use mus_units::Memory;
 
 /// Adds a line for each event of a score, voice by voice: its id, its duration, the tuplets that
 /// begin at it, and the graces before it.
-pub(crate) fn put_flats(alloc: Global, out: &mut Text, score: &Score) -> Result<(), Memory>
+pub(crate) fn put_flats(out: &mut Report, score: &Score) -> Result<(), Memory>
     requires { IsGoodScore score.now }
 {
     for voice in score.voices.as_slice() {
-        let flats = events(alloc, voice.measures.as_slice())?;
-        put_all_flats(alloc, out, flats.as_slice())?;
+        let flats = events(out.alloc, voice.measures.as_slice())?;
+        put_all_flats(out, flats.as_slice())?;
     }
     Ok(())
 }
 
-fn put_all_flats(alloc: Global, out: &mut Text, flats: &[Flat]) -> Result<(), Memory> {
+fn put_all_flats(out: &mut Report, flats: &[Flat]) -> Result<(), Memory> {
     for flat in flats {
-        put_flat(alloc, out, flat)?;
+        put_flat(out, flat)?;
     }
     Ok(())
 }
 
-fn put_flat(alloc: Global, out: &mut Text, flat: &Flat) -> Result<(), Memory> {
-    put_line(out, b"")?;
-    put_number(alloc, out, u64::from(flat.event.id))?;
-    put_next(out, b"")?;
-    put_number(alloc, out, flat.duration)?;
-    put_tuplets(alloc, out, flat.tuplets.as_slice())?;
-    put_graces(alloc, out, flat.graces.as_slice())?;
-    if flat.slash {
-        put_next(out, b"slash")
-    } else {
-        Ok(())
-    }
+fn put_flat(out: &mut Report, flat: &Flat) -> Result<(), Memory> {
+    out.line_number(b"", u64::from(flat.event.id))?;
+    out.next_number(b"", flat.duration)?;
+    put_tuplets(out, flat.tuplets.as_slice())?;
+    put_graces(out, flat.graces.as_slice())?;
+    out.flag(flat.slash, b"slash")
 }
 
-fn put_tuplets(alloc: Global, out: &mut Text, tuplets: &[u8]) -> Result<(), Memory> {
+fn put_tuplets(out: &mut Report, tuplets: &[u8]) -> Result<(), Memory> {
     for p in tuplets {
-        put_next(out, b"tuplet ")?;
-        put_number(alloc, out, u64::from(*p))?;
+        out.next_number(b"tuplet ", u64::from(*p))?;
     }
     Ok(())
 }
 
-fn put_graces(alloc: Global, out: &mut Text, graces: &[Event]) -> Result<(), Memory> {
+fn put_graces(out: &mut Report, graces: &[Event]) -> Result<(), Memory> {
     for grace in graces {
-        put_next(out, b"grace")?;
+        out.next(b"grace")?;
         for head in grace.heads.as_slice() {
-            put_next(out, b"")?;
-            put_head(alloc, out, *head)?;
+            out.next(b"")?;
+            put_head(out, *head)?;
         }
     }
     Ok(())
 }
 
 /// Adds a line for each measure of each voice: the durations of its nodes, and of all together.
-pub(crate) fn put_durations(alloc: Global, out: &mut Text, score: &Score) -> Result<(), Memory>
+pub(crate) fn put_durations(out: &mut Report, score: &Score) -> Result<(), Memory>
     requires { IsGoodScore score.now }
 {
     for voice in score.voices.as_slice() {
-        put_measure_durations(alloc, out, voice.measures.as_slice())?;
+        put_measure_durations(out, voice.measures.as_slice())?;
     }
     Ok(())
 }
 
-fn put_measure_durations(alloc: Global, out: &mut Text, measures: &[Measure]) -> Result<(), Memory>
+fn put_measure_durations(out: &mut Report, measures: &[Measure]) -> Result<(), Memory>
     requires { All (λ m. IsGoodBody m.body) measures.now }
 {
     for measure in measures {
-        put_line(out, b"nodes")?;
-        put_node_durations(alloc, out, measure.body.as_slice())?;
-        put_next(out, b"all ")?;
-        put_number(alloc, out, body_duration(measure.body.as_slice()))?;
+        out.line(b"nodes")?;
+        put_node_durations(out, measure.body.as_slice())?;
+        out.next_number(b"all ", body_duration(measure.body.as_slice()))?;
     }
     Ok(())
 }
 
-fn put_node_durations(alloc: Global, out: &mut Text, body: &[Music]) -> Result<(), Memory> {
+fn put_node_durations(out: &mut Report, body: &[Music]) -> Result<(), Memory> {
     for node in body.chunks(1) {
-        put_node_duration(alloc, out, node)?;
+        put_node_duration(out, node)?;
     }
     Ok(())
 }
 
 /// Adds the duration of a body of one node, if it is good.
-fn put_node_duration(alloc: Global, out: &mut Text, node: &[Music]) -> Result<(), Memory> {
+fn put_node_duration(out: &mut Report, node: &[Music]) -> Result<(), Memory> {
     match node {
-        [only] if is_good_body(node) => {
-            put_next(out, b"")?;
-            put_number(alloc, out, duration(only))
-        }
-        _ => put_next(out, b"none"),
+        [only] if is_good_body(node) => { out.next_number(b"", duration(only)) }
+        _ => out.next(b"none"),
     }
 }
 
 /// Adds a line for each event: its voice, its measure, its id and its tick; then the lengths of
 /// the measures.
-pub(crate) fn put_onsets(alloc: Global, out: &mut Text, score: &Score) -> Result<(), Memory>
+pub(crate) fn put_onsets(out: &mut Report, score: &Score) -> Result<(), Memory>
     requires { IsGoodScore score.now }
 {
-    let times = onsets(alloc, score)?;
-    put_ticks(alloc, out, &times)?;
-    put_line(out, b"lengths")?;
+    let times = onsets(out.alloc, score)?;
+    put_ticks(out, &times)?;
+    out.line(b"lengths")?;
     for length in times.lengths.as_slice() {
-        put_next(out, b"")?;
-        put_number(alloc, out, *length)?;
+        out.next_number(b"", *length)?;
     }
     Ok(())
 }
 
-fn put_ticks(alloc: Global, out: &mut Text, times: &Timeline) -> Result<(), Memory> {
+fn put_ticks(out: &mut Report, times: &Timeline) -> Result<(), Memory> {
     for onset in times.onsets.as_slice() {
-        put_line(out, b"voice ")?;
-        let text = format!(in alloc;
+        out.line(b"voice ")?;
+        let text = format!(in out.alloc;
             "{} measure {} event {} tick {}",
             onset.voice, onset.measure, onset.event, onset.tick
         )?;
@@ -130,39 +117,29 @@ fn put_ticks(alloc: Global, out: &mut Text, times: &Timeline) -> Result<(), Memo
 }
 
 /// Adds the keys of the columns of the measures a to b - 1, which the argument names as `a b`.
-pub(crate) fn put_keys(
-    alloc: Global,
-    out: &mut Text,
-    word: &str,
-    score: &Score,
-) -> Result<(), Memory>
+pub(crate) fn put_keys(out: &mut Report, word: &str, score: &Score) -> Result<(), Memory>
     requires { IsGoodScore score.now }
 {
     let (a, b) = measures_named(word);
     if a >= b || b > score.measures {
-        return put_line(out, b"no such measures");
+        return out.line(b"no such measures");
     }
-    let times = onsets(alloc, score)?;
-    let keys = keys_of(alloc, score, &times, a, b)?;
-    put_column_keys(alloc, out, keys.as_slice())
+    let times = onsets(out.alloc, score)?;
+    let keys = keys_of(out.alloc, score, &times, a, b)?;
+    put_column_keys(out, keys.as_slice())
 }
 
 /// Adds the keys of the columns of a measure that stands behind another in its system.
-pub(crate) fn put_further_keys(
-    alloc: Global,
-    out: &mut Text,
-    word: &str,
-    score: &Score,
-) -> Result<(), Memory>
+pub(crate) fn put_further_keys(out: &mut Report, word: &str, score: &Score) -> Result<(), Memory>
     requires { IsGoodScore score.now }
 {
     let (measure, _) = measures_named(word);
     if measure >= score.measures {
-        return put_line(out, b"no such measure");
+        return out.line(b"no such measure");
     }
-    let times = onsets(alloc, score)?;
-    let keys = further_keys(alloc, score, &times, measure)?;
-    put_column_keys(alloc, out, keys.as_slice())
+    let times = onsets(out.alloc, score)?;
+    let keys = further_keys(out.alloc, score, &times, measure)?;
+    put_column_keys(out, keys.as_slice())
 }
 
 /// The two numbers of a text such as `0 2`.
@@ -175,10 +152,10 @@ fn measure_named(word: &str) -> u32 {
     u32::try_from(number_of(word)).unwrap_or(u32::MAX)
 }
 
-fn put_column_keys(alloc: Global, out: &mut Text, keys: &[ColumnKey]) -> Result<(), Memory> {
+fn put_column_keys(out: &mut Report, keys: &[ColumnKey]) -> Result<(), Memory> {
     for key in keys {
-        put_line(out, class_name(key.class))?;
-        let text = format!(in alloc;
+        out.line(class_name(key.class))?;
+        let text = format!(in out.alloc;
             " measure {} tick {} place {}",
             key.measure, key.tick, key.place
         )?;

@@ -11,36 +11,6 @@ use mus_score::Score;
 use mus_units::{Memory, Text};
 use std::alloc::Global;
 
-/// What is asked of a score.
-#[derive(Clone, Copy)]
-pub(crate) enum Asked {
-    Score,
-    Plainness,
-    Flats,
-    Durations,
-    Onsets,
-    Keys,
-    FurtherKeys,
-    Arcs,
-}
-
-impl Asked {
-    /// What the name of a call asks.
-    pub(crate) fn named(call: &str) -> Option<Asked> {
-        match call {
-            "build" => Some(Asked::Score),
-            "is_plain" => Some(Asked::Plainness),
-            "flatten" => Some(Asked::Flats),
-            "duration" => Some(Asked::Durations),
-            "onsets" => Some(Asked::Onsets),
-            "keys_of" => Some(Asked::Keys),
-            "further_keys" => Some(Asked::FurtherKeys),
-            "arcs" => Some(Asked::Arcs),
-            _ => None,
-        }
-    }
-}
-
 fn read_tune(
     alloc: Global,
     tune: &TuneText,
@@ -51,14 +21,9 @@ fn read_tune(
     requires defaults { IsGoodDefaults defaults.now }
     ensures { IfOk result (λ read. IsGoodScore read.1) }
 {
-    let header = match read_header(alloc, tune, defaults) {
-        Ok(header) => header,
-        Err(error) => return Err(error),
-    };
-    match build(alloc, &header, tune, flow) {
-        Ok(score) => Ok((header, score)),
-        Err(error) => Err(error),
-    }
+    let header = read_header(alloc, tune, defaults)?;
+    let score = build(alloc, &header, tune, flow)?;
+    Ok((header, score))
 }
 
 /// The header and the score of the first tune of a book; a book without a tune answers as if memory

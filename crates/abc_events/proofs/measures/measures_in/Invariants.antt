@@ -1,5 +1,4 @@
-use Rattle.std.proofs.Common.{◌≡◌, ◌<◌, ◌+◌, [], ℕ, map, length, slice_index_or}
-use Rattle.std.specs.{List.range_with_len, Vec.Iter.into_iter_items, Vec.Iter.into_iter_len}
+use Rattle.std.{proofs.Common.◌≡◌, proofs.Common.◌<◌, proofs.Common.◌+◌, proofs.Common.[], proofs.Common.ℕ, proofs.Common.map, proofs.Common.length, proofs.Common.slice_index_or, specs.List.range_with_len, specs.Vec.Iter.into_iter_items, specs.Vec.Iter.into_iter_len}
 use Rattle.abc_events.specs.Measures.{leaves_in, measure_of}
 use Rattle.abc_events.proofs.measures.measures_in.Given as goal
 

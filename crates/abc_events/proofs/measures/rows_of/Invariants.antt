@@ -1,5 +1,4 @@
-use Rattle.std.proofs.Common.{◌≡◌, ◌++◌, ◌<◌, [], ℕ, length, slice_index_or}
-use Rattle.std.specs.Vec.Iter.{into_iter_items, into_iter_len}
+use Rattle.std.{proofs.Common.◌≡◌, proofs.Common.◌++◌, proofs.Common.◌<◌, proofs.Common.[], proofs.Common.ℕ, proofs.Common.length, proofs.Common.slice_index_or, specs.Vec.Iter.into_iter_items, specs.Vec.Iter.into_iter_len}
 use Rattle.abc_events.specs.Measures.{leaves_in}
 use Rattle.abc_events.proofs.measures.rows_of.Given as goal
 

@@ -1,5 +1,5 @@
-use Rattle.std.proofs.Common.{ap, sym, ◌∙◌, length, eqb-true}
-use Rattle.abc_notes.{specs.Runs.begins, specs.Chords.is_bracket, proofs.ChordLaws.chord-unclosed, proofs.ChordLaws.chord-open, proofs.ChordLaws.chord-headless, proofs.ChordLaws.chord-flawed, proofs.ChordLaws.not_empty}
+use Rattle.std.proofs.{Common.ap, Common.sym, Common.◌∙◌, Common.length, Common.eqb-true, lemmas.Bool.eqb-false}
+use Rattle.abc_notes.{specs.Runs.begins, specs.Chords.is_bracket, proofs.ChordLaws.chord-unclosed, proofs.ChordLaws.chord-open, proofs.ChordLaws.chord-headless, proofs.ChordLaws.chord-flawed}
 use Rattle.abc_notes.proofs.chord.chord_fault.Goals as goal
 
 pub returns-then-is_empty-clause-fault : goal.returns-then-is_empty-clause-fault
@@ -15,5 +15,5 @@ returns-in-Err-clause-fault c =
 
 pub returns-in-Err-2-clause-fault : goal.returns-in-Err-2-clause-fault
 returns-in-Err-2-clause-fault c =
-    chord-flawed c.args.bang c.args.bytes.now c.bracketed.result.0.now c.bracketed.result.1.now c.in-Err.field-0 c.bracketed.ensures.read (not_empty c.bracketed.result.1.now (sym c.is_empty.ensures ∙ c.if-is_empty.false)) c.in-Err.ensures.0
+    chord-flawed c.args.bang c.args.bytes.now c.bracketed.result.0.now c.bracketed.result.1.now c.in-Err.field-0 c.bracketed.ensures.read (eqb-false (length c.bracketed.result.1.now) 0 (sym c.is_empty.ensures ∙ c.if-is_empty.false)) c.in-Err.ensures.0
     (ap (begins is_bracket) (sym c.behind_parts.ensures) ∙ sym c.begins_with_bracket.ensures ∙ c.if-begins_with_bracket.false) c.in-Err.ensures.1

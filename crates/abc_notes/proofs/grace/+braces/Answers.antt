@@ -1,7 +1,7 @@
 use Rattle.std.proofs.Common.{rules, ◌≡◌, ◌^◌, arith, ap, sym, ◌∙◌, Some, length, take, drop, ◌-◌, ◌+◌, ◌≤◌, ◌∷◌, ◌||◌, option_map, eqb-true}
 use Rattle.abc_notes.proofs.CrossLaws.{brace_upto, passing-begins, passing-found, closing-behind, rest-behind, passing-small, passing-size, passing-next, passing-ends, all-in-chord, clear-none, item-brace, item-at, length_shorter, brace_fits, past_is, chord-brace}
-use Rattle.abc_notes.{specs.Items.sense_of, specs.Items.is_note, specs.Graces.body_of_item, specs.Graces.item_has_length, specs.Graces.inside_of_item, specs.Parts.later_or, proofs.InnerLaws.found_inner, proofs.InnerLaws.none_inner, proofs.InnerLaws.inner_less, proofs.GraceLaws.found_part}
-use Rattle.abc_notes.proofs.GraceLaws.{none_part, part_less, seeking-begins, seeking-next, seeking-ends, all-within, no_brace}
+use Rattle.abc_notes.{specs.Items.sense_of, specs.Items.is_note, specs.Graces.is_in_grace, specs.Graces.body_of_item, specs.Graces.item_has_length, specs.Graces.inside_of_item, specs.Parts.later_or, proofs.InnerLaws.found_inner, proofs.InnerLaws.none_inner, proofs.InnerLaws.inner_less}
+use Rattle.abc_notes.proofs.{CutLaws.none_left, GraceLaws.found_part, GraceLaws.none_part, GraceLaws.part_less, GraceLaws.seeking-begins, GraceLaws.seeking-next, GraceLaws.seeking-ends, GraceLaws.all-within}
 use Rattle.abc_notes.proofs.grace.+braces.Goals as goal
 
 pub brace_at-parts-init : goal.brace_at-parts-init
@@ -93,7 +93,7 @@ brace_past-returns t c =
 
 pub brace_in_chord-returns-then-is_empty-clause-read : goal.brace_in_chord-returns-then-is_empty-clause-read
 brace_in_chord-returns-then-is_empty-clause-read t c =
-    sym (clear-none c.args.bang c.args.inside.now (no_brace c.args.inside.now c.braced.result.0.now c.braced.result.1.now c.braced.ensures.read (eqb-true (length c.braced.result.1.now) 0 (sym c.is_empty.ensures ∙ c.if-is_empty.true))))
+    sym (clear-none c.args.bang c.args.inside.now (none_left is_in_grace c.args.inside.now c.braced.result.0.now c.braced.result.1.now c.braced.ensures.read (eqb-true (length c.braced.result.1.now) 0 (sym c.is_empty.ensures ∙ c.if-is_empty.true))))
 
 pub brace_past-brace_at-requires : goal.brace_past-brace_at-requires
 brace_past-brace_at-requires t c =
