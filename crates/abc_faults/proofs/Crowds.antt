@@ -6,7 +6,6 @@ use Rattle.abc_lines.specs.declared.fault.Fault.{Fault}
 use Rattle.abc_faults.specs.{declared.weights.Weight.Weight, First.then_below, First.is_before, First.IsLeast, First.IsFirst, Weights.stands_before, Weights.IsBehind, Weights.AreInOrder, Weights.count_up_to, Weights.crowd_up_to, Weights.crowd_fault, Weights.crowd_faults_at, Weights.crowded}
 
 -- ---- the order of places
-
 abbrev below : ℕ → ℕ → ℕ → ℕ → Bool
 below a b x y = then_below a x (nat_lt b y)
 
@@ -33,7 +32,6 @@ unfolding stands_before
 not_before_itself w = itself w.line w.column
 
 -- ---- counts
-
 abbrev count : Weight → ℕ
 count w = w.count
 
@@ -90,7 +88,6 @@ crowd_at front w behind order =
     omega (arith, parts, own, here, all_up_to front w behind order)
 
 -- ---- the faults
-
 abbrev IsCrowded : List Weight → Weight → Type 0
 IsCrowded ws w = 50000 < crowd_up_to ws w
 
@@ -170,7 +167,6 @@ pub none_found : (ws : List Weight) (i left : ℕ) → length ws ≤ i → left 
 none_found ws i left done sum = none_among ws ws (omega (arith, ap (sum_by count) (take_all i ws done)))
 
 -- ---- the same weights in another order
-
 split_at_held : (ws : List Weight) (w : Weight) → Contains ws w → (front : List Weight) × ((behind : List Weight) × (ws ≡ front ++ w ∷ behind))
 split_at_held ws w h =
     let there : drop h.0 ws ≡ w ∷ drop (h.0 + 1) ws = drop_more ws h.0 w h.1 ∙ ap (λ x. x ∷ drop (h.0 + 1) ws) h.2 in
@@ -198,7 +194,6 @@ first_along xs ys (Some f) same h = record {
 }
 
 -- ---- there is one first
-
 level : (a b x y : ℕ) → below a b x y ≡ false → below x y a b ≡ false → (a ≡ x) × (b ≡ y)
 level a b x y h i = (grind (arith, nat_tests), grind (arith, nat_tests))
 

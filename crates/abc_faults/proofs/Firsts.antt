@@ -34,7 +34,6 @@ unfolding is_before
 not_before_itself f = not_itself f.line f.column (rank_of f.kind)
 
 -- ---- the earlier of two
-
 pub earlier_none : (a : Option Fault) → earlier a None ≡ a
 earlier_none None = refl
 earlier_none (Some f) = refl
@@ -56,7 +55,6 @@ first_append [] gs = refl
 first_append (f ∷ fs) gs = ap (earlier (Some f)) (first_append fs gs) ∙ sym (earlier_assoc (Some f) (first_of fs) (first_of gs))
 
 -- ---- the first of two sets together
-
 with_none_before : (s t : List Fault) (f : Fault) → IsLeast s f → ((g : Fault) → Contains t g → is_before g f ≡ false) → IsLeast (s ++ t) f
 with_none_before s t f h others = record {
   held = Contains-append_left s t f h.held;

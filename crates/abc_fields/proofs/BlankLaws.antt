@@ -6,7 +6,6 @@ use Rattle.abc_lines.specs.Kinds.{is_blank, behind_blanks}
 use Rattle.abc_fields.{specs.Words.trimmed, specs.WordSpelling.IsBetweenBlanks, proofs.WordLaws.behind-cons}
 
 -- How many at the end pass a test.
-
 suffix-cons : (p : ℕ → Bool) (b : ℕ) (s : List ℕ) → suffix_len p (b ∷ s) ≡ cond (suffix_len p s == length s) (length s + cond (p b) 1 0) (suffix_len p s)
 suffix-cons p b s =
     ap (prefix_len p) (reverse-append (b ∷ []) s)

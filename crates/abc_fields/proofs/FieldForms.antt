@@ -38,7 +38,6 @@ err_same : (kind other : FaultKind) → ◌≡◌ {A = Reading} (Err kind) (Err 
 err_same kind other e = ap (kind_or kind) e
 
 -- A letter and a text that read as a field say it.
-
 says-at : (letter : ℕ) (text : List ℕ) (read field : Field) → NamedSays letter text read → ◌≡◌ {A = Reading} (Ok read) (Ok field) → NamedSays letter text field
 says-at letter text read field says h = subst (λ f. NamedSays letter text f) (ok_same read field h) says
 
@@ -78,7 +77,6 @@ pub named-says : (letter : ℕ) (text : List ℕ) (field : Field) → named_fiel
 named-says letter text field h = named_if letter text field (letter == 75) (letter == 77) (letter == 76) (letter == 86) refl refl refl refl h
 
 -- What a letter and a text say is read.
-
 named-other : (letter : ℕ) (text : List ℕ) → is_known letter ≡ false → named_field letter text ≡ Ok Field.Other
 unfolding named_field
 named-other letter text un =
@@ -106,7 +104,6 @@ named-read letter text (Field.Spread spread) says = absurd says
 named-read letter text Field.Other says = named-other letter text (not-true (is_known letter) says)
 
 -- A letter and a text that are refused are in no good form of that letter.
-
 bad-at : (letter : ℕ) (text : List ℕ) (read kind : FaultKind) → NamedBad letter text read → ◌≡◌ {A = Reading} (Err read) (Err kind) → NamedBad letter text kind
 bad-at letter text read kind bad h = subst (λ k. NamedBad letter text k) (err_same read kind h) bad
 
@@ -129,7 +126,6 @@ pub named-bad : (letter : ℕ) (text : List ℕ) (kind : FaultKind) → named_fi
 named-bad letter text kind h = bad_if letter text kind (letter == 75) (letter == 77) (letter == 76) (letter == 86) refl refl refl refl h
 
 -- Text of such a letter in no good form is refused.
-
 refused : {X : Type 0} (field : Option X → Reading) (Says : X → Type 0) (kind : FaultKind) (o : Option X) → field None ≡ Err kind → ((x : X) → o ≡ Some x → Says x) → ((x : X) → Says x → ⊥) → field o ≡ Err kind
 refused field Says kind None none says bad = none
 refused field Says kind (Some x) none says bad = absurd (bad x (says x refl))
@@ -143,7 +139,6 @@ named-refused letter text FaultKind.BadVoice bad = ap (λ b. named_field b text)
 named-refused letter text _ bad = absurd bad
 
 -- Directives.
-
 is_name : (name word : List ℕ) → name ≡ word → bytes_eq name word ≡ true
 is_name name word e = (bytes_eq-Decides name word).1 e
 
@@ -236,7 +231,6 @@ directive-one name rest Field.Other _ a b = absurd b
 directive-one name rest _ two a b = absurd a
 
 -- Lines.
-
 kind-says : (line : List ℕ) (kind : LineKind) (field : Field) → field_by line kind ≡ Ok field → KindSays line kind field
 kind-says line (LineKind.Field letter) field h = named-says letter (field_text line) field h
 kind-says line LineKind.Directive field h = subst (λ f. DirectiveSays (name_of (field_text line)) (rest_of (field_text line)) f) (ok_same (directive_field (name_of (field_text line)) (rest_of (field_text line))) field h) (directive-says (name_of (field_text line)) (rest_of (field_text line)))
@@ -278,7 +272,6 @@ unfolding field_of
 line-refused line fault bad = kind-refused line (kind_of line) fault bad
 
 -- The same of what a call answers.
-
 pub named_answers : (letter : ℕ) (text : List ℕ) (answer : Result Field FieldError) → IfOk answer (λ field. named_field letter text ≡ Ok field) → IfOk answer (λ field. NamedSays letter text field)
 named_answers letter text (Ok field) h = named-says letter text field h
 named_answers letter text (Err e) h = tt

@@ -9,7 +9,6 @@ use Rattle.abc_fields.{specs.declared.key.KeyText.KeyText, specs.declared.key.Ke
 use Rattle.abc_fields.proofs.{WordForms.words-of-spelled, KeyWordForms.natural-takes, KeyWordForms.words-take, KeyWordForms.words-read}
 
 -- Modes.
-
 three_read : (name : ModeName) → mode_named (three_letters name) ≡ Some (mode_of_name name)
 three_read maj_name = refl
 three_read _ = refl
@@ -83,7 +82,6 @@ mode-takes : (s : List ℕ) (mode : Mode) → mode_of s ≡ Some mode → IsMode
 mode-takes s mode h = mode_if s mode (bytes_eq s (codes "m")) refl h
 
 -- Tonics.
-
 tonic-at : (letter : Letter) (s : List ℕ) → tonic_of (letter_byte letter ∷ s) ≡ altered letter s
 unfolding tonic_of
 tonic-at Letter.C s = refl
@@ -168,7 +166,6 @@ tonic-takes [] tonic h = absurd (none_is_some tonic h)
 tonic-takes (b ∷ s) tonic h = tonic_case b s tonic (natural_of b) refl h
 
 -- Beginnings.
-
 abbrev Begun : Type 0
 Begun = Start × List (List ℕ)
 
@@ -286,7 +283,6 @@ has_head [] = record { head = empty_head; more = []; good = refl; spelled = refl
 has_head (w ∷ more) = head_if w more (bytes_eq w (codes "none")) (bytes_eq w (codes "HP")) (bytes_eq w (codes "Hp")) refl refl refl
 
 -- Keys.
-
 abbrev key_of_begun : Begun → Option KeyText
 key_of_begun split = key_from split.0 (key_words split.1)
 

@@ -8,7 +8,6 @@ use Rattle.abc_fields.{specs.VoiceSpelling.below_clef, specs.VoiceSpelling.clef_
 use Rattle.abc_fields.proofs.VoiceForms.{no_clef_read, no_front, behind-clef}
 
 -- Letters.
-
 letter_if : (b : ℕ) (letter : Letter) (isc isd ise isf isg isa isb : Bool) → (b == 67) ≡ isc → (b == 68) ≡ isd → (b == 69) ≡ ise → (b == 70) ≡ isf → (b == 71) ≡ isg → (b == 65) ≡ isa → (b == 66) ≡ isb
     → natural_of b ≡ Some letter → b ≡ letter_byte letter
 letter_if b letter true isd ise isf isg isa isb c d e f g k m h = eqb-true b 67 c ∙ ap letter_byte (ap (λ o. unwrap_or o letter) (rw c at h))
@@ -39,7 +38,6 @@ letter_either b letter (Some found) e h = record { lower = false; is = natural-t
 letter_either b letter None e h = record { lower = true; is = small_letter b letter (natural-takes (b - 32) letter h) }
 
 -- Signs.
-
 record IsSign (w : List ℕ) (sign : Sign) : Type 0 where
   alter : Alter
   letter : Letter
@@ -97,7 +95,6 @@ sign-read _ _ true = refl
 sign-read _ _ _ = refl
 
 -- Words behind the beginning.
-
 word_sign : (alter : Alter) (letter : Letter) (lower : Bool) → key_word (alter_spelled alter ++ letter_spelled letter lower ∷ []) ≡ by_sign (alter_spelled alter ++ letter_spelled letter lower ∷ []) (sign_of (alter_spelled alter ++ letter_spelled letter lower ∷ []))
 unfolding key_word
 word_sign Alter.Sharp2 letter lower = refl

@@ -17,7 +17,6 @@ pub none_is_some : {X : Type 0} (x : X) → ◌≡◌ {A = Option X} None (Some 
 none_is_some x e = cc
 
 -- What stands before and behind the first such byte.
-
 place-at : (byte : ℕ) (s rest : List ℕ) → (byte == byte) ≡ true → lacks byte s ≡ true → place_of byte (s ++ byte ∷ rest) ≡ length s
 place-at byte [] rest same all = rw same refl
 place-at byte (b ∷ s) rest same all =
@@ -54,7 +53,6 @@ unfolding before from_first
 cut-whole byte s = take-append-drop (place_of byte s) s
 
 -- What stands behind a front.
-
 behind_if : (front s rest : List ℕ) (does : Bool) → starts_with nat_eq s front ≡ does → behind front s ≡ Some rest → s ≡ front ++ rest
 unfolding behind
 behind_if front s rest true e h =
@@ -67,7 +65,6 @@ pub behind-takes : (front s rest : List ℕ) → behind front s ≡ Some rest �
 behind-takes front s rest h = behind_if front s rest (starts_with nat_eq s front) refl h
 
 -- Digits are none of the signs.
-
 digit_not : (k b : ℕ) → (k < 48) ⊎ (57 < k) → is_digit b ≡ true → (b == k) ≡ false
 digit_not k b out h =
     let tests = and_parts _ _ h in
@@ -92,7 +89,6 @@ number-digits : (s : List ℕ) → is_number s ≡ true → list_all is_digit s 
 number-digits s h = (and_parts _ _ (and_parts _ _ h).1).0
 
 -- Terms with a plus sign between each two are parted there again.
-
 split-digits : (s rest : List ℕ) → list_all is_digit s ≡ true → slice_split is_plus (s ++ 43 ∷ rest) ≡ s ∷ slice_split is_plus rest
 split-digits [] rest all = refl
 split-digits (b ∷ s) rest all =
@@ -122,7 +118,6 @@ joined-lacks k term (next ∷ terms) out other all =
     list_all-append (λ b. not (b == k)) term (43 ∷ join_with_byte 43 (next ∷ terms)) ∙ rw (here, other, more) refl
 
 -- Numbers.
-
 number-yes : (s : List ℕ) → is_number s ≡ true → number_of s ≡ Some (value_of s)
 unfolding number_of
 number-yes s e = rw e refl
@@ -132,7 +127,6 @@ unfolding number_of
 number-no s e = rw e refl
 
 -- Sums: terms on top of a total.
-
 added-on : (term : List ℕ) (terms : List (List ℕ)) (total : ℕ) → is_number term ≡ true → nat_le (total + value_of term) 99 ≡ true → added total (term ∷ terms) ≡ added (total + value_of term) terms
 added-on term terms total e few = rw (number-yes term e, few) refl
 
@@ -171,7 +165,6 @@ added-reaches (term ∷ terms) total all few =
     ∙ ap Some (omega arith)
 
 -- What stands above and below.
-
 halving-yes : (n : ℕ) → is_halving n ≡ true → halving_of (Some n) ≡ Some n
 halving-yes n e = rw e refl
 
@@ -223,7 +216,6 @@ sum-takes s n h =
     }
 
 -- Both, in parentheses or not.
-
 plain-read : (above below : List ℕ) (n d : ℕ) → lacks 47 above ≡ true → sum_of above ≡ Some n → below_of below ≡ Some d → plain_ratio (above ++ 47 ∷ below) ≡ Some (Meter.Ratio n d)
 unfolding plain_ratio
 plain-read above below n d none sum half = rw (before-at 47 above below refl none, from-at 47 above below refl none, sum, half) refl
@@ -377,7 +369,6 @@ meter_at-reaches : (s : List ℕ) (meter : Meter) → WritesMeter s meter → me
 meter_at-reaches s meter w = ap meter_at w.spelled ∙ form-read w.form w.good ∙ ap Some w.meant
 
 -- No form has a blank.
-
 abbrev unblank : List ℕ → Bool
 unblank s = list_all (λ b. not (is_blank b)) s
 
@@ -418,7 +409,6 @@ meter-read text meter says =
     ap meter_at (between-trimmed text says.core whole says.between) ∙ meter_at-reaches says.core meter says.writes
 
 -- Unit lengths.
-
 unit_at-takes-over : (s : List ℕ) (unit : Frac) (o : Option (List ℕ)) → behind (codes "1/") s ≡ o → one_over (below_behind o) ≡ Some unit → WritesUnit s unit
 unit_at-takes-over s unit None e h = absurd (none_is_some unit h)
 unit_at-takes-over s unit (Some below) e h = over_if s below unit (below_of below) refl (behind-takes (codes "1/") s below e) h

@@ -8,7 +8,6 @@ use Rattle.abc_fields.{specs.Voices.is_good_voice, specs.Voices.voice_by_id, spe
 use Rattle.abc_fields.proofs.{MeterForms.same_bytes, WordForms.first-takes, WordForms.first-read}
 
 -- Clefs.
-
 pub clef-read : (form : ClefForm) → clef_of (clef_spelled form) ≡ Some (clef_meant form)
 unfolding clef_of
 clef-read (plain_clef Clef.Treble) = refl
@@ -84,7 +83,6 @@ unfolding behind
 behind-clef name = refl
 
 -- Properties.
-
 property-clef : (name : List ℕ) → voice_word (codes "clef=" ++ name) ≡ option_map (λ clef. VoiceWord.Names clef) (clef_of name)
 unfolding voice_word
 property-clef name = rw (behind-clef name) refl
@@ -165,7 +163,6 @@ unfolding voice_word
 property-takes w read h = by_clef-takes w read (behind (codes "clef=") w) refl h
 
 -- All properties.
-
 record ArePropertiesOf (ws : List (List ℕ)) (read : List VoiceWord) : Type 0 where
   forms : List PropertyForm
   good : AreGoodProperties forms
@@ -196,7 +193,6 @@ properties-read [] good = refl
 properties-read (form ∷ forms) good = rw (property-read form good.0, properties-read forms good.1) refl
 
 -- Voices.
-
 voice_properties : (text id rest : List ℕ) (voice : VoiceDef) (read : Option (List VoiceWord)) → IsFirstWord text id rest → length id ≤ 20 → not (ends_quoted false rest) ≡ true
     → voice_words (properties_of rest) ≡ read → option_map (voice_def id) read ≡ Some voice → SaysVoice text voice
 voice_properties text id rest voice None first short closed e h = absurd (none_is_some voice h)

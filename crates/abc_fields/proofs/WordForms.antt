@@ -6,7 +6,6 @@ use Rattle.abc_fields.{specs.Words.is_empty, specs.Words.word_len, specs.Words.w
 use Rattle.abc_fields.proofs.{BlankLaws.blanks-passed, BlankLaws.stays, MeterForms.none_is_some, WordLaws.BeginsWord, WordLaws.BeginsBlank, WordLaws.behind-begins, WordLaws.word-stops, WordLaws.words-next}
 
 -- The first word.
-
 whole_more : (b : ℕ) (s : List ℕ) (parts : Bool) → is_blank b ≡ parts → list_all (λ c. not (is_blank c)) (take (word_len false false s) s) ≡ true → list_all (λ c. not (is_blank c)) (take (word_len false false (b ∷ s)) (b ∷ s)) ≡ true
 whole_more b s true e all = rw e refl
 whole_more b s false e all = rw e (rw (e, all) refl)
@@ -81,7 +80,6 @@ first-read text word rest first =
     ∙ word-first word rest first.some first.whole first.parted
 
 -- All words.
-
 abbrev first_or : List (List ℕ) → List ℕ
 first_or [] = []
 first_or (w ∷ ws) = w

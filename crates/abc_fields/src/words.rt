@@ -1,7 +1,6 @@
 //! Words of a text, by its spaces and tabs.
 
-ghost use Rattle.std.specs.{Prelude.◌≡◌, Prelude.◌≤◌, Prelude.length, Prelude.false, Option.option_map, Option.option_copied, List.prefix_len, List.suffix_len, List.list_any, List.starts_with};
-ghost use Rattle.std.specs.Str.{bytes_eq};
+ghost use Rattle.std.specs.{Prelude.◌≡◌, Prelude.◌≤◌, Prelude.length, Prelude.false, Option.option_map, Option.option_copied, List.prefix_len, List.suffix_len, List.list_any, List.starts_with, Str.bytes_eq};
 ghost use Rattle.abc_lines.specs.Kinds.{is_blank, behind_blanks};
 ghost use Rattle.abc_fields.specs.Words.{word_len, quoted_after, parts_words, word_and_rest, next_word, trimmed, ends_quoted, words_of, words_in, words_after, behind};
 

@@ -10,7 +10,6 @@ use Rattle.abc_header.specs.{Defaults.rest_named, Defaults.rest_if, Defaults.sai
 use Rattle.abc_header.proofs.PaperForms.{some_is, Stops, front-length}
 
 -- What stands between blanks and has none at its ends is left without them.
-
 bare-stops : (s : List ℕ) → BeginsBare s → Stops is_blank s
 bare-stops [] bare = tt
 bare-stops (b ∷ s) bare = not-true (is_blank b) bare
@@ -66,7 +65,6 @@ bare-trimmed text core bare between =
     ∙ core-left core between.back bare between.back_blank
 
 -- What is left has no blank at its ends.
-
 front-kept : (n : ℕ) (s : List ℕ) → BeginsWord s → BeginsBare (take n s)
 front-kept zero s begins = tt
 front-kept (suc n) [] begins = tt
@@ -89,7 +87,6 @@ trimmed-bare text =
     (front-kept (length s - suffix_len is_blank s) s (behind-begins text), subst BeginsBare (sym (ended-reversed s)) (word-bare (behind_blanks (reverse s)) (behind-begins (reverse s))))
 
 -- The lead of a directive.
-
 abbrev IsDirectiveKind : LineKind → Type 0
 IsDirectiveKind LineKind.Directive = Unit {0}
 IsDirectiveKind _ = ⊥
@@ -132,7 +129,6 @@ lead-text percents text = refl
 lead-text instruction text = refl
 
 -- The name of a directive, and what it says.
-
 abbrev unblank : ℕ → Bool
 unblank b = not (is_blank b)
 

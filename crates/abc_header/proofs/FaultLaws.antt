@@ -11,7 +11,6 @@ abbrev Reading : Type 0
 Reading = Result Field FaultKind
 
 -- The ids behind some lines.
-
 fold-push : (fs : List Field) (f : Field) (ids : List (List ℕ)) → fold ids_after ids (fs ++ f ∷ []) ≡ ids_after (fold ids_after ids fs) f
 fold-push [] f ids = refl
 fold-push (g ∷ fs) f ids = fold-push fs f (ids_after ids g)
@@ -33,7 +32,6 @@ ids-push : (lines : List Line) (line : Line) → ids_of (fields_of (lines ++ lin
 ids-push lines line = ap ids_of (fields-push lines line) ∙ ids-put (fields_of lines) (field_of line.text)
 
 -- A line's fault, by what it reads as.
-
 some_fault : (one fault : Fault) → Some one ≡ Some fault → one ≡ fault
 some_fault one fault h = ap (λ o. unwrap_or o fault) h
 
@@ -69,7 +67,6 @@ fault-reaches before line fault (inl bad) = ap (fault_at (ids_of (fields_of befo
 fault-reaches before line fault (inr voice) = ap (fault_at (ids_of (fields_of before)) line) (line-read line.text voice.field voice.says) ∙ many-read before line voice.field voice.many ∙ ap Some voice.is
 
 -- The same behind lines that were passed already.
-
 abbrev ClearBehind : List Line → List Line → Type 0
 ClearBehind done lines = (before : List Line) (line : Line) (after : List Line) (fault : Fault) → lines ≡ before ++ line ∷ after → IsFaultBehind (done ++ before) line fault → ⊥
 
@@ -172,7 +169,6 @@ pub no-fault : (lines : List Line) → first_fault [] lines ≡ None → AreClea
 no-fault lines h = clear-takes lines [] h
 
 -- Headers.
-
 by-fault : (tune : TuneText) (o : Option ℕ) (fault : Fault) → fault_by tune o ≡ Some fault → IsFaultBy tune o fault
 by-fault tune None fault h = some_fault (no_key tune) fault h
 by-fault tune (Some place) fault h = first-fault (head_lines tune place) fault h

@@ -80,7 +80,6 @@ last-any-one States f lines None reads silent = sym (silent-unread States f read
 last-any-one States f lines (Some x) reads last = sym (last-reaches States f reads lines x last)
 
 -- Directives.
-
 length-reads : (name : List ℕ) → not (is_empty name) ≡ true → Reads (StatesLength name) (line_length name)
 unfolding line_length
 length-reads name some =
@@ -139,7 +138,6 @@ staves-reads =
     }
 
 -- Fields.
-
 blanks-once : (text : List ℕ) → behind_blanks (behind_blanks text) ≡ behind_blanks text
 blanks-once text = word-stays (behind_blanks text) (behind-begins text)
 
@@ -249,7 +247,6 @@ defaults_answer_one lines (Ok d) h = λ defaults are. defaults-one lines default
 defaults_answer_one lines (Err e) h = tt
 
 -- The staves of a tune.
-
 staves_if : (lines : List Line) (first : ℕ) (other own : Option Line) → last_of line_staves lines ≡ own → AreStavesBy lines first other (staves_by own other first)
 staves_if lines first other None e = inr (unread-silent StatesStaves line_staves staves-reads lines e, refl)
 staves_if lines first other (Some own) e = inl (own, last-takes StatesStaves line_staves staves-reads lines own e, refl)
@@ -271,7 +268,6 @@ staves_answer tune defaults (Ok header) h = header_staves tune defaults header h
 staves_answer tune defaults (Err e) h = tt
 
 -- The paper.
-
 stated-is : (lines : List Line) → IsStatedPaper lines (stated lines)
 unfolding length_in scale_in
 stated-is lines =

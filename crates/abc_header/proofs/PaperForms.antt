@@ -21,7 +21,6 @@ then-takes f None y h = absurd (none_is_some y h)
 then-takes f (Some x) y h = record { middle = x; first = refl; second = h }
 
 -- What stands at the front and passes a test, before what does not.
-
 abbrev pub Stops : (ℕ → Bool) → List ℕ → Type 0
 Stops p [] = ⊤
 Stops p (b ∷ s) = p b ≡ false
@@ -45,7 +44,6 @@ digits-left : (ds s : List ℕ) → list_all is_digit ds ≡ true → Stops is_d
 digits-left ds s all stops = ap (λ n. drop n (ds ++ s)) (front-length is_digit ds s all stops) ∙ drop-append_seam ds s
 
 -- A good number is read, and what follows it is left.
-
 abbrev read_as : ℕ → List ℕ → Option (ℕ × List ℕ)
 read_as v rest = Some (v, rest)
 
@@ -95,7 +93,6 @@ number-read number rest good few stops none =
     ∙ decimals-read (value_of number.whole) number.decimals rest good.few good.decimal_digits stops none
 
 -- What is read is a good number.
-
 record IsNumberBefore (s : List ℕ) (z : ℕ × List ℕ) : Type 0 where
   number : PaperNumber
   good : IsGoodNumber number
@@ -163,7 +160,6 @@ number-takes s z h =
     (decimals-takes chain.middle digits left (behind (codes ".") left) z (whole-takes digits chain.middle (front-passes is_digit s) chain.first) refl chain.second)
 
 -- Units.
-
 unit-stops : (unit : LengthUnit) → Stops is_digit (unit_spelled unit)
 unit-stops points = refl
 unit-stops inches = refl
@@ -204,7 +200,6 @@ few_points inches w d few = omega (arith, few)
 few_points centimetres w d few = omega (arith, few)
 
 -- Lengths.
-
 within_if : (u size : ℕ) (few : Bool) → nat_le u 100000 ≡ few → within_paper u ≡ Some size → (u ≡ size) × (size ≤ 100000)
 within_if u size false e h = absurd (none_is_some size (rw e at h))
 within_if u size true e h =
@@ -248,7 +243,6 @@ length-read text size writes =
     ∙ ap Some same
 
 -- The scale.
-
 record IsScaleBy (z : ℕ × List ℕ) (percent : ℕ) : Type 0 where
   value : z.0 ≡ percent
   alone : z.1 ≡ []

@@ -14,7 +14,6 @@ inside_wide : (b : ℕ) → free b ≡ true → is_inside b ≡ true
 inside_wide b h = (and_parts (not (eqb b 93)) (not (eqb b 125)) h).0
 
 -- ---- a bracket that is found closes good parts with a head
-
 pub record Closed (bang head : Bool) (text c : List ℕ) : Type 0 where
   pub front : List ℕ
   pub rest : List ℕ
@@ -143,7 +142,6 @@ pub bracket_within : (bang : Bool) (text c : List ℕ) → bracket_at bang text 
 bracket_within bang text c found = let k = bracket_at-closes bang text c found in omega (arith, ap length k.cut, length-append k.front c)
 
 -- ---- the last bracket is at or behind each at which a chord ends
-
 pub record FoundLast (bang head : Bool) (text t : List ℕ) : Type 0 where
   pub closing : List ℕ
   pub is : last_at bang head text ≡ Some closing
@@ -269,7 +267,6 @@ last-exact bang head _ t _ (then_part u part v more l others) has whole =
     lone_clash f b e h = let here : (is_lone lone_inside || b) ≡ false = subst (λ x. (is_lone x || b) ≡ false) e h in cc
 
 -- ---- a chord
-
 abbrev pub TakesChord : Bool → List ℕ → Option (ChordForm × List ℕ) → Type 0
 TakesChord bang s r = IfSome r (λ z. IsChord bang z.0 × (s ≡ chord_then z.0 z.1))
 
@@ -356,7 +353,6 @@ pub chord-longer : (f : ChordForm) (x : List ℕ) → length x < length (chord_t
 chord-longer f x = omega (arith, length-append f.inside (93 ∷ length_then f.length x), length-length_then f.length x)
 
 -- ---- the state of the loop that looks for the last bracket
-
 pub record Seeking (bang : Bool) (text : List ℕ) (head : Bool) (last : Option (List ℕ)) (rest : List ℕ) : Type 0 where
   pub found : later_or (last_at bang head rest) last ≡ bracket_at bang text
   pub within : length rest ≤ length text
@@ -389,7 +385,6 @@ all-within now bang text None e = tt
 all-within now bang text (Some x) e = bracket_within bang text (now x) (sym e)
 
 -- ---- the fault
-
 pub chord-unclosed : (bang : Bool) (s w r : List ℕ) → two w r ≡ span_all is_inside s → length r ≡ 0 → ChordFault bang s (record { kind = Unclosed; left = length s + 1 })
 chord-unclosed bang s w r cut none = rw add-one (chord_unclosed s (none_left is_inside s w r cut none))
 

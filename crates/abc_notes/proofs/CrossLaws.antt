@@ -12,7 +12,6 @@ use Rattle.abc_notes.proofs.{CutLaws.is_named, CutLaws.first_same, ChordLaws.is_
 use Rattle.abc_notes.proofs.GraceLaws.{FoundPart, part_reader, ClosedGroup, brace_at-closes, none_there, chord-none, chord-some}
 
 -- ---- the bracket in a name that is a part
-
 abbrev name_bracket : Bool → Bool → List ℕ → Option (List ℕ)
 name_bracket bang head name =
     let inside = span_all is_inside name in
@@ -68,7 +67,6 @@ part_own bang head lone_inside x good e = lone_own bang head x good e
 part_own bang head part x good e = other_own bang head (inner_then part x) (part, x) e refl refl
 
 -- ---- the text before a bracket in a name holds no bracket behind the mark
-
 no_mark : (bang head : Bool) (text : List ℕ) → list_all is_name_byte text ≡ true → bracket_in_name bang head text ≡ None
 unfolding bracket_in_name
 no_mark bang head [] h = refl
@@ -177,7 +175,6 @@ passing-behind : (bang head : Bool) (w v y : List ℕ) (bracket last : Option (L
 passing-behind bang head w v y bracket last rest stage is = rw stage.is (behind_mark stage.mark rest v y is)
 
 -- whether or not there is one
-
 found_or : (bang head : Bool) (w : List ℕ) (bracket last closing : Option (List ℕ)) (rest : List ℕ) → Passing bang head w bracket last rest → bracket_in_name bang head rest ≡ closing → later_or (brace_between bang bracket closing) last ≡ brace_upto bang w (later_or closing bracket)
 found_or bang head w bracket last None rest stage e = stage.found
 found_or bang head w bracket last (Some closing) rest stage e = candidate-found bang head w bracket last rest closing stage e
@@ -266,7 +263,6 @@ passing-ends bang head w bracket last rest stage none done =
     ends_at bang head w bracket last rest nothing stage
 
 -- ---- what is found stands within the chord
-
 within_front : (front w c rest : List ℕ) → 91 ∷ w ≡ front ++ c → c ≡ 125 ∷ rest → length c ≤ length w
 within_front [] w c rest cut is = absurd (let clash : eqb 91 125 ≡ true = subst (λ x. eqb 91 x ≡ true) (first_same 91 125 w rest (cut ∙ is)) refl in cc)
 within_front (b ∷ front) w c rest cut is = omega (arith, ap length cut, length-append front c)
@@ -290,7 +286,6 @@ unfolding brace_in_chord
 clear-none bang w clear = none_there bang (91 ∷ w) (brace_at bang (91 ∷ w)) refl (λ d k. clear_closed bang w d clear k)
 
 -- ---- the part as the code reads it
-
 same_brace_in : (bang : Bool) (item : GraceItem) (part : GracePart) (text : List ℕ) → inside_of_item item ≡ inside_of_part part → brace_in_item bang item text ≡ brace_in_part bang part text
 same_brace_in bang (GraceItem.Part p) (single f) text e = refl
 same_brace_in bang (GraceItem.Part p) (chorded f) text e = absurd cc
@@ -351,7 +346,6 @@ past_is bang bracket closing chord s rest brace b len behind is first e found =
     ap Some drops ∙ ap (option_map (λ (c : List ℕ). c ++ closing)) (sym reads)
 
 -- ---- in a part
-
 drops_in_chord : (bang : Bool) (text inside brace : List ℕ) → text ≡ (91 ∷ inside) ++ drop (suc (length inside)) text → Some brace ≡ brace_in_chord bang inside → drop (length inside + 1 - length brace) text ≡ brace ++ drop (suc (length inside)) text
 unfolding brace_in_chord
 drops_in_chord bang text inside brace cut found =

@@ -9,7 +9,6 @@ use Rattle.abc_notes.proofs.{Bounds.digit_range, SpanLaws.span_all-append, SpanL
 use Rattle.abc_notes.proofs.PartLaws.{Reader, stands_at, by_parts, longest_of, walk-none, walk-some}
 
 -- ---- a part and what follows it
-
 copies_append : (n b : ℕ) (v y : List ℕ) → copies n b v ++ y ≡ copies n b (v ++ y)
 copies_append zero b v y = refl
 copies_append (suc n) b v y = ap (λ t. b ∷ t) (copies_append n b v y)
@@ -40,7 +39,6 @@ inner_append (tie_inside d) v y = maybe_append d 46 (45 ∷ v) y
 inner_append _ v y = refl
 
 -- ---- two cuts of one text
-
 pub record Cut (u w y x : List ℕ) : Type 0 where
   pub between : List ℕ
   pub behind : x ≡ between ++ y
@@ -60,7 +58,6 @@ cut_at (a ∷ u) (b ∷ w) y x e h =
     record { between = r.between; behind = r.behind; front = ap (λ c. c ∷ u) (first_same a b (u ++ y) (w ++ x) e) ∙ ap (λ s. b ∷ s) r.front }
 
 -- ---- parts that may stand before any text
-
 pub record Local (I : Type 0) (Stands : I → List ℕ → List ℕ → Type 0) (one : I → List ℕ → List ℕ) : Type 0 where
   pub spells : (f : I) (s x : List ℕ) → Stands f s x → s ≡ one f x
   pub moves : (f : I) (s x t y : List ℕ) → Stands f s x → t ≡ one f y → Stands f t y
@@ -116,7 +113,6 @@ module _ {I : Type 0} {Stands : I → List ℕ → List ℕ → Type 0} {at : Li
     (λ s z e next. rw (walk-some r s z e) (leads_on s z.0 z.1 (walk at z.1).0 (walk at z.1).1 (longest_of r s z e) next))
 
 -- ---- the bytes of a part that is no name close no group
-
 pub wider : (p q : ℕ → Bool) (s : List ℕ) → ((b : ℕ) → p b ≡ true → q b ≡ true) → list_all p s ≡ true → list_all q s ≡ true
 wider p q [] k h = refl
 wider p q (b ∷ s) k h = let r = and_parts (p b) (list_all p s) h in and_from (q b) (list_all q s) (k b r.0) (wider p q s k r.1)
@@ -196,7 +192,6 @@ inner_free bang (tie_inside true) good h = refl
 inner_free bang _ good h = refl
 
 -- ---- where a part goes past a closing byte it is a name, and but for it an exclamation mark is passed over
-
 pub record Crosses (u name : List ℕ) (close : ℕ) : Type 0 where
   pub before : List ℕ
   pub after : List ℕ
@@ -256,7 +251,6 @@ unnamed [] = refl
 unnamed (b ∷ s) = refl
 
 -- ---- up to the first closing byte
-
 abbrev pub two : List ℕ → List ℕ → List ℕ × List ℕ
 two a b = (a, b)
 

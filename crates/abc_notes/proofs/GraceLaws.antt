@@ -30,7 +30,6 @@ abbrev TakesPart : Bool → List ℕ → Option (GracePart × List ℕ) → Type
 TakesPart bang s r = IfSome r (λ z. StandsInGrace bang z.0 s z.1)
 
 -- ---- a chord
-
 in_grace_wide : (b : ℕ) → free b ≡ true → is_in_grace b ≡ true
 in_grace_wide b h = (and_parts (not (eqb b 93)) (not (eqb b 125)) h).1
 
@@ -38,7 +37,6 @@ chord_append : (f : ChordForm) (v y : List ℕ) → chord_then f v ++ y ≡ chor
 chord_append f v y = append_assoc f.inside (93 ∷ length_then f.length v) y ∙ ap (λ t. f.inside ++ (93 ∷ t)) (length_append f.length v y)
 
 -- ---- parts
-
 from_chord : (bang : Bool) (s : List ℕ) (r : Option (ChordForm × List ℕ)) → TakesChord bang s r → TakesPart bang (91 ∷ s) (option_map chorded_read r)
 from_chord bang s None t = tt
 from_chord bang s (Some z) t = record { good = t.0; cut = ap (λ x. 91 ∷ x) t.1 }
@@ -126,7 +124,6 @@ part_reader bang = record {
 }
 
 -- ---- what a call of the reader tells
-
 pub record FoundPart (bang : Bool) (s : List ℕ) (body : List GraceChord) (lengthy : Bool) (inside : Option (List ℕ)) (behind : List ℕ) : Type 0 where
   pub part : GracePart
   pub at : grace_part_at bang s ≡ Some (part_with part behind)
@@ -156,7 +153,6 @@ pub part_less : (bang : Bool) (s : List ℕ) (body : List GraceChord) (lengthy :
 part_less bang s body lengthy inside behind f = less (part_reader bang) s (f.part, behind) f.at
 
 -- ---- the state of a loop over the inside
-
 pub record Group (bang : Bool) (w : List ℕ) (before : Option ℕ) (rest : List ℕ) : Type 0 where
   pub left : (walk (grace_part_at bang) rest).1 ≡ (walk (grace_part_at bang) w).1
   pub flaw : (f : Flaw) → GraceFlawed bang before rest f → GraceFlawed bang None w f
@@ -209,7 +205,6 @@ group-ends bang w before [] stage none = rw (sym stage.left) refl
 group-ends bang w before (b ∷ rest) stage none = absurd (omega (arith, none))
 
 -- ---- the body
-
 pub body-next : (bang : Bool) (out new total body : List GraceChord) (lengthy : Bool) (inside : Option (List ℕ)) (s behind : List ℕ) → FoundPart bang s body lengthy inside behind → new ≡ out ++ body → out ++ body_inside bang s ≡ total → new ++ body_inside bang behind ≡ total
 body-next bang out new total body lengthy inside s behind f push so_far =
     let here : body_inside bang s ≡ body ++ body_inside bang behind = rw (walk-some (part_reader bang) s (f.part, behind) f.at, f.gives) refl in
@@ -221,7 +216,6 @@ body-end bang out total s none so_far =
     sym (append-nil out) ∙ ap (λ b. out ++ b) (sym here) ∙ so_far
 
 -- ---- a brace that is found closes good parts
-
 part_append : (p : GracePart) (v y : List ℕ) → grace_part_then p v ++ y ≡ grace_part_then p (v ++ y)
 part_append (single f) v y = inner_append f v y
 part_append (chorded f) v y = ap (λ t. 91 ∷ t) (chord_append f v y)
@@ -299,7 +293,6 @@ then-closes bang text c z e k =
     }
 
 -- ---- the last brace before which parts alone stand
-
 closes_there : (bang : Bool) (text : List ℕ) (n : ℕ) → closes_at bang text n ≡ true → ClosedGroup bang text (drop n text)
 closes_there bang text n h =
     let w = walk (grace_part_at bang) (take n text) in
@@ -389,7 +382,6 @@ unfolding inner_at item_class
 at_brace bang t = other_byte bang 125 t refl
 
 -- where no part stands a brace in front alone closes
-
 nothing_before : (bang : Bool) (u d text : List ℕ) (ps : List GracePart) → GraceParts bang u ps → text ≡ u ++ d → grace_part_at bang text ≡ None → text ≡ d
 nothing_before bang _ d text _ no_part cut none = cut
 nothing_before bang _ d text _ (then_part u part v more l others) cut none =
@@ -411,7 +403,6 @@ pub brace-none : (bang : Bool) (text : List ℕ) → grace_part_at bang text ≡
 brace-none bang text none = last_is bang text (brace_here text) (here_last bang text none)
 
 -- the parts before a brace begin with the part that stands there, where that ends before the brace
-
 pub record FirstPart (bang : Bool) (u : List ℕ) : Type 0 where
   pub part : GracePart
   pub behind : List ℕ
@@ -434,7 +425,6 @@ behind_closes bang text d z e k short =
     record { front = a.front; rest = k.rest; parts = f.more; is = k.is; cut = a.behind; good = subst (λ (x : List ℕ). GraceParts bang x f.more) same f.others }
 
 -- what stands in front of a text gives the last brace within it
-
 pub record InPart (bang : Bool) (text : List ℕ) (z : GracePart × List ℕ) (x : Option (List ℕ)) : Type 0 where
   pub closes : (c : List ℕ) → x ≡ Some c → ClosedGroup bang text c
   pub reaches : (d : List ℕ) → ClosedGroup bang text d → length z.1 < length d → AtLast bang text d x
@@ -508,7 +498,6 @@ in_name-found bang before after rest parts off good group =
     (ap (λ (b : Bool). cond {A = Option (List ℕ)} (not b && true) (Some (125 ∷ (after ++ (33 ∷ rest)))) None) (ne_eqb (suc (length after)) 0 (omega arith)))
 
 -- a brace within a name
-
 cross_single : (bang : Bool) (text d : List ℕ) (f : Inner) (rest : List ℕ) → grace_part_at bang text ≡ Some (part_with (single f) rest) → ClosedGroup bang text d → length rest < length d → brace_in_name bang text ≡ Some d
 cross_single bang text d f rest e k short =
     let stands = stands_at (part_reader bang) text (single f, rest) e in
@@ -536,7 +525,6 @@ in_single : (bang : Bool) (text : List ℕ) (f : Inner) (rest : List ℕ) → gr
 in_single bang text f rest e = record { closes = in_name-closes bang text; reaches = λ d k short. (d, cross_single bang text d f rest e k short, omega arith) }
 
 -- a brace within a chord
-
 apart : ◌≡◌ {A = ℕ} 93 125 → ⊥
 apart e = let clash : eqb 93 125 ≡ true = subst (λ x. eqb 93 x ≡ true) e refl in cc
 
@@ -612,7 +600,6 @@ pub brace-part : (bang : Bool) (text rest : List ℕ) (p : GracePart) → grace_
 brace-part bang text rest p e = brace-some bang text (p, rest) (brace_in_part bang p text) e (in_part bang text rest p e)
 
 -- the chord of a text, and shorter ones
-
 pub chord-none : (bang : Bool) (w : List ℕ) → bracket_at bang w ≡ None → brace_in_chord bang w ≡ None
 unfolding chord_at brace_in_chord
 chord-none bang w none =
@@ -704,7 +691,6 @@ nothing_past bang _ t d _ (then_part u part v more l others) whole k =
     ]
 
 -- ---- a group
-
 abbrev pub TakesGrace : Bool → List ℕ → Option (GraceForm × List ℕ) → Type 0
 TakesGrace bang s r = IfSome r (λ z. IsGrace bang z.0 × (s ≡ grace_then z.0 z.1))
 
@@ -806,7 +792,6 @@ grace-longer f x = longer_by f.slash
     longer_by false = omega (arith, length-append f.inside (125 ∷ x))
 
 -- ---- the state of the loop that looks for the last brace
-
 pub record SeekingBrace (bang : Bool) (text : List ℕ) (last : Option (List ℕ)) (rest : List ℕ) : Type 0 where
   pub found : later_or (brace_at bang rest) last ≡ brace_at bang text
   pub within : length rest ≤ length text
@@ -830,7 +815,6 @@ all-within now bang text None e = tt
 all-within now bang text (Some x) e = brace_within bang text (now x) (sym e)
 
 -- ---- its fault
-
 abbrev slashed : Bool → List ℕ → Bool × List ℕ
 slashed b x = (b, x)
 
@@ -891,7 +875,6 @@ grace-flawed bang slash s t w r flaw at cut some none stuck flawed = by_stop (wa
     by_stop (b ∷ x) e = grace_flawed s slash t (walk (grace_part_at bang) t).0 b x flaw (some_left is_in_grace s w r cut some) (has_slash slash s t at) (subst (λ y. GraceLeads bang t (walk (grace_part_at bang) t).0 y) e (grace_leads bang t)) (by_byte b x e (eqb b 125) refl) flawed
 
 -- ---- the text of a chord that is a part
-
 pub item_wider : (part : GraceItem) (n m : ℕ) → item_within part n → n ≤ m → item_within part m
 item_wider (GraceItem.Part part) n m h le = tt
 item_wider (GraceItem.Chord inside) n m h le = omega (arith, h, le)

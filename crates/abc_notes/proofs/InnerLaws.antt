@@ -9,7 +9,6 @@ use Rattle.abc_notes.{specs.Chords.heads_after, specs.Chords.at_most, proofs.Ite
 use Rattle.abc_lines.specs.declared.fault.FaultKind.TheVariants.{BadByte, BadLength}
 
 -- ---- a part has a byte
-
 pub length-copies_then : (n b : ℕ) (x : List ℕ) → length (copies n b x) ≡ n + length x
 length-copies_then zero b x = omega arith
 length-copies_then (suc n) b x = omega (arith, length-copies_then n b x)
@@ -51,7 +50,6 @@ inner_reader bang = record {
 }
 
 -- ---- what a call of the reader tells
-
 pub record FoundInner (bang : Bool) (s : List ℕ) (item : Sense) (behind : List ℕ) : Type 0 where
   pub part : Inner
   pub at : inner_at bang s ≡ Some (inner_pair part behind)
@@ -77,7 +75,6 @@ pub inner_less : (bang : Bool) (s : List ℕ) (item : Sense) (behind : List ℕ)
 inner_less bang s item behind f = less (inner_reader bang) s (f.part, behind) f.at
 
 -- ---- the state of a loop over the inside
-
 pub record Inside (bang : Bool) (w : List ℕ) (head : Bool) (before : Option ℕ) (rest : List ℕ) : Type 0 where
   pub left : (walk (inner_at bang) rest).1 ≡ (walk (inner_at bang) w).1
   pub heads : (head || has_head (walk (inner_at bang) rest).0) ≡ has_head (walk (inner_at bang) w).0
@@ -138,7 +135,6 @@ inside-ends bang w head before [] stage none = (rw (sym stage.left) refl, sym (o
 inside-ends bang w head before (b ∷ rest) stage none = absurd (omega (arith, none))
 
 -- ---- what is said inside
-
 pub senses-some : (bang : Bool) (s : List ℕ) (item : Sense) (behind : List ℕ) → FoundInner bang s item behind → senses bang s ≡ item ∷ senses bang behind
 unfolding senses
 senses-some bang s item behind f = rw (walk-some (inner_reader bang) s (f.part, behind) f.at, f.says) refl

@@ -10,7 +10,6 @@ abbrev pair : List ℕ → List ℕ → List ℕ × List ℕ
 pair a b = (a, b)
 
 -- ---- bytes of a list of bytes
-
 pub below_all : (ks : List ℕ) (n b : ℕ) → list_all (λ k. ltb k n) ks ≡ true → one_of ks b ≡ true → b < n
 below_all [] n b h is = absurd cc
 below_all (k ∷ ks) n b h is =
@@ -28,7 +27,6 @@ implied p q n b all lt h =
     f
 
 -- ---- names
-
 some_name : (b : ℕ) (name rest s : List ℕ) (mark : ℕ) → s ≡ (b ∷ name) ++ (mark ∷ rest) → list_all is_name_byte (b ∷ name) ≡ true →
     IfSome (cond (eqb mark 33) (Some (pair (b ∷ name) rest)) None) (λ z. IsName z.0 × (s ≡ z.0 ++ (33 ∷ z.1)))
 some_name b name rest s mark e pass =
@@ -55,7 +53,6 @@ name_at-reads name x good =
     rw (span_all-append is_name_byte name (33 ∷ x) good.bytes, span_all-stops is_name_byte (33 ∷ x) refl, append-nil) (closed-reads name x good.some)
 
 -- ---- what is read stands at the front
-
 abbrev pub TakesInner : Bool → List ℕ → ReadInner → Type 0
 TakesInner bang s r = IfSome r (λ z. StandsInside bang z.0 s z.1)
 
@@ -111,7 +108,6 @@ inner_at-takes bang [] = tt
 inner_at-takes bang (b ∷ s) = by-takes (item_class b) bang b s (fact b)
 
 -- ---- what is read is as long as each part that stands there
-
 pub record ReachesInner (x : List ℕ) (f : Inner) (r : ReadInner) : Type 0 where
   pub part : Inner
   pub rest : List ℕ

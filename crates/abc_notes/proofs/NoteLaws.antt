@@ -8,7 +8,6 @@ use Rattle.abc_notes.{specs.Notes.IsNote, specs.Notes.sign_at, specs.Notes.upper
 use Rattle.abc_notes.proofs.{SpanLaws.span_all-pass, SpanLaws.span_all-less, SpanLaws.span_all-append, Bounds.digit_range, LengthLaws.goes_on, LengthLaws.length_at-takes, LengthLaws.length_at-reaches, LengthLaws.length-length_at}
 
 -- ---- the sign
-
 sign_at-takes : (s : List ℕ) → s ≡ sign_then (sign_at s).0 (sign_at s).1
 unfolding sign_at
 sign_at-takes s =
@@ -55,7 +54,6 @@ sign_at-reads (Some Flat) b x none = rw none.down refl
 sign_at-reads (Some Natural) b x none = refl
 
 -- ---- the letter
-
 letter_sign : (low : Bool) (l : Letter) → NoSign (letter_byte low l)
 letter_sign false C = record { up = refl; down = refl; plain = refl }
 letter_sign _ C = record { up = refl; down = refl; plain = refl }
@@ -87,7 +85,6 @@ unfolding letter_at
 letter_at-takes b = either-takes b (upper_at b) (lower_at b) (upper_at-takes b) (lower_at-takes b)
 
 -- ---- the note
-
 abbrev pub TakesNote : List ℕ → Option (NoteForm × List ℕ) → Type 0
 TakesNote s read = IfSome read (λ z. (s ≡ note_then z.0 z.1) × IsNote z.0)
 

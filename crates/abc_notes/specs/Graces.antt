@@ -95,7 +95,6 @@ pub data GraceFault (bang : Bool) : List ℕ → Flaw → Type 0 where
       GraceLeads bang behind parts (byte ∷ rest) → (byte == code "}") ≡ false → GraceFlawed bang None behind flaw → GraceFault bang text flaw
 
 -- ---- reading, between these and the code
-
 abbrev pub chorded_read : ChordForm × List ℕ → GracePart × List ℕ
 chorded_read z = (chorded z.0, z.1)
 

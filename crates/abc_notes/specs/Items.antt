@@ -87,7 +87,6 @@ abbrev pub InnerFlawed : Bool → Option ℕ → List ℕ → Flaw → Type 0
 InnerFlawed bang before text flaw = Flawed Inner (StandsInside bang) has_length IsBadByte before text flaw
 
 -- ---- reading, between these and the code
-
 abbrev pub ReadInner : Type 0
 ReadInner = Option (Inner × List ℕ)
 

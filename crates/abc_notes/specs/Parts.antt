@@ -46,7 +46,6 @@ pub data Flawed (I : Type 0) (Stands : I → List ℕ → List ℕ → Type 0) (
       Flawed I Stands is_lengthy Own (length_at_place (is_lengthy part) (length text)) rest flaw → Flawed I Stands is_lengthy Own before text flaw
 
 -- ---- reading, between these and the code
-
 abbrev pub walk_on : {I : Type 0} → (List ℕ → List I × List ℕ) → List ℕ → Option (I × List ℕ) → List I × List ℕ
 walk_on next text None = ([], text)
 walk_on next text (Some z) = (z.0 ∷ (next z.1).0, (next z.1).1)

@@ -1,7 +1,6 @@
 //! The length of a note.
 
-ghost use Rattle.std.specs.{Prelude.◌≡◌, Prelude.ℕ, Prelude.List, Prelude.◌<◌, Prelude.◌≤◌, Prelude.◌^◌, Prelude.length, Prelude.take, Prelude.true, List.prefix_len, List.list_all};
-ghost use Rattle.std.specs.Str.Parse.{digits_value};
+ghost use Rattle.std.specs.{Prelude.◌≡◌, Prelude.ℕ, Prelude.List, Prelude.◌<◌, Prelude.◌≤◌, Prelude.◌^◌, Prelude.length, Prelude.take, Prelude.true, List.prefix_len, List.list_all, Str.Parse.digits_value};
 ghost use Rattle.mus_units.specs.Bytes.{is_digit};
 ghost use Rattle.abc_notes.specs.Runs.{span};
 ghost use Rattle.abc_notes.specs.Lengths.{IsNumber, IsCount, limit_at, count_of, number_at, length_at, len_of, is_slash, length_read};

@@ -150,7 +150,6 @@ lone_or x None t = same x lone_form
 lone_or x (Some z) t = record { form = named_form z.0; rest = z.1; is = refl; ends = inl (omega (arith, ap length t.1, length-append z.0 (33 ∷ z.1))) }
 
 -- ---- arrows
-
 copies-pass : (b k : ℕ) → eqb b b ≡ true → list_all (λ y. eqb y b) (copies k b []) ≡ true
 copies-pass b zero h = refl
 copies-pass b (suc k) h = rw h (copies-pass b k h)
@@ -189,7 +188,6 @@ broken-reaches before right k x allowed few =
     }
 
 -- ---- by the first byte
-
 at_class : (bang : Bool) (before : Before) (b : ℕ) (s : List ℕ) (c : Class) → class_of b ≡ c → piece_at bang before (b ∷ s) ≡ by_class c bang before b s
 unfolding piece_at
 at_class bang before b s c h = rw h refl
@@ -302,7 +300,6 @@ cut-reaches bang before b x h =
     ]
 
 -- ---- behind a bracket
-
 opened_ending : (bang : Bool) (d : ℕ) (t : List ℕ) → is_digit d ≡ true → opened (opening (d ∷ t)) bang (d ∷ t) ≡ ending_read true (d ∷ t)
 opened_ending bang d t digit = rw (ne_eqb d 124 (let lt = digit_below d digit in omega arith), digit) refl
 
@@ -351,7 +348,6 @@ piece_at-reaches bang before lone_form x good allowed = rw (at_class bang before
 piece_at-reaches bang before (plus_form text) x good allowed = rw (at_class bang before 43 (text ++ (43 ∷ x)) Class.Plus refl) (plus-reaches text x good)
 
 -- ---- a piece has a byte
-
 pub longer : (bang : Bool) (f : Form) (x : List ℕ) → IsGood bang f → length x < length (spelled f x)
 longer bang (note_form f) x good = note-longer f x
 longer bang (rest_form seen len) x good = omega (arith, length-length_then len x)

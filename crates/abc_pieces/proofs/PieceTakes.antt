@@ -54,7 +54,6 @@ either-takes bang before s (Some z) other p q = p
 either-takes bang before s None other p q = q
 
 -- ---- behind a bracket
-
 bracket-takes : (bang : Bool) (before : Before) (s : List ℕ) → Takes bang before (91 ∷ s) (ending_read true s)
 unfolding ending_read
 bracket-takes bang before [] = tt
@@ -110,7 +109,6 @@ opened-takes Opening.Inline bang before s h = inline-takes bang before s h
 opened-takes Opening.Chord bang before s h = chord-takes bang before s h
 
 -- ---- the others
-
 from_grace : (bang : Bool) (before : Before) (s : List ℕ) (r : Option (GraceForm × List ℕ)) → TakesGrace bang s r → Takes bang before (123 ∷ s) (option_map (λ z. (grace_form z.0, z.1)) r)
 from_grace bang before s None t = tt
 from_grace bang before s (Some z) t = record { good = t.0; allowed = tt; cut = ap (λ x. 123 ∷ x) t.1 }

@@ -40,7 +40,6 @@ tuplet_at-takes [] = tt
 tuplet_at-takes (p ∷ t) = cond_both {A = Option (TupletForm × List ℕ)} (is_tuplet_digit p) (Some (behind_p p t)) None (TakesTuplet (p ∷ t)) (λ e. p-takes p t e) (λ e. tt)
 
 -- ---- the longest
-
 abbrev Ends : List ℕ → TupletForm → TupletForm × List ℕ → Type 0
 Ends x f z = (length z.1 < length x) ⊎ (z ≡ tuplet_with f x)
 

@@ -46,7 +46,6 @@ r_of (with_q p q) = 0
 r_of (with_r p q r) = value_or_zero r
 
 -- ---- reading, between these and the code
-
 abbrev pub behind_q : ℕ → List ℕ × List ℕ → TupletForm × List ℕ
 behind_q p q = let colon = skip (code ":") q.1 in let r = number_at 2 colon.1 in if colon.0 then (with_r p q.0 r.0, r.1) else (with_q p q.0, q.1)
 

@@ -16,7 +16,6 @@ abbrev pub core : Flat → Core
 core f = (f.event, f.graces)
 
 -- ---- what a good voice asks, of events with their graces
-
 abbrev pub CoresReach : Clef → List Core → Type 0
 CoresReach before [] = ⊤
 CoresReach before (c ∷ cs) =
@@ -46,7 +45,6 @@ events_of_cores verses (f ∷ fs) h =
     All-cons (IsGoodEvent verses) f fs (record { words = h.0.words; key = h.0.key; meter = h.0.meter }) (events_of_cores verses fs h.1)
 
 -- ---- rows of nodes
-
 row_flats-append : (xs ys : List Leafing) (qs ps : ℕ) (w : Waits) → (in_row (xs ++ ys) qs ps w).flats ≡ (in_row xs qs ps w).flats ++ (in_row ys qs ps (in_row xs qs ps w).waits).flats
 row_flats-append [] ys qs ps w = refl
 row_flats-append (x ∷ xs) ys qs ps w =
@@ -97,7 +95,6 @@ sings_tuplet p q inner cs h =
     }
 
 -- ---- trees
-
 abbrev pub sung : List Music → List Core
 sung nodes = map core (flats_of nodes)
 

@@ -15,7 +15,6 @@ use Rattle.abc_score.proofs.{Nested.HasSome, Nested.IsGoodAt, Nested.IsRatio, Ne
 use Rattle.abc_score.proofs.Walks.{default_some, next_enough, none_open, rest_clear, sound_parts, sounds_on, tuplet_clear, walk_force}
 
 -- ---- graces that wait
-
 all_taken : {X : Type 0} (P : X → Type 0) (n : ℕ) (xs : List X) → AllByRecursion P xs → AllByRecursion P (take n xs)
 all_taken P zero xs all = tt
 all_taken P (suc n) [] all = tt
@@ -97,7 +96,6 @@ same_place : (k m n : ℕ) (t : Taking) (ls : List Leaf) → n ≡ m → WellNes
 same_place k m n t ls same h = subst (λ i. WellNested (taken_in k i t) ls) same h
 
 -- ---- one step more
-
 pub sound_measure : (now : Place) (before behind : Steps) (at : Stood) (s : Sound) → (sound_written now before at s behind).measure ≡ measure_of now
 unfolding sound_written
 sound_measure now before behind at s = refl
@@ -185,7 +183,6 @@ step_full words k first before behind at _ rest force goods good e drawn enough 
     same_place k (measure_at before) (groups before + (all_further before + 0)) (taking_at before) (leaves_in k (leaves_from words j id rest)) same (h j id)
 
 -- ---- all steps
-
 sounds_none : sounds_behind [] ≡ 0
 unfolding sounds_behind
 sounds_none = refl

@@ -13,7 +13,6 @@ use Rattle.abc_score.proofs.{Rows.judged_note, Rows.judged_rest, Rows.judged_gra
 use Rattle.abc_steps.specs.declared.place.Place.{Place as Stand}
 
 -- ---- events
-
 pub record IsPlayed (e : Event) : Type 0 where
   pub dots : e.value.dots ≤ 3
   pub ticks : e.ticks ≡ value_length e.value
@@ -63,7 +62,6 @@ some_at at [] some = absurd (omega arith)
 some_at at (e ∷ es) some = ap (λ b. b || (judged_at at (map node_of es)).some) (node_some at e.heads e)
 
 -- ---- graces
-
 has_some_head : (hs : List Head) → HasGraceHead hs → 1 ≤ length hs
 has_some_head [] has = absurd has
 has_some_head (h ∷ hs) has = omega arith
@@ -88,7 +86,6 @@ group_at (Taking.Two inner outer) (g ∷ gs) slash good =
     and_from _ true (ap (λ (j : Place → Judged). (j (place_of (Taking.Two inner outer))).good) (judged_grace (map grace_note (g ∷ gs)) slash) ∙ chords_good (record { deeper = 0; inner = true; grace = true }) (g ∷ gs) good) refl
 
 -- ---- a note, a chord or a rest
-
 abbrev pub IsFew : Value → Type 0
 IsFew v = v.dots ≤ 3
 
@@ -122,7 +119,6 @@ sound_some at w waiting words id some =
     some_behind at (grace_nodes waiting.graces waiting.slash) (map node_of (parts w waiting words id w.values)) (some_at at (parts w waiting words id w.values) (parts_some w waiting words id w.values some))
 
 -- ---- a whole measure rest
-
 halving_some : (n : ℕ) → IsTrue (is_halving n) → 1 ≤ n
 halving_some n h = grind arith
 

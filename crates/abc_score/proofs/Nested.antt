@@ -8,7 +8,6 @@ use Rattle.abc_score.proofs.Rows.{judged_tuplet}
 use Rattle.mus_score.specs.declared.score.Music.TheVariants as music
 
 -- ---- bodies at a place
-
 abbrev pub judged_at : Place → List Music → Judged
 judged_at at body = all_judged (map judged_within body) at
 
@@ -37,7 +36,6 @@ some_behind at [] ys a = a
 some_behind at (x ∷ xs) ys a = or_right (judged_within x at).some (judged_at at (xs ++ ys)).some (some_behind at xs ys a)
 
 -- ---- tuplets
-
 abbrev pub within_one : Place
 within_one = record { deeper = 1; inner = true; grace = false }
 
@@ -80,7 +78,6 @@ inner_some : (p q : ℕ) (body : List Music) → HasSome within_two body → (ju
 inner_some p q body some = ap (λ (j : Place → Judged). (j within_one).some) (judged_tuplet p q body) ∙ some
 
 -- ---- what the open tuplets take is good, and what is left
-
 abbrev pub IsOpen : Taking → Type 0
 IsOpen Taking.Nothing = ⊤
 IsOpen (Taking.One left) = 1 ≤ left
@@ -219,7 +216,6 @@ opens_fine (Taking.One left) p q r f fit ratio fine =
 opens_fine (Taking.Two inner outer) p q r f fit ratio fine = absurd cc
 
 -- ---- the leaves of a measure
-
 abbrev pub WellNested : Taking → List Leaf → Type 0
 WellNested t [] = t ≡ Taking.Nothing
 WellNested t (Leaf.Event measure nodes ∷ ls) = IsGoodAt (place_of t) nodes × HasSome (place_of t) nodes × WellNested (after_event t) ls

@@ -9,7 +9,6 @@ use Rattle.abc_events.specs.{Leaves.words_at, Signs.with_tie}
 use Rattle.abc_score.proofs.{Rows.leaf_rows, Cores.Core, Cores.CoresCount, Cores.CoresReach, Cores.IsGoodCore, Cores.IsSung, Cores.sung, Singing.plain, Singing.with_graces, Singing.grace_of, Singing.nodes_sung, Singing.nodes_are_sung}
 
 -- ---- numbers
-
 later_id : (w : Written) (verses id : ℕ) (more : Bool) (v : Value) → (later_part w verses id more v).id ≡ id
 unfolding later_part
 later_id w verses id more v = refl
@@ -35,7 +34,6 @@ parts_count gs w waiting words id (v ∷ vs) cs h =
     )
 
 -- ---- heights
-
 pub heads_reach : (clef : Clef) (f : Head → Head) → ((h : Head) → IsInReach clef h → IsInReach clef (f h)) → (hs : List Head) → AllByRecursion (IsInReach clef) hs → AllByRecursion (IsInReach clef) (map f hs)
 heads_reach clef f keeps [] all = tt
 heads_reach clef f keeps (h ∷ hs) all = (keeps h all.0, heads_reach clef f keeps hs all.1)
@@ -90,7 +88,6 @@ parts_reach before gs w waiting words id (v ∷ vs) cs some heads graces others 
     (first_reaches clef w waiting words id (some_more vs) v heads) graces (later_reach clef w (length words) (id + 1) vs cs heads others)
 
 -- ---- words and changes
-
 later_good : (w : Written) (verses id : ℕ) (more : Bool) (v : Value) → IsGoodCore verses (plain (later_part w verses id more v))
 unfolding later_part
 later_good w verses id more v = record { words = length-replicate verses None; key = tt; meter = tt }

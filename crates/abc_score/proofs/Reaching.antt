@@ -13,7 +13,6 @@ use Rattle.abc_faults.specs.Faults.{any_grace_off, any_off, faults_in, faults_of
 use Rattle.abc_score.proofs.{Parts.SignsReach, Parts.heads_reach, Parts.DoReach, Basics.all_both, Basics.none_before, Basics.none_behind, Clear.no_fault, Walks.sound_clear}
 
 -- ---- heads and graces
-
 not_low : (z : ℤ) → int_lt z (negsuc 13) ≡ false → negsuc 13 ≤ℤ z
 not_low z h = grind (arith, ints)
 
@@ -128,7 +127,6 @@ waiting_clef first before decos =
     ap (λ b. unwrap_or (when b (force_at first before).clef) (event_clef first before)) (any_since before) ∙ clef_here first before
 
 -- ---- all steps
-
 no_heads : (clef : Clef) (now : Place) (at : Stood) (seen : Bool) (measure : ℕ) (parted : Bool) → DoReach clef (rest_written now at seen measure parted).heads
 unfolding rest_written
 no_heads clef now at seen measure parted = tt

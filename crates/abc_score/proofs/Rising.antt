@@ -23,7 +23,6 @@ lower low high top (Sign.Event w waiting ∷ ss) less rise = let first : high �
 lower low high top (Sign.Opens measure p q r ∷ ss) less rise = lower low high top ss less rise
 
 -- ---- measures begun
-
 grows : (b : Bool) (g f n : ℕ) → g + f + n ≤ cond b (g + 1) g + (f + n)
 grows true g f n = omega arith
 grows false g f n = omega arith
@@ -54,7 +53,6 @@ begun_walk (at ∷ behind) before =
     omega (arith, others, here, same)
 
 -- ---- one step more
-
 rest_measure : (now : Place) (at : Stood) (seen : Bool) (measure : ℕ) (parted : Bool) → (rest_written now at seen measure parted).measure ≡ measure
 unfolding rest_written
 rest_measure now at seen measure parted = refl
@@ -116,7 +114,6 @@ voice_rise words first steps top good less =
     leaves_rise words 0 0 0 top (signs first [] steps) (walk_rise first [] steps top good all)
 
 -- ---- as many measures as the voice with most of them has
-
 most_from : (ns : List ℕ) (most : ℕ) → most ≤ fold max most ns
 most_from [] most = omega arith
 most_from (n ∷ ns) most = omega (arith, most_from ns (max most n))

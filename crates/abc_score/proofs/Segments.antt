@@ -46,7 +46,6 @@ none_in k low top (Leaf.Event measure nodes ∷ ls) less rise =
 none_in k low top (Leaf.Opens measure p q r ∷ ls) less rise = opens_in k measure p q r ls ∙ none_in k low top ls less rise
 
 -- ---- lists made of a range
-
 none_each : (n low : ℕ) → flat_map (λ k. leaf_rows (leaves_in k [])) (range_with_len low n) ≡ []
 none_each zero low = refl
 none_each (suc n) low = none_each n (low + 1)
@@ -101,7 +100,6 @@ segments (Leaf.Opens measure p q r ∷ ls) top n low e rise =
     ∙ segments ls top n low e rise
 
 -- ---- the events and the weight of all measures
-
 kept_in : (P : List Music → Type 0) (k : ℕ) (ls : List Leaf) → AllByRecursion P (leaf_rows ls) → AllByRecursion P (leaf_rows (leaves_in k ls))
 kept_in P k [] h = tt
 kept_in P k (Leaf.Event m nodes ∷ ls) h = by_test (m == k) (kept_in P k ls h.1) where

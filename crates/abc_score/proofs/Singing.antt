@@ -10,7 +10,6 @@ use Rattle.abc_score.proofs.{Rows.weight_of, Rows.weight_of-append, Rows.weight_
 use Rattle.mus_score.specs.declared.score.Music.TheVariants as music
 
 -- ---- which events
-
 abbrev pub plain : Event → Core
 plain e = (e, [])
 
@@ -95,7 +94,6 @@ nodes_are_sung w waiting words id some =
     subst (Sings (nodes_of w waiting words id)) (sym (nodes_sung w waiting words id some)) (nodes_sing w waiting words id some)
 
 -- ---- their weight
-
 heads_weight : (heads : List Head) (e : Event) → e.heads ≡ heads → weight (note_or_rest heads e) ≡ max 1 (length heads)
 heads_weight [] e is = weight_rest e
 heads_weight (h ∷ hs) e is = let long : length e.heads ≡ suc (length hs) = ap length is in weight_note e ∙ (long ∙ omega arith)

@@ -16,7 +16,6 @@ use Rattle.abc_faults.specs.Faults.{any_off, ends_tuplets, fault_at, fault_if, f
 use Rattle.abc_score.proofs.{Basics.all_both, Basics.none_before, Basics.none_behind, Clear.no_fault, Nested.above_one, Parts.HasParts, Parts.HasGoodChanges, Judging.rest_values}
 
 -- ---- what each kind of step shows
-
 pub sound_clear : (now : Place) (before behind : Steps) (at : Stood) (s : Sound) → sound_faults now before at s behind ≡ []
     → (is_none (parts_list (written_length now.force.unit s before behind).num (written_length now.force.unit s before behind).den) ≡ false) × (any_off now.force.clef s.heads ≡ false)
 unfolding sound_faults
@@ -44,7 +43,6 @@ tuplet_clear r t at behind e = by_test (fits r t) refl e where
   by_test false is e = absurd cc
 
 -- ---- parts
-
 cut_some : (others : ℕ → Option (List Value)) (left : ℕ) (o : Option Value) → is_none (cut_next others left o) ≡ false → 1 ≤ length (unwrap_or (cut_next others left o) [])
 cut_some others left None e = absurd cc
 cut_some others left (Some v) e = by_rest (others (left - units_of v)) e where
@@ -138,7 +136,6 @@ step_parts now before behind at (Step.Tuplet p q r) force good e = tuplet_each H
 step_parts now before behind at _ force good e = tt
 
 -- ---- what is in force
-
 over_good : (signs adds : List KeySign) (o : Option Key) → AreGoodSigns signs → GoodKeyIn o → AreGoodSigns (over_by signs adds o)
 over_good signs adds None good whole = laid_good signs adds good
 over_good signs adds (Some key) good whole = whole
@@ -194,7 +191,6 @@ walk_changes first before (at ∷ behind) force good goods =
     (walk_changes first (at ∷ before) behind force (goods.0, good) goods.1)
 
 -- ---- the events that open tuplets take
-
 pub sounds_on : (s : Stood) (rest : Steps) → sounds_behind (s ∷ rest) ≡ cond (ends_tuplets s.step) 0 (cond (is_sound s.step) 1 0 + sounds_behind rest)
 unfolding sounds_behind
 sounds_on s rest =

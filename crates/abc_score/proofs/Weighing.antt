@@ -13,7 +13,6 @@ use Rattle.abc_faults.specs.Weights.{count_parts, count_up_to, crowd_faults_at, 
 use Rattle.abc_score.proofs.{Basics.none_before, Basics.none_behind, Rows.leaf_rows, Rows.weight_of, Singing.heads_of_graces, Singing.nodes_weight}
 
 -- ---- signs
-
 abbrev pub written_weight : Written → Waiting → ℕ
 written_weight w waiting = heads_of_graces waiting.graces + length w.values * max 1 (length w.heads)
 
@@ -132,7 +131,6 @@ signs_weigh first before (at ∷ behind) good =
     omega (arith, here, later, a, b)
 
 -- ---- crowds
-
 abbrev below : ℕ → ℕ → ℕ → ℕ → Bool
 below a b x y = then_below a x (nat_lt b y)
 

@@ -17,7 +17,6 @@ use Rattle.abc_score.{proofs.Weighing.count, proofs.Weighing.leaves_weigh, proof
 use Rattle.abc_score.specs.{Framed.IsFramed, Score.event_count, Score.most_measures, Score.notes_from, Score.own_measures, Score.score_with, Score.sung_words, Score.voice_of, Score.written_measures, Voices.IsGoodRead, Voices.voice_read, Voices.voices_read, declared.voices.VoiceRead.VoiceRead}
 
 -- ---- words
-
 made_at : (f : ℕ → Words) (n from k : ℕ) → k < n → slice_get (map f (range_with_len from n)) k ≡ Some (f (from + k))
 made_at f zero from k less = absurd (omega arith)
 made_at f (suc n) from zero less = let same : from ≡ from + 0 = omega arith in ap (λ i. Some (f i)) same
@@ -43,7 +42,6 @@ each_words id unnamed items ss j less =
     ap (λ (o : Option Words). length (unwrap_or o [])) (made_at (event_words rows verses) (event_count ss) 0 j within) ∙ length_words rows verses (0 + j)
 
 -- ---- a voice
-
 all_drawn : (first : InForce) (steps : Steps) → AllByRecursion IsDrawn (signs first [] steps)
 all_drawn first steps =
     let all = signs first [] steps in
@@ -184,7 +182,6 @@ voice_good header items n v good most is few =
     }
 
 -- ---- all voices
-
 voices_good : (header : Header) (items : List Item) (n : ℕ) (voices : List VoiceRead) → HasGoodValues header → n ≤ 2000 → AllByRecursion (IsClear header items n) voices → sum_by count (flat_map voice_weights voices) ≤ 50000 → AllByRecursion IsGoodVoice (map (voice_of header items n) voices)
 voices_good header items n [] good most all few = tt
 voices_good header items n (v ∷ voices) good most all few =

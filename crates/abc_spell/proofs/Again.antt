@@ -22,7 +22,6 @@ pub record IsPlain (t : Token) : Type 0 where
   pub exact : (x : List ℕ) → Stops x → IsExact form x
 
 -- ---- each kind
-
 note_plain : (f : NoteForm) → IsNote f → IsPlain (Token.Note (head_of f) (len_of f.length))
 note_plain f good =
     let head = head_of f in
@@ -166,7 +165,6 @@ plain_of bang (space_form b more) good = record { form = space_form 32 []; means
 plain_of bang _ good = tt
 
 -- ---- the line
-
 abbrev AllPlain : List Token → Type 0
 AllPlain [] = Unit {0}
 AllPlain (t ∷ ts) = IsPlain t × AllPlain ts

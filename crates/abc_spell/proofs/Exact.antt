@@ -25,7 +25,6 @@ abbrev pub IsExact : Form → List ℕ → Type 0
 IsExact f x = piece_at false Before.Other (spelled f x) ≡ read f x
 
 -- ---- lengths and notes
-
 abbrev len_pair : LengthForm → List ℕ → LengthForm × List ℕ
 len_pair f x = (f, x)
 
@@ -92,7 +91,6 @@ measures_piece true c x good h = rw (count_exact 3 c x good h) refl
 measures_piece false c x good h = rw (count_exact 3 c x good h) refl
 
 -- ---- tuplets, slurs, ties, arrows
-
 tuplet_exact : (p : ℕ) (q r x : List ℕ) → IsTuplet (with_r p q r) → Stops x → tuplet_at (tuplet_then (with_r p q r) x) ≡ Some (with_r p q r, x)
 unfolding tuplet_at
 tuplet_exact p q r x good h =
@@ -134,7 +132,6 @@ broken_piece right zero x some few h = absurd (omega (arith, some))
 broken_piece right (suc k) x some few h = arrows_piece right k x few h
 
 -- ---- bars
-
 bar_is_read : (f : BarForm) (x : List ℕ) → IsBar f → Stops x → bar_read (bar_then f x) ≡ read (bar_form f) x
 unfolding bar_read
 bar_is_read f x good h =
@@ -162,7 +159,6 @@ bar_piece (colons zero) x good h = absurd (omega (arith, good))
 bar_piece (colons (suc n)) x good h = bar_is_read (colons (suc n)) x good h
 
 -- ---- texts
-
 opened_ending : (d : ℕ) (t : List ℕ) → is_digit d ≡ true → opened (opening (d ∷ t)) false (d ∷ t) ≡ ending_read true (d ∷ t)
 opened_ending d t digit = rw (ne_eqb d 124 (let lt = digit_below d digit in omega arith), digit) refl
 
@@ -200,7 +196,6 @@ unfolding piece_at class_of space_read
 space_piece x h = rw (span_all-stops is_blank x (stop is_blank x refl h)) refl
 
 -- ---- chords and graces
-
 abbrev chord_pair : ChordForm → List ℕ → ChordForm × List ℕ
 chord_pair f x = (f, x)
 

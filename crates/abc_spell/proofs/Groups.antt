@@ -16,7 +16,6 @@ use Rattle.abc_spell.proofs.{Numbers.len_form, Numbers.len_again, Numbers.head_f
 
 -- a byte that closes no chord and no grace group
 -- ---- spelling in front of more
-
 all_append : {I : Type 0} (f : I → List ℕ → List ℕ) → ((a : I) (s x : List ℕ) → f a s ++ x ≡ f a (s ++ x)) → (list : List I) (s x : List ℕ) → all_then f list s ++ x ≡ all_then f list (s ++ x)
 all_append f h [] s x = refl
 all_append f h (a ∷ list) s x = h a (all_then f list s) x ∙ ap (f a) (all_append f h list s x)
@@ -46,7 +45,6 @@ grace_chord_append c s x = by_heads c.heads
     by_heads (h ∷ g ∷ hs) = ap (λ t. 91 ∷ t) (all_append head_then head_append (h ∷ g ∷ hs) (93 ∷ s) x)
 
 -- ---- the parts of a chord
-
 abbrev tied_parts : Bool → List Inner → List Inner
 tied_parts true ps = tie_inside false ∷ ps
 tied_parts false ps = ps
@@ -152,7 +150,6 @@ head_behind [] ps = refl
 head_behind (d ∷ ds) ps = head_behind ds ps
 
 -- ---- each part is the longest
-
 abbrev inner_pair : Inner → List ℕ → Inner × List ℕ
 inner_pair f x = (f, x)
 
@@ -205,7 +202,6 @@ decos_parts (d ∷ ds) ps good later =
     part (named_inside (name_of d)) (all_then inner_then more []) more (inner_named (name_of d) (all_then inner_then more []) good.0.name) (decos_parts ds ps good.1 later)
 
 -- ---- a plain chord is a chord
-
 tied_whole : (b : Bool) (ps : List Inner) → has_lone ps ≡ false → has_lone (tied_parts b ps) ≡ false
 tied_whole true ps h = h
 tied_whole false ps h = h
@@ -263,7 +259,6 @@ pub chord_opens : (hs : List (Head × Len)) (ds : List Deco) (len : Len) → 1 �
 chord_opens hs ds len some good = ap opening (chord_spell hs ds (93 ∷ len_then len [])) ∙ opens_chord hs ds (93 ∷ len_then len []) some good
 
 -- ---- what any chord says can be written
-
 heads_add : (bang : Bool) (f : Inner) (more : List Inner) → IsInner bang f → GoodHeads (heads_of (map sense more)) → GoodHeads (heads_of (map sense (f ∷ more)))
 heads_add bang (note_inside f) more good h = (len_again f.length good.length, h)
 heads_add bang _ more good h = h
@@ -287,7 +282,6 @@ some_heads (note_inside f ∷ more) h = omega arith
 some_heads (_ ∷ more) h = some_heads more h
 
 -- ---- grace groups
-
 abbrev plain_part : List Head → GracePart
 plain_part [] = single lone_inside
 plain_part (h ∷ []) = single (note_inside (head_form h (whole [])))
@@ -432,7 +426,6 @@ grace_good slash body good = record {
 }
 
 -- ---- what any grace group says can be written
-
 heads_untied : (parts : List Inner) → Untied (heads_in (map sense parts))
 heads_untied [] = tt
 heads_untied (note_inside f ∷ more) = (refl, heads_untied more)

@@ -8,7 +8,6 @@ use Rattle.abc_notes.{specs.Chords.tied_if, proofs.Bounds.digit_range}
 use Rattle.abc_spell.specs.Plain.{is_small, marks_of}
 
 -- ---- numbers
-
 abbrev AreDigits : List ℕ → Type 0
 AreDigits ds = list_all is_digit ds ≡ true
 
@@ -75,7 +74,6 @@ pub count_means : (most n : ℕ) → Again most n → count_of (decimal n) ≡ n
 count_means most n a = count_value most (decimal n) a.good ∙ a.means
 
 -- ---- lengths
-
 abbrev pub len_form : Len → LengthForm
 len_form len = over (decimal len.num) (decimal len.den)
 
@@ -108,7 +106,6 @@ len_again (over c b) h = both_again (len_of (over c b)) (count_again 4 c (omega 
 len_again (halved c k) h = both_again (len_of (halved c k)) (count_again 4 c (omega arith) (omega arith) h.0) (halves_again k h.1 h.2)
 
 -- ---- octaves
-
 counted : (b k n : ℕ) → count_by (λ c. eqb c b) (replicate n k) ≡ n * cond (eqb k b) 1 0
 counted b k n = sum_by-replicate (λ c. cond (eqb c b) 1 0) n k
 
@@ -135,7 +132,6 @@ good_marks (pos n) = cond_both (leb 5 n) (replicate (n - 5) 39) (replicate (4 - 
 good_marks (negsuc n) = marks_are (n + 5) 44 refl
 
 -- ---- heads
-
 abbrev pub head_form : Head → LengthForm → NoteForm
 head_form head len = record { sign = head.sign; low = is_small head.pitch.octave; letter = head.pitch.letter; marks = marks_of head.pitch.octave; length = len }
 

@@ -1,6 +1,5 @@
 -- Tuplets: how many events the open ones still take.
-use Rattle.std.specs.Prelude.{ℕ, zero, suc, ◌-◌, [], ◌∷◌, Bool, true, false, nat_le, if◌then◌else◌}
-use Rattle.std.specs.Prelude.{◌==◌, ◌||◌, ◌&&◌}
+use Rattle.std.specs.Prelude.{ℕ, zero, suc, ◌-◌, [], ◌∷◌, Bool, true, false, nat_le, if◌then◌else◌, ◌==◌, ◌||◌, ◌&&◌}
 use Rattle.mus_units.specs.declared.key.Meter.{Meter}
 use Rattle.abc_steps.specs.{declared.step.Step.Step, declared.tuplets.Taking.Taking, Looks.Steps}
 

@@ -161,7 +161,6 @@ pub error_of : (bang : Bool) (line : Line) (ts : List Placed) (fault : Option Fa
 error_of bang line ts fault one front is = error_by bang line ts one front.0 front.1 (sym is ∙ front.2)
 
 -- ---- where no piece stands, no chord and no grace group does
-
 from_chord : (r : Option (ChordForm × List ℕ)) → option_map {U = Form × List ℕ} (λ (z : ChordForm × List ℕ). (chord_form z.0, z.1)) r ≡ None → r ≡ None
 from_chord None e = refl
 from_chord (Some z) e = absurd cc

@@ -60,7 +60,6 @@ abbrev pub words_of : List ℕ → List ℕ → List Item → List SungNote → 
 words_of id unnamed items notes count = map (event_words (music_rows id unnamed items notes) (verse_count id unnamed items)) (range_with_len 0 count)
 
 -- ---- what the words are, event by event
-
 abbrev pub word_at : List (List (Option (List ℕ))) → ℕ → ℕ → Option (List ℕ)
 word_at words event verse = slice_index_or (slice_index_or words event []) verse None
 
@@ -84,7 +83,6 @@ HasNoOtherWords id unnamed items notes count words =
     (event verse : ℕ) → All (λ n. n.event ≡ event → ⊥) notes → event < count → verse < verse_count id unnamed items → word_at words event verse ≡ None
 
 -- ---- rows as they are filled
-
 abbrev pub no_music : MusicRow
 no_music = record { texts = []; notes = [] }
 

@@ -1,8 +1,7 @@
 -- Lines of words whose syllables are known, on the notes of `CDEFG|AzB|`.
 use Rattle.std.proofs.Common.{◌≡◌, ℕ, List, [], ◌∷◌, refl}
 use Rattle.std.specs.Prelude.{codes}
-use Rattle.mus_lyric.specs.{declared.singing.NoteAt.NoteAt, declared.singing.Sung.Sung, Characters.character_of, Singing.sung_on}
-use Rattle.mus_lyric.specs.Syllables.{syllables_of}
+use Rattle.mus_lyric.specs.{declared.singing.NoteAt.NoteAt, declared.singing.Sung.Sung, Characters.character_of, Singing.sung_on, Syllables.syllables_of}
 use Rattle.mus_lyric.specs.declared.syllable.Syl.TheVariants.{Print, Skip, Bar}
 
 note : ℕ → ℕ → NoteAt

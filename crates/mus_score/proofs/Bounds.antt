@@ -9,7 +9,6 @@ use Rattle.mus_score.specs.declared.{good.Judged.Judged, good.Place.Place, score
 use Rattle.mus_score.specs.declared.score.Music.{Music, TheOpen.Music-F, TheFolds.fold-roll-Music, TheFolds.map-Music, TheFolds.ind-Music, TheViews.roll-Music}
 
 -- The length of a value.
-
 base_low : (b : Base) → 81 ≤ base_length b
 base_low Base.Breve = lit≤ tt
 base_low _ = lit≤ tt
@@ -33,7 +32,6 @@ pub value_high : (v : Value) → value_length v ≤ 99 * whole_note
 value_high v = omega (arith, base_high v.base, dots_high v.dots (base_length v.base))
 
 -- Events.
-
 abbrev HasTicks : Event → Type 0
 HasTicks e = e.ticks ≡ value_length e.value
 
@@ -62,7 +60,6 @@ rest_heads : (b : Bool) (e : Event) → is_rest b e ≡ true → length e.heads 
 rest_heads b e h = grind (arith, nat_tests)
 
 -- The products of the tuplets around a place: at most nine times nine, where one stands in the other.
-
 abbrev nines : ℕ → ℕ
 nines zero = 1
 nines (suc n) = 9 * nines n
@@ -168,7 +165,6 @@ rest_keeps e at qs ps a good =
     event_keeps at qs ps e 1 a (record { low = t.0; high = t.1; long = t.2 }) (rest_dots at.inner e g.1) (omega arith) (λ k. absurd (cc))
 
 -- Lists of nodes.
-
 none_kept : (at : Place) (qs ps : ℕ) → Kept at 0 (all_fit []) (sum_within []) (in_row []) qs ps
 none_kept at qs ps = record {
   fits = refl;
@@ -236,7 +232,6 @@ body_keeps (m ∷ ms) all at qs ps a good =
     (more_kept at qs ps (weight m) (sum (map weight ms)) (products_fit m) (map products_fit ms) (duration_within m) (map duration_within ms) (leaves_within m) (map leaves_within ms) first others)
 
 -- Graces and tuplets, by the nodes in them.
-
 grace_keeps : (ms : List Music) (slash : Bool) → BodyKeeps ms → Keeps (good_step (Music-F.Grace (map judged_within ms) slash)) (weight_step (Music-F.Grace (map weight ms) slash)) (products_step (Music-F.Grace (map products_fit ms) slash)) (duration_step (Music-F.Grace (map duration_within ms) slash)) (leaves_step (Music-F.Grace (map leaves_within ms) slash))
 grace_keeps ms slash body at qs ps a good =
     let g = guarded at.grace (all_judged (map judged_within ms) (record at { grace = true })).good good in
@@ -321,7 +316,6 @@ tuplet_keeps p q ms body at qs ps a good =
     }
 
 -- Every node.
-
 keeps_along : (i j : Place → Judged) (v w : ℕ) (e f : InTuplets Bool) (c d : InTuplets ℕ) (k l : Leafing) → i ≡ j → v ≡ w → e ≡ f → c ≡ d → k ≡ l → Keeps i v e c k → Keeps j w f d l
 keeps_along i j v w e f c d k l ij vw ef cd kl h =
     subst (λ z. Keeps j w f d z) kl (subst (λ z. Keeps j w f z k) cd (subst (λ z. Keeps j w z c k) ef (subst (λ z. Keeps j z e c k) vw (subst (λ z. Keeps z v e c k) ij h))))
@@ -357,7 +351,6 @@ music_keeps : (m : Music) → MusicKeeps m
 music_keeps = ind-Music MusicKeeps (λ x y is. subst (λ z. MusicKeeps (roll-Music z)) is (along (map-Music ((m : Music) × MusicKeeps m) Music (λ e. e.0) y) (step_keeps y)))
 
 -- Good bodies.
-
 outermost : Around outside 1 1
 outermost = record { some_q = omega arith; some_p = omega arith; few_q = lit≤ tt; few_p = lit≤ tt; plain = λ _. refl }
 

@@ -9,7 +9,6 @@ use Rattle.mus_score.{specs.Times.nothing, specs.Times.leaves_step, specs.Times.
 use Rattle.mus_score.proofs.Bounds.{rest_ticks_inner, rest_dots, guarded, gathered, all_music, GoodTuplet, tuplet_good}
 
 -- The ticks of a value.
-
 abbrev part : ℕ
 part = 6350400
 
@@ -28,7 +27,6 @@ pub value_parts : (v : Value) → v.dots ≤ 3 → value_length v ≡ units_of v
 value_parts v few = dotted v.base v.dots few
 
 -- The products of the tuplets around a place.
-
 abbrev left : ℕ → ℕ
 left zero = 1
 left (suc n) = 2520 * left n
@@ -74,7 +72,6 @@ plain_even : (t qs ps : ℕ) → ps ≡ 1 → ps * scaled t qs ps ≡ t * qs
 plain_even t qs ps e = divided t qs ps (t * qs) (omega arith) (let r : 1 * (t * qs) ≡ t * qs = omega arith in sym (subst (λ z. z * (t * qs) ≡ t * qs) (sym e) r))
 
 -- Nodes.
-
 abbrev Evens : (Place → Judged) → Leafing → InTuplets (List Ratio) → Type 0
 Evens j l r = (at : Place) (qs ps : ℕ) → Divides at ps → (j at).good ≡ true → (waits : Waits) → AllZip IsEven (l qs ps waits).flats (r qs ps)
 
@@ -89,7 +86,6 @@ rest_even : (e : Event) → Evens (λ at. judged (if at.grace then false else is
 rest_even e at qs ps d good waits = (rest_within at.inner at e qs ps refl (guarded at.grace (is_rest at.inner e) good).1 d, tt)
 
 -- Lists of nodes.
-
 zip_append : (fs gs : List Flat) (rs ts : List Ratio) → AllZip IsEven fs rs → AllZip IsEven gs ts → AllZip IsEven (fs ++ gs) (rs ++ ts)
 zip_append [] gs [] ts a b = b
 zip_append [] gs (r ∷ rs) ts a b = absurd a
@@ -126,7 +122,6 @@ tuplet_even p q ms body at qs ps d good waits =
     }) t.inside (record waits { tuplets = waits.tuplets ++ p ∷ [] })
 
 -- Every node.
-
 evens_along : (i j : Place → Judged) (k l : Leafing) (r s : InTuplets (List Ratio)) → i ≡ j → k ≡ l → r ≡ s → Evens i k r → Evens j l s
 evens_along i j k l r s ij kl rs h = subst (λ z. Evens j l z) rs (subst (λ z. Evens j z r) kl (subst (λ z. Evens z k r) ij h))
 

@@ -1,6 +1,5 @@
 ghost use Rattle.std.specs.Prelude.{◌≡◌, ◌≤◌, ◌*◌};
-ghost use Rattle.mus_units.specs.Parts.{units_of};
-ghost use Rattle.mus_units.specs.Value.{base_length, value_length};
+ghost use Rattle.mus_units.specs.{Parts.units_of, Value.base_length, Value.value_length};
 
 /// The ticks of a whole note, 2^15 * 3^4 * 5^2 * 7^2, so that every length with
 /// tuplets two deep is a whole number of ticks.

@@ -1,6 +1,5 @@
 ghost use Rattle.std.specs.Prelude.{All};
-ghost use Rattle.mus_score.specs.Good.{IsGoodBody};
-ghost use Rattle.mus_score.specs.GoodScore.{IsGoodScore};
+ghost use Rattle.mus_score.specs.{Good.IsGoodBody, GoodScore.IsGoodScore};
 
 use case_texts::{Report, number_of, put_head};
 use mus_score::{

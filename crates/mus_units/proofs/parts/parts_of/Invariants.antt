@@ -1,6 +1,5 @@
 use Rattle.std.proofs.Common.{◌≡◌, ◌≤◌, ◌-◌, ◌++◌, length, option_map}
-use Rattle.mus_units.specs.Parts.{cut_in}
-use Rattle.mus_units.proofs.Cutting.{IsCut}
+use Rattle.mus_units.{specs.Parts.cut_in, proofs.Cutting.IsCut}
 use Rattle.mus_units.proofs.parts.parts_of.Given as goal
 
 abbrev pub invariant-loop-i : goal.invariant-loop-i

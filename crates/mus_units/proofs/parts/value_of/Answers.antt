@@ -1,6 +1,5 @@
 use Rattle.std.proofs.Common.{◌≡◌, arith}
-use Rattle.mus_units.specs.Parts.{units_of}
-use Rattle.mus_units.proofs.Longest.{value_short}
+use Rattle.mus_units.{specs.Parts.units_of, proofs.Longest.value_short}
 use Rattle.mus_units.proofs.parts.value_of.Goals as goal
 
 pub returns-then-left-ge2048 : goal.returns-then-left-ge2048
