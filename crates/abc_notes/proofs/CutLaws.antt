@@ -103,14 +103,14 @@ module _ {I : Type 0} {Stands : I → List ℕ → List ℕ → Type 0} {at : Li
   -- the bytes of what is read off a text are the text
   pub walk_spells : (s : List ℕ) → spelled_then one (walk at s).0 (walk at s).1 ≡ s
   walk_spells = by_parts r (λ s. spelled_then one (walk at s).0 (walk at s).1 ≡ s)
-    (λ s e. rw (walk-none r s e) refl)
-    (λ s z e next. rw (walk-some r s z e) (ap (one z.0) next ∙ sym (k.spells z.0 s z.1 (stands_at r s z e))))
+      (λ s e. rw (walk-none r s e) refl)
+      (λ s z e next. rw (walk-some r s z e) (ap (one z.0) next ∙ sym (k.spells z.0 s z.1 (stands_at r s z e))))
 
   -- what is read off a text leads up to what is left
   pub leads_of_walk : (s : List ℕ) → Leads I Stands s (walk at s).0 (walk at s).1
   leads_of_walk = by_parts r (λ s. Leads I Stands s (walk at s).0 (walk at s).1)
-    (λ s e. rw (walk-none r s e) (leads_here s))
-    (λ s z e next. rw (walk-some r s z e) (leads_on s z.0 z.1 (walk at z.1).0 (walk at z.1).1 (longest_of r s z e) next))
+      (λ s e. rw (walk-none r s e) (leads_here s))
+      (λ s z e next. rw (walk-some r s z e) (leads_on s z.0 z.1 (walk at z.1).0 (walk at z.1).1 (longest_of r s z e) next))
 
 -- ---- the bytes of a part that is no name close no group
 pub wider : (p q : ℕ → Bool) (s : List ℕ) → ((b : ℕ) → p b ≡ true → q b ≡ true) → list_all p s ≡ true → list_all q s ≡ true

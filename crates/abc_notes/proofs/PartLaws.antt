@@ -86,8 +86,8 @@ module _ {I : Type 0} {Stands : I → List ℕ → List ℕ → Type 0} {at : Li
   -- no part stands where reading the parts stops
   pub stops_at : (s : List ℕ) → at (walk at s).1 ≡ None
   stops_at = by_parts (λ s. at (walk at s).1 ≡ None)
-    (λ s e. ap (λ (w : List I × List ℕ). at w.1) (walk-none s e) ∙ e)
-    (λ s z e next. ap (λ (w : List I × List ℕ). at w.1) (walk-some s z e) ∙ next)
+      (λ s e. ap (λ (w : List I × List ℕ). at w.1) (walk-none s e) ∙ e)
+      (λ s z e next. ap (λ (w : List I × List ℕ). at w.1) (walk-some s z e) ∙ next)
 
   pub parts_of_walk : (s : List ℕ) → length (walk at s).1 ≡ 0 → Parts I Stands s (walk at s).0
   parts_of_walk = by_parts (λ s. length (walk at s).1 ≡ 0 → Parts I Stands s (walk at s).0) nothing goes_on

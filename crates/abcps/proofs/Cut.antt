@@ -139,7 +139,7 @@ module _ (how : How) (even : Bool) (text : List ℕ) (plan : Plan) (o : Stream) 
       let whole = subst (λ l. AreOutcomes (defaults_of (book_of text).header) (paper_in text) how l calls.outcomes) (sym cut.whole) calls.set in
       let same = one_plan even (paper_in text) calls.outcomes plan calls.plan (plan_of_all even (defaults_of (book_of text).header) (paper_in text) how (book_of text).tunes plan calls.outcomes planned calls.set) calls.parted in
       let count = subst (λ p. length (all_drawings calls.outcomes) ≡ length (all_spots p (paper_in text) calls.outcomes)) same
-          (stand_count calls.plan (paper_in text) calls.outcomes (set_under how text (paper_in text) calls.outcomes refl calls.set) calls.blocks) in
+      (stand_count calls.plan (paper_in text) calls.outcomes (set_under how text (paper_in text) calls.outcomes refl calls.set) calls.blocks) in
       let front = front_called (defaults_of (book_of text).header) plan (paper_in text) how cut.before cut.rest cut.outcomes calls.outcomes cut.given cut.press cut.set cut.pressed whole count in
       subst (λ l. HasFront o l) (ap (λ p. document (sheet_of p (paper_in text) calls.outcomes)) (sym same) ∙ ap document (sym calls.whole) ∙ calls.read.spelled)
       (text_front plan (paper_in text) calls.outcomes given o front (stopped_front why o (first_text (paper_in text) given) cut.wrote))

@@ -51,7 +51,7 @@ pages_once one how even text c d a b =
     let same = one_set one how text a.outcomes b.outcomes a.set b.set in
     same_called c d
     (sym a.read.spelled ∙ ap document a.whole ∙ by_plan (λ p os. document (sheet_of p (paper_in text) os)) even (paper_in text) a.outcomes b.outcomes a.plan b.plan same a.parted b.parted
-        ∙ ap document (sym b.whole) ∙ b.read.spelled)
+    ∙ ap document (sym b.whole) ∙ b.read.spelled)
     (a.told ∙ ap reports same ∙ sym b.told)
     (a.status ∙ ap status_of same ∙ sym b.status)
 

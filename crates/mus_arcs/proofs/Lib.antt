@@ -2,6 +2,5 @@ pub mod ArcLaws
 pub mod EventLaws
 pub mod HeadLaws
 pub mod PieceLaws
-pub mod Rows
 pub mod RuleLaws
 pub mod OrderLaws

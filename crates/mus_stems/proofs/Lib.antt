@@ -6,7 +6,6 @@ pub mod GroupLaws
 pub mod OrderLaws
 pub mod PlanLaws
 pub mod Ranges
-pub mod Rows
 pub mod RunLaws
 pub mod SlopeLaws
 pub mod Taking

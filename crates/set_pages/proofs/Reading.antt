@@ -162,7 +162,8 @@ shows_tunes paper [] spots good set within = tt
 shows_tunes paper (o ∷ outcomes) spots good set within =
     let here = (All-head (IsSetUnder paper) o outcomes set).result in
     let cut = within_cut (height_of paper) (outcome_blocks o) (all_blocks outcomes) spots within in
-    let count = sym (result_count o.ordinal o.result (result_whole paper o.result here)) in
-    (shows_result paper o.ordinal o.result (take (length (outcome_drawings o)) spots) good here (subst (λ n. AreWithin (height_of paper) (outcome_blocks o) (take n spots)) count cut.0),
-     shows_tunes paper outcomes (drop (length (outcome_drawings o)) spots) good (All-tail (IsSetUnder paper) o outcomes set)
-        (subst (λ n. AreWithin (height_of paper) (all_blocks outcomes) (drop n spots)) count cut.1))
+    let count = sym (result_count o.ordinal o.result (result_whole paper o.result here)) in (
+      shows_result paper o.ordinal o.result (take (length (outcome_drawings o)) spots) good here (subst (λ n. AreWithin (height_of paper) (outcome_blocks o) (take n spots)) count cut.0),
+      shows_tunes paper outcomes (drop (length (outcome_drawings o)) spots) good (All-tail (IsSetUnder paper) o outcomes set)
+          (subst (λ n. AreWithin (height_of paper) (all_blocks outcomes) (drop n spots)) count cut.1),
+    )
