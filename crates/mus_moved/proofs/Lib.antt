@@ -1,0 +1,6 @@
+pub mod Fifths
+pub mod Keys
+pub mod Passing
+pub mod Reaching
+pub mod Seeing
+pub mod Sounding
