@@ -1,6 +1,4 @@
-pub mod Fifths
-pub mod Keys
-pub mod Passing
+pub mod Circle
 pub mod Reaching
 pub mod Seeing
 pub mod Sounding

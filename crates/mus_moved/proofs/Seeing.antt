@@ -1,11 +1,13 @@
 -- What is seen from the events of a moved score is what was seen, moved; and where the score can be moved, all of it can.
-use Rattle.std.proofs.Common.{◌≡◌, refl, sym, ◌∙◌, ap, Bool, true, ◌&&◌, List, [], ◌∷◌, ◌++◌, map, Option, Some, None, option_map, flat_map}
-use Rattle.std.{specs.Prelude.unwrap_or, specs.List.list_all, proofs.lemmas.Bool.and_from, proofs.lemmas.Bool.and_parts, proofs.lemmas.List.map-append}
+use Rattle.std.proofs.Common.{◌≡◌, refl, sym, ◌∙◌, ap, ℕ, ◌*◌, Bool, true, ◌&&◌, List, [], ◌∷◌, ◌++◌, map, Option, Some, None, option_map, flat_map, subst}
+use Rattle.std.{specs.Prelude.unwrap_or, specs.List.AllByRecursion, specs.List.AllZip, specs.List.list_all, proofs.lemmas.Bool.and_parts, proofs.lemmas.List.map-append, proofs.lemmas.List.Elements.recursion_from_All, proofs.lemmas.List.Sums.AllPass-from_list_all}
 use Rattle.mus_units.specs.declared.{key.Key.Key, note.Head.Head}
-use Rattle.mus_score.specs.{declared.score.Event.Event, declared.score.Flat.Flat, declared.score.Measure.Measure, Times.flats_of}
-use Rattle.mus_transpose.{specs.declared.moves.Move.Move, specs.Moved.body_may, specs.Moved.changed_flat, specs.Moved.event_by, specs.Moved.event_may, specs.Moved.head_moves, specs.Moved.key_by, specs.Moved.key_may, specs.Moved.measure_by, specs.Moved.moved_head, proofs.Changed.flats_changed}
+use Rattle.mus_score.specs.declared.{score.Event.Event, score.Flat.Flat, score.Measure.Measure, score.Music.Music, score.Music.TheOpen.Music-F, times.Waits.Waits}
+use Rattle.mus_score.specs.Times.{Leafing, Leaves, flats_of, in_row, leaf, leaves_step, leaves_within, nothing}
+use Rattle.mus_transpose.{specs.declared.moves.Move.Move, specs.Moved.all_pass, specs.Moved.all_true, specs.Moved.body_may, specs.Moved.changed_flat, specs.Moved.event_by, specs.Moved.event_may, specs.Moved.head_moves, specs.Moved.key_by, specs.Moved.key_may, specs.Moved.measure_by, specs.Moved.moved_head, specs.Moved.passing_step}
+use Rattle.mus_transpose.proofs.Changed.{Keeps, flats_changed, folds_keep, unchanged}
 use Rattle.mus_drawn.specs.{declared.standing.Standing.Standing, Drawn.standing_after, Drawn.standing_behind, Sounds.Seen, Sounds.all_heads, Sounds.grace_heads, Sounds.seen, Sounds.seen_from, Sounds.seen_in}
-use Rattle.mus_moved.proofs.Passing.{all_joined, flat_passes, flats_pass}
+use Rattle.mus_moved.proofs.Reaching.{Holds, Passed}
 
 -- ---- what is seen is moved
 
@@ -63,59 +65,108 @@ seen_in_moved m now (x ∷ ms) =
     ∙ ap (λ es. map (moved_seen m) (seen_from now [] fs) ++ es) (seen_in_moved m (standing_behind now fs) ms)
     ∙ sym (map-append (moved_seen m) (seen_from now [] fs) (seen_in (standing_behind now fs) ms))
 
+-- ---- where each event of a tree passes a test, the events in a row do, and the graces before them
+
+pub joined : {A : Type 0} (P : A → Type 0) (xs ys : List A) → AllByRecursion P xs → AllByRecursion P ys → AllByRecursion P (xs ++ ys)
+joined P [] ys a b = b
+joined P (x ∷ xs) ys a b = (a.0, joined P xs ys a.1 b)
+
+record Passes (test : Event → Bool) (f : Flat) : Type 0 where
+  event : test f.event ≡ true
+  graces : Holds test f.graces
+
+record Pass (test : Event → Bool) (l : Leaves) : Type 0 where
+  flats : AllByRecursion (Passes test) l.flats
+  waits : Holds test l.waits.graces
+
+abbrev LeafingPasses : (Event → Bool) → Leafing → Bool → Type 0
+LeafingPasses test l b = (qs ps : ℕ) (w : Waits) → b ≡ true → Holds test w.graces → Pass test (l qs ps w)
+
+leaf_passes : (test : Event → Bool) (e : Event) → LeafingPasses test (leaf e) (test e)
+leaf_passes test e qs ps w b g = record { flats = (record { event = b; graces = g }, tt {0}); waits = tt {0} }
+
+row_passes : (test : Event → Bool) (ls : List Leafing) (bs : List Bool) → AllZip (LeafingPasses test) ls bs → LeafingPasses test (in_row ls) (all_true bs)
+row_passes test [] [] z qs ps w e g = record { flats = tt {0}; waits = g }
+row_passes test [] (b ∷ bs) z qs ps w e g = absurd z
+row_passes test (l ∷ ls) [] z qs ps w e g = absurd z
+row_passes test (l ∷ ls) (b ∷ bs) z qs ps w e g =
+    let parts = and_parts b (all_true bs) e in
+    let first = z.0 qs ps w parts.0 g in
+    let others = row_passes test ls bs z.1 qs ps (l qs ps w).waits parts.1 first.waits in
+    record { flats = joined (Passes test) (l qs ps w).flats (in_row ls qs ps (l qs ps w).waits).flats first.flats others.flats; waits = others.waits }
+
+events_pass : (test : Event → Bool) (fs : List Flat) → AllByRecursion (Passes test) fs → Holds test (map (λ f. f.event) fs)
+events_pass test [] all = tt {0}
+events_pass test (f ∷ fs) all = (all.0.event, events_pass test fs all.1)
+
+passes : (test : Event → Bool) → Keeps (λ e. e) (LeafingPasses test) leaves_step (passing_step test)
+passes test = record {
+  note = leaf_passes test;
+  rest = leaf_passes test;
+  grace = λ xs ys slash z qs ps w e g.
+      let inside = (in_row xs 1 1 nothing).flats in
+      record { flats = tt {0}; waits = joined (Passed test) w.graces (map (λ f. f.event) inside) g (events_pass test inside (row_passes test xs ys z 1 1 nothing e (tt {0})).flats) };
+  tuplet = λ xs ys p q z qs ps w e g. row_passes test xs ys z (qs * q) (ps * p) (record w { tuplets = w.tuplets ++ p ∷ [] }) e g;
+}
+
+all_pass_through : (test : Event → Bool) (ms : List Music) → AllZip (LeafingPasses test) (map leaves_within ms) (map (all_pass test) ms)
+all_pass_through test [] = tt {0}
+all_pass_through test (m ∷ ms) =
+    (subst (λ n. LeafingPasses test (leaves_within n) (all_pass test m)) (unchanged m) (folds_keep (λ e. e) (LeafingPasses test) leaves_step (passing_step test) (passes test) m), all_pass_through test ms)
+
 -- ---- what is seen can be moved
 
-abbrev flat_may : Move → Flat → Bool
-flat_may m = flat_passes (event_may (Some m))
+abbrev FlatMay : Move → Flat → Type 0
+FlatMay m = Passes (event_may (Some m))
 
-abbrev pub seen_may : Move → Seen → Bool
-seen_may m e = list_all (head_moves m) e.heads && (list_all (head_moves m) e.said && key_may (Some m) (record { signs = e.signs }))
+pub record SeenMay (m : Move) (e : Seen) : Type 0 where
+  pub heads : Holds (head_moves m) e.heads
+  pub said : Holds (head_moves m) e.said
+  pub key : key_may (Some m) (record { signs = e.signs }) ≡ true
+
+flats_may : (m : Move) (body : List Music) → body_may (Some m) body ≡ true → AllByRecursion (FlatMay m) (flats_of body)
+flats_may m body e =
+    let test = event_may (Some m) in
+    (row_passes test (map leaves_within body) (map (all_pass test) body) (all_pass_through test body) 1 1 nothing e (tt {0})).flats
+
+event_parts : (m : Move) (e : Event) → event_may (Some m) e ≡ true → Holds (head_moves m) e.heads × (unwrap_or (option_map (key_may (Some m)) e.changes.key) true ≡ true)
+event_parts m e may =
+    let parts = and_parts (list_all (head_moves m) e.heads) (unwrap_or (option_map (key_may (Some m)) e.changes.key) true) may in
+    (recursion_from_All (Passed (head_moves m)) e.heads (AllPass-from_list_all (head_moves m) e.heads parts.0), parts.1)
+
+all_flat : {A : Type 0} (m : Move) (f : A → List Head) (P : A → Type 0) → ((x : A) → P x → Holds (head_moves m) (f x)) → (xs : List A) → AllByRecursion P xs → Holds (head_moves m) (flat_map f xs)
+all_flat m f P each [] all = tt {0}
+all_flat m f P each (x ∷ xs) all = joined (Passed (head_moves m)) (f x) (flat_map f xs) (each x all.0) (all_flat m f P each xs all.1)
+
+graces_may : (m : Move) (f : Flat) → FlatMay m f → Holds (head_moves m) (grace_heads f)
+graces_may m f may = all_flat m (λ (g : Event). g.heads) (Passed (event_may (Some m))) (λ g e. (event_parts m g e).0) f.graces may.graces
+
+heads_may : (m : Move) (f : Flat) → FlatMay m f → Holds (head_moves m) (all_heads f)
+heads_may m f may = joined (Passed (head_moves m)) (grace_heads f) f.event.heads (graces_may m f may) (event_parts m f.event may.event).0
 
 key_change : (m : Move) (new : Option Key) (key : Key) → unwrap_or (option_map (key_may (Some m)) new) true ≡ true → key_may (Some m) key ≡ true → key_may (Some m) (unwrap_or new key) ≡ true
 key_change m None key e h = h
 key_change m (Some new) key e h = e
 
-event_parts : (m : Move) (e : Event) → event_may (Some m) e ≡ true → (list_all (head_moves m) e.heads ≡ true) × (unwrap_or (option_map (key_may (Some m)) e.changes.key) true ≡ true)
-event_parts m e = and_parts (list_all (head_moves m) e.heads) (unwrap_or (option_map (key_may (Some m)) e.changes.key) true)
+key_behind : (m : Move) (now : Standing) (fs : List Flat) → key_may (Some m) now.key ≡ true → AllByRecursion (FlatMay m) fs → key_may (Some m) (standing_behind now fs).key ≡ true
+key_behind m now [] key all = key
+key_behind m now (f ∷ fs) key all = key_behind m (standing_after now f.event.changes) fs (key_change m f.event.changes.key now.key (event_parts m f.event all.0.event).1 key) all.1
 
-key_behind : (m : Move) (now : Standing) (fs : List Flat) → key_may (Some m) now.key ≡ true → list_all (flat_may m) fs ≡ true → key_may (Some m) (standing_behind now fs).key ≡ true
-key_behind m now [] key may = key
-key_behind m now (f ∷ fs) key may =
-    let parts = and_parts (flat_may m f) (list_all (flat_may m) fs) may in
-    let here = and_parts (event_may (Some m) f.event) (list_all (event_may (Some m)) f.graces) parts.0 in
-    key_behind m (standing_after now f.event.changes) fs (key_change m f.event.changes.key now.key (event_parts m f.event here.0).1 key) parts.1
+seen_from_may : (m : Move) (now : Standing) (front fs : List Flat) → key_may (Some m) now.key ≡ true → AllByRecursion (FlatMay m) front → AllByRecursion (FlatMay m) fs → AllByRecursion (SeenMay m) (seen_from now front fs)
+seen_from_may m now front [] key before all = tt {0}
+seen_from_may m now front (f ∷ fs) key before all =
+    let behind : AllByRecursion (FlatMay m) (front ++ f ∷ []) = joined (FlatMay m) front (f ∷ []) before (all.0, tt {0}) in
+    let here : SeenMay m (seen now front f) = record {
+      heads = (event_parts m f.event all.0.event).0;
+      said = joined (Passed (head_moves m)) (flat_map all_heads front) (grace_heads f) (all_flat m all_heads (FlatMay m) (heads_may m) front before) (graces_may m f all.0);
+      key = key_behind m now (front ++ f ∷ []) key behind;
+    } in
+    (here, seen_from_may m now (front ++ f ∷ []) fs key behind all.1)
 
-all_flat : {A : Type 0} (test : Head → Bool) (f : A → List Head) (may : A → Bool) → ((x : A) → may x ≡ true → list_all test (f x) ≡ true) → (xs : List A) → list_all may xs ≡ true → list_all test (flat_map f xs) ≡ true
-all_flat test f may each [] e = refl
-all_flat test f may each (x ∷ xs) e =
-    let parts = and_parts (may x) (list_all may xs) e in
-    all_joined test (f x) (flat_map f xs) (each x parts.0) (all_flat test f may each xs parts.1)
-
-flat_parts : (m : Move) (f : Flat) → flat_may m f ≡ true → (list_all (head_moves m) f.event.heads ≡ true) × (list_all (head_moves m) (grace_heads f) ≡ true)
-flat_parts m f may =
-    let parts = and_parts (event_may (Some m) f.event) (list_all (event_may (Some m)) f.graces) may in
-    ((event_parts m f.event parts.0).0, all_flat (head_moves m) (λ (g : Event). g.heads) (event_may (Some m)) (λ g e. (event_parts m g e).0) f.graces parts.1)
-
-seen_can : (m : Move) (now : Standing) (front : List Flat) (f : Flat) → key_may (Some m) now.key ≡ true → list_all (flat_may m) front ≡ true → flat_may m f ≡ true → seen_may m (seen now front f) ≡ true
-seen_can m now front f key before may =
-    let e = seen now front f in
-    let parts = flat_parts m f may in
-    let heads = λ (g : Flat) (h : flat_may m g ≡ true). let both = flat_parts m g h in all_joined (head_moves m) (grace_heads g) g.event.heads both.1 both.0 in
-    let said = all_joined (head_moves m) (flat_map all_heads front) (grace_heads f) (all_flat (head_moves m) all_heads (flat_may m) heads front before) parts.1 in
-    let here = key_behind m now (front ++ f ∷ []) key (all_joined (flat_may m) front (f ∷ []) before (and_from (flat_may m f) true may refl)) in
-    and_from (list_all (head_moves m) e.heads) (list_all (head_moves m) e.said && key_may (Some m) (record { signs = e.signs })) parts.0 (and_from (list_all (head_moves m) e.said) (key_may (Some m) (record { signs = e.signs })) said here)
-
-seen_from_can : (m : Move) (now : Standing) (front fs : List Flat) → key_may (Some m) now.key ≡ true → list_all (flat_may m) front ≡ true → list_all (flat_may m) fs ≡ true → list_all (seen_may m) (seen_from now front fs) ≡ true
-seen_from_can m now front [] key before may = refl
-seen_from_can m now front (f ∷ fs) key before may =
-    let parts = and_parts (flat_may m f) (list_all (flat_may m) fs) may in
-    and_from (seen_may m (seen now front f)) (list_all (seen_may m) (seen_from now (front ++ f ∷ []) fs)) (seen_can m now front f key before parts.0)
-    (seen_from_can m now (front ++ f ∷ []) fs key (all_joined (flat_may m) front (f ∷ []) before (and_from (flat_may m f) true parts.0 refl)) parts.1)
-
-pub seen_in_can : (m : Move) (now : Standing) (ms : List Measure) → key_may (Some m) now.key ≡ true → list_all (λ x. body_may (Some m) x.body) ms ≡ true → list_all (seen_may m) (seen_in now ms) ≡ true
-seen_in_can m now [] key may = refl
-seen_in_can m now (x ∷ ms) key may =
+pub seen_in_may : (m : Move) (now : Standing) (ms : List Measure) → key_may (Some m) now.key ≡ true → list_all (λ x. body_may (Some m) x.body) ms ≡ true → AllByRecursion (SeenMay m) (seen_in now ms)
+seen_in_may m now [] key may = tt {0}
+seen_in_may m now (x ∷ ms) key may =
     let fs = flats_of x.body in
     let parts = and_parts (body_may (Some m) x.body) (list_all (λ y. body_may (Some m) y.body) ms) may in
-    let here = flats_pass (event_may (Some m)) x.body parts.0 in
-    all_joined (seen_may m) (seen_from now [] fs) (seen_in (standing_behind now fs) ms) (seen_from_can m now [] fs key refl here) (seen_in_can m (standing_behind now fs) ms (key_behind m now fs key here) parts.1)
+    let all = flats_may m x.body parts.0 in
+    joined (SeenMay m) (seen_from now [] fs) (seen_in (standing_behind now fs) ms) (seen_from_may m now [] fs key (tt {0}) all) (seen_in_may m (standing_behind now fs) ms (key_behind m now fs key all) parts.1)
