@@ -14,28 +14,22 @@ Passed test x = test x ≡ true
 abbrev pub Holds : {A : Type 0} → (A → Bool) → List A → Type 0
 Holds test = AllByRecursion (Passed test)
 
--- ---- letters and octaves: what tells them is how many steps two pitches are apart, which no move changes
-
-letter_decides : (p r : Pitch) → Decides (same_letter p.letter r.letter) ((k : ℤ) × (steps p -ℤ steps r ≡ pos 7 *ℤ k))
-unfolding steps
-letter_decides p r =
-    let a = few_letters p.letter in
-    let b = few_letters r.letter in
-    let to : number_of p.letter ≡ number_of r.letter → (k : ℤ) × (steps p -ℤ steps r ≡ pos 7 *ℤ k) = λ e. (p.octave -ℤ r.octave, omega (arith, ints)) in
-    let from : (k : ℤ) × (steps p -ℤ steps r ≡ pos 7 *ℤ k) → number_of p.letter ≡ number_of r.letter = λ h. let e = h.1 in omega (arith, ints) in
-    Decides-like (same_letter p.letter r.letter) to from (Decides-eqb (number_of p.letter) (number_of r.letter))
+-- ---- letters and octaves
 
 abbrev same_pitch : Pitch → Pitch → Bool
 same_pitch p r = same_letter p.letter r.letter && int_eq p.octave r.octave
 
-pitch_decides : (p r : Pitch) → Decides (same_pitch p r) (steps p -ℤ steps r ≡ pos 0)
+-- how many steps two pitches are apart tells whether they have one letter, and one octave too; no move changes that
+apart_decides : (p r : Pitch) → Decides (same_letter p.letter r.letter) ((k : ℤ) × (steps p -ℤ steps r ≡ pos 7 *ℤ k)) × Decides (same_pitch p r) (steps p -ℤ steps r ≡ pos 0)
 unfolding steps
-pitch_decides p r =
+apart_decides p r =
     let a = few_letters p.letter in
     let b = few_letters r.letter in
-    let to : (number_of p.letter ≡ number_of r.letter) × (p.octave ≡ r.octave) → steps p -ℤ steps r ≡ pos 0 = λ h. let e = h.0 in let o = h.1 in omega (arith, ints) in
-    let from : steps p -ℤ steps r ≡ pos 0 → (number_of p.letter ≡ number_of r.letter) × (p.octave ≡ r.octave) = λ e. (omega (arith, ints), omega (arith, ints)) in
-    Decides-like (same_pitch p r) to from (Decides-and (same_letter p.letter r.letter) (int_eq p.octave r.octave) (Decides-eqb (number_of p.letter) (number_of r.letter)) (Decides-int_eq p.octave r.octave))
+    let letters = Decides-eqb (number_of p.letter) (number_of r.letter) in (
+      Decides-like (same_letter p.letter r.letter) (λ (e : number_of p.letter ≡ number_of r.letter). (p.octave -ℤ r.octave, omega (arith, ints))) (λ h. let e = h.1 in omega (arith, ints)) letters,
+      Decides-like (same_pitch p r) (λ (h : (number_of p.letter ≡ number_of r.letter) × (p.octave ≡ r.octave)). let e = h.0 in let o = h.1 in omega (arith, ints)) (λ e. (omega (arith, ints), omega (arith, ints)))
+          (Decides-and (same_letter p.letter r.letter) (int_eq p.octave r.octave) letters (Decides-int_eq p.octave r.octave)),
+    )
 
 kept : (P : ℤ → Type 0) (b c : Bool) (m : Move) (p r : Pitch) → Decides b (P (steps (moved_pitch m p) -ℤ steps (moved_pitch m r))) → Decides c (P (steps p -ℤ steps r)) → b ≡ c
 kept P b c m p r d e =
@@ -44,10 +38,10 @@ kept P b c m p r d e =
 
 letter_kept : (m : Move) (p r : Pitch) → same_letter (moved_pitch m p).letter (moved_pitch m r).letter ≡ same_letter p.letter r.letter
 letter_kept m p r =
-    kept (λ z. (k : ℤ) × (z ≡ pos 7 *ℤ k)) (same_letter (moved_pitch m p).letter (moved_pitch m r).letter) (same_letter p.letter r.letter) m p r (letter_decides (moved_pitch m p) (moved_pitch m r)) (letter_decides p r)
+    kept (λ z. (k : ℤ) × (z ≡ pos 7 *ℤ k)) (same_letter (moved_pitch m p).letter (moved_pitch m r).letter) (same_letter p.letter r.letter) m p r (apart_decides (moved_pitch m p) (moved_pitch m r)).0 (apart_decides p r).0
 
 pub pitch_kept : (m : Move) (p r : Pitch) → same_pitch (moved_pitch m p) (moved_pitch m r) ≡ same_pitch p r
-pitch_kept m p r = kept (λ z. z ≡ pos 0) (same_pitch (moved_pitch m p) (moved_pitch m r)) (same_pitch p r) m p r (pitch_decides (moved_pitch m p) (moved_pitch m r)) (pitch_decides p r)
+pitch_kept m p r = kept (λ z. z ≡ pos 0) (same_pitch (moved_pitch m p) (moved_pitch m r)) (same_pitch p r) m p r (apart_decides (moved_pitch m p) (moved_pitch m r)).1 (apart_decides p r).1
 
 reach_kept : (m : Move) (spread : Spread) (p r : Pitch) → reaches spread (moved_pitch m p) (moved_pitch m r) ≡ reaches spread p r
 reach_kept m Spread.Not p r = refl
@@ -77,10 +71,6 @@ alter_is (negsuc zero) a e = refl
 alter_is (negsuc (suc zero)) a e = refl
 alter_is _ a e = absurd (false≢true e)
 
-above_natural : (p : Pitch) (b : Alter) → semitones p b ≡ semitones p Alter.Natural +ℤ alter_of b
-unfolding semitones
-above_natural p b = omega (arith, ints)
-
 -- none, or one and one
 pub data Both {A : Type 0} (R : A → A → Type 0) : Option A → Option A → Type 0 where
   neither : Both R None None
@@ -105,12 +95,9 @@ both_then f (each r) = r
 -- ---- signs
 
 pub own_higher : (m : Move) (p : Pitch) (s : Option Alter) → sign_moves m p s ≡ true → Both (Higher m p) s (moved_sign m p s)
-unfolding moved_alter
+unfolding moved_alter semitones
 own_higher m p None e = neither
-own_higher m p (Some a) e =
-    let f = alter_is ((semitones p a +ℤ m.semitones) -ℤ semitones (moved_pitch m p) Alter.Natural) a e in
-    let g = above_natural (moved_pitch m p) (unwrap_or (moved_alter m p a) a) in
-    each (record { by = omega (arith, ints) })
+own_higher m p (Some a) e = let f = alter_is ((semitones p a +ℤ m.semitones) -ℤ semitones (moved_pitch m p) Alter.Natural) a e in each (record { by = omega (arith, ints) })
 
 carried_both : {m : Move} {s t : Option Alter} (p r : Pitch) → same_letter p.letter r.letter ≡ true → Both (Higher m p) s t → Both (Higher m r) s t
 carried_both p r e neither = neither

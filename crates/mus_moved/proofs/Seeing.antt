@@ -3,7 +3,7 @@ use Rattle.std.proofs.Common.{◌≡◌, refl, sym, ◌∙◌, ap, ℕ, ◌*◌,
 use Rattle.std.{specs.Prelude.unwrap_or, specs.List.AllByRecursion, specs.List.AllZip, specs.List.list_all, proofs.lemmas.Bool.and_parts, proofs.lemmas.List.map-append, proofs.lemmas.List.Elements.recursion_from_All, proofs.lemmas.List.Sums.AllPass-from_list_all}
 use Rattle.mus_units.specs.declared.{key.Key.Key, note.Head.Head}
 use Rattle.mus_score.specs.declared.{score.Event.Event, score.Flat.Flat, score.Measure.Measure, score.Music.Music, score.Music.TheOpen.Music-F, times.Waits.Waits}
-use Rattle.mus_score.specs.Times.{Leafing, Leaves, flats_of, in_row, leaf, leaves_step, leaves_within, nothing}
+use Rattle.mus_score.specs.Times.{Leafing, flats_of, in_row, leaf, leaves_step, leaves_within, nothing}
 use Rattle.mus_transpose.{specs.declared.moves.Move.Move, specs.Moved.all_pass, specs.Moved.all_true, specs.Moved.body_may, specs.Moved.changed_flat, specs.Moved.event_by, specs.Moved.event_may, specs.Moved.head_moves, specs.Moved.key_by, specs.Moved.key_may, specs.Moved.measure_by, specs.Moved.moved_head, specs.Moved.passing_step}
 use Rattle.mus_transpose.proofs.Changed.{Keeps, flats_changed, folds_keep, unchanged}
 use Rattle.mus_drawn.specs.{declared.standing.Standing.Standing, Drawn.standing_after, Drawn.standing_behind, Sounds.Seen, Sounds.all_heads, Sounds.grace_heads, Sounds.seen, Sounds.seen_from, Sounds.seen_in}
@@ -75,25 +75,21 @@ record Passes (test : Event → Bool) (f : Flat) : Type 0 where
   event : test f.event ≡ true
   graces : Holds test f.graces
 
-record Pass (test : Event → Bool) (l : Leaves) : Type 0 where
-  flats : AllByRecursion (Passes test) l.flats
-  waits : Holds test l.waits.graces
-
 abbrev LeafingPasses : (Event → Bool) → Leafing → Bool → Type 0
-LeafingPasses test l b = (qs ps : ℕ) (w : Waits) → b ≡ true → Holds test w.graces → Pass test (l qs ps w)
+LeafingPasses test l b = (qs ps : ℕ) (w : Waits) → b ≡ true → Holds test w.graces → AllByRecursion (Passes test) (l qs ps w).flats × Holds test (l qs ps w).waits.graces
 
 leaf_passes : (test : Event → Bool) (e : Event) → LeafingPasses test (leaf e) (test e)
-leaf_passes test e qs ps w b g = record { flats = (record { event = b; graces = g }, tt {0}); waits = tt {0} }
+leaf_passes test e qs ps w b g = ((record { event = b; graces = g }, tt {0}), tt {0})
 
 row_passes : (test : Event → Bool) (ls : List Leafing) (bs : List Bool) → AllZip (LeafingPasses test) ls bs → LeafingPasses test (in_row ls) (all_true bs)
-row_passes test [] [] z qs ps w e g = record { flats = tt {0}; waits = g }
+row_passes test [] [] z qs ps w e g = (tt {0}, g)
 row_passes test [] (b ∷ bs) z qs ps w e g = absurd z
 row_passes test (l ∷ ls) [] z qs ps w e g = absurd z
 row_passes test (l ∷ ls) (b ∷ bs) z qs ps w e g =
     let parts = and_parts b (all_true bs) e in
     let first = z.0 qs ps w parts.0 g in
-    let others = row_passes test ls bs z.1 qs ps (l qs ps w).waits parts.1 first.waits in
-    record { flats = joined (Passes test) (l qs ps w).flats (in_row ls qs ps (l qs ps w).waits).flats first.flats others.flats; waits = others.waits }
+    let others = row_passes test ls bs z.1 qs ps (l qs ps w).waits parts.1 first.1 in
+    (joined (Passes test) (l qs ps w).flats (in_row ls qs ps (l qs ps w).waits).flats first.0 others.0, others.1)
 
 events_pass : (test : Event → Bool) (fs : List Flat) → AllByRecursion (Passes test) fs → Holds test (map (λ f. f.event) fs)
 events_pass test [] all = tt {0}
@@ -105,7 +101,7 @@ passes test = record {
   rest = leaf_passes test;
   grace = λ xs ys slash z qs ps w e g.
       let inside = (in_row xs 1 1 nothing).flats in
-      record { flats = tt {0}; waits = joined (Passed test) w.graces (map (λ f. f.event) inside) g (events_pass test inside (row_passes test xs ys z 1 1 nothing e (tt {0})).flats) };
+      (tt {0}, joined (Passed test) w.graces (map (λ f. f.event) inside) g (events_pass test inside (row_passes test xs ys z 1 1 nothing e (tt {0})).0));
   tuplet = λ xs ys p q z qs ps w e g. row_passes test xs ys z (qs * q) (ps * p) (record w { tuplets = w.tuplets ++ p ∷ [] }) e g;
 }
 
@@ -127,7 +123,7 @@ pub record SeenMay (m : Move) (e : Seen) : Type 0 where
 flats_may : (m : Move) (body : List Music) → body_may (Some m) body ≡ true → AllByRecursion (FlatMay m) (flats_of body)
 flats_may m body e =
     let test = event_may (Some m) in
-    (row_passes test (map leaves_within body) (map (all_pass test) body) (all_pass_through test body) 1 1 nothing e (tt {0})).flats
+    (row_passes test (map leaves_within body) (map (all_pass test) body) (all_pass_through test body) 1 1 nothing e (tt {0})).0
 
 event_parts : (m : Move) (e : Event) → event_may (Some m) e ≡ true → Holds (head_moves m) e.heads × (unwrap_or (option_map (key_may (Some m)) e.changes.key) true ≡ true)
 event_parts m e may =

@@ -1,6 +1,6 @@
 -- A moved score sounds so many semitones higher, head by head.
 use Rattle.std.proofs.Common.{◌≡◌, refl, sym, ap, subst, ℕ, suc, ◌+◌, zero, Bool, true, false, ◌&&◌, cond, List, [], ◌∷◌, ◌++◌, map, Option, Some, None, arith}
-use Rattle.std.specs.{Prelude.ℤ, Prelude.pos, Prelude.negsuc, Prelude.◌+ℤ◌, List.AllByRecursion, List.AllZip, List.list_all, List.list_any, Ordering.int_eq}
+use Rattle.std.specs.{Prelude.ℤ, Prelude.pos, Prelude.negsuc, Prelude.◌+ℤ◌, Prelude.unwrap_or, List.AllByRecursion, List.AllZip, List.list_all, List.list_any, Ordering.int_eq}
 use Rattle.std.proofs.lemmas.{Bool.and_parts, Int.ints, List.map-append}
 use Rattle.mus_units.specs.{Good.same_letter, declared.key.Key.Key, declared.key.Spread.Spread, declared.note.Head.Head, declared.pitch.Alter.Alter, declared.pitch.Pitch.Pitch}
 use Rattle.mus_pitch.specs.Alteration.{alteration_of}
@@ -116,10 +116,7 @@ score_higher s t header by moved =
     let heads = voices_higher m 0 s.spread s.voices (move_is (sharps_in header.signs) by) moved.0.voices in
     record { letters = m.letters; heads = subst (λ (u : Score). AllHigher m (sounds_of s) (sounds_of u)) (sym moved.1) heads }
 
-same_score : (s t : Score) → Some t ≡ Some s → s ≡ t
-same_score s t e = cc
-
 pub moved_sounds_higher : MovedSoundsHigher
 moved_sounds_higher s t header (pos zero) moved =
-    record { letters = pos 0; heads = subst (λ (u : Score). AllZip (IsHigher (pos 0) (pos 0)) (sounds_of s) (sounds_of u)) (same_score s t (moved.same refl)) (unmoved (sounds_of s)) }
+    subst (λ (o : Option Score). AreHigher (pos 0) (sounds_of s) (sounds_of (unwrap_or o s))) (sym (moved.same refl)) (record { letters = pos 0; heads = unmoved (sounds_of s) })
 moved_sounds_higher s t header by moved = score_higher s t header by (moved.higher (λ e. absurd (omega (arith, ints))))
