@@ -148,7 +148,7 @@ lattice : (n by j d t h s h' s' : ℤ) → (pos 7 *ℤ j) -ℤ by ≡ pos 12 *�
 lattice n by j d t h s h' s' e f g v w = omega (arith, ints)
 
 -- the alteration that a key has for a letter, and the moved key for the moved one
-pub key_higher : (m : Move) (p : Pitch) (k : Key) → IsMove m → key_may (Some m) k ≡ true → Higher m p (key_alter p k.signs) (key_alter (moved_pitch m p) (key_by (Some m) k).signs)
+pub key_higher : (m : Move) (p : Pitch) (k : Key) → IsMove m → key_may m k ≡ true → Higher m p (key_alter p k.signs) (key_alter (moved_pitch m p) (key_by m k).signs)
 key_higher m p k move may =
     let n = sharps_in k.signs in
     let keys = and_parts (on_circle k) (is_signature (n +ℤ m.sharps)) may in

@@ -125,6 +125,6 @@ found_higher m spread r (h ∷ hs) may =
     rw (find_back (is_said spread r) h hs, find_back (is_said spread (moved_pitch m r)) (moved_head m h) (map (moved_head m) hs)) (both_or (found_higher m spread r hs may.1) (found_one m spread r h may.0))
 
 -- a head without a sign of its own
-pub unsigned_higher : (m : Move) (spread : Spread) (r : Pitch) (said : List Head) (k : Key) → IsMove m → key_may (Some m) k ≡ true → Holds (head_moves m) said
-    → Higher m r (alteration_of r None said spread k.signs) (alteration_of (moved_pitch m r) None (map (moved_head m) said) spread (key_by (Some m) k).signs)
+pub unsigned_higher : (m : Move) (spread : Spread) (r : Pitch) (said : List Head) (k : Key) → IsMove m → key_may m k ≡ true → Holds (head_moves m) said
+    → Higher m r (alteration_of r None said spread k.signs) (alteration_of (moved_pitch m r) None (map (moved_head m) said) spread (key_by m k).signs)
 unsigned_higher m spread r said k move key may = both_else (both_then (λ (h : Head). h.sign) (found_higher m spread r said may)) (key_higher m r k move key)

@@ -90,15 +90,15 @@ events_higher m voice spread before (e ∷ es) move front may =
     (heads_higher m f g voice e.id 0 [] e.heads (sounds_higher m spread before e move front may.0) (tt {0}) may.0.heads)
     (events_higher m voice spread (e ∷ before) es move (may.0, front) may.1)
 
-voices_higher : (m : Move) (i : ℕ) (spread : Spread) (vs : List Voice) → IsMove m → list_all (voice_may (Some m)) vs ≡ true → AllHigher m (voice_sounds i spread vs) (voice_sounds i spread (map (voice_by (Some m)) vs))
+voices_higher : (m : Move) (i : ℕ) (spread : Spread) (vs : List Voice) → IsMove m → list_all (voice_may m) vs ≡ true → AllHigher m (voice_sounds i spread vs) (voice_sounds i spread (map (voice_by m) vs))
 voices_higher m i spread [] move may = tt {0}
 voices_higher m i spread (v ∷ vs) move may =
-    let parts = and_parts (voice_may (Some m) v) (list_all (voice_may (Some m)) vs) may in
-    let own = and_parts (key_may (Some m) v.key) (list_all (λ x. body_may (Some m) x.body) v.measures) parts.0 in
+    let parts = and_parts (voice_may m v) (list_all (voice_may m) vs) may in
+    let own = and_parts (key_may m v.key) (list_all (λ x. body_may m x.body) v.measures) parts.0 in
     let es = seen_in (standing_of v) v.measures in
-    let w = voice_by (Some m) v in
+    let w = voice_by m v in
     all_joined m (event_sounds i spread [] es) (voice_sounds (i + 1) spread vs)
-    (event_sounds i spread [] (seen_in (standing_of w) w.measures)) (voice_sounds (i + 1) spread (map (voice_by (Some m)) vs))
+    (event_sounds i spread [] (seen_in (standing_of w) w.measures)) (voice_sounds (i + 1) spread (map (voice_by m) vs))
     (subst (λ ds. AllHigher m (event_sounds i spread [] es) (event_sounds i spread [] ds)) (sym (seen_in_moved m (standing_of v) v.measures))
     (events_higher m i spread [] es move (tt {0}) (seen_in_may m (standing_of v) v.measures own.0 own.1)))
     (voices_higher m (i + 1) spread vs move parts.1)
