@@ -1,6 +1,6 @@
 -- Folds over a tree with each event changed.
 use Rattle.std.proofs.Common.{◌≡◌, ℕ, Bool, List, [], ◌∷◌, ◌++◌, ◌*◌, map, refl, sym, ◌∙◌, ap, subst}
-use Rattle.std.{proofs.lemmas.List.map-append, proofs.lemmas.List.Elements.same_from_all_zip, specs.List.AllZip}
+use Rattle.std.{proofs.Math.Path.fun_ext, proofs.lemmas.List.map-append, proofs.lemmas.List.map-id, proofs.lemmas.List.Elements.same_from_all_zip, specs.List.AllZip}
 use Rattle.mus_score.specs.declared.{score.Event.Event, score.Flat.Flat, score.Music.Music, score.Music.map-Music, score.Music.TheOpen.Music-F, score.Music.TheViews.roll-Music, score.Music.TheFolds.fold-Music, score.Music.TheFolds.fold-roll-Music, score.Music.TheFolds.ind-Music, times.Waits.Waits}
 use Rattle.mus_score.specs.Times.{Leafing, Leaves, flats_of, in_row, leaf, leaves_step, leaves_within, nothing}
 use Rattle.mus_transpose.specs.Moved.{changed, changed_flat, changed_layer, changed_step}
@@ -28,13 +28,13 @@ layer g R s t k (Music-F.Rest e) = k.rest e
 layer g R s t k (Music-F.Grace body slash) = k.grace _ _ slash (zipped g R s t body)
 layer g R s t k (Music-F.Tuplet p q body) = k.tuplet _ _ p q (zipped g R s t body)
 
-pub folds_keep : {A B : Type 0} (g : Event → Event) (R : A → B → Type 0) (s : Music-F A → A) (t : Music-F B → B) → Keeps g R s t → (m : Music) → R (fold-Music A s (changed g m)) (fold-Music B t m)
+folds_keep : {A B : Type 0} (g : Event → Event) (R : A → B → Type 0) (s : Music-F A → A) (t : Music-F B → B) → Keeps g R s t → (m : Music) → R (fold-Music A s (changed g m)) (fold-Music B t m)
 folds_keep {A} {B} g R s t k = ind-Music (Kept g R s t) (λ x y is.
     let after = λ (z : Music-F Music). s (map-Music Music A (fold-Music A s) (changed_layer g (map-Music Music Music (changed g) z))) in
     subst (λ a. R a (fold-Music B t (roll-Music x))) (sym (ap (fold-Music A s) (fold-roll-Music Music (changed_step g) x) ∙ fold-roll-Music A s (changed_layer g (map-Music Music Music (changed g) x))))
     (subst (R (after x)) (sym (fold-roll-Music B t x)) (subst (λ z. R (after z) (t (map-Music Music B (fold-Music B t) z))) is (layer g R s t k y))))
 
-all_keep : {A B : Type 0} (g : Event → Event) (R : A → B → Type 0) (s : Music-F A → A) (t : Music-F B → B) → Keeps g R s t → (ms : List Music)
+pub all_keep : {A B : Type 0} (g : Event → Event) (R : A → B → Type 0) (s : Music-F A → A) (t : Music-F B → B) → Keeps g R s t → (ms : List Music)
     → AllZip R (map (fold-Music A s) (map (changed g) ms)) (map (fold-Music B t) ms)
 all_keep g R s t k [] = tt
 all_keep g R s t k (m ∷ ms) = (folds_keep g R s t k m, all_keep g R s t k ms)
@@ -118,6 +118,9 @@ layer_same (Music-F.Rest e) = refl
 layer_same (Music-F.Grace body slash) = ap (λ b. Music-F.Grace b slash) (body_same body)
 layer_same (Music-F.Tuplet p q body) = ap (λ b. Music-F.Tuplet p q b) (body_same body)
 
-pub unchanged : (m : Music) → changed (λ e. e) m ≡ m
+unchanged : (m : Music) → changed (λ e. e) m ≡ m
 unchanged = ind-Music Same (λ x y is.
     fold-roll-Music Music (changed_step (λ e. e)) x ∙ ap roll-Music (subst (λ z. changed_layer (λ e. e) (map-Music Music Music (changed (λ e. e)) z) ≡ z) is (layer_same y)))
+
+pub bodies_unchanged : (body : List Music) → map (changed (λ e. e)) body ≡ body
+bodies_unchanged body = ap (λ g. map g body) (fun_ext unchanged) ∙ map-id body

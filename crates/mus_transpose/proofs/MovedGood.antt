@@ -1,7 +1,7 @@
--- A moved score in reach is good, and where there is no move it is the score.
+-- A moved score in reach is good.
 use Rattle.std.proofs.Common.{◌≡◌, ◌≢◌, ℕ, suc, ◌==◌, ◌&&◌, ◌*◌, ◌+ℤ◌, ◌<◌, nat_le, Bool, true, false, List, get_or, [], ◌∷◌, ◌++◌, length, map, refl, sym, ◌∙◌, Decides, ap, subst, arith, sum, if◌then◌else◌}
 use Rattle.std.specs.Prelude.{pos, negsuc, ◌≤ℤ◌, int_le, All, AllPairs, IfSome, Option, Some, None, sum_by, ℤ}
-use Rattle.std.proofs.{Math.Path.fun_ext, lemmas.Bool.false≢true, lemmas.Bool.Decides.Decides-and, lemmas.Bool.Decides.Decides-by_and, lemmas.Bool.Decides.Decides-like, lemmas.Int.ints, lemmas.List.get_or-map, lemmas.List.length-map, lemmas.List.map-append, lemmas.List.map-id}
+use Rattle.std.proofs.{Math.Path.fun_ext, lemmas.Bool.false≢true, lemmas.Bool.Decides.Decides-and, lemmas.Bool.Decides.Decides-by_and, lemmas.Bool.Decides.Decides-like, lemmas.Int.ints, lemmas.List.get_or-map, lemmas.List.length-map, lemmas.List.map-append}
 use Rattle.std.{proofs.lemmas.List.Elements.All-map, proofs.lemmas.List.Elements.All-weaker, proofs.lemmas.List.Sums.sum-map, proofs.lemmas.Simd.map-map, specs.Int.int_div_euclid, specs.Option.option_map, specs.List.list_all}
 use Rattle.mus_units.specs.{Good.IsGoodKey, Pitch.height_of, Pitch.number_of, Value.value_length, Value.whole_note, declared.key.Key.Key, declared.note.Head.Head, declared.pitch.Clef.Clef, declared.pitch.Letter.Letter}
 use Rattle.mus_pitch.proofs.SignLaws.{signs_of_good}
@@ -9,7 +9,7 @@ use Rattle.mus_score.specs.{declared.score.Event.Event, declared.score.Flat.Flat
 use Rattle.mus_score.specs.{Good.good_step, Good.has_value_ticks, Good.judged, Good.outside, Good.weight, Good.weight_step, GoodScore.AreCounted, GoodScore.AreInReach, GoodScore.IsInReach, GoodScore.clef_at, GoodScore.IsGoodEvent, GoodScore.IsGoodScore, GoodScore.IsGoodVoice, GoodScore.IsLed}
 use Rattle.mus_score.specs.{GoodScore.events_of, GoodScore.voice_weight, Times.flats_of}
 use Rattle.mus_transpose.specs.Moved.{CanMove, Within, are_in_reach, event_by, in_reach, key_by, body_by, changed, changed_flat, measure_by, move_from, moved_head, moved_score, on_circle, score_by, sharps_in, voice_by, voice_may}
-use Rattle.mus_transpose.{specs.declared.moves.Move.Move, proofs.Changed.flats_changed, proofs.Changed.fold_same, proofs.Changed.unchanged}
+use Rattle.mus_transpose.{specs.declared.moves.Move.Move, proofs.Changed.flats_changed, proofs.Changed.fold_same}
 
 -- ---- numbers
 
@@ -19,49 +19,44 @@ twelfth_fits (negsuc a) h = let low = h.0 in let high = h.1 in (omega (arith, in
 
 pub few_letters : (l : Letter) → number_of l < 7
 few_letters Letter.C = omega arith
-few_letters Letter.D = omega arith
-few_letters Letter.E = omega arith
-few_letters Letter.F = omega arith
-few_letters Letter.G = omega arith
-few_letters Letter.A = omega arith
-few_letters Letter.B = omega arith
+few_letters _ = omega arith
 
 -- ---- bodies
 
-note_judged : (m : Move) (e : Event) → good_step (Music-F.Note (event_by (Some m) e)) ≡ good_step (Music-F.Note e)
+note_judged : (m : Move) (e : Event) → good_step (Music-F.Note (event_by m e)) ≡ good_step (Music-F.Note e)
 note_judged m e = ap (λ n. λ (at : Place). judged (nat_le 1 n && has_value_ticks e) true) (length-map e.heads (moved_head m))
 
-rest_judged : (m : Move) (e : Event) → good_step (Music-F.Rest (event_by (Some m) e)) ≡ good_step (Music-F.Rest e)
+rest_judged : (m : Move) (e : Event) → good_step (Music-F.Rest (event_by m e)) ≡ good_step (Music-F.Rest e)
 rest_judged m e =
     ap (λ n. λ (at : Place). judged (if at.grace then false else (n == 0 && nat_le e.value.dots 3 && (if at.inner then e.ticks == value_length e.value else nat_le 1 e.ticks && nat_le e.ticks (99 * whole_note)))) true)
     (length-map e.heads (moved_head m))
 
-weights_kept : (m : Move) (body : List Music) → sum (map weight (body_by (Some m) body)) ≡ sum (map weight body)
-weights_kept m body = ap sum (fold_same (event_by (Some m)) weight_step (λ e. length-map e.heads (moved_head m)) (λ e. refl) body)
+weights_kept : (m : Move) (body : List Music) → sum (map weight (body_by m body)) ≡ sum (map weight body)
+weights_kept m body = ap sum (fold_same (event_by m) weight_step (λ e. length-map e.heads (moved_head m)) (λ e. refl) body)
 
-body_good : (m : Move) (body : List Music) → IsGoodBody body → IsGoodBody (body_by (Some m) body)
+body_good : (m : Move) (body : List Music) → IsGoodBody body → IsGoodBody (body_by m body)
 body_good m body good = record {
-  good = ap (λ js. (all_judged js outside).good) (fold_same (event_by (Some m)) good_step (note_judged m) (rest_judged m) body) ∙ good.good;
+  good = ap (λ js. (all_judged js outside).good) (fold_same (event_by m) good_step (note_judged m) (rest_judged m) body) ∙ good.good;
   few = omega (arith, weights_kept m body, good.few);
 }
 
 -- ---- events
 
-pub events_moved : (m : Move) (ms : List Measure) → events_of (map (measure_by (Some m)) ms) ≡ map (changed_flat (event_by (Some m))) (events_of ms)
+pub events_moved : (m : Move) (ms : List Measure) → events_of (map (measure_by m) ms) ≡ map (changed_flat (event_by m)) (events_of ms)
 events_moved m [] = refl
 events_moved m (x ∷ ms) =
-    ap (λ fs. fs ++ events_of (map (measure_by (Some m)) ms)) (flats_changed (event_by (Some m)) (λ e. refl) x.body)
-    ∙ ap (λ fs. map (changed_flat (event_by (Some m))) (flats_of x.body) ++ fs) (events_moved m ms)
-    ∙ sym (map-append (changed_flat (event_by (Some m))) (flats_of x.body) (events_of ms))
+    ap (λ fs. fs ++ events_of (map (measure_by m) ms)) (flats_changed (event_by m) (λ e. refl) x.body)
+    ∙ ap (λ fs. map (changed_flat (event_by m)) (flats_of x.body) ++ fs) (events_moved m ms)
+    ∙ sym (map-append (changed_flat (event_by m)) (flats_of x.body) (events_of ms))
 
-change_good : (m : Move) (k : Option Key) → IfSome (option_map (key_by (Some m)) k) IsGoodKey
+change_good : (m : Move) (k : Option Key) → IfSome (option_map (key_by m) k) IsGoodKey
 change_good m None = tt
 change_good m (Some k) = signs_of_good (sharps_in k.signs +ℤ m.sharps)
 
-event_good : (m : Move) (verses : ℕ) (f : Flat) → IsGoodEvent verses f → IsGoodEvent verses (changed_flat (event_by (Some m)) f)
+event_good : (m : Move) (verses : ℕ) (f : Flat) → IsGoodEvent verses f → IsGoodEvent verses (changed_flat (event_by m) f)
 event_good m verses f good = record { words = good.words; key = change_good m f.event.changes.key; meter = good.meter }
 
-counted : (m : Move) (n : ℕ) (fs : List Flat) → AreCounted n fs → AreCounted n (map (changed_flat (event_by (Some m))) fs)
+counted : (m : Move) (n : ℕ) (fs : List Flat) → AreCounted n fs → AreCounted n (map (changed_flat (event_by m)) fs)
 counted m n [] h = tt
 counted m n (f ∷ fs) h = (h.0, counted m (suc n) fs h.1)
 
@@ -70,18 +65,18 @@ counted m n (f ∷ fs) h = (h.0, counted m (suc n) fs h.1)
 sum_kept : {A : Type 0} (f : A → ℕ) (g : A → A) → ((x : A) → f (g x) ≡ f x) → (xs : List A) → sum_by f (map g xs) ≡ sum_by f xs
 sum_kept f g same xs = sym (sum-map f (map g xs)) ∙ ap sum (map-map f g xs ∙ ap (λ h. map h xs) (fun_ext same)) ∙ sum-map f xs
 
-voice_weight_kept : (m : Move) (v : Voice) → voice_weight (voice_by (Some m) v) ≡ voice_weight v
-voice_weight_kept m v = sum_kept (λ (x : Measure). sum (map weight x.body)) (measure_by (Some m)) (λ x. weights_kept m x.body) v.measures
+voice_weight_kept : (m : Move) (v : Voice) → voice_weight (voice_by m v) ≡ voice_weight v
+voice_weight_kept m v = sum_kept (λ (x : Measure). sum (map weight x.body)) (measure_by m) (λ x. weights_kept m x.body) v.measures
 
-pub bodies_good : (m : Move) (v : Voice) → IsGoodVoice v → All (λ (x : Measure). IsGoodBody x.body) (voice_by (Some m) v).measures
+pub bodies_good : (m : Move) (v : Voice) → IsGoodVoice v → All (λ (x : Measure). IsGoodBody x.body) (voice_by m v).measures
 bodies_good m v good =
-    All-map (λ (x : Measure). IsGoodBody x.body) (measure_by (Some m)) v.measures (All-weaker (λ (x : Measure). IsGoodBody x.body) (λ x. IsGoodBody (body_by (Some m) x.body)) (λ x. body_good m x.body) v.measures good.bodies)
+    All-map (λ (x : Measure). IsGoodBody x.body) (measure_by m) v.measures (All-weaker (λ (x : Measure). IsGoodBody x.body) (λ x. IsGoodBody (body_by m x.body)) (λ x. body_good m x.body) v.measures good.bodies)
 
-voice_good : (m : Move) (v : Voice) → AreInReach v.clef (events_of (voice_by (Some m) v).measures) → IsGoodVoice v → IsGoodVoice (voice_by (Some m) v)
+voice_good : (m : Move) (v : Voice) → AreInReach v.clef (events_of (voice_by m v).measures) → IsGoodVoice v → IsGoodVoice (voice_by m v)
 voice_good m v reach good =
-    let g = changed_flat (event_by (Some m)) in
+    let g = changed_flat (event_by m) in
     record {
-      few_measures = omega (arith, length-map v.measures (measure_by (Some m)), good.few_measures);
+      few_measures = omega (arith, length-map v.measures (measure_by m), good.few_measures);
       few_verses = good.few_verses;
       near = good.near;
       few_heads = omega (arith, voice_weight_kept m v, good.few_heads);
@@ -93,57 +88,43 @@ voice_good m v reach good =
       ids = subst (AreCounted 0) (sym (events_moved m v.measures)) (counted m 0 (events_of v.measures) good.ids);
     }
 
-pub all_bodies_good : (m : Move) (s : Score) → IsGoodScore s → All (λ v. All (λ x. IsGoodBody x.body) v.measures) (score_by (Some m) s).voices
+pub all_bodies_good : (m : Move) (s : Score) → IsGoodScore s → All (λ v. All (λ x. IsGoodBody x.body) v.measures) (score_by m s).voices
 all_bodies_good m s good =
-    All-map (λ v. All (λ x. IsGoodBody x.body) v.measures) (voice_by (Some m)) s.voices (All-weaker IsGoodVoice (λ v. All (λ (x : Measure). IsGoodBody x.body) (voice_by (Some m) v).measures) (bodies_good m) s.voices good.voices)
+    All-map (λ v. All (λ x. IsGoodBody x.body) v.measures) (voice_by m) s.voices (All-weaker IsGoodVoice (λ v. All (λ (x : Measure). IsGoodBody x.body) (voice_by m v).measures) (bodies_good m) s.voices good.voices)
 
 abbrev ReachAll : List Voice → Type 0
 ReachAll vs = All (λ v. AreInReach v.clef (events_of v.measures)) vs
 
-voices_good : (m : Move) (vs : List Voice) → ReachAll (map (voice_by (Some m)) vs) → All IsGoodVoice vs → All IsGoodVoice (map (voice_by (Some m)) vs)
+voices_good : (m : Move) (vs : List Voice) → ReachAll (map (voice_by m) vs) → All IsGoodVoice vs → All IsGoodVoice (map (voice_by m) vs)
 voices_good m vs reach good = λ k d lt.
-    let inside : k < length vs = omega (arith, length-map vs (voice_by (Some m)), lt) in
+    let inside : k < length vs = omega (arith, length-map vs (voice_by m), lt) in
     let v = get_or vs k d in
-    let e = get_or-map (voice_by (Some m)) vs k d d inside in
+    let e = get_or-map (voice_by m) vs k d d inside in
     subst IsGoodVoice (sym e) (voice_good m v (subst (λ (w : Voice). AreInReach w.clef (events_of w.measures)) e (reach k d lt)) (good k d inside))
 
-ids_apart : (m : Move) (vs : List Voice) → AllPairs (λ v w. v.id ≢ w.id) vs → AllPairs (λ v w. v.id ≢ w.id) (map (voice_by (Some m)) vs)
+ids_apart : (m : Move) (vs : List Voice) → AllPairs (λ v w. v.id ≢ w.id) vs → AllPairs (λ v w. v.id ≢ w.id) (map (voice_by m) vs)
 ids_apart m vs h = λ i j d below lt.
-    let inside : j < length vs = omega (arith, length-map vs (voice_by (Some m)), lt) in
-    let e = ap (λ (v : Voice). v.id) (get_or-map (voice_by (Some m)) vs i d d (omega arith)) in
-    let f = ap (λ (v : Voice). v.id) (get_or-map (voice_by (Some m)) vs j d d inside) in
+    let inside : j < length vs = omega (arith, length-map vs (voice_by m), lt) in
+    let e = ap (λ (v : Voice). v.id) (get_or-map (voice_by m) vs i d d (omega arith)) in
+    let f = ap (λ (v : Voice). v.id) (get_or-map (voice_by m) vs j d d inside) in
     λ same. h i j d below inside (sym e ∙ same ∙ f)
 
-led_still : (m : Move) (vs : List Voice) → IsLed vs → IsLed (map (voice_by (Some m)) vs)
+led_still : (m : Move) (vs : List Voice) → IsLed vs → IsLed (map (voice_by m) vs)
 led_still m [] h = tt
 led_still m (v ∷ vs) h = h
 
-pub moved_good : (m : Move) (s : Score) → IsGoodScore s → ReachAll (score_by (Some m) s).voices → IsGoodScore (score_by (Some m) s)
+pub moved_good : (m : Move) (s : Score) → IsGoodScore s → ReachAll (score_by m s).voices → IsGoodScore (score_by m s)
 moved_good m s good reach = record {
-  few_voices = omega (arith, length-map s.voices (voice_by (Some m)), good.few_voices);
+  few_voices = omega (arith, length-map s.voices (voice_by m), good.few_voices);
   few_measures = good.few_measures;
-  few_heads = omega (arith, sum_kept voice_weight (voice_by (Some m)) (voice_weight_kept m) s.voices, good.few_heads);
+  few_heads = omega (arith, sum_kept voice_weight (voice_by m) (voice_weight_kept m) s.voices, good.few_heads);
   voices = voices_good m s.voices reach good.voices;
-  measures = All-map (λ v. length v.measures ≡ s.measures) (voice_by (Some m)) s.voices (All-weaker (λ v. length v.measures ≡ s.measures) (λ v. length (map (measure_by (Some m)) v.measures) ≡ s.measures) (λ v e. length-map v.measures (measure_by (Some m)) ∙ e) s.voices good.measures);
+  measures = All-map (λ v. length v.measures ≡ s.measures) (voice_by m) s.voices (All-weaker (λ v. length v.measures ≡ s.measures) (λ v. length (map (measure_by m) v.measures) ≡ s.measures) (λ v e. length-map v.measures (measure_by m) ∙ e) s.voices good.measures);
   ids = ids_apart m s.voices good.ids;
   forced = good.forced;
   forced_rise = good.forced_rise;
   led = led_still m s.voices good.led;
 }
-
--- ---- where there is no move
-
-same_all : {A : Type 0} (f : A → A) → ((x : A) → f x ≡ x) → (xs : List A) → map f xs ≡ xs
-same_all f same xs = ap (λ g. map g xs) (fun_ext same) ∙ map-id xs
-
-measure_same : (x : Measure) → measure_by None x ≡ x
-measure_same x = ap (λ (b : List Music). record x { body = b }) (same_all (changed (λ e. e)) unchanged x.body)
-
-voice_same : (v : Voice) → voice_by None v ≡ v
-voice_same v = ap (λ (xs : List Measure). record v { measures = xs }) (same_all (measure_by None) measure_same v.measures)
-
-pub score_same : (s : Score) → score_by None s ≡ s
-score_same s = ap (λ (vs : List Voice). record s { voices = vs }) (same_all (voice_by None) voice_same s.voices)
 
 -- ---- what is in reach, and its tests
 
@@ -180,19 +161,19 @@ voices_decide vs =
 abbrev pub all_in_reach : List Voice → Bool
 all_in_reach vs = list_all (λ v. are_in_reach v.clef (events_of v.measures)) vs
 
-pub has_moved : (s : Score) (key : Key) (by : ℤ) (m : Move) (t : Score) → m ≡ move_from key by → t ≡ score_by (Some m) s
-    → on_circle key ≡ true → list_all (voice_may (Some m)) s.voices ≡ true → all_in_reach t.voices ≡ true → CanMove s key by × (t ≡ moved_score s key by)
+pub has_moved : (s : Score) (key : Key) (by : ℤ) (m : Move) (t : Score) → m ≡ move_from key by → t ≡ score_by m s
+    → on_circle key ≡ true → list_all (voice_may m) s.voices ≡ true → all_in_reach t.voices ≡ true → CanMove s key by × (t ≡ moved_score s key by)
 has_moved s key by m t move is header voices reach =
-    let e : t ≡ moved_score s key by = is ∙ ap (λ (n : Move). score_by (Some n) s) move in (
+    let e : t ≡ moved_score s key by = is ∙ ap (λ (n : Move). score_by n s) move in (
       record {
         header = header;
-        voices = ap (λ (n : Move). list_all (voice_may (Some n)) s.voices) (sym move) ∙ voices;
+        voices = ap (λ (n : Move). list_all (voice_may n) s.voices) (sym move) ∙ voices;
         reach = subst (λ (u : Score). ReachAll u.voices) e ((voices_decide t.voices).0 reach);
       },
       e,
     )
 
-pub out_of_reach : (s : Score) (key : Key) (by : ℤ) (m : Move) (t : Score) → m ≡ move_from key by → t ≡ score_by (Some m) s → all_in_reach t.voices ≡ false → CanMove s key by → ⊥
+pub out_of_reach : (s : Score) (key : Key) (by : ℤ) (m : Move) (t : Score) → m ≡ move_from key by → t ≡ score_by m s → all_in_reach t.voices ≡ false → CanMove s key by → ⊥
 out_of_reach s key by m t move is out can =
-    let e : t ≡ moved_score s key by = is ∙ ap (λ (n : Move). score_by (Some n) s) move in
+    let e : t ≡ moved_score s key by = is ∙ ap (λ (n : Move). score_by n s) move in
     false≢true (sym out ∙ (voices_decide t.voices).1 (subst (λ (u : Score). ReachAll u.voices) (sym e) can.reach))

@@ -1,5 +1,5 @@
 -- Moved scores. A head moves by letters, and a sign before it becomes the one that is as many semitones higher; a key moves by
--- sharps. Beside each stands the test whether it can be moved; where there is no move all is left as it is.
+-- sharps. Beside each stands the test whether it can be moved.
 use Rattle.std.specs.Prelude.{◌≡◌, ◌≢◌, ⊤, zero, suc, ℕ, ℤ, pos, negsuc, ◌+ℤ◌, ◌-ℤ◌, ◌*ℤ◌, ◌≤ℤ◌, ◌&&◌, nat_le, int_le, Bool, true, false, List, [], ◌∷◌, length, map, All, MatchOption, Option, Some, None, Result, Ok, Err, is_some, unwrap_or}
 use Rattle.std.specs.{Cmp.Lexicographic.pointwise, Int.int_div_euclid, Int.int_rem_euclid, List.list_all, Option.option_map, Ordering.int_eq}
 use Rattle.mus_units.specs.{Good.same_letter, Pitch.height_of, declared.key.Key.Key, declared.key.Sign.Sign, declared.note.Head.Head, declared.pitch.Alter.Alter, declared.pitch.Clef.Clef, declared.pitch.Letter.Letter, declared.pitch.Pitch.Pitch}
@@ -102,27 +102,23 @@ same_sign s t = same_letter s.letter t.letter && int_eq (alter_of s.alter) (alte
 abbrev pub on_circle : Key → Bool
 on_circle k = nat_le (length k.signs) 7 && pointwise same_sign k.signs (signs_of (sharps_in k.signs))
 
-abbrev pub key_by : Option Move → Key → Key
-key_by None k = k
-key_by (Some m) k = record { signs = signs_of (sharps_in k.signs +ℤ m.sharps) }
+abbrev pub key_by : Move → Key → Key
+key_by m k = record { signs = signs_of (sharps_in k.signs +ℤ m.sharps) }
 
 -- the key and the moved one are on the circle
-abbrev pub key_may : Option Move → Key → Bool
-key_may None k = true
-key_may (Some m) k = on_circle k && is_signature (sharps_in k.signs +ℤ m.sharps)
+abbrev pub key_may : Move → Key → Bool
+key_may m k = on_circle k && is_signature (sharps_in k.signs +ℤ m.sharps)
 
 -- ---- events, the graces among them
 
-abbrev pub event_by : Option Move → Event → Event
-event_by None e = e
-event_by (Some m) e = record e {
+abbrev pub event_by : Move → Event → Event
+event_by m e = record e {
   heads = map (moved_head m) e.heads;
-  changes = record { clef = e.changes.clef; key = option_map (key_by (Some m)) e.changes.key; meter = e.changes.meter };
+  changes = record { clef = e.changes.clef; key = option_map (key_by m) e.changes.key; meter = e.changes.meter };
 }
 
-abbrev pub event_may : Option Move → Event → Bool
-event_may None e = true
-event_may (Some m) e = list_all (head_moves m) e.heads && unwrap_or (option_map (key_may (Some m)) e.changes.key) true
+abbrev pub event_may : Move → Event → Bool
+event_may m e = list_all (head_moves m) e.heads && unwrap_or (option_map (key_may m) e.changes.key) true
 
 -- ---- trees
 
@@ -156,31 +152,31 @@ passing_step test (Music-F.Tuplet p q body) = all_true body
 abbrev pub all_pass : (Event → Bool) → Music → Bool
 all_pass test = fold-Music Bool (passing_step test)
 
-abbrev pub body_by : Option Move → List Music → List Music
+abbrev pub body_by : Move → List Music → List Music
 body_by by body = map (changed (event_by by)) body
 
-abbrev pub body_may : Option Move → List Music → Bool
+abbrev pub body_may : Move → List Music → Bool
 body_may by body = all_true (map (all_pass (event_may by)) body)
 
 -- ---- voices and scores
 
-abbrev pub measure_by : Option Move → Measure → Measure
+abbrev pub measure_by : Move → Measure → Measure
 measure_by by x = record x { body = body_by by x.body }
 
-abbrev pub voice_by : Option Move → Voice → Voice
+abbrev pub voice_by : Move → Voice → Voice
 voice_by by v = record v { key = key_by by v.key; measures = map (measure_by by) v.measures }
 
-abbrev pub voice_may : Option Move → Voice → Bool
+abbrev pub voice_may : Move → Voice → Bool
 voice_may by v = key_may by v.key && list_all (λ x. body_may by x.body) v.measures
 
-abbrev pub score_by : Option Move → Score → Score
+abbrev pub score_by : Move → Score → Score
 score_by by s = record s { voices = map (voice_by by) s.voices }
 
--- what a call gives by a move: the moved value where all in it can be moved, else no move
-abbrev pub Gives : {A : Type 0} → Option Move → Bool → A → Result A MoveError → Type 0
-Gives by may x (Ok r) = (may ≡ true) × (r ≡ x)
-Gives by may x (Err MoveError.NoMove) = (is_some by ≡ true) × (may ≡ false)
-Gives by may x (Err MoveError.Memory) = ⊤
+-- what a call gives: the moved value where all in it can be moved, else no move
+abbrev pub Gives : {A : Type 0} → Bool → A → Result A MoveError → Type 0
+Gives may x (Ok r) = (may ≡ true) × (r ≡ x)
+Gives may x (Err MoveError.NoMove) = may ≡ false
+Gives may x (Err MoveError.Memory) = ⊤
 
 -- ---- what is in reach: the same as `AreInReach`, as a test
 
@@ -200,13 +196,13 @@ abbrev pub move_from : Key → ℤ → Move
 move_from header by = move_for (sharps_in header.signs) by
 
 abbrev pub moved_score : Score → Key → ℤ → Score
-moved_score s header by = score_by (Some (move_from header by)) s
+moved_score s header by = score_by (move_from header by) s
 
 -- the header's key and each key of the score, before and behind the move, are on the circle of fifths, no moved sign is past a
 -- double one, and each moved head is in reach
 pub record CanMove (s : Score) (key : Key) (by : ℤ) : Type 0 where
   pub header : on_circle key ≡ true
-  pub voices : list_all (voice_may (Some (move_from key by))) s.voices ≡ true
+  pub voices : list_all (voice_may (move_from key by)) s.voices ≡ true
   pub reach : All (λ v. AreInReach v.clef (events_of v.measures)) (moved_score s key by).voices
 
 -- what comes of a move by so many semitones: by none it is the score itself, and a score that can't be moved gives none

@@ -61,17 +61,14 @@ fn signature(sharps: i64) -> Option<i8>
     }
 }
 
-/// A copy of a key, moved where there is a move.
-pub(crate) fn key_by(alloc: Global, by: Option<Move>, key: &Key) -> Moved<Key>
-    ensures { Gives by (key_may by key.now) (key_by by key.now) result }
+/// The moved key.
+pub(crate) fn key_by(alloc: Global, by: Move, key: &Key) -> Moved<Key>
+    ensures { Gives (key_may by key.now) (key_by by key.now) result }
 {
-    let Some(m) = by else {
-        return Ok(key.copy(alloc)?);
-    };
     if !on_circle(alloc, key)? {
         return Err(MoveError::NoMove);
     }
-    match signature(moved_sharps(sharps_in(key.signs.as_slice()), m.sharps)) {
+    match signature(moved_sharps(sharps_in(key.signs.as_slice()), by.sharps)) {
         Some(sharps) => Ok(Key {
             signs: key_of(alloc, sharps)?.signs,
         }),

@@ -13,4 +13,4 @@ pub mod scores;
 pub mod trees;
 
 pub use moves::Move;
-pub use scores::{moved, moved_or_same};
+pub use scores::moved_or_same;

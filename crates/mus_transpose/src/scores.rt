@@ -10,8 +10,8 @@ use mus_score::{Measure, Score, Voice, events};
 use mus_units::{Key, Memory, Row};
 use std::alloc::Global;
 
-fn measures_by(alloc: Global, by: Option<Move>, measures: &[Measure]) -> Moved<Row<Measure>>
-    ensures { Gives by (list_all (λ x. body_may by x.body) measures.now) (map (measure_by by) measures.now) result }
+fn measures_by(alloc: Global, by: Move, measures: &[Measure]) -> Moved<Row<Measure>>
+    ensures { Gives (list_all (λ x. body_may by x.body) measures.now) (map (measure_by by) measures.now) result }
 {
     let mut out = Row::new(alloc);
     for measure in measures {
@@ -23,8 +23,8 @@ fn measures_by(alloc: Global, by: Option<Move>, measures: &[Measure]) -> Moved<R
     Ok(out)
 }
 
-fn voice_by(alloc: Global, by: Option<Move>, v: &Voice) -> Moved<Voice>
-    ensures { Gives by (voice_may by v.now) (voice_by by v.now) result }
+fn voice_by(alloc: Global, by: Move, v: &Voice) -> Moved<Voice>
+    ensures { Gives (voice_may by v.now) (voice_by by v.now) result }
 {
     Ok(Voice {
         id: v.id.copy(alloc)?,
@@ -40,8 +40,8 @@ fn voice_by(alloc: Global, by: Option<Move>, v: &Voice) -> Moved<Voice>
     })
 }
 
-fn voices_by(alloc: Global, by: Option<Move>, voices: &[Voice]) -> Moved<Row<Voice>>
-    ensures { Gives by (list_all (voice_may by) voices.now) (map (voice_by by) voices.now) result }
+fn voices_by(alloc: Global, by: Move, voices: &[Voice]) -> Moved<Row<Voice>>
+    ensures { Gives (list_all (voice_may by) voices.now) (map (voice_by by) voices.now) result }
 {
     let mut out = Row::new(alloc);
     for v in voices {
@@ -50,9 +50,9 @@ fn voices_by(alloc: Global, by: Option<Move>, voices: &[Voice]) -> Moved<Row<Voi
     Ok(out)
 }
 
-/// A copy of a score, moved where there is a move.
-fn score_by(alloc: Global, by: Option<Move>, s: &Score) -> Moved<Score>
-    ensures { Gives by (list_all (voice_may by) s.now.voices) (score_by by s.now) result }
+/// A moved copy of a score.
+fn score_by(alloc: Global, by: Move, s: &Score) -> Moved<Score>
+    ensures { Gives (list_all (voice_may by) s.now.voices) (score_by by s.now) result }
 {
     Ok(Score {
         voices: voices_by(alloc, by, s.voices.as_slice())?,
@@ -92,7 +92,7 @@ fn moved_by(alloc: Global, s: &Score, header: &Key, by: i8) -> Result<Option<Sco
         return Ok(None);
     }
     let m = move_from(header, by);
-    let moved = match score_by(alloc, Some(m), s) {
+    let moved = match score_by(alloc, m, s) {
         Ok(moved) => moved,
         Err(MoveError::NoMove) => return Ok(None),
         Err(MoveError::Memory) => return Err(Memory),
@@ -104,31 +104,13 @@ fn moved_by(alloc: Global, s: &Score, header: &Key, by: i8) -> Result<Option<Sco
     }
 }
 
-/// A score moved by `by` semitones: a copy of it for none. The key of the tune's header, of k
+/// A score moved by `by` semitones, itself for none. The key of the tune's header, of k
 /// sharps, moves to that of k' sharps, -5 to 6, for which k' - k - 7·by is a multiple of 12; every
 /// key has j = k' - k sharps more, every head, grace heads too, stands 4·j - 7·(7·j - by)/12
 /// letters higher, and a sign before a head becomes the one with which the head is `by` semitones
 /// higher. None exactly where `by` isn't 0 and a key, the header's too, isn't one of -7 to 7
 /// sharps before and behind the move, or a sign would be past a double one, or a head out of reach.
-#[tactic(auto, using(crate::proofs::MovedGood::score_same, crate::proofs::MovedGood::moved_good))]
-pub fn moved(alloc: Global, s: &Score, header: &Key, by: i8) -> Result<Option<Score>, Memory>
-    requires { IsGoodScore s.now }
-    ensures moved { IfOk result (IsMoved s.now header.now by) }
-    ensures good { IfOk result (λ r. IfSome r IsGoodScore) }
-    ensures voices { IfOk result (λ r. IfSome r (λ t. length t.voices ≡ length s.now.voices)) }
-    ensures measures { IfOk result (λ r. IfSome r (λ t. t.measures ≡ s.now.measures)) }
-{
-    if by != 0 {
-        return moved_by(alloc, s, header, by);
-    }
-    match score_by(alloc, None, s) {
-        Ok(copy) => Ok(Some(copy)),
-        Err(MoveError::NoMove) => Ok(None),
-        Err(MoveError::Memory) => Err(Memory),
-    }
-}
-
-/// The same of a score that is given away: for no semitones it is given back, without a copy.
+#[tactic(auto, using(crate::proofs::MovedGood::moved_good))]
 pub fn moved_or_same(alloc: Global, s: Score, header: &Key, by: i8) -> Result<Option<Score>, Memory>
     requires { IsGoodScore s }
     ensures moved { IfOk result (IsMoved s header.now by) }
@@ -139,5 +121,5 @@ pub fn moved_or_same(alloc: Global, s: Score, header: &Key, by: i8) -> Result<Op
     if by == 0 {
         return Ok(Some(s));
     }
-    moved(alloc, &s, header, by)
+    moved_by(alloc, &s, header, by)
 }

@@ -1,4 +1,4 @@
-ghost use Rattle.std.specs.{Prelude.◌≡◌, Prelude.map, Prelude.Some, List.list_all};
+ghost use Rattle.std.specs.{Prelude.◌≡◌, Prelude.map, List.list_all};
 ghost use Rattle.mus_transpose.specs.Moved.{Gives, all_pass, body_by, body_may, changed, event_by, event_may, head_moves, moved_head};
 
 use crate::heads::moved_head;
@@ -9,7 +9,7 @@ use mus_units::{Head, Row};
 use std::alloc::Global;
 
 fn moved_heads(alloc: Global, m: Move, heads: &[Head]) -> Moved<Row<Head>>
-    ensures { Gives (Some m) (list_all (head_moves m) heads.now) (map (moved_head m) heads.now) result }
+    ensures { Gives (list_all (head_moves m) heads.now) (map (moved_head m) heads.now) result }
 {
     let mut out = Row::new(alloc);
     for head in heads {
@@ -21,23 +21,21 @@ fn moved_heads(alloc: Global, m: Move, heads: &[Head]) -> Moved<Row<Head>>
     Ok(out)
 }
 
-/// A copy of an event, moved where there is a move.
-fn event_by(alloc: Global, by: Option<Move>, e: &Event) -> Moved<Event>
-    ensures { Gives by (event_may by e.now) (event_by by e.now) result }
+/// A moved copy of an event.
+fn event_by(alloc: Global, by: Move, e: &Event) -> Moved<Event>
+    ensures { Gives (event_may by e.now) (event_by by e.now) result }
 {
     let mut copy = copy_event(alloc, e)?;
-    if let Some(m) = by {
-        copy.heads = moved_heads(alloc, m, e.heads.as_slice())?;
-        if let Some(key) = &e.changes.key {
-            copy.changes.key = Some(key_by(alloc, by, key)?);
-        }
+    copy.heads = moved_heads(alloc, by, e.heads.as_slice())?;
+    if let Some(key) = &e.changes.key {
+        copy.changes.key = Some(key_by(alloc, by, key)?);
     }
     Ok(copy)
 }
 
 #[cycle(trees)]
-fn node_by(alloc: Global, by: Option<Move>, node: &Music) -> Moved<Music>
-    ensures { Gives by (all_pass (event_may by) node.now) (changed (event_by by) node.now) result }
+fn node_by(alloc: Global, by: Move, node: &Music) -> Moved<Music>
+    ensures { Gives (all_pass (event_may by) node.now) (changed (event_by by) node.now) result }
 {
     match node {
         Music::Note(e) => Ok(Music::Note(event_by(alloc, by, e)?)),
@@ -54,10 +52,10 @@ fn node_by(alloc: Global, by: Option<Move>, node: &Music) -> Moved<Music>
     }
 }
 
-/// A copy of a body, its events moved where there is a move.
+/// A copy of a body, its events moved.
 #[cycle(trees)]
-pub(crate) fn body_by(alloc: Global, by: Option<Move>, body: &[Music]) -> Moved<Row<Music>>
-    ensures { Gives by (body_may by body.now) (body_by by body.now) result }
+pub(crate) fn body_by(alloc: Global, by: Move, body: &[Music]) -> Moved<Row<Music>>
+    ensures { Gives (body_may by body.now) (body_by by body.now) result }
 {
     let mut out = Row::new(alloc);
     for node in body {

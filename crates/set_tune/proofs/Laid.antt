@@ -43,8 +43,8 @@ IsLike s t = (length t.voices ≡ length s.voices) × (t.measures ≡ s.measures
 
 like_moved : (s t : Score) (key : Key) (by : ℤ) → IsMoved s key by (Some t) → IsLike s t
 like_moved s t key (pos zero) is = subst (IsLike s) (sym (same_Some t s (is.same refl))) (refl, refl)
-like_moved s t key (pos (suc n)) is = subst (IsLike s) (sym (is.higher (λ e. cc)).1) (length-map s.voices (voice_by (Some (move_from key (pos (suc n))))), refl)
-like_moved s t key (negsuc n) is = subst (IsLike s) (sym (is.higher (λ e. cc)).1) (length-map s.voices (voice_by (Some (move_from key (negsuc n)))), refl)
+like_moved s t key (pos (suc n)) is = subst (IsLike s) (sym (is.higher (λ e. cc)).1) (length-map s.voices (voice_by (move_from key (pos (suc n)))), refl)
+like_moved s t key (negsuc n) is = subst (IsLike s) (sym (is.higher (λ e. cc)).1) (length-map s.voices (voice_by (move_from key (negsuc n))), refl)
 
 -- drawn too
 heard_drawn : (staves : Option Line) (written drawn : Score) → IsDrawn staves written (Ok drawn) → (0 < written.measures → 1 ≤ length written.voices) → 0 < drawn.measures → 1 ≤ length drawn.voices
