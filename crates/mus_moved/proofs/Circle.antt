@@ -7,7 +7,6 @@ use Rattle.mus_pitch.specs.{Alteration.key_sign, Circle.fifths_of, Circle.is_sig
 use Rattle.mus_transpose.specs.{declared.moves.Move.Move, Moved.alter_from, Moved.alter_of, Moved.key_by, Moved.key_may, Moved.move_for, Moved.moved_pitch, Moved.natural_of, Moved.new_sharps, Moved.octaves_between, Moved.on_circle, Moved.same_sign, Moved.semitones, Moved.sharps_by, Moved.sharps_in}
 
 -- ---- letters, alterations and keys by their numbers
-
 letter_back : (l : Letter) → slice_index_or scale (number_of l) Letter.C ≡ l
 letter_back Letter.C = refl
 letter_back _ = refl
@@ -89,7 +88,6 @@ in_key p n few =
     in_window n (place p.letter (key_alter p (signs_of n))) (subst (λ m. fits p.letter m ≡ true) k.1 (in_keys p.letter (unsigned_abs (n +ℤ pos 7)) k.0))
 
 -- ---- letters and semitones of a pitch
-
 seven : (r : ℕ) → r < 7 → number_of (slice_index_or scale r Letter.C) ≡ r
 seven r few = eqb-true (number_of (slice_index_or scale r Letter.C)) r (agree_below_at (λ j. number_of (slice_index_or scale j Letter.C) == j) (λ _. true) 7 r refl few)
 

@@ -15,7 +15,6 @@ abbrev pub Holds : {A : Type 0} → (A → Bool) → List A → Type 0
 Holds test = AllByRecursion (Passed test)
 
 -- ---- letters and octaves
-
 abbrev same_pitch : Pitch → Pitch → Bool
 same_pitch p r = same_letter p.letter r.letter && int_eq p.octave r.octave
 
@@ -93,7 +92,6 @@ both_then f neither = neither
 both_then f (each r) = r
 
 -- ---- signs
-
 pub own_higher : (m : Move) (p : Pitch) (s : Option Alter) → sign_moves m p s ≡ true → Both (Higher m p) s (moved_sign m p s)
 unfolding moved_alter semitones
 own_higher m p None e = neither

@@ -10,7 +10,6 @@ use Rattle.mus_drawn.specs.{declared.standing.Standing.Standing, Drawn.standing_
 use Rattle.mus_moved.proofs.Reaching.{Holds, Passed}
 
 -- ---- what is seen is moved
-
 abbrev flat_by : Move → Flat → Flat
 flat_by m = changed_flat (event_by m)
 
@@ -66,7 +65,6 @@ seen_in_moved m now (x ∷ ms) =
     ∙ sym (map-append (moved_seen m) (seen_from now [] fs) (seen_in (standing_behind now fs) ms))
 
 -- ---- where each event of a tree passes a test, the events in a row do, and the graces before them
-
 pub joined : {A : Type 0} (P : A → Type 0) (xs ys : List A) → AllByRecursion P xs → AllByRecursion P ys → AllByRecursion P (xs ++ ys)
 joined P [] ys a b = b
 joined P (x ∷ xs) ys a b = (a.0, joined P xs ys a.1 b)
@@ -106,7 +104,6 @@ passes test = record {
 }
 
 -- ---- what is seen can be moved
-
 abbrev FlatMay : Move → Flat → Type 0
 FlatMay m = Passes (event_may m)
 

@@ -60,7 +60,6 @@ sounds_higher m spread (d ∷ ds) e move front may earlier h before one =
     (untied (list_any (has_pitch h.pitch) earlier) (tied_higher m f g h.pitch [] d.heads (sounds_higher m spread ds d move front.1 front.0) (tt {0}) front.0.heads)))
 
 -- ---- lists of heads
-
 abbrev AllHigher : Move → List Sound → List Sound → Type 0
 AllHigher m = AllZip (IsHigher m.semitones m.letters)
 
@@ -104,7 +103,6 @@ voices_higher m i spread (v ∷ vs) move may =
     (voices_higher m (i + 1) spread vs move parts.1)
 
 -- ---- a score
-
 unmoved : (xs : List Sound) → AllZip (IsHigher (pos 0) (pos 0)) xs xs
 unmoved [] = tt {0}
 unmoved (x ∷ xs) = (record { voice = refl; event = refl; head = refl; written = omega (arith, ints); sounds = omega (arith, ints) }, unmoved xs)

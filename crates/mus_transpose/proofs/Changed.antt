@@ -40,7 +40,6 @@ all_keep g R s t k [] = tt
 all_keep g R s t k (m ∷ ms) = (folds_keep g R s t k m, all_keep g R s t k ms)
 
 -- ---- a fold that doesn't see the change
-
 abbrev Equal : {A : Type 0} → A → A → Type 0
 Equal a b = a ≡ b
 
@@ -59,7 +58,6 @@ fold_same {A} g step note rest body =
     equal (map (fold-Music A step) (map (changed g) body)) (map (fold-Music A step) body) (all_keep g Equal step step k body)
 
 -- ---- the events of a changed tree are the changed events of the tree
-
 abbrev waiting : (Event → Event) → Waits → Waits
 waiting g w = record w { graces = map g w.graces }
 
@@ -104,7 +102,6 @@ flats_changed g keeps body =
     ap (λ (l : Leaves). l.flats) (row g (map leaves_within (map (changed g) body)) (map leaves_within body) (all_keep g (Changes g) leaves_step leaves_step k body) 1 1 nothing)
 
 -- ---- where nothing changes
-
 abbrev Same : Music → Type 0
 Same m = changed (λ e. e) m ≡ m
 

@@ -12,7 +12,6 @@ use Rattle.mus_transpose.specs.Moved.{CanMove, Within, are_in_reach, event_by, i
 use Rattle.mus_transpose.{specs.declared.moves.Move.Move, proofs.Changed.flats_changed, proofs.Changed.fold_same}
 
 -- ---- numbers
-
 pub twelfth_fits : (z : ℤ) → Within (negsuc 1199) (pos 1199) z → Within (negsuc 99) (pos 99) (int_div_euclid z (pos 12))
 twelfth_fits (pos a) h = let low = h.0 in let high = h.1 in (omega (arith, ints), omega (arith, ints))
 twelfth_fits (negsuc a) h = let low = h.0 in let high = h.1 in (omega (arith, ints), omega (arith, ints))
@@ -22,7 +21,6 @@ few_letters Letter.C = omega arith
 few_letters _ = omega arith
 
 -- ---- bodies
-
 note_judged : (m : Move) (e : Event) → good_step (Music-F.Note (event_by m e)) ≡ good_step (Music-F.Note e)
 note_judged m e = ap (λ n. λ (at : Place). judged (nat_le 1 n && has_value_ticks e) true) (length-map e.heads (moved_head m))
 
@@ -41,7 +39,6 @@ body_good m body good = record {
 }
 
 -- ---- events
-
 pub events_moved : (m : Move) (ms : List Measure) → events_of (map (measure_by m) ms) ≡ map (changed_flat (event_by m)) (events_of ms)
 events_moved m [] = refl
 events_moved m (x ∷ ms) =
@@ -61,7 +58,6 @@ counted m n [] h = tt
 counted m n (f ∷ fs) h = (h.0, counted m (suc n) fs h.1)
 
 -- ---- voices and scores
-
 sum_kept : {A : Type 0} (f : A → ℕ) (g : A → A) → ((x : A) → f (g x) ≡ f x) → (xs : List A) → sum_by f (map g xs) ≡ sum_by f xs
 sum_kept f g same xs = sym (sum-map f (map g xs)) ∙ ap sum (map-map f g xs ∙ ap (λ h. map h xs) (fun_ext same)) ∙ sum-map f xs
 
@@ -127,7 +123,6 @@ moved_good m s good reach = record {
 }
 
 -- ---- what is in reach, and its tests
-
 le_decides : (x y : ℤ) → Decides (int_le x y) (x ≤ℤ y)
 le_decides x y = (λ e. grind (arith, ints), λ l. grind (arith, ints))
 
@@ -157,7 +152,6 @@ voices_decide vs =
     Decides-by_and test (λ v. AreInReach v.clef (events_of v.measures)) (list_all test) (λ v. flats_decide v.clef (events_of v.measures)) refl (λ _ _. refl) vs
 
 -- ---- what the tests tell of a move
-
 abbrev pub all_in_reach : List Voice → Bool
 all_in_reach vs = list_all (λ v. are_in_reach v.clef (events_of v.measures)) vs
 

@@ -55,7 +55,6 @@ unfoldable pub move_for : ℤ → ℤ → Move
 move_for sharps by = move_by (new_sharps sharps by -ℤ sharps) by
 
 -- ---- heads
-
 abbrev pub moved_steps : Move → Pitch → ℤ
 moved_steps m p = steps p +ℤ m.letters
 
@@ -110,7 +109,6 @@ abbrev pub key_may : Move → Key → Bool
 key_may m k = on_circle k && is_signature (sharps_in k.signs +ℤ m.sharps)
 
 -- ---- events, the graces among them
-
 abbrev pub event_by : Move → Event → Event
 event_by m e = record e {
   heads = map (moved_head m) e.heads;
@@ -159,7 +157,6 @@ abbrev pub body_may : Move → List Music → Bool
 body_may by body = all_true (map (all_pass (event_may by)) body)
 
 -- ---- voices and scores
-
 abbrev pub measure_by : Move → Measure → Measure
 measure_by by x = record x { body = body_by by x.body }
 
@@ -179,7 +176,6 @@ Gives may x (Err MoveError.NoMove) = may ≡ false
 Gives may x (Err MoveError.Memory) = ⊤
 
 -- ---- what is in reach: the same as `AreInReach`, as a test
-
 abbrev pub in_reach : Clef → Head → Bool
 in_reach clef h = int_le (negsuc 13) (height_of h.pitch clef) && int_le (height_of h.pitch clef) (pos 22)
 
