@@ -16,7 +16,7 @@ use Rattle.set_staves.specs.{Drawn.IsBase, Drawn.IsOnPage, Drawn.IsTop, Marks.Ri
 use Rattle.lay_tune.specs.Systems.{StandWithin, gaps_between}
 use Rattle.set_pages.specs.Drawings.{Drawing, all_blocks, all_drawings, drawing, drawings_from, outcome_blocks, outcome_drawings, result_blocks, result_drawings, system, system_contents, title, title_contents}
 use Rattle.set_pages.{specs.Clear.IsClear, specs.Clear.IsClearContent, specs.Clear.Spaced, specs.Clear.outcome_spaced, specs.Clear.result_gaps, specs.Clear.spaced_by, specs.Ready.IsReadyOn, specs.Ready.IsReadyRow, specs.Sheet.IsSetResult, specs.Sheet.IsSetUnder, proofs.Laying.AreLaid}
-use Rattle.set_pages.proofs.{Laying.IsLaidSystem, Laying.paper_narrow, Laying.tune_laid, Stacks.IsBetween, Stacks.are_under, Stacks.stacked_bases, Stacks.stacked_count}
+use Rattle.set_pages.proofs.{Laying.IsLaidSystem, Laying.paper_narrow, Laying.tune_laid, Stacks.IsBetween, Stacks.are_under, Stacks.stacked_bases, Stacks.stacked_count, Joined.zip_append}
 
 -- the tune that a block begins has an ordinal
 abbrev IsCounted : Option ℕ → Type 0
@@ -39,12 +39,9 @@ OfTitles Q width = (gaps : List ℕ) (ordinal : ℕ) (rows : List TitleRow) (hei
 systems_zip : (Q : ByGaps) (s : Score) (width : ℕ) → OfSystems Q width → (begins : Option ℕ) (systems : List SystemMarks) (placed : List Placed) (heights : List Heights)
     → IsCounted begins → AreLaid s width systems placed heights → AllZip (Q (gaps_between s.voices)) (drawings_from begins (system_contents systems placed heights)) (system_blocks heights)
 systems_zip Q s width of begins [] [] [] counted laid = tt
-systems_zip Q s width of begins [] [] (h ∷ heights) counted laid = absurd laid
-systems_zip Q s width of begins [] (p ∷ placed) heights counted laid = absurd laid
-systems_zip Q s width of begins (m ∷ systems) [] heights counted laid = absurd laid
-systems_zip Q s width of begins (m ∷ systems) (p ∷ placed) [] counted laid = absurd laid
 systems_zip Q s width of begins (m ∷ systems) (p ∷ placed) (h ∷ heights) counted laid =
     (of s begins m p h counted laid.0, systems_zip Q s width of None systems placed heights tt laid.1)
+systems_zip Q s width of begins systems placed heights counted laid = absurd laid
 
 tune_zip : (Q : ByGaps) (s : Score) (width ordinal : ℕ) → OfSystems Q width → OfTitles Q width → (rows : List TitleRow) (height : ℕ) (keep : Bool)
     (systems : List SystemMarks) (placed : List Placed) (heights : List Heights) → 1 ≤ ordinal → All (IsGoodRow width height) rows → AreLaid s width systems placed heights
@@ -63,12 +60,6 @@ result_zip Q paper ordinal of titled (Ok t) good some set =
     subst (λ (b : TitleBlock). All (IsGoodRow (width_of paper) b.height) b.rows) (sym laid.title) (rows_stand (width_of paper) t.header.titles t.header.composers t.header.tempo) in
     tune_zip Q t.score (width_of paper) ordinal of titled t.title.rows t.title.height (is_some_list t.heights) t.systems t.placed t.heights some rows
     (tune_laid (width_of paper) t laid.score.good (heard_moved set.0 set.1 set.2 t.header t.score laid.score) (paper_narrow paper good) laid.layout)
-
-zip_append : {A B : Type 0} (R : A → B → Type 0) (xs ys : List A) (vs ws : List B) → AllZip R xs vs → AllZip R ys ws → AllZip R (xs ++ ys) (vs ++ ws)
-zip_append R [] ys [] ws front back = back
-zip_append R [] ys (v ∷ vs) ws front back = absurd front
-zip_append R (x ∷ xs) ys [] ws front back = absurd front
-zip_append R (x ∷ xs) ys (v ∷ vs) ws front back = (front.0, zip_append R xs ys vs ws front.1 back)
 
 all_zip : {A : Type 0} (R : A → Block → Type 0) (paper : Paper) (draws : Outcome → List A) → ((o : Outcome) → IsSetUnder paper o → AllZip R (draws o) (outcome_blocks o))
     → (outcomes : List Outcome) → All (IsSetUnder paper) outcomes → AllZip R (flat_map draws outcomes) (all_blocks outcomes)
@@ -154,18 +145,16 @@ IsSpacedOn paper d block = IsClearOn paper d.gaps d.drawing block
 
 spaced_zip : (paper : Paper) (gaps : List ℕ) (ds : List Drawing) (blocks : List Block) → AllZip (IsClearOn paper gaps) ds blocks → AllZip (IsSpacedOn paper) (map (spaced_by gaps) ds) blocks
 spaced_zip paper gaps [] [] on = tt
-spaced_zip paper gaps [] (block ∷ blocks) on = absurd on
-spaced_zip paper gaps (d ∷ ds) [] on = absurd on
 spaced_zip paper gaps (d ∷ ds) (block ∷ blocks) on = (on.0, spaced_zip paper gaps ds blocks on.1)
+spaced_zip paper gaps ds blocks on = absurd on
 
 clear_at : (paper : Paper) (ds : List Spaced) (blocks : List Block) (spots : List Spot) → AllZip (IsSpacedOn paper) ds blocks → AreWithin (height_of paper) blocks spots → AllZip (IsClear paper) ds spots
 clear_at paper [] [] [] on within = tt
 clear_at paper [] [] (spot ∷ spots) on within = absurd within
-clear_at paper [] (block ∷ blocks) spots on within = absurd on
-clear_at paper (d ∷ ds) [] spots on within = absurd on
 clear_at paper (d ∷ ds) (block ∷ blocks) [] on within = absurd within
 clear_at paper (d ∷ ds) (block ∷ blocks) (spot ∷ spots) on within =
     (on.0 spot.top within.0.0 within.0.1, clear_at paper ds blocks spots on.1 within.1)
+clear_at paper ds blocks spots on within = absurd on
 
 pub all_clear : (paper : Paper) (outcomes : List Outcome) (spots : List Spot) → IsGoodPaper paper → All (IsSetUnder paper) outcomes → AreWithin (height_of paper) (all_blocks outcomes) spots
     → AllZip (IsClear paper) (flat_map outcome_spaced outcomes) spots

@@ -1,9 +1,8 @@
 -- What keeps marks apart on the pages: boxes of one lane in different columns, and staves as far under one another as their gaps say.
-use Rattle.std.specs.Prelude.{⊤, ℕ, ℤ, pos, ◌+ℤ◌, ◌-ℤ◌, ◌≤ℤ◌, List, [], ◌∷◌, map, flat_map, All, Result, Ok, Err}
-use Rattle.std.specs.List.{AllZip}
+use Rattle.std.specs.{Prelude.⊤, Prelude.ℕ, Prelude.ℤ, Prelude.pos, Prelude.◌+ℤ◌, Prelude.◌-ℤ◌, Prelude.◌≤ℤ◌, Prelude.List, Prelude.[], Prelude.◌∷◌, Prelude.map, Prelude.flat_map, Prelude.All, Prelude.Result, Prelude.Ok, Prelude.Err, List.AllZip}
 use Rattle.abc_lines.specs.declared.fault.Fault.{Fault}
 use Rattle.abc_header.specs.{declared.paper.Paper.Paper, Papers.height_of, Papers.width_of}
-use Rattle.mus_laid.specs.{declared.laid.StaffMarks.StaffMarks, declared.laid.SystemMarks.SystemMarks}
+use Rattle.mus_laid.specs.declared.laid.{StaffMarks.StaffMarks, SystemMarks.SystemMarks}
 use Rattle.lay_pages.specs.declared.filling.Spot.{Spot}
 use Rattle.lay_tune.specs.Systems.{gaps_between}
 use Rattle.lay_apart.specs.Apart.{AreApart}
