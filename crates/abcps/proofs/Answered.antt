@@ -2,12 +2,8 @@
 use Rattle.std.proofs.Common.{◌≡◌, refl, sym, subst, ◌⊎◌, inl, inr, List, [], ℕ, ◌≤◌, length, Option}
 use Rattle.std.specs.Io.KnownBytes.{Consumes, IsAtEnd}
 use Rattle.abcps_words.specs.{declared.command.Command.Command, Command.Asks, Command.limit_of}
-use Rattle.abcps_words.specs.declared.command.Command.TheVariants as command
-use Rattle.abcps.specs.{Called.Called, Calls.Calls, Calls.Refuses, Refusals.refusal_line, Refusals.refusal_status, declared.refusing.Refusal.Refusal}
 use Rattle.abcps.specs.Outcome.{IsAnswer, IsAnswered, IsEnd, IsObeyed, IsQuiet, IsRead, IsReader, IsRun, ReadAll, Stream, TookAll, TookFront, WasTold}
-use Rattle.abcps.specs.declared.status.Status.{Status}
-use Rattle.abcps.specs.declared.refusing.Refusal.TheVariants as refusals
-use Rattle.abcps.specs.declared.status.Status.TheVariants as status
+use Rattle.abcps.specs.{Called.Called, Calls.Calls, Calls.Refuses, Refusals.refusal_line, Refusals.refusal_status, declared.refusing.Refusal.Refusal, declared.status.Status.Status}
 
 abbrev Is : Called → Called → Type 0
 Is called other = other ≡ called
@@ -15,14 +11,14 @@ Is called other = other ≡ called
 -- both texts were written
 answered_whole : (called : Called) (o e : Stream) (s : Status) → IsEnd s → s ≡ called.status → TookAll o called.page → TookAll e called.told
     → IsAnswered (Is called) s o e
-answered_whole called o e status.Done end is page told = (called, refl, is, page, told)
-answered_whole called o e status.SomeRefused end is page told = (called, refl, is, page, told)
-answered_whole called o e status.NotLeast end is page told = (called, refl, is, page, told)
+answered_whole called o e Status.Done end is page told = (called, refl, is, page, told)
+answered_whole called o e Status.SomeRefused end is page told = (called, refl, is, page, told)
+answered_whole called o e Status.NotLeast end is page told = (called, refl, is, page, told)
 answered_whole called o e s end is page told = absurd end
 
 -- output has its whole text, and then errors was told its own
 pub answered_end : (called : Called) (o e : Stream) (s : Status) → IsEnd called.status → TookAll o called.page
-    → ((s ≡ called.status) × TookAll e called.told) ⊎ ((s ≡ status.WriteFault) × TookFront e called.told)
+    → ((s ≡ called.status) × TookAll e called.told) ⊎ ((s ≡ Status.WriteFault) × TookFront e called.told)
     → IsAnswered (Is called) s o e
 answered_end called o e s end page (inl told) =
     answered_whole called o e s (subst IsEnd (sym told.0) end) told.0 page told.1
@@ -31,23 +27,23 @@ answered_end called o e s end page (inr cut) =
 
 -- what is answered for something is answered for what it is
 pub answered_weaker : (C D : Called → Type 0) → ((called : Called) → C called → D called) → (o e : Stream) (s : Status) → IsAnswered C s o e → IsAnswered D s o e
-answered_weaker C D give o e status.Done r = (r.0, give r.0 r.1, r.2, r.3, r.4)
-answered_weaker C D give o e status.SomeRefused r = (r.0, give r.0 r.1, r.2, r.3, r.4)
-answered_weaker C D give o e status.NotLeast r = (r.0, give r.0 r.1, r.2, r.3, r.4)
-answered_weaker C D give o e status.WriteFault r = (r.0, give r.0 r.1, r.2)
-answered_weaker C D give o e status.Memory (quiet, inl none) = (quiet, inl none)
-answered_weaker C D give o e status.Memory (quiet, inr part) = (quiet, inr (part.0, give part.0 part.1, part.2))
+answered_weaker C D give o e Status.Done r = (r.0, give r.0 r.1, r.2, r.3, r.4)
+answered_weaker C D give o e Status.SomeRefused r = (r.0, give r.0 r.1, r.2, r.3, r.4)
+answered_weaker C D give o e Status.NotLeast r = (r.0, give r.0 r.1, r.2, r.3, r.4)
+answered_weaker C D give o e Status.WriteFault r = (r.0, give r.0 r.1, r.2)
+answered_weaker C D give o e Status.Memory (quiet, inl none) = (quiet, inl none)
+answered_weaker C D give o e Status.Memory (quiet, inr part) = (quiet, inr (part.0, give part.0 part.1, part.2))
 answered_weaker C D give o e s r = absurd r
 
 -- what is answered for something is answered for what a command calls for, if that is it
 pub answer_of : (c : Command) (text : List ℕ) (C : Called → Type 0) → ((called : Called) → C called → Calls c text called)
     → (o e : Stream) (s : Status) → IsAnswered C s o e → IsAnswer c s text o e
-answer_of c text C give o e status.Done r = (r.0, give r.0 r.1, r.2, r.3, r.4)
-answer_of c text C give o e status.SomeRefused r = (r.0, give r.0 r.1, r.2, r.3, r.4)
-answer_of c text C give o e status.NotLeast r = (r.0, give r.0 r.1, r.2, r.3, r.4)
-answer_of c text C give o e status.WriteFault r = inl (r.0, give r.0 r.1, r.2)
-answer_of c text C give o e status.Memory (quiet, inl none) = (quiet, inl none)
-answer_of c text C give o e status.Memory (quiet, inr part) = (quiet, inr (inl (part.0, give part.0 part.1, part.2)))
+answer_of c text C give o e Status.Done r = (r.0, give r.0 r.1, r.2, r.3, r.4)
+answer_of c text C give o e Status.SomeRefused r = (r.0, give r.0 r.1, r.2, r.3, r.4)
+answer_of c text C give o e Status.NotLeast r = (r.0, give r.0 r.1, r.2, r.3, r.4)
+answer_of c text C give o e Status.WriteFault r = inl (r.0, give r.0 r.1, r.2)
+answer_of c text C give o e Status.Memory (quiet, inl none) = (quiet, inl none)
+answer_of c text C give o e Status.Memory (quiet, inr part) = (quiet, inr (inl (part.0, give part.0 part.1, part.2)))
 answer_of c text C give o e s r = absurd r
 
 -- the same of one thing that is called for
@@ -57,43 +53,32 @@ answer_by c text called calls o e s r = answer_of c text (Is called) (λ other i
 
 -- the input was refused, or memory ran out
 pub answer_refused : (c : Command) (text : List ℕ) (refusal : Refusal) (o e : Stream) (s : Status) → Refuses c text refusal → IsQuiet o
-    → ((s ≡ status.Memory) × IsQuiet e) ⊎ ((s ≡ refusal_status refusal) × WasTold e (refusal_line refusal)) → IsAnswer c s text o e
+    → ((s ≡ Status.Memory) × IsQuiet e) ⊎ ((s ≡ refusal_status refusal) × WasTold e (refusal_line refusal)) → IsAnswer c s text o e
 answer_refused c text refusal o e s refuses quiet (inl none) = subst (λ t. IsAnswer c t text o e) (sym none.0) (none.1, inl quiet)
-answer_refused c text (refusals.NotPages line) o e s refuses quiet (inr told) =
-    subst (λ t. IsAnswer c t text o e) (sym told.0) (refusals.NotPages line, refuses, refl, quiet, told.1)
-answer_refused c text (refusals.Halted token cause) o e s refuses quiet (inr told) =
-    subst (λ t. IsAnswer c t text o e) (sym told.0) (refusals.Halted token cause, refuses, refl, quiet, told.1)
+answer_refused c text (Refusal.NotPages line) o e s refuses quiet (inr told) =
+    subst (λ t. IsAnswer c t text o e) (sym told.0) (Refusal.NotPages line, refuses, refl, quiet, told.1)
+answer_refused c text (Refusal.Halted token cause) o e s refuses quiet (inr told) =
+    subst (λ t. IsAnswer c t text o e) (sym told.0) (Refusal.Halted token cause, refuses, refl, quiet, told.1)
 
 -- what was read of a command that reads
 pub read_of : (c : Command) (i : Stream) (text : List ℕ) → IsReader c → ReadAll (limit_of c) i text → IsRead c i text
-read_of (command.Make tunes) i text reads read = absurd reads
-read_of (command.Trial tunes flow jobs even) i text reads read = absurd reads
+read_of (Command.Make tunes) i text reads read = absurd reads
+read_of (Command.Trial tunes flow jobs even) i text reads read = absurd reads
 read_of c i text reads read = read
 
 -- a command that was answered was obeyed
 pub obeyed_of : (c : Command) (i o e : Stream) (text : List ℕ) (s : Status) → IsRead c i text → IsAnswer c s text o e → IsObeyed c s i o e
-obeyed_of c i o e text status.Done read r = (text, read, r)
-obeyed_of c i o e text status.SomeRefused read r = (text, read, r)
-obeyed_of c i o e text status.NotLeast read r = (text, read, r)
-obeyed_of c i o e text status.NotPages read r = (text, read, r)
-obeyed_of c i o e text status.Halted read r = (text, read, r)
-obeyed_of c i o e text status.WriteFault read r = (text, read, r)
-obeyed_of c i o e text status.Memory read (quiet, inl none) = (quiet, inl none)
-obeyed_of c i o e text status.Memory read (quiet, inr part) = (quiet, inr (text, read, part))
-obeyed_of c i o e text s read r = absurd r
+obeyed_of c i o e text Status.Usage read r = absurd r
+obeyed_of c i o e text Status.ReadFault read r = absurd r
+obeyed_of c i o e text Status.TooLong read r = absurd r
+obeyed_of c i o e text Status.Memory read (quiet, inl none) = (quiet, inl none)
+obeyed_of c i o e text Status.Memory read (quiet, inr part) = (quiet, inr (text, read, part))
+obeyed_of c i o e text s read r = (text, read, r)
 
 -- what a command answers a run answers that asks for it
 pub run_of : (words : List (List ℕ)) (c : Command) (i o e : Stream) (s : Status) → Asks words c → IsObeyed c s i o e → IsRun s words i o e
-run_of words c i o e status.Usage asked r = absurd r.2
-run_of words c i o e status.Done asked r = (c, asked, r)
-run_of words c i o e status.SomeRefused asked r = (c, asked, r)
-run_of words c i o e status.ReadFault asked r = (c, asked, r)
-run_of words c i o e status.WriteFault asked r = (c, asked, r)
-run_of words c i o e status.Memory asked r = (c, asked, r)
-run_of words c i o e status.NotPages asked r = (c, asked, r)
-run_of words c i o e status.TooLong asked r = (c, asked, r)
-run_of words c i o e status.NotLeast asked r = (c, asked, r)
-run_of words c i o e status.Halted asked r = (c, asked, r)
+run_of words c i o e Status.Usage asked r = absurd r.2
+run_of words c i o e s asked r = (c, asked, r)
 
 -- an input was read to its end, and what was asked with it was answered
 pub read_obeyed : (c : Command) (before after : Option (List ℕ)) (count_before count_after limit : ℕ) (text shown : List ℕ) (o e : Stream) (s : Status)

@@ -1,20 +1,16 @@
 -- A book that is set a batch of tunes at a time, and whose pages are written as they fill.
-use Rattle.std.proofs.Common.{◌≡◌, refl, sym, ap, ◌∙◌, subst, ℕ, ◌+◌, ◌≤◌, Bool, List, [], ◌++◌, append_assoc, length, take, drop, Option, arith}
-use Rattle.std.proofs.{lemmas.Grind.flat_map-append, lemmas.List.append-nil, lemmas.List.length-append, lemmas.List.take-append-drop}
-use Rattle.std.proofs.lemmas.List.Folds.{list_any-append}
+use Rattle.std.proofs.Common.{◌≡◌, refl, sym, ap, ◌∙◌, subst, ℕ, ◌+◌, ◌≤◌, List, [], ◌++◌, append_assoc, length, take, drop, Option, arith}
 use Rattle.std.specs.Prelude.{◌||◌, All, OnOk, Result, Ok, Err}
+use Rattle.std.proofs.lemmas.{Grind.flat_map-append, List.append-nil, List.length-append, List.take-append-drop, List.Folds.list_any-append}
 use Rattle.abc_lines.specs.declared.book.TuneText.{TuneText}
-use Rattle.abc_header.specs.{declared.defaults.Defaults.Defaults, declared.paper.Paper.Paper}
+use Rattle.abc_header.specs.declared.{defaults.Defaults.Defaults, paper.Paper.Paper}
 use Rattle.ps_text.specs.{Document.numbered, Document.page_text, Prolog.prolog, declared.sheet.Page.Page}
 use Rattle.set_tune.specs.declared.how.How.{How}
 use Rattle.set_book.specs.{declared.outcome.Outcome.Outcome, Outcomes.AreOutcomes, Outcomes.IsOutcome}
 use Rattle.set_lists.specs.Reports.{is_faulty, report, reports, some_fault}
-use Rattle.set_pages.specs.{declared.plan.Plan.Plan, Press.IsOpen, Press.IsPressed, Press.RisesBy, Press.done_pages, Press.no_press, Sheet.IsSetUnder, Sheet.frame_of}
-use Rattle.set_pages.proofs.{Joined.zip_append, Readying.set_outcomes, Whole.none_open, Whole.none_pressed}
-use Rattle.abcps.specs.Outcome.{Stream, TookAll}
-use Rattle.abcps.specs.Pressed.{AreCutOff, AreRunning, AreTaken, IsBegun, IsRunning, WasStopped, first_text}
-use Rattle.abcps.specs.{declared.pressing.Running.Running, declared.status.Status.Status}
-use Rattle.abcps.specs.declared.status.Status.TheVariants as status
+use Rattle.set_pages.specs.Press.{IsOpen, IsPressed, RisesBy, done_pages, no_press}
+use Rattle.set_pages.{specs.declared.plan.Plan.Plan, specs.Sheet.IsSetUnder, specs.Sheet.frame_of, proofs.Joined.zip_append, proofs.Readying.set_outcomes, proofs.Whole.none_open, proofs.Whole.none_pressed}
+use Rattle.abcps.specs.{Outcome.Stream, Outcome.TookAll, Pressed.AreCutOff, Pressed.AreRunning, Pressed.AreTaken, Pressed.IsBegun, Pressed.IsRunning, Pressed.WasStopped, Pressed.first_text, declared.pressing.Running.Running, declared.status.Status.Status}
 use Rattle.abcps.proofs.Sent.{first_more, memory_behind, stopped_behind, stopped_longer, stream, took_behind}
 
 pub on_ok : {T E P Q : Type 0} (r : Result T E) → (P → Q) → OnOk r P → OnOk r Q
@@ -121,12 +117,11 @@ module _ (defaults : Defaults) (plan : Plan) (paper : Paper) (how : How) (tunes 
         };
       }
 
-  -- or were not
-  pub cut_written : (b m a : Option (List ℕ)) (n k l : ℕ) (r : Running) (why : Status) → IsUnderway defaults plan paper how tunes rest (stream b m n k) r
-      → WasStopped why (stream m a k l) (numbered page_text (r.writer.pages + 1) (done_pages r.press)) → AreCutOff defaults plan paper how tunes (stream b a n l) why
-  cut_written b m a n k l r why way stopped =
+  -- the document goes no further than these pages
+  cut_by : (p o : Stream) (r : Running) (why : Status) (way : IsUnderway defaults plan paper how tunes rest p r)
+      → WasStopped why o (first_text paper way.running.given ++ numbered page_text (length way.running.given + 1) (done_pages r.press)) → AreCutOff defaults plan paper how tunes o why
+  cut_by p o r why way stopped =
       let run = way.running in
-      let sent = subst (λ j. WasStopped why (stream m a k l) (numbered page_text (j + 1) (done_pages r.press))) run.running.count stopped in
       record {
         before = way.before;
         rest = rest;
@@ -137,9 +132,17 @@ module _ (defaults : Defaults) (plan : Plan) (paper : Paper) (how : How) (tunes 
         press = r.press;
         pressed = run.running.pressed;
         free = run.free;
-        wrote = subst (λ text. WasStopped why (stream b a n l) text) (sym (first_more paper run.given (done_pages r.press)))
-            (stopped_behind b m a n k l (first_text paper run.given) run.wrote.0 run.wrote.1 why (numbered page_text (length run.given + 1) (done_pages r.press)) sent);
+        wrote = subst (λ text. WasStopped why o text) (sym (first_more paper run.given (done_pages r.press))) stopped;
       }
+
+  -- or were not
+  pub cut_written : (b m a : Option (List ℕ)) (n k l : ℕ) (r : Running) (why : Status) → IsUnderway defaults plan paper how tunes rest (stream b m n k) r
+      → WasStopped why (stream m a k l) (numbered page_text (r.writer.pages + 1) (done_pages r.press)) → AreCutOff defaults plan paper how tunes (stream b a n l) why
+  cut_written b m a n k l r why way stopped =
+      let run = way.running in
+      let sent = subst (λ j. WasStopped why (stream m a k l) (numbered page_text (j + 1) (done_pages r.press))) run.running.count stopped in
+      cut_by (stream b m n k) (stream b a n l) r why way
+      (stopped_behind b m a n k l (first_text paper run.given) run.wrote.0 run.wrote.1 why (numbered page_text (length run.given + 1) (done_pages r.press)) sent)
 
   -- a batch was set
   pub underway_more : (batch later : List TuneText) (n : ℕ) (o : Stream) (r s : Running) → batch ≡ take n rest → later ≡ drop n rest → AreTaken defaults plan paper how batch r s → IsOpen s.press
@@ -162,20 +165,8 @@ module _ (defaults : Defaults) (plan : Plan) (paper : Paper) (how : How) (tunes 
       }
 
   -- or was not, for want of memory
-  pub cut_memory : (o : Stream) (r : Running) (why : Status) → why ≡ status.Memory → IsUnderway defaults plan paper how tunes rest o r → AreCutOff defaults plan paper how tunes o why
+  pub cut_memory : (o : Stream) (r : Running) (why : Status) → why ≡ Status.Memory → IsUnderway defaults plan paper how tunes rest o r → AreCutOff defaults plan paper how tunes o why
   cut_memory o r why is way =
       let run = way.running in
-      record {
-        before = way.before;
-        rest = rest;
-        whole = way.whole;
-        outcomes = run.outcomes;
-        set = run.set;
-        given = run.given;
-        press = r.press;
-        pressed = run.running.pressed;
-        free = run.free;
-        wrote = subst (λ s. WasStopped s o (first_text paper (run.given ++ done_pages r.press))) (sym is)
-            (subst (λ text. WasStopped status.Memory o text) (sym (first_more paper run.given (done_pages r.press)))
-            (memory_behind o (first_text paper run.given) (numbered page_text (length run.given + 1) (done_pages r.press)) run.wrote));
-      }
+      let pages = numbered page_text (length run.given + 1) (done_pages r.press) in
+      cut_by o o r why way (subst (λ s. WasStopped s o (first_text paper run.given ++ pages)) (sym is) (memory_behind o (first_text paper run.given) pages run.wrote))

@@ -6,11 +6,9 @@ use Rattle.abc_lines.specs.Books.{book_of}
 use Rattle.gen_book.specs.Book.{book}
 use Rattle.set_tune.specs.declared.how.How.{How}
 use Rattle.set_book.specs.declared.outcome.Outcome.{Outcome}
-use Rattle.set_pages.specs.Sheet.{IsPlan, IsSetUnder, sheet_of}
-use Rattle.set_pages.proofs.Readying.{book_counted, set_outcomes}
+use Rattle.set_pages.{specs.Sheet.IsPlan, specs.Sheet.IsSetUnder, specs.Sheet.sheet_of, proofs.Readying.book_counted, proofs.Readying.set_outcomes}
 use Rattle.set_lists.specs.{Laws.ListsTheBook, Trials.trial_text}
-use Rattle.abcps.specs.Books.{AreSet, CallsSystems, IsListedBy, IsTried, Tries, paper_in, systems_by, systems_called, trial_of}
-use Rattle.abcps.specs.Called.{Called}
+use Rattle.abcps.specs.{Books.AreSet, Books.CallsSystems, Books.IsListedBy, Books.IsTried, Books.Tries, Books.paper_in, Books.systems_by, Books.systems_called, Books.trial_of, Called.Called}
 
 -- the tunes of a book are set on its paper
 pub set_under : (how : How) (text : List ℕ) (paper : Paper) (outcomes : List Outcome) → paper ≡ paper_in text → AreSet how text outcomes → All (IsSetUnder paper) outcomes

@@ -1,30 +1,20 @@
 -- A book whose document was written, and one whose document was not written to its end.
 use Rattle.std.proofs.Common.{◌≡◌, refl, sym, ap, ◌∙◌, subst, ◌⊎◌, inl, inr, ℕ, ◌<◌, Bool, true, false, List, [], ◌∷◌, ◌++◌, length, take, drop, arith, Option}
-use Rattle.std.proofs.lemmas.List.{append-nil, append_assoc, length-append, take-append-drop}
-use Rattle.std.proofs.Math.Seq.{take-append_seam}
-use Rattle.std.specs.Prelude.{Result, Ok, Err}
+use Rattle.std.{proofs.lemmas.List.append-nil, proofs.lemmas.List.append_assoc, proofs.lemmas.List.length-append, proofs.lemmas.List.take-append-drop, proofs.Math.Seq.take-append_seam, specs.Prelude.Result, specs.Prelude.Ok, specs.Prelude.Err}
 use Rattle.abc_lines.specs.{declared.book.Book.Book, declared.book.TuneText.TuneText, Books.book_of}
-use Rattle.abc_header.specs.{declared.defaults.Defaults.Defaults, declared.paper.Paper.Paper, Defaults.defaults_of}
-use Rattle.abc_header.specs.Papers.{IsGoodPaper, height_of, paper_of}
+use Rattle.abc_header.specs.{declared.defaults.Defaults.Defaults, declared.paper.Paper.Paper, Defaults.defaults_of, Papers.IsGoodPaper, Papers.height_of, Papers.paper_of}
 use Rattle.ps_text.specs.{Document.document, declared.sheet.Page.Page}
 use Rattle.set_tune.specs.declared.how.How.{How}
-use Rattle.set_book.specs.{declared.outcome.Outcome.Outcome, Outcomes.AreOutcomes, Outcomes.IsOutcome}
-use Rattle.set_book.proofs.Once.{outcomes_once}
+use Rattle.set_book.{specs.declared.outcome.Outcome.Outcome, specs.Outcomes.AreOutcomes, specs.Outcomes.IsOutcome, proofs.Once.outcomes_once}
 use Rattle.set_lists.specs.Reports.{some_fault}
-use Rattle.set_pages.specs.{declared.plan.Plan.Plan, Drawings.all_blocks, Drawings.all_drawings, Press.HasRoom, Press.IsOpen, Press.IsPressed, Press.RisesBy, Press.done_pages}
 use Rattle.set_pages.specs.Sheet.{IsPlan, all_spots, frame_of, sheet_of}
-use Rattle.set_pages.specs.declared.plan.Plan.TheVariants as plans
-use Rattle.set_pages.specs.declared.press.Press.{Press}
-use Rattle.set_pages.proofs.{Fronts.IsFront, Fronts.done_first, Fronts.done_front, Whole.one_plan, Whole.plan_rises, Whole.plan_stands, Whole.room_by, Whole.sheet_whole, Whole.stand_count}
-use Rattle.set_pages.proofs.Zips.{zip_back, zip_front}
-use Rattle.abcps.specs.{Called.Called, Books.AreSet, Books.CallsPages, Books.pages_called, Books.paper_in}
-use Rattle.abcps.specs.Outcome.{HasFront, IsAnswer, IsCutShort, IsEnd, IsQuiet, Stream, TookAll, TookFront}
+use Rattle.set_pages.{specs.declared.plan.Plan.Plan, specs.Drawings.all_blocks, specs.Drawings.all_drawings, specs.Press.HasRoom, specs.Press.IsOpen, specs.Press.IsPressed, specs.Press.RisesBy, specs.Press.done_pages, specs.declared.press.Press.Press, proofs.Fronts.IsFront, proofs.Fronts.done_first}
+use Rattle.set_pages.proofs.{Fronts.done_front, Whole.one_plan, Whole.plan_rises, Whole.plan_stands, Whole.room_by, Whole.sheet_whole, Whole.stand_count, Zips.zip_back, Zips.zip_front}
 use Rattle.abcps.specs.Pressed.{AreCutOff, AreRunning, IsClosed, IsPlanned, IsPrinted, IsUnprinted, WasCounted, WasStopped, all_set, first_text, rest_text, some_left, status_if, unbegun}
-use Rattle.abcps.specs.{declared.pressing.Printed.Printed, declared.pressing.Running.Running, declared.status.Status.Status}
-use Rattle.abcps.specs.declared.status.Status.TheVariants as status
-use Rattle.abcps_words.specs.declared.command.Command.TheVariants as command
-use Rattle.abcps.proofs.{Answered.answer_by, Answered.answered_end, Batches.IsUnderway, BookCalls.set_under}
 use Rattle.abcps.proofs.Sent.{document_parts, front_longer, stopped_behind, stopped_count, stopped_front, stopped_longer, stream, took_behind}
+use Rattle.abcps.specs.{Called.Called, Books.AreSet, Books.CallsPages, Books.pages_called, Books.paper_in, Outcome.HasFront, Outcome.IsAnswer, Outcome.IsCutShort, Outcome.IsEnd, Outcome.IsQuiet, Outcome.Stream, Outcome.TookAll, Outcome.TookFront, declared.pressing.Printed.Printed}
+use Rattle.abcps.{specs.declared.pressing.Running.Running, specs.declared.status.Status.Status, proofs.Answered.answer_by, proofs.Answered.answered_end, proofs.Batches.IsUnderway, proofs.BookCalls.set_under}
+use Rattle.abcps_words.specs.declared.command.Command.{Command}
 
 -- pages that were given up are the first of a sheet, and so is their text of its document
 frame_same : (plan : Plan) (paper : Paper) (outcomes : List Outcome) → (sheet_of plan paper outcomes).frame ≡ frame_of paper
@@ -144,7 +134,7 @@ module _ (how : How) (even : Bool) (text : List ℕ) (plan : Plan) (o : Stream) 
       subst (λ l. HasFront o l) (ap (λ p. document (sheet_of p (paper_in text) calls.outcomes)) (sym same) ∙ ap document (sym calls.whole) ∙ calls.read.spelled)
       (text_front plan (paper_in text) calls.outcomes given o front (stopped_front why o (first_text (paper_in text) given) cut.wrote))
 
-  first_filled : even ≡ false → HasFront o (document (sheet_of plans.Filled (paper_in text) cut.outcomes))
+  first_filled : even ≡ false → HasFront o (document (sheet_of Plan.Filled (paper_in text) cut.outcomes))
   first_filled e =
       subst (λ p. HasFront o (document (sheet_of p (paper_in text) cut.outcomes)))
       (subst (λ b. IsPlanned b (defaults_of (book_of text).header) (paper_in text) how (book_of text).tunes plan) e planned)
@@ -216,27 +206,27 @@ status_end true = tt
 status_end false = tt
 
 pub answer_printed : (how : How) (even : Bool) (jobs : ℕ) (text : List ℕ) (o e : Stream) (s with : Status) (told : List ℕ) (called : Called) → CallsPages how even text called → told ≡ called.told → with ≡ called.status
-    → TookAll o called.page → ((s ≡ with) × TookAll e told) ⊎ ((s ≡ status.WriteFault) × TookFront e told) → IsAnswer (command.Set how.flow jobs how.by even) s text o e
+    → TookAll o called.page → ((s ≡ with) × TookAll e told) ⊎ ((s ≡ Status.WriteFault) × TookFront e told) → IsAnswer (Command.Set how.flow jobs how.by even) s text o e
 answer_printed how even jobs text o e s with told called calls tells ends page (inl end) =
-    answer_by (command.Set how.flow jobs how.by even) text called calls o e s
+    answer_by (Command.Set how.flow jobs how.by even) text called calls o e s
     (answered_end called o e s (subst IsEnd (sym calls.status) (status_end (some_fault calls.outcomes))) page (inl (end.0 ∙ ends, subst (λ t. TookAll e t) tells end.1)))
 answer_printed how even jobs text o e s with told called calls tells ends page (inr cut) =
-    answer_by (command.Set how.flow jobs how.by even) text called calls o e s
+    answer_by (Command.Set how.flow jobs how.by even) text called calls o e s
     (answered_end called o e s (subst IsEnd (sym calls.status) (status_end (some_fault calls.outcomes))) page (inr (cut.0, subst (λ t. TookFront e t) tells cut.1)))
 
 -- what it answers where its document was not written to its end
 module _ (how : How) (even : Bool) (jobs : ℕ) (text : List ℕ) (o e : Stream) (quiet : IsQuiet e) where
-  answer_all : (why : Status) (called : Called) → CallsPages how even text called → WasStopped why o called.page → IsAnswer (command.Set how.flow jobs how.by even) why text o e
-  answer_all status.WriteFault called calls stopped = inl (called, calls, inl (stopped, quiet))
-  answer_all status.Memory called calls stopped = (quiet, inr (inl (called, calls, stopped)))
+  answer_all : (why : Status) (called : Called) → CallsPages how even text called → WasStopped why o called.page → IsAnswer (Command.Set how.flow jobs how.by even) why text o e
+  answer_all Status.WriteFault called calls stopped = inl (called, calls, inl (stopped, quiet))
+  answer_all Status.Memory called calls stopped = (quiet, inr (inl (called, calls, stopped)))
   answer_all why called calls stopped = absurd stopped
 
-  answer_some : (why : Status) → IsCutShort how even text o → WasCounted why o → IsAnswer (command.Set how.flow jobs how.by even) why text o e
-  answer_some status.WriteFault cut counted = inr (cut, counted, quiet)
-  answer_some status.Memory cut counted = (quiet, inr (inr (cut, counted)))
+  answer_some : (why : Status) → IsCutShort how even text o → WasCounted why o → IsAnswer (Command.Set how.flow jobs how.by even) why text o e
+  answer_some Status.WriteFault cut counted = inr (cut, counted, quiet)
+  answer_some Status.Memory cut counted = (quiet, inr (inr (cut, counted)))
   answer_some why cut counted = absurd counted
 
-  pub answer_unprinted : (why : Status) → IsUnprinted how even text o why → IsAnswer (command.Set how.flow jobs how.by even) why text o e
-  answer_unprinted why (unbegun is none) = subst (λ s. IsAnswer (command.Set how.flow jobs how.by even) s text o e) (sym is) (quiet, inl none)
+  pub answer_unprinted : (why : Status) → IsUnprinted how even text o why → IsAnswer (Command.Set how.flow jobs how.by even) why text o e
+  answer_unprinted why (unbegun is none) = subst (λ s. IsAnswer (Command.Set how.flow jobs how.by even) s text o e) (sym is) (quiet, inl none)
   answer_unprinted why (all_set called calls stopped) = answer_all why called calls stopped
   answer_unprinted why (some_left cut counted) = answer_some why cut counted

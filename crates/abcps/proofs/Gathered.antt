@@ -1,16 +1,13 @@
 -- The blocks of tunes that are set a batch at a time are those of all their outcomes, and have a plan.
-use Rattle.std.proofs.Common.{◌≡◌, refl, sym, ap, ◌∙◌, subst, ◌≤◌, ◌==◌, Bool, true, false, List, [], ◌∷◌, ◌++◌, append_assoc, length, take, drop, ℕ, arith}
-use Rattle.std.proofs.{lemmas.Bool.Decides.nat_tests, lemmas.List.append-nil, lemmas.List.take-append-drop}
-use Rattle.std.specs.Prelude.{All}
+use Rattle.std.proofs.Common.{◌≡◌, refl, sym, ap, ◌∙◌, subst, ◌==◌, Bool, true, false, List, [], ◌∷◌, ◌++◌, append_assoc, length, take, drop, ℕ, arith}
+use Rattle.std.{proofs.lemmas.Bool.Decides.nat_tests, proofs.lemmas.List.append-nil, proofs.lemmas.List.take-append-drop, specs.Prelude.All}
 use Rattle.abc_lines.specs.declared.book.TuneText.{TuneText}
-use Rattle.abc_header.specs.{declared.defaults.Defaults.Defaults, declared.paper.Paper.Paper}
+use Rattle.abc_header.specs.declared.{defaults.Defaults.Defaults, paper.Paper.Paper}
 use Rattle.lay_pages.specs.{declared.filling.Block.Block, Filling.AreGoodBlocks}
 use Rattle.set_tune.specs.declared.how.How.{How}
 use Rattle.set_book.specs.{declared.outcome.Outcome.Outcome, Outcomes.AreOutcomes, Outcomes.IsOutcome}
-use Rattle.set_pages.specs.{declared.plan.Plan.Plan, Drawings.all_blocks, Press.AreBlocksOn, Sheet.IsPlan}
-use Rattle.set_pages.proofs.{Joined.blocks_append, Joined.zip_append, Readying.set_outcomes}
-use Rattle.abcps.specs.Pressed.{AreGathered, IsPlanned}
-use Rattle.abcps.proofs.Batches.{IsCounted}
+use Rattle.set_pages.{specs.declared.plan.Plan.Plan, specs.Drawings.all_blocks, specs.Press.AreBlocksOn, specs.Sheet.IsPlan, proofs.Joined.blocks_append, proofs.Joined.zip_append, proofs.Readying.set_outcomes}
+use Rattle.abcps.{specs.Pressed.AreGathered, specs.Pressed.IsPlanned, proofs.Batches.IsCounted}
 
 -- the blocks of a batch behind those of the tunes before it
 pub gathered_more : (defaults : Defaults) (paper : Paper) (how : How) (before batch : List TuneText) (outcomes at : List Outcome) (old new : List Block) → at ≡ outcomes → AreOutcomes defaults paper how batch outcomes

@@ -3,28 +3,21 @@ use Rattle.std.proofs.Common.{◌≡◌, ◌∙◌, refl, sym, ap, subst, ℕ, L
 use Rattle.abc_lines.specs.Books.{book_of}
 use Rattle.abc_header.specs.{declared.paper.Paper.Paper, Defaults.defaults_of}
 use Rattle.gen_book.specs.Book.{book}
-use Rattle.lay_breaks.specs.{Breaking.sum_from, Spans.listed}
-use Rattle.lay_breaks.proofs.Unique.{one_is_chosen}
-use Rattle.lay_cert.specs.{Answers.IsJudged, Listing.Entry, Listing.none_forced, Verdicts.IsVerdict, Verdicts.AreVerdicts}
-use Rattle.lay_cert.specs.{declared.check.Judged.Judged, declared.check.Verdict.Verdict}
-use Rattle.lay_cert.specs.declared.check.Verdict.TheVariants.{Least, NotLeast}
+use Rattle.lay_breaks.{specs.Breaking.sum_from, specs.Spans.listed, proofs.Unique.one_is_chosen}
+use Rattle.lay_cert.specs.{Answers.IsJudged, Listing.Entry, Listing.none_forced, Verdicts.IsVerdict, Verdicts.AreVerdicts, declared.check.Judged.Judged, declared.check.Verdict.Verdict, declared.check.Verdict.TheVariants.Least, declared.check.Verdict.TheVariants.NotLeast}
 use Rattle.lay_cert.proofs.Alone.{tells_one}
 use Rattle.paint_text.specs.PaintText.{paint_text}
+use Rattle.sheet_text.specs.SheetText.{sheet_report}
 use Rattle.ps_machine.specs.OneAnswer.{HasOneAnswer}
 use Rattle.ps_heard.specs.HeardText.{heard_text}
 use Rattle.ps_text.specs.{Document.document, declared.sheet.Sheet.Sheet}
 use Rattle.set_tune.specs.{declared.how.How.How, How.how_of, How.unmoved}
 use Rattle.set_book.specs.{declared.outcome.Outcome.Outcome, Once.HaveOneOutcome}
-use Rattle.set_pages.specs.{declared.plan.Plan.Plan, Sheet.IsPlan, Sheet.sheet_of}
-use Rattle.set_pages.proofs.Whole.{one_plan}
+use Rattle.set_pages.{specs.declared.plan.Plan.Plan, specs.Sheet.IsPlan, specs.Sheet.sheet_of, proofs.Whole.one_plan}
 use Rattle.set_lists.specs.{Reports.reports, Trials.trial_text}
 use Rattle.abcps_words.specs.declared.command.Command.{Command}
-use Rattle.abcps_words.specs.declared.command.Command.TheVariants as command
-use Rattle.abcps.specs.{declared.status.Status.Status, Called.Called, Called.IsQuietly}
-use Rattle.abcps.specs.Books.{AreSet, CallsPages, CallsSystems, Tries, paper_in, status_of, systems_by, trial_of}
 use Rattle.abcps.specs.Calls.{Calls, CallsOne, IsPainted, Judges, NeverBoth, Shows, budget_of, by_one_job, status_by, verdicts_text}
-use Rattle.abcps.specs.Outputs.{sheet_report}
-use Rattle.abcps.specs.declared.refusing.Refusal.TheVariants as refusals
+use Rattle.abcps.specs.{declared.status.Status.Status, Called.Called, Called.IsQuietly, Books.AreSet, Books.CallsPages, Books.CallsSystems, Books.Tries, Books.paper_in, Books.status_of, Books.systems_by, Books.trial_of, declared.refusing.Refusal.Refusal}
 
 abbrev called_of : List ℕ → List ℕ → Status → Called
 called_of page told status = record { page = page; told = told; status = status }
@@ -126,18 +119,18 @@ painted_once alone text c d a b = quiet_called c d (a.page ∙ ap paint_text (al
 
 -- a command calls for one answer
 called_once : HaveOneOutcome → HasOneAnswer → (c : Command) (text : List ℕ) (called other : Called) → Calls c text called → Calls c text other → called ≡ other
-called_once one alone (command.Set flow jobs by even) text called other a b = pages_once one (how_of flow by) even text called other a b
-called_once one alone (command.Systems flow table by) text called other a b = systems_once one (how_of flow by) table text called other a b
-called_once one alone command.Inspect text called other a b = sheet_once sheet_report text called other a b
-called_once one alone command.Check text called other a b = verdicts_once text called other a b
-called_once one alone (command.Make tunes) text called other a b = quiet_called called other (a.page ∙ sym b.page) a.quietly b.quietly
-called_once one alone (command.Trial tunes flow jobs even) text called other a b = trial_once one tunes (unmoved flow) even called other a b
-called_once one alone command.Paint text called other a b = painted_once alone text called other a b
-called_once one alone (command.Hear spread) text called other a b = sheet_once (heard_text spread) text called other a b
+called_once one alone (Command.Set flow jobs by even) text called other a b = pages_once one (how_of flow by) even text called other a b
+called_once one alone (Command.Systems flow table by) text called other a b = systems_once one (how_of flow by) table text called other a b
+called_once one alone Command.Inspect text called other a b = sheet_once sheet_report text called other a b
+called_once one alone Command.Check text called other a b = verdicts_once text called other a b
+called_once one alone (Command.Make tunes) text called other a b = quiet_called called other (a.page ∙ sym b.page) a.quietly b.quietly
+called_once one alone (Command.Trial tunes flow jobs even) text called other a b = trial_once one tunes (unmoved flow) even called other a b
+called_once one alone Command.Paint text called other a b = painted_once alone text called other a b
+called_once one alone (Command.Hear spread) text called other a b = sheet_once (heard_text spread) text called other a b
 
 -- what is called for doesn't hang on jobs
 by_one : (c : Command) (text : List ℕ) (called : Called) → Calls c text called → Calls (by_one_job c) text called
-by_one (command.Set flow jobs by even) text called a = a
+by_one (Command.Set flow jobs by even) text called a = a
 by_one c text called a = a
 
 -- commands that differ in nothing but jobs call for one answer
@@ -147,9 +140,9 @@ calls_one one alone c d text called other same a b =
 
 -- an input that is refused calls for nothing
 pub never_both : HasOneAnswer → NeverBoth
-never_both alone command.Inspect text called (refusals.NotPages line) calls refuses = refuses.unspelled calls.sheet calls.read.spells
-never_both alone (command.Hear spread) text called (refusals.NotPages line) calls refuses = refuses.unspelled calls.sheet calls.read.spells
-never_both alone command.Check text called (refusals.NotPages line) calls refuses = refuses.unspelled calls.verdicts.0 calls.verdicts.1
-never_both alone command.Paint text called (refusals.Halted token cause) calls refuses =
+never_both alone Command.Inspect text called (Refusal.NotPages line) calls refuses = refuses.unspelled calls.sheet calls.read.spells
+never_both alone (Command.Hear spread) text called (Refusal.NotPages line) calls refuses = refuses.unspelled calls.sheet calls.read.spells
+never_both alone Command.Check text called (Refusal.NotPages line) calls refuses = refuses.unspelled calls.verdicts.0 calls.verdicts.1
+never_both alone Command.Paint text called (Refusal.Halted token cause) calls refuses =
     alone.either text (budget_of text) calls.pages token cause calls.paints refuses
 never_both alone c text called refusal calls refuses = absurd refuses

@@ -2,13 +2,8 @@
 use Rattle.std.proofs.Common.{◌≡◌, refl, sym, ◌∙◌, ap, subst, ◌⊎◌, inl, inr, ℕ, ◌≤◌, List, ◌++◌, length, length-append, append-nil, Option, Some, None, arith}
 use Rattle.std.specs.Io.KnownBytes.{Consumes, IsAtEnd}
 use Rattle.abcps_words.specs.{Command.Asks, Command.AsksOne, Command.IsListed, Command.limit_of, declared.command.Command.Command}
-use Rattle.abcps_words.specs.declared.command.Command.TheVariants as command
-use Rattle.abcps.specs.{Called.Called, Calls.Calls, Calls.CallsOne, Calls.NeverBoth, Calls.Refuses, Refusals.IsRefusal}
-use Rattle.abcps.specs.declared.refusing.Refusal.{Refusal}
-use Rattle.abcps.specs.Outcome.{HasFailed, HasPart, Stream, IsObeyed, IsQuiet, IsRead, IsReader, IsRun, ReadAll, ReadTooMuch, TookAll, WasCut, WasRefused}
-use Rattle.abcps.specs.Promises.{IsDone, IsGiven, IsRefused, IsToldTo, IsWhole, NoFault, Promises}
-use Rattle.abcps.specs.declared.status.Status.{Status}
-use Rattle.abcps.specs.declared.status.Status.TheVariants as status
+use Rattle.abcps.specs.{Called.Called, Calls.Calls, Calls.CallsOne, Calls.NeverBoth, Calls.Refuses, Refusals.IsRefusal, declared.refusing.Refusal.Refusal, Outcome.HasFailed, Outcome.HasPart, Outcome.Stream, Outcome.IsObeyed, Outcome.IsQuiet, Outcome.IsRead, Outcome.IsReader, Outcome.IsRun}
+use Rattle.abcps.specs.{Outcome.ReadAll, Outcome.ReadTooMuch, Outcome.TookAll, Outcome.WasCut, Outcome.WasRefused, Promises.IsDone, Promises.IsGiven, Promises.IsRefused, Promises.IsToldTo, Promises.IsWhole, Promises.NoFault, Promises.Promises, declared.status.Status.Status}
 
 -- a source that told its bytes was read to its end: they are the text
 whole_read : (before after : Option (List ℕ)) (told text : List ℕ) → before ≡ Some told → Consumes before after text → IsAtEnd after → text ≡ told
@@ -29,17 +24,9 @@ taken_short (Some xs) (Some ys) told text e taken =
     omega arith
 
 module _ (alone : CallsOne) (either : NeverBoth) (words : List (List ℕ)) (i o e : Stream) where
-  usage_by : (s : Status) → IsRun s words i o e → (IsListed words → ⊥) → s ≡ status.Usage
-  usage_by status.Usage run not = refl
-  usage_by status.Done run not = absurd (not (run.0, run.1))
-  usage_by status.SomeRefused run not = absurd (not (run.0, run.1))
-  usage_by status.ReadFault run not = absurd (not (run.0, run.1))
-  usage_by status.WriteFault run not = absurd (not (run.0, run.1))
-  usage_by status.Memory run not = absurd (not (run.0, run.1))
-  usage_by status.NotPages run not = absurd (not (run.0, run.1))
-  usage_by status.TooLong run not = absurd (not (run.0, run.1))
-  usage_by status.NotLeast run not = absurd (not (run.0, run.1))
-  usage_by status.Halted run not = absurd (not (run.0, run.1))
+  usage_by : (s : Status) → IsRun s words i o e → (IsListed words → ⊥) → s ≡ Status.Usage
+  usage_by Status.Usage run not = refl
+  usage_by s run not = absurd (not (run.0, run.1))
 
   -- what is answered where both texts are written
   done_with : (c : Command) (text : List ℕ) (s : Status) → (called : Called) → Calls c text called → s ≡ called.status → TookAll o called.page → TookAll e called.told
@@ -54,31 +41,25 @@ module _ (alone : CallsOne) (either : NeverBoth) (words : List (List ℕ)) (i o 
     told = told;
   }
 
-  done_by : (s : Status) → IsRun s words i o e → (s ≡ status.Usage → ⊥) → (s ≡ status.ReadFault → ⊥) → (s ≡ status.TooLong → ⊥) → (IsRefusal s → ⊥)
-      → (s ≡ status.WriteFault → ⊥) → (s ≡ status.Memory → ⊥) → (c : Command) × (text : List ℕ) × IsWhole c words i text × IsDone c s text o e
-  done_by status.Usage run a b c d f g = absurd (a refl)
-  done_by status.ReadFault run a b c d f g = absurd (b refl)
-  done_by status.TooLong run a b c d f g = absurd (c refl)
-  done_by status.NotPages run a b c d f g = absurd (d tt)
-  done_by status.Halted run a b c d f g = absurd (d tt)
-  done_by status.WriteFault run a b c d f g = absurd (f refl)
-  done_by status.Memory run a b c d f g = absurd (g refl)
-  done_by status.Done run a b c d f g =
+  done_by : (s : Status) → IsRun s words i o e → (s ≡ Status.Usage → ⊥) → (s ≡ Status.ReadFault → ⊥) → (s ≡ Status.TooLong → ⊥) → (IsRefusal s → ⊥)
+      → (s ≡ Status.WriteFault → ⊥) → (s ≡ Status.Memory → ⊥) → (c : Command) × (text : List ℕ) × IsWhole c words i text × IsDone c s text o e
+  done_by Status.Usage run a b c d f g = absurd (a refl)
+  done_by Status.ReadFault run a b c d f g = absurd (b refl)
+  done_by Status.TooLong run a b c d f g = absurd (c refl)
+  done_by Status.NotPages run a b c d f g = absurd (d tt)
+  done_by Status.Halted run a b c d f g = absurd (d tt)
+  done_by Status.WriteFault run a b c d f g = absurd (f refl)
+  done_by Status.Memory run a b c d f g = absurd (g refl)
+  done_by s run a b c d f g =
       let r = run.2.2 in
-      (run.0, run.2.0, record { asked = run.1; read = run.2.1 }, done_with run.0 run.2.0 status.Done r.0 r.1 r.2 r.3 r.4)
-  done_by status.SomeRefused run a b c d f g =
-      let r = run.2.2 in
-      (run.0, run.2.0, record { asked = run.1; read = run.2.1 }, done_with run.0 run.2.0 status.SomeRefused r.0 r.1 r.2 r.3 r.4)
-  done_by status.NotLeast run a b c d f g =
-      let r = run.2.2 in
-      (run.0, run.2.0, record { asked = run.1; read = run.2.1 }, done_with run.0 run.2.0 status.NotLeast r.0 r.1 r.2 r.3 r.4)
+      (run.0, run.2.0, record { asked = run.1; read = run.2.1 }, done_with run.0 run.2.0 s r.0 r.1 r.2 r.3 r.4)
 
   memory_part : (c : Command) → Asks words c → (IsQuiet o ⊎ ((text : List ℕ) × IsRead c i text × HasPart c text o))
       → IsQuiet o ⊎ ((c : Command) × (text : List ℕ) × IsWhole c words i text × HasPart c text o)
   memory_part c asked (inl none) = inl none
   memory_part c asked (inr part) = inr (c, part.0, record { asked = asked; read = part.1 }, part.2)
 
-  memory_by : IsRun status.Memory words i o e → IsQuiet e × (IsQuiet o ⊎ ((c : Command) × (text : List ℕ) × IsWhole c words i text × HasPart c text o))
+  memory_by : IsRun Status.Memory words i o e → IsQuiet e × (IsQuiet o ⊎ ((c : Command) × (text : List ℕ) × IsWhole c words i text × HasPart c text o))
   memory_by run = (run.2.0, memory_part run.0 run.1 run.2.1)
 
   -- the text that a command read is the one that the input told
@@ -87,18 +68,18 @@ module _ (alone : CallsOne) (either : NeverBoth) (words : List (List ℕ)) (i o 
 
   -- a command reads its input, or none
   reads_or_not : (c : Command) → IsReader c ⊎ (IsReader c → ⊥)
-  reads_or_not (command.Make tunes) = inr (λ reads. reads)
-  reads_or_not (command.Trial tunes flow jobs even) = inr (λ reads. reads)
+  reads_or_not (Command.Make tunes) = inr (λ reads. reads)
+  reads_or_not (Command.Trial tunes flow jobs even) = inr (λ reads. reads)
   reads_or_not c = inl tt
 
   told_reader : (c : Command) (told : List ℕ) → IsReader c → IsToldTo c i told → (i.before ≡ Some told) × (length told ≤ limit_of c)
-  told_reader (command.Make tunes) told reads is = absurd reads
-  told_reader (command.Trial tunes flow jobs even) told reads is = absurd reads
+  told_reader (Command.Make tunes) told reads is = absurd reads
+  told_reader (Command.Trial tunes flow jobs even) told reads is = absurd reads
   told_reader c told reads is = is
 
   read_reader : (c : Command) (text : List ℕ) → IsReader c → IsRead c i text → ReadAll (limit_of c) i text
-  read_reader (command.Make tunes) text reads read = absurd reads
-  read_reader (command.Trial tunes flow jobs even) text reads read = absurd reads
+  read_reader (Command.Make tunes) text reads read = absurd reads
+  read_reader (Command.Trial tunes flow jobs even) text reads read = absurd reads
   read_reader c text reads read = read
 
   read_told : (c : Command) (told text : List ℕ) → IsReader c → IsToldTo c i told → IsRead c i text → text ≡ told
@@ -106,8 +87,8 @@ module _ (alone : CallsOne) (either : NeverBoth) (words : List (List ℕ)) (i o 
 
   -- a command that reads nothing calls for the same of any text
   unread_calls : (c : Command) (told text : List ℕ) (called : Called) → (IsReader c → ⊥) → Calls c text called → Calls c told called
-  unread_calls (command.Make tunes) told text called not calls = calls
-  unread_calls (command.Trial tunes flow jobs even) told text called not calls = calls
+  unread_calls (Command.Make tunes) told text called not calls = calls
+  unread_calls (Command.Trial tunes flow jobs even) told text called not calls = calls
   unread_calls c told text called not calls = absurd (not tt)
 
   calls_told : (c : Command) (told text : List ℕ) (called : Called) → IsToldTo c i told → IsRead c i text → Calls c text called → Calls c told called
@@ -135,10 +116,10 @@ module _ (alone : CallsOne) (either : NeverBoth) (words : List (List ℕ)) (i o 
 
   -- a command that refuses its input reads it
   refused_reads : (c : Command) (text : List ℕ) (refusal : Refusal) → Refuses c text refusal → IsReader c
-  refused_reads command.Inspect text refusal refuses = tt
-  refused_reads command.Check text refusal refuses = tt
-  refused_reads (command.Hear spread) text refusal refuses = tt
-  refused_reads command.Paint text refusal refuses = tt
+  refused_reads Command.Inspect text refusal refuses = tt
+  refused_reads Command.Check text refusal refuses = tt
+  refused_reads (Command.Hear spread) text refusal refuses = tt
+  refused_reads Command.Paint text refusal refuses = tt
   refused_reads c text refusal refuses = absurd refuses
 
   refused_told : (c : Command) (told : List ℕ) (s : Status) → IsToldTo c i told → (text : List ℕ) → IsRead c i text → WasRefused c s text o e → IsRefused c s told o e
@@ -146,10 +127,10 @@ module _ (alone : CallsOne) (either : NeverBoth) (words : List (List ℕ)) (i o 
       refused_with c told s (r.0, subst (λ t. Refuses c t r.0) (read_told c told text (refused_reads c text r.0 r.1) is read) r.1, r.2, r.3, r.4)
 
   refused_by : (s : Status) → IsRun s words i o e → IsRefusal s → (c : Command) × (text : List ℕ) × IsWhole c words i text × IsRefused c s text o e
-  refused_by status.NotPages run is =
-      (run.0, run.2.0, record { asked = run.1; read = run.2.1 }, refused_with run.0 run.2.0 status.NotPages run.2.2)
-  refused_by status.Halted run is =
-      (run.0, run.2.0, record { asked = run.1; read = run.2.1 }, refused_with run.0 run.2.0 status.Halted run.2.2)
+  refused_by Status.NotPages run is =
+      (run.0, run.2.0, record { asked = run.1; read = run.2.1 }, refused_with run.0 run.2.0 Status.NotPages run.2.2)
+  refused_by Status.Halted run is =
+      (run.0, run.2.0, record { asked = run.1; read = run.2.1 }, refused_with run.0 run.2.0 Status.Halted run.2.2)
   refused_by s run is = absurd is
 
   too_long : (most : ℕ) (told text : List ℕ) → (i.before ≡ Some told) × (length told ≤ most) → ReadTooMuch most i text → ⊥
@@ -169,33 +150,23 @@ module _ (alone : CallsOne) (either : NeverBoth) (words : List (List ℕ)) (i o 
   not_failed c text good (inr cut) = good.output cut.1
 
   -- a command was obeyed, no fault was counted, and memory was found
-  obeyed_as : (c : Command) (s : Status) → IsObeyed c s i o e → (told : List ℕ) → NoFault i o e → IsToldTo c i told → (s ≡ status.Memory → ⊥) → (s ≡ status.Usage → ⊥)
+  obeyed_as : (c : Command) (s : Status) → IsObeyed c s i o e → (told : List ℕ) → NoFault i o e → IsToldTo c i told → (s ≡ Status.Memory → ⊥) → (s ≡ Status.Usage → ⊥)
       → IsDone c s told o e ⊎ IsRefused c s told o e
-  obeyed_as c status.Usage r told good is ample listed = absurd (listed refl)
-  obeyed_as c status.ReadFault r told good is ample listed = absurd (good.input r.1)
-  obeyed_as c status.TooLong r told good is ample listed = absurd (not_too_long c told r.1.0 r.0 is r.1.1)
-  obeyed_as c status.Memory r told good is ample listed = absurd (ample refl)
-  obeyed_as c status.WriteFault (text, read, r) told good is ample listed = absurd (not_failed c text good r)
-  obeyed_as c status.NotPages (text, read, r) told good is ample listed = inr (refused_told c told status.NotPages is text read r)
-  obeyed_as c status.Halted (text, read, r) told good is ample listed = inr (refused_told c told status.Halted is text read r)
-  obeyed_as c status.Done (text, read, r) told good is ample listed = inl (done_told c told status.Done is text read r.0 r.1 r.2 r.3 r.4)
-  obeyed_as c status.SomeRefused (text, read, r) told good is ample listed = inl (done_told c told status.SomeRefused is text read r.0 r.1 r.2 r.3 r.4)
-  obeyed_as c status.NotLeast (text, read, r) told good is ample listed = inl (done_told c told status.NotLeast is text read r.0 r.1 r.2 r.3 r.4)
+  obeyed_as c Status.Usage r told good is ample listed = absurd (listed refl)
+  obeyed_as c Status.ReadFault r told good is ample listed = absurd (good.input r.1)
+  obeyed_as c Status.TooLong r told good is ample listed = absurd (not_too_long c told r.1.0 r.0 is r.1.1)
+  obeyed_as c Status.Memory r told good is ample listed = absurd (ample refl)
+  obeyed_as c Status.WriteFault (text, read, r) told good is ample listed = absurd (not_failed c text good r)
+  obeyed_as c Status.NotPages (text, read, r) told good is ample listed = inr (refused_told c told Status.NotPages is text read r)
+  obeyed_as c Status.Halted (text, read, r) told good is ample listed = inr (refused_told c told Status.Halted is text read r)
+  obeyed_as c s (text, read, r) told good is ample listed = inl (done_told c told s is text read r.0 r.1 r.2 r.3 r.4)
 
   -- what this command answered, where the words ask for it
-  obeyed : AsksOne → (d : Command) (s : Status) → IsRun s words i o e → Asks words d → (s ≡ status.Usage → ⊥) × IsObeyed d s i o e
-  obeyed one d status.Usage run asked = absurd (run.0 (d, asked))
-  obeyed one d status.Done run asked = (λ is. cc, subst (λ c. IsObeyed c status.Done i o e) (one words run.0 d run.1 asked) run.2)
-  obeyed one d status.SomeRefused run asked = (λ is. cc, subst (λ c. IsObeyed c status.SomeRefused i o e) (one words run.0 d run.1 asked) run.2)
-  obeyed one d status.ReadFault run asked = (λ is. cc, subst (λ c. IsObeyed c status.ReadFault i o e) (one words run.0 d run.1 asked) run.2)
-  obeyed one d status.WriteFault run asked = (λ is. cc, subst (λ c. IsObeyed c status.WriteFault i o e) (one words run.0 d run.1 asked) run.2)
-  obeyed one d status.Memory run asked = (λ is. cc, subst (λ c. IsObeyed c status.Memory i o e) (one words run.0 d run.1 asked) run.2)
-  obeyed one d status.NotPages run asked = (λ is. cc, subst (λ c. IsObeyed c status.NotPages i o e) (one words run.0 d run.1 asked) run.2)
-  obeyed one d status.TooLong run asked = (λ is. cc, subst (λ c. IsObeyed c status.TooLong i o e) (one words run.0 d run.1 asked) run.2)
-  obeyed one d status.Halted run asked = (λ is. cc, subst (λ c. IsObeyed c status.Halted i o e) (one words run.0 d run.1 asked) run.2)
-  obeyed one d status.NotLeast run asked = (λ is. cc, subst (λ c. IsObeyed c status.NotLeast i o e) (one words run.0 d run.1 asked) run.2)
+  obeyed : AsksOne → (d : Command) (s : Status) → IsRun s words i o e → Asks words d → (s ≡ Status.Usage → ⊥) × IsObeyed d s i o e
+  obeyed one d Status.Usage run asked = absurd (run.0 (d, asked))
+  obeyed one d s run asked = (λ is. cc, subst (λ c. IsObeyed c s i o e) (one words run.0 d run.1 asked) run.2)
 
-  answered_as : AsksOne → (s : Status) → IsRun s words i o e → (c : Command) (text : List ℕ) → IsGiven c words i o e text → (s ≡ status.Memory → ⊥)
+  answered_as : AsksOne → (s : Status) → IsRun s words i o e → (c : Command) (text : List ℕ) → IsGiven c words i o e text → (s ≡ Status.Memory → ⊥)
       → IsDone c s text o e ⊎ IsRefused c s text o e
   answered_as one s run c text given ample =
       let r = obeyed one c s run given.asked in

@@ -1,21 +1,13 @@
 -- What a sink took of texts that were given to it one after another, and how much of a document its first pages are.
 use Rattle.std.proofs.Common.{◌≡◌, refl, sym, ap, ◌∙◌, subst, ℕ, zero, suc, ◌+◌, ◌<◌, List, [], ◌∷◌, ◌++◌, length, take, drop, get_or, Option, Err, arith}
 use Rattle.std.proofs.lemmas.List.{append-nil, append_assoc, length-take-le, take-append-drop, take_more}
-use Rattle.std.proofs.Math.Seq.{drop-append_seam, take-append-add, take-append_seam}
-use Rattle.std.proofs.KnownBytes.{Appends-nil, Appends-trans}
-use Rattle.std.specs.Io.KnownBytes.{Appends}
+use Rattle.std.{proofs.Math.Seq.drop-append_seam, proofs.Math.Seq.take-append-add, proofs.Math.Seq.take-append_seam, proofs.KnownBytes.Appends-nil, proofs.KnownBytes.Appends-trans, specs.Io.KnownBytes.Appends}
 use Rattle.eng_io.specs.Causes.{Rose}
 use Rattle.abc_header.specs.declared.paper.Paper.{Paper}
-use Rattle.ps_text.specs.{Document.document, Document.numbered, Document.page_text, Document.trailer, Prolog.prolog, declared.sheet.Page.Page}
-use Rattle.ps_text.specs.declared.sheet.Sheet.{Sheet}
+use Rattle.ps_text.specs.{Document.document, Document.numbered, Document.page_text, Document.trailer, Prolog.prolog, declared.sheet.Page.Page, declared.sheet.Sheet.Sheet}
 use Rattle.ps_write.specs.{Written.Counted, Written.WroteFront, declared.steps.DocError.DocError, declared.steps.DocWriter.DocWriter}
-use Rattle.ps_write.specs.declared.steps.DocError.TheVariants as errors
-use Rattle.set_pages.specs.Sheet.{frame_of}
-use Rattle.set_pages.proofs.Fronts.{IsFront}
-use Rattle.abcps.specs.Outcome.{HasFront, Stream, TookAll}
-use Rattle.abcps.specs.{Pressed.WasCounted, Pressed.WasStopped, Pressed.first_text, Pressed.rest_text, Status.status_after}
-use Rattle.abcps.specs.declared.status.Status.{Status}
-use Rattle.abcps.specs.declared.status.Status.TheVariants as status
+use Rattle.set_pages.{specs.Sheet.frame_of, proofs.Fronts.IsFront}
+use Rattle.abcps.specs.{Outcome.HasFront, Outcome.Stream, Outcome.TookAll, Pressed.WasCounted, Pressed.WasStopped, Pressed.first_text, Pressed.rest_text, Status.status_after, declared.status.Status.Status}
 
 abbrev pub stream : Option (List ℕ) → Option (List ℕ) → ℕ → ℕ → Stream
 stream before after count_before count_after = record { before = before; after = after; count_before = count_before; count_after = count_after }
@@ -32,18 +24,18 @@ front_longer o xs ys front =
     (longer.0, subst (λ l. Appends o.before o.after l) (sym longer.1) front.1)
 
 pub stopped_longer : (why : Status) (o : Stream) (xs ys : List ℕ) → WasStopped why o xs → WasStopped why o (xs ++ ys)
-stopped_longer status.WriteFault o xs ys cut = let front = front_longer o xs ys (cut.0, cut.1) in (front.0, front.1, cut.2)
-stopped_longer status.Memory o xs ys cut = let front = front_longer o xs ys (cut.0, cut.1) in (front.0, front.1, cut.2)
+stopped_longer Status.WriteFault o xs ys cut = let front = front_longer o xs ys (cut.0, cut.1) in (front.0, front.1, cut.2)
+stopped_longer Status.Memory o xs ys cut = let front = front_longer o xs ys (cut.0, cut.1) in (front.0, front.1, cut.2)
 stopped_longer why o xs ys cut = absurd cut
 
 pub stopped_front : (why : Status) (o : Stream) (xs : List ℕ) → WasStopped why o xs → HasFront o xs
-stopped_front status.WriteFault o xs cut = (cut.0, cut.1)
-stopped_front status.Memory o xs cut = (cut.0, cut.1)
+stopped_front Status.WriteFault o xs cut = (cut.0, cut.1)
+stopped_front Status.Memory o xs cut = (cut.0, cut.1)
 stopped_front why o xs cut = absurd cut
 
 pub stopped_count : (why : Status) (o : Stream) (xs : List ℕ) → WasStopped why o xs → WasCounted why o
-stopped_count status.WriteFault o xs cut = cut.2
-stopped_count status.Memory o xs cut = cut.2
+stopped_count Status.WriteFault o xs cut = cut.2
+stopped_count Status.Memory o xs cut = cut.2
 stopped_count why o xs cut = absurd cut
 
 -- texts one after another
@@ -56,21 +48,21 @@ module _ (b m a : Option (List ℕ)) (n k l : ℕ) (xs : List ℕ) (sent : Appen
       (length xs + front.0, subst (λ text. Appends b a text) (sym (take-append-add xs ys front.0)) (Appends-trans b m a xs (take front.0 ys) sent front.1))
 
   pub stopped_behind : (why : Status) (ys : List ℕ) → WasStopped why (stream m a k l) ys → WasStopped why (stream b a n l) (xs ++ ys)
-  stopped_behind status.WriteFault ys cut =
+  stopped_behind Status.WriteFault ys cut =
       let front = front_behind ys (cut.0, cut.1) in
       (front.0, front.1, subst (λ j. Rose j l) same cut.2)
-  stopped_behind status.Memory ys cut =
+  stopped_behind Status.Memory ys cut =
       let front = front_behind ys (cut.0, cut.1) in
       (front.0, front.1, cut.2 ∙ same)
   stopped_behind why ys cut = absurd cut
 
 -- a step of a writer that failed
 pub step_stopped : (T : Type 0) (b a : Option (List ℕ)) (n l : ℕ) (text : List ℕ) (e : DocError) → WroteFront b a text e → Counted {T = T} n l (Err e) → WasStopped (status_after e) (stream b a n l) text
-step_stopped T b a n l text (errors.Write e) wrote counts = (e.written, wrote.0, counts)
-step_stopped T b a n l text errors.Memory wrote counts = (wrote.0, wrote.1, counts)
+step_stopped T b a n l text (DocError.Write e) wrote counts = (e.written, wrote.0, counts)
+step_stopped T b a n l text DocError.Memory wrote counts = (wrote.0, wrote.1, counts)
 
 -- memory ran out where a text had gone out
-pub memory_behind : (o : Stream) (xs ys : List ℕ) → TookAll o xs → WasStopped status.Memory o (xs ++ ys)
+pub memory_behind : (o : Stream) (xs ys : List ℕ) → TookAll o xs → WasStopped Status.Memory o (xs ++ ys)
 memory_behind o xs ys took = (length xs, subst (λ text. Appends o.before o.after text) (sym (take-append_seam xs ys)) took.0, took.1)
 
 -- the text of pages one after another
@@ -141,5 +133,5 @@ module _ (b m a : Option (List ℕ)) (n k l first now i : ℕ) (pages : List Pag
       (stopped_longer why (stream b a n l) (numbered page_text (first + 1) (take (i + 1) pages)) (numbered page_text (first + 1 + length (take (i + 1) pages)) (drop (i + 1) pages)) more)
 
 -- memory ran out before anything went out
-pub memory_first : (b : Option (List ℕ)) (n : ℕ) (text : List ℕ) → WasStopped status.Memory (stream b b n n) text
+pub memory_first : (b : Option (List ℕ)) (n : ℕ) (text : List ℕ) → WasStopped Status.Memory (stream b b n n) text
 memory_first b n text = (0, Appends-nil b, refl)

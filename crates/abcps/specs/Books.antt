@@ -7,10 +7,8 @@ use Rattle.ps_text.specs.{Document.Spells, Document.document, declared.sheet.She
 use Rattle.set_tune.specs.declared.how.How.{How}
 use Rattle.set_book.specs.{declared.outcome.Outcome.Outcome, Outcomes.AreOutcomes}
 use Rattle.set_pages.specs.{declared.plan.Plan.Plan, Press.IsBookSheet, Read.ShowsBook, Sheet.AreStanding, Sheet.IsPlan, Sheet.sheet_of}
-use Rattle.set_lists.specs.{declared.trials.Trial.Trial, Reports.reports, Reports.some_fault, Systems.systems_text, Laws.ListsTheScores}
-use Rattle.set_lists.specs.{Listing.listing_text, Trials.fault_count, Trials.set_count, Trials.system_count, Trials.total_of, Trials.trial_text}
+use Rattle.set_lists.specs.{declared.trials.Trial.Trial, Reports.reports, Reports.some_fault, Systems.systems_text, Laws.ListsTheScores, Listing.listing_text, Trials.fault_count, Trials.set_count, Trials.system_count, Trials.total_of, Trials.trial_text}
 use Rattle.abcps.specs.{Called.Called, Called.IsQuietly, declared.status.Status.Status}
-use Rattle.abcps.specs.declared.status.Status.TheVariants as status
 
 -- the paper that a book states
 abbrev pub paper_in : List ℕ → Paper
@@ -21,7 +19,7 @@ abbrev pub AreSet : How → List ℕ → List Outcome → Type 0
 AreSet how text outcomes = AreOutcomes (defaults_of (book_of text).header) (paper_in text) how (book_of text).tunes outcomes
 
 abbrev pub status_of : List Outcome → Status
-status_of outcomes = if some_fault outcomes then status.SomeRefused else status.Done
+status_of outcomes = if some_fault outcomes then Status.SomeRefused else Status.Done
 
 -- Of `set`: the page spells one sheet. What a reader finds on it are the tunes without fault, in order: of each the systems of its chosen
 -- breaking, with exactly the marks that its score calls for, set to the margin and apart; each block lies on its page and follows the one
@@ -84,7 +82,7 @@ pub record Tries (tunes : ℕ) (how : How) (even : Bool) (c : Called) : Type 0 w
   pub quietly : IsQuietly c
 
 abbrev pub trial_called : ℕ → List Outcome → Sheet → Called
-trial_called tunes outcomes sheet = record { page = trial_text (trial_of tunes outcomes sheet); told = []; status = status.Done }
+trial_called tunes outcomes sheet = record { page = trial_text (trial_of tunes outcomes sheet); told = []; status = Status.Done }
 
 -- what is called for of a generated book, by one of its sheets
 pub record IsTried (tunes : ℕ) (even : Bool) (paper : Paper) (outcomes : List Outcome) (c : Called) : Type 0 where

@@ -1,7 +1,6 @@
 -- What is called for: the text that is written on output, the text that is told on errors, and the status when both are written.
 use Rattle.std.specs.Prelude.{◌≡◌, ℕ, List, []}
 use Rattle.abcps.specs.declared.status.Status.{Status}
-use Rattle.abcps.specs.declared.status.Status.TheVariants as status
 
 pub record Called : Type 0 where
   pub page : List ℕ
@@ -11,4 +10,4 @@ pub record Called : Type 0 where
 -- nothing on errors, and all is done
 pub record IsQuietly (c : Called) : Type 0 where
   pub told : c.told ≡ []
-  pub status : c.status ≡ status.Done
+  pub status : c.status ≡ Status.Done

@@ -1,23 +1,17 @@
 -- What each command calls for, of an input that it doesn't refuse.
-use Rattle.std.specs.Prelude.{◌≡◌, ℕ, ◌*◌, List, [], Bool, true, false, if◌then◌else◌, length, flat_map}
-use Rattle.std.specs.List.{list_any}
+use Rattle.std.specs.{Prelude.◌≡◌, Prelude.ℕ, Prelude.◌*◌, Prelude.List, Prelude.[], Prelude.Bool, Prelude.true, Prelude.false, Prelude.if◌then◌else◌, Prelude.length, Prelude.flat_map, List.list_any}
 use Rattle.gen_book.specs.Book.{book}
 use Rattle.ps_text.specs.{Document.Spells, declared.sheet.Sheet.Sheet}
 use Rattle.ps_read.specs.Answers.{IsRead, IsFirstFault}
 use Rattle.ps_heard.specs.HeardText.{heard_text}
 use Rattle.ps_steps.specs.{declared.paint.PagePaint.PagePaint, Steps.Paints, Steps.Halts}
 use Rattle.paint_text.specs.PaintText.{paint_text}
-use Rattle.lay_cert.specs.{declared.check.Judged.Judged, declared.check.Verdict.Verdict, Answers.IsJudged, Listing.Entry, Listing.IsListing}
-use Rattle.lay_cert.specs.Reports.{verdict_text}
-use Rattle.lay_cert.specs.declared.check.Verdict.TheVariants as verdicts
+use Rattle.sheet_text.specs.SheetText.{sheet_report}
+use Rattle.lay_cert.specs.{declared.check.Judged.Judged, declared.check.Verdict.Verdict, Answers.IsJudged, Listing.Entry, Listing.IsListing, Reports.verdict_text}
 use Rattle.lay_cert.specs.Places as listing
 use Rattle.abcps_words.specs.declared.command.Command.{Command}
-use Rattle.abcps_words.specs.declared.command.Command.TheVariants as command
 use Rattle.set_tune.specs.How.{how_of, unmoved}
-use Rattle.abcps.specs.{Called.Called, Called.IsQuietly, Books.CallsPages, Books.CallsSystems, Books.Tries, Outputs.sheet_report}
-use Rattle.abcps.specs.{declared.refusing.Refusal.Refusal, declared.status.Status.Status}
-use Rattle.abcps.specs.declared.refusing.Refusal.TheVariants as refusals
-use Rattle.abcps.specs.declared.status.Status.TheVariants as status
+use Rattle.abcps.specs.{Called.Called, Called.IsQuietly, Books.CallsPages, Books.CallsSystems, Books.Tries, declared.refusing.Refusal.Refusal, declared.status.Status.Status}
 
 -- Of `inspect` and `hear`: a report on the one sheet that spells the input, which is all that it shows, or what its tunes sound.
 pub record Shows (report : Sheet → List ℕ) (text : List ℕ) (c : Called) : Type 0 where
@@ -28,8 +22,8 @@ pub record Shows (report : Sheet → List ℕ) (text : List ℕ) (c : Called) : 
 
 -- Of `check`: the verdict on each tune of the listing, and whether each choice is least.
 abbrev pub is_dearer : Verdict → Bool
-is_dearer (verdicts.Least total) = false
-is_dearer (verdicts.NotLeast total better breaks) = true
+is_dearer (Verdict.Least total) = false
+is_dearer (Verdict.NotLeast total better breaks) = true
 
 abbrev pub is_dearer_choice : Judged → Bool
 is_dearer_choice j = is_dearer j.verdict
@@ -38,7 +32,7 @@ abbrev pub verdicts_text : List Judged → List ℕ
 verdicts_text judged = flat_map (λ (j : Judged). verdict_text j.tune j.verdict) judged
 
 abbrev pub status_by : List Judged → Status
-status_by judged = if list_any is_dearer_choice judged then status.NotLeast else status.Done
+status_by judged = if list_any is_dearer_choice judged then Status.NotLeast else Status.Done
 
 pub record Judges (text : List ℕ) (c : Called) : Type 0 where
   pub judged : List Judged
@@ -63,19 +57,19 @@ pub record IsPainted (text : List ℕ) (c : Called) : Type 0 where
   pub quietly : IsQuietly c
 
 abbrev pub Calls : Command → List ℕ → Called → Type 0
-Calls (command.Set flow jobs by even) text c = CallsPages (how_of flow by) even text c
-Calls (command.Systems flow table by) text c = CallsSystems (how_of flow by) table text c
-Calls command.Inspect text c = Shows sheet_report text c
-Calls command.Check text c = Judges text c
-Calls (command.Make tunes) text c = Makes tunes c
-Calls (command.Trial tunes flow jobs even) text c = Tries tunes (unmoved flow) even c
-Calls command.Paint text c = IsPainted text c
-Calls (command.Hear spread) text c = Shows (heard_text spread) text c
+Calls (Command.Set flow jobs by even) text c = CallsPages (how_of flow by) even text c
+Calls (Command.Systems flow table by) text c = CallsSystems (how_of flow by) table text c
+Calls Command.Inspect text c = Shows sheet_report text c
+Calls Command.Check text c = Judges text c
+Calls (Command.Make tunes) text c = Makes tunes c
+Calls (Command.Trial tunes flow jobs even) text c = Tries tunes (unmoved flow) even c
+Calls Command.Paint text c = IsPainted text c
+Calls (Command.Hear spread) text c = Shows (heard_text spread) text c
 
 -- the same command with one job, where it takes a number of jobs
 abbrev pub by_one_job : Command → Command
-by_one_job (command.Set flow jobs by even) = command.Set flow 1 by even
-by_one_job (command.Trial tunes flow jobs even) = command.Trial tunes flow 1 even
+by_one_job (Command.Set flow jobs by even) = Command.Set flow 1 by even
+by_one_job (Command.Trial tunes flow jobs even) = Command.Trial tunes flow 1 even
 by_one_job c = c
 
 -- What commands that differ in nothing but jobs call for of an input is one.
@@ -94,10 +88,10 @@ pub record IsNoListing (text : List ℕ) (number : ℕ) : Type 0 where
   pub unspelled : (entries : List Entry) → IsListing text entries → ⊥
 
 abbrev pub Refuses : Command → List ℕ → Refusal → Type 0
-Refuses command.Inspect text (refusals.NotPages line) = IsNoDocument text line
-Refuses (command.Hear spread) text (refusals.NotPages line) = IsNoDocument text line
-Refuses command.Check text (refusals.NotPages line) = IsNoListing text line
-Refuses command.Paint text (refusals.Halted token cause) = Halts text (budget_of text) token cause
+Refuses Command.Inspect text (Refusal.NotPages line) = IsNoDocument text line
+Refuses (Command.Hear spread) text (Refusal.NotPages line) = IsNoDocument text line
+Refuses Command.Check text (Refusal.NotPages line) = IsNoListing text line
+Refuses Command.Paint text (Refusal.Halted token cause) = Halts text (budget_of text) token cause
 Refuses _ text refusal = ⊥
 
 -- An input that is refused calls for nothing.

@@ -1,4 +1,3 @@
-pub mod Outputs
 pub mod Called
 pub mod Books
 pub mod Refusals

@@ -1,19 +1,14 @@
 -- What a run answers, and what it leaves on each stream: by cases on the answer.
-use Rattle.std.specs.Prelude.{◌≡◌, ◌⊎◌, ◌<◌, ◌≤◌, ℕ, ◌+◌, List, [], Bool, false, length, take, Option}
-use Rattle.std.specs.Io.KnownBytes.{Keeps, Appends, Consumes, IsAtEnd}
+use Rattle.std.specs.{Prelude.◌≡◌, Prelude.◌⊎◌, Prelude.◌<◌, Prelude.◌≤◌, Prelude.ℕ, Prelude.◌+◌, Prelude.List, Prelude.[], Prelude.Bool, Prelude.false, Prelude.length, Prelude.take, Prelude.Option, Io.KnownBytes.Keeps, Io.KnownBytes.Appends, Io.KnownBytes.Consumes, Io.KnownBytes.IsAtEnd}
 use Rattle.eng_io.specs.Causes.{Rose}
 use Rattle.abc_lines.specs.Books.{book_of}
 use Rattle.abc_header.specs.Defaults.{defaults_of}
 use Rattle.ps_text.specs.Document.{document}
 use Rattle.set_tune.specs.{declared.how.How.How, How.how_of}
 use Rattle.set_book.specs.{declared.outcome.Outcome.Outcome, Outcomes.AreOutcomes}
-use Rattle.set_pages.specs.Sheet.{sheet_of}
-use Rattle.set_pages.specs.declared.plan.Plan.TheVariants as plans
+use Rattle.set_pages.specs.{Sheet.sheet_of, declared.plan.Plan.Plan}
 use Rattle.abcps_words.specs.{Command.Asks, Command.IsListed, Command.limit_of, declared.command.Command.Command, Usage.usage_line}
-use Rattle.abcps_words.specs.declared.command.Command.TheVariants as command
-use Rattle.abcps.specs.{Called.Called, Books.CallsPages, Books.paper_in, Calls.Calls, Calls.Refuses, Refusals.refusal_line, Refusals.refusal_status}
-use Rattle.abcps.specs.{declared.refusing.Refusal.Refusal, declared.status.Status.Status}
-use Rattle.abcps.specs.declared.status.Status.TheVariants as status
+use Rattle.abcps.specs.{Called.Called, Books.CallsPages, Books.paper_in, Calls.Calls, Calls.Refuses, Refusals.refusal_line, Refusals.refusal_status, declared.refusing.Refusal.Refusal, declared.status.Status.Status}
 
 -- a stream before and after a call: its bytes, where known, and its count of faults
 pub record Stream : Type 0 where
@@ -21,6 +16,10 @@ pub record Stream : Type 0 where
   pub after : Option (List ℕ)
   pub count_before : ℕ
   pub count_after : ℕ
+
+-- what is observed of a source or a sink that tells its bytes and its faults so
+abbrev pub observed : {A : Type 0} → (A → Option (List ℕ)) → (A → ℕ) → A → A → Stream
+observed bytes faults old new = record { before = bytes old; after = bytes new; count_before = faults old; count_after = faults new }
 
 -- nothing was taken or given, and no fault was counted
 abbrev pub IsQuiet : Stream → Type 0
@@ -70,11 +69,11 @@ pub record IsCutShort (how : How) (even : Bool) (text : List ℕ) (o : Stream) :
   pub left : count < length (book_of text).tunes
   pub outcomes : List Outcome
   pub set : AreOutcomes (defaults_of (book_of text).header) (paper_in text) how (take count (book_of text).tunes) outcomes
-  pub first : even ≡ false → HasFront o (document (sheet_of plans.Filled (paper_in text) outcomes))
+  pub first : even ≡ false → HasFront o (document (sheet_of Plan.Filled (paper_in text) outcomes))
   pub all : (called : Called) → CallsPages how even text called → HasFront o called.page
 
 abbrev pub WasCutShort : Command → List ℕ → Stream → Type 0
-WasCutShort (command.Set flow jobs by even) text o = IsCutShort (how_of flow by) even text o
+WasCutShort (Command.Set flow jobs by even) text o = IsCutShort (how_of flow by) even text o
 WasCutShort _ text o = ⊥
 
 -- A sink failed while what is called for was written, or output did before `set` had set all tunes.
@@ -87,21 +86,21 @@ HasPart c text o = ((called : Called) × Calls c text called × TookPart o calle
 
 -- What a command read: of an input all, and those that make a book themselves nothing.
 abbrev pub IsRead : Command → Stream → List ℕ → Type 0
-IsRead (command.Make tunes) i text = IsQuiet i × (text ≡ [])
-IsRead (command.Trial tunes flow jobs even) i text = IsQuiet i × (text ≡ [])
+IsRead (Command.Make tunes) i text = IsQuiet i × (text ≡ [])
+IsRead (Command.Trial tunes flow jobs even) i text = IsQuiet i × (text ≡ [])
 IsRead c i text = ReadAll (limit_of c) i text
 
 -- a command that reads its input
 abbrev pub IsReader : Command → Type 0
-IsReader (command.Make tunes) = ⊥
-IsReader (command.Trial tunes flow jobs even) = ⊥
+IsReader (Command.Make tunes) = ⊥
+IsReader (Command.Trial tunes flow jobs even) = ⊥
 IsReader c = Unit {0}
 
 -- a status with which all was written
 abbrev pub IsEnd : Status → Type 0
-IsEnd status.Done = Unit {0}
-IsEnd status.SomeRefused = Unit {0}
-IsEnd status.NotLeast = Unit {0}
+IsEnd Status.Done = Unit {0}
+IsEnd Status.SomeRefused = Unit {0}
+IsEnd Status.NotLeast = Unit {0}
 IsEnd _ = ⊥
 
 -- both texts were written, and the answer is the one that goes with them
@@ -110,11 +109,11 @@ WasWritten C s o e = (called : Called) × C called × (s ≡ called.status) × T
 
 -- what is answered where something is called for
 abbrev pub IsAnswered : (Called → Type 0) → Status → Stream → Stream → Type 0
-IsAnswered C status.Done o e = WasWritten C status.Done o e
-IsAnswered C status.SomeRefused o e = WasWritten C status.SomeRefused o e
-IsAnswered C status.NotLeast o e = WasWritten C status.NotLeast o e
-IsAnswered C status.WriteFault o e = (called : Called) × C called × WasCut called o e
-IsAnswered C status.Memory o e = IsQuiet e × (IsQuiet o ⊎ ((called : Called) × C called × TookPart o called.page))
+IsAnswered C Status.Done o e = WasWritten C Status.Done o e
+IsAnswered C Status.SomeRefused o e = WasWritten C Status.SomeRefused o e
+IsAnswered C Status.NotLeast o e = WasWritten C Status.NotLeast o e
+IsAnswered C Status.WriteFault o e = (called : Called) × C called × WasCut called o e
+IsAnswered C Status.Memory o e = IsQuiet e × (IsQuiet o ⊎ ((called : Called) × C called × TookPart o called.page))
 IsAnswered C _ o e = ⊥
 
 -- the input was refused: output has nothing, and errors was told why
@@ -123,20 +122,20 @@ WasRefused c s text o e = (refusal : Refusal) × Refuses c text refusal × (s �
 
 -- what is answered once the input was read
 abbrev pub IsAnswer : Command → Status → List ℕ → Stream → Stream → Type 0
-IsAnswer c status.NotPages text o e = WasRefused c status.NotPages text o e
-IsAnswer c status.Halted text o e = WasRefused c status.Halted text o e
-IsAnswer c status.WriteFault text o e = HasFailed c text o e
-IsAnswer c status.Memory text o e = IsQuiet e × (IsQuiet o ⊎ HasPart c text o)
+IsAnswer c Status.NotPages text o e = WasRefused c Status.NotPages text o e
+IsAnswer c Status.Halted text o e = WasRefused c Status.Halted text o e
+IsAnswer c Status.WriteFault text o e = HasFailed c text o e
+IsAnswer c Status.Memory text o e = IsQuiet e × (IsQuiet o ⊎ HasPart c text o)
 IsAnswer c s text o e = IsAnswered (Calls c text) s o e
 
 -- what a command answers
 abbrev pub IsObeyed : Command → Status → Stream → Stream → Stream → Type 0
-IsObeyed c status.ReadFault i o e = IsReader c × Rose i.count_before i.count_after × IsQuiet o × IsQuiet e
-IsObeyed c status.TooLong i o e = IsReader c × ((text : List ℕ) × ReadTooMuch (limit_of c) i text) × IsQuiet o × IsQuiet e
-IsObeyed c status.Memory i o e = IsQuiet e × (IsQuiet o ⊎ ((text : List ℕ) × IsRead c i text × HasPart c text o))
+IsObeyed c Status.ReadFault i o e = IsReader c × Rose i.count_before i.count_after × IsQuiet o × IsQuiet e
+IsObeyed c Status.TooLong i o e = IsReader c × ((text : List ℕ) × ReadTooMuch (limit_of c) i text) × IsQuiet o × IsQuiet e
+IsObeyed c Status.Memory i o e = IsQuiet e × (IsQuiet o ⊎ ((text : List ℕ) × IsRead c i text × HasPart c text o))
 IsObeyed c s i o e = (text : List ℕ) × IsRead c i text × IsAnswer c s text o e
 
 -- what a run answers
 abbrev pub IsRun : Status → List (List ℕ) → Stream → Stream → Stream → Type 0
-IsRun status.Usage words i o e = (IsListed words → ⊥) × IsQuiet i × IsQuiet o × WasTold e usage_line
+IsRun Status.Usage words i o e = (IsListed words → ⊥) × IsQuiet i × IsQuiet o × WasTold e usage_line
 IsRun s words i o e = (c : Command) × Asks words c × IsObeyed c s i o e

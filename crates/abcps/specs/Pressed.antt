@@ -3,27 +3,21 @@ use Rattle.std.specs.Prelude.{◌≡◌, ℕ, ◌+◌, List, [], ◌++◌, Bool,
 use Rattle.abc_lines.specs.declared.book.TuneText.{TuneText}
 use Rattle.abc_header.specs.{declared.defaults.Defaults.Defaults, declared.paper.Paper.Paper, Papers.IsGoodPaper}
 use Rattle.eng_io.specs.Causes.{Rose}
-use Rattle.ps_text.specs.{Document.numbered, Document.page_text, Document.trailer, Prolog.prolog, declared.sheet.Page.Page}
-use Rattle.ps_text.specs.declared.sheet.Sheet.{Sheet}
+use Rattle.ps_text.specs.{Document.numbered, Document.page_text, Document.trailer, Prolog.prolog, declared.sheet.Page.Page, declared.sheet.Sheet.Sheet}
 use Rattle.set_tune.specs.declared.how.How.{How}
 use Rattle.set_book.specs.{declared.outcome.Outcome.Outcome, Outcomes.AreOutcomes}
 use Rattle.set_lists.specs.Reports.{reports, some_fault}
 use Rattle.lay_pages.specs.{declared.filling.Block.Block, Filling.AreGoodBlocks}
-use Rattle.set_pages.specs.{Press.IsOpen, Press.IsPressed, Press.RisesBy, Press.done_pages, Sheet.IsPlan, Sheet.frame_of, Sheet.sheet_of, declared.press.Press.Press}
-use Rattle.set_pages.specs.{Drawings.all_blocks, declared.plan.Plan.Plan}
-use Rattle.set_pages.specs.declared.plan.Plan.TheVariants as plans
-use Rattle.abcps.specs.{Called.Called, Books.CallsPages, Books.status_of}
-use Rattle.abcps.specs.Outcome.{IsCutShort, IsQuiet, Stream, TookAll, TookFront, TookPart}
-use Rattle.abcps.specs.{declared.pressing.Printed.Printed, declared.pressing.Running.Running, declared.status.Status.Status}
-use Rattle.abcps.specs.declared.status.Status.TheVariants as status
+use Rattle.set_pages.specs.{Press.IsOpen, Press.IsPressed, Press.RisesBy, Press.done_pages, Sheet.IsPlan, Sheet.frame_of, Sheet.sheet_of, declared.press.Press.Press, Drawings.all_blocks, declared.plan.Plan.Plan}
+use Rattle.abcps.specs.{Called.Called, Books.CallsPages, Books.status_of, Outcome.IsCutShort, Outcome.IsQuiet, Outcome.Stream, Outcome.TookAll, Outcome.TookFront, Outcome.TookPart, declared.pressing.Printed.Printed, declared.pressing.Running.Running, declared.status.Status.Status}
 
 abbrev pub status_if : Bool → Status
-status_if refused = if refused then status.SomeRefused else status.Done
+status_if refused = if refused then Status.SomeRefused else Status.Done
 
 -- what a sink took of a text where this answer came before the text's end: a front, and a fault was counted or none
 abbrev pub WasStopped : Status → Stream → List ℕ → Type 0
-WasStopped status.WriteFault s text = TookFront s text
-WasStopped status.Memory s text = TookPart s text
+WasStopped Status.WriteFault s text = TookFront s text
+WasStopped Status.Memory s text = TookPart s text
 WasStopped _ s text = ⊥
 
 -- a sink took a whole text, or was stopped
@@ -61,7 +55,7 @@ pub record AreGathered (defaults : Defaults) (paper : Paper) (how : How) (tunes 
 
 -- the plan of these tunes: filled, or the even one of their outcomes
 abbrev pub IsPlanned : Bool → Defaults → Paper → How → List TuneText → Plan → Type 0
-IsPlanned false defaults paper how tunes plan = plan ≡ plans.Filled
+IsPlanned false defaults paper how tunes plan = plan ≡ Plan.Filled
 IsPlanned true defaults paper how tunes plan = (all : List Outcome) × AreOutcomes defaults paper how tunes all × IsPlan true paper all plan
 
 -- what came of these tunes was taken behind what was taken before
@@ -110,13 +104,13 @@ ArePrinted defaults plan paper how tunes o (Err why) = AreCutOff defaults plan p
 
 -- how a sink counted where this answer came before a text's end
 abbrev pub WasCounted : Status → Stream → Type 0
-WasCounted status.WriteFault s = Rose s.count_before s.count_after
-WasCounted status.Memory s = s.count_after ≡ s.count_before
+WasCounted Status.WriteFault s = Rose s.count_before s.count_after
+WasCounted Status.Memory s = s.count_after ≡ s.count_before
 WasCounted _ s = ⊥
 
 -- why the document of a book was not written to its end: memory ran out before it was begun, or all tunes were set, or some were left
 pub data IsUnprinted (how : How) (even : Bool) (text : List ℕ) (o : Stream) (why : Status) : Type 0 where
-  unbegun : why ≡ status.Memory → IsQuiet o → IsUnprinted how even text o why
+  unbegun : why ≡ Status.Memory → IsQuiet o → IsUnprinted how even text o why
   all_set : (called : Called) → CallsPages how even text called → WasStopped why o called.page → IsUnprinted how even text o why
   some_left : IsCutShort how even text o → WasCounted why o → IsUnprinted how even text o why
 

@@ -2,12 +2,8 @@
 use Rattle.std.specs.Prelude.{◌≡◌, ◌≢◌, ◌⊎◌, ◌≤◌, ◌↔◌, List, ℕ, length, Some}
 use Rattle.eng_io.specs.Causes.{Rose}
 use Rattle.abcps_words.specs.{Command.Asks, Command.IsListed, Command.limit_of, declared.command.Command.Command, Usage.usage_line}
-use Rattle.abcps_words.specs.declared.command.Command.TheVariants as command
-use Rattle.abcps.specs.{Called.Called, Calls.Calls, Calls.Refuses, Calls.by_one_job}
 use Rattle.abcps.specs.Outcome.{HasFailed, HasPart, Stream, IsQuiet, IsRead, IsReader, ReadTooMuch, TookAll, WasTold}
-use Rattle.abcps.specs.{Refusals.IsRefusal, Refusals.refusal_line, Refusals.refusal_status, declared.refusing.Refusal.Refusal}
-use Rattle.abcps.specs.declared.status.Status.{Status}
-use Rattle.abcps.specs.declared.status.Status.TheVariants as status
+use Rattle.abcps.specs.{Called.Called, Calls.Calls, Calls.Refuses, Calls.by_one_job, Refusals.IsRefusal, Refusals.refusal_line, Refusals.refusal_status, declared.refusing.Refusal.Refusal, declared.status.Status.Status}
 
 -- no stream counted a fault, where a count that stands at its end counts as risen
 pub record NoFault (i o e : Stream) : Type 0 where
@@ -17,8 +13,8 @@ pub record NoFault (i o e : Stream) : Type 0 where
 
 -- the input told its bytes, which are within the limit; of a command that reads none nothing is asked
 abbrev pub IsToldTo : Command → Stream → List ℕ → Type 0
-IsToldTo (command.Make tunes) i text = Unit {0}
-IsToldTo (command.Trial tunes flow jobs even) i text = Unit {0}
+IsToldTo (Command.Make tunes) i text = Unit {0}
+IsToldTo (Command.Trial tunes flow jobs even) i text = Unit {0}
 IsToldTo c i text = (i.before ≡ Some text) × (length text ≤ limit_of c)
 
 -- the words ask for this command, no fault was counted, and the input is this text
@@ -54,26 +50,26 @@ pub record IsRefused (c : Command) (s : Status) (text : List ℕ) (o e : Stream)
 
 pub record Promises (s : Status) (words : List (List ℕ)) (i o e : Stream) : Type 0 where
   -- usage is answered exactly by the words, whatever the streams do
-  pub usage : (s ≡ status.Usage) ↔ (IsListed words → ⊥)
+  pub usage : (s ≡ Status.Usage) ↔ (IsListed words → ⊥)
   -- then nothing was read or written but the line of usage, or a front of it where the errors sink failed
-  pub usage_line : s ≡ status.Usage → IsQuiet i × IsQuiet o × WasTold e usage_line
+  pub usage_line : s ≡ Status.Usage → IsQuiet i × IsQuiet o × WasTold e usage_line
   -- a fault of the input is answered only where a command reads and its count rose, and nothing is written
-  pub read_fault : s ≡ status.ReadFault → ((c : Command) × Asks words c × IsReader c) × Rose i.count_before i.count_after × IsQuiet o × IsQuiet e
+  pub read_fault : s ≡ Status.ReadFault → ((c : Command) × Asks words c × IsReader c) × Rose i.count_before i.count_after × IsQuiet o × IsQuiet e
   -- an input is too long where one byte past the command's limit was taken, and nothing is written
-  pub too_long : s ≡ status.TooLong → ((c : Command) × Asks words c × IsReader c × ((text : List ℕ) × ReadTooMuch (limit_of c) i text)) × IsQuiet o × IsQuiet e
+  pub too_long : s ≡ Status.TooLong → ((c : Command) × Asks words c × IsReader c × ((text : List ℕ) × ReadTooMuch (limit_of c) i text)) × IsQuiet o × IsQuiet e
   -- an input that is no document, or no listing, is told so by the line of its first fault, and one that can't be painted by the token
   -- at which its run halts and the cause; nothing is written to output
   pub refused : IsRefusal s → (c : Command) × (text : List ℕ) × IsWhole c words i text × IsRefused c s text o e
   -- a fault of a sink is answered only where its count rose: output has a front of its text and errors nothing, or output has
   -- all of it and errors a front of its own; where `set` had tunes left, output has a front of whatever is called for of its book
-  pub write_fault : s ≡ status.WriteFault → (c : Command) × (text : List ℕ) × IsWhole c words i text × HasFailed c text o e
+  pub write_fault : s ≡ Status.WriteFault → (c : Command) × (text : List ℕ) × IsWhole c words i text × HasFailed c text o e
   -- for want of memory errors has nothing, and output nothing or a front of its text, or of whatever is called for of a book of
   -- which `set` had tunes left
-  pub memory : s ≡ status.Memory → IsQuiet e × (IsQuiet o ⊎ ((c : Command) × (text : List ℕ) × IsWhole c words i text × HasPart c text o))
+  pub memory : s ≡ Status.Memory → IsQuiet e × (IsQuiet o ⊎ ((c : Command) × (text : List ℕ) × IsWhole c words i text × HasPart c text o))
   -- every other answer is the one that is called for, and both sinks have their whole texts
-  pub done : s ≢ status.Usage → s ≢ status.ReadFault → s ≢ status.TooLong → (IsRefusal s → ⊥) → s ≢ status.WriteFault → s ≢ status.Memory
+  pub done : s ≢ Status.Usage → s ≢ Status.ReadFault → s ≢ Status.TooLong → (IsRefusal s → ⊥) → s ≢ Status.WriteFault → s ≢ Status.Memory
       → (c : Command) × (text : List ℕ) × IsWhole c words i text × IsDone c s text o e
   -- Where the words ask for a command, no fault is counted and the input is told within the limit: unless memory runs out, all
   -- that the command calls for is done, or its input is refused.
-  pub answered : (c : Command) (text : List ℕ) → IsGiven c words i o e text → s ≢ status.Memory
+  pub answered : (c : Command) (text : List ℕ) → IsGiven c words i o e text → s ≢ Status.Memory
       → IsDone c s text o e ⊎ IsRefused c s text o e

@@ -1,17 +1,11 @@
 ghost use Rattle.std.specs.Prelude.{◌≡◌, ◌≤◌, ◌^◌, [], All, IfOk, OnOk, length};
 ghost use Rattle.abc_header.specs.Papers.{IsGoodPaper};
 ghost use Rattle.gen_book.specs.Book.{book};
-ghost use Rattle.ps_text.specs.Document.{document};
-ghost use Rattle.ps_text.specs.declared.sheet.Sheet as sheet;
-ghost use Rattle.ps_text.specs.Range.{IsSheet};
-ghost use Rattle.set_lists.specs.Listing.{AreListable};
-ghost use Rattle.set_lists.specs.Reports.{reports};
-ghost use Rattle.set_lists.specs.Trials.{trial_text};
-ghost use Rattle.set_pages.specs.Press.{IsBookSheet};
-ghost use Rattle.set_pages.specs.Sheet.{IsSetUnder};
-ghost use Rattle.abcps.specs.Books.{AreSet, IsTried, paper_in, status_of, systems_by, systems_called, trial_of};
-ghost use Rattle.abcps.specs.Outcome.{IsAnswer, IsAnswered, IsEnd};
-ghost use Rattle.abcps_words.specs.declared.command.Command.TheVariants as command;
+ghost use Rattle.ps_text.specs.{Document.document, declared.sheet.Sheet.Sheet, Range.IsSheet};
+ghost use Rattle.set_lists.specs.{Listing.AreListable, Reports.reports, Trials.trial_text};
+ghost use Rattle.set_pages.specs.{Press.IsBookSheet, Sheet.IsSetUnder};
+ghost use Rattle.abcps.specs.{Books.AreSet, Books.IsTried, Books.paper_in, Books.status_of, Books.systems_by, Books.systems_called, Books.trial_of, Outcome.IsAnswer, Outcome.IsAnswered, Outcome.IsEnd, Outcome.observed};
+ghost use Rattle.abcps_words.specs.declared.command.Command.{Command};
 
 use crate::pressing::status_if;
 use crate::printing::print_book;
@@ -94,9 +88,7 @@ pub(crate) fn set<R: Threads + Sync, O: Sink, E: Sink, G: Gate + Sync>(
     requires some { 1 ≤ jobs }
     requires few { jobs ≤ 64 }
     requires within { length text.now ≤ 8388608 }
-    ensures { IsAnswer (command.Set how.flow jobs how.by even) result text.now
-        (record { before = O.taken output.old; after = O.taken output.new; count_before = O.faults output.old; count_after = O.faults output.new })
-        (record { before = E.taken errors.old; after = E.taken errors.new; count_before = E.faults errors.old; count_after = E.faults errors.new }) }
+    ensures { IsAnswer (Command.Set how.flow jobs how.by even) result text.now (observed O.taken O.faults output.old output.new) (observed E.taken E.faults errors.old errors.new) }
 {
     match print_book(rt, alloc, text, how, even, jobs, output, gate) {
         Ok(printed) => end(errors, printed.told.as_slice(), printed.status),
@@ -127,9 +119,7 @@ fn write_systems<O: Sink, E: Sink>(
     errors: &mut E,
 ) -> Status
     requires { AreListable outcomes.now }
-    ensures { IsAnswered (λ called. called ≡ systems_called table outcomes.now) result
-        (record { before = O.taken output.old; after = O.taken output.new; count_before = O.faults output.old; count_after = O.faults output.new })
-        (record { before = E.taken errors.old; after = E.taken errors.new; count_before = E.faults errors.old; count_after = E.faults errors.new }) }
+    ensures { IsAnswered (λ called. called ≡ systems_called table outcomes.now) result (observed O.taken O.faults output.old output.new) (observed E.taken E.faults errors.old errors.new) }
 {
     let Ok(text) = systems_text(alloc, table, outcomes) else {
         return Status::Memory;
@@ -153,9 +143,7 @@ pub(crate) fn systems<R: Threads + Sync, O: Sink, E: Sink>(
     errors: &mut E,
 ) -> Status
     requires { length text.now ≤ 8388608 }
-    ensures { IsAnswer (command.Systems how.flow table how.by) result text.now
-        (record { before = O.taken output.old; after = O.taken output.new; count_before = O.faults output.old; count_after = O.faults output.new })
-        (record { before = E.taken errors.old; after = E.taken errors.new; count_before = E.faults errors.old; count_after = E.faults errors.new }) }
+    ensures { IsAnswer (Command.Systems how.flow table how.by) result text.now (observed O.taken O.faults output.old output.new) (observed E.taken E.faults errors.old errors.new) }
 {
     let Ok(book) = set_text(rt, alloc, text, how, 1, &Open) else {
         return Status::Memory;
@@ -187,7 +175,7 @@ fn trial_line(
 ) -> Result<Text, Memory>
     requires paper { IsGoodPaper paper.now }
     requires set { All (IsSetUnder paper.now) outcomes.now }
-    ensures { IfOk result (λ text. (sheet : sheet.Sheet) × IsBookSheet even paper.now outcomes.now sheet × (text ≡ trial_text (trial_of tunes outcomes.now sheet))) }
+    ensures { IfOk result (λ text. (sheet : Sheet) × IsBookSheet even paper.now outcomes.now sheet × (text ≡ trial_text (trial_of tunes outcomes.now sheet))) }
 {
     let sheet = sheet_for(alloc, paper, outcomes, even)?;
     let trial = Trial {
@@ -216,9 +204,7 @@ fn write_trial<O: Sink, E: Sink>(
 ) -> Status
     requires paper { IsGoodPaper paper.now }
     requires set { All (IsSetUnder paper.now) outcomes.now }
-    ensures { IsAnswered (IsTried tunes even paper.now outcomes.now) result
-        (record { before = O.taken output.old; after = O.taken output.new; count_before = O.faults output.old; count_after = O.faults output.new })
-        (record { before = E.taken errors.old; after = E.taken errors.new; count_before = E.faults errors.old; count_after = E.faults errors.new }) }
+    ensures { IsAnswered (IsTried tunes even paper.now outcomes.now) result (observed O.taken O.faults output.old output.new) (observed E.taken E.faults errors.old errors.new) }
 {
     let Ok(line) = trial_line(alloc, tunes, paper, outcomes, even) else {
         return Status::Memory;
@@ -242,9 +228,7 @@ pub(crate) fn trial<R: Threads + Sync, O: Sink, E: Sink, G: Gate + Sync>(
     requires few_tunes { tunes ≤ 500 }
     requires some { 1 ≤ jobs }
     requires few { jobs ≤ 64 }
-    ensures { IsAnswer (command.Trial tunes flow jobs even) result []
-        (record { before = O.taken output.old; after = O.taken output.new; count_before = O.faults output.old; count_after = O.faults output.new })
-        (record { before = E.taken errors.old; after = E.taken errors.new; count_before = E.faults errors.old; count_after = E.faults errors.new }) }
+    ensures { IsAnswer (Command.Trial tunes flow jobs even) result [] (observed O.taken O.faults output.old output.new) (observed E.taken E.faults errors.old errors.new) }
 {
     let Ok(text) = make(alloc, tunes) else {
         return Status::Memory;

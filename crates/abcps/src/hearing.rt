@@ -1,8 +1,7 @@
 ghost use Rattle.std.specs.Prelude.{◌≡◌, [], IfOk};
 ghost use Rattle.ps_heard.specs.HeardText.{heard_text};
-ghost use Rattle.abcps.specs.Outcome.{IsAnswer, IsAnswered};
-ghost use Rattle.abcps_words.specs.declared.command.Command.TheVariants as command;
-ghost use Rattle.abcps.specs.declared.status.Status.TheVariants as status;
+ghost use Rattle.abcps.specs.{Outcome.IsAnswer, Outcome.IsAnswered, Outcome.observed, declared.status.Status.Status};
+ghost use Rattle.abcps_words.specs.declared.command.Command.{Command};
 
 use crate::refusing::Refusal;
 use crate::status::Status;
@@ -30,9 +29,7 @@ fn print<O: Sink, E: Sink>(
     output: &mut O,
     errors: &mut E,
 ) -> Status
-    ensures { IsAnswered (λ called. called ≡ record { page = heard_text spread sheet.now; told = []; status = status.Done }) result
-        (record { before = O.taken output.old; after = O.taken output.new; count_before = O.faults output.old; count_after = O.faults output.new })
-        (record { before = E.taken errors.old; after = E.taken errors.new; count_before = E.faults errors.old; count_after = E.faults errors.new }) }
+    ensures { IsAnswered (λ called. called ≡ record { page = heard_text spread sheet.now; told = []; status = Status.Done }) result (observed O.taken O.faults output.old output.new) (observed E.taken E.faults errors.old errors.new) }
 {
     let Ok(text) = text_of(alloc, spread, sheet) else {
         return Status::Memory;
@@ -48,9 +45,7 @@ pub(crate) fn hear<O: Sink, E: Sink>(
     output: &mut O,
     errors: &mut E,
 ) -> Status
-    ensures { IsAnswer (command.Hear spread) result text.now
-        (record { before = O.taken output.old; after = O.taken output.new; count_before = O.faults output.old; count_after = O.faults output.new })
-        (record { before = E.taken errors.old; after = E.taken errors.new; count_before = E.faults errors.old; count_after = E.faults errors.new }) }
+    ensures { IsAnswer (Command.Hear spread) result text.now (observed O.taken O.faults output.old output.new) (observed E.taken E.faults errors.old errors.new) }
 {
     match read_document(alloc, text) {
         Ok(sheet) => print(alloc, spread, &sheet, output, errors),

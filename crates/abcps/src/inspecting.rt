@@ -1,24 +1,20 @@
 ghost use Rattle.std.specs.Prelude.{◌≡◌, [], IfOk};
-ghost use Rattle.abcps.specs.Calls.{Shows};
-ghost use Rattle.abcps.specs.Outputs.{sheet_report};
-ghost use Rattle.abcps.specs.Outcome.{IsAnswer, IsAnswered};
-ghost use Rattle.abcps_words.specs.declared.command.Command.TheVariants as command;
-ghost use Rattle.abcps.specs.declared.status.Status.TheVariants as status;
+ghost use Rattle.sheet_text.specs.SheetText.{sheet_report};
+ghost use Rattle.abcps.specs.{Calls.Shows, Outcome.IsAnswer, Outcome.IsAnswered, Outcome.observed, declared.status.Status.Status};
+ghost use Rattle.abcps_words.specs.declared.command.Command.{Command};
 
 use crate::refusing::Refusal;
-use crate::report::report_of;
 use crate::status::Status;
 use crate::telling::{refuse, write_both};
 use eng_io::Sink;
 use ps_read::{PagesError, read_document};
 use ps_text::Sheet;
+use sheet_text::report_of;
 use std::alloc::Global;
 
 /// Prints what a sheet shows.
 fn print<O: Sink, E: Sink>(alloc: Global, sheet: &Sheet, output: &mut O, errors: &mut E) -> Status
-    ensures { IsAnswered (λ called. called ≡ record { page = sheet_report sheet.now; told = []; status = status.Done }) result
-        (record { before = O.taken output.old; after = O.taken output.new; count_before = O.faults output.old; count_after = O.faults output.new })
-        (record { before = E.taken errors.old; after = E.taken errors.new; count_before = E.faults errors.old; count_after = E.faults errors.new }) }
+    ensures { IsAnswered (λ called. called ≡ record { page = sheet_report sheet.now; told = []; status = Status.Done }) result (observed O.taken O.faults output.old output.new) (observed E.taken E.faults errors.old errors.new) }
 {
     let Ok(report) = report_of(alloc, sheet) else {
         return Status::Memory;
@@ -33,9 +29,7 @@ pub(crate) fn inspect<O: Sink, E: Sink>(
     output: &mut O,
     errors: &mut E,
 ) -> Status
-    ensures { IsAnswer command.Inspect result text.now
-        (record { before = O.taken output.old; after = O.taken output.new; count_before = O.faults output.old; count_after = O.faults output.new })
-        (record { before = E.taken errors.old; after = E.taken errors.new; count_before = E.faults errors.old; count_after = E.faults errors.new }) }
+    ensures { IsAnswer Command.Inspect result text.now (observed O.taken O.faults output.old output.new) (observed E.taken E.faults errors.old errors.new) }
 {
     match read_document(alloc, text) {
         Ok(sheet) => print(alloc, &sheet, output, errors),

@@ -1,8 +1,6 @@
-ghost use Rattle.std.specs.Prelude.{◌≡◌, [], IfOk};
-ghost use Rattle.abcps.specs.Calls.{is_dearer, is_dearer_choice, status_by, verdicts_text};
-ghost use Rattle.abcps.specs.Outcome.{IsAnswer, IsAnswered, IsEnd};
-ghost use Rattle.abcps_words.specs.declared.command.Command.TheVariants as command;
-ghost use Rattle.std.specs.List.{list_any};
+ghost use Rattle.std.specs.{Prelude.◌≡◌, Prelude.[], Prelude.IfOk, List.list_any};
+ghost use Rattle.abcps.specs.{Calls.is_dearer, Calls.is_dearer_choice, Calls.status_by, Calls.verdicts_text, Outcome.IsAnswer, Outcome.IsAnswered, Outcome.IsEnd, Outcome.observed};
+ghost use Rattle.abcps_words.specs.declared.command.Command.{Command};
 
 use crate::refusing::Refusal;
 use crate::status::Status;
@@ -59,9 +57,7 @@ fn print<O: Sink, E: Sink>(
     output: &mut O,
     errors: &mut E,
 ) -> Status
-    ensures { IsAnswered (λ called. called ≡ record { page = verdicts_text judged.now; told = []; status = status_by judged.now }) result
-        (record { before = O.taken output.old; after = O.taken output.new; count_before = O.faults output.old; count_after = O.faults output.new })
-        (record { before = E.taken errors.old; after = E.taken errors.new; count_before = E.faults errors.old; count_after = E.faults errors.new }) }
+    ensures { IsAnswered (λ called. called ≡ record { page = verdicts_text judged.now; told = []; status = status_by judged.now }) result (observed O.taken O.faults output.old output.new) (observed E.taken E.faults errors.old errors.new) }
 {
     let Ok(text) = verdicts_text(alloc, judged) else {
         return Status::Memory;
@@ -76,9 +72,7 @@ pub(crate) fn check<O: Sink, E: Sink>(
     output: &mut O,
     errors: &mut E,
 ) -> Status
-    ensures { IsAnswer command.Check result text.now
-        (record { before = O.taken output.old; after = O.taken output.new; count_before = O.faults output.old; count_after = O.faults output.new })
-        (record { before = E.taken errors.old; after = E.taken errors.new; count_before = E.faults errors.old; count_after = E.faults errors.new }) }
+    ensures { IsAnswer Command.Check result text.now (observed O.taken O.faults output.old output.new) (observed E.taken E.faults errors.old errors.new) }
 {
     match check_listing(alloc, text) {
         Ok(judged) => print(alloc, judged.as_slice(), output, errors),

@@ -10,7 +10,6 @@ mod painting;
 mod pressing;
 mod printing;
 pub mod refusing;
-pub mod report;
 pub mod running;
 pub mod status;
 mod telling;

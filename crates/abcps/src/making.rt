@@ -1,6 +1,6 @@
 ghost use Rattle.std.specs.Prelude.{◌≡◌, ◌≤◌, []};
-ghost use Rattle.abcps.specs.Outcome.{IsAnswer};
-ghost use Rattle.abcps_words.specs.declared.command.Command.TheVariants as command;
+ghost use Rattle.abcps.specs.Outcome.{IsAnswer, observed};
+ghost use Rattle.abcps_words.specs.declared.command.Command.{Command};
 
 use crate::status::Status;
 use crate::telling::write_both;
@@ -17,9 +17,7 @@ pub(crate) fn make_book<O: Sink, E: Sink>(
 ) -> Status
     requires some { 1 ≤ tunes }
     requires few { tunes ≤ 500 }
-    ensures { IsAnswer (command.Make tunes) result []
-        (record { before = O.taken output.old; after = O.taken output.new; count_before = O.faults output.old; count_after = O.faults output.new })
-        (record { before = E.taken errors.old; after = E.taken errors.new; count_before = E.faults errors.old; count_after = E.faults errors.new }) }
+    ensures { IsAnswer (Command.Make tunes) result [] (observed O.taken O.faults output.old output.new) (observed E.taken E.faults errors.old errors.new) }
 {
     let Ok(book) = make(alloc, tunes) else {
         return Status::Memory;

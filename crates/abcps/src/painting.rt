@@ -1,9 +1,7 @@
 ghost use Rattle.std.specs.Prelude.{◌≡◌, ◌≤◌, [], IfOk, length};
 ghost use Rattle.paint_text.specs.PaintText.{paint_text};
-ghost use Rattle.abcps.specs.Calls.{budget_of};
-ghost use Rattle.abcps.specs.Outcome.{IsAnswer, IsAnswered};
-ghost use Rattle.abcps_words.specs.declared.command.Command.TheVariants as command;
-ghost use Rattle.abcps.specs.declared.status.Status.TheVariants as status;
+ghost use Rattle.abcps.specs.{Calls.budget_of, Outcome.IsAnswer, Outcome.IsAnswered, Outcome.observed, declared.status.Status.Status};
+ghost use Rattle.abcps_words.specs.declared.command.Command.{Command};
 
 use crate::refusing::Refusal;
 use crate::status::Status;
@@ -41,9 +39,7 @@ fn print<O: Sink, E: Sink>(
     output: &mut O,
     errors: &mut E,
 ) -> Status
-    ensures { IsAnswered (λ called. called ≡ record { page = paint_text pages.now; told = []; status = status.Done }) result
-        (record { before = O.taken output.old; after = O.taken output.new; count_before = O.faults output.old; count_after = O.faults output.new })
-        (record { before = E.taken errors.old; after = E.taken errors.new; count_before = E.faults errors.old; count_after = E.faults errors.new }) }
+    ensures { IsAnswered (λ called. called ≡ record { page = paint_text pages.now; told = []; status = Status.Done }) result (observed O.taken O.faults output.old output.new) (observed E.taken E.faults errors.old errors.new) }
 {
     let Ok(text) = text_of(alloc, pages) else {
         return Status::Memory;
@@ -59,9 +55,7 @@ pub(crate) fn paint<O: Sink, E: Sink>(
     errors: &mut E,
 ) -> Status
     requires { length text.now ≤ 268435456 }
-    ensures { IsAnswer command.Paint result text.now
-        (record { before = O.taken output.old; after = O.taken output.new; count_before = O.faults output.old; count_after = O.faults output.new })
-        (record { before = E.taken errors.old; after = E.taken errors.new; count_before = E.faults errors.old; count_after = E.faults errors.new }) }
+    ensures { IsAnswer Command.Paint result text.now (observed O.taken O.faults output.old output.new) (observed E.taken E.faults errors.old errors.new) }
 {
     match run_machine(alloc, text, budget_of(text)) {
         Ok(pages) => print(alloc, pages.as_slice(), output, errors),

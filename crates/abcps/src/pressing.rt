@@ -1,20 +1,10 @@
 ghost use Rattle.std.specs.Prelude.{◌≡◌, ◌+◌, ◌^◌, ◌<◌, ◌++◌, [], List, false, All, IfOk, OnOk, length};
 ghost use Rattle.abc_lines.specs.Good.{IsGoodTune};
-ghost use Rattle.abc_header.specs.declared.defaults.Defaults as defaults;
-ghost use Rattle.abc_header.specs.declared.paper.Paper as paper;
-ghost use Rattle.abc_header.specs.Good.{IsGoodDefaults};
-ghost use Rattle.abc_header.specs.Papers.{IsGoodPaper, height_of};
-ghost use Rattle.ps_text.specs.declared.sheet.Page as page;
-ghost use Rattle.ps_text.specs.Document.{numbered, page_text};
-ghost use Rattle.ps_text.specs.Prolog.{prolog};
-ghost use Rattle.ps_text.specs.Range.{IsPage};
-ghost use Rattle.set_book.specs.declared.outcome.Outcome as outcome;
-ghost use Rattle.set_pages.specs.declared.plan.Plan as plan;
-ghost use Rattle.set_pages.specs.Drawings.{all_blocks};
-ghost use Rattle.set_pages.specs.Press.{HasRoom, IsOpen, done_pages};
-ghost use Rattle.set_pages.specs.Sheet.{IsSetUnder, frame_of};
-ghost use Rattle.abcps.specs.Outcome.{IsEnd};
-ghost use Rattle.abcps.specs.Pressed.{IsBegun, IsClosed, IsRunning, IsUnderWay, WasGiven, status_if};
+ghost use Rattle.abc_header.specs.{declared.defaults.Defaults.Defaults, declared.paper.Paper.Paper, Good.IsGoodDefaults, Papers.IsGoodPaper, Papers.height_of};
+ghost use Rattle.ps_text.specs.{declared.sheet.Page.Page, Document.numbered, Document.page_text, Prolog.prolog, Range.IsPage};
+ghost use Rattle.set_book.specs.declared.outcome.Outcome.{Outcome};
+ghost use Rattle.set_pages.specs.{declared.plan.Plan.Plan, Drawings.all_blocks, Press.HasRoom, Press.IsOpen, Press.done_pages, Sheet.IsSetUnder, Sheet.frame_of};
+ghost use Rattle.abcps.specs.{Outcome.IsEnd, Outcome.observed, Pressed.IsBegun, Pressed.IsClosed, Pressed.IsRunning, Pressed.IsUnderWay, Pressed.WasGiven, Pressed.status_if};
 
 use crate::status::Status;
 use abc_header::Paper;
@@ -64,7 +54,7 @@ pub(crate) fn begin_run<O: Sink>(
     output: &mut O,
 ) -> Result<Running, Status>
     requires { IsGoodPaper paper.now }
-    ensures wrote { WasGiven (record { before = O.taken output.old; after = O.taken output.new; count_before = O.faults output.old; count_after = O.faults output.new }) (prolog (frame_of paper.now)) result }
+    ensures wrote { WasGiven (observed O.taken O.faults output.old output.new) (prolog (frame_of paper.now)) result }
     ensures begun { IfOk result IsBegun }
 {
     let writer = begin(alloc, &frame_of(paper), output)?;
@@ -88,7 +78,7 @@ pub(crate) fn take(
     requires outcomes { All (IsSetUnder paper.now) outcomes.now }
     requires room { HasRoom plan.now (height_of paper.now) run.old.press (all_blocks outcomes.now) }
     requires open { IsOpen run.old.press }
-    ensures running { OnOk result ((before : List outcome.Outcome) (given : List page.Page) → IsRunning plan.now paper.now before given run.old → IsRunning plan.now paper.now (before ++ outcomes.now) given run.new) }
+    ensures running { OnOk result ((before : List Outcome) (given : List Page) → IsRunning plan.now paper.now before given run.old → IsRunning plan.now paper.now (before ++ outcomes.now) given run.new) }
     ensures open { OnOk result (IsOpen run.new.press) }
 {
     press_outcomes(alloc, paper, plan, outcomes, &mut run.press)?;
@@ -106,7 +96,7 @@ fn write_pages<O: Sink>(
 ) -> Result<DocWriter, Status>
     requires good { All IsPage pages.now }
     requires few { writer.pages + length pages.now < 2 ^ 32 }
-    ensures wrote { WasGiven (record { before = O.taken output.old; after = O.taken output.new; count_before = O.faults output.old; count_after = O.faults output.new }) (numbered page_text (writer.pages + 1) pages.now) result }
+    ensures wrote { WasGiven (observed O.taken O.faults output.old output.new) (numbered page_text (writer.pages + 1) pages.now) result }
     ensures count { IfOk result (λ next. next.pages ≡ writer.pages + length pages.now) }
 {
     let mut next = writer;
@@ -124,8 +114,8 @@ pub(crate) fn write_done<O: Sink>(
 ) -> Result<Running, Status>
     requires way { IsUnderWay run }
     requires open { IsOpen run.press }
-    ensures wrote { WasGiven (record { before = O.taken output.old; after = O.taken output.new; count_before = O.faults output.old; count_after = O.faults output.new }) (numbered page_text (run.writer.pages + 1) (done_pages run.press)) result }
-    ensures running { IfOk result (λ next. (plan : plan.Plan) (paper : paper.Paper) (outcomes : List outcome.Outcome) (given : List page.Page) → IsRunning plan paper outcomes given run → IsRunning plan paper outcomes (given ++ done_pages run.press) next) }
+    ensures wrote { WasGiven (observed O.taken O.faults output.old output.new) (numbered page_text (run.writer.pages + 1) (done_pages run.press)) result }
+    ensures running { IfOk result (λ next. (plan : Plan) (paper : Paper) (outcomes : List Outcome) (given : List Page) → IsRunning plan paper outcomes given run → IsRunning plan paper outcomes (given ++ done_pages run.press) next) }
     ensures open { IfOk result (λ next. IsOpen next.press) }
 {
     let mut press = run.press;
@@ -147,7 +137,7 @@ pub(crate) fn end_run<O: Sink>(
 ) -> Result<Printed, Status>
     requires way { IsUnderWay run }
     requires open { IsOpen run.press }
-    ensures { (plan : plan.Plan) (paper : paper.Paper) (outcomes : List outcome.Outcome) (given : List page.Page) → IsGoodPaper paper → IsRunning plan paper outcomes given run → IsClosed plan paper outcomes given (record { before = O.taken output.old; after = O.taken output.new; count_before = O.faults output.old; count_after = O.faults output.new }) result }
+    ensures { (plan : Plan) (paper : Paper) (outcomes : List Outcome) (given : List Page) → IsGoodPaper paper → IsRunning plan paper outcomes given run → IsClosed plan paper outcomes given (observed O.taken O.faults output.old output.new) result }
 {
     let pages = close_press(alloc, run.press)?;
     let writer = write_pages(alloc, pages.as_slice(), run.writer, output)?;

@@ -1,13 +1,9 @@
 ghost use Rattle.std.specs.Prelude.{◌≤◌, ◌^◌, ◌++◌, Bool, List, All, IfOk, OnOk, length};
-ghost use Rattle.abc_lines.specs.declared.book.TuneText as tune_text;
-ghost use Rattle.abc_lines.specs.Good.{IsGoodTune};
-ghost use Rattle.abc_header.specs.Good.{IsGoodDefaults};
-ghost use Rattle.abc_header.specs.Papers.{IsGoodPaper, height_of};
-ghost use Rattle.set_book.specs.declared.outcome.Outcome as outcome;
-ghost use Rattle.set_book.specs.Outcomes.{AreOutcomes};
-ghost use Rattle.set_pages.specs.Drawings.{all_blocks};
-ghost use Rattle.set_pages.specs.Press.{HasRoom, IsOpen};
-ghost use Rattle.abcps.specs.Pressed.{AreGathered, ArePrinted, AreTaken, IsPlanned, IsPrinted};
+ghost use Rattle.abc_lines.specs.{declared.book.TuneText.TuneText, Good.IsGoodTune};
+ghost use Rattle.abc_header.specs.{Good.IsGoodDefaults, Papers.IsGoodPaper, Papers.height_of};
+ghost use Rattle.set_book.specs.{declared.outcome.Outcome.Outcome, Outcomes.AreOutcomes};
+ghost use Rattle.set_pages.specs.{Drawings.all_blocks, Press.HasRoom, Press.IsOpen};
+ghost use Rattle.abcps.specs.{Pressed.AreGathered, Pressed.ArePrinted, Pressed.AreTaken, Pressed.IsPlanned, Pressed.IsPrinted, Outcome.observed};
 
 use crate::pressing::{Printed, Running, begin_run, end_run, take, write_done};
 use crate::status::Status;
@@ -45,7 +41,7 @@ fn take_batch<R: Threads + Sync, G: Gate + Sync>(
     requires some { 1 ≤ jobs }
     requires few { jobs ≤ 64 }
     requires open { IsOpen run.old.press }
-    requires room { (outcomes : List outcome.Outcome) → AreOutcomes defaults.now paper.now how batch.now outcomes → HasRoom plan.now (height_of paper.now) run.old.press (all_blocks outcomes) }
+    requires room { (outcomes : List Outcome) → AreOutcomes defaults.now paper.now how batch.now outcomes → HasRoom plan.now (height_of paper.now) run.old.press (all_blocks outcomes) }
     ensures taken { OnOk result (AreTaken defaults.now plan.now paper.now how batch.now run.old run.new) }
     ensures open { OnOk result (IsOpen run.new.press) }
 {
@@ -71,7 +67,7 @@ fn gather_batch<R: Threads + Sync, G: Gate + Sync>(
     requires paper { IsGoodPaper paper.now }
     requires some { 1 ≤ jobs }
     requires few { jobs ≤ 64 }
-    ensures { OnOk result ((before : List tune_text.TuneText) → AreGathered defaults.now paper.now how before blocks.old → AreGathered defaults.now paper.now how (before ++ batch.now) blocks.new) }
+    ensures { OnOk result ((before : List TuneText) → AreGathered defaults.now paper.now how before blocks.old → AreGathered defaults.now paper.now how (before ++ batch.now) blocks.new) }
 {
     let outcomes = set_tunes(rt, alloc, batch, defaults, paper, how, jobs, gate)?;
     gather_blocks(alloc, outcomes.as_slice(), blocks)?;
@@ -167,7 +163,7 @@ fn print_tunes<R: Threads + Sync, O: Sink, G: Gate + Sync>(
     requires some { 1 ≤ jobs }
     requires few { jobs ≤ 64 }
     requires planned { (even : Bool) × IsPlanned even defaults.now paper.now how tunes.now plan.now }
-    ensures { ArePrinted defaults.now plan.now paper.now how tunes.now (record { before = O.taken output.old; after = O.taken output.new; count_before = O.faults output.old; count_after = O.faults output.new }) result }
+    ensures { ArePrinted defaults.now plan.now paper.now how tunes.now (observed O.taken O.faults output.old output.new) result }
 {
     let mut run = begin_run(alloc, paper, output)?;
     let mut rest = tunes;
@@ -197,7 +193,7 @@ pub(crate) fn print_book<R: Threads + Sync, O: Sink, G: Gate + Sync>(
     requires some { 1 ≤ jobs }
     requires few { jobs ≤ 64 }
     requires within { length text.now ≤ 2 ^ 30 }
-    ensures { IsPrinted how even text.now (record { before = O.taken output.old; after = O.taken output.new; count_before = O.faults output.old; count_after = O.faults output.new }) result }
+    ensures { IsPrinted how even text.now (observed O.taken O.faults output.old output.new) result }
 {
     let book = cut_book(alloc, text)?;
     let paper = read_paper(&book);

@@ -1,8 +1,6 @@
 ghost use Rattle.std.specs.Prelude.{◌≡◌, ◌≤◌, length, map, string_bytes};
 ghost use Rattle.abcps_words.specs.Command.{IsGoodCommand, limit_of};
-ghost use Rattle.abcps.specs.Calls.{CallsOne, NeverBoth};
-ghost use Rattle.abcps.specs.Outcome.{IsAnswer, IsObeyed, IsReader, IsRun};
-ghost use Rattle.abcps.specs.Promises.{Promises};
+ghost use Rattle.abcps.specs.{Calls.CallsOne, Calls.NeverBoth, Outcome.IsAnswer, Outcome.IsObeyed, Outcome.IsReader, Outcome.IsRun, Outcome.observed, Promises.Promises};
 
 use crate::books::{set, systems, trial};
 use crate::hearing::hear;
@@ -34,9 +32,7 @@ fn answer<R: Threads + Sync, O: Sink, E: Sink, G: Gate + Sync>(
     requires reader { IsReader command }
     requires good { IsGoodCommand command }
     requires within { length text.now ≤ limit_of command }
-    ensures { IsAnswer command result text.now
-        (record { before = O.taken output.old; after = O.taken output.new; count_before = O.faults output.old; count_after = O.faults output.new })
-        (record { before = E.taken errors.old; after = E.taken errors.new; count_before = E.faults errors.old; count_after = E.faults errors.new }) }
+    ensures { IsAnswer command result text.now (observed O.taken O.faults output.old output.new) (observed E.taken E.faults errors.old errors.new) }
 {
     match command {
         Command::Set {
@@ -80,10 +76,7 @@ fn read_and_answer<R: Threads + Sync, S: Source, O: Sink, E: Sink, G: Gate + Syn
 ) -> Status
     requires reader { IsReader command }
     requires good { IsGoodCommand command }
-    ensures { IsObeyed command result
-        (record { before = S.left input.old; after = S.left input.new; count_before = S.faults input.old; count_after = S.faults input.new })
-        (record { before = O.taken output.old; after = O.taken output.new; count_before = O.faults output.old; count_after = O.faults output.new })
-        (record { before = E.taken errors.old; after = E.taken errors.new; count_before = E.faults errors.old; count_after = E.faults errors.new }) }
+    ensures { IsObeyed command result (observed S.left S.faults input.old input.new) (observed O.taken O.faults output.old output.new) (observed E.taken E.faults errors.old errors.new) }
 {
     match read_all(alloc, input, command.limit()) {
         Err(ReadError::Fault) => Status::ReadFault,
@@ -104,10 +97,7 @@ fn obey<R: Threads + Sync, S: Source, O: Sink, E: Sink, G: Gate + Sync>(
     gate: &G,
 ) -> Status
     requires { IsGoodCommand command }
-    ensures { IsObeyed command result
-        (record { before = S.left input.old; after = S.left input.new; count_before = S.faults input.old; count_after = S.faults input.new })
-        (record { before = O.taken output.old; after = O.taken output.new; count_before = O.faults output.old; count_after = O.faults output.new })
-        (record { before = E.taken errors.old; after = E.taken errors.new; count_before = E.faults errors.old; count_after = E.faults errors.new }) }
+    ensures { IsObeyed command result (observed S.left S.faults input.old input.new) (observed O.taken O.faults output.old output.new) (observed E.taken E.faults errors.old errors.new) }
 {
     match command {
         Command::Make { tunes } => make_book(alloc, tunes, output, errors),
@@ -131,10 +121,7 @@ fn run_words<R: Threads + Sync, S: Source, O: Sink, E: Sink, G: Gate + Sync>(
     errors: &mut E,
     gate: &G,
 ) -> Status
-    ensures { IsRun result (map string_bytes words.now)
-        (record { before = S.left input.old; after = S.left input.new; count_before = S.faults input.old; count_after = S.faults input.new })
-        (record { before = O.taken output.old; after = O.taken output.new; count_before = O.faults output.old; count_after = O.faults output.new })
-        (record { before = E.taken errors.old; after = E.taken errors.new; count_before = E.faults errors.old; count_after = E.faults errors.new }) }
+    ensures { IsRun result (map string_bytes words.now) (observed S.left S.faults input.old input.new) (observed O.taken O.faults output.old output.new) (observed E.taken E.faults errors.old errors.new) }
 {
     let Some(command) = command_of(words) else {
         tell_usage(errors);
@@ -188,10 +175,7 @@ pub fn run<R: Threads + Sync, S: Source, O: Sink, E: Sink, G: Gate + Sync>(
     errors: &mut E,
     gate: &G,
 ) -> Status
-    ensures { Promises result (map string_bytes words.now)
-        (record { before = S.left input.old; after = S.left input.new; count_before = S.faults input.old; count_after = S.faults input.new })
-        (record { before = O.taken output.old; after = O.taken output.new; count_before = O.faults output.old; count_after = O.faults output.new })
-        (record { before = E.taken errors.old; after = E.taken errors.new; count_before = E.faults errors.old; count_after = E.faults errors.new }) }
+    ensures { Promises result (map string_bytes words.now) (observed S.left S.faults input.old input.new) (observed O.taken O.faults output.old output.new) (observed E.taken E.faults errors.old errors.new) }
 {
     asks_one();
     calls_one();

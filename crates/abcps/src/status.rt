@@ -1,6 +1,5 @@
 ghost use Rattle.std.specs.Prelude.{◌≡◌};
-ghost use Rattle.abcps.specs.Status.{number_of, status_after};
-ghost use Rattle.abcps.specs.declared.status.Status.TheVariants as status;
+ghost use Rattle.abcps.specs.{Status.number_of, Status.status_after, declared.status.Status.Status};
 
 use mus_units::Memory;
 use ps_write::DocError;
@@ -51,7 +50,7 @@ impl Status {
 }
 
 impl From<Memory> for Status {
-    ghost from_gives = { λ _ s. s ≡ status.Memory };
+    ghost from_gives = { λ _ s. s ≡ Status.Memory };
 
     fn from(_: Memory) -> Status {
         Status::Memory

@@ -1,8 +1,6 @@
 ghost use Rattle.std.specs.Prelude.{◌≡◌, ◌⊎◌, IfOk};
 ghost use Rattle.abcps_words.specs.Usage.{usage_line};
-ghost use Rattle.abcps.specs.Outcome.{IsAnswered, IsEnd, IsQuiet, TookAll, TookFront, WasTold};
-ghost use Rattle.abcps.specs.Refusals.{refusal_line, refusal_status};
-ghost use Rattle.abcps.specs.declared.status.Status.TheVariants as status;
+ghost use Rattle.abcps.specs.{Outcome.IsAnswered, Outcome.IsEnd, Outcome.IsQuiet, Outcome.TookAll, Outcome.TookFront, Outcome.WasTold, Outcome.observed, Refusals.refusal_line, Refusals.refusal_status, declared.status.Status.Status};
 
 use crate::refusing::Refusal;
 use crate::status::Status;
@@ -13,22 +11,22 @@ use std::alloc::Global;
 
 /// Tells a sink a line; the status stands whatever it does.
 pub(crate) fn tell<E: Sink>(errors: &mut E, line: &[u8])
-    ensures { WasTold (record { before = E.taken errors.old; after = E.taken errors.new; count_before = E.faults errors.old; count_after = E.faults errors.new }) line.now }
+    ensures { WasTold (observed E.taken E.faults errors.old errors.new) line.now }
 {
     let _ = write_all(errors, line);
 }
 
 /// Tells a sink the usage line; the status stands whatever it does.
 pub(crate) fn tell_usage<E: Sink>(errors: &mut E)
-    ensures { WasTold (record { before = E.taken errors.old; after = E.taken errors.new; count_before = E.faults errors.old; count_after = E.faults errors.new }) usage_line }
+    ensures { WasTold (observed E.taken E.faults errors.old errors.new) usage_line }
 {
     tell(errors, usage());
 }
 
 /// Tells errors the last text of a run, whose answer that is unless errors fails.
 pub(crate) fn end<E: Sink>(errors: &mut E, told: &[u8], with: Status) -> Status
-    ensures { ((result ≡ with) × TookAll (record { before = E.taken errors.old; after = E.taken errors.new; count_before = E.faults errors.old; count_after = E.faults errors.new }) told.now)
-        ⊎ ((result ≡ status.WriteFault) × TookFront (record { before = E.taken errors.old; after = E.taken errors.new; count_before = E.faults errors.old; count_after = E.faults errors.new }) told.now) }
+    ensures { ((result ≡ with) × TookAll (observed E.taken E.faults errors.old errors.new) told.now)
+        ⊎ ((result ≡ Status.WriteFault) × TookFront (observed E.taken E.faults errors.old errors.new) told.now) }
 {
     match write_all(errors, told) {
         Ok(()) => with,
@@ -46,9 +44,7 @@ pub(crate) fn write_both<O: Sink, E: Sink>(
     with: Status,
 ) -> Status
     requires { IsEnd with }
-    ensures { IsAnswered (λ called. called ≡ record { page = page.now; told = told.now; status = with }) result
-        (record { before = O.taken output.old; after = O.taken output.new; count_before = O.faults output.old; count_after = O.faults output.new })
-        (record { before = E.taken errors.old; after = E.taken errors.new; count_before = E.faults errors.old; count_after = E.faults errors.new }) }
+    ensures { IsAnswered (λ called. called ≡ record { page = page.now; told = told.now; status = with }) result (observed O.taken O.faults output.old output.new) (observed E.taken E.faults errors.old errors.new) }
 {
     match write_all(output, page) {
         Ok(()) => end(errors, told, with),
@@ -67,8 +63,8 @@ fn line_of(alloc: Global, refusal: Refusal) -> Result<Text, Memory>
 
 /// Tells why an input is refused; its answer stands whatever the sink does.
 pub(crate) fn refuse<E: Sink>(alloc: Global, refusal: Refusal, errors: &mut E) -> Status
-    ensures { ((result ≡ status.Memory) × IsQuiet (record { before = E.taken errors.old; after = E.taken errors.new; count_before = E.faults errors.old; count_after = E.faults errors.new }))
-        ⊎ ((result ≡ refusal_status refusal) × WasTold (record { before = E.taken errors.old; after = E.taken errors.new; count_before = E.faults errors.old; count_after = E.faults errors.new }) (refusal_line refusal)) }
+    ensures { ((result ≡ Status.Memory) × IsQuiet (observed E.taken E.faults errors.old errors.new))
+        ⊎ ((result ≡ refusal_status refusal) × WasTold (observed E.taken E.faults errors.old errors.new) (refusal_line refusal)) }
 {
     let Ok(line) = line_of(alloc, refusal) else {
         return Status::Memory;

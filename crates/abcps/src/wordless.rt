@@ -1,7 +1,5 @@
-ghost use Rattle.std.specs.Prelude.{◌≡◌};
-ghost use Rattle.std.specs.IoError.{error_kind};
-ghost use Rattle.abcps.specs.Wordless.{IsWordless, cause_of};
-ghost use Rattle.abcps.specs.declared.wordless.WordsError.TheVariants as wants;
+ghost use Rattle.std.specs.{Prelude.◌≡◌, IoError.error_kind};
+ghost use Rattle.abcps.specs.{Wordless.IsWordless, Wordless.cause_of, declared.wordless.WordsError.WordsError, Outcome.observed};
 
 use crate::status::Status;
 use crate::telling::tell_usage;
@@ -30,7 +28,7 @@ impl From<io::Error> for WordsError {
 }
 
 impl From<AllocError> for WordsError {
-    ghost from_gives = { λ _ why. why ≡ wants.Memory };
+    ghost from_gives = { λ _ why. why ≡ WordsError.Memory };
 
     fn from(_: AllocError) -> WordsError {
         WordsError::Memory
@@ -41,7 +39,7 @@ impl From<AllocError> for WordsError {
 /// `errors` is told the usage line and the answer is `Usage`; where memory ran out nothing is written,
 /// and the answer is `Memory`.
 pub fn refuse_words<E: Sink>(why: WordsError, errors: &mut E) -> Status
-    ensures { IsWordless why result (record { before = E.taken errors.old; after = E.taken errors.new; count_before = E.faults errors.old; count_after = E.faults errors.new }) }
+    ensures { IsWordless why result (observed E.taken E.faults errors.old errors.new) }
 {
     match why {
         WordsError::NotText => {

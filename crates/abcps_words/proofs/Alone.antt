@@ -1,49 +1,43 @@
 -- Words ask for one command, and its numbers are in range.
 use Rattle.std.proofs.Common.{◌≡◌, ℕ, pos, if◌then◌else◌, ◌==◌, List, ◌++◌, Option, Some, None, MatchOption, IfSome, IfNone, unwrap_or, refl, sym, ◌∙◌, ap, subst, arith, decimal}
-use Rattle.std.proofs.lemmas.Fmt.{decimal_is_IsNumeral}
-use Rattle.std.specs.Str.Parse.{digits_value}
+use Rattle.std.{proofs.lemmas.Fmt.decimal_is_IsNumeral, specs.Str.Parse.digits_value}
 use Rattle.mus_units.specs.declared.key.Spread.{Spread}
-use Rattle.mus_units.specs.declared.key.Spread.TheVariants as spreads
-use Rattle.abcps_words.specs.{declared.options.Flag.Flag, declared.options.Options.Options, declared.command.Command.Command}
-use Rattle.abcps_words.specs.Words.{IsWithin, IsMove, front_of, HasTunes, IsSpelled, said, Says}
-use Rattle.abcps_words.specs.Command.{Asks, IsListed, AsksOne, AskedIsGood, IsGoodCommand}
-use Rattle.abcps_words.specs.declared.command.Command.TheVariants as command
-use Rattle.abcps_words.proofs.Fronts.{head_of, tail_of, key_of, same_front}
-use Rattle.abcps_words.proofs.Flags.{one_spelling, half_steps_good, jobs_good}
+use Rattle.abcps_words.specs.{declared.options.Flag.Flag, declared.options.Options.Options, declared.command.Command.Command, Words.IsWithin, Words.IsMove, Words.front_of, Words.HasTunes, Words.IsSpelled, Words.said, Words.Says, Command.Asks, Command.IsListed, Command.AsksOne, Command.AskedIsGood}
+use Rattle.abcps_words.{specs.Command.IsGoodCommand, proofs.Fronts.head_of, proofs.Fronts.tail_of, proofs.Fronts.key_of, proofs.Fronts.same_front, proofs.Flags.one_spelling, proofs.Flags.half_steps_good, proofs.Flags.jobs_good}
 
 -- the spread that a word is
 abbrev spread_back : List ℕ → Spread
 spread_back word =
     let key = key_of word in
-    if key == 337 then spreads.Not else
-    if key == 423 then spreads.Octave else spreads.Pitch
+    if key == 337 then Spread.Not else
+    if key == 423 then Spread.Octave else Spread.Pitch
 
 -- the command with this front and these options
 abbrev rebuilt : List (List ℕ) → Options → Command
 rebuilt front o =
     let key = key_of (head_of front) in
     let tunes = digits_value 10 (head_of (tail_of front)) in
-    if key == 332 then command.Set o.flow (unwrap_or o.jobs 1) (unwrap_or o.by (pos 0)) o.even else
-    if key == 467 then command.Systems o.flow o.table (unwrap_or o.by (pos 0)) else
-    if key == 442 then command.Inspect else
-    if key == 403 then command.Check else
-    if key == 424 then command.Paint else
-    if key == 416 then command.Hear (spread_back (head_of (tail_of front))) else
-    if key == 414 then command.Make tunes else command.Trial tunes o.flow (unwrap_or o.jobs 1) o.even
+    if key == 332 then Command.Set o.flow (unwrap_or o.jobs 1) (unwrap_or o.by (pos 0)) o.even else
+    if key == 467 then Command.Systems o.flow o.table (unwrap_or o.by (pos 0)) else
+    if key == 442 then Command.Inspect else
+    if key == 403 then Command.Check else
+    if key == 424 then Command.Paint else
+    if key == 416 then Command.Hear (spread_back (head_of (tail_of front))) else
+    if key == 414 then Command.Make tunes else Command.Trial tunes o.flow (unwrap_or o.jobs 1) o.even
 
 number_back : (n : ℕ) → IsWithin 500 n → digits_value 10 (decimal n) ≡ n
 number_back n within = (decimal_is_IsNumeral n (omega (arith, within))).1
 
 is_rebuilt : (c : Command) (o : Options) → HasTunes c → Says o c → rebuilt (front_of c) o ≡ c
-is_rebuilt (command.Set flow jobs by even) o good says = cc (says.0, says.1, says.2, says.3)
-is_rebuilt (command.Systems flow table by) o good says = cc (says.0, says.1, says.2)
-is_rebuilt command.Inspect o good says = refl
-is_rebuilt command.Check o good says = refl
-is_rebuilt command.Paint o good says = refl
-is_rebuilt (command.Hear spreads.Not) o good says = refl
-is_rebuilt (command.Hear spread) o good says = refl
-is_rebuilt (command.Make tunes) o good says = ap command.Make (number_back tunes good)
-is_rebuilt (command.Trial tunes flow jobs even) o good says = cc (number_back tunes good, says.0, says.1, says.2)
+is_rebuilt (Command.Set flow jobs by even) o good says = cc (says.0, says.1, says.2, says.3)
+is_rebuilt (Command.Systems flow table by) o good says = cc (says.0, says.1, says.2)
+is_rebuilt Command.Inspect o good says = refl
+is_rebuilt Command.Check o good says = refl
+is_rebuilt Command.Paint o good says = refl
+is_rebuilt (Command.Hear Spread.Not) o good says = refl
+is_rebuilt (Command.Hear spread) o good says = refl
+is_rebuilt (Command.Make tunes) o good says = ap Command.Make (number_back tunes good)
+is_rebuilt (Command.Trial tunes flow jobs even) o good says = cc (number_back tunes good, says.0, says.1, says.2)
 
 pub one_front : (c d : Command) (o : Options) → front_of c ≡ front_of d → HasTunes c → HasTunes d → Says o c → Says o d → c ≡ d
 one_front c d o e a b says tells = sym (is_rebuilt c o a says) ∙ ap (λ front. rebuilt front o) e ∙ is_rebuilt d o b tells
@@ -55,10 +49,10 @@ asks_one words c d a b =
     one_front c d (said a.options) fronts.0 a.tunes b.tunes a.says (subst (λ flags. Says (said flags) d) (sym same) b.says)
 
 good_by : (c : Command) (flags : List Flag) (options : List (List ℕ)) → HasTunes c → IsSpelled flags options → Says (said flags) c → IsGoodCommand c
-good_by (command.Set flow jobs by even) flags options good is says = (subst (IsWithin 64) (sym says.1) (jobs_good flags is.in_range), subst IsMove (sym says.2) (half_steps_good flags is.in_range))
-good_by (command.Systems flow table by) flags options good is says = subst IsMove (sym says.2) (half_steps_good flags is.in_range)
-good_by (command.Make tunes) flags options good is says = good
-good_by (command.Trial tunes flow jobs even) flags options good is says = (good, subst (IsWithin 64) (sym says.1) (jobs_good flags is.in_range))
+good_by (Command.Set flow jobs by even) flags options good is says = (subst (IsWithin 64) (sym says.1) (jobs_good flags is.in_range), subst IsMove (sym says.2) (half_steps_good flags is.in_range))
+good_by (Command.Systems flow table by) flags options good is says = subst IsMove (sym says.2) (half_steps_good flags is.in_range)
+good_by (Command.Make tunes) flags options good is says = good
+good_by (Command.Trial tunes flow jobs even) flags options good is says = (good, subst (IsWithin 64) (sym says.1) (jobs_good flags is.in_range))
 good_by c flags options good is says = tt
 
 pub asked_is_good : AskedIsGood

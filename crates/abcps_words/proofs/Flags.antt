@@ -1,14 +1,9 @@
 -- Options read one after another from the front: what stands read at each step, and that no other options have the same words.
 use Rattle.std.proofs.Common.{◌≡◌, ℕ, ℤ, pos, negsuc, ◌+◌, ◌<◌, ◌≤◌, ◌^◌, Bool, true, false, cond, ◌||◌, List, [], ◌∷◌, ◌++◌, length, Option, Some, None, is_some, unwrap_or, All, flat_map, refl, sym, ◌∙◌, ap, subst, arith, decimal, append_assoc}
-use Rattle.std.proofs.{lemmas.Bool.true≢false, lemmas.Fmt.decimal_injective, lemmas.Fmt.signed_decimal_injective, lemmas.Int.ints}
-use Rattle.std.proofs.{lemmas.List.append-nil, lemmas.List.Elements.All-head, lemmas.List.Elements.All-tail, lemmas.List.Elements.All-push}
-use Rattle.std.proofs.{lemmas.List.Sums.sum_by-append, lemmas.Grind.flat_map-append}
+use Rattle.std.proofs.lemmas.{Bool.true≢false, Fmt.decimal_injective, Fmt.signed_decimal_injective, Int.ints, List.append-nil, List.Elements.All-head, List.Elements.All-tail, List.Elements.All-push, List.Sums.sum_by-append, Grind.flat_map-append}
 use Rattle.std.specs.{Int.Signed.mag, List.list_any, List.count_by, Option.option_or}
-use Rattle.abcps_words.specs.{declared.options.Flag.Flag, declared.options.Options.Options}
 use Rattle.abcps_words.specs.Words.{IsWithin, IsMove, flag_words, IsFlag, same_kind, IsOnce, IsSpelled, jobs_of, half_steps_of, first_said, said}
-use Rattle.abcps_words.specs.Adding.{has_kind, with_flag, added}
-use Rattle.abcps_words.specs.declared.options.Flag.TheVariants as flag
-use Rattle.abcps_words.proofs.Fronts.{head_of, tail_of, clash}
+use Rattle.abcps_words.{specs.declared.options.Flag.Flag, specs.declared.options.Options.Options, specs.Adding.has_kind, specs.Adding.with_flag, specs.Adding.added, proofs.Fronts.head_of, proofs.Fronts.tail_of, proofs.Fronts.clash}
 
 one_number : (n m : ℕ) → IsWithin 64 n → IsWithin 64 m → decimal n ≡ decimal m → n ≡ m
 one_number n m a b e = decimal_injective n m (omega (arith, a)) (omega (arith, b)) e
@@ -24,15 +19,15 @@ small (negsuc n) move = omega (arith, ints)
 
 -- words begin with one option
 one_flag : (f g : Flag) (xs ys : List (List ℕ)) → IsFlag f → IsFlag g → flag_words f ++ xs ≡ flag_words g ++ ys → (f ≡ g) × (xs ≡ ys)
-one_flag flag.Flow flag.Flow xs ys a b e = (refl, ap tail_of e)
-one_flag flag.Table flag.Table xs ys a b e = (refl, ap tail_of e)
-one_flag flag.Even flag.Even xs ys a b e = (refl, ap tail_of e)
-one_flag (flag.Jobs n) (flag.Jobs m) xs ys a b e = (ap flag.Jobs (one_number n m a b (ap second e)), ap (λ ws. tail_of (tail_of ws)) e)
-one_flag (flag.Transpose y) (flag.Transpose z) xs ys a b e = (ap flag.Transpose (signed_decimal_injective y z (small y a) (small z b) (ap second e)), ap (λ ws. tail_of (tail_of ws)) e)
+one_flag Flag.Flow Flag.Flow xs ys a b e = (refl, ap tail_of e)
+one_flag Flag.Table Flag.Table xs ys a b e = (refl, ap tail_of e)
+one_flag Flag.Even Flag.Even xs ys a b e = (refl, ap tail_of e)
+one_flag (Flag.Jobs n) (Flag.Jobs m) xs ys a b e = (ap Flag.Jobs (one_number n m a b (ap second e)), ap (λ ws. tail_of (tail_of ws)) e)
+one_flag (Flag.Transpose y) (Flag.Transpose z) xs ys a b e = (ap Flag.Transpose (signed_decimal_injective y z (small y a) (small z b) (ap second e)), ap (λ ws. tail_of (tail_of ws)) e)
 one_flag f g xs ys a b e = absurd (clash (head_of (flag_words f)) (flag_words f ++ xs) (flag_words g ++ ys) e refl refl)
 
 some_words : (f : Flag) (xs : List (List ℕ)) → flag_words f ++ xs ≡ [] → ⊥
-some_words flag.Flow xs e = let l = ap length e in omega arith
+some_words Flag.Flow xs e = let l = ap length e in omega arith
 some_words f xs e = let l = ap length e in omega arith
 
 -- what was read stands in front of any options that have the same words
@@ -67,14 +62,14 @@ any_counted p (x ∷ xs) b e = by_test (any_counted p xs) (p x) refl b e
 
 -- ---- numbers that options say
 
-jobs_any : (n : ℕ) (xs : List Flag) → is_some (first_said jobs_of xs) ≡ list_any (same_kind (flag.Jobs n)) xs
+jobs_any : (n : ℕ) (xs : List Flag) → is_some (first_said jobs_of xs) ≡ list_any (same_kind (Flag.Jobs n)) xs
 jobs_any n [] = refl
-jobs_any n (flag.Jobs m ∷ xs) = refl
+jobs_any n (Flag.Jobs m ∷ xs) = refl
 jobs_any n (f ∷ xs) = jobs_any n xs
 
-half_steps_any : (z : ℤ) (xs : List Flag) → is_some (first_said half_steps_of xs) ≡ list_any (same_kind (flag.Transpose z)) xs
+half_steps_any : (z : ℤ) (xs : List Flag) → is_some (first_said half_steps_of xs) ≡ list_any (same_kind (Flag.Transpose z)) xs
 half_steps_any z [] = refl
-half_steps_any z (flag.Transpose y ∷ xs) = refl
+half_steps_any z (Flag.Transpose y ∷ xs) = refl
 half_steps_any z (f ∷ xs) = half_steps_any z xs
 
 first_behind : {A : Type 0} (p : Flag → Option A) (xs ys : List Flag) → is_some (first_said p xs) ≡ false → first_said p (xs ++ ys) ≡ first_said p ys
@@ -112,38 +107,38 @@ any_kept p (x ∷ seen) f e = ap (λ b. p x || b) (any_kept p seen f e)
 -- ---- options of one kind
 
 own_kind : (f : Flag) → same_kind f f ≡ true
-own_kind flag.Flow = refl
+own_kind Flag.Flow = refl
 own_kind f = refl
 
 kinds_alike : (o : Options) (f g : Flag) → same_kind g f ≡ true → has_kind o f ≡ has_kind o g
-kinds_alike o flag.Flow flag.Flow is = refl
-kinds_alike o flag.Table flag.Table is = refl
-kinds_alike o flag.Even flag.Even is = refl
-kinds_alike o (flag.Jobs n) (flag.Jobs m) is = refl
-kinds_alike o (flag.Transpose y) (flag.Transpose z) is = refl
+kinds_alike o Flag.Flow Flag.Flow is = refl
+kinds_alike o Flag.Table Flag.Table is = refl
+kinds_alike o Flag.Even Flag.Even is = refl
+kinds_alike o (Flag.Jobs n) (Flag.Jobs m) is = refl
+kinds_alike o (Flag.Transpose y) (Flag.Transpose z) is = refl
 kinds_alike o f g is = absurd (true≢false (sym is))
 
 kinds_said : (f : Flag) (seen : List Flag) → has_kind (said seen) f ≡ list_any (same_kind f) seen
-kinds_said flag.Flow seen = refl
-kinds_said flag.Table seen = refl
-kinds_said flag.Even seen = refl
-kinds_said (flag.Jobs n) seen = jobs_any n seen
-kinds_said (flag.Transpose z) seen = half_steps_any z seen
+kinds_said Flag.Flow seen = refl
+kinds_said Flag.Table seen = refl
+kinds_said Flag.Even seen = refl
+kinds_said (Flag.Jobs n) seen = jobs_any n seen
+kinds_said (Flag.Transpose z) seen = half_steps_any z seen
 
 -- what options say with one more
 said_more : (seen : List Flag) (f : Flag) → has_kind (said seen) f ≡ false → with_flag (said seen) f ≡ said (seen ++ f ∷ [])
-said_more seen flag.Flow none =
-    rw (any_new (same_kind flag.Flow) seen flag.Flow refl, any_kept (same_kind flag.Table) seen flag.Flow refl, any_kept (same_kind flag.Even) seen flag.Flow refl, first_kept jobs_of seen flag.Flow refl, first_kept half_steps_of seen flag.Flow refl) refl
-said_more seen flag.Table none =
-    rw (any_kept (same_kind flag.Flow) seen flag.Table refl, any_new (same_kind flag.Table) seen flag.Table refl, any_kept (same_kind flag.Even) seen flag.Table refl, first_kept jobs_of seen flag.Table refl, first_kept half_steps_of seen flag.Table refl) refl
-said_more seen flag.Even none =
-    rw (any_kept (same_kind flag.Flow) seen flag.Even refl, any_kept (same_kind flag.Table) seen flag.Even refl, any_new (same_kind flag.Even) seen flag.Even refl, first_kept jobs_of seen flag.Even refl, first_kept half_steps_of seen flag.Even refl) refl
-said_more seen (flag.Jobs n) none =
-    let f = flag.Jobs n in
-    rw (any_kept (same_kind flag.Flow) seen f refl, any_kept (same_kind flag.Table) seen f refl, any_kept (same_kind flag.Even) seen f refl, first_behind jobs_of seen (f ∷ []) none, first_kept half_steps_of seen f refl) refl
-said_more seen (flag.Transpose z) none =
-    let f = flag.Transpose z in
-    rw (any_kept (same_kind flag.Flow) seen f refl, any_kept (same_kind flag.Table) seen f refl, any_kept (same_kind flag.Even) seen f refl, first_kept jobs_of seen f refl, first_behind half_steps_of seen (f ∷ []) none) refl
+said_more seen Flag.Flow none =
+    rw (any_new (same_kind Flag.Flow) seen Flag.Flow refl, any_kept (same_kind Flag.Table) seen Flag.Flow refl, any_kept (same_kind Flag.Even) seen Flag.Flow refl, first_kept jobs_of seen Flag.Flow refl, first_kept half_steps_of seen Flag.Flow refl) refl
+said_more seen Flag.Table none =
+    rw (any_kept (same_kind Flag.Flow) seen Flag.Table refl, any_new (same_kind Flag.Table) seen Flag.Table refl, any_kept (same_kind Flag.Even) seen Flag.Table refl, first_kept jobs_of seen Flag.Table refl, first_kept half_steps_of seen Flag.Table refl) refl
+said_more seen Flag.Even none =
+    rw (any_kept (same_kind Flag.Flow) seen Flag.Even refl, any_kept (same_kind Flag.Table) seen Flag.Even refl, any_new (same_kind Flag.Even) seen Flag.Even refl, first_kept jobs_of seen Flag.Even refl, first_kept half_steps_of seen Flag.Even refl) refl
+said_more seen (Flag.Jobs n) none =
+    let f = Flag.Jobs n in
+    rw (any_kept (same_kind Flag.Flow) seen f refl, any_kept (same_kind Flag.Table) seen f refl, any_kept (same_kind Flag.Even) seen f refl, first_behind jobs_of seen (f ∷ []) none, first_kept half_steps_of seen f refl) refl
+said_more seen (Flag.Transpose z) none =
+    let f = Flag.Transpose z in
+    rw (any_kept (same_kind Flag.Flow) seen f refl, any_kept (same_kind Flag.Table) seen f refl, any_kept (same_kind Flag.Even) seen f refl, first_kept jobs_of seen f refl, first_behind half_steps_of seen (f ∷ []) none) refl
 
 -- one more option that may stand
 fits : (seen : List Flag) → IsOnce seen → (f : Flag) → has_kind (said seen) f ≡ false → IsOnce (seen ++ f ∷ [])
@@ -226,10 +221,10 @@ one_spelling flags others words a b =
 -- the numbers that options say are in range
 pub jobs_good : (flags : List Flag) → All IsFlag flags → IsWithin 64 (unwrap_or (first_said jobs_of flags) 1)
 jobs_good [] good = record { low = omega arith; high = omega arith }
-jobs_good (flag.Jobs n ∷ flags) good = All-head IsFlag (flag.Jobs n) flags good
+jobs_good (Flag.Jobs n ∷ flags) good = All-head IsFlag (Flag.Jobs n) flags good
 jobs_good (f ∷ flags) good = jobs_good flags (All-tail IsFlag f flags good)
 
 pub half_steps_good : (flags : List Flag) → All IsFlag flags → IsMove (unwrap_or (first_said half_steps_of flags) (pos 0))
 half_steps_good [] good = record { low = omega arith; high = omega arith }
-half_steps_good (flag.Transpose z ∷ flags) good = All-head IsFlag (flag.Transpose z) flags good
+half_steps_good (Flag.Transpose z ∷ flags) good = All-head IsFlag (Flag.Transpose z) flags good
 half_steps_good (f ∷ flags) good = half_steps_good flags (All-tail IsFlag f flags good)

@@ -1,13 +1,8 @@
 -- What the first words can't be, and where the front of a command ends.
 use Rattle.std.proofs.Common.{◌≡◌, ℕ, ℤ, ◌+◌, true, false, ◌||◌, ◌==◌, if◌then◌else◌, List, [], ◌∷◌, ◌++◌, take, drop, codes, refl, sym, ◌∙◌, ap, arith, decimal}
-use Rattle.std.proofs.{lemmas.Bool.true≢false, lemmas.Bool.Decides.nat_tests}
-use Rattle.std.specs.Fmt.{signed_decimal}
+use Rattle.std.{proofs.lemmas.Bool.true≢false, proofs.lemmas.Bool.Decides.nat_tests, specs.Fmt.signed_decimal}
 use Rattle.mus_units.specs.declared.key.Spread.{Spread}
-use Rattle.abcps_words.specs.{declared.options.Flag.Flag, declared.command.Name.Name, declared.command.Command.Command}
-use Rattle.abcps_words.specs.Words.{IsWithin, IsMove, name_bytes, spread_word, front_of, HasTunes, flag_words, IsFlag}
-use Rattle.abcps_words.specs.declared.options.Flag.TheVariants as flag
-use Rattle.abcps_words.specs.declared.command.Name.TheVariants as name
-use Rattle.abcps_words.specs.declared.command.Command.TheVariants as command
+use Rattle.abcps_words.specs.{declared.options.Flag.Flag, declared.command.Name.Name, declared.command.Command.Command, Words.IsWithin, Words.IsMove, Words.name_bytes, Words.spread_word, Words.front_of, Words.HasTunes, Words.flag_words, Words.IsFlag}
 
 -- the words begin with no number from 1 to the most
 abbrev pub LacksNumber : ℕ → List (List ℕ) → Type 0
@@ -44,33 +39,33 @@ clash name words other e is apart =
     true≢false (sym (key_eq (key_of name) (key_of (head_of other)) same) ∙ apart)
 
 pub no_jobs : (word : List ℕ) (words : List (List ℕ)) → word ≡ codes "--jobs" → LacksNumber 64 words → (f : Flag) (rest : List (List ℕ)) → IsFlag f → word ∷ words ≡ flag_words f ++ rest → ⊥
-no_jobs word words is none (flag.Jobs n) rest good e = none n rest good (ap tail_of e)
+no_jobs word words is none (Flag.Jobs n) rest good e = none n rest good (ap tail_of e)
 no_jobs word words is none f rest good e = clash (codes "--jobs") (word ∷ words) (flag_words f ++ rest) e is refl
 
 pub no_half_steps : (word : List ℕ) (words : List (List ℕ)) → word ≡ codes "--transpose" → LacksHalfSteps words → (f : Flag) (rest : List (List ℕ)) → IsFlag f → word ∷ words ≡ flag_words f ++ rest → ⊥
-no_half_steps word words is none (flag.Transpose z) rest good e = none z rest good (ap tail_of e)
+no_half_steps word words is none (Flag.Transpose z) rest good e = none z rest good (ap tail_of e)
 no_half_steps word words is none f rest good e = clash (codes "--transpose") (word ∷ words) (flag_words f ++ rest) e is refl
 
 pub unnamed : (word : List ℕ) (words : List (List ℕ)) → ((n : Name) → word ≡ name_bytes n → ⊥) → (c : Command) (rest : List (List ℕ)) → word ∷ words ≡ front_of c ++ rest → ⊥
-unnamed word words none (command.Set flow jobs by even) rest e = none name.Set (ap head_of e)
-unnamed word words none (command.Systems flow table by) rest e = none name.Systems (ap head_of e)
-unnamed word words none command.Inspect rest e = none name.Inspect (ap head_of e)
-unnamed word words none command.Check rest e = none name.Check (ap head_of e)
-unnamed word words none command.Paint rest e = none name.Paint (ap head_of e)
-unnamed word words none (command.Hear spread) rest e = none name.Hear (ap head_of e)
-unnamed word words none (command.Make tunes) rest e = none name.Make (ap head_of e)
-unnamed word words none (command.Trial tunes flow jobs even) rest e = none name.Trial (ap head_of e)
+unnamed word words none (Command.Set flow jobs by even) rest e = none Name.Set (ap head_of e)
+unnamed word words none (Command.Systems flow table by) rest e = none Name.Systems (ap head_of e)
+unnamed word words none Command.Inspect rest e = none Name.Inspect (ap head_of e)
+unnamed word words none Command.Check rest e = none Name.Check (ap head_of e)
+unnamed word words none Command.Paint rest e = none Name.Paint (ap head_of e)
+unnamed word words none (Command.Hear spread) rest e = none Name.Hear (ap head_of e)
+unnamed word words none (Command.Make tunes) rest e = none Name.Make (ap head_of e)
+unnamed word words none (Command.Trial tunes flow jobs even) rest e = none Name.Trial (ap head_of e)
 
-pub no_make : (word : List ℕ) (words : List (List ℕ)) → word ≡ name_bytes name.Make → LacksNumber 500 words → (c : Command) (rest : List (List ℕ)) → HasTunes c → word ∷ words ≡ front_of c ++ rest → ⊥
-no_make word words is none (command.Make tunes) rest good e = none tunes rest good (ap tail_of e)
+pub no_make : (word : List ℕ) (words : List (List ℕ)) → word ≡ name_bytes Name.Make → LacksNumber 500 words → (c : Command) (rest : List (List ℕ)) → HasTunes c → word ∷ words ≡ front_of c ++ rest → ⊥
+no_make word words is none (Command.Make tunes) rest good e = none tunes rest good (ap tail_of e)
 no_make word words is none c rest good e = clash (codes "make") (word ∷ words) (front_of c ++ rest) e is refl
 
-pub no_trial : (word : List ℕ) (words : List (List ℕ)) → word ≡ name_bytes name.Trial → LacksNumber 500 words → (c : Command) (rest : List (List ℕ)) → HasTunes c → word ∷ words ≡ front_of c ++ rest → ⊥
-no_trial word words is none (command.Trial tunes flow jobs even) rest good e = none tunes rest good (ap tail_of e)
+pub no_trial : (word : List ℕ) (words : List (List ℕ)) → word ≡ name_bytes Name.Trial → LacksNumber 500 words → (c : Command) (rest : List (List ℕ)) → HasTunes c → word ∷ words ≡ front_of c ++ rest → ⊥
+no_trial word words is none (Command.Trial tunes flow jobs even) rest good e = none tunes rest good (ap tail_of e)
 no_trial word words is none c rest good e = clash (codes "trial") (word ∷ words) (front_of c ++ rest) e is refl
 
-pub no_hear : (word : List ℕ) (words : List (List ℕ)) → word ≡ name_bytes name.Hear → LacksSpread words → (c : Command) (rest : List (List ℕ)) → word ∷ words ≡ front_of c ++ rest → ⊥
-no_hear word words is none (command.Hear spread) rest e = none spread rest (ap tail_of e)
+pub no_hear : (word : List ℕ) (words : List (List ℕ)) → word ≡ name_bytes Name.Hear → LacksSpread words → (c : Command) (rest : List (List ℕ)) → word ∷ words ≡ front_of c ++ rest → ⊥
+no_hear word words is none (Command.Hear spread) rest e = none spread rest (ap tail_of e)
 no_hear word words is none c rest e = clash (codes "hear") (word ∷ words) (front_of c ++ rest) e is refl
 
 -- the front of a command is two words where the name is one of make, trial and hear, and else one
@@ -78,11 +73,11 @@ abbrev front_length : List (List ℕ) → ℕ
 front_length words = if (key_of (head_of words) == 414) || (key_of (head_of words) == 432) || (key_of (head_of words) == 416) then 2 else 1
 
 front_is : (c : Command) (rest : List (List ℕ)) → take (front_length (front_of c ++ rest)) (front_of c ++ rest) ≡ front_of c
-front_is (command.Set flow jobs by even) rest = refl
+front_is (Command.Set flow jobs by even) rest = refl
 front_is c rest = refl
 
 rest_is : (c : Command) (rest : List (List ℕ)) → drop (front_length (front_of c ++ rest)) (front_of c ++ rest) ≡ rest
-rest_is (command.Set flow jobs by even) rest = refl
+rest_is (Command.Set flow jobs by even) rest = refl
 rest_is c rest = refl
 
 pub same_front : (c d : Command) (xs ys : List (List ℕ)) → front_of c ++ xs ≡ front_of d ++ ys → (front_of c ≡ front_of d) × (xs ≡ ys)

@@ -1,8 +1,6 @@
 -- The command that words ask for.
 use Rattle.std.specs.Prelude.{◌≡◌, ⊤, ℕ, List, ◌++◌}
-use Rattle.abcps_words.specs.{declared.options.Flag.Flag, declared.command.Command.Command}
-use Rattle.abcps_words.specs.Words.{IsWithin, IsMove, front_of, HasTunes, IsSpelled, said, Says}
-use Rattle.abcps_words.specs.declared.command.Command.TheVariants as command
+use Rattle.abcps_words.specs.{declared.options.Flag.Flag, declared.command.Command.Command, Words.IsWithin, Words.IsMove, Words.front_of, Words.HasTunes, Words.IsSpelled, Words.said, Words.Says}
 
 -- The words ask for this command: they are its front and options that it takes, in any order, each at most once.
 pub record Asks (words : List (List ℕ)) (c : Command) : Type 0 where
@@ -19,25 +17,25 @@ IsListed words = (c : Command) × Asks words c
 
 -- its jobs are 1 to 64, its tunes 1 to 500, and its half steps -12 to 12
 abbrev pub IsGoodCommand : Command → Type 0
-IsGoodCommand (command.Set flow jobs by even) = IsWithin 64 jobs × IsMove by
-IsGoodCommand (command.Systems flow table by) = IsMove by
-IsGoodCommand command.Inspect = ⊤
-IsGoodCommand command.Check = ⊤
-IsGoodCommand (command.Make tunes) = IsWithin 500 tunes
-IsGoodCommand (command.Trial tunes flow jobs even) = IsWithin 500 tunes × IsWithin 64 jobs
-IsGoodCommand command.Paint = ⊤
-IsGoodCommand (command.Hear spread) = ⊤
+IsGoodCommand (Command.Set flow jobs by even) = IsWithin 64 jobs × IsMove by
+IsGoodCommand (Command.Systems flow table by) = IsMove by
+IsGoodCommand Command.Inspect = ⊤
+IsGoodCommand Command.Check = ⊤
+IsGoodCommand (Command.Make tunes) = IsWithin 500 tunes
+IsGoodCommand (Command.Trial tunes flow jobs even) = IsWithin 500 tunes × IsWithin 64 jobs
+IsGoodCommand Command.Paint = ⊤
+IsGoodCommand (Command.Hear spread) = ⊤
 
 -- the most bytes that a command may read: 8 MiB of a book, 256 MiB of pages, a listing or what is painted, or none
 abbrev pub limit_of : Command → ℕ
-limit_of (command.Set flow jobs by even) = 8388608
-limit_of (command.Systems flow table by) = 8388608
-limit_of command.Inspect = 268435456
-limit_of command.Check = 268435456
-limit_of (command.Make tunes) = 0
-limit_of (command.Trial tunes flow jobs even) = 0
-limit_of command.Paint = 268435456
-limit_of (command.Hear spread) = 268435456
+limit_of (Command.Set flow jobs by even) = 8388608
+limit_of (Command.Systems flow table by) = 8388608
+limit_of Command.Inspect = 268435456
+limit_of Command.Check = 268435456
+limit_of (Command.Make tunes) = 0
+limit_of (Command.Trial tunes flow jobs even) = 0
+limit_of Command.Paint = 268435456
+limit_of (Command.Hear spread) = 268435456
 
 -- words ask for one command
 abbrev pub AsksOne : Type 0

@@ -4,7 +4,6 @@ use Rattle.std.proofs.lemmas.Int.{ints, fold-int_min_bounds, fold-int_min_reache
 use Rattle.std.proofs.{lemmas.List.Elements.All-nil, lemmas.Bool.Decides.nat_tests}
 use Rattle.std.specs.List.{Contains, list_all}
 use Rattle.mus_units.specs.declared.glyph.Glyph.{Glyph}
-use Rattle.mus_units.specs.declared.glyph.Glyph.TheVariants as glyphs
 use Rattle.glyph_paths.specs.Outlines.{outline_of}
 use Rattle.glyph_paths.specs.Bounds.{abscissa, ordinate, least, greatest, IsClose, AreClose, coordinate, IsLeast, IsGreatest, AreBounds, further, furthest, first_or_zero, coordinates, extent, bounds_in}
 
@@ -37,53 +36,8 @@ is_close z = int_le (negsuc 1999) z && int_le z (pos 2000)
 
 points_close : (g : Glyph) → (list_all is_close (coordinates abscissa (outline_of g)) && list_all is_close (coordinates ordinate (outline_of g))) ≡ true
 unfolding coordinates coordinate is_close
-points_close glyphs.Hb = refl
-points_close glyphs.Hw = refl
-points_close glyphs.Hh = refl
-points_close glyphs.Hq = refl
-points_close glyphs.Gh = refl
-points_close glyphs.Dt = refl
-points_close glyphs.Lg = refl
-points_close glyphs.Fu = refl
-points_close glyphs.Fd = refl
-points_close glyphs.Gf = refl
-points_close glyphs.Gs = refl
-points_close glyphs.Sr = refl
-points_close glyphs.Sl = refl
-points_close glyphs.R0 = refl
-points_close glyphs.R1 = refl
-points_close glyphs.R2 = refl
-points_close glyphs.R4 = refl
-points_close glyphs.R8 = refl
-points_close glyphs.Ax = refl
-points_close glyphs.As = refl
-points_close glyphs.An = refl
-points_close glyphs.Af = refl
-points_close glyphs.Ag = refl
-points_close glyphs.Cg = refl
-points_close glyphs.Cf = refl
-points_close glyphs.Cc = refl
-points_close glyphs.Bt = refl
-points_close glyphs.Bw = refl
-points_close glyphs.Bf = refl
-points_close glyphs.Bi = refl
-points_close glyphs.Bb = refl
-points_close glyphs.Bo = refl
-points_close glyphs.Dl = refl
-points_close glyphs.Dr = refl
-points_close glyphs.Nn = refl
-points_close glyphs.Ks = refl
-points_close glyphs.Kr = refl
-points_close glyphs.Kf = refl
-points_close glyphs.Ka = refl
-points_close glyphs.Km = refl
-points_close glyphs.Kc = refl
-points_close glyphs.Kp = refl
-points_close glyphs.Kg = refl
-points_close glyphs.Kt = refl
-points_close glyphs.Ku = refl
-points_close glyphs.Kd = refl
-points_close glyphs.Kn = refl
+points_close Glyph.Hb = refl
+points_close _ = refl
 
 close_at : (zs : List ℤ) → list_all is_close zs ≡ true → (k : ℕ) (z : ℤ) → k < length zs → slice_index_or zs k z ≡ z → IsClose z
 unfolding is_close

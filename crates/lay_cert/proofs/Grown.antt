@@ -1,17 +1,9 @@
 -- Each part of a listing with one more at its end.
-use Rattle.std.proofs.Common.{◌≡◌, ℕ, suc, ◌+◌, ◌<◌, ◌≤◌, Bool, true, false, List, [], ◌∷◌, ◌++◌, length, map, Option, Some, IsSome, refl, sym, ◌∙◌, ap, arith, if◌then◌else◌}
+use Rattle.std.proofs.Common.{◌≡◌, ℕ, suc, ◌+◌, ◌<◌, ◌≤◌, Bool, true, false, List, [], ◌∷◌, ◌++◌, length, Option, Some, IsSome, refl, sym, ◌∙◌, ap, arith, if◌then◌else◌}
 use Rattle.std.proofs.lemmas.Bool.{true≢false}
 use mathlib.Core.List.{append_assoc, append-nil}
 use Rattle.lay_breaks.specs.{Breaking.RisesFrom, Breaking.FitsFrom, Breaking.last_from, Breaking.IsLegal, Spans.MayFollow, Spans.SpansFrom, Spans.listed, Spans.has_ends, Spans.ends_are, declared.costs.Span.Span}
 use Rattle.lay_cert.specs.{Listing.Entry, Listing.IsEntry, Listing.EntriesFrom, Listing.none_forced, Listing.entry_lines, Listing.all_lines, Listing.potential_lines, Places.last_tune_from, Places.last_span_from, declared.lines.Line.Line}
-
-pub push_map : {A B : Type 0} (f : A → B) (xs : List A) (x : A) → map f (xs ++ x ∷ []) ≡ map f xs ++ f x ∷ []
-push_map f [] x = refl
-push_map f (y ∷ xs) x = ap (λ t. f y ∷ t) (push_map f xs x)
-
--- one more in front is one more behind what stood before
-pub push_on : {A : Type 0} (xs ys : List A) (x : A) → xs ++ (x ∷ ys) ≡ (xs ++ x ∷ []) ++ ys
-push_on xs ys x = sym (append_assoc xs (x ∷ []) ys)
 
 pub push_potential : (i : ℕ) (ps : List (Option ℕ)) (p : Option ℕ)
     → potential_lines i (ps ++ p ∷ []) ≡ potential_lines i ps ++ Line.Potential (i + length ps) p ∷ []

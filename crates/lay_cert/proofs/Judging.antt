@@ -1,6 +1,6 @@
 -- A step of the checker is one line, and its end is the end of the listing or the first fault.
-use Rattle.std.proofs.Common.{◌≡◌, ◌≢◌, ℕ, suc, ◌+◌, ◌^◌, ◌<◌, ◌≤◌, ◌⊎◌, inl, inr, true, false, List, [], ◌∷◌, ◌++◌, length, Option, Some, None, is_some, refl, sym, ◌∙◌, ap, subst, arith, slice_index_or, if◌then◌else◌, ◌==◌}
-use Rattle.std.proofs.{lemmas.Bool.true≢false, lemmas.Bool.eq-eqb, lemmas.Bool.ne_eqb, lemmas.List.length-append}
+use Rattle.std.proofs.Common.{◌≡◌, ◌≢◌, ℕ, ◌+◌, ◌^◌, ◌<◌, ◌≤◌, ◌⊎◌, inl, inr, true, false, List, [], ◌∷◌, ◌++◌, length, Option, Some, None, is_some, refl, sym, ◌∙◌, ap, subst, arith, slice_index_or, if◌then◌else◌, ◌==◌}
+use Rattle.std.proofs.{lemmas.Bool.true≢false, lemmas.Bool.eq-eqb, lemmas.Bool.eqb-true, lemmas.Bool.ne_eqb, lemmas.List.length-append, lemmas.List.nil_from_length}
 use Rattle.lay_breaks.specs.{Breaking.last_from, Spans.MayFollow, Spans.listed, declared.costs.Span.Span}
 use Rattle.lay_cert.specs.{Lines.line_text, Lines.lines_then, Listing.Entry, Listing.IsListing, Places.Place, Places.begun, Places.between, Places.choosing, Places.proving, Places.ended, Places.MayCome, Places.next, Places.Leads, Places.IsStuck, Places.IsFirstFault, Places.last_tune_from}
 use Rattle.lay_cert.specs.{Places.last_span_from, Verdicts.AreVerdicts, Verdicts.IsVerdict, Stands.IsChoosing, Stands.Proves, Stands.Stands, Stands.NoneMayCome, Stands.IsStep, Stands.entry_of, Answers.IsJudged, declared.lines.Line.Line, declared.check.Judged.Judged, declared.check.Verdict.Verdict}
@@ -130,6 +130,10 @@ potential_here : (es : List Entry) (e : Entry) (v : Proving) → Proves v e
     → MayCome (proving es e) (Line.Potential v.next (slice_index_or v.potentials v.next None))
 potential_here es e v h = let le = h.kept.some_left in let eb = h.bars in (h.next, h.potentials v.next (omega arith))
 
+verdict_on : (e : Entry) (p : Option ℕ) (w : Verdict) → IsVerdict e w → IsVerdict (one_more e p) w
+verdict_on e p (Verdict.Least t) k = k
+verdict_on e p (Verdict.NotLeast t b bs) k = k
+
 -- the potential of the last bar
 pub proved_all : (es : List Entry) (js : List Judged) (e : Entry) (v : Proving) (raw : List ℕ) → AreVerdicts es js → Proves v e → v.next ≡ v.bars
     → raw ≡ line_text (Line.Potential v.next (slice_index_or v.potentials v.next None))
@@ -143,12 +147,8 @@ proved_all es js e v raw known h last is =
       is,
       potential_here es e v h,
       subst (λ t. Stands (Stage.Between v.tune) (js ++ j ∷ []) (if t then between (es ++ one_more e p ∷ []) else proving es (one_more e p))) (sym (eq-eqb (length e.potentials) e.bars all))
-          (h.tune ∙ sym (push_tune 0 es (one_more e p)), verdicts_more es js (one_more e p) j known h.tune (verdict_on v.verdict h.verdict)),
+          (h.tune ∙ sym (push_tune 0 es (one_more e p)), verdicts_more es js (one_more e p) j known h.tune (verdict_on e p v.verdict h.verdict)),
     )
-  where
-    verdict_on : (w : Verdict) → IsVerdict e w → IsVerdict (one_more e (slice_index_or v.potentials v.next None)) w
-    verdict_on (Verdict.Least t) k = k
-    verdict_on (Verdict.NotLeast t b bs) k = k
 
 -- the potential of a bar before it
 pub proved_one : (es : List Entry) (js : List Judged) (e : Entry) (v : Proving) (raw : List ℕ) → AreVerdicts es js → Proves v e → v.next ≢ v.bars
@@ -170,19 +170,11 @@ proved_one es js e v raw known h last is =
               tune = h.tune;
               bars = h.bars;
               next = let m = length-append e.potentials (p ∷ []) in omega (arith, m);
-              verdict = verdict_on v.verdict h.verdict;
+              verdict = verdict_on e p v.verdict h.verdict;
               potentials = h.potentials;
             },
           ),
     )
-  where
-    verdict_on : (w : Verdict) → IsVerdict e w → IsVerdict (one_more e (slice_index_or v.potentials v.next None)) w
-    verdict_on (Verdict.Least t) k = k
-    verdict_on (Verdict.NotLeast t b bs) k = k
 
 pub no_length : (xs : List ℕ) → (length xs == 0) ≡ true → xs ≡ []
-no_length [] e = refl
-no_length (x ∷ xs) e = absurd (true≢false (sym e ∙ more (length xs)))
-  where
-    more : (n : ℕ) → (suc n == 0) ≡ false
-    more n = let ne : suc n ≢ 0 = omega arith in ne_eqb (suc n) 0 ne
+no_length xs e = nil_from_length xs (eqb-true (length xs) 0 e)

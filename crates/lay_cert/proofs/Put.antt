@@ -1,35 +1,26 @@
 -- The text of lines, one after the other.
 use Rattle.std.proofs.Common.{decimal, ◌≡◌, ℕ, ◌+◌, ◌<◌, List, [], ◌∷◌, ◌++◌, length, map, take, Option, None, refl, sym, ◌∙◌, ap, arith, slice_index_or}
-use Rattle.std.proofs.{Common.rules, lemmas.List.take_more, lemmas.List.length-take}
+use Rattle.std.proofs.{Common.rules, lemmas.List.map-append, lemmas.List.take_more, lemmas.List.length-take}
 use mathlib.Core.List.{append_assoc, append-nil}
 use Rattle.lay_cert.specs.{Lines.line_text, Lines.lines_then, Laws.InParts, Reports.bars_text, Listing.Entry, Listing.entry_lines, Listing.all_lines, Listing.entries_text, Listing.potential_lines, declared.lines.Line.Line}
-use Rattle.lay_cert.proofs.Grown.{push_potential, push_map}
+use Rattle.lay_cert.proofs.Grown.{push_potential}
 
 pub lines_both : (ls ms : List Line) → lines_then (ls ++ ms) [] ≡ lines_then ls [] ++ lines_then ms []
 lines_both [] ms = refl
 lines_both (l ∷ ls) ms =
     ap (λ t. line_text l ++ 10 ∷ t) (lines_both ls ms) ∙ sym (append_assoc (line_text l) (10 ∷ lines_then ls []) (lines_then ms []))
 
--- one more line put
-pub put_more : (old now new : List ℕ) (ls : List Line) (l : Line) → now ≡ old ++ lines_then ls [] → new ≡ now ++ lines_then (l ∷ []) []
-    → new ≡ old ++ lines_then (ls ++ l ∷ []) []
-put_more old now new ls l e f =
-    f ∙ (ap (λ t. t ++ lines_then (l ∷ []) []) e ∙ (append_assoc old (lines_then ls []) (lines_then (l ∷ []) [])
-    ∙ ap (λ t. old ++ t) (sym (lines_both ls (l ∷ [])))))
-
 -- further lines put
 pub put_both : (old now new : List ℕ) (ls ms : List Line) → now ≡ old ++ lines_then ls [] → new ≡ now ++ lines_then ms []
     → new ≡ old ++ lines_then (ls ++ ms) []
-put_both old now new ls ms e f =
-    f ∙ (ap (λ t. t ++ lines_then ms []) e ∙ (append_assoc old (lines_then ls []) (lines_then ms [])
-    ∙ ap (λ t. old ++ t) (sym (lines_both ls ms))))
+put_both old now new ls ms e f = rw (f, e, lines_both ls ms) (append_assoc old (lines_then ls []) (lines_then ms []))
 
 pub put_next : {A : Type 0} (f : A → Line) (xs : List A) (i : ℕ) (d : A) (old now new : List ℕ) → i < length xs
     → now ≡ old ++ lines_then (map f (take i xs)) [] → new ≡ now ++ lines_then (f (slice_index_or xs i d) ∷ []) []
     → new ≡ old ++ lines_then (map f (take (i + 1) xs)) []
 put_next f xs i d old now new l e g =
-    put_more old now new (map f (take i xs)) (f (slice_index_or xs i d)) e g
-    ∙ (ap (λ ls. old ++ lines_then ls []) (sym (push_map f (take i xs) (slice_index_or xs i d)))
+    put_both old now new (map f (take i xs)) (f (slice_index_or xs i d) ∷ []) e g
+    ∙ (ap (λ ls. old ++ lines_then ls []) (sym (map-append f (take i xs) (slice_index_or xs i d ∷ [])))
     ∙ ap (λ t. old ++ lines_then (map f t) []) (sym (take_more xs i d l)))
 
 pub put_next_potential : (ps : List (Option ℕ)) (i bar : ℕ) (old now new : List ℕ) → i < length ps → bar ≡ i
@@ -38,7 +29,7 @@ pub put_next_potential : (ps : List (Option ℕ)) (i bar : ℕ) (old now new : L
 put_next_potential ps i bar old now new l is e g =
     let n : length (take i ps) ≡ i = search (rules, length-take) in
     let at : 0 + length (take i ps) ≡ bar = omega arith in
-    put_more old now new (potential_lines 0 (take i ps)) (Line.Potential bar (slice_index_or ps i None)) e g
+    put_both old now new (potential_lines 0 (take i ps)) (Line.Potential bar (slice_index_or ps i None) ∷ []) e g
     ∙ (ap (λ j. old ++ lines_then (potential_lines 0 (take i ps) ++ Line.Potential j (slice_index_or ps i None) ∷ []) []) (sym at)
     ∙ (ap (λ ls. old ++ lines_then ls []) (sym (push_potential 0 (take i ps) (slice_index_or ps i None)))
     ∙ ap (λ t. old ++ lines_then (potential_lines 0 t) []) (sym (take_more ps i None l))))

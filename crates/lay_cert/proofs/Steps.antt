@@ -1,18 +1,15 @@
 -- A line that may come keeps what holds of the entries told, and is the next of their lines.
 use Rattle.std.proofs.Common.{◌≡◌, ℕ, ◌+◌, ◌<◌, ◌≤◌, ◌==◌, Bool, true, false, List, [], ◌∷◌, ◌++◌, length, map, Option, None, refl, sym, ◌∙◌, ap, subst, arith, inl, inr, if◌then◌else◌, slice_index_or}
-use Rattle.std.proofs.{lemmas.Bool.cases_lt, lemmas.Bool.true≢false, lemmas.Bool.Decides.nat_tests, lemmas.List.length-append, lemmas.List.get_or_append_left, Math.Seq.get_or-append_seam}
+use Rattle.std.proofs.{lemmas.Bool.cases_lt, lemmas.Bool.true≢false, lemmas.Bool.eqb-true, lemmas.Bool.eqb-false, lemmas.List.map-append, lemmas.List.length-append, lemmas.List.get_or_append_left, Math.Seq.get_or-append_seam}
 use mathlib.Core.List.{append_assoc, append-nil}
 use Rattle.lay_breaks.specs.{Breaking.IsLegal, Breaking.last_from, Breaking.IsPotential, Spans.listed, declared.costs.Span.Span}
 use Rattle.lay_cert.specs.{Listing.Entry, Listing.IsEntry, Listing.none_forced, Listing.entry_lines, Listing.all_lines, Listing.potential_lines, Places.Place, Places.begun, Places.between, Places.choosing, Places.proving, Places.MayCome, Places.next, Places.Leads, Places.last_tune_from}
-use Rattle.lay_cert.{specs.Told.IsBegun, specs.Told.IsProving, specs.Told.IsGood, specs.Told.lines_of, specs.Told.begun_lines, specs.declared.lines.Line.Line, proofs.Grown.push_map, proofs.Grown.push_potential, proofs.Grown.push_entry, proofs.Grown.push_entries, proofs.Grown.push_span}
+use Rattle.lay_cert.{specs.Told.IsBegun, specs.Told.IsProving, specs.Told.IsGood, specs.Told.lines_of, specs.Told.begun_lines, specs.declared.lines.Line.Line, proofs.Grown.push_potential, proofs.Grown.push_entry, proofs.Grown.push_entries, proofs.Grown.push_span}
 use Rattle.lay_cert.proofs.Grown.{push_legal, listed_within}
 
 -- an entry in the making with one more potential
 abbrev pub one_more : Entry → Option ℕ → Entry
 one_more e p = record { tune = e.tune; bars = e.bars; spans = e.spans; breaks = e.breaks; total = e.total; potentials = e.potentials ++ p ∷ [] }
-
-push_length : (xs : List (Option ℕ)) (x : Option ℕ) → length (xs ++ x ∷ []) ≡ length xs + 1
-push_length xs x = length-append xs (x ∷ [])
 
 -- the potentials told are those of the first bars
 push_known : (P : ℕ → Option ℕ → Type 0) (ps : List (Option ℕ)) (p : Option ℕ)
@@ -35,7 +32,7 @@ whole k e p h is known = record {
   spans = h.begun.spans;
   choice = subst (λ i. IsLegal (listed e.spans) none_forced e.breaks i) h.ends h.begun.choice;
   total = h.total;
-  one_each = push_length e.potentials p ∙ ap (λ n. n + 1) is;
+  one_each = length-append e.potentials (p ∷ []) ∙ ap (λ n. n + 1) is;
   potentials = λ i l. push_known (IsPotential (listed e.spans) none_forced) e.potentials p h.potentials known i (omega (arith, is));
 }
 
@@ -45,8 +42,8 @@ part k e p h l known = record {
   begun = begun_more k e p h.begun;
   ends = h.ends;
   total = h.total;
-  some_left = let n = push_length e.potentials p in omega arith;
-  potentials = λ i m. let n = push_length e.potentials p in push_known (IsPotential (listed e.spans) none_forced) e.potentials p h.potentials known i (omega arith);
+  some_left = let n = length-append e.potentials (p ∷ []) in omega arith;
+  potentials = λ i m. let n = length-append e.potentials (p ∷ []) in push_known (IsPotential (listed e.spans) none_forced) e.potentials p h.potentials known i (omega arith);
 }
 
 -- by whether the potential is that of the last bar
@@ -55,14 +52,8 @@ potential_cases : (e : Entry) (P : Bool → Type 0) → (length e.potentials ≡
 potential_cases e P f g le = at (length e.potentials == e.bars) refl
   where
     at : (t : Bool) → (length e.potentials == e.bars) ≡ t → P t
-    at true is = f (equal is)
-      where
-        equal : (length e.potentials == e.bars) ≡ true → length e.potentials ≡ e.bars
-        equal is = grind (arith, nat_tests)
-    at false is = g (less is)
-      where
-        less : (length e.potentials == e.bars) ≡ false → length e.potentials < e.bars
-        less is = grind (arith, nat_tests)
+    at true is = f (eqb-true (length e.potentials) e.bars is)
+    at false is = let ne = eqb-false (length e.potentials) e.bars is in g (omega (arith, ne, le))
 
 pub step_good : (p : Place) (l : Line) → MayCome p l → IsGood p → IsGood (next p l)
 step_good begun Line.Listing m h = tt
@@ -111,17 +102,13 @@ begun_span : (tune bars : ℕ) (spans : List Span) (breaks : List ℕ) (s : Span
     → Line.Tune tune bars ∷ map Line.OneSpan (spans ++ s ∷ []) ++ map Line.Choose breaks
     ≡ (Line.Tune tune bars ∷ map Line.OneSpan spans ++ map Line.Choose breaks) ++ Line.OneSpan s ∷ []
 begun_span tune bars spans breaks s e =
-    subst (λ bs. Line.Tune tune bars ∷ map Line.OneSpan (spans ++ s ∷ []) ++ map Line.Choose bs
-    ≡ (Line.Tune tune bars ∷ map Line.OneSpan spans ++ map Line.Choose bs) ++ Line.OneSpan s ∷ []) (sym e)
-    (ap (λ t. Line.Tune tune bars ∷ t) (append-nil (map Line.OneSpan (spans ++ s ∷ []))
-    ∙ (push_map Line.OneSpan spans s ∙ ap (λ t. t ++ Line.OneSpan s ∷ []) (sym (append-nil (map Line.OneSpan spans))))))
+    rw e (ap (λ t. Line.Tune tune bars ∷ t) (append-nil (map Line.OneSpan (spans ++ s ∷ []))
+    ∙ (map-append Line.OneSpan spans (s ∷ []) ∙ ap (λ t. t ++ Line.OneSpan s ∷ []) (sym (append-nil (map Line.OneSpan spans))))))
 
 begun_break : (tune bars : ℕ) (spans : List Span) (breaks : List ℕ) (bar : ℕ)
     → Line.Tune tune bars ∷ map Line.OneSpan spans ++ map Line.Choose (breaks ++ bar ∷ [])
     ≡ (Line.Tune tune bars ∷ map Line.OneSpan spans ++ map Line.Choose breaks) ++ Line.Choose bar ∷ []
-begun_break tune bars spans breaks bar =
-    ap (λ t. Line.Tune tune bars ∷ map Line.OneSpan spans ++ t) (push_map Line.Choose breaks bar)
-    ∙ sym (append_assoc (Line.Tune tune bars ∷ map Line.OneSpan spans) (map Line.Choose breaks) (Line.Choose bar ∷ []))
+begun_break tune bars spans breaks bar = rw (map-append Line.Choose breaks (bar ∷ [])) (simp append_assoc)
 
 proved_more : (e : Entry) (bar : ℕ) (least : Option ℕ) → bar ≡ length e.potentials
     → entry_lines (one_more e least) ≡ entry_lines e ++ Line.Potential bar least ∷ []

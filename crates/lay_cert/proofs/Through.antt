@@ -1,10 +1,10 @@
 -- The lines of a listing are good, each after those before it.
 use Rattle.std.proofs.Common.{◌≡◌, ℕ, suc, ◌+◌, ◌<◌, ◌≤◌, List, [], ◌∷◌, ◌++◌, length, map, Option, None, refl, sym, ap, subst, arith, if◌then◌else◌, slice_index_or}
 use Rattle.std.proofs.{lemmas.Bool.eq-eqb, lemmas.Bool.ne_eqb, lemmas.List.length-append}
-use mathlib.Core.List.{append-nil}
+use mathlib.Core.List.{append_assoc, append-nil}
 use Rattle.lay_breaks.specs.{Breaking.FitsFrom, Breaking.last_from, Breaking.IsPotential, Spans.SpansFrom, Spans.listed, declared.costs.Span.Span}
 use Rattle.lay_cert.specs.{Listing.Entry, Listing.IsEntry, Listing.EntriesFrom, Listing.none_forced, Listing.entry_lines, Listing.all_lines, Listing.listing_lines, Listing.potential_lines, Places.begun, Places.between, Places.choosing, Places.proving, Places.ended, Places.Leads}
-use Rattle.lay_cert.{specs.Places.last_tune_from, specs.Places.last_span_from, specs.declared.lines.Line.Line, proofs.Grown.push_on, proofs.Grown.push_last_span, proofs.Grown.push_last, proofs.Grown.push_tune, proofs.Steps.leads_both}
+use Rattle.lay_cert.{specs.Places.last_tune_from, specs.Places.last_span_from, specs.declared.lines.Line.Line, proofs.Grown.push_last_span, proofs.Grown.push_last, proofs.Grown.push_tune, proofs.Steps.leads_both}
 
 abbrev pub begun_with : ℕ → ℕ → List Span → List ℕ → Entry
 begun_with k n spans breaks = record { tune = k; bars = n; spans = spans; breaks = breaks; total = 0; potentials = [] }
@@ -17,7 +17,7 @@ spans_lead : (es : List Entry) (k n : ℕ) (so_far ss : List Span) → SpansFrom
 spans_lead es k n so_far [] h = ap (λ t. choosing es (begun_with k n t [])) (sym (append-nil so_far))
 spans_lead es k n so_far (s ∷ ss) h = (
   (refl, h.0),
-  subst (λ t. Leads (choosing es (begun_with k n (so_far ++ s ∷ []) [])) (map Line.OneSpan ss) (choosing es (begun_with k n t []))) (sym (push_on so_far ss s))
+  subst (λ t. Leads (choosing es (begun_with k n (so_far ++ s ∷ []) [])) (map Line.OneSpan ss) (choosing es (begun_with k n t []))) (append_assoc so_far (s ∷ []) ss)
       (spans_lead es k n (so_far ++ s ∷ []) ss (subst (λ o. SpansFrom n o ss) (sym (push_last_span None so_far s)) h.1)),
 )
 
@@ -26,7 +26,7 @@ breaks_lead : (es : List Entry) (k n : ℕ) (spans : List Span) (so_far bs : Lis
 breaks_lead es k n spans so_far [] h = ap (λ t. choosing es (begun_with k n spans t)) (sym (append-nil so_far))
 breaks_lead es k n spans so_far (b ∷ bs) h = (
   h.0,
-  subst (λ t. Leads (choosing es (begun_with k n spans (so_far ++ b ∷ []))) (map Line.Choose bs) (choosing es (begun_with k n spans t))) (sym (push_on so_far bs b))
+  subst (λ t. Leads (choosing es (begun_with k n spans (so_far ++ b ∷ []))) (map Line.Choose bs) (choosing es (begun_with k n spans t))) (append_assoc so_far (b ∷ []) bs)
       (breaks_lead es k n spans (so_far ++ b ∷ []) bs (subst (λ i. FitsFrom (listed spans) i bs) (sym (push_last 0 b so_far)) h.1)),
 )
 
@@ -47,7 +47,7 @@ potentials_lead es e so_far q (r ∷ qs) n known =
       (refl, subst (λ i. IsPotential (listed e.spans) none_forced i q) here (known 0 (omega arith))),
       subst (λ p. Leads p (potential_lines (length so_far + 1) (r ∷ qs)) (between (es ++ told e (so_far ++ (q ∷ r ∷ qs)) ∷ [])))
           (sym (ap (λ t. if t then between (es ++ told e (so_far ++ q ∷ []) ∷ []) else proving es (told e (so_far ++ q ∷ []))) (ne_eqb (length so_far) e.bars (omega arith))))
-          (subst (λ t. Leads (proving es (told e (so_far ++ q ∷ []))) (potential_lines (length so_far + 1) (r ∷ qs)) (between (es ++ told e t ∷ []))) (sym (push_on so_far (r ∷ qs) q))
+          (subst (λ t. Leads (proving es (told e (so_far ++ q ∷ []))) (potential_lines (length so_far + 1) (r ∷ qs)) (between (es ++ told e t ∷ []))) (append_assoc so_far (q ∷ []) (r ∷ qs))
           (subst (λ i. Leads (proving es (told e (so_far ++ q ∷ []))) (potential_lines i (r ∷ qs)) (between (es ++ told e ((so_far ++ q ∷ []) ++ (r ∷ qs)) ∷ []))) more
           (potentials_lead es e (so_far ++ q ∷ []) r qs (omega arith) (λ i l.
           let at : length so_far + suc i ≡ length (so_far ++ q ∷ []) + i = omega arith in
@@ -75,7 +75,7 @@ all_lead [] done h = ap between (sym (append-nil done))
 all_lead (e ∷ es) done h =
     leads_both (between done) (entry_lines e) (between (done ++ e ∷ [])) (all_lines es) (between (done ++ (e ∷ es)))
     (entry_leads done e h.1 h.0)
-    (subst (λ t. Leads (between (done ++ e ∷ [])) (all_lines es) (between t)) (sym (push_on done es e))
+    (subst (λ t. Leads (between (done ++ e ∷ [])) (all_lines es) (between t)) (append_assoc done (e ∷ []) es)
     (all_lead es (done ++ e ∷ []) (subst (λ k. EntriesFrom k es) (sym (push_tune 0 done e)) h.2)))
 
 pub listing_leads : (es : List Entry) → EntriesFrom 0 es → Leads begun (listing_lines es) (ended es)

@@ -1,6 +1,6 @@
 -- What operators do, told step by step.
-use Rattle.std.proofs.Common.{◌≡◌, ℤ, Bool, true, false, ◌&&◌, List, [], ◌∷◌, ◌++◌, refl, sym, ◌∙◌, ap}
-use Rattle.std.{proofs.lemmas.Bool.true≢false, specs.Prelude.Err}
+use Rattle.std.proofs.Common.{◌≡◌, ℤ, Bool, true, false, ◌&&◌, List, [], ◌∷◌, ◌++◌, refl, sym, subst, ◌∙◌, ap, FitsSigned, w64, to_z, of_z}
+use Rattle.std.{proofs.lemmas.Int.to_z-of_z, specs.Prelude.Err}
 use Rattle.ps_steps.specs.{declared.halt.Cause.Cause, Near.is_near, State.State, declared.graphics.Graphics.Graphics, Operators.Outcome, Operators.went, Operators.halted, Operators.lineto, Operators.curveto, Operators.add_seg, Operators.at_point, Operators.in_range, Operators.across}
 use Rattle.ps_steps.specs.{Operators.above, Operators.all_near, declared.paint.Seg.Seg}
 use Rattle.ps_machine.specs.{declared.state.Stop.Stop, Doing.DidOrStopped, Doing.IsPoint}
@@ -15,46 +15,33 @@ line_did x y m p q on h = on _ ∙ is_in_range (across m.now x ∷ above m.now y
 out_of_range : (zs : List ℤ) (x : Outcome) → all_near zs ≡ false → in_range zs x ≡ halted Cause.Range
 out_of_range zs x e = rw (e, in_range) refl
 
-six_near : (a b c d x y : ℤ) → all_near (a ∷ b ∷ []) ≡ true → all_near (c ∷ d ∷ []) ≡ true → all_near (x ∷ y ∷ []) ≡ true → all_near (a ∷ b ∷ c ∷ d ∷ x ∷ y ∷ []) ≡ true
-six_near a b c d x y e f g = parts (is_near a) (is_near b) (is_near c) (is_near d) (is_near x) (is_near y) e f g
+near_parts : (xs ys : List ℤ) → all_near (xs ++ ys) ≡ (all_near xs && all_near ys)
+near_parts [] ys = refl
+near_parts (z ∷ xs) ys = one (is_near z) (near_parts xs ys)
   where
-    parts : (p q r s t u : Bool) → (p && (q && true)) ≡ true → (r && (s && true)) ≡ true → (t && (u && true)) ≡ true → (p && (q && (r && (s && (t && (u && true)))))) ≡ true
-    parts true true true true true true e f g = refl
-    parts false q r s t u e f g = e
-    parts true false r s t u e f g = e
-    parts true true false s t u e f g = f
-    parts true true true false t u e f g = f
-    parts true true true true false u e f g = g
-    parts true true true true true false e f g = g
+    one : (p : Bool) → all_near (xs ++ ys) ≡ (all_near xs && all_near ys) → (p && all_near (xs ++ ys)) ≡ ((p && all_near xs) && all_near ys)
+    one true e = e
+    one false e = refl
+
+and_false : (p : Bool) → (p && false) ≡ false
+and_false true = refl
+and_false false = refl
+
+six_near : (a b c d x y : ℤ) → all_near (a ∷ b ∷ []) ≡ true → all_near (c ∷ d ∷ []) ≡ true → all_near (x ∷ y ∷ []) ≡ true → all_near (a ∷ b ∷ c ∷ d ∷ x ∷ y ∷ []) ≡ true
+six_near a b c d x y e f g =
+    near_parts (a ∷ b ∷ []) (c ∷ d ∷ x ∷ y ∷ []) ∙ ap (λ t. t && all_near (c ∷ d ∷ x ∷ y ∷ [])) e
+    ∙ near_parts (c ∷ d ∷ []) (x ∷ y ∷ []) ∙ ap (λ t. t && all_near (x ∷ y ∷ [])) f ∙ g
 
 -- and none are where two aren't
 first_far : (a b c d x y : ℤ) → all_near (a ∷ b ∷ []) ≡ false → all_near (a ∷ b ∷ c ∷ d ∷ x ∷ y ∷ []) ≡ false
-first_far a b c d x y e = parts (is_near a) (is_near b) (all_near (c ∷ d ∷ x ∷ y ∷ [])) e
-  where
-    parts : (p q r : Bool) → (p && (q && true)) ≡ false → (p && (q && r)) ≡ false
-    parts false q r e = refl
-    parts true false r e = refl
-    parts true true r e = absurd (true≢false e)
+first_far a b c d x y e = near_parts (a ∷ b ∷ []) (c ∷ d ∷ x ∷ y ∷ []) ∙ ap (λ t. t && all_near (c ∷ d ∷ x ∷ y ∷ [])) e
 
 second_far : (a b c d x y : ℤ) → all_near (c ∷ d ∷ []) ≡ false → all_near (a ∷ b ∷ c ∷ d ∷ x ∷ y ∷ []) ≡ false
-second_far a b c d x y e = parts (is_near a) (is_near b) (is_near c) (is_near d) (all_near (x ∷ y ∷ [])) e
-  where
-    parts : (p q r s t : Bool) → (r && (s && true)) ≡ false → (p && (q && (r && (s && t)))) ≡ false
-    parts false q r s t e = refl
-    parts true false r s t e = refl
-    parts true true false s t e = refl
-    parts true true true false t e = refl
-    parts true true true true t e = absurd (true≢false e)
+second_far a b c d x y e =
+    near_parts (a ∷ b ∷ []) (c ∷ d ∷ x ∷ y ∷ []) ∙ ap (λ t. all_near (a ∷ b ∷ []) && t) (near_parts (c ∷ d ∷ []) (x ∷ y ∷ []) ∙ ap (λ t. t && all_near (x ∷ y ∷ [])) e) ∙ and_false (all_near (a ∷ b ∷ []))
 
 third_far : (a b c d x y : ℤ) → all_near (x ∷ y ∷ []) ≡ false → all_near (a ∷ b ∷ c ∷ d ∷ x ∷ y ∷ []) ≡ false
-third_far a b c d x y e = parts (is_near a) (is_near b) (is_near c) (is_near d) (is_near x) (is_near y) e
-  where
-    parts : (p q r s t u : Bool) → (t && (u && true)) ≡ false → (p && (q && (r && (s && (t && (u && true)))))) ≡ false
-    parts false q r s t u e = refl
-    parts true false r s t u e = refl
-    parts true true false s t u e = refl
-    parts true true true false t u e = refl
-    parts true true true true t u e = e
+third_far a b c d x y e = near_parts (a ∷ b ∷ c ∷ d ∷ []) (x ∷ y ∷ []) ∙ ap (λ t. all_near (a ∷ b ∷ c ∷ d ∷ []) && t) e ∙ and_false (all_near (a ∷ b ∷ c ∷ d ∷ []))
 
 -- a point in range
 abbrev pub IsThere : Graphics → ℤ → ℤ → ℤ → ℤ → Type 0
@@ -72,6 +59,11 @@ curve_far : (a b c d x y : ℤ) (m : State) → ((o : Outcome) → at_point m.no
 curve_far a b c d x y m on e =
     let piece = Seg.Curve (across m.now a) (above m.now b) (across m.now c) (above m.now d) (across m.now x) (above m.now y) in
     on _ ∙ out_of_range (across m.now a ∷ above m.now b ∷ across m.now c ∷ above m.now d ∷ across m.now x ∷ above m.now y ∷ []) (add_seg piece m) e
+
+-- a point that was passed as a machine's numbers
+pub point_passed : (g : Graphics) (x y : ℤ) (e : Stop) → FitsSigned w64 x → FitsSigned w64 y → IsPoint g (to_z w64 (of_z w64 x)) (to_z w64 (of_z w64 y)) (Err e) → IsPoint g x y (Err e)
+point_passed g x y e across above h =
+    subst (λ z. IsPoint g x z (Err e)) (to_z-of_z w64 y above) (subst (λ z. IsPoint g z (to_z w64 (of_z w64 y)) (Err e)) (to_z-of_z w64 x across) h)
 
 -- a curve stops where one of its points is past the range
 pub first_stops : (a b c d x y : ℤ) (m k : State) (e : Stop) → ((o : Outcome) → at_point m.now.path o ≡ o) → IsPoint m.now a b (Err e) → DidOrStopped (curveto (a ∷ b ∷ c ∷ d ∷ x ∷ y ∷ []) m) (Err e) k

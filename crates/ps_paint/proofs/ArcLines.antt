@@ -40,7 +40,7 @@ module _ (f : Frame) (ds : Names) (fr : IsFrame f) (made : Made f ds) where
       let c = curve f (pos 0 +ℤ p) (pos 0 +ℤ u) (pos 0 +ℤ q) (pos 0 +ℤ v) (pos 0 +ℤ x2) (pos 0 +ℤ g) in
       let s1 = whole_value g ∷ whole_value x2 ∷ whole_value v ∷ whole_value q ∷ whole_value u ∷ whole_value p ∷ st in
       both_runs (moves f ds fr made saved ps pages x1 a (pos 0) (pos 0) [] (pos 900) s1 (zero_sum x1 n1) (zero_sum a na))
-      (both_runs (curves f ds fr made saved ps pages p u q v x2 g (pos 0) (pos 0) m [] (pos 900) st (zero_sum p np) (zero_sum u nu) (zero_sum q nq) (zero_sum v nv) (zero_sum x2 n2) (zero_sum g ng))
+      (both_runs (curves f ds fr made saved ps pages p u q v x2 g (pos 0) (pos 0) (m ∷ []) (pos 900) st refl (zero_sum p np) (zero_sum u nu) (zero_sum q nq) (zero_sum v nv) (zero_sum x2 n2) (zero_sum g ng))
       (then (strokes f ds fr made saved ps pages (pos 0) (pos 0) (m ∷ c ∷ []) (pos 900) st) no_more))
 
   pub arc_drawn : (y x1 x2 from to bulge : ℤ) → IsSpan y x1 x2 from to bulge → Draws f ds (mark_text y (PageMark.Arc x1 x2 from to bulge)) (mark_paints f y (PageMark.Arc x1 x2 from to bulge))

@@ -7,7 +7,7 @@ use Rattle.ps_steps.specs.{declared.paint.Paint.Paint, declared.paint.PagePaint.
 use Rattle.ps_steps.specs.declared.token.Simple.TheVariants.{Name as name_token}
 use Rattle.ps_steps.specs.declared.value.Value.TheVariants.{Whole as whole_value}
 use Rattle.ps_paint.{specs.PaintOf.move, specs.PaintOf.line, specs.PaintOf.filled, specs.PaintOf.edge, specs.PaintOf.mark_paints, proofs.Bodies.Made, proofs.Bodies.beam_body, proofs.Scales.IsClose, proofs.Runs.Runs, proofs.Runs.no_more, proofs.Runs.then, proofs.Runs.both_runs, proofs.Runs.pushes}
-use Rattle.ps_paint.proofs.{Draws.drawing, Draws.corner, Draws.page, Draws.moves, Draws.lines, Draws.fill_runs, Draws.saves, Draws.restores, Draws.places, Takes.IsTokenWord, Lines.Draws, Lines.on_page, Lines.line_drawn, Lines.page_near, StemLines.zero_sum}
+use Rattle.ps_paint.proofs.{Draws.drawing, Draws.corner, Draws.page, Draws.moves, Draws.lines, Draws.fill_runs, Draws.saves, Draws.restores, Draws.places, Takes.IsTokenWord, Lines.Draws, Lines.on_page, Lines.line_drawn, Lines.page_near, StemLines.zero_close, StemLines.zero_sum}
 
 -- an edge is small
 record IsEdge (d : ℤ) : Type 0 where
@@ -23,9 +23,6 @@ edge_close d e = record { low = omega (arith, ints); high = omega (arith, ints) 
 
 sum_close : (d x : ℤ) → IsEdge d → IsNumber x → IsClose (d +ℤ x)
 sum_close d x e n = record { low = omega (arith, ints); high = omega (arith, ints) }
-
-zero_close : IsClose (pos 0)
-zero_close = record { low = omega (arith, ints); high = omega (arith, ints) }
 
 way_word : (way : Way) → IsTokenWord (name_token (way_name way)) (way_name way)
 way_word Way.Up = record { some = omega arith; regular = refl; token = refl }
@@ -53,10 +50,10 @@ module _ (f : Frame) (ds : Names) (fr : IsFrame f) (made : Made f ds) where
       (both_runs (pushes (d ∷ pos 0 ∷ []) (page ds s0 o k ps pages))
       (then (places f ds fr made k ps pages d (pos 0) (pos 900) s0 (edge_close d e) zero_close)
       (both_runs (moves f ds fr made k ps pages x1 a d (pos 0) [] (pos 900) s1 (sum_close d x1 e n1) (zero_sum a na))
-      (both_runs (lines f ds fr made k ps pages x2 b d (pos 0) m [] (pos 900) s2 (sum_close d x2 e n2) (zero_sum b nb))
-      (both_runs (lines f ds fr made k ps pages x2 vp d (pos 0) m (l1 ∷ []) (pos 900) s3 (sum_close d x2 e n2) (zero_sum vp nv))
-      (both_runs (lines f ds fr made k ps pages x1 up d (pos 0) m (l1 ∷ l2 ∷ []) (pos 900) st (sum_close d x1 e n1) (zero_sum up nu))
-      (both_runs (fill_runs f ds fr made k ps pages d (pos 0) m (l1 ∷ l2 ∷ l3 ∷ []) (pos 900) st)
+      (both_runs (lines f ds fr made k ps pages x2 b d (pos 0) (m ∷ []) (pos 900) s2 refl (sum_close d x2 e n2) (zero_sum b nb))
+      (both_runs (lines f ds fr made k ps pages x2 vp d (pos 0) (m ∷ l1 ∷ []) (pos 900) s3 refl (sum_close d x2 e n2) (zero_sum vp nv))
+      (both_runs (lines f ds fr made k ps pages x1 up d (pos 0) (m ∷ l1 ∷ l2 ∷ []) (pos 900) st refl (sum_close d x1 e n1) (zero_sum up nu))
+      (both_runs (fill_runs f ds fr made k ps pages d (pos 0) (m ∷ l1 ∷ l2 ∷ l3 ∷ []) (pos 900) st refl)
       (then (restores f ds fr made saved q pages st (drawing f d (pos 0) [] (pos 900)) o) no_more))))))))
 
   pub beam_drawn : (y : ℤ) (way : Way) (x1 x2 from to : ℤ) → IsSpan y x1 x2 from to (pos 250) → Draws f ds (mark_text y (PageMark.Beam way x1 x2 from to)) (mark_paints f y (PageMark.Beam way x1 x2 from to))

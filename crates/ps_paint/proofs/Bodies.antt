@@ -1,7 +1,6 @@
 -- The procedures that the prolog defines, as tokens.
-use Rattle.std.specs.Prelude.{◌≡◌, ℤ, pos, List, [], ◌∷◌, ◌++◌, codes, Some, None}
-use Rattle.std.specs.List.{flat_map}
-use Rattle.mus_units.specs.{declared.glyph.Glyph.Glyph, declared.glyph.Way.Way}
+use Rattle.std.specs.{Prelude.◌≡◌, Prelude.ℤ, Prelude.pos, Prelude.List, Prelude.[], Prelude.◌∷◌, Prelude.◌++◌, Prelude.codes, Prelude.Some, Prelude.None, List.flat_map}
+use Rattle.mus_units.specs.declared.glyph.{Glyph.Glyph, Way.Way}
 use Rattle.glyph_paths.specs.{declared.paths.PathOp.PathOp, Names.glyph_name, Outlines.outline_of}
 use Rattle.ps_text.specs.{Names.way_name, declared.sheet.Frame.Frame}
 use Rattle.ps_steps.specs.{declared.token.Simple.Simple, State.Names, Operators.Operator, Operators.operator_name}

@@ -8,8 +8,7 @@ use Rattle.ps_steps.specs.declared.token.Simple.TheVariants.{Label as label_toke
 use Rattle.ps_steps.specs.declared.token.Token.TheVariants.{Simple as simple_token, Procedure as procedure_token}
 use Rattle.ps_steps.specs.declared.value.Value.TheVariants.{Label as label_value, Body as body_value}
 use Rattle.ps_paint.proofs.{Bodies.gsave_name, Bodies.grestore_name, Bodies.translate_name, Bodies.m_name, Bodies.l_name, Bodies.c_name, Bodies.h_name, Bodies.k_name, Bodies.step_tokens, Bodies.glyph_body, Glyphs.is_small, Glyphs.is_drawn, Glyphs.small_is, GlyphTable.fine, Scales.near, Runs.does}
-use Rattle.ps_paint.proofs.{Takes.Takes, Takes.takes_word, Takes.IsTokenWord, Takes.space_passed, Takes.line_end_passed, Lexing.Lexes, Lexing.nothing_lexed, Lexing.both_lexed, Lexing.word_stands, Lexing.IsNewName, Lexing.label_stands, Lexing.lex_one, Lexing.ends, Lexing.lex_numbers}
-use Rattle.ps_paint.proofs.Lexing.{piece_stands, lexed}
+use Rattle.ps_paint.proofs.{Takes.Takes, Takes.takes_word, Takes.IsTokenWord, Takes.space_passed, Takes.line_end_passed, Lexing.Lexes, Lexing.nothing_lexed, Lexing.both_lexed, Lexing.IsNewName, Lexing.label_stands, Lexing.lex_one, Lexing.ends, Lexing.lex_numbers, Lexing.piece_stands, Lexing.lexed}
 
 small_near : (z : ℤ) → is_small z ≡ true → is_near z ≡ true
 small_near z e = let s = small_is z e in near z (omega (arith, ints)) (omega (arith, ints))
@@ -26,39 +25,24 @@ six_near a b c d x y e =
     let r = and_parts (is_small x) (is_small y) t.1 in
     rw (small_near a p.0, small_near b p.1, small_near c q.0, small_near d q.1, small_near x r.0, small_near y r.1) refl
 
-word_of_m : IsTokenWord m_name (codes "m")
-word_of_m = record { some = omega arith; regular = refl; token = refl }
-
-word_of_l : IsTokenWord l_name (codes "l")
-word_of_l = record { some = omega arith; regular = refl; token = refl }
-
-word_of_c : IsTokenWord c_name (codes "c")
-word_of_c = record { some = omega arith; regular = refl; token = refl }
-
-word_of_h : IsTokenWord h_name (codes "h")
-word_of_h = record { some = omega arith; regular = refl; token = refl }
-
-word_of_k : IsTokenWord k_name (codes "k")
-word_of_k = record { some = omega arith; regular = refl; token = refl }
-
 -- the steps of a path; the flag says whether there is a path so far
 lex_steps : (has : Bool) (steps : List PathOp) → is_drawn has steps ≡ true → Lexes (flat_map step_text steps) (flat_map step_tokens steps)
 lex_steps has [] e = nothing_lexed
 lex_steps has (PathOp.Move x y ∷ rest) e =
     let t = and_parts (is_small x && is_small y) (is_drawn true rest) e in
-    both_lexed (both_lexed (lex_numbers (x ∷ y ∷ []) (two_near x y t.0)) (lex_one (word_stands word_of_m) space_passed)) (lex_steps true rest t.1)
+    both_lexed (both_lexed (lex_numbers (x ∷ y ∷ []) (two_near x y t.0)) (lex_one (piece_stands (codes "m") m_name refl) space_passed)) (lex_steps true rest t.1)
 lex_steps false (PathOp.Line x y ∷ rest) e = absurd (true≢false (sym e))
 lex_steps true (PathOp.Line x y ∷ rest) e =
     let t = and_parts (is_small x && is_small y) (is_drawn true rest) e in
-    both_lexed (both_lexed (lex_numbers (x ∷ y ∷ []) (two_near x y t.0)) (lex_one (word_stands word_of_l) space_passed)) (lex_steps true rest t.1)
+    both_lexed (both_lexed (lex_numbers (x ∷ y ∷ []) (two_near x y t.0)) (lex_one (piece_stands (codes "l") l_name refl) space_passed)) (lex_steps true rest t.1)
 lex_steps false (PathOp.Curve a b c d x y ∷ rest) e = absurd (true≢false (sym e))
 lex_steps true (PathOp.Curve a b c d x y ∷ rest) e =
     let t = and_parts (((is_small a && is_small b) && (is_small c && is_small d)) && (is_small x && is_small y)) (is_drawn true rest) e in
-    both_lexed (both_lexed (lex_numbers (a ∷ b ∷ c ∷ d ∷ x ∷ y ∷ []) (six_near a b c d x y t.0)) (lex_one (word_stands word_of_c) space_passed)) (lex_steps true rest t.1)
+    both_lexed (both_lexed (lex_numbers (a ∷ b ∷ c ∷ d ∷ x ∷ y ∷ []) (six_near a b c d x y t.0)) (lex_one (piece_stands (codes "c") c_name refl) space_passed)) (lex_steps true rest t.1)
 lex_steps false (PathOp.Fill ∷ rest) e = absurd (true≢false (sym e))
-lex_steps true (PathOp.Fill ∷ rest) e = both_lexed (lex_one (word_stands word_of_h) space_passed) (lex_steps false rest e)
+lex_steps true (PathOp.Fill ∷ rest) e = both_lexed (lex_one (piece_stands (codes "h") h_name refl) space_passed) (lex_steps false rest e)
 lex_steps false (PathOp.Stroke ∷ rest) e = absurd (true≢false (sym e))
-lex_steps true (PathOp.Stroke ∷ rest) e = both_lexed (lex_one (word_stands word_of_k) space_passed) (lex_steps false rest e)
+lex_steps true (PathOp.Stroke ∷ rest) e = both_lexed (lex_one (piece_stands (codes "k") k_name refl) space_passed) (lex_steps false rest e)
 
 label_next : (name t : List ℕ) (m : State) → IsNewName name → NextToken (at m (47 ∷ name ++ 32 ∷ t)) (simple_token (label_token name)) (at m t)
 label_next name t m n =

@@ -1,6 +1,5 @@
 -- What the short procedures of the prolog draw.
-use Rattle.std.proofs.Common.{◌≡◌, ℤ, pos, true, List, [], ◌∷◌, ◌++◌, refl, codes}
-use Rattle.std.proofs.Math.IntN.{◌+ℤ◌, ◌*ℤ◌, +ℤ_idl}
+use Rattle.std.proofs.{Common.◌≡◌, Common.ℤ, Common.pos, Common.true, Common.false, Common.Bool, Common.List, Common.[], Common.◌∷◌, Common.◌++◌, Common.refl, Common.sym, Common.codes, Common.true≢false, Math.IntN.◌+ℤ◌, Math.IntN.◌*ℤ◌, Math.IntN.+ℤ_idl}
 use Rattle.ps_text.specs.{declared.sheet.Frame.Frame, Range.IsFrame}
 use Rattle.ps_steps.specs.Operators.{Outcome, went, executed, operated, in_range, moveto_op, lineto_op, curveto_op, closepath_op, fill_op, stroke_op, gsave_op, grestore_op, translate_op}
 use Rattle.ps_steps.specs.{declared.paint.Seg.Seg, declared.paint.Paint.Paint, declared.paint.PagePaint.PagePaint, Near.is_near, declared.value.Value.Value, declared.graphics.Graphics.Graphics, State.State, State.Names}
@@ -26,6 +25,15 @@ in_two a b x h k = is_in_range (a ∷ b ∷ []) x (rw (h, k) refl)
 in_six : (a b c d e g : ℤ) (x : Outcome) → is_near a ≡ true → is_near b ≡ true → is_near c ≡ true → is_near d ≡ true → is_near e ≡ true → is_near g ≡ true → in_range (a ∷ b ∷ c ∷ d ∷ e ∷ g ∷ []) x ≡ x
 in_six a b c d e g x ha hb hc hd he hg = is_in_range (a ∷ b ∷ c ∷ d ∷ e ∷ g ∷ []) x (rw (ha, hb, hc, hd, he, hg) refl)
 
+-- whether there is a path
+abbrev pub some_path : List Seg → Bool
+some_path [] = false
+some_path (s ∷ path) = true
+
+pub has_path : (path : List Seg) (s : Seg) → some_path (path ++ s ∷ []) ≡ true
+has_path [] s = refl
+has_path (p ∷ path) s = refl
+
 module _ (f : Frame) (ds : Names) (fr : IsFrame f) (made : Made f ds) (saved : List Graphics) (ps : List Paint) (pages : List PagePaint) where
   -- the state that the page is in
   abbrev pub on : List Value → Graphics → State
@@ -39,9 +47,10 @@ module _ (f : Frame) (ds : Names) (fr : IsFrame f) (made : Made f ds) (saved : L
       let e : operated moveto_op m ≡ went [] k = rw (moved_x f x a, moved_y f y b) (in_two (to_x f (x +ℤ a)) (to_y f (y +ℤ b)) (went [] k) (near_x f (x +ℤ a) fr ca) (near_y f (y +ℤ b) fr cb)) in
       calls made.m (then (does (codes "moveto") moveto_op m (went [] k) (made.free moveto_op) refl e) no_more) no_more
 
-  pub lines : (a b x y : ℤ) (s : Seg) (path : List Seg) (font : ℤ) (st : List Value) → IsClose (x +ℤ a) → IsClose (y +ℤ b)
-      → Runs 2 (l_name ∷ []) (on (whole_value b ∷ whole_value a ∷ st) (drawing f x y (s ∷ path) font)) (on st (drawing f x y (s ∷ path ++ line f (x +ℤ a) (y +ℤ b) ∷ []) font))
-  lines a b x y s path font st ca cb =
+  pub lines : (a b x y : ℤ) (path : List Seg) (font : ℤ) (st : List Value) → some_path path ≡ true → IsClose (x +ℤ a) → IsClose (y +ℤ b)
+      → Runs 2 (l_name ∷ []) (on (whole_value b ∷ whole_value a ∷ st) (drawing f x y path font)) (on st (drawing f x y (path ++ line f (x +ℤ a) (y +ℤ b) ∷ []) font))
+  lines a b x y [] font st some ca cb = absurd (true≢false (sym some))
+  lines a b x y (s ∷ path) font st some ca cb =
       let m = on (whole_value b ∷ whole_value a ∷ st) (drawing f x y (s ∷ path) font) in
       let k = on st (drawing f x y (s ∷ path ++ line f (x +ℤ a) (y +ℤ b) ∷ []) font) in
       let e : operated lineto_op m ≡ went [] k = rw (moved_x f x a, moved_y f y b) (in_two (to_x f (x +ℤ a)) (to_y f (y +ℤ b)) (went [] k) (near_x f (x +ℤ a) fr ca) (near_y f (y +ℤ b) fr cb)) in
@@ -75,11 +84,12 @@ module _ (f : Frame) (ds : Names) (fr : IsFrame f) (made : Made f ds) (saved : L
       let e : operated stroke_op m ≡ went [] k = is_in_range ((pos 60 *ℤ pos f.scale) ∷ []) (went [] k) (rw (near_width f fr) refl) in
       does (codes "stroke") stroke_op m (went [] k) (made.free stroke_op) refl e
 
-  pub curves : (a b c d p q x y : ℤ) (s : Seg) (path : List Seg) (font : ℤ) (st : List Value)
+  pub curves : (a b c d p q x y : ℤ) (path : List Seg) (font : ℤ) (st : List Value) → some_path path ≡ true
       → IsClose (x +ℤ a) → IsClose (y +ℤ b) → IsClose (x +ℤ c) → IsClose (y +ℤ d) → IsClose (x +ℤ p) → IsClose (y +ℤ q)
-      → Runs 2 (c_name ∷ []) (on (whole_value q ∷ whole_value p ∷ whole_value d ∷ whole_value c ∷ whole_value b ∷ whole_value a ∷ st) (drawing f x y (s ∷ path) font))
-      (on st (drawing f x y (s ∷ path ++ curve f (x +ℤ a) (y +ℤ b) (x +ℤ c) (y +ℤ d) (x +ℤ p) (y +ℤ q) ∷ []) font))
-  curves a b c d p q x y s path font st ca cb cc cd cp cq =
+      → Runs 2 (c_name ∷ []) (on (whole_value q ∷ whole_value p ∷ whole_value d ∷ whole_value c ∷ whole_value b ∷ whole_value a ∷ st) (drawing f x y path font))
+      (on st (drawing f x y (path ++ curve f (x +ℤ a) (y +ℤ b) (x +ℤ c) (y +ℤ d) (x +ℤ p) (y +ℤ q) ∷ []) font))
+  curves a b c d p q x y [] font st some ca cb cc cd cp cq = absurd (true≢false (sym some))
+  curves a b c d p q x y (s ∷ path) font st some ca cb cc cd cp cq =
       let m = on (whole_value q ∷ whole_value p ∷ whole_value d ∷ whole_value c ∷ whole_value b ∷ whole_value a ∷ st) (drawing f x y (s ∷ path) font) in
       let k = on st (drawing f x y (s ∷ path ++ curve f (x +ℤ a) (y +ℤ b) (x +ℤ c) (y +ℤ d) (x +ℤ p) (y +ℤ q) ∷ []) font) in
       let e : operated curveto_op m ≡ went [] k = rw (moved_x f x a, moved_y f y b, moved_x f x c, moved_y f y d, moved_x f x p, moved_y f y q)
@@ -91,9 +101,10 @@ module _ (f : Frame) (ds : Names) (fr : IsFrame f) (made : Made f ds) (saved : L
       → Runs 2 (k_name ∷ []) (on st (drawing f x y path font)) (page ds st (drawing f x y [] font) saved (ps ++ stroked f path ∷ []) pages)
   stroke_runs x y path font st = calls made.k (then (strokes x y path font st) no_more) no_more
 
-  pub fill_runs : (x y : ℤ) (s : Seg) (path : List Seg) (font : ℤ) (st : List Value)
-      → Runs 3 (h_name ∷ []) (on st (drawing f x y (s ∷ path) font)) (page ds st (drawing f x y [] font) saved (ps ++ filled (s ∷ path) ∷ []) pages)
-  fill_runs x y s path font st =
+  pub fill_runs : (x y : ℤ) (path : List Seg) (font : ℤ) (st : List Value) → some_path path ≡ true
+      → Runs 3 (h_name ∷ []) (on st (drawing f x y path font)) (page ds st (drawing f x y [] font) saved (ps ++ filled path ∷ []) pages)
+  fill_runs x y [] font st some = absurd (true≢false (sym some))
+  fill_runs x y (s ∷ path) font st some =
       let m = on st (drawing f x y (s ∷ path) font) in
       let k = on st (drawing f x y (s ∷ path ++ Seg.Close ∷ []) font) in
       let l = page ds st (drawing f x y [] font) saved (ps ++ filled (s ∷ path) ∷ []) pages in

@@ -1,6 +1,5 @@
 -- The lines of glyphs.
-use Rattle.std.proofs.Common.{◌≡◌, suc, ◌+◌, ◌≤◌, ℤ, pos, true, List, [], ◌∷◌, ◌++◌, refl, arith}
-use Rattle.std.proofs.{Math.IntN.◌+ℤ◌, lemmas.Int.ints, lemmas.Bool.leb-true}
+use Rattle.std.proofs.{Common.◌≡◌, Common.suc, Common.◌+◌, Common.◌≤◌, Common.ℤ, Common.pos, Common.true, Common.List, Common.[], Common.◌∷◌, Common.◌++◌, Common.refl, Common.arith, Math.IntN.◌+ℤ◌, lemmas.Int.ints, lemmas.Bool.leb-true}
 use Rattle.mus_units.specs.declared.glyph.Glyph.{Glyph}
 use Rattle.glyph_paths.specs.{Names.glyph_name, Outlines.outline_of}
 use Rattle.ps_text.specs.{Document.mark_text, Line.glyph_line, declared.sheet.Frame.Frame, Range.IsFrame, Range.IsNumber, Range.IsOffset, Range.IsPlaced, declared.marks.PageMark.PageMark}

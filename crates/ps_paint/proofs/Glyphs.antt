@@ -1,11 +1,11 @@
 -- Any outline is drawn as it is painted.
-use Rattle.std.proofs.Common.{◌≡◌, ℕ, ◌+◌, ℤ, pos, negsuc, true, false, Bool, ◌&&◌, List, [], ◌∷◌, ◌++◌, append_assoc, append-nil, sym, arith, int_le}
-use Rattle.std.{proofs.Math.IntN.◌+ℤ◌, proofs.lemmas.Int.ints, proofs.lemmas.Bool.true≢false, proofs.lemmas.Bool.and_parts, specs.List.flat_map, specs.Int.Signed.◌≤ℤ◌}
+use Rattle.std.proofs.Common.{◌≡◌, ℕ, ◌+◌, ℤ, pos, negsuc, true, false, Bool, ◌&&◌, List, [], ◌∷◌, ◌++◌, append_assoc, append-nil, arith, int_le}
+use Rattle.std.{proofs.Math.IntN.◌+ℤ◌, proofs.lemmas.Int.ints, proofs.lemmas.Bool.and_parts, specs.List.flat_map, specs.Int.Signed.◌≤ℤ◌}
 use Rattle.glyph_paths.specs.declared.paths.PathOp.{PathOp}
 use Rattle.ps_text.specs.{declared.sheet.Frame.Frame, Range.IsFrame}
 use Rattle.ps_steps.specs.{declared.paint.Seg.Seg, declared.paint.Paint.Paint, declared.paint.PagePaint.PagePaint, declared.value.Value.Value, declared.graphics.Graphics.Graphics, State.State, State.Names}
 use Rattle.ps_paint.{specs.PaintOf.move, specs.PaintOf.line, specs.PaintOf.curve, specs.PaintOf.stroked, specs.PaintOf.filled, specs.PaintOf.outline_paints, proofs.Bodies.Made, proofs.Bodies.step_tokens, proofs.Scales.IsClose, proofs.Runs.Runs, proofs.Runs.no_more, proofs.Runs.both_runs}
-use Rattle.ps_paint.proofs.{Runs.pushes, Draws.drawing, Draws.page, Draws.moves, Draws.lines, Draws.curves, Draws.stroke_runs, Draws.fill_runs}
+use Rattle.ps_paint.proofs.{Runs.pushes, Draws.drawing, Draws.page, Draws.moves, Draws.lines, Draws.curves, Draws.stroke_runs, Draws.fill_runs, Draws.some_path, Draws.has_path}
 
 -- within 2^20 of 0
 abbrev pub is_small : ℤ → Bool
@@ -57,11 +57,6 @@ close x a h k = record { low = omega (arith, ints); high = omega (arith, ints) }
 both_close : (x y a b : ℤ) → IsMid x → IsMid y → (is_small a && is_small b) ≡ true → IsClose (x +ℤ a) × IsClose (y +ℤ b)
 both_close x y a b mx my e = (close x a mx (small_is a ((and_parts (is_small a) (is_small b) e).0)), close y b my (small_is b ((and_parts (is_small a) (is_small b) e).1)))
 
--- whether there is a path
-abbrev pub some_path : List Seg → Bool
-some_path [] = false
-some_path (s ∷ path) = true
-
 module _ (f : Frame) (ds : Names) (fr : IsFrame f) (made : Made f ds) (font : ℤ) (st : List Value) (saved : List Graphics) (pages : List PagePaint) (x y : ℤ) (mx : IsMid x) (my : IsMid y) where
   abbrev pub before : List Seg → List Paint → State
   before path ps = page ds st (drawing f x y path font) saved ps pages
@@ -69,38 +64,32 @@ module _ (f : Frame) (ds : Names) (fr : IsFrame f) (made : Made f ds) (font : �
   pub outline_runs : (steps : List PathOp) (path : List Seg) (ps : List Paint) → is_drawn (some_path path) steps ≡ true
       → Runs (cost steps) (flat_map step_tokens steps) (before path ps) (before (left f x y path steps) (ps ++ outline_paints f x y path steps))
   outline_runs [] path ps e = rw (append-nil ps) no_more
-  outline_runs (PathOp.Move a b ∷ rest) [] ps e =
-      let sm = (and_parts (is_small a && is_small b) (is_drawn true rest) e).0 in
-      let more = (and_parts (is_small a && is_small b) (is_drawn true rest) e).1 in
-      let c = both_close x y a b mx my sm in
-      both_runs (pushes (a ∷ b ∷ []) (before [] ps)) (both_runs (moves f ds fr made saved ps pages a b x y [] font st c.0 c.1) (outline_runs rest (move f (x +ℤ a) (y +ℤ b) ∷ []) ps more))
-  outline_runs (PathOp.Move a b ∷ rest) (s ∷ path) ps e =
-      let sm = (and_parts (is_small a && is_small b) (is_drawn true rest) e).0 in
-      let more = (and_parts (is_small a && is_small b) (is_drawn true rest) e).1 in
-      let c = both_close x y a b mx my sm in
-      both_runs (pushes (a ∷ b ∷ []) (before (s ∷ path) ps)) (both_runs (moves f ds fr made saved ps pages a b x y (s ∷ path) font st c.0 c.1) (outline_runs rest (s ∷ path ++ move f (x +ℤ a) (y +ℤ b) ∷ []) ps more))
-  outline_runs (PathOp.Line a b ∷ rest) [] ps e = absurd (true≢false (sym e))
-  outline_runs (PathOp.Line a b ∷ rest) (s ∷ path) ps e =
-      let sm = (and_parts (is_small a && is_small b) (is_drawn true rest) e).0 in
-      let more = (and_parts (is_small a && is_small b) (is_drawn true rest) e).1 in
-      let c = both_close x y a b mx my sm in
-      both_runs (pushes (a ∷ b ∷ []) (before (s ∷ path) ps)) (both_runs (lines f ds fr made saved ps pages a b x y s path font st c.0 c.1) (outline_runs rest (s ∷ path ++ line f (x +ℤ a) (y +ℤ b) ∷ []) ps more))
-  outline_runs (PathOp.Curve a b c d p q ∷ rest) [] ps e = absurd (true≢false (sym e))
-  outline_runs (PathOp.Curve a b c d p q ∷ rest) (s ∷ path) ps e =
-      let t = (and_parts (((is_small a && is_small b) && (is_small c && is_small d)) && (is_small p && is_small q)) (is_drawn true rest) e).0 in
-      let more = (and_parts (((is_small a && is_small b) && (is_small c && is_small d)) && (is_small p && is_small q)) (is_drawn true rest) e).1 in
-      let u = (and_parts ((is_small a && is_small b) && (is_small c && is_small d)) (is_small p && is_small q) t).0 in
-      let c3 = both_close x y p q mx my ((and_parts ((is_small a && is_small b) && (is_small c && is_small d)) (is_small p && is_small q) t).1) in
-      let c1 = both_close x y a b mx my ((and_parts (is_small a && is_small b) (is_small c && is_small d) u).0) in
-      let c2 = both_close x y c d mx my ((and_parts (is_small a && is_small b) (is_small c && is_small d) u).1) in
-      both_runs (pushes (a ∷ b ∷ c ∷ d ∷ p ∷ q ∷ []) (before (s ∷ path) ps))
-      (both_runs (curves f ds fr made saved ps pages a b c d p q x y s path font st c1.0 c1.1 c2.0 c2.1 c3.0 c3.1)
-      (outline_runs rest (s ∷ path ++ curve f (x +ℤ a) (y +ℤ b) (x +ℤ c) (y +ℤ d) (x +ℤ p) (y +ℤ q) ∷ []) ps more))
-  outline_runs (PathOp.Fill ∷ rest) [] ps e = absurd (true≢false (sym e))
-  outline_runs (PathOp.Fill ∷ rest) (s ∷ path) ps e =
-      both_runs (fill_runs f ds fr made saved ps pages x y s path font st)
-      (rw append_assoc at (outline_runs rest [] (ps ++ filled (s ∷ path) ∷ []) e))
-  outline_runs (PathOp.Stroke ∷ rest) [] ps e = absurd (true≢false (sym e))
-  outline_runs (PathOp.Stroke ∷ rest) (s ∷ path) ps e =
-      both_runs (stroke_runs f ds fr made saved ps pages x y (s ∷ path) font st)
-      (rw append_assoc at (outline_runs rest [] (ps ++ stroked f (s ∷ path) ∷ []) e))
+  outline_runs (PathOp.Move a b ∷ rest) path ps e =
+      let t = and_parts (is_small a && is_small b) (is_drawn true rest) e in
+      let at = both_close x y a b mx my t.0 in
+      let m = move f (x +ℤ a) (y +ℤ b) in
+      both_runs (pushes (a ∷ b ∷ []) (before path ps)) (both_runs (moves f ds fr made saved ps pages a b x y path font st at.0 at.1) (outline_runs rest (path ++ m ∷ []) ps (rw (has_path path m) t.1)))
+  outline_runs (PathOp.Line a b ∷ rest) path ps e =
+      let has = and_parts (some_path path) ((is_small a && is_small b) && is_drawn true rest) e in
+      let t = and_parts (is_small a && is_small b) (is_drawn true rest) has.1 in
+      let at = both_close x y a b mx my t.0 in
+      let l = line f (x +ℤ a) (y +ℤ b) in
+      both_runs (pushes (a ∷ b ∷ []) (before path ps)) (both_runs (lines f ds fr made saved ps pages a b x y path font st has.0 at.0 at.1) (outline_runs rest (path ++ l ∷ []) ps (rw (has_path path l) t.1)))
+  outline_runs (PathOp.Curve a b c d p q ∷ rest) path ps e =
+      let inner = (is_small a && is_small b) && (is_small c && is_small d) in
+      let has = and_parts (some_path path) ((inner && (is_small p && is_small q)) && is_drawn true rest) e in
+      let t = and_parts (inner && (is_small p && is_small q)) (is_drawn true rest) has.1 in
+      let u = and_parts inner (is_small p && is_small q) t.0 in
+      let v = and_parts (is_small a && is_small b) (is_small c && is_small d) u.0 in
+      let first = both_close x y a b mx my v.0 in
+      let second = both_close x y c d mx my v.1 in
+      let last = both_close x y p q mx my u.1 in
+      let k = curve f (x +ℤ a) (y +ℤ b) (x +ℤ c) (y +ℤ d) (x +ℤ p) (y +ℤ q) in
+      both_runs (pushes (a ∷ b ∷ c ∷ d ∷ p ∷ q ∷ []) (before path ps))
+      (both_runs (curves f ds fr made saved ps pages a b c d p q x y path font st has.0 first.0 first.1 second.0 second.1 last.0 last.1) (outline_runs rest (path ++ k ∷ []) ps (rw (has_path path k) t.1)))
+  outline_runs (PathOp.Fill ∷ rest) path ps e =
+      let has = and_parts (some_path path) (is_drawn false rest) e in
+      both_runs (fill_runs f ds fr made saved ps pages x y path font st has.0) (rw append_assoc at (outline_runs rest [] (ps ++ filled path ∷ []) has.1))
+  outline_runs (PathOp.Stroke ∷ rest) path ps e =
+      let has = and_parts (some_path path) (is_drawn false rest) e in
+      both_runs (stroke_runs f ds fr made saved ps pages x y path font st) (rw append_assoc at (outline_runs rest [] (ps ++ stroked f path ∷ []) has.1))

@@ -1,58 +1,31 @@
 -- The definitions that the prolog makes.
-use Rattle.std.proofs.Common.{◌≡◌, List, [], ◌∷◌, Some, None, refl, codes}
+use Rattle.std.proofs.Common.{◌≡◌, ℕ, List, [], ◌∷◌, Some, None, take, refl, codes}
 use Rattle.mus_units.specs.{declared.glyph.Glyph.Glyph, declared.glyph.Way.Way}
 use Rattle.glyph_paths.specs.Names.{glyph_name, glyphs_in_order}
 use Rattle.ps_text.specs.{Names.way_name, declared.sheet.Frame.Frame}
-use Rattle.ps_steps.specs.{State.Names, State.no_names, Operators.Operator, Operators.operator_name, Operators.defined, Operators.def_op}
+use Rattle.ps_steps.specs.{declared.token.Simple.Simple, State.Names, State.no_names, Operators.Operator, Operators.operator_name, Operators.defined, Operators.def_op}
 use Rattle.ps_paint.specs.PaintOf.{edge}
 use Rattle.ps_paint.proofs.Bodies.{Made, m_body, l_body, c_body, h_body, k_body, sf_body, vl_body, st_body, beam_body, ac_body, t1_body, t2_body, pg_body, glyph_body}
 
--- those of its fixed lines, in their order
-abbrev pub with_m : Names
-with_m = defined (codes "m") m_body no_names
+-- the names of its fixed lines and their procedures, in their order
+abbrev pub fixed_bodies : List (List ℕ × List Simple)
+fixed_bodies = (codes "m", m_body) ∷ (codes "l", l_body) ∷ (codes "c", c_body) ∷ (codes "h", h_body) ∷ (codes "k", k_body) ∷ (codes "sf", sf_body) ∷ (codes "vl", vl_body) ∷ (codes "st", st_body)
+    ∷ (codes "bu", beam_body (edge Way.Up)) ∷ (codes "bd", beam_body (edge Way.Down)) ∷ (codes "gb", beam_body (edge Way.Grace)) ∷ (codes "ac", ac_body) ∷ (codes "t1", t1_body) ∷ (codes "t2", t2_body) ∷ []
 
-abbrev pub with_l : Names
-with_l = defined (codes "l") l_body with_m
+abbrev pub with_bodies : List (List ℕ × List Simple) → Names → Names
+with_bodies [] ds = ds
+with_bodies (b ∷ bs) ds = with_bodies bs (defined b.0 b.1 ds)
 
-abbrev pub with_c : Names
-with_c = defined (codes "c") c_body with_l
+-- the definitions of the first so many of them, and of all
+abbrev pub with_front : ℕ → Names
+with_front n = with_bodies (take n fixed_bodies) no_names
 
-abbrev pub with_h : Names
-with_h = defined (codes "h") h_body with_c
-
-abbrev pub with_k : Names
-with_k = defined (codes "k") k_body with_h
-
-abbrev pub with_sf : Names
-with_sf = defined (codes "sf") sf_body with_k
-
-abbrev pub with_vl : Names
-with_vl = defined (codes "vl") vl_body with_sf
-
-abbrev pub with_st : Names
-with_st = defined (codes "st") st_body with_vl
-
-abbrev pub with_bu : Names
-with_bu = defined (codes "bu") (beam_body (edge Way.Up)) with_st
-
-abbrev pub with_bd : Names
-with_bd = defined (codes "bd") (beam_body (edge Way.Down)) with_bu
-
-abbrev pub with_gb : Names
-with_gb = defined (codes "gb") (beam_body (edge Way.Grace)) with_bd
-
-abbrev pub with_ac : Names
-with_ac = defined (codes "ac") ac_body with_gb
-
-abbrev pub with_t1 : Names
-with_t1 = defined (codes "t1") t1_body with_ac
-
-abbrev pub with_t2 : Names
-with_t2 = defined (codes "t2") t2_body with_t1
+abbrev pub with_fixed : Names
+with_fixed = with_bodies fixed_bodies no_names
 
 -- and that of a page's beginning
 abbrev pub with_pg : Frame → Names
-with_pg f = defined (codes "pg") (pg_body f) with_t2
+with_pg f = defined (codes "pg") (pg_body f) with_fixed
 
 -- then those of glyphs
 abbrev pub with_glyphs : List Glyph → Names → Names

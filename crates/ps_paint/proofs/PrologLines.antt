@@ -4,15 +4,14 @@ use Rattle.std.{proofs.lemmas.Fmt.decimal_digit, proofs.lemmas.Int.ints, proofs.
 use Rattle.mus_units.specs.{Bytes.is_digit, declared.glyph.Glyph.Glyph, declared.glyph.Way.Way}
 use Rattle.glyph_paths.specs.{Names.glyph_name, Names.glyphs_in_order, Procedure.numbers}
 use Rattle.ps_text.specs.{Prolog.percent, Prolog.first_text, Prolog.box_start, Prolog.procedures, Prolog.page_start, Prolog.page_end, Prolog.last_text, Prolog.box_line, Prolog.scaling, Prolog.page_line, Prolog.glyph_lines, Prolog.heading, Prolog.prolog, declared.sheet.Frame.Frame, Range.IsFrame}
-use Rattle.ps_steps.specs.{declared.token.Simple.Simple, Near.is_near, Near.is_near_hundredths, Tokens.font_line, Tokens.font_front, Tokens.simple_at, Tokens.Body, Tokens.word_token, Tokens.pointed_number, State.State, State.Names, State.first_graphics, State.first_state, State.no_names}
-use Rattle.ps_steps.specs.{Operators.defined, Steps.at, Steps.from_text, Steps.Step, Steps.here, Steps.step}
+use Rattle.ps_steps.specs.Tokens.{font_line, font_front, simple_at, Body, word_token, pointed_number}
+use Rattle.ps_steps.specs.{declared.token.Simple.Simple, Near.is_near, Near.is_near_hundredths, State.State, State.Names, State.first_graphics, State.first_state, State.no_names, Operators.defined, Steps.at, Steps.from_text, Steps.Step, Steps.here, Steps.step}
 use Rattle.ps_steps.specs.declared.token.Simple.TheVariants.{Pointed as pointed_token, Whole as whole_token, Label as label_token, Name as name_token, Font as font_token}
 use Rattle.ps_steps.specs.declared.token.Token.TheVariants.{Simple as simple_token}
 use Rattle.ps_paint.proofs.Bodies.{m_body, l_body, c_body, h_body, k_body, sf_body, vl_body, st_body, beam_body, ac_body, t1_body, t2_body, pg_body, glyph_body, scale_name, translate_name, gsave_name}
-use Rattle.ps_paint.proofs.Made.{with_m, with_l, with_c, with_h, with_k, with_sf, with_vl, with_st, with_bu, with_bd, with_gb, with_ac, with_t1, with_t2, with_pg, with_glyphs, all_names}
-use Rattle.ps_paint.{specs.PaintOf.edge, proofs.Scales.near, proofs.Takes.Takes, proofs.Takes.nothing_taken, proofs.Takes.both_taken, proofs.Takes.space_passed, proofs.Takes.IsTokenWord, proofs.Takes.digit_regular, proofs.Takes.digit_no_minus, proofs.Comments.takes_comment}
-use Rattle.ps_paint.proofs.{Comments.two_in_line, Lexing.Lexes, Lexing.both_lexed, Lexing.word_stands, Lexing.IsNewName, Lexing.lex_one, Lexing.ends, Lexing.lex_numbers, Lexing.pieces_of, Lexing.spaced, Lexing.piece_token, Lexing.piece_stands, Lexing.lexed, Lexing.lexed_to, Defining.definition}
-use Rattle.ps_paint.proofs.{Defining.takes_definition, Defining.takes_glyph, GlyphTable.fine, Starts.between, Pages.Leads}
+use Rattle.ps_paint.proofs.Lexing.{Lexes, both_lexed, word_stands, IsNewName, lex_one, ends, lex_numbers, pieces_of, spaced, piece_token, piece_stands, lexed, lexed_to}
+use Rattle.ps_paint.{proofs.Made.with_front, proofs.Made.with_fixed, proofs.Made.with_pg, proofs.Made.with_glyphs, proofs.Made.all_names, specs.PaintOf.edge, proofs.Scales.near, proofs.Takes.Takes, proofs.Takes.nothing_taken, proofs.Takes.both_taken, proofs.Takes.space_passed}
+use Rattle.ps_paint.proofs.{Takes.IsTokenWord, Takes.digit_regular, Takes.digit_no_minus, Comments.takes_comment, Comments.two_in_line, Defining.definition, Defining.takes_definition, Defining.takes_glyph, GlyphTable.fine, Starts.between, Pages.Leads}
 
 -- a state in which nothing was done but definitions
 abbrev pub being : Names → Bool → State
@@ -24,49 +23,45 @@ fixed : (name front last : List ℕ) (body : List Simple) (ds : Names) → IsNew
 fixed name front last body ds new e f free = takes_definition name (front ++ last) body (being ds false) new (lexed_to front last body e f) free
 
 -- the line that makes the font
-font_taken : Takes 1 (font_line ++ 10 ∷ []) (being with_t2 false) (being with_t2 true)
+font_taken : Takes 1 (font_line ++ 10 ∷ []) (being with_fixed false) (being with_fixed true)
 font_taken = record {
   take = λ rest.
-      let k = being with_t2 true in
-      let one : Step (at (being with_t2 false) (font_line ++ 10 ∷ rest)) (at k rest) = record {
+      let k = being with_fixed true in
+      let one : Step (at (being with_fixed false) (font_line ++ 10 ∷ rest)) (at k rest) = record {
         token = simple_token font_token;
-        rest = at (being with_t2 false) rest;
+        rest = at (being with_fixed false) rest;
         body = [];
         state = k;
-        next = from_text (being with_t2 false) (font_line ++ 10 ∷ rest) (10 ∷ rest) (simple_token font_token) (simple_at font_token (10 ∷ rest) (font_front (10 ∷ rest) refl));
+        next = from_text (being with_fixed false) (font_line ++ 10 ∷ rest) (10 ∷ rest) (simple_token font_token) (simple_at font_token (10 ∷ rest) (font_front (10 ∷ rest) refl));
         went = refl;
         is = refl;
       } in
-      step 0 (at (being with_t2 false) (font_line ++ 10 ∷ rest)) (at k rest) (at k rest) one (here (at k rest));
+      step 0 (at (being with_fixed false) (font_line ++ 10 ∷ rest)) (at k rest) (at k rest) one (here (at k rest));
 }
 
-procedures_taken : Takes 43 procedures (being no_names false) (being with_t2 true)
+procedures_taken : Takes 43 procedures (being no_names false) (being with_fixed true)
 unfolding procedures
 procedures_taken =
-    let m = being no_names false in
-    let level = takes_comment (codes "%LanguageLevel: 2") m refl in
-    let pages = both_taken level (takes_comment (codes "%Pages: (atend)") m refl) in
-    let comments = both_taken pages (takes_comment (codes "%EndComments") m refl) in
-    let begins = both_taken comments (takes_comment (codes "%BeginProlog") m refl) in
-    let line_m = fixed (codes "m") [] (codes "moveto") m_body no_names (record { regular = refl; good = refl; other = refl }) refl refl refl in
-    let line_l = fixed (codes "l") [] (codes "lineto") l_body with_m (record { regular = refl; good = refl; other = refl }) refl refl refl in
-    let line_c = fixed (codes "c") [] (codes "curveto") c_body with_l (record { regular = refl; good = refl; other = refl }) refl refl refl in
-    let line_h = fixed (codes "h") (codes "closepath ") (codes "fill") h_body with_c (record { regular = refl; good = refl; other = refl }) refl refl refl in
-    let line_k = fixed (codes "k") [] (codes "stroke") k_body with_h (record { regular = refl; good = refl; other = refl }) refl refl refl in
-    let line_sf = fixed (codes "sf") (codes "gsave translate 0 0 m l 0 500 m l 0 1000 m l 0 1500 m l 0 2000 m l stroke ") (codes "grestore") sf_body with_k (record { regular = refl; good = refl; other = refl }) refl refl refl in
-    let line_vl = fixed (codes "vl") (codes "m l ") (codes "stroke") vl_body with_sf (record { regular = refl; good = refl; other = refl }) refl refl refl in
-    let line_st = fixed (codes "st") (codes "gsave translate m l stroke ") (codes "grestore") st_body with_vl (record { regular = refl; good = refl; other = refl }) refl refl refl in
-    let line_bu = fixed (codes "bu") (codes "gsave 280 0 translate m l l l h ") (codes "grestore") (beam_body (edge Way.Up)) with_st (record { regular = refl; good = refl; other = refl }) refl refl refl in
-    let line_bd = fixed (codes "bd") (codes "gsave -280 0 translate m l l l h ") (codes "grestore") (beam_body (edge Way.Down)) with_bu (record { regular = refl; good = refl; other = refl }) refl refl refl in
-    let line_gb = fixed (codes "gb") (codes "gsave 190 0 translate m l l l h ") (codes "grestore") (beam_body (edge Way.Grace)) with_bd (record { regular = refl; good = refl; other = refl }) refl refl refl in
-    let line_ac = fixed (codes "ac") (codes "m c ") (codes "stroke") ac_body with_gb (record { regular = refl; good = refl; other = refl }) refl refl refl in
-    let line_t1 = fixed (codes "t1") (codes "gsave translate m show ") (codes "grestore") t1_body with_ac (record { regular = refl; good = refl; other = refl }) refl refl refl in
-    let line_t2 = fixed (codes "t2") (codes "gsave /EngFont findfont 1600 scalefont setfont translate m show ") (codes "grestore") t2_body with_t1 (record { regular = refl; good = refl; other = refl }) refl refl refl in
-    let short = both_taken (both_taken (both_taken (both_taken (both_taken begins line_m) line_l) line_c) line_h) line_k in
-    let lines = both_taken (both_taken (both_taken short line_sf) line_vl) line_st in
-    let beams = both_taken (both_taken (both_taken lines line_bu) line_bd) line_gb in
-    let words = both_taken (both_taken (both_taken beams line_ac) line_t1) line_t2 in
-    both_taken words font_taken
+    let start = being no_names false in
+    let level = takes_comment (codes "%LanguageLevel: 2") start refl in
+    let pages = both_taken level (takes_comment (codes "%Pages: (atend)") start refl) in
+    let comments = both_taken pages (takes_comment (codes "%EndComments") start refl) in
+    let begins = both_taken comments (takes_comment (codes "%BeginProlog") start refl) in
+    let m = both_taken begins (fixed (codes "m") [] (codes "moveto") m_body (with_front 0) (record { regular = refl; good = refl; other = refl }) refl refl refl) in
+    let l = both_taken m (fixed (codes "l") [] (codes "lineto") l_body (with_front 1) (record { regular = refl; good = refl; other = refl }) refl refl refl) in
+    let c = both_taken l (fixed (codes "c") [] (codes "curveto") c_body (with_front 2) (record { regular = refl; good = refl; other = refl }) refl refl refl) in
+    let h = both_taken c (fixed (codes "h") (codes "closepath ") (codes "fill") h_body (with_front 3) (record { regular = refl; good = refl; other = refl }) refl refl refl) in
+    let k = both_taken h (fixed (codes "k") [] (codes "stroke") k_body (with_front 4) (record { regular = refl; good = refl; other = refl }) refl refl refl) in
+    let sf = both_taken k (fixed (codes "sf") (codes "gsave translate 0 0 m l 0 500 m l 0 1000 m l 0 1500 m l 0 2000 m l stroke ") (codes "grestore") sf_body (with_front 5) (record { regular = refl; good = refl; other = refl }) refl refl refl) in
+    let vl = both_taken sf (fixed (codes "vl") (codes "m l ") (codes "stroke") vl_body (with_front 6) (record { regular = refl; good = refl; other = refl }) refl refl refl) in
+    let st = both_taken vl (fixed (codes "st") (codes "gsave translate m l stroke ") (codes "grestore") st_body (with_front 7) (record { regular = refl; good = refl; other = refl }) refl refl refl) in
+    let bu = both_taken st (fixed (codes "bu") (codes "gsave 280 0 translate m l l l h ") (codes "grestore") (beam_body (edge Way.Up)) (with_front 8) (record { regular = refl; good = refl; other = refl }) refl refl refl) in
+    let bd = both_taken bu (fixed (codes "bd") (codes "gsave -280 0 translate m l l l h ") (codes "grestore") (beam_body (edge Way.Down)) (with_front 9) (record { regular = refl; good = refl; other = refl }) refl refl refl) in
+    let gb = both_taken bd (fixed (codes "gb") (codes "gsave 190 0 translate m l l l h ") (codes "grestore") (beam_body (edge Way.Grace)) (with_front 10) (record { regular = refl; good = refl; other = refl }) refl refl refl) in
+    let ac = both_taken gb (fixed (codes "ac") (codes "m c ") (codes "stroke") ac_body (with_front 11) (record { regular = refl; good = refl; other = refl }) refl refl refl) in
+    let t1 = both_taken ac (fixed (codes "t1") (codes "gsave translate m show ") (codes "grestore") t1_body (with_front 12) (record { regular = refl; good = refl; other = refl }) refl refl refl) in
+    let t2 = both_taken t1 (fixed (codes "t2") (codes "gsave /EngFont findfont 1600 scalefont setfont translate m show ") (codes "grestore") t2_body (with_front 13) (record { regular = refl; good = refl; other = refl }) refl refl refl) in
+    both_taken t2 font_taken
 
 -- the lines of glyphs
 glyphs_taken : (gs : List Glyph) (ds : Names) → ds (codes "def") ≡ None → Takes (3 * length gs) (glyph_lines gs) (being ds true) (being (with_glyphs gs ds) true)
@@ -168,8 +163,8 @@ unfolding first_text last_text
 prolog_taken f fr =
     let m = being no_names false in
     let box : Takes 0 (box_line f.wide f.high ++ 10 ∷ []) m m = box_taken f in
-    let definition_of_page : Takes 3 (page_line f.left f.bottom f.scale ++ 10 ∷ []) (being with_t2 true) (being (with_pg f) true) =
-    rw (pg_definition f) (takes_definition (codes "pg") (pg_text f ++ codes "setfont") (pg_body f) (being with_t2 true) (record { regular = refl; good = refl; other = refl }) (pg_lexed f fr) refl) in
+    let definition_of_page : Takes 3 (page_line f.left f.bottom f.scale ++ 10 ∷ []) (being with_fixed true) (being (with_pg f) true) =
+    rw (pg_definition f) (takes_definition (codes "pg") (pg_text f ++ codes "setfont") (pg_body f) (being with_fixed true) (record { regular = refl; good = refl; other = refl }) (pg_lexed f fr) refl) in
     let glyphs = glyphs_taken glyphs_in_order (with_pg f) refl in
     let all = both_taken (both_taken (both_taken (both_taken (both_taken (takes_comment (codes "!PS-Adobe-3.0") m refl) box) procedures_taken) definition_of_page) glyphs) (takes_comment (codes "%EndProlog") (being (all_names f) true) refl) in
     rw (prolog_parts f) (record {

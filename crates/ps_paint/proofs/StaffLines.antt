@@ -1,38 +1,24 @@
 -- The lines of staves.
-use Rattle.std.proofs.Common.{◌≡◌, ℕ, true, ℤ, pos, List, [], ◌∷◌, ◌++◌, refl, arith, nat_le, codes}
-use Rattle.std.proofs.{Math.IntN.◌+ℤ◌, Math.IntN.+ℤ_idl, Math.IntN.+ℤ_idr, lemmas.Int.ints}
+use Rattle.std.proofs.{Common.◌≡◌, Common.ℕ, Common.true, Common.ℤ, Common.pos, Common.List, Common.[], Common.◌∷◌, Common.◌++◌, Common.refl, Common.arith, Common.nat_le, Common.codes, Math.IntN.◌+ℤ◌, Math.IntN.+ℤ_idl, Math.IntN.+ℤ_idr, lemmas.Int.ints}
 use Rattle.glyph_paths.specs.Procedure.{numbers}
 use Rattle.ps_text.specs.{Document.rules_line, declared.sheet.Frame.Frame, Range.IsFrame, Range.IsNumber, Range.IsOffset}
 use Rattle.ps_steps.specs.{declared.paint.Paint.Paint, declared.paint.Seg.Seg, declared.paint.PagePaint.PagePaint, declared.value.Value.Value, declared.graphics.Graphics.Graphics, State.Names, Operators.all_near}
 use Rattle.ps_steps.specs.declared.value.Value.TheVariants.{Whole as whole_value}
-use Rattle.ps_paint.{specs.PaintOf.move, specs.PaintOf.line, specs.PaintOf.stroked, specs.PaintOf.rules, proofs.Bodies.Made, proofs.Bodies.sf_body, proofs.Bodies.rule_tokens, proofs.Scales.IsClose, proofs.Runs.Runs, proofs.Runs.no_more, proofs.Runs.then, proofs.Runs.both_runs, proofs.Runs.pushes}
-use Rattle.ps_paint.proofs.{Draws.drawing, Draws.corner, Draws.page, Draws.moves, Draws.lines, Draws.saves, Draws.restores, Draws.places, Draws.strokes, Lines.Draws, Lines.on_page, Lines.line_drawn, Lines.page_near, Lines.close_number, Lines.close_sum, StemLines.zero_sum}
+use Rattle.ps_paint.{specs.PaintOf.move, specs.PaintOf.line, specs.PaintOf.stroked, specs.PaintOf.rules, proofs.Bodies.Made, proofs.Bodies.sf_body, proofs.Bodies.rule_tokens, proofs.Runs.Runs, proofs.Runs.no_more, proofs.Runs.then, proofs.Runs.both_runs, proofs.Runs.pushes, proofs.Draws.drawing}
+use Rattle.ps_paint.proofs.{Draws.corner, Draws.page, Draws.moves, Draws.lines, Draws.saves, Draws.restores, Draws.places, Draws.strokes, Draws.has_path, Lines.Draws, Lines.on_page, Lines.line_drawn, Lines.page_near, Lines.close_number, Lines.close_sum, StemLines.zero_close, StemLines.zero_sum}
 
 module _ (f : Frame) (ds : Names) (fr : IsFrame f) (made : Made f ds) where
-  -- a line of the staff at y, before others and behind others
-  first_rule : (w y up : ℤ) (st : List Value) (saved : List Graphics) (ps : List Paint) (pages : List PagePaint) → IsNumber w → IsNumber y → IsOffset up
-      → Runs 6 (rule_tokens up) (page ds (whole_value up ∷ whole_value w ∷ st) (drawing f (pos 0) y [] (pos 900)) saved ps pages)
-      (page ds st (drawing f (pos 0) y (move f (pos 0) (y +ℤ up) ∷ line f (pos 0 +ℤ w) (y +ℤ up) ∷ []) (pos 900)) saved ps pages)
-  first_rule w y up st saved ps pages nw ny nu =
+  -- a line of the staff at y, behind others
+  next_rule : (w y up : ℤ) (path : List Seg) (st : List Value) (saved : List Graphics) (ps : List Paint) (pages : List PagePaint) → IsNumber w → IsNumber y → IsOffset up
+      → Runs 6 (rule_tokens up) (page ds (whole_value up ∷ whole_value w ∷ st) (drawing f (pos 0) y path (pos 900)) saved ps pages)
+      (page ds st (drawing f (pos 0) y ((path ++ move f (pos 0) (y +ℤ up) ∷ []) ++ line f (pos 0 +ℤ w) (y +ℤ up) ∷ []) (pos 900)) saved ps pages)
+  next_rule w y up path st saved ps pages nw ny nu =
       let s = whole_value up ∷ whole_value w ∷ st in
-      let g = drawing f (pos 0) y [] (pos 900) in
-      let zero : IsClose (pos 0) = record { low = omega (arith, ints); high = omega (arith, ints) } in
+      let m = move f (pos 0) (y +ℤ up) in
       let sum = close_sum y up ny nu in
-      both_runs (pushes (pos 0 ∷ up ∷ []) (page ds s g saved ps pages))
-      (both_runs (moves f ds fr made saved ps pages (pos 0) up (pos 0) y [] (pos 900) s zero sum)
-      (lines f ds fr made saved ps pages w up (pos 0) y (move f (pos 0) (y +ℤ up)) [] (pos 900) st (zero_sum w nw) sum))
-
-  next_rule : (w y up : ℤ) (a : Seg) (path : List Seg) (st : List Value) (saved : List Graphics) (ps : List Paint) (pages : List PagePaint) → IsNumber w → IsNumber y → IsOffset up
-      → Runs 6 (rule_tokens up) (page ds (whole_value up ∷ whole_value w ∷ st) (drawing f (pos 0) y (a ∷ path) (pos 900)) saved ps pages)
-      (page ds st (drawing f (pos 0) y (a ∷ (path ++ move f (pos 0) (y +ℤ up) ∷ []) ++ line f (pos 0 +ℤ w) (y +ℤ up) ∷ []) (pos 900)) saved ps pages)
-  next_rule w y up a path st saved ps pages nw ny nu =
-      let s = whole_value up ∷ whole_value w ∷ st in
-      let g = drawing f (pos 0) y (a ∷ path) (pos 900) in
-      let zero : IsClose (pos 0) = record { low = omega (arith, ints); high = omega (arith, ints) } in
-      let sum = close_sum y up ny nu in
-      both_runs (pushes (pos 0 ∷ up ∷ []) (page ds s g saved ps pages))
-      (both_runs (moves f ds fr made saved ps pages (pos 0) up (pos 0) y (a ∷ path) (pos 900) s zero sum)
-      (lines f ds fr made saved ps pages w up (pos 0) y a (path ++ move f (pos 0) (y +ℤ up) ∷ []) (pos 900) st (zero_sum w nw) sum))
+      both_runs (pushes (pos 0 ∷ up ∷ []) (page ds s (drawing f (pos 0) y path (pos 900)) saved ps pages))
+      (both_runs (moves f ds fr made saved ps pages (pos 0) up (pos 0) y path (pos 900) s zero_close sum)
+      (lines f ds fr made saved ps pages w up (pos 0) y (path ++ m ∷ []) (pos 900) st (has_path path m) (zero_sum w nw) sum))
 
   offset : (n : ℕ) → nat_le n 2000 ≡ true → IsOffset (pos n)
   offset n l = record { low = grind (arith, ints); high = grind (arith, ints) }
@@ -56,20 +42,18 @@ module _ (f : Frame) (ds : Names) (fr : IsFrame f) (made : Made f ds) where
       let s2 = whole_value (pos 500) ∷ whole_value w ∷ s3 in
       let s1 = whole_value (pos 0) ∷ whole_value w ∷ s2 in
       let k = o ∷ saved in
-      let zero : IsClose (pos 0) = record { low = omega (arith, ints); high = omega (arith, ints) } in
-      let a = move f (pos 0) (y +ℤ pos 0) in
-      let b = line f (pos 0 +ℤ w) (y +ℤ pos 0) ∷ [] in
+      let b = two w y (pos 0) in
       let c = b ++ two w y (pos 500) in
       let d = c ++ two w y (pos 1000) in
       let e = d ++ two w y (pos 1500) in
       let q = ps ++ stroked f (five w y) ∷ [] in
       then (saves f ds fr made saved ps pages (whole_value y ∷ whole_value (pos 0) ∷ s1) o)
-      (then (places f ds fr made k ps pages (pos 0) y (pos 900) s1 zero (close_number y ny))
-      (both_runs (first_rule w y (pos 0) s2 k ps pages nw ny (offset 0 refl))
-      (both_runs (next_rule w y (pos 500) a b s3 k ps pages nw ny (offset 500 refl))
-      (both_runs (next_rule w y (pos 1000) a c s4 k ps pages nw ny (offset 1000 refl))
-      (both_runs (next_rule w y (pos 1500) a d s5 k ps pages nw ny (offset 1500 refl))
-      (both_runs (next_rule w y (pos 2000) a e st k ps pages nw ny (offset 2000 refl))
+      (then (places f ds fr made k ps pages (pos 0) y (pos 900) s1 zero_close (close_number y ny))
+      (both_runs (next_rule w y (pos 0) [] s2 k ps pages nw ny (offset 0 refl))
+      (both_runs (next_rule w y (pos 500) b s3 k ps pages nw ny (offset 500 refl))
+      (both_runs (next_rule w y (pos 1000) c s4 k ps pages nw ny (offset 1000 refl))
+      (both_runs (next_rule w y (pos 1500) d s5 k ps pages nw ny (offset 1500 refl))
+      (both_runs (next_rule w y (pos 2000) e st k ps pages nw ny (offset 2000 refl))
       (then (strokes f ds fr made k ps pages (pos 0) y (five w y) (pos 900) st)
       (then (restores f ds fr made saved q pages st (drawing f (pos 0) y [] (pos 900)) o) no_more))))))))
 

@@ -1,11 +1,13 @@
 -- Stems, and the lines that join staves.
-use Rattle.std.proofs.Common.{◌≡◌, true, ℤ, pos, List, [], ◌∷◌, ◌++◌, refl, arith, codes}
-use Rattle.std.proofs.{Math.IntN.◌+ℤ◌, Math.IntN.+ℤ_idl, lemmas.Int.ints}
+use Rattle.std.proofs.{Common.◌≡◌, Common.true, Common.ℤ, Common.pos, Common.List, Common.[], Common.◌∷◌, Common.◌++◌, Common.refl, Common.arith, Common.codes, Math.IntN.◌+ℤ◌, Math.IntN.+ℤ_idl, lemmas.Int.ints}
 use Rattle.ps_text.specs.{Document.mark_text, Document.join_line, Line.stem_line, declared.sheet.Frame.Frame, Range.IsFrame, Range.IsStem, Range.IsNumber, declared.marks.PageMark.PageMark}
 use Rattle.ps_steps.specs.{declared.paint.Paint.Paint, declared.paint.PagePaint.PagePaint, declared.value.Value.Value, declared.graphics.Graphics.Graphics, State.Names, Operators.all_near}
 use Rattle.ps_steps.specs.declared.value.Value.TheVariants.{Whole as whole_value}
 use Rattle.ps_paint.{specs.PaintOf.move, specs.PaintOf.line, specs.PaintOf.stroked, specs.PaintOf.mark_paints, proofs.Bodies.Made, proofs.Bodies.st_body, proofs.Bodies.vl_body, proofs.Scales.IsClose, proofs.Runs.Runs, proofs.Runs.no_more, proofs.Runs.then, proofs.Runs.both_runs}
 use Rattle.ps_paint.proofs.{Draws.drawing, Draws.corner, Draws.moves, Draws.lines, Draws.saves, Draws.restores, Draws.places, Draws.strokes, Lines.Draws, Lines.on_page, Lines.line_drawn, Lines.page_near, Lines.offset_near, Lines.close_number, Lines.close_sum}
+
+pub zero_close : IsClose (pos 0)
+zero_close = record { low = omega (arith, ints); high = omega (arith, ints) }
 
 pub zero_sum : (y : ℤ) → IsNumber y → IsClose (pos 0 +ℤ y)
 zero_sum y n = rw (+ℤ_idl y) (close_number y n)
@@ -25,7 +27,7 @@ module _ (f : Frame) (ds : Names) (fr : IsFrame f) (made : Made f ds) where
       then (saves f ds fr made saved ps pages (whole_value y ∷ whole_value x ∷ s2) g)
       (then (places f ds fr made (g ∷ saved) ps pages x y (pos 900) s2 cx cy)
       (both_runs (moves f ds fr made (g ∷ saved) ps pages dx from x y [] (pos 900) s1 cd cf)
-      (both_runs (lines f ds fr made (g ∷ saved) ps pages dx to x y a [] (pos 900) st cd ct)
+      (both_runs (lines f ds fr made (g ∷ saved) ps pages dx to x y (a ∷ []) (pos 900) st refl cd ct)
       (then (strokes f ds fr made (g ∷ saved) ps pages x y (a ∷ b ∷ []) (pos 900) st)
       (then (restores f ds fr made saved q pages st (drawing f x y [] (pos 900)) g) no_more)))))
 
@@ -44,11 +46,10 @@ module _ (f : Frame) (ds : Names) (fr : IsFrame f) (made : Made f ds) where
       → Runs 5 vl_body (on_page f ds (whole_value foot ∷ whole_value (pos 0) ∷ whole_value top ∷ whole_value (pos 0) ∷ st) saved ps pages)
       (on_page f ds st saved (ps ++ stroked f (move f (pos 0) (pos 0 +ℤ foot) ∷ line f (pos 0) (pos 0 +ℤ top) ∷ []) ∷ []) pages)
   join_runs top foot st saved ps pages nt nf =
-      let zero : IsClose (pos 0) = record { low = omega (arith, ints); high = omega (arith, ints) } in
       let a = move f (pos 0) (pos 0 +ℤ foot) in
       let b = line f (pos 0) (pos 0 +ℤ top) in
-      both_runs (moves f ds fr made saved ps pages (pos 0) foot (pos 0) (pos 0) [] (pos 900) (whole_value top ∷ whole_value (pos 0) ∷ st) zero (zero_sum foot nf))
-      (both_runs (lines f ds fr made saved ps pages (pos 0) top (pos 0) (pos 0) a [] (pos 900) st zero (zero_sum top nt))
+      both_runs (moves f ds fr made saved ps pages (pos 0) foot (pos 0) (pos 0) [] (pos 900) (whole_value top ∷ whole_value (pos 0) ∷ st) zero_close (zero_sum foot nf))
+      (both_runs (lines f ds fr made saved ps pages (pos 0) top (pos 0) (pos 0) (a ∷ []) (pos 900) st refl zero_close (zero_sum top nt))
       (then (strokes f ds fr made saved ps pages (pos 0) (pos 0) (a ∷ b ∷ []) (pos 900) st) no_more))
 
   pub join_drawn : (top foot : ℤ) → IsNumber top → IsNumber foot → Draws f ds (join_line top foot ++ 10 ∷ []) (stroked f (move f (pos 0) foot ∷ line f (pos 0) top ∷ []) ∷ [])

@@ -1,13 +1,13 @@
 -- What the lines so far have told, and that a line that may come adds its text to it.
 use Rattle.std.proofs.Common.{◌≡◌, ℕ, ℤ, pos, suc, ◌+◌, ◌<◌, ◌^◌, ◌+ℤ◌, List, [], ◌∷◌, ◌++◌, length, Option, Some, None, IsSome, refl, sym, ◌∙◌, ap, subst, arith, codes, All, lit<, length-append, true≢false}
-use Rattle.std.{proofs.lemmas.List.Elements.All-push, proofs.lemmas.List.Elements.All-nil, specs.Prelude.⊤, specs.List.flat_map}
+use Rattle.std.{proofs.lemmas.Grind.flat_map-append, proofs.lemmas.List.Elements.All-push, proofs.lemmas.List.Elements.All-nil, specs.Prelude.⊤, specs.List.flat_map}
 use mathlib.Core.List.{append_assoc, append-nil}
 use Rattle.mus_units.specs.declared.glyph.Size.{Size}
 use Rattle.glyph_paths.specs.Names.{glyphs_in_order}
 use Rattle.ps_text.specs.Document.{numbered, mark_text, marks_text, rules_line, staff_line, staff_text, last_base, join_line, join_text, system_line, system_text, title_line, title_text, tune_line, tune_text, item_text, items_text, heading_line, heading_text, closing, page_text, count_line, trailer, document, Spells}
 use Rattle.ps_text.specs.{Line.mark_line, Prolog.first_text, Prolog.box_line, Prolog.heading, Prolog.procedures, Prolog.page_line, Prolog.glyph_lines, Prolog.last_text, Prolog.prolog, Range.IsNumber, Range.IsPageMark, Range.IsStaff, Range.IsJoined, Range.IsOrdinal, Range.IsItem, Range.IsAfter}
 use Rattle.ps_text.specs.{Range.InOrder, Range.IsPage, Range.IsFrame, Range.IsSheet, declared.marks.PageMark.PageMark, declared.sheet.Frame.Frame, declared.sheet.Staff.Staff, declared.sheet.Item.Item, declared.sheet.Page.Page, declared.sheet.Sheet.Sheet}
-use Rattle.ps_read.specs.{Lines.Line, Lines.line_text, Lines.lines_then, Lines.behind_line, Lines.IsFirstLine, Places.frame_of, Places.with_item, Places.with_page, Places.with_mark, Places.with_staff, Places.open_system, Places.ended, Places.IsUnderTop, Places.MayEnd, Places.MayCome}
+use Rattle.ps_read.specs.{Lines.Line, Lines.line_text, Lines.lines_then, Lines.behind_line, Places.frame_of, Places.with_item, Places.with_page, Places.with_mark, Places.with_staff, Places.open_system, Places.ended, Places.IsUnderTop, Places.MayEnd, Places.MayCome}
 use Rattle.ps_read.specs.{Places.after_prolog, Places.next, Places.Leads, declared.place.Joined.Joined, declared.place.OpenPage.OpenPage, declared.place.OpenSystem.OpenSystem, declared.place.Place.Place}
 use Rattle.ps_read.specs.Lines as line
 
@@ -82,8 +82,7 @@ numbered_push f k (y ∷ xs) x =
     ∙ sym (append_assoc (f k y) (numbered f (k + 1) xs) (f (k + suc (length xs)) x))
 
 pub flat_push : {A : Type 0} (f : A → List ℕ) (xs : List A) (x : A) → flat_map f (xs ++ x ∷ []) ≡ flat_map f xs ++ f x
-flat_push f [] x = append-nil (f x)
-flat_push f (y ∷ xs) x = ap (λ t. f y ++ t) (flat_push f xs x) ∙ sym (append_assoc (f y) (flat_map f xs) (f x))
+flat_push f xs x = flat_map-append f xs (x ∷ []) ∙ ap (λ t. flat_map f xs ++ t) (append-nil (f x))
 
 pages_push : (ps : List Page) (p : Page) → numbered page_text 1 (ps ++ p ∷ []) ≡ numbered page_text 1 ps ++ page_text (length ps + 1) p
 pages_push ps p =
@@ -97,23 +96,14 @@ staves_push ss s =
 
 pub marks_push : (k : ℕ) (s : Staff) (m : PageMark) → staff_text k (with_mark s m) ≡ staff_text k s ++ mark_text s.y m
 unfolding staff_text marks_text
-marks_push k s m =
-    ap (λ t. (staff_line k ++ 10 ∷ rules_line s.width s.y) ++ 10 ∷ t) (flat_push (mark_text s.y) s.marks m)
-    ∙ sym (append_assoc (staff_line k ++ 10 ∷ rules_line s.width s.y) (10 ∷ flat_map (mark_text s.y) s.marks) (mark_text s.y m))
+marks_push k s m = rw (flat_push (mark_text s.y) s.marks m) (simp append_assoc)
 
 pub page_more : (p : OpenPage) (i : Item) → page_front (with_item p i) ≡ page_front p ++ item_text i
 unfolding items_text
-page_more p i =
-    ap (λ t. front p.sheet ++ (heading_text (length p.sheet.pages + 1) ++ t)) (flat_push item_text p.items i)
-    ∙ (ap (λ t. front p.sheet ++ t) (sym (append_assoc (heading_text (length p.sheet.pages + 1)) (items_text p.items) (item_text i)))
-    ∙ sym (append_assoc (front p.sheet) (heading_text (length p.sheet.pages + 1) ++ items_text p.items) (item_text i)))
+page_more p i = rw (flat_push item_text p.items i) (simp append_assoc)
 
 pub system_more : (o : OpenSystem) (s : Staff) → system_front (with_staff o s) ≡ system_front o ++ staff_text (length o.staves) s
-system_more o s =
-    let x = page_front o.page in let l = system_line o.a o.b in let j = joining o.join in let n = numbered staff_text 0 o.staves in let t = staff_text (length o.staves) s in
-    ap (λ v. x ++ (l ++ (10 ∷ (j ++ v)))) (staves_push o.staves s)
-    ∙ (ap (λ v. x ++ (l ++ (10 ∷ v))) (sym (append_assoc j n t))
-    ∙ (ap (λ v. x ++ v) (sym (append_assoc l (10 ∷ (j ++ n)) t)) ∙ sym (append_assoc x (l ++ (10 ∷ (j ++ n))) t)))
+system_more o s = rw (staves_push o.staves s) (simp append_assoc)
 
 pub last_base_push : (t : Staff) (ss : List Staff) (s : Staff) → last_base t (ss ++ s ∷ []) ≡ s.y
 last_base_push t [] s = refl
@@ -200,8 +190,7 @@ told : (t x l y : List ℕ) → t ≡ x → l ≡ y → t ++ (l ++ 10 ∷ []) �
 told t x l y h e = ap (λ t. t ++ (l ++ 10 ∷ [])) h ∙ ap (λ l. x ++ (l ++ 10 ∷ [])) e
 
 line_taken : (t l rest more x : List ℕ) → rest ≡ l ++ 10 ∷ more → t ++ rest ≡ x → (t ++ (l ++ 10 ∷ [])) ++ more ≡ x
-line_taken t l rest more x e h =
-    append_assoc t (l ++ 10 ∷ []) more ∙ (ap (λ r. t ++ r) (append_assoc l (10 ∷ []) more ∙ sym e) ∙ h)
+line_taken t l rest more x e h = rw (← h, e) (simp append_assoc)
 
 prolog_ends : (f : Frame) (rest t : List ℕ) → t ++ rest ≡ prolog f → IsFrame f → Tells (after_prolog f rest) t
 prolog_ends f [] t e h = (
@@ -229,28 +218,19 @@ title_told x y size words = refl
 
 head_told : (k : ℕ) (x : List ℕ) → (x ++ (heading_line k ++ 10 ∷ [])) ++ (codes "pg" ++ 10 ∷ []) ≡ x ++ (heading_text k ++ items_text [])
 unfolding heading_text items_text
-head_told k x = append_assoc x (heading_line k ++ 10 ∷ []) (codes "pg" ++ 10 ∷ [])
-    ∙ ap (λ v. x ++ v) (append_assoc (heading_line k) (10 ∷ []) (codes "pg" ++ 10 ∷ []) ∙ sym (append-nil (heading_line k ++ codes "\npg\n")))
+head_told k x = simp (append_assoc, append-nil)
 
 join_told : (x l jl t : List ℕ) (j : Option Joined) (ss : List Staff) → j ≡ None → ss ≡ [] → t ≡ x ++ (l ++ (10 ∷ (joining j ++ numbered staff_text 0 ss)))
     → t ++ (jl ++ 10 ∷ []) ≡ x ++ (l ++ (10 ∷ ((jl ++ 10 ∷ []) ++ numbered staff_text 0 ss)))
-join_told x l jl t j ss ej es h =
-    let h0 : t ≡ x ++ (l ++ 10 ∷ []) = h ∙ (ap (λ j. x ++ (l ++ (10 ∷ (joining j ++ numbered staff_text 0 ss)))) ej ∙ ap (λ ss. x ++ (l ++ (10 ∷ numbered staff_text 0 ss))) es) in
-    ap (λ t. t ++ (jl ++ 10 ∷ [])) h0
-    ∙ (append_assoc x (l ++ 10 ∷ []) (jl ++ 10 ∷ [])
-    ∙ (ap (λ v. x ++ v) (append_assoc l (10 ∷ []) (jl ++ 10 ∷ [])
-    ∙ ap (λ v. l ++ (10 ∷ v)) (sym (append-nil (jl ++ 10 ∷ []))))
-    ∙ ap (λ ss. x ++ (l ++ (10 ∷ ((jl ++ 10 ∷ []) ++ numbered staff_text 0 ss)))) (sym es)))
+join_told x l jl t j ss ej es h = rw (h, ej, es) (simp (append_assoc, append-nil))
 
 rules_told : (o : OpenSystem) (w : ℕ) (y : ℤ) (t : List ℕ) → t ≡ system_front o ++ (staff_line (length o.staves) ++ 10 ∷ [])
     → t ++ (rules_line w y ++ 10 ∷ []) ≡ system_front (with_staff o (record { y = y; width = w; marks = [] }))
 unfolding staff_text marks_text
 rules_told o w y t h =
-    let x = system_front o in let l = staff_line (length o.staves) in let r = rules_line w y in
-    ap (λ t. t ++ (r ++ 10 ∷ [])) h
-    ∙ (append_assoc x (l ++ 10 ∷ []) (r ++ 10 ∷ [])
-    ∙ (ap (λ v. x ++ v) (append_assoc l (10 ∷ []) (r ++ 10 ∷ []) ∙ sym (append_assoc l (10 ∷ r) (10 ∷ [])))
-    ∙ sym (system_more o (record { y = y; width = w; marks = [] }))))
+    let s : Staff = record { y = y; width = w; marks = [] } in
+    let e : t ++ (rules_line w y ++ 10 ∷ []) ≡ system_front o ++ staff_text (length o.staves) s = rw h (simp append_assoc) in
+    e ∙ sym (system_more o s)
 
 mark_told : (o : OpenSystem) (s : Staff) (m : PageMark) (t : List ℕ) → t ≡ system_front (with_staff o s)
     → t ++ (mark_line s.y m ++ 10 ∷ []) ≡ system_front (with_staff o (with_mark s m))
@@ -262,23 +242,11 @@ mark_told o s m t h =
 
 page_told : (p : OpenPage) (t : List ℕ) → t ≡ page_front p ++ codes "grestore\n" → t ++ (codes "showpage" ++ 10 ∷ []) ≡ front (with_page p)
 unfolding page_text closing
-page_told p t h =
-    let f = prolog p.sheet.frame in let n = numbered page_text 1 p.sheet.pages in
-    let k = heading_text (length p.sheet.pages + 1) in let i = items_text p.items in
-    ap (λ t. t ++ (codes "showpage" ++ 10 ∷ [])) h
-    ∙ (append_assoc (page_front p) (codes "grestore\n") (codes "showpage" ++ 10 ∷ [])
-    ∙ (append_assoc (f ++ n) (k ++ i) closing
-    ∙ (append_assoc f n ((k ++ i) ++ closing) ∙ ap (λ v. f ++ v) (sym (pages_push p.sheet.pages (record { items = p.items }))))))
+page_told p t h = rw (h, pages_push p.sheet.pages (record { items = p.items })) (simp append_assoc)
 
 end_told : (s : Sheet) (t : List ℕ) → t ≡ front s ++ (codes "%%Trailer\n" ++ (count_line (length s.pages) ++ 10 ∷ [])) → document s ≡ t ++ (codes "%%EOF" ++ 10 ∷ [])
 unfolding document trailer
-end_told s t h =
-    let c = count_line (length s.pages) in
-    ap (λ v. front s ++ v) (append_assoc (codes "%%Trailer\n") c (codes "\n%%EOF\n")
-    ∙ ap (λ v. codes "%%Trailer\n" ++ v) (sym (append_assoc c (10 ∷ []) (codes "%%EOF" ++ 10 ∷ []))))
-    ∙ (ap (λ v. front s ++ v) (sym (append_assoc (codes "%%Trailer\n") (c ++ 10 ∷ []) (codes "%%EOF" ++ 10 ∷ [])))
-    ∙ (sym (append_assoc (front s) (codes "%%Trailer\n" ++ (c ++ 10 ∷ [])) (codes "%%EOF" ++ 10 ∷ []))
-    ∙ ap (λ t. t ++ (codes "%%EOF" ++ 10 ∷ [])) (sym h)))
+end_told s t h = rw h (simp append_assoc)
 
 joined_staff : (j : Option Joined) (ss : List Staff) (s : Staff) → IsJoinedBy j ss → IsSome j → IsUnderTop j ss s.y → IsJoinedBy j (ss ++ s ∷ [])
 joined_staff None ss s h some u = absurd (true≢false (sym some))

@@ -8,7 +8,7 @@ use Rattle.ps_text.specs.Document.{numbered, mark_text, marks_text, rules_line, 
 use Rattle.ps_text.specs.{Prolog.first_text, Prolog.box_line, Prolog.heading, Prolog.procedures, Prolog.page_line, Prolog.glyph_lines, Prolog.last_text, Prolog.prolog, Range.IsNumber, Range.IsPageMark, Range.IsStaff, Range.IsSystem, Range.IsItem, Range.InOrder, Range.IsPage, Range.IsFrame}
 use Rattle.ps_text.specs.{Range.IsSheet, declared.marks.PageMark.PageMark, declared.sheet.Frame.Frame, declared.sheet.Staff.Staff, declared.sheet.Item.Item, declared.sheet.Page.Page, declared.sheet.Sheet.Sheet}
 use Rattle.eng_lines.specs.Lines.{Lacks}
-use Rattle.ps_read.specs.{Lines.Line, Lines.line_text, Lines.lines_then, Lines.behind_line, Lines.IsFirstLine, Places.with_item, Places.open_system, Places.ended, Places.IsUnderTop, Places.MayEnd, Places.MayCome, Places.after_prolog, Places.next, Places.Leads, Steps.IsItemLine}
+use Rattle.ps_read.specs.{Lines.Line, Lines.line_text, Lines.lines_then, Lines.IsFirstLine, Places.with_item, Places.open_system, Places.ended, Places.IsUnderTop, Places.MayEnd, Places.MayCome, Places.after_prolog, Places.next, Places.Leads, Steps.IsItemLine}
 use Rattle.ps_read.{specs.declared.place.Joined.Joined, specs.declared.place.OpenPage.OpenPage, specs.declared.place.OpenSystem.OpenSystem, specs.declared.place.Place.Place, proofs.Telling.first_told}
 use Rattle.ps_read.specs.Lines as line
 

@@ -15,7 +15,7 @@ use Rattle.set_staves.{specs.Drawn.IsBase, specs.Drawn.IsOnPage, specs.Drawn.IsT
 use Rattle.lay_tune.specs.Systems.{StandWithin, gaps_between}
 use Rattle.set_pages.specs.Drawings.{all_blocks, all_drawings, drawing, drawings_from, outcome_blocks, outcome_drawings, result_blocks, result_drawings, system, system_contents, title, title_contents}
 use Rattle.set_pages.{specs.Ready.IsReadyOn, specs.Ready.IsReadyRow, specs.Sheet.IsSetResult, specs.Sheet.IsSetUnder, proofs.Laying.AreLaid}
-use Rattle.set_pages.proofs.{Laying.IsLaidSystem, Laying.paper_narrow, Laying.tune_laid, Stacks.IsBetween, Stacks.stacked_bases, Stacks.stacked_count}
+use Rattle.set_pages.proofs.{Laying.IsLaidSystem, Laying.paper_narrow, Laying.tune_laid, Stacks.IsBetween, Stacks.stacked_bases, Stacks.stacked_count, Joined.zip_append}
 
 -- the tune that a block begins has an ordinal
 abbrev IsCounted : Option ℕ → Type 0
@@ -79,12 +79,9 @@ title_ready width ordinal height rows keep narrow some good top at above = recor
 systems_ready : (s : Score) (width : ℕ) (begins : Option ℕ) (systems : List SystemMarks) (placed : List Placed) (heights : List Heights) → width < 2 ^ 20 → IsCounted begins
     → AreLaid s width systems placed heights → AllZip IsReadyOn (drawings_from begins (system_contents systems placed heights)) (system_blocks heights)
 systems_ready s width begins [] [] [] narrow counted laid = tt
-systems_ready s width begins [] [] (h ∷ heights) narrow counted laid = absurd laid
-systems_ready s width begins [] (p ∷ placed) heights narrow counted laid = absurd laid
-systems_ready s width begins (m ∷ systems) [] heights narrow counted laid = absurd laid
-systems_ready s width begins (m ∷ systems) (p ∷ placed) [] narrow counted laid = absurd laid
 systems_ready s width begins (m ∷ systems) (p ∷ placed) (h ∷ heights) narrow counted laid =
     (system_ready s width begins m p h narrow counted laid.0, systems_ready s width None systems placed heights narrow tt laid.1)
+systems_ready s width begins systems placed heights narrow counted laid = absurd laid
 
 tune_ready : (s : Score) (width ordinal : ℕ) (rows : List TitleRow) (height : ℕ) (keep : Bool) (systems : List SystemMarks) (placed : List Placed) (heights : List Heights) → width < 2 ^ 20
     → 1 ≤ ordinal → All (IsGoodRow width height) rows → AreLaid s width systems placed heights
@@ -101,12 +98,6 @@ result_ready paper ordinal (Ok t) good some set =
     let rows : All (IsGoodRow (width_of paper) t.title.height) t.title.rows =
     subst (λ (b : TitleBlock). All (IsGoodRow (width_of paper) b.height) b.rows) (sym laid.title) (rows_stand (width_of paper) t.header.titles t.header.composers t.header.tempo) in
     tune_ready t.score (width_of paper) ordinal t.title.rows t.title.height (is_some_list t.heights) t.systems t.placed t.heights (paper_narrow paper good) some rows (result_laid paper t good set)
-
-zip_append : {A B : Type 0} (R : A → B → Type 0) (xs ys : List A) (vs ws : List B) → AllZip R xs vs → AllZip R ys ws → AllZip R (xs ++ ys) (vs ++ ws)
-zip_append R [] ys [] ws front back = back
-zip_append R [] ys (v ∷ vs) ws front back = absurd front
-zip_append R (x ∷ xs) ys [] ws front back = absurd front
-zip_append R (x ∷ xs) ys (v ∷ vs) ws front back = (front.0, zip_append R xs ys vs ws front.1 back)
 
 pub all_ready : (paper : Paper) (outcomes : List Outcome) → IsGoodPaper paper → All (IsSetUnder paper) outcomes → AllZip IsReadyOn (all_drawings outcomes) (all_blocks outcomes)
 all_ready paper [] good set = tt

@@ -17,14 +17,6 @@ group_append block [] [] loose = refl
 group_append block [] (next ∷ more) loose = loose_height block.keep (height_of block.height) (group_height (next ∷ more)) loose
 group_append block (next ∷ bs) more loose = ap (λ n. with_kept block.keep (height_of block.height) n) (group_append next bs more loose)
 
-none_others : (b : Bool) (n : ℕ) (others : Option ℕ) → tall_by b n others ≡ None → others ≡ None
-none_others true n others e = absurd cc
-none_others false n others e = e
-
-none_both : (b : Bool) (n : ℕ) (others new : Option ℕ) → tall_by b n others ≡ None → new ≡ None → tall_by b n new ≡ None
-none_both true n others new e f = absurd cc
-none_both false n others new e f = f
-
 -- wherever the counting begins
 counted : (b : Bool) (n m : ℕ) (others new : Option ℕ) → (others ≡ None → new ≡ None) → tall_by b n others ≡ None → tall_by b m new ≡ None
 counted true n m others new to e = absurd cc
@@ -44,12 +36,11 @@ tall_append : (high n : ℕ) (tied : Bool) (block : Block) (bs more : List Block
     → tall_from high n tied (block ∷ bs ++ more) ≡ None
 tall_append high n tied block [] more loose none none_more =
     ap (λ height. tall_by (not tied && nat_lt high height) n (tall_from high (suc n) block.keep more)) (group_append block [] more loose)
-    ∙ none_both (not tied && nat_lt high (group_height (block ∷ []))) n None (tall_from high (suc n) block.keep more) none (tied_loose high 0 (suc n) block.keep more loose none_more)
+    ∙ counted (not tied && nat_lt high (group_height (block ∷ []))) n n None (tall_from high (suc n) block.keep more) (λ e. tied_loose high 0 (suc n) block.keep more loose none_more) none
 tall_append high n tied block (next ∷ bs) more loose none none_more =
     ap (λ height. tall_by (not tied && nat_lt high height) n (tall_from high (suc n) block.keep (next ∷ bs ++ more))) (group_append block (next ∷ bs) more loose)
-    ∙ none_both (not tied && nat_lt high (group_height (block ∷ next ∷ bs))) n (tall_from high (suc n) block.keep (next ∷ bs)) (tall_from high (suc n) block.keep (next ∷ bs ++ more)) none
-    (tall_append high (suc n) block.keep next bs more loose
-    (none_others (not tied && nat_lt high (group_height (block ∷ next ∷ bs))) n (tall_from high (suc n) block.keep (next ∷ bs)) none) none_more)
+    ∙ counted (not tied && nat_lt high (group_height (block ∷ next ∷ bs))) n n (tall_from high (suc n) block.keep (next ∷ bs)) (tall_from high (suc n) block.keep (next ∷ bs ++ more))
+    (λ e. tall_append high (suc n) block.keep next bs more loose e none_more) none
 
 pub first_append : (high : ℕ) (bs more : List Block) → IsLoose bs → first_tall high bs ≡ None → first_tall high more ≡ None → first_tall high (bs ++ more) ≡ None
 first_append high [] more loose none none_more = none_more

@@ -1,7 +1,7 @@
 -- Pages that were given up are the first of the sheet, whatever is pressed behind them.
 use Rattle.std.proofs.Common.{◌≡◌, refl, sym, ap, ◌∙◌, subst, inl, inr, ℕ, zero, suc, ◌+◌, Bool, true, false, cond, List, [], ◌∷◌, ◌++◌, length, take}
 use Rattle.std.specs.Prelude.{◌||◌, ◌⊎◌, nat_le, nat_lt, All}
-use Rattle.std.proofs.lemmas.List.{append-nil, append_assoc, Elements.All-cons, Elements.All-head, Elements.All-nil, Elements.All-tail}
+use Rattle.std.proofs.{Math.Seq.take-append_seam, Math.Seq.drop-append_seam, lemmas.List.append-nil, lemmas.List.append_assoc, lemmas.List.Elements.All-take, lemmas.List.Elements.All-drop}
 use Rattle.abc_header.specs.{declared.paper.Paper.Paper, Papers.height_of, Papers.width_of}
 use Rattle.lay_pages.specs.{declared.filling.Block.Block, declared.filling.Place.Place, declared.filling.Spot.Spot, Filling.group_height, Filling.next_place, Filling.place_by, Filling.spots_from, Filling.spots_of, Filling.under}
 use Rattle.ps_text.specs.declared.sheet.Page.{Page}
@@ -118,9 +118,7 @@ done_first plan paper outcomes given p pressed =
 
 -- what holds of all holds of those in front, and of those behind
 pub all_left : {X : Type 0} (P : X → Type 0) (xs ys : List X) → All P (xs ++ ys) → All P xs
-all_left P [] ys all = All-nil P
-all_left P (x ∷ xs) ys all = All-cons P x xs (All-head P x (xs ++ ys) all) (all_left P xs ys (All-tail P x (xs ++ ys) all))
+all_left P xs ys all = subst (All P) (take-append_seam xs ys) (All-take P (length xs) (xs ++ ys) all)
 
 pub all_right : {X : Type 0} (P : X → Type 0) (xs ys : List X) → All P (xs ++ ys) → All P ys
-all_right P [] ys all = all
-all_right P (x ∷ xs) ys all = all_right P xs ys (All-tail P x (xs ++ ys) all)
+all_right P xs ys all = subst (All P) (drop-append_seam xs ys) (All-drop P (length xs) (xs ++ ys) all)

@@ -54,16 +54,14 @@ all_loose (o ∷ outcomes) = loose_append (outcome_blocks o) (all_blocks outcome
 -- blocks that are drawn behind others
 pub zip_append : {A B : Type 0} (R : A → B → Type 0) (xs ys : List A) (zs ws : List B) → AllZip R xs zs → AllZip R ys ws → AllZip R (xs ++ ys) (zs ++ ws)
 zip_append R [] ys [] ws front back = back
-zip_append R [] ys (z ∷ zs) ws front back = absurd front
-zip_append R (x ∷ xs) ys [] ws front back = absurd front
 zip_append R (x ∷ xs) ys (z ∷ zs) ws front back = (front.0, zip_append R xs ys zs ws front.1 back)
+zip_append R xs ys zs ws front back = absurd front
 
 pub drawn_join : (R : Drawing → Spot → Type 0) (width : ℕ) (p : Pages) (xs ys : List Drawing) (zs ws : List Spot) → AllZip R xs zs
     → with_drawings width p (xs ++ ys) (zs ++ ws) ≡ with_drawings width (with_drawings width p xs zs) ys ws
 drawn_join R width p [] ys [] ws h = refl
-drawn_join R width p [] ys (z ∷ zs) ws h = absurd h
-drawn_join R width p (x ∷ xs) ys [] ws h = absurd h
 drawn_join R width p (x ∷ xs) ys (z ∷ zs) ws h = drawn_join R width (with_drawing width p x z) xs ys zs ws h.1
+drawn_join R width p xs ys zs ws h = absurd h
 
 -- the blocks, the drawings and the spots of outcomes behind others
 pub blocks_append : (outcomes more : List Outcome) → all_blocks (outcomes ++ more) ≡ all_blocks outcomes ++ all_blocks more

@@ -39,13 +39,11 @@ ordered_append xs ys front back = record { order = order_append xs ys front.orde
 
 free_tune : (ordinal : ℕ) (i : Item) → IsAfter i (Item.Tune ordinal)
 free_tune ordinal (Item.Tune other) = tt
-free_tune ordinal (Item.Title x y size words) = tt
-free_tune ordinal (Item.System a b staves) = tt
+free_tune ordinal i = tt
 
 free_system : (width : ℕ) (top : ℤ) (m : SystemMarks) (at bases : List ℤ) (i : Item) → IsAfter i (system_at width at top m bases)
 free_system width top m at bases (Item.Tune other) = tt
-free_system width top m at bases (Item.Title x y size words) = tt
-free_system width top m at bases (Item.System a b staves) = tt
+free_system width top m at bases i = tt
 
 -- a block with a title begins a tune
 abbrev pub begun : Option ℕ → Content → Type 0
@@ -75,20 +73,18 @@ if_ordered true xs ys front back = ordered_append xs ys front back
 if_ordered false xs ys front back = back
 
 pub items_ordered : (width page : ℕ) (ds : List Drawing) (ss : List Spot) → AreBegun ds → IsOrdered (items_on width page ds ss)
-items_ordered width page [] ss begun = none_ordered
-items_ordered width page (d ∷ ds) [] begun = none_ordered
 items_ordered width page (d ∷ ds) (s ∷ ss) begun =
     if_ordered (s.page == page) (drawn width s.top d) (items_on width page ds ss) (drawn_ordered width s.top d.begins d.content begun.0) (items_ordered width page ds ss begun.1)
+items_ordered width page ds ss begun = none_ordered
 
 if_good : (b : Bool) (xs ys : List Item) → All IsItem xs → All IsItem ys → All IsItem (cond b xs [] ++ ys)
 if_good true xs ys front back = All-append IsItem xs ys front back
 if_good false xs ys front back = back
 
 items_good : (width page : ℕ) (ds : List Drawing) (ss : List Spot) → AllZip (IsDrawn width) ds ss → All IsItem (items_on width page ds ss)
-items_good width page [] ss good = All-nil IsItem
-items_good width page (d ∷ ds) [] good = All-nil IsItem
 items_good width page (d ∷ ds) (s ∷ ss) good =
     if_good (s.page == page) (drawn width s.top d) (items_on width page ds ss) good.0 (items_good width page ds ss good.1)
+items_good width page ds ss good = All-nil IsItem
 
 pub pages_good : (width : ℕ) (ds : List Drawing) (ss : List Spot) (k n : ℕ) → AllZip (IsDrawn width) ds ss → AreBegun ds → All IsPage (pages_from width ds ss k n)
 pages_good width ds ss k zero good begun = All-nil IsPage
@@ -99,11 +95,9 @@ pages_good width ds ss k (suc n) good begun =
 
 -- each title of a tune begins it
 systems_begun : (begins : Option ℕ) (systems : List SystemMarks) (placed : List Placed) (heights : List Heights) → AreBegun (drawings_from begins (system_contents systems placed heights))
-systems_begun begins [] placed heights = tt
-systems_begun begins (m ∷ systems) [] heights = tt
-systems_begun begins (m ∷ systems) (p ∷ placed) [] = tt
 systems_begun None (m ∷ systems) (p ∷ placed) (h ∷ heights) = (tt, systems_begun None systems placed heights)
 systems_begun (Some ordinal) (m ∷ systems) (p ∷ placed) (h ∷ heights) = (tt, systems_begun None systems placed heights)
+systems_begun begins systems placed heights = tt
 
 tune_begun : (ordinal : ℕ) (rows : List TitleRow) (t : SetTune) → AreBegun (drawings_from (Some ordinal) (title_contents rows ++ systems_of t))
 tune_begun ordinal [] t = systems_begun (Some ordinal) t.systems t.placed t.heights

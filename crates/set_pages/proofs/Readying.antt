@@ -47,11 +47,10 @@ outcome_set defaults paper how tune o some h = record {
 pub set_outcomes : (defaults : Defaults) (paper : Paper) (how : How) (tunes : List TuneText) (outcomes : List Outcome) → All (λ tune. 1 ≤ tune.ordinal) tunes
     → AreOutcomes defaults paper how tunes outcomes → All (IsSetUnder paper) outcomes
 set_outcomes defaults paper how [] [] some h = All-nil (IsSetUnder paper)
-set_outcomes defaults paper how [] (o ∷ outcomes) some h = absurd h
-set_outcomes defaults paper how (tune ∷ tunes) [] some h = absurd h
 set_outcomes defaults paper how (tune ∷ tunes) (o ∷ outcomes) some h =
     All-cons (IsSetUnder paper) o outcomes (outcome_set defaults paper how tune o (All-head (λ t. 1 ≤ t.ordinal) tune tunes some) h.0)
     (set_outcomes defaults paper how tunes outcomes (All-tail (λ t. 1 ≤ t.ordinal) tune tunes some) h.1)
+set_outcomes defaults paper how tunes outcomes some h = absurd h
 
 -- the tunes of a book are counted from 1
 tunes_counted : (all : List Reading) (ordinal : ℕ) (before lines : List Reading) → 1 ≤ ordinal → All (λ tune. 1 ≤ tune.ordinal) (tunes_behind all ordinal before lines)

@@ -30,12 +30,10 @@ gone_one : (width : ℕ) (p : Pages) (d : Drawing) (s : Spot) → (with_drawing 
 gone_one width p d s = gone_by p (nat_lt (done_count p) s.page)
 
 pub gone_all : (width : ℕ) (p : Pages) (ds : List Drawing) (ss : List Spot) → (with_drawings width p ds ss).gone ≡ p.gone
-gone_all width p [] ss = refl
-gone_all width p (d ∷ ds) [] = refl
 gone_all width p (d ∷ ds) (s ∷ ss) = gone_all width (with_drawing width p d s) ds ss ∙ gone_one width p d s
+gone_all width p ds ss = refl
 
 pub all_same : (given : List Page) (width : ℕ) (p : Pages) (ds : List Drawing) (ss : List Spot) → p.gone ≡ length given → restored given (with_drawings width p ds ss) ≡ with_drawings width (restored given p) ds ss
-all_same given width p [] ss gone = refl
-all_same given width p (d ∷ ds) [] gone = refl
 all_same given width p (d ∷ ds) (s ∷ ss) gone =
     all_same given width (with_drawing width p d s) ds ss (gone_one width p d s ∙ gone) ∙ ap (λ q. with_drawings width q ds ss) (one_same given width p d s gone)
+all_same given width p ds ss gone = refl

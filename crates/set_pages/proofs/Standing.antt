@@ -87,8 +87,7 @@ ready_here high d block spot small good below above on = on spot.top (top_within
 pub ready_at : (high : ℕ) (ds : List Drawing) (blocks : List Block) (spots : List Spot) → high ≤ 2 ^ 39 → AreGoodBlocks blocks → AllZip IsReadyOn ds blocks → AreWithin high blocks spots → AllZip IsReady ds spots
 ready_at high [] [] [] small good on within = tt
 ready_at high [] [] (spot ∷ spots) small good on within = absurd within
-ready_at high [] (block ∷ blocks) spots small good on within = absurd on
-ready_at high (d ∷ ds) [] spots small good on within = absurd on
 ready_at high (d ∷ ds) (block ∷ blocks) [] small good on within = absurd within
 ready_at high (d ∷ ds) (block ∷ blocks) (spot ∷ spots) small good on within =
     (ready_here high d block spot small good.0.0 within.0.0 within.0.1 on.0, ready_at high ds blocks spots small good.1 on.1 within.1)
+ready_at high ds blocks spots small good on within = absurd on

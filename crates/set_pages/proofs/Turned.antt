@@ -1,6 +1,6 @@
 -- Pages that are filled one block after another are the pages of the sheet.
 use Rattle.std.proofs.Common.{◌≡◌, refl, sym, ap, ◌∙◌, subst, ⊎_elim, inl, ℕ, zero, suc, ◌+◌, ◌<◌, ◌≤◌, true, false, cond, List, [], ◌∷◌, ◌++◌, length, take, drop, arith}
-use Rattle.std.{proofs.lemmas.List.append-nil, proofs.lemmas.List.append_assoc, proofs.lemmas.List.length-append, proofs.lemmas.Bool.Decides.nat_tests, specs.Prelude.◌==◌, specs.Prelude.nat_lt, specs.List.AllZip}
+use Rattle.std.{proofs.lemmas.List.append-nil, proofs.lemmas.List.append_assoc, proofs.lemmas.List.length-append, proofs.lemmas.Bool.Decides.nat_tests, proofs.lemmas.Bool.eq-eqb, proofs.lemmas.Bool.ne_eqb, specs.Prelude.◌==◌, specs.Prelude.nat_lt, specs.List.AllZip}
 use Rattle.lay_pages.specs.declared.filling.Spot.{Spot}
 use Rattle.ps_text.specs.declared.sheet.Page.{Page}
 use Rattle.set_pages.specs.{declared.pages.Pages.Pages, Drawings.Drawing, Drawings.drawn, Filling.done_count, Filling.no_pages, Filling.turned, Filling.with_drawing, Filling.with_drawings, Filling.with_items, Ready.AreRising, Ready.AreRisingFrom, Sheet.items_on, Sheet.page_count, Sheet.pages_from}
@@ -11,17 +11,8 @@ abbrev pub closed : Pages → List Page
 closed p = p.done ++ record { items = p.items } ∷ []
 
 -- a block draws on its own page alone
-test_same : (a b : ℕ) → a ≡ b → (a == b) ≡ true
-test_same a b e = grind (arith, nat_tests)
-
-test_less : (a b : ℕ) → a < b → (a == b) ≡ false
-test_less a b e = grind (arith, nat_tests)
-
-test_more : (a b : ℕ) → b < a → (a == b) ≡ false
-test_more a b e = grind (arith, nat_tests)
-
 on_here : (width page : ℕ) (d : Drawing) (ds : List Drawing) (s : Spot) (ss : List Spot) → s.page ≡ page → items_on width page (d ∷ ds) (s ∷ ss) ≡ drawn width s.top d ++ items_on width page ds ss
-on_here width page d ds s ss e = ap (λ b. cond b (drawn width s.top d) [] ++ items_on width page ds ss) (test_same s.page page e)
+on_here width page d ds s ss e = ap (λ b. cond b (drawn width s.top d) [] ++ items_on width page ds ss) (eq-eqb s.page page e)
 
 on_other : (width page : ℕ) (d : Drawing) (ds : List Drawing) (s : Spot) (ss : List Spot) → (s.page == page) ≡ false → items_on width page (d ∷ ds) (s ∷ ss) ≡ items_on width page ds ss
 on_other width page d ds s ss e = ap (λ b. cond b (drawn width s.top d) [] ++ items_on width page ds ss) e
@@ -30,16 +21,15 @@ on_other width page d ds s ss e = ap (λ b. cond b (drawn width s.top d) [] ++ i
 pages_past : (width : ℕ) (d : Drawing) (ds : List Drawing) (s : Spot) (ss : List Spot) (k n : ℕ) → s.page < k → pages_from width (d ∷ ds) (s ∷ ss) k n ≡ pages_from width ds ss k n
 pages_past width d ds s ss k zero past = refl
 pages_past width d ds s ss k (suc n) past =
-    ap (λ items. record { items = items } ∷ pages_from width (d ∷ ds) (s ∷ ss) (suc k) n) (on_other width k d ds s ss (test_less s.page k past))
+    ap (λ items. record { items = items } ∷ pages_from width (d ∷ ds) (s ∷ ss) (suc k) n) (on_other width k d ds s ss (ne_eqb s.page k (λ e. omega (arith, e, past))))
     ∙ ap (λ pages. record { items = items_on width k ds ss } ∷ pages) (pages_past width d ds s ss (suc k) n (omega arith))
 
 -- blocks on later pages draw nothing on a page
 none_on : (width page from : ℕ) (ds : List Drawing) (ss : List Spot) → AreRisingFrom from ss → page < from → items_on width page ds ss ≡ []
-none_on width page from [] ss rising past = refl
-none_on width page from (d ∷ ds) [] rising past = refl
 none_on width page from (d ∷ ds) (s ∷ ss) rising past =
     let here : page < s.page = ⊎_elim (λ e. omega arith) (λ e. omega arith) rising.0 in
-    on_other width page d ds s ss (test_more s.page page here) ∙ none_on width page s.page ds ss rising.1 here
+    on_other width page d ds s ss (ne_eqb s.page page (λ e. omega (arith, e, here))) ∙ none_on width page s.page ds ss rising.1 here
+none_on width page from ds ss rising past = refl
 
 -- the page of the last block
 abbrev pub last_page : ℕ → List Spot → ℕ
@@ -98,7 +88,7 @@ run_next width p k d ds s ss n makes at same rising count e =
     ∙ ap (λ pages. p.done ++ record { items = p.items } ∷ record { items = items_on width (suc k) (d ∷ ds) (s ∷ ss) } ∷ pages) (sym (pages_past width d ds s ss (suc (suc k)) n (omega arith)))
     ∙ ap (λ items. p.done ++ record { items = items } ∷ pages_from width (d ∷ ds) (s ∷ ss) (suc k) (suc n))
     (sym (append-nil p.items) ∙ ap (λ more. p.items ++ more)
-    (sym (on_other width k d ds s ss (test_more s.page k (omega arith)) ∙ none_on width k s.page ds ss rising (omega arith))))
+    (sym (on_other width k d ds s ss (ne_eqb s.page k (λ q. omega (arith, q, e))) ∙ none_on width k s.page ds ss rising (omega arith))))
 
 run_next_by : (width : ℕ) (p : Pages) (k : ℕ) (d : Drawing) (ds : List Drawing) (s : Spot) (ss : List Spot) (n : ℕ) → Makes width ds ss → done_count p ≡ k → length ds ≡ length ss → AreRisingFrom s.page ss → k + n ≡ last_page s.page ss
     → s.page ≡ suc k → closed (with_drawings width p (d ∷ ds) (s ∷ ss)) ≡ made_from width p k (d ∷ ds) (s ∷ ss) n

@@ -64,9 +64,8 @@ all_standing paper outcomes set good =
 -- where they are parted, too
 whole_count : (high : ℕ) (blocks : List Block) (spots : List Spot) → AreWithin high blocks spots → length spots ≡ length blocks
 whole_count high [] [] within = omega arith
-whole_count high [] (spot ∷ spots) within = absurd within
-whole_count high (block ∷ blocks) [] within = absurd within
 whole_count high (block ∷ blocks) (spot ∷ spots) within = let more = whole_count high blocks spots within.1 in omega (arith, more)
+whole_count high blocks spots within = absurd within
 
 planned_spots : (paper : Paper) (outcomes : List Outcome) (spots : List Spot) → IsEvenPlan paper outcomes spots → all_spots (Plan.At spots) paper outcomes ≡ spots
 planned_spots paper outcomes spots even = take_all (length (all_blocks outcomes)) spots (let count = whole_count (height_of paper) (all_blocks outcomes) spots even.within in omega (arith, count))

@@ -2,10 +2,9 @@ use Rattle.std.proofs.Common.{subst, sym, arith}
 use Rattle.abc_header.specs.Defaults.{defaults_of}
 use Rattle.abc_lines.specs.Books.{book_of}
 use Rattle.set_lists.specs.Listing.{AreListable}
-use Rattle.abcps.specs.Books.{AreSet, paper_in, systems_called}
-use Rattle.abcps_words.specs.declared.command.Command.TheVariants as command
-use Rattle.abcps.proofs.{Answered.answer_by, BookCalls.calls_systems}
+use Rattle.abcps.{specs.Books.AreSet, specs.Books.paper_in, specs.Books.systems_called, proofs.Answered.answer_by, proofs.BookCalls.calls_systems}
 use Rattle.abcps.proofs.books.systems.Goals as goal
+use Rattle.abcps_words.specs.declared.command.Command.{Command}
 
 pub write_systems-requires : goal.write_systems-requires
 write_systems-requires g c =
@@ -15,7 +14,7 @@ write_systems-requires g c =
 
 pub returns : goal.returns
 returns g c =
-    answer_by (command.Systems c.args.how.flow c.args.table c.args.how.by) c.args.text.now (systems_called c.args.table c.as_slice.result.now)
+    answer_by (Command.Systems c.args.how.flow c.args.table c.args.how.by) c.args.text.now (systems_called c.args.table c.as_slice.result.now)
     (calls_systems c.lists_the_book.ensures c.args.how c.args.table c.args.text.now c.as_slice.result.now (let few = c.requires in omega (arith, few))
     (subst (λ outcomes. AreSet c.args.how c.args.text.now outcomes) (sym c.as_slice.ensures) c.in-Ok.ensures.set))
     _ _ c.write_systems.result c.write_systems.ensures

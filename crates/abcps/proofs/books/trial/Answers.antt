@@ -1,11 +1,9 @@
 use Rattle.set_tune.specs.How.{unmoved}
-use Rattle.std.proofs.Common.{◌∙◌, [], subst, sym}
-use Rattle.std.specs.List.{All}
+use Rattle.std.{proofs.Common.◌∙◌, proofs.Common.[], proofs.Common.subst, proofs.Common.sym, specs.List.All}
 use Rattle.set_pages.specs.Sheet.{IsSetUnder}
-use Rattle.abcps.specs.Books.{AreSet, IsTried}
-use Rattle.abcps_words.specs.declared.command.Command.TheVariants as command
-use Rattle.abcps.proofs.{Answered.answer_of, BookCalls.set_under, BookCalls.tries}
+use Rattle.abcps.{specs.Books.AreSet, specs.Books.IsTried, proofs.Answered.answer_of, proofs.BookCalls.set_under, proofs.BookCalls.tries}
 use Rattle.abcps.proofs.books.trial.Goals as goal
+use Rattle.abcps_words.specs.declared.command.Command.{Command}
 
 pub write_trial-requires-clause-set : goal.write_trial-requires-clause-set
 write_trial-requires-clause-set g c =
@@ -14,7 +12,7 @@ write_trial-requires-clause-set g c =
 
 pub returns : goal.returns
 returns g c =
-    answer_of (command.Trial c.args.tunes c.args.flow c.args.jobs c.args.even) [] (IsTried c.args.tunes c.args.even c.in-Ok-set_text.book.paper c.as_slice-2.result.now)
+    answer_of (Command.Trial c.args.tunes c.args.flow c.args.jobs c.args.even) [] (IsTried c.args.tunes c.args.even c.in-Ok-set_text.book.paper c.as_slice-2.result.now)
     (λ called tried. tries c.args.tunes (unmoved c.args.flow) c.args.even c.as_slice.result.now c.in-Ok-set_text.book.paper c.as_slice-2.result.now called (c.as_slice.ensures ∙ c.in-Ok.ensures) c.in-Ok-set_text.ensures.paper
     (subst (λ outcomes. AreSet (unmoved c.args.flow) c.as_slice.result.now outcomes) (sym c.as_slice-2.ensures) c.in-Ok-set_text.ensures.set) tried)
     _ _ c.write_trial.result c.write_trial.ensures

@@ -1,7 +1,5 @@
 use Rattle.std.proofs.Common.{◌∙◌, [], ap}
-use Rattle.abcps.specs.{Books.IsTried, Called.Called}
-use Rattle.abcps.specs.declared.status.Status.TheVariants as status
-use Rattle.abcps.proofs.Answered.{answered_weaker}
+use Rattle.abcps.{specs.Books.IsTried, specs.Called.Called, specs.declared.status.Status.Status, proofs.Answered.answered_weaker}
 use Rattle.abcps.proofs.books.write_trial.Goals as goal
 
 pub returns : goal.returns
@@ -11,6 +9,6 @@ returns g c =
     (λ called is. record {
       sheet = line.0;
       booked = line.1;
-      called = is ∙ ap {B = Called} (λ page. record { page = page; told = []; status = status.Done }) (c.as_slice.ensures ∙ line.2);
+      called = is ∙ ap {B = Called} (λ page. record { page = page; told = []; status = Status.Done }) (c.as_slice.ensures ∙ line.2);
     })
     _ _ c.write_both.result c.write_both.ensures

@@ -1,16 +1,13 @@
-use Rattle.std.proofs.Common.{◌≡◌, ◌∙◌, ◌+◌, ◌^◌, ◌<◌, length, sym, subst, ap, rules, Err}
-use Rattle.std.specs.Prelude.{All}
+use Rattle.std.{proofs.Common.◌≡◌, proofs.Common.◌∙◌, proofs.Common.◌+◌, proofs.Common.◌^◌, proofs.Common.◌<◌, proofs.Common.length, proofs.Common.sym, proofs.Common.subst, proofs.Common.ap, proofs.Common.rules, proofs.Common.Err, specs.Prelude.All}
 use Rattle.ps_text.specs.Range.{IsPage}
-use Rattle.abcps.specs.{Pressed.IsClosed, Pressed.status_if, Status.status_after}
-use Rattle.abcps.specs.declared.status.Status.TheVariants as status
-use Rattle.set_pages.specs.Press.{AreLast}
 use Rattle.abcps.proofs.Closing.{end_stopped, end_took, last_few, last_good, pages_stopped}
-use Rattle.abcps.proofs.Sent.{memory_first, step_stopped, stream}
+use Rattle.abcps.{specs.Pressed.IsClosed, specs.Pressed.status_if, specs.Status.status_after, specs.declared.status.Status.Status, proofs.Sent.memory_first, proofs.Sent.step_stopped, proofs.Sent.stream}
 use Rattle.abcps.proofs.pressing.end_run.Goals as goal
+use Rattle.set_pages.specs.Press.{AreLast}
 
 pub returns-in_err-pages : goal.returns-in_err-pages
 returns-in_err-pages g c plan paper outcomes given good running =
-    let is : c.from_residual.result ≡ Err status.Memory = search rules in
+    let is : c.from_residual.result ≡ Err Status.Memory = search rules in
     subst (λ r. IsClosed plan paper outcomes given (stream (g.O.Sink.taken c.args.output.now) (g.O.Sink.taken c.args.output.now) (g.O.Sink.faults c.args.output.now) (g.O.Sink.faults c.args.output.now)) r) (sym is)
     (memory_first (g.O.Sink.taken c.args.output.now) (g.O.Sink.faults c.args.output.now) _)
 

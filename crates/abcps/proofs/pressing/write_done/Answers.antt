@@ -1,5 +1,4 @@
-use Rattle.std.proofs.Common.{◌∙◌, ◌+◌, length, refl, sym, subst, ap}
-use Rattle.std.specs.Prelude.{All}
+use Rattle.std.{proofs.Common.◌∙◌, proofs.Common.◌+◌, proofs.Common.length, proofs.Common.refl, proofs.Common.sym, proofs.Common.subst, proofs.Common.ap, specs.Prelude.All}
 use Rattle.ps_text.specs.Range.{IsPage}
 use Rattle.set_pages.proofs.Whole.{done_good}
 use Rattle.abcps.proofs.Batches.{running_written}

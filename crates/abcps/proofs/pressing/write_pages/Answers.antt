@@ -1,7 +1,6 @@
 use Rattle.std.proofs.Common.{◌≡◌, ◌∙◌, ◌<◌, ◌+◌, length, sym, subst, arith, rules, Err}
 use Rattle.ps_text.specs.Document.{numbered, page_text}
-use Rattle.abcps.specs.{Pressed.WasGiven, Status.status_after}
-use Rattle.abcps.proofs.Sent.{page_sent, page_stopped, stream}
+use Rattle.abcps.{specs.Pressed.WasGiven, specs.Status.status_after, proofs.Sent.page_sent, proofs.Sent.page_stopped, proofs.Sent.stream}
 use Rattle.abcps.proofs.pressing.write_pages.Goals as goal
 
 pub returns-in_err-next-clause-wrote : goal.returns-in_err-next-clause-wrote

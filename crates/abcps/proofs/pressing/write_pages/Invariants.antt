@@ -1,5 +1,4 @@
-use Rattle.std.proofs.Common.{◌≡◌, ◌+◌, take}
-use Rattle.std.specs.Io.KnownBytes.{Appends}
+use Rattle.std.{proofs.Common.◌≡◌, proofs.Common.◌+◌, proofs.Common.take, specs.Io.KnownBytes.Appends}
 use Rattle.ps_text.specs.Document.{numbered, page_text}
 use Rattle.abcps.proofs.pressing.write_pages.Given as goal
 

@@ -1,7 +1,5 @@
-use Rattle.std.proofs.Common.{sym, subst}
-use Rattle.std.specs.Prelude.{All}
-use Rattle.set_pages.specs.Ready.{IsWhole}
-use Rattle.set_pages.proofs.Readying.{all_whole}
+use Rattle.std.{proofs.Common.sym, proofs.Common.subst, specs.Prelude.All}
+use Rattle.set_pages.{specs.Ready.IsWhole, proofs.Readying.all_whole}
 use Rattle.abcps.proofs.{Batches.batch_set, Gathered.gathered_more}
 use Rattle.abcps.proofs.printing.gather_batch.Goals as goal
 

@@ -1,6 +1,4 @@
-use Rattle.std.proofs.Common.{sym, subst}
-use Rattle.std.proofs.lemmas.List.Elements.{All-drop, All-take}
-use Rattle.std.specs.Prelude.{All}
+use Rattle.std.{proofs.Common.sym, proofs.Common.subst, proofs.lemmas.List.Elements.All-drop, proofs.lemmas.List.Elements.All-take, specs.Prelude.All}
 use Rattle.abc_lines.specs.Good.{IsGoodTune}
 use Rattle.abcps.proofs.{Batches.IsCounted, Gathered.IsGathering, Gathered.gathering_done, Gathered.gathering_first, Gathered.gathering_more, Gathered.none_left}
 use Rattle.abcps.proofs.printing.gather_tunes.Goals as goal

@@ -1,12 +1,10 @@
-use Rattle.std.proofs.Common.{◌≡◌, ◌∙◌, refl, sym, ap, subst, rules, Err}
-use Rattle.std.specs.Prelude.{All}
+use Rattle.std.{proofs.Common.◌≡◌, proofs.Common.◌∙◌, proofs.Common.refl, proofs.Common.sym, proofs.Common.ap, proofs.Common.subst, proofs.Common.rules, proofs.Common.Err, specs.Prelude.All}
 use Rattle.abc_lines.specs.declared.book.Book.{Book}
 use Rattle.abc_header.specs.Papers.{IsGoodPaper}
-use Rattle.abcps.specs.declared.status.Status.TheVariants as status
-use Rattle.abcps.specs.{Books.paper_in, Outcome.IsQuiet, Pressed.unbegun, Pressed.AreCutOff, Pressed.AreRunning, Pressed.IsPlanned, Pressed.IsPrinted}
-use Rattle.set_pages.proofs.Readying.{book_counted}
-use Rattle.abcps.proofs.{Batches.IsCounted, Cut.of_book, Cut.printed, Cut.unprinted, Sent.stream}
+use Rattle.abcps.specs.Pressed.{unbegun, AreCutOff, AreRunning, IsPlanned, IsPrinted}
+use Rattle.abcps.{specs.declared.status.Status.Status, specs.Books.paper_in, specs.Outcome.IsQuiet, proofs.Batches.IsCounted, proofs.Cut.of_book, proofs.Cut.printed, proofs.Cut.unprinted, proofs.Sent.stream}
 use Rattle.abcps.proofs.printing.print_book.Goals as goal
+use Rattle.set_pages.proofs.Readying.{book_counted}
 
 pub print_tunes-requires-clause-counted : goal.print_tunes-requires-clause-counted
 print_tunes-requires-clause-counted g c κs within =
@@ -23,7 +21,7 @@ print_tunes-requires-clause-planned g c κs within = (c.args.even, c.in_ok-plan.
 
 pub returns-in_err-plan : goal.returns-in_err-plan
 returns-in_err-plan g c =
-    let is : c.from_residual-in_err-plan.result ≡ Err status.Memory = search rules in
+    let is : c.from_residual-in_err-plan.result ≡ Err Status.Memory = search rules in
     let quiet : IsQuiet (stream (g.O.Sink.taken c.args.output.now) (g.O.Sink.taken c.args.output.now) (g.O.Sink.faults c.args.output.now) (g.O.Sink.faults c.args.output.now)) = search rules in
     subst (λ r. IsPrinted c.args.how c.args.even c.args.text.now (stream (g.O.Sink.taken c.args.output.now) (g.O.Sink.taken c.args.output.now) (g.O.Sink.faults c.args.output.now) (g.O.Sink.faults c.args.output.now)) r) (sym is)
     (unbegun refl quiet)

@@ -1,11 +1,7 @@
-use Rattle.std.proofs.Common.{◌≡◌, refl, sym, subst, rules, Err}
-use Rattle.std.proofs.lemmas.List.Elements.{All-drop, All-take}
-use Rattle.std.specs.Prelude.{All}
+use Rattle.std.{proofs.Common.◌≡◌, proofs.Common.refl, proofs.Common.sym, proofs.Common.subst, proofs.Common.rules, proofs.Common.Err, proofs.lemmas.List.Elements.All-drop, proofs.lemmas.List.Elements.All-take, specs.Prelude.All}
 use Rattle.abc_lines.specs.Good.{IsGoodTune}
-use Rattle.abcps.specs.Pressed.{ArePrinted}
-use Rattle.abcps.specs.declared.status.Status.TheVariants as status
 use Rattle.abcps.proofs.Batches.{IsCounted, cut_first, cut_memory, cut_written, underway_first, underway_more, underway_written}
-use Rattle.abcps.proofs.{Cut.planned_rises, Cut.room_underway, Sent.stream}
+use Rattle.abcps.{specs.Pressed.ArePrinted, specs.declared.status.Status.Status, proofs.Cut.planned_rises, proofs.Cut.room_underway, proofs.Sent.stream}
 use Rattle.abcps.proofs.printing.print_tunes.Goals as goal
 
 pub returns-in_err-run : goal.returns-in_err-run
@@ -47,13 +43,13 @@ take_batch-requires-clause-room g c κs within outcomes set =
 
 pub returns-in_err-take_batch : goal.returns-in_err-take_batch
 returns-in_err-take_batch g c =
-    let is : c.from_residual-in_err-take_batch.result ≡ Err status.Memory = search rules in
+    let is : c.from_residual-in_err-take_batch.result ≡ Err Status.Memory = search rules in
     let way =
     underway_written c.args.defaults.now c.args.plan.now c.args.paper.now c.args.how c.args.tunes.now c.batches.rest.now (g.O.Sink.taken c.args.output.now) (g.O.Sink.taken c.batches.output) (g.O.Sink.taken c.write_done.new.output)
     (g.O.Sink.faults c.args.output.now) (g.O.Sink.faults c.batches.output) (g.O.Sink.faults c.write_done.new.output) c.batches.run c.in_ok-run-2.run' c.batches.invariant.underway c.in_ok-run-2.ensures.wrote
     (c.in_ok-run-2.ensures.running c.args.plan.now c.args.paper.now) c.in_ok-run-2.ensures.open in
     subst (λ r. ArePrinted c.args.defaults.now c.args.plan.now c.args.paper.now c.args.how c.args.tunes.now (stream (g.O.Sink.taken c.args.output.now) (g.O.Sink.taken c.write_done.new.output) (g.O.Sink.faults c.args.output.now) (g.O.Sink.faults c.write_done.new.output)) r) (sym is)
-    (cut_memory c.args.defaults.now c.args.plan.now c.args.paper.now c.args.how c.args.tunes.now c.batches.rest.now _ c.in_ok-run-2.run' status.Memory refl way)
+    (cut_memory c.args.defaults.now c.args.plan.now c.args.paper.now c.args.how c.args.tunes.now c.batches.rest.now _ c.in_ok-run-2.run' Status.Memory refl way)
 
 pub batches-preserved : goal.batches-preserved
 batches-preserved g c =

@@ -1,5 +1,4 @@
-use Rattle.std.proofs.Common.{length}
-use Rattle.std.specs.Prelude.{All}
+use Rattle.std.{proofs.Common.length, specs.Prelude.All}
 use Rattle.abc_lines.specs.Good.{IsGoodTune}
 use Rattle.abcps.proofs.{Batches.IsCounted, Batches.IsUnderway, Sent.stream}
 use Rattle.abcps.proofs.printing.print_tunes.Given as goal

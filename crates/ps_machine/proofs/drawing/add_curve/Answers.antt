@@ -1,44 +1,29 @@
-use Rattle.std.proofs.Common.{◌≡◌, rules, sym, subst, FitsSigned, w64, to_z, of_z}
+use Rattle.std.proofs.Common.{◌≡◌, rules, sym, subst, FitsSigned, w64}
 use Rattle.std.{proofs.lemmas.Int.to_z-of_z, specs.Prelude.Err}
 use Rattle.ps_steps.specs.Operators.{curveto}
-use Rattle.ps_machine.{specs.Doing.state_of, specs.Doing.DidOrStopped, specs.Doing.IsPoint, specs.Doing.numbers_of, proofs.Did.curve_did, proofs.Did.first_stops, proofs.Did.second_stops, proofs.Did.third_stops}
+use Rattle.ps_machine.{specs.Doing.state_of, specs.Doing.DidOrStopped, specs.Doing.numbers_of, proofs.Did.curve_did, proofs.Did.point_passed, proofs.Did.first_stops, proofs.Did.second_stops, proofs.Did.third_stops}
 use Rattle.ps_machine.proofs.drawing.add_curve.Goals as goal
 
 pub returns-in_err-a : goal.returns-in_err-a
 returns-in_err-a c =
-    let across : FitsSigned w64 c.args.bend.now.first.0 = search rules in
-    let above : FitsSigned w64 c.args.bend.now.first.1 = search rules in
-    let past : IsPoint c.args.m.now.canvas.now (to_z w64 (of_z w64 c.args.bend.now.first.0)) (to_z w64 (of_z w64 c.args.bend.now.first.1)) (Err c.in_err-a.field-0.0) = c.in_err-a.ensures in
-    let one : to_z w64 (of_z w64 c.args.bend.now.first.0) ≡ c.args.bend.now.first.0 = to_z-of_z w64 c.args.bend.now.first.0 across in
-    let other : to_z w64 (of_z w64 c.args.bend.now.first.1) ≡ c.args.bend.now.first.1 = to_z-of_z w64 c.args.bend.now.first.1 above in
-    let far = subst (λ z. IsPoint c.args.m.now.canvas.now c.args.bend.now.first.0 z (Err c.in_err-a.field-0.0)) other (subst (λ z. IsPoint c.args.m.now.canvas.now z (to_z w64 (of_z w64 c.args.bend.now.first.1)) (Err c.in_err-a.field-0.0)) one past) in
     let is : c.from_residual-in_err-a.result ≡ Err c.in_err-a.field-0.0 = search rules in
     subst (λ r. DidOrStopped (curveto (numbers_of c.args.bend.now) (state_of c.args.m.now)) r (state_of c.args.m.now)) (sym is)
-    (first_stops c.args.bend.now.first.0 c.args.bend.now.first.1 c.args.bend.now.second.0 c.args.bend.now.second.1 c.args.bend.now.end.0 c.args.bend.now.end.1 (state_of c.args.m.now) (state_of c.args.m.now) c.in_err-a.field-0.0 c.in_ok-on_path.ensures far)
+    (first_stops c.args.bend.now.first.0 c.args.bend.now.first.1 c.args.bend.now.second.0 c.args.bend.now.second.1 c.args.bend.now.end.0 c.args.bend.now.end.1 (state_of c.args.m.now) (state_of c.args.m.now) c.in_err-a.field-0.0 c.in_ok-on_path.ensures
+    (point_passed c.args.m.now.canvas.now c.args.bend.now.first.0 c.args.bend.now.first.1 _ (search rules) (search rules) c.in_err-a.ensures))
 
 pub returns-in_err-c : goal.returns-in_err-c
 returns-in_err-c c =
-    let across : FitsSigned w64 c.args.bend.now.second.0 = search rules in
-    let above : FitsSigned w64 c.args.bend.now.second.1 = search rules in
-    let past : IsPoint c.args.m.now.canvas.now (to_z w64 (of_z w64 c.args.bend.now.second.0)) (to_z w64 (of_z w64 c.args.bend.now.second.1)) (Err c.in_err-c.field-0.0) = c.in_err-c.ensures in
-    let one : to_z w64 (of_z w64 c.args.bend.now.second.0) ≡ c.args.bend.now.second.0 = to_z-of_z w64 c.args.bend.now.second.0 across in
-    let other : to_z w64 (of_z w64 c.args.bend.now.second.1) ≡ c.args.bend.now.second.1 = to_z-of_z w64 c.args.bend.now.second.1 above in
-    let far = subst (λ z. IsPoint c.args.m.now.canvas.now c.args.bend.now.second.0 z (Err c.in_err-c.field-0.0)) other (subst (λ z. IsPoint c.args.m.now.canvas.now z (to_z w64 (of_z w64 c.args.bend.now.second.1)) (Err c.in_err-c.field-0.0)) one past) in
     let is : c.from_residual-in_err-c.result ≡ Err c.in_err-c.field-0.0 = search rules in
     subst (λ r. DidOrStopped (curveto (numbers_of c.args.bend.now) (state_of c.args.m.now)) r (state_of c.args.m.now)) (sym is)
-    (second_stops c.args.bend.now.first.0 c.args.bend.now.first.1 c.args.bend.now.second.0 c.args.bend.now.second.1 c.args.bend.now.end.0 c.args.bend.now.end.1 (state_of c.args.m.now) (state_of c.args.m.now) c.in_err-c.field-0.0 c.in_ok-on_path.ensures far)
+    (second_stops c.args.bend.now.first.0 c.args.bend.now.first.1 c.args.bend.now.second.0 c.args.bend.now.second.1 c.args.bend.now.end.0 c.args.bend.now.end.1 (state_of c.args.m.now) (state_of c.args.m.now) c.in_err-c.field-0.0 c.in_ok-on_path.ensures
+    (point_passed c.args.m.now.canvas.now c.args.bend.now.second.0 c.args.bend.now.second.1 _ (search rules) (search rules) c.in_err-c.ensures))
 
 pub returns-in_err-x : goal.returns-in_err-x
 returns-in_err-x c =
-    let across : FitsSigned w64 c.args.bend.now.end.0 = search rules in
-    let above : FitsSigned w64 c.args.bend.now.end.1 = search rules in
-    let past : IsPoint c.args.m.now.canvas.now (to_z w64 (of_z w64 c.args.bend.now.end.0)) (to_z w64 (of_z w64 c.args.bend.now.end.1)) (Err c.in_err-x.field-0.0) = c.in_err-x.ensures in
-    let one : to_z w64 (of_z w64 c.args.bend.now.end.0) ≡ c.args.bend.now.end.0 = to_z-of_z w64 c.args.bend.now.end.0 across in
-    let other : to_z w64 (of_z w64 c.args.bend.now.end.1) ≡ c.args.bend.now.end.1 = to_z-of_z w64 c.args.bend.now.end.1 above in
-    let far = subst (λ z. IsPoint c.args.m.now.canvas.now c.args.bend.now.end.0 z (Err c.in_err-x.field-0.0)) other (subst (λ z. IsPoint c.args.m.now.canvas.now z (to_z w64 (of_z w64 c.args.bend.now.end.1)) (Err c.in_err-x.field-0.0)) one past) in
     let is : c.from_residual-in_err-x.result ≡ Err c.in_err-x.field-0.0 = search rules in
     subst (λ r. DidOrStopped (curveto (numbers_of c.args.bend.now) (state_of c.args.m.now)) r (state_of c.args.m.now)) (sym is)
-    (third_stops c.args.bend.now.first.0 c.args.bend.now.first.1 c.args.bend.now.second.0 c.args.bend.now.second.1 c.args.bend.now.end.0 c.args.bend.now.end.1 (state_of c.args.m.now) (state_of c.args.m.now) c.in_err-x.field-0.0 c.in_ok-on_path.ensures far)
+    (third_stops c.args.bend.now.first.0 c.args.bend.now.first.1 c.args.bend.now.second.0 c.args.bend.now.second.1 c.args.bend.now.end.0 c.args.bend.now.end.1 (state_of c.args.m.now) (state_of c.args.m.now) c.in_err-x.field-0.0 c.in_ok-on_path.ensures
+    (point_passed c.args.m.now.canvas.now c.args.bend.now.end.0 c.args.bend.now.end.1 _ (search rules) (search rules) c.in_err-x.ensures))
 
 pub returns : goal.returns
 returns c =

@@ -1,10 +1,9 @@
-use Rattle.std.proofs.Common.{◌∷◌, ◌++◌, Some, ◌∙◌, ap, codes, lit≤}
-use Rattle.std.specs.List.{flat_map}
+use Rattle.std.{proofs.Common.◌∷◌, proofs.Common.◌++◌, proofs.Common.Some, proofs.Common.◌∙◌, proofs.Common.ap, proofs.Common.codes, proofs.Common.lit≤, specs.List.flat_map}
 use Rattle.glyph_paths.specs.Procedure.{numbers}
 use Rattle.ps_text.specs.{Fields.shown, Names.size_name}
 use Rattle.ps_read.{specs.Titles.title_of, proofs.Forms.title_numbers, proofs.Forms.title_form, proofs.Forms.small_number, proofs.Forms.size_is_field}
-use Rattle.eng_lines.proofs.Words.{after_prefix}
 use Rattle.ps_read.proofs.lines.scan_title.Goals as goal
+use Rattle.eng_lines.proofs.Words.{after_prefix}
 
 pub returns-in_default : goal.returns-in_default
 returns-in_default c x y size words good e =

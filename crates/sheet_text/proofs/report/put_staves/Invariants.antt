@@ -1,7 +1,7 @@
 use Rattle.std.proofs.Common.{◌≡◌, ◌++◌, drop}
 use Rattle.ps_text.specs.Document.{numbered}
-use Rattle.abcps.specs.Outputs.{staff_report}
-use Rattle.abcps.proofs.report.put_staves.Given as goal
+use Rattle.sheet_text.specs.SheetText.{staff_report}
+use Rattle.sheet_text.proofs.report.put_staves.Given as goal
 
 abbrev pub invariant-loop-staff : goal.invariant-loop-staff
 invariant-loop-staff l = record {

@@ -1,6 +1,6 @@
 ghost use Rattle.std.specs.Prelude.{◌≡◌, ◌++◌, decimal, OnOk, IfOk};
 ghost use Rattle.ps_text.specs.Document.{numbered};
-ghost use Rattle.abcps.specs.Outputs.{plain_line, named_line, words_line, mark_report, marks_report, staff_report, system_report, item_report, items_report, page_report, frame_report, sheet_report};
+ghost use Rattle.sheet_text.specs.SheetText.{plain_line, named_line, words_line, mark_report, marks_report, staff_report, system_report, item_report, items_report, page_report, frame_report, sheet_report};
 
 use glyph_paths::name_of;
 use mus_units::{Memory, Size, Text};
@@ -11,7 +11,7 @@ use ps_text::{Frame, Item, Page, PageMark, Sheet, Staff};
 use std::alloc::Global;
 
 /// Adds a line of a kind and numbers.
-#[tactic(auto, unfolding(crate::specs::Outputs::plain_line))]
+#[tactic(auto, unfolding(crate::specs::SheetText::plain_line))]
 fn put_plain(out: &mut Text, kind: &[u8], zs: &[i64]) -> Result<(), Memory>
     ensures { OnOk result (out.new ≡ out.old ++ plain_line kind.now zs.now) }
 {
@@ -21,7 +21,7 @@ fn put_plain(out: &mut Text, kind: &[u8], zs: &[i64]) -> Result<(), Memory>
 }
 
 /// Adds a line of a kind, a name and numbers.
-#[tactic(auto, unfolding(crate::specs::Outputs::named_line))]
+#[tactic(auto, unfolding(crate::specs::SheetText::named_line))]
 fn put_named(out: &mut Text, kind: &[u8], name: &[u8], zs: &[i64]) -> Result<(), Memory>
     ensures { OnOk result (out.new ≡ out.old ++ named_line kind.now name.now zs.now) }
 {
@@ -32,7 +32,7 @@ fn put_named(out: &mut Text, kind: &[u8], name: &[u8], zs: &[i64]) -> Result<(),
 }
 
 /// Adds a line of a kind, a count and numbers.
-#[tactic(auto, unfolding(crate::specs::Outputs::named_line))]
+#[tactic(auto, unfolding(crate::specs::SheetText::named_line))]
 fn put_counted(out: &mut Text, kind: &[u8], count: u64, zs: &[i64]) -> Result<(), Memory>
     ensures { OnOk result (out.new ≡ out.old ++ named_line kind.now (decimal count) zs.now) }
 {
@@ -43,7 +43,7 @@ fn put_counted(out: &mut Text, kind: &[u8], count: u64, zs: &[i64]) -> Result<()
 }
 
 /// Adds a line of a kind, a size, a place and words.
-#[tactic(auto, unfolding(crate::specs::Outputs::words_line))]
+#[tactic(auto, unfolding(crate::specs::SheetText::words_line))]
 fn put_words_line(
     out: &mut Text,
     kind: &[u8],
@@ -113,7 +113,7 @@ fn put_mark(out: &mut Text, m: &PageMark) -> Result<(), Memory>
     }
 }
 
-#[tactic(auto, unfolding(crate::specs::Outputs::marks_report))]
+#[tactic(auto, unfolding(crate::specs::SheetText::marks_report))]
 fn put_marks(out: &mut Text, marks: &[PageMark]) -> Result<(), Memory>
     ensures { OnOk result (out.new ≡ out.old ++ marks_report marks.now) }
 {
@@ -124,7 +124,7 @@ fn put_marks(out: &mut Text, marks: &[PageMark]) -> Result<(), Memory>
 }
 
 /// Adds the lines of staff `k` of a system.
-#[tactic(auto, unfolding(crate::specs::Outputs::staff_report))]
+#[tactic(auto, unfolding(crate::specs::SheetText::staff_report))]
 fn put_staff(out: &mut Text, k: u64, staff: &Staff) -> Result<(), Memory>
     ensures { OnOk result (out.new ≡ out.old ++ staff_report k staff.now) }
 {
@@ -143,7 +143,7 @@ fn put_staves(out: &mut Text, staves: &[Staff]) -> Result<(), Memory>
     Ok(())
 }
 
-#[tactic(auto, unfolding(crate::specs::Outputs::system_report))]
+#[tactic(auto, unfolding(crate::specs::SheetText::system_report))]
 fn put_system(out: &mut Text, a: u32, b: u32, staves: &[Staff]) -> Result<(), Memory>
     ensures { OnOk result (out.new ≡ out.old ++ system_report a b staves.now) }
 {
@@ -163,7 +163,7 @@ fn put_item(out: &mut Text, item: &Item) -> Result<(), Memory>
     }
 }
 
-#[tactic(auto, unfolding(crate::specs::Outputs::items_report))]
+#[tactic(auto, unfolding(crate::specs::SheetText::items_report))]
 fn put_items(out: &mut Text, items: &[Item]) -> Result<(), Memory>
     ensures { OnOk result (out.new ≡ out.old ++ items_report items.now) }
 {
@@ -174,7 +174,7 @@ fn put_items(out: &mut Text, items: &[Item]) -> Result<(), Memory>
 }
 
 /// Adds the lines of page `k`, from 1.
-#[tactic(auto, unfolding(crate::specs::Outputs::page_report))]
+#[tactic(auto, unfolding(crate::specs::SheetText::page_report))]
 fn put_page(out: &mut Text, k: u64, page: &Page) -> Result<(), Memory>
     ensures { OnOk result (out.new ≡ out.old ++ page_report k page.now) }
 {
@@ -193,7 +193,7 @@ fn put_pages(out: &mut Text, pages: &[Page]) -> Result<(), Memory>
     Ok(())
 }
 
-#[tactic(auto, unfolding(crate::specs::Outputs::frame_report))]
+#[tactic(auto, unfolding(crate::specs::SheetText::frame_report))]
 fn put_frame(out: &mut Text, frame: Frame) -> Result<(), Memory>
     ensures { OnOk result (out.new ≡ out.old ++ frame_report frame) }
 {
@@ -209,7 +209,7 @@ fn put_frame(out: &mut Text, frame: Frame) -> Result<(), Memory>
 
 /// The lines that tell all that a sheet shows: its frame, and for each page its
 /// tunes, titles, systems, staves and marks in order; all lengths are in u.
-#[tactic(auto, unfolding(crate::specs::Outputs::sheet_report))]
+#[tactic(auto, unfolding(crate::specs::SheetText::sheet_report))]
 pub fn report_of(alloc: Global, sheet: &Sheet) -> Result<Text, Memory>
     ensures { IfOk result (λ t. t ≡ sheet_report sheet.now) }
 {

@@ -1,7 +1,7 @@
 use Rattle.std.proofs.Common.{◌≡◌, ◌++◌, ◌+◌, drop}
 use Rattle.ps_text.specs.Document.{numbered}
-use Rattle.abcps.specs.Outputs.{page_report}
-use Rattle.abcps.proofs.report.put_pages.Given as goal
+use Rattle.sheet_text.specs.SheetText.{page_report}
+use Rattle.sheet_text.proofs.report.put_pages.Given as goal
 
 abbrev pub invariant-loop-page : goal.invariant-loop-page
 invariant-loop-page l = record {

@@ -1,15 +1,10 @@
 -- What `inspect` prints of a sheet: a line for the frame, each page, each item, each staff and each mark, and last the
 -- number of pages.
-use Rattle.std.specs.Prelude.{ℕ, ℤ, pos, List, [], ◌∷◌, ◌++◌, length, codes, decimal}
-use Rattle.std.specs.List.{flat_map}
+use Rattle.std.specs.{Prelude.ℕ, Prelude.ℤ, Prelude.pos, Prelude.List, Prelude.[], Prelude.◌∷◌, Prelude.◌++◌, Prelude.length, Prelude.codes, Prelude.decimal, List.flat_map}
 use Rattle.mus_units.specs.declared.glyph.Size.{Size}
 use Rattle.glyph_paths.specs.Names.{glyph_name}
 use Rattle.paint_text.specs.PaintText.{spaced}
-use Rattle.ps_text.specs.{Fields.quoted, Names.size_name, Names.way_name, Document.numbered, declared.marks.PageMark.PageMark}
-use Rattle.ps_text.specs.{declared.sheet.Frame.Frame, declared.sheet.Staff.Staff, declared.sheet.Item.Item, declared.sheet.Page.Page}
-use Rattle.ps_text.specs.declared.sheet.Sheet.{Sheet}
-use Rattle.ps_text.specs.declared.marks.PageMark.TheVariants as marks
-use Rattle.ps_text.specs.declared.sheet.Item.TheVariants as items
+use Rattle.ps_text.specs.{Fields.quoted, Names.size_name, Names.way_name, Document.numbered, declared.marks.PageMark.PageMark, declared.sheet.Frame.Frame, declared.sheet.Staff.Staff, declared.sheet.Item.Item, declared.sheet.Page.Page, declared.sheet.Sheet.Sheet}
 
 -- a line of a kind and numbers
 unfoldable pub plain_line : List ℕ → List ℤ → List ℕ
@@ -25,11 +20,11 @@ words_line kind size zs words = kind ++ size_name size ++ spaced zs ++ 32 ∷ qu
 
 -- a mark: its kind, its name or its words, where it stands and what it is
 abbrev pub mark_report : PageMark → List ℕ
-mark_report (marks.Glyph glyph x dx dy) = named_line (codes "glyph ") (glyph_name glyph) (x ∷ dx ∷ dy ∷ [])
-mark_report (marks.Words size x dx dy text) = words_line (codes "text ") size (x ∷ dx ∷ dy ∷ []) text
-mark_report (marks.Stem x dx from to) = plain_line (codes "stem") (x ∷ dx ∷ from ∷ to ∷ [])
-mark_report (marks.Beam way x1 x2 from to) = named_line (codes "beam ") (way_name way) (x1 ∷ x2 ∷ from ∷ to ∷ [])
-mark_report (marks.Arc x1 x2 from to bulge) = plain_line (codes "arc") (x1 ∷ x2 ∷ from ∷ to ∷ bulge ∷ [])
+mark_report (PageMark.Glyph glyph x dx dy) = named_line (codes "glyph ") (glyph_name glyph) (x ∷ dx ∷ dy ∷ [])
+mark_report (PageMark.Words size x dx dy text) = words_line (codes "text ") size (x ∷ dx ∷ dy ∷ []) text
+mark_report (PageMark.Stem x dx from to) = plain_line (codes "stem") (x ∷ dx ∷ from ∷ to ∷ [])
+mark_report (PageMark.Beam way x1 x2 from to) = named_line (codes "beam ") (way_name way) (x1 ∷ x2 ∷ from ∷ to ∷ [])
+mark_report (PageMark.Arc x1 x2 from to bulge) = plain_line (codes "arc") (x1 ∷ x2 ∷ from ∷ to ∷ bulge ∷ [])
 
 unfoldable pub marks_report : List PageMark → List ℕ
 marks_report ms = flat_map mark_report ms
@@ -42,9 +37,9 @@ unfoldable pub system_report : ℕ → ℕ → List Staff → List ℕ
 system_report a b staves = named_line (codes "system ") (decimal a) (pos b ∷ []) ++ numbered staff_report 0 staves
 
 abbrev pub item_report : Item → List ℕ
-item_report (items.Tune ordinal) = plain_line (codes "tune") (pos ordinal ∷ [])
-item_report (items.Title x y size text) = words_line (codes "title ") size (x ∷ y ∷ []) text
-item_report (items.System a b staves) = system_report a b staves
+item_report (Item.Tune ordinal) = plain_line (codes "tune") (pos ordinal ∷ [])
+item_report (Item.Title x y size text) = words_line (codes "title ") size (x ∷ y ∷ []) text
+item_report (Item.System a b staves) = system_report a b staves
 
 unfoldable pub items_report : List Item → List ℕ
 items_report is = flat_map item_report is
