@@ -10,7 +10,7 @@ ghost use Rattle.lay_tune.specs.declared.layout.LayoutError.TheVariants as error
 ghost use Rattle.lay_tune.specs.{Layout.IsCauseIn, Layout.layout_error, Spans.AreColumnsOf, Spans.AreSpansOf, Spans.is_forced_in, Spans.score_gaps, Spans.verses_of};
 ghost use Rattle.lay_tune.specs.Systems.{Beside, EachSpan, IsSetSystem, IsStack};
 
-use crate::measures::{columns_within, others_of, starts_of};
+use crate::measures::{columns_of_measures, columns_within};
 use crate::systems::{Systems, set_systems};
 use lay_breaks::{BreakError, Breaking, Span};
 use lay_columns::{Column, gaps_of};
@@ -168,9 +168,9 @@ pub fn lay_out(alloc: Global, s: &Score, width: u32) -> Result<Layout, LayoutErr
     let counts = staff_verses(alloc, drawn.as_slice())?;
     let verses = counts.as_slice();
     let voices = drawn.items.as_mut_slice();
-    let begun = starts_of(alloc, s, voices, &t, verses)?;
+    let begun = columns_of_measures(alloc, s, voices, &t, 0, verses)?;
     let starts = begun.as_slice();
-    let further = others_of(alloc, s, voices, &t, verses)?;
+    let further = columns_of_measures(alloc, s, voices, &t, 1, verses)?;
     let others = further.as_slice();
     // A good score has at most 50,000 notes and rests, graces counted, and 2000 bars, so that only
     // one with a change before nearly each of as many notes comes past this.
