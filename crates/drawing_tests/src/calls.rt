@@ -3,7 +3,7 @@
 //! `plans` has the stem plans of each measure, `slope X ..` those of the first measure on sloped beams over
 //! these abscissas; `voices` the voices as drawn; `marks A B`, `boxes A B` and `columns A B` the marks of the
 //! system of the measures A to B - 1, their boxes, and its columns with their gaps and their places at force
-//! 256; `first M` and `further M` the columns of a measure that begins a system or not; `layout W` the
+//! 256; `measure A M` the columns of measure M in a system that begins with measure A; `layout W` the
 //! layout on a width, `systems W` what its systems draw; `sounds` the sounds.
 //! `printed N` prints the text instead of a tune, whole and within N characters.
 
@@ -21,7 +21,7 @@ use crate::sounds::put_sounds;
 use crate::voices::put_voices;
 use answer_texts::{Call, call_of, count_at, end_line, numbers_of, put_numbers, put_word};
 use lay_columns::{Column, columns, gaps_of};
-use lay_measures::{first_columns, further_columns, staff_verses};
+use lay_measures::{measure_columns, staff_verses};
 use lay_springs::place;
 use mus_marks::{draw_voices, marks, marks_of, sounding};
 use mus_score::Score;
@@ -101,30 +101,25 @@ fn put_places(alloc: Global, out: &mut Text, columns: &[Column], gaps: &[u32]) -
     end_line(out)
 }
 
-/// The columns of a measure that begins a system, or of one that doesn't.
+/// The columns of measure `m` in a system that begins with measure `a`.
 #[tactic(auto, using(mus_marks::proofs::Fitting::few_verses))]
 fn put_measure_columns(
     alloc: Global,
     out: &mut Text,
     score: &Score,
-    measure: u32,
-    begins: bool,
+    a: u32,
+    m: u32,
 ) -> Result<(), Memory>
     requires { IsGoodScore score.now }
 {
-    if measure >= score.measures {
+    if a > m || m >= score.measures {
         return put_word(out, b"no such measure\n");
     }
     let times = onsets(alloc, score)?;
     let drawn = draw_voices(alloc, score)?;
     let voices = drawn.as_slice();
     let verses = staff_verses(alloc, voices)?;
-    let lanes = verses.as_slice();
-    let columns = if begins {
-        first_columns(alloc, score, voices, &times, measure, lanes)?
-    } else {
-        further_columns(alloc, score, voices, &times, measure, lanes)?
-    };
+    let columns = measure_columns(alloc, score, voices, &times, a, m, verses.as_slice())?;
     put_columns(out, columns.as_slice())
 }
 
@@ -139,8 +134,7 @@ fn put_call(alloc: Global, out: &mut Text, score: &Score, call: Call<'_>) -> Res
         b"marks" => put_marks(alloc, out, score, a, b, false),
         b"boxes" => put_marks(alloc, out, score, a, b, true),
         b"columns" => put_system_columns(alloc, out, score, a, b),
-        b"first" => put_measure_columns(alloc, out, score, a, true),
-        b"further" => put_measure_columns(alloc, out, score, a, false),
+        b"measure" => put_measure_columns(alloc, out, score, a, b),
         b"sounds" => put_sounds(out, sounding(alloc, score)?.as_slice()),
         b"plans" => put_score_plans(alloc, out, score),
         b"slope" => put_slopes(alloc, out, score, numbers.as_slice()),

@@ -3,14 +3,14 @@ use Rattle.std.proofs.Common.{◌≡◌, ◌∙◌, ℕ, zero, suc, ◌+◌, ◌
 use Rattle.std.{proofs.lemmas.Bool.Decides.nat_tests, proofs.lemmas.List.Elements.All-from_recursion, proofs.lemmas.List.Elements.Contains-append_left, proofs.lemmas.List.Elements.Contains-append_right, proofs.lemmas.List.Elements.recursion_from_All, specs.List.All, specs.List.AllByRecursion}
 use Rattle.std.specs.List.{Contains, flat_map, slice_index, slice_range}
 use Rattle.mus_score.specs.{declared.score.Measure.Measure, declared.score.Score.Score, declared.score.Voice.Voice, Seats.is_lower, Times.flats_of, GoodScore.IsGoodScore, GoodScore.IsLed}
-use Rattle.mus_time.specs.{declared.keys.Class.Class, declared.keys.ColumnKey.ColumnKey, Keys.all_keys, Keys.bar_key, Keys.called_keys, Keys.events_keys, Keys.first_keys, Keys.further_keys, Keys.IsInSystem, Keys.key_at, Keys.keys_by, Keys.measures_keys, Keys.signed_at, Order.BelowAll}
+use Rattle.mus_time.specs.{declared.keys.Class.Class, declared.keys.ColumnKey.ColumnKey, Keys.all_keys, Keys.AreKeys, Keys.bar_key, Keys.called_keys, Keys.events_keys, Keys.first_keys, Keys.further_keys, Keys.IsInSystem, Keys.key_at, Keys.keys_by, Keys.measures_keys, Keys.signed_at, Order.BelowAll}
 use Rattle.mus_time.specs.Order.{is_below, Rises}
 use Rattle.mus_drawn.specs.{declared.drawn.DrawnMeasure.DrawnMeasure, declared.drawn.DrawnVoice.DrawnVoice}
 use Rattle.mus_laid.specs.Boxes.{AreGoodMarks}
 use Rattle.mus_stems.proofs.RunLaws.{all_append, all_drop, all_take}
-use Rattle.mus_marks.{specs.System.drawn_staves, proofs.Fitting.staves_fit, proofs.Parts.columns_all, proofs.Parts.Fits, proofs.Parts.FitsMeasure, proofs.Parts.FitsVoice, proofs.Parts.measures_all, proofs.GoodMarks.goods, proofs.GoodMarks.IsGood}
+use Rattle.mus_marks.{specs.System.drawn_staves, proofs.Few.few_further, proofs.Few.few_keys, proofs.Fitting.staves_fit, proofs.Parts.columns_all, proofs.Parts.Fits, proofs.Parts.FitsMeasure, proofs.Parts.FitsVoice, proofs.Parts.measures_all, proofs.GoodMarks.goods, proofs.GoodMarks.IsGood}
 use Rattle.lay_columns.specs.{declared.column.Column.Column, Widened.AreGoodStaves}
-use Rattle.lay_measures.specs.Measures.{EndWithBar, fixed_place, keys_in, measure_part, measure_staff, parts_from}
+use Rattle.lay_measures.specs.Measures.{EndWithBar, fixed_place, keys_called, keys_in, measure_part, measure_staff, parts_from}
 
 -- ---- one measure of some
 single : {X : Type 0} (m : ℕ) (xs : List X) → m < length xs → (x : X) × (take 1 (drop m xs) ≡ x ∷ [])
@@ -89,16 +89,24 @@ led_voice f n k (v ∷ vs) h led same has =
     Contains-append_left (keys_by (is_lower v.seat) (f v)) (flat_map (λ v. keys_by (is_lower v.seat) (f v)) vs) k
     (subst (λ lower. Contains (keys_by lower (f v)) k) (sym led) (has v (same 0 v (omega arith))))
 
-pub called_bar : (s : Score) (lengths : List ℕ) (m : ℕ) → IsGoodScore s → 1 ≤ length s.voices → m < s.measures → Contains (called_keys s lengths m (m + 1)) (bar_key lengths m)
+called_bar : (s : Score) (lengths : List ℕ) (m : ℕ) → IsGoodScore s → 1 ≤ length s.voices → m < s.measures → Contains (called_keys s lengths m (m + 1)) (bar_key lengths m)
 called_bar s lengths m good some within =
     led_voice (all_keys lengths m (m + 1)) s.measures (bar_key lengths m) s.voices some good.led good.measures (λ v e.
     Contains-append_right (key_at m 0 Class.Head 0 ∷ first_keys m v.first) (measures_keys lengths m true (signed_at m v) (slice_range v.measures m (m + 1))) (bar_key lengths m)
     (slice_bar lengths m true (signed_at m v) v.measures (omega (arith, within, e))))
 
-pub further_bar : (s : Score) (lengths : List ℕ) (m : ℕ) → IsGoodScore s → 1 ≤ length s.voices → m < s.measures → Contains (further_keys s lengths m) (bar_key lengths m)
+further_bar : (s : Score) (lengths : List ℕ) (m : ℕ) → IsGoodScore s → 1 ≤ length s.voices → m < s.measures → Contains (further_keys s lengths m) (bar_key lengths m)
 further_bar s lengths m good some within =
     led_voice (λ v. measures_keys lengths m false (signed_at m v) (slice_range v.measures m (m + 1))) s.measures (bar_key lengths m) s.voices some good.led good.measures (λ v e.
     slice_bar lengths m false (signed_at m v) v.measures (omega (arith, within, e)))
+
+pub called_has_bar : (begins : Bool) (s : Score) (lengths : List ℕ) (m : ℕ) → IsGoodScore s → 1 ≤ length s.voices → m < s.measures → Contains (keys_called begins s lengths m) (bar_key lengths m)
+called_has_bar true s lengths m good some within = called_bar s lengths m good some within
+called_has_bar false s lengths m good some within = further_bar s lengths m good some within
+
+pub few_called : (begins : Bool) (s : Score) (lengths : List ℕ) (m : ℕ) (keys : List ColumnKey) → IsGoodScore s → m < s.measures → AreKeys keys (keys_called begins s lengths m) → length keys < 4294967296
+few_called true s lengths m keys good within are = few_keys s lengths m (m + 1) keys good (omega (arith, within)) are
+few_called false s lengths m keys good within are = few_further s lengths m keys good are
 
 -- ---- texts
 sliced : (verses m : ℕ) (ds : List DrawnMeasure) → Fits verses ds → Fits verses (slice_range ds m (m + 1))

@@ -1,20 +1,28 @@
 -- A system that is one measure longer has the columns of the system, then those of the further measure.
-use Rattle.std.proofs.Common.{◌≡◌, ◌≢◌, ◌∙◌, ℕ, ◌+◌, ◌-◌, ◌<◌, ◌≤◌, true, false, List, [], ◌∷◌, ◌++◌, length, map, Some, None, refl, sym, ap, subst, arith}
+use Rattle.std.proofs.Common.{◌≡◌, ◌≢◌, ◌∙◌, ℕ, ◌+◌, ◌-◌, ◌<◌, ◌≤◌, ◌==◌, true, false, List, [], ◌∷◌, ◌++◌, length, map, Some, None, refl, sym, ap, subst, arith}
+use Rattle.std.proofs.lemmas.Bool.Decides.{nat_tests}
 use Rattle.std.proofs.lemmas.List.{append-nil, append_assoc, length-map, Elements.All-from_recursion, Elements.All-nil, Elements.Contains-append_right, Elements.filter_map-append, Elements.recursion_from_All}
 use Rattle.std.specs.List.{All, AllByRecursion, Contains, slice_index, slice_index_or, slice_range}
 use Rattle.mus_units.specs.declared.note.Bar.{Bar}
 use Rattle.mus_score.specs.{declared.score.Score.Score, declared.score.Seat.Seat, declared.score.Voice.Voice, GoodScore.IsGoodScore, Seats.grouped}
 use Rattle.mus_time.specs.{declared.keys.Class.Class, declared.keys.ColumnKey.ColumnKey, Keys.AreKeys, Keys.all_keys, Keys.bar_key, Keys.called_keys, Keys.first_keys, Keys.further_keys, Keys.IsInSystem, Keys.key_at, Keys.measures_keys, Keys.signed_at, Onsets.length_at, Onsets.timeline_of}
 use Rattle.mus_time.{specs.Order.rank_of, proofs.Places.further_places, proofs.Places.length_is, proofs.Places.places_of}
+use Rattle.mus_stems.proofs.RunLaws.{all_append}
 use Rattle.mus_laid.specs.{declared.laid.Laid.Laid, declared.laid.StaffMarks.StaffMarks, declared.laid.SystemMarks.SystemMarks}
 use Rattle.mus_drawn.specs.{declared.drawn.DrawnMeasure.DrawnMeasure, declared.drawn.DrawnVoice.DrawnVoice, Drawn.drawn_voice}
 use Rattle.mus_marks.{specs.Staff.columns_part, specs.Staff.staff_marks, specs.System.IsCall, specs.System.drawn_staves, specs.System.stands_lower, proofs.Groups.grouped_all, proofs.Lines.voice_count, proofs.OneList.same_keys}
 use Rattle.lay_columns.{specs.declared.column.Column.Column, specs.Columns.columns_of, specs.Joining.AreJoined, specs.Joining.IsBelow, specs.Joining.moved, specs.Joining.OfOtherMeasures, specs.Joining.StavesJoin, proofs.JoinLaws.columns_join, proofs.JoinLaws.marks_join}
 use Rattle.lay_columns.specs.Reaches.{box_at, boxes_at, rank_of as mark_rank}
 use Rattle.lay_measures.proofs.Slots.{AreBelow, bar_slots, columns_laid, columns_slots, events_slots, first_slots, head_slots, lay, lay_append, lay_below, lay_moved, lay_same, measures_laid, measures_slots}
-use Rattle.lay_measures.specs.{Law.AreFurtherOnes, Law.MeasuresJoin, Law.one_after_the_other, Measures.AreFirst, Measures.AreFurther, Measures.fixed_place, Measures.keys_in, Measures.measure_part, Measures.measure_staff, Measures.parts_from, Measures.staff_of_columns}
-use Rattle.lay_measures.proofs.{Facts.led_voice, KeyLaws.keys_grow, KeyLaws.slice_long, KeyLaws.slice_more, Ranks.all_append, Ranks.bars_in, Ranks.columns_in, Ranks.Fit, Ranks.IsPlaced, Ranks.measures_in, Ranks.rank_behind, Ranks.rank_front, Ranks.rank_less, Ranks.slice_fit, Ranks.voice_fit}
+use Rattle.lay_measures.specs.{Law.AreColumnsFrom, Law.MeasuresJoin, Law.one_after_the_other, Measures.AreMeasureColumns, Measures.fixed_place, Measures.keys_in, Measures.measure_part, Measures.measure_staff, Measures.parts_from, Measures.staff_of_columns}
+use Rattle.lay_measures.proofs.{Facts.led_voice, KeyLaws.keys_grow, KeyLaws.slice_long, KeyLaws.slice_more, Ranks.bars_in, Ranks.columns_in, Ranks.Fit, Ranks.IsPlaced, Ranks.measures_in, Ranks.rank_behind, Ranks.rank_front, Ranks.rank_less, Ranks.slice_fit, Ranks.voice_fit}
 use Rattle.lay_measures.proofs.SameBoxes.{core_part, staff_same}
+
+itself : (a : ℕ) → (a == a) ≡ true
+itself a = grind (arith, nat_tests)
+
+apart : (a b : ℕ) → a < b → (a == b) ≡ false
+apart a b h = grind (arith, nat_tests)
 
 -- ---- slots of one more measure
 slots_on : (lengths : List ℕ) (first m : ℕ) (xs ys : List DrawnMeasure)
@@ -234,10 +242,11 @@ module _ (s : Score) (good : IsGoodScore s) (a : ℕ) (verses : List ℕ) where
       let voices = some_grouped (map drawn_voice s.voices) some in
       are.all (bar_key (ticks s) m) (bars_called s (ticks s) a b good (omega (arith, voices, long)) within m h g)
 
-  one_more : (b : ℕ) (columns further : List Column) → a < b → b < s.measures → AreColumns s a b verses columns → AreFurther s (timeline_of s) b verses further
+  one_more : (b : ℕ) (columns further : List Column) → a < b → b < s.measures → AreColumns s a b verses columns → AreMeasureColumns (a == b) s (timeline_of s) b verses further
       → AreColumns s a (b + 1) verses (columns ++ further)
-  one_more b columns further order within (keys, are, value) more =
+  one_more b columns further order within (keys, are, value) columns_there =
       let behind = keys_in further in
+      let more = subst (λ begins. AreMeasureColumns begins s (timeline_of s) b verses further) (apart a b order) columns_there in
       let below = until b keys order (omega (arith, within)) are in
       let above = from b behind within more.keys in (
         keys ++ behind,
@@ -247,8 +256,8 @@ module _ (s : Score) (good : IsGoodScore s) (a : ℕ) (verses : List ℕ) where
             ∙ ap (λ t. columns ++ t) (sym more.value),
       )
 
-  many_more : (b : ℕ) (columns : List Column) (further : List (List Column)) → a < b → b + length further ≤ s.measures → AreColumns s a b verses columns → AreFurtherOnes s (timeline_of s) b verses further
-      → AreColumns s a (b + length further) verses (columns ++ one_after_the_other further)
+  many_more : (b : ℕ) (columns : List Column) (measures : List (List Column)) → a < b → b + length measures ≤ s.measures → AreColumns s a b verses columns → AreColumnsFrom s (timeline_of s) a b verses measures
+      → AreColumns s a (b + length measures) verses (columns ++ one_after_the_other measures)
   many_more b columns [] order within are more =
       let e : b ≡ b + 0 = omega arith in
       subst (λ k. AreColumns s a k verses (columns ++ [])) e (subst (λ t. AreColumns s a b verses t) (sym (append-nil columns)) are)
@@ -267,16 +276,17 @@ module _ (s : Score) (good : IsGoodScore s) (a : ℕ) (verses : List ℕ) where
       ∙ ap (λ ks. columns_of ks (map (core_staff ks (ticks s) a b) (drawn_staves s)) (ticks s) verses) (same_keys m.keys keys (called_keys s (ticks s) a b) call.keys are)
       ∙ value
 
-joined_from : (s : Score) (good : IsGoodScore s) (a b : ℕ) (m : SystemMarks) (verses : List ℕ) (first : List Column) (further : List (List Column))
-    → a + 1 + length further ≡ b → b ≤ s.measures → IsCall s (timeline_of s) a b m → AreFirst s (timeline_of s) a verses first → AreFurtherOnes s (timeline_of s) (a + 1) verses further
-    → columns_of m.keys m.staves (ticks s) verses ≡ first ++ one_after_the_other further
-joined_from s good a b m verses first further e within call one more =
-    system_columns s good a verses b m (first ++ one_after_the_other further) (omega (arith, e)) within call
-    (subst (λ k. AreColumns s a k verses (first ++ one_after_the_other further)) e
-    (many_more s good a verses (a + 1) first further (omega arith) (omega (arith, within, e)) (keys_in first, one.keys, sym one.value) more))
+  joined_from : (b : ℕ) (m : SystemMarks) (measures : List (List Column)) → a < b → a + length measures ≡ b → b ≤ s.measures → IsCall s (timeline_of s) a b m
+      → AreColumnsFrom s (timeline_of s) a a verses measures → columns_of m.keys m.staves (ticks s) verses ≡ one_after_the_other measures
+  joined_from b m [] order e within call all = absurd (omega (arith, order, e))
+  joined_from b m (first ∷ further) order e within call all =
+      let one = subst (λ begins. AreMeasureColumns begins s (timeline_of s) a verses first) (itself a) all.0 in
+      let e' : a + 1 + length further ≡ b = omega (arith, e) in
+      system_columns b m (first ++ one_after_the_other further) order within call
+      (subst (λ k. AreColumns s a k verses (first ++ one_after_the_other further)) e'
+      (many_more (a + 1) first further (omega arith) (omega (arith, within, e')) (keys_in first, one.keys, sym one.value) all.1))
 
 pub measures_join : MeasuresJoin
-measures_join s t a b m verses first further good timed e within call one more =
+measures_join s t a b m verses measures good timed order e within call all =
     ap (λ z. columns_of m.keys m.staves z.lengths verses) timed
-    ∙ joined_from s good a b m verses first further e within
-    (subst (λ z. IsCall s z a b m) timed call) (subst (λ z. AreFirst s z a verses first) timed one) (subst (λ z. AreFurtherOnes s z (a + 1) verses further) timed more)
+    ∙ joined_from s good a verses b m measures order e within (subst (λ z. IsCall s z a b m) timed call) (subst (λ z. AreColumnsFrom s z a a verses measures) timed all)

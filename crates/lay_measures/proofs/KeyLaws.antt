@@ -1,56 +1,23 @@
 -- Keys of a system one measure longer: those of the system, then those of the further measure.
-use Rattle.std.proofs.Common.{◌≡◌, ◌∙◌, ℕ, zero, suc, ◌+◌, ◌-◌, ◌<◌, ◌≤◌, ◌⊎◌, inl, inr, Bool, true, false, List, [], ◌∷◌, ◌++◌, length, take, drop, refl, sym, ap, subst, arith}
-use Rattle.std.{proofs.lemmas.List.append_assoc, proofs.lemmas.List.Elements.Contains-append_cases, proofs.lemmas.List.Elements.Contains-append_left, proofs.lemmas.List.Elements.Contains-append_right, proofs.lemmas.List.Elements.filter-append, specs.List.AllByRecursion, specs.List.Contains}
+use Rattle.std.proofs.Common.{◌≡◌, ◌∙◌, ℕ, zero, suc, ◌+◌, ◌-◌, ◌<◌, ◌≤◌, ◌⊎◌, inl, inr, Bool, true, false, List, [], ◌∷◌, ◌++◌, length, length-drop, take, drop, refl, sym, ap, subst, arith}
+use Rattle.std.{proofs.Math.Seq.take-add, proofs.lemmas.List.append_assoc, proofs.lemmas.List.drop-drop, proofs.lemmas.List.length-take-le, proofs.lemmas.List.Elements.Contains-append_cases, proofs.lemmas.List.Elements.Contains-append_left, proofs.lemmas.List.Elements.Contains-append_right, proofs.lemmas.List.Elements.filter-append, specs.List.AllByRecursion, specs.List.Contains}
 use Rattle.std.specs.{List.flat_map, List.slice_range, Prelude.slice_index}
 use Rattle.mus_score.specs.{declared.score.Measure.Measure, declared.score.Score.Score, declared.score.Voice.Voice, Seats.is_lower, Times.flats_of}
 use Rattle.mus_time.specs.Keys.{AreKeys, all_keys, called_keys, events_keys, first_keys, further_keys, has_entries, is_for_each, key_at, keys_by, measure_keys, measures_keys, signed_at, signed_behind, signed_through, voice_keys}
 use Rattle.mus_time.{specs.declared.keys.Class.Class, specs.declared.keys.ColumnKey.ColumnKey, proofs.RankLaws.rises_join}
 
 -- ---- one more of some
-cut_more : {X : Type 0} (n : ℕ) (xs : List X) → take (n + 1) xs ≡ take n xs ++ take 1 (drop n xs)
-cut_more zero xs = refl
-cut_more (suc n) [] = let e : suc n + 1 ≡ suc (n + 1) = omega arith in ap (λ k. take k []) e
-cut_more (suc n) (x ∷ xs) = let e : suc n + 1 ≡ suc (n + 1) = omega arith in ap (λ k. take k (x ∷ xs)) e ∙ ap (λ t. x ∷ t) (cut_more n xs)
-
-drop_none : {X : Type 0} (n : ℕ) → drop {A = X} n [] ≡ []
-drop_none zero = refl
-drop_none (suc n) = refl
-
-drop_twice : {X : Type 0} (a n : ℕ) (xs : List X) → drop n (drop a xs) ≡ drop (a + n) xs
-drop_twice zero n xs = let e : n ≡ 0 + n = omega arith in ap (λ k. drop k xs) e
-drop_twice (suc a) n [] = drop_none n ∙ sym (drop_none (suc a + n))
-drop_twice (suc a) n (x ∷ xs) = let e : suc (a + n) ≡ suc a + n = omega arith in drop_twice a n xs ∙ ap (λ k. drop k (x ∷ xs)) e
-
 pub slice_more : {X : Type 0} (a b : ℕ) (xs : List X) → a ≤ b → slice_range xs a (b + 1) ≡ slice_range xs a b ++ slice_range xs b (b + 1)
 slice_more a b xs h =
     let e : b + 1 - a ≡ (b - a) + 1 = omega (arith, h) in
     let f : a + (b - a) ≡ b = omega (arith, h) in
     let g : 1 ≡ b + 1 - b = omega arith in
-    ap (λ k. take k (drop a xs)) e ∙ cut_more (b - a) (drop a xs)
-    ∙ ap (λ t. take (b - a) (drop a xs) ++ take 1 t) (drop_twice a (b - a) xs ∙ ap (λ k. drop k xs) f)
+    ap (λ k. take k (drop a xs)) e ∙ take-add (b - a) 1 (drop a xs)
+    ∙ ap (λ t. take (b - a) (drop a xs) ++ take 1 t) (drop-drop (b - a) a xs ∙ ap (λ k. drop k xs) f)
     ∙ ap (λ k. take (b - a) (drop a xs) ++ take k (drop b xs)) g
 
-take_long : {X : Type 0} (n : ℕ) (xs : List X) → n ≤ length xs → length (take n xs) ≡ n
-take_long zero xs w = refl
-take_long (suc n) [] w = absurd (omega (arith, w))
-take_long (suc n) (x ∷ xs) w = ap suc (take_long n xs (omega (arith, w)))
-
-left_long : {X : Type 0} (a b : ℕ) (xs : List X) → b ≤ length xs → b - a ≤ length (drop a xs)
-left_long zero b xs w = omega (arith, w)
-left_long (suc a) b [] w = omega (arith, w)
-left_long (suc a) b (x ∷ xs) w = let h = left_long a (b - 1) xs (omega (arith, w)) in omega (arith, h)
-
 pub slice_long : {X : Type 0} (a b : ℕ) (xs : List X) → b ≤ length xs → length (slice_range xs a b) ≡ b - a
-slice_long a b xs w = take_long (b - a) (drop a xs) (left_long a b xs w)
-
-take_none : {X : Type 0} (n : ℕ) → take {A = X} n [] ≡ []
-take_none zero = refl
-take_none (suc n) = refl
-
-take_more : {X : Type 0} (a n : ℕ) (xs : List X) → take (a + n) xs ≡ take a xs ++ take n (drop a xs)
-take_more zero n xs = let e : 0 + n ≡ n = omega arith in ap (λ k. take k xs) e
-take_more (suc a) n [] = take_none (suc a + n) ∙ sym (take_none n)
-take_more (suc a) n (x ∷ xs) = let e : suc a + n ≡ suc (a + n) = omega arith in ap (λ k. take k (x ∷ xs)) e ∙ ap (λ t. x ∷ t) (take_more a n xs)
+slice_long a b xs w = let left = length-drop a xs in length-take-le (b - a) (drop a xs) (omega (arith, w, left))
 
 -- ---- keys of measures
 signed_more : (signed : Bool) (xs ys : List Measure) → signed_behind signed (xs ++ ys) ≡ signed_behind (signed_behind signed xs) ys
@@ -61,7 +28,7 @@ signed_at_more : (a b : ℕ) (v : Voice) → a ≤ b → signed_behind (signed_a
 signed_at_more a b v h =
     let e : a + (b - a) ≡ b = omega (arith, h) in
     sym (signed_more (has_entries v.key) (take a v.measures) (slice_range v.measures a b))
-    ∙ ap (signed_behind (has_entries v.key)) (sym (take_more a (b - a) v.measures) ∙ ap (λ k. take k v.measures) e)
+    ∙ ap (signed_behind (has_entries v.key)) (sym (take-add a (b - a) v.measures) ∙ ap (λ k. take k v.measures) e)
 
 keys_on : (lengths : List ℕ) (m : ℕ) (signed : Bool) (xs ys : List Measure)
     → measures_keys lengths m false signed (xs ++ ys) ≡ measures_keys lengths m false signed xs ++ measures_keys lengths (m + length xs) false (signed_behind signed xs) ys

@@ -3,7 +3,7 @@ use Rattle.std.proofs.Common.{◌≡◌, ◌∙◌, ℕ, zero, suc, ◌+◌, ◌
 use Rattle.std.{proofs.lemmas.Bool.Decides.nat_tests, proofs.lemmas.List.Elements.Contains-append_right, proofs.lemmas.List.Sums.sum_by-cons, specs.List.AllByRecursion, specs.List.Contains, specs.List.slice_get, specs.List.slice_index, specs.List.slice_range}
 use Rattle.mus_units.specs.{declared.note.Bar.Bar, declared.pitch.Clef.Clef}
 use Rattle.mus_score.specs.{declared.score.Event.Event, declared.score.Flat.Flat, declared.score.Measure.Measure, declared.score.Seat.Seat, declared.score.Voice.Voice, Good.total_ticks, Seats.is_lower, Times.flats_of}
-use Rattle.mus_stems.specs.declared.plans.StemPlan.{StemPlan}
+use Rattle.mus_stems.{specs.declared.plans.StemPlan.StemPlan, proofs.RunLaws.all_append}
 use Rattle.mus_time.specs.{declared.keys.Class.Class, declared.keys.ColumnKey.ColumnKey, Keys.bar_key, Keys.events_keys, Keys.has_features, Keys.key_at, Keys.measures_keys, Keys.signed_through, Onsets.length_in, Onsets.ticks_of_some, Order.class_number, Order.is_below, Order.rank_of}
 use Rattle.mus_time.proofs.{Orders.lower, RankLaws.rank_most}
 use Rattle.mus_ink.specs.{declared.graces.Group.Group, Bars.bar_marks, Decos.note_marks, Graces.group_of}
@@ -119,10 +119,6 @@ pub slice_fit : (lengths : List ℕ) (a b : ℕ) (xs : List DrawnMeasure) → Fi
 slice_fit lengths a b xs h = fit_take lengths a (b - a) (drop a xs) (subst (λ z. Fit lengths z (drop a xs)) (omega arith) (fit_drop lengths 0 a xs h))
 
 -- ---- the keys of slots
-pub all_append : {X : Type 0} (P : X → Type 0) (xs ys : List X) → AllByRecursion P xs → AllByRecursion P ys → AllByRecursion P (xs ++ ys)
-all_append P [] ys p q = q
-all_append P (x ∷ xs) ys p q = (p.0, all_append P xs ys p.1 q)
-
 module _ (lengths : List ℕ) (a b : ℕ) where
   abbrev pub AreIn : List Slot → Type 0
   AreIn xs = AllByRecursion (λ x. IsPlaced lengths a b x.key) xs

@@ -36,15 +36,15 @@ measure_staff begins keys lengths m voices = staff_of_columns (parts_from (measu
 abbrev pub keys_in : List Column → List ColumnKey
 keys_in columns = map (λ c. c.key) columns
 
--- the columns of measure m in a system that begins with it; verses are the numbers of verses of the staves
-pub record AreFirst (s : Score) (t : Timeline) (m : ℕ) (verses : List ℕ) (columns : List Column) : Type 0 where
-  pub keys : AreKeys (keys_in columns) (called_keys s t.lengths m (m + 1))
-  pub value : columns ≡ columns_of (keys_in columns) (map (measure_staff true (keys_in columns) t.lengths m) (drawn_staves s)) t.lengths verses
+-- the keys that the voices call for in measure m of a system that begins with it or began before
+abbrev pub keys_called : Bool → Score → List ℕ → ℕ → List ColumnKey
+keys_called true s lengths m = called_keys s lengths m (m + 1)
+keys_called false s lengths m = further_keys s lengths m
 
--- the columns of measure m in a system that began before it
-pub record AreFurther (s : Score) (t : Timeline) (m : ℕ) (verses : List ℕ) (columns : List Column) : Type 0 where
-  pub keys : AreKeys (keys_in columns) (further_keys s t.lengths m)
-  pub value : columns ≡ columns_of (keys_in columns) (map (measure_staff false (keys_in columns) t.lengths m) (drawn_staves s)) t.lengths verses
+-- the columns of measure m in a system that begins with it or began before; verses are the numbers of verses of the staves
+pub record AreMeasureColumns (begins : Bool) (s : Score) (t : Timeline) (m : ℕ) (verses : List ℕ) (columns : List Column) : Type 0 where
+  pub keys : AreKeys (keys_in columns) (keys_called begins s t.lengths m)
+  pub value : columns ≡ columns_of (keys_in columns) (map (measure_staff begins (keys_in columns) t.lengths m) (drawn_staves s)) t.lengths verses
 
 -- the last column is that of a bar
 pub record EndWithBar (columns : List Column) : Type 0 where

@@ -7,5 +7,5 @@ pub mod measures;
 pub mod staves;
 
 pub use law::measures_join;
-pub use measures::{first_columns, further_columns};
+pub use measures::measure_columns;
 pub use staves::staff_verses;

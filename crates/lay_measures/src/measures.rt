@@ -1,10 +1,10 @@
-ghost use Rattle.std.specs.Prelude.{◌≡◌, ◌≤◌, ◌<◌, ◌+◌, ◌++◌, All, IfOk, OnOk, length, map};
+ghost use Rattle.std.specs.Prelude.{◌≡◌, ◌≤◌, ◌<◌, ◌+◌, ◌++◌, ◌==◌, All, IfOk, OnOk, length, map};
 ghost use Rattle.mus_score.specs.{GoodScore.IsGoodScore, Seats.grouped};
-ghost use Rattle.mus_time.specs.{Keys.IsInSystem, Onsets.timeline_of, Ranks.AreRanked};
+ghost use Rattle.mus_time.specs.{Keys.AreKeys, Keys.IsInSystem, Onsets.timeline_of, Ranks.AreRanked};
 ghost use Rattle.mus_drawn.specs.{Drawn.drawn_voice, Good.AreGoodMeasures};
 ghost use Rattle.mus_marks.specs.{Staff.verses_on, System.drawn_staves, System.stands_lower};
 ghost use Rattle.lay_columns.specs.{Columns.IsSmall, Columns.IsUncut, Columns.StandsWhereDue, Lanes.gaps_of};
-ghost use Rattle.lay_measures.specs.Measures.{AreFirst, AreFurther, EndWithBar, fixed_place, measure_part, measure_staff, staff_of_columns};
+ghost use Rattle.lay_measures.specs.Measures.{AreMeasureColumns, EndWithBar, fixed_place, keys_called, measure_part, measure_staff, staff_of_columns};
 
 use crate::staves::lower_count;
 use lay_columns::{Column, columns_in};
@@ -128,57 +128,50 @@ fn measure_staves(
     Ok(staves)
 }
 
-/// The columns of measure `m` in a system that begins with it, from the left to the right: its head,
-/// the bar before the first measure where it has features, and the measure's own. `t` is the timeline
-/// of the score, `voices` its voices as `draw_voices` gives them, and `verses` has the number of
-/// verses of each staff. Columns are as those of `lay_columns::columns`; the last is the measure's
-/// bar. The only error is want of memory.
-pub fn first_columns(
+/// The keys of the columns of measure `m`; `begins` tells whether the system begins with the measure.
+fn keys_for(
     alloc: Global,
     s: &Score,
-    voices: &[DrawnVoice],
     t: &Timeline,
     m: u32,
-    verses: &[u8],
-) -> Result<Row<Column>, Memory>
+    begins: bool,
+) -> Result<Row<ColumnKey>, Memory>
     requires good { IsGoodScore s.now }
     requires times { t.now ≡ timeline_of s.now }
     requires within { m < s.now.measures }
-    requires voices { voices.now ≡ map drawn_voice s.now.voices }
-    requires drawn { All (λ v. AreGoodMeasures v.measures) voices.now }
-    requires counts { length verses.now ≡ length (drawn_staves s.now) }
-    ensures columns { IfOk result (AreFirst s.now t.now m verses.now) }
-    ensures places { IfOk result (All (λ c. IsInSystem t.now.lengths m (m + 1) c.key)) }
-    ensures bar { IfOk result (λ r. 1 ≤ length s.now.voices → EndWithBar r) }
-    ensures lanes { IfOk result (λ r. All (λ c. length c.reaches ≡ length (gaps_of verses.now)) r) }
-    ensures stands { IfOk result (All (StandsWhereDue verses.now)) }
-    ensures small { IfOk result (All IsSmall) }
-    ensures uncut { IfOk result (All IsUncut) }
+    ensures keys { IfOk result (λ r. AreKeys r (keys_called begins s.now t.now.lengths m)) }
+    ensures places { IfOk result (All (IsInSystem t.now.lengths m (m + 1))) }
 {
-    let keys = keys_of(alloc, s, t, m, m + 1)?;
-    let lengths = t.lengths.as_slice();
-    let staves = measure_staves(alloc, keys.as_slice(), lengths, m, true, voices)?;
-    columns_in(alloc, keys.as_slice(), staves.as_slice(), lengths, verses)
+    if begins {
+        keys_of(alloc, s, t, m, m + 1)
+    } else {
+        further_keys(alloc, s, t, m)
+    }
 }
 
-/// The columns of measure `m` in a system that began before it, as `first_columns` gives them but
-/// without a head: the change before the first event has a column of its own. The only error is want
-/// of memory.
-pub fn further_columns(
+/// The columns of measure `m` in a system that begins with measure `a`, from the left to the right:
+/// where that is the same measure, its head, the bar before the first measure where it has features,
+/// and the measure's own; else the measure's own alone, where the change before the first event has a
+/// column too. `t` is the timeline of the score, `voices` its voices as `draw_voices` gives them, and
+/// `verses` has the number of verses of each staff. Columns are as those of `lay_columns::columns`;
+/// the last is the measure's bar. The only error is want of memory.
+pub fn measure_columns(
     alloc: Global,
     s: &Score,
     voices: &[DrawnVoice],
     t: &Timeline,
+    a: u32,
     m: u32,
     verses: &[u8],
 ) -> Result<Row<Column>, Memory>
     requires good { IsGoodScore s.now }
     requires times { t.now ≡ timeline_of s.now }
+    requires order { a ≤ m }
     requires within { m < s.now.measures }
     requires voices { voices.now ≡ map drawn_voice s.now.voices }
     requires drawn { All (λ v. AreGoodMeasures v.measures) voices.now }
     requires counts { length verses.now ≡ length (drawn_staves s.now) }
-    ensures columns { IfOk result (AreFurther s.now t.now m verses.now) }
+    ensures columns { IfOk result (AreMeasureColumns (a == m) s.now t.now m verses.now) }
     ensures places { IfOk result (All (λ c. IsInSystem t.now.lengths m (m + 1) c.key)) }
     ensures bar { IfOk result (λ r. 1 ≤ length s.now.voices → EndWithBar r) }
     ensures lanes { IfOk result (λ r. All (λ c. length c.reaches ≡ length (gaps_of verses.now)) r) }
@@ -186,8 +179,8 @@ pub fn further_columns(
     ensures small { IfOk result (All IsSmall) }
     ensures uncut { IfOk result (All IsUncut) }
 {
-    let keys = further_keys(alloc, s, t, m)?;
+    let keys = keys_for(alloc, s, t, m, a == m)?;
     let lengths = t.lengths.as_slice();
-    let staves = measure_staves(alloc, keys.as_slice(), lengths, m, false, voices)?;
+    let staves = measure_staves(alloc, keys.as_slice(), lengths, m, a == m, voices)?;
     columns_in(alloc, keys.as_slice(), staves.as_slice(), lengths, verses)
 }

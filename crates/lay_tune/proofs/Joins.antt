@@ -1,12 +1,12 @@
 -- The columns of each measure are what spans of measures are tried with, and those of the systems.
-use Rattle.std.proofs.Common.{◌≡◌, ◌∙◌, ℕ, suc, ◌+◌, ◌-◌, ◌<◌, ◌≤◌, List, [], ◌∷◌, ◌++◌, length, length-append, take, drop, flat_map, get_or, refl, sym, ap, subst, arith}
-use Rattle.std.{proofs.lemmas.List.get_or-drop, proofs.lemmas.List.get_or-take, proofs.lemmas.List.length-drop, proofs.lemmas.List.length-take-le, specs.List.All}
+use Rattle.std.proofs.Common.{◌≡◌, ◌∙◌, ℕ, suc, ◌+◌, ◌-◌, ◌<◌, ◌≤◌, ◌==◌, false, List, [], ◌∷◌, ◌++◌, length, length-append, take, drop, flat_map, get_or, refl, sym, ap, subst, arith}
+use Rattle.std.{proofs.lemmas.Bool.Decides.nat_tests, proofs.lemmas.List.get_or-drop, proofs.lemmas.List.get_or-take, proofs.lemmas.List.length-drop, proofs.lemmas.List.length-take-le, specs.List.All}
 use Rattle.mus_score.specs.{declared.score.Score.Score, GoodScore.IsGoodScore}
 use Rattle.mus_time.specs.{declared.times.Timeline.Timeline, Onsets.timeline_of}
 use Rattle.lay_columns.specs.{declared.column.Column.Column, Columns.StandsWhereDue, Columns.column_reach, Lanes.gaps_of, Reaches.stands_always}
-use Rattle.lay_measures.specs.{Measures.AreFirst, Measures.AreFurther, Measures.EndWithBar, Law.AreFurtherOnes, Law.MeasuresJoin}
+use Rattle.lay_measures.specs.{Measures.AreMeasureColumns, Measures.EndWithBar, Law.AreColumnsFrom, Law.MeasuresJoin}
 use Rattle.lay_spans.{specs.Columns.EndsInAll, specs.Columns.measures_from, proofs.Adding.ends_so, proofs.Growing.at_end, proofs.Growing.each_more}
-use Rattle.lay_tune.specs.{Measures.EachMeasure, Measures.IsOther, Measures.IsStart, Spans.AreColumnsOf, Spans.system_columns, Spans.verses_of}
+use Rattle.lay_tune.specs.{Measures.EachMeasure, Measures.IsMeasure, Spans.AreColumnsOf, Spans.system_columns, Spans.verses_of}
 
 -- columns that end with a bar end in each lane
 bar_ends : (verses : List ℕ) (columns : List Column) → EndWithBar columns → All (StandsWhereDue verses) columns
@@ -21,17 +21,10 @@ bar_ends verses columns h stands =
     subst (λ cs. EndsInAll column_reach (length (gaps_of verses)) cs) (sym h.parts)
     (record { some = omega arith; last = ends_so column_reach (length (gaps_of verses)) h.front (h.last ∷ []) one })
 
-pub start_of : (s : Score) (t : Timeline) (m : ℕ) (verses : List ℕ) (columns : List Column) → t ≡ timeline_of s → verses ≡ verses_of s
-    → AreFirst s t m verses columns → EndWithBar columns → All (StandsWhereDue verses) columns → IsStart s m columns
-start_of s t m verses columns times is h bar stands = record {
-  first = subst (λ t. AreFirst s t m (verses_of s) columns) times (subst (λ vs. AreFirst s t m vs columns) is h);
-  ends = subst (λ vs. EndsInAll column_reach (length (gaps_of vs)) columns) is (bar_ends verses columns bar stands);
-}
-
-pub other_of : (s : Score) (t : Timeline) (m : ℕ) (verses : List ℕ) (columns : List Column) → t ≡ timeline_of s → verses ≡ verses_of s
-    → AreFurther s t m verses columns → EndWithBar columns → All (StandsWhereDue verses) columns → IsOther s m columns
-other_of s t m verses columns times is h bar stands = record {
-  further = subst (λ t. AreFurther s t m (verses_of s) columns) times (subst (λ vs. AreFurther s t m vs columns) is h);
+pub measure_of : (s : Score) (t : Timeline) (a m : ℕ) (verses : List ℕ) (columns : List Column) → t ≡ timeline_of s → verses ≡ verses_of s
+    → AreMeasureColumns (a == m) s t m verses columns → EndWithBar columns → All (StandsWhereDue verses) columns → IsMeasure s a m columns
+measure_of s t a m verses columns times is h bar stands = record {
+  called = subst (λ t. AreMeasureColumns (a == m) s t m (verses_of s) columns) times (subst (λ vs. AreMeasureColumns (a == m) s t m vs columns) is h);
   ends = subst (λ vs. EndsInAll column_reach (length (gaps_of vs)) columns) is (bar_ends verses columns bar stands);
 }
 
@@ -45,41 +38,49 @@ measure_more P n rows columns h p =
       each = λ m less. each_more P rows columns [] (λ m less. h.each m (omega arith)) (subst (λ i. P i columns) (sym h.count) p) m (omega arith);
     }
 
--- those of the measures from i on
-further_ones : (s : Score) (i : ℕ) (rows : List (List Column))
-    → ((j : ℕ) → j < length rows → AreFurther s (timeline_of s) (i + j) (verses_of s) (get_or rows j []))
-    → AreFurtherOnes s (timeline_of s) i (verses_of s) rows
-further_ones s i [] h = tt
-further_ones s i (row ∷ rows) h =
+-- a measure behind the first of a system has the same columns wherever the system began
+abbrev AreBehind : Score → ℕ → List Column → Type 0
+AreBehind s m columns = AreMeasureColumns ((m - 1) == m) s (timeline_of s) m (verses_of s) columns
+
+behind_any : (s : Score) (a m : ℕ) (columns : List Column) → a < m → AreBehind s m columns → AreMeasureColumns (a == m) s (timeline_of s) m (verses_of s) columns
+behind_any s a m columns h = subst (λ begins. AreMeasureColumns begins s (timeline_of s) m (verses_of s) columns) (apart (m - 1) m (omega (arith, h)) ∙ sym (apart a m h))
+  where
+    apart : (a m : ℕ) → a < m → (a == m) ≡ false
+    apart a m h = grind (arith, nat_tests)
+
+-- those of the measures from i on, in a system that begins with measure a
+further_ones : (s : Score) (a i : ℕ) (rows : List (List Column)) → a < i → ((j : ℕ) → j < length rows → AreBehind s (i + j) (get_or rows j []))
+    → AreColumnsFrom s (timeline_of s) a i (verses_of s) rows
+further_ones s a i [] less h = tt
+further_ones s a i (row ∷ rows) less h =
     let here : i + 0 ≡ i = omega arith in (
-      subst (λ m. AreFurther s (timeline_of s) m (verses_of s) row) here (h 0 (omega arith)),
-      further_ones s (i + 1) rows (λ j less.
+      behind_any s a i row less (subst (λ m. AreBehind s m row) here (h 0 (omega arith))),
+      further_ones s a (i + 1) rows (omega (arith, less)) (λ j l.
           let next : i + suc j ≡ i + 1 + j = omega arith in
-          subst (λ m. AreFurther s (timeline_of s) m (verses_of s) (get_or rows j [])) next (h (suc j) (omega arith))),
+          subst (λ m. AreBehind s m (get_or rows j [])) next (h (suc j) (omega arith))),
     )
 
 -- those of measures i to i + k - 1
-further_part : (s : Score) (others : List (List Column)) → EachMeasure (IsOther s) s.measures others → (i k : ℕ) → i + k ≤ s.measures
-    → AreFurtherOnes s (timeline_of s) i (verses_of s) (take k (drop i others))
-further_part s others h i k within =
+further_part : (s : Score) (others : List (List Column)) → EachMeasure (λ m. IsMeasure s (m - 1) m) s.measures others → (a i k : ℕ) → a < i → i + k ≤ s.measures
+    → AreColumnsFrom s (timeline_of s) a i (verses_of s) (take k (drop i others))
+further_part s others h a i k less within =
     let n = h.count in
     let d = length-drop i others in
     let l : length (take k (drop i others)) ≡ k = length-take-le k (drop i others) (omega arith) in
-    further_ones s i (take k (drop i others)) (λ j less.
-    let below : j < k = omega arith in
-    subst (λ row. AreFurther s (timeline_of s) (i + j) (verses_of s) row)
-    (sym (get_or-take k (drop i others) j [] below ∙ get_or-drop i others j []))
-    (h.each (i + j) (omega arith)).further)
+    further_ones s a i (take k (drop i others)) less (λ j below.
+    let short : j < k = omega arith in
+    subst (λ row. AreBehind s (i + j) row) (sym (get_or-take k (drop i others) j [] short ∙ get_or-drop i others j [])) (h.each (i + j) (omega arith)).called)
 
 pub columns_join : MeasuresJoin → (s : Score) (starts others : List (List Column)) → IsGoodScore s
-    → EachMeasure (IsStart s) s.measures starts → EachMeasure (IsOther s) s.measures others
+    → EachMeasure (λ m. IsMeasure s (m - 0) m) s.measures starts → EachMeasure (λ m. IsMeasure s (m - 1) m) s.measures others
     → AreColumnsOf s starts others
 columns_join law s starts others good firsts furthers = λ a b m less within call.
     let n = furthers.count in
     let d = length-drop (a + 1) others in
     let k : length (take (b - (a + 1)) (drop (a + 1) others)) ≡ b - (a + 1) = length-take-le (b - (a + 1)) (drop (a + 1) others) (omega arith) in
     let e : b - a ≡ suc (b - (a + 1)) = omega arith in
+    let none : a - 0 ≡ a = omega arith in
+    let first = subst (λ i. AreMeasureColumns (i == a) s (timeline_of s) a (verses_of s) (get_or starts a [])) none (firsts.each a (omega arith)).called in
     subst (λ i. system_columns s m ≡ flat_map (λ measure. measure) (take i (measures_from starts others a))) (sym e)
-    (law s (timeline_of s) a b m (verses_of s) (get_or starts a []) (take (b - (a + 1)) (drop (a + 1) others))
-    good refl (omega arith) within call (firsts.each a (omega arith)).first
-    (further_part s others furthers (a + 1) (b - (a + 1)) (omega arith)))
+    (law s (timeline_of s) a b m (verses_of s) (get_or starts a [] ∷ take (b - (a + 1)) (drop (a + 1) others))
+    good refl less (omega arith) within call (first, further_part s others furthers a (a + 1) (b - (a + 1)) (omega arith) (omega arith)))

@@ -1,20 +1,15 @@
--- The columns of each measure of a score, in a system that begins with it and in one that began before.
-use Rattle.std.specs.Prelude.{◌≡◌, ℕ, ◌<◌, List, [], length, slice_index_or}
+-- The columns of each measure of a score, in a system that begins with a measure.
+use Rattle.std.specs.Prelude.{◌≡◌, ℕ, ◌<◌, ◌==◌, List, [], length, slice_index_or}
 use Rattle.mus_score.specs.declared.score.Score.{Score}
 use Rattle.mus_time.specs.Onsets.{timeline_of}
 use Rattle.lay_columns.specs.{declared.column.Column.Column, Columns.column_reach}
-use Rattle.lay_measures.specs.Measures.{AreFirst, AreFurther}
+use Rattle.lay_measures.specs.Measures.{AreMeasureColumns}
 use Rattle.lay_spans.specs.Columns.{EndsInAll}
 use Rattle.lay_tune.specs.Spans.{score_gaps, verses_of}
 
--- of measure m in a system that begins with it; the last stands in each lane
-pub record IsStart (s : Score) (m : ℕ) (columns : List Column) : Type 0 where
-  pub first : AreFirst s (timeline_of s) m (verses_of s) columns
-  pub ends : EndsInAll column_reach (length (score_gaps s)) columns
-
--- of measure m in a system that began before; the last stands in each lane
-pub record IsOther (s : Score) (m : ℕ) (columns : List Column) : Type 0 where
-  pub further : AreFurther s (timeline_of s) m (verses_of s) columns
+-- of measure m in a system that begins with measure a; the last stands in each lane
+pub record IsMeasure (s : Score) (a m : ℕ) (columns : List Column) : Type 0 where
+  pub called : AreMeasureColumns (a == m) s (timeline_of s) m (verses_of s) columns
   pub ends : EndsInAll column_reach (length (score_gaps s)) columns
 
 -- a list of columns for each of the first n measures

@@ -10,7 +10,7 @@ ghost use Rattle.lay_tune.specs.declared.layout.LayoutError.TheVariants as error
 ghost use Rattle.lay_tune.specs.{Breakings.IsLeastBreaking, Layout.IsCauseIn, Layout.layout_error, Spans.AreColumnsOf, Spans.AreSpansOf, Spans.is_forced_in, Spans.score_gaps, Spans.verses_of};
 ghost use Rattle.lay_tune.specs.Systems.{Beside, EachSpan, IsSetSystem, IsStack};
 
-use crate::measures::{others_of, starts_of};
+use crate::measures::columns_of_measures;
 use crate::systems::{Systems, set_systems};
 use lay_breaks::{BreakError, Breaking, Span};
 use lay_columns::{Column, gaps_of};
@@ -160,9 +160,9 @@ pub fn lay_out(alloc: Global, s: &Score, width: u32) -> Result<Layout, LayoutErr
     let counts = staff_verses(alloc, drawn.as_slice())?;
     let verses = counts.as_slice();
     let voices = drawn.items.as_mut_slice();
-    let begun = starts_of(alloc, s, voices, &t, verses)?;
+    let begun = columns_of_measures(alloc, s, voices, &t, 0, verses)?;
     let starts = begun.as_slice();
-    let further = others_of(alloc, s, voices, &t, verses)?;
+    let further = columns_of_measures(alloc, s, voices, &t, 1, verses)?;
     let others = further.as_slice();
     measures_join();
     lay_out_measures(alloc, s, voices, &t, verses, starts, others, width)

@@ -1,17 +1,17 @@
-use Rattle.std.proofs.Common.{◌≡◌, ◌∙◌, ◌+◌, ◌≤◌, false, length, map, ap, subst, sym, arith}
+use Rattle.std.proofs.Common.{◌≡◌, ◌∙◌, ◌+◌, ◌≤◌, ◌==◌, length, map, ap, subst, sym, arith}
 use Rattle.std.specs.List.{All, Contains, slice_index}
 use Rattle.mus_time.{specs.declared.keys.Class.Class, proofs.Places.length_of_lengths, specs.Keys.IsInSystem, specs.Keys.key_at, specs.Order.Rises, specs.Ranks.AreRanked}
 use Rattle.mus_score.specs.Seats.{grouped}
-use Rattle.mus_marks.{specs.Staff.verses_on, specs.System.stands_lower, proofs.Few.few_further, proofs.Fitting.few_verses, proofs.Lines.voices_count}
+use Rattle.mus_marks.{specs.Staff.verses_on, specs.System.stands_lower, proofs.Fitting.few_verses, proofs.Lines.voices_count}
 use Rattle.lay_columns.specs.Widened.{AreGoodStaves}
-use Rattle.lay_measures.{specs.Measures.EndWithBar, specs.Measures.keys_in, specs.Measures.measure_staff, proofs.Facts.end_with_bar, proofs.Facts.further_bar, proofs.Facts.ok_through, proofs.Facts.places, proofs.Facts.staves_good}
-use Rattle.lay_measures.proofs.measures.further_columns.Goals as goal
+use Rattle.lay_measures.{specs.Measures.EndWithBar, specs.Measures.keys_in, specs.Measures.measure_staff, proofs.Facts.called_has_bar, proofs.Facts.end_with_bar, proofs.Facts.few_called, proofs.Facts.ok_through, proofs.Facts.places, proofs.Facts.staves_good}
+use Rattle.lay_measures.proofs.measures.measure_columns.Goals as goal
 
 pub measure_staves-requires-clause-keys : goal.measure_staves-requires-clause-keys
 measure_staves-requires-clause-keys c =
     subst AreRanked (sym c.as_slice.ensures) (record {
       rise = c.in_ok-keys.ensures.keys.rise;
-      few = few_further c.args.s.now c.args.t.now.lengths c.args.m c.in_ok-keys.keys c.requires.good c.in_ok-keys.ensures.keys;
+      few = few_called (c.args.a == c.args.m) c.args.s.now c.args.t.now.lengths c.args.m c.in_ok-keys.keys c.requires.good c.requires.within c.in_ok-keys.ensures.keys;
     })
 
 pub measure_staves-requires-clause-within : goal.measure_staves-requires-clause-within
@@ -38,8 +38,8 @@ measure_staves-requires-clause-verses c = subst (λ vs. verses_on vs ≤ 128) (s
 
 pub columns_in-requires-clause-good : goal.columns_in-requires-clause-good
 columns_in-requires-clause-good c =
-    let staves = c.as_slice-3.ensures ∙ c.in_ok-staves.ensures ∙ ap (λ vs. map (measure_staff false c.as_slice.result.now c.as_slice-lengths.result.now c.args.m) (grouped stands_lower vs)) c.requires.voices in
-    subst AreGoodStaves (sym staves) (staves_good c.as_slice.result.now c.as_slice-lengths.result.now c.args.m false c.args.s.now c.requires.good)
+    let staves = c.as_slice-3.ensures ∙ c.in_ok-staves.ensures ∙ ap (λ vs. map (measure_staff (c.args.a == c.args.m) c.as_slice.result.now c.as_slice-lengths.result.now c.args.m) (grouped stands_lower vs)) c.requires.voices in
+    subst AreGoodStaves (sym staves) (staves_good c.as_slice.result.now c.as_slice-lengths.result.now c.args.m (c.args.a == c.args.m) c.args.s.now c.requires.good)
 
 pub returns-clause-places : goal.returns-clause-places
 returns-clause-places c =
@@ -56,5 +56,5 @@ returns-clause-bar c =
     (places (IsInSystem c.args.t.now.lengths c.args.m (c.args.m + 1)) c.in_ok-keys.keys r c.in_ok-keys.ensures.places same)
     (subst (λ ks. Contains ks (key_at c.args.m (slice_index c.args.t.now.lengths c.args.m) Class.Bar 0)) (sym same)
     (c.in_ok-keys.ensures.keys.all (key_at c.args.m (slice_index c.args.t.now.lengths c.args.m) Class.Bar 0)
-    (further_bar c.args.s.now c.args.t.now.lengths c.args.m c.requires.good some c.requires.within))))
+    (called_has_bar (c.args.a == c.args.m) c.args.s.now c.args.t.now.lengths c.args.m c.requires.good some c.requires.within))))
     c.columns_in.result c.columns_in.ensures.keys

@@ -1,0 +1,60 @@
+#!/usr/bin/env bash
+# Counts the work of setting tunes that grow: twice the measures, up to 2,000 (goal: at most 2.10 times the work each
+# time); 16 voices of 120 measures (goal: 170 million instructions); and 500 measures under eight verses (goal: 250
+# million). Counts instructions by callgrind, or where that isn't there milliseconds of user time.
+set -eu
+
+root=$(cd "$(dirname "$0")/.." && pwd)
+"$root/abcps" make 1 >/dev/null
+program=$root/crates/abcps_main/out/abcps_main
+folder=$(mktemp -d)
+trap 'rm -rf "$folder"' EXIT
+
+# A book of one tune: so many measures, voices and verses, four measures a line.
+book() {
+    python3 - "$1" "$2" "$3" <<'PYTHON'
+import sys
+
+measures, voices, verses = map(int, sys.argv[1:])
+bars = ["CDEF GABc", "c2 BA G2 FE", "[CE]2 ^F_B =A2 d2", "(3cde f2 (gf) e2"]
+sung = [8, 6, 5, 7]
+print("X:1\nT:growth\nM:4/4\nL:1/8\nK:D")
+for voice in range(1, voices + 1):
+    if voices > 1:
+        print(f"V:{voice}")
+    for start in range(0, measures, 4):
+        line = [i % 4 for i in range(start, min(start + 4, measures))]
+        print("|".join(bars[i] for i in line) + "|")
+        for verse in range(verses):
+            print("w:" + "|".join(" ".join(["la"] * sung[i]) for i in line) + "|")
+PYTHON
+}
+
+if command -v valgrind >/dev/null; then
+    unit="million instructions"
+    work() {
+        valgrind --tool=callgrind --callgrind-out-file=/dev/null "$program" set <"$1" 2>&1 >/dev/null |
+            awk '/Collected/ { printf "%.1f", $NF / 1000000 }'
+    }
+else
+    unit="ms"
+    work() {
+        for _ in 1 2 3; do
+            /usr/bin/time -f %U -o "$folder/time" "$program" set <"$1" >/dev/null
+            awk '{ print $1 * 1000 }' "$folder/time"
+        done | sort -n | head -n 1
+    }
+fi
+
+before=
+for measures in 125 250 500 1000 2000; do
+    book "$measures" 1 0 >"$folder/book.abc"
+    now=$(work "$folder/book.abc")
+    ratio=$(awk -v a="$now" -v b="${before:-0}" 'BEGIN { if (b > 0) printf ", ratio %.2f (goal: 2.10)", a / b }')
+    echo "$measures measures: $now $unit$ratio"
+    before=$now
+done
+book 120 16 0 >"$folder/book.abc"
+echo "16 voices of 120 measures: $(work "$folder/book.abc") $unit (goal: 170 million instructions)"
+book 500 1 8 >"$folder/book.abc"
+echo "500 measures under eight verses: $(work "$folder/book.abc") $unit (goal: 250 million instructions)"

@@ -1,0 +1,6 @@
+use Rattle.std.proofs.Common.{◌-◌}
+use Rattle.lay_tune.specs.Measures.{EachMeasure, IsMeasure}
+use Rattle.lay_tune.proofs.measures.columns_of_measures.Given as goal
+
+abbrev pub invariant-loop-m : goal.invariant-loop-m
+invariant-loop-m l = EachMeasure (λ m. IsMeasure l.s (m - l.before) m) l.m l.rows
