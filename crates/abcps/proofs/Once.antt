@@ -30,7 +30,6 @@ quiet_called : (c d : Called) → c.page ≡ d.page → IsQuietly c → IsQuietl
 quiet_called c d page a b = same_called c d page (a.told ∙ sym b.told) (a.status ∙ sym b.status)
 
 -- ---- the commands that set a book
-
 one_set : HaveOneOutcome → (how : How) (text : List ℕ) (os ps : List Outcome) → AreSet how text os → AreSet how text ps → os ≡ ps
 one_set one how text os ps a b = one.outcomes (defaults_of (book_of text).header) (paper_in text) how (book_of text).tunes os ps a b
 
@@ -63,7 +62,6 @@ trial_once one tunes how even c d a b =
     quiet_called c d (a.page ∙ by_plan (λ p os. trial_text (trial_of tunes os (sheet_of p paper os))) even paper a.outcomes b.outcomes a.plan b.plan same a.parted b.parted ∙ sym b.page) a.quietly b.quietly
 
 -- ---- the others
-
 sheet_once : (report : Sheet → List ℕ) (text : List ℕ) (c d : Called) → Shows report text c → Shows report text d → c ≡ d
 sheet_once report text c d a b = quiet_called c d (a.page ∙ ap report (b.read.only a.sheet a.read.spells) ∙ sym b.page) a.quietly b.quietly
 

@@ -61,7 +61,6 @@ any_counted p (x ∷ xs) b e = by_test (any_counted p xs) (p x) refl b e
     by_test more false is false e = (let c : count_by p (x ∷ xs) ≡ 0 + (0 + count_by p xs) = rw is at (counted p [] x xs) in let k = more false e in omega arith)
 
 -- ---- numbers that options say
-
 jobs_any : (n : ℕ) (xs : List Flag) → is_some (first_said jobs_of xs) ≡ list_any (same_kind (Flag.Jobs n)) xs
 jobs_any n [] = refl
 jobs_any n (Flag.Jobs m ∷ xs) = refl
@@ -105,7 +104,6 @@ any_kept p [] f e = rw e refl
 any_kept p (x ∷ seen) f e = ap (λ b. p x || b) (any_kept p seen f e)
 
 -- ---- options of one kind
-
 own_kind : (f : Flag) → same_kind f f ≡ true
 own_kind Flag.Flow = refl
 own_kind f = refl

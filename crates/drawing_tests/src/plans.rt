@@ -1,8 +1,7 @@
 //! How events are drawn beside their heads.
 
 ghost use Rattle.std.specs.Prelude.{◌≡◌, IsTrue, All, length, map};
-ghost use Rattle.mus_score.specs.Good.{IsGoodBody};
-ghost use Rattle.mus_score.specs.GoodScore.{IsGoodScore, IsGoodVoice};
+ghost use Rattle.mus_score.specs.{Good.IsGoodBody, GoodScore.IsGoodScore, GoodScore.IsGoodVoice};
 ghost use Rattle.mus_stems.specs.Heads.{AllNear, IsNear, stand_of};
 ghost use Rattle.mus_stems.specs.Stills.{AllCanStand, CanStand};
 

@@ -1,10 +1,8 @@
 //! Beams that slope.
 
 ghost use Rattle.std.specs.Prelude.{IsTrue};
-ghost use Rattle.mus_score.specs.Good.{IsGoodBody};
-ghost use Rattle.mus_score.specs.GoodScore.{IsGoodScore, IsGoodVoice};
-ghost use Rattle.mus_stems.specs.Plans.{AllEndsNear};
-ghost use Rattle.mus_stems.specs.Slope.{ArePlaces};
+ghost use Rattle.mus_score.specs.{Good.IsGoodBody, GoodScore.IsGoodScore, GoodScore.IsGoodVoice};
+ghost use Rattle.mus_stems.specs.{Plans.AllEndsNear, Slope.ArePlaces};
 ghost use Rattle.drawing_tests.specs.Rising.{AreRising, RisesFrom};
 
 use crate::plans::{can_all_stand, put_plans};

@@ -1,8 +1,6 @@
 -- Bytes that lack one byte, and where a list of bytes is cut.
 use Rattle.std.proofs.Common.{◌≡◌, ◌≢◌, ℕ, zero, suc, ◌+◌, ◌%◌, ◌<◌, ◌^◌, ◌⊎◌, inl, inr, true, false, eqb, List, [], ◌∷◌, ◌++◌, length, take, drop, Some, None, refl, sym, ◌∙◌, ap, arith, slice_index_or, decimal}
-use Rattle.std.proofs.{lemmas.Bool.eqb-true, lemmas.Bool.true≢false, lemmas.Bool.cases_lt, lemmas.Option.none-some}
-use Rattle.std.proofs.{lemmas.List.Quantifiers.position-Some, lemmas.List.Sums.fails_before_first}
-use Rattle.std.proofs.{lemmas.Fmt.decimal_by_steps, lemmas.Fmt.decimal_injective, lemmas.List.append_cancel_left}
+use Rattle.std.proofs.lemmas.{Bool.eqb-true, Bool.true≢false, Bool.cases_lt, Option.none-some, List.Quantifiers.position-Some, List.Sums.fails_before_first, Fmt.decimal_by_steps, Fmt.decimal_injective, List.append_cancel_left}
 use Rattle.std.specs.{Prelude.Option, Prelude.MatchOption, List.position, List.position_or_len}
 use Rattle.eng_lines.specs.Lines.{Lacks}
 

@@ -1,7 +1,6 @@
 -- The running least and greatest are the least and the greatest.
 use Rattle.std.proofs.Common.{◌≡◌, refl, sym, subst, ℕ, zero, suc, ◌<◌, length, slice_index_or, ℤ, pos, negsuc, int_le, Bool, true, ◌&&◌, List, [], ◌∷◌, ◌⊎◌, inl, inr, arith}
-use Rattle.std.proofs.lemmas.Int.{ints, fold-int_min_bounds, fold-int_min_reached, fold-int_max_bounds, fold-int_max_reached}
-use Rattle.std.proofs.{lemmas.List.Elements.All-nil, lemmas.Bool.Decides.nat_tests}
+use Rattle.std.proofs.lemmas.{Int.ints, Int.fold-int_min_bounds, Int.fold-int_min_reached, Int.fold-int_max_bounds, Int.fold-int_max_reached, List.Elements.All-nil, Bool.Decides.nat_tests}
 use Rattle.std.specs.List.{Contains, list_all}
 use Rattle.mus_units.specs.declared.glyph.Glyph.{Glyph}
 use Rattle.glyph_paths.specs.Outlines.{outline_of}

@@ -1,6 +1,5 @@
 ghost use Rattle.std.specs.Prelude.{◌≡◌, All, length, map, IfOk, Option};
-ghost use Rattle.lay_columns.specs.{Reaches.standing, Reaches.stands_always, Columns.columns_of, Columns.CoverMarks, Columns.IsSmall, Columns.IsUncut, Columns.StandsWhereDue, Lanes.gaps_of};
-ghost use Rattle.lay_columns.specs.Widened.{AreGoodStaves, bare_column, bare_columns};
+ghost use Rattle.lay_columns.specs.{Reaches.standing, Reaches.stands_always, Columns.columns_of, Columns.CoverMarks, Columns.IsSmall, Columns.IsUncut, Columns.StandsWhereDue, Lanes.gaps_of, Widened.AreGoodStaves, Widened.bare_column, Widened.bare_columns};
 
 use crate::column::Column;
 use crate::lanes::lanes_of;

@@ -9,7 +9,6 @@ use Rattle.lay_pages.{specs.Filling.group_height, specs.Filling.height_of, specs
 use Rattle.lay_pages.specs.Even as even
 
 -- ---- a legal breaking of the groups has pages that fit
-
 if_some : (b : Bool) (v : ℕ) → IsSome (if b then Some v else None) → b ≡ true
 if_some true v e = refl
 if_some false v e = absurd cc
@@ -36,7 +35,6 @@ fitting high hs a (b ∷ bs) rises ends fits =
     )
 
 -- ---- there is a legal breaking: each group on a page of its own
-
 abbrev singles : ℕ → ℕ → List ℕ
 singles a zero = []
 singles a (suc n) = suc a ∷ singles (suc a) n
@@ -134,7 +132,6 @@ fits_behind high group (e ∷ ends) place block more fits = by block.keep refl (
     by false k true t = let f = loose k in turn_fits high place.down group e f.0 ends (pos (height_of block.height)) (group_heights more) f.1 t f.3
 
 -- ---- one step of the parting
-
 pub parted_more : (high : ℕ) (ends later : List ℕ) (group next : ℕ) (place after : Place) (block : Block) (rest more : List Block) (spots new all : List Spot) (spot : Spot) → rest ≡ block ∷ more
     → new ≡ spots ++ spot ∷ [] → spot ≡ spot_at high place → later ≡ ends_behind (turns ends group block) ends → next ≡ groups_behind group block
     → after ≡ place_behind (turns ends group block) place block → spots ++ parted_from high ends group place rest ≡ all → new ++ parted_from high later next after more ≡ all
@@ -169,7 +166,6 @@ pub groups_next : (group next : ℕ) (block : Block) → next ≡ groups_behind 
 groups_next group next block count = subst (λ n. n ≤ group + 1) (sym count) (count_next block.keep group)
 
 -- ---- so each block lies on its page
-
 first_high : (block : Block) (more : List Block) (n : ℕ) → height_of block.height + 1500 ≤ stacked (take (suc n) (group_heights (block ∷ more)))
 first_high block more n = let low = first_low block more in omega (arith, low)
 
@@ -188,7 +184,6 @@ parted_within high group ends place (block ∷ more) good fits = (
 )
 
 -- ---- and comes behind the one before it
-
 comes : (high : ℕ) (ends : List ℕ) (group : ℕ) (place : Place) (block : Block) → pos 0 ≤ℤ block.height
     → ComesBehind high block (spot_at high place) (spot_at high (place_behind (turns ends group block) place block))
 comes high ends group place block good = by block.keep refl (ends_page ends group)
@@ -236,7 +231,6 @@ filled_if high blocks (Ok spots) within fill = filled_stacked high blocks spots 
 filled_if high blocks (Err e) within fill = tt
 
 -- ---- of the chosen parting
-
 pub chosen_fits : (high : ℕ) (blocks : List Block) (heights : List ℤ) (groups : ℕ) (breaks : List ℕ) → heights ≡ group_heights blocks → groups ≡ length heights
     → IsChosen (page_cost high heights) (λ b. false) groups breaks → AreFitting high 0 0 breaks (group_heights blocks)
 chosen_fits high blocks heights groups breaks is count chosen =
@@ -253,7 +247,6 @@ parted_so high blocks heights groups breaks at spots is count few chosen same va
     })
 
 -- ---- one parting is chosen, so blocks have one list of spots
-
 pub one_spots : (even : Bool) (high : ℕ) (blocks : List Block) (spots others : List Spot) → AreSpots even high blocks spots → AreSpots even high blocks others → spots ≡ others
 one_spots even high blocks spots others (filled e is) (filled f other) = is ∙ sym other
 one_spots even high blocks spots others (filled e is) (parted f few other) = absurd (grind (arith, nat_tests))

@@ -7,7 +7,6 @@ use Rattle.mus_score.{specs.declared.score.Score.Score, specs.declared.score.Voi
 use Rattle.lay_shared.specs.{declared.drawing.Sit.Sit, declared.plan.Plan.Plan, declared.plan.PlannedStaff.PlannedStaff, Drawn.drawn_at, Drawn.drawn_of, Drawn.gap_of, Drawn.leading, Drawn.lower, Drawn.seated, Drawn.sit, Drawn.sits_of, Drawn.staff_sits, Plans.IsOnce, Plans.IsPlanFor, Plans.voices_of}
 
 -- ---- the places of voices
-
 lower_places : (leads : Bool) (vs : List ℕ) → map (λ (at : Sit). at.place) (map (lower leads) vs) ≡ vs
 lower_places leads [] = refl
 lower_places leads (v ∷ vs) = ap (λ s. v ∷ s) (lower_places leads vs)
@@ -28,7 +27,6 @@ gap_near true = omega arith
 gap_near false = omega arith
 
 -- ---- each voice
-
 at_place : {X : Type 0} (P : X → Type 0) (xs : List X) (k : ℕ) (x : X) → All P xs → slice_get xs k ≡ Some x → P x
 at_place P xs k x h e = subst P (get_or_from_slice_get xs k x x e) (h k x (slice_get_within xs k x e))
 
@@ -56,7 +54,6 @@ seated_good at v good = record {
 }
 
 -- ---- no more than there are
-
 abbrev picked : List Voice → List ℕ → List Voice
 picked voices ks = flat_map (λ k. option_to_list (slice_get voices k)) ks
 
@@ -143,7 +140,6 @@ counted [] = refl
 counted (v ∷ voices) = sum_by-cons (λ v. 1) v voices ∙ ap (λ n. 1 + n) (counted voices) ∙ omega arith
 
 -- ---- ids
-
 ids_apart : (voices : List Voice) (j k : ℕ) (v w : Voice) → AllPairs (λ v w. v.id ≢ w.id) voices → j ≢ k → slice_get voices j ≡ Some v → slice_get voices k ≡ Some w → v.id ≢ w.id
 ids_apart voices j k v w apart unlike e f =
     let here = get_or_from_slice_get voices j v v e in
@@ -180,7 +176,6 @@ drawn_distinct voices (at ∷ sits) apart once =
     one_distinct voices at (flat_map (drawn_at voices) sits) (slice_get voices at.place) refl (λ v e. each_apart voices at.place v sits apart e once.0) (drawn_distinct voices sits apart once.1)
 
 -- ---- the first voice
-
 led_by : (vs : List ℕ) → is_lower (leading vs) ≡ false
 led_by [] = refl
 led_by (v ∷ vs) = refl

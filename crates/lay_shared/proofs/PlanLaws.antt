@@ -8,7 +8,6 @@ use Rattle.lay_shared.specs.{Reading.run, Reading.signs_from, Reading.start, Tre
 use Rattle.lay_shared.proofs.{SignLaws.AreApart, SignLaws.is_known, SignLaws.text-read, SignLaws.text-written, TreeLaws.run-trees, TreeLaws.trees-run}
 
 -- ---- no voice twice
-
 same_if : (v w : ℕ) (same : Bool) → (w == v) ≡ same → same ≡ false → v ≢ w
 same_if v w false e f = λ g. let wrong : (w == w) ≡ false = subst (λ x. (w == x) ≡ false) g e in ne_itself w wrong
   where
@@ -58,7 +57,6 @@ is-once (v ∷ vs) h =
     rw (here, more) refl
 
 -- ---- the voices of trees
-
 known_voices : (vs : List ℕ) (behind : List Sign) → list_all is_known behind ≡ true → list_all is_known (voice_signs vs behind) ≡ true
 known_voices [] behind h = h
 known_voices (v ∷ vs) behind h = known_voices vs behind h
@@ -107,7 +105,6 @@ plan-names : (trees : Trees) (ss : List Sign) → ss ≡ tree_signs trees [] →
 plan-names trees ss e = voices-staves trees ∙ sym (append-nil (joined (shares_of trees))) ∙ sym (named-trees trees []) ∙ ap named (sym e)
 
 -- ---- a plan that is spelled is one for the score
-
 named-known : (ids : List (List ℕ)) (ss : List Sign) (text : List ℕ) → Writes ids ss text → AllByRecursion (λ v. v < length ids) (named ss)
 named-known ids [] text h = tt
 named-known ids (Sign.Voice v ∷ ss) text (behind, first, more) = (first.stands.known, named-known ids ss behind more)
@@ -155,7 +152,6 @@ spelled-plan ids text plan is =
     }
 
 -- ---- what is read
-
 some_same : {X : Type 0} (x y : X) → Some x ≡ Some y → x ≡ y
 some_same x y e = cc
 

@@ -5,7 +5,6 @@ use Rattle.std.{proofs.lemmas.Bool.and_parts, proofs.lemmas.List.Quantifiers.pos
 use Rattle.lay_shared.specs.{declared.signs.Sign.Sign, declared.signs.Bracket.Bracket, Signs.is_passed, Signs.sign_at, Signs.is_id, Signs.id_at, Signs.spelled, Signs.BeginsNoId, Signs.Stands, Signs.Writes, Reading.place_of, Reading.voice_sign, Reading.word_signs, Reading.signs_from}
 
 -- ---- bytes
-
 abbrev IsSignOf : ℕ → Option Sign → Type 0
 IsSignOf b o = IfSome o (λ sign. (ids : List (List ℕ)) (behind : List ℕ) → (spelled ids sign ≡ b ∷ []) × Stands ids sign behind)
 
@@ -38,7 +37,6 @@ either_passed b true e h k = e
 either_passed b false e h k = let wrong : true ≡ false = rw (e, k) at h in cc
 
 -- ---- what is read is written
-
 abbrev pub is_known : Sign → Bool
 is_known Sign.Stranger = false
 is_known _ = true
@@ -111,7 +109,6 @@ pub text-written : (ids : List (List ℕ)) (text : List ℕ) → list_all is_kno
 text-written ids text known = signs-written ids text [] refl known
 
 -- ---- what is written is read
-
 over-passed : (ids : List (List ℕ)) (passed text : List ℕ) → list_all is_passed passed ≡ true → signs_from ids [] (passed ++ text) ≡ signs_from ids [] text
 over-passed ids [] text h = refl
 over-passed ids (b ∷ passed) text h =

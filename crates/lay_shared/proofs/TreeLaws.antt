@@ -11,7 +11,6 @@ abbrev outside : List Bracket → Bool → List PlannedStaff → Reading
 outside = reading None
 
 -- ---- trees are read
-
 itself : (b : Bracket) → same_bracket b b ≡ true
 itself Bracket.Square = refl
 itself Bracket.Curly = refl

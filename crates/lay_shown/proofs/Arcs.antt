@@ -124,7 +124,6 @@ unfolding drawn_voice
 voice_arcs_go v good = arcs_go (events_of_voice v) (each_behind 0 0 (events_of_voice v) (measures_numbered 0 v.measures 0 good.ids))
 
 -- ---- the events at an arc's ends
-
 same_number : (m n : ℕ) → (m == n) ≡ true → m ≡ n
 same_number m n h = grind (arith, nat_tests)
 
@@ -180,7 +179,6 @@ in_turn (x ∷ xs) e f on (suc i, inside, is) (zero, inside', is') less =
 in_turn (x ∷ xs) e f on (suc i, inside, is) (suc j, inside', is') less = in_turn xs e f on.1 (i, omega (arith, inside), is) (j, omega (arith, inside'), is') less
 
 -- ---- the order of their columns
-
 head_below : (a m : ℕ) (e : DrawnEvent) → a ≤ m → is_below (head_key a) (note_key m e) ≡ true
 unfolding is_below
 head_below a m e h = grind (arith, nat_tests)
@@ -206,7 +204,6 @@ bar_above lengths m n e le within = elim (less_or_same m n le) [
 ]
 
 -- ---- pieces
-
 not_less : (m n : ℕ) → nat_lt m n ≡ false → n ≤ m
 not_less m n h = grind (arith, nat_tests)
 

@@ -8,7 +8,6 @@ use Rattle.mus_marks.{specs.Bridges.beams_between, specs.Bridges.stem_at, proofs
 use Rattle.lay_shown.proofs.Between.{AreBetween, both, unless}
 
 -- ---- over stems
-
 same_itself : (k : ColumnKey) → same_key k k ≡ true
 unfolding same_key
 same_itself k = grind (arith, nat_tests)

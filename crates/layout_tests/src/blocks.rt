@@ -1,8 +1,7 @@
 //! Staves under one another, and blocks on pages.
 
 ghost use Rattle.std.specs.Prelude.{◌≡◌, ◌≤◌, ◌^◌, IfOk, IfSome, IsTrue, length};
-ghost use Rattle.lay_pages.specs.Stacking.{AreGoodStaves};
-ghost use Rattle.lay_pages.specs.Filling.{AreGoodBlocks};
+ghost use Rattle.lay_pages.specs.{Stacking.AreGoodStaves, Filling.AreGoodBlocks};
 
 use answer_texts::{
     count_at, end_line, number_at, numbers_of, put_breaking, put_heights, put_no_way, put_number,

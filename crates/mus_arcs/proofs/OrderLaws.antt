@@ -22,7 +22,6 @@ in_order-append (a ∷ xs) ys x y across = (
 )
 
 -- ---- the ids of events
-
 AreRising : List EventAt → Type 0
 AreRising [] = Unit {0}
 AreRising (e ∷ events) = All (λ other. e.event < other.event) events × AreRising events
@@ -60,7 +59,6 @@ measures-numbered number (m ∷ ms) n h =
     (subst (AreCounted n) (flat_map-cons (λ x. flats_of x.body) m ms) h)
 
 -- ---- ends in the order of their events
-
 NotFalling : List Spot → Type 0
 NotFalling [] = Unit {0}
 NotFalling (end ∷ ends) = All (λ other. end.event ≤ other.event) ends × NotFalling ends
@@ -103,7 +101,6 @@ open_ends-not_falling (e ∷ events) rising =
     drop-not_falling e.begins (copies e.ends (spot e) ++ open_ends events) (ends-not_falling e events rising.0 (open_ends-not_falling events rising.1))
 
 -- ---- slurs from one event, the inner first
-
 Widens : List Arc → Type 0
 Widens [] = Unit {0}
 Widens (a ∷ arcs) = All (λ other. a.last ≤ other.last) arcs × Widens arcs
@@ -161,7 +158,6 @@ slurs_at-in_order e events rising =
     turned e.event (slurs (copies e.begins (spot e)) ends) (slurs-widen e.begins (spot e) ends (ends-not_falling e events rising.0 (open_ends-not_falling events rising.1))) (slurs-are e.begins (spot e) ends)
 
 -- ---- ties, and all arcs
-
 tie-in_order : (e : EventAt) (place : ℕ) (head : Head) (next : EventAt) → AreInOrder (tie e place head next)
 tie-in_order e place head next =
     let arc : Arc = record { tie = true; first = e.event; last = next.event; head = place; from = e.measure; to = next.measure } in

@@ -65,7 +65,6 @@ by_rule starts (e ∷ events) =
     (shuffled taken mine later (slurs (drop e.ends unpaired) (open_ends events)) (slurs starts (open_ends (e ∷ events))) (around_event e.begins e.ends (spot e) starts (open_ends events)))
 
 -- ---- which arcs are slurs and which are ties
-
 pub record IsSlurFrom (event : ℕ) (a : Arc) : Type 0 where
   pub slur : a.tie ≡ false
   pub first : a.first ≡ event

@@ -19,7 +19,6 @@ abbrev pub events_of_voice : Voice → List EventAt
 events_of_voice v = events_from 0 v.measures
 
 -- ---- the events of a body by a walk over its nodes, between their definition and the code
-
 abbrev pub join : List (List Event) → List Event
 join [] = []
 join (es ∷ more) = es ++ join more

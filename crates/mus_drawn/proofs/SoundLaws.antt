@@ -10,7 +10,6 @@ use Rattle.mus_drawn.specs.{declared.sounds.Heard.Heard, declared.sounds.Sound.S
 use Rattle.mus_drawn.specs.Sounds.{all_heads, seen, seen_from, seen_in, head_sounds, event_sounds, voice_sounds}
 
 -- heads with what they sound as
-
 abbrev heard_along : Sounding → List Head → List Head → List Heard
 heard_along sound earlier [] = []
 heard_along sound earlier (h ∷ hs) = record { head = h; alter = sound earlier h } ∷ heard_along sound (earlier ++ h ∷ []) hs
@@ -30,7 +29,6 @@ along_append sound earlier (g ∷ gs) h =
     (along_append sound (earlier ++ g ∷ []) gs h ∙ ap (λ t. heard_along sound (earlier ++ g ∷ []) gs ++ record { head = h; alter = sound t h } ∷ []) (append_assoc earlier (g ∷ []) gs))
 
 -- the head that is tied into another
-
 tied_is : (sound : Sounding) (p : Pitch) (earlier gs : List Head) → option_map alter_of (find (is_tied_to p) (heard_along sound earlier gs)) ≡ tied_sound sound p earlier gs
 unfolding alter_of
 tied_is sound p earlier [] = refl
@@ -62,7 +60,6 @@ by_partner None (Some x) p said spread signs = refl
 by_partner None None p said spread signs = refl
 
 -- a head, behind those of its event
-
 head_is : (spread : Spread) (before : List Seen) (e : Seen) (earlier : List Head) (h : Head) →
     heard spread e.signs (heard_before spread before) (e.said ++ earlier) (heard_along (sounds_as spread before e) [] earlier) h ≡ record { head = h; alter = sounds_as spread before e earlier h }
 head_is spread [] e earlier h =
@@ -97,7 +94,6 @@ heads_are spread before e earlier (h ∷ hs) =
     ∙ ap (λ t. heard_along sound [] t) (append_assoc earlier (h ∷ []) hs)
 
 -- an event behind those of its measure
-
 standing_next : (now : Standing) (front : List Flat) (f : Flat) → standing_behind now (front ++ f ∷ []) ≡ standing_after (standing_behind now front) f.event.changes
 standing_next now [] f = refl
 standing_next now (g ∷ gs) f = standing_next (standing_after now g.event.changes) gs f
@@ -132,7 +128,6 @@ events_are voice spread now front before (f ∷ fs) =
     ∙ (λ i. sounds_are (sounds_as spread before e) voice f.event.id 0 [] f.event.heads i ++ events_are voice spread now (front ++ f ∷ []) (e ∷ before) fs i)
 
 -- events that were heard, the nearest first
-
 abbrev behind : List Seen → List Seen → List Seen
 behind before [] = before
 behind before (e ∷ es) = behind (e ∷ before) es
@@ -154,7 +149,6 @@ sounds_append voice spread before (e ∷ es) more =
     ∙ sym (append_assoc front (event_sounds voice spread (e ∷ before) es) (event_sounds voice spread (behind (e ∷ before) es) more))
 
 -- a voice, and all of them
-
 measures_are : (voice : ℕ) (spread : Spread) (now : Standing) (before : List Seen) (ms : List Measure) →
     measures_sounds voice spread now (heard_before spread before) ms ≡ event_sounds voice spread before (seen_in now ms)
 measures_are voice spread now before [] = refl

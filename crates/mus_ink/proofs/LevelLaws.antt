@@ -8,7 +8,6 @@ use Rattle.mus_ink.specs.Levels.{ByFirst, AreLevels, bridge_of, OfOtherKeys, Key
 use Rattle.mus_time.specs.{declared.keys.ColumnKey.ColumnKey, Order.same_key}
 
 -- the levels that begin at an event, one after the other
-
 abbrev level_at : ℕ → Stem → List Stem → List Level
 level_at k p [] = []
 level_at k p (q ∷ qs) = cond (goes_on k p q) (record { level = k; first = p; last = last_at k q qs } ∷ []) []
@@ -26,7 +25,6 @@ and_both true y e = (refl, e)
 and_both false y e = absurd (false≢true e)
 
 -- of those that begin at an event one at most is at a level
-
 filter_append : (k : ℕ) (xs ys : List Level) → filter (is_at k) (xs ++ ys) ≡ filter (is_at k) xs ++ filter (is_at k) ys
 filter_append k [] ys = refl
 filter_append k (x ∷ xs) ys = step (is_at k x) (filter_append k xs ys)
@@ -76,7 +74,6 @@ alone k j zero p = refl
 alone k j (suc n) p = alone k (j + 1) n p
 
 -- the run that goes on from an event
-
 run_last : (k : ℕ) (q : Stem) (qs : List Stem) → k < q.flags → last_at k q qs ≡ last_in q (take (run_more (joins k) q qs) qs)
 unfolding goes_on
 run_last k q [] has = refl
@@ -91,7 +88,6 @@ run_last k q (x ∷ xs) has = step (goes_on k q x) refl (run_last k x xs)
     step false e more = refl
 
 -- whether the first of the events goes on a run at level k of an event before it, in a beam with so many flags
-
 goes_on_from : ℕ → ℕ → ℕ → Stem → Bool
 goes_on_from k group flags p = ((p.group == group) && nat_lt k p.flags) && nat_lt k flags
 
@@ -105,7 +101,6 @@ fresh k group flags [] = []
 fresh k group flags (p ∷ ps) = skip (goes_on_from k group flags p) (runs (joins k) (p ∷ ps))
 
 -- what begins at an event at level k
-
 begins_not : (k group flags : ℕ) (p : Stem) (qs : List Stem) → goes_on_from k group flags p ≡ true →
     filter (is_at k) (levels_at (levels_before p group flags) (p.flags - levels_before p group flags) p qs) ≡ []
 unfolding goes_on_from levels_before
@@ -131,7 +126,6 @@ begins_never k group flags p qs few =
     none_at k lb (p.flags - lb) p qs (λ l. omega (arith, few, l))
 
 -- the levels that are drawn are those of the runs, event by event
-
 levels_are : (k group flags : ℕ) (es : List Stem) → filter (is_at k) (levels_of group flags es) ≡ long_runs k (fresh k group flags es)
 unfolding levels_of goes_on_from goes_on
 levels_are k group flags [] = refl
@@ -194,7 +188,6 @@ levels_are k group flags (p ∷ q ∷ qs) =
         ∙ ap (λ b. long_runs k (skip b (put_before (joins k) p ((q ∷ r) ∷ rs)))) (sym e)
 
 -- by their first events, and at one event by level
-
 begin_there : (j n : ℕ) (p : Stem) (qs : List Stem) → AllByRecursion (λ (l : Level). l.first ≡ p) (levels_at j n p qs)
 begin_there j zero p qs = tt {0}
 begin_there j (suc n) p [] = begin_there (j + 1) n p []
@@ -244,7 +237,6 @@ are_levels es = record {
 }
 
 -- where the events stand at keys of their own, a beam is drawn exactly where the run goes on
-
 last_is_other : (k : ℕ) (p q : Stem) (qs : List Stem) → OfOtherKeys p (q ∷ qs) → same_key p.key (last_at k q qs).key ≡ false
 last_is_other k p q [] others = others.0
 last_is_other k p q (x ∷ xs) others = step (goes_on k q x) (last_is_other k p x xs others.1)

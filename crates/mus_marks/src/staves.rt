@@ -3,8 +3,7 @@ ghost use Rattle.std.specs.List.{prefix_len};
 ghost use Rattle.mus_score.specs.Seats.{grouped};
 ghost use Rattle.mus_time.specs.Ranks.{AreRanked};
 ghost use Rattle.mus_drawn.specs.Good.{AreGoodMeasures};
-ghost use Rattle.mus_marks.specs.{Bridges.bridges_of, Places.HasVerses, Places.place_behind};
-ghost use Rattle.mus_marks.specs.{Staff.CoversLines, Staff.bare_marks, Staff.own_part, Staff.room_over, Staff.staff_marks, Staff.staff_over, Staff.verses_on, Staff.written_parts, System.stands_lower};
+ghost use Rattle.mus_marks.specs.{Bridges.bridges_of, Places.HasVerses, Places.place_behind, Staff.CoversLines, Staff.bare_marks, Staff.own_part, Staff.room_over, Staff.staff_marks, Staff.staff_over, Staff.verses_on, Staff.written_parts, System.stands_lower};
 
 use crate::bridges::put_bridges_of;
 use crate::counting::texts_behind;

@@ -70,7 +70,6 @@ signs_in_columns first ss near =
     }
 
 -- one column for each sign
-
 same_all : (first : ℤ) (xs ys : List (Option ℤ)) (k : ℕ) (ts : List Taken) → SignedAfter first xs k ts → SignedAfter first ys k ts → AllByRecursion (λ t. sign_of xs t ≡ sign_of ys t) ts
 same_all first xs ys k [] p q = tt {0}
 same_all first xs ys k (t ∷ ts) p q = (p.0 ∙ sym q.0, same_all first xs ys (if t.signed then k + 1 else k) ts p.1 q.1)

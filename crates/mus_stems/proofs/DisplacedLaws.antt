@@ -5,7 +5,6 @@ use Rattle.mus_stems.specs.{declared.heads.Stand.Stand, declared.heads.Last.Last
 use Rattle.mus_stems.{specs.Displaced.dx_where, specs.Displaced.DisplacedAfter, specs.Displaced.Displaced, specs.Displaced.AreDisplaced, proofs.OrderLaws.of_each, proofs.OrderLaws.Apart, proofs.OrderLaws.are_apart, proofs.OrderLaws.taken_are, proofs.OrderLaws.one_order}
 
 -- places within a list
-
 within_list : (ss : List Stand) (k : ℕ) (s : Stand) → slice_get ss k ≡ Some s → k < length ss
 within_list [] k s is = absurd (grind (arith, is))
 within_list (d ∷ ss) zero s is = omega arith
@@ -15,7 +14,6 @@ pub head_within : (up : Bool) (ss : List Stand) (t : Taken) → IsHead up ss t �
 head_within up ss t is = within_list ss t.place is.0 is.1
 
 -- what is written for the heads ts leaves all other places as they are
-
 cond_get : (b : Bool) (xs ys : List ℤ) (p : ℕ) (z : ℤ) → slice_index_or xs p (pos 0) ≡ z → slice_index_or ys p (pos 0) ≡ z → slice_index_or (cond b xs ys) p (pos 0) ≡ z
 cond_get true xs ys p z e f = e
 cond_get false xs ys p z e f = f
@@ -29,7 +27,6 @@ others_stay dx b (t ∷ ts) xs p apart =
     (others_stay dx (Some (record { level = t.level; moved = false })) ts xs p apart.1)
 
 -- each head as it follows from the one taken before it
-
 last_of : Taken → Bool → Option Last
 last_of t moved = Some (record { level = t.level; moved = moved })
 
@@ -64,7 +61,6 @@ follows up b (t ∷ ts) xs apart free =
     step false h h' = (others_stay (shift_of up) (Some (record { level = t.level; moved = false })) ts xs t.place apart.0 ∙ free.0.1, h')
 
 -- whether a head is displaced can be read off its dx
-
 read_off : (up g : Bool) → not (int_eq (dx_where up g) (pos 0)) ≡ g
 unfolding shift_of
 read_off true true = refl
@@ -115,7 +111,6 @@ shifts_displace up ss near =
     }
 
 -- one dx for each head
-
 same_after : (up : Bool) (xs ys : List ℤ) (b : Taken) (ts : List Taken) → dx_of xs b ≡ dx_of ys b → DisplacedAfter up xs b ts → DisplacedAfter up ys b ts → AllByRecursion (λ t. dx_of xs t ≡ dx_of ys t) ts
 same_after up xs ys b [] e p q = tt {0}
 same_after up xs ys b (t ∷ ts) e p q =

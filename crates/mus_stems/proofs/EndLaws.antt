@@ -34,7 +34,6 @@ pub ends_near : (wish : Wish) (es : List Still) (plans : List StemPlan) → plan
 ends_near wish es plans e good = subst AllEndsNear (sym e) (runs_near wish (beams es) (all_in_runs IsGoodStill is_joined es good))
 
 -- a plan for each event
-
 along_length : (up : Bool) (to : ℤ) (group : ℕ) (es : List Still) → length (plans_along up to group es) ≡ length es
 along_length up to group [] = refl
 along_length up to group (e ∷ es) = ap suc (along_length up to group es)

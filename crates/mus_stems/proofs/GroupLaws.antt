@@ -7,7 +7,6 @@ use Rattle.mus_stems.{specs.Plans.run_plans, specs.Plans.plans_of_runs, specs.Sl
 use Rattle.mus_stems.proofs.{RunLaws.runs_length, RunLaws.runs_of_whole, EndLaws.run_length}
 
 -- ids that rise from event to event, the first of them above one before
-
 abbrev RiseBehind : ℕ → List Still → Type 0
 RiseBehind id [] = Unit {0}
 RiseBehind id (e ∷ es) = (id < e.id) × RiseBehind e.id es
@@ -28,7 +27,6 @@ all_rise [] h = tt {0}
 all_rise (e ∷ es) h = rise_behind e es h
 
 -- what is behind some of the events rises too, and above the id before them
-
 behind_rises : (id : ℕ) (es more : List Still) → RiseBehind id (es ++ more) → AllRise more
 behind_rises id [] [] rise = tt {0}
 behind_rises id [] (d ∷ more) rise = rise.1
@@ -39,7 +37,6 @@ above id [] d more rise = rise.0
 above id (e ∷ es) d more rise = let h = above e.id es d more rise.1 in let g = rise.0 in omega (arith, g, h)
 
 -- runs that begin with a greater id, if any
-
 abbrev BeginAbove : ℕ → List (List Still) → Type 0
 BeginAbove id [] = Unit {0}
 BeginAbove id ([] ∷ rs) = ⊥
@@ -51,7 +48,6 @@ begin_above joined id es ([] ∷ rs) are rise = are
 begin_above joined id es ((d ∷ r) ∷ rs) are rise = above id es d (r ++ flat_map (λ r. r) rs) rise
 
 -- the plans of a run have one group, and those of the next another
-
 along_joined : (up : Bool) (to : ℤ) (group : ℕ) (e : Still) (es : List Still) → JoinedAfter same_group (plan_of up to group e) (plans_along up to group es)
 unfolding same_group plan_of
 along_joined up to group e [] = tt {0}
@@ -87,7 +83,6 @@ beams_by_groups wish es rise =
     ∙ runs_of_whole same_group (map (run_plans wish) (beams es)) (groups_are_runs wish is_joined (beams es) maximal.runs (subst AllRise (sym maximal.whole) (all_rise es rise)))
 
 -- runs by a number of each element are the runs of these numbers
-
 numbers_put : {A : Type 0} (g : A → ℕ) (same : A → A → Bool) → ((x y : A) → same x y ≡ eqb (g x) (g y)) → (d : A) (rs : List (List A)) →
     map (λ r. map g r) (put_before same d rs) ≡ put_before eqb (g d) (map (λ r. map g r) rs)
 numbers_put g same alike d [] = refl

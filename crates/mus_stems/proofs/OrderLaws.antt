@@ -4,7 +4,6 @@ use Rattle.std.{proofs.lemmas.Int.ints, proofs.lemmas.Bool.false≢true, proofs.
 use Rattle.mus_stems.specs.{declared.heads.Stand.Stand, Heads.IsNear, Heads.AllNear, Heads.Taken, Heads.level_of, Heads.taken_one, Heads.taken_at, Heads.taken_from, Heads.taken, Order.IsBefore, Order.InOrder, Order.head_at, Order.IsHead, Order.IsAmong, Order.AreTaken}
 
 -- what holds of all holds of each
-
 pub of_each : (P : Taken → Type 0) (ts : List Taken) (t : Taken) → AllByRecursion P ts → IsAmong ts t → P t
 of_each P [] t all among = absurd among
 of_each P (u ∷ us) t all (inl e) = subst P e all.0
@@ -15,7 +14,6 @@ all_of P Q f [] all = tt {0}
 all_of P Q f (t ∷ ts) all = (f t all.0, all_of P Q f ts all.1)
 
 -- no head is taken before itself, and of two heads only one before the other
-
 pub not_itself : (a : Taken) → IsBefore a a → ⊥
 not_itself a (inl lt) = omega (arith, ints, lt)
 not_itself a (inr h) = omega (arith, h.1)
@@ -27,7 +25,6 @@ not_both a b (inr p) (inl q) = (let e = p.0 in omega (arith, ints, q, e))
 not_both a b (inr p) (inr q) = (let g = p.1 in let h = q.1 in omega (arith, g, h))
 
 -- what is taken at a level and later
-
 IsFrom : ℤ → ℕ → Taken → Type 0
 IsFrom v k t = (v <ℤ t.level) ⊎ ((v ≡ t.level) × (k ≤ t.place))
 
@@ -72,7 +69,6 @@ from_order up v (suc n) ss =
     (h.0, all_of (IsFrom v 0) (λ t. v ≤ℤ t.level) (not_below v) (taken_at up v 0 ss (taken_from up (v +ℤ pos 1) n ss)) h.1)
 
 -- heads of the event alone: ss are its heads from place k on
-
 at_heads : (up : Bool) (v : ℤ) (k : ℕ) (whole ss : List Stand) (rest : List Taken) → ((j : ℕ) → slice_get whole (k + j) ≡ slice_get ss j) →
     AllByRecursion (IsHead up whole) rest → AllByRecursion (IsHead up whole) (taken_at up v k ss rest)
 unfolding taken_one
@@ -98,7 +94,6 @@ from_heads up v (suc n) ss = at_heads up v 0 ss ss (taken_from up (v +ℤ pos 1)
     same j = (let e : 0 + j ≡ j = omega arith in ap (λ i. slice_get ss i) e)
 
 -- all heads of the event
-
 at_among : (up : Bool) (v : ℤ) (k : ℕ) (ss : List Stand) (rest : List Taken) (t : Taken) → IsAmong rest t → IsAmong (taken_at up v k ss rest) t
 unfolding taken_one
 at_among up v k [] rest t among = among
@@ -167,7 +162,6 @@ taken_are up ss near = record {
 }
 
 -- two lists in order with the same heads are one
-
 fronts : (t u : Taken) (ts us : List Taken) → InOrder (t ∷ ts) → InOrder (u ∷ us) → IsAmong (u ∷ us) t → IsAmong (t ∷ ts) u → t ≡ u
 fronts t u ts us ot ou (inl e) back = sym e
 fronts t u ts us ot ou (inr g) (inl e) = e
@@ -197,7 +191,6 @@ pub one_order : (up : Bool) (ss : List Stand) (ts us : List Taken) → AreTaken 
 one_order up ss ts us a b = orders_same ts us a.order b.order (all_there up ss ts us a b) (all_there up ss us ts b a)
 
 -- heads that are taken stand at places of their own
-
 same_place : (up : Bool) (ss : List Stand) (t u : Taken) → IsHead up ss t → IsHead up ss u → t.place ≡ u.place → t ≡ u
 same_place up ss t u p q e =
     let s : Some p.0 ≡ Some q.0 = sym p.1 ∙ ap (λ n. slice_get ss n) e ∙ q.1 in

@@ -103,7 +103,6 @@ pub runs_length : {A B : Type 0} (joined : A → A → Bool) (f : List A → Lis
 runs_length joined f same es = whole_length f same (runs joined es) ∙ ap (λ t. length t) (all_whole joined es)
 
 -- what is cut into maximal runs is cut as `runs` does
-
 put_apart : {A : Type 0} (joined : A → A → Bool) (d : A) (rs : List (List A)) → EndsBefore joined d [] rs → put_before joined d rs ≡ (d ∷ []) ∷ rs
 put_apart joined d [] ends = refl
 put_apart joined d ([] ∷ rs) ends = absurd ends

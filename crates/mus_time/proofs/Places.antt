@@ -55,7 +55,6 @@ events_up_to m high in_head signed before (f ∷ fs) h =
     (events_up_to m high false (signed_after signed f.event.changes.key) (f ∷ before) fs (omega arith))
 
 -- Measures.
-
 all_weaker : (P Q : ColumnKey → Type 0) → ((k : ColumnKey) → P k → Q k) → (ks : List ColumnKey) → AllByRecursion P ks → AllByRecursion Q ks
 all_weaker P Q f [] a = tt
 all_weaker P Q f (k ∷ ks) a = (f k a.0, all_weaker P Q f ks a.1)
@@ -102,7 +101,6 @@ fit_drop lengths m (suc a) [] h = tt
 fit_drop lengths m (suc a) (x ∷ xs) h = subst (λ z. MeasuresFit lengths z (drop a xs)) (omega arith) (fit_drop lengths (m + 1) a xs h.1)
 
 -- Voices.
-
 first_if : (lengths : List ℕ) (a b : ℕ) (c : Bool) → (c ≡ true → a ≡ 0) → a < b → AllByRecursion (IsInSystem lengths a b) (if c then key_at 0 0 Class.First 0 ∷ [] else [])
 first_if lengths a b true z h = let e : a ≡ 0 = z refl in (record { from = omega arith; to = omega arith; within = omega arith }, tt)
 first_if lengths a b false z h = tt
@@ -154,7 +152,6 @@ places_of s a b keys good order within are =
     λ k d h. All-contains P (called_keys s lengths a b) (get_or keys k d) called (are.only (get_or keys k d) (Contains-get_or keys k d h))
 
 -- Measure m of a system that begins before it.
-
 further_in : (lengths : List ℕ) (m n : ℕ) (vs : List Voice) → m < n → AllByRecursion (λ v. length v.measures ≡ n) vs → ((k : ℕ) → k < n → length_at vs k ≤ slice_index lengths k) → AllByRecursion (IsInSystem lengths m (m + 1)) (flat_map (measure_keys lengths m) vs)
 further_in lengths m n [] order same fits = tt
 further_in lengths m n (v ∷ vs) order same fits =

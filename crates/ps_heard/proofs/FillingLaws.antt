@@ -8,7 +8,6 @@ use Rattle.ps_heard.specs.{declared.column.Column.Column, declared.column.Noted.
 use Rattle.ps_heard.{specs.Filling.with_tie, specs.Roles.role_of, proofs.Places.Below, proofs.Places.itself, proofs.Places.not_among}
 
 -- ---- one column changed
-
 as_it_is : (f : Column → Column) (c : Column) (b : Bool) → b ≡ false → (if b then f c else c) ≡ c
 as_it_is f c true e = ap (λ t. if t then f c else c) e
 as_it_is f c false e = refl
@@ -60,7 +59,6 @@ present x f (y ∷ ys) (c ∷ cs) (suc k) v s h l at is =
     (present x f ys cs k v s.1 (omega arith) (omega arith) at is)
 
 -- ---- what a mark tells of each column
-
 nothing_one : (c : Column) → record c { notes = c.notes ++ []; ties = c.ties ++ [] } ≡ c
 nothing_one c =
     ap (λ t. record { leads = c.leads; notes = t; ties = c.ties ++ [] }) (append-nil c.notes)
@@ -143,7 +141,6 @@ slur_told x1 x2 from to bulge ys cs e =
     quiet_told (PageMark.Arc x1 x2 from to bulge) ys cs (λ y. refl) (λ y. no_tie (int_eq x2 y) (is_tie bulge) (to -ℤ bulge) e)
 
 -- ---- mark after mark
-
 pub mark_length : (m : PageMark) (ys : List ℤ) (cs : List Column) → length (with_mark m ys cs) ≡ length cs
 mark_length m [] cs = refl
 mark_length m (y ∷ ys) [] = refl

@@ -33,7 +33,6 @@ not_among x [] b = refl
 not_among x (w ∷ ws) b = ap (λ t. t || list_any (int_eq x) ws) (apart x w b.0) ∙ not_among x ws b.1
 
 -- ---- in rising order
-
 below_if : (w x y : ℤ) (ys : List ℤ) (a b : Bool) → int_cmp w x ≡ Less → int_cmp w y ≡ Less → Below w ys → Below w (inserted x ys)
     → Below w (if a then x ∷ y ∷ ys else if b then y ∷ ys else y ∷ inserted x ys)
 below_if w x y ys true b l m rest more = (l, (m, rest))
@@ -62,7 +61,6 @@ rise_rising [] = tt
 rise_rising (x ∷ xs) = rise_inserted x (rising xs) (rise_rising xs)
 
 -- ---- with the same members
-
 twice : (p r : Bool) → (p || r) ≡ (p || (p || r))
 twice true r = refl
 twice false r = refl
@@ -88,7 +86,6 @@ among_rising z [] = refl
 among_rising z (x ∷ xs) = among_inserted z x (rising xs) ∙ ap (λ t. int_eq z x || t) (among_rising z xs)
 
 -- ---- and only one such list
-
 abbrev pub Same : List ℤ → List ℤ → Type 0
 Same xs ys = (z : ℤ) → list_any (int_eq z) xs ≡ list_any (int_eq z) ys
 
@@ -141,7 +138,6 @@ rising_is xs ys s all only =
     (λ z. same_tests (list_any (int_eq z) ys) (list_any (int_eq z) xs) (among z ys xs only) (among z xs ys all) ∙ sym (among_rising z xs))
 
 -- ---- sought
-
 index_by : (a b x : ℤ) (r s : Ordering) → int_cmp a x ≡ r → int_cmp b x ≡ s → int_cmp a b ≡ Less → ordering_index r ≤ ordering_index s
 index_by a b x Less Less e f l = omega arith
 index_by a b x Less Equal e f l = omega arith

@@ -1,5 +1,4 @@
-ghost use Rattle.std.specs.{Prelude.◌≡◌, Prelude.◌<◌, Prelude.◌++◌, Prelude.false, Prelude.flat_map, Prelude.length, Prelude.IfOk, Prelude.OnOk, Prelude.MatchOption, List.HoldsAt, List.list_any};
-ghost use Rattle.std.specs.{List.Sorted.IsStrictlySortedBy, Ordering.int_cmp, Ordering.int_eq};
+ghost use Rattle.std.specs.{Prelude.◌≡◌, Prelude.◌<◌, Prelude.◌++◌, Prelude.false, Prelude.flat_map, Prelude.length, Prelude.IfOk, Prelude.OnOk, Prelude.MatchOption, List.HoldsAt, List.list_any, List.Sorted.IsStrictlySortedBy, Ordering.int_cmp, Ordering.int_eq};
 ghost use Rattle.ps_text.specs.Ranks.{anchor_of, anchors};
 ghost use Rattle.ps_heard.specs.Columns.{rising};
 

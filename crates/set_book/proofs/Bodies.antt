@@ -11,7 +11,6 @@ use Rattle.abc_items.proofs.Laws.{stays}
 use Rattle.set_book.proofs.LineFaults.{one_front_of}
 
 -- ---- a line
-
 abbrev music_given : Breaks → Line → List Placed → Option Fault → List Given
 music_given breaks line tokens fault = flat_map (placed_given breaks line) tokens ++ end_given breaks line fault
 
@@ -72,7 +71,6 @@ front_given breaks (line ∷ lines) more g h a b =
     (o.0, q.is ∙ ap (λ x. x ++ q.others) (one_line_given breaks line q.first p.first q.here p.here) ∙ ap (λ x. p.first ++ x) o.1 ∙ sym (append_assoc p.first p.others o.0) ∙ ap (λ x. x ++ o.0) (sym p.is))
 
 -- ---- the items and the fault
-
 pub one_items : (header : Header) (lines : List Line) (xs ys : List Item) → IsBody header lines xs → IsBody header lines ys → xs ≡ ys
 one_items header lines xs ys a b = a.are ∙ ap items_in (one_given header.breaks lines a.given b.given a.gives_so b.gives_so) ∙ sym b.are
 

@@ -9,7 +9,6 @@ use Rattle.abc_notes.{specs.Chords.ChordFault, specs.Chords.chord_unclosed, spec
 use Rattle.set_book.proofs.PartFaults.{by_test, none_at_end, one_lead, never_done, one_flaw}
 
 -- ---- chords
-
 abbrev unclosed_at : List ℕ → Flaw
 unclosed_at text = record { kind = Unclosed; left = suc (length text) }
 
@@ -85,7 +84,6 @@ pub one_chord_fault : (bang : Bool) (text : List ℕ) (f g : Flaw) → ChordFaul
 one_chord_fault bang text f g a b = one_told bang text f g (told bang text f a) (told bang text g b)
 
 -- ---- grace groups
-
 one_grace_own : (bang : Bool) (text : List ℕ) (f g : Flaw) → IsGraceOwn bang text f → IsGraceOwn bang text g → f ≡ g
 one_grace_own bang [] f g a b = absurd a
 one_grace_own bang (byte ∷ rest) f g a b = by_test (ChordFault bang rest) (IsBadByte (byte ∷ rest)) f g (one_chord_fault bang rest f g) (one_bad (byte ∷ rest) f g) (byte == 91) a b

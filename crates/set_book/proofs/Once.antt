@@ -19,7 +19,6 @@ use Rattle.set_book.{specs.declared.outcome.Outcome.Outcome, specs.Outcomes.IsRe
 use Rattle.set_book.proofs.{Scores.no_score_fault, Layouts.one_layout, Faults.one_way, Faults.no_way_laid}
 
 -- ---- what a tune is, whatever the height of the page
-
 one_read : (tune : TuneText) (defaults : Defaults) (h k : Header) → HasHeader tune defaults h → HasHeader tune defaults k → h ≡ k
 one_read tune defaults h k a b = one_header tune defaults h k a.value b.value
 
@@ -205,7 +204,6 @@ never_both tune defaults paper how t _ a (too_tall u block laid tall) =
     let clash = sym a.fits ∙ ap (λ (z : SetTune). first_tall (height_of paper) (blocks_of z.title z.heights)) same ∙ tall in cc
 
 -- ---- a book
-
 one_result : (tune : TuneText) (defaults : Defaults) (paper : Paper) (how : How) (r q : Result SetTune Fault) → IsResult tune defaults paper how r → IsResult tune defaults paper how q → r ≡ q
 one_result tune defaults paper how (Ok t) (Ok u) a b = ap Ok (set_once tune defaults paper how t u a b)
 one_result tune defaults paper how (Ok t) (Err g) a b = absurd (never_both tune defaults paper how t g a b)

@@ -51,7 +51,6 @@ kind_is (FaultKind.NoWay reached) h = absurd (omega (arith, h))
 kind_is (FaultKind.TooTall block) h = absurd (omega (arith, h))
 
 -- ---- faults of which the rank tells the kind
-
 abbrev pub IsRanked : Fault → Type 0
 IsRanked fault = rank_of fault.kind < 20
 
@@ -144,7 +143,6 @@ pub score_ranked : (header : Header) (items : List Item) → AreRanked (score_fa
 score_ranked header items = voices_ranked (unnamed_of header) items (voices_read header items)
 
 -- ---- the first
-
 pub record IsLevel (f g : Fault) : Type 0 where
   pub line : f.line ≡ g.line
   pub column : f.column ≡ g.column

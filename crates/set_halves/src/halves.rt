@@ -1,6 +1,5 @@
 ghost use Rattle.std.specs.Prelude.{◌≡◌, ◌++◌, ◌≤◌, IfOk, All};
-ghost use Rattle.std.specs.List.{AllZip};
-ghost use Rattle.std.specs.Thread.{IsSync, IsSend};
+ghost use Rattle.std.specs.{List.AllZip, Thread.IsSync, Thread.IsSend};
 
 use mus_units::{Memory, Row};
 use std::alloc::Global;

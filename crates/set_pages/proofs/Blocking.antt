@@ -28,7 +28,6 @@ result_laid paper t good set =
     tune_laid (width_of paper) t laid.score.good (heard_moved set.0 set.1 set.2 t.header t.score laid.score) (paper_narrow paper good) laid.layout
 
 -- ---- blocks that are ready wherever they lie on a page
-
 on_page : (z y : ℤ) (width : ℕ) → width < 2 ^ 20 → pos 0 ≤ℤ z → z ≤ℤ pos width → z ≡ y → IsOnPage y
 on_page z y width narrow low high same = subst IsOnPage same (record { low = low; high = omega (arith, ints, high, narrow) })
 

@@ -17,7 +17,6 @@ use Rattle.lay_tune.{specs.Systems.Beside, specs.Systems.IsSetSystem, specs.Syst
 use Rattle.set_tune.specs.{declared.tune.SetTune.SetTune, Blocks.HasGoodHeight, Blocks.blocks_of, Blocks.is_some_list, Blocks.system_block, Blocks.system_blocks, Blocks.title_blocks, declared.how.How.How, Setting.HasScore, Setting.IsDrawn, Setting.IsLaidOut}
 
 -- ---- voices
-
 has_voice : (header : Header) (items : List Item) (flow : Bool) (voices : List VoiceRead)
     → 0 < (score_with header items flow voices).measures → 1 ≤ length (score_with header items flow voices).voices
 unfolding score_with
