@@ -5,8 +5,7 @@ use Rattle.mus_score.specs.declared.score.Score.{Score}
 use Rattle.mus_laid.specs.declared.laid.SystemMarks.{SystemMarks}
 use Rattle.lay_columns.specs.{declared.column.Column.Column, Columns.column_reach}
 use Rattle.lay_springs.{specs.declared.margin.Placed.Placed, specs.declared.traits.Reach.Reach, specs.Place.IsPlace, specs.Place.length_at, specs.Place.reach_at, specs.Fit.IsEndOf, specs.Fit.IsSet, specs.Fit.counted, specs.Fit.is_ragged, proofs.Unique.one_place}
-use Rattle.lay_tune.specs.{Spans.column_length, Spans.score_gaps, Spans.system_columns, Systems.IsJustified, Systems.IsPlaced}
-use Rattle.set_book.proofs.Spanned.{one_force}
+use Rattle.lay_tune.{specs.Spans.column_length, specs.Spans.score_gaps, specs.Spans.system_columns, specs.Systems.IsJustified, specs.Systems.IsPlaced, proofs.Breakings.one_force}
 
 -- ---- columns set to a width
 -- a column has one end

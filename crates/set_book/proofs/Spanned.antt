@@ -1,42 +1,9 @@
 -- A score has one list of the spans that fit a width.
-use Rattle.std.proofs.Common.{◌≡◌, ◌∙◌, ℕ, ◌<◌, ◌≤◌, ◌==◌, ◌⊎◌, inl, inr, Bool, true, false, if◌then◌else◌, List, [], ◌∷◌, length, Option, Some, None, refl, sym, ap, subst, arith}
-use Rattle.std.proofs.{lemmas.Bool.cases_lt, lemmas.Option.none-some, lemmas.Option.same_Some}
+use Rattle.std.proofs.Common.{◌≡◌, ◌∙◌, ℕ, ◌<◌, ◌≤◌, ◌⊎◌, inl, inr, Bool, true, false, if◌then◌else◌, List, [], ◌∷◌, Option, Some, None, refl, sym, ap, subst, arith}
+use Rattle.std.proofs.{lemmas.Option.none-some, lemmas.Option.same_Some}
 use Rattle.mus_score.specs.declared.score.Score.{Score}
-use Rattle.lay_columns.specs.{declared.column.Column.Column, Column.length_rises, Columns.column_reach}
-use Rattle.lay_springs.{specs.Place.length_at, specs.Place.reach_at, proofs.Longer.stands}
-use Rattle.lay_springs.proofs.Ends as springs
 use Rattle.lay_breaks.specs.{declared.costs.Span.Span, Spans.AreSpans, Spans.IsNext, Spans.SpansFrom, Spans.ends_are, Spans.has_ends, Spans.has_these, Spans.listed}
-use Rattle.lay_spans.specs.Badness.{badness_of}
-use Rattle.lay_tune.{specs.Spans.AreSpansOf, specs.Spans.CanStandIn, specs.Spans.IsForceOf, specs.Spans.IsSpanCost, specs.Spans.column_length, specs.Spans.score_gaps, specs.Spans.system_columns, proofs.Called.has_system, proofs.Open.some_of}
-
--- ---- the force of columns
--- a weaker force is not the greatest at which they can stand
-not_weaker : (gaps : List ℕ) (width : ℕ) (columns : List Column) (f g : ℕ) → IsForceOf gaps width columns f → IsForceOf gaps width columns g → f < g → ⊥
-not_weaker gaps width columns f g h k less =
-    h.greatest g less k.bound (stands (length columns) (reach_at column_reach columns) gaps (length_at column_length columns) width g k.fits)
-
--- columns have one force
-pub one_force : (gaps : List ℕ) (width : ℕ) (columns : List Column) (f g : ℕ) → IsForceOf gaps width columns f → IsForceOf gaps width columns g → f ≡ g
-one_force gaps width columns f g h k = elim (cases_lt f g) [
-  | inl less ↦ absurd (not_weaker gaps width columns f g h k less)
-  | inr more ↦ elim (cases_lt g f) [
-    | inl less ↦ absurd (not_weaker gaps width columns g f k h less)
-    | inr same ↦ omega (arith, more, same)
-  ]
-]
-
--- columns that a force presses can stand
-can_stand : (gaps : List ℕ) (width : ℕ) (columns : List Column) (force : ℕ) → IsForceOf gaps width columns force → CanStandIn gaps width columns
-can_stand gaps width columns force h =
-    let reach = reach_at column_reach columns in
-    let spring = length_at column_length columns in
-    let at = stands (length columns) reach gaps spring width force h.fits in record {
-      y = at.y;
-      apart = springs.apart_down (length columns) reach gaps (spring 0) (spring force) at.y
-          (springs.length_rises column_length columns 0 force (λ c. length_rises c.natural 0 force (omega arith))) at.apart;
-      past = at.past;
-      reaches = at.reaches;
-    }
+use Rattle.lay_tune.{specs.Spans.AreSpansOf, proofs.Breakings.cost_can_be, proofs.Breakings.one_cost, proofs.Called.has_system, proofs.Open.some_of}
 
 -- ---- a list in order has a span once
 abbrev IsPast : Span → ℕ → ℕ → Type 0
@@ -158,13 +125,6 @@ agree None None on back = refl
 agree None (Some v) on back = back v refl
 agree (Some v) p on back = sym (on v refl)
 
--- a span costs one value
-one_cost : (s : Score) (width a b v w : ℕ) → IsSpanCost s width a b v → IsSpanCost s width a b w → v ≡ w
-one_cost s width a b v w h k =
-    let system = has_system s a b in
-    let forces = one_force (score_gaps s) width (system_columns s system.0) h.pressed.0 k.pressed.0 (h.pressed.2 system.0 system.1) (k.pressed.2 system.0 system.1) in
-    h.pressed.1 ∙ (ap (λ force. badness_of (b == s.measures) force) forces ∙ sym k.pressed.1)
-
 -- a span that one list has the other has
 also : (s : Score) (width : ℕ) (xs ys : List Span) → AreSpans s.measures xs → AreSpansOf s width xs → AreSpansOf s width ys
     → (a b v : ℕ) → listed xs a b ≡ Some v → listed ys a b ≡ Some v
@@ -172,7 +132,7 @@ also s width xs ys form exact others a b v e =
     let within = listed_within s.measures None xs form a b v e in
     let cost = exact.each a b v within.0 within.1 e in
     let system = has_system s a b in
-    let stand = can_stand (score_gaps s) width (system_columns s system.0) cost.pressed.0 (cost.pressed.2 system.0 system.1) in
+    let stand = (cost_can_be s width a b v cost).stands system.0 system.1 in
     let some = some_of (listed ys a b) (others.fits a b system.0 within.0 within.1 cost.free system.1 stand) in
     some.1 ∙ ap Some (one_cost s width a b some.0 v (others.each a b some.0 within.0 within.1 some.1) cost)
 

@@ -5,15 +5,15 @@ use Rattle.abc_lines.specs.{declared.book.TuneText.TuneText, declared.fault.Faul
 use Rattle.abc_header.specs.{declared.defaults.Defaults.Defaults, declared.header.Header.Header, declared.paper.Paper.Paper, Papers.width_of}
 use Rattle.mus_score.specs.declared.score.Score.{Score}
 use Rattle.lay_breaks.specs.declared.costs.Span.{Span}
-use Rattle.lay_tune.specs.Layout.{IsNoWay}
+use Rattle.lay_tune.{specs.Breakings.IsLegalIn, specs.Layout.IsNoWay, proofs.Breakings.legal_listed}
 use Rattle.set_tune.specs.{declared.how.How.How, declared.tune.SetTune.SetTune, Setting.HasScore, Setting.IsFaultOfTune, Setting.IsLaidTune, Setting.layout_fault, Setting.no_way, Setting.of_header, Setting.of_move, Setting.of_score, Setting.of_share, Setting.too_tall}
 use Rattle.set_book.specs.{declared.outcome.Outcome.Outcome, Once.HaveOneOutcome, Outcomes.AreOutcomes, Outcomes.IsResult}
-use Rattle.set_lists.{specs.Laws.HasItsBreakings, specs.Laws.IsLegalIn, specs.Laws.ListsTheBook, specs.Laws.NoWayIsExact, proofs.Legal.breakings_of_listing, proofs.Numbers.book_rises, proofs.Told.lists_the_set, proofs.Told.unforced}
+use Rattle.set_lists.{specs.Laws.HasItsBreakings, specs.Laws.ListsTheBook, specs.Laws.NoWayIsExact, proofs.Legal.breakings_of_listing, proofs.Numbers.book_rises, proofs.Told.lists_the_set}
 
 -- ---- the listing of a book
-module _ (one : HaveOneOutcome) (defaults : Defaults) (paper : Paper) (how : How) where
+module _ (defaults : Defaults) (paper : Paper) (how : How) where
   its_breakings : (tune : TuneText) (r : Result SetTune Fault) → IsResult tune defaults paper how r → HasItsBreakings (width_of paper) r
-  its_breakings tune (Ok t) is = breakings_of_listing one t.score (width_of paper) t.spans is.laid.layout.form is.laid.layout.spans
+  its_breakings tune (Ok t) is = breakings_of_listing t.score (width_of paper) t.spans is.laid.layout.form is.laid.layout.spans
   its_breakings tune (Err fault) is = tt
 
   all_breakings : (tunes : List TuneText) (os : List Outcome) → AreOutcomes defaults paper how tunes os → All (λ o. HasItsBreakings (width_of paper) o.result) os
@@ -23,28 +23,23 @@ module _ (one : HaveOneOutcome) (defaults : Defaults) (paper : Paper) (how : How
   all_breakings (t ∷ ts) (o ∷ os) h =
       All-cons (λ o. HasItsBreakings (width_of paper) o.result) o os (its_breakings t o.result h.0.result) (all_breakings ts os h.1)
 
-pub lists_the_book : HaveOneOutcome → ListsTheBook
-lists_the_book one bytes defaults paper how outcomes short set = record {
+pub lists_the_book : ListsTheBook
+lists_the_book bytes defaults paper how outcomes short set = record {
   listing = lists_the_set defaults paper how (book_of bytes).tunes outcomes set (book_rises bytes defaults paper how outcomes short set);
-  breakings = all_breakings one defaults paper how (book_of bytes).tunes outcomes set;
+  breakings = all_breakings defaults paper how (book_of bytes).tunes outcomes set;
 }
 
 -- ---- no way
 -- what is told to have no way has no legal breaking
-none_legal : HaveOneOutcome → (s : Score) (width reached : ℕ) (spans : List Span) → IsNoWay s width reached spans → (breaks : List ℕ) → IsLegalIn s width breaks → ⊥
-none_legal one s width reached spans way breaks legal =
-    way.none breaks
-    ((unforced s width spans way.form way.exact breaks s.measures).1 ((breakings_of_listing one s width spans way.form way.exact breaks).1 legal))
+none_legal : (s : Score) (width reached : ℕ) (spans : List Span) → IsNoWay s width reached spans → (breaks : List ℕ) → IsLegalIn s width breaks → ⊥
+none_legal s width reached spans way breaks legal = way.none breaks (legal_listed s width spans way.exact breaks legal)
 
 module _ (one : HaveOneOutcome) (tune : TuneText) (defaults : Defaults) (paper : Paper) (how : How) (header : Header) (score : Score)
     (has : HasScore tune defaults how header score) where
   -- a score that is laid out has a legal breaking
   laid_legal : (t : SetTune) → IsLaidTune tune defaults paper how t → IsLegalIn score (width_of paper) t.breaking.breaks
   laid_legal t laid =
-      let layout = laid.layout in
-      let free = (unforced t.score (width_of paper) t.spans layout.form layout.spans t.breaking.breaks t.score.measures).0 layout.chosen.legal in
-      let legal = (breakings_of_listing one t.score (width_of paper) t.spans layout.form layout.spans t.breaking.breaks).0 free in
-      subst (λ s. IsLegalIn s (width_of paper) t.breaking.breaks) (one.score tune defaults how t.header header t.score score laid.score has) legal
+      subst (λ s. IsLegalIn s (width_of paper) t.breaking.breaks) (one.score tune defaults how t.header header t.score score laid.score has) laid.layout.least.legal
 
   told : (f : Fault) (reached : ℕ) → f.kind ≡ FaultKind.NoWay reached → IsFaultOfTune tune defaults paper how f
       → (breaks : List ℕ) → IsLegalIn score (width_of paper) breaks → ⊥
@@ -53,7 +48,7 @@ module _ (one : HaveOneOutcome) (tune : TuneText) (defaults : Defaults) (paper :
   told _ reached e (of_share f c) breaks legal = one.scored tune defaults how header score f has (inr (inl c))
   told _ reached e (of_move c) breaks legal = let clash : FaultKind.BadMove ≡ FaultKind.NoWay reached = e in cc
   told _ reached e (no_way h s i spans scored way) breaks legal =
-      none_legal one s (width_of paper) i spans way breaks
+      none_legal s (width_of paper) i spans way breaks
       (subst (λ x. IsLegalIn x (width_of paper) breaks) (one.score tune defaults how header h score s has scored) legal)
   told _ reached e (too_tall t block laid tall) breaks legal = let clash : FaultKind.TooTall block ≡ FaultKind.NoWay reached = e in cc
 

@@ -1,12 +1,10 @@
 -- The laws of the listing of a book.
-use Rattle.std.specs.Prelude.{◌≡◌, ℕ, ◌<◌, ◌≤◌, ◌^◌, ◌↔◌, ⊤, Bool, true, All, List, [], ◌∷◌, length, Contains, Result, Ok, Err}
+use Rattle.std.specs.Prelude.{◌≡◌, ℕ, ◌<◌, ◌≤◌, ◌^◌, ◌↔◌, ⊤, All, List, [], ◌∷◌, length, Result, Ok, Err}
 use Rattle.abc_lines.specs.{declared.book.TuneText.TuneText, declared.fault.Fault.Fault, Books.book_of, declared.fault.FaultKind.FaultKind}
 use Rattle.abc_header.specs.{declared.defaults.Defaults.Defaults, declared.header.Header.Header, declared.paper.Paper.Paper, Papers.width_of}
 use Rattle.mus_score.specs.declared.score.Score.{Score}
-use Rattle.mus_laid.specs.declared.laid.SystemMarks.{SystemMarks}
-use Rattle.lay_breaks.specs.{declared.costs.Span.Span, Breaking.IsLegal, Breaking.RisesFrom, Breaking.last_from, Spans.AreSpans, Spans.listed}
-use Rattle.lay_spans.specs.Forced.{ForcedInside}
-use Rattle.lay_tune.specs.{Spans.AreSpansOf, Spans.CanStandIn, Spans.IsSystem, Spans.is_forced_in, Spans.score_gaps, Spans.system_columns, Systems.AllSpans}
+use Rattle.lay_breaks.specs.{declared.costs.Span.Span, Breaking.IsLegal, Spans.AreSpans, Spans.listed}
+use Rattle.lay_tune.specs.{Breakings.IsLegalIn, Spans.AreSpansOf}
 use Rattle.lay_cert.specs.Listing.{IsListing, none_forced}
 use Rattle.set_tune.specs.{declared.how.How.How, declared.tune.SetTune.SetTune, Setting.HasScore, Setting.layout_fault}
 use Rattle.set_book.specs.{declared.outcome.Outcome.Outcome, Outcomes.AreOutcomes, Outcomes.IsOutcome}
@@ -31,20 +29,6 @@ OutcomesAreListable = (defaults : Defaults) (paper : Paper) (how : How) (tunes :
 abbrev pub ListsTheSet : Type 0
 ListsTheSet = (defaults : Defaults) (paper : Paper) (how : How) (tunes : List TuneText) (outcomes : List Outcome)
     → AreOutcomes defaults paper how tunes outcomes → OrdinalsRise 0 outcomes → IsListing (listing_text outcomes) (entries_of outcomes)
-
--- The measures from bar a to bar b can be a system: no forced bar stands strictly inside, and the columns of the marks that
--- the score calls for there can stand within the width.
-pub record CanBeSystem (s : Score) (width a b : ℕ) : Type 0 where
-  pub free : ForcedInside (is_forced_in s) a b → ⊥
-  pub stands : (m : SystemMarks) → IsSystem s a b m → CanStandIn (score_gaps s) width (system_columns s m)
-
--- A legal breaking of the score on a width: a rising list of bars that ends with the last, has every forced bar, and whose
--- spans can each be a system.
-pub record IsLegalIn (s : Score) (width : ℕ) (breaks : List ℕ) : Type 0 where
-  pub rises : RisesFrom 0 breaks
-  pub ends : last_from 0 breaks ≡ s.measures
-  pub every_forced : (f : ℕ) → f ≤ s.measures → is_forced_in s f ≡ true → Contains breaks f
-  pub fits : AllSpans (CanBeSystem s width) 0 breaks
 
 -- the breakings of a tune's entry, of which no bar is forced, are the legal breakings of its score
 abbrev pub BreakingsOfListing : Type 0

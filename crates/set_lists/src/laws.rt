@@ -20,17 +20,13 @@ pub fn lists_the_set()
 /// The law that the breakings of a tune's entry are the legal breakings of its score.
 pub fn breakings_of_listing()
     ensures { BreakingsOfListing }
-{
-    one_outcome();
-}
+{}
 
 /// The law that what `put_listing` writes of a book is a listing whose breakings are those of its
 /// scores.
 pub fn lists_the_book()
     ensures { ListsTheBook }
-{
-    one_outcome();
-}
+{}
 
 /// The law that a tune with a score is told to have no way exactly where its score has no legal
 /// breaking.

@@ -7,7 +7,7 @@ use Rattle.mus_score.specs.{declared.score.Score.Score, GoodScore.IsGoodScore}
 use Rattle.mus_laid.specs.Boxes.{AreGoodMarks}
 use Rattle.lay_breaks.specs.{declared.costs.Span.Span, Breaking.IsChosen, Breaking.IsPotential, Breaking.sum_from, Spans.AreSpans, Spans.listed}
 use Rattle.lay_pages.specs.{Filling.first_tall, Titles.title_block_of}
-use Rattle.lay_tune.specs.{Layout.IsNoWay, Spans.AreSpansOf, Spans.is_forced_in, Systems.Beside, Systems.EachSpan, Systems.IsSetSystem, Systems.IsStack}
+use Rattle.lay_tune.specs.{Breakings.IsLeastBreaking, Layout.IsNoWay, Spans.AreSpansOf, Spans.is_forced_in, Systems.Beside, Systems.EachSpan, Systems.IsSetSystem, Systems.IsStack}
 use Rattle.lay_shared.specs.{declared.plan.Plan.Plan, Alike.DoShare, Drawn.drawn_of, Plans.Spells, Plans.ids_of}
 use Rattle.mus_units.specs.declared.key.Key.{Key}
 use Rattle.mus_transpose.specs.Moved.{IsMoved}
@@ -66,13 +66,15 @@ pub record CantMove (tune : TuneText) (defaults : Defaults) (how : How) : Type 0
   pub draws : IsDrawn header.staves written (Ok drawn)
   pub moved : IsMoved drawn header.key how.by None
 
--- The score laid out on a width: the listed spans are exactly those that fit, the breaking is the chosen one over them, and each
--- of its systems has the marks that the score calls for, set to the width and tilted there, and its staves under one another.
+-- The score laid out on a width: the listed spans are exactly those that fit, the breaking is the chosen one over them and the one
+-- of least total of the score, and each of its systems has the marks that the score calls for, set to the width and tilted there,
+-- and its staves under one another.
 pub record IsLaidOut (width : ℕ) (t : SetTune) : Type 0 where
   pub form : AreSpans t.score.measures t.spans
   pub spans : AreSpansOf t.score width t.spans
   pub chosen : IsChosen (listed t.spans) (is_forced_in t.score) t.score.measures t.breaking.breaks
   pub total : t.breaking.total ≡ sum_from (listed t.spans) 0 t.breaking.breaks
+  pub least : IsLeastBreaking t.score width t.breaking.breaks t.breaking.total
   pub one_each : length t.breaking.potentials ≡ t.score.measures + 1
   pub potentials : (i : ℕ) → i ≤ t.score.measures → IsPotential (listed t.spans) (is_forced_in t.score) i (slice_index_or t.breaking.potentials i None)
   pub systems : EachSpan (IsSetSystem t.score width) 0 t.breaking.breaks t.systems t.placed
