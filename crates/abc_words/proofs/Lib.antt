@@ -4,4 +4,3 @@ pub mod OwnLaws
 pub mod Places
 pub mod VerseLaws
 pub mod WordLaws
-pub mod Worked
