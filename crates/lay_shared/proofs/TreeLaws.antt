@@ -138,31 +138,20 @@ closed-behind b c false bs leads staves got ss e h sound = absurd (none_some got
 closed-behind b c true bs leads staves got ss e h sound =
     (no_tree, ss, ap (λ x. Sign.Ends x ∷ ss) (same-is b c e), sound None bs (leads || is_empty bs) staves got (rw e at h))
 
-more_long : (us : List ℕ) (v : ℕ) (vs : List ℕ) → 1 ≤ length ((us ++ v ∷ []) ++ vs) → 1 ≤ length (us ++ v ∷ vs)
-more_long us v vs h = subst (λ s. 1 ≤ length s) (append_assoc us (v ∷ []) vs) h
-
 sound : (ss : List Sign) → Sound ss
 sound [] None [] leads staves got h = (no_tree, refl)
-sound [] None (b ∷ bs) leads staves got h = absurd (none_some got h)
-sound [] (Some us) bs leads staves got h = absurd (none_some got h)
 sound (Sign.Voice v ∷ ss) None bs leads staves got h = voice-behind v bs ss (sound ss None bs (is_empty bs) (staves ++ planned leads (v ∷ []) ∷ []) got h)
 sound (Sign.Voice v ∷ ss) (Some us) bs leads staves got h =
     let left = sound ss (Some (us ++ v ∷ [])) bs leads staves got h in
-    (v ∷ left.0, left.1, ap (λ s. Sign.Voice v ∷ s) left.2, more_long us v left.0 left.3, left.4)
-sound (Sign.Stranger ∷ ss) inside bs leads staves got h = absurd (none_some got h)
+    (v ∷ left.0, left.1, ap (λ s. Sign.Voice v ∷ s) left.2, subst (λ s. 1 ≤ length s) (append_assoc us (v ∷ []) left.0) left.3, left.4)
 sound (Sign.StaffOpens ∷ ss) None bs leads staves got h = staff-left bs ss (sound ss (Some []) bs leads staves got h)
-sound (Sign.StaffOpens ∷ ss) (Some us) bs leads staves got h = absurd (none_some got h)
-sound (Sign.StaffEnds ∷ ss) None bs leads staves got h = absurd (none_some got h)
-sound (Sign.StaffEnds ∷ ss) (Some []) bs leads staves got h = absurd (none_some got h)
 sound (Sign.StaffEnds ∷ ss) (Some (u ∷ us)) bs leads staves got h =
     ([], ss, refl, omega arith, sound ss None bs (is_empty bs) (staves ++ planned leads (u ∷ us) ∷ []) got h)
 sound (Sign.Opens b ∷ ss) None bs leads staves got h =
     let left = sound ss None (b ∷ bs) leads staves got h in
     group-behind b left.0 left.1 ss bs left.2 left.3
-sound (Sign.Opens b ∷ ss) (Some us) bs leads staves got h = absurd (none_some got h)
-sound (Sign.Ends b ∷ ss) None [] leads staves got h = absurd (none_some got h)
 sound (Sign.Ends b ∷ ss) None (c ∷ bs) leads staves got h = closed-behind b c (same_bracket b c) bs leads staves got ss refl h (sound ss)
-sound (Sign.Ends b ∷ ss) (Some us) bs leads staves got h = absurd (none_some got h)
+sound ss inside bs leads staves got h = absurd (none_some got h)
 
 pub run-trees : (ss : List Sign) (got : List PlannedStaff) → run start ss ≡ Some got → (trees : Trees) × (ss ≡ tree_signs trees [])
 run-trees ss got h = sound ss None [] true [] got h
