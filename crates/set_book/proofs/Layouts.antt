@@ -33,9 +33,6 @@ one_each P one a _ _ us _ vs h k = absurd h
 abbrev under : Score → SetTune → SetTune
 under s t = record t { score = s }
 
-laid_under : (width : ℕ) (s : Score) (t : SetTune) → t.score ≡ s → IsLaidOut width t → IsLaidOut width (under s t)
-laid_under width s t e h = subst (λ x. IsLaidOut width (under x t)) e h
-
 -- the chosen breaking and its sums, over the same spans
 breaks_over : (width : ℕ) (t : SetTune) (spans : List Span) → t.spans ≡ spans → IsLaidOut width t
     → IsBreaking (listed spans) (is_forced_in t.score) t.score.measures t.breaking
@@ -66,7 +63,7 @@ module _ (width : ℕ) (s : Score) (t u : SetTune) (h : IsLaidOut width (under s
 pub one_layout : (width : ℕ) (t u : SetTune) → t.score ≡ u.score → IsGoodScore t.score → IsLaidOut width t → IsLaidOut width u
     → (t.spans ≡ u.spans) × (t.breaking ≡ u.breaking) × (t.systems ≡ u.systems) × (t.placed ≡ u.placed) × (t.heights ≡ u.heights)
 one_layout width t u e _ h k =
-    let over = laid_under width t.score u (sym e) k in (
+    let over : IsLaidOut width (under t.score u) = subst (λ x. IsLaidOut width (under x u)) (sym e) k in (
       same_spans width t.score t u h over,
       same_breaking width t.score t u h over,
       (same_systems width t.score t u h over).0,
