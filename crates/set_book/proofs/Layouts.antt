@@ -22,11 +22,10 @@ one_each : {X Y : Type 0} (P : ℕ → ℕ → X → Y → Type 0) → ((a b : �
     → (a : ℕ) (breaks : List ℕ) (xs us : List X) (ys vs : List Y) → EachSpan P a breaks xs ys → EachSpan P a breaks us vs → (xs ≡ us) × (ys ≡ vs)
 one_each P one a [] [] [] [] [] h k = (refl, refl)
 one_each P one a [] [] us [] vs h k = absurd k
-one_each P one a (b ∷ bs) (x ∷ xs) [] (y ∷ ys) vs h k = absurd k
-one_each P one a (b ∷ bs) (x ∷ xs) (u ∷ us) (y ∷ ys) [] h k = absurd k
 one_each P one a (b ∷ bs) (x ∷ xs) (u ∷ us) (y ∷ ys) (v ∷ vs) h k =
     let e = one a b x u y v h.0 k.0 in let more = one_each P one b bs xs us ys vs h.1 k.1 in
     (ap (λ z. z ∷ xs) e.0 ∙ ap (λ t. u ∷ t) more.0, ap (λ z. z ∷ ys) e.1 ∙ ap (λ t. v ∷ t) more.1)
+one_each P one a (b ∷ bs) (x ∷ xs) us (y ∷ ys) vs h k = absurd k
 one_each P one a _ _ us _ vs h k = absurd h
 
 -- the same layout under the same score
