@@ -194,12 +194,11 @@ comes high ends group place block good = by block.keep refl (ends_page ends grou
     by false k true = even.next_page k refl (at_top high)
 
 come_behind : (high : ℕ) (ends : List ℕ) (group : ℕ) (place : Place) (blocks : List Block) → AreGoodBlocks blocks → ComeBehind high blocks (parted_from high ends group place blocks)
-come_behind high ends group place [] good = tt
-come_behind high ends group place (block ∷ []) good = tt
 come_behind high ends group place (block ∷ next ∷ more) good = (
   comes high ends group place block good.0.0,
   come_behind high (ends_behind (turns ends group block) ends) (groups_behind group block) (place_behind (turns ends group block) place block) (next ∷ more) good.1,
 )
+come_behind high ends group place blocks good = tt
 
 pub parted_stacked : (high : ℕ) (breaks : List ℕ) (blocks : List Block) → AreGoodBlocks blocks → AreStacked high blocks (parted_spots high breaks blocks)
 parted_stacked high breaks [] good = (tt, tt)
@@ -217,9 +216,8 @@ filled_behind high blocks spots follow same = tt
 
 pub within_count : (high : ℕ) (blocks : List Block) (spots : List Spot) → AreWithin high blocks spots → length spots ≡ length blocks
 within_count high [] [] within = refl
-within_count high [] (spot ∷ spots) within = absurd within
-within_count high (block ∷ blocks) [] within = absurd within
 within_count high (block ∷ blocks) (spot ∷ spots) within = ap suc (within_count high blocks spots within.1)
+within_count high blocks spots within = absurd within
 
 pub filled_stacked : (high : ℕ) (blocks : List Block) (spots : List Spot) → AreWithin high blocks spots → AreFilled high blocks spots → AreStacked high blocks spots
 filled_stacked high blocks spots within fill = (fill.0, filled_behind high blocks spots fill.1 (within_count high blocks spots within))
