@@ -111,9 +111,8 @@ none_picked f [] = refl
 none_picked f (k ∷ ks) = none_picked f ks
 
 at_most : (n x : ℕ) → n ≤ 1 → n * x ≤ x
-at_most zero x h = omega arith
-at_most (suc zero) x h = omega arith
 at_most (suc (suc n)) x h = absurd (omega (arith, h))
+at_most n x h = omega arith
 
 picked-le : (f : Voice → ℕ) (voices : List Voice) (ks : List ℕ) → IsOnce ks → sum_by f (picked voices ks) ≤ sum_by f voices
 picked-le f [] ks once = let none = none_picked f ks in omega (arith, none)

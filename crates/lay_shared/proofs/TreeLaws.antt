@@ -27,14 +27,12 @@ leads_behind leads [] = leads
 leads_behind leads (vs ∷ more) = false
 
 leads-append : (leads : Bool) (a b : List (List ℕ)) → leads_behind leads (a ++ b) ≡ leads_behind (leads_behind leads a) b
-leads-append leads [] b = refl
-leads-append leads (x ∷ a) [] = refl
 leads-append leads (x ∷ a) (y ∷ b) = refl
+leads-append leads a b = refl
 
 group-append : (leads : Bool) (a b : List (List ℕ)) → group_of leads (a ++ b) ≡ group_of leads a ++ group_of (leads_behind leads a) b
-group-append leads [] b = refl
-group-append leads (x ∷ []) b = refl
 group-append leads (x ∷ y ∷ a) b = ap (λ s. planned leads x ∷ s) (group-append false (y ∷ a) b)
+group-append leads a b = refl
 
 or_false : (b : Bool) → (b || false) ≡ b
 or_false true = refl
@@ -124,10 +122,9 @@ pub none_some : {X : Type 0} (x : X) → None ≡ Some x → ⊥
 none_some x e = cc
 
 same-is : (b c : Bracket) → same_bracket b c ≡ true → b ≡ c
-same-is Bracket.Square Bracket.Square e = refl
-same-is Bracket.Curly Bracket.Curly e = refl
 same-is Bracket.Square Bracket.Curly e = cc
 same-is Bracket.Curly Bracket.Square e = cc
+same-is b c e = refl
 
 abbrev Sound : List Sign → Type 0
 Sound ss = (inside : Option (List ℕ)) (bs : List Bracket) (leads : Bool) (staves got : List PlannedStaff) → run (reading inside bs leads staves) ss ≡ Some got → Left inside bs ss
