@@ -58,14 +58,12 @@ put_front width ds (s ∷ ss) same rising =
     record { rest = record { items = (with_drawings width no_pages ds (s ∷ ss)).items } ∷ []; whole = sym (all_put width ds s ss same rising) }
 
 rising_take_from : (n page : ℕ) (ss : List Spot) → AreRisingFrom page ss → AreRisingFrom page (take n ss)
-rising_take_from zero page ss rising = tt
-rising_take_from (suc n) page [] rising = tt
 rising_take_from (suc n) page (s ∷ ss) rising = (rising.0, rising_take_from n s.page ss rising.1)
+rising_take_from n page ss rising = tt
 
 rising_take : (n : ℕ) (ss : List Spot) → AreRising ss → AreRising (take n ss)
-rising_take zero ss rising = tt
-rising_take (suc n) [] rising = tt
 rising_take (suc n) (s ∷ ss) rising = (rising.0, rising_take_from n s.page ss rising.1)
+rising_take n ss rising = tt
 
 pub plan_rising : (plan : Plan) (paper : Paper) (outcomes : List Outcome) → RisesBy plan → AreRising (all_spots plan paper outcomes)
 plan_rising Plan.Filled paper outcomes rising = rises (height_of paper) (all_blocks outcomes)

@@ -43,9 +43,8 @@ put_items width p (d ∷ ds) (s ∷ ss) =
 
 pub page_items : (width : ℕ) (ds : List Drawing) (ss : List Spot) → length ds ≡ length ss → AreRising ss → items_in (pages_of width ds ss) ≡ items_at width ds ss
 page_items width [] [] same rising = refl
-page_items width [] (s ∷ ss) same rising = absurd (omega (arith, same))
-page_items width (d ∷ ds) [] same rising = absurd (omega (arith, same))
 page_items width (d ∷ ds) (s ∷ ss) same rising = ap items_in (sym (all_put width (d ∷ ds) s ss same rising)) ∙ put_items width no_pages (d ∷ ds) (s ∷ ss)
+page_items width ds ss same rising = absurd (omega (arith, same))
 
 -- cut behind some of the blocks
 none_at : (width : ℕ) (ds : List Drawing) → items_at width ds [] ≡ []
@@ -61,15 +60,13 @@ cut_items width (x ∷ xs) ys (s ∷ ss) = ap (λ l. drawn width s.top x ++ l) (
 module _ (paper : Paper) (s : Score) (a b : ℕ) (m : SystemMarks) (p : Placed) (h : Heights) (top : ℤ) (set : IsSetSystem s (width_of paper) a b m p) (laid : IsLaidSystem s (width_of paper) m p h)
     (below : top ≤ℤ pos (height_of paper)) (above : pos 0 ≤ℤ (top -ℤ h.height)) where
   staves_wide : (staves : List StaffMarks) (bases : List ℤ) → All (λ (staff : Staff). staff.width ≡ width_of paper) (staves_at (width_of paper) p.at top staves bases)
-  staves_wide [] bases = All-nil (λ (staff : Staff). staff.width ≡ width_of paper)
-  staves_wide (staff ∷ staves) [] = All-nil (λ (staff : Staff). staff.width ≡ width_of paper)
   staves_wide (staff ∷ staves) (base ∷ bases) = All-cons (λ (staff : Staff). staff.width ≡ width_of paper) _ _ refl (staves_wide staves bases)
+  staves_wide staves bases = All-nil (λ (staff : Staff). staff.width ≡ width_of paper)
 
   staves_heights : (staves : List StaffMarks) (bases : List ℤ) → length bases ≡ length staves → map (λ (staff : Staff). staff.y) (staves_at (width_of paper) p.at top staves bases) ≡ map (λ base. top +ℤ base) bases
   staves_heights [] [] same = refl
-  staves_heights [] (base ∷ bases) same = absurd (omega (arith, same))
-  staves_heights (staff ∷ staves) [] same = absurd (omega (arith, same))
   staves_heights (staff ∷ staves) (base ∷ bases) same = ap (λ l. (top +ℤ base) ∷ l) (staves_heights staves bases (omega (arith, same)))
+  staves_heights staves bases same = absurd (omega (arith, same))
 
   shows_system : ShowsSystem paper (gaps_between s.voices) a b m p (system_at (width_of paper) p.at top m h.bases)
   shows_system =
