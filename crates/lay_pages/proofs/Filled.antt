@@ -34,9 +34,8 @@ follows high place block more good = by block.keep refl (nat_le (under place blo
   by false k false f = goes k f (at false cc)
 
 follow_on : (high : ℕ) (place : Place) (blocks : List Block) → AreGoodBlocks blocks → FollowOn high blocks (spots_from high place blocks)
-follow_on high place [] good = tt
-follow_on high place (block ∷ []) good = tt
 follow_on high place (block ∷ next ∷ more) good = (follows high place block (next ∷ more) good.0.0, follow_on high (next_place high place block (next ∷ more)) (next ∷ more) good.1)
+follow_on high place blocks good = tt
 
 pub filled_so : (high : ℕ) (blocks : List Block) → AreGoodBlocks blocks → AreFilled high blocks (spots_of high blocks)
 filled_so high [] good = (tt, tt)

@@ -42,14 +42,19 @@ fits_high : (tied : Bool) (high height : ℕ) → (not tied && nat_lt high heigh
 fits_high true high height e f = absurd cc
 fits_high false high height e f = grind (arith, nat_tests)
 
+-- behind a block that is not tied, the first group fits where it is placed
+loose_room : (keep : Bool) (page down others high : ℕ) → keep ≡ false → others ≤ high → (place_by (keep || nat_le (down + others) high) page down).down + others ≤ high
+loose_room true page down others high e low = absurd cc
+loose_room false page down others high e low = by_test (nat_le (down + others) high) refl where
+  by_test : (b : Bool) → nat_le (down + others) high ≡ b → (place_by b page down).down + others ≤ high
+  by_test true e = grind (arith, nat_tests)
+  by_test false e = omega (arith, low)
+
 -- where the next block is placed, its group fits
 next_fits : (keep : Bool) (page down height others high : ℕ) → down + with_kept keep height others ≤ high → (keep ≡ false → others ≤ high) →
     (place_by (keep || nat_le (down + height + 1500 + others) high) page (down + height + 1500)).down + others ≤ high
 next_fits true page down height others high fits new = omega arith
-next_fits false page down height others high fits new = by_test (nat_le (down + height + 1500 + others) high) refl where
-  by_test : (b : Bool) → nat_le (down + height + 1500 + others) high ≡ b → (place_by b page (down + height + 1500)).down + others ≤ high
-  by_test true e = grind (arith, nat_tests)
-  by_test false e = let fits_new = new refl in omega (arith, fits_new)
+next_fits false page down height others high fits new = loose_room false page (down + height + 1500) others high refl (new refl)
 
 pub ready_next : (high : ℕ) (place : Place) (block next : Block) (more : List Block) → IsReady high place (block ∷ next ∷ more) → IsReady high (next_place high place block (next ∷ more)) (next ∷ more)
 ready_next high place block next more ready =
@@ -103,14 +108,6 @@ standing_more high place next block rest (b ∷ more) last cut some then so_far 
 pub some_of : (blocks : List Block) → false ≡ (length blocks == 0) → blocks ≡ [] → ⊥
 some_of [] e h = cc
 some_of (block ∷ blocks) e h = cc
-
--- behind a block that is not tied, the first group fits where it is placed
-loose_room : (keep : Bool) (page down others high : ℕ) → keep ≡ false → others ≤ high → (place_by (keep || nat_le (down + others) high) page down).down + others ≤ high
-loose_room true page down others high e low = absurd cc
-loose_room false page down others high e low = by_test (nat_le (down + others) high) refl where
-  by_test : (b : Bool) → nat_le (down + others) high ≡ b → (place_by b page down).down + others ≤ high
-  by_test true e = grind (arith, nat_tests)
-  by_test false e = omega (arith, low)
 
 pub first_room : (high : ℕ) (behind : Option Standing) (blocks : List Block) → CanFollow behind → tall_from high 0 false blocks ≡ None → (first_place high behind blocks).down + group_height blocks ≤ high
 first_room high None blocks can none = (ready_first high blocks none).fits

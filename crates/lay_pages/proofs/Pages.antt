@@ -3,7 +3,7 @@ use Rattle.std.proofs.Common.{◌≡◌, refl, ap, sym, ◌∙◌, subst, ℕ, z
 use Rattle.std.specs.Prelude.{◌==◌, ◌&&◌, nat_le, if◌then◌else◌, IfOk, IsSome, Some, None, Result, Ok, Err}
 use Rattle.std.proofs.{lemmas.Bool.Decides.nat_tests, lemmas.Int.ints, lemmas.List.drop-drop, lemmas.List.drop_all, Math.Seq.drop-nil, lemmas.List.Elements.All-drop, lemmas.List.Elements.All-head}
 use Rattle.lay_breaks.{specs.Breaking.FitsFrom, specs.Breaking.IsChosen, specs.Breaking.NoneLegal, specs.Breaking.RisesFrom, specs.Breaking.last_from, proofs.Unique.one_is_chosen}
-use Rattle.lay_pages.specs.Even.{AreEven, AreFitting, AreHeights, AreSpots, AreStacked, ComesBehind, ComeBehind, ends_behind, ends_page, groups_behind, filled, parted, group_heights, heights_from, most_groups, page_cost, page_height, parted_from, parted_spots, place_behind, span_height, square, stacked, turns}
+use Rattle.lay_pages.specs.Even.{AreEven, AreFitting, AreHeights, AreSpots, AreStacked, ComesBehind, ComeBehind, ends_behind, ends_page, groups_behind, filled, parted, group_heights, heights_from, page_cost, page_height, parted_from, parted_spots, place_behind, span_height, square, stacked, turns}
 use Rattle.lay_pages.specs.{declared.filling.Block.Block, declared.filling.Place.Place, declared.filling.Spot.Spot, declared.filling.PageError.PageError, Filling.AreGoodBlocks, Filling.AreFilled, Filling.AreWithin, Filling.FollowOn, Filling.Follows, Filling.same_page, Filling.next_page}
 use Rattle.lay_pages.{specs.Filling.group_height, specs.Filling.height_of, specs.Filling.spot_at, specs.Filling.with_kept, proofs.Filled.at_top, proofs.Filled.below, proofs.Fitting.bottom_within, proofs.Fitting.first_low, proofs.Fitting.top_within}
 use Rattle.lay_pages.specs.Even as even
@@ -194,12 +194,11 @@ comes high ends group place block good = by block.keep refl (ends_page ends grou
     by false k true = even.next_page k refl (at_top high)
 
 come_behind : (high : ℕ) (ends : List ℕ) (group : ℕ) (place : Place) (blocks : List Block) → AreGoodBlocks blocks → ComeBehind high blocks (parted_from high ends group place blocks)
-come_behind high ends group place [] good = tt
-come_behind high ends group place (block ∷ []) good = tt
 come_behind high ends group place (block ∷ next ∷ more) good = (
   comes high ends group place block good.0.0,
   come_behind high (ends_behind (turns ends group block) ends) (groups_behind group block) (place_behind (turns ends group block) place block) (next ∷ more) good.1,
 )
+come_behind high ends group place blocks good = tt
 
 pub parted_stacked : (high : ℕ) (breaks : List ℕ) (blocks : List Block) → AreGoodBlocks blocks → AreStacked high blocks (parted_spots high breaks blocks)
 parted_stacked high breaks [] good = (tt, tt)
@@ -207,21 +206,18 @@ parted_stacked high breaks (block ∷ more) good = ((refl, at_top high), come_be
 
 -- the same of blocks that are filled
 filled_behind : (high : ℕ) (blocks : List Block) (spots : List Spot) → FollowOn high blocks spots → length spots ≡ length blocks → ComeBehind high blocks spots
-filled_behind high [] spots follow same = tt
-filled_behind high (block ∷ blocks) [] follow same = tt
-filled_behind high (block ∷ blocks) (spot ∷ []) follow same = tt
 filled_behind high (block ∷ []) (spot ∷ next ∷ spots) follow same = absurd (omega (arith, same))
 filled_behind high (block ∷ b ∷ more) (spot ∷ next ∷ spots) follow same = (one follow.0, filled_behind high (b ∷ more) (next ∷ spots) follow.1 (omega (arith, same)))
   where
     one : Follows high block spot (b ∷ more) next → ComesBehind high block spot next
     one (same_page page top) = even.same_page page top
     one (next_page loose past page top) = even.next_page loose page top
+filled_behind high blocks spots follow same = tt
 
-within_count : (high : ℕ) (blocks : List Block) (spots : List Spot) → AreWithin high blocks spots → length spots ≡ length blocks
+pub within_count : (high : ℕ) (blocks : List Block) (spots : List Spot) → AreWithin high blocks spots → length spots ≡ length blocks
 within_count high [] [] within = refl
-within_count high [] (spot ∷ spots) within = absurd within
-within_count high (block ∷ blocks) [] within = absurd within
 within_count high (block ∷ blocks) (spot ∷ spots) within = ap suc (within_count high blocks spots within.1)
+within_count high blocks spots within = absurd within
 
 pub filled_stacked : (high : ℕ) (blocks : List Block) (spots : List Spot) → AreWithin high blocks spots → AreFilled high blocks spots → AreStacked high blocks spots
 filled_stacked high blocks spots within fill = (fill.0, filled_behind high blocks spots fill.1 (within_count high blocks spots within))
@@ -235,16 +231,6 @@ pub chosen_fits : (high : ℕ) (blocks : List Block) (heights : List ℤ) (group
     → IsChosen (page_cost high heights) (λ b. false) groups breaks → AreFitting high 0 0 breaks (group_heights blocks)
 chosen_fits high blocks heights groups breaks is count chosen =
     subst (AreFitting high 0 0 breaks) is (fitting high heights 0 breaks chosen.legal.rises (chosen.legal.ends ∙ count) chosen.legal.fits)
-
-pub parted_so : (high : ℕ) (blocks : List Block) (heights : List ℤ) (groups : ℕ) (breaks at : List ℕ) (spots : List Spot) → heights ≡ group_heights blocks → groups ≡ length heights → groups ≤ most_groups
-    → IsChosen (page_cost high heights) (λ b. false) groups breaks → at ≡ breaks → spots ≡ parted_spots high at blocks → AreSpots true high blocks spots
-parted_so high blocks heights groups breaks at spots is count few chosen same value =
-    let all : groups ≡ length (group_heights blocks) = count ∙ ap length is in
-    parted refl (omega (arith, all, few)) (record {
-      breaks = breaks;
-      chosen = subst (λ n. IsChosen (page_cost high (group_heights blocks)) (λ b. false) n breaks) all (subst (λ hs. IsChosen (page_cost high hs) (λ b. false) groups breaks) is chosen);
-      value = value ∙ ap (λ bs. parted_spots high bs blocks) same;
-    })
 
 -- ---- one parting is chosen, so blocks have one list of spots
 pub one_spots : (even : Bool) (high : ℕ) (blocks : List Block) (spots others : List Spot) → AreSpots even high blocks spots → AreSpots even high blocks others → spots ≡ others

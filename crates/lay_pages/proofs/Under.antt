@@ -33,14 +33,13 @@ further_down bottom gap = omega (arith, ints)
 stacked_from : (top base low : ℕ) (gaps : List ℕ) (staff : StaffMarks) (more : List StaffMarks) → base ≡ top + above_base staff.high → low ≡ base + below_base staff.low
     → length gaps ≡ length more → AreGoodStaves (staff ∷ more) → AreStacked (under_top top) gaps (staff ∷ more) (under_top base ∷ bases_behind low more gaps) (under_top (bottom_behind low more gaps))
 stacked_from top base low [] staff [] up down count good = (at_top top base staff.high up good.0.1, at_bottom base low staff.low down good.0.0)
-stacked_from top base low [] staff (next ∷ more) up down count good = absurd (omega (arith, count))
-stacked_from top base low (gap ∷ gaps) staff [] up down count good = absurd (omega (arith, count))
 stacked_from top base low (gap ∷ gaps) staff (next ∷ more) up down count good = (
   at_top top base staff.high up good.0.1,
   subst (λ z. AreStacked z gaps (next ∷ more) (bases_behind low (next ∷ more) (gap ∷ gaps)) (under_top (bottom_behind low (next ∷ more) (gap ∷ gaps))))
       (sym (further_down low gap) ∙ ap (λ z. z -ℤ pos gap) (at_bottom base low staff.low down good.0.0))
       (stacked_from (low + gap) (low + gap + above_base next.high) (low + gap + above_base next.high + below_base next.low) gaps next more refl refl (omega (arith, count)) good.1),
 )
+stacked_from top base low gaps staff more up down count good = absurd (omega (arith, count))
 
 pub stacked_so : (gaps : List ℕ) (staves : List StaffMarks) → length gaps ≡ length staves - 1 → AreGoodStaves staves
     → AreStacked (pos 0) gaps staves (bases_under staves gaps) (under_top (bottom_under staves gaps))

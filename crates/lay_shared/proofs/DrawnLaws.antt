@@ -1,7 +1,7 @@
 -- The score that is drawn is a good one.
 use Rattle.std.proofs.Common.{◌≡◌, ◌≢◌, refl, sym, ap, ◌∙◌, subst, ℕ, zero, suc, ◌+◌, ◌*◌, ◌<◌, ◌≤◌, List, [], ◌∷◌, ◌++◌, Bool, true, false, length, map, arith, inl, inr}
 use Rattle.std.specs.Prelude.{All, AllPairs, Option, Some, None, flat_map, slice_get, sum_by}
-use Rattle.std.proofs.lemmas.{Bool.cases_lt, List.map-append, List.Sums.sum_by-cons, List.Elements.All-from_recursion, Option.get_or_from_slice_get, Option.slice_get_cases, Option.slice_get_within}
+use Rattle.std.proofs.lemmas.{Bool.cases_lt, List.map-append, List.Sums.sum_by-append, List.Sums.sum_by-cons, List.Elements.All-from_recursion, Option.get_or_from_slice_get, Option.slice_get_cases, Option.slice_get_within}
 use Rattle.std.specs.{List.AllByRecursion, Option.option_to_list}
 use Rattle.mus_score.{specs.declared.score.Score.Score, specs.declared.score.Voice.Voice, specs.Seats.is_lower, specs.Walks.Distinct, specs.GoodScore.IsGoodScore, specs.GoodScore.IsGoodVoice, specs.GoodScore.IsLed, specs.GoodScore.voice_weight, proofs.Scores.distinct_pairs}
 use Rattle.lay_shared.specs.{declared.drawing.Sit.Sit, declared.plan.Plan.Plan, declared.plan.PlannedStaff.PlannedStaff, Drawn.drawn_at, Drawn.drawn_of, Drawn.gap_of, Drawn.leading, Drawn.lower, Drawn.seated, Drawn.sit, Drawn.sits_of, Drawn.staff_sits, Plans.IsOnce, Plans.IsPlanFor, Plans.voices_of}
@@ -97,16 +97,12 @@ one_zero [] h = omega arith
 one_zero (zero ∷ ks) h = let none = no_zero ks h.0 in omega (arith, none)
 one_zero (suc k ∷ ks) h = one_zero ks h.1
 
-sum_both : (f : Voice → ℕ) (xs ys : List Voice) → sum_by f (xs ++ ys) ≡ sum_by f xs + sum_by f ys
-sum_both f [] ys = let none : sum_by f ys ≡ 0 + sum_by f ys = omega arith in none
-sum_both f (x ∷ xs) ys = rw (sum_by-cons f x (xs ++ ys), sum_by-cons f x xs, sum_both f xs ys) (omega arith)
-
 picked_sum : (f : Voice → ℕ) (v : Voice) (voices : List Voice) (ks : List ℕ) → sum_by f (picked (v ∷ voices) ks) ≡ zeros ks * f v + sum_by f (picked voices (further ks))
 picked_sum f v voices [] = let none : 0 ≡ 0 * f v + 0 = omega arith in none
 picked_sum f v voices (zero ∷ ks) = sum_by-cons f v (picked (v ∷ voices) ks) ∙ ap (λ n. f v + n) (picked_sum f v voices ks) ∙ omega arith
 picked_sum f v voices (suc k ∷ ks) =
-    let here = sum_both f (option_to_list (slice_get voices k)) (picked (v ∷ voices) ks) in
-    let there = sum_both f (option_to_list (slice_get voices k)) (picked voices (further ks)) in
+    let here = sum_by-append f (option_to_list (slice_get voices k)) (picked (v ∷ voices) ks) in
+    let there = sum_by-append f (option_to_list (slice_get voices k)) (picked voices (further ks)) in
     let more = picked_sum f v voices ks in
     omega (arith, here, there, more)
 
@@ -115,9 +111,8 @@ none_picked f [] = refl
 none_picked f (k ∷ ks) = none_picked f ks
 
 at_most : (n x : ℕ) → n ≤ 1 → n * x ≤ x
-at_most zero x h = omega arith
-at_most (suc zero) x h = omega arith
 at_most (suc (suc n)) x h = absurd (omega (arith, h))
+at_most n x h = omega arith
 
 picked-le : (f : Voice → ℕ) (voices : List Voice) (ks : List ℕ) → IsOnce ks → sum_by f (picked voices ks) ≤ sum_by f voices
 picked-le f [] ks once = let none = none_picked f ks in omega (arith, none)

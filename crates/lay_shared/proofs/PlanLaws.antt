@@ -109,10 +109,7 @@ named-known : (ids : List (List ℕ)) (ss : List Sign) (text : List ℕ) → Wri
 named-known ids [] text h = tt
 named-known ids (Sign.Voice v ∷ ss) text (behind, first, more) = (first.stands.known, named-known ids ss behind more)
 named-known ids (Sign.Stranger ∷ ss) text (behind, first, more) = absurd first.stands
-named-known ids (Sign.StaffOpens ∷ ss) text (behind, first, more) = named-known ids ss behind more
-named-known ids (Sign.StaffEnds ∷ ss) text (behind, first, more) = named-known ids ss behind more
-named-known ids (Sign.Opens b ∷ ss) text (behind, first, more) = named-known ids ss behind more
-named-known ids (Sign.Ends b ∷ ss) text (behind, first, more) = named-known ids ss behind more
+named-known ids (sign ∷ ss) text (behind, first, more) = named-known ids ss behind more
 
 abbrev IsFull : PlannedStaff → Type 0
 IsFull staff = 1 ≤ length staff.voices
@@ -155,9 +152,6 @@ spelled-plan ids text plan is =
 some_same : {X : Type 0} (x y : X) → Some x ≡ Some y → x ≡ y
 some_same x y e = cc
 
-staves_same : (trees : Trees) (ss : List Sign) (staves : List PlannedStaff) → ss ≡ tree_signs trees [] → run start ss ≡ Some staves → staves ≡ staves_of trees
-staves_same trees ss staves e h = some_same staves (staves_of trees) (sym h ∙ ap (run start) e ∙ trees-run trees)
-
 spells_if : (ids : List (List ℕ)) (text : List ℕ) (fair : Bool) (got : Option (List PlannedStaff)) → is_fair (named (signs_from ids [] text)) ≡ fair → run start (signs_from ids [] text) ≡ got
     → IfSome (plan_if fair got) (Spells ids text)
 spells_if ids text false got e h = tt
@@ -174,7 +168,7 @@ spells_if ids text true (Some staves) e h =
       paired = found.1;
       once = once-is (named ss) parts.1;
       some = leb-true 1 (length (named ss)) parts.0;
-      staves = staves_same found.0 ss staves found.1 h;
+      staves = some_same staves (staves_of found.0) (sym h ∙ ap (run start) found.1 ∙ trees-run found.0);
     }
 
 pub read-spells : (ids : List (List ℕ)) (text : List ℕ) → IfSome (plan_by (signs_from ids [] text)) (Spells ids text)

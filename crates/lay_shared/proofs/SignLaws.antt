@@ -153,12 +153,9 @@ sign-read ids (Sign.Voice v) behind apart stands =
     ∙ word-ends ids (id_at ids v) behind stands.parted
     ∙ ap (λ ss. ss ++ signs_from ids [] behind) (voice_read ids v (id_at ids v) (place-found ids v apart stands.known) stands.some)
 sign-read ids Sign.Stranger behind apart stands = absurd stands
-sign-read ids Sign.StaffOpens behind apart stands = refl
-sign-read ids Sign.StaffEnds behind apart stands = refl
 sign-read ids (Sign.Opens Bracket.Square) behind apart stands = refl
-sign-read ids (Sign.Opens Bracket.Curly) behind apart stands = refl
 sign-read ids (Sign.Ends Bracket.Square) behind apart stands = refl
-sign-read ids (Sign.Ends Bracket.Curly) behind apart stands = refl
+sign-read ids sign behind apart stands = refl
 
 pub text-read : (ids : List (List ℕ)) (ss : List Sign) (text : List ℕ) → AreApart ids → Writes ids ss text → signs_from ids [] text ≡ ss
 text-read ids [] text apart h = ap (signs_from ids []) (sym (append-nil text)) ∙ over-passed ids text [] h

@@ -27,14 +27,12 @@ leads_behind leads [] = leads
 leads_behind leads (vs ∷ more) = false
 
 leads-append : (leads : Bool) (a b : List (List ℕ)) → leads_behind leads (a ++ b) ≡ leads_behind (leads_behind leads a) b
-leads-append leads [] b = refl
-leads-append leads (x ∷ a) [] = refl
 leads-append leads (x ∷ a) (y ∷ b) = refl
+leads-append leads a b = refl
 
 group-append : (leads : Bool) (a b : List (List ℕ)) → group_of leads (a ++ b) ≡ group_of leads a ++ group_of (leads_behind leads a) b
-group-append leads [] b = refl
-group-append leads (x ∷ []) b = refl
 group-append leads (x ∷ y ∷ a) b = ap (λ s. planned leads x ∷ s) (group-append false (y ∷ a) b)
+group-append leads a b = refl
 
 or_false : (b : Bool) → (b || false) ≡ b
 or_false true = refl
@@ -124,10 +122,9 @@ pub none_some : {X : Type 0} (x : X) → None ≡ Some x → ⊥
 none_some x e = cc
 
 same-is : (b c : Bracket) → same_bracket b c ≡ true → b ≡ c
-same-is Bracket.Square Bracket.Square e = refl
-same-is Bracket.Curly Bracket.Curly e = refl
 same-is Bracket.Square Bracket.Curly e = cc
 same-is Bracket.Curly Bracket.Square e = cc
+same-is b c e = refl
 
 abbrev Sound : List Sign → Type 0
 Sound ss = (inside : Option (List ℕ)) (bs : List Bracket) (leads : Bool) (staves got : List PlannedStaff) → run (reading inside bs leads staves) ss ≡ Some got → Left inside bs ss
@@ -138,31 +135,20 @@ closed-behind b c false bs leads staves got ss e h sound = absurd (none_some got
 closed-behind b c true bs leads staves got ss e h sound =
     (no_tree, ss, ap (λ x. Sign.Ends x ∷ ss) (same-is b c e), sound None bs (leads || is_empty bs) staves got (rw e at h))
 
-more_long : (us : List ℕ) (v : ℕ) (vs : List ℕ) → 1 ≤ length ((us ++ v ∷ []) ++ vs) → 1 ≤ length (us ++ v ∷ vs)
-more_long us v vs h = subst (λ s. 1 ≤ length s) (append_assoc us (v ∷ []) vs) h
-
 sound : (ss : List Sign) → Sound ss
 sound [] None [] leads staves got h = (no_tree, refl)
-sound [] None (b ∷ bs) leads staves got h = absurd (none_some got h)
-sound [] (Some us) bs leads staves got h = absurd (none_some got h)
 sound (Sign.Voice v ∷ ss) None bs leads staves got h = voice-behind v bs ss (sound ss None bs (is_empty bs) (staves ++ planned leads (v ∷ []) ∷ []) got h)
 sound (Sign.Voice v ∷ ss) (Some us) bs leads staves got h =
     let left = sound ss (Some (us ++ v ∷ [])) bs leads staves got h in
-    (v ∷ left.0, left.1, ap (λ s. Sign.Voice v ∷ s) left.2, more_long us v left.0 left.3, left.4)
-sound (Sign.Stranger ∷ ss) inside bs leads staves got h = absurd (none_some got h)
+    (v ∷ left.0, left.1, ap (λ s. Sign.Voice v ∷ s) left.2, subst (λ s. 1 ≤ length s) (append_assoc us (v ∷ []) left.0) left.3, left.4)
 sound (Sign.StaffOpens ∷ ss) None bs leads staves got h = staff-left bs ss (sound ss (Some []) bs leads staves got h)
-sound (Sign.StaffOpens ∷ ss) (Some us) bs leads staves got h = absurd (none_some got h)
-sound (Sign.StaffEnds ∷ ss) None bs leads staves got h = absurd (none_some got h)
-sound (Sign.StaffEnds ∷ ss) (Some []) bs leads staves got h = absurd (none_some got h)
 sound (Sign.StaffEnds ∷ ss) (Some (u ∷ us)) bs leads staves got h =
     ([], ss, refl, omega arith, sound ss None bs (is_empty bs) (staves ++ planned leads (u ∷ us) ∷ []) got h)
 sound (Sign.Opens b ∷ ss) None bs leads staves got h =
     let left = sound ss None (b ∷ bs) leads staves got h in
     group-behind b left.0 left.1 ss bs left.2 left.3
-sound (Sign.Opens b ∷ ss) (Some us) bs leads staves got h = absurd (none_some got h)
-sound (Sign.Ends b ∷ ss) None [] leads staves got h = absurd (none_some got h)
 sound (Sign.Ends b ∷ ss) None (c ∷ bs) leads staves got h = closed-behind b c (same_bracket b c) bs leads staves got ss refl h (sound ss)
-sound (Sign.Ends b ∷ ss) (Some us) bs leads staves got h = absurd (none_some got h)
+sound ss inside bs leads staves got h = absurd (none_some got h)
 
 pub run-trees : (ss : List Sign) (got : List PlannedStaff) → run start ss ≡ Some got → (trees : Trees) × (ss ≡ tree_signs trees [])
 run-trees ss got h = sound ss None [] true [] got h

@@ -37,26 +37,20 @@ pub fn put_trial(out: &mut Text, trial: &Trial) -> Result<(), Memory>
 pub fn set_count(outcomes: &[Outcome]) -> u64
     ensures { result ≡ set_count outcomes.now }
 {
-    let mut count = 0;
-    for outcome in outcomes {
-        if outcome.result.is_ok() {
-            count += 1;
-        }
-    }
-    count
+    outcomes
+        .iter()
+        .filter(|outcome| outcome.result.is_ok())
+        .count() as u64
 }
 
 /// How many tunes have a fault.
 pub fn fault_count(outcomes: &[Outcome]) -> u64
     ensures { result ≡ fault_count outcomes.now }
 {
-    let mut count = 0;
-    for outcome in outcomes {
-        if outcome.result.is_err() {
-            count += 1;
-        }
-    }
-    count
+    outcomes
+        .iter()
+        .filter(|outcome| outcome.result.is_err())
+        .count() as u64
 }
 
 fn systems_in(outcome: &Outcome) -> u64
