@@ -96,12 +96,13 @@ one_judged e j k a b v w =
 one_verdicts : (es : List Entry) (js ks : List Judged) → AreVerdicts es js → AreVerdicts es ks → js ≡ ks
 one_verdicts [] [] [] a b = refl
 one_verdicts [] [] (k ∷ ks) a b = absurd b
+one_verdicts [] (j ∷ js) ks a b = absurd a
+one_verdicts (e ∷ es) [] ks a b = absurd a
 one_verdicts (e ∷ es) (j ∷ js) [] a b = absurd b
 one_verdicts (e ∷ es) (j ∷ js) (k ∷ ks) a b =
     let first = one_judged e j k a.0 b.0 a.1 b.1 in
     let others = one_verdicts es js ks a.2 b.2 in
     cc
-one_verdicts es js ks a b = absurd a
 
 judged_once : (text : List ℕ) (js ks : List Judged) → IsJudged text js → IsJudged text ks → js ≡ ks
 judged_once text js ks a b = one_verdicts a.0 js ks a.2 (subst (λ es. AreVerdicts es ks) (tells_one text b.0 a.0 b.1 a.1) b.2)

@@ -14,8 +14,9 @@ stream before after count_before count_after = record { before = before; after =
 
 -- a front of a text is a front of what the text begins
 take_longer : (n : ℕ) (xs ys : List ℕ) → (m : ℕ) × (take m (xs ++ ys) ≡ take n xs)
+take_longer zero xs ys = (0, refl)
+take_longer (suc n) [] ys = (0, refl)
 take_longer (suc n) (x ∷ xs) ys = let more = take_longer n xs ys in (suc more.0, ap (λ l. x ∷ l) more.1)
-take_longer n xs ys = (0, refl)
 
 pub front_longer : (o : Stream) (xs ys : List ℕ) → HasFront o xs → HasFront o (xs ++ ys)
 front_longer o xs ys front =

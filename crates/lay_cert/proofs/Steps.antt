@@ -4,7 +4,7 @@ use Rattle.std.proofs.{lemmas.Bool.cases_lt, lemmas.Bool.true≢false, lemmas.Bo
 use mathlib.Core.List.{append_assoc, append-nil}
 use Rattle.lay_breaks.specs.{Breaking.IsLegal, Breaking.last_from, Breaking.IsPotential, Spans.listed, declared.costs.Span.Span}
 use Rattle.lay_cert.specs.{Listing.Entry, Listing.IsEntry, Listing.none_forced, Listing.entry_lines, Listing.all_lines, Listing.potential_lines, Places.Place, Places.begun, Places.between, Places.choosing, Places.proving, Places.MayCome, Places.next, Places.Leads, Places.last_tune_from}
-use Rattle.lay_cert.{specs.Told.IsProving, specs.Told.IsGood, specs.Told.lines_of, specs.Told.begun_lines, specs.declared.lines.Line.Line, proofs.Grown.push_potential, proofs.Grown.push_entry, proofs.Grown.push_entries, proofs.Grown.push_span}
+use Rattle.lay_cert.{specs.Told.IsBegun, specs.Told.IsProving, specs.Told.IsGood, specs.Told.lines_of, specs.Told.begun_lines, specs.declared.lines.Line.Line, proofs.Grown.push_potential, proofs.Grown.push_entry, proofs.Grown.push_entries, proofs.Grown.push_span}
 use Rattle.lay_cert.proofs.Grown.{push_legal, listed_within}
 
 -- an entry in the making with one more potential
@@ -21,6 +21,9 @@ push_known P ps p h k i l = elim (cases_lt i (length ps)) [
       subst (λ i. P i (slice_index_or (ps ++ p ∷ []) i None)) e (subst (λ q. P (length ps) q) (sym (get_or-append_seam ps p [] None)) k)
 ]
 
+begun_more : (k : ℕ) (e : Entry) (p : Option ℕ) → IsBegun k e → IsBegun k (one_more e p)
+begun_more k e p h = record { past = h.past; numbered = h.numbered; few = h.few; spans = h.spans; choice = h.choice }
+
 whole : (k : ℕ) (e : Entry) (p : Option ℕ) → IsProving k e → length e.potentials ≡ e.bars
     → IsPotential (listed e.spans) none_forced (length e.potentials) p → IsEntry (one_more e p)
 whole k e p h is known = record {
@@ -36,7 +39,7 @@ whole k e p h is known = record {
 part : (k : ℕ) (e : Entry) (p : Option ℕ) → IsProving k e → length e.potentials < e.bars
     → IsPotential (listed e.spans) none_forced (length e.potentials) p → IsProving k (one_more e p)
 part k e p h l known = record {
-  begun = record { past = h.begun.past; numbered = h.begun.numbered; few = h.begun.few; spans = h.begun.spans; choice = h.begun.choice };
+  begun = begun_more k e p h.begun;
   ends = h.ends;
   total = h.total;
   some_left = let n = length-append e.potentials (p ∷ []) in omega arith;

@@ -21,7 +21,8 @@ one_music breaks line g h a b =
 
 one_by_kind : (breaks : Breaks) (line : Line) (kind : LineKind) (g h : List Given) → KindGives breaks line kind g → KindGives breaks line kind h → g ≡ h
 one_by_kind breaks line LineKind.Music g h a b = one_music breaks line g h a b
-one_by_kind breaks line kind g h a b = a ∙ sym b
+one_by_kind breaks line (LineKind.Field letter) g h a b = a ∙ sym b
+one_by_kind breaks line LineKind.Directive g h a b = a ∙ sym b
 
 one_line_given : (breaks : Breaks) (line : Line) (g h : List Given) → LineGives breaks line g → LineGives breaks line h → g ≡ h
 one_line_given breaks line g h a b = one_by_kind breaks line (kind_of line.text) g h a b

@@ -42,6 +42,9 @@ one_line_flaw bang before at byte s f g a b = by_kind bang at byte s f g (kind_b
 abbrev IsNext : Bool → Before → List ℕ → Form → List ℕ → Type 0
 IsNext bang before s f rest = IsLongest Form (StandsAt bang before) s f rest
 
+one_piece_next : (bang : Bool) (before : Before) (s : List ℕ) (f g : Form) (x y : List ℕ) → IsNext bang before s f x → IsNext bang before s g y → (f ≡ g) × (x ≡ y)
+one_piece_next bang before s f g x y l m = one_longest (piece_reader bang before) s f g x y l m
+
 none_at_all : (bang : Bool) (before : Before) (f : Form) (rest : List ℕ) → IsNext bang before [] f rest → ⊥
 none_at_all bang before f rest l = none_at_end (piece_reader bang before) f rest l.stands
 
@@ -69,7 +72,7 @@ led_front : (bang : Bool) (n : ℕ) (before : Before) (at : ℕ) (s : List ℕ) 
 led_front bang n _ _ _ _ _ f rest l (clear before at) = absurd (none_at_all bang before f rest l)
 led_front bang n _ _ _ _ _ f rest l (breaks before at byte s flaw h is) = absurd (h f rest l.stands)
 led_front bang n _ _ _ _ _ f rest l (leads before at s g others ts all end m more is) =
-    let same = one_longest (piece_reader bang before) s g f others rest m l in
+    let same = one_piece_next bang before s g f others rest m l in
     record {
       ts = ts;
       front = subst (λ x. Front bang n (after f) (length s) x ts end) same.1 (subst (λ h. Front bang n (after h) (length s) others ts end) same.0 more);

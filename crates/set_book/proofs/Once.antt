@@ -223,12 +223,13 @@ outcome_once defaults paper how tune o p a b =
 pub outcomes_once : (defaults : Defaults) (paper : Paper) (how : How) (tunes : List TuneText) (os ps : List Outcome) → AreOutcomes defaults paper how tunes os → AreOutcomes defaults paper how tunes ps → os ≡ ps
 outcomes_once defaults paper how [] [] [] a b = refl
 outcomes_once defaults paper how [] [] (p ∷ ps) a b = absurd b
+outcomes_once defaults paper how [] (o ∷ os) ps a b = absurd a
+outcomes_once defaults paper how (tune ∷ tunes) [] ps a b = absurd a
 outcomes_once defaults paper how (tune ∷ tunes) (o ∷ os) [] a b = absurd b
 outcomes_once defaults paper how (tune ∷ tunes) (o ∷ os) (p ∷ ps) a b =
     let first = outcome_once defaults paper how tune o p a.0 b.0 in
     let others = outcomes_once defaults paper how tunes os ps a.1 b.1 in
     cc
-outcomes_once defaults paper how tunes os ps a b = absurd a
 
 -- ---- the law
 

@@ -7,11 +7,11 @@ use Rattle.abc_header.specs.declared.header.Header.{Header}
 use Rattle.mus_units.specs.{declared.pitch.Clef.Clef, Parts.parts_list}
 use Rattle.abc_steps.specs.{declared.force.InForce.InForce, declared.place.Place.Place, declared.step.Item.Item, declared.step.Sound.Sound, declared.step.Step.Step, declared.step.Stood.Stood, declared.tuplets.Taking.Taking, Lengths.written_length, Looks.Steps, Looks.since_event, Looks.has_left}
 use Rattle.abc_steps.specs.{Looks.has_right, Places.place_at, Places.measure_of, Tuplets.fits, Tuplets.or_default}
-use Rattle.abc_faults.specs.Faults.{fault_at, fault_if, misfit_of, sounds_behind, any_off, any_grace_off, is_past, is_free, grace_faults_of, grace_faults, sound_faults, rest_faults, faults_of, faults_in}
+use Rattle.abc_faults.specs.Faults.{fault_at, fault_if, misfit_of, tuplet_faults, sounds_behind, any_off, any_grace_off, is_past, is_free, grace_faults_of, grace_faults, sound_faults, rest_faults, faults_of, faults_in}
 use Rattle.abc_faults.specs.{declared.weights.Weight.Weight, First.rank_of, First.then_below, First.is_before, First.IsLeast, First.IsFirst, Weights.crowd_fault, Weights.crowd_faults_at, Weights.crowd_up_to, Weights.crowded}
 use Rattle.abc_words.specs.{declared.verses.Verse.Verse, Verses.fault_in, Verses.faults_from, Verses.verse_faults, Verses.verses_of, Verses.number_on, Verses.too_many}
 use Rattle.abc_items.specs.Voices.{unnamed_of}
-use Rattle.abc_score.{specs.declared.voices.VoiceRead.VoiceRead, specs.Voices.voices_read, specs.Faults.voice_faults, specs.Faults.voice_weights, specs.Faults.faults_of_voices, specs.Faults.score_faults, proofs.Basics.all_both}
+use Rattle.abc_score.specs.{declared.voices.VoiceRead.VoiceRead, Voices.voices_read, Faults.voice_faults, Faults.voice_weights, Faults.faults_of_voices, Faults.score_faults}
 
 -- ---- the kind of a rank
 
@@ -24,12 +24,31 @@ abbrev kind_at : ℕ → FaultKind
 kind_at rank = get_or ranked rank FaultKind.NoKey
 
 kind_is : (kind : FaultKind) → rank_of kind < 20 → kind ≡ kind_at (rank_of kind)
+kind_is FaultKind.NoKey h = refl
+kind_is FaultKind.BadMeter h = refl
+kind_is FaultKind.BadUnit h = refl
+kind_is FaultKind.BadKey h = refl
+kind_is FaultKind.BadVoice h = refl
+kind_is FaultKind.TooManyVoices h = refl
+kind_is FaultKind.BadByte h = refl
+kind_is FaultKind.Unclosed h = refl
+kind_is FaultKind.BadLength h = refl
+kind_is FaultKind.BadTuplet h = refl
+kind_is FaultKind.TooDeep h = refl
+kind_is FaultKind.TupletCrosses h = refl
+kind_is FaultKind.TupletShort h = refl
+kind_is FaultKind.BrokenAlone h = refl
+kind_is FaultKind.Undrawable h = refl
+kind_is FaultKind.StepRange h = refl
+kind_is FaultKind.RestWithoutMeter h = refl
+kind_is FaultKind.TooManyMeasures h = refl
+kind_is FaultKind.TooManyEvents h = refl
+kind_is FaultKind.TooManyVerses h = refl
 kind_is FaultKind.BadScore h = absurd (omega (arith, h))
 kind_is FaultKind.BadShare h = absurd (omega (arith, h))
 kind_is FaultKind.BadMove h = absurd (omega (arith, h))
 kind_is (FaultKind.NoWay reached) h = absurd (omega (arith, h))
 kind_is (FaultKind.TooTall block) h = absurd (omega (arith, h))
-kind_is kind h = refl
 
 -- ---- faults of which the rank tells the kind
 abbrev pub IsRanked : Fault → Type 0
@@ -38,9 +57,13 @@ IsRanked fault = rank_of fault.kind < 20
 abbrev pub AreRanked : List Fault → Type 0
 AreRanked faults = AllByRecursion IsRanked faults
 
+both_ranked : (fs gs : List Fault) → AreRanked fs → AreRanked gs → AreRanked (fs ++ gs)
+both_ranked [] gs h k = k
+both_ranked (f ∷ fs) gs h k = (h.0, both_ranked fs gs h.1 k)
+
 each_ranked : {X : Type 0} (faults : X → List Fault) (xs : List X) → ((x : X) → AreRanked (faults x)) → AreRanked (flat_map faults xs)
 each_ranked faults [] h = tt
-each_ranked faults (x ∷ xs) h = all_both IsRanked (faults x) (flat_map faults xs) (h x) (each_ranked faults xs h)
+each_ranked faults (x ∷ xs) h = both_ranked (faults x) (flat_map faults xs) (h x) (each_ranked faults xs h)
 
 if_ranked : (b : Bool) (kind : FaultKind) (at : Stood) → rank_of kind < 20 → AreRanked (fault_if b kind at)
 if_ranked true kind at h = (h, tt)
@@ -54,6 +77,9 @@ tuplet_by : (b : Bool) (r : ℕ) (open_ones : Taking) (at : Stood) (behind : Ste
 tuplet_by true r open_ones at behind = if_ranked (nat_lt (sounds_behind behind) r) FaultKind.TupletShort at (omega arith)
 tuplet_by false r open_ones at behind = (misfit_ranked open_ones, tt)
 
+tuplets_ranked : (r : ℕ) (open_ones : Taking) (at : Stood) (behind : Steps) → AreRanked (tuplet_faults r open_ones at behind)
+tuplets_ranked r open_ones at behind = tuplet_by (fits r open_ones) r open_ones at behind
+
 grace_ranked : (clef : Clef) (at : Stood) (s : Step) → AreRanked (grace_faults_of clef at s)
 unfolding grace_faults_of
 grace_ranked clef at (Step.Grace slash body) = if_ranked (any_grace_off clef body) FaultKind.StepRange at (omega arith)
@@ -64,8 +90,8 @@ graces_ranked clef waits = each_ranked (λ s. grace_faults_of clef s s.step) wai
 
 three_ranked : (a b c : Bool) (at : Stood) → AreRanked (fault_if a FaultKind.Undrawable at ++ fault_if b FaultKind.StepRange at ++ fault_if c FaultKind.TooManyMeasures at)
 three_ranked a b c at =
-    all_both IsRanked (fault_if a FaultKind.Undrawable at ++ fault_if b FaultKind.StepRange at) (fault_if c FaultKind.TooManyMeasures at)
-    (all_both IsRanked (fault_if a FaultKind.Undrawable at) (fault_if b FaultKind.StepRange at) (if_ranked a FaultKind.Undrawable at (omega arith)) (if_ranked b FaultKind.StepRange at (omega arith))) (if_ranked c FaultKind.TooManyMeasures at (omega arith))
+    both_ranked (fault_if a FaultKind.Undrawable at ++ fault_if b FaultKind.StepRange at) (fault_if c FaultKind.TooManyMeasures at)
+    (both_ranked (fault_if a FaultKind.Undrawable at) (fault_if b FaultKind.StepRange at) (if_ranked a FaultKind.Undrawable at (omega arith)) (if_ranked b FaultKind.StepRange at (omega arith))) (if_ranked c FaultKind.TooManyMeasures at (omega arith))
 
 sound_ranked : (now : Place) (before : Steps) (at : Stood) (s : Sound) (behind : Steps) → AreRanked (sound_faults now before at s behind)
 unfolding sound_faults
@@ -77,19 +103,19 @@ rest_ranked : (now : Place) (at : Stood) (count : ℕ) → AreRanked (rest_fault
 rest_ranked now at count =
     let free = is_free now.force.meter in
     let past = is_past (measure_of now + (count - 1)) in
-    all_both IsRanked (fault_if free FaultKind.RestWithoutMeter at) (fault_if past FaultKind.TooManyMeasures at) (if_ranked free FaultKind.RestWithoutMeter at (omega arith)) (if_ranked past FaultKind.TooManyMeasures at (omega arith))
+    both_ranked (fault_if free FaultKind.RestWithoutMeter at) (fault_if past FaultKind.TooManyMeasures at) (if_ranked free FaultKind.RestWithoutMeter at (omega arith)) (if_ranked past FaultKind.TooManyMeasures at (omega arith))
 
 step_ranked : (now : Place) (before : Steps) (at : Stood) (behind : Steps) (s : Step) → AreRanked (faults_of now before at behind s)
 unfolding faults_of
-step_ranked now before at behind (Step.Sound s) = all_both IsRanked (sound_faults now before at s behind) (grace_faults now.force.clef (since_event before)) (sound_ranked now before at s behind) (graces_ranked now.force.clef (since_event before))
-step_ranked now before at behind (Step.Measures seen count) = all_both IsRanked (rest_faults now at count) (grace_faults now.force.clef (since_event before)) (rest_ranked now at count) (graces_ranked now.force.clef (since_event before))
-step_ranked now before at behind (Step.Tuplet p q r) = tuplet_by (fits (or_default p r) now.taking) (or_default p r) now.taking at behind
+step_ranked now before at behind (Step.Sound s) = both_ranked (sound_faults now before at s behind) (grace_faults now.force.clef (since_event before)) (sound_ranked now before at s behind) (graces_ranked now.force.clef (since_event before))
+step_ranked now before at behind (Step.Measures seen count) = both_ranked (rest_faults now at count) (grace_faults now.force.clef (since_event before)) (rest_ranked now at count) (graces_ranked now.force.clef (since_event before))
+step_ranked now before at behind (Step.Tuplet p q r) = tuplets_ranked (or_default p r) now.taking at behind
 step_ranked now before at behind (Step.Broken right dots) = if_ranked (not (has_left before && has_right behind)) FaultKind.BrokenAlone at (omega arith)
 step_ranked now before at behind _ = tt
 
 steps_ranked : (first : InForce) (before behind : Steps) → AreRanked (faults_in first before behind)
 steps_ranked first before [] = tt
-steps_ranked first before (at ∷ behind) = all_both IsRanked (faults_of (place_at first before) before at behind at.step) (faults_in first (at ∷ before) behind) (step_ranked (place_at first before) before at behind at.step) (steps_ranked first (at ∷ before) behind)
+steps_ranked first before (at ∷ behind) = both_ranked (faults_of (place_at first before) before at behind at.step) (faults_in first (at ∷ before) behind) (step_ranked (place_at first before) before at behind at.step) (steps_ranked first (at ∷ before) behind)
 
 verse_ranked : (b : Bool) (line : ℕ) → AreRanked (cond b (too_many line ∷ []) [])
 verse_ranked true line = (omega arith, tt)
@@ -97,7 +123,7 @@ verse_ranked false line = tt
 
 verses_ranked : (before behind : List Verse) → AreRanked (faults_from before behind)
 verses_ranked before [] = tt
-verses_ranked before (v ∷ behind) = all_both IsRanked (fault_in before v) (faults_from (before ++ v ∷ []) behind) (verse_ranked (nat_le 8 (number_on v.row before)) v.line) (verses_ranked (before ++ v ∷ []) behind)
+verses_ranked before (v ∷ behind) = both_ranked (fault_in before v) (faults_from (before ++ v ∷ []) behind) (verse_ranked (nat_le 8 (number_on v.row before)) v.line) (verses_ranked (before ++ v ∷ []) behind)
 
 crowd_ranked : (b : Bool) (w : Weight) → AreRanked (cond b (crowd_fault w ∷ []) [])
 crowd_ranked true w = (omega arith, tt)
@@ -107,11 +133,11 @@ crowds_ranked : (weights : List Weight) → AreRanked (crowded weights)
 crowds_ranked weights = each_ranked (crowd_faults_at weights) weights (λ w. crowd_ranked (nat_lt 50000 (crowd_up_to weights w)) w)
 
 voice_ranked : (unnamed : List ℕ) (items : List Item) (v : VoiceRead) → AreRanked (voice_faults unnamed items v)
-voice_ranked unnamed items v = all_both IsRanked (faults_in v.first [] v.steps) (verse_faults v.start.id unnamed items) (steps_ranked v.first [] v.steps) (verses_ranked [] (verses_of v.start.id unnamed items))
+voice_ranked unnamed items v = both_ranked (faults_in v.first [] v.steps) (verse_faults v.start.id unnamed items) (steps_ranked v.first [] v.steps) (verses_ranked [] (verses_of v.start.id unnamed items))
 
 voices_ranked : (unnamed : List ℕ) (items : List Item) (voices : List VoiceRead) → AreRanked (faults_of_voices unnamed items voices)
 voices_ranked unnamed items voices =
-    all_both IsRanked (flat_map (voice_faults unnamed items) voices) (crowded (flat_map voice_weights voices)) (each_ranked (voice_faults unnamed items) voices (voice_ranked unnamed items)) (crowds_ranked (flat_map voice_weights voices))
+    both_ranked (flat_map (voice_faults unnamed items) voices) (crowded (flat_map voice_weights voices)) (each_ranked (voice_faults unnamed items) voices (voice_ranked unnamed items)) (crowds_ranked (flat_map voice_weights voices))
 
 pub score_ranked : (header : Header) (items : List Item) → AreRanked (score_faults header items)
 score_ranked header items = voices_ranked (unnamed_of header) items (voices_read header items)

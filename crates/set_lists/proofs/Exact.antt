@@ -18,9 +18,10 @@ module _ (defaults : Defaults) (paper : Paper) (how : How) where
 
   all_breakings : (tunes : List TuneText) (os : List Outcome) → AreOutcomes defaults paper how tunes os → All (λ o. HasItsBreakings (width_of paper) o.result) os
   all_breakings [] [] h = All-nil (λ o. HasItsBreakings (width_of paper) o.result)
+  all_breakings [] (o ∷ os) h = absurd h
+  all_breakings (t ∷ ts) [] h = absurd h
   all_breakings (t ∷ ts) (o ∷ os) h =
       All-cons (λ o. HasItsBreakings (width_of paper) o.result) o os (its_breakings t o.result h.0.result) (all_breakings ts os h.1)
-  all_breakings ts os h = absurd h
 
 pub lists_the_book : ListsTheBook
 lists_the_book bytes defaults paper how outcomes short set = record {

@@ -9,9 +9,10 @@ next_begins p s (inr h) = let e = h.0 in omega arith
 
 begin_in_order : (n : ℕ) (last : Option Span) (ss : List Span) → SpansFrom n last ss
     → (k : ℕ) (d : Span) → suc k < length ss → (slice_index_or ss k d).a ≤ (slice_index_or ss (suc k) d).a
+begin_in_order n last [] h k d l = absurd (omega (arith, l))
+begin_in_order n last (s ∷ []) h k d l = absurd (omega (arith, l))
 begin_in_order n last (s ∷ t ∷ ss) h zero d l = next_begins s t h.1.0.follows
 begin_in_order n last (s ∷ t ∷ ss) h (suc k) d l = begin_in_order n (Some s) (t ∷ ss) h.1 k d (omega (arith, l))
-begin_in_order n last ss h k d l = absurd (omega (arith, l))
 
 -- listed spans stand by the bar at which they begin
 pub in_order : (n : ℕ) (ss : List Span) → AreSpans n ss → IsNonDecreasingBy (λ s. s.a) ss

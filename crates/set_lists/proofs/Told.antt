@@ -65,14 +65,17 @@ module _ (defaults : Defaults) (paper : Paper) (how : How) where
 
   all_listable : (tunes : List TuneText) (os : List Outcome) → AreOutcomes defaults paper how tunes os → All (λ o. IsListable o.result) os
   all_listable [] [] h = All-nil (λ o. IsListable o.result)
+  all_listable [] (o ∷ os) h = absurd h
+  all_listable (t ∷ ts) [] h = absurd h
   all_listable (t ∷ ts) (o ∷ os) h =
       All-cons (λ o. IsListable o.result) o os (is_listable t o.result h.0.result) (all_listable ts os h.1)
-  all_listable ts os h = absurd h
 
   -- the entries of outcomes whose numbers rise past k have numbers past each j up to k
   entries : (tunes : List TuneText) (os : List Outcome) (k j : ℕ) → AreOutcomes defaults paper how tunes os → OrdinalsRise k os → j ≤ k
       → EntriesFrom j (entries_of os)
   entries [] [] k j h rise l = tt
+  entries [] (o ∷ os) k j h rise l = absurd h
+  entries (t ∷ ts) [] k j h rise l = absurd h
   entries (t ∷ ts) (o ∷ os) k j h rise l =
       at o.result h.0.result (entries ts os o.ordinal o.ordinal h.1 rise.2 (omega arith))
       (entries ts os o.ordinal j h.1 rise.2 (let m = rise.0 in omega (arith, l, m)))
@@ -82,7 +85,6 @@ module _ (defaults : Defaults) (paper : Paper) (how : How) where
       at (Ok tune) is further same =
           (let m = rise.0 in omega (arith, l, m), is_entry t defaults paper how tune is o.ordinal rise.1, further)
       at (Err fault) is further same = same
-  entries ts os k j h rise l = absurd h
 
 pub outcomes_are_listable : OutcomesAreListable
 outcomes_are_listable defaults paper how tunes os h = all_listable defaults paper how tunes os h

@@ -37,20 +37,26 @@ pub fn put_trial(out: &mut Text, trial: &Trial) -> Result<(), Memory>
 pub fn set_count(outcomes: &[Outcome]) -> u64
     ensures { result ≡ set_count outcomes.now }
 {
-    outcomes
-        .iter()
-        .filter(|outcome| outcome.result.is_ok())
-        .count() as u64
+    let mut count = 0;
+    for outcome in outcomes {
+        if outcome.result.is_ok() {
+            count += 1;
+        }
+    }
+    count
 }
 
 /// How many tunes have a fault.
 pub fn fault_count(outcomes: &[Outcome]) -> u64
     ensures { result ≡ fault_count outcomes.now }
 {
-    outcomes
-        .iter()
-        .filter(|outcome| outcome.result.is_err())
-        .count() as u64
+    let mut count = 0;
+    for outcome in outcomes {
+        if outcome.result.is_err() {
+            count += 1;
+        }
+    }
+    count
 }
 
 fn systems_in(outcome: &Outcome) -> u64

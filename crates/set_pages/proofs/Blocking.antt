@@ -15,7 +15,7 @@ use Rattle.set_staves.{specs.Drawn.IsBase, specs.Drawn.IsOnPage, specs.Drawn.IsT
 use Rattle.lay_tune.specs.Systems.{StandWithin, gaps_between}
 use Rattle.set_pages.specs.Drawings.{all_blocks, all_drawings, drawing, drawings_from, outcome_blocks, outcome_drawings, result_blocks, result_drawings, system, system_contents, title, title_contents}
 use Rattle.set_pages.{specs.Ready.IsReadyOn, specs.Ready.IsReadyRow, specs.Sheet.IsSetResult, specs.Sheet.IsSetUnder, proofs.Laying.AreLaid}
-use Rattle.set_pages.proofs.{Laying.IsLaidSystem, Laying.paper_narrow, Laying.tune_laid, Stacks.IsBetween, Stacks.stacked_lie, Joined.zip_append}
+use Rattle.set_pages.proofs.{Laying.IsLaidSystem, Laying.paper_narrow, Laying.tune_laid, Stacks.IsBetween, Stacks.stacked_bases, Stacks.stacked_count, Joined.zip_append}
 
 -- the tune that a block begins has an ordinal
 abbrev IsCounted : Option ℕ → Type 0
@@ -46,19 +46,18 @@ columns_within width count at narrow stand k d inside = on_page (x_at at k) (get
 
 system_ready : (s : Score) (width : ℕ) (begins : Option ℕ) (m : SystemMarks) (p : Placed) (h : Heights) → width < 2 ^ 20 → IsCounted begins → IsLaidSystem s width m p h
     → IsReadyOn (drawing begins (system m p.at h.bases)) (system_block h)
-system_ready s width begins m p h narrow counted laid top at above =
-    let lie = stacked_lie (pos 0) (pos 0 -ℤ h.height) (gaps_between s.voices) m.staves h.bases laid.staves laid.stack.stacked in record {
-      begins = counted;
-      content = record {
-        shown = laid.shown;
-        count = laid.columns.count_is;
-        rise = columns_rise width (length m.keys) p.at laid.columns;
-        numbers = columns_within width (length m.keys) p.at narrow laid.columns;
-        bases = lie.count;
-        heights = bases_within top h.height h.bases at above (lie.between (pos 0) (omega (arith, ints)));
-      };
-      within = at;
-    }
+system_ready s width begins m p h narrow counted laid top at above = record {
+  begins = counted;
+  content = record {
+    shown = laid.shown;
+    count = laid.columns.count_is;
+    rise = columns_rise width (length m.keys) p.at laid.columns;
+    numbers = columns_within width (length m.keys) p.at narrow laid.columns;
+    bases = stacked_count (pos 0) (pos 0 -ℤ h.height) (gaps_between s.voices) m.staves h.bases laid.stack.stacked;
+    heights = bases_within top h.height h.bases at above (stacked_bases (pos 0) (pos 0) (pos 0 -ℤ h.height) (gaps_between s.voices) m.staves h.bases laid.staves laid.stack.stacked (omega (arith, ints)));
+  };
+  within = at;
+}
 
 row_ready : (width height : ℕ) (top : ℤ) (row : TitleRow) → width < 2 ^ 20 → IsTop top → pos 0 ≤ℤ (top -ℤ block_height height) → IsGoodRow width height row → IsReadyRow top row
 row_ready width height top row narrow at above good = record {

@@ -42,9 +42,10 @@ behind_join high (block ∷ bs) more loose = standing_append high (record { page
 
 -- the blocks of tunes are tied to none behind them
 loose_append : (xs ys : List Block) → IsLoose xs → IsLoose ys → IsLoose (xs ++ ys)
+loose_append [] ys front back = back
 loose_append (x ∷ []) [] front back = front
+loose_append (x ∷ []) (y ∷ ys) front back = back
 loose_append (x ∷ next ∷ xs) ys front back = loose_append (next ∷ xs) ys front back
-loose_append xs ys front back = back
 
 pub all_loose : (outcomes : List Outcome) → IsLoose (all_blocks outcomes)
 all_loose [] = tt

@@ -52,7 +52,7 @@ systems_laid s width a (b ∷ breaks) (m ∷ systems) (p ∷ placed) (h ∷ heig
     )
 systems_laid s width a _ _ _ heights good some narrow rises within set stack = absurd set
 
-pub quotient_narrow : (x s : ℕ) → x ≤ 10000000 → 40 ≤ s → x / s < 2 ^ 20
+quotient_narrow : (x s : ℕ) → x ≤ 10000000 → 40 ≤ s → x / s < 2 ^ 20
 quotient_narrow x s few some = grind arith
 
 pub paper_narrow : (paper : Paper) → IsGoodPaper paper → width_of paper < 2 ^ 20

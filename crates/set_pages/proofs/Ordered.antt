@@ -21,6 +21,9 @@ pub record IsOrdered (xs : List Item) : Type 0 where
   pub order : InOrder xs
   pub free : BeginsFree xs
 
+none_ordered : IsOrdered []
+none_ordered = record { order = tt; free = tt }
+
 order_append : (xs ys : List Item) → InOrder xs → InOrder ys → BeginsFree ys → InOrder (xs ++ ys)
 order_append [] ys front back free = back
 order_append (i ∷ []) [] front back free = tt
@@ -72,7 +75,7 @@ if_ordered false xs ys front back = back
 pub items_ordered : (width page : ℕ) (ds : List Drawing) (ss : List Spot) → AreBegun ds → IsOrdered (items_on width page ds ss)
 items_ordered width page (d ∷ ds) (s ∷ ss) begun =
     if_ordered (s.page == page) (drawn width s.top d) (items_on width page ds ss) (drawn_ordered width s.top d.begins d.content begun.0) (items_ordered width page ds ss begun.1)
-items_ordered width page ds ss begun = record { order = tt; free = tt }
+items_ordered width page ds ss begun = none_ordered
 
 if_good : (b : Bool) (xs ys : List Item) → All IsItem xs → All IsItem ys → All IsItem (cond b xs [] ++ ys)
 if_good true xs ys front back = All-append IsItem xs ys front back

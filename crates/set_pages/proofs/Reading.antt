@@ -17,7 +17,7 @@ use Rattle.set_staves.{specs.Marks.staves_at, specs.Marks.system_at, proofs.Show
 use Rattle.set_pages.specs.{declared.pages.Pages.Pages, Drawings.Drawing, Drawings.all_blocks, Drawings.all_drawings, Drawings.drawings_from, Drawings.drawn, Drawings.outcome_blocks, Drawings.outcome_drawings}
 use Rattle.set_pages.specs.{Drawings.result_blocks, Drawings.result_drawings, Drawings.row_at, Drawings.system_contents, Drawings.title_contents, Filling.no_pages, Filling.turned, Filling.with_drawing, Filling.with_drawings, Filling.with_items}
 use Rattle.set_pages.specs.{Clear.AreUnder, Read.ShowSystems, Read.ShowsOutcome, Read.ShowsResult, Read.ShowsRow, Read.ShowsSystem, Read.ShowsTune, Read.begun, Read.items_in, Ready.AreRising, Sheet.IsSetResult, Sheet.IsSetUnder, Sheet.pages_of}
-use Rattle.set_pages.proofs.{Blocking.columns_rise, Blocking.result_laid, Laying.AreLaid, Laying.IsLaidSystem, Readying.result_whole, Stacks.stacked_lie, Standing.result_count, Turned.all_put, Turned.closed}
+use Rattle.set_pages.proofs.{Blocking.columns_rise, Blocking.result_laid, Laying.AreLaid, Laying.IsLaidSystem, Readying.result_whole, Stacks.are_under, Stacks.stacked_count, Standing.result_count, Turned.all_put, Turned.closed}
 
 -- ---- the items of all pages are those that the blocks draw
 abbrev pub items_at : ℕ → List Drawing → List Spot → List Item
@@ -43,8 +43,9 @@ put_items width p (d ∷ ds) (s ∷ ss) =
 
 pub page_items : (width : ℕ) (ds : List Drawing) (ss : List Spot) → length ds ≡ length ss → AreRising ss → items_in (pages_of width ds ss) ≡ items_at width ds ss
 page_items width [] [] same rising = refl
+page_items width [] (s ∷ ss) same rising = absurd (omega (arith, same))
+page_items width (d ∷ ds) [] same rising = absurd (omega (arith, same))
 page_items width (d ∷ ds) (s ∷ ss) same rising = ap items_in (sym (all_put width (d ∷ ds) s ss same rising)) ∙ put_items width no_pages (d ∷ ds) (s ∷ ss)
-page_items width ds ss same rising = absurd (omega (arith, same))
 
 -- cut behind some of the blocks
 none_at : (width : ℕ) (ds : List Drawing) → items_at width ds [] ≡ []
@@ -60,18 +61,19 @@ cut_items width (x ∷ xs) ys (s ∷ ss) = ap (λ l. drawn width s.top x ++ l) (
 module _ (paper : Paper) (s : Score) (a b : ℕ) (m : SystemMarks) (p : Placed) (h : Heights) (top : ℤ) (set : IsSetSystem s (width_of paper) a b m p) (laid : IsLaidSystem s (width_of paper) m p h)
     (below : top ≤ℤ pos (height_of paper)) (above : pos 0 ≤ℤ (top -ℤ h.height)) where
   staves_wide : (staves : List StaffMarks) (bases : List ℤ) → All (λ (staff : Staff). staff.width ≡ width_of paper) (staves_at (width_of paper) p.at top staves bases)
+  staves_wide [] bases = All-nil (λ (staff : Staff). staff.width ≡ width_of paper)
+  staves_wide (staff ∷ staves) [] = All-nil (λ (staff : Staff). staff.width ≡ width_of paper)
   staves_wide (staff ∷ staves) (base ∷ bases) = All-cons (λ (staff : Staff). staff.width ≡ width_of paper) _ _ refl (staves_wide staves bases)
-  staves_wide staves bases = All-nil (λ (staff : Staff). staff.width ≡ width_of paper)
 
   staves_heights : (staves : List StaffMarks) (bases : List ℤ) → length bases ≡ length staves → map (λ (staff : Staff). staff.y) (staves_at (width_of paper) p.at top staves bases) ≡ map (λ base. top +ℤ base) bases
   staves_heights [] [] same = refl
+  staves_heights [] (base ∷ bases) same = absurd (omega (arith, same))
+  staves_heights (staff ∷ staves) [] same = absurd (omega (arith, same))
   staves_heights (staff ∷ staves) (base ∷ bases) same = ap (λ l. (top +ℤ base) ∷ l) (staves_heights staves bases (omega (arith, same)))
-  staves_heights staves bases same = absurd (omega (arith, same))
 
   shows_system : ShowsSystem paper (gaps_between s.voices) a b m p (system_at (width_of paper) p.at top m h.bases)
   shows_system =
-      let lie = stacked_lie (pos 0) (pos 0 -ℤ h.height) (gaps_between s.voices) m.staves h.bases laid.staves laid.stack.stacked in
-      let count = lie.count in
+      let count = stacked_count (pos 0) (pos 0 -ℤ h.height) (gaps_between s.voices) m.staves h.bases laid.stack.stacked in
       let columns = sym laid.columns.count_is in
       let ranked = subst (λ n. All (λ (x : StaffMarks). AreRanked n x.marks) m.staves) columns laid.shown.ranked in
       let anchored = subst (λ n. AreAnchored n (staves_ranks m.staves)) columns laid.shown.anchored in
@@ -83,7 +85,7 @@ module _ (paper : Paper) (s : Score) (a b : ℕ) (m : SystemMarks) (p : Placed) 
         wide = staves_wide m.staves h.bases;
         boxes = laid.boxes;
         apart = subst (λ ys. AreUnder (pos (height_of paper)) (gaps_between s.voices) m.staves ys) (sym (staves_heights m.staves h.bases count))
-            (lie.under top (pos (height_of paper)) (omega (arith, ints, below)) (omega (arith, ints, above)));
+            (are_under top (pos 0) (pos 0 -ℤ h.height) (pos (height_of paper)) (gaps_between s.voices) m.staves h.bases laid.staves laid.stack.stacked (omega (arith, ints, below)) (omega (arith, ints, above)));
       }
 
 -- the systems of a breaking, one under another
@@ -105,8 +107,11 @@ shows_rows top (row ∷ rows) = (record { base = top -ℤ row.down; title = refl
 -- the first system of a tune without a title stands behind its ordinal
 begun_systems : (width ordinal : ℕ) (systems : List SystemMarks) (placed : List Placed) (heights : List Heights) (spots : List Spot)
     → items_at width (drawings_from (Some ordinal) (system_contents systems placed heights)) spots ≡ begun ordinal (items_at width (drawings_from None (system_contents systems placed heights)) spots)
+begun_systems width ordinal [] placed heights spots = refl
+begun_systems width ordinal (m ∷ systems) [] heights spots = refl
+begun_systems width ordinal (m ∷ systems) (p ∷ placed) [] spots = refl
+begun_systems width ordinal (m ∷ systems) (p ∷ placed) (h ∷ heights) [] = refl
 begun_systems width ordinal (m ∷ systems) (p ∷ placed) (h ∷ heights) (spot ∷ spots) = refl
-begun_systems width ordinal systems placed heights spots = refl
 
 shows_tune : (paper : Paper) (ordinal : ℕ) (t : SetTune) (rows : List TitleRow) (height : ℕ) (keep : Bool) (spots : List Spot) → t.title.rows ≡ rows
     → EachSpan (IsSetSystem t.score (width_of paper)) 0 t.breaking.breaks t.systems t.placed → AreLaid t.score (width_of paper) t.systems t.placed t.heights

@@ -18,6 +18,9 @@ at_same given page p gone =
     turned_same given p (nat_lt (done_count p) page)
     ∙ ap (λ n. cond (nat_lt n page) (turned (restored given p)) (restored given p)) (sym (count_same given p gone))
 
+one_same : (given : List Page) (width : ℕ) (p : Pages) (d : Drawing) (s : Spot) → p.gone ≡ length given → restored given (with_drawing width p d s) ≡ with_drawing width (restored given p) d s
+one_same given width p d s gone = ap (λ q. with_items q (drawn width s.top d)) (at_same given s.page p gone)
+
 -- how many were given up stays
 gone_by : (p : Pages) (b : Bool) → (cond b (turned p) p).gone ≡ p.gone
 gone_by p true = refl
@@ -32,5 +35,5 @@ gone_all width p ds ss = refl
 
 pub all_same : (given : List Page) (width : ℕ) (p : Pages) (ds : List Drawing) (ss : List Spot) → p.gone ≡ length given → restored given (with_drawings width p ds ss) ≡ with_drawings width (restored given p) ds ss
 all_same given width p (d ∷ ds) (s ∷ ss) gone =
-    all_same given width (with_drawing width p d s) ds ss (gone_one width p d s ∙ gone) ∙ ap (λ q. with_drawings width (with_items q (drawn width s.top d)) ds ss) (at_same given s.page p gone)
+    all_same given width (with_drawing width p d s) ds ss (gone_one width p d s ∙ gone) ∙ ap (λ q. with_drawings width q ds ss) (one_same given width p d s gone)
 all_same given width p ds ss gone = refl

@@ -34,8 +34,9 @@ top_within high height top good below above small = record { low = omega (arith,
 pub systems_count : (systems : List SystemMarks) (placed : List Placed) (heights : List Heights) → length placed ≡ length systems → length heights ≡ length systems
     → length (system_contents systems placed heights) ≡ length systems
 systems_count [] placed heights p h = refl
+systems_count (m ∷ systems) [] heights p h = absurd (omega arith)
+systems_count (m ∷ systems) (q ∷ placed) [] p h = absurd (omega arith)
 systems_count (m ∷ systems) (q ∷ placed) (r ∷ heights) p h = ap suc (systems_count systems placed heights (omega arith) (omega arith))
-systems_count systems placed heights p h = absurd (omega arith)
 
 pub drawings_count : (begins : Option ℕ) (contents : List Content) → length (drawings_from begins contents) ≡ length contents
 drawings_count begins [] = refl

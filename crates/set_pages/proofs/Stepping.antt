@@ -1,6 +1,6 @@
 -- One system more of a tune, and one outcome more of a book.
 use Rattle.std.proofs.Common.{◌≡◌, sym, ap, ◌∙◌, subst, ℕ, ◌+◌, ◌<◌, ◌≤◌, ℤ, map, List, [], ◌∷◌, ◌++◌, length, take, drop, get_or, Option, None, arith}
-use Rattle.std.{proofs.lemmas.List.append_assoc, proofs.lemmas.List.drop_more, proofs.lemmas.List.length-append, proofs.lemmas.List.length-drop, proofs.lemmas.List.take_all, proofs.lemmas.List.Elements.All-map, proofs.lemmas.List.Elements.All-more, specs.Prelude.All, specs.Prelude.slice_index_or, specs.List.AllZip}
+use Rattle.std.{proofs.lemmas.List.append_assoc, proofs.lemmas.List.drop_more, proofs.lemmas.List.length-drop, proofs.lemmas.List.take_all, proofs.lemmas.List.Elements.All-map, proofs.lemmas.List.Elements.All-more, specs.Prelude.All, specs.Prelude.slice_index_or, specs.List.AllZip}
 use Rattle.mus_laid.specs.declared.laid.SystemMarks.{SystemMarks}
 use Rattle.lay_springs.specs.declared.margin.Placed.{Placed}
 use Rattle.lay_pages.specs.declared.{filling.Spot.Spot, stacking.Heights.Heights, filling.Block.Block, titles.TitleRow.TitleRow}
@@ -84,11 +84,13 @@ pub systems_stand : (i : ℕ) (ms : List SystemMarks) (ps : List Placed) (hs : L
 systems_stand i ms ps hs ss m p h d opening a b c inside ready =
     (systems_ready i ms ps hs ss m p h (slice_index_or ss i d) opening (record { systems = a; placed = b; heights = c; spots = drop_more ss i d inside }) ready).0
 
+front_count : {A B : Type 0} (R : A → B → Type 0) (xs ys : List A) (zs : List B) → AllZip R (xs ++ ys) zs → length xs ≤ length zs
+front_count R [] ys zs h = omega arith
+front_count R (x ∷ xs) ys [] h = absurd h
+front_count R (x ∷ xs) ys (z ∷ zs) h = let more = front_count R xs ys zs h.1 in omega arith
+
 pub outcome_count : (o : Outcome) (os left : List Outcome) (rest : List Spot) → left ≡ o ∷ os → AllZip IsReady (all_drawings left) rest → length (outcome_drawings o) ≤ length rest
-outcome_count o os left rest e ready =
-    let count = zip_length IsReady (outcome_drawings o ++ all_drawings os) rest (subst (λ l. AllZip IsReady (all_drawings l) rest) e ready) in
-    let both = length-append (outcome_drawings o) (all_drawings os) in
-    omega (arith, count, both)
+outcome_count o os left rest e ready = front_count IsReady (outcome_drawings o) (all_drawings os) rest (subst (λ l. AllZip IsReady (all_drawings l) rest) e ready)
 
 -- one row more of a title block
 pub rows_value : (top at : ℤ) (rows : List TitleRow) (i : ℕ) (row : TitleRow) (items new whole : List Item) (item : Item) → i < length rows → row ≡ get_or rows i row → new ≡ items ++ item ∷ [] → item ≡ row_at top row → at ≡ top

@@ -10,8 +10,11 @@ above : (top base : ℤ) → IsBase top base → IsNumber ((top +ℤ base) +ℤ 
 above top base b = record { low = omega (arith, ints, b.low, b.high); high = omega (arith, ints, b.low, b.high) }
 
 joined : (width : ℕ) (at : List ℤ) (top : ℤ) (staves : List StaffMarks) (bases : List ℤ) → All (IsBase top) bases → IsJoined (staves_at width at top staves bases)
+joined width at top [] bases h = tt
+joined width at top (s ∷ more) [] h = tt
+joined width at top (s ∷ []) (b ∷ bases) h = tt
+joined width at top (s ∷ u ∷ more) (b ∷ []) h = tt
 joined width at top (s ∷ u ∷ more) (b ∷ c ∷ bases) h = above top b (All-head (IsBase top) b (c ∷ bases) h)
-joined width at top staves bases h = tt
 
 some : (width : ℕ) (at : List ℤ) (top : ℤ) (staves : List StaffMarks) (bases : List ℤ) → 1 ≤ length staves → length bases ≡ length staves
     → 1 ≤ length (staves_at width at top staves bases)

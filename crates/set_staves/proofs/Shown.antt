@@ -41,9 +41,11 @@ below_both n [] more h k = k
 below_both n (r ∷ rs) more (here, rest) k = (here, below_both n rs more rest k)
 
 mark_below : (n : ℕ) (mark : Mark) (rs : List ℕ) → IsRanked n mark → AreBelow n rs → AreBelow n (cons_option (anchor_rank mark) rs)
+mark_below n (Mark.Glyph glyph rank dx dy) rs h k = (h, k)
+mark_below n (Mark.Words size rank dx dy text) rs h k = (h, k)
+mark_below n (Mark.Stem rank dx from to) rs h k = (h, k)
 mark_below n (Mark.Beam way first last from to) rs h k = k
 mark_below n (Mark.Arc first last from to bulge) rs h k = k
-mark_below n mark rs h k = (h, k)
 
 -- marks, and staves of them, of which each has its ranks below a number
 abbrev Ranked : ℕ → List Laid → Type 0

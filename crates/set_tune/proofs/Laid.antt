@@ -95,8 +95,9 @@ fields_few f none (line ∷ lines) =
     omega (arith, given_few f none line.text (fields_of lines) (size_of lines) (fields_few f none lines), size_cons line lines)
 
 size_within : (n : ℕ) (lines : List Line) → size_of (take n lines) ≤ size_of lines
+size_within zero lines = omega arith
+size_within (suc n) [] = omega arith
 size_within (suc n) (line ∷ lines) = omega (arith, size_within n lines, size_cons line (take n lines), size_cons line lines)
-size_within n lines = omega arith
 
 few_by : (f : Field → Option (List ℕ)) → f Field.Other ≡ None → (tune : TuneText) (n : ℕ) → IsGoodTune tune
     → length (filter_map f (fields_of (take n tune.lines))) ≤ 2 ^ 32

@@ -11,8 +11,6 @@ use Rattle.lay_tune.specs.{Breakings.IsLeastBreaking, Layout.IsNoWay, Spans.AreS
 use Rattle.lay_shared.specs.{declared.plan.Plan.Plan, Alike.DoShare, Drawn.drawn_of, Plans.Spells, Plans.ids_of}
 use Rattle.mus_units.specs.declared.key.Key.{Key}
 use Rattle.mus_transpose.specs.Moved.{IsMoved}
-use Rattle.mus_drawn.specs.Sounds.{sounds_of}
-use Rattle.mus_moved.specs.Higher.{AreHigher}
 use Rattle.set_tune.specs.{declared.how.How.How, declared.tune.SetTune.SetTune, Blocks.blocks_of}
 
 -- The header of the tune, which has no fault.
@@ -43,14 +41,13 @@ IsDrawn None written drawn = drawn ≡ Ok written
 IsDrawn (Some line) written (Ok drawn) = (plan : Plan) × Spells (ids_of written) line.text plan × DoShare written plan × (drawn ≡ drawn_of written plan)
 IsDrawn (Some line) written (Err fault) = IsUnshared line written fault
 
--- The header, and the score that is set: the drawn one, moved, so that each head sounds so many semitones higher.
+-- The header, and the score that is set: the drawn one, moved.
 pub record HasScore (tune : TuneText) (defaults : Defaults) (how : How) (header : Header) (score : Score) : Type 0 where
   pub written : Score
   pub is : IsWritten tune defaults how.flow header written
   pub drawn : Score
   pub draws : IsDrawn header.staves written (Ok drawn)
   pub moved : IsMoved drawn header.key how.by (Some score)
-  pub sounds : AreHigher how.by (sounds_of drawn) (sounds_of score)
   pub good : IsGoodScore score
 
 -- The voices of the tune can't share staves as its line says.

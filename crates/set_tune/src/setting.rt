@@ -9,8 +9,6 @@ ghost use Rattle.set_tune.specs.{Blocks.blocks_of, How.unmoved};
 ghost use Rattle.set_tune.specs.Setting.{HasScore, IsDrawn, IsDrawRefusal, IsLaid, IsLaidOut, IsLayoutRefusal, IsMoveRefusal, IsMovedRefusal, IsRefusal, IsScoreRefusal, IsSetTune, IsTallRefusal, IsWritten, layout_fault, share_fault};
 ghost use Rattle.lay_shared.specs.{Plans.IsPlanFor, Plans.Spells, Plans.ids_of, declared.plan.Plan.Plan};
 ghost use Rattle.mus_transpose.specs.Moved.{IsMoved};
-ghost use Rattle.mus_drawn.specs.Sounds.{sounds_of};
-ghost use Rattle.mus_moved.specs.Higher.{AreHigher};
 
 use crate::blocks::blocks_of;
 use crate::how::How;
@@ -21,7 +19,6 @@ use abc_score::build;
 use lay_pages::{PageError, TitleBlock, fill, title_block};
 use lay_shared::{Plan, drawn, ids_of, read_plan, shared};
 use lay_tune::{Layout, LayoutError, lay_out};
-use mus_moved::moved_sounds_higher;
 use mus_score::Score;
 use mus_transpose::moved_or_same;
 use mus_units::Memory;
@@ -186,11 +183,9 @@ fn move_score(
 ) -> Result<Score, TuneError>
     requires { IsGoodScore drawn }
     ensures moved { IfOk result (λ score. IsMoved drawn header.now.key by (Some score)) }
-    ensures sounds { IfOk result (λ score. AreHigher by (sounds_of drawn) (sounds_of score)) }
     ensures good { IfOk result IsGoodScore }
     ensures fault { IfErr result (IsMoveRefusal tune.now drawn header.now.key by) }
 {
-    moved_sounds_higher();
     match moved_or_same(alloc, drawn, &header.key, by)? {
         Some(score) => Ok(score),
         None => Err(layout_fault(tune, FaultKind::BadMove)),

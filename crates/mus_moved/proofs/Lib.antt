@@ -1,4 +1,0 @@
-pub mod Circle
-pub mod Reaching
-pub mod Seeing
-pub mod Sounding
