@@ -1,6 +1,5 @@
 -- Rows of bars.
-use Rattle.std.proofs.Common.{◌≡◌, refl, sym, ap, ◌∙◌, ℕ, ◌+◌, ◌<◌, List, [], ◌∷◌, ◌++◌, Bool, false, Option, None, reverse, slice_index_or, arith}
-use Rattle.std.{proofs.Math.Bool.or_comm, proofs.lemmas.List.reverse-append, proofs.lemmas.List.Folds.list_any-append, proofs.lemmas.List.FromFn.map-range_with_len_more, specs.Prelude.map, specs.Prelude.◌||◌, specs.List.list_any, specs.List.range_with_len}
+use Rattle.std.{proofs.{Common.{◌≡◌, refl, sym, ap, ◌∙◌, ℕ, ◌+◌, ◌<◌, List, [], ◌∷◌, ◌++◌, Bool, false, Option, None, reverse, slice_index_or, arith}, Math.Bool.or_comm, lemmas.List.{reverse-append, Folds.list_any-append, FromFn.map-range_with_len_more}}, specs.{Prelude.{map, ◌||◌}, List.{list_any, range_with_len}}}
 use Rattle.mus_units.specs.declared.note.Bar.{Bar}
 use Rattle.abc_steps.specs.{Looks.Steps, Counts.measures_begun}
 use Rattle.abc_events.specs.Bars.{bars_at, bar_of, joined_or, missing_bar}

@@ -1,10 +1,7 @@
 -- The values of signs have at most three dots.
-use Rattle.std.proofs.Common.{◌≡◌, refl, sym, ap, ◌∙◌, subst, ℕ, zero, suc, ◌+◌, ◌-◌, ◌≤◌, List, [], ◌∷◌, ◌++◌, length, Bool, true, false, cond, Option, Some, None, arith, nat_le, reverse, take, drop, append-nil}
-use Rattle.std.specs.Prelude.{unwrap_or, find, option_map, ◌==◌, ◌*◌, ◌/◌, ⊤}
-use Rattle.std.{proofs.lemmas.Bool.and_parts, proofs.lemmas.List.Elements.All-nil, proofs.lemmas.List.Elements.All-cons, proofs.lemmas.List.Elements.All-append, proofs.lemmas.List.drop_all, specs.List.All, specs.List.list_all}
+use Rattle.std.{proofs.{Common.{◌≡◌, refl, sym, ap, ◌∙◌, subst, ℕ, zero, suc, ◌+◌, ◌-◌, ◌≤◌, List, [], ◌∷◌, ◌++◌, length, Bool, true, false, cond, Option, Some, None, arith, nat_le, reverse, take, drop, append-nil}, lemmas.{Bool.and_parts, List.{Elements.{All-nil, All-cons, All-append}, drop_all}}}, specs.{Prelude.{unwrap_or, find, option_map, ◌==◌, ◌*◌, ◌/◌, ⊤}, List.{All, list_all}}}
 use Rattle.mus_units.specs.{declared.value.Value.Value, Parts.units_of, Parts.all_values, Parts.longest_within, Parts.cut_next, Parts.cut_in, Parts.parts_list}
-use Rattle.abc_steps.specs.{declared.step.Sound.Sound, declared.step.Step.Step, declared.step.Stood.Stood, declared.force.InForce.InForce, Looks.Steps, Looks.since_event, Lengths.written_length, Tuplets.fits, Tuplets.or_default, Tuplets.usual_q, declared.place.Place.Place, Places.place_at}
-use Rattle.abc_steps.specs.Places.{measure_of}
+use Rattle.abc_steps.specs.{declared.{step.{Sound.Sound, Step.Step, Stood.Stood}, force.InForce.InForce, place.Place.Place}, Looks.{Steps, since_event}, Lengths.written_length, Tuplets.{fits, or_default, usual_q}, Places.{place_at, measure_of}}
 use Rattle.abc_events.specs.{declared.written.Sign.Sign, Signs.IsDrawn, Signs.sound_written, Signs.rest_written, Signs.further_rests, Signs.tuplet_of, Signs.signs_of, Signs.signs, Signs.parted_at, Signs.whole_value}
 
 abbrev IsFew : Value → Type 0

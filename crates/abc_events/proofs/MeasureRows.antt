@@ -1,6 +1,5 @@
 -- The measures made so far, and the rows of those that are left.
-use Rattle.std.proofs.Common.{◌≡◌, sym, ap, ◌∙◌, ℕ, suc, ◌+◌, ◌<◌, List, [], ◌∷◌, ◌++◌, length, slice_index_or, arith}
-use Rattle.std.{proofs.lemmas.List.FromFn.map-range_with_len_more, specs.Prelude.map, specs.List.range_with_len}
+use Rattle.std.{proofs.{Common.{◌≡◌, sym, ap, ◌∙◌, ℕ, suc, ◌+◌, ◌<◌, List, [], ◌∷◌, ◌++◌, length, slice_index_or, arith}, lemmas.List.FromFn.map-range_with_len_more}, specs.{Prelude.map, List.range_with_len}}
 use Rattle.mus_units.specs.declared.note.Bar.{Bar}
 use Rattle.mus_score.specs.{declared.score.Music.Music, declared.score.Measure.Measure}
 use Rattle.abc_events.specs.{declared.leaves.Leaf.Leaf, Bars.plain_bar, Nesting.tree_of, Measures.leaves_in, Measures.measure_of}

@@ -1,7 +1,6 @@
 -- What waits for an event: changes, graces, decorations, texts and an ending, of the steps that
 -- stand before it behind the event before.
-use Rattle.std.specs.Prelude.{ℕ, List, [], ◌∷◌, ◌++◌, flat_map, Bool, true, false, ◌==◌, ◌||◌, if◌then◌else◌, Option, Some, None}
-use Rattle.std.specs.List.{list_any}
+use Rattle.std.specs.{Prelude.{ℕ, List, [], ◌∷◌, ◌++◌, flat_map, Bool, true, false, ◌==◌, ◌||◌, if◌then◌else◌, Option, Some, None}, List.list_any}
 use Rattle.mus_units.specs.declared.note.Deco.{Deco}
 use Rattle.mus_score.specs.{declared.score.Mention.Mention, declared.score.Changes.Changes}
 use Rattle.abc_notes.specs.declared.part.GraceChord.{GraceChord}

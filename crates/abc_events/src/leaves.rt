@@ -1,7 +1,6 @@
 ghost use Rattle.std.specs.{Prelude.◌≡◌, Prelude.◌≤◌, Prelude.◌+◌, Prelude.◌++◌, Prelude.◌∷◌, Prelude.[], Prelude.List, Prelude.map, Prelude.length, Prelude.replicate, Prelude.unwrap_or, Prelude.false, Prelude.None, Prelude.IfOk, Prelude.OnOk, List.All};
 ghost use Rattle.mus_units.specs.Value.{value_length};
-ghost use Rattle.abc_events.specs.{declared.written.Sign.Sign, Signs.IsDrawn};
-ghost use Rattle.abc_events.specs.Leaves.{ends_at, first_part, later_head, later_part, some_more, later_parts, parts, node_of, grace_event, grace_note, grace_nodes, nodes_of, words_at, leaves_from, leaves_of};
+ghost use Rattle.abc_events.specs.{declared.written.Sign.Sign, Signs.IsDrawn, Leaves.{ends_at, first_part, later_head, later_part, some_more, later_parts, parts, node_of, grace_event, grace_note, grace_nodes, nodes_of, words_at, leaves_from, leaves_of}};
 
 use crate::reading::with_ties;
 use crate::waits::no_changes;

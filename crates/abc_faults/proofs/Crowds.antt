@@ -1,7 +1,5 @@
 -- The first place where too many heads and rests stand so far.
-use Rattle.std.proofs.Common.{◌≡◌, ◌∙◌, refl, sym, ap, subst, ℕ, ◌+◌, ◌<◌, ◌≤◌, List, [], ◌∷◌, ◌++◌, length, drop, take, get_or, Bool, true, false, cond, Option, Some, None, ⊎_elim, arith}
-use Rattle.std.proofs.lemmas.List.{drop_more, take_all, take-append-drop, Sums.sum_by-cons, Sums.sum_by-append, Sums.sum_by-le-sum_by, Sorted.Contains-permutation, Sorted.sum_by-IsPermutation, Sorted.IsPermutation-sym, Elements.Contains-append_right, Elements.Contains-append_cases, Elements.All-nil}
-use Rattle.std.{proofs.lemmas.List.Elements.All-cons, proofs.lemmas.List.Elements.All-contains, proofs.lemmas.Bool.Decides.nat_tests, specs.Prelude.nat_lt, specs.Prelude.sum_by, specs.Prelude.flat_map, specs.List.AllByRecursion, specs.List.Contains, specs.List.Sorted.IsPermutation}
+use Rattle.std.{proofs.{Common.{◌≡◌, ◌∙◌, refl, sym, ap, subst, ℕ, ◌+◌, ◌<◌, ◌≤◌, List, [], ◌∷◌, ◌++◌, length, drop, take, get_or, Bool, true, false, cond, Option, Some, None, ⊎_elim, arith}, lemmas.{List.{drop_more, take_all, take-append-drop, Sums.{sum_by-cons, sum_by-append, sum_by-le-sum_by}, Sorted.{Contains-permutation, sum_by-IsPermutation, IsPermutation-sym}, Elements.{Contains-append_right, Contains-append_cases, All-nil, All-cons, All-contains}}, Bool.Decides.nat_tests}}, specs.{Prelude.{nat_lt, sum_by, flat_map}, List.{AllByRecursion, Contains, Sorted.IsPermutation}}}
 use Rattle.abc_lines.specs.declared.fault.Fault.{Fault}
 use Rattle.abc_faults.specs.{declared.weights.Weight.Weight, First.then_below, First.is_before, First.IsLeast, First.IsFirst, Weights.stands_before, Weights.IsBehind, Weights.AreInOrder, Weights.count_up_to, Weights.crowd_up_to, Weights.crowd_fault, Weights.crowd_faults_at, Weights.crowded}
 

@@ -1,6 +1,5 @@
 -- The derived order of weights is the order of the text.
-use Rattle.std.proofs.Common.{◌≡◌, refl, ℕ, suc, ◌<◌, ◌≤◌, List, [], ◌∷◌, length, get_or, Bool, false, arith}
-use Rattle.std.{proofs.lemmas.Bool.Decides.nat_tests, proofs.lemmas.List.Elements.recursion_from_All, proofs.lemmas.List.Sorted.ranks_by, proofs.lemmas.List.Sorted.sorted_far, specs.List.Sorted.IsSorted, specs.Ordering.is_lt, specs.Ordering.nat_cmp, specs.Ordering.ordering_then}
+use Rattle.std.{proofs.{Common.{◌≡◌, refl, ℕ, suc, ◌<◌, ◌≤◌, List, [], ◌∷◌, length, get_or, Bool, false, arith}, lemmas.{Bool.Decides.nat_tests, List.{Elements.recursion_from_All, Sorted.{ranks_by, sorted_far}}}}, specs.{List.Sorted.IsSorted, Ordering.{is_lt, nat_cmp, ordering_then}}}
 use Rattle.abc_faults.specs.{contracts.weights.WeightOrd.TheImpl.ghosts, contracts.weights.WeightOrd.TheImpl.Laws.total-law, declared.weights.Weight.Weight, Weights.stands_before, Weights.IsBehind, Weights.AreInOrder}
 
 shape : (v w : Weight) → ghosts.cmp v w ≡ ordering_then (nat_cmp v.line w.line) (ordering_then (nat_cmp v.column w.column) (nat_cmp v.count w.count))

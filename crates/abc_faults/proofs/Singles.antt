@@ -1,6 +1,5 @@
 -- A length that a value has is that value alone, cut into parts.
-use Rattle.std.proofs.Common.{◌≡◌, ◌∙◌, sym, ap, ℕ, ◌-◌, ◌≤◌, [], ◌∷◌, true, false, Option, Some, None, option_map, arith}
-use Rattle.std.specs.Prelude.{MatchOption, is_some, is_none}
+use Rattle.std.{proofs.Common.{◌≡◌, ◌∙◌, sym, ap, ℕ, ◌-◌, ◌≤◌, [], ◌∷◌, true, false, Option, Some, None, option_map, arith}, specs.Prelude.{MatchOption, is_some, is_none}}
 use Rattle.mus_units.{specs.declared.value.Value.Value, specs.Parts.IsValueOf, specs.Parts.IsLongest, specs.Parts.units_of, specs.Parts.parts_list, proofs.Longest.value_some, proofs.Listed.cut_at_end, proofs.Listed.cut_on, proofs.Listed.listed_is}
 use Rattle.abc_faults.specs.Weights.{count_parts}
 

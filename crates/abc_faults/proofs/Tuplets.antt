@@ -1,6 +1,5 @@
 -- How many events a tuplet could take, one step further on.
-use Rattle.std.proofs.Common.{◌≡◌, ◌∙◌, ap, ℕ, ◌+◌, ◌<◌, [], ◌∷◌, length, drop, get_or, Bool, false, not, cond, arith}
-use Rattle.std.{proofs.lemmas.List.drop_more, proofs.lemmas.List.Sums.sum_by-cons, proofs.lemmas.List.Sums.take_while-cons, proofs.lemmas.Bool.Decides.nat_tests, specs.Prelude.nat_lt, specs.Prelude.count_by, specs.List.before_first, specs.List.take_while}
+use Rattle.std.{proofs.{Common.{◌≡◌, ◌∙◌, ap, ℕ, ◌+◌, ◌<◌, [], ◌∷◌, length, drop, get_or, Bool, false, not, cond, arith}, lemmas.{List.{drop_more, Sums.{sum_by-cons, take_while-cons}}, Bool.Decides.nat_tests}}, specs.{Prelude.{nat_lt, count_by}, List.{before_first, take_while}}}
 use Rattle.abc_steps.specs.{declared.step.Stood.Stood, Kinds.is_sound, Looks.Steps}
 use Rattle.abc_faults.specs.Faults.{ends_tuplets}
 

@@ -1,6 +1,5 @@
 -- One step of a walk along the steps of a voice.
-use Rattle.std.proofs.Common.{◌≡◌, ◌∙◌, sym, ap, ℕ, ◌+◌, ◌<◌, ◌≤◌, List, [], ◌∷◌, ◌++◌, append_assoc, length, drop, take, get_or, reverse, Option}
-use Rattle.std.proofs.lemmas.List.{drop_more, drop_all, take_more, reverse-append}
+use Rattle.std.proofs.{Common.{◌≡◌, ◌∙◌, sym, ap, ℕ, ◌+◌, ◌<◌, ◌≤◌, List, [], ◌∷◌, ◌++◌, append_assoc, length, drop, take, get_or, reverse, Option}, lemmas.List.{drop_more, drop_all, take_more, reverse-append}}
 use Rattle.mus_units.specs.declared.pitch.Clef.{Clef}
 use Rattle.abc_lines.specs.declared.fault.Fault.{Fault}
 use Rattle.abc_steps.specs.{declared.step.Stood.Stood, declared.force.InForce.InForce, Looks.Steps, Places.place_at}

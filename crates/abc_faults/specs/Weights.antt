@@ -1,6 +1,5 @@
 -- How many heads and rests stand at each place, and where there are too many of them so far.
-use Rattle.std.specs.Prelude.{◌≡◌, ⊤, false, ℕ, ◌*◌, List, [], ◌∷◌, ◌++◌, length, max, Bool, nat_lt, if◌then◌else◌, sum_by, flat_map, Option, Some, None}
-use Rattle.std.specs.List.{AllByRecursion}
+use Rattle.std.specs.{Prelude.{◌≡◌, ⊤, false, ℕ, ◌*◌, List, [], ◌∷◌, ◌++◌, length, max, Bool, nat_lt, if◌then◌else◌, sum_by, flat_map, Option, Some, None}, List.AllByRecursion}
 use Rattle.mus_units.specs.{declared.value.Value.Value, Parts.parts_list}
 use Rattle.abc_lines.specs.declared.fault.{FaultKind.FaultKind, Fault.Fault}
 use Rattle.abc_notes.specs.declared.part.GraceChord.{GraceChord}

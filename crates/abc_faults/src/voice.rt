@@ -1,8 +1,6 @@
 ghost use Rattle.std.specs.{Prelude.◌≡◌, Prelude.◌≤◌, Prelude.◌^◌, Prelude.◌++◌, Prelude.◌∷◌, Prelude.[], Prelude.length, Prelude.reverse, Prelude.nat_lt, Prelude.IfOk, Prelude.OnOk, List.All};
 ghost use Rattle.abc_steps.specs.{Looks.since_event, Good.IsGoodForce, Good.IsGoodStood, Good.IsGoodSound};
-ghost use Rattle.abc_faults.specs.First.{first_of, IsFirst};
-ghost use Rattle.abc_faults.specs.Faults.{fault_at, fault_if, ends_tuplets, sounds_behind, misfit_of, tuplet_faults, is_off, any_off, any_grace_off, grace_faults_of, grace_faults, is_past, is_free, sound_faults_if, sound_faults, rest_faults, faults_of, faults_in};
-ghost use Rattle.abc_faults.specs.Weights.{weight_at, sound_count, grace_weights, weights_of, weights_in};
+ghost use Rattle.abc_faults.specs.{First.{first_of, IsFirst}, Faults.{fault_at, fault_if, ends_tuplets, sounds_behind, misfit_of, tuplet_faults, is_off, any_off, any_grace_off, grace_faults_of, grace_faults, is_past, is_free, sound_faults_if, sound_faults, rest_faults, faults_of, faults_in}, Weights.{weight_at, sound_count, grace_weights, weights_of, weights_in}};
 
 use crate::first::earlier;
 use crate::weights::{Weight, extent_of, put_graces, sound_count, weight_at};

@@ -1,7 +1,5 @@
 -- A text without the blanks at its ends is what stands between blanks in it.
-use Rattle.std.proofs.Common.{◌≡◌, refl, sym, ap, ◌∙◌, ℕ, suc, ◌+◌, ◌-◌, List, [], ◌∷◌, ◌++◌, Bool, true, false, length, take, drop, arith, cond, length-append, ◌==◌, not, reverse}
-use Rattle.std.proofs.lemmas.{Bool.and_parts, Bool.eqb-true, Bool.eqb-false, Bool.not-true, List.take-append-drop, List.append-nil, List.reverse-append, List.length-reverse, List.Folds.prefix_len-append, List.Sums.suffix_len-le-length}
-use Rattle.std.{proofs.Math.Seq.take-append_seam, specs.List.list_all, specs.List.prefix_len, specs.List.suffix_len}
+use Rattle.std.{proofs.{Common.{◌≡◌, refl, sym, ap, ◌∙◌, ℕ, suc, ◌+◌, ◌-◌, List, [], ◌∷◌, ◌++◌, Bool, true, false, length, take, drop, arith, cond, length-append, ◌==◌, not, reverse}, lemmas.{Bool.{and_parts, eqb-true, eqb-false, not-true}, List.{take-append-drop, append-nil, reverse-append, length-reverse, Folds.prefix_len-append, Sums.suffix_len-le-length}}, Math.Seq.take-append_seam}, specs.List.{list_all, prefix_len, suffix_len}}
 use Rattle.abc_lines.specs.Kinds.{is_blank, behind_blanks}
 use Rattle.abc_fields.{specs.Words.trimmed, specs.WordSpelling.IsBetweenBlanks, proofs.WordLaws.behind-cons}
 

@@ -1,14 +1,9 @@
 -- The function that the code follows and the relation that is meant agree: a line reads as a field
 -- exactly where it says it, and is refused exactly where it says nothing.
-use Rattle.std.proofs.Common.{◌≡◌, refl, sym, ap, ◌∙◌, subst, ℕ, List, Bool, true, false, ◌==◌, ◌||◌, Option, Some, None, Result, Ok, Err, IfOk, IfErr, unwrap_or, codes}
-use Rattle.std.{proofs.lemmas.Bool.eqb-true, proofs.lemmas.Bool.not-true, proofs.lemmas.Bool.or_parts, proofs.lemmas.Slice.Eq.bytes_eq-Decides, specs.Str.bytes_eq}
+use Rattle.std.{proofs.{Common.{◌≡◌, refl, sym, ap, ◌∙◌, subst, ℕ, List, Bool, true, false, ◌==◌, ◌||◌, Option, Some, None, Result, Ok, Err, IfOk, IfErr, unwrap_or, codes}, lemmas.{Bool.{eqb-true, not-true, or_parts}, Slice.Eq.bytes_eq-Decides}}, specs.Str.bytes_eq}
 use Rattle.mus_units.specs.declared.key.Spread.{Spread}
 use Rattle.abc_lines.specs.{declared.book.Line.Line, declared.fault.FaultKind.FaultKind, declared.fault.TuneError.TuneError, declared.kind.LineKind.LineKind, Kinds.kind_of, Kinds.field_text}
-use Rattle.abc_fields.specs.Fields.{key_field, meter_field, unit_field, voice_field, written_field, named_field, breaks_field, spread_field, directive_field, field_by, field_of, Refuses, IsFaultOfLine}
-use Rattle.abc_fields.specs.{declared.directive.Breaks.Breaks, declared.field.Field.Field, declared.field.FieldError.FieldError, Directives.name_of, Directives.rest_of, Directives.has_word, Directives.names_breaks, Directives.breaks_of, Directives.spread_of, Keys.key_of, Meters.meter_of}
-use Rattle.abc_fields.specs.{Meters.unit_of, Voices.voice_of, MeterSpelling.SaysMeter, MeterSpelling.SaysUnit, FieldSpelling.SaysBreaks, FieldSpelling.SaysSpread, FieldSpelling.is_known, FieldSpelling.NamedSays, FieldSpelling.DirectiveSays, FieldSpelling.KindSays, FieldSpelling.Says}
-use Rattle.abc_fields.{specs.FieldSpelling.NamedBad, specs.FieldSpelling.KindBad, specs.FieldSpelling.IsBad, specs.FieldSpelling.NamedRefuses, specs.FieldSpelling.IsBadLine, specs.KeySpelling.SaysKey, specs.VoiceSpelling.SaysVoice, proofs.KeyForms.key-says, proofs.KeyForms.key-read}
-use Rattle.abc_fields.proofs.{MeterForms.none_is_some, MeterForms.meter-says, MeterForms.meter-read, MeterForms.unit-says, MeterForms.unit-read, MeterForms.same_bytes, VoiceForms.voice-says, VoiceForms.voice-read}
+use Rattle.abc_fields.{specs.{Fields.{key_field, meter_field, unit_field, voice_field, written_field, named_field, breaks_field, spread_field, directive_field, field_by, field_of, Refuses, IsFaultOfLine}, declared.{directive.Breaks.Breaks, field.{Field.Field, FieldError.FieldError}}, Directives.{name_of, rest_of, has_word, names_breaks, breaks_of, spread_of}, Keys.key_of, Meters.{meter_of, unit_of}, Voices.voice_of, MeterSpelling.{SaysMeter, SaysUnit}, FieldSpelling.{SaysBreaks, SaysSpread, is_known, NamedSays, DirectiveSays, KindSays, Says, NamedBad, KindBad, IsBad, NamedRefuses, IsBadLine}, KeySpelling.SaysKey, VoiceSpelling.SaysVoice}, proofs.{KeyForms.{key-says, key-read}, MeterForms.{none_is_some, meter-says, meter-read, unit-says, unit-read, same_bytes}, VoiceForms.{voice-says, voice-read}}}
 
 abbrev Reading : Type 0
 Reading = Result Field FaultKind

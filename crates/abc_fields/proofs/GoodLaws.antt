@@ -1,9 +1,7 @@
 -- What is read as a meter or a unit length has good numbers.
-use Rattle.std.proofs.Common.{◌≡◌, refl, sym, ℕ, ◌+◌, ◌*◌, ◌-◌, ◌≤◌, List, [], ◌∷◌, Bool, true, false, arith, subst, Option, Some, None, IsTrue, IfSome, nat_le, not, codes, ◌==◌, if◌then◌else◌}
-use Rattle.std.{proofs.lemmas.Bool.and_parts, proofs.lemmas.Bool.leb-true, proofs.lemmas.Bool.Decides.nat_tests, specs.Option.option_and_then, specs.Str.bytes_eq}
+use Rattle.std.{proofs.{Common.{◌≡◌, refl, sym, ℕ, ◌+◌, ◌*◌, ◌-◌, ◌≤◌, List, [], ◌∷◌, Bool, true, false, arith, subst, Option, Some, None, IsTrue, IfSome, nat_le, not, codes, ◌==◌, if◌then◌else◌}, lemmas.Bool.{and_parts, leb-true, Decides.nat_tests}}, specs.{Option.option_and_then, Str.bytes_eq}}
 use Rattle.mus_units.specs.{declared.key.Meter.Meter, Good.IsGoodMeter, Good.IsGoodUnit, Good.is_halving}
-use Rattle.abc_fields.specs.Meters.{halving_of, plus, added, terms_after, sum_of, ratio, below_of, below_behind, plain_ratio, wrapped_ratio, ratio_by, ratio_of, meter_at, meter_of, one_over, unit_at, unit_of}
-use Rattle.abc_fields.{specs.Numbers.is_digit, specs.Numbers.is_number, specs.Numbers.value_after, specs.Numbers.value_of, specs.Numbers.number_of, specs.Numbers.before, specs.Numbers.from_first, specs.Numbers.behind_one, specs.Words.trimmed, specs.Words.behind, proofs.MeterLaws.split_cut}
+use Rattle.abc_fields.{specs.{Meters.{halving_of, plus, added, terms_after, sum_of, ratio, below_of, below_behind, plain_ratio, wrapped_ratio, ratio_by, ratio_of, meter_at, meter_of, one_over, unit_at, unit_of}, Numbers.{is_digit, is_number, value_after, value_of, number_of, before, from_first, behind_one}, Words.{trimmed, behind}}, proofs.MeterLaws.split_cut}
 
 value_after-grows : (ds : List ℕ) (n : ℕ) → n ≤ value_after n ds
 value_after-grows [] n = omega arith

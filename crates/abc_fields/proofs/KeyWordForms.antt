@@ -1,11 +1,7 @@
 -- A word of a key reads as a sign, a clef or another word exactly where a good form of it spells it.
-use Rattle.std.proofs.Common.{◌≡◌, refl, sym, ap, ◌∙◌, ℕ, ◌+◌, ◌-◌, ◌≤◌, List, [], ◌∷◌, ◌++◌, Bool, true, false, map, arith, inl, inr, ◌==◌, ◌⊎◌, Option, Some, None, unwrap_or, codes, if◌then◌else◌, eqb-true}
-use Rattle.std.specs.{List.list_any, Option.option_map, Option.option_and_then, Option.option_or, Str.bytes_eq}
+use Rattle.std.{proofs.Common.{◌≡◌, refl, sym, ap, ◌∙◌, ℕ, ◌+◌, ◌-◌, ◌≤◌, List, [], ◌∷◌, ◌++◌, Bool, true, false, map, arith, inl, inr, ◌==◌, ◌⊎◌, Option, Some, None, unwrap_or, codes, if◌then◌else◌, eqb-true}, specs.{List.list_any, Option.{option_map, option_and_then, option_or}, Str.bytes_eq}}
 use Rattle.mus_units.specs.{declared.key.Sign.Sign, declared.pitch.Alter.Alter, declared.pitch.Clef.Clef, declared.pitch.Letter.Letter}
-use Rattle.abc_fields.specs.KeySpelling.{letter_byte, letter_spelled, alter_spelled, KeyWordForm, exp_word, sign_word, clef_word, name_word, passed_word, word_spelled, IsPassed, IsGoodWord, AreGoodWords, word_meant}
-use Rattle.abc_fields.specs.{declared.key.KeyWord.KeyWord, Keys.natural_of, Keys.letter_alone, Keys.signed, Keys.sign_of, Keys.clef_of, Keys.by_name, Keys.by_clef, Keys.by_sign, Keys.key_word, Keys.key_words, VoiceSpelling.ClefForm, VoiceSpelling.plain_clef, VoiceSpelling.above_clef}
-use Rattle.abc_fields.{specs.VoiceSpelling.below_clef, specs.VoiceSpelling.clef_spelled, specs.VoiceSpelling.clef_meant, specs.Words.behind, proofs.MeterForms.none_is_some, proofs.MeterForms.behind-takes, proofs.MeterForms.same_bytes, proofs.VoiceForms.clef-read, proofs.VoiceForms.clef-takes}
-use Rattle.abc_fields.proofs.VoiceForms.{no_clef_read, no_front, behind-clef}
+use Rattle.abc_fields.{specs.{KeySpelling.{letter_byte, letter_spelled, alter_spelled, KeyWordForm, exp_word, sign_word, clef_word, name_word, passed_word, word_spelled, IsPassed, IsGoodWord, AreGoodWords, word_meant}, declared.key.KeyWord.KeyWord, Keys.{natural_of, letter_alone, signed, sign_of, clef_of, by_name, by_clef, by_sign, key_word, key_words}, VoiceSpelling.{ClefForm, plain_clef, above_clef, below_clef, clef_spelled, clef_meant}, Words.behind}, proofs.{MeterForms.{none_is_some, behind-takes, same_bytes}, VoiceForms.{clef-read, clef-takes, no_clef_read, no_front, behind-clef}}}
 
 -- Letters.
 letter_if : (b : ℕ) (letter : Letter) (isc isd ise isf isg isa isb : Bool) → (b == 67) ≡ isc → (b == 68) ≡ isd → (b == 69) ≡ ise → (b == 70) ≡ isf → (b == 71) ≡ isg → (b == 65) ≡ isa → (b == 66) ≡ isb

@@ -1,13 +1,8 @@
 -- A text reads as a meter exactly where a good form of that meter spells it; likewise unit lengths.
-use Rattle.std.proofs.Common.{◌≡◌, refl, sym, ap, ◌∙◌, subst, ℕ, suc, ◌+◌, ◌≤◌, ◌<◌, List, [], ◌∷◌, ◌++◌, Bool, true, false, length, take, drop, arith, inl, inr, ◌==◌, ◌⊎◌, not, nat_eq, nat_le, Option, Some, None, unwrap_or, codes, take-append-drop}
-use Rattle.std.proofs.lemmas.{Bool.and_parts, Bool.leb-true, Bool.le-leb, Bool.eqb-true, Bool.ne_eqb, List.Folds.list_all-append, List.Splits.join_with_byte-slice_split, List.Splits.length-slice_split, Slice.Eq.bytes_eq-Decides}
-use Rattle.std.{proofs.Math.Seq.take-append_seam, proofs.Math.Seq.drop-append_seam, specs.List.list_all, specs.List.join_with_byte, specs.List.slice_split, specs.List.starts_with, specs.Str.bytes_eq}
+use Rattle.std.{proofs.{Common.{◌≡◌, refl, sym, ap, ◌∙◌, subst, ℕ, suc, ◌+◌, ◌≤◌, ◌<◌, List, [], ◌∷◌, ◌++◌, Bool, true, false, length, take, drop, arith, inl, inr, ◌==◌, ◌⊎◌, not, nat_eq, nat_le, Option, Some, None, unwrap_or, codes, take-append-drop}, lemmas.{Bool.{and_parts, leb-true, le-leb, eqb-true, ne_eqb}, List.{Folds.list_all-append, Splits.{join_with_byte-slice_split, length-slice_split}}, Slice.Eq.bytes_eq-Decides}, Math.Seq.{take-append_seam, drop-append_seam}}, specs.{List.{list_all, join_with_byte, slice_split, starts_with}, Str.bytes_eq}}
 use Rattle.mus_units.specs.{declared.key.Meter.Meter, declared.value.Frac.Frac, Good.is_halving}
 use Rattle.abc_lines.specs.Kinds.{is_blank}
-use Rattle.abc_fields.specs.Meters.{is_plus, halving_of, added, sum_of, ratio, below_of, below_behind, plain_ratio, wrapped_ratio, ratio_by, ratio_of, meter_at, meter_of, one_over, unit_at, unit_of}
-use Rattle.abc_fields.specs.MeterSpelling.{MeterForm, common_form, cut_form, none_form, empty_form, sum_form, wrapped_form, meter_spelled, value_sum, IsGoodSum, IsGoodMeterForm, meter_meant, WritesMeter, SaysMeter, UnitForm, whole_form, over_form, unit_spelled, IsGoodUnitForm, unit_meant, WritesUnit, SaysUnit}
-use Rattle.abc_fields.{specs.Numbers.is_digit, specs.Numbers.is_number, specs.Numbers.value_of, specs.Numbers.number_of, specs.Numbers.place_of, specs.Numbers.before, specs.Numbers.from_first, specs.Numbers.behind_one, specs.Words.trimmed, specs.Words.behind, proofs.BlankLaws.trimmed-between}
-use Rattle.abc_fields.proofs.BlankLaws.{between-trimmed}
+use Rattle.abc_fields.{specs.{Meters.{is_plus, halving_of, added, sum_of, ratio, below_of, below_behind, plain_ratio, wrapped_ratio, ratio_by, ratio_of, meter_at, meter_of, one_over, unit_at, unit_of}, MeterSpelling.{MeterForm, common_form, cut_form, none_form, empty_form, sum_form, wrapped_form, meter_spelled, value_sum, IsGoodSum, IsGoodMeterForm, meter_meant, WritesMeter, SaysMeter, UnitForm, whole_form, over_form, unit_spelled, IsGoodUnitForm, unit_meant, WritesUnit, SaysUnit}, Numbers.{is_digit, is_number, value_of, number_of, place_of, before, from_first, behind_one}, Words.{trimmed, behind}}, proofs.BlankLaws.{trimmed-between, between-trimmed}}
 
 -- no byte of s is this one
 abbrev pub lacks : ℕ → List ℕ → Bool

@@ -1,6 +1,5 @@
 -- Terms of a sum: the first of them, and those behind it.
-use Rattle.std.proofs.Common.{◌≡◌, refl, ℕ, suc, ◌+◌, List, [], ◌∷◌, Bool, true, false, take, drop, arith, ◌==◌}
-use Rattle.std.specs.List.{slice_split}
+use Rattle.std.{proofs.Common.{◌≡◌, refl, ℕ, suc, ◌+◌, List, [], ◌∷◌, Bool, true, false, take, drop, arith, ◌==◌}, specs.List.slice_split}
 use Rattle.abc_fields.specs.{Numbers.place_of, Numbers.before, Numbers.from_first, Meters.is_plus, Meters.terms_after}
 
 split_more : (b : ℕ) (s : List ℕ) (plus : Bool) → (b == 43) ≡ plus

@@ -1,6 +1,5 @@
 -- Values of digits: below a limit they are kept by a sum that stops at it.
-use Rattle.std.proofs.Common.{◌≡◌, ℕ, ◌+◌, ◌*◌, ◌-◌, ◌≤◌, ◌<◌, List, [], ◌∷◌, true, length, arith, min}
-use Rattle.std.{proofs.lemmas.Bool.and_parts, proofs.lemmas.Bool.leb-true, specs.List.list_all}
+use Rattle.std.{proofs.{Common.{◌≡◌, ℕ, ◌+◌, ◌*◌, ◌-◌, ◌≤◌, ◌<◌, List, [], ◌∷◌, true, length, arith, min}, lemmas.Bool.{and_parts, leb-true}}, specs.List.list_all}
 use Rattle.abc_fields.specs.Numbers.{is_digit, is_number, value_after, value_of}
 
 -- values that are one below the limit stay so

@@ -1,11 +1,7 @@
 -- A text reads as a clef, and as a voice, exactly where a good form of it spells it.
-use Rattle.std.proofs.Common.{◌≡◌, refl, sym, ap, ◌∙◌, ℕ, ◌-◌, ◌≤◌, List, [], ◌∷◌, ◌++◌, Bool, true, false, length, take, drop, map, not, nat_eq, nat_le, Option, Some, None, unwrap_or, codes, take-append-drop}
-use Rattle.std.{proofs.lemmas.Bool.and_parts, proofs.lemmas.Bool.leb-true, proofs.lemmas.Bool.le-leb, proofs.lemmas.Slice.Eq.bytes_eq-Decides, specs.List.ends_with, specs.Option.option_map, specs.Option.option_and_then, specs.Str.bytes_eq}
+use Rattle.std.{proofs.{Common.{◌≡◌, refl, sym, ap, ◌∙◌, ℕ, ◌-◌, ◌≤◌, List, [], ◌∷◌, ◌++◌, Bool, true, false, length, take, drop, map, not, nat_eq, nat_le, Option, Some, None, unwrap_or, codes, take-append-drop}, lemmas.{Bool.{and_parts, leb-true, le-leb}, Slice.Eq.bytes_eq-Decides}}, specs.{List.ends_with, Option.{option_map, option_and_then}, Str.bytes_eq}}
 use Rattle.mus_units.specs.{declared.pitch.Clef.Clef, declared.note.Wish.Wish}
-use Rattle.abc_fields.specs.VoiceSpelling.{ClefForm, plain_clef, above_clef, below_clef, clef_name, clef_spelled, clef_meant, PropertyForm, clef_property, name_property, stem_property, other_property, way_name, property_spelled, IsOther, IsGoodProperty, AreGoodProperties, property_meant, SaysVoice}
-use Rattle.abc_fields.specs.{declared.voice.VoiceDef.VoiceDef, declared.voice.VoiceWord.VoiceWord, Keys.named_clef, Keys.has_octave, Keys.without_octave, Keys.clef_of, Voices.wish_of, Voices.named_or_passed, Voices.by_stem, Voices.by_clef, Voices.voice_word, Voices.voice_words, Voices.voice_def}
-use Rattle.abc_fields.{specs.Voices.is_good_voice, specs.Voices.voice_by_id, specs.Voices.voice_of, specs.Words.next_word, specs.Words.properties_of, specs.Words.ends_quoted, specs.Words.behind, specs.WordSpelling.IsFirstWord, proofs.MeterForms.none_is_some, proofs.MeterForms.behind-takes}
-use Rattle.abc_fields.proofs.{MeterForms.same_bytes, WordForms.first-takes, WordForms.first-read}
+use Rattle.abc_fields.{specs.{VoiceSpelling.{ClefForm, plain_clef, above_clef, below_clef, clef_name, clef_spelled, clef_meant, PropertyForm, clef_property, name_property, stem_property, other_property, way_name, property_spelled, IsOther, IsGoodProperty, AreGoodProperties, property_meant, SaysVoice}, declared.voice.{VoiceDef.VoiceDef, VoiceWord.VoiceWord}, Keys.{named_clef, has_octave, without_octave, clef_of}, Voices.{wish_of, named_or_passed, by_stem, by_clef, voice_word, voice_words, voice_def, is_good_voice, voice_by_id, voice_of}, Words.{next_word, properties_of, ends_quoted, behind}, WordSpelling.IsFirstWord}, proofs.{MeterForms.{none_is_some, behind-takes, same_bytes}, WordForms.{first-takes, first-read}}}
 
 -- Clefs.
 pub clef-read : (form : ClefForm) → clef_of (clef_spelled form) ≡ Some (clef_meant form)

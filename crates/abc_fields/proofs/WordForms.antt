@@ -1,9 +1,7 @@
 -- The words that are read one after another are those of the text, with blanks between them.
-use Rattle.std.proofs.Common.{◌≡◌, refl, sym, ap, ◌∙◌, subst, ℕ, List, [], ◌∷◌, ◌++◌, Bool, true, false, length, take, drop, not, Option, Some, None, unwrap_or, take-append-drop, append-nil}
-use Rattle.std.{proofs.lemmas.Bool.and_parts, proofs.lemmas.Bool.not-true, proofs.Math.Seq.take-append_seam, proofs.Math.Seq.drop-append_seam, specs.List.list_all, specs.List.prefix_len}
+use Rattle.std.{proofs.{Common.{◌≡◌, refl, sym, ap, ◌∙◌, subst, ℕ, List, [], ◌∷◌, ◌++◌, Bool, true, false, length, take, drop, not, Option, Some, None, unwrap_or, take-append-drop, append-nil}, lemmas.Bool.{and_parts, not-true}, Math.Seq.{take-append_seam, drop-append_seam}}, specs.List.{list_all, prefix_len}}
 use Rattle.abc_lines.specs.Kinds.{is_blank, behind_blanks}
-use Rattle.abc_fields.{specs.Words.is_empty, specs.Words.word_len, specs.Words.word_and_rest, specs.Words.next_word, specs.Words.words_of, specs.Words.words_after, specs.WordSpelling.Parts, specs.WordSpelling.IsFirstWord, specs.WordSpelling.HasWords, proofs.BlankLaws.front-passes}
-use Rattle.abc_fields.proofs.{BlankLaws.blanks-passed, BlankLaws.stays, MeterForms.none_is_some, WordLaws.BeginsWord, WordLaws.BeginsBlank, WordLaws.behind-begins, WordLaws.word-stops, WordLaws.words-next}
+use Rattle.abc_fields.{specs.{Words.{is_empty, word_len, word_and_rest, next_word, words_of, words_after}, WordSpelling.{Parts, IsFirstWord, HasWords}}, proofs.{BlankLaws.{front-passes, blanks-passed, stays}, MeterForms.none_is_some, WordLaws.{BeginsWord, BeginsBlank, behind-begins, word-stops, words-next}}}
 
 -- The first word.
 whole_more : (b : ℕ) (s : List ℕ) (parts : Bool) → is_blank b ≡ parts → list_all (λ c. not (is_blank c)) (take (word_len false false s) s) ≡ true → list_all (λ c. not (is_blank c)) (take (word_len false false (b ∷ s)) (b ∷ s)) ≡ true

@@ -1,6 +1,5 @@
 -- Directives: their name, and what those that bear on breaks and on signs say.
-use Rattle.std.specs.Prelude.{ℕ, List, Bool, ◌||◌, not, if◌then◌else◌, take, drop, codes, Option, Some, None}
-use Rattle.std.specs.{List.prefix_len, List.list_any, Str.bytes_eq}
+use Rattle.std.specs.{Prelude.{ℕ, List, Bool, ◌||◌, not, if◌then◌else◌, take, drop, codes, Option, Some, None}, List.{prefix_len, list_any}, Str.bytes_eq}
 use Rattle.mus_units.specs.declared.key.Spread.{Spread}
 use Rattle.abc_lines.specs.Kinds.{is_blank}
 use Rattle.abc_fields.specs.{declared.directive.Breaks.Breaks, Words.words_of, Words.trimmed}

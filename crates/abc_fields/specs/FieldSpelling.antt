@@ -5,8 +5,7 @@ use Prim.Native.Char.{code}
 use Rattle.std.specs.Prelude.{◌≡◌, ℕ, List, Bool, ⊤, ◌==◌, ◌||◌, IsTrue, not, codes}
 use Rattle.mus_units.specs.{declared.key.Meter.Meter, declared.key.Spread.Spread, declared.value.Frac.Frac}
 use Rattle.abc_lines.specs.{declared.book.Line.Line, declared.fault.FaultKind.FaultKind, declared.fault.TuneError.TuneError, declared.kind.LineKind.LineKind, Kinds.kind_of, Kinds.field_text}
-use Rattle.abc_fields.specs.{declared.directive.Breaks.Breaks, declared.key.KeyText.KeyText, declared.voice.VoiceDef.VoiceDef, declared.field.Field.Field, declared.field.FieldError.FieldError, Directives.name_of, Directives.rest_of, Directives.has_word, Directives.names_breaks, KeySpelling.SaysKey}
-use Rattle.abc_fields.specs.{MeterSpelling.SaysMeter, MeterSpelling.SaysUnit, VoiceSpelling.SaysVoice}
+use Rattle.abc_fields.specs.{declared.{directive.Breaks.Breaks, key.KeyText.KeyText, voice.VoiceDef.VoiceDef, field.{Field.Field, FieldError.FieldError}}, Directives.{name_of, rest_of, has_word, names_breaks}, KeySpelling.SaysKey, MeterSpelling.{SaysMeter, SaysUnit}, VoiceSpelling.SaysVoice}
 
 -- Line breaks: at least one of the four words stands among the words of the text, and each
 -- of the three breaks is on where its word does; `<none>` adds none, and other words are passed over.

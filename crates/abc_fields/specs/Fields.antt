@@ -1,12 +1,10 @@
 -- What a line says: its field, or its fault. The function that the code follows; what is meant is
 -- in FieldSpelling.
 use Prim.Native.Char.{code}
-use Rattle.std.specs.Prelude.{◌≡◌, ℕ, List, ◌==◌, if◌then◌else◌, codes, Option, Some, None, Result, Ok, Err, ⊤}
-use Rattle.std.specs.Str.{bytes_eq}
+use Rattle.std.specs.{Prelude.{◌≡◌, ℕ, List, ◌==◌, if◌then◌else◌, codes, Option, Some, None, Result, Ok, Err, ⊤}, Str.bytes_eq}
 use Rattle.mus_units.specs.{declared.key.Meter.Meter, declared.key.Spread.Spread, declared.value.Frac.Frac, Good.IsGoodMeter, Good.IsGoodUnit}
 use Rattle.abc_lines.specs.{declared.book.Line.Line, declared.fault.FaultKind.FaultKind, declared.fault.TuneError.TuneError, declared.kind.LineKind.LineKind, Kinds.kind_of, Kinds.field_text}
-use Rattle.abc_fields.specs.{declared.directive.Breaks.Breaks, declared.key.KeyText.KeyText, declared.voice.VoiceDef.VoiceDef, declared.field.Field.Field, declared.field.FieldError.FieldError, Directives.name_of, Directives.rest_of, Directives.breaks_of, Directives.spread_of, Keys.key_of}
-use Rattle.abc_fields.specs.{Keys.IsGoodKeyText, Meters.meter_of, Meters.unit_of, Voices.voice_of}
+use Rattle.abc_fields.specs.{declared.{directive.Breaks.Breaks, key.KeyText.KeyText, voice.VoiceDef.VoiceDef, field.{Field.Field, FieldError.FieldError}}, Directives.{name_of, rest_of, breaks_of, spread_of}, Keys.{key_of, IsGoodKeyText}, Meters.{meter_of, unit_of}, Voices.voice_of}
 
 abbrev pub key_field : Option KeyText → Result Field FaultKind
 key_field (Some key) = Ok (Field.Key key)

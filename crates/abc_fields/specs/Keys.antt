@@ -1,7 +1,6 @@
 -- What a key's text says: which signs, and which clef.
 use Prim.Native.Char.{code}
-use Rattle.std.specs.Prelude.{ℕ, ℤ, pos, List, [], ◌∷◌, Bool, true, false, ◌==◌, ◌||◌, ⊤, nat_eq, if◌then◌else◌, length, take, codes, Option, Some, None, ◌-◌}
-use Rattle.std.specs.{List.list_any, List.filter_map, List.ends_with, List.after_last, Option.option_map, Option.option_and_then, Option.option_or, Str.bytes_eq, Char.to_ascii_lowercase}
+use Rattle.std.specs.{Prelude.{ℕ, ℤ, pos, List, [], ◌∷◌, Bool, true, false, ◌==◌, ◌||◌, ⊤, nat_eq, if◌then◌else◌, length, take, codes, Option, Some, None, ◌-◌}, List.{list_any, filter_map, ends_with, after_last}, Option.{option_map, option_and_then, option_or}, Str.bytes_eq, Char.to_ascii_lowercase}
 use Rattle.mus_units.specs.{declared.pitch.Letter.Letter, declared.pitch.Alter.Alter, declared.pitch.Clef.Clef, declared.key.Sign.Sign, Good.IsGoodKey, declared.key.Key.Key}
 use Rattle.mus_pitch.specs.{declared.circle.Mode.Mode, Circle.signature_of, Circle.signs_of, Signs.laid}
 use Rattle.abc_fields.specs.{declared.key.Tonic.Tonic, Last.last_of, declared.key.KeyText.KeyText, declared.key.KeyWord.KeyWord, declared.key.Start.Start, Words.words_of, Words.behind}

@@ -1,8 +1,7 @@
 -- How meters and unit lengths are written: each form with its spelling, when it is good, and what
 -- it means. Blanks round the whole text count for nothing.
 use Prim.Native.Char.{code}
-use Rattle.std.specs.Prelude.{◌≡◌, ℕ, ◌+◌, ◌≤◌, List, [], ◌∷◌, ◌++◌, IsTrue, ⊤, length, codes}
-use Rattle.std.specs.List.{list_all, join_with_byte}
+use Rattle.std.specs.{Prelude.{◌≡◌, ℕ, ◌+◌, ◌≤◌, List, [], ◌∷◌, ◌++◌, IsTrue, ⊤, length, codes}, List.{list_all, join_with_byte}}
 use Rattle.mus_units.specs.{declared.key.Meter.Meter, declared.value.Frac.Frac, Good.is_halving}
 use Rattle.abc_fields.specs.{Numbers.is_number, Numbers.value_of, WordSpelling.IsBetweenBlanks}
 

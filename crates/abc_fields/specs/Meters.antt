@@ -1,7 +1,6 @@
 -- Meters and unit lengths: how they are written and what they mean.
 use Prim.Native.Char.{code}
-use Rattle.std.specs.Prelude.{ℕ, ◌+◌, ◌*◌, List, [], ◌∷◌, Bool, ◌==◌, nat_le, nat_lt, codes, Option, Some, None, if◌then◌else◌}
-use Rattle.std.specs.{List.slice_split, Option.option_and_then, Str.bytes_eq}
+use Rattle.std.specs.{Prelude.{ℕ, ◌+◌, ◌*◌, List, [], ◌∷◌, Bool, ◌==◌, nat_le, nat_lt, codes, Option, Some, None, if◌then◌else◌}, List.slice_split, Option.option_and_then, Str.bytes_eq}
 use Rattle.mus_units.specs.{declared.key.Meter.Meter, declared.value.Frac.Frac, Good.is_halving}
 use Rattle.abc_fields.specs.{Numbers.number_of, Numbers.before, Numbers.from_first, Numbers.behind_one, Words.trimmed, Words.behind}
 

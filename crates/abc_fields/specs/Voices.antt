@@ -1,6 +1,5 @@
 -- What a voice's text says: its id, its clef and the way of its stems.
-use Rattle.std.specs.Prelude.{ℕ, List, [], ◌∷◌, Bool, false, ◌&&◌, not, nat_le, if◌then◌else◌, length, codes, Option, Some, None, is_some, unwrap_or}
-use Rattle.std.specs.{Option.option_map, Option.option_and_then, Str.bytes_eq}
+use Rattle.std.specs.{Prelude.{ℕ, List, [], ◌∷◌, Bool, false, ◌&&◌, not, nat_le, if◌then◌else◌, length, codes, Option, Some, None, is_some, unwrap_or}, Option.{option_map, option_and_then}, Str.bytes_eq}
 use Rattle.mus_units.specs.{declared.pitch.Clef.Clef, declared.note.Wish.Wish}
 use Rattle.abc_fields.specs.{declared.voice.VoiceDef.VoiceDef, declared.voice.VoiceWord.VoiceWord, Keys.clef_of, Last.last_of, Words.next_word, Words.properties_of, Words.ends_quoted, Words.behind}
 

@@ -1,6 +1,5 @@
 -- How blanks stand round a text and between words. A blank is a space or a tab.
-use Rattle.std.specs.Prelude.{◌≡◌, ℕ, List, [], ◌∷◌, ◌++◌, IsTrue, ⊤, not}
-use Rattle.std.specs.List.{list_all}
+use Rattle.std.specs.{Prelude.{◌≡◌, ℕ, List, [], ◌∷◌, ◌++◌, IsTrue, ⊤, not}, List.list_all}
 use Rattle.abc_lines.specs.Kinds.{is_blank}
 use Rattle.abc_fields.specs.Words.{is_empty}
 

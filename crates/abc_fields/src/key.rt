@@ -1,10 +1,8 @@
-ghost use Rattle.std.specs.Prelude.{◌≡◌, IfOk, IfSome, Some, None, codes, ◌==◌, nat_eq, ◌∷◌, ◌≤◌, length, not};
-ghost use Rattle.std.specs.{List.list_any, List.ends_with, List.filter_map, List.suffix_len, Option.option_map};
+ghost use Rattle.std.specs.{Prelude.{◌≡◌, IfOk, IfSome, Some, None, codes, ◌==◌, nat_eq, ◌∷◌, ◌≤◌, length, not}, List.{list_any, ends_with, filter_map, suffix_len}, Option.option_map};
 ghost use Rattle.abc_lines.specs.Kinds.{code};
 ghost use Rattle.abc_fields.specs.declared.key.Start.TheVariants as starts;
 ghost use Rattle.mus_units.specs.Good.{IsGoodKey};
-ghost use Rattle.abc_fields.specs.{Last.last_of, Words.words_of, Words.behind};
-ghost use Rattle.abc_fields.specs.Keys.{natural_of, letter_of, letter_alone, signed, sign_of, named_clef, has_octave, without_octave, clef_of, by_name, by_clef, by_sign, key_word, key_words, major_like, minor_like, mode_named, mode_by_three, mode_of, start_of, mode_on, altered, tonic_of, without_mode, with_next_mode, by_mode, by_tonic, by_fixed, fixed_start, first_words, is_exp, sign_in, clef_in, listed, start_with, whole, pipe_signs, key_by, key_of, GoodKeyIn, IsGoodKeyText};
+ghost use Rattle.abc_fields.specs.{Last.last_of, Words.{words_of, behind}, Keys.{natural_of, letter_of, letter_alone, signed, sign_of, named_clef, has_octave, without_octave, clef_of, by_name, by_clef, by_sign, key_word, key_words, major_like, minor_like, mode_named, mode_by_three, mode_of, start_of, mode_on, altered, tonic_of, without_mode, with_next_mode, by_mode, by_tonic, by_fixed, fixed_start, first_words, is_exp, sign_in, clef_in, listed, start_with, whole, pipe_signs, key_by, key_of, GoodKeyIn, IsGoodKeyText}};
 
 use crate::words::{behind, is_same, next_word};
 use mus_pitch::{Mode, key_of, lay, signature};

@@ -1,6 +1,5 @@
 ghost use Rattle.std.specs.Prelude.{◌≡◌, ◌≤◌, ◌<◌, ◌==◌, IfSome, IsTrue, length, codes, [], ◌∷◌};
-ghost use Rattle.abc_fields.specs.{Numbers.number_of, Words.behind};
-ghost use Rattle.abc_fields.specs.Meters.{below_of, below_behind, plus, added, sum_of, ratio, plain_ratio, wrapped_ratio, ratio_of, meter_at, meter_of, one_over, unit_at, unit_of, default_unit};
+ghost use Rattle.abc_fields.specs.{Numbers.number_of, Words.behind, Meters.{below_of, below_behind, plus, added, sum_of, ratio, plain_ratio, wrapped_ratio, ratio_of, meter_at, meter_of, one_over, unit_at, unit_of, default_unit}};
 ghost use Rattle.mus_units.specs.Good.{IsGoodMeter, IsGoodUnit, is_halving};
 
 use crate::numbers::{behind_one, cut_at, number_of};

@@ -1,7 +1,6 @@
 //! Numbers as they are written.
 
-ghost use Rattle.std.specs.Prelude.{◌≡◌, ◌≤◌, ◌<◌, IfSome, IsTrue, length, nat_le, ◌&&◌, not, ◌==◌, ◌+◌, ◌*◌, ◌-◌, min};
-ghost use Rattle.std.specs.List.{list_all};
+ghost use Rattle.std.specs.{Prelude.{◌≡◌, ◌≤◌, ◌<◌, IfSome, IsTrue, length, nat_le, ◌&&◌, not, ◌==◌, ◌+◌, ◌*◌, ◌-◌, min}, List.list_all};
 ghost use Rattle.abc_lines.specs.Kinds.{code};
 ghost use Rattle.abc_fields.specs.Numbers.{is_digit, begins_zero, is_number, number_of, value_of, place_of, before, from_first, behind_one};
 

@@ -1,13 +1,8 @@
 -- A line is read as a directive of a name, with what it says, exactly where it is written as one.
-use Rattle.std.proofs.Common.{◌≡◌, refl, sym, ap, ◌∙◌, subst, ℕ, zero, suc, ◌+◌, ◌-◌, List, [], ◌∷◌, ◌++◌, Bool, true, false, length, take, drop, arith, length-append}
-use Rattle.std.specs.Prelude.{◌==◌, not, reverse, if◌then◌else◌, Some}
-use Rattle.std.proofs.lemmas.{Bool.and_parts, Bool.eqb-true, Bool.not-true, List.take-append-drop, List.append-nil, List.reverse-append, List.length-reverse, List.length-drop, List.Folds.list_all-append, List.Sums.suffix_len-le-length, Slice.Eq.bytes_eq-Decides}
-use Rattle.std.{proofs.Math.Seq.take-append_seam, proofs.Math.Seq.drop-append_seam, specs.List.list_all, specs.List.prefix_len, specs.List.suffix_len, specs.Str.bytes_eq}
+use Rattle.std.{proofs.{Common.{◌≡◌, refl, sym, ap, ◌∙◌, subst, ℕ, zero, suc, ◌+◌, ◌-◌, List, [], ◌∷◌, ◌++◌, Bool, true, false, length, take, drop, arith, length-append}, lemmas.{Bool.{and_parts, eqb-true, not-true}, List.{take-append-drop, append-nil, reverse-append, length-reverse, length-drop, Folds.list_all-append, Sums.suffix_len-le-length}, Slice.Eq.bytes_eq-Decides}, Math.Seq.{take-append_seam, drop-append_seam}}, specs.{Prelude.{◌==◌, not, reverse, if◌then◌else◌, Some}, List.{list_all, prefix_len, suffix_len}, Str.bytes_eq}}
 use Rattle.abc_lines.specs.{declared.kind.LineKind.LineKind, Kinds.is_blank, Kinds.is_percent_line, Kinds.is_field, Kinds.field_kind, Kinds.kind_of, Kinds.behind_blanks, Kinds.field_text}
-use Rattle.abc_fields.{specs.Directives.name_len, specs.Directives.name_of, specs.Directives.rest_of, specs.Words.is_empty, specs.Words.trimmed, specs.WordSpelling.Parts, specs.WordSpelling.IsFirstWord, specs.WordSpelling.IsBetweenBlanks, proofs.BlankLaws.front-passes}
-use Rattle.abc_fields.proofs.{BlankLaws.blanks-passed, BlankLaws.trimmed-between, MeterForms.none_is_some, WordLaws.BeginsWord, WordLaws.behind-begins}
-use Rattle.abc_header.specs.{Defaults.rest_named, Defaults.rest_if, Defaults.said_by, DirectiveSpelling.Lead, DirectiveSpelling.percents, DirectiveSpelling.instruction, DirectiveSpelling.lead_spelled, DirectiveSpelling.BeginsBare, DirectiveSpelling.IsBare, DirectiveSpelling.IsDirective}
-use Rattle.abc_header.proofs.PaperForms.{some_is, Stops, front-length}
+use Rattle.abc_fields.{specs.{Directives.{name_len, name_of, rest_of}, Words.{is_empty, trimmed}, WordSpelling.{Parts, IsFirstWord, IsBetweenBlanks}}, proofs.{BlankLaws.{front-passes, blanks-passed, trimmed-between}, MeterForms.none_is_some, WordLaws.{BeginsWord, behind-begins}}}
+use Rattle.abc_header.{specs.{Defaults.{rest_named, rest_if, said_by}, DirectiveSpelling.{Lead, percents, instruction, lead_spelled, BeginsBare, IsBare, IsDirective}}, proofs.PaperForms.{some_is, Stops, front-length}}
 
 -- What stands between blanks and has none at its ends is left without them.
 bare-stops : (s : List ℕ) → BeginsBare s → Stops is_blank s

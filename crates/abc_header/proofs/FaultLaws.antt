@@ -1,11 +1,8 @@
 -- The fault that is found line by line, with the ids of voices carried along, is the first fault.
-use Rattle.std.proofs.Common.{◌≡◌, refl, sym, ap, ◌∙◌, subst, ℕ, ◌<◌, List, [], ◌∷◌, ◌++◌, Bool, true, false, length, append_assoc, inl, inr}
-use Rattle.std.specs.Prelude.{nat_lt, if◌then◌else◌, fold, Option, Some, None, Result, Ok, Err, IfOk, IfErr, unwrap_or}
-use Rattle.std.{proofs.lemmas.Bool.ltb-true, proofs.lemmas.Bool.lt-ltb, proofs.lemmas.List.append-nil, specs.Option.option_or}
+use Rattle.std.{proofs.{Common.{◌≡◌, refl, sym, ap, ◌∙◌, subst, ℕ, ◌<◌, List, [], ◌∷◌, ◌++◌, Bool, true, false, length, append_assoc, inl, inr}, lemmas.{Bool.{ltb-true, lt-ltb}, List.append-nil}}, specs.{Prelude.{nat_lt, if◌then◌else◌, fold, Option, Some, None, Result, Ok, Err, IfOk, IfErr, unwrap_or}, Option.option_or}}
 use Rattle.abc_lines.specs.declared.{book.Line.Line, book.TuneText.TuneText, fault.FaultKind.FaultKind, fault.Fault.Fault, fault.TuneError.TuneError}
 use Rattle.abc_fields.{specs.declared.field.Field.Field, specs.Fields.field_of, proofs.FieldForms.line-says, proofs.FieldForms.line-read, proofs.FieldForms.line-bad, proofs.FieldForms.line-refused, proofs.MeterForms.none_is_some}
-use Rattle.abc_header.specs.{declared.header.Header.Header, HeaderFaults.IsFaultBehind, HeaderFaults.AreClear, HeaderFaults.IsFirstFault, HeaderFaults.IsFaultBy, HeaderFaults.IsFaultOfHeader, HeaderFaults.IsClearBy, HeaderFaults.IsClearHeader, HeaderFaults.IsHeaderRefusal, Headers.key_place}
-use Rattle.abc_header.specs.{Headers.put_field, Headers.fields_of, Headers.line_fault, Headers.fault_at, Headers.ids_with, Headers.first_fault, Headers.head_lines, Headers.no_key, Headers.fault_by, Headers.header_fault, Headers.IsHeaderFault, Voicing.ids_after, Voicing.ids_of}
+use Rattle.abc_header.specs.{declared.header.Header.Header, HeaderFaults.{IsFaultBehind, AreClear, IsFirstFault, IsFaultBy, IsFaultOfHeader, IsClearBy, IsClearHeader, IsHeaderRefusal}, Headers.{key_place, put_field, fields_of, line_fault, fault_at, ids_with, first_fault, head_lines, no_key, fault_by, header_fault, IsHeaderFault}, Voicing.{ids_after, ids_of}}
 
 abbrev Reading : Type 0
 Reading = Result Field FaultKind

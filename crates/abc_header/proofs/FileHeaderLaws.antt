@@ -1,16 +1,9 @@
 -- What is read off the lines of a file header is what they state: of each kind the last.
-use Rattle.std.proofs.Common.{◌≡◌, refl, sym, ap, ◌∙◌, subst, ℕ, ◌-◌, List, [], ◌∷◌, ◌++◌, Bool, true, false, length, take, inl, inr}
-use Rattle.std.specs.Prelude.{◌⊎◌, ◌==◌, not, nat_le, if◌then◌else◌, Option, Some, None, Result, Ok, Err, IfOk, unwrap_or, codes}
-use Rattle.std.{proofs.lemmas.Bool.and_parts, proofs.lemmas.Bool.leb-true, proofs.lemmas.Bool.le-leb, specs.List.suffix_len, specs.Option.option_or, specs.Option.option_and_then, specs.Option.option_map}
+use Rattle.std.{proofs.{Common.{◌≡◌, refl, sym, ap, ◌∙◌, subst, ℕ, ◌-◌, List, [], ◌∷◌, ◌++◌, Bool, true, false, length, take, inl, inr}, lemmas.Bool.{and_parts, leb-true, le-leb}}, specs.{Prelude.{◌⊎◌, ◌==◌, not, nat_le, if◌then◌else◌, Option, Some, None, Result, Ok, Err, IfOk, unwrap_or, codes}, List.suffix_len, Option.{option_or, option_and_then, option_map}}}
 use Rattle.mus_units.specs.declared.{key.Meter.Meter, key.Spread.Spread, text.Memory.Memory}
 use Rattle.abc_lines.specs.{declared.book.Line.Line, declared.book.TuneText.TuneText, declared.fault.TuneError.TuneError, Kinds.is_blank, Kinds.is_percent_line, Kinds.is_field, Kinds.kind_of, Kinds.behind_blanks}
-use Rattle.abc_fields.{specs.Directives.breaks_of, specs.Directives.spread_of, specs.Last.last_of, specs.Meters.meter_at, specs.Meters.meter_of, specs.Meters.unit_at, specs.Meters.unit_of, specs.Words.is_empty, specs.Words.trimmed, proofs.FieldForms.breaks-says, proofs.FieldForms.breaks-read}
-use Rattle.abc_fields.proofs.{FieldForms.spread-says, FieldForms.spread-read, MeterForms.none_is_some, MeterForms.meter-says, MeterForms.meter-read, MeterForms.unit-says, MeterForms.unit-read, WordLaws.behind-begins}
-use Rattle.abc_header.specs.FileHeader.{StatesMeter, StatesUnit, StatesBreaks, StatesSpread, StatesStaves, StatesLength, StatesScale, AreSilent, IsLastOf, IsLastOr, IsLastIfAny, AreDefaultsBy, AreStavesBy, AreStavesOf, AreStavesUpTo, IsStatedPaper, HasRoom, IsPaperBy}
-use Rattle.abc_header.specs.{declared.defaults.Defaults.Defaults, declared.header.Header.Header, declared.paper.Paper.Paper, Headers.IsHeaderBy, Headers.IsHeaderOf, Headers.first_line, Headers.head_lines, Headers.key_place, Headers.staves_by, Defaults.text_if, Defaults.text_of, Defaults.said_by}
-use Rattle.abc_header.specs.{Defaults.line_meter, Defaults.line_unit, Defaults.line_breaks, Defaults.line_of, Defaults.line_spread, Defaults.line_staves, Defaults.default_breaks, Defaults.defaults_of, Lengths.length_of, Lengths.scale_of, Papers.line_length, Papers.line_scale, Papers.length_in}
-use Rattle.abc_header.{specs.Papers.scale_in, specs.Papers.default_paper, specs.Papers.stated, specs.Papers.width_of, specs.Papers.height_of, specs.Papers.is_wide_enough, specs.Papers.paper_of, proofs.DirectiveForms.directive-takes, proofs.DirectiveForms.directive-read}
-use Rattle.abc_header.proofs.{DirectiveForms.word-stays, DirectiveForms.pair-is, PaperForms.some_is, PaperForms.then-takes, PaperForms.length-writes, PaperForms.length-read, PaperForms.scale-writes, PaperForms.scale-read}
+use Rattle.abc_fields.{specs.{Directives.{breaks_of, spread_of}, Last.last_of, Meters.{meter_at, meter_of, unit_at, unit_of}, Words.{is_empty, trimmed}}, proofs.{FieldForms.{breaks-says, breaks-read, spread-says, spread-read}, MeterForms.{none_is_some, meter-says, meter-read, unit-says, unit-read}, WordLaws.behind-begins}}
+use Rattle.abc_header.{specs.{FileHeader.{StatesMeter, StatesUnit, StatesBreaks, StatesSpread, StatesStaves, StatesLength, StatesScale, AreSilent, IsLastOf, IsLastOr, IsLastIfAny, AreDefaultsBy, AreStavesBy, AreStavesOf, AreStavesUpTo, IsStatedPaper, HasRoom, IsPaperBy}, declared.{defaults.Defaults.Defaults, header.Header.Header, paper.Paper.Paper}, Headers.{IsHeaderBy, IsHeaderOf, first_line, head_lines, key_place, staves_by}, Defaults.{text_if, text_of, said_by, line_meter, line_unit, line_breaks, line_of, line_spread, line_staves, default_breaks, defaults_of}, Lengths.{length_of, scale_of}, Papers.{line_length, line_scale, length_in, scale_in, default_paper, stated, width_of, height_of, is_wide_enough, paper_of}}, proofs.{DirectiveForms.{directive-takes, directive-read, word-stays, pair-is}, PaperForms.{some_is, then-takes, length-writes, length-read, scale-writes, scale-read}}}
 
 -- The last that is stated.
 

@@ -1,12 +1,9 @@
 -- What good fields give is good, and the ids that fields mention are distinct.
-use Rattle.std.proofs.Common.{◌≡◌, refl, ap, sym, ◌∙◌, ℕ, suc, ◌+◌, ◌≤◌, List, [], ◌∷◌, ◌++◌, Bool, true, false, map, length, arith, subst, cond, Bor, ◌<◌, get_or, drop, drop-cons, append_assoc}
-use Rattle.std.specs.Prelude.{Option, Some, None, IfSome, if◌then◌else◌, count_by, fold, Ok}
-use Rattle.std.{proofs.lemmas.List.Sums.sum_by-cons, proofs.lemmas.Slice.Eq.bytes_eq-Decides, specs.List.list_any, specs.Option.option_or, specs.Option.option_copied, specs.Str.bytes_eq}
+use Rattle.std.{proofs.{Common.{◌≡◌, refl, ap, sym, ◌∙◌, ℕ, suc, ◌+◌, ◌≤◌, List, [], ◌∷◌, ◌++◌, Bool, true, false, map, length, arith, subst, cond, Bor, ◌<◌, get_or, drop, drop-cons, append_assoc}, lemmas.{List.Sums.sum_by-cons, Slice.Eq.bytes_eq-Decides}}, specs.{Prelude.{Option, Some, None, IfSome, if◌then◌else◌, count_by, fold, Ok}, List.list_any, Option.{option_or, option_copied}, Str.bytes_eq}}
 use Rattle.mus_units.specs.{declared.value.Frac.Frac, Good.IsGoodMeter, Good.IsGoodUnit}
 use Rattle.abc_lines.specs.declared.book.Line.{Line}
 use Rattle.abc_fields.specs.{declared.field.Field.Field, declared.key.KeyText.KeyText, declared.voice.VoiceDef.VoiceDef, Fields.IsGoodField, Fields.field_of, Keys.IsGoodKeyText, Last.last_of}
-use Rattle.abc_header.specs.{Good.GoodUnitIn, Headers.AllGood, Headers.AreDistinct, Headers.key_in, Headers.meter_in, Headers.unit_in, Headers.fields_of, Headers.put_field, Headers.first_fault, Headers.fault_at, Headers.ids_with, Voicing.ids_after, Voicing.ids_of, Voicing.voice_from}
-use Rattle.abc_header.specs.Voicing.{voices_of}
+use Rattle.abc_header.specs.{Good.GoodUnitIn, Headers.{AllGood, AreDistinct, key_in, meter_in, unit_in, fields_of, put_field, first_fault, fault_at, ids_with}, Voicing.{ids_after, ids_of, voice_from, voices_of}}
 
 or-some : {X : Type 0} (P : X → Type 0) (a b : Option X) → IfSome a P → IfSome b P → IfSome (option_or a b) P
 or-some P None b ha hb = hb

@@ -1,11 +1,7 @@
 -- A text reads as a length, or as a scale, exactly where a good form of it spells the text.
-use Rattle.std.proofs.Common.{◌≡◌, refl, sym, ap, ◌∙◌, subst, ℕ, ◌+◌, ◌-◌, ◌*◌, ◌/◌, ◌≤◌, List, [], ◌∷◌, ◌++◌, Bool, true, false, length, take, drop, arith}
-use Rattle.std.specs.Prelude.{⊤, ◌&&◌, nat_le, Option, Some, None, unwrap_or, codes}
-use Rattle.std.{proofs.lemmas.Bool.and_parts, proofs.lemmas.Bool.leb-true, proofs.lemmas.Bool.le-leb, proofs.lemmas.List.take-append-drop, proofs.lemmas.Slice.Eq.bytes_eq-Decides, proofs.Math.Seq.take-append_seam, proofs.Math.Seq.drop-append_seam, specs.List.list_all, specs.List.prefix_len}
-use Rattle.std.specs.{Option.option_and_then, Str.bytes_eq}
+use Rattle.std.{proofs.{Common.{◌≡◌, refl, sym, ap, ◌∙◌, subst, ℕ, ◌+◌, ◌-◌, ◌*◌, ◌/◌, ◌≤◌, List, [], ◌∷◌, ◌++◌, Bool, true, false, length, take, drop, arith}, lemmas.{Bool.{and_parts, leb-true, le-leb}, List.take-append-drop, Slice.Eq.bytes_eq-Decides}, Math.Seq.{take-append_seam, drop-append_seam}}, specs.{Prelude.{⊤, ◌&&◌, nat_le, Option, Some, None, unwrap_or, codes}, List.{list_all, prefix_len}, Option.option_and_then, Str.bytes_eq}}
 use Rattle.abc_fields.{specs.Numbers.is_digit, specs.Numbers.value_of, specs.Words.behind, proofs.BlankLaws.front-passes, proofs.MeterForms.none_is_some, proofs.MeterForms.behind-takes}
-use Rattle.abc_header.specs.Lengths.{digit_len, with_decimals, decimals, whole_of, hundredths_of, in_units, within_paper, length_of, is_scale, scale_by, scale_of}
-use Rattle.abc_header.specs.PaperSpelling.{PaperNumber, point_spelled, number_spelled, IsGoodNumber, hundredths, LengthUnit, points, inches, centimetres, unit_spelled, in_points, WritesLength, WritesScale}
+use Rattle.abc_header.specs.{Lengths.{digit_len, with_decimals, decimals, whole_of, hundredths_of, in_units, within_paper, length_of, is_scale, scale_by, scale_of}, PaperSpelling.{PaperNumber, point_spelled, number_spelled, IsGoodNumber, hundredths, LengthUnit, points, inches, centimetres, unit_spelled, in_points, WritesLength, WritesScale}}
 
 pub some_is : {X : Type 0} (x y : X) → Some x ≡ Some y → x ≡ y
 some_is x y h = ap (λ o. unwrap_or o x) h

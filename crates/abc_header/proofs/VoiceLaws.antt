@@ -1,6 +1,5 @@
 -- Ids kept as keys of a set are the ids by their bytes.
-use Rattle.std.proofs.Common.{◌≡◌, refl, ap, sym, ◌∙◌, ℕ, List, [], ◌∷◌, ◌++◌, Bool, true, false, map, suc, ◌+◌, ◌<◌, length, get_or, drop, drop-cons, append_assoc, arith}
-use Rattle.std.specs.{Prelude.◌||◌, Prelude.if◌then◌else◌, List.list_any, Str.bytes_eq}
+use Rattle.std.{proofs.Common.{◌≡◌, refl, ap, sym, ◌∙◌, ℕ, List, [], ◌∷◌, ◌++◌, Bool, true, false, map, suc, ◌+◌, ◌<◌, length, get_or, drop, drop-cons, append_assoc, arith}, specs.{Prelude.{◌||◌, if◌then◌else◌}, List.list_any, Str.bytes_eq}}
 use Rattle.indexmap.specs.IndexSet.{insert_key}
 use Rattle.abc_fields.specs.{declared.field.Field.Field, declared.voice.VoiceDef.VoiceDef}
 use Rattle.abc_header.specs.Voicing.{with_id, voice_from}

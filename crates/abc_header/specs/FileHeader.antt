@@ -1,12 +1,10 @@
 -- What the file header states for all tunes and of the paper, and a tune's header of its staves: of
 -- each kind the last line that states one counts, and a line in another form states nothing.
-use Rattle.std.specs.Prelude.{◌≡◌, ◌⊎◌, ◌≤◌, ℕ, List, [], ◌∷◌, ◌++◌, ⊤, Option, Some, None, codes}
-use Rattle.std.specs.Option.{option_map}
+use Rattle.std.specs.{Prelude.{◌≡◌, ◌⊎◌, ◌≤◌, ℕ, List, [], ◌∷◌, ◌++◌, ⊤, Option, Some, None, codes}, Option.option_map}
 use Rattle.mus_units.specs.{declared.key.Meter.Meter, declared.key.Spread.Spread, declared.value.Frac.Frac}
 use Rattle.abc_lines.specs.{declared.book.Line.Line, declared.book.TuneText.TuneText}
 use Rattle.abc_fields.specs.{declared.directive.Breaks.Breaks, FieldSpelling.SaysBreaks, FieldSpelling.SaysSpread, MeterSpelling.SaysMeter, MeterSpelling.SaysUnit}
-use Rattle.abc_header.specs.{declared.defaults.Defaults.Defaults, declared.paper.Paper.Paper, Defaults.default_breaks, Defaults.line_of, DirectiveSpelling.IsDirective, Headers.first_line, Headers.head_lines, Headers.key_place, Papers.default_paper, Papers.width_of, Papers.height_of}
-use Rattle.abc_header.specs.PaperSpelling.{WritesLength, WritesScale}
+use Rattle.abc_header.specs.{declared.{defaults.Defaults.Defaults, paper.Paper.Paper}, Defaults.{default_breaks, line_of}, DirectiveSpelling.IsDirective, Headers.{first_line, head_lines, key_place}, Papers.{default_paper, width_of, height_of}, PaperSpelling.{WritesLength, WritesScale}}
 
 -- What one line states.
 

@@ -1,7 +1,6 @@
 -- The header of a tune: what counts of its lines up to the first `K:`, and its first fault.
 use Prim.Native.Char.{code}
-use Rattle.std.specs.Prelude.{◌≡◌, ℕ, ◌+◌, ◌≤◌, List, [], ◌∷◌, Bool, nat_lt, if◌then◌else◌, length, take, position, Option, Some, None, Result, Ok, Err, is_some, unwrap_or, ⊤, count_by}
-use Rattle.std.specs.{List.filter_map, Option.option_map, Option.option_or, Str.bytes_eq}
+use Rattle.std.specs.{Prelude.{◌≡◌, ℕ, ◌+◌, ◌≤◌, List, [], ◌∷◌, Bool, nat_lt, if◌then◌else◌, length, take, position, Option, Some, None, Result, Ok, Err, is_some, unwrap_or, ⊤, count_by}, List.filter_map, Option.{option_map, option_or}, Str.bytes_eq}
 use Rattle.mus_units.specs.{declared.pitch.Clef.Clef, declared.key.Meter.Meter, declared.key.Sign.Sign, declared.key.Spread.Spread, declared.value.Frac.Frac, Good.IsGoodKey, Good.IsGoodMeter, Good.IsGoodUnit}
 use Rattle.abc_lines.specs.declared.{book.Line.Line, book.TuneText.TuneText, fault.FaultKind.FaultKind, fault.Fault.Fault, fault.TuneError.TuneError}
 use Rattle.abc_header.specs.{declared.defaults.Defaults.Defaults, declared.header.Header.Header, Defaults.line_of, Defaults.line_staves, Defaults.text_of, Voicing.ids_after, Voicing.voices_of}

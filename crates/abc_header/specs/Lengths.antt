@@ -1,7 +1,6 @@
 -- Lengths of paper and its scale: numbers with up to two decimals, and a unit.
 use Prim.Native.Char.{code}
-use Rattle.std.specs.Prelude.{ℕ, ◌+◌, ◌-◌, ◌*◌, ◌/◌, List, [], ◌∷◌, Bool, ◌&&◌, nat_le, if◌then◌else◌, take, drop, codes, Option, Some, None}
-use Rattle.std.specs.{List.prefix_len, Option.option_and_then, Str.bytes_eq}
+use Rattle.std.specs.{Prelude.{ℕ, ◌+◌, ◌-◌, ◌*◌, ◌/◌, List, [], ◌∷◌, Bool, ◌&&◌, nat_le, if◌then◌else◌, take, drop, codes, Option, Some, None}, List.prefix_len, Option.option_and_then, Str.bytes_eq}
 use Rattle.abc_fields.specs.{Numbers.is_digit, Numbers.value_of, Words.behind}
 
 -- the digits at the front, and what follows them

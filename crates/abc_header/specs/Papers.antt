@@ -1,6 +1,5 @@
 -- The paper: the last good value of each directive counts, and the body is what the margins leave.
-use Rattle.std.specs.Prelude.{ℕ, ◌+◌, ◌-◌, ◌*◌, ◌/◌, ◌≤◌, List, Bool, ◌&&◌, nat_le, if◌then◌else◌, codes, Option, unwrap_or}
-use Rattle.std.specs.Option.{option_and_then}
+use Rattle.std.specs.{Prelude.{ℕ, ◌+◌, ◌-◌, ◌*◌, ◌/◌, ◌≤◌, List, Bool, ◌&&◌, nat_le, if◌then◌else◌, codes, Option, unwrap_or}, Option.option_and_then}
 use Rattle.abc_lines.specs.declared.book.Line.{Line}
 use Rattle.abc_header.specs.{declared.paper.Paper.Paper, Defaults.said_by, Lengths.length_of, Lengths.scale_of}
 use Rattle.abc_fields.specs.Last.{last_of}

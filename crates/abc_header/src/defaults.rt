@@ -1,7 +1,6 @@
 ghost use Rattle.std.specs.{Prelude.◌≡◌, Prelude.IfOk, Prelude.IfSome, Prelude.Some, Prelude.None, Option.option_copied, Option.option_map};
 ghost use Rattle.mus_units.specs.Good.{IsGoodMeter, IsGoodUnit};
-ghost use Rattle.abc_header.specs.{Good.IsGoodDefaults, Good.GoodUnitIn, declared.defaults.Defaults.Defaults, FileHeader.AreDefaultsBy};
-ghost use Rattle.abc_header.specs.Defaults.{text_of, rest_named, said_by, line_meter, line_unit, line_breaks, line_of, line_spread, line_staves, defaults_of};
+ghost use Rattle.abc_header.specs.{Good.{IsGoodDefaults, GoodUnitIn}, declared.defaults.Defaults.Defaults, FileHeader.AreDefaultsBy, Defaults.{text_of, rest_named, said_by, line_meter, line_unit, line_breaks, line_of, line_spread, line_staves, defaults_of}};
 ghost use Rattle.abc_fields.specs.Last.{last_of};
 
 use abc_fields::directive::{Breaks, cut_name, read_breaks, read_spread};

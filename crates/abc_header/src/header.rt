@@ -1,9 +1,7 @@
-ghost use Rattle.std.specs.Prelude.{◌≡◌, ◌≤◌, ◌<◌, length, map, position, IfOk, IfErr, IfSome, Some, None, Ok, unwrap_or, nat_lt, []};
-ghost use Rattle.std.specs.{List.filter_map, Option.option_map, Option.option_copied};
+ghost use Rattle.std.specs.{Prelude.{◌≡◌, ◌≤◌, ◌<◌, length, map, position, IfOk, IfErr, IfSome, Some, None, Ok, unwrap_or, nat_lt, []}, List.filter_map, Option.{option_map, option_copied}};
 ghost use Rattle.abc_fields.specs.{Fields.field_of, Fields.IsGoodField, Keys.key_over, Keys.IsGoodKeyText, Last.last_of};
 ghost use Rattle.mus_units.specs.Good.{IsGoodKey, IsGoodMeter, IsGoodUnit};
-ghost use Rattle.abc_header.specs.{Good.IsGoodDefaults, Good.GoodUnitIn, Voicing.with_id, Voicing.ids_after, Voicing.ids_of, Voicing.clef_for, Voicing.wish_for, Voicing.voice_from, Voicing.voices_of, FileHeader.AreStavesOf, HeaderFaults.IsClearHeader, HeaderFaults.IsHeaderRefusal};
-ghost use Rattle.abc_header.specs.Headers.{is_key_line, key_place, title_in, composer_in, tempo_in, key_in, meter_in, unit_in, breaks_in, spread_in, key_signs, key_clef, unit_by, meter_from, staves_from, header_of, fields_of, line_fault, fault_at, no_key, first_fault, header_fault, first_line, head_lines, IsHeaderOf, IsHeaderFault, AllGood, HasGoodValues, IsGoodHeader};
+ghost use Rattle.abc_header.specs.{Good.{IsGoodDefaults, GoodUnitIn}, Voicing.{with_id, ids_after, ids_of, clef_for, wish_for, voice_from, voices_of}, FileHeader.AreStavesOf, HeaderFaults.{IsClearHeader, IsHeaderRefusal}, Headers.{is_key_line, key_place, title_in, composer_in, tempo_in, key_in, meter_in, unit_in, breaks_in, spread_in, key_signs, key_clef, unit_by, meter_from, staves_from, header_of, fields_of, line_fault, fault_at, no_key, first_fault, header_fault, first_line, head_lines, IsHeaderOf, IsHeaderFault, AllGood, HasGoodValues, IsGoodHeader}};
 
 use crate::defaults::{Defaults, last_staves, text_of};
 use crate::voicing::{VoiceIds, mention, voices_of};

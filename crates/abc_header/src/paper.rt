@@ -1,7 +1,6 @@
 ghost use Rattle.std.specs.Prelude.{◌≡◌, ◌≤◌, IfSome, codes, unwrap_or};
 ghost use Rattle.abc_fields.specs.Last.{last_of};
-ghost use Rattle.abc_header.specs.{declared.paper.Paper.Paper, FileHeader.IsPaperBy};
-ghost use Rattle.abc_header.specs.Papers.{line_length, line_scale, length_in, scale_in, default_paper, stated, left_by, width_of, height_of, is_wide_enough, paper_of, IsGoodPaper, IsSmall};
+ghost use Rattle.abc_header.specs.{declared.paper.Paper.Paper, FileHeader.IsPaperBy, Papers.{line_length, line_scale, length_in, scale_in, default_paper, stated, left_by, width_of, height_of, is_wide_enough, paper_of, IsGoodPaper, IsSmall}};
 
 use crate::defaults::said_by;
 use crate::length::{read_length, read_scale};

@@ -1,11 +1,8 @@
 -- What is read goes on from part to part.
-use Rattle.std.proofs.Common.{◌≡◌, ℕ, suc, ◌+◌, ◌<◌, ◌≤◌, ◌^◌, List, [], ◌∷◌, ◌++◌, length, map, take, drop, get_or, refl, sym, ap, ◌∙◌, subst, arith, append_assoc, append-nil, drop-cons, Option, Some, None, Bool, true, false, ◌&&◌, All, flat_map}
-use Rattle.std.proofs.{Math.Seq.take-suc, Math.ListN.drop_of_length-le, lemmas.List.Sums.sum_by-cons, lemmas.List.Elements.All-nil, lemmas.List.Elements.All-push, lemmas.List.Elements.All-append, lemmas.List.Elements.All-head, lemmas.List.Elements.All-tail}
-use Rattle.std.specs.Str.{bytes_eq}
+use Rattle.std.{proofs.{Common.{◌≡◌, ℕ, suc, ◌+◌, ◌<◌, ◌≤◌, ◌^◌, List, [], ◌∷◌, ◌++◌, length, map, take, drop, get_or, refl, sym, ap, ◌∙◌, subst, arith, append_assoc, append-nil, drop-cons, Option, Some, None, Bool, true, false, ◌&&◌, All, flat_map}, Math.{Seq.take-suc, ListN.drop_of_length-le}, lemmas.List.{Sums.sum_by-cons, Elements.{All-nil, All-push, All-append, All-head, All-tail}}}, specs.Str.bytes_eq}
 use Rattle.mus_units.specs.declared.pitch.Clef.{Clef}
 use Rattle.abc_steps.specs.{declared.step.Step.Step, declared.step.Stood.Stood, Good.IsGoodStood, declared.step.Item.Item}
-use Rattle.abc_items.specs.{Good.IsGoodItem, declared.body.Body.Body, Voices.ids_after, Voices.declared_ids, Voices.stood, Voices.break_if, Voices.one_if, Voices.named_step, Voices.steps_in, Voices.voice_next, Voices.steps_from, Body.Given, Body.gives, Body.fails, Body.item_judged, Body.judged}
-use Rattle.abc_items.specs.{Body.first_fault, Body.items_in, Body.LineGives, Body.BodyGives, Body.no_lines, Body.one_line, Body.IsBody, Body.IsBodyError, Reading.Reads, Reading.Stops, Reading.ReadsSome, Reading.StopsBy, Reading.LinesStop}
+use Rattle.abc_items.specs.{Good.IsGoodItem, declared.body.Body.Body, Voices.{ids_after, declared_ids, stood, break_if, one_if, named_step, steps_in, voice_next, steps_from}, Body.{Given, gives, fails, item_judged, judged, first_fault, items_in, LineGives, BodyGives, no_lines, one_line, IsBody, IsBodyError}, Reading.{Reads, Stops, ReadsSome, StopsBy, LinesStop}}
 use Rattle.abc_lines.specs.{declared.book.Line.Line, declared.fault.Fault.Fault, declared.fault.TuneError.TuneError, Good.size_of}
 use Rattle.abc_tokens.specs.declared.token.Placed.{Placed}
 use Rattle.abc_fields.specs.declared.directive.Breaks.{Breaks}

@@ -1,7 +1,6 @@
 -- What the lines of a body give, line by line and token by token in the order of the text: items
 -- or faults. The body is its items where no fault is among them, and else has the first of them.
-use Rattle.std.specs.Prelude.{◌≡◌, ℕ, ◌+◌, ◌-◌, ◌*◌, ◌==◌, ◌&&◌, not, nat_lt, List, [], ◌∷◌, ◌++◌, Bool, true, false, if◌then◌else◌, map, flat_map, length, take, get_or, Option, Some, None, Result, Ok, Err, ⊤}
-use Rattle.std.specs.{List.ends_with, Prelude.nat_eq}
+use Rattle.std.specs.{Prelude.{◌≡◌, ℕ, ◌+◌, ◌-◌, ◌*◌, ◌==◌, ◌&&◌, not, nat_lt, List, [], ◌∷◌, ◌++◌, Bool, true, false, if◌then◌else◌, map, flat_map, length, take, get_or, Option, Some, None, Result, Ok, Err, ⊤, nat_eq}, List.ends_with}
 use Rattle.mus_units.specs.declared.note.Head.{Head}
 use Rattle.abc_lines.specs.{declared.book.Line.Line, declared.fault.Fault.Fault, declared.fault.FaultKind.FaultKind, declared.fault.TuneError.TuneError, declared.kind.LineKind.LineKind, Kinds.kind_of}
 use Rattle.abc_pieces.specs.declared.token.Token.{Token}

@@ -1,7 +1,6 @@
 -- The voices of a tune: which there are, in order of first mention; what each begins with; and
 -- which steps of the body are its own.
-use Rattle.std.specs.Prelude.{ℕ, List, [], ◌∷◌, ◌++◌, ◌==◌, ◌&&◌, not, Bool, true, false, if◌then◌else◌, map, fold, find, length, Option, Some, None, unwrap_or}
-use Rattle.std.specs.Str.{bytes_eq}
+use Rattle.std.specs.{Prelude.{ℕ, List, [], ◌∷◌, ◌++◌, ◌==◌, ◌&&◌, not, Bool, true, false, if◌then◌else◌, map, fold, find, length, Option, Some, None, unwrap_or}, Str.bytes_eq}
 use Rattle.mus_units.specs.{declared.pitch.Clef.Clef, declared.note.Wish.Wish}
 use Rattle.abc_fields.specs.{declared.voice.VoiceDef.VoiceDef, Last.last_of}
 use Rattle.abc_header.specs.{declared.header.Header.Header, Voicing.with_id}

@@ -4,9 +4,7 @@ ghost use Rattle.std.specs.Prelude.{◌≡◌, ◌≤◌, ◌^◌, true, ◌*◌
 ghost use Rattle.abc_tokens.specs.Good.{AreGoodHeads, IsGoodLen, IsGoodToken};
 ghost use Rattle.abc_steps.specs.Good.{IsGoodSound};
 ghost use Rattle.abc_fields.specs.Fields.{IsGoodField, named_field};
-ghost use Rattle.abc_items.specs.Good.{IsGoodItem};
-ghost use Rattle.abc_items.specs.Body.{head_of, first_len, sound, is_on, cut_given, step_at, field_item, field_given, token_given, placed_given};
-ghost use Rattle.abc_items.specs.Reading.{maybe_given, IsGivenError};
+ghost use Rattle.abc_items.specs.{Good.IsGoodItem, Body.{head_of, first_len, sound, is_on, cut_given, step_at, field_item, field_given, token_given, placed_given}, Reading.{maybe_given, IsGivenError}};
 
 use abc_fields::{Breaks, Field, FieldError, read_named};
 use abc_lines::{Fault, Line, TuneError};

@@ -1,8 +1,6 @@
 -- Going forwards lists the lines that belong by looking backwards.
-use Rattle.std.proofs.Common.{◌≡◌, ℕ, suc, ◌≤◌, ◌<◌, Bool, true, false, cond, List, [], ◌∷◌, ◌++◌, length, Some, None, refl, sym, ap, ◌∙◌, arith}
-use Rattle.std.{proofs.lemmas.Bool.cond_both, proofs.lemmas.Bool.eqb-true, proofs.lemmas.Bool.eq-eqb, proofs.lemmas.Bool.ne_eqb, proofs.lemmas.Bool.and_right, specs.Prelude.◌||◌, specs.Prelude.not, specs.Prelude.◌&&◌, proofs.Math.Bool.and-false, proofs.Math.Bool.or-true, proofs.Math.Bool.or-false}
-use Rattle.abc_lines.specs.{declared.book.Line.Line, declared.book.TuneText.TuneText, declared.book.Book.Book, declared.reading.Reading.Reading, Books.begins_tune, Books.is_empty, Books.is_end_of_part, Books.is_in_header, Books.tune_of, Books.is_number, Books.belongs_to, Books.line_at, Books.listed}
-use Rattle.abc_lines.specs.{Books.tune_at, Books.tunes_behind, Books.book_of_lines, Forward.part_from, Forward.tune_from, Forward.tunes_from, Forward.book_from}
+use Rattle.std.{proofs.{Common.{◌≡◌, ℕ, suc, ◌≤◌, ◌<◌, Bool, true, false, cond, List, [], ◌∷◌, ◌++◌, length, Some, None, refl, sym, ap, ◌∙◌, arith}, lemmas.Bool.{cond_both, eqb-true, eq-eqb, ne_eqb, and_right}, Math.Bool.{and-false, or-true, or-false}}, specs.Prelude.{◌||◌, not, ◌&&◌}}
+use Rattle.abc_lines.specs.{declared.{book.{Line.Line, TuneText.TuneText, Book.Book}, reading.Reading.Reading}, Books.{begins_tune, is_empty, is_end_of_part, is_in_header, tune_of, is_number, belongs_to, line_at, listed, tune_at, tunes_behind, book_of_lines}, Forward.{part_from, tune_from, tunes_from, book_from}}
 
 pub part-nil : (number : ℕ) → part_from number [] ≡ []
 unfolding part_from

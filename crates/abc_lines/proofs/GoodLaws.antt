@@ -1,11 +1,6 @@
 -- The book that is found is good: numbers rise, and the lines of a part are no longer than the input.
-use Rattle.std.proofs.Common.{◌≡◌, ℕ, zero, suc, ◌+◌, ◌-◌, ◌≤◌, ◌^◌, Bool, true, false, cond, eqb, List, [], ◌∷◌, ◌++◌, length, take, drop, refl, ap, ◌∙◌, subst, arith}
-use Rattle.std.proofs.lemmas.{Bool.cond_both, Bool.eqb-true, Bool.and_parts, List.length-append, List.length-drop, List.map-append, List.length-map, List.Elements.All-cons, List.Sums.sum_by-append, Str.encodes-chars, Str.length-le-encodes, Str.IsUtf8-from_is_utf8}
-use Rattle.std.specs.{List.starts_with, List.ends_with, List.prefix_len, List.suffix_len, Prelude.map, Prelude.sum, Prelude.◌&&◌, Prelude.All, Prelude.nat_eq, Str.is_utf8, Str.chars}
-use Rattle.abc_lines.specs.{Lines.without_mark, Lines.without_return, Lines.narrow, Lines.in_latin, Lines.comment_len, Lines.without_comment, Lines.is_empty_text, Lines.written, Lines.reading, Lines.readings, Lines.byte_order_mark, Lines.first_line, declared.book.Line.Line}
-use Rattle.abc_lines.specs.{declared.book.TuneText.TuneText, declared.reading.Reading.Reading, Kinds.is_blank, Kinds.is_field, Kinds.is_percent_line, Kinds.field_text, Books.begins_tune, Books.is_end_of_part, Books.is_joining, Books.goes_on, Books.added, Books.joined, Books.whole_text}
-use Rattle.abc_lines.specs.{Books.line_at, Books.book_of, Forward.part_from, Forward.tune_from, Forward.tunes_from, Forward.book_from, Good.IsGoodTune, Good.IsGoodBook, Good.NumbersRise, Good.size_of, declared.reading.Reading.TheVariants.Empty, declared.reading.Reading.TheVariants.Comment}
-use Rattle.abc_lines.{specs.declared.reading.Reading.TheVariants.Written, proofs.LineLaws.first_line_off, proofs.LineLaws.readings-nil, proofs.Backwards.forwards, proofs.Backwards.part-nil, proofs.Backwards.part-cons, proofs.Backwards.tunes-nil, proofs.Backwards.tunes-cons}
+use Rattle.std.{proofs.{Common.{◌≡◌, ℕ, zero, suc, ◌+◌, ◌-◌, ◌≤◌, ◌^◌, Bool, true, false, cond, eqb, List, [], ◌∷◌, ◌++◌, length, take, drop, refl, ap, ◌∙◌, subst, arith}, lemmas.{Bool.{cond_both, eqb-true, and_parts}, List.{length-append, length-drop, map-append, length-map, Elements.All-cons, Sums.sum_by-append}, Str.{encodes-chars, length-le-encodes, IsUtf8-from_is_utf8}}}, specs.{List.{starts_with, ends_with, prefix_len, suffix_len}, Prelude.{map, sum, ◌&&◌, All, nat_eq}, Str.{is_utf8, chars}}}
+use Rattle.abc_lines.{specs.{Lines.{without_mark, without_return, narrow, in_latin, comment_len, without_comment, is_empty_text, written, reading, readings, byte_order_mark, first_line}, declared.{book.{Line.Line, TuneText.TuneText}, reading.Reading.{Reading, TheVariants.{Empty, Comment, Written}}}, Kinds.{is_blank, is_field, is_percent_line, field_text}, Books.{begins_tune, is_end_of_part, is_joining, goes_on, added, joined, whole_text, line_at, book_of}, Forward.{part_from, tune_from, tunes_from, book_from}, Good.{IsGoodTune, IsGoodBook, NumbersRise, size_of}}, proofs.{LineLaws.{first_line_off, readings-nil}, Backwards.{forwards, part-nil, part-cons, tunes-nil, tunes-cons}}}
 
 -- the bytes of the text of lines
 abbrev pub text_len : Reading → ℕ

@@ -1,7 +1,5 @@
 -- The first line is read, and then the others.
-use Rattle.std.proofs.Common.{◌≡◌, ℕ, zero, suc, ◌+◌, ◌≤◌, ◌<◌, Bool, true, false, List, [], ◌∷◌, length, take, drop, refl, sym, ap, ◌∙◌, arith, inl, inr, ◌⊎◌}
-use Rattle.std.{proofs.lemmas.Bool.ne_eqb, proofs.lemmas.List.Splits.slice_split-cons_yes, proofs.lemmas.List.Splits.slice_split-cons_no, proofs.lemmas.List.Splits.length-slice_split, proofs.lemmas.Str.is_utf8-from_IsUtf8, proofs.lemmas.Str.IsUtf8-from_is_utf8, specs.Prelude.map}
-use Rattle.std.specs.{List.slice_split, List.onto_first, List.position_or_len, Str.is_utf8, Str.chars, Str.IsUtf8}
+use Rattle.std.{proofs.{Common.{◌≡◌, ℕ, zero, suc, ◌+◌, ◌≤◌, ◌<◌, Bool, true, false, List, [], ◌∷◌, length, take, drop, refl, sym, ap, ◌∙◌, arith, inl, inr, ◌⊎◌}, lemmas.{Bool.ne_eqb, List.Splits.{slice_split-cons_yes, slice_split-cons_no, length-slice_split}, Str.{is_utf8-from_IsUtf8, IsUtf8-from_is_utf8}}}, specs.{Prelude.map, List.{slice_split, onto_first, position_or_len}, Str.{is_utf8, chars, IsUtf8}}}
 use Rattle.abc_lines.specs.Lines.{lines_of, without_last_empty, first_line, is_end, tail_of, reading, readings, in_latin, narrow}
 
 abbrev pair : List ℕ → List ℕ → List ℕ × List ℕ

@@ -1,9 +1,6 @@
 -- What the loops of the cutting keep, and each of their steps.
-use Rattle.std.proofs.Common.{◌≡◌, ℕ, suc, ◌+◌, ◌≤◌, ◌<◌, ◌^◌, true, false, List, [], ◌∷◌, ◌++◌, length, refl, sym, ap, ◌∙◌, arith, append_assoc, append-nil, add-one}
-use Rattle.std.proofs.lemmas.{Grind.length_at_push, Bool.or_parts}
-use Rattle.abc_lines.specs.declared.{book.Line.Line, book.TuneText.TuneText, book.Book.Book, reading.Reading.Reading}
-use Rattle.abc_lines.specs.{Books.begins_tune, Books.is_empty, Books.is_end_of_part, Books.goes_on, Books.added, Books.joined, Books.line_at, Forward.part_from, Forward.tune_from, Forward.tunes_from, Forward.book_from, Lines.reading, Lines.readings, Lines.without_mark}
-use Rattle.abc_lines.proofs.{LineLaws.Off, LineLaws.readings-none, Backwards.part-nil, Backwards.part-cons, Backwards.tunes-nil, Backwards.tunes-cons}
+use Rattle.std.proofs.{Common.{◌≡◌, ℕ, suc, ◌+◌, ◌≤◌, ◌<◌, ◌^◌, true, false, List, [], ◌∷◌, ◌++◌, length, refl, sym, ap, ◌∙◌, arith, append_assoc, append-nil, add-one}, lemmas.{Grind.length_at_push, Bool.or_parts}}
+use Rattle.abc_lines.{specs.{declared.{book.{Line.Line, TuneText.TuneText, Book.Book}, reading.Reading.Reading}, Books.{begins_tune, is_empty, is_end_of_part, goes_on, added, joined, line_at}, Forward.{part_from, tune_from, tunes_from, book_from}, Lines.{reading, readings, without_mark}}, proofs.{LineLaws.{Off, readings-none}, Backwards.{part-nil, part-cons, tunes-nil, tunes-cons}}}
 
 pub join-next : (out new total s line rest : List ℕ) (r : Reading) → Off s line rest → r ≡ reading line → goes_on r ≡ true → new ≡ out ++ added r →
     out ++ joined (readings s) ≡ total → new ++ joined (readings rest) ≡ total

@@ -1,10 +1,8 @@
 -- The book: which lines belong to the file header and to which tune, by looking backwards from a
 -- line, and the text that a listed line has with the `+:` lines that are joined to it.
 use Prim.Native.Char.{code}
-use Rattle.std.specs.Prelude.{ℕ, suc, List, [], ◌∷◌, ◌++◌, length, Bool, true, false, ◌==◌, ◌&&◌, ◌||◌, not, if◌then◌else◌, Option, Some, None, nat_eq, codes}
-use Rattle.std.specs.List.{starts_with}
-use Rattle.abc_lines.specs.{declared.book.Line.Line, declared.book.TuneText.TuneText, declared.book.Book.Book, declared.reading.Reading.Reading, Kinds.is_field, Kinds.field_text, Lines.readings, Lines.without_mark, declared.reading.Reading.TheVariants.Empty}
-use Rattle.abc_lines.specs.declared.reading.Reading.TheVariants.{Comment, Written}
+use Rattle.std.specs.{Prelude.{ℕ, suc, List, [], ◌∷◌, ◌++◌, length, Bool, true, false, ◌==◌, ◌&&◌, ◌||◌, not, if◌then◌else◌, Option, Some, None, nat_eq, codes}, List.starts_with}
+use Rattle.abc_lines.specs.{declared.{book.{Line.Line, TuneText.TuneText, Book.Book}, reading.Reading.{Reading, TheVariants.{Empty, Comment, Written}}}, Kinds.{is_field, field_text}, Lines.{readings, without_mark}}
 
 -- a line that begins `X:` begins a tune
 abbrev pub begins_tune : Reading → Bool

@@ -1,8 +1,7 @@
 -- The lines of an input: its pieces between line ends, without the carriage return at the end,
 -- each in Latin-1 and without its comment.
 use Prim.Native.Char.{code}
-use Rattle.std.specs.Prelude.{◌-◌, ◌+◌, ◌&&◌, not, ℕ, List, [], ◌∷◌, length, Bool, false, ◌==◌, if◌then◌else◌, take, drop, map, nat_eq, nat_le, codes}
-use Rattle.std.specs.{List.slice_split, List.suffix_len, List.position_or_len, List.prefix_len, List.starts_with, List.ends_with, Str.is_utf8, Str.chars}
+use Rattle.std.specs.{Prelude.{◌-◌, ◌+◌, ◌&&◌, not, ℕ, List, [], ◌∷◌, length, Bool, false, ◌==◌, if◌then◌else◌, take, drop, map, nat_eq, nat_le, codes}, List.{slice_split, suffix_len, position_or_len, prefix_len, starts_with, ends_with}, Str.{is_utf8, chars}}
 use Rattle.abc_lines.specs.{declared.reading.Reading.Reading, Kinds.is_percent_line, declared.reading.Reading.TheVariants.Empty, declared.reading.Reading.TheVariants.Comment, declared.reading.Reading.TheVariants.Written}
 use Rattle.mus_units.specs.Bytes.{is_blank, before_blanks}
 

@@ -1,6 +1,5 @@
 -- Numbers of up to four digits.
-use Rattle.std.proofs.Common.{◌≡◌, ℕ, zero, suc, ◌+◌, ◌*◌, ◌-◌, ◌≤◌, ◌<◌, true, List, [], ◌∷◌, length, get_or, refl, arith}
-use Rattle.std.{proofs.lemmas.Bool.and_parts, proofs.lemmas.Bool.leb-true, proofs.lemmas.Bool.lt-ltb, proofs.lemmas.Bool.le-ltb, specs.List.list_all, specs.Char.digit_value}
+use Rattle.std.{proofs.{Common.{◌≡◌, ℕ, zero, suc, ◌+◌, ◌*◌, ◌-◌, ◌≤◌, ◌<◌, true, List, [], ◌∷◌, length, get_or, refl, arith}, lemmas.Bool.{and_parts, leb-true, lt-ltb, le-ltb}}, specs.{List.list_all, Char.digit_value}}
 use Rattle.mus_units.specs.Bytes.{is_digit}
 use Rattle.abc_notes.specs.Lengths.{limit_at}
 

@@ -1,14 +1,7 @@
 -- Reading a chord gives the longest, and where there is none its fault is found.
-use Rattle.std.proofs.Common.{◌≡◌, ℕ, ◌+◌, ◌-◌, ◌≤◌, ◌<◌, Bool, true, false, cond, eqb, suc, List, [], ◌∷◌, ◌++◌, length, take, drop, Option, Some, None, refl, sym, ap, ◌∙◌, subst, arith, inl, inr, ◌⊎◌, append_assoc, append-nil, add-one, ◌&&◌, ◌||◌, not, IfSome, option_map}
-use Rattle.std.proofs.lemmas.{Bool.cond_both, Bool.and_parts, Bool.eqb-true, Bool.ne_eqb, Bool.not-true, Bool.eqb-false, Bool.cases_lt, List.length-append, List.append_cancel_left, List.append_cancel_right, List.nil_from_length}
-use Rattle.std.{proofs.Math.Seq.take-append_seam, proofs.Math.Seq.drop-append_seam, proofs.Math.Bool.or-false, proofs.Math.Bool.or_assoc, proofs.lemmas.Option.same_Some, specs.List.list_all}
+use Rattle.std.{proofs.{Common.{◌≡◌, ℕ, ◌+◌, ◌-◌, ◌≤◌, ◌<◌, Bool, true, false, cond, eqb, suc, List, [], ◌∷◌, ◌++◌, length, take, drop, Option, Some, None, refl, sym, ap, ◌∙◌, subst, arith, inl, inr, ◌⊎◌, append_assoc, append-nil, add-one, ◌&&◌, ◌||◌, not, IfSome, option_map}, lemmas.{Bool.{cond_both, and_parts, eqb-true, ne_eqb, not-true, eqb-false, cases_lt}, List.{length-append, append_cancel_left, append_cancel_right, nil_from_length}, Option.same_Some}, Math.{Seq.{take-append_seam, drop-append_seam}, Bool.{or-false, or_assoc}}}, specs.List.list_all}
 use Rattle.abc_lines.specs.declared.fault.FaultKind.TheVariants.{BadByte, Unclosed}
-use Rattle.abc_notes.specs.Chords.{ChordForm, InnerLeads, is_inside, is_bracket, has_head, chord_then, IsChord, ChordFault, chord_unclosed, chord_open, chord_headless, chord_flawed, bracket_here, bracket_in, bracket_in_name, last_bracket, bracket_at, chord_from, chord_at}
-use Rattle.abc_notes.proofs.CutLaws.{two, none_left, some_left, first_close, name_end, length_past, moved, no_shorter, inner_append, inner_local, read_cut, walk_spells, leads_of_walk, free, CrossesIn, crossing, lone_at, clear_parts, all_parts, cut_at, Cut, first_same, rest_same}
-use Rattle.abc_notes.specs.{declared.part.Flaw.Flaw, Runs.span_all, Runs.begins, Decorations.is_name_byte, Lengths.LengthForm, Lengths.length_then, Lengths.IsLength, Lengths.length_at, Parts.HasNone, Parts.no_part, Parts.then_part, Parts.walk, Parts.is_done, Parts.spelled_then, Parts.later_or}
-use Rattle.abc_notes.specs.Items.{Inner, lone_inside, inner_then, IsName, StandsInside, has_length, InnerParts, InnerFlawed, name_at, item_class, inner_at}
-use Rattle.abc_notes.proofs.{SpanLaws.span_all-takes, SpanLaws.span_all-after, SpanLaws.span_all-append, SpanLaws.span_all-stops, LengthLaws.length_at-takes, LengthLaws.length_at-reaches, ItemLaws.name_at-takes, ItemLaws.name_at-reads, PartLaws.stands_at, PartLaws.less, PartLaws.by_parts}
-use Rattle.abc_notes.proofs.{PartLaws.stops_at, PartLaws.longest_of, PartLaws.none_of, PartLaws.longest_is, PartLaws.walk-none, PartLaws.walk-some, PartLaws.parts_of_walk, PartLaws.walk_of_parts, InnerLaws.inner_reader, InnerLaws.inner_pair, InnerLaws.length-length_then}
+use Rattle.abc_notes.{specs.{Chords.{ChordForm, InnerLeads, is_inside, is_bracket, has_head, chord_then, IsChord, ChordFault, chord_unclosed, chord_open, chord_headless, chord_flawed, bracket_here, bracket_in, bracket_in_name, last_bracket, bracket_at, chord_from, chord_at}, declared.part.Flaw.Flaw, Runs.{span_all, begins}, Decorations.is_name_byte, Lengths.{LengthForm, length_then, IsLength, length_at}, Parts.{HasNone, no_part, then_part, walk, is_done, spelled_then, later_or}, Items.{Inner, lone_inside, inner_then, IsName, StandsInside, has_length, InnerParts, InnerFlawed, name_at, item_class, inner_at}}, proofs.{CutLaws.{two, none_left, some_left, first_close, name_end, length_past, moved, no_shorter, inner_append, inner_local, read_cut, walk_spells, leads_of_walk, free, CrossesIn, crossing, lone_at, clear_parts, all_parts, cut_at, Cut, first_same, rest_same}, SpanLaws.{span_all-takes, span_all-after, span_all-append, span_all-stops}, LengthLaws.{length_at-takes, length_at-reaches}, ItemLaws.{name_at-takes, name_at-reads}, PartLaws.{stands_at, less, by_parts, stops_at, longest_of, none_of, longest_is, walk-none, walk-some, parts_of_walk, walk_of_parts}, InnerLaws.{inner_reader, inner_pair, length-length_then}}}
 
 inside_wide : (b : ℕ) → free b ≡ true → is_inside b ≡ true
 inside_wide b h = (and_parts (not (eqb b 93)) (not (eqb b 125)) h).0

@@ -1,15 +1,7 @@
 -- The last brace within a chord at which a grace group may end stands behind one of the shorter
 -- chords that begin at the same bracket.
-use Rattle.std.proofs.Common.{◌≡◌, ℕ, suc, ◌+◌, ◌-◌, ◌≤◌, Bool, true, false, cond, eqb, List, [], ◌∷◌, ◌++◌, length, take, drop, Bor, Option, Some, None, refl, sym, ap, ◌∙◌, subst, arith, append_assoc, append-nil, not, ◌&&◌, ◌||◌, IfSome, option_map}
-use Rattle.std.proofs.lemmas.{Bool.cond_both, Bool.and_parts, Bool.eqb-true, Bool.not-true, Option.same_Some, List.length-append, List.append_cancel_right, List.nil_from_length}
-use Rattle.std.{proofs.Math.Seq.drop-append_seam, specs.List.list_all}
-use Rattle.abc_notes.specs.Graces.{GracePart, single, chorded, StandsInGrace, is_in_grace, brace_at, brace_in_chord, brace_behind, brace_between, brace_in_item, brace_in_part, inside_of_item, inside_of_part, IsItemAt, stands_behind, at_most_bytes}
-use Rattle.abc_notes.specs.{declared.part.GraceChord.GraceChord, declared.part.GraceItem.GraceItem, Runs.span_all, Decorations.is_name_byte, Parts.no_part, Parts.then_part, Parts.walk, Parts.is_done, Parts.later_or, Items.Inner, Items.named_inside, Items.lone_inside, Items.inner_then, Items.IsInner}
-use Rattle.abc_notes.specs.{Items.IsName, Items.has_length, Items.InnerParts, Items.name_at, Items.named_or, Items.inner_at, Chords.is_inside, Chords.has_head, Chords.bracket_in_name, Chords.bracket_at, declared.part.Len.Len, Lengths.length_then, Lengths.length_at, Lengths.len_of}
-use Rattle.abc_notes.{specs.Lengths.length_read, specs.declared.part.ItemClass.ItemClass, proofs.SpanLaws.span_all-takes, proofs.ItemLaws.name_at-reads, proofs.ItemLaws.at_class, proofs.ItemLaws.bang_class, proofs.PartLaws.stands_at, proofs.PartLaws.longest_is, proofs.PartLaws.walk-none}
-use Rattle.abc_notes.proofs.{PartLaws.walk-some, PartLaws.walk_of_parts, LengthLaws.length_at-takes, InnerLaws.inner_reader, InnerLaws.inner_pair, InnerLaws.length-length_then, CutLaws.inner_append, CutLaws.length_append, CutLaws.inner_local, CutLaws.read_cut, CutLaws.all_parts, CutLaws.lone_at}
-use Rattle.abc_notes.proofs.{CutLaws.is_named, CutLaws.first_same, ChordLaws.is_lone, ChordLaws.last_at, ChordLaws.last_at-none, ChordLaws.last_at-some, ChordLaws.bracket_at-closes, ChordLaws.bracket_within, ChordLaws.in_name-finds, ChordLaws.later_assoc, ChordLaws.later_none, ChordLaws.cut_off}
-use Rattle.abc_notes.proofs.GraceLaws.{FoundPart, part_reader, ClosedGroup, brace_at-closes, none_there, chord-none, chord-some}
+use Rattle.std.{proofs.{Common.{◌≡◌, ℕ, suc, ◌+◌, ◌-◌, ◌≤◌, Bool, true, false, cond, eqb, List, [], ◌∷◌, ◌++◌, length, take, drop, Bor, Option, Some, None, refl, sym, ap, ◌∙◌, subst, arith, append_assoc, append-nil, not, ◌&&◌, ◌||◌, IfSome, option_map}, lemmas.{Bool.{cond_both, and_parts, eqb-true, not-true}, Option.same_Some, List.{length-append, append_cancel_right, nil_from_length}}, Math.Seq.drop-append_seam}, specs.List.list_all}
+use Rattle.abc_notes.{specs.{Graces.{GracePart, single, chorded, StandsInGrace, is_in_grace, brace_at, brace_in_chord, brace_behind, brace_between, brace_in_item, brace_in_part, inside_of_item, inside_of_part, IsItemAt, stands_behind, at_most_bytes}, declared.part.{GraceChord.GraceChord, GraceItem.GraceItem, Len.Len, ItemClass.ItemClass}, Runs.span_all, Decorations.is_name_byte, Parts.{no_part, then_part, walk, is_done, later_or}, Items.{Inner, named_inside, lone_inside, inner_then, IsInner, IsName, has_length, InnerParts, name_at, named_or, inner_at}, Chords.{is_inside, has_head, bracket_in_name, bracket_at}, Lengths.{length_then, length_at, len_of, length_read}}, proofs.{SpanLaws.span_all-takes, ItemLaws.{name_at-reads, at_class, bang_class}, PartLaws.{stands_at, longest_is, walk-none, walk-some, walk_of_parts}, LengthLaws.length_at-takes, InnerLaws.{inner_reader, inner_pair, length-length_then}, CutLaws.{inner_append, length_append, inner_local, read_cut, all_parts, lone_at, is_named, first_same}, ChordLaws.{is_lone, last_at, last_at-none, last_at-some, bracket_at-closes, bracket_within, in_name-finds, later_assoc, later_none, cut_off}, GraceLaws.{FoundPart, part_reader, ClosedGroup, brace_at-closes, none_there, chord-none, chord-some}}}
 
 -- ---- the bracket in a name that is a part
 abbrev name_bracket : Bool → Bool → List ℕ → Option (List ℕ)

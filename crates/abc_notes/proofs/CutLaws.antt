@@ -1,12 +1,7 @@
 -- Parts at the front of a text that goes on, and of the text that is cut off there.
-use Rattle.std.proofs.Common.{◌≡◌, ℕ, zero, suc, ◌≤◌, ◌<◌, Bool, true, false, eqb, List, [], ◌∷◌, ◌++◌, length, Option, Some, None, refl, sym, ap, ◌∙◌, subst, arith, inl, inr, append_assoc, append-nil, ◌&&◌, not, length-append}
-use Rattle.std.{proofs.lemmas.Bool.or_cases, proofs.lemmas.Bool.and_parts, proofs.lemmas.Bool.and_from, proofs.lemmas.Bool.eqb-true, proofs.lemmas.Bool.ne_eqb, proofs.lemmas.Bool.not-false, proofs.lemmas.Option.same_Some, proofs.lemmas.List.Folds.list_all-append, specs.List.list_all}
+use Rattle.std.{proofs.{Common.{◌≡◌, ℕ, zero, suc, ◌≤◌, ◌<◌, Bool, true, false, eqb, List, [], ◌∷◌, ◌++◌, length, Option, Some, None, refl, sym, ap, ◌∙◌, subst, arith, inl, inr, append_assoc, append-nil, ◌&&◌, not, length-append}, lemmas.{Bool.{or_cases, and_parts, and_from, eqb-true, ne_eqb, not-false}, Option.same_Some, List.Folds.list_all-append}}, specs.List.list_all}
 use Rattle.mus_units.specs.{declared.pitch.Alter.Alter, declared.pitch.Letter.Letter, Bytes.is_digit, declared.pitch.Alter.TheVariants.Sharp2, declared.pitch.Letter.TheVariants.C}
-use Rattle.abc_notes.specs.Items.{Inner, note_inside, letter_inside, named_inside, tie_inside, passed_inside, lone_inside, inner_then, IsName, is_passed_inside, is_letter_inside, IsInner, StandsInside, InnerParts, closed_name, name_at, inner_at}
-use Rattle.abc_notes.specs.{declared.part.ItemClass.ItemClass, Runs.copies, Runs.maybe, Runs.is_mark, Runs.span_all, Runs.begins, Lengths.LengthForm, Lengths.whole, Lengths.over, Lengths.halved, Lengths.length_then, Lengths.IsLength, Notes.NoteForm, Notes.note_then, Notes.sign_then}
-use Rattle.abc_notes.specs.{Notes.letter_byte, Notes.IsNote, Decorations.is_name_byte, Parts.no_part, Parts.then_part, Parts.Leads, Parts.leads_here, Parts.leads_on, Parts.walk, Parts.spelled_then}
-use Rattle.abc_notes.proofs.{Bounds.digit_range, SpanLaws.span_all-append, SpanLaws.span_all-takes, SpanLaws.span_all-pass, LengthLaws.count-digits, ItemLaws.below_all, ItemLaws.implied, ItemLaws.at_class, ItemLaws.bang_class}
-use Rattle.abc_notes.proofs.PartLaws.{Reader, stands_at, by_parts, longest_of, walk-none, walk-some}
+use Rattle.abc_notes.{specs.{Items.{Inner, note_inside, letter_inside, named_inside, tie_inside, passed_inside, lone_inside, inner_then, IsName, is_passed_inside, is_letter_inside, IsInner, StandsInside, InnerParts, closed_name, name_at, inner_at}, declared.part.ItemClass.ItemClass, Runs.{copies, maybe, is_mark, span_all, begins}, Lengths.{LengthForm, whole, over, halved, length_then, IsLength}, Notes.{NoteForm, note_then, sign_then, letter_byte, IsNote}, Decorations.is_name_byte, Parts.{no_part, then_part, Leads, leads_here, leads_on, walk, spelled_then}}, proofs.{Bounds.digit_range, SpanLaws.{span_all-append, span_all-takes, span_all-pass}, LengthLaws.count-digits, ItemLaws.{below_all, implied, at_class, bang_class}, PartLaws.{Reader, stands_at, by_parts, longest_of, walk-none, walk-some}}}
 
 -- ---- a part and what follows it
 copies_append : (n b : ℕ) (v y : List ℕ) → copies n b v ++ y ≡ copies n b (v ++ y)

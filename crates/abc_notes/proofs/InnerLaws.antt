@@ -1,11 +1,7 @@
 -- The inside of a chord as loops read it.
-use Rattle.std.proofs.Common.{◌≡◌, ℕ, zero, suc, ◌+◌, ◌≤◌, ◌<◌, Bool, true, false, List, [], ◌∷◌, ◌++◌, length, Option, Some, None, refl, sym, ap, ◌∙◌, subst, arith, inl, inr, append_assoc, append-nil, ◌||◌, option_map, MatchBool, length-append}
-use Rattle.std.proofs.{lemmas.Option.same_Some, lemmas.Bool.cond_both, lemmas.Bool.ne_eqb, Math.Bool.or-false, Math.Bool.or_assoc}
+use Rattle.std.proofs.{Common.{◌≡◌, ℕ, zero, suc, ◌+◌, ◌≤◌, ◌<◌, Bool, true, false, List, [], ◌∷◌, ◌++◌, length, Option, Some, None, refl, sym, ap, ◌∙◌, subst, arith, inl, inr, append_assoc, append-nil, ◌||◌, option_map, MatchBool, length-append}, lemmas.{Option.same_Some, Bool.{cond_both, ne_eqb}}, Math.Bool.{or-false, or_assoc}}
 use Rattle.mus_units.specs.declared.{note.Head.Head, pitch.Alter.Alter, pitch.Alter.TheVariants.Sharp2}
-use Rattle.abc_notes.specs.Items.{Inner, note_inside, named_inside, tie_inside, inner_then, StandsInside, Sense, says_note, says_tie, sense, is_note, has_length, IsBadByte, InnerFlawed, inner_at, sensed, inner_flaw}
-use Rattle.abc_notes.specs.{Graces.heads_in, Graces.plain_head, declared.part.Flaw.Flaw, declared.part.Len.Len, Runs.copies, Runs.maybe, Lengths.LengthForm, Lengths.whole, Lengths.over, Lengths.halved, Lengths.length_then, Notes.NoteForm, Notes.note_then, Notes.sign_then, Notes.letter_byte}
-use Rattle.abc_notes.specs.{Parts.stuck_here, Parts.stuck_later, Parts.IsFlaw, Parts.walk, Parts.is_done, Parts.goes_on_length, Parts.length_at_place, Chords.has_head, Chords.is_tied, Chords.tied_if, Chords.heads_of, Chords.senses, Chords.last_head, Chords.given_head, Chords.next_last}
-use Rattle.abc_notes.{specs.Chords.heads_after, specs.Chords.at_most, proofs.ItemLaws.inner_at-takes, proofs.ItemLaws.inner_at-reaches, proofs.PartLaws.Reader, proofs.PartLaws.less, proofs.PartLaws.longest_of, proofs.PartLaws.none_of, proofs.PartLaws.walk-none, proofs.PartLaws.walk-some}
+use Rattle.abc_notes.{specs.{Items.{Inner, note_inside, named_inside, tie_inside, inner_then, StandsInside, Sense, says_note, says_tie, sense, is_note, has_length, IsBadByte, InnerFlawed, inner_at, sensed, inner_flaw}, Graces.{heads_in, plain_head}, declared.part.{Flaw.Flaw, Len.Len}, Runs.{copies, maybe}, Lengths.{LengthForm, whole, over, halved, length_then}, Notes.{NoteForm, note_then, sign_then, letter_byte}, Parts.{stuck_here, stuck_later, IsFlaw, walk, is_done, goes_on_length, length_at_place}, Chords.{has_head, is_tied, tied_if, heads_of, senses, last_head, given_head, next_last, heads_after, at_most}}, proofs.{ItemLaws.{inner_at-takes, inner_at-reaches}, PartLaws.{Reader, less, longest_of, none_of, walk-none, walk-some}}}
 use Rattle.abc_lines.specs.declared.fault.FaultKind.TheVariants.{BadByte, BadLength}
 
 -- ---- a part has a byte

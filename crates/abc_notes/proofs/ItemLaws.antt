@@ -1,10 +1,7 @@
 -- Reading a part of a chord or a grace gives the longest.
-use Rattle.std.proofs.Common.{◌≡◌, ℕ, ◌≤◌, ◌<◌, Bool, true, false, cond, eqb, ltb, List, [], ◌∷◌, ◌++◌, length, Option, Some, None, refl, ap, ◌∙◌, subst, arith, inl, inr, ◌⊎◌, ◌||◌, not, IfSome, option_map, append-nil, length-append}
-use Rattle.std.{proofs.lemmas.Bool.cond_both, proofs.lemmas.Bool.or_right, proofs.lemmas.Bool.or_cases, proofs.lemmas.Bool.and_parts, proofs.lemmas.Bool.eqb-true, proofs.lemmas.Bool.agree_below, proofs.lemmas.Bool.agree_below_at, proofs.lemmas.Bool.ltb-true, specs.List.list_all}
+use Rattle.std.{proofs.{Common.{◌≡◌, ℕ, ◌≤◌, ◌<◌, Bool, true, false, cond, eqb, ltb, List, [], ◌∷◌, ◌++◌, length, Option, Some, None, refl, ap, ◌∙◌, subst, arith, inl, inr, ◌⊎◌, ◌||◌, not, IfSome, option_map, append-nil, length-append}, lemmas.Bool.{cond_both, or_right, or_cases, and_parts, eqb-true, agree_below, agree_below_at, ltb-true}}, specs.List.list_all}
 use Rattle.mus_units.specs.declared.pitch.{Alter.Alter, Letter.Letter, Alter.TheVariants.Sharp2, Letter.TheVariants.C}
-use Rattle.abc_notes.specs.Items.{Inner, note_inside, letter_inside, named_inside, tie_inside, slur_inside, passed_inside, lone_inside, inner_then, IsName, is_passed_inside, is_letter_inside, IsInner, StandsInside, ReadInner, inner_read, closed_name, name_at, is_note_byte, item_class, dot_inside, named_or, inner_by_class, inner_at}
-use Rattle.abc_notes.specs.{declared.part.ItemClass.ItemClass, Runs.one_of, Runs.span_all, Lengths.length_then, Notes.NoteForm, Notes.note_then, Notes.sign_then, Notes.letter_byte, Notes.note_at, Notes.IsNote, Decorations.is_deco_letter, Decorations.is_name_byte}
-use Rattle.abc_notes.proofs.{SpanLaws.span_all-takes, SpanLaws.span_all-pass, SpanLaws.span_all-append, SpanLaws.span_all-stops, NoteLaws.TakesNote, NoteLaws.note_at-takes, NoteLaws.note_at-reaches}
+use Rattle.abc_notes.{specs.{Items.{Inner, note_inside, letter_inside, named_inside, tie_inside, slur_inside, passed_inside, lone_inside, inner_then, IsName, is_passed_inside, is_letter_inside, IsInner, StandsInside, ReadInner, inner_read, closed_name, name_at, is_note_byte, item_class, dot_inside, named_or, inner_by_class, inner_at}, declared.part.ItemClass.ItemClass, Runs.{one_of, span_all}, Lengths.length_then, Notes.{NoteForm, note_then, sign_then, letter_byte, note_at, IsNote}, Decorations.{is_deco_letter, is_name_byte}}, proofs.{SpanLaws.{span_all-takes, span_all-pass, span_all-append, span_all-stops}, NoteLaws.{TakesNote, note_at-takes, note_at-reaches}}}
 
 abbrev pair : List ℕ → List ℕ → List ℕ × List ℕ
 pair a b = (a, b)

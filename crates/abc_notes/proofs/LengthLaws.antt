@@ -1,9 +1,7 @@
 -- Reading a length gives the longest.
-use Rattle.std.proofs.Common.{◌≡◌, ℕ, zero, suc, ◌+◌, ◌-◌, ◌≤◌, ◌<◌, Bool, true, false, eqb, List, [], ◌∷◌, ◌++◌, length, refl, ap, subst, ◌∙◌, arith, inl, inr, ◌⊎◌, ◌||◌, append-nil}
-use Rattle.std.{proofs.lemmas.Bool.cond_both, proofs.lemmas.Bool.and_parts, proofs.lemmas.Bool.eqb-true, proofs.lemmas.Bool.ne_eqb, proofs.lemmas.Bool.both_ways, proofs.lemmas.Bool.or_left, proofs.lemmas.Bool.or_right, specs.List.list_all}
+use Rattle.std.{proofs.{Common.{◌≡◌, ℕ, zero, suc, ◌+◌, ◌-◌, ◌≤◌, ◌<◌, Bool, true, false, eqb, List, [], ◌∷◌, ◌++◌, length, refl, ap, subst, ◌∙◌, arith, inl, inr, ◌⊎◌, ◌||◌, append-nil}, lemmas.Bool.{cond_both, and_parts, eqb-true, ne_eqb, both_ways, or_left, or_right}}, specs.List.list_all}
 use Rattle.mus_units.specs.Bytes.{is_digit}
-use Rattle.abc_notes.specs.{Runs.copies, Runs.span, Runs.begins, Lengths.LengthForm, Lengths.whole, Lengths.over, Lengths.halved, Lengths.length_then, Lengths.IsLength, Lengths.IsNumber, Lengths.IsCount, Lengths.number_at, Lengths.below_at, Lengths.is_slash, Lengths.length_at}
-use Rattle.abc_notes.proofs.{SpanLaws.span-takes, SpanLaws.span-pass, SpanLaws.span-length, SpanLaws.span-stops, SpanLaws.span-less, SpanLaws.span-append, SpanLaws.length-span, Bounds.digit_range}
+use Rattle.abc_notes.{specs.{Runs.{copies, span, begins}, Lengths.{LengthForm, whole, over, halved, length_then, IsLength, IsNumber, IsCount, number_at, below_at, is_slash, length_at}}, proofs.{SpanLaws.{span-takes, span-pass, span-length, span-stops, span-less, span-append, length-span}, Bounds.digit_range}}
 
 abbrev is_zero : ℕ → Bool
 is_zero b = eqb b 48

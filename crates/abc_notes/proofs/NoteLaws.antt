@@ -1,11 +1,7 @@
 -- Reading a note gives the longest.
-use Rattle.std.proofs.Common.{◌≡◌, ℕ, zero, suc, ◌≤◌, ◌<◌, Bool, true, false, cond, eqb, List, [], ◌∷◌, ◌++◌, length, Option, Some, None, refl, ap, subst, ◌∙◌, arith, inl, inr, ◌⊎◌, ◌||◌, IfSome, append-nil}
-use Rattle.std.proofs.lemmas.Bool.{cond_both, eqb-true, or_left, or_right, or_from, ne_eqb, and_parts, both_ways}
-use Rattle.mus_units.specs.{declared.pitch.Alter.Alter, declared.pitch.Letter.Letter, Bytes.is_digit, declared.pitch.Alter.TheVariants.Flat2, declared.pitch.Alter.TheVariants.Flat, declared.pitch.Alter.TheVariants.Natural, declared.pitch.Alter.TheVariants.Sharp}
-use Rattle.mus_units.specs.declared.pitch.{Alter.TheVariants.Sharp2, Letter.TheVariants.C, Letter.TheVariants.D, Letter.TheVariants.E, Letter.TheVariants.F, Letter.TheVariants.G, Letter.TheVariants.A, Letter.TheVariants.B}
-use Rattle.abc_notes.specs.{Runs.skip, Runs.span_all, Runs.begins, Runs.is_mark, Lengths.LengthForm, Lengths.whole, Lengths.over, Lengths.halved, Lengths.length_then, Lengths.length_at, Lengths.IsLength, Lengths.IsNumber, Notes.NoteForm, Notes.sign_then, Notes.letter_byte, Notes.note_then}
-use Rattle.abc_notes.{specs.Notes.IsNote, specs.Notes.sign_at, specs.Notes.upper_at, specs.Notes.lower_at, specs.Notes.either_letter, specs.Notes.letter_at, specs.Notes.note_from, specs.Notes.note_behind, specs.Notes.note_at, proofs.RunLaws.skip-takes, proofs.SpanLaws.span_all-takes}
-use Rattle.abc_notes.proofs.{SpanLaws.span_all-pass, SpanLaws.span_all-less, SpanLaws.span_all-append, Bounds.digit_range, LengthLaws.goes_on, LengthLaws.length_at-takes, LengthLaws.length_at-reaches, LengthLaws.length-length_at}
+use Rattle.std.proofs.{Common.{◌≡◌, ℕ, zero, suc, ◌≤◌, ◌<◌, Bool, true, false, cond, eqb, List, [], ◌∷◌, ◌++◌, length, Option, Some, None, refl, ap, subst, ◌∙◌, arith, inl, inr, ◌⊎◌, ◌||◌, IfSome, append-nil}, lemmas.Bool.{cond_both, eqb-true, or_left, or_right, or_from, ne_eqb, and_parts, both_ways}}
+use Rattle.mus_units.specs.{declared.pitch.{Alter.{Alter, TheVariants.{Flat2, Flat, Natural, Sharp, Sharp2}}, Letter.{Letter, TheVariants.{C, D, E, F, G, A, B}}}, Bytes.is_digit}
+use Rattle.abc_notes.{specs.{Runs.{skip, span_all, begins, is_mark}, Lengths.{LengthForm, whole, over, halved, length_then, length_at, IsLength, IsNumber}, Notes.{NoteForm, sign_then, letter_byte, note_then, IsNote, sign_at, upper_at, lower_at, either_letter, letter_at, note_from, note_behind, note_at}}, proofs.{RunLaws.skip-takes, SpanLaws.{span_all-takes, span_all-pass, span_all-less, span_all-append}, Bounds.digit_range, LengthLaws.{goes_on, length_at-takes, length_at-reaches, length-length_at}}}
 
 -- ---- the sign
 sign_at-takes : (s : List ℕ) → s ≡ sign_then (sign_at s).0 (sign_at s).1

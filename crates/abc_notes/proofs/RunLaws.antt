@@ -1,6 +1,5 @@
 -- What is taken off the front of a list is what stands there.
-use Rattle.std.proofs.Common.{◌≡◌, ℕ, zero, suc, ◌+◌, ◌≤◌, ◌<◌, Bool, true, false, eqb, List, [], ◌∷◌, length, drop, refl, ap, ◌∙◌, arith, zero-add, inl, inr, ◌⊎◌, length-drop}
-use Rattle.std.{proofs.lemmas.Bool.cond_both, proofs.lemmas.Bool.eqb-true, proofs.lemmas.Bool.eq-eqb, specs.List.prefix_len}
+use Rattle.std.{proofs.{Common.{◌≡◌, ℕ, zero, suc, ◌+◌, ◌≤◌, ◌<◌, Bool, true, false, eqb, List, [], ◌∷◌, length, drop, refl, ap, ◌∙◌, arith, zero-add, inl, inr, ◌⊎◌, length-drop}, lemmas.Bool.{cond_both, eqb-true, eq-eqb}}, specs.List.prefix_len}
 use Rattle.abc_notes.specs.Runs.{copies, maybe, run_off, skip, begins}
 
 -- the list does not begin with the byte

@@ -1,6 +1,5 @@
 -- What stands at the front and passes.
-use Rattle.std.proofs.Common.{◌≡◌, ℕ, zero, suc, ◌+◌, ◌≤◌, ◌<◌, Bool, true, false, cond, List, [], ◌∷◌, ◌++◌, length, take, drop, refl, sym, ap, subst, zero-add, arith, inl, inr, ◌⊎◌, take_all, length-append}
-use Rattle.std.{proofs.lemmas.Bool.cond_both, proofs.lemmas.Bool.and_parts, specs.List.prefix_len, specs.List.list_all}
+use Rattle.std.{proofs.{Common.{◌≡◌, ℕ, zero, suc, ◌+◌, ◌≤◌, ◌<◌, Bool, true, false, cond, List, [], ◌∷◌, ◌++◌, length, take, drop, refl, sym, ap, subst, zero-add, arith, inl, inr, ◌⊎◌, take_all, length-append}, lemmas.Bool.{cond_both, and_parts}}, specs.List.{prefix_len, list_all}}
 use Rattle.abc_notes.specs.Runs.{span, span_all, begins}
 
 pub span-cons : (p : ℕ → Bool) (n x : ℕ) (s : List ℕ) → span p (suc n) (x ∷ s) ≡ cond {A = List ℕ × List ℕ} (p x) (x ∷ (span p n s).0, (span p n s).1) ([], x ∷ s)

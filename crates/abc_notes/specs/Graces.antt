@@ -1,13 +1,10 @@
 -- A grace group: a slash or none, and notes and chords between braces. A name within, also within a
 -- chord, may hold a closing brace; a group is as long as it can be.
 use Prim.Native.Char.{code}
-use Rattle.std.specs.Prelude.{◌≡◌, ◌≤◌, ◌<◌, ◌-◌, ℕ, zero, suc, List, [], ◌∷◌, ◌++◌, length, take, drop, map, Bool, true, false, not, ◌==◌, ◌&&◌, if◌then◌else◌, Option, Some, None, option_map, MatchBool}
-use Rattle.std.specs.List.{list_all}
+use Rattle.std.specs.{Prelude.{◌≡◌, ◌≤◌, ◌<◌, ◌-◌, ℕ, zero, suc, List, [], ◌∷◌, ◌++◌, length, take, drop, map, Bool, true, false, not, ◌==◌, ◌&&◌, if◌then◌else◌, Option, Some, None, option_map, MatchBool}, List.list_all}
 use Rattle.mus_units.specs.declared.note.Head.{Head}
 use Rattle.abc_lines.specs.declared.fault.FaultKind.TheVariants.{Unclosed}
-use Rattle.abc_notes.specs.Items.{Inner, Sense, says_note, sense, inner_then, IsInner, has_length, name_at, inner_at, IsBadByte, sense_of, is_note}
-use Rattle.abc_notes.specs.{declared.part.Flaw.Flaw, declared.part.GraceChord.GraceChord, declared.part.GraceItem.GraceItem, Runs.maybe, Runs.skip, Runs.span_all, Runs.begins, Chords.ChordForm, Chords.chord_then, Chords.IsChord, Chords.ChordFault, Chords.chord_at, Chords.senses, Lengths.length_at}
-use Rattle.abc_notes.specs.Parts.{Parts, Leads, Flawed, IsFlaw, goes_on_length, walk, is_done}
+use Rattle.abc_notes.specs.{Items.{Inner, Sense, says_note, sense, inner_then, IsInner, has_length, name_at, inner_at, IsBadByte, sense_of, is_note}, declared.part.{Flaw.Flaw, GraceChord.GraceChord, GraceItem.GraceItem}, Runs.{maybe, skip, span_all, begins}, Chords.{ChordForm, chord_then, IsChord, ChordFault, chord_at, senses}, Lengths.length_at, Parts.{Parts, Leads, Flawed, IsFlaw, goes_on_length, walk, is_done}}
 
 pub data GracePart : Type 0 where
   single : Inner → GracePart

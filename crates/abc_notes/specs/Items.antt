@@ -1,12 +1,10 @@
 -- What may stand within a chord or a grace: notes, decorations, ties, and what is passed over
 -- there, which is blanks, slurs and a lone exclamation mark.
 use Prim.Native.Char.{code}
-use Rattle.std.specs.Prelude.{◌≡◌, ◌≤◌, ℕ, List, [], ◌∷◌, ◌++◌, length, Bool, true, false, ◌==◌, ◌||◌, if◌then◌else◌, Option, Some, None, option_map, codes}
-use Rattle.std.specs.List.{list_all}
+use Rattle.std.specs.{Prelude.{◌≡◌, ◌≤◌, ℕ, List, [], ◌∷◌, ◌++◌, length, Bool, true, false, ◌==◌, ◌||◌, if◌then◌else◌, Option, Some, None, option_map, codes}, List.list_all}
 use Rattle.mus_units.specs.declared.note.Head.{Head}
 use Rattle.abc_lines.specs.declared.fault.FaultKind.TheVariants.{BadByte, BadLength}
-use Rattle.abc_notes.specs.{declared.part.Flaw.Flaw, declared.part.Len.Len, declared.part.Item.Item, declared.part.ItemClass.ItemClass, Runs.maybe, Runs.one_of, Runs.is_note_letter, Runs.span_all, Lengths.len_of, Notes.NoteForm, Notes.note_then, Notes.IsNote, Notes.head_of, Notes.note_at}
-use Rattle.abc_notes.specs.{Decorations.is_deco_letter, Decorations.is_name_byte, Parts.Parts, Parts.Flawed, Parts.goes_on_length}
+use Rattle.abc_notes.specs.{declared.part.{Flaw.Flaw, Len.Len, Item.Item, ItemClass.ItemClass}, Runs.{maybe, one_of, is_note_letter, span_all}, Lengths.len_of, Notes.{NoteForm, note_then, IsNote, head_of, note_at}, Decorations.{is_deco_letter, is_name_byte}, Parts.{Parts, Flawed, goes_on_length}}
 
 pub data Inner : Type 0 where
   note_inside : NoteForm → Inner

@@ -2,8 +2,7 @@
 -- length is a number of at most four digits or none, and then nothing, a slash and such a number, or
 -- one to six slashes, each of which halves. What they mean, and reading them.
 use Prim.Native.Char.{code}
-use Rattle.std.specs.Prelude.{◌≡◌, ℕ, zero, suc, ◌≤◌, ◌^◌, List, [], ◌∷◌, ◌++◌, length, Bool, true, false, ◌==◌, if◌then◌else◌}
-use Rattle.std.specs.{List.list_all, Str.Parse.digits_value}
+use Rattle.std.specs.{Prelude.{◌≡◌, ℕ, zero, suc, ◌≤◌, ◌^◌, List, [], ◌∷◌, ◌++◌, length, Bool, true, false, ◌==◌, if◌then◌else◌}, List.list_all, Str.Parse.digits_value}
 use Rattle.abc_notes.specs.{declared.part.Len.Len, Runs.copies, Runs.span, Runs.begins}
 use Rattle.mus_units.specs.Bytes.{is_digit}
 

@@ -2,10 +2,8 @@
 -- and a small letter in octave 5; each prime counts one octave up and each comma one down. Then
 -- reading a note from left to right.
 use Prim.Native.Char.{code}
-use Rattle.std.specs.Prelude.{◌≡◌, ℕ, ℤ, pos, ◌+ℤ◌, ◌-ℤ◌, List, [], ◌∷◌, ◌++◌, Bool, true, false, ◌==◌, if◌then◌else◌, Option, Some, None, count_by}
-use Rattle.std.specs.List.{list_all}
-use Rattle.mus_units.specs.declared.{pitch.Alter.Alter, pitch.Letter.Letter, note.Head.Head, pitch.Alter.TheVariants.Flat2, pitch.Alter.TheVariants.Flat, pitch.Alter.TheVariants.Natural, pitch.Alter.TheVariants.Sharp, pitch.Alter.TheVariants.Sharp2, pitch.Letter.TheVariants.C}
-use Rattle.mus_units.specs.declared.pitch.Letter.TheVariants.{D, E, F, G, A, B}
+use Rattle.std.specs.{Prelude.{◌≡◌, ℕ, ℤ, pos, ◌+ℤ◌, ◌-ℤ◌, List, [], ◌∷◌, ◌++◌, Bool, true, false, ◌==◌, if◌then◌else◌, Option, Some, None, count_by}, List.list_all}
+use Rattle.mus_units.specs.declared.{pitch.{Alter.{Alter, TheVariants.{Flat2, Flat, Natural, Sharp, Sharp2}}, Letter.{Letter, TheVariants.{C, D, E, F, G, A, B}}}, note.Head.Head}
 use Rattle.abc_notes.specs.{declared.part.Len.Len, Runs.skip, Runs.span_all, Runs.is_mark, Lengths.LengthForm, Lengths.length_then, Lengths.IsLength, Lengths.length_at}
 
 pub record NoteForm : Type 0 where

@@ -1,8 +1,5 @@
-ghost use Rattle.std.specs.Prelude.{◌≡◌, ◌≤◌, ◌+◌, ◌^◌, ◌++◌, ◌||◌, ◌&&◌, ◌-◌, not, ◌==◌, map, ℕ, length, option_map, Some, None, true, false, IfOk, IfSome, OnOk, MatchResult, take, drop};
-ghost use Rattle.std.specs.List.{prefix_len};
-ghost use Rattle.abc_notes.specs.Chords.{is_inside, has_head, tied_if, heads_of, decos_of, senses, last_head, tie_last, heads_after, given_head, next_last, deco_of, chord_at, bracket_at, bracket_here, bracket_in, bracket_in_name, is_bracket, chord_shown, ChordFault};
-ghost use Rattle.abc_notes.specs.{Graces.heads_in, Graces.plain_head, Items.InnerFlawed, Items.inner_at, Items.inner_flaw, Items.name_at, Items.sense, Items.sense_of, Items.is_note, Lengths.len_of};
-ghost use Rattle.abc_notes.specs.{Parts.walk, Parts.is_done, Parts.goes_on_length, Parts.length_at_place, Parts.later_or, Runs.span_all, Runs.begins};
+ghost use Rattle.std.specs.{Prelude.{◌≡◌, ◌≤◌, ◌+◌, ◌^◌, ◌++◌, ◌||◌, ◌&&◌, ◌-◌, not, ◌==◌, map, ℕ, length, option_map, Some, None, true, false, IfOk, IfSome, OnOk, MatchResult, take, drop}, List.prefix_len};
+ghost use Rattle.abc_notes.specs.{Chords.{is_inside, has_head, tied_if, heads_of, decos_of, senses, last_head, tie_last, heads_after, given_head, next_last, deco_of, chord_at, bracket_at, bracket_here, bracket_in, bracket_in_name, is_bracket, chord_shown, ChordFault}, Graces.{heads_in, plain_head}, Items.{InnerFlawed, inner_at, inner_flaw, name_at, sense, sense_of, is_note}, Lengths.len_of, Parts.{walk, is_done, goes_on_length, length_at_place, later_or}, Runs.{span_all, begins}};
 
 use crate::decoration::{deco_of_letter, deco_of_name};
 use crate::item::{item_at, name_at};

@@ -2,8 +2,7 @@
 
 ghost use Rattle.std.specs.{Prelude.◌≡◌, Prelude.ℕ, Prelude.List, Prelude.◌<◌, Prelude.◌≤◌, Prelude.◌^◌, Prelude.length, Prelude.take, Prelude.true, List.prefix_len, List.list_all, Str.Parse.digits_value};
 ghost use Rattle.mus_units.specs.Bytes.{is_digit};
-ghost use Rattle.abc_notes.specs.Runs.{span};
-ghost use Rattle.abc_notes.specs.Lengths.{IsNumber, IsCount, limit_at, count_of, number_at, length_at, len_of, is_slash, length_read};
+ghost use Rattle.abc_notes.specs.{Runs.span, Lengths.{IsNumber, IsCount, limit_at, count_of, number_at, length_at, len_of, is_slash, length_read}};
 
 use crate::bytes::digits_off;
 use crate::part::Len;

@@ -1,6 +1,5 @@
 -- What the class of a byte tells of it, and the class of each first byte.
-use Rattle.std.proofs.Common.{◌≡◌, ℕ, ◌≤◌, ◌<◌, Bool, true, false, cond, eqb, leb, [], ◌∷◌, refl, subst, arith, inl, inr, ◌||◌, ◌&&◌, not}
-use Rattle.std.proofs.lemmas.Bool.{cond_both, eqb-true, leb-true, or_cases, and_parts, both_ways}
+use Rattle.std.proofs.{Common.{◌≡◌, ℕ, ◌≤◌, ◌<◌, Bool, true, false, cond, eqb, leb, [], ◌∷◌, refl, subst, arith, inl, inr, ◌||◌, ◌&&◌, not}, lemmas.Bool.{cond_both, eqb-true, leb-true, or_cases, and_parts, both_ways}}
 use Rattle.mus_units.specs.Bytes.{is_digit, is_blank, is_letter}
 use Rattle.abc_pieces.specs.{declared.token.Class.Class, Forms.is_passed, Forms.is_passed_sign, Forms.is_passed_letter, Forms.arrow, Forms.rest_byte, Forms.measures_byte, Reading.class_of}
 use Rattle.abc_notes.{specs.Decorations.is_deco_letter, specs.Items.is_note_byte, proofs.ItemLaws.implied, proofs.ItemLaws.below_all}

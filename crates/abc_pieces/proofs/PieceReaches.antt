@@ -1,17 +1,8 @@
 -- A piece that is read is as long as each that stands there.
-use Rattle.std.proofs.Common.{◌≡◌, ℕ, zero, suc, ◌+◌, ◌-◌, ◌≤◌, ◌<◌, Bool, true, false, cond, eqb, List, [], ◌∷◌, ◌++◌, length, Option, Some, None, refl, ap, ◌∙◌, subst, arith, inl, inr, ◌⊎◌, ◌||◌, ◌&&◌, not, option_map, IfSome, append-nil, length-append}
-use Rattle.std.{proofs.lemmas.Bool.cond_both, proofs.lemmas.Bool.or_cases, proofs.lemmas.Bool.and_parts, proofs.lemmas.Bool.eqb-true, proofs.lemmas.Bool.ne_eqb, proofs.lemmas.Bool.both_ways, proofs.lemmas.Bool.eq-eqb, proofs.lemmas.Bool.not-true, specs.List.list_all}
+use Rattle.std.{proofs.{Common.{◌≡◌, ℕ, zero, suc, ◌+◌, ◌-◌, ◌≤◌, ◌<◌, Bool, true, false, cond, eqb, List, [], ◌∷◌, ◌++◌, length, Option, Some, None, refl, ap, ◌∙◌, subst, arith, inl, inr, ◌⊎◌, ◌||◌, ◌&&◌, not, option_map, IfSome, append-nil, length-append}, lemmas.Bool.{cond_both, or_cases, and_parts, eqb-true, ne_eqb, both_ways, eq-eqb, not-true}}, specs.List.list_all}
 use Rattle.mus_units.specs.{declared.pitch.Alter.Alter, declared.pitch.Letter.Letter, Bytes.is_digit, Bytes.is_blank, Bytes.is_letter, declared.pitch.Alter.TheVariants.Sharp2, declared.pitch.Letter.TheVariants.C}
-use Rattle.abc_notes.specs.{Runs.copies, Runs.maybe, Runs.span, Runs.span_all, Lengths.LengthForm, Lengths.length_then, Lengths.length_at, Lengths.IsLength, Lengths.IsCount, Lengths.number_at, Notes.NoteForm, Notes.note_then, Notes.sign_then, Notes.letter_byte, Notes.IsNote}
-use Rattle.abc_notes.specs.{Decorations.is_deco_letter, Items.IsName, Items.name_at, Items.is_letter_inside, Chords.ChordForm, Chords.chord_then, Chords.is_inside, Chords.IsChord, Graces.GraceForm, Graces.grace_then, Graces.IsGrace}
-use Rattle.abc_notes.proofs.{SpanLaws.span-append, SpanLaws.span-less, SpanLaws.span_all-append, SpanLaws.span_all-less, SpanLaws.span_all-stops, SpanLaws.span_all-takes, LengthLaws.length_at-reaches, LengthLaws.count-reads, NoteLaws.note_at-reaches, ItemLaws.name_at-takes, ItemLaws.name_at-reads}
-use Rattle.abc_notes.proofs.{InnerLaws.length-copies_then, InnerLaws.length-maybe, InnerLaws.length-length_then, InnerLaws.note-longer, ChordLaws.chord_at-reaches, ChordLaws.chord-longer, GraceLaws.grace_at-reaches, GraceLaws.grace-longer}
-use Rattle.abc_pieces.specs.Bars.{BarForm, signs, colons, form_at, spelled as bar_then, IsGood as IsBar}
-use Rattle.abc_pieces.proofs.BarLaws.{TakesIf as TakesBarIf, form_at-takes, form_at-reaches}
-use Rattle.abc_pieces.specs.Forms.{Form, note_form, rest_form, gap_form, measures_form, chord_form, grace_form, tuplet_form, slur_form, close_form, tie_form, broken_form, bar_form, ending_form, letter_form, named_form, says_form, inline_form, cut_form, space_form, passed_form, lone_form, plus_form, spelled, IsGood, IsAllowed, is_ending, is_text, is_plus_byte, is_passed, arrow, rest_byte, measures_byte, is_broken, opening, is_cut}
-use Rattle.abc_pieces.specs.Reading.{Read, read, class_of, note_read, rest_read, gap_read, measures_read, bar_read, chord_read, grace_read, tuplet_read, or_else, ending_read, broken_read, says_read, plus_closed, plus_read, inline_read, space_read, named_or_lone, bang_read, dot_behind, dot_read, opened, by_class, piece_at}
-use Rattle.abc_pieces.{specs.Tuplets.TupletForm, specs.Tuplets.tuplet_then, specs.Tuplets.tuplet_at, specs.Tuplets.IsTuplet, specs.declared.token.Before.Before, specs.declared.token.Class.Class, proofs.TupletLaws.TakesTuplet, proofs.TupletLaws.tuplet_at-takes, proofs.TupletLaws.tuplet_at-reaches}
-use Rattle.abc_pieces.{proofs.TupletLaws.tuplet-longer, proofs.Classes.digit_below, proofs.Classes.digit_class, proofs.Classes.blank_class, proofs.Classes.letter_class, proofs.Classes.passed_class, proofs.Classes.letter_apart, proofs.PieceTakes.opening-behind, specs.declared.token.Opening.Opening}
+use Rattle.abc_notes.{specs.{Runs.{copies, maybe, span, span_all}, Lengths.{LengthForm, length_then, length_at, IsLength, IsCount, number_at}, Notes.{NoteForm, note_then, sign_then, letter_byte, IsNote}, Decorations.is_deco_letter, Items.{IsName, name_at, is_letter_inside}, Chords.{ChordForm, chord_then, is_inside, IsChord}, Graces.{GraceForm, grace_then, IsGrace}}, proofs.{SpanLaws.{span-append, span-less, span_all-append, span_all-less, span_all-stops, span_all-takes}, LengthLaws.{length_at-reaches, count-reads}, NoteLaws.note_at-reaches, ItemLaws.{name_at-takes, name_at-reads}, InnerLaws.{length-copies_then, length-maybe, length-length_then, note-longer}, ChordLaws.{chord_at-reaches, chord-longer}, GraceLaws.{grace_at-reaches, grace-longer}}}
+use Rattle.abc_pieces.{specs.{Bars.{BarForm, signs, colons, form_at, spelled as bar_then, IsGood as IsBar}, Forms.{Form, note_form, rest_form, gap_form, measures_form, chord_form, grace_form, tuplet_form, slur_form, close_form, tie_form, broken_form, bar_form, ending_form, letter_form, named_form, says_form, inline_form, cut_form, space_form, passed_form, lone_form, plus_form, spelled, IsGood, IsAllowed, is_ending, is_text, is_plus_byte, is_passed, arrow, rest_byte, measures_byte, is_broken, opening, is_cut}, Reading.{Read, read, class_of, note_read, rest_read, gap_read, measures_read, bar_read, chord_read, grace_read, tuplet_read, or_else, ending_read, broken_read, says_read, plus_closed, plus_read, inline_read, space_read, named_or_lone, bang_read, dot_behind, dot_read, opened, by_class, piece_at}, Tuplets.{TupletForm, tuplet_then, tuplet_at, IsTuplet}, declared.token.{Before.Before, Class.Class, Opening.Opening}}, proofs.{BarLaws.{TakesIf as TakesBarIf, form_at-takes, form_at-reaches}, TupletLaws.{TakesTuplet, tuplet_at-takes, tuplet_at-reaches, tuplet-longer}, Classes.{digit_below, digit_class, blank_class, letter_class, passed_class, letter_apart}, PieceTakes.opening-behind}}
 
 pub record Reaches (x : List ℕ) (f : Form) (r : Read) : Type 0 where
   pub form : Form

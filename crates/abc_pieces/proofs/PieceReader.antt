@@ -1,7 +1,6 @@
 -- The piece that is read is the longest, and equal bytes are one piece only.
 use Rattle.std.proofs.Common.{◌≡◌, ℕ, Bool, List, [], Some, None, sym, ap, ◌∙◌, arith, inl, inr, IfSome}
-use Rattle.abc_pieces.{specs.declared.token.Before.Before, specs.Forms.Form, specs.Forms.spelled, specs.Forms.IsGood, specs.Forms.IsAllowed, specs.Forms.StandsAt, specs.Reading.Read, specs.Reading.read, specs.Reading.piece_at, proofs.PieceTakes.Takes, proofs.PieceTakes.piece_at-takes}
-use Rattle.abc_pieces.proofs.PieceReaches.{piece_at-reaches, longer}
+use Rattle.abc_pieces.{specs.{declared.token.Before.Before, Forms.{Form, spelled, IsGood, IsAllowed, StandsAt}, Reading.{Read, read, piece_at}}, proofs.{PieceTakes.{Takes, piece_at-takes}, PieceReaches.{piece_at-reaches, longer}}}
 use Rattle.abc_notes.proofs.PartLaws.{Reader}
 
 abbrev with_rest : Form → List ℕ → Form × List ℕ

@@ -1,15 +1,8 @@
 -- A piece that is read stands at the front.
-use Rattle.std.proofs.Common.{◌≡◌, ℕ, suc, Bool, true, false, cond, eqb, List, [], ◌∷◌, ◌++◌, length, Option, Some, None, refl, sym, ap, ◌∙◌, arith, ◌&&◌, IfSome, option_map}
-use Rattle.std.{proofs.lemmas.Bool.cond_both, proofs.lemmas.Bool.or_left, proofs.lemmas.Bool.or_right, proofs.lemmas.Bool.and_parts, proofs.lemmas.Bool.eqb-true, proofs.lemmas.Bool.not-false, proofs.lemmas.Bool.eq-eqb, specs.List.list_all}
+use Rattle.std.{proofs.{Common.{◌≡◌, ℕ, suc, Bool, true, false, cond, eqb, List, [], ◌∷◌, ◌++◌, length, Option, Some, None, refl, sym, ap, ◌∙◌, arith, ◌&&◌, IfSome, option_map}, lemmas.Bool.{cond_both, or_left, or_right, and_parts, eqb-true, not-false, eq-eqb}}, specs.List.list_all}
 use Rattle.mus_units.specs.Bytes.{is_digit, is_blank, is_letter}
-use Rattle.abc_notes.specs.{Runs.copies, Runs.span, Runs.span_all, Runs.begins, Notes.NoteForm, Notes.note_at, Decorations.is_deco_letter, Items.IsName, Items.name_at, Chords.ChordForm, Chords.chord_at, Chords.is_inside, Graces.GraceForm, Graces.grace_at}
-use Rattle.abc_notes.proofs.{SpanLaws.span-takes, SpanLaws.span-pass, SpanLaws.span-length, SpanLaws.span_all-takes, SpanLaws.span_all-pass, SpanLaws.span_all-after, LengthLaws.length_at-takes, LengthLaws.number-takes, LengthLaws.number-count, NoteLaws.TakesNote, NoteLaws.note_at-takes}
-use Rattle.abc_notes.proofs.{ItemLaws.name_at-takes, ChordLaws.TakesChord, ChordLaws.chord_at-takes, GraceLaws.TakesGrace, GraceLaws.grace_at-takes}
-use Rattle.abc_pieces.specs.Forms.{Form, note_form, chord_form, grace_form, tuplet_form, slur_form, tie_form, broken_form, bar_form, ending_form, letter_form, says_form, inline_form, passed_form, plus_form, spelled, IsGood, IsAllowed, is_ending, is_text, is_plus_byte, is_passed, arrow, rest_byte, measures_byte, is_bar, is_broken, opening}
-use Rattle.abc_pieces.specs.Reading.{Read, read, class_of, note_read, rest_read, gap_read, measures_read, bar_read, chord_read, grace_read, tuplet_read, or_else, ending_read, broken_read, closed, says_read, plus_closed, plus_read, inline_read, space_read, named_or_lone, bang_read, dot_behind, dot_read, opened, by_class, piece_at}
-use Rattle.abc_pieces.{specs.Bars.BarForm, specs.Bars.form_at, specs.Tuplets.TupletForm, specs.Tuplets.tuplet_at, specs.declared.token.Before.Before, specs.declared.token.Class.Class, specs.declared.token.Opening.Opening, proofs.TupletLaws.TakesTuplet, proofs.TupletLaws.tuplet_at-takes}
-use Rattle.abc_pieces.proofs.Classes.{Fact, fact}
-use Rattle.abc_pieces.proofs.BarLaws.{TakesIf as TakesBarIf, form_at-takes}
+use Rattle.abc_notes.{specs.{Runs.{copies, span, span_all, begins}, Notes.{NoteForm, note_at}, Decorations.is_deco_letter, Items.{IsName, name_at}, Chords.{ChordForm, chord_at, is_inside}, Graces.{GraceForm, grace_at}}, proofs.{SpanLaws.{span-takes, span-pass, span-length, span_all-takes, span_all-pass, span_all-after}, LengthLaws.{length_at-takes, number-takes, number-count}, NoteLaws.{TakesNote, note_at-takes}, ItemLaws.name_at-takes, ChordLaws.{TakesChord, chord_at-takes}, GraceLaws.{TakesGrace, grace_at-takes}}}
+use Rattle.abc_pieces.{specs.{Forms.{Form, note_form, chord_form, grace_form, tuplet_form, slur_form, tie_form, broken_form, bar_form, ending_form, letter_form, says_form, inline_form, passed_form, plus_form, spelled, IsGood, IsAllowed, is_ending, is_text, is_plus_byte, is_passed, arrow, rest_byte, measures_byte, is_bar, is_broken, opening}, Reading.{Read, read, class_of, note_read, rest_read, gap_read, measures_read, bar_read, chord_read, grace_read, tuplet_read, or_else, ending_read, broken_read, closed, says_read, plus_closed, plus_read, inline_read, space_read, named_or_lone, bang_read, dot_behind, dot_read, opened, by_class, piece_at}, Bars.{BarForm, form_at}, Tuplets.{TupletForm, tuplet_at}, declared.token.{Before.Before, Class.Class, Opening.Opening}}, proofs.{TupletLaws.{TakesTuplet, tuplet_at-takes}, Classes.{Fact, fact}, BarLaws.{TakesIf as TakesBarIf, form_at-takes}}}
 
 pub record Stands (bang : Bool) (before : Before) (s : List ℕ) (f : Form) (rest : List ℕ) : Type 0 where
   pub good : IsGood bang f

@@ -1,13 +1,10 @@
 -- The pieces of a music line: the bytes of each kind, what it says, and what it tells of the next.
 -- A piece is the spelling of a token, or one item that is passed over.
 use Prim.Native.Char.{code}
-use Rattle.std.specs.Prelude.{◌≡◌, ℕ, ◌≤◌, List, [], ◌∷◌, ◌++◌, map, Bool, true, false, not, ◌==◌, ◌&&◌, ◌||◌, if◌then◌else◌, Option, Some, None, codes}
-use Rattle.std.specs.List.{list_all}
+use Rattle.std.specs.{Prelude.{◌≡◌, ℕ, ◌≤◌, List, [], ◌∷◌, ◌++◌, map, Bool, true, false, not, ◌==◌, ◌&&◌, ◌||◌, if◌then◌else◌, Option, Some, None, codes}, List.list_all}
 use Rattle.mus_units.specs.Bytes.{is_within, is_either, is_digit, is_blank, is_letter}
-use Rattle.abc_notes.specs.{Runs.copies, Runs.maybe, Runs.one_of, Runs.begins, Lengths.LengthForm, Lengths.length_then, Lengths.IsLength, Lengths.len_of, Lengths.IsCount, Lengths.count_of, Notes.NoteForm, Notes.note_then, Notes.IsNote, Notes.head_of, Decorations.deco_of_letter}
-use Rattle.abc_notes.specs.{Decorations.deco_of_name, Items.IsName, Items.is_letter_inside, Items.sense, Chords.ChordForm, Chords.chord_then, Chords.IsChord, Chords.heads_of, Chords.decos_of, Chords.is_inside, Graces.GraceForm, Graces.grace_then, Graces.IsGrace, Graces.body_of}
-use Rattle.abc_pieces.specs.Bars.{BarForm, spelled as bar_then, IsGood as IsBar, meant as bar_of}
-use Rattle.abc_pieces.specs.{Tuplets.TupletForm, Tuplets.tuplet_then, Tuplets.IsTuplet, Tuplets.p_of, Tuplets.q_of, Tuplets.r_of, declared.token.Token.Token, declared.token.Before.Before, declared.token.Opening.Opening}
+use Rattle.abc_notes.specs.{Runs.{copies, maybe, one_of, begins}, Lengths.{LengthForm, length_then, IsLength, len_of, IsCount, count_of}, Notes.{NoteForm, note_then, IsNote, head_of}, Decorations.{deco_of_letter, deco_of_name}, Items.{IsName, is_letter_inside, sense}, Chords.{ChordForm, chord_then, IsChord, heads_of, decos_of, is_inside}, Graces.{GraceForm, grace_then, IsGrace, body_of}}
+use Rattle.abc_pieces.specs.{Bars.{BarForm, spelled as bar_then, IsGood as IsBar, meant as bar_of}, Tuplets.{TupletForm, tuplet_then, IsTuplet, p_of, q_of, r_of}, declared.token.{Token.Token, Before.Before, Opening.Opening}}
 
 pub data Form : Type 0 where
   note_form : NoteForm → Form

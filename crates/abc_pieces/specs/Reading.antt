@@ -2,10 +2,8 @@
 use Prim.Native.Char.{code}
 use Rattle.std.specs.Prelude.{◌≤◌, ℕ, suc, List, [], ◌∷◌, length, Bool, true, false, ◌==◌, ◌||◌, if◌then◌else◌, Option, Some, None, option_map}
 use Rattle.mus_units.specs.Bytes.{is_digit, is_blank}
-use Rattle.abc_notes.specs.{Runs.span, Runs.span_all, Lengths.length_at, Lengths.number_at, Notes.note_at, Decorations.is_deco_letter, Decorations.deco_of_letter, Decorations.deco_of_name, Items.is_note_byte, Items.name_at, Chords.chord_at, Chords.is_inside, Chords.heads_of, Chords.decos_of}
-use Rattle.abc_notes.specs.{Chords.senses, Graces.grace_at, Graces.grace_part_at, Graces.body_of, Parts.walk}
-use Rattle.abc_pieces.specs.Forms.{Form, note_form, rest_form, gap_form, measures_form, chord_form, grace_form, tuplet_form, slur_form, close_form, tie_form, broken_form, bar_form, ending_form, letter_form, named_form, says_form, inline_form, cut_form, space_form, passed_form, lone_form, plus_form, is_ending, is_text, is_plus_byte, is_passed, opening, inline_token, is_bar, is_broken, meant, after}
-use Rattle.abc_pieces.specs.{Bars.form_at, Tuplets.tuplet_at, declared.piece.Piece.Piece, declared.token.Before.Before, declared.token.Class.Class, declared.token.Opening.Opening, declared.token.Token.Token, declared.token.Found.Found}
+use Rattle.abc_notes.specs.{Runs.{span, span_all}, Lengths.{length_at, number_at}, Notes.note_at, Decorations.{is_deco_letter, deco_of_letter, deco_of_name}, Items.{is_note_byte, name_at}, Chords.{chord_at, is_inside, heads_of, decos_of, senses}, Graces.{grace_at, grace_part_at, body_of}, Parts.walk}
+use Rattle.abc_pieces.specs.{Forms.{Form, note_form, rest_form, gap_form, measures_form, chord_form, grace_form, tuplet_form, slur_form, close_form, tie_form, broken_form, bar_form, ending_form, letter_form, named_form, says_form, inline_form, cut_form, space_form, passed_form, lone_form, plus_form, is_ending, is_text, is_plus_byte, is_passed, opening, inline_token, is_bar, is_broken, meant, after}, Bars.form_at, Tuplets.tuplet_at, declared.{piece.Piece.Piece, token.{Before.Before, Class.Class, Opening.Opening, Token.Token, Found.Found}}}
 
 unfoldable pub class_of : ℕ → Class
 class_of b =

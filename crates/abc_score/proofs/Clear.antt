@@ -1,13 +1,10 @@
 -- What a score without faults has: voices without verses that are too many, and at most 2000 measures.
-use Rattle.std.proofs.Common.{◌≡◌, ◌∙◌, refl, sym, ap, subst, ℕ, ◌+◌, ◌-◌, ◌≤◌, ◌<◌, List, [], ◌∷◌, ◌++◌, append-nil, append_assoc, Bool, true, false, cond, None, arith, map, reverse}
-use Rattle.std.{proofs.lemmas.List.reverse-append, proofs.lemmas.List.Elements.All-nil, proofs.lemmas.List.Elements.All-cons, specs.Prelude.fold, specs.Prelude.max, specs.Prelude.flat_map, specs.Prelude.nat_le, specs.Prelude.is_none, specs.List.All}
+use Rattle.std.{proofs.{Common.{◌≡◌, ◌∙◌, refl, sym, ap, subst, ℕ, ◌+◌, ◌-◌, ◌≤◌, ◌<◌, List, [], ◌∷◌, ◌++◌, append-nil, append_assoc, Bool, true, false, cond, None, arith, map, reverse}, lemmas.List.{reverse-append, Elements.{All-nil, All-cons}}}, specs.{Prelude.{fold, max, flat_map, nat_le, is_none}, List.All}}
 use Rattle.abc_lines.specs.declared.fault.FaultKind.{FaultKind}
-use Rattle.abc_steps.specs.{declared.step.Item.Item, declared.step.Sound.Sound, declared.step.Step.Step, declared.step.Stood.Stood, declared.force.InForce.InForce, Looks.Steps, Looks.since_event, Kinds.is_event, Counts.further, Counts.measure_at, Counts.measures_begun, Lengths.written_length}
-use Rattle.abc_steps.specs.Places.{place_at, measure_of}
+use Rattle.abc_steps.specs.{declared.{step.{Item.Item, Sound.Sound, Step.Step, Stood.Stood}, force.InForce.InForce}, Looks.{Steps, since_event}, Kinds.is_event, Counts.{further, measure_at, measures_begun}, Lengths.written_length, Places.{place_at, measure_of}}
 use Rattle.mus_units.specs.Parts.{parts_list}
 use Rattle.abc_faults.specs.{Faults.any_off, Faults.fault_if, Faults.faults_of, Faults.faults_in, Faults.grace_faults, Faults.is_free, Faults.is_past, Faults.rest_faults, Faults.sound_faults, Weights.crowded}
-use Rattle.abc_words.specs.Verses.{verse_fault, verse_faults}
-use Rattle.abc_words.specs.Verses.{first_of as head_of}
+use Rattle.abc_words.specs.Verses.{verse_fault, verse_faults, first_of as head_of}
 use Rattle.abc_score.{specs.declared.voices.VoiceRead.VoiceRead, specs.Faults.voice_faults, specs.Faults.voice_weights, specs.Faults.faults_of_voices, specs.Score.most_measures, specs.Score.own_measures, proofs.Basics.none_before, proofs.Basics.none_behind}
 
 -- a test that gives no fault

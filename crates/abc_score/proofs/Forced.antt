@@ -1,6 +1,5 @@
 -- The bars that are forced among n measures rise, each behind the first measure and before the last bar.
-use Rattle.std.proofs.Common.{◌≡◌, refl, ℕ, ◌+◌, ◌≤◌, ◌<◌, List, [], ◌∷◌, ◌++◌, Bool, true, false, cond, reverse, arith}
-use Rattle.std.{proofs.lemmas.Bool.Decides.nat_tests, specs.Prelude.⊤, specs.Prelude.◌==◌, specs.Prelude.◌&&◌, specs.Prelude.nat_le, specs.Prelude.nat_lt, specs.List.list_any, proofs.lemmas.Bool.and_parts, proofs.lemmas.Bool.or_parts}
+use Rattle.std.{proofs.{Common.{◌≡◌, refl, ℕ, ◌+◌, ◌≤◌, ◌<◌, List, [], ◌∷◌, ◌++◌, Bool, true, false, cond, reverse, arith}, lemmas.Bool.{Decides.nat_tests, and_parts, or_parts}}, specs.{Prelude.{⊤, ◌==◌, ◌&&◌, nat_le, nat_lt}, List.list_any}}
 use Rattle.mus_score.specs.Walks.{RiseWithin}
 use Rattle.abc_steps.specs.{declared.step.Step.Step, declared.step.Stood.Stood, declared.counts.Counts.Counts, Looks.Steps, Counts.all_further, Counts.begins_group, Counts.counts_of, Counts.further, Counts.groups, Counts.measure_at, Counts.nearest_at}
 use Rattle.abc_events.specs.Bars.{forced_at, forced_bars, forced_behind, is_forced, is_near_bar, with_bar}

@@ -1,18 +1,13 @@
 -- In each measure of a voice without faults tuplets are full and events good.
-use Rattle.std.proofs.Common.{◌≡◌, ◌∙◌, refl, sym, subst, ℕ, zero, suc, ◌+◌, ◌-◌, ◌≤◌, List, [], ◌∷◌, ◌++◌, length, Bool, true, false, cond, ◌==◌, ◌||◌, reverse, take, None, arith}
-use Rattle.std.{proofs.lemmas.List.reverse-append, proofs.lemmas.List.Elements.recursion_from_All, specs.Prelude.flat_map, specs.List.AllByRecursion, specs.List.before_first, specs.List.position_or_len}
+use Rattle.std.{proofs.{Common.{◌≡◌, ◌∙◌, refl, sym, subst, ℕ, zero, suc, ◌+◌, ◌-◌, ◌≤◌, List, [], ◌∷◌, ◌++◌, length, Bool, true, false, cond, ◌==◌, ◌||◌, reverse, take, None, arith}, lemmas.List.{reverse-append, Elements.recursion_from_All}}, specs.{Prelude.flat_map, List.{AllByRecursion, before_first, position_or_len}}}
 use Rattle.mus_units.specs.{declared.note.Deco.Deco, declared.key.Meter.Meter, Good.IsGoodMeter}
 use Rattle.mus_score.specs.{declared.score.Music.Music, Good.outside}
 use Rattle.abc_notes.specs.declared.part.GraceChord.{GraceChord}
 use Rattle.abc_tokens.specs.Good.{AreGoodGraces}
-use Rattle.abc_steps.specs.{declared.step.Sound.Sound, declared.step.Step.Step, declared.step.Stood.Stood, declared.force.InForce.InForce, declared.place.Place.Place, declared.tuplets.Taking.Taking, Counts.all_further, Counts.begins_group, Counts.further, Counts.groups, Counts.measure_at}
-use Rattle.abc_steps.specs.{Counts.nearest_at, Force.force_at, Good.IsGoodForce, Good.IsGoodStep, Good.IsGoodStood, Kinds.is_event, Kinds.is_sound, Looks.Steps, Looks.since_event, Places.place_at, Places.measure_of, Tuplets.after_event, Tuplets.fits, Tuplets.is_compound, Tuplets.opened}
-use Rattle.abc_steps.specs.Tuplets.{or_default, taking_at, taking_behind, usual_q}
-use Rattle.abc_events.specs.{declared.leaves.Leaf.Leaf, declared.written.Sign.Sign, Leaves.Words, Leaves.leaves_from, Leaves.nodes_of, Leaves.words_at, Measures.leaves_in, Signs.IsDrawn, Signs.further_rests, Signs.parted_at, Signs.rest_written, Signs.signs, Signs.signs_of, Signs.sound_written}
-use Rattle.abc_events.specs.Waits.{graces_in, nothing, waiting_of}
+use Rattle.abc_steps.specs.{declared.{step.{Sound.Sound, Step.Step, Stood.Stood}, force.InForce.InForce, place.Place.Place, tuplets.Taking.Taking}, Counts.{all_further, begins_group, further, groups, measure_at, nearest_at}, Force.force_at, Good.{IsGoodForce, IsGoodStep, IsGoodStood}, Kinds.{is_event, is_sound}, Looks.{Steps, since_event}, Places.{place_at, measure_of}, Tuplets.{after_event, fits, is_compound, opened, or_default, taking_at, taking_behind, usual_q}}
+use Rattle.abc_events.specs.{declared.{leaves.Leaf.Leaf, written.Sign.Sign}, Leaves.{Words, leaves_from, nodes_of, words_at}, Measures.leaves_in, Signs.{IsDrawn, further_rests, parted_at, rest_written, signs, signs_of, sound_written}, Waits.{graces_in, nothing, waiting_of}}
 use Rattle.abc_faults.specs.Faults.{ends_tuplets, faults_in, faults_of, grace_faults, is_free, rest_faults, sound_faults, sounds_behind}
-use Rattle.abc_score.proofs.{Nested.HasSome, Nested.IsGoodAt, Nested.IsRatio, Nested.WellNested, Nested.place_of, Judging.IsFew, Judging.rest_good, Judging.rest_values, Judging.sound_good, Judging.sound_some, Basics.back_all, Basics.front_all, Basics.none_before, Basics.none_behind, Walks.Enough}
-use Rattle.abc_score.proofs.Walks.{default_some, next_enough, none_open, rest_clear, sound_parts, sounds_on, tuplet_clear, walk_force}
+use Rattle.abc_score.proofs.{Nested.{HasSome, IsGoodAt, IsRatio, WellNested, place_of}, Judging.{IsFew, rest_good, rest_values, sound_good, sound_some}, Basics.{back_all, front_all, none_before, none_behind}, Walks.{Enough, default_some, next_enough, none_open, rest_clear, sound_parts, sounds_on, tuplet_clear, walk_force}}
 
 -- ---- graces that wait
 all_taken : {X : Type 0} (P : X → Type 0) (n : ℕ) (xs : List X) → AllByRecursion P xs → AllByRecursion P (take n xs)

@@ -1,6 +1,5 @@
 -- The words of a body stand on its lines in their order, so their lines rise.
-use Rattle.std.proofs.Common.{◌≡◌, ◌∙◌, refl, sym, ap, subst, ℕ, zero, suc, ◌≤◌, ◌<◌, List, [], ◌∷◌, ◌++◌, Bool, true, false, Option, Some, None, drop, arith}
-use Rattle.std.specs.Prelude.{⊤, flat_map, Result, Ok, Err}
+use Rattle.std.{proofs.Common.{◌≡◌, ◌∙◌, refl, sym, ap, subst, ℕ, zero, suc, ◌≤◌, ◌<◌, List, [], ◌∷◌, ◌++◌, Bool, true, false, Option, Some, None, drop, arith}, specs.Prelude.{⊤, flat_map, Result, Ok, Err}}
 use Rattle.abc_lines.specs.{declared.book.Line.Line, declared.fault.Fault.Fault, declared.fault.FaultKind.FaultKind, declared.kind.LineKind.LineKind, Good.NumbersRise, Kinds.kind_of}
 use Rattle.abc_pieces.specs.declared.token.Token.{Token}
 use Rattle.abc_tokens.specs.declared.token.Placed.{Placed}

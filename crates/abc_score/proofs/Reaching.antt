@@ -1,14 +1,11 @@
 -- Heads and graces of a voice without faults are within reach, in the clef at their event.
-use Rattle.std.proofs.Common.{◌≡◌, ◌∙◌, refl, sym, ap, subst, ℕ, zero, suc, ◌+◌, ◌-◌, ℤ, pos, negsuc, ◌≤ℤ◌, int_lt, List, [], ◌∷◌, ◌++◌, Bool, true, false, cond, not, ◌||◌, Option, Some, None, is_some, unwrap_or, arith}
-use Rattle.std.{proofs.lemmas.Int.ints, proofs.lemmas.List.Sums.take_while-cons, specs.Prelude.flat_map, specs.List.AllByRecursion, specs.List.before_first, specs.List.list_any, specs.List.take_while, proofs.lemmas.Bool.or_parts}
+use Rattle.std.{proofs.{Common.{◌≡◌, ◌∙◌, refl, sym, ap, subst, ℕ, zero, suc, ◌+◌, ◌-◌, ℤ, pos, negsuc, ◌≤ℤ◌, int_lt, List, [], ◌∷◌, ◌++◌, Bool, true, false, cond, not, ◌||◌, Option, Some, None, is_some, unwrap_or, arith}, lemmas.{Int.ints, List.Sums.take_while-cons, Bool.or_parts}}, specs.{Prelude.flat_map, List.{AllByRecursion, before_first, list_any, take_while}}}
 use Rattle.mus_units.specs.{declared.note.Head.Head, declared.note.Deco.Deco, declared.pitch.Clef.Clef, Pitch.height_of}
 use Rattle.mus_score.specs.GoodScore.{IsInReach}
 use Rattle.abc_lines.specs.declared.fault.FaultKind.{FaultKind}
 use Rattle.abc_notes.specs.declared.part.GraceChord.{GraceChord}
-use Rattle.abc_steps.specs.declared.{step.Sound.Sound, step.Step.Step, step.Stood.Stood, force.InForce.InForce, place.Place.Place}
-use Rattle.abc_steps.specs.{Force.changes_at, Force.force_at, Force.force_behind, Force.names_clef, Force.when, Kinds.is_event, Looks.Steps, Looks.is_tied, Looks.since_event, Places.place_at, Places.measure_of, Tuplets.fits, Tuplets.or_default, Tuplets.usual_q}
-use Rattle.abc_events.specs.{declared.written.Sign.Sign, Signs.further_rests, Signs.parted_at, Signs.rest_written, Signs.signs, Signs.signs_of, Signs.sound_written, Signs.tied_heads, Signs.tuplet_of, Signs.with_tie, Waits.graces_in, Waits.waiting_of}
-use Rattle.abc_events.proofs.BarRows.{any_reverse}
+use Rattle.abc_steps.specs.{declared.{step.{Sound.Sound, Step.Step, Stood.Stood}, force.InForce.InForce, place.Place.Place}, Force.{changes_at, force_at, force_behind, names_clef, when}, Kinds.is_event, Looks.{Steps, is_tied, since_event}, Places.{place_at, measure_of}, Tuplets.{fits, or_default, usual_q}}
+use Rattle.abc_events.{specs.{declared.written.Sign.Sign, Signs.{further_rests, parted_at, rest_written, signs, signs_of, sound_written, tied_heads, tuplet_of, with_tie}, Waits.{graces_in, waiting_of}}, proofs.BarRows.any_reverse}
 use Rattle.abc_faults.specs.Faults.{any_grace_off, any_off, faults_in, faults_of, grace_faults, grace_faults_of, is_off, rest_faults, sound_faults}
 use Rattle.abc_score.proofs.{Parts.SignsReach, Parts.heads_reach, Parts.DoReach, Basics.all_both, Basics.none_before, Basics.none_behind, Clear.no_fault, Walks.sound_clear}
 

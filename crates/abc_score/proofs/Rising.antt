@@ -1,8 +1,6 @@
 -- No event of a voice stands in an earlier measure than one before it, and none past its own measures.
-use Rattle.std.proofs.Common.{◌≡◌, ◌∙◌, refl, sym, ap, subst, ℕ, zero, suc, ◌+◌, ◌-◌, ◌≤◌, ◌<◌, List, [], ◌∷◌, ◌++◌, map, length, Bool, true, false, cond, reverse, max, append-nil, append_assoc, arith}
-use Rattle.std.{proofs.lemmas.List.reverse-append, specs.Prelude.⊤, specs.Prelude.fold, specs.List.AllByRecursion}
-use Rattle.abc_steps.specs.{declared.step.Step.Step, declared.step.Stood.Stood, declared.force.InForce.InForce, declared.place.Place.Place, Counts.all_further, Counts.begins_group, Counts.further, Counts.groups, Counts.measure_at, Counts.measures_begun, Counts.nearest_at, Good.IsGoodStep}
-use Rattle.abc_steps.specs.{Good.IsGoodStood, Kinds.is_event, Looks.Steps, Looks.since_event, Places.place_at, Places.measure_of, Tuplets.fits, Tuplets.or_default, Tuplets.usual_q}
+use Rattle.std.{proofs.{Common.{◌≡◌, ◌∙◌, refl, sym, ap, subst, ℕ, zero, suc, ◌+◌, ◌-◌, ◌≤◌, ◌<◌, List, [], ◌∷◌, ◌++◌, map, length, Bool, true, false, cond, reverse, max, append-nil, append_assoc, arith}, lemmas.List.reverse-append}, specs.{Prelude.{⊤, fold}, List.AllByRecursion}}
+use Rattle.abc_steps.specs.{declared.{step.{Step.Step, Stood.Stood}, force.InForce.InForce, place.Place.Place}, Counts.{all_further, begins_group, further, groups, measure_at, measures_begun, nearest_at}, Good.{IsGoodStep, IsGoodStood}, Kinds.is_event, Looks.{Steps, since_event}, Places.{place_at, measure_of}, Tuplets.{fits, or_default, usual_q}}
 use Rattle.abc_events.specs.{declared.written.Sign.Sign, Leaves.Words, Leaves.leaves_from, Signs.further_rests, Signs.parted_at, Signs.rest_written, Signs.signs, Signs.signs_of, Signs.sound_written, Signs.tuplet_of}
 use Rattle.abc_score.{specs.declared.voices.VoiceRead.VoiceRead, specs.Score.most_measures, specs.Score.own_measures, proofs.Full.sound_measure, proofs.Segments.Rise}
 

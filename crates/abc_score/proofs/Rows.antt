@@ -1,8 +1,6 @@
 -- The events of a tree in a row: tuplets around them change neither what they are nor what they weigh.
-use Rattle.std.proofs.Common.{◌≡◌, ◌∙◌, refl, sym, ap, ℕ, zero, suc, ◌+◌, ◌-◌, List, [], ◌∷◌, ◌++◌, map, sum, sum_by, length, Bool, append_assoc, arith}
-use Rattle.std.proofs.{lemmas.List.map-append, lemmas.List.Sums.sum_by-cons, lemmas.List.Sums.sum_by-append}
-use Rattle.mus_score.specs.{declared.score.Event.Event, declared.score.Music.Music, declared.score.Music.TheOpen.Music-F, declared.score.Music.TheViews.roll-Music, declared.score.Music.TheFolds.fold-roll-Music, declared.good.Judged.Judged, declared.good.Place.Place, Good.weight, Good.weight_step}
-use Rattle.mus_score.specs.{Good.judged_within, Good.good_step, Times.Leafing, Times.leaf, Times.leaves_step, Times.leaves_within}
+use Rattle.std.proofs.{Common.{◌≡◌, ◌∙◌, refl, sym, ap, ℕ, zero, suc, ◌+◌, ◌-◌, List, [], ◌∷◌, ◌++◌, map, sum, sum_by, length, Bool, append_assoc, arith}, lemmas.List.{map-append, Sums.{sum_by-cons, sum_by-append}}}
+use Rattle.mus_score.specs.{declared.{score.{Event.Event, Music.{Music, TheOpen.Music-F, TheViews.roll-Music, TheFolds.fold-roll-Music}}, good.{Judged.Judged, Place.Place}}, Good.{weight, weight_step, judged_within, good_step}, Times.{Leafing, leaf, leaves_step, leaves_within}}
 use Rattle.abc_events.specs.{declared.leaves.Leaf.Leaf, Nesting.Forest, Nesting.none_more, Nesting.one, Nesting.group, Nesting.cut, Nesting.nest, Nesting.music_of}
 use Rattle.mus_score.specs.declared.score.Music.TheVariants as music
 

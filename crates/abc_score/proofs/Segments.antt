@@ -1,7 +1,5 @@
 -- The measures of a voice one after the other are the voice, where no event stands in an earlier measure than one before it.
-use Rattle.std.proofs.Common.{◌≡◌, ◌∙◌, refl, sym, ap, subst, ℕ, zero, suc, ◌+◌, ◌≤◌, ◌<◌, List, [], ◌∷◌, ◌++◌, map, sum_by, length, Bool, true, false, cond, arith, eqb-true}
-use Rattle.std.proofs.lemmas.{Bool.eqb-false, Bool.eq-eqb, Bool.Decides.nat_tests, List.map-append, List.Concat.flat_map-append, List.Folds.flat_map-map, List.Sums.sum_by-cons, List.Sums.sum_by-append}
-use Rattle.std.specs.{Prelude.⊤, Prelude.flat_map, Prelude.◌==◌, List.AllByRecursion, List.range_with_len}
+use Rattle.std.{proofs.{Common.{◌≡◌, ◌∙◌, refl, sym, ap, subst, ℕ, zero, suc, ◌+◌, ◌≤◌, ◌<◌, List, [], ◌∷◌, ◌++◌, map, sum_by, length, Bool, true, false, cond, arith, eqb-true}, lemmas.{Bool.{eqb-false, eq-eqb, Decides.nat_tests}, List.{map-append, Concat.flat_map-append, Folds.flat_map-map, Sums.{sum_by-cons, sum_by-append}}}}, specs.{Prelude.{⊤, flat_map, ◌==◌}, List.{AllByRecursion, range_with_len}}}
 use Rattle.mus_units.specs.declared.note.Bar.{Bar}
 use Rattle.mus_score.specs.{declared.score.Flat.Flat, declared.score.Music.Music, declared.score.Measure.Measure, GoodScore.events_of, Times.flats_of}
 use Rattle.abc_events.specs.{declared.leaves.Leaf.Leaf, Nesting.tree_of, Measures.leaves_in, Measures.measure_of, Measures.measures_in}

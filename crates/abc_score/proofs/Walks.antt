@@ -1,16 +1,10 @@
 -- What the steps of a voice without faults are: each event has parts and good changes, and tuplets are full.
-use Rattle.std.proofs.Common.{◌≡◌, ◌∙◌, refl, sym, ap, subst, ℕ, zero, suc, ◌+◌, ◌-◌, ◌*◌, ◌/◌, ◌≤◌, List, [], ◌∷◌, ◌++◌, length, Bool, true, false, cond, not, nat_le, ◌==◌, Option, Some, None, IfSome, unwrap_or, is_none, option_map, zero-add, eqb-true, arith}
-use Rattle.std.{proofs.lemmas.Bool.leb-true, proofs.lemmas.Bool.Decides.nat_tests, proofs.lemmas.Nat.mul-le, proofs.lemmas.List.Sums.sum_by-cons, proofs.lemmas.List.Sums.take_while-cons, specs.Prelude.⊤, specs.Prelude.count_by, specs.Prelude.nat_lt, specs.List.AllByRecursion, specs.List.list_any}
-use Rattle.std.specs.List.{take_while}
-use Rattle.mus_units.specs.{declared.note.Deco.Deco, declared.key.Key.Key, declared.key.Meter.Meter, declared.value.Frac.Frac, declared.value.Value.Value, Good.AreGoodSigns, Good.IsGoodKey, Good.IsGoodMeter, Good.IsGoodUnit, Parts.cut_in, Parts.cut_next, Parts.longest_within, Parts.parts_list}
-use Rattle.mus_units.specs.Parts.{units_of}
-use Rattle.mus_units.specs.declared.key.Sign.{Sign as KeySign}
+use Rattle.std.{proofs.{Common.{◌≡◌, ◌∙◌, refl, sym, ap, subst, ℕ, zero, suc, ◌+◌, ◌-◌, ◌*◌, ◌/◌, ◌≤◌, List, [], ◌∷◌, ◌++◌, length, Bool, true, false, cond, not, nat_le, ◌==◌, Option, Some, None, IfSome, unwrap_or, is_none, option_map, zero-add, eqb-true, arith}, lemmas.{Bool.{leb-true, Decides.nat_tests}, Nat.mul-le, List.Sums.{sum_by-cons, take_while-cons}}}, specs.{Prelude.{⊤, count_by, nat_lt}, List.{AllByRecursion, list_any, take_while}}}
+use Rattle.mus_units.specs.{declared.{note.Deco.Deco, key.{Key.Key, Meter.Meter, Sign.Sign as KeySign}, value.{Frac.Frac, Value.Value}}, Good.{AreGoodSigns, IsGoodKey, IsGoodMeter, IsGoodUnit}, Parts.{cut_in, cut_next, longest_within, parts_list, units_of}}
 use Rattle.mus_pitch.proofs.SignLaws.{laid_good}
 use Rattle.abc_lines.specs.declared.fault.FaultKind.{FaultKind}
 use Rattle.abc_fields.specs.Keys.{GoodKeyIn, over_by}
-use Rattle.abc_steps.specs.{declared.step.Sound.Sound, declared.step.Step.Step, declared.step.Stood.Stood, declared.force.InForce.InForce, declared.place.Place.Place, declared.tuplets.Taking.Taking, Force.changes_at, Force.force_at, Force.force_behind, Force.names_key, Force.names_meter, Force.when}
-use Rattle.abc_steps.specs.{Good.IsGoodForce, Good.IsGoodSound, Good.IsGoodStep, Good.IsGoodStood, Kinds.is_sound, Lengths.left_factor, Lengths.left_side, Lengths.long_side, Lengths.right_factor, Lengths.right_side, Lengths.short_side, Lengths.written_length, Looks.Steps, Looks.broken_before}
-use Rattle.abc_steps.specs.{Looks.broken_behind, Looks.since_event, Places.place_at, Places.measure_of, Tuplets.after_event, Tuplets.fits, Tuplets.one_less, Tuplets.opened, Tuplets.or_default, Tuplets.taking_behind, Tuplets.usual_q}
+use Rattle.abc_steps.specs.{declared.{step.{Sound.Sound, Step.Step, Stood.Stood}, force.InForce.InForce, place.Place.Place, tuplets.Taking.Taking}, Force.{changes_at, force_at, force_behind, names_key, names_meter, when}, Good.{IsGoodForce, IsGoodSound, IsGoodStep, IsGoodStood}, Kinds.is_sound, Lengths.{left_factor, left_side, long_side, right_factor, right_side, short_side, written_length}, Looks.{Steps, broken_before, broken_behind, since_event}, Places.{place_at, measure_of}, Tuplets.{after_event, fits, one_less, opened, or_default, taking_behind, usual_q}}
 use Rattle.abc_events.specs.{declared.written.Sign.Sign, Signs.further_rests, Signs.parted_at, Signs.rest_written, Signs.signs, Signs.signs_of, Signs.sound_written, Signs.tuplet_of, Waits.waiting_of, Waits.nothing}
 use Rattle.abc_faults.specs.Faults.{any_off, ends_tuplets, fault_at, fault_if, faults_in, faults_of, grace_faults, is_free, is_past, misfit_of, rest_faults, sound_faults, sounds_behind, tuplet_faults}
 use Rattle.abc_score.proofs.{Basics.all_both, Basics.none_before, Basics.none_behind, Clear.no_fault, Nested.above_one, Parts.HasParts, Parts.HasGoodChanges, Judging.rest_values}

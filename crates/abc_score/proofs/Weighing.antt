@@ -1,15 +1,11 @@
 -- What the signs of a voice weigh is at most what its steps weigh, and that of all voices is at most 50,000 where they aren't crowded.
-use Rattle.std.proofs.Common.{◌≡◌, ◌∙◌, refl, sym, ap, subst, ℕ, zero, suc, ◌+◌, ◌-◌, ◌*◌, ◌≤◌, max, List, [], ◌∷◌, ◌++◌, sum_by, length, Bool, true, false, cond, Option, Some, None, mul_comm, mul-le-mul_left, arith}
-use Rattle.std.{proofs.lemmas.Bool.Decides.nat_tests, proofs.lemmas.List.length-map, proofs.lemmas.List.Sums.sum_by-cons, proofs.lemmas.List.Sums.sum_by-append, specs.Prelude.flat_map, specs.Prelude.nat_lt, specs.Prelude.unwrap_or, specs.List.AllByRecursion}
+use Rattle.std.{proofs.{Common.{◌≡◌, ◌∙◌, refl, sym, ap, subst, ℕ, zero, suc, ◌+◌, ◌-◌, ◌*◌, ◌≤◌, max, List, [], ◌∷◌, ◌++◌, sum_by, length, Bool, true, false, cond, Option, Some, None, mul_comm, mul-le-mul_left, arith}, lemmas.{Bool.Decides.nat_tests, List.{length-map, Sums.{sum_by-cons, sum_by-append}}}}, specs.{Prelude.{flat_map, nat_lt, unwrap_or}, List.AllByRecursion}}
 use Rattle.mus_units.specs.{declared.note.Head.Head, declared.value.Value.Value, declared.note.Deco.Deco, Parts.parts_list}
 use Rattle.abc_notes.specs.declared.part.GraceChord.{GraceChord}
 use Rattle.abc_lines.specs.declared.fault.Fault.{Fault}
-use Rattle.abc_steps.specs.{declared.step.Sound.Sound, declared.step.Step.Step, declared.step.Stood.Stood, declared.force.InForce.InForce, declared.place.Place.Place, Good.IsGoodStep, Good.IsGoodStood, Lengths.written_length, Looks.Steps, Looks.is_tied, Looks.since_event, Places.place_at}
-use Rattle.abc_steps.specs.{Places.measure_of, Tuplets.fits, Tuplets.or_default, Tuplets.usual_q}
-use Rattle.abc_events.specs.{declared.written.Written.Written, declared.written.Waiting.Waiting, declared.written.Sign.Sign, Leaves.Words, Leaves.leaves_from, Leaves.nodes_of, Leaves.words_at, Signs.further_rests, Signs.parted_at, Signs.rest_written, Signs.signs, Signs.signs_of, Signs.sound_written}
-use Rattle.abc_events.specs.{Signs.tied_heads, Signs.tuplet_of, Signs.with_tie, Waits.graces_in, Waits.nothing, Waits.waiting_of}
-use Rattle.abc_faults.specs.{declared.weights.Weight.Weight, First.then_below}
-use Rattle.abc_faults.specs.Weights.{count_parts, count_up_to, crowd_faults_at, crowd_fault, crowd_up_to, crowded, grace_weights, grace_weights_of, sound_count, stands_before, weight_at, weights_in, weights_of}
+use Rattle.abc_steps.specs.{declared.{step.{Sound.Sound, Step.Step, Stood.Stood}, force.InForce.InForce, place.Place.Place}, Good.{IsGoodStep, IsGoodStood}, Lengths.written_length, Looks.{Steps, is_tied, since_event}, Places.{place_at, measure_of}, Tuplets.{fits, or_default, usual_q}}
+use Rattle.abc_events.specs.{declared.written.{Written.Written, Waiting.Waiting, Sign.Sign}, Leaves.{Words, leaves_from, nodes_of, words_at}, Signs.{further_rests, parted_at, rest_written, signs, signs_of, sound_written, tied_heads, tuplet_of, with_tie}, Waits.{graces_in, nothing, waiting_of}}
+use Rattle.abc_faults.specs.{declared.weights.Weight.Weight, First.then_below, Weights.{count_parts, count_up_to, crowd_faults_at, crowd_fault, crowd_up_to, crowded, grace_weights, grace_weights_of, sound_count, stands_before, weight_at, weights_in, weights_of}}
 use Rattle.abc_score.proofs.{Basics.none_before, Basics.none_behind, Rows.leaf_rows, Rows.weight_of, Singing.heads_of_graces, Singing.nodes_weight}
 
 -- ---- signs

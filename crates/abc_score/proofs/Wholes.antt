@@ -1,20 +1,14 @@
 -- A score of voices without faults is good.
-use Rattle.std.proofs.Common.{◌≡◌, ◌∙◌, refl, sym, ap, subst, ℕ, zero, suc, ◌+◌, ◌≤◌, ◌<◌, List, [], ◌∷◌, ◌++◌, map, sum_by, length, reverse, take, drop, Bool, true, false, cond, ◌==◌, Option, Some, None, unwrap_or, slice_get, append-nil, arith}
-use Rattle.std.proofs.lemmas.List.{drop_all, Elements.All-from_recursion, Elements.recursion_from_All, Elements.All-map, FromFn.length-map-range_with_len, Sums.sum_by-cons, Sums.sum_by-append}
-use Rattle.std.specs.{Prelude.flat_map, List.All, List.AllByRecursion, List.range_with_len}
+use Rattle.std.{proofs.{Common.{◌≡◌, ◌∙◌, refl, sym, ap, subst, ℕ, zero, suc, ◌+◌, ◌≤◌, ◌<◌, List, [], ◌∷◌, ◌++◌, map, sum_by, length, reverse, take, drop, Bool, true, false, cond, ◌==◌, Option, Some, None, unwrap_or, slice_get, append-nil, arith}, lemmas.List.{drop_all, Elements.{All-from_recursion, recursion_from_All, All-map}, FromFn.length-map-range_with_len, Sums.{sum_by-cons, sum_by-append}}}, specs.{Prelude.flat_map, List.{All, AllByRecursion, range_with_len}}}
 use Rattle.mus_units.specs.declared.pitch.Clef.{Clef}
 use Rattle.mus_score.specs.{declared.score.Measure.Measure, declared.score.Voice.Voice, Good.IsGoodBody, GoodScore.AreCounted, GoodScore.AreInReach, GoodScore.IsGoodEvent, GoodScore.IsGoodScore, GoodScore.IsGoodVoice, GoodScore.events_of, GoodScore.voice_weight}
 use Rattle.abc_header.specs.{declared.header.Header.Header, Headers.HasGoodValues}
 use Rattle.abc_steps.specs.{declared.step.Item.Item, declared.force.InForce.InForce, Good.IsGoodStood, Looks.Steps}
 use Rattle.abc_items.specs.{declared.voices.VoiceStart.VoiceStart, Voices.starts_of, Voices.unnamed_of}
-use Rattle.abc_events.specs.{declared.leaves.Leaf.Leaf, declared.written.Sign.Sign, Bars.bar_of, Bars.bars_of, Leaves.Words, Leaves.leaves_from, Leaves.words_at, Measures.leaves_in, Measures.measure_of, Measures.measures_in, Nesting.tree_of, Signs.IsDrawn, Signs.signs}
-use Rattle.abc_events.proofs.Drawn.{walk_drawn}
+use Rattle.abc_events.{specs.{declared.{leaves.Leaf.Leaf, written.Sign.Sign}, Bars.{bar_of, bars_of}, Leaves.{Words, leaves_from, words_at}, Measures.{leaves_in, measure_of, measures_in}, Nesting.tree_of, Signs.{IsDrawn, signs}}, proofs.Drawn.walk_drawn}
 use Rattle.abc_faults.specs.{Faults.faults_in, Weights.crowded}
 use Rattle.abc_words.{specs.declared.music.MusicRow.MusicRow, specs.Verses.verse_count, specs.Verses.verse_fault, specs.Verses.verse_faults, specs.Words.event_words, specs.Words.music_rows, specs.Words.verse_sung, specs.Words.word_of, proofs.FaultLaws.few_verses}
-use Rattle.abc_score.proofs.{Basics.none_before, Basics.none_behind, Cores.CoresCount, Cores.CoresReach, Cores.IsGoodCore, Cores.count_of, Cores.events_of_cores, Cores.reach_of, Frames.length_voice, Frames.voice_framed, Full.all_full, Nested.nested_good, Parts.event_number, Parts.signs_count}
-use Rattle.abc_score.proofs.{Parts.signs_good, Parts.signs_reach, Parts.signs_sung, Reaching.voice_reach, Rising.own_most, Rising.voice_rise, Rows.leaf_rows, Rows.tree_weight, Rows.weight_of, Segments.Rise, Segments.measures_sing, Segments.measures_weigh, Walks.walk_changes, Walks.walk_parts}
-use Rattle.abc_score.{proofs.Weighing.count, proofs.Weighing.leaves_weigh, proofs.Weighing.not_crowded, proofs.Weighing.sign_weight, proofs.Weighing.signs_weigh, specs.Faults.faults_of_voices, specs.Faults.voice_faults, specs.Faults.voice_weights}
-use Rattle.abc_score.specs.{Framed.IsFramed, Score.event_count, Score.most_measures, Score.notes_from, Score.own_measures, Score.score_with, Score.sung_words, Score.voice_of, Score.written_measures, Voices.IsGoodRead, Voices.voice_read, Voices.voices_read, declared.voices.VoiceRead.VoiceRead}
+use Rattle.abc_score.{proofs.{Basics.{none_before, none_behind}, Cores.{CoresCount, CoresReach, IsGoodCore, count_of, events_of_cores, reach_of}, Frames.{length_voice, voice_framed}, Full.all_full, Nested.nested_good, Parts.{event_number, signs_count, signs_good, signs_reach, signs_sung}, Reaching.voice_reach, Rising.{own_most, voice_rise}, Rows.{leaf_rows, tree_weight, weight_of}, Segments.{Rise, measures_sing, measures_weigh}, Walks.{walk_changes, walk_parts}, Weighing.{count, leaves_weigh, not_crowded, sign_weight, signs_weigh}}, specs.{Faults.{faults_of_voices, voice_faults, voice_weights}, Framed.IsFramed, Score.{event_count, most_measures, notes_from, own_measures, score_with, sung_words, voice_of, written_measures}, Voices.{IsGoodRead, voice_read, voices_read}, declared.voices.VoiceRead.VoiceRead}}
 
 -- ---- words
 made_at : (f : ℕ → Words) (n from k : ℕ) → k < n → slice_get (map f (range_with_len from n)) k ≡ Some (f (from + k))

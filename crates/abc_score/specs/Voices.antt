@@ -1,6 +1,5 @@
 -- The voices of a body as they are read: each with what it begins with, and its steps.
-use Rattle.std.specs.Prelude.{◌≢◌, ⊤, ℕ, ◌≤◌, ◌^◌, List, [], ◌∷◌, map, length}
-use Rattle.std.specs.List.{All}
+use Rattle.std.specs.{Prelude.{◌≢◌, ⊤, ℕ, ◌≤◌, ◌^◌, List, [], ◌∷◌, map, length}, List.All}
 use Rattle.abc_header.specs.declared.header.Header.{Header}
 use Rattle.abc_steps.specs.{declared.step.Item.Item, declared.force.InForce.InForce, Good.IsGoodForce, Good.IsGoodStood}
 use Rattle.abc_items.specs.{declared.voices.VoiceStart.VoiceStart, Voices.starts_of, Voices.steps_from, Voices.unnamed_of}

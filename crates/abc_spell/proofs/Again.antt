@@ -1,18 +1,10 @@
 -- A plain spelling is read as its tokens.
-use Rattle.std.proofs.Common.{◌≡◌, ℕ, ◌-◌, ◌≤◌, Bool, true, false, eqb, List, [], ◌∷◌, ◌++◌, length, Option, Some, None, refl, sym, ap, ◌∙◌, subst, arith, Result, Ok, Err, IfOk, IfSome, map}
-use Rattle.std.{proofs.lemmas.Fmt.decimal_digit, proofs.lemmas.Bool.cond_both, proofs.lemmas.Bool.and_parts, proofs.lemmas.Bool.leb-true, proofs.lemmas.Bool.ne_eqb, proofs.lemmas.Bool.both_ways, proofs.lemmas.Bool.eq-eqb, specs.Fmt.decimal, specs.Str.Parse.digits_value}
+use Rattle.std.{proofs.{Common.{◌≡◌, ℕ, ◌-◌, ◌≤◌, Bool, true, false, eqb, List, [], ◌∷◌, ◌++◌, length, Option, Some, None, refl, sym, ap, ◌∙◌, subst, arith, Result, Ok, Err, IfOk, IfSome, map}, lemmas.{Fmt.decimal_digit, Bool.{cond_both, and_parts, leb-true, ne_eqb, both_ways, eq-eqb}}}, specs.{Fmt.decimal, Str.Parse.digits_value}}
 use Rattle.mus_units.specs.{declared.note.Bar.Bar, declared.note.Deco.Deco, declared.note.Head.Head, Bytes.is_digit}
-use Rattle.abc_pieces.specs.Forms.{Form, note_form, rest_form, measures_form, chord_form, grace_form, tuplet_form, slur_form, close_form, tie_form, broken_form, bar_form, ending_form, letter_form, named_form, says_form, inline_form, cut_form, space_form, passed_form, spelled, meant, after, IsGood, StandsAt, is_kept_field, inline_token}
-use Rattle.abc_pieces.specs.{declared.token.Before.Before, declared.token.Token.Token, Tuplets.bare, Tuplets.with_q, Tuplets.with_r, Tuplets.IsTuplet, Tuplets.is_tuplet_digit, Tuplets.value_or_zero, Reading.read, Reading.piece_at, Reading.class_of}
-use Rattle.abc_pieces.proofs.PieceReader.{piece_reader}
-use Rattle.abc_notes.specs.{declared.part.GraceChord.GraceChord, declared.part.Len.Len, Runs.maybe, Lengths.LengthForm, Lengths.IsCount, Lengths.count_of, Lengths.len_of, Lengths.IsLength, Notes.NoteForm, Notes.IsNote, Notes.head_of, Items.sense, Decorations.deco_of_letter, Decorations.deco_of_name}
-use Rattle.abc_notes.{specs.Chords.ChordForm, specs.Chords.heads_of, specs.Chords.decos_of, specs.Graces.GraceForm, specs.Graces.body_of, specs.Parts.IsLongest, proofs.Bounds.digit_value-is, proofs.PartLaws.longest_of}
-use Rattle.abc_pieces.specs.Bars.{BarForm, meant as bar_of}
+use Rattle.abc_pieces.{specs.{Forms.{Form, note_form, rest_form, measures_form, chord_form, grace_form, tuplet_form, slur_form, close_form, tie_form, broken_form, bar_form, ending_form, letter_form, named_form, says_form, inline_form, cut_form, space_form, passed_form, spelled, meant, after, IsGood, StandsAt, is_kept_field, inline_token}, declared.token.{Before.Before, Token.Token}, Tuplets.{bare, with_q, with_r, IsTuplet, is_tuplet_digit, value_or_zero}, Reading.{read, piece_at, class_of}, Bars.{BarForm, meant as bar_of}}, proofs.PieceReader.piece_reader}
+use Rattle.abc_notes.{specs.{declared.part.{GraceChord.GraceChord, Len.Len}, Runs.maybe, Lengths.{LengthForm, IsCount, count_of, len_of, IsLength}, Notes.{NoteForm, IsNote, head_of}, Items.sense, Decorations.{deco_of_letter, deco_of_name}, Chords.{ChordForm, heads_of, decos_of}, Graces.{GraceForm, body_of}, Parts.IsLongest}, proofs.{Bounds.digit_value-is, PartLaws.longest_of}}
 use Rattle.abc_tokens.specs.{declared.token.Placed.Placed, Tokens.Tokens, Tokens.ends, Tokens.goes, Tokens.column, Tokens.put}
-use Rattle.abc_spell.proofs.Exact.{Stops, at_end, at_quote, IsExact, note_piece, rest_piece, measures_piece, tuplet_piece, slur_piece, broken_piece, bar_piece, ending_piece, named_piece, says_piece, inline_piece, space_piece, chord_piece, grace_piece}
-use Rattle.abc_spell.proofs.Groups.{plain_chord, chord_spell, chord_heads, chord_decos, chord_good, chord_whole, chord_opens, heads_from, decos_from, some_heads, plain_grace, grace_spell, body_means, grace_good, body_whole, body_from}
-use Rattle.abc_spell.{specs.Plain.all_then, specs.Plain.len_then, specs.Plain.number_or_empty, specs.Plain.name_of, specs.Plain.token_then, specs.Plain.next_then, specs.Plain.plain_text, specs.Again.ReadsAs, specs.Again.IsReadable, proofs.Numbers.digit_from, proofs.Numbers.digits_again}
-use Rattle.abc_spell.proofs.{Numbers.count_again, Numbers.is_count, Numbers.count_means, Numbers.len_form, Numbers.len_again, Numbers.head_form, Numbers.head_good, Numbers.head_means, Bars.plain_bar, Bars.same_bar, Names.GoodDeco, Names.letter_good, Names.name_good}
+use Rattle.abc_spell.{proofs.{Exact.{Stops, at_end, at_quote, IsExact, note_piece, rest_piece, measures_piece, tuplet_piece, slur_piece, broken_piece, bar_piece, ending_piece, named_piece, says_piece, inline_piece, space_piece, chord_piece, grace_piece}, Groups.{plain_chord, chord_spell, chord_heads, chord_decos, chord_good, chord_whole, chord_opens, heads_from, decos_from, some_heads, plain_grace, grace_spell, body_means, grace_good, body_whole, body_from}, Numbers.{digit_from, digits_again, count_again, is_count, count_means, len_form, len_again, head_form, head_good, head_means}, Bars.{plain_bar, same_bar}, Names.{GoodDeco, letter_good, name_good}}, specs.{Plain.{all_then, len_then, number_or_empty, name_of, token_then, next_then, plain_text}, Again.{ReadsAs, IsReadable}}}
 
 -- a piece that is the plain spelling of the token, and is read as itself
 pub record IsPlain (t : Token) : Type 0 where

@@ -1,16 +1,8 @@
 -- Where a backquote or nothing follows, a piece in its plain spelling is read as itself.
-use Rattle.std.proofs.Common.{◌≡◌, ℕ, zero, suc, ◌≤◌, Bool, true, false, eqb, List, [], ◌∷◌, ◌++◌, length, Option, Some, None, refl, sym, ap, ◌∙◌, arith, inl, inr, not, option_map, append-nil}
-use Rattle.std.{proofs.lemmas.Bool.and_parts, proofs.lemmas.Bool.ne_eqb, proofs.lemmas.Bool.both_ways, proofs.lemmas.Bool.not-true, specs.List.list_all}
+use Rattle.std.{proofs.{Common.{◌≡◌, ℕ, zero, suc, ◌≤◌, Bool, true, false, eqb, List, [], ◌∷◌, ◌++◌, length, Option, Some, None, refl, sym, ap, ◌∙◌, arith, inl, inr, not, option_map, append-nil}, lemmas.Bool.{and_parts, ne_eqb, both_ways, not-true}}, specs.List.list_all}
 use Rattle.mus_units.specs.{declared.pitch.Alter.Alter, declared.pitch.Letter.Letter, Bytes.is_digit, Bytes.is_blank, Bytes.is_letter, declared.pitch.Alter.TheVariants.Sharp2, declared.pitch.Letter.TheVariants.C}
-use Rattle.abc_notes.specs.{Runs.copies, Runs.maybe, Runs.span, Runs.begins, Lengths.LengthForm, Lengths.length_then, Lengths.length_at, Lengths.IsLength, Lengths.IsCount, Lengths.number_at, Notes.NoteForm, Notes.note_then, Notes.sign_then, Notes.letter_byte, Notes.IsNote, Notes.note_at}
-use Rattle.abc_notes.{specs.Items.IsName, specs.Items.is_note_byte, specs.Chords.ChordForm, specs.Chords.chord_then, specs.Chords.is_inside, specs.Chords.IsChord, specs.Chords.chord_at, specs.Graces.GraceForm, specs.Graces.IsGrace, specs.Graces.is_slash_byte, proofs.RunLaws.skip-yes}
-use Rattle.abc_notes.proofs.{SpanLaws.span-cons, SpanLaws.span-zero, SpanLaws.span-stops, SpanLaws.span_all-append, SpanLaws.span_all-stops, LengthLaws.goes_on, LengthLaws.length_at-reaches, LengthLaws.count-reads, LengthLaws.count-stops, NoteLaws.note_goes_on, NoteLaws.note_at-reaches}
-use Rattle.abc_notes.proofs.{ItemLaws.name_at-reads, GraceLaws.grace-reads, GraceLaws.has_lone_part, ChordLaws.chord-reads, ChordLaws.has_lone}
-use Rattle.abc_pieces.specs.Bars.{BarForm, signs, colons, form_at, spelled as bar_then, IsGood as IsBar}
-use Rattle.abc_pieces.proofs.BarLaws.{form_at-reaches, goes_on as bar_goes_on}
-use Rattle.abc_pieces.specs.Forms.{Form, note_form, rest_form, measures_form, chord_form, grace_form, tuplet_form, slur_form, broken_form, bar_form, ending_form, letter_form, named_form, says_form, inline_form, space_form, spelled, is_ending, is_text, arrow, opening}
-use Rattle.abc_pieces.specs.Reading.{Read, read, class_of, note_read, rest_read, measures_read, bar_read, chord_read, grace_read, tuplet_read, or_else, ending_read, broken_read, says_read, inline_read, space_read, bang_read, dot_read, opened, piece_at}
-use Rattle.abc_pieces.{specs.Tuplets.with_r, specs.Tuplets.tuplet_then, specs.Tuplets.tuplet_at, specs.Tuplets.IsTuplet, specs.declared.token.Before.Before, proofs.Classes.digit_below, proofs.Classes.letter_apart, proofs.PieceTakes.opening-behind, specs.declared.token.Opening.Opening}
+use Rattle.abc_notes.{specs.{Runs.{copies, maybe, span, begins}, Lengths.{LengthForm, length_then, length_at, IsLength, IsCount, number_at}, Notes.{NoteForm, note_then, sign_then, letter_byte, IsNote, note_at}, Items.{IsName, is_note_byte}, Chords.{ChordForm, chord_then, is_inside, IsChord, chord_at}, Graces.{GraceForm, IsGrace, is_slash_byte}}, proofs.{RunLaws.skip-yes, SpanLaws.{span-cons, span-zero, span-stops, span_all-append, span_all-stops}, LengthLaws.{goes_on, length_at-reaches, count-reads, count-stops}, NoteLaws.{note_goes_on, note_at-reaches}, ItemLaws.name_at-reads, GraceLaws.{grace-reads, has_lone_part}, ChordLaws.{chord-reads, has_lone}}}
+use Rattle.abc_pieces.{specs.{Bars.{BarForm, signs, colons, form_at, spelled as bar_then, IsGood as IsBar}, Forms.{Form, note_form, rest_form, measures_form, chord_form, grace_form, tuplet_form, slur_form, broken_form, bar_form, ending_form, letter_form, named_form, says_form, inline_form, space_form, spelled, is_ending, is_text, arrow, opening}, Reading.{Read, read, class_of, note_read, rest_read, measures_read, bar_read, chord_read, grace_read, tuplet_read, or_else, ending_read, broken_read, says_read, inline_read, space_read, bang_read, dot_read, opened, piece_at}, Tuplets.{with_r, tuplet_then, tuplet_at, IsTuplet}, declared.token.{Before.Before, Opening.Opening}}, proofs.{BarLaws.{form_at-reaches, goes_on as bar_goes_on}, Classes.{digit_below, letter_apart}, PieceTakes.opening-behind}}
 
 pub data Stops : List ℕ → Type 0 where
   at_end : Stops []

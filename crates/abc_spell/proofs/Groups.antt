@@ -1,16 +1,9 @@
 -- Chords and grace groups in their plain spelling are read as themselves.
-use Rattle.std.proofs.Common.{◌≡◌, ℕ, ◌≤◌, Bool, true, false, eqb, List, [], ◌∷◌, ◌++◌, length, Option, Some, None, refl, sym, ap, ◌∙◌, arith, inl, inr, append_assoc, not, option_map, map}
-use Rattle.std.{proofs.lemmas.Bool.or_cases, proofs.lemmas.Bool.and_parts, proofs.lemmas.Bool.eqb-true, proofs.lemmas.Bool.ne_eqb, proofs.lemmas.Bool.not-true, proofs.lemmas.Bool.or_parts, specs.List.list_all, specs.Fmt.decimal}
+use Rattle.std.{proofs.{Common.{◌≡◌, ℕ, ◌≤◌, Bool, true, false, eqb, List, [], ◌∷◌, ◌++◌, length, Option, Some, None, refl, sym, ap, ◌∙◌, arith, inl, inr, append_assoc, not, option_map, map}, lemmas.Bool.{or_cases, and_parts, eqb-true, ne_eqb, not-true, or_parts}}, specs.{List.list_all, Fmt.decimal}}
 use Rattle.mus_units.specs.{declared.note.Deco.Deco, declared.note.Head.Head, declared.pitch.Alter.Alter, declared.pitch.Letter.Letter, Bytes.is_digit, declared.pitch.Alter.TheVariants.Sharp2, declared.pitch.Letter.TheVariants.C}
-use Rattle.abc_notes.specs.Items.{Inner, note_inside, letter_inside, named_inside, tie_inside, lone_inside, inner_then, IsInner, IsName, sense, InnerParts, inner_at, item_class, is_note_byte}
-use Rattle.abc_notes.specs.Graces.{GracePart, single, chorded, grace_part_then, IsGracePart, GraceParts, GraceForm, is_slash_byte, IsGrace, heads_in, body_of, grace_part_at, single_read, chorded_read}
-use Rattle.abc_notes.specs.{declared.part.GraceChord.GraceChord, declared.part.Len.Len, Runs.maybe, Runs.begins, Runs.is_mark, Lengths.LengthForm, Lengths.whole, Lengths.length_then, Lengths.len_of, Notes.NoteForm, Notes.note_then, Notes.sign_then, Notes.letter_byte, Notes.IsNote, Notes.head_of}
-use Rattle.abc_notes.{specs.Notes.note_at, specs.Parts.no_part, specs.Parts.then_part, specs.Chords.ChordForm, specs.Chords.chord_then, specs.Chords.has_head, specs.Chords.IsChord, specs.Chords.is_tied, specs.Chords.tied_if, specs.Chords.heads_of, specs.Chords.decos_of, proofs.LengthLaws.goes_on}
-use Rattle.abc_notes.proofs.{LengthLaws.count-digits, NoteLaws.note_goes_on, ItemLaws.name_at-reads, InnerLaws.inner_reader, PartLaws.longest_of, Bounds.digit_range, GraceLaws.part_reader, GraceLaws.at_bracket, GraceLaws.lone_part_is, GraceLaws.has_lone_part, ChordLaws.has_lone}
-use Rattle.abc_notes.proofs.CutLaws.{maybe_append, sign_append, wider}
+use Rattle.abc_notes.{specs.{Items.{Inner, note_inside, letter_inside, named_inside, tie_inside, lone_inside, inner_then, IsInner, IsName, sense, InnerParts, inner_at, item_class, is_note_byte}, Graces.{GracePart, single, chorded, grace_part_then, IsGracePart, GraceParts, GraceForm, is_slash_byte, IsGrace, heads_in, body_of, grace_part_at, single_read, chorded_read}, declared.part.{GraceChord.GraceChord, Len.Len}, Runs.{maybe, begins, is_mark}, Lengths.{LengthForm, whole, length_then, len_of}, Notes.{NoteForm, note_then, sign_then, letter_byte, IsNote, head_of, note_at}, Parts.{no_part, then_part}, Chords.{ChordForm, chord_then, has_head, IsChord, is_tied, tied_if, heads_of, decos_of}}, proofs.{LengthLaws.{goes_on, count-digits}, NoteLaws.note_goes_on, ItemLaws.name_at-reads, InnerLaws.inner_reader, PartLaws.longest_of, Bounds.digit_range, GraceLaws.{part_reader, at_bracket, lone_part_is, has_lone_part}, ChordLaws.has_lone, CutLaws.{maybe_append, sign_append, wider}}}
 use Rattle.abc_pieces.specs.{declared.token.Opening.Opening, Forms.opening}
-use Rattle.abc_spell.{specs.Plain.all_then, specs.Plain.len_then, specs.Plain.marks_of, specs.Plain.is_small, specs.Plain.head_then, specs.Plain.chord_head_then, specs.Plain.name_of, specs.Plain.deco_then, specs.Plain.heads_then, specs.Plain.grace_chord_then, proofs.Numbers.GoodLen}
-use Rattle.abc_spell.proofs.{Numbers.len_form, Numbers.len_again, Numbers.head_form, Numbers.head_good, Numbers.head_means, Numbers.good_marks, Names.GoodDeco, Names.letter_good, Names.name_good, Exact.First, Exact.first_is, Exact.note_exact, Exact.chord_exact}
+use Rattle.abc_spell.{specs.Plain.{all_then, len_then, marks_of, is_small, head_then, chord_head_then, name_of, deco_then, heads_then, grace_chord_then}, proofs.{Numbers.{GoodLen, len_form, len_again, head_form, head_good, head_means, good_marks}, Names.{GoodDeco, letter_good, name_good}, Exact.{First, first_is, note_exact, chord_exact}}}
 
 -- ---- lists of bytes that pass
 

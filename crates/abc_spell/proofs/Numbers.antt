@@ -1,10 +1,7 @@
 -- Numbers, lengths and octaves in their plain spelling are read as themselves.
-use Rattle.std.proofs.Common.{◌≡◌, ℕ, zero, suc, ◌+◌, ◌-◌, ◌^◌, ◌≤◌, ◌<◌, Bool, true, false, cond, eqb, leb, List, [], ◌∷◌, length, get_or, refl, sym, ap, ◌∙◌, subst, arith, ℤ, pos, negsuc, ◌-ℤ◌, replicate, count_by, ◌*◌}
-use Rattle.std.proofs.lemmas.{Fmt.decimal-digits_value, Str.Parse.IsNumeralModel, Str.Parse.IsDigitsTest, Str.Parse.numerals_by_value, Int.Digits.digits_value-lt, List.Folds.sum_by-replicate, Int.ints, Bool.cond_both, Bool.both_ways, Bool.leb-true, Bool.leb-false, Bool.le-leb, Bool.and_from}
-use Rattle.std.{proofs.lemmas.Bool.and_parts, proofs.lemmas.Bool.eq-eqb, specs.List.list_all, specs.Fmt.decimal, specs.Str.Parse.digits_value}
+use Rattle.std.{proofs.{Common.{◌≡◌, ℕ, zero, suc, ◌+◌, ◌-◌, ◌^◌, ◌≤◌, ◌<◌, Bool, true, false, cond, eqb, leb, List, [], ◌∷◌, length, get_or, refl, sym, ap, ◌∙◌, subst, arith, ℤ, pos, negsuc, ◌-ℤ◌, replicate, count_by, ◌*◌}, lemmas.{Fmt.decimal-digits_value, Str.Parse.{IsNumeralModel, IsDigitsTest, numerals_by_value}, Int.{Digits.digits_value-lt, ints}, List.Folds.sum_by-replicate, Bool.{cond_both, both_ways, leb-true, leb-false, le-leb, and_from, and_parts, eq-eqb}}}, specs.{List.list_all, Fmt.decimal, Str.Parse.digits_value}}
 use Rattle.mus_units.specs.{declared.note.Head.Head, Bytes.is_digit}
-use Rattle.abc_notes.specs.{declared.part.Len.Len, Runs.begins, Runs.is_mark, Lengths.LengthForm, Lengths.whole, Lengths.over, Lengths.halved, Lengths.IsNumber, Lengths.IsCount, Lengths.IsLength, Lengths.count_of, Lengths.len_of, Notes.NoteForm, Notes.octave_of, Notes.head_of, Notes.IsNote}
-use Rattle.abc_notes.{specs.Chords.tied_if, proofs.Bounds.digit_range}
+use Rattle.abc_notes.{specs.{declared.part.Len.Len, Runs.{begins, is_mark}, Lengths.{LengthForm, whole, over, halved, IsNumber, IsCount, IsLength, count_of, len_of}, Notes.{NoteForm, octave_of, head_of, IsNote}, Chords.tied_if}, proofs.Bounds.digit_range}
 use Rattle.abc_spell.specs.Plain.{is_small, marks_of}
 
 -- ---- numbers

@@ -1,6 +1,5 @@
 -- Bounds of written lengths, and good keys.
-use Rattle.std.proofs.Common.{◌≡◌, subst, sym, ℕ, ◌*◌, ◌^◌, ◌≤◌, arith, Option, Some, IsTrue, IfOk, Result, Ok, Err}
-use Rattle.std.proofs.lemmas.Nat.{mul-le}
+use Rattle.std.proofs.{Common.{◌≡◌, subst, sym, ℕ, ◌*◌, ◌^◌, ◌≤◌, arith, Option, Some, IsTrue, IfOk, Result, Ok, Err}, lemmas.Nat.mul-le}
 use Rattle.mus_units.specs.{declared.key.Key.Key, declared.value.Frac.Frac, Good.IsGoodKey, Good.IsGoodUnit, Good.is_halving}
 use Rattle.abc_fields.specs.Keys.{GoodKeyIn}
 use Rattle.abc_steps.specs.{declared.step.Sound.Sound, Good.IsGoodSound, Lengths.IsFactor, Lengths.IsLength}

@@ -1,7 +1,6 @@
 -- What stands before and behind a place among the steps of a voice: `before` is what stands before
 -- it, the nearest first, and `behind` is what follows it.
-use Rattle.std.specs.Prelude.{ℕ, List, reverse, find, count_by, Bool, false, if◌then◌else◌, Option, Some, None}
-use Rattle.std.specs.List.{before_first, list_any}
+use Rattle.std.specs.{Prelude.{ℕ, List, reverse, find, count_by, Bool, false, if◌then◌else◌, Option, Some, None}, List.{before_first, list_any}}
 use Rattle.abc_steps.specs.{declared.step.Stood.Stood, Kinds.is_sound, Kinds.is_note, Kinds.is_event, Kinds.is_bar, Kinds.is_broken, Kinds.is_tie, Kinds.is_slur_on, Kinds.is_slur_off, Kinds.is_parting, Kinds.is_event_or_bar, Kinds.is_left_stop, Kinds.is_tie_stop}
 
 abbrev pub Steps : Type 0

@@ -1,7 +1,6 @@
 ghost use Rattle.std.specs.{Prelude.◌≡◌, Prelude.◌≤◌, Prelude.◌^◌, Prelude.reverse, Option.option_copied};
 ghost use Rattle.mus_units.specs.Good.{IsGoodUnit};
-ghost use Rattle.abc_steps.specs.Good.{IsGoodSound};
-ghost use Rattle.abc_steps.specs.Lengths.{long_side, short_side, left_side, right_side, left_factor, right_factor, written_length, IsFactor, IsLength};
+ghost use Rattle.abc_steps.specs.{Good.IsGoodSound, Lengths.{long_side, short_side, left_side, right_side, left_factor, right_factor, written_length, IsFactor, IsLength}};
 
 use crate::looks::{broken_before, broken_behind};
 use crate::step::{Sound, Step, Stood};

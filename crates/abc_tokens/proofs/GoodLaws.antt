@@ -1,13 +1,8 @@
 -- What a piece spells is a good token.
-use Rattle.std.proofs.Common.{◌≡◌, ℕ, suc, ◌+◌, ◌*◌, ◌-◌, ◌^◌, ◌≤◌, ◌<◌, Bool, true, false, List, [], ◌∷◌, ◌++◌, map, length, sym, subst, arith}
-use Rattle.std.{proofs.lemmas.Int.Digits.digits_value-lt, proofs.lemmas.Bool.and_parts, proofs.lemmas.Bool.leb-true, proofs.lemmas.Bool.eqb-false, specs.Prelude.Option, specs.Prelude.Some, specs.Prelude.None, specs.Prelude.◌==◌, specs.Prelude.if◌then◌else◌, specs.Prelude.⊤, specs.List.list_all}
-use Rattle.std.specs.{Char.digit_value, Str.Parse.AllDigits, Str.Parse.digits_value, Str.Parse.digits_value_after}
+use Rattle.std.{proofs.{Common.{◌≡◌, ℕ, suc, ◌+◌, ◌*◌, ◌-◌, ◌^◌, ◌≤◌, ◌<◌, Bool, true, false, List, [], ◌∷◌, ◌++◌, map, length, sym, subst, arith}, lemmas.{Int.Digits.digits_value-lt, Bool.{and_parts, leb-true, eqb-false}}}, specs.{Prelude.{Option, Some, None, ◌==◌, if◌then◌else◌, ⊤}, List.list_all, Char.digit_value, Str.Parse.{AllDigits, digits_value, digits_value_after}}}
 use Rattle.mus_units.specs.Bytes.{is_digit}
-use Rattle.abc_notes.specs.{Lengths.LengthForm, Lengths.whole, Lengths.over, Lengths.halved, Lengths.IsNumber, Lengths.IsCount, Lengths.count_of, Lengths.IsLength, Lengths.len_of, Graces.GracePart, Graces.single, Graces.chorded, Graces.StandsInGrace, Graces.heads_in, Graces.body_of_sense}
-use Rattle.abc_notes.specs.{Graces.body_of, Items.Inner, Items.note_inside, Items.StandsInside, Items.sense, Chords.has_head, Chords.heads_of, Parts.Parts, Parts.no_part, Parts.then_part, declared.part.Flaw.Flaw, declared.part.GraceChord.GraceChord}
-use Rattle.abc_notes.proofs.Bounds.{digit_range, digit_value-is}
-use Rattle.abc_pieces.specs.Forms.{Form, note_form, rest_form, measures_form, chord_form, grace_form, tuplet_form, broken_form, inline_form, space_form, IsGood, is_kept_field, meant, after}
-use Rattle.abc_pieces.specs.{Tuplets.TupletForm, Tuplets.bare, Tuplets.with_q, Tuplets.with_r, Tuplets.is_tuplet_digit, Tuplets.IsTuplet, Tuplets.value_or_zero, Tuplets.p_of, Tuplets.q_of, Tuplets.r_of, declared.token.Token.Token, declared.token.Before.Before}
+use Rattle.abc_notes.{specs.{Lengths.{LengthForm, whole, over, halved, IsNumber, IsCount, count_of, IsLength, len_of}, Graces.{GracePart, single, chorded, StandsInGrace, heads_in, body_of_sense, body_of}, Items.{Inner, note_inside, StandsInside, sense}, Chords.{has_head, heads_of}, Parts.{Parts, no_part, then_part}, declared.part.{Flaw.Flaw, GraceChord.GraceChord}}, proofs.Bounds.{digit_range, digit_value-is}}
+use Rattle.abc_pieces.specs.{Forms.{Form, note_form, rest_form, measures_form, chord_form, grace_form, tuplet_form, broken_form, inline_form, space_form, IsGood, is_kept_field, meant, after}, Tuplets.{TupletForm, bare, with_q, with_r, is_tuplet_digit, IsTuplet, value_or_zero, p_of, q_of, r_of}, declared.token.{Token.Token, Before.Before}}
 use Rattle.abc_tokens.specs.{declared.token.Placed.Placed, Good.IsGoodLen, Good.AreGoodHeads, Good.HasHead, Good.HasGraceHead, Good.AreGoodGraces, Good.IsGoodTuplet, Good.IsGoodToken, Good.AreGoodTokens, Tokens.Front, Tokens.clear, Tokens.breaks, Tokens.leads, Tokens.put, Tokens.column}
 
 -- numbers of a few digits

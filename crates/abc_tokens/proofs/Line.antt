@@ -1,12 +1,9 @@
 -- A line as a loop reads it.
 use Rattle.std.proofs.Common.{◌≡◌, ℕ, ◌≤◌, ◌<◌, Bool, List, [], ◌∷◌, ◌++◌, length, Option, Some, None, refl, sym, ap, ◌∙◌, subst, arith, append_assoc, append-nil, option_map}
 use Rattle.abc_lines.specs.declared.{book.Line.Line, fault.Fault.Fault, fault.TuneError.TuneError}
-use Rattle.abc_notes.{specs.Parts.IsLongest, specs.Parts.HasNone, specs.Chords.ChordForm, specs.Chords.chord_at, specs.Graces.GraceForm, specs.Graces.grace_at, specs.declared.part.Flaw.Flaw, proofs.PartLaws.less, proofs.PartLaws.longest_of, proofs.PartLaws.none_of, proofs.PartLaws.longest_is}
-use Rattle.abc_notes.proofs.PartLaws.{at_nil}
-use Rattle.abc_pieces.specs.{Forms.Form, Forms.chord_form, Forms.grace_form, Forms.StandsAt, Forms.meant, Forms.after, Forms.opening, Reading.Read, Reading.read, Reading.piece_at, Reading.seen, Reading.meaning, Reading.class_of, Reading.opened, Reading.chord_read, Reading.grace_read}
-use Rattle.abc_pieces.{specs.declared.token.Token.Token, specs.declared.token.Before.Before, specs.declared.token.Opening.Opening, proofs.PieceReader.piece_reader}
-use Rattle.abc_tokens.specs.declared.token.Placed.{Placed}
-use Rattle.abc_tokens.specs.Tokens.{Tokens, ends, goes, Faulty, stuck, later, Front, clear, breaks, leads, column, put, TokensOf, FrontAt, FrontOf, IsLineFlaw, fault_at, IsErrorOf}
+use Rattle.abc_notes.{specs.{Parts.{IsLongest, HasNone}, Chords.{ChordForm, chord_at}, Graces.{GraceForm, grace_at}, declared.part.Flaw.Flaw}, proofs.PartLaws.{less, longest_of, none_of, longest_is, at_nil}}
+use Rattle.abc_pieces.{specs.{Forms.{Form, chord_form, grace_form, StandsAt, meant, after, opening}, Reading.{Read, read, piece_at, seen, meaning, class_of, opened, chord_read, grace_read}, declared.token.{Token.Token, Before.Before, Opening.Opening}}, proofs.PieceReader.piece_reader}
+use Rattle.abc_tokens.specs.{declared.token.Placed.Placed, Tokens.{Tokens, ends, goes, Faulty, stuck, later, Front, clear, breaks, leads, column, put, TokensOf, FrontAt, FrontOf, IsLineFlaw, fault_at, IsErrorOf}}
 
 abbrev longest_piece : Bool → Before → List ℕ → Form → List ℕ → Type 0
 longest_piece bang before s f rest = IsLongest Form (StandsAt bang before) s f rest

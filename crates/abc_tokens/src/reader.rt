@@ -2,8 +2,7 @@ ghost use Rattle.std.specs.Prelude.{◌≡◌, ◌≢◌, ◌≤◌, ◌<◌, �
 ghost use Rattle.abc_lines.specs.{Kinds.code, Good.IsGoodLine};
 ghost use Rattle.abc_notes.specs.Chords.{chord_at};
 ghost use Rattle.abc_pieces.specs.{Forms.opening, Forms.is_kept_field, declared.token.Opening.TheVariants.Chord, Reading.piece_at, Reading.token_of, Reading.found_within};
-ghost use Rattle.abc_tokens.specs.{declared.token.Placed.Placed, Good.AreGoodTokens};
-ghost use Rattle.abc_tokens.specs.Tokens.{TokensOf, IsErrorOf, FrontOf, column, put, fault_at, kind_behind, kind_if, IsBracketFlaw, IsLineFlaw, IsOwnFlaw};
+ghost use Rattle.abc_tokens.specs.{declared.token.Placed.Placed, Good.AreGoodTokens, Tokens.{TokensOf, IsErrorOf, FrontOf, column, put, fault_at, kind_behind, kind_if, IsBracketFlaw, IsLineFlaw, IsOwnFlaw}};
 
 use crate::token::{Front, Placed};
 use abc_lines::{Fault, FaultKind, Line, TuneError};

@@ -1,7 +1,5 @@
 -- Verses, faults and numbers of verses, one verse more at a time.
-use Rattle.std.proofs.Common.{◌≡◌, ℕ, suc, ◌+◌, ◌≤◌, ◌<◌, List, [], ◌∷◌, ◌++◌, Bool, true, false, cond, length, map, take, drop, get_or, refl, sym, ap, ◌∙◌, subst, arith, append_assoc, append-nil, drop-cons, nat_le}
-use Rattle.std.{proofs.Math.Seq.take-suc, proofs.lemmas.Bool.le-leb, proofs.lemmas.Bool.lt-leb, proofs.lemmas.Bool.leb-true, proofs.lemmas.Bool.leb-false, proofs.lemmas.List.Sums.sum_by-append, specs.Prelude.Some, specs.Prelude.None, specs.Prelude.fold, specs.Prelude.max, specs.Prelude.◌==◌}
-use Rattle.std.specs.List.{range_with_len}
+use Rattle.std.{proofs.{Common.{◌≡◌, ℕ, suc, ◌+◌, ◌≤◌, ◌<◌, List, [], ◌∷◌, ◌++◌, Bool, true, false, cond, length, map, take, drop, get_or, refl, sym, ap, ◌∙◌, subst, arith, append_assoc, append-nil, drop-cons, nat_le}, Math.Seq.take-suc, lemmas.{Bool.{le-leb, lt-leb, leb-true, leb-false}, List.Sums.sum_by-append}}, specs.{Prelude.{Some, None, fold, max, ◌==◌}, List.range_with_len}}
 use Rattle.abc_words.specs.{declared.verses.Verse.Verse, Verses.number_on, Verses.most_on, Verses.too_many, Verses.faults_from, Verses.first_of}
 
 pub number_more : (row : ℕ) (before : List Verse) (v : Verse) → number_on row (before ++ v ∷ []) ≡ number_on row before + cond (v.row == row) 1 0

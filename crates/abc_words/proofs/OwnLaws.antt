@@ -1,12 +1,8 @@
 -- Where notes have events of their own, the words of an event are those of its own row.
-use Rattle.std.proofs.Common.{◌≡◌, ℕ, zero, suc, ◌+◌, ◌<◌, ◌≤◌, List, [], ◌∷◌, ◌++◌, Bool, true, false, cond, length, map, get_or, slice_index_or, inl, inr, refl, sym, ap, ◌∙◌, arith, append_assoc, append-nil, reverse, nat_lt, slice_get, length-append}
-use Rattle.std.proofs.lemmas.{Bool.cases_lt, Bool.eqb-true, Bool.ne_eqb, List.get_or_default, List.reverse-append, List.Elements.All-nil, List.Elements.All-cons, List.Elements.All-head, List.Elements.All-tail, List.FromFn.get_or-map-range_with_len}
-use Rattle.std.specs.{Prelude.Option, Prelude.Some, Prelude.None, Prelude.filter, Prelude.◌==◌, Prelude.◌⊎◌, List.All, List.range_with_len, Option.option_or}
-use Rattle.mus_lyric.specs.{declared.singing.NoteAt.NoteAt, declared.singing.Sung.Sung, declared.syllable.Syl.Syl, Syllables.syllables_of, Singing.first_measure, Singing.notes_from, Singing.on_first, Singing.sung_from, Singing.sung_on, declared.syllable.Syl.TheVariants.Print}
-use Rattle.mus_lyric.specs.declared.syllable.Syl.TheVariants.{Skip, Bar}
+use Rattle.std.{proofs.{Common.{◌≡◌, ℕ, zero, suc, ◌+◌, ◌<◌, ◌≤◌, List, [], ◌∷◌, ◌++◌, Bool, true, false, cond, length, map, get_or, slice_index_or, inl, inr, refl, sym, ap, ◌∙◌, arith, append_assoc, append-nil, reverse, nat_lt, slice_get, length-append}, lemmas.{Bool.{cases_lt, eqb-true, ne_eqb}, List.{get_or_default, reverse-append, Elements.{All-nil, All-cons, All-head, All-tail}, FromFn.get_or-map-range_with_len}}}, specs.{Prelude.{Option, Some, None, filter, ◌==◌, ◌⊎◌}, List.{All, range_with_len}, Option.option_or}}
+use Rattle.mus_lyric.specs.{declared.{singing.{NoteAt.NoteAt, Sung.Sung}, syllable.Syl.{Syl, TheVariants.{Print, Skip, Bar}}}, Syllables.syllables_of, Singing.{first_measure, notes_from, on_first, sung_from, sung_on}}
 use Rattle.abc_steps.specs.declared.step.Item.{Item}
-use Rattle.abc_words.specs.Words.{AreApart, end_if, event_words, music_row, music_rows, note_at, notes_on, own_word, row_end, row_ends, row_of, sung_in, sung_with, verse_sung, word_at, word_of, words_of}
-use Rattle.abc_words.{specs.declared.music.MusicRow.MusicRow, specs.declared.music.SungNote.SungNote, specs.Rows.row_at, specs.Rows.row_behind, specs.Rows.row_count, specs.Verses.verse_count, specs.Verses.verses_of, proofs.Lines.row_of_within, proofs.WordLaws.or_none}
+use Rattle.abc_words.{specs.{Words.{AreApart, end_if, event_words, music_row, music_rows, note_at, notes_on, own_word, row_end, row_ends, row_of, sung_in, sung_with, verse_sung, word_at, word_of, words_of}, declared.music.{MusicRow.MusicRow, SungNote.SungNote}, Rows.{row_at, row_behind, row_count}, Verses.{verse_count, verses_of}}, proofs.{Lines.row_of_within, WordLaws.or_none}}
 
 -- notes none of which is this event's
 abbrev IsFree : ℕ → List NoteAt → Type 0

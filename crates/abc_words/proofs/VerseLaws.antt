@@ -1,6 +1,5 @@
 -- Verses stand on rows of the body; and a row without a fault has at most eight.
-use Rattle.std.proofs.Common.{◌≡◌, ℕ, ◌+◌, ◌<◌, List, [], ◌∷◌, ◌++◌, Bool, true, false, cond, reverse, sym, ap, ◌∙◌, subst, arith, append_assoc, append-nil}
-use Rattle.std.{proofs.lemmas.List.reverse-append, proofs.lemmas.List.Elements.All-nil, proofs.lemmas.List.Elements.All-cons, proofs.lemmas.List.Elements.All-append, specs.Prelude.Option, specs.Prelude.Some, specs.Prelude.None, specs.Prelude.⊤, specs.List.All}
+use Rattle.std.{proofs.{Common.{◌≡◌, ℕ, ◌+◌, ◌<◌, List, [], ◌∷◌, ◌++◌, Bool, true, false, cond, reverse, sym, ap, ◌∙◌, subst, arith, append_assoc, append-nil}, lemmas.List.{reverse-append, Elements.{All-nil, All-cons, All-append}}}, specs.{Prelude.{Option, Some, None, ⊤}, List.All}}
 use Rattle.abc_steps.specs.declared.step.Item.{Item}
 use Rattle.abc_words.specs.{declared.rows.Place.Place, declared.verses.Verse.Verse, Rows.row_behind, Rows.row_at, Rows.row_count, Rows.is_line_of, Rows.last_row, Rows.place_at, Verses.verse_if, Verses.verse_at, Verses.verses_from, Verses.verses_of}
 

@@ -1,10 +1,7 @@
 -- The words of all verses, seen event by event.
-use Rattle.std.proofs.Common.{◌≡◌, ℕ, ◌<◌, ◌≤◌, List, [], ◌∷◌, ◌++◌, length, map, slice_index_or, refl, sym, ap, subst, ◌∙◌, arith, append-nil}
-use Rattle.std.{proofs.lemmas.Option.slice_get_past, proofs.lemmas.List.Elements.All-nil, proofs.lemmas.List.Elements.All-cons, proofs.lemmas.List.FromFn.get_or-map-range_with_len, proofs.lemmas.List.FromFn.length-map-range_with_len, specs.Prelude.Option, specs.Prelude.Some, specs.Prelude.None}
-use Rattle.std.specs.{Prelude.slice_get, List.All, List.range_with_len, Option.option_or}
+use Rattle.std.{proofs.{Common.{◌≡◌, ℕ, ◌<◌, ◌≤◌, List, [], ◌∷◌, ◌++◌, length, map, slice_index_or, refl, sym, ap, subst, ◌∙◌, arith, append-nil}, lemmas.{Option.slice_get_past, List.{Elements.{All-nil, All-cons}, FromFn.{get_or-map-range_with_len, length-map-range_with_len}}}}, specs.{Prelude.{Option, Some, None, slice_get}, List.{All, range_with_len}, Option.option_or}}
 use Rattle.mus_lyric.specs.declared.singing.Sung.{Sung}
-use Rattle.abc_words.specs.{declared.music.MusicRow.MusicRow, declared.music.SungNote.SungNote, declared.verses.Verse.Verse, Rows.row_count, Verses.verses_of, Words.event_words, Words.music_row, Words.music_rows, Words.no_music, Words.notes_on, Words.row_ends, Words.sung_in, Words.sung_with}
-use Rattle.abc_words.{specs.Words.texts_on, specs.Words.verse_sung, specs.Words.with_notes, specs.Words.with_texts, specs.Words.word_of, proofs.Places.from_places}
+use Rattle.abc_words.{specs.{declared.{music.{MusicRow.MusicRow, SungNote.SungNote}, verses.Verse.Verse}, Rows.row_count, Verses.verses_of, Words.{event_words, music_row, music_rows, no_music, notes_on, row_ends, sung_in, sung_with, texts_on, verse_sung, with_notes, with_texts, word_of}}, proofs.Places.from_places}
 use Rattle.abc_steps.specs.declared.step.Item.{Item}
 
 pub or_none : {X : Type 0} (o : Option X) → option_or o None ≡ o

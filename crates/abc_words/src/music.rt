@@ -1,7 +1,5 @@
-ghost use Rattle.std.specs.Prelude.{◌≡◌, ◌≤◌, ◌<◌, ◌++◌, ◌∷◌, ℕ, [], length, map, slice_index_or, ◌==◌, if◌then◌else◌, IfOk, OnOk};
-ghost use Rattle.std.specs.List.{range_with_len};
-ghost use Rattle.abc_words.specs.Rows.{row_count};
-ghost use Rattle.abc_words.specs.Words.{end_if, music_row, music_rows, no_music, note_at, notes_on, row_end, row_ends, row_of, texts_on, with_notes, with_texts};
+ghost use Rattle.std.specs.{Prelude.{◌≡◌, ◌≤◌, ◌<◌, ◌++◌, ◌∷◌, ℕ, [], length, map, slice_index_or, ◌==◌, if◌then◌else◌, IfOk, OnOk}, List.range_with_len};
+ghost use Rattle.abc_words.specs.{Rows.row_count, Words.{end_if, music_row, music_rows, no_music, note_at, notes_on, row_end, row_ends, row_of, texts_on, with_notes, with_texts}};
 
 use crate::verses::{Verse, verses_of};
 use abc_steps::Item;

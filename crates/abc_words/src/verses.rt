@@ -1,7 +1,5 @@
-ghost use Rattle.std.specs.Prelude.{◌≡◌, ◌≤◌, ◌<◌, ◌+◌, ◌++◌, ◌∷◌, ◌^◌, [], List, ℕ, All, cond, fold, length, max, slice_index, ◌==◌, map, None, IfOk, OnOk};
-ghost use Rattle.std.specs.List.{range_with_len};
-ghost use Rattle.abc_words.specs.Rows.{row_count};
-ghost use Rattle.abc_words.specs.Verses.{faults_from, first_of, number_on, too_many, verse_at, verse_count, verse_fault, verse_if, verses_of};
+ghost use Rattle.std.specs.{Prelude.{◌≡◌, ◌≤◌, ◌<◌, ◌+◌, ◌++◌, ◌∷◌, ◌^◌, [], List, ℕ, All, cond, fold, length, max, slice_index, ◌==◌, map, None, IfOk, OnOk}, List.range_with_len};
+ghost use Rattle.abc_words.specs.{Rows.row_count, Verses.{faults_from, first_of, number_on, too_many, verse_at, verse_count, verse_fault, verse_if, verses_of}};
 
 use crate::rows::{Place, first_place, place_behind};
 use abc_lines::{Fault, FaultKind};

@@ -1,5 +1,4 @@
-ghost use Rattle.std.specs.Prelude.{◌≡◌, ◌<◌, ◌++◌, ◌∷◌, ℕ, [], All, None, length, map, flat_map, replicate, slice_index_or, IfOk, OnOk};
-ghost use Rattle.std.specs.{List.range_with_len, Option.option_copied, Option.option_flatten, Option.option_or};
+ghost use Rattle.std.specs.{Prelude.{◌≡◌, ◌<◌, ◌++◌, ◌∷◌, ℕ, [], All, None, length, map, flat_map, replicate, slice_index_or, IfOk, OnOk}, List.range_with_len, Option.{option_copied, option_flatten, option_or}};
 ghost use Rattle.abc_words.specs.{Verses.verse_count, Words.HasNoOtherWords, Words.HaveOwnWords, Words.event_words, Words.sung_in, Words.verse_sung, Words.word_of, Words.words_of};
 
 use crate::music::{MusicRow, SungNote, music_rows};

@@ -1,9 +1,7 @@
 -- What is answered where both texts are written, and where something else is called for.
-use Rattle.std.proofs.Common.{◌≡◌, refl, sym, subst, ◌⊎◌, inl, inr, List, [], ℕ, ◌≤◌, length, Option}
-use Rattle.std.specs.Io.KnownBytes.{Consumes, IsAtEnd}
+use Rattle.std.{proofs.Common.{◌≡◌, refl, sym, subst, ◌⊎◌, inl, inr, List, [], ℕ, ◌≤◌, length, Option}, specs.Io.KnownBytes.{Consumes, IsAtEnd}}
 use Rattle.abcps_words.specs.{declared.command.Command.Command, Command.Asks, Command.limit_of}
-use Rattle.abcps.specs.Outcome.{IsAnswer, IsAnswered, IsEnd, IsObeyed, IsQuiet, IsRead, IsReader, IsRun, ReadAll, Stream, TookAll, TookFront, WasTold}
-use Rattle.abcps.specs.{Called.Called, Calls.Calls, Calls.Refuses, Refusals.refusal_line, Refusals.refusal_status, declared.refusing.Refusal.Refusal, declared.status.Status.Status}
+use Rattle.abcps.specs.{Outcome.{IsAnswer, IsAnswered, IsEnd, IsObeyed, IsQuiet, IsRead, IsReader, IsRun, ReadAll, Stream, TookAll, TookFront, WasTold}, Called.Called, Calls.{Calls, Refuses}, Refusals.{refusal_line, refusal_status}, declared.{refusing.Refusal.Refusal, status.Status.Status}}
 
 abbrev Is : Called → Called → Type 0
 Is called other = other ≡ called

@@ -1,17 +1,13 @@
 -- A book that is set a batch of tunes at a time, and whose pages are written as they fill.
-use Rattle.std.proofs.Common.{◌≡◌, refl, sym, ap, ◌∙◌, subst, ℕ, ◌+◌, ◌≤◌, List, [], ◌++◌, append_assoc, length, take, drop, Option, arith}
-use Rattle.std.specs.Prelude.{◌||◌, All, OnOk, Result, Ok, Err}
-use Rattle.std.proofs.lemmas.{Grind.flat_map-append, List.append-nil, List.length-append, List.take-append-drop, List.Folds.list_any-append}
+use Rattle.std.{proofs.{Common.{◌≡◌, refl, sym, ap, ◌∙◌, subst, ℕ, ◌+◌, ◌≤◌, List, [], ◌++◌, append_assoc, length, take, drop, Option, arith}, lemmas.{Grind.flat_map-append, List.{append-nil, length-append, take-append-drop, Folds.list_any-append}}}, specs.Prelude.{◌||◌, All, OnOk, Result, Ok, Err}}
 use Rattle.abc_lines.specs.declared.book.TuneText.{TuneText}
 use Rattle.abc_header.specs.declared.{defaults.Defaults.Defaults, paper.Paper.Paper}
 use Rattle.ps_text.specs.{Document.numbered, Document.page_text, Prolog.prolog, declared.sheet.Page.Page}
 use Rattle.set_tune.specs.declared.how.How.{How}
 use Rattle.set_book.specs.{declared.outcome.Outcome.Outcome, Outcomes.AreOutcomes, Outcomes.IsOutcome}
 use Rattle.set_lists.specs.Reports.{is_faulty, report, reports, some_fault}
-use Rattle.set_pages.specs.Press.{IsOpen, IsPressed, RisesBy, done_pages, no_press}
-use Rattle.set_pages.{specs.declared.plan.Plan.Plan, specs.Sheet.IsSetUnder, specs.Sheet.frame_of, proofs.Joined.zip_append, proofs.Readying.set_outcomes, proofs.Whole.none_open, proofs.Whole.none_pressed}
-use Rattle.abcps.specs.{Outcome.Stream, Outcome.TookAll, Pressed.AreCutOff, Pressed.AreRunning, Pressed.AreTaken, Pressed.IsBegun, Pressed.IsRunning, Pressed.WasStopped, Pressed.first_text, declared.pressing.Running.Running, declared.status.Status.Status}
-use Rattle.abcps.proofs.Sent.{first_more, memory_behind, stopped_behind, stopped_longer, stream, took_behind}
+use Rattle.set_pages.{specs.{Press.{IsOpen, IsPressed, RisesBy, done_pages, no_press}, declared.plan.Plan.Plan, Sheet.{IsSetUnder, frame_of}}, proofs.{Joined.zip_append, Readying.set_outcomes, Whole.{none_open, none_pressed}}}
+use Rattle.abcps.{specs.{Outcome.{Stream, TookAll}, Pressed.{AreCutOff, AreRunning, AreTaken, IsBegun, IsRunning, WasStopped, first_text}, declared.{pressing.Running.Running, status.Status.Status}}, proofs.Sent.{first_more, memory_behind, stopped_behind, stopped_longer, stream, took_behind}}
 
 pub on_ok : {T E P Q : Type 0} (r : Result T E) → (P → Q) → OnOk r P → OnOk r Q
 on_ok (Ok x) to h = to h

@@ -1,6 +1,5 @@
 -- What is called for of a book that was set.
-use Rattle.std.proofs.Common.{◌≡◌, ◌≤◌, ◌^◌, ◌∙◌, refl, sym, ap, subst, List, ℕ, Bool, true, false, length}
-use Rattle.std.specs.List.{All}
+use Rattle.std.{proofs.Common.{◌≡◌, ◌≤◌, ◌^◌, ◌∙◌, refl, sym, ap, subst, List, ℕ, Bool, true, false, length}, specs.List.All}
 use Rattle.abc_header.specs.{declared.paper.Paper.Paper, Defaults.defaults_of}
 use Rattle.abc_lines.specs.Books.{book_of}
 use Rattle.gen_book.specs.Book.{book}

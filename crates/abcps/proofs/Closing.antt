@@ -1,6 +1,5 @@
 -- The last pages of a document and its end.
-use Rattle.std.proofs.Common.{◌≡◌, refl, sym, ap, ◌∙◌, subst, ℕ, ◌+◌, ◌^◌, ◌<◌, List, ◌++◌, length, drop, Option, arith}
-use Rattle.std.{proofs.lemmas.List.length-append, proofs.Math.Seq.drop-append_seam, specs.Prelude.All}
+use Rattle.std.{proofs.{Common.{◌≡◌, refl, sym, ap, ◌∙◌, subst, ℕ, ◌+◌, ◌^◌, ◌<◌, List, ◌++◌, length, drop, Option, arith}, lemmas.List.length-append, Math.Seq.drop-append_seam}, specs.Prelude.All}
 use Rattle.abc_header.specs.declared.paper.Paper.{Paper}
 use Rattle.ps_text.specs.{Document.numbered, Document.page_text, Document.trailer, Range.IsPage, declared.sheet.Page.Page}
 use Rattle.set_book.specs.declared.outcome.Outcome.{Outcome}

@@ -1,19 +1,13 @@
 -- A book whose document was written, and one whose document was not written to its end.
-use Rattle.std.proofs.Common.{◌≡◌, refl, sym, ap, ◌∙◌, subst, ◌⊎◌, inl, inr, ℕ, ◌<◌, Bool, true, false, List, [], ◌∷◌, ◌++◌, length, take, drop, arith, Option}
-use Rattle.std.{proofs.lemmas.List.append-nil, proofs.lemmas.List.append_assoc, proofs.lemmas.List.length-append, proofs.lemmas.List.take-append-drop, proofs.Math.Seq.take-append_seam, specs.Prelude.Result, specs.Prelude.Ok, specs.Prelude.Err}
+use Rattle.std.{proofs.{Common.{◌≡◌, refl, sym, ap, ◌∙◌, subst, ◌⊎◌, inl, inr, ℕ, ◌<◌, Bool, true, false, List, [], ◌∷◌, ◌++◌, length, take, drop, arith, Option}, lemmas.List.{append-nil, append_assoc, length-append, take-append-drop}, Math.Seq.take-append_seam}, specs.Prelude.{Result, Ok, Err}}
 use Rattle.abc_lines.specs.{declared.book.Book.Book, declared.book.TuneText.TuneText, Books.book_of}
 use Rattle.abc_header.specs.{declared.defaults.Defaults.Defaults, declared.paper.Paper.Paper, Defaults.defaults_of, Papers.IsGoodPaper, Papers.height_of, Papers.paper_of}
 use Rattle.ps_text.specs.{Document.document, declared.sheet.Page.Page}
 use Rattle.set_tune.specs.declared.how.How.{How}
 use Rattle.set_book.{specs.declared.outcome.Outcome.Outcome, specs.Outcomes.AreOutcomes, specs.Outcomes.IsOutcome, proofs.Once.outcomes_once}
 use Rattle.set_lists.specs.Reports.{some_fault}
-use Rattle.set_pages.specs.Sheet.{IsPlan, all_spots, frame_of, sheet_of}
-use Rattle.set_pages.{specs.declared.plan.Plan.Plan, specs.Drawings.all_blocks, specs.Drawings.all_drawings, specs.Press.HasRoom, specs.Press.IsOpen, specs.Press.IsPressed, specs.Press.RisesBy, specs.Press.done_pages, specs.declared.press.Press.Press, proofs.Fronts.IsFront, proofs.Fronts.done_first}
-use Rattle.set_pages.proofs.{Fronts.done_front, Whole.one_plan, Whole.plan_rises, Whole.plan_stands, Whole.room_by, Whole.sheet_whole, Whole.stand_count, Zips.zip_back, Zips.zip_front}
-use Rattle.abcps.specs.Pressed.{AreCutOff, AreRunning, IsClosed, IsPlanned, IsPrinted, IsUnprinted, WasCounted, WasStopped, all_set, first_text, rest_text, some_left, status_if, unbegun}
-use Rattle.abcps.proofs.Sent.{document_parts, front_longer, stopped_behind, stopped_count, stopped_front, stopped_longer, stream, took_behind}
-use Rattle.abcps.specs.{Called.Called, Books.AreSet, Books.CallsPages, Books.pages_called, Books.paper_in, Outcome.HasFront, Outcome.IsAnswer, Outcome.IsCutShort, Outcome.IsEnd, Outcome.IsQuiet, Outcome.Stream, Outcome.TookAll, Outcome.TookFront, declared.pressing.Printed.Printed}
-use Rattle.abcps.{specs.declared.pressing.Running.Running, specs.declared.status.Status.Status, proofs.Answered.answer_by, proofs.Answered.answered_end, proofs.Batches.IsUnderway, proofs.BookCalls.set_under}
+use Rattle.set_pages.{specs.{Sheet.{IsPlan, all_spots, frame_of, sheet_of}, declared.{plan.Plan.Plan, press.Press.Press}, Drawings.{all_blocks, all_drawings}, Press.{HasRoom, IsOpen, IsPressed, RisesBy, done_pages}}, proofs.{Fronts.{IsFront, done_first, done_front}, Whole.{one_plan, plan_rises, plan_stands, room_by, sheet_whole, stand_count}, Zips.{zip_back, zip_front}}}
+use Rattle.abcps.{specs.{Pressed.{AreCutOff, AreRunning, IsClosed, IsPlanned, IsPrinted, IsUnprinted, WasCounted, WasStopped, all_set, first_text, rest_text, some_left, status_if, unbegun}, Called.Called, Books.{AreSet, CallsPages, pages_called, paper_in}, Outcome.{HasFront, IsAnswer, IsCutShort, IsEnd, IsQuiet, Stream, TookAll, TookFront}, declared.{pressing.{Printed.Printed, Running.Running}, status.Status.Status}}, proofs.{Sent.{document_parts, front_longer, stopped_behind, stopped_count, stopped_front, stopped_longer, stream, took_behind}, Answered.{answer_by, answered_end}, Batches.IsUnderway, BookCalls.set_under}}
 use Rattle.abcps_words.specs.declared.command.Command.{Command}
 
 -- pages that were given up are the first of a sheet, and so is their text of its document

@@ -1,6 +1,5 @@
 -- The blocks of tunes that are set a batch at a time are those of all their outcomes, and have a plan.
-use Rattle.std.proofs.Common.{◌≡◌, refl, sym, ap, ◌∙◌, subst, ◌==◌, Bool, true, false, List, [], ◌∷◌, ◌++◌, append_assoc, length, take, drop, ℕ, arith}
-use Rattle.std.{proofs.lemmas.Bool.Decides.nat_tests, proofs.lemmas.List.append-nil, proofs.lemmas.List.take-append-drop, specs.Prelude.All}
+use Rattle.std.{proofs.{Common.{◌≡◌, refl, sym, ap, ◌∙◌, subst, ◌==◌, Bool, true, false, List, [], ◌∷◌, ◌++◌, append_assoc, length, take, drop, ℕ, arith}, lemmas.{Bool.Decides.nat_tests, List.{append-nil, take-append-drop}}}, specs.Prelude.All}
 use Rattle.abc_lines.specs.declared.book.TuneText.{TuneText}
 use Rattle.abc_header.specs.declared.{defaults.Defaults.Defaults, paper.Paper.Paper}
 use Rattle.lay_pages.specs.{declared.filling.Block.Block, Filling.AreGoodBlocks}

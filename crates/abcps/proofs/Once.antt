@@ -4,8 +4,7 @@ use Rattle.abc_lines.specs.Books.{book_of}
 use Rattle.abc_header.specs.{declared.paper.Paper.Paper, Defaults.defaults_of}
 use Rattle.gen_book.specs.Book.{book}
 use Rattle.lay_breaks.{specs.Breaking.sum_from, specs.Spans.listed, proofs.Unique.one_is_chosen}
-use Rattle.lay_cert.specs.{Answers.IsJudged, Listing.Entry, Listing.none_forced, Verdicts.IsVerdict, Verdicts.AreVerdicts, declared.check.Judged.Judged, declared.check.Verdict.Verdict, declared.check.Verdict.TheVariants.Least, declared.check.Verdict.TheVariants.NotLeast}
-use Rattle.lay_cert.proofs.Alone.{tells_one}
+use Rattle.lay_cert.{specs.{Answers.IsJudged, Listing.{Entry, none_forced}, Verdicts.{IsVerdict, AreVerdicts}, declared.check.{Judged.Judged, Verdict.{Verdict, TheVariants.{Least, NotLeast}}}}, proofs.Alone.tells_one}
 use Rattle.paint_text.specs.PaintText.{paint_text}
 use Rattle.sheet_text.specs.SheetText.{sheet_report}
 use Rattle.ps_machine.specs.OneAnswer.{HasOneAnswer}
@@ -16,8 +15,7 @@ use Rattle.set_book.specs.{declared.outcome.Outcome.Outcome, Once.HaveOneOutcome
 use Rattle.set_pages.{specs.declared.plan.Plan.Plan, specs.Sheet.IsPlan, specs.Sheet.sheet_of, proofs.Whole.one_plan}
 use Rattle.set_lists.specs.{Reports.reports, Trials.trial_text}
 use Rattle.abcps_words.specs.declared.command.Command.{Command}
-use Rattle.abcps.specs.Calls.{Calls, CallsOne, IsPainted, Judges, NeverBoth, Shows, budget_of, by_one_job, status_by, verdicts_text}
-use Rattle.abcps.specs.{declared.status.Status.Status, Called.Called, Called.IsQuietly, Books.AreSet, Books.CallsPages, Books.CallsSystems, Books.Tries, Books.paper_in, Books.status_of, Books.systems_by, Books.trial_of, declared.refusing.Refusal.Refusal}
+use Rattle.abcps.specs.{Calls.{Calls, CallsOne, IsPainted, Judges, NeverBoth, Shows, budget_of, by_one_job, status_by, verdicts_text}, declared.{status.Status.Status, refusing.Refusal.Refusal}, Called.{Called, IsQuietly}, Books.{AreSet, CallsPages, CallsSystems, Tries, paper_in, status_of, systems_by, trial_of}}
 
 abbrev called_of : List ℕ → List ℕ → Status → Called
 called_of page told status = record { page = page; told = told; status = status }

@@ -1,9 +1,7 @@
 -- The promises of a run, from its answer by cases.
-use Rattle.std.proofs.Common.{◌≡◌, refl, sym, ◌∙◌, ap, subst, ◌⊎◌, inl, inr, ℕ, ◌≤◌, List, ◌++◌, length, length-append, append-nil, Option, Some, None, arith}
-use Rattle.std.specs.Io.KnownBytes.{Consumes, IsAtEnd}
+use Rattle.std.{proofs.Common.{◌≡◌, refl, sym, ◌∙◌, ap, subst, ◌⊎◌, inl, inr, ℕ, ◌≤◌, List, ◌++◌, length, length-append, append-nil, Option, Some, None, arith}, specs.Io.KnownBytes.{Consumes, IsAtEnd}}
 use Rattle.abcps_words.specs.{Command.Asks, Command.AsksOne, Command.IsListed, Command.limit_of, declared.command.Command.Command}
-use Rattle.abcps.specs.{Called.Called, Calls.Calls, Calls.CallsOne, Calls.NeverBoth, Calls.Refuses, Refusals.IsRefusal, declared.refusing.Refusal.Refusal, Outcome.HasFailed, Outcome.HasPart, Outcome.Stream, Outcome.IsObeyed, Outcome.IsQuiet, Outcome.IsRead, Outcome.IsReader, Outcome.IsRun}
-use Rattle.abcps.specs.{Outcome.ReadAll, Outcome.ReadTooMuch, Outcome.TookAll, Outcome.WasCut, Outcome.WasRefused, Promises.IsDone, Promises.IsGiven, Promises.IsRefused, Promises.IsToldTo, Promises.IsWhole, Promises.NoFault, Promises.Promises, declared.status.Status.Status}
+use Rattle.abcps.specs.{Called.Called, Calls.{Calls, CallsOne, NeverBoth, Refuses}, Refusals.IsRefusal, declared.{refusing.Refusal.Refusal, status.Status.Status}, Outcome.{HasFailed, HasPart, Stream, IsObeyed, IsQuiet, IsRead, IsReader, IsRun, ReadAll, ReadTooMuch, TookAll, WasCut, WasRefused}, Promises.{IsDone, IsGiven, IsRefused, IsToldTo, IsWhole, NoFault, Promises}}
 
 -- a source that told its bytes was read to its end: they are the text
 whole_read : (before after : Option (List ℕ)) (told text : List ℕ) → before ≡ Some told → Consumes before after text → IsAtEnd after → text ≡ told

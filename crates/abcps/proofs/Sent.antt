@@ -1,7 +1,5 @@
 -- What a sink took of texts that were given to it one after another, and how much of a document its first pages are.
-use Rattle.std.proofs.Common.{◌≡◌, refl, sym, ap, ◌∙◌, subst, ℕ, zero, suc, ◌+◌, ◌<◌, List, [], ◌∷◌, ◌++◌, length, take, drop, get_or, Option, Err, arith}
-use Rattle.std.proofs.lemmas.List.{append-nil, append_assoc, length-take-le, take-append-drop, take_more}
-use Rattle.std.{proofs.Math.Seq.drop-append_seam, proofs.Math.Seq.take-append-add, proofs.Math.Seq.take-append_seam, proofs.KnownBytes.Appends-nil, proofs.KnownBytes.Appends-trans, specs.Io.KnownBytes.Appends}
+use Rattle.std.{proofs.{Common.{◌≡◌, refl, sym, ap, ◌∙◌, subst, ℕ, zero, suc, ◌+◌, ◌<◌, List, [], ◌∷◌, ◌++◌, length, take, drop, get_or, Option, Err, arith}, lemmas.List.{append-nil, append_assoc, length-take-le, take-append-drop, take_more}, Math.Seq.{drop-append_seam, take-append-add, take-append_seam}, KnownBytes.{Appends-nil, Appends-trans}}, specs.Io.KnownBytes.Appends}
 use Rattle.eng_io.specs.Causes.{Rose}
 use Rattle.abc_header.specs.declared.paper.Paper.{Paper}
 use Rattle.ps_text.specs.{Document.document, Document.numbered, Document.page_text, Document.trailer, Prolog.prolog, declared.sheet.Page.Page, declared.sheet.Sheet.Sheet}

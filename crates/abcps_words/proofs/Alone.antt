@@ -1,9 +1,7 @@
 -- Words ask for one command, and its numbers are in range.
-use Rattle.std.proofs.Common.{◌≡◌, ℕ, pos, if◌then◌else◌, ◌==◌, List, ◌++◌, Option, Some, None, MatchOption, IfSome, IfNone, unwrap_or, refl, sym, ◌∙◌, ap, subst, arith, decimal}
-use Rattle.std.{proofs.lemmas.Fmt.decimal_is_IsNumeral, specs.Str.Parse.digits_value}
+use Rattle.std.{proofs.{Common.{◌≡◌, ℕ, pos, if◌then◌else◌, ◌==◌, List, ◌++◌, Option, Some, None, MatchOption, IfSome, IfNone, unwrap_or, refl, sym, ◌∙◌, ap, subst, arith, decimal}, lemmas.Fmt.decimal_is_IsNumeral}, specs.Str.Parse.digits_value}
 use Rattle.mus_units.specs.declared.key.Spread.{Spread}
-use Rattle.abcps_words.specs.{declared.options.Flag.Flag, declared.options.Options.Options, declared.command.Command.Command, Words.IsWithin, Words.IsMove, Words.front_of, Words.HasTunes, Words.IsSpelled, Words.said, Words.Says, Command.Asks, Command.IsListed, Command.AsksOne, Command.AskedIsGood}
-use Rattle.abcps_words.{specs.Command.IsGoodCommand, proofs.Fronts.head_of, proofs.Fronts.tail_of, proofs.Fronts.key_of, proofs.Fronts.same_front, proofs.Flags.one_spelling, proofs.Flags.half_steps_good, proofs.Flags.jobs_good}
+use Rattle.abcps_words.{specs.{declared.{options.{Flag.Flag, Options.Options}, command.Command.Command}, Words.{IsWithin, IsMove, front_of, HasTunes, IsSpelled, said, Says}, Command.{Asks, IsListed, AsksOne, AskedIsGood, IsGoodCommand}}, proofs.{Fronts.{head_of, tail_of, key_of, same_front}, Flags.{one_spelling, half_steps_good, jobs_good}}}
 
 -- the spread that a word is
 abbrev spread_back : List ℕ → Spread

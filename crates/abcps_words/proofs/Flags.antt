@@ -1,9 +1,6 @@
 -- Options read one after another from the front: what stands read at each step, and that no other options have the same words.
-use Rattle.std.proofs.Common.{◌≡◌, ℕ, ℤ, pos, negsuc, ◌+◌, ◌<◌, ◌≤◌, ◌^◌, Bool, true, false, cond, ◌||◌, List, [], ◌∷◌, ◌++◌, length, Option, Some, None, is_some, unwrap_or, All, flat_map, refl, sym, ◌∙◌, ap, subst, arith, decimal, append_assoc}
-use Rattle.std.proofs.lemmas.{Bool.true≢false, Fmt.decimal_injective, Fmt.signed_decimal_injective, Int.ints, List.append-nil, List.Elements.All-head, List.Elements.All-tail, List.Elements.All-push, List.Sums.sum_by-append, Grind.flat_map-append}
-use Rattle.std.specs.{Int.Signed.mag, List.list_any, List.count_by, Option.option_or}
-use Rattle.abcps_words.specs.Words.{IsWithin, IsMove, flag_words, IsFlag, same_kind, IsOnce, IsSpelled, jobs_of, half_steps_of, first_said, said}
-use Rattle.abcps_words.{specs.declared.options.Flag.Flag, specs.declared.options.Options.Options, specs.Adding.has_kind, specs.Adding.with_flag, specs.Adding.added, proofs.Fronts.head_of, proofs.Fronts.tail_of, proofs.Fronts.clash}
+use Rattle.std.{proofs.{Common.{◌≡◌, ℕ, ℤ, pos, negsuc, ◌+◌, ◌<◌, ◌≤◌, ◌^◌, Bool, true, false, cond, ◌||◌, List, [], ◌∷◌, ◌++◌, length, Option, Some, None, is_some, unwrap_or, All, flat_map, refl, sym, ◌∙◌, ap, subst, arith, decimal, append_assoc}, lemmas.{Bool.true≢false, Fmt.{decimal_injective, signed_decimal_injective}, Int.ints, List.{append-nil, Elements.{All-head, All-tail, All-push}, Sums.sum_by-append}, Grind.flat_map-append}}, specs.{Int.Signed.mag, List.{list_any, count_by}, Option.option_or}}
+use Rattle.abcps_words.{specs.{Words.{IsWithin, IsMove, flag_words, IsFlag, same_kind, IsOnce, IsSpelled, jobs_of, half_steps_of, first_said, said}, declared.options.{Flag.Flag, Options.Options}, Adding.{has_kind, with_flag, added}}, proofs.Fronts.{head_of, tail_of, clash}}
 
 one_number : (n m : ℕ) → IsWithin 64 n → IsWithin 64 m → decimal n ≡ decimal m → n ≡ m
 one_number n m a b e = decimal_injective n m (omega (arith, a)) (omega (arith, b)) e

@@ -1,6 +1,5 @@
 -- What the first words can't be, and where the front of a command ends.
-use Rattle.std.proofs.Common.{◌≡◌, ℕ, ℤ, ◌+◌, true, false, ◌||◌, ◌==◌, if◌then◌else◌, List, [], ◌∷◌, ◌++◌, take, drop, codes, refl, sym, ◌∙◌, ap, arith, decimal}
-use Rattle.std.{proofs.lemmas.Bool.true≢false, proofs.lemmas.Bool.Decides.nat_tests, specs.Fmt.signed_decimal}
+use Rattle.std.{proofs.{Common.{◌≡◌, ℕ, ℤ, ◌+◌, true, false, ◌||◌, ◌==◌, if◌then◌else◌, List, [], ◌∷◌, ◌++◌, take, drop, codes, refl, sym, ◌∙◌, ap, arith, decimal}, lemmas.Bool.{true≢false, Decides.nat_tests}}, specs.Fmt.signed_decimal}
 use Rattle.mus_units.specs.declared.key.Spread.{Spread}
 use Rattle.abcps_words.specs.{declared.options.Flag.Flag, declared.command.Name.Name, declared.command.Command.Command, Words.IsWithin, Words.IsMove, Words.name_bytes, Words.spread_word, Words.front_of, Words.HasTunes, Words.flag_words, Words.IsFlag}
 

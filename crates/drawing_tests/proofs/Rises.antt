@@ -1,7 +1,6 @@
 -- Abscissas that rise all along rise in each beam.
 use Rattle.std.proofs.Common.{ℤ, List, [], ◌∷◌}
-use Rattle.mus_stems.specs.{declared.plans.StemPlan.StemPlan, declared.slopes.Anchor.Anchor}
-use Rattle.mus_stems.specs.Slope.{anchor_of, anchors, RisesAfter, RisesInBeams}
+use Rattle.mus_stems.specs.{declared.{plans.StemPlan.StemPlan, slopes.Anchor.Anchor}, Slope.{anchor_of, anchors, RisesAfter, RisesInBeams}}
 use Rattle.drawing_tests.specs.Rising.{AreRising, RisesFrom}
 
 rises_after : (a : Anchor) (ps : List StemPlan) (xs : List ℤ) → RisesFrom a.x xs → RisesAfter a (anchors ps xs)

@@ -2,8 +2,7 @@
 
 ghost use Rattle.std.specs.Prelude.{◌≡◌, IsTrue, All, length, map};
 ghost use Rattle.mus_score.specs.{Good.IsGoodBody, GoodScore.IsGoodScore, GoodScore.IsGoodVoice};
-ghost use Rattle.mus_stems.specs.Heads.{AllNear, IsNear, stand_of};
-ghost use Rattle.mus_stems.specs.Stills.{AllCanStand, CanStand};
+ghost use Rattle.mus_stems.specs.{Heads.{AllNear, IsNear, stand_of}, Stills.{AllCanStand, CanStand}};
 
 use answer_texts::{end_line, put_number, put_numbers, put_word};
 use mus_score::{Flat, Measure, Score, Voice, flatten};

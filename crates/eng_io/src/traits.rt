@@ -1,5 +1,4 @@
-ghost use Rattle.std.specs.Prelude.{ℕ, ◌≤◌, List, Option, length};
-ghost use Rattle.std.specs.Io.{ReadsAtMost, WritesAtMost, KnownBytes.ReadConsumes, KnownBytes.WriteAppends};
+ghost use Rattle.std.specs.{Prelude.{ℕ, ◌≤◌, List, Option, length}, Io.{ReadsAtMost, WritesAtMost, KnownBytes.{ReadConsumes, WriteAppends}}};
 ghost use Rattle.eng_io.specs.Causes.{ReadCause, WriteCause};
 
 /// A read or a write failed, and took nothing.

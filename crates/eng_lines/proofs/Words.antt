@@ -1,7 +1,5 @@
 -- Bytes that lack one byte, and where a list of bytes is cut.
-use Rattle.std.proofs.Common.{◌≡◌, ◌≢◌, ℕ, zero, suc, ◌+◌, ◌%◌, ◌<◌, ◌^◌, ◌⊎◌, inl, inr, true, false, eqb, List, [], ◌∷◌, ◌++◌, length, take, drop, Some, None, refl, sym, ◌∙◌, ap, arith, slice_index_or, decimal}
-use Rattle.std.proofs.lemmas.{Bool.eqb-true, Bool.true≢false, Bool.cases_lt, Option.none-some, List.Quantifiers.position-Some, List.Sums.fails_before_first, Fmt.decimal_by_steps, Fmt.decimal_injective, List.append_cancel_left}
-use Rattle.std.specs.{Prelude.Option, Prelude.MatchOption, List.position, List.position_or_len}
+use Rattle.std.{proofs.{Common.{◌≡◌, ◌≢◌, ℕ, zero, suc, ◌+◌, ◌%◌, ◌<◌, ◌^◌, ◌⊎◌, inl, inr, true, false, eqb, List, [], ◌∷◌, ◌++◌, length, take, drop, Some, None, refl, sym, ◌∙◌, ap, arith, slice_index_or, decimal}, lemmas.{Bool.{eqb-true, true≢false, cases_lt}, Option.none-some, List.{Quantifiers.position-Some, Sums.fails_before_first, append_cancel_left}, Fmt.{decimal_by_steps, decimal_injective}}}, specs.{Prelude.{Option, MatchOption}, List.{position, position_or_len}}}
 use Rattle.eng_lines.specs.Lines.{Lacks}
 
 pub lacks_both : (b : ℕ) (xs ys : List ℕ) → Lacks b xs → Lacks b ys → Lacks b (xs ++ ys)

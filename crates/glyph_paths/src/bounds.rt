@@ -1,6 +1,5 @@
 ghost use Rattle.std.specs.Prelude.{◌≡◌};
-ghost use Rattle.glyph_paths.specs.Outlines.{outline_of};
-ghost use Rattle.glyph_paths.specs.Bounds.{within, bounds_in, AreBounds, AreClose};
+ghost use Rattle.glyph_paths.specs.{Outlines.outline_of, Bounds.{within, bounds_in, AreBounds, AreClose}};
 
 use mus_units::Glyph;
 

@@ -1,6 +1,5 @@
 -- Marks that are alike but for their heights have the same boxes.
-use Rattle.std.proofs.Common.{◌≡◌, ◌∙◌, sym, ap, subst, refl, ℕ, ◌<◌, ℤ, pos, ◌+ℤ◌, ◌≤ℤ◌, List, length, get_or, arith}
-use Rattle.std.{proofs.lemmas.List.get_or-map, proofs.lemmas.List.length-map, proofs.lemmas.List.Elements.Contains-get_or, specs.List.Contains}
+use Rattle.std.{proofs.{Common.{◌≡◌, ◌∙◌, sym, ap, subst, refl, ℕ, ◌<◌, ℤ, pos, ◌+ℤ◌, ◌≤ℤ◌, List, length, get_or, arith}, lemmas.List.{get_or-map, length-map, Elements.Contains-get_or}}, specs.List.Contains}
 use Rattle.mus_laid.specs.{Boxes.sides_of, Shapes.laid_shape, Shapes.mark_shape, Shapes.marks_shape, declared.boxes.Sides.Sides, declared.laid.Laid.Laid, declared.laid.Mark.Mark}
 use Rattle.lay_columns.specs.Reaches.{rank_of}
 use Rattle.lay_tune.specs.Systems.{x_at}

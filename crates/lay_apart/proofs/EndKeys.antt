@@ -1,9 +1,7 @@
 -- The first column of a system is that of its head, and the last that of its last bar.
-use Rattle.std.proofs.Common.{◌≡◌, ◌∙◌, ℕ, zero, suc, ◌+◌, ◌-◌, ◌<◌, ◌≤◌, true, List, [], ◌∷◌, length, get_or, refl, ap, subst, inl, inr, arith}
-use Rattle.std.{proofs.lemmas.Bool.cases_lt, proofs.lemmas.Bool.Decides.nat_tests, proofs.lemmas.List.get_or_default, specs.List.All, specs.List.Contains, specs.List.slice_index}
+use Rattle.std.{proofs.{Common.{◌≡◌, ◌∙◌, ℕ, zero, suc, ◌+◌, ◌-◌, ◌<◌, ◌≤◌, true, List, [], ◌∷◌, length, get_or, refl, ap, subst, inl, inr, arith}, lemmas.{Bool.{cases_lt, Decides.nat_tests}, List.get_or_default}}, specs.List.{All, Contains, slice_index}}
 use Rattle.mus_score.specs.{declared.score.Score.Score, GoodScore.IsGoodScore}
-use Rattle.mus_time.specs.{declared.keys.Class.Class, declared.keys.ColumnKey.ColumnKey, Keys.AreKeys, Keys.IsInSystem, Keys.bar_key, Keys.called_keys, Keys.head_key, Onsets.timeline_of, Order.BelowAll, Order.is_below, Order.Rises}
-use Rattle.mus_time.proofs.Places.{places_of}
+use Rattle.mus_time.{specs.{declared.keys.{Class.Class, ColumnKey.ColumnKey}, Keys.{AreKeys, IsInSystem, bar_key, called_keys, head_key}, Onsets.timeline_of, Order.{BelowAll, is_below, Rises}}, proofs.Places.places_of}
 use Rattle.mus_marks.proofs.Inside.{bars_inside, head_inside}
 
 -- ---- rising keys

@@ -1,7 +1,5 @@
 -- The columns of a system that is set rise within the width, and boxes of marks in one lane of a staff stay apart there.
-use Rattle.std.proofs.Common.{◌≡◌, ◌∙◌, sym, ap, subst, refl, ℕ, ◌^◌, ◌<◌, ◌≤◌, ◌==◌, List, [], ◌∷◌, length, map, get_or, Option, Some, None, option_map, arith}
-use Rattle.std.proofs.lemmas.{Option.get_or_from_slice_get, Option.none-some, Option.same_Some, Option.slice_get-get_or, Option.slice_get-map, Option.slice_get_within, List.Elements.All-from_recursion}
-use Rattle.std.specs.List.{All, AllByRecursion, Contains, slice_get}
+use Rattle.std.{proofs.{Common.{◌≡◌, ◌∙◌, sym, ap, subst, refl, ℕ, ◌^◌, ◌<◌, ◌≤◌, ◌==◌, List, [], ◌∷◌, length, map, get_or, Option, Some, None, option_map, arith}, lemmas.{Option.{get_or_from_slice_get, none-some, same_Some, slice_get-get_or, slice_get-map, slice_get_within}, List.Elements.All-from_recursion}}, specs.List.{All, AllByRecursion, Contains, slice_get}}
 use Rattle.mus_score.specs.{declared.score.Score.Score, declared.score.Voice.Voice, GoodScore.IsGoodScore, Seats.grouped}
 use Rattle.mus_time.specs.Onsets.{timeline_of}
 use Rattle.mus_laid.specs.{declared.laid.Laid.Laid, declared.laid.StaffMarks.StaffMarks, declared.laid.SystemMarks.SystemMarks, Shapes.staff_shape}
@@ -10,8 +8,7 @@ use Rattle.mus_marks.{specs.Staff.staff_marks, specs.Staff.verses_on, specs.Syst
 use Rattle.lay_springs.specs.{declared.margin.Placed.Placed, Place.length_at, Place.reach_at}
 use Rattle.lay_columns.{specs.Columns.column_reach, proofs.Covering.columns_cover}
 use Rattle.lay_shown.{specs.Ranks.AreRanked, specs.Shown.IsShown, proofs.Alike.same_in}
-use Rattle.lay_tune.{specs.Spans.IsSystem, specs.Spans.column_length, specs.Spans.score_gaps, specs.Spans.system_columns, specs.Spans.verses_of, specs.Systems.IsPlaced, specs.Systems.IsSetSystem, specs.Systems.StandWithin, proofs.Within.justified_within, proofs.Within.placed_stand}
-use Rattle.lay_tune.proofs.Within.{system_count}
+use Rattle.lay_tune.{specs.{Spans.{IsSystem, column_length, score_gaps, system_columns, verses_of}, Systems.{IsPlaced, IsSetSystem, StandWithin}}, proofs.Within.{justified_within, placed_stand, system_count}}
 use Rattle.lay_apart.{specs.Apart.AreApart, proofs.Alike.same_apart, proofs.EndKeys.some_keys, proofs.LaneGaps.HasLane, proofs.LaneMarks.lane_of, proofs.SystemColumns.first_stands, proofs.SystemColumns.last_stands, proofs.Uncut.StandBetween, proofs.Uncut.staff_apart}
 
 pub columns_stand : (s : Score) (width a b : ℕ) (m : SystemMarks) (p : Placed) → IsSetSystem s width a b m p → StandWithin width (length m.keys) p.at

@@ -1,7 +1,6 @@
 -- Where columns stand within less than 2^20, no reach is cut: the first and the last column stand in each lane, and what is cut would
 -- push one of them out. So the boxes of marks stay apart as the reaches of their columns do.
-use Rattle.std.proofs.Common.{◌≡◌, ◌∙◌, sym, ap, subst, inl, inr, ℕ, ◌+◌, ◌-◌, ◌^◌, ◌<◌, ℤ, pos, neg_ℤ, ◌+ℤ◌, ◌≤ℤ◌, List, length, Option, Some, arith}
-use Rattle.std.{proofs.lemmas.Bool.cases_lt, proofs.lemmas.Int.ints, proofs.lemmas.List.Elements.All-contains, proofs.lemmas.Option.none-some, proofs.lemmas.Option.same_Some, specs.List.Contains, specs.List.slice_get}
+use Rattle.std.{proofs.{Common.{◌≡◌, ◌∙◌, sym, ap, subst, inl, inr, ℕ, ◌+◌, ◌-◌, ◌^◌, ◌<◌, ℤ, pos, neg_ℤ, ◌+ℤ◌, ◌≤ℤ◌, List, length, Option, Some, arith}, lemmas.{Bool.cases_lt, Int.ints, List.Elements.All-contains, Option.{none-some, same_Some}}}, specs.List.{Contains, slice_get}}
 use Rattle.mus_laid.specs.{Boxes.sides_of, declared.boxes.Sides.Sides, declared.laid.Laid.Laid, declared.laid.Mark.Mark, declared.laid.StaffMarks.StaffMarks}
 use Rattle.lay_springs.specs.{declared.traits.Reach.Reach, Fit.StandsInAll, Place.StandApart, Place.reach_at}
 use Rattle.lay_columns.specs.{declared.column.Column.Column, Columns.CoverMarks, Columns.Covers, Columns.column_reach, Lanes.gaps_of, Lanes.lane_count, Lanes.lane_number, Lanes.lane_start, Reaches.rank_of}

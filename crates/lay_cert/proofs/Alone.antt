@@ -1,11 +1,8 @@
 -- A text is cut into good lines in one way.
-use Rattle.std.proofs.Common.{◌≡◌, ℕ, ◌<◌, ◌≤◌, ◌^◌, ◌==◌, Bool, true, false, List, [], ◌∷◌, ◌++◌, Option, Some, None, refl, sym, ◌∙◌, ap, subst, arith, inl, codes, decimal, if◌then◌else◌}
-use Rattle.std.proofs.{lemmas.Bool.true≢false, lemmas.Bool.eq-eqb, lemmas.Fmt.decimal_injective}
+use Rattle.std.proofs.{Common.{◌≡◌, ℕ, ◌<◌, ◌≤◌, ◌^◌, ◌==◌, Bool, true, false, List, [], ◌∷◌, ◌++◌, Option, Some, None, refl, sym, ◌∙◌, ap, subst, arith, inl, codes, decimal, if◌then◌else◌}, lemmas.{Bool.{true≢false, eq-eqb}, Fmt.decimal_injective}}
 use mathlib.Core.List.{append_assoc}
 use Rattle.lay_breaks.specs.{Breaking.last_from, Breaking.IsPotential, Spans.AreSpans, Spans.listed, declared.costs.Span.Span}
-use Rattle.lay_cert.specs.{Lines.line_text, Lines.lines_then, Lines.sum_text, Listing.Entry, Listing.none_forced, Listing.IsListing, Listing.listing_lines, Places.Place, Places.begun, Places.between, Places.choosing, Places.proving, Places.ended, Places.MayCome, Places.next, Places.Leads}
-use Rattle.lay_cert.{specs.Places.IsStuck, specs.Told.IsGood, specs.Laws.GoodByLines, specs.Laws.TellsOne, specs.Laws.FaultsTellNone, specs.Laws.NoPrefix, specs.declared.lines.Line.Line, proofs.Forms.span_text, proofs.Forms.tune_text, proofs.Grown.listed_within, proofs.Sums.total_within}
-use Rattle.lay_cert.proofs.{Sums.least_within, Sums.one_potential, Steps.step_good, Steps.leads_good, Steps.leads_lines, Through.listing_leads}
+use Rattle.lay_cert.{specs.{Lines.{line_text, lines_then, sum_text}, Listing.{Entry, none_forced, IsListing, listing_lines}, Places.{Place, begun, between, choosing, proving, ended, MayCome, next, Leads, IsStuck}, Told.IsGood, Laws.{GoodByLines, TellsOne, FaultsTellNone, NoPrefix}, declared.lines.Line.Line}, proofs.{Forms.{span_text, tune_text}, Grown.listed_within, Sums.{total_within, least_within, one_potential}, Steps.{step_good, leads_good, leads_lines}, Through.listing_leads}}
 use Rattle.eng_lines.{specs.Lines.Lacks, proofs.Words.lacks_both, proofs.Words.decimal_lacks, proofs.Words.one_cut, proofs.Words.one_field, proofs.Words.after_prefix, proofs.Words.head_of}
 
 abbrev lacks_test : ℕ → List ℕ → Bool

@@ -1,6 +1,5 @@
 -- Each part of a listing with one more at its end.
-use Rattle.std.proofs.Common.{◌≡◌, ℕ, suc, ◌+◌, ◌<◌, ◌≤◌, Bool, true, false, List, [], ◌∷◌, ◌++◌, length, Option, Some, IsSome, refl, sym, ◌∙◌, ap, arith, if◌then◌else◌}
-use Rattle.std.proofs.lemmas.Bool.{true≢false}
+use Rattle.std.proofs.{Common.{◌≡◌, ℕ, suc, ◌+◌, ◌<◌, ◌≤◌, Bool, true, false, List, [], ◌∷◌, ◌++◌, length, Option, Some, IsSome, refl, sym, ◌∙◌, ap, arith, if◌then◌else◌}, lemmas.Bool.true≢false}
 use mathlib.Core.List.{append_assoc, append-nil}
 use Rattle.lay_breaks.specs.{Breaking.RisesFrom, Breaking.FitsFrom, Breaking.last_from, Breaking.IsLegal, Spans.MayFollow, Spans.SpansFrom, Spans.listed, Spans.has_ends, Spans.ends_are, declared.costs.Span.Span}
 use Rattle.lay_cert.specs.{Listing.Entry, Listing.IsEntry, Listing.EntriesFrom, Listing.none_forced, Listing.entry_lines, Listing.all_lines, Listing.potential_lines, Places.last_tune_from, Places.last_span_from, declared.lines.Line.Line}

@@ -1,11 +1,7 @@
 -- A step of the checker is one line, and its end is the end of the listing or the first fault.
-use Rattle.std.proofs.Common.{◌≡◌, ◌≢◌, ℕ, ◌+◌, ◌^◌, ◌<◌, ◌≤◌, ◌⊎◌, inl, inr, true, false, List, [], ◌∷◌, ◌++◌, length, Option, Some, None, is_some, refl, sym, ◌∙◌, ap, subst, arith, slice_index_or, if◌then◌else◌, ◌==◌}
-use Rattle.std.proofs.{lemmas.Bool.true≢false, lemmas.Bool.eq-eqb, lemmas.Bool.eqb-true, lemmas.Bool.ne_eqb, lemmas.List.length-append, lemmas.List.nil_from_length}
+use Rattle.std.proofs.{Common.{◌≡◌, ◌≢◌, ℕ, ◌+◌, ◌^◌, ◌<◌, ◌≤◌, ◌⊎◌, inl, inr, true, false, List, [], ◌∷◌, ◌++◌, length, Option, Some, None, is_some, refl, sym, ◌∙◌, ap, subst, arith, slice_index_or, if◌then◌else◌, ◌==◌}, lemmas.{Bool.{true≢false, eq-eqb, eqb-true, ne_eqb}, List.{length-append, nil_from_length}}}
 use Rattle.lay_breaks.specs.{Breaking.last_from, Spans.MayFollow, Spans.listed, declared.costs.Span.Span}
-use Rattle.lay_cert.specs.{Lines.line_text, Lines.lines_then, Listing.Entry, Listing.IsListing, Places.Place, Places.begun, Places.between, Places.choosing, Places.proving, Places.ended, Places.MayCome, Places.next, Places.Leads, Places.IsStuck, Places.IsFirstFault, Places.last_tune_from}
-use Rattle.lay_cert.specs.{Places.last_span_from, Verdicts.AreVerdicts, Verdicts.IsVerdict, Stands.IsChoosing, Stands.Proves, Stands.Stands, Stands.NoneMayCome, Stands.IsStep, Stands.entry_of, Answers.IsJudged, declared.lines.Line.Line, declared.check.Judged.Judged, declared.check.Verdict.Verdict}
-use Rattle.lay_cert.{specs.declared.place.Choosing.Choosing, specs.declared.place.Proving.Proving, specs.declared.place.Stage.Stage, proofs.Grown.listed_within, proofs.Grown.push_tune, proofs.Steps.leads_good, proofs.Steps.leads_more, proofs.Steps.one_more, proofs.Through.begun_with}
-use Rattle.lay_cert.proofs.Alone.{apart, tune_alone, span_alone, choice_alone, may_lack, told_by_lines, faults_tell_none}
+use Rattle.lay_cert.{specs.{Lines.{line_text, lines_then}, Listing.{Entry, IsListing}, Places.{Place, begun, between, choosing, proving, ended, MayCome, next, Leads, IsStuck, IsFirstFault, last_tune_from, last_span_from}, Verdicts.{AreVerdicts, IsVerdict}, Stands.{IsChoosing, Proves, Stands, NoneMayCome, IsStep, entry_of}, Answers.IsJudged, declared.{lines.Line.Line, check.{Judged.Judged, Verdict.Verdict}, place.{Choosing.Choosing, Proving.Proving, Stage.Stage}}}, proofs.{Grown.{listed_within, push_tune}, Steps.{leads_good, leads_more, one_more}, Through.begun_with, Alone.{apart, tune_alone, span_alone, choice_alone, may_lack, told_by_lines, faults_tell_none}}}
 use Rattle.eng_lines.{specs.Lines.Lacks, proofs.Words.one_cut, proofs.Words.lacks_none}
 
 pub none_refused : (es : List Entry) (raw : List ℕ) (tune bars : ℕ) → raw ≡ line_text (Line.Tune tune bars) → tune < 2 ^ 32 → bars < 2 ^ 32

@@ -1,9 +1,7 @@
 -- The text of lines, one after the other.
-use Rattle.std.proofs.Common.{decimal, ◌≡◌, ℕ, ◌+◌, ◌<◌, List, [], ◌∷◌, ◌++◌, length, map, take, Option, None, refl, sym, ◌∙◌, ap, arith, slice_index_or}
-use Rattle.std.proofs.{Common.rules, lemmas.List.map-append, lemmas.List.take_more, lemmas.List.length-take}
+use Rattle.std.proofs.{Common.{decimal, ◌≡◌, ℕ, ◌+◌, ◌<◌, List, [], ◌∷◌, ◌++◌, length, map, take, Option, None, refl, sym, ◌∙◌, ap, arith, slice_index_or, rules}, lemmas.List.{map-append, take_more, length-take}}
 use mathlib.Core.List.{append_assoc, append-nil}
-use Rattle.lay_cert.specs.{Lines.line_text, Lines.lines_then, Laws.InParts, Reports.bars_text, Listing.Entry, Listing.entry_lines, Listing.all_lines, Listing.entries_text, Listing.potential_lines, declared.lines.Line.Line}
-use Rattle.lay_cert.proofs.Grown.{push_potential}
+use Rattle.lay_cert.{specs.{Lines.{line_text, lines_then}, Laws.InParts, Reports.bars_text, Listing.{Entry, entry_lines, all_lines, entries_text, potential_lines}, declared.lines.Line.Line}, proofs.Grown.push_potential}
 
 pub lines_both : (ls ms : List Line) → lines_then (ls ++ ms) [] ≡ lines_then ls [] ++ lines_then ms []
 lines_both [] ms = refl

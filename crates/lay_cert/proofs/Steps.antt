@@ -1,11 +1,8 @@
 -- A line that may come keeps what holds of the entries told, and is the next of their lines.
-use Rattle.std.proofs.Common.{◌≡◌, ℕ, ◌+◌, ◌<◌, ◌≤◌, ◌==◌, Bool, true, false, List, [], ◌∷◌, ◌++◌, length, map, Option, None, refl, sym, ◌∙◌, ap, subst, arith, inl, inr, if◌then◌else◌, slice_index_or}
-use Rattle.std.proofs.{lemmas.Bool.cases_lt, lemmas.Bool.true≢false, lemmas.Bool.eqb-true, lemmas.Bool.eqb-false, lemmas.List.map-append, lemmas.List.length-append, lemmas.List.get_or_append_left, Math.Seq.get_or-append_seam}
+use Rattle.std.proofs.{Common.{◌≡◌, ℕ, ◌+◌, ◌<◌, ◌≤◌, ◌==◌, Bool, true, false, List, [], ◌∷◌, ◌++◌, length, map, Option, None, refl, sym, ◌∙◌, ap, subst, arith, inl, inr, if◌then◌else◌, slice_index_or}, lemmas.{Bool.{cases_lt, true≢false, eqb-true, eqb-false}, List.{map-append, length-append, get_or_append_left}}, Math.Seq.get_or-append_seam}
 use mathlib.Core.List.{append_assoc, append-nil}
 use Rattle.lay_breaks.specs.{Breaking.IsLegal, Breaking.last_from, Breaking.IsPotential, Spans.listed, declared.costs.Span.Span}
-use Rattle.lay_cert.specs.{Listing.Entry, Listing.IsEntry, Listing.none_forced, Listing.entry_lines, Listing.all_lines, Listing.potential_lines, Places.Place, Places.begun, Places.between, Places.choosing, Places.proving, Places.MayCome, Places.next, Places.Leads, Places.last_tune_from}
-use Rattle.lay_cert.{specs.Told.IsBegun, specs.Told.IsProving, specs.Told.IsGood, specs.Told.lines_of, specs.Told.begun_lines, specs.declared.lines.Line.Line, proofs.Grown.push_potential, proofs.Grown.push_entry, proofs.Grown.push_entries, proofs.Grown.push_span}
-use Rattle.lay_cert.proofs.Grown.{push_legal, listed_within}
+use Rattle.lay_cert.{specs.{Listing.{Entry, IsEntry, none_forced, entry_lines, all_lines, potential_lines}, Places.{Place, begun, between, choosing, proving, MayCome, next, Leads, last_tune_from}, Told.{IsBegun, IsProving, IsGood, lines_of, begun_lines}, declared.lines.Line.Line}, proofs.Grown.{push_potential, push_entry, push_entries, push_span, push_legal, listed_within}}
 
 -- an entry in the making with one more potential
 abbrev pub one_more : Entry → Option ℕ → Entry

@@ -1,10 +1,8 @@
 -- The lines of a listing are good, each after those before it.
-use Rattle.std.proofs.Common.{◌≡◌, ℕ, suc, ◌+◌, ◌<◌, ◌≤◌, List, [], ◌∷◌, ◌++◌, length, map, Option, None, refl, sym, ap, subst, arith, if◌then◌else◌, slice_index_or}
-use Rattle.std.proofs.{lemmas.Bool.eq-eqb, lemmas.Bool.ne_eqb, lemmas.List.length-append}
+use Rattle.std.proofs.{Common.{◌≡◌, ℕ, suc, ◌+◌, ◌<◌, ◌≤◌, List, [], ◌∷◌, ◌++◌, length, map, Option, None, refl, sym, ap, subst, arith, if◌then◌else◌, slice_index_or}, lemmas.{Bool.{eq-eqb, ne_eqb}, List.length-append}}
 use mathlib.Core.List.{append_assoc, append-nil}
 use Rattle.lay_breaks.specs.{Breaking.FitsFrom, Breaking.last_from, Breaking.IsPotential, Spans.SpansFrom, Spans.listed, declared.costs.Span.Span}
-use Rattle.lay_cert.specs.{Listing.Entry, Listing.IsEntry, Listing.EntriesFrom, Listing.none_forced, Listing.entry_lines, Listing.all_lines, Listing.listing_lines, Listing.potential_lines, Places.begun, Places.between, Places.choosing, Places.proving, Places.ended, Places.Leads}
-use Rattle.lay_cert.{specs.Places.last_tune_from, specs.Places.last_span_from, specs.declared.lines.Line.Line, proofs.Grown.push_last_span, proofs.Grown.push_last, proofs.Grown.push_tune, proofs.Steps.leads_both}
+use Rattle.lay_cert.{specs.{Listing.{Entry, IsEntry, EntriesFrom, none_forced, entry_lines, all_lines, listing_lines, potential_lines}, Places.{begun, between, choosing, proving, ended, Leads, last_tune_from, last_span_from}, declared.lines.Line.Line}, proofs.{Grown.{push_last_span, push_last, push_tune}, Steps.leads_both}}
 
 abbrev pub begun_with : ℕ → ℕ → List Span → List ℕ → Entry
 begun_with k n spans breaks = record { tune = k; bars = n; spans = spans; breaks = breaks; total = 0; potentials = [] }

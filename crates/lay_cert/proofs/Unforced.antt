@@ -1,6 +1,5 @@
 -- Spans that pass no forced bar keep each of them.
-use Rattle.std.proofs.Common.{◌≡◌, ℕ, suc, ◌<◌, ◌≤◌, Bool, true, List, [], ◌∷◌, Option, None, is_some, refl, sym, ◌∙◌, ap, subst, arith, inl, inr, Contains}
-use Rattle.std.proofs.lemmas.Bool.{true≢false, cases_order}
+use Rattle.std.proofs.{Common.{◌≡◌, ℕ, suc, ◌<◌, ◌≤◌, Bool, true, List, [], ◌∷◌, Option, None, is_some, refl, sym, ◌∙◌, ap, subst, arith, inl, inr, Contains}, lemmas.Bool.{true≢false, cases_order}}
 use Rattle.lay_breaks.specs.Breaking.{FitsFrom, last_from, IsLegal}
 use Rattle.lay_cert.specs.{Listing.none_forced, Laws.ForcedBySpans}
 

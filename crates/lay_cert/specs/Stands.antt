@@ -1,8 +1,7 @@
 -- How the checker keeps what the lines so far have told.
 use Rattle.std.specs.Prelude.{◌≡◌, ℕ, ◌+◌, ◌≤◌, List, [], length, Option, None, MatchOption, slice_index_or}
 use Rattle.lay_breaks.specs.{Breaking.IsLegal, Breaking.last_from, Breaking.sum_from, Breaking.IsPotential, Spans.AreSpans, Spans.listed}
-use Rattle.lay_cert.specs.{Indexed.IsIndexed, Lines.line_text, Listing.Entry, Listing.none_forced, Places.MayCome, Places.next, Places.last_tune_from, Places.last_span_from, Verdicts.AreVerdicts, Verdicts.IsVerdict, declared.lines.Line.Line, declared.check.Judged.Judged}
-use Rattle.lay_cert.specs.declared.place.{Choosing.Choosing, Proving.Proving, Stage.Stage}
+use Rattle.lay_cert.specs.{Indexed.IsIndexed, Lines.line_text, Listing.{Entry, none_forced}, Places.{MayCome, next, last_tune_from, last_span_from}, Verdicts.{AreVerdicts, IsVerdict}, declared.{lines.Line.Line, check.Judged.Judged, place.{Choosing.Choosing, Proving.Proving, Stage.Stage}}}
 use Rattle.lay_cert.specs.Places as place
 
 -- the entry as far as its spans and breaks are told

@@ -1,7 +1,6 @@
 ghost use Rattle.std.specs.Prelude.{◌≡◌, ◌≢◌, true, false, nat_lt, if◌then◌else◌, length, slice_set, ◌+◌, ◌^◌, ◌<◌, ◌≤◌, ℕ, List, [], ◌∷◌, ◌++◌, Option, Some, IfOk, IfSome, MatchOption, OnOk};
 ghost use Rattle.lay_breaks.specs.{Breaking.last_from, Spans.MayFollow, Spans.listed};
-ghost use Rattle.lay_cert.specs.{Lines.line_text, Listing.Entry, Places.last_tune_from, Stands.IsChoosing, Stands.IsKept, Stands.IsSound, Stands.Stands, Stands.IsStep, Stands.Proves, Stands.entry_of, Stands.whole_of, Verdicts.AreVerdicts};
-ghost use Rattle.lay_cert.specs.declared.check.{Judged.Judged, Verdict.TheVariants.Least, Verdict.TheVariants.NotLeast};
+ghost use Rattle.lay_cert.specs.{Lines.line_text, Listing.Entry, Places.last_tune_from, Stands.{IsChoosing, IsKept, IsSound, Stands, IsStep, Proves, entry_of, whole_of}, Verdicts.AreVerdicts, declared.check.{Judged.Judged, Verdict.TheVariants.{Least, NotLeast}}};
 ghost use Rattle.lay_cert.specs.Places as place;
 ghost use Rattle.lay_cert.specs.declared.lines.Line.TheVariants as line;
 ghost use Rattle.lay_cert.specs.declared.place.Stage.TheVariants as stages;

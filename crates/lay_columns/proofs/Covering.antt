@@ -1,12 +1,9 @@
 -- The reach of a column in a lane covers the boxes of its marks there.
-use Rattle.std.proofs.Common.{◌≡◌, ℕ, zero, suc, ℤ, pos, negsuc, neg_ℤ, ◌≤ℤ◌, ◌⊎◌, ◌+◌, ◌<◌, ◌≤◌, Bool, List, [], ◌∷◌, ◌++◌, map, length, Option, Some, None, refl, sym, ap, ◌∙◌, subst, arith, inl, inr, option_and_then, option_map, slice_get, get_or}
-use Rattle.std.proofs.lemmas.{Bool.cases_lt, Int.ints, List.length-map, List.FromFn.length-map-range_with_len, List.FromFn.get_or-map-range_with_len, Option.none-some, Option.same_Some, Option.slice_get-get_or, Option.slice_get-map}
-use Rattle.std.specs.List.{Contains}
+use Rattle.std.{proofs.{Common.{◌≡◌, ℕ, zero, suc, ℤ, pos, negsuc, neg_ℤ, ◌≤ℤ◌, ◌⊎◌, ◌+◌, ◌<◌, ◌≤◌, Bool, List, [], ◌∷◌, ◌++◌, map, length, Option, Some, None, refl, sym, ap, ◌∙◌, subst, arith, inl, inr, option_and_then, option_map, slice_get, get_or}, lemmas.{Bool.cases_lt, Int.ints, List.{length-map, FromFn.{length-map-range_with_len, get_or-map-range_with_len}}, Option.{none-some, same_Some, slice_get-get_or, slice_get-map}}}, specs.List.Contains}
 use Rattle.mus_time.specs.{Onsets.greatest, declared.keys.ColumnKey.ColumnKey}
 use Rattle.mus_laid.specs.{declared.boxes.Sides.Sides, declared.laid.Laid.Laid, declared.laid.StaffMarks.StaffMarks}
 use Rattle.lay_springs.specs.{declared.traits.Reach.Reach, Place.reach_at}
-use Rattle.lay_columns.specs.{declared.column.Column.Column, Column.most_reach, Column.reach_in, Columns.column_reach, Columns.columns_from, Columns.CoverMarks, Columns.Covers, Lanes.lane_count, Lanes.lane_start, Reaches.box_at, Reaches.boxes_at, Reaches.drawn_reach, Reaches.drawn_row}
-use Rattle.lay_columns.{specs.Reaches.left_of, specs.Reaches.reach_over, specs.Reaches.reaches_of, specs.Reaches.right_of, specs.Reaches.staff_reaches, specs.Reaches.standing, specs.Reaches.stands_always, proofs.Facts.near_all, proofs.Facts.near_over, proofs.Facts.reach_same, proofs.Rows.box_is}
+use Rattle.lay_columns.{specs.{declared.column.Column.Column, Column.{most_reach, reach_in}, Columns.{column_reach, columns_from, CoverMarks, Covers}, Lanes.{lane_count, lane_start}, Reaches.{box_at, boxes_at, drawn_reach, drawn_row, left_of, reach_over, reaches_of, right_of, staff_reaches, standing, stands_always}}, proofs.{Facts.{near_all, near_over, reach_same}, Rows.box_is}}
 
 -- ---- boxes
 abbrev taken : List Sides → Option Sides → List Sides

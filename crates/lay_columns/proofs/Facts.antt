@@ -1,12 +1,9 @@
 -- What is true of each column: it is small, has a place for each lane, and stands where it must.
-use Rattle.std.proofs.Common.{◌≡◌, ℕ, ℤ, pos, negsuc, ◌+◌, ◌-◌, ◌*◌, ◌/◌, ◌^◌, ◌≤◌, min, Bool, true, false, List, [], ◌∷◌, map, length, Option, Some, None, IfSome, refl, sym, ap, ◌∙◌, subst, arith, if◌then◌else◌, option_and_then, slice_get, get_or}
-use Rattle.std.proofs.lemmas.{List.length-append, List.length-map, List.length-replicate, List.Elements.All-append, List.Elements.All-cons, List.Elements.All-map, List.Elements.All-nil, List.FromFn.length-map-range_with_len, Option.slice_get-get_or, Option.slice_get_within}
-use Rattle.std.{proofs.lemmas.Option.get_or_from_slice_get, specs.List.All, specs.List.find, specs.List.range_with_len}
+use Rattle.std.{proofs.{Common.{◌≡◌, ℕ, ℤ, pos, negsuc, ◌+◌, ◌-◌, ◌*◌, ◌/◌, ◌^◌, ◌≤◌, min, Bool, true, false, List, [], ◌∷◌, map, length, Option, Some, None, IfSome, refl, sym, ap, ◌∙◌, subst, arith, if◌then◌else◌, option_and_then, slice_get, get_or}, lemmas.{List.{length-append, length-map, length-replicate, Elements.{All-append, All-cons, All-map, All-nil}, FromFn.length-map-range_with_len}, Option.{slice_get-get_or, slice_get_within, get_or_from_slice_get}}}, specs.List.{All, find, range_with_len}}
 use Rattle.mus_time.specs.{Onsets.greatest, declared.keys.ColumnKey.ColumnKey}
 use Rattle.mus_laid.specs.{declared.boxes.Sides.Sides, declared.laid.Laid.Laid, declared.laid.StaffMarks.StaffMarks}
 use Rattle.lay_springs.specs.{declared.traits.Reach.Reach, Fit.StandsInAll}
-use Rattle.lay_columns.specs.{declared.column.Column.Column, Column.cut_reach, Column.length_at, Column.most_reach, Column.reach_in, Columns.columns_from, Columns.IsNear, Columns.IsSmall, Columns.IsUncut, Columns.StandsWhereDue, Lanes.gaps_of, Lanes.lane_count, Lanes.staff_gaps, Naturals.is_note}
-use Rattle.lay_columns.specs.{Naturals.is_note_of, Naturals.natural_for, Naturals.natural_of, Naturals.tick_or_end, Reaches.drawn_reach, Reaches.drawn_row, Reaches.left_of, Reaches.reach_over, Reaches.reaches_of, Reaches.right_of, Reaches.staff_reaches, Reaches.standing, Reaches.stands_always}
+use Rattle.lay_columns.specs.{declared.column.Column.Column, Column.{cut_reach, length_at, most_reach, reach_in}, Columns.{columns_from, IsNear, IsSmall, IsUncut, StandsWhereDue}, Lanes.{gaps_of, lane_count, staff_gaps}, Naturals.{is_note, is_note_of, natural_for, natural_of, tick_or_end}, Reaches.{drawn_reach, drawn_row, left_of, reach_over, reaches_of, right_of, staff_reaches, standing, stands_always}}
 
 -- ---- small
 left_near : (z : ℤ) → left_of z ≤ most_reach

@@ -1,11 +1,8 @@
 -- Columns of two lists of measures, one after the other.
-use Rattle.std.proofs.Common.{◌≡◌, ◌≢◌, ℕ, ◌+◌, ◌-◌, ◌<◌, ◌==◌, Bool, true, false, List, [], ◌∷◌, ◌++◌, map, length, Option, Some, None, refl, ap, ◌∙◌, arith, if◌then◌else◌, get_or}
-use Rattle.std.{proofs.lemmas.List.append-nil, proofs.lemmas.List.Elements.All-head, proofs.lemmas.List.Elements.All-tail, specs.List.All, specs.List.find}
+use Rattle.std.{proofs.{Common.{◌≡◌, ◌≢◌, ℕ, ◌+◌, ◌-◌, ◌<◌, ◌==◌, Bool, true, false, List, [], ◌∷◌, ◌++◌, map, length, Option, Some, None, refl, ap, ◌∙◌, arith, if◌then◌else◌, get_or}, lemmas.List.{append-nil, Elements.{All-head, All-tail}}}, specs.List.{All, find}}
 use Rattle.mus_time.specs.declared.keys.ColumnKey.{ColumnKey}
 use Rattle.mus_laid.specs.{Boxes.sides_of, declared.boxes.Sides.Sides, declared.laid.Laid.Laid, declared.laid.Mark.Mark, declared.laid.StaffMarks.StaffMarks}
-use Rattle.lay_columns.specs.{Columns.columns_from, Joining.ColumnsJoin, Joining.IsBelow, Joining.MarksJoin, Joining.moved, Joining.moved_mark, Joining.OfOtherMeasures, Joining.StavesJoin, Lanes.lane_count, Naturals.is_note, Naturals.is_note_of, Naturals.natural_for, Naturals.natural_of}
-use Rattle.lay_columns.specs.{Naturals.tick_or_end, Reaches.box_at, Reaches.boxes_at, Reaches.drawn_reach, Reaches.is_number, Reaches.rank_of, Reaches.reach_over, Reaches.reaches_of, Reaches.staff_reaches, Reaches.standing, Reaches.stands_always}
-use Rattle.lay_columns.proofs.Rows.{same_range}
+use Rattle.lay_columns.{specs.{Columns.columns_from, Joining.{ColumnsJoin, IsBelow, MarksJoin, moved, moved_mark, OfOtherMeasures, StavesJoin}, Lanes.lane_count, Naturals.{is_note, is_note_of, natural_for, natural_of, tick_or_end}, Reaches.{box_at, boxes_at, drawn_reach, is_number, rank_of, reach_over, reaches_of, staff_reaches, standing, stands_always}}, proofs.Rows.same_range}
 
 -- ---- reaches
 staff_same : (always : Bool) (rank rank' : ℕ) (marks marks' : List Laid) (verses : ℕ) → ((lane : ℕ) → boxes_at rank lane marks ≡ boxes_at rank' lane marks')

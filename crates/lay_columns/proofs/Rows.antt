@@ -1,6 +1,5 @@
 -- The reaches of a column in a staff's lanes, mark by mark.
-use Rattle.std.proofs.Common.{◌≡◌, ◌≢◌, ℕ, ◌<◌, ◌&&◌, ◌==◌, max, true, List, [], ◌∷◌, ◌++◌, map, length, Option, Some, None, refl, sym, ap, ◌∙◌, subst, arith, inl, inr, if◌then◌else◌, nat_lt, filter_map, get_or, set, get_or-set_same, get_or-set_other}
-use Rattle.std.{proofs.lemmas.Bool.cases_eq, proofs.lemmas.List.append-nil, proofs.lemmas.List.length-set, proofs.lemmas.List.FromFn.fill_by_all, proofs.lemmas.List.FromFn.length-map-range_with_len, proofs.lemmas.List.FromFn.get_or-map-range_with_len, specs.List.range_with_len}
+use Rattle.std.{proofs.{Common.{◌≡◌, ◌≢◌, ℕ, ◌<◌, ◌&&◌, ◌==◌, max, true, List, [], ◌∷◌, ◌++◌, map, length, Option, Some, None, refl, sym, ap, ◌∙◌, subst, arith, inl, inr, if◌then◌else◌, nat_lt, filter_map, get_or, set, get_or-set_same, get_or-set_other}, lemmas.{Bool.cases_eq, List.{append-nil, length-set, FromFn.{fill_by_all, length-map-range_with_len, get_or-map-range_with_len}}}}, specs.List.range_with_len}
 use Rattle.mus_time.specs.Onsets.{greatest}
 use Rattle.mus_laid.specs.{Boxes.sides_of, declared.boxes.Sides.Sides, declared.laid.Laid.Laid}
 use Rattle.lay_springs.specs.declared.traits.Reach.{Reach}

@@ -1,12 +1,9 @@
 -- Bare columns, widened by the marks of each staff, have the reaches of their marks.
-use Rattle.std.proofs.Common.{◌≡◌, ◌≢◌, ℕ, zero, suc, ◌+◌, ◌<◌, ◌≤◌, ◌&&◌, ◌==◌, max, Bool, true, false, List, [], ◌∷◌, ◌++◌, map, length, replicate, Option, Some, None, refl, sym, ap, ◌∙◌, subst, arith, if◌then◌else◌, nat_lt}
-use Rattle.std.{proofs.lemmas.List.append-nil, proofs.lemmas.List.append_assoc, proofs.lemmas.List.length-append, proofs.lemmas.List.length-map, specs.List.range_with_len}
+use Rattle.std.{proofs.{Common.{◌≡◌, ◌≢◌, ℕ, zero, suc, ◌+◌, ◌<◌, ◌≤◌, ◌&&◌, ◌==◌, max, Bool, true, false, List, [], ◌∷◌, ◌++◌, map, length, replicate, Option, Some, None, refl, sym, ap, ◌∙◌, subst, arith, if◌then◌else◌, nat_lt}, lemmas.List.{append-nil, append_assoc, length-append, length-map}}, specs.List.range_with_len}
 use Rattle.mus_laid.specs.{Boxes.sides_of, declared.boxes.Sides.Sides, declared.laid.Laid.Laid, declared.laid.StaffMarks.StaffMarks}
 use Rattle.mus_time.specs.declared.keys.ColumnKey.{ColumnKey}
 use Rattle.lay_springs.specs.declared.traits.Reach.{Reach}
-use Rattle.lay_columns.specs.{declared.column.Column.Column, Columns.columns_from, Columns.columns_of, Lanes.lane_count, Lanes.lane_number, Lanes.lanes_of, Naturals.natural_of, Reaches.box_at, Reaches.drawn_row, Reaches.left_of, Reaches.rank_of, Reaches.reaches_of, Reaches.right_of}
-use Rattle.lay_columns.specs.{Reaches.staff_reaches, Reaches.standing, Reaches.stands_always, Widened.bare_columns, Widened.place_of, Widened.widened, Widened.widened_at, Widened.widened_by, Widened.widened_by_mark, Widened.widened_by_marks, Widened.widened_by_staves, Widened.widened_row}
-use Rattle.lay_columns.{specs.Widened.with_widened, proofs.Covering.row_long, proofs.Rows.box_is, proofs.Rows.none_more, proofs.Rows.row_length, proofs.Rows.row_more}
+use Rattle.lay_columns.{specs.{declared.column.Column.Column, Columns.{columns_from, columns_of}, Lanes.{lane_count, lane_number, lanes_of}, Naturals.natural_of, Reaches.{box_at, drawn_row, left_of, rank_of, reaches_of, right_of, staff_reaches, standing, stands_always}, Widened.{bare_columns, place_of, widened, widened_at, widened_by, widened_by_mark, widened_by_marks, widened_by_staves, widened_row, with_widened}}, proofs.{Covering.row_long, Rows.{box_is, none_more, row_length, row_more}}}
 
 -- ---- one place of a row
 row_next : (x : Option Reach) (row : List (Option Reach)) (place : ℕ) (box : Sides) → widened_row (x ∷ row) (suc place) box ≡ x ∷ widened_row row place box

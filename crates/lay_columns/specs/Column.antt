@@ -1,6 +1,5 @@
 -- What a column answers where it is placed: its reach in a lane, and its spring at a force.
-use Rattle.std.specs.Prelude.{◌≡◌, ℕ, ◌*◌, ◌/◌, ◌^◌, ◌<◌, ◌≤◌, min, List, Option, Some, None, IfSome, option_map, option_and_then, slice_get}
-use Rattle.std.proofs.Common.{arith}
+use Rattle.std.{specs.Prelude.{◌≡◌, ℕ, ◌*◌, ◌/◌, ◌^◌, ◌<◌, ◌≤◌, min, List, Option, Some, None, IfSome, option_map, option_and_then, slice_get}, proofs.Common.arith}
 use Rattle.lay_springs.specs.declared.traits.Reach.{Reach}
 
 -- no reach passes it

@@ -1,7 +1,6 @@
 -- How far a column reaches in a lane: as far as the boxes of its marks there, to the left and to the
 -- right, at least 0, and cut at 2^20.
-use Rattle.std.specs.Prelude.{ℕ, ℤ, pos, negsuc, ◌+◌, min, Bool, true, false, ◌&&◌, ◌==◌, if◌then◌else◌, List, [], ◌∷◌, ◌++◌, map, filter_map, Option, Some, None}
-use Rattle.std.specs.List.{range_with_len}
+use Rattle.std.specs.{Prelude.{ℕ, ℤ, pos, negsuc, ◌+◌, min, Bool, true, false, ◌&&◌, ◌==◌, if◌then◌else◌, List, [], ◌∷◌, ◌++◌, map, filter_map, Option, Some, None}, List.range_with_len}
 use Rattle.mus_time.specs.{Onsets.greatest, declared.keys.Class.Class}
 use Rattle.mus_laid.specs.{Boxes.sides_of, declared.boxes.Sides.Sides, declared.laid.Mark.Mark, declared.laid.Laid.Laid, declared.laid.StaffMarks.StaffMarks}
 use Rattle.lay_springs.specs.declared.traits.Reach.{Reach}

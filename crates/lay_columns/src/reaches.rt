@@ -1,7 +1,6 @@
 ghost use Rattle.std.specs.Prelude.{◌≡◌, ◌+◌, ◌^◌, ◌<◌, length};
 ghost use Rattle.mus_laid.specs.Boxes.{AreGoodMarks, IsGoodMark};
-ghost use Rattle.lay_columns.specs.{Lanes.lane_number, Lanes.lanes_of, Reaches.left_of, Reaches.right_of, Reaches.rank_of};
-ghost use Rattle.lay_columns.specs.Widened.{AreGoodStaves, place_of, widened, widened_row, widened_column, widened_at, widened_by_mark, widened_by_marks, widened_by_staves};
+ghost use Rattle.lay_columns.specs.{Lanes.{lane_number, lanes_of}, Reaches.{left_of, right_of, rank_of}, Widened.{AreGoodStaves, place_of, widened, widened_row, widened_column, widened_at, widened_by_mark, widened_by_marks, widened_by_staves}};
 
 use crate::column::{Column, MOST_REACH};
 use crate::lanes::{lane_count, lane_number};

@@ -1,10 +1,7 @@
 -- What is true of the columns of one measure: they stand in it, the last is its bar, and texts are short.
-use Rattle.std.proofs.Common.{◌≡◌, ◌∙◌, ℕ, zero, suc, ◌+◌, ◌-◌, ◌<◌, ◌≤◌, Bool, true, false, List, [], ◌∷◌, length, map, take, drop, Some, Ok, Err, IfOk, Result, refl, sym, ap, subst, arith}
-use Rattle.std.{proofs.lemmas.Bool.Decides.nat_tests, proofs.lemmas.List.Elements.All-from_recursion, proofs.lemmas.List.Elements.Contains-append_left, proofs.lemmas.List.Elements.Contains-append_right, proofs.lemmas.List.Elements.recursion_from_All, specs.List.All, specs.List.AllByRecursion}
-use Rattle.std.specs.List.{Contains, flat_map, slice_index, slice_range}
+use Rattle.std.{proofs.{Common.{◌≡◌, ◌∙◌, ℕ, zero, suc, ◌+◌, ◌-◌, ◌<◌, ◌≤◌, Bool, true, false, List, [], ◌∷◌, length, map, take, drop, Some, Ok, Err, IfOk, Result, refl, sym, ap, subst, arith}, lemmas.{Bool.Decides.nat_tests, List.Elements.{All-from_recursion, Contains-append_left, Contains-append_right, recursion_from_All}}}, specs.List.{All, AllByRecursion, Contains, flat_map, slice_index, slice_range}}
 use Rattle.mus_score.specs.{declared.score.Measure.Measure, declared.score.Score.Score, declared.score.Voice.Voice, Seats.is_lower, Times.flats_of, GoodScore.IsGoodScore, GoodScore.IsLed}
-use Rattle.mus_time.specs.{declared.keys.Class.Class, declared.keys.ColumnKey.ColumnKey, Keys.all_keys, Keys.AreKeys, Keys.bar_key, Keys.called_keys, Keys.events_keys, Keys.first_keys, Keys.further_keys, Keys.IsInSystem, Keys.key_at, Keys.keys_by, Keys.measures_keys, Keys.signed_at, Order.BelowAll}
-use Rattle.mus_time.specs.Order.{is_below, Rises}
+use Rattle.mus_time.specs.{declared.keys.{Class.Class, ColumnKey.ColumnKey}, Keys.{all_keys, AreKeys, bar_key, called_keys, events_keys, first_keys, further_keys, IsInSystem, key_at, keys_by, measures_keys, signed_at}, Order.{BelowAll, is_below, Rises}}
 use Rattle.mus_drawn.specs.{declared.drawn.DrawnMeasure.DrawnMeasure, declared.drawn.DrawnVoice.DrawnVoice}
 use Rattle.mus_laid.specs.Boxes.{AreGoodMarks}
 use Rattle.mus_stems.proofs.RunLaws.{all_append, all_drop, all_take}

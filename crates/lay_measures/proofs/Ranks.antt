@@ -1,15 +1,12 @@
 -- Ranks among the keys of a system and those of a further measure, and the keys of slots.
-use Rattle.std.proofs.Common.{◌≡◌, ◌∙◌, ℕ, zero, suc, ◌+◌, ◌-◌, ◌<◌, ◌≤◌, Bool, true, false, ◌==◌, ◌&&◌, ◌||◌, not, if◌then◌else◌, List, [], ◌∷◌, ◌++◌, length, take, drop, refl, sym, ap, subst, arith}
-use Rattle.std.{proofs.lemmas.Bool.Decides.nat_tests, proofs.lemmas.List.Elements.Contains-append_right, proofs.lemmas.List.Sums.sum_by-cons, specs.List.AllByRecursion, specs.List.Contains, specs.List.slice_get, specs.List.slice_index, specs.List.slice_range}
+use Rattle.std.{proofs.{Common.{◌≡◌, ◌∙◌, ℕ, zero, suc, ◌+◌, ◌-◌, ◌<◌, ◌≤◌, Bool, true, false, ◌==◌, ◌&&◌, ◌||◌, not, if◌then◌else◌, List, [], ◌∷◌, ◌++◌, length, take, drop, refl, sym, ap, subst, arith}, lemmas.{Bool.Decides.nat_tests, List.{Elements.Contains-append_right, Sums.sum_by-cons}}}, specs.List.{AllByRecursion, Contains, slice_get, slice_index, slice_range}}
 use Rattle.mus_units.specs.{declared.note.Bar.Bar, declared.pitch.Clef.Clef}
 use Rattle.mus_score.specs.{declared.score.Event.Event, declared.score.Flat.Flat, declared.score.Measure.Measure, declared.score.Seat.Seat, declared.score.Voice.Voice, Good.total_ticks, Seats.is_lower, Times.flats_of}
 use Rattle.mus_stems.{specs.declared.plans.StemPlan.StemPlan, proofs.RunLaws.all_append}
-use Rattle.mus_time.specs.{declared.keys.Class.Class, declared.keys.ColumnKey.ColumnKey, Keys.bar_key, Keys.events_keys, Keys.has_features, Keys.key_at, Keys.measures_keys, Keys.signed_through, Onsets.length_in, Onsets.ticks_of_some, Order.class_number, Order.is_below, Order.rank_of}
-use Rattle.mus_time.proofs.{Orders.lower, RankLaws.rank_most}
+use Rattle.mus_time.{specs.{declared.keys.{Class.Class, ColumnKey.ColumnKey}, Keys.{bar_key, events_keys, has_features, key_at, measures_keys, signed_through}, Onsets.{length_in, ticks_of_some}, Order.{class_number, is_below, rank_of}}, proofs.{Orders.lower, RankLaws.rank_most}}
 use Rattle.mus_ink.specs.{declared.graces.Group.Group, Bars.bar_marks, Decos.note_marks, Graces.group_of}
 use Rattle.mus_laid.specs.declared.drawn.Drawn.{Drawn}
-use Rattle.mus_drawn.specs.{declared.drawn.DrawnEvent.DrawnEvent, declared.drawn.DrawnMeasure.DrawnMeasure, declared.drawn.Style.Style, declared.standing.Standing.Standing}
-use Rattle.mus_drawn.specs.Drawn.{drawn_events, drawn_measure, drawn_measures, drawn_voice, raise_of, standing_after, standing_behind, standing_of, style_of}
+use Rattle.mus_drawn.specs.{declared.{drawn.{DrawnEvent.DrawnEvent, DrawnMeasure.DrawnMeasure, Style.Style}, standing.Standing.Standing}, Drawn.{drawn_events, drawn_measure, drawn_measures, drawn_voice, raise_of, standing_after, standing_behind, standing_of, style_of}}
 use Rattle.mus_marks.specs.Events.{levels_behind, levels_in, note_key}
 use Rattle.lay_measures.proofs.Slots.{Slot, bar_slots, change_slots, columns_slots, event_slots, events_slots, first_slots, graces_slots, head_slots, measures_slots, slot, words_of}
 

@@ -1,9 +1,6 @@
 -- A group that fits where it begins: each of its blocks lies on the page, and so does what follows.
-use Rattle.std.proofs.Common.{◌≡◌, refl, ap, sym, ◌∙◌, ℕ, suc, ◌+◌, ◌≤◌, ◌^◌, ℤ, pos, negsuc, ◌-ℤ◌, ◌≤ℤ◌, Bool, true, false, not, List, [], ◌∷◌, ◌++◌, append_assoc, length, subst, arith}
-use Rattle.std.proofs.{lemmas.Bool.Decides.nat_tests, lemmas.Int.ints}
-use Rattle.std.specs.Prelude.{◌==◌, ◌&&◌, ◌||◌, nat_le, nat_lt, Option, Some, None}
-use Rattle.lay_pages.specs.Filling.{AreGoodBlocks, CanFollow, IsLoose, down_behind, first_place, height_of, with_kept, group_height, under, place_by, next_place, spot_at, spots_from, standing_from, tall_by, tall_from, AreWithin}
-use Rattle.lay_pages.specs.declared.filling.{Block.Block, Place.Place, Spot.Spot, Standing.Standing}
+use Rattle.std.{proofs.{Common.{◌≡◌, refl, ap, sym, ◌∙◌, ℕ, suc, ◌+◌, ◌≤◌, ◌^◌, ℤ, pos, negsuc, ◌-ℤ◌, ◌≤ℤ◌, Bool, true, false, not, List, [], ◌∷◌, ◌++◌, append_assoc, length, subst, arith}, lemmas.{Bool.Decides.nat_tests, Int.ints}}, specs.Prelude.{◌==◌, ◌&&◌, ◌||◌, nat_le, nat_lt, Option, Some, None}}
+use Rattle.lay_pages.specs.{Filling.{AreGoodBlocks, CanFollow, IsLoose, down_behind, first_place, height_of, with_kept, group_height, under, place_by, next_place, spot_at, spots_from, standing_from, tall_by, tall_from, AreWithin}, declared.filling.{Block.Block, Place.Place, Spot.Spot, Standing.Standing}}
 
 -- the group that begins here ends on the page, and no group from here on is too tall
 pub record IsReady (high : ℕ) (place : Place) (blocks : List Block) : Type 0 where

@@ -1,11 +1,7 @@
 -- Blocks parted into pages that fit: each lies on its page, each comes behind the one before it, and one parting is chosen.
-use Rattle.std.proofs.Common.{◌≡◌, refl, ap, sym, ◌∙◌, subst, ℕ, zero, suc, ◌+◌, ◌-◌, ◌≤◌, ℤ, pos, negsuc, ◌≤ℤ◌, Bool, true, false, not, List, [], ◌∷◌, ◌++◌, append_assoc, length, take, drop, arith}
-use Rattle.std.specs.Prelude.{◌==◌, ◌&&◌, nat_le, if◌then◌else◌, IfOk, IsSome, Some, None, Result, Ok, Err}
-use Rattle.std.proofs.{lemmas.Bool.Decides.nat_tests, lemmas.Int.ints, lemmas.List.drop-drop, lemmas.List.drop_all, Math.Seq.drop-nil, lemmas.List.Elements.All-drop, lemmas.List.Elements.All-head}
+use Rattle.std.{proofs.{Common.{◌≡◌, refl, ap, sym, ◌∙◌, subst, ℕ, zero, suc, ◌+◌, ◌-◌, ◌≤◌, ℤ, pos, negsuc, ◌≤ℤ◌, Bool, true, false, not, List, [], ◌∷◌, ◌++◌, append_assoc, length, take, drop, arith}, lemmas.{Bool.Decides.nat_tests, Int.ints, List.{drop-drop, drop_all, Elements.{All-drop, All-head}}}, Math.Seq.drop-nil}, specs.Prelude.{◌==◌, ◌&&◌, nat_le, if◌then◌else◌, IfOk, IsSome, Some, None, Result, Ok, Err}}
 use Rattle.lay_breaks.{specs.Breaking.FitsFrom, specs.Breaking.IsChosen, specs.Breaking.NoneLegal, specs.Breaking.RisesFrom, specs.Breaking.last_from, proofs.Unique.one_is_chosen}
-use Rattle.lay_pages.specs.Even.{AreEven, AreFitting, AreHeights, AreSpots, AreStacked, ComesBehind, ComeBehind, ends_behind, ends_page, groups_behind, filled, parted, group_heights, heights_from, page_cost, page_height, parted_from, parted_spots, place_behind, span_height, square, stacked, turns}
-use Rattle.lay_pages.specs.{declared.filling.Block.Block, declared.filling.Place.Place, declared.filling.Spot.Spot, declared.filling.PageError.PageError, Filling.AreGoodBlocks, Filling.AreFilled, Filling.AreWithin, Filling.FollowOn, Filling.Follows, Filling.same_page, Filling.next_page}
-use Rattle.lay_pages.{specs.Filling.group_height, specs.Filling.height_of, specs.Filling.spot_at, specs.Filling.with_kept, proofs.Filled.at_top, proofs.Filled.below, proofs.Fitting.bottom_within, proofs.Fitting.first_low, proofs.Fitting.top_within}
+use Rattle.lay_pages.{specs.{Even.{AreEven, AreFitting, AreHeights, AreSpots, AreStacked, ComesBehind, ComeBehind, ends_behind, ends_page, groups_behind, filled, parted, group_heights, heights_from, page_cost, page_height, parted_from, parted_spots, place_behind, span_height, square, stacked, turns}, declared.filling.{Block.Block, Place.Place, Spot.Spot, PageError.PageError}, Filling.{AreGoodBlocks, AreFilled, AreWithin, FollowOn, Follows, same_page, next_page, group_height, height_of, spot_at, with_kept}}, proofs.{Filled.{at_top, below}, Fitting.{bottom_within, first_low, top_within}}}
 use Rattle.lay_pages.specs.Even as even
 
 -- ---- a legal breaking of the groups has pages that fit

@@ -1,7 +1,6 @@
 -- Blocks on pages of which none is emptier than it must be: the groups of the blocks are parted into pages so that what the pages
 -- cost together is least. A parting is a breaking of the groups: the numbers of groups up to the end of each page.
-use Rattle.std.specs.Prelude.{◌≡◌, ◌<◌, ◌≤◌, ⊤, ℕ, zero, suc, ◌+◌, ◌-◌, ◌*◌, ◌/◌, ◌^◌, ◌==◌, nat_le, ℤ, pos, ◌≤ℤ◌, Bool, true, false, not, ◌&&◌, if◌then◌else◌, List, [], ◌∷◌, length, take, drop, Option, Some, None, IfSome, All, refl}
-use Rattle.std.proofs.{Common.arith, Common.ap, lemmas.Bool.Decides.nat_tests}
+use Rattle.std.{specs.Prelude.{◌≡◌, ◌<◌, ◌≤◌, ⊤, ℕ, zero, suc, ◌+◌, ◌-◌, ◌*◌, ◌/◌, ◌^◌, ◌==◌, nat_le, ℤ, pos, ◌≤ℤ◌, Bool, true, false, not, ◌&&◌, if◌then◌else◌, List, [], ◌∷◌, length, take, drop, Option, Some, None, IfSome, All, refl}, proofs.{Common.{arith, ap}, lemmas.Bool.Decides.nat_tests}}
 use Rattle.lay_breaks.specs.Breaking.{IsChosen}
 use Rattle.lay_pages.specs.{declared.filling.Block.Block, declared.filling.Spot.Spot, declared.filling.Place.Place, Filling.BeginOn, Filling.group_height, Filling.height_of, Filling.place_by, Filling.spot_at, Filling.spots_of, Filling.top_under, Filling.under}
 

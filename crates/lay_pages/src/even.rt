@@ -1,7 +1,6 @@
 ghost use Rattle.std.specs.Prelude.{◌≡◌, ◌<◌, ◌≤◌, ◌-◌, ◌^◌, pos, ◌≤ℤ◌, false, refl, true, All, length, IfOk, IfErr, None};
 ghost use Rattle.lay_breaks.specs.Breaking.{IsChosen};
-ghost use Rattle.lay_pages.specs.Even.{AreFitting, AreHeights, AreSpots, AreStacked, ends_behind, group_heights, groups_behind, cost_small, cost_stops, page_cost, page_height, parted_spots, place_behind, turns};
-ghost use Rattle.lay_pages.specs.Filling.{AreGoodBlocks, AreWithin, IsPageError, first_tall};
+ghost use Rattle.lay_pages.specs.{Even.{AreFitting, AreHeights, AreSpots, AreStacked, ends_behind, group_heights, groups_behind, cost_small, cost_stops, page_cost, page_height, parted_spots, place_behind, turns}, Filling.{AreGoodBlocks, AreWithin, IsPageError, first_tall}};
 
 use crate::filling::{
     Block, PageError, Place, Spot, fill, first_tall, group_height, height_of, spot_at,

@@ -1,8 +1,5 @@
 -- The score that is drawn is a good one.
-use Rattle.std.proofs.Common.{◌≡◌, ◌≢◌, refl, sym, ap, ◌∙◌, subst, ℕ, zero, suc, ◌+◌, ◌*◌, ◌<◌, ◌≤◌, List, [], ◌∷◌, ◌++◌, Bool, true, false, length, map, arith, inl, inr}
-use Rattle.std.specs.Prelude.{All, AllPairs, Option, Some, None, flat_map, slice_get, sum_by}
-use Rattle.std.proofs.lemmas.{Bool.cases_lt, List.map-append, List.Sums.sum_by-append, List.Sums.sum_by-cons, List.Elements.All-from_recursion, Option.get_or_from_slice_get, Option.slice_get_cases, Option.slice_get_within}
-use Rattle.std.specs.{List.AllByRecursion, Option.option_to_list}
+use Rattle.std.{proofs.{Common.{◌≡◌, ◌≢◌, refl, sym, ap, ◌∙◌, subst, ℕ, zero, suc, ◌+◌, ◌*◌, ◌<◌, ◌≤◌, List, [], ◌∷◌, ◌++◌, Bool, true, false, length, map, arith, inl, inr}, lemmas.{Bool.cases_lt, List.{map-append, Sums.{sum_by-append, sum_by-cons}, Elements.All-from_recursion}, Option.{get_or_from_slice_get, slice_get_cases, slice_get_within}}}, specs.{Prelude.{All, AllPairs, Option, Some, None, flat_map, slice_get, sum_by}, List.AllByRecursion, Option.option_to_list}}
 use Rattle.mus_score.{specs.declared.score.Score.Score, specs.declared.score.Voice.Voice, specs.Seats.is_lower, specs.Walks.Distinct, specs.GoodScore.IsGoodScore, specs.GoodScore.IsGoodVoice, specs.GoodScore.IsLed, specs.GoodScore.voice_weight, proofs.Scores.distinct_pairs}
 use Rattle.lay_shared.specs.{declared.drawing.Sit.Sit, declared.plan.Plan.Plan, declared.plan.PlannedStaff.PlannedStaff, Drawn.drawn_at, Drawn.drawn_of, Drawn.gap_of, Drawn.leading, Drawn.lower, Drawn.seated, Drawn.sit, Drawn.sits_of, Drawn.staff_sits, Plans.IsOnce, Plans.IsPlanFor, Plans.voices_of}
 

@@ -1,6 +1,5 @@
 -- A loop over a list that ends at the first element of which something doesn't hold.
-use Rattle.std.proofs.Common.{ℕ, List, drop}
-use Rattle.std.specs.List.{AllByRecursion}
+use Rattle.std.{proofs.Common.{ℕ, List, drop}, specs.List.AllByRecursion}
 
 -- what holds of all that are left decides what holds of all
 pub record Settles {X : Type 0} (P : X → Type 0) (xs : List X) (i : ℕ) : Type 0 where

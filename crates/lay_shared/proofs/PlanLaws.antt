@@ -1,11 +1,7 @@
 -- What is read of a `%%score` line is the plan that it spells.
-use Rattle.std.proofs.Common.{◌≡◌, ◌≢◌, refl, sym, ap, ◌∙◌, subst, ℕ, ◌<◌, ◌≤◌, List, [], ◌∷◌, ◌++◌, Bool, true, false, length, arith, append-nil, append_assoc, eqb-true, le-leb, leb-true, eq-eqb, true≢false, map, ◌^◌}
-use Rattle.std.specs.Prelude.{◌==◌, not, nat_le, flat_map, AllPairs, IfSome, Option, Some, None}
-use Rattle.std.{proofs.lemmas.Bool.and_parts, proofs.lemmas.Grind.flat_map-append, proofs.lemmas.List.Elements.All-from_recursion, proofs.lemmas.List.get_or-map, proofs.lemmas.List.length-map, specs.List.AllByRecursion, specs.List.list_all, specs.List.list_any}
+use Rattle.std.{proofs.{Common.{◌≡◌, ◌≢◌, refl, sym, ap, ◌∙◌, subst, ℕ, ◌<◌, ◌≤◌, List, [], ◌∷◌, ◌++◌, Bool, true, false, length, arith, append-nil, append_assoc, eqb-true, le-leb, leb-true, eq-eqb, true≢false, map, ◌^◌}, lemmas.{Bool.and_parts, Grind.flat_map-append, List.{Elements.All-from_recursion, get_or-map, length-map}}}, specs.{Prelude.{◌==◌, not, nat_le, flat_map, AllPairs, IfSome, Option, Some, None}, List.{AllByRecursion, list_all, list_any}}}
 use Rattle.mus_score.specs.{declared.score.Score.Score, declared.score.Voice.Voice, GoodScore.IsGoodScore}
-use Rattle.lay_shared.specs.{declared.plan.Plan.Plan, declared.plan.PlannedStaff.PlannedStaff, declared.signs.Sign.Sign, Signs.Writes, Plans.IsOnce, Plans.IsPlanFor, Plans.Spells, Plans.ids_of, Plans.named, Plans.voices_of, Reading.is_fair, Reading.is_once, Reading.plan_by, Reading.plan_if}
-use Rattle.lay_shared.specs.{Reading.run, Reading.signs_from, Reading.start, Trees.Trees, Trees.no_tree, Trees.voice_tree, Trees.staff_tree, Trees.group_tree, Trees.voice_signs, Trees.tree_signs, Trees.shares_of, Trees.group_of, Trees.staves_of}
-use Rattle.lay_shared.proofs.{SignLaws.AreApart, SignLaws.is_known, SignLaws.text-read, SignLaws.text-written, TreeLaws.run-trees, TreeLaws.trees-run}
+use Rattle.lay_shared.{specs.{declared.{plan.{Plan.Plan, PlannedStaff.PlannedStaff}, signs.Sign.Sign}, Signs.Writes, Plans.{IsOnce, IsPlanFor, Spells, ids_of, named, voices_of}, Reading.{is_fair, is_once, plan_by, plan_if, run, signs_from, start}, Trees.{Trees, no_tree, voice_tree, staff_tree, group_tree, voice_signs, tree_signs, shares_of, group_of, staves_of}}, proofs.{SignLaws.{AreApart, is_known, text-read, text-written}, TreeLaws.{run-trees, trees-run}}}
 
 -- ---- no voice twice
 same_if : (v w : ℕ) (same : Bool) → (w == v) ≡ same → same ≡ false → v ≢ w

@@ -1,7 +1,5 @@
 -- The signs that are read of a text are those that it writes.
-use Rattle.std.proofs.Common.{◌≡◌, ◌≢◌, refl, sym, ap, ◌∙◌, subst, ℕ, ◌<◌, ◌≤◌, List, [], ◌∷◌, ◌++◌, Bool, true, false, length, arith, eqb-true, lt-ltb, append-nil, append_assoc}
-use Rattle.std.specs.Prelude.{◌==◌, AllPairs, Option, Some, None, IfSome}
-use Rattle.std.{proofs.lemmas.Bool.and_parts, proofs.lemmas.List.Quantifiers.position-Some, proofs.lemmas.List.Sums.position_or_len_is, proofs.lemmas.Slice.Eq.bytes_eq-Decides, specs.List.list_all, specs.List.position_or_len, specs.Option.option_to_list, specs.Str.bytes_eq}
+use Rattle.std.{proofs.{Common.{◌≡◌, ◌≢◌, refl, sym, ap, ◌∙◌, subst, ℕ, ◌<◌, ◌≤◌, List, [], ◌∷◌, ◌++◌, Bool, true, false, length, arith, eqb-true, lt-ltb, append-nil, append_assoc}, lemmas.{Bool.and_parts, List.{Quantifiers.position-Some, Sums.position_or_len_is}, Slice.Eq.bytes_eq-Decides}}, specs.{Prelude.{◌==◌, AllPairs, Option, Some, None, IfSome}, List.{list_all, position_or_len}, Option.option_to_list, Str.bytes_eq}}
 use Rattle.lay_shared.specs.{declared.signs.Sign.Sign, declared.signs.Bracket.Bracket, Signs.is_passed, Signs.sign_at, Signs.is_id, Signs.id_at, Signs.spelled, Signs.BeginsNoId, Signs.Stands, Signs.Writes, Reading.place_of, Reading.voice_sign, Reading.word_signs, Reading.signs_from}
 
 -- ---- bytes

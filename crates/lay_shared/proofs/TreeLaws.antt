@@ -1,8 +1,6 @@
 -- The signs of trees are read as their staves, and signs that are read are those of trees.
-use Rattle.std.proofs.Common.{◌≡◌, refl, sym, ap, ◌∙◌, subst, ℕ, ◌≤◌, List, [], ◌∷◌, ◌++◌, Bool, true, false, length, arith, append-nil, append_assoc}
-use Rattle.std.specs.Prelude.{◌||◌, Option, Some, None}
-use Rattle.lay_shared.specs.{declared.plan.PlannedStaff.PlannedStaff, declared.reading.Reading.Reading, declared.signs.Bracket.Bracket, declared.signs.Sign.Sign, Reading.is_empty, Reading.same_bracket, Reading.run, Reading.start, Trees.Trees, Trees.no_tree, Trees.voice_tree, Trees.staff_tree}
-use Rattle.lay_shared.specs.Trees.{group_tree, voice_signs, tree_signs, shares_of, planned, group_of, staves_of}
+use Rattle.std.{proofs.Common.{◌≡◌, refl, sym, ap, ◌∙◌, subst, ℕ, ◌≤◌, List, [], ◌∷◌, ◌++◌, Bool, true, false, length, arith, append-nil, append_assoc}, specs.Prelude.{◌||◌, Option, Some, None}}
+use Rattle.lay_shared.specs.{declared.{plan.PlannedStaff.PlannedStaff, reading.Reading.Reading, signs.{Bracket.Bracket, Sign.Sign}}, Reading.{is_empty, same_bracket, run, start}, Trees.{Trees, no_tree, voice_tree, staff_tree, group_tree, voice_signs, tree_signs, shares_of, planned, group_of, staves_of}}
 
 abbrev reading : Option (List ℕ) → List Bracket → Bool → List PlannedStaff → Reading
 reading inside open_ones leads staves = record { brackets = open_ones; inside = inside; leads = leads; staves = staves }

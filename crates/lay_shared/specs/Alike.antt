@@ -1,6 +1,5 @@
 -- Voices that can share a staff: they begin with the same clef, key and meter, and the same changes stand at the same places.
-use Rattle.std.specs.Prelude.{◌≡◌, ⊤, ℕ, ◌+◌, List, [], ◌∷◌, ◌++◌, Bool, ◌||◌, if◌then◌else◌, Option, is_some, slice_get}
-use Rattle.std.specs.{List.AllByRecursion, Option.option_map}
+use Rattle.std.specs.{Prelude.{◌≡◌, ⊤, ℕ, ◌+◌, List, [], ◌∷◌, ◌++◌, Bool, ◌||◌, if◌then◌else◌, Option, is_some, slice_get}, List.AllByRecursion, Option.option_map}
 use Rattle.mus_score.specs.{declared.score.Changes.Changes, declared.score.Flat.Flat, declared.score.Measure.Measure, declared.score.Score.Score, declared.score.Voice.Voice, Times.flats_of}
 use Rattle.lay_shared.specs.declared.{plan.Plan.Plan, plan.PlannedStaff.PlannedStaff, stories.Change.Change, stories.Story.Story}
 

@@ -1,6 +1,5 @@
 -- The plan of staves that a `%%score` line spells.
-use Rattle.std.specs.Prelude.{◌≡◌, ◌≢◌, ◌≤◌, ◌<◌, ⊤, ℕ, List, [], ◌∷◌, length, map, flat_map, All, Option, Some, None}
-use Rattle.std.specs.List.{AllByRecursion, filter_map}
+use Rattle.std.specs.{Prelude.{◌≡◌, ◌≢◌, ◌≤◌, ◌<◌, ⊤, ℕ, List, [], ◌∷◌, length, map, flat_map, All, Option, Some, None}, List.{AllByRecursion, filter_map}}
 use Rattle.mus_score.specs.{declared.score.Score.Score, declared.score.Voice.Voice}
 use Rattle.lay_shared.specs.{declared.signs.Sign.Sign, declared.plan.Plan.Plan, declared.plan.PlannedStaff.PlannedStaff, Signs.Writes, Trees.Trees, Trees.staves_of, Trees.tree_signs}
 

@@ -1,7 +1,6 @@
 -- The reading of a `%%score` line, between the code and what is meant: signs byte by byte, then staves
 -- sign by sign with the brackets that are open, the innermost first.
-use Rattle.std.specs.Prelude.{ℕ, List, [], ◌∷◌, ◌++◌, Bool, true, false, ◌==◌, ◌&&◌, ◌||◌, not, nat_le, if◌then◌else◌, length, position, Option, Some, None}
-use Rattle.std.specs.{List.list_any, Option.option_and_then, Option.option_to_list, Str.bytes_eq}
+use Rattle.std.specs.{Prelude.{ℕ, List, [], ◌∷◌, ◌++◌, Bool, true, false, ◌==◌, ◌&&◌, ◌||◌, not, nat_le, if◌then◌else◌, length, position, Option, Some, None}, List.list_any, Option.{option_and_then, option_to_list}, Str.bytes_eq}
 use Rattle.lay_shared.specs.{declared.plan.Plan.Plan, declared.plan.PlannedStaff.PlannedStaff, declared.reading.Reading.Reading, declared.signs.Bracket.Bracket, declared.signs.Sign.Sign, Plans.named, Signs.is_id, Signs.sign_at, Trees.planned}
 
 abbrev pub place_of : List ℕ → List (List ℕ) → Option ℕ

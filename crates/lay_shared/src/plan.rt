@@ -1,5 +1,4 @@
-ghost use Rattle.std.specs.Prelude.{◌≡◌, ◌≢◌, ◌<◌, ◌^◌, ◌==◌, Some, [], length, AllPairs, IfOk, IfSome, map};
-ghost use Rattle.std.specs.List.{list_any};
+ghost use Rattle.std.specs.{Prelude.{◌≡◌, ◌≢◌, ◌<◌, ◌^◌, ◌==◌, Some, [], length, AllPairs, IfOk, IfSome, map}, List.list_any};
 ghost use Rattle.mus_score.specs.{GoodScore.IsGoodScore, declared.score.Voice.Voice};
 ghost use Rattle.lay_shared.specs.{Plans.IsPlanFor, Plans.Spells, Plans.ids_of, Plans.named, Reading.is_fair, Reading.is_once, Reading.plan_by, Reading.signs_from, declared.plan.Plan.Plan};
 

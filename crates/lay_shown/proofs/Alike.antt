@@ -1,6 +1,5 @@
 -- Marks that are alike but for their heights stand at the same columns and show the same texts.
-use Rattle.std.proofs.Common.{◌≡◌, ◌∙◌, sym, ap, subst, refl, ℕ, ◌<◌, List, [], ◌∷◌, ◌++◌, length, map, flat_map, get_or, arith}
-use Rattle.std.{proofs.lemmas.List.get_or-map, proofs.lemmas.List.length-map, specs.List.All}
+use Rattle.std.{proofs.{Common.{◌≡◌, ◌∙◌, sym, ap, subst, refl, ℕ, ◌<◌, List, [], ◌∷◌, ◌++◌, length, map, flat_map, get_or, arith}, lemmas.List.{get_or-map, length-map}}, specs.List.All}
 use Rattle.mus_laid.specs.{declared.laid.Laid.Laid, declared.laid.Mark.Mark, declared.laid.StaffMarks.StaffMarks, declared.laid.SystemMarks.SystemMarks, Shapes.AreAlike, Shapes.laid_shape, Shapes.mark_shape, Shapes.marks_shape, Shapes.staff_shape}
 use Rattle.lay_shown.specs.{Ranks.AreAnchored, Ranks.AreRanked, Ranks.IsRanked, Ranks.marks_ranks, Ranks.staves_ranks, Shown.IsShown, Texts.HasPrinted}
 

@@ -1,19 +1,15 @@
 -- Arcs go from the column of an event to that of a later one. The head stands before all notes of a system and
 -- the bar of its last measure behind them, so that an end which the system cuts stands outside of them too.
-use Rattle.std.proofs.Common.{◌≡◌, ◌∙◌, ℕ, zero, suc, ◌-◌, ◌<◌, ◌≤◌, ◌⊎◌, inl, inr, Bool, true, false, nat_lt, nat_le, ◌==◌, ◌&&◌, if◌then◌else◌, List, [], ◌∷◌, ◌++◌, length, map, reverse, Option, Some, None, refl, sym, ap, subst, arith}
-use Rattle.std.proofs.lemmas.{Bool.cases_lt, Bool.Decides.nat_tests, List.Elements.All-contains, List.Elements.All-from_recursion, List.Elements.recursion_from_All, List.Sorted.All-permutation, List.Sorted.IsPermutation-reverse, Option.get_or_from_slice_get, Option.none-some, Option.same_Some}
-use Rattle.std.{proofs.lemmas.Option.slice_get_within, specs.List.All, specs.List.AllByRecursion, specs.List.Contains, specs.List.find, specs.List.list_any, specs.List.slice_get, specs.List.slice_index, specs.List.slice_range}
+use Rattle.std.{proofs.{Common.{◌≡◌, ◌∙◌, ℕ, zero, suc, ◌-◌, ◌<◌, ◌≤◌, ◌⊎◌, inl, inr, Bool, true, false, nat_lt, nat_le, ◌==◌, ◌&&◌, if◌then◌else◌, List, [], ◌∷◌, ◌++◌, length, map, reverse, Option, Some, None, refl, sym, ap, subst, arith}, lemmas.{Bool.{cases_lt, Decides.nat_tests}, List.{Elements.{All-contains, All-from_recursion, recursion_from_All}, Sorted.{All-permutation, IsPermutation-reverse}}, Option.{get_or_from_slice_get, none-some, same_Some, slice_get_within}}}, specs.List.{All, AllByRecursion, Contains, find, list_any, slice_get, slice_index, slice_range}}
 use Rattle.mus_units.specs.declared.note.Head.{Head}
 use Rattle.mus_score.specs.{declared.score.Flat.Flat, declared.score.Measure.Measure, declared.score.Voice.Voice, GoodScore.AreCounted, GoodScore.IsGoodVoice, GoodScore.events_of, Times.flats_of}
 use Rattle.mus_time.{specs.declared.keys.ColumnKey.ColumnKey, specs.Keys.IsInSystem, specs.Keys.bar_key, specs.Keys.head_key, specs.Order.is_below, proofs.Orders.lower}
 use Rattle.mus_stems.proofs.RunLaws.{all_append, all_drop}
-use Rattle.mus_arcs.specs.{declared.events.EventAt.EventAt, declared.pairing.Arc.Arc, declared.pairing.Spot.Spot, declared.cutting.Piece.Piece, Arcs.arcs_of, Arcs.copies, Arcs.has_pitch, Arcs.open_ends, Arcs.slur, Arcs.slurs, Arcs.slurs_at, Arcs.spot, Arcs.tie, Arcs.ties_at, Arcs.ties_from}
-use Rattle.mus_arcs.specs.{Events.at_measure, Events.events_from, Events.events_of_voice, Pieces.piece_of}
+use Rattle.mus_arcs.specs.{declared.{events.EventAt.EventAt, pairing.{Arc.Arc, Spot.Spot}, cutting.Piece.Piece}, Arcs.{arcs_of, copies, has_pitch, open_ends, slur, slurs, slurs_at, spot, tie, ties_at, ties_from}, Events.{at_measure, events_from, events_of_voice}, Pieces.piece_of}
 use Rattle.mus_laid.specs.declared.drawn.Bridge.{Bridge}
 use Rattle.mus_words.specs.Arcs.{Seen, arc_mark, slur_mark, tie_mark}
 use Rattle.mus_drawn.specs.{declared.drawn.DrawnEvent.DrawnEvent, declared.drawn.DrawnMeasure.DrawnMeasure, Drawn.drawn_voice}
-use Rattle.mus_marks.{specs.Arcs.arc_between, specs.Arcs.arc_in, specs.Arcs.arcs_between, specs.Arcs.event_at, specs.Arcs.event_in, specs.Arcs.has_id, specs.Arcs.piece_between, specs.Arcs.seen_of, specs.Events.note_key, proofs.GoingOn.AllGoOn, proofs.GoingOn.GoOn, proofs.GoingOn.IsEarlier}
-use Rattle.mus_marks.proofs.{GoingOn.later_below, Inside.HasEvent, Inside.HasMeasures, Inside.measure_at, Inside.there}
+use Rattle.mus_marks.{specs.{Arcs.{arc_between, arc_in, arcs_between, event_at, event_in, has_id, piece_between, seen_of}, Events.note_key}, proofs.{GoingOn.{AllGoOn, GoOn, IsEarlier, later_below}, Inside.{HasEvent, HasMeasures, measure_at, there}}}
 use Rattle.lay_shown.proofs.Between.{AreBetween, IsBetween, both}
 
 -- ---- the arcs of a voice

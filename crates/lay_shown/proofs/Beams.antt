@@ -1,6 +1,5 @@
 -- Beams go from the column of an event to that of a later one: within a measure the keys of notes rise.
-use Rattle.std.proofs.Common.{◌≡◌, ◌∙◌, ℕ, zero, suc, ◌+◌, ◌-◌, Bool, true, false, if◌then◌else◌, List, [], ◌∷◌, map, sym, arith}
-use Rattle.std.{proofs.lemmas.Bool.Decides.nat_tests, specs.List.AllByRecursion, specs.List.Contains}
+use Rattle.std.{proofs.{Common.{◌≡◌, ◌∙◌, ℕ, zero, suc, ◌+◌, ◌-◌, Bool, true, false, if◌then◌else◌, List, [], ◌∷◌, map, sym, arith}, lemmas.Bool.Decides.nat_tests}, specs.List.{AllByRecursion, Contains}}
 use Rattle.mus_time.{specs.declared.keys.ColumnKey.ColumnKey, specs.Order.is_below, specs.Order.same_key, proofs.RankLaws.false_not_true}
 use Rattle.mus_ink.specs.{declared.beams.Stem.Stem, Beams.beam_marks, Beams.beams_at, Beams.beams_from, Beams.goes_on, Beams.last_at, Beams.level_from, Beams.levels_before, Beams.levels_from, Beams.stem_of}
 use Rattle.mus_drawn.specs.{declared.drawn.DrawnEvent.DrawnEvent, declared.drawn.DrawnMeasure.DrawnMeasure}

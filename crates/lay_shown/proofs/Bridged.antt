@@ -1,6 +1,5 @@
 -- Beams and arcs of a voice go from one of the columns of its system to a later one.
-use Rattle.std.proofs.Common.{◌∙◌, ℕ, ◌-◌, ◌<◌, ◌≤◌, List, ◌++◌, drop, get_or, arith}
-use Rattle.std.specs.List.{All, slice_range}
+use Rattle.std.{proofs.Common.{◌∙◌, ℕ, ◌-◌, ◌<◌, ◌≤◌, List, ◌++◌, drop, get_or, arith}, specs.List.{All, slice_range}}
 use Rattle.mus_score.specs.{declared.score.Score.Score, GoodScore.IsGoodScore, GoodScore.IsGoodVoice}
 use Rattle.mus_time.{specs.declared.keys.ColumnKey.ColumnKey, specs.Keys.AreKeys, specs.Keys.called_keys, specs.Onsets.timeline_of, proofs.Places.places_of}
 use Rattle.mus_stems.proofs.RunLaws.{all_drop, all_take}

@@ -1,6 +1,5 @@
 -- The beam of graces goes from the column of the first to that of the last, where there are two or more.
-use Rattle.std.proofs.Common.{◌≡◌, ℕ, suc, ◌+◌, ◌<◌, true, false, ◌==◌, List, [], ◌∷◌, length, refl, ap, subst, arith}
-use Rattle.std.{proofs.lemmas.Bool.Decides.nat_tests, specs.List.AllByRecursion, specs.List.flat_map}
+use Rattle.std.{proofs.{Common.{◌≡◌, ℕ, suc, ◌+◌, ◌<◌, true, false, ◌==◌, List, [], ◌∷◌, length, refl, ap, subst, arith}, lemmas.Bool.Decides.nat_tests}, specs.List.{AllByRecursion, flat_map}}
 use Rattle.mus_score.specs.declared.score.Event.{Event}
 use Rattle.mus_time.specs.{declared.keys.Class.Class, declared.keys.ColumnKey.ColumnKey, Keys.key_at, Order.is_below}
 use Rattle.mus_ink.specs.Graces.{grace_beam, group_of}

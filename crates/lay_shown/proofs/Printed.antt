@@ -1,6 +1,5 @@
 -- The texts of the marks that a score calls for can be printed.
-use Rattle.std.proofs.Common.{ℕ, ◌≤◌, length, List, [], ◌∷◌, map, refl, sym, subst, arith}
-use Rattle.std.{proofs.lemmas.Bool.Decides.nat_tests, proofs.lemmas.List.Elements.All-from_recursion, specs.List.All, specs.List.AllByRecursion}
+use Rattle.std.{proofs.{Common.{ℕ, ◌≤◌, length, List, [], ◌∷◌, map, refl, sym, subst, arith}, lemmas.{Bool.Decides.nat_tests, List.Elements.All-from_recursion}}, specs.List.{All, AllByRecursion}}
 use Rattle.mus_units.specs.{declared.key.Meter.Meter, Good.IsGoodMeter}
 use Rattle.mus_score.specs.{declared.score.Score.Score, GoodScore.IsGoodScore}
 use Rattle.mus_time.specs.{declared.keys.ColumnKey.ColumnKey, declared.times.Timeline.Timeline}

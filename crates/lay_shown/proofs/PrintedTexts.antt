@@ -1,7 +1,5 @@
 -- What is printed of a text has characters that a page may show, and so do decimals.
-use Rattle.std.proofs.Common.{ℕ, ◌+◌, ◌≤◌, ◌<◌, ◌%◌, ◌∙◌, List, [], ◌∷◌, ◌++◌, length, map, take, refl, arith}
-use Rattle.std.proofs.lemmas.{Bool.and_from, Bool.Decides.nat_tests, Fmt.decimal_by_steps, Fmt.decimal_nonempty, Fmt.length-decimal-le, List.length-map, List.length-take, List.Folds.list_all-append}
-use Rattle.std.specs.{List.list_all, Prelude.IsTrue, Prelude.decimal}
+use Rattle.std.{proofs.{Common.{ℕ, ◌+◌, ◌≤◌, ◌<◌, ◌%◌, ◌∙◌, List, [], ◌∷◌, ◌++◌, length, map, take, refl, arith}, lemmas.{Bool.{and_from, Decides.nat_tests}, Fmt.{decimal_by_steps, decimal_nonempty, length-decimal-le}, List.{length-map, length-take, Folds.list_all-append}}}, specs.{List.list_all, Prelude.{IsTrue, decimal}}}
 use Rattle.mus_laid.specs.Printed.{is_printable, printed, printed_byte, printed_within}
 use Rattle.lay_shown.specs.Texts.{IsPrinted}
 

@@ -1,13 +1,11 @@
 -- The marks of a staff stand in columns of the system, and each column that its voices call for holds one.
-use Rattle.std.proofs.Common.{ℕ, ◌+◌, ◌<◌, ◌≤◌, inl, inr, List, [], ◌∷◌, ◌++◌, length, Option, Some, arith}
-use Rattle.std.{proofs.lemmas.List.Elements.Contains-append_cases, specs.List.AllByRecursion, specs.List.Contains, specs.List.flat_map}
+use Rattle.std.{proofs.{Common.{ℕ, ◌+◌, ◌<◌, ◌≤◌, inl, inr, List, [], ◌∷◌, ◌++◌, length, Option, Some, arith}, lemmas.List.Elements.Contains-append_cases}, specs.List.{AllByRecursion, Contains, flat_map}}
 use Rattle.mus_score.specs.Seats.{is_lower}
 use Rattle.mus_stems.proofs.RunLaws.{all_append}
 use Rattle.mus_time.{specs.declared.keys.ColumnKey.ColumnKey, specs.Keys.keys_by, specs.Order.rank_of, proofs.RankLaws.rank_less}
 use Rattle.mus_laid.specs.{declared.laid.Laid.Laid, Ranked.by_columns}
 use Rattle.mus_drawn.specs.declared.drawn.DrawnVoice.{DrawnVoice}
-use Rattle.mus_marks.specs.{declared.events.Place.Place, declared.events.Room.Room, declared.events.Texts.Texts, Bridges.bridges_of, Staff.own_part, Staff.room_over, Staff.staff_bridges, Staff.staff_marks, Staff.staff_over, Staff.texts_behind, Staff.verses_on, Staff.bare_marks, Staff.written_parts}
-use Rattle.mus_marks.proofs.{Columned.columned_all, Columned.columned_has, Inside.AreAmong, Inside.voice_columns}
+use Rattle.mus_marks.{specs.{declared.events.{Place.Place, Room.Room, Texts.Texts}, Bridges.bridges_of, Staff.{own_part, room_over, staff_bridges, staff_marks, staff_over, texts_behind, verses_on, bare_marks, written_parts}}, proofs.{Columned.{columned_all, columned_has}, Inside.{AreAmong, voice_columns}}}
 use Rattle.lay_shown.{specs.Ranks.IsRanked, proofs.Between.AreBetween, proofs.Between.both, proofs.Between.bridges_ranked, proofs.Planned.IsMeasureAt, proofs.Standing.HasRank, proofs.Standing.Ranked, proofs.Standing.columns, proofs.Standing.rank_left, proofs.Standing.rank_right}
 
 -- the columns that a voice calls for on its staff

@@ -1,6 +1,5 @@
 -- The columns of a span, and how they grow by a measure.
-use Rattle.std.proofs.Common.{◌≡◌, ℕ, zero, suc, ◌+◌, ◌-◌, ◌<◌, ◌≤◌, List, [], ◌∷◌, ◌++◌, length, take, drop, flat_map, slice_index_or, get_or, Option, option_and_then, slice_get, arith, sym, ◌∙◌, ap, subst, refl, length-append}
-use Rattle.std.proofs.lemmas.List.{take_more, get_or-drop, append_assoc, length-drop, Concat.flat_map-append}
+use Rattle.std.proofs.{Common.{◌≡◌, ℕ, zero, suc, ◌+◌, ◌-◌, ◌<◌, ◌≤◌, List, [], ◌∷◌, ◌++◌, length, take, drop, flat_map, slice_index_or, get_or, Option, option_and_then, slice_get, arith, sym, ◌∙◌, ap, subst, refl, length-append}, lemmas.List.{take_more, get_or-drop, append_assoc, length-drop, Concat.flat_map-append}}
 use Rattle.lay_springs.specs.{declared.traits.Reach.Reach, Place.reach_at, Fit.StandsInAll}
 use Rattle.lay_spans.specs.Columns.{measures_from, span_columns, EndsInAll}
 

@@ -1,6 +1,5 @@
 -- Which spans fit.
-use Rattle.std.proofs.Common.{◌≡◌, ℕ, zero, suc, ◌+◌, ◌-◌, ◌<◌, ◌≤◌, List, [], ◌∷◌, ◌++◌, length, map, Option, None, Some, IfNone, option_map, option_and_then, unwrap_or, slice_get, slice_index_or, arith, sym, ◌∙◌, ap, subst, refl, inl, inr, length-append}
-use Rattle.std.proofs.{Math.Path.fun_ext, lemmas.Bool.cases_lt, lemmas.Option.slice_get_past, lemmas.List.append_assoc, lemmas.List.length-map}
+use Rattle.std.proofs.{Common.{◌≡◌, ℕ, zero, suc, ◌+◌, ◌-◌, ◌<◌, ◌≤◌, List, [], ◌∷◌, ◌++◌, length, map, Option, None, Some, IfNone, option_map, option_and_then, unwrap_or, slice_get, slice_index_or, arith, sym, ◌∙◌, ap, subst, refl, inl, inr, length-append}, Math.Path.fun_ext, lemmas.{Bool.cases_lt, Option.slice_get_past, List.{append_assoc, length-map}}}
 use Rattle.lay_springs.{specs.declared.traits.Reach.Reach, specs.Place.reach_at, specs.Place.length_at, specs.Fit.Fits, specs.Fit.Passes, specs.Fit.CanStand, specs.Fit.StandsInAll, proofs.Longer.cannot_stand, proofs.Longer.longer_fits_less}
 use Rattle.lay_spans.{specs.Columns.span_columns, specs.Columns.AreMeasures, specs.SpanList.StandsAt, specs.SpanList.IsForce, proofs.Adding.columns_some, proofs.Adding.columns_continue, proofs.Adding.ends_so}
 

@@ -1,10 +1,8 @@
 -- The row of a bar, and the rows, while they grow.
-use Rattle.std.proofs.Common.{◌≡◌, ℕ, ◌+◌, ◌-◌, ◌*◌, ◌<◌, ◌≤◌, ◌^◌, ◌==◌, nat_le, if◌then◌else◌, Result, Ok, Err, IfOk, Bool, List, [], ◌∷◌, ◌++◌, length, map, Option, None, Some, IsSome, slice_index, slice_index_or, get_or, true, false, arith, sym, ◌∙◌, ap, subst, refl, inl, inr, length-append}
-use Rattle.std.proofs.{lemmas.Bool.cases_lt, lemmas.Bool.cases_eq, lemmas.Bool.true≢false, lemmas.List.get_or_append_left, lemmas.Option.none-some, lemmas.Option.same_Some, Math.Nat.mul-le-mul_left}
+use Rattle.std.proofs.{Common.{◌≡◌, ℕ, ◌+◌, ◌-◌, ◌*◌, ◌<◌, ◌≤◌, ◌^◌, ◌==◌, nat_le, if◌then◌else◌, Result, Ok, Err, IfOk, Bool, List, [], ◌∷◌, ◌++◌, length, map, Option, None, Some, IsSome, slice_index, slice_index_or, get_or, true, false, arith, sym, ◌∙◌, ap, subst, refl, inl, inr, length-append}, lemmas.{Bool.{cases_lt, cases_eq, true≢false}, List.get_or_append_left, Option.{none-some, same_Some}}, Math.Nat.mul-le-mul_left}
 use Rattle.lay_springs.specs.{declared.traits.Reach.Reach, Fit.counted, Fit.is_ragged}
 use Rattle.lay_breaks.specs.Spans.{AreSpans, listed}
-use Rattle.lay_spans.specs.{Badness.badness_of, Badness.badness_at, Columns.measures_from, Columns.span_columns, Columns.AreMeasures, Forced.ForcedInside, SpanList.StandsAt, SpanList.IsCost, SpanList.IsNoSpan, SpanList.IsSpanList, Rows.IsRowFrom, Rows.AreRows, Rows.rows_spans}
-use Rattle.lay_spans.proofs.{Adding.columns_some, Adding.columns_more, Fitting.longer_stands, Listing.in_rows, Listing.past_rows, Listing.rows_form}
+use Rattle.lay_spans.{specs.{Badness.{badness_of, badness_at}, Columns.{measures_from, span_columns, AreMeasures}, Forced.ForcedInside, SpanList.{StandsAt, IsCost, IsNoSpan, IsSpanList}, Rows.{IsRowFrom, AreRows, rows_spans}}, proofs.{Adding.{columns_some, columns_more}, Fitting.longer_stands, Listing.{in_rows, past_rows, rows_form}}}
 
 -- the columns that are seen, with one measure more
 pub seen_more : {D C : Type 0} (f : D → C) (old new : List D) (starts others : List (List C)) (a m : ℕ) → a ≤ m → m < length starts → length others ≡ length starts

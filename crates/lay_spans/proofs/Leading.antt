@@ -1,6 +1,5 @@
 -- A list of spans as rows of costs.
-use Rattle.std.proofs.Common.{◌≡◌, ℕ, Bool, zero, suc, ◌+◌, ◌-◌, ◌<◌, ◌≤◌, ◌^◌, ◌⊎◌, ◌==◌, List, [], ◌∷◌, ◌++◌, length, drop, Option, None, Some, All, slice_get, option_and_then, true, false, nat_lt, arith, sym, ◌∙◌, ap, subst, refl, inl, inr}
-use Rattle.std.proofs.{Math.Path.fun_ext, lemmas.Bool.cases_lt, lemmas.Bool.cases_eq, lemmas.Option.slice_get_past, lemmas.List.append_assoc, lemmas.List.drop-drop, lemmas.List.length-drop, lemmas.List.Elements.All-cons, lemmas.Bool.Decides.nat_tests}
+use Rattle.std.proofs.{Common.{◌≡◌, ℕ, Bool, zero, suc, ◌+◌, ◌-◌, ◌<◌, ◌≤◌, ◌^◌, ◌⊎◌, ◌==◌, List, [], ◌∷◌, ◌++◌, length, drop, Option, None, Some, All, slice_get, option_and_then, true, false, nat_lt, arith, sym, ◌∙◌, ap, subst, refl, inl, inr}, Math.Path.fun_ext, lemmas.{Bool.{cases_lt, cases_eq, Decides.nat_tests}, Option.slice_get_past, List.{append_assoc, drop-drop, length-drop, Elements.All-cons}}}
 use Rattle.lay_breaks.specs.{declared.costs.Span.Span, Rows.AreSmall, Spans.AreSpans, Spans.SpansFrom, Spans.IsNext, Spans.listed}
 use Rattle.lay_spans.{specs.Costs.leading, specs.Costs.rows_from, specs.Costs.cost_in, proofs.Listing.listed_here, proofs.Listing.listed_behind}
 

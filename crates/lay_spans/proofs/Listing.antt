@@ -1,6 +1,5 @@
 -- Rows of costs as a list of spans.
-use Rattle.std.proofs.Common.{◌≡◌, ℕ, suc, ◌+◌, ◌-◌, ◌<◌, ◌≤◌, ◌^◌, ◌⊎◌, List, [], ◌∷◌, ◌++◌, length, Option, None, Some, MatchOption, slice_index, slice_index_or, false, arith, sym, ◌∙◌, subst, refl, inl, inr}
-use Rattle.std.proofs.{lemmas.Bool.cases_eq, lemmas.Bool.Decides.nat_tests}
+use Rattle.std.proofs.{Common.{◌≡◌, ℕ, suc, ◌+◌, ◌-◌, ◌<◌, ◌≤◌, ◌^◌, ◌⊎◌, List, [], ◌∷◌, ◌++◌, length, Option, None, Some, MatchOption, slice_index, slice_index_or, false, arith, sym, ◌∙◌, subst, refl, inl, inr}, lemmas.Bool.{cases_eq, Decides.nat_tests}}
 use Rattle.lay_breaks.specs.{declared.costs.Span.Span, Spans.SpansFrom, Spans.listed, Spans.has_ends, Spans.has_these}
 use Rattle.lay_spans.specs.Rows.{row_spans, rows_spans}
 

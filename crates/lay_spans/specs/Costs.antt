@@ -1,6 +1,5 @@
 -- The costs of spans kept as rows, one for each bar.
-use Rattle.std.specs.Prelude.{◌≡◌, ℕ, zero, suc, ◌+◌, ◌<◌, ◌≤◌, ◌^◌, ◌==◌, nat_lt, true, List, [], ◌∷◌, length, drop, Option, None, IfSome, if◌then◌else◌, refl}
-use Rattle.std.proofs.{Common.arith, Common.sym, Common.◌∙◌, lemmas.Bool.Decides.nat_tests}
+use Rattle.std.{specs.Prelude.{◌≡◌, ℕ, zero, suc, ◌+◌, ◌<◌, ◌≤◌, ◌^◌, ◌==◌, nat_lt, true, List, [], ◌∷◌, length, drop, Option, None, IfSome, if◌then◌else◌, refl}, proofs.{Common.{arith, sym, ◌∙◌}, lemmas.Bool.Decides.nat_tests}}
 use Rattle.lay_breaks.specs.{declared.costs.Span.Span, Rows.row_cost, Rows.rows_stop, Rows.rows_small, Rows.AreSmall}
 
 -- what the span from a to b costs, by the row of bar a

@@ -1,6 +1,5 @@
 -- The forced bars of n.
-use Rattle.std.specs.Prelude.{◌≡◌, ℕ, ◌<◌, ◌==◌, ◌&&◌, Bool, true, nat_lt, nat_le, List}
-use Rattle.std.specs.List.{list_any}
+use Rattle.std.specs.{Prelude.{◌≡◌, ℕ, ◌<◌, ◌==◌, ◌&&◌, Bool, true, nat_lt, nat_le, List}, List.list_any}
 
 -- whether bar b is one of the bars 1 to n, and forced
 abbrev pub is_forced : ℕ → List ℕ → ℕ → Bool

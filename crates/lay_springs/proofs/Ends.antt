@@ -1,8 +1,6 @@
 -- The end of the columns, and how it grows with the force.
-use Rattle.std.proofs.Common.{◌≡◌, ℕ, ◌+◌, ◌-◌, ◌<◌, ◌≤◌, ℤ, pos, ◌+ℤ◌, ◌≤ℤ◌, List, Option, None, Some, option_map, unwrap_or, slice_get, arith, sym, ◌∙◌}
-use Rattle.std.proofs.{lemmas.Int.ints, lemmas.Option.same_Some}
-use Rattle.lay_springs.specs.{declared.traits.Reach.Reach, Place.reach_at, Place.length_at, Place.StandApart, Fit.IsEndOf, Fit.EndsAt}
-use Rattle.lay_springs.proofs.{Clear.below_or_at, Placing.reach_is}
+use Rattle.std.proofs.{Common.{◌≡◌, ℕ, ◌+◌, ◌-◌, ◌<◌, ◌≤◌, ℤ, pos, ◌+ℤ◌, ◌≤ℤ◌, List, Option, None, Some, option_map, unwrap_or, slice_get, arith, sym, ◌∙◌}, lemmas.{Int.ints, Option.same_Some}}
+use Rattle.lay_springs.{specs.{declared.traits.Reach.Reach, Place.{reach_at, length_at, StandApart}, Fit.{IsEndOf, EndsAt}}, proofs.{Clear.below_or_at, Placing.reach_is}}
 
 pub end_more : (reach : ℕ → Option Reach) (lane : ℕ) (at old new : ℤ) (r : Reach) → reach lane ≡ Some r
     → old ≤ℤ new → (at +ℤ pos r.right) ≤ℤ new → ((v : ℤ) → old ≤ℤ v → (at +ℤ pos r.right) ≤ℤ v → new ≤ℤ v)

@@ -1,9 +1,6 @@
 -- What stands furthest right in each lane.
-use Rattle.std.proofs.Common.{◌≡◌, ℕ, ◌+◌, ◌*◌, ◌^◌, ◌<◌, ◌≤◌, inl, inr, ℤ, pos, negsuc, ◌+ℤ◌, ◌≤ℤ◌, List, length, Option, None, Some, IfSome, slice_index, slice_index_or, sym, ◌∙◌, arith, refl}
-use Rattle.std.proofs.{lemmas.Int.ints, lemmas.Option.same_Some, lemmas.Option.none-some}
-use Rattle.lay_springs.specs.declared.traits.Reach.{Reach}
-use Rattle.lay_springs.specs.Place.{IsClear, StandApart, IsPlacedTo, IsFront, IsPast, Advances}
-use Rattle.lay_springs.proofs.Clear.{below_or_at}
+use Rattle.std.proofs.{Common.{◌≡◌, ℕ, ◌+◌, ◌*◌, ◌^◌, ◌<◌, ◌≤◌, inl, inr, ℤ, pos, negsuc, ◌+ℤ◌, ◌≤ℤ◌, List, length, Option, None, Some, IfSome, slice_index, slice_index_or, sym, ◌∙◌, arith, refl}, lemmas.{Int.ints, Option.{same_Some, none-some}}}
+use Rattle.lay_springs.{specs.{declared.traits.Reach.Reach, Place.{IsClear, StandApart, IsPlacedTo, IsFront, IsPast, Advances}}, proofs.Clear.below_or_at}
 
 abbrev at : List ℤ → ℕ → ℤ
 at x k = slice_index_or x k (pos 0)

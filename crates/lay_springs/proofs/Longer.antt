@@ -1,9 +1,6 @@
 -- More columns need more room.
-use Rattle.std.proofs.Common.{◌≡◌, ℕ, zero, suc, ◌+◌, ◌-◌, ◌*◌, ◌/◌, ◌<◌, ◌≤◌, ℤ, pos, ◌≤ℤ◌, List, [], ◌∷◌, ◌++◌, length, Option, option_map, option_and_then, unwrap_or, slice_get, slice_index_or, arith, ◌∙◌, ap, refl, length-append}
-use Rattle.std.proofs.lemmas.{Int.ints, Nat.le-div}
-use Rattle.lay_springs.specs.{declared.traits.Reach.Reach, Place.reach_at, Place.length_at, Place.StandApart}
-use Rattle.lay_springs.specs.Fit.{Fits, Passes, CanStand, StandsInAll, LongerFitsLess, most_columns}
-use Rattle.lay_springs.proofs.Ends.{apart_down}
+use Rattle.std.proofs.{Common.{◌≡◌, ℕ, zero, suc, ◌+◌, ◌-◌, ◌*◌, ◌/◌, ◌<◌, ◌≤◌, ℤ, pos, ◌≤ℤ◌, List, [], ◌∷◌, ◌++◌, length, Option, option_map, option_and_then, unwrap_or, slice_get, slice_index_or, arith, ◌∙◌, ap, refl, length-append}, lemmas.{Int.ints, Nat.le-div}}
+use Rattle.lay_springs.{specs.{declared.traits.Reach.Reach, Place.{reach_at, length_at, StandApart}, Fit.{Fits, Passes, CanStand, StandsInAll, LongerFitsLess, most_columns}}, proofs.Ends.apart_down}
 
 pub stands : (n : ℕ) (reach : ℕ → ℕ → Option Reach) (gaps : List ℕ) (spring : ℕ → ℕ → ℕ) (width force : ℕ)
     → Fits n reach gaps spring width force → CanStand n reach gaps spring width force

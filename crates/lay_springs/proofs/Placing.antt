@@ -1,8 +1,6 @@
 -- One column more is placed.
 use Rattle.std.proofs.Common.{◌≡◌, ℕ, ◌+◌, ◌*◌, ◌<◌, ◌≢◌, ℤ, pos, ◌+ℤ◌, ◌≤ℤ◌, List, length, Option, None, Some, IfSome, option_and_then, slice_get, slice_index_or, slice_set, sym, ◌∙◌, arith, subst, refl, get_or-set_same, get_or-set_other}
-use Rattle.lay_springs.specs.declared.traits.Reach.{Reach}
-use Rattle.lay_springs.specs.Place.{reach_at, length_at, IsClear, IsInside, IsPast, StandApart, IsPlacedTo}
-use Rattle.lay_springs.proofs.Clear.{below_or_at}
+use Rattle.lay_springs.{specs.{declared.traits.Reach.Reach, Place.{reach_at, length_at, IsClear, IsInside, IsPast, StandApart, IsPlacedTo}}, proofs.Clear.below_or_at}
 
 -- the abscissa of a column
 abbrev at : List ℤ → ℕ → ℤ

@@ -1,6 +1,5 @@
 -- Only one list is the place.
-use Rattle.std.proofs.Common.{◌≡◌, ℕ, ℤ, pos, List, Option, sym, ◌∙◌, arith}
-use Rattle.std.proofs.{lemmas.List.ext_get_or, lemmas.Int.ints}
+use Rattle.std.proofs.{Common.{◌≡◌, ℕ, ℤ, pos, List, Option, sym, ◌∙◌, arith}, lemmas.{List.ext_get_or, Int.ints}}
 use Rattle.lay_springs.specs.{declared.traits.Reach.Reach, Place.IsPlace}
 
 pub one_place : (n : ℕ) (reach : ℕ → ℕ → Option Reach) (gaps : List ℕ) (spring : ℕ → ℕ) (x y : List ℤ)

@@ -1,6 +1,5 @@
 ghost use Rattle.std.specs.Prelude.{◌≡◌, ◌+◌, ◌^◌, ◌<◌, ◌≤◌, ℕ, ℤ, pos, ◌≤ℤ◌, IfSome, IfNone, length, slice_index, slice_index_or};
-ghost use Rattle.lay_springs.specs.Fit.{IsEndOf, EndsAt, Fits, CanStand, LongerFitsLess, Passes, most_columns};
-ghost use Rattle.lay_springs.specs.Place.{reach_at, length_at};
+ghost use Rattle.lay_springs.specs.{Fit.{IsEndOf, EndsAt, Fits, CanStand, LongerFitsLess, Passes, most_columns}, Place.{reach_at, length_at}};
 
 use crate::guesses::{crossing, nearest, tight};
 use crate::least::{larger, settle};

@@ -1,6 +1,5 @@
 ghost use Rattle.std.specs.Prelude.{◌≡◌, ◌+◌, ◌*◌, ◌^◌, ◌<◌, ◌≤◌, ◌-◌, ◌/◌, ℕ, ℤ, pos, ◌+ℤ◌, ◌≤ℤ◌, true, false, IfOk, length, slice_index, slice_index_or};
-ghost use Rattle.lay_springs.specs.Fit.{IsEndOf, Fits, IsSet, is_ragged, counted};
-ghost use Rattle.lay_springs.specs.Place.{reach_at, length_at, IsPlace, StandApart};
+ghost use Rattle.lay_springs.specs.{Fit.{IsEndOf, Fits, IsSet, is_ragged, counted}, Place.{reach_at, length_at, IsPlace, StandApart}};
 
 use crate::forces::end_of;
 use crate::least::{place, settle};

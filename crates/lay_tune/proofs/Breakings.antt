@@ -1,6 +1,5 @@
 -- The legal breakings of a score are those into its listed spans, and cost the same.
-use Rattle.std.proofs.Common.{◌≡◌, ◌∙◌, ℕ, ◌+◌, ◌<◌, ◌≤◌, ◌==◌, ◌⊎◌, inl, inr, List, [], ◌∷◌, length, Option, Some, None, IsSome, unwrap_or, refl, sym, ap, subst, arith}
-use Rattle.std.proofs.lemmas.Bool.{cases_lt}
+use Rattle.std.proofs.{Common.{◌≡◌, ◌∙◌, ℕ, ◌+◌, ◌<◌, ◌≤◌, ◌==◌, ◌⊎◌, inl, inr, List, [], ◌∷◌, length, Option, Some, None, IsSome, unwrap_or, refl, sym, ap, subst, arith}, lemmas.Bool.cases_lt}
 use Rattle.mus_score.specs.declared.score.Score.{Score}
 use Rattle.mus_laid.specs.declared.laid.SystemMarks.{SystemMarks}
 use Rattle.lay_columns.specs.{declared.column.Column.Column, Column.length_rises, Columns.column_reach}
@@ -8,8 +7,7 @@ use Rattle.lay_springs.{specs.Place.length_at, specs.Place.reach_at, proofs.Long
 use Rattle.lay_springs.proofs.Ends as springs
 use Rattle.lay_breaks.specs.{declared.costs.Span.Span, Breaking.FitsFrom, Breaking.IsChosen, Breaking.IsLegal, Breaking.RisesFrom, Breaking.last_from, Breaking.sum_from, Spans.listed}
 use Rattle.lay_spans.specs.{Badness.badness_of, Forced.is_forced}
-use Rattle.lay_tune.{specs.Spans.AreSpansOf, specs.Spans.CanStandIn, specs.Spans.IsForceOf, specs.Spans.IsSpanCost, specs.Spans.column_length, specs.Spans.is_forced_in, specs.Spans.score_gaps, specs.Spans.system_columns}
-use Rattle.lay_tune.{specs.Breakings.CanBeSystem, specs.Breakings.CostTogether, specs.Breakings.IsLeastBreaking, specs.Breakings.IsLegalIn, specs.Systems.AllSpans, proofs.Called.has_system, proofs.Open.past_last, proofs.Open.some_of}
+use Rattle.lay_tune.{specs.{Spans.{AreSpansOf, CanStandIn, IsForceOf, IsSpanCost, column_length, is_forced_in, score_gaps, system_columns}, Breakings.{CanBeSystem, CostTogether, IsLeastBreaking, IsLegalIn}, Systems.AllSpans}, proofs.{Called.has_system, Open.{past_last, some_of}}}
 
 -- ---- the force of columns
 module _ (gaps : List ℕ) (width : ℕ) (columns : List Column) where

@@ -1,17 +1,14 @@
 -- The spans of a score, and what stands open to a breaking of them.
-use Rattle.std.proofs.Common.{◌≡◌, ℕ, ◌+◌, ◌-◌, ◌<◌, ◌≤◌, ◌*◌, ◌^◌, ◌==◌, not, List, [], ◌∷◌, length, map, Option, Some, None, IsSome, sym, ◌∙◌, ap, subst, refl, arith}
-use Rattle.std.{proofs.lemmas.Bool.true≢false, proofs.lemmas.List.length-map, proofs.lemmas.List.Elements.All-from_recursion, proofs.lemmas.List.Sums.sum-map, specs.List.All, specs.List.AllByRecursion, specs.List.filter, specs.List.sum_by}
+use Rattle.std.{proofs.{Common.{◌≡◌, ℕ, ◌+◌, ◌-◌, ◌<◌, ◌≤◌, ◌*◌, ◌^◌, ◌==◌, not, List, [], ◌∷◌, length, map, Option, Some, None, IsSome, sym, ◌∙◌, ap, subst, refl, arith}, lemmas.{Bool.true≢false, List.{length-map, Elements.All-from_recursion, Sums.sum-map}}}, specs.List.{All, AllByRecursion, filter, sum_by}}
 use Rattle.mus_score.specs.{declared.score.Score.Score, declared.score.Voice.Voice, GoodScore.IsGoodScore, Seats.grouped, Seats.is_lower, Seats.stands_lower as lower}
 use Rattle.mus_laid.specs.{declared.laid.StaffMarks.StaffMarks, declared.laid.SystemMarks.SystemMarks}
 use Rattle.mus_drawn.specs.{declared.drawn.DrawnVoice.DrawnVoice, Drawn.drawn_voice}
 use Rattle.mus_marks.{specs.Staff.verses_on, specs.System.drawn_staves, specs.System.stands_lower, proofs.Fitting.few_verses, proofs.Groups.grouped_map}
 use Rattle.lay_columns.specs.{declared.column.Column.Column, Column.length_rises, Columns.column_reach}
-use Rattle.lay_springs.{specs.Place.length_at, specs.Place.reach_at, specs.Fit.Passes, specs.Fit.most_columns, proofs.Longer.cannot_stand, proofs.Longer.stand_few, proofs.Longer.stands}
-use Rattle.lay_springs.proofs.Ends.{length_rises as lengths_rise}
+use Rattle.lay_springs.{specs.{Place.{length_at, reach_at}, Fit.{Passes, most_columns}}, proofs.{Longer.{cannot_stand, stand_few, stands}, Ends.length_rises as lengths_rise}}
 use Rattle.lay_breaks.specs.{declared.costs.Span.Span, declared.breaking.BreakError.BreakError, Answers.IsCause, Breaking.FitsFrom, Breaking.IsChosen, Breaking.IsReached, Breaking.NoneLegal, Breaking.RisesFrom, Breaking.last_from, Spans.AreSpans, Spans.listed}
 use Rattle.lay_spans.{specs.Badness.badness_of, specs.Columns.AreMeasures, specs.Columns.span_columns, specs.Forced.is_forced, specs.SpanList.IsSpanList, proofs.Adding.columns_some}
-use Rattle.lay_tune.{proofs.StaffCounts.count_grouped, proofs.StaffCounts.few_groups, proofs.StaffCounts.none_more, specs.Spans.AreColumnsOf, specs.Spans.AreSpansOf, specs.Spans.CanStandIn, specs.Spans.IsForceOf, specs.Spans.IsSystem, specs.Spans.column_length, specs.Spans.is_forced_in, specs.Spans.score_gaps, specs.Spans.system_columns}
-use Rattle.lay_tune.specs.{Spans.verses_of, Layout.IsCauseIn, Layout.IsNoWay, Layout.layout_error, Systems.AllSpans, Systems.CanBeSet, Systems.HaveForce, Systems.gaps_between}
+use Rattle.lay_tune.{proofs.StaffCounts.{count_grouped, few_groups, none_more}, specs.{Spans.{AreColumnsOf, AreSpansOf, CanStandIn, IsForceOf, IsSystem, column_length, is_forced_in, score_gaps, system_columns, verses_of}, Layout.{IsCauseIn, IsNoWay, layout_error}, Systems.{AllSpans, CanBeSet, HaveForce, gaps_between}}}
 
 -- columns that have a force don't pass the width at force 0
 pub never_passes : (gaps : List ℕ) (width : ℕ) (columns : List Column) → HaveForce gaps width columns

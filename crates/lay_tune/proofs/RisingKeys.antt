@@ -1,6 +1,5 @@
 -- Every list of column keys has a rising list of the same keys.
-use Rattle.std.proofs.Common.{◌≡◌, ◌∙◌, ℕ, inl, inr, Bool, true, false, nat_lt, List, [], ◌∷◌, refl, sym, ap, subst, arith}
-use Rattle.std.{proofs.lemmas.Bool.Decides.nat_tests, specs.List.Contains}
+use Rattle.std.{proofs.{Common.{◌≡◌, ◌∙◌, ℕ, inl, inr, Bool, true, false, nat_lt, List, [], ◌∷◌, refl, sym, ap, subst, arith}, lemmas.Bool.Decides.nat_tests}, specs.List.Contains}
 use Rattle.mus_time.{specs.declared.keys.Class.Class, specs.declared.keys.ColumnKey.ColumnKey, specs.Keys.AreKeys, specs.Keys.key_at, specs.Order.BelowAll, specs.Order.Rises, specs.Order.class_number, specs.Order.is_below, specs.Order.then_below, proofs.Orders.below_through}
 use Rattle.mus_marks.proofs.{Inside.there, OneList.below_in, OneList.first_or}
 

@@ -1,6 +1,5 @@
 -- Lists that grow at their end, and staves that may be stacked.
-use Rattle.std.proofs.Common.{◌≡◌, refl, ℕ, suc, ◌+◌, List, [], ◌∷◌, ◌++◌, length, drop, sym, ap, subst}
-use Rattle.std.{proofs.lemmas.List.append_assoc, proofs.lemmas.List.Elements.All-head, proofs.lemmas.List.Elements.All-tail, specs.List.All}
+use Rattle.std.{proofs.{Common.{◌≡◌, refl, ℕ, suc, ◌+◌, List, [], ◌∷◌, ◌++◌, length, drop, sym, ap, subst}, lemmas.List.{append_assoc, Elements.{All-head, All-tail}}}, specs.List.All}
 use Rattle.mus_laid.specs.declared.laid.StaffMarks.{StaffMarks}
 use Rattle.mus_marks.specs.Staff.{CoversLines}
 use Rattle.lay_pages.specs.Stacking.{AreGoodStaves}

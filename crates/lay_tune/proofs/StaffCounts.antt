@@ -1,6 +1,5 @@
 -- Groups of a list: how many there are, and that none has more than the whole list.
-use Rattle.std.proofs.Common.{◌≡◌, ◌∙◌, ℕ, suc, ◌≤◌, Bool, true, false, not, cond, if◌then◌else◌, List, [], ◌∷◌, length, refl, sym, ap, subst, arith}
-use Rattle.std.{proofs.lemmas.List.Sums.count_by-le-length, proofs.lemmas.List.Sums.length-filter, proofs.lemmas.List.Sums.sum_by-append, specs.List.AllByRecursion, specs.List.filter, specs.List.flat_map, specs.List.sum_by}
+use Rattle.std.{proofs.{Common.{◌≡◌, ◌∙◌, ℕ, suc, ◌≤◌, Bool, true, false, not, cond, if◌then◌else◌, List, [], ◌∷◌, length, refl, sym, ap, subst, arith}, lemmas.List.Sums.{count_by-le-length, length-filter, sum_by-append}}, specs.List.{AllByRecursion, filter, flat_map, sum_by}}
 use Rattle.mus_score.specs.Seats.{grouped, put_before}
 use Rattle.mus_marks.proofs.Groups.{grouped_front, grouped_whole}
 

@@ -1,16 +1,13 @@
 -- Columns that stand apart rise from 0, and those of a system end within the width.
-use Rattle.std.proofs.Common.{◌≡◌, ◌∙◌, sym, ap, subst, refl, inl, inr, ℕ, zero, suc, ◌+◌, ◌-◌, ◌*◌, ◌/◌, ◌<◌, ◌≤◌, ◌==◌, ◌^◌, ℤ, pos, ◌+ℤ◌, ◌≤ℤ◌, Bool, true, false, List, length, map, Option, Some, Result, Ok, Err, IfOk, arith}
-use Rattle.std.proofs.{lemmas.Bool.cases_lt, lemmas.Bool.Decides.nat_tests, lemmas.Int.ints, lemmas.List.length-map}
+use Rattle.std.proofs.{Common.{◌≡◌, ◌∙◌, sym, ap, subst, refl, inl, inr, ℕ, zero, suc, ◌+◌, ◌-◌, ◌*◌, ◌/◌, ◌<◌, ◌≤◌, ◌==◌, ◌^◌, ℤ, pos, ◌+ℤ◌, ◌≤ℤ◌, Bool, true, false, List, length, map, Option, Some, Result, Ok, Err, IfOk, arith}, lemmas.{Bool.{cases_lt, Decides.nat_tests}, Int.ints, List.length-map}}
 use Rattle.mus_score.specs.declared.score.Score.{Score}
 use Rattle.mus_time.specs.{declared.keys.ColumnKey.ColumnKey, Keys.called_keys, Onsets.timeline_of}
 use Rattle.mus_laid.specs.{declared.laid.StaffMarks.StaffMarks, declared.laid.SystemMarks.SystemMarks}
 use Rattle.mus_marks.{specs.Tilt.AreAbscissas, proofs.OneList.same_keys}
-use Rattle.lay_springs.specs.{declared.traits.Reach.Reach, declared.margin.Placed.Placed, Fit.Fits, Fit.IsSet, Fit.counted, Fit.is_ragged, Place.IsPlace, Place.StandApart, Place.length_at, Place.reach_at}
-use Rattle.lay_springs.proofs.Ends.{apart_down, length_rises as lengths_rise}
+use Rattle.lay_springs.{specs.{declared.{traits.Reach.Reach, margin.Placed.Placed}, Fit.{Fits, IsSet, counted, is_ragged}, Place.{IsPlace, StandApart, length_at, reach_at}}, proofs.Ends.{apart_down, length_rises as lengths_rise}}
 use Rattle.lay_columns.{specs.declared.column.Column.Column, specs.Column.length_rises, specs.Columns.column_reach, specs.Columns.columns_of, proofs.Facts.columns_keys}
 use Rattle.lay_spans.{specs.Columns.span_columns, proofs.Fitting.seen_as}
-use Rattle.lay_tune.specs.{Spans.AreColumnsOf, Spans.IsForceOf, Spans.IsSystem, Spans.column_length, Spans.score_gaps, Spans.system_columns, Spans.verses_of, Systems.CanBeSet, Systems.HaveForce, Systems.IsJustified, Systems.IsPlaced, Systems.StandWithin, Systems.x_at}
-use Rattle.lay_tune.proofs.Called.{has_system}
+use Rattle.lay_tune.{specs.{Spans.{AreColumnsOf, IsForceOf, IsSystem, column_length, score_gaps, system_columns, verses_of}, Systems.{CanBeSet, HaveForce, IsJustified, IsPlaced, StandWithin, x_at}}, proofs.Called.has_system}
 
 -- the last of n columns stands within the width, and reaches no further
 pub record EndsWithin (n : ℕ) (reach : ℕ → ℕ → Option Reach) (gaps : List ℕ) (width : ℕ) (at : List ℤ) : Type 0 where

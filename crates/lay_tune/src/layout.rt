@@ -7,8 +7,7 @@ ghost use Rattle.lay_columns.specs.Columns.{column_reach};
 ghost use Rattle.lay_breaks.specs.{Breaking.IsChosen, Breaking.IsPotential, Breaking.sum_from, Spans.AreSpans, Spans.listed};
 ghost use Rattle.lay_spans.specs.Columns.{AreMeasures};
 ghost use Rattle.lay_tune.specs.declared.layout.LayoutError.TheVariants as errors;
-ghost use Rattle.lay_tune.specs.{Breakings.IsLeastBreaking, Layout.IsCauseIn, Layout.layout_error, Spans.AreColumnsOf, Spans.AreSpansOf, Spans.is_forced_in, Spans.score_gaps, Spans.verses_of};
-ghost use Rattle.lay_tune.specs.Systems.{Beside, EachSpan, IsSetSystem, IsStack};
+ghost use Rattle.lay_tune.specs.{Breakings.IsLeastBreaking, Layout.{IsCauseIn, layout_error}, Spans.{AreColumnsOf, AreSpansOf, is_forced_in, score_gaps, verses_of}, Systems.{Beside, EachSpan, IsSetSystem, IsStack}};
 
 use crate::measures::columns_of_measures;
 use crate::systems::{Systems, set_systems};

@@ -3,8 +3,7 @@ ghost use Rattle.mus_score.specs.GoodScore.{IsGoodScore};
 ghost use Rattle.mus_time.specs.Onsets.{timeline_of};
 ghost use Rattle.mus_drawn.specs.{Drawn.drawn_voice, Good.AreGoodMeasures};
 ghost use Rattle.mus_laid.specs.Boxes.{AreGoodMarks};
-ghost use Rattle.lay_tune.specs.Spans.{AreColumnsOf, score_gaps};
-ghost use Rattle.lay_tune.specs.Systems.{AllSpans, Beside, CanBeSet, EachSpan, HaveForce, IsJustified, IsSetSystem, IsStack};
+ghost use Rattle.lay_tune.specs.{Spans.{AreColumnsOf, score_gaps}, Systems.{AllSpans, Beside, CanBeSet, EachSpan, HaveForce, IsJustified, IsSetSystem, IsStack}};
 
 use crate::gaps::gaps_between;
 use lay_columns::Column;

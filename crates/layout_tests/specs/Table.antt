@@ -1,6 +1,5 @@
 -- A table of costs: rows, each cost of at most 2^40, and the forced bars as a list of marks.
-use Rattle.std.specs.Prelude.{◌≡◌, ℕ, ◌<◌, ◌≤◌, ◌^◌, Bool, false, List, zero, suc, Option, Some, None, IfSome, option_map, nat_le, if◌then◌else◌, slice_index_or, refl}
-use Rattle.std.proofs.{Common.arith, Common.sym, lemmas.Option.none-some, lemmas.Bool.Decides.nat_tests}
+use Rattle.std.{specs.Prelude.{◌≡◌, ℕ, ◌<◌, ◌≤◌, ◌^◌, Bool, false, List, zero, suc, Option, Some, None, IfSome, option_map, nat_le, if◌then◌else◌, slice_index_or, refl}, proofs.{Common.{arith, sym}, lemmas.{Option.none-some, Bool.Decides.nat_tests}}}
 use Rattle.lay_breaks.specs.Rows.{row_cost, rows_stop}
 
 abbrev pub capped : ℕ → ℕ

@@ -1,8 +1,6 @@
 -- A walk over the nodes of a body gives its events.
-use Rattle.std.proofs.Common.{◌≡◌, ℕ, suc, List, [], ◌∷◌, ◌++◌, ◌*◌, map, refl, sym, ◌∙◌, ap, subst}
-use Rattle.std.proofs.lemmas.List.{map-append}
-use Rattle.mus_score.specs.declared.{score.Event.Event, score.Measure.Measure, score.Music.Music, score.Music.map-Music, score.Music.TheOpen.Music-F, score.Music.TheViews.roll-Music, score.Music.TheFolds.fold-roll-Music, score.Music.TheFolds.ind-Music, times.Waits.Waits}
-use Rattle.mus_score.specs.Times.{Leafing, in_row, leaves_step, leaves_within, nothing}
+use Rattle.std.proofs.{Common.{◌≡◌, ℕ, suc, List, [], ◌∷◌, ◌++◌, ◌*◌, map, refl, sym, ◌∙◌, ap, subst}, lemmas.List.map-append}
+use Rattle.mus_score.specs.{declared.{score.{Event.Event, Measure.Measure, Music.{Music, map-Music, TheOpen.Music-F, TheViews.roll-Music, TheFolds.{fold-roll-Music, ind-Music}}}, times.Waits.Waits}, Times.{Leafing, in_row, leaves_step, leaves_within, nothing}}
 use Rattle.mus_arcs.specs.Events.{at_measure, body_events, events_from, events_in, events_step, events_within, join, walked_from}
 
 Agrees : Music → Type 0

@@ -1,9 +1,6 @@
 -- An event of a good body has no more heads than the whole body weighs.
-use Rattle.std.proofs.Common.{◌≡◌, ◌≤◌, ℕ, zero, suc, ◌+◌, List, [], ◌∷◌, ◌++◌, Bool, true, false, length, map, sum, refl, sym, ap, subst, arith}
-use Rattle.std.proofs.lemmas.{Bool.and_parts, Bool.eqb-true, Bool.false≢true, List.Elements.All-nil, List.Elements.All-cons, List.Elements.All-head, List.Elements.All-tail, List.Elements.All-append, List.Elements.All-map, List.Elements.All-weaker, List.Sums.sum_by-cons}
-use Rattle.std.specs.{Prelude.if◌then◌else◌, List.All}
-use Rattle.mus_score.specs.declared.{score.Event.Event, score.Measure.Measure, score.Voice.Voice, score.Music.Music, score.Music.map-Music, score.Music.TheOpen.Music-F, score.Music.TheViews.roll-Music, score.Music.TheFolds.fold-roll-Music, score.Music.TheFolds.ind-Music, good.Judged.Judged}
-use Rattle.mus_score.specs.{declared.good.Place.Place, Good.IsGoodBody, Good.all_judged, Good.good_step, Good.is_rest, Good.judged_within, Good.outside, Good.tuplet_judged, Good.weight, Good.weight_step}
+use Rattle.std.{proofs.{Common.{◌≡◌, ◌≤◌, ℕ, zero, suc, ◌+◌, List, [], ◌∷◌, ◌++◌, Bool, true, false, length, map, sum, refl, sym, ap, subst, arith}, lemmas.{Bool.{and_parts, eqb-true, false≢true}, List.{Elements.{All-nil, All-cons, All-head, All-tail, All-append, All-map, All-weaker}, Sums.sum_by-cons}}}, specs.{Prelude.if◌then◌else◌, List.All}}
+use Rattle.mus_score.specs.{declared.{score.{Event.Event, Measure.Measure, Voice.Voice, Music.{Music, map-Music, TheOpen.Music-F, TheViews.roll-Music, TheFolds.{fold-roll-Music, ind-Music}}}, good.{Judged.Judged, Place.Place}}, Good.{IsGoodBody, all_judged, good_step, is_rest, judged_within, outside, tuplet_judged, weight, weight_step}}
 use Rattle.mus_arcs.{specs.Events.at_measure, specs.Events.body_events, specs.Events.events_from, specs.Events.events_in, specs.Events.events_of_voice, specs.Events.events_step, specs.Events.events_within, specs.Events.join, proofs.EventLaws.body_events-walked}
 
 HasFewHeads : ℕ → List Event → Type 0

@@ -1,12 +1,8 @@
 -- The arcs that are found from the last event back are in order, where the ids of the events rise.
-use Rattle.std.proofs.Common.{◌≡◌, ◌<◌, ◌≤◌, ℕ, zero, suc, List, [], ◌∷◌, ◌++◌, map, true, false, ◌==◌, ◌&&◌, drop, get_or, reverse, sym, ◌∙◌, subst, arith}
-use Rattle.std.proofs.lemmas.List.{reverse-append, Elements.All-nil, Elements.All-cons, Elements.All-head, Elements.All-tail, Elements.All-append, Elements.All-drop, Elements.All-weaker, Sorted.All-permutation, Sorted.IsPermutation-reverse, Concat.flat_map-cons}
-use Rattle.std.specs.{Prelude.if◌then◌else◌, List.All, List.list_any}
+use Rattle.std.{proofs.{Common.{◌≡◌, ◌<◌, ◌≤◌, ℕ, zero, suc, List, [], ◌∷◌, ◌++◌, map, true, false, ◌==◌, ◌&&◌, drop, get_or, reverse, sym, ◌∙◌, subst, arith}, lemmas.List.{reverse-append, Elements.{All-nil, All-cons, All-head, All-tail, All-append, All-drop, All-weaker}, Sorted.{All-permutation, IsPermutation-reverse}, Concat.flat_map-cons}}, specs.{Prelude.if◌then◌else◌, List.{All, list_any}}}
 use Rattle.mus_units.specs.declared.note.Head.{Head}
 use Rattle.mus_score.specs.{declared.score.Flat.Flat, declared.score.Measure.Measure, declared.score.Voice.Voice, GoodScore.AreCounted, GoodScore.IsGoodVoice, GoodScore.events_of, Times.flats_of}
-use Rattle.mus_arcs.specs.{declared.events.EventAt.EventAt, declared.pairing.Arc.Arc, declared.pairing.Spot.Spot, Arcs.AreInOrder, Arcs.ComesBefore, Arcs.ComesFirst, Arcs.arcs_of, Arcs.at_one, Arcs.copies, Arcs.earlier, Arcs.has_pitch, Arcs.open_ends, Arcs.slur, Arcs.slurs, Arcs.slurs_at, Arcs.spot}
-use Rattle.mus_arcs.{specs.Arcs.tie, specs.Arcs.ties_at, specs.Arcs.ties_from, specs.Events.at_measure, specs.Events.events_from, specs.Events.events_of_voice, proofs.RuleLaws.IsSlurFrom, proofs.RuleLaws.IsTieBehind, proofs.RuleLaws.IsTieFrom, proofs.RuleLaws.slurs-are, proofs.RuleLaws.slurs_at-are}
-use Rattle.mus_arcs.proofs.RuleLaws.{tie-is, ties-are, ties_at-are}
+use Rattle.mus_arcs.{specs.{declared.{events.EventAt.EventAt, pairing.{Arc.Arc, Spot.Spot}}, Arcs.{AreInOrder, ComesBefore, ComesFirst, arcs_of, at_one, copies, earlier, has_pitch, open_ends, slur, slurs, slurs_at, spot, tie, ties_at, ties_from}, Events.{at_measure, events_from, events_of_voice}}, proofs.RuleLaws.{IsSlurFrom, IsTieBehind, IsTieFrom, slurs-are, slurs_at-are, tie-is, ties-are, ties_at-are}}
 
 all_across : (P Q : Arc → Type 0) (R : Arc → Arc → Type 0) (xs ys : List Arc) → ((x y : Arc) → P x → Q y → R x y) → All P xs → All Q ys → All (λ x. All (R x) ys) xs
 all_across P Q R xs ys on p q = All-weaker P (λ x. All (R x) ys) (λ x px. All-weaker Q (R x) (λ y qy. on x y px qy) ys q) xs p

@@ -1,11 +1,7 @@
 -- The slurs that are found from the last event back are those that the rule pairs, and the ties are among them.
-use Rattle.std.proofs.Common.{◌≡◌, ◌≤◌, ℕ, zero, suc, List, [], ◌∷◌, ◌++◌, Bool, true, false, not, ◌==◌, ◌&&◌, length, drop, reverse, append_assoc, append-nil, refl, sym, ◌∙◌, ap, subst, arith}
-use Rattle.std.proofs.lemmas.List.Sorted.{All-permutation, IsPermutation-refl, IsPermutation-trans, IsPermutation-append_comm, IsPermutation-append_left, IsPermutation-append_right, IsPermutation-reverse}
-use Rattle.std.proofs.{Math.Seq.drop-nil, lemmas.List.Elements.All-nil, lemmas.List.Elements.All-cons, lemmas.List.Elements.All-head, lemmas.List.Elements.All-tail, lemmas.List.Elements.All-append, lemmas.List.Elements.All-weaker, lemmas.List.Elements.filter-append}
-use Rattle.std.specs.{Prelude.filter, Prelude.IsPermutation, Prelude.if◌then◌else◌, List.All, List.list_any}
+use Rattle.std.{proofs.{Common.{◌≡◌, ◌≤◌, ℕ, zero, suc, List, [], ◌∷◌, ◌++◌, Bool, true, false, not, ◌==◌, ◌&&◌, length, drop, reverse, append_assoc, append-nil, refl, sym, ◌∙◌, ap, subst, arith}, lemmas.List.{Sorted.{All-permutation, IsPermutation-refl, IsPermutation-trans, IsPermutation-append_comm, IsPermutation-append_left, IsPermutation-append_right, IsPermutation-reverse}, Elements.{All-nil, All-cons, All-head, All-tail, All-append, All-weaker, filter-append}}, Math.Seq.drop-nil}, specs.{Prelude.{filter, IsPermutation, if◌then◌else◌}, List.{All, list_any}}}
 use Rattle.mus_units.specs.declared.note.Head.{Head}
-use Rattle.mus_arcs.specs.{declared.events.EventAt.EventAt, declared.pairing.Arc.Arc, declared.pairing.Spot.Spot, Arcs.arcs_of, Arcs.copies, Arcs.has_pitch, Arcs.open_ends, Arcs.slur, Arcs.slurs, Arcs.slurs_at, Arcs.slurs_by_ends, Arcs.spot, Arcs.tie, Arcs.ties_at, Arcs.ties_from, Arcs.ties_of}
-use Rattle.mus_arcs.proofs.ArcLaws.{slurs-none}
+use Rattle.mus_arcs.{specs.{declared.{events.EventAt.EventAt, pairing.{Arc.Arc, Spot.Spot}}, Arcs.{arcs_of, copies, has_pitch, open_ends, slur, slurs, slurs_at, slurs_by_ends, spot, tie, ties_at, ties_from, ties_of}}, proofs.ArcLaws.slurs-none}
 
 length-copies : (n : ℕ) (at : Spot) → length (copies n at) ≡ n
 length-copies zero at = refl

@@ -1,8 +1,7 @@
 ghost use Rattle.std.specs.{Prelude.◌≡◌, Prelude.◌++◌, Prelude.◌∷◌, Prelude.[], Prelude.◌≤◌, Prelude.length, Prelude.reverse, Prelude.drop, Prelude.IfOk, Prelude.OnOk, List.All, List.list_any};
 ghost use Rattle.mus_units.specs.Good.{same_letter};
 ghost use Rattle.mus_score.specs.GoodScore.{IsGoodVoice};
-ghost use Rattle.mus_arcs.specs.Arcs.{AreArcsOf, arcs_of, copies, has_pitch, open_ends, slur, slurs, slurs_at, spot, tie, ties_at, ties_from};
-ghost use Rattle.mus_arcs.specs.Events.{events_of_voice};
+ghost use Rattle.mus_arcs.specs.{Arcs.{AreArcsOf, arcs_of, copies, has_pitch, open_ends, slur, slurs, slurs_at, spot, tie, ties_at, ties_from}, Events.events_of_voice};
 
 use crate::events::{EventAt, events_of_voice};
 use mus_score::{Head, Voice};

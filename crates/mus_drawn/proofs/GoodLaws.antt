@@ -1,12 +1,9 @@
 -- What is drawn of a good voice is good.
-use Rattle.std.proofs.Common.{◌≡◌, ◌≤◌, ◌+◌, ℕ, List, [], ◌∷◌, ◌++◌, length, map, max, refl, sym, ap, ◌∙◌, subst, arith}
-use Rattle.std.specs.Prelude.{Option, Some, None, IfSome, unwrap_or, is_some, count_by}
-use Rattle.std.{proofs.lemmas.List.Elements.All-head, proofs.lemmas.List.Elements.All-tail, proofs.lemmas.List.Sums.sum_by-cons, specs.List.All, specs.List.sum_by}
+use Rattle.std.{proofs.{Common.{◌≡◌, ◌≤◌, ◌+◌, ℕ, List, [], ◌∷◌, ◌++◌, length, map, max, refl, sym, ap, ◌∙◌, subst, arith}, lemmas.List.{Elements.{All-head, All-tail}, Sums.sum_by-cons}}, specs.{Prelude.{Option, Some, None, IfSome, unwrap_or, is_some, count_by}, List.{All, sum_by}}}
 use Rattle.mus_units.specs.{declared.key.Key.Key, declared.pitch.Clef.Clef, Good.AreGoodSigns, Good.IsGoodKey, declared.note.Bar.Bar}
 use Rattle.mus_score.specs.{declared.score.Event.Event, declared.score.Flat.Flat, Good.flat_count, Good.flat_weight, Good.heads_in, GoodScore.AreInReach, GoodScore.IsInReach, GoodScore.IsGoodEvent, GoodScore.clef_at}
 use Rattle.mus_stems.specs.{declared.plans.StemPlan.StemPlan, Plans.AllEndsNear}
-use Rattle.mus_drawn.specs.{declared.drawn.DrawnEvent.DrawnEvent, declared.drawn.Opening.Opening, declared.drawn.Style.Style, declared.standing.Standing.Standing, Drawn.standing_after, Drawn.standing_behind, Drawn.old_signs, Drawn.opening_of, Drawn.drawn_events, Good.CanDraw, Good.AllCanDraw}
-use Rattle.mus_drawn.{specs.Good.CanGrace, specs.Good.AllCanGrace, specs.Good.IsGoodDrawn, specs.Good.AreGoodDrawn, specs.Good.IsGoodMeasure, proofs.Reaches.near_of}
+use Rattle.mus_drawn.{specs.{declared.{drawn.{DrawnEvent.DrawnEvent, Opening.Opening, Style.Style}, standing.Standing.Standing}, Drawn.{standing_after, standing_behind, old_signs, opening_of, drawn_events}, Good.{CanDraw, AllCanDraw, CanGrace, AllCanGrace, IsGoodDrawn, AreGoodDrawn, IsGoodMeasure}}, proofs.Reaches.near_of}
 
 key_after : (key : Key) (new : Option Key) → IsGoodKey key → IfSome new IsGoodKey → IsGoodKey (unwrap_or new key)
 key_after key None good h = good

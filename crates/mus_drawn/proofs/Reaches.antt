@@ -1,6 +1,5 @@
 -- Events within reach of the staff can be drawn.
-use Rattle.std.proofs.Common.{◌≡◌, ◌≤◌, ◌+◌, ◌*◌, ℕ, List, [], ◌∷◌, ◌++◌, length, map, max, refl, arith}
-use Rattle.std.{proofs.lemmas.List.Elements.All-head, proofs.lemmas.List.Elements.All-tail, proofs.lemmas.List.Sums.sum_by-cons, specs.List.All, specs.List.sum_by}
+use Rattle.std.{proofs.{Common.{◌≡◌, ◌≤◌, ◌+◌, ◌*◌, ℕ, List, [], ◌∷◌, ◌++◌, length, map, max, refl, arith}, lemmas.List.{Elements.{All-head, All-tail}, Sums.sum_by-cons}}, specs.List.{All, sum_by}}
 use Rattle.mus_units.specs.{declared.note.Head.Head, declared.pitch.Clef.Clef}
 use Rattle.mus_score.specs.{declared.score.Flat.Flat, Good.IsGoodFlat, Good.flat_weight, Good.heads_in, GoodScore.AreInReach, GoodScore.IsInReach, GoodScore.clef_at}
 use Rattle.mus_stems.specs.{Heads.AllNear, Heads.stand_of, Stills.AllCanStand, Stills.CanStand}

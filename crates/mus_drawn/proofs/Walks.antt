@@ -1,8 +1,7 @@
 -- From measure to measure.
 use Rattle.std.proofs.Common.{◌≡◌, ◌<◌, ℕ, suc, ◌+◌, List, [], ◌∷◌, ◌++◌, append_assoc, drop, drop-cons, length, get_or, refl, sym, ap, ◌∙◌, subst, arith}
 use Rattle.mus_score.specs.{declared.score.Flat.Flat, declared.score.Measure.Measure, GoodScore.AreInReach, GoodScore.events_of, Times.flats_of}
-use Rattle.mus_drawn.{specs.declared.drawn.DrawnMeasure.DrawnMeasure, specs.declared.drawn.Style.Style, specs.declared.standing.Standing.Standing, specs.Drawn.standing_behind, specs.Drawn.drawn_measure, specs.Drawn.drawn_measures, specs.Good.AllCanDraw, proofs.Reaches.reach_cut}
-use Rattle.mus_drawn.proofs.GoodLaws.{can_cut}
+use Rattle.mus_drawn.{specs.{declared.{drawn.{DrawnMeasure.DrawnMeasure, Style.Style}, standing.Standing.Standing}, Drawn.{standing_behind, drawn_measure, drawn_measures}, Good.AllCanDraw}, proofs.{Reaches.reach_cut, GoodLaws.can_cut}}
 
 pub measures_cut : (ms : List Measure) (i : ℕ) (m : Measure) → i < length ms → m ≡ get_or ms i m → drop i ms ≡ m ∷ drop (i + 1) ms
 measures_cut ms i m inside here =

@@ -1,8 +1,7 @@
 -- How the heads of a score sound, found by looking back from each. A head has the alteration of its own sign; else it
 -- sounds as the head that is tied into it; else it has that of the last sign before it in its measure and voice that
 -- reaches it, the signs of graces too; else its key's. Graces are not listed.
-use Rattle.std.specs.Prelude.{ℕ, ◌+◌, Bool, ◌&&◌, if◌then◌else◌, List, [], ◌∷◌, ◌++◌, flat_map, Option, Some, None}
-use Rattle.std.specs.List.{list_any}
+use Rattle.std.specs.{Prelude.{ℕ, ◌+◌, Bool, ◌&&◌, if◌then◌else◌, List, [], ◌∷◌, ◌++◌, flat_map, Option, Some, None}, List.list_any}
 use Rattle.mus_units.specs.declared.{key.Sign.Sign, key.Spread.Spread, note.Head.Head, pitch.Alter.Alter, pitch.Pitch.Pitch}
 use Rattle.mus_score.specs.{declared.score.Flat.Flat, declared.score.Measure.Measure, declared.score.Score.Score, declared.score.Voice.Voice, Times.flats_of}
 use Rattle.mus_pitch.specs.Alteration.{alteration_of}

@@ -1,10 +1,8 @@
 ghost use Rattle.std.specs.Prelude.{◌≡◌, ◌≤◌, ◌*◌, All, IfOk, OnOk, length, sum_by};
 ghost use Rattle.mus_units.specs.Good.{IsGoodKey};
-ghost use Rattle.mus_score.specs.{Good.IsGoodBody, Good.flat_count, Good.IsGoodFlat, Good.flat_weight, Good.longest_ticks, Good.total_ticks, Times.flats_of};
-ghost use Rattle.mus_score.specs.GoodScore.{AreInReach, IsGoodEvent, IsGoodVoice, events_of};
+ghost use Rattle.mus_score.specs.{Good.{IsGoodBody, flat_count, IsGoodFlat, flat_weight, longest_ticks, total_ticks}, Times.flats_of, GoodScore.{AreInReach, IsGoodEvent, IsGoodVoice, events_of}};
 ghost use Rattle.mus_stems.specs.Plans.{stems_of, AllEndsNear};
-ghost use Rattle.mus_drawn.specs.Drawn.{standing_behind, clefs_from, drawn_event, drawn_events, drawn_measure, drawn_measures, drawn_voice, raise_of, style_of, wish_in};
-ghost use Rattle.mus_drawn.specs.Good.{AllCanDraw, IsGoodMeasure, AreGoodMeasures};
+ghost use Rattle.mus_drawn.specs.{Drawn.{standing_behind, clefs_from, drawn_event, drawn_events, drawn_measure, drawn_measures, drawn_voice, raise_of, style_of, wish_in}, Good.{AllCanDraw, IsGoodMeasure, AreGoodMeasures}};
 
 use crate::drawn::{DrawnEvent, DrawnMeasure, DrawnVoice, Style};
 use crate::standing::{

@@ -1,8 +1,7 @@
 -- One more of what is counted.
 use Rattle.std.proofs.Common.{◌≡◌, ℕ, suc, ◌+◌, ◌-◌, ◌*◌, ◌<◌, ℤ, pos, Bool, List, ◌∷◌, ◌++◌, refl, sym, ap, ◌∙◌, append_assoc, arith}
 use Rattle.mus_units.specs.declared.glyph.Glyph.{Glyph}
-use Rattle.mus_ink.specs.{declared.beams.Stem.Stem, Drawing.glyph, Drawing.loose_glyph, Distances.dot_side, Distances.dot_step, Distances.rest_dot_line, Kinds.flag_glyph, Kinds.stub_glyph, Stems.stem_dx, Stems.flag_dy, Stems.flag_marks, Stems.lower_edge, Stems.stub_marks, Rests.raised}
-use Rattle.mus_ink.specs.{Rests.short_dy, Rests.short_rests, Rests.rest_dots, Beams.level_from, Beams.last_at, Beams.levels_from}
+use Rattle.mus_ink.specs.{declared.beams.Stem.Stem, Drawing.{glyph, loose_glyph}, Distances.{dot_side, dot_step, rest_dot_line}, Kinds.{flag_glyph, stub_glyph}, Stems.{stem_dx, flag_dy, flag_marks, lower_edge, stub_marks}, Rests.{raised, short_dy, short_rests, rest_dots}, Beams.{level_from, last_at, levels_from}}
 
 pub one_less : (k n : ℕ) → k < n → n - k ≡ suc (n - (k + 1))
 one_less k n lt = omega arith

@@ -1,14 +1,10 @@
 -- One walk over the marks of each part: what holds of a glyph in the main lane, of a loose glyph, of a stem, and of
 -- the marks of a good meter holds of all marks of the parts.
-use Rattle.std.proofs.Common.{ℕ, zero, suc, ℤ, ◌+◌, ◌-◌, max, Bool, true, false, ◌==◌, ◌&&◌, if◌then◌else◌, List, [], ◌∷◌, ◌++◌, Option, Some, None}
-use Rattle.std.specs.{List.AllByRecursion, Prelude.IfSome}
+use Rattle.std.{proofs.Common.{ℕ, zero, suc, ℤ, ◌+◌, ◌-◌, max, Bool, true, false, ◌==◌, ◌&&◌, if◌then◌else◌, List, [], ◌∷◌, ◌++◌, Option, Some, None}, specs.{List.AllByRecursion, Prelude.IfSome}}
 use Rattle.mus_units.specs.{declared.glyph.Glyph.Glyph, declared.key.Key.Key, declared.key.Meter.Meter, declared.key.Sign.Sign, declared.note.Bar.Bar, declared.note.Deco.Deco, declared.note.Head.Head, declared.pitch.Alter.Alter, declared.pitch.Clef.Clef, declared.value.Base.Base, Good.IsGoodMeter}
 use Rattle.mus_score.specs.{declared.score.Changes.Changes, declared.score.Event.Event, declared.score.Look.Look}
 use Rattle.mus_stems.{proofs.RunLaws.all_append, specs.declared.dots.Spot.Spot, specs.declared.plans.StemPlan.StemPlan}
-use Rattle.mus_ink.specs.{declared.graces.Group.Group, Bars.bar_marks, Bars.glyph_if, Changes.behind_clef, Changes.change_marks, Changes.clef_if, Changes.head_marks, Changes.key_if, Changes.new_entries, Decos.behind_deco, Decos.body_marks, Decos.deco_mark, Decos.deco_marks, Decos.note_marks}
-use Rattle.mus_ink.specs.{Distances.entry_gap, Distances.signature_side, Kinds.deco_glyph, Kinds.head_glyph, Graces.at_end, Graces.grace_body, Graces.grace_heads, Graces.grace_marks, Notes.dot_marks, Notes.heads_marks, Notes.ledger_marks, Notes.note_heads, Notes.sign_mark, Notes.sign_marks}
-use Rattle.mus_ink.specs.{Rests.rest_dots, Rests.rest_glyphs, Rests.rest_marks, Rests.short_rests, Signatures.entry_mark, Signatures.entry_marks, Signatures.meter_if, Signatures.meter_marks, Stems.flag_marks, Stems.flags_or_stubs, Stems.stem_if, Stems.stem_marks, Stems.stub_marks, Drawing.glyph}
-use Rattle.mus_ink.specs.Drawing.{loose_glyph, stem}
+use Rattle.mus_ink.specs.{declared.graces.Group.Group, Bars.{bar_marks, glyph_if}, Changes.{behind_clef, change_marks, clef_if, head_marks, key_if, new_entries}, Decos.{behind_deco, body_marks, deco_mark, deco_marks, note_marks}, Distances.{entry_gap, signature_side}, Kinds.{deco_glyph, head_glyph}, Graces.{at_end, grace_body, grace_heads, grace_marks}, Notes.{dot_marks, heads_marks, ledger_marks, note_heads, sign_mark, sign_marks}, Rests.{rest_dots, rest_glyphs, rest_marks, short_rests}, Signatures.{entry_mark, entry_marks, meter_if, meter_marks}, Stems.{flag_marks, flags_or_stubs, stem_if, stem_marks, stub_marks}, Drawing.{glyph, loose_glyph, stem}}
 use Rattle.mus_laid.specs.declared.drawn.Drawn.{Drawn}
 
 -- what is asked of each kind of mark

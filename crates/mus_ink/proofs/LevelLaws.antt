@@ -1,10 +1,7 @@
 -- The beams that are laid event by event are those of the levels.
-use Rattle.std.proofs.Common.{◌≡◌, ℕ, zero, suc, ◌+◌, ◌-◌, ◌≤◌, ◌<◌, ◌==◌, ◌⊎◌, inl, inr, nat_lt, Bool, true, false, cond, ◌&&◌, List, [], ◌∷◌, ◌++◌, append-nil, map, take, drop, filter, refl, sym, ◌∙◌, ap, arith}
-use Rattle.std.proofs.lemmas.Bool.{true≢false, false≢true, cases_lt, eq-eqb, ne_eqb, lt-ltb, ltb-true, ltb-false, le-ltb, and_right}
-use Rattle.std.specs.List.{AllByRecursion}
+use Rattle.std.{proofs.{Common.{◌≡◌, ℕ, zero, suc, ◌+◌, ◌-◌, ◌≤◌, ◌<◌, ◌==◌, ◌⊎◌, inl, inr, nat_lt, Bool, true, false, cond, ◌&&◌, List, [], ◌∷◌, ◌++◌, append-nil, map, take, drop, filter, refl, sym, ◌∙◌, ap, arith}, lemmas.Bool.{true≢false, false≢true, cases_lt, eq-eqb, ne_eqb, lt-ltb, ltb-true, ltb-false, le-ltb, and_right}}, specs.List.AllByRecursion}
 use Rattle.mus_stems.{specs.Runs.runs, specs.Runs.put_before, specs.Runs.run_more, proofs.RunLaws.maximal_runs, proofs.RunLaws.runs_front}
-use Rattle.mus_ink.specs.{declared.beams.Stem.Stem, Beams.goes_on, Beams.last_at, Beams.level_from, Beams.levels_from, Beams.levels_before, Beams.beams_at, Beams.beams_from, Beams.beam_marks, Levels.joins, Levels.Level, Levels.last_in, Levels.long_runs, Levels.is_at, Levels.LevelsRise}
-use Rattle.mus_ink.specs.Levels.{ByFirst, AreLevels, bridge_of, OfOtherKeys, KeysDiffer, BeamsByLevels}
+use Rattle.mus_ink.specs.{declared.beams.Stem.Stem, Beams.{goes_on, last_at, level_from, levels_from, levels_before, beams_at, beams_from, beam_marks}, Levels.{joins, Level, last_in, long_runs, is_at, LevelsRise, ByFirst, AreLevels, bridge_of, OfOtherKeys, KeysDiffer, BeamsByLevels}}
 use Rattle.mus_time.specs.{declared.keys.ColumnKey.ColumnKey, Order.same_key}
 
 -- the levels that begin at an event, one after the other

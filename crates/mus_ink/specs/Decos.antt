@@ -1,6 +1,5 @@
 -- The top of an event, its decorations, and all marks of an event but its syllables and texts.
-use Rattle.std.specs.Prelude.{ℕ, ℤ, pos, ◌+ℤ◌, Bool, true, false, List, [], ◌∷◌, ◌++◌, Option, Some, None}
-use Rattle.std.specs.Int.{int_max}
+use Rattle.std.specs.{Prelude.{ℕ, ℤ, pos, ◌+ℤ◌, Bool, true, false, List, [], ◌∷◌, ◌++◌, Option, Some, None}, Int.int_max}
 use Rattle.mus_units.specs.{declared.glyph.Glyph.Glyph, declared.pitch.Clef.Clef, declared.note.Head.Head, declared.note.Deco.Deco}
 use Rattle.mus_score.specs.declared.score.Event.{Event}
 use Rattle.mus_stems.specs.declared.plans.StemPlan.{StemPlan}

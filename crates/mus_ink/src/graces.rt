@@ -1,7 +1,6 @@
 ghost use Rattle.std.specs.Prelude.{◌≡◌, ◌≤◌, ◌++◌, length, map, OnOk};
 ghost use Rattle.mus_stems.specs.{Heads.AllNear, Heads.stand_of, Signs.signs_from, Ends.low_of, Ends.high_of, Ledgers.ledgers_of};
-ghost use Rattle.mus_ink.specs.{Distances.grace_sign_side, Drawing.back, Notes.sign_marks, Notes.ledger_marks};
-ghost use Rattle.mus_ink.specs.Graces.{above_head, own_end, greatest_end, group_end, group_of, grace_heads, stem_from, at_end, grace_body, grace_marks, beam_edge, grace_beam};
+ghost use Rattle.mus_ink.specs.{Distances.grace_sign_side, Drawing.back, Notes.{sign_marks, ledger_marks}, Graces.{above_head, own_end, greatest_end, group_end, group_of, grace_heads, stem_from, at_end, grace_body, grace_marks, beam_edge, grace_beam}};
 
 use crate::distances::{BEAM_THICKNESS, GRACE_SIGN_SIDE, GRACE_STEM_LENGTH, GRACE_STEM_SIDE};
 use crate::drawing::{cut, put_beam, put_glyph, put_stem};

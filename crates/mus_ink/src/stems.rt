@@ -1,6 +1,5 @@
 ghost use Rattle.std.specs.Prelude.{◌≡◌, ◌-◌, ◌++◌, ◌∷◌, [], OnOk};
-ghost use Rattle.mus_ink.specs.{Drawing.glyph, Drawing.loose_glyph, Kinds.flag_glyph, Kinds.stub_glyph};
-ghost use Rattle.mus_ink.specs.Stems.{stem_dx, stem_if, flag_dy, flag_marks, lower_edge, stub_marks, flags_or_stubs, stem_marks};
+ghost use Rattle.mus_ink.specs.{Drawing.{glyph, loose_glyph}, Kinds.{flag_glyph, stub_glyph}, Stems.{stem_dx, stem_if, flag_dy, flag_marks, lower_edge, stub_marks, flags_or_stubs, stem_marks}};
 ghost use Rattle.mus_stems.specs.Slope.{with_end};
 
 use crate::distances::{BEAM_THICKNESS, LEVEL_STEP, STEM_SIDE};

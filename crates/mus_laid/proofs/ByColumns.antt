@@ -1,6 +1,5 @@
 -- Marks that are put into their columns one by one stand there part by part.
-use Rattle.std.proofs.Common.{◌≡◌, ◌∙◌, ℕ, zero, suc, ◌+◌, ◌<◌, ◌≤◌, cond, Bool, true, false, List, [], ◌∷◌, ◌++◌, length, get_or, set, map, Some, None, refl, sym, ap, append_assoc, arith}
-use Rattle.std.{proofs.lemmas.Bool.Decides.nat_tests, proofs.lemmas.List.append-nil, proofs.lemmas.List.FromFn.map-range_with_len_more, specs.List.filter, specs.List.flat_map, specs.List.range_with_len}
+use Rattle.std.{proofs.{Common.{◌≡◌, ◌∙◌, ℕ, zero, suc, ◌+◌, ◌<◌, ◌≤◌, cond, Bool, true, false, List, [], ◌∷◌, ◌++◌, length, get_or, set, map, Some, None, refl, sym, ap, append_assoc, arith}, lemmas.{Bool.Decides.nat_tests, List.{append-nil, FromFn.map-range_with_len_more}}}, specs.List.{filter, flat_map, range_with_len}}
 use Rattle.mus_laid.specs.{declared.laid.Laid.Laid, Ranked.anchor_rank, Ranked.at_rank, Ranked.by_columns, Ranked.is_rank, Ranked.stands_at, Ranked.with_mark, Ranked.with_part, Ranked.with_parts}
 
 -- ---- one mark

@@ -1,9 +1,6 @@
 -- Characters spell one list of syllables, and it is the one that a walk gives.
-use Rattle.std.proofs.Common.{◌≡◌, ℕ, List, [], ◌∷◌, ◌++◌, refl, sym, ◌∙◌, ap, subst, append_assoc, append-nil}
-use Rattle.std.proofs.lemmas.List.{map-append}
-use Rattle.mus_lyric.specs.{declared.character.Character.Character, declared.syllable.Syl.Syl, Characters.characters}
-use Rattle.mus_lyric.specs.Syllables.{AreSyllablesOf, EndsRun, Spells, nothing, blank, word, hyphened, hyphen, underscore, star, bar, printed, behind_run, syllables_of}
-use Rattle.mus_lyric.specs.declared.character.Character.TheVariants.{Printed, Blank, Hyphen, Underscore, Star, BarLine}
+use Rattle.std.proofs.{Common.{◌≡◌, ℕ, List, [], ◌∷◌, ◌++◌, refl, sym, ◌∙◌, ap, subst, append_assoc, append-nil}, lemmas.List.map-append}
+use Rattle.mus_lyric.specs.{declared.{character.Character.{Character, TheVariants.{Printed, Blank, Hyphen, Underscore, Star, BarLine}}, syllable.Syl.Syl}, Characters.characters, Syllables.{AreSyllablesOf, EndsRun, Spells, nothing, blank, word, hyphened, hyphen, underscore, star, bar, printed, behind_run, syllables_of}}
 use Rattle.mus_lyric.specs.declared.syllable.Syl.TheVariants as syl
 
 behind_run-printed : (before run : List ℕ) (more : List Character) → behind_run before (printed run ++ more) ≡ behind_run (before ++ run) more

@@ -1,7 +1,6 @@
 ghost use Rattle.std.specs.Prelude.{◌≡◌, ◌++◌, ◌∷◌, [], List, IfOk, OnOk};
-ghost use Rattle.mus_lyric.specs.{declared.syllable.Syl.Syl, Characters.characters};
+ghost use Rattle.mus_lyric.specs.{declared.syllable.Syl.Syl, Characters.characters, Syllables.{AreSyllablesOf, behind_run, ended, syllables_of}};
 ghost use Rattle.mus_lyric.specs.declared.syllable.Syl.TheVariants as syl;
-ghost use Rattle.mus_lyric.specs.Syllables.{AreSyllablesOf, behind_run, ended, syllables_of};
 
 use crate::character::{Character, first_character};
 use mus_units::{Memory, Row, Text};

@@ -1,26 +1,16 @@
 -- Other ends of stems leave all but heights as it was: what is drawn of a voice has the shape of what is drawn of it with all
 -- ends at 0. So tilted marks are those that are called for, but for their heights.
-use Rattle.std.proofs.Common.{◌≡◌, ◌∙◌, ℕ, zero, suc, ℤ, pos, ◌+◌, ◌-◌, max, sum, Bool, true, false, ◌&&◌, ◌||◌, ◌==◌, nat_lt, if◌then◌else◌, cond, List, [], ◌∷◌, ◌++◌, length, map, take, drop, Option, Some, None, refl, sym, ap, subst}
-use Rattle.std.{proofs.lemmas.List.drop-map, proofs.lemmas.List.map-append, proofs.lemmas.List.take-map, proofs.lemmas.Option.slice_get-map, proofs.lemmas.Simd.map-map, proofs.lemmas.List.Sums.sum_by-cons, specs.List.All, specs.List.AllByRecursion, specs.List.count_by, specs.List.filter}
-use Rattle.std.specs.{List.find, List.flat_map, List.range_with_len, List.slice_get, List.slice_index_or, List.slice_range, Option.option_map}
+use Rattle.std.{proofs.{Common.{◌≡◌, ◌∙◌, ℕ, zero, suc, ℤ, pos, ◌+◌, ◌-◌, max, sum, Bool, true, false, ◌&&◌, ◌||◌, ◌==◌, nat_lt, if◌then◌else◌, cond, List, [], ◌∷◌, ◌++◌, length, map, take, drop, Option, Some, None, refl, sym, ap, subst}, lemmas.{List.{drop-map, map-append, take-map, Sums.sum_by-cons}, Option.slice_get-map, Simd.map-map}}, specs.{List.{All, AllByRecursion, count_by, filter, find, flat_map, range_with_len, slice_get, slice_index_or, slice_range}, Option.option_map}}
 use Rattle.mus_units.specs.declared.{glyph.Glyph.Glyph, note.Bar.Bar, note.Deco.Deco, note.Head.Head, pitch.Clef.Clef}
 use Rattle.mus_score.specs.{declared.score.Event.Event, declared.score.Flat.Flat, declared.score.Score.Score, declared.score.Seat.Seat, GoodScore.IsGoodScore, Seats.is_lower}
 use Rattle.mus_time.specs.{declared.keys.ColumnKey.ColumnKey, Order.same_key, declared.times.Timeline.Timeline, Keys.called_keys}
 use Rattle.mus_arcs.specs.{declared.cutting.Piece.Piece, declared.pairing.Arc.Arc, Pieces.piece_of}
 use Rattle.mus_stems.specs.{declared.plans.StemPlan.StemPlan, Slope.with_end}
-use Rattle.mus_laid.specs.{declared.drawn.Bridge.Bridge, declared.drawn.Drawn.Drawn, declared.laid.Laid.Laid, declared.laid.Mark.Mark, Printed.printed, Ranked.anchor_rank, Ranked.at_rank, Ranked.bridge_at, Ranked.by_columns, Ranked.drawn_at, Ranked.is_rank, Ranked.stands_at, Shapes.AreAlike}
-use Rattle.mus_laid.specs.{Shapes.laid_shape, Shapes.mark_shape, Shapes.marks_shape, Shapes.staff_shape, declared.laid.SystemMarks.SystemMarks, Boxes.AreGoodMarks, declared.laid.Lane.Lane}
-use Rattle.mus_ink.specs.{declared.beams.Stem.Stem, Beams.beam_marks, Beams.beams_at, Beams.beams_from, Beams.goes_on, Beams.last_at, Beams.level_from, Beams.levels_before, Beams.levels_from, Beams.stem_of, Beams.way_of, Decos.behind_deco, Decos.body_marks, Decos.deco_mark, Decos.deco_marks}
-use Rattle.mus_ink.specs.{Decos.first_deco, Decos.next_deco, Decos.note_marks, Decos.top_of, Distances.half_character, Drawing.back, Drawing.beam, Drawing.glyph, Drawing.loose_glyph, Kinds.deco_glyph, Kinds.flag_glyph, Kinds.stub_glyph, Notes.heads_marks, Stems.flag_dy, Stems.flag_marks}
-use Rattle.mus_ink.specs.Stems.{flags_or_stubs, lower_edge, stem_dx, stem_if, stem_marks, stub_marks}
-use Rattle.mus_words.specs.{Arcs.arc_mark, Arcs.slur_mark, Arcs.tie_mark, Syllables.syllable_dx, Syllables.syllable_if, Syllables.syllables_from, Syllables.verse_dy, Texts.above_dy, Texts.above_from, Texts.below_dy, Texts.below_from, Texts.text_marks, Texts.texts_above, Texts.texts_below}
-use Rattle.mus_words.specs.Words.{words}
+use Rattle.mus_laid.specs.{declared.{drawn.{Bridge.Bridge, Drawn.Drawn}, laid.{Laid.Laid, Mark.Mark, SystemMarks.SystemMarks, Lane.Lane}}, Printed.printed, Ranked.{anchor_rank, at_rank, bridge_at, by_columns, drawn_at, is_rank, stands_at}, Shapes.{AreAlike, laid_shape, mark_shape, marks_shape, staff_shape}, Boxes.AreGoodMarks}
+use Rattle.mus_ink.specs.{declared.beams.Stem.Stem, Beams.{beam_marks, beams_at, beams_from, goes_on, last_at, level_from, levels_before, levels_from, stem_of, way_of}, Decos.{behind_deco, body_marks, deco_mark, deco_marks, first_deco, next_deco, note_marks, top_of}, Distances.half_character, Drawing.{back, beam, glyph, loose_glyph}, Kinds.{deco_glyph, flag_glyph, stub_glyph}, Notes.heads_marks, Stems.{flag_dy, flag_marks, flags_or_stubs, lower_edge, stem_dx, stem_if, stem_marks, stub_marks}}
+use Rattle.mus_words.specs.{Arcs.{arc_mark, slur_mark, tie_mark}, Syllables.{syllable_dx, syllable_if, syllables_from, verse_dy}, Texts.{above_dy, above_from, below_dy, below_from, text_marks, texts_above, texts_below}, Words.words}
 use Rattle.mus_drawn.specs.{declared.drawn.DrawnEvent.DrawnEvent, declared.drawn.DrawnMeasure.DrawnMeasure, declared.drawn.DrawnVoice.DrawnVoice, Drawn.raise_of}
-use Rattle.mus_marks.specs.Events.{bar_part, change_part, event_marks, events_marks, graces_part, levels_behind, levels_in, measures_marks, no_texts, note_part, note_rank, text_place, words_marks, words_part}
-use Rattle.mus_marks.specs.Staff.{bare_marks, columns_part, first_part, head_part, is_above, is_below_staff, is_words, own_part, room_over, staff_marks, staff_over, text_above, text_below, texts_behind}
-use Rattle.mus_marks.specs.{declared.events.Place.Place, declared.events.Room.Room, declared.events.Texts.Texts, Arcs.arc_between, Arcs.arc_in, Arcs.arcs_between, Arcs.event_at, Arcs.event_in, Arcs.has_id, Arcs.left_key, Arcs.piece_between, Arcs.right_key, Arcs.seen_of, Bridges.beams_between}
-use Rattle.mus_marks.specs.{Bridges.bridges_of, Bridges.event_grace_beam, Bridges.grace_beams_between, Bridges.stem_at, Staff.texts_with, Staff.verses_on, Staff.written_parts, System.IsCall, System.drawn_staves, Tilt.IsTilted, Tilt.tilted_staff, Tilt.voice_tilted}
-use Rattle.mus_marks.proofs.{Ending.flat_event, Ending.flat_measure, Ending.ended_fits, Ending.flat_voice, Fitting.staves_fit, OneList.same_keys, Parts.FitsVoice, GoodMarks.staves_good}
+use Rattle.mus_marks.{specs.{Events.{bar_part, change_part, event_marks, events_marks, graces_part, levels_behind, levels_in, measures_marks, no_texts, note_part, note_rank, text_place, words_marks, words_part}, Staff.{bare_marks, columns_part, first_part, head_part, is_above, is_below_staff, is_words, own_part, room_over, staff_marks, staff_over, text_above, text_below, texts_behind, texts_with, verses_on, written_parts}, declared.events.{Place.Place, Room.Room, Texts.Texts}, Arcs.{arc_between, arc_in, arcs_between, event_at, event_in, has_id, left_key, piece_between, right_key, seen_of}, Bridges.{beams_between, bridges_of, event_grace_beam, grace_beams_between, stem_at}, System.{IsCall, drawn_staves}, Tilt.{IsTilted, tilted_staff, voice_tilted}}, proofs.{Ending.{flat_event, flat_measure, ended_fits, flat_voice}, Fitting.staves_fit, OneList.same_keys, Parts.FitsVoice, GoodMarks.staves_good}}
 use Rattle.mus_laid.specs.declared.laid.Lane.TheVariants as lanes
 
 joined : {X Y : Type 0} (f : X → Y) (xs ys us vs : List X) → map f xs ≡ map f us → map f ys ≡ map f vs → map f (xs ++ ys) ≡ map f (us ++ vs)

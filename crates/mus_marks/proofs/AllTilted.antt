@@ -1,11 +1,9 @@
 -- Voices that are tilted all at once: what they keep, how they are put back, and the staves that they stand on.
-use Rattle.std.proofs.Common.{◌≡◌, ◌∙◌, ℕ, ℤ, ◌-◌, ◌≤◌, List, [], ◌∷◌, length, sum, map, drop, refl, sym, ap, subst, arith}
-use Rattle.std.{proofs.lemmas.List.length-take, proofs.lemmas.Simd.map-map, proofs.lemmas.List.Elements.All-map, proofs.lemmas.List.Elements.recursion_from_All, specs.List.All, specs.List.AllByRecursion, specs.List.slice_index_or, specs.List.slice_range}
+use Rattle.std.{proofs.{Common.{◌≡◌, ◌∙◌, ℕ, ℤ, ◌-◌, ◌≤◌, List, [], ◌∷◌, length, sum, map, drop, refl, sym, ap, subst, arith}, lemmas.{List.{length-take, Elements.{All-map, recursion_from_All}}, Simd.map-map}}, specs.List.{All, AllByRecursion, slice_index_or, slice_range}}
 use Rattle.mus_score.specs.Seats.{grouped}
 use Rattle.mus_time.specs.declared.keys.ColumnKey.{ColumnKey}
 use Rattle.mus_drawn.specs.{declared.drawn.DrawnVoice.DrawnVoice, Good.AreGoodMeasures}
-use Rattle.mus_marks.{specs.Staff.staff_marks, specs.Staff.verses_on, specs.System.stands_lower, specs.Tilt.over, specs.Tilt.plain_ends, specs.Tilt.sloped_over, specs.Tilt.tilted_staff, specs.Tilt.voice_ended, specs.Tilt.voice_tilted, proofs.Ending.ended_back, proofs.Ending.ended_good}
-use Rattle.mus_marks.proofs.{Ending.ended_length, Ending.sloped_length, Groups.grouped_map}
+use Rattle.mus_marks.{specs.{Staff.{staff_marks, verses_on}, System.stands_lower, Tilt.{over, plain_ends, sloped_over, tilted_staff, voice_ended, voice_tilted}}, proofs.{Ending.{ended_back, ended_good, ended_length, sloped_length}, Groups.grouped_map}}
 
 over_own : {A B : Type 0} (f : B → A → A) (g : A → B) (xs : List A) → over f (map g xs) xs ≡ map (λ x. f (g x) x) xs
 over_own f g [] = refl

@@ -1,6 +1,5 @@
 -- Texts that are counted mark by mark are those of all marks of a part.
-use Rattle.std.proofs.Common.{◌≡◌, ◌∙◌, ℕ, zero, suc, ◌+◌, ◌<◌, ◌≤◌, ◌&&◌, if◌then◌else◌, cond, Bool, true, false, List, [], ◌∷◌, ◌++◌, length, get_or, set, map, Some, None, refl, sym, ap, arith}
-use Rattle.std.{proofs.lemmas.Bool.Decides.nat_tests, proofs.lemmas.List.FromFn.map-range_with_len_more, proofs.lemmas.List.Sums.sum_by-cons, specs.List.count_by, specs.List.range_with_len, specs.List.slice_index_or}
+use Rattle.std.{proofs.{Common.{◌≡◌, ◌∙◌, ℕ, zero, suc, ◌+◌, ◌<◌, ◌≤◌, ◌&&◌, if◌then◌else◌, cond, Bool, true, false, List, [], ◌∷◌, ◌++◌, length, get_or, set, map, Some, None, refl, sym, ap, arith}, lemmas.{Bool.Decides.nat_tests, List.{FromFn.map-range_with_len_more, Sums.sum_by-cons}}}, specs.List.{count_by, range_with_len, slice_index_or}}
 use Rattle.mus_laid.specs.{declared.laid.Laid.Laid, Ranked.anchor_rank, Ranked.is_rank, Ranked.stands_at}
 use Rattle.mus_marks.specs.{declared.events.Texts.Texts, Events.no_texts, Places.counted, Places.with_text, Places.with_texts, Staff.is_above, Staff.is_below_staff, Staff.is_words, Staff.text_above, Staff.text_below, Staff.texts_behind, Staff.texts_with}
 

@@ -1,6 +1,5 @@
 -- Events with other ends: the walks that write them, what stays as it was, and how it is undone.
-use Rattle.std.proofs.Common.{◌≡◌, ◌∙◌, ℕ, zero, suc, ℤ, pos, ◌+◌, ◌<◌, ◌≤◌, List, [], ◌∷◌, ◌++◌, length, get_or, set, take, drop, map, refl, sym, ap, subst, arith}
-use Rattle.std.{proofs.lemmas.List.length-map, proofs.lemmas.List.map-append, proofs.lemmas.List.set-get_or, proofs.lemmas.List.take-append-drop, proofs.lemmas.List.Elements.All-from_recursion, proofs.lemmas.List.Elements.recursion_from_All, specs.List.All, specs.List.AllByRecursion}
+use Rattle.std.{proofs.{Common.{◌≡◌, ◌∙◌, ℕ, zero, suc, ℤ, pos, ◌+◌, ◌<◌, ◌≤◌, List, [], ◌∷◌, ◌++◌, length, get_or, set, take, drop, map, refl, sym, ap, subst, arith}, lemmas.List.{length-map, map-append, set-get_or, take-append-drop, Elements.{All-from_recursion, recursion_from_All}}}, specs.List.{All, AllByRecursion}}
 use Rattle.mus_time.specs.declared.keys.ColumnKey.{ColumnKey}
 use Rattle.mus_stems.proofs.RunLaws.{all_append, all_drop, all_take}
 use Rattle.mus_drawn.specs.{declared.drawn.DrawnEvent.DrawnEvent, declared.drawn.DrawnMeasure.DrawnMeasure, declared.drawn.DrawnVoice.DrawnVoice, Good.AreGoodMeasures, Good.IsGoodDrawn, Good.IsGoodMeasure}

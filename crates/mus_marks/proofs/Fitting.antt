@@ -1,6 +1,5 @@
 -- The measures of a good voice have good meters, and each of its events has a place for each verse.
-use Rattle.std.proofs.Common.{ℕ, ◌+◌, ◌*◌, ◌≤◌, List, [], ◌∷◌, ◌++◌, length, map, Option, Some, None, arith}
-use Rattle.std.{proofs.lemmas.List.Elements.recursion_from_All, specs.List.AllByRecursion, specs.Prelude.IfSome, specs.Prelude.unwrap_or}
+use Rattle.std.{proofs.{Common.{ℕ, ◌+◌, ◌*◌, ◌≤◌, List, [], ◌∷◌, ◌++◌, length, map, Option, Some, None, arith}, lemmas.List.Elements.recursion_from_All}, specs.{List.AllByRecursion, Prelude.{IfSome, unwrap_or}}}
 use Rattle.mus_units.specs.{declared.key.Meter.Meter, Good.IsGoodMeter}
 use Rattle.mus_score.specs.{declared.score.Flat.Flat, declared.score.Measure.Measure, declared.score.Score.Score, declared.score.Voice.Voice, GoodScore.IsGoodEvent, GoodScore.IsGoodScore, GoodScore.IsGoodVoice, GoodScore.events_of, Times.flats_of}
 use Rattle.mus_stems.specs.declared.plans.StemPlan.{StemPlan}

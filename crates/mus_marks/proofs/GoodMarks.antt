@@ -1,6 +1,5 @@
 -- The texts of a staff have at most 60 characters.
-use Rattle.std.proofs.Common.{ℕ, ◌≤◌, List, [], ◌∷◌, length, map, take, subst, sym, arith}
-use Rattle.std.{proofs.lemmas.List.length-map, proofs.lemmas.List.length-take, proofs.lemmas.List.Elements.All-from_recursion, proofs.lemmas.Fmt.length-decimal-le, proofs.lemmas.Bool.Decides.nat_tests, specs.List.All, specs.List.AllByRecursion, specs.Prelude.IsTrue, specs.Prelude.decimal}
+use Rattle.std.{proofs.{Common.{ℕ, ◌≤◌, List, [], ◌∷◌, length, map, take, subst, sym, arith}, lemmas.{List.{length-map, length-take, Elements.All-from_recursion}, Fmt.length-decimal-le, Bool.Decides.nat_tests}}, specs.{List.{All, AllByRecursion}, Prelude.{IsTrue, decimal}}}
 use Rattle.mus_units.specs.{declared.key.Meter.Meter, Good.IsGoodMeter, Good.is_halving}
 use Rattle.mus_time.specs.declared.keys.ColumnKey.{ColumnKey}
 use Rattle.mus_laid.specs.{declared.drawn.Span.Span, declared.laid.Laid.Laid, Boxes.AreGoodMarks, Boxes.IsGoodMark, Printed.printed_byte, Ranked.drawn_at, Ranked.span_at}

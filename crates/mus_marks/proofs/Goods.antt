@@ -1,6 +1,5 @@
 -- What holds of all elements holds of those behind the first; good measures: the first of them, and some of them.
-use Rattle.std.proofs.Common.{◌≡◌, ℕ, ◌≤◌, List, [], ◌∷◌, length, get_or, take, drop, subst, sym, arith}
-use Rattle.std.{proofs.lemmas.List.Elements.All-from_recursion, proofs.lemmas.List.Elements.recursion_from_All, specs.List.All}
+use Rattle.std.{proofs.{Common.{◌≡◌, ℕ, ◌≤◌, List, [], ◌∷◌, length, get_or, take, drop, subst, sym, arith}, lemmas.List.Elements.{All-from_recursion, recursion_from_All}}, specs.List.All}
 use Rattle.mus_stems.proofs.RunLaws.{all_drop, all_take}
 use Rattle.mus_drawn.specs.{declared.drawn.DrawnMeasure.DrawnMeasure, Good.IsGoodMeasure, Good.AreGoodMeasures}
 

@@ -1,15 +1,10 @@
 -- The columns that a voice draws in are among those of its system.
-use Rattle.std.proofs.Common.{◌≡◌, ◌∙◌, ℕ, zero, suc, ◌+◌, ◌-◌, ◌<◌, ◌≤◌, Bool, true, false, not, ◌&&◌, ◌||◌, nat_le, if◌then◌else◌, cond, List, [], ◌∷◌, ◌++◌, length, length-drop, length-take, get_or, take, drop, Option, Some, None, refl, sym, ap, subst, arith}
-use Rattle.std.proofs.lemmas.{List.get_or-drop, List.get_or-take, List.Elements.All-from_recursion, List.Elements.Contains-append_left, List.Elements.Contains-append_right, List.Elements.recursion_from_All, List.Sums.sum_by-cons, Option.get_or_from_slice_get, Option.none-some, Option.same_Some}
-use Rattle.std.{proofs.lemmas.Option.slice_get_read, proofs.lemmas.Option.slice_get_within, specs.List.All, specs.List.AllByRecursion, specs.List.Contains, specs.List.filter, specs.List.flat_map, specs.List.slice_get, specs.List.slice_index_or, specs.List.slice_range, specs.Prelude.is_some}
-use Rattle.std.specs.Prelude.{unwrap_or}
+use Rattle.std.{proofs.{Common.{◌≡◌, ◌∙◌, ℕ, zero, suc, ◌+◌, ◌-◌, ◌<◌, ◌≤◌, Bool, true, false, not, ◌&&◌, ◌||◌, nat_le, if◌then◌else◌, cond, List, [], ◌∷◌, ◌++◌, length, length-drop, length-take, get_or, take, drop, Option, Some, None, refl, sym, ap, subst, arith}, lemmas.{List.{get_or-drop, get_or-take, Elements.{All-from_recursion, Contains-append_left, Contains-append_right, recursion_from_All}, Sums.sum_by-cons}, Option.{get_or_from_slice_get, none-some, same_Some, slice_get_read, slice_get_within}}}, specs.{List.{All, AllByRecursion, Contains, filter, flat_map, slice_get, slice_index_or, slice_range}, Prelude.{is_some, unwrap_or}}}
 use Rattle.mus_units.specs.{declared.key.Key.Key, declared.key.Meter.Meter, declared.note.Wish.Wish, declared.pitch.Clef.Clef}
 use Rattle.mus_score.specs.{declared.score.Event.Event, declared.score.Flat.Flat, declared.score.Measure.Measure, declared.score.Score.Score, declared.score.Voice.Voice, Good.total_ticks, GoodScore.clef_at, GoodScore.IsGoodScore, GoodScore.IsLed, Seats.is_lower, Times.flats_of}
 use Rattle.mus_stems.{specs.declared.plans.StemPlan.StemPlan, specs.Plans.stems_of, specs.Stills.stills, proofs.EndLaws.plans_length}
-use Rattle.mus_time.specs.Keys.{all_keys, AreKeys, bar_key, called_keys, change_keys, event_keys, events_keys, first_keys, grace_keys, has_entries, head_key, is_for_each, key_at, key_has_mark, keys_by, measures_keys, meter_has_mark, signed_after, signed_behind, signed_through, voice_keys}
-use Rattle.mus_time.specs.declared.keys.{Class.Class, ColumnKey.ColumnKey}
-use Rattle.mus_drawn.specs.{declared.drawn.DrawnEvent.DrawnEvent, declared.drawn.DrawnMeasure.DrawnMeasure, declared.drawn.DrawnVoice.DrawnVoice, declared.drawn.Style.Style, declared.standing.Standing.Standing, Drawn.clefs_from, Drawn.drawn_events, Drawn.drawn_measure, Drawn.drawn_measures}
-use Rattle.mus_drawn.specs.Drawn.{drawn_voice, old_signs, standing_after, standing_behind, standing_of, style_of}
+use Rattle.mus_time.specs.{Keys.{all_keys, AreKeys, bar_key, called_keys, change_keys, event_keys, events_keys, first_keys, grace_keys, has_entries, head_key, is_for_each, key_at, key_has_mark, keys_by, measures_keys, meter_has_mark, signed_after, signed_behind, signed_through, voice_keys}, declared.keys.{Class.Class, ColumnKey.ColumnKey}}
+use Rattle.mus_drawn.specs.{declared.{drawn.{DrawnEvent.DrawnEvent, DrawnMeasure.DrawnMeasure, DrawnVoice.DrawnVoice, Style.Style}, standing.Standing.Standing}, Drawn.{clefs_from, drawn_events, drawn_measure, drawn_measures, drawn_voice, old_signs, standing_after, standing_behind, standing_of, style_of}}
 use Rattle.mus_marks.{specs.Events.note_key, proofs.Lines.voice_count}
 
 -- ---- the columns of drawn events

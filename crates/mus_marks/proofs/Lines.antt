@@ -1,6 +1,5 @@
 -- Marks reach at least over the lines of their staff, and voices have as many measures drawn as they have.
-use Rattle.std.proofs.Common.{◌≡◌, ◌∙◌, ℕ, suc, ℤ, pos, ◌≤ℤ◌, List, [], ◌∷◌, length, map, refl, ap, arith}
-use Rattle.std.{proofs.lemmas.Int.ints, proofs.lemmas.Int.clamps, proofs.lemmas.List.Elements.All-map, specs.List.All}
+use Rattle.std.{proofs.{Common.{◌≡◌, ◌∙◌, ℕ, suc, ℤ, pos, ◌≤ℤ◌, List, [], ◌∷◌, length, map, refl, ap, arith}, lemmas.{Int.{ints, clamps}, List.Elements.All-map}}, specs.List.All}
 use Rattle.mus_score.specs.{declared.score.Measure.Measure, declared.score.Voice.Voice, Times.flats_of}
 use Rattle.mus_drawn.specs.{declared.standing.Standing.Standing, declared.drawn.DrawnVoice.DrawnVoice, declared.drawn.Style.Style, Drawn.drawn_measures, Drawn.drawn_voice, Drawn.standing_behind, Drawn.standing_of, Drawn.style_of}
 use Rattle.mus_laid.specs.{declared.boxes.Heights.Heights, declared.laid.Laid.Laid, Boxes.heights, Boxes.heights_of, Boxes.over_marks, Boxes.staff_heights, Boxes.widened}

@@ -1,19 +1,15 @@
 -- One walk over the marks of voices: what holds of all that is drawn in a column, whatever the rank of the column, and
 -- of beams and arcs, holds of all marks of a measure, of the columns of a system, and of a staff.
-use Rattle.std.proofs.Common.{◌≡◌, ℕ, zero, suc, ◌+◌, ◌-◌, ◌≤◌, ◌==◌, ◌&&◌, ◌||◌, not, Bool, true, false, if◌then◌else◌, List, [], ◌∷◌, ◌++◌, length, map, drop, Option, Some, None, arith}
-use Rattle.std.{proofs.lemmas.List.Sums.sum_by-cons, specs.List.AllByRecursion, specs.List.flat_map, specs.List.slice_index_or, specs.List.slice_range, specs.Prelude.IfSome}
+use Rattle.std.{proofs.{Common.{◌≡◌, ℕ, zero, suc, ◌+◌, ◌-◌, ◌≤◌, ◌==◌, ◌&&◌, ◌||◌, not, Bool, true, false, if◌then◌else◌, List, [], ◌∷◌, ◌++◌, length, map, drop, Option, Some, None, arith}, lemmas.List.Sums.sum_by-cons}, specs.{List.{AllByRecursion, flat_map, slice_index_or, slice_range}, Prelude.IfSome}}
 use Rattle.mus_units.specs.{declared.key.Meter.Meter, declared.key.Sign.Sign, declared.note.Bar.Bar, declared.pitch.Clef.Clef, Good.IsGoodMeter}
 use Rattle.mus_score.specs.{declared.score.Event.Event, declared.score.Flat.Flat, declared.score.Seat.Seat, Seats.is_lower}
 use Rattle.mus_time.specs.{declared.keys.ColumnKey.ColumnKey, Keys.has_features}
 use Rattle.mus_stems.proofs.RunLaws.{all_append, all_drop, all_take}
 use Rattle.mus_laid.specs.{declared.drawn.Bridge.Bridge, declared.drawn.Drawn.Drawn, declared.laid.Laid.Laid, Ranked.bridge_at, Ranked.by_columns, Ranked.drawn_at}
-use Rattle.mus_ink.specs.{declared.graces.Group.Group, Bars.bar_marks, Changes.change_marks, Changes.head_marks, Decos.note_marks, Graces.grace_marks}
-use Rattle.mus_ink.proofs.EachMark.{OfMarks, bar, change, grace, head, note}
+use Rattle.mus_ink.{specs.{declared.graces.Group.Group, Bars.bar_marks, Changes.{change_marks, head_marks}, Decos.note_marks, Graces.grace_marks}, proofs.EachMark.{OfMarks, bar, change, grace, head, note}}
 use Rattle.mus_words.{specs.Syllables.syllables_from, specs.Texts.text_marks, proofs.EachWord.OfWords, proofs.EachWord.syllables_all, proofs.EachWord.texts_all}
 use Rattle.mus_drawn.specs.{declared.drawn.DrawnEvent.DrawnEvent, declared.drawn.DrawnMeasure.DrawnMeasure, declared.drawn.DrawnVoice.DrawnVoice, Drawn.raise_of}
-use Rattle.mus_marks.specs.{declared.events.Place.Place, declared.events.Room.Room, declared.events.Texts.Texts, Bridges.bridges_of, Events.change_part, Events.event_marks, Events.events_marks, Events.graces_from, Events.graces_part, Events.measures_marks, Events.no_texts, Events.note_part}
-use Rattle.mus_marks.specs.{Events.text_place, Events.words_marks, Events.words_part, Staff.bare_marks, Staff.columns_part, Staff.first_part, Staff.head_part, Staff.own_part, Staff.room_over, Staff.staff_marks, Staff.staff_over, Staff.verses_on, Staff.written_parts}
-use Rattle.mus_marks.proofs.Columned.{columned_all}
+use Rattle.mus_marks.{specs.{declared.events.{Place.Place, Room.Room, Texts.Texts}, Bridges.bridges_of, Events.{change_part, event_marks, events_marks, graces_from, graces_part, measures_marks, no_texts, note_part, text_place, words_marks, words_part}, Staff.{bare_marks, columns_part, first_part, head_part, own_part, room_over, staff_marks, staff_over, verses_on, written_parts}}, proofs.Columned.columned_all}
 
 -- measures with good meters, whose events have a place for each of some verses
 abbrev pub FitsEvent : ℕ → DrawnEvent → Type 0

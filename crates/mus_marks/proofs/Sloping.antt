@@ -1,12 +1,10 @@
 -- Stems of drawn events can end on lines: own ends and abscissas are in range, and abscissas rise from event to event.
-use Rattle.std.proofs.Common.{◌≡◌, ℕ, zero, suc, ℤ, pos, ◌+◌, ◌-◌, ◌<◌, ◌≤◌, ◌<ℤ◌, List, [], ◌∷◌, length, map, drop, subst, arith}
-use Rattle.std.{proofs.lemmas.Int.ints, proofs.lemmas.List.get_or-map, proofs.lemmas.List.length-map, proofs.lemmas.List.Elements.All-map, specs.List.All, specs.List.AllByRecursion, specs.List.slice_index_or, specs.List.slice_range}
+use Rattle.std.{proofs.{Common.{◌≡◌, ℕ, zero, suc, ℤ, pos, ◌+◌, ◌-◌, ◌<◌, ◌≤◌, ◌<ℤ◌, List, [], ◌∷◌, length, map, drop, subst, arith}, lemmas.{Int.ints, List.{get_or-map, length-map, Elements.All-map}}}, specs.List.{All, AllByRecursion, slice_index_or, slice_range}}
 use Rattle.mus_score.specs.{declared.score.Score.Score, GoodScore.IsGoodScore}
 use Rattle.mus_time.{specs.declared.keys.ColumnKey.ColumnKey, specs.declared.times.Timeline.Timeline, specs.Keys.AreKeys, specs.Keys.called_keys, proofs.RankLaws.rank_less, proofs.RankLaws.rank_rises_more}
 use Rattle.mus_stems.{specs.Slope.anchor_of, specs.Slope.AreAnchors, specs.Slope.IsPlace, specs.Slope.RisesAfter, specs.Slope.RisesInBeams, proofs.RunLaws.all_drop, proofs.RunLaws.all_take}
 use Rattle.mus_drawn.specs.{declared.drawn.DrawnEvent.DrawnEvent, declared.drawn.DrawnMeasure.DrawnMeasure, Drawn.drawn_voice, Good.AreGoodDrawn, Good.AreGoodMeasures}
-use Rattle.mus_marks.{specs.Events.note_key, specs.Events.note_rank, specs.Tilt.AllCanTilt, specs.Tilt.AreAbscissas, specs.Tilt.anchor_at, proofs.GoingOn.AllGoOn, proofs.GoingOn.GoOn, proofs.GoingOn.later_below, proofs.GoingOn.voice_goes_on, proofs.Goods.good_slice, proofs.Inside.HasEvent}
-use Rattle.mus_marks.proofs.Inside.{HasMeasures, measures_inside}
+use Rattle.mus_marks.{specs.{Events.{note_key, note_rank}, Tilt.{AllCanTilt, AreAbscissas, anchor_at}}, proofs.{GoingOn.{AllGoOn, GoOn, later_below, voice_goes_on}, Goods.good_slice, Inside.{HasEvent, HasMeasures, measures_inside}}}
 
 module _ (s : Score) (t : Timeline) (a b : ℕ) (keys : List ColumnKey) (at : List ℤ) (places : AreAbscissas s t a b at) (are : AreKeys keys (called_keys s t.lengths a b)) where
   further : (i n : ℕ) → i + suc n < length at → slice_index_or at i (pos 0) <ℤ slice_index_or at (i + suc n) (pos 0)

@@ -1,6 +1,5 @@
 -- The pieces of a voice's arcs in a system.
-use Rattle.std.specs.Prelude.{ℕ, ◌-◌, ◌==◌, Bool, if◌then◌else◌, List, [], ◌∷◌, flat_map, slice_get, Option, Some, None}
-use Rattle.std.specs.List.{find}
+use Rattle.std.specs.{Prelude.{ℕ, ◌-◌, ◌==◌, Bool, if◌then◌else◌, List, [], ◌∷◌, flat_map, slice_get, Option, Some, None}, List.find}
 use Rattle.mus_time.specs.{declared.keys.ColumnKey.ColumnKey, Keys.bar_key, Keys.head_key}
 use Rattle.mus_arcs.specs.{declared.pairing.Arc.Arc, declared.cutting.Piece.Piece, Pieces.piece_of}
 use Rattle.mus_laid.specs.declared.drawn.Bridge.{Bridge}

@@ -1,7 +1,6 @@
 -- The marks of a staff in a system, of the voices that stand on it: in the columns the head, the bar before the first measure and
 -- the measures; then the beams of notes, those of graces, and the arcs.
-use Rattle.std.specs.Prelude.{ℕ, ◌+◌, pos, ◌≤ℤ◌, ◌==◌, Bool, true, false, not, ◌&&◌, ◌||◌, if◌then◌else◌, List, [], ◌∷◌, ◌++◌, length, map, sum, flat_map, count_by, slice_range, slice_index_or, Option, Some, None}
-use Rattle.std.specs.List.{range_with_len}
+use Rattle.std.specs.{Prelude.{ℕ, ◌+◌, pos, ◌≤ℤ◌, ◌==◌, Bool, true, false, not, ◌&&◌, ◌||◌, if◌then◌else◌, List, [], ◌∷◌, ◌++◌, length, map, sum, flat_map, count_by, slice_range, slice_index_or, Option, Some, None}, List.range_with_len}
 use Rattle.mus_units.specs.{declared.key.Meter.Meter, declared.note.Bar.Bar}
 use Rattle.mus_score.specs.{declared.score.Seat.Seat, Seats.is_lower}
 use Rattle.mus_time.specs.{declared.keys.Class.Class, declared.keys.ColumnKey.ColumnKey, Keys.has_features, Keys.head_key, Order.rank_of, Ranks.rank_at}

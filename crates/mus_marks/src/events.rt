@@ -4,8 +4,7 @@ ghost use Rattle.mus_stems.specs.Heads.{AllNear, stand_of};
 ghost use Rattle.mus_laid.specs.Ranked.{drawn_at};
 ghost use Rattle.mus_ink.specs.Graces.{grace_marks};
 ghost use Rattle.mus_drawn.specs.Good.{AllCanGrace, AreGoodDrawn, IsGoodDrawn};
-ghost use Rattle.mus_marks.specs.Events.{note_key, note_rank, changes_nothing, change_part, graces_from, graces_part, note_part, no_texts, text_place, words_marks, words_part, event_marks, levels_in, levels_behind, events_marks};
-ghost use Rattle.mus_marks.specs.Places.{HasVerses};
+ghost use Rattle.mus_marks.specs.{Events.{note_key, note_rank, changes_nothing, change_part, graces_from, graces_part, note_part, no_texts, text_place, words_marks, words_part, event_marks, levels_in, levels_behind, events_marks}, Places.HasVerses};
 
 use mus_drawn::{DrawnEvent, raise_of};
 use mus_ink::{Group, group_of, put_change, put_grace, put_note};

@@ -1,5 +1,4 @@
-ghost use Rattle.std.specs.Prelude.{◌≡◌, ◌≤◌, ◌<◌, ◌+◌, ◌++◌, [], length, map, flat_map, option_copied, Some, None, All, IfOk, OnOk};
-ghost use Rattle.std.specs.List.{prefix_len};
+ghost use Rattle.std.specs.{Prelude.{◌≡◌, ◌≤◌, ◌<◌, ◌+◌, ◌++◌, [], length, map, flat_map, option_copied, Some, None, All, IfOk, OnOk}, List.prefix_len};
 ghost use Rattle.mus_score.specs.Seats.{grouped};
 ghost use Rattle.mus_time.specs.Ranks.{AreRanked};
 ghost use Rattle.mus_drawn.specs.Good.{AreGoodMeasures};

@@ -3,8 +3,7 @@ ghost use Rattle.mus_score.specs.{GoodScore.IsGoodScore, Seats.grouped};
 ghost use Rattle.mus_time.specs.{Keys.IsInSystem, Onsets.timeline_of, Ranks.AreRanked};
 ghost use Rattle.mus_drawn.specs.{Drawn.drawn_voice, Good.AreGoodMeasures};
 ghost use Rattle.mus_laid.specs.{Boxes.AreGoodMarks, Shapes.AreAlike};
-ghost use Rattle.mus_marks.specs.{Staff.CoversLines, Staff.verses_on, System.IsCall, System.stands_lower};
-ghost use Rattle.mus_marks.specs.Tilt.{anchor_at, CanTilt, AllCanTilt, ends_over, sloped_over, plain_ends, over, event_ended, measure_ended, voice_ended, tilted_staff, AreAbscissas, IsTilted};
+ghost use Rattle.mus_marks.specs.{Staff.{CoversLines, verses_on}, System.{IsCall, stands_lower}, Tilt.{anchor_at, CanTilt, AllCanTilt, ends_over, sloped_over, plain_ends, over, event_ended, measure_ended, voice_ended, tilted_staff, AreAbscissas, IsTilted}};
 
 use crate::events::note_key;
 use crate::staves::staves;

@@ -1,5 +1,4 @@
-ghost use Rattle.std.specs.Prelude.{◌≡◌, ◌&&◌, find, reverse, is_some, unwrap_or};
-ghost use Rattle.std.specs.Option.{option_map, option_copied, option_and_then};
+ghost use Rattle.std.specs.{Prelude.{◌≡◌, ◌&&◌, find, reverse, is_some, unwrap_or}, Option.{option_map, option_copied, option_and_then}};
 ghost use Rattle.mus_units.specs.Good.{same_letter};
 ghost use Rattle.mus_pitch.specs.Alteration.{reaches, is_said, said_sign, key_sign, alteration_of};
 

@@ -1,8 +1,7 @@
 ghost use Rattle.std.specs.Prelude.{◌≡◌, ℕ, ◌==◌, IfOk, map, take, reverse, not, filter};
 ghost use Rattle.mus_units.specs.{Pitch.number_of, Good.AreGoodSigns, Good.IsGoodKey, Good.same_letter};
 ghost use Rattle.mus_units.specs.declared.pitch.Alter.TheVariants as alters;
-ghost use Rattle.mus_pitch.specs.Circle.{signs_of, signed, sharp_order};
-ghost use Rattle.mus_pitch.specs.Signs.{laid, with_sign};
+ghost use Rattle.mus_pitch.specs.{Circle.{signs_of, signed, sharp_order}, Signs.{laid, with_sign}};
 
 use mus_units::{Alter, Key, Letter, Memory, Row, Sign};
 use std::alloc::Global;

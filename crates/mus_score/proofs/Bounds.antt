@@ -1,12 +1,7 @@
 -- What good music keeps: products on the way are small, durations are neither 0 nor too long, and no head is lost.
-use Rattle.std.proofs.Common.{◌≡◌, ℕ, zero, suc, ◌+◌, ◌*◌, ◌/◌, ◌≤◌, List, [], ◌∷◌, ◌++◌, map, Bool, true, false, ◌&&◌, max, length, length-append, refl, sym, ◌∙◌, ap, subst, nat_le, arith, lit≤, inl, inr, if◌then◌else◌, mul_assoc, one-mul, div-le_self, le-mul_of_pos_right, le_trans, add-mul}
-use Rattle.std.proofs.{Common.mul-le-mul_right, lemmas.Bool.and_parts, lemmas.Bool.cases_Bool, lemmas.Bool.leb-true, lemmas.Bool.Decides.nat_tests, lemmas.List.Sums.sum_by-cons, lemmas.List.Sums.sum_by-append, lemmas.List.map-append, lemmas.List.length-map, lemmas.List.Elements.All-from_recursion}
-use Rattle.std.{proofs.lemmas.Nat.le-div, proofs.lemmas.Nat.mul-le, specs.List.sum, specs.List.sum_by, specs.List.AllByRecursion, specs.List.All}
+use Rattle.std.{proofs.{Common.{◌≡◌, ℕ, zero, suc, ◌+◌, ◌*◌, ◌/◌, ◌≤◌, List, [], ◌∷◌, ◌++◌, map, Bool, true, false, ◌&&◌, max, length, length-append, refl, sym, ◌∙◌, ap, subst, nat_le, arith, lit≤, inl, inr, if◌then◌else◌, mul_assoc, one-mul, div-le_self, le-mul_of_pos_right, le_trans, add-mul, mul-le-mul_right}, lemmas.{Bool.{and_parts, cases_Bool, leb-true, Decides.nat_tests}, List.{Sums.{sum_by-cons, sum_by-append}, map-append, length-map, Elements.All-from_recursion}, Nat.{le-div, mul-le}}}, specs.List.{sum, sum_by, AllByRecursion, All}}
 use Rattle.mus_units.specs.{declared.value.Base.Base, declared.value.Value.Value, Value.base_length, Value.with_dots, Value.value_length, Value.whole_note}
-use Rattle.mus_score.specs.Good.{IsGoodNode, judged, all_judged, tuplet_judged, good_step, judged_within, weight_step, weight, outside, IsGoodBody, is_note, is_rest, longest_ticks, IsGoodFlat, total_ticks, heads_in, flat_weight, flat_count}
-use Rattle.mus_score.specs.Times.{all_products_fit, durations_within, duration_of, flats_of, InTuplets, Leafing, scaled, is_scalable, all_fit, sum_within, leaf, in_row, nothing, duration_step, duration_within, products_step, products_fit, leaves_step, leaves_within}
-use Rattle.mus_score.specs.declared.{good.Judged.Judged, good.Place.Place, score.Event.Event, score.Flat.Flat, times.Waits.Waits}
-use Rattle.mus_score.specs.declared.score.Music.{Music, TheOpen.Music-F, TheFolds.fold-roll-Music, TheFolds.map-Music, TheFolds.ind-Music, TheViews.roll-Music}
+use Rattle.mus_score.specs.{Good.{IsGoodNode, judged, all_judged, tuplet_judged, good_step, judged_within, weight_step, weight, outside, IsGoodBody, is_note, is_rest, longest_ticks, IsGoodFlat, total_ticks, heads_in, flat_weight, flat_count}, Times.{all_products_fit, durations_within, duration_of, flats_of, InTuplets, Leafing, scaled, is_scalable, all_fit, sum_within, leaf, in_row, nothing, duration_step, duration_within, products_step, products_fit, leaves_step, leaves_within}, declared.{good.{Judged.Judged, Place.Place}, score.{Event.Event, Flat.Flat, Music.{Music, TheOpen.Music-F, TheFolds.{fold-roll-Music, map-Music, ind-Music}, TheViews.roll-Music}}, times.Waits.Waits}}
 
 -- The length of a value.
 base_low : (b : Base) → 81 ≤ base_length b

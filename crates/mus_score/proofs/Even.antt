@@ -1,12 +1,8 @@
 -- In a good body every duration comes out even: a value's ticks are a multiple of 2^6 * 3^4 * 5^2 * 7^2,
 -- and so is a product of two numbers from 2 to 9 a divisor of that.
-use Rattle.std.proofs.Common.{◌≡◌, ℕ, zero, suc, ◌*◌, ◌/◌, ◌≤◌, List, [], ◌∷◌, ◌++◌, map, Bool, true, false, refl, sym, ◌∙◌, ap, subst, arith, if◌then◌else◌}
-use Rattle.std.{proofs.lemmas.Bool.and_parts, proofs.Math.Nat.mul-div_cancel_left, specs.List.AllByRecursion, specs.List.AllZip}
+use Rattle.std.{proofs.{Common.{◌≡◌, ℕ, zero, suc, ◌*◌, ◌/◌, ◌≤◌, List, [], ◌∷◌, ◌++◌, map, Bool, true, false, refl, sym, ◌∙◌, ap, subst, arith, if◌then◌else◌}, lemmas.Bool.and_parts, Math.Nat.mul-div_cancel_left}, specs.List.{AllByRecursion, AllZip}}
 use Rattle.mus_units.specs.{declared.value.Base.Base, declared.value.Value.Value, Value.base_length, Value.with_dots, Value.value_length, Parts.base_units, Parts.units_of}
-use Rattle.mus_score.specs.declared.{good.Judged.Judged, good.Place.Place, score.Event.Event, score.Flat.Flat, times.Waits.Waits, score.Music.Music, score.Music.TheOpen.Music-F, score.Music.TheFolds.fold-roll-Music, score.Music.TheFolds.map-Music, score.Music.TheFolds.ind-Music}
-use Rattle.mus_score.specs.{declared.score.Music.TheViews.roll-Music, Good.IsGoodNode, Good.judged, Good.all_judged, Good.good_step, Good.judged_within, Good.outside, Good.IsGoodBody, Good.is_note, Good.is_rest, Times.flats_of, Times.InTuplets, Times.Leafing, Times.scaled, Times.leaf, Times.in_row}
-use Rattle.mus_score.{specs.Times.nothing, specs.Times.leaves_step, specs.Times.leaves_within, specs.Even.Ratio, specs.Even.ratios_in_row, specs.Even.ratios_step, specs.Even.ratios_within, specs.Even.IsEven, specs.Even.AreEven, proofs.Bounds.note_ticks, proofs.Bounds.note_dots}
-use Rattle.mus_score.proofs.Bounds.{rest_ticks_inner, rest_dots, guarded, gathered, all_music, GoodTuplet, tuplet_good}
+use Rattle.mus_score.{specs.{declared.{good.{Judged.Judged, Place.Place}, score.{Event.Event, Flat.Flat, Music.{Music, TheOpen.Music-F, TheFolds.{fold-roll-Music, map-Music, ind-Music}, TheViews.roll-Music}}, times.Waits.Waits}, Good.{IsGoodNode, judged, all_judged, good_step, judged_within, outside, IsGoodBody, is_note, is_rest}, Times.{flats_of, InTuplets, Leafing, scaled, leaf, in_row, nothing, leaves_step, leaves_within}, Even.{Ratio, ratios_in_row, ratios_step, ratios_within, IsEven, AreEven}}, proofs.Bounds.{note_ticks, note_dots, rest_ticks_inner, rest_dots, guarded, gathered, all_music, GoodTuplet, tuplet_good}}
 
 -- The ticks of a value.
 abbrev part : ℕ

@@ -1,6 +1,5 @@
 -- Good scores: what each call that takes a score or a voice asks of it, and each call that makes one gives.
-use Rattle.std.specs.Prelude.{◌≡◌, ◌≢◌, ⊤, ℕ, suc, pos, negsuc, ◌≤◌, ◌<◌, ◌≤ℤ◌, List, [], ◌∷◌, length, map, sum, sum_by, flat_map, false, All, AllPairs, IfSome, unwrap_or}
-use Rattle.std.specs.List.Sorted.{IsStrictlyIncreasing}
+use Rattle.std.specs.{Prelude.{◌≡◌, ◌≢◌, ⊤, ℕ, suc, pos, negsuc, ◌≤◌, ◌<◌, ◌≤ℤ◌, List, [], ◌∷◌, length, map, sum, sum_by, flat_map, false, All, AllPairs, IfSome, unwrap_or}, List.Sorted.IsStrictlyIncreasing}
 use Rattle.mus_units.specs.{declared.note.Head.Head, declared.pitch.Clef.Clef, Good.IsGoodKey, Good.IsGoodMeter, Pitch.height_of}
 use Rattle.mus_score.specs.{declared.score.Event.Event, declared.score.Flat.Flat, declared.score.Measure.Measure, declared.score.Voice.Voice, declared.score.Score.Score, Good.IsGoodBody, Good.weight, Seats.is_lower, Times.flats_of}
 

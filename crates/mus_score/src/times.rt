@@ -1,6 +1,5 @@
 ghost use Rattle.std.specs.Prelude.{◌≡◌, ◌∷◌, [], ◌≤◌, ◌<◌, ◌^◌, ◌++◌, map, true, IfOk, OnOk, ◌*◌, All, sum, sum_by};
-ghost use Rattle.mus_score.specs.{declared.score.Flat.Flat, Good.IsGoodBody, Good.IsGoodNode, Good.IsGoodFlat, Good.flat_count, Good.flat_weight, Good.longest_ticks, Good.total_ticks, Good.weight, Even.AreEven};
-ghost use Rattle.mus_score.specs.Times.{scaled, duration_of, duration_within, durations_within, products_fit, all_products_fit, is_scalable, leaf, leaves_within, in_row, flats_of, nothing, Walked};
+ghost use Rattle.mus_score.specs.{declared.score.Flat.Flat, Good.{IsGoodBody, IsGoodNode, IsGoodFlat, flat_count, flat_weight, longest_ticks, total_ticks, weight}, Even.AreEven, Times.{scaled, duration_of, duration_within, durations_within, products_fit, all_products_fit, is_scalable, leaf, leaves_within, in_row, flats_of, nothing, Walked}};
 
 use crate::copies::copy_event;
 use crate::score::{Event, Flat, Music};

@@ -1,8 +1,6 @@
 -- Signs stand in their columns, and in one way alone.
-use Rattle.std.proofs.Common.{◌≡◌, ℕ, ◌+◌, ◌<◌, ℤ, Bool, true, false, cond, if◌then◌else◌, List, [], ◌∷◌, length, replicate, refl, sym, ◌∙◌, subst, Option, Some, None, length-set, get_or-set_same, get_or-set_other}
-use Rattle.std.{proofs.lemmas.List.get_or-replicate, proofs.lemmas.List.length-replicate, specs.Prelude.slice_set, specs.Prelude.slice_index_or, specs.List.AllByRecursion}
-use Rattle.mus_stems.specs.{declared.heads.Stand.Stand, Heads.AllNear, Heads.Taken, Heads.taken, Signs.sign_at, Signs.signs_along, Signs.signs_from, Order.IsHead, Columns.sign_of, Columns.sign_where, Columns.SignedAfter, Columns.AreInColumns}
-use Rattle.mus_stems.proofs.{OrderLaws.Apart, OrderLaws.are_apart, OrderLaws.taken_are, OrderLaws.one_order, DisplacedLaws.head_within, DisplacedLaws.same_lists}
+use Rattle.std.{proofs.{Common.{◌≡◌, ℕ, ◌+◌, ◌<◌, ℤ, Bool, true, false, cond, if◌then◌else◌, List, [], ◌∷◌, length, replicate, refl, sym, ◌∙◌, subst, Option, Some, None, length-set, get_or-set_same, get_or-set_other}, lemmas.List.{get_or-replicate, length-replicate}}, specs.{Prelude.{slice_set, slice_index_or}, List.AllByRecursion}}
+use Rattle.mus_stems.{specs.{declared.heads.Stand.Stand, Heads.{AllNear, Taken, taken}, Signs.{sign_at, signs_along, signs_from}, Order.IsHead, Columns.{sign_of, sign_where, SignedAfter, AreInColumns}}, proofs.{OrderLaws.{Apart, are_apart, taken_are, one_order}, DisplacedLaws.{head_within, same_lists}}}
 
 either_get : (b : Bool) (xs ys : List (Option ℤ)) (p : ℕ) (z : Option ℤ) → slice_index_or xs p None ≡ z → slice_index_or ys p None ≡ z → slice_index_or (cond b xs ys) p None ≡ z
 either_get true xs ys p z e f = e

@@ -1,6 +1,5 @@
 -- One more of what is counted.
-use Rattle.std.proofs.Common.{◌≡◌, ℕ, suc, ◌+◌, ◌-◌, ◌<◌, ℤ, pos, ◌-ℤ◌, ◌+ℤ◌, Bool, List, [], ◌∷◌, ◌++◌, Option, refl, sym, ap, ◌∙◌, append_assoc, arith, false}
-use Rattle.std.proofs.lemmas.Int.{ints}
+use Rattle.std.proofs.{Common.{◌≡◌, ℕ, suc, ◌+◌, ◌-◌, ◌<◌, ℤ, pos, ◌-ℤ◌, ◌+ℤ◌, Bool, List, [], ◌∷◌, ◌++◌, Option, refl, sym, ap, ◌∙◌, append_assoc, arith, false}, lemmas.Int.ints}
 use Rattle.mus_stems.specs.{declared.heads.Stand.Stand, declared.heads.Last.Last, Heads.shifted, Heads.Taken, Heads.taken_at, Heads.taken_from, Signs.signs_along, Ledgers.lines_of, Dots.dot_at, Dots.dots_at}
 
 pub one_less : (k n : ℕ) → k < n → n - k ≡ suc (n - (k + 1))

@@ -1,8 +1,6 @@
 -- Heads are displaced as they should be, and in one way alone.
-use Rattle.std.proofs.Common.{◌≡◌, ℕ, zero, suc, ◌<◌, ℤ, pos, Bool, true, false, cond, not, ◌&&◌, List, [], ◌∷◌, length, replicate, refl, sym, ◌∙◌, ap, subst, Option, Some, None, arith, length-set, get_or-set_same, get_or-set_other, ext_get_or}
-use Rattle.std.{proofs.lemmas.List.get_or-replicate, proofs.lemmas.List.length-replicate, specs.Prelude.slice_get, specs.Prelude.slice_set, specs.Prelude.slice_index_or, specs.Ordering.int_eq, specs.List.AllByRecursion}
-use Rattle.mus_stems.specs.{declared.heads.Stand.Stand, declared.heads.Last.Last, Heads.AllNear, Heads.Taken, Heads.taken, Heads.is_step_past, Heads.gives_way, Heads.shifted, Heads.shift_of, Heads.shifts_of, Order.head_at, Order.IsHead, Order.AreTaken, Displaced.dx_of, Displaced.is_displaced}
-use Rattle.mus_stems.{specs.Displaced.dx_where, specs.Displaced.DisplacedAfter, specs.Displaced.Displaced, specs.Displaced.AreDisplaced, proofs.OrderLaws.of_each, proofs.OrderLaws.Apart, proofs.OrderLaws.are_apart, proofs.OrderLaws.taken_are, proofs.OrderLaws.one_order}
+use Rattle.std.{proofs.{Common.{◌≡◌, ℕ, zero, suc, ◌<◌, ℤ, pos, Bool, true, false, cond, not, ◌&&◌, List, [], ◌∷◌, length, replicate, refl, sym, ◌∙◌, ap, subst, Option, Some, None, arith, length-set, get_or-set_same, get_or-set_other, ext_get_or}, lemmas.List.{get_or-replicate, length-replicate}}, specs.{Prelude.{slice_get, slice_set, slice_index_or}, Ordering.int_eq, List.AllByRecursion}}
+use Rattle.mus_stems.{specs.{declared.heads.{Stand.Stand, Last.Last}, Heads.{AllNear, Taken, taken, is_step_past, gives_way, shifted, shift_of, shifts_of}, Order.{head_at, IsHead, AreTaken}, Displaced.{dx_of, is_displaced, dx_where, DisplacedAfter, Displaced, AreDisplaced}}, proofs.OrderLaws.{of_each, Apart, are_apart, taken_are, one_order}}
 
 -- places within a list
 within_list : (ss : List Stand) (k : ℕ) (s : Stand) → slice_get ss k ≡ Some s → k < length ss

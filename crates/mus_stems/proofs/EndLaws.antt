@@ -1,10 +1,7 @@
 -- The own ends of what `stems_of` gives are in range, and there is a plan for each event.
-use Rattle.std.proofs.Common.{◌≡◌, ℕ, ℤ, pos, negsuc, ◌≤ℤ◌, Bool, true, false, List, [], ◌∷◌, length, suc, ap, ◌∙◌, refl, subst, sym, arith}
-use Rattle.std.{proofs.lemmas.Int.ints, proofs.lemmas.Int.clamps, specs.List.AllByRecursion}
+use Rattle.std.{proofs.{Common.{◌≡◌, ℕ, ℤ, pos, negsuc, ◌≤ℤ◌, Bool, true, false, List, [], ◌∷◌, length, suc, ap, ◌∙◌, refl, subst, sym, arith}, lemmas.Int.{ints, clamps}}, specs.List.AllByRecursion}
 use Rattle.mus_units.specs.{declared.note.Wish.Wish, declared.pitch.Clef.Clef}
-use Rattle.mus_stems.specs.{declared.heads.Stand.Stand, declared.stills.Still.Still, declared.plans.StemPlan.StemPlan, Heads.AllNear, Heads.lowest, Heads.highest, Stills.stills, Stills.IsGoodStill, Stills.AllGood, Beams.is_joined, Beams.beams, Ends.upper_end, Ends.lower_end, Ends.outer_end}
-use Rattle.mus_stems.{specs.Ends.own_end, specs.Ends.stands_up, specs.Ends.run_end, specs.Plans.IsEndNear, specs.Plans.plan_of, specs.Plans.plans_along, specs.Plans.run_plans, specs.Plans.first_id, specs.Plans.plans_of_runs, specs.Plans.AllEndsNear, proofs.Ranges.InRange, proofs.Ranges.low_near}
-use Rattle.mus_stems.proofs.{Ranges.high_near, RunLaws.all_in_runs, RunLaws.all_append, RunLaws.runs_length, Taking.stills_length}
+use Rattle.mus_stems.{specs.{declared.{heads.Stand.Stand, stills.Still.Still, plans.StemPlan.StemPlan}, Heads.{AllNear, lowest, highest}, Stills.{stills, IsGoodStill, AllGood}, Beams.{is_joined, beams}, Ends.{upper_end, lower_end, outer_end, own_end, stands_up, run_end}, Plans.{IsEndNear, plan_of, plans_along, run_plans, first_id, plans_of_runs, AllEndsNear}}, proofs.{Ranges.{InRange, low_near, high_near}, RunLaws.{all_in_runs, all_append, runs_length}, Taking.stills_length}}
 use Rattle.mus_score.specs.declared.score.Flat.{Flat}
 
 IsEnd : ℤ → Type 0

@@ -1,10 +1,7 @@
 -- Beams are told by the groups of plans, where the ids of events rise.
-use Rattle.std.proofs.Common.{◌≡◌, ℕ, suc, ◌+◌, ◌<◌, ℤ, Bool, true, false, cond, eqb, List, [], ◌∷◌, ◌++◌, length, map, refl, sym, subst, ap, ◌∙◌, arith}
-use Rattle.std.{proofs.lemmas.Bool.eq-eqb, proofs.lemmas.Bool.ne_eqb, proofs.lemmas.List.Folds.flat_map-map, proofs.lemmas.List.length-map, specs.Prelude.slice_index, specs.List.flat_map, specs.List.Sorted.IsStrictlyIncreasing}
+use Rattle.std.{proofs.{Common.{◌≡◌, ℕ, suc, ◌+◌, ◌<◌, ℤ, Bool, true, false, cond, eqb, List, [], ◌∷◌, ◌++◌, length, map, refl, sym, subst, ap, ◌∙◌, arith}, lemmas.{Bool.{eq-eqb, ne_eqb}, List.{Folds.flat_map-map, length-map}}}, specs.{Prelude.slice_index, List.{flat_map, Sorted.IsStrictlyIncreasing}}}
 use Rattle.mus_units.specs.declared.note.Wish.{Wish}
-use Rattle.mus_stems.specs.{declared.stills.Still.Still, declared.plans.StemPlan.StemPlan, declared.slopes.Anchor.Anchor, Runs.runs, Runs.put_before, Runs.JoinedAfter, Runs.EndsBefore, Runs.AreRuns, Beams.is_joined, Beams.beams, Ends.stands_up, Ends.run_end, Plans.plan_of, Plans.plans_along}
-use Rattle.mus_stems.{specs.Plans.run_plans, specs.Plans.plans_of_runs, specs.Slope.anchor_of, specs.Slope.anchors, specs.Slope.shares_beam, specs.Groups.same_group, specs.Groups.IdsRise, specs.Groups.BeamsByGroups, specs.Groups.SlopesByBeams, proofs.RunLaws.runs_are_maximal}
-use Rattle.mus_stems.proofs.{RunLaws.runs_length, RunLaws.runs_of_whole, EndLaws.run_length}
+use Rattle.mus_stems.{specs.{declared.{stills.Still.Still, plans.StemPlan.StemPlan, slopes.Anchor.Anchor}, Runs.{runs, put_before, JoinedAfter, EndsBefore, AreRuns}, Beams.{is_joined, beams}, Ends.{stands_up, run_end}, Plans.{plan_of, plans_along, run_plans, plans_of_runs}, Slope.{anchor_of, anchors, shares_beam}, Groups.{same_group, IdsRise, BeamsByGroups, SlopesByBeams}}, proofs.{RunLaws.{runs_are_maximal, runs_length, runs_of_whole}, EndLaws.run_length}}
 
 -- ids that rise from event to event, the first of them above one before
 abbrev RiseBehind : ℕ → List Still → Type 0

@@ -1,6 +1,5 @@
 -- The heads that are taken level by level are those of an event in their order, and there is only one such order.
-use Rattle.std.proofs.Common.{◌≡◌, ℕ, zero, suc, ◌+◌, ◌≤◌, ℤ, pos, negsuc, ◌+ℤ◌, ◌≤ℤ◌, ◌<ℤ◌, ◌⊎◌, inl, inr, Bool, true, false, cond, List, [], ◌∷◌, refl, sym, ◌∙◌, ap, subst, Some, arith}
-use Rattle.std.{proofs.lemmas.Int.ints, proofs.lemmas.Bool.false≢true, proofs.lemmas.Bool.Decides.Decides-int_eq, specs.Prelude.slice_get, specs.Ordering.int_eq, specs.List.AllByRecursion}
+use Rattle.std.{proofs.{Common.{◌≡◌, ℕ, zero, suc, ◌+◌, ◌≤◌, ℤ, pos, negsuc, ◌+ℤ◌, ◌≤ℤ◌, ◌<ℤ◌, ◌⊎◌, inl, inr, Bool, true, false, cond, List, [], ◌∷◌, refl, sym, ◌∙◌, ap, subst, Some, arith}, lemmas.{Int.ints, Bool.{false≢true, Decides.Decides-int_eq}}}, specs.{Prelude.slice_get, Ordering.int_eq, List.AllByRecursion}}
 use Rattle.mus_stems.specs.{declared.heads.Stand.Stand, Heads.IsNear, Heads.AllNear, Heads.Taken, Heads.level_of, Heads.taken_one, Heads.taken_at, Heads.taken_from, Heads.taken, Order.IsBefore, Order.InOrder, Order.head_at, Order.IsHead, Order.IsAmong, Order.AreTaken}
 
 -- what holds of all holds of each

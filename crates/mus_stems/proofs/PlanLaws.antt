@@ -1,10 +1,7 @@
 -- What `stems_of` gives are the plans of events, and there are no others.
-use Rattle.std.proofs.Common.{◌≡◌, List, [], ◌∷◌, ◌++◌, map, refl, sym, ◌∙◌, ap, subst}
-use Rattle.std.specs.List.{AllByRecursion, AllZip}
+use Rattle.std.{proofs.Common.{◌≡◌, List, [], ◌∷◌, ◌++◌, map, refl, sym, ◌∙◌, ap, subst}, specs.List.{AllByRecursion, AllZip}}
 use Rattle.mus_units.specs.declared.note.Wish.{Wish}
-use Rattle.mus_stems.specs.{declared.stills.Still.Still, declared.plans.StemPlan.StemPlan, Stills.IsGoodStill, Stills.AllGood, Beams.is_joined, Beams.beams, Ends.stands_up, Ends.run_end, Ends.from_of, Ends.own_end, Dots.first_dot, Dots.dots_along, Signs.first_sign, Displaced.AreDisplaced}
-use Rattle.mus_stems.specs.{Columns.AreInColumns, Plans.first_id, Plans.plan_of, Plans.plans_along, Plans.run_plans, Plans.plans_of_runs, Plans.InRun, Plans.in_run, Plans.in_runs, Plans.IsPlan, Plans.ArePlans, Plans.OnePlan}
-use Rattle.mus_stems.proofs.{RunLaws.runs_are_maximal, RunLaws.all_in_runs, RunLaws.maximal_runs, DisplacedLaws.shifts_displace, DisplacedLaws.one_displacing, ColumnLaws.signs_in_columns, ColumnLaws.one_column}
+use Rattle.mus_stems.{specs.{declared.{stills.Still.Still, plans.StemPlan.StemPlan}, Stills.{IsGoodStill, AllGood}, Beams.{is_joined, beams}, Ends.{stands_up, run_end, from_of, own_end}, Dots.{first_dot, dots_along}, Signs.first_sign, Displaced.AreDisplaced, Columns.AreInColumns, Plans.{first_id, plan_of, plans_along, run_plans, plans_of_runs, InRun, in_run, in_runs, IsPlan, ArePlans, OnePlan}}, proofs.{RunLaws.{runs_are_maximal, all_in_runs, maximal_runs}, DisplacedLaws.{shifts_displace, one_displacing}, ColumnLaws.{signs_in_columns, one_column}}}
 
 is_plan : (wish : Wish) (run : List Still) (e : Still) → IsGoodStill e → IsPlan wish (in_run run e) (plan_of (stands_up wish run) (run_end (stands_up wish run) run) (first_id run) e)
 unfolding plan_of

@@ -1,6 +1,5 @@
 -- The lowest and the highest of good heads are in range.
-use Rattle.std.proofs.Common.{ℤ, pos, negsuc, ◌≤ℤ◌, List, [], ◌∷◌, arith}
-use Rattle.std.{proofs.lemmas.Int.ints, proofs.lemmas.Int.clamps, specs.Int.int_min, specs.Int.int_max}
+use Rattle.std.{proofs.{Common.{ℤ, pos, negsuc, ◌≤ℤ◌, List, [], ◌∷◌, arith}, lemmas.Int.{ints, clamps}}, specs.Int.{int_min, int_max}}
 use Rattle.mus_stems.specs.{declared.heads.Stand.Stand, declared.stills.Still.Still, Heads.AllNear, Heads.lowest, Heads.highest, Ends.low_of, Ends.high_of, Ends.lowest_in, Ends.highest_in, Ends.run_low, Ends.run_high, Stills.AllGood}
 
 abbrev pub InRange : ℤ → Type 0

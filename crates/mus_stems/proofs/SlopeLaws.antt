@@ -1,8 +1,6 @@
 -- Lines of beams: what events stand over them, and how far they rise.
-use Rattle.std.proofs.Common.{◌≡◌, ℕ, zero, suc, ◌+◌, ◌*◌, ◌/◌, ◌<◌, ◌≤◌, ℤ, pos, negsuc, ◌-ℤ◌, ◌*ℤ◌, ◌≤ℤ◌, ◌<ℤ◌, Bool, true, false, cond, List, [], ◌∷◌, take, drop, refl, subst, sym, ap, ◌∙◌, length, arith}
-use Rattle.std.{proofs.lemmas.Int.ints, proofs.lemmas.Int.clamps, proofs.lemmas.Int.unsigned_abs-mul, proofs.Math.Nat.div-le_of_le-mul, proofs.Math.Nat.div-lt_iff_lt-mul, proofs.Math.Nat.mul-le-mul, specs.Int.RustNames.unsigned_abs, specs.Int.int_div_euclid}
-use Rattle.mus_stems.specs.Slope.{anchor_of, anchors, shares_beam, last_of, line_of, rise_at, base_along, ends_along, beam_ends, sloped_ends, with_ends, sloped, ArePlaces, RisesInBeams, RisesAfter, IsAnchor, AreAnchors, IsLine, IsOver, AreOver, Rise, RiseFrom, IsBase}
-use Rattle.mus_stems.{specs.declared.plans.StemPlan.StemPlan, specs.declared.slopes.Anchor.Anchor, specs.declared.slopes.Line.Line, specs.Plans.AllEndsNear, specs.Runs.run_more, specs.Ends.further, proofs.RunLaws.run_is, proofs.RunLaws.runs_length}
+use Rattle.std.{proofs.{Common.{◌≡◌, ℕ, zero, suc, ◌+◌, ◌*◌, ◌/◌, ◌<◌, ◌≤◌, ℤ, pos, negsuc, ◌-ℤ◌, ◌*ℤ◌, ◌≤ℤ◌, ◌<ℤ◌, Bool, true, false, cond, List, [], ◌∷◌, take, drop, refl, subst, sym, ap, ◌∙◌, length, arith}, lemmas.Int.{ints, clamps, unsigned_abs-mul}, Math.Nat.{div-le_of_le-mul, div-lt_iff_lt-mul, mul-le-mul}}, specs.Int.{RustNames.unsigned_abs, int_div_euclid}}
+use Rattle.mus_stems.{specs.{Slope.{anchor_of, anchors, shares_beam, last_of, line_of, rise_at, base_along, ends_along, beam_ends, sloped_ends, with_ends, sloped, ArePlaces, RisesInBeams, RisesAfter, IsAnchor, AreAnchors, IsLine, IsOver, AreOver, Rise, RiseFrom, IsBase}, declared.{plans.StemPlan.StemPlan, slopes.{Anchor.Anchor, Line.Line}}, Plans.AllEndsNear, Runs.run_more, Ends.further}, proofs.RunLaws.{run_is, runs_length}}
 
 all_anchors : (ps : List StemPlan) (xs : List ℤ) → AllEndsNear ps → ArePlaces xs → AreAnchors (anchors ps xs)
 unfolding anchor_of

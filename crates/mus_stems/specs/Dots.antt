@@ -1,6 +1,5 @@
 -- The dots behind the heads of an event.
-use Rattle.std.specs.Prelude.{ℕ, zero, suc, ℤ, pos, negsuc, ◌+◌, ◌*◌, ◌%◌, ◌+ℤ◌, ◌*ℤ◌, Bool, ◌==◌, if◌then◌else◌, List, [], ◌∷◌, ◌++◌}
-use Rattle.std.specs.{Ordering.int_eq, List.list_any}
+use Rattle.std.specs.{Prelude.{ℕ, zero, suc, ℤ, pos, negsuc, ◌+◌, ◌*◌, ◌%◌, ◌+ℤ◌, ◌*ℤ◌, Bool, ◌==◌, if◌then◌else◌, List, [], ◌∷◌, ◌++◌}, Ordering.int_eq, List.list_any}
 use Rattle.mus_stems.specs.{declared.heads.Stand.Stand, declared.dots.Spot.Spot, Distances.step, Distances.right_of_stem, Distances.dot_column, Distances.outer_dot_column, Distances.between_dots}
 
 unfoldable pub is_right : ℤ → Bool

@@ -1,7 +1,6 @@
 -- The order in which the heads of an event are taken: from the lowest up where the stem goes up, from the highest down
 -- where it goes down, and heads of one height in the order of the text.
-use Rattle.std.specs.Prelude.{◌≡◌, ℕ, ◌<◌, ◌<ℤ◌, ◌⊎◌, ⊤, Bool, List, [], ◌∷◌, slice_get, Some}
-use Rattle.std.specs.List.{AllByRecursion}
+use Rattle.std.specs.{Prelude.{◌≡◌, ℕ, ◌<◌, ◌<ℤ◌, ◌⊎◌, ⊤, Bool, List, [], ◌∷◌, slice_get, Some}, List.AllByRecursion}
 use Rattle.mus_stems.specs.{declared.heads.Stand.Stand, Heads.Taken, Heads.level_of}
 
 -- a head is taken before another where it stands less far in the way in which heads are taken, or as far and earlier

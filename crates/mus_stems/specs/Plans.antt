@@ -1,10 +1,8 @@
 -- The stem plans of the events of a measure.
-use Rattle.std.specs.Prelude.{◌≡◌, ℕ, ℤ, pos, negsuc, ◌≤ℤ◌, Bool, List, [], ◌∷◌, map}
-use Rattle.std.specs.List.{flat_map, AllByRecursion, AllZip}
+use Rattle.std.specs.{Prelude.{◌≡◌, ℕ, ℤ, pos, negsuc, ◌≤ℤ◌, Bool, List, [], ◌∷◌, map}, List.{flat_map, AllByRecursion, AllZip}}
 use Rattle.mus_units.specs.{declared.pitch.Clef.Clef, declared.note.Wish.Wish}
 use Rattle.mus_score.specs.declared.score.Flat.{Flat}
-use Rattle.mus_stems.specs.{declared.stills.Still.Still, declared.plans.StemPlan.StemPlan, Heads.shifts_of, Displaced.AreDisplaced, Columns.AreInColumns, Signs.first_sign, Signs.signs_from, Ledgers.ledgers_of, Dots.first_dot, Dots.dots_along, Stills.flags_of, Stills.stills, Runs.AreMaximalRuns}
-use Rattle.mus_stems.specs.{Beams.is_joined, Beams.beams, Ends.low_of, Ends.high_of, Ends.stands_up, Ends.own_end, Ends.run_end, Ends.from_of, Ends.has_stem}
+use Rattle.mus_stems.specs.{declared.{stills.Still.Still, plans.StemPlan.StemPlan}, Heads.shifts_of, Displaced.AreDisplaced, Columns.AreInColumns, Signs.{first_sign, signs_from}, Ledgers.ledgers_of, Dots.{first_dot, dots_along}, Stills.{flags_of, stills}, Runs.AreMaximalRuns, Beams.{is_joined, beams}, Ends.{low_of, high_of, stands_up, own_end, run_end, from_of, has_stem}}
 
 -- the event at which a run begins
 abbrev pub first_id : List Still → ℕ

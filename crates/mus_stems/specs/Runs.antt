@@ -1,6 +1,5 @@
 -- Runs: a list is cut between two neighbours exactly where nothing joins them.
-use Rattle.std.specs.Prelude.{◌≡◌, ℕ, suc, Bool, true, false, if◌then◌else◌, ⊤, List, [], ◌∷◌}
-use Rattle.std.specs.List.{flat_map}
+use Rattle.std.specs.{Prelude.{◌≡◌, ℕ, suc, Bool, true, false, if◌then◌else◌, ⊤, List, [], ◌∷◌}, List.flat_map}
 
 -- an element in front of runs: in the first of them where it is joined to its first element, else a run of its own
 abbrev pub put_before : {A : Type 0} → (A → A → Bool) → A → List (List A) → List (List A)

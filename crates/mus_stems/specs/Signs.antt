@@ -1,6 +1,5 @@
 -- Where the signs before the heads of an event stand.
-use Rattle.std.specs.Prelude.{ℕ, ℤ, pos, ◌+◌, ◌*◌, ◌-ℤ◌, Bool, false, if◌then◌else◌, List, [], ◌∷◌, length, replicate, Option, Some, None}
-use Rattle.std.specs.{Ordering.int_eq, List.slice_set, List.list_any}
+use Rattle.std.specs.{Prelude.{ℕ, ℤ, pos, ◌+◌, ◌*◌, ◌-ℤ◌, Bool, false, if◌then◌else◌, List, [], ◌∷◌, length, replicate, Option, Some, None}, Ordering.int_eq, List.{slice_set, list_any}}
 use Rattle.mus_stems.specs.{declared.heads.Stand.Stand, Distances.left_of_stem, Distances.sign_column, Distances.outer_sign_column, Distances.between_columns, Heads.Taken, Heads.taken}
 
 -- the dx of the k-th column of signs, from 0

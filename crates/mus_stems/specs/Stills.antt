@@ -1,7 +1,6 @@
 -- What a stem plan takes from an event: its value, whether a space or a line end parts it from the event before it, and
 -- where its heads stand in its clef.
-use Rattle.std.specs.Prelude.{ℕ, ◌≤◌, Bool, true, false, ⊤, List, [], ◌∷◌, length, map}
-use Rattle.std.specs.List.{AllByRecursion}
+use Rattle.std.specs.{Prelude.{ℕ, ◌≤◌, Bool, true, false, ⊤, List, [], ◌∷◌, length, map}, List.AllByRecursion}
 use Rattle.mus_units.specs.{declared.value.Base.Base, declared.pitch.Clef.Clef}
 use Rattle.mus_score.specs.declared.score.Flat.{Flat}
 use Rattle.mus_stems.specs.{declared.stills.Still.Still, Heads.AllNear, Heads.stand_of}

@@ -1,6 +1,5 @@
 ghost use Rattle.std.specs.Prelude.{◌≡◌, ◌++◌, ◌≤◌, length, IfOk, OnOk};
-ghost use Rattle.mus_stems.specs.{Stills.IsGoodStill, Stills.AllGood, Stills.AllCanStand, Stills.stills, Beams.beams};
-ghost use Rattle.mus_stems.specs.Plans.{first_id, plan_of, plans_along, run_plans, plans_of_runs, stems_of, ArePlans, AllEndsNear};
+ghost use Rattle.mus_stems.specs.{Stills.{IsGoodStill, AllGood, AllCanStand, stills}, Beams.beams, Plans.{first_id, plan_of, plans_along, run_plans, plans_of_runs, stems_of, ArePlans, AllEndsNear}};
 
 use crate::beams::more_in_run;
 use crate::dots::{Spot, dot_dx, put_dots};

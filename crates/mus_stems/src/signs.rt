@@ -1,6 +1,5 @@
 ghost use Rattle.std.specs.{Prelude.◌≡◌, Prelude.◌≤ℤ◌, Prelude.◌<◌, Prelude.◌≤◌, Prelude.◌+◌, Prelude.List, Prelude.negsuc, Prelude.length, Prelude.false, Prelude.IfOk, List.list_any};
-ghost use Rattle.mus_stems.specs.Heads.{IsNear, AllNear, Taken, taken_one, taken_at, taken};
-ghost use Rattle.mus_stems.specs.Signs.{is_left, first_sign, sign_at, signs_along, signs_from};
+ghost use Rattle.mus_stems.specs.{Heads.{IsNear, AllNear, Taken, taken_one, taken_at, taken}, Signs.{is_left, first_sign, sign_at, signs_along, signs_from}};
 
 use crate::distances::{BETWEEN_COLUMNS, LEFT_OF_STEM, OUTER_SIGN_COLUMN, SIGN_COLUMN};
 use crate::heads::{Stand, level};

@@ -1,7 +1,5 @@
-ghost use Rattle.std.specs.Prelude.{◌≡◌, ◌++◌, ◌≤◌, ◌≤ℤ◌, ◌<ℤ◌, ◌^◌, ◌∷◌, [], ◌+ℤ◌, ◌-ℤ◌, ◌*ℤ◌, pos, negsuc, length, IfOk, OnOk};
-ghost use Rattle.std.specs.Int.{int_min, int_max, int_div_euclid};
-ghost use Rattle.mus_stems.specs.{Distances.steepest, Distances.steepest_down, Plans.AllEndsNear, Runs.run_more};
-ghost use Rattle.mus_stems.specs.Slope.{anchor_of, anchors, shares_beam, last_of, line_of, rise_at, base_along, ends_along, line_ends, beam_ends, sloped_ends, with_end, with_ends, sloped, ArePlaces, RisesInBeams, AreAnchors, IsLine, IsOver, AreOver, Rise, IsBase};
+ghost use Rattle.std.specs.{Prelude.{◌≡◌, ◌++◌, ◌≤◌, ◌≤ℤ◌, ◌<ℤ◌, ◌^◌, ◌∷◌, [], ◌+ℤ◌, ◌-ℤ◌, ◌*ℤ◌, pos, negsuc, length, IfOk, OnOk}, Int.{int_min, int_max, int_div_euclid}};
+ghost use Rattle.mus_stems.specs.{Distances.{steepest, steepest_down}, Plans.AllEndsNear, Runs.run_more, Slope.{anchor_of, anchors, shares_beam, last_of, line_of, rise_at, base_along, ends_along, line_ends, beam_ends, sloped_ends, with_end, with_ends, sloped, ArePlaces, RisesInBeams, AreAnchors, IsLine, IsOver, AreOver, Rise, IsBase}};
 
 use crate::distances::STEEPEST;
 use crate::ends::further_of;

@@ -1,7 +1,6 @@
 -- The order of column keys: no key is below itself, of two keys at most one is below the other, and what is below
 -- a key is below all that it is below.
-use Rattle.std.proofs.Common.{◌≡◌, ℕ, ◌<◌, Bool, true, false, nat_lt, refl, arith}
-use Rattle.std.proofs.lemmas.Bool.Decides.{nat_tests}
+use Rattle.std.proofs.{Common.{◌≡◌, ℕ, ◌<◌, Bool, true, false, nat_lt, refl, arith}, lemmas.Bool.Decides.nat_tests}
 use Rattle.mus_time.specs.{declared.keys.ColumnKey.ColumnKey, Order.is_below, Order.class_number, Order.then_below}
 
 pub not_itself : (k : ColumnKey) → is_below k k ≡ false

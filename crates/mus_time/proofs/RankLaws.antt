@@ -1,9 +1,7 @@
 -- Rising keys that stand before a key come first, and their number is its rank. Ranks rise with keys, and the rank
 -- of a key of the system is below the number of its keys; the i-th has rank i.
-use Rattle.std.proofs.Common.{◌≡◌, ℕ, zero, suc, ◌+◌, ◌≤◌, ◌<◌, Bool, true, false, List, [], ◌∷◌, ◌++◌, length, subst, refl, sym, ap, ◌∙◌, if◌then◌else◌, arith}
-use Rattle.std.{proofs.lemmas.Bool.Decides.nat_tests, specs.List.AllByRecursion, specs.List.AllWithin, specs.List.Contains, specs.List.slice_index_or, specs.List.Sorted.IsPartitionPoint, specs.List.Sorted.IsPartitionedBy, specs.Ordering.partial_lt}
-use Rattle.mus_time.{specs.contracts.keys.ColumnKeyPartialOrd.TheImpl.ghosts, specs.declared.keys.ColumnKey.ColumnKey, specs.Order.is_below, specs.Order.BelowAll, specs.Order.Rises, specs.Order.rank_of, proofs.Orders.below_through, proofs.Orders.lower, proofs.Orders.not_both}
-use Rattle.mus_time.proofs.Orders.{not_itself}
+use Rattle.std.{proofs.{Common.{◌≡◌, ℕ, zero, suc, ◌+◌, ◌≤◌, ◌<◌, Bool, true, false, List, [], ◌∷◌, ◌++◌, length, subst, refl, sym, ap, ◌∙◌, if◌then◌else◌, arith}, lemmas.Bool.Decides.nat_tests}, specs.{List.{AllByRecursion, AllWithin, Contains, slice_index_or, Sorted.{IsPartitionPoint, IsPartitionedBy}}, Ordering.partial_lt}}
+use Rattle.mus_time.{specs.{contracts.keys.ColumnKeyPartialOrd.TheImpl.ghosts, declared.keys.ColumnKey.ColumnKey, Order.{is_below, BelowAll, Rises, rank_of}}, proofs.Orders.{below_through, lower, not_both, not_itself}}
 
 pub below_is : (k l : ColumnKey) → partial_lt ghosts.partial_cmp k l ≡ is_below k l
 unfolding is_below

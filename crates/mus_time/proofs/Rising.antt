@@ -1,6 +1,5 @@
 -- The derived order of column keys is the order of columns.
-use Rattle.std.proofs.Common.{◌≡◌, ◌<◌, List, [], ◌∷◌, true, refl, arith}
-use Rattle.std.{proofs.lemmas.Bool.Decides.nat_tests, specs.List.AllByRecursion, specs.List.Sorted.IsStrictlySortedBy, specs.Ordering.nat_cmp, specs.Ordering.ordering_then, specs.declared.cmp.Ordering.TheVariants.Less, specs.declared.cmp.Ordering.TheVariants.Equal}
+use Rattle.std.{proofs.{Common.{◌≡◌, ◌<◌, List, [], ◌∷◌, true, refl, arith}, lemmas.Bool.Decides.nat_tests}, specs.{List.{AllByRecursion, Sorted.IsStrictlySortedBy}, Ordering.{nat_cmp, ordering_then}, declared.cmp.Ordering.TheVariants.{Less, Equal}}}
 use Rattle.mus_time.specs.{contracts.keys.ColumnKeyOrd.TheImpl.ghosts, declared.keys.Class.Class, declared.keys.ColumnKey.ColumnKey, Order.is_below, Order.class_number, Order.BelowAll, Order.Rises}
 use Rattle.mus_time.specs.contracts.keys.ColumnKeyPartialEq.TheImpl as equal
 use Rattle.mus_time.specs.contracts.keys.ClassOrd.TheImpl as classes

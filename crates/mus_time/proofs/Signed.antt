@@ -1,8 +1,6 @@
 -- The tree and the events in a row tell the same of the key in force.
-use Rattle.std.proofs.Common.{◌≡◌, ◌∙◌, ℕ, Bool, List, [], ◌∷◌, ◌++◌, ap, map, refl, subst, sym}
-use Rattle.std.specs.List.{AllByRecursion}
-use Rattle.mus_score.specs.declared.{score.Flat.Flat, score.Music.Music, score.Music.TheOpen.Music-F, score.Music.TheFolds.fold-roll-Music, score.Music.TheFolds.ind-Music, score.Music.TheFolds.map-Music, score.Music.TheViews.roll-Music, times.Waits.Waits}
-use Rattle.mus_score.specs.Times.{Leafing, flats_of, in_row, leaves_step, leaves_within, nothing}
+use Rattle.std.{proofs.Common.{◌≡◌, ◌∙◌, ℕ, Bool, List, [], ◌∷◌, ◌++◌, ap, map, refl, subst, sym}, specs.List.AllByRecursion}
+use Rattle.mus_score.specs.{declared.{score.{Flat.Flat, Music.{Music, TheOpen.Music-F, TheFolds.{fold-roll-Music, ind-Music, map-Music}, TheViews.roll-Music}}, times.Waits.Waits}, Times.{Leafing, flats_of, in_row, leaves_step, leaves_within, nothing}}
 use Rattle.mus_time.specs.{Keys.signed_after, Keys.signed_through, Signed.signed_in, Signed.signed_step, Signed.signed_within}
 
 signed_through_append : (s : Bool) (fs gs : List Flat) → signed_through s (fs ++ gs) ≡ signed_through (signed_through s fs) gs

@@ -1,7 +1,6 @@
 ghost use Rattle.std.specs.Prelude.{◌≡◌, ◌≤◌, ◌<◌, ◌+◌, ◌*◌, ◌++◌, All, Contains, IfOk, OnOk, [], ◌∷◌, filter, flat_map, length, slice_range, false, true};
 ghost use Rattle.mus_score.specs.{Good.IsGoodBody, Good.longest_ticks, Good.total_ticks, GoodScore.IsGoodScore, GoodScore.IsGoodVoice, Times.flats_of};
-ghost use Rattle.mus_time.specs.Keys.{AreKeys, IsInSystem, all_keys, called_keys, change_has_mark, event_keys, events_keys, first_keys, further_keys, grace_keys, is_for_each, has_entries, has_features, key_at, key_has_mark, measure_keys, measures_keys, meter_has_mark, signed_after, signed_at, signed_behind, signed_through, voice_keys};
-ghost use Rattle.mus_time.specs.{Onsets.timeline_of, Order.Rises, Signed.signed_in, Signed.signed_within};
+ghost use Rattle.mus_time.specs.{Keys.{AreKeys, IsInSystem, all_keys, called_keys, change_has_mark, event_keys, events_keys, first_keys, further_keys, grace_keys, is_for_each, has_entries, has_features, key_at, key_has_mark, measure_keys, measures_keys, meter_has_mark, signed_after, signed_at, signed_behind, signed_through, voice_keys}, Onsets.timeline_of, Order.Rises, Signed.{signed_in, signed_within}};
 
 use crate::keys::{Class, ColumnKey};
 use crate::times::Timeline;

@@ -1,8 +1,6 @@
 -- Folds over a tree with each event changed.
-use Rattle.std.proofs.Common.{◌≡◌, ℕ, Bool, List, [], ◌∷◌, ◌++◌, ◌*◌, map, refl, sym, ◌∙◌, ap, subst}
-use Rattle.std.{proofs.Math.Path.fun_ext, proofs.lemmas.List.map-append, proofs.lemmas.List.map-id, proofs.lemmas.List.Elements.same_from_all_zip, specs.List.AllZip}
-use Rattle.mus_score.specs.declared.{score.Event.Event, score.Flat.Flat, score.Music.Music, score.Music.map-Music, score.Music.TheOpen.Music-F, score.Music.TheViews.roll-Music, score.Music.TheFolds.fold-Music, score.Music.TheFolds.fold-roll-Music, score.Music.TheFolds.ind-Music, times.Waits.Waits}
-use Rattle.mus_score.specs.Times.{Leafing, Leaves, flats_of, in_row, leaf, leaves_step, leaves_within, nothing}
+use Rattle.std.{proofs.{Common.{◌≡◌, ℕ, Bool, List, [], ◌∷◌, ◌++◌, ◌*◌, map, refl, sym, ◌∙◌, ap, subst}, Math.Path.fun_ext, lemmas.List.{map-append, map-id, Elements.same_from_all_zip}}, specs.List.AllZip}
+use Rattle.mus_score.specs.{declared.{score.{Event.Event, Flat.Flat, Music.{Music, map-Music, TheOpen.Music-F, TheViews.roll-Music, TheFolds.{fold-Music, fold-roll-Music, ind-Music}}}, times.Waits.Waits}, Times.{Leafing, Leaves, flats_of, in_row, leaf, leaves_step, leaves_within, nothing}}
 use Rattle.mus_transpose.specs.Moved.{changed, changed_flat, changed_layer, changed_step}
 
 -- what two folds must keep, one over the changed tree

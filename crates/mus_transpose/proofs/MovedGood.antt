@@ -1,15 +1,9 @@
 -- A moved score in reach is good.
-use Rattle.std.proofs.Common.{◌≡◌, ◌≢◌, ℕ, suc, ◌==◌, ◌&&◌, ◌*◌, ◌+ℤ◌, ◌<◌, nat_le, Bool, true, false, List, get_or, [], ◌∷◌, ◌++◌, length, map, refl, sym, ◌∙◌, Decides, ap, subst, arith, sum, if◌then◌else◌}
-use Rattle.std.specs.Prelude.{pos, negsuc, ◌≤ℤ◌, int_le, All, AllPairs, IfSome, Option, Some, None, sum_by, ℤ}
-use Rattle.std.proofs.{Math.Path.fun_ext, lemmas.Bool.false≢true, lemmas.Bool.Decides.Decides-and, lemmas.Bool.Decides.Decides-by_and, lemmas.Bool.Decides.Decides-like, lemmas.Int.ints, lemmas.List.get_or-map, lemmas.List.length-map, lemmas.List.map-append}
-use Rattle.std.{proofs.lemmas.List.Elements.All-map, proofs.lemmas.List.Elements.All-weaker, proofs.lemmas.List.Sums.sum-map, proofs.lemmas.Simd.map-map, specs.Int.int_div_euclid, specs.Option.option_map, specs.List.list_all}
+use Rattle.std.{proofs.{Common.{◌≡◌, ◌≢◌, ℕ, suc, ◌==◌, ◌&&◌, ◌*◌, ◌+ℤ◌, ◌<◌, nat_le, Bool, true, false, List, get_or, [], ◌∷◌, ◌++◌, length, map, refl, sym, ◌∙◌, Decides, ap, subst, arith, sum, if◌then◌else◌}, Math.Path.fun_ext, lemmas.{Bool.{false≢true, Decides.{Decides-and, Decides-by_and, Decides-like}}, Int.ints, List.{get_or-map, length-map, map-append, Elements.{All-map, All-weaker}, Sums.sum-map}, Simd.map-map}}, specs.{Prelude.{pos, negsuc, ◌≤ℤ◌, int_le, All, AllPairs, IfSome, Option, Some, None, sum_by, ℤ}, Int.int_div_euclid, Option.option_map, List.list_all}}
 use Rattle.mus_units.specs.{Good.IsGoodKey, Pitch.height_of, Pitch.number_of, Value.value_length, Value.whole_note, declared.key.Key.Key, declared.note.Head.Head, declared.pitch.Clef.Clef, declared.pitch.Letter.Letter}
 use Rattle.mus_pitch.proofs.SignLaws.{signs_of_good}
-use Rattle.mus_score.specs.{declared.score.Event.Event, declared.score.Flat.Flat, declared.score.Measure.Measure, declared.score.Music.Music, declared.score.Music.TheOpen.Music-F, declared.score.Score.Score, declared.score.Voice.Voice, declared.good.Place.Place, Good.IsGoodBody, Good.all_judged}
-use Rattle.mus_score.specs.{Good.good_step, Good.has_value_ticks, Good.judged, Good.outside, Good.weight, Good.weight_step, GoodScore.AreCounted, GoodScore.AreInReach, GoodScore.IsInReach, GoodScore.clef_at, GoodScore.IsGoodEvent, GoodScore.IsGoodScore, GoodScore.IsGoodVoice, GoodScore.IsLed}
-use Rattle.mus_score.specs.{GoodScore.events_of, GoodScore.voice_weight, Times.flats_of}
-use Rattle.mus_transpose.specs.Moved.{CanMove, Within, are_in_reach, event_by, in_reach, key_by, body_by, changed, changed_flat, measure_by, move_from, moved_head, moved_score, on_circle, score_by, sharps_in, voice_by, voice_may}
-use Rattle.mus_transpose.{specs.declared.moves.Move.Move, proofs.Changed.flats_changed, proofs.Changed.fold_same}
+use Rattle.mus_score.specs.{declared.{score.{Event.Event, Flat.Flat, Measure.Measure, Music.{Music, TheOpen.Music-F}, Score.Score, Voice.Voice}, good.Place.Place}, Good.{IsGoodBody, all_judged, good_step, has_value_ticks, judged, outside, weight, weight_step}, GoodScore.{AreCounted, AreInReach, IsInReach, clef_at, IsGoodEvent, IsGoodScore, IsGoodVoice, IsLed, events_of, voice_weight}, Times.flats_of}
+use Rattle.mus_transpose.{specs.{Moved.{CanMove, Within, are_in_reach, event_by, in_reach, key_by, body_by, changed, changed_flat, measure_by, move_from, moved_head, moved_score, on_circle, score_by, sharps_in, voice_by, voice_may}, declared.moves.Move.Move}, proofs.Changed.{flats_changed, fold_same}}
 
 -- ---- numbers
 pub twelfth_fits : (z : ℤ) → Within (negsuc 1199) (pos 1199) z → Within (negsuc 99) (pos 99) (int_div_euclid z (pos 12))

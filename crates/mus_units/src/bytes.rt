@@ -1,7 +1,6 @@
 //! Bytes of a text: their classes, equal texts, and blanks at the ends.
 
-ghost use Rattle.std.specs.Prelude.{◌≡◌, ◌≤◌, length};
-ghost use Rattle.std.specs.{List.prefix_len, List.suffix_len, Str.bytes_eq};
+ghost use Rattle.std.specs.{Prelude.{◌≡◌, ◌≤◌, length}, List.{prefix_len, suffix_len}, Str.bytes_eq};
 ghost use Rattle.mus_units.specs.Bytes.{is_digit, is_letter, is_blank, behind_blanks, before_blanks, trimmed};
 
 /// Whether a byte is one of 0 to 9.

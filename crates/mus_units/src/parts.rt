@@ -1,7 +1,5 @@
 ghost use Rattle.std.specs.Prelude.{◌≡◌, ◌≤◌, ◌<◌, ◌^◌, ◌*◌, ◌+◌, ◌-◌, ℕ, ◌/◌, List, ◌++◌, ◌∷◌, [], IfOk, OnOk, OnErr, OnSome, MatchOption, IsSome, Some, None};
-ghost use Rattle.mus_units.specs.declared.value.Value.{Value};
-ghost use Rattle.mus_units.specs.Parts.{IsValueOf, IsPartsOf, IsLongest, base_units, units_of, parts_list};
-ghost use Rattle.mus_units.specs.Value.{with_dots};
+ghost use Rattle.mus_units.specs.{declared.value.Value.Value, Parts.{IsValueOf, IsPartsOf, IsLongest, base_units, units_of, parts_list}, Value.with_dots};
 
 use crate::text::{Memory, Row};
 use crate::value::{Base, Value};

@@ -1,6 +1,5 @@
 -- Behind 2^32 texts each dy is cut, so no more of them need be counted.
-use Rattle.std.proofs.Common.{◌≡◌, ℕ, ◌+◌, min, ℤ, pos, negsuc, ◌≤ℤ◌, arith}
-use Rattle.std.proofs.lemmas.Int.{ints, clamps}
+use Rattle.std.proofs.{Common.{◌≡◌, ℕ, ◌+◌, min, ℤ, pos, negsuc, ◌≤ℤ◌, arith}, lemmas.Int.{ints, clamps}}
 use Rattle.mus_ink.specs.Drawing.{cut}
 use Rattle.mus_words.specs.Texts.{above_dy, below_dy}
 

@@ -1,6 +1,5 @@
 -- Slurs and ties: the heights of their two ends, and how far they bulge.
-use Rattle.std.specs.Prelude.{ℕ, ℤ, pos, ◌+ℤ◌, Bool, true, false, ◌&&◌, not, if◌then◌else◌, List, Option, Some, None}
-use Rattle.std.specs.List.{find, slice_get}
+use Rattle.std.specs.{Prelude.{ℕ, ℤ, pos, ◌+ℤ◌, Bool, true, false, ◌&&◌, not, if◌then◌else◌, List, Option, Some, None}, List.{find, slice_get}}
 use Rattle.mus_units.specs.{declared.pitch.Clef.Clef, declared.note.Head.Head}
 use Rattle.mus_stems.specs.{declared.plans.StemPlan.StemPlan, Slope.with_end}
 use Rattle.mus_arcs.specs.{declared.pairing.Arc.Arc, declared.cutting.Piece.Piece, Arcs.has_pitch}

@@ -2,8 +2,7 @@
 -- and the width, and behind it each piece of the path as its numbers and `m`, `l`, `c` or `z`; or `show` with size, x and
 -- y, and the words in parentheses, spelled as on a page. One space stands between two parts. A run that halts has one line:
 -- the number of tokens that were executed before, and the cause.
-use Rattle.std.specs.Prelude.{ℕ, ℤ, List, [], ◌∷◌, ◌++◌, codes, decimal, flat_map}
-use Rattle.std.specs.Fmt.{signed_decimal}
+use Rattle.std.specs.{Prelude.{ℕ, ℤ, List, [], ◌∷◌, ◌++◌, codes, decimal, flat_map}, Fmt.signed_decimal}
 use Rattle.ps_text.specs.{Document.numbered, Fields.quoted}
 use Rattle.ps_steps.specs.{declared.halt.Cause.Cause, declared.paint.Seg.Seg, declared.paint.Paint.Paint, declared.paint.PagePaint.PagePaint}
 

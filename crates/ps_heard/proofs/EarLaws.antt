@@ -1,10 +1,8 @@
 -- What a listener keeps in mind behind some columns is what these columns tell.
-use Rattle.std.proofs.Common.{◌≡◌, refl, sym, ap, ◌∙◌, subst, ℕ, suc, ◌+◌, ◌-◌, ◌<◌, List, [], ◌∷◌, ◌++◌, map, reverse, length, drop, drop-cons, get_or, append-nil, append_assoc, arith}
-use Rattle.std.{proofs.lemmas.Grind.reverse_onto, specs.List.flat_map, specs.List.range_with_len}
+use Rattle.std.{proofs.{Common.{◌≡◌, refl, sym, ap, ◌∙◌, subst, ℕ, suc, ◌+◌, ◌-◌, ◌<◌, List, [], ◌∷◌, ◌++◌, map, reverse, length, drop, drop-cons, get_or, append-nil, append_assoc, arith}, lemmas.Grind.reverse_onto}, specs.List.{flat_map, range_with_len}}
 use Rattle.mus_units.specs.{declared.key.Sign.Sign, declared.key.Spread.Spread, declared.note.Head.Head, declared.pitch.Clef.Clef}
 use Rattle.ps_text.specs.declared.sheet.Staff.{Staff}
-use Rattle.ps_heard.specs.{declared.column.Column.Column, declared.column.Ear.Ear, declared.column.Heard.Heard, declared.column.Noted.Noted, Ear.closed, Ear.fresh, Ear.hear_column, Ear.hear_columns, Ear.hear_from, Hearing.all_heads, Hearing.clef_at, Hearing.head_at, Hearing.heads_from}
-use Rattle.ps_heard.specs.Hearing.{heard_at, heard_of, key_at, last_heads, listed, said_at, said_behind, said_with}
+use Rattle.ps_heard.specs.{declared.column.{Column.Column, Ear.Ear, Heard.Heard, Noted.Noted}, Ear.{closed, fresh, hear_column, hear_columns, hear_from}, Hearing.{all_heads, clef_at, head_at, heads_from, heard_at, heard_of, key_at, last_heads, listed, said_at, said_behind, said_with}}
 
 abbrev pub ear_with : Clef → List Sign → List Head → List Heard → List Heard → List Heard → Ear
 ear_with c k said before here heard = record { clef = c; key = record { signs = k }; said = said; before = before; here = here; heard = heard }

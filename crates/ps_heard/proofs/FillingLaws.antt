@@ -1,11 +1,8 @@
 -- Columns that are filled mark after mark are the columns of the marks.
-use Rattle.std.proofs.Common.{◌≡◌, refl, sym, ap, ◌∙◌, subst, ℕ, zero, suc, ◌+◌, ◌<◌, Bool, true, false, ◌&&◌, List, [], ◌∷◌, ◌++◌, length, get_or, set, drop, drop-cons, arith, ℤ, pos, ◌-ℤ◌, append-nil, append_assoc}
-use Rattle.std.{proofs.lemmas.Bool.false≢true, proofs.lemmas.Bool.or_parts, proofs.lemmas.Cmp.int_cmp_total, proofs.lemmas.Grind.flat_map-append, specs.Prelude.if◌then◌else◌, specs.List.flat_map, specs.List.list_any, specs.List.Sorted.IsStrictlySortedBy, specs.Ordering.int_cmp}
-use Rattle.std.specs.{Ordering.int_eq, Ordering.is_eq, Ordering.ordering_reverse, declared.cmp.Ordering.TheVariants.Less}
+use Rattle.std.{proofs.{Common.{◌≡◌, refl, sym, ap, ◌∙◌, subst, ℕ, zero, suc, ◌+◌, ◌<◌, Bool, true, false, ◌&&◌, List, [], ◌∷◌, ◌++◌, length, get_or, set, drop, drop-cons, arith, ℤ, pos, ◌-ℤ◌, append-nil, append_assoc}, lemmas.{Bool.{false≢true, or_parts}, Cmp.int_cmp_total, Grind.flat_map-append}}, specs.{Prelude.if◌then◌else◌, List.{flat_map, list_any, Sorted.IsStrictlySortedBy}, Ordering.{int_cmp, int_eq, is_eq, ordering_reverse}, declared.cmp.Ordering.TheVariants.Less}}
 use Rattle.mus_units.specs.{declared.glyph.Glyph.Glyph, declared.glyph.Size.Size, declared.glyph.Way.Way}
 use Rattle.ps_text.specs.declared.marks.PageMark.{PageMark}
-use Rattle.ps_heard.specs.{declared.column.Column.Column, declared.column.Noted.Noted, declared.column.Role.Role, Columns.column_at, Columns.columns_from, Columns.is_tie, Columns.note_at, Columns.noted, Columns.tie_at, Filling.at_place, Filling.with_mark, Filling.with_marks, Filling.with_note}
-use Rattle.ps_heard.{specs.Filling.with_tie, specs.Roles.role_of, proofs.Places.Below, proofs.Places.itself, proofs.Places.not_among}
+use Rattle.ps_heard.{specs.{declared.column.{Column.Column, Noted.Noted, Role.Role}, Columns.{column_at, columns_from, is_tie, note_at, noted, tie_at}, Filling.{at_place, with_mark, with_marks, with_note, with_tie}, Roles.role_of}, proofs.Places.{Below, itself, not_among}}
 
 -- ---- one column changed
 as_it_is : (f : Column → Column) (c : Column) (b : Bool) → b ≡ false → (if b then f c else c) ≡ c

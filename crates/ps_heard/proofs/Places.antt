@@ -1,8 +1,5 @@
 -- Numbers in rising order, each once, and one of them sought.
-use Rattle.std.proofs.Common.{◌≡◌, refl, sym, ap, ◌∙◌, subst, ℕ, ◌<◌, ◌≤◌, Bool, true, false, cond, ◌||◌, nat_lt, List, [], ◌∷◌, length, get_or, arith, ℤ}
-use Rattle.std.proofs.lemmas.{Bool.false≢true, Bool.Decides.nat_tests, Cmp.int_cmp_total, Int.ints, Map.Keys.Less-from_sorted, Map.Views.Contains-from_any, Map.Views.list_any-from_Contains, Cmp.int_eq_equiv}
-use Rattle.std.specs.{Prelude.int_lt, Prelude.if◌then◌else◌, List.AllByRecursion, List.Contains, List.list_any, List.Sorted.IsNonDecreasingBy, List.Sorted.IsPartitionPoint, List.Sorted.IsStrictlySortedBy, Ordering.int_cmp, Ordering.int_eq, Ordering.is_eq, Ordering.is_gt, Ordering.ordering_index}
-use Rattle.std.specs.{declared.cmp.Ordering.Ordering, FinMap.int_cmp-IsAntisymmetric, declared.cmp.Ordering.TheVariants.Less, declared.cmp.Ordering.TheVariants.Equal, declared.cmp.Ordering.TheVariants.Greater}
+use Rattle.std.{proofs.{Common.{◌≡◌, refl, sym, ap, ◌∙◌, subst, ℕ, ◌<◌, ◌≤◌, Bool, true, false, cond, ◌||◌, nat_lt, List, [], ◌∷◌, length, get_or, arith, ℤ}, lemmas.{Bool.{false≢true, Decides.nat_tests}, Cmp.{int_cmp_total, int_eq_equiv}, Int.ints, Map.{Keys.Less-from_sorted, Views.{Contains-from_any, list_any-from_Contains}}}}, specs.{Prelude.{int_lt, if◌then◌else◌}, List.{AllByRecursion, Contains, list_any, Sorted.{IsNonDecreasingBy, IsPartitionPoint, IsStrictlySortedBy}}, Ordering.{int_cmp, int_eq, is_eq, is_gt, ordering_index}, declared.cmp.Ordering.{Ordering, TheVariants.{Less, Equal, Greater}}, FinMap.int_cmp-IsAntisymmetric}}
 use Rattle.ps_heard.specs.Columns.{inserted, rising}
 
 abbrev pub Below : ℤ → List ℤ → Type 0

@@ -1,8 +1,6 @@
 -- What operators do, told step by step.
-use Rattle.std.proofs.Common.{◌≡◌, ℤ, Bool, true, false, ◌&&◌, List, [], ◌∷◌, ◌++◌, refl, sym, subst, ◌∙◌, ap, FitsSigned, w64, to_z, of_z}
-use Rattle.std.{proofs.lemmas.Int.to_z-of_z, specs.Prelude.Err}
-use Rattle.ps_steps.specs.{declared.halt.Cause.Cause, Near.is_near, State.State, declared.graphics.Graphics.Graphics, Operators.Outcome, Operators.went, Operators.halted, Operators.lineto, Operators.curveto, Operators.add_seg, Operators.at_point, Operators.in_range, Operators.across}
-use Rattle.ps_steps.specs.{Operators.above, Operators.all_near, declared.paint.Seg.Seg}
+use Rattle.std.{proofs.{Common.{◌≡◌, ℤ, Bool, true, false, ◌&&◌, List, [], ◌∷◌, ◌++◌, refl, sym, subst, ◌∙◌, ap, FitsSigned, w64, to_z, of_z}, lemmas.Int.to_z-of_z}, specs.Prelude.Err}
+use Rattle.ps_steps.specs.{declared.{halt.Cause.Cause, graphics.Graphics.Graphics, paint.Seg.Seg}, Near.is_near, State.State, Operators.{Outcome, went, halted, lineto, curveto, add_seg, at_point, in_range, across, above, all_near}}
 use Rattle.ps_machine.specs.{declared.state.Stop.Stop, Doing.DidOrStopped, Doing.IsPoint}
 
 is_in_range : (zs : List ℤ) (x : Outcome) → all_near zs ≡ true → in_range zs x ≡ x

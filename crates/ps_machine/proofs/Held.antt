@@ -1,6 +1,5 @@
 -- A piece more, for the state that is drawn with and for those that are saved.
-use Rattle.std.proofs.Common.{◌≡◌, ◌≤◌, ◌∙◌, refl, sym, ap, subst, List, [], ◌∷◌, ◌++◌, length, take, drop, reverse, Some, ℕ, arith, length-append}
-use Rattle.std.proofs.lemmas.List.{drop-append-le, take-append-le, reverse-append}
+use Rattle.std.proofs.{Common.{◌≡◌, ◌≤◌, ◌∙◌, refl, sym, ap, subst, List, [], ◌∷◌, ◌++◌, length, take, drop, reverse, Some, ℕ, arith, length-append}, lemmas.List.{drop-append-le, take-append-le, reverse-append}}
 use Rattle.ps_steps.specs.{declared.paint.Seg.Seg, Points.end_of, Points.last_move}
 use Rattle.ps_machine.specs.{Drawing.Drawing, Pens.AreHeld, Pens.IsHeld, Pens.drawing_of, Pens.followed, Pens.graphics_of, Pens.saved_of, declared.canvas.Pen.Pen, declared.canvas.Saved.Saved}
 

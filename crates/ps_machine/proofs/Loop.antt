@@ -1,7 +1,6 @@
 -- How a run goes on, token by token.
 use Rattle.std.proofs.Common.{◌≡◌, ℕ, ◌+◌, ◌<◌, ◌≤◌, false, List, [], ◌∷◌, ◌++◌, Option, Some, None, refl, arith}
-use Rattle.ps_steps.specs.{declared.halt.Cause.Cause, declared.token.Simple.Simple, declared.token.Token.Token, Tokens.NoToken, Tokens.passed, State.State, State.first_state, Operators.went, Operators.halted, Operators.executed, Steps.Place, Steps.at, Steps.NextToken, Steps.from_pending}
-use Rattle.ps_steps.{specs.Steps.from_text, specs.Steps.Steps, specs.Steps.here, specs.Steps.step, specs.Steps.Paints, specs.Steps.unreadable, specs.Steps.used_up, specs.Steps.stuck, specs.Steps.Halts, proofs.Joined.now, proofs.Joined.joined}
+use Rattle.ps_steps.{specs.{declared.{halt.Cause.Cause, token.{Simple.Simple, Token.Token}}, Tokens.{NoToken, passed}, State.{State, first_state}, Operators.{went, halted, executed}, Steps.{Place, at, NextToken, from_pending, from_text, Steps, here, step, Paints, unreadable, used_up, stuck, Halts}}, proofs.Joined.{now, joined}}
 use Rattle.ps_tokens.specs.Programs.{IsRead, all_read, fault_read, token_read}
 use Rattle.ps_machine.specs.{declared.run.Next.Next, Nexts.token_of, Nexts.IsTaken, Nexts.of_calls, Nexts.of_text, Nexts.IsFirst, Nexts.IsNext}
 

@@ -1,6 +1,5 @@
 -- A text that a sheet spells gives what the sheet paints.
-use Rattle.std.proofs.Common.{ℕ, List}
-use Rattle.std.specs.Prelude.{Result, Ok, Err, IfOk, IfErr}
+use Rattle.std.{proofs.Common.{ℕ, List}, specs.Prelude.{Result, Ok, Err, IfOk, IfErr}}
 use Rattle.ps_steps.specs.{declared.halt.MachineError.MachineError, declared.paint.PagePaint.PagePaint, Steps.Paints, Steps.IsHalt, declared.halt.MachineError.TheVariants.Halt, declared.halt.MachineError.TheVariants.Memory}
 use Rattle.ps_paint.specs.{Laws.PaintsSheets, PaintOf.paint_of}
 use Rattle.ps_machine.specs.{OneAnswer.HasOneAnswer, Sheets.GivesItsSheet}

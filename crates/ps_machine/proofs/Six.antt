@@ -1,8 +1,6 @@
 -- Six whole numbers on top of the stack, two at a time.
-use Rattle.std.proofs.Common.{◌≡◌, ℕ, zero, suc, ◌≤◌, ℤ, true, false, List, [], ◌∷◌, length, refl, ◌∙◌, ap, arith}
-use Rattle.std.specs.Prelude.{Err}
-use Rattle.ps_steps.specs.{declared.halt.Cause.Cause, State.State, declared.value.Value.Value, Operators.Outcome, Operators.halted, Operators.has, Operators.pick, Operators.with_six, Operators.curveto}
-use Rattle.ps_steps.specs.declared.value.Value.TheVariants.{Whole as whole_value}
+use Rattle.std.{proofs.Common.{◌≡◌, ℕ, zero, suc, ◌≤◌, ℤ, true, false, List, [], ◌∷◌, length, refl, ◌∙◌, ap, arith}, specs.Prelude.Err}
+use Rattle.ps_steps.specs.{declared.{halt.Cause.Cause, value.Value.{Value, TheVariants.Whole as whole_value}}, State.State, Operators.{Outcome, halted, has, pick, with_six, curveto}}
 use Rattle.ps_machine.specs.{declared.state.Stop.Stop, Doing.DidOrStopped, Doing.IsPointOfSix, Doing.IsSix}
 
 has_so_many : (n : ℕ) (st : List Value) → n ≤ length st → has n st ≡ true

@@ -1,9 +1,7 @@
 -- Between the operators of the machine and the code: the code's state, and what its parts do.
 use Rattle.std.specs.Prelude.{◌≡◌, ℕ, suc, ℤ, ◌*ℤ◌, true, false, List, [], ◌∷◌, ◌++◌, reverse, Result, Ok, Err}
-use Rattle.ps_steps.specs.{declared.halt.Cause.Cause, declared.paint.Seg.Seg, declared.token.Simple.Simple, State.State, declared.value.Value.Value, declared.graphics.Graphics.Graphics, Operators.Outcome, Operators.went, Operators.halted, Operators.with_two, Operators.with_six, Operators.pick}
-use Rattle.ps_steps.specs.Operators.{scalefont, scale, scaled, at_point, across, above, all_near}
+use Rattle.ps_steps.specs.{declared.{halt.Cause.Cause, paint.Seg.Seg, token.Simple.Simple, value.Value.{Value, TheVariants.{Whole as whole_value, Font as font_value}}, graphics.Graphics.Graphics}, State.State, Operators.{Outcome, went, halted, with_two, with_six, pick, scalefont, scale, scaled, at_point, across, above, all_near}}
 use Rattle.ps_machine.specs.{declared.state.Machine.Machine, declared.operands.Bend.Bend, Naming.names_of, declared.state.Stop.Stop}
-use Rattle.ps_steps.specs.declared.value.Value.TheVariants.{Whole as whole_value, Font as font_value}
 
 -- the state that the code keeps
 abbrev pub state_of : Machine → State

@@ -1,7 +1,6 @@
 -- What the code says of the token that comes next: the first of the calls, else the first of the text.
 use Rattle.std.specs.Prelude.{◌≡◌, List, [], ◌∷◌}
-use Rattle.ps_steps.specs.{declared.token.Simple.Simple, declared.token.Token.Token}
-use Rattle.ps_steps.specs.declared.token.Token.TheVariants.{Simple as simple_token, Procedure as procedure_token}
+use Rattle.ps_steps.specs.declared.token.{Simple.Simple, Token.{Token, TheVariants.{Simple as simple_token, Procedure as procedure_token}}}
 use Rattle.ps_machine.specs.{declared.execute.Ready.Ready, declared.run.Next.Next}
 
 abbrev pub token_of : Ready → Token

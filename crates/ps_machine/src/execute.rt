@@ -1,9 +1,7 @@
 //! Tokens, executed.
 
 ghost use Rattle.std.specs.Prelude.{◌≡◌};
-ghost use Rattle.ps_steps.specs.Operators.{executed, push};
-ghost use Rattle.ps_steps.specs.declared.token.Token.TheVariants.{Simple as simple_token, Procedure as procedure_token};
-ghost use Rattle.ps_steps.specs.declared.token.Simple.TheVariants.{Name as name_token};
+ghost use Rattle.ps_steps.specs.{Operators.{executed, push}, declared.token.{Token.TheVariants.{Simple as simple_token, Procedure as procedure_token}, Simple.TheVariants.Name as name_token}};
 ghost use Rattle.ps_machine.specs.{Doing.state_of, Doing.DidOrStopped, Doing.IsExecuted, Nexts.token_of};
 
 use crate::calls::Calls;

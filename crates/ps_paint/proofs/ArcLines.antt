@@ -1,11 +1,8 @@
 -- The lines of arcs.
-use Rattle.std.proofs.Common.{◌≡◌, true, ℤ, pos, negsuc, List, [], ◌∷◌, ◌++◌, refl, arith, codes, int_div}
-use Rattle.std.{proofs.Math.IntN.◌+ℤ◌, proofs.Math.IntN.◌-ℤ◌, proofs.Math.IntN.+ℤ_idl, proofs.lemmas.Int.ints, specs.Int.Signed.◌≤ℤ◌}
+use Rattle.std.{proofs.{Common.{◌≡◌, true, ℤ, pos, negsuc, List, [], ◌∷◌, ◌++◌, refl, arith, codes, int_div}, Math.IntN.{◌+ℤ◌, ◌-ℤ◌, +ℤ_idl}, lemmas.Int.ints}, specs.Int.Signed.◌≤ℤ◌}
 use Rattle.ps_text.specs.{Range.IsFrame, Range.IsNumber, Range.IsSpan, Range.IsStretch, Line.arc_line, Line.points, Line.ends_of, Line.quarter, Document.mark_text, declared.sheet.Frame.Frame, declared.marks.PageMark.PageMark}
-use Rattle.ps_steps.specs.{declared.paint.Paint.Paint, declared.paint.PagePaint.PagePaint, declared.value.Value.Value, declared.graphics.Graphics.Graphics, State.Names, Operators.all_near}
-use Rattle.ps_steps.specs.declared.value.Value.TheVariants.{Whole as whole_value}
-use Rattle.ps_paint.{specs.PaintOf.move, specs.PaintOf.curve, specs.PaintOf.stroked, specs.PaintOf.mark_paints, proofs.Bodies.Made, proofs.Bodies.ac_body, proofs.Runs.Runs, proofs.Runs.no_more, proofs.Runs.then, proofs.Runs.both_runs, proofs.Draws.moves, proofs.Draws.curves, proofs.Draws.strokes}
-use Rattle.ps_paint.proofs.{Lines.Draws, Lines.on_page, Lines.line_drawn, Lines.page_near, StemLines.zero_sum}
+use Rattle.ps_steps.specs.{declared.{paint.{Paint.Paint, PagePaint.PagePaint}, value.Value.{Value, TheVariants.Whole as whole_value}, graphics.Graphics.Graphics}, State.Names, Operators.all_near}
+use Rattle.ps_paint.{specs.PaintOf.{move, curve, stroked, mark_paints}, proofs.{Bodies.{Made, ac_body}, Runs.{Runs, no_more, then, both_runs}, Draws.{moves, curves, strokes}, Lines.{Draws, on_page, line_drawn, page_near}, StemLines.zero_sum}}
 
 record IsPart (d e : ℤ) : Type 0 where
   low : pos 0 ≤ℤ e

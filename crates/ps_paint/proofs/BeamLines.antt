@@ -1,13 +1,9 @@
 -- The lines of beams.
-use Rattle.std.proofs.Common.{◌≡◌, true, ℤ, pos, negsuc, List, [], ◌∷◌, ◌++◌, refl, arith}
-use Rattle.std.{proofs.Math.IntN.◌+ℤ◌, proofs.Math.IntN.+ℤ_idl, proofs.Math.IntN.+ℤ_comm, proofs.lemmas.Int.ints, specs.Int.Signed.◌≤ℤ◌}
+use Rattle.std.{proofs.{Common.{◌≡◌, true, ℤ, pos, negsuc, List, [], ◌∷◌, ◌++◌, refl, arith}, Math.IntN.{◌+ℤ◌, +ℤ_idl, +ℤ_comm}, lemmas.Int.ints}, specs.Int.Signed.◌≤ℤ◌}
 use Rattle.mus_units.specs.declared.glyph.Way.{Way}
 use Rattle.ps_text.specs.{Range.IsFrame, Range.IsNumber, Range.IsSpan, Line.beam_line, Line.points, Line.ends_of, Names.way_name, Document.mark_text, declared.sheet.Frame.Frame, declared.marks.PageMark.PageMark}
-use Rattle.ps_steps.specs.{declared.paint.Paint.Paint, declared.paint.PagePaint.PagePaint, declared.value.Value.Value, declared.graphics.Graphics.Graphics, State.Names, Operators.all_near}
-use Rattle.ps_steps.specs.declared.token.Simple.TheVariants.{Name as name_token}
-use Rattle.ps_steps.specs.declared.value.Value.TheVariants.{Whole as whole_value}
-use Rattle.ps_paint.{specs.PaintOf.move, specs.PaintOf.line, specs.PaintOf.filled, specs.PaintOf.edge, specs.PaintOf.mark_paints, proofs.Bodies.Made, proofs.Bodies.beam_body, proofs.Scales.IsClose, proofs.Runs.Runs, proofs.Runs.no_more, proofs.Runs.then, proofs.Runs.both_runs, proofs.Runs.pushes}
-use Rattle.ps_paint.proofs.{Draws.drawing, Draws.corner, Draws.page, Draws.moves, Draws.lines, Draws.fill_runs, Draws.saves, Draws.restores, Draws.places, Takes.IsTokenWord, Lines.Draws, Lines.on_page, Lines.line_drawn, Lines.page_near, StemLines.zero_close, StemLines.zero_sum}
+use Rattle.ps_steps.specs.{declared.{paint.{Paint.Paint, PagePaint.PagePaint}, value.Value.{Value, TheVariants.Whole as whole_value}, graphics.Graphics.Graphics, token.Simple.TheVariants.Name as name_token}, State.Names, Operators.all_near}
+use Rattle.ps_paint.{specs.PaintOf.{move, line, filled, edge, mark_paints}, proofs.{Bodies.{Made, beam_body}, Scales.IsClose, Runs.{Runs, no_more, then, both_runs, pushes}, Draws.{drawing, corner, page, moves, lines, fill_runs, saves, restores, places}, Takes.IsTokenWord, Lines.{Draws, on_page, line_drawn, page_near}, StemLines.{zero_close, zero_sum}}}
 
 -- an edge is small
 record IsEdge (d : ℤ) : Type 0 where

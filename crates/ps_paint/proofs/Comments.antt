@@ -1,6 +1,5 @@
 -- Comment lines: they are passed over.
-use Rattle.std.proofs.Common.{◌≡◌, ℕ, Bool, true, false, List, [], ◌∷◌, ◌++◌, append_assoc, refl, sym, subst, ◌∙◌, ap, arith, decimal, not, ◌==◌}
-use Rattle.std.{proofs.lemmas.Bool.true≢false, proofs.lemmas.Bool.and_parts, proofs.lemmas.Bool.Decides.nat_tests, proofs.lemmas.List.Folds.list_all-append, specs.List.list_all}
+use Rattle.std.{proofs.{Common.{◌≡◌, ℕ, Bool, true, false, List, [], ◌∷◌, ◌++◌, append_assoc, refl, sym, subst, ◌∙◌, ap, arith, decimal, not, ◌==◌}, lemmas.{Bool.{true≢false, and_parts, Decides.nat_tests}, List.Folds.list_all-append}}, specs.List.list_all}
 use Rattle.mus_units.specs.Bytes.{is_digit}
 use Rattle.ps_steps.specs.{Tokens.passed, State.State, Steps.at, Steps.Steps, Steps.here}
 use Rattle.ps_paint.proofs.Takes.{Takes, decimal_digits}

@@ -1,14 +1,9 @@
 -- What the lines of a prolog define.
-use Rattle.std.proofs.Common.{◌≡◌, ℕ, ℤ, true, false, Bool, ◌&&◌, List, [], ◌∷◌, ◌++◌, append_assoc, None, refl, sym, ◌∙◌, ap, arith, codes}
-use Rattle.std.{proofs.lemmas.Int.ints, proofs.lemmas.Bool.true≢false, proofs.lemmas.Bool.and_parts, specs.List.flat_map}
+use Rattle.std.{proofs.{Common.{◌≡◌, ℕ, ℤ, true, false, Bool, ◌&&◌, List, [], ◌∷◌, ◌++◌, append_assoc, None, refl, sym, ◌∙◌, ap, arith, codes}, lemmas.{Int.ints, Bool.{true≢false, and_parts}}}, specs.List.flat_map}
 use Rattle.mus_units.specs.declared.glyph.Glyph.{Glyph}
 use Rattle.glyph_paths.specs.{declared.paths.PathOp.PathOp, Names.glyph_name, Outlines.outline_of, Procedure.step_text, Procedure.path_text, Procedure.procedure_text}
-use Rattle.ps_steps.specs.{declared.token.Simple.Simple, Near.is_near, Tokens.opening_front, Tokens.simple_at, Tokens.procedure_at, Tokens.Body, State.State, Operators.went, Operators.def_op, Operators.all_near, Operators.defined, Steps.at, Steps.NextToken, Steps.from_text, Steps.Step, Steps.step}
-use Rattle.ps_steps.specs.declared.token.Simple.TheVariants.{Label as label_token, Name as name_token}
-use Rattle.ps_steps.specs.declared.token.Token.TheVariants.{Simple as simple_token, Procedure as procedure_token}
-use Rattle.ps_steps.specs.declared.value.Value.TheVariants.{Label as label_value, Body as body_value}
-use Rattle.ps_paint.proofs.{Bodies.gsave_name, Bodies.grestore_name, Bodies.translate_name, Bodies.m_name, Bodies.l_name, Bodies.c_name, Bodies.h_name, Bodies.k_name, Bodies.step_tokens, Bodies.glyph_body, Glyphs.is_small, Glyphs.is_drawn, Glyphs.small_is, GlyphTable.fine, Scales.near, Runs.does}
-use Rattle.ps_paint.proofs.{Takes.Takes, Takes.takes_word, Takes.IsTokenWord, Takes.space_passed, Takes.line_end_passed, Lexing.Lexes, Lexing.nothing_lexed, Lexing.both_lexed, Lexing.IsNewName, Lexing.label_stands, Lexing.lex_one, Lexing.ends, Lexing.lex_numbers, Lexing.piece_stands, Lexing.lexed}
+use Rattle.ps_steps.specs.{declared.{token.{Simple.{Simple, TheVariants.{Label as label_token, Name as name_token}}, Token.TheVariants.{Simple as simple_token, Procedure as procedure_token}}, value.Value.TheVariants.{Label as label_value, Body as body_value}}, Near.is_near, Tokens.{opening_front, simple_at, procedure_at, Body}, State.State, Operators.{went, def_op, all_near, defined}, Steps.{at, NextToken, from_text, Step, step}}
+use Rattle.ps_paint.proofs.{Bodies.{gsave_name, grestore_name, translate_name, m_name, l_name, c_name, h_name, k_name, step_tokens, glyph_body}, Glyphs.{is_small, is_drawn, small_is}, GlyphTable.fine, Scales.near, Runs.does, Takes.{Takes, takes_word, IsTokenWord, space_passed, line_end_passed}, Lexing.{Lexes, nothing_lexed, both_lexed, IsNewName, label_stands, lex_one, ends, lex_numbers, piece_stands, lexed}}
 
 small_near : (z : ℤ) → is_small z ≡ true → is_near z ≡ true
 small_near z e = let s = small_is z e in near z (omega (arith, ints)) (omega (arith, ints))

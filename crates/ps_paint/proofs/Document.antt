@@ -2,8 +2,7 @@
 use Rattle.std.proofs.Common.{◌≡◌, ℕ, List, [], ◌∷◌, ◌++◌, length, append_assoc, append-nil, map, refl, subst, ap, arith, decimal, codes}
 use Rattle.ps_text.specs.{Document.document, Document.trailer, Document.count_line, declared.sheet.Sheet.Sheet, Range.IsSheet}
 use Rattle.ps_steps.specs.{State.State, State.first_state, Steps.at, Steps.Steps}
-use Rattle.ps_paint.{specs.Laws.PaintsSheets, specs.PaintOf.page_paint, specs.PaintOf.paint_of, proofs.Takes.Takes, proofs.Takes.both_taken, proofs.Comments.takes_comment, proofs.Comments.number_in_line, proofs.Made.all_names, proofs.Made.all_made, proofs.Starts.between, proofs.Pages.Leads}
-use Rattle.ps_paint.proofs.{Pages.both_lead, Pages.pages_drawn, PrologLines.prolog_taken}
+use Rattle.ps_paint.{specs.{Laws.PaintsSheets, PaintOf.{page_paint, paint_of}}, proofs.{Takes.{Takes, both_taken}, Comments.{takes_comment, number_in_line}, Made.{all_names, all_made}, Starts.between, Pages.{Leads, both_lead, pages_drawn}, PrologLines.prolog_taken}}
 
 trailer_taken : (n : ℕ) (m : State) → Takes 0 (trailer n) m m
 unfolding trailer count_line

@@ -1,12 +1,8 @@
 -- What the short procedures of the prolog draw.
 use Rattle.std.proofs.{Common.◌≡◌, Common.ℤ, Common.pos, Common.true, Common.false, Common.Bool, Common.List, Common.[], Common.◌∷◌, Common.◌++◌, Common.refl, Common.sym, Common.codes, Common.true≢false, Math.IntN.◌+ℤ◌, Math.IntN.◌*ℤ◌, Math.IntN.+ℤ_idl}
 use Rattle.ps_text.specs.{declared.sheet.Frame.Frame, Range.IsFrame}
-use Rattle.ps_steps.specs.Operators.{Outcome, went, executed, operated, in_range, moveto_op, lineto_op, curveto_op, closepath_op, fill_op, stroke_op, gsave_op, grestore_op, translate_op}
-use Rattle.ps_steps.specs.{declared.paint.Seg.Seg, declared.paint.Paint.Paint, declared.paint.PagePaint.PagePaint, Near.is_near, declared.value.Value.Value, declared.graphics.Graphics.Graphics, State.State, State.Names}
-use Rattle.ps_steps.specs.declared.token.Token.TheVariants.{Simple as simple_token}
-use Rattle.ps_steps.specs.declared.value.Value.TheVariants.{Whole as whole_value}
-use Rattle.ps_paint.{specs.PaintOf.to_x, specs.PaintOf.to_y, specs.PaintOf.move, specs.PaintOf.line, specs.PaintOf.curve, specs.PaintOf.stroked, specs.PaintOf.filled, proofs.Bodies.Made, proofs.Bodies.gsave_name, proofs.Bodies.grestore_name, proofs.Bodies.translate_name, proofs.Bodies.stroke_name}
-use Rattle.ps_paint.proofs.{Bodies.m_name, Bodies.l_name, Bodies.c_name, Bodies.h_name, Bodies.k_name, Scales.IsClose, Scales.moved_x, Scales.moved_y, Scales.near_x, Scales.near_y, Scales.near_width, Runs.Runs, Runs.no_more, Runs.then, Runs.calls, Runs.does, Runs.is_in_range}
+use Rattle.ps_steps.specs.{Operators.{Outcome, went, executed, operated, in_range, moveto_op, lineto_op, curveto_op, closepath_op, fill_op, stroke_op, gsave_op, grestore_op, translate_op}, declared.{paint.{Seg.Seg, Paint.Paint, PagePaint.PagePaint}, value.Value.{Value, TheVariants.Whole as whole_value}, graphics.Graphics.Graphics, token.Token.TheVariants.Simple as simple_token}, Near.is_near, State.{State, Names}}
+use Rattle.ps_paint.{specs.PaintOf.{to_x, to_y, move, line, curve, stroked, filled}, proofs.{Bodies.{Made, gsave_name, grestore_name, translate_name, stroke_name, m_name, l_name, c_name, h_name, k_name}, Scales.{IsClose, moved_x, moved_y, near_x, near_y, near_width}, Runs.{Runs, no_more, then, calls, does, is_in_range}}}
 
 -- the graphics of a page with the origin at (x, y)
 abbrev pub drawing : Frame → ℤ → ℤ → List Seg → ℤ → Graphics

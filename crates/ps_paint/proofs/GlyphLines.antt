@@ -3,11 +3,8 @@ use Rattle.std.proofs.{Common.◌≡◌, Common.suc, Common.◌+◌, Common.◌�
 use Rattle.mus_units.specs.declared.glyph.Glyph.{Glyph}
 use Rattle.glyph_paths.specs.{Names.glyph_name, Outlines.outline_of}
 use Rattle.ps_text.specs.{Document.mark_text, Line.glyph_line, declared.sheet.Frame.Frame, Range.IsFrame, Range.IsNumber, Range.IsOffset, Range.IsPlaced, declared.marks.PageMark.PageMark}
-use Rattle.ps_steps.specs.{declared.paint.Paint.Paint, declared.paint.PagePaint.PagePaint, declared.value.Value.Value, declared.graphics.Graphics.Graphics, State.Names, Operators.all_near}
-use Rattle.ps_steps.specs.declared.token.Simple.TheVariants.{Name as name_token}
-use Rattle.ps_steps.specs.declared.value.Value.TheVariants.{Whole as whole_value}
-use Rattle.ps_paint.{specs.PaintOf.mark_paints, specs.PaintOf.outline_paints, proofs.Bodies.Made, proofs.Bodies.glyph_body, proofs.Scales.IsClose, proofs.Runs.Runs, proofs.Runs.no_more, proofs.Runs.then, proofs.Runs.both_runs, proofs.Draws.drawing, proofs.Draws.corner, proofs.Draws.saves}
-use Rattle.ps_paint.proofs.{Draws.restores, Draws.translates, Draws.places, Glyphs.IsMid, Glyphs.cost, Glyphs.left, Glyphs.outline_runs, GlyphTable.fine, Takes.IsTokenWord, Takes.name_some, Lines.Draws, Lines.on_page, Lines.line_drawn, Lines.page_near, Lines.offset_near}
+use Rattle.ps_steps.specs.{declared.{paint.{Paint.Paint, PagePaint.PagePaint}, value.Value.{Value, TheVariants.Whole as whole_value}, graphics.Graphics.Graphics, token.Simple.TheVariants.Name as name_token}, State.Names, Operators.all_near}
+use Rattle.ps_paint.{specs.PaintOf.{mark_paints, outline_paints}, proofs.{Bodies.{Made, glyph_body}, Scales.IsClose, Runs.{Runs, no_more, then, both_runs}, Draws.{drawing, corner, saves, restores, translates, places}, Glyphs.{IsMid, cost, left, outline_runs}, GlyphTable.fine, Takes.{IsTokenWord, name_some}, Lines.{Draws, on_page, line_drawn, page_near, offset_near}}}
 
 glyph_word : (g : Glyph) → IsTokenWord (name_token (glyph_name g)) (glyph_name g)
 glyph_word g = let t = fine g in record { some = name_some (glyph_name g) t.good; regular = t.regular; token = t.token }

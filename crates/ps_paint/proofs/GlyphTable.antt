@@ -2,8 +2,7 @@
 use Rattle.std.{proofs.Common.◌≡◌, proofs.Common.true, proofs.Common.false, proofs.Common.Some, proofs.Common.refl, proofs.Common.codes, proofs.Common.nat_le, proofs.Common.◌==◌, specs.List.list_all, specs.Str.bytes_eq}
 use Rattle.mus_units.specs.declared.glyph.Glyph.{Glyph}
 use Rattle.glyph_paths.specs.{Names.glyph_name, Outlines.outline_of}
-use Rattle.ps_steps.specs.Tokens.{is_regular, is_name, begins, word_token}
-use Rattle.ps_steps.specs.declared.token.Simple.TheVariants.{Name as name_token}
+use Rattle.ps_steps.specs.{Tokens.{is_regular, is_name, begins, word_token}, declared.token.Simple.TheVariants.Name as name_token}
 use Rattle.ps_paint.proofs.Glyphs.{is_drawn, cost}
 
 -- its name may be defined, is no operator of the prolog's lines, and its outline is drawn in a few tokens

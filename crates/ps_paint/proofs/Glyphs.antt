@@ -1,11 +1,9 @@
 -- Any outline is drawn as it is painted.
-use Rattle.std.proofs.Common.{◌≡◌, ℕ, ◌+◌, ℤ, pos, negsuc, true, false, Bool, ◌&&◌, List, [], ◌∷◌, ◌++◌, append_assoc, append-nil, arith, int_le}
-use Rattle.std.{proofs.Math.IntN.◌+ℤ◌, proofs.lemmas.Int.ints, proofs.lemmas.Bool.and_parts, specs.List.flat_map, specs.Int.Signed.◌≤ℤ◌}
+use Rattle.std.{proofs.{Common.{◌≡◌, ℕ, ◌+◌, ℤ, pos, negsuc, true, false, Bool, ◌&&◌, List, [], ◌∷◌, ◌++◌, append_assoc, append-nil, arith, int_le}, Math.IntN.◌+ℤ◌, lemmas.{Int.ints, Bool.and_parts}}, specs.{List.flat_map, Int.Signed.◌≤ℤ◌}}
 use Rattle.glyph_paths.specs.declared.paths.PathOp.{PathOp}
 use Rattle.ps_text.specs.{declared.sheet.Frame.Frame, Range.IsFrame}
 use Rattle.ps_steps.specs.{declared.paint.Seg.Seg, declared.paint.Paint.Paint, declared.paint.PagePaint.PagePaint, declared.value.Value.Value, declared.graphics.Graphics.Graphics, State.State, State.Names}
-use Rattle.ps_paint.{specs.PaintOf.move, specs.PaintOf.line, specs.PaintOf.curve, specs.PaintOf.stroked, specs.PaintOf.filled, specs.PaintOf.outline_paints, proofs.Bodies.Made, proofs.Bodies.step_tokens, proofs.Scales.IsClose, proofs.Runs.Runs, proofs.Runs.no_more, proofs.Runs.both_runs}
-use Rattle.ps_paint.proofs.{Runs.pushes, Draws.drawing, Draws.page, Draws.moves, Draws.lines, Draws.curves, Draws.stroke_runs, Draws.fill_runs, Draws.some_path, Draws.has_path}
+use Rattle.ps_paint.{specs.PaintOf.{move, line, curve, stroked, filled, outline_paints}, proofs.{Bodies.{Made, step_tokens}, Scales.IsClose, Runs.{Runs, no_more, both_runs, pushes}, Draws.{drawing, page, moves, lines, curves, stroke_runs, fill_runs, some_path, has_path}}}
 
 -- within 2^20 of 0
 abbrev pub is_small : ℤ → Bool

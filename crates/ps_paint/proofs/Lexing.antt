@@ -1,10 +1,7 @@
 -- The tokens in the text of a procedure.
-use Rattle.std.proofs.Common.{◌≡◌, ℕ, ℤ, true, false, Bool, ◌&&◌, List, [], ◌∷◌, ◌++◌, drop, append_assoc, map, Option, Some, None, refl, sym, subst, ◌∙◌, ap, arith, ◌==◌, not}
-use Rattle.std.{proofs.lemmas.Bool.true≢false, proofs.lemmas.Bool.not-true, proofs.lemmas.Bool.and_parts, proofs.lemmas.Bool.Decides.nat_tests, specs.List.flat_map, specs.List.list_all, specs.Fmt.signed_decimal}
+use Rattle.std.{proofs.{Common.{◌≡◌, ℕ, ℤ, true, false, Bool, ◌&&◌, List, [], ◌∷◌, ◌++◌, drop, append_assoc, map, Option, Some, None, refl, sym, subst, ◌∙◌, ap, arith, ◌==◌, not}, lemmas.Bool.{true≢false, not-true, and_parts, Decides.nat_tests}}, specs.{List.{flat_map, list_all}, Fmt.signed_decimal}}
 use Rattle.glyph_paths.specs.Procedure.{numbers}
-use Rattle.ps_steps.specs.{declared.token.Simple.Simple, Near.is_near, Tokens.passed, Tokens.IsFont, Tokens.Front, Tokens.word_front, Tokens.label_front, Tokens.closing_front, Tokens.found, Tokens.Body, Tokens.closes, Tokens.goes_on, Tokens.is_regular, Tokens.is_name, Tokens.begins}
-use Rattle.ps_steps.specs.{Tokens.word_token, Operators.all_near}
-use Rattle.ps_steps.specs.declared.token.Simple.TheVariants.{Whole as whole_token, Label as label_token}
+use Rattle.ps_steps.specs.{declared.token.Simple.{Simple, TheVariants.{Whole as whole_token, Label as label_token}}, Near.is_near, Tokens.{passed, IsFont, Front, word_front, label_front, closing_front, found, Body, closes, goes_on, is_regular, is_name, begins, word_token}, Operators.all_near}
 use Rattle.ps_paint.proofs.{Runs.wholes, Takes.IsTokenWord, Takes.IsPassed, Takes.space_passed, Takes.word_stays, Takes.word_at, Takes.number_word, Takes.name_some}
 
 body_passed : (s u : List ℕ) (ts : List Simple) (r : List ℕ) → passed false u ≡ passed false s → Body s ts r → Body u ts r

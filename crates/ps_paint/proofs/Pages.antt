@@ -1,12 +1,8 @@
 -- Marks, staves, systems, items and pages are drawn as they are painted.
-use Rattle.std.proofs.Common.{◌≡◌, ℕ, ◌+◌, ◌*◌, ◌≤◌, ℤ, pos, List, [], ◌∷◌, ◌++◌, length, length-append, append_assoc, append-nil, map, refl, sym, subst, ◌∙◌, ap, arith, decimal, codes, All}
-use Rattle.std.{proofs.Math.IntN.◌+ℤ◌, proofs.lemmas.Int.ints, proofs.lemmas.List.Elements.All-head, proofs.lemmas.List.Elements.All-tail, specs.List.flat_map}
-use Rattle.ps_text.specs.Document.{numbered, mark_text, marks_text, rules_line, staff_line, staff_text, last_base, join_text, system_line, system_text, tune_line, tune_text, item_text, items_text, page_text, heading_text, heading_line, closing}
-use Rattle.ps_text.specs.{declared.marks.PageMark.PageMark, declared.sheet.Frame.Frame, declared.sheet.Staff.Staff, declared.sheet.Item.Item, declared.sheet.Page.Page, Range.IsFrame, Range.IsNumber, Range.IsPageMark, Range.IsStaff, Range.IsJoined, Range.IsItem, Range.IsPage}
+use Rattle.std.{proofs.{Common.{◌≡◌, ℕ, ◌+◌, ◌*◌, ◌≤◌, ℤ, pos, List, [], ◌∷◌, ◌++◌, length, length-append, append_assoc, append-nil, map, refl, sym, subst, ◌∙◌, ap, arith, decimal, codes, All}, Math.IntN.◌+ℤ◌, lemmas.{Int.ints, List.Elements.{All-head, All-tail}}}, specs.List.flat_map}
+use Rattle.ps_text.specs.{Document.{numbered, mark_text, marks_text, rules_line, staff_line, staff_text, last_base, join_text, system_line, system_text, tune_line, tune_text, item_text, items_text, page_text, heading_text, heading_line, closing}, declared.{marks.PageMark.PageMark, sheet.{Frame.Frame, Staff.Staff, Item.Item, Page.Page}}, Range.{IsFrame, IsNumber, IsPageMark, IsStaff, IsJoined, IsItem, IsPage}}
 use Rattle.ps_steps.specs.{declared.paint.PagePaint.PagePaint, State.State, State.Names, State.first_graphics}
-use Rattle.ps_paint.{specs.PaintOf.mark_paints, specs.PaintOf.staff_paints, specs.PaintOf.join_paints, specs.PaintOf.item_paints, specs.PaintOf.page_paint, proofs.Bodies.Made, proofs.Takes.Takes, proofs.Takes.nothing_taken, proofs.Takes.both_taken, proofs.Comments.takes_comment}
-use Rattle.ps_paint.proofs.{Comments.number_in_line, Comments.two_in_line, Lines.Draws, Lines.nothing_drawn, Lines.passed_over, Lines.both_drawn, Lines.all_drawn, StemLines.stem_drawn, StemLines.join_drawn, StaffLines.rules_drawn, GlyphLines.glyph_line_drawn, WordLines.words_drawn}
-use Rattle.ps_paint.proofs.{WordLines.title_drawn, BeamLines.beam_drawn, ArcLines.arc_drawn, Starts.between, Starts.page_begun, Starts.page_ended}
+use Rattle.ps_paint.{specs.PaintOf.{mark_paints, staff_paints, join_paints, item_paints, page_paint}, proofs.{Bodies.Made, Takes.{Takes, nothing_taken, both_taken}, Comments.{takes_comment, number_in_line, two_in_line}, Lines.{Draws, nothing_drawn, passed_over, both_drawn, all_drawn}, StemLines.{stem_drawn, join_drawn}, StaffLines.rules_drawn, GlyphLines.glyph_line_drawn, WordLines.{words_drawn, title_drawn}, BeamLines.beam_drawn, ArcLines.arc_drawn, Starts.{between, page_begun, page_ended}}}
 
 -- a text leads from one state to another, in at most 100 tokens a byte
 pub record Leads (text : List ℕ) (m k : State) : Type 0 where

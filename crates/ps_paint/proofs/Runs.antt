@@ -1,10 +1,6 @@
 -- Runs over the tokens of procedures, put together.
 use Rattle.std.proofs.Common.{◌≡◌, ℕ, suc, ◌+◌, ℤ, true, List, [], ◌∷◌, ◌++◌, length, append_assoc, Some, None, refl, ◌∙◌, ap}
-use Rattle.ps_steps.specs.{declared.token.Simple.Simple, declared.value.Value.Value, State.State, Operators.Outcome, Operators.went, Operators.executed, Operators.called, Operators.operated, Operators.operated_if, Operators.operator_named, Operators.Operator, Operators.in_range, Operators.all_near}
-use Rattle.ps_steps.{specs.Steps.from_pending, specs.Steps.Step, specs.Steps.Steps, specs.Steps.here, specs.Steps.step, proofs.Joined.joined, proofs.Joined.now}
-use Rattle.ps_steps.specs.declared.token.Simple.TheVariants.{Name as name_token, Whole as whole_token}
-use Rattle.ps_steps.specs.declared.token.Token.TheVariants.{Simple as simple_token}
-use Rattle.ps_steps.specs.declared.value.Value.TheVariants.{Whole as whole_value}
+use Rattle.ps_steps.{specs.{declared.{token.{Simple.{Simple, TheVariants.{Name as name_token, Whole as whole_token}}, Token.TheVariants.Simple as simple_token}, value.Value.{Value, TheVariants.Whole as whole_value}}, State.State, Operators.{Outcome, went, executed, called, operated, operated_if, operator_named, Operator, in_range, all_near}, Steps.{from_pending, Step, Steps, here, step}}, proofs.Joined.{joined, now}}
 
 pub simple_step : (t : Simple) (ts body : List Simple) (m k : State) (s : List ℕ) → executed (simple_token t) m ≡ went body k → Step (now (t ∷ ts) m s) (now (body ++ ts) k s)
 simple_step t ts body m k s e = record { token = simple_token t; rest = now ts m s; body = body; state = k; next = from_pending t ts m s; went = e; is = refl }

@@ -1,6 +1,5 @@
 -- Coordinates: how they add up, and that they are near.
-use Rattle.std.proofs.Common.{◌≡◌, ℕ, zero, suc, ◌*◌, ℤ, pos, negsuc, true, refl, arith}
-use Rattle.std.{proofs.Math.IntN.◌+ℤ◌, proofs.Math.IntN.◌*ℤ◌, proofs.Math.IntN.suc_ℤ-*ℤ, proofs.Math.IntN.zero-*ℤ, proofs.lemmas.Int.ints, specs.Int.Signed.◌≤ℤ◌}
+use Rattle.std.{proofs.{Common.{◌≡◌, ℕ, zero, suc, ◌*◌, ℤ, pos, negsuc, true, refl, arith}, Math.IntN.{◌+ℤ◌, ◌*ℤ◌, suc_ℤ-*ℤ, zero-*ℤ}, lemmas.Int.ints}, specs.Int.Signed.◌≤ℤ◌}
 use Rattle.mus_units.specs.declared.glyph.Size.{Size}
 use Rattle.ps_text.specs.{declared.sheet.Frame.Frame, Range.IsFrame}
 use Rattle.ps_steps.specs.Near.{is_near}

@@ -2,10 +2,8 @@
 use Rattle.std.proofs.{Common.◌≡◌, Common.ℕ, Common.true, Common.ℤ, Common.pos, Common.List, Common.[], Common.◌∷◌, Common.◌++◌, Common.refl, Common.arith, Common.nat_le, Common.codes, Math.IntN.◌+ℤ◌, Math.IntN.+ℤ_idl, Math.IntN.+ℤ_idr, lemmas.Int.ints}
 use Rattle.glyph_paths.specs.Procedure.{numbers}
 use Rattle.ps_text.specs.{Document.rules_line, declared.sheet.Frame.Frame, Range.IsFrame, Range.IsNumber, Range.IsOffset}
-use Rattle.ps_steps.specs.{declared.paint.Paint.Paint, declared.paint.Seg.Seg, declared.paint.PagePaint.PagePaint, declared.value.Value.Value, declared.graphics.Graphics.Graphics, State.Names, Operators.all_near}
-use Rattle.ps_steps.specs.declared.value.Value.TheVariants.{Whole as whole_value}
-use Rattle.ps_paint.{specs.PaintOf.move, specs.PaintOf.line, specs.PaintOf.stroked, specs.PaintOf.rules, proofs.Bodies.Made, proofs.Bodies.sf_body, proofs.Bodies.rule_tokens, proofs.Runs.Runs, proofs.Runs.no_more, proofs.Runs.then, proofs.Runs.both_runs, proofs.Runs.pushes, proofs.Draws.drawing}
-use Rattle.ps_paint.proofs.{Draws.corner, Draws.page, Draws.moves, Draws.lines, Draws.saves, Draws.restores, Draws.places, Draws.strokes, Draws.has_path, Lines.Draws, Lines.on_page, Lines.line_drawn, Lines.page_near, Lines.close_number, Lines.close_sum, StemLines.zero_close, StemLines.zero_sum}
+use Rattle.ps_steps.specs.{declared.{paint.{Paint.Paint, Seg.Seg, PagePaint.PagePaint}, value.Value.{Value, TheVariants.Whole as whole_value}, graphics.Graphics.Graphics}, State.Names, Operators.all_near}
+use Rattle.ps_paint.{specs.PaintOf.{move, line, stroked, rules}, proofs.{Bodies.{Made, sf_body, rule_tokens}, Runs.{Runs, no_more, then, both_runs, pushes}, Draws.{drawing, corner, page, moves, lines, saves, restores, places, strokes, has_path}, Lines.{Draws, on_page, line_drawn, page_near, close_number, close_sum}, StemLines.{zero_close, zero_sum}}}
 
 module _ (f : Frame) (ds : Names) (fr : IsFrame f) (made : Made f ds) where
   -- a line of the staff at y, behind others

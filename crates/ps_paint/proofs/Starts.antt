@@ -1,13 +1,8 @@
 -- How a page begins and ends.
-use Rattle.std.proofs.Common.{◌≡◌, ℕ, ℤ, pos, true, false, ◌&&◌, List, [], ◌∷◌, ◌++◌, append_assoc, refl, ◌∙◌, ap, arith, decimal, codes, int_le, int_div, int_rem}
-use Rattle.std.proofs.{Math.IntN.◌+ℤ◌, Math.IntN.◌*ℤ◌, lemmas.Int.ints}
+use Rattle.std.proofs.{Common.{◌≡◌, ℕ, ℤ, pos, true, false, ◌&&◌, List, [], ◌∷◌, ◌++◌, append_assoc, refl, ◌∙◌, ap, arith, decimal, codes, int_le, int_div, int_rem}, Math.IntN.{◌+ℤ◌, ◌*ℤ◌}, lemmas.Int.ints}
 use Rattle.ps_text.specs.{Document.heading_text, Document.heading_line, Document.closing, declared.sheet.Frame.Frame, Range.IsFrame}
-use Rattle.ps_steps.specs.{declared.halt.Cause.Cause, declared.paint.Paint.Paint, declared.paint.PagePaint.PagePaint, declared.graphics.Graphics.Graphics, declared.value.Value.Value, Near.is_near, State.State, State.Names, State.first_graphics, Operators.Outcome, Operators.went, Operators.halted}
-use Rattle.ps_steps.specs.Operators.{operated, in_range, same, scaled, scale_op, translate_op, setlinewidth_op, showpage_op}
-use Rattle.ps_steps.specs.declared.value.Value.TheVariants.{Whole as whole_value, Pointed as pointed_value}
-use Rattle.ps_steps.specs.declared.token.Simple.TheVariants.{Name as name_token}
-use Rattle.ps_paint.{specs.PaintOf.to_x, specs.PaintOf.to_y, proofs.Bodies.Made, proofs.Bodies.pg_body, proofs.Scales.near, proofs.Runs.Runs, proofs.Runs.then, proofs.Runs.both_runs, proofs.Runs.pushes, proofs.Runs.does, proofs.Runs.is_in_range, proofs.Draws.corner, proofs.Draws.page}
-use Rattle.ps_paint.proofs.{Draws.saves, Draws.restores, Takes.Takes, Takes.both_taken, Takes.takes_word, Takes.takes_call, Takes.IsTokenWord, Takes.line_end_passed, Comments.takes_comment, Comments.two_in_line, Lines.on_page, WordLines.sets_font}
+use Rattle.ps_steps.specs.{declared.{halt.Cause.Cause, paint.{Paint.Paint, PagePaint.PagePaint}, graphics.Graphics.Graphics, value.Value.{Value, TheVariants.{Whole as whole_value, Pointed as pointed_value}}, token.Simple.TheVariants.Name as name_token}, Near.is_near, State.{State, Names, first_graphics}, Operators.{Outcome, went, halted, operated, in_range, same, scaled, scale_op, translate_op, setlinewidth_op, showpage_op}}
+use Rattle.ps_paint.{specs.PaintOf.{to_x, to_y}, proofs.{Bodies.{Made, pg_body}, Scales.near, Runs.{Runs, then, both_runs, pushes, does, is_in_range}, Draws.{corner, page, saves, restores}, Takes.{Takes, both_taken, takes_word, takes_call, IsTokenWord, line_end_passed}, Comments.{takes_comment, two_in_line}, Lines.on_page, WordLines.sets_font}}
 
 -- between two pages
 abbrev pub between : Names → List PagePaint → State

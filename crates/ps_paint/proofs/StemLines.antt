@@ -1,10 +1,8 @@
 -- Stems, and the lines that join staves.
 use Rattle.std.proofs.{Common.◌≡◌, Common.true, Common.ℤ, Common.pos, Common.List, Common.[], Common.◌∷◌, Common.◌++◌, Common.refl, Common.arith, Common.codes, Math.IntN.◌+ℤ◌, Math.IntN.+ℤ_idl, lemmas.Int.ints}
 use Rattle.ps_text.specs.{Document.mark_text, Document.join_line, Line.stem_line, declared.sheet.Frame.Frame, Range.IsFrame, Range.IsStem, Range.IsNumber, declared.marks.PageMark.PageMark}
-use Rattle.ps_steps.specs.{declared.paint.Paint.Paint, declared.paint.PagePaint.PagePaint, declared.value.Value.Value, declared.graphics.Graphics.Graphics, State.Names, Operators.all_near}
-use Rattle.ps_steps.specs.declared.value.Value.TheVariants.{Whole as whole_value}
-use Rattle.ps_paint.{specs.PaintOf.move, specs.PaintOf.line, specs.PaintOf.stroked, specs.PaintOf.mark_paints, proofs.Bodies.Made, proofs.Bodies.st_body, proofs.Bodies.vl_body, proofs.Scales.IsClose, proofs.Runs.Runs, proofs.Runs.no_more, proofs.Runs.then, proofs.Runs.both_runs}
-use Rattle.ps_paint.proofs.{Draws.drawing, Draws.corner, Draws.moves, Draws.lines, Draws.saves, Draws.restores, Draws.places, Draws.strokes, Lines.Draws, Lines.on_page, Lines.line_drawn, Lines.page_near, Lines.offset_near, Lines.close_number, Lines.close_sum}
+use Rattle.ps_steps.specs.{declared.{paint.{Paint.Paint, PagePaint.PagePaint}, value.Value.{Value, TheVariants.Whole as whole_value}, graphics.Graphics.Graphics}, State.Names, Operators.all_near}
+use Rattle.ps_paint.{specs.PaintOf.{move, line, stroked, mark_paints}, proofs.{Bodies.{Made, st_body, vl_body}, Scales.IsClose, Runs.{Runs, no_more, then, both_runs}, Draws.{drawing, corner, moves, lines, saves, restores, places, strokes}, Lines.{Draws, on_page, line_drawn, page_near, offset_near, close_number, close_sum}}}
 
 pub zero_close : IsClose (pos 0)
 zero_close = record { low = omega (arith, ints); high = omega (arith, ints) }

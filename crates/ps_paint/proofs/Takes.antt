@@ -1,14 +1,8 @@
 -- The tokens of texts that are written: a text that is tokens with blanks behind them.
-use Rattle.std.proofs.Common.{◌≡◌, ℕ, zero, suc, ◌+◌, ◌/◌, ◌%◌, ◌<◌, ◌≤◌, ◌^◌, ℤ, pos, negsuc, true, false, cond, Bool, List, [], ◌∷◌, ◌++◌, length, append_assoc, Some, refl, sym, subst, ◌∙◌, ap, arith, decimal, ◌||◌, ◌==◌}
-use Rattle.std.proofs.{Math.IntN.neg_ℤ, Math.Numerals.one-add, lemmas.Int.ints, lemmas.Bool.true≢false, lemmas.Bool.and_parts, lemmas.Bool.or_parts, lemmas.Bool.not-true, lemmas.Bool.Decides.nat_tests, lemmas.Fmt.decimal_nonempty, lemmas.Fmt.decimal_is_IsNumeral}
-use Rattle.std.specs.{Str.Parse.digits_value, List.list_all, Fmt.digit_glyph, Fmt.digits, Fmt.digits_onto, Fmt.signed_decimal}
+use Rattle.std.{proofs.{Common.{◌≡◌, ℕ, zero, suc, ◌+◌, ◌/◌, ◌%◌, ◌<◌, ◌≤◌, ◌^◌, ℤ, pos, negsuc, true, false, cond, Bool, List, [], ◌∷◌, ◌++◌, length, append_assoc, Some, refl, sym, subst, ◌∙◌, ap, arith, decimal, ◌||◌, ◌==◌}, Math.{IntN.neg_ℤ, Numerals.one-add}, lemmas.{Int.ints, Bool.{true≢false, and_parts, or_parts, not-true, Decides.nat_tests}, Fmt.{decimal_nonempty, decimal_is_IsNumeral}}}, specs.{Str.Parse.digits_value, List.list_all, Fmt.{digit_glyph, digits, digits_onto, signed_decimal}}}
 use Rattle.mus_units.specs.Bytes.{is_digit}
 use Rattle.glyph_paths.specs.Procedure.{numbers}
-use Rattle.ps_steps.specs.{Near.is_near, declared.token.Simple.Simple, Tokens.passed, Tokens.IsWord, Tokens.word_front, Tokens.simple_at, Tokens.is_regular, Tokens.is_blank, Tokens.is_delimiter, Tokens.whole_number, Tokens.word_token, Tokens.is_name, State.State, Operators.went, Operators.executed}
-use Rattle.ps_steps.{specs.Operators.called, specs.Operators.all_near, specs.Steps.at, specs.Steps.NextToken, specs.Steps.from_text, specs.Steps.behind, specs.Steps.Steps, specs.Steps.here, specs.Steps.step, proofs.Joined.joined}
-use Rattle.ps_steps.specs.declared.token.Simple.TheVariants.{Name as name_token, Whole as whole_token}
-use Rattle.ps_steps.specs.declared.token.Token.TheVariants.{Simple as simple_token}
-use Rattle.ps_steps.specs.declared.value.Value.TheVariants.{Whole as whole_value}
+use Rattle.ps_steps.{specs.{Near.is_near, declared.{token.{Simple.{Simple, TheVariants.{Name as name_token, Whole as whole_token}}, Token.TheVariants.Simple as simple_token}, value.Value.TheVariants.Whole as whole_value}, Tokens.{passed, IsWord, word_front, simple_at, is_regular, is_blank, is_delimiter, whole_number, word_token, is_name}, State.State, Operators.{went, executed, called, all_near}, Steps.{at, NextToken, from_text, behind, Steps, here, step}}, proofs.Joined.joined}
 use Rattle.ps_paint.proofs.Runs.{Runs, pushed}
 
 -- whatever follows, the text leads from one state to another in n steps

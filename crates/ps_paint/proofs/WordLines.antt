@@ -1,18 +1,10 @@
 -- Words are shown where their line says, in marks and in titles.
-use Rattle.std.proofs.Common.{◌≡◌, ℕ, suc, ◌+◌, ◌≤◌, ℤ, pos, true, List, [], ◌∷◌, ◌++◌, length-append, append_assoc, Some, refl, arith, IsTrue, codes}
-use Rattle.std.{proofs.Math.IntN.◌+ℤ◌, proofs.Math.IntN.◌*ℤ◌, proofs.Math.IntN.+ℤ_idr, proofs.lemmas.Int.ints, specs.List.flat_map, specs.List.list_all}
+use Rattle.std.{proofs.{Common.{◌≡◌, ℕ, suc, ◌+◌, ◌≤◌, ℤ, pos, true, List, [], ◌∷◌, ◌++◌, length-append, append_assoc, Some, refl, arith, IsTrue, codes}, Math.IntN.{◌+ℤ◌, ◌*ℤ◌, +ℤ_idr}, lemmas.Int.ints}, specs.List.{flat_map, list_all}}
 use Rattle.mus_units.specs.declared.glyph.Size.{Size}
 use Rattle.glyph_paths.specs.Procedure.{numbers}
-use Rattle.ps_text.specs.{Fields.shown, Fields.in_parentheses, Range.is_shown, Range.IsFrame, Range.IsOffset, Range.IsPlaced, Range.IsTitle, Range.IsWords, Line.words_line, Names.size_name, Document.mark_text, Document.title_line, Document.title_text, declared.sheet.Frame.Frame}
-use Rattle.ps_text.specs.declared.marks.PageMark.{PageMark}
-use Rattle.ps_steps.specs.{declared.paint.Paint.Paint, declared.paint.PagePaint.PagePaint, Near.is_near, declared.token.Simple.Simple, Tokens.string_front, Tokens.simple_at, declared.value.Value.Value, declared.graphics.Graphics.Graphics, State.State, State.Names, Operators.went, Operators.executed}
-use Rattle.ps_steps.specs.{Operators.operated, Operators.show_op, Operators.findfont_op, Operators.scalefont_op, Operators.setfont_op, Operators.all_near, Steps.at, Steps.from_text, Steps.Step, Steps.here, Steps.step}
-use Rattle.ps_steps.specs.declared.token.Simple.TheVariants.{Name as name_token, Words as words_token}
-use Rattle.ps_steps.specs.declared.token.Token.TheVariants.{Simple as simple_token}
-use Rattle.ps_steps.specs.declared.value.Value.TheVariants.{Whole as whole_value, Label as label_value, Font as font_value, Words as words_value}
-use Rattle.ps_paint.{specs.PaintOf.move, specs.PaintOf.words_paint, specs.PaintOf.mark_paints, specs.PaintOf.height_of, proofs.Bodies.Made, proofs.Bodies.t1_body, proofs.Bodies.t2_body, proofs.Bodies.m_name, proofs.Bodies.translate_name, proofs.Bodies.show_name, proofs.Bodies.grestore_name}
-use Rattle.ps_paint.proofs.{Bodies.font_tokens, Scales.IsClose, Scales.near_size, Runs.Runs, Runs.no_more, Runs.then, Runs.both_runs, Runs.does, Runs.is_in_range, Draws.drawing, Draws.corner, Draws.page, Draws.moves, Draws.saves, Draws.restores, Draws.places, Takes.Takes, Takes.both_taken}
-use Rattle.ps_paint.proofs.{Takes.takes_line, Takes.IsTokenWord, Lines.Draws, Lines.on_page, Lines.page_near, Lines.offset_near, Lines.close_number, Lines.close_sum}
+use Rattle.ps_text.specs.{Fields.{shown, in_parentheses}, Range.{is_shown, IsFrame, IsOffset, IsPlaced, IsTitle, IsWords}, Line.words_line, Names.size_name, Document.{mark_text, title_line, title_text}, declared.{sheet.Frame.Frame, marks.PageMark.PageMark}}
+use Rattle.ps_steps.specs.{declared.{paint.{Paint.Paint, PagePaint.PagePaint}, token.{Simple.{Simple, TheVariants.{Name as name_token, Words as words_token}}, Token.TheVariants.Simple as simple_token}, value.Value.{Value, TheVariants.{Whole as whole_value, Label as label_value, Font as font_value, Words as words_value}}, graphics.Graphics.Graphics}, Near.is_near, Tokens.{string_front, simple_at}, State.{State, Names}, Operators.{went, executed, operated, show_op, findfont_op, scalefont_op, setfont_op, all_near}, Steps.{at, from_text, Step, here, step}}
+use Rattle.ps_paint.{specs.PaintOf.{move, words_paint, mark_paints, height_of}, proofs.{Bodies.{Made, t1_body, t2_body, m_name, translate_name, show_name, grestore_name, font_tokens}, Scales.{IsClose, near_size}, Runs.{Runs, no_more, then, both_runs, does, is_in_range}, Draws.{drawing, corner, page, moves, saves, restores, places}, Takes.{Takes, both_taken, takes_line, IsTokenWord}, Lines.{Draws, on_page, page_near, offset_near, close_number, close_sum}}}
 
 -- words in parentheses and a space are pushed
 takes_words : (words : List ℕ) (m : State) → IsTrue (list_all is_shown words) → Takes 1 (in_parentheses words) m (record m { stack = words_value words ∷ m.stack })

@@ -3,8 +3,7 @@ use Rattle.std.proofs.{Common.◌≡◌, Common.ℕ, Common.inl, Common.List, Co
 use mathlib.Core.List.{append_assoc}
 use Rattle.glyph_paths.specs.Names.{glyphs_in_order}
 use Rattle.ps_text.specs.{Document.staff_line, Document.system_line, Document.tune_line, Document.heading_line, Document.count_line, Prolog.procedures, Prolog.glyph_lines, Prolog.last_text, declared.sheet.Frame.Frame, declared.sheet.Sheet.Sheet}
-use Rattle.ps_read.{specs.Laws.NoPrefix, specs.Lines.Line, specs.Lines.line_text, specs.Lines.lines_then, specs.Lines.behind_line, specs.Lines.IsFirstLine, specs.Places.MayCome, specs.Places.after_prolog, specs.Places.next, specs.Places.Leads, specs.declared.place.Place.Place, proofs.Heads.may_lack}
-use Rattle.ps_read.proofs.{Heads.no_mark, Heads.IsMarkStart, Heads.mark_start, Heads.join_start, Heads.rules_start, Heads.title_start, Heads.no_line, Heads.same_start, Through.document_way}
+use Rattle.ps_read.{specs.{Laws.NoPrefix, Lines.{Line, line_text, lines_then, behind_line, IsFirstLine}, Places.{MayCome, after_prolog, next, Leads}, declared.place.Place.Place}, proofs.{Heads.{may_lack, no_mark, IsMarkStart, mark_start, join_start, rules_start, title_start, no_line, same_start}, Through.document_way}}
 use Rattle.ps_read.specs.Lines as line
 use Rattle.eng_lines.proofs.Words.{one_cut, head_of}
 

@@ -1,11 +1,9 @@
 -- The text of a line, each part in front of what follows it, and that its numbers may stand on a page.
-use Rattle.std.proofs.Common.{◌≡◌, ℕ, ℤ, pos, ◌≤◌, ◌^◌, true, ◌+◌, ◌/◌, ◌%◌, List, [], ◌∷◌, ◌++◌, Option, Some, None, is_some, refl, sym, ◌∙◌, ap, arith, codes, decimal, true≢false}
-use Rattle.std.{proofs.lemmas.Fmt.decimal_digit, proofs.lemmas.Int.ints, specs.List.flat_map, specs.List.list_all}
+use Rattle.std.{proofs.{Common.{◌≡◌, ℕ, ℤ, pos, ◌≤◌, ◌^◌, true, ◌+◌, ◌/◌, ◌%◌, List, [], ◌∷◌, ◌++◌, Option, Some, None, is_some, refl, sym, ◌∙◌, ap, arith, codes, decimal, true≢false}, lemmas.{Fmt.decimal_digit, Int.ints}}, specs.List.{flat_map, list_all}}
 use mathlib.Core.List.{append_assoc}
 use Rattle.mus_units.specs.declared.glyph.Size.{Size}
 use Rattle.glyph_paths.specs.Procedure.{numbers}
-use Rattle.ps_text.specs.{Document.rules_line, Document.join_line, Document.title_line, Fields.shown, Fields.in_parentheses, Names.size_name, Prolog.page_line, Prolog.page_start, Prolog.page_end, Prolog.scaling, Prolog.percent, declared.prolog.TheConstants.PAGE_START, Range.IsNumber}
-use Rattle.ps_text.specs.Scanning.{is_field}
+use Rattle.ps_text.specs.{Document.{rules_line, join_line, title_line}, Fields.{shown, in_parentheses}, Names.size_name, Prolog.{page_line, page_start, page_end, scaling, percent}, declared.prolog.TheConstants.PAGE_START, Range.IsNumber, Scanning.is_field}
 
 abbrev pub title_numbers : ℤ → ℤ → List ℤ
 title_numbers x y = pos 0 ∷ pos 0 ∷ x ∷ y ∷ []

@@ -1,11 +1,8 @@
 -- How lines begin, and that none has an LF within.
-use Rattle.std.proofs.Common.{◌≡◌, ◌≢◌, ℕ, ℤ, pos, negsuc, zero, suc, ◌+◌, ◌/◌, ◌%◌, ◌<◌, ◌≤◌, ◌⊎◌, inl, inr, Bool, true, false, ◌==◌, if◌then◌else◌, List, [], ◌∷◌, ◌++◌, refl, sym, ◌∙◌, ap, subst, arith, codes, IsTrue, nat_lt, ◌&&◌, true≢false, eq-eqb, length, length-append}
-use Rattle.std.specs.{Fmt.decimal, Fmt.signed_decimal, Fmt.digits, Fmt.digits_onto, Fmt.digit_glyph, List.flat_map, List.list_all}
+use Rattle.std.{proofs.Common.{◌≡◌, ◌≢◌, ℕ, ℤ, pos, negsuc, zero, suc, ◌+◌, ◌/◌, ◌%◌, ◌<◌, ◌≤◌, ◌⊎◌, inl, inr, Bool, true, false, ◌==◌, if◌then◌else◌, List, [], ◌∷◌, ◌++◌, refl, sym, ◌∙◌, ap, subst, arith, codes, IsTrue, nat_lt, ◌&&◌, true≢false, eq-eqb, length, length-append}, specs.{Fmt.{decimal, signed_decimal, digits, digits_onto, digit_glyph}, List.{flat_map, list_all}}}
 use Rattle.mus_units.specs.{declared.glyph.Glyph.Glyph, declared.glyph.Size.Size, declared.glyph.Way.Way}
 use Rattle.glyph_paths.specs.{Names.glyph_name, Procedure.numbers}
-use Rattle.ps_text.specs.{Document.rules_line, Document.staff_line, Document.join_line, Document.system_line, Document.title_line, Document.tune_line, Document.heading_line, Document.count_line, Fields.shown, Fields.in_parentheses, Fields.is_special, Line.glyph_line, Line.words_line, Line.stem_line}
-use Rattle.ps_text.specs.{Line.beam_line, Line.arc_line, Line.points, Line.mark_line, Names.size_name, Names.way_name, Prolog.box_line, Prolog.page_line, Prolog.box_start, Prolog.page_start, Prolog.page_end, Prolog.scaling, Prolog.percent, Range.is_shown, Range.IsWords, Range.IsPageMark}
-use Rattle.ps_text.specs.declared.marks.PageMark.{PageMark}
+use Rattle.ps_text.specs.{Document.{rules_line, staff_line, join_line, system_line, title_line, tune_line, heading_line, count_line}, Fields.{shown, in_parentheses, is_special}, Line.{glyph_line, words_line, stem_line, beam_line, arc_line, points, mark_line}, Names.{size_name, way_name}, Prolog.{box_line, page_line, box_start, page_start, page_end, scaling, percent}, Range.{is_shown, IsWords, IsPageMark}, declared.marks.PageMark.PageMark}
 use Rattle.eng_lines.{specs.Lines.Lacks, proofs.Words.lacks_both, proofs.Words.head_of}
 use Rattle.ps_read.specs.{Lines.Line, Lines.line_text, Places.MayCome, declared.place.Place.Place}
 use Rattle.ps_read.specs.Lines as line

@@ -1,16 +1,10 @@
 -- A line that may come leads on, and where none of those in question may, that is told.
-use Rattle.std.proofs.Common.{◌≡◌, ℕ, ℤ, ◌+◌, ◌<◌, ◌≤◌, ◌^◌, inl, inr, Bool, true, false, not, List, [], ◌∷◌, ◌++◌, length, Option, Some, None, is_some, IsSome, refl, sym, ◌∙◌, ap, arith, codes, decimal, MatchOption, Result, Ok, Err, IfOk, true≢false}
-use Rattle.std.proofs.lemmas.Fmt.{decimal_injective}
+use Rattle.std.proofs.{Common.{◌≡◌, ℕ, ℤ, ◌+◌, ◌<◌, ◌≤◌, ◌^◌, inl, inr, Bool, true, false, not, List, [], ◌∷◌, ◌++◌, length, Option, Some, None, is_some, IsSome, refl, sym, ◌∙◌, ap, arith, codes, decimal, MatchOption, Result, Ok, Err, IfOk, true≢false}, lemmas.Fmt.decimal_injective}
 use mathlib.Core.List.{append_assoc}
 use Rattle.mus_units.specs.{declared.glyph.Size.Size, declared.text.Memory.Memory}
 use Rattle.glyph_paths.specs.Names.{glyphs_in_order}
-use Rattle.ps_text.specs.{Document.rules_line, Document.staff_line, Document.join_line, Document.system_line, Document.title_line, Document.tune_line, Document.heading_line, Document.count_line, Line.mark_line, Prolog.box_line, Prolog.box_start, Prolog.procedures, Prolog.page_line}
-use Rattle.ps_text.specs.{Prolog.glyph_lines, Prolog.last_text, Range.IsNumber, Range.IsPageMark, Range.IsTitle, Range.IsFrame, declared.marks.PageMark.PageMark, declared.sheet.Frame.Frame, declared.sheet.Staff.Staff, declared.sheet.Sheet.Sheet, declared.prolog.TheConstants.BOX}
-use Rattle.ps_text.specs.declared.sheet.Item.{Item}
-use Rattle.ps_read.specs.{Lines.Line, Lines.line_text, Lines.behind_line, Lines.IsFirstLine, Places.frame_of, Places.with_item, Places.with_page, Places.with_mark, Places.with_staff, Places.with_join, Places.open_system, Places.IsUnderTop, Places.MayCome, Places.after_prolog, Places.next}
-use Rattle.ps_read.specs.{Steps.NoneOf, Steps.IsNextOf, Steps.IsStepOf, Steps.Any, Steps.IsItemLine, Steps.IsSystemLine, Steps.IsJoinLine, Steps.IsNoMark, Titles.title_of, Titles.joined_of, Titles.rules_of, Titles.IsMarkRead, declared.lines.Rules.Rules, declared.lines.Title.Title}
-use Rattle.ps_read.{specs.declared.place.Joined.Joined, specs.declared.place.OpenPage.OpenPage, specs.declared.place.OpenSystem.OpenSystem, specs.declared.place.Place.Place, proofs.Heads.apart, proofs.Heads.no_mark, proofs.Heads.mark_start, proofs.Heads.join_start, proofs.Heads.title_start}
-use Rattle.ps_read.proofs.Heads.{no_line}
+use Rattle.ps_text.specs.{Document.{rules_line, staff_line, join_line, system_line, title_line, tune_line, heading_line, count_line}, Line.mark_line, Prolog.{box_line, box_start, procedures, page_line, glyph_lines, last_text}, Range.{IsNumber, IsPageMark, IsTitle, IsFrame}, declared.{marks.PageMark.PageMark, sheet.{Frame.Frame, Staff.Staff, Sheet.Sheet, Item.Item}, prolog.TheConstants.BOX}}
+use Rattle.ps_read.{specs.{Lines.{Line, line_text, behind_line, IsFirstLine}, Places.{frame_of, with_item, with_page, with_mark, with_staff, with_join, open_system, IsUnderTop, MayCome, after_prolog, next}, Steps.{NoneOf, IsNextOf, IsStepOf, Any, IsItemLine, IsSystemLine, IsJoinLine, IsNoMark}, Titles.{title_of, joined_of, rules_of, IsMarkRead}, declared.{lines.{Rules.Rules, Title.Title}, place.{Joined.Joined, OpenPage.OpenPage, OpenSystem.OpenSystem, Place.Place}}}, proofs.Heads.{apart, no_mark, mark_start, join_start, title_start, no_line}}
 use Rattle.ps_read.specs.Lines as line
 use Rattle.eng_lines.proofs.Words.{one_field, after_prefix}
 

@@ -1,14 +1,10 @@
 -- What the lines so far have told, and that a line that may come adds its text to it.
-use Rattle.std.proofs.Common.{◌≡◌, ℕ, ℤ, pos, suc, ◌+◌, ◌<◌, ◌^◌, ◌+ℤ◌, List, [], ◌∷◌, ◌++◌, length, Option, Some, None, IsSome, refl, sym, ◌∙◌, ap, subst, arith, codes, All, lit<, length-append, true≢false}
-use Rattle.std.{proofs.lemmas.Grind.flat_map-append, proofs.lemmas.List.Elements.All-push, proofs.lemmas.List.Elements.All-nil, specs.Prelude.⊤, specs.List.flat_map}
+use Rattle.std.{proofs.{Common.{◌≡◌, ℕ, ℤ, pos, suc, ◌+◌, ◌<◌, ◌^◌, ◌+ℤ◌, List, [], ◌∷◌, ◌++◌, length, Option, Some, None, IsSome, refl, sym, ◌∙◌, ap, subst, arith, codes, All, lit<, length-append, true≢false}, lemmas.{Grind.flat_map-append, List.Elements.{All-push, All-nil}}}, specs.{Prelude.⊤, List.flat_map}}
 use mathlib.Core.List.{append_assoc, append-nil}
 use Rattle.mus_units.specs.declared.glyph.Size.{Size}
 use Rattle.glyph_paths.specs.Names.{glyphs_in_order}
-use Rattle.ps_text.specs.Document.{numbered, mark_text, marks_text, rules_line, staff_line, staff_text, last_base, join_line, join_text, system_line, system_text, title_line, title_text, tune_line, tune_text, item_text, items_text, heading_line, heading_text, closing, page_text, count_line, trailer, document, Spells}
-use Rattle.ps_text.specs.{Line.mark_line, Prolog.first_text, Prolog.box_line, Prolog.heading, Prolog.procedures, Prolog.page_line, Prolog.glyph_lines, Prolog.last_text, Prolog.prolog, Range.IsNumber, Range.IsPageMark, Range.IsStaff, Range.IsJoined, Range.IsOrdinal, Range.IsItem, Range.IsAfter}
-use Rattle.ps_text.specs.{Range.InOrder, Range.IsPage, Range.IsFrame, Range.IsSheet, declared.marks.PageMark.PageMark, declared.sheet.Frame.Frame, declared.sheet.Staff.Staff, declared.sheet.Item.Item, declared.sheet.Page.Page, declared.sheet.Sheet.Sheet}
-use Rattle.ps_read.specs.{Lines.Line, Lines.line_text, Lines.lines_then, Lines.behind_line, Places.frame_of, Places.with_item, Places.with_page, Places.with_mark, Places.with_staff, Places.open_system, Places.ended, Places.IsUnderTop, Places.MayEnd, Places.MayCome}
-use Rattle.ps_read.specs.{Places.after_prolog, Places.next, Places.Leads, declared.place.Joined.Joined, declared.place.OpenPage.OpenPage, declared.place.OpenSystem.OpenSystem, declared.place.Place.Place}
+use Rattle.ps_text.specs.{Document.{numbered, mark_text, marks_text, rules_line, staff_line, staff_text, last_base, join_line, join_text, system_line, system_text, title_line, title_text, tune_line, tune_text, item_text, items_text, heading_line, heading_text, closing, page_text, count_line, trailer, document, Spells}, Line.mark_line, Prolog.{first_text, box_line, heading, procedures, page_line, glyph_lines, last_text, prolog}, Range.{IsNumber, IsPageMark, IsStaff, IsJoined, IsOrdinal, IsItem, IsAfter, InOrder, IsPage, IsFrame, IsSheet}, declared.{marks.PageMark.PageMark, sheet.{Frame.Frame, Staff.Staff, Item.Item, Page.Page, Sheet.Sheet}}}
+use Rattle.ps_read.specs.{Lines.{Line, line_text, lines_then, behind_line}, Places.{frame_of, with_item, with_page, with_mark, with_staff, open_system, ended, IsUnderTop, MayEnd, MayCome, after_prolog, next, Leads}, declared.place.{Joined.Joined, OpenPage.OpenPage, OpenSystem.OpenSystem, Place.Place}}
 use Rattle.ps_read.specs.Lines as line
 
 -- the text of whole pages, of a page whose items are being listed, and of a system whose staves are

@@ -1,10 +1,8 @@
 -- Which line may come after which: the lines of a document, each judged by the lines before it alone.
 use Rattle.std.specs.Prelude.{◌≡◌, ℕ, ℤ, pos, ◌+◌, ◌<◌, ◌≤◌, ◌^◌, ◌+ℤ◌, List, [], ◌∷◌, ◌++◌, length, codes, Option, Some, None, IsSome, ⊤}
-use Rattle.ps_text.specs.{Document.count_line, Prolog.procedures, Prolog.glyph_lines, Prolog.last_text, Range.IsNumber, Range.IsPageMark, Range.IsTitle, Range.IsOrdinal, Range.IsFrame, declared.marks.PageMark.PageMark, declared.sheet.Frame.Frame, declared.sheet.Staff.Staff, declared.sheet.Item.Item}
-use Rattle.ps_text.specs.declared.sheet.Sheet.{Sheet}
+use Rattle.ps_text.specs.{Document.count_line, Prolog.{procedures, glyph_lines, last_text}, Range.{IsNumber, IsPageMark, IsTitle, IsOrdinal, IsFrame}, declared.{marks.PageMark.PageMark, sheet.{Frame.Frame, Staff.Staff, Item.Item, Sheet.Sheet}}}
 use Rattle.glyph_paths.specs.Names.{glyphs_in_order}
-use Rattle.ps_read.specs.{Lines.Line, Lines.Fixed, Lines.Box, Lines.PageStart, Lines.Heading, Lines.Tune, Lines.Title, Lines.System, Lines.Join, Lines.StaffHead, Lines.Rules, Lines.Mark, Lines.behind_line, Lines.IsFirstLine, declared.place.Joined.Joined, declared.place.OpenPage.OpenPage}
-use Rattle.ps_read.specs.declared.place.{OpenSystem.OpenSystem, Place.Place}
+use Rattle.ps_read.specs.{Lines.{Line, Fixed, Box, PageStart, Heading, Tune, Title, System, Join, StaffHead, Rules, Mark, behind_line, IsFirstLine}, declared.place.{Joined.Joined, OpenPage.OpenPage, OpenSystem.OpenSystem, Place.Place}}
 
 abbrev pub frame_of : ℕ → ℕ → ℕ → ℕ → ℕ → Frame
 frame_of wide high left bottom scale = record { wide = wide; high = high; left = left; bottom = bottom; scale = scale }

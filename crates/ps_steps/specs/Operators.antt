@@ -2,10 +2,8 @@
 -- line makes the font; a name calls the procedure that it was given, or else is one of the operators. An operator halts
 -- where it has too few operands (Stack), else where one is of another kind (Kind), and then for what is its own. A number
 -- with a point is an operand of `scale` alone.
-use Rattle.std.specs.Prelude.{ℕ, zero, suc, ℤ, pos, ◌+ℤ◌, ◌*ℤ◌, int_le, int_div, int_rem, Bool, true, false, ◌&&◌, List, [], ◌∷◌, ◌++◌, codes, Option, Some, None}
-use Rattle.std.specs.{Str.bytes_eq, Map.update}
-use Rattle.ps_steps.specs.{declared.halt.Cause.Cause, declared.paint.Seg.Seg, declared.paint.Paint.Paint, Tokens.Simple, Tokens.whole_token, Tokens.pointed_token, Tokens.far_token, Tokens.words_token, Tokens.label_token, Tokens.name_token, Tokens.font_token, Tokens.Token, Tokens.simple_token}
-use Rattle.ps_steps.specs.{Tokens.procedure_token, Near.is_near, Points.current, State.Value, State.whole_value, State.pointed_value, State.words_value, State.label_value, State.body_value, State.font_value, State.Graphics, State.Names, State.State}
+use Rattle.std.specs.{Prelude.{ℕ, zero, suc, ℤ, pos, ◌+ℤ◌, ◌*ℤ◌, int_le, int_div, int_rem, Bool, true, false, ◌&&◌, List, [], ◌∷◌, ◌++◌, codes, Option, Some, None}, Str.bytes_eq, Map.update}
+use Rattle.ps_steps.specs.{declared.{halt.Cause.Cause, paint.{Seg.Seg, Paint.Paint}}, Tokens.{Simple, whole_token, pointed_token, far_token, words_token, label_token, name_token, font_token, Token, simple_token, procedure_token}, Near.is_near, Points.current, State.{Value, whole_value, pointed_value, words_value, label_value, body_value, font_value, Graphics, Names, State}}
 
 -- a token changes the state, and may call for the tokens of a procedure; or the run halts there
 pub data Outcome : Type 0 where

@@ -1,7 +1,6 @@
 -- Runs: the steps of the machine, and its answers.
 use Rattle.std.specs.Prelude.{◌≡◌, ℕ, zero, suc, ◌<◌, ◌≤◌, false, List, [], ◌∷◌, ◌++◌}
-use Rattle.ps_steps.specs.{declared.halt.Cause.Cause, declared.halt.MachineError.MachineError, declared.paint.PagePaint.PagePaint, Tokens.Simple, Tokens.Token, Tokens.simple_token, Tokens.TokenAt, Tokens.NoToken, Tokens.passed, State.State, State.first_state, Operators.went, Operators.halted}
-use Rattle.ps_steps.specs.{Operators.executed, declared.halt.MachineError.TheVariants.Halt, declared.halt.MachineError.TheVariants.Memory}
+use Rattle.ps_steps.specs.{declared.{halt.{Cause.Cause, MachineError.{MachineError, TheVariants.{Halt, Memory}}}, paint.PagePaint.PagePaint}, Tokens.{Simple, Token, simple_token, TokenAt, NoToken, passed}, State.{State, first_state}, Operators.{went, halted, executed}}
 
 -- where a run stands: the tokens of procedures that are still to be executed, the state, and the text that is left,
 -- which begins with no blank and no comment

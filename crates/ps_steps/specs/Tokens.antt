@@ -5,8 +5,7 @@
 -- slash and a name are a label. A string is spelled in parentheses, as a page spells words. The line that makes the font
 -- is one token. A procedure from its `{` to its `}` is one token, and has no other procedure in it.
 use Prim.Native.Char.{code}
-use Rattle.std.specs.Prelude.{◌≡◌, ℕ, ℤ, pos, neg_ℤ, ◌-◌, ◌≤◌, Bool, true, false, ◌&&◌, ◌||◌, not, ◌==◌, IsTrue, if◌then◌else◌, List, [], ◌∷◌, ◌++◌, length, take, drop, codes, Option, Some, None}
-use Rattle.std.specs.{List.list_all, List.flat_map, Str.Parse.digits_value}
+use Rattle.std.specs.{Prelude.{◌≡◌, ℕ, ℤ, pos, neg_ℤ, ◌-◌, ◌≤◌, Bool, true, false, ◌&&◌, ◌||◌, not, ◌==◌, IsTrue, if◌then◌else◌, List, [], ◌∷◌, ◌++◌, length, take, drop, codes, Option, Some, None}, List.{list_all, flat_map}, Str.Parse.digits_value}
 use Rattle.mus_units.specs.Bytes.{is_digit, is_letter}
 use Rattle.ps_text.specs.{Fields.shown, Range.is_shown}
 use Rattle.ps_steps.specs.{Near.is_near, Near.is_near_hundredths, declared.halt.Cause.Cause}

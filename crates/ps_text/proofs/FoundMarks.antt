@@ -1,12 +1,8 @@
 -- A mark is found again from its numbers and its name.
-use Rattle.std.proofs.Common.{Result, Ok, Err, IfOk, cond, int_div, ◌<◌, ◌≤◌, ◌^◌, suc, ◌≡◌, refl, sym, ◌∙◌, subst, ℕ, ℤ, pos, negsuc, ◌+ℤ◌, ◌-ℤ◌, ◌≤ℤ◌, Bool, true, false, not, ◌&&◌, List, [], ◌∷◌, ◌++◌, append_assoc, length, codes, Option, Some, None, IsTrue, arith}
-use Rattle.std.{proofs.lemmas.Int.ints, proofs.lemmas.Fmt.decimal_is_IsNumeral, proofs.lemmas.Bool.not-true, proofs.lemmas.Bool.and_parts, specs.Fmt.decimal, specs.Fmt.signed_decimal, specs.Str.Parse.AllDigits, specs.Int.RustNames.FitsSigned, specs.Str.bytes_eq, specs.List.list_all}
-use Rattle.std.specs.List.{AllByRecursion, flat_map}
+use Rattle.std.{proofs.{Common.{Result, Ok, Err, IfOk, cond, int_div, ◌<◌, ◌≤◌, ◌^◌, suc, ◌≡◌, refl, sym, ◌∙◌, subst, ℕ, ℤ, pos, negsuc, ◌+ℤ◌, ◌-ℤ◌, ◌≤ℤ◌, Bool, true, false, not, ◌&&◌, List, [], ◌∷◌, ◌++◌, append_assoc, length, codes, Option, Some, None, IsTrue, arith}, lemmas.{Int.ints, Fmt.decimal_is_IsNumeral, Bool.{not-true, and_parts}}}, specs.{Fmt.{decimal, signed_decimal}, Str.{Parse.AllDigits, bytes_eq}, Int.RustNames.FitsSigned, List.{list_all, AllByRecursion, flat_map}}}
 use lib.Signed.{mag}
 use mir.Syntax.{w64}
-use Rattle.ps_text.specs.{Fields.shown, Fields.in_parentheses, declared.marks.PageMark.PageMark, Names.size_name, Names.way_name, Range.IsNumber, Range.IsOffset, Range.IsPageMark, Range.is_shown, Line.mark_line, Line.glyph_line, Line.stem_line, Line.beam_line, Line.arc_line, Line.words_line}
-use Rattle.ps_text.specs.{Line.points, Line.ends_of, Line.quarter, Scanning.is_field, Reading.is_small, Reading.glyph_named, Reading.glyph_at, Reading.glyph_from, Reading.words_at, Reading.words_from, Reading.stem_at, Reading.stem_from, Reading.offset_from, Reading.beam_from, Reading.arc_from}
-use Rattle.ps_text.{specs.Reading.mark_from, proofs.Taken.numbers_cons}
+use Rattle.ps_text.{specs.{Fields.{shown, in_parentheses}, declared.marks.PageMark.PageMark, Names.{size_name, way_name}, Range.{IsNumber, IsOffset, IsPageMark, is_shown}, Line.{mark_line, glyph_line, stem_line, beam_line, arc_line, words_line, points, ends_of, quarter}, Scanning.is_field, Reading.{is_small, glyph_named, glyph_at, glyph_from, words_at, words_from, stem_at, stem_from, offset_from, beam_from, arc_from, mark_from}}, proofs.Taken.numbers_cons}
 use Rattle.mus_units.specs.{declared.glyph.Glyph.Glyph, declared.glyph.Size.Size, declared.glyph.Way.Way}
 use Rattle.glyph_paths.specs.{Names.glyph_name, Names.glyphs_in_order, Procedure.numbers}
 

@@ -1,7 +1,5 @@
 -- Numbers of a page, as they stand in a line.
-use Rattle.std.proofs.Common.{◌≡◌, ℕ, ℤ, pos, negsuc, ◌<◌, ◌^◌, Bool, true, false, not, ◌==◌, List, [], ◌∷◌, ◌++◌, length, take, drop, refl, arith, suc, ◌-◌}
-use Rattle.std.{proofs.lemmas.Bool.Decides.nat_tests, proofs.lemmas.Int.ints, proofs.lemmas.Fmt.decimal_is_IsNumeral, proofs.Math.Seq.take-append_seam, proofs.Math.Seq.drop-append_seam, proofs.Math.Seq.take-length, proofs.Math.Seq.drop-length, proofs.lemmas.Bool.and_parts, specs.Fmt.decimal}
-use Rattle.std.specs.{Fmt.signed_decimal, List.prefix_len, List.list_all, Str.Parse.AllDigits, Char.digit_value, Int.RustNames.FitsSigned}
+use Rattle.std.{proofs.{Common.{◌≡◌, ℕ, ℤ, pos, negsuc, ◌<◌, ◌^◌, Bool, true, false, not, ◌==◌, List, [], ◌∷◌, ◌++◌, length, take, drop, refl, arith, suc, ◌-◌}, lemmas.{Bool.{Decides.nat_tests, and_parts}, Int.ints, Fmt.decimal_is_IsNumeral}, Math.Seq.{take-append_seam, drop-append_seam, take-length, drop-length}}, specs.{Fmt.{decimal, signed_decimal}, List.{prefix_len, list_all}, Str.Parse.AllDigits, Char.digit_value, Int.RustNames.FitsSigned}}
 use lib.Signed.{mag}
 use mir.Syntax.{w64}
 use Rattle.ps_text.specs.{Range.IsNumber, Scanning.is_field, Scanning.ReadsNumber}

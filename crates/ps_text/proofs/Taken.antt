@@ -1,6 +1,5 @@
 -- What is left to be taken from the front of a line.
-use Rattle.std.proofs.Common.{◌≡◌, ℕ, ℤ, List, [], ◌∷◌, ◌++◌, refl, sym, ◌∙◌, append_assoc, append-nil, IsTrue}
-use Rattle.std.{proofs.lemmas.Bool.and_parts, specs.Fmt.signed_decimal, specs.List.flat_map, specs.List.list_all, specs.List.AllByRecursion}
+use Rattle.std.{proofs.{Common.{◌≡◌, ℕ, ℤ, List, [], ◌∷◌, ◌++◌, refl, sym, ◌∙◌, append_assoc, append-nil, IsTrue}, lemmas.Bool.and_parts}, specs.{Fmt.signed_decimal, List.{flat_map, list_all, AllByRecursion}}}
 use Rattle.glyph_paths.specs.Procedure.{numbers}
 use Rattle.ps_text.specs.{Fields.shown, Range.is_shown, Range.IsNumber, Scanning.ReadsNumber}
 

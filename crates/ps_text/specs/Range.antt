@@ -1,7 +1,6 @@
 -- What may stand on a page: the range of each number, and for each type the
 -- values that have a text.
-use Rattle.std.specs.Prelude.{ℕ, ℤ, pos, negsuc, ◌^◌, ◌<◌, ◌≤◌, ◌+ℤ◌, ◌<ℤ◌, ◌≤ℤ◌, Bool, ◌&&◌, ◌||◌, nat_le, IsTrue, List, [], ◌∷◌, length, All, ⊤}
-use Rattle.std.specs.List.{list_all}
+use Rattle.std.specs.{Prelude.{ℕ, ℤ, pos, negsuc, ◌^◌, ◌<◌, ◌≤◌, ◌+ℤ◌, ◌<ℤ◌, ◌≤ℤ◌, Bool, ◌&&◌, ◌||◌, nat_le, IsTrue, List, [], ◌∷◌, length, All, ⊤}, List.list_all}
 use Rattle.ps_text.specs.declared.{marks.PageMark.PageMark, sheet.Frame.Frame, sheet.Staff.Staff, sheet.Item.Item, sheet.Page.Page, sheet.Sheet.Sheet}
 
 -- a number of a page is within 2^40 of 0

@@ -1,6 +1,5 @@
 -- What the reader of a line takes from its front.
-use Rattle.std.specs.Prelude.{◌≡◌, ℕ, ℤ, ◌/◌, ◌%◌, ◌≤◌, ◌<◌, ◌==◌, Bool, not, List, ◌∷◌, ◌++◌}
-use Rattle.std.specs.Fmt.{signed_decimal}
+use Rattle.std.specs.{Prelude.{◌≡◌, ℕ, ℤ, ◌/◌, ◌%◌, ◌≤◌, ◌<◌, ◌==◌, Bool, not, List, ◌∷◌, ◌++◌}, Fmt.signed_decimal}
 use Rattle.glyph_paths.specs.Characters.{digit, space}
 use Rattle.ps_text.specs.Range.{IsNumber}
 

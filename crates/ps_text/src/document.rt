@@ -1,6 +1,5 @@
 ghost use Rattle.std.specs.Prelude.{◌≡◌, ◌++◌, ◌∷◌, [], ◌+ℤ◌, pos, All, OnOk};
-ghost use Rattle.ps_text.specs.Document.{numbered, mark_text, marks_text, rules_line, staff_line, staff_text, last_base, join_line, join_text, system_line, system_text, title_line, title_text, tune_line, tune_text, item_text, items_text, heading_line, heading_text, closing, page_text, count_line, trailer};
-ghost use Rattle.ps_text.specs.Range.{IsNumber, IsPageMark, IsStaff, IsJoined, IsSystem, IsItem, IsPage};
+ghost use Rattle.ps_text.specs.{Document.{numbered, mark_text, marks_text, rules_line, staff_line, staff_text, last_base, join_line, join_text, system_line, system_text, title_line, title_text, tune_line, tune_text, item_text, items_text, heading_line, heading_text, closing, page_text, count_line, trailer}, Range.{IsNumber, IsPageMark, IsStaff, IsJoined, IsSystem, IsItem, IsPage}};
 
 use crate::fields::{put_number, put_words};
 use crate::marks::PageMark;

@@ -1,5 +1,4 @@
-ghost use Rattle.std.specs.Prelude.{◌≡◌, ℕ, ℤ, ◌<◌, ◌≤◌, ◌++◌, List, Some, None, IfOk, IfSome, IsNone, IsSomeAnd, length, true};
-ghost use Rattle.std.specs.{Fmt.signed_decimal, List.AllByRecursion, List.prefix_len, List.list_all};
+ghost use Rattle.std.specs.{Prelude.{◌≡◌, ℕ, ℤ, ◌<◌, ◌≤◌, ◌++◌, List, Some, None, IfOk, IfSome, IsNone, IsSomeAnd, length, true}, Fmt.signed_decimal, List.{AllByRecursion, prefix_len, list_all}};
 ghost use Rattle.glyph_paths.specs.Procedure.{numbers};
 ghost use Rattle.ps_text.specs.{Range.IsNumber, Scanning.is_field, Scanning.ReadsNumber};
 

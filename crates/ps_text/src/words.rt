@@ -1,5 +1,4 @@
-ghost use Rattle.std.specs.Prelude.{◌≡◌, ℕ, ◌<◌, ◌≤◌, ◌+◌, ◌/◌, ◌%◌, ◌++◌, ◌∷◌, [], List, Some, IfSome, IfOk, IsSomeAnd, IsNone, length, IsTrue};
-ghost use Rattle.std.specs.List.{flat_map, list_all};
+ghost use Rattle.std.specs.{Prelude.{◌≡◌, ℕ, ◌<◌, ◌≤◌, ◌+◌, ◌/◌, ◌%◌, ◌++◌, ◌∷◌, [], List, Some, IfSome, IfOk, IsSomeAnd, IsNone, length, IsTrue}, List.{flat_map, list_all}};
 ghost use Rattle.glyph_paths.specs.Characters.{backslash, close_parenthesis, digit};
 ghost use Rattle.ps_text.specs.{Fields.is_special, Fields.shown, Fields.in_parentheses, Range.is_shown, Range.IsWords, Scanning.IsOctal};
 

@@ -1,6 +1,5 @@
 ghost use Rattle.std.specs.Prelude.{◌≡◌, ◌++◌, ◌↔◌, ◌≤ℤ◌, ◌+ℤ◌, ◌-ℤ◌, pos, IfOk, OnOk, IsTrue, MatchOption};
-ghost use Rattle.ps_text.specs.Line.{mark_line, points, ends_of, quarter, glyph_line, words_line, stem_line, beam_line, arc_line};
-ghost use Rattle.ps_text.specs.Range.{IsPageMark, IsSpan, IsStretch};
+ghost use Rattle.ps_text.specs.{Line.{mark_line, points, ends_of, quarter, glyph_line, words_line, stem_line, beam_line, arc_line}, Range.{IsPageMark, IsSpan, IsStretch}};
 
 use crate::fields::put_words;
 use crate::marks::PageMark;

@@ -1,7 +1,5 @@
 -- Digits as a number.
-use Rattle.std.proofs.Common.{◌≡◌, ℕ, ◌-◌, ◌&&◌, ◌<◌, ◌≤◌, ◌^◌, true, false, List, [], ◌∷◌, length, take, drop, drop-drop, length-drop, length-append, Option, refl, sym, ◌∙◌, ap, arith, inl, inr, Result, Ok, Err, MatchOption, ◌==◌}
-use Rattle.std.{proofs.lemmas.Bool.cases_lt, proofs.lemmas.Bool.true≢false, proofs.lemmas.Bool.and_parts, proofs.lemmas.Bool.Decides.nat_tests, proofs.lemmas.List.Folds.list_all-append, specs.Result.result_ok, specs.List.list_all, specs.Str.Parse.digits_value, specs.Str.Parse.AllDigits}
-use Rattle.std.specs.{Str.Parse.IsNumeral, Str.Parse.ParsesUnsigned, Str.Parse.without_leading_plus, Char.digit_value}
+use Rattle.std.{proofs.{Common.{◌≡◌, ℕ, ◌-◌, ◌&&◌, ◌<◌, ◌≤◌, ◌^◌, true, false, List, [], ◌∷◌, length, take, drop, drop-drop, length-drop, length-append, Option, refl, sym, ◌∙◌, ap, arith, inl, inr, Result, Ok, Err, MatchOption, ◌==◌}, lemmas.{Bool.{cases_lt, true≢false, and_parts, Decides.nat_tests}, List.Folds.list_all-append}}, specs.{Result.result_ok, List.list_all, Str.Parse.{digits_value, AllDigits, IsNumeral, ParsesUnsigned, without_leading_plus}, Char.digit_value}}
 use Rattle.mus_units.specs.Bytes.{is_digit}
 use Rattle.ps_steps.specs.Tokens.{some_digits, is_fraction, is_pointed, unsigned, without_point}
 

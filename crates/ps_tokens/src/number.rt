@@ -1,7 +1,6 @@
 //! Words that are numbers and names.
 
-ghost use Rattle.std.specs.Prelude.{◌≡◌, ◌≤◌, ◌^◌, ◌+ℤ◌, ℤ, pos, true, false, List, ℕ, MatchOption, IfOk, Some, None, if◌then◌else◌};
-ghost use Rattle.std.specs.Str.Parse.{digits_value};
+ghost use Rattle.std.specs.{Prelude.{◌≡◌, ◌≤◌, ◌^◌, ◌+ℤ◌, ℤ, pos, true, false, List, ℕ, MatchOption, IfOk, Some, None, if◌then◌else◌}, Str.Parse.digits_value};
 ghost use Rattle.ps_steps.specs.Tokens.{some_digits, has_minus, unsigned, is_whole, is_pointed, number_of, hundredths_of, whole_number, pointed_number, without_point, word_token};
 
 use crate::scan::{is_name, is_pointed, is_whole, unsigned};

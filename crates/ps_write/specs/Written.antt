@@ -1,6 +1,5 @@
 -- What a step of a writer, or a whole document, gave to a sink.
-use Rattle.std.specs.Prelude.{◌≡◌, ℕ, ◌+◌, ◌^◌, ◌<◌, ◌≤◌, length, take, List, [], ◌∷◌, Option, Result, Ok, Err, ⊤}
-use Rattle.std.specs.Io.KnownBytes.{Appends}
+use Rattle.std.specs.{Prelude.{◌≡◌, ℕ, ◌+◌, ◌^◌, ◌<◌, ◌≤◌, length, take, List, [], ◌∷◌, Option, Result, Ok, Err, ⊤}, Io.KnownBytes.Appends}
 use Rattle.eng_io.specs.Causes.{Rose}
 use Rattle.ps_text.specs.{Document.page_text, declared.sheet.Page.Page}
 use Rattle.ps_write.specs.{declared.steps.DocError.DocError, declared.steps.DocWriter.DocWriter}

@@ -1,13 +1,11 @@
 -- The lines of a body give one list of items and faults.
-use Rattle.std.proofs.Common.{◌≡◌, ◌∙◌, refl, sym, ap, subst, ◌≤◌, List, [], ◌∷◌, ◌++◌, take, drop, Option, Some, arith, append_assoc, ⊎_elim}
-use Rattle.std.{proofs.lemmas.Bool.cases_lt, proofs.lemmas.List.take-append-drop, proofs.lemmas.List.take-take, specs.Prelude.flat_map}
+use Rattle.std.{proofs.{Common.{◌≡◌, ◌∙◌, refl, sym, ap, subst, ◌≤◌, List, [], ◌∷◌, ◌++◌, take, drop, Option, Some, arith, append_assoc, ⊎_elim}, lemmas.{Bool.cases_lt, List.{take-append-drop, take-take}}}, specs.Prelude.flat_map}
 use Rattle.abc_lines.specs.{declared.book.Line.Line, declared.fault.Fault.Fault, declared.kind.LineKind.LineKind, Kinds.kind_of}
 use Rattle.abc_tokens.specs.declared.token.Placed.{Placed}
 use Rattle.abc_fields.specs.declared.directive.Breaks.{Breaks}
 use Rattle.abc_header.specs.declared.header.Header.{Header}
 use Rattle.abc_steps.specs.declared.step.Item.{Item}
-use Rattle.abc_items.specs.{Body.Given, Body.placed_given, Body.end_given, Body.MusicGives, Body.KindGives, Body.LineGives, Body.BodyGives, Body.no_lines, Body.one_line, Body.judged, Body.first_fault, Body.items_in, Body.IsBody, Body.HasFault, Voices.declared_ids}
-use Rattle.abc_items.proofs.Laws.{stays}
+use Rattle.abc_items.{specs.{Body.{Given, placed_given, end_given, MusicGives, KindGives, LineGives, BodyGives, no_lines, one_line, judged, first_fault, items_in, IsBody, HasFault}, Voices.declared_ids}, proofs.Laws.stays}
 use Rattle.set_book.proofs.LineFaults.{one_front_of}
 
 -- ---- a line

@@ -1,11 +1,8 @@
 -- What stands behind a bracket that opens no chord, or behind a brace that opens no grace group,
 -- has one fault.
-use Rattle.std.proofs.Common.{◌≡◌, ◌∙◌, refl, sym, ap, subst, ℕ, suc, List, [], ◌∷◌, ◌++◌, length, Bool, true, false, None}
-use Rattle.std.{proofs.lemmas.Bool.true≢false, specs.Prelude.◌==◌, specs.List.list_all}
+use Rattle.std.{proofs.{Common.{◌≡◌, ◌∙◌, refl, sym, ap, subst, ℕ, suc, List, [], ◌∷◌, ◌++◌, length, Bool, true, false, None}, lemmas.Bool.true≢false}, specs.{Prelude.◌==◌, List.list_all}}
 use Rattle.abc_lines.specs.declared.fault.FaultKind.TheVariants.{BadByte, Unclosed}
-use Rattle.abc_notes.specs.Graces.{GracePart, GraceLeads, part_has_length, IsGraceOwn, GraceFlawed, HasSlash, is_slash_byte, is_in_grace, GraceFault, grace_unclosed, grace_open, grace_flawed}
-use Rattle.abc_notes.specs.{declared.part.Flaw.Flaw, Runs.begins, Parts.HasNone, Parts.leads_here, Parts.leads_on, Items.Inner, Items.inner_then, Items.StandsInside, Items.has_length, Items.IsBadByte, Items.InnerFlawed, Items.inner_at, Items.item_class, Chords.InnerLeads, Chords.is_inside}
-use Rattle.abc_notes.{specs.Chords.ChordFault, specs.Chords.chord_unclosed, specs.Chords.chord_open, specs.Chords.chord_headless, specs.Chords.chord_flawed, proofs.PartLaws.none_of, proofs.InnerLaws.inner_reader, proofs.CutLaws.inner_append, proofs.CutLaws.all_parts, proofs.GraceLaws.part_reader}
+use Rattle.abc_notes.{specs.{Graces.{GracePart, GraceLeads, part_has_length, IsGraceOwn, GraceFlawed, HasSlash, is_slash_byte, is_in_grace, GraceFault, grace_unclosed, grace_open, grace_flawed}, declared.part.Flaw.Flaw, Runs.begins, Parts.{HasNone, leads_here, leads_on}, Items.{Inner, inner_then, StandsInside, has_length, IsBadByte, InnerFlawed, inner_at, item_class}, Chords.{InnerLeads, is_inside, ChordFault, chord_unclosed, chord_open, chord_headless, chord_flawed}}, proofs.{PartLaws.none_of, InnerLaws.inner_reader, CutLaws.{inner_append, all_parts}, GraceLaws.part_reader}}
 use Rattle.set_book.proofs.PartFaults.{by_test, none_at_end, one_lead, never_done, one_flaw}
 
 -- ---- chords

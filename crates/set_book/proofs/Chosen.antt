@@ -1,6 +1,5 @@
 -- One breaking is chosen, and its sums are one.
-use Rattle.std.proofs.Common.{◌≡◌, ◌∙◌, ℕ, ◌+◌, ◌≤◌, Bool, List, length, slice_index_or, Option, Some, None, refl, sym, ap, arith}
-use Rattle.std.proofs.lemmas.List.{ext_get_or}
+use Rattle.std.proofs.{Common.{◌≡◌, ◌∙◌, ℕ, ◌+◌, ◌≤◌, Bool, List, length, slice_index_or, Option, Some, None, refl, sym, ap, arith}, lemmas.List.ext_get_or}
 use Rattle.lay_breaks.{specs.declared.breaking.Breaking.Breaking, specs.Breaking.IsChosen, specs.Breaking.IsPotential, specs.Breaking.sum_from, proofs.Unique.one_is_chosen}
 
 -- a chosen breaking of n bars, what it costs, and the potential of each bar

@@ -1,6 +1,5 @@
 -- The columns of a system stand in one way.
-use Rattle.std.proofs.Common.{◌≡◌, ◌∙◌, ℕ, ◌-◌, ◌*◌, ◌/◌, ◌<◌, inl, inr, ◌==◌, Bool, true, false, ℤ, pos, ◌+ℤ◌, List, length, slice_index_or, Option, refl, sym, ap, subst, arith}
-use Rattle.std.proofs.{lemmas.Int.ints, lemmas.Bool.cases_lt, lemmas.List.ext_get_or}
+use Rattle.std.proofs.{Common.{◌≡◌, ◌∙◌, ℕ, ◌-◌, ◌*◌, ◌/◌, ◌<◌, inl, inr, ◌==◌, Bool, true, false, ℤ, pos, ◌+ℤ◌, List, length, slice_index_or, Option, refl, sym, ap, subst, arith}, lemmas.{Int.ints, Bool.cases_lt, List.ext_get_or}}
 use Rattle.mus_score.specs.declared.score.Score.{Score}
 use Rattle.mus_laid.specs.declared.laid.SystemMarks.{SystemMarks}
 use Rattle.lay_columns.specs.{declared.column.Column.Column, Columns.column_reach}

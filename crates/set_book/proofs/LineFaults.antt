@@ -1,6 +1,5 @@
 -- A music line gives one list of tokens up to its first fault, and one such fault, or none.
-use Rattle.std.proofs.Common.{◌≡◌, ◌∙◌, refl, sym, ap, subst, ℕ, List, [], ◌∷◌, length, Bool, Option, Some, None}
-use Rattle.std.specs.Prelude.{MatchBool, MatchOption, ◌==◌, option_map}
+use Rattle.std.{proofs.Common.{◌≡◌, ◌∙◌, refl, sym, ap, subst, ℕ, List, [], ◌∷◌, length, Bool, Option, Some, None}, specs.Prelude.{MatchBool, MatchOption, ◌==◌, option_map}}
 use Rattle.abc_lines.specs.declared.{book.Line.Line, fault.Fault.Fault, fault.FaultKind.FaultKind, fault.FaultKind.TheVariants.BadByte, fault.FaultKind.TheVariants.Unclosed}
 use Rattle.abc_notes.specs.{declared.part.Flaw.Flaw, Parts.IsLongest, Parts.HasNone, Graces.GraceFault}
 use Rattle.abc_pieces.{specs.Forms.Form, specs.Forms.StandsAt, specs.Forms.meant, specs.Forms.after, specs.Forms.opening, specs.declared.token.Before.Before, specs.declared.token.Opening.Opening, proofs.PieceReader.piece_reader}

@@ -1,6 +1,5 @@
 -- A tune has one outcome.
-use Rattle.std.proofs.Common.{◌≡◌, ◌∙◌, refl, sym, ap, subst, ℕ, zero, suc, ℤ, pos, negsuc, List, [], ◌∷◌, Bool, Option, Some, None, Result, Ok, Err, inl, inr}
-use Rattle.std.{proofs.lemmas.Option.same_Some, specs.Prelude.MatchOption}
+use Rattle.std.{proofs.{Common.{◌≡◌, ◌∙◌, refl, sym, ap, subst, ℕ, zero, suc, ℤ, pos, negsuc, List, [], ◌∷◌, Bool, Option, Some, None, Result, Ok, Err, inl, inr}, lemmas.Option.same_Some}, specs.Prelude.MatchOption}
 use Rattle.abc_lines.specs.declared.{book.Line.Line, book.TuneText.TuneText, fault.Fault.Fault, fault.FaultKind.FaultKind, fault.TuneError.TuneError}
 use Rattle.mus_units.specs.declared.key.Key.{Key}
 use Rattle.mus_transpose.specs.Moved.{CanMove, IsMoved, moved_score}
@@ -13,10 +12,8 @@ use Rattle.lay_pages.specs.{declared.stacking.Heights.Heights, declared.titles.T
 use Rattle.lay_springs.specs.declared.margin.Placed.{Placed}
 use Rattle.mus_laid.specs.declared.laid.SystemMarks.{SystemMarks}
 use Rattle.lay_tune.{specs.Layout.IsNoWay, proofs.Called.has_system, proofs.Called.one_system}
-use Rattle.set_tune.specs.Setting.{CantDraw, CantMove, HasHeader, HasScore, IsDrawn, IsLaidTune, IsSetTune, IsWritten, layout_fault, IsFaultOfTune, IsMovedRefusal, of_header, of_score, of_share, of_move, no_way, too_tall}
-use Rattle.set_tune.{specs.declared.how.How.How, specs.declared.tune.SetTune.SetTune, specs.Blocks.blocks_of, proofs.Laid.same_Ok}
-use Rattle.set_book.{specs.declared.outcome.Outcome.Outcome, specs.Outcomes.IsResult, specs.Outcomes.IsOutcome, specs.Outcomes.AreOutcomes, specs.Once.HaveOneOutcome, specs.Once.IsOneSystem, proofs.Scores.one_header, proofs.Scores.one_score, proofs.Scores.one_score_fault}
-use Rattle.set_book.proofs.{Scores.no_score_fault, Layouts.one_layout, Faults.one_way, Faults.no_way_laid}
+use Rattle.set_tune.{specs.{Setting.{CantDraw, CantMove, HasHeader, HasScore, IsDrawn, IsLaidTune, IsSetTune, IsWritten, layout_fault, IsFaultOfTune, IsMovedRefusal, of_header, of_score, of_share, of_move, no_way, too_tall}, declared.{how.How.How, tune.SetTune.SetTune}, Blocks.blocks_of}, proofs.Laid.same_Ok}
+use Rattle.set_book.{specs.{declared.outcome.Outcome.Outcome, Outcomes.{IsResult, IsOutcome, AreOutcomes}, Once.{HaveOneOutcome, IsOneSystem}}, proofs.{Scores.{one_header, one_score, one_score_fault, no_score_fault}, Layouts.one_layout, Faults.{one_way, no_way_laid}}}
 
 -- ---- what a tune is, whatever the height of the page
 one_read : (tune : TuneText) (defaults : Defaults) (h k : Header) → HasHeader tune defaults h → HasHeader tune defaults k → h ≡ k

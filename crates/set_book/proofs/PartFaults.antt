@@ -1,9 +1,7 @@
 -- Text that is read part by part has one place where reading stops, and one fault there.
-use Rattle.std.proofs.Common.{◌≡◌, ◌∙◌, refl, sym, ap, subst, ℕ, List, [], ◌∷◌, length, Bool, true, false, Option, Some, None}
-use Rattle.std.specs.Prelude.{MatchBool}
+use Rattle.std.{proofs.Common.{◌≡◌, ◌∙◌, refl, sym, ap, subst, ℕ, List, [], ◌∷◌, length, Bool, true, false, Option, Some, None}, specs.Prelude.MatchBool}
 use Rattle.abc_lines.specs.declared.fault.FaultKind.TheVariants.{BadLength}
-use Rattle.abc_notes.specs.{declared.part.Flaw.Flaw, Parts.IsLongest, Parts.HasNone, Parts.Leads, Parts.leads_here, Parts.leads_on, Parts.Flawed, Parts.stuck_here, Parts.stuck_later, Parts.IsFlaw, Parts.length_at_place, Parts.goes_on_length}
-use Rattle.abc_notes.proofs.PartLaws.{Reader, longest_is, none_of, at_nil}
+use Rattle.abc_notes.{specs.{declared.part.Flaw.Flaw, Parts.{IsLongest, HasNone, Leads, leads_here, leads_on, Flawed, stuck_here, stuck_later, IsFlaw, length_at_place, goes_on_length}}, proofs.PartLaws.{Reader, longest_is, none_of, at_nil}}
 
 -- a test gives two values one meaning where each of its sides does
 pub by_test : {X : Type 0} (P Q : X → Type 0) (f g : X) → (P f → P g → f ≡ g) → (Q f → Q g → f ≡ g) → (b : Bool) → MatchBool b (P f) (Q f) → MatchBool b (P g) (Q g) → f ≡ g

@@ -1,14 +1,10 @@
 -- There is one first of the faults of a score: of their kinds each has a rank of its own.
-use Rattle.std.proofs.Common.{◌≡◌, ◌∙◌, refl, sym, ap, subst, ℕ, ◌+◌, ◌<◌, List, [], ◌∷◌, ◌++◌, get_or, Bool, true, false, cond, None, arith}
-use Rattle.std.specs.Prelude.{◌-◌, ◌&&◌, not, nat_le, nat_lt, is_none, flat_map}
-use Rattle.std.{proofs.lemmas.List.Elements.All-from_recursion, proofs.lemmas.List.Elements.All-contains, proofs.lemmas.Bool.Decides.nat_tests, specs.List.AllByRecursion, specs.List.Contains}
+use Rattle.std.{proofs.{Common.{◌≡◌, ◌∙◌, refl, sym, ap, subst, ℕ, ◌+◌, ◌<◌, List, [], ◌∷◌, ◌++◌, get_or, Bool, true, false, cond, None, arith}, lemmas.{List.Elements.{All-from_recursion, All-contains}, Bool.Decides.nat_tests}}, specs.{Prelude.{◌-◌, ◌&&◌, not, nat_le, nat_lt, is_none, flat_map}, List.{AllByRecursion, Contains}}}
 use Rattle.abc_lines.specs.{declared.fault.Fault.Fault, declared.fault.FaultKind.FaultKind}
 use Rattle.abc_header.specs.declared.header.Header.{Header}
 use Rattle.mus_units.specs.{declared.pitch.Clef.Clef, Parts.parts_list}
-use Rattle.abc_steps.specs.{declared.force.InForce.InForce, declared.place.Place.Place, declared.step.Item.Item, declared.step.Sound.Sound, declared.step.Step.Step, declared.step.Stood.Stood, declared.tuplets.Taking.Taking, Lengths.written_length, Looks.Steps, Looks.since_event, Looks.has_left}
-use Rattle.abc_steps.specs.{Looks.has_right, Places.place_at, Places.measure_of, Tuplets.fits, Tuplets.or_default}
-use Rattle.abc_faults.specs.Faults.{fault_at, fault_if, misfit_of, tuplet_faults, sounds_behind, any_off, any_grace_off, is_past, is_free, grace_faults_of, grace_faults, sound_faults, rest_faults, faults_of, faults_in}
-use Rattle.abc_faults.specs.{declared.weights.Weight.Weight, First.rank_of, First.then_below, First.is_before, First.IsLeast, First.IsFirst, Weights.crowd_fault, Weights.crowd_faults_at, Weights.crowd_up_to, Weights.crowded}
+use Rattle.abc_steps.specs.{declared.{force.InForce.InForce, place.Place.Place, step.{Item.Item, Sound.Sound, Step.Step, Stood.Stood}, tuplets.Taking.Taking}, Lengths.written_length, Looks.{Steps, since_event, has_left, has_right}, Places.{place_at, measure_of}, Tuplets.{fits, or_default}}
+use Rattle.abc_faults.specs.{Faults.{fault_at, fault_if, misfit_of, tuplet_faults, sounds_behind, any_off, any_grace_off, is_past, is_free, grace_faults_of, grace_faults, sound_faults, rest_faults, faults_of, faults_in}, declared.weights.Weight.Weight, First.{rank_of, then_below, is_before, IsLeast, IsFirst}, Weights.{crowd_fault, crowd_faults_at, crowd_up_to, crowded}}
 use Rattle.abc_words.specs.{declared.verses.Verse.Verse, Verses.fault_in, Verses.faults_from, Verses.verse_faults, Verses.verses_of, Verses.number_on, Verses.too_many}
 use Rattle.abc_items.specs.Voices.{unnamed_of}
 use Rattle.abc_score.specs.{declared.voices.VoiceRead.VoiceRead, Voices.voices_read, Faults.voice_faults, Faults.voice_weights, Faults.faults_of_voices, Faults.score_faults}

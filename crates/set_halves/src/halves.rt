@@ -1,5 +1,4 @@
-ghost use Rattle.std.specs.Prelude.{◌≡◌, ◌++◌, ◌≤◌, IfOk, All};
-ghost use Rattle.std.specs.{List.AllZip, Thread.IsSync, Thread.IsSend};
+ghost use Rattle.std.specs.{Prelude.{◌≡◌, ◌++◌, ◌≤◌, IfOk, All}, List.AllZip, Thread.{IsSync, IsSend}};
 
 use mus_units::{Memory, Row};
 use std::alloc::Global;

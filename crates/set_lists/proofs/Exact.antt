@@ -1,6 +1,5 @@
 -- What is written of a book is a listing of its scores' breakings, and no way is told exactly where a score has none.
-use Rattle.std.proofs.Common.{◌≡◌, refl, ap, subst, inl, inr, ℕ, Bool, List, [], ◌∷◌, Result, Ok, Err}
-use Rattle.std.{proofs.lemmas.List.Elements.All-cons, proofs.lemmas.List.Elements.All-nil, specs.List.All}
+use Rattle.std.{proofs.{Common.{◌≡◌, refl, ap, subst, inl, inr, ℕ, Bool, List, [], ◌∷◌, Result, Ok, Err}, lemmas.List.Elements.{All-cons, All-nil}}, specs.List.All}
 use Rattle.abc_lines.specs.{declared.book.TuneText.TuneText, declared.fault.Fault.Fault, Books.book_of, declared.fault.FaultKind.FaultKind}
 use Rattle.abc_header.specs.{declared.defaults.Defaults.Defaults, declared.header.Header.Header, declared.paper.Paper.Paper, Papers.width_of}
 use Rattle.mus_score.specs.declared.score.Score.{Score}

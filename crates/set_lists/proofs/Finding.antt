@@ -1,6 +1,5 @@
 -- Where a listed span stands.
-use Rattle.std.proofs.Common.{◌≡◌, ℕ, zero, suc, ◌+◌, ◌<◌, ◌≤◌, Bool, true, false, nat_lt, List, [], ◌∷◌, length, drop, Option, Some, None, option_map, if◌then◌else◌, arith, refl, sym, ◌∙◌, ap, subst, inl, inr, unwrap_or}
-use Rattle.std.{proofs.lemmas.Bool.Decides.nat_tests, proofs.lemmas.List.Sorted.IsNonDecreasingBy-from_all_adjacent, specs.List.AllWithin, specs.List.find, specs.List.slice_index_or, specs.List.Sorted.IsNonDecreasingBy}
+use Rattle.std.{proofs.{Common.{◌≡◌, ℕ, zero, suc, ◌+◌, ◌<◌, ◌≤◌, Bool, true, false, nat_lt, List, [], ◌∷◌, length, drop, Option, Some, None, option_map, if◌then◌else◌, arith, refl, sym, ◌∙◌, ap, subst, inl, inr, unwrap_or}, lemmas.{Bool.Decides.nat_tests, List.Sorted.IsNonDecreasingBy-from_all_adjacent}}, specs.List.{AllWithin, find, slice_index_or, Sorted.IsNonDecreasingBy}}
 use Rattle.lay_breaks.specs.{declared.costs.Span.Span, Spans.AreSpans, Spans.IsNext, Spans.SpansFrom, Spans.has_ends, Spans.listed}
 
 next_begins : (p s : Span) → IsNext p s → p.a ≤ s.a

@@ -1,6 +1,5 @@
 -- The numbers of the tunes of a book.
-use Rattle.std.proofs.Common.{◌≡◌, ℕ, suc, ◌+◌, ◌<◌, ◌≤◌, ◌^◌, ◌==◌, Bool, true, false, List, [], ◌∷◌, length, drop, if◌then◌else◌, nat_eq, arith, sym, subst}
-use Rattle.std.{proofs.lemmas.List.length-drop, proofs.lemmas.List.length-map, proofs.lemmas.List.Splits.length-slice_split, proofs.lemmas.List.Sums.count_by-le-length, specs.List.slice_split, specs.List.starts_with}
+use Rattle.std.{proofs.{Common.{◌≡◌, ℕ, suc, ◌+◌, ◌<◌, ◌≤◌, ◌^◌, ◌==◌, Bool, true, false, List, [], ◌∷◌, length, drop, if◌then◌else◌, nat_eq, arith, sym, subst}, lemmas.List.{length-drop, length-map, Splits.length-slice_split, Sums.count_by-le-length}}, specs.List.{slice_split, starts_with}}
 use Rattle.abc_lines.specs.{declared.reading.Reading.Reading, Books.begins_tune, Books.book_of, Books.tune_at, Books.tunes_behind, Lines.byte_order_mark, Lines.is_end, Lines.lines_of, Lines.reading, Lines.readings, Lines.without_last_empty, Lines.without_mark}
 use Rattle.abc_header.specs.{declared.defaults.Defaults.Defaults, declared.paper.Paper.Paper}
 use Rattle.set_tune.specs.declared.how.How.{How}

@@ -1,6 +1,5 @@
 -- What comes of tunes can be listed, and its listing tells the tunes that are set.
-use Rattle.std.proofs.Common.{◌≡◌, ◌∙◌, sym, ℕ, ◌<◌, ◌≤◌, ◌^◌, Bool, true, List, [], ◌∷◌, Option, Some, None, Result, Ok, Err, arith, refl}
-use Rattle.std.{proofs.lemmas.List.Elements.All-cons, proofs.lemmas.List.Elements.All-nil, specs.List.All, specs.List.cons_option, specs.List.slice_index_or}
+use Rattle.std.{proofs.{Common.{◌≡◌, ◌∙◌, sym, ℕ, ◌<◌, ◌≤◌, ◌^◌, Bool, true, List, [], ◌∷◌, Option, Some, None, Result, Ok, Err, arith, refl}, lemmas.List.Elements.{All-cons, All-nil}}, specs.List.{All, cons_option, slice_index_or}}
 use Rattle.abc_lines.specs.{declared.book.TuneText.TuneText, declared.fault.Fault.Fault}
 use Rattle.abc_header.specs.{declared.defaults.Defaults.Defaults, declared.paper.Paper.Paper, Papers.width_of}
 use Rattle.mus_score.specs.declared.score.Score.{Score}

@@ -1,6 +1,5 @@
 -- The systems of a book: for each tune without a fault its line, and a line for each of its systems.
-use Rattle.std.specs.Prelude.{ℕ, List, [], ◌∷◌, ◌++◌, codes, decimal, Result, Ok, Err, unwrap_or}
-use Rattle.std.specs.List.{flat_map}
+use Rattle.std.specs.{Prelude.{ℕ, List, [], ◌∷◌, ◌++◌, codes, decimal, Result, Ok, Err, unwrap_or}, List.flat_map}
 use Rattle.abc_lines.specs.declared.fault.Fault.{Fault}
 use Rattle.mus_laid.specs.declared.laid.SystemMarks.{SystemMarks}
 use Rattle.lay_breaks.specs.{declared.costs.Span.Span, Spans.listed}

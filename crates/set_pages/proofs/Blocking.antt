@@ -1,7 +1,5 @@
 -- What the blocks of outcomes draw is ready to be drawn wherever they lie on a page.
-use Rattle.std.proofs.Common.{◌≡◌, sym, subst, get_or, ℕ, ◌^◌, ◌<◌, ◌≤◌, ℤ, pos, ◌-ℤ◌, ◌≤ℤ◌, Bool, List, [], ◌∷◌, ◌++◌, length, Option, Some, None, arith}
-use Rattle.std.proofs.{lemmas.Int.ints, lemmas.List.Elements.All-head, lemmas.List.Elements.All-tail, lemmas.List.Elements.All-weaker}
-use Rattle.std.specs.{Prelude.All, Prelude.IfSome, Prelude.Result, Prelude.Ok, Prelude.Err, List.AllZip}
+use Rattle.std.{proofs.{Common.{◌≡◌, sym, subst, get_or, ℕ, ◌^◌, ◌<◌, ◌≤◌, ℤ, pos, ◌-ℤ◌, ◌≤ℤ◌, Bool, List, [], ◌∷◌, ◌++◌, length, Option, Some, None, arith}, lemmas.{Int.ints, List.Elements.{All-head, All-tail, All-weaker}}}, specs.{Prelude.{All, IfSome, Result, Ok, Err}, List.AllZip}}
 use Rattle.abc_lines.specs.declared.fault.Fault.{Fault}
 use Rattle.abc_header.specs.{declared.paper.Paper.Paper, Papers.IsGoodPaper, Papers.width_of}
 use Rattle.mus_score.specs.declared.score.Score.{Score}
@@ -13,9 +11,7 @@ use Rattle.set_tune.{specs.declared.tune.SetTune.SetTune, specs.Blocks.block_hei
 use Rattle.set_book.specs.declared.outcome.Outcome.{Outcome}
 use Rattle.set_staves.{specs.Drawn.IsBase, specs.Drawn.IsOnPage, specs.Drawn.IsTop, specs.Marks.RisesAlong, specs.Marks.x_at, proofs.Shown.x_read}
 use Rattle.lay_tune.specs.Systems.{StandWithin, gaps_between}
-use Rattle.set_pages.specs.Drawings.{all_blocks, all_drawings, drawing, drawings_from, outcome_blocks, outcome_drawings, result_blocks, result_drawings, system, system_contents, title, title_contents}
-use Rattle.set_pages.{specs.Ready.IsReadyOn, specs.Ready.IsReadyRow, specs.Sheet.IsSetResult, specs.Sheet.IsSetUnder, proofs.Laying.AreLaid}
-use Rattle.set_pages.proofs.{Laying.IsLaidSystem, Laying.paper_narrow, Laying.tune_laid, Stacks.IsBetween, Stacks.stacked_bases, Stacks.stacked_count, Joined.zip_append}
+use Rattle.set_pages.{specs.{Drawings.{all_blocks, all_drawings, drawing, drawings_from, outcome_blocks, outcome_drawings, result_blocks, result_drawings, system, system_contents, title, title_contents}, Ready.{IsReadyOn, IsReadyRow}, Sheet.{IsSetResult, IsSetUnder}}, proofs.{Laying.{AreLaid, IsLaidSystem, paper_narrow, tune_laid}, Stacks.{IsBetween, stacked_bases, stacked_count}, Joined.zip_append}}
 
 -- the tune that a block begins has an ordinal
 abbrev IsCounted : Option ℕ → Type 0

@@ -1,6 +1,5 @@
 -- The blocks of tunes of which none has a group that is too tall have none together: no block is tied to one of the next tune.
-use Rattle.std.proofs.Common.{◌≡◌, refl, ap, ◌∙◌, ℕ, suc, Bool, true, false, not, List, [], ◌∷◌, ◌++◌, Option, None}
-use Rattle.std.specs.Prelude.{⊤, ◌&&◌, nat_lt, Result, Ok, Err}
+use Rattle.std.{proofs.Common.{◌≡◌, refl, ap, ◌∙◌, ℕ, suc, Bool, true, false, not, List, [], ◌∷◌, ◌++◌, Option, None}, specs.Prelude.{⊤, ◌&&◌, nat_lt, Result, Ok, Err}}
 use Rattle.abc_lines.specs.declared.fault.Fault.{Fault}
 use Rattle.lay_pages.specs.{declared.filling.Block.Block, declared.stacking.Heights.Heights, declared.titles.TitleRow.TitleRow, Filling.IsLoose, Filling.first_tall, Filling.group_height, Filling.height_of, Filling.tall_by, Filling.tall_from, Filling.with_kept}
 use Rattle.set_tune.specs.{declared.tune.SetTune.SetTune, Blocks.blocks_of, Blocks.is_some_list, Blocks.system_blocks, Blocks.title_blocks}

@@ -1,14 +1,10 @@
 -- Pages that were given up are the first of the sheet, whatever is pressed behind them.
-use Rattle.std.proofs.Common.{◌≡◌, refl, sym, ap, ◌∙◌, subst, inl, inr, ℕ, zero, suc, ◌+◌, Bool, true, false, cond, List, [], ◌∷◌, ◌++◌, length, take}
-use Rattle.std.specs.Prelude.{◌||◌, ◌⊎◌, nat_le, nat_lt, All}
-use Rattle.std.proofs.{Math.Seq.take-append_seam, Math.Seq.drop-append_seam, lemmas.List.append-nil, lemmas.List.append_assoc, lemmas.List.Elements.All-take, lemmas.List.Elements.All-drop}
+use Rattle.std.{proofs.{Common.{◌≡◌, refl, sym, ap, ◌∙◌, subst, inl, inr, ℕ, zero, suc, ◌+◌, Bool, true, false, cond, List, [], ◌∷◌, ◌++◌, length, take}, Math.Seq.{take-append_seam, drop-append_seam}, lemmas.List.{append-nil, append_assoc, Elements.{All-take, All-drop}}}, specs.Prelude.{◌||◌, ◌⊎◌, nat_le, nat_lt, All}}
 use Rattle.abc_header.specs.{declared.paper.Paper.Paper, Papers.height_of, Papers.width_of}
 use Rattle.lay_pages.specs.{declared.filling.Block.Block, declared.filling.Place.Place, declared.filling.Spot.Spot, Filling.group_height, Filling.next_place, Filling.place_by, Filling.spots_from, Filling.spots_of, Filling.under}
 use Rattle.ps_text.specs.declared.sheet.Page.{Page}
 use Rattle.set_book.specs.declared.outcome.Outcome.{Outcome}
-use Rattle.set_pages.specs.{declared.pages.Pages.Pages, declared.plan.Plan.Plan, declared.press.Press.Press, Drawings.Drawing, Drawings.all_blocks, Drawings.all_drawings, Drawings.drawn, Filling.done_count, Filling.no_pages, Filling.restored, Filling.turned, Filling.with_drawing}
-use Rattle.set_pages.specs.{Filling.with_drawings, Filling.with_items, Press.IsPressed, Press.RisesBy, Press.done_pages, Press.next_spots, Ready.AreRising, Ready.AreRisingFrom, Ready.IsDrawn, Sheet.all_spots, Sheet.pages_of, Sheet.sheet_of}
-use Rattle.set_pages.proofs.{Joined.drawings_append, Joined.drawn_join, Joined.spots_append, Turned.all_put, Zips.zip_length}
+use Rattle.set_pages.{specs.{declared.{pages.Pages.Pages, plan.Plan.Plan, press.Press.Press}, Drawings.{Drawing, all_blocks, all_drawings, drawn}, Filling.{done_count, no_pages, restored, turned, with_drawing, with_drawings, with_items}, Press.{IsPressed, RisesBy, done_pages, next_spots}, Ready.{AreRising, AreRisingFrom, IsDrawn}, Sheet.{all_spots, pages_of, sheet_of}}, proofs.{Joined.{drawings_append, drawn_join, spots_append}, Turned.all_put, Zips.zip_length}}
 
 -- what is done stays done
 pub record IsGrown (p q : Pages) : Type 0 where

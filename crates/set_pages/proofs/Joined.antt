@@ -1,14 +1,10 @@
 -- Blocks that are filled and drawn a list at a time are those of all lists, one after another.
-use Rattle.std.proofs.Common.{◌≡◌, refl, sym, ap, ◌∙◌, subst, ℕ, ◌+◌, List, [], ◌∷◌, ◌++◌, length, take, drop, Option, None}
-use Rattle.std.{proofs.lemmas.Grind.flat_map-append, proofs.lemmas.List.Elements.All-append, proofs.lemmas.List.length-append, proofs.Math.Seq.take-add, specs.Prelude.◌||◌, specs.Prelude.nat_le, specs.Prelude.All, specs.List.AllZip}
+use Rattle.std.{proofs.{Common.{◌≡◌, refl, sym, ap, ◌∙◌, subst, ℕ, ◌+◌, List, [], ◌∷◌, ◌++◌, length, take, drop, Option, None}, lemmas.{Grind.flat_map-append, List.{Elements.All-append, length-append}}, Math.Seq.take-add}, specs.{Prelude.{◌||◌, nat_le, All}, List.AllZip}}
 use Rattle.abc_header.specs.{declared.paper.Paper.Paper, Papers.height_of, Papers.width_of}
-use Rattle.lay_pages.specs.{declared.filling.Block.Block, declared.filling.Place.Place, declared.filling.Spot.Spot, declared.filling.Standing.Standing, Filling.AreGoodBlocks, Filling.IsLoose, Filling.behind_after, Filling.next_place, Filling.place_by, Filling.spot_at, Filling.spots_behind}
-use Rattle.lay_pages.specs.Filling.{spots_from, spots_of, standing_from, under}
+use Rattle.lay_pages.specs.{declared.filling.{Block.Block, Place.Place, Spot.Spot, Standing.Standing}, Filling.{AreGoodBlocks, IsLoose, behind_after, next_place, place_by, spot_at, spots_behind, spots_from, spots_of, standing_from, under}}
 use Rattle.ps_text.specs.declared.sheet.Page.{Page}
 use Rattle.set_book.specs.declared.outcome.Outcome.{Outcome}
-use Rattle.set_pages.specs.{Filling.no_pages, Filling.restored, Filling.with_drawing, Filling.with_drawings, Press.IsPressed, Press.behind_by, Press.next_behind, Press.next_spots, Ready.IsDrawn}
-use Rattle.set_pages.specs.{declared.pages.Pages.Pages, declared.plan.Plan.Plan, declared.press.Press.Press, Drawings.Drawing, Drawings.all_blocks, Drawings.all_drawings, Drawings.outcome_blocks, Drawings.outcome_drawings, Sheet.IsSetUnder, Sheet.all_spots}
-use Rattle.set_pages.proofs.{Fitting.group_append, Fitting.result_loose, Restored.all_same, Restored.gone_all, Standing.good_append}
+use Rattle.set_pages.{specs.{Filling.{no_pages, restored, with_drawing, with_drawings}, Press.{IsPressed, behind_by, next_behind, next_spots}, Ready.IsDrawn, declared.{pages.Pages.Pages, plan.Plan.Plan, press.Press.Press}, Drawings.{Drawing, all_blocks, all_drawings, outcome_blocks, outcome_drawings}, Sheet.{IsSetUnder, all_spots}}, proofs.{Fitting.{group_append, result_loose}, Restored.{all_same, gone_all}, Standing.good_append}}
 
 -- the place of a block doesn't hang on what stands behind its group
 next_same : (high : ℕ) (place : Place) (block next : Block) (bs more : List Block) → IsLoose (next ∷ bs)

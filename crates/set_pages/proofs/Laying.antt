@@ -1,7 +1,6 @@
 -- The systems of a tune that is laid out on a paper: each can be shown, its columns stand within the width, its boxes stay apart and
 -- its staves stand under one another.
-use Rattle.std.proofs.Common.{ℕ, ◌*◌, ◌+◌, ◌-◌, ◌/◌, ◌^◌, ◌<◌, ◌≤◌, List, [], ◌∷◌, length, arith}
-use Rattle.std.specs.Prelude.{⊤, All}
+use Rattle.std.{proofs.Common.{ℕ, ◌*◌, ◌+◌, ◌-◌, ◌/◌, ◌^◌, ◌<◌, ◌≤◌, List, [], ◌∷◌, length, arith}, specs.Prelude.{⊤, All}}
 use Rattle.abc_header.specs.{declared.paper.Paper.Paper, Papers.IsGoodPaper, Papers.width_of}
 use Rattle.mus_score.specs.{declared.score.Score.Score, GoodScore.IsGoodScore}
 use Rattle.mus_laid.specs.declared.laid.SystemMarks.{SystemMarks}

@@ -1,6 +1,5 @@
 -- The items of each page are good and in order: a title stands only in the block that begins a tune.
-use Rattle.std.proofs.Common.{ℕ, zero, suc, ℤ, Bool, true, false, cond, List, [], ◌∷◌, ◌++◌, map, Option, Some, None}
-use Rattle.std.{proofs.lemmas.List.Elements.All-append, proofs.lemmas.List.Elements.All-cons, proofs.lemmas.List.Elements.All-nil, specs.Prelude.◌==◌, specs.Prelude.⊤, specs.Prelude.All, specs.Prelude.Result, specs.Prelude.Ok, specs.Prelude.Err, specs.List.AllZip}
+use Rattle.std.{proofs.{Common.{ℕ, zero, suc, ℤ, Bool, true, false, cond, List, [], ◌∷◌, ◌++◌, map, Option, Some, None}, lemmas.List.Elements.{All-append, All-cons, All-nil}}, specs.{Prelude.{◌==◌, ⊤, All, Result, Ok, Err}, List.AllZip}}
 use Rattle.abc_lines.specs.declared.fault.Fault.{Fault}
 use Rattle.lay_springs.specs.declared.margin.Placed.{Placed}
 use Rattle.lay_pages.specs.{declared.filling.Spot.Spot, declared.stacking.Heights.Heights, declared.titles.TitleRow.TitleRow}
@@ -9,8 +8,7 @@ use Rattle.ps_text.specs.{declared.sheet.Item.Item, Range.InOrder, Range.IsAfter
 use Rattle.set_tune.specs.declared.tune.SetTune.{SetTune}
 use Rattle.set_book.specs.declared.outcome.Outcome.{Outcome}
 use Rattle.set_staves.specs.Marks.{system_at}
-use Rattle.set_pages.specs.Drawings.{Content, Drawing, title, system, all_drawings, content_items, drawings_from, drawn, outcome_drawings, result_drawings, row_at, system_contents, systems_of, title_contents, tune_items}
-use Rattle.set_pages.specs.{Ready.IsDrawn, Sheet.items_on, Sheet.pages_from}
+use Rattle.set_pages.specs.{Drawings.{Content, Drawing, title, system, all_drawings, content_items, drawings_from, drawn, outcome_drawings, result_drawings, row_at, system_contents, systems_of, title_contents, tune_items}, Ready.IsDrawn, Sheet.{items_on, pages_from}}
 
 -- each may stand behind any item
 abbrev pub BeginsFree : List Item → Type 0

@@ -1,7 +1,5 @@
 -- What stands on the pages of a book is what a reader looks for: the tunes one after another, each with the systems of its breaking.
-use Rattle.std.proofs.Common.{◌≡◌, refl, sym, ap, ap₂, ◌∙◌, subst, ℕ, ◌+◌, ◌≤◌, ℤ, pos, ◌+ℤ◌, ◌-ℤ◌, ◌≤ℤ◌, Bool, true, false, cond, List, [], ◌∷◌, ◌++◌, length, take, drop, map, flat_map, Some, None, arith}
-use Rattle.std.proofs.lemmas.{Int.ints, List.append-nil, List.append_assoc, List.Elements.All-cons, List.Elements.All-head, List.Elements.All-nil, List.Elements.All-tail}
-use Rattle.std.specs.{Prelude.All, Prelude.Result, Prelude.Ok, Prelude.Err, Prelude.nat_lt, List.AllZip}
+use Rattle.std.{proofs.{Common.{◌≡◌, refl, sym, ap, ap₂, ◌∙◌, subst, ℕ, ◌+◌, ◌≤◌, ℤ, pos, ◌+ℤ◌, ◌-ℤ◌, ◌≤ℤ◌, Bool, true, false, cond, List, [], ◌∷◌, ◌++◌, length, take, drop, map, flat_map, Some, None, arith}, lemmas.{Int.ints, List.{append-nil, append_assoc, Elements.{All-cons, All-head, All-nil, All-tail}}}}, specs.{Prelude.{All, Result, Ok, Err, nat_lt}, List.AllZip}}
 use Rattle.abc_lines.specs.declared.fault.Fault.{Fault}
 use Rattle.abc_header.specs.{declared.paper.Paper.Paper, Papers.IsGoodPaper, Papers.height_of, Papers.width_of}
 use Rattle.mus_score.specs.declared.score.Score.{Score}
@@ -14,10 +12,7 @@ use Rattle.ps_text.specs.{declared.sheet.Item.Item, declared.sheet.Page.Page, de
 use Rattle.set_tune.specs.{declared.tune.SetTune.SetTune, Blocks.blocks_of, Blocks.system_blocks, Blocks.title_blocks}
 use Rattle.set_book.specs.declared.outcome.Outcome.{Outcome}
 use Rattle.set_staves.{specs.Marks.staves_at, specs.Marks.system_at, proofs.Shown.has_columns, proofs.Shown.shows_call}
-use Rattle.set_pages.specs.{declared.pages.Pages.Pages, Drawings.Drawing, Drawings.all_blocks, Drawings.all_drawings, Drawings.drawings_from, Drawings.drawn, Drawings.outcome_blocks, Drawings.outcome_drawings}
-use Rattle.set_pages.specs.{Drawings.result_blocks, Drawings.result_drawings, Drawings.row_at, Drawings.system_contents, Drawings.title_contents, Filling.no_pages, Filling.turned, Filling.with_drawing, Filling.with_drawings, Filling.with_items}
-use Rattle.set_pages.specs.{Clear.AreUnder, Read.ShowSystems, Read.ShowsOutcome, Read.ShowsResult, Read.ShowsRow, Read.ShowsSystem, Read.ShowsTune, Read.begun, Read.items_in, Ready.AreRising, Sheet.IsSetResult, Sheet.IsSetUnder, Sheet.pages_of}
-use Rattle.set_pages.proofs.{Blocking.columns_rise, Blocking.result_laid, Laying.AreLaid, Laying.IsLaidSystem, Readying.result_whole, Stacks.are_under, Stacks.stacked_count, Standing.result_count, Turned.all_put, Turned.closed}
+use Rattle.set_pages.{specs.{declared.pages.Pages.Pages, Drawings.{Drawing, all_blocks, all_drawings, drawings_from, drawn, outcome_blocks, outcome_drawings, result_blocks, result_drawings, row_at, system_contents, title_contents}, Filling.{no_pages, turned, with_drawing, with_drawings, with_items}, Clear.AreUnder, Read.{ShowSystems, ShowsOutcome, ShowsResult, ShowsRow, ShowsSystem, ShowsTune, begun, items_in}, Ready.AreRising, Sheet.{IsSetResult, IsSetUnder, pages_of}}, proofs.{Blocking.{columns_rise, result_laid}, Laying.{AreLaid, IsLaidSystem}, Readying.result_whole, Stacks.{are_under, stacked_count}, Standing.result_count, Turned.{all_put, closed}}}
 
 -- ---- the items of all pages are those that the blocks draw
 abbrev pub items_at : ℕ → List Drawing → List Spot → List Item

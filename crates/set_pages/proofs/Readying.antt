@@ -1,6 +1,5 @@
 -- What is set on a paper: a placement and good heights for each system of a tune, and no group that is higher than the page.
-use Rattle.std.proofs.Common.{◌≡◌, ◌∙◌, refl, sym, subst, ℕ, suc, ◌≤◌, Bool, true, false, if◌then◌else◌, List, [], ◌∷◌, length, None, arith}
-use Rattle.std.{proofs.lemmas.List.Elements.All-cons, proofs.lemmas.List.Elements.All-head, proofs.lemmas.List.Elements.All-nil, proofs.lemmas.List.Elements.All-tail, proofs.lemmas.List.Elements.All-weaker, specs.Prelude.All, specs.Prelude.Result, specs.Prelude.Ok, specs.Prelude.Err}
+use Rattle.std.{proofs.{Common.{◌≡◌, ◌∙◌, refl, sym, subst, ℕ, suc, ◌≤◌, Bool, true, false, if◌then◌else◌, List, [], ◌∷◌, length, None, arith}, lemmas.List.Elements.{All-cons, All-head, All-nil, All-tail, All-weaker}}, specs.Prelude.{All, Result, Ok, Err}}
 use Rattle.abc_lines.specs.{declared.book.TuneText.TuneText, declared.fault.Fault.Fault, declared.reading.Reading.Reading, Books.begins_tune, Books.book_of, Books.tune_at, Books.tunes_behind, Lines.readings, Lines.without_mark}
 use Rattle.abc_header.specs.{declared.defaults.Defaults.Defaults, declared.paper.Paper.Paper, Papers.height_of, Papers.width_of}
 use Rattle.lay_pages.specs.Filling.{first_tall}

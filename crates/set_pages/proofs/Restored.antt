@@ -1,6 +1,5 @@
 -- Pages are filled alike with those that were given up before them.
-use Rattle.std.proofs.Common.{◌≡◌, refl, sym, ap, ◌∙◌, ℕ, Bool, true, false, cond, List, [], ◌∷◌, length, arith}
-use Rattle.std.{proofs.lemmas.List.append_assoc, proofs.lemmas.List.length-append, specs.Prelude.nat_lt}
+use Rattle.std.{proofs.{Common.{◌≡◌, refl, sym, ap, ◌∙◌, ℕ, Bool, true, false, cond, List, [], ◌∷◌, length, arith}, lemmas.List.{append_assoc, length-append}}, specs.Prelude.nat_lt}
 use Rattle.lay_pages.specs.declared.filling.Spot.{Spot}
 use Rattle.ps_text.specs.declared.sheet.Page.{Page}
 use Rattle.set_pages.specs.{declared.pages.Pages.Pages, Drawings.Drawing, Drawings.drawn, Filling.at_page, Filling.done_count, Filling.restored, Filling.turned, Filling.with_drawing, Filling.with_drawings, Filling.with_items}

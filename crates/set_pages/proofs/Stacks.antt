@@ -1,6 +1,5 @@
 -- Staves under one another: each base lies between the top and the bottom of its system, and so do all marks.
-use Rattle.std.proofs.Common.{◌≡◌, refl, sym, ap, subst, ℕ, suc, ℤ, pos, ◌+ℤ◌, ◌-ℤ◌, ◌≤ℤ◌, List, [], ◌∷◌, map, length, arith}
-use Rattle.std.{proofs.lemmas.Int.ints, proofs.lemmas.List.Elements.All-cons, proofs.lemmas.List.Elements.All-nil, specs.Prelude.All}
+use Rattle.std.{proofs.{Common.{◌≡◌, refl, sym, ap, subst, ℕ, suc, ℤ, pos, ◌+ℤ◌, ◌-ℤ◌, ◌≤ℤ◌, List, [], ◌∷◌, map, length, arith}, lemmas.{Int.ints, List.Elements.{All-cons, All-nil}}}, specs.Prelude.All}
 use Rattle.mus_score.specs.declared.score.Score.{Score}
 use Rattle.mus_time.specs.{declared.keys.ColumnKey.ColumnKey, Onsets.timeline_of}
 use Rattle.mus_drawn.specs.declared.drawn.DrawnVoice.{DrawnVoice}

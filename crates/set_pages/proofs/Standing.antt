@@ -1,6 +1,5 @@
 -- Blocks that fill pages: their pages rise by one at most, their tops lie on the page, and there is a drawing for each.
-use Rattle.std.proofs.Common.{◌≡◌, refl, ap, ◌∙◌, inl, inr, ℕ, suc, ◌+◌, ◌^◌, ◌≤◌, ℤ, pos, ◌-ℤ◌, ◌≤ℤ◌, Bool, List, [], ◌∷◌, ◌++◌, length, Option, Some, None, arith}
-use Rattle.std.{proofs.lemmas.Int.ints, proofs.lemmas.List.length-append, proofs.lemmas.List.Elements.All-head, proofs.lemmas.List.Elements.All-tail, specs.Prelude.◌⊎◌, specs.Prelude.All, specs.Prelude.Result, specs.Prelude.Ok, specs.Prelude.Err, specs.List.AllZip}
+use Rattle.std.{proofs.{Common.{◌≡◌, refl, ap, ◌∙◌, inl, inr, ℕ, suc, ◌+◌, ◌^◌, ◌≤◌, ℤ, pos, ◌-ℤ◌, ◌≤ℤ◌, Bool, List, [], ◌∷◌, ◌++◌, length, Option, Some, None, arith}, lemmas.{Int.ints, List.{length-append, Elements.{All-head, All-tail}}}}, specs.{Prelude.{◌⊎◌, All, Result, Ok, Err}, List.AllZip}}
 use Rattle.abc_lines.specs.declared.fault.Fault.{Fault}
 use Rattle.mus_laid.specs.declared.laid.SystemMarks.{SystemMarks}
 use Rattle.lay_springs.specs.declared.margin.Placed.{Placed}
@@ -8,8 +7,7 @@ use Rattle.lay_pages.specs.{declared.filling.Block.Block, declared.filling.Spot.
 use Rattle.set_tune.specs.{declared.tune.SetTune.SetTune, Blocks.blocks_of, Blocks.is_some_list, Blocks.system_blocks, Blocks.title_blocks}
 use Rattle.set_book.specs.declared.outcome.Outcome.{Outcome}
 use Rattle.set_staves.specs.Drawn.{IsTop}
-use Rattle.set_pages.specs.Drawings.{Content, Drawing, all_blocks, all_drawings, drawings_from, result_blocks, result_drawings, system_contents, systems_of, title_contents}
-use Rattle.set_pages.specs.Ready.{AreRising, AreRisingFrom, HasAllRows, IsReady, IsReadyOn, IsWhole, IsWholeResult}
+use Rattle.set_pages.specs.{Drawings.{Content, Drawing, all_blocks, all_drawings, drawings_from, result_blocks, result_drawings, system_contents, systems_of, title_contents}, Ready.{AreRising, AreRisingFrom, HasAllRows, IsReady, IsReadyOn, IsWhole, IsWholeResult}}
 
 -- pages rise by one at most
 comes_page : (high : ℕ) (block : Block) (spot next : Spot) → ComesBehind high block spot next → (next.page ≡ spot.page) ⊎ (next.page ≡ suc spot.page)

@@ -1,13 +1,11 @@
 -- One system more of a tune, and one outcome more of a book.
-use Rattle.std.proofs.Common.{◌≡◌, sym, ap, ◌∙◌, subst, ℕ, ◌+◌, ◌<◌, ◌≤◌, ℤ, map, List, [], ◌∷◌, ◌++◌, length, take, drop, get_or, Option, None, arith}
-use Rattle.std.{proofs.lemmas.List.append_assoc, proofs.lemmas.List.drop_more, proofs.lemmas.List.length-drop, proofs.lemmas.List.take_all, proofs.lemmas.List.Elements.All-map, proofs.lemmas.List.Elements.All-more, specs.Prelude.All, specs.Prelude.slice_index_or, specs.List.AllZip}
+use Rattle.std.{proofs.{Common.{◌≡◌, sym, ap, ◌∙◌, subst, ℕ, ◌+◌, ◌<◌, ◌≤◌, ℤ, map, List, [], ◌∷◌, ◌++◌, length, take, drop, get_or, Option, None, arith}, lemmas.List.{append_assoc, drop_more, length-drop, take_all, Elements.{All-map, All-more}}}, specs.{Prelude.{All, slice_index_or}, List.AllZip}}
 use Rattle.mus_laid.specs.declared.laid.SystemMarks.{SystemMarks}
 use Rattle.lay_springs.specs.declared.margin.Placed.{Placed}
 use Rattle.lay_pages.specs.declared.{filling.Spot.Spot, stacking.Heights.Heights, filling.Block.Block, titles.TitleRow.TitleRow}
 use Rattle.ps_text.specs.{declared.sheet.Item.Item, Range.IsItem}
 use Rattle.set_book.specs.declared.outcome.Outcome.{Outcome}
-use Rattle.set_pages.specs.{declared.pages.Pages.Pages, Drawings.all_blocks, Drawings.all_drawings, Drawings.drawing, Drawings.drawings_from, Drawings.outcome_blocks, Drawings.outcome_drawings, Drawings.row_at, Drawings.system, Drawings.system_contents, Filling.with_drawings, Ready.IsDrawn}
-use Rattle.set_pages.{specs.Ready.IsReady, specs.Ready.IsReadyAt, proofs.Turned.with_more, proofs.Standing.drawings_count, proofs.Standing.systems_count, proofs.Zips.zip_back, proofs.Zips.zip_front, proofs.Zips.zip_joined, proofs.Zips.zip_length}
+use Rattle.set_pages.{specs.{declared.pages.Pages.Pages, Drawings.{all_blocks, all_drawings, drawing, drawings_from, outcome_blocks, outcome_drawings, row_at, system, system_contents}, Filling.with_drawings, Ready.{IsDrawn, IsReady, IsReadyAt}}, proofs.{Turned.with_more, Standing.{drawings_count, systems_count}, Zips.{zip_back, zip_front, zip_joined, zip_length}}}
 
 pub cut_at : {X : Type 0} (xs : List X) (i : ℕ) (x : X) → i < length xs → x ≡ get_or xs i x → drop i xs ≡ x ∷ drop (i + 1) xs
 cut_at xs i x inside e = drop_more xs i x inside ∙ ap (λ y. y ∷ drop (i + 1) xs) (sym e)

@@ -1,17 +1,10 @@
 -- The whole sheet: its value, and that it may be written.
-use Rattle.std.proofs.Common.{◌≡◌, refl, sym, ap, ◌∙◌, subst, ℕ, ◌-◌, ◌*◌, ◌/◌, ◌+◌, ◌^◌, ◌<◌, ◌≤◌, List, [], ◌∷◌, ◌++◌, length, take, drop, Bool, true, false, Some, None, arith}
-use Rattle.std.proofs.{lemmas.List.append-nil, lemmas.List.append_assoc, lemmas.List.length-append, lemmas.List.take_all, lemmas.Option.none-some, lemmas.Bool.Decides.nat_tests, lemmas.List.Elements.All-nil}
-use Rattle.std.specs.{Prelude.All, Prelude.nat_lt, List.AllZip}
+use Rattle.std.{proofs.{Common.{◌≡◌, refl, sym, ap, ◌∙◌, subst, ℕ, ◌-◌, ◌*◌, ◌/◌, ◌+◌, ◌^◌, ◌<◌, ◌≤◌, List, [], ◌∷◌, ◌++◌, length, take, drop, Bool, true, false, Some, None, arith}, lemmas.{List.{append-nil, append_assoc, length-append, take_all, Elements.All-nil}, Option.none-some, Bool.Decides.nat_tests}}, specs.{Prelude.{All, nat_lt}, List.AllZip}}
 use Rattle.abc_header.specs.{declared.paper.Paper.Paper, Papers.IsGoodPaper, Papers.height_of, Papers.width_of}
-use Rattle.lay_pages.{specs.declared.filling.Block.Block, specs.declared.filling.Spot.Spot, specs.Even.AreSpots, specs.Even.AreStacked, specs.Filling.AreGoodBlocks, specs.Filling.AreWithin, specs.Filling.first_tall, specs.Filling.spots_of, proofs.Filled.filled_so, proofs.Fitting.ready_first}
-use Rattle.lay_pages.proofs.{Fitting.within_from, Pages.filled_stacked, Pages.one_spots}
+use Rattle.lay_pages.{specs.{declared.filling.{Block.Block, Spot.Spot}, Even.{AreSpots, AreStacked}, Filling.{AreGoodBlocks, AreWithin, first_tall, spots_of}}, proofs.{Filled.filled_so, Fitting.{ready_first, within_from}, Pages.{filled_stacked, one_spots}}}
 use Rattle.ps_text.specs.{declared.sheet.Frame.Frame, declared.sheet.Page.Page, declared.sheet.Sheet.Sheet, Range.IsFrame, Range.IsPage}
 use Rattle.set_book.specs.declared.outcome.Outcome.{Outcome}
-use Rattle.set_pages.specs.Press.{AreBlocksOn, AreLast, HasRoom, IsBookSheet, IsOpen, IsPressed, IsSheetOf, RisesBy, StandShown, behind_by, done_pages, next_behind, next_spots, no_press}
-use Rattle.set_pages.specs.{declared.plan.Plan.Plan, declared.pages.Pages.Pages, declared.press.Press.Press, Drawings.Drawing, Drawings.all_blocks, Drawings.all_drawings, Filling.done_count, Filling.no_pages, Filling.restored, Filling.turned, Filling.with_drawings, Ready.AreRising, Ready.IsDrawn}
-use Rattle.set_pages.specs.{Read.ShowsBook, Ready.IsReady, Ready.IsReadyOn, Sheet.AreStanding, Sheet.IsEvenPlan, Sheet.IsPlan, Sheet.IsSetUnder, Sheet.all_spots, Sheet.frame_of, Sheet.page_count, Sheet.pages_of, Sheet.points, Sheet.sheet_of}
-use Rattle.set_pages.proofs.{Fitting.all_fit, Fronts.all_left, Fronts.all_right, Fronts.done_first, Fronts.plan_rising, Joined.blocks_append, Joined.pressed_more, Ordered.all_begun, Ordered.pages_good, Blocking.all_ready, Reading.page_items, Reading.parts_at, Reading.parts_whole, Reading.shows_tunes, Readying.all_whole, Readying.each_fits}
-use Rattle.set_pages.proofs.{Standing.all_count, Standing.ready_at, Standing.rising, Turned.all_put, Turned.closed, Zips.zip_length}
+use Rattle.set_pages.{specs.{Press.{AreBlocksOn, AreLast, HasRoom, IsBookSheet, IsOpen, IsPressed, IsSheetOf, RisesBy, StandShown, behind_by, done_pages, next_behind, next_spots, no_press}, declared.{plan.Plan.Plan, pages.Pages.Pages, press.Press.Press}, Drawings.{Drawing, all_blocks, all_drawings}, Filling.{done_count, no_pages, restored, turned, with_drawings}, Ready.{AreRising, IsDrawn, IsReady, IsReadyOn}, Read.ShowsBook, Sheet.{AreStanding, IsEvenPlan, IsPlan, IsSetUnder, all_spots, frame_of, page_count, pages_of, points, sheet_of}}, proofs.{Fitting.all_fit, Fronts.{all_left, all_right, done_first, plan_rising}, Joined.{blocks_append, pressed_more}, Ordered.{all_begun, pages_good}, Blocking.all_ready, Reading.{page_items, parts_at, parts_whole, shows_tunes}, Readying.{all_whole, each_fits}, Standing.{all_count, ready_at, rising}, Turned.{all_put, closed}, Zips.zip_length}}
 
 -- no group of the book is too tall
 pub fits_at : (paper : Paper) (outcomes : List Outcome) (high : ℕ) (slice blocks : List Block) → high ≡ height_of paper → slice ≡ blocks → blocks ≡ all_blocks outcomes → All (IsSetUnder paper) outcomes → first_tall high slice ≡ None

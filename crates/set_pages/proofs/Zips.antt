@@ -1,6 +1,5 @@
 -- Two lists whose elements belong together one by one, cut in two and put together.
-use Rattle.std.proofs.Common.{◌≡◌, sym, List, [], ◌∷◌, ◌++◌, length, take, drop}
-use Rattle.std.{proofs.lemmas.Slice.Zip.AllZip-long, specs.List.AllZip}
+use Rattle.std.{proofs.{Common.{◌≡◌, sym, List, [], ◌∷◌, ◌++◌, length, take, drop}, lemmas.Slice.Zip.AllZip-long}, specs.List.AllZip}
 
 pub zip_length : {A B : Type 0} (R : A → B → Type 0) (xs : List A) (ys : List B) → AllZip R xs ys → length xs ≡ length ys
 zip_length R xs ys h = sym (AllZip-long R xs ys h)

@@ -2,8 +2,7 @@
 use Rattle.std.specs.{Prelude.◌≡◌, Prelude.⊤, Prelude.ℕ, Prelude.◌+◌, Prelude.◌-◌, Prelude.◌^◌, Prelude.◌<◌, Prelude.◌≤◌, Prelude.Bool, Prelude.List, Prelude.◌++◌, Prelude.Option, Prelude.None, Prelude.All, Prelude.length, Prelude.take, Prelude.drop, List.AllZip}
 use Rattle.abc_header.specs.{declared.paper.Paper.Paper, Papers.height_of, Papers.width_of}
 use Rattle.lay_pages.specs.{declared.filling.Block.Block, declared.filling.Spot.Spot, declared.filling.Standing.Standing, Filling.AreGoodBlocks, Filling.AreWithin, Filling.CanFollow, Filling.behind_after, Filling.spots_behind}
-use Rattle.set_pages.specs.Sheet.{AreStanding, IsPlan, IsSetUnder, all_spots, sheet_of}
-use Rattle.set_pages.specs.{declared.plan.Plan.Plan, declared.press.Press.Press, Drawings.all_blocks, Drawings.all_drawings, Filling.done_count, Filling.no_pages, Filling.restored, Filling.with_drawings, Read.ShowsBook, Ready.AreRising, Ready.IsDrawn}
+use Rattle.set_pages.specs.{Sheet.{AreStanding, IsPlan, IsSetUnder, all_spots, sheet_of}, declared.{plan.Plan.Plan, press.Press.Press}, Drawings.{all_blocks, all_drawings}, Filling.{done_count, no_pages, restored, with_drawings}, Read.ShowsBook, Ready.{AreRising, IsDrawn}}
 use Rattle.ps_text.specs.{declared.sheet.Page.Page, declared.sheet.Sheet.Sheet, Range.IsSheet}
 use Rattle.set_book.specs.declared.outcome.Outcome.{Outcome}
 

@@ -1,6 +1,5 @@
 -- What a reader finds on the pages of a book: its tunes one after another, and in each of their systems what the score calls for.
-use Rattle.std.specs.Prelude.{◌≡◌, ⊤, ℕ, ℤ, pos, List, [], ◌∷◌, ◌++◌, All, map, flat_map, Result, Ok, Err}
-use Rattle.std.specs.List.{AllZip}
+use Rattle.std.specs.{Prelude.{◌≡◌, ⊤, ℕ, ℤ, pos, List, [], ◌∷◌, ◌++◌, All, map, flat_map, Result, Ok, Err}, List.AllZip}
 use Rattle.abc_lines.specs.declared.fault.Fault.{Fault}
 use Rattle.abc_header.specs.{declared.paper.Paper.Paper, Papers.height_of, Papers.width_of}
 use Rattle.mus_laid.specs.declared.laid.SystemMarks.{SystemMarks}

@@ -4,9 +4,7 @@ ghost use Rattle.abc_header.specs.Papers.{IsGoodPaper, height_of};
 ghost use Rattle.ps_text.specs.declared.sheet.Page as page;
 ghost use Rattle.set_book.specs.declared.outcome.Outcome as outcome;
 ghost use Rattle.lay_pages.specs.Filling.{AreGoodBlocks, AreWithin, CanFollow, IsLoose, first_tall};
-ghost use Rattle.set_pages.specs.Drawings.{all_blocks};
-ghost use Rattle.set_pages.specs.Press.{AreLast, HasRoom, IsOpen, IsPressed, IsSheetOf, RisesBy, done_pages, next_behind, next_spots, no_press};
-ghost use Rattle.set_pages.specs.Sheet.{IsSetUnder};
+ghost use Rattle.set_pages.specs.{Drawings.all_blocks, Press.{AreLast, HasRoom, IsOpen, IsPressed, IsSheetOf, RisesBy, done_pages, next_behind, next_spots, no_press}, Sheet.IsSetUnder};
 ghost use Rattle.set_pages.specs.declared.plan.Plan as plan;
 
 use crate::blocks::all_blocks;

@@ -1,6 +1,5 @@
 -- What stands on a page has numbers of a page, and bytes that can be printed may be shown there.
-use Rattle.std.proofs.Common.{◌≡◌, ℕ, suc, ◌<◌, ℤ, pos, List, [], ◌∷◌, length, get_or, refl, sym, subst, arith}
-use Rattle.std.{proofs.lemmas.Bool.and_from, proofs.lemmas.Bool.and_parts, proofs.lemmas.Bool.Decides.nat_tests, proofs.lemmas.Int.ints, specs.List.All, specs.List.list_all, specs.Prelude.IsTrue}
+use Rattle.std.{proofs.{Common.{◌≡◌, ℕ, suc, ◌<◌, ℤ, pos, List, [], ◌∷◌, length, get_or, refl, sym, subst, arith}, lemmas.{Bool.{and_from, and_parts, Decides.nat_tests}, Int.ints}}, specs.{List.{All, list_all}, Prelude.IsTrue}}
 use Rattle.mus_laid.specs.Printed.{is_printable}
 use Rattle.ps_text.specs.Range.{IsEnd, IsNumber, IsOffset, IsSpan, IsStretch, IsWords, is_shown}
 use Rattle.lay_shown.specs.Texts.{IsPrinted}

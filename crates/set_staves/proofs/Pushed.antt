@@ -1,6 +1,5 @@
 -- A list that is made one value at a time.
-use Rattle.std.proofs.Common.{◌≡◌, ℕ, suc, ◌+◌, ◌<◌, ℤ, ◌+ℤ◌, List, [], ◌∷◌, ◌++◌, length, map, take, drop, get_or, All, sym, ap, ap₂, ◌∙◌, subst, add-one, drop-cons, append_assoc}
-use Rattle.std.proofs.{lemmas.List.map-append, lemmas.List.take_more, lemmas.List.Elements.All-push}
+use Rattle.std.proofs.{Common.{◌≡◌, ℕ, suc, ◌+◌, ◌<◌, ℤ, ◌+ℤ◌, List, [], ◌∷◌, ◌++◌, length, map, take, drop, get_or, All, sym, ap, ap₂, ◌∙◌, subst, add-one, drop-cons, append_assoc}, lemmas.List.{map-append, take_more, Elements.All-push}}
 use Rattle.mus_laid.specs.declared.laid.StaffMarks.{StaffMarks}
 use Rattle.ps_text.specs.declared.sheet.Staff.{Staff}
 use Rattle.set_staves.specs.Marks.{staff_at, staves_at}

@@ -1,6 +1,5 @@
 -- The ranks read off a system are those that its marks call for.
-use Rattle.std.proofs.Common.{◌≡◌, ℕ, zero, suc, ◌<◌, Bool, true, false, List, [], ◌∷◌, ◌++◌, length, map, get_or, ℤ, pos, ◌+ℤ◌, Some, refl, sym, ap, ap₂, subst, ◌∙◌, arith, flat_map}
-use Rattle.std.{proofs.lemmas.Bool.eqb-true, proofs.lemmas.List.map-append, proofs.lemmas.List.Elements.All-cons, proofs.lemmas.List.Elements.All-head, proofs.lemmas.List.Elements.All-nil, proofs.lemmas.List.Elements.All-tail, proofs.lemmas.List.Elements.recursion_from_All, specs.Prelude.IsTrue, specs.Prelude.◌==◌, specs.Prelude.◌||◌, specs.List.All, specs.List.AllByRecursion, specs.List.Contains, specs.List.cons_option, specs.List.list_any}
+use Rattle.std.{proofs.{Common.{◌≡◌, ℕ, zero, suc, ◌<◌, Bool, true, false, List, [], ◌∷◌, ◌++◌, length, map, get_or, ℤ, pos, ◌+ℤ◌, Some, refl, sym, ap, ap₂, subst, ◌∙◌, arith, flat_map}, lemmas.{Bool.eqb-true, List.{map-append, Elements.{All-cons, All-head, All-nil, All-tail, recursion_from_All}}}}, specs.{Prelude.{IsTrue, ◌==◌, ◌||◌}, List.{All, AllByRecursion, Contains, cons_option, list_any}}}
 use Rattle.mus_laid.specs.{declared.laid.Mark.Mark, declared.laid.Laid.Laid, declared.laid.StaffMarks.StaffMarks, Ranked.anchor_rank}
 use Rattle.ps_text.specs.{Ranks.anchor_of, Ranks.anchors, Ranks.rank_of, Ranks.ranked, Ranks.all_ranked, Ranks.ranks, declared.sheet.Staff.Staff}
 use Rattle.lay_shown.specs.Ranks.{AreAnchored, AreRanked, IsRanked, marks_ranks, staves_ranks}

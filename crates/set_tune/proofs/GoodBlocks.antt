@@ -1,6 +1,5 @@
 -- The blocks of a tune have good heights.
-use Rattle.std.proofs.Common.{ℕ, ◌≤◌, ◌^◌, pos, ◌≤ℤ◌, Bool, List, [], ◌∷◌, ◌++◌, arith}
-use Rattle.std.{proofs.lemmas.Int.ints, proofs.lemmas.List.Elements.All-head, proofs.lemmas.List.Elements.All-tail, specs.List.All}
+use Rattle.std.{proofs.{Common.{ℕ, ◌≤◌, ◌^◌, pos, ◌≤ℤ◌, Bool, List, [], ◌∷◌, ◌++◌, arith}, lemmas.{Int.ints, List.Elements.{All-head, All-tail}}}, specs.List.All}
 use Rattle.lay_pages.specs.{declared.stacking.Heights.Heights, declared.titles.TitleRow.TitleRow, Filling.AreGoodBlocks}
 use Rattle.set_tune.specs.Blocks.{HasGoodHeight, block_height, system_blocks, title_blocks}
 

@@ -1,6 +1,5 @@
 -- What the setting of a tune rests on: a score with measures has a voice, a tune has few titles, and few blocks of good heights.
-use Rattle.std.proofs.Common.{◌≡◌, ℕ, ℤ, pos, negsuc, zero, suc, ◌+◌, ◌<◌, ◌≤◌, ◌^◌, Bool, List, [], ◌∷◌, ◌++◌, length, map, take, Option, Some, None, Result, Ok, Err, sym, subst, refl, arith}
-use Rattle.std.{proofs.lemmas.List.length-append, proofs.lemmas.List.length-map, proofs.lemmas.List.Sums.sum_by-cons, proofs.lemmas.Option.same_Some, proofs.lemmas.List.Elements.All-cons, proofs.lemmas.List.Elements.All-nil, specs.List.cons_option, specs.List.All, specs.List.filter_map}
+use Rattle.std.{proofs.{Common.{◌≡◌, ℕ, ℤ, pos, negsuc, zero, suc, ◌+◌, ◌<◌, ◌≤◌, ◌^◌, Bool, List, [], ◌∷◌, ◌++◌, length, map, take, Option, Some, None, Result, Ok, Err, sym, subst, refl, arith}, lemmas.{List.{length-append, length-map, Sums.sum_by-cons, Elements.{All-cons, All-nil}}, Option.same_Some}}, specs.List.{cons_option, All, filter_map}}
 use Rattle.abc_lines.specs.{declared.book.Line.Line, declared.book.TuneText.TuneText, declared.fault.Fault.Fault, declared.fault.FaultKind.FaultKind, Good.IsGoodTune, Good.size_of}
 use Rattle.abc_fields.specs.{declared.field.Field.Field, Fields.field_of}
 use Rattle.abc_header.specs.{declared.defaults.Defaults.Defaults, declared.header.Header.Header, Headers.IsHeaderBy, Headers.IsHeaderOf, Headers.composer_in, Headers.fields_of, Headers.key_place, Headers.put_field, Headers.title_in}

@@ -1,12 +1,10 @@
-ghost use Rattle.std.specs.Prelude.{◌≡◌, ◌≤◌, ◌<◌, ◌^◌, ℕ, length, IfErr, IfOk, IfSome, None, Some, Ok};
-ghost use Rattle.std.specs.Option.{option_copied};
+ghost use Rattle.std.specs.{Prelude.{◌≡◌, ◌≤◌, ◌<◌, ◌^◌, ℕ, length, IfErr, IfOk, IfSome, None, Some, Ok}, Option.option_copied};
 ghost use Rattle.mus_score.specs.GoodScore.{IsGoodScore};
 ghost use Rattle.abc_lines.specs.Good.{IsGoodTune};
 ghost use Rattle.abc_lines.specs.declared.fault.TuneError.TheVariants as errors;
 ghost use Rattle.abc_header.specs.{Good.IsGoodDefaults, Headers.first_line, Papers.IsGoodPaper, Papers.height_of, Papers.width_of};
 ghost use Rattle.lay_pages.specs.{Filling.first_tall, Titles.title_block_of};
-ghost use Rattle.set_tune.specs.{Blocks.blocks_of, How.unmoved};
-ghost use Rattle.set_tune.specs.Setting.{HasScore, IsDrawn, IsDrawRefusal, IsLaid, IsLaidOut, IsLayoutRefusal, IsMoveRefusal, IsMovedRefusal, IsRefusal, IsScoreRefusal, IsSetTune, IsTallRefusal, IsWritten, layout_fault, share_fault};
+ghost use Rattle.set_tune.specs.{Blocks.blocks_of, How.unmoved, Setting.{HasScore, IsDrawn, IsDrawRefusal, IsLaid, IsLaidOut, IsLayoutRefusal, IsMoveRefusal, IsMovedRefusal, IsRefusal, IsScoreRefusal, IsSetTune, IsTallRefusal, IsWritten, layout_fault, share_fault}};
 ghost use Rattle.lay_shared.specs.{Plans.IsPlanFor, Plans.Spells, Plans.ids_of, declared.plan.Plan.Plan};
 ghost use Rattle.mus_transpose.specs.Moved.{IsMoved};
 

@@ -1,5 +1,4 @@
-use Rattle.std.proofs.Common.{◌≡◌, ◌++◌, take, drop, length, sym, subst, arith}
-use Rattle.std.proofs.lemmas.Grind.{common_steps}
+use Rattle.std.proofs.{Common.{◌≡◌, ◌++◌, take, drop, length, sym, subst, arith}, lemmas.Grind.common_steps}
 use Rattle.abc_faults.{specs.Weights.AreInOrder, proofs.Orders.order_from_sorted}
 use Rattle.abc_faults.proofs.crowd.in_order.Goals as goal
 

@@ -1,6 +1,5 @@
 use Rattle.std.proofs.Common.{◌≡◌, ◌∙◌, ◌+◌, [], sym, ap, subst, reverse, take, drop, arith}
-use Rattle.abc_faults.{specs.First.IsFirst, specs.First.first_of, specs.Faults.faults_of, specs.Faults.faults_in, specs.Weights.weights_of, specs.Weights.weights_in, proofs.Firsts.found_more, proofs.Firsts.first_is, proofs.Walks.nearest, proofs.Walks.walk_parts, proofs.Walks.walk_done}
-use Rattle.abc_faults.proofs.Walks.{weigh_parts, weigh_more}
+use Rattle.abc_faults.{specs.{First.{IsFirst, first_of}, Faults.{faults_of, faults_in}, Weights.{weights_of, weights_in}}, proofs.{Firsts.{found_more, first_is}, Walks.{nearest, walk_parts, walk_done, weigh_parts, weigh_more}}}
 use Rattle.abc_steps.specs.Places.{place_at}
 use Rattle.abc_faults.proofs.voice.judge_voice.Goals as goal
 

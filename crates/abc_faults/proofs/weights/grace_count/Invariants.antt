@@ -1,5 +1,4 @@
-use Rattle.std.proofs.Common.{◌≡◌, ◌≤◌, ◌*◌, length, take}
-use Rattle.std.specs.Prelude.{sum_by}
+use Rattle.std.{proofs.Common.{◌≡◌, ◌≤◌, ◌*◌, length, take}, specs.Prelude.sum_by}
 use Rattle.abc_faults.proofs.weights.grace_count.Given as goal
 
 abbrev pub invariant-loop-chord : goal.invariant-loop-chord

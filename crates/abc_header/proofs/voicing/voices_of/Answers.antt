@@ -1,5 +1,4 @@
-use Rattle.std.proofs.Common.{◌≡◌, ◌∙◌, ap, map, subst}
-use Rattle.std.specs.Prelude.{IfOk}
+use Rattle.std.{proofs.Common.{◌≡◌, ◌∙◌, ap, map, subst}, specs.Prelude.IfOk}
 use Rattle.abc_header.{specs.Voicing.voice_from, proofs.VoiceLaws.voices_by_key}
 use Rattle.abc_header.proofs.voicing.voices_of.Goals as goal
 

@@ -1,5 +1,4 @@
-use Rattle.std.proofs.Common.{rules, ◌≡◌, ◌∷◌, [], ◌++◌, subst, sym, All}
-use Rattle.std.proofs.lemmas.List.Elements.{All-push}
+use Rattle.std.proofs.{Common.{rules, ◌≡◌, ◌∷◌, [], ◌++◌, subst, sym, All}, lemmas.List.Elements.All-push}
 use Rattle.abc_items.specs.Good.{IsGoodItem}
 use Rattle.abc_items.proofs.body.put_item.Goals as goal
 

@@ -1,7 +1,5 @@
 use Rattle.std.proofs.Common.{rules, ◌≡◌, ◌^◌, arith, ap, sym, ◌∙◌, Some, length, take, drop, ◌-◌, ◌+◌, ◌≤◌, ◌∷◌, ◌||◌, option_map, eqb-true}
-use Rattle.abc_notes.proofs.CrossLaws.{brace_upto, passing-begins, passing-found, closing-behind, rest-behind, passing-small, passing-size, passing-next, passing-ends, all-in-chord, clear-none, item-brace, item-at, length_shorter, brace_fits, past_is, chord-brace}
-use Rattle.abc_notes.{specs.Items.sense_of, specs.Items.is_note, specs.Graces.is_in_grace, specs.Graces.body_of_item, specs.Graces.item_has_length, specs.Graces.inside_of_item, specs.Parts.later_or, proofs.InnerLaws.found_inner, proofs.InnerLaws.none_inner, proofs.InnerLaws.inner_less}
-use Rattle.abc_notes.proofs.{CutLaws.none_left, GraceLaws.found_part, GraceLaws.none_part, GraceLaws.part_less, GraceLaws.seeking-begins, GraceLaws.seeking-next, GraceLaws.seeking-ends, GraceLaws.all-within}
+use Rattle.abc_notes.{proofs.{CrossLaws.{brace_upto, passing-begins, passing-found, closing-behind, rest-behind, passing-small, passing-size, passing-next, passing-ends, all-in-chord, clear-none, item-brace, item-at, length_shorter, brace_fits, past_is, chord-brace}, InnerLaws.{found_inner, none_inner, inner_less}, CutLaws.none_left, GraceLaws.{found_part, none_part, part_less, seeking-begins, seeking-next, seeking-ends, all-within}}, specs.{Items.{sense_of, is_note}, Graces.{is_in_grace, body_of_item, item_has_length, inside_of_item}, Parts.later_or}}
 use Rattle.abc_notes.proofs.grace.+braces.Goals as goal
 
 pub brace_at-parts-init : goal.brace_at-parts-init

@@ -1,5 +1,4 @@
-use Rattle.std.proofs.Common.{sym, ◌∙◌, length, eqb-true}
-use Rattle.std.proofs.lemmas.Bool.{eqb-false}
+use Rattle.std.proofs.{Common.{sym, ◌∙◌, length, eqb-true}, lemmas.Bool.eqb-false}
 use Rattle.abc_notes.proofs.GraceLaws.{grace-unclosed, grace-open, grace-flawed}
 use Rattle.abc_notes.proofs.grace.grace_fault.Goals as goal
 

@@ -1,5 +1,4 @@
-use Rattle.std.proofs.Common.{ℕ, ◌≡◌, ◌<◌, ◌≤◌, ◌-◌, ◌+◌, ◌*◌, arith, refl, add-one, get_or, take}
-use Rattle.std.{proofs.lemmas.Int.Digits.digits_value_more, specs.Str.Parse.digits_value, specs.Char.digit_value}
+use Rattle.std.{proofs.{Common.{ℕ, ◌≡◌, ◌<◌, ◌≤◌, ◌-◌, ◌+◌, ◌*◌, arith, refl, add-one, get_or, take}, lemmas.Int.Digits.digits_value_more}, specs.{Str.Parse.digits_value, Char.digit_value}}
 use Rattle.abc_notes.proofs.Bounds.{limit_step, digit_range, digit_at, digit_value-is}
 use Rattle.abc_notes.proofs.length.number_value.Goals as goal
 

@@ -1,5 +1,4 @@
-use Rattle.std.proofs.Common.{◌∙◌, ◌++◌, List, ap, subst, sym}
-use Rattle.std.specs.Prelude.{flat_map}
+use Rattle.std.{proofs.Common.{◌∙◌, ◌++◌, List, ap, subst, sym}, specs.Prelude.flat_map}
 use Rattle.abc_faults.{specs.declared.weights.Weight.Weight, specs.First.IsFirst, specs.Weights.crowded, proofs.Firsts.first_is}
 use Rattle.abc_score.specs.Faults.{voice_faults, voice_weights}
 use Rattle.abc_score.proofs.faults.fault_of_score.Goals as goal

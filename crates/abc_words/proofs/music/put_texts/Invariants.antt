@@ -1,5 +1,4 @@
-use Rattle.std.proofs.Common.{◌≡◌, ◌<◌, ℕ, length, slice_index_or}
-use Rattle.std.specs.Vec.Iter.{into_iter_items, into_iter_len}
+use Rattle.std.{proofs.Common.{◌≡◌, ◌<◌, ℕ, length, slice_index_or}, specs.Vec.Iter.{into_iter_items, into_iter_len}}
 use Rattle.abc_words.specs.Words.{no_music, texts_on, with_texts}
 use Rattle.abc_words.proofs.music.put_texts.Given as goal
 

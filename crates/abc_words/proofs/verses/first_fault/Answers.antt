@@ -1,5 +1,4 @@
-use Rattle.std.proofs.Common.{◌<◌, ◌≤◌, length, take, slice_index, arith, ap, ◌∙◌}
-use Rattle.std.specs.Prelude.{Some}
+use Rattle.std.{proofs.Common.{◌<◌, ◌≤◌, length, take, slice_index, arith, ap, ◌∙◌}, specs.Prelude.Some}
 use Rattle.abc_words.{specs.Verses.number_on, proofs.FaultLaws.counted_on, proofs.FaultLaws.fault_found, proofs.FaultLaws.faults_on, proofs.FaultLaws.row_inside}
 use Rattle.abc_words.proofs.verses.first_fault.Goals as goal
 

@@ -1,5 +1,4 @@
-use Rattle.std.proofs.Common.{◌≡◌, ◌∙◌, ap, map, length, slice_index_or, None, arith}
-use Rattle.std.{proofs.lemmas.List.FromFn.length-map-range_with_len, specs.List.range_with_len}
+use Rattle.std.{proofs.{Common.{◌≡◌, ◌∙◌, ap, map, length, slice_index_or, None, arith}, lemmas.List.FromFn.length-map-range_with_len}, specs.List.range_with_len}
 use Rattle.abc_words.{specs.Verses.verse_count, specs.Words.event_words, specs.Words.music_rows, specs.Words.words_of, proofs.OwnLaws.no_words_elsewhere, proofs.OwnLaws.own_words, proofs.Places.made_more, proofs.WordLaws.all_long, proofs.WordLaws.at_event, proofs.WordLaws.verse_places}
 use Rattle.abc_words.proofs.words.words_of.Goals as goal
 

@@ -1,7 +1,6 @@
 use Rattle.std.{proofs.Common.◌≡◌, proofs.Common.◌∙◌, proofs.Common.◌+◌, proofs.Common.◌^◌, proofs.Common.◌<◌, proofs.Common.length, proofs.Common.sym, proofs.Common.subst, proofs.Common.ap, proofs.Common.rules, proofs.Common.Err, specs.Prelude.All}
 use Rattle.ps_text.specs.Range.{IsPage}
-use Rattle.abcps.proofs.Closing.{end_stopped, end_took, last_few, last_good, pages_stopped}
-use Rattle.abcps.{specs.Pressed.IsClosed, specs.Pressed.status_if, specs.Status.status_after, specs.declared.status.Status.Status, proofs.Sent.memory_first, proofs.Sent.step_stopped, proofs.Sent.stream}
+use Rattle.abcps.{proofs.{Closing.{end_stopped, end_took, last_few, last_good, pages_stopped}, Sent.{memory_first, step_stopped, stream}}, specs.{Pressed.{IsClosed, status_if}, Status.status_after, declared.status.Status.Status}}
 use Rattle.abcps.proofs.pressing.end_run.Goals as goal
 use Rattle.set_pages.specs.Press.{AreLast}
 

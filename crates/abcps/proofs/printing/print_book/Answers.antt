@@ -1,8 +1,7 @@
 use Rattle.std.{proofs.Common.◌≡◌, proofs.Common.◌∙◌, proofs.Common.refl, proofs.Common.sym, proofs.Common.ap, proofs.Common.subst, proofs.Common.rules, proofs.Common.Err, specs.Prelude.All}
 use Rattle.abc_lines.specs.declared.book.Book.{Book}
 use Rattle.abc_header.specs.Papers.{IsGoodPaper}
-use Rattle.abcps.specs.Pressed.{unbegun, AreCutOff, AreRunning, IsPlanned, IsPrinted}
-use Rattle.abcps.{specs.declared.status.Status.Status, specs.Books.paper_in, specs.Outcome.IsQuiet, proofs.Batches.IsCounted, proofs.Cut.of_book, proofs.Cut.printed, proofs.Cut.unprinted, proofs.Sent.stream}
+use Rattle.abcps.{specs.{Pressed.{unbegun, AreCutOff, AreRunning, IsPlanned, IsPrinted}, declared.status.Status.Status, Books.paper_in, Outcome.IsQuiet}, proofs.{Batches.IsCounted, Cut.{of_book, printed, unprinted}, Sent.stream}}
 use Rattle.abcps.proofs.printing.print_book.Goals as goal
 use Rattle.set_pages.proofs.Readying.{book_counted}
 

@@ -1,7 +1,6 @@
 use Rattle.std.{proofs.Common.◌≡◌, proofs.Common.refl, proofs.Common.sym, proofs.Common.subst, proofs.Common.rules, proofs.Common.Err, proofs.lemmas.List.Elements.All-drop, proofs.lemmas.List.Elements.All-take, specs.Prelude.All}
 use Rattle.abc_lines.specs.Good.{IsGoodTune}
-use Rattle.abcps.proofs.Batches.{IsCounted, cut_first, cut_memory, cut_written, underway_first, underway_more, underway_written}
-use Rattle.abcps.{specs.Pressed.ArePrinted, specs.declared.status.Status.Status, proofs.Cut.planned_rises, proofs.Cut.room_underway, proofs.Sent.stream}
+use Rattle.abcps.{proofs.{Batches.{IsCounted, cut_first, cut_memory, cut_written, underway_first, underway_more, underway_written}, Cut.{planned_rises, room_underway}, Sent.stream}, specs.{Pressed.ArePrinted, declared.status.Status.Status}}
 use Rattle.abcps.proofs.printing.print_tunes.Goals as goal
 
 pub returns-in_err-run : goal.returns-in_err-run

@@ -1,5 +1,4 @@
-use Rattle.std.proofs.{Common.decimal, Common.◌∙◌, Common.ap, lemmas.Fmt.parse-decimal, lemmas.Fmt.IsAscii-decimal, lemmas.Str.IsUtf8-from_ascii}
-use Rattle.std.specs.Result.{result_ok}
+use Rattle.std.{proofs.{Common.{decimal, ◌∙◌, ap}, lemmas.{Fmt.{parse-decimal, IsAscii-decimal}, Str.IsUtf8-from_ascii}}, specs.Result.result_ok}
 use Rattle.eng_lines.proofs.numbers.parsed.Goals as goal
 
 pub returns-in-Ok : goal.returns-in-Ok

@@ -1,5 +1,4 @@
-use Rattle.std.proofs.Common.{rules, ◌≡◌, arith, ℤ, to_z, of_z, w32, w64, append_assoc, FitsSigned}
-use Rattle.std.proofs.lemmas.Int.{ints}
+use Rattle.std.proofs.{Common.{rules, ◌≡◌, arith, ℤ, to_z, of_z, w32, w64, append_assoc, FitsSigned}, lemmas.Int.ints}
 use Rattle.glyph_paths.proofs.procedures.put_step.Goals as goal
 
 -- a coordinate that was widened and passed on is the coordinate

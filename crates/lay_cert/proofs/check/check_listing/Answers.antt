@@ -1,6 +1,5 @@
 use Rattle.std.proofs.{Common.◌==◌, Common.◌∷◌, Common.IfSome, Common.length, Common.ap, Common.sym, Common.◌∙◌, Common.subst, Common.arith, lemmas.List.length-append, lemmas.Bool.true≢false}
-use Rattle.lay_cert.proofs.Judging.{IsReading, first_fault, stuck_at_line, stuck_at_end, reading_more, judged_all, ended_stage, no_length}
-use Rattle.lay_cert.specs.Stands.{IsStep, IsSound, Stands}
+use Rattle.lay_cert.{proofs.Judging.{IsReading, first_fault, stuck_at_line, stuck_at_end, reading_more, judged_all, ended_stage, no_length}, specs.Stands.{IsStep, IsSound, Stands}}
 use Rattle.lay_cert.proofs.check.check_listing.Goals as goal
 
 pub returns-in_default-2-clause-cause : goal.returns-in_default-2-clause-cause

@@ -1,6 +1,5 @@
 use Rattle.std.{proofs.Common.◌≡◌, proofs.Common.map, proofs.Common.length, proofs.Common.sym, proofs.Common.ap, proofs.Common.◌∙◌, proofs.Common.subst, proofs.Common.arith, proofs.lemmas.List.take_at, specs.List.All}
-use Rattle.lay_columns.{specs.Columns.columns_of, specs.Columns.CoverMarks, specs.Columns.IsSmall, specs.Columns.IsUncut, specs.Columns.StandsWhereDue, specs.Lanes.gaps_of, specs.Widened.bare_columns, specs.Widened.widened_by_staves, proofs.Covering.columns_cover, proofs.Facts.columns_keys}
-use Rattle.lay_columns.proofs.{Facts.columns_long, Facts.columns_small, Facts.columns_stand, Facts.columns_uncut, Widening.bare_long, Widening.columns_are, Widening.columns_many}
+use Rattle.lay_columns.{specs.{Columns.{columns_of, CoverMarks, IsSmall, IsUncut, StandsWhereDue}, Lanes.gaps_of, Widened.{bare_columns, widened_by_staves}}, proofs.{Covering.columns_cover, Facts.{columns_keys, columns_long, columns_small, columns_stand, columns_uncut}, Widening.{bare_long, columns_are, columns_many}}}
 use Rattle.lay_columns.proofs.system.columns_in.Goals as goal
 
 pub returns-clause-value : goal.returns-clause-value

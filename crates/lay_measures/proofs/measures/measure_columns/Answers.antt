@@ -1,5 +1,4 @@
-use Rattle.std.proofs.Common.{◌≡◌, ◌∙◌, ◌+◌, ◌≤◌, ◌==◌, length, map, ap, subst, sym, arith}
-use Rattle.std.specs.List.{All, Contains, slice_index}
+use Rattle.std.{proofs.Common.{◌≡◌, ◌∙◌, ◌+◌, ◌≤◌, ◌==◌, length, map, ap, subst, sym, arith}, specs.List.{All, Contains, slice_index}}
 use Rattle.mus_time.{specs.declared.keys.Class.Class, proofs.Places.length_of_lengths, specs.Keys.IsInSystem, specs.Keys.key_at, specs.Order.Rises, specs.Ranks.AreRanked}
 use Rattle.mus_score.specs.Seats.{grouped}
 use Rattle.mus_marks.{specs.Staff.verses_on, specs.System.stands_lower, proofs.Fitting.few_verses, proofs.Lines.voices_count}

@@ -1,5 +1,4 @@
-use Rattle.std.proofs.Common.{rules, ◌≤◌, append-nil, length, sym}
-use Rattle.std.proofs.lemmas.Option.{slice_get_past}
+use Rattle.std.proofs.{Common.{rules, ◌≤◌, append-nil, length, sym}, lemmas.Option.slice_get_past}
 use Rattle.lay_shared.proofs.drawing.put_voice.Goals as goal
 
 pub returns-in-None : goal.returns-in-None

@@ -1,5 +1,4 @@
-use Rattle.std.proofs.Common.{◌≡◌, ◌∙◌, sym, subst, length, IfSome, Some, []}
-use Rattle.std.proofs.lemmas.Result.{IfOk-weaker}
+use Rattle.std.proofs.{Common.{◌≡◌, ◌∙◌, sym, subst, length, IfSome, Some, []}, lemmas.Result.IfOk-weaker}
 use Rattle.lay_shared.{specs.declared.plan.Plan.Plan, specs.Plans.IsPlanFor, specs.Plans.Spells, specs.Reading.plan_by, specs.Reading.signs_from, proofs.PlanLaws.read-good, proofs.PlanLaws.read-spells, proofs.PlanLaws.spelled-read}
 use Rattle.lay_shared.proofs.plan.read_plan.Goals as goal
 

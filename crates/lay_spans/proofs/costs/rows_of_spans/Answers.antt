@@ -1,5 +1,4 @@
-use Rattle.std.proofs.Common.{◌≡◌, ◌-◌, ◌+◌, ◌≤◌, ◌++◌, ◌∷◌, [], length, drop, arith, sym, subst}
-use Rattle.std.proofs.lemmas.List.{take_all, length-drop}
+use Rattle.std.proofs.{Common.{◌≡◌, ◌-◌, ◌+◌, ◌≤◌, ◌++◌, ◌∷◌, [], length, drop, arith, sym, subst}, lemmas.List.{take_all, length-drop}}
 use Rattle.lay_spans.{specs.Costs.rows_from, proofs.Leading.leading_within, proofs.Leading.rows_next}
 use Rattle.lay_spans.proofs.costs.rows_of_spans.Goals as goal
 

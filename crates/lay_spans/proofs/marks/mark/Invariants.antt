@@ -1,5 +1,4 @@
-use Rattle.std.proofs.Common.{◌≡◌, ◌==◌, ◌&&◌, nat_lt, ℕ, length, slice_index_or, take, false}
-use Rattle.std.specs.List.{list_any}
+use Rattle.std.{proofs.Common.{◌≡◌, ◌==◌, ◌&&◌, nat_lt, ℕ, length, slice_index_or, take, false}, specs.List.list_any}
 use Rattle.lay_spans.proofs.marks.mark.Given as goal
 
 abbrev pub invariant-loop-bar : goal.invariant-loop-bar

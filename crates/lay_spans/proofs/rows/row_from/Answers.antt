@@ -1,6 +1,5 @@
 use Rattle.std.proofs.Common.{◌≡◌, ◌+◌, ◌++◌, ◌<◌, ◌≤◌, ◌∷◌, [], map, length, length-append, false, slice_index_or, arith, sym, ◌∙◌, ap, subst, rules}
-use Rattle.lay_spans.{specs.Columns.span_columns, specs.SpanList.IsForce, specs.SpanList.IsCost, proofs.Fitting.force_of, proofs.Fitting.still_above, proofs.Fitting.never_stands, proofs.Growing.seen_more}
-use Rattle.lay_spans.proofs.{Growing.costs_more, Growing.free_more, Growing.stops_at, Growing.stops_behind, rows.row_from.Goals.After-greatest_force-arg-1, rows.row_from.Goals.In_ok-push}
+use Rattle.lay_spans.{specs.{Columns.span_columns, SpanList.{IsForce, IsCost}}, proofs.{Fitting.{force_of, still_above, never_stands}, Growing.{seen_more, costs_more, free_more, stops_at, stops_behind}, rows.row_from.Goals.{After-greatest_force-arg-1, In_ok-push}}}
 use Rattle.lay_spans.proofs.rows.row_from.Goals as goal
 
 inside : (g : _) (c : After-greatest_force-arg-1 g) → c.loop-m.m < length c.args.starts.now

@@ -1,7 +1,5 @@
-use Rattle.std.proofs.Common.{◌≡◌, ◌-◌, pos, ◌≤ℤ◌, length, Some, slice_get, slice_index_or, arith, refl, to_z, of_z, w64}
-use Rattle.std.proofs.{lemmas.Int.ints, lemmas.Int.to_z-of_z, lemmas.Option.slice_get_read}
-use Rattle.lay_springs.specs.Fit.{IsEndOf}
-use Rattle.lay_springs.proofs.{Ends.end_read, forces.end_at.Goals.After-end_of}
+use Rattle.std.proofs.{Common.{◌≡◌, ◌-◌, pos, ◌≤ℤ◌, length, Some, slice_get, slice_index_or, arith, refl, to_z, of_z, w64}, lemmas.{Int.{ints, to_z-of_z}, Option.slice_get_read}}
+use Rattle.lay_springs.{specs.Fit.IsEndOf, proofs.{Ends.end_read, forces.end_at.Goals.After-end_of}}
 use Rattle.lay_springs.proofs.forces.end_at.Goals as goal
 
 low : (g : _) (c : After-end_of g) → pos 0 ≤ℤ slice_index_or c.settle.new.at (length c.args.cols.now - 1) (pos 0)

@@ -1,6 +1,5 @@
 use Rattle.std.proofs.Common.{length, arith}
-use Rattle.lay_springs.specs.Place.{reach_at, length_at}
-use Rattle.lay_springs.proofs.{Ends.length_rises, Longer.cannot_stand}
+use Rattle.lay_springs.{specs.Place.{reach_at, length_at}, proofs.{Ends.length_rises, Longer.cannot_stand}}
 use Rattle.lay_springs.proofs.forces.fit_within.Goals as goal
 
 pub tight-requires-clause-small : goal.tight-requires-clause-small

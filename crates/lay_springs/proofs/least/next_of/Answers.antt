@@ -1,9 +1,5 @@
-use Rattle.std.proofs.Common.{◌≡◌, ◌+◌, ◌-◌, ◌*◌, ◌≤◌, ℤ, pos, ◌+ℤ◌, ◌≤ℤ◌, List, length, Some, slice_get, slice_index_or, to_z, of_z, w64, arith, sym, ◌∙◌, refl}
-use Rattle.std.proofs.{lemmas.Int.ints, lemmas.Int.to_z-of_z, lemmas.Option.slice_get_read}
-use Rattle.std.specs.Prelude.{FitsSigned}
-use Rattle.lay_springs.specs.Place.{length_at, reach_at, StandApart}
-use Rattle.lay_springs.proofs.Placing.{placed_more, length_is, past_read, past_written, near_at}
-use Rattle.lay_springs.proofs.{Fronts.front_clear, Fronts.front_below, Fronts.past_bound, least.next_of.Goals.After-past_front}
+use Rattle.std.{proofs.{Common.{◌≡◌, ◌+◌, ◌-◌, ◌*◌, ◌≤◌, ℤ, pos, ◌+ℤ◌, ◌≤ℤ◌, List, length, Some, slice_get, slice_index_or, to_z, of_z, w64, arith, sym, ◌∙◌, refl}, lemmas.{Int.{ints, to_z-of_z}, Option.slice_get_read}}, specs.Prelude.FitsSigned}
+use Rattle.lay_springs.{specs.Place.{length_at, reach_at, StandApart}, proofs.{Placing.{placed_more, length_is, past_read, past_written, near_at}, Fronts.{front_clear, front_below, past_bound}, least.next_of.Goals.After-past_front}}
 use Rattle.lay_springs.proofs.least.next_of.Goals as goal
 
 -- the spring that was read

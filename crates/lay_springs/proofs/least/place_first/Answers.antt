@@ -1,9 +1,5 @@
-use Rattle.std.proofs.Common.{◌≡◌, pos, ◌≤ℤ◌, length, Some, slice_get, slice_set, arith, refl, to_z, of_z, w64, get_or-set_same}
-use Rattle.std.proofs.{lemmas.Int.ints, lemmas.Int.to_z-of_z, lemmas.Option.slice_get_read}
-use Rattle.std.specs.Prelude.{FitsSigned}
-use Rattle.lay_springs.specs.Place.{reach_at}
-use Rattle.lay_springs.proofs.Placing.{placed_first, inside_read, inside_written, near_at, reach_is}
-use Rattle.lay_springs.proofs.{Clear.inside_bound, Fronts.front_more, Fronts.front_start, least.place_first.Goals.After-first_of-first}
+use Rattle.std.{proofs.{Common.{◌≡◌, pos, ◌≤ℤ◌, length, Some, slice_get, slice_set, arith, refl, to_z, of_z, w64, get_or-set_same}, lemmas.{Int.{ints, to_z-of_z}, Option.slice_get_read}}, specs.Prelude.FitsSigned}
+use Rattle.lay_springs.{specs.Place.reach_at, proofs.{Placing.{placed_first, inside_read, inside_written, near_at, reach_is}, Clear.inside_bound, Fronts.{front_more, front_start}, least.place_first.Goals.After-first_of-first}}
 use Rattle.lay_springs.proofs.least.place_first.Goals as goal
 
 bound : (g : _) (c : After-first_of-first g) → c.first_of-first.result ≤ℤ pos 1048576

@@ -1,8 +1,5 @@
-use Rattle.std.proofs.Common.{◌≡◌, ◌≢◌, ℤ, pos, length, Some, slice_get, slice_set, arith, refl, to_z, of_z, w64, get_or-set_same, get_or-set_other}
-use Rattle.std.proofs.{lemmas.Int.to_z-of_z, lemmas.Option.slice_get_read}
-use Rattle.std.specs.Prelude.{FitsSigned}
-use Rattle.lay_springs.specs.Place.{reach_at}
-use Rattle.lay_springs.proofs.{Placing.near_at, Placing.reach_is, Fronts.front_more}
+use Rattle.std.{proofs.{Common.{◌≡◌, ◌≢◌, ℤ, pos, length, Some, slice_get, slice_set, arith, refl, to_z, of_z, w64, get_or-set_same, get_or-set_other}, lemmas.{Int.to_z-of_z, Option.slice_get_read}}, specs.Prelude.FitsSigned}
+use Rattle.lay_springs.{specs.Place.reach_at, proofs.{Placing.{near_at, reach_is}, Fronts.front_more}}
 use Rattle.lay_springs.proofs.least.place_next.Goals as goal
 
 pub returns-clause-fronts : goal.returns-clause-fronts

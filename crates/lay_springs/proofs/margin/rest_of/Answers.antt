@@ -1,7 +1,5 @@
-use Rattle.std.proofs.Common.{◌≡◌, ◌-◌, ℤ, pos, length, Some, slice_get, slice_index_or, arith, refl, to_z, of_z, w64}
-use Rattle.std.proofs.{lemmas.Int.ints, lemmas.Option.slice_get_read}
-use Rattle.lay_springs.specs.{Place.reach_at, Fit.IsEndOf}
-use Rattle.lay_springs.proofs.{Ends.end_read, margin.rest_of.Goals.After-end_of}
+use Rattle.std.proofs.{Common.{◌≡◌, ◌-◌, ℤ, pos, length, Some, slice_get, slice_index_or, arith, refl, to_z, of_z, w64}, lemmas.{Int.ints, Option.slice_get_read}}
+use Rattle.lay_springs.{specs.{Place.reach_at, Fit.IsEndOf}, proofs.{Ends.end_read, margin.rest_of.Goals.After-end_of}}
 use Rattle.lay_springs.proofs.margin.rest_of.Goals as goal
 
 ends : (g : _) (c : After-end_of g) → IsEndOf (reach_at g.C.Spaced.reach_of c.args.cols.now (length c.args.cols.now - 1)) (length c.args.gaps.now)

@@ -1,6 +1,5 @@
 use Rattle.std.proofs.{Common.length, Common.arith, Common.refl, lemmas.Int.ints}
-use Rattle.lay_springs.specs.Place.{reach_at, length_at}
-use Rattle.lay_springs.proofs.{Ends.end_down, Moved.set_apart}
+use Rattle.lay_springs.{specs.Place.{reach_at, length_at}, proofs.{Ends.end_down, Moved.set_apart}}
 use Rattle.lay_springs.proofs.margin.set.Goals as goal
 
 pub rest_of-rest-requires-clause-fits : goal.rest_of-rest-requires-clause-fits

@@ -1,5 +1,4 @@
-use Rattle.std.proofs.Common.{◌≡◌, ◌+◌, ◌++◌, drop, map, not}
-use Rattle.std.specs.List.{filter}
+use Rattle.std.{proofs.Common.{◌≡◌, ◌+◌, ◌++◌, drop, map, not}, specs.List.filter}
 use Rattle.mus_score.specs.Seats.{stands_lower}
 use Rattle.lay_tune.specs.Systems.{gaps_between}
 use Rattle.lay_tune.proofs.gaps.gaps_between.Given as goal

@@ -1,5 +1,4 @@
-use Rattle.std.proofs.Common.{◌≡◌, ◌∙◌, ℕ, ◌+◌, ◌<◌, ◌≤◌, List, [], ◌∷◌, ◌++◌, drop, length, slice_index_or, sym, subst, arith}
-use Rattle.std.{proofs.lemmas.List.append-nil, proofs.lemmas.List.drop_all, proofs.lemmas.List.drop_more, proofs.lemmas.List.Elements.All-append, proofs.lemmas.List.Elements.All-cons, proofs.lemmas.List.Elements.All-nil, specs.List.All}
+use Rattle.std.{proofs.{Common.{◌≡◌, ◌∙◌, ℕ, ◌+◌, ◌<◌, ◌≤◌, List, [], ◌∷◌, ◌++◌, drop, length, slice_index_or, sym, subst, arith}, lemmas.List.{append-nil, drop_all, drop_more, Elements.{All-append, All-cons, All-nil}}}, specs.List.All}
 use Rattle.mus_laid.specs.{Boxes.AreGoodMarks, declared.laid.SystemMarks.SystemMarks}
 use Rattle.lay_springs.specs.declared.margin.Placed.{Placed}
 use Rattle.lay_tune.{specs.Systems.AllSpans, specs.Systems.Beside, specs.Systems.CanBeSet, specs.Systems.EachSpan, specs.Systems.IsSetSystem, specs.Systems.IsStack, proofs.Rows.beside_more, proofs.Rows.span_more}

@@ -1,5 +1,4 @@
-use Rattle.std.proofs.Common.{◌≡◌, ◌++◌, List, drop, length, map}
-use Rattle.std.specs.List.{All}
+use Rattle.std.{proofs.Common.{◌≡◌, ◌++◌, List, drop, length, map}, specs.List.All}
 use Rattle.mus_laid.specs.{declared.laid.SystemMarks.SystemMarks, Boxes.AreGoodMarks}
 use Rattle.mus_drawn.specs.Drawn.{drawn_voice}
 use Rattle.lay_springs.specs.declared.margin.Placed.{Placed}

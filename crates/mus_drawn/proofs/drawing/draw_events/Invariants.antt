@@ -1,5 +1,4 @@
-use Rattle.std.proofs.Common.{◌≡◌, ◌≤◌, ◌+◌, ◌*◌, ◌++◌, length}
-use Rattle.std.specs.Vec.Iter.{into_iter_items, into_iter_len}
+use Rattle.std.{proofs.Common.{◌≡◌, ◌≤◌, ◌+◌, ◌*◌, ◌++◌, length}, specs.Vec.Iter.{into_iter_items, into_iter_len}}
 use Rattle.mus_score.specs.Good.{longest_ticks, total_ticks}
 use Rattle.mus_drawn.specs.Drawn.{drawn_events}
 use Rattle.mus_drawn.proofs.drawing.draw_events.Given as goal

@@ -1,5 +1,4 @@
-use Rattle.std.proofs.Common.{◌≡◌, ◌∙◌, ◌+◌, [], ◌∷◌, ◌++◌, length, ap, subst, sym, arith}
-use Rattle.std.{proofs.lemmas.List.Elements.All-drop, proofs.lemmas.List.Elements.All-push, specs.List.All}
+use Rattle.std.{proofs.{Common.{◌≡◌, ◌∙◌, ◌+◌, [], ◌∷◌, ◌++◌, length, ap, subst, sym, arith}, lemmas.List.Elements.{All-drop, All-push}}, specs.List.All}
 use Rattle.mus_drawn.specs.Good.{AreGoodMeasures}
 use Rattle.mus_marks.{specs.Staff.CoversLines, specs.Staff.staff_marks, specs.Staff.verses_on, specs.System.stands_lower, proofs.Groups.group_step, proofs.Parts.verses_drop}
 use Rattle.mus_marks.proofs.staves.staves.Goals as goal

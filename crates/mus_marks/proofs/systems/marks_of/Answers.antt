@@ -1,5 +1,4 @@
-use Rattle.std.proofs.Common.{◌≡◌, ◌∙◌, ◌≤◌, length, map, refl, ap, subst, sym, arith}
-use Rattle.std.specs.List.{All}
+use Rattle.std.{proofs.Common.{◌≡◌, ◌∙◌, ◌≤◌, length, map, refl, ap, subst, sym, arith}, specs.List.All}
 use Rattle.mus_score.specs.Seats.{grouped}
 use Rattle.mus_time.{proofs.Places.length_of_lengths, specs.Ranks.AreRanked}
 use Rattle.mus_laid.specs.Boxes.{AreGoodMarks}

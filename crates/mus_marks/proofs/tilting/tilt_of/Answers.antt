@@ -1,5 +1,4 @@
-use Rattle.std.proofs.Common.{◌≡◌, ◌∙◌, ◌≤◌, length, map, refl, ap, subst, sym, arith}
-use Rattle.std.specs.List.{All, slice_range}
+use Rattle.std.{proofs.Common.{◌≡◌, ◌∙◌, ◌≤◌, length, map, refl, ap, subst, sym, arith}, specs.List.{All, slice_range}}
 use Rattle.mus_score.specs.Seats.{grouped}
 use Rattle.mus_time.{specs.Ranks.AreRanked, proofs.Places.length_of_lengths}
 use Rattle.mus_drawn.specs.Good.{AreGoodMeasures}

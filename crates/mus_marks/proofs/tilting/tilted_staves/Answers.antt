@@ -1,8 +1,6 @@
-use Rattle.std.proofs.Common.{◌≡◌, ◌∙◌, map, ap, subst, arith, length}
-use Rattle.std.specs.{List.slice_range, Prelude.IfOk}
+use Rattle.std.{proofs.Common.{◌≡◌, ◌∙◌, map, ap, subst, arith, length}, specs.{List.slice_range, Prelude.IfOk}}
 use Rattle.mus_score.specs.Seats.{grouped}
-use Rattle.mus_marks.specs.{Staff.staff_marks, System.stands_lower, Tilt.over, Tilt.plain_ends, Tilt.voice_ended}
-use Rattle.mus_marks.proofs.AllTilted.{all_tilted, put_back, staves_tilted, tilted_count, tilted_goods, tilted_verses}
+use Rattle.mus_marks.{specs.{Staff.staff_marks, System.stands_lower, Tilt.{over, plain_ends, voice_ended}}, proofs.AllTilted.{all_tilted, put_back, staves_tilted, tilted_count, tilted_goods, tilted_verses}}
 use Rattle.mus_marks.proofs.tilting.tilted_staves.Goals as goal
 
 pub staves-staves-requires-clause-each : goal.staves-staves-requires-clause-each

@@ -1,5 +1,4 @@
-use Rattle.std.proofs.Common.{◌≡◌, ◌-ℤ◌, refl, ◌∙◌, to_z, of_z, w32, w64, arith}
-use Rattle.std.proofs.lemmas.Int.{ints}
+use Rattle.std.proofs.{Common.{◌≡◌, ◌-ℤ◌, refl, ◌∙◌, to_z, of_z, w32, w64, arith}, lemmas.Int.ints}
 use Rattle.mus_stems.specs.Slope.{rise_at}
 use Rattle.mus_stems.proofs.slopes.rise.Goals as goal
 

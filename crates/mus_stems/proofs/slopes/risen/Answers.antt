@@ -1,5 +1,4 @@
-use Rattle.std.proofs.Common.{◌≡◌, ◌*ℤ◌, ◌≤ℤ◌, pos, negsuc, refl, ◌∙◌, to_z, of_z, w32, w64, arith, ◌≤◌, ◌^◌}
-use Rattle.std.{proofs.lemmas.Int.ints, proofs.lemmas.Int.fits_signed_mul, proofs.lemmas.Int.to_z-of_z, specs.Int.int_div_euclid, specs.Int.RustNames.unsigned_abs}
+use Rattle.std.{proofs.{Common.{◌≡◌, ◌*ℤ◌, ◌≤ℤ◌, pos, negsuc, refl, ◌∙◌, to_z, of_z, w32, w64, arith, ◌≤◌, ◌^◌}, lemmas.Int.{ints, fits_signed_mul, to_z-of_z}}, specs.Int.{int_div_euclid, RustNames.unsigned_abs}}
 use Rattle.mus_stems.proofs.SlopeLaws.{rise_near}
 use Rattle.mus_stems.proofs.slopes.risen.Goals as goal
 

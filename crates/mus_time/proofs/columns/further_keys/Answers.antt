@@ -1,5 +1,4 @@
-use Rattle.std.proofs.Common.{◌≡◌, ◌∙◌, ◌+◌, ap, arith, length, subst, sym}
-use Rattle.std.specs.List.{All, flat_map}
+use Rattle.std.{proofs.Common.{◌≡◌, ◌∙◌, ◌+◌, ap, arith, length, subst, sym}, specs.List.{All, flat_map}}
 use Rattle.mus_time.{proofs.Places.length_of_lengths, proofs.Places.further_places, specs.Keys.AreKeys, specs.Keys.IsInSystem, specs.Keys.measure_keys, specs.Onsets.timeline_of}
 use Rattle.mus_time.proofs.columns.further_keys.Goals as goal
 

@@ -1,5 +1,4 @@
-use Rattle.std.proofs.{Common.◌≡◌, Common.subst, Common.sym, lemmas.List.Filters.dedup_is, lemmas.List.Kept.Contains-dedup, lemmas.List.Kept.Contains-from_dedup, lemmas.List.Kept.IsStrictlySortedBy-dedup, lemmas.List.Sorted.Contains-permutation, lemmas.List.Sorted.IsPermutation-sym}
-use Rattle.std.specs.List.{Contains}
+use Rattle.std.{proofs.{Common.{◌≡◌, subst, sym}, lemmas.List.{Filters.dedup_is, Kept.{Contains-dedup, Contains-from_dedup, IsStrictlySortedBy-dedup}, Sorted.{Contains-permutation, IsPermutation-sym}}}, specs.List.Contains}
 use Rattle.mus_time.{specs.contracts.keys.ColumnKeyOrd.TheImpl.Laws.total-law, specs.contracts.keys.ColumnKeyOrd.TheImpl.Laws.matches_eq-law, specs.contracts.keys.ColumnKeyEq.TheImpl.Laws.laws-law, proofs.Rising.rises_from_sorted, proofs.Rising.same_from_eq}
 use Rattle.mus_time.proofs.columns.rising.Goals as goal
 

@@ -1,5 +1,4 @@
-use Rattle.std.proofs.{Common.◌≡◌, Common.subst, Common.sym, Common.refl, lemmas.Cmp.int_cmp_total, lemmas.Cmp.int_eq_equiv, lemmas.List.Filters.dedup_is, lemmas.List.Kept.Contains-dedup, lemmas.List.Kept.Contains-from_dedup, lemmas.List.Kept.IsStrictlySortedBy-dedup}
-use Rattle.std.{proofs.lemmas.List.Sorted.Contains-permutation, proofs.lemmas.List.Sorted.IsPermutation-sym, specs.List.Contains}
+use Rattle.std.{proofs.{Common.{◌≡◌, subst, sym, refl}, lemmas.{Cmp.{int_cmp_total, int_eq_equiv}, List.{Filters.dedup_is, Kept.{Contains-dedup, Contains-from_dedup, IsStrictlySortedBy-dedup}, Sorted.{Contains-permutation, IsPermutation-sym}}}}, specs.List.Contains}
 use Rattle.ps_heard.proofs.Places.{eq_is, rising_is}
 use Rattle.ps_heard.proofs.anchors.rising.Goals as goal
 

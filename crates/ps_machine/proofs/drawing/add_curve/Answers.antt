@@ -1,5 +1,4 @@
-use Rattle.std.proofs.Common.{◌≡◌, rules, sym, subst, FitsSigned, w64}
-use Rattle.std.{proofs.lemmas.Int.to_z-of_z, specs.Prelude.Err}
+use Rattle.std.{proofs.{Common.{◌≡◌, rules, sym, subst, FitsSigned, w64}, lemmas.Int.to_z-of_z}, specs.Prelude.Err}
 use Rattle.ps_steps.specs.Operators.{curveto}
 use Rattle.ps_machine.{specs.Doing.state_of, specs.Doing.DidOrStopped, specs.Doing.numbers_of, proofs.Did.curve_did, proofs.Did.point_passed, proofs.Did.first_stops, proofs.Did.second_stops, proofs.Did.third_stops}
 use Rattle.ps_machine.proofs.drawing.add_curve.Goals as goal

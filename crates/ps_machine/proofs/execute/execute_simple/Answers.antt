@@ -1,7 +1,5 @@
 use Rattle.std.proofs.Common.{◌≡◌, subst}
-use Rattle.ps_steps.specs.Operators.{executed}
-use Rattle.ps_steps.specs.declared.token.Token.TheVariants.{Simple as simple_token}
-use Rattle.ps_steps.specs.declared.token.Simple.TheVariants.{Name as name_token}
+use Rattle.ps_steps.specs.{Operators.executed, declared.token.{Token.TheVariants.Simple as simple_token, Simple.TheVariants.Name as name_token}}
 use Rattle.ps_machine.specs.Doing.{state_of, IsExecuted}
 use Rattle.ps_machine.proofs.execute.execute_simple.Goals as goal
 

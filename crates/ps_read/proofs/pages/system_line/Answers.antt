@@ -1,6 +1,5 @@
 use Rattle.std.proofs.Common.{sym, subst, None, arith}
-use Rattle.ps_read.{specs.Steps.IsNextOf, specs.Steps.IsSystemLine, specs.declared.place.Place.Place, proofs.Stepping.on_system, proofs.Stepping.none_system, proofs.Stepping.not_rising, proofs.pages.system_line.Goals.in_default-via-in-Some+else-a-b}
-use Rattle.ps_read.proofs.pages.system_line.Goals.{in_default-via-in_default}
+use Rattle.ps_read.{specs.{Steps.{IsNextOf, IsSystemLine}, declared.place.Place.Place}, proofs.{Stepping.{on_system, none_system, not_rising}, pages.system_line.Goals.{in_default-via-in-Some+else-a-b, in_default-via-in_default}}}
 use Rattle.ps_read.proofs.pages.system_line.Goals as goal
 
 pub returns-in-Some : goal.returns-in-Some

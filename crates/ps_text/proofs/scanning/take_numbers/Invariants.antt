@@ -1,5 +1,4 @@
-use Rattle.std.proofs.Common.{◌≡◌, ℕ, ℤ, ◌++◌, List, length, true}
-use Rattle.std.specs.List.{AllByRecursion, list_all}
+use Rattle.std.{proofs.Common.{◌≡◌, ℕ, ℤ, ◌++◌, List, length, true}, specs.List.{AllByRecursion, list_all}}
 use Rattle.glyph_paths.specs.Procedure.{numbers}
 use Rattle.ps_text.{specs.Range.IsNumber, specs.Scanning.is_field, proofs.Taken.NumbersLeft}
 use Rattle.ps_text.proofs.scanning.take_numbers.Given as goal

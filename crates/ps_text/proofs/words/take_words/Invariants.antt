@@ -1,5 +1,4 @@
-use Rattle.std.proofs.Common.{◌≡◌, ℕ, ◌++◌, ◌∷◌, List, length, IsTrue}
-use Rattle.std.specs.List.{flat_map, list_all}
+use Rattle.std.{proofs.Common.{◌≡◌, ℕ, ◌++◌, ◌∷◌, List, length, IsTrue}, specs.List.{flat_map, list_all}}
 use Rattle.ps_text.{specs.Fields.shown, specs.Range.is_shown, proofs.Taken.WordsLeft}
 use Rattle.ps_text.proofs.words.take_words.Given as goal
 

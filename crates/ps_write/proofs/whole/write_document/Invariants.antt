@@ -1,5 +1,4 @@
-use Rattle.std.proofs.Common.{◌≡◌, ◌+◌, ◌++◌, ◌≤◌, length, take, drop}
-use Rattle.std.specs.Io.KnownBytes.{Appends}
+use Rattle.std.{proofs.Common.{◌≡◌, ◌+◌, ◌++◌, ◌≤◌, length, take, drop}, specs.Io.KnownBytes.Appends}
 use Rattle.ps_text.specs.Document.{document, numbered, page_text, trailer}
 use Rattle.ps_write.proofs.whole.write_document.Given as goal
 

@@ -1,5 +1,4 @@
-use Rattle.std.proofs.Common.{take}
-use Rattle.std.specs.List.{AllZip}
+use Rattle.std.{proofs.Common.take, specs.List.AllZip}
 use Rattle.set_halves.proofs.halves.work_in_turn.Given as goal
 
 -- the outcomes so far are those of the items so far

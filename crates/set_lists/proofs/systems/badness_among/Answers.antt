@@ -1,5 +1,4 @@
-use Rattle.std.proofs.Common.{◌∙◌, Some, None, sym, ap}
-use Rattle.std.specs.Option.{option_copied}
+use Rattle.std.{proofs.Common.{◌∙◌, Some, None, sym, ap}, specs.Option.option_copied}
 use Rattle.set_lists.proofs.Finding.{badness_is}
 use Rattle.set_lists.proofs.systems.badness_among.Goals as goal
 

@@ -1,5 +1,4 @@
-use Rattle.std.proofs.Common.{◌∙◌, ◌<◌, ◌^◌, List, length, ap, subst, sym}
-use Rattle.std.specs.List.{All}
+use Rattle.std.{proofs.Common.{◌∙◌, ◌<◌, ◌^◌, List, length, ap, subst, sym}, specs.List.All}
 use Rattle.set_tune.{specs.Blocks.HasGoodHeight, specs.Blocks.blocks_of, proofs.Laid.few_blocks, proofs.Laid.good_heights}
 use Rattle.set_tune.proofs.setting.on_pages.Goals as goal
 
