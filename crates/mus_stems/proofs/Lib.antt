@@ -1,3 +1,4 @@
+pub mod AloneLaws
 pub mod ColumnLaws
 pub mod Counting
 pub mod DisplacedLaws

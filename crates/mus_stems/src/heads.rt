@@ -174,13 +174,16 @@ fn shift_all(up: bool, stands: &[Stand], shifts: &mut [i32])
     }
 }
 
-/// The dx of each head, in the order of the text.
-#[tactic(auto, unfolding(crate::specs::Heads::shifts_of))]
+/// The dx of each head, in the order of the text. A head alone gives way to none.
+#[tactic(auto, unfolding(crate::specs::Heads::shifts_of), using(crate::proofs::AloneLaws::alone_stays))]
 pub fn shifts_for(alloc: Global, up: bool, stands: &[Stand]) -> Result<Row<i32>, Memory>
     requires near { AllNear stands.now }
     ensures { IfOk result (λ r. r ≡ shifts_of up stands.now) }
 {
     let mut shifts = vec![in alloc; 0; stands.len()]?;
+    if stands.len() <= 1 {
+        return Ok(Row { items: shifts });
+    }
     shift_all(up, stands, &mut shifts);
     Ok(Row { items: shifts })
 }

@@ -70,8 +70,15 @@ fn sign_all(first: i32, stands: &[Stand], signs: &mut [Option<i32>])
     }
 }
 
+/// Whether a sign is written before any of the heads.
+fn any_signed(stands: &[Stand]) -> bool
+    ensures { result ≡ list_any (λ s. s.signed) stands.now }
+{
+    stands.iter().any(|stand| stand.signed)
+}
+
 /// The dx of the sign of each head, in the order of the text.
-#[tactic(auto, unfolding(crate::specs::Signs::signs_from))]
+#[tactic(auto, unfolding(crate::specs::Signs::signs_from), using(crate::proofs::AloneLaws::none_signed))]
 pub fn signs_for(alloc: Global, first: i32, stands: &[Stand]) -> Result<Row<Option<i32>>, Memory>
     requires near { AllNear stands.now }
     requires few { length stands.now ≤ 50000 }
@@ -79,6 +86,9 @@ pub fn signs_for(alloc: Global, first: i32, stands: &[Stand]) -> Result<Row<Opti
     ensures { IfOk result (λ r. r ≡ signs_from first stands.now) }
 {
     let mut signs = vec![in alloc; None; stands.len()]?;
+    if !any_signed(stands) {
+        return Ok(Row { items: signs });
+    }
     sign_all(first, stands, &mut signs);
     Ok(Row { items: signs })
 }
