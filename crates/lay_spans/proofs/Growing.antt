@@ -1,8 +1,9 @@
 -- The row of a bar, and the rows, while they grow.
-use Rattle.std.proofs.{Common.{◌≡◌, ℕ, ◌+◌, ◌-◌, ◌*◌, ◌<◌, ◌≤◌, ◌^◌, ◌==◌, nat_le, if◌then◌else◌, Result, Ok, Err, IfOk, Bool, List, [], ◌∷◌, ◌++◌, length, map, Option, None, Some, IsSome, slice_index, slice_index_or, get_or, true, false, arith, sym, ◌∙◌, ap, subst, refl, inl, inr, length-append}, lemmas.{Bool.{cases_lt, cases_eq, true≢false}, List.get_or_append_left, Option.{none-some, same_Some}}, Math.Nat.mul-le-mul_left}
-use Rattle.lay_springs.specs.{declared.traits.Reach.Reach, Fit.counted, Fit.is_ragged}
+use Rattle.std.proofs.{Common.{◌≡◌, ℕ, ◌+◌, ◌-◌, ◌<◌, ◌≤◌, Bool, List, [], ◌∷◌, ◌++◌, length, map, Option, None, Some, IsSome, slice_index, slice_index_or, get_or, true, false, arith, sym, ◌∙◌, ap, subst, refl, inl, inr, length-append}, lemmas.{Bool.{cases_lt, cases_eq, true≢false}, List.get_or_append_left, Option.{none-some, same_Some}}}
+use Rattle.lay_springs.specs.declared.traits.Reach.{Reach}
 use Rattle.lay_breaks.specs.Spans.{AreSpans, listed}
-use Rattle.lay_spans.{specs.{Badness.{badness_of, badness_at}, Columns.{measures_from, span_columns, AreMeasures}, Forced.ForcedInside, SpanList.{StandsAt, IsCost, IsNoSpan, IsSpanList}, Rows.{IsRowFrom, AreRows, rows_spans}}, proofs.{Adding.{columns_some, columns_more}, Fitting.longer_stands, Listing.{in_rows, past_rows, rows_form}}}
+use Rattle.lay_rows.specs.Tables.{IsTable}
+use Rattle.lay_spans.{specs.{Columns.{measures_from, span_columns, AreMeasures}, Forced.ForcedInside, SpanList.{StandsAt, IsCost, IsNoSpan, IsSpanList}, Rows.{IsRowFrom, rows_spans}, Single.costs_small}, proofs.{Adding.{columns_some, columns_more}, Fitting.longer_stands, Listing.{in_rows, past_rows, rows_form}}}
 
 -- the columns that are seen, with one measure more
 pub seen_more : {D C : Type 0} (f : D → C) (old new : List D) (starts others : List (List C)) (a m : ℕ) → a ≤ m → m < length starts → length others ≡ length starts
@@ -82,46 +83,9 @@ stops_behind reach len gaps width starts others forced a m row l e k each is = r
   stops = λ b past within. inl (m + 1, omega arith, omega arith, is);
 }
 
-pub rows_more : {C : Type 0} (reach : C → ℕ → Option Reach) (len : C → ℕ → ℕ) (gaps : List ℕ) (width : ℕ) (starts others : List (List C)) (forced : ℕ → Bool)
-    (a : ℕ) (rows : List (List ℕ)) (row : List ℕ) → AreRows reach len gaps width starts others forced a rows
-    → IsRowFrom reach len gaps width starts others forced a row
-    → AreRows reach len gaps width starts others forced (a + 1) (rows ++ row ∷ [])
-rows_more reach len gaps width starts others forced a rows row h here =
-    let c = h.count in
-    let n = length-append rows (row ∷ []) in
-    record {
-      count = omega arith;
-      each = λ k l. each_more (λ k row. IsRowFrom reach len gaps width starts others forced k row) rows row []
-          (λ k l. h.each k (omega arith))
-          (subst (λ k. IsRowFrom reach len gaps width starts others forced k row) (sym c) here)
-          k (omega arith);
-    }
-
-square_small : (x : ℕ) → x ≤ 2048 → x * x ≤ 4194304
-square_small x l = let k = mul-le-mul_left x l in omega arith
-
-at_small : (force : ℕ) → force ≤ 2048 → badness_at force ≤ 2 ^ 40
-at_small force l =
-    let high = square_small (force - 256) (omega arith) in
-    let low = square_small (256 - force) (omega arith) in
-    elim (nat_le 256 force) as (λ t. (if t then (force - 256) * (force - 256) else 4 * ((256 - force) * (256 - force))) ≤ 2 ^ 40)
-    [ true ↦ omega arith | false ↦ omega arith ]
-
-counted_small : (last : Bool) (force : ℕ) → force ≤ 2048 → counted last force ≤ 2048
-counted_small last force l =
-    elim (is_ragged last force) as (λ t. (if t then 256 else force) ≤ 2048) [ true ↦ omega arith | false ↦ omega arith ]
-
-badness_small : (last : Bool) (force : ℕ) → force ≤ 2048 → badness_of last force ≤ 2 ^ 40
-badness_small last force l = at_small (counted last force) (counted_small last force l)
-
-costs_small : {C : Type 0} (reach : C → ℕ → Option Reach) (len : C → ℕ → ℕ) (gaps : List ℕ) (width : ℕ) (starts others : List (List C)) (forced : ℕ → Bool)
-    (a b v : ℕ) → IsCost reach len gaps width starts others forced a b v → v ≤ 2 ^ 40
-costs_small reach len gaps width starts others forced a b v h =
-    subst (λ v. v ≤ 2 ^ 40) (sym h.pressed.2) (badness_small (b == length starts) h.pressed.0 h.pressed.1.bound)
-
 -- the rows as a list of spans
 pub rows_are_spans : {C : Type 0} (reach : C → ℕ → Option Reach) (len : C → ℕ → ℕ) (gaps : List ℕ) (width : ℕ) (starts others : List (List C)) (forced : ℕ → Bool)
-    (rows : List (List ℕ)) → AreRows reach len gaps width starts others forced (length starts) rows → AreSpans (length starts) (rows_spans 0 rows)
+    (rows : List (List ℕ)) → IsTable (λ a row. IsRowFrom reach len gaps width starts others forced a row) (length starts) rows → AreSpans (length starts) (rows_spans 0 rows)
 rows_are_spans reach len gaps width starts others forced rows h =
     let c = h.count in
     rows_form (length starts) 0 None rows
@@ -130,7 +94,7 @@ rows_are_spans reach len gaps width starts others forced rows h =
     tt
 
 pub rows_tell_spans : {C : Type 0} (reach : C → ℕ → Option Reach) (len : C → ℕ → ℕ) (gaps : List ℕ) (width : ℕ) (starts others : List (List C)) (forced : ℕ → Bool)
-    (rows : List (List ℕ)) → AreRows reach len gaps width starts others forced (length starts) rows
+    (rows : List (List ℕ)) → IsTable (λ a row. IsRowFrom reach len gaps width starts others forced a row) (length starts) rows
     → IsSpanList reach len gaps width starts others forced (rows_spans 0 rows)
 rows_tell_spans {C} reach len gaps width starts others forced rows h = record {
   each = λ a b v l m is.
@@ -174,7 +138,3 @@ rows_tell_spans {C} reach len gaps width starts others forced rows h = record {
         → (ForcedInside forced a b → ⊥) → StandsAt reach len gaps width 0 (span_columns starts others a b) → IsSome (listed (rows_spans 0 rows) a b)
     fitting a b (Some v) e stop free stands = rw e refl
     fitting a b None e stop free stands = elim (stop e) [ inl f ↦ absurd (free f) | inr never ↦ absurd (never stands) ]
-
-pub on_ok : {X E : Type 0} (P : X → Type 0) (r : Result X E) (x : X) → IfOk r (λ y. y ≡ x) → P x → IfOk r P
-on_ok P (Ok y) x e h = subst P (sym e) h
-on_ok P (Err y) x e h = tt

@@ -1,6 +1,7 @@
 -- Rows of costs as a list of spans.
-use Rattle.std.proofs.{Common.{◌≡◌, ℕ, suc, ◌+◌, ◌-◌, ◌<◌, ◌≤◌, ◌^◌, ◌⊎◌, List, [], ◌∷◌, ◌++◌, length, Option, None, Some, MatchOption, slice_index, slice_index_or, false, arith, sym, ◌∙◌, subst, refl, inl, inr}, lemmas.Bool.{cases_eq, Decides.nat_tests}}
-use Rattle.lay_breaks.specs.{declared.costs.Span.Span, Spans.SpansFrom, Spans.listed, Spans.has_ends, Spans.has_these}
+use Rattle.std.proofs.{Common.{◌≡◌, ℕ, suc, ◌+◌, ◌-◌, ◌<◌, ◌≤◌, ◌^◌, ◌⊎◌, List, [], ◌∷◌, ◌++◌, length, Option, None, Some, MatchOption, slice_index, slice_index_or, nat_lt, option_and_then, slice_get, true, false, arith, sym, ◌∙◌, ap, subst, refl, inl, inr}, lemmas.{Bool.{cases_eq, cases_lt, Decides.nat_tests}, List.get_or_past, Option.{slice_get_past, slice_get-get_or}}}
+use Rattle.lay_breaks.specs.{declared.costs.Span.Span, Spans.AreSpans, Spans.SpansFrom, Spans.listed, Spans.has_ends, Spans.has_these}
+use Rattle.lay_rows.specs.Costs.{cost_in}
 use Rattle.lay_spans.specs.Rows.{row_spans, rows_spans}
 
 pub listed_here : (a b : ℕ) (s : Span) (ss : List Span) → s.a ≡ a → s.b ≡ b → listed (s ∷ ss) a b ≡ Some s.badness
@@ -114,3 +115,41 @@ rows_form n m last (row ∷ rows) within small before =
     (λ k l. let w = within (suc k) (omega arith) in omega arith)
     (λ k i l j. small (suc k) i (omega arith) j)
     before)
+
+-- a span begins before it ends, which is at bar n or before it
+pub none_falls : (n : ℕ) (last : Option Span) (ss : List Span) → SpansFrom n last ss → (a b : ℕ) → b ≤ a → listed ss a b ≡ None
+none_falls n last [] h a b l = refl
+none_falls n last (s ∷ ss) h a b l =
+    let r = h.0.rises in
+    listed_behind a b s ss (λ e g. omega arith) ∙ none_falls n (Some s) ss h.1 a b l
+
+in_row_or_past : (rows : List (List ℕ)) (a b : ℕ) → a < b → slice_get (slice_index_or rows a []) (b - a - 1) ≡ listed (rows_spans 0 rows) a b
+in_row_or_past rows a b l =
+    let z : a - 0 ≡ a = omega arith in
+    let row = slice_index_or rows a [] in
+    let same : b - (a + 1) ≡ b - a - 1 = omega arith in
+    elim (cases_lt (a + length (slice_index_or rows a [])) b) [
+      | inl past ↦
+          slice_get_past row (b - a - 1) (omega arith)
+          ∙ sym (past_rows 0 rows a b (omega arith) (subst (λ i. a + length (slice_index_or rows i []) < b) (sym z) past))
+      | inr within ↦
+          slice_get-get_or row (b - a - 1) 0 (omega arith)
+          ∙ sym (in_rows 0 rows a b (omega arith) l (subst (λ i. b ≤ a + length (slice_index_or rows i [])) (sym z) within)
+          ∙ ap (λ i. Some (slice_index (slice_index_or rows i []) (b - (a + 1)))) z
+          ∙ ap (λ k. Some (slice_index row k)) same)
+    ]
+
+row_of : (rows : List (List ℕ)) (a k : ℕ) → option_and_then (λ row. slice_get row k) (slice_get rows a) ≡ slice_get (slice_index_or rows a []) k
+row_of rows a k = elim (cases_lt a (length rows)) [
+  | inl l ↦ ap (λ o. option_and_then (λ row. slice_get row k) o) (slice_get-get_or rows a [] l)
+  | inr g ↦
+      ap (λ o. option_and_then (λ row. slice_get row k) o) (slice_get_past rows a g)
+      ∙ sym (ap (λ row. slice_get row k) (get_or_past rows a [] g) ∙ slice_get_past [] k (omega arith))
+]
+
+-- what is listed is what the rows have
+pub rows_listed : (n : ℕ) (rows : List (List ℕ)) → AreSpans n (rows_spans 0 rows) → (a b : ℕ) → cost_in rows a b ≡ listed (rows_spans 0 rows) a b
+rows_listed n rows h a b = elim (cases_lt a b) [
+  | inl l ↦ let t : nat_lt a b ≡ true = grind (arith, nat_tests) in rw t (row_of rows a (b - a - 1) ∙ in_row_or_past rows a b l)
+  | inr g ↦ let t : nat_lt a b ≡ false = grind (arith, nat_tests) in rw t (sym (none_falls n None (rows_spans 0 rows) h a b g))
+]

@@ -3,4 +3,4 @@ pub mod Columns
 pub mod Forced
 pub mod SpanList
 pub mod Rows
-pub mod Costs
+pub mod Single

@@ -1,5 +1,5 @@
 -- The spans from each bar as a row of what they cost, and rows as a list of spans.
-use Rattle.std.specs.Prelude.{◌≡◌, ℕ, ◌+◌, ◌<◌, ◌≤◌, Bool, List, [], ◌∷◌, ◌++◌, length, slice_index, slice_index_or, Option}
+use Rattle.std.specs.Prelude.{ℕ, ◌+◌, ◌<◌, ◌≤◌, Bool, List, [], ◌∷◌, ◌++◌, length, slice_index, Option}
 use Rattle.lay_springs.specs.declared.traits.Reach.{Reach}
 use Rattle.lay_breaks.specs.declared.costs.Span.{Span}
 use Rattle.lay_spans.specs.SpanList.{IsCost, IsNoSpan}
@@ -9,11 +9,6 @@ pub record IsRowFrom {C : Type 0} (reach : C → ℕ → Option Reach) (len : C 
   pub within : a + length row ≤ length starts
   pub each : (k : ℕ) → k < length row → IsCost reach len gaps width starts others forced a (a + 1 + k) (slice_index row k)
   pub stops : (b : ℕ) → a + length row < b → b ≤ length starts → IsNoSpan reach len gaps width starts others forced a b
-
--- there is such a row for each bar below n
-pub record AreRows {C : Type 0} (reach : C → ℕ → Option Reach) (len : C → ℕ → ℕ) (gaps : List ℕ) (width : ℕ) (starts others : List (List C)) (forced : ℕ → Bool) (n : ℕ) (rows : List (List ℕ)) : Type 0 where
-  pub count : length rows ≡ n
-  pub each : (a : ℕ) → a < n → IsRowFrom reach len gaps width starts others forced a (slice_index_or rows a [])
 
 -- the spans from bar a to b, b + 1 and so on, that cost what the row has
 abbrev pub row_spans : ℕ → ℕ → List ℕ → List Span

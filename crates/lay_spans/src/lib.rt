@@ -8,13 +8,14 @@
 pub mod breaks;
 pub mod costs;
 pub mod forces;
+mod maker;
 mod marks;
 pub mod rows;
 pub mod seen;
 pub mod spans;
 
 pub use breaks::break_of;
-pub use costs::{SpanCosts, costs_of};
+pub use costs::Spans;
 pub use forces::badness;
 pub use rows::places_of;
 pub use seen::Seen;

@@ -1,6 +1,6 @@
 ghost use Rattle.std.specs.Prelude.{◌≡◌, ◌+◌, ◌-◌, ◌<◌, ◌≤◌, ◌^◌, ◌++◌, ℕ, IfNone, IfOk, IfSome, OnOk, length, map, slice_index, slice_index_or, false, []};
 ghost use Rattle.lay_springs.specs.Fit.{most_columns};
-ghost use Rattle.lay_spans.specs.{Columns.measures_from, Columns.AreMeasures, Rows.IsRowFrom, Rows.AreRows, Rows.row_spans, Rows.rows_spans, SpanList.FitsAt, SpanList.StandsAt};
+ghost use Rattle.lay_spans.specs.{Columns.measures_from, Columns.AreMeasures, Rows.IsRowFrom, Rows.row_spans, Rows.rows_spans, SpanList.FitsAt, SpanList.StandsAt};
 
 use crate::forces::badness;
 use crate::seen::Seen;
@@ -76,7 +76,7 @@ pub(crate) fn see<'a, C>(seen: &mut Row<Seen<'a, C>>, columns: &'a [C]) -> Resul
 /// one measure's columns at a time, and stops at the first span that doesn't fit or
 /// behind a forced bar. The searches for a force take no memory: room is reserved before
 /// the first.
-fn row_from<C: Spaced + Spring>(
+pub(crate) fn row_from<C: Spaced + Spring>(
     alloc: Global,
     starts: &[Row<C>],
     others: &[Row<C>],
@@ -110,30 +110,6 @@ fn row_from<C: Spaced + Spring>(
         most = force;
     }
     Ok(row)
-}
-
-/// The row of each bar below the last.
-pub(crate) fn rows_of<C: Spaced + Spring>(
-    alloc: Global,
-    starts: &[Row<C>],
-    others: &[Row<C>],
-    gaps: &[u32],
-    width: u32,
-    marks: &[bool],
-) -> Result<Row<Row<u64>>, Memory>
-    requires measures { AreMeasures C.reach_of (length gaps.now) starts.now others.now }
-    requires lanes { length gaps.now < 2 ^ 32 }
-    requires narrow { (lane : ℕ) → lane < length gaps.now → slice_index gaps.now lane ≤ 2 ^ 20 }
-    requires marked { length marks.now ≡ length starts.now + 1 }
-    ensures { IfOk result (λ rows. AreRows C.reach_of C.length_of gaps.now width starts.now others.now
-        (λ b. slice_index_or marks.now b false) (length starts.now) rows) }
-{
-    let mut rows = Row::new(alloc);
-    for a in 0..starts.len() {
-        let row = row_from(alloc, starts, others, gaps, width, marks, a)?;
-        rows.push(row)?;
-    }
-    Ok(rows)
 }
 
 /// Adds the spans of the row of bar `a`.

@@ -2,13 +2,16 @@ ghost use Rattle.std.specs.Prelude.{◌≡◌, ◌+◌, ◌<◌, ◌≤◌, ◌^
 ghost use Rattle.lay_breaks.specs.Spans.{AreSpans};
 ghost use Rattle.lay_spans.specs.{Columns.AreMeasures, Columns.span_columns, Forced.is_forced, SpanList.IsSpanList};
 
+use crate::costs::Spans;
+use crate::maker::SpanMaker;
 use crate::marks::marks_of;
-use crate::rows::{list_rows, measure, rows_of, see};
+use crate::rows::{list_rows, measure, see};
 use crate::seen::Seen;
-use lay_breaks::Span;
+use lay_rows::make_rows;
 use lay_springs::{Spaced, Spring};
 use mus_units::{Memory, Row};
 use std::alloc::Global;
+use std::thread::Threads;
 
 /// The spans of measures that fit within a width, in u, by the bar after which they
 /// begin and then by the bar with which they end.
@@ -18,24 +21,41 @@ use std::alloc::Global;
 /// b - 1, counted from 0. A span with a forced bar strictly inside isn't listed.
 /// Bars in `forced` that the tune doesn't have count for nothing. The spans from each bar
 /// have room for placing columns that is reserved before their first search for a force.
-pub fn spans_of<C: Spaced + Spring>(
+///
+/// `jobs` is 1 to 64: the spans from the bars of either half are found side by side where
+/// threads can be made. They don't depend on it.
+pub fn spans_of<R: Threads + Sync, C: Spaced + Spring + Sync>(
+    rt: &R,
     alloc: Global,
     starts: &[Row<C>],
     others: &[Row<C>],
     gaps: &[u32],
     width: u32,
     forced: &[u32],
-) -> Result<Row<Span>, Memory>
+    jobs: u8,
+) -> Result<Spans, Memory>
     requires measures { AreMeasures C.reach_of (length gaps.now) starts.now others.now }
     requires lanes { length gaps.now < 2 ^ 32 }
     requires narrow { (lane : ℕ) → lane < length gaps.now → slice_index gaps.now lane ≤ 2 ^ 20 }
-    ensures form { IfOk result (λ spans. AreSpans (length starts.now) spans) }
+    requires some { 1 ≤ jobs }
+    requires few { jobs ≤ 64 }
+    ensures form { IfOk result (λ spans. AreSpans (length starts.now) spans.list) }
+    ensures bars { IfOk result (λ spans. length spans.rows.rows ≡ length starts.now) }
     ensures exact { IfOk result (λ spans. IsSpanList C.reach_of C.length_of gaps.now width starts.now others.now
-        (is_forced (length starts.now) forced.now) spans) }
+        (is_forced (length starts.now) forced.now) spans.list) }
 {
     let marks = marks_of(alloc, forced, starts.len())?;
-    let rows = rows_of(alloc, starts, others, gaps, width, marks.as_slice())?;
-    list_rows(alloc, rows.as_slice())
+    let maker = SpanMaker {
+        alloc,
+        starts,
+        others,
+        gaps,
+        width,
+        marks: marks.as_slice(),
+    };
+    let rows = make_rows(rt, alloc, &maker, starts.len() as u32, jobs)?;
+    let list = list_rows(alloc, rows.rows.as_slice())?;
+    Ok(Spans { list, rows })
 }
 
 /// The columns of the span from bar `a` to bar `b`, as `spans_of` has it, in order.

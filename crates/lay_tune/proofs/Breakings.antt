@@ -1,43 +1,21 @@
 -- The legal breakings of a score are those into its listed spans, and cost the same.
-use Rattle.std.proofs.{Common.{◌≡◌, ◌∙◌, ℕ, ◌+◌, ◌<◌, ◌≤◌, ◌==◌, ◌⊎◌, inl, inr, List, [], ◌∷◌, length, Option, Some, None, IsSome, unwrap_or, refl, sym, ap, subst, arith}, lemmas.Bool.cases_lt}
+use Rattle.std.proofs.{Common.{◌≡◌, ◌∙◌, ℕ, ◌+◌, ◌≤◌, ◌==◌, List, [], ◌∷◌, unwrap_or, refl, sym, ap, subst, arith}}
 use Rattle.mus_score.specs.declared.score.Score.{Score}
-use Rattle.mus_laid.specs.declared.laid.SystemMarks.{SystemMarks}
 use Rattle.lay_columns.specs.{declared.column.Column.Column, Column.length_rises, Columns.column_reach}
-use Rattle.lay_springs.{specs.Place.length_at, specs.Place.reach_at, proofs.Longer.stands}
-use Rattle.lay_springs.proofs.Ends as springs
 use Rattle.lay_breaks.specs.{declared.costs.Span.Span, Breaking.FitsFrom, Breaking.IsChosen, Breaking.IsLegal, Breaking.RisesFrom, Breaking.last_from, Breaking.sum_from, Spans.listed}
+use Rattle.lay_spans.specs.Single as single
 use Rattle.lay_spans.specs.{Badness.badness_of, Forced.is_forced}
 use Rattle.lay_tune.{specs.{Spans.{AreSpansOf, CanStandIn, IsForceOf, IsSpanCost, column_length, is_forced_in, score_gaps, system_columns}, Breakings.{CanBeSystem, CostTogether, IsLeastBreaking, IsLegalIn}, Systems.AllSpans}, proofs.{Called.has_system, Open.{past_last, some_of}}}
 
 -- ---- the force of columns
 module _ (gaps : List ℕ) (width : ℕ) (columns : List Column) where
-  -- a weaker force is not the greatest at which they can stand
-  not_weaker : (f g : ℕ) → IsForceOf gaps width columns f → IsForceOf gaps width columns g → f < g → ⊥
-  not_weaker f g h k less =
-      h.greatest g less k.bound (stands (length columns) (reach_at column_reach columns) gaps (length_at column_length columns) width g k.fits)
-
   -- columns have one force
   pub one_force : (f g : ℕ) → IsForceOf gaps width columns f → IsForceOf gaps width columns g → f ≡ g
-  one_force f g h k = elim (cases_lt f g) [
-    | inl less ↦ absurd (not_weaker f g h k less)
-    | inr more ↦ elim (cases_lt g f) [
-      | inl less ↦ absurd (not_weaker g f k h less)
-      | inr same ↦ omega (arith, more, same)
-    ]
-  ]
+  one_force f g h k = single.one_force column_reach column_length gaps width columns f g h k
 
   -- columns that a force presses can stand
   pub can_stand : (force : ℕ) → IsForceOf gaps width columns force → CanStandIn gaps width columns
-  can_stand force h =
-      let reach = reach_at column_reach columns in
-      let spring = length_at column_length columns in
-      let at = stands (length columns) reach gaps spring width force h.fits in record {
-        y = at.y;
-        apart = springs.apart_down (length columns) reach gaps (spring 0) (spring force) at.y
-            (springs.length_rises column_length columns 0 force (λ c. length_rises c.natural 0 force (omega arith))) at.apart;
-        past = at.past;
-        reaches = at.reaches;
-      }
+  can_stand force h = single.can_stand column_reach column_length gaps width columns force (λ c. length_rises c.natural 0 force (omega arith)) h
 
 module _ (s : Score) (width : ℕ) where
   -- a span costs one value
@@ -127,13 +105,9 @@ module _ (s : Score) (width : ℕ) where
           chosen.latest other at (one_total 0 other (sum_from (listed spans) 0 other) total (legal_cost other at) cost ∙ is);
     }
 
--- the same where spans and forced bars were read off the score
-pub least_read : (s : Score) (width : ℕ) (spans read : List Span) (forced breaks : List ℕ) (total : ℕ)
-    → forced ≡ s.forced → read ≡ spans → AreSpansOf s width spans
-    → IsChosen (listed read) (is_forced s.measures forced) s.measures breaks → total ≡ sum_from (listed read) 0 breaks
+-- the same where forced bars were read off the score
+pub least_read : (s : Score) (width : ℕ) (spans : List Span) (forced breaks : List ℕ) (total : ℕ) → forced ≡ s.forced → AreSpansOf s width spans
+    → IsChosen (listed spans) (is_forced s.measures forced) s.measures breaks → total ≡ sum_from (listed spans) 0 breaks
     → IsLeastBreaking s width breaks total
-least_read s width spans read forced breaks total all same exact chosen is =
-    least_of s width spans exact breaks total
-    (subst (λ these. IsChosen (listed these) (is_forced_in s) s.measures breaks) same
-    (subst (λ these. IsChosen (listed read) (is_forced s.measures these) s.measures breaks) all chosen))
-    (is ∙ ap (λ these. sum_from (listed these) 0 breaks) same)
+least_read s width spans forced breaks total all exact chosen is =
+    least_of s width spans exact breaks total (subst (λ these. IsChosen (listed spans) (is_forced s.measures these) s.measures breaks) all chosen) is

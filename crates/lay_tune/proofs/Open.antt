@@ -8,7 +8,7 @@ use Rattle.lay_columns.specs.{declared.column.Column.Column, Column.length_rises
 use Rattle.lay_springs.{specs.{Place.{length_at, reach_at}, Fit.{Passes, most_columns}}, proofs.{Longer.{cannot_stand, stand_few, stands}, Ends.length_rises as lengths_rise}}
 use Rattle.lay_breaks.specs.{declared.costs.Span.Span, declared.breaking.BreakError.BreakError, Answers.IsCause, Breaking.FitsFrom, Breaking.IsChosen, Breaking.IsReached, Breaking.NoneLegal, Breaking.RisesFrom, Breaking.last_from, Spans.AreSpans, Spans.listed}
 use Rattle.lay_spans.{specs.Badness.badness_of, specs.Columns.AreMeasures, specs.Columns.span_columns, specs.Forced.is_forced, specs.SpanList.IsSpanList, proofs.Adding.columns_some}
-use Rattle.lay_tune.{proofs.StaffCounts.{count_grouped, few_groups, none_more}, specs.{Spans.{AreColumnsOf, AreSpansOf, CanStandIn, IsForceOf, IsSystem, column_length, is_forced_in, score_gaps, system_columns, verses_of}, Layout.{IsCauseIn, IsNoWay, layout_error}, Systems.{AllSpans, CanBeSet, HaveForce, gaps_between}}}
+use Rattle.lay_tune.{proofs.StaffCounts.{count_grouped, few_groups, none_more}, specs.{Spans.{AreColumnsOf, AreSpansOf, CanStandIn, IsForceOf, IsSystem, column_length, is_forced_in, score_gaps, system_columns, verses_of}, Layout.{IsCauseIn, layout_error}, Systems.{AllSpans, CanBeSet, HaveForce, gaps_between}}}
 
 -- columns that have a force don't pass the width at force 0
 pub never_passes : (gaps : List ℕ) (width : ℕ) (columns : List Column) → HaveForce gaps width columns
@@ -109,45 +109,35 @@ spans_read s width starts others spans gaps forced count is all join h =
     (subst (λ bars. IsSpanList column_reach column_length (score_gaps s) width starts others (is_forced (length starts) bars) spans) all
     (subst (λ these. IsSpanList column_reach column_length these width starts others (is_forced (length starts) forced) spans) is h)))
 
-pub chosen_read : (s : Score) (width room : ℕ) (starts others : List (List Column)) (spans read : List Span) (gaps forced breaks bars : List ℕ)
-    → length starts ≡ s.measures → gaps ≡ score_gaps s → forced ≡ s.forced → read ≡ spans → bars ≡ breaks
+pub chosen_read : (s : Score) (width room : ℕ) (starts others : List (List Column)) (spans : List Span) (gaps forced breaks bars : List ℕ)
+    → length starts ≡ s.measures → gaps ≡ score_gaps s → forced ≡ s.forced → bars ≡ breaks
     → AreMeasures column_reach (length (score_gaps s)) starts others → AreColumnsOf s starts others
     → IsSpanList column_reach column_length gaps width starts others (is_forced (length starts) forced) spans
     → width < 2 ^ 32 → most_columns width + length gaps ≤ room
-    → IsChosen (listed read) (is_forced s.measures forced) s.measures breaks
+    → IsChosen (listed spans) (is_forced s.measures forced) s.measures breaks
     → AllSpans (CanBeSet s width room) 0 bars
-chosen_read s width room starts others spans read gaps forced breaks bars count is all same ends measures join h narrow roomy chosen =
+chosen_read s width room starts others spans gaps forced breaks bars count is all ends measures join h narrow roomy chosen =
     subst (λ these. AllSpans (CanBeSet s width room) 0 these) (sym ends)
     (chosen_open s width room starts others spans (length (score_gaps s)) breaks count measures join
     (spans_read s width starts others spans gaps forced count is all join h)
     narrow (subst (λ these. most_columns width + length these ≤ room) is roomy)
-    (subst (λ these. IsChosen (listed these) (is_forced_in s) s.measures breaks) same
-    (subst (λ these. IsChosen (listed read) (is_forced s.measures these) s.measures breaks) all chosen)))
+    (subst (λ these. IsChosen (listed spans) (is_forced s.measures these) s.measures breaks) all chosen))
 
 -- no way among the listed spans is none in the score
-pub no_way_read : (s : Score) (width reached : ℕ) (spans read : List Span) (forced : List ℕ)
-    → forced ≡ s.forced → read ≡ spans → AreSpans s.measures spans → AreSpansOf s width spans
-    → NoneLegal (listed read) (is_forced s.measures forced) s.measures → IsReached (listed read) (is_forced s.measures forced) s.measures reached
-    → (x : List Span) × IsNoWay s width reached x
-no_way_read s width reached spans read forced all same form exact none furthest = (
+pub cause_read : (s : Score) (width : ℕ) (spans : List Span) (forced : List ℕ) (error : BreakError)
+    → forced ≡ s.forced → AreSpans s.measures spans → AreSpansOf s width spans
+    → IsCause (listed spans) (is_forced s.measures forced) s.measures error
+    → IsCauseIn s width (layout_error error)
+cause_read s width spans forced (BreakError.NoWay reached) all form exact h = (
   spans,
   record {
     form = form;
     exact = exact;
-    none = subst (λ these. NoneLegal (listed these) (is_forced_in s) s.measures) same
-        (subst (λ these. NoneLegal (listed read) (is_forced s.measures these) s.measures) all none);
-    furthest = subst (λ these. IsReached (listed these) (is_forced_in s) s.measures reached) same
-        (subst (λ these. IsReached (listed read) (is_forced s.measures these) s.measures reached) all furthest);
+    none = subst (λ these. NoneLegal (listed spans) (is_forced s.measures these) s.measures) all h.0;
+    furthest = subst (λ these. IsReached (listed spans) (is_forced s.measures these) s.measures reached) all h.1;
   },
 )
-
-pub cause_read : (s : Score) (width : ℕ) (spans read : List Span) (forced : List ℕ) (error : BreakError)
-    → forced ≡ s.forced → read ≡ spans → AreSpans s.measures spans → AreSpansOf s width spans
-    → IsCause (listed read) (is_forced s.measures forced) s.measures error
-    → IsCauseIn s width (layout_error error)
-cause_read s width spans read forced (BreakError.NoWay reached) all same form exact h =
-    no_way_read s width reached spans read forced all same form exact h.0 h.1
-cause_read s width spans read forced BreakError.Memory all same form exact h = tt
+cause_read s width spans forced BreakError.Memory all form exact h = tt
 
 -- a score has few lanes
 small_sums : (n : ℕ) (staves : List (List DrawnVoice)) → n ≤ 255 → AllByRecursion (λ vs. sum_by (λ v. v.verses) vs ≤ n) staves → AllByRecursion (λ k. k ≤ 255) (map verses_on staves)

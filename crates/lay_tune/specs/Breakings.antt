@@ -1,5 +1,5 @@
 -- The breakings of a score on a width that are legal, and the one of least total badness: said of the score and the width alone.
-use Rattle.std.specs.Prelude.{◌≡◌, ℕ, ◌+◌, ◌≤◌, Bool, true, List, [], ◌∷◌, reverse, Contains}
+use Rattle.std.specs.Prelude.{◌≡◌, ℕ, ◌+◌, ◌≤◌, true, List, [], ◌∷◌, reverse, Contains}
 use Rattle.mus_score.specs.declared.score.Score.{Score}
 use Rattle.mus_laid.specs.declared.laid.SystemMarks.{SystemMarks}
 use Rattle.lay_breaks.specs.Breaking.{LexAtMost, RisesFrom, last_from}

@@ -24,6 +24,7 @@ use mus_score::Score;
 use mus_time::{Timeline, onsets};
 use mus_units::{Memory, Row};
 use std::alloc::Global;
+use std::thread::Threads;
 
 /// A score laid out: the spans that fit and what each costs; the breaking that is chosen among
 /// them; and for each of its spans in order the marks of the system, where its columns stand, in u,
@@ -65,7 +66,8 @@ fn layout_error(error: BreakError) -> LayoutError
 
 /// The layout by the columns of each measure: `starts` has them as they stand where the measure
 /// begins a system, `others` where it doesn't.
-fn lay_out_measures(
+fn lay_out_measures<R: Threads + Sync>(
+    rt: &R,
     alloc: Global,
     s: &Score,
     voices: &mut [DrawnVoice],
@@ -74,6 +76,7 @@ fn lay_out_measures(
     starts: &[Row<Column>],
     others: &[Row<Column>],
     width: u32,
+    jobs: u8,
 ) -> Result<Layout, LayoutError>
     requires good { IsGoodScore s.now }
     requires times { t.now ≡ timeline_of s.now }
@@ -83,6 +86,8 @@ fn lay_out_measures(
     requires count { length starts.now ≡ s.now.measures }
     requires measures { AreMeasures column_reach (length (score_gaps s.now)) starts.now others.now }
     requires columns { AreColumnsOf s.now starts.now others.now }
+    requires some { 1 ≤ jobs }
+    requires few { jobs ≤ 64 }
     ensures form { IfOk result (λ l. AreSpans s.now.measures l.spans) }
     ensures spans { IfOk result (λ l. AreSpansOf s.now width l.spans) }
     ensures chosen { IfOk result (λ l. IsChosen (listed l.spans) (is_forced_in s.now) s.now.measures l.breaking.breaks) }
@@ -99,8 +104,17 @@ fn lay_out_measures(
     let gaps = gaps_of(alloc, verses)?;
     let forced = s.forced.as_slice();
     let mut places = places_of(alloc, width, gaps.len())?;
-    let spans = spans_of(alloc, starts, others, gaps.as_slice(), width, forced)?;
-    let breaking = match break_of(alloc, spans.as_slice(), forced, s.measures) {
+    let spans = spans_of(
+        rt,
+        alloc,
+        starts,
+        others,
+        gaps.as_slice(),
+        width,
+        forced,
+        jobs,
+    )?;
+    let breaking = match break_of(alloc, &spans, forced, s.measures) {
         Ok(breaking) => breaking,
         Err(error) => return Err(layout_error(error)),
     };
@@ -125,7 +139,7 @@ fn lay_out_measures(
         breaking,
         systems: marks,
         placed,
-        spans,
+        spans: spans.list,
         heights,
     })
 }
@@ -138,9 +152,19 @@ fn lay_out_measures(
 /// A score without voices has no measure. A score of no measures has the empty breaking. `NoWay`
 /// comes exactly where no breaking is legal. Room for placing columns is reserved before the first
 /// force is searched for, so that no search wants memory.
-pub fn lay_out(alloc: Global, s: &Score, width: u32) -> Result<Layout, LayoutError>
+///
+/// The spans are found by `jobs`, which is 1 to 64; the layout doesn't depend on it.
+pub fn lay_out<R: Threads + Sync>(
+    rt: &R,
+    alloc: Global,
+    s: &Score,
+    width: u32,
+    jobs: u8,
+) -> Result<Layout, LayoutError>
     requires good { IsGoodScore s.now }
     requires heard { 0 < s.now.measures → 1 ≤ length s.now.voices }
+    requires some { 1 ≤ jobs }
+    requires few { jobs ≤ 64 }
     ensures form { IfOk result (λ l. AreSpans s.now.measures l.spans) }
     ensures spans { IfOk result (λ l. AreSpansOf s.now width l.spans) }
     ensures chosen { IfOk result (λ l. IsChosen (listed l.spans) (is_forced_in s.now) s.now.measures l.breaking.breaks) }
@@ -164,5 +188,7 @@ pub fn lay_out(alloc: Global, s: &Score, width: u32) -> Result<Layout, LayoutErr
     let further = columns_of_measures(alloc, s, voices, &t, 1, verses)?;
     let others = further.as_slice();
     measures_join();
-    lay_out_measures(alloc, s, voices, &t, verses, starts, others, width)
+    lay_out_measures(
+        rt, alloc, s, voices, &t, verses, starts, others, width, jobs,
+    )
 }

@@ -1,27 +1,42 @@
-use Rattle.std.proofs.{Common.length, Common.slice_index_or, Common.false, Common.sym, Common.◌∙◌, Common.ap, Common.subst, Math.Path.fun_ext}
-use Rattle.lay_breaks.specs.Spans.{AreSpans}
-use Rattle.lay_spans.{specs.Forced.is_forced, specs.SpanList.IsSpanList, specs.Rows.AreRows, specs.Rows.rows_spans, proofs.Growing.rows_are_spans, proofs.Growing.rows_tell_spans, proofs.Growing.on_ok, proofs.spans.spans_of.Goals.After-list_rows}
+use Rattle.std.proofs.{Common.{◌≡◌, length, slice_index_or, false, sym, ◌∙◌, ap, subst}, Math.Path.fun_ext}
+use Rattle.lay_breaks.specs.Spans.{AreSpans, listed}
+use Rattle.lay_rows.specs.Tables.{IsTable}
+use Rattle.lay_spans.{specs.{Forced.is_forced, SpanList.IsSpanList, Rows.{IsRowFrom, rows_spans}}, proofs.{Growing.{rows_are_spans, rows_tell_spans}, Listing.rows_listed, spans.spans_of.Goals.In_ok-list}}
 use Rattle.lay_spans.proofs.spans.spans_of.Goals as goal
 
-rows : (g : _) (c : After-list_rows g)
-    → AreRows g.C.Spaced.reach_of g.C.Spring.length_of c.args.gaps.now c.args.width c.args.starts.now c.args.others.now
-    (is_forced (length c.args.starts.now) c.args.forced.now) (length c.args.starts.now) c.as_slice-2.result.now
-rows g c =
-    let marked = fun_ext (λ b. ap (λ marks. slice_index_or marks b false) c.as_slice.ensures ∙ c.in_ok-marks.ensures.each b) in
-    subst (λ rows. AreRows g.C.Spaced.reach_of g.C.Spring.length_of c.args.gaps.now c.args.width c.args.starts.now c.args.others.now
-    (is_forced (length c.args.starts.now) c.args.forced.now) (length c.args.starts.now) rows) (sym c.as_slice-2.ensures)
-    (subst (λ forced. AreRows g.C.Spaced.reach_of g.C.Spring.length_of c.args.gaps.now c.args.width c.args.starts.now c.args.others.now
-    forced (length c.args.starts.now) c.in_ok-rows.rows) marked c.in_ok-rows.ensures)
+table : (g : _) (c : In_ok-list g)
+    → IsTable (λ a row. IsRowFrom g.C.Spaced.reach_of g.C.Spring.length_of c.args.gaps.now c.args.width c.args.starts.now c.args.others.now
+    (is_forced (length c.args.starts.now) c.args.forced.now) a row) (length c.args.starts.now) c.in_ok-rows.rows.rows
+table g c =
+    subst (λ forced. IsTable (λ a row. IsRowFrom g.C.Spaced.reach_of g.C.Spring.length_of c.args.gaps.now c.args.width c.args.starts.now c.args.others.now
+    forced a row) (length c.args.starts.now) c.in_ok-rows.rows.rows)
+    (fun_ext (λ b. ap (λ marks. slice_index_or marks b false) c.as_slice.ensures ∙ c.in_ok-marks.ensures.each b)) c.in_ok-rows.ensures
+
+list : (g : _) (c : In_ok-list g) → rows_spans 0 c.in_ok-rows.rows.rows ≡ c.in_ok-list.list
+list g c = sym (c.in_ok-list.ensures ∙ ap (λ rows. rows_spans 0 rows) c.as_slice-2.ensures)
+
+form : (g : _) (c : In_ok-list g) → AreSpans (length c.args.starts.now) (rows_spans 0 c.in_ok-rows.rows.rows)
+form g c =
+    rows_are_spans g.C.Spaced.reach_of g.C.Spring.length_of c.args.gaps.now c.args.width c.args.starts.now c.args.others.now
+    (is_forced (length c.args.starts.now) c.args.forced.now) c.in_ok-rows.rows.rows (table g c)
+
+pub invariant_of-result : goal.invariant_of-result
+invariant_of-result g c =
+    let made = (goal.at.invariant_of-result g c).In_ok-list in
+    record { same = λ a b. rows_listed (length c.args.starts.now) c.in_ok-rows.rows.rows (form g made) a b ∙ ap (λ spans. listed spans a b) (list g made) }
 
 pub returns-clause-form : goal.returns-clause-form
 returns-clause-form g c =
-    on_ok (λ spans. AreSpans (length c.args.starts.now) spans) c.list_rows.result (rows_spans 0 c.as_slice-2.result.now) c.list_rows.ensures
-    (rows_are_spans g.C.Spaced.reach_of g.C.Spring.length_of c.args.gaps.now c.args.width c.args.starts.now c.args.others.now
-    (is_forced (length c.args.starts.now) c.args.forced.now) c.as_slice-2.result.now (rows g (goal.at.returns-clause-form g c).After-list_rows))
+    let made = (goal.at.returns-clause-form g c).In_ok-list in
+    subst (λ spans. AreSpans (length c.args.starts.now) spans) (list g made) (form g made)
+
+pub returns-clause-bars : goal.returns-clause-bars
+returns-clause-bars g c = (table g (goal.at.returns-clause-bars g c).In_ok-list).count
 
 pub returns-clause-exact : goal.returns-clause-exact
 returns-clause-exact g c =
-    on_ok (λ spans. IsSpanList g.C.Spaced.reach_of g.C.Spring.length_of c.args.gaps.now c.args.width c.args.starts.now c.args.others.now
-    (is_forced (length c.args.starts.now) c.args.forced.now) spans) c.list_rows.result (rows_spans 0 c.as_slice-2.result.now) c.list_rows.ensures
+    let made = (goal.at.returns-clause-exact g c).In_ok-list in
+    subst (λ spans. IsSpanList g.C.Spaced.reach_of g.C.Spring.length_of c.args.gaps.now c.args.width c.args.starts.now c.args.others.now
+    (is_forced (length c.args.starts.now) c.args.forced.now) spans) (list g made)
     (rows_tell_spans g.C.Spaced.reach_of g.C.Spring.length_of c.args.gaps.now c.args.width c.args.starts.now c.args.others.now
-    (is_forced (length c.args.starts.now) c.args.forced.now) c.as_slice-2.result.now (rows g (goal.at.returns-clause-exact g c).After-list_rows))
+    (is_forced (length c.args.starts.now) c.args.forced.now) c.in_ok-rows.rows.rows (table g made))

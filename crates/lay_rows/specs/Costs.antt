@@ -1,20 +1,10 @@
 -- The costs of spans kept as rows, one for each bar.
-use Rattle.std.{specs.Prelude.{◌≡◌, ℕ, zero, suc, ◌+◌, ◌<◌, ◌≤◌, ◌^◌, ◌==◌, nat_lt, true, List, [], ◌∷◌, length, drop, Option, None, IfSome, if◌then◌else◌, refl}, proofs.{Common.{arith, sym, ◌∙◌}, lemmas.Bool.Decides.nat_tests}}
-use Rattle.lay_breaks.specs.{declared.costs.Span.Span, Rows.row_cost, Rows.rows_stop, Rows.rows_small, Rows.AreSmall}
+use Rattle.std.{specs.Prelude.{◌≡◌, ℕ, ◌<◌, ◌≤◌, ◌^◌, nat_lt, true, List, Option, None, IfSome, if◌then◌else◌, refl}, proofs.{Common.{arith, sym, ◌∙◌}, lemmas.Bool.Decides.nat_tests}}
+use Rattle.lay_breaks.specs.Rows.{row_cost, rows_stop, rows_small, AreSmall}
 
 -- what the span from a to b costs, by the row of bar a
 abbrev pub cost_in : List (List ℕ) → ℕ → ℕ → Option ℕ
 cost_in rows a b = if nat_lt a b then row_cost rows a b else None
-
--- what the spans from bar a at the head of the list cost
-abbrev pub leading : ℕ → List Span → List ℕ
-leading a [] = []
-leading a (s ∷ ss) = if s.a == a then s.badness ∷ leading a ss else []
-
--- the rows of the next n bars, from a on
-abbrev pub rows_from : ℕ → ℕ → List Span → List (List ℕ)
-rows_from zero a spans = []
-rows_from (suc n) a spans = leading a spans ∷ rows_from n (a + 1) (drop (length (leading a spans)) spans)
 
 -- What follows from the form: the two laws of costs.
 rising : (rows : List (List ℕ)) (a b : ℕ) → a < b → cost_in rows a b ≡ row_cost rows a b

@@ -1,5 +1,5 @@
 use Rattle.std.proofs.Common.{◌+◌, ◌*◌}
-use Rattle.set_halves.proofs.halves.+halves.Given as goal
+use Rattle.eng_halves.proofs.halves.+halves.Given as goal
 
 -- each half has fewer jobs than the whole
 abbrev pub decreases-work_all : goal.decreases-work_all

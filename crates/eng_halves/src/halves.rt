@@ -15,9 +15,11 @@ pub trait Work<T, O> {
     // The outcomes that an item may have.
     ghost gives: { Self → T → O → Type 0 };
 
-    /// The outcome of the item. `Memory` alone comes in its place.
-    fn work(&self, item: &T) -> Result<O, Memory>
-        requires { takes self.now item.now }
+    /// The outcome of the item, by 1 to 64 jobs. `Memory` alone comes in its place.
+    fn work(&self, item: &T, jobs: u8) -> Result<O, Memory>
+        requires takes { takes self.now item.now }
+        requires some { 1 ≤ jobs }
+        requires few { jobs ≤ 64 }
         ensures { IfOk result (λ outcome. gives self.now item.now outcome) };
 }
 
@@ -25,7 +27,8 @@ pub trait Work<T, O> {
 ///
 /// `jobs` is 1 to 64. The items are halved, and the jobs with them, until a
 /// half has one job or one item; halves are worked on side by side where
-/// threads can be made. `Memory` comes where memory ran out in any half.
+/// threads can be made, and each item by the jobs that are left for it.
+/// `Memory` comes where memory ran out in any half.
 #[cycle(halves)]
 #[tactic(auto, using(crate::proofs::ZipLaws::all_zip_halves))]
 pub fn work_all<R: Threads + Sync, T: Sync, O: Send + Drop, W: Work<T, O> + Sync>(
@@ -41,7 +44,7 @@ pub fn work_all<R: Threads + Sync, T: Sync, O: Send + Drop, W: Work<T, O> + Sync
     ensures { IfOk result (λ outcomes. AllZip (W.gives work.now) items.now outcomes) }
 {
     if jobs == 1 || items.len() <= 1 {
-        return work_in_turn(alloc, items, work);
+        return work_in_turn(alloc, items, jobs, work);
     }
     let (low, high) = items.split_at(items.len() / 2);
     let low_jobs = jobs / 2;
@@ -68,19 +71,22 @@ fn appended<O: Drop>(first: Row<O>, second: Row<O>) -> Result<Row<O>, Memory>
     Ok(both)
 }
 
-/// The outcomes of the work on each item, one after another.
+/// The outcomes of the work on each item by so many jobs, one item after another.
 #[tactic(auto, using(crate::proofs::ZipLaws::all_zip_next))]
 fn work_in_turn<T, O: Drop, W: Work<T, O>>(
     alloc: Global,
     items: &[T],
+    jobs: u8,
     work: &W,
 ) -> Result<Row<O>, Memory>
-    requires { All (W.takes work.now) items.now }
+    requires some { 1 ≤ jobs }
+    requires few { jobs ≤ 64 }
+    requires takes { All (W.takes work.now) items.now }
     ensures { IfOk result (λ outcomes. AllZip (W.gives work.now) items.now outcomes) }
 {
     let mut outcomes = Row::new(alloc);
     for item in items {
-        outcomes.push(work.work(item)?)?;
+        outcomes.push(work.work(item, jobs)?)?;
     }
     Ok(outcomes)
 }

@@ -1,0 +1,84 @@
+ghost use Rattle.std.specs.Prelude.{◌≡◌, ◌-◌, ◌<◌, ◌≤◌, ◌^◌, ℕ, List, IfOk, length, slice_index};
+ghost use Rattle.lay_rows.specs.Tables.{IsTable};
+
+use crate::rows::Rows;
+use eng_halves::{Work, work_all};
+use mus_units::{Memory, Row};
+use std::alloc::Global;
+use std::thread::Threads;
+
+/// A table of costs that is made row by row.
+///
+/// What a row is made from the maker holds itself, so that several threads may
+/// share it.
+pub trait RowMaker {
+    ghost use Rattle.std.specs.Prelude.{◌≡◌, ◌<◌, ◌≤◌, ◌^◌, ℕ, List, All, IfOk};
+
+    // how many rows the table has
+    ghost bars: { Self → ℕ };
+
+    // the row of a bar: what the spans from it that fit cost, the shortest first
+    ghost is_row: { Self → ℕ → List ℕ → Type 0 };
+
+    /// The row of bar `a`. `Memory` alone comes in its place.
+    fn costs_from(&self, a: u32) -> Result<Row<u64>, Memory>
+        requires { a < bars self.now }
+        ensures { IfOk result (λ row. is_row self.now a row) };
+
+    // a bar has one row
+    ghost is_one: { (m : Self) (a : ℕ) (row other : List ℕ) → a < bars m → is_row m a row → is_row m a other → row ≡ other };
+
+    // no cost passes 2^40
+    ghost is_small: { (m : Self) (a : ℕ) (row : List ℕ) → a < bars m → is_row m a row → All (λ v. v ≤ 2 ^ 40) row };
+}
+
+/// The work of a maker on its bars.
+#[derive(Drop)]
+struct Making<'a, M> {
+    maker: &'a M,
+}
+
+impl<'a, M: RowMaker> Work<u32, Row<u64>> for Making<'a, M> {
+    ghost takes = { λ w a. a < M.bars w.maker.now };
+
+    ghost gives = { λ w a row. M.is_row w.maker.now a row };
+
+    fn work(&self, a: &u32, _jobs: u8) -> Result<Row<u64>, Memory> {
+        self.maker.costs_from(*a)
+    }
+}
+
+/// The bars below `n`.
+fn bars_below(alloc: Global, n: u32) -> Result<Row<u32>, Memory>
+    ensures count { IfOk result (λ bars. length bars ≡ n) }
+    ensures each { IfOk result (λ bars. (a : ℕ) → a < n → slice_index bars a ≡ a) }
+{
+    let mut bars = Row::new(alloc);
+    for a in 0..n {
+        bars.push(a)?;
+    }
+    Ok(bars)
+}
+
+/// The table of a maker of `n` rows, whatever the number of jobs.
+///
+/// `jobs` is 1 to 64: the bars are halved, and the jobs with them, and the rows of
+/// the halves are made side by side where threads can be made.
+pub fn make_rows<R: Threads + Sync, M: RowMaker + Sync>(
+    rt: &R,
+    alloc: Global,
+    maker: &M,
+    n: u32,
+    jobs: u8,
+) -> Result<Rows, Memory>
+    requires bars { n ≡ M.bars maker.now }
+    requires short { n ≤ 4000 }
+    requires within { (a : ℕ) (row : List ℕ) → a < n → M.is_row maker.now a row → length row ≤ n - a }
+    requires some { 1 ≤ jobs }
+    requires few { jobs ≤ 64 }
+    ensures { IfOk result (λ made. IsTable (M.is_row maker.now) n made.rows) }
+{
+    let bars = bars_below(alloc, n)?;
+    let rows = work_all(rt, alloc, bars.as_slice(), jobs, &Making { maker })?;
+    Ok(Rows { rows })
+}

@@ -1,0 +1,45 @@
+ghost use Rattle.std.specs.Prelude.{◌≡◌, ◌+◌, ◌<◌, ◌≤◌, ◌^◌, ℕ, length, slice_index, slice_index_or, false};
+ghost use Rattle.lay_spans.specs.{Columns.AreMeasures, Rows.IsRowFrom, Single.{measures_prop, one_row, row_small}};
+
+use crate::rows::row_from;
+use lay_rows::RowMaker;
+use lay_springs::{Spaced, Spring};
+use mus_units::{Memory, Row};
+use std::alloc::Global;
+
+/// The columns of measures, and all else by which it is told which of their spans fit.
+#[derive(Drop)]
+pub(crate) struct SpanMaker<'a, C: Spaced + Spring> {
+    pub(crate) alloc: Global,
+    pub(crate) starts: &'a [Row<C>],
+    pub(crate) others: &'a [Row<C>],
+    pub(crate) gaps: &'a [u32],
+    pub(crate) width: u32,
+    pub(crate) marks: &'a [bool],
+    pub(crate) ghost measures: { AreMeasures C.reach_of (length gaps.now) starts.now others.now } by { measures_prop C.reach_of (length gaps.now) starts.now others.now },
+    pub(crate) ghost lanes: { length gaps.now < 2 ^ 32 },
+    pub(crate) ghost narrow: { (lane : ℕ) → lane < length gaps.now → slice_index gaps.now lane ≤ 2 ^ 20 },
+    pub(crate) ghost marked: { length marks.now ≡ length starts.now + 1 },
+}
+
+impl<'a, C: Spaced + Spring> RowMaker for SpanMaker<'a, C> {
+    ghost bars = { λ m. length m.starts.now };
+
+    ghost is_row = { λ m a row. IsRowFrom C.reach_of C.length_of m.gaps.now m.width m.starts.now m.others.now (λ b. slice_index_or m.marks.now b false) a row };
+
+    fn costs_from(&self, a: u32) -> Result<Row<u64>, Memory> {
+        row_from(
+            self.alloc,
+            self.starts,
+            self.others,
+            self.gaps,
+            self.width,
+            self.marks,
+            a as usize,
+        )
+    }
+
+    ghost is_one = { λ m a row other l h k. one_row C.reach_of C.length_of m.gaps.now m.width m.starts.now m.others.now (λ b. slice_index_or m.marks.now b false) (λ c f g l m. C.rises c f g l m) a row other h k };
+
+    ghost is_small = { λ m a row l h. row_small C.reach_of C.length_of m.gaps.now m.width m.starts.now m.others.now (λ b. slice_index_or m.marks.now b false) a row h };
+}
