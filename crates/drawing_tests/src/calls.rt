@@ -28,6 +28,7 @@ use mus_score::Score;
 use mus_time::onsets;
 use mus_units::{Memory, Text};
 use std::alloc::Global;
+use std::thread::Threads;
 
 /// The marks of a system, or its boxes if so asked.
 fn put_marks(
@@ -124,7 +125,13 @@ fn put_measure_columns(
 }
 
 /// The value of a call on a score.
-fn put_call(alloc: Global, out: &mut Text, score: &Score, call: Call<'_>) -> Result<(), Memory>
+fn put_call<R: Threads + Sync>(
+    rt: &R,
+    alloc: Global,
+    out: &mut Text,
+    score: &Score,
+    call: Call<'_>,
+) -> Result<(), Memory>
     requires { IsGoodScore score.now }
 {
     let numbers = numbers_of(alloc, call.rest)?;
@@ -138,14 +145,19 @@ fn put_call(alloc: Global, out: &mut Text, score: &Score, call: Call<'_>) -> Res
         b"sounds" => put_sounds(out, sounding(alloc, score)?.as_slice()),
         b"plans" => put_score_plans(alloc, out, score),
         b"slope" => put_slopes(alloc, out, score, numbers.as_slice()),
-        b"layout" => put_score_layout(alloc, out, score, a, false),
-        b"systems" => put_score_layout(alloc, out, score, a, true),
+        b"layout" => put_score_layout(rt, alloc, out, score, a, false),
+        b"systems" => put_score_layout(rt, alloc, out, score, a, true),
         _ => put_word(out, b"no such call\n"),
     }
 }
 
 /// Adds a case: the line of its call, its answer, and an empty line.
-pub(crate) fn put_case(alloc: Global, out: &mut Text, case: &str) -> Result<(), Memory> {
+pub(crate) fn put_case<R: Threads + Sync>(
+    rt: &R,
+    alloc: Global,
+    out: &mut Text,
+    case: &str,
+) -> Result<(), Memory> {
     let (line, text) = case.split_once('\n').unwrap_or((case, ""));
     put_word(out, line.as_bytes())?;
     end_line(out)?;
@@ -155,7 +167,7 @@ pub(crate) fn put_case(alloc: Global, out: &mut Text, case: &str) -> Result<(), 
         put_printed(alloc, out, most as usize, text.as_bytes())?;
     } else {
         match score_of(alloc, text.as_bytes()) {
-            Ok(score) => put_call(alloc, out, &score, call)?,
+            Ok(score) => put_call(rt, alloc, out, &score, call)?,
             Err(_) => put_word(out, b"no score\n")?,
         }
     }

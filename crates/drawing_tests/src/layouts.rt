@@ -11,6 +11,7 @@ use mus_laid::SystemMarks;
 use mus_score::Score;
 use mus_units::{Memory, Text};
 use std::alloc::Global;
+use std::thread::Threads;
 
 fn put_bars(out: &mut Text, system: &SystemMarks) -> Result<(), Memory> {
     put_word(out, b"system")?;
@@ -42,7 +43,8 @@ fn put_systems(out: &mut Text, layout: &Layout) -> Result<(), Memory> {
 }
 
 /// A score laid out on a width: where things stand, or else what its systems draw.
-pub(crate) fn put_score_layout(
+pub(crate) fn put_score_layout<R: Threads + Sync>(
+    rt: &R,
     alloc: Global,
     out: &mut Text,
     score: &Score,
@@ -54,7 +56,7 @@ pub(crate) fn put_score_layout(
     if score.voices.len() == 0 {
         return put_word(out, b"no voice\n");
     }
-    match lay_out(alloc, score, width) {
+    match lay_out(rt, alloc, score, width, 2) {
         Ok(layout) if drawn => put_systems(out, &layout),
         Ok(layout) => put_layout(out, &layout),
         Err(LayoutError::NoWay { reached }) => put_no_way(out, reached),

@@ -24,13 +24,14 @@ use mus_ink::beams_by_levels;
 use mus_stems::{beams_by_groups, no_other_plans, slopes_by_beams};
 use mus_units::{Memory, Text};
 use std::alloc::Global;
+use std::thread::Threads;
 use std::{fs, io};
 
 /// The answers to cases, one behind another.
-fn all_answers(alloc: Global, cases: &str) -> Result<Text, Memory> {
+fn all_answers<R: Threads + Sync>(rt: &R, alloc: Global, cases: &str) -> Result<Text, Memory> {
     let mut out = Text::new(alloc);
     for case in cases.split("\n\n") {
-        put_case(alloc, &mut out, case)?;
+        put_case(rt, alloc, &mut out, case)?;
     }
     Ok(out)
 }
@@ -49,7 +50,7 @@ fn state_laws() {
 fn main(rt: HostRuntime) -> io::Result<()> {
     state_laws();
     let cases = fs::read_to_string(&rt, "cases")?;
-    let Ok(text) = all_answers(rt.alloc(), cases.as_str()) else {
+    let Ok(text) = all_answers(&rt, rt.alloc(), cases.as_str()) else {
         return Err(io::Error::other("no memory"));
     };
     let mut output = StdSink::new(rt.stdout());

@@ -5,9 +5,9 @@ use Rattle.mus_time.specs.{declared.keys.{Class.Class, ColumnKey.ColumnKey}, Key
 use Rattle.mus_drawn.specs.{declared.drawn.DrawnMeasure.DrawnMeasure, declared.drawn.DrawnVoice.DrawnVoice}
 use Rattle.mus_laid.specs.Boxes.{AreGoodMarks}
 use Rattle.mus_stems.proofs.RunLaws.{all_append, all_drop, all_take}
-use Rattle.mus_marks.{specs.System.drawn_staves, proofs.Few.few_further, proofs.Few.few_keys, proofs.Fitting.staves_fit, proofs.Parts.columns_all, proofs.Parts.Fits, proofs.Parts.FitsMeasure, proofs.Parts.FitsVoice, proofs.Parts.measures_all, proofs.GoodMarks.goods, proofs.GoodMarks.IsGood}
+use Rattle.mus_marks.{specs.Columns.keys_called, specs.System.drawn_staves, proofs.Few.few_further, proofs.Few.few_keys, proofs.Fitting.staves_fit, proofs.Parts.columns_all, proofs.Parts.Fits, proofs.Parts.FitsMeasure, proofs.Parts.FitsVoice, proofs.Parts.measures_all, proofs.GoodMarks.goods, proofs.GoodMarks.IsGood}
 use Rattle.lay_columns.specs.{declared.column.Column.Column, Widened.AreGoodStaves}
-use Rattle.lay_measures.specs.Measures.{EndWithBar, fixed_place, keys_called, keys_in, measure_part, measure_staff, parts_from}
+use Rattle.lay_measures.specs.Measures.{EndWithBar, fixed_place, keys_in, measure_part, measure_staff, parts_from}
 
 -- ---- one measure of some
 single : {X : Type 0} (m : ℕ) (xs : List X) → m < length xs → (x : X) × (take 1 (drop m xs) ≡ x ∷ [])

@@ -2,10 +2,10 @@
 -- column before, are of no account to columns, so that syllables and texts stand in a place that is always the same.
 use Rattle.std.specs.Prelude.{◌≡◌, ℕ, pos, ◌+◌, Bool, true, false, List, [], ◌∷◌, ◌++◌, map, slice_range, Some}
 use Rattle.mus_score.specs.declared.score.Score.{Score}
-use Rattle.mus_time.specs.{declared.keys.Class.Class, declared.keys.ColumnKey.ColumnKey, declared.times.Timeline.Timeline, Keys.AreKeys, Keys.called_keys, Keys.further_keys}
+use Rattle.mus_time.specs.{declared.keys.Class.Class, declared.keys.ColumnKey.ColumnKey, declared.times.Timeline.Timeline, Keys.AreKeys}
 use Rattle.mus_laid.specs.{declared.laid.Laid.Laid, declared.laid.StaffMarks.StaffMarks}
 use Rattle.mus_drawn.specs.declared.drawn.DrawnVoice.{DrawnVoice}
-use Rattle.mus_marks.specs.{declared.events.Place.Place, declared.events.Room.Room, Events.measures_marks, Staff.columns_part, System.drawn_staves}
+use Rattle.mus_marks.specs.{Columns.keys_called, declared.events.Place.Place, declared.events.Room.Room, Events.measures_marks, Staff.columns_part, System.drawn_staves}
 use Rattle.lay_columns.specs.{declared.column.Column.Column, Columns.columns_of}
 
 -- over the lines of the staff
@@ -35,11 +35,6 @@ measure_staff begins keys lengths m voices = staff_of_columns (parts_from (measu
 
 abbrev pub keys_in : List Column → List ColumnKey
 keys_in columns = map (λ c. c.key) columns
-
--- the keys that the voices call for in measure m of a system that begins with it or began before
-abbrev pub keys_called : Bool → Score → List ℕ → ℕ → List ColumnKey
-keys_called true s lengths m = called_keys s lengths m (m + 1)
-keys_called false s lengths m = further_keys s lengths m
 
 -- the columns of measure m in a system that begins with it or began before; verses are the numbers of verses of the staves
 pub record AreMeasureColumns (begins : Bool) (s : Score) (t : Timeline) (m : ℕ) (verses : List ℕ) (columns : List Column) : Type 0 where

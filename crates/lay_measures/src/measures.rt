@@ -1,18 +1,18 @@
 ghost use Rattle.std.specs.Prelude.{◌≡◌, ◌≤◌, ◌<◌, ◌+◌, ◌++◌, ◌==◌, All, IfOk, OnOk, length, map};
 ghost use Rattle.mus_score.specs.{GoodScore.IsGoodScore, Seats.grouped};
-ghost use Rattle.mus_time.specs.{Keys.AreKeys, Keys.IsInSystem, Onsets.timeline_of, Ranks.AreRanked};
+ghost use Rattle.mus_time.specs.{Keys.IsInSystem, Onsets.timeline_of, Ranks.AreRanked};
 ghost use Rattle.mus_drawn.specs.{Drawn.drawn_voice, Good.AreGoodMeasures};
 ghost use Rattle.mus_marks.specs.{Staff.verses_on, System.drawn_staves, System.stands_lower};
 ghost use Rattle.lay_columns.specs.{Columns.IsSmall, Columns.IsUncut, Columns.StandsWhereDue, Lanes.gaps_of};
-ghost use Rattle.lay_measures.specs.Measures.{AreMeasureColumns, EndWithBar, fixed_place, keys_called, measure_part, measure_staff, staff_of_columns};
+ghost use Rattle.lay_measures.specs.Measures.{AreMeasureColumns, EndWithBar, fixed_place, measure_part, measure_staff, staff_of_columns};
 
 use crate::staves::lower_count;
 use lay_columns::{Column, columns_in};
 use mus_drawn::DrawnVoice;
 use mus_laid::{Laid, StaffMarks};
-use mus_marks::{Place, Room, put_columns_part, put_measures};
+use mus_marks::{Place, Room, measure_keys, put_columns_part, put_measures};
 use mus_score::Score;
-use mus_time::{ColumnKey, Timeline, further_keys, keys_of};
+use mus_time::{ColumnKey, Timeline};
 use mus_units::{Memory, Row};
 use std::alloc::Global;
 
@@ -128,27 +128,6 @@ fn measure_staves(
     Ok(staves)
 }
 
-/// The keys of the columns of measure `m`; `begins` tells whether the system begins with the measure.
-fn keys_for(
-    alloc: Global,
-    s: &Score,
-    t: &Timeline,
-    m: u32,
-    begins: bool,
-) -> Result<Row<ColumnKey>, Memory>
-    requires good { IsGoodScore s.now }
-    requires times { t.now ≡ timeline_of s.now }
-    requires within { m < s.now.measures }
-    ensures keys { IfOk result (λ r. AreKeys r (keys_called begins s.now t.now.lengths m)) }
-    ensures places { IfOk result (All (IsInSystem t.now.lengths m (m + 1))) }
-{
-    if begins {
-        keys_of(alloc, s, t, m, m + 1)
-    } else {
-        further_keys(alloc, s, t, m)
-    }
-}
-
 /// The columns of measure `m` in a system that begins with measure `a`, from the left to the right:
 /// where that is the same measure, its head, the bar before the first measure where it has features,
 /// and the measure's own; else the measure's own alone, where the change before the first event has a
@@ -179,7 +158,7 @@ pub fn measure_columns(
     ensures small { IfOk result (All IsSmall) }
     ensures uncut { IfOk result (All IsUncut) }
 {
-    let keys = keys_for(alloc, s, t, m, a == m)?;
+    let keys = measure_keys(alloc, s, voices, t, m, a == m)?;
     let lengths = t.lengths.as_slice();
     let staves = measure_staves(alloc, keys.as_slice(), lengths, m, a == m, voices)?;
     columns_in(alloc, keys.as_slice(), staves.as_slice(), lengths, verses)

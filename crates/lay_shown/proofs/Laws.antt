@@ -4,7 +4,7 @@ use Rattle.mus_score.specs.{declared.score.Score.Score, declared.score.Voice.Voi
 use Rattle.mus_time.{specs.declared.keys.ColumnKey.ColumnKey, specs.Keys.head_key, specs.Keys.keys_by, specs.Keys.voice_keys, specs.Onsets.timeline_of, specs.Order.rank_of, proofs.RankLaws.false_not_true, proofs.RankLaws.rank_at_place}
 use Rattle.mus_laid.specs.{declared.laid.Laid.Laid, declared.laid.StaffMarks.StaffMarks, declared.laid.SystemMarks.SystemMarks, Ranked.anchor_rank, Ranked.is_rank}
 use Rattle.mus_drawn.specs.{declared.drawn.DrawnVoice.DrawnVoice, Drawn.drawn_voice}
-use Rattle.mus_marks.{specs.{Staff.staff_marks, System.{IsCall, drawn_staves, stands_lower}}, proofs.{Groups.{grouped_all, grouped_whole}, Inside.{AreAmong, here, there, voice_same, voices_called}, Lines.voice_count}}
+use Rattle.mus_marks.{specs.{Staff.staff_marks, System.{IsCall, drawn_staves, stands_lower}}, proofs.{Groups.{grouped_all, grouped_whole}, Inside.{AreAmong, here, staff_same, there, voices_called}, Lines.voice_count}}
 use Rattle.lay_shown.{specs.{Ranks.{AreAnchored, AreRanked, IsRanked, marks_ranks, staves_ranks}, Shown.IsShown}, proofs.{Bridged.voices_between, Planned.voice_planned, Printed.texts_printed, Standing.{HasRank, same_rank}, Staves.{IsInside, own_columns, staff_holds, staff_ranked}}}
 
 -- what one of some things has, others have by that thing
@@ -44,10 +44,6 @@ ranks_hold r xs h = rank_held r h.0 xs (rank_is r (anchor_rank h.0.mark) h.2) h.
 found : (n : ℕ) (ranks : List ℕ) → Contains ranks n → IsTrue (list_any (λ r. n == r) ranks)
 found n ranks (i, inside, is) = list_any_at (λ r. n == r) ranks i n inside (ap (λ r. n == r) is ∙ same_rank n)
 
-own_same : (lengths : List ℕ) (a b : ℕ) (v : Voice) → voice_keys lengths a b v ≡ own_columns lengths a b (drawn_voice v)
-unfolding drawn_voice
-own_same lengths a b v = ap (keys_by (is_lower v.seat)) (voice_same lengths a b v)
-
 module _ (s : Score) (a b : ℕ) (m : SystemMarks) (good : IsGoodScore s) (rises : a < b) (within : b ≤ s.measures) (call : IsCall s (timeline_of s) a b m) where
   abbrev lengths : List ℕ
   lengths = (timeline_of s).lengths
@@ -61,7 +57,7 @@ module _ (s : Score) (a b : ℕ) (m : SystemMarks) (good : IsGoodScore s) (rises
       let same = voice_count v ∙ good.measures k d inside in record {
         long = omega (arith, within, same);
         planned = voice_planned v;
-        among = subst (λ t. AreAmong t m.keys) (own_same lengths a b v) (voices_called s lengths a b m.keys call.keys k d inside);
+        among = subst (λ t. AreAmong t m.keys) (staff_same lengths a b v) (voices_called s lengths a b m.keys call.keys k d inside);
         between = voices_between s a b m.keys good rises within call.keys k d inside;
       })
 
@@ -90,7 +86,7 @@ module _ (s : Score) (a b : ℕ) (m : SystemMarks) (good : IsGoodScore s) (rises
       (subst (λ t. Contains (flat_map own t) k) (sym (grouped_whole stands_lower voices))
       (subst (λ t. Contains t k) (sym (flat_map-map own drawn_voice s.voices))
       (of_each (voice_keys lengths a b) (λ v. own (drawn_voice v)) k k s.voices
-      (recursion_from_All _ s.voices (λ i d within'. subst (λ t. Contains t k) (own_same lengths a b _))) (call.keys.only k inside))))
+      (recursion_from_All _ s.voices (λ i d within'. subst (λ t. Contains t k) (staff_same lengths a b _))) (call.keys.only k inside))))
 
   staves_anchored : AreAnchored (length m.keys) (staves_ranks (map staff (drawn_staves s)))
   staves_anchored i inside =

@@ -1,52 +1,41 @@
-ghost use Rattle.std.specs.Prelude.{◌≡◌, ◌++◌, map, IfOk, OnOk};
+ghost use Rattle.std.specs.Prelude.{◌≡◌, ◌++◌, map, OnOk};
 ghost use Rattle.mus_time.specs.Ranks.{AreRanked};
 ghost use Rattle.mus_laid.specs.Ranked.{bridge_at, drawn_at, ink_at, span_at};
 
 use crate::drawn::{Bridge, Drawn, Ink, Span};
 use crate::laid::{Laid, Lane, Mark};
 use mus_time::{ColumnKey, rank_of};
-use mus_units::{Memory, Row, Text};
-use std::alloc::Global;
+use mus_units::{Memory, Row};
 
 /// What is drawn in a column, as the mark of a system in which the column has this rank.
-fn ink_at(alloc: Global, rank: u32, ink: &Ink) -> Result<Mark, Memory>
-    ensures { IfOk result (λ m. m ≡ ink_at rank ink.now) }
+fn ink_at(rank: u32, ink: Ink) -> Mark
+    ensures { result ≡ ink_at rank ink }
 {
     match ink {
-        Ink::Glyph { glyph, dx, dy } => Ok(Mark::Glyph {
-            glyph: *glyph,
+        Ink::Glyph { glyph, dx, dy } => Mark::Glyph {
+            glyph,
             rank,
-            dx: *dx,
-            dy: *dy,
-        }),
-        Ink::Words { size, dx, dy, text } => Ok(Mark::Words {
-            size: *size,
+            dx,
+            dy,
+        },
+        Ink::Words { size, dx, dy, text } => Mark::Words {
+            size,
             rank,
-            dx: *dx,
-            dy: *dy,
-            text: Text::from_slice(alloc, text.as_slice())?,
-        }),
-        Ink::Stem { dx, from, to } => Ok(Mark::Stem {
-            rank,
-            dx: *dx,
-            from: *from,
-            to: *to,
-        }),
+            dx,
+            dy,
+            text,
+        },
+        Ink::Stem { dx, from, to } => Mark::Stem { rank, dx, from, to },
     }
 }
 
 /// Lays what is drawn in the column of `rank`, in order. The only error is want of memory.
-pub fn put_ranked(
-    alloc: Global,
-    out: &mut Row<Laid>,
-    rank: u32,
-    marks: &[Drawn],
-) -> Result<(), Memory>
-    ensures { OnOk result (out.new ≡ out.old ++ map (drawn_at rank) marks.now) }
+pub fn put_ranked(out: &mut Row<Laid>, rank: u32, marks: Row<Drawn>) -> Result<(), Memory>
+    ensures { OnOk result (out.new ≡ out.old ++ map (drawn_at rank) marks) }
 {
-    for drawn in marks {
+    for drawn in marks.items {
         out.push(Laid {
-            mark: ink_at(alloc, rank, &drawn.ink)?,
+            mark: ink_at(rank, drawn.ink),
             lane: drawn.lane,
         })?;
     }

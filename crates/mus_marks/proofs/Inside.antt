@@ -1,28 +1,13 @@
 -- The columns that a voice draws in are among those of its system.
-use Rattle.std.{proofs.{Common.{◌≡◌, ◌∙◌, ℕ, zero, suc, ◌+◌, ◌-◌, ◌<◌, ◌≤◌, Bool, true, false, not, ◌&&◌, ◌||◌, nat_le, if◌then◌else◌, cond, List, [], ◌∷◌, ◌++◌, length, length-drop, length-take, get_or, take, drop, Option, Some, None, refl, sym, ap, subst, arith}, lemmas.{List.{get_or-drop, get_or-take, Elements.{All-from_recursion, Contains-append_left, Contains-append_right, recursion_from_All}, Sums.sum_by-cons}, Option.{get_or_from_slice_get, none-some, same_Some, slice_get_read, slice_get_within}}}, specs.{List.{All, AllByRecursion, Contains, filter, flat_map, slice_get, slice_index_or, slice_range}, Prelude.{is_some, unwrap_or}}}
+use Rattle.std.{proofs.{Common.{◌≡◌, ◌∙◌, ℕ, zero, suc, ◌+◌, ◌-◌, ◌<◌, ◌≤◌, Bool, true, false, not, ◌&&◌, ◌||◌, nat_le, if◌then◌else◌, cond, List, [], ◌∷◌, ◌++◌, length, length-drop, length-take, get_or, map, take, drop, Option, Some, None, refl, sym, ap, subst, arith}, lemmas.{List.{get_or-drop, get_or-take, Elements.{All-from_recursion, Contains-append_left, Contains-append_right, recursion_from_All}, Sums.sum_by-cons}, Option.{get_or_from_slice_get, none-some, same_Some, slice_get_read, slice_get_within}}}, specs.{List.{All, AllByRecursion, Contains, filter, flat_map, slice_get, slice_index_or, slice_range}, Prelude.{is_some, unwrap_or}}}
 use Rattle.mus_units.specs.{declared.key.Key.Key, declared.key.Meter.Meter, declared.note.Wish.Wish, declared.pitch.Clef.Clef}
 use Rattle.mus_score.specs.{declared.score.Event.Event, declared.score.Flat.Flat, declared.score.Measure.Measure, declared.score.Score.Score, declared.score.Voice.Voice, Good.total_ticks, GoodScore.clef_at, GoodScore.IsGoodScore, GoodScore.IsLed, Seats.is_lower, Times.flats_of}
 use Rattle.mus_stems.{specs.declared.plans.StemPlan.StemPlan, specs.Plans.stems_of, specs.Stills.stills, proofs.EndLaws.plans_length}
-use Rattle.mus_time.specs.{Keys.{all_keys, AreKeys, bar_key, called_keys, change_keys, event_keys, events_keys, first_keys, grace_keys, has_entries, head_key, is_for_each, key_at, key_has_mark, keys_by, measures_keys, meter_has_mark, signed_after, signed_behind, signed_through, voice_keys}, declared.keys.{Class.Class, ColumnKey.ColumnKey}}
+use Rattle.mus_time.{proofs.Places.{further_places, places_of}, specs.{Onsets.timeline_of, Keys.{all_keys, AreKeys, bar_key, called_keys, change_keys, event_keys, events_keys, first_keys, grace_keys, has_entries, head_key, is_for_each, IsInSystem, key_at, key_has_mark, keys_by, measure_keys, measures_keys, meter_has_mark, signed_after, signed_at, signed_behind, signed_through, voice_keys}, declared.keys.{Class.Class, ColumnKey.ColumnKey}}}
 use Rattle.mus_drawn.specs.{declared.{drawn.{DrawnEvent.DrawnEvent, DrawnMeasure.DrawnMeasure, DrawnVoice.DrawnVoice, Style.Style}, standing.Standing.Standing}, Drawn.{clefs_from, drawn_events, drawn_measure, drawn_measures, drawn_voice, old_signs, standing_after, standing_behind, standing_of, style_of}}
-use Rattle.mus_marks.{specs.Events.note_key, proofs.Lines.voice_count}
+use Rattle.mus_marks.{specs.{Columns.{events_columns, has_old, keys_called, measures_columns, staff_columns, voice_columns}, Events.note_key}, proofs.Lines.voice_count}
 
 -- ---- the columns of drawn events
--- whether an event that changes the key has entries before it
-abbrev pub has_old : DrawnEvent → Bool
-has_old e = nat_le 1 (length e.old)
-
-abbrev pub events_columns : ℕ → Bool → List DrawnEvent → List ColumnKey
-events_columns m in_head [] = []
-events_columns m in_head (e ∷ es) = event_keys m e.tick in_head (has_old e) e.flat ++ events_columns m false es
-
-abbrev pub measures_columns : List ℕ → ℕ → Bool → List DrawnMeasure → List ColumnKey
-measures_columns lengths m in_head [] = []
-measures_columns lengths m in_head (d ∷ ds) = events_columns m in_head d.events ++ bar_key lengths m ∷ measures_columns lengths (m + 1) false ds
-
-abbrev pub voice_columns : List ℕ → ℕ → ℕ → DrawnVoice → List ColumnKey
-voice_columns lengths a b v = head_key a ∷ first_keys a v.first ++ measures_columns lengths a true (slice_range v.measures a b)
-
 -- a drawn event has the signs of the key before it where that is of account
 mark_same : (key : Key) (clef : Option Clef) (new : Option Key) (meter : Option Meter)
     → (is_some clef || key_has_mark (has_entries key) new || meter_has_mark meter) ≡ (is_some clef || key_has_mark (nat_le 1 (length (old_signs key new))) new || meter_has_mark meter)
@@ -94,6 +79,30 @@ pub voice_same : (lengths : List ℕ) (a b : ℕ) (v : Voice) → all_keys lengt
 unfolding drawn_voice
 voice_same lengths a b v =
     ap (λ t. head_key a ∷ first_keys a v.first ++ t) (some_measures lengths (style_of v) a a (b - a) true (has_entries v.key) (standing_of v) v.measures refl)
+
+-- voices call for the columns that they have on their staves, as they are drawn
+pub staff_same : (lengths : List ℕ) (a b : ℕ) (v : Voice) → voice_keys lengths a b v ≡ staff_columns true lengths a b (drawn_voice v)
+unfolding drawn_voice
+staff_same lengths a b v = ap (keys_by (is_lower v.seat)) (voice_same lengths a b v)
+
+further_same : (lengths : List ℕ) (m : ℕ) (v : Voice) → measure_keys lengths m v ≡ staff_columns false lengths m (m + 1) (drawn_voice v)
+unfolding drawn_voice
+further_same lengths m v = ap (keys_by (is_lower v.seat)) (some_measures lengths (style_of v) m m (m + 1 - m) false (has_entries v.key) (standing_of v) v.measures refl)
+
+each_same : (f : Voice → List ColumnKey) (g : DrawnVoice → List ColumnKey) → ((v : Voice) → f v ≡ g (drawn_voice v)) → (vs : List Voice) → flat_map f vs ≡ flat_map g (map drawn_voice vs)
+each_same f g same [] = refl
+each_same f g same (v ∷ vs) = ap (λ ks. ks ++ flat_map f vs) (same v) ∙ ap (λ ks. g (drawn_voice v) ++ ks) (each_same f g same vs)
+
+pub voices_same : (lengths : List ℕ) (a b : ℕ) (vs : List Voice) → flat_map (voice_keys lengths a b) vs ≡ flat_map (staff_columns true lengths a b) (map drawn_voice vs)
+voices_same lengths a b = each_same (voice_keys lengths a b) (staff_columns true lengths a b) (staff_same lengths a b)
+
+pub called_same : (begins : Bool) (s : Score) (lengths : List ℕ) (m : ℕ) → keys_called begins s lengths m ≡ flat_map (staff_columns begins lengths m (m + 1)) (map drawn_voice s.voices)
+called_same true s lengths m = voices_same lengths m (m + 1) s.voices
+called_same false s lengths m = each_same (measure_keys lengths m) (staff_columns false lengths m (m + 1)) (further_same lengths m) s.voices
+
+pub called_places : (begins : Bool) (s : Score) (m : ℕ) (keys : List ColumnKey) → IsGoodScore s → m < s.measures → AreKeys keys (keys_called begins s (timeline_of s).lengths m) → All (IsInSystem (timeline_of s).lengths m (m + 1)) keys
+called_places true s m keys good within are = places_of s m (m + 1) keys good (omega arith) (omega (arith, within)) are
+called_places false s m keys good within are = further_places s m keys good within are
 
 -- ---- they are among some keys
 abbrev pub AreAmong : List ColumnKey → List ColumnKey → Type 0

@@ -2,8 +2,8 @@ ghost use Rattle.std.specs.Prelude.{◌≡◌, ◌≤◌, ◌++◌, length, map,
 ghost use Rattle.mus_time.specs.Ranks.{AreRanked};
 ghost use Rattle.mus_stems.specs.Heads.{AllNear, stand_of};
 ghost use Rattle.mus_laid.specs.Ranked.{drawn_at};
-ghost use Rattle.mus_ink.specs.Graces.{grace_marks};
-ghost use Rattle.mus_drawn.specs.Good.{AllCanGrace, AreGoodDrawn, IsGoodDrawn};
+ghost use Rattle.mus_ink.specs.{Decos.note_marks, Graces.grace_marks};
+ghost use Rattle.mus_drawn.specs.{Drawn.raise_of, Good.{AllCanGrace, AreGoodDrawn, IsGoodDrawn}};
 ghost use Rattle.mus_marks.specs.{Events.{note_key, note_rank, changes_nothing, change_part, graces_from, graces_part, note_part, no_texts, text_place, words_marks, words_part, event_marks, levels_in, levels_behind, events_marks}, Places.HasVerses};
 
 use mus_drawn::{DrawnEvent, raise_of};
@@ -85,7 +85,7 @@ fn put_change_part(
     let rank = rank_at(keys, measure, e.tick, Class::Change, 0);
     let mut marks = Row::new(alloc);
     put_change(alloc, &mut marks, e.clef, e.old.as_slice(), changes)?;
-    put_ranked(alloc, out, rank, marks.as_slice())
+    put_ranked(out, rank, marks)
 }
 
 /// Lays a grace of a group in its column.
@@ -104,7 +104,7 @@ fn put_grace_at(
 {
     let mut drawn = Row::new(alloc);
     put_grace(alloc, &mut drawn, clef, group, first, grace)?;
-    put_ranked(alloc, out, rank, drawn.as_slice())
+    put_ranked(out, rank, drawn)
 }
 
 /// Lays graces of a group, each in a column of its own.
@@ -170,68 +170,58 @@ pub(crate) fn texts_at(before: &[Texts], rank: usize) -> Texts
         .unwrap_or(Texts { above: 0, below: 0 })
 }
 
-/// Lays an event in its column, but for its syllables and texts.
+/// Draws the syllables and texts of an event in the column of `rank`, if their place is known.
+fn put_words(
+    alloc: Global,
+    out: &mut Row<Drawn>,
+    place: Option<&Place>,
+    rank: u32,
+    flat: &Flat,
+) -> Result<(), Memory>
+    requires words { length flat.now.event.words ≤ 8 }
+    requires verses { HasVerses (option_copied place) }
+    ensures { OnOk result (out.new ≡ out.old ++ words_marks (option_copied place.entry) rank flat.now) }
+{
+    let Some(place) = place else {
+        return Ok(());
+    };
+    let words = flat.event.words.as_slice();
+    put_syllables(alloc, out, place.first, place.room.low, words)?;
+    let before = texts_at(place.before.as_slice(), rank as usize);
+    put_texts(alloc, out, text_place(place.room, before), flat)
+}
+
+/// Draws an event, but for its syllables and texts.
+fn draw_note(out: &mut Row<Drawn>, before: u8, after: u8, e: &DrawnEvent) -> Result<(), Memory>
+    ensures { OnOk result (out.new ≡ out.old ++ note_marks e.now.clef (raise_of e.now.seat) e.now.flat.event e.now.plan before after) }
+{
+    let (event, plan) = (&e.flat.event, &e.plan);
+    let raise = raise_of(e.seat);
+    put_note(out, e.clef, raise, event, plan, plan.to, before, after)
+}
+
+/// Lays an event in its column, with its syllables and texts if their place is known.
+#[tactic(auto, using(crate::proofs::Appended::both_laid))]
 fn put_note_part(
     alloc: Global,
     out: &mut Row<Laid>,
     keys: &[ColumnKey],
+    place: Option<&Place>,
     measure: u32,
     before: u8,
     after: u8,
     e: &DrawnEvent,
 ) -> Result<(), Memory>
-    requires { AreRanked keys.now }
-    ensures { OnOk result (out.new ≡ out.old ++ note_part keys.now measure before after e.now) }
-{
-    let (event, plan) = (&e.flat.event, &e.plan);
-    let mut drawn = Row::new(alloc);
-    let raise = raise_of(e.seat);
-    put_note(
-        &mut drawn, e.clef, raise, event, plan, plan.to, before, after,
-    )?;
-    put_ranked(
-        alloc,
-        out,
-        rank_of(keys, note_key(measure, e)),
-        drawn.as_slice(),
-    )
-}
-
-/// The syllables and texts of an event in the column of `rank`, if their place is known.
-fn words_marks(
-    alloc: Global,
-    place: Option<&Place>,
-    rank: u32,
-    flat: &Flat,
-) -> Result<Row<Drawn>, Memory>
-    requires words { length flat.now.event.words ≤ 8 }
+    requires keys { AreRanked keys.now }
+    requires words { length e.now.flat.event.words ≤ 8 }
     requires verses { HasVerses (option_copied place) }
-    ensures { IfOk result (λ r. r ≡ words_marks (option_copied place.entry) rank flat.now) }
+    ensures { OnOk result (out.new ≡ out.old ++ note_part keys.now measure before after e.now ++ words_part (note_rank keys.now measure e.now) (option_copied place.entry) e.now.flat) }
 {
+    let rank = rank_of(keys, note_key(measure, e));
     let mut drawn = Row::new(alloc);
-    if let Some(place) = place {
-        let words = flat.event.words.as_slice();
-        put_syllables(alloc, &mut drawn, place.first, place.room.low, words)?;
-        let before = texts_at(place.before.as_slice(), rank as usize);
-        put_texts(alloc, &mut drawn, text_place(place.room, before), flat)?;
-    }
-    Ok(drawn)
-}
-
-/// Lays the syllables and texts of an event, if their place is known.
-fn put_words_part(
-    alloc: Global,
-    out: &mut Row<Laid>,
-    rank: u32,
-    place: Option<&Place>,
-    flat: &Flat,
-) -> Result<(), Memory>
-    requires words { length flat.now.event.words ≤ 8 }
-    requires verses { HasVerses (option_copied place) }
-    ensures { OnOk result (out.new ≡ out.old ++ words_part rank (option_copied place.entry) flat.now) }
-{
-    let drawn = words_marks(alloc, place, rank, flat)?;
-    put_ranked(alloc, out, rank, drawn.as_slice())
+    draw_note(&mut drawn, before, after, e)?;
+    put_words(alloc, &mut drawn, place, rank, &e.flat)?;
+    put_ranked(out, rank, drawn)
 }
 
 /// Lays an event with the change and the graces before it; `before` and `after` are the levels of the
@@ -256,9 +246,7 @@ fn put_event(
     let drawn = in_head || e.seat.is_lower();
     put_change_part(alloc, out, keys, measure, drawn, e)?;
     put_graces_part(alloc, out, keys, measure, e)?;
-    put_note_part(alloc, out, keys, measure, before, after, e)?;
-    let rank = rank_of(keys, note_key(measure, e));
-    put_words_part(alloc, out, rank, place, &e.flat)
+    put_note_part(alloc, out, keys, place, measure, before, after, e)
 }
 
 /// The levels of an event that are in a plan's beam.

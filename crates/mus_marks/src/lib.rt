@@ -7,12 +7,14 @@ pub mod beams;
 pub mod bridges;
 pub mod counting;
 pub mod events;
+pub mod keys;
 pub mod measures;
 pub mod staves;
 pub mod systems;
 pub mod tilting;
 
 pub use events::{Place, Room, Texts};
+pub use keys::{measure_keys, system_keys};
 pub use measures::{put_columns_part, put_measures};
 pub use mus_drawn::{Sound, sounding};
 pub use systems::{draw_voices, marks, marks_of};

@@ -20,7 +20,7 @@ fn put_bar_at(alloc: Global, out: &mut Row<Laid>, rank: u32, bar: Bar) -> Result
 {
     let mut drawn = Row::new(alloc);
     put_bar(&mut drawn, bar)?;
-    put_ranked(alloc, out, rank, drawn.as_slice())
+    put_ranked(out, rank, drawn)
 }
 
 /// Lays the bar behind a measure, unless the voice above draws it.
@@ -142,7 +142,7 @@ fn put_head_part(
     let signs = opening.key.signs.as_slice();
     let mut drawn = Row::new(alloc);
     put_head(alloc, &mut drawn, opening.clef, signs, meter)?;
-    put_ranked(alloc, out, rank, drawn.as_slice())
+    put_ranked(out, rank, drawn)
 }
 
 fn is_featured(bar: Bar) -> bool

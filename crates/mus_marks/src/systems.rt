@@ -5,11 +5,12 @@ ghost use Rattle.mus_drawn.specs.{Drawn.drawn_voice, Good.AreGoodMeasures};
 ghost use Rattle.mus_laid.specs.Boxes.{AreGoodMarks};
 ghost use Rattle.mus_marks.specs.{Staff.CoversLines, System.IsCall};
 
+use crate::keys::system_keys;
 use crate::staves::staves;
 use mus_drawn::{DrawnVoice, draw_voice};
 use mus_laid::SystemMarks;
 use mus_score::{Score, Voice};
-use mus_time::{Timeline, keys_of};
+use mus_time::Timeline;
 use mus_units::{Memory, Row};
 use std::alloc::Global;
 
@@ -56,7 +57,7 @@ pub fn marks_of(
     ensures lines { IfOk result (λ m. All CoversLines m.staves) }
     ensures good { IfOk result (λ m. All (λ staff. AreGoodMarks staff.marks) m.staves) }
 {
-    let keys = keys_of(alloc, s, t, a, b)?;
+    let keys = system_keys(alloc, s, voices, t, a, b)?;
     let lengths = t.lengths.as_slice();
     let staves = staves(alloc, keys.as_slice(), lengths, a, b, voices)?;
     Ok(SystemMarks { a, b, keys, staves })

@@ -6,13 +6,14 @@ ghost use Rattle.mus_laid.specs.{Boxes.AreGoodMarks, Shapes.AreAlike};
 ghost use Rattle.mus_marks.specs.{Staff.{CoversLines, verses_on}, System.{IsCall, stands_lower}, Tilt.{anchor_at, CanTilt, AllCanTilt, ends_over, sloped_over, plain_ends, over, event_ended, measure_ended, voice_ended, tilted_staff, AreAbscissas, IsTilted}};
 
 use crate::events::note_key;
+use crate::keys::system_keys;
 use crate::staves::staves;
 use crate::systems::draw_voices;
 use mus_drawn::{DrawnEvent, DrawnMeasure, DrawnVoice};
 use mus_laid::{StaffMarks, SystemMarks};
 use mus_score::Score;
 use mus_stems::{Anchor, ends_for};
-use mus_time::{ColumnKey, Timeline, keys_of, rank_of};
+use mus_time::{ColumnKey, Timeline, rank_of};
 use mus_units::{Memory, Row};
 use std::alloc::Global;
 
@@ -247,7 +248,7 @@ pub fn tilt_of(
     ensures lines { IfOk result (λ m. All CoversLines m.staves) }
     ensures good { IfOk result (λ m. All (λ staff. AreGoodMarks staff.marks) m.staves) }
 {
-    let keys = keys_of(alloc, s, t, a, b)?;
+    let keys = system_keys(alloc, s, voices, t, a, b)?;
     let lengths = t.lengths.as_slice();
     let staves = tilted_staves(alloc, keys.as_slice(), lengths, at, a, b, voices)?;
     Ok(SystemMarks { a, b, keys, staves })

@@ -1,19 +1,13 @@
 ghost use Rattle.std.specs.Prelude.{◌≡◌, ◌≤◌, ◌<◌, ◌+◌, ◌*◌, ◌++◌, All, Contains, IfOk, OnOk, [], ◌∷◌, filter, flat_map, length, slice_range, false, true};
 ghost use Rattle.mus_score.specs.{Good.IsGoodBody, Good.longest_ticks, Good.total_ticks, GoodScore.IsGoodScore, GoodScore.IsGoodVoice, Times.flats_of};
-ghost use Rattle.mus_time.specs.{Keys.{AreKeys, IsInSystem, all_keys, called_keys, change_has_mark, event_keys, events_keys, first_keys, further_keys, grace_keys, is_for_each, has_entries, has_features, key_at, key_has_mark, measure_keys, measures_keys, meter_has_mark, signed_after, signed_at, signed_behind, signed_through, voice_keys}, Onsets.timeline_of, Order.Rises, Signed.{signed_in, signed_within}};
+ghost use Rattle.mus_time.specs.{Keys.{AreKeys, IsInSystem, all_keys, called_keys, change_has_mark, event_keys, events_keys, first_keys, grace_keys, is_for_each, has_features, key_at, key_has_mark, measures_keys, meter_has_mark, signed_after, signed_behind, signed_through, voice_keys}, Onsets.timeline_of, Order.Rises};
 
+use crate::beats::{beats, is_signed, signed_behind};
 use crate::keys::{Class, ColumnKey};
 use crate::times::Timeline;
 use mus_score::{Bar, Changes, Event, Flat, Key, Measure, Meter, Music, Score, Voice, flatten};
 use mus_units::{Memory, Row};
 use std::alloc::Global;
-
-/// Whether a key has an entry.
-fn is_signed(key: &Key) -> bool
-    ensures { result ≡ has_entries key.now }
-{
-    key.signs.len() >= 1
-}
 
 /// Whether the key in force has an entry, behind an event that may name one.
 fn signed_after_event(signed: bool, key: &Option<Key>) -> bool
@@ -77,7 +71,10 @@ fn put_graces(
     Ok(())
 }
 
-fn put_event(
+/// Puts the keys of an event at a tick of a measure: of its change, unless the head draws that or it
+/// draws nothing, of its graces, and its own. `signed` tells whether the key before it has entries, which
+/// is of account where the event changes the key.
+pub fn put_event_keys(
     out: &mut Row<ColumnKey>,
     measure: u32,
     tick: u64,
@@ -121,7 +118,7 @@ fn put_events(
     let mut drawn = in_head;
     let mut signed = signed;
     for f in flats {
-        put_event(out, measure, tick, drawn, signed, f)?;
+        put_event_keys(out, measure, tick, drawn, signed, f)?;
         tick += f.duration;
         drawn = false;
         signed = signed_after_event(signed, &f.event.changes.key);
@@ -200,50 +197,31 @@ fn put_measures(
     Ok(())
 }
 
-#[cycle(signing)]
-fn signed_behind_node(signed: bool, m: &Music) -> bool
-    ensures { result ≡ signed_within m.now signed }
+/// Whether the key in force behind a body has an entry.
+#[tactic(auto, using(crate::proofs::BeatLaws::signed_body))]
+fn signed_behind_body(alloc: Global, signed: bool, body: &[Music]) -> Result<bool, Memory>
+    requires { IsGoodBody body.now }
+    ensures { IfOk result (λ r. r ≡ signed_through signed (flats_of body.now)) }
 {
-    match m {
-        Music::Note(e) => signed_after_event(signed, &e.changes.key),
-        Music::Rest(e) => signed_after_event(signed, &e.changes.key),
-        Music::Grace { body: _, slash: _ } => signed,
-        Music::Tuplet { p: _, q: _, body } => signed_behind_nodes(signed, body.as_slice()),
-    }
-}
-
-/// Whether the key in force behind the nodes of a body has an entry.
-#[cycle(signing)]
-fn signed_behind_nodes(signed: bool, body: &[Music]) -> bool
-    ensures { result ≡ signed_in body.now signed }
-{
-    let mut signed = signed;
-    for m in body {
-        signed = signed_behind_node(signed, m);
-    }
-    signed
-}
-
-/// The same, said of the body's events.
-#[tactic(auto, using(crate::proofs::Signed::signed_body))]
-fn signed_behind_body(signed: bool, body: &[Music]) -> bool
-    ensures { result ≡ signed_through signed (flats_of body.now) }
-{
-    signed_behind_nodes(signed, body)
+    let beats = beats(alloc, body)?;
+    Ok(signed_behind(signed, beats.as_slice()))
 }
 
 /// Whether the key in force behind some measures has an entry.
-fn signed_behind_measures(signed: bool, measures: &[Measure]) -> bool
-    ensures { result ≡ signed_behind signed measures.now }
+fn signed_behind_measures(alloc: Global, signed: bool, measures: &[Measure]) -> Result<bool, Memory>
+    requires { All (λ m. IsGoodBody m.body) measures.now }
+    ensures { IfOk result (λ r. r ≡ signed_behind signed measures.now) }
 {
     let mut signed = signed;
     for m in measures {
-        signed = signed_behind_body(signed, m.body.as_slice());
+        signed = signed_behind_body(alloc, signed, m.body.as_slice())?;
     }
-    signed
+    Ok(signed)
 }
 
-fn put_first(out: &mut Row<ColumnKey>, a: u32, bar: Bar) -> Result<(), Memory>
+/// Puts the key of the bar before the first measure, where a system begins with it and the bar has
+/// features.
+pub fn put_first_key(out: &mut Row<ColumnKey>, a: u32, bar: Bar) -> Result<(), Memory>
     ensures { OnOk result (out.new ≡ out.old ++ first_keys a bar) }
 {
     if a != 0 || !is_featured(bar) {
@@ -280,9 +258,9 @@ fn put_all_keys(
         class: Class::Head,
         place: 0,
     })?;
-    put_first(out, a, v.first)?;
+    put_first_key(out, a, v.first)?;
     let before = &measures[..a as usize];
-    let signed = signed_behind_measures(is_signed(&v.key), before);
+    let signed = signed_behind_measures(alloc, is_signed(&v.key), before)?;
     let measures = &measures[a as usize..b as usize];
     put_measures(alloc, out, lengths, a, true, signed, measures)
 }
@@ -297,7 +275,7 @@ fn is_for_each(key: ColumnKey) -> bool
 }
 
 /// Puts those of the keys that each voice of a staff has for itself.
-fn put_own(out: &mut Row<ColumnKey>, keys: &[ColumnKey]) -> Result<(), Memory>
+pub fn put_own_keys(out: &mut Row<ColumnKey>, keys: &[ColumnKey]) -> Result<(), Memory>
     ensures { OnOk result (out.new ≡ out.old ++ filter is_for_each keys.now) }
 {
     for key in keys {
@@ -329,50 +307,7 @@ fn put_voice(
     }
     let mut all = Row::new(alloc);
     put_all_keys(alloc, &mut all, lengths, a, b, v)?;
-    put_own(out, all.as_slice())
-}
-
-/// Puts the keys of measure `m` of a voice as if it had a staff for itself, in a system that begins
-/// before it: its events and its bar.
-fn put_all_of(
-    alloc: Global,
-    out: &mut Row<ColumnKey>,
-    lengths: &[u64],
-    m: u32,
-    v: &Voice,
-) -> Result<(), Memory>
-    requires good { IsGoodVoice v.now }
-    requires within { m < length v.now.measures }
-    requires lengths { length lengths.now ≡ length v.now.measures }
-    ensures { OnOk result (out.new ≡ out.old ++ measures_keys lengths.now m false (signed_at m v.now) (slice_range v.now.measures m (m + 1))) }
-{
-    let measures = v.measures.as_slice();
-    let before = &measures[..m as usize];
-    let signed = signed_behind_measures(is_signed(&v.key), before);
-    let measures = &measures[m as usize..m as usize + 1];
-    put_measures(alloc, out, lengths, m, false, signed, measures)
-}
-
-/// The keys of measure `m` of a voice, in a system that begins before it; of a lower voice those of
-/// its notes and graces.
-fn put_measure_of(
-    alloc: Global,
-    out: &mut Row<ColumnKey>,
-    lengths: &[u64],
-    m: u32,
-    v: &Voice,
-) -> Result<(), Memory>
-    requires good { IsGoodVoice v.now }
-    requires within { m < length v.now.measures }
-    requires lengths { length lengths.now ≡ length v.now.measures }
-    ensures { OnOk result (out.new ≡ out.old ++ measure_keys lengths.now m v.now) }
-{
-    if !v.seat.is_lower() {
-        return put_all_of(alloc, out, lengths, m, v);
-    }
-    let mut all = Row::new(alloc);
-    put_all_of(alloc, &mut all, lengths, m, v)?;
-    put_own(out, all.as_slice())
+    put_own_keys(out, all.as_slice())
 }
 
 fn put_voices(
@@ -395,26 +330,8 @@ fn put_voices(
     Ok(out)
 }
 
-fn put_measure_of_voices(
-    alloc: Global,
-    lengths: &[u64],
-    m: u32,
-    voices: &[Voice],
-) -> Result<Row<ColumnKey>, Memory>
-    requires good { All IsGoodVoice voices.now }
-    requires within { m < length lengths.now }
-    requires lengths { All (λ v. length v.measures ≡ length lengths.now) voices.now }
-    ensures { IfOk result (λ r. r ≡ flat_map (measure_keys lengths.now m) voices.now) }
-{
-    let mut out = Row::new(alloc);
-    for v in voices {
-        put_measure_of(alloc, &mut out, lengths, m, v)?;
-    }
-    Ok(out)
-}
-
 /// The keys in order, each once.
-fn rising(keys: Row<ColumnKey>) -> Row<ColumnKey>
+pub fn rising_keys(keys: Row<ColumnKey>) -> Row<ColumnKey>
     ensures { AreKeys result keys }
 {
     let mut items = keys.items;
@@ -441,23 +358,5 @@ pub fn keys_of(
     ensures places { IfOk result (λ r. All (IsInSystem t.now.lengths a b) r) }
 {
     let all = put_voices(alloc, t.lengths.as_slice(), a, b, s.voices.as_slice())?;
-    Ok(rising(all))
-}
-
-/// The keys of the columns of measure `m` in a system that begins before it, rising, each once: as
-/// in `keys_of`, but no head. `t` is the timeline of the score.
-pub fn further_keys(
-    alloc: Global,
-    s: &Score,
-    t: &Timeline,
-    m: u32,
-) -> Result<Row<ColumnKey>, Memory>
-    requires good { IsGoodScore s.now }
-    requires times { t.now ≡ timeline_of s.now }
-    requires within { m < s.now.measures }
-    ensures keys { IfOk result (λ r. AreKeys r (further_keys s.now t.now.lengths m)) }
-    ensures places { IfOk result (λ r. All (IsInSystem t.now.lengths m (m + 1)) r) }
-{
-    let all = put_measure_of_voices(alloc, t.lengths.as_slice(), m, s.voices.as_slice())?;
-    Ok(rising(all))
+    Ok(rising_keys(all))
 }

@@ -1,8 +1,9 @@
-ghost use Rattle.std.specs.{Prelude.◌≡◌, Prelude.◌≤◌, Prelude.◌<◌, Prelude.◌*◌, Prelude.◌++◌, Prelude.[], Prelude.All, Prelude.IfOk, Prelude.OnOk, Prelude.length, Prelude.map, List.range_with_len};
-ghost use Rattle.mus_score.specs.{Good.IsGoodBody, Good.longest_ticks, Good.total_ticks, GoodScore.IsGoodScore, GoodScore.IsGoodVoice, Times.flats_of};
-ghost use Rattle.mus_time.specs.Onsets.{event_onsets, greatest, length_at, length_in, measure_onsets, timeline_of, voice_onsets};
+ghost use Rattle.std.specs.{Prelude.◌≡◌, Prelude.◌≤◌, Prelude.◌<◌, Prelude.◌*◌, Prelude.◌++◌, Prelude.[], Prelude.All, Prelude.IfOk, Prelude.OnOk, Prelude.length, Prelude.map, Prelude.sum_by, List.range_with_len};
+ghost use Rattle.mus_score.specs.{Good.IsGoodBody, Good.longest_ticks, GoodScore.IsGoodScore, GoodScore.IsGoodVoice, Times.flats_of};
+ghost use Rattle.mus_time.specs.{Beats.beat_onsets, Onsets.{event_onsets, greatest, length_at, length_in, measure_onsets, timeline_of, voice_onsets}};
 
-use mus_score::{Flat, Measure, Music, Score, Voice, body_duration, flatten};
+use crate::beats::{Beat, beats};
+use mus_score::{Measure, Music, Score, Voice, body_duration};
 use mus_units::{Memory, Row};
 use std::alloc::Global;
 
@@ -23,23 +24,25 @@ pub struct Timeline {
     pub lengths: Row<u64>,
 }
 
-fn put_flats(out: &mut Row<Onset>, voice: u32, measure: u32, flats: &[Flat]) -> Result<(), Memory>
-    requires { total_ticks flats.now ≤ 50000 * longest_ticks }
-    ensures { OnOk result (out.new ≡ out.old ++ event_onsets voice measure [] flats.now) }
+/// Puts the onsets of the events of a measure.
+fn put_beats(out: &mut Row<Onset>, voice: u32, measure: u32, beats: &[Beat]) -> Result<(), Memory>
+    requires { sum_by (λ b. b.ticks) beats.now ≤ 50000 * longest_ticks }
+    ensures { OnOk result (out.new ≡ out.old ++ beat_onsets voice measure 0 beats.now) }
 {
     let mut tick = 0;
-    for f in flats {
+    for b in beats {
         out.push(Onset {
             voice,
             measure,
-            event: f.event.id,
+            event: b.event,
             tick,
         })?;
-        tick += f.duration;
+        tick += b.ticks;
     }
     Ok(())
 }
 
+#[tactic(auto, using(crate::proofs::BeatLaws::body_onsets))]
 fn put_body(
     alloc: Global,
     out: &mut Row<Onset>,
@@ -50,8 +53,8 @@ fn put_body(
     requires { IsGoodBody body.now }
     ensures { OnOk result (out.new ≡ out.old ++ event_onsets voice measure [] (flats_of body.now)) }
 {
-    let flats = flatten(alloc, body)?;
-    put_flats(out, voice, measure, flats.as_slice())
+    let beats = beats(alloc, body)?;
+    put_beats(out, voice, measure, beats.as_slice())
 }
 
 fn put_measures(

@@ -3,7 +3,7 @@ ghost use Rattle.mus_score.specs.GoodScore.{IsGoodScore};
 use crate::arcs::{put_arcs, put_piece};
 use crate::scores::{put_plainness, put_score};
 use crate::songs::{put_song, put_syllables};
-use crate::times::{put_durations, put_flats, put_further_keys, put_keys, put_onsets};
+use crate::times::{put_durations, put_flats, put_keys, put_onsets};
 use crate::tunes::{crowded, tune_of};
 use case_texts::{Answers, Case, Report, number_of, put_fault};
 use mus_score::Score;
@@ -44,7 +44,6 @@ fn put_asked(out: &mut Report, case: Case<'_>, score: &Score) -> Result<(), Memo
         "duration" => put_durations(out, score),
         "onsets" => put_onsets(out, score),
         "keys_of" => put_keys(out, case.word, score),
-        "further_keys" => put_further_keys(out, case.word, score),
         "arcs" => put_arcs(out, score),
         _ => out.append(b"no such call"),
     }

@@ -5,7 +5,7 @@ use case_texts::{Report, number_of, put_head};
 use mus_score::{
     Event, Flat, Measure, Music, Score, body_duration, duration, events, is_good_body,
 };
-use mus_time::{Class, ColumnKey, Timeline, further_keys, keys_of, onsets};
+use mus_time::{Class, ColumnKey, Timeline, keys_of, onsets};
 use mus_units::Memory;
 
 /// Adds a line for each event of a score, voice by voice: its id, its duration, the tuplets that
@@ -125,19 +125,6 @@ pub(crate) fn put_keys(out: &mut Report, word: &str, score: &Score) -> Result<()
     }
     let times = onsets(out.alloc, score)?;
     let keys = keys_of(out.alloc, score, &times, a, b)?;
-    put_column_keys(out, keys.as_slice())
-}
-
-/// Adds the keys of the columns of a measure that stands behind another in its system.
-pub(crate) fn put_further_keys(out: &mut Report, word: &str, score: &Score) -> Result<(), Memory>
-    requires { IsGoodScore score.now }
-{
-    let (measure, _) = measures_named(word);
-    if measure >= score.measures {
-        return out.line(b"no such measure");
-    }
-    let times = onsets(out.alloc, score)?;
-    let keys = further_keys(out.alloc, score, &times, measure)?;
     put_column_keys(out, keys.as_slice())
 }
 

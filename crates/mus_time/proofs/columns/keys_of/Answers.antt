@@ -24,6 +24,6 @@ returns-clause-places c =
     let called = c.in_ok-all.ensures
     ∙ ap (λ ls. flat_map (voice_keys ls a b) c.as_slice-2.result.now) (c.as_slice.ensures ∙ timed)
     ∙ ap (λ vs. flat_map (voice_keys (timeline_of s).lengths a b) vs) c.as_slice-2.ensures in
-    subst (λ ls. All (IsInSystem ls a b) c.rising.result) (sym timed)
-    (places_of s a b c.rising.result c.requires.good c.requires.order c.requires.within
-    (subst (λ z. AreKeys c.rising.result z) called c.rising.ensures))
+    subst (λ ls. All (IsInSystem ls a b) c.rising_keys.result) (sym timed)
+    (places_of s a b c.rising_keys.result c.requires.good c.requires.order c.requires.within
+    (subst (λ z. AreKeys c.rising_keys.result z) called c.rising_keys.ensures))

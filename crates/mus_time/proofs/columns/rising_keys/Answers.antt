@@ -1,6 +1,6 @@
 use Rattle.std.{proofs.{Common.{◌≡◌, subst, sym}, lemmas.List.{Filters.dedup_is, Kept.{Contains-dedup, Contains-from_dedup, IsStrictlySortedBy-dedup}, Sorted.{Contains-permutation, IsPermutation-sym}}}, specs.List.Contains}
 use Rattle.mus_time.{specs.contracts.keys.ColumnKeyOrd.TheImpl.Laws.total-law, specs.contracts.keys.ColumnKeyOrd.TheImpl.Laws.matches_eq-law, specs.contracts.keys.ColumnKeyEq.TheImpl.Laws.laws-law, proofs.Rising.rises_from_sorted, proofs.Rising.same_from_eq}
-use Rattle.mus_time.proofs.columns.rising.Goals as goal
+use Rattle.mus_time.proofs.columns.rising_keys.Goals as goal
 
 pub returns : goal.returns
 returns c =
