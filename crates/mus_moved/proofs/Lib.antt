@@ -1,0 +1,4 @@
+pub mod Circle
+pub mod Reaching
+pub mod Seeing
+pub mod Sounding
