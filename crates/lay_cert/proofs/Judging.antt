@@ -57,9 +57,8 @@ entry_same c t n ss bs et en es eb =
 pub verdicts_more : (es : List Entry) (js : List Judged) (e : Entry) (j : Judged) → AreVerdicts es js → j.tune ≡ e.tune → IsVerdict e j.verdict
     → AreVerdicts (es ++ e ∷ []) (js ++ j ∷ [])
 verdicts_more [] [] e j h t v = (t, v, tt)
-verdicts_more [] (k ∷ js) e j h t v = absurd h
-verdicts_more (x ∷ es) [] e j h t v = absurd h
 verdicts_more (x ∷ es) (k ∷ js) e j h t v = (h.0, h.1, verdicts_more es js e j h.2 t v)
+verdicts_more es js e j h t v = absurd h
 
 pub at_ended : (Q : Place → Type 0) (js : List Judged) (p : Place) → Stands Stage.Ended js p
     → ((es : List Entry) → AreVerdicts es js → Q (ended es)) → Q p

@@ -2,7 +2,7 @@
 use Rattle.std.proofs.{Common.{◌≡◌, ℕ, ◌+◌, ◌<◌, ◌≤◌, ◌==◌, Bool, true, false, List, [], ◌∷◌, ◌++◌, length, map, Option, None, refl, sym, ◌∙◌, ap, subst, arith, inl, inr, if◌then◌else◌, slice_index_or}, lemmas.{Bool.{cases_lt, true≢false, eqb-true, eqb-false}, List.{map-append, length-append, get_or_append_left}}, Math.Seq.get_or-append_seam}
 use mathlib.Core.List.{append_assoc, append-nil}
 use Rattle.lay_breaks.specs.{Breaking.IsLegal, Breaking.last_from, Breaking.IsPotential, Spans.listed, declared.costs.Span.Span}
-use Rattle.lay_cert.{specs.{Listing.{Entry, IsEntry, none_forced, entry_lines, all_lines, potential_lines}, Places.{Place, begun, between, choosing, proving, MayCome, next, Leads, last_tune_from}, Told.{IsBegun, IsProving, IsGood, lines_of, begun_lines}, declared.lines.Line.Line}, proofs.Grown.{push_potential, push_entry, push_entries, push_span, push_legal, listed_within}}
+use Rattle.lay_cert.{specs.{Listing.{Entry, IsEntry, none_forced, entry_lines, all_lines, potential_lines}, Places.{Place, begun, between, choosing, proving, MayCome, next, Leads, last_tune_from}, Told.{IsProving, IsGood, lines_of, begun_lines}, declared.lines.Line.Line}, proofs.Grown.{push_potential, push_entry, push_entries, push_span, push_legal, listed_within}}
 
 -- an entry in the making with one more potential
 abbrev pub one_more : Entry → Option ℕ → Entry
@@ -17,9 +17,6 @@ push_known P ps p h k i l = elim (cases_lt i (length ps)) [
   | inr ge ↦ let e : length ps ≡ i = omega arith in
       subst (λ i. P i (slice_index_or (ps ++ p ∷ []) i None)) e (subst (λ q. P (length ps) q) (sym (get_or-append_seam ps p [] None)) k)
 ]
-
-begun_more : (k : ℕ) (e : Entry) (p : Option ℕ) → IsBegun k e → IsBegun k (one_more e p)
-begun_more k e p h = record { past = h.past; numbered = h.numbered; few = h.few; spans = h.spans; choice = h.choice }
 
 whole : (k : ℕ) (e : Entry) (p : Option ℕ) → IsProving k e → length e.potentials ≡ e.bars
     → IsPotential (listed e.spans) none_forced (length e.potentials) p → IsEntry (one_more e p)
@@ -36,7 +33,7 @@ whole k e p h is known = record {
 part : (k : ℕ) (e : Entry) (p : Option ℕ) → IsProving k e → length e.potentials < e.bars
     → IsPotential (listed e.spans) none_forced (length e.potentials) p → IsProving k (one_more e p)
 part k e p h l known = record {
-  begun = begun_more k e p h.begun;
+  begun = record { past = h.begun.past; numbered = h.begun.numbered; few = h.begun.few; spans = h.begun.spans; choice = h.begun.choice };
   ends = h.ends;
   total = h.total;
   some_left = let n = length-append e.potentials (p ∷ []) in omega arith;

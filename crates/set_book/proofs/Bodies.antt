@@ -1,6 +1,6 @@
 -- The lines of a body give one list of items and faults.
 use Rattle.std.{proofs.{Common.{◌≡◌, ◌∙◌, refl, sym, ap, subst, ◌≤◌, List, [], ◌∷◌, ◌++◌, take, drop, Option, Some, arith, append_assoc, ⊎_elim}, lemmas.{Bool.cases_lt, List.{take-append-drop, take-take}}}, specs.Prelude.flat_map}
-use Rattle.abc_lines.specs.{declared.book.Line.Line, declared.fault.Fault.Fault, declared.kind.LineKind.LineKind, Kinds.kind_of}
+use Rattle.abc_lines.specs.{declared.{book.Line.Line, fault.Fault.Fault, kind.LineKind.LineKind}, Kinds.kind_of}
 use Rattle.abc_tokens.specs.declared.token.Placed.{Placed}
 use Rattle.abc_fields.specs.declared.directive.Breaks.{Breaks}
 use Rattle.abc_header.specs.declared.header.Header.{Header}
@@ -19,8 +19,7 @@ one_music breaks line g h a b =
 
 one_by_kind : (breaks : Breaks) (line : Line) (kind : LineKind) (g h : List Given) → KindGives breaks line kind g → KindGives breaks line kind h → g ≡ h
 one_by_kind breaks line LineKind.Music g h a b = one_music breaks line g h a b
-one_by_kind breaks line (LineKind.Field letter) g h a b = a ∙ sym b
-one_by_kind breaks line LineKind.Directive g h a b = a ∙ sym b
+one_by_kind breaks line kind g h a b = a ∙ sym b
 
 one_line_given : (breaks : Breaks) (line : Line) (g h : List Given) → LineGives breaks line g → LineGives breaks line h → g ≡ h
 one_line_given breaks line g h a b = one_by_kind breaks line (kind_of line.text) g h a b

@@ -1,6 +1,6 @@
 -- What stands behind a bracket that opens no chord, or behind a brace that opens no grace group,
 -- has one fault.
-use Rattle.std.{proofs.{Common.{◌≡◌, ◌∙◌, refl, sym, ap, subst, ℕ, suc, List, [], ◌∷◌, ◌++◌, length, Bool, true, false, None}, lemmas.Bool.true≢false}, specs.{Prelude.◌==◌, List.list_all}}
+use Rattle.std.{proofs.{Common.{◌≡◌, ◌∙◌, refl, sym, ap, subst, ℕ, suc, List, [], ◌∷◌, ◌++◌, length, Bool, true, false, None, ◌⊎◌, inl, inr}, lemmas.Bool.true≢false}, specs.{Prelude.◌==◌, List.list_all}}
 use Rattle.abc_lines.specs.declared.fault.FaultKind.TheVariants.{BadByte, Unclosed}
 use Rattle.abc_notes.{specs.{Graces.{GracePart, GraceLeads, part_has_length, IsGraceOwn, GraceFlawed, HasSlash, is_slash_byte, is_in_grace, GraceFault, grace_unclosed, grace_open, grace_flawed}, declared.part.Flaw.Flaw, Runs.begins, Parts.{HasNone, leads_here, leads_on}, Items.{Inner, inner_then, StandsInside, has_length, IsBadByte, InnerFlawed, inner_at, item_class}, Chords.{InnerLeads, is_inside, ChordFault, chord_unclosed, chord_open, chord_headless, chord_flawed}}, proofs.{PartLaws.none_of, InnerLaws.inner_reader, CutLaws.{inner_append, all_parts}, GraceLaws.part_reader}}
 use Rattle.set_book.proofs.PartFaults.{by_test, none_at_end, one_lead, never_done, one_flaw}
@@ -12,17 +12,20 @@ unclosed_at text = record { kind = Unclosed; left = suc (length text) }
 abbrev headless_at : List ℕ → Flaw
 headless_at text = record { kind = BadByte; left = suc (length text) }
 
+-- no bracket stands in a text, or its parts go to its end
+abbrev IsUnclosed : Bool → List ℕ → Type 0
+IsUnclosed bang text = (list_all is_inside text ≡ true) ⊎ ((parts : List Inner) × InnerLeads bang text parts [])
+
 -- a fault behind a bracket, by what it is
 pub data Told (bang : Bool) (text : List ℕ) (flaw : Flaw) : Type 0 where
-  is_unclosed : list_all is_inside text ≡ true → flaw ≡ unclosed_at text → Told bang text flaw
-  is_open : (parts : List Inner) → InnerLeads bang text parts [] → flaw ≡ unclosed_at text → Told bang text flaw
+  is_unclosed : IsUnclosed bang text → flaw ≡ unclosed_at text → Told bang text flaw
   is_headless : (parts : List Inner) (rest : List ℕ) → InnerLeads bang text parts (93 ∷ rest) → flaw ≡ headless_at text → Told bang text flaw
   is_flawed : (parts : List Inner) (byte : ℕ) (rest : List ℕ) → list_all is_inside text ≡ false → InnerLeads bang text parts (byte ∷ rest) → HasNone Inner (StandsInside bang) (byte ∷ rest) → (byte == 93) ≡ false →
       InnerFlawed bang None text flaw → Told bang text flaw
 
 told : (bang : Bool) (text : List ℕ) (flaw : Flaw) → ChordFault bang text flaw → Told bang text flaw
-told bang _ _ (chord_unclosed text all) = is_unclosed all refl
-told bang _ _ (chord_open text parts l) = is_open parts l refl
+told bang _ _ (chord_unclosed text all) = is_unclosed (inl all) refl
+told bang _ _ (chord_open text parts l) = is_unclosed (inr (parts, l)) refl
 told bang _ _ (chord_headless text parts rest l off) = is_headless parts rest l refl
 told bang _ _ (chord_flawed text parts byte rest flaw some l none off f) = is_flawed parts byte rest some l none off f
 
@@ -43,14 +46,13 @@ still_inside bang _ _ _ all (leads_on text part behind more rest l others) =
 one_bad : (text : List ℕ) (f g : Flaw) → IsBadByte text f → IsBadByte text g → f ≡ g
 one_bad text f g a b = a ∙ sym b
 
-inner_done : (bang : Bool) (text : List ℕ) (ps : List Inner) (f : Flaw) → InnerLeads bang text ps [] → InnerFlawed bang None text f → ⊥
-inner_done bang text ps f l m = never_done (inner_reader bang) has_length IsBadByte None text ps f l m
+unclosed_headless : (bang : Bool) (text : List ℕ) (qs : List Inner) (rest : List ℕ) → IsUnclosed bang text → InnerLeads bang text qs (93 ∷ rest) → ⊥
+unclosed_headless bang text qs rest (inl all) m = let e = still_inside bang text qs (93 ∷ rest) all m in true≢false (sym e)
+unclosed_headless bang text qs rest (inr (ps, l)) m = let e = one_stop bang text ps [] qs (93 ∷ rest) l (none_at_end (inner_reader bang)) m (none_at_bracket bang rest) in cc
 
-unclosed_headless : (bang : Bool) (text : List ℕ) (ps : List Inner) (rest : List ℕ) → list_all is_inside text ≡ true → InnerLeads bang text ps (93 ∷ rest) → ⊥
-unclosed_headless bang text ps rest all l = let e = still_inside bang text ps (93 ∷ rest) all l in true≢false (sym e)
-
-open_headless : (bang : Bool) (text : List ℕ) (ps qs : List Inner) (rest : List ℕ) → InnerLeads bang text ps [] → InnerLeads bang text qs (93 ∷ rest) → ⊥
-open_headless bang text ps qs rest l m = let e = one_stop bang text ps [] qs (93 ∷ rest) l (none_at_end (inner_reader bang)) m (none_at_bracket bang rest) in cc
+unclosed_flawed : (bang : Bool) (text : List ℕ) (f : Flaw) → IsUnclosed bang text → list_all is_inside text ≡ false → InnerFlawed bang None text f → ⊥
+unclosed_flawed bang text f (inl all) some m = true≢false (sym all ∙ some)
+unclosed_flawed bang text f (inr (ps, l)) some m = never_done (inner_reader bang) has_length IsBadByte None text ps f l m
 
 headless_flawed : (bang : Bool) (text : List ℕ) (ps : List Inner) (rest : List ℕ) (qs : List Inner) (byte : ℕ) (behind : List ℕ) → InnerLeads bang text ps (93 ∷ rest) → InnerLeads bang text qs (byte ∷ behind) →
     HasNone Inner (StandsInside bang) (byte ∷ behind) → (byte == 93) ≡ false → ⊥
@@ -61,19 +63,12 @@ headless_flawed bang text ps rest qs byte behind l m none off =
 
 one_told : (bang : Bool) (text : List ℕ) (f g : Flaw) → Told bang text f → Told bang text g → f ≡ g
 one_told bang text f g (is_unclosed a e) (is_unclosed b d) = e ∙ sym d
-one_told bang text f g (is_unclosed a e) (is_open qs m d) = e ∙ sym d
 one_told bang text f g (is_unclosed a e) (is_headless qs rest m d) = absurd (unclosed_headless bang text qs rest a m)
-one_told bang text f g (is_unclosed a e) (is_flawed qs byte rest b m none off d) = absurd (true≢false (sym a ∙ b))
-one_told bang text f g (is_open ps l e) (is_unclosed b d) = e ∙ sym d
-one_told bang text f g (is_open ps l e) (is_open qs m d) = e ∙ sym d
-one_told bang text f g (is_open ps l e) (is_headless qs rest m d) = absurd (open_headless bang text ps qs rest l m)
-one_told bang text f g (is_open ps l e) (is_flawed qs byte rest b m none off d) = absurd (inner_done bang text ps g l d)
+one_told bang text f g (is_unclosed a e) (is_flawed qs byte rest b m none off d) = absurd (unclosed_flawed bang text g a b d)
 one_told bang text f g (is_headless ps rest l e) (is_unclosed b d) = absurd (unclosed_headless bang text ps rest b l)
-one_told bang text f g (is_headless ps rest l e) (is_open qs m d) = absurd (open_headless bang text qs ps rest m l)
 one_told bang text f g (is_headless ps rest l e) (is_headless qs other m d) = e ∙ sym d
 one_told bang text f g (is_headless ps rest l e) (is_flawed qs byte other b m none off d) = absurd (headless_flawed bang text ps rest qs byte other l m none off)
-one_told bang text f g (is_flawed ps byte rest a l none off e) (is_unclosed b d) = absurd (true≢false (sym b ∙ a))
-one_told bang text f g (is_flawed ps byte rest a l none off e) (is_open qs m d) = absurd (inner_done bang text qs f m e)
+one_told bang text f g (is_flawed ps byte rest a l none off e) (is_unclosed b d) = absurd (unclosed_flawed bang text f b a e)
 one_told bang text f g (is_flawed ps byte rest a l none off e) (is_headless qs other m d) = absurd (headless_flawed bang text qs other ps byte rest m l none off)
 one_told bang text f g (is_flawed ps byte rest a l none off e) (is_flawed qs other behind b m gone not d) = one_flaw (inner_reader bang) has_length IsBadByte one_bad None text f g e d
 
@@ -91,30 +86,29 @@ one_slash text false false x y a b = sym a.cut ∙ b.cut
 one_slash text true false x y a b = absurd (true≢false (ap (begins is_slash_byte) (sym a.cut ∙ b.cut) ∙ b.is_read refl))
 one_slash text false true x y a b = absurd (true≢false (ap (begins is_slash_byte) (sym b.cut ∙ a.cut) ∙ a.is_read refl))
 
+-- no brace stands in a text, or its parts go to its end
+abbrev IsUnclosedGroup : Bool → List ℕ → Type 0
+IsUnclosedGroup bang text = (list_all is_in_grace text ≡ true) ⊎ ((slash : Bool) × (behind : List ℕ) × (parts : List GracePart) × HasSlash text slash behind × GraceLeads bang behind parts [])
+
 -- a fault behind a brace, by what it is
 pub data GraceTold (bang : Bool) (text : List ℕ) (flaw : Flaw) : Type 0 where
-  is_unclosed_group : list_all is_in_grace text ≡ true → flaw ≡ unclosed_at text → GraceTold bang text flaw
-  is_open_group : (slash : Bool) (behind : List ℕ) (parts : List GracePart) → HasSlash text slash behind → GraceLeads bang behind parts [] → flaw ≡ unclosed_at text → GraceTold bang text flaw
+  is_unclosed_group : IsUnclosedGroup bang text → flaw ≡ unclosed_at text → GraceTold bang text flaw
   is_flawed_group : (slash : Bool) (behind : List ℕ) → list_all is_in_grace text ≡ false → HasSlash text slash behind → GraceFlawed bang None behind flaw → GraceTold bang text flaw
 
 grace_told : (bang : Bool) (text : List ℕ) (flaw : Flaw) → GraceFault bang text flaw → GraceTold bang text flaw
-grace_told bang _ _ (grace_unclosed text all) = is_unclosed_group all refl
-grace_told bang _ _ (grace_open text slash behind parts h l) = is_open_group slash behind parts h l refl
+grace_told bang _ _ (grace_unclosed text all) = is_unclosed_group (inl all) refl
+grace_told bang _ _ (grace_open text slash behind parts h l) = is_unclosed_group (inr (slash, behind, parts, h, l)) refl
 grace_told bang _ _ (grace_flawed text slash behind parts byte rest flaw some h l off f) = is_flawed_group slash behind some h f
 
-open_flawed : (bang : Bool) (text : List ℕ) (slash : Bool) (x : List ℕ) (ps : List GracePart) (other : Bool) (y : List ℕ) (f : Flaw) → HasSlash text slash x → GraceLeads bang x ps [] → HasSlash text other y → GraceFlawed bang None y f → ⊥
-open_flawed bang text slash x ps other y f h l k m =
+group_flawed : (bang : Bool) (text : List ℕ) (other : Bool) (y : List ℕ) (f : Flaw) → IsUnclosedGroup bang text → list_all is_in_grace text ≡ false → HasSlash text other y → GraceFlawed bang None y f → ⊥
+group_flawed bang text other y f (inl all) some k m = true≢false (sym all ∙ some)
+group_flawed bang text other y f (inr (slash, x, ps, h, l)) some k m =
     never_done (part_reader bang) part_has_length (IsGraceOwn bang) None x ps f l (subst (λ t. GraceFlawed bang None t f) (one_slash text other slash y x k h) m)
 
 one_grace_told : (bang : Bool) (text : List ℕ) (f g : Flaw) → GraceTold bang text f → GraceTold bang text g → f ≡ g
 one_grace_told bang text f g (is_unclosed_group a e) (is_unclosed_group b d) = e ∙ sym d
-one_grace_told bang text f g (is_unclosed_group a e) (is_open_group other y qs k m d) = e ∙ sym d
-one_grace_told bang text f g (is_unclosed_group a e) (is_flawed_group other y b k d) = absurd (true≢false (sym a ∙ b))
-one_grace_told bang text f g (is_open_group slash x ps h l e) (is_unclosed_group b d) = e ∙ sym d
-one_grace_told bang text f g (is_open_group slash x ps h l e) (is_open_group other y qs k m d) = e ∙ sym d
-one_grace_told bang text f g (is_open_group slash x ps h l e) (is_flawed_group other y b k d) = absurd (open_flawed bang text slash x ps other y g h l k d)
-one_grace_told bang text f g (is_flawed_group slash x a h e) (is_unclosed_group b d) = absurd (true≢false (sym b ∙ a))
-one_grace_told bang text f g (is_flawed_group slash x a h e) (is_open_group other y qs k m d) = absurd (open_flawed bang text other y qs slash x f k m h e)
+one_grace_told bang text f g (is_unclosed_group a e) (is_flawed_group other y b k d) = absurd (group_flawed bang text other y g a b k d)
+one_grace_told bang text f g (is_flawed_group slash x a h e) (is_unclosed_group b d) = absurd (group_flawed bang text slash x f b a h e)
 one_grace_told bang text f g (is_flawed_group slash x a h e) (is_flawed_group other y b k d) =
     one_flaw (part_reader bang) part_has_length (IsGraceOwn bang) (one_grace_own bang) None x f g e (subst (λ t. GraceFlawed bang None t g) (one_slash text other slash y x k h) d)
 

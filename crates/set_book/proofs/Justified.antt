@@ -3,8 +3,8 @@ use Rattle.std.proofs.{Common.{◌≡◌, ◌∙◌, ℕ, ◌-◌, ◌*◌, ◌/
 use Rattle.mus_score.specs.declared.score.Score.{Score}
 use Rattle.mus_laid.specs.declared.laid.SystemMarks.{SystemMarks}
 use Rattle.lay_columns.specs.{declared.column.Column.Column, Columns.column_reach}
-use Rattle.lay_springs.{specs.declared.margin.Placed.Placed, specs.declared.traits.Reach.Reach, specs.Place.IsPlace, specs.Place.length_at, specs.Place.reach_at, specs.Fit.IsEndOf, specs.Fit.IsSet, specs.Fit.counted, specs.Fit.is_ragged, proofs.Unique.one_place}
-use Rattle.lay_tune.{specs.Spans.column_length, specs.Spans.score_gaps, specs.Spans.system_columns, specs.Systems.IsJustified, specs.Systems.IsPlaced, proofs.Breakings.one_force}
+use Rattle.lay_springs.{specs.{declared.{margin.Placed.Placed, traits.Reach.Reach}, Place.{IsPlace, length_at, reach_at}, Fit.{IsEndOf, IsSet, counted, is_ragged}}, proofs.Unique.one_place}
+use Rattle.lay_tune.{specs.{Spans.{column_length, score_gaps, system_columns}, Systems.{IsJustified, IsPlaced}}, proofs.Breakings.one_force}
 
 -- ---- columns set to a width
 -- a column has one end

@@ -5,10 +5,10 @@ use Rattle.mus_time.specs.Onsets.{timeline_of}
 use Rattle.mus_laid.specs.declared.laid.SystemMarks.{SystemMarks}
 use Rattle.mus_marks.specs.Tilt.{IsTilted}
 use Rattle.lay_springs.specs.declared.margin.Placed.{Placed}
-use Rattle.lay_breaks.specs.{declared.breaking.Breaking.Breaking, declared.costs.Span.Span, Spans.listed}
-use Rattle.lay_tune.{specs.Spans.is_forced_in, specs.Systems.Beside, specs.Systems.EachSpan, specs.Systems.IsPlaced, specs.Systems.IsSetSystem, specs.Systems.IsStack, proofs.Called.one_system, proofs.Called.one_tilted}
+use Rattle.lay_breaks.specs.{declared.{breaking.Breaking.Breaking, costs.Span.Span}, Spans.listed}
+use Rattle.lay_tune.{specs.{Spans.is_forced_in, Systems.{Beside, EachSpan, IsPlaced, IsSetSystem, IsStack}}, proofs.Called.{one_system, one_tilted}}
 use Rattle.set_tune.specs.{declared.tune.SetTune.SetTune, Setting.IsLaidOut}
-use Rattle.set_book.proofs.{Chosen.IsBreaking, Chosen.one_breaking, Justified.one_placed, Spanned.one_list, Stacked.one_beside, Stacked.one_stacked}
+use Rattle.set_book.proofs.{Chosen.{IsBreaking, one_breaking}, Justified.one_placed, Spanned.one_list, Stacked.{one_beside, one_stacked}}
 
 -- a score has one system of any measures on a width
 one_set : (s : Score) (width a b : ℕ) (m n : SystemMarks) (p q : Placed) → IsSetSystem s width a b m p → IsSetSystem s width a b n q → (m ≡ n) × (p ≡ q)
@@ -22,19 +22,15 @@ one_each : {X Y : Type 0} (P : ℕ → ℕ → X → Y → Type 0) → ((a b : �
     → (a : ℕ) (breaks : List ℕ) (xs us : List X) (ys vs : List Y) → EachSpan P a breaks xs ys → EachSpan P a breaks us vs → (xs ≡ us) × (ys ≡ vs)
 one_each P one a [] [] [] [] [] h k = (refl, refl)
 one_each P one a [] [] us [] vs h k = absurd k
-one_each P one a (b ∷ bs) (x ∷ xs) [] (y ∷ ys) vs h k = absurd k
-one_each P one a (b ∷ bs) (x ∷ xs) (u ∷ us) (y ∷ ys) [] h k = absurd k
 one_each P one a (b ∷ bs) (x ∷ xs) (u ∷ us) (y ∷ ys) (v ∷ vs) h k =
     let e = one a b x u y v h.0 k.0 in let more = one_each P one b bs xs us ys vs h.1 k.1 in
     (ap (λ z. z ∷ xs) e.0 ∙ ap (λ t. u ∷ t) more.0, ap (λ z. z ∷ ys) e.1 ∙ ap (λ t. v ∷ t) more.1)
+one_each P one a (b ∷ bs) (x ∷ xs) us (y ∷ ys) vs h k = absurd k
 one_each P one a _ _ us _ vs h k = absurd h
 
 -- the same layout under the same score
 abbrev under : Score → SetTune → SetTune
 under s t = record t { score = s }
-
-laid_under : (width : ℕ) (s : Score) (t : SetTune) → t.score ≡ s → IsLaidOut width t → IsLaidOut width (under s t)
-laid_under width s t e h = subst (λ x. IsLaidOut width (under x t)) e h
 
 -- the chosen breaking and its sums, over the same spans
 breaks_over : (width : ℕ) (t : SetTune) (spans : List Span) → t.spans ≡ spans → IsLaidOut width t
@@ -66,7 +62,7 @@ module _ (width : ℕ) (s : Score) (t u : SetTune) (h : IsLaidOut width (under s
 pub one_layout : (width : ℕ) (t u : SetTune) → t.score ≡ u.score → IsGoodScore t.score → IsLaidOut width t → IsLaidOut width u
     → (t.spans ≡ u.spans) × (t.breaking ≡ u.breaking) × (t.systems ≡ u.systems) × (t.placed ≡ u.placed) × (t.heights ≡ u.heights)
 one_layout width t u e _ h k =
-    let over = laid_under width t.score u (sym e) k in (
+    let over : IsLaidOut width (under t.score u) = subst (λ x. IsLaidOut width (under x u)) (sym e) k in (
       same_spans width t.score t u h over,
       same_breaking width t.score t u h over,
       (same_systems width t.score t u h over).0,

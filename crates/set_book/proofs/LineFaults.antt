@@ -1,10 +1,10 @@
 -- A music line gives one list of tokens up to its first fault, and one such fault, or none.
 use Rattle.std.{proofs.Common.{◌≡◌, ◌∙◌, refl, sym, ap, subst, ℕ, List, [], ◌∷◌, length, Bool, Option, Some, None}, specs.Prelude.{MatchBool, MatchOption, ◌==◌, option_map}}
-use Rattle.abc_lines.specs.declared.{book.Line.Line, fault.Fault.Fault, fault.FaultKind.FaultKind, fault.FaultKind.TheVariants.BadByte, fault.FaultKind.TheVariants.Unclosed}
-use Rattle.abc_notes.specs.{declared.part.Flaw.Flaw, Parts.IsLongest, Parts.HasNone, Graces.GraceFault}
-use Rattle.abc_pieces.{specs.Forms.Form, specs.Forms.StandsAt, specs.Forms.meant, specs.Forms.after, specs.Forms.opening, specs.declared.token.Before.Before, specs.declared.token.Opening.Opening, proofs.PieceReader.piece_reader}
-use Rattle.abc_tokens.specs.{declared.token.Placed.Placed, Tokens.Front, Tokens.clear, Tokens.breaks, Tokens.leads, Tokens.FrontOf, Tokens.column, Tokens.put, Tokens.kind_behind, Tokens.IsHere, Tokens.IsBracketFlaw, Tokens.IsOwnFlaw, Tokens.IsLineFlaw, Tokens.fault_at}
-use Rattle.set_book.proofs.{PartFaults.by_test, PartFaults.none_at_end, PartFaults.one_longest, ChordFaults.one_chord_fault, ChordFaults.one_grace_fault}
+use Rattle.abc_lines.specs.declared.{book.Line.Line, fault.{Fault.Fault, FaultKind.{FaultKind, TheVariants.{BadByte, Unclosed}}}}
+use Rattle.abc_notes.specs.{declared.part.Flaw.Flaw, Parts.{IsLongest, HasNone}, Graces.GraceFault}
+use Rattle.abc_pieces.{specs.{Forms.{Form, StandsAt, meant, after, opening}, declared.token.{Before.Before, Opening.Opening}}, proofs.PieceReader.piece_reader}
+use Rattle.abc_tokens.specs.{declared.token.Placed.Placed, Tokens.{Front, clear, breaks, leads, FrontOf, column, put, kind_behind, IsHere, IsBracketFlaw, IsOwnFlaw, IsLineFlaw, fault_at}}
+use Rattle.set_book.proofs.{PartFaults.{by_test, none_at_end, one_longest}, ChordFaults.{one_chord_fault, one_grace_fault}}
 
 one_here : (kind : FaultKind) (s : List ℕ) (f g : Flaw) → IsHere kind s f → IsHere kind s g → f ≡ g
 one_here kind s f g a b = a ∙ sym b
@@ -41,9 +41,6 @@ one_line_flaw bang before at byte s f g a b = by_kind bang at byte s f g (kind_b
 abbrev IsNext : Bool → Before → List ℕ → Form → List ℕ → Type 0
 IsNext bang before s f rest = IsLongest Form (StandsAt bang before) s f rest
 
-one_piece_next : (bang : Bool) (before : Before) (s : List ℕ) (f g : Form) (x y : List ℕ) → IsNext bang before s f x → IsNext bang before s g y → (f ≡ g) × (x ≡ y)
-one_piece_next bang before s f g x y l m = one_longest (piece_reader bang before) s f g x y l m
-
 none_at_all : (bang : Bool) (before : Before) (f : Form) (rest : List ℕ) → IsNext bang before [] f rest → ⊥
 none_at_all bang before f rest l = none_at_end (piece_reader bang before) f rest l.stands
 
@@ -71,7 +68,7 @@ led_front : (bang : Bool) (n : ℕ) (before : Before) (at : ℕ) (s : List ℕ) 
 led_front bang n _ _ _ _ _ f rest l (clear before at) = absurd (none_at_all bang before f rest l)
 led_front bang n _ _ _ _ _ f rest l (breaks before at byte s flaw h is) = absurd (h f rest l.stands)
 led_front bang n _ _ _ _ _ f rest l (leads before at s g others ts all end m more is) =
-    let same = one_piece_next bang before s g f others rest m l in
+    let same = one_longest (piece_reader bang before) s g f others rest m l in
     record {
       ts = ts;
       front = subst (λ x. Front bang n (after f) (length s) x ts end) same.1 (subst (λ h. Front bang n (after h) (length s) others ts end) same.0 more);

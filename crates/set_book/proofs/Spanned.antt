@@ -1,8 +1,8 @@
 -- A score has one list of the spans that fit a width.
 use Rattle.std.proofs.{Common.{◌≡◌, ◌∙◌, ℕ, ◌<◌, ◌≤◌, ◌⊎◌, inl, inr, Bool, true, false, if◌then◌else◌, List, [], ◌∷◌, Option, Some, None, refl, sym, ap, subst, arith}, lemmas.Option.{none-some, same_Some}}
 use Rattle.mus_score.specs.declared.score.Score.{Score}
-use Rattle.lay_breaks.specs.{declared.costs.Span.Span, Spans.AreSpans, Spans.IsNext, Spans.SpansFrom, Spans.ends_are, Spans.has_ends, Spans.has_these, Spans.listed}
-use Rattle.lay_tune.{specs.Spans.AreSpansOf, proofs.Breakings.cost_can_be, proofs.Breakings.one_cost, proofs.Called.has_system, proofs.Open.some_of}
+use Rattle.lay_breaks.specs.{declared.costs.Span.Span, Spans.{AreSpans, IsNext, SpansFrom, ends_are, has_ends, has_these, listed}}
+use Rattle.lay_tune.{specs.Spans.AreSpansOf, proofs.{Breakings.{cost_can_be, one_cost}, Called.has_system, Open.some_of}}
 
 -- ---- a list in order has a span once
 abbrev IsPast : Span → ℕ → ℕ → Type 0

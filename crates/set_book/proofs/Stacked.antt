@@ -1,7 +1,7 @@
 -- The staves of a system are stacked in one way.
 use Rattle.std.proofs.{Common.{◌≡◌, ◌∙◌, ℕ, ℤ, pos, ◌+ℤ◌, ◌-ℤ◌, List, [], ◌∷◌, refl, sym, ap, subst, arith}, lemmas.Int.ints}
 use Rattle.mus_score.specs.declared.score.Score.{Score}
-use Rattle.mus_laid.specs.{declared.laid.StaffMarks.StaffMarks, declared.laid.SystemMarks.SystemMarks}
+use Rattle.mus_laid.specs.declared.laid.{StaffMarks.StaffMarks, SystemMarks.SystemMarks}
 use Rattle.lay_pages.specs.{declared.stacking.Heights.Heights, Stacking.AreStacked}
 use Rattle.lay_tune.specs.Systems.{Beside, IsStack, gaps_between}
 
@@ -12,25 +12,18 @@ same_base top b c high h k = omega (arith, ints)
 one_stack : (top : ℤ) (gaps : List ℕ) (staves : List StaffMarks) (bases others : List ℤ) (bottom floor : ℤ)
     → AreStacked top gaps staves bases bottom → AreStacked top gaps staves others floor → (bases ≡ others) × (bottom ≡ floor)
 one_stack top [] [] [] [] bottom floor h k = (refl, h ∙ sym k)
-one_stack top [] [] [] (c ∷ cs) bottom floor h k = absurd k
-one_stack top [] [] (b ∷ bs) others bottom floor h k = absurd h
-one_stack top [] (staff ∷ []) [] others bottom floor h k = absurd h
-one_stack top [] (staff ∷ []) (b ∷ b2 ∷ bs) others bottom floor h k = absurd h
-one_stack top [] (staff ∷ []) (b ∷ []) [] bottom floor h k = absurd k
-one_stack top [] (staff ∷ []) (b ∷ []) (c ∷ c2 ∷ cs) bottom floor h k = absurd k
 one_stack top [] (staff ∷ []) (b ∷ []) (c ∷ []) bottom floor h k =
     let e = same_base top b c staff.high h.0 k.0 in
     (ap (λ x. x ∷ []) e, h.1 ∙ (ap (λ x. x +ℤ staff.low) e ∙ sym k.1))
-one_stack top [] (staff ∷ next ∷ more) bases others bottom floor h k = absurd h
-one_stack top (gap ∷ gaps) [] bases others bottom floor h k = absurd h
-one_stack top (gap ∷ gaps) (staff ∷ []) bases others bottom floor h k = absurd h
-one_stack top (gap ∷ gaps) (staff ∷ next ∷ more) [] others bottom floor h k = absurd h
-one_stack top (gap ∷ gaps) (staff ∷ next ∷ more) (b ∷ bs) [] bottom floor h k = absurd k
 one_stack top (gap ∷ gaps) (staff ∷ next ∷ more) (b ∷ bs) (c ∷ cs) bottom floor h k =
     let e = same_base top b c staff.high h.0 k.0 in
     let rest = one_stack ((b +ℤ staff.low) -ℤ pos gap) gaps (next ∷ more) bs cs bottom floor h.1
     (subst (λ x. AreStacked ((x +ℤ staff.low) -ℤ pos gap) gaps (next ∷ more) cs floor) (sym e) k.1) in
     (ap (λ x. x ∷ bs) e ∙ ap (λ t. c ∷ t) rest.0, rest.1)
+one_stack top [] [] [] others bottom floor h k = absurd k
+one_stack top [] (staff ∷ []) (b ∷ []) others bottom floor h k = absurd k
+one_stack top (gap ∷ gaps) (staff ∷ next ∷ more) (b ∷ bs) others bottom floor h k = absurd k
+one_stack top gaps staves bases others bottom floor h k = absurd h
 
 same_height : (high higher : ℤ) → pos 0 -ℤ high ≡ pos 0 -ℤ higher → high ≡ higher
 same_height high higher e = omega (arith, ints)

@@ -1,21 +1,23 @@
-ghost use Rattle.std.specs.Prelude.{◌≡◌, ◌≤◌, IfOk, All};
+ghost use Rattle.std.specs.{Prelude.{◌≡◌, ◌≤◌, IfOk, All}, Thread.IsSync};
 ghost use Rattle.abc_lines.specs.Good.{IsGoodBook, IsGoodTune};
 ghost use Rattle.abc_header.specs.{Defaults.defaults_of, Good.IsGoodDefaults, Papers.IsGoodPaper};
-ghost use Rattle.set_book.specs.{Once.HaveOneOutcome, Outcomes.AreOutcomes, Outcomes.IsOutcome};
+ghost use Rattle.set_book.specs.{Once.HaveOneOutcome, Outcomes.{AreOutcomes, IsOutcome}};
+ghost use Rattle.set_tune.specs.Terms.{terms_of};
 
 use crate::gate::Gate;
 use crate::outcome::Outcome;
 use abc_header::{Defaults, Paper, read_defaults};
 use abc_lines::{Book, TuneError, TuneText};
+use eng_halves::{Work, work_all};
 use mus_units::{Memory, Row};
-use set_halves::{Work, work_all};
 use set_tune::{How, set_how};
 use std::alloc::Global;
 use std::thread::Threads;
 
 /// The setting of tunes of one book on one paper.
 #[derive(Drop)]
-struct Setting<'a, G> {
+struct Setting<'a, R, G> {
+    rt: &'a R,
     alloc: Global,
     defaults: &'a Defaults,
     paper: &'a Paper,
@@ -23,14 +25,15 @@ struct Setting<'a, G> {
     gate: &'a G,
 }
 
-impl<'a, G: Gate> Work<TuneText, Outcome> for Setting<'a, G> {
-    ghost takes = { λ s tune. IsGoodTune tune × IsGoodDefaults s.defaults.now × IsGoodPaper s.paper.now };
+impl<'a, R: Threads + Sync, G: Gate> Work<TuneText, Outcome> for Setting<'a, R, G> {
+    ghost takes = { λ s tune. IsSync R.row × IsGoodTune tune × IsGoodDefaults s.defaults.now × IsGoodPaper s.paper.now };
 
-    ghost gives = { λ s tune outcome. IsOutcome s.defaults.now s.paper.now s.how tune outcome };
+    ghost gives = { λ s tune outcome. IsOutcome (terms_of s.defaults.now s.paper.now s.how) tune outcome };
 
-    fn work(&self, tune: &TuneText) -> Result<Outcome, Memory> {
+    fn work(&self, tune: &TuneText, jobs: u8) -> Result<Outcome, Memory> {
         self.gate.enter(tune.ordinal);
-        let result = match set_how(self.alloc, tune, self.defaults, self.paper, self.how) {
+        let how = self.how.with_jobs(jobs);
+        let result = match set_how(self.rt, self.alloc, tune, self.defaults, self.paper, how) {
             Ok(set) => Ok(set),
             Err(TuneError::Fault(fault)) => Err(fault),
             Err(TuneError::Memory) => return Err(Memory),
@@ -45,8 +48,9 @@ impl<'a, G: Gate> Work<TuneText, Outcome> for Setting<'a, G> {
 /// What comes of some tunes of a book on paper, in their order, under the defaults of its file
 /// header, each set as `how` says.
 ///
-/// `jobs` is 1 to 64: the list of tunes is halved, and the jobs with it, and the halves are set side
-/// by side where threads can be made. Each tune enters the gate once, before it is set.
+/// `jobs` is 1 to 64, and counts in place of those of `how`: the list of tunes is halved, and the jobs
+/// with it, and the halves are set side by side where threads can be made; a tune is set by the jobs
+/// that are left for it. Each tune enters the gate once, before it is set.
 pub fn set_tunes<R: Threads + Sync, G: Gate + Sync>(
     rt: &R,
     alloc: Global,
@@ -62,9 +66,10 @@ pub fn set_tunes<R: Threads + Sync, G: Gate + Sync>(
     requires paper { IsGoodPaper paper.now }
     requires some { 1 ≤ jobs }
     requires few { jobs ≤ 64 }
-    ensures { IfOk result (AreOutcomes defaults.now paper.now how tunes.now) }
+    ensures { IfOk result (AreOutcomes (terms_of defaults.now paper.now how) tunes.now) }
 {
     let setting = Setting {
+        rt,
         alloc,
         defaults,
         paper,
@@ -89,7 +94,7 @@ pub fn set_all<R: Threads + Sync, G: Gate + Sync>(
     requires paper { IsGoodPaper paper.now }
     requires some { 1 ≤ jobs }
     requires few { jobs ≤ 64 }
-    ensures { IfOk result (AreOutcomes (defaults_of book.now.header) paper.now how book.now.tunes) }
+    ensures { IfOk result (AreOutcomes (terms_of (defaults_of book.now.header) paper.now how) book.now.tunes) }
 {
     let defaults = read_defaults(alloc, book)?;
     let tunes = book.tunes.as_slice();

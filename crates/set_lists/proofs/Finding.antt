@@ -1,6 +1,6 @@
 -- Where a listed span stands.
 use Rattle.std.{proofs.{Common.{◌≡◌, ℕ, zero, suc, ◌+◌, ◌<◌, ◌≤◌, Bool, true, false, nat_lt, List, [], ◌∷◌, length, drop, Option, Some, None, option_map, if◌then◌else◌, arith, refl, sym, ◌∙◌, ap, subst, inl, inr, unwrap_or}, lemmas.{Bool.Decides.nat_tests, List.Sorted.IsNonDecreasingBy-from_all_adjacent}}, specs.List.{AllWithin, find, slice_index_or, Sorted.IsNonDecreasingBy}}
-use Rattle.lay_breaks.specs.{declared.costs.Span.Span, Spans.AreSpans, Spans.IsNext, Spans.SpansFrom, Spans.has_ends, Spans.listed}
+use Rattle.lay_breaks.specs.{declared.costs.Span.Span, Spans.{AreSpans, IsNext, SpansFrom, has_ends, listed}}
 
 next_begins : (p s : Span) → IsNext p s → p.a ≤ s.a
 next_begins p s (inl h) = let l = h.0 in omega arith
@@ -8,10 +8,9 @@ next_begins p s (inr h) = let e = h.0 in omega arith
 
 begin_in_order : (n : ℕ) (last : Option Span) (ss : List Span) → SpansFrom n last ss
     → (k : ℕ) (d : Span) → suc k < length ss → (slice_index_or ss k d).a ≤ (slice_index_or ss (suc k) d).a
-begin_in_order n last [] h k d l = absurd (omega (arith, l))
-begin_in_order n last (s ∷ []) h k d l = absurd (omega (arith, l))
 begin_in_order n last (s ∷ t ∷ ss) h zero d l = next_begins s t h.1.0.follows
 begin_in_order n last (s ∷ t ∷ ss) h (suc k) d l = begin_in_order n (Some s) (t ∷ ss) h.1 k d (omega (arith, l))
+begin_in_order n last ss h k d l = absurd (omega (arith, l))
 
 -- listed spans stand by the bar at which they begin
 pub in_order : (n : ℕ) (ss : List Span) → AreSpans n ss → IsNonDecreasingBy (λ s. s.a) ss

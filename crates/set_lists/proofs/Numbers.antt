@@ -1,8 +1,7 @@
 -- The numbers of the tunes of a book.
 use Rattle.std.{proofs.{Common.{◌≡◌, ℕ, suc, ◌+◌, ◌<◌, ◌≤◌, ◌^◌, ◌==◌, Bool, true, false, List, [], ◌∷◌, length, drop, if◌then◌else◌, nat_eq, arith, sym, subst}, lemmas.List.{length-drop, length-map, Splits.length-slice_split, Sums.count_by-le-length}}, specs.List.{slice_split, starts_with}}
-use Rattle.abc_lines.specs.{declared.reading.Reading.Reading, Books.begins_tune, Books.book_of, Books.tune_at, Books.tunes_behind, Lines.byte_order_mark, Lines.is_end, Lines.lines_of, Lines.reading, Lines.readings, Lines.without_last_empty, Lines.without_mark}
-use Rattle.abc_header.specs.{declared.defaults.Defaults.Defaults, declared.paper.Paper.Paper}
-use Rattle.set_tune.specs.declared.how.How.{How}
+use Rattle.abc_lines.specs.{declared.reading.Reading.Reading, Books.{begins_tune, book_of, tune_at, tunes_behind}, Lines.{byte_order_mark, is_end, lines_of, reading, readings, without_last_empty, without_mark}}
+use Rattle.set_tune.specs.Terms.{Terms}
 use Rattle.set_book.specs.{declared.outcome.Outcome.Outcome, Outcomes.AreOutcomes}
 use Rattle.set_lists.specs.Laws.{BookRises, OrdinalsRise}
 
@@ -32,10 +31,10 @@ few_lines bytes =
     let m = count_by-le-length is_end bytes in
     omega (arith, mapped, l, split, m)
 
-module _ (defaults : Defaults) (paper : Paper) (how : How) (all : List Reading) where
+module _ (terms : Terms) (all : List Reading) where
   -- the outcomes of the tunes that begin behind some lines, the first of which has a number past k
   rise_behind : (before lines : List Reading) (k : ℕ) (os : List Outcome) → k + length lines < 2 ^ 32
-      → AreOutcomes defaults paper how (tunes_behind all (suc k) before lines) os → OrdinalsRise k os
+      → AreOutcomes terms (tunes_behind all (suc k) before lines) os → OrdinalsRise k os
   rise_behind before [] k [] l h = tt
   rise_behind before [] k (o ∷ os) l h = absurd h
   rise_behind before (line ∷ more) k os l h =
@@ -43,9 +42,9 @@ module _ (defaults : Defaults) (paper : Paper) (how : How) (all : List Reading) 
       (λ g. rise_behind (line ∷ before) more k os (omega (arith, l)) g) h
     where
       at : (t : Bool) (ps : List Outcome)
-          → ((qs : List Outcome) → AreOutcomes defaults paper how (tunes_behind all (suc (suc k)) (line ∷ before) more) qs → OrdinalsRise (suc k) qs)
-          → (AreOutcomes defaults paper how (tunes_behind all (suc k) (line ∷ before) more) ps → OrdinalsRise k ps)
-          → AreOutcomes defaults paper how (if t then tune_at all (suc k) (suc (length before)) ∷ tunes_behind all (suc (suc k)) (line ∷ before) more
+          → ((qs : List Outcome) → AreOutcomes terms (tunes_behind all (suc (suc k)) (line ∷ before) more) qs → OrdinalsRise (suc k) qs)
+          → (AreOutcomes terms (tunes_behind all (suc k) (line ∷ before) more) ps → OrdinalsRise k ps)
+          → AreOutcomes terms (if t then tune_at all (suc k) (suc (length before)) ∷ tunes_behind all (suc (suc k)) (line ∷ before) more
           else tunes_behind all (suc k) (line ∷ before) more) ps → OrdinalsRise k ps
       at true [] further same h = absurd h
       at true (p ∷ ps) further same h =
@@ -55,6 +54,6 @@ module _ (defaults : Defaults) (paper : Paper) (how : How) (all : List Reading) 
 
 pub book_rises : BookRises
 unfolding book_of
-book_rises bytes defaults paper how os l h =
-    rise_behind defaults paper how (readings (without_mark bytes)) [] (readings (without_mark bytes)) 0 os
+book_rises bytes terms os l h =
+    rise_behind terms (readings (without_mark bytes)) [] (readings (without_mark bytes)) 0 os
     (let m = few_lines (without_mark bytes) in let n = unmarked bytes in omega (arith, l, m, n)) h

@@ -1,14 +1,14 @@
 -- What comes of tunes can be listed, and its listing tells the tunes that are set.
 use Rattle.std.{proofs.{Common.{◌≡◌, ◌∙◌, sym, ℕ, ◌<◌, ◌≤◌, ◌^◌, Bool, true, List, [], ◌∷◌, Option, Some, None, Result, Ok, Err, arith, refl}, lemmas.List.Elements.{All-cons, All-nil}}, specs.List.{All, cons_option, slice_index_or}}
-use Rattle.abc_lines.specs.{declared.book.TuneText.TuneText, declared.fault.Fault.Fault}
-use Rattle.abc_header.specs.{declared.defaults.Defaults.Defaults, declared.paper.Paper.Paper, Papers.width_of}
+use Rattle.abc_lines.specs.declared.{book.TuneText.TuneText, fault.Fault.Fault}
+use Rattle.abc_header.specs.Papers.{width_of}
 use Rattle.mus_score.specs.declared.score.Score.{Score}
-use Rattle.lay_breaks.specs.{declared.costs.Span.Span, Breaking.IsLegal, Breaking.IsPotential, Spans.AreSpans, Spans.listed}
-use Rattle.lay_tune.{specs.Spans.AreSpansOf, specs.Spans.is_forced_in, specs.Systems.IsSetSystem, proofs.Rows.span_count}
-use Rattle.lay_cert.{specs.Listing.EntriesFrom, specs.Listing.IsEntry, specs.Listing.none_forced, proofs.Unforced.forced_by_spans}
-use Rattle.set_tune.specs.{declared.how.How.How, declared.tune.SetTune.SetTune, Setting.IsSetTune}
-use Rattle.set_book.{proofs.Spanned.listed_within, specs.declared.outcome.Outcome.Outcome, specs.Outcomes.AreOutcomes, specs.Outcomes.IsResult}
-use Rattle.set_lists.specs.{Laws.ListsTheSet, Laws.OrdinalsRise, Laws.OutcomesAreListable, Listing.CanBeListed, Listing.IsListable, Listing.entries_of, Listing.entry_of, Listing.result_entry}
+use Rattle.lay_breaks.specs.{declared.costs.Span.Span, Breaking.{IsLegal, IsPotential}, Spans.{AreSpans, listed}}
+use Rattle.lay_tune.{specs.{Spans.{AreSpansOf, is_forced_in}, Systems.IsSetSystem}, proofs.Rows.span_count}
+use Rattle.lay_cert.{specs.Listing.{EntriesFrom, IsEntry, none_forced}, proofs.Unforced.forced_by_spans}
+use Rattle.set_tune.specs.{Terms.Terms, declared.tune.SetTune.SetTune, Setting.IsSetTune}
+use Rattle.set_book.{proofs.Spanned.listed_within, specs.{declared.outcome.Outcome.Outcome, Outcomes.{AreOutcomes, IsResult}}}
+use Rattle.set_lists.specs.{Laws.{ListsTheSet, OrdinalsRise, OutcomesAreListable}, Listing.{CanBeListed, IsListable, entries_of, entry_of, result_entry}}
 
 -- ---- spans pass no forced bar
 pub unforced : (s : Score) (width : ℕ) (spans : List Span) → AreSpans s.measures spans → AreSpansOf s width spans
@@ -36,11 +36,11 @@ potential s width spans form exact i (Some v) h = record {
 }
 
 -- ---- tunes that are set
-module _ (tune : TuneText) (defaults : Defaults) (paper : Paper) (how : How) (t : SetTune) (is : IsSetTune tune defaults paper how t) where
+module _ (tune : TuneText) (terms : Terms) (t : SetTune) (is : IsSetTune tune terms t) where
   can_be_listed : CanBeListed t
   can_be_listed = record {
     form = is.laid.layout.form;
-    beside = let both = span_count (IsSetSystem t.score (width_of paper)) 0 t.breaking.breaks t.systems t.placed is.laid.layout.systems in both.1 ∙ sym both.0;
+    beside = let both = span_count (IsSetSystem t.score (width_of terms.paper)) 0 t.breaking.breaks t.systems t.placed is.laid.layout.systems in both.1 ∙ sym both.0;
     few = let few = is.laid.score.good.few_measures in let one = is.laid.layout.one_each in omega (arith, few, one);
   }
 
@@ -57,39 +57,37 @@ module _ (tune : TuneText) (defaults : Defaults) (paper : Paper) (how : How) (t 
       }
 
 -- ---- outcomes
-module _ (defaults : Defaults) (paper : Paper) (how : How) where
-  is_listable : (tune : TuneText) (r : Result SetTune Fault) → IsResult tune defaults paper how r → IsListable r
-  is_listable tune (Ok t) h = can_be_listed tune defaults paper how t h
+module _ (terms : Terms) where
+  is_listable : (tune : TuneText) (r : Result SetTune Fault) → IsResult tune terms r → IsListable r
+  is_listable tune (Ok t) h = can_be_listed tune terms t h
   is_listable tune (Err fault) h = tt
 
-  all_listable : (tunes : List TuneText) (os : List Outcome) → AreOutcomes defaults paper how tunes os → All (λ o. IsListable o.result) os
+  all_listable : (tunes : List TuneText) (os : List Outcome) → AreOutcomes terms tunes os → All (λ o. IsListable o.result) os
   all_listable [] [] h = All-nil (λ o. IsListable o.result)
-  all_listable [] (o ∷ os) h = absurd h
-  all_listable (t ∷ ts) [] h = absurd h
   all_listable (t ∷ ts) (o ∷ os) h =
       All-cons (λ o. IsListable o.result) o os (is_listable t o.result h.0.result) (all_listable ts os h.1)
+  all_listable ts os h = absurd h
 
   -- the entries of outcomes whose numbers rise past k have numbers past each j up to k
-  entries : (tunes : List TuneText) (os : List Outcome) (k j : ℕ) → AreOutcomes defaults paper how tunes os → OrdinalsRise k os → j ≤ k
+  entries : (tunes : List TuneText) (os : List Outcome) (k j : ℕ) → AreOutcomes terms tunes os → OrdinalsRise k os → j ≤ k
       → EntriesFrom j (entries_of os)
   entries [] [] k j h rise l = tt
-  entries [] (o ∷ os) k j h rise l = absurd h
-  entries (t ∷ ts) [] k j h rise l = absurd h
   entries (t ∷ ts) (o ∷ os) k j h rise l =
       at o.result h.0.result (entries ts os o.ordinal o.ordinal h.1 rise.2 (omega arith))
       (entries ts os o.ordinal j h.1 rise.2 (let m = rise.0 in omega (arith, l, m)))
     where
-      at : (r : Result SetTune Fault) → IsResult t defaults paper how r → EntriesFrom o.ordinal (entries_of os) → EntriesFrom j (entries_of os)
+      at : (r : Result SetTune Fault) → IsResult t terms r → EntriesFrom o.ordinal (entries_of os) → EntriesFrom j (entries_of os)
           → EntriesFrom j (cons_option (result_entry o.ordinal r) (entries_of os))
       at (Ok tune) is further same =
-          (let m = rise.0 in omega (arith, l, m), is_entry t defaults paper how tune is o.ordinal rise.1, further)
+          (let m = rise.0 in omega (arith, l, m), is_entry t terms tune is o.ordinal rise.1, further)
       at (Err fault) is further same = same
+  entries ts os k j h rise l = absurd h
 
 pub outcomes_are_listable : OutcomesAreListable
-outcomes_are_listable defaults paper how tunes os h = all_listable defaults paper how tunes os h
+outcomes_are_listable terms tunes os h = all_listable terms tunes os h
 
 pub lists_the_set : ListsTheSet
-lists_the_set defaults paper how tunes os h rise = record {
-  entries = entries defaults paper how tunes os 0 0 h rise (omega arith);
+lists_the_set terms tunes os h rise = record {
+  entries = entries terms tunes os 0 0 h rise (omega arith);
   lines = refl;
 }

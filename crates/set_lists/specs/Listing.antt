@@ -2,7 +2,7 @@
 use Rattle.std.specs.{Prelude.{◌≡◌, ℕ, ◌<◌, ◌^◌, ⊤, All, List, [], length, Option, Some, None, Result, Ok, Err}, List.{filter_map, flat_map}}
 use Rattle.abc_lines.specs.declared.fault.Fault.{Fault}
 use Rattle.lay_breaks.specs.Spans.{AreSpans}
-use Rattle.lay_cert.specs.{Lines.lines_then, Listing.Entry, Listing.entry_lines, Listing.listing_lines}
+use Rattle.lay_cert.specs.{Lines.lines_then, Listing.{Entry, entry_lines, listing_lines}}
 use Rattle.set_tune.specs.declared.tune.SetTune.{SetTune}
 use Rattle.set_book.specs.declared.outcome.Outcome.{Outcome}
 

@@ -1,4 +1,4 @@
-ghost use Rattle.std.specs.{Prelude.◌≡◌, Prelude.◌++◌, Prelude.length, Prelude.OnOk, List.find, Option.option_copied};
+ghost use Rattle.std.specs.{Prelude.{◌≡◌, ◌++◌, length, OnOk}, List.find, Option.option_copied};
 ghost use Rattle.lay_breaks.specs.Spans.{AreSpans, has_ends};
 ghost use Rattle.set_lists.specs.{Listing.{AreListable, IsListable}, Systems.{badness_in, outcome_lines, system_line, system_lines, systems_text, tune_line}};
 

@@ -1,17 +1,17 @@
 -- What the blocks of outcomes draw is ready to be drawn wherever they lie on a page.
 use Rattle.std.{proofs.{Common.{◌≡◌, sym, subst, get_or, ℕ, ◌^◌, ◌<◌, ◌≤◌, ℤ, pos, ◌-ℤ◌, ◌≤ℤ◌, Bool, List, [], ◌∷◌, ◌++◌, length, Option, Some, None, arith}, lemmas.{Int.ints, List.Elements.{All-head, All-tail, All-weaker}}}, specs.{Prelude.{All, IfSome, Result, Ok, Err}, List.AllZip}}
 use Rattle.abc_lines.specs.declared.fault.Fault.{Fault}
-use Rattle.abc_header.specs.{declared.paper.Paper.Paper, Papers.IsGoodPaper, Papers.width_of}
+use Rattle.abc_header.specs.{declared.paper.Paper.Paper, Papers.{IsGoodPaper, width_of}}
 use Rattle.mus_score.specs.declared.score.Score.{Score}
 use Rattle.mus_laid.specs.declared.laid.SystemMarks.{SystemMarks}
 use Rattle.lay_springs.specs.declared.margin.Placed.{Placed}
-use Rattle.lay_pages.specs.{declared.stacking.Heights.Heights, declared.titles.TitleRow.TitleRow, declared.titles.TitleBlock.TitleBlock}
+use Rattle.lay_pages.specs.declared.{stacking.Heights.Heights, titles.{TitleRow.TitleRow, TitleBlock.TitleBlock}}
 use Rattle.lay_shown.{specs.Titles.IsGoodRow, proofs.TitleRows.rows_stand}
-use Rattle.set_tune.{specs.declared.tune.SetTune.SetTune, specs.Blocks.block_height, specs.Blocks.blocks_of, specs.Blocks.is_some_list, specs.Blocks.system_block, specs.Blocks.system_blocks, specs.Blocks.title_blocks, proofs.Laid.heard_moved}
+use Rattle.set_tune.{specs.{declared.tune.SetTune.SetTune, Blocks.{block_height, blocks_of, is_some_list, system_block, system_blocks, title_blocks}}, proofs.Laid.heard_moved}
 use Rattle.set_book.specs.declared.outcome.Outcome.{Outcome}
-use Rattle.set_staves.{specs.Drawn.IsBase, specs.Drawn.IsOnPage, specs.Drawn.IsTop, specs.Marks.RisesAlong, specs.Marks.x_at, proofs.Shown.x_read}
+use Rattle.set_staves.{specs.{Drawn.{IsBase, IsOnPage, IsTop}, Marks.{RisesAlong, x_at}}, proofs.Shown.x_read}
 use Rattle.lay_tune.specs.Systems.{StandWithin, gaps_between}
-use Rattle.set_pages.{specs.{Drawings.{all_blocks, all_drawings, drawing, drawings_from, outcome_blocks, outcome_drawings, result_blocks, result_drawings, system, system_contents, title, title_contents}, Ready.{IsReadyOn, IsReadyRow}, Sheet.{IsSetResult, IsSetUnder}}, proofs.{Laying.{AreLaid, IsLaidSystem, paper_narrow, tune_laid}, Stacks.{IsBetween, stacked_bases, stacked_count}, Joined.zip_append}}
+use Rattle.set_pages.{specs.{Drawings.{all_blocks, all_drawings, drawing, drawings_from, outcome_blocks, outcome_drawings, result_blocks, result_drawings, system, system_contents, title, title_contents}, Ready.{IsReadyOn, IsReadyRow}, Sheet.{IsSetResult, IsSetUnder}}, proofs.{Laying.{AreLaid, IsLaidSystem, paper_narrow, tune_laid}, Stacks.{IsBetween, stacked_lie}, Joined.zip_append}}
 
 -- the tune that a block begins has an ordinal
 abbrev IsCounted : Option ℕ → Type 0
@@ -42,18 +42,19 @@ columns_within width count at narrow stand k d inside = on_page (x_at at k) (get
 
 system_ready : (s : Score) (width : ℕ) (begins : Option ℕ) (m : SystemMarks) (p : Placed) (h : Heights) → width < 2 ^ 20 → IsCounted begins → IsLaidSystem s width m p h
     → IsReadyOn (drawing begins (system m p.at h.bases)) (system_block h)
-system_ready s width begins m p h narrow counted laid top at above = record {
-  begins = counted;
-  content = record {
-    shown = laid.shown;
-    count = laid.columns.count_is;
-    rise = columns_rise width (length m.keys) p.at laid.columns;
-    numbers = columns_within width (length m.keys) p.at narrow laid.columns;
-    bases = stacked_count (pos 0) (pos 0 -ℤ h.height) (gaps_between s.voices) m.staves h.bases laid.stack.stacked;
-    heights = bases_within top h.height h.bases at above (stacked_bases (pos 0) (pos 0) (pos 0 -ℤ h.height) (gaps_between s.voices) m.staves h.bases laid.staves laid.stack.stacked (omega (arith, ints)));
-  };
-  within = at;
-}
+system_ready s width begins m p h narrow counted laid top at above =
+    let lie = stacked_lie (pos 0) (pos 0 -ℤ h.height) (gaps_between s.voices) m.staves h.bases laid.staves laid.stack.stacked in record {
+      begins = counted;
+      content = record {
+        shown = laid.shown;
+        count = laid.columns.count_is;
+        rise = columns_rise width (length m.keys) p.at laid.columns;
+        numbers = columns_within width (length m.keys) p.at narrow laid.columns;
+        bases = lie.count;
+        heights = bases_within top h.height h.bases at above (lie.between (pos 0) (omega (arith, ints)));
+      };
+      within = at;
+    }
 
 row_ready : (width height : ℕ) (top : ℤ) (row : TitleRow) → width < 2 ^ 20 → IsTop top → pos 0 ≤ℤ (top -ℤ block_height height) → IsGoodRow width height row → IsReadyRow top row
 row_ready width height top row narrow at above good = record {

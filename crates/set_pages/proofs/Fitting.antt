@@ -1,8 +1,8 @@
 -- The blocks of tunes of which none has a group that is too tall have none together: no block is tied to one of the next tune.
 use Rattle.std.{proofs.Common.{◌≡◌, refl, ap, ◌∙◌, ℕ, suc, Bool, true, false, not, List, [], ◌∷◌, ◌++◌, Option, None}, specs.Prelude.{⊤, ◌&&◌, nat_lt, Result, Ok, Err}}
 use Rattle.abc_lines.specs.declared.fault.Fault.{Fault}
-use Rattle.lay_pages.specs.{declared.filling.Block.Block, declared.stacking.Heights.Heights, declared.titles.TitleRow.TitleRow, Filling.IsLoose, Filling.first_tall, Filling.group_height, Filling.height_of, Filling.tall_by, Filling.tall_from, Filling.with_kept}
-use Rattle.set_tune.specs.{declared.tune.SetTune.SetTune, Blocks.blocks_of, Blocks.is_some_list, Blocks.system_blocks, Blocks.title_blocks}
+use Rattle.lay_pages.specs.{declared.{filling.Block.Block, stacking.Heights.Heights, titles.TitleRow.TitleRow}, Filling.{IsLoose, first_tall, group_height, height_of, tall_by, tall_from, with_kept}}
+use Rattle.set_tune.specs.{declared.tune.SetTune.SetTune, Blocks.{blocks_of, is_some_list, system_blocks, title_blocks}}
 use Rattle.set_book.specs.declared.outcome.Outcome.{Outcome}
 use Rattle.set_pages.specs.Drawings.{all_blocks, outcome_blocks, result_blocks}
 

@@ -1,34 +1,33 @@
 -- Pages that were given up are the first of the sheet, whatever is pressed behind them.
 use Rattle.std.{proofs.{Common.{◌≡◌, refl, sym, ap, ◌∙◌, subst, inl, inr, ℕ, zero, suc, ◌+◌, Bool, true, false, cond, List, [], ◌∷◌, ◌++◌, length, take}, Math.Seq.{take-append_seam, drop-append_seam}, lemmas.List.{append-nil, append_assoc, Elements.{All-take, All-drop}}}, specs.Prelude.{◌||◌, ◌⊎◌, nat_le, nat_lt, All}}
-use Rattle.abc_header.specs.{declared.paper.Paper.Paper, Papers.height_of, Papers.width_of}
-use Rattle.lay_pages.specs.{declared.filling.Block.Block, declared.filling.Place.Place, declared.filling.Spot.Spot, Filling.group_height, Filling.next_place, Filling.place_by, Filling.spots_from, Filling.spots_of, Filling.under}
+use Rattle.abc_header.specs.{declared.paper.Paper.Paper, Papers.{height_of, width_of}}
+use Rattle.lay_pages.specs.{declared.filling.{Block.Block, Place.Place, Spot.Spot}, Filling.{group_height, next_place, place_by, spots_from, spots_of, under}}
 use Rattle.ps_text.specs.declared.sheet.Page.{Page}
 use Rattle.set_book.specs.declared.outcome.Outcome.{Outcome}
 use Rattle.set_pages.{specs.{declared.{pages.Pages.Pages, plan.Plan.Plan, press.Press.Press}, Drawings.{Drawing, all_blocks, all_drawings, drawn}, Filling.{done_count, no_pages, restored, turned, with_drawing, with_drawings, with_items}, Press.{IsPressed, RisesBy, done_pages, next_spots}, Ready.{AreRising, AreRisingFrom, IsDrawn}, Sheet.{all_spots, pages_of, sheet_of}}, proofs.{Joined.{drawings_append, drawn_join, spots_append}, Turned.all_put, Zips.zip_length}}
 
+-- some pages are the first of all
+pub record IsFront (front all : List Page) : Type 0 where
+  pub rest : List Page
+  pub whole : all ≡ front ++ rest
+
+-- a front of a front
+front_of_front : (xs ys zs : List Page) → IsFront xs ys → IsFront ys zs → IsFront xs zs
+front_of_front xs ys zs one two = record { rest = one.rest ++ two.rest; whole = two.whole ∙ ap (λ l. l ++ two.rest) one.whole ∙ append_assoc xs one.rest two.rest }
+
 -- what is done stays done
-pub record IsGrown (p q : Pages) : Type 0 where
-  pub more : List Page
-  pub done : q.done ≡ p.done ++ more
+grown_same : (p : Pages) → IsFront p.done p.done
+grown_same p = record { rest = []; whole = sym (append-nil p.done) }
 
-grown_turned : (p : Pages) → IsGrown p (turned p)
-grown_turned p = record { more = record { items = p.items } ∷ []; done = refl }
+grown_by : (p : Pages) (b : Bool) (more : List _) → IsFront p.done (with_items (cond b (turned p) p) more).done
+grown_by p true more = record { rest = record { items = p.items } ∷ []; whole = refl }
+grown_by p false more = grown_same p
 
-grown_same : (p : Pages) → IsGrown p p
-grown_same p = record { more = []; done = sym (append-nil p.done) }
-
-grown_by : (p : Pages) (b : Bool) (more : List _) → IsGrown p (with_items (cond b (turned p) p) more)
-grown_by p true more = record { more = (grown_turned p).more; done = (grown_turned p).done }
-grown_by p false more = record { more = (grown_same p).more; done = (grown_same p).done }
-
-grown_on : (p q r : Pages) → IsGrown p q → IsGrown q r → IsGrown p r
-grown_on p q r one two = record { more = one.more ++ two.more; done = two.done ∙ ap (λ l. l ++ two.more) one.done ∙ append_assoc p.done one.more two.more }
-
-pub grown_all : (width : ℕ) (p : Pages) (ds : List Drawing) (ss : List Spot) → IsGrown p (with_drawings width p ds ss)
+pub grown_all : (width : ℕ) (p : Pages) (ds : List Drawing) (ss : List Spot) → IsFront p.done (with_drawings width p ds ss).done
 grown_all width p [] ss = grown_same p
 grown_all width p (d ∷ ds) [] = grown_same p
 grown_all width p (d ∷ ds) (s ∷ ss) =
-    grown_on p (with_drawing width p d s) (with_drawings width (with_drawing width p d s) ds ss) (grown_by p (nat_lt (done_count p) s.page) (drawn width s.top d))
+    front_of_front p.done (with_drawing width p d s).done (with_drawings width (with_drawing width p d s) ds ss).done (grown_by p (nat_lt (done_count p) s.page) (drawn width s.top d))
     (grown_all width (with_drawing width p d s) ds ss)
 
 rises_by : (b : Bool) (page down : ℕ) → ((place_by b page down).page ≡ page) ⊎ ((place_by b page down).page ≡ suc page)
@@ -45,10 +44,6 @@ rises high [] = tt
 rises high (b ∷ bs) = (refl, rises_from high (record { page = 0; down = 0 }) b bs)
 
 -- the pages that are done when all is put are the first of the sheet
-pub record IsFront (front all : List Page) : Type 0 where
-  pub rest : List Page
-  pub whole : all ≡ front ++ rest
-
 none_front : (width : ℕ) (ds : List Drawing) → IsFront (with_drawings width no_pages ds []).done (pages_of width ds [])
 none_front width [] = record { rest = []; whole = refl }
 none_front width (d ∷ ds) = record { rest = []; whole = refl }
@@ -58,19 +53,13 @@ put_front width ds [] same rising = none_front width ds
 put_front width ds (s ∷ ss) same rising =
     record { rest = record { items = (with_drawings width no_pages ds (s ∷ ss)).items } ∷ []; whole = sym (all_put width ds s ss same rising) }
 
--- a front of a front
-front_of_front : (xs ys zs : List Page) → IsFront xs ys → IsFront ys zs → IsFront xs zs
-front_of_front xs ys zs one two = record { rest = one.rest ++ two.rest; whole = two.whole ∙ ap (λ l. l ++ two.rest) one.whole ∙ append_assoc xs one.rest two.rest }
-
 rising_take_from : (n page : ℕ) (ss : List Spot) → AreRisingFrom page ss → AreRisingFrom page (take n ss)
-rising_take_from zero page ss rising = tt
-rising_take_from (suc n) page [] rising = tt
 rising_take_from (suc n) page (s ∷ ss) rising = (rising.0, rising_take_from n s.page ss rising.1)
+rising_take_from n page ss rising = tt
 
 rising_take : (n : ℕ) (ss : List Spot) → AreRising ss → AreRising (take n ss)
-rising_take zero ss rising = tt
-rising_take (suc n) [] rising = tt
 rising_take (suc n) (s ∷ ss) rising = (rising.0, rising_take_from n s.page ss rising.1)
+rising_take n ss rising = tt
 
 pub plan_rising : (plan : Plan) (paper : Paper) (outcomes : List Outcome) → RisesBy plan → AreRising (all_spots plan paper outcomes)
 plan_rising Plan.Filled paper outcomes rising = rises (height_of paper) (all_blocks outcomes)
@@ -98,7 +87,7 @@ done_front plan paper first more given p pressed count =
     let all = first ++ more in
     let grown = grown_all width (restored given p.pages) (all_drawings more) (next_spots plan (height_of paper) p (all_blocks more)) in
     front_of_front (given ++ done_pages p) (with_drawings width no_pages (all_drawings all) (all_spots plan paper all)).done (pages_of width (all_drawings all) (all_spots plan paper all))
-    (record { rest = grown.more; whole = ap (λ (q : Pages). q.done) (put_behind plan paper first more given p pressed) ∙ grown.done })
+    (record { rest = grown.rest; whole = ap (λ (q : Pages). q.done) (put_behind plan paper first more given p pressed) ∙ grown.whole })
     (put_front width (all_drawings all) (all_spots plan paper all) count (plan_rising plan paper all pressed.rises))
 
 -- the same of the sheet of these outcomes alone

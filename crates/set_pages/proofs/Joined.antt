@@ -1,6 +1,6 @@
 -- Blocks that are filled and drawn a list at a time are those of all lists, one after another.
 use Rattle.std.{proofs.{Common.{◌≡◌, refl, sym, ap, ◌∙◌, subst, ℕ, ◌+◌, List, [], ◌∷◌, ◌++◌, length, take, drop, Option, None}, lemmas.{Grind.flat_map-append, List.{Elements.All-append, length-append}}, Math.Seq.take-add}, specs.{Prelude.{◌||◌, nat_le, All}, List.AllZip}}
-use Rattle.abc_header.specs.{declared.paper.Paper.Paper, Papers.height_of, Papers.width_of}
+use Rattle.abc_header.specs.{declared.paper.Paper.Paper, Papers.{height_of, width_of}}
 use Rattle.lay_pages.specs.{declared.filling.{Block.Block, Place.Place, Spot.Spot, Standing.Standing}, Filling.{AreGoodBlocks, IsLoose, behind_after, next_place, place_by, spot_at, spots_behind, spots_from, spots_of, standing_from, under}}
 use Rattle.ps_text.specs.declared.sheet.Page.{Page}
 use Rattle.set_book.specs.declared.outcome.Outcome.{Outcome}
@@ -38,10 +38,9 @@ behind_join high (block ∷ bs) more loose = standing_append high (record { page
 
 -- the blocks of tunes are tied to none behind them
 loose_append : (xs ys : List Block) → IsLoose xs → IsLoose ys → IsLoose (xs ++ ys)
-loose_append [] ys front back = back
 loose_append (x ∷ []) [] front back = front
-loose_append (x ∷ []) (y ∷ ys) front back = back
 loose_append (x ∷ next ∷ xs) ys front back = loose_append (next ∷ xs) ys front back
+loose_append xs ys front back = back
 
 pub all_loose : (outcomes : List Outcome) → IsLoose (all_blocks outcomes)
 all_loose [] = tt

@@ -1,15 +1,15 @@
 -- The systems of a tune that is laid out on a paper: each can be shown, its columns stand within the width, its boxes stay apart and
 -- its staves stand under one another.
 use Rattle.std.{proofs.Common.{ℕ, ◌*◌, ◌+◌, ◌-◌, ◌/◌, ◌^◌, ◌<◌, ◌≤◌, List, [], ◌∷◌, length, arith}, specs.Prelude.{⊤, All}}
-use Rattle.abc_header.specs.{declared.paper.Paper.Paper, Papers.IsGoodPaper, Papers.width_of}
+use Rattle.abc_header.specs.{declared.paper.Paper.Paper, Papers.{IsGoodPaper, width_of}}
 use Rattle.mus_score.specs.{declared.score.Score.Score, GoodScore.IsGoodScore}
 use Rattle.mus_laid.specs.declared.laid.SystemMarks.{SystemMarks}
 use Rattle.lay_springs.specs.declared.margin.Placed.{Placed}
 use Rattle.lay_breaks.specs.Breaking.{RisesFrom, last_from}
 use Rattle.lay_pages.specs.{declared.stacking.Heights.Heights, Stacking.AreGoodStaves}
-use Rattle.lay_tune.{specs.Systems.Beside, specs.Systems.EachSpan, specs.Systems.IsSetSystem, specs.Systems.IsStack, specs.Systems.StandWithin, proofs.Open.past_last}
-use Rattle.lay_shown.{specs.Shown.IsShown, proofs.Alike.alike_shown, proofs.Laws.call_shown}
-use Rattle.lay_apart.{specs.Apart.AreApart, proofs.Laws.boxes_apart, proofs.Laws.columns_stand}
+use Rattle.lay_tune.{specs.Systems.{Beside, EachSpan, IsSetSystem, IsStack, StandWithin}, proofs.Open.past_last}
+use Rattle.lay_shown.{specs.Shown.IsShown, proofs.{Alike.alike_shown, Laws.call_shown}}
+use Rattle.lay_apart.{specs.Apart.AreApart, proofs.Laws.{boxes_apart, columns_stand}}
 use Rattle.set_tune.specs.{declared.tune.SetTune.SetTune, Setting.IsLaidOut}
 use Rattle.set_pages.proofs.Stacks.{tilted_good}
 
@@ -51,7 +51,7 @@ systems_laid s width a (b ∷ breaks) (m ∷ systems) (p ∷ placed) (h ∷ heig
     )
 systems_laid s width a _ _ _ heights good some narrow rises within set stack = absurd set
 
-quotient_narrow : (x s : ℕ) → x ≤ 10000000 → 40 ≤ s → x / s < 2 ^ 20
+pub quotient_narrow : (x s : ℕ) → x ≤ 10000000 → 40 ≤ s → x / s < 2 ^ 20
 quotient_narrow x s few some = grind arith
 
 pub paper_narrow : (paper : Paper) → IsGoodPaper paper → width_of paper < 2 ^ 20

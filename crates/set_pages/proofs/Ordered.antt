@@ -2,9 +2,9 @@
 use Rattle.std.{proofs.{Common.{ℕ, zero, suc, ℤ, Bool, true, false, cond, List, [], ◌∷◌, ◌++◌, map, Option, Some, None}, lemmas.List.Elements.{All-append, All-cons, All-nil}}, specs.{Prelude.{◌==◌, ⊤, All, Result, Ok, Err}, List.AllZip}}
 use Rattle.abc_lines.specs.declared.fault.Fault.{Fault}
 use Rattle.lay_springs.specs.declared.margin.Placed.{Placed}
-use Rattle.lay_pages.specs.{declared.filling.Spot.Spot, declared.stacking.Heights.Heights, declared.titles.TitleRow.TitleRow}
+use Rattle.lay_pages.specs.declared.{filling.Spot.Spot, stacking.Heights.Heights, titles.TitleRow.TitleRow}
 use Rattle.mus_laid.specs.declared.laid.SystemMarks.{SystemMarks}
-use Rattle.ps_text.specs.{declared.sheet.Item.Item, Range.InOrder, Range.IsAfter, Range.IsItem, Range.IsPage}
+use Rattle.ps_text.specs.{declared.sheet.Item.Item, Range.{InOrder, IsAfter, IsItem, IsPage}}
 use Rattle.set_tune.specs.declared.tune.SetTune.{SetTune}
 use Rattle.set_book.specs.declared.outcome.Outcome.{Outcome}
 use Rattle.set_staves.specs.Marks.{system_at}
@@ -18,9 +18,6 @@ BeginsFree (j ∷ rest) = (i : Item) → IsAfter i j
 pub record IsOrdered (xs : List Item) : Type 0 where
   pub order : InOrder xs
   pub free : BeginsFree xs
-
-none_ordered : IsOrdered []
-none_ordered = record { order = tt; free = tt }
 
 order_append : (xs ys : List Item) → InOrder xs → InOrder ys → BeginsFree ys → InOrder (xs ++ ys)
 order_append [] ys front back free = back
@@ -73,7 +70,7 @@ if_ordered false xs ys front back = back
 pub items_ordered : (width page : ℕ) (ds : List Drawing) (ss : List Spot) → AreBegun ds → IsOrdered (items_on width page ds ss)
 items_ordered width page (d ∷ ds) (s ∷ ss) begun =
     if_ordered (s.page == page) (drawn width s.top d) (items_on width page ds ss) (drawn_ordered width s.top d.begins d.content begun.0) (items_ordered width page ds ss begun.1)
-items_ordered width page ds ss begun = none_ordered
+items_ordered width page ds ss begun = record { order = tt; free = tt }
 
 if_good : (b : Bool) (xs ys : List Item) → All IsItem xs → All IsItem ys → All IsItem (cond b xs [] ++ ys)
 if_good true xs ys front back = All-append IsItem xs ys front back

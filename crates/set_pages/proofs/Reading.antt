@@ -1,18 +1,18 @@
 -- What stands on the pages of a book is what a reader looks for: the tunes one after another, each with the systems of its breaking.
 use Rattle.std.{proofs.{Common.{◌≡◌, refl, sym, ap, ap₂, ◌∙◌, subst, ℕ, ◌+◌, ◌≤◌, ℤ, pos, ◌+ℤ◌, ◌-ℤ◌, ◌≤ℤ◌, Bool, true, false, cond, List, [], ◌∷◌, ◌++◌, length, take, drop, map, flat_map, Some, None, arith}, lemmas.{Int.ints, List.{append-nil, append_assoc, Elements.{All-cons, All-head, All-nil, All-tail}}}}, specs.{Prelude.{All, Result, Ok, Err, nat_lt}, List.AllZip}}
 use Rattle.abc_lines.specs.declared.fault.Fault.{Fault}
-use Rattle.abc_header.specs.{declared.paper.Paper.Paper, Papers.IsGoodPaper, Papers.height_of, Papers.width_of}
+use Rattle.abc_header.specs.{declared.paper.Paper.Paper, Papers.{IsGoodPaper, height_of, width_of}}
 use Rattle.mus_score.specs.declared.score.Score.{Score}
 use Rattle.mus_laid.specs.declared.laid.{StaffMarks.StaffMarks, SystemMarks.SystemMarks}
 use Rattle.lay_springs.specs.declared.margin.Placed.{Placed}
-use Rattle.lay_pages.specs.{declared.filling.Block.Block, declared.filling.Spot.Spot, declared.stacking.Heights.Heights, declared.titles.TitleRow.TitleRow, Filling.AreWithin}
-use Rattle.lay_shown.specs.{Ranks.AreAnchored, Ranks.AreRanked, Ranks.staves_ranks}
+use Rattle.lay_pages.specs.{declared.{filling.{Block.Block, Spot.Spot}, stacking.Heights.Heights, titles.TitleRow.TitleRow}, Filling.AreWithin}
+use Rattle.lay_shown.specs.Ranks.{AreAnchored, AreRanked, staves_ranks}
 use Rattle.lay_tune.specs.Systems.{EachSpan, IsSetSystem, gaps_between}
-use Rattle.ps_text.specs.{declared.sheet.Item.Item, declared.sheet.Page.Page, declared.sheet.Staff.Staff}
-use Rattle.set_tune.specs.{declared.tune.SetTune.SetTune, Blocks.blocks_of, Blocks.system_blocks, Blocks.title_blocks}
+use Rattle.ps_text.specs.declared.sheet.{Item.Item, Page.Page, Staff.Staff}
+use Rattle.set_tune.specs.{declared.tune.SetTune.SetTune, Blocks.{blocks_of, system_blocks, title_blocks}}
 use Rattle.set_book.specs.declared.outcome.Outcome.{Outcome}
-use Rattle.set_staves.{specs.Marks.staves_at, specs.Marks.system_at, proofs.Shown.has_columns, proofs.Shown.shows_call}
-use Rattle.set_pages.{specs.{declared.pages.Pages.Pages, Drawings.{Drawing, all_blocks, all_drawings, drawings_from, drawn, outcome_blocks, outcome_drawings, result_blocks, result_drawings, row_at, system_contents, title_contents}, Filling.{no_pages, turned, with_drawing, with_drawings, with_items}, Clear.AreUnder, Read.{ShowSystems, ShowsOutcome, ShowsResult, ShowsRow, ShowsSystem, ShowsTune, begun, items_in}, Ready.AreRising, Sheet.{IsSetResult, IsSetUnder, pages_of}}, proofs.{Blocking.{columns_rise, result_laid}, Laying.{AreLaid, IsLaidSystem}, Readying.result_whole, Stacks.{are_under, stacked_count}, Standing.result_count, Turned.{all_put, closed}}}
+use Rattle.set_staves.{specs.Marks.{staves_at, system_at}, proofs.Shown.{has_columns, shows_call}}
+use Rattle.set_pages.{specs.{declared.pages.Pages.Pages, Drawings.{Drawing, all_blocks, all_drawings, drawings_from, drawn, outcome_blocks, outcome_drawings, result_blocks, result_drawings, row_at, system_contents, title_contents}, Filling.{no_pages, turned, with_drawing, with_drawings, with_items}, Clear.AreUnder, Read.{ShowSystems, ShowsOutcome, ShowsResult, ShowsRow, ShowsSystem, ShowsTune, begun, items_in}, Ready.AreRising, Sheet.{IsSetResult, IsSetUnder, pages_of}}, proofs.{Blocking.{columns_rise, result_laid}, Laying.{AreLaid, IsLaidSystem}, Readying.result_whole, Stacks.stacked_lie, Standing.result_count, Turned.{all_put, closed}}}
 
 -- ---- the items of all pages are those that the blocks draw
 abbrev pub items_at : ℕ → List Drawing → List Spot → List Item
@@ -38,9 +38,8 @@ put_items width p (d ∷ ds) (s ∷ ss) =
 
 pub page_items : (width : ℕ) (ds : List Drawing) (ss : List Spot) → length ds ≡ length ss → AreRising ss → items_in (pages_of width ds ss) ≡ items_at width ds ss
 page_items width [] [] same rising = refl
-page_items width [] (s ∷ ss) same rising = absurd (omega (arith, same))
-page_items width (d ∷ ds) [] same rising = absurd (omega (arith, same))
 page_items width (d ∷ ds) (s ∷ ss) same rising = ap items_in (sym (all_put width (d ∷ ds) s ss same rising)) ∙ put_items width no_pages (d ∷ ds) (s ∷ ss)
+page_items width ds ss same rising = absurd (omega (arith, same))
 
 -- cut behind some of the blocks
 none_at : (width : ℕ) (ds : List Drawing) → items_at width ds [] ≡ []
@@ -56,19 +55,18 @@ cut_items width (x ∷ xs) ys (s ∷ ss) = ap (λ l. drawn width s.top x ++ l) (
 module _ (paper : Paper) (s : Score) (a b : ℕ) (m : SystemMarks) (p : Placed) (h : Heights) (top : ℤ) (set : IsSetSystem s (width_of paper) a b m p) (laid : IsLaidSystem s (width_of paper) m p h)
     (below : top ≤ℤ pos (height_of paper)) (above : pos 0 ≤ℤ (top -ℤ h.height)) where
   staves_wide : (staves : List StaffMarks) (bases : List ℤ) → All (λ (staff : Staff). staff.width ≡ width_of paper) (staves_at (width_of paper) p.at top staves bases)
-  staves_wide [] bases = All-nil (λ (staff : Staff). staff.width ≡ width_of paper)
-  staves_wide (staff ∷ staves) [] = All-nil (λ (staff : Staff). staff.width ≡ width_of paper)
   staves_wide (staff ∷ staves) (base ∷ bases) = All-cons (λ (staff : Staff). staff.width ≡ width_of paper) _ _ refl (staves_wide staves bases)
+  staves_wide staves bases = All-nil (λ (staff : Staff). staff.width ≡ width_of paper)
 
   staves_heights : (staves : List StaffMarks) (bases : List ℤ) → length bases ≡ length staves → map (λ (staff : Staff). staff.y) (staves_at (width_of paper) p.at top staves bases) ≡ map (λ base. top +ℤ base) bases
   staves_heights [] [] same = refl
-  staves_heights [] (base ∷ bases) same = absurd (omega (arith, same))
-  staves_heights (staff ∷ staves) [] same = absurd (omega (arith, same))
   staves_heights (staff ∷ staves) (base ∷ bases) same = ap (λ l. (top +ℤ base) ∷ l) (staves_heights staves bases (omega (arith, same)))
+  staves_heights staves bases same = absurd (omega (arith, same))
 
   shows_system : ShowsSystem paper (gaps_between s.voices) a b m p (system_at (width_of paper) p.at top m h.bases)
   shows_system =
-      let count = stacked_count (pos 0) (pos 0 -ℤ h.height) (gaps_between s.voices) m.staves h.bases laid.stack.stacked in
+      let lie = stacked_lie (pos 0) (pos 0 -ℤ h.height) (gaps_between s.voices) m.staves h.bases laid.staves laid.stack.stacked in
+      let count = lie.count in
       let columns = sym laid.columns.count_is in
       let ranked = subst (λ n. All (λ (x : StaffMarks). AreRanked n x.marks) m.staves) columns laid.shown.ranked in
       let anchored = subst (λ n. AreAnchored n (staves_ranks m.staves)) columns laid.shown.anchored in
@@ -80,7 +78,7 @@ module _ (paper : Paper) (s : Score) (a b : ℕ) (m : SystemMarks) (p : Placed) 
         wide = staves_wide m.staves h.bases;
         boxes = laid.boxes;
         apart = subst (λ ys. AreUnder (pos (height_of paper)) (gaps_between s.voices) m.staves ys) (sym (staves_heights m.staves h.bases count))
-            (are_under top (pos 0) (pos 0 -ℤ h.height) (pos (height_of paper)) (gaps_between s.voices) m.staves h.bases laid.staves laid.stack.stacked (omega (arith, ints, below)) (omega (arith, ints, above)));
+            (lie.under top (pos (height_of paper)) (omega (arith, ints, below)) (omega (arith, ints, above)));
       }
 
 -- the systems of a breaking, one under another
@@ -102,11 +100,8 @@ shows_rows top (row ∷ rows) = (record { base = top -ℤ row.down; title = refl
 -- the first system of a tune without a title stands behind its ordinal
 begun_systems : (width ordinal : ℕ) (systems : List SystemMarks) (placed : List Placed) (heights : List Heights) (spots : List Spot)
     → items_at width (drawings_from (Some ordinal) (system_contents systems placed heights)) spots ≡ begun ordinal (items_at width (drawings_from None (system_contents systems placed heights)) spots)
-begun_systems width ordinal [] placed heights spots = refl
-begun_systems width ordinal (m ∷ systems) [] heights spots = refl
-begun_systems width ordinal (m ∷ systems) (p ∷ placed) [] spots = refl
-begun_systems width ordinal (m ∷ systems) (p ∷ placed) (h ∷ heights) [] = refl
 begun_systems width ordinal (m ∷ systems) (p ∷ placed) (h ∷ heights) (spot ∷ spots) = refl
+begun_systems width ordinal systems placed heights spots = refl
 
 shows_tune : (paper : Paper) (ordinal : ℕ) (t : SetTune) (rows : List TitleRow) (height : ℕ) (keep : Bool) (spots : List Spot) → t.title.rows ≡ rows
     → EachSpan (IsSetSystem t.score (width_of paper)) 0 t.breaking.breaks t.systems t.placed → AreLaid t.score (width_of paper) t.systems t.placed t.heights

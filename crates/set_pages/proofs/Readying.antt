@@ -1,12 +1,12 @@
 -- What is set on a paper: a placement and good heights for each system of a tune, and no group that is higher than the page.
 use Rattle.std.{proofs.{Common.{◌≡◌, ◌∙◌, refl, sym, subst, ℕ, suc, ◌≤◌, Bool, true, false, if◌then◌else◌, List, [], ◌∷◌, length, None, arith}, lemmas.List.Elements.{All-cons, All-head, All-nil, All-tail, All-weaker}}, specs.Prelude.{All, Result, Ok, Err}}
-use Rattle.abc_lines.specs.{declared.book.TuneText.TuneText, declared.fault.Fault.Fault, declared.reading.Reading.Reading, Books.begins_tune, Books.book_of, Books.tune_at, Books.tunes_behind, Lines.readings, Lines.without_mark}
-use Rattle.abc_header.specs.{declared.defaults.Defaults.Defaults, declared.paper.Paper.Paper, Papers.height_of, Papers.width_of}
+use Rattle.abc_lines.specs.{declared.{book.TuneText.TuneText, fault.Fault.Fault, reading.Reading.Reading}, Books.{begins_tune, book_of, tune_at, tunes_behind}, Lines.{readings, without_mark}}
+use Rattle.abc_header.specs.{declared.paper.Paper.Paper, Papers.{height_of, width_of}}
 use Rattle.lay_pages.specs.Filling.{first_tall}
-use Rattle.lay_tune.{specs.Systems.IsSetSystem, specs.Systems.IsStack, proofs.Rows.beside_count, proofs.Rows.span_count}
-use Rattle.set_tune.{specs.declared.how.How.How, specs.declared.tune.SetTune.SetTune, specs.Setting.IsLaidOut, proofs.Laid.good_heights}
-use Rattle.set_book.specs.{declared.outcome.Outcome.Outcome, Outcomes.AreOutcomes, Outcomes.IsOutcome, Outcomes.IsResult}
-use Rattle.set_pages.{specs.Drawings.result_blocks, specs.Ready.HasAllRows, specs.Ready.IsWhole, specs.Ready.IsWholeResult, specs.Sheet.IsSetResult, specs.Sheet.IsSetUnder, proofs.Fitting.AllFit}
+use Rattle.lay_tune.{specs.Systems.{IsSetSystem, IsStack}, proofs.Rows.{beside_count, span_count}}
+use Rattle.set_tune.{specs.{Terms.Terms, declared.tune.SetTune.SetTune, Setting.IsLaidOut}, proofs.Laid.good_heights}
+use Rattle.set_book.specs.{declared.outcome.Outcome.Outcome, Outcomes.{AreOutcomes, IsOutcome, IsResult}}
+use Rattle.set_pages.{specs.{Drawings.result_blocks, Ready.{HasAllRows, IsWhole, IsWholeResult}, Sheet.{IsSetResult, IsSetUnder}}, proofs.Fitting.AllFit}
 
 -- the systems of a tune
 pub laid_whole : (width : ℕ) (t : SetTune) → IsLaidOut width t → HasAllRows t
@@ -33,23 +33,23 @@ each_fits paper (o ∷ outcomes) h =
     (result_fits paper o.result (All-head (IsSetUnder paper) o outcomes h).result, each_fits paper outcomes (All-tail (IsSetUnder paper) o outcomes h))
 
 -- the outcomes of tunes are set on their paper, or have a fault
-result_set : (paper : Paper) (defaults : Defaults) (how : How) (tune : TuneText) (r : Result SetTune Fault) → IsResult tune defaults paper how r → IsSetResult paper r
-result_set paper defaults how tune (Ok t) h = (tune, defaults, how, h)
-result_set paper defaults how tune (Err fault) h = tt
+result_set : (terms : Terms) (tune : TuneText) (r : Result SetTune Fault) → IsResult tune terms r → IsSetResult terms.paper r
+result_set terms tune (Ok t) h = (tune, terms.defaults, terms.manner, h)
+result_set terms tune (Err fault) h = tt
 
-outcome_set : (defaults : Defaults) (paper : Paper) (how : How) (tune : TuneText) (o : Outcome) → 1 ≤ tune.ordinal → IsOutcome defaults paper how tune o → IsSetUnder paper o
-outcome_set defaults paper how tune o some h = record {
-  result = result_set paper defaults how tune o.result h.result;
+outcome_set : (terms : Terms) (tune : TuneText) (o : Outcome) → 1 ≤ tune.ordinal → IsOutcome terms tune o → IsSetUnder terms.paper o
+outcome_set terms tune o some h = record {
+  result = result_set terms tune o.result h.result;
   ordinal = subst (λ n. 1 ≤ n) (sym h.ordinal) some;
 }
 
-pub set_outcomes : (defaults : Defaults) (paper : Paper) (how : How) (tunes : List TuneText) (outcomes : List Outcome) → All (λ tune. 1 ≤ tune.ordinal) tunes
-    → AreOutcomes defaults paper how tunes outcomes → All (IsSetUnder paper) outcomes
-set_outcomes defaults paper how [] [] some h = All-nil (IsSetUnder paper)
-set_outcomes defaults paper how (tune ∷ tunes) (o ∷ outcomes) some h =
-    All-cons (IsSetUnder paper) o outcomes (outcome_set defaults paper how tune o (All-head (λ t. 1 ≤ t.ordinal) tune tunes some) h.0)
-    (set_outcomes defaults paper how tunes outcomes (All-tail (λ t. 1 ≤ t.ordinal) tune tunes some) h.1)
-set_outcomes defaults paper how tunes outcomes some h = absurd h
+pub set_outcomes : (terms : Terms) (tunes : List TuneText) (outcomes : List Outcome) → All (λ tune. 1 ≤ tune.ordinal) tunes
+    → AreOutcomes terms tunes outcomes → All (IsSetUnder terms.paper) outcomes
+set_outcomes terms [] [] some h = All-nil (IsSetUnder terms.paper)
+set_outcomes terms (tune ∷ tunes) (o ∷ outcomes) some h =
+    All-cons (IsSetUnder terms.paper) o outcomes (outcome_set terms tune o (All-head (λ t. 1 ≤ t.ordinal) tune tunes some) h.0)
+    (set_outcomes terms tunes outcomes (All-tail (λ t. 1 ≤ t.ordinal) tune tunes some) h.1)
+set_outcomes terms tunes outcomes some h = absurd h
 
 -- the tunes of a book are counted from 1
 tunes_counted : (all : List Reading) (ordinal : ℕ) (before lines : List Reading) → 1 ≤ ordinal → All (λ tune. 1 ≤ tune.ordinal) (tunes_behind all ordinal before lines)

@@ -2,7 +2,7 @@
 use Rattle.std.{proofs.{Common.{◌≡◌, refl, sym, ap, ◌∙◌, ℕ, Bool, true, false, cond, List, [], ◌∷◌, length, arith}, lemmas.List.{append_assoc, length-append}}, specs.Prelude.nat_lt}
 use Rattle.lay_pages.specs.declared.filling.Spot.{Spot}
 use Rattle.ps_text.specs.declared.sheet.Page.{Page}
-use Rattle.set_pages.specs.{declared.pages.Pages.Pages, Drawings.Drawing, Drawings.drawn, Filling.at_page, Filling.done_count, Filling.restored, Filling.turned, Filling.with_drawing, Filling.with_drawings, Filling.with_items}
+use Rattle.set_pages.specs.{declared.pages.Pages.Pages, Drawings.{Drawing, drawn}, Filling.{at_page, done_count, restored, turned, with_drawing, with_drawings, with_items}}
 
 -- they are as many
 count_same : (given : List Page) (p : Pages) → p.gone ≡ length given → done_count (restored given p) ≡ done_count p
@@ -16,9 +16,6 @@ at_same : (given : List Page) (page : ℕ) (p : Pages) → p.gone ≡ length giv
 at_same given page p gone =
     turned_same given p (nat_lt (done_count p) page)
     ∙ ap (λ n. cond (nat_lt n page) (turned (restored given p)) (restored given p)) (sym (count_same given p gone))
-
-one_same : (given : List Page) (width : ℕ) (p : Pages) (d : Drawing) (s : Spot) → p.gone ≡ length given → restored given (with_drawing width p d s) ≡ with_drawing width (restored given p) d s
-one_same given width p d s gone = ap (λ q. with_items q (drawn width s.top d)) (at_same given s.page p gone)
 
 -- how many were given up stays
 gone_by : (p : Pages) (b : Bool) → (cond b (turned p) p).gone ≡ p.gone
@@ -34,5 +31,5 @@ gone_all width p ds ss = refl
 
 pub all_same : (given : List Page) (width : ℕ) (p : Pages) (ds : List Drawing) (ss : List Spot) → p.gone ≡ length given → restored given (with_drawings width p ds ss) ≡ with_drawings width (restored given p) ds ss
 all_same given width p (d ∷ ds) (s ∷ ss) gone =
-    all_same given width (with_drawing width p d s) ds ss (gone_one width p d s ∙ gone) ∙ ap (λ q. with_drawings width q ds ss) (one_same given width p d s gone)
+    all_same given width (with_drawing width p d s) ds ss (gone_one width p d s ∙ gone) ∙ ap (λ q. with_drawings width (with_items q (drawn width s.top d)) ds ss) (at_same given s.page p gone)
 all_same given width p ds ss gone = refl

@@ -3,8 +3,8 @@ use Rattle.std.{proofs.{Common.{◌≡◌, refl, sym, ap, subst, ℕ, suc, ℤ, 
 use Rattle.mus_score.specs.declared.score.Score.{Score}
 use Rattle.mus_time.specs.{declared.keys.ColumnKey.ColumnKey, Onsets.timeline_of}
 use Rattle.mus_drawn.specs.declared.drawn.DrawnVoice.{DrawnVoice}
-use Rattle.mus_laid.specs.{declared.laid.StaffMarks.StaffMarks, declared.laid.SystemMarks.SystemMarks}
-use Rattle.mus_marks.{specs.Staff.CoversLines, specs.Staff.staff_marks, specs.System.drawn_staves, specs.Tilt.IsTilted, specs.Tilt.tilted_staff, specs.Tilt.voice_tilted, proofs.Lines.covers}
+use Rattle.mus_laid.specs.declared.laid.{StaffMarks.StaffMarks, SystemMarks.SystemMarks}
+use Rattle.mus_marks.{specs.{Staff.{CoversLines, staff_marks}, System.drawn_staves, Tilt.{IsTilted, tilted_staff, voice_tilted}}, proofs.Lines.covers}
 use Rattle.lay_pages.specs.Stacking.{AreGoodStaves, AreStacked}
 use Rattle.set_pages.specs.Clear.{AreUnder, LieBetween}
 
@@ -20,54 +20,43 @@ called_good keys lengths at a b (voices ∷ staves) = (staff_covers keys lengths
 pub tilted_good : (s : Score) (a b : ℕ) (at : List ℤ) (m : SystemMarks) → IsTilted s (timeline_of s) a b at m → AreGoodStaves m.staves
 tilted_good s a b at m tilted = subst AreGoodStaves (sym tilted.staves) (called_good m.keys (timeline_of s).lengths at a b (drawn_staves s))
 
--- the bottom of stacked staves lies under their top, and each base between both
-bottom_low : (top : ℤ) (gaps : List ℕ) (staves : List StaffMarks) (bases : List ℤ) (bottom : ℤ) → AreGoodStaves staves → AreStacked top gaps staves bases bottom → bottom ≤ℤ top
-bottom_low top [] [] [] bottom good stacked = omega (arith, ints)
-bottom_low top [] (staff ∷ []) (base ∷ []) bottom good stacked =
-    let low = good.0.0 in let high = good.0.1 in let at = stacked.0 in let end = stacked.1 in omega (arith, ints)
-bottom_low top (gap ∷ gaps) (staff ∷ next ∷ staves) (base ∷ bases) bottom good stacked =
-    let low = good.0.0 in let high = good.0.1 in let at = stacked.0 in
-    let more = bottom_low ((base +ℤ staff.low) -ℤ pos gap) gaps (next ∷ staves) bases bottom good.1 stacked.1 in omega (arith, ints)
-bottom_low top gaps staves bases bottom good stacked = absurd stacked
-
 -- a base line between two heights
 pub record IsBetween (low high : ℤ) (base : ℤ) : Type 0 where
   pub above : low ≤ℤ base
   pub below : base ≤ℤ high
-
-pub stacked_bases : (highest top bottom : ℤ) (gaps : List ℕ) (staves : List StaffMarks) (bases : List ℤ) → AreGoodStaves staves → AreStacked top gaps staves bases bottom → top ≤ℤ highest
-    → All (IsBetween bottom highest) bases
-stacked_bases highest top bottom [] [] [] good stacked high = All-nil (IsBetween bottom highest)
-stacked_bases highest top bottom [] (staff ∷ []) (base ∷ []) good stacked high =
-    let l = good.0.0 in let h = good.0.1 in let at = stacked.0 in let end = stacked.1 in
-    All-cons (IsBetween bottom highest) base [] (record { above = omega (arith, ints); below = omega (arith, ints) }) (All-nil (IsBetween bottom highest))
-stacked_bases highest top bottom (gap ∷ gaps) (staff ∷ next ∷ staves) (base ∷ bases) good stacked high =
-    let l = good.0.0 in let h = good.0.1 in let at = stacked.0 in
-    let under = bottom_low ((base +ℤ staff.low) -ℤ pos gap) gaps (next ∷ staves) bases bottom good.1 stacked.1 in
-    All-cons (IsBetween bottom highest) base bases (record { above = omega (arith, ints); below = omega (arith, ints) })
-    (stacked_bases highest ((base +ℤ staff.low) -ℤ pos gap) bottom gaps (next ∷ staves) bases good.1 stacked.1 (omega (arith, ints)))
-stacked_bases highest top bottom gaps staves bases good stacked high = absurd stacked
-
-pub stacked_count : (top bottom : ℤ) (gaps : List ℕ) (staves : List StaffMarks) (bases : List ℤ) → AreStacked top gaps staves bases bottom → length bases ≡ length staves
-stacked_count top bottom [] [] [] stacked = refl
-stacked_count top bottom [] (staff ∷ []) (base ∷ []) stacked = refl
-stacked_count top bottom (gap ∷ gaps) (staff ∷ next ∷ staves) (base ∷ bases) stacked =
-    ap suc (stacked_count ((base +ℤ staff.low) -ℤ pos gap) bottom gaps (next ∷ staves) bases stacked.1)
-stacked_count top bottom gaps staves bases stacked = absurd stacked
 
 -- staves that are stacked from a height of their system down lie under that height on the page
 lie_between : (shift top bottom high base : ℤ) (staff : StaffMarks) → base +ℤ staff.high ≡ top → bottom ≤ℤ (base +ℤ staff.low) → (shift +ℤ top) ≤ℤ high → pos 0 ≤ℤ (shift +ℤ bottom)
     → LieBetween (pos 0) high (shift +ℤ base) staff
 lie_between shift top bottom high base staff at under below above = record { above = omega (arith, ints); below = omega (arith, ints) }
 
-pub are_under : (shift top bottom high : ℤ) (gaps : List ℕ) (staves : List StaffMarks) (bases : List ℤ) → AreGoodStaves staves → AreStacked top gaps staves bases bottom
-    → (shift +ℤ top) ≤ℤ high → pos 0 ≤ℤ (shift +ℤ bottom) → AreUnder high gaps staves (map (λ base. shift +ℤ base) bases)
-are_under shift top bottom high [] [] [] good stacked below above = tt
-are_under shift top bottom high [] (staff ∷ []) (base ∷ []) good stacked below above =
-    let end = stacked.1 in lie_between shift top bottom high base staff stacked.0 (omega (arith, ints)) below above
-are_under shift top bottom high (gap ∷ gaps) (staff ∷ next ∷ staves) (base ∷ bases) good stacked below above =
-    let under = bottom_low ((base +ℤ staff.low) -ℤ pos gap) gaps (next ∷ staves) bases bottom good.1 stacked.1 in (
-      lie_between shift top bottom high base staff stacked.0 (omega (arith, ints)) below above,
-      are_under shift ((base +ℤ staff.low) -ℤ pos gap) bottom (((shift +ℤ base) +ℤ staff.low) -ℤ pos gap) gaps (next ∷ staves) bases good.1 stacked.1 (omega (arith, ints)) above,
-    )
-are_under shift top bottom high gaps staves bases good stacked below above = absurd stacked
+-- what stacked staves are: their bottom lies under their top, and each base between both, in their system and wherever that stands on a page
+pub record LieStacked (top bottom : ℤ) (gaps : List ℕ) (staves : List StaffMarks) (bases : List ℤ) : Type 0 where
+  pub low : bottom ≤ℤ top
+  pub count : length bases ≡ length staves
+  pub between : (highest : ℤ) → top ≤ℤ highest → All (IsBetween bottom highest) bases
+  pub under : (shift high : ℤ) → (shift +ℤ top) ≤ℤ high → pos 0 ≤ℤ (shift +ℤ bottom) → AreUnder high gaps staves (map (λ base. shift +ℤ base) bases)
+
+pub stacked_lie : (top bottom : ℤ) (gaps : List ℕ) (staves : List StaffMarks) (bases : List ℤ) → AreGoodStaves staves → AreStacked top gaps staves bases bottom → LieStacked top bottom gaps staves bases
+stacked_lie top bottom [] [] [] good stacked =
+    record { low = omega (arith, ints); count = refl; between = λ highest high. All-nil (IsBetween bottom highest); under = λ shift high below above. tt }
+stacked_lie top bottom [] (staff ∷ []) (base ∷ []) good stacked =
+    let l = good.0.0 in let h = good.0.1 in let at = stacked.0 in let end = stacked.1 in record {
+      low = omega (arith, ints);
+      count = refl;
+      between = λ highest high. All-cons (IsBetween bottom highest) base [] (record { above = omega (arith, ints); below = omega (arith, ints) }) (All-nil (IsBetween bottom highest));
+      under = λ shift high below above. lie_between shift top bottom high base staff at (omega (arith, ints)) below above;
+    }
+stacked_lie top bottom (gap ∷ gaps) (staff ∷ next ∷ staves) (base ∷ bases) good stacked =
+    let l = good.0.0 in let h = good.0.1 in let at = stacked.0 in
+    let more = stacked_lie ((base +ℤ staff.low) -ℤ pos gap) bottom gaps (next ∷ staves) bases good.1 stacked.1 in
+    let under = more.low in record {
+      low = omega (arith, ints);
+      count = ap suc more.count;
+      between = λ highest high. All-cons (IsBetween bottom highest) base bases (record { above = omega (arith, ints); below = omega (arith, ints) }) (more.between highest (omega (arith, ints)));
+      under = λ shift high below above. (
+        lie_between shift top bottom high base staff at (omega (arith, ints)) below above,
+        more.under shift (((shift +ℤ base) +ℤ staff.low) -ℤ pos gap) (omega (arith, ints)) above,
+      );
+    }
+stacked_lie top bottom gaps staves bases good stacked = absurd stacked

@@ -3,8 +3,8 @@ use Rattle.std.{proofs.{Common.{◌≡◌, refl, ap, ◌∙◌, inl, inr, ℕ, s
 use Rattle.abc_lines.specs.declared.fault.Fault.{Fault}
 use Rattle.mus_laid.specs.declared.laid.SystemMarks.{SystemMarks}
 use Rattle.lay_springs.specs.declared.margin.Placed.{Placed}
-use Rattle.lay_pages.specs.{declared.filling.Block.Block, declared.filling.Spot.Spot, declared.stacking.Heights.Heights, declared.titles.TitleRow.TitleRow, Even.AreStacked, Even.ComeBehind, Even.ComesBehind, Even.same_page, Even.next_page, Filling.AreGoodBlocks, Filling.AreWithin}
-use Rattle.set_tune.specs.{declared.tune.SetTune.SetTune, Blocks.blocks_of, Blocks.is_some_list, Blocks.system_blocks, Blocks.title_blocks}
+use Rattle.lay_pages.specs.{declared.{filling.{Block.Block, Spot.Spot}, stacking.Heights.Heights, titles.TitleRow.TitleRow}, Even.{AreStacked, ComeBehind, ComesBehind, same_page, next_page}, Filling.{AreGoodBlocks, AreWithin}}
+use Rattle.set_tune.specs.{declared.tune.SetTune.SetTune, Blocks.{blocks_of, is_some_list, system_blocks, title_blocks}}
 use Rattle.set_book.specs.declared.outcome.Outcome.{Outcome}
 use Rattle.set_staves.specs.Drawn.{IsTop}
 use Rattle.set_pages.specs.{Drawings.{Content, Drawing, all_blocks, all_drawings, drawings_from, result_blocks, result_drawings, system_contents, systems_of, title_contents}, Ready.{AreRising, AreRisingFrom, HasAllRows, IsReady, IsReadyOn, IsWhole, IsWholeResult}}
@@ -32,9 +32,8 @@ top_within high height top good below above small = record { low = omega (arith,
 pub systems_count : (systems : List SystemMarks) (placed : List Placed) (heights : List Heights) → length placed ≡ length systems → length heights ≡ length systems
     → length (system_contents systems placed heights) ≡ length systems
 systems_count [] placed heights p h = refl
-systems_count (m ∷ systems) [] heights p h = absurd (omega arith)
-systems_count (m ∷ systems) (q ∷ placed) [] p h = absurd (omega arith)
 systems_count (m ∷ systems) (q ∷ placed) (r ∷ heights) p h = ap suc (systems_count systems placed heights (omega arith) (omega arith))
+systems_count systems placed heights p h = absurd (omega arith)
 
 pub drawings_count : (begins : Option ℕ) (contents : List Content) → length (drawings_from begins contents) ≡ length contents
 drawings_count begins [] = refl

@@ -1,8 +1,8 @@
 -- One system more of a tune, and one outcome more of a book.
-use Rattle.std.{proofs.{Common.{◌≡◌, sym, ap, ◌∙◌, subst, ℕ, ◌+◌, ◌<◌, ◌≤◌, ℤ, map, List, [], ◌∷◌, ◌++◌, length, take, drop, get_or, Option, None, arith}, lemmas.List.{append_assoc, drop_more, length-drop, take_all, Elements.{All-map, All-more}}}, specs.{Prelude.{All, slice_index_or}, List.AllZip}}
+use Rattle.std.{proofs.{Common.{◌≡◌, sym, ap, ◌∙◌, subst, ℕ, ◌+◌, ◌<◌, ◌≤◌, ℤ, map, List, [], ◌∷◌, ◌++◌, length, take, drop, get_or, Option, None, arith}, lemmas.List.{append_assoc, drop_more, length-drop, take_all, Elements.{All-map, All-more}, length-append}}, specs.{Prelude.{All, slice_index_or}, List.AllZip}}
 use Rattle.mus_laid.specs.declared.laid.SystemMarks.{SystemMarks}
 use Rattle.lay_springs.specs.declared.margin.Placed.{Placed}
-use Rattle.lay_pages.specs.declared.{filling.Spot.Spot, stacking.Heights.Heights, filling.Block.Block, titles.TitleRow.TitleRow}
+use Rattle.lay_pages.specs.declared.{filling.{Spot.Spot, Block.Block}, stacking.Heights.Heights, titles.TitleRow.TitleRow}
 use Rattle.ps_text.specs.{declared.sheet.Item.Item, Range.IsItem}
 use Rattle.set_book.specs.declared.outcome.Outcome.{Outcome}
 use Rattle.set_pages.{specs.{declared.pages.Pages.Pages, Drawings.{all_blocks, all_drawings, drawing, drawings_from, outcome_blocks, outcome_drawings, row_at, system, system_contents}, Filling.with_drawings, Ready.{IsDrawn, IsReady, IsReadyAt}}, proofs.{Turned.with_more, Standing.{drawings_count, systems_count}, Zips.{zip_back, zip_front, zip_joined, zip_length}}}
@@ -82,13 +82,11 @@ pub systems_stand : (i : ℕ) (ms : List SystemMarks) (ps : List Placed) (hs : L
 systems_stand i ms ps hs ss m p h d opening a b c inside ready =
     (systems_ready i ms ps hs ss m p h (slice_index_or ss i d) opening (record { systems = a; placed = b; heights = c; spots = drop_more ss i d inside }) ready).0
 
-front_count : {A B : Type 0} (R : A → B → Type 0) (xs ys : List A) (zs : List B) → AllZip R (xs ++ ys) zs → length xs ≤ length zs
-front_count R [] ys zs h = omega arith
-front_count R (x ∷ xs) ys [] h = absurd h
-front_count R (x ∷ xs) ys (z ∷ zs) h = let more = front_count R xs ys zs h.1 in omega arith
-
 pub outcome_count : (o : Outcome) (os left : List Outcome) (rest : List Spot) → left ≡ o ∷ os → AllZip IsReady (all_drawings left) rest → length (outcome_drawings o) ≤ length rest
-outcome_count o os left rest e ready = front_count IsReady (outcome_drawings o) (all_drawings os) rest (subst (λ l. AllZip IsReady (all_drawings l) rest) e ready)
+outcome_count o os left rest e ready =
+    let count = zip_length IsReady (outcome_drawings o ++ all_drawings os) rest (subst (λ l. AllZip IsReady (all_drawings l) rest) e ready) in
+    let both = length-append (outcome_drawings o) (all_drawings os) in
+    omega (arith, count, both)
 
 -- one row more of a title block
 pub rows_value : (top at : ℤ) (rows : List TitleRow) (i : ℕ) (row : TitleRow) (items new whole : List Item) (item : Item) → i < length rows → row ≡ get_or rows i row → new ≡ items ++ item ∷ [] → item ≡ row_at top row → at ≡ top

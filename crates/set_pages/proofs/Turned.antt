@@ -95,11 +95,9 @@ run_next_by width p k d ds s ss (suc n) makes at same rising count e = run_next 
 
 pub run : (width : ℕ) (ds : List Drawing) (ss : List Spot) → Makes width ds ss
 run width [] [] p k zero at same rising count = ap (λ items. p.done ++ record { items = items } ∷ []) (sym (append-nil p.items))
-run width [] [] p k (suc n) at same rising count = absurd (omega arith)
-run width [] (s ∷ ss) p k n at same rising count = absurd (omega arith)
-run width (d ∷ ds) [] p k n at same rising count = absurd (omega arith)
 run width (d ∷ ds) (s ∷ ss) p k n at same rising count =
     ⊎_elim (λ e. run_here width p k d ds s ss n (run width ds ss) at (omega arith) rising.1 count e) (λ e. run_next_by width p k d ds s ss n (run width ds ss) at (omega arith) rising.1 count e) rising.0
+run width ds ss p k n at same rising count = absurd (omega arith)
 
 -- all blocks put, from the first page on
 pub all_put : (width : ℕ) (ds : List Drawing) (s : Spot) (ss : List Spot) → length ds ≡ length (s ∷ ss) → AreRising (s ∷ ss) → closed (with_drawings width no_pages ds (s ∷ ss)) ≡ pages_of width ds (s ∷ ss)

@@ -1,23 +1,21 @@
 -- The whole sheet: its value, and that it may be written.
-use Rattle.std.{proofs.{Common.{◌≡◌, refl, sym, ap, ◌∙◌, subst, ℕ, ◌-◌, ◌*◌, ◌/◌, ◌+◌, ◌^◌, ◌<◌, ◌≤◌, List, [], ◌∷◌, ◌++◌, length, take, drop, Bool, true, false, Some, None, arith}, lemmas.{List.{append-nil, append_assoc, length-append, take_all, Elements.All-nil}, Option.none-some, Bool.Decides.nat_tests}}, specs.{Prelude.{All, nat_lt}, List.AllZip}}
-use Rattle.abc_header.specs.{declared.paper.Paper.Paper, Papers.IsGoodPaper, Papers.height_of, Papers.width_of}
-use Rattle.lay_pages.{specs.{declared.filling.{Block.Block, Spot.Spot}, Even.{AreSpots, AreStacked}, Filling.{AreGoodBlocks, AreWithin, first_tall, spots_of}}, proofs.{Filled.filled_so, Fitting.{ready_first, within_from}, Pages.{filled_stacked, one_spots}}}
-use Rattle.ps_text.specs.{declared.sheet.Frame.Frame, declared.sheet.Page.Page, declared.sheet.Sheet.Sheet, Range.IsFrame, Range.IsPage}
+use Rattle.std.{proofs.{Common.{◌≡◌, refl, sym, ap, ◌∙◌, subst, ℕ, ◌-◌, ◌*◌, ◌+◌, ◌^◌, ◌<◌, ◌≤◌, List, [], ◌∷◌, ◌++◌, length, take, drop, Bool, true, false, Some, None, arith}, lemmas.{List.{append-nil, append_assoc, length-append, take_all, Elements.All-nil}, Option.none-some, Bool.Decides.nat_tests}}, specs.{Prelude.{All, nat_lt}, List.AllZip}}
+use Rattle.abc_header.specs.{declared.paper.Paper.Paper, Papers.{IsGoodPaper, height_of, width_of}}
+use Rattle.lay_pages.{specs.{declared.filling.{Block.Block, Spot.Spot}, Even.AreStacked, Filling.{AreGoodBlocks, AreWithin, first_tall, spots_of}}, proofs.{Filled.filled_so, Fitting.{ready_first, within_from}, Pages.{filled_stacked, one_spots, within_count}}}
+use Rattle.ps_text.specs.{declared.sheet.{Frame.Frame, Page.Page, Sheet.Sheet}, Range.{IsFrame, IsPage}}
 use Rattle.set_book.specs.declared.outcome.Outcome.{Outcome}
-use Rattle.set_pages.{specs.{Press.{AreBlocksOn, AreLast, HasRoom, IsBookSheet, IsOpen, IsPressed, IsSheetOf, RisesBy, StandShown, behind_by, done_pages, next_behind, next_spots, no_press}, declared.{plan.Plan.Plan, pages.Pages.Pages, press.Press.Press}, Drawings.{Drawing, all_blocks, all_drawings}, Filling.{done_count, no_pages, restored, turned, with_drawings}, Ready.{AreRising, IsDrawn, IsReady, IsReadyOn}, Read.ShowsBook, Sheet.{AreStanding, IsEvenPlan, IsPlan, IsSetUnder, all_spots, frame_of, page_count, pages_of, points, sheet_of}}, proofs.{Fitting.all_fit, Fronts.{all_left, all_right, done_first, plan_rising}, Joined.{blocks_append, pressed_more}, Ordered.{all_begun, pages_good}, Blocking.all_ready, Reading.{page_items, parts_at, parts_whole, shows_tunes}, Readying.{all_whole, each_fits}, Standing.{all_count, ready_at, rising}, Turned.{all_put, closed}, Zips.zip_length}}
+use Rattle.set_pages.{specs.{Press.{AreBlocksOn, AreLast, HasRoom, IsBookSheet, IsOpen, IsPressed, IsSheetOf, RisesBy, StandShown, behind_by, done_pages, next_behind, next_spots, no_press}, declared.{plan.Plan.Plan, pages.Pages.Pages, press.Press.Press}, Drawings.{Drawing, all_blocks, all_drawings}, Filling.{done_count, no_pages, restored, turned, with_drawings}, Ready.{AreRising, IsDrawn, IsReady, IsReadyOn}, Read.ShowsBook, Sheet.{AreStanding, IsEvenPlan, IsPlan, IsSetUnder, all_spots, frame_of, page_count, pages_of, points, sheet_of}}, proofs.{Fitting.all_fit, Fronts.{all_left, all_right, done_first, plan_rising}, Joined.{blocks_append, pressed_more}, Ordered.{all_begun, pages_good}, Blocking.all_ready, Reading.{page_items, parts_at, parts_whole, shows_tunes}, Readying.{all_whole, each_fits}, Standing.{all_count, ready_at, rising}, Turned.{all_put, closed}, Zips.zip_length, Laying.quotient_narrow}}
 
 -- no group of the book is too tall
 pub fits_at : (paper : Paper) (outcomes : List Outcome) (high : ℕ) (slice blocks : List Block) → high ≡ height_of paper → slice ≡ blocks → blocks ≡ all_blocks outcomes → All (IsSetUnder paper) outcomes → first_tall high slice ≡ None
 fits_at paper outcomes high slice blocks h a b set =
     ap (λ n. first_tall n slice) h ∙ ap (λ l. first_tall (height_of paper) l) (a ∙ b) ∙ all_fit (height_of paper) outcomes (each_fits paper outcomes set)
 
-quotient_small : (x s : ℕ) → x ≤ 10000000 → 40 ≤ s → x / s ≤ 2 ^ 26
-quotient_small x s few some = grind arith
-
 pub height_small : (paper : Paper) → IsGoodPaper paper → height_of paper ≤ 2 ^ 26
 height_small paper good =
     let high = good.small_high in
-    quotient_small ((paper.high - (paper.top + paper.bottom)) * 100) paper.scale (omega arith) good.low_scale
+    let few : height_of paper < 2 ^ 20 = quotient_narrow ((paper.high - (paper.top + paper.bottom)) * 100) paper.scale (omega arith) good.low_scale in
+    omega (arith, few)
 
 -- all blocks are ready at their spots
 pub ready_spots : (paper : Paper) (outcomes : List Outcome) (high : ℕ) (slice blocks : List Block) (spots at : List Spot) → IsGoodPaper paper → high ≡ height_of paper → slice ≡ blocks → blocks ≡ all_blocks outcomes
@@ -55,13 +53,8 @@ all_standing paper outcomes set good =
     }
 
 -- where they are parted, too
-whole_count : (high : ℕ) (blocks : List Block) (spots : List Spot) → AreWithin high blocks spots → length spots ≡ length blocks
-whole_count high [] [] within = omega arith
-whole_count high (block ∷ blocks) (spot ∷ spots) within = let more = whole_count high blocks spots within.1 in omega (arith, more)
-whole_count high blocks spots within = absurd within
-
 planned_spots : (paper : Paper) (outcomes : List Outcome) (spots : List Spot) → IsEvenPlan paper outcomes spots → all_spots (Plan.At spots) paper outcomes ≡ spots
-planned_spots paper outcomes spots even = take_all (length (all_blocks outcomes)) spots (let count = whole_count (height_of paper) (all_blocks outcomes) spots even.within in omega (arith, count))
+planned_spots paper outcomes spots even = take_all (length (all_blocks outcomes)) spots (let count = within_count (height_of paper) (all_blocks outcomes) spots even.within in omega (arith, count))
 
 standing_by : (even : Bool) (paper : Paper) (outcomes : List Outcome) (plan : Plan) → All (IsSetUnder paper) outcomes → AreGoodBlocks (all_blocks outcomes) → IsPlan even paper outcomes plan → AreStanding plan paper outcomes
 standing_by false paper outcomes plan set good is = subst (λ p. AreStanding p paper outcomes) (sym is) (all_standing paper outcomes set good)
@@ -75,7 +68,7 @@ standing_by true paper outcomes (Plan.At spots) set good is = record {
 -- a spot for each thing that is drawn
 pub stand_count : (plan : Plan) (paper : Paper) (outcomes : List Outcome) → All (IsSetUnder paper) outcomes → AreStanding plan paper outcomes → length (all_drawings outcomes) ≡ length (all_spots plan paper outcomes)
 stand_count plan paper outcomes set stand =
-    all_count outcomes (all_whole paper outcomes set) ∙ sym (whole_count (height_of paper) (all_blocks outcomes) (all_spots plan paper outcomes) stand.within)
+    all_count outcomes (all_whole paper outcomes set) ∙ sym (within_count (height_of paper) (all_blocks outcomes) (all_spots plan paper outcomes) stand.within)
 
 -- the sheet of a book shows its tunes
 book_shown : (plan : Plan) (paper : Paper) (outcomes : List Outcome) → IsGoodPaper paper → All (IsSetUnder paper) outcomes → AreStanding plan paper outcomes → ShowsBook paper outcomes (sheet_of plan paper outcomes)
@@ -125,7 +118,7 @@ room_by false paper first more rest (Plan.At spots) p put is = absurd cc
 room_by true paper first more rest (Plan.At spots) p put is =
     let high = height_of paper in
     let whole = subst (λ bs. AreWithin high bs spots) (blocks_append first (more ++ rest) ∙ ap (λ bs. all_blocks first ++ bs) (blocks_append more rest)) is.within in
-    let count = whole_count high (all_blocks first ++ (all_blocks more ++ all_blocks rest)) spots whole in
+    let count = within_count high (all_blocks first ++ (all_blocks more ++ all_blocks rest)) spots whole in
     let one = length-append (all_blocks first) (all_blocks more ++ all_blocks rest) in
     let two = length-append (all_blocks more) (all_blocks rest) in (
       omega (arith, put, count, one, two),
@@ -133,16 +126,7 @@ room_by true paper first more rest (Plan.At spots) p put is =
           (subst (λ n. AreWithin high (all_blocks more ++ all_blocks rest) (drop n spots)) (sym put) (within_back high (all_blocks first) (all_blocks more ++ all_blocks rest) spots whole)),
     )
 
--- the even plan of blocks of outcomes
-pub even_planned : (paper : Paper) (outcomes : List Outcome) (high : ℕ) (blocks : List Block) (spots : List Spot) → high ≡ height_of paper → blocks ≡ all_blocks outcomes → AreSpots true high blocks spots
-    → AreWithin high blocks spots → AreStacked high blocks spots → IsPlan true paper outcomes (Plan.At spots)
-even_planned paper outcomes high blocks spots h b chosen within stacked = record {
-  chosen = subst (λ n. AreSpots true n (all_blocks outcomes) spots) h (subst (λ bs. AreSpots true high bs spots) b chosen);
-  within = subst (λ n. AreWithin n (all_blocks outcomes) spots) h (subst (λ bs. AreWithin high bs spots) b within);
-  stacked = subst (λ n. AreStacked n (all_blocks outcomes) spots) h (subst (λ bs. AreStacked high bs spots) b stacked);
-}
-
--- no group of them is too tall
+-- no group of blocks is too tall
 pub even_fits : (paper : Paper) (high : ℕ) (blocks : List Block) (block : ℕ) → high ≡ height_of paper → AreBlocksOn paper blocks → first_tall high blocks ≡ Some block → ⊥
 even_fits paper high blocks block h on tall =
     absurd (none-some block (sym (fits_at paper on.outcomes high blocks (all_blocks on.outcomes) h on.value refl on.set) ∙ tall))
@@ -267,13 +251,9 @@ done_good plan paper outcomes given p pressed =
     all_right IsPage given p.pages.done (all_left IsPage (given ++ p.pages.done) front.rest (subst (λ l. All IsPage l) front.whole all))
 
 -- nothing was pressed yet, whatever the plan and the paper
-none_spots : (plan : Plan) (paper : Paper) → all_spots plan paper [] ≡ []
-none_spots Plan.Filled paper = refl
-none_spots (Plan.At spots) paper = refl
-
-none_behind : (plan : Plan) (paper : Paper) → None ≡ behind_by plan paper []
-none_behind Plan.Filled paper = refl
-none_behind (Plan.At spots) paper = refl
+none_yet : (plan : Plan) (paper : Paper) → (all_spots plan paper [] ≡ []) × (None ≡ behind_by plan paper [])
+none_yet Plan.Filled paper = (refl, refl)
+none_yet (Plan.At spots) paper = (refl, refl)
 
 pub none_pressed : (plan : Plan) (paper : Paper) → RisesBy plan → IsPressed plan paper [] [] no_press
 none_pressed plan paper rises = record {
@@ -281,9 +261,9 @@ none_pressed plan paper rises = record {
   set = All-nil (IsSetUnder paper);
   gone = refl;
   pages = refl;
-  behind = none_behind plan paper;
+  behind = (none_yet plan paper).1;
   put = refl;
-  drawn = subst (AllZip (IsDrawn (width_of paper)) []) (sym (none_spots plan paper)) tt;
+  drawn = subst (AllZip (IsDrawn (width_of paper)) []) (sym (none_yet plan paper).0) tt;
   good = tt;
 }
 

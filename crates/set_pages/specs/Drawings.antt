@@ -3,7 +3,7 @@ use Rattle.std.specs.Prelude.{ℕ, ℤ, ◌-ℤ◌, List, [], ◌∷◌, ◌++�
 use Rattle.abc_lines.specs.declared.fault.Fault.{Fault}
 use Rattle.mus_laid.specs.declared.laid.SystemMarks.{SystemMarks}
 use Rattle.lay_springs.specs.declared.margin.Placed.{Placed}
-use Rattle.lay_pages.specs.{declared.filling.Block.Block, declared.stacking.Heights.Heights, declared.titles.TitleRow.TitleRow}
+use Rattle.lay_pages.specs.declared.{filling.Block.Block, stacking.Heights.Heights, titles.TitleRow.TitleRow}
 use Rattle.ps_text.specs.declared.sheet.Item.{Item}
 use Rattle.set_tune.specs.{declared.tune.SetTune.SetTune, Blocks.blocks_of}
 use Rattle.set_book.specs.declared.outcome.Outcome.{Outcome}

@@ -1,9 +1,9 @@
 -- The pages of a book while its tunes are set, one list of outcomes after another. Pages that are done may be given up before the next.
-use Rattle.std.specs.{Prelude.◌≡◌, Prelude.⊤, Prelude.ℕ, Prelude.◌+◌, Prelude.◌-◌, Prelude.◌^◌, Prelude.◌<◌, Prelude.◌≤◌, Prelude.Bool, Prelude.List, Prelude.◌++◌, Prelude.Option, Prelude.None, Prelude.All, Prelude.length, Prelude.take, Prelude.drop, List.AllZip}
-use Rattle.abc_header.specs.{declared.paper.Paper.Paper, Papers.height_of, Papers.width_of}
-use Rattle.lay_pages.specs.{declared.filling.Block.Block, declared.filling.Spot.Spot, declared.filling.Standing.Standing, Filling.AreGoodBlocks, Filling.AreWithin, Filling.CanFollow, Filling.behind_after, Filling.spots_behind}
+use Rattle.std.specs.{Prelude.{◌≡◌, ⊤, ℕ, ◌+◌, ◌-◌, ◌^◌, ◌<◌, ◌≤◌, Bool, List, ◌++◌, Option, None, All, length, take, drop}, List.AllZip}
+use Rattle.abc_header.specs.{declared.paper.Paper.Paper, Papers.{height_of, width_of}}
+use Rattle.lay_pages.specs.{declared.filling.{Block.Block, Spot.Spot, Standing.Standing}, Filling.{AreGoodBlocks, AreWithin, CanFollow, behind_after, spots_behind}}
 use Rattle.set_pages.specs.{Sheet.{AreStanding, IsPlan, IsSetUnder, all_spots, sheet_of}, declared.{plan.Plan.Plan, press.Press.Press}, Drawings.{all_blocks, all_drawings}, Filling.{done_count, no_pages, restored, with_drawings}, Read.ShowsBook, Ready.{AreRising, IsDrawn}}
-use Rattle.ps_text.specs.{declared.sheet.Page.Page, declared.sheet.Sheet.Sheet, Range.IsSheet}
+use Rattle.ps_text.specs.{declared.sheet.{Page.Page, Sheet.Sheet}, Range.IsSheet}
 use Rattle.set_book.specs.declared.outcome.Outcome.{Outcome}
 
 -- nothing was pressed yet

@@ -1,12 +1,12 @@
 -- The sheet of a book, from the outcomes of its tunes: the blocks of all tunes without fault stand on pages, filled or where a
 -- plan says, and each page has what its blocks draw.
 use Rattle.std.specs.Prelude.{⊤, ℕ, zero, suc, ◌+◌, ◌/◌, ◌≤◌, ◌==◌, if◌then◌else◌, List, [], ◌∷◌, ◌++◌, Result, Ok, Err, Bool, true, false, ◌≡◌, take, length}
-use Rattle.abc_lines.specs.{declared.book.TuneText.TuneText, declared.fault.Fault.Fault}
-use Rattle.abc_header.specs.{declared.defaults.Defaults.Defaults, declared.paper.Paper.Paper, Papers.height_of, Papers.width_of}
-use Rattle.lay_pages.specs.{declared.filling.Spot.Spot, Even.AreSpots, Even.AreStacked, Filling.AreFilled, Filling.AreWithin, Filling.spots_of}
-use Rattle.set_pages.specs.{declared.plan.Plan.Plan, Drawings.Drawing, Drawings.all_blocks, Drawings.all_drawings, Drawings.drawn}
-use Rattle.ps_text.specs.{declared.sheet.Frame.Frame, declared.sheet.Item.Item, declared.sheet.Page.Page, declared.sheet.Sheet.Sheet}
-use Rattle.set_tune.specs.{declared.how.How.How, declared.tune.SetTune.SetTune, Setting.IsSetTune}
+use Rattle.abc_lines.specs.declared.{book.TuneText.TuneText, fault.Fault.Fault}
+use Rattle.abc_header.specs.{declared.{defaults.Defaults.Defaults, paper.Paper.Paper}, Papers.{height_of, width_of}}
+use Rattle.lay_pages.specs.{declared.filling.Spot.Spot, Even.{AreSpots, AreStacked}, Filling.{AreFilled, AreWithin, spots_of}}
+use Rattle.set_pages.specs.{declared.plan.Plan.Plan, Drawings.{Drawing, all_blocks, all_drawings, drawn}}
+use Rattle.ps_text.specs.declared.sheet.{Frame.Frame, Item.Item, Page.Page, Sheet.Sheet}
+use Rattle.set_tune.specs.{Terms.{Manner, terms_by}, declared.tune.SetTune.SetTune, Setting.IsSetTune}
 use Rattle.set_book.specs.declared.outcome.Outcome.{Outcome}
 
 -- whole points, rounded up
@@ -67,7 +67,7 @@ IsPlan true paper outcomes (Plan.At spots) = IsEvenPlan paper outcomes spots
 
 -- a tune is set on the paper, or has a fault
 abbrev pub IsSetResult : Paper → Result SetTune Fault → Type 0
-IsSetResult paper (Ok t) = (tune : TuneText) × (defaults : Defaults) × (how : How) × IsSetTune tune defaults paper how t
+IsSetResult paper (Ok t) = (tune : TuneText) × (defaults : Defaults) × (manner : Manner) × IsSetTune tune (terms_by defaults paper manner) t
 IsSetResult paper (Err fault) = ⊤
 
 -- under its ordinal in the book, which is counted from 1

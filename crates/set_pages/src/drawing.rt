@@ -1,4 +1,4 @@
-ghost use Rattle.std.specs.{Prelude.◌≡◌, Prelude.◌≤◌, Prelude.All, Prelude.IfSome, Prelude.OnOk, Prelude.Some, Prelude.length, List.AllZip};
+ghost use Rattle.std.specs.{Prelude.{◌≡◌, ◌≤◌, All, IfSome, OnOk, Some, length}, List.AllZip};
 ghost use Rattle.set_pages.specs.{Drawings.{all_drawings, drawing, drawings_from, drawings_of, outcome_drawings, system, systems_of, title_contents}, Filling.{with_drawing, with_drawings}, Ready.{HasAllRows, IsDrawn, IsReady, IsReadyAt, IsWhole}};
 ghost use Rattle.set_staves.specs.Drawn.{IsWidth};
 

@@ -1,19 +1,19 @@
 -- What the setting of a tune rests on: a score with measures has a voice, a tune has few titles, and few blocks of good heights.
 use Rattle.std.{proofs.{Common.{◌≡◌, ℕ, ℤ, pos, negsuc, zero, suc, ◌+◌, ◌<◌, ◌≤◌, ◌^◌, Bool, List, [], ◌∷◌, ◌++◌, length, map, take, Option, Some, None, Result, Ok, Err, sym, subst, refl, arith}, lemmas.{List.{length-append, length-map, Sums.sum_by-cons, Elements.{All-cons, All-nil}}, Option.same_Some}}, specs.List.{cons_option, All, filter_map}}
-use Rattle.abc_lines.specs.{declared.book.Line.Line, declared.book.TuneText.TuneText, declared.fault.Fault.Fault, declared.fault.FaultKind.FaultKind, Good.IsGoodTune, Good.size_of}
+use Rattle.abc_lines.specs.{declared.{book.{Line.Line, TuneText.TuneText}, fault.{Fault.Fault, FaultKind.FaultKind}}, Good.{IsGoodTune, size_of}}
 use Rattle.abc_fields.specs.{declared.field.Field.Field, Fields.field_of}
-use Rattle.abc_header.specs.{declared.defaults.Defaults.Defaults, declared.header.Header.Header, Headers.IsHeaderBy, Headers.IsHeaderOf, Headers.composer_in, Headers.fields_of, Headers.key_place, Headers.put_field, Headers.title_in}
+use Rattle.abc_header.specs.{declared.{defaults.Defaults.Defaults, header.Header.Header}, Headers.{IsHeaderBy, IsHeaderOf, composer_in, fields_of, key_place, put_field, title_in}}
 use Rattle.abc_steps.specs.declared.step.Item.{Item}
 use Rattle.abc_score.specs.{declared.voices.VoiceRead.VoiceRead, Build.IsScoreOf, Score.score_with, Voices.voices_read}
 use Rattle.mus_units.specs.declared.key.Key.{Key}
 use Rattle.mus_transpose.specs.Moved.{IsMoved, move_from, voice_by}
-use Rattle.lay_shared.{specs.Plans.IsPlanFor, specs.Plans.ids_of, proofs.DrawnLaws.drawn_heard, proofs.PlanLaws.spelled-plan}
-use Rattle.mus_score.specs.{declared.score.Score.Score, declared.score.Voice.Voice, GoodScore.IsGoodScore}
+use Rattle.lay_shared.{specs.Plans.{IsPlanFor, ids_of}, proofs.{DrawnLaws.drawn_heard, PlanLaws.spelled-plan}}
+use Rattle.mus_score.specs.{declared.score.{Score.Score, Voice.Voice}, GoodScore.IsGoodScore}
 use Rattle.mus_laid.specs.declared.laid.SystemMarks.{SystemMarks}
 use Rattle.lay_breaks.specs.Breaking.{RisesFrom, last_from}
-use Rattle.lay_pages.specs.{declared.stacking.Heights.Heights, declared.titles.TitleRow.TitleRow}
-use Rattle.lay_tune.{specs.Systems.Beside, specs.Systems.IsSetSystem, specs.Systems.IsStack, proofs.Rows.beside_count, proofs.Rows.span_count}
-use Rattle.set_tune.specs.{declared.tune.SetTune.SetTune, Blocks.HasGoodHeight, Blocks.blocks_of, Blocks.is_some_list, Blocks.system_block, Blocks.system_blocks, Blocks.title_blocks, declared.how.How.How, Setting.HasScore, Setting.IsDrawn, Setting.IsLaidOut}
+use Rattle.lay_pages.specs.declared.{stacking.Heights.Heights, titles.TitleRow.TitleRow}
+use Rattle.lay_tune.{specs.Systems.{Beside, IsSetSystem, IsStack}, proofs.Rows.{beside_count, span_count}}
+use Rattle.set_tune.specs.{declared.tune.SetTune.SetTune, Blocks.{HasGoodHeight, blocks_of, is_some_list, system_block, system_blocks, title_blocks}, Terms.Manner, Setting.{HasScore, IsDrawn, IsLaidOut}}
 
 -- ---- voices
 has_voice : (header : Header) (items : List Item) (flow : Bool) (voices : List VoiceRead)
@@ -54,12 +54,12 @@ heard_drawn (Some line) written drawn (plan, spells, share, is) h some =
     subst (λ (s : Score). 1 ≤ length s.voices) (sym is) (drawn_heard written plan fits)
 
 -- moved too
-pub heard_moved : (tune : TuneText) (defaults : Defaults) (how : How) (header : Header) (score : Score) → HasScore tune defaults how header score
+pub heard_moved : (tune : TuneText) (defaults : Defaults) (manner : Manner) (header : Header) (score : Score) → HasScore tune defaults manner header score
     → 0 < score.measures → 1 ≤ length score.voices
-heard_moved tune defaults how header score has some =
-    let like = like_moved has.drawn score header.key how.by has.moved in
+heard_moved tune defaults manner header score has some =
+    let like = like_moved has.drawn score header.key manner.by has.moved in
     let voices = like.0 in
-    let first = heard_drawn header.staves has.written has.drawn has.draws (heard header tune how.flow has.written has.is.value) (subst (λ n. 0 < n) like.1 some) in
+    let first = heard_drawn header.staves has.written has.drawn has.draws (heard header tune manner.flow has.written has.is.value) (subst (λ n. 0 < n) like.1 some) in
     omega (arith, first, voices)
 
 -- ---- titles and composers
@@ -94,9 +94,8 @@ fields_few f none (line ∷ lines) =
     omega (arith, given_few f none line.text (fields_of lines) (size_of lines) (fields_few f none lines), size_cons line lines)
 
 size_within : (n : ℕ) (lines : List Line) → size_of (take n lines) ≤ size_of lines
-size_within zero lines = omega arith
-size_within (suc n) [] = omega arith
 size_within (suc n) (line ∷ lines) = omega (arith, size_within n lines, size_cons line (take n lines), size_cons line lines)
+size_within n lines = omega arith
 
 few_by : (f : Field → Option (List ℕ)) → f Field.Other ≡ None → (tune : TuneText) (n : ℕ) → IsGoodTune tune
     → length (filter_map f (fields_of (take n tune.lines))) ≤ 2 ^ 32

@@ -1,50 +1,50 @@
 -- The stages of a tune's setting, put together: what each refuses is the one fault of the tune.
 use Rattle.std.proofs.Common.{◌≡◌, sym, subst, inl, inr, ℕ, Bool, None, Some, Result, Ok, Err, IfErr}
-use Rattle.abc_lines.specs.{declared.book.TuneText.TuneText, declared.fault.TuneError.TuneError}
-use Rattle.abc_header.specs.{declared.defaults.Defaults.Defaults, declared.header.Header.Header, declared.paper.Paper.Paper, Papers.height_of, Papers.width_of}
+use Rattle.abc_lines.specs.declared.{book.TuneText.TuneText, fault.TuneError.TuneError}
+use Rattle.abc_header.specs.{declared.header.Header.Header, Papers.{height_of, width_of}}
 use Rattle.mus_score.specs.declared.score.Score.{Score}
 use Rattle.lay_pages.specs.{Titles.title_block_of, Filling.first_tall}
 use Rattle.lay_tune.specs.Layout.{IsNoWay}
-use Rattle.set_tune.specs.{declared.{how.How.How, tune.SetTune.SetTune}, Blocks.blocks_of, Setting.{HasScore, IsDrawn, IsDrawRefusal, IsFaultOfTune, IsLaid, IsLaidOut, IsLaidTune, IsLayoutRefusal, IsMoveRefusal, IsMovedRefusal, IsRefusal, IsScoreRefusal, IsTallRefusal, IsWritten, of_header, of_score, of_share, of_move, no_way, too_tall}}
+use Rattle.set_tune.specs.{Terms.Terms, declared.tune.SetTune.SetTune, Blocks.blocks_of, Setting.{HasScore, IsDrawn, IsDrawRefusal, IsFaultOfTune, IsLaid, IsLaidOut, IsLaidTune, IsLayoutRefusal, IsMoveRefusal, IsMovedRefusal, IsRefusal, IsScoreRefusal, IsTallRefusal, IsWritten, of_header, of_score, of_share, of_move, no_way, too_tall}}
 
 pub none_some : {X : Type 0} (x : X) → None ≡ Some x → ⊥
 none_some x e = cc
 
-pub score_refused : (tune : TuneText) (defaults : Defaults) (paper : Paper) (how : How) (e : TuneError)
-    → IsMovedRefusal tune defaults how e → IsRefusal tune defaults paper how e
-score_refused tune defaults paper how TuneError.Memory h = tt
-score_refused tune defaults paper how (TuneError.Fault fault) (inl (inl h)) = of_header fault h
-score_refused tune defaults paper how (TuneError.Fault fault) (inl (inr (header, has, is))) = of_score header fault has is
-score_refused tune defaults paper how (TuneError.Fault fault) (inr (inl cant)) = of_share fault cant
-score_refused tune defaults paper how (TuneError.Fault fault) (inr (inr (cant, at))) = subst (IsFaultOfTune tune defaults paper how) (sym at) (of_move cant)
+pub score_refused : (tune : TuneText) (terms : Terms) (e : TuneError)
+    → IsMovedRefusal tune terms.defaults terms.manner e → IsRefusal tune terms e
+score_refused tune terms TuneError.Memory h = tt
+score_refused tune terms (TuneError.Fault fault) (inl (inl h)) = of_header fault h
+score_refused tune terms (TuneError.Fault fault) (inl (inr (header, has, is))) = of_score header fault has is
+score_refused tune terms (TuneError.Fault fault) (inr (inl cant)) = of_share fault cant
+score_refused tune terms (TuneError.Fault fault) (inr (inr (cant, at))) = subst (IsFaultOfTune tune terms) (sym at) (of_move cant)
 
 -- no breaking is legal
-pub layout_refused : (tune : TuneText) (defaults : Defaults) (paper : Paper) (how : How) (header : Header) (score : Score) (width : ℕ) (e : TuneError)
-    → HasScore tune defaults how header score → width ≡ width_of paper → IsLayoutRefusal tune width score e → IsRefusal tune defaults paper how e
-layout_refused tune defaults paper how header score width TuneError.Memory has is h = tt
-layout_refused tune defaults paper how header score width (TuneError.Fault fault) has is (reached, spans, none, at) =
-    subst (IsFaultOfTune tune defaults paper how) (sym at)
+pub layout_refused : (tune : TuneText) (terms : Terms) (header : Header) (score : Score) (width : ℕ) (e : TuneError)
+    → HasScore tune terms.defaults terms.manner header score → width ≡ width_of terms.paper → IsLayoutRefusal tune width score e → IsRefusal tune terms e
+layout_refused tune terms header score width TuneError.Memory has is h = tt
+layout_refused tune terms header score width (TuneError.Fault fault) has is (reached, spans, none, at) =
+    subst (IsFaultOfTune tune terms) (sym at)
     (no_way header score reached spans has (subst (λ w. IsNoWay score w reached spans) is none))
 
 -- the tune up to its layout
-pub laid_tune : (tune : TuneText) (defaults : Defaults) (paper : Paper) (how : How) (header : Header) (score : Score) (width : ℕ) (t : SetTune)
-    → HasScore tune defaults how header score → width ≡ width_of paper → IsLaid width header score t → IsLaidTune tune defaults paper how t
-laid_tune tune defaults paper how header score width t has is laid = record {
-  score = subst (λ h. HasScore tune defaults how h t.score) (sym laid.head) (subst (λ s. HasScore tune defaults how header s) (sym laid.music) has);
+pub laid_tune : (tune : TuneText) (terms : Terms) (header : Header) (score : Score) (width : ℕ) (t : SetTune)
+    → HasScore tune terms.defaults terms.manner header score → width ≡ width_of terms.paper → IsLaid width header score t → IsLaidTune tune terms t
+laid_tune tune terms header score width t has is laid = record {
+  score = subst (λ h. HasScore tune terms.defaults terms.manner h t.score) (sym laid.head) (subst (λ s. HasScore tune terms.defaults terms.manner header s) (sym laid.music) has);
   title = subst (λ w. t.title ≡ title_block_of w t.header.titles t.header.composers t.header.tempo) is
       (subst (λ (h : Header). t.title ≡ title_block_of width h.titles h.composers h.tempo) (sym laid.head) laid.title);
   layout = subst (λ w. IsLaidOut w t) is laid.layout;
 }
 
-tall_error : (tune : TuneText) (defaults : Defaults) (paper : Paper) (how : How) (high : ℕ) (t : SetTune) (e : TuneError)
-    → IsLaidTune tune defaults paper how t → high ≡ height_of paper → IsTallRefusal tune high t e → IsRefusal tune defaults paper how e
-tall_error tune defaults paper how high t TuneError.Memory laid is h = tt
-tall_error tune defaults paper how high t (TuneError.Fault fault) laid is (block, first, at) =
-    subst (IsFaultOfTune tune defaults paper how) (sym at)
+tall_error : (tune : TuneText) (terms : Terms) (high : ℕ) (t : SetTune) (e : TuneError)
+    → IsLaidTune tune terms t → high ≡ height_of terms.paper → IsTallRefusal tune high t e → IsRefusal tune terms e
+tall_error tune terms high t TuneError.Memory laid is h = tt
+tall_error tune terms high t (TuneError.Fault fault) laid is (block, first, at) =
+    subst (IsFaultOfTune tune terms) (sym at)
     (too_tall t block laid (subst (λ n. first_tall n (blocks_of t.title t.heights) ≡ Some block) is first))
 
 -- a group is too high
-pub tall_refused : (tune : TuneText) (defaults : Defaults) (paper : Paper) (how : How) (high : ℕ) (t : SetTune) (r : Result SetTune TuneError)
-    → IsLaidTune tune defaults paper how t → high ≡ height_of paper → IfErr r (IsTallRefusal tune high t) → IfErr r (IsRefusal tune defaults paper how)
-tall_refused tune defaults paper how high t (Ok set) laid is h = tt
-tall_refused tune defaults paper how high t (Err e) laid is h = tall_error tune defaults paper how high t e laid is h
+pub tall_refused : (tune : TuneText) (terms : Terms) (high : ℕ) (t : SetTune) (r : Result SetTune TuneError)
+    → IsLaidTune tune terms t → high ≡ height_of terms.paper → IfErr r (IsTallRefusal tune high t) → IfErr r (IsRefusal tune terms)
+tall_refused tune terms high t (Ok set) laid is h = tt
+tall_refused tune terms high t (Err e) laid is h = tall_error tune terms high t e laid is h

@@ -1,17 +1,19 @@
 -- A tune that is set, and the one fault of a tune that isn't.
 use Rattle.std.specs.Prelude.{◌≡◌, ◌⊎◌, ⊤, ℕ, ◌+◌, ◌≤◌, ℤ, List, Bool, All, length, slice_index_or, Option, Some, None, Result, Ok, Err}
-use Rattle.abc_lines.specs.declared.{book.Line.Line, book.TuneText.TuneText, fault.Fault.Fault, fault.FaultKind.FaultKind, fault.TuneError.TuneError}
-use Rattle.abc_header.specs.{declared.defaults.Defaults.Defaults, declared.header.Header.Header, declared.paper.Paper.Paper, Headers.IsHeaderOf, Headers.first_line, Headers.header_fault, Papers.height_of, Papers.width_of}
+use Rattle.abc_lines.specs.declared.{book.{Line.Line, TuneText.TuneText}, fault.{Fault.Fault, FaultKind.FaultKind, TuneError.TuneError}}
+use Rattle.abc_header.specs.{declared.{defaults.Defaults.Defaults, header.Header.Header}, Headers.{IsHeaderOf, first_line, header_fault}, Papers.{height_of, width_of}}
 use Rattle.abc_score.specs.Build.{IsFaultOf, IsScoreOf}
 use Rattle.mus_score.specs.{declared.score.Score.Score, GoodScore.IsGoodScore}
 use Rattle.mus_laid.specs.Boxes.{AreGoodMarks}
-use Rattle.lay_breaks.specs.{declared.costs.Span.Span, Breaking.IsChosen, Breaking.IsPotential, Breaking.sum_from, Spans.AreSpans, Spans.listed}
+use Rattle.lay_breaks.specs.{declared.costs.Span.Span, Breaking.{IsChosen, IsPotential, sum_from}, Spans.{AreSpans, listed}}
 use Rattle.lay_pages.specs.{Filling.first_tall, Titles.title_block_of}
-use Rattle.lay_tune.specs.{Breakings.IsLeastBreaking, Layout.IsNoWay, Spans.AreSpansOf, Spans.is_forced_in, Systems.Beside, Systems.EachSpan, Systems.IsSetSystem, Systems.IsStack}
-use Rattle.lay_shared.specs.{declared.plan.Plan.Plan, Alike.DoShare, Drawn.drawn_of, Plans.Spells, Plans.ids_of}
+use Rattle.lay_tune.specs.{Breakings.IsLeastBreaking, Layout.IsNoWay, Spans.{AreSpansOf, is_forced_in}, Systems.{Beside, EachSpan, IsSetSystem, IsStack}}
+use Rattle.lay_shared.specs.{declared.plan.Plan.Plan, Alike.DoShare, Drawn.drawn_of, Plans.{Spells, ids_of}}
 use Rattle.mus_units.specs.declared.key.Key.{Key}
 use Rattle.mus_transpose.specs.Moved.{IsMoved}
-use Rattle.set_tune.specs.{declared.how.How.How, declared.tune.SetTune.SetTune, Blocks.blocks_of}
+use Rattle.mus_drawn.specs.Sounds.{sounds_of}
+use Rattle.mus_moved.specs.Higher.{AreHigher}
+use Rattle.set_tune.specs.{Terms.{Manner, Terms}, declared.tune.SetTune.SetTune, Blocks.blocks_of}
 
 -- The header of the tune, which has no fault.
 pub record HasHeader (tune : TuneText) (defaults : Defaults) (header : Header) : Type 0 where
@@ -41,30 +43,31 @@ IsDrawn None written drawn = drawn ≡ Ok written
 IsDrawn (Some line) written (Ok drawn) = (plan : Plan) × Spells (ids_of written) line.text plan × DoShare written plan × (drawn ≡ drawn_of written plan)
 IsDrawn (Some line) written (Err fault) = IsUnshared line written fault
 
--- The header, and the score that is set: the drawn one, moved.
-pub record HasScore (tune : TuneText) (defaults : Defaults) (how : How) (header : Header) (score : Score) : Type 0 where
+-- The header, and the score that is set: the drawn one, moved, so that each head sounds so many semitones higher.
+pub record HasScore (tune : TuneText) (defaults : Defaults) (manner : Manner) (header : Header) (score : Score) : Type 0 where
   pub written : Score
-  pub is : IsWritten tune defaults how.flow header written
+  pub is : IsWritten tune defaults manner.flow header written
   pub drawn : Score
   pub draws : IsDrawn header.staves written (Ok drawn)
-  pub moved : IsMoved drawn header.key how.by (Some score)
+  pub moved : IsMoved drawn header.key manner.by (Some score)
+  pub sounds : AreHigher manner.by (sounds_of drawn) (sounds_of score)
   pub good : IsGoodScore score
 
 -- The voices of the tune can't share staves as its line says.
-pub record CantDraw (tune : TuneText) (defaults : Defaults) (how : How) (fault : Fault) : Type 0 where
+pub record CantDraw (tune : TuneText) (defaults : Defaults) (manner : Manner) (fault : Fault) : Type 0 where
   pub header : Header
   pub written : Score
-  pub is : IsWritten tune defaults how.flow header written
+  pub is : IsWritten tune defaults manner.flow header written
   pub draws : IsDrawn header.staves written (Err fault)
 
 -- The score of the tune can't be moved so far.
-pub record CantMove (tune : TuneText) (defaults : Defaults) (how : How) : Type 0 where
+pub record CantMove (tune : TuneText) (defaults : Defaults) (manner : Manner) : Type 0 where
   pub header : Header
   pub written : Score
-  pub is : IsWritten tune defaults how.flow header written
+  pub is : IsWritten tune defaults manner.flow header written
   pub drawn : Score
   pub draws : IsDrawn header.staves written (Ok drawn)
-  pub moved : IsMoved drawn header.key how.by None
+  pub moved : IsMoved drawn header.key manner.by None
 
 -- The score laid out on a width: the listed spans are exactly those that fit, the breaking is the chosen one over them and the one
 -- of least total of the score, and each of its systems has the marks that the score calls for, set to the width and tilted there,
@@ -89,15 +92,15 @@ pub record IsLaid (width : ℕ) (header : Header) (score : Score) (t : SetTune) 
   pub layout : IsLaidOut width t
 
 -- The tune up to its layout and its title block, whatever the height of the page.
-pub record IsLaidTune (tune : TuneText) (defaults : Defaults) (paper : Paper) (how : How) (t : SetTune) : Type 0 where
-  pub score : HasScore tune defaults how t.header t.score
-  pub title : t.title ≡ title_block_of (width_of paper) t.header.titles t.header.composers t.header.tempo
-  pub layout : IsLaidOut (width_of paper) t
+pub record IsLaidTune (tune : TuneText) (terms : Terms) (t : SetTune) : Type 0 where
+  pub score : HasScore tune terms.defaults terms.manner t.header t.score
+  pub title : t.title ≡ title_block_of (width_of terms.paper) t.header.titles t.header.composers t.header.tempo
+  pub layout : IsLaidOut (width_of terms.paper) t
 
 -- A tune that is set: none of its groups of blocks is higher than the page.
-pub record IsSetTune (tune : TuneText) (defaults : Defaults) (paper : Paper) (how : How) (t : SetTune) : Type 0 where
-  pub laid : IsLaidTune tune defaults paper how t
-  pub fits : first_tall (height_of paper) (blocks_of t.title t.heights) ≡ None
+pub record IsSetTune (tune : TuneText) (terms : Terms) (t : SetTune) : Type 0 where
+  pub laid : IsLaidTune tune terms t
+  pub fits : first_tall (height_of terms.paper) (blocks_of t.title t.heights) ≡ None
 
 -- a fault of the move or of the layout stands at the first line of the tune, in column 1
 abbrev pub layout_fault : TuneText → FaultKind → Fault
@@ -106,17 +109,17 @@ layout_fault tune kind = record { kind = kind; line = first_line tune.lines; col
 -- The one fault of a tune, by stages: of its header; where that has none, of its body or its score; where the score has none,
 -- that its voices can't share staves as they should; where they can, that it can't be moved; where it can, that no breaking is legal; and where one is, that a group of blocks is higher than the
 -- page.
-pub data IsFaultOfTune (tune : TuneText) (defaults : Defaults) (paper : Paper) (how : How) : Fault → Type 0 where
-  of_header : (fault : Fault) → header_fault tune ≡ Some fault → IsFaultOfTune tune defaults paper how fault
-  of_score : (header : Header) (fault : Fault) → HasHeader tune defaults header → IsFaultOf header tune (TuneError.Fault fault)
-      → IsFaultOfTune tune defaults paper how fault
-  of_share : (fault : Fault) → CantDraw tune defaults how fault → IsFaultOfTune tune defaults paper how fault
-  of_move : CantMove tune defaults how → IsFaultOfTune tune defaults paper how (layout_fault tune FaultKind.BadMove)
-  no_way : (header : Header) (score : Score) (reached : ℕ) (spans : List Span) → HasScore tune defaults how header score
-      → IsNoWay score (width_of paper) reached spans → IsFaultOfTune tune defaults paper how (layout_fault tune (FaultKind.NoWay reached))
-  too_tall : (t : SetTune) (block : ℕ) → IsLaidTune tune defaults paper how t
-      → first_tall (height_of paper) (blocks_of t.title t.heights) ≡ Some block
-      → IsFaultOfTune tune defaults paper how (layout_fault tune (FaultKind.TooTall block))
+pub data IsFaultOfTune (tune : TuneText) (terms : Terms) : Fault → Type 0 where
+  of_header : (fault : Fault) → header_fault tune ≡ Some fault → IsFaultOfTune tune terms fault
+  of_score : (header : Header) (fault : Fault) → HasHeader tune terms.defaults header → IsFaultOf header tune (TuneError.Fault fault)
+      → IsFaultOfTune tune terms fault
+  of_share : (fault : Fault) → CantDraw tune terms.defaults terms.manner fault → IsFaultOfTune tune terms fault
+  of_move : CantMove tune terms.defaults terms.manner → IsFaultOfTune tune terms (layout_fault tune FaultKind.BadMove)
+  no_way : (header : Header) (score : Score) (reached : ℕ) (spans : List Span) → HasScore tune terms.defaults terms.manner header score
+      → IsNoWay score (width_of terms.paper) reached spans → IsFaultOfTune tune terms (layout_fault tune (FaultKind.NoWay reached))
+  too_tall : (t : SetTune) (block : ℕ) → IsLaidTune tune terms t
+      → first_tall (height_of terms.paper) (blocks_of t.title t.heights) ≡ Some block
+      → IsFaultOfTune tune terms (layout_fault tune (FaultKind.TooTall block))
 
 -- The same of the stages up to the score; want of memory says nothing.
 abbrev pub IsScoreRefusal : TuneText → Defaults → TuneError → Type 0
@@ -135,10 +138,10 @@ IsMoveRefusal tune drawn key by TuneError.Memory = ⊤
 IsMoveRefusal tune drawn key by (TuneError.Fault fault) = IsMoved drawn key by None × (fault ≡ layout_fault tune FaultKind.BadMove)
 
 -- why there is no score to lay out
-abbrev pub IsMovedRefusal : TuneText → Defaults → How → TuneError → Type 0
-IsMovedRefusal tune defaults how TuneError.Memory = ⊤
-IsMovedRefusal tune defaults how (TuneError.Fault fault) =
-    IsScoreRefusal tune defaults (TuneError.Fault fault) ⊎ (CantDraw tune defaults how fault ⊎ (CantMove tune defaults how × (fault ≡ layout_fault tune FaultKind.BadMove)))
+abbrev pub IsMovedRefusal : TuneText → Defaults → Manner → TuneError → Type 0
+IsMovedRefusal tune defaults manner TuneError.Memory = ⊤
+IsMovedRefusal tune defaults manner (TuneError.Fault fault) =
+    IsScoreRefusal tune defaults (TuneError.Fault fault) ⊎ (CantDraw tune defaults manner fault ⊎ (CantMove tune defaults manner × (fault ≡ layout_fault tune FaultKind.BadMove)))
 
 -- why the score isn't laid out
 abbrev pub IsLayoutRefusal : TuneText → ℕ → Score → TuneError → Type 0
@@ -153,6 +156,6 @@ IsTallRefusal tune high t (TuneError.Fault fault) =
     (block : ℕ) × (first_tall high (blocks_of t.title t.heights) ≡ Some block) × (fault ≡ layout_fault tune (FaultKind.TooTall block))
 
 -- want of memory says nothing
-abbrev pub IsRefusal : TuneText → Defaults → Paper → How → TuneError → Type 0
-IsRefusal tune defaults paper how TuneError.Memory = ⊤
-IsRefusal tune defaults paper how (TuneError.Fault fault) = IsFaultOfTune tune defaults paper how fault
+abbrev pub IsRefusal : TuneText → Terms → TuneError → Type 0
+IsRefusal tune terms TuneError.Memory = ⊤
+IsRefusal tune terms (TuneError.Fault fault) = IsFaultOfTune tune terms fault

@@ -2,11 +2,13 @@ ghost use Rattle.std.specs.{Prelude.{◌≡◌, ◌≤◌, ◌<◌, ◌^◌, ℕ
 ghost use Rattle.mus_score.specs.GoodScore.{IsGoodScore};
 ghost use Rattle.abc_lines.specs.Good.{IsGoodTune};
 ghost use Rattle.abc_lines.specs.declared.fault.TuneError.TheVariants as errors;
-ghost use Rattle.abc_header.specs.{Good.IsGoodDefaults, Headers.first_line, Papers.IsGoodPaper, Papers.height_of, Papers.width_of};
+ghost use Rattle.abc_header.specs.{Good.IsGoodDefaults, Headers.first_line, Papers.{IsGoodPaper, height_of, width_of}};
 ghost use Rattle.lay_pages.specs.{Filling.first_tall, Titles.title_block_of};
-ghost use Rattle.set_tune.specs.{Blocks.blocks_of, How.unmoved, Setting.{HasScore, IsDrawn, IsDrawRefusal, IsLaid, IsLaidOut, IsLayoutRefusal, IsMoveRefusal, IsMovedRefusal, IsRefusal, IsScoreRefusal, IsSetTune, IsTallRefusal, IsWritten, layout_fault, share_fault}};
-ghost use Rattle.lay_shared.specs.{Plans.IsPlanFor, Plans.Spells, Plans.ids_of, declared.plan.Plan.Plan};
+ghost use Rattle.set_tune.specs.{Blocks.blocks_of, Setting.{HasScore, IsDrawn, IsDrawRefusal, IsLaid, IsLaidOut, IsLayoutRefusal, IsMoveRefusal, IsMovedRefusal, IsRefusal, IsScoreRefusal, IsSetTune, IsTallRefusal, IsWritten, layout_fault, share_fault}, Terms.{IsGoodHow, manner_of, terms_by, terms_of, unmoved}};
+ghost use Rattle.lay_shared.specs.{Plans.{IsPlanFor, Spells, ids_of}, declared.plan.Plan.Plan};
 ghost use Rattle.mus_transpose.specs.Moved.{IsMoved};
+ghost use Rattle.mus_drawn.specs.Sounds.{sounds_of};
+ghost use Rattle.mus_moved.specs.Higher.{AreHigher};
 
 use crate::blocks::blocks_of;
 use crate::how::How;
@@ -17,13 +19,16 @@ use abc_score::build;
 use lay_pages::{PageError, TitleBlock, fill, title_block};
 use lay_shared::{Plan, drawn, ids_of, read_plan, shared};
 use lay_tune::{Layout, LayoutError, lay_out};
+use mus_moved::moved_sounds_higher;
 use mus_score::Score;
 use mus_transpose::moved_or_same;
 use mus_units::Memory;
 use std::alloc::Global;
+use std::thread::Threads;
 
-/// A tune set on paper as it is written: `set_how` with a score that isn't moved.
-pub fn set(
+/// A tune set on paper as it is written, by one job: `set_how` with a score that isn't moved.
+pub fn set<R: Threads + Sync>(
+    rt: &R,
     alloc: Global,
     tune: &TuneText,
     defaults: &Defaults,
@@ -33,21 +38,22 @@ pub fn set(
     requires tune { IsGoodTune tune.now }
     requires defaults { IsGoodDefaults defaults.now }
     requires paper { IsGoodPaper paper.now }
-    ensures set { IfOk result (IsSetTune tune.now defaults.now paper.now (unmoved flow)) }
-    ensures fault { IfErr result (IsRefusal tune.now defaults.now paper.now (unmoved flow)) }
+    ensures set { IfOk result (IsSetTune tune.now (terms_by defaults.now paper.now (unmoved flow))) }
+    ensures fault { IfErr result (IsRefusal tune.now (terms_by defaults.now paper.now (unmoved flow))) }
 {
-    set_how(alloc, tune, defaults, paper, How::unmoved(flow))
+    set_how(rt, alloc, tune, defaults, paper, How::unmoved(flow))
 }
 
 /// A tune set on paper: its header, its score as it is drawn, moved by so many semitones as `how`
-/// says, the score laid out on the width of the body, and its title block; or the first of its faults. Where `how`
-/// says so, no bar is forced.
+/// says, the score laid out on the width of the body, and its title block; or the first of its faults.
+/// Where `how` says so, no bar is forced. What comes is the same for every number of its jobs.
 ///
 /// A fault is of the header, or else of the body, or else of the score; or else its voices can't
 /// share staves as `%%score` says, or else the score can't be moved so far, or else no breaking of
 /// its measures is legal, or else a group of its blocks is higher than the body. The last three are
 /// told at the tune's first line, and so is a fault of the file's `%%score`.
-pub fn set_how(
+pub fn set_how<R: Threads + Sync>(
+    rt: &R,
     alloc: Global,
     tune: &TuneText,
     defaults: &Defaults,
@@ -57,15 +63,16 @@ pub fn set_how(
     requires tune { IsGoodTune tune.now }
     requires defaults { IsGoodDefaults defaults.now }
     requires paper { IsGoodPaper paper.now }
-    ensures set { IfOk result (IsSetTune tune.now defaults.now paper.now how) }
-    ensures fault { IfErr result (IsRefusal tune.now defaults.now paper.now how) }
+    requires how { IsGoodHow how }
+    ensures set { IfOk result (IsSetTune tune.now (terms_of defaults.now paper.now how)) }
+    ensures fault { IfErr result (IsRefusal tune.now (terms_of defaults.now paper.now how)) }
 {
     let (width, high) = body_of(paper);
     let (header, score) = match moved_score(alloc, tune, defaults, how) {
         Ok(read) => read,
         Err(error) => return Err(error),
     };
-    match lay(alloc, tune, width, header, score) {
+    match lay(rt, alloc, tune, width, header, score, how.jobs) {
         Ok(laid) => on_pages(alloc, tune, high, laid),
         Err(error) => Err(error),
     }
@@ -80,8 +87,8 @@ fn moved_score(
 ) -> Result<(Header, Score), TuneError>
     requires tune { IsGoodTune tune.now }
     requires defaults { IsGoodDefaults defaults.now }
-    ensures score { IfOk result (λ read. HasScore tune.now defaults.now how read.0 read.1) }
-    ensures fault { IfErr result (IsMovedRefusal tune.now defaults.now how) }
+    ensures score { IfOk result (λ read. HasScore tune.now defaults.now (manner_of how) read.0 read.1) }
+    ensures fault { IfErr result (IsMovedRefusal tune.now defaults.now (manner_of how)) }
 {
     let (header, written) = match read_score(alloc, tune, defaults, how.flow) {
         Ok(read) => read,
@@ -181,9 +188,11 @@ fn move_score(
 ) -> Result<Score, TuneError>
     requires { IsGoodScore drawn }
     ensures moved { IfOk result (λ score. IsMoved drawn header.now.key by (Some score)) }
+    ensures sounds { IfOk result (λ score. AreHigher by (sounds_of drawn) (sounds_of score)) }
     ensures good { IfOk result IsGoodScore }
     ensures fault { IfErr result (IsMoveRefusal tune.now drawn header.now.key by) }
 {
+    moved_sounds_higher();
     match moved_or_same(alloc, drawn, &header.key, by)? {
         Some(score) => Ok(score),
         None => Err(layout_fault(tune, FaultKind::BadMove)),
@@ -226,14 +235,18 @@ fn title_of(alloc: Global, width: u32, header: &Header) -> Result<TitleBlock, Me
     )
 }
 
-/// A score laid out on a width, under the title block of its header.
-fn lay(
+/// A score laid out on a width by so many jobs, under the title block of its header.
+fn lay<R: Threads + Sync>(
+    rt: &R,
     alloc: Global,
     tune: &TuneText,
     width: u32,
     header: Header,
     score: Score,
+    jobs: u8,
 ) -> Result<SetTune, TuneError>
+    requires some { 1 ≤ jobs }
+    requires few { jobs ≤ 64 }
     requires titles { length header.titles ≤ 2 ^ 32 }
     requires composers { length header.composers ≤ 2 ^ 32 }
     requires good { IsGoodScore score }
@@ -247,7 +260,7 @@ fn lay(
         placed,
         spans,
         heights,
-    } = match lay_out(alloc, &score, width) {
+    } = match lay_out(rt, alloc, &score, width, jobs) {
         Ok(layout) => layout,
         Err(LayoutError::NoWay { reached }) => {
             return Err(layout_fault(tune, FaultKind::NoWay { reached }));

@@ -3,8 +3,8 @@
 ghost use Rattle.std.specs.Prelude.{◌≡◌, ◌++◌, ◌*◌, ◌<◌, ◌≤◌, ⊤};
 
 use answer_texts::{count_at, end_line, number_at, numbers_of, put_count, put_word};
+use eng_halves::{Work, work_all};
 use mus_units::{Memory, Row, Text};
-use set_halves::{Work, work_all};
 use std::alloc::Global;
 use std::sync::atomic::AtomicU64;
 use std::sync::atomic::Ordering::SeqCst;
@@ -19,7 +19,7 @@ impl Work<u32, u64> for Squares {
 
     ghost gives = { λ _ number square. square ≡ number * number };
 
-    fn work(&self, number: &u32) -> Result<u64, Memory> {
+    fn work(&self, number: &u32, _jobs: u8) -> Result<u64, Memory> {
         let number = u64::from(*number);
         Ok(number * number)
     }
@@ -37,7 +37,7 @@ impl<'a> Work<Text, Text> for Labels<'a> {
 
     ghost gives = { λ labels text label. label ≡ labels.name.now ++ text };
 
-    fn work(&self, text: &Text) -> Result<Text, Memory> {
+    fn work(&self, text: &Text, _jobs: u8) -> Result<Text, Memory> {
         let mut label = Text::from_slice(self.alloc, self.name)?;
         label.append(text.as_slice())?;
         Ok(label)
@@ -56,7 +56,7 @@ impl Work<usize, usize> for Counted {
 
     ghost gives = { λ _ item outcome. outcome ≡ item };
 
-    fn work(&self, item: &usize) -> Result<usize, Memory> {
+    fn work(&self, item: &usize, _jobs: u8) -> Result<usize, Memory> {
         if self.without == *item {
             return Err(Memory);
         }

@@ -5,9 +5,9 @@ ghost use Rattle.std.specs.Prelude.{◌≤◌, ◌<◌, ⊤};
 use abc_header::read_paper;
 use abc_lines::cut_book;
 use answer_texts::{end_line, put_count, put_word};
+use eng_halves::{Work, work_all};
 use mus_units::{Memory, Text};
 use set_book::{Gate, set_all};
-use set_halves::{Work, work_all};
 use set_tune::How;
 use std::alloc::Global;
 use std::sync::atomic::AtomicBool;
@@ -50,7 +50,7 @@ impl Work<usize, usize> for Meeting {
 
     ghost gives = { λ _ _ _. ⊤ };
 
-    fn work(&self, guest: &usize) -> Result<usize, Memory> {
+    fn work(&self, guest: &usize, _jobs: u8) -> Result<usize, Memory> {
         self.wait(*guest);
         Ok(*guest)
     }

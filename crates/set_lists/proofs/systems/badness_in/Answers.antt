@@ -1,5 +1,5 @@
 use Rattle.std.proofs.{Common.{◌∙◌, nat_lt, ap, rules, unwrap_or}, lemmas.List.Sorted.{IsPartitionPoint-from_clause, IsPartitionedBy-ltb}}
-use Rattle.set_lists.{specs.Systems.badness_in, proofs.Finding.in_order, proofs.Finding.listed_past}
+use Rattle.set_lists.{specs.Systems.badness_in, proofs.Finding.{in_order, listed_past}}
 use Rattle.set_lists.proofs.systems.badness_in.Goals as goal
 
 pub returns : goal.returns

@@ -1,5 +1,5 @@
 use Rattle.std.proofs.Common.{◌<◌, ◌+◌, ◌∙◌, length, drop, take, arith, ap}
-use Rattle.set_pages.{specs.Drawings.outcome_drawings, proofs.Stepping.IsSplit, proofs.Stepping.cut_at, proofs.Stepping.outcome_count, proofs.Stepping.outcome_drawn, proofs.Stepping.outcome_ready, proofs.Stepping.outcome_value}
+use Rattle.set_pages.{specs.Drawings.outcome_drawings, proofs.Stepping.{IsSplit, cut_at, outcome_count, outcome_drawn, outcome_ready, outcome_value}}
 use Rattle.set_pages.proofs.drawing.put_outcomes.Goals as goal
 
 pub split_at-requires : goal.split_at-requires

@@ -1,5 +1,5 @@
-use Rattle.std.{proofs.Common.◌≡◌, proofs.Common.drop, specs.List.AllZip}
-use Rattle.set_pages.specs.{Drawings.all_drawings, Filling.with_drawings, Ready.IsDrawn, Ready.IsReady}
+use Rattle.std.{proofs.Common.{◌≡◌, drop}, specs.List.AllZip}
+use Rattle.set_pages.specs.{Drawings.all_drawings, Filling.with_drawings, Ready.{IsDrawn, IsReady}}
 use Rattle.set_pages.proofs.drawing.put_outcomes.Given as goal
 
 abbrev pub invariant-loop-outcome : goal.invariant-loop-outcome

@@ -1,5 +1,5 @@
-use Rattle.std.{proofs.Common.◌≡◌, proofs.Common.drop, specs.List.AllZip}
-use Rattle.set_pages.specs.{Drawings.drawings_from, Drawings.system_contents, Drawings.systems_of, Filling.with_drawings, Ready.IsDrawn, Ready.IsReady}
+use Rattle.std.{proofs.Common.{◌≡◌, drop}, specs.List.AllZip}
+use Rattle.set_pages.specs.{Drawings.{drawings_from, system_contents, systems_of}, Filling.with_drawings, Ready.{IsDrawn, IsReady}}
 use Rattle.set_pages.proofs.drawing.put_systems.Given as goal
 
 abbrev pub invariant-loop-i : goal.invariant-loop-i

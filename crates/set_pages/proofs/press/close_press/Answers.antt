@@ -1,5 +1,5 @@
 use Rattle.std.proofs.Common.{◌≡◌, ◌∙◌, ap, rules}
-use Rattle.set_pages.{specs.declared.pages.Pages.Pages, proofs.Whole.are_last, proofs.Whole.done_none, proofs.Whole.done_of, proofs.Whole.done_some, proofs.Whole.is_begun, proofs.press.close_press.Goals.then-press-gt0+in_ok-turn, proofs.press.close_press.Goals.else-press-gt0}
+use Rattle.set_pages.{specs.declared.pages.Pages.Pages, proofs.{Whole.{are_last, done_none, done_of, done_some, is_begun}, press.close_press.Goals.{then-press-gt0+in_ok-turn, else-press-gt0}}}
 use Rattle.set_pages.proofs.press.close_press.Goals as goal
 
 pub returns : goal.returns

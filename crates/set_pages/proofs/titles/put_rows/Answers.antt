@@ -1,4 +1,4 @@
-use Rattle.std.proofs.{Common.◌≡◌, Common.◌<◌, Common.refl, Common.length, Common.arith, Common.to_z, Common.of_z, Common.w64, lemmas.Int.ints}
+use Rattle.std.proofs.{Common.{◌≡◌, ◌<◌, refl, length, arith, to_z, of_z, w64}, lemmas.Int.ints}
 use Rattle.set_pages.proofs.Stepping.{rows_all_good, rows_good, rows_value}
 use Rattle.set_pages.proofs.titles.put_rows.Goals as goal
 

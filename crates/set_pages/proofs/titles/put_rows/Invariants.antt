@@ -1,4 +1,4 @@
-use Rattle.std.{proofs.Common.◌≡◌, proofs.Common.◌++◌, proofs.Common.drop, proofs.Common.map, proofs.Common.take, specs.Prelude.All}
+use Rattle.std.{proofs.Common.{◌≡◌, ◌++◌, drop, map, take}, specs.Prelude.All}
 use Rattle.ps_text.specs.Range.{IsItem}
 use Rattle.set_pages.specs.Drawings.{row_at}
 use Rattle.set_pages.proofs.titles.put_rows.Given as goal

@@ -1,5 +1,5 @@
 use Rattle.std.{proofs.Common.{◌∙◌, ◌<◌, ◌^◌, List, length, ap, subst, sym}, specs.List.All}
-use Rattle.set_tune.{specs.Blocks.HasGoodHeight, specs.Blocks.blocks_of, proofs.Laid.few_blocks, proofs.Laid.good_heights}
+use Rattle.set_tune.{specs.Blocks.{HasGoodHeight, blocks_of}, proofs.Laid.{few_blocks, good_heights}}
 use Rattle.set_tune.proofs.setting.on_pages.Goals as goal
 
 pub blocks_of-requires : goal.blocks_of-requires

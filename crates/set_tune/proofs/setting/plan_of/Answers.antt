@@ -1,5 +1,5 @@
 use Rattle.std.proofs.Common.{◌≡◌, IfOk, Some, rules, subst}
-use Rattle.lay_shared.specs.{declared.plan.Plan.Plan, Plans.Spells, Plans.ids_of}
+use Rattle.lay_shared.specs.{declared.plan.Plan.Plan, Plans.{Spells, ids_of}}
 use Rattle.set_tune.proofs.setting.plan_of.Goals as goal
 
 pub returns-clause-only : goal.returns-clause-only

@@ -1,0 +1,41 @@
+-- What a tune is set by: the defaults of its file, its paper, and the manner of setting. The number of jobs isn't part of it, so what
+-- is said of a tune that is set holds for any number of them.
+use Rattle.std.specs.Prelude.{ℕ, ◌≤◌, ℤ, pos, Bool}
+use Rattle.abc_header.specs.declared.{defaults.Defaults.Defaults, paper.Paper.Paper}
+use Rattle.set_tune.specs.declared.how.How.{How}
+
+-- with `flow` no bar is forced; the score is moved by so many semitones
+pub record Manner : Type 0 where
+  pub flow : Bool
+  pub by : ℤ
+
+pub record Terms : Type 0 where
+  pub defaults : Defaults
+  pub paper : Paper
+  pub manner : Manner
+
+abbrev pub manner_by : Bool → ℤ → Manner
+manner_by flow by = record { flow = flow; by = by }
+
+abbrev pub terms_by : Defaults → Paper → Manner → Terms
+terms_by defaults paper manner = record { defaults = defaults; paper = paper; manner = manner }
+
+abbrev pub manner_of : How → Manner
+manner_of how = manner_by how.flow how.by
+
+abbrev pub terms_of : Defaults → Paper → How → Terms
+terms_of defaults paper how = terms_by defaults paper (manner_of how)
+
+-- as it is written
+abbrev pub unmoved : Bool → Manner
+unmoved flow = manner_by flow (pos 0)
+
+abbrev pub with_jobs : ℕ → How → How
+with_jobs jobs how = record { flow = how.flow; by = how.by; jobs = jobs }
+
+abbrev pub as_written : Bool → How
+as_written flow = record { flow = flow; by = pos 0; jobs = 1 }
+
+-- there are 1 to 64 jobs
+abbrev pub IsGoodHow : How → Type 0
+IsGoodHow how = (1 ≤ how.jobs) × (how.jobs ≤ 64)
