@@ -1,6 +1,6 @@
 -- What is answered where both texts are written, and where something else is called for.
 use Rattle.std.{proofs.Common.{◌≡◌, refl, sym, subst, ◌⊎◌, inl, inr, List, [], ℕ, ◌≤◌, length, Option}, specs.Io.KnownBytes.{Consumes, IsAtEnd}}
-use Rattle.abcps_words.specs.{declared.command.Command.Command, Command.Asks, Command.limit_of}
+use Rattle.abcps_words.specs.{declared.command.Command.Command, Command.{Asks, limit_of}}
 use Rattle.abcps.specs.{Outcome.{IsAnswer, IsAnswered, IsEnd, IsObeyed, IsQuiet, IsRead, IsReader, IsRun, ReadAll, Stream, TookAll, TookFront, WasTold}, Called.Called, Calls.{Calls, Refuses}, Refusals.{refusal_line, refusal_status}, declared.{refusing.Refusal.Refusal, status.Status.Status}}
 
 abbrev Is : Called → Called → Type 0

@@ -1,12 +1,12 @@
 -- A book that is set a batch of tunes at a time, and whose pages are written as they fill.
 use Rattle.std.{proofs.{Common.{◌≡◌, refl, sym, ap, ◌∙◌, subst, ℕ, ◌+◌, ◌≤◌, List, [], ◌++◌, append_assoc, length, take, drop, Option, arith}, lemmas.{Grind.flat_map-append, List.{append-nil, length-append, take-append-drop, Folds.list_any-append}}}, specs.Prelude.{◌||◌, All, OnOk, Result, Ok, Err}}
 use Rattle.abc_lines.specs.declared.book.TuneText.{TuneText}
-use Rattle.abc_header.specs.declared.{defaults.Defaults.Defaults, paper.Paper.Paper}
-use Rattle.ps_text.specs.{Document.numbered, Document.page_text, Prolog.prolog, declared.sheet.Page.Page}
-use Rattle.set_tune.specs.declared.how.How.{How}
-use Rattle.set_book.specs.{declared.outcome.Outcome.Outcome, Outcomes.AreOutcomes, Outcomes.IsOutcome}
+use Rattle.abc_header.specs.declared.paper.Paper.{Paper}
+use Rattle.ps_text.specs.{Document.{numbered, page_text}, Prolog.prolog, declared.sheet.Page.Page}
+use Rattle.set_book.specs.{declared.outcome.Outcome.Outcome, Outcomes.{AreOutcomes, IsOutcome}}
 use Rattle.set_lists.specs.Reports.{is_faulty, report, reports, some_fault}
 use Rattle.set_pages.{specs.{Press.{IsOpen, IsPressed, RisesBy, done_pages, no_press}, declared.plan.Plan.Plan, Sheet.{IsSetUnder, frame_of}}, proofs.{Joined.zip_append, Readying.set_outcomes, Whole.{none_open, none_pressed}}}
+use Rattle.set_tune.specs.Terms.{Terms}
 use Rattle.abcps.{specs.{Outcome.{Stream, TookAll}, Pressed.{AreCutOff, AreRunning, AreTaken, IsBegun, IsRunning, WasStopped, first_text}, declared.{pressing.Running.Running, status.Status.Status}}, proofs.Sent.{first_more, memory_behind, stopped_behind, stopped_longer, stream, took_behind}}
 
 pub on_ok : {T E P Q : Type 0} (r : Result T E) → (P → Q) → OnOk r P → OnOk r Q
@@ -49,35 +49,35 @@ abbrev pub IsCounted : TuneText → Type 0
 IsCounted tune = 1 ≤ tune.ordinal
 
 -- the outcomes of a batch, as they are pressed
-pub batch_set : (defaults : Defaults) (paper : Paper) (how : How) (batch : List TuneText) (outcomes at : List Outcome) → All IsCounted batch → at ≡ outcomes
-    → AreOutcomes defaults paper how batch outcomes → All (IsSetUnder paper) at
-batch_set defaults paper how batch outcomes at counted same set = subst (λ os. All (IsSetUnder paper) os) (sym same) (set_outcomes defaults paper how batch outcomes counted set)
+pub batch_set : (terms : Terms) (batch : List TuneText) (outcomes at : List Outcome) → All IsCounted batch → at ≡ outcomes
+    → AreOutcomes terms batch outcomes → All (IsSetUnder terms.paper) at
+batch_set terms batch outcomes at counted same set = subst (λ os. All (IsSetUnder terms.paper) os) (sym same) (set_outcomes terms batch outcomes counted set)
 
 -- the tunes before those that are left were set, and the document was written so far
-pub record IsUnderway (defaults : Defaults) (plan : Plan) (paper : Paper) (how : How) (tunes rest : List TuneText) (o : Stream) (r : Running) : Type 0 where
+pub record IsUnderway (terms : Terms) (plan : Plan) (tunes rest : List TuneText) (o : Stream) (r : Running) : Type 0 where
   pub before : List TuneText
   pub whole : before ++ rest ≡ tunes
-  pub running : AreRunning defaults plan paper how before o r
+  pub running : AreRunning terms plan before o r
 
-pub underway_first : (defaults : Defaults) (plan : Plan) (paper : Paper) (how : How) (tunes : List TuneText) (o : Stream) (r : Running) → RisesBy plan → TookAll o (prolog (frame_of paper)) → IsBegun r
-    → IsUnderway defaults plan paper how tunes tunes o r
-underway_first defaults plan paper how tunes o r rises took begun = record {
+pub underway_first : (terms : Terms) (plan : Plan) (tunes : List TuneText) (o : Stream) (r : Running) → RisesBy plan → TookAll o (prolog (frame_of terms.paper)) → IsBegun r
+    → IsUnderway terms plan tunes tunes o r
+underway_first terms plan tunes o r rises took begun = record {
   before = [];
   whole = refl;
   running = record {
     outcomes = [];
     given = [];
     set = tt;
-    running = begun.none plan paper rises;
+    running = begun.none plan terms.paper rises;
     free = begun.free;
-    wrote = subst (λ text. TookAll o text) (sym (append-nil (prolog (frame_of paper)))) took;
+    wrote = subst (λ text. TookAll o text) (sym (append-nil (prolog (frame_of terms.paper)))) took;
   };
 }
 
 -- the document was not begun
-pub cut_first : (defaults : Defaults) (plan : Plan) (paper : Paper) (how : How) (tunes : List TuneText) (o : Stream) (why : Status) → RisesBy plan → WasStopped why o (prolog (frame_of paper))
-    → AreCutOff defaults plan paper how tunes o why
-cut_first defaults plan paper how tunes o why rises stopped = record {
+pub cut_first : (terms : Terms) (plan : Plan) (tunes : List TuneText) (o : Stream) (why : Status) → RisesBy plan → WasStopped why o (prolog (frame_of terms.paper))
+    → AreCutOff terms plan tunes o why
+cut_first terms plan tunes o why rises stopped = record {
   before = [];
   rest = tunes;
   whole = refl;
@@ -85,17 +85,17 @@ cut_first defaults plan paper how tunes o why rises stopped = record {
   set = tt;
   given = [];
   press = no_press;
-  pressed = none_pressed plan paper rises;
+  pressed = none_pressed plan terms.paper rises;
   free = none_open;
-  wrote = stopped_longer why o (prolog (frame_of paper)) [] stopped;
+  wrote = stopped_longer why o (prolog (frame_of terms.paper)) [] stopped;
 }
 
-module _ (defaults : Defaults) (plan : Plan) (paper : Paper) (how : How) (tunes rest : List TuneText) where
+module _ (terms : Terms) (plan : Plan) (tunes rest : List TuneText) where
   -- the pages that are done were written before the next batch
-  pub underway_written : (b m a : Option (List ℕ)) (n k l : ℕ) (r s : Running) (way : IsUnderway defaults plan paper how tunes rest (stream b m n k) r)
+  pub underway_written : (b m a : Option (List ℕ)) (n k l : ℕ) (r s : Running) (way : IsUnderway terms plan tunes rest (stream b m n k) r)
       → TookAll (stream m a k l) (numbered page_text (r.writer.pages + 1) (done_pages r.press))
-      → ((outcomes : List Outcome) (given : List Page) → IsRunning plan paper outcomes given r → IsRunning plan paper outcomes (given ++ done_pages r.press) s) → IsOpen s.press
-      → IsUnderway defaults plan paper how tunes rest (stream b a n l) s
+      → ((outcomes : List Outcome) (given : List Page) → IsRunning plan terms.paper outcomes given r → IsRunning plan terms.paper outcomes (given ++ done_pages r.press) s) → IsOpen s.press
+      → IsUnderway terms plan tunes rest (stream b a n l) s
   underway_written b m a n k l r s way took written free =
       let run = way.running in
       let sent = subst (λ j. TookAll (stream m a k l) (numbered page_text (j + 1) (done_pages r.press))) run.running.count took in
@@ -108,14 +108,14 @@ module _ (defaults : Defaults) (plan : Plan) (paper : Paper) (how : How) (tunes 
           set = run.set;
           running = written run.outcomes run.given run.running;
           free = free;
-          wrote = subst (λ text. TookAll (stream b a n l) text) (sym (first_more paper run.given (done_pages r.press)))
-              (took_behind b m a n k l (first_text paper run.given) run.wrote.0 run.wrote.1 (numbered page_text (length run.given + 1) (done_pages r.press)) sent);
+          wrote = subst (λ text. TookAll (stream b a n l) text) (sym (first_more terms.paper run.given (done_pages r.press)))
+              (took_behind b m a n k l (first_text terms.paper run.given) run.wrote.0 run.wrote.1 (numbered page_text (length run.given + 1) (done_pages r.press)) sent);
         };
       }
 
   -- the document goes no further than these pages
-  cut_by : (p o : Stream) (r : Running) (why : Status) (way : IsUnderway defaults plan paper how tunes rest p r)
-      → WasStopped why o (first_text paper way.running.given ++ numbered page_text (length way.running.given + 1) (done_pages r.press)) → AreCutOff defaults plan paper how tunes o why
+  cut_by : (p o : Stream) (r : Running) (why : Status) (way : IsUnderway terms plan tunes rest p r)
+      → WasStopped why o (first_text terms.paper way.running.given ++ numbered page_text (length way.running.given + 1) (done_pages r.press)) → AreCutOff terms plan tunes o why
   cut_by p o r why way stopped =
       let run = way.running in
       record {
@@ -128,21 +128,21 @@ module _ (defaults : Defaults) (plan : Plan) (paper : Paper) (how : How) (tunes 
         press = r.press;
         pressed = run.running.pressed;
         free = run.free;
-        wrote = subst (λ text. WasStopped why o text) (sym (first_more paper run.given (done_pages r.press))) stopped;
+        wrote = subst (λ text. WasStopped why o text) (sym (first_more terms.paper run.given (done_pages r.press))) stopped;
       }
 
   -- or were not
-  pub cut_written : (b m a : Option (List ℕ)) (n k l : ℕ) (r : Running) (why : Status) → IsUnderway defaults plan paper how tunes rest (stream b m n k) r
-      → WasStopped why (stream m a k l) (numbered page_text (r.writer.pages + 1) (done_pages r.press)) → AreCutOff defaults plan paper how tunes (stream b a n l) why
+  pub cut_written : (b m a : Option (List ℕ)) (n k l : ℕ) (r : Running) (why : Status) → IsUnderway terms plan tunes rest (stream b m n k) r
+      → WasStopped why (stream m a k l) (numbered page_text (r.writer.pages + 1) (done_pages r.press)) → AreCutOff terms plan tunes (stream b a n l) why
   cut_written b m a n k l r why way stopped =
       let run = way.running in
       let sent = subst (λ j. WasStopped why (stream m a k l) (numbered page_text (j + 1) (done_pages r.press))) run.running.count stopped in
       cut_by (stream b m n k) (stream b a n l) r why way
-      (stopped_behind b m a n k l (first_text paper run.given) run.wrote.0 run.wrote.1 why (numbered page_text (length run.given + 1) (done_pages r.press)) sent)
+      (stopped_behind b m a n k l (first_text terms.paper run.given) run.wrote.0 run.wrote.1 why (numbered page_text (length run.given + 1) (done_pages r.press)) sent)
 
   -- a batch was set
-  pub underway_more : (batch later : List TuneText) (n : ℕ) (o : Stream) (r s : Running) → batch ≡ take n rest → later ≡ drop n rest → AreTaken defaults plan paper how batch r s → IsOpen s.press
-      → IsUnderway defaults plan paper how tunes rest o r → IsUnderway defaults plan paper how tunes later o s
+  pub underway_more : (batch later : List TuneText) (n : ℕ) (o : Stream) (r s : Running) → batch ≡ take n rest → later ≡ drop n rest → AreTaken terms plan batch r s → IsOpen s.press
+      → IsUnderway terms plan tunes rest o r → IsUnderway terms plan tunes later o s
   underway_more batch later n o r s front back taken free way =
       let run = way.running in
       record {
@@ -153,7 +153,7 @@ module _ (defaults : Defaults) (plan : Plan) (paper : Paper) (how : How) (tunes 
         running = record {
           outcomes = run.outcomes ++ taken.outcomes;
           given = run.given;
-          set = zip_append (IsOutcome defaults paper how) way.before batch run.outcomes taken.outcomes run.set taken.set;
+          set = zip_append (IsOutcome terms) way.before batch run.outcomes taken.outcomes run.set taken.set;
           running = taken.taken run.outcomes run.given run.running;
           free = free;
           wrote = run.wrote;
@@ -161,8 +161,8 @@ module _ (defaults : Defaults) (plan : Plan) (paper : Paper) (how : How) (tunes 
       }
 
   -- or was not, for want of memory
-  pub cut_memory : (o : Stream) (r : Running) (why : Status) → why ≡ Status.Memory → IsUnderway defaults plan paper how tunes rest o r → AreCutOff defaults plan paper how tunes o why
+  pub cut_memory : (o : Stream) (r : Running) (why : Status) → why ≡ Status.Memory → IsUnderway terms plan tunes rest o r → AreCutOff terms plan tunes o why
   cut_memory o r why is way =
       let run = way.running in
       let pages = numbered page_text (length run.given + 1) (done_pages r.press) in
-      cut_by o o r why way (subst (λ s. WasStopped s o (first_text paper run.given ++ pages)) (sym is) (memory_behind o (first_text paper run.given) pages run.wrote))
+      cut_by o o r why way (subst (λ s. WasStopped s o (first_text terms.paper run.given ++ pages)) (sym is) (memory_behind o (first_text terms.paper run.given) pages run.wrote))

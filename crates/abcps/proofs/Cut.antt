@@ -1,13 +1,13 @@
 -- A book whose document was written, and one whose document was not written to its end.
 use Rattle.std.{proofs.{Common.{◌≡◌, refl, sym, ap, ◌∙◌, subst, ◌⊎◌, inl, inr, ℕ, ◌<◌, Bool, true, false, List, [], ◌∷◌, ◌++◌, length, take, drop, arith, Option}, lemmas.List.{append-nil, append_assoc, length-append, take-append-drop}, Math.Seq.take-append_seam}, specs.Prelude.{Result, Ok, Err}}
-use Rattle.abc_lines.specs.{declared.book.Book.Book, declared.book.TuneText.TuneText, Books.book_of}
-use Rattle.abc_header.specs.{declared.defaults.Defaults.Defaults, declared.paper.Paper.Paper, Defaults.defaults_of, Papers.IsGoodPaper, Papers.height_of, Papers.paper_of}
+use Rattle.abc_lines.specs.{declared.book.{Book.Book, TuneText.TuneText}, Books.book_of}
+use Rattle.abc_header.specs.{declared.{defaults.Defaults.Defaults, paper.Paper.Paper}, Defaults.defaults_of, Papers.{IsGoodPaper, height_of, paper_of}}
 use Rattle.ps_text.specs.{Document.document, declared.sheet.Page.Page}
-use Rattle.set_tune.specs.declared.how.How.{How}
-use Rattle.set_book.{specs.declared.outcome.Outcome.Outcome, specs.Outcomes.AreOutcomes, specs.Outcomes.IsOutcome, proofs.Once.outcomes_once}
+use Rattle.set_book.{specs.{declared.outcome.Outcome.Outcome, Outcomes.{AreOutcomes, IsOutcome}}, proofs.Once.outcomes_once}
 use Rattle.set_lists.specs.Reports.{some_fault}
 use Rattle.set_pages.{specs.{Sheet.{IsPlan, all_spots, frame_of, sheet_of}, declared.{plan.Plan.Plan, press.Press.Press}, Drawings.{all_blocks, all_drawings}, Press.{HasRoom, IsOpen, IsPressed, RisesBy, done_pages}}, proofs.{Fronts.{IsFront, done_first, done_front}, Whole.{one_plan, plan_rises, plan_stands, room_by, sheet_whole, stand_count}, Zips.{zip_back, zip_front}}}
-use Rattle.abcps.{specs.{Pressed.{AreCutOff, AreRunning, IsClosed, IsPlanned, IsPrinted, IsUnprinted, WasCounted, WasStopped, all_set, first_text, rest_text, some_left, status_if, unbegun}, Called.Called, Books.{AreSet, CallsPages, pages_called, paper_in}, Outcome.{HasFront, IsAnswer, IsCutShort, IsEnd, IsQuiet, Stream, TookAll, TookFront}, declared.{pressing.{Printed.Printed, Running.Running}, status.Status.Status}}, proofs.{Sent.{document_parts, front_longer, stopped_behind, stopped_count, stopped_front, stopped_longer, stream, took_behind}, Answered.{answer_by, answered_end}, Batches.IsUnderway, BookCalls.set_under}}
+use Rattle.abcps.{specs.{Pressed.{AreCutOff, AreRunning, IsClosed, IsPlanned, IsPrinted, IsUnprinted, WasCounted, WasStopped, all_set, first_text, rest_text, some_left, status_if, unbegun}, Called.Called, Books.{AreSet, CallsPages, pages_called, paper_in, terms_in}, Outcome.{HasFront, IsAnswer, IsCutShort, IsEnd, IsQuiet, Stream, TookAll, TookFront}, declared.{pressing.{Printed.Printed, Running.Running}, status.Status.Status}}, proofs.{Sent.{document_parts, front_longer, stopped_behind, stopped_count, stopped_front, stopped_longer, stream, took_behind}, Answered.{answer_by, answered_end}, Batches.IsUnderway, BookCalls.set_under}}
+use Rattle.set_tune.specs.Terms.{Manner, Terms}
 use Rattle.abcps_words.specs.declared.command.Command.{Command}
 
 -- pages that were given up are the first of a sheet, and so is their text of its document
@@ -23,9 +23,9 @@ pub parts_of : (plan : Plan) (paper : Paper) (outcomes : List Outcome) (given : 
 parts_of plan paper outcomes given front = document_parts paper given (sheet_of plan paper outcomes) (frame_same plan paper outcomes) front
 
 -- what `set` calls for, where all tunes were set
-pub calls_pages : (how : How) (even : Bool) (text : List ℕ) (outcomes : List Outcome) (plan : Plan) (given : List Page) (press : Press) → AreSet how text outcomes → IsPlan even (paper_in text) outcomes plan
-    → IsGoodPaper (paper_in text) → IsOpen press → IsPressed plan (paper_in text) outcomes given press → CallsPages how even text (pages_called plan (paper_in text) outcomes)
-calls_pages how even text outcomes plan given press set planned good free pressed =
+pub calls_pages : (manner : Manner) (even : Bool) (text : List ℕ) (outcomes : List Outcome) (plan : Plan) (given : List Page) (press : Press) → AreSet manner text outcomes → IsPlan even (paper_in text) outcomes plan
+    → IsGoodPaper (paper_in text) → IsOpen press → IsPressed plan (paper_in text) outcomes given press → CallsPages manner even text (pages_called plan (paper_in text) outcomes)
+calls_pages manner even text outcomes plan given press set planned good free pressed =
     let sheet = sheet_whole plan (paper_in text) outcomes given press good free pressed in
     let stand = plan_stands even (paper_in text) outcomes plan good pressed.set pressed.good planned in
     record {
@@ -43,55 +43,55 @@ calls_pages how even text outcomes plan given press set planned good free presse
     }
 
 -- the plan of all outcomes of some tunes
-pub plan_of_all : (even : Bool) (defaults : Defaults) (paper : Paper) (how : How) (tunes : List TuneText) (plan : Plan) (all : List Outcome) → IsPlanned even defaults paper how tunes plan
-    → AreOutcomes defaults paper how tunes all → IsPlan even paper all plan
-plan_of_all false defaults paper how tunes plan all planned set = planned
-plan_of_all true defaults paper how tunes plan all planned set =
-    subst (λ os. IsPlan true paper os plan) (outcomes_once defaults paper how tunes planned.0 all planned.1 set) planned.2
+pub plan_of_all : (even : Bool) (terms : Terms) (tunes : List TuneText) (plan : Plan) (all : List Outcome) → IsPlanned even terms tunes plan
+    → AreOutcomes terms tunes all → IsPlan even terms.paper all plan
+plan_of_all false terms tunes plan all planned set = planned
+plan_of_all true terms tunes plan all planned set =
+    subst (λ os. IsPlan true terms.paper os plan) (outcomes_once terms tunes planned.0 all planned.1 set) planned.2
 
-pub planned_rises : (even : Bool) (defaults : Defaults) (paper : Paper) (how : How) (tunes : List TuneText) (plan : Plan) → IsPlanned even defaults paper how tunes plan → RisesBy plan
-planned_rises false defaults paper how tunes plan planned = plan_rises false paper [] plan planned
-planned_rises true defaults paper how tunes plan planned = plan_rises true paper planned.0 plan planned.2
+pub planned_rises : (even : Bool) (terms : Terms) (tunes : List TuneText) (plan : Plan) → IsPlanned even terms tunes plan → RisesBy plan
+planned_rises false terms tunes plan planned = plan_rises false terms.paper [] plan planned
+planned_rises true terms tunes plan planned = plan_rises true terms.paper planned.0 plan planned.2
 
 -- the first of some outcomes are those of the first tunes
-first_outcomes : (defaults : Defaults) (paper : Paper) (how : How) (before rest : List TuneText) (outcomes all : List Outcome) → AreOutcomes defaults paper how before outcomes
-    → AreOutcomes defaults paper how (before ++ rest) all → all ≡ outcomes ++ drop (length before) all
-first_outcomes defaults paper how before rest outcomes all set whole =
+first_outcomes : (terms : Terms) (before rest : List TuneText) (outcomes all : List Outcome) → AreOutcomes terms before outcomes
+    → AreOutcomes terms (before ++ rest) all → all ≡ outcomes ++ drop (length before) all
+first_outcomes terms before rest outcomes all set whole =
     sym (take-append-drop (length before) all)
-    ∙ ap (λ l. l ++ drop (length before) all) (outcomes_once defaults paper how before (take (length before) all) outcomes (zip_front (IsOutcome defaults paper how) before rest all whole) set)
+    ∙ ap (λ l. l ++ drop (length before) all) (outcomes_once terms before (take (length before) all) outcomes (zip_front (IsOutcome terms) before rest all whole) set)
 
 -- a batch finds room behind the tunes before it
-pub planned_room : (even : Bool) (defaults : Defaults) (paper : Paper) (how : How) (before batch later : List TuneText) (plan : Plan) (first more : List Outcome) (given : List Page) (p : Press)
-    → IsPlanned even defaults paper how (before ++ (batch ++ later)) plan → AreOutcomes defaults paper how before first → AreOutcomes defaults paper how batch more → IsPressed plan paper first given p
-    → HasRoom plan (height_of paper) p (all_blocks more)
-planned_room false defaults paper how before batch later plan first more given p planned set also pressed = subst (λ q. HasRoom q (height_of paper) p (all_blocks more)) (sym planned) tt
-planned_room true defaults paper how before batch later plan first more given p planned set also pressed =
+pub planned_room : (even : Bool) (terms : Terms) (before batch later : List TuneText) (plan : Plan) (first more : List Outcome) (given : List Page) (p : Press)
+    → IsPlanned even terms (before ++ (batch ++ later)) plan → AreOutcomes terms before first → AreOutcomes terms batch more → IsPressed plan terms.paper first given p
+    → HasRoom plan (height_of terms.paper) p (all_blocks more)
+planned_room false terms before batch later plan first more given p planned set also pressed = subst (λ q. HasRoom q (height_of terms.paper) p (all_blocks more)) (sym planned) tt
+planned_room true terms before batch later plan first more given p planned set also pressed =
     let all = planned.0 in
     let rest = drop (length before) all in
-    let one = first_outcomes defaults paper how before (batch ++ later) first all set planned.1 in
-    let behind : AreOutcomes defaults paper how (batch ++ later) rest = zip_back (IsOutcome defaults paper how) before (batch ++ later) all planned.1 in
-    let two = first_outcomes defaults paper how batch later more rest also behind in
-    room_by true paper first more (drop (length batch) rest) plan p pressed.put (subst (λ os. IsPlan true paper os plan) (one ∙ ap (λ os. first ++ os) two) planned.2)
+    let one = first_outcomes terms before (batch ++ later) first all set planned.1 in
+    let behind : AreOutcomes terms (batch ++ later) rest = zip_back (IsOutcome terms) before (batch ++ later) all planned.1 in
+    let two = first_outcomes terms batch later more rest also behind in
+    room_by true terms.paper first more (drop (length batch) rest) plan p pressed.put (subst (λ os. IsPlan true terms.paper os plan) (one ∙ ap (λ os. first ++ os) two) planned.2)
 
-pub room_underway : (even : Bool) (defaults : Defaults) (plan : Plan) (paper : Paper) (how : How) (tunes rest batch : List TuneText) (n : ℕ) (o : Stream) (r : Running) (more : List Outcome) → batch ≡ take n rest
-    → IsPlanned even defaults paper how tunes plan → IsUnderway defaults plan paper how tunes rest o r → AreOutcomes defaults paper how batch more → HasRoom plan (height_of paper) r.press (all_blocks more)
-room_underway even defaults plan paper how tunes rest batch n o r more front planned way set =
+pub room_underway : (even : Bool) (terms : Terms) (plan : Plan) (tunes rest batch : List TuneText) (n : ℕ) (o : Stream) (r : Running) (more : List Outcome) → batch ≡ take n rest
+    → IsPlanned even terms tunes plan → IsUnderway terms plan tunes rest o r → AreOutcomes terms batch more → HasRoom plan (height_of terms.paper) r.press (all_blocks more)
+room_underway even terms plan tunes rest batch n o r more front planned way set =
     let run = way.running in
     let cut : rest ≡ batch ++ drop n rest = sym (take-append-drop n rest) ∙ ap (λ l. l ++ drop n rest) (sym front) in
     let whole : tunes ≡ way.before ++ (batch ++ drop n rest) = sym way.whole ∙ ap (λ l. way.before ++ l) cut in
-    planned_room even defaults paper how way.before batch (drop n rest) plan run.outcomes more run.given r.press
-    (subst (λ l. IsPlanned even defaults paper how l plan) whole planned) run.set set run.running.pressed
+    planned_room even terms way.before batch (drop n rest) plan run.outcomes more run.given r.press
+    (subst (λ l. IsPlanned even terms l plan) whole planned) run.set set run.running.pressed
 
 -- the pages that were done when some tunes were set are the first of whatever the book calls for
-front_called : (defaults : Defaults) (plan : Plan) (paper : Paper) (how : How) (before rest : List TuneText) (outcomes all : List Outcome) (given : List Page) (press : Press)
-    → AreOutcomes defaults paper how before outcomes → IsPressed plan paper outcomes given press → AreOutcomes defaults paper how (before ++ rest) all → length (all_drawings all) ≡ length (all_spots plan paper all)
-    → IsFront (given ++ done_pages press) (sheet_of plan paper all).pages
-front_called defaults plan paper how before rest outcomes all given press set pressed whole count =
-    let parts = first_outcomes defaults paper how before rest outcomes all set whole in
+front_called : (terms : Terms) (plan : Plan) (before rest : List TuneText) (outcomes all : List Outcome) (given : List Page) (press : Press)
+    → AreOutcomes terms before outcomes → IsPressed plan terms.paper outcomes given press → AreOutcomes terms (before ++ rest) all → length (all_drawings all) ≡ length (all_spots plan terms.paper all)
+    → IsFront (given ++ done_pages press) (sheet_of plan terms.paper all).pages
+front_called terms plan before rest outcomes all given press set pressed whole count =
+    let parts = first_outcomes terms before rest outcomes all set whole in
     let more = drop (length before) all in
-    subst (λ os. IsFront (given ++ done_pages press) (sheet_of plan paper os).pages) (sym parts)
-    (done_front plan paper outcomes more given press pressed
-    (subst (λ os. length (all_drawings os) ≡ length (all_spots plan paper os)) parts count))
+    subst (λ os. IsFront (given ++ done_pages press) (sheet_of plan terms.paper os).pages) (sym parts)
+    (done_front plan terms.paper outcomes more given press pressed
+    (subst (λ os. length (all_drawings os) ≡ length (all_spots plan terms.paper os)) parts count))
 
 text_front : (plan : Plan) (paper : Paper) (outcomes : List Outcome) (given : List Page) (o : Stream) → IsFront given (sheet_of plan paper outcomes).pages → HasFront o (first_text paper given)
     → HasFront o (document (sheet_of plan paper outcomes))
@@ -107,9 +107,9 @@ count_left before rest tunes tune whole =
 first_tunes : (before rest tunes : List TuneText) → before ++ rest ≡ tunes → before ≡ take (length before) tunes
 first_tunes before rest tunes whole = sym (take-append_seam before rest) ∙ ap (λ l. take (length before) l) whole
 
-module _ (how : How) (even : Bool) (text : List ℕ) (plan : Plan) (o : Stream) (why : Status) (good : IsGoodPaper (paper_in text))
-    (planned : IsPlanned even (defaults_of (book_of text).header) (paper_in text) how (book_of text).tunes plan)
-    (cut : AreCutOff (defaults_of (book_of text).header) plan (paper_in text) how (book_of text).tunes o why) where
+module _ (manner : Manner) (even : Bool) (text : List ℕ) (plan : Plan) (o : Stream) (why : Status) (good : IsGoodPaper (paper_in text))
+    (planned : IsPlanned even (terms_in manner text) (book_of text).tunes plan)
+    (cut : AreCutOff (terms_in manner text) plan (book_of text).tunes o why) where
   -- the front of a document that went out
   stopped_all : WasStopped why o (document (sheet_of plan (paper_in text) cut.outcomes))
   stopped_all =
@@ -117,29 +117,29 @@ module _ (how : How) (even : Bool) (text : List ℕ) (plan : Plan) (o : Stream) 
       subst (λ l. WasStopped why o l) (sym (parts_of plan (paper_in text) cut.outcomes given (done_first plan (paper_in text) cut.outcomes cut.given cut.press cut.pressed)))
       (stopped_longer why o (first_text (paper_in text) given) (rest_text given (sheet_of plan (paper_in text) cut.outcomes)) cut.wrote)
 
-  front_all : (called : Called) → CallsPages how even text called → HasFront o called.page
+  front_all : (called : Called) → CallsPages manner even text called → HasFront o called.page
   front_all called calls =
       let given = cut.given ++ done_pages cut.press in
-      let whole = subst (λ l. AreOutcomes (defaults_of (book_of text).header) (paper_in text) how l calls.outcomes) (sym cut.whole) calls.set in
-      let same = one_plan even (paper_in text) calls.outcomes plan calls.plan (plan_of_all even (defaults_of (book_of text).header) (paper_in text) how (book_of text).tunes plan calls.outcomes planned calls.set) calls.parted in
+      let whole = subst (λ l. AreOutcomes (terms_in manner text) l calls.outcomes) (sym cut.whole) calls.set in
+      let same = one_plan even (paper_in text) calls.outcomes plan calls.plan (plan_of_all even (terms_in manner text) (book_of text).tunes plan calls.outcomes planned calls.set) calls.parted in
       let count = subst (λ p. length (all_drawings calls.outcomes) ≡ length (all_spots p (paper_in text) calls.outcomes)) same
-      (stand_count calls.plan (paper_in text) calls.outcomes (set_under how text (paper_in text) calls.outcomes refl calls.set) calls.blocks) in
-      let front = front_called (defaults_of (book_of text).header) plan (paper_in text) how cut.before cut.rest cut.outcomes calls.outcomes cut.given cut.press cut.set cut.pressed whole count in
+      (stand_count calls.plan (paper_in text) calls.outcomes (set_under manner text (paper_in text) calls.outcomes refl calls.set) calls.blocks) in
+      let front = front_called (terms_in manner text) plan cut.before cut.rest cut.outcomes calls.outcomes cut.given cut.press cut.set cut.pressed whole count in
       subst (λ l. HasFront o l) (ap (λ p. document (sheet_of p (paper_in text) calls.outcomes)) (sym same) ∙ ap document (sym calls.whole) ∙ calls.read.spelled)
       (text_front plan (paper_in text) calls.outcomes given o front (stopped_front why o (first_text (paper_in text) given) cut.wrote))
 
   first_filled : even ≡ false → HasFront o (document (sheet_of Plan.Filled (paper_in text) cut.outcomes))
   first_filled e =
       subst (λ p. HasFront o (document (sheet_of p (paper_in text) cut.outcomes)))
-      (subst (λ b. IsPlanned b (defaults_of (book_of text).header) (paper_in text) how (book_of text).tunes plan) e planned)
+      (subst (λ b. IsPlanned b (terms_in manner text) (book_of text).tunes plan) e planned)
       (stopped_front why o (document (sheet_of plan (paper_in text) cut.outcomes)) stopped_all)
 
-  unprinted_by : (rest : List TuneText) → cut.rest ≡ rest → IsUnprinted how even text o why
+  unprinted_by : (rest : List TuneText) → cut.rest ≡ rest → IsUnprinted manner even text o why
   unprinted_by [] none =
       let tunes = sym (append-nil cut.before) ∙ ap (λ l. cut.before ++ l) (sym none) ∙ cut.whole in
-      let set = subst (λ l. AreOutcomes (defaults_of (book_of text).header) (paper_in text) how l cut.outcomes) tunes cut.set in
-      let parted = plan_of_all even (defaults_of (book_of text).header) (paper_in text) how (book_of text).tunes plan cut.outcomes planned set in
-      all_set (pages_called plan (paper_in text) cut.outcomes) (calls_pages how even text cut.outcomes plan cut.given cut.press set parted good cut.free cut.pressed) stopped_all
+      let set = subst (λ l. AreOutcomes (terms_in manner text) l cut.outcomes) tunes cut.set in
+      let parted = plan_of_all even (terms_in manner text) (book_of text).tunes plan cut.outcomes planned set in
+      all_set (pages_called plan (paper_in text) cut.outcomes) (calls_pages manner even text cut.outcomes plan cut.given cut.press set parted good cut.free cut.pressed) stopped_all
   unprinted_by (tune ∷ rest) is =
       let whole = ap (λ l. cut.before ++ l) (sym is) ∙ cut.whole in
       some_left
@@ -147,31 +147,31 @@ module _ (how : How) (even : Bool) (text : List ℕ) (plan : Plan) (o : Stream) 
         count = length cut.before;
         left = count_left cut.before rest (book_of text).tunes tune whole;
         outcomes = cut.outcomes;
-        set = subst (λ l. AreOutcomes (defaults_of (book_of text).header) (paper_in text) how l cut.outcomes) (first_tunes cut.before cut.rest (book_of text).tunes cut.whole) cut.set;
+        set = subst (λ l. AreOutcomes (terms_in manner text) l cut.outcomes) (first_tunes cut.before cut.rest (book_of text).tunes cut.whole) cut.set;
         first = first_filled;
         all = front_all;
       })
       (stopped_count why o (document (sheet_of plan (paper_in text) cut.outcomes)) stopped_all)
 
   -- the document of a book was not written to its end
-  pub unprinted : IsUnprinted how even text o why
+  pub unprinted : IsUnprinted manner even text o why
   unprinted = unprinted_by cut.rest refl
 
-module _ (how : How) (even : Bool) (text : List ℕ) (plan : Plan) (b m a : Option (List ℕ)) (n k l : ℕ) (r : Running) (good : IsGoodPaper (paper_in text))
-    (planned : IsPlanned even (defaults_of (book_of text).header) (paper_in text) how (book_of text).tunes plan)
-    (run : AreRunning (defaults_of (book_of text).header) plan (paper_in text) how (book_of text).tunes (stream b m n k) r) where
+module _ (manner : Manner) (even : Bool) (text : List ℕ) (plan : Plan) (b m a : Option (List ℕ)) (n k l : ℕ) (r : Running) (good : IsGoodPaper (paper_in text))
+    (planned : IsPlanned even (terms_in manner text) (book_of text).tunes plan)
+    (run : AreRunning (terms_in manner text) plan (book_of text).tunes (stream b m n k) r) where
   parts_all : document (sheet_of plan (paper_in text) run.outcomes) ≡ first_text (paper_in text) run.given ++ rest_text run.given (sheet_of plan (paper_in text) run.outcomes)
   parts_all =
       parts_of plan (paper_in text) run.outcomes run.given
       (given_front run.given (done_pages r.press) (sheet_of plan (paper_in text) run.outcomes).pages (done_first plan (paper_in text) run.outcomes run.given r.press run.running.pressed))
 
-  calls_all : CallsPages how even text (pages_called plan (paper_in text) run.outcomes)
+  calls_all : CallsPages manner even text (pages_called plan (paper_in text) run.outcomes)
   calls_all =
-      calls_pages how even text run.outcomes plan run.given r.press run.set
-      (plan_of_all even (defaults_of (book_of text).header) (paper_in text) how (book_of text).tunes plan run.outcomes planned run.set) good run.free run.running.pressed
+      calls_pages manner even text run.outcomes plan run.given r.press run.set
+      (plan_of_all even (terms_in manner text) (book_of text).tunes plan run.outcomes planned run.set) good run.free run.running.pressed
 
   -- the tunes of a book were set, and what was left of its document was written, or not to its end
-  pub printed : (p : Result Printed Status) → IsClosed plan (paper_in text) run.outcomes run.given (stream m a k l) p → IsPrinted how even text (stream b a n l) p
+  pub printed : (p : Result Printed Status) → IsClosed plan (paper_in text) run.outcomes run.given (stream m a k l) p → IsPrinted manner even text (stream b a n l) p
   printed (Ok p) closed = (
     pages_called plan (paper_in text) run.outcomes,
     calls_all,
@@ -199,28 +199,28 @@ status_end : (refused : Bool) → IsEnd (status_if refused)
 status_end true = tt
 status_end false = tt
 
-pub answer_printed : (how : How) (even : Bool) (jobs : ℕ) (text : List ℕ) (o e : Stream) (s with : Status) (told : List ℕ) (called : Called) → CallsPages how even text called → told ≡ called.told → with ≡ called.status
-    → TookAll o called.page → ((s ≡ with) × TookAll e told) ⊎ ((s ≡ Status.WriteFault) × TookFront e told) → IsAnswer (Command.Set how.flow jobs how.by even) s text o e
-answer_printed how even jobs text o e s with told called calls tells ends page (inl end) =
-    answer_by (Command.Set how.flow jobs how.by even) text called calls o e s
+pub answer_printed : (manner : Manner) (even : Bool) (jobs : ℕ) (text : List ℕ) (o e : Stream) (s with : Status) (told : List ℕ) (called : Called) → CallsPages manner even text called → told ≡ called.told → with ≡ called.status
+    → TookAll o called.page → ((s ≡ with) × TookAll e told) ⊎ ((s ≡ Status.WriteFault) × TookFront e told) → IsAnswer (Command.Set manner.flow jobs manner.by even) s text o e
+answer_printed manner even jobs text o e s with told called calls tells ends page (inl end) =
+    answer_by (Command.Set manner.flow jobs manner.by even) text called calls o e s
     (answered_end called o e s (subst IsEnd (sym calls.status) (status_end (some_fault calls.outcomes))) page (inl (end.0 ∙ ends, subst (λ t. TookAll e t) tells end.1)))
-answer_printed how even jobs text o e s with told called calls tells ends page (inr cut) =
-    answer_by (Command.Set how.flow jobs how.by even) text called calls o e s
+answer_printed manner even jobs text o e s with told called calls tells ends page (inr cut) =
+    answer_by (Command.Set manner.flow jobs manner.by even) text called calls o e s
     (answered_end called o e s (subst IsEnd (sym calls.status) (status_end (some_fault calls.outcomes))) page (inr (cut.0, subst (λ t. TookFront e t) tells cut.1)))
 
 -- what it answers where its document was not written to its end
-module _ (how : How) (even : Bool) (jobs : ℕ) (text : List ℕ) (o e : Stream) (quiet : IsQuiet e) where
-  answer_all : (why : Status) (called : Called) → CallsPages how even text called → WasStopped why o called.page → IsAnswer (Command.Set how.flow jobs how.by even) why text o e
+module _ (manner : Manner) (even : Bool) (jobs : ℕ) (text : List ℕ) (o e : Stream) (quiet : IsQuiet e) where
+  answer_all : (why : Status) (called : Called) → CallsPages manner even text called → WasStopped why o called.page → IsAnswer (Command.Set manner.flow jobs manner.by even) why text o e
   answer_all Status.WriteFault called calls stopped = inl (called, calls, inl (stopped, quiet))
   answer_all Status.Memory called calls stopped = (quiet, inr (inl (called, calls, stopped)))
   answer_all why called calls stopped = absurd stopped
 
-  answer_some : (why : Status) → IsCutShort how even text o → WasCounted why o → IsAnswer (Command.Set how.flow jobs how.by even) why text o e
+  answer_some : (why : Status) → IsCutShort manner even text o → WasCounted why o → IsAnswer (Command.Set manner.flow jobs manner.by even) why text o e
   answer_some Status.WriteFault cut counted = inr (cut, counted, quiet)
   answer_some Status.Memory cut counted = (quiet, inr (inr (cut, counted)))
   answer_some why cut counted = absurd counted
 
-  pub answer_unprinted : (why : Status) → IsUnprinted how even text o why → IsAnswer (Command.Set how.flow jobs how.by even) why text o e
-  answer_unprinted why (unbegun is none) = subst (λ s. IsAnswer (Command.Set how.flow jobs how.by even) s text o e) (sym is) (quiet, inl none)
+  pub answer_unprinted : (why : Status) → IsUnprinted manner even text o why → IsAnswer (Command.Set manner.flow jobs manner.by even) why text o e
+  answer_unprinted why (unbegun is none) = subst (λ s. IsAnswer (Command.Set manner.flow jobs manner.by even) s text o e) (sym is) (quiet, inl none)
   answer_unprinted why (all_set called calls stopped) = answer_all why called calls stopped
   answer_unprinted why (some_left cut counted) = answer_some why cut counted

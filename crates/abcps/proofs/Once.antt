@@ -1,21 +1,21 @@
 -- A command calls for one answer on an input, however many jobs set its book; and for none on an input that it refuses.
 use Rattle.std.proofs.Common.{◌≡◌, ◌∙◌, refl, sym, ap, subst, ℕ, List, [], ◌∷◌, Bool, arith}
 use Rattle.abc_lines.specs.Books.{book_of}
-use Rattle.abc_header.specs.{declared.paper.Paper.Paper, Defaults.defaults_of}
+use Rattle.abc_header.specs.declared.paper.Paper.{Paper}
 use Rattle.gen_book.specs.Book.{book}
-use Rattle.lay_breaks.{specs.Breaking.sum_from, specs.Spans.listed, proofs.Unique.one_is_chosen}
+use Rattle.lay_breaks.{specs.{Breaking.sum_from, Spans.listed}, proofs.Unique.one_is_chosen}
 use Rattle.lay_cert.{specs.{Answers.IsJudged, Listing.{Entry, none_forced}, Verdicts.{IsVerdict, AreVerdicts}, declared.check.{Judged.Judged, Verdict.{Verdict, TheVariants.{Least, NotLeast}}}}, proofs.Alone.tells_one}
 use Rattle.paint_text.specs.PaintText.{paint_text}
 use Rattle.sheet_text.specs.SheetText.{sheet_report}
 use Rattle.ps_machine.specs.OneAnswer.{HasOneAnswer}
 use Rattle.ps_heard.specs.HeardText.{heard_text}
 use Rattle.ps_text.specs.{Document.document, declared.sheet.Sheet.Sheet}
-use Rattle.set_tune.specs.{declared.how.How.How, How.how_of, How.unmoved}
 use Rattle.set_book.specs.{declared.outcome.Outcome.Outcome, Once.HaveOneOutcome}
-use Rattle.set_pages.{specs.declared.plan.Plan.Plan, specs.Sheet.IsPlan, specs.Sheet.sheet_of, proofs.Whole.one_plan}
+use Rattle.set_pages.{specs.{declared.plan.Plan.Plan, Sheet.{IsPlan, sheet_of}}, proofs.Whole.one_plan}
 use Rattle.set_lists.specs.{Reports.reports, Trials.trial_text}
 use Rattle.abcps_words.specs.declared.command.Command.{Command}
-use Rattle.abcps.specs.{Calls.{Calls, CallsOne, IsPainted, Judges, NeverBoth, Shows, budget_of, by_one_job, status_by, verdicts_text}, declared.{status.Status.Status, refusing.Refusal.Refusal}, Called.{Called, IsQuietly}, Books.{AreSet, CallsPages, CallsSystems, Tries, paper_in, status_of, systems_by, trial_of}}
+use Rattle.abcps.specs.{Books.{AreSet, terms_in, CallsPages, CallsSystems, Tries, paper_in, status_of, systems_by, trial_of}, Calls.{Calls, CallsOne, IsPainted, Judges, NeverBoth, Shows, budget_of, by_one_job, status_by, verdicts_text}, declared.{status.Status.Status, refusing.Refusal.Refusal}, Called.{Called, IsQuietly}}
+use Rattle.set_tune.specs.Terms.{Manner, manner_by, unmoved}
 
 abbrev called_of : List ℕ → List ℕ → Status → Called
 called_of page told status = record { page = page; told = told; status = status }
@@ -28,34 +28,34 @@ quiet_called : (c d : Called) → c.page ≡ d.page → IsQuietly c → IsQuietl
 quiet_called c d page a b = same_called c d page (a.told ∙ sym b.told) (a.status ∙ sym b.status)
 
 -- ---- the commands that set a book
-one_set : HaveOneOutcome → (how : How) (text : List ℕ) (os ps : List Outcome) → AreSet how text os → AreSet how text ps → os ≡ ps
-one_set one how text os ps a b = one.outcomes (defaults_of (book_of text).header) (paper_in text) how (book_of text).tunes os ps a b
+one_set : HaveOneOutcome → (manner : Manner) (text : List ℕ) (os ps : List Outcome) → AreSet manner text os → AreSet manner text ps → os ≡ ps
+one_set one manner text os ps a b = one.outcomes (terms_in manner text) (book_of text).tunes os ps a b
 
 -- what one outcome and one plan give is one
 by_plan : {A : Type 0} (make : Plan → List Outcome → A) (even : Bool) (paper : Paper) (os ps : List Outcome) (plan other : Plan) → os ≡ ps → IsPlan even paper os plan → IsPlan even paper ps other → make plan os ≡ make other ps
 by_plan make even paper os ps plan other same is also =
     ap (λ l. make plan l) same ∙ ap (λ p. make p ps) (one_plan even paper ps other plan also (subst (λ l. IsPlan even paper l plan) same is))
 
-pages_once : HaveOneOutcome → (how : How) (even : Bool) (text : List ℕ) (c d : Called) → CallsPages how even text c → CallsPages how even text d → c ≡ d
-pages_once one how even text c d a b =
-    let same = one_set one how text a.outcomes b.outcomes a.set b.set in
+pages_once : HaveOneOutcome → (manner : Manner) (even : Bool) (text : List ℕ) (c d : Called) → CallsPages manner even text c → CallsPages manner even text d → c ≡ d
+pages_once one manner even text c d a b =
+    let same = one_set one manner text a.outcomes b.outcomes a.set b.set in
     same_called c d
     (sym a.read.spelled ∙ ap document a.whole ∙ by_plan (λ p os. document (sheet_of p (paper_in text) os)) even (paper_in text) a.outcomes b.outcomes a.plan b.plan same a.parted b.parted
     ∙ ap document (sym b.whole) ∙ b.read.spelled)
     (a.told ∙ ap reports same ∙ sym b.told)
     (a.status ∙ ap status_of same ∙ sym b.status)
 
-systems_once : HaveOneOutcome → (how : How) (table : Bool) (text : List ℕ) (c d : Called) → CallsSystems how table text c → CallsSystems how table text d → c ≡ d
-systems_once one how table text c d a b =
-    let same = one_set one how text a.outcomes b.outcomes a.set b.set in
+systems_once : HaveOneOutcome → (manner : Manner) (table : Bool) (text : List ℕ) (c d : Called) → CallsSystems manner table text c → CallsSystems manner table text d → c ≡ d
+systems_once one manner table text c d a b =
+    let same = one_set one manner text a.outcomes b.outcomes a.set b.set in
     same_called c d
     (a.page ∙ ap (systems_by table) same ∙ sym b.page)
     (a.told ∙ ap reports same ∙ sym b.told)
     (a.status ∙ ap status_of same ∙ sym b.status)
 
-trial_once : HaveOneOutcome → (tunes : ℕ) (how : How) (even : Bool) (c d : Called) → Tries tunes how even c → Tries tunes how even d → c ≡ d
-trial_once one tunes how even c d a b =
-    let same = one_set one how (book tunes) a.outcomes b.outcomes a.set b.set in
+trial_once : HaveOneOutcome → (tunes : ℕ) (manner : Manner) (even : Bool) (c d : Called) → Tries tunes manner even c → Tries tunes manner even d → c ≡ d
+trial_once one tunes manner even c d a b =
+    let same = one_set one manner (book tunes) a.outcomes b.outcomes a.set b.set in
     let paper = paper_in (book tunes) in
     quiet_called c d (a.page ∙ by_plan (λ p os. trial_text (trial_of tunes os (sheet_of p paper os))) even paper a.outcomes b.outcomes a.plan b.plan same a.parted b.parted ∙ sym b.page) a.quietly b.quietly
 
@@ -94,13 +94,12 @@ one_judged e j k a b v w =
 one_verdicts : (es : List Entry) (js ks : List Judged) → AreVerdicts es js → AreVerdicts es ks → js ≡ ks
 one_verdicts [] [] [] a b = refl
 one_verdicts [] [] (k ∷ ks) a b = absurd b
-one_verdicts [] (j ∷ js) ks a b = absurd a
-one_verdicts (e ∷ es) [] ks a b = absurd a
 one_verdicts (e ∷ es) (j ∷ js) [] a b = absurd b
 one_verdicts (e ∷ es) (j ∷ js) (k ∷ ks) a b =
     let first = one_judged e j k a.0 b.0 a.1 b.1 in
     let others = one_verdicts es js ks a.2 b.2 in
     cc
+one_verdicts es js ks a b = absurd a
 
 judged_once : (text : List ℕ) (js ks : List Judged) → IsJudged text js → IsJudged text ks → js ≡ ks
 judged_once text js ks a b = one_verdicts a.0 js ks a.2 (subst (λ es. AreVerdicts es ks) (tells_one text b.0 a.0 b.1 a.1) b.2)
@@ -115,8 +114,8 @@ painted_once alone text c d a b = quiet_called c d (a.page ∙ ap paint_text (al
 
 -- a command calls for one answer
 called_once : HaveOneOutcome → HasOneAnswer → (c : Command) (text : List ℕ) (called other : Called) → Calls c text called → Calls c text other → called ≡ other
-called_once one alone (Command.Set flow jobs by even) text called other a b = pages_once one (how_of flow by) even text called other a b
-called_once one alone (Command.Systems flow table by) text called other a b = systems_once one (how_of flow by) table text called other a b
+called_once one alone (Command.Set flow jobs by even) text called other a b = pages_once one (manner_by flow by) even text called other a b
+called_once one alone (Command.Systems flow table by) text called other a b = systems_once one (manner_by flow by) table text called other a b
 called_once one alone Command.Inspect text called other a b = sheet_once sheet_report text called other a b
 called_once one alone Command.Check text called other a b = verdicts_once text called other a b
 called_once one alone (Command.Make tunes) text called other a b = quiet_called called other (a.page ∙ sym b.page) a.quietly b.quietly

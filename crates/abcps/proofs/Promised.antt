@@ -1,6 +1,6 @@
 -- The promises of a run, from its answer by cases.
 use Rattle.std.{proofs.Common.{◌≡◌, refl, sym, ◌∙◌, ap, subst, ◌⊎◌, inl, inr, ℕ, ◌≤◌, List, ◌++◌, length, length-append, append-nil, Option, Some, None, arith}, specs.Io.KnownBytes.{Consumes, IsAtEnd}}
-use Rattle.abcps_words.specs.{Command.Asks, Command.AsksOne, Command.IsListed, Command.limit_of, declared.command.Command.Command}
+use Rattle.abcps_words.specs.{Command.{Asks, AsksOne, IsListed, limit_of}, declared.command.Command.Command}
 use Rattle.abcps.specs.{Called.Called, Calls.{Calls, CallsOne, NeverBoth, Refuses}, Refusals.IsRefusal, declared.{refusing.Refusal.Refusal, status.Status.Status}, Outcome.{HasFailed, HasPart, Stream, IsObeyed, IsQuiet, IsRead, IsReader, IsRun, ReadAll, ReadTooMuch, TookAll, WasCut, WasRefused}, Promises.{IsDone, IsGiven, IsRefused, IsToldTo, IsWhole, NoFault, Promises}}
 
 -- a source that told its bytes was read to its end: they are the text

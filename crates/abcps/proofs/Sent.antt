@@ -1,20 +1,19 @@
 -- What a sink took of texts that were given to it one after another, and how much of a document its first pages are.
-use Rattle.std.{proofs.{Common.{◌≡◌, refl, sym, ap, ◌∙◌, subst, ℕ, zero, suc, ◌+◌, ◌<◌, List, [], ◌∷◌, ◌++◌, length, take, drop, get_or, Option, Err, arith}, lemmas.List.{append-nil, append_assoc, length-take-le, take-append-drop, take_more}, Math.Seq.{drop-append_seam, take-append-add, take-append_seam}, KnownBytes.{Appends-nil, Appends-trans}}, specs.Io.KnownBytes.Appends}
+use Rattle.std.{proofs.{Common.{◌≡◌, refl, sym, ap, ◌∙◌, subst, ℕ, zero, suc, ◌+◌, List, [], ◌∷◌, ◌++◌, length, take, drop, Option, Err, arith}, lemmas.List.append_assoc, Math.Seq.{drop-append_seam, take-append-add, take-append_seam}, KnownBytes.{Appends-nil, Appends-trans}}, specs.Io.KnownBytes.Appends}
 use Rattle.eng_io.specs.Causes.{Rose}
 use Rattle.abc_header.specs.declared.paper.Paper.{Paper}
 use Rattle.ps_text.specs.{Document.document, Document.numbered, Document.page_text, Document.trailer, Prolog.prolog, declared.sheet.Page.Page, declared.sheet.Sheet.Sheet}
-use Rattle.ps_write.specs.{Written.Counted, Written.WroteFront, declared.steps.DocError.DocError, declared.steps.DocWriter.DocWriter}
+use Rattle.ps_write.specs.{Written.Counted, Written.WroteFront, declared.steps.DocError.DocError}
 use Rattle.set_pages.{specs.Sheet.frame_of, proofs.Fronts.IsFront}
-use Rattle.abcps.specs.{Outcome.HasFront, Outcome.Stream, Outcome.TookAll, Pressed.WasCounted, Pressed.WasStopped, Pressed.first_text, Pressed.rest_text, Status.status_after, declared.status.Status.Status}
+use Rattle.abcps.specs.{Outcome.{HasFront, Stream, TookAll}, Pressed.{WasCounted, WasStopped, first_text, rest_text}, Status.status_after, declared.status.Status.Status}
 
 abbrev pub stream : Option (List ℕ) → Option (List ℕ) → ℕ → ℕ → Stream
 stream before after count_before count_after = record { before = before; after = after; count_before = count_before; count_after = count_after }
 
 -- a front of a text is a front of what the text begins
 take_longer : (n : ℕ) (xs ys : List ℕ) → (m : ℕ) × (take m (xs ++ ys) ≡ take n xs)
-take_longer zero xs ys = (0, refl)
-take_longer (suc n) [] ys = (0, refl)
 take_longer (suc n) (x ∷ xs) ys = let more = take_longer n xs ys in (suc more.0, ap (λ l. x ∷ l) more.1)
+take_longer n xs ys = (0, refl)
 
 pub front_longer : (o : Stream) (xs ys : List ℕ) → HasFront o xs → HasFront o (xs ++ ys)
 front_longer o xs ys front =
@@ -71,18 +70,6 @@ numbered_append f k (x ∷ xs) ys =
     ap (λ text. f k x ++ text) (numbered_append f (k + 1) xs ys ∙ ap (λ j. numbered f (k + 1) xs ++ numbered f j ys) same)
     ∙ sym (append_assoc (f k x) (numbered f (k + 1) xs) (numbered f (k + suc (length xs)) ys))
 
-pub page_more : (k i : ℕ) (pages : List Page) (p : Page) → i < length pages → p ≡ get_or pages i p
-    → numbered page_text k (take (i + 1) pages) ≡ numbered page_text k (take i pages) ++ page_text (k + i) p
-page_more k i pages p inside is =
-    let count : length (take i pages) ≡ i = length-take-le i pages (omega arith) in
-    ap (λ l. numbered page_text k l) (take_more pages i p inside ∙ ap (λ q. take i pages ++ q ∷ []) (sym is))
-    ∙ numbered_append page_text k (take i pages) (p ∷ [])
-    ∙ ap (λ j. numbered page_text k (take i pages) ++ (page_text (k + j) p ++ [])) count
-    ∙ ap (λ text. numbered page_text k (take i pages) ++ text) (append-nil (page_text (k + i) p))
-
-pub page_left : (k i : ℕ) (pages : List Page) → numbered page_text k (take i pages) ++ numbered page_text (k + length (take i pages)) (drop i pages) ≡ numbered page_text k pages
-page_left k i pages = sym (numbered_append page_text k (take i pages) (drop i pages)) ∙ ap (λ l. numbered page_text k l) (take-append-drop i pages)
-
 -- the first pages of a document
 pub first_more : (paper : Paper) (given more : List Page) → first_text paper (given ++ more) ≡ first_text paper given ++ numbered page_text (length given + 1) more
 first_more paper given more =
@@ -108,27 +95,6 @@ document_parts paper given sheet frame front =
     ∙ ap (λ text. prolog (frame_of paper) ++ (text ++ end)) pages
     ∙ ap (λ text. prolog (frame_of paper) ++ text) (append_assoc (numbered page_text 1 given) behind end)
     ∙ sym (append_assoc (prolog (frame_of paper)) (numbered page_text 1 given) (behind ++ end))
-
--- a page that went out behind others, or didn't
-module _ (b m a : Option (List ℕ)) (n k l first now i : ℕ) (pages : List Page) (p : Page) (inside : i < length pages) (is : p ≡ get_or pages i p) (at : now ≡ first + i)
-    (sent : Appends b m (numbered page_text (first + 1) (take i pages))) (same : k ≡ n) where
-  number_at : now + 1 ≡ first + 1 + i
-  number_at = omega (arith, at)
-
-  pub page_sent : Appends m a (page_text (now + 1) p) → Appends b a (numbered page_text (first + 1) (take (i + 1) pages))
-  page_sent wrote =
-      subst (λ t. Appends b a t) (sym (page_more (first + 1) i pages p inside is))
-      (Appends-trans b m a (numbered page_text (first + 1) (take i pages)) (page_text (first + 1 + i) p) sent (subst (λ j. Appends m a (page_text j p)) number_at wrote))
-
-  pub page_stopped : (e : DocError) → WroteFront m a (page_text (now + 1) p) e → Counted {T = DocWriter} k l (Err e) → WasStopped (status_after e) (stream b a n l) (numbered page_text (first + 1) pages)
-  page_stopped e wrote counts =
-      let why = status_after e in
-      let taken = numbered page_text (first + 1) (take i pages) in
-      let step = subst (λ j. WasStopped why (stream m a k l) (page_text j p)) number_at (step_stopped DocWriter m a k l (page_text (now + 1) p) e wrote counts) in
-      let behind = stopped_behind b m a n k l taken sent same why (page_text (first + 1 + i) p) step in
-      let more = subst (λ t. WasStopped why (stream b a n l) t) (sym (page_more (first + 1) i pages p inside is)) behind in
-      subst (λ t. WasStopped why (stream b a n l) t) (page_left (first + 1) (i + 1) pages)
-      (stopped_longer why (stream b a n l) (numbered page_text (first + 1) (take (i + 1) pages)) (numbered page_text (first + 1 + length (take (i + 1) pages)) (drop (i + 1) pages)) more)
 
 -- memory ran out before anything went out
 pub memory_first : (b : Option (List ℕ)) (n : ℕ) (text : List ℕ) → WasStopped Status.Memory (stream b b n n) text

@@ -3,20 +3,24 @@ use Rattle.std.specs.Prelude.{◌≡◌, ⊤, ℕ, List, [], Bool, true, false, 
 use Rattle.abc_lines.specs.Books.{book_of}
 use Rattle.abc_header.specs.{declared.paper.Paper.Paper, Defaults.defaults_of, Papers.paper_of}
 use Rattle.gen_book.specs.Book.{book}
-use Rattle.ps_text.specs.{Document.Spells, Document.document, declared.sheet.Sheet.Sheet}
-use Rattle.set_tune.specs.declared.how.How.{How}
+use Rattle.ps_text.specs.{Document.{Spells, document}, declared.sheet.Sheet.Sheet}
 use Rattle.set_book.specs.{declared.outcome.Outcome.Outcome, Outcomes.AreOutcomes}
-use Rattle.set_pages.specs.{declared.plan.Plan.Plan, Press.IsBookSheet, Read.ShowsBook, Sheet.AreStanding, Sheet.IsPlan, Sheet.sheet_of}
-use Rattle.set_lists.specs.{declared.trials.Trial.Trial, Reports.reports, Reports.some_fault, Systems.systems_text, Laws.ListsTheScores, Listing.listing_text, Trials.fault_count, Trials.set_count, Trials.system_count, Trials.total_of, Trials.trial_text}
-use Rattle.abcps.specs.{Called.Called, Called.IsQuietly, declared.status.Status.Status}
+use Rattle.set_pages.specs.{declared.plan.Plan.Plan, Press.IsBookSheet, Read.ShowsBook, Sheet.{AreStanding, IsPlan, sheet_of}}
+use Rattle.set_lists.specs.{declared.trials.Trial.Trial, Reports.{reports, some_fault}, Systems.systems_text, Laws.ListsTheScores, Listing.listing_text, Trials.{fault_count, set_count, system_count, total_of, trial_text}}
+use Rattle.set_tune.specs.Terms.{Manner, Terms, terms_by}
+use Rattle.abcps.specs.{Called.{Called, IsQuietly}, declared.status.Status.Status}
 
 -- the paper that a book states
 abbrev pub paper_in : List ℕ → Paper
 paper_in text = paper_of (book_of text).header
 
--- What comes of the tunes of a book, on its paper and under its defaults: each is set, or has its one fault.
-abbrev pub AreSet : How → List ℕ → List Outcome → Type 0
-AreSet how text outcomes = AreOutcomes (defaults_of (book_of text).header) (paper_in text) how (book_of text).tunes outcomes
+-- its tunes are set on it, under the defaults of the book
+abbrev pub terms_in : Manner → List ℕ → Terms
+terms_in manner text = terms_by (defaults_of (book_of text).header) (paper_in text) manner
+
+-- What comes of the tunes of a book: each is set, or has its one fault.
+abbrev pub AreSet : Manner → List ℕ → List Outcome → Type 0
+AreSet manner text outcomes = AreOutcomes (terms_in manner text) (book_of text).tunes outcomes
 
 abbrev pub status_of : List Outcome → Status
 status_of outcomes = if some_fault outcomes then Status.SomeRefused else Status.Done
@@ -24,9 +28,9 @@ status_of outcomes = if some_fault outcomes then Status.SomeRefused else Status.
 -- Of `set`: the page spells one sheet. What a reader finds on it are the tunes without fault, in order: of each the systems of its chosen
 -- breaking, with exactly the marks that its score calls for, set to the margin and apart; each block lies on its page and follows the one
 -- before it; with even pages no other parting of the groups into pages that fit has a smaller total; and each fault is told.
-pub record CallsPages (how : How) (even : Bool) (text : List ℕ) (c : Called) : Type 0 where
+pub record CallsPages (manner : Manner) (even : Bool) (text : List ℕ) (c : Called) : Type 0 where
   pub outcomes : List Outcome
-  pub set : AreSet how text outcomes
+  pub set : AreSet manner text outcomes
   pub sheet : Sheet
   pub read : Spells sheet c.page
   pub shows : ShowsBook (paper_in text) outcomes sheet
@@ -50,9 +54,9 @@ abbrev pub IsListedBy : Bool → Paper → List ℕ → List Outcome → Type 0
 IsListedBy true paper page outcomes = ListsTheScores paper page outcomes
 IsListedBy false paper page outcomes = ⊤
 
-pub record CallsSystems (how : How) (table : Bool) (text : List ℕ) (c : Called) : Type 0 where
+pub record CallsSystems (manner : Manner) (table : Bool) (text : List ℕ) (c : Called) : Type 0 where
   pub outcomes : List Outcome
-  pub set : AreSet how text outcomes
+  pub set : AreSet manner text outcomes
   pub page : c.page ≡ systems_by table outcomes
   pub listed : IsListedBy table (paper_in text) c.page outcomes
   pub told : c.told ≡ reports outcomes
@@ -73,9 +77,9 @@ trial_of tunes outcomes sheet = record {
   total = total_of outcomes;
 }
 
-pub record Tries (tunes : ℕ) (how : How) (even : Bool) (c : Called) : Type 0 where
+pub record Tries (tunes : ℕ) (manner : Manner) (even : Bool) (c : Called) : Type 0 where
   pub outcomes : List Outcome
-  pub set : AreSet how (book tunes) outcomes
+  pub set : AreSet manner (book tunes) outcomes
   pub plan : Plan
   pub parted : IsPlan even (paper_in (book tunes)) outcomes plan
   pub page : c.page ≡ trial_text (trial_of tunes outcomes (sheet_of plan (paper_in (book tunes)) outcomes))

@@ -1,17 +1,17 @@
 -- What each command calls for, of an input that it doesn't refuse.
-use Rattle.std.specs.{Prelude.◌≡◌, Prelude.ℕ, Prelude.◌*◌, Prelude.List, Prelude.[], Prelude.Bool, Prelude.true, Prelude.false, Prelude.if◌then◌else◌, Prelude.length, Prelude.flat_map, List.list_any}
+use Rattle.std.specs.{Prelude.{◌≡◌, ℕ, ◌*◌, List, [], Bool, true, false, if◌then◌else◌, length, flat_map}, List.list_any}
 use Rattle.gen_book.specs.Book.{book}
 use Rattle.ps_text.specs.{Document.Spells, declared.sheet.Sheet.Sheet}
 use Rattle.ps_read.specs.Answers.{IsRead, IsFirstFault}
 use Rattle.ps_heard.specs.HeardText.{heard_text}
-use Rattle.ps_steps.specs.{declared.paint.PagePaint.PagePaint, Steps.Paints, Steps.Halts}
+use Rattle.ps_steps.specs.{declared.paint.PagePaint.PagePaint, Steps.{Paints, Halts}}
 use Rattle.paint_text.specs.PaintText.{paint_text}
 use Rattle.sheet_text.specs.SheetText.{sheet_report}
-use Rattle.lay_cert.specs.{declared.check.Judged.Judged, declared.check.Verdict.Verdict, Answers.IsJudged, Listing.Entry, Listing.IsListing, Reports.verdict_text}
+use Rattle.lay_cert.specs.{declared.check.{Judged.Judged, Verdict.Verdict}, Answers.IsJudged, Listing.{Entry, IsListing}, Reports.verdict_text}
 use Rattle.lay_cert.specs.Places as listing
 use Rattle.abcps_words.specs.declared.command.Command.{Command}
-use Rattle.set_tune.specs.How.{how_of, unmoved}
-use Rattle.abcps.specs.{Called.Called, Called.IsQuietly, Books.CallsPages, Books.CallsSystems, Books.Tries, declared.refusing.Refusal.Refusal, declared.status.Status.Status}
+use Rattle.set_tune.specs.Terms.{manner_by, unmoved}
+use Rattle.abcps.specs.{Called.{Called, IsQuietly}, Books.{CallsPages, CallsSystems, Tries}, declared.{refusing.Refusal.Refusal, status.Status.Status}}
 
 -- Of `inspect` and `hear`: a report on the one sheet that spells the input, which is all that it shows, or what its tunes sound.
 pub record Shows (report : Sheet → List ℕ) (text : List ℕ) (c : Called) : Type 0 where
@@ -57,8 +57,8 @@ pub record IsPainted (text : List ℕ) (c : Called) : Type 0 where
   pub quietly : IsQuietly c
 
 abbrev pub Calls : Command → List ℕ → Called → Type 0
-Calls (Command.Set flow jobs by even) text c = CallsPages (how_of flow by) even text c
-Calls (Command.Systems flow table by) text c = CallsSystems (how_of flow by) table text c
+Calls (Command.Set flow jobs by even) text c = CallsPages (manner_by flow by) even text c
+Calls (Command.Systems flow table by) text c = CallsSystems (manner_by flow by) table text c
 Calls Command.Inspect text c = Shows sheet_report text c
 Calls Command.Check text c = Judges text c
 Calls (Command.Make tunes) text c = Makes tunes c

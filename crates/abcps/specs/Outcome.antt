@@ -1,14 +1,13 @@
 -- What a run answers, and what it leaves on each stream: by cases on the answer.
-use Rattle.std.specs.{Prelude.◌≡◌, Prelude.◌⊎◌, Prelude.◌<◌, Prelude.◌≤◌, Prelude.ℕ, Prelude.◌+◌, Prelude.List, Prelude.[], Prelude.Bool, Prelude.false, Prelude.length, Prelude.take, Prelude.Option, Io.KnownBytes.Keeps, Io.KnownBytes.Appends, Io.KnownBytes.Consumes, Io.KnownBytes.IsAtEnd}
+use Rattle.std.specs.{Prelude.{◌≡◌, ◌⊎◌, ◌<◌, ◌≤◌, ℕ, ◌+◌, List, [], Bool, false, length, take, Option}, Io.KnownBytes.{Keeps, Appends, Consumes, IsAtEnd}}
 use Rattle.eng_io.specs.Causes.{Rose}
 use Rattle.abc_lines.specs.Books.{book_of}
-use Rattle.abc_header.specs.Defaults.{defaults_of}
 use Rattle.ps_text.specs.Document.{document}
-use Rattle.set_tune.specs.{declared.how.How.How, How.how_of}
 use Rattle.set_book.specs.{declared.outcome.Outcome.Outcome, Outcomes.AreOutcomes}
 use Rattle.set_pages.specs.{Sheet.sheet_of, declared.plan.Plan.Plan}
-use Rattle.abcps_words.specs.{Command.Asks, Command.IsListed, Command.limit_of, declared.command.Command.Command, Usage.usage_line}
-use Rattle.abcps.specs.{Called.Called, Books.CallsPages, Books.paper_in, Calls.Calls, Calls.Refuses, Refusals.refusal_line, Refusals.refusal_status, declared.refusing.Refusal.Refusal, declared.status.Status.Status}
+use Rattle.abcps_words.specs.{Command.{Asks, IsListed, limit_of}, declared.command.Command.Command, Usage.usage_line}
+use Rattle.abcps.specs.{Books.{terms_in, CallsPages, paper_in}, Called.Called, Calls.{Calls, Refuses}, Refusals.{refusal_line, refusal_status}, declared.{refusing.Refusal.Refusal, status.Status.Status}}
+use Rattle.set_tune.specs.Terms.{Manner, manner_by}
 
 -- a stream before and after a call: its bytes, where known, and its count of faults
 pub record Stream : Type 0 where
@@ -64,16 +63,16 @@ WasCut called o e = (TookFront o called.page × IsQuiet e) ⊎ (TookAll o called
 
 -- `set` ended while some tunes of its book were left: so many were set, and what output took is a front of whatever is called for of the
 -- whole book, and where blocks are filled of the document of these tunes alone.
-pub record IsCutShort (how : How) (even : Bool) (text : List ℕ) (o : Stream) : Type 0 where
+pub record IsCutShort (manner : Manner) (even : Bool) (text : List ℕ) (o : Stream) : Type 0 where
   pub count : ℕ
   pub left : count < length (book_of text).tunes
   pub outcomes : List Outcome
-  pub set : AreOutcomes (defaults_of (book_of text).header) (paper_in text) how (take count (book_of text).tunes) outcomes
+  pub set : AreOutcomes (terms_in manner text) (take count (book_of text).tunes) outcomes
   pub first : even ≡ false → HasFront o (document (sheet_of Plan.Filled (paper_in text) outcomes))
-  pub all : (called : Called) → CallsPages how even text called → HasFront o called.page
+  pub all : (called : Called) → CallsPages manner even text called → HasFront o called.page
 
 abbrev pub WasCutShort : Command → List ℕ → Stream → Type 0
-WasCutShort (Command.Set flow jobs by even) text o = IsCutShort (how_of flow by) even text o
+WasCutShort (Command.Set flow jobs by even) text o = IsCutShort (manner_by flow by) even text o
 WasCutShort _ text o = ⊥
 
 -- A sink failed while what is called for was written, or output did before `set` had set all tunes.

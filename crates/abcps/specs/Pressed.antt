@@ -1,15 +1,15 @@
 -- A book as it is set, pressed and written, a batch of its tunes after another.
 use Rattle.std.specs.Prelude.{◌≡◌, ℕ, ◌+◌, List, [], ◌++◌, Bool, true, false, if◌then◌else◌, drop, length, Result, Ok, Err}
 use Rattle.abc_lines.specs.declared.book.TuneText.{TuneText}
-use Rattle.abc_header.specs.{declared.defaults.Defaults.Defaults, declared.paper.Paper.Paper, Papers.IsGoodPaper}
+use Rattle.abc_header.specs.{declared.paper.Paper.Paper, Papers.IsGoodPaper}
 use Rattle.eng_io.specs.Causes.{Rose}
-use Rattle.ps_text.specs.{Document.numbered, Document.page_text, Document.trailer, Prolog.prolog, declared.sheet.Page.Page, declared.sheet.Sheet.Sheet}
-use Rattle.set_tune.specs.declared.how.How.{How}
+use Rattle.ps_text.specs.{Document.{numbered, page_text, trailer}, Prolog.prolog, declared.sheet.{Page.Page, Sheet.Sheet}}
 use Rattle.set_book.specs.{declared.outcome.Outcome.Outcome, Outcomes.AreOutcomes}
 use Rattle.set_lists.specs.Reports.{reports, some_fault}
 use Rattle.lay_pages.specs.{declared.filling.Block.Block, Filling.AreGoodBlocks}
-use Rattle.set_pages.specs.{Press.IsOpen, Press.IsPressed, Press.RisesBy, Press.done_pages, Sheet.IsPlan, Sheet.frame_of, Sheet.sheet_of, declared.press.Press.Press, Drawings.all_blocks, declared.plan.Plan.Plan}
-use Rattle.abcps.specs.{Called.Called, Books.CallsPages, Books.status_of, Outcome.IsCutShort, Outcome.IsQuiet, Outcome.Stream, Outcome.TookAll, Outcome.TookFront, Outcome.TookPart, declared.pressing.Printed.Printed, declared.pressing.Running.Running, declared.status.Status.Status}
+use Rattle.set_pages.specs.{Press.{IsOpen, IsPressed, RisesBy, done_pages}, Sheet.{IsPlan, frame_of, sheet_of}, declared.{press.Press.Press, plan.Plan.Plan}, Drawings.all_blocks}
+use Rattle.set_tune.specs.Terms.{Manner, Terms}
+use Rattle.abcps.specs.{Called.Called, Books.{CallsPages, status_of}, Outcome.{IsCutShort, IsQuiet, Stream, TookAll, TookFront, TookPart}, declared.{pressing.{Printed.Printed, Running.Running}, status.Status.Status}}
 
 abbrev pub status_if : Bool → Status
 status_if refused = if refused then Status.SomeRefused else Status.Done
@@ -47,22 +47,22 @@ pub record IsBegun (r : Running) : Type 0 where
   pub none : (plan : Plan) (paper : Paper) → RisesBy plan → IsRunning plan paper [] [] r
 
 -- the blocks of some tunes, once they were set
-pub record AreGathered (defaults : Defaults) (paper : Paper) (how : How) (tunes : List TuneText) (blocks : List Block) : Type 0 where
+pub record AreGathered (terms : Terms) (tunes : List TuneText) (blocks : List Block) : Type 0 where
   pub outcomes : List Outcome
-  pub set : AreOutcomes defaults paper how tunes outcomes
+  pub set : AreOutcomes terms tunes outcomes
   pub value : blocks ≡ all_blocks outcomes
   pub good : AreGoodBlocks blocks
 
 -- the plan of these tunes: filled, or the even one of their outcomes
-abbrev pub IsPlanned : Bool → Defaults → Paper → How → List TuneText → Plan → Type 0
-IsPlanned false defaults paper how tunes plan = plan ≡ Plan.Filled
-IsPlanned true defaults paper how tunes plan = (all : List Outcome) × AreOutcomes defaults paper how tunes all × IsPlan true paper all plan
+abbrev pub IsPlanned : Bool → Terms → List TuneText → Plan → Type 0
+IsPlanned false terms tunes plan = plan ≡ Plan.Filled
+IsPlanned true terms tunes plan = (all : List Outcome) × AreOutcomes terms tunes all × IsPlan true terms.paper all plan
 
 -- what came of these tunes was taken behind what was taken before
-pub record AreTaken (defaults : Defaults) (plan : Plan) (paper : Paper) (how : How) (tunes : List TuneText) (old new : Running) : Type 0 where
+pub record AreTaken (terms : Terms) (plan : Plan) (tunes : List TuneText) (old new : Running) : Type 0 where
   pub outcomes : List Outcome
-  pub set : AreOutcomes defaults paper how tunes outcomes
-  pub taken : (before : List Outcome) (given : List Page) → IsRunning plan paper before given old → IsRunning plan paper (before ++ outcomes) given new
+  pub set : AreOutcomes terms tunes outcomes
+  pub taken : (before : List Outcome) (given : List Page) → IsRunning plan terms.paper before given old → IsRunning plan terms.paper (before ++ outcomes) given new
 
 -- the text of a document up to the end of its first pages, and what stands behind them
 abbrev pub first_text : Paper → List Page → List ℕ
@@ -77,30 +77,30 @@ IsClosed plan paper outcomes given o (Ok p) = TookAll o (rest_text given (sheet_
 IsClosed plan paper outcomes given o (Err why) = WasStopped why o (rest_text given (sheet_of plan paper outcomes))
 
 -- these tunes were set, and the document was written up to the end of these pages
-pub record AreRunning (defaults : Defaults) (plan : Plan) (paper : Paper) (how : How) (tunes : List TuneText) (o : Stream) (r : Running) : Type 0 where
+pub record AreRunning (terms : Terms) (plan : Plan) (tunes : List TuneText) (o : Stream) (r : Running) : Type 0 where
   pub outcomes : List Outcome
   pub given : List Page
-  pub set : AreOutcomes defaults paper how tunes outcomes
-  pub running : IsRunning plan paper outcomes given r
+  pub set : AreOutcomes terms tunes outcomes
+  pub running : IsRunning plan terms.paper outcomes given r
   pub free : IsOpen r.press
-  pub wrote : TookAll o (first_text paper given)
+  pub wrote : TookAll o (first_text terms.paper given)
 
 -- The first of these tunes were set, and the document was being written up to the last page that they fill.
-pub record AreCutOff (defaults : Defaults) (plan : Plan) (paper : Paper) (how : How) (tunes : List TuneText) (o : Stream) (why : Status) : Type 0 where
+pub record AreCutOff (terms : Terms) (plan : Plan) (tunes : List TuneText) (o : Stream) (why : Status) : Type 0 where
   pub before : List TuneText
   pub rest : List TuneText
   pub whole : before ++ rest ≡ tunes
   pub outcomes : List Outcome
-  pub set : AreOutcomes defaults paper how before outcomes
+  pub set : AreOutcomes terms before outcomes
   pub given : List Page
   pub press : Press
-  pub pressed : IsPressed plan paper outcomes given press
+  pub pressed : IsPressed plan terms.paper outcomes given press
   pub free : IsOpen press
-  pub wrote : WasStopped why o (first_text paper (given ++ done_pages press))
+  pub wrote : WasStopped why o (first_text terms.paper (given ++ done_pages press))
 
-abbrev pub ArePrinted : Defaults → Plan → Paper → How → List TuneText → Stream → Result Running Status → Type 0
-ArePrinted defaults plan paper how tunes o (Ok r) = AreRunning defaults plan paper how tunes o r
-ArePrinted defaults plan paper how tunes o (Err why) = AreCutOff defaults plan paper how tunes o why
+abbrev pub ArePrinted : Terms → Plan → List TuneText → Stream → Result Running Status → Type 0
+ArePrinted terms plan tunes o (Ok r) = AreRunning terms plan tunes o r
+ArePrinted terms plan tunes o (Err why) = AreCutOff terms plan tunes o why
 
 -- how a sink counted where this answer came before a text's end
 abbrev pub WasCounted : Status → Stream → Type 0
@@ -109,11 +109,11 @@ WasCounted Status.Memory s = s.count_after ≡ s.count_before
 WasCounted _ s = ⊥
 
 -- why the document of a book was not written to its end: memory ran out before it was begun, or all tunes were set, or some were left
-pub data IsUnprinted (how : How) (even : Bool) (text : List ℕ) (o : Stream) (why : Status) : Type 0 where
-  unbegun : why ≡ Status.Memory → IsQuiet o → IsUnprinted how even text o why
-  all_set : (called : Called) → CallsPages how even text called → WasStopped why o called.page → IsUnprinted how even text o why
-  some_left : IsCutShort how even text o → WasCounted why o → IsUnprinted how even text o why
+pub data IsUnprinted (manner : Manner) (even : Bool) (text : List ℕ) (o : Stream) (why : Status) : Type 0 where
+  unbegun : why ≡ Status.Memory → IsQuiet o → IsUnprinted manner even text o why
+  all_set : (called : Called) → CallsPages manner even text called → WasStopped why o called.page → IsUnprinted manner even text o why
+  some_left : IsCutShort manner even text o → WasCounted why o → IsUnprinted manner even text o why
 
-abbrev pub IsPrinted : How → Bool → List ℕ → Stream → Result Printed Status → Type 0
-IsPrinted how even text o (Ok p) = (called : Called) × CallsPages how even text called × (p.told ≡ called.told) × (p.status ≡ called.status) × TookAll o called.page
-IsPrinted how even text o (Err why) = IsUnprinted how even text o why
+abbrev pub IsPrinted : Manner → Bool → List ℕ → Stream → Result Printed Status → Type 0
+IsPrinted manner even text o (Ok p) = (called : Called) × CallsPages manner even text called × (p.told ≡ called.told) × (p.status ≡ called.status) × TookAll o called.page
+IsPrinted manner even text o (Err why) = IsUnprinted manner even text o why

@@ -2,7 +2,7 @@
 -- memory ran out nothing is written.
 use Rattle.std.specs.{Prelude.◌≡◌, declared.io.ErrorKind.ErrorKind}
 use Rattle.abcps_words.specs.Usage.{usage_line}
-use Rattle.abcps.specs.{Outcome.IsQuiet, Outcome.Stream, Outcome.WasTold, declared.status.Status.Status, declared.wordless.WordsError.WordsError}
+use Rattle.abcps.specs.{Outcome.{IsQuiet, Stream, WasTold}, declared.{status.Status.Status, wordless.WordsError.WordsError}}
 
 -- the cause that an error of the system tells
 abbrev pub cause_of : ErrorKind → WordsError

@@ -2,9 +2,10 @@ ghost use Rattle.std.specs.Prelude.{◌≡◌, ◌≤◌, ◌^◌, [], All, IfOk
 ghost use Rattle.abc_header.specs.Papers.{IsGoodPaper};
 ghost use Rattle.gen_book.specs.Book.{book};
 ghost use Rattle.ps_text.specs.{Document.document, declared.sheet.Sheet.Sheet, Range.IsSheet};
+ghost use Rattle.set_tune.specs.Terms.{IsGoodHow, manner_of};
 ghost use Rattle.set_lists.specs.{Listing.AreListable, Reports.reports, Trials.trial_text};
 ghost use Rattle.set_pages.specs.{Press.IsBookSheet, Sheet.IsSetUnder};
-ghost use Rattle.abcps.specs.{Books.AreSet, Books.IsTried, Books.paper_in, Books.status_of, Books.systems_by, Books.systems_called, Books.trial_of, Outcome.IsAnswer, Outcome.IsAnswered, Outcome.IsEnd, Outcome.observed};
+ghost use Rattle.abcps.specs.{Books.{AreSet, IsTried, paper_in, status_of, systems_by, systems_called, trial_of}, Outcome.{IsAnswer, IsAnswered, IsEnd, observed}};
 ghost use Rattle.abcps_words.specs.declared.command.Command.{Command};
 
 use crate::pressing::status_if;
@@ -41,19 +42,17 @@ fn set_text<R: Threads + Sync, G: Gate + Sync>(
     alloc: Global,
     text: &[u8],
     how: How,
-    jobs: u8,
     gate: &G,
 ) -> Result<SetBook, Memory>
-    requires some { 1 ≤ jobs }
-    requires few { jobs ≤ 64 }
+    requires how { IsGoodHow how }
     requires within { length text.now ≤ 2 ^ 30 }
     ensures paper { IfOk result (λ set. set.paper ≡ paper_in text.now) }
     ensures good { IfOk result (λ set. IsGoodPaper set.paper) }
-    ensures set { IfOk result (λ set. AreSet how text.now set.outcomes) }
+    ensures set { IfOk result (λ set. AreSet (manner_of how) text.now set.outcomes) }
 {
     let book = cut_book(alloc, text)?;
     let paper = read_paper(&book);
-    let outcomes = set_all(rt, alloc, &book, &paper, how, jobs, gate)?;
+    let outcomes = set_all(rt, alloc, &book, &paper, how, how.jobs, gate)?;
     Ok(SetBook { paper, outcomes })
 }
 
@@ -80,17 +79,15 @@ pub(crate) fn set<R: Threads + Sync, O: Sink, E: Sink, G: Gate + Sync>(
     text: &[u8],
     how: How,
     even: bool,
-    jobs: u8,
     output: &mut O,
     errors: &mut E,
     gate: &G,
 ) -> Status
-    requires some { 1 ≤ jobs }
-    requires few { jobs ≤ 64 }
+    requires how { IsGoodHow how }
     requires within { length text.now ≤ 8388608 }
-    ensures { IsAnswer (Command.Set how.flow jobs how.by even) result text.now (observed O.taken O.faults output.old output.new) (observed E.taken E.faults errors.old errors.new) }
+    ensures { IsAnswer (Command.Set how.flow how.jobs how.by even) result text.now (observed O.taken O.faults output.old output.new) (observed E.taken E.faults errors.old errors.new) }
 {
-    match print_book(rt, alloc, text, how, even, jobs, output, gate) {
+    match print_book(rt, alloc, text, how, even, output, gate) {
         Ok(printed) => end(errors, printed.told.as_slice(), printed.status),
         Err(why) => why,
     }
@@ -142,10 +139,11 @@ pub(crate) fn systems<R: Threads + Sync, O: Sink, E: Sink>(
     output: &mut O,
     errors: &mut E,
 ) -> Status
-    requires { length text.now ≤ 8388608 }
+    requires how { IsGoodHow how }
+    requires within { length text.now ≤ 8388608 }
     ensures { IsAnswer (Command.Systems how.flow table how.by) result text.now (observed O.taken O.faults output.old output.new) (observed E.taken E.faults errors.old errors.new) }
 {
-    let Ok(book) = set_text(rt, alloc, text, how, 1, &Open) else {
+    let Ok(book) = set_text(rt, alloc, text, how, &Open) else {
         return Status::Memory;
     };
     outcomes_are_listable();
@@ -236,7 +234,8 @@ pub(crate) fn trial<R: Threads + Sync, O: Sink, E: Sink, G: Gate + Sync>(
     if text.len() > 1_073_741_824 {
         return Status::Memory;
     }
-    let Ok(book) = set_text(rt, alloc, text.as_slice(), How { flow, by: 0 }, jobs, gate) else {
+    let how = How { flow, by: 0, jobs };
+    let Ok(book) = set_text(rt, alloc, text.as_slice(), how, gate) else {
         return Status::Memory;
     };
     write_trial(

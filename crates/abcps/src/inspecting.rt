@@ -1,6 +1,6 @@
 ghost use Rattle.std.specs.Prelude.{◌≡◌, [], IfOk};
 ghost use Rattle.sheet_text.specs.SheetText.{sheet_report};
-ghost use Rattle.abcps.specs.{Calls.Shows, Outcome.IsAnswer, Outcome.IsAnswered, Outcome.observed, declared.status.Status.Status};
+ghost use Rattle.abcps.specs.{Calls.Shows, Outcome.{IsAnswer, IsAnswered, observed}, declared.status.Status.Status};
 ghost use Rattle.abcps_words.specs.declared.command.Command.{Command};
 
 use crate::refusing::Refusal;

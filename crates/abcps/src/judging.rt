@@ -1,5 +1,5 @@
-ghost use Rattle.std.specs.{Prelude.◌≡◌, Prelude.[], Prelude.IfOk, List.list_any};
-ghost use Rattle.abcps.specs.{Calls.is_dearer, Calls.is_dearer_choice, Calls.status_by, Calls.verdicts_text, Outcome.IsAnswer, Outcome.IsAnswered, Outcome.IsEnd, Outcome.observed};
+ghost use Rattle.std.specs.{Prelude.{◌≡◌, [], IfOk}, List.list_any};
+ghost use Rattle.abcps.specs.{Calls.{is_dearer, is_dearer_choice, status_by, verdicts_text}, Outcome.{IsAnswer, IsAnswered, IsEnd, observed}};
 ghost use Rattle.abcps_words.specs.declared.command.Command.{Command};
 
 use crate::refusing::Refusal;

@@ -1,21 +1,22 @@
-ghost use Rattle.std.specs.Prelude.{◌≡◌, ◌+◌, ◌^◌, ◌<◌, ◌++◌, [], List, false, All, IfOk, OnOk, length};
+ghost use Rattle.std.specs.Prelude.{◌≡◌, ◌+◌, ◌^◌, ◌<◌, ◌≤◌, ◌++◌, [], List, false, All, IfOk, OnOk, length};
 ghost use Rattle.abc_lines.specs.Good.{IsGoodTune};
-ghost use Rattle.abc_header.specs.{declared.defaults.Defaults.Defaults, declared.paper.Paper.Paper, Good.IsGoodDefaults, Papers.IsGoodPaper, Papers.height_of};
-ghost use Rattle.ps_text.specs.{declared.sheet.Page.Page, Document.numbered, Document.page_text, Prolog.prolog, Range.IsPage};
+ghost use Rattle.abc_header.specs.{declared.{defaults.Defaults.Defaults, paper.Paper.Paper}, Good.IsGoodDefaults, Papers.{IsGoodPaper, height_of}};
+ghost use Rattle.ps_text.specs.{declared.sheet.Page.Page, Document.{numbered, page_text}, Prolog.prolog, Range.IsPage};
 ghost use Rattle.set_book.specs.declared.outcome.Outcome.{Outcome};
-ghost use Rattle.set_pages.specs.{declared.plan.Plan.Plan, Drawings.all_blocks, Press.HasRoom, Press.IsOpen, Press.done_pages, Sheet.IsSetUnder, Sheet.frame_of};
-ghost use Rattle.abcps.specs.{Outcome.IsEnd, Outcome.observed, Pressed.IsBegun, Pressed.IsClosed, Pressed.IsRunning, Pressed.IsUnderWay, Pressed.WasGiven, Pressed.status_if};
+ghost use Rattle.set_pages.specs.{declared.plan.Plan.Plan, Drawings.all_blocks, Press.{HasRoom, IsOpen, done_pages}, Sheet.{IsSetUnder, frame_of}};
+ghost use Rattle.abcps.specs.{Outcome.{IsEnd, observed}, Pressed.{IsBegun, IsClosed, IsRunning, IsUnderWay, WasGiven, status_if}};
 
 use crate::status::Status;
 use abc_header::Paper;
 use eng_io::Sink;
 use mus_units::{Memory, Text};
 use ps_text::Page;
-use ps_write::{DocWriter, begin, finish, page};
+use ps_write::{DocWriter, begin, finish, pages};
 use set_book::Outcome;
 use set_lists::{has_fault, put_reports};
 use set_pages::{Plan, Press, close_press, frame_of, open_press, press_outcomes, take_done};
 use std::alloc::Global;
+use std::thread::Threads;
 
 /// What runs along while the tunes of a book are set and its pages are written: the pages that were
 /// not written yet, the reports of the faults so far, whether there was one, and the document.
@@ -87,40 +88,45 @@ pub(crate) fn take(
     Ok(())
 }
 
-/// Writes pages behind those that were written.
-fn write_pages<O: Sink>(
+/// Writes pages behind those that were written; their texts are made by all jobs.
+fn write_pages<R: Threads + Sync, O: Sink>(
+    rt: &R,
     alloc: Global,
-    pages: &[Page],
+    done: &[Page],
+    jobs: u8,
     writer: DocWriter,
     output: &mut O,
 ) -> Result<DocWriter, Status>
-    requires good { All IsPage pages.now }
-    requires few { writer.pages + length pages.now < 2 ^ 32 }
-    ensures wrote { WasGiven (observed O.taken O.faults output.old output.new) (numbered page_text (writer.pages + 1) pages.now) result }
-    ensures count { IfOk result (λ next. next.pages ≡ writer.pages + length pages.now) }
+    requires good { All IsPage done.now }
+    requires few { writer.pages + length done.now < 2 ^ 32 }
+    requires some_jobs { 1 ≤ jobs }
+    requires few_jobs { jobs ≤ 64 }
+    ensures wrote { WasGiven (observed O.taken O.faults output.old output.new) (numbered page_text (writer.pages + 1) done.now) result }
+    ensures count { IfOk result (λ next. next.pages ≡ writer.pages + length done.now) }
 {
-    let mut next = writer;
-    for one in pages {
-        next = page(alloc, next, one, output)?;
-    }
+    let next = pages(rt, alloc, writer, done, jobs, output)?;
     Ok(next)
 }
 
 /// Writes the pages that are done, and keeps them no longer.
-pub(crate) fn write_done<O: Sink>(
+pub(crate) fn write_done<R: Threads + Sync, O: Sink>(
+    rt: &R,
     alloc: Global,
     run: Running,
+    jobs: u8,
     output: &mut O,
 ) -> Result<Running, Status>
     requires way { IsUnderWay run }
     requires open { IsOpen run.press }
+    requires some { 1 ≤ jobs }
+    requires few { jobs ≤ 64 }
     ensures wrote { WasGiven (observed O.taken O.faults output.old output.new) (numbered page_text (run.writer.pages + 1) (done_pages run.press)) result }
     ensures running { IfOk result (λ next. (plan : Plan) (paper : Paper) (outcomes : List Outcome) (given : List Page) → IsRunning plan paper outcomes given run → IsRunning plan paper outcomes (given ++ done_pages run.press) next) }
     ensures open { IfOk result (λ next. IsOpen next.press) }
 {
     let mut press = run.press;
     let done = take_done(alloc, &mut press);
-    let writer = write_pages(alloc, done.as_slice(), run.writer, output)?;
+    let writer = write_pages(rt, alloc, done.as_slice(), jobs, run.writer, output)?;
     Ok(Running {
         press,
         told: run.told,
@@ -130,17 +136,21 @@ pub(crate) fn write_done<O: Sink>(
 }
 
 /// Writes the pages that are left, and the end of the document.
-pub(crate) fn end_run<O: Sink>(
+pub(crate) fn end_run<R: Threads + Sync, O: Sink>(
+    rt: &R,
     alloc: Global,
     run: Running,
+    jobs: u8,
     output: &mut O,
 ) -> Result<Printed, Status>
     requires way { IsUnderWay run }
     requires open { IsOpen run.press }
+    requires some { 1 ≤ jobs }
+    requires few { jobs ≤ 64 }
     ensures { (plan : Plan) (paper : Paper) (outcomes : List Outcome) (given : List Page) → IsGoodPaper paper → IsRunning plan paper outcomes given run → IsClosed plan paper outcomes given (observed O.taken O.faults output.old output.new) result }
 {
-    let pages = close_press(alloc, run.press)?;
-    let writer = write_pages(alloc, pages.as_slice(), run.writer, output)?;
+    let last = close_press(alloc, run.press)?;
+    let writer = write_pages(rt, alloc, last.as_slice(), jobs, run.writer, output)?;
     finish(alloc, writer, output)?;
     Ok(Printed {
         told: run.told,

@@ -1,9 +1,10 @@
 ghost use Rattle.std.specs.Prelude.{◌≤◌, ◌^◌, ◌++◌, Bool, List, All, IfOk, OnOk, length};
 ghost use Rattle.abc_lines.specs.{declared.book.TuneText.TuneText, Good.IsGoodTune};
-ghost use Rattle.abc_header.specs.{Good.IsGoodDefaults, Papers.IsGoodPaper, Papers.height_of};
+ghost use Rattle.abc_header.specs.{Good.IsGoodDefaults, Papers.{IsGoodPaper, height_of}};
+ghost use Rattle.set_tune.specs.Terms.{IsGoodHow, manner_of, terms_of};
 ghost use Rattle.set_book.specs.{declared.outcome.Outcome.Outcome, Outcomes.AreOutcomes};
-ghost use Rattle.set_pages.specs.{Drawings.all_blocks, Press.HasRoom, Press.IsOpen};
-ghost use Rattle.abcps.specs.{Pressed.AreGathered, Pressed.ArePrinted, Pressed.AreTaken, Pressed.IsPlanned, Pressed.IsPrinted, Outcome.observed};
+ghost use Rattle.set_pages.specs.{Drawings.all_blocks, Press.{HasRoom, IsOpen}};
+ghost use Rattle.abcps.specs.{Pressed.{AreGathered, ArePrinted, AreTaken, IsPlanned, IsPrinted}, Outcome.observed};
 
 use crate::pressing::{Printed, Running, begin_run, end_run, take, write_done};
 use crate::status::Status;
@@ -30,7 +31,6 @@ fn take_batch<R: Threads + Sync, G: Gate + Sync>(
     paper: &Paper,
     plan: &Plan,
     how: How,
-    jobs: u8,
     run: &mut Running,
     gate: &G,
 ) -> Result<(), Memory>
@@ -38,14 +38,13 @@ fn take_batch<R: Threads + Sync, G: Gate + Sync>(
     requires counted { All (λ tune. 1 ≤ tune.ordinal) batch.now }
     requires defaults { IsGoodDefaults defaults.now }
     requires paper { IsGoodPaper paper.now }
-    requires some { 1 ≤ jobs }
-    requires few { jobs ≤ 64 }
+    requires how { IsGoodHow how }
     requires open { IsOpen run.old.press }
-    requires room { (outcomes : List Outcome) → AreOutcomes defaults.now paper.now how batch.now outcomes → HasRoom plan.now (height_of paper.now) run.old.press (all_blocks outcomes) }
-    ensures taken { OnOk result (AreTaken defaults.now plan.now paper.now how batch.now run.old run.new) }
+    requires room { (outcomes : List Outcome) → AreOutcomes (terms_of defaults.now paper.now how) batch.now outcomes → HasRoom plan.now (height_of paper.now) run.old.press (all_blocks outcomes) }
+    ensures taken { OnOk result (AreTaken (terms_of defaults.now paper.now how) plan.now batch.now run.old run.new) }
     ensures open { OnOk result (IsOpen run.new.press) }
 {
-    let outcomes = set_tunes(rt, alloc, batch, defaults, paper, how, jobs, gate)?;
+    let outcomes = set_tunes(rt, alloc, batch, defaults, paper, how, how.jobs, gate)?;
     take(alloc, paper, plan, outcomes.as_slice(), run)
 }
 
@@ -57,7 +56,6 @@ fn gather_batch<R: Threads + Sync, G: Gate + Sync>(
     defaults: &Defaults,
     paper: &Paper,
     how: How,
-    jobs: u8,
     blocks: &mut Row<Block>,
     gate: &G,
 ) -> Result<(), Memory>
@@ -65,11 +63,10 @@ fn gather_batch<R: Threads + Sync, G: Gate + Sync>(
     requires counted { All (λ tune. 1 ≤ tune.ordinal) batch.now }
     requires defaults { IsGoodDefaults defaults.now }
     requires paper { IsGoodPaper paper.now }
-    requires some { 1 ≤ jobs }
-    requires few { jobs ≤ 64 }
-    ensures { OnOk result ((before : List TuneText) → AreGathered defaults.now paper.now how before blocks.old → AreGathered defaults.now paper.now how (before ++ batch.now) blocks.new) }
+    requires how { IsGoodHow how }
+    ensures { OnOk result ((before : List TuneText) → AreGathered (terms_of defaults.now paper.now how) before blocks.old → AreGathered (terms_of defaults.now paper.now how) (before ++ batch.now) blocks.new) }
 {
-    let outcomes = set_tunes(rt, alloc, batch, defaults, paper, how, jobs, gate)?;
+    let outcomes = set_tunes(rt, alloc, batch, defaults, paper, how, how.jobs, gate)?;
     gather_blocks(alloc, outcomes.as_slice(), blocks)?;
     Ok(())
 }
@@ -82,32 +79,20 @@ fn gather_tunes<R: Threads + Sync, G: Gate + Sync>(
     defaults: &Defaults,
     paper: &Paper,
     how: How,
-    jobs: u8,
     gate: &G,
 ) -> Result<Row<Block>, Memory>
     requires tunes { All IsGoodTune tunes.now }
     requires counted { All (λ tune. 1 ≤ tune.ordinal) tunes.now }
     requires defaults { IsGoodDefaults defaults.now }
     requires paper { IsGoodPaper paper.now }
-    requires some { 1 ≤ jobs }
-    requires few { jobs ≤ 64 }
-    ensures { IfOk result (AreGathered defaults.now paper.now how tunes.now) }
+    requires how { IsGoodHow how }
+    ensures { IfOk result (AreGathered (terms_of defaults.now paper.now how) tunes.now) }
 {
     let mut blocks = Row::new(alloc);
     let mut rest = tunes;
     'batches: while !rest.is_empty() {
         let (batch, later) = rest.split_at(rest.len().min(BATCH));
-        gather_batch(
-            rt,
-            alloc,
-            batch,
-            defaults,
-            paper,
-            how,
-            jobs,
-            &mut blocks,
-            gate,
-        )?;
+        gather_batch(rt, alloc, batch, defaults, paper, how, &mut blocks, gate)?;
         rest = later;
     }
     Ok(blocks)
@@ -123,21 +108,19 @@ fn plan_tunes<R: Threads + Sync, G: Gate + Sync>(
     paper: &Paper,
     how: How,
     even: bool,
-    jobs: u8,
     gate: &G,
 ) -> Result<Plan, Memory>
     requires tunes { All IsGoodTune tunes.now }
     requires counted { All (λ tune. 1 ≤ tune.ordinal) tunes.now }
     requires defaults { IsGoodDefaults defaults.now }
     requires paper { IsGoodPaper paper.now }
-    requires some { 1 ≤ jobs }
-    requires few { jobs ≤ 64 }
-    ensures { IfOk result (IsPlanned even defaults.now paper.now how tunes.now) }
+    requires how { IsGoodHow how }
+    ensures { IfOk result (IsPlanned even (terms_of defaults.now paper.now how) tunes.now) }
 {
     if !even {
         return Ok(Plan::Filled);
     }
-    let blocks = gather_tunes(rt, alloc, tunes, defaults, paper, how, jobs, gate)?;
+    let blocks = gather_tunes(rt, alloc, tunes, defaults, paper, how, gate)?;
     let plan = even_plan(alloc, paper, blocks.as_slice())?;
     Ok(plan)
 }
@@ -152,7 +135,6 @@ fn print_tunes<R: Threads + Sync, O: Sink, G: Gate + Sync>(
     paper: &Paper,
     plan: &Plan,
     how: How,
-    jobs: u8,
     output: &mut O,
     gate: &G,
 ) -> Result<Running, Status>
@@ -160,19 +142,16 @@ fn print_tunes<R: Threads + Sync, O: Sink, G: Gate + Sync>(
     requires counted { All (λ tune. 1 ≤ tune.ordinal) tunes.now }
     requires defaults { IsGoodDefaults defaults.now }
     requires paper { IsGoodPaper paper.now }
-    requires some { 1 ≤ jobs }
-    requires few { jobs ≤ 64 }
-    requires planned { (even : Bool) × IsPlanned even defaults.now paper.now how tunes.now plan.now }
-    ensures { ArePrinted defaults.now plan.now paper.now how tunes.now (observed O.taken O.faults output.old output.new) result }
+    requires how { IsGoodHow how }
+    requires planned { (even : Bool) × IsPlanned even (terms_of defaults.now paper.now how) tunes.now plan.now }
+    ensures { ArePrinted (terms_of defaults.now paper.now how) plan.now tunes.now (observed O.taken O.faults output.old output.new) result }
 {
     let mut run = begin_run(alloc, paper, output)?;
     let mut rest = tunes;
     'batches: while !rest.is_empty() {
-        run = write_done(alloc, run, output)?;
+        run = write_done(rt, alloc, run, how.jobs, output)?;
         let (batch, later) = rest.split_at(rest.len().min(BATCH));
-        take_batch(
-            rt, alloc, batch, defaults, paper, plan, how, jobs, &mut run, gate,
-        )?;
+        take_batch(rt, alloc, batch, defaults, paper, plan, how, &mut run, gate)?;
         rest = later;
     }
     Ok(run)
@@ -186,22 +165,20 @@ pub(crate) fn print_book<R: Threads + Sync, O: Sink, G: Gate + Sync>(
     text: &[u8],
     how: How,
     even: bool,
-    jobs: u8,
     output: &mut O,
     gate: &G,
 ) -> Result<Printed, Status>
-    requires some { 1 ≤ jobs }
-    requires few { jobs ≤ 64 }
+    requires how { IsGoodHow how }
     requires within { length text.now ≤ 2 ^ 30 }
-    ensures { IsPrinted how even text.now (observed O.taken O.faults output.old output.new) result }
+    ensures { IsPrinted (manner_of how) even text.now (observed O.taken O.faults output.old output.new) result }
 {
     let book = cut_book(alloc, text)?;
     let paper = read_paper(&book);
     let defaults = read_defaults(alloc, &book)?;
     let tunes = book.tunes.as_slice();
-    let plan = plan_tunes(rt, alloc, tunes, &defaults, &paper, how, even, jobs, gate)?;
+    let plan = plan_tunes(rt, alloc, tunes, &defaults, &paper, how, even, gate)?;
     let run = print_tunes(
-        rt, alloc, tunes, &defaults, &paper, &plan, how, jobs, output, gate,
+        rt, alloc, tunes, &defaults, &paper, &plan, how, output, gate,
     )?;
-    end_run(alloc, run, output)
+    end_run(rt, alloc, run, how.jobs, output)
 }

@@ -2,10 +2,10 @@ ghost use Rattle.std.specs.Prelude.{◌≡◌, ◌++◌, OnOk};
 ghost use Rattle.abcps.specs.Refusals.{not_pages_line, refusal_line, refusal_status};
 
 use crate::status::Status;
+use eng_lines::put_number;
 use mus_units::{Memory, Text};
 use paint_text::put_halt;
 use ps_machine::Cause;
-use ps_text::fields::put_number;
 
 /// Why an input is refused, for which nothing is written on output: it fixes the answer, and the line
 /// that is told on errors.

@@ -1,6 +1,6 @@
 ghost use Rattle.std.specs.Prelude.{◌≡◌, ◌≤◌, length, map, string_bytes};
 ghost use Rattle.abcps_words.specs.Command.{IsGoodCommand, limit_of};
-ghost use Rattle.abcps.specs.{Calls.CallsOne, Calls.NeverBoth, Outcome.IsAnswer, Outcome.IsObeyed, Outcome.IsReader, Outcome.IsRun, Outcome.observed, Promises.Promises};
+ghost use Rattle.abcps.specs.{Calls.{CallsOne, NeverBoth}, Outcome.{IsAnswer, IsObeyed, IsReader, IsRun, observed}, Promises.Promises};
 
 use crate::books::{set, systems, trial};
 use crate::hearing::hear;
@@ -45,16 +45,16 @@ fn answer<R: Threads + Sync, O: Sink, E: Sink, G: Gate + Sync>(
                 rt,
                 alloc,
                 text,
-                How { flow, by },
+                How { flow, by, jobs },
                 even,
-                jobs,
                 output,
                 errors,
                 gate,
             )
         }
         Command::Systems { flow, table, by } => {
-            systems(rt, alloc, text, How { flow, by }, table, output, errors)
+            let how = How { flow, by, jobs: 1 };
+            systems(rt, alloc, text, how, table, output, errors)
         }
         Command::Inspect => inspect(alloc, text, output, errors),
         Command::Check => check(alloc, text, output, errors),

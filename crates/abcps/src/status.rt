@@ -1,5 +1,5 @@
 ghost use Rattle.std.specs.Prelude.{◌≡◌};
-ghost use Rattle.abcps.specs.{Status.number_of, Status.status_after, declared.status.Status.Status};
+ghost use Rattle.abcps.specs.{Status.{number_of, status_after}, declared.status.Status.Status};
 
 use mus_units::Memory;
 use ps_write::DocError;

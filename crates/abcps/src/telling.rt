@@ -1,6 +1,6 @@
 ghost use Rattle.std.specs.Prelude.{◌≡◌, ◌⊎◌, IfOk};
 ghost use Rattle.abcps_words.specs.Usage.{usage_line};
-ghost use Rattle.abcps.specs.{Outcome.IsAnswered, Outcome.IsEnd, Outcome.IsQuiet, Outcome.TookAll, Outcome.TookFront, Outcome.WasTold, Outcome.observed, Refusals.refusal_line, Refusals.refusal_status, declared.status.Status.Status};
+ghost use Rattle.abcps.specs.{Outcome.{IsAnswered, IsEnd, IsQuiet, TookAll, TookFront, WasTold, observed}, Refusals.{refusal_line, refusal_status}, declared.status.Status.Status};
 
 use crate::refusing::Refusal;
 use crate::status::Status;

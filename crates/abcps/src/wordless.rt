@@ -1,5 +1,5 @@
 ghost use Rattle.std.specs.{Prelude.◌≡◌, IoError.error_kind};
-ghost use Rattle.abcps.specs.{Wordless.IsWordless, Wordless.cause_of, declared.wordless.WordsError.WordsError, Outcome.observed};
+ghost use Rattle.abcps.specs.{Wordless.{IsWordless, cause_of}, declared.wordless.WordsError.WordsError, Outcome.observed};
 
 use crate::status::Status;
 use crate::telling::tell_usage;

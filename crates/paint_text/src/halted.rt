@@ -3,9 +3,9 @@
 ghost use Rattle.std.specs.Prelude.{◌≡◌, ◌++◌, OnOk};
 ghost use Rattle.paint_text.specs.PaintText.{cause_name, halt_line};
 
+use eng_lines::put_number;
 use mus_units::{Memory, Text};
 use ps_steps::Cause;
-use ps_text::fields::put_number;
 
 /// The name of a cause, as the line has it.
 pub fn cause_name(cause: Cause) -> &'static [u8]

@@ -4,10 +4,11 @@ ghost use Rattle.std.specs.{Prelude.◌≡◌, Prelude.◌++◌, Prelude.◌∷�
 ghost use Rattle.ps_text.specs.Fields.{quoted};
 ghost use Rattle.paint_text.specs.PaintText.{spaced, seg_text, paint_line, page_text, paint_text};
 
+use eng_lines::put_number;
 use itoa::Buffer;
 use mus_units::{Memory, Text};
 use ps_steps::{PagePaint, Paint, Seg};
-use ps_text::fields::{put_number, put_quoted};
+use ps_text::fields::put_quoted;
 
 /// Adds a number, with a space before it.
 fn put_spaced_one(out: &mut Text, number: i64) -> Result<(), Memory>

@@ -7,10 +7,10 @@ ghost use Rattle.ps_heard.specs.HeardText.{half_steps, head_line, heard_text, le
 use crate::column::Heard;
 use crate::sheets::hear_tune;
 use crate::tunes::{Part, tunes_of};
+use eng_lines::put_number;
 use itoa::Buffer;
 use mus_units::{Alter, Letter, Memory, Row, Spread, Text};
 use ps_text::Sheet;
-use ps_text::fields::put_number;
 use std::alloc::Global;
 
 /// A letter in capital.

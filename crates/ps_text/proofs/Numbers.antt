@@ -1,5 +1,6 @@
 -- Numbers of a page, as they stand in a line.
-use Rattle.std.{proofs.{Common.{◌≡◌, ℕ, ℤ, pos, negsuc, ◌<◌, ◌^◌, Bool, true, false, not, ◌==◌, List, [], ◌∷◌, ◌++◌, length, take, drop, refl, arith, suc, ◌-◌}, lemmas.{Bool.{Decides.nat_tests, and_parts}, Int.ints, Fmt.decimal_is_IsNumeral}, Math.Seq.{take-append_seam, drop-append_seam, take-length, drop-length}}, specs.{Fmt.{decimal, signed_decimal}, List.{prefix_len, list_all}, Str.Parse.AllDigits, Char.digit_value, Int.RustNames.FitsSigned}}
+use Rattle.std.{proofs.{Common.{◌≡◌, ℕ, ℤ, pos, negsuc, ◌<◌, ◌^◌, Bool, true, false, not, ◌==◌, List, [], ◌∷◌, ◌++◌, length, take, drop, refl, sym, ◌∙◌, arith, suc, ◌-◌, int_le, unsigned_abs, true≢false}, lemmas.{Bool.{Decides.nat_tests, and_parts}, Int.ints, Fmt.decimal_is_IsNumeral}, Math.Seq.{take-append_seam, drop-append_seam, take-length, drop-length}}, specs.{Fmt.{decimal, signed_decimal}, List.{prefix_len, list_all}, Str.Parse.AllDigits, Char.digit_value, Int.RustNames.FitsSigned}}
+use lib.Dec.{leb-zero}
 use lib.Signed.{mag}
 use mir.Syntax.{w64}
 use Rattle.ps_text.specs.{Range.IsNumber, Scanning.is_field, Scanning.ReadsNumber}
@@ -10,6 +11,11 @@ small (negsuc n) h = omega (arith, ints)
 
 pub fits : (z : ℤ) → IsNumber z → FitsSigned w64 z
 fits z n = record { sfits = small z n }
+
+-- a number below 0 has its sign before the digits
+pub minus_first : (z : ℤ) → int_le (pos 0) z ≡ false → 45 ∷ decimal (unsigned_abs z) ≡ signed_decimal z
+minus_first (pos n) e = absurd (true≢false (sym (leb-zero n) ∙ e))
+minus_first (negsuc n) e = refl
 
 is_false : (b : Bool) → (b ≡ true → ⊥) → not b ≡ true
 is_false true f = absurd (f refl)

@@ -82,6 +82,10 @@ heading_text k = heading_line k ++ codes "\npg\n"
 unfoldable pub closing : List ℕ
 closing = codes "grestore\nshowpage\n"
 
+-- what stands behind the heading of a page
+unfoldable pub body_text : Page → List ℕ
+body_text p = items_text p.items ++ closing
+
 -- page k, from 1
 unfoldable pub page_text : ℕ → Page → List ℕ
 page_text k p = heading_text k ++ items_text p.items ++ closing

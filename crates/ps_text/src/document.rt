@@ -1,12 +1,12 @@
 ghost use Rattle.std.specs.Prelude.{◌≡◌, ◌++◌, ◌∷◌, [], ◌+ℤ◌, pos, All, OnOk};
-ghost use Rattle.ps_text.specs.{Document.{numbered, mark_text, marks_text, rules_line, staff_line, staff_text, last_base, join_line, join_text, system_line, system_text, title_line, title_text, tune_line, tune_text, item_text, items_text, heading_line, heading_text, closing, page_text, count_line, trailer}, Range.{IsNumber, IsPageMark, IsStaff, IsJoined, IsSystem, IsItem, IsPage}};
+ghost use Rattle.ps_text.specs.{Document.{numbered, mark_text, marks_text, rules_line, staff_line, staff_text, last_base, join_line, join_text, system_line, system_text, title_line, title_text, tune_line, tune_text, item_text, items_text, heading_line, heading_text, closing, body_text, page_text, count_line, trailer}, Range.{IsNumber, IsPageMark, IsStaff, IsJoined, IsSystem, IsItem, IsPage}};
 
-use crate::fields::{put_number, put_words};
+use crate::fields::{put_line, put_words};
 use crate::marks::PageMark;
 use crate::names::size_name_of;
 use crate::sheet::{Item, Page, Staff};
 use crate::writing::put_op;
-use glyph_paths::put_numbers;
+use eng_lines::put_number;
 use mus_units::{Memory, Size, Text};
 
 #[tactic(auto, unfolding(crate::specs::Document::mark_text))]
@@ -34,8 +34,7 @@ pub fn put_rules(out: &mut Text, width: u32, y: i64) -> Result<(), Memory>
     ensures { OnOk result (out.new ≡ out.old ++ rules_line width y) }
 {
     let w = i64::from(width);
-    put_numbers(out, &[w, 2000, w, 1500, w, 1000, w, 500, w, 0, 0, y])?;
-    out.append(b"sf")
+    put_line(out, &[w, 2000, w, 1500, w, 1000, w, 500, w, 0, 0, y], b"sf")
 }
 
 #[tactic(auto, unfolding(crate::specs::Document::staff_line))]
@@ -75,8 +74,7 @@ fn put_staves(out: &mut Text, staves: &[Staff]) -> Result<(), Memory>
 pub fn put_join_line(out: &mut Text, top: i64, foot: i64) -> Result<(), Memory>
     ensures { OnOk result (out.new ≡ out.old ++ join_line top foot) }
 {
-    put_numbers(out, &[0, top, 0, foot])?;
-    out.append(b"vl")
+    put_line(out, &[0, top, 0, foot], b"vl")
 }
 
 /// The base of the last of some staves, the first of which is `first`.
@@ -136,8 +134,7 @@ pub fn put_title_line(
     ensures { OnOk result (out.new ≡ out.old ++ title_line x y size words.now) }
 {
     put_words(out, words)?;
-    put_numbers(out, &[0, 0, x, y])?;
-    out.append(size_name_of(size))
+    put_line(out, &[0, 0, x, y], size_name_of(size))
 }
 
 #[tactic(auto, unfolding(crate::specs::Document::title_text))]
@@ -189,8 +186,9 @@ pub fn put_heading_line(out: &mut Text, k: u64) -> Result<(), Memory>
     put_number(out, k)
 }
 
+/// Adds the two lines that begin page `k` of a document.
 #[tactic(auto, unfolding(crate::specs::Document::heading_text))]
-fn put_heading(out: &mut Text, k: u64) -> Result<(), Memory>
+pub fn put_heading(out: &mut Text, k: u64) -> Result<(), Memory>
     ensures { OnOk result (out.new ≡ out.old ++ heading_text k) }
 {
     put_heading_line(out, k)?;
@@ -204,15 +202,24 @@ fn put_closing(out: &mut Text) -> Result<(), Memory>
     out.append(b"grestore\nshowpage\n")
 }
 
+/// Adds what stands behind the heading of a page.
+#[tactic(auto, unfolding(crate::specs::Document::body_text))]
+pub fn put_body(out: &mut Text, p: &Page) -> Result<(), Memory>
+    requires { IsPage p.now }
+    ensures { OnOk result (out.new ≡ out.old ++ body_text p.now) }
+{
+    put_items(out, p.items.as_slice())?;
+    put_closing(out)
+}
+
 /// Adds page `k` of a document, from 1.
-#[tactic(auto, unfolding(crate::specs::Document::page_text))]
+#[tactic(auto, unfolding(crate::specs::Document::page_text, crate::specs::Document::body_text))]
 pub fn put_page(out: &mut Text, k: u64, p: &Page) -> Result<(), Memory>
     requires { IsPage p.now }
     ensures { OnOk result (out.new ≡ out.old ++ page_text k p.now) }
 {
     put_heading(out, k)?;
-    put_items(out, p.items.as_slice())?;
-    put_closing(out)
+    put_body(out, p)
 }
 
 #[tactic(auto, unfolding(crate::specs::Document::count_line))]

@@ -1,15 +1,40 @@
-ghost use Rattle.std.specs.Prelude.{◌≡◌, ◌++◌, OnOk, decimal, flat_map};
+ghost use Rattle.std.specs.{Prelude.{◌≡◌, ◌+◌, ◌≤◌, ◌++◌, ◌∷◌, OnOk, drop, flat_map, length}, Fmt.signed_decimal};
+ghost use Rattle.glyph_paths.specs.Procedure.{numbers};
 ghost use Rattle.ps_text.specs.Fields.{shown, quoted, in_parentheses};
 
-use itoa::Buffer;
+use itoa::write_digits;
 use mus_units::{Memory, Text};
 
-/// Adds a number.
-pub fn put_number(out: &mut Text, n: u64) -> Result<(), Memory>
-    ensures { OnOk result (out.new ≡ out.old ++ decimal n) }
+/// Writes a number, and a space behind it, into a line so that they end before `end`; tells where
+/// they begin. They have 21 bytes at most.
+fn write_number(line: &mut [u8], end: usize, z: i64) -> usize
+    requires { (21 ≤ end) × (end ≤ length line.old) }
+    ensures short { (result ≤ end) × (end ≤ result + 21) }
+    ensures written { drop result line.new ≡ signed_decimal z ++ 32 ∷ drop end line.old }
 {
-    let mut buffer = Buffer::new();
-    out.append(buffer.format(n).as_bytes())
+    line[end - 1] = b' ';
+    let start = write_digits(z.unsigned_abs(), line, end - 1);
+    if z >= 0 {
+        return start;
+    }
+    line[start - 1] = b'-';
+    start - 1
+}
+
+/// Adds up to 12 numbers in decimal, a space behind each, and a name. The numbers are put together
+/// from the last on, and added at once.
+#[tactic(auto, unfolding(glyph_paths::specs::Procedure::numbers))]
+pub(crate) fn put_line(out: &mut Text, zs: &[i64], name: &[u8]) -> Result<(), Memory>
+    requires { length zs.now ≤ 12 }
+    ensures { OnOk result (out.new ≡ out.old ++ numbers zs.now ++ name.now) }
+{
+    let mut line = [0; 252];
+    let mut start = line.len();
+    'places: for place in (0..zs.len()).rev() {
+        start = write_number(&mut line, start, zs[place]);
+    }
+    out.append(&line[start..])?;
+    out.append(name)
 }
 
 /// Adds a byte of words.

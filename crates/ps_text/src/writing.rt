@@ -1,11 +1,11 @@
 ghost use Rattle.std.specs.Prelude.{◌≡◌, ◌++◌, ◌↔◌, ◌≤ℤ◌, ◌+ℤ◌, ◌-ℤ◌, pos, IfOk, OnOk, IsTrue, MatchOption};
 ghost use Rattle.ps_text.specs.{Line.{mark_line, points, ends_of, quarter, glyph_line, words_line, stem_line, beam_line, arc_line}, Range.{IsPageMark, IsSpan, IsStretch}};
 
-use crate::fields::put_words;
+use crate::fields::{put_line, put_words};
 use crate::marks::PageMark;
 use crate::names::{size_name_of, way_name_of};
 use crate::range::{is_placed, is_span, is_stem, is_words_mark, moved};
-use glyph_paths::{name_of, put_numbers};
+use glyph_paths::name_of;
 use mus_units::{Glyph, Memory, Size, Text, Way};
 use std::alloc::Global;
 
@@ -13,8 +13,7 @@ use std::alloc::Global;
 fn put_glyph(out: &mut Text, glyph: Glyph, x: i64, dx: i64, dy: i64, y: i64) -> Result<(), Memory>
     ensures { OnOk result (out.new ≡ out.old ++ glyph_line glyph x dx dy y) }
 {
-    put_numbers(out, &[dx, dy, x, y])?;
-    out.append(name_of(glyph))
+    put_line(out, &[dx, dy, x, y], name_of(glyph))
 }
 
 #[tactic(auto, using(crate::proofs::Signs::as_passed), unfolding(crate::specs::Line::words_line))]
@@ -30,16 +29,14 @@ fn put_words_mark(
     ensures { OnOk result (out.new ≡ out.old ++ words_line size x dx dy words.now y) }
 {
     put_words(out, words)?;
-    put_numbers(out, &[dx, dy, x, y])?;
-    out.append(size_name_of(size))
+    put_line(out, &[dx, dy, x, y], size_name_of(size))
 }
 
 #[tactic(auto, using(crate::proofs::Signs::as_passed), unfolding(crate::specs::Line::stem_line))]
 fn put_stem(out: &mut Text, x: i64, dx: i64, from: i64, to: i64, y: i64) -> Result<(), Memory>
     ensures { OnOk result (out.new ≡ out.old ++ stem_line x dx from to y) }
 {
-    put_numbers(out, &[dx, to, dx, from, x, y])?;
-    out.append(b"st")
+    put_line(out, &[dx, to, dx, from, x, y], b"st")
 }
 
 /// The points at the two ends of a beam or an arc, and those above them.
@@ -67,14 +64,24 @@ fn ends_of(y: i64, x1: i64, x2: i64, from: i64, to: i64, rise: i64) -> Ends
 }
 
 /// Adds the four points of a beam or an arc: the one above the left end, at
-/// `p`, the one above the right end, at `q`, the right end and the left one.
+/// `p`, the one above the right end, at `q`, the right end and the left one;
+/// and a name.
 #[tactic(auto, using(crate::proofs::Signs::as_passed), unfolding(crate::specs::Line::points))]
-fn put_points(out: &mut Text, p: i64, q: i64, x1: i64, x2: i64, e: &Ends) -> Result<(), Memory>
-    ensures { OnOk result (out.new ≡ out.old ++ points p q x1 x2 e.now) }
+fn put_points(
+    out: &mut Text,
+    p: i64,
+    q: i64,
+    x1: i64,
+    x2: i64,
+    e: &Ends,
+    name: &[u8],
+) -> Result<(), Memory>
+    ensures { OnOk result (out.new ≡ out.old ++ points p q x1 x2 e.now ++ name.now) }
 {
-    put_numbers(
+    put_line(
         out,
         &[p, e.left_above, q, e.right_above, x2, e.right, x1, e.left],
+        name,
     )
 }
 
@@ -92,8 +99,7 @@ fn put_beam(
     ensures { OnOk result (out.new ≡ out.old ++ beam_line way x1 x2 from to y) }
 {
     let ends = ends_of(y, x1, x2, from, to, 250);
-    put_points(out, x1, x2, x1, x2, &ends)?;
-    out.append(way_name_of(way))
+    put_points(out, x1, x2, x1, x2, &ends, way_name_of(way))
 }
 
 /// A quarter of the way from one abscissa to another.
@@ -136,8 +142,7 @@ fn put_arc(
     let p = after_start(x1, x2);
     let q = before_end(x1, x2);
     let ends = ends_of(y, x1, x2, from, to, bulge);
-    put_points(out, p, q, x1, x2, &ends)?;
-    out.append(b"ac")
+    put_points(out, p, q, x1, x2, &ends, b"ac")
 }
 
 /// Adds the line of a mark on a staff at `y`, without the LF that ends it.

@@ -1,5 +1,5 @@
 -- A document that has gone out up to some byte, and what follows there.
-use Rattle.std.{proofs.{Common.{◌≡◌, ℕ, suc, ◌+◌, ◌<◌, ◌≤◌, List, [], ◌∷◌, ◌++◌, length, take, drop, refl, sym, ap, ◌∙◌, subst, get_or, zero-add, add-one, drop-cons, append-nil, append_assoc, length-append, arith, Option, Some, None, Result, Ok, Err}, lemmas.List.{take-append-drop, take-append-le, length-take-le}, Math.Seq.{drop-length, take-append-add, take-append_seam, take-length, drop-append-add, drop-append_seam}, KnownBytes.Appends-trans}, specs.Io.KnownBytes.Appends}
+use Rattle.std.{proofs.{Common.{◌≡◌, ℕ, suc, ◌+◌, ◌<◌, ◌≤◌, List, [], ◌∷◌, ◌++◌, length, take, drop, refl, sym, ap, ◌∙◌, subst, get_or, zero-add, add-one, drop-cons, append-nil, append_assoc, length-append, arith, Option}, lemmas.List.{take-append-drop, take-append-le, length-take-le}, Math.Seq.{drop-length, take-append-add, take-append_seam, take-length, drop-append-add, drop-append_seam}, KnownBytes.Appends-trans}, specs.Io.KnownBytes.Appends}
 use Rattle.ps_text.specs.{Document.document, Document.numbered, Document.page_text, Document.trailer, Prolog.prolog, declared.sheet.Page.Page, declared.sheet.Sheet.Sheet}
 use Rattle.ps_write.specs.{Written.WroteFront, Written.counted_from, declared.steps.DocError.DocError}
 

@@ -1,7 +1,7 @@
 -- What a step of a writer, or a whole document, gave to a sink.
-use Rattle.std.specs.{Prelude.{◌≡◌, ℕ, ◌+◌, ◌^◌, ◌<◌, ◌≤◌, length, take, List, [], ◌∷◌, Option, Result, Ok, Err, ⊤}, Io.KnownBytes.Appends}
+use Rattle.std.specs.{Prelude.{◌≡◌, ℕ, ◌+◌, ◌^◌, ◌<◌, ◌≤◌, length, take, List, ◌++◌, Option, Result, Ok, Err, ⊤}, Io.KnownBytes.Appends}
 use Rattle.eng_io.specs.Causes.{Rose}
-use Rattle.ps_text.specs.{Document.page_text, declared.sheet.Page.Page}
+use Rattle.ps_text.specs.Document.{heading_text}
 use Rattle.ps_write.specs.{declared.steps.DocError.DocError, declared.steps.DocWriter.DocWriter}
 
 -- exactly the first bytes that the error counts went out, or, for want of
@@ -41,7 +41,6 @@ abbrev pub counted_from : ℕ → DocError → DocError
 counted_from before (DocError.Write e) = DocError.Write (record { written = before + e.written })
 counted_from before DocError.Memory = DocError.Memory
 
--- pages, the first with the number k, went out one after another
-abbrev pub WrotePages : ℕ → List Page → Option (List ℕ) → Option (List ℕ) → Type 0
-WrotePages k [] old new = new ≡ old
-WrotePages k (p ∷ ps) old new = (mid : Option (List ℕ)) × Appends old mid (page_text k p) × WrotePages (k + 1) ps mid new
+-- page k, from what stands behind its heading
+abbrev pub headed_text : ℕ → List ℕ → List ℕ
+headed_text k body = heading_text k ++ body

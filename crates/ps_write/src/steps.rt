@@ -29,7 +29,7 @@ pub struct DocWriter {
 
 /// Writes a piece after `before` bytes of a document, and tells how many bytes
 /// of it there are then.
-fn send<O: Sink>(sink: &mut O, piece: &[u8], before: u64) -> Result<u64, DocError>
+pub(crate) fn send<O: Sink>(sink: &mut O, piece: &[u8], before: u64) -> Result<u64, DocError>
     ensures wrote { Wrote (O.taken sink.old) (O.taken sink.new) piece.now result }
     ensures counts { Counted (O.faults sink.old) (O.faults sink.new) result }
     ensures fits { FitsAfter before result }

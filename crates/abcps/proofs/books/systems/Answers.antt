@@ -1,8 +1,8 @@
+use Rattle.abcps.{specs.Books.{AreSet, terms_in, systems_called}, proofs.{Answered.answer_by, BookCalls.calls_systems}}
+use Rattle.set_tune.specs.Terms.{manner_of}
 use Rattle.std.proofs.Common.{subst, sym, arith}
-use Rattle.abc_header.specs.Defaults.{defaults_of}
 use Rattle.abc_lines.specs.Books.{book_of}
 use Rattle.set_lists.specs.Listing.{AreListable}
-use Rattle.abcps.{specs.Books.AreSet, specs.Books.paper_in, specs.Books.systems_called, proofs.Answered.answer_by, proofs.BookCalls.calls_systems}
 use Rattle.abcps.proofs.books.systems.Goals as goal
 use Rattle.abcps_words.specs.declared.command.Command.{Command}
 
@@ -10,11 +10,11 @@ pub write_systems-requires : goal.write_systems-requires
 write_systems-requires g c =
     let text = c.args.text.now in
     subst (λ outcomes. AreListable outcomes) (sym c.as_slice.ensures)
-    (c.outcomes_are_listable.ensures (defaults_of (book_of text).header) (paper_in text) c.args.how (book_of text).tunes c.in-Ok.book.outcomes c.in-Ok.ensures.set)
+    (c.outcomes_are_listable.ensures (terms_in (manner_of c.args.how) text) (book_of text).tunes c.in-Ok.book.outcomes c.in-Ok.ensures.set)
 
 pub returns : goal.returns
 returns g c =
     answer_by (Command.Systems c.args.how.flow c.args.table c.args.how.by) c.args.text.now (systems_called c.args.table c.as_slice.result.now)
-    (calls_systems c.lists_the_book.ensures c.args.how c.args.table c.args.text.now c.as_slice.result.now (let few = c.requires in omega (arith, few))
-    (subst (λ outcomes. AreSet c.args.how c.args.text.now outcomes) (sym c.as_slice.ensures) c.in-Ok.ensures.set))
+    (calls_systems c.lists_the_book.ensures (manner_of c.args.how) c.args.table c.args.text.now c.as_slice.result.now (let few = c.requires.within in omega (arith, few))
+    (subst (λ outcomes. AreSet (manner_of c.args.how) c.args.text.now outcomes) (sym c.as_slice.ensures) c.in-Ok.ensures.set))
     _ _ c.write_systems.result c.write_systems.ensures

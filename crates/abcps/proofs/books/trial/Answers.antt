@@ -1,7 +1,7 @@
-use Rattle.set_tune.specs.How.{unmoved}
-use Rattle.std.{proofs.Common.◌∙◌, proofs.Common.[], proofs.Common.subst, proofs.Common.sym, specs.List.All}
+use Rattle.set_tune.specs.Terms.{unmoved}
+use Rattle.std.{proofs.Common.{◌∙◌, [], subst, sym}, specs.List.All}
 use Rattle.set_pages.specs.Sheet.{IsSetUnder}
-use Rattle.abcps.{specs.Books.AreSet, specs.Books.IsTried, proofs.Answered.answer_of, proofs.BookCalls.set_under, proofs.BookCalls.tries}
+use Rattle.abcps.{specs.Books.{AreSet, IsTried}, proofs.{Answered.answer_of, BookCalls.{set_under, tries}}}
 use Rattle.abcps.proofs.books.trial.Goals as goal
 use Rattle.abcps_words.specs.declared.command.Command.{Command}
 

@@ -1,5 +1,5 @@
 use Rattle.std.proofs.Common.{◌∙◌, [], ap}
-use Rattle.abcps.{specs.Books.IsTried, specs.Called.Called, specs.declared.status.Status.Status, proofs.Answered.answered_weaker}
+use Rattle.abcps.{specs.{Books.IsTried, Called.Called, declared.status.Status.Status}, proofs.Answered.answered_weaker}
 use Rattle.abcps.proofs.books.write_trial.Goals as goal
 
 pub returns : goal.returns

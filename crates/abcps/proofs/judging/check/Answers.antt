@@ -1,6 +1,6 @@
 use Rattle.std.proofs.{Common.refl, KnownBytes.Keeps-refl}
 use Rattle.abcps_words.specs.declared.command.Command.{Command}
-use Rattle.abcps.{specs.Calls.IsNoListing, specs.declared.refusing.Refusal.Refusal, proofs.Answered.answer_refused}
+use Rattle.abcps.{specs.{Calls.IsNoListing, declared.refusing.Refusal.Refusal}, proofs.Answered.answer_refused}
 use Rattle.abcps.proofs.judging.check.Goals as goal
 
 pub returns-in-Err-NotListing : goal.returns-in-Err-NotListing

@@ -1,4 +1,4 @@
-use Rattle.std.proofs.{Common.refl, Common.subst, KnownBytes.Keeps-refl}
+use Rattle.std.proofs.{Common.{refl, subst}, KnownBytes.Keeps-refl}
 use Rattle.abcps_words.specs.declared.command.Command.{Command}
 use Rattle.ps_steps.specs.Steps.{Halts}
 use Rattle.abcps.{specs.declared.refusing.Refusal.Refusal, proofs.Answered.answer_refused}

@@ -1,11 +1,11 @@
-use Rattle.std.{proofs.Common.◌∙◌, proofs.Common.◌+◌, proofs.Common.length, proofs.Common.refl, proofs.Common.sym, proofs.Common.subst, proofs.Common.ap, specs.Prelude.All}
+use Rattle.std.{proofs.Common.{◌∙◌, ◌+◌, length, refl, sym, subst, ap}, specs.Prelude.All}
 use Rattle.ps_text.specs.Range.{IsPage}
 use Rattle.set_pages.proofs.Whole.{done_good}
 use Rattle.abcps.proofs.Batches.{running_written}
 use Rattle.abcps.proofs.pressing.write_done.Goals as goal
 
 pub write_pages-requires-clause-good : goal.write_pages-requires-clause-good
-write_pages-requires-clause-good g c =
+write_pages-requires-clause-good g c κs within =
     let way = c.requires.way in
     subst (λ pages. All IsPage pages) (sym (c.as_slice.ensures ∙ c.take_done-done.ensures.value)) (done_good way.plan way.paper way.outcomes way.given c.args.run.press way.running.pressed)
 

@@ -1,13 +1,14 @@
-use Rattle.std.{proofs.Common.sym, proofs.Common.subst, proofs.lemmas.List.Elements.All-drop, proofs.lemmas.List.Elements.All-take, specs.Prelude.All}
+use Rattle.set_tune.specs.Terms.{terms_of}
+use Rattle.std.{proofs.{Common.{sym, subst}, lemmas.List.Elements.{All-drop, All-take}}, specs.Prelude.All}
 use Rattle.abc_lines.specs.Good.{IsGoodTune}
-use Rattle.abcps.proofs.{Batches.IsCounted, Gathered.IsGathering, Gathered.gathering_done, Gathered.gathering_first, Gathered.gathering_more, Gathered.none_left}
+use Rattle.abcps.proofs.{Batches.IsCounted, Gathered.{IsGathering, gathering_done, gathering_first, gathering_more, none_left}}
 use Rattle.abcps.proofs.printing.gather_tunes.Goals as goal
 
 pub batches-init : goal.batches-init
 batches-init g c = record {
   gathering =
-      subst (λ blocks. IsGathering c.args.defaults.now c.args.paper.now c.args.how c.args.tunes.now c.args.tunes.now blocks) (sym c.new-blocks.ensures)
-      (gathering_first c.args.defaults.now c.args.paper.now c.args.how c.args.tunes.now);
+      subst (λ blocks. IsGathering (terms_of c.args.defaults.now c.args.paper.now c.args.how) c.args.tunes.now c.args.tunes.now blocks) (sym c.new-blocks.ensures)
+      (gathering_first (terms_of c.args.defaults.now c.args.paper.now c.args.how) c.args.tunes.now);
   good = c.requires.tunes;
   counted = c.requires.counted;
 }
@@ -23,7 +24,7 @@ gather_batch-requires-clause-counted g c κs within =
 pub batches-preserved : goal.batches-preserved
 batches-preserved g c = record {
   gathering =
-      gathering_more c.args.defaults.now c.args.paper.now c.args.how c.args.tunes.now c.batches.rest.now c.split_at.result.0.now c.split_at.result.1.now c.min.result c.batches.blocks c.gather_batch.new.blocks
+      gathering_more (terms_of c.args.defaults.now c.args.paper.now c.args.how) c.args.tunes.now c.batches.rest.now c.split_at.result.0.now c.split_at.result.1.now c.min.result c.batches.blocks c.gather_batch.new.blocks
       c.split_at.ensures.front c.split_at.ensures.back c.in_ok-gather_batch.ensures c.batches.invariant.gathering;
   good = subst (λ tunes. All IsGoodTune tunes) (sym c.split_at.ensures.back) (All-drop IsGoodTune c.min.result c.batches.rest.now c.batches.invariant.good);
   counted = subst (λ tunes. All IsCounted tunes) (sym c.split_at.ensures.back) (All-drop IsCounted c.min.result c.batches.rest.now c.batches.invariant.counted);
@@ -31,5 +32,5 @@ batches-preserved g c = record {
 
 pub returns : goal.returns
 returns g c =
-    gathering_done c.args.defaults.now c.args.paper.now c.args.how c.args.tunes.now c.batches.rest.now c.batches.blocks
+    gathering_done (terms_of c.args.defaults.now c.args.paper.now c.args.how) c.args.tunes.now c.batches.rest.now c.batches.blocks
     (none_left c.batches.rest.now c.is_empty.result c.is_empty.ensures c.batches-test.false) c.batches.invariant.gathering

@@ -1,3 +1,4 @@
+use Rattle.set_tune.specs.Terms.{terms_of}
 use Rattle.std.{proofs.Common.length, specs.Prelude.All}
 use Rattle.abc_lines.specs.Good.{IsGoodTune}
 use Rattle.abcps.proofs.{Batches.IsCounted, Gathered.IsGathering}
@@ -5,7 +6,7 @@ use Rattle.abcps.proofs.printing.gather_tunes.Given as goal
 
 abbrev pub invariant-batches : goal.invariant-batches
 invariant-batches g l = record {
-  gathering : IsGathering l.defaults l.paper l.how l.tunes l.rest l.blocks;
+  gathering : IsGathering (terms_of l.defaults l.paper l.how) l.tunes l.rest l.blocks;
   good : All IsGoodTune l.rest;
   counted : All IsCounted l.rest;
 }

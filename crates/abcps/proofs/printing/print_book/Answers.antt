@@ -1,4 +1,5 @@
-use Rattle.std.{proofs.Common.◌≡◌, proofs.Common.◌∙◌, proofs.Common.refl, proofs.Common.sym, proofs.Common.ap, proofs.Common.subst, proofs.Common.rules, proofs.Common.Err, specs.Prelude.All}
+use Rattle.set_tune.specs.Terms.{manner_of, terms_of}
+use Rattle.std.{proofs.Common.{◌≡◌, ◌∙◌, refl, sym, ap, subst, rules, Err}, specs.Prelude.All}
 use Rattle.abc_lines.specs.declared.book.Book.{Book}
 use Rattle.abc_header.specs.Papers.{IsGoodPaper}
 use Rattle.abcps.{specs.{Pressed.{unbegun, AreCutOff, AreRunning, IsPlanned, IsPrinted}, declared.status.Status.Status, Books.paper_in, Outcome.IsQuiet}, proofs.{Batches.IsCounted, Cut.{of_book, printed, unprinted}, Sent.stream}}
@@ -22,7 +23,7 @@ pub returns-in_err-plan : goal.returns-in_err-plan
 returns-in_err-plan g c =
     let is : c.from_residual-in_err-plan.result ≡ Err Status.Memory = search rules in
     let quiet : IsQuiet (stream (g.O.Sink.taken c.args.output.now) (g.O.Sink.taken c.args.output.now) (g.O.Sink.faults c.args.output.now) (g.O.Sink.faults c.args.output.now)) = search rules in
-    subst (λ r. IsPrinted c.args.how c.args.even c.args.text.now (stream (g.O.Sink.taken c.args.output.now) (g.O.Sink.taken c.args.output.now) (g.O.Sink.faults c.args.output.now) (g.O.Sink.faults c.args.output.now)) r) (sym is)
+    subst (λ r. IsPrinted (manner_of c.args.how) c.args.even c.args.text.now (stream (g.O.Sink.taken c.args.output.now) (g.O.Sink.taken c.args.output.now) (g.O.Sink.faults c.args.output.now) (g.O.Sink.faults c.args.output.now)) r) (sym is)
     (unbegun refl quiet)
 
 pub returns-in_err-run : goal.returns-in_err-run
@@ -33,14 +34,14 @@ returns-in_err-run g c =
     of_book (λ defaults paper tunes. IsGoodPaper paper) text c.in_ok-book.book c.read_paper-paper.result c.in_ok-defaults.defaults c.as_slice-tunes.result.now c.in_ok-book.ensures.book c.read_paper-paper.ensures.value
     c.in_ok-defaults.ensures.value c.as_slice-tunes.ensures c.read_paper-paper.ensures.good in
     let planned =
-    of_book (λ defaults paper tunes. IsPlanned c.args.even defaults paper c.args.how tunes c.in_ok-plan.plan) text c.in_ok-book.book c.read_paper-paper.result c.in_ok-defaults.defaults c.as_slice-tunes.result.now c.in_ok-book.ensures.book
+    of_book (λ defaults paper tunes. IsPlanned c.args.even (terms_of defaults paper c.args.how) tunes c.in_ok-plan.plan) text c.in_ok-book.book c.read_paper-paper.result c.in_ok-defaults.defaults c.as_slice-tunes.result.now c.in_ok-book.ensures.book
     c.read_paper-paper.ensures.value c.in_ok-defaults.ensures.value c.as_slice-tunes.ensures c.in_ok-plan.ensures in
     let cut =
-    of_book (λ defaults paper tunes. AreCutOff defaults c.in_ok-plan.plan paper c.args.how tunes (stream (g.O.Sink.taken c.args.output.now) (g.O.Sink.taken c.print_tunes.new.output) (g.O.Sink.faults c.args.output.now) (g.O.Sink.faults c.print_tunes.new.output)) c.in_err-run.field-0.0)
+    of_book (λ defaults paper tunes. AreCutOff (terms_of defaults paper c.args.how) c.in_ok-plan.plan tunes (stream (g.O.Sink.taken c.args.output.now) (g.O.Sink.taken c.print_tunes.new.output) (g.O.Sink.faults c.args.output.now) (g.O.Sink.faults c.print_tunes.new.output)) c.in_err-run.field-0.0)
     text c.in_ok-book.book c.read_paper-paper.result c.in_ok-defaults.defaults c.as_slice-tunes.result.now c.in_ok-book.ensures.book c.read_paper-paper.ensures.value
     c.in_ok-defaults.ensures.value c.as_slice-tunes.ensures c.in_err-run.ensures in
-    subst (λ r. IsPrinted c.args.how c.args.even text (stream (g.O.Sink.taken c.args.output.now) (g.O.Sink.taken c.print_tunes.new.output) (g.O.Sink.faults c.args.output.now) (g.O.Sink.faults c.print_tunes.new.output)) r) (sym is)
-    (unprinted c.args.how c.args.even text c.in_ok-plan.plan _ c.in_err-run.field-0.0 good planned cut)
+    subst (λ r. IsPrinted (manner_of c.args.how) c.args.even text (stream (g.O.Sink.taken c.args.output.now) (g.O.Sink.taken c.print_tunes.new.output) (g.O.Sink.faults c.args.output.now) (g.O.Sink.faults c.print_tunes.new.output)) r) (sym is)
+    (unprinted (manner_of c.args.how) c.args.even text c.in_ok-plan.plan _ c.in_err-run.field-0.0 good planned cut)
 
 pub returns : goal.returns
 returns g c =
@@ -49,11 +50,11 @@ returns g c =
     of_book (λ defaults paper tunes. IsGoodPaper paper) text c.in_ok-book.book c.read_paper-paper.result c.in_ok-defaults.defaults c.as_slice-tunes.result.now c.in_ok-book.ensures.book c.read_paper-paper.ensures.value
     c.in_ok-defaults.ensures.value c.as_slice-tunes.ensures c.read_paper-paper.ensures.good in
     let planned =
-    of_book (λ defaults paper tunes. IsPlanned c.args.even defaults paper c.args.how tunes c.in_ok-plan.plan) text c.in_ok-book.book c.read_paper-paper.result c.in_ok-defaults.defaults c.as_slice-tunes.result.now c.in_ok-book.ensures.book
+    of_book (λ defaults paper tunes. IsPlanned c.args.even (terms_of defaults paper c.args.how) tunes c.in_ok-plan.plan) text c.in_ok-book.book c.read_paper-paper.result c.in_ok-defaults.defaults c.as_slice-tunes.result.now c.in_ok-book.ensures.book
     c.read_paper-paper.ensures.value c.in_ok-defaults.ensures.value c.as_slice-tunes.ensures c.in_ok-plan.ensures in
     let run =
-    of_book (λ defaults paper tunes. AreRunning defaults c.in_ok-plan.plan paper c.args.how tunes (stream (g.O.Sink.taken c.args.output.now) (g.O.Sink.taken c.print_tunes.new.output) (g.O.Sink.faults c.args.output.now) (g.O.Sink.faults c.print_tunes.new.output)) c.in_ok-run.run')
+    of_book (λ defaults paper tunes. AreRunning (terms_of defaults paper c.args.how) c.in_ok-plan.plan tunes (stream (g.O.Sink.taken c.args.output.now) (g.O.Sink.taken c.print_tunes.new.output) (g.O.Sink.faults c.args.output.now) (g.O.Sink.faults c.print_tunes.new.output)) c.in_ok-run.run')
     text c.in_ok-book.book c.read_paper-paper.result c.in_ok-defaults.defaults c.as_slice-tunes.result.now c.in_ok-book.ensures.book c.read_paper-paper.ensures.value
     c.in_ok-defaults.ensures.value c.as_slice-tunes.ensures c.in_ok-run.ensures in
-    printed c.args.how c.args.even text c.in_ok-plan.plan (g.O.Sink.taken c.args.output.now) (g.O.Sink.taken c.print_tunes.new.output) (g.O.Sink.taken c.end_run.new.output) (g.O.Sink.faults c.args.output.now) (g.O.Sink.faults c.print_tunes.new.output)
+    printed (manner_of c.args.how) c.args.even text c.in_ok-plan.plan (g.O.Sink.taken c.args.output.now) (g.O.Sink.taken c.print_tunes.new.output) (g.O.Sink.taken c.end_run.new.output) (g.O.Sink.faults c.args.output.now) (g.O.Sink.faults c.print_tunes.new.output)
     (g.O.Sink.faults c.end_run.new.output) c.in_ok-run.run' good planned run c.end_run.result (c.end_run.ensures c.in_ok-plan.plan (paper_in text) run.outcomes run.given good run.running)

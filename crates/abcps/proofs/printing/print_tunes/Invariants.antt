@@ -1,12 +1,13 @@
+use Rattle.set_tune.specs.Terms.{terms_of}
 use Rattle.std.{proofs.Common.length, specs.Prelude.All}
 use Rattle.abc_lines.specs.Good.{IsGoodTune}
-use Rattle.abcps.proofs.{Batches.IsCounted, Batches.IsUnderway, Sent.stream}
+use Rattle.abcps.proofs.{Batches.{IsCounted, IsUnderway}, Sent.stream}
 use Rattle.abcps.proofs.printing.print_tunes.Given as goal
 
 abbrev pub invariant-batches : goal.invariant-batches
 invariant-batches g l = record {
   underway :
-      IsUnderway l.defaults l.plan l.paper l.how l.tunes l.rest
+      IsUnderway (terms_of l.defaults l.paper l.how) l.plan l.tunes l.rest
       (stream (g.O.Sink.taken l.fn.output) (g.O.Sink.taken l.output) (g.O.Sink.faults l.fn.output) (g.O.Sink.faults l.output)) l.run;
   good : All IsGoodTune l.rest;
   counted : All IsCounted l.rest;

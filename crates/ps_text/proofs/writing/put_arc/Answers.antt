@@ -17,5 +17,4 @@ returns c =
     let ends = rw (y, from, to, bulge) at c.ends_of-ends.ensures in
     let p = to_z-of_z w64 c.after_start-p.result (record { sfits = c.after_start-p.type_inv }) in
     let q = to_z-of_z w64 c.before_end-q.result (record { sfits = c.before_end-q.type_inv }) in
-    let points = rw (p, q, left, right, x1, x2) at c.in_ok-put_points.ensures in
-    rw (points, ends, append_assoc) at c.append.ensures.ok
+    rw (p, q, left, right, x1, x2, ends, append_assoc) at c.put_points.ensures

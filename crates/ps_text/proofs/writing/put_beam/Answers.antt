@@ -12,5 +12,4 @@ returns c =
     let from = to_z-of_z w64 c.args.from c.ranges.from in
     let to = to_z-of_z w64 c.args.to c.ranges.to in
     let ends = rw (y, from, to) at c.ends_of-ends.ensures in
-    let points = rw (x1, x2) at c.in_ok-put_points.ensures in
-    rw (points, ends, c.way_name_of.ensures, append_assoc) at c.append.ensures.ok
+    rw (x1, x2, ends, c.way_name_of.ensures, append_assoc) at c.put_points.ensures

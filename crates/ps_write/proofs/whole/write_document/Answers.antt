@@ -1,6 +1,5 @@
-use Rattle.std.{proofs.{Common.{arith, ◌≡◌, ◌+◌, ◌++◌, ◌<◌, [], length, drop, take, append-nil, sym, ◌∙◌, ap, subst, List, refl, rules, Result, Err, get_or}, Math.Seq.take-length}, specs.Io.KnownBytes.Appends}
-use Rattle.ps_text.specs.{Document.document, Document.numbered, Document.page_text, Document.trailer, Prolog.prolog}
-use Rattle.ps_write.{specs.Written.{Wrote, Counted, FitsError, counted_from}, proofs.Fronts.{StandsAt, wrote_first, wrote_part, Started, started, document_start, stands_at_page, stands_at_end, sent_more, sent_all, within_part, drop_part}}
+use Rattle.std.proofs.Common.{arith, ◌≡◌, ◌<◌, length, ap, rules, Err, get_or}
+use Rattle.ps_write.proofs.Fronts.{wrote_first, wrote_part, started, document_start, stands_at_page, stands_at_end, sent_more, sent_all, within_part, drop_part}
 use Rattle.ps_write.proofs.whole.write_document.Goals as goal
 
 pub returns-in_err-w-clause-wrote : goal.returns-in_err-w-clause-wrote

@@ -1,0 +1,109 @@
+ghost use Rattle.std.specs.Prelude.{◌≡◌, ◌+◌, ◌^◌, ◌<◌, ◌≤◌, ◌++◌, All, IfOk, OnOk, length, map};
+ghost use Rattle.ps_text.specs.{Document.body_text, Document.numbered, Document.page_text, Range.IsPage};
+ghost use Rattle.ps_write.specs.Written.{Counted, FitsAfter, IsNext, Wrote, headed_text};
+
+use crate::steps::{DocError, DocWriter, send};
+use eng_halves::{Work, work_all};
+use eng_io::Sink;
+use mus_units::{Memory, Row, Text};
+use ps_text::{Page, put_body, put_heading};
+use std::alloc::Global;
+use std::thread::Threads;
+
+/// The making of what stands behind the headings of pages.
+#[derive(Drop)]
+struct Making {
+    alloc: Global,
+}
+
+impl Work<Page, Text> for Making {
+    ghost takes = { λ making p. IsPage p };
+
+    ghost gives = { λ making p body. body ≡ body_text p };
+
+    fn work(&self, page: &Page, _jobs: u8) -> Result<Text, Memory> {
+        let mut body = Text::new(self.alloc);
+        put_body(&mut body, page)?;
+        Ok(body)
+    }
+}
+
+/// What stands behind the heading of each page, made by all jobs.
+fn bodies_of<R: Threads + Sync>(
+    rt: &R,
+    alloc: Global,
+    pages: &[Page],
+    jobs: u8,
+) -> Result<Row<Text>, Memory>
+    requires good { All IsPage pages.now }
+    requires some { 1 ≤ jobs }
+    requires few { jobs ≤ 64 }
+    ensures { IfOk result (λ bodies. bodies ≡ map body_text pages.now) }
+{
+    let bodies = work_all(rt, alloc, pages, jobs, &Making { alloc })?;
+    Ok(bodies)
+}
+
+/// Adds pages of these bodies, the first with the number `first`. Each body is given up once it is
+/// added.
+fn put_headed(out: &mut Text, first: u64, bodies: Row<Text>) -> Result<(), Memory>
+    requires { first + length bodies < 2 ^ 64 }
+    ensures { OnOk result (out.new ≡ out.old ++ numbered headed_text first bodies) }
+{
+    let mut k = first;
+    for body in bodies.items {
+        put_heading(out, k)?;
+        out.append(body.as_slice())?;
+        k += 1;
+    }
+    Ok(())
+}
+
+#[tactic(auto, using(crate::proofs::Headed::headed_pages))]
+fn pages_bytes<R: Threads + Sync>(
+    rt: &R,
+    alloc: Global,
+    first: u64,
+    pages: &[Page],
+    jobs: u8,
+) -> Result<Text, Memory>
+    requires good { All IsPage pages.now }
+    requires few_pages { first + length pages.now < 2 ^ 64 }
+    requires some { 1 ≤ jobs }
+    requires few { jobs ≤ 64 }
+    ensures { IfOk result (λ text. text ≡ numbered page_text first pages.now) }
+{
+    let bodies = bodies_of(rt, alloc, pages, jobs)?;
+    let mut text = Text::new(alloc);
+    put_headed(&mut text, first, bodies)?;
+    Ok(text)
+}
+
+/// Writes the next pages, whose texts are made by all jobs, 1 to 64, and written in order. The last
+/// of them is one that a document can number.
+pub fn pages<R: Threads + Sync, O: Sink>(
+    rt: &R,
+    alloc: Global,
+    w: DocWriter,
+    pages: &[Page],
+    jobs: u8,
+    sink: &mut O,
+) -> Result<DocWriter, DocError>
+    requires good { All IsPage pages.now }
+    requires few_pages { w.pages + length pages.now < 2 ^ 32 }
+    requires some { 1 ≤ jobs }
+    requires few { jobs ≤ 64 }
+    ensures wrote { Wrote (O.taken sink.old) (O.taken sink.new) (numbered page_text (w.pages + 1) pages.now) result }
+    ensures counts { Counted (O.faults sink.old) (O.faults sink.new) result }
+    ensures fits { FitsAfter w.written result }
+    ensures writer { IfOk result (λ v. IsNext (w.pages + length pages.now) w.written (numbered page_text (w.pages + 1) pages.now) v) }
+{
+    let Ok(text) = pages_bytes(rt, alloc, u64::from(w.pages) + 1, pages, jobs) else {
+        return Err(DocError::Memory);
+    };
+    let written = send(sink, text.as_slice(), w.written)?;
+    Ok(DocWriter {
+        pages: w.pages + pages.len() as u32,
+        written,
+    })
+}
