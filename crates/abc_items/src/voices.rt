@@ -1,4 +1,4 @@
-ghost use Rattle.std.specs.{Prelude.{◌≡◌, ◌++◌, ◌∷◌, ◌&&◌, ◌||◌, not, ◌==◌, IfOk, OnOk, map, find, fold, length, unwrap_or, true, false, All}, List.list_any, Option.option_copied, Str.bytes_eq};
+ghost use Rattle.std.specs.{Prelude.{◌≡◌, ◌++◌, ◌∷◌, ◌&&◌, ◌||◌, not, ◌==◌, [], IfOk, OnOk, map, find, fold, length, unwrap_or, true, false, All}, List.list_any, Option.option_copied, Str.bytes_eq};
 ghost use Rattle.abc_steps.specs.Good.{IsGoodStood};
 ghost use Rattle.abc_items.specs.{Good.IsGoodItem, Voices.{claims, voice_one, ids_by_step, ids_after, declared_ids, ids_of, unnamed_of, declared, decides, clef_in, still_alone, first_clef, clef_first, start_clef, wish_in, wish_if, declared_wish, start_stem, start_of, starts_of, stood, break_if, clef_step, one_if, named_step, steps_in, voice_next, steps_from}};
 ghost use Rattle.abc_fields.specs.Last.{last_of};
@@ -277,13 +277,22 @@ pub fn steps_of(
     ensures value { IfOk result (λ steps. steps ≡ steps_from id.now unnamed.now items.now) }
     ensures good { All IsGoodItem items.now → IfOk result (λ steps. All IsGoodStood steps) }
 {
-    let mut steps = Row::new(alloc);
+    let mut steps = room_for_steps(alloc, items.len())?;
     let mut now = unnamed;
     for item in items {
         put_steps(alloc, &mut steps, id, now, item)?;
         now = voice_next(item, now);
     }
     Ok(steps)
+}
+
+/// No steps yet, with room for those of a body of so many items that isn't long.
+fn room_for_steps(alloc: Global, items: usize) -> Result<Row<Stood>, Memory>
+    ensures { IfOk result (λ steps. steps ≡ []) }
+{
+    Ok(Row {
+        items: Vec::with_capacity(alloc, items.min(1024))?,
+    })
 }
 
 fn voice_next<'a>(item: &'a Item, now: &'a [u8]) -> &'a [u8]

@@ -1,5 +1,5 @@
 ghost use Rattle.std.specs.{Prelude.{◌≡◌, ◌<◌, ◌++◌, ◌∷◌, ℕ, [], All, None, length, map, flat_map, replicate, slice_index_or, IfOk, OnOk}, List.range_with_len, Option.{option_copied, option_flatten, option_or}};
-ghost use Rattle.abc_words.specs.{Verses.verse_count, Words.HasNoOtherWords, Words.HaveOwnWords, Words.event_words, Words.sung_in, Words.verse_sung, Words.word_of, Words.words_of};
+ghost use Rattle.abc_words.specs.{Verses.verse_count, Words.HasNoOtherWords, Words.HaveOwnWords, Words.event_words, Words.sung_in, Words.music_rows, Words.verse_sung, Words.word_of, Words.words_of};
 
 use crate::music::{MusicRow, SungNote, music_rows};
 use crate::verses::verse_count;
@@ -90,6 +90,25 @@ fn all_words(
     Ok(all)
 }
 
+/// The words of all verses of a voice, verse by verse. Where it has none, its rows aren't looked for.
+fn voice_words(
+    alloc: Global,
+    id: &[u8],
+    unnamed: &[u8],
+    items: &[Item],
+    notes: &[SungNote],
+    verses: usize,
+    count: usize,
+) -> Result<Row<Row<Option<Text>>>, Memory>
+    ensures { IfOk result (λ all. all ≡ map (λ verse. map (word_of (verse_sung (music_rows id.now unnamed.now items.now notes.now) verse)) (range_with_len 0 count)) (range_with_len 0 verses)) }
+{
+    if verses == 0 {
+        return Ok(Row::new(alloc));
+    }
+    let rows = music_rows(alloc, id, unnamed, items, notes)?;
+    all_words(alloc, rows.as_slice(), verses, count)
+}
+
 fn copy_word(alloc: Global, word: Option<&Option<Text>>) -> Result<Option<Text>, Memory>
     ensures { IfOk result (λ copy. copy ≡ option_flatten (option_copied word.entry)) }
 {
@@ -132,9 +151,8 @@ pub fn words_of(
     ensures others { IfOk result (HasNoOtherWords id.now unnamed.now items.now notes.now count) }
     ensures verses { IfOk result (λ words. All (λ row. length row ≡ verse_count id.now unnamed.now items.now) words) }
 {
-    let rows = music_rows(alloc, id, unnamed, items, notes)?;
     let verses = verse_count(alloc, id, unnamed, items)?;
-    let all = all_words(alloc, rows.as_slice(), verses, count)?;
+    let all = voice_words(alloc, id, unnamed, items, notes, verses, count)?;
     let mut words = Row::new(alloc);
     for event in 0..count {
         words.push(words_at(alloc, all.as_slice(), event)?)?;

@@ -9,9 +9,8 @@ loop-event-preserved c =
     (at_event (music_rows c.args.id.now c.args.unnamed.now c.args.items.now c.args.notes.now) (verse_count c.args.id.now c.args.unnamed.now c.args.items.now) c.args.count c.loop-event.event
     c.in_ok-all.all c.in_ok-words_at.field-0 c.loop-event-test.true
     (c.in_ok-all.ensures
-    ∙ (ap (λ rows. map (verse_places rows c.args.count) (range_with_len 0 c.in_ok-verses.verses)) (c.as_slice.ensures.value ∙ c.in_ok-rows.ensures)
-    ∙ ap (λ n. map (verse_places (music_rows c.args.id.now c.args.unnamed.now c.args.items.now c.args.notes.now) c.args.count) (range_with_len 0 n)) c.in_ok-verses.ensures.value))
-    (c.in_ok-words_at.ensures ∙ ap (map (λ ws. slice_index_or ws c.loop-event.event None)) c.as_slice-in-loop-event.ensures))
+    ∙ ap (λ n. map (verse_places (music_rows c.args.id.now c.args.unnamed.now c.args.items.now c.args.notes.now) c.args.count) (range_with_len 0 n)) c.in_ok-verses.ensures.value)
+    (c.in_ok-words_at.ensures ∙ ap (map (λ ws. slice_index_or ws c.loop-event.event None)) c.as_slice.ensures))
     c.loop-event.invariant c.in_ok-push.ensures.ok
 
 pub returns-clause-len : goal.returns-clause-len
@@ -24,7 +23,7 @@ pub returns-clause-verses : goal.returns-clause-verses
 returns-clause-verses c =
     all_long (music_rows c.args.id.now c.args.unnamed.now c.args.items.now c.args.notes.now) (verse_count c.args.id.now c.args.unnamed.now c.args.items.now) c.loop-event.event c.loop-event.words c.loop-event.invariant
 
-are : (c : goal.After-drop-rows-2) → c.loop-event.words ≡ words_of c.args.id.now c.args.unnamed.now c.args.items.now c.args.notes.now c.args.count
+are : (c : goal.After-drop-all-inside-2) → c.loop-event.words ≡ words_of c.args.id.now c.args.unnamed.now c.args.items.now c.args.notes.now c.args.count
 are c =
     let end : c.loop-event.event ≡ c.args.count = omega arith in
     c.loop-event.invariant
