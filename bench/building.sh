@@ -60,7 +60,9 @@ fn main(rt: HostRuntime) -> io::Result<ExitCode> {
     let Ok(book) = cut_book(rt.alloc(), text.as_slice()) else {
         return Ok(ExitCode::from(5));
     };
-    let defaults = read_defaults(&book);
+    let Ok(defaults) = read_defaults(rt.alloc(), &book) else {
+        return Ok(ExitCode::from(5));
+    };
     for tune in book.tunes.as_slice() {
         match measured(rt.alloc(), tune, &defaults) {
             Ok((measures, last)) => println!(rt; "measures {measures}, the last of {last}")?,
