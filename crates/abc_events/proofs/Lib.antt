@@ -5,4 +5,5 @@ pub mod Heads
 pub mod Idle
 pub mod MeasureRows
 pub mod Rests
+pub mod Single
 pub mod Taken

@@ -1,8 +1,8 @@
 -- The measures made so far, and the rows of those that are left.
-use Rattle.std.{proofs.{Common.{◌≡◌, sym, ap, ◌∙◌, ℕ, suc, ◌+◌, ◌<◌, List, [], ◌∷◌, ◌++◌, length, slice_index_or, arith}, lemmas.List.FromFn.map-range_with_len_more}, specs.{Prelude.map, List.range_with_len}}
+use Rattle.std.{proofs.{Common.{◌≡◌, sym, ap, ◌∙◌, ℕ, suc, ◌+◌, ◌<◌, List, [], ◌∷◌, ◌++◌, length, slice_index_or, arith, append_assoc, ◌==◌}, lemmas.List.{Elements.filter-append, FromFn.map-range_with_len_more}}, specs.{Prelude.map, List.range_with_len}}
 use Rattle.mus_units.specs.declared.note.Bar.{Bar}
 use Rattle.mus_score.specs.{declared.score.Music.Music, declared.score.Measure.Measure}
-use Rattle.abc_events.specs.{declared.leaves.Leaf.Leaf, Bars.plain_bar, Nesting.tree_of, Measures.leaves_in, Measures.measure_of}
+use Rattle.abc_events.specs.{declared.leaves.Leaf.Leaf, Bars.plain_bar, Nesting.tree_of, Measures.leaf_measure, Measures.leaves_in, Measures.measure_of}
 
 -- the rows from measure k on
 abbrev pub AreRows : List Leaf → ℕ → ℕ → List (List Leaf) → Type 0
@@ -30,3 +30,9 @@ measure_pushed leaves row bars k rows next body made made' e left are tree so_fa
 
 pub count_more : {X : Type 0} (xs ys : List X) (x : X) (k n : ℕ) → xs ≡ x ∷ ys → k + length xs ≡ n → k + 1 + length ys ≡ n
 count_more xs ys x k n e count = let long : length xs ≡ suc (length ys) = ap length e in omega arith
+
+-- a leaf that is put into its row was the first of those that are left
+pub leaf_put : (k : ℕ) (l : Leaf) (row row' left leaves all : List Leaf) → row' ≡ row ++ leaves_in k (l ∷ []) → l ∷ left ≡ leaves → row ++ leaves_in k leaves ≡ all → row' ++ leaves_in k left ≡ all
+leaf_put k l row row' left leaves all put is e =
+    let split : leaves_in k (l ∷ left) ≡ leaves_in k (l ∷ []) ++ leaves_in k left = filter-append (λ x. leaf_measure x == k) (l ∷ []) left in
+    ap (λ xs. xs ++ leaves_in k left) put ∙ (append_assoc row (leaves_in k (l ∷ [])) (leaves_in k left) ∙ (ap (λ xs. row ++ xs) (sym split ∙ ap (leaves_in k) is) ∙ e))

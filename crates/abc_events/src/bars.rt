@@ -95,20 +95,6 @@ fn bars_behind(begun: u64, now: u64, s: &Step, all: Option<Bar>) -> Option<Bar>
     }
 }
 
-/// The bar before the first event of a voice.
-pub fn first_bar(steps: &[Stood]) -> Bar
-    requires { length steps.now ≤ 2 ^ 30 }
-    ensures { result ≡ first_bar steps.now }
-{
-    let mut counts = no_counts();
-    let mut all = None;
-    for s in steps {
-        all = bars_behind(0, counts.begun, &s.step, all);
-        counts = counted(counts, s);
-    }
-    joined_or(plain_bar(), all)
-}
-
 /// How many measures a voice has of its own.
 pub fn own_measures(steps: &[Stood]) -> u64
     requires { length steps.now ≤ 2 ^ 30 }
@@ -134,12 +120,19 @@ fn put_bar(all: &mut [Option<Bar>], now: u64, s: &Step)
     }
 }
 
-/// The bars of each place: those before the first event, and those behind each
-/// of so many measures.
-fn all_bars(alloc: Global, steps: &[Stood], n: u32) -> Result<Vec<Option<Bar>>, Memory>
+/// The bars of each place of a voice, those before its first event and those behind each of so many
+/// measures, and how many measures it has of its own.
+#[derive(Drop)]
+struct Places {
+    all: Vec<Option<Bar>>,
+    own: u64,
+}
+
+fn all_bars(alloc: Global, steps: &[Stood], n: u32) -> Result<Places, Memory>
     requires { length steps.now ≤ 2 ^ 30 }
-    ensures len { IfOk result (λ v. length v.items ≡ n + 1) }
-    ensures value { IfOk result (λ v. (begun : ℕ) → begun < n + 1 → slice_index_or v.items begun None ≡ bars_at begun (reverse steps.now)) }
+    ensures len { IfOk result (λ p. length p.all.items ≡ n + 1) }
+    ensures value { IfOk result (λ p. (begun : ℕ) → begun < n + 1 → slice_index_or p.all.items begun None ≡ bars_at begun (reverse steps.now)) }
+    ensures own { IfOk result (λ p. p.own ≡ measures_begun (reverse steps.now)) }
 {
     let mut all = vec![in alloc; None; n as usize + 1]?;
     let mut counts = no_counts();
@@ -147,7 +140,10 @@ fn all_bars(alloc: Global, steps: &[Stood], n: u32) -> Result<Vec<Option<Bar>>, 
         put_bar(&mut all, counts.begun, &s.step);
         counts = counted(counts, s);
     }
-    Ok(all)
+    Ok(Places {
+        all,
+        own: counts.begun,
+    })
 }
 
 fn missing_bar(own: u64, measure: u64) -> Bar
@@ -172,27 +168,34 @@ fn bar_of(all: &[Option<Bar>], own: u64, measure: u32) -> Bar
     )
 }
 
-/// The bars of the first `n` measures of a voice.
-pub fn bars_of(alloc: Global, steps: &[Stood], n: u32) -> Result<Row<Bar>, Memory>
+/// The bar before the first event of a voice, and those of its measures.
+#[derive(Drop)]
+pub struct VoiceBars {
+    pub first: Bar,
+    pub bars: Row<Bar>,
+}
+
+/// The bars of a voice with `n` measures.
+pub fn bars_of(alloc: Global, steps: &[Stood], n: u32) -> Result<VoiceBars, Memory>
     requires { length steps.now ≤ 2 ^ 30 }
-    ensures { IfOk result (λ r. r ≡ bars_of steps.now n) }
+    ensures first { IfOk result (λ b. b.first ≡ first_bar steps.now) }
+    ensures bars { IfOk result (λ b. b.bars ≡ bars_of steps.now n) }
 {
-    let all = all_bars(alloc, steps, n)?;
-    let own = own_measures(steps);
+    let places = all_bars(alloc, steps, n)?;
     let mut bars = Row::new(alloc);
     for k in 0..n {
-        bars.push(bar_of(all.as_slice(), own, k))?;
+        bars.push(bar_of(places.all.as_slice(), places.own, k))?;
     }
-    Ok(bars)
+    Ok(VoiceBars {
+        first: joined_or(plain_bar(), places.all[0]),
+        bars,
+    })
 }
 
 fn is_near_bar(nearest: Nearest) -> bool
     ensures { result ≡ is_near_bar nearest }
 {
-    match nearest {
-        Nearest::Bar => true,
-        _ => false,
-    }
+    matches!(nearest, Nearest::Bar)
 }
 
 /// Whether a line break forces the bar before it.

@@ -1,10 +1,11 @@
 ghost use Rattle.std.specs.{Prelude.◌≡◌, Prelude.◌≤◌, Prelude.◌+◌, Prelude.◌++◌, Prelude.◌∷◌, Prelude.[], Prelude.List, Prelude.map, Prelude.length, Prelude.replicate, Prelude.unwrap_or, Prelude.false, Prelude.None, Prelude.IfOk, Prelude.OnOk, List.All};
 ghost use Rattle.mus_units.specs.Value.{value_length};
-ghost use Rattle.abc_events.specs.{declared.written.Sign.Sign, Signs.IsDrawn, Leaves.{ends_at, first_part, later_head, later_part, some_more, later_parts, parts, node_of, grace_event, grace_note, grace_nodes, nodes_of, words_at, leaves_from, leaves_of}};
+ghost use Rattle.abc_events.specs.{declared.written.Sign.Sign, Signs.IsDrawn, Leaves.{ends_at, first_part, later_head, later_part, some_more, later_parts, parts, node_of, grace_event, grace_note, grace_nodes, nodes_of, words_at, leaves_from}};
 
 use crate::reading::with_ties;
 use crate::waits::no_changes;
 use crate::written::{Sign, Waiting, Written};
+use abc_steps::Few;
 use abc_tokens::GraceChord;
 use mus_score::{Event, Look, Music};
 use mus_units::{Base, Head, Memory, Row, Text, Value, copy_optional_texts, ticks_of};
@@ -14,7 +15,7 @@ use std::alloc::Global;
 /// tuplet of `p` in the time of `q` that takes the next `r` events.
 #[derive(Drop)]
 pub enum Leaf {
-    Event { measure: u64, nodes: Row<Music> },
+    Event { measure: u64, nodes: Few<Music> },
     Opens { measure: u64, p: u8, q: u8, r: u8 },
 }
 
@@ -144,13 +145,23 @@ fn next_id(id: u32) -> Result<u32, Memory>
     id.checked_add(1).ok_or(Memory)
 }
 
+/// The number so many behind another.
+fn id_behind(id: u32, count: usize) -> Result<u32, Memory>
+    ensures { IfOk result (λ behind. behind ≡ id + count) }
+{
+    match u32::try_from(count) {
+        Ok(count) => id.checked_add(count).ok_or(Memory),
+        Err(_) => Err(Memory),
+    }
+}
+
 fn some_more(values: &[Value]) -> bool
     ensures { result ≡ some_more values.now }
 {
     !values.is_empty()
 }
 
-/// Puts the parts behind the first, and gives the id behind them.
+/// Puts the parts behind the first.
 fn put_later(
     alloc: Global,
     nodes: &mut Row<Music>,
@@ -158,10 +169,9 @@ fn put_later(
     verses: usize,
     id: u32,
     values: &[Value],
-) -> Result<u32, Memory>
+) -> Result<(), Memory>
     requires { All (λ v. v.dots ≤ 3) values.now }
-    ensures nodes { OnOk result (nodes.new ≡ nodes.old ++ map node_of (later_parts w.now verses id values.now)) }
-    ensures next { IfOk result (λ next. next ≡ id + length values.now) }
+    ensures { OnOk result (nodes.new ≡ nodes.old ++ map node_of (later_parts w.now verses id values.now)) }
 {
     let mut next = id;
     for i in 0..values.len() {
@@ -170,7 +180,7 @@ fn put_later(
         nodes.push(node_of(part))?;
         next = next_id(next)?;
     }
-    Ok(next)
+    Ok(())
 }
 
 /// The one part of a written event that has no other.
@@ -196,32 +206,26 @@ fn only_part(w: Written, waiting: Waiting, words: Row<Option<Text>>, id: u32, va
     }
 }
 
-/// Puts the parts of a written event, and gives the id behind them.
+/// Puts the parts of a written event.
 fn put_parts(
     alloc: Global,
     nodes: &mut Row<Music>,
-    w: Written,
+    w: &Written,
     waiting: Waiting,
     words: Row<Option<Text>>,
     id: u32,
-) -> Result<u32, Memory>
-    requires { All (λ v. v.dots ≤ 3) w.values }
-    ensures nodes { OnOk result (nodes.new ≡ nodes.old ++ map node_of (parts w waiting words id w.values)) }
-    ensures next { IfOk result (λ next. next ≡ id + length w.values) }
+) -> Result<(), Memory>
+    requires { All (λ v. v.dots ≤ 3) w.now.values }
+    ensures { OnOk result (nodes.new ≡ nodes.old ++ map node_of (parts w.now waiting words id w.now.values)) }
 {
     let verses = words.len();
     match w.values.as_slice() {
-        [value] => {
-            let value = *value;
-            nodes.push(node_of(only_part(w, waiting, words, id, value)))?;
-            next_id(id)
-        }
         [value, others @ ..] => {
-            let part = first_part(alloc, &w, waiting, words, id, some_more(others), *value)?;
+            let part = first_part(alloc, w, waiting, words, id, some_more(others), *value)?;
             nodes.push(node_of(part))?;
-            put_later(alloc, nodes, &w, verses, next_id(id)?, others)
+            put_later(alloc, nodes, w, verses, next_id(id)?, others)
         }
-        [] => Ok(id),
+        [] => Ok(()),
     }
 }
 
@@ -273,7 +277,7 @@ pub fn room_for_nodes(alloc: Global, count: usize) -> Result<Row<Music>, Memory>
 fn grace_nodes(alloc: Global, graces: &[GraceChord], slash: bool) -> Result<Row<Music>, Memory>
     ensures { IfOk result (λ r. r ≡ grace_nodes graces.now slash) }
 {
-    let mut nodes = room_for_nodes(alloc, 1)?;
+    let mut nodes = Row::new(alloc);
     if graces.is_empty() {
         return Ok(nodes);
     }
@@ -296,6 +300,51 @@ fn words_at(
     }
 }
 
+/// The nodes of the parts of a written event.
+fn part_nodes(
+    alloc: Global,
+    w: Written,
+    waiting: Waiting,
+    words: Row<Option<Text>>,
+    id: u32,
+) -> Result<Few<Music>, Memory>
+    requires { All (λ v. v.dots ≤ 3) w.values }
+    ensures { IfOk result (λ r. r ≡ map node_of (parts w waiting words id w.values)) }
+{
+    match w.values.as_slice() {
+        [value] => {
+            let value = *value;
+            Ok(Few::one(node_of(only_part(w, waiting, words, id, value))))
+        }
+        _ => {
+            let mut nodes = Row::new(alloc);
+            put_parts(alloc, &mut nodes, &w, waiting, words, id)?;
+            Ok(Few::from(nodes))
+        }
+    }
+}
+
+/// The nodes of a written event: the group of its graces, and its parts.
+fn nodes_of(
+    alloc: Global,
+    w: Written,
+    waiting: Waiting,
+    words: Row<Option<Text>>,
+    id: u32,
+) -> Result<Few<Music>, Memory>
+    requires { All (λ v. v.dots ≤ 3) w.values }
+    ensures { IfOk result (λ r. r ≡ nodes_of w waiting words id) }
+{
+    match waiting.graces.as_slice() {
+        [] => part_nodes(alloc, w, waiting, words, id),
+        graces => {
+            let mut nodes = grace_nodes(alloc, graces, waiting.slash)?;
+            put_parts(alloc, &mut nodes, &w, waiting, words, id)?;
+            Ok(Few::from(nodes))
+        }
+    }
+}
+
 fn next_event(event: usize) -> Result<usize, Memory>
     ensures { IfOk result (λ next. next ≡ event + 1) }
 {
@@ -305,60 +354,40 @@ fn next_event(event: usize) -> Result<usize, Memory>
     }
 }
 
-/// Puts the leaf of a written event.
-fn put_event(
+/// The leaf of a written event.
+fn event_leaf(
     alloc: Global,
-    out: &mut Row<Leaf>,
     at: &mut Numbers,
     w: Written,
     waiting: Waiting,
     words: &[Row<Option<Text>>],
-) -> Result<(), Memory>
+) -> Result<Leaf, Memory>
     requires { All (λ v. v.dots ≤ 3) w.values }
-    ensures leaf { OnOk result (out.new ≡ out.old ++ Leaf.Event w.measure (nodes_of w waiting (words_at words.now at.old.event) at.old.id) ∷ []) }
+    ensures leaf { IfOk result (λ l. l ≡ Leaf.Event w.measure (nodes_of w waiting (words_at words.now at.old.event) at.old.id)) }
     ensures event { OnOk result (at.new.event ≡ at.old.event + 1) }
     ensures id { OnOk result (at.new.id ≡ at.old.id + length w.values) }
 {
     let measure = w.measure;
-    let mut nodes = grace_nodes(alloc, waiting.graces.as_slice(), waiting.slash)?;
     let sung = words_at(alloc, words, at.event)?;
-    let id = put_parts(alloc, &mut nodes, w, waiting, sung, at.id)?;
+    let id = id_behind(at.id, w.values.as_slice().len())?;
+    let nodes = nodes_of(alloc, w, waiting, sung, at.id)?;
     at.event = next_event(at.event)?;
     at.id = id;
-    out.push(Leaf::Event { measure, nodes })
+    Ok(Leaf::Event { measure, nodes })
 }
 
-/// Puts the leaf of a sign.
-fn put_leaf(
+/// The leaf of a sign. `words` has a row for each written event, with a place for each verse.
+pub fn leaf_of(
     alloc: Global,
-    out: &mut Row<Leaf>,
     at: &mut Numbers,
     sign: Sign,
     words: &[Row<Option<Text>>],
-) -> Result<(), Memory>
+) -> Result<Leaf, Memory>
     requires { IsDrawn sign }
-    ensures { OnOk result ((signs : List Sign) → out.new ++ leaves_from words.now at.new.event at.new.id signs ≡ out.old ++ leaves_from words.now at.old.event at.old.id (sign ∷ signs)) }
+    ensures { IfOk result (λ l. (signs : List Sign) → l ∷ leaves_from words.now at.new.event at.new.id signs ≡ leaves_from words.now at.old.event at.old.id (sign ∷ signs)) }
 {
     match sign {
-        Sign::Event { written, waiting } => put_event(alloc, out, at, written, waiting, words),
-        Sign::Opens { measure, p, q, r } => out.push(Leaf::Opens { measure, p, q, r }),
+        Sign::Event { written, waiting } => event_leaf(alloc, at, written, waiting, words),
+        Sign::Opens { measure, p, q, r } => Ok(Leaf::Opens { measure, p, q, r }),
     }
-}
-
-/// The leaves of a voice of these signs. `words` has a row for each written
-/// event, with a place for each verse.
-pub fn leaves_of(
-    alloc: Global,
-    signs: Row<Sign>,
-    words: &[Row<Option<Text>>],
-) -> Result<Row<Leaf>, Memory>
-    requires { All IsDrawn signs }
-    ensures { IfOk result (λ r. r ≡ leaves_of words.now signs) }
-{
-    let mut out = Row::new(alloc);
-    let mut at = Numbers { event: 0, id: 0 };
-    for sign in signs.items {
-        put_leaf(alloc, &mut out, &mut at, sign, words)?;
-    }
-    Ok(out)
 }

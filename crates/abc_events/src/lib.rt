@@ -3,7 +3,6 @@
 #![tactic(auto)]
 
 pub mod bars;
-mod copies;
 pub mod leaves;
 pub mod measures;
 pub mod nesting;
@@ -11,7 +10,7 @@ pub mod reading;
 pub mod waits;
 pub mod written;
 
-pub use bars::{bars_of, first_bar, forced_bars, own_measures};
+pub use bars::{VoiceBars, bars_of, forced_bars, own_measures};
 pub use measures::measures_of;
 pub use reading::signs;
 pub use written::{Sign, Waiting, Written};

@@ -1,7 +1,7 @@
 ghost use Rattle.std.specs.{Prelude.◌≡◌, Prelude.◌<◌, Prelude.◌+◌, Prelude.◌++◌, Prelude.◌∷◌, Prelude.[], Prelude.ℕ, Prelude.length, Prelude.slice_index_or, Prelude.IfOk, Prelude.OnOk, List.All};
-ghost use Rattle.abc_events.specs.{Signs.IsDrawn, Measures.leaf_measure, Measures.leaves_in, Measures.measures_in, Measures.measures_of};
+ghost use Rattle.abc_events.specs.{Signs.IsDrawn, Leaves.leaves_of, Measures.{leaf_measure, leaves_in, measures_of}};
 
-use crate::leaves::{Leaf, leaves_of};
+use crate::leaves::{Leaf, Numbers, leaf_of};
 use crate::nesting::tree_of;
 use crate::written::Sign;
 use mus_score::Measure;
@@ -13,23 +13,20 @@ fn leaf_measure(l: &Leaf) -> u64
 {
     match l {
         Leaf::Event { measure, nodes: _ } => *measure,
-        Leaf::Opens {
-            measure,
-            p: _,
-            q: _,
-            r: _,
-        } => *measure,
+        Leaf::Opens { measure, .. } => *measure,
     }
 }
 
-/// So many empty rows.
-fn empty_rows(alloc: Global, n: usize) -> Result<Vec<Row<Leaf>>, Memory>
+/// So many empty rows, each with room for so many leaves.
+fn empty_rows(alloc: Global, n: usize, room: usize) -> Result<Vec<Row<Leaf>>, Memory>
     ensures len { IfOk result (λ v. length v.items ≡ n) }
     ensures empty { IfOk result (λ v. (k : ℕ) → k < n → slice_index_or v.items k [] ≡ []) }
 {
-    let mut rows = Vec::new(alloc);
+    let mut rows = Vec::with_capacity(alloc, n)?;
     for k in 0..n {
-        rows.push(Row::new(alloc))?;
+        rows.push(Row {
+            items: Vec::with_capacity(alloc, room)?,
+        })?;
     }
     Ok(rows)
 }
@@ -45,31 +42,25 @@ fn put_leaf(rows: &mut [Row<Leaf>], l: Leaf) -> Result<(), Memory>
     rows[measure as usize].push(l)
 }
 
-/// The leaves of each measure.
-fn rows_of(alloc: Global, leaves: Row<Leaf>, n: usize) -> Result<Vec<Row<Leaf>>, Memory>
+/// The leaves of each measure of a voice of these signs.
+fn rows_of(
+    alloc: Global,
+    signs: Row<Sign>,
+    words: &[Row<Option<Text>>],
+    n: usize,
+) -> Result<Vec<Row<Leaf>>, Memory>
+    requires { All IsDrawn signs }
     ensures len { IfOk result (λ v. length v.items ≡ n) }
-    ensures rows { IfOk result (λ v. (k : ℕ) → k < n → slice_index_or v.items k [] ≡ leaves_in k leaves) }
+    ensures rows { IfOk result (λ v. (k : ℕ) → k < n → slice_index_or v.items k [] ≡ leaves_in k (leaves_of words.now signs)) }
 {
-    let mut rows = empty_rows(alloc, n)?;
-    for l in leaves.items {
+    let room = signs.len().checked_div(n).unwrap_or(0);
+    let mut rows = empty_rows(alloc, n, room)?;
+    let mut at = Numbers { event: 0, id: 0 };
+    for sign in signs.items {
+        let l = leaf_of(alloc, &mut at, sign, words)?;
         put_leaf(&mut rows, l)?;
     }
     Ok(rows)
-}
-
-/// The measures of some leaves, one for each bar.
-fn measures_in(alloc: Global, leaves: Row<Leaf>, bars: &[Bar]) -> Result<Row<Measure>, Memory>
-    ensures { IfOk result (λ r. r ≡ measures_in leaves bars.now) }
-{
-    let rows = rows_of(alloc, leaves, bars.len())?;
-    let mut measures = Row::new(alloc);
-    let mut k = 0;
-    for row in rows {
-        let body = tree_of(alloc, row)?;
-        measures.push(Measure { body, bar: bars[k] })?;
-        k += 1;
-    }
-    Ok(measures)
 }
 
 /// The measures of a voice of these signs, one for each bar. `words` has a row
@@ -84,6 +75,13 @@ pub fn measures_of(
     requires { All IsDrawn signs }
     ensures { IfOk result (λ r. r ≡ measures_of signs words.now bars.now) }
 {
-    let leaves = leaves_of(alloc, signs, words)?;
-    measures_in(alloc, leaves, bars)
+    let rows = rows_of(alloc, signs, words, bars.len())?;
+    let mut measures = Row::new(alloc);
+    let mut k = 0;
+    for row in rows {
+        let body = tree_of(alloc, row)?;
+        measures.push(Measure { body, bar: bars[k] })?;
+        k += 1;
+    }
+    Ok(measures)
 }

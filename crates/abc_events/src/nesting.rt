@@ -4,6 +4,7 @@ ghost use Rattle.abc_events.specs.declared.leaves.Leaf.TheVariants as leaf;
 ghost use Rattle.abc_events.specs.Nesting.{tree_of, Puts, IsReady, one, whole, none_more, put_in_front};
 
 use crate::leaves::{Leaf, room_for_nodes};
+use abc_steps::Few;
 use mus_score::Music;
 use mus_units::{Memory, Row};
 use smallvec::SmallVec;
@@ -65,25 +66,16 @@ fn close_full(
     Ok(())
 }
 
-/// Puts nodes behind others.
-fn append(body: &mut Row<Music>, nodes: Row<Music>) -> Result<(), Memory>
-    ensures { OnOk result (body.new ≡ body.old ++ nodes) }
-{
-    let mut more = nodes.items;
-    body.items.append(&mut more)?;
-    Ok(())
-}
-
 /// Puts an event, which the innermost tuplet takes.
 fn put_event(
     stack: &mut SmallVec<Open, 2>,
     body: &mut Row<Music>,
-    nodes: Row<Music>,
+    nodes: Few<Music>,
 ) -> Result<(), Memory>
     requires { IsReady stack.old.items }
     ensures { OnOk result (Puts stack.old.items body.old stack.new.items body.new (one nodes)) }
 {
-    append(body, nodes)?;
+    nodes.move_to(body)?;
     let Some(o) = stack.pop() else {
         return Ok(());
     };
@@ -156,12 +148,7 @@ fn put_leaf(
 {
     match l {
         Leaf::Event { measure: _, nodes } => put_event(stack, body, nodes)?,
-        Leaf::Opens {
-            measure: _,
-            p,
-            q,
-            r,
-        } => open_tuplet(alloc, stack, body, p, q, r)?,
+        Leaf::Opens { p, q, r, .. } => open_tuplet(alloc, stack, body, p, q, r)?,
     }
     close_full(alloc, stack, body)
 }

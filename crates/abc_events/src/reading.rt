@@ -7,13 +7,13 @@ use crate::waits::{nothing, waiting_of};
 use crate::written::{Sign, Written};
 use abc_steps::force::meter_ticks;
 use abc_steps::kinds::is_event;
-use abc_steps::lengths::written_length;
+use abc_steps::lengths::{parts_in, written_length};
 use abc_steps::looks::{has_parting, is_tied, since_event, slurs_begun, slurs_ended};
 use abc_steps::place::{Place, beginning, measure_of, step_over};
 use abc_steps::tuplets::{fits, or_default, usual_q};
-use abc_steps::{InForce, Sound, Step, Stood};
+use abc_steps::{Few, InForce, Sound, Step, Stood};
 use mus_score::Look;
-use mus_units::{Base, Frac, Head, Memory, Row, Value, parts_of};
+use mus_units::{Base, Frac, Head, Memory, Row, Value};
 use std::alloc::Global;
 
 fn with_tie(tie: bool, head: Head) -> Head
@@ -30,6 +30,9 @@ fn with_tie(tie: bool, head: Head) -> Head
 pub fn with_ties(alloc: Global, heads: &[Head], tie: bool) -> Result<Row<Head>, Memory>
     ensures { IfOk result (λ r. r ≡ map (with_tie tie) heads.now) }
 {
+    if let [head] = heads {
+        return Row::from_slice(alloc, &[with_tie(tie, *head)]);
+    }
     let items = heads
         .iter()
         .map(|head| with_tie(tie, *head))
@@ -85,12 +88,12 @@ fn whole_look(seen: bool) -> Look
 }
 
 /// The parts of a length, none where it has none.
-fn values_of(alloc: Global, length: Frac) -> Result<Row<Value>, Memory>
+fn values_of(alloc: Global, length: Frac) -> Result<Few<Value>, Memory>
     requires { IsLength length }
     ensures { IfOk result (λ r. r ≡ unwrap_or (parts_list length.num length.den) []) }
 {
-    let values = parts_of(alloc, length.num, length.den)?;
-    Ok(values.unwrap_or(Row::new(alloc)))
+    let values = parts_in(alloc, length)?;
+    Ok(values.unwrap_or(Few::from(Row::new(alloc))))
 }
 
 /// A note, a chord or a rest as it is written, for which `waits` waits.
@@ -131,15 +134,13 @@ fn sound_written(
 }
 
 /// The parts of a whole measure rest.
-fn whole_values(alloc: Global) -> Result<Row<Value>, Memory>
-    ensures { IfOk result (λ r. r ≡ whole_value ∷ []) }
+fn whole_values() -> Few<Value>
+    ensures { result ≡ whole_value ∷ [] }
 {
-    let mut values = Row::new(alloc);
-    values.push(Value {
+    Few::one(Value {
         base: Base::Whole,
         dots: 0,
-    })?;
-    Ok(values)
+    })
 }
 
 /// A whole measure rest as it is written.
@@ -151,22 +152,22 @@ fn rest_written(
     seen: bool,
     measure: u64,
     parted: bool,
-) -> Result<Written, Memory>
+) -> Written
     requires { IsGoodMeter now.now.force.meter }
-    ensures { IfOk result (λ w. w ≡ rest_written now.now at.now seen measure parted) }
+    ensures { result ≡ rest_written now.now at.now seen measure parted }
 {
-    Ok(Written {
+    Written {
         line: at.line,
         column: at.column,
         measure,
         heads: Row::new(alloc),
         look: whole_look(seen),
-        values: whole_values(alloc)?,
+        values: whole_values(),
         whole: Some(meter_ticks(now.force.meter).unwrap_or(0)),
         parted,
         begins: 0,
         ends: 0,
-    })
+    }
 }
 
 /// Puts the whole measure rests behind the first of so many.
@@ -184,7 +185,7 @@ fn put_further(
     ensures { OnOk result (out.new ≡ out.old ++ further_rests now.now at.now seen measure count) }
 {
     for i in 0..count {
-        let written = rest_written(alloc, now, at, seen, measure + u64::from(i), false)?;
+        let written = rest_written(alloc, now, at, seen, measure + u64::from(i), false);
         out.push(Sign::Event {
             written,
             waiting: nothing(alloc),
@@ -209,7 +210,7 @@ fn put_rests(
     ensures { OnOk result (out.new ≡ out.old ++ rests_of now.now waits.now at.now seen count) }
 {
     let measure = measure_of(now);
-    let written = rest_written(alloc, now, at, seen, measure, parted_at(now, waits))?;
+    let written = rest_written(alloc, now, at, seen, measure, parted_at(now, waits));
     let waiting = waiting_of(alloc, &now.force, waits, &[])?;
     out.push(Sign::Event { written, waiting })?;
     let further = count.saturating_sub(1);

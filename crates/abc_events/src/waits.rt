@@ -1,8 +1,8 @@
 ghost use Rattle.std.specs.{Prelude.◌≡◌, Prelude.◌==◌, Prelude.◌&&◌, Prelude.◌++◌, Prelude.◌∷◌, Prelude.[], Prelude.None, Prelude.IfOk, Prelude.OnOk, Prelude.flat_map, Prelude.length, List.list_any};
 ghost use Rattle.abc_events.specs.Waits.{decos_in, is_above, mention_of, mentions_in, graces_in, has_slash, ending_behind, last_ending, waiting_of, nothing, no_changes};
 
-use crate::copies::put_chords;
 use crate::written::Waiting;
+use abc_steps::copies::put_chords;
 use abc_steps::force::changes_at;
 use abc_steps::{InForce, Step, Stood};
 use abc_tokens::GraceChord;

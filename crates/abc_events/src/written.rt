@@ -1,3 +1,4 @@
+use abc_steps::Few;
 use abc_tokens::GraceChord;
 use mus_score::{Changes, Look, Mention};
 use mus_units::{Deco, Head, Row, Text, Value};
@@ -12,7 +13,7 @@ pub struct Written {
     pub measure: u64,
     pub heads: Row<Head>,
     pub look: Look,
-    pub values: Row<Value>,
+    pub values: Few<Value>,
     pub whole: Option<u64>,
     pub parted: bool,
     pub begins: u32,

@@ -1,6 +1,5 @@
 pub mod Crowds
 pub mod Firsts
 pub mod Orders
-pub mod Singles
 pub mod Tuplets
 pub mod Walks

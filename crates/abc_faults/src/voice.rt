@@ -39,11 +39,7 @@ fn fault_if(holds: bool, kind: FaultKind, at: &Stood) -> Option<Fault>
 fn ends_tuplets(s: &Step) -> bool
     ensures { result ≡ ends_tuplets s.now }
 {
-    match s {
-        Step::Bar(_) => true,
-        Step::Measures { seen: _, count: _ } => true,
-        _ => false,
-    }
+    matches!(s, Step::Bar(_) | Step::Measures { .. })
 }
 
 /// Whether fewer than `r` events with a length stand before the end of the measure.
@@ -137,10 +133,7 @@ fn is_past(measure: u64) -> bool
 fn is_free(meter: Meter) -> bool
     ensures { result ≡ is_free meter }
 {
-    match meter {
-        Meter::Free => true,
-        _ => false,
-    }
+    matches!(meter, Meter::Free)
 }
 
 /// The first fault of a note, a chord or a rest, without its graces. `undrawable`

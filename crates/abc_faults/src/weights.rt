@@ -1,11 +1,12 @@
-ghost use Rattle.std.specs.Prelude.{◌≡◌, ◌*◌, ◌++◌, length, max, true, false, is_some, is_none, OnOk, IfOk};
+ghost use Rattle.std.specs.Prelude.{◌≡◌, ◌*◌, ◌++◌, length, max, is_none, OnOk, IfOk};
 ghost use Rattle.mus_units.specs.Parts.{parts_list};
 ghost use Rattle.abc_steps.specs.Lengths.{IsLength};
 ghost use Rattle.abc_faults.specs.Weights.{weight_at, count_parts, grace_count, grace_weights_of, grace_weights};
 
-use abc_steps::{Sound, Step, Stood};
+use abc_steps::lengths::parts_in;
+use abc_steps::{Few, Sound, Step, Stood};
 use abc_tokens::GraceChord;
-use mus_units::{Frac, Memory, Row, Value, parts_of, value_of};
+use mus_units::{Frac, Memory, Row, Value};
 use std::alloc::Global;
 
 /// How many heads and rests stand at a place of the text. Weights are ordered by their places,
@@ -35,31 +36,12 @@ pub(crate) fn weight_at(count: u128, at: &Stood) -> Weight
 }
 
 /// How many parts a length of these parts has, one where it has none.
-fn count_parts(parts: &Option<Row<Value>>) -> usize
+fn count_parts(parts: &Option<Few<Value>>) -> usize
     ensures { result ≡ count_parts parts.now }
 {
     match parts {
-        Some(values) => values.len(),
+        Some(values) => values.as_slice().len(),
         None => 1,
-    }
-}
-
-/// Whether a value has a length, which is then its one part.
-fn has_value(whole: Frac) -> bool
-    requires { IsLength whole }
-    ensures parts { result ≡ true → 1 ≡ count_parts (parts_list whole.num whole.den) }
-    ensures drawn { result ≡ true → false ≡ is_none (parts_list whole.num whole.den) }
-{
-    let found = value_of(whole.num, whole.den);
-    is_there(found)
-}
-
-fn is_there(found: Option<Value>) -> bool
-    ensures { result ≡ is_some found }
-{
-    match found {
-        Some(_) => true,
-        None => false,
     }
 }
 
@@ -70,13 +52,7 @@ pub(crate) fn extent_of(alloc: Global, whole: Frac) -> Result<Extent, Memory>
     ensures parts { IfOk result (λ e. e.parts ≡ count_parts (parts_list whole.num whole.den)) }
     ensures undrawable { IfOk result (λ e. e.undrawable ≡ is_none (parts_list whole.num whole.den)) }
 {
-    if has_value(whole) {
-        return Ok(Extent {
-            parts: 1,
-            undrawable: false,
-        });
-    }
-    let parts = parts_of(alloc, whole.num, whole.den)?;
+    let parts = parts_in(alloc, whole)?;
     Ok(Extent {
         parts: count_parts(&parts),
         undrawable: parts.is_none(),
@@ -87,7 +63,7 @@ pub(crate) fn extent_of(alloc: Global, whole: Frac) -> Result<Extent, Memory>
 pub(crate) fn sound_count(s: &Sound, parts: usize) -> u128
     ensures { result ≡ max 1 (length s.now.heads) * parts }
 {
-    s.heads.len().max(1) as u128 * parts as u128
+    s.heads.as_slice().len().max(1) as u128 * parts as u128
 }
 
 /// How many heads a group of graces has.

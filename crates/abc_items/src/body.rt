@@ -32,12 +32,25 @@ pub fn read_body(alloc: Global, header: &Header, lines: &[Line]) -> Result<Row<I
 {
     let mut body = Body {
         ids: declared_ids(alloc, header)?,
-        items: Row::new(alloc),
+        items: room_for_items(alloc, lines)?,
     };
     match read_lines(alloc, header.breaks, lines, &mut body) {
         Ok(()) => Ok(body.items),
         Err(e) => Err(e),
     }
+}
+
+/// No items yet, with room for those of lines that aren't long.
+fn room_for_items(alloc: Global, lines: &[Line]) -> Result<Row<Item>, Memory>
+    ensures { IfOk result (λ items. items ≡ []) }
+{
+    let mut size: usize = 0;
+    for line in lines {
+        size = size.saturating_add(line.text.len());
+    }
+    Ok(Row {
+        items: Vec::with_capacity(alloc, size.min(1024))?,
+    })
 }
 
 fn read_lines(
@@ -240,12 +253,7 @@ fn voice_fault(ids: &[Text], item: &Item) -> Option<Fault>
 {
     match item {
         Item::Step(_) => None,
-        Item::LineEnd {
-            joined: _,
-            breaks: _,
-            line: _,
-            column: _,
-        } => None,
+        Item::LineEnd { .. } => None,
         Item::Words { text: _, line: _ } => None,
         Item::Voice { def, line, column } => past_fault(
             is_past(ids, def.id.as_slice()),

@@ -3,26 +3,17 @@
 ghost use Rattle.std.specs.Prelude.{◌≡◌, IfOk};
 
 use abc_fields::KeyText;
+use abc_steps::copies::put_chords;
 use abc_steps::{Sound, Step, Stood};
 use abc_tokens::GraceChord;
 use mus_units::{Memory, Row, copy_decos, copy_optional_key};
 use std::alloc::Global;
 
-fn copy_chord(alloc: Global, chord: &GraceChord) -> Result<GraceChord, Memory>
-    ensures { IfOk result (λ copy. copy ≡ chord.now) }
-{
-    Ok(GraceChord {
-        heads: chord.heads.copy(alloc)?,
-    })
-}
-
 fn copy_chords(alloc: Global, chords: &[GraceChord]) -> Result<Row<GraceChord>, Memory>
     ensures { IfOk result (λ copies. copies ≡ chords.now) }
 {
     let mut copies = Row::new(alloc);
-    for chord in chords {
-        copies.push(copy_chord(alloc, chord)?)?;
-    }
+    put_chords(alloc, &mut copies, chords)?;
     Ok(copies)
 }
 

@@ -8,7 +8,7 @@ ghost use Rattle.abc_items.specs.{Good.IsGoodItem, Body.{head_of, first_len, sou
 
 use abc_fields::{Breaks, Field, FieldError, read_named};
 use abc_lines::{Fault, Line, TuneError};
-use abc_steps::{Item, Sound, Step, Stood};
+use abc_steps::{Few, Item, Sound, Step, Stood};
 use abc_tokens::{Len, Placed, Token};
 use mus_units::{Deco, Head, Memory, Row};
 use std::alloc::Global;
@@ -97,7 +97,7 @@ fn chord(alloc: Global, heads: &[(Head, Len)], decos: Row<Deco>, len: Len) -> Re
 {
     let first = first_len(heads);
     Ok(Sound {
-        heads: heads_of(alloc, heads)?,
+        heads: Few::from(heads_of(alloc, heads)?),
         seen: true,
         decos,
         num: product(first.num, len.num),
@@ -105,18 +105,18 @@ fn chord(alloc: Global, heads: &[(Head, Len)], decos: Row<Deco>, len: Len) -> Re
     })
 }
 
-fn note(alloc: Global, head: Head, len: Len) -> Result<Sound, Memory>
+fn note(alloc: Global, head: Head, len: Len) -> Sound
     requires { IsGoodLen len }
-    ensures good { IfOk result IsGoodSound }
-    ensures value { IfOk result (λ found. found ≡ sound (head ∷ []) true len.num len.den) }
+    ensures good { IsGoodSound result }
+    ensures value { result ≡ sound (head ∷ []) true len.num len.den }
 {
-    Ok(Sound {
-        heads: Row::from_slice(alloc, &[head])?,
+    Sound {
+        heads: Few::one(head),
         seen: true,
         decos: Row::new(alloc),
         num: u64::from(len.num),
         den: u64::from(len.den),
-    })
+    }
 }
 
 fn rest(alloc: Global, seen: bool, len: Len) -> Sound
@@ -125,7 +125,7 @@ fn rest(alloc: Global, seen: bool, len: Len) -> Sound
     ensures value { result ≡ sound [] seen len.num len.den }
 {
     Sound {
-        heads: Row::new(alloc),
+        heads: Few::from(Row::new(alloc)),
         seen,
         decos: Row::new(alloc),
         num: u64::from(len.num),
@@ -181,7 +181,7 @@ fn token_item(
     ensures error { IfErr result (λ e. IsGivenError (token_given breaks line.now column token) e) }
 {
     let step = match token {
-        Token::Note { head, len } => Step::Sound(note(alloc, head, len)?),
+        Token::Note { head, len } => Step::Sound(note(alloc, head, len)),
         Token::Rest { seen, len } => Step::Sound(rest(alloc, seen, len)),
         Token::Measures { seen, count } => Step::Measures { seen, count },
         Token::Chord { heads, decos, len } => Step::Sound(chord(

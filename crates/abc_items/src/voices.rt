@@ -83,11 +83,7 @@ pub(crate) fn mention_item(alloc: Global, ids: &mut Row<Text>, item: &Item) -> R
 {
     match item {
         Item::Step(stood) => mention_step(alloc, ids, claims(&stood.step)),
-        Item::Voice {
-            def,
-            line: _,
-            column: _,
-        } => mention(alloc, ids, def.id.as_slice()),
+        Item::Voice { def, .. } => mention(alloc, ids, def.id.as_slice()),
         _ => Ok(()),
     }
 }
@@ -137,11 +133,7 @@ fn decides(id: &[u8], alone: bool, item: &Item) -> bool
     ensures { result ≡ decides id.now alone item.now }
 {
     match item {
-        Item::Voice {
-            def,
-            line: _,
-            column: _,
-        } => is_same(def.id.as_slice(), id),
+        Item::Voice { def, .. } => is_same(def.id.as_slice(), id),
         Item::Step(stood) => alone && claims(&stood.step) && is_same(id, b"1"),
         _ => false,
     }
@@ -151,11 +143,7 @@ fn clef_in(item: &Item) -> Option<Clef>
     ensures { result ≡ clef_in item.now }
 {
     match item {
-        Item::Voice {
-            def,
-            line: _,
-            column: _,
-        } => def.clef,
+        Item::Voice { def, .. } => def.clef,
         _ => None,
     }
 }
@@ -164,11 +152,7 @@ fn still_alone(alone: bool, item: &Item) -> bool
     ensures { result ≡ still_alone alone item.now }
 {
     match item {
-        Item::Voice {
-            def: _,
-            line: _,
-            column: _,
-        } => false,
+        Item::Voice { .. } => false,
         Item::Step(stood) => alone && !claims(&stood.step),
         _ => alone,
     }
@@ -201,11 +185,7 @@ fn wish_in(id: &[u8], item: &Item) -> Option<Wish>
     ensures { result ≡ wish_in id.now item.now }
 {
     match item {
-        Item::Voice {
-            def,
-            line: _,
-            column: _,
-        } if is_same(def.id.as_slice(), id) && def.asks => Some(def.stem),
+        Item::Voice { def, .. } if is_same(def.id.as_slice(), id) && def.asks => Some(def.stem),
         _ => None,
     }
 }
@@ -299,11 +279,7 @@ fn voice_next<'a>(item: &'a Item, now: &'a [u8]) -> &'a [u8]
     ensures { result.now ≡ voice_next item.now now.now }
 {
     match item {
-        Item::Voice {
-            def,
-            line: _,
-            column: _,
-        } => def.id.as_slice(),
+        Item::Voice { def, .. } => def.id.as_slice(),
         _ => now,
     }
 }
@@ -320,10 +296,10 @@ fn put_steps(
     match item {
         Item::Step(stood) => put_own(alloc, steps, is_same(id, now), stood),
         Item::LineEnd {
-            joined: _,
             breaks,
             line,
             column,
+            ..
         } => put_end(steps, *breaks && is_same(id, now), *line, *column),
         Item::Voice { def, line, column } => put_named(
             steps,

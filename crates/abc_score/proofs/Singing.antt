@@ -1,7 +1,7 @@
 -- The nodes of a written event: its parts, the first with its graces, and what they weigh.
 use Rattle.std.proofs.{Common.{◌≡◌, ◌∙◌, refl, sym, ap, subst, ℕ, suc, ◌+◌, ◌*◌, ◌≤◌, max, List, [], ◌∷◌, ◌++◌, map, sum_by, length, Bool, arith}, lemmas.List.{length-map, Sums.sum_by-cons}}
 use Rattle.mus_units.specs.{declared.note.Head.Head, declared.value.Value.Value}
-use Rattle.mus_score.specs.{declared.score.Event.Event, declared.score.Music.TheOpen.Music-F, Good.weight, Times.Leafing, Times.in_row, Times.leaf, Times.leaves_step, Times.leaves_within, Times.nothing, declared.score.Music.Music}
+use Rattle.mus_score.specs.{declared.score.Event.Event, declared.score.Music.TheOpen.Music-F, Good.weight, Times.Leafing, Times.in_row, Times.leaf, Times.leaves_step, Times.leaves_within, Times.nothing}
 use Rattle.abc_notes.specs.declared.part.GraceChord.{GraceChord}
 use Rattle.abc_events.specs.{declared.written.{Written.Written, Waiting.Waiting}, Leaves.{Words, first_part, later_part, later_parts, parts, some_more, node_of, note_or_rest, grace_event, grace_note, grace_nodes, nodes_of}}
 use Rattle.abc_score.proofs.{Rows.weight_of, Rows.weight_of-append, Rows.weight_of-cons, Rows.weight_note, Rows.weight_rest, Rows.weight_grace, Rows.leaves_note, Rows.leaves_rest, Rows.leaves_grace, Cores.Core, Cores.core, Cores.Sings, Cores.sings_none, Cores.sings_append, Cores.sung, Cores.IsSung}

@@ -1,37 +1,37 @@
-ghost use Rattle.std.specs.{Prelude.◌≡◌, Prelude.◌≤◌, Prelude.length, Prelude.map, Prelude.IfOk, Prelude.None, List.All};
+ghost use Rattle.std.specs.{Prelude.ℕ, Prelude.◌≡◌, Prelude.◌≤◌, Prelude.length, Prelude.map, Prelude.IfOk, Prelude.None, List.All};
 ghost use Rattle.abc_header.specs.Headers.{HasGoodValues};
 ghost use Rattle.abc_items.specs.Voices.{unnamed_of};
 ghost use Rattle.abc_words.specs.Verses.{verse_count, verse_fault};
+ghost use Rattle.abc_events.specs.Bars.{bars_of};
 ghost use Rattle.abc_score.specs.{Voices.read_ids, Voices.AreApart, Voices.IsGoodRead, Framed.IsFramed, Score.forced_of, Score.most_measures, Score.score_with, Score.voice_of, Score.written_measures};
 
 use crate::sung::sung_words;
 use crate::voices::VoiceRead;
-use abc_events::{bars_of, first_bar, forced_bars, measures_of, own_measures, signs};
+use abc_events::{bars_of, forced_bars, measures_of, own_measures, signs};
 use abc_header::Header;
 use abc_items::unnamed_of;
 use abc_steps::Item;
 use abc_words::verse_count;
 use mus_score::{Measure, Score, Seat, Voice};
-use mus_units::{Memory, Row};
+use mus_units::{Bar, Memory, Row};
 use std::alloc::Global;
 use std::cmp::max;
 
-/// The measures of a voice: `n` of them.
+/// The measures of a voice, one for each bar.
 #[tactic(auto, unfolding(crate::specs::Score::written_measures))]
 fn written_measures(
     alloc: Global,
     unnamed: &[u8],
     items: &[Item],
-    n: u32,
+    bars: &[Bar],
     v: &VoiceRead,
 ) -> Result<Row<Measure>, Memory>
     requires { IsGoodRead v.now }
-    ensures { IfOk result (λ r. r ≡ written_measures unnamed.now items.now n v.now) }
+    ensures { IfOk result (λ r. (n : ℕ) → bars.now ≡ bars_of v.now.steps n → r ≡ written_measures unnamed.now items.now n v.now) }
 {
     let all = signs(alloc, &v.first, v.steps.as_slice())?;
     let words = sung_words(alloc, v.start.id.as_slice(), unnamed, items, all.as_slice())?;
-    let bars = bars_of(alloc, v.steps.as_slice(), n)?;
-    let measures = measures_of(alloc, all, words.as_slice(), bars.as_slice())?;
+    let measures = measures_of(alloc, all, words.as_slice(), bars)?;
     Ok(measures)
 }
 
@@ -57,7 +57,8 @@ fn voice_of(
     requires clear { verse_fault v.start.id (unnamed_of header.now) items.now ≡ None }
     ensures { IfOk result (λ voice. voice ≡ voice_of header.now items.now n v) }
 {
-    let measures = written_measures(alloc, unnamed_of(header), items, n, &v)?;
+    let own = bars_of(alloc, v.steps.as_slice(), n)?;
+    let measures = written_measures(alloc, unnamed_of(header), items, own.bars.as_slice(), &v)?;
     let verses = few_verses(alloc, header, items, &v)?;
     let key = header.key.copy(alloc)?;
     Ok(Voice {
@@ -69,7 +70,7 @@ fn voice_of(
         meter: header.meter,
         stem: v.start.stem,
         verses,
-        first: first_bar(v.steps.as_slice()),
+        first: own.first,
         measures,
     })
 }

@@ -54,20 +54,12 @@ fn put_sign(at: &mut Notes, sign: &Sign) -> Result<(), Memory>
     ensures events { OnOk result ((signs : List Sign) → at.new.events + event_count signs ≡ at.old.events + event_count (sign.now ∷ signs)) }
 {
     match sign {
-        Sign::Event {
-            written,
-            waiting: _,
-        } => {
+        Sign::Event { written, .. } => {
             put_note(&mut at.notes, at.events, written)?;
             at.events = next_event(at.events)?;
             Ok(())
         }
-        Sign::Opens {
-            measure: _,
-            p: _,
-            q: _,
-            r: _,
-        } => Ok(()),
+        Sign::Opens { .. } => Ok(()),
     }
 }
 

@@ -1,3 +1,4 @@
 pub mod Between
 pub mod Bounds
 pub mod Positions
+pub mod Singles

@@ -1,4 +1,5 @@
 pub mod Counts
+pub mod Few
 pub mod Force
 pub mod Good
 pub mod Kinds

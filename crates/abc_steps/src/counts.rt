@@ -1,7 +1,6 @@
 ghost use Rattle.std.specs.Prelude.{◌≡◌, ◌≤◌, ◌<◌, ◌^◌, ◌+◌, ◌∷◌, [], if◌then◌else◌};
-ghost use Rattle.abc_steps.specs.{Kinds.is_event, Kinds.is_bar, Looks.Steps, Counts.begins_group, Counts.is_near_event, Counts.further, Counts.counts_of};
+ghost use Rattle.abc_steps.specs.{declared.counts.Nearest.Nearest, Looks.Steps, Counts.is_near_event, Counts.counts_of};
 
-use crate::kinds::{is_bar, is_event};
 use crate::step::{Step, Stood};
 
 /// What the nearest event or bar before a place is.
@@ -26,57 +25,36 @@ pub struct Counts {
 fn is_near_event(nearest: Nearest) -> bool
     ensures { result ≡ is_near_event nearest }
 {
-    match nearest {
-        Nearest::Event => true,
-        _ => false,
-    }
+    matches!(nearest, Nearest::Event)
 }
 
-/// Whether a step is the first bar behind an event.
-#[tactic(auto, unfolding(crate::specs::Counts::begins_group))]
-fn begins_group(s: &Step, nearest: Nearest) -> bool
-    ensures { result ≡ begins_group s.now nearest }
-{
-    match s {
-        Step::Bar(_) => is_near_event(nearest),
-        _ => false,
-    }
-}
-
-/// The measures that a step adds to its own.
-#[tactic(auto, unfolding(crate::specs::Counts::further))]
-fn further(s: &Step) -> u64
-    ensures value { result ≡ further s.now }
-    ensures high { result ≤ 65535 }
-{
-    match s {
-        Step::Measures { seen: _, count } => u64::from(count.saturating_sub(1)),
-        _ => 0,
-    }
-}
-
-fn nearest_behind(s: &Step, nearest: Nearest) -> Nearest
-    ensures { result ≡ (if is_event s.now then Nearest.Event else (if is_bar s.now then Nearest.Bar else nearest)) }
-{
-    if is_event(s) {
-        return Nearest::Event;
-    }
-    if is_bar(s) {
-        return Nearest::Bar;
-    }
-    nearest
-}
-
-/// How many measures have begun behind a step.
-fn begun_behind(counts: Counts, s: &Step) -> u64
+/// The counts behind an event that adds so many measures to its own.
+fn behind_event(counts: Counts, further: u64) -> Counts
     requires groups { counts.groups ≤ 2 ^ 30 }
-    requires further { counts.further ≤ 2 ^ 46 }
-    ensures { result ≡ (if is_event s.now then counts.groups + counts.further + further s.now + 1 else counts.begun) }
+    requires before { counts.further ≤ 2 ^ 46 }
+    requires further { further ≤ 65535 }
+    ensures { result ≡ record { groups = counts.groups; further = counts.further + further; begun = counts.groups + counts.further + further + 1; nearest = Nearest.Event } }
 {
-    if is_event(s) {
-        return counts.groups + counts.further + further(s) + 1;
+    let further = counts.further + further;
+    Counts {
+        groups: counts.groups,
+        further,
+        begun: counts.groups + further + 1,
+        nearest: Nearest::Event,
     }
-    counts.begun
+}
+
+/// The counts behind a bar. The first one behind an event begins a group.
+fn behind_bar(counts: Counts) -> Counts
+    requires { counts.groups ≤ 2 ^ 30 }
+    ensures { result ≡ record counts { groups = if is_near_event counts.nearest then counts.groups + 1 else counts.groups; nearest = Nearest.Bar } }
+{
+    let begins = is_near_event(counts.nearest);
+    Counts {
+        groups: counts.groups + u64::from(begins),
+        nearest: Nearest::Bar,
+        ..counts
+    }
 }
 
 /// The counts at the beginning of a voice.
@@ -92,6 +70,7 @@ pub fn no_counts() -> Counts
 }
 
 /// The counts behind a step.
+#[tactic(auto, unfolding(crate::specs::Kinds::is_event, crate::specs::Kinds::is_bar, crate::specs::Counts::begins_group, crate::specs::Counts::further))]
 pub fn counted(counts: Counts, s: &Stood) -> Counts
     requires groups { counts.groups ≤ 2 ^ 30 }
     requires further { counts.further ≤ 2 ^ 46 }
@@ -99,15 +78,12 @@ pub fn counted(counts: Counts, s: &Stood) -> Counts
     ensures groups { result.groups ≤ counts.groups + 1 }
     ensures further { result.further ≤ counts.further + 65535 }
 {
-    let begins = begins_group(&s.step, counts.nearest);
-    Counts {
-        groups: if begins {
-            counts.groups + 1
-        } else {
-            counts.groups
-        },
-        further: counts.further + further(&s.step),
-        begun: begun_behind(counts, &s.step),
-        nearest: nearest_behind(&s.step, counts.nearest),
+    match &s.step {
+        Step::Sound(_) => behind_event(counts, 0),
+        Step::Measures { seen: _, count } => {
+            behind_event(counts, u64::from(count.saturating_sub(1)))
+        }
+        Step::Bar(_) => behind_bar(counts),
+        _ => counts,
     }
 }

@@ -85,10 +85,7 @@ fn names_clef(s: &Step) -> bool
 fn names_meter(s: &Step) -> bool
     ensures { result ≡ names_meter s.now }
 {
-    match s {
-        Step::Meter(_) => true,
-        _ => false,
-    }
+    matches!(s, Step::Meter(_))
 }
 
 fn any_key(waits: &[Stood]) -> bool

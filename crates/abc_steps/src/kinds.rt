@@ -15,10 +15,7 @@ fn has_head(heads: &[Head]) -> bool
 pub fn is_sound(s: &Step) -> bool
     ensures { result ≡ is_sound s.now }
 {
-    match s {
-        Step::Sound(_) => true,
-        _ => false,
-    }
+    matches!(s, Step::Sound(_))
 }
 
 /// Whether a step is a note or a chord.
@@ -37,11 +34,7 @@ pub fn is_note(s: &Step) -> bool
 pub fn is_event(s: &Step) -> bool
     ensures { result ≡ is_event s.now }
 {
-    match s {
-        Step::Sound(_) => true,
-        Step::Measures { seen: _, count: _ } => true,
-        _ => false,
-    }
+    matches!(s, Step::Sound(_) | Step::Measures { .. })
 }
 
 /// Whether a step is a bar.
@@ -49,10 +42,7 @@ pub fn is_event(s: &Step) -> bool
 pub fn is_bar(s: &Step) -> bool
     ensures { result ≡ is_bar s.now }
 {
-    match s {
-        Step::Bar(_) => true,
-        _ => false,
-    }
+    matches!(s, Step::Bar(_))
 }
 
 /// Whether a step is a broken rhythm.
@@ -60,10 +50,7 @@ pub fn is_bar(s: &Step) -> bool
 pub fn is_broken(s: &Step) -> bool
     ensures { result ≡ is_broken s.now }
 {
-    match s {
-        Step::Broken { right: _, dots: _ } => true,
-        _ => false,
-    }
+    matches!(s, Step::Broken { .. })
 }
 
 /// Whether a step is a tie.
@@ -71,10 +58,7 @@ pub fn is_broken(s: &Step) -> bool
 pub fn is_tie(s: &Step) -> bool
     ensures { result ≡ is_tie s.now }
 {
-    match s {
-        Step::Tie => true,
-        _ => false,
-    }
+    matches!(s, Step::Tie)
 }
 
 /// Whether a step begins a slur.
@@ -82,10 +66,7 @@ pub fn is_tie(s: &Step) -> bool
 pub fn is_slur_on(s: &Step) -> bool
     ensures { result ≡ is_slur_on s.now }
 {
-    match s {
-        Step::SlurOn => true,
-        _ => false,
-    }
+    matches!(s, Step::SlurOn)
 }
 
 /// Whether a step ends a slur.
@@ -93,10 +74,7 @@ pub fn is_slur_on(s: &Step) -> bool
 pub fn is_slur_off(s: &Step) -> bool
     ensures { result ≡ is_slur_off s.now }
 {
-    match s {
-        Step::SlurOff => true,
-        _ => false,
-    }
+    matches!(s, Step::SlurOff)
 }
 
 /// Whether a step is a space or the end of a line.
@@ -104,11 +82,7 @@ pub fn is_slur_off(s: &Step) -> bool
 pub fn is_parting(s: &Step) -> bool
     ensures { result ≡ is_parting s.now }
 {
-    match s {
-        Step::Space => true,
-        Step::LineEnd => true,
-        _ => false,
-    }
+    matches!(s, Step::Space | Step::LineEnd)
 }
 
 /// Whether a step is an event or a bar.

@@ -1,10 +1,12 @@
-ghost use Rattle.std.specs.{Prelude.◌≡◌, Prelude.◌≤◌, Prelude.◌^◌, Prelude.reverse, Option.option_copied};
-ghost use Rattle.mus_units.specs.Good.{IsGoodUnit};
+ghost use Rattle.std.specs.{Prelude.{◌≡◌, ◌≤◌, ◌^◌, reverse, IfOk}, Option.option_copied};
+ghost use Rattle.mus_units.specs.{Good.IsGoodUnit, Parts.parts_list};
 ghost use Rattle.abc_steps.specs.{Good.IsGoodSound, Lengths.{long_side, short_side, left_side, right_side, left_factor, right_factor, written_length, IsFactor, IsLength}};
 
+use crate::few::Few;
 use crate::looks::{broken_before, broken_behind};
 use crate::step::{Sound, Step, Stood};
-use mus_units::Frac;
+use mus_units::{Frac, Memory, Value, parts_of, value_of};
+use std::alloc::Global;
 
 /// How much longer the long side of a broken rhythm becomes.
 fn long_side(dots: u8) -> Frac
@@ -93,5 +95,20 @@ pub fn written_length(unit: Frac, s: &Sound, before: &[Stood], behind: &[Stood])
     Frac {
         num: s.num * unit.num * (left.num * right.num),
         den: s.den * unit.den * (left.den * right.den),
+    }
+}
+
+/// The parts of a length, which takes no memory where it is one value.
+#[tactic(auto, using(crate::proofs::Singles::one_part))]
+pub fn parts_in(alloc: Global, length: Frac) -> Result<Option<Few<Value>>, Memory>
+    requires { IsLength length }
+    ensures { IfOk result (λ r. r ≡ parts_list length.num length.den) }
+{
+    if let Some(value) = value_of(length.num, length.den) {
+        return Ok(Some(Few::one(value)));
+    }
+    match parts_of(alloc, length.num, length.den)? {
+        Some(parts) => Ok(Some(Few::from(parts))),
+        None => Ok(None),
     }
 }

@@ -2,7 +2,9 @@
 //! before and behind a place among the steps of one voice.
 #![tactic(auto)]
 
+pub mod copies;
 pub mod counts;
+pub mod few;
 pub mod force;
 pub mod kinds;
 pub mod lengths;
@@ -12,6 +14,7 @@ pub mod step;
 pub mod tuplets;
 
 pub use counts::{Counts, Nearest};
+pub use few::Few;
 pub use force::InForce;
 pub use place::Place;
 pub use step::{Item, Sound, Step, Stood};

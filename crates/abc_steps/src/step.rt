@@ -1,3 +1,4 @@
+use crate::few::Few;
 use abc_fields::{KeyText, VoiceDef};
 use abc_tokens::GraceChord;
 use mus_units::{Bar, Clef, Deco, Frac, Head, Meter, Row, Text};
@@ -6,7 +7,7 @@ use mus_units::{Bar, Clef, Deco, Frac, Head, Meter, Row, Text};
 /// `num / den` units, not reduced; `decos` are those written inside a chord.
 #[derive(Drop)]
 pub struct Sound {
-    pub heads: Row<Head>,
+    pub heads: Few<Head>,
     pub seen: bool,
     pub decos: Row<Deco>,
     pub num: u64,

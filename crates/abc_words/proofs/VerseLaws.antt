@@ -1,7 +1,7 @@
 -- Verses stand on rows of the body; and a row without a fault has at most eight.
-use Rattle.std.{proofs.{Common.{◌≡◌, ℕ, ◌+◌, ◌<◌, List, [], ◌∷◌, ◌++◌, Bool, true, false, cond, reverse, sym, ap, ◌∙◌, subst, arith, append_assoc, append-nil}, lemmas.List.{reverse-append, Elements.{All-nil, All-cons, All-append}}}, specs.{Prelude.{Option, Some, None, ⊤}, List.All}}
+use Rattle.std.{proofs.{Common.{◌≡◌, ℕ, ◌+◌, ◌<◌, List, [], ◌∷◌, ◌++◌, Bool, true, false, refl, cond, reverse, sym, ap, ◌∙◌, subst, arith, append_assoc, append-nil}, lemmas.List.{reverse-append, Elements.{All-nil, All-cons, All-append}}}, specs.{Prelude.{Option, Some, None, ⊤}, List.{All, list_any}}}
 use Rattle.abc_steps.specs.declared.step.Item.{Item}
-use Rattle.abc_words.specs.{declared.rows.Place.Place, declared.verses.Verse.Verse, Rows.row_behind, Rows.row_at, Rows.row_count, Rows.is_line_of, Rows.last_row, Rows.place_at, Verses.verse_if, Verses.verse_at, Verses.verses_from, Verses.verses_of}
+use Rattle.abc_words.specs.{declared.rows.Place.Place, declared.verses.Verse.Verse, Rows.row_behind, Rows.row_at, Rows.row_count, Rows.is_line_of, Rows.last_row, Rows.place_at, Verses.is_words, Verses.verse_if, Verses.verse_at, Verses.verses_from, Verses.verses_of}
 
 abbrev IsWithin : ℕ → Verse → Type 0
 IsWithin n v = v.row < n
@@ -67,3 +67,12 @@ found_within id unnamed items verses rows are is =
     let P : List Verse → Type 0 = λ vs. All (λ v. v.row < rows) vs in
     let Q : ℕ → Type 0 = λ n. All (λ v. v.row < n) (verses_of id unnamed items) in
     subst P (sym are) (subst Q (sym is) (verses_within id unnamed items))
+
+-- ---- a body without words
+none_along : (id unnamed : List ℕ) (before items : List Item) → list_any is_words items ≡ false → verses_from id unnamed before items ≡ []
+none_along id unnamed before [] none = refl
+none_along id unnamed before (Item.Words text line ∷ items) none = absurd cc
+none_along id unnamed before (i ∷ items) none = none_along id unnamed (i ∷ before) items none
+
+pub no_words_no_verses : (id unnamed : List ℕ) (items : List Item) → list_any is_words items ≡ false → [] ≡ verses_of id unnamed items
+no_words_no_verses id unnamed items none = sym (none_along id unnamed [] items none)

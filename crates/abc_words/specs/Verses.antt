@@ -15,6 +15,10 @@ abbrev pub verse_at : Place → Item → List Verse
 verse_at place (Item.Words text line) = verse_if place.current place.last text line
 verse_at place _ = []
 
+abbrev pub is_words : Item → Bool
+is_words (Item.Words text line) = true
+is_words _ = false
+
 abbrev pub verses_from : List ℕ → List ℕ → List Item → List Item → List Verse
 verses_from id unnamed before [] = []
 verses_from id unnamed before (i ∷ behind) = verse_at (place_at id unnamed before) i ++ verses_from id unnamed (i ∷ before) behind

@@ -38,12 +38,7 @@ fn put_row_end(ends: &mut Row<u32>, item: &Item) -> Result<(), Memory>
     ensures { OnOk result (ends.new ≡ ends.old ++ row_end item.now) }
 {
     match item {
-        Item::LineEnd {
-            joined,
-            breaks: _,
-            line,
-            column: _,
-        } => put_end(ends, *joined, *line),
+        Item::LineEnd { joined, line, .. } => put_end(ends, *joined, *line),
         _ => Ok(()),
     }
 }

@@ -1,7 +1,7 @@
-ghost use Rattle.std.specs.{Prelude.{◌≡◌, ◌≤◌, ◌<◌, ◌+◌, ◌++◌, ◌∷◌, ◌^◌, [], List, ℕ, All, cond, fold, length, max, slice_index, ◌==◌, map, None, IfOk, OnOk}, List.range_with_len};
-ghost use Rattle.abc_words.specs.{Rows.row_count, Verses.{faults_from, first_of, number_on, too_many, verse_at, verse_count, verse_fault, verse_if, verses_of}};
+ghost use Rattle.std.specs.{Prelude.{◌≡◌, ◌≤◌, ◌<◌, ◌+◌, ◌++◌, ◌∷◌, ◌^◌, [], List, ℕ, All, cond, fold, length, max, slice_index, ◌==◌, map, None, IfOk, OnOk}, List.{list_any, range_with_len}};
+ghost use Rattle.abc_words.specs.{Rows.row_count, Verses.{faults_from, first_of, is_words, number_on, too_many, verse_at, verse_count, verse_fault, verse_if, verses_of}};
 
-use crate::rows::{Place, first_place, place_behind};
+use crate::rows::{Place, first_place, place_behind, row_at_end};
 use abc_lines::{Fault, FaultKind};
 use abc_steps::Item;
 use mus_units::{Memory, Row, Text};
@@ -61,13 +61,43 @@ fn put_verse(
     }
 }
 
-/// The verses of a voice, in the order of the text.
+fn is_words(item: &Item) -> bool
+    ensures { result ≡ is_words item.now }
+{
+    matches!(item, Item::Words { .. })
+}
+
+/// Whether a body has words.
+fn has_words(items: &[Item]) -> bool
+    ensures { result ≡ list_any is_words items.now }
+{
+    items.iter().any(|item| is_words(item))
+}
+
+/// The verses of a voice, in the order of the text. Where the body has no words, each place of it isn't
+/// asked whether it is the voice's.
+#[tactic(auto, using(crate::proofs::VerseLaws::no_words_no_verses))]
 pub(crate) fn verses_of(
     alloc: Global,
     id: &[u8],
     unnamed: &[u8],
     items: &[Item],
 ) -> Result<Verses, Memory>
+    ensures verses { IfOk result (λ v. v.verses ≡ verses_of id.now unnamed.now items.now) }
+    ensures rows { IfOk result (λ v. v.rows ≡ row_count items.now) }
+    ensures within { IfOk result (λ v. All (λ verse. verse.row < v.rows) v.verses) }
+{
+    if has_words(items) {
+        return verses_along(alloc, id, unnamed, items);
+    }
+    Ok(Verses {
+        rows: row_at_end(items) + 1,
+        verses: Row::new(alloc),
+    })
+}
+
+/// The verses of a voice, found by a walk along the body.
+fn verses_along(alloc: Global, id: &[u8], unnamed: &[u8], items: &[Item]) -> Result<Verses, Memory>
     ensures verses { IfOk result (λ v. v.verses ≡ verses_of id.now unnamed.now items.now) }
     ensures rows { IfOk result (λ v. v.rows ≡ row_count items.now) }
     ensures within { IfOk result (λ v. All (λ verse. verse.row < v.rows) v.verses) }

@@ -1,11 +1,11 @@
 use Rattle.std.{proofs.Common.◌≡◌, proofs.Common.◌<◌, proofs.Common.◌+◌, proofs.Common.[], proofs.Common.ℕ, proofs.Common.map, proofs.Common.length, proofs.Common.slice_index_or, specs.List.range_with_len, specs.Vec.Iter.into_iter_items, specs.Vec.Iter.into_iter_len}
-use Rattle.abc_events.specs.Measures.{leaves_in, measure_of}
-use Rattle.abc_events.proofs.measures.measures_in.Given as goal
+use Rattle.abc_events.specs.{Leaves.leaves_of, Measures.leaves_in, Measures.measure_of}
+use Rattle.abc_events.proofs.measures.measures_of.Given as goal
 
 abbrev pub invariant-loop-row : goal.invariant-loop-row
 invariant-loop-row l = record {
-  measures : l.measures ≡ map (measure_of l.fn.leaves l.bars) (range_with_len 0 l.k);
+  measures : l.measures ≡ map (measure_of (leaves_of l.words l.fn.signs) l.bars) (range_with_len 0 l.k);
   left : l.k + length (into_iter_items l.row-iterator) ≡ length l.bars;
-  rows : (j : ℕ) → l.k + j < length l.bars → slice_index_or (into_iter_items l.row-iterator) j [] ≡ leaves_in (l.k + j) l.fn.leaves;
+  rows : (j : ℕ) → l.k + j < length l.bars → slice_index_or (into_iter_items l.row-iterator) j [] ≡ leaves_in (l.k + j) (leaves_of l.words l.fn.signs);
   count : into_iter_len l.row-iterator ≡ length (into_iter_items l.row-iterator);
 }
