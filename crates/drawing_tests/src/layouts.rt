@@ -6,6 +6,7 @@ use crate::marks::put_system;
 use answer_texts::{
     end_line, put_breaking, put_heights, put_no_way, put_numbers, put_placed, put_spans, put_word,
 };
+use eng_halves::Jobs;
 use lay_tune::{Layout, LayoutError, lay_out};
 use mus_laid::SystemMarks;
 use mus_score::Score;
@@ -56,7 +57,7 @@ pub(crate) fn put_score_layout<R: Threads + Sync>(
     if score.voices.len() == 0 {
         return put_word(out, b"no voice\n");
     }
-    match lay_out(rt, alloc, score, width, 2) {
+    match lay_out(rt, alloc, score, width, Jobs { count: 2 }) {
         Ok(layout) if drawn => put_systems(out, &layout),
         Ok(layout) => put_layout(out, &layout),
         Err(LayoutError::NoWay { reached }) => put_no_way(out, reached),

@@ -18,7 +18,6 @@ mod voices;
 
 use crate::calls::put_case;
 use eng_io::{StdSink, write_all};
-use lay_columns::{columns_join, marks_join};
 use lay_measures::measures_join;
 use mus_ink::beams_by_levels;
 use mus_stems::{beams_by_groups, no_other_plans, slopes_by_beams};
@@ -42,8 +41,6 @@ fn state_laws() {
     beams_by_levels();
     slopes_by_beams();
     no_other_plans();
-    columns_join();
-    marks_join();
     measures_join();
 }
 

@@ -61,7 +61,7 @@ natural_more key keys more lengths h =
 
 -- ---- columns
 module _ (joined first second : List StaffMarks) (lengths verses : List ℕ) where
-  behind_same : (n rank : ℕ) (keys : List ColumnKey) → StavesJoin n joined first second
+  pub behind_same : (n rank : ℕ) (keys : List ColumnKey) → StavesJoin n joined first second
       → columns_from (n + rank) keys joined lengths verses ≡ columns_from rank keys second lengths verses
   behind_same n rank [] h = refl
   behind_same n rank (key ∷ keys) h =

@@ -5,14 +5,12 @@
 #![tactic(auto)]
 
 pub mod column;
-pub mod joining;
 pub mod lanes;
 pub mod reaches;
 pub mod springs;
 pub mod system;
 
 pub use column::Column;
-pub use joining::{columns_join, marks_join};
 pub use lanes::gaps_of;
 pub use lay_springs::Reach;
 pub use system::{columns, columns_in};

@@ -40,19 +40,8 @@ fn rank_of(mark: &Mark) -> Option<u32>
     ensures { result ≡ rank_of mark.now }
 {
     match mark {
-        Mark::Glyph {
-            glyph: _,
-            rank,
-            dx: _,
-            dy: _,
-        } => Some(*rank),
-        Mark::Words {
-            size: _,
-            rank,
-            dx: _,
-            dy: _,
-            text: _,
-        } => Some(*rank),
+        Mark::Glyph { rank, .. } => Some(*rank),
+        Mark::Words { rank, .. } => Some(*rank),
         _ => None,
     }
 }

@@ -1,13 +1,14 @@
 -- What is true of the columns of one measure: they stand in it, the last is its bar, and texts are short.
-use Rattle.std.{proofs.{Common.{◌≡◌, ◌∙◌, ℕ, zero, suc, ◌+◌, ◌-◌, ◌<◌, ◌≤◌, Bool, true, false, List, [], ◌∷◌, length, map, take, drop, Some, Ok, Err, IfOk, Result, refl, sym, ap, subst, arith}, lemmas.{Bool.Decides.nat_tests, List.Elements.{All-from_recursion, Contains-append_left, Contains-append_right, recursion_from_All}}}, specs.List.{All, AllByRecursion, Contains, flat_map, slice_index, slice_range}}
+use Rattle.std.{proofs.{Common.{◌≡◌, ◌∙◌, ℕ, zero, suc, ◌+◌, ◌-◌, ◌<◌, ◌≤◌, Bool, true, false, List, [], ◌∷◌, length, map, take, drop, Some, Ok, Err, IfOk, Result, refl, sym, ap, subst, arith}, lemmas.{Bool.Decides.nat_tests, List.{length-map, Elements.{All-from_recursion, Contains-append_left, Contains-append_right, recursion_from_All}}}}, specs.List.{All, AllByRecursion, Contains, flat_map, slice_index, slice_range}}
 use Rattle.mus_score.specs.{declared.score.Measure.Measure, declared.score.Score.Score, declared.score.Voice.Voice, Seats.is_lower, Times.flats_of, GoodScore.IsGoodScore, GoodScore.IsLed}
-use Rattle.mus_time.specs.{declared.keys.{Class.Class, ColumnKey.ColumnKey}, Keys.{all_keys, AreKeys, bar_key, called_keys, events_keys, first_keys, further_keys, IsInSystem, key_at, keys_by, measures_keys, signed_at}, Order.{BelowAll, is_below, Rises}}
+use Rattle.mus_time.specs.{declared.{keys.{Class.Class, ColumnKey.ColumnKey}, times.Timeline.Timeline}, Onsets.timeline_of, Keys.{AreKeys, all_keys, bar_key, called_keys, events_keys, first_keys, further_keys, IsInSystem, key_at, keys_by, measures_keys, signed_at}, Order.{BelowAll, is_below, Rises}}
 use Rattle.mus_drawn.specs.{declared.drawn.DrawnMeasure.DrawnMeasure, declared.drawn.DrawnVoice.DrawnVoice}
 use Rattle.mus_laid.specs.Boxes.{AreGoodMarks}
 use Rattle.mus_stems.proofs.RunLaws.{all_append, all_drop, all_take}
-use Rattle.mus_marks.{specs.Columns.keys_called, specs.System.drawn_staves, proofs.Few.few_further, proofs.Few.few_keys, proofs.Fitting.staves_fit, proofs.Parts.columns_all, proofs.Parts.Fits, proofs.Parts.FitsMeasure, proofs.Parts.FitsVoice, proofs.Parts.measures_all, proofs.GoodMarks.goods, proofs.GoodMarks.IsGood}
-use Rattle.lay_columns.specs.{declared.column.Column.Column, Widened.AreGoodStaves}
-use Rattle.lay_measures.specs.Measures.{EndWithBar, fixed_place, keys_in, measure_part, measure_staff, parts_from}
+use Rattle.mus_keys.{specs.Columns.keys_called, proofs.Called.called_places}
+use Rattle.mus_marks.{specs.System.drawn_staves, proofs.Fitting.staves_fit, proofs.Parts.columns_all, proofs.Parts.Fits, proofs.Parts.FitsMeasure, proofs.Parts.FitsVoice, proofs.Parts.measures_all, proofs.GoodMarks.goods, proofs.GoodMarks.IsGood}
+use Rattle.lay_columns.{specs.{declared.column.Column.Column, Columns.StandsWhereDue, Widened.AreGoodStaves}, proofs.Facts.columns_stand}
+use Rattle.lay_measures.specs.Measures.{AreMeasureColumns, EndWithBar, fixed_place, keys_in, measure_part, measure_staff, parts_from}
 
 -- ---- one measure of some
 single : {X : Type 0} (m : ℕ) (xs : List X) → m < length xs → (x : X) × (take 1 (drop m xs) ≡ x ∷ [])
@@ -101,9 +102,17 @@ pub called_has_bar : (begins : Bool) (s : Score) (lengths : List ℕ) (m : ℕ) 
 called_has_bar true s lengths m good some within = called_bar s lengths m good some within
 called_has_bar false s lengths m good some within = further_bar s lengths m good some within
 
-pub few_called : (begins : Bool) (s : Score) (lengths : List ℕ) (m : ℕ) (keys : List ColumnKey) → IsGoodScore s → m < s.measures → AreKeys keys (keys_called begins s lengths m) → length keys < 4294967296
-few_called true s lengths m keys good within are = few_keys s lengths m (m + 1) keys good (omega (arith, within)) are
-few_called false s lengths m keys good within are = few_further s lengths m keys good are
+module _ (begins : Bool) (s : Score) (t : Timeline) (m : ℕ) (verses : List ℕ) (columns : List Column) (are : AreMeasureColumns begins s t m verses columns) where
+  pub measure_bar : IsGoodScore s → t ≡ timeline_of s → 1 ≤ length s.voices → m < s.measures → EndWithBar columns
+  measure_bar good timed some within =
+      let lengths = t.lengths in let keys = keys_in columns in
+      let inside = subst (λ z. All (IsInSystem z.lengths m (m + 1)) keys) (sym timed) (called_places begins s m keys good within (subst (λ z. AreKeys keys (keys_called begins s z.lengths m)) timed are.keys)) in
+      end_with_bar lengths m columns are.keys.rise (places (IsInSystem lengths m (m + 1)) keys columns inside refl) (are.keys.all (bar_key lengths m) (called_has_bar begins s lengths m good some within))
+
+  pub measure_stands : length verses ≡ length (drawn_staves s) → All (StandsWhereDue verses) columns
+  measure_stands count =
+      let staves = map (measure_staff begins (keys_in columns) t.lengths m) (drawn_staves s) in
+      subst (All (StandsWhereDue verses)) (sym are.value) (columns_stand staves t.lengths verses (keys_in columns) (count ∙ sym (length-map (drawn_staves s) (measure_staff begins (keys_in columns) t.lengths m))))
 
 -- ---- texts
 sliced : (verses m : ℕ) (ds : List DrawnMeasure) → Fits verses ds → Fits verses (slice_range ds m (m + 1))

@@ -6,7 +6,8 @@ use Rattle.mus_time.{specs.{declared.keys.{Class.Class, ColumnKey.ColumnKey}, Ke
 use Rattle.mus_stems.proofs.RunLaws.{all_append}
 use Rattle.mus_laid.specs.{declared.laid.Laid.Laid, declared.laid.StaffMarks.StaffMarks, declared.laid.SystemMarks.SystemMarks}
 use Rattle.mus_drawn.specs.{declared.drawn.DrawnMeasure.DrawnMeasure, declared.drawn.DrawnVoice.DrawnVoice, Drawn.drawn_voice}
-use Rattle.mus_marks.{specs.Staff.columns_part, specs.Staff.staff_marks, specs.System.IsCall, specs.System.drawn_staves, specs.System.stands_lower, proofs.Groups.grouped_all, proofs.Lines.voice_count, proofs.OneList.same_keys}
+use Rattle.mus_keys.proofs.Counts.{voice_count}
+use Rattle.mus_marks.{specs.Staff.columns_part, specs.Staff.staff_marks, specs.System.IsCall, specs.System.drawn_staves, specs.System.stands_lower, proofs.Groups.grouped_all, proofs.OneList.same_keys}
 use Rattle.lay_columns.{specs.{declared.column.Column.Column, Columns.columns_of, Joining.{AreJoined, IsBelow, moved, OfOtherMeasures, StavesJoin}, Reaches.{box_at, boxes_at, rank_of as mark_rank}}, proofs.JoinLaws.{columns_join, marks_join}}
 use Rattle.lay_measures.{proofs.{Slots.{AreBelow, bar_slots, columns_laid, columns_slots, events_slots, first_slots, head_slots, lay, lay_append, lay_below, lay_moved, lay_same, measures_laid, measures_slots}, Facts.led_voice, KeyLaws.{keys_grow, slice_long, slice_more}, Ranks.{bars_in, columns_in, Fit, IsPlaced, measures_in, rank_behind, rank_front, rank_less, slice_fit, voice_fit}, SameBoxes.{core_part, staff_same}}, specs.{Law.{AreColumnsFrom, MeasuresJoin, one_after_the_other}, Measures.{AreMeasureColumns, fixed_place, keys_in, measure_part, measure_staff, parts_from, staff_of_columns}}}
 
@@ -46,7 +47,7 @@ slots_more lengths first a b seat bar xs ys some e =
     ∙ ap (λ t. head_slots a xs ++ first_slots a seat bar ++ t) (slots_from lengths first a xs ys some ∙ ap (λ k. measures_slots lengths first a true xs ++ measures_slots lengths first k false ys) e)
     ∙ sym (append_assoc (head_slots a xs ++ first_slots a seat bar) (measures_slots lengths first a true xs) (measures_slots lengths first b false ys))
 
-all_weaker : {X : Type 0} (P Q : X → Type 0) → ((x : X) → P x → Q x) → (xs : List X) → AllByRecursion P xs → AllByRecursion Q xs
+pub all_weaker : {X : Type 0} (P Q : X → Type 0) → ((x : X) → P x → Q x) → (xs : List X) → AllByRecursion P xs → AllByRecursion Q xs
 all_weaker P Q f [] h = tt
 all_weaker P Q f (x ∷ xs) h = (f x h.0, all_weaker P Q f xs h.1)
 
@@ -64,7 +65,7 @@ abbrev HasBars : List ℕ → ℕ → ℕ → List ColumnKey → Type 0
 HasBars lengths a b ks = (m : ℕ) → a ≤ m → m < b → Contains ks (bar_key lengths m)
 
 -- of n measures, within their lengths
-abbrev HasMeasures : List ℕ → ℕ → DrawnVoice → Type 0
+abbrev pub HasMeasures : List ℕ → ℕ → DrawnVoice → Type 0
 HasMeasures lengths n v = (length v.measures ≡ n) × Fit lengths 0 v.measures
 
 -- its marks stand in the columns of the system
@@ -74,9 +75,9 @@ module _ (lengths : List ℕ) (a b n : ℕ) (keys : List ColumnKey) (order : a <
       let xs = slice_range v.measures a b in
       let slots = columns_slots lengths first a v.seat v.first xs in
       let long = slice_long a b v.measures (omega (arith, within, count)) in
-      let slots_in = columns_in lengths a b first v.seat v.first xs order (omega (arith, long, order)) (slice_fit lengths a b v.measures fit) in
+      let slots_in = columns_in lengths a b 0 (omega arith) first v.seat v.first xs order (omega (arith, long, order)) (slice_fit lengths a b v.measures fit) refl in
       subst (AreBelow (length keys)) (sym (columns_laid keys lengths first a v.seat v.first xs))
-      (lay_below (length keys) keys slots (all_weaker (λ x. IsPlaced lengths a b x.key) (λ x. rank_of keys x.key < length keys)
+      (lay_below (length keys) keys slots (all_weaker (λ x. IsPlaced lengths a b 0 x.key) (λ x. rank_of keys x.key < length keys)
       (λ x h. rank_less keys x.key (bar_key lengths x.key.measure) (bars x.key.measure h.from h.to) h.within) slots slots_in))
 
   parts_below : (first : ℕ) (vs : List DrawnVoice) → AllByRecursion (HasMeasures lengths n) vs → AreBelow (length keys) (parts_from (core_part keys lengths a b) first vs)
@@ -86,7 +87,7 @@ module _ (lengths : List ℕ) (a b n : ℕ) (keys : List ColumnKey) (order : a <
       (part_below first v h.0) (parts_below (first + v.verses) vs h.1)
 
 -- ---- a staff of one more measure
-both_joined : (n : ℕ) (xs xt xu ys yt yu : List Laid) → AreJoined n xs xt xu → AreJoined n ys yt yu → AreJoined n (xs ++ ys) (xt ++ yt) (xu ++ yu)
+pub both_joined : (n : ℕ) (xs xt xu ys yt yu : List Laid) → AreJoined n xs xt xu → AreJoined n ys yt yu → AreJoined n (xs ++ ys) (xt ++ yt) (xu ++ yu)
 both_joined n xs xt xu ys yt yu h g = record {
   front = λ rank lane l. two rank lane xs xt ys yt (h.front rank lane l) (g.front rank lane l);
   behind = λ rank lane.
@@ -110,14 +111,14 @@ module _ (lengths : List ℕ) (a b n : ℕ) (front behind : List ColumnKey) (ord
       let more = measures_slots lengths first b false ys in
       let long = slice_long a b v.measures (omega (arith, within, count)) in
       let long' = slice_long b (b + 1) v.measures (omega (arith, within, count)) in
-      let begun_in = columns_in lengths a b first v.seat v.first xs order (omega (arith, long, order)) (slice_fit lengths a b v.measures fit) in
-      let more_in = measures_in lengths b (b + 1) first b false ys (omega arith) (omega (arith, long')) (slice_fit lengths b (b + 1) v.measures fit) in
+      let begun_in = columns_in lengths a b 0 (omega arith) first v.seat v.first xs order (omega (arith, long, order)) (slice_fit lengths a b v.measures fit) refl in
+      let more_in = measures_in lengths b (b + 1) 0 (omega arith) first b false ys (omega arith) (omega (arith, long')) (slice_fit lengths b (b + 1) v.measures fit) in
       columns_laid keys lengths first a v.seat v.first (slice_range v.measures a (b + 1))
       ∙ ap (λ t. lay keys (columns_slots lengths first a v.seat v.first t)) (slice_more a b v.measures (omega (arith, order)))
       ∙ ap (lay keys) (slots_more lengths first a b v.seat v.first xs ys (omega (arith, long, order)) (omega (arith, long, order)))
       ∙ lay_append keys begun more
-      ∙ ap (λ t. t ++ lay keys more) (lay_same front keys begun (all_weaker (λ x. IsPlaced lengths a b x.key) (λ x. rank_of keys x.key ≡ rank_of front x.key) (λ x h. rank_front b front behind x.key h.to from) begun begun_in))
-      ∙ ap (λ t. lay front begun ++ t) (lay_moved (length front) behind keys more (all_weaker (λ x. IsPlaced lengths b (b + 1) x.key) (λ x. rank_of keys x.key ≡ length front + rank_of behind x.key) (λ x h. rank_behind b front behind x.key h.from until) more more_in))
+      ∙ ap (λ t. t ++ lay keys more) (lay_same front keys begun (all_weaker (λ x. IsPlaced lengths a b 0 x.key) (λ x. rank_of keys x.key ≡ rank_of front x.key) (λ x h. rank_front b front behind x.key h.to from) begun begun_in))
+      ∙ ap (λ t. lay front begun ++ t) (lay_moved (length front) behind keys more (all_weaker (λ x. IsPlaced lengths b (b + 1) 0 x.key) (λ x. rank_of keys x.key ≡ length front + rank_of behind x.key) (λ x h. rank_behind b front behind x.key h.from until) more more_in))
       ∙ ap (λ t. t ++ map (moved (length front)) (lay behind more)) (sym (columns_laid front lengths first a v.seat v.first xs))
       ∙ ap (λ t. columns_part front lengths (Some (fixed_place first)) a v.seat v.first xs ++ map (moved (length front)) t) (sym (measures_laid behind first lengths b false ys))
 
@@ -185,7 +186,7 @@ module _ (lengths verses : List ℕ) (a b n : ℕ) (keys : List ColumnKey) (orde
       ∙ ap (λ ks. columns_of ks (map (core_staff keys lengths a b) staves) lengths verses) (append-nil keys)
 
 -- ---- measure by measure
-voices_fit : (lengths : List ℕ) (n : ℕ) (vs : List Voice) → AllByRecursion (λ v. length v.measures ≡ n) vs → ((k : ℕ) → k < n → length_at vs k ≤ slice_index lengths k)
+pub voices_fit : (lengths : List ℕ) (n : ℕ) (vs : List Voice) → AllByRecursion (λ v. length v.measures ≡ n) vs → ((k : ℕ) → k < n → length_at vs k ≤ slice_index lengths k)
     → AllByRecursion (HasMeasures lengths n) (map drawn_voice vs)
 voices_fit lengths n [] same fits = tt
 voices_fit lengths n (v ∷ vs) same fits =

@@ -1,5 +1,5 @@
 -- Keys of a system one measure longer: those of the system, then those of the further measure.
-use Rattle.std.{proofs.{Common.{◌≡◌, ◌∙◌, ℕ, zero, suc, ◌+◌, ◌-◌, ◌<◌, ◌≤◌, ◌⊎◌, inl, inr, Bool, true, false, List, [], ◌∷◌, ◌++◌, length, length-drop, take, drop, refl, sym, ap, subst, arith}, Math.Seq.take-add, lemmas.List.{append_assoc, drop-drop, length-take-le, Elements.{Contains-append_cases, Contains-append_left, Contains-append_right, filter-append}}}, specs.{List.{AllByRecursion, Contains, flat_map, slice_range}, Prelude.slice_index}}
+use Rattle.std.{proofs.{Common.{◌≡◌, ◌∙◌, ℕ, ◌+◌, ◌-◌, ◌<◌, ◌≤◌, ◌⊎◌, inl, inr, Bool, true, false, List, [], ◌∷◌, ◌++◌, length, length-drop, take, drop, refl, sym, ap, subst, arith}, Math.Seq.take-add, lemmas.List.{append_assoc, drop-drop, length-take-le, Elements.{Contains-append_cases, Contains-append_left, Contains-append_right, filter-append}}}, specs.{List.{AllByRecursion, Contains, flat_map, slice_range}, Prelude.slice_index}}
 use Rattle.mus_score.specs.{declared.score.Measure.Measure, declared.score.Score.Score, declared.score.Voice.Voice, Seats.is_lower, Times.flats_of}
 use Rattle.mus_time.{specs.{Keys.{AreKeys, all_keys, called_keys, events_keys, first_keys, further_keys, has_entries, is_for_each, key_at, keys_by, measure_keys, measures_keys, signed_at, signed_behind, signed_through, voice_keys}, declared.keys.{Class.Class, ColumnKey.ColumnKey}}, proofs.RankLaws.rises_join}
 

@@ -1,4 +1,5 @@
-mod Facts
+mod Behind
+pub mod Facts
 mod Joined
 mod KeyLaws
 mod Ranks

@@ -7,7 +7,8 @@ use Rattle.mus_time.{specs.{declared.keys.{Class.Class, ColumnKey.ColumnKey}, Ke
 use Rattle.mus_ink.specs.{declared.graces.Group.Group, Bars.bar_marks, Decos.note_marks, Graces.group_of}
 use Rattle.mus_laid.specs.declared.drawn.Drawn.{Drawn}
 use Rattle.mus_drawn.specs.{declared.{drawn.{DrawnEvent.DrawnEvent, DrawnMeasure.DrawnMeasure, Style.Style}, standing.Standing.Standing}, Drawn.{drawn_events, drawn_measure, drawn_measures, drawn_voice, raise_of, standing_after, standing_behind, standing_of, style_of}}
-use Rattle.mus_marks.specs.Events.{levels_behind, levels_in, note_key}
+use Rattle.mus_keys.specs.Columns.{note_key}
+use Rattle.mus_marks.specs.Events.{levels_behind, levels_in}
 use Rattle.lay_measures.proofs.Slots.{Slot, bar_slots, change_slots, columns_slots, event_slots, events_slots, first_slots, graces_slots, head_slots, measures_slots, slot, words_of}
 
 -- ---- ranks
@@ -44,11 +45,12 @@ rank_less (x ∷ xs) k l (suc i, inside, is) h = by (is_below x k) (rank_less xs
     by true more = omega (arith, more)
     by false more = omega (arith, more)
 
--- ---- a key in some measures, not past the bar of its own
-pub record IsPlaced (lengths : List ℕ) (a b : ℕ) (k : ColumnKey) : Type 0 where
+-- ---- a key in some measures, not past the bar of its own, and of no class below some number
+pub record IsPlaced (lengths : List ℕ) (a b least : ℕ) (k : ColumnKey) : Type 0 where
   pub from : a ≤ k.measure
   pub to : k.measure < b
   pub within : is_below (bar_key lengths k.measure) k ≡ false
+  pub past : least ≤ class_number k.class
 
 pub bars_in : (lengths : List ℕ) (m : ℕ) (in_head signed : Bool) (xs : List Measure) (i : ℕ) → i < length xs → Contains (measures_keys lengths m in_head signed xs) (bar_key lengths (m + i))
 bars_in lengths m in_head signed [] i h = absurd (omega (arith, h))
@@ -116,28 +118,28 @@ pub slice_fit : (lengths : List ℕ) (a b : ℕ) (xs : List DrawnMeasure) → Fi
 slice_fit lengths a b xs h = fit_take lengths a (b - a) (drop a xs) (subst (λ z. Fit lengths z (drop a xs)) (omega arith) (fit_drop lengths 0 a xs h))
 
 -- ---- the keys of slots
-module _ (lengths : List ℕ) (a b : ℕ) where
+module _ (lengths : List ℕ) (a b least : ℕ) (low : least ≤ 2) where
   abbrev pub AreIn : List Slot → Type 0
-  AreIn xs = AllByRecursion (λ x. IsPlaced lengths a b x.key) xs
+  AreIn xs = AllByRecursion (λ x. IsPlaced lengths a b least x.key) xs
 
   both_in : (xs ys : List Slot) → AreIn xs → AreIn ys → AreIn (xs ++ ys)
-  both_in xs ys p q = all_append (λ x. IsPlaced lengths a b x.key) xs ys p q
+  both_in xs ys p q = all_append (λ x. IsPlaced lengths a b least x.key) xs ys p q
 
-  placed_at : (m tick : ℕ) (class : Class) (place : ℕ) → a ≤ m → m < b → tick ≤ slice_index lengths m → class_number class < 5 → IsPlaced lengths a b (key_at m tick class place)
-  placed_at m tick class place from to h c = record { from = from; to = to; within = not_past lengths m tick class place h c }
+  placed_at : (m tick : ℕ) (class : Class) (place : ℕ) → a ≤ m → m < b → tick ≤ slice_index lengths m → class_number class < 5 → least ≤ class_number class → IsPlaced lengths a b least (key_at m tick class place)
+  placed_at m tick class place from to h c p = record { from = from; to = to; within = not_past lengths m tick class place h c; past = p }
 
   change_in : (m : ℕ) (in_head : Bool) (e : DrawnEvent) → a ≤ m → m < b → e.tick ≤ slice_index lengths m → AreIn (change_slots m in_head e)
   change_in m true e from to h = tt
-  change_in m false e from to h = (placed_at m e.tick Class.Change 0 from to h (omega arith), tt)
+  change_in m false e from to h = (placed_at m e.tick Class.Change 0 from to h (omega arith) (omega (arith, low)), tt)
 
   graces_in : (m tick : ℕ) (clef : Clef) (group : Group) (i : ℕ) (gs : List Event) → a ≤ m → m < b → tick ≤ slice_index lengths m → AreIn (graces_slots m tick clef group i gs)
   graces_in m tick clef group i [] from to h = tt
-  graces_in m tick clef group i (g ∷ gs) from to h = (placed_at m tick Class.Grace i from to h (omega arith), graces_in m tick clef group (i + 1) gs from to h)
+  graces_in m tick clef group i (g ∷ gs) from to h = (placed_at m tick Class.Grace i from to h (omega arith) (omega (arith, low)), graces_in m tick clef group (i + 1) gs from to h)
 
   note_in : (m : ℕ) (e : DrawnEvent) (xs : List Drawn) → a ≤ m → m < b → e.tick ≤ slice_index lengths m → AreIn (slot (note_key m e) xs)
-  note_in m e xs from to h = (placed_at m e.tick Class.Note 0 from to h (omega arith), tt)
+  note_in m e xs from to h = (placed_at m e.tick Class.Note 0 from to h (omega arith) (omega (arith, low)), tt)
 
-  none_or : (c : Bool) (k : ColumnKey) (xs : List Drawn) → IsPlaced lengths a b k → AreIn (if c then [] else slot k xs)
+  none_or : (c : Bool) (k : ColumnKey) (xs : List Drawn) → IsPlaced lengths a b least k → AreIn (if c then [] else slot k xs)
   none_or true k xs h = tt
   none_or false k xs h = (h, tt)
 
@@ -165,22 +167,22 @@ module _ (lengths : List ℕ) (a b : ℕ) where
         let here : m < b = omega (arith, to) in
         both_in (events_slots first m in_head 0 0 d.events ++ bar_slots lengths m d) (measures_slots lengths first (m + 1) false ds)
         (both_in (events_slots first m in_head 0 0 d.events) (bar_slots lengths m d)
-        (events_in m in_head 0 0 d.events from here h.0) (none_or (is_lower d.seat) (bar_key lengths m) _ (record { from = from; to = here; within = bar_itself lengths m })))
+        (events_in m in_head 0 0 d.events from here h.0) (none_or (is_lower d.seat) (bar_key lengths m) _ (record { from = from; to = here; within = bar_itself lengths m; past = omega (arith, low) })))
         (measures_in (m + 1) false ds (omega (arith, from)) (omega (arith, to)) h.1)
 
-  head_in : (ds : List DrawnMeasure) → a < b → AreIn (head_slots a ds)
-  head_in [] h = tt
-  head_in (d ∷ ds) h = none_or (is_lower d.seat) (key_at a 0 Class.Head 0) _ (placed_at a 0 Class.Head 0 (omega arith) h (omega arith) (omega arith))
+  head_in : (ds : List DrawnMeasure) → a < b → least ≡ 0 → AreIn (head_slots a ds)
+  head_in [] h z = tt
+  head_in (d ∷ ds) h z = none_or (is_lower d.seat) (key_at a 0 Class.Head 0) _ (placed_at a 0 Class.Head 0 (omega arith) h (omega arith) (omega arith) (omega (arith, z)))
 
-  first_in : (seat : Seat) (bar : Bar) → a < b → AreIn (first_slots a seat bar)
-  first_in seat bar h = by (not (is_lower seat) && (a == 0) && has_features bar) (λ t. grind (arith, nat_tests))
+  first_in : (seat : Seat) (bar : Bar) → a < b → least ≡ 0 → AreIn (first_slots a seat bar)
+  first_in seat bar h z = by (not (is_lower seat) && (a == 0) && has_features bar) (λ t. grind (arith, nat_tests))
     where
       by : (c : Bool) → (c ≡ true → a ≡ 0) → AreIn (if c then slot (key_at 0 0 Class.First 0) (bar_marks bar) else [])
-      by true z = let e = z refl in (placed_at 0 0 Class.First 0 (omega (arith, e)) (omega (arith, h)) (omega arith) (omega arith), tt)
-      by false z = tt
+      by true begins = let e = begins refl in (placed_at 0 0 Class.First 0 (omega (arith, e)) (omega (arith, h)) (omega arith) (omega arith) (omega (arith, z)), tt)
+      by false begins = tt
 
-  pub columns_in : (first : ℕ) (seat : Seat) (bar : Bar) (ds : List DrawnMeasure) → a < b → a + length ds ≤ b → Fit lengths a ds → AreIn (columns_slots lengths first a seat bar ds)
-  columns_in first seat bar ds h to fit =
+  pub columns_in : (first : ℕ) (seat : Seat) (bar : Bar) (ds : List DrawnMeasure) → a < b → a + length ds ≤ b → Fit lengths a ds → least ≡ 0 → AreIn (columns_slots lengths first a seat bar ds)
+  columns_in first seat bar ds h to fit z =
       both_in (head_slots a ds ++ first_slots a seat bar) (measures_slots lengths first a true ds)
-      (both_in (head_slots a ds) (first_slots a seat bar) (head_in ds h) (first_in seat bar h))
+      (both_in (head_slots a ds) (first_slots a seat bar) (head_in ds h z) (first_in seat bar h z))
       (measures_in first a true ds (omega arith) to fit)

@@ -7,7 +7,8 @@ use Rattle.mus_laid.specs.{declared.{laid.{Laid.Laid, Mark.Mark, Lane.Lane}, dra
 use Rattle.mus_ink.specs.{Distances.half_character, Drawing.back}
 use Rattle.mus_words.specs.{Syllables.{syllable, syllable_dx, syllable_if, syllables_from, verse_dy}, declared.texts.TextPlace.TextPlace, Words.words, Texts.{above_dy, above_from, below_dy, below_from, text_marks, texts_above, texts_below}}
 use Rattle.mus_drawn.specs.{declared.drawn.DrawnEvent.DrawnEvent, declared.drawn.DrawnMeasure.DrawnMeasure, declared.drawn.DrawnVoice.DrawnVoice}
-use Rattle.mus_marks.{specs.{Staff.{bare_marks, columns_part, first_part, head_part, own_part, room_over, staff_bridges, staff_marks, staff_over, texts_behind, verses_on, written_parts}, declared.events.{Place.Place, Room.Room, Texts.Texts}, Bridges.bridges_of, Events.{bar_part, change_part, event_marks, events_marks, graces_part, levels_behind, levels_in, measures_marks, note_part, note_rank, words_part}}, proofs.Columned.columned_taken}
+use Rattle.mus_bridges.specs.Bridges.{bridges_of}
+use Rattle.mus_marks.{specs.{Staff.{bare_marks, columns_part, first_part, head_part, own_part, room_over, staff_bridges, staff_marks, staff_over, texts_behind, verses_on, written_parts}, declared.events.{Place.Place, Room.Room, Texts.Texts}, Events.{bar_part, change_part, event_marks, events_marks, graces_part, levels_behind, levels_in, measures_marks, note_part, note_rank, words_part}}, proofs.Columned.columned_taken}
 use Rattle.lay_columns.specs.{Lanes.lane_number, Reaches.box_at, Reaches.boxes_at, Reaches.is_number, Reaches.rank_of as mark_rank}
 use Rattle.lay_measures.specs.Measures.{fixed_place, parts_from}
 use Rattle.mus_laid.specs.declared.laid.Lane.TheVariants as lanes

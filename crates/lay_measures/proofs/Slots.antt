@@ -8,7 +8,8 @@ use Rattle.mus_laid.specs.{declared.drawn.Drawn.Drawn, declared.drawn.Ink.Ink, d
 use Rattle.mus_ink.specs.{declared.graces.Group.Group, Bars.bar_marks, Changes.change_marks, Changes.head_marks, Decos.note_marks, Graces.grace_marks, Graces.group_of}
 use Rattle.mus_words.specs.{Syllables.syllables_from, Texts.text_marks}
 use Rattle.mus_drawn.specs.{declared.drawn.DrawnEvent.DrawnEvent, declared.drawn.DrawnMeasure.DrawnMeasure, Drawn.raise_of}
-use Rattle.mus_marks.specs.{Events.change_part, Events.event_marks, Events.events_marks, Events.graces_from, Events.levels_behind, Events.levels_in, Events.measures_marks, Events.no_texts, Events.note_key, Events.text_place, Staff.columns_part, Staff.head_part, Staff.meter_shown}
+use Rattle.mus_keys.specs.Columns.{note_key}
+use Rattle.mus_marks.specs.{Events.change_part, Events.event_marks, Events.events_marks, Events.graces_from, Events.levels_behind, Events.levels_in, Events.measures_marks, Events.no_texts, Events.text_place, Staff.columns_part, Staff.head_part, Staff.meter_shown}
 use Rattle.lay_columns.specs.{Joining.{IsBelow, moved, moved_mark}, Reaches.rank_of as mark_rank}
 use Rattle.lay_measures.specs.Measures.{fixed_place, fixed_room}
 
@@ -170,7 +171,7 @@ module _ (keys : List ColumnKey) where
         (unless (is_lower d.seat) (bar_key lengths m) (bar_marks d.bar)))
         (measures_laid lengths (m + 1) false ds)
 
-  head_laid : (a : ℕ) (ds : List DrawnMeasure) → head_part keys a ds ≡ lay keys (head_slots a ds)
+  pub head_laid : (a : ℕ) (ds : List DrawnMeasure) → head_part keys a ds ≡ lay keys (head_slots a ds)
   head_laid a [] = refl
   head_laid a (d ∷ ds) = unless (is_lower d.seat) (head_key a) (head_marks d.opening.clef d.opening.key.signs (meter_shown a d.opening))
 

@@ -1,11 +1,12 @@
 -- The columns of one measure: in a system that begins with it, and in one that began before. Heights, and what texts stand in a
 -- column before, are of no account to columns, so that syllables and texts stand in a place that is always the same.
-use Rattle.std.specs.Prelude.{◌≡◌, ℕ, pos, ◌+◌, Bool, true, false, List, [], ◌∷◌, ◌++◌, map, slice_range, Some}
+use Rattle.std.specs.Prelude.{◌≡◌, ℕ, pos, ◌+◌, Bool, true, false, List, [], ◌∷◌, ◌++◌, map, slice_get, slice_range, Option, Some, None}
 use Rattle.mus_score.specs.declared.score.Score.{Score}
 use Rattle.mus_time.specs.{declared.keys.Class.Class, declared.keys.ColumnKey.ColumnKey, declared.times.Timeline.Timeline, Keys.AreKeys}
 use Rattle.mus_laid.specs.{declared.laid.Laid.Laid, declared.laid.StaffMarks.StaffMarks}
-use Rattle.mus_drawn.specs.declared.drawn.DrawnVoice.{DrawnVoice}
-use Rattle.mus_marks.specs.{Columns.keys_called, declared.events.Place.Place, declared.events.Room.Room, Events.measures_marks, Staff.columns_part, System.drawn_staves}
+use Rattle.mus_drawn.specs.declared.drawn.{DrawnEvent.DrawnEvent, DrawnMeasure.DrawnMeasure, DrawnVoice.DrawnVoice}
+use Rattle.mus_keys.specs.Columns.{keys_called}
+use Rattle.mus_marks.specs.{declared.events.Place.Place, declared.events.Room.Room, Events.{changes_nothing, measures_marks}, Staff.columns_part, System.drawn_staves}
 use Rattle.lay_columns.specs.{declared.column.Column.Column, Columns.columns_of}
 
 -- over the lines of the staff
@@ -32,6 +33,18 @@ measure_part false keys lengths m first v = measures_marks keys lengths (Some (f
 
 abbrev pub measure_staff : Bool → List ColumnKey → List ℕ → ℕ → List DrawnVoice → StaffMarks
 measure_staff begins keys lengths m voices = staff_of_columns (parts_from (measure_part begins keys lengths m) 1 voices)
+
+-- whether the first event of measure m of a voice, if there is one, changes neither clef nor key nor meter
+abbrev pub first_plain : List DrawnEvent → Bool
+first_plain [] = true
+first_plain (e ∷ es) = changes_nothing e.flat.event.changes
+
+abbrev pub is_plain : Option DrawnMeasure → Bool
+is_plain None = true
+is_plain (Some d) = first_plain d.events
+
+abbrev pub begins_plain : ℕ → DrawnVoice → Bool
+begins_plain m v = is_plain (slice_get v.measures m)
 
 abbrev pub keys_in : List Column → List ColumnKey
 keys_in columns = map (λ c. c.key) columns

@@ -2,10 +2,12 @@
 //! so that spans of measures can be tried by adding a measure to the one before.
 #![tactic(auto)]
 
+pub mod further;
 pub mod law;
 pub mod measures;
 pub mod staves;
 
+pub use further::further_columns;
 pub use law::measures_join;
 pub use measures::measure_columns;
 pub use staves::staff_verses;

@@ -1,18 +1,18 @@
 ghost use Rattle.std.specs.Prelude.{◌≡◌, ◌≤◌, ◌<◌, ◌+◌, ◌++◌, ◌==◌, All, IfOk, OnOk, length, map};
 ghost use Rattle.mus_score.specs.{GoodScore.IsGoodScore, Seats.grouped};
-ghost use Rattle.mus_time.specs.{Keys.IsInSystem, Onsets.timeline_of, Ranks.AreRanked};
+ghost use Rattle.mus_time.specs.{Keys.IsInSystem, Onsets.timeline_of};
 ghost use Rattle.mus_drawn.specs.{Drawn.drawn_voice, Good.AreGoodMeasures};
 ghost use Rattle.mus_marks.specs.{Staff.verses_on, System.drawn_staves, System.stands_lower};
 ghost use Rattle.lay_columns.specs.{Columns.IsSmall, Columns.IsUncut, Columns.StandsWhereDue, Lanes.gaps_of};
 ghost use Rattle.lay_measures.specs.Measures.{AreMeasureColumns, EndWithBar, fixed_place, measure_part, measure_staff, staff_of_columns};
 
-use crate::staves::lower_count;
 use lay_columns::{Column, columns_in};
 use mus_drawn::DrawnVoice;
+use mus_keys::{Frame, measure_keys};
 use mus_laid::{Laid, StaffMarks};
-use mus_marks::{Place, Room, measure_keys, put_columns_part, put_measures};
+use mus_marks::{Place, Room, lower_count, put_columns_part, put_measures};
 use mus_score::Score;
-use mus_time::{ColumnKey, Timeline};
+use mus_time::Timeline;
 use mus_units::{Memory, Row};
 use std::alloc::Global;
 
@@ -42,28 +42,23 @@ fn staff_of_columns(marks: Row<Laid>) -> StaffMarks
     }
 }
 
-/// Lays what stands in the columns of measure `m` of a voice whose verses count from `first` on; `begins`
-/// tells whether the system begins with the measure.
+/// Lays what stands in the columns of the first measure of a frame of a voice whose verses count from
+/// `first` on; `begins` tells whether the system begins with the measure.
 fn put_part(
     alloc: Global,
     out: &mut Row<Laid>,
-    keys: &[ColumnKey],
-    lengths: &[u64],
-    m: u32,
+    frame: &Frame<'_>,
     begins: bool,
     first: u8,
     v: &DrawnVoice,
 ) -> Result<(), Memory>
-    requires keys { AreRanked keys.now }
-    requires within { m < length lengths.now }
-    requires lengths { length v.now.measures ≡ length lengths.now }
-    requires few { length lengths.now ≤ 2000 }
+    requires lengths { length v.now.measures ≡ length frame.now.lengths.now }
     requires good { AreGoodMeasures v.now.measures }
     requires first { first ≤ 129 }
-    ensures { OnOk result (out.new ≡ out.old ++ measure_part begins keys.now lengths.now m first v.now) }
+    ensures { OnOk result (out.new ≡ out.old ++ measure_part begins frame.now.keys.now frame.now.lengths.now frame.now.a first v.now) }
 {
-    let all = v.measures.as_slice();
-    let measures = &all[m as usize..m as usize + 1];
+    let (keys, lengths, m) = (frame.keys, frame.lengths, frame.a);
+    let measures = &v.measures.as_slice()[m as usize..m as usize + 1];
     let fixed = fixed_place(alloc, first);
     let place = Some(&fixed);
     if begins {
@@ -75,54 +70,44 @@ fn put_part(
     }
 }
 
-/// What stands in the columns of measure `m` of a staff with these voices.
+/// What stands in the columns of the measure of a staff with these voices.
 fn measure_staff(
     alloc: Global,
-    keys: &[ColumnKey],
-    lengths: &[u64],
-    m: u32,
+    frame: &Frame<'_>,
     begins: bool,
     voices: &[DrawnVoice],
 ) -> Result<StaffMarks, Memory>
-    requires keys { AreRanked keys.now }
-    requires within { m < length lengths.now }
-    requires few { length lengths.now ≤ 2000 }
-    requires each { All (λ v. length v.measures ≡ length lengths.now) voices.now }
+    requires each { All (λ v. length v.measures ≡ length frame.now.lengths.now) voices.now }
     requires good { All (λ v. AreGoodMeasures v.measures) voices.now }
     requires verses { verses_on voices.now ≤ 128 }
-    ensures { IfOk result (λ r. r ≡ measure_staff begins keys.now lengths.now m voices.now) }
+    ensures { IfOk result (λ r. r ≡ measure_staff begins frame.now.keys.now frame.now.lengths.now frame.now.a voices.now) }
 {
     let mut marks = Row::new(alloc);
     let mut first = 1;
     for v in voices {
-        put_part(alloc, &mut marks, keys, lengths, m, begins, first, v)?;
+        put_part(alloc, &mut marks, frame, begins, first, v)?;
         first += v.verses;
     }
     Ok(staff_of_columns(marks))
 }
 
-/// What stands in the columns of measure `m` of each staff.
+/// What stands in the columns of the measure of each staff.
 fn measure_staves(
     alloc: Global,
-    keys: &[ColumnKey],
-    lengths: &[u64],
-    m: u32,
+    frame: &Frame<'_>,
     begins: bool,
     voices: &[DrawnVoice],
 ) -> Result<Row<StaffMarks>, Memory>
-    requires keys { AreRanked keys.now }
-    requires within { m < length lengths.now }
-    requires few { length lengths.now ≤ 2000 }
-    requires each { All (λ v. length v.measures ≡ length lengths.now) voices.now }
+    requires each { All (λ v. length v.measures ≡ length frame.now.lengths.now) voices.now }
     requires good { All (λ v. AreGoodMeasures v.measures) voices.now }
     requires verses { verses_on voices.now ≤ 128 }
-    ensures { IfOk result (λ r. r ≡ map (measure_staff begins keys.now lengths.now m) (grouped stands_lower voices.now)) }
+    ensures { IfOk result (λ r. r ≡ map (measure_staff begins frame.now.keys.now frame.now.lengths.now frame.now.a) (grouped stands_lower voices.now)) }
 {
     let mut staves = Row::new(alloc);
     let mut rest = voices;
     'staves: while let Some((_, behind)) = rest.split_first() {
         let (staff, more) = rest.split_at(lower_count(behind) + 1);
-        staves.push(measure_staff(alloc, keys, lengths, m, begins, staff)?)?;
+        staves.push(measure_staff(alloc, frame, begins, staff)?)?;
         rest = more;
     }
     Ok(staves)
@@ -159,7 +144,12 @@ pub fn measure_columns(
     ensures uncut { IfOk result (All IsUncut) }
 {
     let keys = measure_keys(alloc, s, voices, t, m, a == m)?;
-    let lengths = t.lengths.as_slice();
-    let staves = measure_staves(alloc, keys.as_slice(), lengths, m, a == m, voices)?;
-    columns_in(alloc, keys.as_slice(), staves.as_slice(), lengths, verses)
+    let frame = Frame {
+        keys: keys.as_slice(),
+        lengths: t.lengths.as_slice(),
+        a: m,
+        b: m + 1,
+    };
+    let staves = measure_staves(alloc, &frame, a == m, voices)?;
+    columns_in(alloc, frame.keys, staves.as_slice(), frame.lengths, verses)
 }

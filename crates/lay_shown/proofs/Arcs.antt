@@ -9,7 +9,9 @@ use Rattle.mus_arcs.specs.{declared.{events.EventAt.EventAt, pairing.{Arc.Arc, S
 use Rattle.mus_laid.specs.declared.drawn.Bridge.{Bridge}
 use Rattle.mus_words.specs.Arcs.{Seen, arc_mark, slur_mark, tie_mark}
 use Rattle.mus_drawn.specs.{declared.drawn.DrawnEvent.DrawnEvent, declared.drawn.DrawnMeasure.DrawnMeasure, Drawn.drawn_voice}
-use Rattle.mus_marks.{specs.{Arcs.{arc_between, arc_in, arcs_between, event_at, event_in, has_id, piece_between, seen_of}, Events.note_key}, proofs.{GoingOn.{AllGoOn, GoOn, IsEarlier, later_below}, Inside.{HasEvent, HasMeasures, measure_at, there}}}
+use Rattle.mus_keys.specs.Columns.{note_key}
+use Rattle.mus_bridges.specs.Arcs.{arc_between, arc_in, arcs_between, event_at, event_in, has_id, piece_between, seen_of}
+use Rattle.mus_marks.proofs.{GoingOn.{AllGoOn, GoOn, IsEarlier, later_below}, Inside.{HasEvent, HasMeasures, measure_at, there}}
 use Rattle.lay_shown.proofs.Between.{AreBetween, IsBetween, both}
 
 -- ---- the arcs of a voice

@@ -4,7 +4,8 @@ use Rattle.mus_score.specs.declared.score.Event.{Event}
 use Rattle.mus_time.specs.{declared.keys.Class.Class, declared.keys.ColumnKey.ColumnKey, Keys.key_at, Order.is_below}
 use Rattle.mus_ink.specs.Graces.{grace_beam, group_of}
 use Rattle.mus_drawn.specs.{declared.drawn.DrawnEvent.DrawnEvent, declared.drawn.DrawnMeasure.DrawnMeasure}
-use Rattle.mus_marks.{specs.Bridges.beam_over, specs.Bridges.event_grace_beam, specs.Bridges.grace_beams_between, proofs.Inside.HasEvent, proofs.Inside.HasMeasures}
+use Rattle.mus_bridges.specs.Bridges.{beam_over, event_grace_beam, grace_beams_between}
+use Rattle.mus_marks.{proofs.Inside.HasEvent, proofs.Inside.HasMeasures}
 use Rattle.lay_shown.proofs.Between.{AreBetween, both, unless}
 
 further_below : (m tick i j : ℕ) → i < j → is_below (key_at m tick Class.Grace i) (key_at m tick Class.Grace j) ≡ true

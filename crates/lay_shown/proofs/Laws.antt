@@ -1,10 +1,11 @@
 -- A system that a good score calls for can be shown.
 use Rattle.std.{proofs.{Common.{◌≡◌, ◌∙◌, refl, sym, ap, subst, ℕ, zero, suc, ◌<◌, ◌≤◌, true, ◌==◌, get_or, inl, inr, List, [], ◌∷◌, ◌++◌, length, map, Option, Some, None, arith}, lemmas.{Bool.Decides.nat_tests, Grind.flat_map-append, List.{length-map, Elements.{All-from_recursion, All-map, Contains-append_cases, Contains-append_left, Contains-append_right, Contains-get_or, recursion_from_All}, Folds.{flat_map-map, list_any_at}}}}, specs.{List.{AllByRecursion, Contains, cons_option, flat_map, list_any}, Prelude.{All, IsTrue}}}
-use Rattle.mus_score.specs.{declared.score.Score.Score, declared.score.Voice.Voice, GoodScore.IsGoodScore, Seats.is_lower}
-use Rattle.mus_time.{specs.declared.keys.ColumnKey.ColumnKey, specs.Keys.head_key, specs.Keys.keys_by, specs.Keys.voice_keys, specs.Onsets.timeline_of, specs.Order.rank_of, proofs.RankLaws.false_not_true, proofs.RankLaws.rank_at_place}
+use Rattle.mus_score.specs.{declared.score.Score.Score, GoodScore.IsGoodScore}
+use Rattle.mus_time.{specs.declared.keys.ColumnKey.ColumnKey, specs.Keys.head_key, specs.Keys.voice_keys, specs.Onsets.timeline_of, specs.Order.rank_of, proofs.RankLaws.false_not_true, proofs.RankLaws.rank_at_place}
 use Rattle.mus_laid.specs.{declared.laid.Laid.Laid, declared.laid.StaffMarks.StaffMarks, declared.laid.SystemMarks.SystemMarks, Ranked.anchor_rank, Ranked.is_rank}
 use Rattle.mus_drawn.specs.{declared.drawn.DrawnVoice.DrawnVoice, Drawn.drawn_voice}
-use Rattle.mus_marks.{specs.{Staff.staff_marks, System.{IsCall, drawn_staves, stands_lower}}, proofs.{Groups.{grouped_all, grouped_whole}, Inside.{AreAmong, here, staff_same, there, voices_called}, Lines.voice_count}}
+use Rattle.mus_keys.proofs.{Called.staff_same, Counts.voice_count}
+use Rattle.mus_marks.{specs.{Staff.staff_marks, System.{IsCall, drawn_staves, stands_lower}}, proofs.{Groups.{grouped_all, grouped_whole}, Inside.{AreAmong, here, there, voices_called}}}
 use Rattle.lay_shown.{specs.{Ranks.{AreAnchored, AreRanked, IsRanked, marks_ranks, staves_ranks}, Shown.IsShown}, proofs.{Bridged.voices_between, Planned.voice_planned, Printed.texts_printed, Standing.{HasRank, same_rank}, Staves.{IsInside, own_columns, staff_holds, staff_ranked}}}
 
 -- what one of some things has, others have by that thing

@@ -8,7 +8,9 @@ use Rattle.mus_time.{specs.{declared.keys.{Class.Class, ColumnKey.ColumnKey}, Or
 use Rattle.mus_laid.specs.{declared.drawn.Drawn.Drawn, declared.drawn.Ink.Ink, declared.laid.Laid.Laid, Ranked.anchor_rank, Ranked.drawn_at, Ranked.ink_at, Ranked.is_rank, Ranked.stands_at}
 use Rattle.mus_ink.specs.{declared.graces.Group.Group, Bars.bar_marks, Changes.change_marks, Changes.head_marks, Decos.note_marks, Graces.grace_marks, Graces.group_of}
 use Rattle.mus_drawn.specs.{declared.drawn.DrawnEvent.DrawnEvent, declared.drawn.DrawnMeasure.DrawnMeasure, declared.drawn.DrawnVoice.DrawnVoice, Drawn.raise_of}
-use Rattle.mus_marks.{specs.{declared.events.Place.Place, Columns.{events_columns, has_old, measures_columns, voice_columns}, Events.{change_part, event_marks, events_marks, graces_from, levels_behind, levels_in, measures_marks, note_key, words_marks, words_part}, Staff.{columns_part, head_part, meter_shown, own_part}}, proofs.Inside.{AreAmong, among_left, among_right, here}}
+use Rattle.mus_keys.specs.Columns.{events_columns, has_old, measures_columns, voice_columns}
+use Rattle.mus_keys.specs.Columns.{note_key}
+use Rattle.mus_marks.{specs.{declared.events.Place.Place, Events.{change_part, event_marks, events_marks, graces_from, levels_behind, levels_in, measures_marks, words_marks, words_part}, Staff.{columns_part, head_part, meter_shown, own_part}}, proofs.Inside.{AreAmong, among_left, among_right, here}}
 use Rattle.lay_shown.{specs.Ranks.IsRanked, proofs.Filled.HasSome, proofs.Filled.bar_some, proofs.Filled.change_has, proofs.Filled.grace_some, proofs.Filled.has_some, proofs.Filled.head_some, proofs.Filled.note_some, proofs.Planned.ArePlanned, proofs.Planned.IsMeasureAt, proofs.Planned.IsPlanOf}
 
 -- `AreRanked` by recursion on the marks

@@ -72,6 +72,15 @@ pub(crate) fn see<'a, C>(seen: &mut Row<Seen<'a, C>>, columns: &'a [C]) -> Resul
     Ok(())
 }
 
+/// No columns yet, with room for all that can stand within a width.
+fn room_for_columns<'a, C>(alloc: Global, width: u32) -> Result<Row<Seen<'a, C>>, Memory>
+    ensures { IfOk result (λ seen. seen ≡ []) }
+{
+    Ok(Row {
+        items: Vec::with_capacity(alloc, most_columns(width))?,
+    })
+}
+
 /// What the spans from bar `a` cost, from the shortest to the longest that fits. It adds
 /// one measure's columns at a time, and stops at the first span that doesn't fit or
 /// behind a forced bar. The searches for a force take no memory: room is reserved before
@@ -95,7 +104,7 @@ pub(crate) fn row_from<C: Spaced + Spring>(
 {
     let mut places = places_of(alloc, width, gaps.len())?;
     let scratch = places.as_mut_slice();
-    let mut seen = Row::new(alloc);
+    let mut seen = room_for_columns(alloc, width)?;
     let mut row = Row::new(alloc);
     let mut most = 2048;
     for m in a..starts.len() {

@@ -7,6 +7,7 @@ use crate::maker::SpanMaker;
 use crate::marks::marks_of;
 use crate::rows::{list_rows, measure, see};
 use crate::seen::Seen;
+use eng_halves::Jobs;
 use lay_rows::make_rows;
 use lay_springs::{Spaced, Spring};
 use mus_units::{Memory, Row};
@@ -22,7 +23,7 @@ use std::thread::Threads;
 /// Bars in `forced` that the tune doesn't have count for nothing. The spans from each bar
 /// have room for placing columns that is reserved before their first search for a force.
 ///
-/// `jobs` is 1 to 64: the spans from the bars of either half are found side by side where
+/// The spans from the bars of either half are found side by side where
 /// threads can be made. They don't depend on it.
 pub fn spans_of<R: Threads + Sync, C: Spaced + Spring + Sync>(
     rt: &R,
@@ -32,13 +33,11 @@ pub fn spans_of<R: Threads + Sync, C: Spaced + Spring + Sync>(
     gaps: &[u32],
     width: u32,
     forced: &[u32],
-    jobs: u8,
+    jobs: Jobs,
 ) -> Result<Spans, Memory>
     requires measures { AreMeasures C.reach_of (length gaps.now) starts.now others.now }
     requires lanes { length gaps.now < 2 ^ 32 }
     requires narrow { (lane : ℕ) → lane < length gaps.now → slice_index gaps.now lane ≤ 2 ^ 20 }
-    requires some { 1 ≤ jobs }
-    requires few { jobs ≤ 64 }
     ensures form { IfOk result (λ spans. AreSpans (length starts.now) spans.list) }
     ensures bars { IfOk result (λ spans. length spans.rows.rows ≡ length starts.now) }
     ensures exact { IfOk result (λ spans. IsSpanList C.reach_of C.length_of gaps.now width starts.now others.now

@@ -1,9 +1,10 @@
 -- The columns of each measure are what spans of measures are tried with, and those of the systems.
-use Rattle.std.{proofs.{Common.{◌≡◌, ◌∙◌, ℕ, suc, ◌+◌, ◌-◌, ◌<◌, ◌≤◌, ◌==◌, false, List, [], ◌∷◌, ◌++◌, length, length-append, take, drop, flat_map, get_or, refl, sym, ap, subst, arith}, lemmas.{Bool.Decides.nat_tests, List.{get_or-drop, get_or-take, length-drop, length-take-le}}}, specs.List.All}
+use Rattle.std.{proofs.{Common.{◌≡◌, ◌∙◌, ℕ, suc, ◌+◌, ◌-◌, ◌<◌, ◌≤◌, ◌==◌, false, List, [], ◌∷◌, ◌++◌, length, length-append, take, drop, flat_map, get_or, refl, sym, ap, subst, arith}, lemmas.{Bool.Decides.nat_tests, List.{get_or-drop, get_or-take, length-map, length-drop, length-take-le}}}, specs.List.All}
 use Rattle.mus_score.specs.{declared.score.Score.Score, GoodScore.IsGoodScore}
 use Rattle.mus_time.specs.{declared.times.Timeline.Timeline, Onsets.timeline_of}
 use Rattle.lay_columns.specs.{declared.column.Column.Column, Columns.StandsWhereDue, Columns.column_reach, Lanes.gaps_of, Reaches.stands_always}
-use Rattle.lay_measures.specs.{Measures.AreMeasureColumns, Measures.EndWithBar, Law.AreColumnsFrom, Law.MeasuresJoin}
+use Rattle.mus_marks.specs.{Staff.verses_on, System.drawn_staves}
+use Rattle.lay_measures.{specs.{Measures.AreMeasureColumns, Measures.EndWithBar, Law.AreColumnsFrom, Law.MeasuresJoin}, proofs.Facts.{measure_bar, measure_stands}}
 use Rattle.lay_spans.{specs.Columns.EndsInAll, specs.Columns.measures_from, proofs.Adding.ends_so, proofs.Growing.at_end, proofs.Growing.each_more}
 use Rattle.lay_tune.specs.{Measures.EachMeasure, Measures.IsMeasure, Spans.AreColumnsOf, Spans.system_columns, Spans.verses_of}
 
@@ -20,12 +21,15 @@ bar_ends verses columns h stands =
     subst (λ cs. EndsInAll column_reach (length (gaps_of verses)) cs) (sym h.parts)
     (record { some = omega arith; last = ends_so column_reach (length (gaps_of verses)) h.front (h.last ∷ []) one })
 
-pub measure_of : (s : Score) (t : Timeline) (a m : ℕ) (verses : List ℕ) (columns : List Column) → t ≡ timeline_of s → verses ≡ verses_of s
-    → AreMeasureColumns (a == m) s t m verses columns → EndWithBar columns → All (StandsWhereDue verses) columns → IsMeasure s a m columns
-measure_of s t a m verses columns times is h bar stands = record {
-  called = subst (λ t. AreMeasureColumns (a == m) s t m (verses_of s) columns) times (subst (λ vs. AreMeasureColumns (a == m) s t m vs columns) is h);
-  ends = subst (λ vs. EndsInAll column_reach (length (gaps_of vs)) columns) is (bar_ends verses columns bar stands);
-}
+pub measure_of : (s : Score) (t : Timeline) (a m : ℕ) (verses : List ℕ) (columns : List Column) → IsGoodScore s → t ≡ timeline_of s → verses ≡ verses_of s → 1 ≤ length s.voices → m < s.measures
+    → AreMeasureColumns (a == m) s t m verses columns → IsMeasure s a m columns
+measure_of s t a m verses columns good times is some within h =
+    let bar = measure_bar (a == m) s t m verses columns h good times some within in
+    let stands = measure_stands (a == m) s t m verses columns h (ap length is ∙ length-map (drawn_staves s) verses_on) in
+    record {
+      called = subst (λ t. AreMeasureColumns (a == m) s t m (verses_of s) columns) times (subst (λ vs. AreMeasureColumns (a == m) s t m vs columns) is h);
+      ends = subst (λ vs. EndsInAll column_reach (length (gaps_of vs)) columns) is (bar_ends verses columns bar stands);
+    }
 
 pub measure_more : (P : ℕ → List Column → Type 0) (n : ℕ) (rows : List (List Column)) (columns : List Column)
     → EachMeasure P n rows → P n columns → EachMeasure P (n + 1) (rows ++ columns ∷ [])
@@ -71,15 +75,13 @@ further_part s others h a i k less within =
     subst (λ row. AreBehind s (i + j) row) (sym (get_or-take k (drop i others) j [] short ∙ get_or-drop i others j [])) (h.each (i + j) (omega arith)).called)
 
 pub columns_join : MeasuresJoin → (s : Score) (starts others : List (List Column)) → IsGoodScore s
-    → EachMeasure (λ m. IsMeasure s (m - 0) m) s.measures starts → EachMeasure (λ m. IsMeasure s (m - 1) m) s.measures others
+    → EachMeasure (λ m. IsMeasure s m m) s.measures starts → EachMeasure (λ m. IsMeasure s (m - 1) m) s.measures others
     → AreColumnsOf s starts others
 columns_join law s starts others good firsts furthers = λ a b m less within call.
     let n = furthers.count in
     let d = length-drop (a + 1) others in
     let k : length (take (b - (a + 1)) (drop (a + 1) others)) ≡ b - (a + 1) = length-take-le (b - (a + 1)) (drop (a + 1) others) (omega arith) in
     let e : b - a ≡ suc (b - (a + 1)) = omega arith in
-    let none : a - 0 ≡ a = omega arith in
-    let first = subst (λ i. AreMeasureColumns (i == a) s (timeline_of s) a (verses_of s) (get_or starts a [])) none (firsts.each a (omega arith)).called in
     subst (λ i. system_columns s m ≡ flat_map (λ measure. measure) (take i (measures_from starts others a))) (sym e)
     (law s (timeline_of s) a b m (verses_of s) (get_or starts a [] ∷ take (b - (a + 1)) (drop (a + 1) others))
-    good refl less (omega arith) within call (first, further_part s others furthers a (a + 1) (b - (a + 1)) (omega arith) (omega arith)))
+    good refl less (omega arith) within call ((firsts.each a (omega arith)).called, further_part s others furthers a (a + 1) (b - (a + 1)) (omega arith) (omega arith)))

@@ -11,6 +11,7 @@ ghost use Rattle.lay_tune.specs.{Breakings.IsLeastBreaking, Layout.{IsCauseIn, l
 
 use crate::measures::columns_of_measures;
 use crate::systems::{Systems, set_systems};
+use eng_halves::Jobs;
 use lay_breaks::{BreakError, Breaking, Span};
 use lay_columns::{Column, gaps_of};
 use lay_measures::{measures_join, staff_verses};
@@ -76,7 +77,7 @@ fn lay_out_measures<R: Threads + Sync>(
     starts: &[Row<Column>],
     others: &[Row<Column>],
     width: u32,
-    jobs: u8,
+    jobs: Jobs,
 ) -> Result<Layout, LayoutError>
     requires good { IsGoodScore s.now }
     requires times { t.now ≡ timeline_of s.now }
@@ -86,8 +87,6 @@ fn lay_out_measures<R: Threads + Sync>(
     requires count { length starts.now ≡ s.now.measures }
     requires measures { AreMeasures column_reach (length (score_gaps s.now)) starts.now others.now }
     requires columns { AreColumnsOf s.now starts.now others.now }
-    requires some { 1 ≤ jobs }
-    requires few { jobs ≤ 64 }
     ensures form { IfOk result (λ l. AreSpans s.now.measures l.spans) }
     ensures spans { IfOk result (λ l. AreSpansOf s.now width l.spans) }
     ensures chosen { IfOk result (λ l. IsChosen (listed l.spans) (is_forced_in s.now) s.now.measures l.breaking.breaks) }
@@ -153,18 +152,16 @@ fn lay_out_measures<R: Threads + Sync>(
 /// comes exactly where no breaking is legal. Room for placing columns is reserved before the first
 /// force is searched for, so that no search wants memory.
 ///
-/// The spans are found by `jobs`, which is 1 to 64; the layout doesn't depend on it.
+/// The spans are found by so many jobs; the layout doesn't depend on it.
 pub fn lay_out<R: Threads + Sync>(
     rt: &R,
     alloc: Global,
     s: &Score,
     width: u32,
-    jobs: u8,
+    jobs: Jobs,
 ) -> Result<Layout, LayoutError>
     requires good { IsGoodScore s.now }
     requires heard { 0 < s.now.measures → 1 ≤ length s.now.voices }
-    requires some { 1 ≤ jobs }
-    requires few { jobs ≤ 64 }
     ensures form { IfOk result (λ l. AreSpans s.now.measures l.spans) }
     ensures spans { IfOk result (λ l. AreSpansOf s.now width l.spans) }
     ensures chosen { IfOk result (λ l. IsChosen (listed l.spans) (is_forced_in s.now) s.now.measures l.breaking.breaks) }
@@ -183,10 +180,8 @@ pub fn lay_out<R: Threads + Sync>(
     let counts = staff_verses(alloc, drawn.as_slice())?;
     let verses = counts.as_slice();
     let voices = drawn.items.as_mut_slice();
-    let begun = columns_of_measures(alloc, s, voices, &t, 0, verses)?;
-    let starts = begun.as_slice();
-    let further = columns_of_measures(alloc, s, voices, &t, 1, verses)?;
-    let others = further.as_slice();
+    let columns = columns_of_measures(alloc, s, voices, &t, verses)?;
+    let (starts, others) = (columns.starts.as_slice(), columns.others.as_slice());
     measures_join();
     lay_out_measures(
         rt, alloc, s, voices, &t, verses, starts, others, width, jobs,

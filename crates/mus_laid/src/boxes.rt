@@ -116,38 +116,15 @@ pub fn heights_of(mark: &Mark) -> Heights
     ensures { result ≡ heights_of mark.now }
 {
     match mark {
-        Mark::Glyph {
-            glyph,
-            rank: _,
-            dx: _,
-            dy,
-        } => glyph_heights(*glyph, *dy),
-        Mark::Words {
-            size,
-            rank: _,
-            dx: _,
-            dy,
-            text: _,
-        } => text_heights(*size, *dy),
-        Mark::Stem {
-            rank: _,
-            dx: _,
-            from,
-            to,
-        } => stem_heights(*from, *to),
-        Mark::Beam {
-            way: _,
-            first: _,
-            last: _,
-            from,
-            to,
-        } => beam_heights(*from, *to),
+        Mark::Glyph { glyph, dy, .. } => glyph_heights(*glyph, *dy),
+        Mark::Words { size, dy, .. } => text_heights(*size, *dy),
+        Mark::Stem { from, to, .. } => stem_heights(*from, *to),
+        Mark::Beam { from, to, .. } => beam_heights(*from, *to),
         Mark::Arc {
-            first: _,
-            last: _,
             from,
             to,
             bulge,
+            ..
         } => arc_heights(*from, *to, *bulge),
     }
 }
@@ -192,19 +169,8 @@ pub fn sides_of(mark: &Mark) -> Option<Sides>
     ensures { result ≡ sides_of mark.now }
 {
     match mark {
-        Mark::Glyph {
-            glyph,
-            rank: _,
-            dx,
-            dy: _,
-        } => Some(glyph_sides(*glyph, *dx)),
-        Mark::Words {
-            size,
-            rank: _,
-            dx,
-            dy: _,
-            text,
-        } => Some(text_sides(*size, *dx, text.len())),
+        Mark::Glyph { glyph, dx, .. } => Some(glyph_sides(*glyph, *dx)),
+        Mark::Words { size, dx, text, .. } => Some(text_sides(*size, *dx, text.len())),
         _ => None,
     }
 }

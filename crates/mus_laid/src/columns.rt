@@ -11,25 +11,9 @@ pub fn anchor_rank(mark: &Mark) -> Option<u32>
     ensures { result ≡ anchor_rank mark.now }
 {
     match mark {
-        Mark::Glyph {
-            glyph: _,
-            rank,
-            dx: _,
-            dy: _,
-        } => Some(*rank),
-        Mark::Words {
-            size: _,
-            rank,
-            dx: _,
-            dy: _,
-            text: _,
-        } => Some(*rank),
-        Mark::Stem {
-            rank,
-            dx: _,
-            from: _,
-            to: _,
-        } => Some(*rank),
+        Mark::Glyph { rank, .. } => Some(*rank),
+        Mark::Words { rank, .. } => Some(*rank),
+        Mark::Stem { rank, .. } => Some(*rank),
         _ => None,
     }
 }

@@ -4,7 +4,7 @@ use Rattle.mus_score.{specs.{declared.score.{Flat.Flat, Measure.Measure, Voice.V
 use Rattle.mus_time.specs.Order.{is_below}
 use Rattle.mus_stems.specs.declared.plans.StemPlan.{StemPlan}
 use Rattle.mus_drawn.specs.{declared.{drawn.{DrawnEvent.DrawnEvent, DrawnMeasure.DrawnMeasure, Style.Style}, standing.Standing.Standing}, Drawn.{drawn_event, drawn_events, drawn_measure, drawn_measures, drawn_voice, standing_after, standing_behind, standing_of, style_of}}
-use Rattle.mus_marks.specs.Events.{note_key}
+use Rattle.mus_keys.specs.Columns.{note_key}
 
 -- each event is later than those before it, and has a greater id
 abbrev pub IsEarlier : DrawnEvent → DrawnEvent → Type 0

@@ -1,6 +1,5 @@
--- What holds of all elements holds of those behind the first; good measures: the first of them, and some of them.
-use Rattle.std.{proofs.{Common.{◌≡◌, ℕ, ◌≤◌, List, [], ◌∷◌, length, get_or, take, drop, subst, sym, arith}, lemmas.List.Elements.{All-from_recursion, recursion_from_All}}, specs.List.All}
-use Rattle.mus_stems.proofs.RunLaws.{all_drop, all_take}
+-- What holds of all elements holds of those behind the first; the first of good measures.
+use Rattle.std.{proofs.{Common.{◌≡◌, ◌≤◌, List, [], ◌∷◌, length, get_or, subst, sym, arith}, lemmas.List.Elements.{All-from_recursion, recursion_from_All}}, specs.List.All}
 use Rattle.mus_drawn.specs.{declared.drawn.DrawnMeasure.DrawnMeasure, Good.IsGoodMeasure, Good.AreGoodMeasures}
 
 pub all_behind : {A : Type 0} (P : A → Type 0) (x : A) (xs all : List A) → all ≡ x ∷ xs → All P all → All P xs
@@ -9,6 +8,3 @@ all_behind P x xs all is h = All-from_recursion P xs (recursion_from_All P (x �
 pub first_good : (ms : List DrawnMeasure) (m : DrawnMeasure) → 1 ≤ length ms → m ≡ get_or ms 0 m → AreGoodMeasures ms → IsGoodMeasure m
 first_good [] m some is good = absurd (omega (arith, some))
 first_good (n ∷ ms) m some is good = subst IsGoodMeasure (sym is) good.0
-
-pub good_slice : (a n : ℕ) (ms : List DrawnMeasure) → AreGoodMeasures ms → AreGoodMeasures (take n (drop a ms))
-good_slice a n ms good = all_take IsGoodMeasure n (drop a ms) (all_drop IsGoodMeasure a ms good)

@@ -1,5 +1,5 @@
 -- Lists in groups: the first of them, what is in all of them, and which element leads each.
-use Rattle.std.{proofs.Common.{◌≡◌, ◌∙◌, ℕ, suc, ◌+◌, Bool, true, false, cond, List, [], ◌∷◌, ◌++◌, take, drop, map, refl, sym, ap, append_assoc, subst, arith}, specs.List.{AllByRecursion, flat_map, prefix_len}}
+use Rattle.std.{proofs.Common.{◌≡◌, ◌∙◌, ℕ, suc, ◌+◌, Bool, true, false, cond, List, [], ◌∷◌, ◌++◌, take, drop, map, refl, sym, ap, append_assoc, arith}, specs.List.{AllByRecursion, flat_map, prefix_len}}
 use Rattle.mus_score.specs.Seats.{grouped, put_before}
 
 one_past : (n : ℕ) → n + 1 ≡ suc n

@@ -4,7 +4,6 @@ pub mod Appended
 pub mod Columned
 pub mod Counts
 pub mod Ending
-pub mod Few
 pub mod Fitting
 pub mod GoingOn
 pub mod GoodMarks
@@ -15,5 +14,6 @@ pub mod Lines
 pub mod OneList
 pub mod Parts
 pub mod Placed
+pub mod Silent
 pub mod Sloping
 pub mod Unchanged

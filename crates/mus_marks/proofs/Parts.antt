@@ -9,7 +9,8 @@ use Rattle.mus_laid.specs.{declared.drawn.Bridge.Bridge, declared.drawn.Drawn.Dr
 use Rattle.mus_ink.{specs.{declared.graces.Group.Group, Bars.bar_marks, Changes.{change_marks, head_marks}, Decos.note_marks, Graces.grace_marks}, proofs.EachMark.{OfMarks, bar, change, grace, head, note}}
 use Rattle.mus_words.{specs.Syllables.syllables_from, specs.Texts.text_marks, proofs.EachWord.OfWords, proofs.EachWord.syllables_all, proofs.EachWord.texts_all}
 use Rattle.mus_drawn.specs.{declared.drawn.DrawnEvent.DrawnEvent, declared.drawn.DrawnMeasure.DrawnMeasure, declared.drawn.DrawnVoice.DrawnVoice, Drawn.raise_of}
-use Rattle.mus_marks.{specs.{declared.events.{Place.Place, Room.Room, Texts.Texts}, Bridges.bridges_of, Events.{change_part, event_marks, events_marks, graces_from, graces_part, measures_marks, no_texts, note_part, text_place, words_marks, words_part}, Staff.{bare_marks, columns_part, first_part, head_part, own_part, room_over, staff_marks, staff_over, verses_on, written_parts}}, proofs.Columned.columned_all}
+use Rattle.mus_bridges.specs.Bridges.{bridges_of}
+use Rattle.mus_marks.{specs.{declared.events.{Place.Place, Room.Room, Texts.Texts}, Events.{change_part, event_marks, events_marks, graces_from, graces_part, measures_marks, no_texts, note_part, text_place, words_marks, words_part}, Staff.{bare_marks, columns_part, first_part, head_part, own_part, room_over, staff_marks, staff_over, verses_on, written_parts}}, proofs.Columned.columned_all}
 
 -- measures with good meters, whose events have a place for each of some verses
 abbrev pub FitsEvent : ℕ → DrawnEvent → Type 0

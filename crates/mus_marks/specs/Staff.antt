@@ -7,7 +7,8 @@ use Rattle.mus_time.specs.{declared.keys.Class.Class, declared.keys.ColumnKey.Co
 use Rattle.mus_laid.specs.{declared.laid.Laid.Laid, declared.laid.Lane.Lane, declared.laid.Mark.Mark, declared.laid.StaffMarks.StaffMarks, Boxes.staff_heights, Ranked.bridge_at, Ranked.by_columns, Ranked.drawn_at, Ranked.stands_at}
 use Rattle.mus_ink.specs.{Bars.bar_marks, Changes.head_marks, Drawing.cut}
 use Rattle.mus_drawn.specs.{declared.drawn.DrawnMeasure.DrawnMeasure, declared.drawn.DrawnVoice.DrawnVoice, declared.drawn.Opening.Opening}
-use Rattle.mus_marks.specs.{declared.events.Place.Place, declared.events.Room.Room, declared.events.Texts.Texts, Bridges.bridges_of, Events.measures_marks, Events.no_texts}
+use Rattle.mus_bridges.specs.Bridges.{bridges_of}
+use Rattle.mus_marks.specs.{declared.events.Place.Place, declared.events.Room.Room, declared.events.Texts.Texts, Events.measures_marks, Events.no_texts}
 
 -- the meter is drawn where the voice begins and where it changes
 abbrev pub meter_shown : ℕ → Opening → Option Meter

@@ -9,16 +9,7 @@ use std::alloc::Global;
 fn is_words(mark: &Mark) -> bool
     ensures { result ≡ is_words mark.now }
 {
-    match mark {
-        Mark::Words {
-            size: _,
-            rank: _,
-            dx: _,
-            dy: _,
-            text: _,
-        } => true,
-        _ => false,
-    }
+    matches!(mark, Mark::Words { .. })
 }
 
 /// The texts of a column, with a mark that stands in it.

@@ -4,10 +4,11 @@ ghost use Rattle.mus_stems.specs.Heads.{AllNear, stand_of};
 ghost use Rattle.mus_laid.specs.Ranked.{drawn_at};
 ghost use Rattle.mus_ink.specs.{Decos.note_marks, Graces.grace_marks};
 ghost use Rattle.mus_drawn.specs.{Drawn.raise_of, Good.{AllCanGrace, AreGoodDrawn, IsGoodDrawn}};
-ghost use Rattle.mus_marks.specs.{Events.{note_key, note_rank, changes_nothing, change_part, graces_from, graces_part, note_part, no_texts, text_place, words_marks, words_part, event_marks, levels_in, levels_behind, events_marks}, Places.HasVerses};
+ghost use Rattle.mus_marks.specs.{Events.{note_rank, changes_nothing, change_part, graces_from, graces_part, note_part, no_texts, text_place, words_marks, words_part, event_marks, levels_in, levels_behind, events_marks}, Places.HasVerses};
 
 use mus_drawn::{DrawnEvent, raise_of};
 use mus_ink::{Group, group_of, put_change, put_grace, put_note};
+use mus_keys::note_key;
 use mus_laid::{Drawn, Laid, put_ranked};
 use mus_score::{Changes, Event, Flat};
 use mus_stems::StemPlan;
@@ -44,19 +45,8 @@ pub struct Place {
 /// How many marks most events have at most; room for so many is made at once.
 const MARKS_OF_EVENT: usize = 4;
 
-/// The key of the column of an event itself.
-pub(crate) fn note_key(measure: u32, e: &DrawnEvent) -> ColumnKey
-    ensures { result ≡ note_key measure e.now }
-{
-    ColumnKey {
-        measure,
-        tick: e.tick,
-        class: Class::Note,
-        place: 0,
-    }
-}
-
-fn changes_nothing(changes: &Changes) -> bool
+/// Whether changes have neither clef nor key nor meter.
+pub fn changes_nothing(changes: &Changes) -> bool
     ensures { result ≡ changes_nothing changes.now }
 {
     changes.clef.is_none() && changes.key.is_none() && changes.meter.is_none()

@@ -2,20 +2,18 @@
 //! its arcs, each with the rank of its column, and how low and how high they reach.
 #![tactic(auto)]
 
-pub mod arcs;
-pub mod beams;
-pub mod bridges;
 pub mod counting;
 pub mod events;
-pub mod keys;
 pub mod measures;
+pub mod silence;
 pub mod staves;
 pub mod systems;
 pub mod tilting;
 
-pub use events::{Place, Room, Texts};
-pub use keys::{measure_keys, system_keys};
+pub use events::{Place, Room, Texts, changes_nothing};
 pub use measures::{put_columns_part, put_measures};
 pub use mus_drawn::{Sound, sounding};
-pub use systems::{draw_voices, marks, marks_of};
+pub use mus_keys::draw_voices;
+pub use staves::{lower_count, verses_on};
+pub use systems::{marks, marks_of};
 pub use tilting::{tilt, tilt_of};

@@ -1,42 +1,37 @@
-ghost use Rattle.std.specs.{Prelude.{◌≡◌, ◌≤◌, ◌<◌, ◌+◌, ◌++◌, [], length, map, flat_map, option_copied, Some, None, All, IfOk, OnOk}, List.prefix_len};
+ghost use Rattle.std.specs.{Prelude.{◌≡◌, ◌≤◌, ◌+◌, ◌++◌, [], length, map, flat_map, option_copied, Some, None, All, IfOk, OnOk}, List.prefix_len};
 ghost use Rattle.mus_score.specs.Seats.{grouped};
-ghost use Rattle.mus_time.specs.Ranks.{AreRanked};
 ghost use Rattle.mus_drawn.specs.Good.{AreGoodMeasures};
-ghost use Rattle.mus_marks.specs.{Bridges.bridges_of, Places.HasVerses, Places.place_behind, Staff.CoversLines, Staff.bare_marks, Staff.own_part, Staff.room_over, Staff.staff_marks, Staff.staff_over, Staff.verses_on, Staff.written_parts, System.stands_lower};
+ghost use Rattle.mus_bridges.specs.Bridges.{bridges_of};
+ghost use Rattle.mus_marks.specs.{Places.HasVerses, Places.place_behind, Silent.HasRoom, Silent.is_silent_staff, Staff.CoversLines, Staff.own_part, Staff.room_over, Staff.staff_marks, Staff.staff_over, Staff.verses_on, Staff.written_parts, System.stands_lower};
 
-use crate::bridges::put_bridges_of;
 use crate::counting::texts_behind;
 use crate::events::{Place, Room};
 use crate::measures::put_columns_part;
+use crate::silence::are_silent;
+use mus_bridges::put_bridges_of;
 use mus_drawn::DrawnVoice;
 use mus_ink::drawing::cut;
+use mus_keys::Frame;
 use mus_laid::{Bridge, Laid, StaffMarks, by_columns, put_bridges, staff_heights};
-use mus_time::ColumnKey;
 use mus_units::{Memory, Row};
 use std::alloc::Global;
 
-/// Lays what a voice has in the columns of measures `a` to `b` - 1, with syllables and texts where
-/// their place is known.
+/// Lays what a voice has in the columns of a system, with syllables and texts where their place is
+/// known.
 fn put_own_part(
     alloc: Global,
     out: &mut Row<Laid>,
-    keys: &[ColumnKey],
-    lengths: &[u64],
+    frame: &Frame<'_>,
     place: Option<&Place>,
-    a: u32,
-    b: u32,
     v: &DrawnVoice,
 ) -> Result<(), Memory>
-    requires keys { AreRanked keys.now }
-    requires order { a < b }
-    requires within { b ≤ length v.now.measures }
-    requires lengths { length v.now.measures ≡ length lengths.now }
-    requires few { length lengths.now ≤ 2000 }
+    requires lengths { length v.now.measures ≡ length frame.now.lengths.now }
     requires good { AreGoodMeasures v.now.measures }
     requires verses { HasVerses (option_copied place) }
-    ensures { OnOk result (out.new ≡ out.old ++ own_part keys.now lengths.now (option_copied place.entry) a b v.now) }
+    ensures { OnOk result (out.new ≡ out.old ++ own_part frame.now.keys.now frame.now.lengths.now (option_copied place.entry) frame.now.a frame.now.b v.now) }
 {
-    let measures = &v.measures.as_slice()[a as usize..b as usize];
+    let (keys, lengths, a) = (frame.keys, frame.lengths, frame.a);
+    let measures = &v.measures.as_slice()[a as usize..frame.b as usize];
     put_columns_part(
         alloc, out, keys, lengths, place, a, v.seat, v.first, measures,
     )
@@ -45,21 +40,16 @@ fn put_own_part(
 /// What voices have between columns, one after the other.
 fn bridges_on(
     alloc: Global,
-    lengths: &[u64],
-    a: u32,
-    b: u32,
+    frame: &Frame<'_>,
     voices: &[DrawnVoice],
 ) -> Result<Row<Bridge>, Memory>
-    requires order { a < b }
-    requires within { b ≤ length lengths.now }
-    requires few { length lengths.now ≤ 2000 }
-    requires each { All (λ v. length v.measures ≡ length lengths.now) voices.now }
+    requires each { All (λ v. length v.measures ≡ length frame.now.lengths.now) voices.now }
     requires good { All (λ v. AreGoodMeasures v.measures) voices.now }
-    ensures { IfOk result (λ r. r ≡ flat_map (bridges_of lengths.now a b) voices.now) }
+    ensures { IfOk result (λ r. r ≡ flat_map (bridges_of frame.now.lengths.now frame.now.a frame.now.b) voices.now) }
 {
     let mut out = Row::new(alloc);
     for v in voices {
-        put_bridges_of(alloc, &mut out, lengths, a, b, v)?;
+        put_bridges_of(alloc, &mut out, frame, v)?;
     }
     Ok(out)
 }
@@ -68,49 +58,17 @@ fn bridges_on(
 fn put_bare_parts(
     alloc: Global,
     out: &mut Row<Laid>,
-    keys: &[ColumnKey],
-    lengths: &[u64],
-    a: u32,
-    b: u32,
+    frame: &Frame<'_>,
     voices: &[DrawnVoice],
 ) -> Result<(), Memory>
-    requires keys { AreRanked keys.now }
-    requires order { a < b }
-    requires within { b ≤ length lengths.now }
-    requires few { length lengths.now ≤ 2000 }
-    requires each { All (λ v. length v.measures ≡ length lengths.now) voices.now }
+    requires each { All (λ v. length v.measures ≡ length frame.now.lengths.now) voices.now }
     requires good { All (λ v. AreGoodMeasures v.measures) voices.now }
-    ensures { OnOk result (out.new ≡ out.old ++ flat_map (own_part keys.now lengths.now None a b) voices.now) }
+    ensures { OnOk result (out.new ≡ out.old ++ flat_map (own_part frame.now.keys.now frame.now.lengths.now None frame.now.a frame.now.b) voices.now) }
 {
     for v in voices {
-        put_own_part(alloc, out, keys, lengths, None, a, b, v)?;
+        put_own_part(alloc, out, frame, None, v)?;
     }
     Ok(())
-}
-
-/// All marks of a staff but syllables and texts; `bridges` are what it has between columns.
-fn bare_marks(
-    alloc: Global,
-    keys: &[ColumnKey],
-    lengths: &[u64],
-    a: u32,
-    b: u32,
-    voices: &[DrawnVoice],
-    bridges: &[Bridge],
-) -> Result<Row<Laid>, Memory>
-    requires keys { AreRanked keys.now }
-    requires order { a < b }
-    requires within { b ≤ length lengths.now }
-    requires few { length lengths.now ≤ 2000 }
-    requires each { All (λ v. length v.measures ≡ length lengths.now) voices.now }
-    requires good { All (λ v. AreGoodMeasures v.measures) voices.now }
-    requires bridges { bridges.now ≡ flat_map (bridges_of lengths.now a b) voices.now }
-    ensures { IfOk result (λ r. r ≡ bare_marks keys.now lengths.now a b voices.now) }
-{
-    let mut out = Row::new(alloc);
-    put_bare_parts(alloc, &mut out, keys, lengths, a, b, voices)?;
-    put_bridges(&mut out, keys, bridges)?;
-    Ok(out)
 }
 
 /// The room that marks leave to syllables and texts.
@@ -140,7 +98,7 @@ fn staff_over(marks: Row<Laid>) -> StaffMarks
 }
 
 /// How many verses voices have together.
-fn verses_on(voices: &[DrawnVoice]) -> u8
+pub fn verses_on(voices: &[DrawnVoice]) -> u8
     requires { verses_on voices.now ≤ 128 }
     ensures { result ≡ verses_on voices.now }
 {
@@ -149,6 +107,46 @@ fn verses_on(voices: &[DrawnVoice]) -> u8
         verses += v.verses;
     }
     verses
+}
+
+/// Whether voices have no syllables and no texts in a system.
+fn is_silent_staff(frame: &Frame<'_>, voices: &[DrawnVoice]) -> bool
+    requires { All (λ v. length v.measures ≡ length frame.now.lengths.now) voices.now }
+    ensures { result ≡ is_silent_staff frame.now.a frame.now.b voices.now }
+{
+    for v in voices {
+        if !are_silent(&v.measures.as_slice()[frame.a as usize..frame.b as usize]) {
+            return false;
+        }
+    }
+    true
+}
+
+/// The room that all marks of a staff but syllables and texts leave to these, where it has any;
+/// `bridges` are what it has between columns.
+fn room_on(
+    alloc: Global,
+    frame: &Frame<'_>,
+    voices: &[DrawnVoice],
+    bridges: &[Bridge],
+) -> Result<Room, Memory>
+    requires each { All (λ v. length v.measures ≡ length frame.now.lengths.now) voices.now }
+    requires good { All (λ v. AreGoodMeasures v.measures) voices.now }
+    requires verses { verses_on voices.now ≤ 128 }
+    requires bridges { bridges.now ≡ flat_map (bridges_of frame.now.lengths.now frame.now.a frame.now.b) voices.now }
+    ensures { IfOk result (HasRoom frame.now.keys.now frame.now.lengths.now frame.now.a frame.now.b voices.now) }
+{
+    if is_silent_staff(frame, voices) {
+        return Ok(Room {
+            low: 0,
+            high: 2000,
+            verses: 0,
+        });
+    }
+    let mut others = Row::new(alloc);
+    put_bare_parts(alloc, &mut others, frame, voices)?;
+    put_bridges(&mut others, frame.keys, bridges)?;
+    Ok(room_over(verses_on(voices), others.as_slice()))
 }
 
 /// The place of the next voice of a staff, behind the verses and the texts of the one before it; where
@@ -177,45 +175,31 @@ fn place_behind(
 /// What a voice has in columns, with its syllables and texts at their place.
 fn written_part(
     alloc: Global,
-    keys: &[ColumnKey],
-    lengths: &[u64],
+    frame: &Frame<'_>,
     place: &Place,
-    a: u32,
-    b: u32,
     v: &DrawnVoice,
 ) -> Result<Row<Laid>, Memory>
-    requires keys { AreRanked keys.now }
-    requires order { a < b }
-    requires within { b ≤ length lengths.now }
-    requires lengths { length v.now.measures ≡ length lengths.now }
-    requires few { length lengths.now ≤ 2000 }
+    requires lengths { length v.now.measures ≡ length frame.now.lengths.now }
     requires good { AreGoodMeasures v.now.measures }
     requires verses { place.now.first ≤ 129 }
-    ensures { IfOk result (λ r. r ≡ own_part keys.now lengths.now (Some place.now) a b v.now) }
+    ensures { IfOk result (λ r. r ≡ own_part frame.now.keys.now frame.now.lengths.now (Some place.now) frame.now.a frame.now.b v.now) }
 {
     let mut out = Row::new(alloc);
-    put_own_part(alloc, &mut out, keys, lengths, Some(place), a, b, v)?;
+    put_own_part(alloc, &mut out, frame, Some(place), v)?;
     Ok(out)
 }
 
 /// What each voice of a staff has in columns, behind the verses and the texts of those before it.
 fn written_parts(
     alloc: Global,
-    keys: &[ColumnKey],
-    lengths: &[u64],
+    frame: &Frame<'_>,
     room: Room,
-    a: u32,
-    b: u32,
     voices: &[DrawnVoice],
 ) -> Result<Row<Row<Laid>>, Memory>
-    requires keys { AreRanked keys.now }
-    requires order { a < b }
-    requires within { b ≤ length lengths.now }
-    requires few { length lengths.now ≤ 2000 }
-    requires each { All (λ v. length v.measures ≡ length lengths.now) voices.now }
+    requires each { All (λ v. length v.measures ≡ length frame.now.lengths.now) voices.now }
     requires good { All (λ v. AreGoodMeasures v.measures) voices.now }
     requires verses { verses_on voices.now ≤ 128 }
-    ensures { IfOk result (λ r. r ≡ written_parts keys.now lengths.now room a b 1 [] voices.now) }
+    ensures { IfOk result (λ r. r ≡ written_parts frame.now.keys.now frame.now.lengths.now room frame.now.a frame.now.b 1 [] voices.now) }
 {
     let mut parts = Row::new(alloc);
     let mut place = Place {
@@ -225,47 +209,40 @@ fn written_parts(
     };
     let mut rest = voices;
     while let Some((v, behind)) = rest.split_first() {
-        let part = written_part(alloc, keys, lengths, &place, a, b, v)?;
+        let part = written_part(alloc, frame, &place, v)?;
         let follows = !behind.is_empty();
-        place = place_behind(alloc, keys.len(), place, v.verses, part.as_slice(), follows)?;
+        let columns = frame.keys.len();
+        place = place_behind(alloc, columns, place, v.verses, part.as_slice(), follows)?;
         parts.push(part)?;
         rest = behind;
     }
     Ok(parts)
 }
 
-/// The marks of the staff of these voices in measures `a` to `b` - 1.
+/// The marks of the staff of these voices.
 #[tactic(auto, unfolding(crate::specs::Staff::staff_marks))]
 fn staff_marks(
     alloc: Global,
-    keys: &[ColumnKey],
-    lengths: &[u64],
-    a: u32,
-    b: u32,
+    frame: &Frame<'_>,
     voices: &[DrawnVoice],
 ) -> Result<StaffMarks, Memory>
-    requires keys { AreRanked keys.now }
-    requires order { a < b }
-    requires within { b ≤ length lengths.now }
-    requires few { length lengths.now ≤ 2000 }
-    requires each { All (λ v. length v.measures ≡ length lengths.now) voices.now }
+    requires each { All (λ v. length v.measures ≡ length frame.now.lengths.now) voices.now }
     requires good { All (λ v. AreGoodMeasures v.measures) voices.now }
     requires verses { verses_on voices.now ≤ 128 }
-    ensures staff { IfOk result (λ r. r ≡ staff_marks keys.now lengths.now a b voices.now) }
+    ensures staff { IfOk result (λ r. r ≡ staff_marks frame.now.keys.now frame.now.lengths.now frame.now.a frame.now.b voices.now) }
     ensures lines { IfOk result CoversLines }
 {
-    let bridges = bridges_on(alloc, lengths, a, b, voices)?;
+    let bridges = bridges_on(alloc, frame, voices)?;
     let bridges = bridges.as_slice();
-    let others = bare_marks(alloc, keys, lengths, a, b, voices, bridges)?;
-    let room = room_over(verses_on(voices), others.as_slice());
-    let parts = written_parts(alloc, keys, lengths, room, a, b, voices)?;
-    let mut marks = by_columns(alloc, keys.len(), parts)?;
-    put_bridges(&mut marks, keys, bridges)?;
+    let room = room_on(alloc, frame, voices, bridges)?;
+    let parts = written_parts(alloc, frame, room, voices)?;
+    let mut marks = by_columns(alloc, frame.keys.len(), parts)?;
+    put_bridges(&mut marks, frame.keys, bridges)?;
     Ok(staff_over(marks))
 }
 
 /// How many of these voices, from the first on, stand on the staff of the voice before them.
-fn lower_count(voices: &[DrawnVoice]) -> usize
+pub fn lower_count(voices: &[DrawnVoice]) -> usize
     ensures value { result ≡ prefix_len stands_lower voices.now }
     ensures within { result ≤ length voices.now }
 {
@@ -279,30 +256,23 @@ fn lower_count(voices: &[DrawnVoice]) -> usize
     count
 }
 
-/// The staves of voices in measures `a` to `b` - 1.
+/// The staves of voices.
 pub(crate) fn staves(
     alloc: Global,
-    keys: &[ColumnKey],
-    lengths: &[u64],
-    a: u32,
-    b: u32,
+    frame: &Frame<'_>,
     voices: &[DrawnVoice],
 ) -> Result<Row<StaffMarks>, Memory>
-    requires keys { AreRanked keys.now }
-    requires order { a < b }
-    requires within { b ≤ length lengths.now }
-    requires few { length lengths.now ≤ 2000 }
-    requires each { All (λ v. length v.measures ≡ length lengths.now) voices.now }
+    requires each { All (λ v. length v.measures ≡ length frame.now.lengths.now) voices.now }
     requires good { All (λ v. AreGoodMeasures v.measures) voices.now }
     requires verses { verses_on voices.now ≤ 128 }
-    ensures staves { IfOk result (λ r. r ≡ map (staff_marks keys.now lengths.now a b) (grouped stands_lower voices.now)) }
+    ensures staves { IfOk result (λ r. r ≡ map (staff_marks frame.now.keys.now frame.now.lengths.now frame.now.a frame.now.b) (grouped stands_lower voices.now)) }
     ensures lines { IfOk result (All CoversLines) }
 {
     let mut staves = Row::new(alloc);
     let mut rest = voices;
     while let Some((_, behind)) = rest.split_first() {
         let (staff, more) = rest.split_at(lower_count(behind) + 1);
-        staves.push(staff_marks(alloc, keys, lengths, a, b, staff)?)?;
+        staves.push(staff_marks(alloc, frame, staff)?)?;
         rest = more;
     }
     Ok(staves)

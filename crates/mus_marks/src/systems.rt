@@ -1,40 +1,18 @@
 ghost use Rattle.std.specs.Prelude.{◌≡◌, ◌≤◌, ◌<◌, map, All, IfOk};
-ghost use Rattle.mus_score.specs.GoodScore.{IsGoodScore, IsGoodVoice};
+ghost use Rattle.mus_score.specs.GoodScore.{IsGoodScore};
 ghost use Rattle.mus_time.specs.{Keys.IsInSystem, Onsets.timeline_of};
 ghost use Rattle.mus_drawn.specs.{Drawn.drawn_voice, Good.AreGoodMeasures};
 ghost use Rattle.mus_laid.specs.Boxes.{AreGoodMarks};
 ghost use Rattle.mus_marks.specs.{Staff.CoversLines, System.IsCall};
 
-use crate::keys::system_keys;
 use crate::staves::staves;
-use mus_drawn::{DrawnVoice, draw_voice};
+use mus_drawn::DrawnVoice;
+use mus_keys::{Frame, draw_voices, system_keys};
 use mus_laid::SystemMarks;
-use mus_score::{Score, Voice};
+use mus_score::Score;
 use mus_time::Timeline;
 use mus_units::{Memory, Row};
 use std::alloc::Global;
-
-fn draw_all(alloc: Global, voices: &[Voice]) -> Result<Row<DrawnVoice>, Memory>
-    requires { All IsGoodVoice voices.now }
-    ensures voices { IfOk result (λ r. r ≡ map drawn_voice voices.now) }
-    ensures good { IfOk result (All (λ v. AreGoodMeasures v.measures)) }
-{
-    let mut drawn = Row::new(alloc);
-    for v in voices {
-        drawn.push(draw_voice(alloc, v)?)?;
-    }
-    Ok(drawn)
-}
-
-/// The voices of a score as they are drawn, in order: what all systems of a tune share. The only error
-/// is want of memory.
-pub fn draw_voices(alloc: Global, s: &Score) -> Result<Row<DrawnVoice>, Memory>
-    requires { IsGoodScore s.now }
-    ensures voices { IfOk result (λ r. r ≡ map drawn_voice s.now.voices) }
-    ensures good { IfOk result (All (λ v. AreGoodMeasures v.measures)) }
-{
-    draw_all(alloc, s.voices.as_slice())
-}
 
 /// The marks of the system of measures `a` to `b` - 1, as `marks` gives them, where the voices of the
 /// score are drawn already. The only error is want of memory.
@@ -58,8 +36,13 @@ pub fn marks_of(
     ensures good { IfOk result (λ m. All (λ staff. AreGoodMarks staff.marks) m.staves) }
 {
     let keys = system_keys(alloc, s, voices, t, a, b)?;
-    let lengths = t.lengths.as_slice();
-    let staves = staves(alloc, keys.as_slice(), lengths, a, b, voices)?;
+    let frame = Frame {
+        keys: keys.as_slice(),
+        lengths: t.lengths.as_slice(),
+        a,
+        b,
+    };
+    let staves = staves(alloc, &frame, voices)?;
     Ok(SystemMarks { a, b, keys, staves })
 }
 

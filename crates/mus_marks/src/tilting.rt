@@ -5,11 +5,9 @@ ghost use Rattle.mus_drawn.specs.{Drawn.drawn_voice, Good.AreGoodMeasures};
 ghost use Rattle.mus_laid.specs.{Boxes.AreGoodMarks, Shapes.AreAlike};
 ghost use Rattle.mus_marks.specs.{Staff.{CoversLines, verses_on}, System.{IsCall, stands_lower}, Tilt.{anchor_at, CanTilt, AllCanTilt, ends_over, sloped_over, plain_ends, over, event_ended, measure_ended, voice_ended, tilted_staff, AreAbscissas, IsTilted}};
 
-use crate::events::note_key;
-use crate::keys::system_keys;
 use crate::staves::staves;
-use crate::systems::draw_voices;
 use mus_drawn::{DrawnEvent, DrawnMeasure, DrawnVoice};
+use mus_keys::{Frame, draw_voices, note_key, system_keys};
 use mus_laid::{StaffMarks, SystemMarks};
 use mus_score::Score;
 use mus_stems::{Anchor, ends_for};
@@ -137,45 +135,38 @@ fn end_voice(v: &mut DrawnVoice, a: u32, ends: &[Row<i32>])
     end_measures(&mut v.measures.items.as_mut_slice()[a as usize..], ends);
 }
 
-/// The ends that the events of voices have in measures `a` to `b` - 1.
+/// The ends that the events of voices have in a system.
 fn plain_voices(
     alloc: Global,
-    a: u32,
-    b: u32,
+    frame: &Frame<'_>,
     voices: &[DrawnVoice],
 ) -> Result<Row<Row<Row<i32>>>, Memory>
-    requires order { a < b }
-    requires within { All (λ v. b ≤ length v.measures) voices.now }
-    ensures { IfOk result (λ r. r ≡ map (λ v. plain_ends (slice_range v.measures a b)) voices.now) }
+    requires { All (λ v. length v.measures ≡ length frame.now.lengths.now) voices.now }
+    ensures { IfOk result (λ r. r ≡ map (λ v. plain_ends (slice_range v.measures frame.now.a frame.now.b)) voices.now) }
 {
     let mut ends = Row::new(alloc);
     for v in voices {
-        let measures = &v.measures.as_slice()[a as usize..b as usize];
+        let measures = &v.measures.as_slice()[frame.a as usize..frame.b as usize];
         ends.push(plain_ends(alloc, measures)?)?;
     }
     Ok(ends)
 }
 
-/// The ends of the events of voices in measures `a` to `b` - 1, on the lines of their beams.
+/// The ends of the events of voices in a system, on the lines of their beams.
 fn sloped_voices(
     alloc: Global,
-    keys: &[ColumnKey],
+    frame: &Frame<'_>,
     at: &[i64],
-    a: u32,
-    b: u32,
     voices: &[DrawnVoice],
 ) -> Result<Row<Row<Row<i32>>>, Memory>
-    requires keys { AreRanked keys.now }
-    requires order { a < b }
-    requires few { b ≤ 2000 }
-    requires within { All (λ v. b ≤ length v.measures) voices.now }
-    requires slopes { All (λ v. AllCanTilt keys.now at.now a (slice_range v.measures a b)) voices.now }
-    ensures { IfOk result (λ r. r ≡ map (λ v. sloped_over keys.now at.now a (slice_range v.measures a b)) voices.now) }
+    requires each { All (λ v. length v.measures ≡ length frame.now.lengths.now) voices.now }
+    requires slopes { All (λ v. AllCanTilt frame.now.keys.now at.now frame.now.a (slice_range v.measures frame.now.a frame.now.b)) voices.now }
+    ensures { IfOk result (λ r. r ≡ map (λ v. sloped_over frame.now.keys.now at.now frame.now.a (slice_range v.measures frame.now.a frame.now.b)) voices.now) }
 {
     let mut ends = Row::new(alloc);
     for v in voices {
-        let measures = &v.measures.as_slice()[a as usize..b as usize];
-        ends.push(sloped_over(alloc, keys, at, a, measures)?)?;
+        let measures = &v.measures.as_slice()[frame.a as usize..frame.b as usize];
+        ends.push(sloped_over(alloc, frame.keys, at, frame.a, measures)?)?;
     }
     Ok(ends)
 }
@@ -195,30 +186,23 @@ fn end_voices(voices: &mut [DrawnVoice], a: u32, ends: &[Row<Row<i32>>])
 /// The staves of voices over abscissas. The voices are left as they were.
 fn tilted_staves(
     alloc: Global,
-    keys: &[ColumnKey],
-    lengths: &[u64],
+    frame: &Frame<'_>,
     at: &[i64],
-    a: u32,
-    b: u32,
     voices: &mut [DrawnVoice],
 ) -> Result<Row<StaffMarks>, Memory>
-    requires keys { AreRanked keys.now }
-    requires order { a < b }
-    requires within { b ≤ length lengths.now }
-    requires few { length lengths.now ≤ 2000 }
-    requires each { All (λ v. length v.measures ≡ length lengths.now) voices.old }
+    requires each { All (λ v. length v.measures ≡ length frame.now.lengths.now) voices.old }
     requires good { All (λ v. AreGoodMeasures v.measures) voices.old }
     requires verses { verses_on voices.old ≤ 128 }
-    requires slopes { All (λ v. AllCanTilt keys.now at.now a (slice_range v.measures a b)) voices.old }
+    requires slopes { All (λ v. AllCanTilt frame.now.keys.now at.now frame.now.a (slice_range v.measures frame.now.a frame.now.b)) voices.old }
     ensures kept { voices.new ≡ voices.old }
-    ensures staves { IfOk result (λ r. r ≡ map (tilted_staff keys.now lengths.now at.now a b) (grouped stands_lower voices.old)) }
+    ensures staves { IfOk result (λ r. r ≡ map (tilted_staff frame.now.keys.now frame.now.lengths.now at.now frame.now.a frame.now.b) (grouped stands_lower voices.old)) }
     ensures lines { IfOk result (All CoversLines) }
 {
-    let plain = plain_voices(alloc, a, b, voices)?;
-    let sloped = sloped_voices(alloc, keys, at, a, b, voices)?;
-    end_voices(voices, a, sloped.as_slice());
-    let staves = staves(alloc, keys, lengths, a, b, voices);
-    end_voices(voices, a, plain.as_slice());
+    let plain = plain_voices(alloc, frame, voices)?;
+    let sloped = sloped_voices(alloc, frame, at, voices)?;
+    end_voices(voices, frame.a, sloped.as_slice());
+    let staves = staves(alloc, frame, voices);
+    end_voices(voices, frame.a, plain.as_slice());
     staves
 }
 
@@ -249,8 +233,13 @@ pub fn tilt_of(
     ensures good { IfOk result (λ m. All (λ staff. AreGoodMarks staff.marks) m.staves) }
 {
     let keys = system_keys(alloc, s, voices, t, a, b)?;
-    let lengths = t.lengths.as_slice();
-    let staves = tilted_staves(alloc, keys.as_slice(), lengths, at, a, b, voices)?;
+    let frame = Frame {
+        keys: keys.as_slice(),
+        lengths: t.lengths.as_slice(),
+        a,
+        b,
+    };
+    let staves = tilted_staves(alloc, &frame, at, voices)?;
     Ok(SystemMarks { a, b, keys, staves })
 }
 

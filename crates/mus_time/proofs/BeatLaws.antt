@@ -1,8 +1,7 @@
--- The tree and the events in a row have the same beats, and these tell onsets and the key in force.
+-- The tree and the events in a row have the same beats, and these tell onsets.
 use Rattle.std.{proofs.{Common.{◌≡◌, ◌∙◌, ℕ, ◌+◌, ◌*◌, ◌≤◌, Bool, List, [], ◌∷◌, ◌++◌, Option, Some, None, ap, map, refl, subst, sym, arith}, lemmas.List.{map-append, Sums.sum_by-cons}}, specs.{List.{AllByRecursion, sum_by}, Prelude.unwrap_or}}
-use Rattle.mus_units.specs.declared.key.Key.{Key}
 use Rattle.mus_score.{specs.{declared.{score.{Flat.Flat, Music.{Music, TheOpen.Music-F, TheFolds.{fold-roll-Music, ind-Music, map-Music}, TheViews.roll-Music}}, times.Waits.Waits}, Good.{IsGoodBody, longest_ticks, total_ticks}, Times.{InTuplets, Leafing, flats_of, in_row, leaves_step, leaves_within, nothing}}, proofs.Bounds.{all_music, body_fits, flats_short, gathered}}
-use Rattle.mus_time.specs.{declared.beats.Beat.Beat, Beats.{beat_of, beat_onsets, beats_in_row, beats_of, beats_step, beats_within, says, signed_along}, Keys.{signed_after, signed_through}, Onsets.event_onsets}
+use Rattle.mus_time.specs.{declared.beats.Beat.Beat, Beats.{beat_of, beat_onsets, beats_in_row, beats_of, beats_step, beats_within}, Onsets.event_onsets}
 
 abbrev Agree : InTuplets (List Beat) → Leafing → Type 0
 Agree b l = (qs ps : ℕ) (w : Waits) → map beat_of (l qs ps w).flats ≡ b qs ps
@@ -57,14 +56,3 @@ onsets_same voice measure tick before (f ∷ fs) e =
 
 pub body_onsets : (voice measure : ℕ) (ms : List Music) → beat_onsets voice measure 0 (beats_of ms) ≡ event_onsets voice measure [] (flats_of ms)
 body_onsets voice measure ms = onsets_same voice measure 0 [] (flats_of ms) refl
-
-said : (signed : Bool) (key : Option Key) → unwrap_or (says key) signed ≡ signed_after signed key
-said signed None = refl
-said signed (Some k) = refl
-
-signed_same : (signed : Bool) (fs : List Flat) → signed_along signed (map beat_of fs) ≡ signed_through signed fs
-signed_same signed [] = refl
-signed_same signed (f ∷ fs) = ap (λ s. signed_along s (map beat_of fs)) (said signed f.event.changes.key) ∙ signed_same (signed_after signed f.event.changes.key) fs
-
-pub signed_body : (signed : Bool) (ms : List Music) → signed_along signed (beats_of ms) ≡ signed_through signed (flats_of ms)
-signed_body signed ms = signed_same signed (flats_of ms)

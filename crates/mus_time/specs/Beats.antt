@@ -1,23 +1,17 @@
--- Beats: what times and keys take from the events of a body that are no graces, from left to right: the id, how long the event
--- lasts, and whether the key that it names has entries.
-use Rattle.std.specs.Prelude.{ℕ, ◌+◌, ◌*◌, Bool, List, [], ◌∷◌, ◌++◌, map, Option, Some, None, unwrap_or}
-use Rattle.mus_units.specs.declared.key.Key.{Key}
+-- Beats: what times take from the events of a body that are no graces, from left to right: the id, and how long the event lasts.
+use Rattle.std.specs.Prelude.{ℕ, ◌+◌, ◌*◌, List, [], ◌∷◌, ◌++◌, map}
 use Rattle.mus_score.specs.{declared.score.{Event.Event, Flat.Flat, Music.{Music, TheOpen.Music-F, TheFolds.fold-Music}}, Times.{InTuplets, flats_of, scaled}}
-use Rattle.mus_time.specs.{declared.{beats.Beat.Beat, times.Onset.Onset}, Keys.has_entries}
-
-abbrev pub says : Option Key → Option Bool
-says None = None
-says (Some k) = Some (has_entries k)
+use Rattle.mus_time.specs.declared.{beats.Beat.Beat, times.Onset.Onset}
 
 abbrev pub beat_of : Flat → Beat
-beat_of f = record { event = f.event.id; ticks = f.duration; signed = says f.event.changes.key }
+beat_of f = record { event = f.event.id; ticks = f.duration }
 
 abbrev pub beats_of : List Music → List Beat
 beats_of body = map beat_of (flats_of body)
 
 -- ---- read off the tree
 abbrev pub beat_at : Event → InTuplets Beat
-beat_at e qs ps = record { event = e.id; ticks = scaled e.ticks qs ps; signed = says e.changes.key }
+beat_at e qs ps = record { event = e.id; ticks = scaled e.ticks qs ps }
 
 abbrev pub beats_in_row : List (InTuplets (List Beat)) → InTuplets (List Beat)
 beats_in_row [] qs ps = []
@@ -38,8 +32,3 @@ abbrev pub beat_onsets : ℕ → ℕ → ℕ → List Beat → List Onset
 beat_onsets voice measure tick [] = []
 beat_onsets voice measure tick (b ∷ bs) =
     record { voice = voice; measure = measure; event = b.event; tick = tick } ∷ beat_onsets voice measure (tick + b.ticks) bs
-
--- whether the key in force behind beats has entries
-abbrev pub signed_along : Bool → List Beat → Bool
-signed_along signed [] = signed
-signed_along signed (b ∷ bs) = signed_along (unwrap_or b.signed signed) bs

@@ -1,35 +1,18 @@
-//! What times and keys take from the events of a body, none of which is copied.
+//! What times take from the events of a body, none of which is copied.
 
 ghost use Rattle.std.specs.Prelude.{◌≡◌, ◌≤◌, ◌*◌, ◌++◌, map, true, IfOk, OnOk, sum_by};
 ghost use Rattle.mus_score.specs.{Good.IsGoodBody, Good.longest_ticks, Times.{all_products_fit, is_scalable, products_fit, scaled}};
-ghost use Rattle.mus_time.specs.{Beats.{beat_at, beats_in_row, beats_of, beats_within, says, signed_along}, Keys.has_entries};
+ghost use Rattle.mus_time.specs.{Beats.{beat_at, beats_in_row, beats_of, beats_within}};
 
-use mus_score::{Event, Key, Music};
+use mus_score::{Event, Music};
 use mus_units::{Memory, Row};
 use std::alloc::Global;
 
-/// An event by its id, how long it lasts, in ticks, and where it names a key whether that has entries.
+/// An event by its id, and how long it lasts, in ticks.
 #[derive(Clone, Copy, PartialEq, Eq)]
 pub struct Beat {
     pub event: u32,
     pub ticks: u64,
-    pub signed: Option<bool>,
-}
-
-/// Whether a key has an entry.
-pub(crate) fn is_signed(key: &Key) -> bool
-    ensures { result ≡ has_entries key.now }
-{
-    key.signs.len() >= 1
-}
-
-fn says(key: &Option<Key>) -> Option<bool>
-    ensures { result ≡ says key.now }
-{
-    match key {
-        Some(key) => Some(is_signed(key)),
-        None => None,
-    }
 }
 
 /// Ticks, times the tuplets around.
@@ -48,7 +31,6 @@ fn beat_at(e: &Event, qs: u64, ps: u64) -> Beat
     Beat {
         event: e.id,
         ticks: scaled(e.ticks, qs, ps),
-        signed: says(&e.changes.key),
     }
 }
 
@@ -60,7 +42,7 @@ fn put_node(m: &Music, qs: u64, ps: u64, out: &mut Row<Beat>) -> Result<(), Memo
     match m {
         Music::Note(e) => out.push(beat_at(e, qs, ps)),
         Music::Rest(e) => out.push(beat_at(e, qs, ps)),
-        Music::Grace { body: _, slash: _ } => Ok(()),
+        Music::Grace { .. } => Ok(()),
         Music::Tuplet { p, q, body } => put_nodes(
             body.as_slice(),
             qs * u64::from(*q),
@@ -91,15 +73,4 @@ pub(crate) fn beats(alloc: Global, body: &[Music]) -> Result<Row<Beat>, Memory>
     let mut out = Row::new(alloc);
     put_nodes(body, 1, 1, &mut out)?;
     Ok(out)
-}
-
-/// Whether the key in force behind some beats has an entry.
-pub(crate) fn signed_behind(signed: bool, beats: &[Beat]) -> bool
-    ensures { result ≡ signed_along signed beats.now }
-{
-    let mut signed = signed;
-    for b in beats {
-        signed = b.signed.unwrap_or(signed);
-    }
-    signed
 }

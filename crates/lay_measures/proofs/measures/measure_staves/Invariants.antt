@@ -7,8 +7,8 @@ use Rattle.lay_measures.proofs.measures.measure_staves.Given as goal
 
 abbrev pub invariant-staves : goal.invariant-staves
 invariant-staves l = record {
-  staves : l.staves ++ map (measure_staff l.begins l.keys l.lengths l.m) (grouped stands_lower l.rest) ≡ map (measure_staff l.begins l.keys l.lengths l.m) (grouped stands_lower l.voices);
-  each : All (λ v. length v.measures ≡ length l.lengths) l.rest;
+  staves : l.staves ++ map (measure_staff l.begins l.frame.keys.now l.frame.lengths.now l.frame.a) (grouped stands_lower l.rest) ≡ map (measure_staff l.begins l.frame.keys.now l.frame.lengths.now l.frame.a) (grouped stands_lower l.voices);
+  each : All (λ v. length v.measures ≡ length l.frame.lengths.now) l.rest;
   good : All (λ v. AreGoodMeasures v.measures) l.rest;
   verses : verses_on l.rest ≤ 128;
 }

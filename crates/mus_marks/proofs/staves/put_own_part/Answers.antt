@@ -1,8 +1,8 @@
 use Rattle.std.proofs.Common.{◌-◌, take, drop, subst, sym}
 use Rattle.mus_drawn.specs.Good.{AreGoodMeasures}
-use Rattle.mus_marks.proofs.Goods.{good_slice}
+use Rattle.mus_keys.proofs.Goods.{good_slice}
 use Rattle.mus_marks.proofs.staves.put_own_part.Goals as goal
 
 pub put_columns_part-requires-clause-good : goal.put_columns_part-requires-clause-good
 put_columns_part-requires-clause-good c =
-    subst (λ ms. AreGoodMeasures (take (c.args.b - c.args.a) (drop c.args.a ms))) (sym c.as_slice.ensures) (good_slice c.args.a (c.args.b - c.args.a) c.args.v.now.measures c.requires.good)
+    subst (λ ms. AreGoodMeasures (take (c.args.frame.now.b - c.args.frame.now.a) (drop c.args.frame.now.a ms))) (sym c.as_slice.ensures) (good_slice c.args.frame.now.a (c.args.frame.now.b - c.args.frame.now.a) c.args.v.now.measures c.requires.good)

@@ -6,10 +6,10 @@ use Rattle.mus_marks.proofs.staves.staves.Given as goal
 
 abbrev pub invariant-loop-behind : goal.invariant-loop-behind
 invariant-loop-behind l = record {
-  each : All (λ v. length v.measures ≡ length l.lengths) l.rest;
+  each : All (λ v. length v.measures ≡ length l.frame.lengths.now) l.rest;
   good : All (λ v. AreGoodMeasures v.measures) l.rest;
   verses : verses_on l.rest ≤ 128;
-  staves : l.staves ++ map (staff_marks l.keys l.lengths l.a l.b) (grouped stands_lower l.rest) ≡ map (staff_marks l.keys l.lengths l.a l.b) (grouped stands_lower l.voices);
+  staves : l.staves ++ map (staff_marks l.frame.keys.now l.frame.lengths.now l.frame.a l.frame.b) (grouped stands_lower l.rest) ≡ map (staff_marks l.frame.keys.now l.frame.lengths.now l.frame.a l.frame.b) (grouped stands_lower l.voices);
   lines : All CoversLines l.staves;
 }
 

@@ -5,7 +5,7 @@ use Rattle.mus_marks.proofs.staves.written_parts.Goals as goal
 
 pub loop-v-preserved : goal.loop-v-preserved
 loop-v-preserved c =
-    let keys = c.args.keys.now in let lengths = c.args.lengths.now in let so_far = c.loop-v.invariant in
+    let keys = c.args.frame.now.keys.now in let lengths = c.args.frame.now.lengths.now in let so_far = c.loop-v.invariant in
     let v = c.in-Some.v.now in let behind = c.in-Some.behind.now in let rest = c.loop-v.rest.now in
     let place = c.loop-v.place in let next = c.in_ok-place.place in let part = c.in_ok-part.part in
     let follows = not c.is_empty-follows.result in
@@ -18,6 +18,6 @@ loop-v-preserved c =
       first = omega (arith, few);
       room = next_room (length keys) v behind rest place next part follows front is ∙ so_far.room;
       verses = few;
-      parts = next_part keys lengths c.args.room c.args.a c.args.b v behind rest place next part c.loop-v.parts c.push.new.self _ follows front so_far.room c.in_ok-part.ensures is
+      parts = next_part keys lengths c.args.room c.args.frame.now.a c.args.frame.now.b v behind rest place next part c.loop-v.parts c.push.new.self _ follows front so_far.room c.in_ok-part.ensures is
           (none_behind (length behind) c.is_empty-follows.result c.is_empty-follows.ensures) c.in_ok-push.ensures.ok so_far.parts;
     }

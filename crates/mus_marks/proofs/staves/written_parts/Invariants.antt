@@ -5,12 +5,12 @@ use Rattle.mus_marks.proofs.staves.written_parts.Given as goal
 
 abbrev pub invariant-loop-v : goal.invariant-loop-v
 invariant-loop-v l = record {
-  each : All (λ v. length v.measures ≡ length l.lengths) l.rest;
+  each : All (λ v. length v.measures ≡ length l.frame.lengths.now) l.rest;
   good : All (λ v. AreGoodMeasures v.measures) l.rest;
   first : l.place.first ≤ 129;
   room : l.place.room ≡ l.fn.room;
   verses : l.place.first + verses_on l.rest ≤ 129;
-  parts : l.parts ++ written_parts l.keys l.lengths l.fn.room l.a l.b l.place.first l.place.before l.rest ≡ written_parts l.keys l.lengths l.fn.room l.a l.b 1 [] l.voices;
+  parts : l.parts ++ written_parts l.frame.keys.now l.frame.lengths.now l.fn.room l.frame.a l.frame.b l.place.first l.place.before l.rest ≡ written_parts l.frame.keys.now l.frame.lengths.now l.fn.room l.frame.a l.frame.b 1 [] l.voices;
 }
 
 abbrev pub decreases-loop-v : goal.decreases-loop-v

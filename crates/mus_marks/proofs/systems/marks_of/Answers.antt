@@ -1,28 +1,23 @@
-use Rattle.std.{proofs.Common.{◌≡◌, ◌∙◌, ◌≤◌, length, map, refl, ap, subst, sym, arith}, specs.List.All}
+use Rattle.std.{proofs.Common.{◌∙◌, ◌≤◌, map, refl, ap, subst, sym, arith}, specs.List.All}
 use Rattle.mus_score.specs.Seats.{grouped}
-use Rattle.mus_time.{proofs.Places.length_of_lengths, specs.Ranks.AreRanked}
+use Rattle.mus_time.specs.Ranks.{AreRanked}
 use Rattle.mus_laid.specs.Boxes.{AreGoodMarks}
-use Rattle.mus_marks.{specs.Staff.staff_marks, specs.Staff.verses_on, specs.System.drawn_staves, specs.System.stands_lower, proofs.Few.few_keys, proofs.Fitting.few_verses, proofs.Fitting.staves_fit, proofs.GoodMarks.staves_good, proofs.Lines.voices_count}
+use Rattle.mus_keys.proofs.Counts.{lengths_count, voices_count}
+use Rattle.mus_marks.{specs.Staff.staff_marks, specs.Staff.verses_on, specs.System.drawn_staves, specs.System.stands_lower, proofs.Fitting.few_verses, proofs.Fitting.staves_fit, proofs.GoodMarks.staves_good}
 use Rattle.mus_marks.proofs.systems.marks_of.Goals as goal
 
-pub staves-requires-clause-within : goal.staves-requires-clause-within
-staves-requires-clause-within c =
-    let count : length c.as_slice-lengths.result.now ≡ c.args.s.now.measures =
-    ap length (c.as_slice-lengths.ensures ∙ ap (λ t. t.lengths) c.requires.times) ∙ length_of_lengths c.args.s.now in
-    omega (arith, count, c.requires.within)
-
-pub staves-requires-clause-few : goal.staves-requires-clause-few
-staves-requires-clause-few c =
-    let count : length c.as_slice-lengths.result.now ≡ c.args.s.now.measures =
-    ap length (c.as_slice-lengths.ensures ∙ ap (λ t. t.lengths) c.requires.times) ∙ length_of_lengths c.args.s.now in
-    omega (arith, count, c.requires.good.few_measures)
+pub invariant_of-frame : goal.invariant_of-frame
+invariant_of-frame c =
+    let count = lengths_count c.args.s.now c.args.t.now c.as_slice-2.result.now c.as_slice-2.ensures c.requires.times in
+    record {
+      ranked = subst AreRanked (sym c.as_slice.ensures) c.in_ok-keys.ensures.ranked;
+      order = c.requires.order;
+      within = omega (arith, count, c.requires.within);
+      few = omega (arith, count, c.requires.good.few_measures);
+    }
 
 pub staves-requires-clause-each : goal.staves-requires-clause-each
-staves-requires-clause-each c =
-    let count : length c.as_slice-lengths.result.now ≡ c.args.s.now.measures =
-    ap length (c.as_slice-lengths.ensures ∙ ap (λ t. t.lengths) c.requires.times) ∙ length_of_lengths c.args.s.now in
-    subst (λ vs. All (λ v. length v.measures ≡ length c.as_slice-lengths.result.now) vs) (sym c.requires.voices)
-    (voices_count (length c.as_slice-lengths.result.now) c.args.s.now.voices (λ k d h. c.requires.good.measures k d h ∙ sym count))
+staves-requires-clause-each c = voices_count c.args.s.now c.args.t.now c.as_slice-2.result.now c.as_slice-2.ensures c.requires.times c.args.voices.now c.requires.good c.requires.voices
 
 pub returns-clause-call : goal.returns-clause-call
 returns-clause-call c = record {
@@ -30,8 +25,8 @@ returns-clause-call c = record {
   to = refl;
   keys = c.in_ok-keys.ensures.keys;
   staves = c.in_ok-staves.ensures.staves
-      ∙ ap (λ ks. map (staff_marks ks c.as_slice-lengths.result.now c.args.a c.args.b) (grouped stands_lower c.args.voices.now)) c.as_slice.ensures
-      ∙ ap (λ ls. map (staff_marks c.in_ok-keys.keys ls c.args.a c.args.b) (grouped stands_lower c.args.voices.now)) c.as_slice-lengths.ensures
+      ∙ ap (λ ks. map (staff_marks ks c.as_slice-2.result.now c.args.a c.args.b) (grouped stands_lower c.args.voices.now)) c.as_slice.ensures
+      ∙ ap (λ ls. map (staff_marks c.in_ok-keys.keys ls c.args.a c.args.b) (grouped stands_lower c.args.voices.now)) c.as_slice-2.ensures
       ∙ ap (λ vs. map (staff_marks c.in_ok-keys.keys c.args.t.now.lengths c.args.a c.args.b) (grouped stands_lower vs)) c.requires.voices;
 }
 
@@ -42,10 +37,3 @@ returns-clause-good c =
 
 pub staves-requires-clause-verses : goal.staves-requires-clause-verses
 staves-requires-clause-verses c = subst (λ vs. verses_on vs ≤ 128) (sym c.requires.voices) (few_verses c.args.s.now c.requires.good)
-
-pub staves-requires-clause-keys : goal.staves-requires-clause-keys
-staves-requires-clause-keys c =
-    subst AreRanked (sym c.as_slice.ensures) (record {
-      rise = c.in_ok-keys.ensures.keys.rise;
-      few = few_keys c.args.s.now c.args.t.now.lengths c.args.a c.args.b c.in_ok-keys.keys c.requires.good c.requires.within c.in_ok-keys.ensures.keys;
-    })

@@ -1,30 +1,23 @@
-use Rattle.std.{proofs.Common.{◌≡◌, ◌∙◌, ◌≤◌, length, map, refl, ap, subst, sym, arith}, specs.List.{All, slice_range}}
+use Rattle.std.{proofs.Common.{◌∙◌, ◌≤◌, map, refl, ap, subst, sym, arith}, specs.List.{All, slice_range}}
 use Rattle.mus_score.specs.Seats.{grouped}
-use Rattle.mus_time.{specs.Ranks.AreRanked, proofs.Places.length_of_lengths}
+use Rattle.mus_time.specs.Ranks.{AreRanked}
 use Rattle.mus_drawn.specs.Good.{AreGoodMeasures}
-use Rattle.mus_marks.{specs.Staff.verses_on, specs.System.stands_lower, specs.Tilt.AllCanTilt, specs.Tilt.tilted_staff, proofs.Few.few_keys, proofs.Fitting.few_verses, proofs.Lines.voices_count, proofs.Sloping.voices_can, proofs.Alike.tilted_alike, proofs.Alike.tilted_good}
+use Rattle.mus_keys.proofs.Counts.{lengths_count, voices_count}
+use Rattle.mus_marks.{specs.Staff.verses_on, specs.System.stands_lower, specs.Tilt.AllCanTilt, specs.Tilt.tilted_staff, proofs.Fitting.few_verses, proofs.Sloping.voices_can, proofs.Alike.tilted_alike, proofs.Alike.tilted_good}
 use Rattle.mus_marks.proofs.tilting.tilt_of.Goals as goal
 
-count : (c : goal.After-tilted_staves-arg-1) → length c.as_slice-lengths.result.now ≡ c.args.s.now.measures
-count c = ap length (c.as_slice-lengths.ensures ∙ ap (λ t. t.lengths) c.requires.times) ∙ length_of_lengths c.args.s.now
-
-pub tilted_staves-requires-clause-within : goal.tilted_staves-requires-clause-within
-tilted_staves-requires-clause-within c = omega (arith, count c, c.requires.within)
-
-pub tilted_staves-requires-clause-few : goal.tilted_staves-requires-clause-few
-tilted_staves-requires-clause-few c = omega (arith, count c, c.requires.good.few_measures)
+pub invariant_of-frame : goal.invariant_of-frame
+invariant_of-frame c =
+    let count = lengths_count c.args.s.now c.args.t.now c.as_slice-2.result.now c.as_slice-2.ensures c.requires.times in
+    record {
+      ranked = subst AreRanked (sym c.as_slice.ensures) c.in_ok-keys.ensures.ranked;
+      order = c.requires.order;
+      within = omega (arith, count, c.requires.within);
+      few = omega (arith, count, c.requires.good.few_measures);
+    }
 
 pub tilted_staves-requires-clause-each : goal.tilted_staves-requires-clause-each
-tilted_staves-requires-clause-each c =
-    subst (λ vs. All (λ v. length v.measures ≡ length c.as_slice-lengths.result.now) vs) (sym c.requires.voices)
-    (voices_count (length c.as_slice-lengths.result.now) c.args.s.now.voices (λ k d h. c.requires.good.measures k d h ∙ sym (count c)))
-
-pub tilted_staves-requires-clause-keys : goal.tilted_staves-requires-clause-keys
-tilted_staves-requires-clause-keys c =
-    subst AreRanked (sym c.as_slice.ensures) (record {
-      rise = c.in_ok-keys.ensures.keys.rise;
-      few = few_keys c.args.s.now c.args.t.now.lengths c.args.a c.args.b c.in_ok-keys.keys c.requires.good c.requires.within c.in_ok-keys.ensures.keys;
-    })
+tilted_staves-requires-clause-each c = voices_count c.args.s.now c.args.t.now c.as_slice-2.result.now c.as_slice-2.ensures c.requires.times c.args.voices.now c.requires.good c.requires.voices
 
 pub tilted_staves-requires-clause-slopes : goal.tilted_staves-requires-clause-slopes
 tilted_staves-requires-clause-slopes c =
@@ -43,8 +36,8 @@ returns-clause-tilted c =
       to = refl;
       keys = c.in_ok-keys.ensures.keys;
       staves = c.in_ok-staves.ensures.staves
-          ∙ ap (λ ks. map (tilted_staff ks c.as_slice-lengths.result.now at a b) (grouped stands_lower c.args.voices.now)) c.as_slice.ensures
-          ∙ ap (λ ls. map (tilted_staff keys ls at a b) (grouped stands_lower c.args.voices.now)) c.as_slice-lengths.ensures
+          ∙ ap (λ ks. map (tilted_staff ks c.as_slice-2.result.now at a b) (grouped stands_lower c.args.voices.now)) c.as_slice.ensures
+          ∙ ap (λ ls. map (tilted_staff keys ls at a b) (grouped stands_lower c.args.voices.now)) c.as_slice-2.ensures
           ∙ ap (λ vs. map (tilted_staff keys lengths at a b) (grouped stands_lower vs)) c.requires.voices;
     }
 

@@ -1,0 +1,130 @@
+-- Behind its head, a measure that begins without a change has the columns that it has in a system which began before.
+use Rattle.std.{proofs.{Common.{◌≡◌, ◌∙◌, ℕ, zero, suc, ◌+◌, ◌-◌, ◌<◌, ◌≤◌, ◌==◌, ◌&&◌, not, Bool, true, false, if◌then◌else◌, List, [], ◌∷◌, ◌++◌, length, map, take, drop, Option, Some, None, refl, sym, ap, subst, arith}, lemmas.{Bool.{and_parts, Decides.nat_tests}, List.{append-nil, drop-map, Elements.{All-from_recursion, All-nil, recursion_from_All}}}}, specs.List.{AllByRecursion, list_all, slice_get, slice_index, slice_range}}
+use Rattle.mus_score.specs.{declared.score.Score.Score, GoodScore.IsGoodScore, Seats.is_lower}
+use Rattle.mus_time.{specs.{declared.{keys.{Class.Class, ColumnKey.ColumnKey}, times.Timeline.Timeline}, Keys.{AreKeys, has_features, head_key}, Onsets.{length_at, timeline_of}, Order.{Rises, class_number, is_below, rank_of}, Ranks.rank_at}, proofs.{Places.length_is, RankLaws.rank_at_place}}
+use Rattle.mus_laid.specs.{declared.drawn.Drawn.Drawn, declared.laid.{Laid.Laid, StaffMarks.StaffMarks}, Ranked.drawn_at}
+use Rattle.mus_ink.specs.Bars.{bar_marks}
+use Rattle.mus_drawn.specs.{declared.drawn.{DrawnEvent.DrawnEvent, DrawnMeasure.DrawnMeasure, DrawnVoice.DrawnVoice}, Drawn.drawn_voice}
+use Rattle.mus_keys.specs.Columns.{keys_called}
+use Rattle.mus_marks.{specs.{declared.events.Place.Place, Events.{bar_part, change_part, changes_nothing, event_marks, events_marks, graces_part, levels_behind, levels_in, measures_marks, note_part, note_rank, words_part}, Staff.{columns_part, head_part}, System.{drawn_staves, stands_lower}}, proofs.{Groups.grouped_all, Unchanged.nothing_marks}}
+use Rattle.lay_columns.{specs.{declared.column.Column.Column, Columns.columns_of, Joining.{AreJoined, IsBelow, StavesJoin, moved}, Reaches.rank_of as mark_rank}, proofs.JoinLaws.{behind_same, marks_join}}
+use Rattle.lay_measures.{specs.Measures.{AreMeasureColumns, begins_plain, first_plain, fixed_place, is_plain, keys_in, measure_part, measure_staff, parts_from, staff_of_columns}, proofs.{Joined.{HasMeasures, all_weaker, both_joined, voices_fit}, KeyLaws.slice_long, Ranks.{IsPlaced, measures_in, slice_fit}, Slots.{AreBelow, head_laid, head_slots, lay_below, lay_moved, measures_laid, measures_slots, slot}}}
+
+-- ---- what a change would draw
+change_same : (keys : List ColumnKey) (m : ℕ) (lower : Bool) (e : DrawnEvent) → changes_nothing e.flat.event.changes ≡ true → change_part keys m true e ≡ change_part keys m lower e
+change_same keys m true e h = refl
+change_same keys m false e h = ap (map (drawn_at (rank_at keys m e.tick Class.Change 0))) (sym (nothing_marks e.clef e.old e.flat.event.changes h))
+
+abbrev ArePlain : List DrawnMeasure → Type 0
+ArePlain ds = AllByRecursion (λ d. first_plain d.events ≡ true) ds
+
+one_plain : (m n : ℕ) (ds : List DrawnMeasure) → n ≡ 1 → is_plain (slice_get ds m) ≡ true → ArePlain (take n (drop m ds))
+one_plain m n ds one h = subst (λ k. ArePlain (take k (drop m ds))) (sym one) (by m ds h)
+  where
+    by : (m : ℕ) (ds : List DrawnMeasure) → is_plain (slice_get ds m) ≡ true → ArePlain (take 1 (drop m ds))
+    by zero [] h = tt
+    by (suc m) [] h = tt
+    by zero (d ∷ ds) h = (h, tt)
+    by (suc m) (d ∷ ds) h = by m ds h
+
+events_same : (keys : List ColumnKey) (place : Option Place) (m : ℕ) (es : List DrawnEvent) → first_plain es ≡ true → events_marks keys place m true 0 0 es ≡ events_marks keys place m false 0 0 es
+unfolding event_marks
+events_same keys place m [] h = refl
+events_same keys place m (e ∷ es) h =
+    ap (λ t. (t ++ graces_part keys m e ++ note_part keys m (levels_in e.plan 0 0) (levels_behind e.plan es) e ++ words_part (note_rank keys m e) place e.flat) ++ events_marks keys place m false e.plan.group e.plan.flags es)
+    (change_same keys m (is_lower e.seat) e h)
+
+measures_same : (keys : List ColumnKey) (lengths : List ℕ) (place : Option Place) (m : ℕ) (ds : List DrawnMeasure) → ArePlain ds → measures_marks keys lengths place m true ds ≡ measures_marks keys lengths place m false ds
+measures_same keys lengths place m [] h = refl
+measures_same keys lengths place m (d ∷ ds) h = ap (λ t. (t ++ bar_part keys lengths m d) ++ measures_marks keys lengths place (m + 1) false ds) (events_same keys place m d.events h.0)
+
+past_head : (m : ℕ) (k : ColumnKey) → m ≤ k.measure → 1 ≤ class_number k.class → is_below (head_key m) k ≡ true
+unfolding is_below
+past_head m k from c = grind (arith, nat_tests, from, c)
+
+both_pass : {X : Type 0} (P Q : X → Type 0) (xs : List X) → AllByRecursion P xs → AllByRecursion Q xs → AllByRecursion (λ x. P x × Q x) xs
+both_pass P Q [] p q = tt
+both_pass P Q (x ∷ xs) p q = ((p.0, q.0), both_pass P Q xs p.1 q.1)
+
+passing : {X : Type 0} (p : X → Bool) (xs : List X) → list_all p xs ≡ true → AllByRecursion (λ x. p x ≡ true) xs
+passing p [] h = tt
+passing p (x ∷ xs) h = let parts = and_parts (p x) (list_all p xs) h in (parts.0, passing p xs parts.1)
+
+-- ---- the marks behind the head
+module _ (lengths : List ℕ) (m n : ℕ) (some : 1 ≤ m) (within : m < n) (own : List ColumnKey) (rise : Rises (head_key m ∷ own)) where
+  abbrev Behind : DrawnVoice → Type 0
+  Behind v = HasMeasures lengths n v × (begins_plain m v ≡ true)
+
+  abbrev begun : List ColumnKey
+  begun = head_key m ∷ own
+
+  abbrev head_of : ℕ → DrawnVoice → List Laid
+  head_of first v = head_part begun m (slice_range v.measures m (m + 1))
+
+  head_below : (ds : List DrawnMeasure) → AreBelow 1 (head_part begun m ds)
+  head_below ds = subst (AreBelow 1) (sym (head_laid begun m ds)) (lay_below 1 begun (head_slots m ds) (by ds))
+    where
+      of : (lower : Bool) (xs : List Drawn) → AllByRecursion (λ x. rank_of begun x.key < 1) (if lower then [] else slot (head_key m) xs)
+      of true xs = tt
+      of false xs = let r = rank_at_place begun 0 (head_key m) rise (omega arith) in (omega (arith, r), tt)
+
+      by : (ds : List DrawnMeasure) → AllByRecursion (λ x. rank_of begun x.key < 1) (head_slots m ds)
+      by [] = tt
+      by (d ∷ ds) = of (is_lower d.seat) _
+
+  no_first : (lower features : Bool) → (not lower && (m == 0) && features) ≡ false
+  no_first lower features = grind (arith, nat_tests, some)
+
+  part_is : (first : ℕ) (v : DrawnVoice) → Behind v → measure_part true begun lengths m first v ≡ head_of first v ++ map (moved 1) (measure_part false own lengths m first v)
+  unfolding columns_part
+  part_is first v ((count, fit), plain) =
+      let ds = slice_range v.measures m (m + 1) in
+      let slots = measures_slots lengths first m false ds in
+      let long = slice_long m (m + 1) v.measures (omega (arith, within, count)) in
+      let placed = measures_in lengths m (m + 1) 2 (omega arith) first m false ds (omega arith) (omega (arith, long)) (slice_fit lengths m (m + 1) v.measures fit) in
+      let place = Some (fixed_place first) in
+      ap (λ c. (head_part begun m ds ++ (if c then map (drawn_at (rank_at begun 0 0 Class.First 0)) (bar_marks v.first) else [])) ++ measures_marks begun lengths place m true ds) (no_first (is_lower v.seat) (has_features v.first))
+      ∙ ap (λ t. t ++ measures_marks begun lengths place m true ds) (append-nil (head_part begun m ds))
+      ∙ ap (λ t. head_part begun m ds ++ t)
+      (measures_same begun lengths place m ds (one_plain m (m + 1 - m) v.measures (omega arith) plain) ∙ measures_laid begun first lengths m false ds
+      ∙ lay_moved 1 own begun slots (all_weaker (λ x. IsPlaced lengths m (m + 1) 2 x.key) (λ x. rank_of begun x.key ≡ 1 + rank_of own x.key)
+      (λ x h. let p = h.past in ap (λ c. if c then 1 + rank_of own x.key else rank_of own x.key) (past_head m x.key h.from (omega (arith, p)))) slots placed)
+      ∙ ap (map (moved 1)) (sym (measures_laid own first lengths m false ds)))
+
+  part_behind : (first : ℕ) (v : DrawnVoice) → Behind v → AreJoined 1 (measure_part true begun lengths m first v) (head_of first v) (measure_part false own lengths m first v)
+  part_behind first v h =
+      let more = measure_part false own lengths m first v in
+      subst (λ t. AreJoined 1 t (head_of first v) more) (append-nil (head_of first v ++ map (moved 1) more) ∙ sym (part_is first v h))
+      (marks_join 1 (head_of first v) more [] (All-from_recursion (λ l. IsBelow 1 (mark_rank l.mark)) (head_of first v) (head_below (slice_range v.measures m (m + 1)))) (All-nil (λ l. mark_rank l.mark ≡ None)))
+
+  parts_behind : (first : ℕ) (vs : List DrawnVoice) → AllByRecursion Behind vs → AreJoined 1 (parts_from (measure_part true begun lengths m) first vs) (parts_from head_of first vs) (parts_from (measure_part false own lengths m) first vs)
+  parts_behind first [] h = record { front = λ rank lane l. refl; behind = λ rank lane. refl }
+  parts_behind first (v ∷ vs) h =
+      both_joined 1 (measure_part true begun lengths m first v) (head_of first v) (measure_part false own lengths m first v) _ _ _ (part_behind first v h.0) (parts_behind (first + v.verses) vs h.1)
+
+  abbrev heads : List DrawnVoice → StaffMarks
+  heads vs = staff_of_columns (parts_from head_of 1 vs)
+
+  staves_behind : (staves : List (List DrawnVoice)) → AllByRecursion (AllByRecursion Behind) staves → StavesJoin 1 (map (measure_staff true begun lengths m) staves) (map heads staves) (map (measure_staff false own lengths m) staves)
+  staves_behind [] h = tt
+  staves_behind (vs ∷ staves) h = (parts_behind 1 vs h.0, staves_behind staves h.1)
+
+-- ---- the columns behind the head
+pub of_behind : (s : Score) (t : Timeline) (m : ℕ) (verses : List ℕ) (columns : List Column) (own : List ColumnKey) → IsGoodScore s → t ≡ timeline_of s → 1 ≤ m → m < s.measures
+    → AreKeys own (keys_called false s t.lengths m) → keys_in columns ≡ head_key m ∷ own → list_all (begins_plain m) (map drawn_voice s.voices) ≡ true
+    → AreMeasureColumns true s t m verses columns → AreMeasureColumns false s t m verses (drop 1 columns)
+of_behind s t m verses columns own good timed some within called same plain are =
+    let lengths = t.lengths in let staves = drawn_staves s in let voices = map drawn_voice s.voices in
+    let own_keys : keys_in (drop 1 columns) ≡ own = sym (drop-map (λ c. c.key) 1 columns) ∙ ap (drop 1) same in
+    let rise = subst Rises same are.keys.rise in
+    let long = λ (k : ℕ) (h : k < s.measures). subst (λ z. length_at s.voices k ≤ slice_index z.lengths k) (sym timed) (omega (arith, length_is s k h)) in
+    let fit = grouped_all stands_lower (λ v. HasMeasures lengths s.measures v × (begins_plain m v ≡ true)) voices
+    (both_pass (HasMeasures lengths s.measures) (λ v. begins_plain m v ≡ true) voices
+    (voices_fit lengths s.measures s.voices (recursion_from_All (λ v. length v.measures ≡ s.measures) s.voices good.measures) long) (passing (begins_plain m) voices plain)) in
+    record {
+      keys = subst (λ ks. AreKeys ks (keys_called false s lengths m)) (sym own_keys) called;
+      value = ap (drop 1) (are.value ∙ ap (λ ks. columns_of ks (map (measure_staff true ks lengths m) staves) lengths verses) same)
+          ∙ behind_same (map (measure_staff true (head_key m ∷ own) lengths m) staves) (map (heads lengths m s.measures some within own rise) staves) (map (measure_staff false own lengths m) staves) lengths verses
+          1 0 own (staves_behind lengths m s.measures some within own rise staves fit)
+          ∙ sym (ap (λ ks. columns_of ks (map (measure_staff false ks lengths m) staves) lengths verses) own_keys);
+    }

@@ -1,0 +1,128 @@
+ghost use Rattle.std.specs.{Prelude.◌≡◌, Prelude.◌++◌, Prelude.OnOk, Prelude.option_copied, List.find};
+ghost use Rattle.mus_words.specs.Arcs.{seen};
+ghost use Rattle.mus_bridges.specs.Arcs.{has_id, event_at, seen_of, left_key, right_key, arc_between, piece_between, arc_in, arcs_between};
+
+use mus_arcs::{Arc, Piece, pieces};
+use mus_drawn::{DrawnEvent, DrawnMeasure};
+use mus_keys::{Frame, note_key};
+use mus_laid::Bridge;
+use mus_time::{Class, ColumnKey};
+use mus_units::{Memory, Row};
+use mus_words::{End, put_arc};
+
+/// The event with an id.
+fn event_with(id: u32, events: &[DrawnEvent]) -> Option<&DrawnEvent>
+    ensures { option_copied result ≡ find (has_id id) events.now }
+{
+    for e in events {
+        if e.flat.event.id == id {
+            return Some(e);
+        }
+    }
+    None
+}
+
+/// The event with an id in a measure of a voice.
+fn event_at(measures: &[DrawnMeasure], measure: u32, id: u32) -> Option<&DrawnEvent>
+    ensures { option_copied result ≡ event_at measures.now measure id }
+{
+    match measures.get(measure as usize) {
+        Some(d) => event_with(id, d.events.as_slice()),
+        None => None,
+    }
+}
+
+fn end_of(e: &DrawnEvent) -> End<'_>
+    ensures { seen result ≡ seen_of e.now }
+{
+    End {
+        clef: e.clef,
+        heads: e.flat.event.heads.as_slice(),
+        plan: &e.plan,
+        to: e.plan.to,
+    }
+}
+
+/// The column of the left end of a piece, whose arc begins at this event.
+fn left_key(a: u32, piece: Piece, measure: u32, e: &DrawnEvent) -> ColumnKey
+    ensures { result ≡ left_key a piece measure e.now }
+{
+    if piece.cut_left {
+        ColumnKey {
+            measure: a,
+            tick: 0,
+            class: Class::Head,
+            place: 0,
+        }
+    } else {
+        note_key(measure, e)
+    }
+}
+
+/// The column of the right end of a piece, whose arc ends at this event.
+fn right_key(frame: &Frame<'_>, piece: Piece, measure: u32, e: &DrawnEvent) -> ColumnKey
+    ensures { result ≡ right_key frame.now.lengths.now frame.now.b piece measure e.now }
+{
+    if piece.cut_right {
+        ColumnKey {
+            measure: frame.b - 1,
+            tick: frame.lengths[frame.b as usize - 1],
+            class: Class::Bar,
+            place: 0,
+        }
+    } else {
+        note_key(measure, e)
+    }
+}
+
+fn put_arc_between(
+    out: &mut Row<Bridge>,
+    frame: &Frame<'_>,
+    piece: Piece,
+    arc: &Arc,
+    first: Option<&DrawnEvent>,
+    last: Option<&DrawnEvent>,
+) -> Result<(), Memory>
+    ensures { OnOk result (out.new ≡ out.old ++ arc_between frame.now.lengths.now frame.now.a frame.now.b piece arc.now (option_copied first.entry) (option_copied last.entry)) }
+{
+    let (Some(first), Some(last)) = (first, last) else {
+        return Ok(());
+    };
+    let left = left_key(frame.a, piece, arc.from, first);
+    let right = right_key(frame, piece, arc.to, last);
+    put_arc(out, left, right, piece, arc, end_of(first), end_of(last))
+}
+
+/// Draws what a system has of an arc.
+fn put_arc_in(
+    out: &mut Row<Bridge>,
+    frame: &Frame<'_>,
+    measures: &[DrawnMeasure],
+    arc: &Arc,
+) -> Result<(), Memory>
+    ensures { OnOk result (out.new ≡ out.old ++ arc_in frame.now.lengths.now frame.now.a frame.now.b measures.now arc.now) }
+{
+    match pieces(arc, frame.a, frame.b) {
+        None => Ok(()),
+        Some(piece) => {
+            let first = event_at(measures, arc.from, arc.first);
+            let last = event_at(measures, arc.to, arc.last);
+            put_arc_between(out, frame, piece, arc, first, last)
+        }
+    }
+}
+
+/// Draws the pieces of a voice's arcs in a system; `measures` are all that the voice has.
+pub(crate) fn put_arcs_between(
+    out: &mut Row<Bridge>,
+    frame: &Frame<'_>,
+    measures: &[DrawnMeasure],
+    arcs: &[Arc],
+) -> Result<(), Memory>
+    ensures { OnOk result (out.new ≡ out.old ++ arcs_between frame.now.lengths.now frame.now.a frame.now.b measures.now arcs.now) }
+{
+    for arc in arcs {
+        put_arc_in(out, frame, measures, arc)?;
+    }
+    Ok(())
+}

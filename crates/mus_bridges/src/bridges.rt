@@ -1,0 +1,30 @@
+ghost use Rattle.std.specs.Prelude.{◌≡◌, ◌++◌, length, OnOk};
+ghost use Rattle.mus_drawn.specs.Good.{AreGoodMeasures};
+ghost use Rattle.mus_bridges.specs.Bridges.{bridges_of};
+
+use crate::arcs::put_arcs_between;
+use crate::beams::{put_beams_between, put_grace_beams_between};
+use mus_drawn::DrawnVoice;
+use mus_keys::Frame;
+use mus_laid::Bridge;
+use mus_units::{Memory, Row};
+use std::alloc::Global;
+
+/// Draws what a voice has between the columns of a system: the beams of its notes, those of its graces,
+/// and its arcs. The only error is want of memory.
+pub fn put_bridges_of(
+    alloc: Global,
+    out: &mut Row<Bridge>,
+    frame: &Frame<'_>,
+    v: &DrawnVoice,
+) -> Result<(), Memory>
+    requires lengths { length v.now.measures ≡ length frame.now.lengths.now }
+    requires good { AreGoodMeasures v.now.measures }
+    ensures { OnOk result (out.new ≡ out.old ++ bridges_of frame.now.lengths.now frame.now.a frame.now.b v.now) }
+{
+    let all = v.measures.as_slice();
+    let measures = &all[frame.a as usize..frame.b as usize];
+    put_beams_between(alloc, out, frame.a, measures)?;
+    put_grace_beams_between(out, frame.a, measures)?;
+    put_arcs_between(out, frame, all, v.arcs.as_slice())
+}

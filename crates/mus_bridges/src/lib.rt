@@ -1,0 +1,9 @@
+//! What the voices of a score have between the columns of a system: the beams of notes, those of graces,
+//! and the pieces of slurs and ties.
+#![tactic(auto)]
+
+pub mod arcs;
+pub mod beams;
+pub mod bridges;
+
+pub use bridges::put_bridges_of;

@@ -1,0 +1,4 @@
+pub mod Called
+pub mod Counts
+mod Few
+pub mod Goods

@@ -1,6 +1,0 @@
-use Rattle.std.{proofs.Common.◌≡◌, proofs.Common.drop, specs.List.find}
-use Rattle.mus_marks.specs.Arcs.{has_id}
-use Rattle.mus_marks.proofs.arcs.event_with.Given as goal
-
-abbrev pub invariant-loop-e : goal.invariant-loop-e
-invariant-loop-e l = find (has_id l.id) (drop l.e-index l.events) ≡ find (has_id l.id) l.events

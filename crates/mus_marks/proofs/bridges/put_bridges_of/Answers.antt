@@ -1,8 +1,0 @@
-use Rattle.std.proofs.Common.{◌-◌, take, drop, subst, sym}
-use Rattle.mus_drawn.specs.Good.{AreGoodMeasures}
-use Rattle.mus_marks.proofs.Goods.{good_slice}
-use Rattle.mus_marks.proofs.bridges.put_bridges_of.Goals as goal
-
-pub put_grace_beams_between-requires-clause-good : goal.put_grace_beams_between-requires-clause-good
-put_grace_beams_between-requires-clause-good c =
-    subst (λ ms. AreGoodMeasures (take (c.args.b - c.args.a) (drop c.args.a ms))) (sym c.as_slice-all.ensures) (good_slice c.args.a (c.args.b - c.args.a) c.args.v.now.measures c.requires.good)
