@@ -2,7 +2,7 @@ ghost use Rattle.std.specs.Prelude.{◌≡◌, ◌≤◌, ◌^◌, [], All, IfOk
 ghost use Rattle.abc_header.specs.Papers.{IsGoodPaper};
 ghost use Rattle.gen_book.specs.Book.{book};
 ghost use Rattle.ps_text.specs.{Document.document, declared.sheet.Sheet.Sheet, Range.IsSheet};
-ghost use Rattle.set_tune.specs.Terms.{IsGoodHow, manner_of};
+ghost use Rattle.set_tune.specs.Terms.{manner_of};
 ghost use Rattle.set_lists.specs.{Listing.AreListable, Reports.reports, Trials.trial_text};
 ghost use Rattle.set_pages.specs.{Press.IsBookSheet, Sheet.IsSetUnder};
 ghost use Rattle.abcps.specs.{Books.{AreSet, IsTried, paper_in, status_of, systems_by, systems_called, trial_of}, Outcome.{IsAnswer, IsAnswered, IsEnd, observed}};
@@ -14,6 +14,7 @@ use crate::status::Status;
 use crate::telling::{end, write_both};
 use abc_header::{Paper, read_paper};
 use abc_lines::cut_book;
+use eng_halves::Jobs;
 use eng_io::{MemSink, Sink};
 use gen_book::make;
 use mus_units::{Memory, Row, Text};
@@ -44,7 +45,6 @@ fn set_text<R: Threads + Sync, G: Gate + Sync>(
     how: How,
     gate: &G,
 ) -> Result<SetBook, Memory>
-    requires how { IsGoodHow how }
     requires within { length text.now ≤ 2 ^ 30 }
     ensures paper { IfOk result (λ set. set.paper ≡ paper_in text.now) }
     ensures good { IfOk result (λ set. IsGoodPaper set.paper) }
@@ -83,9 +83,8 @@ pub(crate) fn set<R: Threads + Sync, O: Sink, E: Sink, G: Gate + Sync>(
     errors: &mut E,
     gate: &G,
 ) -> Status
-    requires how { IsGoodHow how }
     requires within { length text.now ≤ 8388608 }
-    ensures { IsAnswer (Command.Set how.flow how.jobs how.by even) result text.now (observed O.taken O.faults output.old output.new) (observed E.taken E.faults errors.old errors.new) }
+    ensures { IsAnswer (Command.Set how.flow how.jobs.count how.by even) result text.now (observed O.taken O.faults output.old output.new) (observed E.taken E.faults errors.old errors.new) }
 {
     match print_book(rt, alloc, text, how, even, output, gate) {
         Ok(printed) => end(errors, printed.told.as_slice(), printed.status),
@@ -139,7 +138,6 @@ pub(crate) fn systems<R: Threads + Sync, O: Sink, E: Sink>(
     output: &mut O,
     errors: &mut E,
 ) -> Status
-    requires how { IsGoodHow how }
     requires within { length text.now ≤ 8388608 }
     ensures { IsAnswer (Command.Systems how.flow table how.by) result text.now (observed O.taken O.faults output.old output.new) (observed E.taken E.faults errors.old errors.new) }
 {
@@ -217,16 +215,14 @@ pub(crate) fn trial<R: Threads + Sync, O: Sink, E: Sink, G: Gate + Sync>(
     tunes: u32,
     flow: bool,
     even: bool,
-    jobs: u8,
+    jobs: Jobs,
     output: &mut O,
     errors: &mut E,
     gate: &G,
 ) -> Status
     requires some_tunes { 1 ≤ tunes }
     requires few_tunes { tunes ≤ 500 }
-    requires some { 1 ≤ jobs }
-    requires few { jobs ≤ 64 }
-    ensures { IsAnswer (Command.Trial tunes flow jobs even) result [] (observed O.taken O.faults output.old output.new) (observed E.taken E.faults errors.old errors.new) }
+    ensures { IsAnswer (Command.Trial tunes flow jobs.count even) result [] (observed O.taken O.faults output.old output.new) (observed E.taken E.faults errors.old errors.new) }
 {
     let Ok(text) = make(alloc, tunes) else {
         return Status::Memory;

@@ -8,6 +8,7 @@ ghost use Rattle.abcps.specs.{Outcome.{IsEnd, observed}, Pressed.{IsBegun, IsClo
 
 use crate::status::Status;
 use abc_header::Paper;
+use eng_halves::Jobs;
 use eng_io::Sink;
 use mus_units::{Memory, Text};
 use ps_text::Page;
@@ -93,14 +94,12 @@ fn write_pages<R: Threads + Sync, O: Sink>(
     rt: &R,
     alloc: Global,
     done: &[Page],
-    jobs: u8,
+    jobs: Jobs,
     writer: DocWriter,
     output: &mut O,
 ) -> Result<DocWriter, Status>
     requires good { All IsPage done.now }
     requires few { writer.pages + length done.now < 2 ^ 32 }
-    requires some_jobs { 1 ≤ jobs }
-    requires few_jobs { jobs ≤ 64 }
     ensures wrote { WasGiven (observed O.taken O.faults output.old output.new) (numbered page_text (writer.pages + 1) done.now) result }
     ensures count { IfOk result (λ next. next.pages ≡ writer.pages + length done.now) }
 {
@@ -113,13 +112,11 @@ pub(crate) fn write_done<R: Threads + Sync, O: Sink>(
     rt: &R,
     alloc: Global,
     run: Running,
-    jobs: u8,
+    jobs: Jobs,
     output: &mut O,
 ) -> Result<Running, Status>
     requires way { IsUnderWay run }
     requires open { IsOpen run.press }
-    requires some { 1 ≤ jobs }
-    requires few { jobs ≤ 64 }
     ensures wrote { WasGiven (observed O.taken O.faults output.old output.new) (numbered page_text (run.writer.pages + 1) (done_pages run.press)) result }
     ensures running { IfOk result (λ next. (plan : Plan) (paper : Paper) (outcomes : List Outcome) (given : List Page) → IsRunning plan paper outcomes given run → IsRunning plan paper outcomes (given ++ done_pages run.press) next) }
     ensures open { IfOk result (λ next. IsOpen next.press) }
@@ -140,13 +137,11 @@ pub(crate) fn end_run<R: Threads + Sync, O: Sink>(
     rt: &R,
     alloc: Global,
     run: Running,
-    jobs: u8,
+    jobs: Jobs,
     output: &mut O,
 ) -> Result<Printed, Status>
     requires way { IsUnderWay run }
     requires open { IsOpen run.press }
-    requires some { 1 ≤ jobs }
-    requires few { jobs ≤ 64 }
     ensures { (plan : Plan) (paper : Paper) (outcomes : List Outcome) (given : List Page) → IsGoodPaper paper → IsRunning plan paper outcomes given run → IsClosed plan paper outcomes given (observed O.taken O.faults output.old output.new) result }
 {
     let last = close_press(alloc, run.press)?;

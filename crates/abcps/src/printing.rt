@@ -1,7 +1,7 @@
 ghost use Rattle.std.specs.Prelude.{◌≤◌, ◌^◌, ◌++◌, Bool, List, All, IfOk, OnOk, length};
 ghost use Rattle.abc_lines.specs.{declared.book.TuneText.TuneText, Good.IsGoodTune};
 ghost use Rattle.abc_header.specs.{Good.IsGoodDefaults, Papers.{IsGoodPaper, height_of}};
-ghost use Rattle.set_tune.specs.Terms.{IsGoodHow, manner_of, terms_of};
+ghost use Rattle.set_tune.specs.Terms.{manner_of, terms_of};
 ghost use Rattle.set_book.specs.{declared.outcome.Outcome.Outcome, Outcomes.AreOutcomes};
 ghost use Rattle.set_pages.specs.{Drawings.all_blocks, Press.{HasRoom, IsOpen}};
 ghost use Rattle.abcps.specs.{Pressed.{AreGathered, ArePrinted, AreTaken, IsPlanned, IsPrinted}, Outcome.observed};
@@ -38,7 +38,6 @@ fn take_batch<R: Threads + Sync, G: Gate + Sync>(
     requires counted { All (λ tune. 1 ≤ tune.ordinal) batch.now }
     requires defaults { IsGoodDefaults defaults.now }
     requires paper { IsGoodPaper paper.now }
-    requires how { IsGoodHow how }
     requires open { IsOpen run.old.press }
     requires room { (outcomes : List Outcome) → AreOutcomes (terms_of defaults.now paper.now how) batch.now outcomes → HasRoom plan.now (height_of paper.now) run.old.press (all_blocks outcomes) }
     ensures taken { OnOk result (AreTaken (terms_of defaults.now paper.now how) plan.now batch.now run.old run.new) }
@@ -63,7 +62,6 @@ fn gather_batch<R: Threads + Sync, G: Gate + Sync>(
     requires counted { All (λ tune. 1 ≤ tune.ordinal) batch.now }
     requires defaults { IsGoodDefaults defaults.now }
     requires paper { IsGoodPaper paper.now }
-    requires how { IsGoodHow how }
     ensures { OnOk result ((before : List TuneText) → AreGathered (terms_of defaults.now paper.now how) before blocks.old → AreGathered (terms_of defaults.now paper.now how) (before ++ batch.now) blocks.new) }
 {
     let outcomes = set_tunes(rt, alloc, batch, defaults, paper, how, how.jobs, gate)?;
@@ -85,7 +83,6 @@ fn gather_tunes<R: Threads + Sync, G: Gate + Sync>(
     requires counted { All (λ tune. 1 ≤ tune.ordinal) tunes.now }
     requires defaults { IsGoodDefaults defaults.now }
     requires paper { IsGoodPaper paper.now }
-    requires how { IsGoodHow how }
     ensures { IfOk result (AreGathered (terms_of defaults.now paper.now how) tunes.now) }
 {
     let mut blocks = Row::new(alloc);
@@ -114,7 +111,6 @@ fn plan_tunes<R: Threads + Sync, G: Gate + Sync>(
     requires counted { All (λ tune. 1 ≤ tune.ordinal) tunes.now }
     requires defaults { IsGoodDefaults defaults.now }
     requires paper { IsGoodPaper paper.now }
-    requires how { IsGoodHow how }
     ensures { IfOk result (IsPlanned even (terms_of defaults.now paper.now how) tunes.now) }
 {
     if !even {
@@ -142,7 +138,6 @@ fn print_tunes<R: Threads + Sync, O: Sink, G: Gate + Sync>(
     requires counted { All (λ tune. 1 ≤ tune.ordinal) tunes.now }
     requires defaults { IsGoodDefaults defaults.now }
     requires paper { IsGoodPaper paper.now }
-    requires how { IsGoodHow how }
     requires planned { (even : Bool) × IsPlanned even (terms_of defaults.now paper.now how) tunes.now plan.now }
     ensures { ArePrinted (terms_of defaults.now paper.now how) plan.now tunes.now (observed O.taken O.faults output.old output.new) result }
 {
@@ -168,7 +163,6 @@ pub(crate) fn print_book<R: Threads + Sync, O: Sink, G: Gate + Sync>(
     output: &mut O,
     gate: &G,
 ) -> Result<Printed, Status>
-    requires how { IsGoodHow how }
     requires within { length text.now ≤ 2 ^ 30 }
     ensures { IsPrinted (manner_of how) even text.now (observed O.taken O.faults output.old output.new) result }
 {

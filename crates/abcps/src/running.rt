@@ -11,6 +11,7 @@ use crate::painting::paint;
 use crate::status::Status;
 use crate::telling::tell_usage;
 use abcps_words::{Command, asks_one, command_of};
+use eng_halves::Jobs;
 use eng_io::{ReadError, Sink, Source, read_all};
 use ps_machine::one_answer;
 use set_book::{Gate, one_outcome};
@@ -41,19 +42,13 @@ fn answer<R: Threads + Sync, O: Sink, E: Sink, G: Gate + Sync>(
             by,
             even,
         } => {
-            set(
-                rt,
-                alloc,
-                text,
-                How { flow, by, jobs },
-                even,
-                output,
-                errors,
-                gate,
-            )
+            let jobs = Jobs { count: jobs };
+            let how = How { flow, by, jobs };
+            set(rt, alloc, text, how, even, output, errors, gate)
         }
         Command::Systems { flow, table, by } => {
-            let how = How { flow, by, jobs: 1 };
+            let jobs = Jobs { count: 1 };
+            let how = How { flow, by, jobs };
             systems(rt, alloc, text, how, table, output, errors)
         }
         Command::Inspect => inspect(alloc, text, output, errors),
@@ -106,7 +101,10 @@ fn obey<R: Threads + Sync, S: Source, O: Sink, E: Sink, G: Gate + Sync>(
             flow,
             jobs,
             even,
-        } => trial(rt, alloc, tunes, flow, even, jobs, output, errors, gate),
+        } => {
+            let jobs = Jobs { count: jobs };
+            trial(rt, alloc, tunes, flow, even, jobs, output, errors, gate)
+        }
         _ => read_and_answer(rt, alloc, command, input, output, errors, gate),
     }
 }

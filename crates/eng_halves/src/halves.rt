@@ -1,5 +1,6 @@
 ghost use Rattle.std.specs.{Prelude.{◌≡◌, ◌++◌, ◌≤◌, IfOk, All}, List.AllZip, Thread.{IsSync, IsSend}};
 
+use crate::jobs::Jobs;
 use mus_units::{Memory, Row};
 use std::alloc::Global;
 use std::thread::{Threads, join};
@@ -15,17 +16,15 @@ pub trait Work<T, O> {
     // The outcomes that an item may have.
     ghost gives: { Self → T → O → Type 0 };
 
-    /// The outcome of the item, by 1 to 64 jobs. `Memory` alone comes in its place.
-    fn work(&self, item: &T, jobs: u8) -> Result<O, Memory>
+    /// The outcome of the item, by so many jobs. `Memory` alone comes in its place.
+    fn work(&self, item: &T, jobs: Jobs) -> Result<O, Memory>
         requires takes { takes self.now item.now }
-        requires some { 1 ≤ jobs }
-        requires few { jobs ≤ 64 }
         ensures { IfOk result (λ outcome. gives self.now item.now outcome) };
 }
 
 /// The outcomes of the work on the items, one for each item and in their order.
 ///
-/// `jobs` is 1 to 64. The items are halved, and the jobs with them, until a
+/// The items are halved, and the jobs with them, until a
 /// half has one job or one item; halves are worked on side by side where
 /// threads can be made, and each item by the jobs that are left for it.
 /// `Memory` comes where memory ran out in any half.
@@ -35,26 +34,28 @@ pub fn work_all<R: Threads + Sync, T: Sync, O: Send + Drop, W: Work<T, O> + Sync
     rt: &R,
     alloc: Global,
     items: &[T],
-    jobs: u8,
+    jobs: Jobs,
     work: &W,
 ) -> Result<Row<O>, Memory>
-    requires some { 1 ≤ jobs }
-    requires few { jobs ≤ 64 }
     requires takes { All (W.takes work.now) items.now }
     ensures { IfOk result (λ outcomes. AllZip (W.gives work.now) items.now outcomes) }
 {
-    if jobs == 1 || items.len() <= 1 {
+    if jobs.count == 1 || items.len() <= 1 {
         return work_in_turn(alloc, items, jobs, work);
     }
     let (low, high) = items.split_at(items.len() / 2);
-    let low_jobs = jobs / 2;
-    let high_jobs = jobs - low_jobs;
+    let low_jobs = Jobs {
+        count: jobs.count / 2,
+    };
+    let high_jobs = Jobs {
+        count: jobs.count - low_jobs.count,
+    };
     let low_half = || -> Result<Row<O>, Memory>
-        requires { IsSync R.row × IsSync T.row × IsSync W.row × IsSend O.row × (1 ≤ low_jobs) × (low_jobs ≤ 64) × All (W.takes work.now) low.now }
+        requires { IsSync R.row × IsSync T.row × IsSync W.row × IsSend O.row × All (W.takes work.now) low.now }
         ensures { IfOk result (λ outcomes. AllZip (W.gives work.entry.now) low.entry.now outcomes) }
     { work_all(rt, alloc, low, low_jobs, work) };
     let high_half = || -> Result<Row<O>, Memory>
-        requires { IsSync R.row × IsSync T.row × IsSync W.row × IsSend O.row × (1 ≤ high_jobs) × (high_jobs ≤ 64) × All (W.takes work.now) high.now }
+        requires { IsSync R.row × IsSync T.row × IsSync W.row × IsSend O.row × All (W.takes work.now) high.now }
         ensures { IfOk result (λ outcomes. AllZip (W.gives work.entry.now) high.entry.now outcomes) }
     { work_all(rt, alloc, high, high_jobs, work) };
     let (low_outcomes, high_outcomes) = join(rt, low_half, high_half);
@@ -76,11 +77,9 @@ fn appended<O: Drop>(first: Row<O>, second: Row<O>) -> Result<Row<O>, Memory>
 fn work_in_turn<T, O: Drop, W: Work<T, O>>(
     alloc: Global,
     items: &[T],
-    jobs: u8,
+    jobs: Jobs,
     work: &W,
 ) -> Result<Row<O>, Memory>
-    requires some { 1 ≤ jobs }
-    requires few { jobs ≤ 64 }
     requires takes { All (W.takes work.now) items.now }
     ensures { IfOk result (λ outcomes. AllZip (W.gives work.now) items.now outcomes) }
 {

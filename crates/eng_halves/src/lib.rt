@@ -6,5 +6,7 @@
 #![tactic(auto)]
 
 pub mod halves;
+pub mod jobs;
 
 pub use halves::{Work, work_all};
+pub use jobs::Jobs;

@@ -2,7 +2,7 @@ ghost use Rattle.std.specs.Prelude.{◌≡◌, ◌-◌, ◌<◌, ◌≤◌, ◌^
 ghost use Rattle.lay_rows.specs.Tables.{IsTable};
 
 use crate::rows::Rows;
-use eng_halves::{Work, work_all};
+use eng_halves::{Jobs, Work, work_all};
 use mus_units::{Memory, Row};
 use std::alloc::Global;
 use std::thread::Threads;
@@ -43,7 +43,7 @@ impl<'a, M: RowMaker> Work<u32, Row<u64>> for Making<'a, M> {
 
     ghost gives = { λ w a row. M.is_row w.maker.now a row };
 
-    fn work(&self, a: &u32, _jobs: u8) -> Result<Row<u64>, Memory> {
+    fn work(&self, a: &u32, _jobs: Jobs) -> Result<Row<u64>, Memory> {
         self.maker.costs_from(*a)
     }
 }
@@ -62,20 +62,18 @@ fn bars_below(alloc: Global, n: u32) -> Result<Row<u32>, Memory>
 
 /// The table of a maker of `n` rows, whatever the number of jobs.
 ///
-/// `jobs` is 1 to 64: the bars are halved, and the jobs with them, and the rows of
+/// The bars are halved, and the jobs with them, and the rows of
 /// the halves are made side by side where threads can be made.
 pub fn make_rows<R: Threads + Sync, M: RowMaker + Sync>(
     rt: &R,
     alloc: Global,
     maker: &M,
     n: u32,
-    jobs: u8,
+    jobs: Jobs,
 ) -> Result<Rows, Memory>
     requires bars { n ≡ M.bars maker.now }
     requires short { n ≤ 4000 }
     requires within { (a : ℕ) (row : List ℕ) → a < n → M.is_row maker.now a row → length row ≤ n - a }
-    requires some { 1 ≤ jobs }
-    requires few { jobs ≤ 64 }
     ensures { IfOk result (λ made. IsTable (M.is_row maker.now) n made.rows) }
 {
     let bars = bars_below(alloc, n)?;

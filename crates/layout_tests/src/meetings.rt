@@ -4,6 +4,7 @@ ghost use Rattle.std.specs.Prelude.{◌≡◌, ◌≤◌, ◌<◌, ◌∷◌, []
 ghost use Rattle.layout_tests.specs.Meeting.{one_row, row_small};
 
 use answer_texts::{end_line, put_count, put_word};
+use eng_halves::Jobs;
 use lay_rows::{RowMaker, make_rows};
 use mus_units::{Memory, Row, Text};
 use std::alloc::Global;
@@ -58,11 +59,9 @@ fn put_rows<R: Threads + Sync>(
     rt: &R,
     alloc: Global,
     out: &mut Text,
-    jobs: u8,
+    jobs: Jobs,
     turns: u32,
-) -> Result<(), Memory>
-    requires { (1 ≤ jobs) × (jobs ≤ 64) }
-{
+) -> Result<(), Memory> {
     let meeting = Meeting {
         alloc,
         turns,
@@ -89,6 +88,6 @@ pub(crate) fn put_meetings<R: Threads + Sync>(
     out: &mut Text,
 ) -> Result<(), Memory> {
     put_word(out, b"meetings\n")?;
-    put_rows(rt, alloc, out, 2, 200_000_000)?;
-    put_rows(rt, alloc, out, 1, 1000)
+    put_rows(rt, alloc, out, Jobs { count: 2 }, 200_000_000)?;
+    put_rows(rt, alloc, out, Jobs { count: 1 }, 1000)
 }

@@ -3,12 +3,15 @@ ghost use Rattle.ps_text.specs.{Document.body_text, Document.numbered, Document.
 ghost use Rattle.ps_write.specs.Written.{Counted, FitsAfter, IsNext, Wrote, headed_text};
 
 use crate::steps::{DocError, DocWriter, send};
-use eng_halves::{Work, work_all};
+use eng_halves::{Jobs, Work, work_all};
 use eng_io::Sink;
 use mus_units::{Memory, Row, Text};
 use ps_text::{Page, put_body, put_heading};
 use std::alloc::Global;
 use std::thread::Threads;
+
+/// Most pages have fewer bytes; room for so many is made at once.
+const BYTES_OF_PAGE: usize = 65_536;
 
 /// The making of what stands behind the headings of pages.
 #[derive(Drop)]
@@ -21,8 +24,9 @@ impl Work<Page, Text> for Making {
 
     ghost gives = { λ making p body. body ≡ body_text p };
 
-    fn work(&self, page: &Page, _jobs: u8) -> Result<Text, Memory> {
+    fn work(&self, page: &Page, _jobs: Jobs) -> Result<Text, Memory> {
         let mut body = Text::new(self.alloc);
+        body.bytes.reserve(BYTES_OF_PAGE)?;
         put_body(&mut body, page)?;
         Ok(body)
     }
@@ -33,11 +37,9 @@ fn bodies_of<R: Threads + Sync>(
     rt: &R,
     alloc: Global,
     pages: &[Page],
-    jobs: u8,
+    jobs: Jobs,
 ) -> Result<Row<Text>, Memory>
     requires good { All IsPage pages.now }
-    requires some { 1 ≤ jobs }
-    requires few { jobs ≤ 64 }
     ensures { IfOk result (λ bodies. bodies ≡ map body_text pages.now) }
 {
     let bodies = work_all(rt, alloc, pages, jobs, &Making { alloc })?;
@@ -65,12 +67,10 @@ fn pages_bytes<R: Threads + Sync>(
     alloc: Global,
     first: u64,
     pages: &[Page],
-    jobs: u8,
+    jobs: Jobs,
 ) -> Result<Text, Memory>
     requires good { All IsPage pages.now }
     requires few_pages { first + length pages.now < 2 ^ 64 }
-    requires some { 1 ≤ jobs }
-    requires few { jobs ≤ 64 }
     ensures { IfOk result (λ text. text ≡ numbered page_text first pages.now) }
 {
     let bodies = bodies_of(rt, alloc, pages, jobs)?;
@@ -79,20 +79,18 @@ fn pages_bytes<R: Threads + Sync>(
     Ok(text)
 }
 
-/// Writes the next pages, whose texts are made by all jobs, 1 to 64, and written in order. The last
+/// Writes the next pages, whose texts are made by all jobs and written in order. The last
 /// of them is one that a document can number.
 pub fn pages<R: Threads + Sync, O: Sink>(
     rt: &R,
     alloc: Global,
     w: DocWriter,
     pages: &[Page],
-    jobs: u8,
+    jobs: Jobs,
     sink: &mut O,
 ) -> Result<DocWriter, DocError>
     requires good { All IsPage pages.now }
     requires few_pages { w.pages + length pages.now < 2 ^ 32 }
-    requires some { 1 ≤ jobs }
-    requires few { jobs ≤ 64 }
     ensures wrote { Wrote (O.taken sink.old) (O.taken sink.new) (numbered page_text (w.pages + 1) pages.now) result }
     ensures counts { Counted (O.faults sink.old) (O.faults sink.new) result }
     ensures fits { FitsAfter w.written result }

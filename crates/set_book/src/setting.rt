@@ -8,7 +8,7 @@ use crate::gate::Gate;
 use crate::outcome::Outcome;
 use abc_header::{Defaults, Paper, read_defaults};
 use abc_lines::{Book, TuneError, TuneText};
-use eng_halves::{Work, work_all};
+use eng_halves::{Jobs, Work, work_all};
 use mus_units::{Memory, Row};
 use set_tune::{How, set_how};
 use std::alloc::Global;
@@ -30,7 +30,7 @@ impl<'a, R: Threads + Sync, G: Gate> Work<TuneText, Outcome> for Setting<'a, R, 
 
     ghost gives = { λ s tune outcome. IsOutcome (terms_of s.defaults.now s.paper.now s.how) tune outcome };
 
-    fn work(&self, tune: &TuneText, jobs: u8) -> Result<Outcome, Memory> {
+    fn work(&self, tune: &TuneText, jobs: Jobs) -> Result<Outcome, Memory> {
         self.gate.enter(tune.ordinal);
         let how = self.how.with_jobs(jobs);
         let result = match set_how(self.rt, self.alloc, tune, self.defaults, self.paper, how) {
@@ -48,7 +48,7 @@ impl<'a, R: Threads + Sync, G: Gate> Work<TuneText, Outcome> for Setting<'a, R, 
 /// What comes of some tunes of a book on paper, in their order, under the defaults of its file
 /// header, each set as `how` says.
 ///
-/// `jobs` is 1 to 64, and counts in place of those of `how`: the list of tunes is halved, and the jobs
+/// `jobs` counts in place of those of `how`: the list of tunes is halved, and the jobs
 /// with it, and the halves are set side by side where threads can be made; a tune is set by the jobs
 /// that are left for it. Each tune enters the gate once, before it is set.
 pub fn set_tunes<R: Threads + Sync, G: Gate + Sync>(
@@ -58,14 +58,12 @@ pub fn set_tunes<R: Threads + Sync, G: Gate + Sync>(
     defaults: &Defaults,
     paper: &Paper,
     how: How,
-    jobs: u8,
+    jobs: Jobs,
     gate: &G,
 ) -> Result<Row<Outcome>, Memory>
     requires tunes { All IsGoodTune tunes.now }
     requires defaults { IsGoodDefaults defaults.now }
     requires paper { IsGoodPaper paper.now }
-    requires some { 1 ≤ jobs }
-    requires few { jobs ≤ 64 }
     ensures { IfOk result (AreOutcomes (terms_of defaults.now paper.now how) tunes.now) }
 {
     let setting = Setting {
@@ -87,13 +85,11 @@ pub fn set_all<R: Threads + Sync, G: Gate + Sync>(
     book: &Book,
     paper: &Paper,
     how: How,
-    jobs: u8,
+    jobs: Jobs,
     gate: &G,
 ) -> Result<Row<Outcome>, Memory>
     requires book { IsGoodBook book.now }
     requires paper { IsGoodPaper paper.now }
-    requires some { 1 ≤ jobs }
-    requires few { jobs ≤ 64 }
     ensures { IfOk result (AreOutcomes (terms_of (defaults_of book.now.header) paper.now how) book.now.tunes) }
 {
     let defaults = read_defaults(alloc, book)?;

@@ -5,7 +5,7 @@ use Rattle.abc_header.specs.{declared.header.Header.Header, Papers.{height_of, w
 use Rattle.mus_score.specs.declared.score.Score.{Score}
 use Rattle.lay_pages.specs.{Titles.title_block_of, Filling.first_tall}
 use Rattle.lay_tune.specs.Layout.{IsNoWay}
-use Rattle.set_tune.specs.{Terms.Terms, declared.tune.SetTune.SetTune, Blocks.blocks_of, Setting.{HasScore, IsDrawn, IsDrawRefusal, IsFaultOfTune, IsLaid, IsLaidOut, IsLaidTune, IsLayoutRefusal, IsMoveRefusal, IsMovedRefusal, IsRefusal, IsScoreRefusal, IsTallRefusal, IsWritten, of_header, of_score, of_share, of_move, no_way, too_tall}}
+use Rattle.set_tune.specs.{Terms.Terms, declared.tune.SetTune.SetTune, Blocks.blocks_of, Setting.{HasScore, IsFaultOfTune, IsLaid, IsLaidOut, IsLaidTune, IsLayoutRefusal, IsMovedRefusal, IsRefusal, IsTallRefusal, of_header, of_score, of_share, of_move, no_way, too_tall}}
 
 pub none_some : {X : Type 0} (x : X) → None ≡ Some x → ⊥
 none_some x e = cc

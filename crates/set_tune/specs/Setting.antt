@@ -107,8 +107,8 @@ abbrev pub layout_fault : TuneText → FaultKind → Fault
 layout_fault tune kind = record { kind = kind; line = first_line tune.lines; column = 1 }
 
 -- The one fault of a tune, by stages: of its header; where that has none, of its body or its score; where the score has none,
--- that its voices can't share staves as they should; where they can, that it can't be moved; where it can, that no breaking is legal; and where one is, that a group of blocks is higher than the
--- page.
+-- that its voices can't share staves as they should; where they can, that it can't be moved; where it can, that no breaking is
+-- legal; and where one is, that a group of blocks is higher than the page.
 pub data IsFaultOfTune (tune : TuneText) (terms : Terms) : Fault → Type 0 where
   of_header : (fault : Fault) → header_fault tune ≡ Some fault → IsFaultOfTune tune terms fault
   of_score : (header : Header) (fault : Fault) → HasHeader tune terms.defaults header → IsFaultOf header tune (TuneError.Fault fault)

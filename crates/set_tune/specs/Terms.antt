@@ -1,6 +1,6 @@
 -- What a tune is set by: the defaults of its file, its paper, and the manner of setting. The number of jobs isn't part of it, so what
 -- is said of a tune that is set holds for any number of them.
-use Rattle.std.specs.Prelude.{ℕ, ◌≤◌, ℤ, pos, Bool}
+use Rattle.std.specs.Prelude.{ℤ, pos, Bool}
 use Rattle.abc_header.specs.declared.{defaults.Defaults.Defaults, paper.Paper.Paper}
 use Rattle.set_tune.specs.declared.how.How.{How}
 
@@ -29,13 +29,3 @@ terms_of defaults paper how = terms_by defaults paper (manner_of how)
 -- as it is written
 abbrev pub unmoved : Bool → Manner
 unmoved flow = manner_by flow (pos 0)
-
-abbrev pub with_jobs : ℕ → How → How
-with_jobs jobs how = record { flow = how.flow; by = how.by; jobs = jobs }
-
-abbrev pub as_written : Bool → How
-as_written flow = record { flow = flow; by = pos 0; jobs = 1 }
-
--- there are 1 to 64 jobs
-abbrev pub IsGoodHow : How → Type 0
-IsGoodHow how = (1 ≤ how.jobs) × (how.jobs ≤ 64)

@@ -4,7 +4,7 @@ ghost use Rattle.abc_lines.specs.Good.{IsGoodTune};
 ghost use Rattle.abc_lines.specs.declared.fault.TuneError.TheVariants as errors;
 ghost use Rattle.abc_header.specs.{Good.IsGoodDefaults, Headers.first_line, Papers.{IsGoodPaper, height_of, width_of}};
 ghost use Rattle.lay_pages.specs.{Filling.first_tall, Titles.title_block_of};
-ghost use Rattle.set_tune.specs.{Blocks.blocks_of, Setting.{HasScore, IsDrawn, IsDrawRefusal, IsLaid, IsLaidOut, IsLayoutRefusal, IsMoveRefusal, IsMovedRefusal, IsRefusal, IsScoreRefusal, IsSetTune, IsTallRefusal, IsWritten, layout_fault, share_fault}, Terms.{IsGoodHow, manner_of, terms_by, terms_of, unmoved}};
+ghost use Rattle.set_tune.specs.{Blocks.blocks_of, Setting.{HasScore, IsDrawn, IsDrawRefusal, IsLaid, IsLaidOut, IsLayoutRefusal, IsMoveRefusal, IsMovedRefusal, IsRefusal, IsScoreRefusal, IsSetTune, IsTallRefusal, IsWritten, layout_fault, share_fault}, Terms.{manner_of, terms_by, terms_of, unmoved}};
 ghost use Rattle.lay_shared.specs.{Plans.{IsPlanFor, Spells, ids_of}, declared.plan.Plan.Plan};
 ghost use Rattle.mus_transpose.specs.Moved.{IsMoved};
 ghost use Rattle.mus_drawn.specs.Sounds.{sounds_of};
@@ -16,6 +16,7 @@ use crate::tune::SetTune;
 use abc_header::{Defaults, Header, Paper, body_of, read_header};
 use abc_lines::{Fault, FaultKind, Line, TuneError, TuneText};
 use abc_score::build;
+use eng_halves::Jobs;
 use lay_pages::{PageError, TitleBlock, fill, title_block};
 use lay_shared::{Plan, drawn, ids_of, read_plan, shared};
 use lay_tune::{Layout, LayoutError, lay_out};
@@ -63,7 +64,6 @@ pub fn set_how<R: Threads + Sync>(
     requires tune { IsGoodTune tune.now }
     requires defaults { IsGoodDefaults defaults.now }
     requires paper { IsGoodPaper paper.now }
-    requires how { IsGoodHow how }
     ensures set { IfOk result (IsSetTune tune.now (terms_of defaults.now paper.now how)) }
     ensures fault { IfErr result (IsRefusal tune.now (terms_of defaults.now paper.now how)) }
 {
@@ -243,10 +243,8 @@ fn lay<R: Threads + Sync>(
     width: u32,
     header: Header,
     score: Score,
-    jobs: u8,
+    jobs: Jobs,
 ) -> Result<SetTune, TuneError>
-    requires some { 1 ≤ jobs }
-    requires few { jobs ≤ 64 }
     requires titles { length header.titles ≤ 2 ^ 32 }
     requires composers { length header.composers ≤ 2 ^ 32 }
     requires good { IsGoodScore score }

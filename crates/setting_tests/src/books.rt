@@ -6,6 +6,7 @@ use answer_texts::{
     count_at, end_line, numbers_of, put_breaking, put_count, put_number, put_numbers, put_placed,
     put_spans, put_word,
 };
+use eng_halves::Jobs;
 use lay_pages::TitleBlock;
 use mus_units::{Memory, Size, Text};
 use set_book::{Open, Outcome, set_all};
@@ -95,7 +96,15 @@ pub(crate) fn put_book<R: Threads + Sync>(
     put_word(out, b"body")?;
     put_numbers(out, &[i64::from(width), i64::from(height)])?;
     end_line(out)?;
-    let outcomes = set_all(rt, alloc, &book, &paper, How::unmoved(false), jobs, &Open)?;
+    let outcomes = set_all(
+        rt,
+        alloc,
+        &book,
+        &paper,
+        How::unmoved(false),
+        Jobs { count: jobs },
+        &Open,
+    )?;
     outcomes_are_listable();
     put_outcomes(out, outcomes.as_slice())?;
     put_counts(out, outcomes.as_slice())?;

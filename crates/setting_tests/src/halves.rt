@@ -1,9 +1,9 @@
 //! Work on items by halves.
 
-ghost use Rattle.std.specs.Prelude.{◌≡◌, ◌++◌, ◌*◌, ◌<◌, ◌≤◌, ⊤};
+ghost use Rattle.std.specs.Prelude.{◌≡◌, ◌*◌, ◌<◌, ◌≤◌, ⊤};
 
 use answer_texts::{count_at, end_line, number_at, numbers_of, put_count, put_word};
-use eng_halves::{Work, work_all};
+use eng_halves::{Jobs, Work, work_all};
 use mus_units::{Memory, Row, Text};
 use std::alloc::Global;
 use std::sync::atomic::AtomicU64;
@@ -19,28 +19,9 @@ impl Work<u32, u64> for Squares {
 
     ghost gives = { λ _ number square. square ≡ number * number };
 
-    fn work(&self, number: &u32, _jobs: u8) -> Result<u64, Memory> {
+    fn work(&self, number: &u32, _jobs: Jobs) -> Result<u64, Memory> {
         let number = u64::from(*number);
         Ok(number * number)
-    }
-}
-
-/// Writes a name before a text.
-#[derive(Drop)]
-struct Labels<'a> {
-    alloc: Global,
-    name: &'a [u8],
-}
-
-impl<'a> Work<Text, Text> for Labels<'a> {
-    ghost takes = { λ _ _. ⊤ };
-
-    ghost gives = { λ labels text label. label ≡ labels.name.now ++ text };
-
-    fn work(&self, text: &Text, _jobs: u8) -> Result<Text, Memory> {
-        let mut label = Text::from_slice(self.alloc, self.name)?;
-        label.append(text.as_slice())?;
-        Ok(label)
     }
 }
 
@@ -56,7 +37,7 @@ impl Work<usize, usize> for Counted {
 
     ghost gives = { λ _ item outcome. outcome ≡ item };
 
-    fn work(&self, item: &usize, _jobs: u8) -> Result<usize, Memory> {
+    fn work(&self, item: &usize, _jobs: Jobs) -> Result<usize, Memory> {
         if self.without == *item {
             return Err(Memory);
         }
@@ -69,11 +50,9 @@ fn put_squares<R: Threads + Sync>(
     rt: &R,
     alloc: Global,
     out: &mut Text,
-    jobs: u8,
+    jobs: Jobs,
     text: &str,
-) -> Result<(), Memory>
-    requires { (1 ≤ jobs) × (jobs ≤ 64) }
-{
+) -> Result<(), Memory> {
     let mut numbers = Row::new(alloc);
     for number in numbers_of(alloc, text)?.as_slice() {
         numbers.push(u32::try_from(*number).unwrap_or(0))?;
@@ -85,42 +64,15 @@ fn put_squares<R: Threads + Sync>(
     end_line(out)
 }
 
-fn put_labels<R: Threads + Sync>(
-    rt: &R,
-    alloc: Global,
-    out: &mut Text,
-    jobs: u8,
-    text: &str,
-) -> Result<(), Memory>
-    requires { (1 ≤ jobs) × (jobs ≤ 64) }
-{
-    let mut texts = Row::new(alloc);
-    for line in text.lines() {
-        texts.push(Text::from_slice(alloc, line.as_bytes())?)?;
-    }
-    let labels = Labels {
-        alloc,
-        name: b"no. ",
-    };
-    let labelled = work_all(rt, alloc, texts.as_slice(), jobs, &labels)?;
-    for label in labelled.as_slice() {
-        put_word(out, label.as_slice())?;
-        end_line(out)?;
-    }
-    Ok(())
-}
-
 /// The outcomes for four items, and how often each was worked on; or that memory is short, where it is so for
 /// the item of a number.
 fn put_counted<R: Threads + Sync>(
     rt: &R,
     alloc: Global,
     out: &mut Text,
-    jobs: u8,
+    jobs: Jobs,
     without: usize,
-) -> Result<(), Memory>
-    requires { (1 ≤ jobs) × (jobs ≤ 64) }
-{
+) -> Result<(), Memory> {
     let counted = Counted {
         calls: [
             AtomicU64::new(0),
@@ -145,7 +97,7 @@ fn put_counted<R: Threads + Sync>(
     end_line(out)
 }
 
-/// The value of a call on items by a number of jobs: `squares J`, `labels J`, and `counted J K`, where memory is
+/// The value of a call on items by a number of jobs: `squares J`, and `counted J K`, where memory is
 /// short for item K.
 pub(crate) fn put_halves<R: Threads + Sync>(
     rt: &R,
@@ -160,9 +112,9 @@ pub(crate) fn put_halves<R: Threads + Sync>(
     if jobs < 1 || jobs > 64 {
         return put_word(out, b"no jobs\n");
     }
+    let jobs = Jobs { count: jobs };
     match name {
         b"squares" => put_squares(rt, alloc, out, jobs, text),
-        b"labels" => put_labels(rt, alloc, out, jobs, text),
         _ => {
             let without = usize::try_from(number_at(&numbers, 1)).unwrap_or(4);
             put_counted(rt, alloc, out, jobs, without)

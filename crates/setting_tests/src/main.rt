@@ -2,8 +2,8 @@
 //! as text.
 //!
 //! A case is a line with the name of a call and its words, and the text that it is made of; an empty line ends it.
-//! The answer stands behind the line of the call. `book J` has a book set by a number of jobs; `squares J`,
-//! `labels J` and `counted J K` have work on items, the last with memory short for item K.
+//! The answer stands behind the line of the call. `book J` has a book set by a number of jobs; `squares J`
+//! and `counted J K` have work on items, the second with memory short for item K.
 #![tactic(auto)]
 
 mod books;

@@ -1,11 +1,11 @@
 //! Two that wait for each other, which is in vain unless they are worked on side by side.
 
-ghost use Rattle.std.specs.Prelude.{◌≤◌, ◌<◌, ⊤};
+ghost use Rattle.std.specs.Prelude.{◌<◌};
 
 use abc_header::read_paper;
 use abc_lines::cut_book;
 use answer_texts::{end_line, put_count, put_word};
-use eng_halves::{Work, work_all};
+use eng_halves::Jobs;
 use mus_units::{Memory, Text};
 use set_book::{Gate, set_all};
 use set_tune::How;
@@ -45,17 +45,6 @@ impl Meeting {
     }
 }
 
-impl Work<usize, usize> for Meeting {
-    ghost takes = { λ _ guest. guest < 2 };
-
-    ghost gives = { λ _ _ _. ⊤ };
-
-    fn work(&self, guest: &usize, _jobs: u8) -> Result<usize, Memory> {
-        self.wait(*guest);
-        Ok(*guest)
-    }
-}
-
 impl Gate for Meeting {
     fn enter(&self, tune: u32) {
         self.wait((tune % 2) as usize);
@@ -69,47 +58,38 @@ fn put_met(out: &mut Text, meeting: &Meeting) -> Result<(), Memory> {
     end_line(out)
 }
 
-/// Two guests by a number of jobs.
-fn put_guests<R: Threads + Sync>(
-    rt: &R,
-    alloc: Global,
-    out: &mut Text,
-    jobs: u8,
-    turns: u32,
-) -> Result<(), Memory>
-    requires { (1 ≤ jobs) × (jobs ≤ 64) }
-{
-    let guests: [usize; 2] = [0, 1];
-    let meeting = make_meeting(turns);
-    let came = work_all(rt, alloc, &guests, jobs, &meeting)?;
-    put_count(out, came.len() as u64)?;
-    put_met(out, &meeting)
-}
-
-/// Two tunes at a gate, by two jobs.
+/// Two tunes at a gate by a number of jobs.
 fn put_gate<R: Threads + Sync>(
     rt: &R,
     alloc: Global,
     out: &mut Text,
+    jobs: Jobs,
     turns: u32,
 ) -> Result<(), Memory> {
     let book = cut_book(alloc, b"X:1\nK:C\nc|\n\nX:2\nK:C\nd|\n")?;
     let paper = read_paper(&book);
     let meeting = make_meeting(turns);
-    let outcomes = set_all(rt, alloc, &book, &paper, How::unmoved(false), 2, &meeting)?;
+    let outcomes = set_all(
+        rt,
+        alloc,
+        &book,
+        &paper,
+        How::unmoved(false),
+        jobs,
+        &meeting,
+    )?;
     put_count(out, outcomes.len() as u64)?;
     put_met(out, &meeting)
 }
 
-/// Adds whether guests meet by two jobs and by one, and whether two tunes meet at a gate. By one job the first
-/// waits in vain, and the second finds that the first was there.
+/// Adds whether two tunes meet at a gate by two jobs and by one. By one job the first waits in vain, and the
+/// second finds that the first was there.
 pub(crate) fn put_meetings<R: Threads + Sync>(
     rt: &R,
     alloc: Global,
     out: &mut Text,
 ) -> Result<(), Memory> {
     put_word(out, b"meetings\n")?;
-    put_guests(rt, alloc, out, 2, 200_000_000)?;
-    put_guests(rt, alloc, out, 1, 1000)?;
-    put_gate(rt, alloc, out, 200_000_000)
+    put_gate(rt, alloc, out, Jobs { count: 2 }, 200_000_000)?;
+    put_gate(rt, alloc, out, Jobs { count: 1 }, 1000)
 }

@@ -1,6 +1,5 @@
 use Rattle.set_tune.specs.Terms.{terms_of}
-use Rattle.std.{proofs.Common.{sym, subst}, specs.Prelude.All}
-use Rattle.set_pages.{specs.Ready.IsWhole, proofs.Readying.all_whole}
+use Rattle.set_pages.{proofs.Readying.all_whole}
 use Rattle.abcps.proofs.{Batches.batch_set, Gathered.gathered_more}
 use Rattle.abcps.proofs.printing.gather_batch.Goals as goal
 

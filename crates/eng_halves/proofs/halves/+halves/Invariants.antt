@@ -3,10 +3,10 @@ use Rattle.eng_halves.proofs.halves.+halves.Given as goal
 
 -- each half has fewer jobs than the whole
 abbrev pub decreases-work_all : goal.decreases-work_all
-decreases-work_all g l = 2 * l.jobs
+decreases-work_all g l = 2 * l.jobs.count
 
 abbrev pub decreases-low_half : goal.decreases-low_half
-decreases-low_half g l = 2 * l.low_jobs + 1
+decreases-low_half g l = 2 * l.low_jobs.count + 1
 
 abbrev pub decreases-high_half : goal.decreases-high_half
-decreases-high_half g l = 2 * l.high_jobs + 1
+decreases-high_half g l = 2 * l.high_jobs.count + 1
