@@ -42,7 +42,7 @@ pub fn read_front(alloc: Global, line: &Line, bang: bool) -> Result<Front, Memor
     ensures good { IfOk result (λ front. AreGoodTokens front.tokens) }
 {
     let text = line.text.as_slice();
-    let mut out = room_for_tokens(alloc, text.len())?;
+    let mut out = Row::with_room(alloc, text.len().min(64))?;
     let mut rest = text;
     let mut before = Before::Other;
     let mut at = 0;
@@ -63,15 +63,6 @@ pub fn read_front(alloc: Global, line: &Line, bang: bool) -> Result<Front, Memor
     Ok(Front {
         tokens: out,
         fault: None,
-    })
-}
-
-/// No tokens yet, with room for those of a line of so many bytes that isn't long.
-fn room_for_tokens(alloc: Global, bytes: usize) -> Result<Row<Placed>, Memory>
-    ensures { IfOk result (λ tokens. tokens ≡ []) }
-{
-    Ok(Row {
-        items: Vec::with_capacity(alloc, bytes.min(64))?,
     })
 }
 

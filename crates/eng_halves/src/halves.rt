@@ -59,17 +59,9 @@ pub fn work_all<R: Threads + Sync, T: Sync, O: Send + Drop, W: Work<T, O> + Sync
         ensures { IfOk result (λ outcomes. AllZip (W.gives work.entry.now) high.entry.now outcomes) }
     { work_all(rt, alloc, high, high_jobs, work) };
     let (low_outcomes, high_outcomes) = join(rt, low_half, high_half);
-    appended(low_outcomes?, high_outcomes?)
-}
-
-/// The values of both rows, those of the first before those of the second.
-fn appended<O: Drop>(first: Row<O>, second: Row<O>) -> Result<Row<O>, Memory>
-    ensures { IfOk result (λ both. both ≡ first ++ second) }
-{
-    let mut both = first;
-    let mut rest = second;
-    both.items.append(&mut rest.items)?;
-    Ok(both)
+    let mut outcomes = low_outcomes?;
+    outcomes.append(high_outcomes?)?;
+    Ok(outcomes)
 }
 
 /// The outcomes of the work on each item by so many jobs, one item after another.

@@ -6,6 +6,7 @@
 #![tactic(auto)]
 
 pub mod bytes;
+pub mod few;
 pub mod glyph;
 pub mod key;
 pub mod note;
@@ -14,6 +15,7 @@ pub mod pitch;
 pub mod text;
 pub mod value;
 
+pub use few::Few;
 pub use glyph::{Glyph, Size, Way};
 pub use key::{Key, Meter, Sign, Spread, copy_optional_key};
 pub use note::{Bar, Deco, Head, Wish, copy_decos, put_decos};

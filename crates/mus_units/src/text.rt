@@ -149,6 +149,15 @@ impl<T> Row<T> {
         }
     }
 
+    /// The empty row, with room for so many values.
+    pub fn with_room(alloc: Global, room: usize) -> Result<Row<T>, Memory>
+        ensures { IfOk result (λ row. row ≡ []) }
+    {
+        Ok(Row {
+            items: Vec::with_capacity(alloc, room)?,
+        })
+    }
+
     /// How many there are.
     pub fn len(&self) -> usize
         ensures { result ≡ length self.now }
@@ -208,6 +217,17 @@ impl<T> Row<T> {
         ensures err { OnErr result (self.new ≡ self.old) }
     {
         self.items.push(item)?;
+        Ok(())
+    }
+
+    /// Moves the values of another row to its end.
+    pub fn append(&mut self, more: Row<T>) -> Result<(), Memory>
+    where
+        T: Drop,
+        ensures { OnOk result (self.new ≡ self.old ++ more) }
+    {
+        let mut items = more.items;
+        self.items.append(&mut items)?;
         Ok(())
     }
 }

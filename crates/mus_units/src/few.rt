@@ -1,0 +1,94 @@
+ghost use Rattle.std.specs.Prelude.{◌≡◌, ◌∷◌, ◌++◌, [], IfOk, OnOk};
+
+use crate::text::{Memory, Row};
+use std::alloc::Global;
+use std::marker::Model;
+
+/// Where some values stand: a single one in place, others in a row.
+#[derive(Drop)]
+enum Held<T> {
+    One([T; 1]),
+    Row(Row<T>),
+}
+
+/// A list of values, which contracts see as a list. A single one takes no memory.
+#[derive(Drop)]
+pub struct Few<T> {
+    held: Held<T>,
+}
+
+impl<T> Model for Few<T> {
+    ghost use Rattle.std.specs.Prelude.{List};
+    ghost use Rattle.std.specs.Coded.{coded_list};
+
+    ghost Value = { List T };
+
+    ghost coded = { coded_list T.code };
+
+    ghost use Rattle.mus_units.specs.Few.{all_held};
+
+    ghost view = { λ f. all_held f.held };
+}
+
+impl<T> Few<T> {
+    /// A single one.
+    pub fn one(value: T) -> Few<T>
+        ensures { result ≡ value ∷ [] }
+    {
+        Few {
+            held: Held::One([value]),
+        }
+    }
+
+    /// All of them, as a slice.
+    pub fn as_slice(&self) -> &[T]
+        ensures { result.now ≡ self.now }
+    {
+        match &self.held {
+            Held::One(values) => values,
+            Held::Row(values) => values.as_slice(),
+        }
+    }
+
+    /// Moves all of them to the end of a row.
+    pub fn move_to(self, row: &mut Row<T>) -> Result<(), Memory>
+    where
+        T: Drop,
+        ensures { OnOk result (row.new ≡ row.old ++ self) }
+    {
+        match self.held {
+            Held::One(values) => row.push(only(values)),
+            Held::Row(values) => row.append(values),
+        }
+    }
+}
+
+/// The one value of an array.
+fn only<T: Drop>(values: [T; 1]) -> T
+    ensures { values ≡ result ∷ [] }
+{
+    let [value] = values;
+    value
+}
+
+impl<T: Copy> Few<T> {
+    /// The same values.
+    pub fn copy(&self, alloc: Global) -> Result<Few<T>, Memory>
+        ensures { IfOk result (λ it. it ≡ self.now) }
+    {
+        match &self.held {
+            Held::One([value]) => Ok(Few::one(*value)),
+            Held::Row(values) => Ok(Few::from(values.copy(alloc)?)),
+        }
+    }
+}
+
+impl<T> From<Row<T>> for Few<T> {
+    ghost from_gives = { λ row few. few ≡ row };
+
+    fn from(values: Row<T>) -> Few<T> {
+        Few {
+            held: Held::Row(values),
+        }
+    }
+}
