@@ -1,14 +1,27 @@
--- Where no step and no decoration waits for an event, nothing does.
-use Rattle.std.{proofs.Common.◌≡◌, proofs.Common.◌∙◌, proofs.Common.refl, proofs.Common.sym, proofs.Common.ap, proofs.Common.List, proofs.Common.[], proofs.Common.true, proofs.Common.length, specs.Prelude.◌==◌, specs.Prelude.◌&&◌, proofs.lemmas.Bool.and_parts}
+-- Where no step that waits for an event says something of it, nothing waits for it.
+use Rattle.std.{proofs.Common.◌≡◌, proofs.Common.◌∙◌, proofs.Common.refl, proofs.Common.sym, proofs.Common.ap, proofs.Common.ℕ, proofs.Common.List, proofs.Common.[], proofs.Common.◌∷◌, proofs.Common.true, proofs.Common.false, proofs.Common.length, specs.Prelude.◌==◌, specs.List.list_any, proofs.lemmas.Bool.or_parts}
 use Rattle.mus_units.specs.declared.note.Deco.{Deco}
-use Rattle.abc_steps.{specs.declared.force.InForce.InForce, specs.Looks.Steps, specs.Force.changes_at, proofs.Between.is_none}
-use Rattle.abc_events.specs.Waits.{nothing, waiting_of}
+use Rattle.abc_steps.proofs.Between.{is_none}
+use Rattle.abc_steps.specs.{declared.force.InForce.InForce, declared.step.Step.Step, declared.step.Stood.Stood, Looks.Steps, Force.{changes_at, names_key, names_clef, names_meter}}
+use Rattle.abc_events.specs.Waits.{decos_in, mentions_in, graces_in, has_slash, ending_behind, tells, nothing, waiting_of}
 
-none_waits : (now : InForce) → nothing ≡ waiting_of now [] []
+step_idle : (now : InForce) (s : Step) (line column : ℕ) (waits : Steps) → tells s ≡ false → waiting_of now waits [] ≡ waiting_of now (record { step = s; line = line; column = column } ∷ waits) []
+unfolding waiting_of changes_at tells decos_in mentions_in graces_in has_slash ending_behind names_key names_clef names_meter
+step_idle now (Step.Grace slash body) line column waits e = absurd cc
+step_idle now (Step.Ending text) line column waits e = absurd cc
+step_idle now (Step.Deco deco) line column waits e = absurd cc
+step_idle now (Step.Says text) line column waits e = absurd cc
+step_idle now (Step.Key text) line column waits e = absurd cc
+step_idle now (Step.Meter meter) line column waits e = absurd cc
+step_idle now (Step.Clef clef) line column waits e = absurd cc
+step_idle now _ line column waits e = refl
+
+all_idle : (now : InForce) (waits : Steps) → list_any (λ (s : Stood). tells s.step) waits ≡ false → nothing ≡ waiting_of now waits []
 unfolding waiting_of changes_at
-none_waits now = refl
+all_idle now [] e = refl
+all_idle now (s ∷ waits) e =
+    let both = or_parts (tells s.step) (list_any (λ (s : Stood). tells s.step) waits) e in
+    all_idle now waits both.1 ∙ step_idle now s.step s.line s.column waits both.0
 
-pub nothing_for : (now : InForce) (waits : Steps) (inside : List Deco) → (length waits == 0 && length inside == 0) ≡ true → nothing ≡ waiting_of now waits inside
-nothing_for now waits inside e =
-    let both = and_parts (length waits == 0) (length inside == 0) e in
-    none_waits now ∙ ap (λ ws. waiting_of now ws []) (sym (is_none waits both.0)) ∙ ap (waiting_of now waits) (sym (is_none inside both.1))
+pub nothing_for : (now : InForce) (waits : Steps) (inside : List Deco) → (length inside == 0) ≡ true → list_any (λ (s : Stood). tells s.step) waits ≡ false → nothing ≡ waiting_of now waits inside
+nothing_for now waits inside none idle = all_idle now waits idle ∙ ap (waiting_of now waits) (sym (is_none inside none))

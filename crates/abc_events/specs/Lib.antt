@@ -4,3 +4,4 @@ pub mod Measures
 pub mod Nesting
 pub mod Signs
 pub mod Waits
+pub mod Held

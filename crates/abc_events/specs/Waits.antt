@@ -53,6 +53,17 @@ waiting_of now waits inside = record {
   slash = list_any (λ s. has_slash s.step) waits;
 }
 
+-- whether a step says something of the event behind it
+unfoldable pub tells : Step → Bool
+tells (Step.Grace slash body) = true
+tells (Step.Ending text) = true
+tells (Step.Deco deco) = true
+tells (Step.Says text) = true
+tells (Step.Key text) = true
+tells (Step.Meter meter) = true
+tells (Step.Clef clef) = true
+tells _ = false
+
 abbrev pub no_changes : Changes
 no_changes = record { clef = None; key = None; meter = None }
 

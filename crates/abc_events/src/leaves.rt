@@ -4,11 +4,10 @@ ghost use Rattle.abc_events.specs.{declared.written.Sign.Sign, Signs.IsDrawn, Le
 
 use crate::reading::with_ties;
 use crate::waits::no_changes;
-use crate::written::{Sign, Waiting, Written};
-use abc_steps::Few;
+use crate::written::{Sign, Waiting, Waits, Written};
 use abc_tokens::GraceChord;
 use mus_score::{Event, Look, Music};
-use mus_units::{Base, Head, Memory, Row, Text, Value, copy_optional_texts, ticks_of};
+use mus_units::{Base, Few, Head, Memory, Row, Text, Value, copy_optional_texts, ticks_of};
 use std::alloc::Global;
 
 /// What the tree of a measure is made of: the nodes of a written event, or a
@@ -264,15 +263,6 @@ fn grace_notes(alloc: Global, graces: &[GraceChord]) -> Result<Row<Music>, Memor
     Ok(notes)
 }
 
-/// No nodes yet, with room for so many.
-pub fn room_for_nodes(alloc: Global, count: usize) -> Result<Row<Music>, Memory>
-    ensures { IfOk result (λ r. r ≡ []) }
-{
-    Ok(Row {
-        items: Vec::with_capacity(alloc, count)?,
-    })
-}
-
 /// The group of the graces that waited, where there is one.
 fn grace_nodes(alloc: Global, graces: &[GraceChord], slash: bool) -> Result<Row<Music>, Memory>
     ensures { IfOk result (λ r. r ≡ grace_nodes graces.now slash) }
@@ -328,13 +318,14 @@ fn part_nodes(
 fn nodes_of(
     alloc: Global,
     w: Written,
-    waiting: Waiting,
+    waits: Waits,
     words: Row<Option<Text>>,
     id: u32,
 ) -> Result<Few<Music>, Memory>
     requires { All (λ v. v.dots ≤ 3) w.values }
-    ensures { IfOk result (λ r. r ≡ nodes_of w waiting words id) }
+    ensures { IfOk result (λ r. r ≡ nodes_of w waits words id) }
 {
+    let waiting = waits.whole(alloc);
     match waiting.graces.as_slice() {
         [] => part_nodes(alloc, w, waiting, words, id),
         graces => {
@@ -345,21 +336,12 @@ fn nodes_of(
     }
 }
 
-fn next_event(event: usize) -> Result<usize, Memory>
-    ensures { IfOk result (λ next. next ≡ event + 1) }
-{
-    match event.checked_add(1) {
-        Some(next) => Ok(next),
-        None => Err(Memory),
-    }
-}
-
 /// The leaf of a written event.
 fn event_leaf(
     alloc: Global,
     at: &mut Numbers,
     w: Written,
-    waiting: Waiting,
+    waiting: Waits,
     words: &[Row<Option<Text>>],
 ) -> Result<Leaf, Memory>
     requires { All (λ v. v.dots ≤ 3) w.values }
@@ -371,7 +353,7 @@ fn event_leaf(
     let sung = words_at(alloc, words, at.event)?;
     let id = id_behind(at.id, w.values.as_slice().len())?;
     let nodes = nodes_of(alloc, w, waiting, sung, at.id)?;
-    at.event = next_event(at.event)?;
+    at.event = at.event.checked_add(1).ok_or(Memory)?;
     at.id = id;
     Ok(Leaf::Event { measure, nodes })
 }

@@ -24,9 +24,7 @@ fn empty_rows(alloc: Global, n: usize, room: usize) -> Result<Vec<Row<Leaf>>, Me
 {
     let mut rows = Vec::with_capacity(alloc, n)?;
     for k in 0..n {
-        rows.push(Row {
-            items: Vec::with_capacity(alloc, room)?,
-        })?;
+        rows.push(Row::with_room(alloc, room)?)?;
     }
     Ok(rows)
 }

@@ -3,10 +3,9 @@ ghost use Rattle.mus_score.specs.declared.score.Music.TheVariants as music;
 ghost use Rattle.abc_events.specs.declared.leaves.Leaf.TheVariants as leaf;
 ghost use Rattle.abc_events.specs.Nesting.{tree_of, Puts, IsReady, one, whole, none_more, put_in_front};
 
-use crate::leaves::{Leaf, room_for_nodes};
-use abc_steps::Few;
+use crate::leaves::Leaf;
 use mus_score::Music;
-use mus_units::{Memory, Row};
+use mus_units::{Few, Memory, Row};
 use smallvec::SmallVec;
 use std::alloc::Global;
 use std::default::MadeWith;
@@ -172,7 +171,7 @@ pub fn tree_of(alloc: Global, leaves: Row<Leaf>) -> Result<Row<Music>, Memory>
     ensures { IfOk result (λ r. r ≡ tree_of leaves) }
 {
     let mut stack = SmallVec::new(alloc);
-    let mut body = room_for_nodes(alloc, leaves.len())?;
+    let mut body = Row::with_room(alloc, leaves.len())?;
     for l in leaves.items {
         put_leaf(alloc, &mut stack, &mut body, l)?;
     }

@@ -3,17 +3,17 @@ ghost use Rattle.mus_units.specs.{Parts.parts_list, Good.IsGoodMeter};
 ghost use Rattle.abc_steps.specs.{Looks.since_event, Looks.slurs_begun, Looks.slurs_ended, Lengths.IsLength, Good.IsGoodForce, Good.IsGoodStood, Good.IsGoodStep, Good.IsGoodSound};
 ghost use Rattle.abc_events.specs.Signs.{with_tie, tied_heads, for_note, look_of, whole_look, parted_at, sound_written, whole_value, rest_written, further_rests, rests_of, tuplet_of, signs_of, signs, IsDrawn};
 
-use crate::waits::{nothing, waiting_of};
-use crate::written::{Sign, Written};
+use crate::waits::waiting_of;
+use crate::written::{Sign, Waits, Written};
 use abc_steps::force::meter_ticks;
 use abc_steps::kinds::is_event;
 use abc_steps::lengths::{parts_in, written_length};
 use abc_steps::looks::{has_parting, is_tied, since_event, slurs_begun, slurs_ended};
 use abc_steps::place::{Place, beginning, measure_of, step_over};
 use abc_steps::tuplets::{fits, or_default, usual_q};
-use abc_steps::{Few, InForce, Sound, Step, Stood};
+use abc_steps::{InForce, KeptSound, Step, Stood};
 use mus_score::Look;
-use mus_units::{Base, Frac, Head, Memory, Row, Value};
+use mus_units::{Base, Few, Frac, Head, Memory, Row, Value};
 use std::alloc::Global;
 
 fn with_tie(tie: bool, head: Head) -> Head
@@ -30,14 +30,11 @@ fn with_tie(tie: bool, head: Head) -> Head
 pub fn with_ties(alloc: Global, heads: &[Head], tie: bool) -> Result<Row<Head>, Memory>
     ensures { IfOk result (λ r. r ≡ map (with_tie tie) heads.now) }
 {
-    if let [head] = heads {
-        return Row::from_slice(alloc, &[with_tie(tie, *head)]);
+    let mut tied = Row::with_room(alloc, heads.len())?;
+    for head in heads {
+        tied.push(with_tie(tie, *head))?;
     }
-    let items = heads
-        .iter()
-        .map(|head| with_tie(tie, *head))
-        .collect(alloc)?;
-    Ok(Row { items })
+    Ok(tied)
 }
 
 fn tied_heads(alloc: Global, heads: &[Head], behind: &[Stood]) -> Result<Row<Head>, Memory>
@@ -104,7 +101,7 @@ fn sound_written(
     before: &[Stood],
     waits: &[Stood],
     at: &Stood,
-    s: &Sound,
+    s: &KeptSound,
     behind: &[Stood],
 ) -> Result<Written, Memory>
     requires few { length before.now ≤ 2 ^ 30 }
@@ -118,18 +115,18 @@ fn sound_written(
 {
     let length = written_length(now.force.unit, s, before, behind);
     let values = values_of(alloc, length)?;
-    let heads = tied_heads(alloc, s.heads.as_slice(), behind)?;
+    let heads = tied_heads(alloc, s.heads(), behind)?;
     Ok(Written {
         line: at.line,
         column: at.column,
         measure: measure_of(now),
         heads,
-        look: look_of(s.seen),
+        look: look_of(s.seen()),
         values,
         whole: None,
         parted: parted_at(now, waits),
-        begins: begins(s.heads.as_slice(), before),
-        ends: ends(s.heads.as_slice(), behind),
+        begins: begins(s.heads(), before),
+        ends: ends(s.heads(), behind),
     })
 }
 
@@ -188,7 +185,7 @@ fn put_further(
         let written = rest_written(alloc, now, at, seen, measure + u64::from(i), false);
         out.push(Sign::Event {
             written,
-            waiting: nothing(alloc),
+            waiting: Waits::nothing(),
         })?;
     }
     Ok(())
@@ -257,7 +254,7 @@ fn put_signs(
         Step::Sound(s) => {
             let waits = since_event(before);
             let written = sound_written(alloc, now, before, waits, at, s, behind)?;
-            let waiting = waiting_of(alloc, &now.force, waits, s.decos.as_slice())?;
+            let waiting = waiting_of(alloc, &now.force, waits, s.decos())?;
             out.push(Sign::Event { written, waiting })
         }
         Step::Measures { seen, count } => {
@@ -273,15 +270,6 @@ fn count_events(steps: &[Stood]) -> usize {
     steps.iter().filter(|s| is_event(&s.step)).count()
 }
 
-/// No signs yet, with room for those of the events among some steps.
-fn room_for_signs(alloc: Global, steps: &[Stood]) -> Result<Row<Sign>, Memory>
-    ensures { IfOk result (λ r. r ≡ []) }
-{
-    Ok(Row {
-        items: Vec::with_capacity(alloc, count_events(steps))?,
-    })
-}
-
 /// The signs of a voice that begins with `first`, in the order of the text.
 pub fn signs(alloc: Global, first: &InForce, steps: &[Stood]) -> Result<Row<Sign>, Memory>
     requires few { length steps.now ≤ 2 ^ 30 }
@@ -290,7 +278,7 @@ pub fn signs(alloc: Global, first: &InForce, steps: &[Stood]) -> Result<Row<Sign
     ensures value { IfOk result (λ r. r ≡ signs first.now [] steps.now) }
     ensures drawn { IfOk result (λ r. All IsDrawn r) }
 {
-    let mut out = room_for_signs(alloc, steps)?;
+    let mut out = Row::with_room(alloc, count_events(steps))?;
     let mut now = beginning(alloc, first)?;
     for i in 0..steps.len() {
         let (before, _) = steps.split_at(i);

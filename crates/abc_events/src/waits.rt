@@ -1,35 +1,13 @@
-ghost use Rattle.std.specs.{Prelude.◌≡◌, Prelude.◌==◌, Prelude.◌&&◌, Prelude.◌++◌, Prelude.◌∷◌, Prelude.[], Prelude.None, Prelude.IfOk, Prelude.OnOk, Prelude.flat_map, Prelude.length, List.list_any};
-ghost use Rattle.abc_events.specs.Waits.{decos_in, is_above, mention_of, mentions_in, graces_in, has_slash, ending_behind, last_ending, waiting_of, nothing, no_changes};
+ghost use Rattle.std.specs.{Prelude.◌≡◌, Prelude.◌++◌, Prelude.◌∷◌, Prelude.[], Prelude.None, Prelude.IfOk, Prelude.OnOk, List.list_any};
+ghost use Rattle.abc_events.specs.Waits.{decos_in, is_above, mention_of, mentions_in, graces_in, has_slash, ending_behind, waiting_of, nothing, no_changes, tells};
 
-use crate::written::Waiting;
+use crate::written::{Waiting, Waits};
 use abc_steps::copies::put_chords;
 use abc_steps::force::changes_at;
 use abc_steps::{InForce, Step, Stood};
-use abc_tokens::GraceChord;
 use mus_score::{Changes, Mention};
 use mus_units::{Deco, Memory, Row, Text, put_decos};
 use std::alloc::Global;
-
-#[tactic(auto, unfolding(crate::specs::Waits::decos_in))]
-fn put_deco(alloc: Global, out: &mut Row<Deco>, s: &Step) -> Result<(), Memory>
-    ensures { OnOk result (out.new ≡ out.old ++ decos_in s.now) }
-{
-    match s {
-        Step::Deco(deco) => out.push(deco.copy(alloc)?),
-        _ => Ok(()),
-    }
-}
-
-fn decos_waiting(alloc: Global, waits: &[Stood], inside: &[Deco]) -> Result<Row<Deco>, Memory>
-    ensures { IfOk result (λ r. r ≡ flat_map (λ s. decos_in s.step) waits.now ++ inside.now) }
-{
-    let mut out = Row::new(alloc);
-    for s in waits {
-        put_deco(alloc, &mut out, &s.step)?;
-    }
-    put_decos(alloc, &mut out, inside)?;
-    Ok(out)
-}
 
 fn is_above(byte: u8) -> bool
     ensures { result ≡ is_above byte }
@@ -59,46 +37,6 @@ fn mention(alloc: Global, text: &[u8]) -> Result<Mention, Memory>
     })
 }
 
-#[tactic(auto, unfolding(crate::specs::Waits::mentions_in))]
-fn put_mention(alloc: Global, out: &mut Row<Mention>, s: &Step) -> Result<(), Memory>
-    ensures { OnOk result (out.new ≡ out.old ++ mentions_in s.now) }
-{
-    match s {
-        Step::Says(text) => out.push(mention(alloc, text.as_slice())?),
-        _ => Ok(()),
-    }
-}
-
-fn mentions_waiting(alloc: Global, waits: &[Stood]) -> Result<Row<Mention>, Memory>
-    ensures { IfOk result (λ r. r ≡ flat_map (λ s. mentions_in s.step) waits.now) }
-{
-    let mut out = Row::new(alloc);
-    for s in waits {
-        put_mention(alloc, &mut out, &s.step)?;
-    }
-    Ok(out)
-}
-
-#[tactic(auto, unfolding(crate::specs::Waits::graces_in))]
-fn put_grace(alloc: Global, out: &mut Row<GraceChord>, s: &Step) -> Result<(), Memory>
-    ensures { OnOk result (out.new ≡ out.old ++ graces_in s.now) }
-{
-    match s {
-        Step::Grace { slash: _, body } => put_chords(alloc, out, body.as_slice()),
-        _ => Ok(()),
-    }
-}
-
-fn graces_waiting(alloc: Global, waits: &[Stood]) -> Result<Row<GraceChord>, Memory>
-    ensures { IfOk result (λ r. r ≡ flat_map (λ s. graces_in s.step) waits.now) }
-{
-    let mut out = Row::new(alloc);
-    for s in waits {
-        put_grace(alloc, &mut out, &s.step)?;
-    }
-    Ok(out)
-}
-
 #[tactic(auto, unfolding(crate::specs::Waits::has_slash))]
 fn has_slash(s: &Step) -> bool
     ensures { result ≡ has_slash s.now }
@@ -115,31 +53,47 @@ fn any_slash(waits: &[Stood]) -> bool
     waits.iter().any(|s| has_slash(&s.step))
 }
 
-#[tactic(auto, unfolding(crate::specs::Waits::ending_behind))]
-fn ending_behind(alloc: Global, ending: Option<Text>, s: &Step) -> Result<Option<Text>, Memory>
-    ensures { IfOk result (λ e. e ≡ ending_behind s.now ending) }
+/// Adds what a step says of the event behind it, changes and slashes aside.
+#[tactic(auto, unfolding(crate::specs::Waits::decos_in, crate::specs::Waits::mentions_in, crate::specs::Waits::ending_behind, crate::specs::Waits::graces_in))]
+fn put_waiting(alloc: Global, out: &mut Waiting, s: &Step) -> Result<(), Memory>
+    ensures changes { OnOk result (out.new.changes ≡ out.old.changes) }
+    ensures decos { OnOk result (out.new.decos ≡ out.old.decos ++ decos_in s.now) }
+    ensures mentions { OnOk result (out.new.mentions ≡ out.old.mentions ++ mentions_in s.now) }
+    ensures ending { OnOk result (out.new.ending ≡ ending_behind s.now out.old.ending) }
+    ensures graces { OnOk result (out.new.graces ≡ out.old.graces ++ graces_in s.now) }
+    ensures slash { OnOk result (out.new.slash ≡ out.old.slash) }
 {
     match s {
-        Step::Ending(text) => Ok(Some(text.copy(alloc)?)),
-        _ => Ok(ending),
+        Step::Deco(deco) => out.decos.push(deco.get().copy(alloc)?)?,
+        Step::Says(text) => out.mentions.push(mention(alloc, text.as_slice())?)?,
+        Step::Ending(text) => out.ending = Some(text.copy(alloc)?),
+        Step::Grace { slash: _, body } => put_chords(alloc, &mut out.graces, body.as_slice())?,
+        _ => (),
     }
+    Ok(())
 }
 
-fn ending_waiting(alloc: Global, waits: &[Stood]) -> Result<Option<Text>, Memory>
-    ensures { IfOk result (λ e. e ≡ last_ending None waits.now) }
+/// Whether a step says something of the event behind it.
+#[tactic(auto, unfolding(crate::specs::Waits::tells))]
+fn tells(s: &Step) -> bool
+    ensures { result ≡ tells s.now }
 {
-    let mut ending = None;
-    for s in waits {
-        ending = ending_behind(alloc, ending, &s.step)?;
-    }
-    Ok(ending)
+    matches!(
+        s,
+        Step::Grace { .. }
+            | Step::Ending(_)
+            | Step::Deco(_)
+            | Step::Says(_)
+            | Step::Key(_)
+            | Step::Meter(_)
+            | Step::Clef(_)
+    )
 }
 
-/// Whether nothing waits.
-fn is_nothing(waits: &[Stood], inside: &[Deco]) -> bool
-    ensures { result ≡ (length waits.now == 0 && length inside.now == 0) }
+fn any_tells(waits: &[Stood]) -> bool
+    ensures { result ≡ list_any (λ s. tells s.step) waits.now }
 {
-    waits.is_empty() && inside.is_empty()
+    waits.iter().any(|s| tells(&s.step))
 }
 
 /// What waits for an event, gathered from what does.
@@ -152,30 +106,31 @@ fn gathered(
 ) -> Result<Waiting, Memory>
     ensures { IfOk result (λ w. w ≡ waiting_of now.now waits.now inside.now) }
 {
-    Ok(Waiting {
-        changes: changes_at(alloc, now, waits)?,
-        decos: decos_waiting(alloc, waits, inside)?,
-        mentions: mentions_waiting(alloc, waits)?,
-        ending: ending_waiting(alloc, waits)?,
-        graces: graces_waiting(alloc, waits)?,
-        slash: any_slash(waits),
-    })
+    let mut waiting = nothing(alloc);
+    waiting.changes = changes_at(alloc, now, waits)?;
+    waiting.slash = any_slash(waits);
+    for s in waits {
+        put_waiting(alloc, &mut waiting, &s.step)?;
+    }
+    put_decos(alloc, &mut waiting.decos, inside)?;
+    Ok(waiting)
 }
 
 /// What waits for an event, of what is in force there, the steps since the event
 /// before it, and the decorations within a chord.
+#[tactic(auto, using(crate::proofs::Idle::nothing_for))]
 pub fn waiting_of(
     alloc: Global,
     now: &InForce,
     waits: &[Stood],
     inside: &[Deco],
-) -> Result<Waiting, Memory>
+) -> Result<Waits, Memory>
     ensures { IfOk result (λ w. w ≡ waiting_of now.now waits.now inside.now) }
 {
-    if is_nothing(waits, inside) {
-        return Ok(nothing(alloc));
+    if inside.is_empty() && !any_tells(waits) {
+        return Ok(Waits::nothing());
     }
-    gathered(alloc, now, waits, inside)
+    Waits::new(alloc, gathered(alloc, now, waits, inside)?)
 }
 
 /// No changes.

@@ -3,14 +3,14 @@ ghost use Rattle.abc_steps.specs.{Looks.since_event, Good.IsGoodForce, Good.IsGo
 ghost use Rattle.abc_faults.specs.{First.{first_of, IsFirst}, Faults.{fault_at, fault_if, ends_tuplets, sounds_behind, misfit_of, tuplet_faults, is_off, any_off, any_grace_off, grace_faults_of, grace_faults, is_past, is_free, sound_faults_if, sound_faults, rest_faults, faults_of, faults_in}, Weights.{weight_at, sound_count, grace_weights, weights_of, weights_in}};
 
 use crate::first::earlier;
-use crate::weights::{Weight, extent_of, put_graces, sound_count, weight_at};
+use crate::weights::{Weight, count_parts, put_graces, sound_count, weight_at};
 use abc_lines::{Fault, FaultKind};
 use abc_steps::kinds::is_sound;
-use abc_steps::lengths::written_length;
+use abc_steps::lengths::{parts_in, written_length};
 use abc_steps::looks::{has_left, has_right, since_event};
 use abc_steps::place::{Place, beginning, measure_of, step_over};
 use abc_steps::tuplets::{fits, or_default};
-use abc_steps::{InForce, Sound, Step, Stood, Taking};
+use abc_steps::{InForce, KeptSound, Step, Stood, Taking};
 use abc_tokens::GraceChord;
 use mus_units::{Clef, Head, Memory, Meter, Row, height};
 use std::alloc::Global;
@@ -139,13 +139,13 @@ fn is_free(meter: Meter) -> bool
 /// The first fault of a note, a chord or a rest, without its graces. `undrawable`
 /// tells that its length has no parts.
 #[tactic(auto, using(crate::proofs::Firsts::first_append))]
-fn sound_fault(now: &Place, at: &Stood, s: &Sound, undrawable: bool) -> Option<Fault>
+fn sound_fault(now: &Place, at: &Stood, s: &KeptSound, undrawable: bool) -> Option<Fault>
     requires groups { now.now.counts.groups ≤ 2 ^ 30 }
     requires further { now.now.counts.further ≤ 2 ^ 46 }
     ensures { result ≡ first_of (sound_faults_if undrawable now.now at.now s.now) }
 {
     let undrawn = fault_if(undrawable, FaultKind::Undrawable, at);
-    let off = any_off(now.force.clef, s.heads.as_slice());
+    let off = any_off(now.force.clef, s.heads());
     let found = earlier(undrawn, fault_if(off, FaultKind::StepRange, at));
     let past = fault_if(is_past(measure_of(now)), FaultKind::TooManyMeasures, at);
     earlier(found, past)
@@ -160,7 +160,7 @@ fn judge_sound(
     now: &Place,
     before: &[Stood],
     at: &Stood,
-    s: &Sound,
+    s: &KeptSound,
     behind: &[Stood],
 ) -> Result<Option<Fault>, Memory>
     requires groups { now.now.counts.groups ≤ 2 ^ 30 }
@@ -170,11 +170,11 @@ fn judge_sound(
     ensures fault { IfOk result (λ f. f ≡ first_of (sound_faults now.now (reverse before.now) at.now s.now behind.now ++ grace_faults now.now.force.clef (since_event (reverse before.now)))) }
     ensures weights { OnOk result (weights.new ≡ weights.old ++ (grace_weights (since_event (reverse before.now)) ++ weight_at (sound_count now.now (reverse before.now) s.now behind.now) at.now ∷ [])) }
 {
-    let extent = extent_of(alloc, written_length(now.force.unit, s, before, behind))?;
+    let parts = parts_in(alloc, written_length(now.force.unit, s, before, behind))?;
     let waits = since_event(before);
     put_graces(weights, waits)?;
-    weights.push(weight_at(sound_count(s, extent.parts), at))?;
-    let own = sound_fault(now, at, s, extent.undrawable);
+    weights.push(weight_at(sound_count(s, count_parts(&parts)), at))?;
+    let own = sound_fault(now, at, s, parts.is_none());
     Ok(earlier(own, grace_fault(now.force.clef, waits)))
 }
 

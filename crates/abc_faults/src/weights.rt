@@ -1,13 +1,9 @@
-ghost use Rattle.std.specs.Prelude.{◌≡◌, ◌*◌, ◌++◌, length, max, is_none, OnOk, IfOk};
-ghost use Rattle.mus_units.specs.Parts.{parts_list};
-ghost use Rattle.abc_steps.specs.Lengths.{IsLength};
+ghost use Rattle.std.specs.Prelude.{◌≡◌, ◌*◌, ◌++◌, length, max, OnOk};
 ghost use Rattle.abc_faults.specs.Weights.{weight_at, count_parts, grace_count, grace_weights_of, grace_weights};
 
-use abc_steps::lengths::parts_in;
-use abc_steps::{Few, Sound, Step, Stood};
+use abc_steps::{KeptSound, Step, Stood};
 use abc_tokens::GraceChord;
-use mus_units::{Frac, Memory, Row, Value};
-use std::alloc::Global;
+use mus_units::{Few, Memory, Row, Value};
 
 /// How many heads and rests stand at a place of the text. Weights are ordered by their places,
 /// then by their counts.
@@ -16,13 +12,6 @@ pub struct Weight {
     pub line: u32,
     pub column: u32,
     pub count: u128,
-}
-
-/// How many parts a written length counts as, and whether it can't be drawn.
-#[derive(Clone, Copy)]
-pub(crate) struct Extent {
-    pub parts: usize,
-    pub undrawable: bool,
 }
 
 pub(crate) fn weight_at(count: u128, at: &Stood) -> Weight
@@ -36,7 +25,7 @@ pub(crate) fn weight_at(count: u128, at: &Stood) -> Weight
 }
 
 /// How many parts a length of these parts has, one where it has none.
-fn count_parts(parts: &Option<Few<Value>>) -> usize
+pub(crate) fn count_parts(parts: &Option<Few<Value>>) -> usize
     ensures { result ≡ count_parts parts.now }
 {
     match parts {
@@ -45,25 +34,11 @@ fn count_parts(parts: &Option<Few<Value>>) -> usize
     }
 }
 
-/// How many parts a written length has, one where it has none, and whether it
-/// can't be drawn since it has none.
-pub(crate) fn extent_of(alloc: Global, whole: Frac) -> Result<Extent, Memory>
-    requires { IsLength whole }
-    ensures parts { IfOk result (λ e. e.parts ≡ count_parts (parts_list whole.num whole.den)) }
-    ensures undrawable { IfOk result (λ e. e.undrawable ≡ is_none (parts_list whole.num whole.den)) }
-{
-    let parts = parts_in(alloc, whole)?;
-    Ok(Extent {
-        parts: count_parts(&parts),
-        undrawable: parts.is_none(),
-    })
-}
-
 /// The heads of a note or a chord, or the one rest, times its parts.
-pub(crate) fn sound_count(s: &Sound, parts: usize) -> u128
+pub(crate) fn sound_count(s: &KeptSound, parts: usize) -> u128
     ensures { result ≡ max 1 (length s.now.heads) * parts }
 {
-    s.heads.as_slice().len().max(1) as u128 * parts as u128
+    s.heads().len().max(1) as u128 * parts as u128
 }
 
 /// How many heads a group of graces has.

@@ -5,7 +5,7 @@ ghost use Rattle.abc_lines.specs.{Good.IsGoodLine, Good.size_of, declared.kind.L
 ghost use Rattle.abc_fields.specs.Fields.{field_of};
 ghost use Rattle.abc_header.specs.Voicing.{with_id};
 
-use crate::token::{field_item, placed_item};
+use crate::token::{field_item, token_item};
 use crate::voices::{declared_ids, is_mentioned, mention_item};
 use abc_fields::{Breaks, read_field};
 use abc_header::Header;
@@ -32,7 +32,7 @@ pub fn read_body(alloc: Global, header: &Header, lines: &[Line]) -> Result<Row<I
 {
     let mut body = Body {
         ids: declared_ids(alloc, header)?,
-        items: room_for_items(alloc, lines)?,
+        items: Row::with_room(alloc, bytes_of(lines).min(1024))?,
     };
     match read_lines(alloc, header.breaks, lines, &mut body) {
         Ok(()) => Ok(body.items),
@@ -40,17 +40,13 @@ pub fn read_body(alloc: Global, header: &Header, lines: &[Line]) -> Result<Row<I
     }
 }
 
-/// No items yet, with room for those of lines that aren't long.
-fn room_for_items(alloc: Global, lines: &[Line]) -> Result<Row<Item>, Memory>
-    ensures { IfOk result (λ items. items ≡ []) }
-{
+/// How many bytes some lines have.
+fn bytes_of(lines: &[Line]) -> usize {
     let mut size: usize = 0;
     for line in lines {
         size = size.saturating_add(line.text.len());
     }
-    Ok(Row {
-        items: Vec::with_capacity(alloc, size.min(1024))?,
-    })
+    size
 }
 
 fn read_lines(
@@ -97,7 +93,10 @@ fn read_field_line(alloc: Global, line: &Line, body: &mut Body) -> Result<(), Tu
     ensures good { OnOk result (All IsGoodItem body.new.items) }
 {
     match read_field(alloc, line) {
-        Ok(field) => put_found(alloc, body, field_item(field, line.number, 1)),
+        Ok(field) => {
+            let found = field_item(alloc, field, line.number, 1)?;
+            put_found(alloc, body, found)
+        }
         Err(e) => Err(e),
     }
 }
@@ -160,7 +159,7 @@ fn put_token(
     ensures stops { IfErr result (λ e. Stops body.old (placed_given breaks line.now placed) e) }
     ensures good { OnOk result (All IsGoodItem body.new.items) }
 {
-    match placed_item(alloc, breaks, line, placed) {
+    match token_item(alloc, breaks, line, placed.column, placed.token) {
         Ok(found) => put_found(alloc, body, found),
         Err(e) => Err(e),
     }

@@ -4,9 +4,9 @@ ghost use Rattle.std.specs.Prelude.{◌≡◌, IfOk};
 
 use abc_fields::KeyText;
 use abc_steps::copies::put_chords;
-use abc_steps::{Sound, Step, Stood};
+use abc_steps::{Apart, Step, Stood};
 use abc_tokens::GraceChord;
-use mus_units::{Memory, Row, copy_decos, copy_optional_key};
+use mus_units::{Memory, Row, copy_optional_key};
 use std::alloc::Global;
 
 fn copy_chords(alloc: Global, chords: &[GraceChord]) -> Result<Row<GraceChord>, Memory>
@@ -27,23 +27,11 @@ fn copy_key_text(alloc: Global, text: &KeyText) -> Result<KeyText, Memory>
     })
 }
 
-fn copy_sound(alloc: Global, sound: &Sound) -> Result<Sound, Memory>
-    ensures { IfOk result (λ copy. copy ≡ sound.now) }
-{
-    Ok(Sound {
-        heads: sound.heads.copy(alloc)?,
-        seen: sound.seen,
-        decos: copy_decos(alloc, sound.decos.as_slice())?,
-        num: sound.num,
-        den: sound.den,
-    })
-}
-
 fn copy_step(alloc: Global, step: &Step) -> Result<Step, Memory>
     ensures { IfOk result (λ copy. copy ≡ step.now) }
 {
     match step {
-        Step::Sound(sound) => Ok(Step::Sound(copy_sound(alloc, sound)?)),
+        Step::Sound(sound) => Ok(Step::Sound(sound.copy(alloc)?)),
         Step::Measures { seen, count } => Ok(Step::Measures {
             seen: *seen,
             count: *count,
@@ -66,9 +54,9 @@ fn copy_step(alloc: Global, step: &Step) -> Result<Step, Memory>
         }),
         Step::Bar(bar) => Ok(Step::Bar(*bar)),
         Step::Ending(text) => Ok(Step::Ending(text.copy(alloc)?)),
-        Step::Deco(deco) => Ok(Step::Deco(deco.copy(alloc)?)),
+        Step::Deco(deco) => Ok(Step::Deco(Apart::new(alloc, deco.get().copy(alloc)?)?)),
         Step::Says(text) => Ok(Step::Says(text.copy(alloc)?)),
-        Step::Key(text) => Ok(Step::Key(copy_key_text(alloc, text)?)),
+        Step::Key(text) => Ok(Step::Key(Apart::new(alloc, copy_key_text(alloc, text.get())?)?)),
         Step::Meter(meter) => Ok(Step::Meter(*meter)),
         Step::Unit(unit) => Ok(Step::Unit(*unit)),
         Step::Clef(clef) => Ok(Step::Clef(*clef)),

@@ -3,14 +3,14 @@
 ghost use Rattle.std.specs.Prelude.{◌≡◌, ◌≤◌, ◌^◌, true, ◌*◌, ◌-◌, ◌∷◌, [], map, get_or, IfOk, IfErr, IfSome, Ok, Err};
 ghost use Rattle.abc_tokens.specs.Good.{AreGoodHeads, IsGoodLen, IsGoodToken};
 ghost use Rattle.abc_steps.specs.Good.{IsGoodSound};
-ghost use Rattle.abc_fields.specs.Fields.{IsGoodField, named_field};
-ghost use Rattle.abc_items.specs.{Good.IsGoodItem, Body.{head_of, first_len, sound, is_on, cut_given, step_at, field_item, field_given, token_given, placed_given}, Reading.{maybe_given, IsGivenError}};
+ghost use Rattle.abc_fields.specs.{Fields.{IsGoodField, named_field}, Keys.IsGoodKeyText};
+ghost use Rattle.abc_items.specs.{Good.IsGoodItem, Body.{head_of, first_len, is_on, cut_given, step_at, field_item, field_given, token_given}, Reading.{maybe_given, IsGivenError}};
 
-use abc_fields::{Breaks, Field, FieldError, read_named};
+use abc_fields::{Breaks, Field, FieldError, KeyText, read_named};
 use abc_lines::{Fault, Line, TuneError};
-use abc_steps::{Few, Item, Sound, Step, Stood};
-use abc_tokens::{Len, Placed, Token};
-use mus_units::{Deco, Head, Memory, Row};
+use abc_steps::{Apart, Item, KeptSound, Sound, Step, Stood};
+use abc_tokens::{Len, Token};
+use mus_units::{Deco, Few, Head, Memory, Row};
 use std::alloc::Global;
 
 fn stood(step: Step, line: u32, column: u32) -> Item
@@ -19,20 +19,34 @@ fn stood(step: Step, line: u32, column: u32) -> Item
     Item::Step(Stood { step, line, column })
 }
 
+fn key(alloc: Global, text: KeyText, line: u32, column: u32) -> Result<Option<Item>, Memory>
+    requires { IsGoodKeyText text }
+    ensures good { IfOk result (λ found. IfSome found IsGoodItem) }
+    ensures item { IfOk result (λ found. maybe_given found ≡ step_at (Step.Key text) line column) }
+{
+    let step = Step::Key(Apart::new(alloc, text)?);
+    Ok(Some(stood(step, line, column)))
+}
+
 /// What a field gives to a body: keys, meters and unit lengths are steps, a voice
 /// becomes current, words are kept, and every other field says nothing there.
-pub(crate) fn field_item(field: Field, line: u32, column: u32) -> Option<Item>
+pub(crate) fn field_item(
+    alloc: Global,
+    field: Field,
+    line: u32,
+    column: u32,
+) -> Result<Option<Item>, Memory>
     requires { IsGoodField field }
-    ensures good { IfSome result IsGoodItem }
-    ensures item { maybe_given result ≡ field_item field line column }
+    ensures good { IfOk result (λ found. IfSome found IsGoodItem) }
+    ensures item { IfOk result (λ found. maybe_given found ≡ field_item field line column) }
 {
     match field {
-        Field::Key(text) => Some(stood(Step::Key(text), line, column)),
-        Field::Meter(meter) => Some(stood(Step::Meter(meter), line, column)),
-        Field::Unit(unit) => Some(stood(Step::Unit(unit), line, column)),
-        Field::Voice(def) => Some(Item::Voice { def, line, column }),
-        Field::Words(text) => Some(Item::Words { text, line }),
-        _ => None,
+        Field::Key(text) => key(alloc, text, line, column),
+        Field::Meter(meter) => Ok(Some(stood(Step::Meter(meter), line, column))),
+        Field::Unit(unit) => Ok(Some(stood(Step::Unit(unit), line, column))),
+        Field::Voice(def) => Ok(Some(Item::Voice { def, line, column })),
+        Field::Words(text) => Ok(Some(Item::Words { text, line })),
+        _ => Ok(None),
     }
 }
 
@@ -49,7 +63,7 @@ fn inline_item(
     ensures error { IfErr result (λ e. IsGivenError (field_given (named_field letter text.now) line column) e) }
 {
     match read_named(alloc, letter, text) {
-        Ok(field) => Ok(field_item(field, line, column)),
+        Ok(field) => Ok(field_item(alloc, field, line, column)?),
         Err(FieldError::Fault(kind)) => Err(TuneError::Fault(Fault { kind, line, column })),
         Err(FieldError::Memory) => Err(TuneError::Memory),
     }
@@ -59,11 +73,8 @@ fn inline_item(
 fn heads_of(alloc: Global, heads: &[(Head, Len)]) -> Result<Row<Head>, Memory>
     ensures { IfOk result (λ found. found ≡ map head_of heads.now) }
 {
-    let mut found = Row::new(alloc);
-    for head in heads {
-        found.push(head.0)?;
-    }
-    Ok(found)
+    let items = heads.iter().map(|head| head.0).collect(alloc)?;
+    Ok(Row { items })
 }
 
 /// The length of the first head of a chord.
@@ -105,34 +116,6 @@ fn chord(alloc: Global, heads: &[(Head, Len)], decos: Row<Deco>, len: Len) -> Re
     })
 }
 
-fn note(alloc: Global, head: Head, len: Len) -> Sound
-    requires { IsGoodLen len }
-    ensures good { IsGoodSound result }
-    ensures value { result ≡ sound (head ∷ []) true len.num len.den }
-{
-    Sound {
-        heads: Few::one(head),
-        seen: true,
-        decos: Row::new(alloc),
-        num: u64::from(len.num),
-        den: u64::from(len.den),
-    }
-}
-
-fn rest(alloc: Global, seen: bool, len: Len) -> Sound
-    requires { IsGoodLen len }
-    ensures good { IsGoodSound result }
-    ensures value { result ≡ sound [] seen len.num len.den }
-{
-    Sound {
-        heads: Few::from(Row::new(alloc)),
-        seen,
-        decos: Row::new(alloc),
-        num: u64::from(len.num),
-        den: u64::from(len.den),
-    }
-}
-
 /// The byte at a column, counted from 1.
 fn byte_at(text: &[u8], column: u32) -> u8
     ensures { result ≡ get_or text.now (column - 1) 0 }
@@ -166,9 +149,10 @@ fn cut(on: bool, line: u32, column: u32) -> Option<Item>
     }
 }
 
-/// The step of a token that is one, else what an inline field or a line break gives.
+/// What a token of a music line gives, or the fault of the field within it: the
+/// step of a token that is one, else what an inline field or a line break gives.
 #[tactic(auto, unfolding(crate::specs::Body::token_given))]
-fn token_item(
+pub(crate) fn token_item(
     alloc: Global,
     breaks: Breaks,
     line: &Line,
@@ -181,15 +165,13 @@ fn token_item(
     ensures error { IfErr result (λ e. IsGivenError (token_given breaks line.now column token) e) }
 {
     let step = match token {
-        Token::Note { head, len } => Step::Sound(note(alloc, head, len)),
-        Token::Rest { seen, len } => Step::Sound(rest(alloc, seen, len)),
+        Token::Note { head, len } => Step::Sound(KeptSound::note(head, len.num, len.den)),
+        Token::Rest { seen, len } => Step::Sound(KeptSound::rest(seen, len.num, len.den)),
         Token::Measures { seen, count } => Step::Measures { seen, count },
-        Token::Chord { heads, decos, len } => Step::Sound(chord(
-            alloc,
-            heads.as_slice(),
-            decos,
-            len,
-        )?),
+        Token::Chord { heads, decos, len } => {
+            let sound = chord(alloc, heads.as_slice(), decos, len)?;
+            Step::Sound(KeptSound::from_sound(alloc, sound)?)
+        }
         Token::Grace { slash, body } => Step::Grace { slash, body },
         Token::Tuplet { p, q, r } => Step::Tuplet { p, q, r },
         Token::SlurOn => Step::SlurOn,
@@ -198,7 +180,7 @@ fn token_item(
         Token::Broken { right, dots } => Step::Broken { right, dots },
         Token::Bar(bar) => Step::Bar(bar),
         Token::Ending(text) => Step::Ending(text),
-        Token::Deco(deco) => Step::Deco(deco),
+        Token::Deco(deco) => Step::Deco(Apart::new(alloc, deco)?),
         Token::Says(text) => Step::Says(text),
         Token::Inline { letter, text } => return inline_item(
             alloc,
@@ -215,19 +197,4 @@ fn token_item(
         Token::Space => Step::Space,
     };
     Ok(Some(stood(step, line.number, column)))
-}
-
-/// What a token of a music line gives, or the fault of the field within it.
-pub(crate) fn placed_item(
-    alloc: Global,
-    breaks: Breaks,
-    line: &Line,
-    placed: Placed,
-) -> Result<Option<Item>, TuneError>
-    requires { IsGoodToken placed.token }
-    ensures item { IfOk result (λ found. maybe_given found ≡ placed_given breaks line.now placed) }
-    ensures good { IfOk result (λ found. IfSome found IsGoodItem) }
-    ensures error { IfErr result (λ e. IsGivenError (placed_given breaks line.now placed) e) }
-{
-    token_item(alloc, breaks, line, placed.column, placed.token)
 }

@@ -257,22 +257,13 @@ pub fn steps_of(
     ensures value { IfOk result (λ steps. steps ≡ steps_from id.now unnamed.now items.now) }
     ensures good { All IsGoodItem items.now → IfOk result (λ steps. All IsGoodStood steps) }
 {
-    let mut steps = room_for_steps(alloc, items.len())?;
+    let mut steps = Row::with_room(alloc, items.len().min(1024))?;
     let mut now = unnamed;
     for item in items {
         put_steps(alloc, &mut steps, id, now, item)?;
         now = voice_next(item, now);
     }
     Ok(steps)
-}
-
-/// No steps yet, with room for those of a body of so many items that isn't long.
-fn room_for_steps(alloc: Global, items: usize) -> Result<Row<Stood>, Memory>
-    ensures { IfOk result (λ steps. steps ≡ []) }
-{
-    Ok(Row {
-        items: Vec::with_capacity(alloc, items.min(1024))?,
-    })
 }
 
 fn voice_next<'a>(item: &'a Item, now: &'a [u8]) -> &'a [u8]

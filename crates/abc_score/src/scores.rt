@@ -1,7 +1,7 @@
 ghost use Rattle.std.specs.{Prelude.ℕ, Prelude.◌≡◌, Prelude.◌≤◌, Prelude.length, Prelude.map, Prelude.IfOk, Prelude.None, List.All};
 ghost use Rattle.abc_header.specs.Headers.{HasGoodValues};
 ghost use Rattle.abc_items.specs.Voices.{unnamed_of};
-ghost use Rattle.abc_words.specs.Verses.{verse_count, verse_fault};
+ghost use Rattle.abc_words.specs.Verses.{verse_fault};
 ghost use Rattle.abc_events.specs.Bars.{bars_of};
 ghost use Rattle.abc_score.specs.{Voices.read_ids, Voices.AreApart, Voices.IsGoodRead, Framed.IsFramed, Score.forced_of, Score.most_measures, Score.score_with, Score.voice_of, Score.written_measures};
 
@@ -35,15 +35,6 @@ fn written_measures(
     Ok(measures)
 }
 
-/// How many verses a voice without a fault has.
-fn few_verses(alloc: Global, header: &Header, items: &[Item], v: &VoiceRead) -> Result<u8, Memory>
-    requires { verse_fault v.now.start.id (unnamed_of header.now) items.now ≡ None }
-    ensures { IfOk result (λ n. n ≡ verse_count v.now.start.id (unnamed_of header.now) items.now) }
-{
-    let verses = verse_count(alloc, v.start.id.as_slice(), unnamed_of(header), items)?;
-    Ok(verses as u8)
-}
-
 /// A voice with `n` measures.
 #[tactic(auto, unfolding(crate::specs::Score::voice_of))]
 fn voice_of(
@@ -59,7 +50,7 @@ fn voice_of(
 {
     let own = bars_of(alloc, v.steps.as_slice(), n)?;
     let measures = written_measures(alloc, unnamed_of(header), items, own.bars.as_slice(), &v)?;
-    let verses = few_verses(alloc, header, items, &v)?;
+    let verses = verse_count(alloc, v.start.id.as_slice(), unnamed_of(header), items)? as u8;
     let key = header.key.copy(alloc)?;
     Ok(Voice {
         id: v.start.id,

@@ -15,37 +15,19 @@ pub struct Notes {
     pub notes: Row<SungNote>,
 }
 
-/// The note that a written event is, which has the number `event`.
-fn note_of(event: u32, w: &Written) -> Result<SungNote, Memory>
-    ensures { IfOk result (λ n. n ≡ record { event = event; line = w.now.line; measure = w.now.measure }) }
-{
-    match u32::try_from(w.measure) {
-        Ok(measure) => Ok(SungNote {
-            event,
-            line: w.line,
-            measure,
-        }),
-        Err(_) => Err(Memory),
-    }
-}
-
-/// Adds a written event where it has heads.
+/// Adds the note that a written event is, which has the number `event`, where it has heads.
 fn put_note(notes: &mut Row<SungNote>, event: u32, w: &Written) -> Result<(), Memory>
     ensures { OnOk result (notes.new ≡ notes.old ++ note_if w.now.heads event w.now) }
 {
     if w.heads.len() == 0 {
         return Ok(());
     }
-    notes.push(note_of(event, w)?)
-}
-
-fn next_event(event: u32) -> Result<u32, Memory>
-    ensures { IfOk result (λ next. next ≡ event + 1) }
-{
-    match event.checked_add(1) {
-        Some(next) => Ok(next),
-        None => Err(Memory),
-    }
+    let measure = u32::try_from(w.measure).ok().ok_or(Memory)?;
+    notes.push(SungNote {
+        event,
+        line: w.line,
+        measure,
+    })
 }
 
 /// Adds a sign.
@@ -56,7 +38,7 @@ fn put_sign(at: &mut Notes, sign: &Sign) -> Result<(), Memory>
     match sign {
         Sign::Event { written, .. } => {
             put_note(&mut at.notes, at.events, written)?;
-            at.events = next_event(at.events)?;
+            at.events = at.events.checked_add(1).ok_or(Memory)?;
             Ok(())
         }
         Sign::Opens { .. } => Ok(()),
@@ -70,7 +52,7 @@ fn notes_of(alloc: Global, signs: &[Sign]) -> Result<Notes, Memory>
 {
     let mut at = Notes {
         events: 0,
-        notes: Row::new(alloc),
+        notes: Row::with_room(alloc, signs.len())?,
     };
     for sign in signs {
         put_sign(&mut at, sign)?;

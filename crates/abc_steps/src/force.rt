@@ -43,6 +43,7 @@ pub fn change_force(alloc: Global, now: &mut InForce, s: &Step) -> Result<(), Me
     match s {
         Step::Clef(clef) => now.clef = *clef,
         Step::Key(text) => {
+            let text = text.get();
             let key = key_over(alloc, &now.key, text)?;
             now.clef = text.clef.unwrap_or(now.clef);
             now.key = key;
@@ -65,7 +66,7 @@ fn names_key(s: &Step) -> bool
     ensures { result ≡ names_key s.now }
 {
     match s {
-        Step::Key(text) => text.key.is_some() || has_sign(text.adds.as_slice()),
+        Step::Key(text) => text.get().key.is_some() || has_sign(text.get().adds.as_slice()),
         _ => false,
     }
 }
@@ -76,7 +77,7 @@ fn names_clef(s: &Step) -> bool
 {
     match s {
         Step::Clef(_) => true,
-        Step::Key(text) => text.clef.is_some(),
+        Step::Key(text) => text.get().clef.is_some(),
         _ => false,
     }
 }

@@ -24,7 +24,7 @@ pub fn is_note(s: &Step) -> bool
     ensures { result ≡ is_note s.now }
 {
     match s {
-        Step::Sound(sound) => has_head(sound.heads.as_slice()),
+        Step::Sound(sound) => has_head(sound.heads()),
         _ => false,
     }
 }
@@ -107,7 +107,7 @@ pub fn is_tie_stop(s: &Step) -> bool
     ensures { result ≡ is_tie_stop s.now }
 {
     match s {
-        Step::Sound(sound) => has_head(sound.heads.as_slice()),
+        Step::Sound(sound) => has_head(sound.heads()),
         Step::LineEnd => true,
         _ => false,
     }

@@ -2,10 +2,10 @@ ghost use Rattle.std.specs.{Prelude.{◌≡◌, ◌≤◌, ◌^◌, reverse, IfO
 ghost use Rattle.mus_units.specs.{Good.IsGoodUnit, Parts.parts_list};
 ghost use Rattle.abc_steps.specs.{Good.IsGoodSound, Lengths.{long_side, short_side, left_side, right_side, left_factor, right_factor, written_length, IsFactor, IsLength}};
 
-use crate::few::Few;
+use crate::kept::KeptSound;
 use crate::looks::{broken_before, broken_behind};
-use crate::step::{Sound, Step, Stood};
-use mus_units::{Frac, Memory, Value, parts_of, value_of};
+use crate::step::{Step, Stood};
+use mus_units::{Few, Frac, Memory, Value, parts_of, value_of};
 use std::alloc::Global;
 
 /// How much longer the long side of a broken rhythm becomes.
@@ -84,7 +84,7 @@ fn right_factor(broken: Option<&Stood>) -> Frac
 
 /// The written length of a note, a chord or a rest, in whole notes, not reduced.
 #[tactic(auto, unfolding(crate::specs::Lengths::written_length))]
-pub fn written_length(unit: Frac, s: &Sound, before: &[Stood], behind: &[Stood]) -> Frac
+pub fn written_length(unit: Frac, s: &KeptSound, before: &[Stood], behind: &[Stood]) -> Frac
     requires unit { IsGoodUnit unit }
     requires good { IsGoodSound s.now }
     ensures value { result ≡ written_length unit s.now (reverse before.now) behind.now }
@@ -93,8 +93,8 @@ pub fn written_length(unit: Frac, s: &Sound, before: &[Stood], behind: &[Stood])
     let left = left_factor(broken_behind(behind));
     let right = right_factor(broken_before(before));
     Frac {
-        num: s.num * unit.num * (left.num * right.num),
-        den: s.den * unit.den * (left.den * right.den),
+        num: s.num() * unit.num * (left.num * right.num),
+        den: s.den() * unit.den * (left.den * right.den),
     }
 }
 

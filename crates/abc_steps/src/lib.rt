@@ -4,8 +4,8 @@
 
 pub mod copies;
 pub mod counts;
-pub mod few;
 pub mod force;
+pub mod kept;
 pub mod kinds;
 pub mod lengths;
 pub mod looks;
@@ -14,8 +14,8 @@ pub mod step;
 pub mod tuplets;
 
 pub use counts::{Counts, Nearest};
-pub use few::Few;
 pub use force::InForce;
+pub use kept::{Apart, KeptSound};
 pub use place::Place;
 pub use step::{Item, Sound, Step, Stood};
 pub use tuplets::Taking;

@@ -1,7 +1,7 @@
-use crate::few::Few;
+use crate::kept::{Apart, KeptSound};
 use abc_fields::{KeyText, VoiceDef};
 use abc_tokens::GraceChord;
-use mus_units::{Bar, Clef, Deco, Frac, Head, Meter, Row, Text};
+use mus_units::{Bar, Clef, Deco, Few, Frac, Head, Meter, Row, Text};
 
 /// A note, a chord or a rest as it is written: a rest has no heads. Its length is
 /// `num / den` units, not reduced; `decos` are those written inside a chord.
@@ -18,7 +18,7 @@ pub struct Sound {
 /// `Break` is a line break that is on, `LineEnd` the end of a physical line.
 #[derive(Drop)]
 pub enum Step {
-    Sound(Sound),
+    Sound(KeptSound),
     Measures { seen: bool, count: u16 },
     Grace { slash: bool, body: Row<GraceChord> },
     Tuplet { p: u8, q: u8, r: u8 },
@@ -28,9 +28,9 @@ pub enum Step {
     Broken { right: bool, dots: u8 },
     Bar(Bar),
     Ending(Text),
-    Deco(Deco),
+    Deco(Apart<Deco>),
     Says(Text),
-    Key(KeyText),
+    Key(Apart<KeyText>),
     Meter(Meter),
     Unit(Frac),
     Clef(Clef),

@@ -1,5 +1,5 @@
 ghost use Rattle.std.specs.{Prelude.{◌≡◌, ◌≤◌, ◌<◌, ◌++◌, ◌∷◌, ℕ, [], length, map, slice_index_or, ◌==◌, if◌then◌else◌, IfOk, OnOk}, List.range_with_len};
-ghost use Rattle.abc_words.specs.{Rows.row_count, Words.{end_if, music_row, music_rows, no_music, note_at, notes_on, row_end, row_ends, row_of, texts_on, with_notes, with_texts}};
+ghost use Rattle.abc_words.specs.{Rows.row_count, Words.{music_row, music_rows, no_music, note_at, notes_on, row_end, row_ends, row_of, texts_on, with_notes, with_texts}};
 
 use crate::verses::{Verse, verses_of};
 use abc_steps::Item;
@@ -23,22 +23,16 @@ pub struct MusicRow {
     pub notes: Row<NoteAt>,
 }
 
-/// Adds the line of an end that isn't joined.
-fn put_end(ends: &mut Row<u32>, joined: bool, line: u32) -> Result<(), Memory>
-    ensures { OnOk result (ends.new ≡ ends.old ++ end_if joined line) }
-{
-    if joined {
-        return Ok(());
-    }
-    ends.push(line)
-}
-
 /// Adds the line at which an item ends a row.
 fn put_row_end(ends: &mut Row<u32>, item: &Item) -> Result<(), Memory>
     ensures { OnOk result (ends.new ≡ ends.old ++ row_end item.now) }
 {
     match item {
-        Item::LineEnd { joined, line, .. } => put_end(ends, *joined, *line),
+        Item::LineEnd {
+            joined: false,
+            line,
+            ..
+        } => ends.push(*line),
         _ => Ok(()),
     }
 }

@@ -1,5 +1,5 @@
 ghost use Rattle.std.specs.{Prelude.{◌≡◌, ◌≤◌, ◌<◌, ◌+◌, ◌++◌, ◌∷◌, ◌^◌, [], List, ℕ, All, cond, fold, length, max, slice_index, ◌==◌, map, None, IfOk, OnOk}, List.{list_any, range_with_len}};
-ghost use Rattle.abc_words.specs.{Rows.row_count, Verses.{faults_from, first_of, is_words, number_on, too_many, verse_at, verse_count, verse_fault, verse_if, verses_of}};
+ghost use Rattle.abc_words.specs.{Rows.row_count, Verses.{faults_from, first_of, is_words, number_on, too_many, verse_at, verse_count, verse_fault, verses_of}};
 
 use crate::rows::{Place, first_place, place_behind, row_at_end};
 use abc_lines::{Fault, FaultKind};
@@ -23,30 +23,7 @@ pub struct Verses {
     pub verses: Row<Verse>,
 }
 
-/// Adds words of the voice, where it has a row.
-fn put_words(
-    alloc: Global,
-    verses: &mut Row<Verse>,
-    place: Place,
-    text: &Text,
-    line: u32,
-) -> Result<(), Memory>
-    ensures { OnOk result (verses.new ≡ verses.old ++ verse_if place.current place.last text.now line) }
-{
-    if !place.current {
-        return Ok(());
-    }
-    match place.last {
-        Some(row) => verses.push(Verse {
-            row,
-            line,
-            text: Text::from_slice(alloc, text.as_slice())?,
-        }),
-        None => Ok(()),
-    }
-}
-
-/// Adds the verse that an item is.
+/// Adds the verse that an item is: words of the voice, where it has a row.
 fn put_verse(
     alloc: Global,
     verses: &mut Row<Verse>,
@@ -55,8 +32,12 @@ fn put_verse(
 ) -> Result<(), Memory>
     ensures { OnOk result (verses.new ≡ verses.old ++ verse_at place item.now) }
 {
-    match item {
-        Item::Words { text, line } => put_words(alloc, verses, place, text, *line),
+    match (item, place.last) {
+        (Item::Words { text, line }, Some(row)) if place.current => verses.push(Verse {
+            row,
+            line: *line,
+            text: text.copy(alloc)?,
+        }),
         _ => Ok(()),
     }
 }
@@ -167,10 +148,7 @@ pub fn verse_count(
 fn number_at(counts: &[usize], row: usize) -> usize
     ensures { result ≡ slice_index counts.now row }
 {
-    match counts.get(row) {
-        Some(n) => *n,
-        None => 0,
-    }
+    counts.get(row).copied().unwrap_or(0)
 }
 
 fn too_many(line: u32) -> Fault

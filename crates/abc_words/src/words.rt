@@ -8,16 +8,6 @@ use mus_lyric::{Sung, align, syllables};
 use mus_units::{Memory, Row, Text};
 use std::alloc::Global;
 
-/// Adds what is sung behind more of it.
-fn append(sung: &mut Row<Sung>, more: Row<Sung>) -> Result<(), Memory>
-    ensures { OnOk result (sung.new ≡ sung.old ++ more) }
-{
-    for one in more.items {
-        sung.push(one)?;
-    }
-    Ok(())
-}
-
 /// Adds what is sung in a verse on a row.
 fn put_sung(alloc: Global, sung: &mut Row<Sung>, row: &MusicRow, verse: usize) -> Result<(), Memory>
     ensures { OnOk result (sung.new ≡ sung.old ++ sung_in verse row.now) }
@@ -25,7 +15,7 @@ fn put_sung(alloc: Global, sung: &mut Row<Sung>, row: &MusicRow, verse: usize) -
     match row.texts.as_slice().get(verse) {
         Some(text) => {
             let syls = syllables(alloc, text.as_slice())?;
-            append(sung, align(alloc, syls.as_slice(), row.notes.as_slice())?)
+            sung.append(align(alloc, syls.as_slice(), row.notes.as_slice())?)
         }
         None => Ok(()),
     }
