@@ -3,7 +3,7 @@ ghost use Rattle.mus_score.specs.GoodScore.{IsGoodVoice};
 ghost use Rattle.mus_arcs.specs.Events.{at_measure, events_in, events_of_voice, events_within, walked_from};
 
 use mus_score::{Event, Head, Measure, Music, Voice};
-use mus_units::{Memory, Row};
+use mus_units::{Few, Memory, Row};
 use std::alloc::Global;
 
 /// What arcs ask of an event: its id and its measure, how many slurs begin and
@@ -14,7 +14,7 @@ pub struct EventAt {
     pub measure: u32,
     pub begins: u32,
     pub ends: u32,
-    pub heads: Row<Head>,
+    pub heads: Few<Head>,
 }
 
 /// The events of a voice, graces aside, each with its measure.
@@ -69,6 +69,15 @@ fn put_node(alloc: Global, m: &Music, measure: u32, events: &mut Row<EventAt>) -
     }
 }
 
+fn copy_heads(alloc: Global, heads: &[Head]) -> Result<Few<Head>, Memory>
+    ensures { IfOk result (λ few. few ≡ heads.now) }
+{
+    match heads {
+        [head] => Ok(Few::one(*head)),
+        _ => Ok(Few::from(Row::from_slice(alloc, heads)?)),
+    }
+}
+
 fn put_event(
     alloc: Global,
     e: &Event,
@@ -82,7 +91,7 @@ fn put_event(
         measure,
         begins: e.begins,
         ends: e.ends,
-        heads: Row::from_slice(alloc, e.heads.as_slice())?,
+        heads: copy_heads(alloc, e.heads.as_slice())?,
     })?;
     Ok(())
 }

@@ -50,14 +50,14 @@ drawn_good style tick now (f ∷ fs) (p ∷ ps) good reach can near few count =
       drawn_good style (tick + f.duration) (standing_after now f.event.changes) fs ps (key_after now.key f.event.changes.key good can.0.key) reach.2 can.1 near.1 (omega (arith, weights, few)) (omega (arith, counts, count)),
     )
 
-pub measure_good : (style : Style) (now before : Standing) (fs flats : List Flat) (plans : List StemPlan) (o : Opening) (es : List DrawnEvent) (bar : Bar) → flats ≡ fs → o ≡ opening_of now flats → before ≡ now → es ≡ drawn_events style 0 before flats plans
+pub measure_good : (style : Style) (now : Standing) (fs flats : List Flat) (plans : List StemPlan) (o : Opening) (es : List DrawnEvent) (bar : Bar) → flats ≡ fs → o ≡ opening_of now flats → es ≡ drawn_events style 0 now flats plans
     → IsGoodKey now.key → AreInReach now.clef fs → AllCanDraw fs → AllEndsNear plans → sum_by flat_weight flats ≤ 50000 → sum_by flat_count flats ≤ 50000 → IsGoodMeasure (record { seat = style.seat; opening = o; events = es; bar = bar })
-measure_good style now before fs flats plans o es bar same opens begins made good reach can near few count =
+measure_good style now fs flats plans o es bar same opens made good reach can near few count =
     let can_here = subst AllCanDraw (sym same) can in
     let reach_here = subst (AreInReach now.clef) (sym same) reach in
     record {
       opening = subst (λ x. IsGoodKey x.key) (sym opens) (opening_good now flats good can_here);
-      events = subst AreGoodDrawn (sym made) (subst (λ b. AreGoodDrawn (drawn_events style 0 b flats plans)) (sym begins) (drawn_good style 0 now flats plans good reach_here can_here near few count));
+      events = subst AreGoodDrawn (sym made) (drawn_good style 0 now flats plans good reach_here can_here near few count);
     }
 
 pub can_cut : (fs gs : List Flat) → AllCanDraw (fs ++ gs) → AllCanDraw fs × AllCanDraw gs

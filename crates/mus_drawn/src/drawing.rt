@@ -1,13 +1,11 @@
-ghost use Rattle.std.specs.Prelude.{◌≡◌, ◌≤◌, ◌*◌, All, IfOk, OnOk, length, sum_by};
+ghost use Rattle.std.specs.Prelude.{◌≡◌, ◌≤◌, ◌*◌, ◌++◌, ◌∷◌, [], All, IfOk, OnOk, length, sum_by};
 ghost use Rattle.mus_units.specs.Good.{IsGoodKey};
 ghost use Rattle.mus_score.specs.{Good.{IsGoodBody, flat_count, IsGoodFlat, flat_weight, longest_ticks, total_ticks}, Times.flats_of, GoodScore.{AreInReach, IsGoodEvent, IsGoodVoice, events_of}};
 ghost use Rattle.mus_stems.specs.Plans.{stems_of, AllEndsNear};
-ghost use Rattle.mus_drawn.specs.{Drawn.{standing_behind, clefs_from, drawn_event, drawn_events, drawn_measure, drawn_measures, drawn_voice, raise_of, style_of, wish_in}, Good.{AllCanDraw, IsGoodMeasure, AreGoodMeasures}};
+ghost use Rattle.mus_drawn.specs.{Drawn.{standing_after, standing_behind, clefs_from, drawn_event, drawn_events, drawn_measure, drawn_measures, drawn_voice, raise_of, style_of, wish_in}, Good.{AllCanDraw, IsGoodMeasure, AreGoodMeasures}};
 
 use crate::drawn::{DrawnEvent, DrawnMeasure, DrawnVoice, Style};
-use crate::standing::{
-    Standing, change, change_all, clefs_from, copy_standing, old_signs, opening_of, standing_of,
-};
+use crate::standing::{Standing, change, clefs_from, old_signs, opening_of, standing_of};
 use mus_arcs::arcs;
 use mus_score::{Flat, Measure, Seat, Voice, flatten};
 use mus_stems::{StemPlan, stems};
@@ -46,50 +44,54 @@ pub fn raise_of(seat: Seat) -> i32
     }
 }
 
+/// Draws an event behind others; `now` is what is in force before it, and then behind.
 fn draw_event(
     alloc: Global,
     style: Style,
     tick: u64,
-    now: &Standing,
+    now: &mut Standing,
     flat: Flat,
     plan: StemPlan,
-) -> Result<DrawnEvent, Memory>
-    ensures { IfOk result (λ e. e ≡ drawn_event style tick now.now flat plan) }
+    out: &mut Row<DrawnEvent>,
+) -> Result<(), Memory>
+    ensures event { OnOk result (out.new ≡ out.old ++ drawn_event style tick now.old flat plan ∷ []) }
+    ensures now { OnOk result (now.new ≡ standing_after now.old flat.event.changes) }
 {
-    Ok(DrawnEvent {
+    let old = old_signs(alloc, &now.key, &flat.event.changes.key)?;
+    change(alloc, now, &flat.event.changes)?;
+    out.push(DrawnEvent {
         seat: style.seat,
         tick,
-        clef: flat.event.changes.clef.unwrap_or(now.clef),
-        old: old_signs(alloc, &now.key, &flat.event.changes.key)?,
+        clef: now.clef,
+        old,
         flat,
         plan,
     })
 }
 
-/// The events of a measure as they are drawn, each with its plan; `before` is what is in force before
-/// them.
+/// The events of a measure as they are drawn, each with its plan; `now` is what is in force before
+/// them, and then behind.
 fn draw_events(
     alloc: Global,
     style: Style,
-    before: Standing,
+    now: &mut Standing,
     flats: Row<Flat>,
     plans: Row<StemPlan>,
 ) -> Result<Row<DrawnEvent>, Memory>
     requires { total_ticks flats ≤ 50000 * longest_ticks }
-    ensures { IfOk result (λ r. r ≡ drawn_events style 0 before flats plans) }
+    ensures events { IfOk result (λ r. r ≡ drawn_events style 0 now.old flats plans) }
+    ensures now { OnOk result (length flats ≤ length plans → now.new ≡ standing_behind now.old flats) }
 {
-    let mut out = Row::new(alloc);
-    let mut now = before;
+    let mut out = Row::with_room(alloc, flats.len())?;
     let mut tick: u64 = 0;
     let mut plans = plans.items.into_iter();
     for flat in flats.items {
         let Some(plan) = plans.next() else {
             return Ok(out);
         };
-        let event = draw_event(alloc, style, tick, &now, flat, plan)?;
-        tick += event.flat.duration;
-        change(alloc, &mut now, &event.flat.event.changes)?;
-        out.push(event)?;
+        let duration = flat.duration;
+        draw_event(alloc, style, tick, now, flat, plan, &mut out)?;
+        tick += duration;
     }
     Ok(out)
 }
@@ -128,12 +130,10 @@ fn draw_measure(
     let flats = flatten(alloc, m.body.as_slice())?;
     let opening = opening_of(alloc, now, flats.as_slice())?;
     let plans = plans_of(alloc, style.wish, now.clef, flats.as_slice())?;
-    let before = copy_standing(alloc, now)?;
-    change_all(alloc, now, flats.as_slice())?;
     Ok(DrawnMeasure {
         seat: style.seat,
         opening,
-        events: draw_events(alloc, style, before, flats, plans)?,
+        events: draw_events(alloc, style, now, flats, plans)?,
         bar: m.bar,
     })
 }
@@ -151,7 +151,7 @@ fn draw_measures(
     ensures measures { IfOk result (λ r. r ≡ drawn_measures style now.old measures.now) }
     ensures good { IfOk result AreGoodMeasures }
 {
-    let mut out = Row::new(alloc);
+    let mut out = Row::with_room(alloc, measures.len())?;
     for m in measures {
         out.push(draw_measure(alloc, style, now, m)?)?;
     }

@@ -1,5 +1,5 @@
-ghost use Rattle.std.specs.Prelude.{◌≡◌, IfOk, OnOk, length, is_some, false, unwrap_or};
-ghost use Rattle.mus_drawn.specs.Drawn.{standing_of, standing_after, standing_behind, clefs_from, old_signs, opening_at, opening_of};
+ghost use Rattle.std.specs.Prelude.{◌≡◌, IfOk, OnOk, length};
+ghost use Rattle.mus_drawn.specs.Drawn.{standing_of, standing_after, clefs_from, old_signs, opening_at, opening_of};
 
 use crate::drawn::Opening;
 use mus_score::{Changes, Flat, Voice};
@@ -14,21 +14,13 @@ pub struct Standing {
     pub meter: Meter,
 }
 
-fn copy_key(alloc: Global, key: &Key) -> Result<Key, Memory>
-    ensures { IfOk result (λ k. k ≡ key.now) }
-{
-    Ok(Key {
-        signs: Row::from_slice(alloc, key.signs.as_slice())?,
-    })
-}
-
 /// What is in force where a voice begins.
 pub fn standing_of(alloc: Global, v: &Voice) -> Result<Standing, Memory>
     ensures { IfOk result (λ s. s ≡ standing_of v.now) }
 {
     Ok(Standing {
         clef: v.clef,
-        key: copy_key(alloc, &v.key)?,
+        key: v.key.copy(alloc)?,
         meter: v.meter,
     })
 }
@@ -39,39 +31,21 @@ pub fn copy_standing(alloc: Global, now: &Standing) -> Result<Standing, Memory>
 {
     Ok(Standing {
         clef: now.clef,
-        key: copy_key(alloc, &now.key)?,
+        key: now.key.copy(alloc)?,
         meter: now.meter,
     })
 }
 
-fn key_after(alloc: Global, key: &Key, change: &Option<Key>) -> Result<Key, Memory>
-    ensures { IfOk result (λ k. k ≡ unwrap_or change.now key.now) }
-{
-    match change {
-        Some(new) => copy_key(alloc, new),
-        None => copy_key(alloc, key),
-    }
-}
-
 /// Changes what is in force.
+#[inline(always)]
 pub fn change(alloc: Global, now: &mut Standing, changes: &Changes) -> Result<(), Memory>
     ensures { OnOk result (now.new ≡ standing_after now.old changes.now) }
 {
     if let Some(key) = &changes.key {
-        now.key = copy_key(alloc, key)?;
+        now.key = key.copy(alloc)?;
     }
     now.clef = changes.clef.unwrap_or(now.clef);
     now.meter = changes.meter.unwrap_or(now.meter);
-    Ok(())
-}
-
-/// Changes what is in force as events do, one after the other.
-pub fn change_all(alloc: Global, now: &mut Standing, flats: &[Flat]) -> Result<(), Memory>
-    ensures { OnOk result (now.new ≡ standing_behind now.old flats.now) }
-{
-    for flat in flats {
-        change(alloc, now, &flat.event.changes)?;
-    }
     Ok(())
 }
 
@@ -80,7 +54,7 @@ pub fn clefs_from(alloc: Global, first: Clef, flats: &[Flat]) -> Result<Row<Clef
     ensures clefs { IfOk result (λ r. r ≡ clefs_from first flats.now) }
     ensures each { IfOk result (λ r. length r ≡ length flats.now) }
 {
-    let mut clefs = Row::new(alloc);
+    let mut clefs = Row::with_room(alloc, flats.len())?;
     let mut clef = first;
     for flat in flats {
         clef = flat.event.changes.clef.unwrap_or(clef);
@@ -99,34 +73,26 @@ pub fn old_signs(alloc: Global, key: &Key, change: &Option<Key>) -> Result<Row<S
     }
 }
 
-fn opening_at(alloc: Global, now: &Standing) -> Result<Opening, Memory>
-    ensures { IfOk result (λ o. o ≡ opening_at now.now false) }
+fn opening(now: Standing, anew: bool) -> Opening
+    ensures { result ≡ opening_at now anew }
 {
-    Ok(Opening {
+    Opening {
         clef: now.clef,
-        key: copy_key(alloc, &now.key)?,
+        key: now.key,
         meter: now.meter,
-        anew: false,
-    })
-}
-
-fn opening_behind(alloc: Global, before: &Standing, changes: &Changes) -> Result<Opening, Memory>
-    ensures { IfOk result (λ o. o ≡ opening_at (standing_after before.now changes.now) (is_some changes.now.meter)) }
-{
-    Ok(Opening {
-        clef: changes.clef.unwrap_or(before.clef),
-        key: key_after(alloc, &before.key, &changes.key)?,
-        meter: changes.meter.unwrap_or(before.meter),
-        anew: changes.meter.is_some(),
-    })
+        anew,
+    }
 }
 
 /// What the head of a system shows that begins with these events.
 pub fn opening_of(alloc: Global, before: &Standing, flats: &[Flat]) -> Result<Opening, Memory>
     ensures { IfOk result (λ o. o ≡ opening_of before.now flats.now) }
 {
-    match flats {
-        [] => opening_at(alloc, before),
-        [flat, ..] => opening_behind(alloc, before, &flat.event.changes),
-    }
+    let mut now = copy_standing(alloc, before)?;
+    let [flat, ..] = flats else {
+        return Ok(opening(now, false));
+    };
+    let changes = &flat.event.changes;
+    change(alloc, &mut now, changes)?;
+    Ok(opening(now, changes.meter.is_some()))
 }

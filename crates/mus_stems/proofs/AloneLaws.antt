@@ -1,6 +1,6 @@
 -- A head alone isn't displaced, and where no head has a sign none is placed.
-use Rattle.std.{proofs.{Common.{◌≡◌, ℕ, zero, suc, ◌≤◌, inl, ℤ, pos, Bool, false, List, [], ◌∷◌, length, replicate, refl, sym, ◌∙◌, ap, Option, Some, None, arith}, lemmas.Bool.or_parts}, specs.{Prelude.slice_get, List.{AllByRecursion, list_any}}}
-use Rattle.mus_stems.{specs.{declared.heads.Stand.Stand, Heads.{AllNear, Taken, taken, gives_way, shifted, shift_of, shifts_of}, Signs.{signs_along, signs_from}, Order.{head_at, IsHead, IsAmong, AreTaken}}, proofs.OrderLaws.{taken_are, one_order}}
+use Rattle.std.{proofs.{Common.{◌≡◌, ℕ, zero, suc, ◌≤◌, ◌<◌, inl, ℤ, pos, Bool, true, false, List, [], ◌∷◌, length, replicate, slice_index_or, refl, sym, ◌∙◌, ap, Option, Some, None, arith}, lemmas.Bool.or_parts, lemmas.Int.ints}, specs.{Prelude.slice_get, Prelude.if◌then◌else◌, List.{AllByRecursion, list_any}}}
+use Rattle.mus_stems.{specs.{declared.heads.Stand.Stand, Heads.{AllNear, Taken, taken, gives_way, shifted, shift_of, shifts_of}, Signs.{sign_at, signs_along, signs_from}, Order.{head_at, IsHead, IsAmong, AreTaken}}, proofs.OrderLaws.{taken_are, one_order}}
 
 none_taken : (up : Bool) → AreTaken up [] []
 none_taken up = record { order = tt; only = tt; all = λ k s is. absurd (grind (arith, is)) }
@@ -12,11 +12,24 @@ alone_among up d (suc k) s is = absurd (grind (arith, is))
 alone_taken : (up : Bool) (d : Stand) → AreTaken up (d ∷ []) (head_at up 0 d ∷ [])
 alone_taken up d = record { order = (tt, tt); only = ((d, refl, refl), tt); all = alone_among up d }
 
+alone_placed : (first : ℤ) (signed : Bool) → (if signed then Some (sign_at first 0) ∷ [] else None ∷ []) ≡ (if signed then Some first else None) ∷ []
+unfolding sign_at
+alone_placed first true = ap (λ x. Some x ∷ []) (omega (arith, ints))
+alone_placed first false = refl
+
 pub alone_stays : (up : Bool) (ss : List Stand) → AllNear ss → length ss ≤ 1 → shifts_of up ss ≡ replicate (length ss) (pos 0)
 unfolding shifts_of gives_way
 alone_stays up [] near few = ap (λ ts. shifted (shift_of up) None ts []) (one_order up [] (taken up []) [] (taken_are up [] near) (none_taken up))
 alone_stays up (d ∷ []) near few = ap (λ ts. shifted (shift_of up) None ts (pos 0 ∷ [])) (one_order up (d ∷ []) (taken up (d ∷ [])) (head_at up 0 d ∷ []) (taken_are up (d ∷ []) near) (alone_taken up d))
 alone_stays up (d ∷ e ∷ ss) near few = absurd (omega (arith, few))
+
+-- the sign of a head alone stands in the first column
+pub alone_signed : (first : ℤ) (ss : List Stand) (e : Stand) → AllNear ss → 1 ≤ length ss → length ss < 2 → (if (slice_index_or ss 0 e).signed then Some first else None) ∷ [] ≡ signs_from first ss
+unfolding signs_from
+alone_signed first [] e near some few = absurd (omega (arith, some))
+alone_signed first (d ∷ []) e near some few =
+    sym (ap (λ ts. signs_along first 0 ts (None ∷ [])) (one_order false (d ∷ []) (taken false (d ∷ [])) (head_at false 0 d ∷ []) (taken_are false (d ∷ []) near) (alone_taken false d)) ∙ alone_placed first d.signed)
+alone_signed first (d ∷ b ∷ ss) e near some few = absurd (omega (arith, few))
 
 unsigned : (ss : List Stand) (k : ℕ) (s : Stand) → list_any (λ d. d.signed) ss ≡ false → slice_get ss k ≡ Some s → s.signed ≡ false
 unsigned [] k s none is = absurd (grind (arith, is))

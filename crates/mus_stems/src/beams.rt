@@ -8,7 +8,7 @@ use crate::stills::{Still, flags_for};
 fn beamed(e: &Still) -> bool
     ensures { result ≡ is_beamed e.now }
 {
-    0 < e.stands.len() && 0 < flags_for(e.base)
+    0 < e.stands.as_slice().len() && 0 < flags_for(e.base)
 }
 
 /// Whether a beam joins two neighbours.

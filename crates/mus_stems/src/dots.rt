@@ -55,19 +55,8 @@ pub fn dot_dx(shifts: &[i32]) -> i32
     }
 }
 
-/// The dx of a dot by its number.
-#[tactic(auto, unfolding(crate::specs::Dots::dot_place))]
-fn dot_dx_at(first: i32, j: u8) -> i32
-    requires near { j ≤ 3 }
-    requires low { pos 600 ≤ℤ first }
-    requires high { first ≤ℤ pos 1160 }
-    ensures { result ≡ dot_place first j }
-{
-    first + BETWEEN_DOTS * i32::from(j)
-}
-
 /// A dot by its number.
-#[tactic(auto, unfolding(crate::specs::Dots::dot_at))]
+#[tactic(auto, unfolding(crate::specs::Dots::dot_at, crate::specs::Dots::dot_place))]
 fn dot(first: i32, dy: i32, j: u8) -> Spot
     requires near { j ≤ 3 }
     requires low { pos 600 ≤ℤ first }
@@ -75,7 +64,7 @@ fn dot(first: i32, dy: i32, j: u8) -> Spot
     ensures { result ≡ dot_at first dy j }
 {
     Spot {
-        dx: dot_dx_at(first, j),
+        dx: first + BETWEEN_DOTS * i32::from(j),
         dy,
     }
 }

@@ -46,6 +46,7 @@ fn highest_along(first: i32, run: &[Still]) -> i32
     high
 }
 
+/// The height of the lowest head of a run.
 fn low_of_run(run: &[Still]) -> i32
     ensures { result ≡ run_low run.now }
 {
@@ -55,6 +56,7 @@ fn low_of_run(run: &[Still]) -> i32
     }
 }
 
+/// The height of the highest head of a run.
 fn high_of_run(run: &[Still]) -> i32
     ensures { result ≡ run_high run.now }
 {
@@ -84,26 +86,6 @@ pub fn highest_head(stands: &[Stand]) -> i32
     high_in(stands)
 }
 
-/// The height of the lowest head of a run.
-fn lowest_in_run(run: &[Still]) -> i32
-    requires { AllGood run.now }
-    ensures value { result ≡ run_low run.now }
-    ensures low { negsuc 13 ≤ℤ result }
-    ensures high { result ≤ℤ pos 22 }
-{
-    low_of_run(run)
-}
-
-/// The height of the highest head of a run.
-fn highest_in_run(run: &[Still]) -> i32
-    requires { AllGood run.now }
-    ensures value { result ≡ run_high run.now }
-    ensures low { negsuc 13 ≤ℤ result }
-    ensures high { result ≤ℤ pos 22 }
-{
-    high_of_run(run)
-}
-
 /// Whether stems go up, over the lowest and the highest height.
 fn points_up(wish: Wish, low: i32, high: i32) -> bool
     requires low_low { negsuc 13 ≤ℤ low }
@@ -120,12 +102,12 @@ fn points_up(wish: Wish, low: i32, high: i32) -> bool
 }
 
 /// Whether the stems of a run go up.
-#[tactic(auto, unfolding(crate::specs::Ends::stands_up))]
+#[tactic(auto, unfolding(crate::specs::Ends::stands_up), using(crate::proofs::Ranges::run_low_near, crate::proofs::Ranges::run_high_near))]
 pub fn run_points_up(wish: Wish, run: &[Still]) -> bool
     requires { AllGood run.now }
     ensures { result ≡ stands_up wish run.now }
 {
-    points_up(wish, lowest_in_run(run), highest_in_run(run))
+    points_up(wish, low_of_run(run), high_of_run(run))
 }
 
 /// The end of a stem that goes up.
@@ -220,5 +202,5 @@ pub fn stem_from(up: bool, stands: &[Stand]) -> i32
 pub fn carries_stem(e: &Still) -> bool
     ensures { result ≡ has_stem e.now }
 {
-    0 < e.stands.len() && is_short_base(e.base)
+    0 < e.stands.as_slice().len() && is_short_base(e.base)
 }

@@ -2,7 +2,7 @@ ghost use Rattle.std.specs.Prelude.{◌≡◌, ◌≤ℤ◌, ◌<◌, ◌++◌, 
 ghost use Rattle.mus_stems.specs.Heads.{stand_of, IsNear, AllNear, lowest, highest, level_of, Taken, taken_one, taken_at, taken, is_step_past, gives_way, shifted, shift_of, shifts_of};
 
 use crate::distances::{LEFT_OF_STEM, RIGHT_OF_STEM};
-use mus_units::{Clef, Head, Memory, Row, height};
+use mus_units::{Clef, Few, Head, Memory, Row, height};
 use std::alloc::Global;
 
 /// Where a head stands, and whether a sign is written before it.
@@ -32,15 +32,19 @@ fn stand_at(clef: Clef, head: Head) -> Stand
 }
 
 /// Where heads stand in a clef, in the order of the text.
-pub fn stands(alloc: Global, clef: Clef, heads: &[Head]) -> Result<Row<Stand>, Memory>
+#[inline(always)]
+pub fn stands(alloc: Global, clef: Clef, heads: &[Head]) -> Result<Few<Stand>, Memory>
     requires { AllNear (map (stand_of clef) heads.now) }
     ensures { IfOk result (λ s. s ≡ map (stand_of clef) heads.now) }
 {
-    let mut out = Row::new(alloc);
+    if let [head] = heads {
+        return Ok(Few::one(stand_at(clef, *head)));
+    }
+    let mut out = Row::with_room(alloc, heads.len())?;
     for head in heads {
         out.push(stand_at(clef, *head))?;
     }
-    Ok(out)
+    Ok(Few::from(out))
 }
 
 /// The least of a height and those of heads.
@@ -176,14 +180,17 @@ fn shift_all(up: bool, stands: &[Stand], shifts: &mut [i32])
 
 /// The dx of each head, in the order of the text. A head alone gives way to none.
 #[tactic(auto, unfolding(crate::specs::Heads::shifts_of), using(crate::proofs::AloneLaws::alone_stays))]
-pub fn shifts_for(alloc: Global, up: bool, stands: &[Stand]) -> Result<Row<i32>, Memory>
+pub fn shifts_for(alloc: Global, up: bool, stands: &[Stand]) -> Result<Few<i32>, Memory>
     requires near { AllNear stands.now }
     ensures { IfOk result (λ r. r ≡ shifts_of up stands.now) }
 {
-    let mut shifts = vec![in alloc; 0; stands.len()]?;
-    if stands.len() <= 1 {
-        return Ok(Row { items: shifts });
+    match stands {
+        [] => Ok(Few::from(Row::new(alloc))),
+        [_] => Ok(Few::one(0)),
+        _ => {
+            let mut shifts = vec![in alloc; 0; stands.len()]?;
+            shift_all(up, stands, &mut shifts);
+            Ok(Few::from(Row { items: shifts }))
+        }
     }
-    shift_all(up, stands, &mut shifts);
-    Ok(Row { items: shifts })
 }

@@ -1,4 +1,4 @@
-ghost use Rattle.std.specs.Prelude.{◌≡◌, ◌++◌, ◌≤◌, length, IfOk, OnOk};
+ghost use Rattle.std.specs.Prelude.{◌≡◌, ◌++◌, ◌∷◌, [], ◌≤◌, length, IfOk, OnOk};
 ghost use Rattle.mus_stems.specs.{Stills.{IsGoodStill, AllGood, AllCanStand, stills}, Beams.beams, Plans.{first_id, plan_of, plans_along, run_plans, plans_of_runs, stems_of, ArePlans, AllEndsNear}};
 
 use crate::beams::more_in_run;
@@ -11,7 +11,7 @@ use crate::ledgers::ledgers_for;
 use crate::signs::{sign_dx, signs_for};
 use crate::stills::{Still, flags_for, stills_for};
 use mus_score::Flat;
-use mus_units::{Clef, Memory, Row, Wish};
+use mus_units::{Clef, Few, Memory, Row, Wish};
 use std::alloc::Global;
 
 /// How an event is drawn beside its heads. Each dx and dy is in u, a dy counted up from the bottom
@@ -35,8 +35,8 @@ pub struct StemPlan {
     pub own: i32,
     pub group: u32,
     pub flags: u8,
-    pub shifts: Row<i32>,
-    pub signs: Row<Option<i32>>,
+    pub shifts: Few<i32>,
+    pub signs: Few<Option<i32>>,
     pub ledgers: Row<i32>,
     pub dots: Row<Spot>,
 }
@@ -51,11 +51,18 @@ fn id_of_run(run: &[Still]) -> u32
     }
 }
 
-/// The plan of one event.
+/// Puts the plan of one event behind others.
 #[tactic(auto, unfolding(crate::specs::Plans::plan_of))]
-fn plan(alloc: Global, up: bool, to: i32, group: u32, e: &Still) -> Result<StemPlan, Memory>
+fn put_plan(
+    alloc: Global,
+    out: &mut Row<StemPlan>,
+    up: bool,
+    to: i32,
+    group: u32,
+    e: &Still,
+) -> Result<(), Memory>
     requires { IsGoodStill e.now }
-    ensures { IfOk result (λ p. p ≡ plan_of up to group e.now) }
+    ensures { OnOk result (out.new ≡ out.old ++ plan_of up to group e.now ∷ []) }
 {
     let stands = e.stands.as_slice();
     let shifts = shifts_for(alloc, up, stands)?;
@@ -63,7 +70,7 @@ fn plan(alloc: Global, up: bool, to: i32, group: u32, e: &Still) -> Result<StemP
     let ledgers = ledgers_for(alloc, lowest_head(stands), highest_head(stands))?;
     let mut dots = Row::new(alloc);
     put_dots(&mut dots, dot_dx(shifts.as_slice()), e.dots, stands)?;
-    Ok(StemPlan {
+    out.push(StemPlan {
         up,
         has: carries_stem(e),
         from: stem_from(up, stands),
@@ -91,7 +98,7 @@ fn put_plans(
     ensures { OnOk result (out.new ≡ out.old ++ plans_along up to group run.now) }
 {
     for e in run {
-        out.push(plan(alloc, up, to, group, e)?)?;
+        put_plan(alloc, out, up, to, group, e)?;
     }
     Ok(())
 }
@@ -145,7 +152,7 @@ pub fn stems(
     ensures plans { IfOk result (ArePlans wish (stills events.now clefs.now)) }
 {
     let stills = stills_for(alloc, events, clefs)?;
-    let mut plans = Row::new(alloc);
+    let mut plans = Row::with_room(alloc, events.len())?;
     put_all_runs(alloc, &mut plans, wish, stills.as_slice())?;
     Ok(plans)
 }

@@ -1,9 +1,9 @@
-ghost use Rattle.std.specs.{Prelude.◌≡◌, Prelude.◌≤ℤ◌, Prelude.◌<◌, Prelude.◌≤◌, Prelude.◌+◌, Prelude.List, Prelude.negsuc, Prelude.length, Prelude.false, Prelude.IfOk, List.list_any};
+ghost use Rattle.std.specs.{Prelude.◌≡◌, Prelude.◌≤ℤ◌, Prelude.◌<◌, Prelude.◌≤◌, Prelude.◌+◌, Prelude.List, Prelude.negsuc, Prelude.length, Prelude.Some, Prelude.None, Prelude.if◌then◌else◌, Prelude.false, Prelude.IfOk, List.list_any};
 ghost use Rattle.mus_stems.specs.{Heads.{IsNear, AllNear, Taken, taken_one, taken_at, taken}, Signs.{is_left, first_sign, sign_at, signs_along, signs_from}};
 
 use crate::distances::{BETWEEN_COLUMNS, LEFT_OF_STEM, OUTER_SIGN_COLUMN, SIGN_COLUMN};
 use crate::heads::{Stand, level};
-use mus_units::{Memory, Row};
+use mus_units::{Few, Memory, Row};
 use std::alloc::Global;
 
 /// The dx of a sign by its number.
@@ -77,20 +77,31 @@ fn any_signed(stands: &[Stand]) -> bool
     stands.iter().any(|stand| stand.signed)
 }
 
+/// The dx of the sign of a head alone.
+fn sign_alone(first: i32, stand: Stand) -> Option<i32>
+    ensures { result ≡ if stand.signed then Some first else None }
+{
+    if stand.signed { Some(first) } else { None }
+}
+
 /// The dx of the sign of each head, in the order of the text.
 #[tactic(auto, unfolding(crate::specs::Signs::signs_from), using(crate::proofs::AloneLaws::none_signed))]
-pub fn signs_for(alloc: Global, first: i32, stands: &[Stand]) -> Result<Row<Option<i32>>, Memory>
+#[inline(always)]
+pub fn signs_for(alloc: Global, first: i32, stands: &[Stand]) -> Result<Few<Option<i32>>, Memory>
     requires near { AllNear stands.now }
     requires few { length stands.now ≤ 50000 }
     requires low { negsuc 1310 ≤ℤ first }
     ensures { IfOk result (λ r. r ≡ signs_from first stands.now) }
 {
+    if let [stand] = stands {
+        return Ok(Few::one(sign_alone(first, *stand)));
+    }
     let mut signs = vec![in alloc; None; stands.len()]?;
     if !any_signed(stands) {
-        return Ok(Row { items: signs });
+        return Ok(Few::from(Row { items: signs }));
     }
     sign_all(first, stands, &mut signs);
-    Ok(Row { items: signs })
+    Ok(Few::from(Row { items: signs }))
 }
 
 /// Whether a head that gave way stands left of its stem.

@@ -44,7 +44,7 @@ fn anchors_for(alloc: Global, plans: &[StemPlan], at: &[i64]) -> Result<Row<Anch
     requires { length at.now ≡ length plans.now }
     ensures { IfOk result (λ a. a ≡ anchors plans.now at.now) }
 {
-    let mut out = Row::new(alloc);
+    let mut out = Row::with_room(alloc, plans.len())?;
     for (plan, x) in plans.iter().zip(at) {
         out.push(make_anchor(plan, x))?;
     }
@@ -246,10 +246,10 @@ fn copy_with(alloc: Global, plan: &StemPlan, to: &i32) -> Result<StemPlan, Memor
         own: plan.own,
         group: plan.group,
         flags: plan.flags,
-        shifts: Row::from_slice(alloc, plan.shifts.as_slice())?,
-        signs: Row::from_slice(alloc, plan.signs.as_slice())?,
-        ledgers: Row::from_slice(alloc, plan.ledgers.as_slice())?,
-        dots: Row::from_slice(alloc, plan.dots.as_slice())?,
+        shifts: plan.shifts.copy(alloc)?,
+        signs: plan.signs.copy(alloc)?,
+        ledgers: plan.ledgers.copy(alloc)?,
+        dots: plan.dots.copy(alloc)?,
     })
 }
 
@@ -265,7 +265,7 @@ fn copy_all_with(alloc: Global, plans: &[StemPlan], ends: &[i32]) -> Result<Row<
     requires { length ends.now ≡ length plans.now }
     ensures { IfOk result (λ p. p ≡ with_ends plans.now ends.now) }
 {
-    let mut out = Row::new(alloc);
+    let mut out = Row::with_room(alloc, plans.len())?;
     for (plan, end) in plans.iter().zip(ends) {
         put_copy(alloc, &mut out, plan, end)?;
     }

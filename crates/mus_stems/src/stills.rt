@@ -3,7 +3,7 @@ ghost use Rattle.mus_stems.specs.Stills.{flags_of, is_short, still_of, stills, C
 
 use crate::heads::{Stand, stands};
 use mus_score::Flat;
-use mus_units::{Base, Clef, Memory, Row};
+use mus_units::{Base, Clef, Few, Memory, Row};
 use std::alloc::Global;
 
 /// What a stem plan takes from an event: its id, its value, whether it is parted from the event
@@ -14,7 +14,7 @@ pub struct Still {
     pub base: Base,
     pub dots: u8,
     pub parted: bool,
-    pub stands: Row<Stand>,
+    pub stands: Few<Stand>,
 }
 
 /// How many flags a note of a base has alone, and a rest shows.
@@ -62,7 +62,7 @@ pub fn stills_for(alloc: Global, events: &[Flat], clefs: &[Clef]) -> Result<Row<
     requires good { AllCanStand events.now clefs.now }
     ensures { IfOk result (λ s. s ≡ stills events.now clefs.now) }
 {
-    let mut out = Row::new(alloc);
+    let mut out = Row::with_room(alloc, events.len())?;
     for (event, clef) in events.iter().zip(clefs) {
         out.push(take_still(alloc, event, *clef)?)?;
     }

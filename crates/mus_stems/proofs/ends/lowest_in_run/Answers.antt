@@ -1,9 +1,0 @@
-use Rattle.std.proofs.{Common.arith, lemmas.Int.ints}
-use Rattle.mus_stems.proofs.Ranges.{run_low_near}
-use Rattle.mus_stems.proofs.ends.lowest_in_run.Goals as goal
-
-pub returns-clause-low : goal.returns-clause-low
-returns-clause-low c = let r = run_low_near c.args.run.now c.requires in omega (arith, ints, c.low_of_run.ensures, r.0, r.1)
-
-pub returns-clause-high : goal.returns-clause-high
-returns-clause-high c = let r = run_low_near c.args.run.now c.requires in omega (arith, ints, c.low_of_run.ensures, r.0, r.1)
