@@ -48,12 +48,7 @@ fn left_key(a: u32, piece: Piece, measure: u32, e: &DrawnEvent) -> ColumnKey
     ensures { result ≡ left_key a piece measure e.now }
 {
     if piece.cut_left {
-        ColumnKey {
-            measure: a,
-            tick: 0,
-            class: Class::Head,
-            place: 0,
-        }
+        ColumnKey::new(a, 0, Class::Head, 0)
     } else {
         note_key(measure, e)
     }
@@ -64,12 +59,8 @@ fn right_key(frame: &Frame<'_>, piece: Piece, measure: u32, e: &DrawnEvent) -> C
     ensures { result ≡ right_key frame.now.lengths.now frame.now.b piece measure e.now }
 {
     if piece.cut_right {
-        ColumnKey {
-            measure: frame.b - 1,
-            tick: frame.lengths[frame.b as usize - 1],
-            class: Class::Bar,
-            place: 0,
-        }
+        let tick = frame.lengths[frame.b as usize - 1];
+        ColumnKey::new(frame.b - 1, tick, Class::Bar, 0)
     } else {
         note_key(measure, e)
     }

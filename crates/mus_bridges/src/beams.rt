@@ -1,5 +1,4 @@
 ghost use Rattle.std.specs.Prelude.{◌≡◌, ◌≤◌, ◌+◌, ◌++◌, length, map, flat_map, IfOk, OnOk};
-ghost use Rattle.mus_time.specs.{Keys.key_at, declared.keys.Class.TheVariants.Grace};
 ghost use Rattle.mus_drawn.specs.Good.{AreGoodDrawn, AreGoodMeasures, IsGoodDrawn};
 ghost use Rattle.mus_ink.specs.Beams.{beam_marks};
 ghost use Rattle.mus_bridges.specs.Bridges.{stem_at, beams_between, beam_over, event_grace_beam, grace_beams_between};
@@ -16,7 +15,7 @@ use std::alloc::Global;
 fn stems_at(alloc: Global, measure: u32, events: &[DrawnEvent]) -> Result<Row<Stem>, Memory>
     ensures { IfOk result (λ r. r ≡ map (stem_at measure) events.now) }
 {
-    let mut stems = Row::new(alloc);
+    let mut stems = Row::with_room(alloc, events.len())?;
     for e in events {
         stems.push(stem_of(note_key(measure, e), &e.plan, e.plan.to))?;
     }
@@ -53,18 +52,6 @@ pub(crate) fn put_beams_between(
     Ok(())
 }
 
-/// The key of the column of a grace by its number.
-fn grace_key(measure: u32, tick: u64, place: u32) -> ColumnKey
-    ensures { result ≡ key_at measure tick Grace place }
-{
-    ColumnKey {
-        measure,
-        tick,
-        class: Class::Grace,
-        place,
-    }
-}
-
 /// Draws the beam of the graces before an event, where they are two or more.
 fn put_event_grace_beam(out: &mut Row<Bridge>, measure: u32, e: &DrawnEvent) -> Result<(), Memory>
     requires { IsGoodDrawn e.now }
@@ -74,8 +61,8 @@ fn put_event_grace_beam(out: &mut Row<Bridge>, measure: u32, e: &DrawnEvent) -> 
     let [_, more @ ..] = graces else {
         return Ok(());
     };
-    let first = grace_key(measure, e.tick, 0);
-    let last = grace_key(measure, e.tick, more.len() as u32);
+    let first = ColumnKey::new(measure, e.tick, Class::Grace, 0);
+    let last = ColumnKey::new(measure, e.tick, Class::Grace, more.len() as u32);
     let group = group_of(e.clef, graces, e.flat.slash);
     put_grace_beam(out, first, last, group)
 }

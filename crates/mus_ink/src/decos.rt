@@ -119,7 +119,12 @@ pub fn put_note(
 ) -> Result<(), Memory>
     ensures { OnOk result (out.new ≡ out.old ++ note_marks clef raise event.now (with_end plan.now to) before after) }
 {
-    let top = top_of(clef, event.heads.as_slice(), plan, to);
     put_body(out, clef, raise, event, plan, to, before, after)?;
-    put_decos(out, first_deco(top), event.decos.as_slice())
+    match event.decos.as_slice() {
+        [] => Ok(()),
+        decos => {
+            let top = top_of(clef, event.heads.as_slice(), plan, to);
+            put_decos(out, first_deco(top), decos)
+        }
+    }
 }

@@ -17,12 +17,7 @@ use std::alloc::Global;
 pub fn note_key(measure: u32, e: &DrawnEvent) -> ColumnKey
     ensures { result ≡ note_key measure e.now }
 {
-    ColumnKey {
-        measure,
-        tick: e.tick,
-        class: Class::Note,
-        place: 0,
-    }
+    ColumnKey::new(measure, e.tick, Class::Note, 0)
 }
 
 fn has_old(e: &DrawnEvent) -> bool
@@ -67,12 +62,7 @@ fn put_measures(
     let mut measure = a;
     for d in measures {
         put_events(out, measure, in_head, d.events.as_slice())?;
-        out.push(ColumnKey {
-            measure,
-            tick: lengths[measure as usize],
-            class: Class::Bar,
-            place: 0,
-        })?;
+        out.push(ColumnKey::new(measure, lengths[measure as usize], Class::Bar, 0))?;
         in_head = false;
         measure += 1;
     }
@@ -87,12 +77,7 @@ fn put_front(out: &mut Row<ColumnKey>, a: u32, begins: bool, first: Bar) -> Resu
     if !begins {
         return Ok(());
     }
-    out.push(ColumnKey {
-        measure: a,
-        tick: 0,
-        class: Class::Head,
-        place: 0,
-    })?;
+    out.push(ColumnKey::new(a, 0, Class::Head, 0))?;
     put_first_key(out, a, first)
 }
 

@@ -16,4 +16,4 @@ pub use drawn::{Bridge, Drawn, Ink, Span};
 pub use laid::{Laid, Lane, Mark, StaffMarks, SystemMarks};
 pub use mus_units::{Glyph, Size, Way};
 pub use printing::{printed, printed_within};
-pub use ranking::{put_bridges, put_ranked};
+pub use ranking::{move_ranked, put_bridges, put_ranked};

@@ -4,7 +4,7 @@ ghost use Rattle.mus_laid.specs.Ranked.{bridge_at, drawn_at, ink_at, span_at};
 
 use crate::drawn::{Bridge, Drawn, Ink, Span};
 use crate::laid::{Laid, Lane, Mark};
-use mus_time::{ColumnKey, rank_of};
+use mus_time::{ColumnKey, next_rank};
 use mus_units::{Memory, Row};
 
 /// What is drawn in a column, as the mark of a system in which the column has this rank.
@@ -29,17 +29,26 @@ fn ink_at(rank: u32, ink: Ink) -> Mark
     }
 }
 
-/// Lays what is drawn in the column of `rank`, in order. The only error is want of memory.
-pub fn put_ranked(out: &mut Row<Laid>, rank: u32, marks: Row<Drawn>) -> Result<(), Memory>
-    ensures { OnOk result (out.new ≡ out.old ++ map (drawn_at rank) marks) }
+/// Lays what is drawn in the column of `rank`, in order, out of a row that keeps its room. The only
+/// error is want of memory.
+pub fn move_ranked(out: &mut Row<Laid>, rank: u32, marks: &mut Row<Drawn>) -> Result<(), Memory>
+    ensures { OnOk result (out.new ≡ out.old ++ map (drawn_at rank) marks.old) }
 {
-    for drawn in marks.items {
+    for drawn in marks.items.drain(..) {
         out.push(Laid {
             mark: ink_at(rank, drawn.ink),
             lane: drawn.lane,
         })?;
     }
     Ok(())
+}
+
+/// Lays what is drawn in the column of `rank`, in order. The only error is want of memory.
+pub fn put_ranked(out: &mut Row<Laid>, rank: u32, marks: Row<Drawn>) -> Result<(), Memory>
+    ensures { OnOk result (out.new ≡ out.old ++ map (drawn_at rank) marks) }
+{
+    let mut marks = marks;
+    move_ranked(out, rank, &mut marks)
 }
 
 fn span_at(first: u32, last: u32, span: Span) -> Mark
@@ -73,9 +82,10 @@ pub fn put_bridges(
     requires { AreRanked keys.now }
     ensures { OnOk result (out.new ≡ out.old ++ map (bridge_at keys.now) bridges.now) }
 {
+    let mut near = 0;
     for bridge in bridges {
-        let first = rank_of(keys, bridge.first);
-        let last = rank_of(keys, bridge.last);
+        let first = next_rank(keys, &mut near, bridge.first);
+        let last = next_rank(keys, &mut near, bridge.last);
         out.push(Laid {
             mark: span_at(first, last, bridge.span),
             lane: Lane::Loose,

@@ -38,7 +38,7 @@ none_shown low first at words decos None [] (m ∷ ms) e = grind (arith, e)
 none_shown low first at words decos None (t ∷ ts) ms e = grind (arith, e)
 none_shown low first at words decos (Some t) ts ms e = grind (arith, e)
 
-words_silent : (place : Option Place) (r : ℕ) (f : Flat) → is_silent f ≡ true → words_marks place r f ≡ []
+pub words_silent : (place : Option Place) (r : ℕ) (f : Flat) → is_silent f ≡ true → words_marks place r f ≡ []
 unfolding text_marks texts_above texts_below
 words_silent None r f e = refl
 words_silent (Some place) r f e =

@@ -6,13 +6,14 @@ ghost use Rattle.mus_ink.specs.{Decos.note_marks, Graces.grace_marks};
 ghost use Rattle.mus_drawn.specs.{Drawn.raise_of, Good.{AllCanGrace, AreGoodDrawn, IsGoodDrawn}};
 ghost use Rattle.mus_marks.specs.{Events.{note_rank, changes_nothing, change_part, graces_from, graces_part, note_part, no_texts, text_place, words_marks, words_part, event_marks, levels_in, levels_behind, events_marks}, Places.HasVerses};
 
+use crate::silence::is_silent;
 use mus_drawn::{DrawnEvent, raise_of};
 use mus_ink::{Group, group_of, put_change, put_grace, put_note};
 use mus_keys::note_key;
-use mus_laid::{Drawn, Laid, put_ranked};
+use mus_laid::{Drawn, Laid, move_ranked};
 use mus_score::{Changes, Event, Flat};
 use mus_stems::StemPlan;
-use mus_time::{Class, ColumnKey, rank_at, rank_of};
+use mus_time::{Class, ColumnKey, next_rank, rank_at};
 use mus_units::{Clef, Memory, Row};
 use mus_words::{TextPlace, put_syllables, put_texts};
 use std::alloc::Global;
@@ -42,8 +43,24 @@ pub struct Place {
     pub before: Row<Texts>,
 }
 
-/// How many marks most events have at most; room for so many is made at once.
-const MARKS_OF_EVENT: usize = 4;
+/// What events are laid with, one after the other: the place behind the column that was found last,
+/// and a row for what is drawn in a column.
+#[derive(Drop)]
+pub(crate) struct Pen {
+    pub alloc: Global,
+    pub near: usize,
+    pub drawn: Row<Drawn>,
+}
+
+impl Pen {
+    pub(crate) fn new(alloc: Global) -> Pen {
+        Pen {
+            alloc,
+            near: 0,
+            drawn: Row::new(alloc),
+        }
+    }
+}
 
 /// Whether changes have neither clef nor key nor meter.
 pub fn changes_nothing(changes: &Changes) -> bool
@@ -54,7 +71,7 @@ pub fn changes_nothing(changes: &Changes) -> bool
 
 /// Lays the change before an event, unless it is `drawn` already: by the head, or by the voice above.
 fn put_change_part(
-    alloc: Global,
+    pen: &mut Pen,
     out: &mut Row<Laid>,
     keys: &[ColumnKey],
     measure: u32,
@@ -73,14 +90,14 @@ fn put_change_part(
         return Ok(());
     }
     let rank = rank_at(keys, measure, e.tick, Class::Change, 0);
-    let mut marks = Row::new(alloc);
-    put_change(alloc, &mut marks, e.clef, e.old.as_slice(), changes)?;
-    put_ranked(out, rank, marks)
+    pen.drawn.items.clear();
+    put_change(pen.alloc, &mut pen.drawn, e.clef, e.old.as_slice(), changes)?;
+    move_ranked(out, rank, &mut pen.drawn)
 }
 
 /// Lays a grace of a group in its column.
 fn put_grace_at(
-    alloc: Global,
+    pen: &mut Pen,
     out: &mut Row<Laid>,
     rank: u32,
     clef: Clef,
@@ -92,14 +109,14 @@ fn put_grace_at(
     requires few { length grace.now.heads ≤ 50000 }
     ensures { OnOk result (out.new ≡ out.old ++ map (drawn_at rank) (grace_marks clef group first grace.now)) }
 {
-    let mut drawn = Row::new(alloc);
-    put_grace(alloc, &mut drawn, clef, group, first, grace)?;
-    put_ranked(out, rank, drawn)
+    pen.drawn.items.clear();
+    put_grace(pen.alloc, &mut pen.drawn, clef, group, first, grace)?;
+    move_ranked(out, rank, &mut pen.drawn)
 }
 
 /// Lays graces of a group, each in a column of its own.
 fn put_graces(
-    alloc: Global,
+    pen: &mut Pen,
     out: &mut Row<Laid>,
     keys: &[ColumnKey],
     measure: u32,
@@ -114,15 +131,16 @@ fn put_graces(
     ensures { OnOk result (out.new ≡ out.old ++ graces_from keys.now measure tick clef group 0 graces.now) }
 {
     for (i, grace) in graces.iter().enumerate() {
-        let rank = rank_at(keys, measure, tick, Class::Grace, i as u32);
-        put_grace_at(alloc, out, rank, clef, group, i == 0, grace)?;
+        let key = ColumnKey::new(measure, tick, Class::Grace, i as u32);
+        let rank = next_rank(keys, &mut pen.near, key);
+        put_grace_at(pen, out, rank, clef, group, i == 0, grace)?;
     }
     Ok(())
 }
 
 /// Lays the graces before an event.
 fn put_graces_part(
-    alloc: Global,
+    pen: &mut Pen,
     out: &mut Row<Laid>,
     keys: &[ColumnKey],
     measure: u32,
@@ -133,8 +151,11 @@ fn put_graces_part(
     ensures { OnOk result (out.new ≡ out.old ++ graces_part keys.now measure e.now) }
 {
     let graces = e.flat.graces.as_slice();
+    let [_, ..] = graces else {
+        return Ok(());
+    };
     let group = group_of(e.clef, graces, e.flat.slash);
-    put_graces(alloc, out, keys, measure, e.tick, e.clef, group, graces)
+    put_graces(pen, out, keys, measure, e.tick, e.clef, group, graces)
 }
 
 /// Where the texts of an event go in a column that has some already.
@@ -175,6 +196,9 @@ fn put_words(
     let Some(place) = place else {
         return Ok(());
     };
+    if is_silent(flat) {
+        return Ok(());
+    }
     let words = flat.event.words.as_slice();
     put_syllables(alloc, out, place.first, place.room.low, words)?;
     let before = texts_at(place.before.as_slice(), rank as usize);
@@ -193,7 +217,7 @@ fn draw_note(out: &mut Row<Drawn>, before: u8, after: u8, e: &DrawnEvent) -> Res
 /// Lays an event in its column, with its syllables and texts if their place is known.
 #[tactic(auto, using(crate::proofs::Appended::both_laid))]
 fn put_note_part(
-    alloc: Global,
+    pen: &mut Pen,
     out: &mut Row<Laid>,
     keys: &[ColumnKey],
     place: Option<&Place>,
@@ -207,18 +231,18 @@ fn put_note_part(
     requires verses { HasVerses (option_copied place) }
     ensures { OnOk result (out.new ≡ out.old ++ note_part keys.now measure before after e.now ++ words_part (note_rank keys.now measure e.now) (option_copied place.entry) e.now.flat) }
 {
-    let rank = rank_of(keys, note_key(measure, e));
-    let mut drawn = Row::new(alloc);
-    draw_note(&mut drawn, before, after, e)?;
-    put_words(alloc, &mut drawn, place, rank, &e.flat)?;
-    put_ranked(out, rank, drawn)
+    let rank = next_rank(keys, &mut pen.near, note_key(measure, e));
+    pen.drawn.items.clear();
+    draw_note(&mut pen.drawn, before, after, e)?;
+    put_words(pen.alloc, &mut pen.drawn, place, rank, &e.flat)?;
+    move_ranked(out, rank, &mut pen.drawn)
 }
 
 /// Lays an event with the change and the graces before it; `before` and `after` are the levels of the
 /// events beside it in its beam.
 #[tactic(auto, unfolding(crate::specs::Events::event_marks))]
 fn put_event(
-    alloc: Global,
+    pen: &mut Pen,
     out: &mut Row<Laid>,
     keys: &[ColumnKey],
     place: Option<&Place>,
@@ -234,9 +258,9 @@ fn put_event(
     ensures { OnOk result (out.new ≡ out.old ++ event_marks keys.now (option_copied place.entry) measure in_head before after e.now) }
 {
     let drawn = in_head || e.seat.is_lower();
-    put_change_part(alloc, out, keys, measure, drawn, e)?;
-    put_graces_part(alloc, out, keys, measure, e)?;
-    put_note_part(alloc, out, keys, place, measure, before, after, e)
+    put_change_part(pen, out, keys, measure, drawn, e)?;
+    put_graces_part(pen, out, keys, measure, e)?;
+    put_note_part(pen, out, keys, place, measure, before, after, e)
 }
 
 /// The levels of an event that are in a plan's beam.
@@ -259,7 +283,7 @@ fn levels_behind(plan: &StemPlan, behind: &[DrawnEvent]) -> u8
 /// Lays the events of a measure, each with the change and the graces before it; the first without its
 /// change, if the head draws that. Syllables and texts are laid where their place is known.
 pub(crate) fn put_events(
-    alloc: Global,
+    pen: &mut Pen,
     out: &mut Row<Laid>,
     keys: &[ColumnKey],
     place: Option<&Place>,
@@ -272,14 +296,12 @@ pub(crate) fn put_events(
     requires verses { HasVerses (option_copied place) }
     ensures { OnOk result (out.new ≡ out.old ++ events_marks keys.now (option_copied place.entry) measure in_head 0 0 events.now) }
 {
-    out.items
-        .reserve(events.len().saturating_mul(MARKS_OF_EVENT))?;
     let mut rest = events;
     let (mut drawn, mut group, mut flags) = (in_head, 0, 0);
     while let Some((e, behind)) = rest.split_first() {
         let before = levels_in(&e.plan, group, flags);
         let after = levels_behind(&e.plan, behind);
-        put_event(alloc, out, keys, place, measure, drawn, before, after, e)?;
+        put_event(pen, out, keys, place, measure, drawn, before, after, e)?;
         drawn = false;
         group = e.plan.group;
         flags = e.plan.flags;

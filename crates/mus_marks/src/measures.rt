@@ -2,30 +2,33 @@ ghost use Rattle.std.specs.Prelude.{◌≡◌, ◌≤◌, ◌<◌, ◌+◌, ◌+
 ghost use Rattle.mus_time.specs.{Keys.has_features, Ranks.AreRanked};
 ghost use Rattle.mus_laid.specs.Ranked.{drawn_at};
 ghost use Rattle.mus_ink.specs.Bars.{bar_marks};
-ghost use Rattle.mus_drawn.specs.Good.{AreGoodMeasures, IsGoodMeasure};
-ghost use Rattle.mus_marks.specs.{Events.bar_part, Events.events_marks, Events.measures_marks, Places.HasVerses, Staff.meter_shown, Staff.head_part, Staff.first_part, Staff.columns_part};
+ghost use Rattle.mus_drawn.specs.Good.{AreGoodMeasures};
+ghost use Rattle.mus_marks.specs.{Events.bar_part, Events.measures_marks, Places.HasVerses, Staff.meter_shown, Staff.head_part, Staff.first_part, Staff.columns_part};
 
-use crate::events::{Place, put_events};
+use crate::events::{Pen, Place, put_events};
 use mus_drawn::{DrawnMeasure, Opening};
 use mus_ink::{put_bar, put_head};
-use mus_laid::{Laid, put_ranked};
+use mus_laid::{Laid, move_ranked, put_ranked};
 use mus_score::Seat;
-use mus_time::{Class, ColumnKey, rank_at};
+use mus_time::{Class, ColumnKey, next_rank, rank_at};
 use mus_units::{Bar, Memory, Meter, Row};
 use std::alloc::Global;
 
+/// How many marks most events and bars have at most; room for so many is made at once.
+const MARKS_OF_EVENT: usize = 4;
+
 /// Lays a bar in its column.
-fn put_bar_at(alloc: Global, out: &mut Row<Laid>, rank: u32, bar: Bar) -> Result<(), Memory>
+fn put_bar_at(pen: &mut Pen, out: &mut Row<Laid>, rank: u32, bar: Bar) -> Result<(), Memory>
     ensures { OnOk result (out.new ≡ out.old ++ map (drawn_at rank) (bar_marks bar)) }
 {
-    let mut drawn = Row::new(alloc);
-    put_bar(&mut drawn, bar)?;
-    put_ranked(out, rank, drawn)
+    pen.drawn.items.clear();
+    put_bar(&mut pen.drawn, bar)?;
+    move_ranked(out, rank, &mut pen.drawn)
 }
 
 /// Lays the bar behind a measure, unless the voice above draws it.
 fn put_bar_part(
-    alloc: Global,
+    pen: &mut Pen,
     out: &mut Row<Laid>,
     keys: &[ColumnKey],
     lengths: &[u64],
@@ -39,41 +42,18 @@ fn put_bar_part(
     if d.seat.is_lower() {
         return Ok(());
     }
-    let tick = lengths[measure as usize];
-    put_bar_at(
-        alloc,
-        out,
-        rank_at(keys, measure, tick, Class::Bar, 0),
-        d.bar,
-    )
+    let key = ColumnKey::new(measure, lengths[measure as usize], Class::Bar, 0);
+    let rank = next_rank(keys, &mut pen.near, key);
+    put_bar_at(pen, out, rank, d.bar)
 }
 
-fn put_measure(
-    alloc: Global,
-    out: &mut Row<Laid>,
-    keys: &[ColumnKey],
-    lengths: &[u64],
-    place: Option<&Place>,
-    measure: u32,
-    in_head: bool,
-    d: &DrawnMeasure,
-) -> Result<(), Memory>
-    requires keys { AreRanked keys.now }
-    requires inside { measure < length lengths.now }
-    requires good { IsGoodMeasure d.now }
-    requires verses { HasVerses (option_copied place) }
-    ensures { OnOk result (out.new ≡ out.old ++ events_marks keys.now (option_copied place.entry) measure in_head 0 0 d.now.events ++ bar_part keys.now lengths.now measure d.now) }
-{
-    put_events(
-        alloc,
-        out,
-        keys,
-        place,
-        measure,
-        in_head,
-        d.events.as_slice(),
-    )?;
-    put_bar_part(alloc, out, keys, lengths, measure, d)
+/// How many marks measures have where no event has more than most have.
+fn room_for(measures: &[DrawnMeasure]) -> usize {
+    let mut events: usize = 0;
+    for d in measures {
+        events = events.saturating_add(d.events.len()).saturating_add(1);
+    }
+    events.saturating_mul(MARKS_OF_EVENT)
 }
 
 /// Lays the events and bars of measures of a system, from number `a` on, by the ranks of the keys; the
@@ -96,10 +76,13 @@ pub fn put_measures(
     requires verses { HasVerses (option_copied place) }
     ensures { OnOk result (out.new ≡ out.old ++ measures_marks keys.now lengths.now (option_copied place.entry) a in_head measures.now) }
 {
+    let mut pen = Pen::new(alloc);
     let mut measure = a;
     let mut in_head = in_head;
     for d in measures {
-        put_measure(alloc, out, keys, lengths, place, measure, in_head, d)?;
+        let events = d.events.as_slice();
+        put_events(&mut pen, out, keys, place, measure, in_head, events)?;
+        put_bar_part(&mut pen, out, keys, lengths, measure, d)?;
         in_head = false;
         measure += 1;
     }
@@ -166,7 +149,8 @@ fn put_first_part(
     if seat.is_lower() || a != 0 || !is_featured(bar) {
         return Ok(());
     }
-    put_bar_at(alloc, out, rank_at(keys, 0, 0, Class::First, 0), bar)
+    let rank = rank_at(keys, 0, 0, Class::First, 0);
+    put_bar_at(&mut Pen::new(alloc), out, rank, bar)
 }
 
 /// Lays what stands in the columns of a system from measure `a` on: its head, the bar before the first
@@ -191,6 +175,7 @@ pub fn put_columns_part(
     requires verses { HasVerses (option_copied place) }
     ensures { OnOk result (out.new ≡ out.old ++ columns_part keys.now lengths.now (option_copied place.entry) a seat first measures.now) }
 {
+    out.items.reserve(room_for(measures))?;
     put_head_part(alloc, out, keys, a, measures)?;
     put_first_part(alloc, out, keys, a, seat, first)?;
     put_measures(alloc, out, keys, lengths, place, a, true, measures)

@@ -25,7 +25,7 @@ fn have_no_syllable(words: &[Option<Text>]) -> bool
 }
 
 /// Whether an event has no syllables and no texts.
-fn is_silent(flat: &Flat) -> bool
+pub(crate) fn is_silent(flat: &Flat) -> bool
     ensures { result ≡ is_silent flat.now }
 {
     let event = &flat.event;

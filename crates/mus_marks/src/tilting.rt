@@ -1,9 +1,10 @@
-ghost use Rattle.std.specs.Prelude.{◌≡◌, ◌≤◌, ◌<◌, ◌+◌, length, map, slice_range, All, IfOk};
+ghost use Rattle.std.specs.Prelude.{◌≡◌, ◌≤◌, ◌<◌, ◌+◌, length, map, pos, slice_index_or, slice_range, All, IfOk};
 ghost use Rattle.mus_score.specs.{GoodScore.IsGoodScore, Seats.grouped};
 ghost use Rattle.mus_time.specs.{Keys.IsInSystem, Onsets.timeline_of, Ranks.AreRanked};
 ghost use Rattle.mus_drawn.specs.{Drawn.drawn_voice, Good.AreGoodMeasures};
+ghost use Rattle.mus_stems.specs.Slope.{anchor_of};
 ghost use Rattle.mus_laid.specs.{Boxes.AreGoodMarks, Shapes.AreAlike};
-ghost use Rattle.mus_marks.specs.{Staff.{CoversLines, verses_on}, System.{IsCall, stands_lower}, Tilt.{anchor_at, CanTilt, AllCanTilt, ends_over, sloped_over, plain_ends, over, event_ended, measure_ended, voice_ended, tilted_staff, AreAbscissas, IsTilted}};
+ghost use Rattle.mus_marks.specs.{Staff.{CoversLines, verses_on}, System.{IsCall, stands_lower}, Tilt.{CanTilt, AllCanTilt, ends_over, sloped_over, plain_ends, over, event_ended, measure_ended, voice_ended, tilted_staff, AreAbscissas, IsTilted}};
 
 use crate::staves::staves;
 use mus_drawn::{DrawnEvent, DrawnMeasure, DrawnVoice};
@@ -11,17 +12,15 @@ use mus_keys::{Frame, draw_voices, note_key, system_keys};
 use mus_laid::{StaffMarks, SystemMarks};
 use mus_score::Score;
 use mus_stems::{Anchor, ends_for};
-use mus_time::{ColumnKey, Timeline, rank_of};
+use mus_time::{ColumnKey, Timeline, next_rank};
 use mus_units::{Memory, Row};
 use std::alloc::Global;
 
 /// What the line of its beam takes from an event.
 #[tactic(auto, unfolding(mus_stems::specs::Slope::anchor_of))]
-fn anchor_at(keys: &[ColumnKey], at: &[i64], measure: u32, e: &DrawnEvent) -> Anchor
-    requires { AreRanked keys.now }
-    ensures { result ≡ anchor_at keys.now at.now measure e.now }
+fn anchor_at(at: &[i64], rank: u32, e: &DrawnEvent) -> Anchor
+    ensures { result ≡ anchor_of e.now.plan (slice_index_or at.now rank (pos 0)) }
 {
-    let rank = rank_of(keys, note_key(measure, e));
     Anchor {
         up: e.plan.up,
         own: e.plan.own,
@@ -34,6 +33,7 @@ fn anchor_at(keys: &[ColumnKey], at: &[i64], measure: u32, e: &DrawnEvent) -> An
 fn ends_over(
     alloc: Global,
     keys: &[ColumnKey],
+    near: &mut usize,
     at: &[i64],
     measure: u32,
     d: &DrawnMeasure,
@@ -43,9 +43,10 @@ fn ends_over(
     ensures { IfOk result (λ r. r ≡ ends_over keys.now at.now measure d.now.events) }
 {
     let events = d.events.as_slice();
-    let mut anchors = Row::new(alloc);
+    let mut anchors = Row::with_room(alloc, events.len())?;
     for e in events {
-        anchors.push(anchor_at(keys, at, measure, e))?;
+        let rank = next_rank(keys, near, note_key(measure, e));
+        anchors.push(anchor_at(at, rank, e))?;
     }
     ends_for(alloc, anchors.as_slice())
 }
@@ -63,10 +64,10 @@ fn sloped_over(
     requires few { a + length measures.now ≤ 2000 }
     ensures { IfOk result (λ r. r ≡ sloped_over keys.now at.now a measures.now) }
 {
-    let mut ends = Row::new(alloc);
-    let mut measure = a;
+    let mut ends = Row::with_room(alloc, measures.len())?;
+    let (mut measure, mut near) = (a, 0);
     for d in measures {
-        ends.push(ends_over(alloc, keys, at, measure, d)?)?;
+        ends.push(ends_over(alloc, keys, &mut near, at, measure, d)?)?;
         measure += 1;
     }
     Ok(ends)
@@ -75,7 +76,7 @@ fn sloped_over(
 fn plain_ends_of(alloc: Global, events: &[DrawnEvent]) -> Result<Row<i32>, Memory>
     ensures { IfOk result (λ r. r ≡ map (λ e. e.plan.to) events.now) }
 {
-    let mut ends = Row::new(alloc);
+    let mut ends = Row::with_room(alloc, events.len())?;
     for e in events {
         ends.push(e.plan.to)?;
     }
@@ -86,7 +87,7 @@ fn plain_ends_of(alloc: Global, events: &[DrawnEvent]) -> Result<Row<i32>, Memor
 fn plain_ends(alloc: Global, measures: &[DrawnMeasure]) -> Result<Row<Row<i32>>, Memory>
     ensures { IfOk result (λ r. r ≡ plain_ends measures.now) }
 {
-    let mut ends = Row::new(alloc);
+    let mut ends = Row::with_room(alloc, measures.len())?;
     for d in measures {
         ends.push(plain_ends_of(alloc, d.events.as_slice())?)?;
     }
@@ -144,7 +145,7 @@ fn plain_voices(
     requires { All (λ v. length v.measures ≡ length frame.now.lengths.now) voices.now }
     ensures { IfOk result (λ r. r ≡ map (λ v. plain_ends (slice_range v.measures frame.now.a frame.now.b)) voices.now) }
 {
-    let mut ends = Row::new(alloc);
+    let mut ends = Row::with_room(alloc, voices.len())?;
     for v in voices {
         let measures = &v.measures.as_slice()[frame.a as usize..frame.b as usize];
         ends.push(plain_ends(alloc, measures)?)?;
@@ -163,7 +164,7 @@ fn sloped_voices(
     requires slopes { All (λ v. AllCanTilt frame.now.keys.now at.now frame.now.a (slice_range v.measures frame.now.a frame.now.b)) voices.now }
     ensures { IfOk result (λ r. r ≡ map (λ v. sloped_over frame.now.keys.now at.now frame.now.a (slice_range v.measures frame.now.a frame.now.b)) voices.now) }
 {
-    let mut ends = Row::new(alloc);
+    let mut ends = Row::with_room(alloc, voices.len())?;
     for v in voices {
         let measures = &v.measures.as_slice()[frame.a as usize..frame.b as usize];
         ends.push(sloped_over(alloc, frame.keys, at, frame.a, measures)?)?;

@@ -1,5 +1,5 @@
 -- The tree and the events in a row have the same beats, and these tell onsets.
-use Rattle.std.{proofs.{Common.{◌≡◌, ◌∙◌, ℕ, ◌+◌, ◌*◌, ◌≤◌, Bool, List, [], ◌∷◌, ◌++◌, Option, Some, None, ap, map, refl, subst, sym, arith}, lemmas.List.{map-append, Sums.sum_by-cons}}, specs.{List.{AllByRecursion, sum_by}, Prelude.unwrap_or}}
+use Rattle.std.{proofs.{Common.{◌≡◌, ◌∙◌, ℕ, ◌+◌, ◌*◌, ◌≤◌, List, [], ◌∷◌, ◌++◌, ap, map, refl, subst, sym, arith}, lemmas.List.{map-append, Sums.sum_by-cons}}, specs.{List.{AllByRecursion, sum_by}}}
 use Rattle.mus_score.{specs.{declared.{score.{Flat.Flat, Music.{Music, TheOpen.Music-F, TheFolds.{fold-roll-Music, ind-Music, map-Music}, TheViews.roll-Music}}, times.Waits.Waits}, Good.{IsGoodBody, longest_ticks, total_ticks}, Times.{InTuplets, Leafing, flats_of, in_row, leaves_step, leaves_within, nothing}}, proofs.Bounds.{all_music, body_fits, flats_short, gathered}}
 use Rattle.mus_time.specs.{declared.beats.Beat.Beat, Beats.{beat_of, beat_onsets, beats_in_row, beats_of, beats_step, beats_within}, Onsets.event_onsets}
 

@@ -54,12 +54,7 @@ fn put_graces(
     ensures { OnOk result (out.new ≡ out.old ++ grace_keys measure tick 0 graces.now) }
 {
     for (i, _grace) in graces.iter().enumerate() {
-        out.push(ColumnKey {
-            measure,
-            tick,
-            class: Class::Grace,
-            place: i as u32,
-        })?;
+        out.push(ColumnKey::new(measure, tick, Class::Grace, i as u32))?;
     }
     Ok(())
 }
@@ -79,20 +74,10 @@ pub fn put_event_keys(
     ensures { OnOk result (out.new ≡ out.old ++ event_keys measure tick in_head signed f.now) }
 {
     if !in_head && draws(signed, &f.event.changes) {
-        out.push(ColumnKey {
-            measure,
-            tick,
-            class: Class::Change,
-            place: 0,
-        })?;
+        out.push(ColumnKey::new(measure, tick, Class::Change, 0))?;
     }
     put_graces(out, measure, tick, f.graces.as_slice())?;
-    out.push(ColumnKey {
-        measure,
-        tick,
-        class: Class::Note,
-        place: 0,
-    })?;
+    out.push(ColumnKey::new(measure, tick, Class::Note, 0))?;
     Ok(())
 }
 
@@ -104,12 +89,7 @@ pub fn put_first_key(out: &mut Row<ColumnKey>, a: u32, bar: Bar) -> Result<(), M
     if a != 0 || !is_featured(bar) {
         return Ok(());
     }
-    out.push(ColumnKey {
-        measure: 0,
-        tick: 0,
-        class: Class::First,
-        place: 0,
-    })
+    out.push(ColumnKey::new(0, 0, Class::First, 0))
 }
 
 fn is_for_each(key: ColumnKey) -> bool

@@ -26,18 +26,24 @@ pub fn rank_of(keys: &[ColumnKey], key: ColumnKey) -> u32
     keys.partition_point(|k| is_below(k, key)) as u32
 }
 
+/// The rank of a column, as `rank_of` gives it. The place `near` is looked at first, which then is the
+/// one behind: columns that are asked for in order are found at once.
+pub fn next_rank(keys: &[ColumnKey], near: &mut usize, key: ColumnKey) -> u32
+    requires { AreRanked keys.now }
+    ensures { result ≡ rank_of keys.now key }
+{
+    let rank = match keys.get(*near) {
+        Some(found) if *found == key => *near as u32,
+        _ => rank_of(keys, key),
+    };
+    *near = rank as usize + 1;
+    rank
+}
+
 /// The rank of a column of a system, by where it stands and the system's keys.
 pub fn rank_at(keys: &[ColumnKey], measure: u32, tick: u64, class: Class, place: u32) -> u32
     requires { AreRanked keys.now }
     ensures { result ≡ rank_at keys.now measure tick class place }
 {
-    rank_of(
-        keys,
-        ColumnKey {
-            measure,
-            tick,
-            class,
-            place,
-        },
-    )
+    rank_of(keys, ColumnKey::new(measure, tick, class, place))
 }
