@@ -52,9 +52,7 @@ fn bare_columns(
 ) -> Result<Row<Column>, Memory>
     ensures { IfOk result (λ r. r ≡ bare_columns keys.now lengths.now lanes) }
 {
-    let mut out = Row {
-        items: Vec::with_capacity(alloc, keys.len())?,
-    };
+    let mut out = Row::with_room(alloc, keys.len())?;
     for (rank, key) in keys.iter().enumerate() {
         let natural = natural_of(*key, &keys[rank + 1..], lengths);
         out.push(bare_column(alloc, *key, natural, lanes)?)?;

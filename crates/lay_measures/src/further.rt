@@ -77,7 +77,7 @@ fn follow_head(m: u32, columns: &[Column], keys: &[ColumnKey]) -> bool
 fn copy_columns(alloc: Global, columns: &[Column]) -> Result<Row<Column>, Memory>
     ensures { IfOk result (λ r. r ≡ columns.now) }
 {
-    let mut copies = Row::new(alloc);
+    let mut copies = Row::with_room(alloc, columns.len())?;
     for column in columns {
         copies.push(Column {
             key: column.key,

@@ -31,7 +31,7 @@ fn greatest_force<C: Spaced + Spring>(
     requires lanes { length gaps.now < 2 ^ 32 }
     requires narrow { (lane : ℕ) → lane < length gaps.now → slice_index gaps.now lane ≤ 2 ^ 20 }
     requires most { most ≤ 2048 }
-    requires room { most_columns width + length gaps.now ≤ length scratch.old }
+    requires room { length cols.now + length gaps.now ≤ length scratch.old }
     ensures bound { IfSome result (λ f. f ≤ most) }
     ensures fits { IfSome result (λ f. FitsAt C.reach_of C.length_of gaps.now width f cols.now) }
     ensures greatest { IfSome result (λ f. (g : ℕ) → f < g → g ≤ most → StandsAt C.reach_of C.length_of gaps.now width g cols.now → ⊥) }
@@ -63,28 +63,22 @@ pub(crate) fn measure<'a, C>(
 }
 
 /// Adds columns to those that are seen.
-pub(crate) fn see<'a, C>(seen: &mut Row<Seen<'a, C>>, columns: &'a [C]) -> Result<(), Memory>
+pub(crate) fn see<'a, C: Spaced>(
+    seen: &mut Row<Seen<'a, C>>,
+    columns: &'a [C],
+) -> Result<(), Memory>
     ensures { OnOk result (map (λ s. s.column.now) seen.new ≡ map (λ s. s.column.now) seen.old ++ columns.now) }
 {
     for column in columns {
-        seen.push(Seen { column })?;
+        seen.push(Seen::of(column))?;
     }
     Ok(())
 }
 
-/// No columns yet, with room for all that can stand within a width.
-fn room_for_columns<'a, C>(alloc: Global, width: u32) -> Result<Row<Seen<'a, C>>, Memory>
-    ensures { IfOk result (λ seen. seen ≡ []) }
-{
-    Ok(Row {
-        items: Vec::with_capacity(alloc, most_columns(width))?,
-    })
-}
-
 /// What the spans from bar `a` cost, from the shortest to the longest that fits. It adds
 /// one measure's columns at a time, and stops at the first span that doesn't fit or
-/// behind a forced bar. The searches for a force take no memory: room is reserved before
-/// the first.
+/// behind a forced bar. The searches for a force take no memory: room for all columns that
+/// can stand within the width is reserved before the first.
 pub(crate) fn row_from<C: Spaced + Spring>(
     alloc: Global,
     starts: &[Row<C>],
@@ -102,14 +96,15 @@ pub(crate) fn row_from<C: Spaced + Spring>(
     ensures { IfOk result (λ row. IsRowFrom C.reach_of C.length_of gaps.now width starts.now others.now
         (λ b. slice_index_or marks.now b false) a row) }
 {
-    let mut places = places_of(alloc, width, gaps.len())?;
-    let scratch = places.as_mut_slice();
-    let mut seen = room_for_columns(alloc, width)?;
+    let mut places = Vec::with_capacity(alloc, most_columns(width) + gaps.len())?;
+    let mut seen = Row::with_room(alloc, most_columns(width))?;
     let mut row = Row::new(alloc);
     let mut most = 2048;
     for m in a..starts.len() {
         see(&mut seen, measure(starts, others, a, m))?;
-        let Some(force) = greatest_force(seen.as_slice(), gaps, width, most, scratch) else {
+        let columns = seen.as_slice();
+        places.resize(columns.len() + gaps.len(), 0)?;
+        let Some(force) = greatest_force(columns, gaps, width, most, &mut places) else {
             return Ok(row);
         };
         row.push(badness(force, m + 1 == starts.len()))?;

@@ -1,5 +1,5 @@
 -- More columns need more room.
-use Rattle.std.proofs.{Common.{◌≡◌, ℕ, zero, suc, ◌+◌, ◌-◌, ◌*◌, ◌/◌, ◌<◌, ◌≤◌, ℤ, pos, ◌≤ℤ◌, List, [], ◌∷◌, ◌++◌, length, Option, option_map, option_and_then, unwrap_or, slice_get, slice_index_or, arith, ◌∙◌, ap, refl, length-append}, lemmas.{Int.ints, Nat.le-div}}
+use Rattle.std.proofs.{Common.{◌≡◌, ℕ, zero, suc, ◌+◌, ◌-◌, ◌*◌, ◌<◌, ◌≤◌, ℤ, pos, ◌≤ℤ◌, List, [], ◌∷◌, ◌++◌, length, Option, option_map, option_and_then, unwrap_or, slice_get, slice_index_or, arith, ◌∙◌, ap, refl, length-append}, lemmas.{Int.ints, Nat.le-div}}
 use Rattle.lay_springs.{specs.{declared.traits.Reach.Reach, Place.{reach_at, length_at, StandApart}, Fit.{Fits, Passes, CanStand, StandsInAll, LongerFitsLess, most_columns}}, proofs.Ends.apart_down}
 
 pub stands : (n : ℕ) (reach : ℕ → ℕ → Option Reach) (gaps : List ℕ) (spring : ℕ → ℕ → ℕ) (width force : ℕ)

@@ -1,7 +1,7 @@
 ghost use Rattle.std.specs.Prelude.{◌≡◌, ◌+◌, ◌^◌, ◌<◌, ◌≤◌, ℕ, ℤ, pos, ◌≤ℤ◌, IfSome, IfNone, length, slice_index, slice_index_or};
 ghost use Rattle.lay_springs.specs.{Fit.{IsEndOf, EndsAt, Fits, CanStand, LongerFitsLess, Passes, most_columns}, Place.{reach_at, length_at}};
 
-use crate::guesses::{crossing, nearest, tight};
+use crate::guesses::{crossing, nearest};
 use crate::least::{larger, settle};
 use crate::traits::{Spaced, Spring};
 
@@ -22,6 +22,12 @@ pub(crate) fn end_of<C: Spaced>(col: &C, lanes: usize, at: i64) -> i64
     end
 }
 
+/// Where columns end at a force, and the length of the springs that alone hold neighbors apart.
+struct Ended {
+    end: i64,
+    tight: u64,
+}
+
 /// Where the columns end at a force.
 fn end_at<C: Spaced + Spring>(
     cols: &[C],
@@ -29,22 +35,22 @@ fn end_at<C: Spaced + Spring>(
     force: u16,
     at: &mut [i64],
     front: &mut [i64],
-) -> i64
+) -> Ended
     requires some { 0 < length cols.now }
     requires few { length cols.now ≤ 2 ^ 26 }
     requires lanes { length gaps.now < 2 ^ 32 }
     requires narrow { (lane : ℕ) → lane < length gaps.now → slice_index gaps.now lane ≤ 2 ^ 20 }
     requires room { length at.old ≡ length cols.now }
     requires one_each { length front.old ≡ length gaps.now }
-    ensures end { EndsAt (length cols.now) (reach_at C.reach_of cols.now) gaps.now (length_at C.length_of cols.now) force result }
-    ensures past { pos 0 ≤ℤ result }
-    ensures below { result ≤ℤ pos (2 ^ 49) }
-    ensures small { (k : ℕ) → k < length cols.now
-        → (pos 0 ≤ℤ slice_index_or at.new k (pos 0)) × (slice_index_or at.new k (pos 0) ≤ℤ pos (2 ^ 48)) }
+    ensures end { EndsAt (length cols.now) (reach_at C.reach_of cols.now) gaps.now (length_at C.length_of cols.now) force result.end }
+    ensures past { pos 0 ≤ℤ result.end }
+    ensures below { result.end ≤ℤ pos (2 ^ 49) }
+    ensures tight { result.tight ≤ 2 ^ 47 }
 {
-    settle(cols, gaps, force, at, front);
+    let tight = settle(cols, gaps, force, at, front);
     let last = cols.len() - 1;
-    end_of(&cols[last], gaps.len(), at[last])
+    let end = end_of(&cols[last], gaps.len(), at[last]);
+    Ended { end, tight }
 }
 
 /// The most columns that can stand within a width, in u: neighbors stand 100 apart.
@@ -108,8 +114,8 @@ pub fn fit_within<C: Spaced + Spring>(
     let mut guess = most.min(1024);
     while low < high {
         let force = nearest(guess, low, high, half);
-        let end = end_at(cols, gaps, force, at, front);
-        guess = crossing(force, end as u64, tight(cols, force, at), width);
+        let Ended { end, tight } = end_at(cols, gaps, force, at, front);
+        guess = crossing(force, end as u64, tight, width);
         half = half.div_ceil(2);
         if end <= i64::from(width) {
             low = force + 1;

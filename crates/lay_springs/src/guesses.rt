@@ -1,25 +1,4 @@
-ghost use Rattle.std.specs.Prelude.{◌≡◌, ◌+◌, ◌*◌, ◌<◌, ◌≤◌, ◌^◌, length, ℕ, ℤ, pos, ◌≤ℤ◌, slice_index_or};
-
-use crate::traits::Spring;
-
-/// The length of the springs that alone hold neighbors apart, in u.
-pub(crate) fn tight<C: Spring>(cols: &[C], force: u16, at: &[i64]) -> u64
-    requires some { 0 < length cols.now }
-    requires room { length at.now ≡ length cols.now }
-    requires few { length cols.now ≤ 2 ^ 26 }
-    requires small { (k : ℕ) → k < length at.now
-        → (pos 0 ≤ℤ slice_index_or at.now k (pos 0)) × (slice_index_or at.now k (pos 0) ≤ℤ pos (2 ^ 48)) }
-    ensures { result ≤ 2 ^ 47 }
-{
-    let mut sum = 0;
-    for j in 1..cols.len() {
-        let spring = cols[j - 1].length(force);
-        if at[j] - at[j - 1] <= i64::from(spring) {
-            sum += u64::from(spring);
-        }
-    }
-    sum
-}
+ghost use Rattle.std.specs.Prelude.{◌+◌, ◌*◌, ◌<◌, ◌≤◌, ◌^◌};
 
 /// The force at which columns that end at `end` at a force would end at the width if
 /// none but the tight springs changed; at most 2048.

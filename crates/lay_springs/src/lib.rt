@@ -14,4 +14,4 @@ pub mod traits;
 pub use forces::{fit, fit_within, longer_fits_less, most_columns};
 pub use least::place;
 pub use margin::{Placed, justify};
-pub use traits::{Reach, Spaced, Spring};
+pub use traits::{Reach, Spaced, Spring, Stand};

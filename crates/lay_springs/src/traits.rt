@@ -8,9 +8,16 @@ pub struct Reach {
     pub right: u32,
 }
 
+/// A lane in which a column stands, and its reach there.
+#[derive(Clone, Copy)]
+pub struct Stand {
+    pub lane: u32,
+    pub reach: Reach,
+}
+
 /// A column that is kept apart from others by rods, lane by lane.
 pub trait Spaced {
-    ghost use Rattle.lay_springs.specs.declared.traits.Reach.{Reach};
+    ghost use Rattle.lay_springs.specs.{declared.traits.Reach.Reach, Stands.IsLone};
 
     // the reach in a lane, where the column stands in it
     ghost reach_of: { Self → ℕ → Option Reach };
@@ -19,6 +26,11 @@ pub trait Spaced {
     /// memory.
     fn reach(&self, lane: u32) -> Option<Reach>
         ensures { result ≡ reach_of self.now lane };
+
+    /// The one lane in which the column stands, where it is known to stand in one alone. Takes no
+    /// memory.
+    fn lone(&self) -> Option<Stand>
+        ensures { IfSome result (IsLone (reach_of self.now)) };
 
     // no reach passes 2^20
     ghost is_near: { (c : Self) (lane : ℕ) → lane < 2 ^ 32 → IfSome (reach_of c lane) (λ r. (r.left ≤ 2 ^ 20) × (r.right ≤ 2 ^ 20)) };

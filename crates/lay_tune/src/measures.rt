@@ -37,8 +37,9 @@ pub(crate) fn columns_of_measures(
     ensures starts { IfOk result (λ r. EachMeasure (λ m. IsMeasure s.now m m) s.now.measures r.starts) }
     ensures others { IfOk result (λ r. EachMeasure (λ m. IsMeasure s.now (m - 1) m) s.now.measures r.others) }
 {
-    let mut starts = Row::new(alloc);
-    let mut others = Row::new(alloc);
+    let measures = s.measures as usize;
+    let mut starts = Row::with_room(alloc, measures)?;
+    let mut others = Row::with_room(alloc, measures)?;
     for m in 0..s.measures {
         let begun = measure_columns(alloc, s, voices, t, m, m, verses)?;
         let further = further_columns(alloc, s, voices, t, m, verses, begun.as_slice())?;

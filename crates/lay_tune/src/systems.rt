@@ -134,9 +134,9 @@ pub(crate) fn set_systems(
     ensures heights { IfOk result (λ r. Beside (IsStack s.now) r.marks r.heights) }
     ensures good { IfOk result (λ r. All (λ m. All (λ staff. AreGoodMarks staff.marks) m.staves) r.marks) }
 {
-    let mut marks = Row::new(alloc);
-    let mut placed = Row::new(alloc);
-    let mut heights = Row::new(alloc);
+    let mut marks = Row::with_room(alloc, breaks.len())?;
+    let mut placed = Row::with_room(alloc, breaks.len())?;
+    let mut heights = Row::with_room(alloc, breaks.len())?;
     let mut a = 0;
     for b in breaks {
         let set = set_system(

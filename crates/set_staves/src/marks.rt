@@ -110,7 +110,7 @@ pub fn place_marks(
     ensures value { IfOk result (λ all. all ≡ map (λ laid. page_mark at.now laid.mark) marks.now) }
     ensures good { IfOk result (All (IsPageMark y)) }
 {
-    let mut placed = Row::new(alloc);
+    let mut placed = Row::with_room(alloc, marks.len())?;
     for laid in marks {
         placed.push(page_mark(alloc, at, y, &laid.mark)?)?;
     }

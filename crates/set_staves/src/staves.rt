@@ -52,7 +52,7 @@ pub fn staves_for(
     ensures value { IfOk result (λ all. all ≡ staves_at width at.now top staves.now bases.now) }
     ensures good { IfOk result (All IsStaff) }
 {
-    let mut placed = Row::new(alloc);
+    let mut placed = Row::with_room(alloc, staves.len())?;
     for (staff, base) in staves.iter().zip(bases) {
         let y = base_at(top, *base);
         placed.push(staff_for(alloc, width, at, y, staff)?)?;

@@ -1,17 +1,17 @@
 use Rattle.std.proofs.Common.{◌≡◌, ◌+◌, ◌++◌, ◌<◌, ◌≤◌, ◌∷◌, [], map, length, length-append, false, slice_index_or, arith, sym, ◌∙◌, ap, subst, rules}
-use Rattle.lay_spans.{specs.{Columns.span_columns, SpanList.{IsForce, IsCost}}, proofs.{Fitting.{force_of, still_above, never_stands}, Growing.{seen_more, costs_more, free_more, stops_at, stops_behind}, rows.row_from.Goals.{After-greatest_force-arg-1, In_ok-push}}}
+use Rattle.lay_spans.{specs.{Columns.span_columns, SpanList.{IsForce, IsCost}}, proofs.{Fitting.{force_of, still_above, never_stands}, Growing.{seen_more, costs_more, free_more, stops_at, stops_behind}, rows.row_from.Goals.{After-greatest_force, In_ok-push}}}
 use Rattle.lay_spans.proofs.rows.row_from.Goals as goal
 
-inside : (g : _) (c : After-greatest_force-arg-1 g) → c.loop-m.m < length c.args.starts.now
+inside : (g : _) (c : After-greatest_force g) → c.loop-m.m < length c.args.starts.now
 inside g c = let l = c.loop-m-test.true in omega arith
 
-past : (g : _) (c : After-greatest_force-arg-1 g) → c.args.a ≤ c.loop-m.m
+past : (g : _) (c : After-greatest_force g) → c.args.a ≤ c.loop-m.m
 past g c = let l = c.loop-m.invariant.count in omega arith
 
-columns : (g : _) (c : After-greatest_force-arg-1 g)
-    → map (λ s. s.column.now) c.as_slice.result.now ≡ span_columns c.args.starts.now c.args.others.now c.args.a (c.loop-m.m + 1)
+columns : (g : _) (c : After-greatest_force g)
+    → map (λ s. s.column.now) c.as_slice-columns.result.now ≡ span_columns c.args.starts.now c.args.others.now c.args.a (c.loop-m.m + 1)
 columns g c =
-    ap (λ seen. map (λ s. s.column.now) seen) c.as_slice.ensures
+    ap (λ seen. map (λ s. s.column.now) seen) c.as_slice-columns.ensures
     ∙ seen_more (λ s. s.column.now) c.loop-m.seen c.see.new.seen c.args.starts.now c.args.others.now c.args.a c.loop-m.m
     (past g c) (inside g c) c.requires.measures.same c.loop-m.invariant.columns
     (c.in_ok-see.ensures ∙ ap (λ r. map (λ s. s.column.now) c.loop-m.seen ++ r) c.measure.ensures)
@@ -19,19 +19,19 @@ columns g c =
 -- no longer span fits
 pub returns-in_default : goal.returns-in_default
 returns-in_default g c =
-    let b = (goal.at.returns-in_default g c).After-greatest_force-arg-1 in
+    let b = (goal.at.returns-in_default g c).After-greatest_force in
     stops_at g.C.Spaced.reach_of g.C.Spring.length_of c.args.gaps.now c.args.width c.args.starts.now c.args.others.now (λ b. slice_index_or c.args.marks.now b false)
     c.args.a c.loop-m.m c.loop-m.row c.requires.measures c.requires.inside (inside g b) c.loop-m.invariant.count c.loop-m.invariant.each
-    (never_stands (λ s. s.column.now) g.C.Spaced.reach_of g.C.Spring.length_of c.args.gaps.now c.args.width c.as_slice.result.now
+    (never_stands (λ s. s.column.now) g.C.Spaced.reach_of g.C.Spring.length_of c.args.gaps.now c.args.width c.as_slice-columns.result.now
     (span_columns c.args.starts.now c.args.others.now c.args.a (c.loop-m.m + 1)) (columns g b)
     c.in_default.ensures.none)
 
 -- the force of the span with this measure
 force : (g : _) (c : In_ok-push g)
-    → map (λ s. s.column.now) c.as_slice.result.now ≡ span_columns c.args.starts.now c.args.others.now c.args.a (c.loop-m.m + 1)
+    → map (λ s. s.column.now) c.as_slice-columns.result.now ≡ span_columns c.args.starts.now c.args.others.now c.args.a (c.loop-m.m + 1)
     → IsForce g.C.Spaced.reach_of g.C.Spring.length_of c.args.gaps.now c.args.width (span_columns c.args.starts.now c.args.others.now c.args.a (c.loop-m.m + 1)) c.in-Some.force
 force g c e =
-    force_of (λ s. s.column.now) g.C.Spaced.reach_of g.C.Spring.length_of c.args.gaps.now c.args.width c.loop-m.most c.as_slice.result.now
+    force_of (λ s. s.column.now) g.C.Spaced.reach_of g.C.Spring.length_of c.args.gaps.now c.args.width c.loop-m.most c.as_slice-columns.result.now
     (span_columns c.args.starts.now c.args.others.now c.args.a (c.loop-m.m + 1)) c.in-Some.force e c.loop-m.invariant.most
     c.in-Some.ensures.bound c.in-Some.ensures.fits c.in-Some.ensures.greatest
     (still_above g.C.Spaced.reach_of g.C.Spring.length_of c.args.gaps.now c.args.width c.loop-m.most c.args.starts.now c.args.others.now c.args.a c.loop-m.m
@@ -39,7 +39,7 @@ force g c e =
 
 -- the span with this measure
 costs : (g : _) (c : In_ok-push g)
-    → map (λ s. s.column.now) c.as_slice.result.now ≡ span_columns c.args.starts.now c.args.others.now c.args.a (c.loop-m.m + 1)
+    → map (λ s. s.column.now) c.as_slice-columns.result.now ≡ span_columns c.args.starts.now c.args.others.now c.args.a (c.loop-m.m + 1)
     → IsCost g.C.Spaced.reach_of g.C.Spring.length_of c.args.gaps.now c.args.width c.args.starts.now c.args.others.now (λ b. slice_index_or c.args.marks.now b false)
     c.args.a (c.loop-m.m + 1) c.badness.result
 costs g c e = record {
@@ -52,7 +52,7 @@ costs g c e = record {
 }
 
 each : (g : _) (c : In_ok-push g)
-    → map (λ s. s.column.now) c.as_slice.result.now ≡ span_columns c.args.starts.now c.args.others.now c.args.a (c.loop-m.m + 1)
+    → map (λ s. s.column.now) c.as_slice-columns.result.now ≡ span_columns c.args.starts.now c.args.others.now c.args.a (c.loop-m.m + 1)
     → (k : _) → k < length c.push.new.self
     → IsCost g.C.Spaced.reach_of g.C.Spring.length_of c.args.gaps.now c.args.width c.args.starts.now c.args.others.now (λ b. slice_index_or c.args.marks.now b false)
     c.args.a (c.args.a + 1 + k) (slice_index_or c.push.new.self k 0)
@@ -72,7 +72,7 @@ count g c =
 
 pub returns-then-marks-m : goal.returns-then-marks-m
 returns-then-marks-m g c =
-    let b = (goal.at.returns-then-marks-m g c).After-greatest_force-arg-1 in
+    let b = (goal.at.returns-then-marks-m g c).After-greatest_force in
     let pushed = (goal.at.returns-then-marks-m g c).In_ok-push in
     stops_behind g.C.Spaced.reach_of g.C.Spring.length_of c.args.gaps.now c.args.width c.args.starts.now c.args.others.now (λ b. slice_index_or c.args.marks.now b false)
     c.args.a c.loop-m.m c.push.new.self (inside g b) (count g pushed) (past g b)
@@ -81,16 +81,15 @@ returns-then-marks-m g c =
 
 pub loop-m-preserved : goal.loop-m-preserved
 loop-m-preserved g c =
-    let b = (goal.at.loop-m-preserved g c).After-greatest_force-arg-1 in
+    let b = (goal.at.loop-m-preserved g c).After-greatest_force in
     let pushed = (goal.at.loop-m-preserved g c).In_ok-push in
     let pressed = force g pushed (columns g b) in
     let l = past g b in
     record {
-      columns = sym (ap (λ seen. map (λ s. s.column.now) seen) c.as_slice.ensures) ∙ columns g b;
+      columns = sym (ap (λ seen. map (λ s. s.column.now) seen) c.as_slice-columns.ensures) ∙ columns g b;
       count = count g pushed;
       each = each g pushed (columns g b);
       free = free_more (λ b. slice_index_or c.args.marks.now b false) c.args.a c.loop-m.m (search rules) c.loop-m.invariant.free;
       most = let b = pressed.bound in omega arith;
       above = λ g past within. (omega arith, pressed.greatest g past within);
-      room = let k = c.greatest_force.auto.scratch in let r = c.loop-m.invariant.room in omega arith;
     }

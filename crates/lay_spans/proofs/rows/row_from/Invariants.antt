@@ -1,5 +1,4 @@
 use Rattle.std.proofs.Common.{◌≡◌, ◌+◌, ◌<◌, ◌≤◌, ℕ, length, map, slice_index, slice_index_or, true, false}
-use Rattle.lay_springs.specs.Fit.{most_columns}
 use Rattle.lay_spans.specs.{Columns.span_columns, SpanList.StandsAt, SpanList.IsCost}
 use Rattle.lay_spans.proofs.rows.row_from.Given as goal
 
@@ -12,5 +11,4 @@ invariant-loop-m g l = record {
   free : (f : ℕ) → l.a < f → f < l.m + 1 → slice_index_or l.marks f false ≡ true → ⊥;
   most : l.most ≤ 2048;
   above : (f : ℕ) → l.most < f → f ≤ 2048 → (l.a < l.m) × (StandsAt g.C.Spaced.reach_of g.C.Spring.length_of l.gaps l.width f (span_columns l.starts l.others l.a l.m) → ⊥);
-  room : most_columns l.width + length l.gaps ≤ length l.scratch;
 }

@@ -2,9 +2,6 @@ use Rattle.std.proofs.Common.{length, arith}
 use Rattle.lay_springs.{specs.Place.{reach_at, length_at}, proofs.{Ends.length_rises, Longer.cannot_stand}}
 use Rattle.lay_springs.proofs.forces.fit_within.Goals as goal
 
-pub tight-requires-clause-small : goal.tight-requires-clause-small
-tight-requires-clause-small g c = λ k l. c.end_at-end.ensures.small k (let r = c.loop-low.invariant.room in omega arith)
-
 pub returns-else-low-eq0-clause-greatest : goal.returns-else-low-eq0-clause-greatest
 returns-else-low-eq0-clause-greatest g c = λ f past within fits.
     let i = c.loop-low.invariant in

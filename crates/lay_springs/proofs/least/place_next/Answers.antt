@@ -5,8 +5,8 @@ use Rattle.lay_springs.proofs.least.place_next.Goals as goal
 pub returns-clause-fronts : goal.returns-clause-fronts
 returns-clause-fronts g c =
     let v : ℤ = c.next_of-next.result in
-    let col : slice_get c.args.cols.now c.args.j ≡ Some c.index-cols-j.result =
-    slice_get_read c.args.cols.now (length c.args.cols.now) c.args.j c.index-cols-j.result refl (omega arith) c.index-cols-j.is in
+    let col : slice_get c.args.cols.now c.args.j ≡ Some c.index-cols-j-2.result =
+    slice_get_read c.args.cols.now (length c.args.cols.now) c.args.j c.index-cols-j-2.result refl (omega arith) c.index-cols-j-2.is in
     let fits : FitsSigned w64 c.next_of-next.result = record { sfits = c.next_of-next.type_inv } in
     let same : to_z w64 (of_z w64 c.next_of-next.result) ≡ c.next_of-next.result = to_z-of_z w64 c.next_of-next.result fits in
     let moves = rw same at c.advance.ensures in
@@ -16,5 +16,5 @@ returns-clause-fronts g c =
     (get_or-set_same c.args.at.now c.args.j c.next_of-next.result (pos 0) (omega arith))
     c.next_of-next.ensures.small
     (λ lane lt. near_at g.C.Spaced.reach_of c.args.cols.now _ lane (λ col. g.met.C.Spaced.is_near col lane (let l = c.requires.lanes in omega arith)) c.args.j)
-    (λ lane lt. rw (reach_is g.C.Spaced.reach_of c.args.cols.now c.args.j c.index-cols-j.result col lane) (moves lane (omega arith)))
+    (λ lane lt. rw (reach_is g.C.Spaced.reach_of c.args.cols.now c.args.j c.index-cols-j-2.result col lane) (moves lane (omega arith)))
     c.requires.fronts)

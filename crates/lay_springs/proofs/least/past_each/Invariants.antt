@@ -1,6 +1,6 @@
 use Rattle.std.proofs.Common.{ℤ, ◌≤ℤ◌}
 use Rattle.lay_springs.specs.Place.{IsPast}
-use Rattle.lay_springs.proofs.least.past_front.Given as goal
+use Rattle.lay_springs.proofs.least.past_each.Given as goal
 
 abbrev pub invariant-loop-lane : goal.invariant-loop-lane
 invariant-loop-lane g l = record {

@@ -1,6 +1,6 @@
 use Rattle.std.proofs.{Common.◌≡◌, Common.Some, Common.arith, Common.sym, Common.◌∙◌, lemmas.Int.ints}
 use Rattle.lay_springs.proofs.Fronts.{past_more}
-use Rattle.lay_springs.proofs.least.past_front.Goals as goal
+use Rattle.lay_springs.proofs.least.past_each.Goals as goal
 
 pub loop-lane-preserved : goal.loop-lane-preserved
 loop-lane-preserved g c =

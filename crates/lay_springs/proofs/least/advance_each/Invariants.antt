@@ -1,6 +1,6 @@
 use Rattle.std.proofs.Common.{◌≡◌, ℕ, ◌<◌, ◌≤◌, pos, slice_index_or}
 use Rattle.lay_springs.specs.Place.{Advances}
-use Rattle.lay_springs.proofs.least.advance.Given as goal
+use Rattle.lay_springs.proofs.least.advance_each.Given as goal
 
 abbrev pub invariant-loop-lane : goal.invariant-loop-lane
 invariant-loop-lane g l = record {
