@@ -100,7 +100,8 @@ fn next_field(line: &str) -> io::Result<(&str, &str)> {
         .ok_or(io::Error::other("a field is wanting"))
 }
 
-fn words_of(alloc: Global, field: &str) -> Result<Vec<String>, AllocError> {
+/// The words of a field, a space apart.
+pub(crate) fn words_of(alloc: Global, field: &str) -> Result<Vec<String>, AllocError> {
     let mut words = Vec::new(alloc);
     if field != NOTHING {
         for word in field.split(' ') {

@@ -1,7 +1,7 @@
 //! Runs over streams that fail.
 
 use crate::case::{Case, verdict};
-use crate::running::{Stream, Streams, ran};
+use crate::running::{PIECE, Stream, Streams, ran};
 use std::io;
 use std::thread::Threads;
 
@@ -39,7 +39,7 @@ fn takes_none_as_told<R: Threads + Sync + AllocGlobal>(
 
 /// Whether a run is as told with sinks that take a byte in each call, and with each that takes none.
 fn trickles_as_told<R: Threads + Sync + AllocGlobal>(rt: &R, case: &Case) -> io::Result<bool> {
-    let finished = ran(rt, case, &Streams::BYTE_BY_BYTE)?;
+    let finished = ran(rt, case, &Streams::sound(1))?;
     Ok(
         case.is_told(&finished)
             && takes_none_as_told(rt, case, Stream::Output)?
@@ -74,7 +74,7 @@ pub(crate) fn tell_failures<R: Threads + Sync + AllocGlobal + Print>(
     name: &str,
     case: &Case,
 ) -> io::Result<()> {
-    let sound = ran(rt, case, &Streams::SOUND)?;
+    let sound = ran(rt, case, &Streams::sound(PIECE))?;
     for stream in [Stream::Input, Stream::Output, Stream::Errors] {
         tell_stream(rt, name, case, stream, sound.calls(stream))?;
     }

@@ -1,7 +1,7 @@
 //! Gates that count the tunes that enter.
 
 use crate::case::Case;
-use crate::running::{Finished, Streams, ran_through};
+use crate::running::{Finished, PIECE, Streams, ran_through};
 use abcps::Gate;
 use std::alloc::{AllocError, Global};
 use std::io;
@@ -71,6 +71,6 @@ pub(crate) fn ran_counted<R: Threads + Sync + AllocGlobal>(
     case: &Case,
 ) -> io::Result<(Finished, Entered)> {
     let counter = make_counter(rt.alloc())?;
-    let finished = ran_through(rt, case, &Streams::SOUND, &counter)?;
+    let finished = ran_through(rt, case, &Streams::sound(PIECE), &counter)?;
     Ok((finished, counter.sum()))
 }

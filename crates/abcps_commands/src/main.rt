@@ -1,19 +1,24 @@
 //! Runs each command of the top call over streams in memory, and tells of each case in its folder whether what is
 //! answered and written is what stands there: over streams that never fail (the table `cases`), and with each call
 //! of each stream failing in turn (the table `failing`); and how often each tune of a book enters the gate (the table
-//! `gates`). `case` says how a line of a table is read.
+//! `gates`). `case` says how a line of a table is read. Then it tells of books and of painted programs, as `books`
+//! and `painting` say.
 #![tactic(auto)]
 
+mod books;
 mod case;
 mod failing;
 mod gates;
 mod made;
+mod painting;
 mod running;
 
+use crate::books::tell_books;
 use crate::case::{Case, named_case, verdict};
 use crate::failing::tell_failures;
 use crate::gates::ran_counted;
-use crate::running::{Streams, ran};
+use crate::painting::tell_painted;
+use crate::running::{PIECE, Streams, ran};
 use std::process::ExitCode;
 use std::rt::Files;
 use std::thread::Threads;
@@ -21,7 +26,7 @@ use std::{fs, io};
 
 /// Whether a case is as told over streams that never fail.
 fn is_as_told<R: Threads + Sync + AllocGlobal>(rt: &R, case: &Case) -> io::Result<bool> {
-    let finished = ran(rt, case, &Streams::SOUND)?;
+    let finished = ran(rt, case, &Streams::sound(PIECE))?;
     Ok(case.is_told(&finished))
 }
 
@@ -74,5 +79,8 @@ fn main(rt: HostRuntime) -> io::Result<ExitCode> {
     tell_failing(&rt, failing.as_str())?;
     let gates = fs::read_to_string(&rt, "gates")?;
     tell_gates(&rt, gates.as_str())?;
+    let books = fs::read_to_string(&rt, "books")?;
+    tell_books(&rt, books.as_str())?;
+    tell_painted(&rt)?;
     Ok(ExitCode::from(0))
 }

@@ -11,6 +11,9 @@ use std::thread::Threads;
 /// How many bytes a source gives in one call.
 const READ_PIECE: u32 = 16;
 
+/// How many bytes a sink takes in one call.
+pub(crate) const PIECE: u32 = 64;
+
 /// A stream of a run.
 #[derive(Clone, Copy, PartialEq, Eq)]
 pub(crate) enum Stream {
@@ -43,46 +46,23 @@ pub(crate) struct Finished {
     pub(crate) errors: MemSink,
 }
 
-impl Pace {
-    /// Pieces of 64 bytes, and no call that fails.
-    const SOUND: Pace = Pace {
-        piece: 64,
-        fails: None,
-    };
-}
-
 impl Streams {
-    /// Streams that never fail.
-    pub const SOUND: Streams = Streams {
-        read_fails: None,
-        output: Pace::SOUND,
-        errors: Pace::SOUND,
-    };
+    /// Streams that never fail, and whose sinks take so many bytes in each call.
+    pub(crate) fn sound(piece: u32) -> Streams {
+        let pace = Pace { piece, fails: None };
+        Streams {
+            read_fails: None,
+            output: pace,
+            errors: pace,
+        }
+    }
 
-    /// Sinks that take a byte in each call.
-    pub const BYTE_BY_BYTE: Streams = Streams {
-        read_fails: None,
-        output: Pace {
-            piece: 1,
-            fails: None,
-        },
-        errors: Pace {
-            piece: 1,
-            fails: None,
-        },
-    };
-
-    /// Streams of which one fails at a call.
-    pub(crate) fn failing_at(stream: Stream, call: u64) -> Streams {
-        let sound = Streams::SOUND;
-        let fails = Some(call);
-        let pace = Pace {
-            fails,
-            ..Pace::SOUND
-        };
+    /// Sound streams but for one, which goes at a pace; of the input only which read fails counts.
+    fn with(stream: Stream, pace: Pace) -> Streams {
+        let sound = Streams::sound(PIECE);
         match stream {
             Stream::Input => Streams {
-                read_fails: fails,
+                read_fails: pace.fails,
                 ..sound
             },
             Stream::Output => Streams {
@@ -96,24 +76,22 @@ impl Streams {
         }
     }
 
+    /// Streams of which one fails at a call.
+    pub(crate) fn failing_at(stream: Stream, call: u64) -> Streams {
+        let pace = Pace {
+            piece: PIECE,
+            fails: Some(call),
+        };
+        Streams::with(stream, pace)
+    }
+
     /// Streams of which one sink takes no byte.
     pub(crate) fn taking_none(stream: Stream) -> Streams {
-        let sound = Streams::SOUND;
         let pace = Pace {
             piece: 0,
             fails: None,
         };
-        match stream {
-            Stream::Input => sound,
-            Stream::Output => Streams {
-                output: pace,
-                ..sound
-            },
-            Stream::Errors => Streams {
-                errors: pace,
-                ..sound
-            },
-        }
+        Streams::with(stream, pace)
     }
 }
 

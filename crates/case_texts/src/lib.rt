@@ -7,7 +7,6 @@ pub mod cases;
 pub mod escapes;
 pub mod faults;
 pub mod notes;
-pub mod numbers;
 pub mod report;
 pub mod telling;
 pub mod values;
@@ -15,10 +14,9 @@ pub mod values;
 pub use cases::{Case, within_limit};
 pub use faults::{put_fault, put_kind};
 pub use notes::{put_bar, put_deco, put_head, put_value};
-pub use numbers::number_of;
 pub use report::Report;
 pub use telling::{Answers, tell_tables};
 pub use values::{
-    alter_named, clef_named, letter_named, put_clef, put_frac, put_letter, put_meter, put_signs,
-    put_spread, put_text, put_wish,
+    alter_named, clef_named, letter_named, number_of, put_clef, put_frac, put_letter, put_meter,
+    put_signs, put_spread, put_text, put_wish,
 };

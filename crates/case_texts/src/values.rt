@@ -120,3 +120,8 @@ pub fn put_wish(out: &mut Report, wish: Wish) -> Result<(), Memory> {
         Wish::Down => b"stem down",
     })
 }
+
+/// The number that a text says, or 0.
+pub fn number_of(text: &str) -> u64 {
+    text.parse::<u64>().unwrap_or(0)
+}

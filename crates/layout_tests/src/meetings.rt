@@ -1,49 +1,29 @@
 //! Two rows that wait for each other, which is in vain unless they are made side by side.
 
-ghost use Rattle.std.specs.Prelude.{◌≡◌, ◌≤◌, ◌<◌, ◌∷◌, []};
+ghost use Rattle.std.specs.Prelude.{◌≡◌, ◌∷◌, []};
 ghost use Rattle.layout_tests.specs.Meeting.{one_row, row_small};
 
-use answer_texts::{end_line, put_count, put_word};
+use answer_texts::{Meeting, put_count, put_word};
 use eng_halves::Jobs;
 use lay_rows::{RowMaker, make_rows};
 use mus_units::{Memory, Row, Text};
 use std::alloc::Global;
-use std::sync::atomic::AtomicBool;
-use std::sync::atomic::Ordering::SeqCst;
 use std::thread::Threads;
 
-/// Makes the rows of two bars. Each waits until the other is begun, so many turns at most, and it is kept
-/// whether it was.
+/// Makes the rows of two bars. Each waits until the other is begun.
 #[derive(Drop)]
-struct Meeting {
+struct Waiting {
     alloc: Global,
-    turns: u32,
-    begun: [AtomicBool; 2],
-    met: [AtomicBool; 2],
+    meeting: Meeting,
 }
 
-impl Meeting {
-    /// Waits for the other.
-    fn wait(&self, own: usize)
-        requires { own < 2 }
-    {
-        self.begun[own].store(true, SeqCst);
-        for _ in 0..self.turns {
-            if self.begun[1 - own].load(SeqCst) {
-                self.met[own].store(true, SeqCst);
-                return;
-            }
-        }
-    }
-}
-
-impl RowMaker for Meeting {
+impl RowMaker for Waiting {
     ghost bars = { λ _. 2 };
 
     ghost is_row = { λ _ a row. row ≡ a ∷ [] };
 
     fn costs_from(&self, a: u32) -> Result<Row<u64>, Memory> {
-        self.wait(a as usize);
+        self.meeting.wait(a as usize);
         let mut row = Row::new(self.alloc);
         row.push(u64::from(a))?;
         Ok(row)
@@ -62,22 +42,17 @@ fn put_rows<R: Threads + Sync>(
     jobs: Jobs,
     turns: u32,
 ) -> Result<(), Memory> {
-    let meeting = Meeting {
+    let waiting = Waiting {
         alloc,
-        turns,
-        begun: [AtomicBool::new(false), AtomicBool::new(false)],
-        met: [AtomicBool::new(false), AtomicBool::new(false)],
+        meeting: Meeting::new(turns),
     };
-    let made = make_rows(rt, alloc, &meeting, 2, jobs)?;
+    let made = make_rows(rt, alloc, &waiting, 2, jobs)?;
     for row in &made.rows {
         for cost in row {
             put_count(out, *cost)?;
         }
     }
-    for met in &meeting.met {
-        put_word(out, if met.load(SeqCst) { b"met" } else { b"alone" })?;
-    }
-    end_line(out)
+    waiting.meeting.put_met(out)
 }
 
 /// Adds whether two rows meet by two jobs and by one. By one job the first waits in vain, and the second finds

@@ -1,3 +1,4 @@
+use crate::asked::put_asked_for;
 use crate::books::{put_book, put_field_text, put_line_kind};
 use crate::fields::{put_field_of_line, put_named_field};
 use crate::headers::{put_defaults_of_book, put_headers_of_book};
@@ -8,7 +9,7 @@ use crate::units::{put_parts, put_ticks, put_value_of};
 use case_texts::{Answers, Case, Report};
 use mus_units::Memory;
 
-/// The calls that read.
+/// The calls that read, and those that make a score or ask of one.
 pub(crate) struct Reading;
 
 impl Answers for Reading {
@@ -34,7 +35,7 @@ impl Answers for Reading {
             "key_of" => put_key(out, case.input),
             "lay" => put_laid_key(out, case.word, input),
             "in_force" => put_alteration(out, case.word, input),
-            _ => out.append(b"no such call"),
+            _ => put_asked_for(out, case, input),
         }
     }
 }

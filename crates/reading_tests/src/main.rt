@@ -1,16 +1,26 @@
 //! Runs the calls that read a book up to its tokens, fields, headers and paper, and those on
-//! values, pitches and keys that they stand on. Each line of the tables in its folder is a
-//! case: a call, an argument, and an input. It is written again with the call's value below it.
+//! values, pitches and keys that they stand on; then those that make a score and those that ask of
+//! one: its events with their durations and onsets, the keys of columns, slurs and ties, syllables
+//! on notes, the score moved. Each line of the tables in its folder is a case: a call, an argument,
+//! and an input, which for a score is mostly a book of one tune. It is written again with the
+//! call's value below it.
 #![tactic(auto)]
 
+mod arcs;
+mod asked;
 mod books;
 mod calls;
+mod events;
 mod fields;
 mod headers;
 mod music;
 mod papers;
 mod pitches;
+mod scores;
+mod songs;
+mod times;
 mod tokens;
+mod tunes;
 mod units;
 
 use crate::calls::Reading;
@@ -18,7 +28,7 @@ use case_texts::tell_tables;
 use std::io;
 
 /// The tables, in the order in which they are told.
-const TABLES: [&str; 7] = [
+const TABLES: [&str; 14] = [
     "books",
     "music",
     "spellings",
@@ -26,6 +36,13 @@ const TABLES: [&str; 7] = [
     "headers",
     "papers",
     "pitches",
+    "scores",
+    "faults",
+    "durations",
+    "columns",
+    "arcs",
+    "songs",
+    "moves",
 ];
 
 fn main(rt: HostRuntime) -> io::Result<()> {

@@ -1,43 +1,36 @@
-//! Sets the books of the cases in `data/cases` by jobs, works on their items by halves, and prints each call's value
+//! Draws and sets what the cases in `data/cases` call for, works on items by halves, and prints each call's value
 //! as text.
 //!
 //! A case is a line with the name of a call and its words, and the text that it is made of; an empty line ends it.
-//! The answer stands behind the line of the call. `book J` has a book set by a number of jobs; `squares J`
-//! and `counted J K` have work on items, the second with memory short for item K.
+//! The answer stands behind the line of the call. `calls` has the names.
 #![tactic(auto)]
 
 mod books;
+mod boxes;
+mod calls;
+mod columns;
 mod halves;
+mod layouts;
+mod marks;
 mod meetings;
+mod names;
+mod plans;
+mod scores;
+mod slopes;
+mod sounds;
+mod voices;
 
-use crate::books::put_book;
-use crate::halves::put_halves;
+use crate::calls::put_case;
 use crate::meetings::put_meetings;
-use answer_texts::{call_of, end_line, put_word};
 use eng_io::{StdSink, write_all};
+use lay_measures::measures_join;
+use mus_ink::beams_by_levels;
+use mus_stems::{beams_by_groups, no_other_plans, slopes_by_beams};
 use mus_units::{Memory, Text};
 use set_lists::{book_rises, breakings_of_listing, lists_the_set};
 use std::alloc::Global;
 use std::thread::Threads;
 use std::{fs, io};
-
-/// Adds a case: the line of its call, its answer, and an empty line.
-fn put_case<R: Threads + Sync>(
-    rt: &R,
-    alloc: Global,
-    out: &mut Text,
-    case: &str,
-) -> Result<(), Memory> {
-    let (line, text) = case.split_once('\n').unwrap_or((case, ""));
-    put_word(out, line.as_bytes())?;
-    end_line(out)?;
-    let call = call_of(line);
-    match call.name {
-        b"book" => put_book(rt, alloc, out, call.rest, text)?,
-        _ => put_halves(rt, alloc, out, call.name, call.rest, text)?,
-    }
-    end_line(out)
-}
 
 /// The answers to cases, one behind another, and who meets.
 fn all_answers<R: Threads + Sync>(rt: &R, alloc: Global, cases: &str) -> Result<Text, Memory> {
@@ -51,6 +44,11 @@ fn all_answers<R: Threads + Sync>(rt: &R, alloc: Global, cases: &str) -> Result<
 
 /// The calls that do nothing: each has a law for its promise.
 fn state_laws() {
+    beams_by_groups();
+    beams_by_levels();
+    slopes_by_beams();
+    no_other_plans();
+    measures_join();
     book_rises();
     lists_the_set();
     breakings_of_listing();

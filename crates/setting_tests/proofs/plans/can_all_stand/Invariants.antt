@@ -1,6 +1,6 @@
 use Rattle.std.proofs.Common.{◌≤◌, length, drop}
 use Rattle.mus_stems.specs.Stills.{AllCanStand}
-use Rattle.drawing_tests.proofs.plans.can_all_stand.Given as goal
+use Rattle.setting_tests.proofs.plans.can_all_stand.Given as goal
 
 abbrev pub invariant-loop-event : goal.invariant-loop-event
 invariant-loop-event l = record {

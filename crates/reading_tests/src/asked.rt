@@ -5,24 +5,20 @@ use crate::scores::{put_plainness, put_score};
 use crate::songs::{put_song, put_syllables};
 use crate::times::{put_durations, put_flats, put_keys, put_onsets};
 use crate::tunes::{crowded, tune_of};
-use case_texts::{Answers, Case, Report, number_of, put_fault};
+use case_texts::{Case, Report, number_of, put_fault};
 use mus_score::Score;
 use mus_transpose::moved_or_same;
 use mus_units::Memory;
 
-/// The calls on tunes, words and arcs.
-pub(crate) struct Scores;
-
-impl Answers for Scores {
-    fn put_answer(&self, out: &mut Report, case: Case<'_>, input: &[u8]) -> Result<(), Memory> {
-        match case.call {
-            "pieces" => put_piece(out, case.word, case.input),
-            "syllables" => put_syllables(out, input),
-            "align" => put_song(out, case.word, input),
-            "crowd" => put_crowd(out, case.word, input),
-            "moved" => put_moved(out, case.word, input),
-            _ => put_answer_on_tune(out, case, input),
-        }
+/// Adds the value of a call on tunes, words and arcs.
+pub(crate) fn put_asked_for(out: &mut Report, case: Case<'_>, input: &[u8]) -> Result<(), Memory> {
+    match case.call {
+        "pieces" => put_piece(out, case.word, case.input),
+        "syllables" => put_syllables(out, input),
+        "align" => put_song(out, case.word, input),
+        "crowd" => put_crowd(out, case.word, input),
+        "moved" => put_moved(out, case.word, input),
+        _ => put_answer_on_tune(out, case, input),
     }
 }
 

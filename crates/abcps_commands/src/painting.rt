@@ -1,20 +1,13 @@
-//! Runs the programs of the table `programs` in its folder, and the documents that
-//! its words name, on the painting machine, and tells what each paints or why it
-//! halts. In the table a line `budget N` stands before a program, and a line with
-//! a point alone behind it; the program is the lines between, joined by LF.
-#![tactic(auto)]
+//! Programs on the painting machine, and documents whole: what each paints, or why it halts. In the table
+//! `programs` a line `budget N` stands before a program, and a line with a point alone behind it; the program is
+//! the lines between, joined by LF.
 
 use mus_units::{Memory, Text};
 use paint_text::{put_halt, put_pages};
 use ps_machine::{MachineError, run_machine};
 use std::alloc::Global;
-use std::process::ExitCode;
 use std::rt::Files;
-use std::{env, fs, io};
-
-fn failed() -> io::Error {
-    io::Error::from(io::ErrorKind::OutOfMemory)
-}
+use std::{fs, io};
 
 /// What a run gives, as text.
 fn told(alloc: Global, program: &[u8], budget: u64) -> Result<Text, Memory> {
@@ -30,7 +23,7 @@ fn told(alloc: Global, program: &[u8], budget: u64) -> Result<Text, Memory> {
 /// Runs a program, and prints what it gives.
 fn tell<R: AllocGlobal + Print>(rt: &R, program: &[u8], budget: u64) -> io::Result<()> {
     let Ok(out) = told(rt.alloc(), program, budget) else {
-        return Err(failed());
+        return Err(io::Error::other("no memory"));
     };
     match std::str::from_utf8(out.as_slice()) {
         Ok(text) => print!(rt; "{text}")?,
@@ -71,13 +64,14 @@ fn tell_programs<R: AllocGlobal + Print>(rt: &R, table: &[u8]) -> io::Result<()>
     Ok(())
 }
 
-fn main(rt: HostRuntime) -> io::Result<ExitCode> {
-    let table = fs::read(&rt, "programs")?;
-    tell_programs(&rt, &table)?;
-    for name in env::args(&rt)?.skip(1) {
-        let document = fs::read(&rt, name.as_str())?;
+/// Runs the programs of the table `programs`, and documents.
+pub(crate) fn tell_painted<R: Files + AllocGlobal + Print>(rt: &R) -> io::Result<()> {
+    let table = fs::read(rt, "programs")?;
+    tell_programs(rt, &table)?;
+    for name in ["one-measure.ps", "every-mark.ps"] {
+        let document = fs::read(rt, name)?;
         let budget = (document.len() as u64).saturating_mul(100);
-        tell(&rt, &document, budget)?;
+        tell(rt, &document, budget)?;
     }
-    Ok(ExitCode::from(0))
+    Ok(())
 }

@@ -1,6 +1,6 @@
 use Rattle.std.proofs.Common.{drop}
 use Rattle.mus_laid.specs.Boxes.{AreGoodMarks}
-use Rattle.drawing_tests.proofs.boxes.put_boxes.Given as goal
+use Rattle.setting_tests.proofs.boxes.put_boxes.Given as goal
 
 abbrev pub invariant-loop-laid : goal.invariant-loop-laid
 invariant-loop-laid l = AreGoodMarks (drop l.laid-index l.marks)

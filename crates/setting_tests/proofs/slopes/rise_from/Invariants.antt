@@ -1,6 +1,6 @@
 use Rattle.std.proofs.Common.{drop}
-use Rattle.drawing_tests.specs.Rising.{RisesFrom}
-use Rattle.drawing_tests.proofs.slopes.rise_from.Given as goal
+use Rattle.setting_tests.specs.Rising.{RisesFrom}
+use Rattle.setting_tests.proofs.slopes.rise_from.Given as goal
 
 abbrev pub invariant-loop-x : goal.invariant-loop-x
 invariant-loop-x l = RisesFrom l.before (drop l.x-index l.rest) → RisesFrom l.first l.rest

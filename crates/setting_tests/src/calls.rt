@@ -5,13 +5,17 @@
 //! system of the measures A to B - 1, their boxes, and its columns with their gaps and their places at force
 //! 256; `measure A M` the columns of measure M in a system that begins with measure A; `layout W` the
 //! layout on a width, `systems W` what its systems draw; `sounds` the sounds.
-//! `printed N` prints the text instead of a tune, whole and within N characters.
+//! `printed N` prints the text instead of a tune, whole and within N characters. `book J` has a book
+//! set by a number of jobs; `squares J` and `counted J K` have work on items, the second with memory
+//! short for item K.
 
 ghost use Rattle.std.specs.Prelude.{◌≤◌, ◌<◌, ◌^◌, ℕ, length, slice_index};
 ghost use Rattle.mus_score.specs.GoodScore.{IsGoodScore};
 
+use crate::books::put_book;
 use crate::boxes::{put_printed, put_system_boxes};
 use crate::columns::put_columns;
+use crate::halves::put_halves;
 use crate::layouts::put_score_layout;
 use crate::marks::put_system;
 use crate::plans::put_score_plans;
@@ -151,6 +155,26 @@ fn put_call<R: Threads + Sync>(
     }
 }
 
+/// The value of a call on the score of a tune, where it has one.
+fn put_of_score<R: Threads + Sync>(
+    rt: &R,
+    alloc: Global,
+    out: &mut Text,
+    call: Call<'_>,
+    tune: &str,
+) -> Result<(), Memory> {
+    match score_of(alloc, tune.as_bytes()) {
+        Ok(score) => put_call(rt, alloc, out, &score, call),
+        Err(_) => put_word(out, b"no score\n"),
+    }
+}
+
+/// The text printed whole and within so many characters.
+fn put_printed_text(alloc: Global, out: &mut Text, most: &str, text: &str) -> Result<(), Memory> {
+    let most = count_at(&numbers_of(alloc, most)?, 0);
+    put_printed(alloc, out, most as usize, text.as_bytes())
+}
+
 /// Adds a case: the line of its call, its answer, and an empty line.
 pub(crate) fn put_case<R: Threads + Sync>(
     rt: &R,
@@ -162,14 +186,11 @@ pub(crate) fn put_case<R: Threads + Sync>(
     put_word(out, line.as_bytes())?;
     end_line(out)?;
     let call = call_of(line);
-    if call.name == b"printed".as_slice() {
-        let most = count_at(&numbers_of(alloc, call.rest)?, 0);
-        put_printed(alloc, out, most as usize, text.as_bytes())?;
-    } else {
-        match score_of(alloc, text.as_bytes()) {
-            Ok(score) => put_call(rt, alloc, out, &score, call)?,
-            Err(_) => put_word(out, b"no score\n")?,
-        }
+    match call.name {
+        b"printed" => put_printed_text(alloc, out, call.rest, text)?,
+        b"book" => put_book(rt, alloc, out, call.rest, text)?,
+        b"squares" | b"counted" => put_halves(rt, alloc, out, call.name, call.rest, text)?,
+        _ => put_of_score(rt, alloc, out, call, text)?,
     }
     end_line(out)
 }

@@ -1,7 +1,7 @@
 -- Abscissas that rise all along rise in each beam.
 use Rattle.std.proofs.Common.{ℤ, List, [], ◌∷◌}
 use Rattle.mus_stems.specs.{declared.{plans.StemPlan.StemPlan, slopes.Anchor.Anchor}, Slope.{anchor_of, anchors, RisesAfter, RisesInBeams}}
-use Rattle.drawing_tests.specs.Rising.{AreRising, RisesFrom}
+use Rattle.setting_tests.specs.Rising.{AreRising, RisesFrom}
 
 rises_after : (a : Anchor) (ps : List StemPlan) (xs : List ℤ) → RisesFrom a.x xs → RisesAfter a (anchors ps xs)
 unfolding anchor_of

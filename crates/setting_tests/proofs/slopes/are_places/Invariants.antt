@@ -1,6 +1,6 @@
 use Rattle.std.proofs.Common.{drop}
 use Rattle.mus_stems.specs.Slope.{ArePlaces}
-use Rattle.drawing_tests.proofs.slopes.are_places.Given as goal
+use Rattle.setting_tests.proofs.slopes.are_places.Given as goal
 
 abbrev pub invariant-loop-x : goal.invariant-loop-x
 invariant-loop-x l = ArePlaces (drop l.x-index l.at) → ArePlaces l.at

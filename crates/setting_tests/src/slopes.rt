@@ -3,7 +3,7 @@
 ghost use Rattle.std.specs.Prelude.{IsTrue};
 ghost use Rattle.mus_score.specs.{Good.IsGoodBody, GoodScore.IsGoodScore, GoodScore.IsGoodVoice};
 ghost use Rattle.mus_stems.specs.{Plans.AllEndsNear, Slope.ArePlaces};
-ghost use Rattle.drawing_tests.specs.Rising.{AreRising, RisesFrom};
+ghost use Rattle.setting_tests.specs.Rising.{AreRising, RisesFrom};
 
 use crate::plans::{can_all_stand, put_plans};
 use answer_texts::put_word;

@@ -1,0 +1,89 @@
+//! Books in the folder, each beside what is written of it: the pages behind the prolog that `set` writes, the table
+//! of `systems --table`, and the faults.
+
+use crate::case::{Case, Told, verdict, words_of};
+use crate::running::{Finished, PIECE, Streams, ran};
+use abcps::Status;
+use std::rt::Files;
+use std::thread::Threads;
+use std::{fs, io};
+
+/// The line that ends the part of a document that is the same for every book.
+const END_OF_PROLOG: &[u8] = b"%%EndProlog\n";
+
+/// A run of the words on a book.
+fn ran_on<R: Threads + Sync + AllocGlobal>(
+    rt: &R,
+    words: &str,
+    book: &[u8],
+) -> io::Result<Finished> {
+    let alloc = rt.alloc();
+    let told = Told {
+        status: 0,
+        output: Vec::new(alloc),
+        errors: Vec::new(alloc),
+    };
+    let case = Case {
+        words: words_of(alloc, words)?,
+        input: Vec::from_slice(alloc, book)?,
+        told,
+    };
+    ran(rt, &case, &Streams::sound(PIECE))
+}
+
+/// What stands behind the prolog of a document.
+fn behind_prolog(document: &[u8]) -> &[u8] {
+    for (place, part) in document.windows(END_OF_PROLOG.len()).enumerate() {
+        if part == END_OF_PROLOG {
+            let (_, rest) = document.split_at(place);
+            return rest;
+        }
+    }
+    &[]
+}
+
+/// Whether a text is three others, one after another.
+fn is_joined(text: &[u8], first: &[u8], second: &[u8], third: &[u8]) -> bool {
+    let Some(rest) = text.strip_prefix(first) else {
+        return false;
+    };
+    rest.strip_prefix(second) == Some(third)
+}
+
+/// Whether both runs have the status that the told faults ask for.
+fn have_status(set: &Finished, systems: &Finished) -> bool {
+    let status = if set.errors.taken().is_empty() {
+        Status::Done
+    } else {
+        Status::SomeRefused
+    };
+    set.status == status && systems.status == status
+}
+
+/// Whether what is written of a book is what it should be: its pages, its listing and its faults.
+fn is_as_told<R: Files + AllocGlobal + Threads + Sync>(rt: &R, name: &str) -> io::Result<bool> {
+    let alloc = rt.alloc();
+    let book = fs::read(rt, format!(in alloc; "{name}.abc")?)?;
+    let told = fs::read(rt, format!(in alloc; "{name}.out")?)?;
+    let set = ran_on(rt, "set", &book)?;
+    let systems = ran_on(rt, "systems --table", &book)?;
+    let pages = behind_prolog(set.output.taken());
+    let table = systems.output.taken();
+    Ok(
+        have_status(&set, &systems)
+            && set.errors.taken() == systems.errors.taken()
+            && is_joined(&told, pages, table, set.errors.taken()),
+    )
+}
+
+/// Tells each book that a table names.
+pub(crate) fn tell_books<R: Files + AllocGlobal + Threads + Sync + Print>(
+    rt: &R,
+    table: &str,
+) -> io::Result<()> {
+    for name in table.lines() {
+        let verdict = verdict(is_as_told(rt, name)?);
+        println!(rt; "{name}: {verdict}")?;
+    }
+    Ok(())
+}

@@ -1,0 +1,45 @@
+ghost use Rattle.std.specs.Prelude.{◌<◌};
+
+use crate::answers::{end_line, put_word};
+use mus_units::{Memory, Text};
+use std::sync::atomic::AtomicBool;
+use std::sync::atomic::Ordering::SeqCst;
+
+/// Where each of two waits until the other has come, so many turns at most; it keeps whether it has.
+#[derive(Drop)]
+pub struct Meeting {
+    turns: u32,
+    come: [AtomicBool; 2],
+    met: [AtomicBool; 2],
+}
+
+impl Meeting {
+    pub fn new(turns: u32) -> Meeting {
+        Meeting {
+            turns,
+            come: [AtomicBool::new(false), AtomicBool::new(false)],
+            met: [AtomicBool::new(false), AtomicBool::new(false)],
+        }
+    }
+
+    /// Waits for the other.
+    pub fn wait(&self, own: usize)
+        requires { own < 2 }
+    {
+        self.come[own].store(true, SeqCst);
+        for _ in 0..self.turns {
+            if self.come[1 - own].load(SeqCst) {
+                self.met[own].store(true, SeqCst);
+                return;
+            }
+        }
+    }
+
+    /// Adds of each whether it met the other.
+    pub fn put_met(&self, out: &mut Text) -> Result<(), Memory> {
+        for met in &self.met {
+            put_word(out, if met.load(SeqCst) { b"met" } else { b"alone" })?;
+        }
+        end_line(out)
+    }
+}
