@@ -2,7 +2,7 @@
 use Rattle.std.{proofs.{Common.{◌≡◌, ℕ, suc, ◌+◌, ◌<◌, ◌≤◌, ◌^◌, List, [], ◌∷◌, ◌++◌, length, map, take, drop, get_or, refl, sym, ap, ◌∙◌, subst, arith, append_assoc, append-nil, drop-cons, Option, Some, None, Bool, true, false, ◌&&◌, All, flat_map}, Math.{Seq.take-suc, ListN.drop_of_length-le}, lemmas.List.{Sums.sum_by-cons, Elements.{All-nil, All-push, All-append, All-head, All-tail}}}, specs.Str.bytes_eq}
 use Rattle.mus_units.specs.declared.pitch.Clef.{Clef}
 use Rattle.abc_steps.specs.{declared.step.Step.Step, declared.step.Stood.Stood, Good.IsGoodStood, declared.step.Item.Item}
-use Rattle.abc_items.specs.{Good.IsGoodItem, declared.body.Body.Body, Voices.{ids_after, declared_ids, stood, break_if, one_if, named_step, steps_in, voice_next, steps_from}, Body.{Given, gives, fails, item_judged, judged, first_fault, items_in, LineGives, BodyGives, no_lines, one_line, IsBody, IsBodyError}, Reading.{Reads, Stops, ReadsSome, StopsBy, LinesStop}}
+use Rattle.abc_items.specs.{Good.IsGoodItem, declared.body.Body.Body, Voices.{ids_after, declared_ids, stood, break_if, one_if, named_step, steps_in, own_next, steps_from}, Body.{Given, gives, fails, item_judged, judged, first_fault, items_in, LineGives, BodyGives, no_lines, one_line, IsBody, IsBodyError}, Reading.{Reads, Stops, ReadsSome, StopsBy, LinesStop}}
 use Rattle.abc_lines.specs.{declared.book.Line.Line, declared.fault.Fault.Fault, declared.fault.TuneError.TuneError, Good.size_of}
 use Rattle.abc_tokens.specs.declared.token.Placed.{Placed}
 use Rattle.abc_fields.specs.declared.directive.Breaks.{Breaks}
@@ -149,17 +149,17 @@ clef_good true None line column = All-nil IsGoodStood
 clef_good true (Some clef) line column = All-push IsGoodStood [] (stood (Step.Clef clef) line column) (All-nil IsGoodStood) tt
 clef_good false clef line column = All-nil IsGoodStood
 
-item_steps_good : (id now : List ℕ) (i : Item) → IsGoodItem i → All IsGoodStood (steps_in id now i)
-item_steps_good id now (Item.Step s) good = own_good (bytes_eq id now) s good
-item_steps_good id now (Item.LineEnd joined breaks line column) good = break_good (breaks && bytes_eq id now) line column
-item_steps_good id now (Item.Voice def line column) good = clef_good (bytes_eq id def.id) def.clef line column
-item_steps_good id now (Item.Words text line) good = All-nil IsGoodStood
+item_steps_good : (id : List ℕ) (own : Bool) (i : Item) → IsGoodItem i → All IsGoodStood (steps_in id own i)
+item_steps_good id own (Item.Step s) good = own_good own s good
+item_steps_good id own (Item.LineEnd joined breaks line column) good = break_good (breaks && own) line column
+item_steps_good id own (Item.Voice def line column) good = clef_good (bytes_eq id def.id) def.clef line column
+item_steps_good id own (Item.Words text line) good = All-nil IsGoodStood
 
-pub steps_good : (id now : List ℕ) (items : List Item) → All IsGoodItem items → All IsGoodStood (steps_from id now items)
-steps_good id now [] good = All-nil IsGoodStood
-steps_good id now (i ∷ items) good =
-    All-append IsGoodStood (steps_in id now i) (steps_from id (voice_next i now) items) (item_steps_good id now i (All-head IsGoodItem i items good)) (steps_good id (voice_next i now) items (All-tail IsGoodItem i items good))
+pub steps_good : (id : List ℕ) (own : Bool) (items : List Item) → All IsGoodItem items → All IsGoodStood (steps_from id own items)
+steps_good id own [] good = All-nil IsGoodStood
+steps_good id own (i ∷ items) good =
+    All-append IsGoodStood (steps_in id own i) (steps_from id (own_next id own i) items) (item_steps_good id own i (All-head IsGoodItem i items good)) (steps_good id (own_next id own i) items (All-tail IsGoodItem i items good))
 
-pub steps_whole : (id unnamed now : List ℕ) (items : List Item) (i : ℕ) (steps : List Stood) → length items ≤ i → steps ++ steps_from id now (drop i items) ≡ steps_from id unnamed items → steps ≡ steps_from id unnamed items
-steps_whole id unnamed now items i steps past so_far =
-    sym (append-nil steps) ∙ ap (λ is. steps ++ steps_from id now is) (sym (drop_of_length-le items past)) ∙ so_far
+pub steps_whole : (id : List ℕ) (own : Bool) (items : List Item) (i : ℕ) (steps all : List Stood) → length items ≤ i → steps ++ steps_from id own (drop i items) ≡ all → steps ≡ all
+steps_whole id own items i steps all past so_far =
+    sym (append-nil steps) ∙ ap (λ is. steps ++ steps_from id own is) (sym (drop_of_length-le items past)) ∙ so_far

@@ -104,9 +104,9 @@ start_of header items id = record { id = id; clef = start_clef header items id; 
 abbrev pub starts_of : Header → List Item → List VoiceStart
 starts_of header items = map (start_of header items) (ids_of header items)
 
--- The steps of a voice. A step belongs to the voice of the last voice field before it, else to
--- `now`. The end of a line is a step of every voice, and a line break of the voice that is current
--- there; a voice field with a clef is a step of the voice that it names.
+-- The steps of a voice. A step belongs to the voice of the last voice field before it; `own` says
+-- whether that is this one. The end of a line is a step of every voice, and a line break of the voice
+-- that is current there; a voice field with a clef is a step of the voice that it names.
 abbrev pub stood : Step → ℕ → ℕ → Stood
 stood s line column = record { step = s; line = line; column = column }
 
@@ -126,16 +126,25 @@ abbrev pub named_step : Bool → Option Clef → ℕ → ℕ → List Stood
 named_step true clef line column = clef_step clef line column
 named_step false clef line column = []
 
-abbrev pub steps_in : List ℕ → List ℕ → Item → List Stood
-steps_in id now (Item.Step s) = one_if (bytes_eq id now) s
-steps_in id now (Item.LineEnd joined breaks line column) = stood Step.LineEnd line column ∷ break_if (breaks && bytes_eq id now) line column
-steps_in id now (Item.Voice def line column) = named_step (bytes_eq id def.id) def.clef line column
-steps_in id now (Item.Words text line) = []
+abbrev pub steps_in : List ℕ → Bool → Item → List Stood
+steps_in id own (Item.Step s) = one_if own s
+steps_in id own (Item.LineEnd joined breaks line column) = stood Step.LineEnd line column ∷ break_if (breaks && own) line column
+steps_in id own (Item.Voice def line column) = named_step (bytes_eq id def.id) def.clef line column
+steps_in id own (Item.Words text line) = []
 
+abbrev pub own_next : List ℕ → Bool → Item → Bool
+own_next id own (Item.Voice def line column) = bytes_eq id def.id
+own_next id own _ = own
+
+abbrev pub steps_from : List ℕ → Bool → List Item → List Stood
+steps_from id own [] = []
+steps_from id own (i ∷ items) = steps_in id own i ++ steps_from id (own_next id own i) items
+
+-- before any voice field, music is of the voice `unnamed`
+abbrev pub steps_of : List ℕ → List ℕ → List Item → List Stood
+steps_of id unnamed items = steps_from id (bytes_eq id unnamed) items
+
+-- the voice that is current behind an item
 abbrev pub voice_next : Item → List ℕ → List ℕ
 voice_next (Item.Voice def line column) now = def.id
 voice_next _ now = now
-
-abbrev pub steps_from : List ℕ → List ℕ → List Item → List Stood
-steps_from id now [] = []
-steps_from id now (i ∷ items) = steps_in id now i ++ steps_from id (voice_next i now) items

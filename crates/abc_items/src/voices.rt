@@ -1,6 +1,6 @@
 ghost use Rattle.std.specs.{Prelude.{◌≡◌, ◌++◌, ◌∷◌, ◌&&◌, ◌||◌, not, ◌==◌, [], IfOk, OnOk, map, find, fold, length, unwrap_or, true, false, All}, List.list_any, Option.option_copied, Str.bytes_eq};
 ghost use Rattle.abc_steps.specs.Good.{IsGoodStood};
-ghost use Rattle.abc_items.specs.{Good.IsGoodItem, Voices.{claims, voice_one, ids_by_step, ids_after, declared_ids, ids_of, unnamed_of, declared, decides, clef_in, still_alone, first_clef, clef_first, start_clef, wish_in, wish_if, declared_wish, start_stem, start_of, starts_of, stood, break_if, clef_step, one_if, named_step, steps_in, voice_next, steps_from}};
+ghost use Rattle.abc_items.specs.{Good.IsGoodItem, Voices.{claims, voice_one, ids_by_step, ids_after, declared_ids, ids_of, unnamed_of, declared, decides, clef_in, still_alone, first_clef, clef_first, start_clef, wish_in, wish_if, declared_wish, start_stem, start_of, starts_of, stood, break_if, clef_step, one_if, named_step, steps_in, own_next, steps_of}};
 ghost use Rattle.abc_fields.specs.Last.{last_of};
 ghost use Rattle.abc_header.specs.Voicing.{with_id};
 
@@ -82,16 +82,16 @@ pub(crate) fn mention_item(alloc: Global, ids: &mut Row<Text>, item: &Item) -> R
     ensures { OnOk result (ids.new ≡ ids_after ids.old item.now) }
 {
     match item {
-        Item::Step(stood) => mention_step(alloc, ids, claims(&stood.step)),
+        Item::Step(stood) => mention_step(alloc, ids, &stood.step),
         Item::Voice { def, .. } => mention(alloc, ids, def.id.as_slice()),
         _ => Ok(()),
     }
 }
 
-fn mention_step(alloc: Global, ids: &mut Row<Text>, claims: bool) -> Result<(), Memory>
-    ensures { OnOk result (ids.new ≡ ids_by_step ids.old claims) }
+fn mention_step(alloc: Global, ids: &mut Row<Text>, step: &Step) -> Result<(), Memory>
+    ensures { OnOk result (ids.new ≡ ids_by_step ids.old (claims step.now)) }
 {
-    if claims && ids.len() == 0 {
+    if ids.len() == 0 && claims(step) {
         return ids.push(Text::from_slice(alloc, b"1")?);
     }
     Ok(())
@@ -254,24 +254,25 @@ pub fn steps_of(
     unnamed: &[u8],
     items: &[Item],
 ) -> Result<Row<Stood>, Memory>
-    ensures value { IfOk result (λ steps. steps ≡ steps_from id.now unnamed.now items.now) }
+    ensures value { IfOk result (λ steps. steps ≡ steps_of id.now unnamed.now items.now) }
     ensures good { All IsGoodItem items.now → IfOk result (λ steps. All IsGoodStood steps) }
 {
     let mut steps = Row::with_room(alloc, items.len().min(1024))?;
-    let mut now = unnamed;
+    let mut own = is_same(id, unnamed);
     for item in items {
-        put_steps(alloc, &mut steps, id, now, item)?;
-        now = voice_next(item, now);
+        put_steps(alloc, &mut steps, id, own, item)?;
+        own = own_next(id, own, item);
     }
     Ok(steps)
 }
 
-fn voice_next<'a>(item: &'a Item, now: &'a [u8]) -> &'a [u8]
-    ensures { result.now ≡ voice_next item.now now.now }
+/// Whether what follows an item is of the voice.
+fn own_next(id: &[u8], own: bool, item: &Item) -> bool
+    ensures { result ≡ own_next id.now own item.now }
 {
     match item {
-        Item::Voice { def, .. } => def.id.as_slice(),
-        _ => now,
+        Item::Voice { def, .. } => is_same(id, def.id.as_slice()),
+        _ => own,
     }
 }
 
@@ -279,19 +280,19 @@ fn put_steps(
     alloc: Global,
     steps: &mut Row<Stood>,
     id: &[u8],
-    now: &[u8],
+    own: bool,
     item: &Item,
 ) -> Result<(), Memory>
-    ensures { OnOk result (steps.new ≡ steps.old ++ steps_in id.now now.now item.now) }
+    ensures { OnOk result (steps.new ≡ steps.old ++ steps_in id.now own item.now) }
 {
     match item {
-        Item::Step(stood) => put_own(alloc, steps, is_same(id, now), stood),
+        Item::Step(stood) => put_own(alloc, steps, own, stood),
         Item::LineEnd {
             breaks,
             line,
             column,
             ..
-        } => put_end(steps, *breaks && is_same(id, now), *line, *column),
+        } => put_end(steps, *breaks && own, *line, *column),
         Item::Voice { def, line, column } => put_named(
             steps,
             is_same(id, def.id.as_slice()),

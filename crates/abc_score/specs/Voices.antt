@@ -2,7 +2,7 @@
 use Rattle.std.specs.{Prelude.{◌≢◌, ⊤, ℕ, ◌≤◌, ◌^◌, List, [], ◌∷◌, map, length}, List.All}
 use Rattle.abc_header.specs.declared.header.Header.{Header}
 use Rattle.abc_steps.specs.{declared.step.Item.Item, declared.force.InForce.InForce, Good.IsGoodForce, Good.IsGoodStood}
-use Rattle.abc_items.specs.{declared.voices.VoiceStart.VoiceStart, Voices.starts_of, Voices.steps_from, Voices.unnamed_of}
+use Rattle.abc_items.specs.{declared.voices.VoiceStart.VoiceStart, Voices.starts_of, Voices.steps_of, Voices.unnamed_of}
 use Rattle.abc_score.specs.declared.voices.VoiceRead.{VoiceRead}
 
 -- a voice begins with its own first clef, and with the key, the meter and the unit length of the header
@@ -10,7 +10,7 @@ abbrev pub first_force : Header → VoiceStart → InForce
 first_force header start = record { clef = start.clef; key = header.key; meter = header.meter; unit = header.unit }
 
 abbrev pub voice_read : Header → List Item → VoiceStart → VoiceRead
-voice_read header items start = record { start = start; first = first_force header start; steps = steps_from start.id (unnamed_of header) items }
+voice_read header items start = record { start = start; first = first_force header start; steps = steps_of start.id (unnamed_of header) items }
 
 -- in order of first mention
 abbrev pub voices_read : Header → List Item → List VoiceRead

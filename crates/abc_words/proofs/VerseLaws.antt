@@ -1,7 +1,7 @@
 -- Verses stand on rows of the body; and a row without a fault has at most eight.
-use Rattle.std.{proofs.{Common.{◌≡◌, ℕ, ◌+◌, ◌<◌, List, [], ◌∷◌, ◌++◌, Bool, true, false, refl, cond, reverse, sym, ap, ◌∙◌, subst, arith, append_assoc, append-nil}, lemmas.List.{reverse-append, Elements.{All-nil, All-cons, All-append}}}, specs.{Prelude.{Option, Some, None, ⊤}, List.{All, list_any}}}
+use Rattle.std.{proofs.{Common.{◌≡◌, ℕ, ◌+◌, ◌<◌, List, [], ◌∷◌, ◌++◌, Bool, true, false, refl, cond, reverse, sym, ap, ◌∙◌, subst, arith, append_assoc, append-nil}, lemmas.List.{reverse-append, Elements.{All-nil, All-cons, All-append}}}, specs.{Prelude.{Option, Some, None, ⊤, fold, map, max}, List.{All, list_any, range_with_len}}}
 use Rattle.abc_steps.specs.declared.step.Item.{Item}
-use Rattle.abc_words.specs.{declared.rows.Place.Place, declared.verses.Verse.Verse, Rows.row_behind, Rows.row_at, Rows.row_count, Rows.is_line_of, Rows.last_row, Rows.place_at, Verses.is_words, Verses.verse_if, Verses.verse_at, Verses.verses_from, Verses.verses_of}
+use Rattle.abc_words.specs.{declared.rows.Place.Place, declared.verses.Verse.Verse, Rows.row_behind, Rows.row_at, Rows.row_count, Rows.is_line_of, Rows.last_row, Rows.place_at, Verses.is_words, Verses.verse_if, Verses.verse_at, Verses.verses_from, Verses.verses_of, Verses.number_on, Verses.verse_count, Verses.faults_from, Verses.first_of, Verses.verse_fault}
 
 abbrev IsWithin : ℕ → Verse → Type 0
 IsWithin n v = v.row < n
@@ -74,5 +74,14 @@ none_along id unnamed before [] none = refl
 none_along id unnamed before (Item.Words text line ∷ items) none = absurd cc
 none_along id unnamed before (i ∷ items) none = none_along id unnamed (i ∷ before) items none
 
-pub no_words_no_verses : (id unnamed : List ℕ) (items : List Item) → list_any is_words items ≡ false → [] ≡ verses_of id unnamed items
-no_words_no_verses id unnamed items none = sym (none_along id unnamed [] items none)
+none_counted : (rows : List ℕ) → fold max 0 (map (λ row. number_on row []) rows) ≡ 0
+none_counted [] = refl
+none_counted (row ∷ rows) = none_counted rows
+
+pub no_words_no_count : (id unnamed : List ℕ) (items : List Item) → list_any is_words items ≡ false → 0 ≡ verse_count id unnamed items
+no_words_no_count id unnamed items none =
+    let rows = range_with_len 0 (row_count items) in
+    sym (ap (λ vs. fold max 0 (map (λ row. number_on row vs) rows)) (none_along id unnamed [] items none) ∙ none_counted rows)
+
+pub no_words_no_fault : (id unnamed : List ℕ) (items : List Item) → list_any is_words items ≡ false → None ≡ verse_fault id unnamed items
+no_words_no_fault id unnamed items none = ap (λ vs. first_of (faults_from [] vs)) (sym (none_along id unnamed [] items none))

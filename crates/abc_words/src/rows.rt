@@ -1,6 +1,6 @@
 ghost use Rattle.std.specs.{Prelude.◌≡◌, Prelude.◌<◌, Prelude.◌≤◌, Prelude.◌+◌, Prelude.◌^◌, Prelude.◌∷◌, Prelude.[], Prelude.List, Prelude.ℕ, Prelude.reverse, Prelude.length, Str.bytes_eq};
 ghost use Rattle.abc_steps.specs.declared.step.Item.{Item};
-ghost use Rattle.abc_words.specs.Rows.{behind_end, behind_step, place_at, row_at, row_behind};
+ghost use Rattle.abc_words.specs.Rows.{behind_end, behind_step, place_at};
 
 use abc_items::voices::claims;
 use abc_steps::Item;
@@ -77,28 +77,4 @@ pub(crate) fn place_behind(id: &[u8], place: Place, item: &Item) -> Place
         },
         Item::Words { .. } => place,
     }
-}
-
-/// The row of a place behind an item.
-fn row_behind(item: &Item, row: usize) -> usize
-    requires { row + 1 < 2 ^ 64 }
-    ensures value { result ≡ row_behind item.now row }
-    ensures near { result ≤ row + 1 }
-{
-    match item {
-        Item::LineEnd { joined: false, .. } => row + 1,
-        _ => row,
-    }
-}
-
-/// The row at the end of a body.
-pub(crate) fn row_at_end(items: &[Item]) -> usize
-    ensures value { result ≡ row_at (reverse items.now) }
-    ensures within { result ≤ length items.now }
-{
-    let mut row = 0;
-    for item in items {
-        row = row_behind(item, row);
-    }
-    row
 }

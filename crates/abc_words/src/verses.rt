@@ -1,7 +1,7 @@
 ghost use Rattle.std.specs.{Prelude.{◌≡◌, ◌≤◌, ◌<◌, ◌+◌, ◌++◌, ◌∷◌, ◌^◌, [], List, ℕ, All, cond, fold, length, max, slice_index, ◌==◌, map, None, IfOk, OnOk}, List.{list_any, range_with_len}};
 ghost use Rattle.abc_words.specs.{Rows.row_count, Verses.{faults_from, first_of, is_words, number_on, too_many, verse_at, verse_count, verse_fault, verses_of}};
 
-use crate::rows::{Place, first_place, place_behind, row_at_end};
+use crate::rows::{Place, first_place, place_behind};
 use abc_lines::{Fault, FaultKind};
 use abc_steps::Item;
 use mus_units::{Memory, Row, Text};
@@ -55,30 +55,13 @@ fn has_words(items: &[Item]) -> bool
     items.iter().any(|item| is_words(item))
 }
 
-/// The verses of a voice, in the order of the text. Where the body has no words, each place of it isn't
-/// asked whether it is the voice's.
-#[tactic(auto, using(crate::proofs::VerseLaws::no_words_no_verses))]
+/// The verses of a voice, in the order of the text.
 pub(crate) fn verses_of(
     alloc: Global,
     id: &[u8],
     unnamed: &[u8],
     items: &[Item],
 ) -> Result<Verses, Memory>
-    ensures verses { IfOk result (λ v. v.verses ≡ verses_of id.now unnamed.now items.now) }
-    ensures rows { IfOk result (λ v. v.rows ≡ row_count items.now) }
-    ensures within { IfOk result (λ v. All (λ verse. verse.row < v.rows) v.verses) }
-{
-    if has_words(items) {
-        return verses_along(alloc, id, unnamed, items);
-    }
-    Ok(Verses {
-        rows: row_at_end(items) + 1,
-        verses: Row::new(alloc),
-    })
-}
-
-/// The verses of a voice, found by a walk along the body.
-fn verses_along(alloc: Global, id: &[u8], unnamed: &[u8], items: &[Item]) -> Result<Verses, Memory>
     ensures verses { IfOk result (λ v. v.verses ≡ verses_of id.now unnamed.now items.now) }
     ensures rows { IfOk result (λ v. v.rows ≡ row_count items.now) }
     ensures within { IfOk result (λ v. All (λ verse. verse.row < v.rows) v.verses) }
@@ -130,6 +113,7 @@ fn greatest(counts: &[usize]) -> usize
 /// How many verses a voice has: the greatest number of `w:` lines on one of its
 /// rows of music. `unnamed` is the voice of what stands before any voice field.
 /// There are at most eight where `verse_fault` finds none.
+#[tactic(auto, using(crate::proofs::VerseLaws::no_words_no_count))]
 pub fn verse_count(
     alloc: Global,
     id: &[u8],
@@ -139,6 +123,9 @@ pub fn verse_count(
     ensures value { IfOk result (λ n. n ≡ verse_count id.now unnamed.now items.now) }
     ensures few { IfOk result (λ n. verse_fault id.now unnamed.now items.now ≡ None → n ≤ 8) }
 {
+    if !has_words(items) {
+        return Ok(0);
+    }
     let found = verses_of(alloc, id, unnamed, items)?;
     let counts = counts_of(alloc, found.verses.as_slice(), found.rows)?;
     Ok(greatest(counts.as_slice()))
@@ -179,6 +166,7 @@ fn first_fault(alloc: Global, verses: &[Verse], rows: usize) -> Result<Option<Fa
 /// The fault of a voice with more than eight `w:` lines on one row: it stands at
 /// column 1 of the first that is too many. `unnamed` is the voice of what stands
 /// before any voice field.
+#[tactic(auto, using(crate::proofs::VerseLaws::no_words_no_fault))]
 pub fn verse_fault(
     alloc: Global,
     id: &[u8],
@@ -187,6 +175,9 @@ pub fn verse_fault(
 ) -> Result<Option<Fault>, Memory>
     ensures { IfOk result (λ fault. fault ≡ verse_fault id.now unnamed.now items.now) }
 {
+    if !has_words(items) {
+        return Ok(None);
+    }
     let found = verses_of(alloc, id, unnamed, items)?;
     first_fault(alloc, found.verses.as_slice(), found.rows)
 }

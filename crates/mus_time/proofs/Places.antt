@@ -2,19 +2,13 @@
 use Rattle.std.{proofs.{Common.{◌≡◌, ℕ, zero, zero-add, suc, ◌+◌, ◌-◌, ◌≤◌, ◌<◌, List, [], ◌∷◌, ◌++◌, length, length-take, get_or, drop, take, filter, refl, sym, subst, Bool, true, false, ◌&&◌, ◌==◌, not, if◌then◌else◌, arith}, lemmas.{List.{Sums.sum_by-cons, Elements.{All-contains, All-from_recursion, Contains-get_or, recursion_from_All}, FromFn.{length-map-range_with_len, get_or-map-range_with_len}}, Bool.Decides.nat_tests}}, specs.List.{All, AllByRecursion, flat_map, slice_get, slice_index, slice_range}}
 use Rattle.mus_score.specs.{declared.score.Event.Event, declared.score.Flat.Flat, declared.score.Measure.Measure, declared.score.Score.Score, declared.score.Voice.Voice, Good.total_ticks, GoodScore.IsGoodScore, Seats.is_lower, Times.flats_of}
 use Rattle.mus_units.specs.declared.note.Bar.{Bar}
-use Rattle.mus_time.specs.{Keys.{key_at, change_keys, change_has_mark, grace_keys, event_keys, events_keys, signed_after, signed_through, measures_keys, first_keys, has_features, signed_at, voice_keys, all_keys, keys_by, is_for_each, called_keys, measure_keys, further_keys, AreKeys, IsInSystem}, declared.keys.{ColumnKey.ColumnKey, Class.Class}, Onsets.{greatest, length_in, length_at, ticks_of_some, timeline_of}}
+use Rattle.mus_time.specs.{Keys.{key_at, change_keys, change_has_mark, grace_keys, event_keys, events_keys, signed_after, signed_through, measures_keys, first_keys, has_features, signed_at, voice_keys, all_keys, keys_by, is_for_each, called_keys, measure_keys, further_keys, AreKeys, IsInSystem}, declared.keys.{ColumnKey.ColumnKey, Class.Class}, Onsets.{length_in, length_at, ticks_of_some, timeline_of}}
 
 pub length_of_lengths : (s : Score) → length (timeline_of s).lengths ≡ s.measures
 length_of_lengths s = length-map-range_with_len (length_at s.voices) 0 s.measures
 
 pub length_is : (s : Score) (k : ℕ) → k < s.measures → slice_index (timeline_of s).lengths k ≡ length_at s.voices k
 length_is s k h = get_or-map-range_with_len (length_at s.voices) 0 s.measures k k 0 h (omega arith)
-
--- each voice's measure is within the longest
-within_greatest : (ns : List ℕ) (i : ℕ) → i < length ns → slice_index ns i ≤ greatest ns
-within_greatest [] i h = omega arith
-within_greatest (n ∷ ns) zero h = omega arith
-within_greatest (n ∷ ns) (suc i) h = omega (arith, within_greatest ns i (omega arith))
 
 -- all of a list, by recursion
 all_append : (P : ColumnKey → Type 0) (xs ys : List ColumnKey) → AllByRecursion P xs → AllByRecursion P ys → AllByRecursion P (xs ++ ys)

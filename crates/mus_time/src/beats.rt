@@ -70,7 +70,7 @@ pub(crate) fn beats(alloc: Global, body: &[Music]) -> Result<Row<Beat>, Memory>
     ensures beats { IfOk result (λ r. r ≡ beats_of body.now) }
     ensures short { IfOk result (λ r. sum_by (λ b. b.ticks) r ≤ 50000 * longest_ticks) }
 {
-    let mut out = Row::new(alloc);
+    let mut out = Row::with_room(alloc, body.len())?;
     put_nodes(body, 1, 1, &mut out)?;
     Ok(out)
 }

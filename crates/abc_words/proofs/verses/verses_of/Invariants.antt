@@ -1,6 +1,6 @@
 use Rattle.std.proofs.Common.{◌≡◌, ◌++◌, ◌≤◌, [], drop, take, reverse}
 use Rattle.abc_words.specs.{Rows.place_at, Verses.verses_from}
-use Rattle.abc_words.proofs.verses.verses_along.Given as goal
+use Rattle.abc_words.proofs.verses.verses_of.Given as goal
 
 abbrev pub invariant-loop-item : goal.invariant-loop-item
 invariant-loop-item l = record {

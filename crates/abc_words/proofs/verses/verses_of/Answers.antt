@@ -1,6 +1,6 @@
 use Rattle.std.proofs.{Common.◌≡◌, Common.◌+◌, Common.arith, lemmas.Grind.common_steps}
 use Rattle.abc_words.{specs.Rows.row_count, specs.Verses.verses_of, proofs.VerseLaws.found_within}
-use Rattle.abc_words.proofs.verses.verses_along.Goals as goal
+use Rattle.abc_words.proofs.verses.verses_of.Goals as goal
 
 pub returns-clause-within : goal.returns-clause-within
 returns-clause-within c =
