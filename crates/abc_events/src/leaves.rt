@@ -78,7 +78,7 @@ fn later_head(more: bool, head: Head) -> Head
     }
 }
 
-fn later_heads(alloc: Global, heads: &[Head], more: bool) -> Result<Row<Head>, Memory>
+fn later_row(alloc: Global, heads: &[Head], more: bool) -> Result<Row<Head>, Memory>
     ensures { IfOk result (λ r. r ≡ map (later_head more) heads.now) }
 {
     let items = heads
@@ -86,6 +86,15 @@ fn later_heads(alloc: Global, heads: &[Head], more: bool) -> Result<Row<Head>, M
         .map(|head| later_head(more, *head))
         .collect(alloc)?;
     Ok(Row { items })
+}
+
+fn later_heads(alloc: Global, heads: &[Head], more: bool) -> Result<Few<Head>, Memory>
+    ensures { IfOk result (λ r. r ≡ map (later_head more) heads.now) }
+{
+    match heads {
+        [head] => Ok(Few::one(later_head(more, *head))),
+        _ => Ok(Few::from(later_row(alloc, heads, more)?)),
+    }
 }
 
 /// A row of so many verses without words.
@@ -183,6 +192,7 @@ fn put_later(
 }
 
 /// The one part of a written event that has no other.
+#[tactic(auto, using(crate::proofs::Heads::untied), unfolding(crate::specs::Leaves::first_part))]
 fn only_part(w: Written, waiting: Waiting, words: Row<Option<Text>>, id: u32, value: Value) -> Event
     requires { value.dots ≤ 3 }
     ensures { result ≡ first_part w waiting words id false value }
@@ -228,7 +238,7 @@ fn put_parts(
     }
 }
 
-#[tactic(auto, unfolding(crate::specs::Leaves::grace_event))]
+#[tactic(auto, using(crate::proofs::Heads::untied), unfolding(crate::specs::Leaves::grace_event))]
 fn grace_event(alloc: Global, heads: &[Head]) -> Result<Event, Memory>
     ensures { IfOk result (λ e. e ≡ grace_event heads.now) }
 {
@@ -238,7 +248,7 @@ fn grace_event(alloc: Global, heads: &[Head]) -> Result<Event, Memory>
     };
     Ok(Event {
         id: 0,
-        heads: Row::from_slice(alloc, heads)?,
+        heads: with_ties(alloc, heads, false)?,
         look: Look::Seen,
         value: eighth,
         ticks: ticks_of(eighth),

@@ -27,21 +27,24 @@ fn with_tie(tie: bool, head: Head) -> Head
 }
 
 /// Heads that are all tied, or as they are.
-pub fn with_ties(alloc: Global, heads: &[Head], tie: bool) -> Result<Row<Head>, Memory>
+pub fn with_ties(alloc: Global, heads: &[Head], tie: bool) -> Result<Few<Head>, Memory>
     ensures { IfOk result (λ r. r ≡ map (with_tie tie) heads.now) }
 {
+    if let [head] = heads {
+        return Ok(Few::one(with_tie(tie, *head)));
+    }
     let mut tied = Row::with_room(alloc, heads.len())?;
     for head in heads {
         tied.push(with_tie(tie, *head))?;
     }
-    Ok(tied)
+    Ok(Few::from(tied))
 }
 
-fn tied_heads(alloc: Global, heads: &[Head], behind: &[Stood]) -> Result<Row<Head>, Memory>
+fn tied_heads(alloc: Global, heads: &[Head], behind: &[Stood]) -> Result<Few<Head>, Memory>
     ensures { IfOk result (λ r. r ≡ tied_heads heads.now behind.now) }
 {
     if heads.is_empty() {
-        return Ok(Row::new(alloc));
+        return Ok(Few::from(Row::new(alloc)));
     }
     with_ties(alloc, heads, is_tied(behind))
 }
@@ -157,7 +160,7 @@ fn rest_written(
         line: at.line,
         column: at.column,
         measure,
-        heads: Row::new(alloc),
+        heads: Few::from(Row::new(alloc)),
         look: whole_look(seen),
         values: whole_values(),
         whole: Some(meter_ticks(now.force.meter).unwrap_or(0)),

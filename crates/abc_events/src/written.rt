@@ -16,7 +16,7 @@ pub struct Written {
     pub line: u32,
     pub column: u32,
     pub measure: u64,
-    pub heads: Row<Head>,
+    pub heads: Few<Head>,
     pub look: Look,
     pub values: Few<Value>,
     pub whole: Option<u64>,

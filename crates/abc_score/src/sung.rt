@@ -19,7 +19,7 @@ pub struct Notes {
 fn put_note(notes: &mut Row<SungNote>, event: u32, w: &Written) -> Result<(), Memory>
     ensures { OnOk result (notes.new ≡ notes.old ++ note_if w.now.heads event w.now) }
 {
-    if w.heads.len() == 0 {
+    if w.heads.as_slice().is_empty() {
         return Ok(());
     }
     let measure = u32::try_from(w.measure).ok().ok_or(Memory)?;

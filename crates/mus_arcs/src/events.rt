@@ -69,15 +69,6 @@ fn put_node(alloc: Global, m: &Music, measure: u32, events: &mut Row<EventAt>) -
     }
 }
 
-fn copy_heads(alloc: Global, heads: &[Head]) -> Result<Few<Head>, Memory>
-    ensures { IfOk result (λ few. few ≡ heads.now) }
-{
-    match heads {
-        [head] => Ok(Few::one(*head)),
-        _ => Ok(Few::from(Row::from_slice(alloc, heads)?)),
-    }
-}
-
 fn put_event(
     alloc: Global,
     e: &Event,
@@ -91,7 +82,7 @@ fn put_event(
         measure,
         begins: e.begins,
         ends: e.ends,
-        heads: copy_heads(alloc, e.heads.as_slice())?,
+        heads: e.heads.copy(alloc)?,
     })?;
     Ok(())
 }

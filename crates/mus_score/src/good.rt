@@ -30,13 +30,13 @@ fn has_ticks_of_value(e: &Event) -> bool
 fn is_good_note(e: &Event) -> bool
     ensures { result ≡ is_note e.now }
 {
-    e.heads.len() >= 1 && has_ticks_of_value(e)
+    !e.heads.as_slice().is_empty() && has_ticks_of_value(e)
 }
 
 fn is_good_rest(inner: bool, e: &Event) -> bool
     ensures { result ≡ is_rest inner e.now }
 {
-    if e.heads.len() != 0 || e.value.dots > 3 {
+    if !e.heads.as_slice().is_empty() || e.value.dots > 3 {
         return false;
     }
     if inner {
@@ -123,7 +123,7 @@ fn weight_within(m: &Music) -> u64
     ensures { result ≡ min 50001 (weight m.now) }
 {
     match m {
-        Music::Note(e) => (e.heads.len() as u64).min(50_001),
+        Music::Note(e) => (e.heads.as_slice().len() as u64).min(50_001),
         Music::Rest(_) => 1,
         Music::Grace { body, slash: _ } => weights_within(body.as_slice()),
         Music::Tuplet { p: _, q: _, body } => weights_within(body.as_slice()),

@@ -1,7 +1,7 @@
 ghost use Rattle.std.specs.Prelude.{◌≡◌};
 ghost use Rattle.mus_score.specs.Seats.{is_lower};
 
-use mus_units::{Bar, Clef, Deco, Head, Key, Meter, Row, Spread, Text, Value, Wish};
+use mus_units::{Bar, Clef, Deco, Few, Head, Key, Meter, Row, Spread, Text, Value, Wish};
 
 /// How a rest or a note is drawn: seen, unseen, or as a rest of a whole measure.
 #[derive(Clone, Copy, PartialEq, Eq)]
@@ -34,7 +34,7 @@ pub struct Changes {
 #[derive(Drop)]
 pub struct Event {
     pub id: u32,
-    pub heads: Row<Head>,
+    pub heads: Few<Head>,
     pub look: Look,
     pub value: Value,
     pub ticks: u64,

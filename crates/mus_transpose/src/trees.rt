@@ -5,12 +5,16 @@ use crate::heads::moved_head;
 use crate::keys::key_by;
 use crate::moves::{Move, MoveError, Moved};
 use mus_score::{Event, Music, copy_event};
-use mus_units::{Head, Row};
+use mus_units::{Few, Head, Row};
 use std::alloc::Global;
 
-fn moved_heads(alloc: Global, m: Move, heads: &[Head]) -> Moved<Row<Head>>
+fn moved_heads(alloc: Global, m: Move, heads: &[Head]) -> Moved<Few<Head>>
     ensures { Gives (list_all (head_moves m) heads.now) (map (moved_head m) heads.now) result }
 {
+    if let [head] = heads {
+        let moved = moved_head(m, *head).ok_or(MoveError::NoMove)?;
+        return Ok(Few::one(moved));
+    }
     let mut out = Row::new(alloc);
     for head in heads {
         match moved_head(m, *head) {
@@ -18,7 +22,7 @@ fn moved_heads(alloc: Global, m: Move, heads: &[Head]) -> Moved<Row<Head>>
             None => return Err(MoveError::NoMove),
         }
     }
-    Ok(out)
+    Ok(Few::from(out))
 }
 
 /// A moved copy of an event.
