@@ -1,2 +1,4 @@
 pub mod Arcs
+pub mod Beams
 pub mod Bridges
+pub mod Levels

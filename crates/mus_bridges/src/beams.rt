@@ -1,10 +1,10 @@
 ghost use Rattle.std.specs.Prelude.{◌≡◌, ◌≤◌, ◌+◌, ◌++◌, length, map, flat_map, IfOk, OnOk};
 ghost use Rattle.mus_drawn.specs.Good.{AreGoodDrawn, AreGoodMeasures, IsGoodDrawn};
-ghost use Rattle.mus_ink.specs.Beams.{beam_marks};
-ghost use Rattle.mus_bridges.specs.Bridges.{stem_at, beams_between, beam_over, event_grace_beam, grace_beams_between};
+ghost use Rattle.mus_bridges.specs.{Beams.beam_marks, Bridges.{stem_at, beams_between, beam_over, event_grace_beam, grace_beams_between}};
 
+use crate::stems::{Stem, put_beams, stem_of};
 use mus_drawn::{DrawnEvent, DrawnMeasure};
-use mus_ink::{Stem, group_of, put_beams, put_grace_beam, stem_of};
+use mus_ink::{group_of, put_grace_beam};
 use mus_keys::note_key;
 use mus_laid::Bridge;
 use mus_time::{Class, ColumnKey};

@@ -1,7 +1,7 @@
 -- One more of what is counted.
-use Rattle.std.proofs.Common.{◌≡◌, ℕ, suc, ◌+◌, ◌-◌, ◌*◌, ◌<◌, ℤ, pos, Bool, List, ◌∷◌, ◌++◌, refl, sym, ap, ◌∙◌, append_assoc, arith}
+use Rattle.std.proofs.Common.{◌≡◌, ℕ, suc, ◌+◌, ◌-◌, ◌*◌, ◌<◌, ℤ, pos, Bool, ◌∷◌, refl, arith}
 use Rattle.mus_units.specs.declared.glyph.Glyph.{Glyph}
-use Rattle.mus_ink.specs.{declared.beams.Stem.Stem, Drawing.{glyph, loose_glyph}, Distances.{dot_side, dot_step, rest_dot_line}, Kinds.{flag_glyph, stub_glyph}, Stems.{stem_dx, flag_dy, flag_marks, lower_edge, stub_marks}, Rests.{raised, short_dy, short_rests, rest_dots}, Beams.{level_from, last_at, levels_from}}
+use Rattle.mus_ink.specs.{Drawing.{glyph, loose_glyph}, Distances.{dot_side, dot_step, rest_dot_line}, Kinds.{flag_glyph, stub_glyph}, Stems.{stem_dx, flag_dy, flag_marks, lower_edge, stub_marks}, Rests.{raised, short_dy, short_rests, rest_dots}}
 
 pub one_less : (k n : ℕ) → k < n → n - k ≡ suc (n - (k + 1))
 one_less k n lt = omega arith
@@ -21,11 +21,3 @@ rests_step g top k n lt = rw (one_less k n lt) refl
 pub dots_step : (raise : ℤ) (k n : ℕ) → k < n →
     rest_dots raise k (n - k) ≡ glyph Glyph.Dt (pos (dot_side + dot_step * k)) (raised raise (pos rest_dot_line)) ∷ rest_dots raise (k + 1) (n - (k + 1))
 dots_step raise k n lt = rw (one_less k n lt) refl
-
-pub levels_step : (k n : ℕ) (p : Stem) (qs : List Stem) → k < n →
-    levels_from k (n - k) p qs ≡ level_from k p (last_at k p qs) ++ levels_from (k + 1) (n - (k + 1)) p qs
-levels_step k n p qs lt = rw (one_less k n lt) refl
-
--- a call that puts a piece takes it off what is left
-pub appended : {A : Type 0} (out new whole piece more rest : List A) → new ≡ out ++ piece → rest ≡ piece ++ more → out ++ rest ≡ whole → new ++ more ≡ whole
-appended out new whole piece more rest e g h = ap (λ t. t ++ more) e ∙ append_assoc out piece more ∙ ap (λ t. out ++ t) (sym g) ∙ h

@@ -173,4 +173,4 @@ module _ (P : Drawn → Type 0) (w : OfMarks P) where
 
   pub grace : (c : Clef) (group : Group) (first : Bool) (g : Event) → AllByRecursion P (grace_marks c group first g)
   unfolding grace_marks
-  grace c group first g = two _ _ (two (grace_body c g.heads) _ (small_body c g.heads) (w.of_stem _ _ _, ended group.alone _ group.end)) (ended _ _ group.end)
+  grace c group first g = two _ _ (two (grace_body c g.heads) _ (small_body c g.heads) (w.of_stem _ _ _, tt)) (two _ _ (ended group.alone _ group.end) (ended _ _ group.end))

@@ -2,4 +2,3 @@ pub mod Counting
 pub mod Cuts
 pub mod EachMark
 pub mod Keys
-pub mod LevelLaws

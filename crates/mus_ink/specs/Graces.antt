@@ -45,11 +45,14 @@ grace_body c heads =
     let stands = map (stand_of c) heads in
     sign_marks c heads (signs_from (back grace_sign_side) stands) ++ ledger_marks (ledgers_of (low_of stands) (high_of stands)) ++ grace_heads c heads
 
--- one grace of a group: a grace alone has a flag, and the first of a group its slash
+-- a grace alone has a flag, and the first of a group its slash
+abbrev pub ends : Group → Bool → List Drawn
+ends group first = at_end group.alone Glyph.Gf group.end ++ at_end (first && group.slash) Glyph.Gs group.end
+
+-- one grace of a group
 unfoldable pub grace_marks : Clef → Group → Bool → Event → List Drawn
 grace_marks c group first g =
-    grace_body c g.heads ++ stem (pos grace_stem_side) (stem_from c g.heads) group.end
-    ∷ at_end group.alone Glyph.Gf group.end ++ at_end (first && group.slash) Glyph.Gs group.end
+    grace_body c g.heads ++ stem (pos grace_stem_side) (stem_from c g.heads) group.end ∷ [] ++ ends group first
 
 -- the beam of a group of two graces or more, from the column of the first to that of the last
 unfoldable pub beam_edge : ℤ → ℤ

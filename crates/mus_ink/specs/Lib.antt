@@ -1,12 +1,10 @@
 pub mod Bars
-pub mod Beams
 pub mod Changes
 pub mod Decos
 pub mod Distances
 pub mod Drawing
 pub mod Graces
 pub mod Kinds
-pub mod Levels
 pub mod Notes
 pub mod Rests
 pub mod Signatures

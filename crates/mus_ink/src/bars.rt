@@ -1,9 +1,10 @@
-ghost use Rattle.std.specs.Prelude.{◌≡◌, ◌++◌, OnOk};
+ghost use Rattle.std.specs.Prelude.{◌≡◌, OnOk};
 ghost use Rattle.mus_ink.specs.Bars.{bar_glyph, glyph_if, bar_marks};
+ghost use Rattle.mus_laid.specs.Ranked.{inked};
 
 use crate::drawing::put_glyph;
-use mus_laid::Drawn;
-use mus_units::{Bar, Glyph, Memory, Row};
+use mus_laid::Pen;
+use mus_units::{Bar, Glyph, Memory};
 
 /// The glyph of a bar's body.
 #[tactic(auto, unfolding(crate::specs::Bars::bar_glyph))]
@@ -29,11 +30,11 @@ fn body(bar: Bar) -> Glyph
     }
 }
 
-fn put_if(out: &mut Row<Drawn>, yes: bool, glyph: Glyph) -> Result<(), Memory>
-    ensures { OnOk result (out.new ≡ out.old ++ glyph_if yes glyph) }
+fn put_if(pen: &mut Pen, yes: bool, glyph: Glyph) -> Result<(), Memory>
+    ensures { OnOk result (pen.new ≡ inked pen.old (glyph_if yes glyph)) }
 {
     if yes {
-        put_glyph(out, glyph, 0, 0)?;
+        put_glyph(pen, glyph, 0, 0)?;
     }
     Ok(())
 }
@@ -41,10 +42,10 @@ fn put_if(out: &mut Row<Drawn>, yes: bool, glyph: Glyph) -> Result<(), Memory>
 /// Draws a bar: its body at dx 0 and dy 0, then the dots of a repeat that ends there, then those of
 /// one that begins there.
 #[tactic(auto, unfolding(crate::specs::Bars::bar_marks))]
-pub fn put_bar(out: &mut Row<Drawn>, bar: Bar) -> Result<(), Memory>
-    ensures { OnOk result (out.new ≡ out.old ++ bar_marks bar) }
+pub fn put_bar(pen: &mut Pen, bar: Bar) -> Result<(), Memory>
+    ensures { OnOk result (pen.new ≡ inked pen.old (bar_marks bar)) }
 {
-    put_if(out, true, body(bar))?;
-    put_if(out, bar.end, Glyph::Dl)?;
-    put_if(out, bar.start, Glyph::Dr)
+    put_if(pen, true, body(bar))?;
+    put_if(pen, bar.end, Glyph::Dl)?;
+    put_if(pen, bar.start, Glyph::Dr)
 }

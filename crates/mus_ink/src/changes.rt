@@ -1,43 +1,37 @@
-ghost use Rattle.std.specs.Prelude.{◌≡◌, ◌≤◌, ◌++◌, length, IfSome, OnOk};
+ghost use Rattle.std.specs.Prelude.{◌≡◌, ◌≤◌, length, IfSome, OnOk};
 ghost use Rattle.mus_units.specs.Good.{AreGoodSigns, IsGoodKey};
 ghost use Rattle.mus_ink.specs.Changes.{head_marks, clef_if, behind_clef, new_entries, key_if, new_count, count_if, change_marks};
+ghost use Rattle.mus_laid.specs.Ranked.{inked};
 
 use crate::distances::{CLEF_SIDE, CLEF_WIDTH, ENTRY_GAP, ENTRY_STEP, SIGNATURE_SIDE};
 use crate::signatures::{put_clef, put_entries, put_meter_if};
-use mus_laid::Drawn;
+use mus_laid::Pen;
 use mus_score::Changes;
-use mus_units::{Clef, Key, Memory, Meter, Row, Sign};
-use std::alloc::Global;
+use mus_units::{Clef, Key, Memory, Meter, Sign};
 
 /// Draws the head of a staff: its clef at dx 200, its signature from dx 1800 on, and behind it the
 /// meter, where one is drawn there.
 #[tactic(auto, using(crate::proofs::Keys::few_signs), unfolding(crate::specs::Changes::head_marks))]
 pub fn put_head(
-    alloc: Global,
-    out: &mut Row<Drawn>,
+    pen: &mut Pen,
     clef: Clef,
     signs: &[Sign],
     meter: Option<Meter>,
 ) -> Result<(), Memory>
     requires { AreGoodSigns signs.now }
-    ensures { OnOk result (out.new ≡ out.old ++ head_marks clef signs.now meter) }
+    ensures { OnOk result (pen.new ≡ inked pen.old (head_marks clef signs.now meter)) }
 {
-    put_clef(out, CLEF_SIDE, clef)?;
-    put_entries(out, clef, false, SIGNATURE_SIDE, signs)?;
-    put_meter_if(
-        alloc,
-        out,
-        SIGNATURE_SIDE + ENTRY_STEP * signs.len() as u32,
-        meter,
-    )
+    put_clef(pen, CLEF_SIDE, clef)?;
+    put_entries(pen, clef, false, SIGNATURE_SIDE, signs)?;
+    put_meter_if(pen, SIGNATURE_SIDE + ENTRY_STEP * signs.len() as u32, meter)
 }
 
-fn put_clef_if(out: &mut Row<Drawn>, clef: Option<Clef>) -> Result<(), Memory>
-    ensures { OnOk result (out.new ≡ out.old ++ clef_if clef) }
+fn put_clef_if(pen: &mut Pen, clef: Option<Clef>) -> Result<(), Memory>
+    ensures { OnOk result (pen.new ≡ inked pen.old (clef_if clef)) }
 {
     match clef {
         None => Ok(()),
-        Some(clef) => put_clef(out, 0, clef),
+        Some(clef) => put_clef(pen, 0, clef),
     }
 }
 
@@ -54,7 +48,7 @@ fn behind_clef(clef: Option<Clef>) -> u32
 
 /// Draws the signature of a new key, or a natural for each sign of the old one where it has none.
 fn put_new_entries(
-    out: &mut Row<Drawn>,
+    pen: &mut Pen,
     clef: Clef,
     first: u32,
     old: &[Sign],
@@ -63,11 +57,11 @@ fn put_new_entries(
     requires near { first ≤ 2000 }
     requires old { length old.now ≤ 7 }
     requires few { length signs.now ≤ 7 }
-    ensures { OnOk result (out.new ≡ out.old ++ new_entries clef first old.now signs.now) }
+    ensures { OnOk result (pen.new ≡ inked pen.old (new_entries clef first old.now signs.now)) }
 {
     match signs {
-        [] => put_entries(out, clef, true, first, old),
-        _ => put_entries(out, clef, false, first, signs),
+        [] => put_entries(pen, clef, true, first, old),
+        _ => put_entries(pen, clef, false, first, signs),
     }
 }
 
@@ -84,7 +78,7 @@ fn new_count(old: &[Sign], signs: &[Sign]) -> usize
 }
 
 fn put_key_if(
-    out: &mut Row<Drawn>,
+    pen: &mut Pen,
     clef: Clef,
     first: u32,
     old: &[Sign],
@@ -93,11 +87,11 @@ fn put_key_if(
     requires near { first ≤ 2000 }
     requires old { length old.now ≤ 7 }
     requires key { IfSome key.now IsGoodKey }
-    ensures { OnOk result (out.new ≡ out.old ++ key_if clef first old.now key.now) }
+    ensures { OnOk result (pen.new ≡ inked pen.old (key_if clef first old.now key.now)) }
 {
     match key {
         None => Ok(()),
-        Some(key) => put_new_entries(out, clef, first, old, key.signs.as_slice()),
+        Some(key) => put_new_entries(pen, clef, first, old, key.signs.as_slice()),
     }
 }
 
@@ -118,20 +112,14 @@ fn count_if(old: &[Sign], key: &Option<Key>) -> usize
 /// in the clef in force there, `clef`, and then the meter. Where the new key has no entries, each of
 /// the old key, `old`, gives a natural.
 #[tactic(auto, using(crate::proofs::Keys::few_signs), unfolding(crate::specs::Changes::change_marks))]
-pub fn put_change(
-    alloc: Global,
-    out: &mut Row<Drawn>,
-    clef: Clef,
-    old: &[Sign],
-    changes: &Changes,
-) -> Result<(), Memory>
+pub fn put_change(pen: &mut Pen, clef: Clef, old: &[Sign], changes: &Changes) -> Result<(), Memory>
     requires old { AreGoodSigns old.now }
     requires key { IfSome changes.now.key IsGoodKey }
-    ensures { OnOk result (out.new ≡ out.old ++ change_marks clef old.now changes.now) }
+    ensures { OnOk result (pen.new ≡ inked pen.old (change_marks clef old.now changes.now)) }
 {
     let first = behind_clef(changes.clef);
     let count = count_if(old, &changes.key) as u32;
-    put_clef_if(out, changes.clef)?;
-    put_key_if(out, clef, first + ENTRY_GAP, old, &changes.key)?;
-    put_meter_if(alloc, out, first + ENTRY_STEP * count, changes.meter)
+    put_clef_if(pen, changes.clef)?;
+    put_key_if(pen, clef, first + ENTRY_GAP, old, &changes.key)?;
+    put_meter_if(pen, first + ENTRY_STEP * count, changes.meter)
 }

@@ -1,6 +1,7 @@
-ghost use Rattle.std.specs.Prelude.{◌≡◌, ◌++◌, OnOk};
+ghost use Rattle.std.specs.Prelude.{◌≡◌, OnOk};
 ghost use Rattle.mus_ink.specs.Decos.{with_stem, top_of, first_deco, next_deco, deco_mark, behind_deco, deco_marks, body_marks, note_marks};
 ghost use Rattle.mus_stems.specs.Slope.{with_end};
+ghost use Rattle.mus_laid.specs.Ranked.{inked};
 
 use crate::distances::{DECO_GAP, DECO_LINE, DECO_STEP, TOP_LINE};
 use crate::drawing::{cut, put_glyph};
@@ -8,10 +9,10 @@ use crate::kinds::deco_glyph;
 use crate::notes::{head_dy, highest_dy, put_heads_of};
 use crate::rests::put_rest;
 use crate::stems::put_stem_of;
-use mus_laid::Drawn;
+use mus_laid::Pen;
 use mus_score::Event;
 use mus_stems::StemPlan;
-use mus_units::{Clef, Deco, Glyph, Head, Memory, Row};
+use mus_units::{Clef, Deco, Glyph, Head, Memory};
 
 fn with_stem(has: bool, to: i32, top: i32) -> i32
     ensures { result ≡ with_stem has to top }
@@ -47,12 +48,12 @@ fn next_deco(dy: i32) -> i32
     cut(i64::from(dy) + DECO_STEP)
 }
 
-fn put_deco(out: &mut Row<Drawn>, dy: i32, glyph: Option<Glyph>) -> Result<(), Memory>
-    ensures { OnOk result (out.new ≡ out.old ++ deco_mark dy glyph) }
+fn put_deco(pen: &mut Pen, dy: i32, glyph: Option<Glyph>) -> Result<(), Memory>
+    ensures { OnOk result (pen.new ≡ inked pen.old (deco_mark dy glyph)) }
 {
     match glyph {
         None => Ok(()),
-        Some(glyph) => put_glyph(out, glyph, 0, dy),
+        Some(glyph) => put_glyph(pen, glyph, 0, dy),
     }
 }
 
@@ -66,13 +67,13 @@ fn behind_deco(dy: i32, glyph: Option<Glyph>) -> i32
 }
 
 /// Draws the decorations that have a glyph, the first at `first`.
-fn put_decos(out: &mut Row<Drawn>, first: i32, decos: &[Deco]) -> Result<(), Memory>
-    ensures { OnOk result (out.new ≡ out.old ++ deco_marks first decos.now) }
+fn put_decos(pen: &mut Pen, first: i32, decos: &[Deco]) -> Result<(), Memory>
+    ensures { OnOk result (pen.new ≡ inked pen.old (deco_marks first decos.now)) }
 {
     let mut dy = first;
     for deco in decos {
         let glyph = deco_glyph(deco);
-        put_deco(out, dy, glyph)?;
+        put_deco(pen, dy, glyph)?;
         dy = behind_deco(dy, glyph);
     }
     Ok(())
@@ -81,7 +82,7 @@ fn put_decos(out: &mut Row<Drawn>, first: i32, decos: &[Deco]) -> Result<(), Mem
 /// Draws a rest, or heads with their stem.
 #[tactic(auto, unfolding(crate::specs::Notes::heads_marks))]
 fn put_body(
-    out: &mut Row<Drawn>,
+    pen: &mut Pen,
     clef: Clef,
     raise: i32,
     event: &Event,
@@ -90,13 +91,13 @@ fn put_body(
     before: u8,
     after: u8,
 ) -> Result<(), Memory>
-    ensures { OnOk result (out.new ≡ out.old ++ body_marks clef raise event.now.heads event.now (with_end plan.now to) before after) }
+    ensures { OnOk result (pen.new ≡ inked pen.old (body_marks clef raise event.now.heads event.now (with_end plan.now to) before after)) }
 {
     match event.heads.as_slice() {
-        [] => put_rest(out, raise, event.look, event.value, plan.flags),
+        [] => put_rest(pen, raise, event.look, event.value, plan.flags),
         heads => {
-            put_heads_of(out, clef, event.value.base, heads, plan)?;
-            put_stem_of(out, plan, to, before, after)
+            put_heads_of(pen, clef, event.value.base, heads, plan)?;
+            put_stem_of(pen, plan, to, before, after)
         }
     }
 }
@@ -108,7 +109,7 @@ fn put_body(
 /// `before` and `after` are the levels of the events beside it in its beam, 0 where there is none.
 #[tactic(auto, unfolding(crate::specs::Decos::note_marks))]
 pub fn put_note(
-    out: &mut Row<Drawn>,
+    pen: &mut Pen,
     clef: Clef,
     raise: i32,
     event: &Event,
@@ -117,14 +118,14 @@ pub fn put_note(
     before: u8,
     after: u8,
 ) -> Result<(), Memory>
-    ensures { OnOk result (out.new ≡ out.old ++ note_marks clef raise event.now (with_end plan.now to) before after) }
+    ensures { OnOk result (pen.new ≡ inked pen.old (note_marks clef raise event.now (with_end plan.now to) before after)) }
 {
-    put_body(out, clef, raise, event, plan, to, before, after)?;
+    put_body(pen, clef, raise, event, plan, to, before, after)?;
     match event.decos.as_slice() {
         [] => Ok(()),
         decos => {
             let top = top_of(clef, event.heads.as_slice(), plan, to);
-            put_decos(out, first_deco(top), decos)
+            put_decos(pen, first_deco(top), decos)
         }
     }
 }

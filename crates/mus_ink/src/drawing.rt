@@ -1,8 +1,9 @@
 ghost use Rattle.std.specs.Prelude.{◌≡◌, ◌++◌, ◌∷◌, [], OnOk};
 ghost use Rattle.mus_ink.specs.Drawing.{cut, steps_dy, glyph, loose_glyph, big_text, stem, beam};
+ghost use Rattle.mus_laid.specs.Ranked.{inked};
 
 use crate::distances::{FURTHEST, STEP};
-use mus_laid::{Bridge, Drawn, Ink, Lane, Span};
+use mus_laid::{Bridge, Drawn, Ink, Lane, Pen, Span};
 use mus_time::ColumnKey;
 use mus_units::{Glyph, Memory, Row, Size, Text, Way};
 
@@ -23,38 +24,34 @@ pub fn steps_dy(steps: i32) -> i32
 }
 
 /// Draws a glyph in the lane of glyphs.
-pub fn put_glyph(out: &mut Row<Drawn>, sort: Glyph, dx: i32, dy: i32) -> Result<(), Memory>
-    ensures { OnOk result (out.new ≡ out.old ++ glyph sort dx dy ∷ []) }
+pub fn put_glyph(pen: &mut Pen, sort: Glyph, dx: i32, dy: i32) -> Result<(), Memory>
+    ensures { OnOk result (pen.new ≡ inked pen.old (glyph sort dx dy ∷ [])) }
 {
     let ink = Ink::Glyph {
         glyph: sort,
         dx,
         dy,
     };
-    out.push(Drawn {
-        ink,
-        lane: Lane::Main,
-    })
+    let lane = Lane::Main;
+    pen.put(Drawn { ink, lane })
 }
 
 /// Draws a glyph in no lane.
-pub fn put_loose_glyph(out: &mut Row<Drawn>, sort: Glyph, dx: i32, dy: i32) -> Result<(), Memory>
-    ensures { OnOk result (out.new ≡ out.old ++ loose_glyph sort dx dy ∷ []) }
+pub fn put_loose_glyph(pen: &mut Pen, sort: Glyph, dx: i32, dy: i32) -> Result<(), Memory>
+    ensures { OnOk result (pen.new ≡ inked pen.old (loose_glyph sort dx dy ∷ [])) }
 {
     let ink = Ink::Glyph {
         glyph: sort,
         dx,
         dy,
     };
-    out.push(Drawn {
-        ink,
-        lane: Lane::Loose,
-    })
+    let lane = Lane::Loose;
+    pen.put(Drawn { ink, lane })
 }
 
 /// Draws a text of big characters, as meters have them.
-pub fn put_big_text(out: &mut Row<Drawn>, dx: i32, dy: i32, text: Text) -> Result<(), Memory>
-    ensures { OnOk result (out.new ≡ out.old ++ big_text dx dy text ∷ []) }
+pub fn put_big_text(pen: &mut Pen, dx: i32, dy: i32, text: Text) -> Result<(), Memory>
+    ensures { OnOk result (pen.new ≡ inked pen.old (big_text dx dy text ∷ [])) }
 {
     let ink = Ink::Words {
         size: Size::Big,
@@ -62,21 +59,17 @@ pub fn put_big_text(out: &mut Row<Drawn>, dx: i32, dy: i32, text: Text) -> Resul
         dy,
         text,
     };
-    out.push(Drawn {
-        ink,
-        lane: Lane::Main,
-    })
+    let lane = Lane::Main;
+    pen.put(Drawn { ink, lane })
 }
 
 /// Draws a stem.
-pub fn put_stem(out: &mut Row<Drawn>, dx: i32, from: i32, to: i32) -> Result<(), Memory>
-    ensures { OnOk result (out.new ≡ out.old ++ stem dx from to ∷ []) }
+pub fn put_stem(pen: &mut Pen, dx: i32, from: i32, to: i32) -> Result<(), Memory>
+    ensures { OnOk result (pen.new ≡ inked pen.old (stem dx from to ∷ [])) }
 {
     let ink = Ink::Stem { dx, from, to };
-    out.push(Drawn {
-        ink,
-        lane: Lane::Loose,
-    })
+    let lane = Lane::Loose;
+    pen.put(Drawn { ink, lane })
 }
 
 /// Draws a beam.

@@ -1,16 +1,16 @@
 ghost use Rattle.std.specs.Prelude.{◌≡◌, ◌≤◌, ◌++◌, length, map, OnOk};
 ghost use Rattle.mus_stems.specs.{Heads.AllNear, Heads.stand_of, Signs.signs_from, Ends.low_of, Ends.high_of, Ledgers.ledgers_of};
-ghost use Rattle.mus_ink.specs.{Distances.grace_sign_side, Drawing.back, Notes.{sign_marks, ledger_marks}, Graces.{above_head, own_end, greatest_end, group_end, group_of, grace_heads, stem_from, at_end, grace_body, grace_marks, beam_edge, grace_beam}};
+ghost use Rattle.mus_ink.specs.{Distances.grace_sign_side, Drawing.back, Notes.{sign_marks, ledger_marks}, Graces.{above_head, own_end, greatest_end, group_end, group_of, grace_heads, stem_from, at_end, ends, grace_body, grace_marks, beam_edge, grace_beam}};
+ghost use Rattle.mus_laid.specs.Ranked.{inked};
 
 use crate::distances::{BEAM_THICKNESS, GRACE_SIGN_SIDE, GRACE_STEM_LENGTH, GRACE_STEM_SIDE};
 use crate::drawing::{cut, put_beam, put_glyph, put_stem};
 use crate::notes::{head_dy, highest_dy, lowest_dy, put_ledgers, put_signs};
-use mus_laid::{Bridge, Drawn};
+use mus_laid::{Bridge, Pen};
 use mus_score::Event;
 use mus_stems::{Stand, highest_head, ledgers_for, lowest_head, signs_for, stands};
 use mus_time::ColumnKey;
 use mus_units::{Clef, Glyph, Head, Memory, Row, Way};
-use std::alloc::Global;
 
 /// What the graces before an event share: the dy at which their stems end, whether there is just
 /// one, and whether their first has a slash.
@@ -69,11 +69,11 @@ pub fn group_of(clef: Clef, graces: &[Event], slash: bool) -> Group
     }
 }
 
-fn put_grace_heads(out: &mut Row<Drawn>, clef: Clef, heads: &[Head]) -> Result<(), Memory>
-    ensures { OnOk result (out.new ≡ out.old ++ grace_heads clef heads.now) }
+fn put_grace_heads(pen: &mut Pen, clef: Clef, heads: &[Head]) -> Result<(), Memory>
+    ensures { OnOk result (pen.new ≡ inked pen.old (grace_heads clef heads.now)) }
 {
     for head in heads {
-        put_glyph(out, Glyph::Gh, 0, head_dy(clef, *head))?;
+        put_glyph(pen, Glyph::Gh, 0, head_dy(clef, *head))?;
     }
     Ok(())
 }
@@ -88,62 +88,63 @@ fn stem_from(clef: Clef, heads: &[Head]) -> i32
     }
 }
 
-fn put_at_end(out: &mut Row<Drawn>, yes: bool, glyph: Glyph, end: i32) -> Result<(), Memory>
-    ensures { OnOk result (out.new ≡ out.old ++ at_end yes glyph end) }
+fn put_at_end(pen: &mut Pen, yes: bool, glyph: Glyph, end: i32) -> Result<(), Memory>
+    ensures { OnOk result (pen.new ≡ inked pen.old (at_end yes glyph end)) }
 {
     if yes {
-        put_glyph(out, glyph, GRACE_STEM_SIDE, end)?;
+        put_glyph(pen, glyph, GRACE_STEM_SIDE, end)?;
     }
     Ok(())
 }
 
 fn put_grace_signs(
-    alloc: Global,
-    out: &mut Row<Drawn>,
+    pen: &mut Pen,
     clef: Clef,
     heads: &[Head],
     stands: &[Stand],
 ) -> Result<(), Memory>
     requires near { AllNear stands.now }
     requires few { length stands.now ≤ 50000 }
-    ensures { OnOk result (out.new ≡ out.old ++ sign_marks clef heads.now (signs_from (back grace_sign_side) stands.now)) }
+    ensures { OnOk result (pen.new ≡ inked pen.old (sign_marks clef heads.now (signs_from (back grace_sign_side) stands.now))) }
 {
-    let signs = signs_for(alloc, -GRACE_SIGN_SIDE, stands)?;
-    put_signs(out, clef, heads, signs.as_slice())
+    let signs = signs_for(pen.alloc, -GRACE_SIGN_SIDE, stands)?;
+    put_signs(pen, clef, heads, signs.as_slice())
 }
 
-fn put_grace_ledgers(alloc: Global, out: &mut Row<Drawn>, stands: &[Stand]) -> Result<(), Memory>
+fn put_grace_ledgers(pen: &mut Pen, stands: &[Stand]) -> Result<(), Memory>
     requires { AllNear stands.now }
-    ensures { OnOk result (out.new ≡ out.old ++ ledger_marks (ledgers_of (low_of stands.now) (high_of stands.now))) }
+    ensures { OnOk result (pen.new ≡ inked pen.old (ledger_marks (ledgers_of (low_of stands.now) (high_of stands.now)))) }
 {
-    let ledgers = ledgers_for(alloc, lowest_head(stands), highest_head(stands))?;
-    put_ledgers(out, ledgers.as_slice())
+    let ledgers = ledgers_for(pen.alloc, lowest_head(stands), highest_head(stands))?;
+    put_ledgers(pen, ledgers.as_slice())
 }
 
 /// Draws the signs, ledger lines and heads of a grace.
 #[tactic(auto, unfolding(crate::specs::Graces::grace_body))]
-fn put_grace_body(
-    alloc: Global,
-    out: &mut Row<Drawn>,
-    clef: Clef,
-    heads: &[Head],
-) -> Result<(), Memory>
+fn put_grace_body(pen: &mut Pen, clef: Clef, heads: &[Head]) -> Result<(), Memory>
     requires near { AllNear (map (stand_of clef) heads.now) }
     requires few { length heads.now ≤ 50000 }
-    ensures { OnOk result (out.new ≡ out.old ++ grace_body clef heads.now) }
+    ensures { OnOk result (pen.new ≡ inked pen.old (grace_body clef heads.now)) }
 {
-    let stands = stands(alloc, clef, heads)?;
-    put_grace_signs(alloc, out, clef, heads, stands.as_slice())?;
-    put_grace_ledgers(alloc, out, stands.as_slice())?;
-    put_grace_heads(out, clef, heads)
+    let stands = stands(pen.alloc, clef, heads)?;
+    put_grace_signs(pen, clef, heads, stands.as_slice())?;
+    put_grace_ledgers(pen, stands.as_slice())?;
+    put_grace_heads(pen, clef, heads)
+}
+
+/// Draws the flag of a grace alone, and the slash at the first.
+fn put_ends(pen: &mut Pen, group: Group, first: bool) -> Result<(), Memory>
+    ensures { OnOk result (pen.new ≡ inked pen.old (ends group first)) }
+{
+    put_at_end(pen, group.alone, Glyph::Gf, group.end)?;
+    put_at_end(pen, first && group.slash, Glyph::Gs, group.end)
 }
 
 /// Draws a grace note or chord of a group: signs, ledger lines, heads, a stem, the flag of a grace
 /// alone, and the slash at the first.
 #[tactic(auto, unfolding(crate::specs::Graces::grace_marks))]
 pub fn put_grace(
-    alloc: Global,
-    out: &mut Row<Drawn>,
+    pen: &mut Pen,
     clef: Clef,
     group: Group,
     first: bool,
@@ -151,13 +152,12 @@ pub fn put_grace(
 ) -> Result<(), Memory>
     requires near { AllNear (map (stand_of clef) grace.now.heads) }
     requires few { length grace.now.heads ≤ 50000 }
-    ensures { OnOk result (out.new ≡ out.old ++ grace_marks clef group first grace.now) }
+    ensures { OnOk result (pen.new ≡ inked pen.old (grace_marks clef group first grace.now)) }
 {
     let heads = grace.heads.as_slice();
-    put_grace_body(alloc, out, clef, heads)?;
-    put_stem(out, GRACE_STEM_SIDE, stem_from(clef, heads), group.end)?;
-    put_at_end(out, group.alone, Glyph::Gf, group.end)?;
-    put_at_end(out, first && group.slash, Glyph::Gs, group.end)
+    put_grace_body(pen, clef, heads)?;
+    put_stem(pen, GRACE_STEM_SIDE, stem_from(clef, heads), group.end)?;
+    put_ends(pen, group, first)
 }
 
 #[tactic(auto, unfolding(crate::specs::Graces::beam_edge))]

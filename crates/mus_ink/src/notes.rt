@@ -1,12 +1,13 @@
-ghost use Rattle.std.specs.Prelude.{◌≡◌, ◌++◌, ◌∷◌, [], OnOk};
+ghost use Rattle.std.specs.Prelude.{◌≡◌, ◌∷◌, [], OnOk};
 ghost use Rattle.mus_units.specs.Pitch.{height_of};
 ghost use Rattle.mus_ink.specs.{Drawing.{cut, glyph}, Notes.{dy_of, highest_dy, lowest_dy, sign_mark, sign_marks, ledger_marks, note_heads, dot_marks, heads_marks}};
+ghost use Rattle.mus_laid.specs.Ranked.{inked};
 
 use crate::drawing::{cut, put_glyph, steps_dy};
 use crate::kinds::{head_glyph, sign_glyph};
-use mus_laid::Drawn;
+use mus_laid::Pen;
 use mus_stems::{Spot, StemPlan};
-use mus_units::{Alter, Base, Clef, Glyph, Head, Memory, Row, height};
+use mus_units::{Alter, Base, Clef, Glyph, Head, Memory, height};
 
 /// The height of a head in a clef, in steps.
 fn steps(clef: Clef, head: Head) -> i32
@@ -45,41 +46,36 @@ pub fn lowest_dy(clef: Clef, first: i32, heads: &[Head]) -> i32
 }
 
 /// Draws the sign before a head, if there is one.
-fn put_sign(
-    out: &mut Row<Drawn>,
-    dy: i32,
-    sign: Option<Alter>,
-    dx: Option<i32>,
-) -> Result<(), Memory>
-    ensures { OnOk result (out.new ≡ out.old ++ sign_mark dy sign dx) }
+fn put_sign(pen: &mut Pen, dy: i32, sign: Option<Alter>, dx: Option<i32>) -> Result<(), Memory>
+    ensures { OnOk result (pen.new ≡ inked pen.old (sign_mark dy sign dx)) }
 {
     match (sign, dx) {
-        (Some(alter), Some(dx)) => put_glyph(out, sign_glyph(alter), dx, dy),
+        (Some(alter), Some(dx)) => put_glyph(pen, sign_glyph(alter), dx, dy),
         _ => Ok(()),
     }
 }
 
-fn put_sign_of(out: &mut Row<Drawn>, clef: Clef, head: Head, dx: Option<i32>) -> Result<(), Memory>
-    ensures { OnOk result (out.new ≡ out.old ++ sign_mark (dy_of clef head) head.sign dx) }
+fn put_sign_of(pen: &mut Pen, clef: Clef, head: Head, dx: Option<i32>) -> Result<(), Memory>
+    ensures { OnOk result (pen.new ≡ inked pen.old (sign_mark (dy_of clef head) head.sign dx)) }
 {
-    put_sign(out, head_dy(clef, head), head.sign, dx)
+    put_sign(pen, head_dy(clef, head), head.sign, dx)
 }
 
 /// Draws the signs before heads, in the order of the heads; `places` has the dx of each.
 pub fn put_signs(
-    out: &mut Row<Drawn>,
+    pen: &mut Pen,
     clef: Clef,
     heads: &[Head],
     places: &[Option<i32>],
 ) -> Result<(), Memory>
-    ensures { OnOk result (out.new ≡ out.old ++ sign_marks clef heads.now places.now) }
+    ensures { OnOk result (pen.new ≡ inked pen.old (sign_marks clef heads.now places.now)) }
 {
     let (mut rest, mut places) = (heads, places);
     while let Some((head, more)) = rest.split_first() {
         let Some((dx, others)) = places.split_first() else {
             return Ok(());
         };
-        put_sign_of(out, clef, *head, *dx)?;
+        put_sign_of(pen, clef, *head, *dx)?;
         rest = more;
         places = others;
     }
@@ -87,54 +83,48 @@ pub fn put_signs(
 }
 
 /// Draws ledger lines.
-pub fn put_ledgers(out: &mut Row<Drawn>, ledgers: &[i32]) -> Result<(), Memory>
-    ensures { OnOk result (out.new ≡ out.old ++ ledger_marks ledgers.now) }
+pub fn put_ledgers(pen: &mut Pen, ledgers: &[i32]) -> Result<(), Memory>
+    ensures { OnOk result (pen.new ≡ inked pen.old (ledger_marks ledgers.now)) }
 {
     for dy in ledgers {
-        put_glyph(out, Glyph::Lg, 0, *dy)?;
+        put_glyph(pen, Glyph::Lg, 0, *dy)?;
     }
     Ok(())
 }
 
-fn put_one_head(
-    out: &mut Row<Drawn>,
-    clef: Clef,
-    sort: Glyph,
-    head: Head,
-    dx: i32,
-) -> Result<(), Memory>
-    ensures { OnOk result (out.new ≡ out.old ++ glyph sort dx (dy_of clef head) ∷ []) }
+fn put_one_head(pen: &mut Pen, clef: Clef, sort: Glyph, head: Head, dx: i32) -> Result<(), Memory>
+    ensures { OnOk result (pen.new ≡ inked pen.old (glyph sort dx (dy_of clef head) ∷ [])) }
 {
-    put_glyph(out, sort, dx, head_dy(clef, head))
+    put_glyph(pen, sort, dx, head_dy(clef, head))
 }
 
 /// Draws heads, each with its shift.
 fn put_heads(
-    out: &mut Row<Drawn>,
+    pen: &mut Pen,
     clef: Clef,
     sort: Glyph,
     heads: &[Head],
     shifts: &[i32],
 ) -> Result<(), Memory>
-    ensures { OnOk result (out.new ≡ out.old ++ note_heads clef sort heads.now shifts.now) }
+    ensures { OnOk result (pen.new ≡ inked pen.old (note_heads clef sort heads.now shifts.now)) }
 {
     let (mut rest, mut shifts) = (heads, shifts);
     while let Some((head, more)) = rest.split_first() {
         let Some((dx, others)) = shifts.split_first() else {
             return Ok(());
         };
-        put_one_head(out, clef, sort, *head, *dx)?;
+        put_one_head(pen, clef, sort, *head, *dx)?;
         rest = more;
         shifts = others;
     }
     Ok(())
 }
 
-fn put_dots(out: &mut Row<Drawn>, dots: &[Spot]) -> Result<(), Memory>
-    ensures { OnOk result (out.new ≡ out.old ++ dot_marks dots.now) }
+fn put_dots(pen: &mut Pen, dots: &[Spot]) -> Result<(), Memory>
+    ensures { OnOk result (pen.new ≡ inked pen.old (dot_marks dots.now)) }
 {
     for dot in dots {
-        put_glyph(out, Glyph::Dt, dot.dx, dot.dy)?;
+        put_glyph(pen, Glyph::Dt, dot.dx, dot.dy)?;
     }
     Ok(())
 }
@@ -142,16 +132,16 @@ fn put_dots(out: &mut Row<Drawn>, dots: &[Spot]) -> Result<(), Memory>
 /// Draws the heads of an event: signs, ledger lines, heads and dots.
 #[tactic(auto, unfolding(crate::specs::Notes::heads_marks))]
 pub fn put_heads_of(
-    out: &mut Row<Drawn>,
+    pen: &mut Pen,
     clef: Clef,
     base: Base,
     heads: &[Head],
     plan: &StemPlan,
 ) -> Result<(), Memory>
-    ensures { OnOk result (out.new ≡ out.old ++ heads_marks clef base heads.now plan.now) }
+    ensures { OnOk result (pen.new ≡ inked pen.old (heads_marks clef base heads.now plan.now)) }
 {
-    put_signs(out, clef, heads, plan.signs.as_slice())?;
-    put_ledgers(out, plan.ledgers.as_slice())?;
-    put_heads(out, clef, head_glyph(base), heads, plan.shifts.as_slice())?;
-    put_dots(out, plan.dots.as_slice())
+    put_signs(pen, clef, heads, plan.signs.as_slice())?;
+    put_ledgers(pen, plan.ledgers.as_slice())?;
+    put_heads(pen, clef, head_glyph(base), heads, plan.shifts.as_slice())?;
+    put_dots(pen, plan.dots.as_slice())
 }

@@ -1,13 +1,14 @@
-ghost use Rattle.std.specs.Prelude.{◌≡◌, ◌+◌, ◌*◌, ◌++◌, ◌∷◌, [], pos, OnOk};
+ghost use Rattle.std.specs.Prelude.{◌≡◌, ◌+◌, ◌*◌, ◌∷◌, [], pos, OnOk};
 ghost use Rattle.mus_units.specs.declared.glyph.Glyph.TheVariants.{Dt};
 ghost use Rattle.mus_ink.specs.{Distances.{dot_side, dot_step, rest_dot_line}, Drawing.glyph, Rests.{raised, rest_dy, short_dy, short_rests, rest_glyph, rest_glyphs, rest_dots, rest_marks}};
+ghost use Rattle.mus_laid.specs.Ranked.{inked};
 
 use crate::distances::{DOT_SIDE, DOT_STEP, REST_DOT_LINE, REST_STEP};
 use crate::drawing::{cut, put_glyph, steps_dy};
 use crate::kinds::{RestRow, rest_row};
-use mus_laid::Drawn;
+use mus_laid::Pen;
 use mus_score::Look;
-use mus_units::{Base, Glyph, Memory, Row, Value};
+use mus_units::{Base, Glyph, Memory, Value};
 
 /// A height of a rest that is raised.
 #[tactic(auto, unfolding(crate::specs::Rests::raised))]
@@ -31,50 +32,52 @@ fn short_dy(top: i32, k: u8) -> i32
     cut(i64::from(top) - REST_STEP * i64::from(k))
 }
 
-fn put_short_rest(out: &mut Row<Drawn>, sort: Glyph, top: i32, k: u8) -> Result<(), Memory>
-    ensures { OnOk result (out.new ≡ out.old ++ glyph sort (pos 0) (short_dy top k) ∷ []) }
+fn put_short_rest(pen: &mut Pen, sort: Glyph, top: i32, k: u8) -> Result<(), Memory>
+    ensures { OnOk result (pen.new ≡ inked pen.old (glyph sort (pos 0) (short_dy top k) ∷ [])) }
 {
-    put_glyph(out, sort, 0, short_dy(top, k))
+    put_glyph(pen, sort, 0, short_dy(top, k))
 }
 
 /// Draws a rest shorter than a quarter, a part for each flag.
-fn put_short_rests(out: &mut Row<Drawn>, sort: Glyph, top: i32, flags: u8) -> Result<(), Memory>
-    ensures { OnOk result (out.new ≡ out.old ++ short_rests sort top 0 flags) }
+#[tactic(auto, using(crate::proofs::Counting::rests_step, std::proofs::lemmas::Grind::common_steps))]
+fn put_short_rests(pen: &mut Pen, sort: Glyph, top: i32, flags: u8) -> Result<(), Memory>
+    ensures { OnOk result (pen.new ≡ inked pen.old (short_rests sort top 0 flags)) }
 {
     for k in 0..flags {
-        put_short_rest(out, sort, top, k)?;
+        put_short_rest(pen, sort, top, k)?;
     }
     Ok(())
 }
 
-fn put_long_rest(out: &mut Row<Drawn>, raise: i32, row: RestRow) -> Result<(), Memory>
-    ensures { OnOk result (out.new ≡ out.old ++ rest_glyph raise row ∷ []) }
+fn put_long_rest(pen: &mut Pen, raise: i32, row: RestRow) -> Result<(), Memory>
+    ensures { OnOk result (pen.new ≡ inked pen.old (rest_glyph raise row ∷ [])) }
 {
-    put_glyph(out, row.glyph, 0, rest_dy(raise, row))
+    put_glyph(pen, row.glyph, 0, rest_dy(raise, row))
 }
 
-fn put_rest_glyphs(out: &mut Row<Drawn>, raise: i32, base: Base, flags: u8) -> Result<(), Memory>
-    ensures { OnOk result (out.new ≡ out.old ++ rest_glyphs raise base flags) }
+fn put_rest_glyphs(pen: &mut Pen, raise: i32, base: Base, flags: u8) -> Result<(), Memory>
+    ensures { OnOk result (pen.new ≡ inked pen.old (rest_glyphs raise base flags)) }
 {
     let row = rest_row(base);
     match base {
-        Base::Breve | Base::Whole | Base::Half | Base::Quarter => put_long_rest(out, raise, row),
-        _ => put_short_rests(out, row.glyph, rest_dy(raise, row), flags),
+        Base::Breve | Base::Whole | Base::Half | Base::Quarter => put_long_rest(pen, raise, row),
+        _ => put_short_rests(pen, row.glyph, rest_dy(raise, row), flags),
     }
 }
 
-fn put_rest_dot(out: &mut Row<Drawn>, raise: i32, k: u8) -> Result<(), Memory>
-    ensures { OnOk result (out.new ≡ out.old ++ glyph Dt (pos (dot_side + dot_step * k)) (raised raise (pos rest_dot_line)) ∷ []) }
+fn put_rest_dot(pen: &mut Pen, raise: i32, k: u8) -> Result<(), Memory>
+    ensures { OnOk result (pen.new ≡ inked pen.old (glyph Dt (pos (dot_side + dot_step * k)) (raised raise (pos rest_dot_line)) ∷ [])) }
 {
     let dx = DOT_SIDE + DOT_STEP * i32::from(k);
-    put_glyph(out, Glyph::Dt, dx, raised(raise, REST_DOT_LINE))
+    put_glyph(pen, Glyph::Dt, dx, raised(raise, REST_DOT_LINE))
 }
 
-fn put_rest_dots(out: &mut Row<Drawn>, raise: i32, dots: u8) -> Result<(), Memory>
-    ensures { OnOk result (out.new ≡ out.old ++ rest_dots raise 0 dots) }
+#[tactic(auto, using(crate::proofs::Counting::dots_step, std::proofs::lemmas::Grind::common_steps))]
+fn put_rest_dots(pen: &mut Pen, raise: i32, dots: u8) -> Result<(), Memory>
+    ensures { OnOk result (pen.new ≡ inked pen.old (rest_dots raise 0 dots)) }
 {
     for k in 0..dots {
-        put_rest_dot(out, raise, k)?;
+        put_rest_dot(pen, raise, k)?;
     }
     Ok(())
 }
@@ -82,20 +85,20 @@ fn put_rest_dots(out: &mut Row<Drawn>, raise: i32, dots: u8) -> Result<(), Memor
 /// Draws a rest, `raise` higher than alone on its staff, with as many parts as `flags` where it is
 /// shorter than a quarter.
 pub fn put_rest(
-    out: &mut Row<Drawn>,
+    pen: &mut Pen,
     raise: i32,
     look: Look,
     value: Value,
     flags: u8,
 ) -> Result<(), Memory>
-    ensures { OnOk result (out.new ≡ out.old ++ rest_marks raise look value.base value.dots flags) }
+    ensures { OnOk result (pen.new ≡ inked pen.old (rest_marks raise look value.base value.dots flags)) }
 {
     match look {
-        Look::Unseen => put_glyph(out, Glyph::Nn, 0, raised(raise, 0)),
-        Look::Whole => put_long_rest(out, raise, rest_row(Base::Whole)),
+        Look::Unseen => put_glyph(pen, Glyph::Nn, 0, raised(raise, 0)),
+        Look::Whole => put_long_rest(pen, raise, rest_row(Base::Whole)),
         Look::Seen => {
-            put_rest_glyphs(out, raise, value.base, flags)?;
-            put_rest_dots(out, raise, value.dots)
+            put_rest_glyphs(pen, raise, value.base, flags)?;
+            put_rest_dots(pen, raise, value.dots)
         }
     }
 }

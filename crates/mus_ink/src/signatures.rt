@@ -1,20 +1,21 @@
-ghost use Rattle.std.specs.Prelude.{◌≡◌, ◌≤◌, ◌++◌, ◌∷◌, [], length, decimal, IfOk, OnOk};
+ghost use Rattle.std.specs.Prelude.{◌≡◌, ◌≤◌, ◌∷◌, [], length, decimal, IfOk, OnOk};
 ghost use Rattle.mus_ink.specs.Signatures.{clef_mark, height_at, entries_for, entry_dy, shown, entry_mark, entry_marks, meter_marks, meter_if};
+ghost use Rattle.mus_laid.specs.Ranked.{inked};
 
 use crate::distances::{ENTRY_STEP, LOWER_NUMBER_LINE, METER_SIGN_LINE, UPPER_NUMBER_LINE};
 use crate::drawing::{put_big_text, put_glyph, steps_dy};
 use crate::kinds::{ClefRow, Entries, clef_row, sign_glyph};
-use mus_laid::Drawn;
-use mus_units::{Alter, Clef, Letter, Memory, Meter, Row, Sign, Text};
+use mus_laid::Pen;
+use mus_units::{Alter, Clef, Letter, Memory, Meter, Sign, Text};
 use std::alloc::Global;
 
 /// Draws a clef at the line that it names.
-pub fn put_clef(out: &mut Row<Drawn>, dx: u32, clef: Clef) -> Result<(), Memory>
+pub fn put_clef(pen: &mut Pen, dx: u32, clef: Clef) -> Result<(), Memory>
     requires { dx ≤ 10000 }
-    ensures { OnOk result (out.new ≡ out.old ++ clef_mark dx clef ∷ []) }
+    ensures { OnOk result (pen.new ≡ inked pen.old (clef_mark dx clef ∷ [])) }
 {
     let row = clef_row(clef);
-    put_glyph(out, row.glyph, dx as i32, steps_dy(row.line))
+    put_glyph(pen, row.glyph, dx as i32, steps_dy(row.line))
 }
 
 fn height_at(letter: Letter, entries: Entries) -> i32
@@ -58,24 +59,18 @@ fn shown(ends: bool, alter: Alter) -> Alter
 
 /// Draws an entry of a signature, a natural where its key ends.
 #[tactic(auto, unfolding(crate::specs::Signatures::entry_mark))]
-fn put_entry(
-    out: &mut Row<Drawn>,
-    clef: Clef,
-    ends: bool,
-    sign: Sign,
-    dx: u32,
-) -> Result<(), Memory>
+fn put_entry(pen: &mut Pen, clef: Clef, ends: bool, sign: Sign, dx: u32) -> Result<(), Memory>
     requires { dx ≤ 10000 }
-    ensures { OnOk result (out.new ≡ out.old ++ entry_mark clef (shown ends sign.alter) sign.letter dx ∷ []) }
+    ensures { OnOk result (pen.new ≡ inked pen.old (entry_mark clef (shown ends sign.alter) sign.letter dx ∷ [])) }
 {
     let alter = shown(ends, sign.alter);
     let dy = entry_dy(clef, alter, sign.letter);
-    put_glyph(out, sign_glyph(alter), dx as i32, dy)
+    put_glyph(pen, sign_glyph(alter), dx as i32, dy)
 }
 
 /// Draws the entries of a signature, the first at dx `first`; where the key ends, a natural for each.
 pub fn put_entries(
-    out: &mut Row<Drawn>,
+    pen: &mut Pen,
     clef: Clef,
     ends: bool,
     first: u32,
@@ -83,11 +78,11 @@ pub fn put_entries(
 ) -> Result<(), Memory>
     requires near { first ≤ 2000 }
     requires few { length signs.now ≤ 7 }
-    ensures { OnOk result (out.new ≡ out.old ++ entry_marks clef ends first 0 signs.now) }
+    ensures { OnOk result (pen.new ≡ inked pen.old (entry_marks clef ends first 0 signs.now)) }
 {
     let mut k = 0;
     for sign in signs {
-        put_entry(out, clef, ends, *sign, first + ENTRY_STEP * k)?;
+        put_entry(pen, clef, ends, *sign, first + ENTRY_STEP * k)?;
         k += 1;
     }
     Ok(())
@@ -103,43 +98,38 @@ fn digits(alloc: Global, number: u8) -> Result<Text, Memory>
 
 /// Draws a meter: its two numbers, or its sign; nothing for a free meter.
 #[tactic(auto, unfolding(crate::specs::Signatures::meter_marks))]
-fn put_meter(alloc: Global, out: &mut Row<Drawn>, dx: u32, meter: Meter) -> Result<(), Memory>
+fn put_meter(pen: &mut Pen, dx: u32, meter: Meter) -> Result<(), Memory>
     requires { dx ≤ 10000 }
-    ensures { OnOk result (out.new ≡ out.old ++ meter_marks dx meter) }
+    ensures { OnOk result (pen.new ≡ inked pen.old (meter_marks dx meter)) }
 {
     match meter {
         Meter::Free => Ok(()),
         Meter::Common => put_big_text(
-            out,
+            pen,
             dx as i32,
             METER_SIGN_LINE,
-            Text::from_slice(alloc, b"C")?,
+            Text::from_slice(pen.alloc, b"C")?,
         ),
         Meter::Cut => put_big_text(
-            out,
+            pen,
             dx as i32,
             METER_SIGN_LINE,
-            Text::from_slice(alloc, b"C|")?,
+            Text::from_slice(pen.alloc, b"C|")?,
         ),
         Meter::Ratio { num, den } => {
-            put_big_text(out, dx as i32, UPPER_NUMBER_LINE, digits(alloc, num)?)?;
-            put_big_text(out, dx as i32, LOWER_NUMBER_LINE, digits(alloc, den)?)
+            put_big_text(pen, dx as i32, UPPER_NUMBER_LINE, digits(pen.alloc, num)?)?;
+            put_big_text(pen, dx as i32, LOWER_NUMBER_LINE, digits(pen.alloc, den)?)
         }
     }
 }
 
 /// Draws a meter at dx `dx`, if there is one to draw.
-pub fn put_meter_if(
-    alloc: Global,
-    out: &mut Row<Drawn>,
-    dx: u32,
-    meter: Option<Meter>,
-) -> Result<(), Memory>
+pub fn put_meter_if(pen: &mut Pen, dx: u32, meter: Option<Meter>) -> Result<(), Memory>
     requires { dx ≤ 10000 }
-    ensures { OnOk result (out.new ≡ out.old ++ meter_if dx meter) }
+    ensures { OnOk result (pen.new ≡ inked pen.old (meter_if dx meter)) }
 {
     match meter {
         None => Ok(()),
-        Some(meter) => put_meter(alloc, out, dx, meter),
+        Some(meter) => put_meter(pen, dx, meter),
     }
 }

@@ -1,13 +1,14 @@
-ghost use Rattle.std.specs.Prelude.{◌≡◌, ◌-◌, ◌++◌, ◌∷◌, [], OnOk};
+ghost use Rattle.std.specs.Prelude.{◌≡◌, ◌-◌, ◌∷◌, [], OnOk};
 ghost use Rattle.mus_ink.specs.{Drawing.{glyph, loose_glyph}, Kinds.{flag_glyph, stub_glyph}, Stems.{stem_dx, stem_if, flag_dy, flag_marks, lower_edge, stub_marks, flags_or_stubs, stem_marks}};
 ghost use Rattle.mus_stems.specs.Slope.{with_end};
+ghost use Rattle.mus_laid.specs.Ranked.{inked};
 
 use crate::distances::{BEAM_THICKNESS, LEVEL_STEP, STEM_SIDE};
 use crate::drawing::{cut, put_glyph, put_loose_glyph, put_stem};
 use crate::kinds::{flag_glyph, stub_glyph};
-use mus_laid::Drawn;
+use mus_laid::Pen;
 use mus_stems::StemPlan;
-use mus_units::{Memory, Row};
+use mus_units::Memory;
 
 /// The dx of a stem: right of the heads where it goes up, left where it goes down.
 fn stem_dx(up: bool) -> i32
@@ -16,11 +17,11 @@ fn stem_dx(up: bool) -> i32
     if up { STEM_SIDE } else { -STEM_SIDE }
 }
 
-fn put_stem_if(out: &mut Row<Drawn>, has: bool, up: bool, from: i32, to: i32) -> Result<(), Memory>
-    ensures { OnOk result (out.new ≡ out.old ++ stem_if has up from to) }
+fn put_stem_if(pen: &mut Pen, has: bool, up: bool, from: i32, to: i32) -> Result<(), Memory>
+    ensures { OnOk result (pen.new ≡ inked pen.old (stem_if has up from to)) }
 {
     if has {
-        put_stem(out, stem_dx(up), from, to)?;
+        put_stem(pen, stem_dx(up), from, to)?;
     }
     Ok(())
 }
@@ -37,18 +38,19 @@ fn flag_dy(up: bool, to: i32, k: u8) -> i32
     }
 }
 
-fn put_flag(out: &mut Row<Drawn>, up: bool, to: i32, k: u8) -> Result<(), Memory>
-    ensures { OnOk result (out.new ≡ out.old ++ glyph (flag_glyph up) (stem_dx up) (flag_dy up to k) ∷ []) }
+fn put_flag(pen: &mut Pen, up: bool, to: i32, k: u8) -> Result<(), Memory>
+    ensures { OnOk result (pen.new ≡ inked pen.old (glyph (flag_glyph up) (stem_dx up) (flag_dy up to k) ∷ [])) }
 {
-    put_glyph(out, flag_glyph(up), stem_dx(up), flag_dy(up, to, k))
+    put_glyph(pen, flag_glyph(up), stem_dx(up), flag_dy(up, to, k))
 }
 
 /// Draws the flags of an event without a beam.
-fn put_flags(out: &mut Row<Drawn>, up: bool, to: i32, flags: u8) -> Result<(), Memory>
-    ensures { OnOk result (out.new ≡ out.old ++ flag_marks up to 0 flags) }
+#[tactic(auto, using(crate::proofs::Counting::flags_step, std::proofs::lemmas::Grind::common_steps))]
+fn put_flags(pen: &mut Pen, up: bool, to: i32, flags: u8) -> Result<(), Memory>
+    ensures { OnOk result (pen.new ≡ inked pen.old (flag_marks up to 0 flags)) }
 {
     for k in 0..flags {
-        put_flag(out, up, to, k)?;
+        put_flag(pen, up, to, k)?;
     }
     Ok(())
 }
@@ -65,44 +67,45 @@ pub fn lower_edge(up: bool, to: i32, level: u8) -> i32
     }
 }
 
-fn put_stub(out: &mut Row<Drawn>, first: bool, up: bool, to: i32, k: u8) -> Result<(), Memory>
-    ensures { OnOk result (out.new ≡ out.old ++ loose_glyph (stub_glyph first) (stem_dx up) (lower_edge up to k) ∷ []) }
+fn put_stub(pen: &mut Pen, first: bool, up: bool, to: i32, k: u8) -> Result<(), Memory>
+    ensures { OnOk result (pen.new ≡ inked pen.old (loose_glyph (stub_glyph first) (stem_dx up) (lower_edge up to k) ∷ [])) }
 {
-    put_loose_glyph(out, stub_glyph(first), stem_dx(up), lower_edge(up, to, k))
+    put_loose_glyph(pen, stub_glyph(first), stem_dx(up), lower_edge(up, to, k))
 }
 
 /// Draws the stubs of an event in a beam, from a level on.
+#[tactic(auto, using(crate::proofs::Counting::stubs_step, std::proofs::lemmas::Grind::common_steps))]
 fn put_stubs(
-    out: &mut Row<Drawn>,
+    pen: &mut Pen,
     first: bool,
     up: bool,
     to: i32,
     level: u8,
     flags: u8,
 ) -> Result<(), Memory>
-    ensures { OnOk result (out.new ≡ out.old ++ stub_marks first up to level (flags - level)) }
+    ensures { OnOk result (pen.new ≡ inked pen.old (stub_marks first up to level (flags - level))) }
 {
     for k in level..flags {
-        put_stub(out, first, up, to, k)?;
+        put_stub(pen, first, up, to, k)?;
     }
     Ok(())
 }
 
 #[tactic(auto, unfolding(crate::specs::Stems::flags_or_stubs))]
 fn put_flags_or_stubs(
-    out: &mut Row<Drawn>,
+    pen: &mut Pen,
     plan: &StemPlan,
     to: i32,
     before: u8,
     after: u8,
 ) -> Result<(), Memory>
-    ensures { OnOk result (out.new ≡ out.old ++ flags_or_stubs (with_end plan.now to) before after) }
+    ensures { OnOk result (pen.new ≡ inked pen.old (flags_or_stubs (with_end plan.now to) before after)) }
 {
     if before == 0 && after == 0 {
-        put_flags(out, plan.up, to, plan.flags)
+        put_flags(pen, plan.up, to, plan.flags)
     } else {
         let level = before.max(after);
-        put_stubs(out, before == 0, plan.up, to, level, plan.flags)
+        put_stubs(pen, before == 0, plan.up, to, level, plan.flags)
     }
 }
 
@@ -110,14 +113,14 @@ fn put_flags_or_stubs(
 /// are the levels of the events beside it in its beam, 0 where there is none.
 #[tactic(auto, unfolding(crate::specs::Stems::stem_marks))]
 pub fn put_stem_of(
-    out: &mut Row<Drawn>,
+    pen: &mut Pen,
     plan: &StemPlan,
     to: i32,
     before: u8,
     after: u8,
 ) -> Result<(), Memory>
-    ensures { OnOk result (out.new ≡ out.old ++ stem_marks (with_end plan.now to) before after) }
+    ensures { OnOk result (pen.new ≡ inked pen.old (stem_marks (with_end plan.now to) before after)) }
 {
-    put_stem_if(out, plan.has, plan.up, plan.from, to)?;
-    put_flags_or_stubs(out, plan, to, before, after)
+    put_stem_if(pen, plan.has, plan.up, plan.from, to)?;
+    put_flags_or_stubs(pen, plan, to, before, after)
 }

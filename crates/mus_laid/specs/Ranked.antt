@@ -1,8 +1,8 @@
 -- Marks by the ranks of their columns: what is drawn in a column by the rank of the column, and what goes from one
 -- column to another by the ranks of both. Nothing else of a mark depends on the system that it stands in.
-use Rattle.std.specs.{Prelude.{ℕ, ◌+◌, Bool, false, ◌==◌, List, [], ◌∷◌, ◌++◌, filter, flat_map, if◌then◌else◌, Option, Some, None}, List.range_with_len}
+use Rattle.std.specs.{Prelude.{ℕ, ◌+◌, Bool, false, ◌==◌, List, [], ◌∷◌, ◌++◌, filter, flat_map, map, if◌then◌else◌, Option, Some, None}, List.range_with_len}
 use Rattle.mus_time.specs.{declared.keys.ColumnKey.ColumnKey, Order.rank_of}
-use Rattle.mus_laid.specs.declared.{drawn.Ink.Ink, drawn.Drawn.Drawn, drawn.Span.Span, drawn.Bridge.Bridge, laid.Laid.Laid, laid.Mark.Mark, laid.Lane.Lane}
+use Rattle.mus_laid.specs.declared.{drawn.Ink.Ink, drawn.Drawn.Drawn, drawn.Span.Span, drawn.Bridge.Bridge, laid.Laid.Laid, laid.Mark.Mark, laid.Lane.Lane, pen.Pen.Pen}
 
 abbrev pub ink_at : ℕ → Ink → Mark
 ink_at r (Ink.Glyph glyph dx dy) = Mark.Glyph glyph r dx dy
@@ -12,6 +12,10 @@ ink_at r (Ink.Stem dx from to) = Mark.Stem r dx from to
 -- in the column of rank r
 abbrev pub drawn_at : ℕ → Drawn → Laid
 drawn_at r d = record { mark = ink_at r d.ink; lane = d.lane }
+
+-- a pen that has drawn this too, in the column that it stands at
+abbrev pub inked : Pen → List Drawn → Pen
+inked pen drawn = record pen { marks = pen.marks ++ map (drawn_at pen.rank) drawn }
 
 abbrev pub span_at : ℕ → ℕ → Span → Mark
 span_at first last (Span.Beam way from to) = Mark.Beam way first last from to

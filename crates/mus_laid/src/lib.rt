@@ -7,6 +7,7 @@ pub mod boxes;
 pub mod columns;
 pub mod drawn;
 pub mod laid;
+pub mod pen;
 pub mod printing;
 pub mod ranking;
 
@@ -15,5 +16,6 @@ pub use columns::{anchor_rank, by_columns};
 pub use drawn::{Bridge, Drawn, Ink, Span};
 pub use laid::{Laid, Lane, Mark, StaffMarks, SystemMarks};
 pub use mus_units::{Glyph, Size, Way};
+pub use pen::Pen;
 pub use printing::{printed, printed_within};
-pub use ranking::{move_ranked, put_bridges, put_ranked};
+pub use ranking::put_bridges;

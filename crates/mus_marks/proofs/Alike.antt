@@ -7,10 +7,10 @@ use Rattle.mus_time.specs.{declared.keys.ColumnKey.ColumnKey, Order.same_key, de
 use Rattle.mus_arcs.specs.{declared.cutting.Piece.Piece, declared.pairing.Arc.Arc, Pieces.piece_of}
 use Rattle.mus_stems.specs.{declared.plans.StemPlan.StemPlan, Slope.with_end}
 use Rattle.mus_laid.specs.{declared.{drawn.{Bridge.Bridge, Drawn.Drawn}, laid.{Laid.Laid, Mark.Mark, SystemMarks.SystemMarks, Lane.Lane}}, Printed.printed, Ranked.{anchor_rank, at_rank, bridge_at, by_columns, drawn_at, is_rank, stands_at}, Shapes.{AreAlike, laid_shape, mark_shape, marks_shape, staff_shape}, Boxes.AreGoodMarks}
-use Rattle.mus_ink.specs.{declared.beams.Stem.Stem, Beams.{beam_marks, beams_at, beams_from, goes_on, last_at, level_from, levels_before, levels_from, stem_of, way_of}, Decos.{behind_deco, body_marks, deco_mark, deco_marks, first_deco, next_deco, note_marks, top_of}, Distances.half_character, Drawing.{back, beam, glyph, loose_glyph}, Kinds.{deco_glyph, flag_glyph, stub_glyph}, Notes.heads_marks, Stems.{flag_dy, flag_marks, flags_or_stubs, lower_edge, stem_dx, stem_if, stem_marks, stub_marks}}
+use Rattle.mus_ink.specs.{Decos.{behind_deco, body_marks, deco_mark, deco_marks, first_deco, next_deco, note_marks, top_of}, Distances.half_character, Drawing.{back, beam, glyph, loose_glyph}, Kinds.{deco_glyph, flag_glyph, stub_glyph}, Notes.heads_marks, Stems.{flag_dy, flag_marks, flags_or_stubs, lower_edge, stem_dx, stem_if, stem_marks, stub_marks}}
 use Rattle.mus_words.specs.{Arcs.{arc_mark, slur_mark, tie_mark}, Syllables.{syllable_dx, syllable_if, syllables_from, verse_dy}, Texts.{above_dy, above_from, below_dy, below_from, text_marks, texts_above, texts_below}, Words.words}
 use Rattle.mus_drawn.specs.{declared.drawn.DrawnEvent.DrawnEvent, declared.drawn.DrawnMeasure.DrawnMeasure, declared.drawn.DrawnVoice.DrawnVoice, Drawn.raise_of}
-use Rattle.mus_bridges.specs.{Arcs.{arc_between, arc_in, arcs_between, event_at, event_in, has_id, left_key, piece_between, right_key, seen_of}, Bridges.{beams_between, bridges_of, event_grace_beam, grace_beams_between, stem_at}}
+use Rattle.mus_bridges.specs.{declared.stems.Stem.Stem, Beams.{beam_marks, beams_at, beams_from, goes_on, last_at, level_from, levels_before, levels_from, stem_of, way_of}, Arcs.{arc_between, arc_in, arcs_between, event_at, event_in, has_id, left_key, piece_between, right_key, seen_of}, Bridges.{beams_between, bridges_of, event_grace_beam, grace_beams_between, stem_at}}
 use Rattle.mus_marks.{specs.{Events.{bar_part, change_part, event_marks, events_marks, graces_part, levels_behind, levels_in, measures_marks, no_texts, note_part, note_rank, text_place, words_marks, words_part}, Staff.{bare_marks, columns_part, first_part, head_part, is_above, is_below_staff, is_words, own_part, room_over, staff_marks, staff_over, text_above, text_below, texts_behind, texts_with, verses_on, written_parts}, declared.events.{Place.Place, Room.Room, Texts.Texts}, System.{IsCall, drawn_staves}, Tilt.{IsTilted, tilted_staff, voice_tilted}}, proofs.{Ending.{flat_event, flat_measure, ended_fits, flat_voice}, Fitting.staves_fit, OneList.same_keys, Parts.FitsVoice, GoodMarks.staves_good}}
 use Rattle.mus_laid.specs.declared.laid.Lane.TheVariants as lanes
 

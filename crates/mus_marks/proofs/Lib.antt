@@ -1,6 +1,5 @@
 pub mod Alike
 pub mod AllTilted
-pub mod Appended
 pub mod Columned
 pub mod Counts
 pub mod Ending

@@ -1,35 +1,22 @@
 ghost use Rattle.std.specs.Prelude.{◌≡◌, ◌≤◌, ◌<◌, ◌+◌, ◌++◌, length, map, option_copied, OnOk};
 ghost use Rattle.mus_time.specs.{Keys.has_features, Ranks.AreRanked};
-ghost use Rattle.mus_laid.specs.Ranked.{drawn_at};
-ghost use Rattle.mus_ink.specs.Bars.{bar_marks};
 ghost use Rattle.mus_drawn.specs.Good.{AreGoodMeasures};
 ghost use Rattle.mus_marks.specs.{Events.bar_part, Events.measures_marks, Places.HasVerses, Staff.meter_shown, Staff.head_part, Staff.first_part, Staff.columns_part};
 
-use crate::events::{Pen, Place, put_events};
+use crate::events::{Place, put_events};
 use mus_drawn::{DrawnMeasure, Opening};
 use mus_ink::{put_bar, put_head};
-use mus_laid::{Laid, move_ranked, put_ranked};
+use mus_laid::Pen;
 use mus_score::Seat;
-use mus_time::{Class, ColumnKey, next_rank, rank_at};
-use mus_units::{Bar, Memory, Meter, Row};
-use std::alloc::Global;
+use mus_time::{Class, ColumnKey};
+use mus_units::{Bar, Memory, Meter};
 
 /// How many marks most events and bars have at most; room for so many is made at once.
 const MARKS_OF_EVENT: usize = 4;
 
-/// Lays a bar in its column.
-fn put_bar_at(pen: &mut Pen, out: &mut Row<Laid>, rank: u32, bar: Bar) -> Result<(), Memory>
-    ensures { OnOk result (out.new ≡ out.old ++ map (drawn_at rank) (bar_marks bar)) }
-{
-    pen.drawn.items.clear();
-    put_bar(&mut pen.drawn, bar)?;
-    move_ranked(out, rank, &mut pen.drawn)
-}
-
 /// Lays the bar behind a measure, unless the voice above draws it.
 fn put_bar_part(
     pen: &mut Pen,
-    out: &mut Row<Laid>,
     keys: &[ColumnKey],
     lengths: &[u64],
     measure: u32,
@@ -37,14 +24,14 @@ fn put_bar_part(
 ) -> Result<(), Memory>
     requires keys { AreRanked keys.now }
     requires inside { measure < length lengths.now }
-    ensures { OnOk result (out.new ≡ out.old ++ bar_part keys.now lengths.now measure d.now) }
+    ensures { OnOk result (pen.new.marks ≡ pen.old.marks ++ bar_part keys.now lengths.now measure d.now) }
 {
     if d.seat.is_lower() {
         return Ok(());
     }
     let key = ColumnKey::new(measure, lengths[measure as usize], Class::Bar, 0);
-    let rank = next_rank(keys, &mut pen.near, key);
-    put_bar_at(pen, out, rank, d.bar)
+    pen.go_to(keys, key);
+    put_bar(pen, d.bar)
 }
 
 /// How many marks measures have where no event has more than most have.
@@ -60,8 +47,7 @@ fn room_for(measures: &[DrawnMeasure]) -> usize {
 /// change before the first event of the first of them is left out where the head of the system draws
 /// it. Syllables and texts are laid where their place is known. The only error is want of memory.
 pub fn put_measures(
-    alloc: Global,
-    out: &mut Row<Laid>,
+    pen: &mut Pen,
     keys: &[ColumnKey],
     lengths: &[u64],
     place: Option<&Place>,
@@ -74,15 +60,14 @@ pub fn put_measures(
     requires few { length lengths.now ≤ 2000 }
     requires good { AreGoodMeasures measures.now }
     requires verses { HasVerses (option_copied place) }
-    ensures { OnOk result (out.new ≡ out.old ++ measures_marks keys.now lengths.now (option_copied place.entry) a in_head measures.now) }
+    ensures { OnOk result (pen.new.marks ≡ pen.old.marks ++ measures_marks keys.now lengths.now (option_copied place.entry) a in_head measures.now) }
 {
-    let mut pen = Pen::new(alloc);
     let mut measure = a;
     let mut in_head = in_head;
     for d in measures {
         let events = d.events.as_slice();
-        put_events(&mut pen, out, keys, place, measure, in_head, events)?;
-        put_bar_part(&mut pen, out, keys, lengths, measure, d)?;
+        put_events(pen, keys, place, measure, in_head, events)?;
+        put_bar_part(pen, keys, lengths, measure, d)?;
         in_head = false;
         measure += 1;
     }
@@ -103,15 +88,14 @@ fn meter_shown(a: u32, opening: &Opening) -> Option<Meter>
 /// Lays the head of the system that begins with the first of these measures, unless the voice above
 /// draws it.
 fn put_head_part(
-    alloc: Global,
-    out: &mut Row<Laid>,
+    pen: &mut Pen,
     keys: &[ColumnKey],
     a: u32,
     measures: &[DrawnMeasure],
 ) -> Result<(), Memory>
     requires keys { AreRanked keys.now }
     requires good { AreGoodMeasures measures.now }
-    ensures { OnOk result (out.new ≡ out.old ++ head_part keys.now a measures.now) }
+    ensures { OnOk result (pen.new.marks ≡ pen.old.marks ++ head_part keys.now a measures.now) }
 {
     let [first, ..] = measures else {
         return Ok(());
@@ -120,12 +104,10 @@ fn put_head_part(
         return Ok(());
     }
     let opening = &first.opening;
-    let rank = rank_at(keys, a, 0, Class::Head, 0);
     let meter = meter_shown(a, opening);
     let signs = opening.key.signs.as_slice();
-    let mut drawn = Row::new(alloc);
-    put_head(alloc, &mut drawn, opening.clef, signs, meter)?;
-    put_ranked(out, rank, drawn)
+    pen.go_to(keys, ColumnKey::new(a, 0, Class::Head, 0));
+    put_head(pen, opening.clef, signs, meter)
 }
 
 fn is_featured(bar: Bar) -> bool
@@ -136,21 +118,20 @@ fn is_featured(bar: Bar) -> bool
 
 /// Lays the bar before the first measure, where it has features, unless the voice above draws it.
 fn put_first_part(
-    alloc: Global,
-    out: &mut Row<Laid>,
+    pen: &mut Pen,
     keys: &[ColumnKey],
     a: u32,
     seat: Seat,
     bar: Bar,
 ) -> Result<(), Memory>
     requires { AreRanked keys.now }
-    ensures { OnOk result (out.new ≡ out.old ++ first_part keys.now a seat bar) }
+    ensures { OnOk result (pen.new.marks ≡ pen.old.marks ++ first_part keys.now a seat bar) }
 {
     if seat.is_lower() || a != 0 || !is_featured(bar) {
         return Ok(());
     }
-    let rank = rank_at(keys, 0, 0, Class::First, 0);
-    put_bar_at(&mut Pen::new(alloc), out, rank, bar)
+    pen.go_to(keys, ColumnKey::new(0, 0, Class::First, 0));
+    put_bar(pen, bar)
 }
 
 /// Lays what stands in the columns of a system from measure `a` on: its head, the bar before the first
@@ -158,8 +139,7 @@ fn put_first_part(
 /// error is want of memory.
 #[tactic(auto, unfolding(crate::specs::Staff::columns_part))]
 pub fn put_columns_part(
-    alloc: Global,
-    out: &mut Row<Laid>,
+    pen: &mut Pen,
     keys: &[ColumnKey],
     lengths: &[u64],
     place: Option<&Place>,
@@ -173,10 +153,10 @@ pub fn put_columns_part(
     requires few { length lengths.now ≤ 2000 }
     requires good { AreGoodMeasures measures.now }
     requires verses { HasVerses (option_copied place) }
-    ensures { OnOk result (out.new ≡ out.old ++ columns_part keys.now lengths.now (option_copied place.entry) a seat first measures.now) }
+    ensures { OnOk result (pen.new.marks ≡ pen.old.marks ++ columns_part keys.now lengths.now (option_copied place.entry) a seat first measures.now) }
 {
-    out.items.reserve(room_for(measures))?;
-    put_head_part(alloc, out, keys, a, measures)?;
-    put_first_part(alloc, out, keys, a, seat, first)?;
-    put_measures(alloc, out, keys, lengths, place, a, true, measures)
+    pen.marks.items.reserve(room_for(measures))?;
+    put_head_part(pen, keys, a, measures)?;
+    put_first_part(pen, keys, a, seat, first)?;
+    put_measures(pen, keys, lengths, place, a, true, measures)
 }

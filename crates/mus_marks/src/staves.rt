@@ -12,15 +12,14 @@ use mus_bridges::put_bridges_of;
 use mus_drawn::DrawnVoice;
 use mus_ink::drawing::cut;
 use mus_keys::Frame;
-use mus_laid::{Bridge, Laid, StaffMarks, by_columns, put_bridges, staff_heights};
+use mus_laid::{Bridge, Laid, Pen, StaffMarks, by_columns, put_bridges, staff_heights};
 use mus_units::{Memory, Row};
 use std::alloc::Global;
 
 /// Lays what a voice has in the columns of a system, with syllables and texts where their place is
 /// known.
 fn put_own_part(
-    alloc: Global,
-    out: &mut Row<Laid>,
+    pen: &mut Pen,
     frame: &Frame<'_>,
     place: Option<&Place>,
     v: &DrawnVoice,
@@ -28,13 +27,11 @@ fn put_own_part(
     requires lengths { length v.now.measures ≡ length frame.now.lengths.now }
     requires good { AreGoodMeasures v.now.measures }
     requires verses { HasVerses (option_copied place) }
-    ensures { OnOk result (out.new ≡ out.old ++ own_part frame.now.keys.now frame.now.lengths.now (option_copied place.entry) frame.now.a frame.now.b v.now) }
+    ensures { OnOk result (pen.new.marks ≡ pen.old.marks ++ own_part frame.now.keys.now frame.now.lengths.now (option_copied place.entry) frame.now.a frame.now.b v.now) }
 {
     let (keys, lengths, a) = (frame.keys, frame.lengths, frame.a);
     let measures = &v.measures.as_slice()[a as usize..frame.b as usize];
-    put_columns_part(
-        alloc, out, keys, lengths, place, a, v.seat, v.first, measures,
-    )
+    put_columns_part(pen, keys, lengths, place, a, v.seat, v.first, measures)
 }
 
 /// What voices have between columns, one after the other.
@@ -55,18 +52,13 @@ fn bridges_on(
 }
 
 /// Lays all that voices have in columns but syllables and texts.
-fn put_bare_parts(
-    alloc: Global,
-    out: &mut Row<Laid>,
-    frame: &Frame<'_>,
-    voices: &[DrawnVoice],
-) -> Result<(), Memory>
+fn put_bare_parts(pen: &mut Pen, frame: &Frame<'_>, voices: &[DrawnVoice]) -> Result<(), Memory>
     requires each { All (λ v. length v.measures ≡ length frame.now.lengths.now) voices.now }
     requires good { All (λ v. AreGoodMeasures v.measures) voices.now }
-    ensures { OnOk result (out.new ≡ out.old ++ flat_map (own_part frame.now.keys.now frame.now.lengths.now None frame.now.a frame.now.b) voices.now) }
+    ensures { OnOk result (pen.new.marks ≡ pen.old.marks ++ flat_map (own_part frame.now.keys.now frame.now.lengths.now None frame.now.a frame.now.b) voices.now) }
 {
     for v in voices {
-        put_own_part(alloc, out, frame, None, v)?;
+        put_own_part(pen, frame, None, v)?;
     }
     Ok(())
 }
@@ -143,10 +135,10 @@ fn room_on(
             verses: 0,
         });
     }
-    let mut others = Row::new(alloc);
-    put_bare_parts(alloc, &mut others, frame, voices)?;
-    put_bridges(&mut others, frame.keys, bridges)?;
-    Ok(room_over(verses_on(voices), others.as_slice()))
+    let mut pen = Pen::new(alloc);
+    put_bare_parts(&mut pen, frame, voices)?;
+    put_bridges(&mut pen.marks, frame.keys, bridges)?;
+    Ok(room_over(verses_on(voices), pen.marks.as_slice()))
 }
 
 /// The place of the next voice of a staff, behind the verses and the texts of the one before it; where
@@ -184,9 +176,9 @@ fn written_part(
     requires verses { place.now.first ≤ 129 }
     ensures { IfOk result (λ r. r ≡ own_part frame.now.keys.now frame.now.lengths.now (Some place.now) frame.now.a frame.now.b v.now) }
 {
-    let mut out = Row::new(alloc);
-    put_own_part(alloc, &mut out, frame, Some(place), v)?;
-    Ok(out)
+    let mut pen = Pen::new(alloc);
+    put_own_part(&mut pen, frame, Some(place), v)?;
+    Ok(pen.marks)
 }
 
 /// What each voice of a staff has in columns, behind the verses and the texts of those before it.

@@ -1,13 +1,13 @@
-ghost use Rattle.std.specs.Prelude.{◌≡◌, ◌+◌, ◌≤◌, ◌<◌, ◌++◌, length, OnOk};
+ghost use Rattle.std.specs.Prelude.{◌≡◌, ◌+◌, ◌≤◌, ◌<◌, length, OnOk};
 ghost use Rattle.mus_laid.specs.Printed.{printed};
 ghost use Rattle.mus_words.specs.Syllables.{syllable_dx, verse_dy, syllable, syllable_if, syllables_from};
+ghost use Rattle.mus_laid.specs.Ranked.{inked};
 
 use crate::words::put_words;
 use mus_ink::distances::{HALF_CHARACTER, VERSE_STEP};
 use mus_ink::drawing::cut;
-use mus_laid::{Drawn, Lane, printed};
-use mus_units::{Memory, Row, Text};
-use std::alloc::Global;
+use mus_laid::{Lane, Pen, printed};
+use mus_units::{Memory, Text};
 
 /// The dx of a syllable of so many characters.
 #[tactic(auto, unfolding(crate::specs::Syllables::syllable_dx))]
@@ -27,29 +27,23 @@ fn verse_dy(low: i32, verse: u8) -> i32
 }
 
 /// Draws what is printed of a syllable.
-fn put_syllable(out: &mut Row<Drawn>, low: i32, verse: u8, text: Text) -> Result<(), Memory>
+fn put_syllable(pen: &mut Pen, low: i32, verse: u8, text: Text) -> Result<(), Memory>
     requires { length text ≤ 60 }
-    ensures { OnOk result (out.new ≡ out.old ++ syllable low verse text) }
+    ensures { OnOk result (pen.new ≡ inked pen.old (syllable low verse text)) }
 {
     if text.len() == 0 {
         return Ok(());
     }
     let dx = syllable_dx(text.len());
-    put_words(out, Lane::Verse(verse), dx, verse_dy(low, verse), text)
+    put_words(pen, Lane::Verse(verse), dx, verse_dy(low, verse), text)
 }
 
-fn put_syllable_if(
-    alloc: Global,
-    out: &mut Row<Drawn>,
-    low: i32,
-    verse: u8,
-    word: &Option<Text>,
-) -> Result<(), Memory>
-    ensures { OnOk result (out.new ≡ out.old ++ syllable_if low verse word.now) }
+fn put_syllable_if(pen: &mut Pen, low: i32, verse: u8, word: &Option<Text>) -> Result<(), Memory>
+    ensures { OnOk result (pen.new ≡ inked pen.old (syllable_if low verse word.now)) }
 {
     match word {
         None => Ok(()),
-        Some(text) => put_syllable(out, low, verse, printed(alloc, text.as_slice())?),
+        Some(text) => put_syllable(pen, low, verse, printed(pen.alloc, text.as_slice())?),
     }
 }
 
@@ -58,18 +52,17 @@ fn put_syllable_if(
 /// with its middle at the column. What prints nothing is no mark. A dy is cut at 2^30 u in size. The
 /// only error is want of memory.
 pub fn put_syllables(
-    alloc: Global,
-    out: &mut Row<Drawn>,
+    pen: &mut Pen,
     first: u8,
     low: i32,
     words: &[Option<Text>],
 ) -> Result<(), Memory>
     requires { first + length words.now < 256 }
-    ensures { OnOk result (out.new ≡ out.old ++ syllables_from low first words.now) }
+    ensures { OnOk result (pen.new ≡ inked pen.old (syllables_from low first words.now)) }
 {
     let mut verse = first;
     for word in words {
-        put_syllable_if(alloc, out, low, verse, word)?;
+        put_syllable_if(pen, low, verse, word)?;
         verse += 1;
     }
     Ok(())

@@ -1,11 +1,12 @@
 ghost use Rattle.std.specs.Prelude.{◌≡◌, ◌≤◌, ◌+◌, ◌*◌, ◌++◌, ◌-ℤ◌, pos, min, flat_map, IfOk, OnOk};
 ghost use Rattle.mus_ink.specs.Distances.{text_step, verse_step};
 ghost use Rattle.mus_words.specs.Texts.{shown_ending, shown_number, shown_deco, shown_mention, texts_above, texts_below, above_dy, below_dy, above_from, below_from, text_marks};
+ghost use Rattle.mus_laid.specs.Ranked.{inked};
 
 use crate::words::{add_shown, put_words};
 use mus_ink::distances::{HALF_CHARACTER, TEXT_GAP, TEXT_STEP, VERSE_STEP};
 use mus_ink::drawing::cut;
-use mus_laid::{Drawn, Lane};
+use mus_laid::{Lane, Pen};
 use mus_score::{Flat, Mention};
 use mus_units::{Deco, Memory, Row, Text};
 use std::alloc::Global;
@@ -184,12 +185,12 @@ fn below_dy(low: i32, verses: u8, before: usize, k: usize) -> i32
     below_others(low, verses, nearer(before, k))
 }
 
-fn put_above(out: &mut Row<Drawn>, high: i32, before: usize, texts: Row<Text>) -> Result<(), Memory>
-    ensures { OnOk result (out.new ≡ out.old ++ above_from high before texts) }
+fn put_above(pen: &mut Pen, high: i32, before: usize, texts: Row<Text>) -> Result<(), Memory>
+    ensures { OnOk result (pen.new ≡ inked pen.old (above_from high before texts)) }
 {
     for (k, text) in texts.items.into_iter().enumerate() {
         put_words(
-            out,
+            pen,
             Lane::Above,
             -HALF_CHARACTER,
             above_dy(high, before, k),
@@ -200,17 +201,17 @@ fn put_above(out: &mut Row<Drawn>, high: i32, before: usize, texts: Row<Text>) -
 }
 
 fn put_below(
-    out: &mut Row<Drawn>,
+    pen: &mut Pen,
     low: i32,
     verses: u8,
     before: usize,
     texts: Row<Text>,
 ) -> Result<(), Memory>
-    ensures { OnOk result (out.new ≡ out.old ++ below_from low verses before texts) }
+    ensures { OnOk result (pen.new ≡ inked pen.old (below_from low verses before texts)) }
 {
     for (k, text) in texts.items.into_iter().enumerate() {
         put_words(
-            out,
+            pen,
             Lane::Below,
             -HALF_CHARACTER,
             below_dy(low, verses, before, k),
@@ -225,20 +226,15 @@ fn put_below(
 /// u under the last verse and each next one 1000 u lower. What prints nothing is no mark, and takes
 /// no place. A dy is cut at 2^30 u in size. The only error is want of memory.
 #[tactic(auto, unfolding(crate::specs::Texts::text_marks))]
-pub fn put_texts(
-    alloc: Global,
-    out: &mut Row<Drawn>,
-    place: TextPlace,
-    flat: &Flat,
-) -> Result<(), Memory>
-    ensures { OnOk result (out.new ≡ out.old ++ text_marks place flat.now) }
+pub fn put_texts(pen: &mut Pen, place: TextPlace, flat: &Flat) -> Result<(), Memory>
+    ensures { OnOk result (pen.new ≡ inked pen.old (text_marks place flat.now)) }
 {
-    put_above(out, place.high, place.above, texts_above(alloc, flat)?)?;
+    put_above(pen, place.high, place.above, texts_above(pen.alloc, flat)?)?;
     put_below(
-        out,
+        pen,
         place.low,
         place.verses,
         place.below,
-        texts_below(alloc, flat)?,
+        texts_below(pen.alloc, flat)?,
     )
 }

@@ -1,19 +1,20 @@
 ghost use Rattle.std.specs.Prelude.{◌≡◌, ◌++◌, ◌∷◌, [], OnOk};
 ghost use Rattle.mus_words.specs.Words.{words, if_any, shown};
+ghost use Rattle.mus_laid.specs.Ranked.{inked};
 
-use mus_laid::{Drawn, Ink, Lane, printed};
+use mus_laid::{Drawn, Ink, Lane, Pen, printed};
 use mus_units::{Memory, Row, Size, Text};
 use std::alloc::Global;
 
 /// Draws a text of small characters.
 pub(crate) fn put_words(
-    out: &mut Row<Drawn>,
+    pen: &mut Pen,
     lane: Lane,
     dx: i32,
     dy: i32,
     text: Text,
 ) -> Result<(), Memory>
-    ensures { OnOk result (out.new ≡ out.old ++ words lane dx dy text ∷ []) }
+    ensures { OnOk result (pen.new ≡ inked pen.old (words lane dx dy text ∷ [])) }
 {
     let ink = Ink::Words {
         size: Size::Small,
@@ -21,7 +22,7 @@ pub(crate) fn put_words(
         dy,
         text,
     };
-    out.push(Drawn { ink, lane })
+    pen.put(Drawn { ink, lane })
 }
 
 fn add_if_any(out: &mut Row<Text>, text: Text) -> Result<(), Memory>

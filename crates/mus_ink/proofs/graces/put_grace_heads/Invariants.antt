@@ -1,6 +1,7 @@
-use Rattle.std.proofs.Common.{◌≡◌, ◌++◌, drop}
+use Rattle.std.proofs.Common.{◌≡◌, drop}
+use Rattle.mus_laid.specs.Ranked.{inked}
 use Rattle.mus_ink.specs.Graces.{grace_heads}
 use Rattle.mus_ink.proofs.graces.put_grace_heads.Given as goal
 
 abbrev pub invariant-loop-head : goal.invariant-loop-head
-invariant-loop-head l = l.out ++ grace_heads l.clef (drop l.head-index l.heads) ≡ l.fn.out ++ grace_heads l.clef l.heads
+invariant-loop-head l = inked l.pen (grace_heads l.clef (drop l.head-index l.heads)) ≡ inked l.fn.pen (grace_heads l.clef l.heads)

@@ -1,4 +1,4 @@
-use Rattle.std.{proofs.Common.{◌≡◌, ◌++◌, drop, map, true, length, take, ◌≤◌, ◌+◌}, specs.List.list_all}
+use Rattle.std.{proofs.Common.{◌≡◌, ◌++◌, drop, map, true, length}, specs.List.list_all}
 use Rattle.mus_laid.specs.Printed.{printed_byte, is_printable}
 use Rattle.mus_laid.proofs.printing.printed_within.Given as goal
 

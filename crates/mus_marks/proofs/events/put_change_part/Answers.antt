@@ -12,4 +12,4 @@ returns-then-changes_nothing c =
     let none : change_part c.args.keys.now c.args.measure c.args.drawn c.args.e.now ≡ [] =
     ap (λ b. change_part c.args.keys.now c.args.measure b c.args.e.now) c.if-drawn.false
     ∙ ap (map (drawn_at _)) (nothing_marks _ _ _ (sym c.changes_nothing.ensures ∙ c.if-changes_nothing.true)) in
-    sym (append-nil c.args.out.now) ∙ ap (λ t. c.args.out.now ++ t) (sym none)
+    sym (append-nil c.args.pen.now.marks) ∙ ap (λ t. c.args.pen.now.marks ++ t) (sym none)

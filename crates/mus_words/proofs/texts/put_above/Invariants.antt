@@ -1,6 +1,7 @@
-use Rattle.std.proofs.Common.{◌≡◌, ◌+◌, ◌++◌, length, drop}
+use Rattle.std.proofs.Common.{◌≡◌, ◌+◌, length, drop}
+use Rattle.mus_laid.specs.Ranked.{inked}
 use Rattle.mus_words.specs.Texts.{above_from}
 use Rattle.mus_words.proofs.texts.put_above.Given as goal
 
 abbrev pub invariant-loop-k : goal.invariant-loop-k
-invariant-loop-k l = l.out ++ above_from l.high (l.before + length l.yielded) (drop (length l.yielded) l.fn.texts) ≡ l.fn.out ++ above_from l.high l.before l.fn.texts
+invariant-loop-k l = inked l.pen (above_from l.high (l.before + length l.yielded) (drop (length l.yielded) l.fn.texts)) ≡ inked l.fn.pen (above_from l.high l.before l.fn.texts)

@@ -1,6 +1,6 @@
 use Rattle.std.proofs.Common.{◌≡◌, ◌++◌, length}
-use Rattle.mus_ink.specs.Beams.{beams_from}
-use Rattle.mus_ink.proofs.beams.put_beams.Given as goal
+use Rattle.mus_bridges.specs.Beams.{beams_from}
+use Rattle.mus_bridges.proofs.stems.put_beams.Given as goal
 
 abbrev pub invariant-loop-p : goal.invariant-loop-p
 invariant-loop-p l = l.out ++ beams_from l.group l.flags l.rest ≡ l.fn.out ++ beams_from 0 0 l.stems

@@ -4,7 +4,8 @@
 use Rattle.std.specs.{Prelude.{◌≡◌, ℕ, ◌+◌, ◌≤◌, Bool, false, ◌&&◌, ◌==◌, nat_lt, ⊤, List, [], ◌∷◌, ◌++◌, map, filter}, List.AllByRecursion}
 use Rattle.mus_stems.specs.Runs.{AreMaximalRuns}
 use Rattle.mus_laid.specs.declared.drawn.Bridge.{Bridge}
-use Rattle.mus_ink.specs.{declared.beams.Stem.Stem, Drawing.beam, Stems.lower_edge, Beams.way_of, Beams.beam_marks}
+use Rattle.mus_ink.specs.{Drawing.beam, Stems.lower_edge}
+use Rattle.mus_bridges.specs.{declared.stems.Stem.Stem, Beams.way_of, Beams.beam_marks}
 use Rattle.mus_time.specs.Order.{same_key}
 
 -- whether level k joins two neighbours: both are in one beam and have it

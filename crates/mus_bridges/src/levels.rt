@@ -1,4 +1,4 @@
-ghost use Rattle.mus_ink.specs.Levels.{BeamsByLevels};
+ghost use Rattle.mus_bridges.specs.Levels.{BeamsByLevels};
 
 /// The law of levels: the beams that `put_beams` draws for a measure, whose events stand in columns
 /// of their own, are those of its levels: at each level one for each maximal run of two events or

@@ -4,7 +4,8 @@ use Rattle.mus_units.specs.declared.glyph.Way.{Way}
 use Rattle.mus_stems.specs.declared.plans.StemPlan.{StemPlan}
 use Rattle.mus_laid.specs.declared.drawn.Bridge.{Bridge}
 use Rattle.mus_time.specs.{declared.keys.ColumnKey.ColumnKey, Order.same_key}
-use Rattle.mus_ink.specs.{declared.beams.Stem.Stem, Drawing.beam, Stems.lower_edge}
+use Rattle.mus_ink.specs.{Drawing.beam, Stems.lower_edge}
+use Rattle.mus_bridges.specs.declared.stems.Stem.{Stem}
 
 unfoldable pub stem_of : ColumnKey → StemPlan → Stem
 stem_of key plan = record { key = key; up = plan.up; to = plan.to; group = plan.group; flags = plan.flags }

@@ -1,9 +1,9 @@
 ghost use Rattle.std.specs.Prelude.{◌≡◌, ◌-◌, ◌++◌, OnOk};
 ghost use Rattle.mus_stems.specs.Slope.{with_end};
-ghost use Rattle.mus_ink.specs.Beams.{stem_of, way_of, goes_on, last_at, level_from, levels_from, levels_before, beams_at, beams_from, beam_marks};
+ghost use Rattle.mus_bridges.specs.Beams.{stem_of, way_of, goes_on, last_at, level_from, levels_from, levels_before, beams_at, beams_from, beam_marks};
 
-use crate::drawing::put_beam;
-use crate::stems::lower_edge;
+use mus_ink::drawing::put_beam;
+use mus_ink::stems::lower_edge;
 use mus_laid::Bridge;
 use mus_stems::StemPlan;
 use mus_time::{ColumnKey, is_same};
@@ -81,6 +81,7 @@ fn put_level_at(out: &mut Row<Bridge>, level: u8, p: Stem, behind: &[Stem]) -> R
 }
 
 /// Draws the beams from one level to below another of the runs that begin at an event.
+#[tactic(auto, using(crate::proofs::LevelLaws::levels_step, std::proofs::lemmas::Grind::common_steps))]
 fn put_levels(
     out: &mut Row<Bridge>,
     level: u8,

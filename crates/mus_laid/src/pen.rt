@@ -1,0 +1,73 @@
+ghost use Rattle.std.specs.Prelude.{◌≡◌, ◌∷◌, [], OnOk};
+ghost use Rattle.mus_time.specs.{Order.rank_of, Ranks.AreRanked};
+ghost use Rattle.mus_laid.specs.Ranked.{ink_at, inked};
+
+use crate::drawn::{Drawn, Ink};
+use crate::laid::{Laid, Mark};
+use mus_time::{ColumnKey, next_rank};
+use mus_units::{Memory, Row};
+use std::alloc::Global;
+
+/// What lays marks column by column: the rank of the column that it stands at, and the marks that it
+/// has laid.
+#[derive(Drop)]
+pub struct Pen {
+    pub alloc: Global,
+    pub rank: u32,
+    pub marks: Row<Laid>,
+}
+
+/// What is drawn in a column, as the mark of a system in which the column has this rank.
+fn ink_at(rank: u32, ink: Ink) -> Mark
+    ensures { result ≡ ink_at rank ink }
+{
+    match ink {
+        Ink::Glyph { glyph, dx, dy } => Mark::Glyph {
+            glyph,
+            rank,
+            dx,
+            dy,
+        },
+        Ink::Words { size, dx, dy, text } => Mark::Words {
+            size,
+            rank,
+            dx,
+            dy,
+            text,
+        },
+        Ink::Stem { dx, from, to } => Mark::Stem { rank, dx, from, to },
+    }
+}
+
+impl Pen {
+    /// A pen that has laid nothing, at the first column.
+    pub fn new(alloc: Global) -> Pen
+        ensures { result.marks ≡ [] }
+    {
+        Pen {
+            alloc,
+            rank: 0,
+            marks: Row::new(alloc),
+        }
+    }
+
+    /// Goes to the column of a key.
+    pub fn go_to(&mut self, keys: &[ColumnKey], key: ColumnKey)
+        requires { AreRanked keys.now }
+        ensures rank { self.new.rank ≡ rank_of keys.now key }
+        ensures marks { self.new.marks ≡ self.old.marks }
+    {
+        let mut near = self.rank as usize + 1;
+        self.rank = next_rank(keys, &mut near, key);
+    }
+
+    /// Lays what is drawn in the column. The only error is want of memory.
+    pub fn put(&mut self, drawn: Drawn) -> Result<(), Memory>
+        ensures { OnOk result (self.new ≡ inked self.old (drawn ∷ [])) }
+    {
+        self.marks.push(Laid {
+            mark: ink_at(self.rank, drawn.ink),
+            lane: drawn.lane,
+        })
+    }
+}
