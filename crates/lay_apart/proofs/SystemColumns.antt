@@ -26,7 +26,7 @@ module _ (keys : List ColumnKey) (staves : List StaffMarks) (lengths verses : Li
       ap (λ ks. get_or ks i no_column.key) (sym (columns_keys staves lengths verses 0 keys)) ∙ get_or-map (λ c. c.key) columns i no_column no_column.key inside in
       let due : StandsWhereDue verses column = columns_stand staves lengths verses keys same i no_column inside in
       let stands = due (ap (λ k. stands_always k.class) (sym key) ∙ always no_column.key) lane m in
-      (stands.0, reach_is column_reach columns i column (slice_get-get_or columns i no_column inside) lane ∙ stands.1)
+      (stands.0, ap (λ r. r lane) (reach_is column_reach columns i column (slice_get-get_or columns i no_column inside)) ∙ stands.1)
 
 module _ (s : Score) (a b : ℕ) (m : SystemMarks) (good : IsGoodScore s) (order : a < b) (within : b ≤ s.measures) (is : IsSystem s a b m) where
   same_staves : length (verses_of s) ≡ length m.staves

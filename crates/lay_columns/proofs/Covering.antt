@@ -2,7 +2,7 @@
 use Rattle.std.{proofs.{Common.{◌≡◌, ℕ, zero, suc, ℤ, pos, negsuc, neg_ℤ, ◌≤ℤ◌, ◌⊎◌, ◌+◌, ◌<◌, ◌≤◌, Bool, List, [], ◌∷◌, ◌++◌, map, length, Option, Some, None, refl, sym, ap, ◌∙◌, subst, arith, inl, inr, option_and_then, option_map, slice_get, get_or}, lemmas.{Bool.cases_lt, Int.ints, List.{length-map, FromFn.{length-map-range_with_len, get_or-map-range_with_len}}, Option.{none-some, same_Some, slice_get-get_or, slice_get-map}}}, specs.List.Contains}
 use Rattle.mus_time.specs.{Onsets.greatest, declared.keys.ColumnKey.ColumnKey}
 use Rattle.mus_laid.specs.{declared.boxes.Sides.Sides, declared.laid.Laid.Laid, declared.laid.StaffMarks.StaffMarks}
-use Rattle.lay_springs.specs.{declared.traits.Reach.Reach, Place.reach_at}
+use Rattle.lay_springs.{specs.{declared.traits.Reach.Reach, Place.reach_at}, proofs.Longer.get_front}
 use Rattle.lay_columns.{specs.{declared.column.Column.Column, Column.{most_reach, reach_in}, Columns.{column_reach, columns_from, CoverMarks, Covers}, Lanes.{lane_count, lane_start}, Reaches.{box_at, boxes_at, drawn_reach, drawn_row, left_of, reach_over, reaches_of, right_of, staff_reaches, standing, stands_always}}, proofs.{Facts.{near_all, near_over, reach_same}, Rows.box_is}}
 
 -- ---- boxes
@@ -81,11 +81,6 @@ covered rank lane box marks laid (k, l, at) e =
         )
 
 -- ---- the lanes of a staff among those of the system
-get_left : {X : Type 0} (xs ys : List X) (k : ℕ) → k < length xs → slice_get (xs ++ ys) k ≡ slice_get xs k
-get_left [] ys k l = grind (arith, l)
-get_left (x ∷ xs) ys zero l = refl
-get_left (x ∷ xs) ys (suc k) l = get_left xs ys k (omega (arith, l))
-
 get_right : {X : Type 0} (xs ys : List X) (k : ℕ) → slice_get (xs ++ ys) (length xs + k) ≡ slice_get ys k
 get_right [] ys k = ap (λ t. slice_get ys t) (omega arith)
 get_right (x ∷ xs) ys k =
@@ -116,7 +111,7 @@ lane_at always rank (x ∷ staves) (v ∷ verses) zero lane count staff e f l =
     let long : lane < length (staff_reaches always rank x.marks v) = subst (λ t. lane < t) (sym (row_long always rank x.marks v)) l' in
     let place : 0 + lane ≡ lane = omega arith in
     ap (λ t. slice_get (staff_reaches always rank x.marks v ++ reaches_of always rank staves verses) t) place
-    ∙ get_left (staff_reaches always rank x.marks v) (reaches_of always rank staves verses) lane long
+    ∙ get_front (staff_reaches always rank x.marks v) (reaches_of always rank staves verses) lane long
     ∙ row_at always rank lane x.marks v l'
     ∙ ap (λ t. Some (standing always (drawn_reach t.marks rank lane))) x_is
 lane_at always rank (x ∷ staves) (v ∷ verses) (suc s) lane count staff e f l =

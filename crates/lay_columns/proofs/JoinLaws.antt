@@ -1,7 +1,7 @@
 -- Columns of two lists of measures, one after the other.
-use Rattle.std.{proofs.{Common.{◌≡◌, ◌≢◌, ℕ, ◌+◌, ◌-◌, ◌<◌, ◌==◌, Bool, true, false, List, [], ◌∷◌, ◌++◌, map, length, Option, Some, None, refl, ap, ◌∙◌, arith, if◌then◌else◌, get_or}, lemmas.List.{append-nil, Elements.{All-head, All-tail}}}, specs.List.{All, find}}
+use Rattle.std.{proofs.{Common.{◌≡◌, ◌≢◌, ℕ, ◌+◌, ◌-◌, ◌<◌, ◌==◌, Bool, true, false, List, [], ◌∷◌, ◌++◌, map, length, Option, Some, None, refl, ap, ◌∙◌, arith, if◌then◌else◌, get_or}, lemmas.List.{append-nil, Elements.{All-head, All-tail, filter_map-append}, Folds.find-append}}, specs.{List.{All, find}, Option.option_or}}
 use Rattle.mus_time.specs.declared.keys.ColumnKey.{ColumnKey}
-use Rattle.mus_laid.specs.{Boxes.sides_of, declared.boxes.Sides.Sides, declared.laid.Laid.Laid, declared.laid.Mark.Mark, declared.laid.StaffMarks.StaffMarks}
+use Rattle.mus_laid.specs.{Boxes.sides_of, declared.laid.Laid.Laid, declared.laid.Mark.Mark, declared.laid.StaffMarks.StaffMarks}
 use Rattle.lay_columns.{specs.{Columns.columns_from, Joining.{ColumnsJoin, IsBelow, MarksJoin, moved, moved_mark, OfOtherMeasures, StavesJoin}, Lanes.lane_count, Naturals.{is_note, is_note_of, natural_for, natural_of, tick_or_end}, Reaches.{box_at, boxes_at, drawn_reach, is_number, rank_of, reach_over, reaches_of, staff_reaches, standing, stands_always}}, proofs.Rows.same_range}
 
 -- ---- reaches
@@ -10,31 +10,18 @@ staff_same : (always : Bool) (rank rank' : ℕ) (marks marks' : List Laid) (vers
 staff_same always rank rank' marks marks' verses h =
     ap (λ t. map (standing always) t) (same_range (drawn_reach marks rank) (drawn_reach marks' rank') (lane_count verses) None (λ k l. ap reach_over (h k)))
 
-reaches_front : (always : Bool) (n rank : ℕ) (joined first second : List StaffMarks) (verses : List ℕ) → rank < n → StavesJoin n joined first second
-    → reaches_of always rank joined verses ≡ reaches_of always rank first verses
-reaches_front always n rank [] [] [] verses l h = refl
-reaches_front always n rank [] [] (b ∷ second) verses l h = absurd h
-reaches_front always n rank [] (a ∷ first) second verses l h = absurd h
-reaches_front always n rank (x ∷ joined) [] second verses l h = absurd h
-reaches_front always n rank (x ∷ joined) (a ∷ first) [] verses l h = absurd h
-reaches_front always n rank (x ∷ joined) (a ∷ first) (b ∷ second) [] l h = refl
-reaches_front always n rank (x ∷ joined) (a ∷ first) (b ∷ second) (v ∷ verses) l (h, more) =
-    let p = staff_same always rank rank x.marks a.marks v (λ lane. h.front rank lane l) in
-    let q = reaches_front always n rank joined first second verses l more in
-    rw (p, q) refl
-
-reaches_behind : (always : Bool) (n rank : ℕ) (joined first second : List StaffMarks) (verses : List ℕ) → StavesJoin n joined first second
-    → reaches_of always (n + rank) joined verses ≡ reaches_of always rank second verses
-reaches_behind always n rank [] [] [] verses h = refl
-reaches_behind always n rank [] [] (b ∷ second) verses h = absurd h
-reaches_behind always n rank [] (a ∷ first) second verses h = absurd h
-reaches_behind always n rank (x ∷ joined) [] second verses h = absurd h
-reaches_behind always n rank (x ∷ joined) (a ∷ first) [] verses h = absurd h
-reaches_behind always n rank (x ∷ joined) (a ∷ first) (b ∷ second) [] h = refl
-reaches_behind always n rank (x ∷ joined) (a ∷ first) (b ∷ second) (v ∷ verses) (h, more) =
-    let p = staff_same always (n + rank) rank x.marks b.marks v (λ lane. h.behind rank lane) in
-    let q = reaches_behind always n rank joined first second verses more in
-    rw (p, q) refl
+reaches_both : (always : Bool) (n rank : ℕ) (joined first second : List StaffMarks) (verses : List ℕ) → StavesJoin n joined first second
+    → (rank < n → reaches_of always rank joined verses ≡ reaches_of always rank first verses) × (reaches_of always (n + rank) joined verses ≡ reaches_of always rank second verses)
+reaches_both always n rank [] [] [] verses h = (λ l. refl, refl)
+reaches_both always n rank [] [] (b ∷ second) verses h = absurd h
+reaches_both always n rank [] (a ∷ first) second verses h = absurd h
+reaches_both always n rank (x ∷ joined) [] second verses h = absurd h
+reaches_both always n rank (x ∷ joined) (a ∷ first) [] verses h = absurd h
+reaches_both always n rank (x ∷ joined) (a ∷ first) (b ∷ second) [] h = (λ l. refl, refl)
+reaches_both always n rank (x ∷ joined) (a ∷ first) (b ∷ second) (v ∷ verses) (h, more) =
+    let p = λ (l : rank < n). staff_same always rank rank x.marks a.marks v (λ lane. h.front rank lane l) in
+    let q = staff_same always (n + rank) rank x.marks b.marks v (λ lane. h.behind rank lane) in
+    let r = reaches_both always n rank joined first second verses more in (λ l. rw (p l, r.0 l) refl, rw (q, r.1) refl)
 
 -- ---- naturals
 none_of : (more : List ColumnKey) (m : ℕ) → All (λ l. l.measure ≢ m) more → find (is_note_of m) more ≡ None
@@ -46,13 +33,11 @@ none_of (key ∷ more) m h = by (is_note key) refl (none_of more m (All-tail (λ
     by false e rest = rw e rest
 
 find_more : (keys more : List ColumnKey) (m : ℕ) → All (λ l. l.measure ≢ m) more → find (is_note_of m) (keys ++ more) ≡ find (is_note_of m) keys
-find_more [] more m h = none_of more m h
-find_more (key ∷ keys) more m h = by (is_note_of m key) (find_more keys more m h)
+find_more keys more m h = find-append (is_note_of m) keys more ∙ ap (option_or (find (is_note_of m) keys)) (none_of more m h) ∙ by (find (is_note_of m) keys)
   where
-    by : (b : Bool) → find (is_note_of m) (keys ++ more) ≡ find (is_note_of m) keys
-        → (if b then Some key else find (is_note_of m) (keys ++ more)) ≡ (if b then Some key else find (is_note_of m) keys)
-    by true rest = refl
-    by false rest = rest
+    by : (o : Option ColumnKey) → option_or o None ≡ o
+    by None = refl
+    by (Some key) = refl
 
 natural_more : (key : ColumnKey) (keys more : List ColumnKey) (lengths : List ℕ) → All (λ l. l.measure ≢ key.measure) more
     → natural_of key (keys ++ more) lengths ≡ natural_of key keys lengths
@@ -66,7 +51,7 @@ module _ (joined first second : List StaffMarks) (lengths verses : List ℕ) whe
   behind_same n rank [] h = refl
   behind_same n rank (key ∷ keys) h =
       let e : n + rank + 1 ≡ n + (rank + 1) = omega arith in
-      let r = reaches_behind (stands_always key.class) n rank joined first second verses h in
+      let r = (reaches_both (stands_always key.class) n rank joined first second verses h).1 in
       let b = ap (λ t. columns_from t keys joined lengths verses) e ∙ behind_same n (rank + 1) keys h in
       rw (r, b) refl
 
@@ -76,7 +61,7 @@ module _ (joined first second : List StaffMarks) (lengths verses : List ℕ) whe
       let p : rank ≡ n + 0 = omega (arith, e) in
       ap (λ t. columns_from t more joined lengths verses) p ∙ behind_same n 0 more h
   front_same n rank (key ∷ keys) more e o h =
-      let r = reaches_front (stands_always key.class) n rank joined first second verses (omega (arith, e)) h in
+      let r = (reaches_both (stands_always key.class) n rank joined first second verses h).0 (omega (arith, e)) in
       let s = natural_more key keys more lengths (All-head (λ k. All (λ l. l.measure ≢ k.measure) more) key keys o) in
       let b = front_same n (rank + 1) keys more (omega (arith, e)) (All-tail (λ k. All (λ l. l.measure ≢ k.measure) more) key keys o) h in
       rw (r, s, b) refl
@@ -86,15 +71,6 @@ columns_join front behind joined first second lengths verses o h =
     front_same joined first second lengths verses (length front) 0 front behind (omega arith) o h
 
 -- ---- marks
-boxes_append : (rank lane : ℕ) (xs ys : List Laid) → boxes_at rank lane (xs ++ ys) ≡ boxes_at rank lane xs ++ boxes_at rank lane ys
-boxes_append rank lane [] ys = refl
-boxes_append rank lane (x ∷ xs) ys = by (box_at rank lane x) refl (boxes_append rank lane xs ys)
-  where
-    by : (o : Option Sides) → box_at rank lane x ≡ o → boxes_at rank lane (xs ++ ys) ≡ boxes_at rank lane xs ++ boxes_at rank lane ys
-        → boxes_at rank lane ((x ∷ xs) ++ ys) ≡ boxes_at rank lane (x ∷ xs) ++ boxes_at rank lane ys
-    by None e rest = rw e rest
-    by (Some box) e rest = rw e (ap (λ t. box ∷ t) rest)
-
 boxes_none : (rank lane : ℕ) (xs : List Laid) → All (λ l. box_at rank lane l ≡ None) xs → boxes_at rank lane xs ≡ []
 boxes_none rank lane [] h = refl
 boxes_none rank lane (x ∷ xs) h =
@@ -143,14 +119,14 @@ past_first n rank (Some r) h = grind (arith, h)
 pub marks_join : MarksJoin
 marks_join n first second loose below free = record {
   front = λ rank lane l.
-      boxes_append rank lane (first ++ map (moved n) second) loose
-      ∙ ap (λ t. t ++ boxes_at rank lane loose) (boxes_append rank lane first (map (moved n) second))
+      filter_map-append (box_at rank lane) (first ++ map (moved n) second) loose
+      ∙ ap (λ t. t ++ boxes_at rank lane loose) (filter_map-append (box_at rank lane) first (map (moved n) second))
       ∙ ap (λ t. boxes_at rank lane first ++ t ++ boxes_at rank lane loose) (none_moved n rank lane second l)
       ∙ ap (λ t. boxes_at rank lane first ++ [] ++ t) (loose_none rank lane)
       ∙ append-nil (boxes_at rank lane first ++ []) ∙ append-nil (boxes_at rank lane first);
   behind = λ rank lane.
-      boxes_append (n + rank) lane (first ++ map (moved n) second) loose
-      ∙ ap (λ t. t ++ boxes_at (n + rank) lane loose) (boxes_append (n + rank) lane first (map (moved n) second))
+      filter_map-append (box_at (n + rank) lane) (first ++ map (moved n) second) loose
+      ∙ ap (λ t. t ++ boxes_at (n + rank) lane loose) (filter_map-append (box_at (n + rank) lane) first (map (moved n) second))
       ∙ ap (λ t. boxes_at (n + rank) lane first ++ boxes_at (n + rank) lane (map (moved n) second) ++ t) (loose_none (n + rank) lane)
       ∙ append-nil (boxes_at (n + rank) lane first ++ boxes_at (n + rank) lane (map (moved n) second))
       ∙ ap (λ t. t ++ boxes_at (n + rank) lane (map (moved n) second)) (first_none rank lane)

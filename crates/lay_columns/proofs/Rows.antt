@@ -1,15 +1,11 @@
 -- The reaches of a column in a staff's lanes, mark by mark.
-use Rattle.std.{proofs.{Common.{◌≡◌, ◌≢◌, ℕ, ◌<◌, ◌&&◌, ◌==◌, max, true, List, [], ◌∷◌, ◌++◌, map, length, Option, Some, None, refl, sym, ap, ◌∙◌, subst, arith, inl, inr, if◌then◌else◌, nat_lt, filter_map, get_or, set, get_or-set_same, get_or-set_other}, lemmas.{Bool.cases_eq, List.{append-nil, length-set, FromFn.{fill_by_all, length-map-range_with_len, get_or-map-range_with_len}}}}, specs.List.range_with_len}
+use Rattle.std.{proofs.{Common.{◌≡◌, ◌≢◌, ℕ, ◌<◌, ◌&&◌, ◌==◌, max, true, List, [], ◌∷◌, ◌++◌, map, length, Option, Some, None, refl, sym, ap, ◌∙◌, subst, arith, inl, inr, if◌then◌else◌, nat_lt, get_or, set, get_or-set_same, get_or-set_other}, lemmas.{Bool.cases_eq, List.{append-nil, length-set, Elements.filter_map-append, FromFn.{fill_by_all, length-map-range_with_len, get_or-map-range_with_len}}}}, specs.List.{cons_option, range_with_len}}
 use Rattle.mus_time.specs.Onsets.{greatest}
 use Rattle.mus_laid.specs.{Boxes.sides_of, declared.boxes.Sides.Sides, declared.laid.Laid.Laid}
 use Rattle.lay_springs.specs.declared.traits.Reach.{Reach}
 use Rattle.lay_columns.specs.{Lanes.lane_number, Reaches.left_of, Reaches.right_of, Reaches.rank_of, Reaches.box_at, Reaches.boxes_at, Reaches.reach_over, Reaches.drawn_reach, Reaches.drawn_row, Widened.widened, Widened.widened_row}
 
 -- ---- one more box
-greatest_more : (xs : List ℕ) (n : ℕ) → greatest (xs ++ n ∷ []) ≡ max (greatest xs) n
-greatest_more [] n = grind arith
-greatest_more (x ∷ xs) n = let e = greatest_more xs n in grind (arith, e)
-
 greatest_map_more : {X : Type 0} (f : X → ℕ) (xs : List X) (x : X) → greatest (map f (xs ++ x ∷ [])) ≡ max (greatest (map f xs)) (f x)
 greatest_map_more f [] x = grind arith
 greatest_map_more f (y ∷ xs) x = let e = greatest_map_more f xs x in grind (arith, e)
@@ -25,22 +21,10 @@ reach_more (b ∷ boxes) box =
     let r = greatest_map_more (λ s. right_of s.right) (b ∷ boxes) box in
     rw (l, r) refl
 
-abbrev listed : Option Sides → List Sides
-listed None = []
-listed (Some box) = box ∷ []
-
-boxes_more : (rank lane : ℕ) (marks : List Laid) (laid : Laid) → boxes_at rank lane (marks ++ laid ∷ []) ≡ boxes_at rank lane marks ++ listed (box_at rank lane laid)
-boxes_more rank lane [] laid = by (box_at rank lane laid)
-  where
-    by : (o : Option Sides) → filter_map (λ (x : Option Sides). x) (o ∷ []) ≡ listed o
-    by None = refl
-    by (Some b) = refl
-boxes_more rank lane (m ∷ marks) laid = let e = boxes_more rank lane marks laid in grind (arith, e)
-
 drawn_more : (rank lane : ℕ) (marks : List Laid) (laid : Laid) → drawn_reach (marks ++ laid ∷ []) rank lane ≡ extended (drawn_reach marks rank lane) (box_at rank lane laid)
-drawn_more rank lane marks laid = ap reach_over (boxes_more rank lane marks laid) ∙ by (boxes_at rank lane marks) (box_at rank lane laid)
+drawn_more rank lane marks laid = ap reach_over (filter_map-append (box_at rank lane) marks (laid ∷ [])) ∙ by (boxes_at rank lane marks) (box_at rank lane laid)
   where
-    by : (boxes : List Sides) (o : Option Sides) → reach_over (boxes ++ listed o) ≡ extended (reach_over boxes) o
+    by : (boxes : List Sides) (o : Option Sides) → reach_over (boxes ++ cons_option o []) ≡ extended (reach_over boxes) o
     by [] None = refl
     by (b ∷ boxes) None = ap reach_over (append-nil (b ∷ boxes))
     by boxes (Some box) = reach_more boxes box

@@ -1,5 +1,5 @@
 -- Bare columns, widened by the marks of each staff, have the reaches of their marks.
-use Rattle.std.{proofs.{Common.{◌≡◌, ◌≢◌, ℕ, zero, suc, ◌+◌, ◌<◌, ◌≤◌, ◌&&◌, ◌==◌, max, Bool, true, false, List, [], ◌∷◌, ◌++◌, map, length, replicate, Option, Some, None, refl, sym, ap, ◌∙◌, subst, arith, if◌then◌else◌, nat_lt}, lemmas.List.{append-nil, append_assoc, length-append, length-map}}, specs.List.range_with_len}
+use Rattle.std.{proofs.{Common.{◌≡◌, ◌≢◌, ℕ, zero, suc, ◌+◌, ◌<◌, ◌≤◌, ◌&&◌, ◌==◌, max, Bool, true, false, List, [], ◌∷◌, ◌++◌, map, length, replicate, Option, Some, None, refl, sym, ap, ◌∙◌, subst, arith, if◌then◌else◌, nat_lt}, Math.ListN.get_or-append, lemmas.List.{append-nil, append_assoc, length-append, length-map, replicate-append-replicate, set-append_left}}, specs.List.range_with_len}
 use Rattle.mus_laid.specs.{Boxes.sides_of, declared.boxes.Sides.Sides, declared.laid.Laid.Laid, declared.laid.StaffMarks.StaffMarks}
 use Rattle.mus_time.specs.declared.keys.ColumnKey.{ColumnKey}
 use Rattle.lay_springs.specs.declared.traits.Reach.{Reach}
@@ -17,15 +17,11 @@ inside : (n : ℕ) → nat_lt 0 (suc n) ≡ true
 inside n = grind arith
 
 row_front : (row back : List (Option Reach)) (place : ℕ) (box : Sides) → place < length row → widened_row (row ++ back) place box ≡ widened_row row place box ++ back
-row_front [] back place box l = absurd (none l)
-  where
-    none : place < 0 → ⊥
-    none l = omega (arith, l)
-row_front (x ∷ row) back zero box l = rw (inside (length (row ++ back)), inside (length row)) refl
-row_front (x ∷ row) back (suc place) box l =
-    row_next x (row ++ back) place box
-    ∙ ap (λ t. x ∷ t) (row_front row back place box (omega (arith, l)))
-    ∙ sym (ap (λ t. t ++ back) (row_next x row place box))
+row_front row back place box l =
+    let long = length-append row back in
+    let yes : nat_lt place (length row) ≡ true = grind (arith, l) in
+    let all : nat_lt place (length (row ++ back)) ≡ true = grind (arith, l, long) in
+    rw (yes, all, get_or-append row back None place l) (set-append_left row back place _ l)
 
 row_behind : (front row : List (Option Reach)) (place : ℕ) (box : Sides) → widened_row (front ++ row) (length front + place) box ≡ front ++ widened_row row place box
 row_behind [] row place box = ap (λ t. widened_row row t box) (omega arith)
@@ -170,10 +166,6 @@ module _ (lengths : List ℕ) where
       stood a zero = refl
       stood a (suc n) = ap (λ t. standing always None ∷ t) (stood (a + 1) n)
 
-  bare_more : {X : Type 0} (x : X) (m n : ℕ) → replicate (m + n) x ≡ replicate m x ++ replicate n x
-  bare_more x zero n = ap (λ t. replicate t x) (omega arith)
-  bare_more x (suc m) n = let e : suc m + n ≡ suc (m + n) = omega arith in ap (λ t. replicate t x) e ∙ ap (λ t. x ∷ t) (bare_more x m n)
-
   staves_from : (keys : List ColumnKey) (front : ℕ → Bool → List (Option Reach)) (start : ℕ) → ((k : ℕ) (always : Bool) → length (front k always) ≡ start)
       → (staves : List StaffMarks) (verses : List ℕ) → length verses ≡ length staves
       → widened_by_staves (made (λ k always. front k always ++ replicate (lanes_of verses) (standing always None)) 0 keys) start staves verses
@@ -184,7 +176,7 @@ module _ (lengths : List ℕ) where
   staves_from keys front start long (staff ∷ staves) (v ∷ verses) h =
       ap (λ t. widened_by_staves (widened_by_marks t start (lane_count v) staff.marks) (start + lane_count v) staves verses)
       (made_same _ (framed keys front back start (lane_count v) long []) 0 keys
-      (λ k always l. ap (λ t. front k always ++ t) (bare_more (standing always None) (lane_count v) (lanes_of verses) ∙ ap (λ t. t ++ back always) (bare_row always (lane_count v) k))))
+      (λ k always l. ap (λ t. front k always ++ t) (sym (replicate-append-replicate (lane_count v) (lanes_of verses) (standing always None)) ∙ ap (λ t. t ++ back always) (bare_row always (lane_count v) k))))
       ∙ ap (λ t. widened_by_staves t (start + lane_count v) staves verses) (marks_from keys front back start (lane_count v) long [] staff.marks)
       ∙ ap (λ t. widened_by_staves t (start + lane_count v) staves verses) (made_same _ (λ k always. front' k always ++ back always) 0 keys
       (λ k always l. sym (append_assoc (front k always) (staff_reaches always k staff.marks v) (back always))))

@@ -1,6 +1,6 @@
 -- What a column answers where it is placed: its reach in a lane, and its spring at a force.
-use Rattle.std.{specs.Prelude.{◌≡◌, ℕ, ◌*◌, ◌/◌, ◌^◌, ◌<◌, ◌≤◌, min, List, Option, Some, None, IfSome, option_map, option_and_then, length, slice_get, MatchOption}, proofs.{Common.{arith, ap}, lemmas.Option.slice_get_past}}
-use Rattle.lay_springs.specs.declared.traits.{Reach.Reach, Stand.Stand}
+use Rattle.std.{specs.Prelude.{◌≡◌, ℕ, ◌*◌, ◌/◌, ◌^◌, ◌<◌, ◌≤◌, min, List, Option, Some, None, IfSome, option_map, option_and_then, slice_get}, proofs.Common.{arith}}
+use Rattle.lay_springs.specs.declared.traits.Reach.{Reach}
 
 -- no reach passes it
 abbrev pub most_reach : ℕ
@@ -12,19 +12,6 @@ cut_reach reach = record { left = min reach.left most_reach; right = min reach.r
 -- None past the last lane
 unfoldable pub reach_in : List (Option Reach) → ℕ → Option Reach
 reach_in reaches lane = option_map cut_reach (option_and_then (λ reach. reach) (slice_get reaches lane))
-
-pub reach_past : (reaches : List (Option Reach)) (lane : ℕ) → length reaches ≤ lane → reach_in reaches lane ≡ None
-unfolding reach_in
-reach_past reaches lane past = ap (λ o. option_map cut_reach (option_and_then (λ reach. reach) o)) (slice_get_past reaches lane past)
-
--- there is no reach in the lanes n to m - 1
-abbrev pub StandsInNone : (ℕ → Option Reach) → ℕ → ℕ → Type 0
-StandsInNone reach n m = (lane : ℕ) → n ≤ lane → lane < m → reach lane ≡ None
-
--- the first lane from n on with a reach, of those that can be counted
-abbrev pub IsNextStand : (ℕ → Option Reach) → ℕ → Option Stand → Type 0
-IsNextStand reach n o = MatchOption o (StandsInNone reach n 4294967295)
-    (λ s. (s.lane < 4294967295) × (reach s.lane ≡ Some s.reach) × StandsInNone reach n s.lane)
 
 -- no natural length passes 4000
 unfoldable pub length_at : ℕ → ℕ → ℕ

@@ -4,4 +4,5 @@ pub mod Joining
 pub mod Lanes
 pub mod Naturals
 pub mod Reaches
+pub mod Stands
 pub mod Widened

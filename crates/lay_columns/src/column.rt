@@ -1,9 +1,9 @@
 ghost use Rattle.std.specs.Prelude.{◌≡◌};
-ghost use Rattle.lay_columns.specs.Column.{cut_reach, reach_in, IsNextStand};
+ghost use Rattle.lay_columns.specs.Column.{cut_reach, reach_in};
 
+use crate::stands::Reaches;
 use lay_springs::{Reach, Spaced, Spring, Stand};
 use mus_time::ColumnKey;
-use mus_units::Row;
 
 pub(crate) const MOST_REACH: u32 = 1 << 20;
 
@@ -16,11 +16,12 @@ const MOST_NATURAL: u32 = 4000;
 #[derive(Drop)]
 pub struct Column {
     pub key: ColumnKey,
-    pub reaches: Row<Option<Reach>>,
+    pub reaches: Reaches,
     pub natural: u32,
 }
 
-fn cut_reach(reach: Reach) -> Reach
+/// A reach, counted to at most 2^20.
+pub(crate) fn cut_reach(reach: Reach) -> Reach
     ensures { result ≡ cut_reach reach }
 {
     Reach {
@@ -29,48 +30,18 @@ fn cut_reach(reach: Reach) -> Reach
     }
 }
 
-/// The reach in a lane, counted to at most 2^20, where there is one.
-#[tactic(auto, unfolding(crate::specs::Column::reach_in))]
-fn reach_in(reaches: &[Option<Reach>], lane: u32) -> Option<Reach>
-    ensures { result ≡ reach_in reaches.now lane }
-{
-    match reaches.get(lane as usize) {
-        Some(Some(reach)) => Some(cut_reach(*reach)),
-        _ => None,
-    }
-}
-
-/// The first lane from `from` on in which there is a reach.
-#[tactic(auto, using(crate::specs::Column::reach_past))]
-fn next_stand(reaches: &[Option<Reach>], from: u32) -> Option<Stand>
-    ensures { IsNextStand (reach_in reaches.now) from result }
-{
-    for lane in from..u32::MAX {
-        if lane as usize >= reaches.len() {
-            return None;
-        }
-        if let Some(reach) = reach_in(reaches, lane) {
-            return Some(Stand { lane, reach });
-        }
-    }
-    None
-}
-
 impl Spaced for Column {
     ghost use Rattle.lay_columns.specs.Column.{reach_in_near};
 
     ghost reach_of = { λ c lane. reach_in c.reaches lane };
 
+    #[tactic(auto, using(crate::proofs::Lone::in_at))]
     fn reach(&self, lane: u32) -> Option<Reach> {
-        reach_in(self.reaches.as_slice(), lane)
+        Some(cut_reach(self.reaches.at(lane as usize)?))
     }
 
     fn lone(&self) -> Option<Stand> {
-        let stand = next_stand(self.reaches.as_slice(), 0)?;
-        match next_stand(self.reaches.as_slice(), stand.lane + 1) {
-            Some(_) => None,
-            None => Some(stand),
-        }
+        self.reaches.lone()
     }
 
     ghost is_near = { λ c lane l. reach_in_near c.reaches lane };

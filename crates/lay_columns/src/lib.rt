@@ -8,9 +8,11 @@ pub mod column;
 pub mod lanes;
 pub mod reaches;
 pub mod springs;
+pub mod stands;
 pub mod system;
 
 pub use column::Column;
 pub use lanes::gaps_of;
 pub use lay_springs::Reach;
+pub use stands::Reaches;
 pub use system::{columns, columns_in};

@@ -1,24 +1,21 @@
-ghost use Rattle.std.specs.Prelude.{◌≡◌, ◌+◌, ◌^◌, ◌<◌, length};
+ghost use Rattle.std.specs.Prelude.{◌≡◌, ◌+◌, ◌^◌, ◌<◌, OnOk, length};
 ghost use Rattle.mus_laid.specs.Boxes.{AreGoodMarks, IsGoodMark};
-ghost use Rattle.lay_columns.specs.{Lanes.{lane_number, lanes_of}, Reaches.{left_of, right_of, rank_of}, Widened.{AreGoodStaves, place_of, widened, widened_row, widened_column, widened_at, widened_by_mark, widened_by_marks, widened_by_staves}};
+ghost use Rattle.lay_columns.specs.{Lanes.{lane_number, lanes_of}, Reaches.{left_of, right_of, rank_of}, Widened.{AreGoodStaves, place_of, widened, widened_row, widened_at, widened_by_mark, widened_by_marks, widened_by_staves}};
 
 use crate::column::{Column, MOST_REACH};
 use crate::lanes::{lane_count, lane_number};
+use crate::stands::Reaches;
 use lay_springs::Reach;
 use mus_laid::{Laid, Lane, Mark, Sides, StaffMarks, sides_of};
+use mus_units::Memory;
+use std::alloc::Global;
 
 /// How far a box goes to the left of its column.
 #[tactic(auto, unfolding(crate::specs::Reaches::left_of))]
 fn left_of(left: i64) -> u32
     ensures { result ≡ left_of left }
 {
-    if left >= 0 {
-        0
-    } else if left <= -i64::from(MOST_REACH) {
-        MOST_REACH
-    } else {
-        (-left) as u32
-    }
+    left.clamp(-i64::from(MOST_REACH), 0).unsigned_abs() as u32
 }
 
 /// How far a box goes to the right of its column.
@@ -26,13 +23,7 @@ fn left_of(left: i64) -> u32
 fn right_of(right: i64) -> u32
     ensures { result ≡ right_of right }
 {
-    if right <= 0 {
-        0
-    } else if right >= i64::from(MOST_REACH) {
-        MOST_REACH
-    } else {
-        right as u32
-    }
+    right.clamp(0, i64::from(MOST_REACH)) as u32
 }
 
 /// The rank of the column at which a mark has its box.
@@ -71,69 +62,98 @@ fn place_of(start: usize, lanes: usize, lane: Lane) -> Option<usize>
     }
 }
 
-fn widen_cell(row: &mut [Option<Reach>], place: usize, sides: Sides)
-    ensures { row.new ≡ widened_row row.old place sides }
+/// Widens the reach in a lane, where there is that lane.
+fn widen_reach(
+    alloc: Global,
+    reaches: &mut Reaches,
+    lane: usize,
+    sides: Sides,
+) -> Result<(), Memory>
+    ensures { OnOk result (reaches.new ≡ widened_row reaches.old lane sides) }
 {
-    if place < row.len() {
-        row[place] = Some(widened(row[place], sides));
+    if lane < reaches.len() {
+        let reach = widened(reaches.at(lane), sides);
+        reaches.put(alloc, lane, reach)?;
     }
+    Ok(())
 }
 
-fn widen_column(column: &mut Column, place: usize, sides: Sides)
-    ensures { column.new ≡ widened_column column.old place sides }
-{
-    widen_cell(&mut column.reaches.items, place, sides);
-}
-
-fn widen_at(columns: &mut [Column], rank: usize, place: usize, sides: Sides)
-    ensures { columns.new ≡ widened_at columns.old rank place sides }
+fn widen_at(
+    alloc: Global,
+    columns: &mut [Column],
+    rank: usize,
+    lane: usize,
+    sides: Sides,
+) -> Result<(), Memory>
+    ensures { OnOk result (columns.new ≡ widened_at columns.old rank lane sides) }
 {
     if rank < columns.len() {
-        widen_column(&mut columns[rank], place, sides);
+        widen_reach(alloc, &mut columns[rank].reaches, lane, sides)?;
     }
+    Ok(())
 }
 
 /// Widens the reach of the mark's column in its lane over its box. The lanes of its staff begin
 /// at `start`.
-fn widen(columns: &mut [Column], start: usize, lanes: usize, laid: &Laid)
+fn widen(
+    alloc: Global,
+    columns: &mut [Column],
+    start: usize,
+    lanes: usize,
+    laid: &Laid,
+) -> Result<(), Memory>
     requires good { IsGoodMark laid.now.mark }
     requires room { start + lanes < 2 ^ 64 }
-    ensures { columns.new ≡ widened_by_mark columns.old start lanes laid.now }
+    ensures { OnOk result (columns.new ≡ widened_by_mark columns.old start lanes laid.now) }
 {
-    let Some(rank) = rank_of(&laid.mark) else {
-        return;
-    };
-    let Some(place) = place_of(start, lanes, laid.lane) else {
-        return;
-    };
-    let Some(sides) = sides_of(&laid.mark) else {
-        return;
-    };
-    widen_at(columns, rank as usize, place, sides);
-}
-
-fn widen_all(columns: &mut [Column], start: usize, lanes: usize, marks: &[Laid])
-    requires good { AreGoodMarks marks.now }
-    requires room { start + lanes < 2 ^ 64 }
-    ensures { columns.new ≡ widened_by_marks columns.old start lanes marks.now }
-{
-    for laid in marks {
-        widen(columns, start, lanes, laid);
+    let place = place_of(start, lanes, laid.lane);
+    match (rank_of(&laid.mark), place, sides_of(&laid.mark)) {
+        (Some(rank), Some(lane), Some(sides)) => widen_at(
+            alloc,
+            columns,
+            rank as usize,
+            lane,
+            sides,
+        ),
+        _ => Ok(()),
     }
 }
 
+fn widen_all(
+    alloc: Global,
+    columns: &mut [Column],
+    start: usize,
+    lanes: usize,
+    marks: &[Laid],
+) -> Result<(), Memory>
+    requires good { AreGoodMarks marks.now }
+    requires room { start + lanes < 2 ^ 64 }
+    ensures { OnOk result (columns.new ≡ widened_by_marks columns.old start lanes marks.now) }
+{
+    for laid in marks {
+        widen(alloc, columns, start, lanes, laid)?;
+    }
+    Ok(())
+}
+
 /// Widens the reaches of the columns over the boxes of the marks of each staff, in its lanes.
-pub(crate) fn widen_by_staves(columns: &mut [Column], staves: &[StaffMarks], verses: &[u8])
+pub(crate) fn widen_by_staves(
+    alloc: Global,
+    columns: &mut [Column],
+    staves: &[StaffMarks],
+    verses: &[u8],
+) -> Result<(), Memory>
     requires good { AreGoodStaves staves.now }
     requires counts { length verses.now ≡ length staves.now }
     requires room { lanes_of verses.now < 2 ^ 64 }
-    ensures { columns.new ≡ widened_by_staves columns.old 0 staves.now verses.now }
+    ensures { OnOk result (columns.new ≡ widened_by_staves columns.old 0 staves.now verses.now) }
 {
     let mut start = 0;
     for (staff, verses) in staves.iter().zip(verses) {
         let lanes = lane_count(*verses);
         let marks = staff.marks.as_slice();
-        widen_all(columns, start, lanes, marks);
+        widen_all(alloc, columns, start, lanes, marks)?;
         start += lanes;
     }
+    Ok(())
 }

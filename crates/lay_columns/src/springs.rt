@@ -55,10 +55,7 @@ fn next_note(measure: u32, behind: &[ColumnKey]) -> Option<ColumnKey>
 fn length_of(lengths: &[u64], measure: u32) -> u64
     ensures { result ≡ length_of lengths.now measure }
 {
-    match lengths.get(measure as usize) {
-        Some(length) => *length,
-        None => 0,
-    }
+    lengths.get(measure as usize).copied().unwrap_or(0)
 }
 
 fn tick_or_end(measure: u32, next: Option<ColumnKey>, lengths: &[u64]) -> u64

@@ -1,11 +1,11 @@
-ghost use Rattle.std.specs.Prelude.{◌≡◌, All, length, map, IfOk, Option};
-ghost use Rattle.lay_columns.specs.{Reaches.standing, Reaches.stands_always, Columns.columns_of, Columns.CoverMarks, Columns.IsSmall, Columns.IsUncut, Columns.StandsWhereDue, Lanes.gaps_of, Widened.AreGoodStaves, Widened.bare_column, Widened.bare_columns};
+ghost use Rattle.std.specs.Prelude.{◌≡◌, All, length, map, IfOk};
+ghost use Rattle.lay_columns.specs.{Reaches.stands_always, Columns.columns_of, Columns.CoverMarks, Columns.IsSmall, Columns.IsUncut, Columns.StandsWhereDue, Lanes.gaps_of, Widened.AreGoodStaves, Widened.bare_column, Widened.bare_columns};
 
 use crate::column::Column;
 use crate::lanes::lanes_of;
 use crate::reaches::widen_by_staves;
 use crate::springs::natural_of;
-use lay_springs::Reach;
+use crate::stands::Reaches;
 use mus_laid::{StaffMarks, SystemMarks};
 use mus_time::{Class, ColumnKey, Timeline};
 use mus_units::{Memory, Row};
@@ -15,31 +15,16 @@ use std::alloc::Global;
 fn stands_always(class: Class) -> bool
     ensures { result ≡ stands_always class }
 {
-    match class {
-        Class::Head | Class::First | Class::Bar => true,
-        Class::Change | Class::Grace | Class::Note => false,
-    }
-}
-
-/// The reach of a column in a lane without marks.
-fn bare_reach(always: bool) -> Option<Reach>
-    ensures { result ≡ standing always Option.None }
-{
-    if always {
-        Some(Reach { left: 0, right: 0 })
-    } else {
-        None
-    }
+    matches!(class, Class::Head | Class::First | Class::Bar)
 }
 
 /// A column before any mark, with all its lanes.
 fn bare_column(alloc: Global, key: ColumnKey, natural: u32, lanes: usize) -> Result<Column, Memory>
     ensures { IfOk result (λ c. c ≡ bare_column key natural lanes) }
 {
-    let items = vec![in alloc; bare_reach(stands_always(key.class)); lanes]?;
     Ok(Column {
         key,
-        reaches: Row { items },
+        reaches: Reaches::bare(alloc, stands_always(key.class), lanes)?,
         natural,
     })
 }
@@ -86,7 +71,7 @@ pub fn columns_in(
     ensures uncut { IfOk result (All IsUncut) }
 {
     let mut columns = bare_columns(alloc, keys, lengths, lanes_of(verses)?)?;
-    widen_by_staves(&mut columns.items, staves, verses);
+    widen_by_staves(alloc, &mut columns.items, staves, verses)?;
     Ok(columns)
 }
 

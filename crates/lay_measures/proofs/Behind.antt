@@ -1,5 +1,5 @@
 -- Behind its head, a measure that begins without a change has the columns that it has in a system which began before.
-use Rattle.std.{proofs.{Common.{◌≡◌, ◌∙◌, ℕ, zero, suc, ◌+◌, ◌-◌, ◌<◌, ◌≤◌, ◌==◌, ◌&&◌, not, Bool, true, false, if◌then◌else◌, List, [], ◌∷◌, ◌++◌, length, map, take, drop, Option, Some, None, refl, sym, ap, subst, arith}, lemmas.{Bool.{and_parts, Decides.nat_tests}, List.{append-nil, drop-map, Elements.{All-from_recursion, All-nil, recursion_from_All}}}}, specs.List.{AllByRecursion, list_all, slice_get, slice_index, slice_range}}
+use Rattle.std.{proofs.{Common.{◌≡◌, ◌∙◌, ℕ, zero, suc, ◌+◌, ◌-◌, ◌<◌, ◌≤◌, ◌==◌, ◌&&◌, not, Bool, true, false, if◌then◌else◌, List, [], ◌∷◌, ◌++◌, length, map, take, drop, Option, Some, None, refl, sym, ap, subst, arith}, lemmas.{Bool.Decides.nat_tests, List.{append-nil, drop-map, Elements.{All-from_recursion, All-nil, recursion_from_All}, Sums.AllPass-from_list_all}}}, specs.List.{AllByRecursion, list_all, slice_get, slice_index, slice_range}}
 use Rattle.mus_score.specs.{declared.score.Score.Score, GoodScore.IsGoodScore, Seats.is_lower}
 use Rattle.mus_time.{specs.{declared.{keys.{Class.Class, ColumnKey.ColumnKey}, times.Timeline.Timeline}, Keys.{AreKeys, has_features, head_key}, Onsets.{length_at, timeline_of}, Order.{Rises, class_number, is_below, rank_of}, Ranks.rank_at}, proofs.{Places.length_is, RankLaws.rank_at_place}}
 use Rattle.mus_laid.specs.{declared.drawn.Drawn.Drawn, declared.laid.{Laid.Laid, StaffMarks.StaffMarks}, Ranked.drawn_at}
@@ -45,10 +45,6 @@ past_head m k from c = grind (arith, nat_tests, from, c)
 both_pass : {X : Type 0} (P Q : X → Type 0) (xs : List X) → AllByRecursion P xs → AllByRecursion Q xs → AllByRecursion (λ x. P x × Q x) xs
 both_pass P Q [] p q = tt
 both_pass P Q (x ∷ xs) p q = ((p.0, q.0), both_pass P Q xs p.1 q.1)
-
-passing : {X : Type 0} (p : X → Bool) (xs : List X) → list_all p xs ≡ true → AllByRecursion (λ x. p x ≡ true) xs
-passing p [] h = tt
-passing p (x ∷ xs) h = let parts = and_parts (p x) (list_all p xs) h in (parts.0, passing p xs parts.1)
 
 -- ---- the marks behind the head
 module _ (lengths : List ℕ) (m n : ℕ) (some : 1 ≤ m) (within : m < n) (own : List ColumnKey) (rise : Rises (head_key m ∷ own)) where
@@ -120,7 +116,7 @@ of_behind s t m verses columns own good timed some within called same plain are 
     let long = λ (k : ℕ) (h : k < s.measures). subst (λ z. length_at s.voices k ≤ slice_index z.lengths k) (sym timed) (omega (arith, length_is s k h)) in
     let fit = grouped_all stands_lower (λ v. HasMeasures lengths s.measures v × (begins_plain m v ≡ true)) voices
     (both_pass (HasMeasures lengths s.measures) (λ v. begins_plain m v ≡ true) voices
-    (voices_fit lengths s.measures s.voices (recursion_from_All (λ v. length v.measures ≡ s.measures) s.voices good.measures) long) (passing (begins_plain m) voices plain)) in
+    (voices_fit lengths s.measures s.voices (recursion_from_All (λ v. length v.measures ≡ s.measures) s.voices good.measures) long) (recursion_from_All (λ v. begins_plain m v ≡ true) voices (AllPass-from_list_all (begins_plain m) voices plain))) in
     record {
       keys = subst (λ ks. AreKeys ks (keys_called false s lengths m)) (sym own_keys) called;
       value = ap (drop 1) (are.value ∙ ap (λ ks. columns_of ks (map (measure_staff true ks lengths m) staves) lengths verses) same)

@@ -9,7 +9,7 @@ ghost use Rattle.lay_measures.specs.Measures.{AreMeasureColumns, EndWithBar, fix
 use lay_columns::{Column, columns_in};
 use mus_drawn::DrawnVoice;
 use mus_keys::{Frame, measure_keys};
-use mus_laid::{Laid, StaffMarks};
+use mus_laid::{Laid, Pen, StaffMarks};
 use mus_marks::{Place, Room, lower_count, put_columns_part, put_measures};
 use mus_score::Score;
 use mus_time::Timeline;
@@ -45,8 +45,7 @@ fn staff_of_columns(marks: Row<Laid>) -> StaffMarks
 /// Lays what stands in the columns of the first measure of a frame of a voice whose verses count from
 /// `first` on; `begins` tells whether the system begins with the measure.
 fn put_part(
-    alloc: Global,
-    out: &mut Row<Laid>,
+    pen: &mut Pen,
     frame: &Frame<'_>,
     begins: bool,
     first: u8,
@@ -55,18 +54,16 @@ fn put_part(
     requires lengths { length v.now.measures ≡ length frame.now.lengths.now }
     requires good { AreGoodMeasures v.now.measures }
     requires first { first ≤ 129 }
-    ensures { OnOk result (out.new ≡ out.old ++ measure_part begins frame.now.keys.now frame.now.lengths.now frame.now.a first v.now) }
+    ensures { OnOk result (pen.new.marks ≡ pen.old.marks ++ measure_part begins frame.now.keys.now frame.now.lengths.now frame.now.a first v.now) }
 {
     let (keys, lengths, m) = (frame.keys, frame.lengths, frame.a);
     let measures = &v.measures.as_slice()[m as usize..m as usize + 1];
-    let fixed = fixed_place(alloc, first);
+    let fixed = fixed_place(pen.alloc, first);
     let place = Some(&fixed);
     if begins {
-        put_columns_part(
-            alloc, out, keys, lengths, place, m, v.seat, v.first, measures,
-        )
+        put_columns_part(pen, keys, lengths, place, m, v.seat, v.first, measures)
     } else {
-        put_measures(alloc, out, keys, lengths, place, m, false, measures)
+        put_measures(pen, keys, lengths, place, m, false, measures)
     }
 }
 
@@ -82,13 +79,13 @@ fn measure_staff(
     requires verses { verses_on voices.now ≤ 128 }
     ensures { IfOk result (λ r. r ≡ measure_staff begins frame.now.keys.now frame.now.lengths.now frame.now.a voices.now) }
 {
-    let mut marks = Row::new(alloc);
+    let mut pen = Pen::new(alloc);
     let mut first = 1;
     for v in voices {
-        put_part(alloc, &mut marks, frame, begins, first, v)?;
+        put_part(&mut pen, frame, begins, first, v)?;
         first += v.verses;
     }
-    Ok(staff_of_columns(marks))
+    Ok(staff_of_columns(pen.marks))
 }
 
 /// What stands in the columns of the measure of each staff.

@@ -1,5 +1,5 @@
 -- The columns of a span, and how they grow by a measure.
-use Rattle.std.proofs.{Common.{◌≡◌, ℕ, zero, suc, ◌+◌, ◌-◌, ◌<◌, ◌≤◌, List, [], ◌∷◌, ◌++◌, length, take, drop, flat_map, slice_index_or, get_or, Option, option_and_then, slice_get, arith, sym, ◌∙◌, ap, subst, refl, length-append}, lemmas.List.{take_more, get_or-drop, append_assoc, length-drop, Concat.flat_map-append}}
+use Rattle.std.proofs.{Common.{◌≡◌, ℕ, zero, suc, ◌+◌, ◌-◌, ◌<◌, ◌≤◌, List, [], ◌∷◌, ◌++◌, length, take, drop, flat_map, slice_index_or, get_or, Option, option_and_then, slice_get, arith, sym, ◌∙◌, ap, subst, length-append}, lemmas.List.{take_more, get_or-drop, append-nil, append_assoc, length-drop, Concat.flat_map-append}}
 use Rattle.lay_springs.specs.{declared.traits.Reach.Reach, Place.reach_at, Fit.StandsInAll}
 use Rattle.lay_spans.specs.Columns.{measures_from, span_columns, EndsInAll}
 
@@ -11,11 +11,6 @@ columns_some {C} starts others a b l some =
     let n = length-append (slice_index_or starts a []) (flat_map (λ measure. measure) (take (b - (a + 1)) (drop (a + 1) others))) in
     subst (λ k. 0 < length (flat_map (λ measure. measure) (take k (measures_from starts others a)))) (sym e) (omega arith)
 
--- how many measures can stand in a system that begins at bar a
-pub measures_count : {C : Type 0} (starts others : List (List C)) (a m : ℕ) → a ≤ m → m < length starts → length others ≡ length starts
-    → m - a < length (measures_from starts others a)
-measures_count starts others a m l k e = let d = length-drop (a + 1) others in omega arith
-
 -- one measure more
 pub columns_more : {C : Type 0} (starts others : List (List C)) (a m : ℕ) → a ≤ m → m < length starts → length others ≡ length starts
     → span_columns starts others a (m + 1) ≡ span_columns starts others a m ++ slice_index_or (measures_from starts others a) (m - a) []
@@ -23,14 +18,10 @@ columns_more {C} starts others a m l k e =
     let e1 : m + 1 - a ≡ m - a + 1 = omega arith in
     let next = slice_index_or (measures_from starts others a) (m - a) [] in
     let grown : take (m - a + 1) (measures_from starts others a) ≡ take (m - a) (measures_from starts others a) ++ next ∷ [] =
-    take_more (measures_from starts others a) (m - a) [] (measures_count starts others a m l k e) in
+    take_more (measures_from starts others a) (m - a) [] (let d = length-drop (a + 1) others in omega arith) in
     rw e1 (ap (λ ms. flat_map (λ measure. measure) ms) grown
     ∙ flat_map-append (λ measure. measure) (take (m - a) (measures_from starts others a)) (next ∷ [])
-    ∙ ap (λ r. flat_map (λ measure. measure) (take (m - a) (measures_from starts others a)) ++ r) (append_nil next))
-  where
-    append_nil : (xs : List C) → xs ++ [] ≡ xs
-    append_nil [] = refl
-    append_nil (x ∷ xs) = ap (λ ys. x ∷ ys) (append_nil xs)
+    ∙ ap (λ r. flat_map (λ measure. measure) (take (m - a) (measures_from starts others a)) ++ r) (append-nil next))
 
 -- a measure that doesn't begin the system
 pub later_measure : {C : Type 0} (starts others : List (List C)) (a m : ℕ) → a < m

@@ -1,5 +1,5 @@
 -- Which spans fit.
-use Rattle.std.proofs.{Common.{◌≡◌, ℕ, zero, suc, ◌+◌, ◌-◌, ◌<◌, ◌≤◌, List, [], ◌∷◌, ◌++◌, length, map, Option, None, Some, IfNone, option_map, option_and_then, unwrap_or, slice_get, slice_index_or, arith, sym, ◌∙◌, ap, subst, refl, inl, inr, length-append}, Math.Path.fun_ext, lemmas.{Bool.cases_lt, Option.slice_get_past, List.{append_assoc, length-map}}}
+use Rattle.std.proofs.{Common.{◌≡◌, ℕ, ◌+◌, ◌-◌, ◌<◌, ◌≤◌, List, [], ◌++◌, length, map, Option, None, Some, IfNone, option_map, option_and_then, unwrap_or, slice_get, slice_index_or, arith, sym, ◌∙◌, ap, subst, refl, inl, inr, length-append}, Math.Path.fun_ext, lemmas.{Bool.cases_lt, Option.slice_get-map, List.{append_assoc, length-map}}}
 use Rattle.lay_springs.{specs.declared.traits.Reach.Reach, specs.Place.reach_at, specs.Place.length_at, specs.Fit.Fits, specs.Fit.Passes, specs.Fit.CanStand, specs.Fit.StandsInAll, proofs.Longer.cannot_stand, proofs.Longer.longer_fits_less}
 use Rattle.lay_spans.{specs.Columns.span_columns, specs.Columns.AreMeasures, specs.SpanList.StandsAt, specs.SpanList.IsForce, proofs.Adding.columns_some, proofs.Adding.columns_continue, proofs.Adding.ends_so}
 
@@ -34,15 +34,10 @@ still_above reach len gaps width most starts others a m h inside l before g past
     (columns_some starts others a m some (h.begun a inside)) stands)
 
 -- Columns that stand elsewhere, by the columns that they are.
-get_mapped : {D C : Type 0} (f : D → C) (xs : List D) (i : ℕ) → slice_get (map f xs) i ≡ option_map f (slice_get xs i)
-get_mapped f [] i = slice_get_past [] i (omega arith) ∙ ap (λ o. option_map f o) (sym (slice_get_past [] i (omega arith)))
-get_mapped f (x ∷ xs) zero = refl
-get_mapped f (x ∷ xs) (suc i) = get_mapped f xs i
-
 seen_reach : {D C : Type 0} (f : D → C) (reach : C → ℕ → Option Reach) (seen : List D)
     → reach_at (λ s lane. reach (f s) lane) seen ≡ reach_at reach (map f seen)
 seen_reach f reach seen = fun_ext (λ i. fun_ext (λ lane.
-    at (slice_get seen i) lane ∙ sym (ap (λ o. option_and_then (λ c. reach c lane) o) (get_mapped f seen i))))
+    at (slice_get seen i) lane ∙ sym (ap (λ o. option_and_then (λ c. reach c lane) o) (slice_get-map f seen i))))
   where
     at : (o : Option _) (lane : ℕ) → option_and_then (λ s. reach (f s) lane) o ≡ option_and_then (λ c. reach c lane) (option_map f o)
     at None lane = refl
@@ -51,7 +46,7 @@ seen_reach f reach seen = fun_ext (λ i. fun_ext (λ lane.
 seen_length : {D C : Type 0} (f : D → C) (len : C → ℕ → ℕ) (seen : List D)
     → length_at (λ s force. len (f s) force) seen ≡ length_at len (map f seen)
 seen_length f len seen = fun_ext (λ force. fun_ext (λ i.
-    at (slice_get seen i) force ∙ sym (ap (λ o. unwrap_or (option_map (λ c. len c force) o) 0) (get_mapped f seen i))))
+    at (slice_get seen i) force ∙ sym (ap (λ o. unwrap_or (option_map (λ c. len c force) o) 0) (slice_get-map f seen i))))
   where
     at : (o : Option _) (force : ℕ) → unwrap_or (option_map (λ s. len (f s) force) o) 0 ≡ unwrap_or (option_map (λ c. len c force) (option_map f o)) 0
     at None force = refl

@@ -1,6 +1,6 @@
 -- The row of a bar, and the rows, while they grow.
-use Rattle.std.proofs.{Common.{◌≡◌, ℕ, ◌+◌, ◌-◌, ◌<◌, ◌≤◌, Bool, List, [], ◌∷◌, ◌++◌, length, map, Option, None, Some, IsSome, slice_index, slice_index_or, get_or, true, false, arith, sym, ◌∙◌, ap, subst, refl, inl, inr, length-append}, lemmas.{Bool.{cases_lt, cases_eq, true≢false}, List.get_or_append_left, Option.{none-some, same_Some}}}
-use Rattle.lay_springs.specs.declared.traits.Reach.{Reach}
+use Rattle.std.proofs.{Common.{◌≡◌, ℕ, ◌+◌, ◌-◌, ◌<◌, ◌≤◌, Bool, List, [], ◌∷◌, ◌++◌, length, map, Option, None, Some, IsSome, slice_index, slice_index_or, get_or, true, false, arith, sym, ◌∙◌, ap, subst, refl, inl, inr, length-append}, Math.Seq.get_or-append_seam, lemmas.{Bool.{cases_lt, cases_eq, true≢false}, List.get_or_append_left, Option.{none-some, same_Some}}}
+use Rattle.lay_springs.{specs.declared.traits.Reach.Reach, proofs.Clear.below_or_at}
 use Rattle.lay_breaks.specs.Spans.{AreSpans, listed}
 use Rattle.lay_rows.specs.Tables.{IsTable}
 use Rattle.lay_spans.{specs.{Columns.{measures_from, span_columns, AreMeasures}, Forced.ForcedInside, SpanList.{StandsAt, IsCost, IsNoSpan, IsSpanList}, Rows.{IsRowFrom, rows_spans}, Single.costs_small}, proofs.{Adding.{columns_some, columns_more}, Fitting.longer_stands, Listing.{in_rows, past_rows, rows_form}}}
@@ -13,17 +13,6 @@ pub seen_more : {D C : Type 0} (f : D → C) (old new : List D) (starts others :
 seen_more f old new starts others a m l k same e added =
     added ∙ ap (λ cs. cs ++ slice_index_or (measures_from starts others a) (m - a) []) e ∙ sym (columns_more starts others a m l k same)
 
--- the last of a list that has grown
-pub at_end : {X : Type 0} (xs : List X) (x d : X) → get_or (xs ++ x ∷ []) (length xs) d ≡ x
-at_end [] x d = refl
-at_end (y ∷ xs) x d = at_end xs x d
-
-below_or_at : (P : ℕ → Type 0) (k n : ℕ) → k < n + 1 → (k < n → P k) → P n → P k
-below_or_at P k n l p q = elim (cases_lt k n) [
-  | inl lt ↦ p lt
-  | inr ge ↦ let e : n ≡ k = omega arith in subst P e q
-]
-
 -- what holds of each place of a list holds of each once one more is added
 pub each_more : {X : Type 0} (P : ℕ → X → Type 0) (xs : List X) (x d : X)
     → ((k : ℕ) → k < length xs → P k (get_or xs k d)) → P (length xs) x
@@ -32,7 +21,7 @@ each_more P xs x d each here k l =
     let n = length-append xs (x ∷ []) in
     below_or_at (λ k. P k (get_or (xs ++ x ∷ []) k d)) k (length xs) (omega arith)
     (λ lt. subst (λ y. P k y) (sym (get_or_append_left xs (x ∷ []) d k lt)) (each k lt))
-    (subst (λ y. P (length xs) y) (sym (at_end xs x d)) here)
+    (subst (λ y. P (length xs) y) (sym (get_or-append_seam xs x [] d)) here)
 
 pub costs_more : {C : Type 0} (reach : C → ℕ → Option Reach) (len : C → ℕ → ℕ) (gaps : List ℕ) (width : ℕ) (starts others : List (List C)) (forced : ℕ → Bool)
     (a m : ℕ) (row : List ℕ) (v : ℕ) → a + length row ≡ m

@@ -18,9 +18,6 @@ module _ (reach : ℕ → Option Reach) (lane : ℕ) where
       (λ eu. let b : s ≡ u = same_Some s u (sym es ∙ eu) in rw (← b) m)
       eu
 
-  pub inside_less : (v : ℤ) → IsInside reach (lane + 1) v → IsInside reach lane v
-  inside_less v h k u lt eu = h k u (omega arith) eu
-
 pub inside_bound : (reach : ℕ → Option Reach) (lanes : ℕ) → lanes < 4294967296
     → ((lane : ℕ) → lane < 4294967296 → IfSome (reach lane) (λ r. (r.left ≤ 1048576) × (r.right ≤ 1048576)))
     → IsInside reach lanes (pos 1048576)

@@ -1,6 +1,6 @@
 -- The end of the columns, and how it grows with the force.
 use Rattle.std.proofs.{Common.{◌≡◌, ℕ, ◌+◌, ◌-◌, ◌<◌, ◌≤◌, ℤ, pos, ◌+ℤ◌, ◌≤ℤ◌, List, Option, None, Some, option_map, unwrap_or, slice_get, arith, sym, ◌∙◌}, lemmas.{Int.ints, Option.same_Some}}
-use Rattle.lay_springs.{specs.{declared.traits.Reach.Reach, Place.{reach_at, length_at, StandApart}, Fit.{IsEndOf, EndsAt}}, proofs.{Clear.below_or_at, Placing.reach_is}}
+use Rattle.lay_springs.{specs.{declared.traits.Reach.Reach, Place.{length_at, StandApart}, Fit.{IsEndOf, EndsAt}}, proofs.Clear.below_or_at}
 
 pub end_more : (reach : ℕ → Option Reach) (lane : ℕ) (at old new : ℤ) (r : Reach) → reach lane ≡ Some r
     → old ≤ℤ new → (at +ℤ pos r.right) ≤ℤ new → ((v : ℤ) → old ≤ℤ v → (at +ℤ pos r.right) ≤ℤ v → new ≤ℤ v)
@@ -13,14 +13,6 @@ end_more reach lane at old new r er le reached least h = record {
       (λ eu. let b : r ≡ u = same_Some r u (sym er ∙ eu) in rw (← b) reached)
       eu;
   least = λ v p q. least v (h.least v p (λ k u lt eu. q k u (omega arith) eu)) (q lane r (omega arith) er);
-}
-
-pub end_read : {C : Type 0} (reach : C → ℕ → Option Reach) (cols : List C) (lanes i : ℕ) (c : C) (at e : ℤ)
-    → slice_get cols i ≡ Some c → IsEndOf (reach c) lanes at e → IsEndOf (reach_at reach cols i) lanes at e
-end_read reach cols lanes i c at e ec h = record {
-  past = h.past;
-  reaches = λ k r l er. h.reaches k r l (sym (reach_is reach cols i c ec k) ∙ er);
-  least = λ v p q. h.least v p (λ k r l er. q k r l (reach_is reach cols i c ec k ∙ er));
 }
 
 -- springs that are no longer let the columns stand where longer ones do

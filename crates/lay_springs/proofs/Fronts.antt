@@ -1,17 +1,17 @@
 -- What stands furthest right in each lane.
-use Rattle.std.proofs.{Common.{◌≡◌, ℕ, ◌+◌, ◌*◌, ◌^◌, ◌<◌, ◌≤◌, inl, inr, ℤ, pos, negsuc, ◌+ℤ◌, ◌≤ℤ◌, List, length, Option, None, Some, IfSome, slice_index, slice_index_or, sym, ◌∙◌, arith, refl}, lemmas.{Int.ints, Option.{same_Some, none-some}}}
-use Rattle.lay_springs.{specs.{declared.traits.Reach.Reach, Place.{IsClear, StandApart, IsPlacedTo, IsFront, IsPast, Advances}}, proofs.Clear.below_or_at}
+use Rattle.std.proofs.{Common.{get_or-set_same, get_or-set_other, slice_set, ◌≡◌, ℕ, ◌+◌, ◌*◌, ◌^◌, ◌<◌, ◌≤◌, inl, inr, ℤ, pos, negsuc, ◌+ℤ◌, ◌≤ℤ◌, List, length, Option, None, Some, IfSome, slice_index, slice_index_or, sym, ◌∙◌, arith, refl}, lemmas.{Bool.cases_eq, Int.ints, Option.{same_Some, none-some}}}
+use Rattle.lay_springs.{specs.{declared.traits.{Reach.Reach, Stand.Stand}, Stands.IsLone, Place.{IsClear, StandApart, IsPlacedTo, IsFront, IsPast, Advances}}, proofs.Clear.below_or_at}
 
 abbrev at : List ℤ → ℕ → ℤ
 at x k = slice_index_or x k (pos 0)
 
 pub past_more : (reach : ℕ → Option Reach) (gaps : List ℕ) (lane : ℕ) (front : List ℤ) (old new : ℤ) (s : Reach) → reach lane ≡ Some s
-    → old ≤ℤ new → (at front lane +ℤ pos (slice_index gaps lane + s.left)) ≤ℤ new
+    → old ≤ℤ new → (pos 0 ≤ℤ at front lane → (at front lane +ℤ pos (slice_index gaps lane + s.left)) ≤ℤ new)
     → IsPast reach gaps lane front old → IsPast reach gaps (lane + 1) front new
 past_more reach gaps lane front old new s es l m h k u lt eu =
     below_or_at (λ k. reach k ≡ Some u → pos 0 ≤ℤ at front k → (at front k +ℤ pos (slice_index gaps k + u.left)) ≤ℤ new) k lane lt
     (λ lt eu p. let d = h k u lt eu p in omega (arith, ints))
-    (λ eu p. let b : s ≡ u = same_Some s u (sym es ∙ eu) in rw (← b) m)
+    (λ eu p. let b : s ≡ u = same_Some s u (sym es ∙ eu) in rw (← b) (m p))
     eu
 
 module _ (n : ℕ) (reach : ℕ → ℕ → Option Reach) (gaps : List ℕ) (spring : ℕ → ℕ) (j : ℕ) (x front : List ℤ)
@@ -96,3 +96,12 @@ front_start reach lanes x front h = record {
   stands = λ lane lt some. let e = h lane lt in absurd (omega (arith, ints));
   small = λ lane lt. let e = h lane lt in omega (arith, ints);
 }
+
+-- a column that stands in one lane alone, at v, ends there past what stood in it before
+pub lone_noted : (reach : ℕ → Option Reach) (stand : Stand) (front : List ℤ) (v : ℤ) → IsLone reach stand → length front < 4294967296 → stand.lane < length front
+    → at front stand.lane ≤ℤ v → (lane : ℕ) → lane < length front
+    → Advances (reach lane) v (at front lane) (at (slice_set front stand.lane (v +ℤ pos stand.reach.right)) lane)
+lone_noted reach stand front v lone few inside behind lane l = elim (cases_eq lane stand.lane) [
+  | inl same ↦ rw (same, lone.here, get_or-set_same front stand.lane (v +ℤ pos stand.reach.right) (pos 0) inside) (omega (arith, ints), omega (arith, ints), inr refl)
+  | inr other ↦ rw (lone.alone lane (omega arith) other, get_or-set_other front stand.lane lane (v +ℤ pos stand.reach.right) (pos 0) other) refl
+]

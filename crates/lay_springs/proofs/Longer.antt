@@ -22,7 +22,7 @@ cannot_stand n reach gaps spring width f g some le p h =
     omega (arith, ints)
 
 -- abscissas rise
-rises : (n : ℕ) (reach : ℕ → ℕ → Option Reach) (gaps : List ℕ) (spring : ℕ → ℕ) (y : List ℤ) → StandApart n reach gaps spring y
+pub rises : (n : ℕ) (reach : ℕ → ℕ → Option Reach) (gaps : List ℕ) (spring : ℕ → ℕ) (y : List ℤ) → StandApart n reach gaps spring y
     → (d i : ℕ) → i + d < n → slice_index_or y i (pos 0) ≤ℤ slice_index_or y (i + d) (pos 0)
 rises n reach gaps spring y h zero i l = let e : i + 0 ≡ i = omega arith in rw e (omega (arith, ints))
 rises n reach gaps spring y h (suc d) i l =
@@ -78,7 +78,7 @@ stand_prefix n m reach reach' gaps spring spring' width force some longer same l
       omega (arith, ints);
 }
 
-get_front : {C : Type 0} → (xs ys : List C) (i : ℕ) → i < length xs → slice_get (xs ++ ys) i ≡ slice_get xs i
+pub get_front : {C : Type 0} → (xs ys : List C) (i : ℕ) → i < length xs → slice_get (xs ++ ys) i ≡ slice_get xs i
 get_front [] ys i l = absurd (omega arith)
 get_front (x ∷ xs) ys zero l = refl
 get_front (x ∷ xs) ys (suc i) l = get_front xs ys i (omega arith)

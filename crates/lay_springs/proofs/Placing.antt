@@ -1,6 +1,6 @@
 -- One column more is placed.
-use Rattle.std.proofs.Common.{◌≡◌, ℕ, ◌+◌, ◌*◌, ◌<◌, ◌≢◌, ℤ, pos, ◌+ℤ◌, ◌≤ℤ◌, List, length, Option, None, Some, IfSome, option_and_then, slice_get, slice_index_or, slice_set, sym, ◌∙◌, arith, subst, refl, get_or-set_same, get_or-set_other}
-use Rattle.lay_springs.{specs.{declared.traits.Reach.Reach, Place.{reach_at, length_at, IsClear, IsInside, IsPast, StandApart, IsPlacedTo}}, proofs.Clear.below_or_at}
+use Rattle.std.proofs.Common.{◌≡◌, ℕ, ◌+◌, ◌*◌, ◌<◌, ◌≢◌, ℤ, pos, ◌+ℤ◌, ◌≤ℤ◌, List, length, Option, None, Some, IfSome, option_and_then, slice_get, slice_index_or, slice_set, ap, sym, arith, subst, refl, get_or-set_same, get_or-set_other}
+use Rattle.lay_springs.{specs.{declared.traits.Reach.Reach, Place.{reach_at, length_at, IsClear, IsInside, StandApart, IsPlacedTo}}, proofs.Clear.below_or_at}
 
 -- the abscissa of a column
 abbrev at : List ℤ → ℕ → ℤ
@@ -67,29 +67,12 @@ module _ (n : ℕ) (reach : ℕ → ℕ → Option Reach) (gaps : List ℕ) (spr
       here = get_or-set_same x j v (pos 0) room
 
 -- what is at a column that was read
-pub reach_is : {C : Type 0} (reach : C → ℕ → Option Reach) (cols : List C) (i : ℕ) (c : C) → slice_get cols i ≡ Some c
-    → (lane : ℕ) → reach_at reach cols i lane ≡ reach c lane
-reach_is reach cols i c e lane = rw e refl
+pub reach_is : {C : Type 0} (reach : C → ℕ → Option Reach) (cols : List C) (i : ℕ) (c : C) → slice_get cols i ≡ Some c → reach_at reach cols i ≡ reach c
+reach_is reach cols i c e = ap (λ o lane. option_and_then (λ c. reach c lane) o) e
 
 pub length_is : {C : Type 0} (len : C → ℕ → ℕ) (cols : List C) (force i : ℕ) (c : C) → slice_get cols i ≡ Some c
     → length_at len cols force i ≡ len c force
 length_is len cols force i c e = rw e refl
-
-pub inside_read : {C : Type 0} (reach : C → ℕ → Option Reach) (cols : List C) (lanes i : ℕ) (c : C) (v : ℤ)
-    → slice_get cols i ≡ Some c → IsInside (reach c) lanes v → IsInside (reach_at reach cols i) lanes v
-inside_read reach cols lanes i c v ec h lane s l es = h lane s l (sym (reach_is reach cols i c ec lane) ∙ es)
-
-pub inside_written : {C : Type 0} (reach : C → ℕ → Option Reach) (cols : List C) (lanes i : ℕ) (c : C) (v : ℤ)
-    → slice_get cols i ≡ Some c → IsInside (reach_at reach cols i) lanes v → IsInside (reach c) lanes v
-inside_written reach cols lanes i c v ec h lane s l es = h lane s l (reach_is reach cols i c ec lane ∙ es)
-
-pub past_read : {C : Type 0} (reach : C → ℕ → Option Reach) (cols : List C) (gaps : List ℕ) (lanes i : ℕ) (c : C) (front : List ℤ) (v : ℤ)
-    → slice_get cols i ≡ Some c → IsPast (reach c) gaps lanes front v → IsPast (reach_at reach cols i) gaps lanes front v
-past_read reach cols gaps lanes i c front v ec h lane s l es p = h lane s l (sym (reach_is reach cols i c ec lane) ∙ es) p
-
-pub past_written : {C : Type 0} (reach : C → ℕ → Option Reach) (cols : List C) (gaps : List ℕ) (lanes i : ℕ) (c : C) (front : List ℤ) (v : ℤ)
-    → slice_get cols i ≡ Some c → IsPast (reach_at reach cols i) gaps lanes front v → IsPast (reach c) gaps lanes front v
-past_written reach cols gaps lanes i c front v ec h lane s l es p = h lane s l (reach_is reach cols i c ec lane ∙ es) p
 
 -- what holds of the reaches of each column holds of those of a list
 pub near_at : {C : Type 0} (reach : C → ℕ → Option Reach) (cols : List C) (P : Reach → Type 0) (lane : ℕ)

@@ -1,7 +1,7 @@
 ghost use Rattle.std.specs.Prelude.{◌≡◌, ◌+◌, ◌^◌, ◌<◌, ◌≤◌, ℕ, ℤ, pos, negsuc, ◌+ℤ◌, ◌≤ℤ◌, IfOk, length, slice_index, slice_index_or, slice_set};
 ghost use Rattle.lay_springs.specs.Place.{reach_at, length_at, IsPlace, IsPlacedTo, IsFront, IsPast, Advances, IsInside};
 
-use crate::traits::{Reach, Spaced, Spring};
+use crate::traits::{Reach, Spaced, Spring, Stand};
 use mus_units::{Memory, Row};
 use std::alloc::Global;
 
@@ -14,27 +14,22 @@ pub(crate) fn larger(a: i64, b: i64) -> i64
     if a < b { b } else { a }
 }
 
-/// The least abscissa that isn't below `from` and is past what stands before it in each lane.
-fn past_front<C: Spaced>(col: &C, gaps: &[u32], front: &[i64], from: i64) -> i64
-    requires lanes { length gaps.now < 2 ^ 32 }
-    requires narrow { (lane : ℕ) → lane < length gaps.now → slice_index gaps.now lane ≤ 2 ^ 20 }
-    requires room { length front.now ≡ length gaps.now }
-    requires small { (lane : ℕ) → lane < length gaps.now → slice_index_or front.now lane (pos 0) ≤ℤ pos (2 ^ 61) }
+/// The least abscissa that isn't below `from` and is past `end`, where something ends there, by `room`.
+fn past_end(end: i64, room: u32, from: i64) -> i64
+    requires small { end ≤ℤ pos (2 ^ 61) }
     ensures kept { from ≤ℤ result }
-    ensures clear { IsPast (C.reach_of col.now) gaps.now (length gaps.now) front.now result }
-    ensures least { (v : ℤ) → from ≤ℤ v → IsPast (C.reach_of col.now) gaps.now (length gaps.now) front.now v → result ≤ℤ v }
+    ensures past { pos 0 ≤ℤ end → (end +ℤ pos room) ≤ℤ result }
+    ensures behind { pos 0 ≤ℤ from → end ≤ℤ result }
+    ensures least { (v : ℤ) → from ≤ℤ v → (pos 0 ≤ℤ end → (end +ℤ pos room) ≤ℤ v) → result ≤ℤ v }
 {
-    let Some(stand) = col.lone() else {
-        return past_each(col, gaps, front, from);
-    };
-    let lane = stand.lane as usize;
-    if lane >= gaps.len() || front[lane] < 0 {
-        return from;
+    if end < 0 {
+        from
+    } else {
+        larger(from, end + i64::from(room))
     }
-    larger(from, front[lane] + i64::from(gaps[lane] + stand.reach.left))
 }
 
-/// The same, for a column that may stand in many lanes.
+/// The least abscissa that isn't below `from` and is past what stands before it in each lane.
 fn past_each<C: Spaced>(col: &C, gaps: &[u32], front: &[i64], from: i64) -> i64
     requires lanes { length gaps.now < 2 ^ 32 }
     requires narrow { (lane : ℕ) → lane < length gaps.now → slice_index gaps.now lane ≤ 2 ^ 20 }
@@ -49,37 +44,16 @@ fn past_each<C: Spaced>(col: &C, gaps: &[u32], front: &[i64], from: i64) -> i64
         let Some(s) = col.reach(lane as u32) else {
             continue;
         };
-        let before = front[lane];
-        if before < 0 {
-            continue;
-        }
-        next = larger(next, before + i64::from(gaps[lane] + s.left));
+        next = past_end(front[lane], gaps[lane] + s.left, next);
     }
     next
 }
 
 /// Takes note of a column at `at`.
-fn advance<C: Spaced>(col: &C, at: i64, front: &mut [i64])
-    requires lanes { length front.old < 2 ^ 32 }
-    requires begins { pos 0 ≤ℤ at }
-    requires small { at ≤ℤ pos (2 ^ 60) }
-    ensures { (lane : ℕ) → lane < length front.old
-        → Advances (C.reach_of col.now lane) at (slice_index_or front.old lane (pos 0)) (slice_index_or front.new lane (pos 0)) }
-{
-    let Some(stand) = col.lone() else {
-        return advance_each(col, at, front);
-    };
-    let lane = stand.lane as usize;
-    if lane < front.len() {
-        front[lane] = advanced(Some(stand.reach), at, front[lane]);
-    }
-}
-
-/// The same, for a column that may stand in many lanes.
 fn advance_each<C: Spaced>(col: &C, at: i64, front: &mut [i64])
     requires lanes { length front.old < 2 ^ 32 }
     requires begins { pos 0 ≤ℤ at }
-    requires small { at ≤ℤ pos (2 ^ 60) }
+    requires small { at ≤ℤ pos (2 ^ 62) }
     ensures { (lane : ℕ) → lane < length front.old
         → Advances (C.reach_of col.now lane) at (slice_index_or front.old lane (pos 0)) (slice_index_or front.new lane (pos 0)) }
 {
@@ -91,7 +65,7 @@ fn advance_each<C: Spaced>(col: &C, at: i64, front: &mut [i64])
 /// The front of a lane after a column at `at` that reaches so far in it.
 fn advanced(reach: Option<Reach>, at: i64, front: i64) -> i64
     requires begins { pos 0 ≤ℤ at }
-    requires small { at ≤ℤ pos (2 ^ 60) }
+    requires small { at ≤ℤ pos (2 ^ 62) }
     ensures { Advances reach at front result }
 {
     match reach {
@@ -101,6 +75,35 @@ fn advanced(reach: Option<Reach>, at: i64, front: i64) -> i64
         }
         None => front,
     }
+}
+
+/// Sets a column at the least abscissa that isn't below `from` and is past what stands before it in
+/// each lane, and takes note of it there.
+fn set_past<C: Spaced>(col: &C, gaps: &[u32], from: i64, front: &mut [i64]) -> i64
+    requires lanes { length gaps.now < 2 ^ 32 }
+    requires narrow { (lane : ℕ) → lane < length gaps.now → slice_index gaps.now lane ≤ 2 ^ 20 }
+    requires room { length front.old ≡ length gaps.now }
+    requires small { (lane : ℕ) → lane < length gaps.now → slice_index_or front.old lane (pos 0) ≤ℤ pos (2 ^ 61) }
+    requires begins { pos 0 ≤ℤ from }
+    requires near { from ≤ℤ pos (2 ^ 60) }
+    ensures kept { from ≤ℤ result }
+    ensures clear { IsPast (C.reach_of col.now) gaps.now (length gaps.now) front.old result }
+    ensures least { (v : ℤ) → from ≤ℤ v → IsPast (C.reach_of col.now) gaps.now (length gaps.now) front.old v → result ≤ℤ v }
+    ensures noted { (lane : ℕ) → lane < length front.old
+        → Advances (C.reach_of col.now lane) result (slice_index_or front.old lane (pos 0)) (slice_index_or front.new lane (pos 0)) }
+{
+    let Some(Stand { lane, reach }) = col.lone() else {
+        let at = past_each(col, gaps, front, from);
+        advance_each(col, at, front);
+        return at;
+    };
+    let lane = lane as usize;
+    if lane >= gaps.len() {
+        return from;
+    }
+    let at = past_end(front[lane], gaps[lane] + reach.left, from);
+    front[lane] = at + i64::from(reach.right);
+    at
 }
 
 /// The least abscissa at which a column begins at 0 or past it in each lane.
@@ -177,7 +180,7 @@ fn place_first<C: Spaced + Spring>(
     empty_fronts(front);
     let first = first_of(&cols[0], gaps.len());
     at[0] = first;
-    advance(&cols[0], first, front);
+    advance_each(&cols[0], first, front);
 }
 
 /// Places column j, past 0. Gives the length of the spring before it, if that alone holds it.
@@ -202,11 +205,11 @@ fn place_next<C: Spaced + Spring>(
     ensures placed { IsPlacedTo (length cols.now) (j + 1) (reach_at C.reach_of cols.now) gaps.now (length_at C.length_of cols.now force) at.new }
     ensures fronts { IsFront (j + 1) (reach_at C.reach_of cols.now) (length gaps.now) at.new front.new }
 {
-    let next = next_of(cols, gaps, force, at, front, j);
-    let tight = tight(at[j - 1], cols[j - 1].length(force), next);
+    let before = at[j - 1];
+    let spring = cols[j - 1].length(force);
+    let next = set_past(&cols[j], gaps, after(before, spring), front);
     at[j] = next;
-    advance(&cols[j], next, front);
-    tight
+    tight(before, spring, next)
 }
 
 /// The length of a spring that leads from `before`, if it ends at the next column.
@@ -218,33 +221,6 @@ fn tight(before: i64, spring: u32, next: i64) -> u64
     } else {
         0
     }
-}
-
-/// The least abscissa of column j.
-fn next_of<C: Spaced + Spring>(
-    cols: &[C],
-    gaps: &[u32],
-    force: u16,
-    at: &[i64],
-    front: &[i64],
-    j: usize,
-) -> i64
-    requires few { length cols.now ≤ 2 ^ 26 }
-    requires lanes { length gaps.now < 2 ^ 32 }
-    requires narrow { (lane : ℕ) → lane < length gaps.now → slice_index gaps.now lane ≤ 2 ^ 20 }
-    requires room { length at.now ≡ length cols.now }
-    requires one_each { length front.now ≡ length gaps.now }
-    requires past { 0 < j }
-    requires inside { j < length cols.now }
-    requires placed { IsPlacedTo (length cols.now) j (reach_at C.reach_of cols.now) gaps.now (length_at C.length_of cols.now force) at.now }
-    requires fronts { IsFront j (reach_at C.reach_of cols.now) (length gaps.now) at.now front.now }
-    ensures placed { IsPlacedTo (length cols.now) (j + 1) (reach_at C.reach_of cols.now) gaps.now (length_at C.length_of cols.now force)
-        (slice_set at.now j result) }
-    ensures begins { pos 0 ≤ℤ result }
-    ensures small { result ≤ℤ pos (2 ^ 60) }
-{
-    let from = after(at[j - 1], cols[j - 1].length(force));
-    past_front(&cols[j], gaps, front, from)
 }
 
 /// No column stands in any lane.

@@ -1,11 +1,11 @@
 -- The columns of each measure are what spans of measures are tried with, and those of the systems.
-use Rattle.std.{proofs.{Common.{◌≡◌, ◌∙◌, ℕ, suc, ◌+◌, ◌-◌, ◌<◌, ◌≤◌, ◌==◌, false, List, [], ◌∷◌, ◌++◌, length, length-append, take, drop, flat_map, get_or, refl, sym, ap, subst, arith}, lemmas.{Bool.Decides.nat_tests, List.{get_or-drop, get_or-take, length-map, length-drop, length-take-le}}}, specs.List.All}
+use Rattle.std.{proofs.{Math.Seq.get_or-append_seam, Common.{◌≡◌, ◌∙◌, ℕ, suc, ◌+◌, ◌-◌, ◌<◌, ◌≤◌, ◌==◌, false, List, [], ◌∷◌, ◌++◌, length, length-append, take, drop, flat_map, get_or, refl, sym, ap, subst, arith}, lemmas.{Bool.Decides.nat_tests, List.{get_or-drop, get_or-take, length-map, length-drop, length-take-le}}}, specs.List.All}
 use Rattle.mus_score.specs.{declared.score.Score.Score, GoodScore.IsGoodScore}
 use Rattle.mus_time.specs.{declared.times.Timeline.Timeline, Onsets.timeline_of}
 use Rattle.lay_columns.specs.{declared.column.Column.Column, Columns.StandsWhereDue, Columns.column_reach, Lanes.gaps_of, Reaches.stands_always}
 use Rattle.mus_marks.specs.{Staff.verses_on, System.drawn_staves}
 use Rattle.lay_measures.{specs.{Measures.AreMeasureColumns, Measures.EndWithBar, Law.AreColumnsFrom, Law.MeasuresJoin}, proofs.Facts.{measure_bar, measure_stands}}
-use Rattle.lay_spans.{specs.Columns.EndsInAll, specs.Columns.measures_from, proofs.Adding.ends_so, proofs.Growing.at_end, proofs.Growing.each_more}
+use Rattle.lay_spans.{specs.Columns.EndsInAll, specs.Columns.measures_from, proofs.Adding.ends_so, proofs.Growing.each_more}
 use Rattle.lay_tune.specs.{Measures.EachMeasure, Measures.IsMeasure, Spans.AreColumnsOf, Spans.system_columns, Spans.verses_of}
 
 -- columns that end with a bar end in each lane
@@ -15,7 +15,7 @@ bar_ends verses columns h stands =
     let all = subst (λ cs. All (StandsWhereDue verses) cs) h.parts stands in
     let n = length-append h.front (h.last ∷ []) in
     let due : StandsWhereDue verses h.last =
-    subst (StandsWhereDue verses) (at_end h.front h.last h.last) (all (length h.front) h.last (omega arith)) in
+    subst (StandsWhereDue verses) (get_or-append_seam h.front h.last [] h.last) (all (length h.front) h.last (omega arith)) in
     let one : EndsInAll column_reach (length (gaps_of verses)) (h.last ∷ []) =
     record { some = omega arith; last = due (ap stands_always h.bar) } in
     subst (λ cs. EndsInAll column_reach (length (gaps_of verses)) cs) (sym h.parts)

@@ -4,7 +4,7 @@ use Rattle.mus_score.specs.declared.score.Score.{Score}
 use Rattle.mus_time.specs.{declared.keys.ColumnKey.ColumnKey, Keys.called_keys, Onsets.timeline_of}
 use Rattle.mus_laid.specs.{declared.laid.StaffMarks.StaffMarks, declared.laid.SystemMarks.SystemMarks}
 use Rattle.mus_marks.{specs.Tilt.AreAbscissas, proofs.OneList.same_keys}
-use Rattle.lay_springs.{specs.{declared.{traits.Reach.Reach, margin.Placed.Placed}, Fit.{Fits, IsSet, counted, is_ragged}, Place.{IsPlace, StandApart, length_at, reach_at}}, proofs.Ends.{apart_down, length_rises as lengths_rise}}
+use Rattle.lay_springs.{specs.{declared.{traits.Reach.Reach, margin.Placed.Placed}, Fit.{Fits, IsSet, counted, is_ragged}, Place.{IsPlace, StandApart, length_at, reach_at}}, proofs.{Ends.{apart_down, length_rises as lengths_rise}, Longer.rises}}
 use Rattle.lay_columns.{specs.declared.column.Column.Column, specs.Column.length_rises, specs.Columns.column_reach, specs.Columns.columns_of, proofs.Facts.columns_keys}
 use Rattle.lay_spans.{specs.Columns.span_columns, proofs.Fitting.seen_as}
 use Rattle.lay_tune.{specs.{Spans.{AreColumnsOf, IsForceOf, IsSystem, column_length, score_gaps, system_columns, verses_of}, Systems.{CanBeSet, HaveForce, IsJustified, IsPlaced, StandWithin, x_at}}, proofs.Called.has_system}
@@ -15,20 +15,11 @@ pub record EndsWithin (n : ℕ) (reach : ℕ → ℕ → Option Reach) (gaps : L
   pub reaches : (lane : ℕ) (r : Reach) → lane < length gaps → reach (n - 1) lane ≡ Some r → (x_at at (n - 1) +ℤ pos r.right) ≤ℤ pos width
 
 -- ---- abscissas rise
-rise_by : (n : ℕ) (reach : ℕ → ℕ → Option Reach) (gaps : List ℕ) (spring : ℕ → ℕ) (at : List ℤ) → StandApart n reach gaps spring at
-    → (d i : ℕ) → i + d < n → x_at at i ≤ℤ x_at at (i + d)
-rise_by n reach gaps spring at h zero i l = let e : i + 0 ≡ i = omega arith in rw e (omega (arith, ints))
-rise_by n reach gaps spring at h (suc d) i l =
-    let ih = rise_by n reach gaps spring at h d i (omega arith) in
-    let s = h.steps (i + d) (omega arith) in
-    let e : i + suc d ≡ i + d + 1 = omega arith in
-    rw e (omega (arith, ints))
-
 pub rise_to : (n : ℕ) (reach : ℕ → ℕ → Option Reach) (gaps : List ℕ) (spring : ℕ → ℕ) (at : List ℤ) → StandApart n reach gaps spring at
     → (i k : ℕ) → i ≤ k → k < n → x_at at i ≤ℤ x_at at k
 rise_to n reach gaps spring at h i k l m =
     let e : i + (k - i) ≡ k = omega arith in
-    rw e at (rise_by n reach gaps spring at h (k - i) i (omega arith))
+    rw e at (rises n reach gaps spring at h (k - i) i (omega arith))
 
 pub stand_low : (n : ℕ) (reach : ℕ → ℕ → Option Reach) (gaps : List ℕ) (spring : ℕ → ℕ) (at : List ℤ) → StandApart n reach gaps spring at
     → (k : ℕ) → k < n → pos 0 ≤ℤ x_at at k

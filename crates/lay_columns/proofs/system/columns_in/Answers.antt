@@ -11,7 +11,7 @@ returns-clause-value c =
     let bare = c.deref_mut.ensures.value ∙ c.columns.view_is ∙ c.in_ok-columns.ensures in
     let lanes = ap (λ n. bare_columns keys lengths n) c.in_ok-lanes_of.ensures in
     let now : c.widen_by_staves.new.columns ≡ columns_of keys staves lengths verses =
-    c.widen_by_staves.ensures ∙ ap (λ t. widened_by_staves t 0 staves verses) (bare ∙ lanes) ∙ columns_are lengths keys staves verses c.requires.counts in
+    c.in_ok-widen_by_staves.ensures ∙ ap (λ t. widened_by_staves t 0 staves verses) (bare ∙ lanes) ∙ columns_are lengths keys staves verses c.requires.counts in
     let old = ap length bare in
     let many = bare_long lengths c.in_ok-lanes_of.field-0 keys in
     let new = ap length now in

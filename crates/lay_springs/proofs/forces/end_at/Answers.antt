@@ -1,5 +1,5 @@
-use Rattle.std.proofs.{Common.{◌≡◌, ◌-◌, pos, ◌≤ℤ◌, length, Some, slice_get, slice_index_or, arith, refl, to_z, of_z, w64}, lemmas.{Int.{ints, to_z-of_z}, Option.slice_get_read}}
-use Rattle.lay_springs.{specs.Fit.IsEndOf, proofs.{Ends.end_read, forces.end_at.Goals.After-end_of-end}}
+use Rattle.std.proofs.{Common.{◌≡◌, ◌-◌, pos, ◌≤ℤ◌, length, Some, subst, sym, slice_get, slice_index_or, arith, refl, to_z, of_z, w64}, lemmas.{Int.{ints, to_z-of_z}, Option.slice_get_read}}
+use Rattle.lay_springs.{specs.Fit.IsEndOf, proofs.{Placing.reach_is, forces.end_at.Goals.After-end_of-end}}
 use Rattle.lay_springs.proofs.forces.end_at.Goals as goal
 
 low : (g : _) (c : After-end_of-end g) → pos 0 ≤ℤ slice_index_or c.settle-tight.new.at (length c.args.cols.now - 1) (pos 0)
@@ -27,8 +27,8 @@ returns-clause-end g c =
     rw (wrapped g s) (record {
       x = c.settle-tight.new.at;
       place = c.settle-tight.ensures.place;
-      end = end_read g.C.Spaced.reach_of c.args.cols.now (length c.args.gaps.now) (length c.args.cols.now - 1) c.index-cols-last.result
-          (slice_index_or c.settle-tight.new.at (length c.args.cols.now - 1) (pos 0)) c.end_of-end.result col (end g s);
+      end = subst (λ r. IsEndOf r (length c.args.gaps.now) (slice_index_or c.settle-tight.new.at (length c.args.cols.now - 1) (pos 0)) c.end_of-end.result)
+          (sym (reach_is g.C.Spaced.reach_of c.args.cols.now (length c.args.cols.now - 1) c.index-cols-last.result col)) (end g s);
     })
 
 pub returns-clause-past : goal.returns-clause-past

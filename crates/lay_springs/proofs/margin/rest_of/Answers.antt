@@ -1,5 +1,5 @@
-use Rattle.std.proofs.{Common.{◌≡◌, ◌-◌, ℤ, pos, length, Some, slice_get, slice_index_or, arith, refl, to_z, of_z, w64}, lemmas.{Int.ints, Option.slice_get_read}}
-use Rattle.lay_springs.{specs.{Place.reach_at, Fit.IsEndOf}, proofs.{Ends.end_read, margin.rest_of.Goals.After-end_of}}
+use Rattle.std.proofs.{Common.{◌≡◌, ◌-◌, ℤ, pos, length, Some, subst, sym, slice_get, slice_index_or, arith, refl, to_z, of_z, w64}, lemmas.{Int.ints, Option.slice_get_read}}
+use Rattle.lay_springs.{specs.{Place.reach_at, Fit.IsEndOf}, proofs.{Placing.reach_is, margin.rest_of.Goals.After-end_of}}
 use Rattle.lay_springs.proofs.margin.rest_of.Goals as goal
 
 ends : (g : _) (c : After-end_of g) → IsEndOf (reach_at g.C.Spaced.reach_of c.args.cols.now (length c.args.cols.now - 1)) (length c.args.gaps.now)
@@ -9,7 +9,7 @@ ends g c =
     let same : to_z w64 (of_z w64 at) ≡ at = omega (arith, ints) in
     let col : slice_get c.args.cols.now (length c.args.cols.now - 1) ≡ Some c.index-cols-last.result =
     slice_get_read c.args.cols.now (length c.args.cols.now) (length c.args.cols.now - 1) c.index-cols-last.result refl (let s = c.requires.some in omega arith) c.index-cols-last.is in
-    end_read g.C.Spaced.reach_of c.args.cols.now (length c.args.gaps.now) (length c.args.cols.now - 1) c.index-cols-last.result at c.end_of.result col
+    subst (λ r. IsEndOf r (length c.args.gaps.now) at c.end_of.result) (sym (reach_is g.C.Spaced.reach_of c.args.cols.now (length c.args.cols.now - 1) c.index-cols-last.result col))
     (rw same at c.end_of.ensures)
 
 pub overflow_cast-result : goal.overflow_cast-result

@@ -55,9 +55,7 @@ pub returns-clause-least : goal.returns-clause-least
 returns-clause-least g c =
     least_read c.args.s.now c.args.width c.in_ok-spans.spans.list c.as_slice-forced.result.now c.in-Ok.breaking.breaks c.in-Ok.breaking.total
     c.as_slice-forced.ensures
-    (spans_read c.args.s.now c.args.width c.args.starts.now c.args.others.now c.in_ok-spans.spans.list c.as_slice.result.now c.as_slice-forced.result.now
-    c.requires.count (c.as_slice.ensures ∙ c.in_ok-gaps.ensures.value ∙ ap gaps_of c.requires.verses) c.as_slice-forced.ensures
-    c.requires.columns c.in_ok-spans.ensures.exact)
+    (returns-clause-spans g c)
     c.in-Ok.ensures.chosen c.in-Ok.ensures.total
 
 pub returns-clause-potentials : goal.returns-clause-potentials

@@ -1,0 +1,165 @@
+ghost use Rattle.std.specs.Prelude.{◌≡◌, ◌<◌, IfOk, IfSome, None, OnOk, Option, Some, length, replicate, slice_index_or, slice_set};
+ghost use Rattle.std.proofs.Props.{props};
+ghost use Rattle.lay_columns.specs.{Column.reach_in, Reaches.standing};
+ghost use Rattle.lay_springs.specs.Stands.{IsLone};
+
+use crate::column::cut_reach;
+use lay_springs::{Reach, Stand};
+use mus_units::{Memory, Row};
+use std::alloc::Global;
+use std::marker::Model;
+
+/// So many lanes, and the reach in one of them, if it stands there; it stands in no other.
+#[derive(Clone, Copy)]
+struct Single {
+    lanes: usize,
+    lane: usize,
+    reach: Option<Reach>,
+    ghost inside: { IfSome reach (λ r. lane < lanes) } by { Prim.hlevel props },
+}
+
+/// Where a column stands: in a single lane or none, or as a row has it.
+#[derive(Drop)]
+enum Held {
+    Single(Single),
+    Row(Row<Option<Reach>>),
+}
+
+/// The reach of a column in each lane, None where it doesn't stand in it, which contracts see as a
+/// list. A column that stands in one lane at most takes no memory.
+#[derive(Drop)]
+pub struct Reaches {
+    held: Held,
+}
+
+impl Model for Reaches {
+    ghost use Rattle.std.specs.Prelude.{List, Option};
+    ghost use Rattle.lay_springs.specs.declared.traits.Reach.{Reach};
+
+    ghost Value = { List (Option Reach) };
+
+    ghost use Rattle.lay_columns.specs.Stands.{all_held};
+
+    ghost view = { λ r. all_held r.held };
+}
+
+impl Reaches {
+    /// The reaches in some lanes before any mark: 0 to both sides in each, or none.
+    pub(crate) fn bare(alloc: Global, always: bool, lanes: usize) -> Result<Reaches, Memory>
+        ensures { IfOk result (λ r. r ≡ replicate lanes (standing always None)) }
+    {
+        if !always {
+            let single = Single {
+                lanes,
+                lane: 0,
+                reach: None,
+            };
+            return Ok(Reaches {
+                held: Held::Single(single),
+            });
+        }
+        let here = Reach { left: 0, right: 0 };
+        let items = vec![in alloc; Some(here); lanes]?;
+        Ok(Reaches::from(Row { items }))
+    }
+
+    /// How many lanes there are.
+    pub fn len(&self) -> usize
+        ensures { result ≡ length self.now }
+    {
+        match &self.held {
+            Held::Single(single) => single.lanes,
+            Held::Row(row) => row.len(),
+        }
+    }
+
+    /// The reach in a lane; None past the last.
+    #[tactic(auto, using(crate::proofs::Lone::row_at))]
+    pub fn at(&self, lane: usize) -> Option<Reach>
+        ensures { result ≡ slice_index_or self.now lane None }
+    {
+        match &self.held {
+            Held::Single(single) if single.lane == lane => single.reach,
+            Held::Single(_) => None,
+            Held::Row(row) => match row.get(lane) {
+                Some(reach) => *reach,
+                None => None,
+            },
+        }
+    }
+
+    /// The one lane in which the column stands, where it is known to stand in one alone, with the
+    /// reach there, counted to at most 2^20.
+    pub(crate) fn lone(&self) -> Option<Stand>
+        ensures { IfSome result (IsLone (reach_in self.now)) }
+    {
+        match &self.held {
+            Held::Single(single) => Some(Stand {
+                lane: u32::try_from(single.lane).ok()?,
+                reach: cut_reach(single.reach?),
+            }),
+            Held::Row(_) => None,
+        }
+    }
+
+    /// Puts the reach in a lane.
+    pub(crate) fn put(&mut self, alloc: Global, lane: usize, reach: Reach) -> Result<(), Memory>
+        requires { lane < length self.old }
+        ensures { OnOk result (self.new ≡ slice_set self.old lane (Some reach)) }
+    {
+        match &mut self.held {
+            Held::Row(row) => row.items[lane] = Some(reach),
+            Held::Single(single) => {
+                let reaches = with_reach(alloc, *single, lane, reach)?;
+                *self = reaches;
+            }
+        }
+        Ok(())
+    }
+
+    /// The same reaches.
+    pub fn copy(&self, alloc: Global) -> Result<Reaches, Memory>
+        ensures { IfOk result (λ it. it ≡ self.now) }
+    {
+        let held = match &self.held {
+            Held::Single(single) => Held::Single(*single),
+            Held::Row(row) => Held::Row(row.copy(alloc)?),
+        };
+        Ok(Reaches { held })
+    }
+}
+
+/// A reach more, in a lane: in place where there was none or one of the same lane, else as a row.
+fn with_reach(alloc: Global, single: Single, lane: usize, reach: Reach) -> Result<Reaches, Memory>
+    requires { lane < single.lanes }
+    ensures { IfOk result (λ r. r ≡ slice_set (slice_set (replicate single.lanes None) single.lane single.reach) lane (Some reach)) }
+{
+    match single.reach {
+        Some(other) if single.lane != lane => {
+            let mut items = vec![in alloc; None; single.lanes]?;
+            items[single.lane] = Some(other);
+            items[lane] = Some(reach);
+            Ok(Reaches::from(Row { items }))
+        }
+        _ => {
+            let single = Single {
+                lanes: single.lanes,
+                lane,
+                reach: Some(reach),
+            };
+            Ok(Reaches {
+                held: Held::Single(single),
+            })
+        }
+    }
+}
+
+impl From<Row<Option<Reach>>> for Reaches {
+    ghost from_gives = { λ row reaches. reaches ≡ row };
+
+    fn from(row: Row<Option<Reach>>) -> Reaches {
+        Reaches {
+            held: Held::Row(row),
+        }
+    }
+}
