@@ -2,6 +2,7 @@
 #![tactic(auto)]
 
 mod books;
+mod dropping;
 mod hearing;
 mod inspecting;
 mod judging;

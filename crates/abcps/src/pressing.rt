@@ -6,6 +6,7 @@ ghost use Rattle.set_book.specs.declared.outcome.Outcome.{Outcome};
 ghost use Rattle.set_pages.specs.{declared.plan.Plan.Plan, Drawings.all_blocks, Press.{HasRoom, IsOpen, done_pages}, Sheet.{IsSetUnder, frame_of}};
 ghost use Rattle.abcps.specs.{Outcome.{IsEnd, observed}, Pressed.{IsBegun, IsClosed, IsRunning, IsUnderWay, WasGiven, status_if}};
 
+use crate::dropping::give_up;
 use crate::status::Status;
 use abc_header::Paper;
 use eng_halves::Jobs;
@@ -124,6 +125,7 @@ pub(crate) fn write_done<R: Threads + Sync, O: Sink>(
     let mut press = run.press;
     let done = take_done(alloc, &mut press);
     let writer = write_pages(rt, alloc, done.as_slice(), jobs, run.writer, output)?;
+    give_up(rt, done, jobs.count);
     Ok(Running {
         press,
         told: run.told,

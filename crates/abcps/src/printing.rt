@@ -6,6 +6,7 @@ ghost use Rattle.set_book.specs.{declared.outcome.Outcome.Outcome, Outcomes.AreO
 ghost use Rattle.set_pages.specs.{Drawings.all_blocks, Press.{HasRoom, IsOpen}};
 ghost use Rattle.abcps.specs.{Pressed.{AreGathered, ArePrinted, AreTaken, IsPlanned, IsPrinted}, Outcome.observed};
 
+use crate::dropping::give_up;
 use crate::pressing::{Printed, Running, begin_run, end_run, take, write_done};
 use crate::status::Status;
 use abc_header::{Defaults, Paper, read_defaults, read_paper};
@@ -44,7 +45,9 @@ fn take_batch<R: Threads + Sync, G: Gate + Sync>(
     ensures open { OnOk result (IsOpen run.new.press) }
 {
     let outcomes = set_tunes(rt, alloc, batch, defaults, paper, how, how.jobs, gate)?;
-    take(alloc, paper, plan, outcomes.as_slice(), run)
+    let taken = take(alloc, paper, plan, outcomes.as_slice(), run);
+    give_up(rt, outcomes, how.jobs.count);
+    taken
 }
 
 /// Sets a batch of tunes, and keeps their blocks alone.
@@ -66,6 +69,7 @@ fn gather_batch<R: Threads + Sync, G: Gate + Sync>(
 {
     let outcomes = set_tunes(rt, alloc, batch, defaults, paper, how, how.jobs, gate)?;
     gather_blocks(alloc, outcomes.as_slice(), blocks)?;
+    give_up(rt, outcomes, how.jobs.count);
     Ok(())
 }
 

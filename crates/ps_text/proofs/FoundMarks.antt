@@ -1,5 +1,5 @@
 -- A mark is found again from its numbers and its name.
-use Rattle.std.{proofs.{Common.{Result, Ok, Err, IfOk, cond, int_div, ◌<◌, ◌≤◌, ◌^◌, suc, ◌≡◌, refl, sym, ◌∙◌, subst, ℕ, ℤ, pos, negsuc, ◌+ℤ◌, ◌-ℤ◌, ◌≤ℤ◌, Bool, true, false, not, ◌&&◌, List, [], ◌∷◌, ◌++◌, append_assoc, length, codes, Option, Some, None, IsTrue, arith}, lemmas.{Int.ints, Fmt.decimal_is_IsNumeral, Bool.{not-true, and_parts}}}, specs.{Fmt.{decimal, signed_decimal}, Str.{Parse.AllDigits, bytes_eq}, Int.RustNames.FitsSigned, List.{list_all, AllByRecursion, flat_map}}}
+use Rattle.std.{proofs.{Common.{Result, Ok, Err, IfOk, cond, int_div, ◌<◌, ◌≤◌, ◌^◌, suc, ◌≡◌, refl, sym, ◌∙◌, subst, ℕ, ℤ, pos, negsuc, ◌+ℤ◌, ◌-ℤ◌, ◌≤ℤ◌, Bool, true, false, not, ◌&&◌, List, [], ◌∷◌, ◌++◌, append_assoc, length, codes, Option, Some, None, IsTrue, arith, lit≤}, lemmas.{Int.ints, Fmt.decimal_is_IsNumeral, Bool.{not-true, and_parts}}}, specs.{Fmt.{decimal, signed_decimal}, Str.{Parse.AllDigits, bytes_eq}, Int.RustNames.FitsSigned, List.{list_all, AllByRecursion, flat_map}}}
 use lib.Signed.{mag}
 use mir.Syntax.{w64}
 use Rattle.ps_text.{specs.{Fields.{shown, in_parentheses}, declared.marks.PageMark.PageMark, Names.{size_name, way_name}, Range.{IsNumber, IsOffset, IsPageMark, is_shown}, Line.{mark_line, glyph_line, stem_line, beam_line, arc_line, words_line, points, ends_of, quarter}, Scanning.is_field, Reading.{is_small, glyph_named, glyph_at, glyph_from, words_at, words_from, stem_at, stem_from, offset_from, beam_from, arc_from, mark_from}}, proofs.Taken.numbers_cons}
@@ -81,8 +81,7 @@ beam_back way y x1 x2 from to p q r s a b = rw (offset_back y from a, offset_bac
 pub beam_found : (way : Way) (y x1 x2 from to p q r s : ℤ) → IsOffset from → IsOffset to → mark_from y (p ∷ q ∷ r ∷ s ∷ x2 ∷ (y +ℤ to) ∷ x1 ∷ (y +ℤ from) ∷ []) (way_name way) ≡ Some (PageMark.Beam way x1 x2 from to)
 unfolding mark_from
 beam_found Way.Up y x1 x2 from to p q r s a b = beam_back Way.Up y x1 x2 from to p q r s a b
-beam_found Way.Down y x1 x2 from to p q r s a b = beam_back Way.Down y x1 x2 from to p q r s a b
-beam_found Way.Grace y x1 x2 from to p q r s a b = beam_back Way.Grace y x1 x2 from to p q r s a b
+beam_found way y x1 x2 from to p q r s a b = beam_back way y x1 x2 from to p q r s a b
 
 pub arc_found : (y x1 x2 from to bulge p q s : ℤ) → IsOffset from → IsOffset to → IsOffset bulge
     → mark_from y (p ∷ ((y +ℤ from) +ℤ bulge) ∷ q ∷ s ∷ x2 ∷ (y +ℤ to) ∷ x1 ∷ (y +ℤ from) ∷ []) (codes "ac") ≡ Some (PageMark.Arc x1 x2 from to bulge)
@@ -109,8 +108,9 @@ number_open : (z : ℤ) (t rest : List ℕ) → IsNumber z → signed_decimal z 
 number_open (pos n) t rest h e = natural_open n (decimal n) t rest (omega (arith, ints, h.high)) refl e
 number_open (negsuc n) t rest h e = minus_open (decimal (suc n)) t rest e
 
-numbers_open : (z : ℤ) (zs : List ℤ) (name rest : List ℕ) → IsNumber z → numbers (z ∷ zs) ++ name ≡ 40 ∷ rest → ⊥
-numbers_open z zs name rest h e = number_open z (32 ∷ (numbers zs ++ name)) rest h (sym (numbers_cons z zs name) ∙ e)
+numbers_open : (zs : List ℤ) (name rest : List ℕ) → 1 ≤ length zs → AllByRecursion IsNumber zs → numbers zs ++ name ≡ 40 ∷ rest → ⊥
+numbers_open [] name rest some all e = absurd (omega arith)
+numbers_open (z ∷ zs) name rest some all e = number_open z (32 ∷ (numbers zs ++ name)) rest all.0 (sym (numbers_cons z zs name) ∙ e)
 
 -- the numbers and the name of a mark that has no words
 abbrev mark_numbers : ℤ → PageMark → List ℤ
@@ -119,6 +119,10 @@ mark_numbers y (PageMark.Words size x dx dy words) = dx ∷ dy ∷ x ∷ y ∷ [
 mark_numbers y (PageMark.Stem x dx from to) = dx ∷ to ∷ dx ∷ from ∷ x ∷ y ∷ []
 mark_numbers y (PageMark.Beam way x1 x2 from to) = x1 ∷ ((y +ℤ from) +ℤ pos 250) ∷ x2 ∷ ((y +ℤ to) +ℤ pos 250) ∷ x2 ∷ (y +ℤ to) ∷ x1 ∷ (y +ℤ from) ∷ []
 mark_numbers y (PageMark.Arc x1 x2 from to bulge) = (x1 +ℤ quarter x1 x2) ∷ ((y +ℤ from) +ℤ bulge) ∷ (x2 -ℤ quarter x1 x2) ∷ ((y +ℤ to) +ℤ bulge) ∷ x2 ∷ (y +ℤ to) ∷ x1 ∷ (y +ℤ from) ∷ []
+
+some_numbers : (y : ℤ) (m : PageMark) → 1 ≤ length (mark_numbers y m)
+some_numbers y (PageMark.Glyph glyph x dx dy) = lit≤ tt
+some_numbers y _ = lit≤ tt
 
 abbrev mark_name : PageMark → List ℕ
 mark_name (PageMark.Glyph glyph x dx dy) = glyph_name glyph
@@ -187,13 +191,7 @@ is_wordless y (PageMark.Words size x dx dy words) first rest other e = other (cc
 is_wordless y _ first rest other e = tt
 
 wordless_open : (y : ℤ) (m : PageMark) (rest : List ℕ) → IsWordless m → IsPageMark y m → mark_line y m ≡ 40 ∷ rest → ⊥
-wordless_open y (PageMark.Glyph glyph x dx dy) rest w h e = numbers_open dx (dy ∷ x ∷ y ∷ []) (glyph_name glyph) rest (offset_number dx h.across) (sym (wordless_line y (PageMark.Glyph glyph x dx dy) w) ∙ e)
-wordless_open y (PageMark.Words size x dx dy words) rest w h e = w
-wordless_open y (PageMark.Stem x dx from to) rest w h e = numbers_open dx (to ∷ dx ∷ from ∷ x ∷ y ∷ []) (codes "st") rest (offset_number dx h.start.across) (sym (wordless_line y (PageMark.Stem x dx from to) w) ∙ e)
-wordless_open y (PageMark.Beam way x1 x2 from to) rest w h e =
-    (let all = wordless_numbers y (PageMark.Beam way x1 x2 from to) h in numbers_open x1 _ (way_name way) rest all.0 (sym (wordless_line y (PageMark.Beam way x1 x2 from to) w) ∙ e))
-wordless_open y (PageMark.Arc x1 x2 from to bulge) rest w h e =
-    (let all = wordless_numbers y (PageMark.Arc x1 x2 from to bulge) h in numbers_open (x1 +ℤ quarter x1 x2) _ (codes "ac") rest all.0 (sym (wordless_line y (PageMark.Arc x1 x2 from to bulge) w) ∙ e))
+wordless_open y m rest w h e = numbers_open (mark_numbers y m) (mark_name m) rest (some_numbers y m) (wordless_numbers y m h) (sym (wordless_line y m w) ∙ e)
 
 -- what is found behind an opening parenthesis
 pub found_words : (y : ℤ) (line rest : List ℕ) (o : Option PageMark) → line ≡ 40 ∷ rest
@@ -219,16 +217,14 @@ not_empty : (xs ys : List ℕ) (b : ℕ) → xs ++ b ∷ ys ≡ [] → ⊥
 not_empty [] ys b e = cc
 not_empty (x ∷ xs) ys b e = cc
 
-numbers_some : (z : ℤ) (zs : List ℤ) (name : List ℕ) → numbers (z ∷ zs) ++ name ≡ [] → ⊥
-numbers_some z zs name e = not_empty (signed_decimal z) (numbers zs ++ name) 32 (sym (numbers_cons z zs name) ∙ e)
+numbers_some : (zs : List ℤ) (name : List ℕ) → 1 ≤ length zs → numbers zs ++ name ≡ [] → ⊥
+numbers_some [] name some e = absurd (omega arith)
+numbers_some (z ∷ zs) name some e = not_empty (signed_decimal z) (numbers zs ++ name) 32 (sym (numbers_cons z zs name) ∙ e)
 
 pub line_some : (y : ℤ) (m : PageMark) → mark_line y m ≡ [] → ⊥
 unfolding words_line in_parentheses
 line_some y (PageMark.Words size x dx dy words) e = cc
-line_some y (PageMark.Glyph glyph x dx dy) e = numbers_some dx (dy ∷ x ∷ y ∷ []) (glyph_name glyph) (sym (wordless_line y (PageMark.Glyph glyph x dx dy) tt) ∙ e)
-line_some y (PageMark.Stem x dx from to) e = numbers_some dx (to ∷ dx ∷ from ∷ x ∷ y ∷ []) (codes "st") (sym (wordless_line y (PageMark.Stem x dx from to) tt) ∙ e)
-line_some y (PageMark.Beam way x1 x2 from to) e = numbers_some x1 _ (way_name way) (sym (wordless_line y (PageMark.Beam way x1 x2 from to) tt) ∙ e)
-line_some y (PageMark.Arc x1 x2 from to bulge) e = numbers_some (x1 +ℤ quarter x1 x2) _ (codes "ac") (sym (wordless_line y (PageMark.Arc x1 x2 from to bulge) tt) ∙ e)
+line_some y m e = numbers_some (mark_numbers y m) (mark_name m) (some_numbers y m) (sym (wordless_line y m tt) ∙ e)
 
 -- what follows from a fact of an answer
 pub if_ok : {T E : Type 0} (r : Result T E) (P Q : T → Type 0) → ((x : T) → P x → Q x) → IfOk r P → IfOk r Q

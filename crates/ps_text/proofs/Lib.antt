@@ -1,3 +1,4 @@
+pub mod Letters
 pub mod Numbers
 pub mod Ranges
 pub mod Shown

@@ -21,20 +21,21 @@ fn write_number(line: &mut [u8], end: usize, z: i64) -> usize
     start - 1
 }
 
-/// Adds up to 12 numbers in decimal, a space behind each, and a name. The numbers are put together
-/// from the last on, and added at once.
+/// Adds up to 12 numbers in decimal, a space behind each, and a name of two letters. They are put
+/// together from the last on, and added at once.
 #[tactic(auto, unfolding(glyph_paths::specs::Procedure::numbers))]
 pub(crate) fn put_line(out: &mut Text, zs: &[i64], name: &[u8]) -> Result<(), Memory>
-    requires { length zs.now ≤ 12 }
+    requires few { length zs.now ≤ 12 }
+    requires letters { length name.now ≡ 2 }
     ensures { OnOk result (out.new ≡ out.old ++ numbers zs.now ++ name.now) }
 {
-    let mut line = [0; 252];
-    let mut start = line.len();
+    let mut line = [0; 254];
+    line[252..].copy_from_slice(name);
+    let mut start = 252;
     'places: for place in (0..zs.len()).rev() {
         start = write_number(&mut line, start, zs[place]);
     }
-    out.append(&line[start..])?;
-    out.append(name)
+    out.append(&line[start..])
 }
 
 /// Adds a byte of words.

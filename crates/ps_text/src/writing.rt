@@ -1,4 +1,4 @@
-ghost use Rattle.std.specs.Prelude.{◌≡◌, ◌++◌, ◌↔◌, ◌≤ℤ◌, ◌+ℤ◌, ◌-ℤ◌, pos, IfOk, OnOk, IsTrue, MatchOption};
+ghost use Rattle.std.specs.Prelude.{◌≡◌, ◌++◌, ◌↔◌, ◌≤ℤ◌, ◌+ℤ◌, ◌-ℤ◌, pos, IfOk, OnOk, IsTrue, MatchOption, length};
 ghost use Rattle.ps_text.specs.{Line.{mark_line, points, ends_of, quarter, glyph_line, words_line, stem_line, beam_line, arc_line}, Range.{IsPageMark, IsSpan, IsStretch}};
 
 use crate::fields::{put_line, put_words};
@@ -9,7 +9,7 @@ use glyph_paths::name_of;
 use mus_units::{Glyph, Memory, Size, Text, Way};
 use std::alloc::Global;
 
-#[tactic(auto, using(crate::proofs::Signs::as_passed), unfolding(crate::specs::Line::glyph_line))]
+#[tactic(auto, using(crate::proofs::Signs::as_passed, crate::proofs::Letters::letters_of_glyph), unfolding(crate::specs::Line::glyph_line))]
 fn put_glyph(out: &mut Text, glyph: Glyph, x: i64, dx: i64, dy: i64, y: i64) -> Result<(), Memory>
     ensures { OnOk result (out.new ≡ out.old ++ glyph_line glyph x dx dy y) }
 {
@@ -65,7 +65,7 @@ fn ends_of(y: i64, x1: i64, x2: i64, from: i64, to: i64, rise: i64) -> Ends
 
 /// Adds the four points of a beam or an arc: the one above the left end, at
 /// `p`, the one above the right end, at `q`, the right end and the left one;
-/// and a name.
+/// and a name of two letters.
 #[tactic(auto, using(crate::proofs::Signs::as_passed), unfolding(crate::specs::Line::points))]
 fn put_points(
     out: &mut Text,
@@ -76,6 +76,7 @@ fn put_points(
     e: &Ends,
     name: &[u8],
 ) -> Result<(), Memory>
+    requires { length name.now ≡ 2 }
     ensures { OnOk result (out.new ≡ out.old ++ points p q x1 x2 e.now ++ name.now) }
 {
     put_line(

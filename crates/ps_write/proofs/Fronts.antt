@@ -1,104 +1,73 @@
--- A document that has gone out up to some byte, and what follows there.
-use Rattle.std.{proofs.{Common.{◌≡◌, ℕ, suc, ◌+◌, ◌<◌, ◌≤◌, List, [], ◌∷◌, ◌++◌, length, take, drop, refl, sym, ap, ◌∙◌, subst, get_or, zero-add, add-one, drop-cons, append-nil, append_assoc, length-append, arith, Option}, lemmas.List.{take-append-drop, take-append-le, length-take-le}, Math.Seq.{drop-length, take-append-add, take-append_seam, take-length, drop-append-add, drop-append_seam}, KnownBytes.Appends-trans}, specs.Io.KnownBytes.Appends}
-use Rattle.ps_text.specs.{Document.document, Document.numbered, Document.page_text, Document.trailer, Prolog.prolog, declared.sheet.Page.Page, declared.sheet.Sheet.Sheet}
-use Rattle.ps_write.specs.{Written.WroteFront, Written.counted_from, declared.steps.DocError.DocError}
+-- A text of which a front has gone out, and what follows there.
+use Rattle.std.{proofs.{Common.{◌≡◌, ℕ, suc, ◌+◌, ◌<◌, List, [], ◌∷◌, ◌++◌, length, take, drop, refl, sym, ap, ◌∙◌, subst, get_or, map, add-one, drop-cons, append-nil, append_assoc, length-append, arith, Option}, lemmas.List.take-append-le, Math.Seq.{drop-length, take-append-add}, KnownBytes.{Appends-nil, Appends-trans}}, specs.Io.KnownBytes.Appends}
+use Rattle.ps_text.specs.{Document.{body_text, closing, document, heading_text, items_text, numbered, page_text, trailer}, Prolog.prolog, declared.sheet.Page.Page, declared.sheet.Sheet.Sheet}
+use Rattle.ps_write.specs.{Written.{WroteFront, counted_from, headed_text}, declared.steps.DocError.DocError}
 
--- a text that stands in a document after its first n bytes
-pub record StandsAt (doc : List ℕ) (n : ℕ) (text rest : List ℕ) : Type 0 where
-  pub within : n ≤ length doc
-  pub follows : drop n doc ≡ text ++ rest
+-- the front of a text went out, after which so many bytes were written, and the rest of it follows
+pub record Sent (old new : Option (List ℕ)) (start written : ℕ) (rest all : List ℕ) : Type 0 where
+  pub front : List ℕ
+  pub whole : all ≡ front ++ rest
+  pub sent : Appends old new front
+  pub count : written ≡ start + length front
 
-pub whole : (doc : List ℕ) (n : ℕ) (text rest : List ℕ) → StandsAt doc n text rest → doc ≡ take n doc ++ (text ++ rest)
-whole doc n text rest s = sym (take-append-drop n doc) ∙ ap (λ z. take n doc ++ z) s.follows
+pub sent_none : (old : Option (List ℕ)) (start : ℕ) (all : List ℕ) → Sent old old start start all all
+sent_none old start all = record { front = []; whole = refl; sent = Appends-nil old; count = omega arith }
 
-pub length_front : (doc : List ℕ) (n : ℕ) → n ≤ length doc → length (take n doc) ≡ n
-length_front doc n h = length-take-le n doc h
+-- the next part went out
+pub sent_more : (old mid new : Option (List ℕ)) (start before written : ℕ) (text rest all : List ℕ) → Sent old mid start before (text ++ rest) all → Appends mid new text → written ≡ before + length text → Sent old new start written rest all
+sent_more old mid new start before written text rest all s p e = record {
+  front = s.front ++ text;
+  whole = s.whole ∙ sym (append_assoc s.front text rest);
+  sent = Appends-trans old mid new s.front text s.sent p;
+  count = omega (arith, length-append s.front text, s.count, e);
+}
 
-pub take_seam : (a text rest : List ℕ) (k : ℕ) → k ≤ length text → take (length a + k) (a ++ (text ++ rest)) ≡ a ++ take k text
-take_seam a text rest k h = take-append-add a (text ++ rest) k ∙ ap (λ z. a ++ z) (take-append-le k text rest h)
+-- all of it did
+pub sent_all : (old new : Option (List ℕ)) (start written : ℕ) (all : List ℕ) → Sent old new start written [] all → Appends old new all × (written ≡ start + length all)
+sent_all old new start written all s =
+    let e : s.front ≡ all = sym (s.whole ∙ append-nil s.front) in
+    (subst (λ (text : List ℕ). Appends old new text) e s.sent, subst (λ (text : List ℕ). written ≡ start + length text) e s.count)
 
-pub drop_seam : (a text rest : List ℕ) → drop (length a + length text) (a ++ (text ++ rest)) ≡ rest
-drop_seam a text rest = drop-append-add a (text ++ rest) (length text) ∙ drop-append_seam text rest
+-- a first part that failed
+pub wrote_first : (old new : Option (List ℕ)) (text rest : List ℕ) (e : DocError) → WroteFront old new text e → WroteFront old new (text ++ rest) e
+wrote_first old new text rest (DocError.Write e) w =
+    (rw (take-append-le e.written text rest w.1) w.0, omega (arith, length-append text rest, w.1))
+wrote_first old new text rest DocError.Memory w =
+    (w.0, rw (take-append-le w.0 text rest w.2) w.1, omega (arith, length-append text rest, w.2))
 
--- a front of the text that follows
-pub take_part : (doc : List ℕ) (n k : ℕ) (text rest : List ℕ) → StandsAt doc n text rest → k ≤ length text → take (n + k) doc ≡ take n doc ++ take k text
-take_part doc n k text rest s h =
-    subst (λ (d : List ℕ). take (n + k) d ≡ take n doc ++ take k text) (sym (whole doc n text rest s))
-    (subst (λ (m : ℕ). take (m + k) (take n doc ++ (text ++ rest)) ≡ take n doc ++ take k text) (length_front doc n s.within) (take_seam (take n doc) text rest k h))
+-- a second one, told for both
+pub wrote_second : (old mid new : Option (List ℕ)) (front text : List ℕ) (n : ℕ) (e : DocError) → length front ≡ n → Appends old mid front → WroteFront mid new text e → WroteFront old new (front ++ text) (counted_from n e)
+wrote_second old mid new front text n (DocError.Write e) k p w =
+    (rw (← k, take-append-add front text e.written) (Appends-trans old mid new front (take e.written text) p w.0), omega (arith, length-append front text, w.1, k))
+wrote_second old mid new front text n DocError.Memory k p w =
+    (n + w.0, rw (← k, take-append-add front text w.0) (Appends-trans old mid new front (take w.0 text) p w.1), omega (arith, length-append front text, w.2, k))
 
-pub drop_part : (doc : List ℕ) (n : ℕ) (text rest : List ℕ) → StandsAt doc n text rest → drop (n + length text) doc ≡ rest
-drop_part doc n text rest s =
-    subst (λ (d : List ℕ). drop (n + length text) d ≡ rest) (sym (whole doc n text rest s))
-    (subst (λ (m : ℕ). drop (m + length text) (take n doc ++ (text ++ rest)) ≡ rest) (length_front doc n s.within) (drop_seam (take n doc) text rest))
-
-pub within_part : (doc : List ℕ) (n : ℕ) (text rest : List ℕ) → StandsAt doc n text rest → n + length text ≤ length doc
-within_part doc n text rest s =
-    let e : length doc ≡ length (take n doc) + (length text + length rest) = ap length (whole doc n text rest s) ∙ (length-append (take n doc) (text ++ rest) ∙ ap (λ (k : ℕ). length (take n doc) + k) (length-append text rest)) in
-    omega (arith, e, length_front doc n s.within)
-
--- the whole text went out
-pub sent_more : (old mid new : Option (List ℕ)) (doc : List ℕ) (n : ℕ) (text rest : List ℕ) → StandsAt doc n text rest → Appends old mid (take n doc) → Appends mid new text → Appends old new (take (n + length text) doc)
-sent_more old mid new doc n text rest s p q =
-    rw (take_part doc n (length text) text rest s (omega arith), take-length text) (Appends-trans old mid new (take n doc) text p q)
-
--- a front of it did
-pub sent_part : (old mid new : Option (List ℕ)) (doc : List ℕ) (n k : ℕ) (text rest : List ℕ) → StandsAt doc n text rest → k ≤ length text → Appends old mid (take n doc) → Appends mid new (take k text) → Appends old new (take (n + k) doc)
-sent_part old mid new doc n k text rest s h p q = rw (take_part doc n k text rest s h) (Appends-trans old mid new (take n doc) (take k text) p q)
-
--- a step that failed, told for the document
-pub wrote_part : (old mid new : Option (List ℕ)) (doc : List ℕ) (n : ℕ) (text rest : List ℕ) (e : DocError) → StandsAt doc n text rest → Appends old mid (take n doc) → WroteFront mid new text e → WroteFront old new doc (counted_from n e)
-wrote_part old mid new doc n text rest (DocError.Write e) s p w =
-    (sent_part old mid new doc n e.written text rest s w.1 p w.0, omega (arith, within_part doc n text rest s, w.1))
-wrote_part old mid new doc n text rest DocError.Memory s p w =
-    (n + w.0, sent_part old mid new doc n w.0 text rest s w.2 p w.1, omega (arith, within_part doc n text rest s, w.2))
-
--- a first step that failed
-pub wrote_first : (old new : Option (List ℕ)) (doc text rest : List ℕ) (e : DocError) → doc ≡ text ++ rest → WroteFront old new text e → WroteFront old new doc e
-wrote_first old new doc text rest (DocError.Write e) d w =
-    (rw (d, take-append-le e.written text rest w.1) w.0, omega (arith, ap length d, length-append text rest, w.1))
-wrote_first old new doc text rest DocError.Memory d w =
-    (w.0, rw (d, take-append-le w.0 text rest w.2) w.1, omega (arith, ap length d, length-append text rest, w.2))
-
--- a first step that went out
-pub record Started (old new : Option (List ℕ)) (doc : List ℕ) (n : ℕ) (rest : List ℕ) : Type 0 where
-  pub within : n ≤ length doc
-  pub sent : Appends old new (take n doc)
-  pub follows : drop n doc ≡ rest
-
-pub started : (old new : Option (List ℕ)) (doc text rest : List ℕ) (n : ℕ) → doc ≡ text ++ rest → n ≡ 0 + length text → Appends old new text → Started old new doc n rest
-started old new doc text rest n d e p =
-    let k : n ≡ length text = e ∙ zero-add (length text) in
-    record {
-      within = omega (arith, ap length d, length-append text rest, k);
-      sent = rw (d, k, take-append_seam text rest) p;
-      follows = rw (d, k) (drop-append_seam text rest);
-    }
+-- a part that failed after n bytes, told for the whole
+pub wrote_part : (old mid new : Option (List ℕ)) (start before n : ℕ) (text rest all : List ℕ) (e : DocError) → Sent old mid start before (text ++ rest) all → start + n ≡ before → WroteFront mid new text e → WroteFront old new all (counted_from n e)
+wrote_part old mid new start before n text rest all e s k w =
+    subst (λ (bytes : List ℕ). WroteFront old new bytes (counted_from n e)) (sym s.whole)
+    (wrote_second old mid new s.front (text ++ rest) n e (omega (arith, s.count, k)) s.sent (wrote_first mid new text rest e w))
 
 -- a document is its prolog, its pages and its trailer
 pub document_start : (s : Sheet) → document s ≡ prolog s.frame ++ (numbered page_text 1 s.pages ++ trailer (length s.pages))
 unfolding document
 document_start s = append_assoc (prolog s.frame) (numbered page_text 1 s.pages) (trailer (length s.pages))
 
--- page i of those that follow
-pub stands_at_page : (doc : List ℕ) (n k i : ℕ) (pages : List Page) (p : Page) (tail : List ℕ) → n ≤ length doc → i < length pages → p ≡ get_or pages i p → drop n doc ≡ numbered page_text k (drop i pages) ++ tail → StandsAt doc n (page_text k p) (numbered page_text (k + 1) (drop (i + 1) pages) ++ tail)
-stands_at_page doc n k i pages p tail h l g e =
+-- page i comes first of those that follow
+pub next_page : (k i : ℕ) (pages : List Page) (p : Page) (tail : List ℕ) → i < length pages → p ≡ get_or pages i p → numbered page_text k (drop i pages) ++ tail ≡ page_text k p ++ (numbered page_text (k + 1) (drop (i + 1) pages) ++ tail)
+next_page k i pages p tail l g =
     let c : drop i pages ≡ p ∷ drop (i + 1) pages = rw add-one (drop-cons pages i p l ∙ ap (λ (q : Page). q ∷ drop (suc i) pages) (sym g)) in
-    record { within = h; follows = (e ∙ ap (λ (ps : List Page). numbered page_text k ps ++ tail) c) ∙ append_assoc (page_text k p) (numbered page_text (k + 1) (drop (i + 1) pages)) tail }
+    ap (λ (ps : List Page). numbered page_text k ps ++ tail) c ∙ append_assoc (page_text k p) (numbered page_text (k + 1) (drop (i + 1) pages)) tail
 
--- the trailer after all pages
-pub stands_at_end : (doc : List ℕ) (n k i w : ℕ) (pages : List Page) → n ≤ length doc → w ≡ i → i ≡ length pages → drop n doc ≡ numbered page_text k (drop i pages) ++ trailer (length pages) → StandsAt doc n (trailer w) []
-stands_at_end doc n k i w pages h p q e =
-    let c : drop i pages ≡ [] = rw (q, drop-length pages) refl in
-    record { within = h; follows = rw (p, q, append-nil) (e ∙ ap (λ (ps : List Page). numbered page_text k ps ++ trailer (length pages)) c) }
+-- nothing comes between all pages and the end
+pub no_page : (k i : ℕ) (pages : List Page) (tail : List ℕ) → i ≡ length pages → numbered page_text k (drop i pages) ++ tail ≡ tail ++ []
+no_page k i pages tail e = rw (e, drop-length pages) (sym (append-nil tail))
 
-drop_length_end : (doc : List ℕ) (n : ℕ) (text : List ℕ) → StandsAt doc n text [] → length doc ≡ n + length text
-drop_length_end doc n text s =
-    let e : length doc ≡ length (take n doc) + (length text + 0) = ap length (whole doc n text [] s) ∙ (length-append (take n doc) (text ++ []) ∙ ap (λ (k : ℕ). length (take n doc) + k) (length-append text [])) in
-    omega (arith, e, length_front doc n s.within)
+-- a page from what stands behind its heading
+headed_page : (k : ℕ) (p : Page) → headed_text k (body_text p) ≡ page_text k p
+unfolding body_text page_text
+headed_page k p = sym (append_assoc (heading_text k) (items_text p.items) closing)
 
--- the last text went out
-pub sent_all : (old mid new : Option (List ℕ)) (doc : List ℕ) (n : ℕ) (text : List ℕ) → StandsAt doc n text [] → Appends old mid (take n doc) → Appends mid new text → Appends old new doc
-sent_all old mid new doc n text s p q =
-    let h = sent_more old mid new doc n text [] s p q in
-    let e : take (n + length text) doc ≡ doc = rw (← drop_length_end doc n text s) (take-length doc) in
-    rw e at h
+pub headed_pages : (k : ℕ) (pages : List Page) → numbered headed_text k (map body_text pages) ≡ numbered page_text k pages
+headed_pages k [] = refl
+headed_pages k (p ∷ pages) = rw (headed_page k p, headed_pages (k + 1) pages) refl

@@ -13,6 +13,9 @@ use std::thread::Threads;
 /// Most pages have fewer bytes; room for so many is made at once.
 const BYTES_OF_PAGE: usize = 65_536;
 
+/// No heading has more bytes.
+const BYTES_OF_HEADING: usize = 64;
+
 /// The making of what stands behind the headings of pages.
 #[derive(Drop)]
 struct Making {
@@ -46,6 +49,17 @@ fn bodies_of<R: Threads + Sync>(
     Ok(bodies)
 }
 
+/// Room for all pages of these bodies.
+fn room_for(bodies: &[Text]) -> usize {
+    let mut room = 0usize;
+    for body in bodies {
+        room = room
+            .saturating_add(body.len())
+            .saturating_add(BYTES_OF_HEADING);
+    }
+    room
+}
+
 /// Adds pages of these bodies, the first with the number `first`. Each body is given up once it is
 /// added.
 fn put_headed(out: &mut Text, first: u64, bodies: Row<Text>) -> Result<(), Memory>
@@ -61,7 +75,7 @@ fn put_headed(out: &mut Text, first: u64, bodies: Row<Text>) -> Result<(), Memor
     Ok(())
 }
 
-#[tactic(auto, using(crate::proofs::Headed::headed_pages))]
+#[tactic(auto, using(crate::proofs::Fronts::headed_pages))]
 fn pages_bytes<R: Threads + Sync>(
     rt: &R,
     alloc: Global,
@@ -75,6 +89,7 @@ fn pages_bytes<R: Threads + Sync>(
 {
     let bodies = bodies_of(rt, alloc, pages, jobs)?;
     let mut text = Text::new(alloc);
+    text.bytes.reserve(room_for(bodies.as_slice()))?;
     put_headed(&mut text, first, bodies)?;
     Ok(text)
 }
@@ -96,9 +111,7 @@ pub fn pages<R: Threads + Sync, O: Sink>(
     ensures fits { FitsAfter w.written result }
     ensures writer { IfOk result (λ v. IsNext (w.pages + length pages.now) w.written (numbered page_text (w.pages + 1) pages.now) v) }
 {
-    let Ok(text) = pages_bytes(rt, alloc, u64::from(w.pages) + 1, pages, jobs) else {
-        return Err(DocError::Memory);
-    };
+    let text = pages_bytes(rt, alloc, u64::from(w.pages) + 1, pages, jobs)?;
     let written = send(sink, text.as_slice(), w.written)?;
     Ok(DocWriter {
         pages: w.pages + pages.len() as u32,

@@ -1,5 +1,6 @@
 ghost use Rattle.std.specs.Prelude.{◌≡◌, ◌+◌, ◌-◌, ◌^◌, ◌<◌, length, IfOk};
 ghost use Rattle.ps_text.specs.{Document.page_text, Document.trailer, Prolog.prolog, Range.IsFrame, Range.IsPage};
+ghost use Rattle.ps_write.specs.declared.steps.DocError.TheVariants as errors;
 ghost use Rattle.ps_write.specs.Written.{Wrote, Counted, FitsAfter, IsNext};
 
 use eng_io::{Sink, WriteError, write_all};
@@ -18,6 +19,14 @@ pub enum DocError {
     /// Memory ran out; the sink has a front of the call's text.
     #[error("out of memory")]
     Memory,
+}
+
+impl From<Memory> for DocError {
+    ghost from_gives = { λ _ e. e ≡ errors.Memory };
+
+    fn from(_: Memory) -> DocError {
+        DocError::Memory
+    }
 }
 
 /// A document on its way: how many pages and how many bytes were written.
@@ -44,31 +53,6 @@ pub(crate) fn send<O: Sink>(sink: &mut O, piece: &[u8], before: u64) -> Result<u
     }
 }
 
-fn prolog_bytes(alloc: Global, frame: &Frame) -> Result<Text, Memory>
-    ensures { IfOk result (λ text. text ≡ prolog frame.now) }
-{
-    let mut text = Text::new(alloc);
-    put_prolog(alloc, &mut text, frame)?;
-    Ok(text)
-}
-
-fn page_bytes(alloc: Global, k: u64, p: &Page) -> Result<Text, Memory>
-    requires { IsPage p.now }
-    ensures { IfOk result (λ text. text ≡ page_text k p.now) }
-{
-    let mut text = Text::new(alloc);
-    put_page(&mut text, k, p)?;
-    Ok(text)
-}
-
-fn trailer_bytes(alloc: Global, n: u64) -> Result<Text, Memory>
-    ensures { IfOk result (λ text. text ≡ trailer n) }
-{
-    let mut text = Text::new(alloc);
-    put_trailer(&mut text, n)?;
-    Ok(text)
-}
-
 /// Writes the prolog of a document, up to and with the line `%%EndProlog`. Write
 /// comes only where the sink's count of faults rose, Ok only where it didn't and
 /// the whole text went out.
@@ -78,9 +62,8 @@ pub fn begin<O: Sink>(alloc: Global, frame: &Frame, sink: &mut O) -> Result<DocW
     ensures counts { Counted (O.faults sink.old) (O.faults sink.new) result }
     ensures writer { IfOk result (λ w. IsNext 0 0 (prolog frame.now) w) }
 {
-    let Ok(text) = prolog_bytes(alloc, frame) else {
-        return Err(DocError::Memory);
-    };
+    let mut text = Text::new(alloc);
+    put_prolog(alloc, &mut text, frame)?;
     let written = send(sink, text.as_slice(), 0)?;
     Ok(DocWriter { pages: 0, written })
 }
@@ -99,9 +82,8 @@ pub fn page<O: Sink>(
     ensures fits { FitsAfter w.written result }
     ensures writer { IfOk result (λ v. IsNext (w.pages + 1) w.written (page_text (w.pages + 1) p.now) v) }
 {
-    let Ok(text) = page_bytes(alloc, u64::from(w.pages) + 1, p) else {
-        return Err(DocError::Memory);
-    };
+    let mut text = Text::new(alloc);
+    put_page(&mut text, u64::from(w.pages) + 1, p)?;
     let written = send(sink, text.as_slice(), w.written)?;
     Ok(DocWriter {
         pages: w.pages + 1,
@@ -115,9 +97,8 @@ pub fn finish<O: Sink>(alloc: Global, w: DocWriter, sink: &mut O) -> Result<(), 
     ensures counts { Counted (O.faults sink.old) (O.faults sink.new) result }
     ensures fits { FitsAfter w.written result }
 {
-    let Ok(text) = trailer_bytes(alloc, u64::from(w.pages)) else {
-        return Err(DocError::Memory);
-    };
+    let mut text = Text::new(alloc);
+    put_trailer(&mut text, u64::from(w.pages))?;
     send(sink, text.as_slice(), w.written)?;
     Ok(())
 }

@@ -1,22 +1,26 @@
 use Rattle.set_tune.specs.Terms.{terms_of}
 use Rattle.std.proofs.Common.{sym, subst}
-use Rattle.set_book.specs.Outcomes.{AreOutcomes}
 use Rattle.abcps.proofs.Batches.{batch_set, on_ok}
+use denote.{Exit.no, Param.Send.{arg_send, param_send}}
+use Rattle.set_book.{specs.Outcomes.AreOutcomes, proofs.Sent.outcome_send}
 use Rattle.abcps.proofs.printing.take_batch.Goals as goal
 
-pub take-requires-clause-outcomes : goal.take-requires-clause-outcomes
-take-requires-clause-outcomes g c =
+pub take-taken-requires-clause-outcomes : goal.take-taken-requires-clause-outcomes
+take-taken-requires-clause-outcomes g c =
     batch_set (terms_of c.args.defaults.now c.args.paper.now c.args.how) c.args.batch.now c.in_ok-outcomes.outcomes c.as_slice.result.now c.requires.counted c.as_slice.ensures c.in_ok-outcomes.ensures
 
-pub take-requires-clause-room : goal.take-requires-clause-room
-take-requires-clause-room g c =
+pub take-taken-requires-clause-room : goal.take-taken-requires-clause-room
+take-taken-requires-clause-room g c =
     c.requires.room c.as_slice.result.now (subst (λ outcomes. AreOutcomes (terms_of c.args.defaults.now c.args.paper.now c.args.how) c.args.batch.now outcomes) (sym c.as_slice.ensures) c.in_ok-outcomes.ensures)
 
 pub returns-clause-taken : goal.returns-clause-taken
 returns-clause-taken g c =
-    on_ok c.take.result
+    on_ok c.take-taken.result
     (λ taken. record {
       outcomes = c.as_slice.result.now;
       set = subst (λ outcomes. AreOutcomes (terms_of c.args.defaults.now c.args.paper.now c.args.how) c.args.batch.now outcomes) (sym c.as_slice.ensures) c.in_ok-outcomes.ensures;
       taken = taken;
-    }) c.take.ensures.running
+    }) c.take-taken.ensures.running
+
+pub give_up-requires-send-T : goal.give_up-requires-send-T
+give_up-requires-send-T g c κs within = param_send 1 _ (arg_send _ no _ outcome_send)

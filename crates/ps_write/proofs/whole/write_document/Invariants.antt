@@ -1,12 +1,11 @@
-use Rattle.std.{proofs.Common.{◌≡◌, ◌+◌, ◌++◌, ◌≤◌, length, take, drop}, specs.Io.KnownBytes.Appends}
+use Rattle.std.proofs.Common.{◌≡◌, ◌+◌, ◌++◌, length, drop}
 use Rattle.ps_text.specs.Document.{document, numbered, page_text, trailer}
+use Rattle.ps_write.proofs.Fronts.{Sent}
 use Rattle.ps_write.proofs.whole.write_document.Given as goal
 
 abbrev pub invariant-loop-p : goal.invariant-loop-p
 invariant-loop-p g l = record {
   pages : l.w.pages ≡ l.p-index;
-  within : l.w.written ≤ length (document l.s);
-  sent : Appends (g.O.Sink.taken l.fn.sink) (g.O.Sink.taken l.sink) (take l.w.written (document l.s));
-  rest : drop l.w.written (document l.s) ≡ numbered page_text (l.w.pages + 1) (drop l.p-index l.s.pages) ++ trailer (length l.s.pages);
+  sent : Sent (g.O.Sink.taken l.fn.sink) (g.O.Sink.taken l.sink) 0 l.w.written (numbered page_text (l.w.pages + 1) (drop l.p-index l.s.pages) ++ trailer (length l.s.pages)) (document l.s);
   counts : g.O.Sink.faults l.sink ≡ g.O.Sink.faults l.fn.sink;
 }
