@@ -36,7 +36,7 @@ fn column_of(alloc: Global, line: &str) -> Result<Column, Memory> {
             class: Class::Note,
             place: 0,
         },
-        reaches: Row::from_slice(alloc, &[reach, other])?,
+        reaches: Row::from_slice(alloc, &[reach, other])?.into(),
         natural: count_at(&numbers, 3),
     })
 }

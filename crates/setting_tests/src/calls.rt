@@ -1,7 +1,8 @@
 //! The calls that a case may name.
 //!
 //! `plans` has the stem plans of each measure, `slope X ..` those of the first measure on sloped beams over
-//! these abscissas; `voices` the voices as drawn; `marks A B`, `boxes A B` and `columns A B` the marks of the
+//! these abscissas, `tilt A B X ..` what the system of the measures A to B - 1 draws over those of its columns;
+//! `voices` the voices as drawn; `marks A B`, `boxes A B` and `columns A B` the marks of the
 //! system of the measures A to B - 1, their boxes, and its columns with their gaps and their places at force
 //! 256; `measure A M` the columns of measure M in a system that begins with measure A; `layout W` the
 //! layout on a width, `systems W` what its systems draw; `sounds` the sounds.
@@ -20,7 +21,7 @@ use crate::layouts::put_score_layout;
 use crate::marks::put_system;
 use crate::plans::put_score_plans;
 use crate::scores::score_of;
-use crate::slopes::put_slopes;
+use crate::slopes::{put_slopes, put_tilted};
 use crate::sounds::put_sounds;
 use crate::voices::put_voices;
 use answer_texts::{Call, call_of, count_at, end_line, numbers_of, put_numbers, put_word};
@@ -128,6 +129,13 @@ fn put_measure_columns(
     put_columns(out, columns.as_slice())
 }
 
+fn behind_two(numbers: &[i64]) -> &[i64] {
+    match numbers {
+        [_, _, rest @ ..] => rest,
+        _ => &[],
+    }
+}
+
 /// The value of a call on a score.
 fn put_call<R: Threads + Sync>(
     rt: &R,
@@ -149,6 +157,7 @@ fn put_call<R: Threads + Sync>(
         b"sounds" => put_sounds(out, sounding(alloc, score)?.as_slice()),
         b"plans" => put_score_plans(alloc, out, score),
         b"slope" => put_slopes(alloc, out, score, numbers.as_slice()),
+        b"tilt" => put_tilted(alloc, out, score, a, b, behind_two(numbers.as_slice())),
         b"layout" => put_score_layout(rt, alloc, out, score, a, false),
         b"systems" => put_score_layout(rt, alloc, out, score, a, true),
         _ => put_word(out, b"no such call\n"),

@@ -18,9 +18,9 @@ pub(crate) fn put_columns(out: &mut Text, columns: &[Column]) -> Result<(), Memo
     for column in columns {
         put_key(out, column.key)?;
         put_numbers(out, &[i64::from(column.natural)])?;
-        for reach in column.reaches.as_slice() {
+        for lane in 0..column.reaches.len() {
             put_word(out, b",")?;
-            put_reach(out, *reach)?;
+            put_reach(out, column.reaches.at(lane))?;
         }
         end_line(out)?;
     }

@@ -24,7 +24,7 @@ use crate::calls::put_case;
 use crate::meetings::put_meetings;
 use eng_io::{StdSink, write_all};
 use lay_measures::measures_join;
-use mus_ink::beams_by_levels;
+use mus_bridges::beams_by_levels;
 use mus_stems::{beams_by_groups, no_other_plans, slopes_by_beams};
 use mus_units::{Memory, Text};
 use set_lists::{book_rises, breakings_of_listing, lists_the_set};

@@ -5,10 +5,13 @@ ghost use Rattle.mus_score.specs.{Good.IsGoodBody, GoodScore.IsGoodScore, GoodSc
 ghost use Rattle.mus_stems.specs.{Plans.AllEndsNear, Slope.ArePlaces};
 ghost use Rattle.setting_tests.specs.Rising.{AreRising, RisesFrom};
 
+use crate::marks::put_system;
 use crate::plans::{can_all_stand, put_plans};
 use answer_texts::put_word;
+use mus_marks::{marks, tilt};
 use mus_score::{Measure, Score, Voice, flatten};
 use mus_stems::{StemPlan, slope, stems};
+use mus_time::onsets;
 use mus_units::{Memory, Text};
 use std::alloc::Global;
 
@@ -100,4 +103,27 @@ pub(crate) fn put_slopes(
         [voice, ..] => put_voice_slopes(alloc, out, voice, at),
         [] => put_word(out, b"no voice\n"),
     }
+}
+
+/// Adds what the system of the measures `a` to `b` - 1 draws whose columns stand at abscissas.
+#[tactic(auto, using(crate::proofs::Rises::are_abscissas))]
+pub(crate) fn put_tilted(
+    alloc: Global,
+    out: &mut Text,
+    score: &Score,
+    a: u32,
+    b: u32,
+    at: &[i64],
+) -> Result<(), Memory>
+    requires { IsGoodScore score.now }
+{
+    if a >= b || b > score.measures {
+        return put_word(out, b"no such measures\n");
+    }
+    let times = onsets(alloc, score)?;
+    let flat = marks(alloc, score, &times, a, b)?;
+    if at.len() != flat.keys.len() || !are_places(at) || !are_rising(at) {
+        return put_word(out, b"no places\n");
+    }
+    put_system(out, &tilt(alloc, score, &times, a, b, at)?)
 }
