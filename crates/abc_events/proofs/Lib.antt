@@ -3,7 +3,7 @@ pub mod Drawn
 pub mod Fill
 pub mod Heads
 pub mod Idle
-pub mod MeasureRows
+pub mod MeasureTrees
 pub mod Rests
 pub mod Single
 pub mod Taken

@@ -1,7 +1,7 @@
 -- The tree of a measure: its leaves in a row, in which each tuplet takes the next events behind it.
 use Rattle.std.specs.Prelude.{◌≡◌, ℕ, zero, suc, ◌-◌, ◌≤◌, List, [], ◌∷◌, ◌++◌}
 use Rattle.mus_score.specs.declared.score.Music.{Music}
-use Rattle.abc_events.specs.{declared.leaves.Leaf.Leaf, declared.nesting.Open.Open}
+use Rattle.abc_events.specs.{Leaf.Leaf, declared.nesting.Open.Open, declared.nesting.Tree.Tree}
 use Rattle.mus_score.specs.declared.score.Music.TheVariants as music
 
 -- a row of events, each with its nodes, and of tuplets that take so many events, each with a row of its own
@@ -68,3 +68,10 @@ abbrev pub IsReady : List Open → Type 0
 IsReady [] = Unit {0}
 IsReady (o ∷ []) = 1 ≤ o.left
 IsReady (o ∷ p ∷ os) = IsReady (p ∷ os)
+
+-- what a tree makes of the leaves that follow
+abbrev pub grown : Tree → List Leaf → List Music
+grown t leaves = whole t.stack.items t.body (nest leaves)
+
+abbrev pub no_tree : Tree
+no_tree = record { stack = record { items = []; capacity = 0 }; body = [] }

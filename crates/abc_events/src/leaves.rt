@@ -1,22 +1,14 @@
 ghost use Rattle.std.specs.{Prelude.◌≡◌, Prelude.◌≤◌, Prelude.◌+◌, Prelude.◌++◌, Prelude.◌∷◌, Prelude.[], Prelude.List, Prelude.map, Prelude.length, Prelude.replicate, Prelude.unwrap_or, Prelude.false, Prelude.None, Prelude.IfOk, Prelude.OnOk, List.All};
 ghost use Rattle.mus_units.specs.Value.{value_length};
-ghost use Rattle.abc_events.specs.{declared.written.Sign.Sign, Signs.IsDrawn, Leaves.{ends_at, first_part, later_head, later_part, some_more, later_parts, parts, node_of, grace_event, grace_note, grace_nodes, nodes_of, words_at, leaves_from}};
+ghost use Rattle.abc_events.specs.Leaves.{ends_at, first_part, later_head, later_part, some_more, later_parts, parts, node_of, grace_event, grace_note, grace_nodes, nodes_of, words_at};
 
 use crate::reading::with_ties;
 use crate::waits::no_changes;
-use crate::written::{Sign, Waiting, Waits, Written};
+use crate::written::{Waiting, Waits, Written};
 use abc_tokens::GraceChord;
 use mus_score::{Event, Look, Music};
 use mus_units::{Base, Few, Head, Memory, Row, Text, Value, copy_optional_texts, ticks_of};
 use std::alloc::Global;
-
-/// What the tree of a measure is made of: the nodes of a written event, or a
-/// tuplet of `p` in the time of `q` that takes the next `r` events.
-#[derive(Drop)]
-pub enum Leaf {
-    Event { measure: u64, nodes: Few<Music> },
-    Opens { measure: u64, p: u8, q: u8, r: u8 },
-}
 
 /// How many written events came before, and the id of the next part.
 #[derive(Clone, Copy, PartialEq, Eq)]
@@ -154,7 +146,7 @@ fn next_id(id: u32) -> Result<u32, Memory>
 }
 
 /// The number so many behind another.
-fn id_behind(id: u32, count: usize) -> Result<u32, Memory>
+pub fn id_behind(id: u32, count: usize) -> Result<u32, Memory>
     ensures { IfOk result (λ behind. behind ≡ id + count) }
 {
     match u32::try_from(count) {
@@ -215,8 +207,8 @@ fn only_part(w: Written, waiting: Waiting, words: Row<Option<Text>>, id: u32, va
     }
 }
 
-/// Puts the parts of a written event.
-fn put_parts(
+/// Puts the parts of a written event, the first of which may have others.
+fn put_several(
     alloc: Global,
     nodes: &mut Row<Music>,
     w: &Written,
@@ -273,21 +265,24 @@ fn grace_notes(alloc: Global, graces: &[GraceChord]) -> Result<Row<Music>, Memor
     Ok(notes)
 }
 
-/// The group of the graces that waited, where there is one.
-fn grace_nodes(alloc: Global, graces: &[GraceChord], slash: bool) -> Result<Row<Music>, Memory>
-    ensures { IfOk result (λ r. r ≡ grace_nodes graces.now slash) }
+/// Puts the group of the graces that waited, where there is one.
+fn put_graces(
+    alloc: Global,
+    nodes: &mut Row<Music>,
+    graces: &[GraceChord],
+    slash: bool,
+) -> Result<(), Memory>
+    ensures { OnOk result (nodes.new ≡ nodes.old ++ grace_nodes graces.now slash) }
 {
-    let mut nodes = Row::new(alloc);
     if graces.is_empty() {
-        return Ok(nodes);
+        return Ok(());
     }
     let body = grace_notes(alloc, graces)?;
-    nodes.push(Music::Grace { body, slash })?;
-    Ok(nodes)
+    nodes.push(Music::Grace { body, slash })
 }
 
 /// The words of a written event.
-fn words_at(
+pub fn words_at(
     alloc: Global,
     words: &[Row<Option<Text>>],
     event: usize,
@@ -300,86 +295,41 @@ fn words_at(
     }
 }
 
-/// The nodes of the parts of a written event.
-fn part_nodes(
+/// Puts the parts of a written event.
+fn put_parts(
     alloc: Global,
+    nodes: &mut Row<Music>,
     w: Written,
     waiting: Waiting,
     words: Row<Option<Text>>,
     id: u32,
-) -> Result<Few<Music>, Memory>
+) -> Result<(), Memory>
     requires { All (λ v. v.dots ≤ 3) w.values }
-    ensures { IfOk result (λ r. r ≡ map node_of (parts w waiting words id w.values)) }
+    ensures { OnOk result (nodes.new ≡ nodes.old ++ map node_of (parts w waiting words id w.values)) }
 {
     match w.values.as_slice() {
         [value] => {
             let value = *value;
-            Ok(Few::one(node_of(only_part(w, waiting, words, id, value))))
+            nodes.push(node_of(only_part(w, waiting, words, id, value)))?;
+            Ok(())
         }
-        _ => {
-            let mut nodes = Row::new(alloc);
-            put_parts(alloc, &mut nodes, &w, waiting, words, id)?;
-            Ok(Few::from(nodes))
-        }
+        _ => put_several(alloc, nodes, &w, waiting, words, id),
     }
 }
 
-/// The nodes of a written event: the group of its graces, and its parts.
-fn nodes_of(
+/// Puts the nodes of a written event: the group of its graces, and its parts.
+pub fn put_nodes(
     alloc: Global,
+    nodes: &mut Row<Music>,
     w: Written,
     waits: Waits,
     words: Row<Option<Text>>,
     id: u32,
-) -> Result<Few<Music>, Memory>
+) -> Result<(), Memory>
     requires { All (λ v. v.dots ≤ 3) w.values }
-    ensures { IfOk result (λ r. r ≡ nodes_of w waits words id) }
+    ensures { OnOk result (nodes.new ≡ nodes.old ++ nodes_of w waits words id) }
 {
     let waiting = waits.whole(alloc);
-    match waiting.graces.as_slice() {
-        [] => part_nodes(alloc, w, waiting, words, id),
-        graces => {
-            let mut nodes = grace_nodes(alloc, graces, waiting.slash)?;
-            put_parts(alloc, &mut nodes, &w, waiting, words, id)?;
-            Ok(Few::from(nodes))
-        }
-    }
-}
-
-/// The leaf of a written event.
-fn event_leaf(
-    alloc: Global,
-    at: &mut Numbers,
-    w: Written,
-    waiting: Waits,
-    words: &[Row<Option<Text>>],
-) -> Result<Leaf, Memory>
-    requires { All (λ v. v.dots ≤ 3) w.values }
-    ensures leaf { IfOk result (λ l. l ≡ Leaf.Event w.measure (nodes_of w waiting (words_at words.now at.old.event) at.old.id)) }
-    ensures event { OnOk result (at.new.event ≡ at.old.event + 1) }
-    ensures id { OnOk result (at.new.id ≡ at.old.id + length w.values) }
-{
-    let measure = w.measure;
-    let sung = words_at(alloc, words, at.event)?;
-    let id = id_behind(at.id, w.values.as_slice().len())?;
-    let nodes = nodes_of(alloc, w, waiting, sung, at.id)?;
-    at.event = at.event.checked_add(1).ok_or(Memory)?;
-    at.id = id;
-    Ok(Leaf::Event { measure, nodes })
-}
-
-/// The leaf of a sign. `words` has a row for each written event, with a place for each verse.
-pub fn leaf_of(
-    alloc: Global,
-    at: &mut Numbers,
-    sign: Sign,
-    words: &[Row<Option<Text>>],
-) -> Result<Leaf, Memory>
-    requires { IsDrawn sign }
-    ensures { IfOk result (λ l. (signs : List Sign) → l ∷ leaves_from words.now at.new.event at.new.id signs ≡ leaves_from words.now at.old.event at.old.id (sign ∷ signs)) }
-{
-    match sign {
-        Sign::Event { written, waiting } => event_leaf(alloc, at, written, waiting, words),
-        Sign::Opens { measure, p, q, r } => Ok(Leaf::Opens { measure, p, q, r }),
-    }
+    put_graces(alloc, nodes, waiting.graces.as_slice(), waiting.slash)?;
+    put_parts(alloc, nodes, w, waiting, words, id)
 }

@@ -1,64 +1,114 @@
-ghost use Rattle.std.specs.{Prelude.◌≡◌, Prelude.◌<◌, Prelude.◌+◌, Prelude.◌++◌, Prelude.◌∷◌, Prelude.[], Prelude.ℕ, Prelude.length, Prelude.slice_index_or, Prelude.IfOk, Prelude.OnOk, List.All};
-ghost use Rattle.abc_events.specs.{Signs.IsDrawn, Leaves.leaves_of, Measures.{leaf_measure, leaves_in, measures_of}};
+ghost use Rattle.std.specs.{Prelude.◌≡◌, Prelude.◌<◌, Prelude.◌≤◌, Prelude.◌+◌, Prelude.◌∷◌, Prelude.[], Prelude.ℕ, Prelude.List, Prelude.length, Prelude.slice_index_or, Prelude.IfOk, Prelude.OnOk, List.All};
+ghost use Rattle.abc_events.specs.{declared.written.Sign.Sign, Signs.IsDrawn, Leaf.Leaf, Leaves.{nodes_of, leaves_from, leaves_of}, Nesting.{tree_of, IsReady, grown, no_tree}, Measures.{leaves_in, measures_of}};
 
-use crate::leaves::{Leaf, Numbers, leaf_of};
-use crate::nesting::tree_of;
-use crate::written::Sign;
+use crate::leaves::{Numbers, id_behind, words_at};
+use crate::nesting::{Tree, nodes_of, put_event, put_tuplet};
+use crate::written::{Sign, Waits, Written};
 use mus_score::Measure;
 use mus_units::{Bar, Memory, Row, Text};
+use smallvec::SmallVec;
 use std::alloc::Global;
 
-fn leaf_measure(l: &Leaf) -> u64
-    ensures { result ≡ leaf_measure l.now }
-{
-    match l {
-        Leaf::Event { measure, nodes: _ } => *measure,
-        Leaf::Opens { measure, .. } => *measure,
-    }
-}
-
-/// So many empty rows, each with room for so many leaves.
-fn empty_rows(alloc: Global, n: usize, room: usize) -> Result<Vec<Row<Leaf>>, Memory>
+/// So many empty trees, each with room for so many nodes.
+fn empty_trees(alloc: Global, n: usize, room: usize) -> Result<Vec<Tree>, Memory>
     ensures len { IfOk result (λ v. length v.items ≡ n) }
-    ensures empty { IfOk result (λ v. (k : ℕ) → k < n → slice_index_or v.items k [] ≡ []) }
+    ensures stack { IfOk result (λ v. (k : ℕ) → k < n → (slice_index_or v.items k no_tree).stack.items ≡ []) }
+    ensures body { IfOk result (λ v. (k : ℕ) → k < n → (slice_index_or v.items k no_tree).body ≡ []) }
 {
-    let mut rows = Vec::with_capacity(alloc, n)?;
+    let mut trees = Vec::with_capacity(alloc, n)?;
     for k in 0..n {
-        rows.push(Row::with_room(alloc, room)?)?;
+        trees.push(Tree {
+            stack: SmallVec::new(alloc),
+            body: Row::with_room(alloc, room)?,
+        })?;
     }
-    Ok(rows)
+    Ok(trees)
 }
 
-/// Puts a leaf into the row of its measure, where there is one.
-fn put_leaf(rows: &mut [Row<Leaf>], l: Leaf) -> Result<(), Memory>
-    ensures { OnOk result ((k : ℕ) → k < length rows.old → slice_index_or rows.new k [] ≡ slice_index_or rows.old k [] ++ leaves_in k (l ∷ [])) }
+/// Puts a written event into the tree of its measure, where there is one.
+fn put_written(
+    alloc: Global,
+    trees: &mut [Tree],
+    w: Written,
+    waits: Waits,
+    words: Row<Option<Text>>,
+    id: u32,
+) -> Result<(), Memory>
+    requires ready { (k : ℕ) → k < length trees.old → IsReady (slice_index_or trees.old k no_tree).stack.items }
+    requires drawn { All (λ v. v.dots ≤ 3) w.values }
+    ensures ready { OnOk result ((k : ℕ) → k < length trees.old → IsReady (slice_index_or trees.new k no_tree).stack.items) }
+    ensures grown { OnOk result ((k : ℕ) (leaves : List Leaf) → k < length trees.old → grown (slice_index_or trees.new k no_tree) (leaves_in k leaves) ≡ grown (slice_index_or trees.old k no_tree) (leaves_in k (Leaf.Event w.measure (nodes_of w waits words id) ∷ leaves))) }
 {
-    let measure = leaf_measure(&l);
-    if measure >= rows.len() as u64 {
+    let measure = w.measure;
+    if measure >= trees.len() as u64 {
         return Ok(());
     }
-    rows[measure as usize].push(l)
+    put_event(alloc, &mut trees[measure as usize], w, waits, words, id)
 }
 
-/// The leaves of each measure of a voice of these signs.
-fn rows_of(
+/// Opens a tuplet in the tree of its measure, where there is one.
+fn put_opening(
+    alloc: Global,
+    trees: &mut [Tree],
+    measure: u64,
+    p: u8,
+    q: u8,
+    r: u8,
+) -> Result<(), Memory>
+    requires { (k : ℕ) → k < length trees.old → IsReady (slice_index_or trees.old k no_tree).stack.items }
+    ensures ready { OnOk result ((k : ℕ) → k < length trees.old → IsReady (slice_index_or trees.new k no_tree).stack.items) }
+    ensures grown { OnOk result ((k : ℕ) (leaves : List Leaf) → k < length trees.old → grown (slice_index_or trees.new k no_tree) (leaves_in k leaves) ≡ grown (slice_index_or trees.old k no_tree) (leaves_in k (Leaf.Opens measure p q r ∷ leaves))) }
+{
+    if measure >= trees.len() as u64 {
+        return Ok(());
+    }
+    put_tuplet(alloc, &mut trees[measure as usize], p, q, r)
+}
+
+/// Puts a sign. `words` has a row for each written event, with a place for each verse.
+fn put_sign(
+    alloc: Global,
+    trees: &mut [Tree],
+    at: &mut Numbers,
+    sign: Sign,
+    words: &[Row<Option<Text>>],
+) -> Result<(), Memory>
+    requires ready { (k : ℕ) → k < length trees.old → IsReady (slice_index_or trees.old k no_tree).stack.items }
+    requires drawn { IsDrawn sign }
+    ensures ready { OnOk result ((k : ℕ) → k < length trees.old → IsReady (slice_index_or trees.new k no_tree).stack.items) }
+    ensures grown { OnOk result ((k : ℕ) (signs : List Sign) → k < length trees.old → grown (slice_index_or trees.new k no_tree) (leaves_in k (leaves_from words.now at.new.event at.new.id signs)) ≡ grown (slice_index_or trees.old k no_tree) (leaves_in k (leaves_from words.now at.old.event at.old.id (sign ∷ signs)))) }
+{
+    match sign {
+        Sign::Event { written, waiting } => {
+            let sung = words_at(alloc, words, at.event)?;
+            let id = at.id;
+            at.id = id_behind(id, written.values.as_slice().len())?;
+            at.event = at.event.checked_add(1).ok_or(Memory)?;
+            put_written(alloc, trees, written, waiting, sung, id)?;
+            Ok(())
+        }
+        Sign::Opens { measure, p, q, r } => put_opening(alloc, trees, measure, p, q, r),
+    }
+}
+
+/// The trees of the measures of a voice of these signs.
+fn trees_of(
     alloc: Global,
     signs: Row<Sign>,
     words: &[Row<Option<Text>>],
     n: usize,
-) -> Result<Vec<Row<Leaf>>, Memory>
+) -> Result<Vec<Tree>, Memory>
     requires { All IsDrawn signs }
     ensures len { IfOk result (λ v. length v.items ≡ n) }
-    ensures rows { IfOk result (λ v. (k : ℕ) → k < n → slice_index_or v.items k [] ≡ leaves_in k (leaves_of words.now signs)) }
+    ensures trees { IfOk result (λ v. (k : ℕ) → k < n → grown (slice_index_or v.items k no_tree) [] ≡ tree_of (leaves_in k (leaves_of words.now signs))) }
 {
     let room = signs.len().checked_div(n).unwrap_or(0);
-    let mut rows = empty_rows(alloc, n, room)?;
+    let mut trees = empty_trees(alloc, n, room)?;
     let mut at = Numbers { event: 0, id: 0 };
     for sign in signs.items {
-        let l = leaf_of(alloc, &mut at, sign, words)?;
-        put_leaf(&mut rows, l)?;
+        put_sign(alloc, &mut trees, &mut at, sign, words)?;
     }
-    Ok(rows)
+    Ok(trees)
 }
 
 /// The measures of a voice of these signs, one for each bar. `words` has a row
@@ -73,11 +123,11 @@ pub fn measures_of(
     requires { All IsDrawn signs }
     ensures { IfOk result (λ r. r ≡ measures_of signs words.now bars.now) }
 {
-    let rows = rows_of(alloc, signs, words, bars.len())?;
+    let trees = trees_of(alloc, signs, words, bars.len())?;
     let mut measures = Row::new(alloc);
     let mut k = 0;
-    for row in rows {
-        let body = tree_of(alloc, row)?;
+    for tree in trees {
+        let body = nodes_of(alloc, tree)?;
         measures.push(Measure { body, bar: bars[k] })?;
         k += 1;
     }

@@ -1,11 +1,12 @@
-ghost use Rattle.std.specs.Prelude.{◌≡◌, ◌++◌, ◌∷◌, [], IfOk, OnOk};
+ghost use Rattle.std.specs.{Prelude.{◌≡◌, ◌≤◌, ◌++◌, ◌∷◌, [], List, IfOk, OnOk}, List.All};
+ghost use Rattle.mus_score.specs.declared.score.Music.{Music};
 ghost use Rattle.mus_score.specs.declared.score.Music.TheVariants as music;
-ghost use Rattle.abc_events.specs.declared.leaves.Leaf.TheVariants as leaf;
-ghost use Rattle.abc_events.specs.Nesting.{tree_of, Puts, IsReady, one, whole, none_more, put_in_front};
+ghost use Rattle.abc_events.specs.{Leaf.Leaf, Leaves.nodes_of, Nesting.{Puts, IsReady, one, put_in_front, grown}};
 
-use crate::leaves::Leaf;
+use crate::leaves::put_nodes;
+use crate::written::{Waits, Written};
 use mus_score::Music;
-use mus_units::{Few, Memory, Row};
+use mus_units::{Memory, Row, Text};
 use smallvec::SmallVec;
 use std::alloc::Global;
 use std::default::MadeWith;
@@ -31,6 +32,14 @@ impl MadeWith<Global> for Open {
             before: Row::new(alloc),
         }
     }
+}
+
+/// The tree of a measure as far as its leaves are put: the tuplets that still take
+/// events, outermost first, and the row behind the innermost.
+#[derive(Drop)]
+pub struct Tree {
+    pub stack: SmallVec<Open, 2>,
+    pub body: Row<Music>,
 }
 
 /// Puts a tuplet behind what stands before it.
@@ -65,16 +74,11 @@ fn close_full(
     Ok(())
 }
 
-/// Puts an event, which the innermost tuplet takes.
-fn put_event(
-    stack: &mut SmallVec<Open, 2>,
-    body: &mut Row<Music>,
-    nodes: Few<Music>,
-) -> Result<(), Memory>
+/// Takes an event into the innermost tuplet, whose nodes are put behind a body.
+fn take_event(stack: &mut SmallVec<Open, 2>) -> Result<(), Memory>
     requires { IsReady stack.old.items }
-    ensures { OnOk result (Puts stack.old.items body.old stack.new.items body.new (one nodes)) }
+    ensures { OnOk result ((body nodes : List Music) → Puts stack.old.items body stack.new.items (body ++ nodes) (one nodes)) }
 {
-    nodes.move_to(body)?;
     let Some(o) = stack.pop() else {
         return Ok(());
     };
@@ -119,7 +123,7 @@ fn open_tuplet(
     r: u8,
 ) -> Result<(), Memory>
     requires { IsReady stack.old.items }
-    ensures { OnOk result (Puts stack.old.items body.old stack.new.items body.new (put_in_front (leaf.Opens 0 p q r))) }
+    ensures { OnOk result (Puts stack.old.items body.old stack.new.items body.new (put_in_front (Leaf.Opens 0 p q r))) }
 {
     let Some(o) = stack.pop() else {
         return begin(alloc, stack, body, p, q, r);
@@ -134,47 +138,42 @@ fn open_tuplet(
     Ok(())
 }
 
-/// Puts a leaf.
-fn put_leaf(
+/// Puts a written event into the tree of its measure.
+pub fn put_event(
     alloc: Global,
-    stack: &mut SmallVec<Open, 2>,
-    body: &mut Row<Music>,
-    l: Leaf,
+    tree: &mut Tree,
+    w: Written,
+    waits: Waits,
+    words: Row<Option<Text>>,
+    id: u32,
 ) -> Result<(), Memory>
-    requires { IsReady stack.old.items }
-    ensures puts { OnOk result (Puts stack.old.items body.old stack.new.items body.new (put_in_front l)) }
-    ensures ready { OnOk result (IsReady stack.new.items) }
+    requires ready { IsReady tree.old.stack.items }
+    requires drawn { All (λ v. v.dots ≤ 3) w.values }
+    ensures puts { OnOk result (Puts tree.old.stack.items tree.old.body tree.new.stack.items tree.new.body (one (nodes_of w waits words id))) }
+    ensures ready { OnOk result (IsReady tree.new.stack.items) }
 {
-    match l {
-        Leaf::Event { measure: _, nodes } => put_event(stack, body, nodes)?,
-        Leaf::Opens { p, q, r, .. } => open_tuplet(alloc, stack, body, p, q, r)?,
-    }
-    close_full(alloc, stack, body)
-}
-
-/// Closes all tuplets, at the end of a row.
-fn close_all(
-    alloc: Global,
-    stack: &mut SmallVec<Open, 2>,
-    body: &mut Row<Music>,
-) -> Result<(), Memory>
-    ensures { OnOk result (body.new ≡ whole stack.old.items body.old none_more) }
-{
-    while let Some(o) = stack.pop() {
-        close(alloc, o, body)?;
-    }
+    put_nodes(alloc, &mut tree.body, w, waits, words, id)?;
+    take_event(&mut tree.stack)?;
+    close_full(alloc, &mut tree.stack, &mut tree.body)?;
     Ok(())
 }
 
-/// The tree of a row of leaves: each tuplet takes the next events behind it.
-pub fn tree_of(alloc: Global, leaves: Row<Leaf>) -> Result<Row<Music>, Memory>
-    ensures { IfOk result (λ r. r ≡ tree_of leaves) }
+/// Opens a tuplet in the tree of its measure.
+pub fn put_tuplet(alloc: Global, tree: &mut Tree, p: u8, q: u8, r: u8) -> Result<(), Memory>
+    requires { IsReady tree.old.stack.items }
+    ensures puts { OnOk result (Puts tree.old.stack.items tree.old.body tree.new.stack.items tree.new.body (put_in_front (Leaf.Opens 0 p q r))) }
+    ensures ready { OnOk result (IsReady tree.new.stack.items) }
 {
-    let mut stack = SmallVec::new(alloc);
-    let mut body = Row::with_room(alloc, leaves.len())?;
-    for l in leaves.items {
-        put_leaf(alloc, &mut stack, &mut body, l)?;
+    open_tuplet(alloc, &mut tree.stack, &mut tree.body, p, q, r)?;
+    close_full(alloc, &mut tree.stack, &mut tree.body)
+}
+
+/// The nodes of a tree, whose open tuplets take no more.
+pub fn nodes_of(alloc: Global, mut tree: Tree) -> Result<Row<Music>, Memory>
+    ensures { IfOk result (λ r. r ≡ grown tree []) }
+{
+    while let Some(o) = tree.stack.pop() {
+        close(alloc, o, &mut tree.body)?;
     }
-    close_all(alloc, &mut stack, &mut body)?;
-    Ok(body)
+    Ok(tree.body)
 }

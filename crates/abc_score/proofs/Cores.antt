@@ -2,7 +2,7 @@
 use Rattle.std.{proofs.{Common.{◌≡◌, ◌∙◌, refl, sym, ap, subst, ℕ, suc, ◌*◌, List, [], ◌∷◌, ◌++◌, map, length, append-nil, append_assoc, IfSome}, lemmas.List.{map-append, Concat.flat_map-append, Elements.{All-nil, All-cons}}}, specs.{Prelude.{⊤, flat_map}, List.{All, AllByRecursion}}}
 use Rattle.mus_units.specs.{declared.pitch.Clef.Clef, Good.IsGoodKey, Good.IsGoodMeter}
 use Rattle.mus_score.specs.{declared.{score.{Event.Event, Flat.Flat, Music.Music}, times.Waits.Waits}, GoodScore.{AreCounted, AreInReach, IsGoodEvent, IsInReach, clef_at}, Times.{Leafing, in_row, leaves_within, flats_of, nothing}}
-use Rattle.abc_events.specs.{declared.leaves.Leaf.Leaf, Nesting.Forest, Nesting.none_more, Nesting.one, Nesting.group, Nesting.nest, Nesting.music_of, Nesting.tree_of}
+use Rattle.abc_events.specs.{Leaf.Leaf, Nesting.Forest, Nesting.none_more, Nesting.one, Nesting.group, Nesting.nest, Nesting.music_of, Nesting.tree_of}
 use Rattle.abc_score.proofs.{Basics.front_all, Basics.back_all, Rows.rows, Rows.leaf_rows, Rows.nest_rows, Rows.leaves_tuplet}
 use Rattle.mus_score.specs.declared.score.Music.TheVariants as music
 

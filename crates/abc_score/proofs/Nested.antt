@@ -2,7 +2,7 @@
 use Rattle.std.{proofs.{Common.{◌≡◌, ◌∙◌, refl, sym, ap, subst, ℕ, zero, suc, ◌-◌, ◌≤◌, List, [], ◌∷◌, ◌++◌, map, Bool, true, false, cond, ◌&&◌, ◌||◌, nat_le, arith}, lemmas.Bool.{leb-true, and_parts, and_from, or_right, Decides.nat_tests}}, specs.Prelude.⊤}
 use Rattle.mus_score.specs.{declared.score.Music.Music, declared.good.Judged.Judged, declared.good.Place.Place, Good.all_judged, Good.judged_within, Good.outside}
 use Rattle.abc_steps.specs.{declared.tuplets.Taking.Taking, Tuplets.fits, Tuplets.one_less, Tuplets.after_event, Tuplets.opened}
-use Rattle.abc_events.specs.{declared.leaves.Leaf.Leaf, Nesting.Forest, Nesting.none_more, Nesting.one, Nesting.group, Nesting.cut, Nesting.nest, Nesting.music_of, Nesting.tree_of}
+use Rattle.abc_events.specs.{Leaf.Leaf, Nesting.Forest, Nesting.none_more, Nesting.one, Nesting.group, Nesting.cut, Nesting.nest, Nesting.music_of, Nesting.tree_of}
 use Rattle.abc_score.proofs.Rows.{judged_tuplet}
 use Rattle.mus_score.specs.declared.score.Music.TheVariants as music
 

@@ -1,7 +1,7 @@
 -- The events of a tree in a row: tuplets around them change neither what they are nor what they weigh.
 use Rattle.std.proofs.{Common.{◌≡◌, ◌∙◌, refl, sym, ap, ℕ, zero, suc, ◌+◌, ◌-◌, List, [], ◌∷◌, ◌++◌, map, sum, sum_by, length, Bool, append_assoc, arith}, lemmas.List.{map-append, Sums.{sum_by-cons, sum_by-append}}}
 use Rattle.mus_score.specs.{declared.{score.{Event.Event, Music.{Music, TheOpen.Music-F, TheViews.roll-Music, TheFolds.fold-roll-Music}}, good.{Judged.Judged, Place.Place}}, Good.{weight, weight_step, judged_within, good_step}, Times.{Leafing, leaf, leaves_step, leaves_within}}
-use Rattle.abc_events.specs.{declared.leaves.Leaf.Leaf, Nesting.Forest, Nesting.none_more, Nesting.one, Nesting.group, Nesting.cut, Nesting.nest, Nesting.music_of}
+use Rattle.abc_events.specs.{Leaf.Leaf, Nesting.Forest, Nesting.none_more, Nesting.one, Nesting.group, Nesting.cut, Nesting.nest, Nesting.music_of}
 use Rattle.mus_score.specs.declared.score.Music.TheVariants as music
 
 -- the nodes of each event, from the first to the last

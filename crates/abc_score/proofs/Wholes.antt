@@ -5,7 +5,7 @@ use Rattle.mus_score.specs.{declared.score.Measure.Measure, declared.score.Voice
 use Rattle.abc_header.specs.{declared.header.Header.Header, Headers.HasGoodValues}
 use Rattle.abc_steps.specs.{declared.step.Item.Item, declared.force.InForce.InForce, Good.IsGoodStood, Looks.Steps}
 use Rattle.abc_items.specs.{declared.voices.VoiceStart.VoiceStart, Voices.starts_of, Voices.unnamed_of}
-use Rattle.abc_events.{specs.{declared.{leaves.Leaf.Leaf, written.Sign.Sign}, Bars.{bar_of, bars_of}, Leaves.{Words, leaves_from, words_at}, Measures.{leaves_in, measure_of, measures_in}, Nesting.tree_of, Signs.{IsDrawn, signs}}, proofs.Drawn.walk_drawn}
+use Rattle.abc_events.{specs.{Leaf.Leaf, declared.written.Sign.Sign, Bars.{bar_of, bars_of}, Leaves.{Words, leaves_from, words_at}, Measures.{leaves_in, measure_of, measures_in}, Nesting.tree_of, Signs.{IsDrawn, signs}}, proofs.Drawn.walk_drawn}
 use Rattle.abc_faults.specs.{Faults.faults_in, Weights.crowded}
 use Rattle.abc_words.{specs.declared.music.MusicRow.MusicRow, specs.Verses.verse_count, specs.Verses.verse_fault, specs.Verses.verse_faults, specs.Words.event_words, specs.Words.music_rows, specs.Words.verse_sung, specs.Words.word_of}
 use Rattle.abc_score.{proofs.{Basics.{none_before, none_behind}, Cores.{CoresCount, CoresReach, IsGoodCore, count_of, events_of_cores, reach_of}, Frames.{length_voice, voice_framed}, Full.all_full, Nested.nested_good, Parts.{event_number, signs_count, signs_good, signs_reach, signs_sung}, Reaching.voice_reach, Rising.{own_most, voice_rise}, Rows.{leaf_rows, tree_weight, weight_of}, Segments.{Rise, measures_sing, measures_weigh}, Walks.{walk_changes, walk_parts}, Weighing.{count, leaves_weigh, not_crowded, sign_weight, signs_weigh}}, specs.{Faults.{faults_of_voices, voice_faults, voice_weights}, Framed.IsFramed, Score.{event_count, most_measures, notes_from, own_measures, score_with, sung_words, voice_of, written_measures}, Voices.{IsGoodRead, voice_read, voices_read}, declared.voices.VoiceRead.VoiceRead}}
