@@ -1,4 +1,4 @@
--- The piece that is read is the longest, and equal bytes are one piece only.
+-- The piece that is read is the longest.
 use Rattle.std.proofs.Common.{◌≡◌, ℕ, Bool, List, [], Some, None, sym, ap, ◌∙◌, arith, inl, inr, IfSome}
 use Rattle.abc_pieces.{specs.{declared.token.Before.Before, Forms.{Form, spelled, IsGood, IsAllowed, StandsAt}, Reading.{Read, read, piece_at}}, proofs.{PieceTakes.{Takes, piece_at-takes}, PieceReaches.{piece_at-reaches, longer}}}
 use Rattle.abc_notes.proofs.PartLaws.{Reader}
@@ -21,15 +21,3 @@ piece_reader bang before = record {
       ((o.form, o.rest), ap (piece_at bang before) t.cut ∙ o.is, elim o.ends [ inl shorter ↦ inl shorter | inr same ↦ inr (some_is o.form f o.rest x same) ]);
   longer = λ f s x t. rw t.cut (longer bang f x t.good);
 }
-
-whole_read : (bang : Bool) (before : Before) (f : Form) → IsGood bang f → IsAllowed before f → piece_at bang before (spelled f []) ≡ read f []
-whole_read bang before f good allowed =
-    let r = piece_at-reaches bang before f [] good allowed in
-    elim r.ends [
-      | inl shorter ↦ absurd (omega (arith, shorter))
-      | inr same ↦ r.is ∙ same
-    ]
-
--- equal bytes behind equal pieces are one piece
-pub one_piece : (bang : Bool) (before : Before) (f g : Form) → IsGood bang f → IsAllowed before f → IsGood bang g → IsAllowed before g → spelled f [] ≡ spelled g [] → f ≡ g
-one_piece bang before f g a b c d e = ap (λ (z : Form × List ℕ). z.0) (some_is f g [] [] (sym (whole_read bang before f a b) ∙ ap (piece_at bang before) e ∙ whole_read bang before g c d))
