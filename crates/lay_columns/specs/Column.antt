@@ -1,5 +1,5 @@
 -- What a column answers where it is placed: its reach in a lane, and its spring at a force.
-use Rattle.std.{specs.Prelude.{◌≡◌, ℕ, ◌*◌, ◌/◌, ◌^◌, ◌<◌, ◌≤◌, min, List, Option, Some, None, IfSome, option_map, option_and_then, slice_get}, proofs.Common.{arith}}
+use Rattle.std.{specs.Prelude.{◌≡◌, ℕ, ◌*◌, ◌/◌, ◌^◌, ◌<◌, ◌≤◌, min, List, Option, Some, None, IfSome, option_map, option_and_then, slice_get}, proofs.Common.{arith, refl}}
 use Rattle.lay_springs.specs.declared.traits.Reach.{Reach}
 
 -- no reach passes it
@@ -29,10 +29,10 @@ pub length_rises : (n f g : ℕ) → f ≤ g → length_at n f ≤ length_at n g
 unfolding length_at
 length_rises n f g l = grind arith
 
-pub length_short : (n f : ℕ) → f < 2 ^ 16 → length_at n f ≤ 2 ^ 20
+pub length_scales : (n f : ℕ) → length_at n f ≡ length_at n 256 * f / 256
 unfolding length_at
-length_short n f l = grind arith
+length_scales n f = let natural : min n 4000 * 256 / 256 ≡ min n 4000 = omega arith in rw natural refl
 
-pub length_rests : (n : ℕ) → length_at n 0 ≡ 0
+pub length_short : (n : ℕ) → length_at n 256 ≤ 2 ^ 12
 unfolding length_at
-length_rests n = grind arith
+length_short n = omega arith

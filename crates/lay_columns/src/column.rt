@@ -48,7 +48,7 @@ impl Spaced for Column {
 }
 
 impl Spring for Column {
-    ghost use Rattle.lay_columns.specs.Column.{length_at, length_rises, length_short, length_rests};
+    ghost use Rattle.lay_columns.specs.Column.{length_at, length_scales, length_short};
 
     ghost length_of = { λ c f. length_at c.natural f };
 
@@ -57,9 +57,7 @@ impl Spring for Column {
         self.natural.min(MOST_NATURAL) * u32::from(force) / 256
     }
 
-    ghost rises = { λ c f g l m. length_rises c.natural f g l };
+    ghost is_short = { λ c. length_short c.natural };
 
-    ghost is_short = { λ c f l. length_short c.natural f l };
-
-    ghost at_rest = { λ c. length_rests c.natural };
+    ghost scales = { λ c f. length_scales c.natural f };
 }

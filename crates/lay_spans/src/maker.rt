@@ -1,5 +1,6 @@
 ghost use Rattle.std.specs.Prelude.{◌≡◌, ◌+◌, ◌<◌, ◌≤◌, ◌^◌, ℕ, length, slice_index, slice_index_or, false};
 ghost use Rattle.lay_spans.specs.{Columns.AreMeasures, Rows.IsRowFrom, Single.{measures_prop, one_row, row_small}};
+ghost use Rattle.lay_springs.proofs.Ends.{spring_rises};
 
 use crate::rows::row_from;
 use lay_rows::RowMaker;
@@ -39,7 +40,7 @@ impl<'a, C: Spaced + Spring> RowMaker for SpanMaker<'a, C> {
         )
     }
 
-    ghost is_one = { λ m a row other l h k. one_row C.reach_of C.length_of m.gaps.now m.width m.starts.now m.others.now (λ b. slice_index_or m.marks.now b false) (λ c f g l m. C.rises c f g l m) a row other h k };
+    ghost is_one = { λ m a row other l h k. one_row C.reach_of C.length_of m.gaps.now m.width m.starts.now m.others.now (λ b. slice_index_or m.marks.now b false) (λ c f g l m. spring_rises C.length_of C.scales c f g l) a row other h k };
 
     ghost is_small = { λ m a row l h. row_small C.reach_of C.length_of m.gaps.now m.width m.starts.now m.others.now (λ b. slice_index_or m.marks.now b false) a row h };
 }

@@ -46,9 +46,7 @@ impl<'a, C: Spaced + Spring> Spring for Seen<'a, C> {
         self.column.length(force)
     }
 
-    ghost rises = { λ s f g l m. C.rises s.column.now f g l m };
+    ghost is_short = { λ s. C.is_short s.column.now };
 
-    ghost is_short = { λ s f l. C.is_short s.column.now f l };
-
-    ghost at_rest = { λ s. C.at_rest s.column.now };
+    ghost scales = { λ s force. C.scales s.column.now force };
 }

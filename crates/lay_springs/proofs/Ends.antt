@@ -1,5 +1,5 @@
 -- The end of the columns, and how it grows with the force.
-use Rattle.std.proofs.{Common.{◌≡◌, ℕ, ◌+◌, ◌-◌, ◌<◌, ◌≤◌, ℤ, pos, ◌+ℤ◌, ◌≤ℤ◌, List, Option, None, Some, option_map, unwrap_or, slice_get, arith, sym, ◌∙◌}, lemmas.{Int.ints, Option.same_Some}}
+use Rattle.std.proofs.{Common.{◌≡◌, ℕ, ◌+◌, ◌-◌, ◌*◌, ◌/◌, ◌<◌, ◌≤◌, ℤ, pos, ◌+ℤ◌, ◌≤ℤ◌, List, Option, None, Some, option_map, unwrap_or, slice_get, arith, sym, ◌∙◌}, lemmas.{Int.ints, Option.same_Some}, Math.Nat.{mul-le-mul_left, mul-le-mul_right}}
 use Rattle.lay_springs.{specs.{declared.traits.Reach.Reach, Place.{length_at, StandApart}, Fit.{IsEndOf, EndsAt}}, proofs.Clear.below_or_at}
 
 pub end_more : (reach : ℕ → Option Reach) (lane : ℕ) (at old new : ℤ) (r : Reach) → reach lane ≡ Some r
@@ -34,6 +34,13 @@ end_down n reach gaps spring f g d e some le a b =
     let last = a.place.least b.x (apart_down n reach gaps (spring f) (spring g) b.x le b.place.apart) (n - 1) (omega arith) in
     a.end.least e (let p = b.end.past in omega (arith, ints))
     (λ k r l er. let q = b.end.reaches k r l er in omega (arith, ints))
+
+-- a spring grows with the force
+pub spring_rises : {C : Type 0} (len : C → ℕ → ℕ) → ((c : C) (f : ℕ) → len c f ≡ len c 256 * f / 256) → (c : C) (f g : ℕ) → f ≤ g → len c f ≤ len c g
+spring_rises len scales c f g l = let less = scales c f in let more = scales c g in let up = mul-le-mul_left (len c 256) l in omega arith
+
+pub spring_short : (natural force length result : ℕ) → natural ≤ 4096 → length ≡ natural * force / 256 → force < 65536 → result ≡ length → result ≤ 1048576
+spring_short natural force length result short scales small is = let most = mul-le-mul_right force short in omega arith
 
 -- the springs of a list of columns grow with the force
 pub length_rises : {C : Type 0} (len : C → ℕ → ℕ) (cols : List C) (f g : ℕ) → ((c : C) → len c f ≤ len c g)

@@ -14,8 +14,8 @@ past_more reach gaps lane front old new s es l m h k u lt eu =
     (λ eu p. let b : s ≡ u = same_Some s u (sym es ∙ eu) in rw (← b) (m p))
     eu
 
-module _ (n : ℕ) (reach : ℕ → ℕ → Option Reach) (gaps : List ℕ) (spring : ℕ → ℕ) (j : ℕ) (x front : List ℤ)
-    (placed : IsPlacedTo n j reach gaps spring x) (fronts : IsFront j reach (length gaps) x front) where
+module _ (n : ℕ) (reach : ℕ → ℕ → Option Reach) (gaps : List ℕ) (spring : ℕ → ℕ → ℕ) (force natural count j : ℕ) (x front : List ℤ)
+    (placed : IsPlacedTo n j reach gaps spring force natural count x) (fronts : IsFront j reach (length gaps) x front) where
   pub front_clear : (v : ℤ) → IsPast (reach j) gaps (length gaps) front v
       → (i : ℕ) → i < j → IsClear (reach i) (reach j) gaps (length gaps) (at x i) v
   front_clear v past i l lane r s lt er es =
@@ -24,12 +24,14 @@ module _ (n : ℕ) (reach : ℕ → ℕ → Option Reach) (gaps : List ℕ) (spr
       let p = past lane s lt es (omega (arith, ints)) in
       omega (arith, ints)
 
-  pub front_below : (y : List ℤ) → j < n → StandApart n reach gaps spring y → IsPast (reach j) gaps (length gaps) front (at y j)
-  front_below y l h lane s lt es some =
+  -- past a column that stands in a list that is at most so far below, at another force too
+  pub front_below : (weak : ℕ → ℕ) (y : List ℤ) (d : ℕ) (w : ℤ) → j < n → StandApart n reach gaps weak y
+      → ((k : ℕ) → k < j → at x k ≤ℤ (at y k +ℤ pos d)) → (at y j +ℤ pos d) ≤ℤ w → IsPast (reach j) gaps (length gaps) front w
+  front_below weak y d w l h near up lane s lt es some =
       let k = fronts.stands lane lt some in
       let e = k.4 in
       let c = h.lanes k.0 j k.2 l lane k.1 s lt k.3 es in
-      let b = placed.least y h k.0 k.2 in
+      let b = near k.0 k.2 in
       omega (arith, ints)
 
   pub past_bound : ((k lane : ℕ) → lane < length gaps → IfSome (reach k lane) (λ r. (r.left ≤ 1048576) × (r.right ≤ 1048576)))

@@ -1,15 +1,15 @@
 -- One column more is placed.
-use Rattle.std.proofs.Common.{◌≡◌, ℕ, ◌+◌, ◌*◌, ◌<◌, ◌≢◌, ℤ, pos, ◌+ℤ◌, ◌≤ℤ◌, List, length, Option, None, Some, IfSome, option_and_then, slice_get, slice_index_or, slice_set, ap, sym, arith, subst, refl, get_or-set_same, get_or-set_other}
-use Rattle.lay_springs.{specs.{declared.traits.Reach.Reach, Place.{reach_at, length_at, IsClear, IsInside, StandApart, IsPlacedTo}}, proofs.Clear.below_or_at}
+use Rattle.std.proofs.{Common.{◌≡◌, ℕ, ◌+◌, ◌*◌, ◌<◌, ◌≤◌, ◌≢◌, ℤ, pos, ◌+ℤ◌, ◌≤ℤ◌, List, length, Option, None, Some, IfSome, option_and_then, slice_get, slice_index_or, slice_set, ap, sym, arith, subst, refl, get_or-set_same, get_or-set_other}, lemmas.Int.ints}
+use Rattle.lay_springs.{specs.{declared.traits.Reach.Reach, Place.{reach_at, length_at, IsClear, IsInside, StandApart, IsPlace, IsPlacedTo, slack}}, proofs.{Clear.below_or_at, Near.slack_up}}
 
 -- the abscissa of a column
 abbrev at : List ℤ → ℕ → ℤ
 at x k = slice_index_or x k (pos 0)
 
-module _ (n : ℕ) (reach : ℕ → ℕ → Option Reach) (gaps : List ℕ) (spring : ℕ → ℕ) where
+module _ (n : ℕ) (reach : ℕ → ℕ → Option Reach) (gaps : List ℕ) (spring : ℕ → ℕ → ℕ) (force : ℕ) where
   pub placed_first : (x : List ℤ) (v : ℤ) → 0 < n → 0 < length x → pos 0 ≤ℤ v → IsInside (reach 0) (length gaps) v
       → ((w : ℤ) → pos 0 ≤ℤ w → IsInside (reach 0) (length gaps) w → v ≤ℤ w) → v ≤ℤ pos 1048576
-      → IsPlacedTo n 1 reach gaps spring (slice_set x 0 v)
+      → IsPlacedTo n 1 reach gaps spring force 0 0 (slice_set x 0 v)
   placed_first x v some room begins inside least small = record {
     apart = record {
       begins = λ _. rw here begins;
@@ -18,8 +18,8 @@ module _ (n : ℕ) (reach : ℕ → ℕ → Option Reach) (gaps : List ℕ) (spr
       steps = λ i l. absurd (omega arith);
       springs = λ i l. absurd (omega arith);
     };
-    least = λ y h k l. let z : 0 ≡ k = omega arith in
-        subst (λ k. at (slice_set x 0 v) k ≤ℤ at y k) z (rw here (least (at y 0) (h.begins some) (h.head some)));
+    near = λ g drop y e h k l. let z : 0 ≡ k = omega arith in let first = least (at y 0) (h.begins some) (h.head some) in
+        subst (λ k. at (slice_set x 0 v) k ≤ℤ (at y k +ℤ pos (slack 0 0 drop))) z (rw here (omega (arith, ints)));
     small = λ k l. let z : 0 ≡ k = omega arith in
         subst (λ k. (pos 0 ≤ℤ at (slice_set x 0 v) k) × (at (slice_set x 0 v) k ≤ℤ pos (1048576 + 3145728 * k))) z (rw here (begins, small));
   }
@@ -28,14 +28,15 @@ module _ (n : ℕ) (reach : ℕ → ℕ → Option Reach) (gaps : List ℕ) (spr
       here = get_or-set_same x 0 v (pos 0) room
 
   -- column j is placed at v
-  pub placed_more : (x : List ℤ) (j : ℕ) (v : ℤ) → 0 < j → j < length x → IsPlacedTo n j reach gaps spring x
+  pub placed_more : (natural count natural' count' : ℕ) (x : List ℤ) (j : ℕ) (v : ℤ) → 0 < j → j < length x → IsPlacedTo n j reach gaps spring force natural count x
+      → natural ≤ natural' → count ≤ count'
       → ((i : ℕ) → i + 1 ≡ j → (at x i +ℤ pos 100) ≤ℤ v)
-      → ((i : ℕ) → i + 1 ≡ j → (at x i +ℤ pos (spring i)) ≤ℤ v)
+      → ((i : ℕ) → i + 1 ≡ j → (at x i +ℤ pos (spring force i)) ≤ℤ v)
       → ((i : ℕ) → i < j → IsClear (reach i) (reach j) gaps (length gaps) (at x i) v)
-      → ((y : List ℤ) → StandApart n reach gaps spring y → v ≤ℤ at y j)
+      → ((g drop : ℕ) (y : List ℤ) → g + drop ≡ force → StandApart n reach gaps (spring g) y → v ≤ℤ (at y j +ℤ pos (slack natural' count' drop)))
       → (pos 0 ≤ℤ v) × (v ≤ℤ pos (1048576 + 3145728 * j))
-      → IsPlacedTo n (j + 1) reach gaps spring (slice_set x j v)
-  placed_more x j v pos_j room h step spr clear least small = record {
+      → IsPlacedTo n (j + 1) reach gaps spring force natural' count' (slice_set x j v)
+  placed_more natural count natural' count' x j v pos_j room h more many step spr clear near small = record {
     apart = record {
       begins = λ _. rw (same 0 pos_j) (h.apart.begins pos_j);
       head = λ _. rw (same 0 pos_j) (h.apart.head pos_j);
@@ -45,13 +46,13 @@ module _ (n : ℕ) (reach : ℕ → ℕ → Option Reach) (gaps : List ℕ) (spr
       steps = λ i l. below_or_at (λ k. k ≡ i + 1 → (at x' i +ℤ pos 100) ≤ℤ at x' k) (i + 1) j l
           (λ l e. rw (same i (omega arith), same (i + 1) l) (h.apart.steps i l))
           (λ e. rw (same i (omega arith), here) (step i (sym e))) refl;
-      springs = λ i l. below_or_at (λ k. k ≡ i + 1 → (at x' i +ℤ pos (spring i)) ≤ℤ at x' k) (i + 1) j l
+      springs = λ i l. below_or_at (λ k. k ≡ i + 1 → (at x' i +ℤ pos (spring force i)) ≤ℤ at x' k) (i + 1) j l
           (λ l e. rw (same i (omega arith), same (i + 1) l) (h.apart.springs i l))
           (λ e. rw (same i (omega arith), here) (spr i (sym e))) refl;
     };
-    least = λ y a k l. below_or_at (λ k. at x' k ≤ℤ at y k) k j l
-        (λ l. rw (same k l) (h.least y a k l))
-        (rw here (least y a));
+    near = λ g drop y e a k l. below_or_at (λ k. at x' k ≤ℤ (at y k +ℤ pos (slack natural' count' drop))) k j l
+        (λ l. let old = h.near g drop y e a k l in let up = slack_up natural count natural' count' drop more many in rw (same k l) (omega (arith, ints)))
+        (rw here (near g drop y e a));
     small = λ k l. below_or_at (λ k. (pos 0 ≤ℤ at x' k) × (at x' k ≤ℤ pos (1048576 + 3145728 * k))) k j l
         (λ l. rw (same k l) (h.small k l))
         (rw here small);
@@ -65,6 +66,15 @@ module _ (n : ℕ) (reach : ℕ → ℕ → Option Reach) (gaps : List ℕ) (spr
 
       here : at (slice_set x j v) j ≡ v
       here = get_or-set_same x j v (pos 0) room
+
+-- all are placed
+pub place_of : (n j : ℕ) (reach : ℕ → ℕ → Option Reach) (gaps : List ℕ) (spring : ℕ → ℕ → ℕ) (force natural count : ℕ) (x : List ℤ) → j ≡ n → length x ≡ n
+    → IsPlacedTo n j reach gaps spring force natural count x → IsPlace n reach gaps (spring force) x
+place_of n j reach gaps spring force natural count x all room h = record {
+  count = room;
+  apart = subst (λ j. StandApart j reach gaps (spring force) x) all h.apart;
+  least = λ y a k l. let z : force + 0 ≡ force = omega arith in let near = h.near force 0 y z a k (omega arith) in omega (arith, ints);
+}
 
 -- what is at a column that was read
 pub reach_is : {C : Type 0} (reach : C → ℕ → Option Reach) (cols : List C) (i : ℕ) (c : C) → slice_get cols i ≡ Some c → reach_at reach cols i ≡ reach c

@@ -1,5 +1,5 @@
 -- Where columns stand: the least list of abscissas that keeps them apart.
-use Rattle.std.specs.Prelude.{◌≡◌, ℕ, ◌+◌, ◌*◌, ◌^◌, ◌⊎◌, MatchOption, ◌<◌, ℤ, pos, ◌+ℤ◌, ◌≤ℤ◌, List, length, Option, Some, option_map, option_and_then, unwrap_or, slice_get, slice_index, slice_index_or}
+use Rattle.std.specs.Prelude.{◌≡◌, ℕ, ◌+◌, ◌*◌, ◌/◌, ◌^◌, ◌⊎◌, min, MatchOption, ◌<◌, ℤ, pos, ◌+ℤ◌, ◌≤ℤ◌, List, length, Option, Some, option_map, option_and_then, unwrap_or, slice_get, slice_index, slice_index_or}
 use Rattle.lay_springs.specs.declared.traits.Reach.{Reach}
 
 -- the reach of column i in a lane
@@ -34,16 +34,26 @@ abbrev pub IsBelowAll : ℕ → ℕ → (ℕ → ℕ → Option Reach) → List 
 IsBelowAll n j reach gaps spring x = (y : List ℤ) → StandApart n reach gaps spring y
     → (k : ℕ) → k < j → slice_index_or x k (pos 0) ≤ℤ slice_index_or y k (pos 0)
 
+-- how far columns can come nearer where the force falls by `drop`: `count` springs alone hold neighbors apart, `natural` is the sum of
+-- their natural lengths, and each counts as whole u
+abbrev pub slack : ℕ → ℕ → ℕ → ℕ
+slack natural count drop = (natural * drop + 255 * min count (natural * drop)) / 256
+
+-- no list that keeps n columns apart at a force that is less by `drop` is further below the first j abscissas of x
+abbrev pub IsNear : ℕ → ℕ → (ℕ → ℕ → Option Reach) → List ℕ → (ℕ → ℕ → ℕ) → ℕ → ℕ → ℕ → List ℤ → Type 0
+IsNear n j reach gaps spring force natural count x = (g drop : ℕ) (y : List ℤ) → g + drop ≡ force → StandApart n reach gaps (spring g) y
+    → (k : ℕ) → k < j → slice_index_or x k (pos 0) ≤ℤ (slice_index_or y k (pos 0) +ℤ pos (slack natural count drop))
+
 -- x is the pointwise least of the lists that keep the columns apart
 pub record IsPlace (n : ℕ) (reach : ℕ → ℕ → Option Reach) (gaps : List ℕ) (spring : ℕ → ℕ) (x : List ℤ) : Type 0 where
   pub count : length x ≡ n
   pub apart : StandApart n reach gaps spring x
   pub least : IsBelowAll n n reach gaps spring x
 
--- the first j of n columns are placed
-pub record IsPlacedTo (n j : ℕ) (reach : ℕ → ℕ → Option Reach) (gaps : List ℕ) (spring : ℕ → ℕ) (x : List ℤ) : Type 0 where
-  pub apart : StandApart j reach gaps spring x
-  pub least : IsBelowAll n j reach gaps spring x
+-- the first j of n columns are placed at a force, behind such springs
+pub record IsPlacedTo (n j : ℕ) (reach : ℕ → ℕ → Option Reach) (gaps : List ℕ) (spring : ℕ → ℕ → ℕ) (force natural count : ℕ) (x : List ℤ) : Type 0 where
+  pub apart : StandApart j reach gaps (spring force) x
+  pub near : IsNear n j reach gaps spring force natural count x
   pub small : (k : ℕ) → k < j → (pos 0 ≤ℤ slice_index_or x k (pos 0)) × (slice_index_or x k (pos 0) ≤ℤ pos (1048576 + 3145728 * k))
 
 -- front has for each lane the greatest abscissa plus right reach of the first j columns in it, or a number below 0 where none stands in it

@@ -1,7 +1,7 @@
 ghost use Rattle.std.specs.Prelude.{◌≡◌, ◌+◌, ◌^◌, ◌<◌, ◌≤◌, ℕ, ℤ, pos, ◌≤ℤ◌, IfSome, IfNone, length, slice_index, slice_index_or};
-ghost use Rattle.lay_springs.specs.{Fit.{IsEndOf, EndsAt, Fits, CanStand, LongerFitsLess, Passes, most_columns}, Place.{reach_at, length_at}};
+ghost use Rattle.lay_springs.specs.{Fit.{IsEndOf, Fits, CanStand, LongerFitsLess, Passes, most_columns}, Place.{reach_at, length_at}};
 
-use crate::guesses::{crossing, nearest};
+use crate::guesses::{highest, lowered};
 use crate::least::{larger, settle};
 use crate::traits::{Spaced, Spring};
 
@@ -22,35 +22,35 @@ pub(crate) fn end_of<C: Spaced>(col: &C, lanes: usize, at: i64) -> i64
     end
 }
 
-/// Where columns end at a force, and the length of the springs that alone hold neighbors apart.
-struct Ended {
-    end: i64,
-    tight: u64,
-}
-
-/// Where the columns end at a force.
-fn end_at<C: Spaced + Spring>(
+/// None where the columns end within the width at a force. Otherwise a force from which on they
+/// can't: at most that force, and 0 only where it is 0.
+fn too_great<C: Spaced + Spring>(
     cols: &[C],
     gaps: &[u32],
+    width: u32,
     force: u16,
     at: &mut [i64],
     front: &mut [i64],
-) -> Ended
+) -> Option<u16>
     requires some { 0 < length cols.now }
     requires few { length cols.now ≤ 2 ^ 26 }
     requires lanes { length gaps.now < 2 ^ 32 }
     requires narrow { (lane : ℕ) → lane < length gaps.now → slice_index gaps.now lane ≤ 2 ^ 20 }
     requires room { length at.old ≡ length cols.now }
     requires one_each { length front.old ≡ length gaps.now }
-    ensures end { EndsAt (length cols.now) (reach_at C.reach_of cols.now) gaps.now (length_at C.length_of cols.now) force result.end }
-    ensures past { pos 0 ≤ℤ result.end }
-    ensures below { result.end ≤ℤ pos (2 ^ 49) }
-    ensures tight { result.tight ≤ 2 ^ 47 }
+    ensures fits { IfNone result (Fits (length cols.now) (reach_at C.reach_of cols.now) gaps.now (length_at C.length_of cols.now) width force) }
+    ensures below { IfSome result (λ past. past ≤ force) }
+    ensures zero { IfSome result (λ past. past ≡ 0 → Passes (length cols.now) (reach_at C.reach_of cols.now) gaps.now (length_at C.length_of cols.now) width 0) }
+    ensures never { IfSome result (λ past. (g : ℕ) → past ≤ g
+        → CanStand (length cols.now) (reach_at C.reach_of cols.now) gaps.now (length_at C.length_of cols.now) width g → ⊥) }
 {
     let tight = settle(cols, gaps, force, at, front);
     let last = cols.len() - 1;
     let end = end_of(&cols[last], gaps.len(), at[last]);
-    Ended { end, tight }
+    if end <= i64::from(width) {
+        return None;
+    }
+    Some(lowered(force, (end - i64::from(width)) as u64, tight))
 }
 
 /// The most columns that can stand within a width, in u: neighbors stand 100 apart.
@@ -62,7 +62,7 @@ pub fn most_columns(width: u32) -> usize
 
 /// The greatest force of 0 to 2048 at which the columns end within the width, in u.
 /// None exactly where their end at force 0 passes it. Takes no memory: `scratch`
-/// has a place for each column and for each lane. It tries at most 12 forces.
+/// has a place for each column and for each lane. It tries at most 13 forces.
 pub fn fit<C: Spaced + Spring>(
     cols: &[C],
     gaps: &[u32],
@@ -84,9 +84,9 @@ pub fn fit<C: Spaced + Spring>(
 }
 
 /// The greatest force of 0 to `most` at which the columns end within the width, as
-/// `fit` finds it where `most` is 2048. It tries the force at which the line through
-/// the last two ends crosses the width, as far as at most 12 forces in all leave it
-/// the choice.
+/// `fit` finds it where `most` is 2048. It tries the highest force that is left, as far as at
+/// most 13 forces in all leave it the choice. Where the columns end past the width, the springs
+/// that alone hold neighbors apart tell how far the force has to fall at least.
 pub fn fit_within<C: Spaced + Spring>(
     cols: &[C],
     gaps: &[u32],
@@ -110,17 +110,13 @@ pub fn fit_within<C: Spaced + Spring>(
     let front = &mut rest[..gaps.len()];
     let mut low = 0;
     let mut high = most + 1;
-    let mut half = 2048;
-    let mut guess = most.min(1024);
+    let mut half = 2049;
     while low < high {
-        let force = nearest(guess, low, high, half);
-        let Ended { end, tight } = end_at(cols, gaps, force, at, front);
-        guess = crossing(force, end as u64, tight, width);
+        let force = highest(low, high, half);
         half = half.div_ceil(2);
-        if end <= i64::from(width) {
-            low = force + 1;
-        } else {
-            high = force;
+        match too_great(cols, gaps, width, force, at, front) {
+            None => low = force + 1,
+            Some(past) => high = past,
         }
     }
     if low == 0 { None } else { Some(low - 1) }

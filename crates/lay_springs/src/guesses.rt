@@ -1,32 +1,34 @@
-ghost use Rattle.std.specs.Prelude.{◌+◌, ◌*◌, ◌<◌, ◌≤◌, ◌^◌};
+ghost use Rattle.std.specs.Prelude.{◌≡◌, ◌+◌, ◌*◌, ◌<◌, ◌≤◌, ◌^◌, ℕ};
+ghost use Rattle.lay_springs.specs.Place.{slack};
 
-/// The force at which columns that end at `end` at a force would end at the width if
-/// none but the tight springs changed; at most 2048.
-pub(crate) fn crossing(force: u16, end: u64, tight: u64, width: u32) -> u16
-    requires end { end ≤ 2 ^ 49 }
-    requires tight { tight ≤ 2 ^ 47 }
+use crate::least::Tight;
+
+/// A force from which on none but `force` itself lets columns end within a width that they pass
+/// by `over` at `force`; 0 only where that is 0.
+pub(crate) fn lowered(force: u16, over: u64, tight: Tight) -> u16
+    requires over { over ≤ 2 ^ 49 }
+    requires few { tight.count ≤ 2 ^ 26 }
+    requires natural { tight.natural ≤ 2 ^ 38 }
+    ensures below { result ≤ force }
+    ensures zero { result ≡ 0 → force ≡ 0 }
+    ensures past { (g drop : ℕ) → g + drop ≡ force → 0 < drop → result ≤ g → slack tight.natural tight.count drop < over }
 {
-    let width = u64::from(width);
-    if tight == 0 {
-        return if end <= width { 2048 } else { 0 };
-    }
-    let room = (width + tight).saturating_sub(end);
-    (room * u64::from(force) / tight).min(2048) as u16
+    let room = (256 * over).saturating_sub(255 * tight.count);
+    let steps = room.saturating_sub(1) / tight.natural.max(1);
+    let least = u64::from(force.min(1));
+    u64::from(force).saturating_sub(steps).max(least) as u16
 }
 
-/// The force nearest to `guess` of those from `low` to `high - 1` that leave at most
-/// `half` answers of `low` to `high`, whether it fits or not.
-pub(crate) fn nearest(guess: u16, low: u16, high: u16, half: u16) -> u16
+/// The greatest force below `high` that leaves at most `half` answers of `low` to `high` if it fits.
+pub(crate) fn highest(low: u16, high: u16, half: u16) -> u16
     requires some { low < high }
     requires within { high ≤ 2049 }
-    requires short { half ≤ 2048 }
+    requires short { half ≤ 2049 }
     requires few { high < low + 2 * half }
     ensures low { low ≤ result }
     ensures high { result < high }
     ensures above { high ≤ result + half }
     ensures below { result < low + half }
 {
-    let least = low.max(high.saturating_sub(half));
-    let most = (high - 1).min(low + half - 1);
-    guess.max(least).min(most)
+    (high - 1).min(low + half - 1)
 }

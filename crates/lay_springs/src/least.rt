@@ -1,5 +1,5 @@
-ghost use Rattle.std.specs.Prelude.{◌≡◌, ◌+◌, ◌^◌, ◌<◌, ◌≤◌, ℕ, ℤ, pos, negsuc, ◌+ℤ◌, ◌≤ℤ◌, IfOk, length, slice_index, slice_index_or, slice_set};
-ghost use Rattle.lay_springs.specs.Place.{reach_at, length_at, IsPlace, IsPlacedTo, IsFront, IsPast, Advances, IsInside};
+ghost use Rattle.std.specs.Prelude.{◌≡◌, ◌+◌, ◌*◌, ◌≢◌, ◌⊎◌, ◌^◌, ◌<◌, ◌≤◌, ℕ, ℤ, pos, negsuc, ◌+ℤ◌, ◌≤ℤ◌, IfOk, length, slice_index, slice_index_or, slice_set};
+ghost use Rattle.lay_springs.specs.Place.{reach_at, length_at, IsPlace, IsPlacedTo, IsNear, IsFront, IsPast, Advances, IsInside};
 
 use crate::traits::{Reach, Spaced, Spring, Stand};
 use mus_units::{Memory, Row};
@@ -134,30 +134,42 @@ fn after(before: i64, spring: u32) -> i64
     larger(before + 100, before + i64::from(spring))
 }
 
+/// The springs that alone hold neighbors apart: the sum of their natural lengths, and how many they are.
+#[derive(Clone, Copy)]
+pub(crate) struct Tight {
+    pub(crate) natural: u64,
+    pub(crate) count: u64,
+}
+
 /// Places the columns in one pass, which keeps for each lane what stands furthest right in it. Gives
-/// the length of the springs that alone hold neighbors apart.
+/// the springs that alone hold neighbors apart.
 pub(crate) fn settle<C: Spaced + Spring>(
     cols: &[C],
     gaps: &[u32],
     force: u16,
     at: &mut [i64],
     front: &mut [i64],
-) -> u64
+) -> Tight
     requires some { 0 < length cols.now }
     requires few { length cols.now ≤ 2 ^ 26 }
     requires lanes { length gaps.now < 2 ^ 32 }
     requires narrow { (lane : ℕ) → lane < length gaps.now → slice_index gaps.now lane ≤ 2 ^ 20 }
     requires room { length at.old ≡ length cols.now }
     requires one_each { length front.old ≡ length gaps.now }
-    ensures tight { result ≤ 2 ^ 47 }
+    ensures few { result.count ≤ 2 ^ 26 }
+    ensures natural { result.natural ≤ 2 ^ 38 }
+    ensures near { IsNear (length cols.now) (length cols.now) (reach_at C.reach_of cols.now) gaps.now (length_at C.length_of cols.now) force result.natural result.count at.new }
     ensures place { IsPlace (length cols.now) (reach_at C.reach_of cols.now) gaps.now (length_at C.length_of cols.now force) at.new }
     ensures small { (k : ℕ) → k < length cols.now
         → (pos 0 ≤ℤ slice_index_or at.new k (pos 0)) × (slice_index_or at.new k (pos 0) ≤ℤ pos (2 ^ 48)) }
 {
     place_first(cols, gaps, force, at, front);
-    let mut tight = 0;
+    let mut tight = Tight {
+        natural: 0,
+        count: 0,
+    };
     for j in 1..cols.len() {
-        tight += place_next(cols, gaps, force, at, front, j);
+        tight = place_next(cols, gaps, force, at, front, j, tight);
     }
     tight
 }
@@ -174,7 +186,7 @@ fn place_first<C: Spaced + Spring>(
     requires lanes { length gaps.now < 2 ^ 32 }
     requires room { length at.old ≡ length cols.now }
     requires one_each { length front.old ≡ length gaps.now }
-    ensures placed { IsPlacedTo (length cols.now) 1 (reach_at C.reach_of cols.now) gaps.now (length_at C.length_of cols.now force) at.new }
+    ensures placed { IsPlacedTo (length cols.now) 1 (reach_at C.reach_of cols.now) gaps.now (length_at C.length_of cols.now) force 0 0 at.new }
     ensures fronts { IsFront 1 (reach_at C.reach_of cols.now) (length gaps.now) at.new front.new }
 {
     empty_fronts(front);
@@ -183,7 +195,7 @@ fn place_first<C: Spaced + Spring>(
     advance_each(&cols[0], first, front);
 }
 
-/// Places column j, past 0. Gives the length of the spring before it, if that alone holds it.
+/// Places column j, past 0, behind `tight` springs. Gives them, with the spring before it if that alone holds it.
 fn place_next<C: Spaced + Spring>(
     cols: &[C],
     gaps: &[u32],
@@ -191,7 +203,8 @@ fn place_next<C: Spaced + Spring>(
     at: &mut [i64],
     front: &mut [i64],
     j: usize,
-) -> u64
+    tight: Tight,
+) -> Tight
     requires few { length cols.now ≤ 2 ^ 26 }
     requires lanes { length gaps.now < 2 ^ 32 }
     requires narrow { (lane : ℕ) → lane < length gaps.now → slice_index gaps.now lane ≤ 2 ^ 20 }
@@ -199,27 +212,38 @@ fn place_next<C: Spaced + Spring>(
     requires one_each { length front.old ≡ length gaps.now }
     requires past { 0 < j }
     requires inside { j < length cols.now }
-    requires placed { IsPlacedTo (length cols.now) j (reach_at C.reach_of cols.now) gaps.now (length_at C.length_of cols.now force) at.old }
+    requires tight { (tight.natural ≤ 4096 * j) × (tight.count ≤ j) }
+    requires placed { IsPlacedTo (length cols.now) j (reach_at C.reach_of cols.now) gaps.now (length_at C.length_of cols.now) force tight.natural tight.count at.old }
     requires fronts { IsFront j (reach_at C.reach_of cols.now) (length gaps.now) at.old front.old }
-    ensures tight { result ≤ 2 ^ 20 }
-    ensures placed { IsPlacedTo (length cols.now) (j + 1) (reach_at C.reach_of cols.now) gaps.now (length_at C.length_of cols.now force) at.new }
+    ensures tight { (result.natural ≤ 4096 * (j + 1)) × (result.count ≤ j + 1) }
+    ensures placed { IsPlacedTo (length cols.now) (j + 1) (reach_at C.reach_of cols.now) gaps.now (length_at C.length_of cols.now) force result.natural result.count at.new }
     ensures fronts { IsFront (j + 1) (reach_at C.reach_of cols.now) (length gaps.now) at.new front.new }
 {
     let before = at[j - 1];
+    let natural = cols[j - 1].length(256);
     let spring = cols[j - 1].length(force);
     let next = set_past(&cols[j], gaps, after(before, spring), front);
     at[j] = next;
-    tight(before, spring, next)
+    tightened(tight, before, spring, natural, next)
 }
 
-/// The length of a spring that leads from `before`, if it ends at the next column.
-fn tight(before: i64, spring: u32, next: i64) -> u64
-    ensures { result ≤ spring }
+/// The springs that alone hold neighbors apart, with one more that leads from `before`, if it ends at
+/// the next column.
+fn tightened(tight: Tight, before: i64, spring: u32, natural: u32, next: i64) -> Tight
+    requires few { tight.count < 2 ^ 26 }
+    requires short { tight.natural ≤ 2 ^ 38 }
+    requires begins { pos 0 ≤ℤ before }
+    requires small { before ≤ℤ pos (2 ^ 60) }
+    ensures { (((before +ℤ pos spring) ≡ next) × (result.natural ≡ tight.natural + natural) × (result.count ≡ tight.count + 1))
+        ⊎ (((before +ℤ pos spring) ≢ next) × (result.natural ≡ tight.natural) × (result.count ≡ tight.count)) }
 {
-    if before.wrapping_add(i64::from(spring)) == next {
-        u64::from(spring)
+    if before + i64::from(spring) == next {
+        Tight {
+            natural: tight.natural + u64::from(natural),
+            count: tight.count + 1,
+        }
     } else {
-        0
+        tight
     }
 }
 

@@ -1,4 +1,4 @@
-ghost use Rattle.std.specs.Prelude.{◌≡◌, ◌^◌, ◌<◌, ◌≤◌, ℕ, Option, IfSome};
+ghost use Rattle.std.specs.Prelude.{◌≡◌, ◌*◌, ◌/◌, ◌^◌, ◌<◌, ◌≤◌, ℕ, Option, IfSome};
 
 /// How far a column reaches to the left and to the right of its abscissa in a
 /// lane, in u.
@@ -41,16 +41,13 @@ pub trait Spring {
     // the length at a force
     ghost length_of: { Self → ℕ → ℕ };
 
-    /// The length of the spring at a force, in u. Takes no memory.
+    /// The length of the spring at a force, in u. At force 256 it is the natural length. Takes no memory.
     fn length(&self, force: u16) -> u32
         ensures { result ≡ length_of self.now force };
 
-    // it doesn't fall as the force rises
-    ghost rises: { (c : Self) (f g : ℕ) → f ≤ g → g < 2 ^ 16 → length_of c f ≤ length_of c g };
+    // the natural length is at most 2^12
+    ghost is_short: { (c : Self) → length_of c 256 ≤ 2 ^ 12 };
 
-    // it is at most 2^20
-    ghost is_short: { (c : Self) (f : ℕ) → f < 2 ^ 16 → length_of c f ≤ 2 ^ 20 };
-
-    // at force 0 it is 0
-    ghost at_rest: { (c : Self) → length_of c 0 ≡ 0 };
+    // the length is so much of the natural one
+    ghost scales: { (c : Self) (f : ℕ) → length_of c f ≡ length_of c 256 * f / 256 };
 }

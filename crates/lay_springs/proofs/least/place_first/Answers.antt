@@ -12,7 +12,7 @@ returns-clause-placed g c =
     let col : slice_get c.args.cols.now 0 ≡ Some c.index-cols-0.result =
     slice_get_read c.args.cols.now (length c.args.cols.now) 0 c.index-cols-0.result refl c.requires.some c.index-cols-0.is in
     let is = reach_is g.C.Spaced.reach_of c.args.cols.now 0 c.index-cols-0.result col in
-    rw (to_z-of_z w64 c.first_of-first.result (record { sfits = c.first_of-first.type_inv })) (placed_first _ _ _ _ _ _ c.requires.some (omega arith) e.begins
+    rw (to_z-of_z w64 c.first_of-first.result (record { sfits = c.first_of-first.type_inv })) (placed_first _ _ _ _ _ _ _ c.requires.some (omega arith) e.begins
     (subst (λ r. IsInside r (length c.args.gaps.now) c.first_of-first.result) (sym is) e.inside)
     (λ w b h. e.least w b (subst (λ r. IsInside r (length c.args.gaps.now) w) is h))
     (bound g (goal.at.returns-clause-placed g c).After-first_of-first))

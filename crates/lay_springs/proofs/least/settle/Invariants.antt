@@ -4,7 +4,7 @@ use Rattle.lay_springs.proofs.least.settle.Given as goal
 
 abbrev pub invariant-loop-j : goal.invariant-loop-j
 invariant-loop-j g l = record {
-  tight : l.tight ≤ l.j * 1048576;
-  placed : IsPlacedTo (length l.cols) l.j (reach_at g.C.Spaced.reach_of l.cols) l.gaps (length_at g.C.Spring.length_of l.cols l.force) l.at;
+  tight : (l.tight.natural ≤ 4096 * l.j) × (l.tight.count ≤ l.j);
+  placed : IsPlacedTo (length l.cols) l.j (reach_at g.C.Spaced.reach_of l.cols) l.gaps (length_at g.C.Spring.length_of l.cols) l.force l.tight.natural l.tight.count l.at;
   front : IsFront l.j (reach_at g.C.Spaced.reach_of l.cols) (length l.gaps) l.at l.front;
 }
