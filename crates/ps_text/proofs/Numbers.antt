@@ -1,5 +1,6 @@
 -- Numbers of a page, as they stand in a line.
-use Rattle.std.{proofs.{Common.{◌≡◌, ℕ, ℤ, pos, negsuc, ◌<◌, ◌^◌, Bool, true, false, not, ◌==◌, List, [], ◌∷◌, ◌++◌, length, take, drop, refl, sym, ◌∙◌, arith, suc, ◌-◌, int_le, unsigned_abs, true≢false}, lemmas.{Bool.{Decides.nat_tests, and_parts}, Int.ints, Fmt.decimal_is_IsNumeral}, Math.Seq.{take-append_seam, drop-append_seam, take-length, drop-length}}, specs.{Fmt.{decimal, signed_decimal}, List.{prefix_len, list_all}, Str.Parse.AllDigits, Char.digit_value, Int.RustNames.FitsSigned}}
+use Rattle.std.{proofs.{Common.{◌≡◌, ℕ, ℤ, pos, negsuc, ◌<◌, ◌^◌, Bool, true, false, not, ◌==◌, List, [], ◌∷◌, ◌++◌, length, take, drop, append_assoc, ap, refl, sym, ◌∙◌, arith, suc, ◌-◌, int_le, unsigned_abs, true≢false}, lemmas.{Bool.{Decides.nat_tests, and_parts}, Grind.flat_map-append, Int.ints, Fmt.decimal_is_IsNumeral}, Math.Seq.{take-append_seam, drop-append_seam, take-length, drop-length}}, specs.{Fmt.{decimal, signed_decimal}, List.{prefix_len, list_all}, Str.Parse.AllDigits, Char.digit_value, Int.RustNames.FitsSigned}}
+use Rattle.glyph_paths.specs.Procedure.{numbers}
 use lib.Dec.{leb-zero}
 use lib.Signed.{mag}
 use mir.Syntax.{w64}
@@ -16,6 +17,11 @@ fits z n = record { sfits = small z n }
 pub minus_first : (z : ℤ) → int_le (pos 0) z ≡ false → 45 ∷ decimal (unsigned_abs z) ≡ signed_decimal z
 minus_first (pos n) e = absurd (true≢false (sym (leb-zero n) ∙ e))
 minus_first (negsuc n) e = refl
+
+-- a number behind others
+pub one_more : (zs : List ℤ) (z : ℤ) (name : List ℕ) → numbers zs ++ (numbers (z ∷ []) ++ name) ≡ numbers (zs ++ z ∷ []) ++ name
+unfolding numbers
+one_more zs z name = sym (ap (λ text. text ++ name) (flat_map-append (λ z. signed_decimal z ++ 32 ∷ []) zs (z ∷ [])) ∙ append_assoc (numbers zs) (numbers (z ∷ [])) name)
 
 is_false : (b : Bool) → (b ≡ true → ⊥) → not b ≡ true
 is_false true f = absurd (f refl)

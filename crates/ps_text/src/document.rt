@@ -1,7 +1,7 @@
 ghost use Rattle.std.specs.Prelude.{◌≡◌, ◌++◌, ◌∷◌, [], ◌+ℤ◌, pos, All, OnOk};
 ghost use Rattle.ps_text.specs.{Document.{numbered, mark_text, marks_text, rules_line, staff_line, staff_text, last_base, join_line, join_text, system_line, system_text, title_line, title_text, tune_line, tune_text, item_text, items_text, heading_line, heading_text, closing, body_text, page_text, count_line, trailer}, Range.{IsNumber, IsPageMark, IsStaff, IsJoined, IsSystem, IsItem, IsPage}};
 
-use crate::fields::{put_line, put_words};
+use crate::fields::{LineEnd, put_line, put_words};
 use crate::marks::PageMark;
 use crate::names::size_name_of;
 use crate::sheet::{Item, Page, Staff};
@@ -10,11 +10,11 @@ use eng_lines::put_number;
 use mus_units::{Memory, Size, Text};
 
 #[tactic(auto, unfolding(crate::specs::Document::mark_text))]
-fn put_mark(out: &mut Text, y: i64, m: &PageMark) -> Result<(), Memory>
-    requires { IsPageMark y m.now }
-    ensures { OnOk result (out.new ≡ out.old ++ mark_text y m.now) }
+fn put_mark(out: &mut Text, end: &LineEnd, m: &PageMark) -> Result<(), Memory>
+    requires { IsPageMark end.now.y m.now }
+    ensures { OnOk result (out.new ≡ out.old ++ mark_text end.now.y m.now) }
 {
-    put_op(out, y, m)?;
+    put_op(out, end, m)?;
     out.push(b'\n')
 }
 
@@ -23,8 +23,9 @@ fn put_marks(out: &mut Text, y: i64, marks: &[PageMark]) -> Result<(), Memory>
     requires { All (IsPageMark y) marks.now }
     ensures { OnOk result (out.new ≡ out.old ++ marks_text y marks.now) }
 {
+    let end = LineEnd::new(y);
     for m in marks {
-        put_mark(out, y, m)?;
+        put_mark(out, &end, m)?;
     }
     Ok(())
 }

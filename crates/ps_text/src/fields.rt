@@ -1,4 +1,4 @@
-ghost use Rattle.std.specs.{Prelude.{◌≡◌, ◌+◌, ◌≤◌, ◌++◌, ◌∷◌, OnOk, drop, flat_map, length}, Fmt.signed_decimal};
+ghost use Rattle.std.specs.{Prelude.{◌≡◌, ◌+◌, ◌*◌, ◌≤◌, ◌++◌, ◌∷◌, OnOk, [], drop, flat_map, length}, Fmt.signed_decimal};
 ghost use Rattle.glyph_paths.specs.Procedure.{numbers};
 ghost use Rattle.ps_text.specs.Fields.{shown, quoted, in_parentheses};
 
@@ -21,9 +21,23 @@ fn write_number(line: &mut [u8], end: usize, z: i64) -> usize
     start - 1
 }
 
+/// Writes numbers, a space behind each, into a line so that they end before `end`; tells where they
+/// begin.
+#[tactic(auto, unfolding(glyph_paths::specs::Procedure::numbers))]
+fn write_numbers(line: &mut [u8], end: usize, zs: &[i64]) -> usize
+    requires { (21 * length zs.now ≤ end) × (end ≤ length line.old) }
+    ensures short { result ≤ end }
+    ensures written { drop result line.new ≡ numbers zs.now ++ drop end line.old }
+{
+    let mut start = end;
+    'places: for place in (0..zs.len()).rev() {
+        start = write_number(line, start, zs[place]);
+    }
+    start
+}
+
 /// Adds up to 12 numbers in decimal, a space behind each, and a name of two letters. They are put
 /// together from the last on, and added at once.
-#[tactic(auto, unfolding(glyph_paths::specs::Procedure::numbers))]
 pub(crate) fn put_line(out: &mut Text, zs: &[i64], name: &[u8]) -> Result<(), Memory>
     requires few { length zs.now ≤ 12 }
     requires letters { length name.now ≡ 2 }
@@ -31,11 +45,45 @@ pub(crate) fn put_line(out: &mut Text, zs: &[i64], name: &[u8]) -> Result<(), Me
 {
     let mut line = [0; 254];
     line[252..].copy_from_slice(name);
-    let mut start = 252;
-    'places: for place in (0..zs.len()).rev() {
-        start = write_number(&mut line, start, zs[place]);
-    }
+    let start = write_numbers(&mut line, 252, zs);
     out.append(&line[start..])
+}
+
+/// How lines of marks on a staff at `y` end before the name: the height of the staff and a space,
+/// which are written once for all of them.
+#[derive(Drop)]
+pub struct LineEnd {
+    pub y: i64,
+    bytes: [u8; 126],
+    start: usize,
+    ghost room: { (105 ≤ start) × (start ≤ 126) },
+    ghost stands: { drop start bytes ≡ numbers (y ∷ []) },
+}
+
+impl LineEnd {
+    #[tactic(auto, unfolding(glyph_paths::specs::Procedure::numbers))]
+    pub fn new(y: i64) -> LineEnd
+        ensures { result.y ≡ y }
+    {
+        let mut bytes = [0; 126];
+        let start = write_number(&mut bytes, 126, y);
+        LineEnd { y, bytes, start }
+    }
+
+    /// Adds up to 5 numbers in decimal and the height of the staff, a space behind each, and a name
+    /// of two letters.
+    #[tactic(auto, using(crate::proofs::Numbers::one_more))]
+    pub(crate) fn put(&self, out: &mut Text, zs: &[i64], name: &[u8]) -> Result<(), Memory>
+        requires few { length zs.now ≤ 5 }
+        requires letters { length name.now ≡ 2 }
+        ensures { OnOk result (out.new ≡ out.old ++ numbers (zs.now ++ self.now.y ∷ []) ++ name.now) }
+    {
+        let mut line = [0; 128];
+        line[126..].copy_from_slice(name);
+        line[..126].copy_from_slice(&self.bytes);
+        let start = write_numbers(&mut line, self.start, zs);
+        out.append(&line[start..])
+    }
 }
 
 /// Adds a byte of words.

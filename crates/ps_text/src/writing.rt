@@ -1,43 +1,13 @@
 ghost use Rattle.std.specs.Prelude.{◌≡◌, ◌++◌, ◌↔◌, ◌≤ℤ◌, ◌+ℤ◌, ◌-ℤ◌, pos, IfOk, OnOk, IsTrue, MatchOption, length};
-ghost use Rattle.ps_text.specs.{Line.{mark_line, points, ends_of, quarter, glyph_line, words_line, stem_line, beam_line, arc_line}, Range.{IsPageMark, IsSpan, IsStretch}};
+ghost use Rattle.ps_text.specs.{Line.{mark_line, points, ends_of, quarter, beam_line, arc_line}, Range.{IsPageMark, IsSpan, IsStretch}};
 
-use crate::fields::{put_line, put_words};
+use crate::fields::{LineEnd, put_line, put_words};
 use crate::marks::PageMark;
 use crate::names::{size_name_of, way_name_of};
 use crate::range::{is_placed, is_span, is_stem, is_words_mark, moved};
 use glyph_paths::name_of;
-use mus_units::{Glyph, Memory, Size, Text, Way};
+use mus_units::{Memory, Text, Way};
 use std::alloc::Global;
-
-#[tactic(auto, using(crate::proofs::Signs::as_passed, crate::proofs::Letters::letters_of_glyph), unfolding(crate::specs::Line::glyph_line))]
-fn put_glyph(out: &mut Text, glyph: Glyph, x: i64, dx: i64, dy: i64, y: i64) -> Result<(), Memory>
-    ensures { OnOk result (out.new ≡ out.old ++ glyph_line glyph x dx dy y) }
-{
-    put_line(out, &[dx, dy, x, y], name_of(glyph))
-}
-
-#[tactic(auto, using(crate::proofs::Signs::as_passed), unfolding(crate::specs::Line::words_line))]
-fn put_words_mark(
-    out: &mut Text,
-    size: Size,
-    x: i64,
-    dx: i64,
-    dy: i64,
-    words: &[u8],
-    y: i64,
-) -> Result<(), Memory>
-    ensures { OnOk result (out.new ≡ out.old ++ words_line size x dx dy words.now y) }
-{
-    put_words(out, words)?;
-    put_line(out, &[dx, dy, x, y], size_name_of(size))
-}
-
-#[tactic(auto, using(crate::proofs::Signs::as_passed), unfolding(crate::specs::Line::stem_line))]
-fn put_stem(out: &mut Text, x: i64, dx: i64, from: i64, to: i64, y: i64) -> Result<(), Memory>
-    ensures { OnOk result (out.new ≡ out.old ++ stem_line x dx from to y) }
-{
-    put_line(out, &[dx, to, dx, from, x, y], b"st")
-}
 
 /// The points at the two ends of a beam or an arc, and those above them.
 #[derive(Clone, Copy, PartialEq, Eq)]
@@ -146,51 +116,41 @@ fn put_arc(
     put_points(out, p, q, x1, x2, &ends, b"ac")
 }
 
-/// Adds the line of a mark on a staff at `y`, without the LF that ends it.
-#[tactic(auto, using(crate::proofs::Signs::as_passed))]
-pub fn put_op(out: &mut Text, y: i64, m: &PageMark) -> Result<(), Memory>
-    requires { IsPageMark y m.now }
-    ensures { OnOk result (out.new ≡ out.old ++ mark_line y m.now) }
+/// Adds the line of a mark on a staff, without the LF that ends it.
+#[tactic(auto, using(crate::proofs::Signs::as_passed, crate::proofs::Letters::letters_of_glyph), unfolding(crate::specs::Line::glyph_line, crate::specs::Line::words_line, crate::specs::Line::stem_line))]
+pub fn put_op(out: &mut Text, end: &LineEnd, m: &PageMark) -> Result<(), Memory>
+    requires { IsPageMark end.now.y m.now }
+    ensures { OnOk result (out.new ≡ out.old ++ mark_line end.now.y m.now) }
 {
     match m {
-        PageMark::Glyph { glyph, x, dx, dy } => put_glyph(
-            out,
-            *glyph,
-            *x,
-            i64::from(*dx),
-            i64::from(*dy),
-            y,
-        ),
+        PageMark::Glyph { glyph, x, dx, dy } => {
+            end.put(out, &[i64::from(*dx), i64::from(*dy), *x], name_of(*glyph))
+        }
         PageMark::Words {
             size,
             x,
             dx,
             dy,
             text,
-        } => put_words_mark(
-            out,
-            *size,
-            *x,
-            i64::from(*dx),
-            i64::from(*dy),
-            text.as_slice(),
-            y,
-        ),
-        PageMark::Stem { x, dx, from, to } => put_stem(
-            out,
-            *x,
-            i64::from(*dx),
-            i64::from(*from),
-            i64::from(*to),
-            y,
-        ),
+        } => {
+            put_words(out, text.as_slice())?;
+            end.put(
+                out,
+                &[i64::from(*dx), i64::from(*dy), *x],
+                size_name_of(*size),
+            )
+        }
+        PageMark::Stem { x, dx, from, to } => {
+            let dx = i64::from(*dx);
+            end.put(out, &[dx, i64::from(*to), dx, i64::from(*from), *x], b"st")
+        }
         PageMark::Beam {
             way,
             x1,
             x2,
             from,
             to,
-        } => put_beam(out, *way, *x1, *x2, i64::from(*from), i64::from(*to), y),
+        } => put_beam(out, *way, *x1, *x2, i64::from(*from), i64::from(*to), end.y),
         PageMark::Arc {
             x1,
             x2,
@@ -204,7 +164,7 @@ pub fn put_op(out: &mut Text, y: i64, m: &PageMark) -> Result<(), Memory>
             i64::from(*from),
             i64::from(*to),
             i64::from(*bulge),
-            y,
+            end.y,
         ),
     }
 }
@@ -262,7 +222,7 @@ pub fn write_op(alloc: Global, m: &PageMark, y: i64) -> Result<Option<Text>, Mem
     if !is_page_mark(y, m) {
         return Ok(None);
     }
-    let mut line = Text::new(alloc);
-    put_op(&mut line, y, m)?;
-    Ok(Some(line))
+    let mut text = Text::new(alloc);
+    put_op(&mut text, &LineEnd::new(y), m)?;
+    Ok(Some(text))
 }
