@@ -2,21 +2,15 @@
 //! of `systems --table`, and the faults.
 
 use crate::case::{Case, Told, verdict, words_of};
-use crate::running::{Finished, PIECE, Streams, ran};
+use crate::running::{Finished, Host, PIECE, Streams, ran};
 use abcps::Status;
-use std::rt::Files;
-use std::thread::Threads;
 use std::{fs, io};
 
 /// The line that ends the part of a document that is the same for every book.
 const END_OF_PROLOG: &[u8] = b"%%EndProlog\n";
 
 /// A run of the words on a book.
-fn ran_on<R: Threads + Sync + AllocGlobal>(
-    rt: &R,
-    words: &str,
-    book: &[u8],
-) -> io::Result<Finished> {
+fn ran_on<R: Host>(rt: &R, words: &str, book: &[u8]) -> io::Result<Finished> {
     let alloc = rt.alloc();
     let told = Told {
         status: 0,
@@ -61,7 +55,7 @@ fn have_status(set: &Finished, systems: &Finished) -> bool {
 }
 
 /// Whether what is written of a book is what it should be: its pages, its listing and its faults.
-fn is_as_told<R: Files + AllocGlobal + Threads + Sync>(rt: &R, name: &str) -> io::Result<bool> {
+fn is_as_told<R: Host>(rt: &R, name: &str) -> io::Result<bool> {
     let alloc = rt.alloc();
     let book = fs::read(rt, format!(in alloc; "{name}.abc")?)?;
     let told = fs::read(rt, format!(in alloc; "{name}.out")?)?;
@@ -77,10 +71,7 @@ fn is_as_told<R: Files + AllocGlobal + Threads + Sync>(rt: &R, name: &str) -> io
 }
 
 /// Tells each book that a table names.
-pub(crate) fn tell_books<R: Files + AllocGlobal + Threads + Sync + Print>(
-    rt: &R,
-    table: &str,
-) -> io::Result<()> {
+pub(crate) fn tell_books<R: Host>(rt: &R, table: &str) -> io::Result<()> {
     for name in table.lines() {
         let verdict = verdict(is_as_told(rt, name)?);
         println!(rt; "{name}: {verdict}")?;

@@ -5,10 +5,9 @@
 //! input may also be made, as `50000 rests`.
 
 use crate::made::made;
-use crate::running::{Finished, Stream};
+use crate::running::{Finished, Host, Stream};
 use abcps::Status;
 use std::alloc::{AllocError, Global};
-use std::rt::Files;
 use std::{fs, io};
 
 /// The field that stands for nothing.
@@ -112,7 +111,7 @@ pub(crate) fn words_of(alloc: Global, field: &str) -> Result<Vec<String>, AllocE
 }
 
 /// The text that a field names.
-fn text_of<R: Files + AllocGlobal>(rt: &R, field: &str) -> io::Result<Vec<u8>> {
+fn text_of<R: Host>(rt: &R, field: &str) -> io::Result<Vec<u8>> {
     if field == NOTHING {
         Ok(Vec::new(rt.alloc()))
     } else {
@@ -121,7 +120,7 @@ fn text_of<R: Files + AllocGlobal>(rt: &R, field: &str) -> io::Result<Vec<u8>> {
 }
 
 /// The input that a field names or says how to make.
-fn input_of<R: Files + AllocGlobal>(rt: &R, field: &str) -> io::Result<Vec<u8>> {
+fn input_of<R: Host>(rt: &R, field: &str) -> io::Result<Vec<u8>> {
     match field.split_once(' ') {
         Some((count, what)) => made(rt.alloc(), count, what),
         None => text_of(rt, field),
@@ -136,7 +135,7 @@ fn status_of(field: &str) -> io::Result<u8> {
 }
 
 /// What fields say that should come.
-fn told_of<R: Files + AllocGlobal>(rt: &R, fields: &str) -> io::Result<Told> {
+fn told_of<R: Host>(rt: &R, fields: &str) -> io::Result<Told> {
     let (status, fields) = next_field(fields)?;
     let (output, errors) = next_field(fields)?;
     Ok(Told {
@@ -147,7 +146,7 @@ fn told_of<R: Files + AllocGlobal>(rt: &R, fields: &str) -> io::Result<Told> {
 }
 
 /// The case that the fields behind its name say.
-fn case_of<R: Files + AllocGlobal>(rt: &R, fields: &str) -> io::Result<Case> {
+fn case_of<R: Host>(rt: &R, fields: &str) -> io::Result<Case> {
     let (words, fields) = next_field(fields)?;
     let (input, fields) = next_field(fields)?;
     Ok(Case {
@@ -158,10 +157,7 @@ fn case_of<R: Files + AllocGlobal>(rt: &R, fields: &str) -> io::Result<Case> {
 }
 
 /// The name on a line of a table, and the case that it names.
-pub(crate) fn named_case<'a, R: Files + AllocGlobal>(
-    rt: &R,
-    line: &'a str,
-) -> io::Result<(&'a str, Case)> {
+pub(crate) fn named_case<'a, R: Host>(rt: &R, line: &'a str) -> io::Result<(&'a str, Case)> {
     let (name, fields) = next_field(line)?;
     Ok((name, case_of(rt, fields)?))
 }

@@ -1,18 +1,12 @@
 //! Runs over streams that fail.
 
 use crate::case::{Case, verdict};
-use crate::running::{PIECE, Stream, Streams, ran};
+use crate::running::{Host, PIECE, Stream, Streams, ran};
 use std::io;
-use std::thread::Threads;
 
 /// Whether a run is as told with each of the calls of a stream failing in turn, and with the one behind them, that
 /// doesn't come.
-fn fails_as_told<R: Threads + Sync + AllocGlobal>(
-    rt: &R,
-    case: &Case,
-    stream: Stream,
-    calls: u64,
-) -> io::Result<bool> {
+fn fails_as_told<R: Host>(rt: &R, case: &Case, stream: Stream, calls: u64) -> io::Result<bool> {
     for call in 0..calls {
         let finished = ran(rt, case, &Streams::failing_at(stream, call))?;
         if !case.is_told_after(stream, &finished) {
@@ -24,11 +18,7 @@ fn fails_as_told<R: Threads + Sync + AllocGlobal>(
 }
 
 /// Whether a run is as told with a sink that takes no byte.
-fn takes_none_as_told<R: Threads + Sync + AllocGlobal>(
-    rt: &R,
-    case: &Case,
-    stream: Stream,
-) -> io::Result<bool> {
+fn takes_none_as_told<R: Host>(rt: &R, case: &Case, stream: Stream) -> io::Result<bool> {
     let finished = ran(rt, case, &Streams::taking_none(stream))?;
     if case.writes_on(stream) {
         Ok(case.is_told_after(stream, &finished))
@@ -38,7 +28,7 @@ fn takes_none_as_told<R: Threads + Sync + AllocGlobal>(
 }
 
 /// Whether a run is as told with sinks that take a byte in each call, and with each that takes none.
-fn trickles_as_told<R: Threads + Sync + AllocGlobal>(rt: &R, case: &Case) -> io::Result<bool> {
+fn trickles_as_told<R: Host>(rt: &R, case: &Case) -> io::Result<bool> {
     let finished = ran(rt, case, &Streams::sound(1))?;
     Ok(
         case.is_told(&finished)
@@ -56,7 +46,7 @@ fn calls_named(stream: Stream) -> &'static str {
 }
 
 /// Tells whether a case is as told with each call of a stream failing.
-fn tell_stream<R: Threads + Sync + AllocGlobal + Print>(
+fn tell_stream<R: Host>(
     rt: &R,
     name: &str,
     case: &Case,
@@ -69,11 +59,7 @@ fn tell_stream<R: Threads + Sync + AllocGlobal + Print>(
 }
 
 /// Tells whether a case is as told over streams that fail.
-pub(crate) fn tell_failures<R: Threads + Sync + AllocGlobal + Print>(
-    rt: &R,
-    name: &str,
-    case: &Case,
-) -> io::Result<()> {
+pub(crate) fn tell_failures<R: Host>(rt: &R, name: &str, case: &Case) -> io::Result<()> {
     let sound = ran(rt, case, &Streams::sound(PIECE))?;
     for stream in [Stream::Input, Stream::Output, Stream::Errors] {
         tell_stream(rt, name, case, stream, sound.calls(stream))?;

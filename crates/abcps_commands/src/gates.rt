@@ -1,13 +1,12 @@
 //! Gates that count the tunes that enter.
 
 use crate::case::Case;
-use crate::running::{Finished, PIECE, Streams, ran_through};
+use crate::running::{Finished, Host, PIECE, Streams, ran_through};
 use abcps::Gate;
 use std::alloc::{AllocError, Global};
 use std::io;
 use std::sync::atomic::AtomicU64;
 use std::sync::atomic::Ordering::SeqCst;
-use std::thread::Threads;
 
 /// How many tunes a gate knows.
 const MOST_TUNES: usize = 1000;
@@ -66,10 +65,7 @@ impl Counter {
 }
 
 /// A run of a case over streams that never fail, and who entered its gate.
-pub(crate) fn ran_counted<R: Threads + Sync + AllocGlobal>(
-    rt: &R,
-    case: &Case,
-) -> io::Result<(Finished, Entered)> {
+pub(crate) fn ran_counted<R: Host>(rt: &R, case: &Case) -> io::Result<(Finished, Entered)> {
     let counter = make_counter(rt.alloc())?;
     let finished = ran_through(rt, case, &Streams::sound(PIECE), &counter)?;
     Ok((finished, counter.sum()))

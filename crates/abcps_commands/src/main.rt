@@ -18,23 +18,18 @@ use crate::case::{Case, named_case, verdict};
 use crate::failing::tell_failures;
 use crate::gates::ran_counted;
 use crate::painting::tell_painted;
-use crate::running::{PIECE, Streams, ran};
+use crate::running::{Host, PIECE, Streams, ran};
 use std::process::ExitCode;
-use std::rt::Files;
-use std::thread::Threads;
 use std::{fs, io};
 
 /// Whether a case is as told over streams that never fail.
-fn is_as_told<R: Threads + Sync + AllocGlobal>(rt: &R, case: &Case) -> io::Result<bool> {
+fn is_as_told<R: Host>(rt: &R, case: &Case) -> io::Result<bool> {
     let finished = ran(rt, case, &Streams::sound(PIECE))?;
     Ok(case.is_told(&finished))
 }
 
 /// Tells each case of a table over streams that never fail.
-fn tell_cases<R: Files + AllocGlobal + Threads + Sync + Print>(
-    rt: &R,
-    table: &str,
-) -> io::Result<()> {
+fn tell_cases<R: Host>(rt: &R, table: &str) -> io::Result<()> {
     for line in table.lines() {
         let (name, case) = named_case(rt, line)?;
         let verdict = verdict(is_as_told(rt, &case)?);
@@ -44,10 +39,7 @@ fn tell_cases<R: Files + AllocGlobal + Threads + Sync + Print>(
 }
 
 /// Tells each case of a table over streams that fail.
-fn tell_failing<R: Files + AllocGlobal + Threads + Sync + Print>(
-    rt: &R,
-    table: &str,
-) -> io::Result<()> {
+fn tell_failing<R: Host>(rt: &R, table: &str) -> io::Result<()> {
     for line in table.lines() {
         let (name, case) = named_case(rt, line)?;
         tell_failures(rt, name, &case)?;
@@ -56,10 +48,7 @@ fn tell_failing<R: Files + AllocGlobal + Threads + Sync + Print>(
 }
 
 /// Tells each case of a table, and how many tunes entered its gate how often.
-fn tell_gates<R: Files + AllocGlobal + Threads + Sync + Print>(
-    rt: &R,
-    table: &str,
-) -> io::Result<()> {
+fn tell_gates<R: Host>(rt: &R, table: &str) -> io::Result<()> {
     for line in table.lines() {
         let (name, case) = named_case(rt, line)?;
         let (finished, entered) = ran_counted(rt, &case)?;

@@ -2,11 +2,11 @@
 //! `programs` a line `budget N` stands before a program, and a line with a point alone behind it; the program is
 //! the lines between, joined by LF.
 
+use crate::running::Host;
 use mus_units::{Memory, Text};
 use paint_text::{put_halt, put_pages};
 use ps_machine::{MachineError, run_machine};
 use std::alloc::Global;
-use std::rt::Files;
 use std::{fs, io};
 
 /// What a run gives, as text.
@@ -21,7 +21,7 @@ fn told(alloc: Global, program: &[u8], budget: u64) -> Result<Text, Memory> {
 }
 
 /// Runs a program, and prints what it gives.
-fn tell<R: AllocGlobal + Print>(rt: &R, program: &[u8], budget: u64) -> io::Result<()> {
+fn tell<R: Host>(rt: &R, program: &[u8], budget: u64) -> io::Result<()> {
     let Ok(out) = told(rt.alloc(), program, budget) else {
         return Err(io::Error::other("no memory"));
     };
@@ -39,7 +39,7 @@ fn budget_of(line: &[u8]) -> Option<u64> {
 }
 
 /// Runs the programs of a table, and prints each budget and what is given.
-fn tell_programs<R: AllocGlobal + Print>(rt: &R, table: &[u8]) -> io::Result<()> {
+fn tell_programs<R: Host>(rt: &R, table: &[u8]) -> io::Result<()> {
     let alloc = rt.alloc();
     let mut program = Vec::new(alloc);
     let mut budget = None;
@@ -65,7 +65,7 @@ fn tell_programs<R: AllocGlobal + Print>(rt: &R, table: &[u8]) -> io::Result<()>
 }
 
 /// Runs the programs of the table `programs`, and documents.
-pub(crate) fn tell_painted<R: Files + AllocGlobal + Print>(rt: &R) -> io::Result<()> {
+pub(crate) fn tell_painted<R: Host>(rt: &R) -> io::Result<()> {
     let table = fs::read(rt, "programs")?;
     tell_programs(rt, &table)?;
     for name in ["one-measure.ps", "every-mark.ps"] {

@@ -6,7 +6,13 @@ use eng_io::{MemSink, MemSource};
 use mus_units::{Row, Text};
 use std::alloc::{AllocError, Global};
 use std::io;
+use std::rt::Files;
 use std::thread::Threads;
+
+/// What a case takes of the runtime: its files and memory, threads for the run, and where to tell of it.
+pub(crate) trait Host: Files + AllocGlobal + Print + Threads + Sync {}
+
+impl<R: Files + AllocGlobal + Print + Threads + Sync> Host for R {}
 
 /// How many bytes a source gives in one call.
 const READ_PIECE: u32 = 16;
@@ -127,16 +133,12 @@ fn sink(alloc: Global, pace: Pace) -> Result<MemSink, AllocError> {
 }
 
 /// A run of a case over such streams, whose tunes enter no gate.
-pub(crate) fn ran<R: Threads + Sync + AllocGlobal>(
-    rt: &R,
-    case: &Case,
-    streams: &Streams,
-) -> io::Result<Finished> {
+pub(crate) fn ran<R: Host>(rt: &R, case: &Case, streams: &Streams) -> io::Result<Finished> {
     ran_through(rt, case, streams, &Open)
 }
 
 /// A run of a case over such streams, whose tunes enter a gate.
-pub(crate) fn ran_through<R: Threads + Sync + AllocGlobal, G: Gate + Sync>(
+pub(crate) fn ran_through<R: Host, G: Gate + Sync>(
     rt: &R,
     case: &Case,
     streams: &Streams,

@@ -1,7 +1,7 @@
 ghost use Rattle.std.specs.Prelude.{◌<◌};
 
-use crate::answers::{end_line, put_word};
-use mus_units::{Memory, Text};
+use case_texts::Report;
+use mus_units::Memory;
 use std::sync::atomic::AtomicBool;
 use std::sync::atomic::Ordering::SeqCst;
 
@@ -36,10 +36,10 @@ impl Meeting {
     }
 
     /// Adds of each whether it met the other.
-    pub fn put_met(&self, out: &mut Text) -> Result<(), Memory> {
+    pub fn put_met(&self, out: &mut Report) -> Result<(), Memory> {
         for met in &self.met {
-            put_word(out, if met.load(SeqCst) { b"met" } else { b"alone" })?;
+            out.tell(if met.load(SeqCst) { "met" } else { "alone" })?;
         }
-        end_line(out)
+        out.end_line()
     }
 }

@@ -29,8 +29,16 @@ pub fn case_of(line: &str) -> Case<'_> {
     }
 }
 
+/// The line of a case that is made of a text, and the case: on its line a call and its words, and
+/// behind the line the text.
+pub fn text_case(text: &str) -> (&str, Case<'_>) {
+    let (line, input) = cut(text, "\n");
+    let (call, word) = cut(line, " ");
+    (line, Case { call, word, input })
+}
+
 /// What stands before and behind a mark.
-fn cut<'a>(text: &'a str, mark: &str) -> (&'a str, &'a str) {
+pub fn cut<'a>(text: &'a str, mark: &str) -> (&'a str, &'a str) {
     text.split_once(mark).unwrap_or((text, ""))
 }
 
@@ -42,13 +50,15 @@ pub fn within_limit(bytes: &[u8]) -> &[u8]
     front
 }
 
-/// The lines that tell of a case: its own line, and what came of it in visible ASCII, each line
-/// of it behind four spaces.
-pub fn told(alloc: Global, line: &str, value: &[u8]) -> Result<Text, Memory> {
+/// The lines that tell of a case: its own line, and what came of it in visible ASCII, of which each
+/// line begins with `begin`.
+pub fn told(alloc: Global, line: &str, begin: &[u8], value: &[u8]) -> Result<Text, Memory> {
     let mut out = Report::new(alloc);
     out.append(line.as_bytes())?;
-    out.append(b"\n    ")?;
-    put_shown(&mut out, value)?;
+    out.append(begin)?;
+    for byte in value {
+        put_shown(&mut out, begin, *byte)?;
+    }
     out.push(b'\n')?;
     Ok(out.text)
 }

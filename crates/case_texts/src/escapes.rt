@@ -57,22 +57,15 @@ fn digit(byte: u8) -> u8 {
     }
 }
 
-/// Adds bytes in visible ASCII, as `unescaped` reads them, but for line ends, which begin a line
-/// behind four spaces.
-pub fn put_shown(out: &mut Report, bytes: &[u8]) -> Result<(), Memory> {
-    for byte in bytes {
-        put_byte(out, *byte)?;
-    }
-    Ok(())
-}
-
-fn put_byte(out: &mut Report, byte: u8) -> Result<(), Memory> {
+/// Adds a byte in visible ASCII, as `unescaped` reads it, but for a line end, for which what begins
+/// a line is added.
+pub fn put_shown(out: &mut Report, begin: &[u8], byte: u8) -> Result<(), Memory> {
     match byte {
-        b'\n' => out.append(b"\n    "),
+        b'\n' => out.append(begin),
         b'\r' => out.append(b"\\r"),
         b'\t' => out.append(b"\\t"),
         b'\\' => out.append(b"\\\\"),
         b' '..=b'~' => out.push(byte),
-        _ => out.append(format!(in out.alloc; "\\x{byte:02x}")?.as_bytes()),
+        _ => out.show(format_args!("\\x{byte:02x}")),
     }
 }

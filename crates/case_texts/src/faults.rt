@@ -13,10 +13,7 @@ pub fn put_fault(out: &mut Report, error: TuneError) -> Result<(), Memory> {
 fn put_placed(out: &mut Report, fault: Fault) -> Result<(), Memory> {
     out.next(b"fault ")?;
     put_kind(out, fault.kind)?;
-    out.append(b" line ")?;
-    out.number(u64::from(fault.line))?;
-    out.append(b" column ")?;
-    out.number(u64::from(fault.column))
+    out.tell(format_args!("line {} column {}", fault.line, fault.column))
 }
 
 /// Adds the name of a kind of fault, and its number if it has one.
@@ -24,8 +21,7 @@ pub fn put_kind(out: &mut Report, kind: FaultKind) -> Result<(), Memory> {
     out.append(name_of(kind))?;
     match kind {
         FaultKind::NoWay { reached: number } | FaultKind::TooTall { block: number } => {
-            out.push(b' ')?;
-            out.number(u64::from(number))
+            out.tell(number)
         }
         _ => Ok(()),
     }

@@ -9,14 +9,16 @@ pub mod faults;
 pub mod notes;
 pub mod report;
 pub mod telling;
+pub mod times;
 pub mod values;
 
-pub use cases::{Case, within_limit};
+pub use cases::{Case, text_case, told, within_limit};
 pub use faults::{put_fault, put_kind};
-pub use notes::{put_bar, put_deco, put_head, put_value};
+pub use notes::{put_bar, put_deco, put_head, put_pitch, put_value};
 pub use report::Report;
-pub use telling::{Answers, tell_tables};
+pub use telling::{Answers, put_out, tell_tables};
+pub use times::put_key;
 pub use values::{
-    alter_named, clef_named, letter_named, number_of, put_clef, put_frac, put_letter, put_meter,
-    put_signs, put_spread, put_text, put_wish,
+    alter_name, alter_named, clef_named, letter_named, number_of, put_clef, put_frac, put_letter,
+    put_meter, put_signs, put_spread, put_text, put_wish,
 };

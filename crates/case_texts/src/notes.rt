@@ -1,11 +1,16 @@
 use crate::report::Report;
 use crate::values::put_letter;
-use mus_units::{Alter, Bar, Base, Deco, Head, Memory, Text, Value};
+use mus_units::{Alter, Bar, Base, Deco, Head, Memory, Pitch, Text, Value};
+
+/// Adds a pitch as its letter and its octave: `F5`.
+pub fn put_pitch(out: &mut Report, pitch: Pitch) -> Result<(), Memory> {
+    put_letter(out, pitch.letter)?;
+    out.show(pitch.octave)
+}
 
 /// Adds a head as its letter, its octave and its sign, and `-` where it is tied: `F5^-`.
 pub fn put_head(out: &mut Report, head: Head) -> Result<(), Memory> {
-    put_letter(out, head.pitch.letter)?;
-    out.signed(i64::from(head.pitch.octave))?;
+    put_pitch(out, head.pitch)?;
     if let Some(sign) = head.sign {
         out.append(sign_name(sign))?;
     }

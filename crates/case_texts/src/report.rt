@@ -1,5 +1,6 @@
 use mus_units::{Memory, Text};
 use std::alloc::Global;
+use std::fmt::Display;
 
 /// What is told of a case: a text that grows, and the memory that it grows in.
 #[derive(Drop)]
@@ -27,10 +28,11 @@ impl Report {
         self.text.append(bytes)
     }
 
-    /// Adds a space, unless the report is empty, and a word.
+    /// Adds a space, unless a line begins here, and a word.
     pub fn next(&mut self, word: &[u8]) -> Result<(), Memory> {
-        if self.text.len() > 0 {
-            self.push(b' ')?;
+        match self.text.as_slice().last() {
+            None | Some(b'\n') => {}
+            Some(_) => self.push(b' ')?,
         }
         self.append(word)
     }
@@ -43,30 +45,44 @@ impl Report {
         self.append(word)
     }
 
+    /// Ends a line.
+    pub fn end_line(&mut self) -> Result<(), Memory> {
+        self.push(b'\n')
+    }
+
     /// Adds a word as `next` does, where it holds.
     pub fn flag(&mut self, holds: bool, word: &[u8]) -> Result<(), Memory> {
         if holds { self.next(word) } else { Ok(()) }
     }
 
-    /// Adds a number in decimal digits.
-    pub fn number(&mut self, number: u64) -> Result<(), Memory> {
-        self.append(format!(in self.alloc; "{number}")?.as_bytes())
+    /// Adds a value as it is displayed.
+    pub fn show<T: Display + Drop>(&mut self, value: T) -> Result<(), Memory> {
+        self.append(format!(in self.alloc; "{value}")?.as_bytes())
     }
 
-    /// Adds a number that may be negative in decimal digits.
-    pub fn signed(&mut self, number: i64) -> Result<(), Memory> {
-        self.append(format!(in self.alloc; "{number}")?.as_bytes())
+    /// Adds a value as `next` adds a word.
+    pub fn tell<T: Display + Drop>(&mut self, value: T) -> Result<(), Memory> {
+        self.next(b"")?;
+        self.show(value)
+    }
+
+    /// Adds values as `tell` does, one behind another.
+    pub fn tell_all<T: Display>(&mut self, values: &[T]) -> Result<(), Memory> {
+        for value in values {
+            self.tell(value)?;
+        }
+        Ok(())
     }
 
     /// Adds a word as `next` does, and a number behind it.
-    pub fn next_number(&mut self, word: &[u8], number: u64) -> Result<(), Memory> {
+    pub fn next_number<T: Display + Drop>(&mut self, word: &[u8], number: T) -> Result<(), Memory> {
         self.next(word)?;
-        self.number(number)
+        self.show(number)
     }
 
     /// Adds a word as `line` does, and a number behind it.
-    pub fn line_number(&mut self, word: &[u8], number: u64) -> Result<(), Memory> {
+    pub fn line_number<T: Display + Drop>(&mut self, word: &[u8], number: T) -> Result<(), Memory> {
         self.line(word)?;
-        self.number(number)
+        self.show(number)
     }
 }

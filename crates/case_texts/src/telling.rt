@@ -1,5 +1,5 @@
 use crate::cases::{Case, case_of, is_case, told};
-use crate::escapes::unescaped;
+use crate::escapes::{put_shown, unescaped};
 use crate::report::Report;
 use mus_units::{Memory, Text};
 use std::alloc::Global;
@@ -34,18 +34,15 @@ fn tell_cases<R: Print + AllocGlobal, A: Answers>(
 ) -> io::Result<()> {
     for line in table.lines() {
         if is_case(line) {
-            tell_case(rt, answers, line)?;
+            put_out(rt, answer(rt.alloc(), answers, line))?;
         }
     }
     Ok(())
 }
 
-fn tell_case<R: Print + AllocGlobal, A: Answers>(
-    rt: &R,
-    answers: &A,
-    line: &str,
-) -> io::Result<()> {
-    match answer(rt.alloc(), answers, line) {
+/// Writes what is told of a case.
+pub fn put_out<R: Print>(rt: &R, told: Result<Text, Memory>) -> io::Result<()> {
+    match told {
         Ok(text) => io::writer(rt).write_all(text.as_slice()),
         Err(Memory) => Err(io::Error::other("out of memory")),
     }
@@ -57,5 +54,5 @@ fn answer<A: Answers>(alloc: Global, answers: &A, line: &str) -> Result<Text, Me
     let input = unescaped(alloc, case.input.as_bytes())?;
     let mut value = Report::new(alloc);
     answers.put_answer(&mut value, case, input.as_slice())?;
-    told(alloc, line, value.text.as_slice())
+    told(alloc, line, b"\n    ", value.text.as_slice())
 }

@@ -33,7 +33,8 @@ pub fn letter_named(name: &str) -> Letter {
     }
 }
 
-fn alter_name(alter: Alter) -> &'static [u8] {
+/// The name of an alteration, which is nothing but a mark.
+pub fn alter_name(alter: Alter) -> &'static [u8] {
     match alter {
         Alter::Flat2 => b"bb",
         Alter::Flat => b"b",
@@ -91,16 +92,14 @@ pub fn put_meter(out: &mut Report, meter: Meter) -> Result<(), Memory> {
         Meter::Free => out.next(b"meter free"),
         Meter::Common => out.next(b"meter C"),
         Meter::Cut => out.next(b"meter C|"),
-        Meter::Ratio { num, den } => {
-            out.next(format!(in out.alloc; "meter {num}/{den}")?.as_bytes())
-        }
+        Meter::Ratio { num, den } => out.tell(format_args!("meter {num}/{den}")),
     }
 }
 
 /// Adds a word and a fraction behind it.
 pub fn put_frac(out: &mut Report, name: &[u8], frac: Frac) -> Result<(), Memory> {
     out.next(name)?;
-    out.next(format!(in out.alloc; "{}/{}", frac.num, frac.den)?.as_bytes())
+    out.tell(format_args!("{}/{}", frac.num, frac.den))
 }
 
 /// Adds `spread` and how far signs reach.

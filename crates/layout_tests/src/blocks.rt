@@ -4,13 +4,13 @@ ghost use Rattle.std.specs.Prelude.{◌≡◌, ◌≤◌, ◌^◌, IfOk, IfSome,
 ghost use Rattle.lay_pages.specs.{Stacking.AreGoodStaves, Filling.AreGoodBlocks};
 
 use answer_texts::{
-    count_at, end_line, number_at, numbers_of, put_breaking, put_heights, put_no_way, put_number,
-    put_numbers, put_word, small_at,
+    count_at, number_at, numbers_of, put_breaking, put_heights, put_no_way, small_at,
 };
+use case_texts::Report;
 use lay_breaks::{BreakError, least};
 use lay_pages::{Block, PageCosts, PageError, Spot, fill, fill_even, stack};
 use mus_laid::{StaffMarks, SystemMarks};
-use mus_units::{Memory, Row, Text};
+use mus_units::{Memory, Row};
 use std::alloc::Global;
 
 /// A staff by its line: how low and how high it reaches, at least 0 and 2000 u.
@@ -53,7 +53,8 @@ fn are_good_staves(staves: &[StaffMarks]) -> bool
 }
 
 /// Staves under one another.
-pub(crate) fn put_stack(alloc: Global, out: &mut Text, text: &str) -> Result<(), Memory> {
+pub(crate) fn put_stack(out: &mut Report, text: &str) -> Result<(), Memory> {
+    let alloc = out.alloc;
     let system = SystemMarks {
         a: 0,
         b: 1,
@@ -61,14 +62,14 @@ pub(crate) fn put_stack(alloc: Global, out: &mut Text, text: &str) -> Result<(),
         staves: staves_of(alloc, text)?,
     };
     if system.staves.len() > 16 || !are_good_staves(system.staves.as_slice()) {
-        return put_word(out, b"no staves\n");
+        return out.next(b"no staves\n");
     }
     let gaps = gaps_of(alloc, text)?;
     match gaps.as_slice() {
         [_, between @ ..] if between.len() + 1 == system.staves.len() => {
             put_heights(out, &stack(alloc, &system, between)?)
         }
-        _ => put_word(out, b"no staves\n"),
+        _ => out.next(b"no staves\n"),
     }
 }
 
@@ -117,68 +118,55 @@ fn costs_of(alloc: Global, high: u32, groups: &[Block]) -> Result<Option<PageCos
 }
 
 /// The breaking of groups into pages of a height that costs least.
-fn put_costs(alloc: Global, out: &mut Text, high: u32, groups: &[Block]) -> Result<(), Memory>
+fn put_costs(out: &mut Report, high: u32, groups: &[Block]) -> Result<(), Memory>
     requires high { high ≤ 2 ^ 26 }
     requires few { length groups.now ≤ 1000 }
 {
-    let Some(costs) = costs_of(alloc, high, groups)? else {
-        return put_word(out, b"no costs\n");
+    let Some(costs) = costs_of(out.alloc, high, groups)? else {
+        return out.next(b"no costs\n");
     };
-    match least(alloc, &costs, groups.len() as u32) {
+    match least(out.alloc, &costs, groups.len() as u32) {
         Ok(breaking) => put_breaking(out, &breaking),
         Err(BreakError::NoWay { reached }) => put_no_way(out, reached),
         Err(BreakError::Memory) => Err(Memory),
     }
 }
 
-fn put_spots(out: &mut Text, spots: &[Spot]) -> Result<(), Memory> {
+fn put_spots(out: &mut Report, spots: &[Spot]) -> Result<(), Memory> {
     for spot in spots {
-        put_numbers(out, &[i64::from(spot.page), spot.top])?;
-        end_line(out)?;
+        out.tell(format_args!("{} {}\n", spot.page, spot.top))?;
     }
     Ok(())
 }
 
 /// Where blocks stand on pages of a height: a line for each, with its page and its top.
-pub(crate) fn put_fill(
-    alloc: Global,
-    out: &mut Text,
-    words: &str,
-    text: &str,
-) -> Result<(), Memory> {
+pub(crate) fn put_fill(out: &mut Report, words: &str, text: &str) -> Result<(), Memory> {
+    let alloc = out.alloc;
     let high = count_at(&numbers_of(alloc, words)?, 0);
     let blocks = blocks_of(alloc, text)?;
     if blocks.len() > 1000 || !are_good_blocks(blocks.as_slice()) {
-        return put_word(out, b"no blocks\n");
+        return out.next(b"no blocks\n");
     }
     put_filled(out, fill(alloc, blocks.as_slice(), high))
 }
 
 /// What pages of groups cost, and where these stand on even pages of a height.
-pub(crate) fn put_even(
-    alloc: Global,
-    out: &mut Text,
-    words: &str,
-    text: &str,
-) -> Result<(), Memory> {
+pub(crate) fn put_even(out: &mut Report, words: &str, text: &str) -> Result<(), Memory> {
+    let alloc = out.alloc;
     let high = count_at(&numbers_of(alloc, words)?, 0);
     let blocks = blocks_of(alloc, text)?;
     if high > 1 << 26 || blocks.len() > 1000 || !are_good_blocks(blocks.as_slice()) {
-        return put_word(out, b"no blocks\n");
+        return out.next(b"no blocks\n");
     }
-    put_costs(alloc, out, high, blocks.as_slice())?;
+    put_costs(out, high, blocks.as_slice())?;
     put_filled(out, fill_even(alloc, blocks.as_slice(), high))
 }
 
 /// Where blocks stand, or why they don't.
-fn put_filled(out: &mut Text, filled: Result<Row<Spot>, PageError>) -> Result<(), Memory> {
+fn put_filled(out: &mut Report, filled: Result<Row<Spot>, PageError>) -> Result<(), Memory> {
     match filled {
         Ok(spots) => put_spots(out, spots.as_slice()),
-        Err(PageError::TooTall { block }) => {
-            put_word(out, b"too tall")?;
-            put_number(out, i64::from(block))?;
-            end_line(out)
-        }
+        Err(PageError::TooTall { block }) => out.tell(format_args!("too tall {block}\n")),
         Err(PageError::Memory) => Err(Memory),
     }
 }

@@ -2,14 +2,13 @@
 
 ghost use Rattle.std.specs.Prelude.{◌≡◌, []};
 
-use answer_texts::{
-    bytes_of, count_at, end_line, number_at, numbers_of, put_count, put_number, put_numbers,
-    put_word,
-};
+use crate::ops::put_mark_line;
+use answer_texts::{bytes_of, count_at, number_at, numbers_of};
+use case_texts::Report;
 use eng_io::MemSink;
 use mus_units::{Memory, Row, Text};
 use ps_read::{PagesError, read_document};
-use ps_text::{Frame, Item, Page, Sheet, Staff, put_page, put_prolog, put_trailer, write_op};
+use ps_text::{Frame, Item, Page, Sheet, Staff, put_page, put_prolog, put_trailer};
 use ps_write::{DocError, begin, finish, page, write_document};
 use std::alloc::Global;
 
@@ -38,7 +37,8 @@ fn empty_page(alloc: Global) -> Page
 }
 
 /// The text of a document of one empty page on the paper of these numbers.
-pub(crate) fn put_document(alloc: Global, out: &mut Text, words: &str) -> Result<(), Memory> {
+pub(crate) fn put_document(out: &mut Report, words: &str) -> Result<(), Memory> {
+    let alloc = out.alloc;
     let numbers = numbers_of(alloc, words)?;
     let frame = Frame {
         wide: count_at(&numbers, 0),
@@ -47,9 +47,9 @@ pub(crate) fn put_document(alloc: Global, out: &mut Text, words: &str) -> Result
         bottom: count_at(&numbers, 3),
         scale: u16::try_from(count_at(&numbers, 4)).unwrap_or(0),
     };
-    put_prolog(alloc, out, &frame)?;
-    put_page(out, 1, &empty_page(alloc))?;
-    put_trailer(out, 1)
+    put_prolog(alloc, &mut out.text, &frame)?;
+    put_page(&mut out.text, 1, &empty_page(alloc))?;
+    put_trailer(&mut out.text, 1)
 }
 
 /// A document of one empty page, by its steps.
@@ -81,12 +81,8 @@ fn behind_prolog(document: &[u8]) -> &[u8] {
 
 /// A document written to a sink of pieces, whose call of a number fails: how much is said to be written, how
 /// much was taken, and what stands behind the prolog.
-pub(crate) fn put_written(
-    alloc: Global,
-    out: &mut Text,
-    words: &str,
-    in_one: bool,
-) -> Result<(), Memory> {
+pub(crate) fn put_written(out: &mut Report, words: &str, in_one: bool) -> Result<(), Memory> {
+    let alloc = out.alloc;
     let numbers = numbers_of(alloc, words)?;
     let call = u64::try_from(number_at(&numbers, 1)).unwrap_or(0);
     let fails = Row::from_slice(alloc, &[call])?;
@@ -97,65 +93,51 @@ pub(crate) fn put_written(
         in_steps(alloc, &mut sink)
     };
     match written {
-        Ok(()) => put_word(out, b"all")?,
-        Err(DocError::Write(error)) => put_count(out, error.written)?,
+        Ok(()) => out.next(b"all")?,
+        Err(DocError::Write(error)) => out.tell(error.written)?,
         Err(DocError::Memory) => return Err(Memory),
     }
-    put_count(out, sink.taken().len() as u64)?;
-    end_line(out)?;
-    put_word(out, behind_prolog(sink.taken()))
+    out.tell(sink.taken().len())?;
+    out.end_line()?;
+    out.next(behind_prolog(sink.taken()))
 }
 
-fn put_staff(alloc: Global, out: &mut Text, staff: &Staff) -> Result<(), Memory> {
-    put_word(out, b"staff")?;
-    put_numbers(out, &[staff.y, i64::from(staff.width)])?;
-    end_line(out)?;
+fn put_staff(out: &mut Report, staff: &Staff) -> Result<(), Memory> {
+    out.tell(format_args!("staff {} {}\n", staff.y, staff.width))?;
     for mark in staff.marks.as_slice() {
-        match write_op(alloc, mark, staff.y)? {
-            Some(line) => put_word(out, line.as_slice())?,
-            None => put_word(out, b"no line")?,
-        }
-        end_line(out)?;
+        put_mark_line(out, mark, staff.y)?;
     }
     Ok(())
 }
 
-fn put_item(alloc: Global, out: &mut Text, item: &Item) -> Result<(), Memory> {
+fn put_item(out: &mut Report, item: &Item) -> Result<(), Memory> {
     match item {
-        Item::Tune { ordinal } => {
-            put_word(out, b"tune")?;
-            put_number(out, i64::from(*ordinal))?;
-            end_line(out)
-        }
+        Item::Tune { ordinal } => out.tell(format_args!("tune {ordinal}\n")),
         Item::Title { x, y, text, .. } => {
-            put_word(out, b"title")?;
-            put_numbers(out, &[*x, *y])?;
-            put_word(out, text.as_slice())?;
-            end_line(out)
+            out.tell(format_args!("title {x} {y}"))?;
+            out.next(text.as_slice())?;
+            out.end_line()
         }
         Item::System { a, b, staves } => {
-            put_word(out, b"system")?;
-            put_numbers(out, &[i64::from(*a), i64::from(*b)])?;
-            end_line(out)?;
+            out.tell(format_args!("system {a} {b}\n"))?;
             for staff in staves.as_slice() {
-                put_staff(alloc, out, staff)?;
+                put_staff(out, staff)?;
             }
             Ok(())
         }
     }
 }
 
-fn put_sheet(alloc: Global, out: &mut Text, sheet: &Sheet) -> Result<(), Memory> {
+fn put_sheet(out: &mut Report, sheet: &Sheet) -> Result<(), Memory> {
     let frame = sheet.frame;
-    put_word(out, b"paper")?;
-    put_numbers(out, &[i64::from(frame.wide), i64::from(frame.high)])?;
-    put_numbers(out, &[i64::from(frame.left), i64::from(frame.bottom)])?;
-    put_number(out, i64::from(frame.scale))?;
-    end_line(out)?;
+    out.next(b"paper")?;
+    out.tell_all(&[frame.wide, frame.high, frame.left, frame.bottom])?;
+    out.tell(frame.scale)?;
+    out.end_line()?;
     for page in sheet.pages.as_slice() {
-        put_word(out, b"page\n")?;
+        out.next(b"page\n")?;
         for item in page.items.as_slice() {
-            put_item(alloc, out, item)?;
+            put_item(out, item)?;
         }
     }
     Ok(())
@@ -163,24 +145,16 @@ fn put_sheet(alloc: Global, out: &mut Text, sheet: &Sheet) -> Result<(), Memory>
 
 /// The sheet that a text is read as, or the line at which it is no document. Where `behind` the text stands
 /// behind a prolog.
-pub(crate) fn put_pages(
-    alloc: Global,
-    out: &mut Text,
-    behind: bool,
-    text: &str,
-) -> Result<(), Memory> {
+pub(crate) fn put_pages(out: &mut Report, behind: bool, text: &str) -> Result<(), Memory> {
+    let alloc = out.alloc;
     let mut document = Text::new(alloc);
     if behind {
         put_prolog(alloc, &mut document, &paper())?;
     }
     document.append(bytes_of(alloc, text)?.as_slice())?;
     match read_document(alloc, document.as_slice()) {
-        Ok(sheet) => put_sheet(alloc, out, &sheet),
-        Err(PagesError::NotPages { line }) => {
-            put_word(out, b"no pages at")?;
-            put_count(out, line)?;
-            end_line(out)
-        }
+        Ok(sheet) => put_sheet(out, &sheet),
+        Err(PagesError::NotPages { line }) => out.tell(format_args!("no pages at {line}\n")),
         Err(PagesError::Memory) => Err(Memory),
     }
 }

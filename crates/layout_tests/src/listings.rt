@@ -1,25 +1,21 @@
 //! Listings and their verdicts.
 
-use answer_texts::{bytes_of, end_line, put_count, put_word};
+use answer_texts::bytes_of;
+use case_texts::Report;
 use lay_cert::{CertError, check_listing, put_verdict};
-use mus_units::{Memory, Text};
-use std::alloc::Global;
+use mus_units::Memory;
 
 /// Adds the verdicts on a listing, or the line at which the text is none.
-pub(crate) fn put_verdicts(alloc: Global, out: &mut Text, text: &str) -> Result<(), Memory> {
-    let bytes = bytes_of(alloc, text)?;
-    match check_listing(alloc, bytes.as_slice()) {
+pub(crate) fn put_verdicts(out: &mut Report, text: &str) -> Result<(), Memory> {
+    let bytes = bytes_of(out.alloc, text)?;
+    match check_listing(out.alloc, bytes.as_slice()) {
         Ok(judged) => {
             for one in judged.as_slice() {
-                put_verdict(out, one)?;
+                put_verdict(&mut out.text, one)?;
             }
             Ok(())
         }
-        Err(CertError::NotListing { line }) => {
-            put_word(out, b"no listing at")?;
-            put_count(out, line)?;
-            end_line(out)
-        }
+        Err(CertError::NotListing { line }) => out.tell(format_args!("no listing at {line}\n")),
         Err(CertError::Memory) => Err(Memory),
     }
 }

@@ -1,8 +1,4 @@
-//! Makes the calls that the cases in `data/cases` name, and prints each call's value as text.
-//!
-//! A case is a line with the name of a call and its words, and the text that it is made of; an empty line ends
-//! it. The answer stands behind the line of the call. `calls` has the names. Last come two rows that wait for each
-//! other.
+//! Makes the calls that the cases in `data/cases` name, and prints each call's value as text. `calls` has the names.
 #![tactic(auto)]
 
 mod blocks;
@@ -19,31 +15,27 @@ mod plain;
 mod streams;
 mod table;
 
-use crate::calls::put_case;
+use crate::calls::put_answer;
 use crate::laws::state_laws;
-use crate::meetings::put_meetings;
-use eng_io::{StdSink, write_all};
+use case_texts::{Report, put_out, text_case, told};
 use mus_units::{Memory, Text};
 use std::alloc::Global;
 use std::thread::Threads;
 use std::{fs, io};
 
-/// The answers to cases, one behind another, and which rows meet.
-fn all_answers<R: Threads + Sync>(rt: &R, alloc: Global, cases: &str) -> Result<Text, Memory> {
-    let mut out = Text::new(alloc);
-    for case in cases.split("\n\n") {
-        put_case(alloc, &mut out, case)?;
-    }
-    put_meetings(rt, alloc, &mut out)?;
-    Ok(out)
+/// A case's line, and behind it the value of its call.
+fn answer<R: Threads + Sync>(rt: &R, alloc: Global, text: &str) -> Result<Text, Memory> {
+    let (line, case) = text_case(text);
+    let mut value = Report::new(alloc);
+    put_answer(rt, &mut value, case)?;
+    told(alloc, line, b"\n", value.text.as_slice())
 }
 
 fn main(rt: HostRuntime) -> io::Result<()> {
     state_laws();
     let cases = fs::read_to_string(&rt, "cases")?;
-    let Ok(text) = all_answers(&rt, rt.alloc(), cases.as_str()) else {
-        return Err(io::Error::other("no memory"));
-    };
-    let mut output = StdSink::new(rt.stdout());
-    write_all(&mut output, text.as_slice()).map_err(|_| io::Error::other("no output"))
+    for text in cases.as_str().split("\n\n") {
+        put_out(&rt, answer(&rt, rt.alloc(), text))?;
+    }
+    Ok(())
 }

@@ -3,10 +3,11 @@
 ghost use Rattle.std.specs.Prelude.{◌≡◌, ◌∷◌, []};
 ghost use Rattle.layout_tests.specs.Meeting.{one_row, row_small};
 
-use answer_texts::{Meeting, put_count, put_word};
+use answer_texts::Meeting;
+use case_texts::Report;
 use eng_halves::Jobs;
 use lay_rows::{RowMaker, make_rows};
-use mus_units::{Memory, Row, Text};
+use mus_units::{Memory, Row};
 use std::alloc::Global;
 use std::thread::Threads;
 
@@ -37,32 +38,23 @@ impl RowMaker for Waiting {
 /// The two rows by a number of jobs, and of each whether it met the other.
 fn put_rows<R: Threads + Sync>(
     rt: &R,
-    alloc: Global,
-    out: &mut Text,
+    out: &mut Report,
     jobs: Jobs,
     turns: u32,
 ) -> Result<(), Memory> {
-    let waiting = Waiting {
-        alloc,
-        meeting: Meeting::new(turns),
-    };
+    let alloc = out.alloc;
+    let meeting = Meeting::new(turns);
+    let waiting = Waiting { alloc, meeting };
     let made = make_rows(rt, alloc, &waiting, 2, jobs)?;
     for row in &made.rows {
-        for cost in row {
-            put_count(out, *cost)?;
-        }
+        out.tell_all(row.as_slice())?;
     }
     waiting.meeting.put_met(out)
 }
 
 /// Adds whether two rows meet by two jobs and by one. By one job the first waits in vain, and the second finds
 /// that the first was begun.
-pub(crate) fn put_meetings<R: Threads + Sync>(
-    rt: &R,
-    alloc: Global,
-    out: &mut Text,
-) -> Result<(), Memory> {
-    put_word(out, b"meetings\n")?;
-    put_rows(rt, alloc, out, Jobs { count: 2 }, 200_000_000)?;
-    put_rows(rt, alloc, out, Jobs { count: 1 }, 1000)
+pub(crate) fn put_meetings<R: Threads + Sync>(rt: &R, out: &mut Report) -> Result<(), Memory> {
+    put_rows(rt, out, Jobs { count: 2 }, 200_000_000)?;
+    put_rows(rt, out, Jobs { count: 1 }, 1000)
 }

@@ -1,12 +1,13 @@
 //! The lines of marks on a page, written and read.
 
-use answer_texts::{bytes_of, end_line, number_at, numbers_of, put_word, small_at};
+use answer_texts::{bytes_of, number_at, numbers_of, small_at};
+use case_texts::Report;
 use mus_units::{Glyph, Memory, Size, Text, Way};
 use ps_text::{PageMark, read_op, write_op};
 use std::alloc::Global;
 
 /// A mark by its kind and its numbers; of one that has words they are behind the numbers.
-fn mark_of(alloc: Global, kind: &[u8], words: &str) -> Result<PageMark, Memory> {
+fn mark_of(alloc: Global, kind: &str, words: &str) -> Result<PageMark, Memory> {
     let numbers = numbers_of(alloc, words)?;
     let (x, end) = (number_at(&numbers, 1), number_at(&numbers, 2));
     let (first, second, third) = (
@@ -15,26 +16,26 @@ fn mark_of(alloc: Global, kind: &[u8], words: &str) -> Result<PageMark, Memory> 
         small_at(&numbers, 4),
     );
     match kind {
-        b"glyph" => Ok(PageMark::Glyph {
+        "glyph" => Ok(PageMark::Glyph {
             glyph: Glyph::Cg,
             x,
             dx: first,
             dy: second,
         }),
-        b"stem" => Ok(PageMark::Stem {
+        "stem" => Ok(PageMark::Stem {
             x,
             dx: first,
             from: second,
             to: third,
         }),
-        b"beam" => Ok(PageMark::Beam {
+        "beam" => Ok(PageMark::Beam {
             way: Way::Up,
             x1: x,
             x2: end,
             from: second,
             to: third,
         }),
-        b"arc" => Ok(PageMark::Arc {
+        "arc" => Ok(PageMark::Arc {
             x1: x,
             x2: end,
             from: second,
@@ -63,38 +64,29 @@ fn words_of(alloc: Global, words: &str) -> Result<Text, Memory> {
     bytes_of(alloc, rest)
 }
 
-fn put_written(alloc: Global, out: &mut Text, mark: &PageMark, y: i64) -> Result<(), Memory> {
-    match write_op(alloc, mark, y)? {
-        Some(line) => put_word(out, line.as_slice())?,
-        None => put_word(out, b"no line")?,
+/// The line of a mark on a staff of a height, or that it has none.
+pub(crate) fn put_mark_line(out: &mut Report, mark: &PageMark, y: i64) -> Result<(), Memory> {
+    match write_op(out.alloc, mark, y)? {
+        Some(line) => out.next(line.as_slice())?,
+        None => out.next(b"no line")?,
     }
-    end_line(out)
+    out.end_line()
 }
 
 /// The line of a mark on a staff, of the height that the first number is.
-pub(crate) fn put_mark(
-    alloc: Global,
-    out: &mut Text,
-    kind: &[u8],
-    words: &str,
-) -> Result<(), Memory> {
-    let y = number_at(&numbers_of(alloc, words)?, 0);
-    let mark = mark_of(alloc, kind, words)?;
-    put_written(alloc, out, &mark, y)
+pub(crate) fn put_mark(out: &mut Report, kind: &str, words: &str) -> Result<(), Memory> {
+    let y = number_at(&numbers_of(out.alloc, words)?, 0);
+    let mark = mark_of(out.alloc, kind, words)?;
+    put_mark_line(out, &mark, y)
 }
 
 /// For each line the line of the mark that it is read as on a staff of a height.
-pub(crate) fn put_read(
-    alloc: Global,
-    out: &mut Text,
-    words: &str,
-    text: &str,
-) -> Result<(), Memory> {
-    let y = number_at(&numbers_of(alloc, words)?, 0);
+pub(crate) fn put_read(out: &mut Report, words: &str, text: &str) -> Result<(), Memory> {
+    let y = number_at(&numbers_of(out.alloc, words)?, 0);
     for line in text.lines() {
-        match read_op(alloc, line.as_bytes(), y)? {
-            Some(mark) => put_written(alloc, out, &mark, y)?,
-            None => put_word(out, b"no mark\n")?,
+        match read_op(out.alloc, line.as_bytes(), y)? {
+            Some(mark) => put_mark_line(out, &mark, y)?,
+            None => out.next(b"no mark\n")?,
         }
     }
     Ok(())

@@ -2,15 +2,13 @@
 
 ghost use Rattle.std.specs.Prelude.{◌+◌, ◌≤◌, ◌<◌, length};
 
-use answer_texts::{
-    count_at, end_line, number_at, numbers_of, put_count, put_number, put_numbers, put_placed,
-    put_word,
-};
+use answer_texts::{count_at, number_at, numbers_of, put_placed};
+use case_texts::{Case, Report};
 use lay_columns::Column;
 use lay_spans::badness;
 use lay_springs::{Reach, fit, fit_within, justify, place};
 use mus_time::{Class, ColumnKey};
-use mus_units::{Memory, Row, Text};
+use mus_units::{Memory, Row};
 use std::alloc::Global;
 
 /// The gaps of the two lanes.
@@ -49,28 +47,27 @@ fn columns_of(alloc: Global, text: &str) -> Result<Row<Column>, Memory> {
     Ok(columns)
 }
 
-fn put_force(out: &mut Text, force: Option<u16>) -> Result<(), Memory> {
+fn put_force(out: &mut Report, force: Option<u16>) -> Result<(), Memory> {
     match force {
-        Some(force) => put_number(out, i64::from(force))?,
-        None => put_word(out, b"none")?,
+        Some(force) => out.tell(force)?,
+        None => out.next(b"none")?,
     }
-    end_line(out)
+    out.end_line()
 }
 
 /// The least places of columns at a force.
-fn put_places(alloc: Global, out: &mut Text, columns: &[Column], force: u16) -> Result<(), Memory>
+fn put_places(out: &mut Report, columns: &[Column], force: u16) -> Result<(), Memory>
     requires some { 0 < length columns.now }
     requires few { length columns.now ≤ 200000 }
 {
-    let places = place(alloc, columns, &GAPS, force)?;
-    put_numbers(out, places.as_slice())?;
-    end_line(out)
+    let places = place(out.alloc, columns, &GAPS, force)?;
+    out.tell_all(places.as_slice())?;
+    out.end_line()
 }
 
 /// Columns set to a width at the greatest force that fits.
 fn put_set(
-    alloc: Global,
-    out: &mut Text,
+    out: &mut Report,
     columns: &[Column],
     width: u32,
     last: bool,
@@ -82,7 +79,7 @@ fn put_set(
 {
     match fit(columns, &GAPS, width, scratch) {
         Some(force) => {
-            let placed = justify(alloc, columns, &GAPS, width, force, last)?;
+            let placed = justify(out.alloc, columns, &GAPS, width, force, last)?;
             put_placed(out, &placed)
         }
         None => put_force(out, None),
@@ -91,38 +88,31 @@ fn put_set(
 
 /// The value of a call on plain columns: `place F`, `fit W`, `within W M` with the greatest force that may be
 /// tried, `set W` and `last W`.
-pub(crate) fn put_plain(
-    alloc: Global,
-    out: &mut Text,
-    name: &[u8],
-    words: &str,
-    text: &str,
-) -> Result<(), Memory> {
-    let numbers = numbers_of(alloc, words)?;
+pub(crate) fn put_plain(out: &mut Report, case: Case<'_>) -> Result<(), Memory> {
+    let numbers = numbers_of(out.alloc, case.word)?;
     let (first, second) = (count_at(&numbers, 0), count_at(&numbers, 1));
-    let row = columns_of(alloc, text)?;
+    let row = columns_of(out.alloc, case.input)?;
     let columns = row.as_slice();
     if columns.is_empty() || columns.len() > 1000 {
-        return put_word(out, b"no columns\n");
+        return out.next(b"no columns\n");
     }
-    let mut places = vec![in alloc; 0i64; columns.len() + 2]?;
+    let mut places = vec![in out.alloc; 0i64; columns.len() + 2]?;
     let scratch = places.as_mut_slice();
-    match name {
-        b"place" => put_places(alloc, out, columns, u16::try_from(first).unwrap_or(0)),
-        b"fit" => put_force(out, fit(columns, &GAPS, first, scratch)),
-        b"within" => {
+    match case.call {
+        "place" => put_places(out, columns, u16::try_from(first).unwrap_or(0)),
+        "fit" => put_force(out, fit(columns, &GAPS, first, scratch)),
+        "within" => {
             let most = u16::try_from(second).unwrap_or(0).min(2048);
             put_force(out, fit_within(columns, &GAPS, first, most, scratch))
         }
-        b"set" => put_set(alloc, out, columns, first, false, scratch),
-        _ => put_set(alloc, out, columns, first, true, scratch),
+        "set" => put_set(out, columns, first, false, scratch),
+        _ => put_set(out, columns, first, true, scratch),
     }
 }
 
 /// The badness of a span at a force, and of a last one.
-pub(crate) fn put_badness(alloc: Global, out: &mut Text, words: &str) -> Result<(), Memory> {
-    let force = u16::try_from(count_at(&numbers_of(alloc, words)?, 0)).unwrap_or(0);
-    put_count(out, badness(force, false))?;
-    put_count(out, badness(force, true))?;
-    end_line(out)
+pub(crate) fn put_badness(out: &mut Report, words: &str) -> Result<(), Memory> {
+    let force = u16::try_from(count_at(&numbers_of(out.alloc, words)?, 0)).unwrap_or(0);
+    out.tell_all(&[badness(force, false), badness(force, true)])?;
+    out.end_line()
 }

@@ -3,9 +3,10 @@
 ghost use Rattle.std.specs.Prelude.{length, refl};
 ghost use Rattle.layout_tests.specs.Table.{capped_cost, is_marked, capped_stop, capped_small};
 
-use answer_texts::{numbers_of, put_breaking, put_no_way, put_word};
+use answer_texts::{numbers_of, put_breaking, put_no_way};
+use case_texts::Report;
 use lay_breaks::{BreakError, Costs, least};
-use mus_units::{Memory, Row, Text};
+use mus_units::{Memory, Row};
 use std::alloc::Global;
 
 /// Row a has the costs of the spans from bar a on, and mark b tells whether bar b + 1 is forced. A cost past
@@ -78,18 +79,13 @@ fn table_of(alloc: Global, words: &str, text: &str) -> Result<Table, Memory> {
 }
 
 /// What is chosen among the breakings of a table.
-pub(crate) fn put_least(
-    alloc: Global,
-    out: &mut Text,
-    words: &str,
-    text: &str,
-) -> Result<(), Memory> {
-    let table = table_of(alloc, words, text)?;
+pub(crate) fn put_least(out: &mut Report, words: &str, text: &str) -> Result<(), Memory> {
+    let table = table_of(out.alloc, words, text)?;
     let bars = table.rows.len();
     if bars > 1000 {
-        return put_word(out, b"too many bars\n");
+        return out.next(b"too many bars\n");
     }
-    match least(alloc, &table, bars as u32) {
+    match least(out.alloc, &table, bars as u32) {
         Ok(breaking) => put_breaking(out, &breaking),
         Err(BreakError::NoWay { reached }) => put_no_way(out, reached),
         Err(BreakError::Memory) => Err(Memory),

@@ -19,12 +19,10 @@ pub(crate) fn put_arcs(out: &mut Report, score: &Score) -> Result<(), Memory>
 
 fn put_all(out: &mut Report, arcs: &[Arc]) -> Result<(), Memory> {
     for arc in arcs {
-        out.line(if arc.tie { b"tie " } else { b"slur " })?;
-        let text = format!(in out.alloc;
-            "{} to {} head {} measures {} to {}",
-            arc.first, arc.last, arc.head, arc.from, arc.to
-        )?;
-        out.append(text.as_bytes())?;
+        out.line(if arc.tie { b"tie" } else { b"slur" })?;
+        out.tell(format_args!("{} to {}", arc.first, arc.last))?;
+        out.next_number(b"head ", arc.head)?;
+        out.tell(format_args!("measures {} to {}", arc.from, arc.to))?;
     }
     Ok(())
 }
@@ -44,16 +42,10 @@ pub(crate) fn put_piece(out: &mut Report, word: &str, input: &str) -> Result<(),
     };
     match pieces(&arc, a, b) {
         Some(piece) => {
-            out.next(if piece.cut_left {
-                b"cut left"
-            } else {
-                b"whole left"
-            })?;
-            out.next(if piece.cut_right {
-                b"cut right"
-            } else {
-                b"whole right"
-            })
+            out.tell(if piece.cut_left { "cut" } else { "whole" })?;
+            out.next(b"left")?;
+            out.tell(if piece.cut_right { "cut" } else { "whole" })?;
+            out.next(b"right")
         }
         None => out.next(b"none"),
     }

@@ -29,7 +29,7 @@ pub(crate) fn put_book(out: &mut Report, bytes: &[u8]) -> Result<(), Memory> {
     let book = book_of(out.alloc, bytes)?;
     put_lines(out, book.header.as_slice())?;
     for tune in book.tunes.as_slice() {
-        out.line_number(b"#", u64::from(tune.ordinal))?;
+        out.line_number(b"#", tune.ordinal)?;
         put_lines(out, tune.lines.as_slice())?;
     }
     Ok(())
@@ -37,7 +37,7 @@ pub(crate) fn put_book(out: &mut Report, bytes: &[u8]) -> Result<(), Memory> {
 
 fn put_lines(out: &mut Report, lines: &[Line]) -> Result<(), Memory> {
     for line in lines {
-        out.line_number(b"", u64::from(line.number))?;
+        out.line_number(b"", line.number)?;
         out.push(b':')?;
         out.append(line.text.as_slice())?;
     }

@@ -5,12 +5,12 @@ use mus_units::{Deco, Head, Memory, Text};
 /// Adds a line of an event: its id, its heads or its look, its value and its ticks, and what else
 /// stands at it.
 pub(crate) fn put_event(out: &mut Report, kind: &[u8], event: &Event) -> Result<(), Memory> {
-    out.line_number(kind, u64::from(event.id))?;
+    out.line_number(kind, event.id)?;
     out.next(look_name(event.look))?;
     put_heads(out, event.heads.as_slice())?;
     out.next(b"")?;
     put_value(out, event.value)?;
-    out.next_number(b"", event.ticks)?;
+    out.tell(event.ticks)?;
     out.flag(event.parted, b"parted")?;
     put_changes(out, &event.changes)?;
     put_marks(out, event)?;
@@ -39,7 +39,7 @@ fn put_count(out: &mut Report, name: &[u8], count: u32) -> Result<(), Memory> {
     if count == 0 {
         return Ok(());
     }
-    out.next_number(name, u64::from(count))
+    out.next_number(name, count)
 }
 
 fn put_changes(out: &mut Report, changes: &Changes) -> Result<(), Memory> {

@@ -26,7 +26,7 @@ fn put_staves(out: &mut Report, staves: &Option<Line>) -> Result<(), Memory> {
     let Some(line) = staves else {
         return Ok(());
     };
-    out.next_number(b"staves ", u64::from(line.number))?;
+    out.next_number(b"staves ", line.number)?;
     out.next(line.text.as_slice())
 }
 
@@ -43,7 +43,7 @@ pub(crate) fn put_headers_of_book(out: &mut Report, bytes: &[u8]) -> Result<(), 
 fn put_header_of_tune(out: &mut Report, tune: &TuneText, defaults: &Defaults) -> Result<(), Memory>
     requires { IsGoodDefaults defaults.now }
 {
-    out.line_number(b"tune ", u64::from(tune.ordinal))?;
+    out.line_number(b"tune ", tune.ordinal)?;
     match read_header(out.alloc, tune, defaults) {
         Ok(header) => put_header(out, &header),
         Err(error) => put_fault(out, error),
@@ -62,7 +62,7 @@ fn put_header(out: &mut Report, header: &Header) -> Result<(), Memory> {
     put_breaks(out, header.breaks)?;
     put_spread(out, header.spread)?;
     put_staves(out, &header.staves)?;
-    out.next_number(b"body ", u64::from(header.body))
+    out.next_number(b"body ", header.body)
 }
 
 fn put_voices(out: &mut Report, voices: &[VoiceDef]) -> Result<(), Memory> {

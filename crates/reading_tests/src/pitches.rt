@@ -2,16 +2,16 @@ use crate::books::line_of;
 use abc_fields::directive::read_spread;
 use abc_fields::key::read_key;
 use abc_tokens::{Head, Placed, Token, read_front};
-use case_texts::{Report, alter_named, clef_named, letter_named, put_signs};
+use case_texts::{Report, alter_name, alter_named, clef_named, letter_named, put_signs};
 use mus_pitch::{Mode, in_force, key_of, lay, signature};
-use mus_units::{Alter, Memory, Row, Spread, height};
+use mus_units::{Memory, Row, Spread, height};
 use std::alloc::Global;
 
 /// Adds the height of the first note of a line in a clef.
 pub(crate) fn put_height(out: &mut Report, word: &str, bytes: &[u8]) -> Result<(), Memory> {
     let heads = heads_of(out.alloc, bytes)?;
     match heads.as_slice().first() {
-        Some(head) => out.signed(height(head.pitch, clef_named(word))),
+        Some(head) => out.show(height(head.pitch, clef_named(word))),
         None => out.append(b"none"),
     }
 }
@@ -39,7 +39,7 @@ fn head_of(placed: &Placed) -> Option<Head> {
 pub(crate) fn put_signature(out: &mut Report, mode: &str, tonic: &str) -> Result<(), Memory> {
     let (letter, alter) = tonic.split_at_checked(1).unwrap_or((tonic, ""));
     match signature(letter_named(letter), alter_named(alter), mode_named(mode)) {
-        Some(sharps) => out.signed(i64::from(sharps)),
+        Some(sharps) => out.show(sharps),
         None => out.append(b"none"),
     }
 }
@@ -85,19 +85,9 @@ pub(crate) fn put_alteration(out: &mut Report, word: &str, bytes: &[u8]) -> Resu
     let key = key_of(out.alloc, sharps_of(sharps))?;
     let heads = heads_of(out.alloc, bytes)?;
     match heads.as_slice().split_last() {
-        Some((head, said)) => out.append(alteration_name(in_force(
+        Some((head, said)) => out.append(alter_name(in_force(
             head.pitch, head.sign, said, spread, &key,
         ))),
         None => out.append(b"none"),
-    }
-}
-
-fn alteration_name(alter: Alter) -> &'static [u8] {
-    match alter {
-        Alter::Flat2 => b"double flat",
-        Alter::Flat => b"flat",
-        Alter::Natural => b"natural",
-        Alter::Sharp => b"sharp",
-        Alter::Sharp2 => b"double sharp",
     }
 }

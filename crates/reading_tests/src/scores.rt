@@ -14,12 +14,9 @@ pub(crate) fn put_score(out: &mut Report, score: &Score) -> Result<(), Memory> {
 }
 
 fn put_head(out: &mut Report, score: &Score) -> Result<(), Memory> {
-    out.line_number(b"measures ", u64::from(score.measures))?;
+    out.line_number(b"measures ", score.measures)?;
     out.next(b"forced")?;
-    for bar in score.forced.as_slice() {
-        out.push(b' ')?;
-        out.number(u64::from(*bar))?;
-    }
+    out.tell_all(score.forced.as_slice())?;
     put_spread(out, score.spread)
 }
 
@@ -30,7 +27,7 @@ fn put_voice(out: &mut Report, voice: &Voice) -> Result<(), Memory> {
     put_signs(out, b"key", voice.key.signs.as_slice())?;
     put_meter(out, voice.meter)?;
     put_wish(out, voice.stem)?;
-    out.next_number(b"verses ", u64::from(voice.verses))?;
+    out.next_number(b"verses ", voice.verses)?;
     out.next(b"first:")?;
     put_bar(out, voice.first)?;
     put_measures(out, voice.measures.as_slice())
@@ -64,24 +61,19 @@ fn put_node(out: &mut Report, node: &Music) -> Result<(), Memory> {
             out.line(b"end")
         }
         Music::Tuplet { p, q, body } => {
-            put_tuplet(out, *p, *q)?;
+            out.line(b"")?;
+            out.show(format_args!("tuplet {p}:{q}"))?;
             put_nodes(out, body.as_slice())?;
             out.line(b"end")
         }
     }
 }
 
-fn put_tuplet(out: &mut Report, p: u8, q: u8) -> Result<(), Memory> {
-    out.line(b"")?;
-    out.append(format!(in out.alloc; "tuplet {p}:{q}")?.as_bytes())
-}
-
 /// Adds whether a score is plain.
 pub(crate) fn put_plainness(out: &mut Report, score: &Score) -> Result<(), Memory> {
-    let word: &[u8] = if is_plain(score) {
-        b"plain"
+    out.show(if is_plain(score) {
+        "plain"
     } else {
-        b"not plain"
-    };
-    out.append(word)
+        "not plain"
+    })
 }

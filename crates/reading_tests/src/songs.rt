@@ -31,7 +31,7 @@ pub(crate) fn put_song(out: &mut Report, word: &str, words: &[u8]) -> Result<(),
     let syllables = syllables(out.alloc, words)?;
     let sung = align(out.alloc, syllables.as_slice(), notes.as_slice())?;
     for one in sung.as_slice() {
-        out.line_number(b"event ", u64::from(one.event))?;
+        out.line_number(b"event ", one.event)?;
         out.append(b" <")?;
         out.append(one.text.as_slice())?;
         out.push(b'>')?;

@@ -1,12 +1,12 @@
 ghost use Rattle.std.specs.Prelude.{All};
 ghost use Rattle.mus_score.specs.{Good.IsGoodBody, GoodScore.IsGoodScore};
 
-use case_texts::{Report, number_of, put_head};
+use case_texts::{Report, number_of, put_head, put_key};
 use mus_keys::keys_of;
 use mus_score::{
     Event, Flat, Measure, Music, Score, body_duration, duration, events, is_good_body,
 };
-use mus_time::{Class, ColumnKey, Timeline, onsets};
+use mus_time::{ColumnKey, Timeline, onsets};
 use mus_units::Memory;
 
 /// Adds a line for each event of a score, voice by voice: its id, its duration, the tuplets that
@@ -29,8 +29,8 @@ fn put_all_flats(out: &mut Report, flats: &[Flat]) -> Result<(), Memory> {
 }
 
 fn put_flat(out: &mut Report, flat: &Flat) -> Result<(), Memory> {
-    out.line_number(b"", u64::from(flat.event.id))?;
-    out.next_number(b"", flat.duration)?;
+    out.line_number(b"", flat.event.id)?;
+    out.tell(flat.duration)?;
     put_tuplets(out, flat.tuplets.as_slice())?;
     put_graces(out, flat.graces.as_slice())?;
     out.flag(flat.slash, b"slash")
@@ -38,7 +38,7 @@ fn put_flat(out: &mut Report, flat: &Flat) -> Result<(), Memory> {
 
 fn put_tuplets(out: &mut Report, tuplets: &[u8]) -> Result<(), Memory> {
     for p in tuplets {
-        out.next_number(b"tuplet ", u64::from(*p))?;
+        out.next_number(b"tuplet ", *p)?;
     }
     Ok(())
 }
@@ -85,7 +85,7 @@ fn put_node_durations(out: &mut Report, body: &[Music]) -> Result<(), Memory> {
 /// Adds the duration of a body of one node, if it is good.
 fn put_node_duration(out: &mut Report, node: &[Music]) -> Result<(), Memory> {
     match node {
-        [only] if is_good_body(node) => { out.next_number(b"", duration(only)) }
+        [only] if is_good_body(node) => { out.tell(duration(only)) }
         _ => out.next(b"none"),
     }
 }
@@ -98,20 +98,15 @@ pub(crate) fn put_onsets(out: &mut Report, score: &Score) -> Result<(), Memory>
     let times = onsets(out.alloc, score)?;
     put_ticks(out, &times)?;
     out.line(b"lengths")?;
-    for length in times.lengths.as_slice() {
-        out.next_number(b"", *length)?;
-    }
-    Ok(())
+    out.tell_all(times.lengths.as_slice())
 }
 
 fn put_ticks(out: &mut Report, times: &Timeline) -> Result<(), Memory> {
     for onset in times.onsets.as_slice() {
-        out.line(b"voice ")?;
-        let text = format!(in out.alloc;
-            "{} measure {} event {} tick {}",
-            onset.voice, onset.measure, onset.event, onset.tick
-        )?;
-        out.append(text.as_bytes())?;
+        out.line_number(b"voice ", onset.voice)?;
+        out.next_number(b"measure ", onset.measure)?;
+        out.next_number(b"event ", onset.event)?;
+        out.next_number(b"tick ", onset.tick)?;
     }
     Ok(())
 }
@@ -141,23 +136,8 @@ fn measure_named(word: &str) -> u32 {
 
 fn put_column_keys(out: &mut Report, keys: &[ColumnKey]) -> Result<(), Memory> {
     for key in keys {
-        out.line(class_name(key.class))?;
-        let text = format!(in out.alloc;
-            " measure {} tick {} place {}",
-            key.measure, key.tick, key.place
-        )?;
-        out.append(text.as_bytes())?;
+        out.line(b"")?;
+        put_key(out, *key)?;
     }
     Ok(())
-}
-
-fn class_name(class: Class) -> &'static [u8] {
-    match class {
-        Class::Head => b"head",
-        Class::First => b"first",
-        Class::Change => b"change",
-        Class::Grace => b"grace",
-        Class::Note => b"note",
-        Class::Bar => b"bar",
-    }
 }

@@ -5,7 +5,7 @@ use mus_units::{Memory, Text};
 /// Adds tokens, each as its column, a colon and what it says.
 pub(crate) fn put_tokens(out: &mut Report, tokens: &[Placed]) -> Result<(), Memory> {
     for placed in tokens {
-        out.next_number(b"", u64::from(placed.column))?;
+        out.tell(placed.column)?;
         out.push(b':')?;
         put_token(out, &placed.token)?;
     }
@@ -25,16 +25,16 @@ fn put_token(out: &mut Report, token: &Token) -> Result<(), Memory> {
         }
         Token::Measures { seen, count } => {
             out.push(if *seen { b'Z' } else { b'X' })?;
-            out.number(u64::from(*count))
+            out.show(*count)
         }
         Token::Chord { heads, decos, len } => {
             put_chord(out, heads.as_slice(), decos.as_slice(), *len)
         }
         Token::Grace { slash, body } => put_grace(out, *slash, body.as_slice()),
-        Token::Tuplet { p, q, r } => out.append(format!(in out.alloc; "t{p}:{q}:{r}")?.as_bytes()),
+        Token::Tuplet { p, q, r } => out.show(format_args!("t{p}:{q}:{r}")),
         Token::Broken { right, dots } => {
             out.push(if *right { b'>' } else { b'<' })?;
-            out.number(u64::from(*dots))
+            out.show(*dots)
         }
         Token::Deco(deco) => {
             out.push(b'd')?;
@@ -82,7 +82,7 @@ fn put_len(out: &mut Report, len: Len) -> Result<(), Memory> {
     if len.num == 1 && len.den == 1 {
         return Ok(());
     }
-    out.append(format!(in out.alloc; "*{}/{}", len.num, len.den)?.as_bytes())
+    out.show(format_args!("*{}/{}", len.num, len.den))
 }
 
 fn put_chord(

@@ -33,7 +33,7 @@ pub(crate) fn put_value_of(out: &mut Report, text: &str) -> Result<(), Memory> {
 pub(crate) fn put_ticks(out: &mut Report, text: &str) -> Result<(), Memory> {
     let length = fraction_of(text);
     match value_of(length.num, length.den) {
-        Some(value) => out.number(ticks_of(value)),
+        Some(value) => out.show(ticks_of(value)),
         None => out.append(b"none"),
     }
 }

@@ -1,28 +1,27 @@
 //! Columns of systems and of measures.
 
-use crate::marks::put_key;
-use answer_texts::{end_line, put_numbers, put_word};
+use case_texts::{Report, put_key};
 use lay_columns::{Column, Reach};
-use mus_units::{Memory, Text};
+use mus_units::Memory;
 
-fn put_reach(out: &mut Text, reach: Option<Reach>) -> Result<(), Memory> {
+fn put_reach(out: &mut Report, reach: Option<Reach>) -> Result<(), Memory> {
     match reach {
-        Some(reach) => put_numbers(out, &[i64::from(reach.left), i64::from(reach.right)]),
-        None => put_word(out, b"-"),
+        Some(reach) => out.tell_all(&[reach.left, reach.right]),
+        None => out.next(b"-"),
     }
 }
 
 /// Adds a line for each column: its key, its natural length, and how far it reaches to the left and to the
 /// right in each lane.
-pub(crate) fn put_columns(out: &mut Text, columns: &[Column]) -> Result<(), Memory> {
+pub(crate) fn put_columns(out: &mut Report, columns: &[Column]) -> Result<(), Memory> {
     for column in columns {
         put_key(out, column.key)?;
-        put_numbers(out, &[i64::from(column.natural)])?;
+        out.next_number(b"natural ", column.natural)?;
         for lane in 0..column.reaches.len() {
-            put_word(out, b",")?;
+            out.next(b",")?;
             put_reach(out, column.reaches.at(lane))?;
         }
-        end_line(out)?;
+        out.end_line()?;
     }
     Ok(())
 }

@@ -2,10 +2,10 @@
 
 ghost use Rattle.std.specs.Prelude.{◌≡◌, ◌*◌, ◌<◌, ◌≤◌, ⊤};
 
-use answer_texts::{count_at, end_line, number_at, numbers_of, put_count, put_word};
+use answer_texts::{count_at, number_at, numbers_of};
+use case_texts::{Case, Report};
 use eng_halves::{Jobs, Work, work_all};
-use mus_units::{Memory, Row, Text};
-use std::alloc::Global;
+use mus_units::{Memory, Row};
 use std::sync::atomic::AtomicU64;
 use std::sync::atomic::Ordering::SeqCst;
 use std::thread::Threads;
@@ -48,28 +48,24 @@ impl Work<usize, usize> for Counted {
 
 fn put_squares<R: Threads + Sync>(
     rt: &R,
-    alloc: Global,
-    out: &mut Text,
+    out: &mut Report,
     jobs: Jobs,
     text: &str,
 ) -> Result<(), Memory> {
-    let mut numbers = Row::new(alloc);
-    for number in numbers_of(alloc, text)?.as_slice() {
+    let mut numbers = Row::new(out.alloc);
+    for number in numbers_of(out.alloc, text)?.as_slice() {
         numbers.push(u32::try_from(*number).unwrap_or(0))?;
     }
-    let squares = work_all(rt, alloc, numbers.as_slice(), jobs, &Squares)?;
-    for square in squares.as_slice() {
-        put_count(out, *square)?;
-    }
-    end_line(out)
+    let squares = work_all(rt, out.alloc, numbers.as_slice(), jobs, &Squares)?;
+    out.tell_all(squares.as_slice())?;
+    out.end_line()
 }
 
 /// The outcomes for four items, and how often each was worked on; or that memory is short, where it is so for
 /// the item of a number.
 fn put_counted<R: Threads + Sync>(
     rt: &R,
-    alloc: Global,
-    out: &mut Text,
+    out: &mut Report,
     jobs: Jobs,
     without: usize,
 ) -> Result<(), Memory> {
@@ -83,41 +79,36 @@ fn put_counted<R: Threads + Sync>(
         without,
     };
     let items: [usize; 4] = [0, 1, 2, 3];
-    match work_all(rt, alloc, &items, jobs, &counted) {
+    match work_all(rt, out.alloc, &items, jobs, &counted) {
         Ok(outcomes) => {
-            for item in outcomes.as_slice() {
-                put_count(out, *item as u64)?;
-            }
+            out.tell_all(outcomes.as_slice())?;
             for calls in &counted.calls {
-                put_count(out, calls.load(SeqCst))?;
+                out.tell(calls.load(SeqCst))?;
             }
         }
-        Err(Memory) => put_word(out, b"no memory")?,
+        Err(Memory) => out.next(b"no memory")?,
     }
-    end_line(out)
+    out.end_line()
 }
 
 /// The value of a call on items by a number of jobs: `squares J`, and `counted J K`, where memory is
 /// short for item K.
 pub(crate) fn put_halves<R: Threads + Sync>(
     rt: &R,
-    alloc: Global,
-    out: &mut Text,
-    name: &[u8],
-    words: &str,
-    text: &str,
+    out: &mut Report,
+    case: Case<'_>,
 ) -> Result<(), Memory> {
-    let numbers = numbers_of(alloc, words)?;
-    let jobs = u8::try_from(count_at(&numbers, 0)).unwrap_or(0);
-    if jobs < 1 || jobs > 64 {
-        return put_word(out, b"no jobs\n");
+    let numbers = numbers_of(out.alloc, case.word)?;
+    let count = u8::try_from(count_at(&numbers, 0)).unwrap_or(0);
+    if count < 1 || count > 64 {
+        return out.next(b"no jobs\n");
     }
-    let jobs = Jobs { count: jobs };
-    match name {
-        b"squares" => put_squares(rt, alloc, out, jobs, text),
+    let jobs = Jobs { count };
+    match case.call {
+        "squares" => put_squares(rt, out, jobs, case.input),
         _ => {
             let without = usize::try_from(number_at(&numbers, 1)).unwrap_or(4);
-            put_counted(rt, alloc, out, jobs, without)
+            put_counted(rt, out, jobs, without)
         }
     }
 }

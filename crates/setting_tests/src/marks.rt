@@ -1,35 +1,32 @@
 //! The marks of a system.
 
-use crate::names::{class_name, put_lane, size_name, way_name};
-use answer_texts::{end_line, put_count, put_number, put_numbers, put_word};
+use crate::books::size_name;
+use case_texts::{Report, put_key};
 use glyph_paths::name_of;
-use mus_laid::{Laid, Mark, StaffMarks, SystemMarks};
-use mus_time::ColumnKey;
-use mus_units::{Memory, Size, Text};
+use mus_laid::{Laid, Lane, Mark, StaffMarks, SystemMarks};
+use mus_units::{Memory, Way};
 
-/// Adds a key: its measure, its tick, its class and its place.
-pub(crate) fn put_key(out: &mut Text, key: ColumnKey) -> Result<(), Memory> {
-    put_number(out, i64::from(key.measure))?;
-    put_count(out, key.tick)?;
-    put_word(out, class_name(key.class))?;
-    put_number(out, i64::from(key.place))
+fn way_name(way: Way) -> &'static str {
+    match way {
+        Way::Up => "up",
+        Way::Down => "down",
+        Way::Grace => "grace",
+    }
 }
 
-fn put_words(
-    out: &mut Text,
-    size: Size,
-    rank: u32,
-    dx: i32,
-    dy: i32,
-    text: &[u8],
-) -> Result<(), Memory> {
-    put_word(out, size_name(size))?;
-    put_numbers(out, &[i64::from(rank), i64::from(dx), i64::from(dy)])?;
-    put_word(out, text)
+/// Adds the name of a lane; one of a verse has its number.
+fn put_lane(out: &mut Report, lane: Lane) -> Result<(), Memory> {
+    match lane {
+        Lane::Main => out.next(b"main"),
+        Lane::Above => out.next(b"above"),
+        Lane::Below => out.next(b"below"),
+        Lane::Loose => out.next(b"loose"),
+        Lane::Verse(verse) => out.next_number(b"verse ", verse),
+    }
 }
 
 /// Adds a mark: its kind, its ranks, and its places in u.
-fn put_mark(out: &mut Text, mark: &Mark) -> Result<(), Memory> {
+fn put_mark(out: &mut Report, mark: &Mark) -> Result<(), Memory> {
     match mark {
         Mark::Glyph {
             glyph,
@@ -37,9 +34,9 @@ fn put_mark(out: &mut Text, mark: &Mark) -> Result<(), Memory> {
             dx,
             dy,
         } => {
-            put_word(out, b"glyph")?;
-            put_word(out, name_of(*glyph))?;
-            put_numbers(out, &[i64::from(*rank), i64::from(*dx), i64::from(*dy)])
+            out.next(b"glyph")?;
+            out.next(name_of(*glyph))?;
+            out.tell(format_args!("{rank} {dx} {dy}"))
         }
         Mark::Words {
             size,
@@ -47,11 +44,12 @@ fn put_mark(out: &mut Text, mark: &Mark) -> Result<(), Memory> {
             dx,
             dy,
             text,
-        } => put_words(out, *size, *rank, *dx, *dy, text.as_slice()),
+        } => {
+            out.tell(format_args!("{} {rank} {dx} {dy}", size_name(*size)))?;
+            out.next(text.as_slice())
+        }
         Mark::Stem { rank, dx, from, to } => {
-            put_word(out, b"stem")?;
-            put_numbers(out, &[i64::from(*rank), i64::from(*dx)])?;
-            put_numbers(out, &[i64::from(*from), i64::from(*to)])
+            out.tell(format_args!("stem {rank} {dx} {from} {to}"))
         }
         Mark::Beam {
             way,
@@ -60,10 +58,8 @@ fn put_mark(out: &mut Text, mark: &Mark) -> Result<(), Memory> {
             from,
             to,
         } => {
-            put_word(out, b"beam")?;
-            put_word(out, way_name(*way))?;
-            put_numbers(out, &[i64::from(*first), i64::from(*last)])?;
-            put_numbers(out, &[i64::from(*from), i64::from(*to)])
+            let way = way_name(*way);
+            out.tell(format_args!("beam {way} {first} {last} {from} {to}"))
         }
         Mark::Arc {
             first,
@@ -71,38 +67,31 @@ fn put_mark(out: &mut Text, mark: &Mark) -> Result<(), Memory> {
             from,
             to,
             bulge,
-        } => {
-            put_word(out, b"arc")?;
-            put_numbers(out, &[i64::from(*first), i64::from(*last)])?;
-            put_numbers(out, &[i64::from(*from), i64::from(*to)])?;
-            put_number(out, i64::from(*bulge))
-        }
+        } => out.tell(format_args!("arc {first} {last} {from} {to} {bulge}")),
     }
 }
 
 /// Adds the lane of a mark, and the mark.
-pub(crate) fn put_laid(out: &mut Text, laid: &Laid) -> Result<(), Memory> {
+pub(crate) fn put_laid(out: &mut Report, laid: &Laid) -> Result<(), Memory> {
     put_lane(out, laid.lane)?;
     put_mark(out, &laid.mark)
 }
 
-fn put_staff(out: &mut Text, staff: &StaffMarks) -> Result<(), Memory> {
-    put_word(out, b"staff")?;
-    put_numbers(out, &[i64::from(staff.low), i64::from(staff.high)])?;
-    end_line(out)?;
+fn put_staff(out: &mut Report, staff: &StaffMarks) -> Result<(), Memory> {
+    out.tell(format_args!("staff {} {}\n", staff.low, staff.high))?;
     for laid in staff.marks.as_slice() {
         put_laid(out, laid)?;
-        end_line(out)?;
+        out.end_line()?;
     }
     Ok(())
 }
 
 /// Adds a line for each key of a system, and for each staff a line of its heights and one for each mark.
-pub(crate) fn put_system(out: &mut Text, system: &SystemMarks) -> Result<(), Memory> {
+pub(crate) fn put_system(out: &mut Report, system: &SystemMarks) -> Result<(), Memory> {
     for key in system.keys.as_slice() {
-        put_word(out, b"key")?;
+        out.next(b"key")?;
         put_key(out, *key)?;
-        end_line(out)?;
+        out.end_line()?;
     }
     for staff in system.staves.as_slice() {
         put_staff(out, staff)?;

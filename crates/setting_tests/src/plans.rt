@@ -4,67 +4,51 @@ ghost use Rattle.std.specs.Prelude.{◌≡◌, IsTrue, All, length, map};
 ghost use Rattle.mus_score.specs.{Good.IsGoodBody, GoodScore.IsGoodScore, GoodScore.IsGoodVoice};
 ghost use Rattle.mus_stems.specs.{Heads.{AllNear, IsNear, stand_of}, Stills.{AllCanStand, CanStand}};
 
-use answer_texts::{end_line, put_number, put_numbers, put_word};
+use case_texts::Report;
 use mus_score::{Flat, Measure, Score, Voice, flatten};
 use mus_stems::{Spot, StemPlan, stems};
-use mus_units::{Clef, Head, Memory, Text, Wish, height};
-use std::alloc::Global;
+use mus_units::{Clef, Head, Memory, Wish, height};
 
-fn put_all(out: &mut Text, name: &[u8], numbers: &[i32]) -> Result<(), Memory> {
-    put_word(out, name)?;
-    for number in numbers {
-        put_number(out, i64::from(*number))?;
-    }
-    Ok(())
-}
-
-fn put_sign_places(out: &mut Text, signs: &[Option<i32>]) -> Result<(), Memory> {
-    put_word(out, b"signs")?;
+fn put_sign_places(out: &mut Report, signs: &[Option<i32>]) -> Result<(), Memory> {
+    out.next(b"signs")?;
     for sign in signs {
         match sign {
-            Some(dx) => put_number(out, i64::from(*dx))?,
-            None => put_word(out, b"-")?,
+            Some(dx) => out.tell(dx)?,
+            None => out.next(b"-")?,
         }
     }
     Ok(())
 }
 
-fn put_spots(out: &mut Text, spots: &[Spot]) -> Result<(), Memory> {
-    put_word(out, b"dots")?;
+fn put_spots(out: &mut Report, spots: &[Spot]) -> Result<(), Memory> {
+    out.next(b"dots")?;
     for spot in spots {
-        put_numbers(out, &[i64::from(spot.dx), i64::from(spot.dy)])?;
+        out.tell_all(&[spot.dx, spot.dy])?;
     }
     Ok(())
 }
 
-fn put_stem(out: &mut Text, plan: &StemPlan) -> Result<(), Memory> {
-    put_word(out, if plan.up { b"up" } else { b"down" })?;
-    put_word(out, if plan.has { b"stem" } else { b"none" })?;
-    put_numbers(
-        out,
-        &[
-            i64::from(plan.from),
-            i64::from(plan.to),
-            i64::from(plan.own),
-        ],
-    )?;
-    put_word(out, b"group")?;
-    put_number(out, i64::from(plan.group))?;
-    put_word(out, b"flags")?;
-    put_number(out, i64::from(plan.flags))
+fn put_stem(out: &mut Report, plan: &StemPlan) -> Result<(), Memory> {
+    out.tell(if plan.up { "up" } else { "down" })?;
+    out.tell(if plan.has { "stem" } else { "none" })?;
+    out.tell_all(&[plan.from, plan.to, plan.own])?;
+    out.next_number(b"group ", plan.group)?;
+    out.next_number(b"flags ", plan.flags)
 }
 
 /// Adds a line for each plan: the way of its stem, whether it has one, where the stem begins and ends and
 /// where it would end by itself, its group and its flags; then the places of its heads, signs, ledger
 /// lines and dots.
-pub(crate) fn put_plans(out: &mut Text, plans: &[StemPlan]) -> Result<(), Memory> {
+pub(crate) fn put_plans(out: &mut Report, plans: &[StemPlan]) -> Result<(), Memory> {
     for plan in plans {
         put_stem(out, plan)?;
-        put_all(out, b"shifts", plan.shifts.as_slice())?;
+        out.next(b"shifts")?;
+        out.tell_all(plan.shifts.as_slice())?;
         put_sign_places(out, plan.signs.as_slice())?;
-        put_all(out, b"ledgers", plan.ledgers.as_slice())?;
+        out.next(b"ledgers")?;
+        out.tell_all(plan.ledgers.as_slice())?;
         put_spots(out, plan.dots.as_slice())?;
-        end_line(out)?;
+        out.end_line()?;
     }
     Ok(())
 }
@@ -110,45 +94,45 @@ pub(crate) fn can_all_stand(events: &[Flat], clefs: &[Clef]) -> bool
 
 /// The plans of a measure in one clef.
 fn put_measure_plans(
-    alloc: Global,
-    out: &mut Text,
+    out: &mut Report,
     measure: &Measure,
     clef: Clef,
     wish: Wish,
 ) -> Result<(), Memory>
     requires { IsGoodBody measure.now.body }
 {
+    let alloc = out.alloc;
     let events = flatten(alloc, measure.body.as_slice())?;
     let clefs = vec![in alloc; clef; events.len()]?;
     if !can_all_stand(events.as_slice(), &clefs) {
-        return put_word(out, b"another clef\n");
+        return out.next(b"another clef\n");
     }
     let plans = stems(alloc, events.as_slice(), &clefs, wish)?;
     put_plans(out, plans.as_slice())
 }
 
-fn put_voice_plans(alloc: Global, out: &mut Text, voice: &Voice) -> Result<(), Memory>
+fn put_voice_plans(out: &mut Report, voice: &Voice) -> Result<(), Memory>
     requires { IsGoodVoice voice.now }
 {
     for measure in voice.measures.as_slice() {
-        put_word(out, b"measure\n")?;
-        put_measure_plans(alloc, out, measure, voice.clef, voice.stem)?;
+        out.next(b"measure\n")?;
+        put_measure_plans(out, measure, voice.clef, voice.stem)?;
     }
     Ok(())
 }
 
-fn put_all_plans(alloc: Global, out: &mut Text, voices: &[Voice]) -> Result<(), Memory>
+fn put_all_plans(out: &mut Report, voices: &[Voice]) -> Result<(), Memory>
     requires { All IsGoodVoice voices.now }
 {
     for voice in voices {
-        put_voice_plans(alloc, out, voice)?;
+        put_voice_plans(out, voice)?;
     }
     Ok(())
 }
 
 /// Adds the plans of each measure of each voice, in the voice's first clef.
-pub(crate) fn put_score_plans(alloc: Global, out: &mut Text, score: &Score) -> Result<(), Memory>
+pub(crate) fn put_score_plans(out: &mut Report, score: &Score) -> Result<(), Memory>
     requires { IsGoodScore score.now }
 {
-    put_all_plans(alloc, out, score.voices.as_slice())
+    put_all_plans(out, score.voices.as_slice())
 }

@@ -16,14 +16,8 @@ fn tune_score(alloc: Global, tune: &TuneText, defaults: &Defaults) -> Result<Sco
     requires defaults { IsGoodDefaults defaults.now }
     ensures { IfOk result IsGoodScore }
 {
-    let header = match read_header(alloc, tune, defaults) {
-        Ok(header) => header,
-        Err(error) => return Err(error),
-    };
-    match build(alloc, &header, tune, false) {
-        Ok(score) => Ok(score),
-        Err(error) => Err(error),
-    }
+    let header = read_header(alloc, tune, defaults)?;
+    build(alloc, &header, tune, false)
 }
 
 /// The score of the first tune of a book. A book that is too long or has no tune answers as if memory

@@ -7,13 +7,12 @@ ghost use Rattle.setting_tests.specs.Rising.{AreRising, RisesFrom};
 
 use crate::marks::put_system;
 use crate::plans::{can_all_stand, put_plans};
-use answer_texts::put_word;
+use case_texts::Report;
 use mus_marks::{marks, tilt};
 use mus_score::{Measure, Score, Voice, flatten};
 use mus_stems::{StemPlan, slope, stems};
 use mus_time::onsets;
-use mus_units::{Memory, Text};
-use std::alloc::Global;
+use mus_units::Memory;
 
 /// Whether each number can be an abscissa.
 fn are_places(at: &[i64]) -> bool
@@ -52,64 +51,58 @@ fn are_rising(at: &[i64]) -> bool
 }
 
 #[tactic(auto, using(crate::proofs::Rises::rises_in_beams))]
-fn put_sloped(alloc: Global, out: &mut Text, plans: &[StemPlan], at: &[i64]) -> Result<(), Memory>
+fn put_sloped(out: &mut Report, plans: &[StemPlan], at: &[i64]) -> Result<(), Memory>
     requires { AllEndsNear plans.now }
 {
     if at.len() != plans.len() || !are_places(at) || !are_rising(at) {
-        return put_word(out, b"no places\n");
+        return out.next(b"no places\n");
     }
-    let sloped = slope(alloc, plans, at)?;
+    let sloped = slope(out.alloc, plans, at)?;
     put_plans(out, sloped.as_slice())
 }
 
 fn put_measure_slopes(
-    alloc: Global,
-    out: &mut Text,
+    out: &mut Report,
     voice: &Voice,
     measure: &Measure,
     at: &[i64],
 ) -> Result<(), Memory>
     requires { IsGoodBody measure.now.body }
 {
+    let alloc = out.alloc;
     let events = flatten(alloc, measure.body.as_slice())?;
     let clefs = vec![in alloc; voice.clef; events.len()]?;
     if !can_all_stand(events.as_slice(), &clefs) {
-        return put_word(out, b"another clef\n");
+        return out.next(b"another clef\n");
     }
     let plans = stems(alloc, events.as_slice(), &clefs, voice.stem)?;
-    put_sloped(alloc, out, plans.as_slice(), at)
+    put_sloped(out, plans.as_slice(), at)
 }
 
-fn put_voice_slopes(alloc: Global, out: &mut Text, voice: &Voice, at: &[i64]) -> Result<(), Memory>
+fn put_voice_slopes(out: &mut Report, voice: &Voice, at: &[i64]) -> Result<(), Memory>
     requires { IsGoodVoice voice.now }
 {
     match voice.measures.as_slice() {
-        [measure, ..] => put_measure_slopes(alloc, out, voice, measure, at),
-        [] => put_word(out, b"no measure\n"),
+        [measure, ..] => put_measure_slopes(out, voice, measure, at),
+        [] => out.next(b"no measure\n"),
     }
 }
 
 /// Adds the plans of the first measure of the first voice on sloped beams, where its events stand at these
 /// abscissas.
-pub(crate) fn put_slopes(
-    alloc: Global,
-    out: &mut Text,
-    score: &Score,
-    at: &[i64],
-) -> Result<(), Memory>
+pub(crate) fn put_slopes(out: &mut Report, score: &Score, at: &[i64]) -> Result<(), Memory>
     requires { IsGoodScore score.now }
 {
     match score.voices.as_slice() {
-        [voice, ..] => put_voice_slopes(alloc, out, voice, at),
-        [] => put_word(out, b"no voice\n"),
+        [voice, ..] => put_voice_slopes(out, voice, at),
+        [] => out.next(b"no voice\n"),
     }
 }
 
 /// Adds what the system of the measures `a` to `b` - 1 draws whose columns stand at abscissas.
 #[tactic(auto, using(crate::proofs::Rises::are_abscissas))]
 pub(crate) fn put_tilted(
-    alloc: Global,
-    out: &mut Text,
+    out: &mut Report,
     score: &Score,
     a: u32,
     b: u32,
@@ -118,12 +111,13 @@ pub(crate) fn put_tilted(
     requires { IsGoodScore score.now }
 {
     if a >= b || b > score.measures {
-        return put_word(out, b"no such measures\n");
+        return out.next(b"no such measures\n");
     }
+    let alloc = out.alloc;
     let times = onsets(alloc, score)?;
     let flat = marks(alloc, score, &times, a, b)?;
     if at.len() != flat.keys.len() || !are_places(at) || !are_rising(at) {
-        return put_word(out, b"no places\n");
+        return out.next(b"no places\n");
     }
     put_system(out, &tilt(alloc, score, &times, a, b, at)?)
 }

@@ -1,25 +1,7 @@
-//! The words and numbers of a case.
+//! The numbers and the text of a case.
 
 use mus_units::{Memory, Row, Text};
 use std::alloc::Global;
-
-/// The line of a case, its first word, and the words behind that.
-#[derive(Clone, Copy)]
-pub struct Call<'a> {
-    pub line: &'a str,
-    pub name: &'a [u8],
-    pub rest: &'a str,
-}
-
-/// The call on a line.
-pub fn call_of(line: &str) -> Call<'_> {
-    let (name, rest) = line.split_once(' ').unwrap_or((line, ""));
-    Call {
-        line,
-        name: name.as_bytes(),
-        rest,
-    }
-}
 
 /// The numbers that words spell; a word that is none is 0.
 pub fn numbers_of(alloc: Global, words: &str) -> Result<Row<i64>, Memory> {
