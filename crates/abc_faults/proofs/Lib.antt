@@ -1,3 +1,4 @@
+pub mod Caps
 pub mod Crowds
 pub mod Firsts
 pub mod Orders

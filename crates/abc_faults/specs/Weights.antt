@@ -1,5 +1,5 @@
 -- How many heads and rests stand at each place, and where there are too many of them so far.
-use Rattle.std.specs.{Prelude.{◌≡◌, ⊤, false, ℕ, ◌*◌, List, [], ◌∷◌, ◌++◌, length, max, Bool, nat_lt, if◌then◌else◌, sum_by, flat_map, Option, Some, None}, List.AllByRecursion}
+use Rattle.std.specs.{Prelude.{◌≡◌, ⊤, false, ℕ, ◌*◌, List, [], ◌∷◌, ◌++◌, length, max, min, Bool, nat_lt, if◌then◌else◌, sum_by, flat_map, Option, Some, None}, List.AllByRecursion}
 use Rattle.mus_units.specs.{declared.value.Value.Value, Parts.parts_list}
 use Rattle.abc_lines.specs.declared.fault.{FaultKind.FaultKind, Fault.Fault}
 use Rattle.abc_notes.specs.declared.part.GraceChord.{GraceChord}
@@ -8,6 +8,10 @@ use Rattle.abc_faults.specs.{declared.weights.Weight.Weight, First.then_below}
 
 abbrev pub weight_at : ℕ → Stood → Weight
 weight_at count at = record { line = at.line; column = at.column; count = count }
+
+-- as it is kept: a place counts for no more than is already too many
+abbrev pub capped : Weight → Weight
+capped w = record { line = w.line; column = w.column; count = min w.count 50001 }
 
 -- a length without parts counts as one part
 abbrev pub count_parts : Option (List Value) → ℕ

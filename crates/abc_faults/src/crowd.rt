@@ -1,13 +1,10 @@
 ghost use Rattle.std.specs.{Prelude.◌≡◌, Prelude.IfOk, List.Sorted.IsPermutation};
 ghost use Rattle.abc_faults.specs.{First.first_of, First.IsFirst, Weights.AreInOrder, Weights.crowded, Weights.crowd_fault};
 
-use crate::weights::Weight;
+use crate::weights::{MOST, Weight};
 use abc_lines::{Fault, FaultKind};
 use mus_units::{Memory, Row};
 use std::alloc::Global;
-
-/// How many heads and rests stand in a tune at most.
-const MOST: u128 = 50_000;
 
 fn crowd_fault(w: Weight) -> Fault
     ensures { result ≡ crowd_fault w }

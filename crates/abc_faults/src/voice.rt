@@ -1,6 +1,6 @@
-ghost use Rattle.std.specs.{Prelude.◌≡◌, Prelude.◌≤◌, Prelude.◌^◌, Prelude.◌++◌, Prelude.◌∷◌, Prelude.[], Prelude.length, Prelude.reverse, Prelude.nat_lt, Prelude.IfOk, Prelude.OnOk, List.All};
+ghost use Rattle.std.specs.{Prelude.◌≡◌, Prelude.◌≤◌, Prelude.◌^◌, Prelude.◌++◌, Prelude.◌∷◌, Prelude.[], Prelude.length, Prelude.map, Prelude.reverse, Prelude.nat_lt, Prelude.IfOk, Prelude.OnOk, List.All};
 ghost use Rattle.abc_steps.specs.{Looks.since_event, Good.IsGoodForce, Good.IsGoodStood, Good.IsGoodSound};
-ghost use Rattle.abc_faults.specs.{First.{first_of, IsFirst}, Faults.{fault_at, fault_if, ends_tuplets, sounds_behind, misfit_of, tuplet_faults, is_off, any_off, any_grace_off, grace_faults_of, grace_faults, is_past, is_free, sound_faults_if, sound_faults, rest_faults, faults_of, faults_in}, Weights.{weight_at, sound_count, grace_weights, weights_of, weights_in}};
+ghost use Rattle.abc_faults.specs.{First.{first_of, IsFirst}, Faults.{fault_at, fault_if, ends_tuplets, sounds_behind, misfit_of, tuplet_faults, is_off, any_off, any_grace_off, grace_faults_of, grace_faults, is_past, is_free, sound_faults_if, sound_faults, rest_faults, faults_of, faults_in}, Weights.{weight_at, capped, sound_count, grace_weights, weights_of, weights_in}};
 
 use crate::first::earlier;
 use crate::weights::{Weight, count_parts, put_graces, sound_count, weight_at};
@@ -153,7 +153,7 @@ fn sound_fault(now: &Place, at: &Stood, s: &KeptSound, undrawable: bool) -> Opti
 
 /// The first fault of a note, a chord or a rest. Puts its weight, behind those of
 /// its graces.
-#[tactic(auto, using(crate::proofs::Firsts::first_append), unfolding(crate::specs::Faults::sound_faults, crate::specs::Weights::sound_count))]
+#[tactic(auto, using(crate::proofs::Firsts::first_append, crate::proofs::Caps::capped_append), unfolding(crate::specs::Faults::sound_faults, crate::specs::Weights::sound_count))]
 fn judge_sound(
     alloc: Global,
     weights: &mut Row<Weight>,
@@ -168,7 +168,7 @@ fn judge_sound(
     requires force { IsGoodForce now.now.force }
     requires good { IsGoodSound s.now }
     ensures fault { IfOk result (λ f. f ≡ first_of (sound_faults now.now (reverse before.now) at.now s.now behind.now ++ grace_faults now.now.force.clef (since_event (reverse before.now)))) }
-    ensures weights { OnOk result (weights.new ≡ weights.old ++ (grace_weights (since_event (reverse before.now)) ++ weight_at (sound_count now.now (reverse before.now) s.now behind.now) at.now ∷ [])) }
+    ensures weights { OnOk result (weights.new ≡ weights.old ++ map capped (grace_weights (since_event (reverse before.now)) ++ weight_at (sound_count now.now (reverse before.now) s.now behind.now) at.now ∷ [])) }
 {
     let parts = parts_in(alloc, written_length(now.force.unit, s, before, behind))?;
     let waits = since_event(before);
@@ -195,7 +195,7 @@ fn rest_fault(now: &Place, at: &Stood, count: u16) -> Option<Fault>
 
 /// The first fault of whole measure rests. Puts their weight, behind those of
 /// their graces.
-#[tactic(auto, using(crate::proofs::Firsts::first_append))]
+#[tactic(auto, using(crate::proofs::Firsts::first_append, crate::proofs::Caps::capped_append))]
 fn judge_rests(
     weights: &mut Row<Weight>,
     now: &Place,
@@ -206,7 +206,7 @@ fn judge_rests(
     requires groups { now.now.counts.groups ≤ 2 ^ 30 }
     requires further { now.now.counts.further ≤ 2 ^ 46 }
     ensures fault { IfOk result (λ f. f ≡ first_of (rest_faults now.now at.now count ++ grace_faults now.now.force.clef (since_event (reverse before.now)))) }
-    ensures weights { OnOk result (weights.new ≡ weights.old ++ (grace_weights (since_event (reverse before.now)) ++ weight_at count at.now ∷ [])) }
+    ensures weights { OnOk result (weights.new ≡ weights.old ++ map capped (grace_weights (since_event (reverse before.now)) ++ weight_at count at.now ∷ [])) }
 {
     let waits = since_event(before);
     put_graces(weights, waits)?;
@@ -232,7 +232,7 @@ fn judge_step(
     requires force { IsGoodForce now.now.force }
     requires good { IsGoodStood at.now }
     ensures fault { IfOk result (λ f. f ≡ first_of (faults_of now.now (reverse before.now) at.now behind.now at.now.step)) }
-    ensures weights { OnOk result (weights.new ≡ weights.old ++ weights_of now.now (reverse before.now) at.now behind.now at.now.step) }
+    ensures weights { OnOk result (weights.new ≡ weights.old ++ map capped (weights_of now.now (reverse before.now) at.now behind.now at.now.step)) }
 {
     match &at.step {
         Step::Sound(s) => judge_sound(alloc, weights, now, before, at, s, behind),
@@ -252,7 +252,7 @@ fn judge_step(
 /// two thousandth. None exactly where it has none.
 /// Puts the weights of the voice, one for each event, behind one for each group of graces that it
 /// takes: the heads of a note or a chord times its parts, 1 times its parts for a rest, n for n
-/// whole measure rests, and the heads of a group of graces.
+/// whole measure rests, and the heads of a group of graces, each capped at 50,001.
 pub fn judge_voice(
     alloc: Global,
     weights: &mut Row<Weight>,
@@ -264,7 +264,7 @@ pub fn judge_voice(
     requires steps { All IsGoodStood steps.now }
     ensures value { IfOk result (λ f. f ≡ first_of (faults_in first.now [] steps.now)) }
     ensures first { IfOk result (λ f. IsFirst (faults_in first.now [] steps.now) f) }
-    ensures weights { OnOk result (weights.new ≡ weights.old ++ weights_in first.now [] steps.now) }
+    ensures weights { OnOk result (weights.new ≡ weights.old ++ map capped (weights_in first.now [] steps.now)) }
 {
     let mut found = None;
     let mut now = beginning(alloc, first)?;

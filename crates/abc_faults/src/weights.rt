@@ -1,26 +1,29 @@
-ghost use Rattle.std.specs.Prelude.{◌≡◌, ◌*◌, ◌++◌, length, max, OnOk};
-ghost use Rattle.abc_faults.specs.Weights.{weight_at, count_parts, grace_count, grace_weights_of, grace_weights};
+ghost use Rattle.std.specs.Prelude.{◌≡◌, ◌*◌, ◌++◌, length, map, max, OnOk};
+ghost use Rattle.abc_faults.specs.Weights.{weight_at, capped, count_parts, grace_count, grace_weights_of, grace_weights};
 
 use abc_steps::{KeptSound, Step, Stood};
 use abc_tokens::GraceChord;
 use mus_units::{Few, Memory, Row, Value};
 
-/// How many heads and rests stand at a place of the text. Weights are ordered by their places,
-/// then by their counts.
+/// How many heads and rests a tune has at most.
+pub(crate) const MOST: u32 = 50_000;
+
+/// How many heads and rests stand at a place of the text, `MOST` and one more if there are more.
+/// Weights are ordered by their places, then by their counts.
 #[derive(Clone, Copy, PartialEq, Eq, PartialOrd, Ord)]
 pub struct Weight {
     pub line: u32,
     pub column: u32,
-    pub count: u128,
+    pub count: u32,
 }
 
 pub(crate) fn weight_at(count: u128, at: &Stood) -> Weight
-    ensures { result ≡ weight_at count at.now }
+    ensures { result ≡ capped (weight_at count at.now) }
 {
     Weight {
         line: at.line,
         column: at.column,
-        count,
+        count: count.min(u128::from(MOST) + 1) as u32,
     }
 }
 
@@ -54,7 +57,7 @@ fn grace_count(body: &[GraceChord]) -> u128
 
 #[tactic(auto, unfolding(crate::specs::Weights::grace_weights_of))]
 fn put_grace(out: &mut Row<Weight>, at: &Stood) -> Result<(), Memory>
-    ensures { OnOk result (out.new ≡ out.old ++ grace_weights_of at.now at.now.step) }
+    ensures { OnOk result (out.new ≡ out.old ++ map capped (grace_weights_of at.now at.now.step)) }
 {
     match &at.step {
         Step::Grace { slash: _, body } => out.push(weight_at(grace_count(body.as_slice()), at)),
@@ -63,8 +66,9 @@ fn put_grace(out: &mut Row<Weight>, at: &Stood) -> Result<(), Memory>
 }
 
 /// Puts the weights of the graces that wait for an event.
+#[tactic(auto, using(crate::proofs::Caps::capped_append))]
 pub(crate) fn put_graces(out: &mut Row<Weight>, waits: &[Stood]) -> Result<(), Memory>
-    ensures { OnOk result (out.new ≡ out.old ++ grace_weights waits.now) }
+    ensures { OnOk result (out.new ≡ out.old ++ map capped (grace_weights waits.now)) }
 {
     for s in waits {
         put_grace(out, s)?;

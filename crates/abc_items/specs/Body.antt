@@ -3,7 +3,7 @@
 use Rattle.std.specs.{Prelude.{◌≡◌, ℕ, ◌+◌, ◌-◌, ◌*◌, ◌==◌, ◌&&◌, not, nat_lt, List, [], ◌∷◌, ◌++◌, Bool, true, false, if◌then◌else◌, map, flat_map, length, take, get_or, Option, Some, None, Result, Ok, Err, ⊤, nat_eq}, List.ends_with}
 use Rattle.mus_units.specs.declared.note.Head.{Head}
 use Rattle.abc_lines.specs.{declared.book.Line.Line, declared.fault.Fault.Fault, declared.fault.FaultKind.FaultKind, declared.fault.TuneError.TuneError, declared.kind.LineKind.LineKind, Kinds.kind_of}
-use Rattle.abc_pieces.specs.declared.token.Token.{Token}
+use Rattle.abc_pieces.specs.declared.token.{Token.Token, WrittenChord.WrittenChord}
 use Rattle.abc_notes.specs.declared.part.Len.{Len}
 use Rattle.abc_tokens.specs.{declared.token.Placed.Placed, Tokens.FrontOf}
 use Rattle.abc_fields.specs.{declared.directive.Breaks.Breaks, declared.field.Field.Field, Fields.field_of, Fields.named_field}
@@ -43,6 +43,11 @@ first_len (h ∷ more) = h.1
 abbrev pub head_of : Head × Len → Head
 head_of h = h.0
 
+abbrev pub chord_sound : WrittenChord → Sound
+chord_sound chord =
+    let first = first_len chord.heads in
+    record { heads = map head_of chord.heads; seen = true; decos = chord.decos; num = first.num * chord.len.num; den = first.den * chord.len.den }
+
 -- a line break that is on, by the byte that it stands for: a dollar sign or an exclamation mark
 abbrev pub is_on : Breaks → ℕ → Bool
 is_on breaks byte = if byte == 36 then breaks.dollar else breaks.bang
@@ -55,8 +60,7 @@ unfoldable pub token_given : Breaks → Line → ℕ → Token → List Given
 token_given breaks line column (Token.Note head len) = step_at (Step.Sound (sound (head ∷ []) true len.num len.den)) line.number column
 token_given breaks line column (Token.Rest seen len) = step_at (Step.Sound (sound [] seen len.num len.den)) line.number column
 token_given breaks line column (Token.Measures seen count) = step_at (Step.Measures seen count) line.number column
-token_given breaks line column (Token.Chord heads decos len) =
-    step_at (Step.Sound (record { heads = map head_of heads; seen = true; decos = decos; num = (first_len heads).num * len.num; den = (first_len heads).den * len.den })) line.number column
+token_given breaks line column (Token.Chord chord) = step_at (Step.Sound (chord_sound chord)) line.number column
 token_given breaks line column (Token.Grace slash body) = step_at (Step.Grace slash body) line.number column
 token_given breaks line column (Token.Tuplet p q r) = step_at (Step.Tuplet p q r) line.number column
 token_given breaks line column Token.SlurOn = step_at Step.SlurOn line.number column

@@ -4,13 +4,13 @@ ghost use Rattle.std.specs.Prelude.{◌≡◌, ◌≤◌, ◌^◌, true, ◌*◌
 ghost use Rattle.abc_tokens.specs.Good.{AreGoodHeads, IsGoodLen, IsGoodToken};
 ghost use Rattle.abc_steps.specs.Good.{IsGoodSound};
 ghost use Rattle.abc_fields.specs.{Fields.{IsGoodField, named_field}, Keys.IsGoodKeyText};
-ghost use Rattle.abc_items.specs.{Good.IsGoodItem, Body.{head_of, first_len, is_on, cut_given, step_at, field_item, field_given, token_given}, Reading.{maybe_given, IsGivenError}};
+ghost use Rattle.abc_items.specs.{Good.IsGoodItem, Body.{head_of, first_len, chord_sound, is_on, cut_given, step_at, field_item, field_given, token_given}, Reading.{maybe_given, IsGivenError}};
 
 use abc_fields::{Breaks, Field, FieldError, KeyText, read_named};
 use abc_lines::{Fault, Line, TuneError};
 use abc_steps::{Apart, Item, KeptSound, Sound, Step, Stood};
-use abc_tokens::{Len, Token};
-use mus_units::{Deco, Few, Head, Memory, Row};
+use abc_tokens::{Len, Token, WrittenChord};
+use mus_units::{Few, Head, Memory, Row};
 use std::alloc::Global;
 
 fn stood(step: Step, line: u32, column: u32) -> Item
@@ -100,19 +100,19 @@ fn product(one: u32, other: u32) -> u64
 }
 
 /// A chord has the length of its first note, times its own.
-fn chord(alloc: Global, heads: &[(Head, Len)], decos: Row<Deco>, len: Len) -> Result<Sound, Memory>
-    requires heads { AreGoodHeads heads.now }
-    requires len { IsGoodLen len }
+fn chord(alloc: Global, chord: WrittenChord) -> Result<Sound, Memory>
+    requires heads { AreGoodHeads chord.heads }
+    requires len { IsGoodLen chord.len }
     ensures good { IfOk result IsGoodSound }
-    ensures value { IfOk result (λ found. found ≡ record { heads = map head_of heads.now; seen = true; decos = decos; num = (first_len heads.now).num * len.num; den = (first_len heads.now).den * len.den }) }
+    ensures value { IfOk result (λ found. found ≡ chord_sound chord) }
 {
-    let first = first_len(heads);
+    let first = first_len(chord.heads.as_slice());
     Ok(Sound {
-        heads: Few::from(heads_of(alloc, heads)?),
+        heads: Few::from(heads_of(alloc, chord.heads.as_slice())?),
         seen: true,
-        decos,
-        num: product(first.num, len.num),
-        den: product(first.den, len.den),
+        decos: chord.decos,
+        num: product(first.num, chord.len.num),
+        den: product(first.den, chord.len.den),
     })
 }
 
@@ -168,8 +168,8 @@ pub(crate) fn token_item(
         Token::Note { head, len } => Step::Sound(KeptSound::note(head, len.num, len.den)),
         Token::Rest { seen, len } => Step::Sound(KeptSound::rest(seen, len.num, len.den)),
         Token::Measures { seen, count } => Step::Measures { seen, count },
-        Token::Chord { heads, decos, len } => {
-            let sound = chord(alloc, heads.as_slice(), decos, len)?;
+        Token::Chord(written) => {
+            let sound = chord(alloc, written.into_inner())?;
             Step::Sound(KeptSound::from_sound(alloc, sound)?)
         }
         Token::Grace { slash, body } => Step::Grace { slash, body },

@@ -140,7 +140,7 @@ meant (note_form f) = Some (Token.Note (head_of f) (len_of f.length))
 meant (rest_form seen len) = Some (Token.Rest seen (len_of len))
 meant (gap_form len) = None
 meant (measures_form seen count) = Some (Token.Measures seen (count_of count))
-meant (chord_form f) = let said = map sense f.parts in Some (Token.Chord (heads_of said) (decos_of said) (len_of f.length))
+meant (chord_form f) = let said = map sense f.parts in Some (Token.Chord (record { heads = heads_of said; decos = decos_of said; len = len_of f.length }))
 meant (grace_form f) = Some (Token.Grace f.slash (body_of f.parts))
 meant (tuplet_form f) = Some (Token.Tuplet (p_of f) (q_of f) (r_of f))
 meant (slur_form dotted) = Some Token.SlurOn

@@ -148,7 +148,7 @@ abbrev pub token_of : Bool → Found → Option Token
 token_of bang (Found.Note head len) = Some (Token.Note head len)
 token_of bang (Found.Rest seen len) = Some (Token.Rest seen len)
 token_of bang (Found.Measures seen count) = Some (Token.Measures seen count)
-token_of bang (Found.Chord inside len) = let said = senses bang inside.now in Some (Token.Chord (heads_of said) (decos_of said) len)
+token_of bang (Found.Chord inside len) = let said = senses bang inside.now in Some (Token.Chord (record { heads = heads_of said; decos = decos_of said; len = len }))
 token_of bang (Found.Grace slash inside) = Some (Token.Grace slash (body_of (walk (grace_part_at bang) inside.now).0))
 token_of bang (Found.Tuplet p q r) = Some (Token.Tuplet p q r)
 token_of bang Found.SlurOn = Some Token.SlurOn

@@ -2,10 +2,12 @@
 //! longest one at the front of a line.
 #![tactic(auto)]
 
+pub mod apart;
 pub mod bar;
 pub mod piece;
 pub mod token;
 pub mod tuplet;
 
 pub use abc_notes::{Flaw, GraceChord, Len};
-pub use token::{Before, Found, Opening, Token};
+pub use apart::Apart;
+pub use token::{Before, Found, Opening, Token, WrittenChord};

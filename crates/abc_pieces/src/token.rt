@@ -1,52 +1,36 @@
+use crate::apart::Apart;
 use abc_notes::{GraceChord, Len};
 use mus_units::{Bar, Deco, Head, Row, Text};
+
+/// A chord as written: its heads with their lengths, the decorations within it,
+/// and the length behind its bracket.
+#[derive(Drop)]
+pub struct WrittenChord {
+    pub heads: Row<(Head, Len)>,
+    pub decos: Row<Deco>,
+    pub len: Len,
+}
 
 /// What a piece of a music line says. `Cut` is `$`, or `!` where that is a line
 /// break; `Says` is the text between quotes; `Inline` has the letters K, L, M and
 /// V alone. In a `Tuplet` an absent q or r is 0.
 #[derive(Drop)]
 pub enum Token {
-    Note {
-        head: Head,
-        len: Len,
-    },
-    Rest {
-        seen: bool,
-        len: Len,
-    },
-    Measures {
-        seen: bool,
-        count: u16,
-    },
-    Chord {
-        heads: Row<(Head, Len)>,
-        decos: Row<Deco>,
-        len: Len,
-    },
-    Grace {
-        slash: bool,
-        body: Row<GraceChord>,
-    },
-    Tuplet {
-        p: u8,
-        q: u8,
-        r: u8,
-    },
+    Note { head: Head, len: Len },
+    Rest { seen: bool, len: Len },
+    Measures { seen: bool, count: u16 },
+    Chord(Apart<WrittenChord>),
+    Grace { slash: bool, body: Row<GraceChord> },
+    Tuplet { p: u8, q: u8, r: u8 },
     SlurOn,
     SlurOff,
     Tie,
-    Broken {
-        right: bool,
-        dots: u8,
-    },
+    Broken { right: bool, dots: u8 },
     Bar(Bar),
     Ending(Text),
     Deco(Deco),
     Says(Text),
-    Inline {
-        letter: u8,
-        text: Text,
-    },
+    Inline { letter: u8, text: Text },
     Cut,
     Space,
 }

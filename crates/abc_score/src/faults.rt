@@ -1,5 +1,5 @@
-ghost use Rattle.std.specs.{Prelude.◌≡◌, Prelude.◌++◌, Prelude.[], Prelude.flat_map, Prelude.IfOk, Prelude.OnOk, List.All};
-ghost use Rattle.abc_faults.specs.First.{first_of, IsFirst};
+ghost use Rattle.std.specs.{Prelude.◌≡◌, Prelude.◌++◌, Prelude.[], Prelude.flat_map, Prelude.map, Prelude.IfOk, Prelude.OnOk, List.All};
+ghost use Rattle.abc_faults.specs.{First.first_of, First.IsFirst, Weights.capped};
 ghost use Rattle.abc_score.specs.{Voices.IsGoodRead, Faults.faults_of_voices, Faults.voice_faults, Faults.voice_weights, Order.DoWordsRise};
 
 use crate::voices::VoiceRead;
@@ -21,7 +21,7 @@ fn voice_fault(
     requires good { IsGoodRead v.now }
     requires rise { DoWordsRise items.now }
     ensures fault { IfOk result (λ f. f ≡ first_of (voice_faults unnamed.now items.now v.now)) }
-    ensures weights { OnOk result (weights.new ≡ weights.old ++ voice_weights v.now) }
+    ensures weights { OnOk result (weights.new ≡ weights.old ++ map capped (voice_weights v.now)) }
 {
     let own = judge_voice(alloc, weights, &v.first, v.steps.as_slice())?;
     let verses = verse_fault(alloc, v.start.id.as_slice(), unnamed, items)?;
@@ -39,7 +39,7 @@ fn fault_of_voices(
     requires good { All IsGoodRead voices.now }
     requires rise { DoWordsRise items.now }
     ensures fault { IfOk result (λ f. f ≡ first_of (flat_map (voice_faults unnamed.now items.now) voices.now)) }
-    ensures weights { OnOk result (weights.new ≡ weights.old ++ flat_map voice_weights voices.now) }
+    ensures weights { OnOk result (weights.new ≡ weights.old ++ map capped (flat_map voice_weights voices.now)) }
 {
     let mut found = None;
     for v in voices {

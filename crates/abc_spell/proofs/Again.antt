@@ -47,7 +47,10 @@ measures_plain seen count good =
       exact = λ x h. measures_piece seen (decimal n) x (is_count 3 n a) h;
     }
 
-chord_plain : (bang : Bool) (f : ChordForm) → IsGood bang (chord_form f) → IsPlain (Token.Chord (heads_of (map sense f.parts)) (decos_of (map sense f.parts)) (len_of f.length))
+abbrev chord_of : List (Head × Len) → List Deco → Len → Token
+chord_of heads decos len = Token.Chord (record { heads = heads; decos = decos; len = len })
+
+chord_plain : (bang : Bool) (f : ChordForm) → IsGood bang (chord_form f) → IsPlain (chord_of (heads_of (map sense f.parts)) (decos_of (map sense f.parts)) (len_of f.length))
 chord_plain bang f good =
     let hs = heads_of (map sense f.parts) in
     let ds = decos_of (map sense f.parts) in
@@ -59,9 +62,9 @@ chord_plain bang f good =
     let plain = plain_chord hs ds len in
     record {
       form = chord_form plain;
-      means = ap (λ (list : List (Head × Len)). Some (Token.Chord list (decos_of (map sense plain.parts)) (len_of (len_form len)))) (chord_heads hs ds heads)
-          ∙ ap (λ (list : List Deco). Some (Token.Chord hs list (len_of (len_form len)))) (chord_decos hs ds decos)
-          ∙ ap (λ (k : Len). Some (Token.Chord hs ds k)) l.means;
+      means = ap (λ (list : List (Head × Len)). Some (chord_of list (decos_of (map sense plain.parts)) (len_of (len_form len)))) (chord_heads hs ds heads)
+          ∙ ap (λ (list : List Deco). Some (chord_of hs list (len_of (len_form len)))) (chord_decos hs ds decos)
+          ∙ ap (λ (k : Len). Some (chord_of hs ds k)) l.means;
       spells = λ x. ap (λ s. 91 ∷ s) (chord_spell hs ds (93 ∷ len_then len x));
       exact = λ x h. chord_piece plain x (chord_good hs ds len some heads decos l) (chord_whole hs ds) (chord_opens hs ds len some heads) h;
     }

@@ -91,7 +91,7 @@ abbrev pub token_then : Token → List ℕ → List ℕ
 token_then (Token.Note head len) x = head_then head (len_then len x)
 token_then (Token.Rest seen len) x = rest_byte seen ∷ len_then len x
 token_then (Token.Measures seen count) x = measures_byte seen ∷ (decimal count ++ x)
-token_then (Token.Chord heads decos len) x = code "[" ∷ all_then deco_then decos (all_then chord_head_then heads (code "]" ∷ len_then len x))
+token_then (Token.Chord chord) x = code "[" ∷ all_then deco_then chord.decos (all_then chord_head_then chord.heads (code "]" ∷ len_then chord.len x))
 token_then (Token.Grace slash body) x = code "{" ∷ maybe slash (code "/") (all_then grace_chord_then body (code "}" ∷ x))
 token_then (Token.Tuplet p q r) x = code "(" ∷ tuplet_then p q r x
 token_then Token.SlurOn x = code "(" ∷ x

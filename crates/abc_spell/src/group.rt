@@ -4,7 +4,7 @@ ghost use Rattle.abc_spell.specs.Plain.{Puts, all_then, name_of, deco_then, head
 
 use crate::bar::put_if;
 use crate::note::{put_head, put_len, put_number_or_nothing};
-use abc_tokens::{GraceChord, Len};
+use abc_tokens::{GraceChord, Len, WrittenChord};
 use eng_lines::put_number;
 use mus_units::{Deco, Head, Memory, Text};
 
@@ -114,19 +114,14 @@ pub fn put_tuplet(out: &mut Text, p: u8, q: u8, r: u8) -> Result<(), Memory>
 }
 
 /// Adds a chord: its decorations, its heads, and its length behind the bracket.
-pub fn put_chord(
-    out: &mut Text,
-    heads: &[(Head, Len)],
-    decos: &[Deco],
-    len: Len,
-) -> Result<(), Memory>
-    ensures { OnOk result (Puts out.old out.new (token_then (Chord heads.now decos.now len))) }
+pub fn put_chord(out: &mut Text, chord: &WrittenChord) -> Result<(), Memory>
+    ensures { OnOk result (Puts out.old out.new (token_then (Chord chord.now))) }
 {
     out.push(b'[')?;
-    put_decos(out, decos)?;
-    put_chord_heads(out, heads)?;
+    put_decos(out, chord.decos.as_slice())?;
+    put_chord_heads(out, chord.heads.as_slice())?;
     out.push(b']')?;
-    put_len(out, len)
+    put_len(out, chord.len)
 }
 
 /// Adds a grace group.

@@ -48,9 +48,7 @@ fn put_token(out: &mut Text, token: &Token) -> Result<(), Memory>
         Token::Note { head, len } => put_note(out, *head, *len),
         Token::Rest { seen, len } => put_rest(out, *seen, *len),
         Token::Measures { seen, count } => put_measures(out, *seen, *count),
-        Token::Chord { heads, decos, len } => {
-            put_chord(out, heads.as_slice(), decos.as_slice(), *len)
-        }
+        Token::Chord(chord) => put_chord(out, chord.get()),
         Token::Grace { slash, body } => put_grace(out, *slash, body.as_slice()),
         Token::Tuplet { p, q, r } => put_tuplet(out, *p, *q, *r),
         Token::SlurOn => out.push(b'('),

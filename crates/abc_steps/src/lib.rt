@@ -13,9 +13,10 @@ pub mod place;
 pub mod step;
 pub mod tuplets;
 
+pub use abc_tokens::Apart;
 pub use counts::{Counts, Nearest};
 pub use force::InForce;
-pub use kept::{Apart, KeptSound};
+pub use kept::KeptSound;
 pub use place::Place;
 pub use step::{Item, Sound, Step, Stood};
 pub use tuplets::Taking;

@@ -1,6 +1,6 @@
-use crate::kept::{Apart, KeptSound};
+use crate::kept::KeptSound;
 use abc_fields::{KeyText, VoiceDef};
-use abc_tokens::GraceChord;
+use abc_tokens::{Apart, GraceChord};
 use mus_units::{Bar, Clef, Deco, Few, Frac, Head, Meter, Row, Text};
 
 /// A note, a chord or a rest as it is written: a rest has no heads. Its length is

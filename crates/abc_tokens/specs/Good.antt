@@ -42,7 +42,7 @@ abbrev pub IsGoodToken : Token → Type 0
 IsGoodToken (Token.Note head len) = IsGoodLen len
 IsGoodToken (Token.Rest seen len) = IsGoodLen len
 IsGoodToken (Token.Measures seen count) = (1 ≤ count) × (count ≤ 999)
-IsGoodToken (Token.Chord heads decos len) = HasHead heads × AreGoodHeads heads × IsGoodLen len
+IsGoodToken (Token.Chord chord) = HasHead chord.heads × AreGoodHeads chord.heads × IsGoodLen chord.len
 IsGoodToken (Token.Grace slash body) = AreGoodGraces body
 IsGoodToken (Token.Tuplet p q r) = IsGoodTuplet p q r
 IsGoodToken (Token.Broken right dots) = (1 ≤ dots) × (dots ≤ 3)

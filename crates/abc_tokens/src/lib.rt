@@ -5,7 +5,7 @@
 pub mod reader;
 pub mod token;
 
-pub use abc_pieces::{GraceChord, Len, Token};
+pub use abc_pieces::{Apart, GraceChord, Len, Token, WrittenChord};
 pub use mus_units::{Bar, Deco, Head};
 pub use reader::{read_front, read_music};
 pub use token::{Front, Placed};

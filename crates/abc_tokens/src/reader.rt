@@ -10,7 +10,7 @@ use abc_notes::chord::{chord_fault, goes_on_length, read_decos, read_heads};
 use abc_notes::decoration::{deco_of_letter, deco_of_name};
 use abc_notes::grace::{grace_fault, read_body};
 use abc_pieces::piece::{opening, piece_at};
-use abc_pieces::{Before, Flaw, Found, Opening, Token};
+use abc_pieces::{Apart, Before, Flaw, Found, Opening, Token, WrittenChord};
 use mus_units::bytes::is_digit;
 use mus_units::{Memory, Row, Text};
 use std::alloc::Global;
@@ -190,9 +190,12 @@ fn token(alloc: Global, bang: bool, found: Found<'_>) -> Result<Option<Token>, M
         Found::Rest { seen, len } => Token::Rest { seen, len },
         Found::Measures { seen, count } => Token::Measures { seen, count },
         Found::Chord { inside, len } => {
-            let heads = read_heads(alloc, bang, inside)?;
-            let decos = read_decos(alloc, bang, inside)?;
-            Token::Chord { heads, decos, len }
+            let chord = WrittenChord {
+                heads: read_heads(alloc, bang, inside)?,
+                decos: read_decos(alloc, bang, inside)?,
+                len,
+            };
+            Token::Chord(Apart::new(alloc, chord)?)
         }
         Found::Grace { slash, inside } => {
             let body = read_body(alloc, bang, inside)?;

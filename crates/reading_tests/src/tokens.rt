@@ -1,4 +1,4 @@
-use abc_tokens::{Deco, GraceChord, Head, Len, Placed, Token};
+use abc_tokens::{Deco, GraceChord, Head, Len, Placed, Token, WrittenChord};
 use case_texts::{Report, put_bar, put_deco, put_head};
 use mus_units::{Memory, Text};
 
@@ -27,9 +27,7 @@ fn put_token(out: &mut Report, token: &Token) -> Result<(), Memory> {
             out.push(if *seen { b'Z' } else { b'X' })?;
             out.show(*count)
         }
-        Token::Chord { heads, decos, len } => {
-            put_chord(out, heads.as_slice(), decos.as_slice(), *len)
-        }
+        Token::Chord(chord) => put_chord(out, chord.get()),
         Token::Grace { slash, body } => put_grace(out, *slash, body.as_slice()),
         Token::Tuplet { p, q, r } => out.show(format_args!("t{p}:{q}:{r}")),
         Token::Broken { right, dots } => {
@@ -85,17 +83,12 @@ fn put_len(out: &mut Report, len: Len) -> Result<(), Memory> {
     out.show(format_args!("*{}/{}", len.num, len.den))
 }
 
-fn put_chord(
-    out: &mut Report,
-    heads: &[(Head, Len)],
-    decos: &[Deco],
-    len: Len,
-) -> Result<(), Memory> {
+fn put_chord(out: &mut Report, chord: &WrittenChord) -> Result<(), Memory> {
     out.append(b"c(")?;
-    put_chord_heads(out, heads)?;
-    put_chord_decos(out, decos)?;
+    put_chord_heads(out, chord.heads.as_slice())?;
+    put_chord_decos(out, chord.decos.as_slice())?;
     out.push(b')')?;
-    put_len(out, len)
+    put_len(out, chord.len)
 }
 
 fn put_chord_heads(out: &mut Report, heads: &[(Head, Len)]) -> Result<(), Memory> {

@@ -1,5 +1,5 @@
-use Rattle.std.proofs.Common.{◌≡◌, ◌∙◌, ◌+◌, [], sym, ap, subst, reverse, take, drop, arith}
-use Rattle.abc_faults.{specs.{First.{IsFirst, first_of}, Faults.{faults_of, faults_in}, Weights.{weights_of, weights_in}}, proofs.{Firsts.{found_more, first_is}, Walks.{nearest, walk_parts, walk_done, weigh_parts, weigh_more}}}
+use Rattle.std.proofs.Common.{◌≡◌, ◌∙◌, ◌+◌, [], sym, ap, subst, reverse, take, drop, map, arith}
+use Rattle.abc_faults.{specs.{First.{IsFirst, first_of}, Faults.{faults_of, faults_in}, Weights.{capped, weights_of, weights_in}}, proofs.{Caps.capped_append, Firsts.{found_more, first_is}, Walks.{nearest, walk_parts, walk_done, weigh_parts, weigh_more}}}
 use Rattle.abc_steps.specs.Places.{place_at}
 use Rattle.abc_faults.proofs.voice.judge_voice.Goals as goal
 
@@ -14,10 +14,11 @@ loop-i-preserved c =
     let own = faults_of (place_at first before) before at (drop (i + 1) steps) at.step in
     let rest = faults_in first (reverse (take (i + 1) steps)) (drop (i + 1) steps) in
     let put = weights_of (place_at first before) before at (drop (i + 1) steps) at.step in
+    let others = weights_in first (reverse (take (i + 1) steps)) (drop (i + 1) steps) in
     let is_own : c.in_ok-judge_step.field-0 ≡ first_of own = cc (c.in_ok-judge_step.ensures.fault, c.loop-i.invariant.place, c.split_at.ensures.front, c.split_at-in-loop-i.ensures.back) in
     record {
       found = found_more own rest (faults_in first before (drop i steps)) c.loop-i.found c.in_ok-judge_step.field-0 c.earlier-found.result _ (walk_parts first steps i at c.loop-i-test.true c.index-steps-i.is) is_own c.earlier-found.ensures.value c.loop-i.invariant.found;
-      weights = weigh_more put (weights_in first (reverse (take (i + 1) steps)) (drop (i + 1) steps)) (weights_in first before (drop i steps)) c.loop-i.weights _ _ (weigh_parts first steps i at c.loop-i-test.true c.index-steps-i.is) (cc (c.in_ok-judge_step.ensures.weights, c.loop-i.invariant.place, c.split_at.ensures.front, c.split_at-in-loop-i.ensures.back)) c.loop-i.invariant.weights;
+      weights = weigh_more (map capped put) (map capped others) (map capped (weights_in first before (drop i steps))) c.loop-i.weights _ _ (ap (map capped) (weigh_parts first steps i at c.loop-i-test.true c.index-steps-i.is) ∙ capped_append put others) (cc (c.in_ok-judge_step.ensures.weights, c.loop-i.invariant.place, c.split_at.ensures.front, c.split_at-in-loop-i.ensures.back)) c.loop-i.invariant.weights;
       place = c.in_ok-step_over.ensures.value first before c.loop-i.invariant.place ∙ ap (place_at first) (sym near);
       groups = omega (arith, c.in_ok-step_over.ensures.groups);
       further = omega (arith, c.in_ok-step_over.ensures.further);

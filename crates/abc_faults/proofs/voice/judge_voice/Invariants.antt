@@ -1,12 +1,12 @@
-use Rattle.std.proofs.Common.{◌≡◌, ◌≤◌, ◌*◌, ◌++◌, [], reverse, take, drop}
+use Rattle.std.proofs.Common.{◌≡◌, ◌≤◌, ◌*◌, ◌++◌, [], reverse, take, drop, map}
 use Rattle.abc_steps.specs.{Good.IsGoodForce, Places.place_at}
-use Rattle.abc_faults.specs.{First.earlier, First.first_of, Faults.faults_in, Weights.weights_in}
+use Rattle.abc_faults.specs.{First.earlier, First.first_of, Faults.faults_in, Weights.capped, Weights.weights_in}
 use Rattle.abc_faults.proofs.voice.judge_voice.Given as goal
 
 abbrev pub invariant-loop-i : goal.invariant-loop-i
 invariant-loop-i l = record {
   found : earlier l.found (first_of (faults_in l.first (reverse (take l.i l.steps)) (drop l.i l.steps))) ≡ first_of (faults_in l.first [] l.steps);
-  weights : l.weights ++ weights_in l.first (reverse (take l.i l.steps)) (drop l.i l.steps) ≡ l.fn.weights ++ weights_in l.first [] l.steps;
+  weights : l.weights ++ map capped (weights_in l.first (reverse (take l.i l.steps)) (drop l.i l.steps)) ≡ l.fn.weights ++ map capped (weights_in l.first [] l.steps);
   place : l.now ≡ place_at l.first (reverse (take l.i l.steps));
   groups : l.now.counts.groups ≤ l.i;
   further : l.now.counts.further ≤ 65535 * l.i;

@@ -1,5 +1,5 @@
-use Rattle.std.{proofs.Common.{◌∙◌, ◌++◌, List, ap, subst, sym}, specs.Prelude.flat_map}
-use Rattle.abc_faults.{specs.declared.weights.Weight.Weight, specs.First.IsFirst, specs.Weights.crowded, proofs.Firsts.first_is}
+use Rattle.std.{proofs.Common.{◌∙◌, ◌++◌, List, ap, map, subst, sym}, specs.Prelude.flat_map}
+use Rattle.abc_faults.{specs.declared.weights.Weight.Weight, specs.First.IsFirst, specs.Weights.capped, specs.Weights.crowded, proofs.Caps.crowded_capped, proofs.Firsts.first_is}
 use Rattle.abc_score.specs.Faults.{voice_faults, voice_weights}
 use Rattle.abc_score.proofs.faults.fault_of_score.Goals as goal
 
@@ -8,6 +8,7 @@ returns c =
     let own = flat_map (voice_faults c.args.unnamed.now c.args.items.now) c.args.voices.now in
     let weights = flat_map voice_weights c.args.voices.now in
     let of_own = subst (IsFirst own) (sym c.in_ok-own.ensures.fault) (first_is own) in
-    let gathered = c.in_ok-own.ensures.weights ∙ ap (λ (ws : List Weight). ws ++ weights) c.new-weights.ensures in
-    let of_crowd = subst (λ (ws : List Weight). IsFirst (crowded ws) c.in_ok-crowd.crowd) gathered c.in_ok-crowd.ensures.first in
+    let gathered = c.in_ok-own.ensures.weights ∙ ap (λ (ws : List Weight). ws ++ map capped weights) c.new-weights.ensures in
+    let of_capped = subst (λ (ws : List Weight). IsFirst (crowded ws) c.in_ok-crowd.crowd) gathered c.in_ok-crowd.ensures.first in
+    let of_crowd = subst (λ faults. IsFirst faults c.in_ok-crowd.crowd) (crowded_capped weights) of_capped in
     c.earlier.ensures.joined own (crowded weights) of_own of_crowd

@@ -1,0 +1,49 @@
+ghost use Rattle.std.specs.Prelude.{◌≡◌, IfOk};
+
+use mus_units::Memory;
+use std::alloc::Global;
+use std::marker::Model;
+
+/// A value that stands apart, so that what holds it is small. Contracts see the
+/// value.
+#[derive(Drop)]
+pub struct Apart<T> {
+    value: Box<T>,
+}
+
+impl<T> Model for Apart<T> {
+    ghost Value = { T };
+
+    ghost coded = { T.code };
+
+    ghost view = { λ a. a.value.value };
+}
+
+impl<T> Apart<T> {
+    /// A value, apart.
+    pub fn new(alloc: Global, value: T) -> Result<Apart<T>, Memory>
+    where
+        T: Drop,
+        ensures { IfOk result (λ it. it ≡ value) }
+    {
+        Ok(Apart {
+            value: Box::new(alloc, value)?,
+        })
+    }
+
+    /// The value.
+    pub fn get(&self) -> &T
+        ensures { result.now ≡ self.now }
+    {
+        &self.value
+    }
+
+    /// The value, which stands apart no more.
+    pub fn into_inner(self) -> T
+    where
+        T: Drop,
+        ensures { result ≡ self }
+    {
+        Box::into_inner(self.value)
+    }
+}
