@@ -16,17 +16,17 @@ use mus_units::{Memory, Row};
 use std::alloc::Global;
 
 /// Whether the first of some events changes neither clef nor key nor meter.
-fn first_plain(events: &[DrawnEvent]) -> bool
+fn first_plain(events: &[DrawnEvent<'_>]) -> bool
     ensures { result ≡ first_plain events.now }
 {
     match events {
         [] => true,
-        [first, ..] => changes_nothing(&first.flat.event.changes),
+        [first, ..] => changes_nothing(&first.flat.event().changes),
     }
 }
 
 /// Whether measure `m` of a voice begins without a change.
-fn begins_plain(m: u32, v: &DrawnVoice) -> bool
+fn begins_plain(m: u32, v: &DrawnVoice<'_>) -> bool
     ensures { result ≡ begins_plain m v.now }
 {
     match v.measures.get(m as usize) {
@@ -35,7 +35,7 @@ fn begins_plain(m: u32, v: &DrawnVoice) -> bool
     }
 }
 
-fn begin_plain(m: u32, voices: &[DrawnVoice]) -> bool
+fn begin_plain(m: u32, voices: &[DrawnVoice<'_>]) -> bool
     ensures { result ≡ list_all (begins_plain m) voices.now }
 {
     voices.iter().all(|v| begins_plain(m, v))
@@ -94,7 +94,7 @@ fn copy_columns(alloc: Global, columns: &[Column]) -> Result<Row<Column>, Memory
 pub fn further_columns(
     alloc: Global,
     s: &Score,
-    voices: &[DrawnVoice],
+    voices: &[DrawnVoice<'_>],
     t: &Timeline,
     m: u32,
     verses: &[u8],

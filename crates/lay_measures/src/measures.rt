@@ -49,7 +49,7 @@ fn put_part(
     frame: &Frame<'_>,
     begins: bool,
     first: u8,
-    v: &DrawnVoice,
+    v: &DrawnVoice<'_>,
 ) -> Result<(), Memory>
     requires lengths { length v.now.measures ≡ length frame.now.lengths.now }
     requires good { AreGoodMeasures v.now.measures }
@@ -72,7 +72,7 @@ fn measure_staff(
     alloc: Global,
     frame: &Frame<'_>,
     begins: bool,
-    voices: &[DrawnVoice],
+    voices: &[DrawnVoice<'_>],
 ) -> Result<StaffMarks, Memory>
     requires each { All (λ v. length v.measures ≡ length frame.now.lengths.now) voices.now }
     requires good { All (λ v. AreGoodMeasures v.measures) voices.now }
@@ -93,7 +93,7 @@ fn measure_staves(
     alloc: Global,
     frame: &Frame<'_>,
     begins: bool,
-    voices: &[DrawnVoice],
+    voices: &[DrawnVoice<'_>],
 ) -> Result<Row<StaffMarks>, Memory>
     requires each { All (λ v. length v.measures ≡ length frame.now.lengths.now) voices.now }
     requires good { All (λ v. AreGoodMeasures v.measures) voices.now }
@@ -102,10 +102,10 @@ fn measure_staves(
 {
     let mut staves = Row::new(alloc);
     let mut rest = voices;
-    'staves: while let Some((_, behind)) = rest.split_first() {
-        let (staff, more) = rest.split_at(lower_count(behind) + 1);
-        staves.push(measure_staff(alloc, frame, begins, staff)?)?;
-        rest = more;
+    'staves: while let [_, behind @ ..] = rest {
+        let count = lower_count(behind) + 1;
+        staves.push(measure_staff(alloc, frame, begins, &rest[..count])?)?;
+        rest = &rest[count..];
     }
     Ok(staves)
 }
@@ -119,7 +119,7 @@ fn measure_staves(
 pub fn measure_columns(
     alloc: Global,
     s: &Score,
-    voices: &[DrawnVoice],
+    voices: &[DrawnVoice<'_>],
     t: &Timeline,
     a: u32,
     m: u32,

@@ -9,16 +9,16 @@ use std::alloc::Global;
 
 /// How many verses each staff of these voices has, from the top. Voices of a good score have no more
 /// than 128 together. The only error is want of memory.
-pub fn staff_verses(alloc: Global, voices: &[DrawnVoice]) -> Result<Row<u8>, Memory>
+pub fn staff_verses(alloc: Global, voices: &[DrawnVoice<'_>]) -> Result<Row<u8>, Memory>
     requires { verses_on voices.now ≤ 128 }
     ensures { IfOk result (λ r. r ≡ map verses_on (grouped stands_lower voices.now)) }
 {
     let mut verses = Row::new(alloc);
     let mut rest = voices;
-    'staves: while let Some((_, behind)) = rest.split_first() {
-        let (staff, more) = rest.split_at(lower_count(behind) + 1);
-        verses.push(verses_on(staff))?;
-        rest = more;
+    'staves: while let [_, behind @ ..] = rest {
+        let count = lower_count(behind) + 1;
+        verses.push(verses_on(&rest[..count]))?;
+        rest = &rest[count..];
     }
     Ok(verses)
 }

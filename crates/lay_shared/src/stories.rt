@@ -56,18 +56,18 @@ fn put_changes(
     alloc: Global,
     changes: &mut Row<Change>,
     measure: u32,
-    flats: &[Flat],
+    flats: &[Flat<'_>],
 ) -> Result<(), Memory>
     requires { total_ticks flats.now ≤ 50000 * longest_ticks }
     ensures { OnOk result (changes.new ≡ changes.old ++ event_changes measure 0 flats.now) }
 {
     let mut tick = 0;
     for f in flats {
-        if has_change(&f.event.changes) {
+        if has_change(&f.event().changes) {
             changes.push(Change {
                 measure,
                 tick,
-                changes: copy_changes(alloc, &f.event.changes)?,
+                changes: copy_changes(alloc, &f.event().changes)?,
             })?;
         }
         tick += f.duration;

@@ -71,7 +71,7 @@ fn lay_out_measures<R: Threads + Sync>(
     rt: &R,
     alloc: Global,
     s: &Score,
-    voices: &mut [DrawnVoice],
+    voices: &mut [DrawnVoice<'_>],
     t: &Timeline,
     verses: &[u8],
     starts: &[Row<Column>],

@@ -24,7 +24,7 @@ pub(crate) struct MeasureColumns {
 pub(crate) fn columns_of_measures(
     alloc: Global,
     s: &Score,
-    voices: &[DrawnVoice],
+    voices: &[DrawnVoice<'_>],
     t: &Timeline,
     verses: &[u8],
 ) -> Result<MeasureColumns, Memory>

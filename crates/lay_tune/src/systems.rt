@@ -52,7 +52,7 @@ struct SetSystem {
 fn set_system(
     alloc: Global,
     s: &Score,
-    voices: &mut [DrawnVoice],
+    voices: &mut [DrawnVoice<'_>],
     t: &Timeline,
     starts: &[Row<Column>],
     others: &[Row<Column>],
@@ -110,7 +110,7 @@ pub(crate) struct Systems {
 pub(crate) fn set_systems(
     alloc: Global,
     s: &Score,
-    voices: &mut [DrawnVoice],
+    voices: &mut [DrawnVoice<'_>],
     t: &Timeline,
     starts: &[Row<Column>],
     others: &[Row<Column>],

@@ -11,11 +11,11 @@ use mus_units::{Memory, Row};
 use mus_words::{End, put_arc};
 
 /// The event with an id.
-fn event_with(id: u32, events: &[DrawnEvent]) -> Option<&DrawnEvent>
+fn event_with<'a, 'b>(id: u32, events: &'a [DrawnEvent<'b>]) -> Option<&'a DrawnEvent<'b>>
     ensures { option_copied result ≡ find (has_id id) events.now }
 {
     for e in events {
-        if e.flat.event.id == id {
+        if e.flat.event().id == id {
             return Some(e);
         }
     }
@@ -23,7 +23,11 @@ fn event_with(id: u32, events: &[DrawnEvent]) -> Option<&DrawnEvent>
 }
 
 /// The event with an id in a measure of a voice.
-fn event_at(measures: &[DrawnMeasure], measure: u32, id: u32) -> Option<&DrawnEvent>
+fn event_at<'a, 'b>(
+    measures: &'a [DrawnMeasure<'b>],
+    measure: u32,
+    id: u32,
+) -> Option<&'a DrawnEvent<'b>>
     ensures { option_copied result ≡ event_at measures.now measure id }
 {
     match measures.get(measure as usize) {
@@ -32,19 +36,19 @@ fn event_at(measures: &[DrawnMeasure], measure: u32, id: u32) -> Option<&DrawnEv
     }
 }
 
-fn end_of(e: &DrawnEvent) -> End<'_>
+fn end_of<'a>(e: &'a DrawnEvent<'_>) -> End<'a>
     ensures { seen result ≡ seen_of e.now }
 {
     End {
         clef: e.clef,
-        heads: e.flat.event.heads.as_slice(),
+        heads: e.flat.event().heads.as_slice(),
         plan: &e.plan,
         to: e.plan.to,
     }
 }
 
 /// The column of the left end of a piece, whose arc begins at this event.
-fn left_key(a: u32, piece: Piece, measure: u32, e: &DrawnEvent) -> ColumnKey
+fn left_key(a: u32, piece: Piece, measure: u32, e: &DrawnEvent<'_>) -> ColumnKey
     ensures { result ≡ left_key a piece measure e.now }
 {
     if piece.cut_left {
@@ -55,7 +59,7 @@ fn left_key(a: u32, piece: Piece, measure: u32, e: &DrawnEvent) -> ColumnKey
 }
 
 /// The column of the right end of a piece, whose arc ends at this event.
-fn right_key(frame: &Frame<'_>, piece: Piece, measure: u32, e: &DrawnEvent) -> ColumnKey
+fn right_key(frame: &Frame<'_>, piece: Piece, measure: u32, e: &DrawnEvent<'_>) -> ColumnKey
     ensures { result ≡ right_key frame.now.lengths.now frame.now.b piece measure e.now }
 {
     if piece.cut_right {
@@ -71,8 +75,8 @@ fn put_arc_between(
     frame: &Frame<'_>,
     piece: Piece,
     arc: &Arc,
-    first: Option<&DrawnEvent>,
-    last: Option<&DrawnEvent>,
+    first: Option<&DrawnEvent<'_>>,
+    last: Option<&DrawnEvent<'_>>,
 ) -> Result<(), Memory>
     ensures { OnOk result (out.new ≡ out.old ++ arc_between frame.now.lengths.now frame.now.a frame.now.b piece arc.now (option_copied first.entry) (option_copied last.entry)) }
 {
@@ -88,7 +92,7 @@ fn put_arc_between(
 fn put_arc_in(
     out: &mut Row<Bridge>,
     frame: &Frame<'_>,
-    measures: &[DrawnMeasure],
+    measures: &[DrawnMeasure<'_>],
     arc: &Arc,
 ) -> Result<(), Memory>
     ensures { OnOk result (out.new ≡ out.old ++ arc_in frame.now.lengths.now frame.now.a frame.now.b measures.now arc.now) }
@@ -107,7 +111,7 @@ fn put_arc_in(
 pub(crate) fn put_arcs_between(
     out: &mut Row<Bridge>,
     frame: &Frame<'_>,
-    measures: &[DrawnMeasure],
+    measures: &[DrawnMeasure<'_>],
     arcs: &[Arc],
 ) -> Result<(), Memory>
     ensures { OnOk result (out.new ≡ out.old ++ arcs_between frame.now.lengths.now frame.now.a frame.now.b measures.now arcs.now) }

@@ -12,7 +12,7 @@ use mus_units::{Memory, Row};
 use std::alloc::Global;
 
 /// What the beams of a measure need of its events.
-fn stems_at(alloc: Global, measure: u32, events: &[DrawnEvent]) -> Result<Row<Stem>, Memory>
+fn stems_at(alloc: Global, measure: u32, events: &[DrawnEvent<'_>]) -> Result<Row<Stem>, Memory>
     ensures { IfOk result (λ r. r ≡ map (stem_at measure) events.now) }
 {
     let mut stems = Row::with_room(alloc, events.len())?;
@@ -26,7 +26,7 @@ fn put_measure_beams(
     alloc: Global,
     out: &mut Row<Bridge>,
     measure: u32,
-    events: &[DrawnEvent],
+    events: &[DrawnEvent<'_>],
 ) -> Result<(), Memory>
     ensures { OnOk result (out.new ≡ out.old ++ beam_marks (map (stem_at measure) events.now)) }
 {
@@ -39,7 +39,7 @@ pub(crate) fn put_beams_between(
     alloc: Global,
     out: &mut Row<Bridge>,
     a: u32,
-    measures: &[DrawnMeasure],
+    measures: &[DrawnMeasure<'_>],
 ) -> Result<(), Memory>
     requires { a + length measures.now ≤ 2000 }
     ensures { OnOk result (out.new ≡ out.old ++ beams_between a measures.now) }
@@ -53,7 +53,11 @@ pub(crate) fn put_beams_between(
 }
 
 /// Draws the beam of the graces before an event, where they are two or more.
-fn put_event_grace_beam(out: &mut Row<Bridge>, measure: u32, e: &DrawnEvent) -> Result<(), Memory>
+fn put_event_grace_beam(
+    out: &mut Row<Bridge>,
+    measure: u32,
+    e: &DrawnEvent<'_>,
+) -> Result<(), Memory>
     requires { IsGoodDrawn e.now }
     ensures { OnOk result (out.new ≡ out.old ++ event_grace_beam measure e.now) }
 {
@@ -70,7 +74,7 @@ fn put_event_grace_beam(out: &mut Row<Bridge>, measure: u32, e: &DrawnEvent) -> 
 fn put_measure_grace_beams(
     out: &mut Row<Bridge>,
     measure: u32,
-    events: &[DrawnEvent],
+    events: &[DrawnEvent<'_>],
 ) -> Result<(), Memory>
     requires { AreGoodDrawn events.now }
     ensures { OnOk result (out.new ≡ out.old ++ flat_map (event_grace_beam measure) events.now) }
@@ -85,7 +89,7 @@ fn put_measure_grace_beams(
 pub(crate) fn put_grace_beams_between(
     out: &mut Row<Bridge>,
     a: u32,
-    measures: &[DrawnMeasure],
+    measures: &[DrawnMeasure<'_>],
 ) -> Result<(), Memory>
     requires few { a + length measures.now ≤ 2000 }
     requires good { AreGoodMeasures measures.now }

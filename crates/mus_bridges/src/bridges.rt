@@ -16,7 +16,7 @@ pub fn put_bridges_of(
     alloc: Global,
     out: &mut Row<Bridge>,
     frame: &Frame<'_>,
-    v: &DrawnVoice,
+    v: &DrawnVoice<'_>,
 ) -> Result<(), Memory>
     requires lengths { length v.now.measures ≡ length frame.now.lengths.now }
     requires good { AreGoodMeasures v.now.measures }

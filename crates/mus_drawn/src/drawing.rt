@@ -45,20 +45,20 @@ pub fn raise_of(seat: Seat) -> i32
 }
 
 /// Draws an event behind others; `now` is what is in force before it, and then behind.
-fn draw_event(
+fn draw_event<'a>(
     alloc: Global,
     style: Style,
     tick: u64,
     now: &mut Standing,
-    flat: Flat,
+    flat: Flat<'a>,
     plan: StemPlan,
-    out: &mut Row<DrawnEvent>,
+    out: &mut Row<DrawnEvent<'a>>,
 ) -> Result<(), Memory>
-    ensures event { OnOk result (out.new ≡ out.old ++ drawn_event style tick now.old flat plan ∷ []) }
-    ensures now { OnOk result (now.new ≡ standing_after now.old flat.event.changes) }
+    ensures event { OnOk result (out.new ≡ out.old ++ drawn_event style tick now.old flat.entry plan ∷ []) }
+    ensures now { OnOk result (now.new ≡ standing_after now.old flat.entry.event.changes) }
 {
-    let old = old_signs(alloc, &now.key, &flat.event.changes.key)?;
-    change(alloc, now, &flat.event.changes)?;
+    let old = old_signs(alloc, &now.key, &flat.event().changes.key)?;
+    change(alloc, now, &flat.event().changes)?;
     out.push(DrawnEvent {
         seat: style.seat,
         tick,
@@ -71,16 +71,16 @@ fn draw_event(
 
 /// The events of a measure as they are drawn, each with its plan; `now` is what is in force before
 /// them, and then behind.
-fn draw_events(
+fn draw_events<'a>(
     alloc: Global,
     style: Style,
     now: &mut Standing,
-    flats: Row<Flat>,
+    flats: Row<Flat<'a>>,
     plans: Row<StemPlan>,
-) -> Result<Row<DrawnEvent>, Memory>
+) -> Result<Row<DrawnEvent<'a>>, Memory>
     requires { total_ticks flats ≤ 50000 * longest_ticks }
-    ensures events { IfOk result (λ r. r ≡ drawn_events style 0 now.old flats plans) }
-    ensures now { OnOk result (length flats ≤ length plans → now.new ≡ standing_behind now.old flats) }
+    ensures events { IfOk result (λ r. r ≡ drawn_events style 0 now.old flats.entry plans) }
+    ensures now { OnOk result (length flats.entry ≤ length plans → now.new ≡ standing_behind now.old flats.entry) }
 {
     let mut out = Row::with_room(alloc, flats.len())?;
     let mut tick: u64 = 0;
@@ -98,7 +98,12 @@ fn draw_events(
 
 /// The stem plans of the events of a measure that begins in a clef.
 #[tactic(auto, using(crate::proofs::Reaches::can_stand))]
-fn plans_of(alloc: Global, wish: Wish, clef: Clef, flats: &[Flat]) -> Result<Row<StemPlan>, Memory>
+fn plans_of(
+    alloc: Global,
+    wish: Wish,
+    clef: Clef,
+    flats: &[Flat<'_>],
+) -> Result<Row<StemPlan>, Memory>
     requires reach { AreInReach clef flats.now }
     requires each { All IsGoodFlat flats.now }
     requires few { sum_by flat_weight flats.now ≤ 50000 }
@@ -112,12 +117,12 @@ fn plans_of(alloc: Global, wish: Wish, clef: Clef, flats: &[Flat]) -> Result<Row
 
 /// A measure as it is drawn; `now` is what is in force before it, and then behind.
 #[tactic(auto, unfolding(crate::specs::Drawn::drawn_measure))]
-fn draw_measure(
+fn draw_measure<'a>(
     alloc: Global,
     style: Style,
     now: &mut Standing,
-    m: &Measure,
-) -> Result<DrawnMeasure, Memory>
+    m: &'a Measure,
+) -> Result<DrawnMeasure<'a>, Memory>
     requires body { IsGoodBody m.now.body }
     requires key { IsGoodKey now.old.key }
     requires reach { AreInReach now.old.clef (flats_of m.now.body) }
@@ -138,12 +143,12 @@ fn draw_measure(
     })
 }
 
-fn draw_measures(
+fn draw_measures<'a>(
     alloc: Global,
     style: Style,
     now: &mut Standing,
-    measures: &[Measure],
-) -> Result<Row<DrawnMeasure>, Memory>
+    measures: &'a [Measure],
+) -> Result<Row<DrawnMeasure<'a>>, Memory>
     requires bodies { All (λ m. IsGoodBody m.body) measures.now }
     requires key { IsGoodKey now.old.key }
     requires reach { AreInReach now.old.clef (events_of measures.now) }
@@ -160,7 +165,7 @@ fn draw_measures(
 
 /// A voice as it is drawn.
 #[tactic(auto, unfolding(crate::specs::Drawn::drawn_voice))]
-pub fn draw_voice(alloc: Global, v: &Voice) -> Result<DrawnVoice, Memory>
+pub fn draw_voice(alloc: Global, v: &Voice) -> Result<DrawnVoice<'_>, Memory>
     requires { IsGoodVoice v.now }
     ensures voice { IfOk result (λ r. r ≡ drawn_voice v.now) }
     ensures good { IfOk result (λ r. AreGoodMeasures r.measures) }

@@ -14,9 +14,9 @@ pub struct Style {
 /// clef in force there, the signs of the key before it where it changes the key, and how its stem is
 /// drawn.
 #[derive(Drop)]
-pub struct DrawnEvent {
+pub struct DrawnEvent<'a> {
     pub seat: Seat,
-    pub flat: Flat,
+    pub flat: Flat<'a>,
     pub tick: u64,
     pub clef: Clef,
     pub old: Row<Sign>,
@@ -35,20 +35,20 @@ pub struct Opening {
 
 /// A measure of a voice as it is drawn, where the voice stands, and the bar behind it.
 #[derive(Drop)]
-pub struct DrawnMeasure {
+pub struct DrawnMeasure<'a> {
     pub seat: Seat,
     pub opening: Opening,
-    pub events: Row<DrawnEvent>,
+    pub events: Row<DrawnEvent<'a>>,
     pub bar: Bar,
 }
 
 /// A voice as it is drawn: where it stands, the bar before its first event, its measures, its arcs,
 /// and how many verses it has.
 #[derive(Drop)]
-pub struct DrawnVoice {
+pub struct DrawnVoice<'a> {
     pub seat: Seat,
     pub first: Bar,
-    pub measures: Row<DrawnMeasure>,
+    pub measures: Row<DrawnMeasure<'a>>,
     pub arcs: Row<Arc>,
     pub verses: u8,
 }

@@ -161,14 +161,14 @@ fn hear_event(
     now: &mut Standing,
     before: &[Heard],
     said: &mut Row<Head>,
-    flat: &Flat,
+    flat: &Flat<'_>,
 ) -> Result<Row<Heard>, Memory>
     ensures heard { IfOk result (λ r. r ≡ heard_at spread now.old said.old before.now flat.now) }
     ensures count { IfOk result (λ r. length r ≡ length flat.now.event.heads) }
     ensures said { OnOk result (said.new ≡ said_behind said.old flat.now) }
     ensures now { OnOk result (now.new ≡ standing_after now.old flat.now.event.changes) }
 {
-    change(alloc, now, &flat.event.changes)?;
+    change(alloc, now, &flat.event().changes)?;
     say_graces(said, flat.graces.as_slice())?;
     hear_heads(
         alloc,
@@ -176,7 +176,7 @@ fn hear_event(
         &now.key,
         before,
         said,
-        flat.event.heads.as_slice(),
+        flat.event().heads.as_slice(),
     )
 }
 
@@ -189,7 +189,7 @@ fn put_events(
     spread: Spread,
     now: &mut Standing,
     before: &mut Row<Heard>,
-    flats: &[Flat],
+    flats: &[Flat<'_>],
 ) -> Result<(), Memory>
     requires { All (λ f. length f.event.heads ≤ 50000) flats.now }
     ensures sounds { OnOk result (out.new ≡ out.old ++ events_sounds voice spread now.old [] before.old flats.now) }
@@ -199,7 +199,7 @@ fn put_events(
     let mut said = Row::new(alloc);
     for flat in flats {
         let heads = hear_event(alloc, spread, now, before.as_slice(), &mut said, flat)?;
-        put_sounds(out, voice, flat.event.id, heads.as_slice())?;
+        put_sounds(out, voice, flat.event().id, heads.as_slice())?;
         *before = heads;
     }
     Ok(())

@@ -50,14 +50,14 @@ pub fn change(alloc: Global, now: &mut Standing, changes: &Changes) -> Result<()
 }
 
 /// The clefs of events, the first of which stands behind `clef`.
-pub fn clefs_from(alloc: Global, first: Clef, flats: &[Flat]) -> Result<Row<Clef>, Memory>
+pub fn clefs_from(alloc: Global, first: Clef, flats: &[Flat<'_>]) -> Result<Row<Clef>, Memory>
     ensures clefs { IfOk result (λ r. r ≡ clefs_from first flats.now) }
     ensures each { IfOk result (λ r. length r ≡ length flats.now) }
 {
     let mut clefs = Row::with_room(alloc, flats.len())?;
     let mut clef = first;
     for flat in flats {
-        clef = flat.event.changes.clef.unwrap_or(clef);
+        clef = flat.event().changes.clef.unwrap_or(clef);
         clefs.push(clef)?;
     }
     Ok(clefs)
@@ -85,14 +85,14 @@ fn opening(now: Standing, anew: bool) -> Opening
 }
 
 /// What the head of a system shows that begins with these events.
-pub fn opening_of(alloc: Global, before: &Standing, flats: &[Flat]) -> Result<Opening, Memory>
+pub fn opening_of(alloc: Global, before: &Standing, flats: &[Flat<'_>]) -> Result<Opening, Memory>
     ensures { IfOk result (λ o. o ≡ opening_of before.now flats.now) }
 {
     let mut now = copy_standing(alloc, before)?;
     let [flat, ..] = flats else {
         return Ok(opening(now, false));
     };
-    let changes = &flat.event.changes;
+    let changes = &flat.event().changes;
     change(alloc, &mut now, changes)?;
     Ok(opening(now, changes.meter.is_some()))
 }

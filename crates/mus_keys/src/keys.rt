@@ -14,13 +14,13 @@ use mus_units::{Bar, Memory, Row};
 use std::alloc::Global;
 
 /// The key of the column of an event itself.
-pub fn note_key(measure: u32, e: &DrawnEvent) -> ColumnKey
+pub fn note_key(measure: u32, e: &DrawnEvent<'_>) -> ColumnKey
     ensures { result ≡ note_key measure e.now }
 {
     ColumnKey::new(measure, e.tick, Class::Note, 0)
 }
 
-fn has_old(e: &DrawnEvent) -> bool
+fn has_old(e: &DrawnEvent<'_>) -> bool
     ensures { result ≡ has_old e.now }
 {
     e.old.len() >= 1
@@ -32,7 +32,7 @@ fn put_events(
     out: &mut Row<ColumnKey>,
     measure: u32,
     in_head: bool,
-    events: &[DrawnEvent],
+    events: &[DrawnEvent<'_>],
 ) -> Result<(), Memory>
     requires { AreGoodDrawn events.now }
     ensures { OnOk result (out.new ≡ out.old ++ events_columns measure in_head events.now) }
@@ -51,7 +51,7 @@ fn put_measures(
     lengths: &[u64],
     a: u32,
     in_head: bool,
-    measures: &[DrawnMeasure],
+    measures: &[DrawnMeasure<'_>],
 ) -> Result<(), Memory>
     requires fits { a + length measures.now ≤ length lengths.now }
     requires few { length lengths.now ≤ 2000 }
@@ -82,7 +82,7 @@ fn put_front(out: &mut Row<ColumnKey>, a: u32, begins: bool, first: Bar) -> Resu
 }
 
 /// How many keys measures have where no event has a change or graces, and two for the front.
-fn room_for(measures: &[DrawnMeasure]) -> usize {
+fn room_for(measures: &[DrawnMeasure<'_>]) -> usize {
     let mut room: usize = 2;
     for d in measures {
         room = room.saturating_add(d.events.len().saturating_add(1));
@@ -97,7 +97,7 @@ fn put_range(
     a: u32,
     b: u32,
     begins: bool,
-    v: &DrawnVoice,
+    v: &DrawnVoice<'_>,
 ) -> Result<(), Memory>
     requires order { a < b }
     requires within { b ≤ length lengths.now }
@@ -120,7 +120,7 @@ fn put_voice(
     a: u32,
     b: u32,
     begins: bool,
-    v: &DrawnVoice,
+    v: &DrawnVoice<'_>,
 ) -> Result<(), Memory>
     requires order { a < b }
     requires within { b ≤ length lengths.now }
@@ -145,7 +145,7 @@ fn keys_called(
     a: u32,
     b: u32,
     begins: bool,
-    voices: &[DrawnVoice],
+    voices: &[DrawnVoice<'_>],
 ) -> Result<Row<ColumnKey>, Memory>
     requires order { a < b }
     requires within { b ≤ length lengths.now }
@@ -166,7 +166,7 @@ fn keys_called(
 pub fn system_keys(
     alloc: Global,
     s: &Score,
-    voices: &[DrawnVoice],
+    voices: &[DrawnVoice<'_>],
     t: &Timeline,
     a: u32,
     b: u32,
@@ -191,7 +191,7 @@ pub fn system_keys(
 pub fn measure_keys(
     alloc: Global,
     s: &Score,
-    voices: &[DrawnVoice],
+    voices: &[DrawnVoice<'_>],
     t: &Timeline,
     m: u32,
     begins: bool,

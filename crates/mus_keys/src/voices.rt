@@ -7,7 +7,7 @@ use mus_score::{Score, Voice};
 use mus_units::{Memory, Row};
 use std::alloc::Global;
 
-fn draw_all(alloc: Global, voices: &[Voice]) -> Result<Row<DrawnVoice>, Memory>
+fn draw_all(alloc: Global, voices: &[Voice]) -> Result<Row<DrawnVoice<'_>>, Memory>
     requires { All IsGoodVoice voices.now }
     ensures voices { IfOk result (λ r. r ≡ map drawn_voice voices.now) }
     ensures good { IfOk result (All (λ v. AreGoodMeasures v.measures)) }
@@ -21,7 +21,7 @@ fn draw_all(alloc: Global, voices: &[Voice]) -> Result<Row<DrawnVoice>, Memory>
 
 /// The voices of a score as they are drawn, in order: what all systems of a tune share. The only error
 /// is want of memory.
-pub fn draw_voices(alloc: Global, s: &Score) -> Result<Row<DrawnVoice>, Memory>
+pub fn draw_voices(alloc: Global, s: &Score) -> Result<Row<DrawnVoice<'_>>, Memory>
     requires { IsGoodScore s.now }
     ensures voices { IfOk result (λ r. r ≡ map drawn_voice s.now.voices) }
     ensures good { IfOk result (All (λ v. AreGoodMeasures v.measures)) }

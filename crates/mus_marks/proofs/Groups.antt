@@ -1,5 +1,5 @@
 -- Lists in groups: the first of them, what is in all of them, and which element leads each.
-use Rattle.std.{proofs.Common.{◌≡◌, ◌∙◌, ℕ, suc, ◌+◌, Bool, true, false, cond, List, [], ◌∷◌, ◌++◌, take, drop, map, refl, sym, ap, append_assoc, arith}, specs.List.{AllByRecursion, flat_map, prefix_len}}
+use Rattle.std.{proofs.{Common.{◌≡◌, ◌≤◌, ◌∙◌, ℕ, suc, ◌+◌, ◌-◌, Bool, true, false, cond, List, [], ◌∷◌, ◌++◌, length, length-drop, take, drop, get_or, map, refl, sym, ap, append_assoc, arith}, lemmas.List.{drop_more, take_all}}, specs.List.{AllByRecursion, flat_map, prefix_len}}
 use Rattle.mus_score.specs.Seats.{grouped, put_before}
 
 one_past : (n : ℕ) → n + 1 ≡ suc n
@@ -7,6 +7,13 @@ one_past n = omega arith
 
 one_before : (n : ℕ) → 1 + n ≡ suc n
 one_before n = omega arith
+
+-- what is left of a list behind its first elements, and behind the first alone
+pub rest_from : {A : Type 0} (n : ℕ) (xs : List A) → take (length xs - n) (drop n xs) ≡ drop n xs
+rest_from n xs = take_all (length xs - n) (drop n xs) (omega (arith, length-drop n xs))
+
+pub front_is : {A : Type 0} (xs : List A) (x : A) → 1 ≤ length xs → x ≡ get_or xs 0 x → xs ≡ x ∷ take (length xs - 1) (drop 1 xs)
+front_is xs x some here = drop_more xs 0 x (omega (arith, some)) ∙ ap (λ y. y ∷ drop 1 xs) (sym here) ∙ ap (λ t. x ∷ t) (sym (rest_from 1 xs))
 
 module _ {A : Type 0} (joins : A → Bool) where
   pub grouped_front : (x : A) (xs : List A) → grouped joins (x ∷ xs) ≡ (x ∷ take (prefix_len joins xs) xs) ∷ grouped joins (drop (prefix_len joins xs) xs)
@@ -20,13 +27,19 @@ module _ {A : Type 0} (joins : A → Bool) where
       by false h = ap (λ t. (x ∷ []) ∷ t) (sym h)
 
   -- a turn of a loop over groups, which puts what is made of the first
-  pub group_step : {B : Type 0} (f : List A → B) (x : A) (more rest group after : List A) (n : ℕ) (out new whole : List B) → rest ≡ x ∷ more → n ≡ prefix_len joins more → group ≡ take (n + 1) rest → after ≡ drop (n + 1) rest
+  group_step : {B : Type 0} (f : List A → B) (x : A) (more rest group after : List A) (n : ℕ) (out new whole : List B) → rest ≡ x ∷ more → n ≡ prefix_len joins more → group ≡ take (n + 1) rest → after ≡ drop (n + 1) rest
       → new ≡ out ++ f group ∷ [] → out ++ map f (grouped joins rest) ≡ whole → new ++ map f (grouped joins after) ≡ whole
   group_step f x more rest group after n out new whole e1 e2 e3 e4 e5 so_far =
       let k = prefix_len joins more in
       let g : group ≡ x ∷ take k more = e3 ∙ rw (e1, e2, one_past k) refl in
       let a : after ≡ drop k more = e4 ∙ rw (e1, e2, one_past k) refl in
       rw (e5, g, a) (append_assoc out (f (x ∷ take k more) ∷ []) (map f (grouped joins (drop k more))) ∙ sym (ap (λ t. out ++ map f t) (ap (grouped joins) e1 ∙ grouped_front x more)) ∙ so_far)
+
+  pub group_turn : {B : Type 0} (f : List A → B) (rest : List A) (n : ℕ) (out new whole : List B) → 1 ≤ length rest → n ≡ prefix_len joins (take (length rest - 1) (drop 1 rest))
+      → new ≡ out ++ f (take (n + 1) rest) ∷ [] → out ++ map f (grouped joins rest) ≡ whole → new ++ map f (grouped joins (take (length rest - (n + 1)) (drop (n + 1) rest))) ≡ whole
+  group_turn f [] n out new whole some e1 e2 so_far = absurd (omega (arith, some))
+  group_turn f (x ∷ more) n out new whole some e1 e2 so_far =
+      group_step f x more (x ∷ more) (take (n + 1) (x ∷ more)) (take (length (x ∷ more) - (n + 1)) (drop (n + 1) (x ∷ more))) n out new whole refl (e1 ∙ ap (prefix_len joins) (rest_from 1 (x ∷ more))) refl (rest_from (n + 1) (x ∷ more)) e2 so_far
 
   -- together they are the list
   put_whole : (x : A) (gs : List (List A)) → flat_map (λ g. g) (put_before joins x gs) ≡ x ∷ flat_map (λ g. g) gs

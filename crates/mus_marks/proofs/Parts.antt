@@ -1,6 +1,6 @@
 -- One walk over the marks of voices: what holds of all that is drawn in a column, whatever the rank of the column, and
 -- of beams and arcs, holds of all marks of a measure, of the columns of a system, and of a staff.
-use Rattle.std.{proofs.{Common.{◌≡◌, ℕ, zero, suc, ◌+◌, ◌-◌, ◌≤◌, ◌==◌, ◌&&◌, ◌||◌, not, Bool, true, false, if◌then◌else◌, List, [], ◌∷◌, ◌++◌, length, map, drop, Option, Some, None, arith}, lemmas.List.Sums.sum_by-cons}, specs.{List.{AllByRecursion, flat_map, slice_index_or, slice_range}, Prelude.IfSome}}
+use Rattle.std.{proofs.{Common.{◌≡◌, ℕ, zero, suc, ◌+◌, ◌-◌, ◌≤◌, ◌==◌, ◌&&◌, ◌||◌, not, Bool, true, false, if◌then◌else◌, List, [], ◌∷◌, ◌++◌, take, length, map, drop, Option, Some, None, arith}, lemmas.List.Sums.sum_by-cons}, specs.{List.{AllByRecursion, flat_map, slice_index_or, slice_range}, Prelude.IfSome}}
 use Rattle.mus_units.specs.{declared.key.Meter.Meter, declared.key.Sign.Sign, declared.note.Bar.Bar, declared.pitch.Clef.Clef, Good.IsGoodMeter}
 use Rattle.mus_score.specs.{declared.score.Event.Event, declared.score.Flat.Flat, declared.score.Seat.Seat, Seats.is_lower}
 use Rattle.mus_time.specs.{declared.keys.ColumnKey.ColumnKey, Keys.has_features}
@@ -47,6 +47,11 @@ pub verses_drop : (n : ℕ) (vs : List DrawnVoice) → verses_on (drop n vs) ≤
 verses_drop zero vs = omega arith
 verses_drop (suc n) [] = omega arith
 verses_drop (suc n) (v ∷ vs) = let all = verses_cons v vs in omega (arith, all, verses_drop n vs)
+
+pub verses_take : (n : ℕ) (vs : List DrawnVoice) → verses_on (take n vs) ≤ verses_on vs
+verses_take zero vs = omega arith
+verses_take (suc n) [] = omega arith
+verses_take (suc n) (v ∷ vs) = let all = verses_cons v vs in let some = verses_cons v (take n vs) in omega (arith, all, some, verses_take n vs)
 
 module _ (verses : ℕ) (keys : List ColumnKey) (P : Laid → Type 0) (w : OfLaid verses keys P) where
   two : (xs ys : List Laid) → AllByRecursion P xs → AllByRecursion P ys → AllByRecursion P (xs ++ ys)

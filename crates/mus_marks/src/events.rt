@@ -55,7 +55,7 @@ fn put_change_part(
     keys: &[ColumnKey],
     measure: u32,
     drawn: bool,
-    e: &DrawnEvent,
+    e: &DrawnEvent<'_>,
 ) -> Result<(), Memory>
     requires keys { AreRanked keys.now }
     requires good { IsGoodDrawn e.now }
@@ -64,7 +64,7 @@ fn put_change_part(
     if drawn {
         return Ok(());
     }
-    let changes = &e.flat.event.changes;
+    let changes = &e.flat.event().changes;
     if changes_nothing(changes) {
         return Ok(());
     }
@@ -100,7 +100,7 @@ fn put_graces_part(
     pen: &mut Pen,
     keys: &[ColumnKey],
     measure: u32,
-    e: &DrawnEvent,
+    e: &DrawnEvent<'_>,
 ) -> Result<(), Memory>
     requires keys { AreRanked keys.now }
     requires good { IsGoodDrawn e.now }
@@ -138,7 +138,7 @@ pub(crate) fn texts_at(before: &[Texts], rank: usize) -> Texts
 }
 
 /// Draws the syllables and texts of an event in its column, if their place is known.
-fn put_words(pen: &mut Pen, place: Option<&Place>, flat: &Flat) -> Result<(), Memory>
+fn put_words(pen: &mut Pen, place: Option<&Place>, flat: &Flat<'_>) -> Result<(), Memory>
     requires words { length flat.now.event.words ≤ 8 }
     requires verses { HasVerses (option_copied place) }
     ensures { OnOk result (pen.new ≡ inked pen.old (words_marks (option_copied place.entry) pen.old.rank flat.now)) }
@@ -149,17 +149,17 @@ fn put_words(pen: &mut Pen, place: Option<&Place>, flat: &Flat) -> Result<(), Me
     if is_silent(flat) {
         return Ok(());
     }
-    let words = flat.event.words.as_slice();
+    let words = flat.event().words.as_slice();
     put_syllables(pen, place.first, place.room.low, words)?;
     let before = texts_at(place.before.as_slice(), pen.rank as usize);
     put_texts(pen, text_place(place.room, before), flat)
 }
 
 /// Draws an event, but for its syllables and texts.
-fn draw_note(pen: &mut Pen, before: u8, after: u8, e: &DrawnEvent) -> Result<(), Memory>
+fn draw_note(pen: &mut Pen, before: u8, after: u8, e: &DrawnEvent<'_>) -> Result<(), Memory>
     ensures { OnOk result (pen.new ≡ inked pen.old (note_marks e.now.clef (raise_of e.now.seat) e.now.flat.event e.now.plan before after)) }
 {
-    let (event, plan) = (&e.flat.event, &e.plan);
+    let (event, plan) = (e.flat.event(), &e.plan);
     let raise = raise_of(e.seat);
     put_note(pen, e.clef, raise, event, plan, plan.to, before, after)
 }
@@ -172,7 +172,7 @@ fn put_note_part(
     measure: u32,
     before: u8,
     after: u8,
-    e: &DrawnEvent,
+    e: &DrawnEvent<'_>,
 ) -> Result<(), Memory>
     requires keys { AreRanked keys.now }
     requires words { length e.now.flat.event.words ≤ 8 }
@@ -195,7 +195,7 @@ fn put_event(
     in_head: bool,
     before: u8,
     after: u8,
-    e: &DrawnEvent,
+    e: &DrawnEvent<'_>,
 ) -> Result<(), Memory>
     requires keys { AreRanked keys.now }
     requires good { IsGoodDrawn e.now }
@@ -216,7 +216,7 @@ fn levels_in(plan: &StemPlan, group: u32, flags: u8) -> u8
 }
 
 /// The levels of the next event that are in a plan's beam.
-fn levels_behind(plan: &StemPlan, behind: &[DrawnEvent]) -> u8
+fn levels_behind(plan: &StemPlan, behind: &[DrawnEvent<'_>]) -> u8
     ensures { result ≡ levels_behind plan.now behind.now }
 {
     match behind {
@@ -233,7 +233,7 @@ pub(crate) fn put_events(
     place: Option<&Place>,
     measure: u32,
     in_head: bool,
-    events: &[DrawnEvent],
+    events: &[DrawnEvent<'_>],
 ) -> Result<(), Memory>
     requires keys { AreRanked keys.now }
     requires good { AreGoodDrawn events.now }
@@ -242,7 +242,7 @@ pub(crate) fn put_events(
 {
     let mut rest = events;
     let (mut drawn, mut group, mut flags) = (in_head, 0, 0);
-    while let Some((e, behind)) = rest.split_first() {
+    while let [e, behind @ ..] = rest {
         let before = levels_in(&e.plan, group, flags);
         let after = levels_behind(&e.plan, behind);
         put_event(pen, keys, place, measure, drawn, before, after, e)?;

@@ -20,7 +20,7 @@ fn put_bar_part(
     keys: &[ColumnKey],
     lengths: &[u64],
     measure: u32,
-    d: &DrawnMeasure,
+    d: &DrawnMeasure<'_>,
 ) -> Result<(), Memory>
     requires keys { AreRanked keys.now }
     requires inside { measure < length lengths.now }
@@ -35,7 +35,7 @@ fn put_bar_part(
 }
 
 /// How many marks measures have where no event has more than most have.
-fn room_for(measures: &[DrawnMeasure]) -> usize {
+fn room_for(measures: &[DrawnMeasure<'_>]) -> usize {
     let mut events: usize = 0;
     for d in measures {
         events = events.saturating_add(d.events.len()).saturating_add(1);
@@ -53,7 +53,7 @@ pub fn put_measures(
     place: Option<&Place>,
     a: u32,
     in_head: bool,
-    measures: &[DrawnMeasure],
+    measures: &[DrawnMeasure<'_>],
 ) -> Result<(), Memory>
     requires keys { AreRanked keys.now }
     requires fits { a + length measures.now ≤ length lengths.now }
@@ -91,7 +91,7 @@ fn put_head_part(
     pen: &mut Pen,
     keys: &[ColumnKey],
     a: u32,
-    measures: &[DrawnMeasure],
+    measures: &[DrawnMeasure<'_>],
 ) -> Result<(), Memory>
     requires keys { AreRanked keys.now }
     requires good { AreGoodMeasures measures.now }
@@ -146,7 +146,7 @@ pub fn put_columns_part(
     a: u32,
     seat: Seat,
     first: Bar,
-    measures: &[DrawnMeasure],
+    measures: &[DrawnMeasure<'_>],
 ) -> Result<(), Memory>
     requires keys { AreRanked keys.now }
     requires fits { a + length measures.now ≤ length lengths.now }

@@ -25,10 +25,10 @@ fn have_no_syllable(words: &[Option<Text>]) -> bool
 }
 
 /// Whether an event has no syllables and no texts.
-pub(crate) fn is_silent(flat: &Flat) -> bool
+pub(crate) fn is_silent(flat: &Flat<'_>) -> bool
     ensures { result ≡ is_silent flat.now }
 {
-    let event = &flat.event;
+    let event = flat.event();
     event.ending.is_none()
         && flat.tuplets.is_empty()
         && event.mentions.is_empty()
@@ -36,14 +36,14 @@ pub(crate) fn is_silent(flat: &Flat) -> bool
         && have_no_text(event.decos.as_slice())
 }
 
-fn are_all_silent(events: &[DrawnEvent]) -> bool
+fn are_all_silent(events: &[DrawnEvent<'_>]) -> bool
     ensures { result ≡ list_all (λ e. is_silent e.flat) events.now }
 {
     events.iter().all(|e| is_silent(&e.flat))
 }
 
 /// Whether the events of measures have no syllables and no texts.
-pub(crate) fn are_silent(measures: &[DrawnMeasure]) -> bool
+pub(crate) fn are_silent(measures: &[DrawnMeasure<'_>]) -> bool
     ensures { result ≡ are_silent measures.now }
 {
     measures.iter().all(|d| are_all_silent(d.events.as_slice()))

@@ -22,7 +22,7 @@ fn put_own_part(
     pen: &mut Pen,
     frame: &Frame<'_>,
     place: Option<&Place>,
-    v: &DrawnVoice,
+    v: &DrawnVoice<'_>,
 ) -> Result<(), Memory>
     requires lengths { length v.now.measures ≡ length frame.now.lengths.now }
     requires good { AreGoodMeasures v.now.measures }
@@ -38,7 +38,7 @@ fn put_own_part(
 fn bridges_on(
     alloc: Global,
     frame: &Frame<'_>,
-    voices: &[DrawnVoice],
+    voices: &[DrawnVoice<'_>],
 ) -> Result<Row<Bridge>, Memory>
     requires each { All (λ v. length v.measures ≡ length frame.now.lengths.now) voices.now }
     requires good { All (λ v. AreGoodMeasures v.measures) voices.now }
@@ -52,7 +52,7 @@ fn bridges_on(
 }
 
 /// Lays all that voices have in columns but syllables and texts.
-fn put_bare_parts(pen: &mut Pen, frame: &Frame<'_>, voices: &[DrawnVoice]) -> Result<(), Memory>
+fn put_bare_parts(pen: &mut Pen, frame: &Frame<'_>, voices: &[DrawnVoice<'_>]) -> Result<(), Memory>
     requires each { All (λ v. length v.measures ≡ length frame.now.lengths.now) voices.now }
     requires good { All (λ v. AreGoodMeasures v.measures) voices.now }
     ensures { OnOk result (pen.new.marks ≡ pen.old.marks ++ flat_map (own_part frame.now.keys.now frame.now.lengths.now None frame.now.a frame.now.b) voices.now) }
@@ -90,7 +90,7 @@ fn staff_over(marks: Row<Laid>) -> StaffMarks
 }
 
 /// How many verses voices have together.
-pub fn verses_on(voices: &[DrawnVoice]) -> u8
+pub fn verses_on(voices: &[DrawnVoice<'_>]) -> u8
     requires { verses_on voices.now ≤ 128 }
     ensures { result ≡ verses_on voices.now }
 {
@@ -102,7 +102,7 @@ pub fn verses_on(voices: &[DrawnVoice]) -> u8
 }
 
 /// Whether voices have no syllables and no texts in a system.
-fn is_silent_staff(frame: &Frame<'_>, voices: &[DrawnVoice]) -> bool
+fn is_silent_staff(frame: &Frame<'_>, voices: &[DrawnVoice<'_>]) -> bool
     requires { All (λ v. length v.measures ≡ length frame.now.lengths.now) voices.now }
     ensures { result ≡ is_silent_staff frame.now.a frame.now.b voices.now }
 {
@@ -119,7 +119,7 @@ fn is_silent_staff(frame: &Frame<'_>, voices: &[DrawnVoice]) -> bool
 fn room_on(
     alloc: Global,
     frame: &Frame<'_>,
-    voices: &[DrawnVoice],
+    voices: &[DrawnVoice<'_>],
     bridges: &[Bridge],
 ) -> Result<Room, Memory>
     requires each { All (λ v. length v.measures ≡ length frame.now.lengths.now) voices.now }
@@ -169,7 +169,7 @@ fn written_part(
     alloc: Global,
     frame: &Frame<'_>,
     place: &Place,
-    v: &DrawnVoice,
+    v: &DrawnVoice<'_>,
 ) -> Result<Row<Laid>, Memory>
     requires lengths { length v.now.measures ≡ length frame.now.lengths.now }
     requires good { AreGoodMeasures v.now.measures }
@@ -186,7 +186,7 @@ fn written_parts(
     alloc: Global,
     frame: &Frame<'_>,
     room: Room,
-    voices: &[DrawnVoice],
+    voices: &[DrawnVoice<'_>],
 ) -> Result<Row<Row<Laid>>, Memory>
     requires each { All (λ v. length v.measures ≡ length frame.now.lengths.now) voices.now }
     requires good { All (λ v. AreGoodMeasures v.measures) voices.now }
@@ -200,7 +200,7 @@ fn written_parts(
         before: Row::new(alloc),
     };
     let mut rest = voices;
-    while let Some((v, behind)) = rest.split_first() {
+    while let [v, behind @ ..] = rest {
         let part = written_part(alloc, frame, &place, v)?;
         let follows = !behind.is_empty();
         let columns = frame.keys.len();
@@ -216,7 +216,7 @@ fn written_parts(
 fn staff_marks(
     alloc: Global,
     frame: &Frame<'_>,
-    voices: &[DrawnVoice],
+    voices: &[DrawnVoice<'_>],
 ) -> Result<StaffMarks, Memory>
     requires each { All (λ v. length v.measures ≡ length frame.now.lengths.now) voices.now }
     requires good { All (λ v. AreGoodMeasures v.measures) voices.now }
@@ -234,7 +234,7 @@ fn staff_marks(
 }
 
 /// How many of these voices, from the first on, stand on the staff of the voice before them.
-pub fn lower_count(voices: &[DrawnVoice]) -> usize
+pub fn lower_count(voices: &[DrawnVoice<'_>]) -> usize
     ensures value { result ≡ prefix_len stands_lower voices.now }
     ensures within { result ≤ length voices.now }
 {
@@ -252,7 +252,7 @@ pub fn lower_count(voices: &[DrawnVoice]) -> usize
 pub(crate) fn staves(
     alloc: Global,
     frame: &Frame<'_>,
-    voices: &[DrawnVoice],
+    voices: &[DrawnVoice<'_>],
 ) -> Result<Row<StaffMarks>, Memory>
     requires each { All (λ v. length v.measures ≡ length frame.now.lengths.now) voices.now }
     requires good { All (λ v. AreGoodMeasures v.measures) voices.now }
@@ -262,10 +262,10 @@ pub(crate) fn staves(
 {
     let mut staves = Row::new(alloc);
     let mut rest = voices;
-    while let Some((_, behind)) = rest.split_first() {
-        let (staff, more) = rest.split_at(lower_count(behind) + 1);
-        staves.push(staff_marks(alloc, frame, staff)?)?;
-        rest = more;
+    while let [_, behind @ ..] = rest {
+        let count = lower_count(behind) + 1;
+        staves.push(staff_marks(alloc, frame, &rest[..count])?)?;
+        rest = &rest[count..];
     }
     Ok(staves)
 }

@@ -19,7 +19,7 @@ use std::alloc::Global;
 pub fn marks_of(
     alloc: Global,
     s: &Score,
-    voices: &[DrawnVoice],
+    voices: &[DrawnVoice<'_>],
     t: &Timeline,
     a: u32,
     b: u32,

@@ -18,7 +18,7 @@ use std::alloc::Global;
 
 /// What the line of its beam takes from an event.
 #[tactic(auto, unfolding(mus_stems::specs::Slope::anchor_of))]
-fn anchor_at(at: &[i64], rank: u32, e: &DrawnEvent) -> Anchor
+fn anchor_at(at: &[i64], rank: u32, e: &DrawnEvent<'_>) -> Anchor
     ensures { result ≡ anchor_of e.now.plan (slice_index_or at.now rank (pos 0)) }
 {
     Anchor {
@@ -36,7 +36,7 @@ fn ends_over(
     near: &mut usize,
     at: &[i64],
     measure: u32,
-    d: &DrawnMeasure,
+    d: &DrawnMeasure<'_>,
 ) -> Result<Row<i32>, Memory>
     requires keys { AreRanked keys.now }
     requires slopes { CanTilt keys.now at.now measure d.now }
@@ -57,7 +57,7 @@ fn sloped_over(
     keys: &[ColumnKey],
     at: &[i64],
     a: u32,
-    measures: &[DrawnMeasure],
+    measures: &[DrawnMeasure<'_>],
 ) -> Result<Row<Row<i32>>, Memory>
     requires keys { AreRanked keys.now }
     requires slopes { AllCanTilt keys.now at.now a measures.now }
@@ -73,7 +73,7 @@ fn sloped_over(
     Ok(ends)
 }
 
-fn plain_ends_of(alloc: Global, events: &[DrawnEvent]) -> Result<Row<i32>, Memory>
+fn plain_ends_of(alloc: Global, events: &[DrawnEvent<'_>]) -> Result<Row<i32>, Memory>
     ensures { IfOk result (λ r. r ≡ map (λ e. e.plan.to) events.now) }
 {
     let mut ends = Row::with_room(alloc, events.len())?;
@@ -84,7 +84,7 @@ fn plain_ends_of(alloc: Global, events: &[DrawnEvent]) -> Result<Row<i32>, Memor
 }
 
 /// The ends that the events of measures have.
-fn plain_ends(alloc: Global, measures: &[DrawnMeasure]) -> Result<Row<Row<i32>>, Memory>
+fn plain_ends(alloc: Global, measures: &[DrawnMeasure<'_>]) -> Result<Row<Row<i32>>, Memory>
     ensures { IfOk result (λ r. r ≡ plain_ends measures.now) }
 {
     let mut ends = Row::with_room(alloc, measures.len())?;
@@ -94,14 +94,14 @@ fn plain_ends(alloc: Global, measures: &[DrawnMeasure]) -> Result<Row<Row<i32>>,
     Ok(ends)
 }
 
-fn end_event(e: &mut DrawnEvent, to: &i32)
+fn end_event(e: &mut DrawnEvent<'_>, to: &i32)
     ensures { e.exit.now ≡ event_ended to.now e.entry.now }
 {
     e.plan.to = *to;
 }
 
 /// Gives events other ends.
-fn end_events(events: &mut [DrawnEvent], ends: &[i32])
+fn end_events(events: &mut [DrawnEvent<'_>], ends: &[i32])
     ensures { events.new ≡ over event_ended ends.now events.old }
 {
     for (i, e) in events.iter_mut().enumerate() {
@@ -111,14 +111,14 @@ fn end_events(events: &mut [DrawnEvent], ends: &[i32])
     }
 }
 
-fn end_measure(d: &mut DrawnMeasure, ends: &Row<i32>)
+fn end_measure(d: &mut DrawnMeasure<'_>, ends: &Row<i32>)
     ensures { d.new ≡ measure_ended ends.now d.old }
 {
     end_events(d.events.items.as_mut_slice(), ends.as_slice());
 }
 
 /// Gives the events of measures other ends.
-fn end_measures(measures: &mut [DrawnMeasure], ends: &[Row<i32>])
+fn end_measures(measures: &mut [DrawnMeasure<'_>], ends: &[Row<i32>])
     ensures { measures.new ≡ over measure_ended ends.now measures.old }
 {
     for (i, d) in measures.iter_mut().enumerate() {
@@ -129,7 +129,7 @@ fn end_measures(measures: &mut [DrawnMeasure], ends: &[Row<i32>])
 }
 
 /// Gives the events of a voice other ends, from measure `a` on.
-fn end_voice(v: &mut DrawnVoice, a: u32, ends: &[Row<i32>])
+fn end_voice(v: &mut DrawnVoice<'_>, a: u32, ends: &[Row<i32>])
     requires { a ≤ length v.old.measures }
     ensures { v.new ≡ voice_ended a ends.now v.old }
 {
@@ -140,7 +140,7 @@ fn end_voice(v: &mut DrawnVoice, a: u32, ends: &[Row<i32>])
 fn plain_voices(
     alloc: Global,
     frame: &Frame<'_>,
-    voices: &[DrawnVoice],
+    voices: &[DrawnVoice<'_>],
 ) -> Result<Row<Row<Row<i32>>>, Memory>
     requires { All (λ v. length v.measures ≡ length frame.now.lengths.now) voices.now }
     ensures { IfOk result (λ r. r ≡ map (λ v. plain_ends (slice_range v.measures frame.now.a frame.now.b)) voices.now) }
@@ -158,7 +158,7 @@ fn sloped_voices(
     alloc: Global,
     frame: &Frame<'_>,
     at: &[i64],
-    voices: &[DrawnVoice],
+    voices: &[DrawnVoice<'_>],
 ) -> Result<Row<Row<Row<i32>>>, Memory>
     requires each { All (λ v. length v.measures ≡ length frame.now.lengths.now) voices.now }
     requires slopes { All (λ v. AllCanTilt frame.now.keys.now at.now frame.now.a (slice_range v.measures frame.now.a frame.now.b)) voices.now }
@@ -173,7 +173,7 @@ fn sloped_voices(
 }
 
 /// Gives the events of voices other ends, from measure `a` on.
-fn end_voices(voices: &mut [DrawnVoice], a: u32, ends: &[Row<Row<i32>>])
+fn end_voices(voices: &mut [DrawnVoice<'_>], a: u32, ends: &[Row<Row<i32>>])
     requires { All (λ v. a ≤ length v.measures) voices.old }
     ensures { voices.new ≡ over (voice_ended a) ends.now voices.old }
 {
@@ -189,7 +189,7 @@ fn tilted_staves(
     alloc: Global,
     frame: &Frame<'_>,
     at: &[i64],
-    voices: &mut [DrawnVoice],
+    voices: &mut [DrawnVoice<'_>],
 ) -> Result<Row<StaffMarks>, Memory>
     requires each { All (λ v. length v.measures ≡ length frame.now.lengths.now) voices.old }
     requires good { All (λ v. AreGoodMeasures v.measures) voices.old }
@@ -213,7 +213,7 @@ fn tilted_staves(
 pub fn tilt_of(
     alloc: Global,
     s: &Score,
-    voices: &mut [DrawnVoice],
+    voices: &mut [DrawnVoice<'_>],
     t: &Timeline,
     a: u32,
     b: u32,

@@ -7,7 +7,7 @@ use mus_units::{Memory, Row};
 use std::alloc::Global;
 
 /// The events of measures, from the first to the last.
-pub fn events(alloc: Global, measures: &[Measure]) -> Result<Row<Flat>, Memory>
+pub fn events(alloc: Global, measures: &[Measure]) -> Result<Row<Flat<'_>>, Memory>
     requires { All (λ m. IsGoodBody m.body) measures.now }
     ensures { IfOk result (λ r. r ≡ events_of measures.now) }
 {
@@ -19,8 +19,8 @@ pub fn events(alloc: Global, measures: &[Measure]) -> Result<Row<Flat>, Memory>
     Ok(events)
 }
 
-fn put_all(events: &mut Row<Flat>, flats: Row<Flat>) -> Result<(), Memory>
-    ensures { OnOk result (events.new ≡ events.old ++ flats) }
+fn put_all<'a>(events: &mut Row<Flat<'a>>, flats: Row<Flat<'a>>) -> Result<(), Memory>
+    ensures { OnOk result (events.new ≡ events.old ++ flats.entry) }
 {
     for f in flats.items {
         events.push(f)?;

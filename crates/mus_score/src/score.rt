@@ -2,6 +2,7 @@ ghost use Rattle.std.specs.Prelude.{◌≡◌};
 ghost use Rattle.mus_score.specs.Seats.{is_lower};
 
 use mus_units::{Bar, Clef, Deco, Few, Head, Key, Meter, Row, Spread, Text, Value, Wish};
+use std::marker::Model;
 
 /// How a rest or a note is drawn: seen, unseen, or as a rest of a whole measure.
 #[derive(Clone, Copy, PartialEq, Eq)]
@@ -114,13 +115,36 @@ pub struct Score {
     pub spread: Spread,
 }
 
-/// An event with what the tree of its measure says of it: its duration in ticks, the `p` of the
-/// tuplets that begin at it, outer first, and the graces before it.
+/// An event that stays in the tree of its measure, which contracts see as the event.
 #[derive(Drop)]
-pub struct Flat {
-    pub event: Event,
+pub struct Lent<'a> {
+    pub(crate) event: &'a Event,
+}
+
+impl<'a> Model for Lent<'a> {
+    ghost use Rattle.mus_score.specs.declared.score.Event.{Event};
+
+    ghost Value = { Event };
+
+    ghost view = { λ lent. lent.event.now };
+}
+
+/// An event, lent by the tree of its measure, with what that says of it: its duration in ticks, the
+/// `p` of the tuplets that begin at it, outer first, and the graces before it.
+#[derive(Drop)]
+pub struct Flat<'a> {
+    pub event: Lent<'a>,
     pub duration: u64,
     pub tuplets: Row<u8>,
     pub graces: Row<Event>,
     pub slash: bool,
+}
+
+impl Flat<'_> {
+    /// The event itself.
+    pub fn event(&self) -> &Event
+        ensures { result.now ≡ self.now.event }
+    {
+        self.event.event
+    }
 }

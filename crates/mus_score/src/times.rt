@@ -2,7 +2,7 @@ ghost use Rattle.std.specs.Prelude.{◌≡◌, ◌∷◌, [], ◌≤◌, ◌<◌
 ghost use Rattle.mus_score.specs.{declared.score.Flat.Flat, Good.{IsGoodBody, IsGoodNode, IsGoodFlat, flat_count, flat_weight, longest_ticks, total_ticks, weight}, Even.AreEven, Times.{scaled, duration_of, duration_within, durations_within, products_fit, all_products_fit, is_scalable, leaf, leaves_within, in_row, flats_of, nothing, Walked}};
 
 use crate::copies::copy_event;
-use crate::score::{Event, Flat, Music};
+use crate::score::{Event, Flat, Lent, Music};
 use mus_units::{Memory, Row};
 use std::alloc::Global;
 use std::mem;
@@ -90,48 +90,45 @@ fn no_waits(alloc: Global) -> Waits
     }
 }
 
-fn put_leaf(
+fn put_leaf<'a>(
     alloc: Global,
-    e: &Event,
+    e: &'a Event,
     qs: u64,
     ps: u64,
     waits: &mut Waits,
-    out: &mut Row<Flat>,
+    out: &mut Row<Flat<'a>>,
 ) -> Result<(), Memory>
     requires { is_scalable e.now.ticks qs ps ≡ true }
     ensures { OnOk result (Walked out.old out.new waits.new (leaf e.now qs ps waits.old)) }
 {
-    let event = copy_event(alloc, e)?;
-    let duration = scaled(event.ticks, qs, ps);
     let w = mem::replace(waits, no_waits(alloc));
     out.push(Flat {
-        event,
-        duration,
+        event: Lent { event: e },
+        duration: scaled(e.ticks, qs, ps),
         tuplets: w.tuplets,
         graces: w.graces,
         slash: w.slash,
-    })?;
-    Ok(())
+    })
 }
 
-/// The events of some flats, put behind other graces.
-fn put_graces(graces: &mut Row<Event>, flats: Row<Flat>) -> Result<(), Memory>
-    ensures { OnOk result (graces.new ≡ graces.old ++ map (λ f. f.event) flats) }
+/// Copies of the events of some flats, put behind other graces.
+fn put_graces(alloc: Global, graces: &mut Row<Event>, flats: &[Flat<'_>]) -> Result<(), Memory>
+    ensures { OnOk result (graces.new ≡ graces.old ++ map (λ f. f.event) flats.now) }
 {
-    for f in flats.items {
-        graces.push(f.event)?;
+    for f in flats {
+        graces.push(copy_event(alloc, f.event())?)?;
     }
     Ok(())
 }
 
 #[cycle(leaves)]
-fn put_node(
+fn put_node<'a>(
     alloc: Global,
-    m: &Music,
+    m: &'a Music,
     qs: u64,
     ps: u64,
     waits: &mut Waits,
-    out: &mut Row<Flat>,
+    out: &mut Row<Flat<'a>>,
 ) -> Result<(), Memory>
     requires { products_fit m.now qs ps ≡ true }
     ensures { OnOk result (Walked out.old out.new waits.new (leaves_within m.now qs ps waits.old)) }
@@ -143,7 +140,7 @@ fn put_node(
             let mut inner = Row::new(alloc);
             let mut none = no_waits(alloc);
             put_nodes(alloc, body.as_slice(), 1, 1, &mut none, &mut inner)?;
-            put_graces(&mut waits.graces, inner)?;
+            put_graces(alloc, &mut waits.graces, inner.as_slice())?;
             waits.slash = waits.slash || *slash;
             Ok(())
         }
@@ -162,13 +159,13 @@ fn put_node(
 }
 
 #[cycle(leaves)]
-fn put_nodes(
+fn put_nodes<'a>(
     alloc: Global,
-    body: &[Music],
+    body: &'a [Music],
     qs: u64,
     ps: u64,
     waits: &mut Waits,
-    out: &mut Row<Flat>,
+    out: &mut Row<Flat<'a>>,
 ) -> Result<(), Memory>
     requires { all_products_fit body.now qs ps ≡ true }
     ensures { OnOk result (Walked out.old out.new waits.new (in_row (map leaves_within body.now) qs ps waits.old)) }
@@ -185,7 +182,7 @@ fn put_nodes(
 /// duration comes out even: times the product of the `p` around the event it is the event's ticks
 /// times the product of the `q`.
 #[tactic(auto, using(crate::proofs::Bounds::body_bounds))]
-pub fn flatten(alloc: Global, body: &[Music]) -> Result<Row<Flat>, Memory>
+pub fn flatten(alloc: Global, body: &[Music]) -> Result<Row<Flat<'_>>, Memory>
     requires { IsGoodBody body.now }
     ensures flats { IfOk result (λ r. r ≡ flats_of body.now) }
     ensures each { IfOk result (λ r. All IsGoodFlat r) }
@@ -195,7 +192,7 @@ pub fn flatten(alloc: Global, body: &[Music]) -> Result<Row<Flat>, Memory>
     ensures count { IfOk result (λ r. sum_by flat_count r ≤ 50000) }
     ensures heads { IfOk result (λ r. sum_by flat_weight r ≤ sum (map weight body.now)) }
 {
-    let mut out = Row::new(alloc);
+    let mut out = Row::with_room(alloc, body.len())?;
     let mut waits = no_waits(alloc);
     put_nodes(alloc, body, 1, 1, &mut waits, &mut out)?;
     Ok(out)

@@ -140,7 +140,7 @@ fn put_all_runs(
 #[tactic(auto, using(crate::proofs::Taking::stills_are_good, crate::proofs::PlanLaws::are_plans, crate::proofs::EndLaws::ends_near, crate::proofs::EndLaws::plans_length), unfolding(crate::specs::Plans::stems_of))]
 pub fn stems(
     alloc: Global,
-    events: &[Flat],
+    events: &[Flat<'_>],
     clefs: &[Clef],
     wish: Wish,
 ) -> Result<Row<StemPlan>, Memory>

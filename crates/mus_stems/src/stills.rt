@@ -42,11 +42,11 @@ pub fn is_short_base(base: Base) -> bool
 
 /// What is taken from one event.
 #[tactic(auto, unfolding(crate::specs::Stills::still_of))]
-fn take_still(alloc: Global, flat: &Flat, clef: Clef) -> Result<Still, Memory>
+fn take_still(alloc: Global, flat: &Flat<'_>, clef: Clef) -> Result<Still, Memory>
     requires { CanStand flat.now clef }
     ensures { IfOk result (λ s. s ≡ still_of flat.now clef) }
 {
-    let event = &flat.event;
+    let event = flat.event();
     Ok(Still {
         id: event.id,
         base: event.value.base,
@@ -57,7 +57,7 @@ fn take_still(alloc: Global, flat: &Flat, clef: Clef) -> Result<Still, Memory>
 }
 
 /// What is taken from events, each in its own clef.
-pub fn stills_for(alloc: Global, events: &[Flat], clefs: &[Clef]) -> Result<Row<Still>, Memory>
+pub fn stills_for(alloc: Global, events: &[Flat<'_>], clefs: &[Clef]) -> Result<Row<Still>, Memory>
     requires clefs { length clefs.now ≡ length events.now }
     requires good { AllCanStand events.now clefs.now }
     ensures { IfOk result (λ s. s ≡ stills events.now clefs.now) }

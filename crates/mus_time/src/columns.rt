@@ -68,12 +68,12 @@ pub fn put_event_keys(
     tick: u64,
     in_head: bool,
     signed: bool,
-    f: &Flat,
+    f: &Flat<'_>,
 ) -> Result<(), Memory>
     requires { length f.now.graces ≤ 50000 }
     ensures { OnOk result (out.new ≡ out.old ++ event_keys measure tick in_head signed f.now) }
 {
-    if !in_head && draws(signed, &f.event.changes) {
+    if !in_head && draws(signed, &f.event().changes) {
         out.push(ColumnKey::new(measure, tick, Class::Change, 0))?;
     }
     put_graces(out, measure, tick, f.graces.as_slice())?;

@@ -27,13 +27,13 @@ fn graces_in_reach(clef: Clef, graces: &[Event]) -> bool
 }
 
 /// Whether each head of some events is in reach, grace heads too.
-pub(crate) fn are_in_reach(before: Clef, flats: &[Flat]) -> bool
+pub(crate) fn are_in_reach(before: Clef, flats: &[Flat<'_>]) -> bool
     ensures { result ≡ are_in_reach before flats.now }
 {
     let mut clef = before;
     for f in flats {
-        clef = f.event.changes.clef.unwrap_or(clef);
-        if !heads_in_reach(clef, f.event.heads.as_slice()) {
+        clef = f.event().changes.clef.unwrap_or(clef);
+        if !heads_in_reach(clef, f.event().heads.as_slice()) {
             return false;
         }
         if !graces_in_reach(clef, f.graces.as_slice()) {

@@ -103,26 +103,26 @@ fn add_mentions(
 /// the tuplets that begin there, its fingerings, and the texts between quotes. What prints nothing
 /// is left out. The only error is want of memory.
 #[tactic(auto, unfolding(crate::specs::Texts::texts_above))]
-pub fn texts_above(alloc: Global, flat: &Flat) -> Result<Row<Text>, Memory>
+pub fn texts_above(alloc: Global, flat: &Flat<'_>) -> Result<Row<Text>, Memory>
     ensures { IfOk result (λ texts. texts ≡ texts_above flat.now) }
 {
     let mut out = Row::new(alloc);
-    add_ending(alloc, &mut out, &flat.event.ending)?;
+    add_ending(alloc, &mut out, &flat.event().ending)?;
     add_numbers(alloc, &mut out, flat.tuplets.as_slice())?;
-    add_decos(alloc, &mut out, false, flat.event.decos.as_slice())?;
-    add_mentions(alloc, &mut out, false, flat.event.mentions.as_slice())?;
+    add_decos(alloc, &mut out, false, flat.event().decos.as_slice())?;
+    add_mentions(alloc, &mut out, false, flat.event().mentions.as_slice())?;
     Ok(out)
 }
 
 /// The texts below an event as they are printed, from the staff downwards: its dynamic marks, and
 /// the texts between quotes. What prints nothing is left out. The only error is want of memory.
 #[tactic(auto, unfolding(crate::specs::Texts::texts_below))]
-pub fn texts_below(alloc: Global, flat: &Flat) -> Result<Row<Text>, Memory>
+pub fn texts_below(alloc: Global, flat: &Flat<'_>) -> Result<Row<Text>, Memory>
     ensures { IfOk result (λ texts. texts ≡ texts_below flat.now) }
 {
     let mut out = Row::new(alloc);
-    add_decos(alloc, &mut out, true, flat.event.decos.as_slice())?;
-    add_mentions(alloc, &mut out, true, flat.event.mentions.as_slice())?;
+    add_decos(alloc, &mut out, true, flat.event().decos.as_slice())?;
+    add_mentions(alloc, &mut out, true, flat.event().mentions.as_slice())?;
     Ok(out)
 }
 
@@ -226,7 +226,7 @@ fn put_below(
 /// u under the last verse and each next one 1000 u lower. What prints nothing is no mark, and takes
 /// no place. A dy is cut at 2^30 u in size. The only error is want of memory.
 #[tactic(auto, unfolding(crate::specs::Texts::text_marks))]
-pub fn put_texts(pen: &mut Pen, place: TextPlace, flat: &Flat) -> Result<(), Memory>
+pub fn put_texts(pen: &mut Pen, place: TextPlace, flat: &Flat<'_>) -> Result<(), Memory>
     ensures { OnOk result (pen.new ≡ inked pen.old (text_marks place flat.now)) }
 {
     put_above(pen, place.high, place.above, texts_above(pen.alloc, flat)?)?;

@@ -21,15 +21,15 @@ pub(crate) fn put_flats(out: &mut Report, score: &Score) -> Result<(), Memory>
     Ok(())
 }
 
-fn put_all_flats(out: &mut Report, flats: &[Flat]) -> Result<(), Memory> {
+fn put_all_flats(out: &mut Report, flats: &[Flat<'_>]) -> Result<(), Memory> {
     for flat in flats {
         put_flat(out, flat)?;
     }
     Ok(())
 }
 
-fn put_flat(out: &mut Report, flat: &Flat) -> Result<(), Memory> {
-    out.line_number(b"", flat.event.id)?;
+fn put_flat(out: &mut Report, flat: &Flat<'_>) -> Result<(), Memory> {
+    out.line_number(b"", flat.event().id)?;
     out.tell(flat.duration)?;
     put_tuplets(out, flat.tuplets.as_slice())?;
     put_graces(out, flat.graces.as_slice())?;

@@ -72,15 +72,15 @@ fn are_near(heads: &[Head], clef: Clef) -> bool
     true
 }
 
-fn can_stand(flat: &Flat, clef: Clef) -> bool
+fn can_stand(flat: &Flat<'_>, clef: Clef) -> bool
     ensures { IsTrue result → CanStand flat.now clef }
 {
-    let heads = flat.event.heads.as_slice();
-    heads.len() <= 50000 && flat.event.value.dots <= 3 && are_near(heads, clef)
+    let heads = flat.event().heads.as_slice();
+    heads.len() <= 50000 && flat.event().value.dots <= 3 && are_near(heads, clef)
 }
 
 /// Whether each event can stand in its clef.
-pub(crate) fn can_all_stand(events: &[Flat], clefs: &[Clef]) -> bool
+pub(crate) fn can_all_stand(events: &[Flat<'_>], clefs: &[Clef]) -> bool
     requires { length clefs.now ≡ length events.now }
     ensures { IsTrue result → AllCanStand events.now clefs.now }
 {

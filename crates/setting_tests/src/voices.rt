@@ -13,15 +13,15 @@ fn put_opening(out: &mut Report, opening: &Opening) -> Result<(), Memory> {
     out.end_line()
 }
 
-fn put_event(out: &mut Report, event: &DrawnEvent) -> Result<(), Memory> {
-    out.next_number(b"event ", event.flat.event.id)?;
+fn put_event(out: &mut Report, event: &DrawnEvent<'_>) -> Result<(), Memory> {
+    out.next_number(b"event ", event.flat.event().id)?;
     out.tell(event.tick)?;
     put_clef(out, event.clef)?;
     put_signs(out, b"old", event.old.as_slice())?;
     out.end_line()
 }
 
-fn put_measure(out: &mut Report, measure: &DrawnMeasure) -> Result<(), Memory> {
+fn put_measure(out: &mut Report, measure: &DrawnMeasure<'_>) -> Result<(), Memory> {
     put_opening(out, &measure.opening)?;
     for event in measure.events.as_slice() {
         put_event(out, event)?;
@@ -32,7 +32,7 @@ fn put_measure(out: &mut Report, measure: &DrawnMeasure) -> Result<(), Memory> {
 /// Adds for each voice a line of its verses and its arcs, and for each measure a line of what opens a
 /// system there and a line for each event: its id, its tick, its clef, and the key before it that it
 /// changes.
-pub(crate) fn put_voices(out: &mut Report, voices: &[DrawnVoice]) -> Result<(), Memory> {
+pub(crate) fn put_voices(out: &mut Report, voices: &[DrawnVoice<'_>]) -> Result<(), Memory> {
     for voice in voices {
         out.tell(format_args!("voice {} {}\n", voice.verses, voice.arcs.len()))?;
         for measure in voice.measures.as_slice() {

@@ -11,6 +11,7 @@ invariant-staves l = record {
   each : All (λ v. length v.measures ≡ length l.frame.lengths.now) l.rest;
   good : All (λ v. AreGoodMeasures v.measures) l.rest;
   verses : verses_on l.rest ≤ 128;
+  shorter : length l.rest ≤ length l.voices;
 }
 
 abbrev pub decreases-staves : goal.decreases-staves

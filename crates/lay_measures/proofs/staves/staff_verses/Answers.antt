@@ -1,14 +1,21 @@
-use Rattle.std.proofs.Common.{◌∙◌, ◌+◌, ◌++◌, ◌∷◌, [], ap, arith}
-use Rattle.mus_marks.{specs.Staff.verses_on, specs.System.stands_lower, proofs.Groups.group_step, proofs.Parts.verses_drop}
+use Rattle.std.proofs.Common.{◌≤◌, ◌-◌, length, length-drop, ◌∙◌, ◌+◌, ◌++◌, ◌∷◌, [], ap, arith}
+use Rattle.mus_marks.{specs.Staff.verses_on, specs.System.stands_lower, proofs.Groups.group_turn, proofs.Groups.rest_from, proofs.Parts.verses_drop, proofs.Parts.verses_take}
 use Rattle.lay_measures.proofs.staves.staff_verses.Goals as goal
+
+pub verses_on-requires : goal.verses_on-requires
+verses_on-requires c =
+    let few = c.staves.invariant.few in omega (arith, few, verses_take (c.lower_count-count.result + 1) c.staves.rest.now)
 
 pub staves-preserved : goal.staves-preserved
 staves-preserved c =
-    let fewer = verses_drop (c.lower_count.result + 1) c.staves.rest.now in
+    let rest = c.staves.rest.now in
+    let n = c.lower_count-count.result in
+    let fewer = verses_drop (n + 1) rest in
     let few = c.staves.invariant.few in
-    let behind = ap verses_on c.split_at.ensures.back in record {
-      verses = group_step stands_lower verses_on c.in-Some.field-0-0.now c.in-Some.behind.now c.staves.rest.now c.split_at.result.0.now c.split_at.result.1.now c.lower_count.result
-          c.staves.verses c.push.new.self _ c.in-Some.ensures.cases.0 c.lower_count.ensures.value c.split_at.ensures.front c.split_at.ensures.back
+    let more = rest_from (n + 1) rest in
+    let behind = ap verses_on more in record {
+      verses = group_turn stands_lower verses_on rest n c.staves.verses c.push.new.self _ c.in-len1-up.len_at_least c.lower_count-count.ensures.value
           (c.in_ok-push.ensures.ok ∙ ap (λ n. c.staves.verses ++ n ∷ []) c.verses_on.ensures) c.staves.invariant.verses;
       few = omega (arith, fewer, few, behind);
+      shorter = let less = ap (λ vs. length vs) more in let left = length-drop (n + 1) rest in let before = c.staves.invariant.shorter in omega (arith, less, left, before);
     }

@@ -7,6 +7,7 @@ abbrev pub invariant-staves : goal.invariant-staves
 invariant-staves l = record {
   verses : l.verses ++ map verses_on (grouped stands_lower l.rest) ≡ map verses_on (grouped stands_lower l.voices);
   few : verses_on l.rest ≤ 128;
+  shorter : length l.rest ≤ length l.voices;
 }
 
 abbrev pub decreases-staves : goal.decreases-staves

@@ -3,11 +3,11 @@ use Rattle.mus_drawn.specs.Good.{AreGoodDrawn}
 use Rattle.mus_marks.specs.Events.{events_marks}
 use Rattle.mus_marks.proofs.events.put_events.Given as goal
 
-abbrev pub invariant-loop-e : goal.invariant-loop-e
-invariant-loop-e l = record {
+abbrev pub invariant-loop-rest : goal.invariant-loop-rest
+invariant-loop-rest l = record {
   marks : l.pen.marks ++ events_marks l.keys (option_copied l.place) l.measure l.drawn l.group l.flags l.rest ≡ l.fn.pen.marks ++ events_marks l.keys (option_copied l.place) l.measure l.in_head 0 0 l.events;
   good : AreGoodDrawn l.rest;
 }
 
-abbrev pub decreases-loop-e : goal.decreases-loop-e
-decreases-loop-e l = length l.rest
+abbrev pub decreases-loop-rest : goal.decreases-loop-rest
+decreases-loop-rest l = length l.rest

@@ -4,14 +4,15 @@ use Rattle.mus_drawn.specs.Good.{AreGoodMeasures}
 use Rattle.mus_marks.specs.{Staff.CoversLines, Staff.staff_marks, Staff.verses_on, System.stands_lower}
 use Rattle.mus_marks.proofs.staves.staves.Given as goal
 
-abbrev pub invariant-loop-behind : goal.invariant-loop-behind
-invariant-loop-behind l = record {
+abbrev pub invariant-loop-rest : goal.invariant-loop-rest
+invariant-loop-rest l = record {
   each : All (λ v. length v.measures ≡ length l.frame.lengths.now) l.rest;
   good : All (λ v. AreGoodMeasures v.measures) l.rest;
   verses : verses_on l.rest ≤ 128;
   staves : l.staves ++ map (staff_marks l.frame.keys.now l.frame.lengths.now l.frame.a l.frame.b) (grouped stands_lower l.rest) ≡ map (staff_marks l.frame.keys.now l.frame.lengths.now l.frame.a l.frame.b) (grouped stands_lower l.voices);
   lines : All CoversLines l.staves;
+  shorter : length l.rest ≤ length l.voices;
 }
 
-abbrev pub decreases-loop-behind : goal.decreases-loop-behind
-decreases-loop-behind l = length l.rest
+abbrev pub decreases-loop-rest : goal.decreases-loop-rest
+decreases-loop-rest l = length l.rest

@@ -1,15 +1,15 @@
-use Rattle.std.proofs.Common.{◌≡◌, ◌∙◌, ◌≤◌, ◌+◌, not, length, ap, arith}
+use Rattle.std.proofs.Common.{◌≡◌, ◌∙◌, ◌≤◌, ◌+◌, ◌-◌, not, length, take, drop, ap, arith}
 use Rattle.mus_drawn.specs.Good.{AreGoodMeasures}
-use Rattle.mus_marks.{specs.Places.place_behind, specs.Staff.verses_on, proofs.Goods.all_behind, proofs.Placed.next_first, proofs.Placed.next_part, proofs.Placed.next_room, proofs.Placed.none_behind}
+use Rattle.mus_marks.{specs.Places.place_behind, specs.Staff.verses_on, proofs.Goods.all_behind, proofs.Groups.front_is, proofs.Placed.next_first, proofs.Placed.next_part, proofs.Placed.next_room, proofs.Placed.none_behind}
 use Rattle.mus_marks.proofs.staves.written_parts.Goals as goal
 
-pub loop-v-preserved : goal.loop-v-preserved
-loop-v-preserved c =
-    let keys = c.args.frame.now.keys.now in let lengths = c.args.frame.now.lengths.now in let so_far = c.loop-v.invariant in
-    let v = c.in-Some.v.now in let behind = c.in-Some.behind.now in let rest = c.loop-v.rest.now in
-    let place = c.loop-v.place in let next = c.in_ok-place.place in let part = c.in_ok-part.part in
+pub loop-rest-preserved : goal.loop-rest-preserved
+loop-rest-preserved c =
+    let keys = c.args.frame.now.keys.now in let lengths = c.args.frame.now.lengths.now in let so_far = c.loop-rest.invariant in
+    let rest = c.loop-rest.rest.now in let v = c.v-item.result in let behind = take (length rest - 1) (drop 1 rest) in
+    let place = c.loop-rest.place in let next = c.in_ok-place.place in let part = c.in_ok-part.part in
     let follows = not c.is_empty-follows.result in
-    let front = c.in-Some.ensures.cases.0 in
+    let front = front_is rest v c.in-len1-up.len_at_least c.v-item.is in
     let is : next ≡ place_behind (length keys) place v.verses part follows = c.in_ok-place.ensures ∙ ap (λ p. place_behind (length keys) place v.verses p follows) c.as_slice.ensures in
     let few : next.first + verses_on behind ≤ 129 = next_first (length keys) v behind rest place next part follows front is so_far.verses in
     record {
@@ -18,6 +18,6 @@ loop-v-preserved c =
       first = omega (arith, few);
       room = next_room (length keys) v behind rest place next part follows front is ∙ so_far.room;
       verses = few;
-      parts = next_part keys lengths c.args.room c.args.frame.now.a c.args.frame.now.b v behind rest place next part c.loop-v.parts c.push.new.self _ follows front so_far.room c.in_ok-part.ensures is
+      parts = next_part keys lengths c.args.room c.args.frame.now.a c.args.frame.now.b v behind rest place next part c.loop-rest.parts c.push.new.self _ follows front so_far.room c.in_ok-part.ensures is
           (none_behind (length behind) c.is_empty-follows.result c.is_empty-follows.ensures) c.in_ok-push.ensures.ok so_far.parts;
     }

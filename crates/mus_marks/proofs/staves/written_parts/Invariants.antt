@@ -3,8 +3,8 @@ use Rattle.mus_drawn.specs.Good.{AreGoodMeasures}
 use Rattle.mus_marks.specs.Staff.{verses_on, written_parts}
 use Rattle.mus_marks.proofs.staves.written_parts.Given as goal
 
-abbrev pub invariant-loop-v : goal.invariant-loop-v
-invariant-loop-v l = record {
+abbrev pub invariant-loop-rest : goal.invariant-loop-rest
+invariant-loop-rest l = record {
   each : All (λ v. length v.measures ≡ length l.frame.lengths.now) l.rest;
   good : All (λ v. AreGoodMeasures v.measures) l.rest;
   first : l.place.first ≤ 129;
@@ -13,5 +13,5 @@ invariant-loop-v l = record {
   parts : l.parts ++ written_parts l.frame.keys.now l.frame.lengths.now l.fn.room l.frame.a l.frame.b l.place.first l.place.before l.rest ≡ written_parts l.frame.keys.now l.frame.lengths.now l.fn.room l.frame.a l.frame.b 1 [] l.voices;
 }
 
-abbrev pub decreases-loop-v : goal.decreases-loop-v
-decreases-loop-v l = length l.rest
+abbrev pub decreases-loop-rest : goal.decreases-loop-rest
+decreases-loop-rest l = length l.rest
