@@ -1,9 +1,9 @@
 -- The row of a bar, and the rows, while they grow.
-use Rattle.std.proofs.{Common.{◌≡◌, ℕ, ◌+◌, ◌-◌, ◌<◌, ◌≤◌, Bool, List, [], ◌∷◌, ◌++◌, length, map, Option, None, Some, IsSome, slice_index, slice_index_or, get_or, true, false, arith, sym, ◌∙◌, ap, subst, refl, inl, inr, length-append}, Math.Seq.get_or-append_seam, lemmas.{Bool.{cases_lt, cases_eq, true≢false}, List.get_or_append_left, Option.{none-some, same_Some}}}
-use Rattle.lay_springs.{specs.declared.traits.Reach.Reach, proofs.Clear.below_or_at}
+use Rattle.std.proofs.{Common.{◌≡◌, ℕ, ◌+◌, ◌-◌, ◌<◌, ◌≤◌, ℤ, Bool, List, [], ◌∷◌, ◌++◌, length, map, take, Option, None, Some, IsSome, slice_index, slice_index_or, get_or, true, false, arith, sym, ◌∙◌, ap, subst, refl, inl, inr, length-append}, Math.Seq.get_or-append_seam, lemmas.{Bool.{cases_lt, cases_eq, true≢false}, List.{get_or_append_left, length-map, take_all}, Option.{none-some, same_Some}}}
+use Rattle.lay_springs.{specs.{declared.{traits.Reach.Reach, progress.Progress.Progress}, Place.{reach_at, length_at, HasPlaced}}, proofs.{Clear.below_or_at, Longer.placed_on}}
 use Rattle.lay_breaks.specs.Spans.{AreSpans, listed}
 use Rattle.lay_rows.specs.Tables.{IsTable}
-use Rattle.lay_spans.{specs.{Columns.{measures_from, span_columns, AreMeasures}, Forced.ForcedInside, SpanList.{StandsAt, IsCost, IsNoSpan, IsSpanList}, Rows.{IsRowFrom, rows_spans}, Single.costs_small}, proofs.{Adding.{columns_some, columns_more}, Fitting.longer_stands, Listing.{in_rows, past_rows, rows_form}}}
+use Rattle.lay_spans.{specs.{Columns.{measures_from, span_columns, AreMeasures}, Forced.ForcedInside, SpanList.{StandsAt, IsCost, IsNoSpan, IsSpanList}, Rows.{IsRowFrom, rows_spans}, Single.costs_small}, proofs.{Adding.{columns_some, columns_more}, Fitting.{longer_stands, seen_as}, Listing.{in_rows, past_rows, rows_form}}}
 
 -- the columns that are seen, with one measure more
 pub seen_more : {D C : Type 0} (f : D → C) (old new : List D) (starts others : List (List C)) (a m : ℕ) → a ≤ m → m < length starts → length others ≡ length starts
@@ -12,6 +12,22 @@ pub seen_more : {D C : Type 0} (f : D → C) (old new : List D) (starts others :
     → map f new ≡ span_columns starts others a (m + 1)
 seen_more f old new starts others a m l k same e added =
     added ∙ ap (λ cs. cs ++ slice_index_or (measures_from starts others a) (m - a) []) e ∙ sym (columns_more starts others a m l k same)
+
+-- columns that are placed are placed among those that are seen with one measure more
+pub placed_more : {D C : Type 0} (f : D → C) (reach : C → ℕ → Option Reach) (len : C → ℕ → ℕ) (gaps : List ℕ) (p : Progress) (x x' more fronts : List ℤ)
+    (seen : List D) (starts others : List (List C)) (a m : ℕ) → a ≤ m → m < length starts → length others ≡ length starts
+    → map f seen ≡ span_columns starts others a (m + 1) → length x ≡ length (span_columns starts others a m) → x' ≡ take (length seen) x ++ more
+    → HasPlaced (length (span_columns starts others a m)) (reach_at reach (span_columns starts others a m)) gaps (length_at len (span_columns starts others a m)) p x fronts
+    → HasPlaced (length seen) (reach_at (λ s lane. reach (f s) lane) seen) gaps (length_at (λ s force. len (f s) force) seen) p x' fronts
+placed_more f reach len gaps p x x' more fronts seen starts others a m l k same e room grown h =
+    let next = slice_index_or (measures_from starts others a) (m - a) [] in
+    let longer = columns_more starts others a m l k same in
+    let within : length x ≤ length seen =
+    let n = length-map seen f in let count = ap (λ cs. length cs) (e ∙ longer) in let sum = length-append (span_columns starts others a m) (slice_index_or (measures_from starts others a) (m - a) []) in omega arith in
+    let at : x' ≡ x ++ more = grown ∙ ap (λ at. at ++ more) (take_all (length seen) x within) in
+    rw at (subst (λ T. T) (sym (seen_as f reach len (λ n r l. HasPlaced n r gaps l p (x ++ more) fronts) seen (span_columns starts others a (m + 1)) e))
+    (subst (λ cs. HasPlaced (length cs) (reach_at reach cs) gaps (length_at len cs) p (x ++ more) fronts) (sym longer)
+    (placed_on reach len (span_columns starts others a m) next gaps p x more fronts (omega arith) h)))
 
 -- what holds of each place of a list holds of each once one more is added
 pub each_more : {X : Type 0} (P : ℕ → X → Type 0) (xs : List X) (x d : X)

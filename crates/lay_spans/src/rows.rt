@@ -1,11 +1,11 @@
 ghost use Rattle.std.specs.Prelude.{◌≡◌, ◌+◌, ◌-◌, ◌<◌, ◌≤◌, ◌^◌, ◌++◌, ℕ, IfNone, IfOk, IfSome, OnOk, length, map, slice_index, slice_index_or, false, []};
-ghost use Rattle.lay_springs.specs.Fit.{most_columns};
+ghost use Rattle.lay_springs.specs.{Fit.most_columns, Place.{reach_at, length_at, HasPlaced}};
 ghost use Rattle.lay_spans.specs.{Columns.measures_from, Columns.AreMeasures, Rows.IsRowFrom, Rows.row_spans, Rows.rows_spans, SpanList.FitsAt, SpanList.StandsAt};
 
 use crate::forces::badness;
 use crate::seen::Seen;
 use lay_breaks::Span;
-use lay_springs::{Spaced, Spring, fit_within, most_columns};
+use lay_springs::{Progress, Spaced, Spring, fit_within, most_columns};
 use mus_units::{Memory, Row};
 use std::alloc::Global;
 
@@ -25,13 +25,18 @@ fn greatest_force<C: Spaced + Spring>(
     gaps: &[u32],
     width: u32,
     most: u16,
-    scratch: &mut [i64],
+    at: &mut [i64],
+    front: &mut [i64],
+    placed: &mut Progress,
 ) -> Option<u16>
     requires some { 0 < length cols.now }
     requires lanes { length gaps.now < 2 ^ 32 }
     requires narrow { (lane : ℕ) → lane < length gaps.now → slice_index gaps.now lane ≤ 2 ^ 20 }
     requires most { most ≤ 2048 }
-    requires room { length cols.now + length gaps.now ≤ length scratch.old }
+    requires room { length cols.now ≤ length at.old }
+    requires one_each { length front.old ≡ length gaps.now }
+    requires placed { HasPlaced (length cols.now) (reach_at C.reach_of cols.now) gaps.now (length_at C.length_of cols.now) placed.old at.old front.old }
+    ensures placed { HasPlaced (length cols.now) (reach_at C.reach_of cols.now) gaps.now (length_at C.length_of cols.now) placed.new at.new front.new }
     ensures bound { IfSome result (λ f. f ≤ most) }
     ensures fits { IfSome result (λ f. FitsAt C.reach_of C.length_of gaps.now width f cols.now) }
     ensures greatest { IfSome result (λ f. (g : ℕ) → f < g → g ≤ most → StandsAt C.reach_of C.length_of gaps.now width g cols.now → ⊥) }
@@ -40,7 +45,7 @@ fn greatest_force<C: Spaced + Spring>(
     if most_columns(width) < cols.len() {
         return None;
     }
-    fit_within(cols, gaps, width, most, scratch)
+    fit_within(cols, gaps, width, most, at, front, placed)
 }
 
 /// The columns of measure `m` in a system that begins at bar `a`.
@@ -77,8 +82,9 @@ pub(crate) fn see<'a, C: Spaced>(
 
 /// What the spans from bar `a` cost, from the shortest to the longest that fits. It adds
 /// one measure's columns at a time, and stops at the first span that doesn't fit or
-/// behind a forced bar. The searches for a force take no memory: room for all columns that
-/// can stand within the width is reserved before the first.
+/// behind a forced bar. Each search for a force goes on from where the one before left its columns,
+/// and takes no memory: room for all columns that can stand within the width is reserved before
+/// the first.
 pub(crate) fn row_from<C: Spaced + Spring>(
     alloc: Global,
     starts: &[Row<C>],
@@ -96,15 +102,18 @@ pub(crate) fn row_from<C: Spaced + Spring>(
     ensures { IfOk result (λ row. IsRowFrom C.reach_of C.length_of gaps.now width starts.now others.now
         (λ b. slice_index_or marks.now b false) a row) }
 {
-    let mut places = Vec::with_capacity(alloc, most_columns(width) + gaps.len())?;
+    let mut at = Vec::with_capacity(alloc, most_columns(width))?;
+    let mut ends = vec![in alloc; 0; gaps.len()]?;
+    let front = ends.as_mut_slice();
+    let placed = &mut Progress::none();
     let mut seen = Row::with_room(alloc, most_columns(width))?;
     let mut row = Row::new(alloc);
     let mut most = 2048;
     for m in a..starts.len() {
         see(&mut seen, measure(starts, others, a, m))?;
         let columns = seen.as_slice();
-        places.resize(columns.len() + gaps.len(), 0)?;
-        let Some(force) = greatest_force(columns, gaps, width, most, &mut places) else {
+        at.resize(columns.len(), 0)?;
+        let Some(force) = greatest_force(columns, gaps, width, most, &mut at, front, placed) else {
             return Ok(row);
         };
         row.push(badness(force, m + 1 == starts.len()))?;

@@ -14,8 +14,8 @@ past_more reach gaps lane front old new s es l m h k u lt eu =
     (λ eu p. let b : s ≡ u = same_Some s u (sym es ∙ eu) in rw (← b) (m p))
     eu
 
-module _ (n : ℕ) (reach : ℕ → ℕ → Option Reach) (gaps : List ℕ) (spring : ℕ → ℕ → ℕ) (force natural count j : ℕ) (x front : List ℤ)
-    (placed : IsPlacedTo n j reach gaps spring force natural count x) (fronts : IsFront j reach (length gaps) x front) where
+module _ (reach : ℕ → ℕ → Option Reach) (gaps : List ℕ) (spring : ℕ → ℕ → ℕ) (force natural count j : ℕ) (x front : List ℤ)
+    (placed : IsPlacedTo j reach gaps spring force natural count x) (fronts : IsFront j reach (length gaps) x front) where
   pub front_clear : (v : ℤ) → IsPast (reach j) gaps (length gaps) front v
       → (i : ℕ) → i < j → IsClear (reach i) (reach j) gaps (length gaps) (at x i) v
   front_clear v past i l lane r s lt er es =
@@ -25,12 +25,12 @@ module _ (n : ℕ) (reach : ℕ → ℕ → Option Reach) (gaps : List ℕ) (spr
       omega (arith, ints)
 
   -- past a column that stands in a list that is at most so far below, at another force too
-  pub front_below : (weak : ℕ → ℕ) (y : List ℤ) (d : ℕ) (w : ℤ) → j < n → StandApart n reach gaps weak y
+  pub front_below : (weak : ℕ → ℕ) (y : List ℤ) (d : ℕ) (w : ℤ) → StandApart (j + 1) reach gaps weak y
       → ((k : ℕ) → k < j → at x k ≤ℤ (at y k +ℤ pos d)) → (at y j +ℤ pos d) ≤ℤ w → IsPast (reach j) gaps (length gaps) front w
-  front_below weak y d w l h near up lane s lt es some =
+  front_below weak y d w h near up lane s lt es some =
       let k = fronts.stands lane lt some in
       let e = k.4 in
-      let c = h.lanes k.0 j k.2 l lane k.1 s lt k.3 es in
+      let c = h.lanes k.0 j k.2 (omega arith) lane k.1 s lt k.3 es in
       let b = near k.0 k.2 in
       omega (arith, ints)
 

@@ -1,6 +1,6 @@
--- More columns need more room.
-use Rattle.std.proofs.{Common.{◌≡◌, ℕ, zero, suc, ◌+◌, ◌-◌, ◌*◌, ◌<◌, ◌≤◌, ℤ, pos, ◌≤ℤ◌, List, [], ◌∷◌, ◌++◌, length, Option, option_map, option_and_then, unwrap_or, slice_get, slice_index_or, arith, ◌∙◌, ap, refl, length-append}, lemmas.{Int.ints, Nat.le-div}}
-use Rattle.lay_springs.{specs.{declared.traits.Reach.Reach, Place.{reach_at, length_at, StandApart}, Fit.{Fits, Passes, CanStand, StandsInAll, LongerFitsLess, most_columns}}, proofs.Ends.apart_down}
+-- Columns that continue others: they need more room, and those are still placed.
+use Rattle.std.proofs.{Common.{◌≡◌, ℕ, zero, suc, ◌+◌, ◌-◌, ◌*◌, ◌<◌, ◌≤◌, ℤ, pos, ◌≤ℤ◌, List, [], ◌∷◌, ◌++◌, length, Option, option_map, option_and_then, unwrap_or, slice_get, slice_index_or, arith, sym, ◌∙◌, ap, refl, length-append}, lemmas.{Int.ints, List.get_or_append_left, Nat.le-div}}
+use Rattle.lay_springs.{specs.{declared.{traits.Reach.Reach, progress.Progress.Progress}, Place.{reach_at, length_at, StandApart, HasPlaced}, Fit.{Fits, Passes, CanStand, StandsInAll, LongerFitsLess, most_columns}}, proofs.{Ends.apart_down, Moved.moved_apart}}
 
 pub stands : (n : ℕ) (reach : ℕ → ℕ → Option Reach) (gaps : List ℕ) (spring : ℕ → ℕ → ℕ) (width force : ℕ)
     → Fits n reach gaps spring width force → CanStand n reach gaps spring width force
@@ -51,6 +51,19 @@ stand_few n reach gaps spring width force some h =
     let parts = le-div (n - 1) width 100 (omega arith) (omega (arith, ints)) in
     omega (arith, parts)
 
+-- what keeps columns apart keeps the first of them apart
+pub fewer_apart : (n m : ℕ) (reach reach' : ℕ → ℕ → Option Reach) (gaps : List ℕ) (spring spring' : ℕ → ℕ) (y : List ℤ) → n ≤ m
+    → ((i lane : ℕ) → i < n → reach' i lane ≡ reach i lane)
+    → ((i : ℕ) → i < n → spring' i ≡ spring i)
+    → StandApart m reach' gaps spring' y → StandApart n reach gaps spring y
+fewer_apart n m reach reach' gaps spring spring' y few same len h = record {
+  begins = λ some. h.begins (omega arith);
+  head = λ some lane s l e. h.head (omega arith) lane s l (same 0 lane some ∙ e);
+  lanes = λ i j lt l lane r s k er es. h.lanes i j lt (omega arith) lane r s k (same i lane (omega arith) ∙ er) (same j lane l ∙ es);
+  steps = λ i l. h.steps i (omega arith);
+  springs = λ i l. rw (len i (omega arith)) at (h.springs i (omega arith));
+}
+
 pub stand_prefix : (n m : ℕ) (reach reach' : ℕ → ℕ → Option Reach) (gaps : List ℕ) (spring spring' : ℕ → ℕ → ℕ) (width force : ℕ) → 0 < n → n < m
     → ((i lane : ℕ) → i < n → reach' i lane ≡ reach i lane)
     → ((i : ℕ) → i < n → spring' force i ≡ spring force i)
@@ -58,13 +71,7 @@ pub stand_prefix : (n m : ℕ) (reach reach' : ℕ → ℕ → Option Reach) (ga
     → CanStand m reach' gaps spring' width force → CanStand n reach gaps spring width force
 stand_prefix n m reach reach' gaps spring spring' width force some longer same len all h = record {
   y = h.y;
-  apart = record {
-    begins = λ _. h.apart.begins (omega arith);
-    head = λ _ lane s l e. h.apart.head (omega arith) lane s l (same 0 lane some ∙ e);
-    lanes = λ i j lt l lane r s k er es. h.apart.lanes i j lt (omega arith) lane r s k (same i lane (omega arith) ∙ er) (same j lane l ∙ es);
-    steps = λ i l. h.apart.steps i (omega arith);
-    springs = λ i l. rw (len i (omega arith)) at (h.apart.springs i (omega arith));
-  };
+  apart = fewer_apart n m reach reach' gaps (spring force) (spring' force) h.y (omega arith) same len h.apart;
   past =
       let up = rises m reach' gaps (spring' force) h.y h.apart (m - n) (n - 1) (omega arith) in
       let e : n - 1 + (m - n) ≡ m - 1 = omega arith in
@@ -91,3 +98,36 @@ longer_fits_less reach len short rest gaps width force some more all h =
     (λ i lane k. ap (λ o. option_and_then (λ c. reach c lane) o) (get_front short rest i k))
     (λ i k. ap (λ o. unwrap_or (option_map (λ c. len c force) o) 0) (get_front short rest i k))
     all h
+
+-- columns that are placed are placed among those that continue them, and where there are more places
+pub placed_on : {C : Type 0} (reach : C → ℕ → Option Reach) (len : C → ℕ → ℕ) (short rest : List C) (gaps : List ℕ) (p : Progress) (x more fronts : List ℤ)
+    → length short ≤ length x → HasPlaced (length short) (reach_at reach short) gaps (length_at len short) p x fronts
+    → HasPlaced (length (short ++ rest)) (reach_at reach (short ++ rest)) gaps (length_at len (short ++ rest)) p (x ++ more) fronts
+placed_on {C} reach len short rest gaps p x more fronts room h = record {
+  within = let l = length-append short rest in let w = h.within in omega arith;
+  tight = h.tight;
+  placed = record {
+    apart = moved_apart p.count (reach_at reach (short ++ rest)) gaps (length_at len (short ++ rest) p.force) x (x ++ more) 0 1 (omega arith) (λ k l. rw (stays k l) (omega (arith, ints)))
+        (fewer_apart p.count p.count _ _ gaps (length_at len (short ++ rest) p.force) (length_at len short p.force) x (omega arith)
+        (λ i lane l. sym (same i lane l)) (λ i l. sym (same_length p.force i l)) h.placed.apart);
+    near = λ g drop y e apart k l. rw (stays k l) (h.placed.near g drop y e
+        (fewer_apart p.count p.count _ _ gaps (length_at len short g) (length_at len (short ++ rest) g) y (omega arith) same (same_length g) apart) k l);
+    small = λ k l. rw (stays k l) (h.placed.small k l);
+  };
+  front = λ some.
+      let f = h.front some in
+      record {
+        covers = λ lane k r lt l e. rw (stays k l) (f.covers lane k r lt l (sym (same k lane l) ∙ e));
+        stands = λ lane lt past. let k = f.stands lane lt past in (k.0, k.1, k.2, same k.0 lane k.2 ∙ k.3, rw (stays k.0 k.2) k.4);
+        small = f.small;
+      };
+}
+  where
+    same : (i lane : ℕ) → i < p.count → reach_at reach (short ++ rest) i lane ≡ reach_at reach short i lane
+    same i lane l = ap (λ o. option_and_then (λ c. reach c lane) o) (get_front short rest i (let w = h.within in omega arith))
+
+    same_length : (force i : ℕ) → i < p.count → length_at len (short ++ rest) force i ≡ length_at len short force i
+    same_length force i l = ap (λ o. unwrap_or (option_map (λ c. len c force) o) 0) (get_front short rest i (let w = h.within in omega arith))
+
+    stays : (k : ℕ) → k < p.count → slice_index_or (x ++ more) k (pos 0) ≡ slice_index_or x k (pos 0)
+    stays k l = get_or_append_left x more (pos 0) k (let w = h.within in omega arith)

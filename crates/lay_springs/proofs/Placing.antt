@@ -1,16 +1,16 @@
 -- One column more is placed.
-use Rattle.std.proofs.{Common.{◌≡◌, ℕ, ◌+◌, ◌*◌, ◌<◌, ◌≤◌, ◌≢◌, ℤ, pos, ◌+ℤ◌, ◌≤ℤ◌, List, length, Option, None, Some, IfSome, option_and_then, slice_get, slice_index_or, slice_set, ap, sym, arith, subst, refl, get_or-set_same, get_or-set_other}, lemmas.Int.ints}
-use Rattle.lay_springs.{specs.{declared.traits.Reach.Reach, Place.{reach_at, length_at, IsClear, IsInside, StandApart, IsPlace, IsPlacedTo, slack}}, proofs.{Clear.below_or_at, Near.slack_up}}
+use Rattle.std.proofs.{Common.{◌≡◌, ℕ, ◌+◌, ◌*◌, ◌<◌, ◌≤◌, ◌≢◌, ℤ, pos, ◌+ℤ◌, ◌≤ℤ◌, List, length, take, Option, None, Some, IfSome, option_and_then, slice_get, slice_index_or, slice_set, ap, sym, arith, subst, refl, get_or-set_same, get_or-set_other}, lemmas.{Int.ints, List.{get_or-take, length-take-le}}}
+use Rattle.lay_springs.{specs.{declared.traits.Reach.Reach, Place.{reach_at, length_at, IsClear, IsInside, StandApart, IsPlace, IsPlacedTo, slack}}, proofs.{Clear.below_or_at, Longer.fewer_apart, Moved.moved_apart, Near.slack_up}}
 
 -- the abscissa of a column
 abbrev at : List ℤ → ℕ → ℤ
 at x k = slice_index_or x k (pos 0)
 
-module _ (n : ℕ) (reach : ℕ → ℕ → Option Reach) (gaps : List ℕ) (spring : ℕ → ℕ → ℕ) (force : ℕ) where
-  pub placed_first : (x : List ℤ) (v : ℤ) → 0 < n → 0 < length x → pos 0 ≤ℤ v → IsInside (reach 0) (length gaps) v
+module _ (reach : ℕ → ℕ → Option Reach) (gaps : List ℕ) (spring : ℕ → ℕ → ℕ) (force : ℕ) where
+  pub placed_first : (x : List ℤ) (v : ℤ) → 0 < length x → pos 0 ≤ℤ v → IsInside (reach 0) (length gaps) v
       → ((w : ℤ) → pos 0 ≤ℤ w → IsInside (reach 0) (length gaps) w → v ≤ℤ w) → v ≤ℤ pos 1048576
-      → IsPlacedTo n 1 reach gaps spring force 0 0 (slice_set x 0 v)
-  placed_first x v some room begins inside least small = record {
+      → IsPlacedTo 1 reach gaps spring force 0 0 (slice_set x 0 v)
+  placed_first x v room begins inside least small = record {
     apart = record {
       begins = λ _. rw here begins;
       head = λ _. rw here inside;
@@ -18,7 +18,7 @@ module _ (n : ℕ) (reach : ℕ → ℕ → Option Reach) (gaps : List ℕ) (spr
       steps = λ i l. absurd (omega arith);
       springs = λ i l. absurd (omega arith);
     };
-    near = λ g drop y e h k l. let z : 0 ≡ k = omega arith in let first = least (at y 0) (h.begins some) (h.head some) in
+    near = λ g drop y e h k l. let z : 0 ≡ k = omega arith in let first = least (at y 0) (h.begins (omega arith)) (h.head (omega arith)) in
         subst (λ k. at (slice_set x 0 v) k ≤ℤ (at y k +ℤ pos (slack 0 0 drop))) z (rw here (omega (arith, ints)));
     small = λ k l. let z : 0 ≡ k = omega arith in
         subst (λ k. (pos 0 ≤ℤ at (slice_set x 0 v) k) × (at (slice_set x 0 v) k ≤ℤ pos (1048576 + 3145728 * k))) z (rw here (begins, small));
@@ -28,14 +28,14 @@ module _ (n : ℕ) (reach : ℕ → ℕ → Option Reach) (gaps : List ℕ) (spr
       here = get_or-set_same x 0 v (pos 0) room
 
   -- column j is placed at v
-  pub placed_more : (natural count natural' count' : ℕ) (x : List ℤ) (j : ℕ) (v : ℤ) → 0 < j → j < length x → IsPlacedTo n j reach gaps spring force natural count x
+  pub placed_more : (natural count natural' count' : ℕ) (x : List ℤ) (j : ℕ) (v : ℤ) → 0 < j → j < length x → IsPlacedTo j reach gaps spring force natural count x
       → natural ≤ natural' → count ≤ count'
       → ((i : ℕ) → i + 1 ≡ j → (at x i +ℤ pos 100) ≤ℤ v)
       → ((i : ℕ) → i + 1 ≡ j → (at x i +ℤ pos (spring force i)) ≤ℤ v)
       → ((i : ℕ) → i < j → IsClear (reach i) (reach j) gaps (length gaps) (at x i) v)
-      → ((g drop : ℕ) (y : List ℤ) → g + drop ≡ force → StandApart n reach gaps (spring g) y → v ≤ℤ (at y j +ℤ pos (slack natural' count' drop)))
+      → ((g drop : ℕ) (y : List ℤ) → g + drop ≡ force → StandApart (j + 1) reach gaps (spring g) y → v ≤ℤ (at y j +ℤ pos (slack natural' count' drop)))
       → (pos 0 ≤ℤ v) × (v ≤ℤ pos (1048576 + 3145728 * j))
-      → IsPlacedTo n (j + 1) reach gaps spring force natural' count' (slice_set x j v)
+      → IsPlacedTo (j + 1) reach gaps spring force natural' count' (slice_set x j v)
   placed_more natural count natural' count' x j v pos_j room h more many step spr clear near small = record {
     apart = record {
       begins = λ _. rw (same 0 pos_j) (h.apart.begins pos_j);
@@ -51,7 +51,7 @@ module _ (n : ℕ) (reach : ℕ → ℕ → Option Reach) (gaps : List ℕ) (spr
           (λ e. rw (same i (omega arith), here) (spr i (sym e))) refl;
     };
     near = λ g drop y e a k l. below_or_at (λ k. at x' k ≤ℤ (at y k +ℤ pos (slack natural' count' drop))) k j l
-        (λ l. let old = h.near g drop y e a k l in let up = slack_up natural count natural' count' drop more many in rw (same k l) (omega (arith, ints)))
+        (λ l. let old = h.near g drop y e (fewer_apart j (j + 1) reach reach gaps (spring g) (spring g) y (omega arith) (λ i lane l. refl) (λ i l. refl) a) k l in let up = slack_up natural count natural' count' drop more many in rw (same k l) (omega (arith, ints)))
         (rw here (near g drop y e a));
     small = λ k l. below_or_at (λ k. (pos 0 ≤ℤ at x' k) × (at x' k ≤ℤ pos (1048576 + 3145728 * k))) k j l
         (λ l. rw (same k l) (h.small k l))
@@ -68,12 +68,12 @@ module _ (n : ℕ) (reach : ℕ → ℕ → Option Reach) (gaps : List ℕ) (spr
       here = get_or-set_same x j v (pos 0) room
 
 -- all are placed
-pub place_of : (n j : ℕ) (reach : ℕ → ℕ → Option Reach) (gaps : List ℕ) (spring : ℕ → ℕ → ℕ) (force natural count : ℕ) (x : List ℤ) → j ≡ n → length x ≡ n
-    → IsPlacedTo n j reach gaps spring force natural count x → IsPlace n reach gaps (spring force) x
-place_of n j reach gaps spring force natural count x all room h = record {
-  count = room;
-  apart = subst (λ j. StandApart j reach gaps (spring force) x) all h.apart;
-  least = λ y a k l. let z : force + 0 ≡ force = omega arith in let near = h.near force 0 y z a k (omega arith) in omega (arith, ints);
+pub place_of : (n : ℕ) (reach : ℕ → ℕ → Option Reach) (gaps : List ℕ) (spring : ℕ → ℕ → ℕ) (force natural count : ℕ) (x : List ℤ) → n ≤ length x
+    → IsPlacedTo n reach gaps spring force natural count x → IsPlace n reach gaps (spring force) (take n x)
+place_of n reach gaps spring force natural count x room h = record {
+  count = length-take-le n x room;
+  apart = moved_apart n reach gaps (spring force) x (take n x) 0 1 (omega arith) (λ k l. rw (get_or-take n x k (pos 0) l) (omega (arith, ints))) h.apart;
+  least = λ y a k l. let z : force + 0 ≡ force = omega arith in let near = h.near force 0 y z a k l in rw (get_or-take n x k (pos 0) l) (omega (arith, ints));
 }
 
 -- what is at a column that was read

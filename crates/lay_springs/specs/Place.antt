@@ -1,6 +1,6 @@
 -- Where columns stand: the least list of abscissas that keeps them apart.
-use Rattle.std.specs.Prelude.{◌≡◌, ℕ, ◌+◌, ◌*◌, ◌/◌, ◌^◌, ◌⊎◌, min, MatchOption, ◌<◌, ℤ, pos, ◌+ℤ◌, ◌≤ℤ◌, List, length, Option, Some, option_map, option_and_then, unwrap_or, slice_get, slice_index, slice_index_or}
-use Rattle.lay_springs.specs.declared.traits.Reach.{Reach}
+use Rattle.std.specs.Prelude.{◌≡◌, ℕ, ◌+◌, ◌*◌, ◌/◌, ◌^◌, ◌⊎◌, min, MatchOption, ◌<◌, ◌≤◌, ℤ, pos, ◌+ℤ◌, ◌≤ℤ◌, List, length, Option, Some, option_map, option_and_then, unwrap_or, slice_get, slice_index, slice_index_or}
+use Rattle.lay_springs.specs.declared.{traits.Reach.Reach, progress.Progress.Progress}
 
 -- the reach of column i in a lane
 abbrev pub reach_at : {C : Type 0} → (C → ℕ → Option Reach) → List C → ℕ → ℕ → Option Reach
@@ -29,31 +29,31 @@ pub record StandApart (n : ℕ) (reach : ℕ → ℕ → Option Reach) (gaps : L
   -- and as far apart as the spring between them is long
   pub springs : (i : ℕ) → i + 1 < n → (slice_index_or x i (pos 0) +ℤ pos (spring i)) ≤ℤ slice_index_or x (i + 1) (pos 0)
 
--- no list that keeps n columns apart is below the first j abscissas of x
-abbrev pub IsBelowAll : ℕ → ℕ → (ℕ → ℕ → Option Reach) → List ℕ → (ℕ → ℕ) → List ℤ → Type 0
-IsBelowAll n j reach gaps spring x = (y : List ℤ) → StandApart n reach gaps spring y
-    → (k : ℕ) → k < j → slice_index_or x k (pos 0) ≤ℤ slice_index_or y k (pos 0)
+-- no list that keeps n columns apart is below x
+abbrev pub IsBelowAll : ℕ → (ℕ → ℕ → Option Reach) → List ℕ → (ℕ → ℕ) → List ℤ → Type 0
+IsBelowAll n reach gaps spring x = (y : List ℤ) → StandApart n reach gaps spring y
+    → (k : ℕ) → k < n → slice_index_or x k (pos 0) ≤ℤ slice_index_or y k (pos 0)
 
 -- how far columns can come nearer where the force falls by `drop`: `count` springs alone hold neighbors apart, `natural` is the sum of
 -- their natural lengths, and each counts as whole u
 abbrev pub slack : ℕ → ℕ → ℕ → ℕ
 slack natural count drop = (natural * drop + 255 * min count (natural * drop)) / 256
 
--- no list that keeps n columns apart at a force that is less by `drop` is further below the first j abscissas of x
-abbrev pub IsNear : ℕ → ℕ → (ℕ → ℕ → Option Reach) → List ℕ → (ℕ → ℕ → ℕ) → ℕ → ℕ → ℕ → List ℤ → Type 0
-IsNear n j reach gaps spring force natural count x = (g drop : ℕ) (y : List ℤ) → g + drop ≡ force → StandApart n reach gaps (spring g) y
-    → (k : ℕ) → k < j → slice_index_or x k (pos 0) ≤ℤ (slice_index_or y k (pos 0) +ℤ pos (slack natural count drop))
+-- no list that keeps n columns apart at a force that is less by `drop` is further below x
+abbrev pub IsNear : ℕ → (ℕ → ℕ → Option Reach) → List ℕ → (ℕ → ℕ → ℕ) → ℕ → ℕ → ℕ → List ℤ → Type 0
+IsNear n reach gaps spring force natural count x = (g drop : ℕ) (y : List ℤ) → g + drop ≡ force → StandApart n reach gaps (spring g) y
+    → (k : ℕ) → k < n → slice_index_or x k (pos 0) ≤ℤ (slice_index_or y k (pos 0) +ℤ pos (slack natural count drop))
 
 -- x is the pointwise least of the lists that keep the columns apart
 pub record IsPlace (n : ℕ) (reach : ℕ → ℕ → Option Reach) (gaps : List ℕ) (spring : ℕ → ℕ) (x : List ℤ) : Type 0 where
   pub count : length x ≡ n
   pub apart : StandApart n reach gaps spring x
-  pub least : IsBelowAll n n reach gaps spring x
+  pub least : IsBelowAll n reach gaps spring x
 
--- the first j of n columns are placed at a force, behind such springs
-pub record IsPlacedTo (n j : ℕ) (reach : ℕ → ℕ → Option Reach) (gaps : List ℕ) (spring : ℕ → ℕ → ℕ) (force natural count : ℕ) (x : List ℤ) : Type 0 where
+-- the first j columns are placed at a force, behind such springs
+pub record IsPlacedTo (j : ℕ) (reach : ℕ → ℕ → Option Reach) (gaps : List ℕ) (spring : ℕ → ℕ → ℕ) (force natural count : ℕ) (x : List ℤ) : Type 0 where
   pub apart : StandApart j reach gaps (spring force) x
-  pub near : IsNear n j reach gaps spring force natural count x
+  pub near : IsNear j reach gaps spring force natural count x
   pub small : (k : ℕ) → k < j → (pos 0 ≤ℤ slice_index_or x k (pos 0)) × (slice_index_or x k (pos 0) ≤ℤ pos (1048576 + 3145728 * k))
 
 -- front has for each lane the greatest abscissa plus right reach of the first j columns in it, or a number below 0 where none stands in it
@@ -63,6 +63,13 @@ pub record IsFront (j : ℕ) (reach : ℕ → ℕ → Option Reach) (lanes : ℕ
   pub stands : (lane : ℕ) → lane < lanes → pos 0 ≤ℤ slice_index_or front lane (pos 0)
       → (k : ℕ) × (r : Reach) × (k < j) × (reach k lane ≡ Some r) × (slice_index_or front lane (pos 0) ≡ (slice_index_or x k (pos 0) +ℤ pos r.right))
   pub small : (lane : ℕ) → lane < lanes → slice_index_or front lane (pos 0) ≤ℤ pos (2 ^ 61)
+
+-- of n columns so many are placed as the progress tells, and fronts has what stands furthest right in each lane
+pub record HasPlaced (n : ℕ) (reach : ℕ → ℕ → Option Reach) (gaps : List ℕ) (spring : ℕ → ℕ → ℕ) (p : Progress) (x fronts : List ℤ) : Type 0 where
+  pub within : p.count ≤ n
+  pub tight : (p.tight.natural ≤ 4096 * p.count) × (p.tight.count ≤ p.count)
+  pub placed : IsPlacedTo p.count reach gaps spring p.force p.tight.natural p.tight.count x
+  pub front : 0 < p.count → IsFront p.count reach (length gaps) x fronts
 
 -- a column at v is clear of what stands before it in each lane
 abbrev pub IsPast : (ℕ → Option Reach) → List ℕ → ℕ → List ℤ → ℤ → Type 0

@@ -1,8 +1,9 @@
 ghost use Rattle.std.specs.Prelude.{◌≡◌, ◌+◌, ◌^◌, ◌<◌, ◌≤◌, ℕ, ℤ, pos, ◌≤ℤ◌, IfSome, IfNone, length, slice_index, slice_index_or};
-ghost use Rattle.lay_springs.specs.{Fit.{IsEndOf, Fits, CanStand, LongerFitsLess, Passes, most_columns}, Place.{reach_at, length_at}};
+ghost use Rattle.lay_springs.specs.{Fit.{IsEndOf, Fits, CanStand, LongerFitsLess, Passes, most_columns}, Place.{reach_at, length_at, HasPlaced}};
 
 use crate::guesses::{highest, lowered};
 use crate::least::{larger, settle};
+use crate::progress::Progress;
 use crate::traits::{Spaced, Spring};
 
 /// Where a column at `at` ends.
@@ -31,26 +32,29 @@ fn too_great<C: Spaced + Spring>(
     force: u16,
     at: &mut [i64],
     front: &mut [i64],
+    placed: &mut Progress,
 ) -> Option<u16>
     requires some { 0 < length cols.now }
     requires few { length cols.now ≤ 2 ^ 26 }
     requires lanes { length gaps.now < 2 ^ 32 }
     requires narrow { (lane : ℕ) → lane < length gaps.now → slice_index gaps.now lane ≤ 2 ^ 20 }
-    requires room { length at.old ≡ length cols.now }
+    requires room { length cols.now ≤ length at.old }
     requires one_each { length front.old ≡ length gaps.now }
+    requires placed { HasPlaced (length cols.now) (reach_at C.reach_of cols.now) gaps.now (length_at C.length_of cols.now) placed.old at.old front.old }
+    ensures placed { HasPlaced (length cols.now) (reach_at C.reach_of cols.now) gaps.now (length_at C.length_of cols.now) placed.new at.new front.new }
     ensures fits { IfNone result (Fits (length cols.now) (reach_at C.reach_of cols.now) gaps.now (length_at C.length_of cols.now) width force) }
     ensures below { IfSome result (λ past. past ≤ force) }
     ensures zero { IfSome result (λ past. past ≡ 0 → Passes (length cols.now) (reach_at C.reach_of cols.now) gaps.now (length_at C.length_of cols.now) width 0) }
     ensures never { IfSome result (λ past. (g : ℕ) → past ≤ g
         → CanStand (length cols.now) (reach_at C.reach_of cols.now) gaps.now (length_at C.length_of cols.now) width g → ⊥) }
 {
-    let tight = settle(cols, gaps, force, at, front);
+    *placed = settle(cols, gaps, force, at, front, *placed);
     let last = cols.len() - 1;
     let end = end_of(&cols[last], gaps.len(), at[last]);
     if end <= i64::from(width) {
         return None;
     }
-    Some(lowered(force, (end - i64::from(width)) as u64, tight))
+    Some(lowered(force, (end - i64::from(width)) as u64, placed.tight))
 }
 
 /// The most columns that can stand within a width, in u: neighbors stand 100 apart.
@@ -80,41 +84,49 @@ pub fn fit<C: Spaced + Spring>(
         → CanStand (length cols.now) (reach_at C.reach_of cols.now) gaps.now (length_at C.length_of cols.now) width g → ⊥) }
     ensures none { IfNone result (Passes (length cols.now) (reach_at C.reach_of cols.now) gaps.now (length_at C.length_of cols.now) width 0) }
 {
-    fit_within(cols, gaps, width, 2048, scratch)
+    let (at, rest) = scratch.split_at_mut(cols.len());
+    let front = &mut rest[..gaps.len()];
+    fit_within(cols, gaps, width, 2048, at, front, &mut Progress::none())
 }
 
 /// The greatest force of 0 to `most` at which the columns end within the width, as
 /// `fit` finds it where `most` is 2048. It tries the highest force that is left, as far as at
 /// most 13 forces in all leave it the choice. Where the columns end past the width, the springs
 /// that alone hold neighbors apart tell how far the force has to fall at least.
+///
+/// `at` has a place for each column and `front` one for each lane. A search for columns that
+/// continue others goes on from where `placed` tells that those stand, if it begins at their force.
 pub fn fit_within<C: Spaced + Spring>(
     cols: &[C],
     gaps: &[u32],
     width: u32,
     most: u16,
-    scratch: &mut [i64],
+    at: &mut [i64],
+    front: &mut [i64],
+    placed: &mut Progress,
 ) -> Option<u16>
     requires some { 0 < length cols.now }
     requires few { length cols.now ≤ 2 ^ 26 }
     requires lanes { length gaps.now < 2 ^ 32 }
     requires narrow { (lane : ℕ) → lane < length gaps.now → slice_index gaps.now lane ≤ 2 ^ 20 }
     requires most { most ≤ 2048 }
-    requires room { length cols.now + length gaps.now ≤ length scratch.old }
+    requires room { length cols.now ≤ length at.old }
+    requires one_each { length front.old ≡ length gaps.now }
+    requires placed { HasPlaced (length cols.now) (reach_at C.reach_of cols.now) gaps.now (length_at C.length_of cols.now) placed.old at.old front.old }
+    ensures placed { HasPlaced (length cols.now) (reach_at C.reach_of cols.now) gaps.now (length_at C.length_of cols.now) placed.new at.new front.new }
     ensures bound { IfSome result (λ f. f ≤ most) }
     ensures fits { IfSome result (Fits (length cols.now) (reach_at C.reach_of cols.now) gaps.now (length_at C.length_of cols.now) width) }
     ensures greatest { IfSome result (λ f. (g : ℕ) → f < g → g ≤ most
         → CanStand (length cols.now) (reach_at C.reach_of cols.now) gaps.now (length_at C.length_of cols.now) width g → ⊥) }
     ensures none { IfNone result (Passes (length cols.now) (reach_at C.reach_of cols.now) gaps.now (length_at C.length_of cols.now) width 0) }
 {
-    let (at, rest) = scratch.split_at_mut(cols.len());
-    let front = &mut rest[..gaps.len()];
     let mut low = 0;
     let mut high = most + 1;
     let mut half = 2049;
     while low < high {
         let force = highest(low, high, half);
         half = half.div_ceil(2);
-        match too_great(cols, gaps, width, force, at, front) {
+        match too_great(cols, gaps, width, force, at, front, placed) {
             None => low = force + 1,
             Some(past) => high = past,
         }

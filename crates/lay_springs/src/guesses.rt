@@ -1,7 +1,7 @@
 ghost use Rattle.std.specs.Prelude.{◌≡◌, ◌+◌, ◌*◌, ◌<◌, ◌≤◌, ◌^◌, ℕ};
 ghost use Rattle.lay_springs.specs.Place.{slack};
 
-use crate::least::Tight;
+use crate::progress::Tight;
 
 /// A force from which on none but `force` itself lets columns end within a width that they pass
 /// by `over` at `force`; 0 only where that is 0.

@@ -1,6 +1,7 @@
-ghost use Rattle.std.specs.Prelude.{◌≡◌, ◌+◌, ◌*◌, ◌≢◌, ◌⊎◌, ◌^◌, ◌<◌, ◌≤◌, ℕ, ℤ, pos, negsuc, ◌+ℤ◌, ◌≤ℤ◌, IfOk, length, slice_index, slice_index_or, slice_set};
-ghost use Rattle.lay_springs.specs.Place.{reach_at, length_at, IsPlace, IsPlacedTo, IsNear, IsFront, IsPast, Advances, IsInside};
+ghost use Rattle.std.specs.Prelude.{◌≡◌, ◌+◌, ◌*◌, ◌≢◌, ◌⊎◌, ◌^◌, ◌<◌, ◌≤◌, ℕ, ℤ, pos, negsuc, ◌+ℤ◌, ◌≤ℤ◌, IfOk, length, take, slice_index, slice_index_or, slice_set};
+ghost use Rattle.lay_springs.specs.Place.{reach_at, length_at, IsPlace, IsPlacedTo, IsNear, IsFront, HasPlaced, IsPast, Advances, IsInside};
 
+use crate::progress::{Progress, Tight};
 use crate::traits::{Reach, Spaced, Spring, Stand};
 use mus_units::{Memory, Row};
 use std::alloc::Global;
@@ -134,65 +135,76 @@ fn after(before: i64, spring: u32) -> i64
     larger(before + 100, before + i64::from(spring))
 }
 
-/// The springs that alone hold neighbors apart: the sum of their natural lengths, and how many they are.
-#[derive(Clone, Copy)]
-pub(crate) struct Tight {
-    pub(crate) natural: u64,
-    pub(crate) count: u64,
-}
-
-/// Places the columns in one pass, which keeps for each lane what stands furthest right in it. Gives
-/// the springs that alone hold neighbors apart.
+/// Places all columns in one pass, which keeps for each lane what stands furthest right in it. It goes
+/// on from those that are placed at this force.
 pub(crate) fn settle<C: Spaced + Spring>(
     cols: &[C],
     gaps: &[u32],
     force: u16,
     at: &mut [i64],
     front: &mut [i64],
-) -> Tight
+    placed: Progress,
+) -> Progress
     requires some { 0 < length cols.now }
     requires few { length cols.now ≤ 2 ^ 26 }
     requires lanes { length gaps.now < 2 ^ 32 }
     requires narrow { (lane : ℕ) → lane < length gaps.now → slice_index gaps.now lane ≤ 2 ^ 20 }
-    requires room { length at.old ≡ length cols.now }
+    requires room { length cols.now ≤ length at.old }
     requires one_each { length front.old ≡ length gaps.now }
-    ensures few { result.count ≤ 2 ^ 26 }
-    ensures natural { result.natural ≤ 2 ^ 38 }
-    ensures near { IsNear (length cols.now) (length cols.now) (reach_at C.reach_of cols.now) gaps.now (length_at C.length_of cols.now) force result.natural result.count at.new }
-    ensures place { IsPlace (length cols.now) (reach_at C.reach_of cols.now) gaps.now (length_at C.length_of cols.now force) at.new }
+    requires placed { HasPlaced (length cols.now) (reach_at C.reach_of cols.now) gaps.now (length_at C.length_of cols.now) placed at.old front.old }
+    ensures few { result.tight.count ≤ 2 ^ 26 }
+    ensures natural { result.tight.natural ≤ 2 ^ 38 }
+    ensures near { IsNear (length cols.now) (reach_at C.reach_of cols.now) gaps.now (length_at C.length_of cols.now) force result.tight.natural result.tight.count at.new }
+    ensures placed { HasPlaced (length cols.now) (reach_at C.reach_of cols.now) gaps.now (length_at C.length_of cols.now) result at.new front.new }
+    ensures place { IsPlace (length cols.now) (reach_at C.reach_of cols.now) gaps.now (length_at C.length_of cols.now force) (take (length cols.now) at.new) }
     ensures small { (k : ℕ) → k < length cols.now
         → (pos 0 ≤ℤ slice_index_or at.new k (pos 0)) × (slice_index_or at.new k (pos 0) ≤ℤ pos (2 ^ 48)) }
 {
-    place_first(cols, gaps, force, at, front);
-    let mut tight = Tight {
-        natural: 0,
-        count: 0,
-    };
-    for j in 1..cols.len() {
+    let begun = begun(cols, gaps, force, at, front, placed);
+    let mut tight = begun.tight;
+    for j in begun.count..cols.len() {
         tight = place_next(cols, gaps, force, at, front, j, tight);
     }
-    tight
+    Progress {
+        force,
+        count: cols.len(),
+        tight,
+    }
 }
 
-/// Places the first column.
-fn place_first<C: Spaced + Spring>(
+/// The columns that are placed at this force; where none is, the first is placed.
+fn begun<C: Spaced + Spring>(
     cols: &[C],
     gaps: &[u32],
     force: u16,
     at: &mut [i64],
     front: &mut [i64],
-)
+    placed: Progress,
+) -> Progress
     requires some { 0 < length cols.now }
     requires lanes { length gaps.now < 2 ^ 32 }
-    requires room { length at.old ≡ length cols.now }
+    requires room { length cols.now ≤ length at.old }
     requires one_each { length front.old ≡ length gaps.now }
-    ensures placed { IsPlacedTo (length cols.now) 1 (reach_at C.reach_of cols.now) gaps.now (length_at C.length_of cols.now) force 0 0 at.new }
-    ensures fronts { IsFront 1 (reach_at C.reach_of cols.now) (length gaps.now) at.new front.new }
+    requires placed { HasPlaced (length cols.now) (reach_at C.reach_of cols.now) gaps.now (length_at C.length_of cols.now) placed at.old front.old }
+    ensures force { result.force ≡ force }
+    ensures some { 0 < result.count }
+    ensures placed { HasPlaced (length cols.now) (reach_at C.reach_of cols.now) gaps.now (length_at C.length_of cols.now) result at.new front.new }
 {
+    if 0 < placed.count && placed.force == force {
+        return placed;
+    }
     empty_fronts(front);
     let first = first_of(&cols[0], gaps.len());
     at[0] = first;
     advance_each(&cols[0], first, front);
+    Progress {
+        force,
+        count: 1,
+        tight: Tight {
+            natural: 0,
+            count: 0,
+        },
+    }
 }
 
 /// Places column j, past 0, behind `tight` springs. Gives them, with the spring before it if that alone holds it.
@@ -208,15 +220,15 @@ fn place_next<C: Spaced + Spring>(
     requires few { length cols.now ≤ 2 ^ 26 }
     requires lanes { length gaps.now < 2 ^ 32 }
     requires narrow { (lane : ℕ) → lane < length gaps.now → slice_index gaps.now lane ≤ 2 ^ 20 }
-    requires room { length at.old ≡ length cols.now }
+    requires room { length cols.now ≤ length at.old }
     requires one_each { length front.old ≡ length gaps.now }
     requires past { 0 < j }
     requires inside { j < length cols.now }
     requires tight { (tight.natural ≤ 4096 * j) × (tight.count ≤ j) }
-    requires placed { IsPlacedTo (length cols.now) j (reach_at C.reach_of cols.now) gaps.now (length_at C.length_of cols.now) force tight.natural tight.count at.old }
+    requires placed { IsPlacedTo j (reach_at C.reach_of cols.now) gaps.now (length_at C.length_of cols.now) force tight.natural tight.count at.old }
     requires fronts { IsFront j (reach_at C.reach_of cols.now) (length gaps.now) at.old front.old }
     ensures tight { (result.natural ≤ 4096 * (j + 1)) × (result.count ≤ j + 1) }
-    ensures placed { IsPlacedTo (length cols.now) (j + 1) (reach_at C.reach_of cols.now) gaps.now (length_at C.length_of cols.now) force result.natural result.count at.new }
+    ensures placed { IsPlacedTo (j + 1) (reach_at C.reach_of cols.now) gaps.now (length_at C.length_of cols.now) force result.natural result.count at.new }
     ensures fronts { IsFront (j + 1) (reach_at C.reach_of cols.now) (length gaps.now) at.new front.new }
 {
     let before = at[j - 1];
@@ -274,6 +286,6 @@ pub fn place<C: Spaced + Spring>(
 {
     let mut at = vec![in alloc; 0; cols.len()]?;
     let mut front = vec![in alloc; 0; gaps.len()]?;
-    settle(cols, gaps, force, &mut at, &mut front);
+    settle(cols, gaps, force, &mut at, &mut front, Progress::none());
     Ok(Row { items: at })
 }

@@ -9,9 +9,11 @@ pub mod forces;
 mod guesses;
 pub mod least;
 pub mod margin;
+pub mod progress;
 pub mod traits;
 
 pub use forces::{fit, fit_within, longer_fits_less, most_columns};
 pub use least::place;
 pub use margin::{Placed, justify};
+pub use progress::Progress;
 pub use traits::{Reach, Spaced, Spring, Stand};

@@ -3,6 +3,7 @@ ghost use Rattle.lay_springs.specs.{Fit.{IsEndOf, Fits, IsSet, is_ragged, counte
 
 use crate::forces::end_of;
 use crate::least::{place, settle};
+use crate::progress::Progress;
 use crate::traits::{Spaced, Spring};
 use mus_units::{Memory, Row};
 use std::alloc::Global;
@@ -77,7 +78,7 @@ fn set<C: Spaced + Spring>(
     ensures set { IsSet (length cols.now) (reach_at C.reach_of cols.now) gaps.now (length_at C.length_of cols.now) width force at.new }
     ensures apart { StandApart (length cols.now) (reach_at C.reach_of cols.now) gaps.now (length_at C.length_of cols.now force) at.new }
 {
-    settle(cols, gaps, force, at, front);
+    settle(cols, gaps, force, at, front, Progress::none());
     if cols.len() == 1 {
         return;
     }

@@ -6,7 +6,7 @@ use answer_texts::{count_at, number_at, numbers_of, put_placed};
 use case_texts::{Case, Report};
 use lay_columns::Column;
 use lay_spans::badness;
-use lay_springs::{Reach, fit, fit_within, justify, place};
+use lay_springs::{Progress, Reach, fit, fit_within, justify, place};
 use mus_time::{Class, ColumnKey};
 use mus_units::{Memory, Row};
 use std::alloc::Global;
@@ -103,7 +103,10 @@ pub(crate) fn put_plain(out: &mut Report, case: Case<'_>) -> Result<(), Memory> 
         "fit" => put_force(out, fit(columns, &GAPS, first, scratch)),
         "within" => {
             let most = u16::try_from(second).unwrap_or(0).min(2048);
-            put_force(out, fit_within(columns, &GAPS, first, most, scratch))
+            let (at, front) = scratch.split_at_mut(columns.len());
+            let mut placed = Progress::none();
+            let force = fit_within(columns, &GAPS, first, most, at, front, &mut placed);
+            put_force(out, force)
         }
         "set" => put_set(out, columns, first, false, scratch),
         _ => put_set(out, columns, first, true, scratch),

@@ -1,8 +1,9 @@
-use Rattle.std.proofs.Common.{◌≡◌, ℕ, ◌+◌, ◌++◌, ◌<◌, ◌∷◌, [], map, length, length-append, false, slice_index_or, arith, sym, ◌∙◌, ap, subst, rules}
-use Rattle.lay_spans.{specs.{Columns.span_columns, SpanList.{IsForce, IsCost}}, proofs.{Fitting.{force_of, still_above, never_stands}, Growing.{seen_more, costs_more, free_more, stops_at, stops_behind}, rows.row_from.Goals.{After-greatest_force, In_ok-push}}}
+use Rattle.std.proofs.{Common.{◌≡◌, ℕ, ◌+◌, ◌++◌, ◌<◌, ◌∷◌, [], ◌-◌, flat_map, map, take, drop, length, length-append, false, slice_index_or, arith, sym, ◌∙◌, ap, subst, rules}, lemmas.List.{length-map, take_at}}
+use Rattle.lay_springs.specs.Place.{HasPlaced}
+use Rattle.lay_spans.{specs.{Columns.{measures_from, span_columns}, SpanList.{IsForce, IsCost}}, proofs.{Adding.columns_some, Fitting.{force_of, seen_as, still_above, never_stands}, Growing.{placed_more, seen_more, costs_more, free_more, stops_at, stops_behind}, rows.row_from.Goals.{After-as_slice-columns, After-greatest_force, In_ok-push}}}
 use Rattle.lay_spans.proofs.rows.row_from.Goals as goal
 
-columns : (g : _) (c : After-greatest_force g)
+columns : (g : _) (c : After-as_slice-columns g)
     → map (λ s. s.column.now) c.as_slice-columns.result.now ≡ span_columns c.args.starts.now c.args.others.now c.args.a (c.loop-m.m + 1)
 columns g c =
     ap (λ seen. map (λ s. s.column.now) seen) c.as_slice-columns.ensures
@@ -10,10 +11,15 @@ columns g c =
     (let l = c.loop-m.invariant.count in omega arith) (let l = c.loop-m-test.true in omega arith) c.requires.measures.same c.loop-m.invariant.columns
     (c.in_ok-see.ensures ∙ ap (λ r. map (λ s. s.column.now) c.loop-m.seen ++ r) c.measure.ensures)
 
+-- what the search wrote stands where it was lent
+at_is : (g : _) (c : After-greatest_force g)
+    → take c.resize.new.self.len (c.greatest_force.new.at ++ drop (length c.greatest_force.new.at) c.resize.new.self.items) ≡ c.greatest_force.new.at
+at_is g c = take_at c.greatest_force.new.at _ c.resize.new.self.len (c.greatest_force.auto.at ∙ (ap (λ at. length at) c.deref_mut.ensures.value ∙ sym c.resize.new.self.ok.0))
+
 -- no longer span fits
 pub returns-in_default : goal.returns-in_default
 returns-in_default g c =
-    let b = (goal.at.returns-in_default g c).After-greatest_force in
+    let b = (goal.at.returns-in_default g c).After-as_slice-columns in
     stops_at g.C.Spaced.reach_of g.C.Spring.length_of c.args.gaps.now c.args.width c.args.starts.now c.args.others.now (λ b. slice_index_or c.args.marks.now b false)
     c.args.a c.loop-m.m c.loop-m.row c.requires.measures c.requires.inside (let l = c.loop-m-test.true in omega arith) c.loop-m.invariant.count c.loop-m.invariant.each
     (never_stands (λ s. s.column.now) g.C.Spaced.reach_of g.C.Spring.length_of c.args.gaps.now c.args.width c.as_slice-columns.result.now
@@ -51,7 +57,7 @@ module _ (g : _) (c : In_ok-push g)
 
 pub returns-then-marks-m : goal.returns-then-marks-m
 returns-then-marks-m g c =
-    let b = (goal.at.returns-then-marks-m g c).After-greatest_force in
+    let b = (goal.at.returns-then-marks-m g c).After-as_slice-columns in
     let pushed = (goal.at.returns-then-marks-m g c).In_ok-push in
     stops_behind g.C.Spaced.reach_of g.C.Spring.length_of c.args.gaps.now c.args.width c.args.starts.now c.args.others.now (λ b. slice_index_or c.args.marks.now b false)
     c.args.a c.loop-m.m c.push.new.self (let l = c.loop-m-test.true in omega arith) (count g pushed) (let l = c.loop-m.invariant.count in omega arith)
@@ -60,15 +66,53 @@ returns-then-marks-m g c =
 
 pub loop-m-preserved : goal.loop-m-preserved
 loop-m-preserved g c =
-    let b = (goal.at.loop-m-preserved g c).After-greatest_force in
+    let b = (goal.at.loop-m-preserved g c).After-as_slice-columns in
     let pushed = (goal.at.loop-m-preserved g c).In_ok-push in
     let pressed = force g pushed (columns g b) in
     let l = c.loop-m.invariant.count in
+    let lent = (goal.at.loop-m-preserved g c).After-greatest_force in
     record {
       columns = sym (ap (λ seen. map (λ s. s.column.now) seen) c.as_slice-columns.ensures) ∙ columns g b;
       count = count g pushed;
       each = each g pushed (columns g b);
       free = free_more (λ b. slice_index_or c.args.marks.now b false) c.args.a c.loop-m.m (search rules) c.loop-m.invariant.free;
       most = let b = pressed.bound in omega arith;
+      room = ap (λ at. length at) (at_is g lent) ∙ (c.greatest_force.auto.at ∙ (c.deref_mut.ensures.len ∙ (c.in_ok-resize.ensures.len
+          ∙ (sym (length-map c.as_slice-columns.result.now (λ s. s.column.now)) ∙ ap (λ cs. length cs) (columns g b)))));
+      placed = rw (at_is g lent) (subst (λ T. T)
+          (seen_as (λ s. s.column.now) g.C.Spaced.reach_of g.C.Spring.length_of
+          (λ n r l. HasPlaced n r c.args.gaps.now l c.greatest_force.new.placed c.greatest_force.new.at c.greatest_force.new.front)
+          c.as_slice-columns.result.now (span_columns c.args.starts.now c.args.others.now c.args.a (c.loop-m.m + 1)) (columns g b))
+          c.greatest_force.ensures.placed);
       above = λ g past within. (omega arith, pressed.greatest g past within);
     }
+
+pub loop-m-init : goal.loop-m-init
+loop-m-init g c =
+    let e : c.args.a - c.args.a ≡ 0 = omega arith in
+    let none : span_columns c.args.starts.now c.args.others.now c.args.a c.args.a ≡ [] = ap (λ k. flat_map (λ measure. measure) (take k (measures_from c.args.starts.now c.args.others.now c.args.a))) e in
+    record {
+      columns = ap (λ seen. map (λ s. s.column.now) seen) c.in_ok-seen.ensures ∙ sym none;
+      count = let row = ap (λ row. length row) c.new-row.ensures in omega arith;
+      each = λ k l. let row = ap (λ row. length row) c.new-row.ensures in absurd (omega arith);
+      free = λ f l k is. absurd (omega arith);
+      most = omega arith;
+      room = ap (λ at. length at) c.in_ok-at.ensures.items ∙ sym (ap (λ cs. length cs) none);
+      placed = c.none.ensures _ _ _ _ _ _;
+      above = λ f l k. absurd (omega arith);
+    }
+
+pub greatest_force-requires-clause-some : goal.greatest_force-requires-clause-some
+greatest_force-requires-clause-some g c =
+    let count = ap (λ cs. length cs) (columns g (goal.at.greatest_force-requires-clause-some g c).After-as_slice-columns) in
+    let same = length-map c.as_slice-columns.result.now (λ s. s.column.now) in
+    let some = columns_some c.args.starts.now c.args.others.now c.args.a (c.loop-m.m + 1) (let l = c.loop-m.invariant.count in omega arith) (c.requires.measures.begun c.args.a c.requires.inside) in
+    omega (arith, count, same, some)
+
+pub greatest_force-requires-clause-placed : goal.greatest_force-requires-clause-placed
+greatest_force-requires-clause-placed g c =
+    placed_more (λ s. s.column.now) g.C.Spaced.reach_of g.C.Spring.length_of c.args.gaps.now
+    c.loop-m.placed c.loop-m.at.items c.deref_mut.result.now _ c.loop-m.front c.as_slice-columns.result.now c.args.starts.now c.args.others.now c.args.a c.loop-m.m
+    (let l = c.loop-m.invariant.count in omega arith) (let l = c.loop-m-test.true in omega arith) c.requires.measures.same
+    (columns g (goal.at.greatest_force-requires-clause-placed g c).After-as_slice-columns) c.loop-m.invariant.room
+    (c.deref_mut.ensures.value ∙ c.in_ok-resize.ensures.items) c.loop-m.invariant.placed

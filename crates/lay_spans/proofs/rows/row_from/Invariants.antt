@@ -1,4 +1,5 @@
 use Rattle.std.proofs.Common.{◌≡◌, ◌+◌, ◌<◌, ◌≤◌, ℕ, length, map, slice_index, slice_index_or, true, false}
+use Rattle.lay_springs.specs.Place.{reach_at, length_at, HasPlaced}
 use Rattle.lay_spans.specs.{Columns.span_columns, SpanList.StandsAt, SpanList.IsCost}
 use Rattle.lay_spans.proofs.rows.row_from.Given as goal
 
@@ -10,5 +11,8 @@ invariant-loop-m g l = record {
       → IsCost g.C.Spaced.reach_of g.C.Spring.length_of l.gaps l.width l.starts l.others (λ b. slice_index_or l.marks b false) l.a (l.a + 1 + k) (slice_index l.row k);
   free : (f : ℕ) → l.a < f → f < l.m + 1 → slice_index_or l.marks f false ≡ true → ⊥;
   most : l.most ≤ 2048;
+  room : length l.at.items ≡ length (span_columns l.starts l.others l.a l.m);
+  placed : HasPlaced (length (span_columns l.starts l.others l.a l.m)) (reach_at g.C.Spaced.reach_of (span_columns l.starts l.others l.a l.m)) l.gaps
+      (length_at g.C.Spring.length_of (span_columns l.starts l.others l.a l.m)) l.placed l.at.items l.front;
   above : (f : ℕ) → l.most < f → f ≤ 2048 → (l.a < l.m) × (StandsAt g.C.Spaced.reach_of g.C.Spring.length_of l.gaps l.width f (span_columns l.starts l.others l.a l.m) → ⊥);
 }

@@ -16,6 +16,8 @@ loop-low-preserved g c =
       few = let b = tried.below in omega arith;
       short = let s = i.short in omega arith;
       room = let r = i.room in let a = c.too_great.auto.at in omega arith;
+      one_each = let o = i.one_each in let a = c.too_great.auto.front in omega arith;
+      placed = c.too_great.ensures.placed;
       fits = i.fits;
       never = λ f from _ stood. c.in-Some.ensures.never f from stood;
       passes = c.in-Some.ensures.zero;

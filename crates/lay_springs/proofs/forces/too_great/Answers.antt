@@ -1,28 +1,32 @@
-use Rattle.std.proofs.{Common.{◌≡◌, ◌-◌, ◌+◌, ◌<◌, ◌≤◌, ℕ, ℤ, pos, ◌≤ℤ◌, ◌<ℤ◌, length, Some, subst, sym, inl, inr, slice_get, slice_index_or, arith, refl, to_z, of_z, w64}, lemmas.{Bool.cases_lt, Int.ints, Option.slice_get_read}}
-use Rattle.lay_springs.{specs.{Fit.{IsEndOf, EndsAt, CanStand, Passes}, Place.{reach_at, length_at}}, proofs.{Placing.reach_is, Near.end_near, Ends.{length_rises, spring_rises}, Longer.cannot_stand, forces.too_great.Goals.{After-end_of-end, After-lowered}}}
+use Rattle.std.proofs.{Common.{◌≡◌, ◌-◌, ◌+◌, pos, ◌≤ℤ◌, ◌<ℤ◌, length, take, Some, subst, sym, inl, inr, slice_get, slice_index_or, arith, refl, to_z, of_z, w64}, lemmas.{Bool.cases_lt, Int.ints, List.get_or-take, Option.slice_get_read}}
+use Rattle.lay_springs.{specs.{Fit.{IsEndOf, EndsAt, Passes}, Place.{reach_at, length_at}}, proofs.{Placing.reach_is, Near.end_near, Ends.{length_rises, spring_rises}, Longer.cannot_stand, forces.too_great.Goals.{After-end_of-end, After-lowered}}}
 use Rattle.lay_springs.proofs.forces.too_great.Goals as goal
 
 module _ (g : _) (c : After-end_of-end g) where
-  last : (pos 0 ≤ℤ slice_index_or c.settle-tight.new.at (length c.args.cols.now - 1) (pos 0))
-      × (slice_index_or c.settle-tight.new.at (length c.args.cols.now - 1) (pos 0) ≤ℤ pos 281474976710656)
-  last = c.settle-tight.ensures.small (length c.args.cols.now - 1) (let s = c.requires.some in omega arith)
+  last : (pos 0 ≤ℤ slice_index_or c.settle.new.at (length c.args.cols.now - 1) (pos 0))
+      × (slice_index_or c.settle.new.at (length c.args.cols.now - 1) (pos 0) ≤ℤ pos 281474976710656)
+  last = c.settle.ensures.small (length c.args.cols.now - 1) (let s = c.requires.some in omega arith)
 
-  end : IsEndOf (g.C.Spaced.reach_of c.index-cols-last.result) (length c.args.gaps.now) (slice_index_or c.settle-tight.new.at (length c.args.cols.now - 1) (pos 0)) c.end_of-end.result
+  end : IsEndOf (g.C.Spaced.reach_of c.index-cols-last.result) (length c.args.gaps.now) (slice_index_or c.settle.new.at (length c.args.cols.now - 1) (pos 0)) c.end_of-end.result
   end =
       let low = last.0 in
       let high = last.1 in
-      let same : to_z w64 (of_z w64 (slice_index_or c.settle-tight.new.at (length c.args.cols.now - 1) (pos 0))) ≡ slice_index_or c.settle-tight.new.at (length c.args.cols.now - 1) (pos 0) = omega (arith, ints) in
+      let same : to_z w64 (of_z w64 (slice_index_or c.settle.new.at (length c.args.cols.now - 1) (pos 0))) ≡ slice_index_or c.settle.new.at (length c.args.cols.now - 1) (pos 0) = omega (arith, ints) in
       rw same at c.end_of-end.ensures
 
-  last_end : IsEndOf (reach_at g.C.Spaced.reach_of c.args.cols.now (length c.args.cols.now - 1)) (length c.args.gaps.now) (slice_index_or c.settle-tight.new.at (length c.args.cols.now - 1) (pos 0)) c.end_of-end.result
+  last_end : IsEndOf (reach_at g.C.Spaced.reach_of c.args.cols.now (length c.args.cols.now - 1)) (length c.args.gaps.now) (slice_index_or c.settle.new.at (length c.args.cols.now - 1) (pos 0)) c.end_of-end.result
   last_end =
       let col : slice_get c.args.cols.now (length c.args.cols.now - 1) ≡ Some c.index-cols-last.result =
       slice_get_read c.args.cols.now (length c.args.cols.now) (length c.args.cols.now - 1) c.index-cols-last.result refl (let s = c.requires.some in omega arith) c.index-cols-last.is in
-      subst (λ r. IsEndOf r (length c.args.gaps.now) (slice_index_or c.settle-tight.new.at (length c.args.cols.now - 1) (pos 0)) c.end_of-end.result)
+      subst (λ r. IsEndOf r (length c.args.gaps.now) (slice_index_or c.settle.new.at (length c.args.cols.now - 1) (pos 0)) c.end_of-end.result)
       (sym (reach_is g.C.Spaced.reach_of c.args.cols.now (length c.args.cols.now - 1) c.index-cols-last.result col)) end
 
   ends : EndsAt (length c.args.cols.now) (reach_at g.C.Spaced.reach_of c.args.cols.now) c.args.gaps.now (length_at g.C.Spring.length_of c.args.cols.now) c.args.force c.end_of-end.result
-  ends = record { x = c.settle-tight.new.at; place = c.settle-tight.ensures.place; end = last_end }
+  ends = record {
+    x = take (length c.args.cols.now) c.settle.new.at;
+    place = c.settle.ensures.place;
+    end = rw (get_or-take (length c.args.cols.now) c.settle.new.at (length c.args.cols.now - 1) (pos 0) (let s = c.requires.some in omega arith)) last_end;
+  }
 
   past : pos 0 ≤ℤ c.end_of-end.result
   past = let low = last.0 in let p = end.past in omega (arith, ints)
@@ -68,7 +72,7 @@ returns-clause-never g c = λ f from stood.
       | inl less ↦ (
           let is : f + (c.args.force - f) ≡ c.args.force = omega arith in
           let near = end_near (length c.args.cols.now) (reach_at g.C.Spaced.reach_of c.args.cols.now) c.args.gaps.now (length_at g.C.Spring.length_of c.args.cols.now) c.args.force
-          c.settle-tight.result.natural c.settle-tight.result.count c.settle-tight.new.at c.end_of-end.result c.requires.some c.settle-tight.ensures.near (last_end g s)
+          c.settle.result.tight.natural c.settle.result.tight.count c.settle.new.at c.end_of-end.result c.requires.some c.settle.ensures.near (last_end g s)
           f (c.args.force - f) c.args.width is stood in
           let far = c.lowered.ensures.past f (c.args.force - f) is (omega arith) from in
           let high = below g s in

@@ -1,5 +1,5 @@
-use Rattle.std.{proofs.{Common.{◌≡◌, ◌≢◌, ◌+◌, ◌-◌, ◌*◌, ◌/◌, ◌≤◌, ◌<◌, ℕ, ℤ, pos, ◌+ℤ◌, ◌≤ℤ◌, List, length, Some, ap, subst, sym, inl, inr, ◌∙◌, slice_get, slice_index_or, slice_set, to_z, of_z, w64, arith, refl, get_or-set_same, get_or-set_other}, lemmas.{Int.{ints, to_z-of_z}, Option.slice_get_read}}}
-use Rattle.lay_springs.{specs.{Place.{length_at, reach_at, slack, IsPast, StandApart}}, proofs.{Placing.{placed_more, length_is, near_at, reach_is}, Near.next_near, Ends.spring_short, Fronts.{front_clear, front_below, front_more, past_bound}, least.place_next.Goals.{After-set_past-next, After-tightened}}}
+use Rattle.std.{proofs.{Common.{◌≡◌, ◌≢◌, ◌+◌, ◌-◌, ◌*◌, ◌/◌, ◌≤◌, ◌<◌, ℕ, ℤ, pos, ◌+ℤ◌, ◌≤ℤ◌, List, length, ap, subst, sym, inl, inr, ◌∙◌, slice_index_or, slice_set, to_z, of_z, w64, arith, refl, get_or-set_same, get_or-set_other}, lemmas.{Int.{ints, to_z-of_z}, Option.slice_get_read}}}
+use Rattle.lay_springs.{specs.{Place.{length_at, reach_at, slack, IsPast, StandApart}}, proofs.{Placing.{placed_more, length_is, near_at, reach_is}, Near.next_near, Ends.spring_short, Longer.fewer_apart, Fronts.{front_clear, front_below, front_more, past_bound}, least.place_next.Goals.{After-set_past-next, After-tightened}}}
 use Rattle.lay_springs.proofs.least.place_next.Goals as goal
 
 module _ (g : _) (c : After-set_past-next g) where
@@ -42,7 +42,7 @@ module _ (g : _) (c : After-set_past-next g) where
       let from = c.after.ensures.least (pos (1048576 + 3145728 * c.args.j)) (omega (arith, ints, low, high)) (omega (arith, ints, low, high)) in
       c.set_past-next.ensures.least (pos (1048576 + 3145728 * c.args.j)) (omega (arith, ints))
       (subst (λ r. IsPast r c.args.gaps.now (length c.args.gaps.now) c.args.front.now (pos (1048576 + 3145728 * c.args.j))) col_is
-      (past_bound (length c.args.cols.now) _ c.args.gaps.now _ _ _ _ c.args.j c.args.at.now c.args.front.now c.requires.placed c.requires.fronts
+      (past_bound _ c.args.gaps.now _ _ _ _ c.args.j c.args.at.now c.args.front.now c.requires.placed c.requires.fronts
       (λ k lane lt. near_at g.C.Spaced.reach_of c.args.cols.now _ lane (λ col. g.met.C.Spaced.is_near col lane (let l = c.requires.lanes in omega arith)) k)
       c.requires.narrow))
 
@@ -53,7 +53,7 @@ module _ (g : _) (c : After-set_past-next g) where
   begins = omega (arith, ints, low, (past).0)
 
   -- the column isn't past where it stands in a list at most so far below, nor past where the spring ends
-  from_near : (weak : ℕ → ℕ) (y : List ℤ) (d : ℕ) → StandApart (length c.args.cols.now) (reach_at g.C.Spaced.reach_of c.args.cols.now) c.args.gaps.now weak y
+  from_near : (weak : ℕ → ℕ) (y : List ℤ) (d : ℕ) → StandApart (c.args.j + 1) (reach_at g.C.Spaced.reach_of c.args.cols.now) c.args.gaps.now weak y
       → ((k : ℕ) → k < c.args.j → slice_index_or c.args.at.now k (pos 0) ≤ℤ (slice_index_or y k (pos 0) +ℤ pos d))
       → (w : ℤ) → (slice_index_or y c.args.j (pos 0) +ℤ pos d) ≤ℤ w → (slice_index_or c.args.at.now (c.args.j - 1) (pos 0) +ℤ pos c.length-spring.result) ≤ℤ w → v ≤ℤ w
   from_near weak y d h near w up spring =
@@ -63,7 +63,7 @@ module _ (g : _) (c : After-set_past-next g) where
       let from = c.after.ensures.least w (omega (arith, ints, low, high)) (omega (arith, ints, low, high)) in
       c.set_past-next.ensures.least w (rw (to_z-of_z w64 c.after.result (record { sfits = c.after.type_inv })) from)
       (subst (λ r. IsPast r c.args.gaps.now (length c.args.gaps.now) c.args.front.now w) col_is
-      (front_below (length c.args.cols.now) _ c.args.gaps.now _ _ _ _ c.args.j c.args.at.now c.args.front.now c.requires.placed c.requires.fronts weak y d w c.requires.inside h near up))
+      (front_below _ c.args.gaps.now _ _ _ _ c.args.j c.args.at.now c.args.front.now c.requires.placed c.requires.fronts weak y d w h near up))
 
 pub set_past-next-requires-clause-near : goal.set_past-next-requires-clause-near
 set_past-next-requires-clause-near g c =
@@ -85,17 +85,17 @@ returns-clause-placed g c =
     let s = (goal.at.returns-clause-placed g c).After-set_past-next in
     let t = c.tightened.ensures in
     let z : c.args.j - 1 + 1 ≡ c.args.j = omega arith in
-    rw (same g s) (placed_more (length c.args.cols.now) _ c.args.gaps.now _ c.args.force c.args.tight.natural c.args.tight.count c.tightened.result.natural c.tightened.result.count
+    rw (same g s) (placed_more _ c.args.gaps.now _ c.args.force c.args.tight.natural c.args.tight.count c.tightened.result.natural c.tightened.result.count
     c.args.at.now c.args.j (v g s) c.requires.past (omega arith) c.requires.placed
     (elim t [ inl h ↦ rw h.1 (omega arith) | inr h ↦ rw h.1 (omega arith) ])
     (elim t [ inl h ↦ rw h.2 (omega arith) | inr h ↦ rw h.2 (omega arith) ])
     (λ k q. let z : c.args.j - 1 ≡ k = omega arith in rw (← z) (past g s).0)
     (λ k q. let z : c.args.j - 1 ≡ k = omega arith in rw (← z, spring_is g s) (past g s).1)
-    (front_clear (length c.args.cols.now) _ c.args.gaps.now _ _ _ _ c.args.j c.args.at.now c.args.front.now c.requires.placed c.requires.fronts (v g s)
+    (front_clear _ c.args.gaps.now _ _ _ _ c.args.j c.args.at.now c.args.front.now c.requires.placed c.requires.fronts (v g s)
     (subst (λ r. IsPast r c.args.gaps.now (length c.args.gaps.now) c.args.front.now (v g s)) (sym (col_is g s)) c.set_past-next.ensures.clear))
     (λ weak drop y e apart.
     let len : c.length-spring.result ≡ c.length-natural.result * (weak + drop) / 256 = sym (spring_is g s) ∙ (spring_at g s c.args.force ∙ ap (λ f. c.length-natural.result * f / 256) (sym e)) in
-    let near = c.requires.placed.near weak drop y e apart in
+    let near = c.requires.placed.near weak drop y e (fewer_apart c.args.j (c.args.j + 1) _ _ c.args.gaps.now _ _ y (omega arith) (λ i lane l. refl) (λ i l. refl) apart) in
     next_near c.args.tight.natural c.args.tight.count c.tightened.result.natural c.tightened.result.count c.length-natural.result weak drop
     (slice_index_or c.args.at.now (c.args.j - 1) (pos 0)) (v g s) (slice_index_or y (c.args.j - 1) (pos 0)) (slice_index_or y c.args.j (pos 0))
     (rw (before_is g s, same g s, len) at t) (near (c.args.j - 1) (omega arith)) (rw (z, spring_at g s weak) at (apart.springs (c.args.j - 1) (omega arith))) (rw len at (past g s).1)

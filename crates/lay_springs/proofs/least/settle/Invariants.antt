@@ -1,10 +1,12 @@
-use Rattle.std.proofs.Common.{◌*◌, ◌≤◌, length}
+use Rattle.std.proofs.Common.{◌*◌, ◌<◌, ◌≤◌, length}
 use Rattle.lay_springs.specs.Place.{reach_at, length_at, IsPlacedTo, IsFront}
 use Rattle.lay_springs.proofs.least.settle.Given as goal
 
 abbrev pub invariant-loop-j : goal.invariant-loop-j
 invariant-loop-j g l = record {
+  past : 0 < l.j;
+  within : l.j ≤ length l.cols;
   tight : (l.tight.natural ≤ 4096 * l.j) × (l.tight.count ≤ l.j);
-  placed : IsPlacedTo (length l.cols) l.j (reach_at g.C.Spaced.reach_of l.cols) l.gaps (length_at g.C.Spring.length_of l.cols) l.force l.tight.natural l.tight.count l.at;
+  placed : IsPlacedTo l.j (reach_at g.C.Spaced.reach_of l.cols) l.gaps (length_at g.C.Spring.length_of l.cols) l.force l.tight.natural l.tight.count l.at;
   front : IsFront l.j (reach_at g.C.Spaced.reach_of l.cols) (length l.gaps) l.at l.front;
 }

@@ -1,20 +1,26 @@
-use Rattle.std.proofs.{Common.length, Common.arith, Common.refl, lemmas.Int.ints}
-use Rattle.lay_springs.{specs.Place.{reach_at, length_at}, proofs.{Ends.end_down, Moved.set_apart}}
+use Rattle.std.proofs.{Common.{length, arith, refl, subst}, lemmas.{Int.ints, List.take_all}}
+use Rattle.lay_springs.{specs.Place.{reach_at, length_at, IsPlace}, proofs.{Ends.end_down, Moved.set_apart, margin.set.Goals.After-settle}}
 use Rattle.lay_springs.proofs.margin.set.Goals as goal
+
+place : (g : _) (c : After-settle g)
+    → IsPlace (length c.args.cols.now) (reach_at g.C.Spaced.reach_of c.args.cols.now) c.args.gaps.now (length_at g.C.Spring.length_of c.args.cols.now c.args.force) c.settle.new.at
+place g c =
+    subst (λ at. IsPlace (length c.args.cols.now) (reach_at g.C.Spaced.reach_of c.args.cols.now) c.args.gaps.now (length_at g.C.Spring.length_of c.args.cols.now c.args.force) at)
+    (take_all (length c.args.cols.now) c.settle.new.at (let same = c.settle.auto.at in let room = c.requires.room in omega arith)) c.settle.ensures.place
 
 pub rest_of-rest-requires-clause-fits : goal.rest_of-rest-requires-clause-fits
 rest_of-rest-requires-clause-fits g c = λ e end.
     let f = c.requires.fits in
     let d = end_down (length c.args.cols.now) (reach_at g.C.Spaced.reach_of c.args.cols.now) c.args.gaps.now (length_at g.C.Spring.length_of c.args.cols.now) c.args.force c.args.force e f.0 c.requires.some
-    (λ i. omega arith) (record { x = c.settle.new.at; place = c.settle.ensures.place; end = end }) f.1 in
+    (λ i. omega arith) (record { x = c.settle.new.at; place = place g (goal.at.rest_of-rest-requires-clause-fits g c).After-settle; end = end }) f.1 in
     let w = f.2 in
     omega (arith, ints)
 
 pub returns-then-cols-eq1-clause-set : goal.returns-then-cols-eq1-clause-set
 returns-then-cols-eq1-clause-set g c = record {
   x = c.settle.new.at;
-  place = c.settle.ensures.place;
-  count = c.settle.ensures.place.count;
+  place = place g (goal.at.returns-then-cols-eq1-clause-set g c).After-settle;
+  count = (place g (goal.at.returns-then-cols-eq1-clause-set g c).After-settle).count;
   alone = λ _. refl;
   moved = λ l. absurd (omega arith);
 }
@@ -22,12 +28,13 @@ returns-then-cols-eq1-clause-set g c = record {
 pub returns-clause-set : goal.returns-clause-set
 returns-clause-set g c =
     let r = c.rest_of-rest.ensures in
+    let placed = place g (goal.at.returns-clause-set g c).After-settle in
     record {
       x = c.settle.new.at;
-      place = c.settle.ensures.place;
-      count = omega arith;
+      place = placed;
+      count = let count = placed.count in omega arith;
       alone = λ l. absurd (omega arith);
-      moved = λ l. (r.0, c.rest_of-rest.result, r.1, r.2, λ k l. rw (c.settle.ensures.place.count) at (c.spread.ensures k (omega arith)));
+      moved = λ l. (r.0, c.rest_of-rest.result, r.1, r.2, λ k l. rw placed.count at (c.spread.ensures k (omega arith)));
     }
 
 pub returns-then-cols-eq1-clause-apart : goal.returns-then-cols-eq1-clause-apart
@@ -37,3 +44,9 @@ returns-then-cols-eq1-clause-apart g c =
 pub returns-clause-apart : goal.returns-clause-apart
 returns-clause-apart g c =
     set_apart (length c.args.cols.now) (reach_at g.C.Spaced.reach_of c.args.cols.now) c.args.gaps.now (length_at g.C.Spring.length_of c.args.cols.now) c.args.width c.args.force _ c.requires.some (returns-clause-set g c)
+
+pub settle-requires-clause-placed : goal.settle-requires-clause-placed
+settle-requires-clause-placed g c = c.none.ensures _ _ _ _ _ _
+
+pub spread-requires-clause-small : goal.spread-requires-clause-small
+spread-requires-clause-small g c = λ k l. c.settle.ensures.small k (let same = c.settle.auto.at in let room = c.requires.room in omega arith)

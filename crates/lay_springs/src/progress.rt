@@ -1,0 +1,36 @@
+ghost use Rattle.std.specs.Prelude.{ℕ, ℤ, Option, List};
+
+/// The springs that alone hold neighbors apart: the sum of their natural lengths, and how many they are.
+#[derive(Clone, Copy)]
+pub(crate) struct Tight {
+    pub(crate) natural: u64,
+    pub(crate) count: u64,
+}
+
+/// How far columns are placed: at which force, how many from the first on, and the springs that
+/// alone hold those apart.
+#[derive(Clone, Copy)]
+pub struct Progress {
+    pub(crate) force: u16,
+    pub(crate) count: usize,
+    pub(crate) tight: Tight,
+}
+
+impl Progress {
+    ghost use Rattle.lay_springs.specs.{declared.traits.Reach.Reach, Place.HasPlaced};
+
+    /// No column is placed.
+    pub fn none() -> Progress
+        ensures { (n : ℕ) (reach : ℕ → ℕ → Option Reach) (gaps : List ℕ) (spring : ℕ → ℕ → ℕ) (at front : List ℤ)
+            → HasPlaced n reach gaps spring result at front }
+    {
+        Progress {
+            force: 0,
+            count: 0,
+            tight: Tight {
+                natural: 0,
+                count: 0,
+            },
+        }
+    }
+}
