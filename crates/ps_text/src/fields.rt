@@ -61,6 +61,7 @@ pub struct LineEnd {
 }
 
 impl LineEnd {
+    /// The end of the lines of a staff's marks, with the height of the staff, in u.
     #[tactic(auto, unfolding(glyph_paths::specs::Procedure::numbers))]
     pub fn new(y: i64) -> LineEnd
         ensures { result.y ≡ y }

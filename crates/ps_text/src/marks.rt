@@ -1,8 +1,7 @@
 use mus_units::{Glyph, Size, Text, Way};
 
 /// A mark of a staff, as a page has it. Abscissas `x`, `x1`, `x2` are absolute;
-/// `dx` is from `x`, and `dy`, `from` and `to` are above the base of the staff.
-/// All are in u.
+/// `dx` is from `x`, and `dy`, `from` and `to` are above the base of the staff. All are in u.
 #[derive(Drop)]
 pub enum PageMark {
     /// A glyph, drawn `dx`, `dy` from its anchor.
@@ -35,8 +34,7 @@ pub enum PageMark {
         from: i32,
         to: i32,
     },
-    /// A slur or a tie from one height to another, whose inner points are
-    /// `bulge` above those.
+    /// A slur or a tie from one height to another, whose inner points are `bulge` above those.
     Arc {
         x1: i64,
         x2: i64,

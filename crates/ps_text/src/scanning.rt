@@ -13,8 +13,7 @@ fn field_len(bytes: &[u8]) -> usize
     bytes.iter().take_while(|b| **b != b' ').count()
 }
 
-/// The number that these bytes are; they may spell it in another way than a
-/// page does.
+/// The number that these bytes are; they may spell it in another way than a page does.
 fn parsed(bytes: &[u8]) -> Option<i64>
     ensures { (z : ℤ) → IsNumber z → bytes.now ≡ signed_decimal z → result ≡ Some z }
 {
@@ -43,8 +42,7 @@ pub fn take_number(bytes: &[u8]) -> Option<(i64, &[u8])>
     }
 }
 
-/// The numbers at the front of these bytes, each with a space after it, and
-/// what follows them.
+/// The numbers at the front of these bytes, each with a space after it, and what follows them.
 pub fn take_numbers(alloc: Global, bytes: &[u8]) -> Result<(Row<i64>, &[u8]), Memory>
     ensures { IfOk result (λ r. (zs : List ℤ) (name : List ℕ) → AllByRecursion IsNumber zs → list_all is_field name ≡ true → bytes.now ≡ numbers zs ++ name → (r.0 ≡ zs) × (r.1.now ≡ name)) }
 {

@@ -26,8 +26,7 @@ fn is_special(b: u8) -> bool
     b == b'(' || b == b')' || b == b'\\'
 }
 
-/// The byte that three octal digits show, the first of which is `a`, and what
-/// follows them.
+/// The byte that three octal digits show, the first of which is `a`, and what follows them.
 fn take_octal(a: u8, bytes: &[u8]) -> Option<(u8, &[u8])>
     ensures shorter { IfSome result (λ r. length r.1.now < length bytes.now) }
     ensures reads { (z : ℕ) (rest : List ℕ) → IsOctal z rest a bytes.now → IsSomeAnd result (λ r. (r.0 ≡ z) × (r.1.now ≡ rest)) }
@@ -41,8 +40,7 @@ fn take_octal(a: u8, bytes: &[u8]) -> Option<(u8, &[u8])>
     }
 }
 
-/// The byte that stands after a backslash, as it is or as three octal digits,
-/// and what follows it.
+/// The byte that stands after a backslash, as it is or as three octal digits, and what follows it.
 fn take_escaped(bytes: &[u8]) -> Option<(u8, &[u8])>
     ensures shorter { IfSome result (λ r. length r.1.now < length bytes.now) }
     ensures reads { (b : ℕ) (rest : List ℕ) → IsTrue (is_shown b) → backslash ∷ bytes.now ≡ shown b ++ rest → IsSomeAnd result (λ r. (r.0 ≡ b) × (r.1.now ≡ rest)) }
@@ -59,8 +57,7 @@ fn take_escaped(bytes: &[u8]) -> Option<(u8, &[u8])>
     }
 }
 
-/// The byte that the front of words shows, and what follows it; none where
-/// the words end.
+/// The byte that the front of words shows, and what follows it; none where the words end.
 fn take_shown(bytes: &[u8]) -> Option<(u8, &[u8])>
     ensures shorter { IfSome result (λ r. length r.1.now < length bytes.now) }
     ensures reads { (b : ℕ) (rest : List ℕ) → IsTrue (is_shown b) → bytes.now ≡ shown b ++ rest → IsSomeAnd result (λ r. (r.0 ≡ b) × (r.1.now ≡ rest)) }
@@ -76,8 +73,7 @@ fn take_shown(bytes: &[u8]) -> Option<(u8, &[u8])>
     }
 }
 
-/// The words at the front of these bytes, and what stands from their closing
-/// parenthesis on.
+/// The words at the front of these bytes, and what stands from their closing parenthesis on.
 pub fn take_words(alloc: Global, bytes: &[u8]) -> Result<(Text, &[u8]), Memory>
     ensures { IfOk result (λ r. (words : List ℕ) (tail : List ℕ) → IsTrue (list_all is_shown words) → bytes.now ≡ flat_map shown words ++ close_parenthesis ∷ tail → (r.0 ≡ words) × (r.1.now ≡ close_parenthesis ∷ tail)) }
 {
