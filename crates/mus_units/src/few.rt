@@ -1,4 +1,4 @@
-ghost use Rattle.std.specs.Prelude.{◌≡◌, ◌∷◌, ◌++◌, [], IfOk, OnOk};
+ghost use Rattle.std.specs.Prelude.{◌≡◌, ◌∷◌, [], IfOk};
 
 use crate::text::{Memory, Row};
 use std::alloc::Global;
@@ -49,26 +49,6 @@ impl<T> Few<T> {
             Held::Row(values) => values.as_slice(),
         }
     }
-
-    /// Moves all of them to the end of a row.
-    pub fn move_to(self, row: &mut Row<T>) -> Result<(), Memory>
-    where
-        T: Drop,
-        ensures { OnOk result (row.new ≡ row.old ++ self) }
-    {
-        match self.held {
-            Held::One(values) => row.push(only(values)),
-            Held::Row(values) => row.append(values),
-        }
-    }
-}
-
-/// The one value of an array.
-fn only<T: Drop>(values: [T; 1]) -> T
-    ensures { values ≡ result ∷ [] }
-{
-    let [value] = values;
-    value
 }
 
 impl<T: Copy> Few<T> {

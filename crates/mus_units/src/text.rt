@@ -220,11 +220,12 @@ impl<T> Row<T> {
         Ok(())
     }
 
-    /// Moves the values of another row to its end.
+    /// Moves the values of another row to its end; at an error the row is as it was.
     pub fn append(&mut self, more: Row<T>) -> Result<(), Memory>
     where
         T: Drop,
-        ensures { OnOk result (self.new ≡ self.old ++ more) }
+        ensures ok { OnOk result (self.new ≡ self.old ++ more) }
+        ensures err { OnErr result (self.new ≡ self.old) }
     {
         let mut items = more.items;
         self.items.append(&mut items)?;
