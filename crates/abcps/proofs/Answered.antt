@@ -79,14 +79,13 @@ run_of words c i o e Status.Usage asked r = absurd r.2
 run_of words c i o e s asked r = (c, asked, r)
 
 -- an input was read to its end, and what was asked with it was answered
-pub read_obeyed : (c : Command) (before after : Option (List ℕ)) (count_before count_after limit : ℕ) (text shown : List ℕ) (o e : Stream) (s : Status)
-    → IsReader c → limit ≡ limit_of c → Consumes before after text → IsAtEnd after → length text ≤ limit → count_after ≡ count_before → shown ≡ text
-    → IsAnswer c s shown o e
+pub read_obeyed : (c : Command) (before after : Option (List ℕ)) (count_before count_after limit : ℕ) (text : List ℕ) (o e : Stream) (s : Status)
+    → IsReader c → limit ≡ limit_of c → Consumes before after text → IsAtEnd after → length text ≤ limit → count_after ≡ count_before → IsAnswer c s text o e
     → IsObeyed c s (record { before = before; after = after; count_before = count_before; count_after = count_after }) o e
-read_obeyed c before after count_before count_after limit text shown o e s reads is taken whole within count same r =
+read_obeyed c before after count_before count_after limit text o e s reads is taken whole within count r =
     let i : Stream = record { before = before; after = after; count_before = count_before; count_after = count_after } in
     let read : ReadAll (limit_of c) i text = record { taken = taken; whole = whole; within = subst (λ n. length text ≤ n) is within; count = count } in
-    obeyed_of c i o e text s (read_of c i text reads read) (subst (λ t. IsAnswer c s t o e) same r)
+    obeyed_of c i o e text s (read_of c i text reads read) r
 
 -- a stream that is as it was
 abbrev pub untouched : Option (List ℕ) → ℕ → Stream

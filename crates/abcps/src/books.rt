@@ -9,11 +9,10 @@ ghost use Rattle.abcps.specs.{Books.{AreSet, IsTried, paper_in, status_of, syste
 ghost use Rattle.abcps_words.specs.declared.command.Command.{Command};
 
 use crate::pressing::status_if;
-use crate::printing::print_book;
+use crate::printing::{cut_text, print_book};
 use crate::status::Status;
 use crate::telling::{end, write_both};
 use abc_header::{Paper, read_paper};
-use abc_lines::cut_book;
 use eng_halves::Jobs;
 use eng_io::{MemSink, Sink};
 use gen_book::make;
@@ -41,16 +40,16 @@ struct SetBook {
 fn set_text<R: Threads + Sync, G: Gate + Sync>(
     rt: &R,
     alloc: Global,
-    text: &[u8],
+    text: Text,
     how: How,
     gate: &G,
 ) -> Result<SetBook, Memory>
-    requires within { length text.now ≤ 2 ^ 30 }
-    ensures paper { IfOk result (λ set. set.paper ≡ paper_in text.now) }
+    requires within { length text ≤ 2 ^ 30 }
+    ensures paper { IfOk result (λ set. set.paper ≡ paper_in text) }
     ensures good { IfOk result (λ set. IsGoodPaper set.paper) }
-    ensures set { IfOk result (λ set. AreSet (manner_of how) text.now set.outcomes) }
+    ensures set { IfOk result (λ set. AreSet (manner_of how) text set.outcomes) }
 {
-    let book = cut_book(alloc, text)?;
+    let book = cut_text(alloc, text)?;
     let paper = read_paper(&book);
     let outcomes = set_all(rt, alloc, &book, &paper, how, how.jobs, gate)?;
     Ok(SetBook { paper, outcomes })
@@ -76,15 +75,15 @@ fn reports_of(alloc: Global, outcomes: &[Outcome]) -> Result<Text, Memory>
 pub(crate) fn set<R: Threads + Sync, O: Sink, E: Sink, G: Gate + Sync>(
     rt: &R,
     alloc: Global,
-    text: &[u8],
+    text: Text,
     how: How,
     even: bool,
     output: &mut O,
     errors: &mut E,
     gate: &G,
 ) -> Status
-    requires within { length text.now ≤ 8388608 }
-    ensures { IsAnswer (Command.Set how.flow how.jobs.count how.by even) result text.now (observed O.taken O.faults output.old output.new) (observed E.taken E.faults errors.old errors.new) }
+    requires within { length text ≤ 8388608 }
+    ensures { IsAnswer (Command.Set how.flow how.jobs.count how.by even) result text (observed O.taken O.faults output.old output.new) (observed E.taken E.faults errors.old errors.new) }
 {
     match print_book(rt, alloc, text, how, even, output, gate) {
         Ok(printed) => end(errors, printed.told.as_slice(), printed.status),
@@ -132,14 +131,14 @@ fn write_systems<O: Sink, E: Sink>(
 pub(crate) fn systems<R: Threads + Sync, O: Sink, E: Sink>(
     rt: &R,
     alloc: Global,
-    text: &[u8],
+    text: Text,
     how: How,
     table: bool,
     output: &mut O,
     errors: &mut E,
 ) -> Status
-    requires within { length text.now ≤ 8388608 }
-    ensures { IsAnswer (Command.Systems how.flow table how.by) result text.now (observed O.taken O.faults output.old output.new) (observed E.taken E.faults errors.old errors.new) }
+    requires within { length text ≤ 8388608 }
+    ensures { IsAnswer (Command.Systems how.flow table how.by) result text (observed O.taken O.faults output.old output.new) (observed E.taken E.faults errors.old errors.new) }
 {
     let Ok(book) = set_text(rt, alloc, text, how, &Open) else {
         return Status::Memory;
@@ -231,7 +230,7 @@ pub(crate) fn trial<R: Threads + Sync, O: Sink, E: Sink, G: Gate + Sync>(
         return Status::Memory;
     }
     let how = How { flow, by: 0, jobs };
-    let Ok(book) = set_text(rt, alloc, text.as_slice(), how, gate) else {
+    let Ok(book) = set_text(rt, alloc, text, how, gate) else {
         return Status::Memory;
     };
     write_trial(

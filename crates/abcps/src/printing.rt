@@ -1,5 +1,5 @@
-ghost use Rattle.std.specs.Prelude.{◌≤◌, ◌^◌, ◌++◌, Bool, List, All, IfOk, OnOk, length};
-ghost use Rattle.abc_lines.specs.{declared.book.TuneText.TuneText, Good.IsGoodTune};
+ghost use Rattle.std.specs.Prelude.{◌≡◌, ◌≤◌, ◌^◌, ◌++◌, Bool, List, All, IfOk, OnOk, length};
+ghost use Rattle.abc_lines.specs.{declared.book.TuneText.TuneText, Books.book_of, Good.{IsGoodBook, IsGoodTune}};
 ghost use Rattle.abc_header.specs.{Good.IsGoodDefaults, Papers.{IsGoodPaper, height_of}};
 ghost use Rattle.set_tune.specs.Terms.{manner_of, terms_of};
 ghost use Rattle.set_book.specs.{declared.outcome.Outcome.Outcome, Outcomes.AreOutcomes};
@@ -10,10 +10,10 @@ use crate::dropping::give_up;
 use crate::pressing::{Printed, Running, begin_run, end_run, take, write_done};
 use crate::status::Status;
 use abc_header::{Defaults, Paper, read_defaults, read_paper};
-use abc_lines::{TuneText, cut_book};
+use abc_lines::{Book, TuneText, cut_book};
 use eng_io::Sink;
 use lay_pages::Block;
-use mus_units::{Memory, Row};
+use mus_units::{Memory, Row, Text};
 use set_book::{Gate, set_tunes};
 use set_pages::{Plan, even_plan, gather_blocks};
 use set_tune::How;
@@ -156,21 +156,30 @@ fn print_tunes<R: Threads + Sync, O: Sink, G: Gate + Sync>(
     Ok(run)
 }
 
+/// The book of a text, which isn't held any longer.
+pub(crate) fn cut_text(alloc: Global, text: Text) -> Result<Book, Memory>
+    requires { length text ≤ 2 ^ 30 }
+    ensures book { IfOk result (λ book. book ≡ book_of text) }
+    ensures good { IfOk result IsGoodBook }
+{
+    cut_book(alloc, text.as_slice())
+}
+
 /// Sets the tunes of a book and writes its document, whose pages go out as they fill. For even pages
 /// the tunes are set twice: first for the heights of their blocks, and then to be written.
 pub(crate) fn print_book<R: Threads + Sync, O: Sink, G: Gate + Sync>(
     rt: &R,
     alloc: Global,
-    text: &[u8],
+    text: Text,
     how: How,
     even: bool,
     output: &mut O,
     gate: &G,
 ) -> Result<Printed, Status>
-    requires within { length text.now ≤ 2 ^ 30 }
-    ensures { IsPrinted (manner_of how) even text.now (observed O.taken O.faults output.old output.new) result }
+    requires within { length text ≤ 2 ^ 30 }
+    ensures { IsPrinted (manner_of how) even text (observed O.taken O.faults output.old output.new) result }
 {
-    let book = cut_book(alloc, text)?;
+    let book = cut_text(alloc, text)?;
     let paper = read_paper(&book);
     let defaults = read_defaults(alloc, &book)?;
     let tunes = book.tunes.as_slice();

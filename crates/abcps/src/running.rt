@@ -13,6 +13,7 @@ use crate::telling::tell_usage;
 use abcps_words::{Command, asks_one, command_of};
 use eng_halves::Jobs;
 use eng_io::{ReadError, Sink, Source, read_all};
+use mus_units::Text;
 use ps_machine::one_answer;
 use set_book::{Gate, one_outcome};
 use set_lists::no_way_is_exact;
@@ -25,15 +26,15 @@ fn answer<R: Threads + Sync, O: Sink, E: Sink, G: Gate + Sync>(
     rt: &R,
     alloc: Global,
     command: Command,
-    text: &[u8],
+    text: Text,
     output: &mut O,
     errors: &mut E,
     gate: &G,
 ) -> Status
     requires reader { IsReader command }
     requires good { IsGoodCommand command }
-    requires within { length text.now ≤ limit_of command }
-    ensures { IsAnswer command result text.now (observed O.taken O.faults output.old output.new) (observed E.taken E.faults errors.old errors.new) }
+    requires within { length text ≤ limit_of command }
+    ensures { IsAnswer command result text (observed O.taken O.faults output.old output.new) (observed E.taken E.faults errors.old errors.new) }
 {
     match command {
         Command::Set {
@@ -51,10 +52,10 @@ fn answer<R: Threads + Sync, O: Sink, E: Sink, G: Gate + Sync>(
             let how = How { flow, by, jobs };
             systems(rt, alloc, text, how, table, output, errors)
         }
-        Command::Inspect => inspect(alloc, text, output, errors),
-        Command::Check => check(alloc, text, output, errors),
-        Command::Paint => paint(alloc, text, output, errors),
-        Command::Hear { spread } => hear(alloc, spread, text, output, errors),
+        Command::Inspect => inspect(alloc, text.as_slice(), output, errors),
+        Command::Check => check(alloc, text.as_slice(), output, errors),
+        Command::Paint => paint(alloc, text.as_slice(), output, errors),
+        Command::Hear { spread } => hear(alloc, spread, text.as_slice(), output, errors),
         Command::Make { .. } | Command::Trial { .. } => unreachable!(),
     }
 }
@@ -77,7 +78,7 @@ fn read_and_answer<R: Threads + Sync, S: Source, O: Sink, E: Sink, G: Gate + Syn
         Err(ReadError::Fault) => Status::ReadFault,
         Err(ReadError::TooLong) => Status::TooLong,
         Err(ReadError::Memory) => Status::Memory,
-        Ok(text) => answer(rt, alloc, command, text.as_slice(), output, errors, gate),
+        Ok(text) => answer(rt, alloc, command, text, output, errors, gate),
     }
 }
 

@@ -9,12 +9,12 @@ use Rattle.set_pages.proofs.Readying.{book_counted}
 pub print_tunes-requires-clause-counted : goal.print_tunes-requires-clause-counted
 print_tunes-requires-clause-counted g c κs within =
     let same = c.as_slice-tunes.ensures ∙ ap (λ (b : Book). b.tunes) c.in_ok-book.ensures.book in
-    subst (λ tunes. All IsCounted tunes) (sym same) (book_counted c.args.text.now)
+    subst (λ tunes. All IsCounted tunes) (sym same) (book_counted c.args.text)
 
 pub plan_tunes-requires-clause-counted : goal.plan_tunes-requires-clause-counted
 plan_tunes-requires-clause-counted g c κs within =
     let same = c.as_slice-tunes.ensures ∙ ap (λ (b : Book). b.tunes) c.in_ok-book.ensures.book in
-    subst (λ tunes. All IsCounted tunes) (sym same) (book_counted c.args.text.now)
+    subst (λ tunes. All IsCounted tunes) (sym same) (book_counted c.args.text)
 
 pub print_tunes-requires-clause-planned : goal.print_tunes-requires-clause-planned
 print_tunes-requires-clause-planned g c κs within = (c.args.even, c.in_ok-plan.ensures)
@@ -23,13 +23,13 @@ pub returns-in_err-plan : goal.returns-in_err-plan
 returns-in_err-plan g c =
     let is : c.from_residual-in_err-plan.result ≡ Err Status.Memory = search rules in
     let quiet : IsQuiet (stream (g.O.Sink.taken c.args.output.now) (g.O.Sink.taken c.args.output.now) (g.O.Sink.faults c.args.output.now) (g.O.Sink.faults c.args.output.now)) = search rules in
-    subst (λ r. IsPrinted (manner_of c.args.how) c.args.even c.args.text.now (stream (g.O.Sink.taken c.args.output.now) (g.O.Sink.taken c.args.output.now) (g.O.Sink.faults c.args.output.now) (g.O.Sink.faults c.args.output.now)) r) (sym is)
+    subst (λ r. IsPrinted (manner_of c.args.how) c.args.even c.args.text (stream (g.O.Sink.taken c.args.output.now) (g.O.Sink.taken c.args.output.now) (g.O.Sink.faults c.args.output.now) (g.O.Sink.faults c.args.output.now)) r) (sym is)
     (unbegun refl quiet)
 
 pub returns-in_err-run : goal.returns-in_err-run
 returns-in_err-run g c =
     let is : c.from_residual-in_err-run.result ≡ Err c.in_err-run.field-0.0 = search rules in
-    let text = c.args.text.now in
+    let text = c.args.text in
     let good : IsGoodPaper (paper_in text) =
     of_book (λ defaults paper tunes. IsGoodPaper paper) text c.in_ok-book.book c.read_paper-paper.result c.in_ok-defaults.defaults c.as_slice-tunes.result.now c.in_ok-book.ensures.book c.read_paper-paper.ensures.value
     c.in_ok-defaults.ensures.value c.as_slice-tunes.ensures c.read_paper-paper.ensures.good in
@@ -45,7 +45,7 @@ returns-in_err-run g c =
 
 pub returns : goal.returns
 returns g c =
-    let text = c.args.text.now in
+    let text = c.args.text in
     let good : IsGoodPaper (paper_in text) =
     of_book (λ defaults paper tunes. IsGoodPaper paper) text c.in_ok-book.book c.read_paper-paper.result c.in_ok-defaults.defaults c.as_slice-tunes.result.now c.in_ok-book.ensures.book c.read_paper-paper.ensures.value
     c.in_ok-defaults.ensures.value c.as_slice-tunes.ensures c.read_paper-paper.ensures.good in
