@@ -2,8 +2,8 @@
 use Rattle.std.{proofs.{Common.{◌≡◌, ◌∙◌, ℕ, ℤ, pos, ◌+◌, Bool, true, false, if◌then◌else◌, List, [], ◌∷◌, ◌++◌, length, Option, Some, None, refl, ap, subst}, lemmas.List.{length-map, length-replicate, length-set}}, specs.{List.{AllByRecursion, flat_map, slice_set}, Prelude.replicate}}
 use Rattle.mus_units.specs.{declared.note.Wish.Wish, declared.pitch.Clef.Clef}
 use Rattle.mus_score.specs.{declared.score.Event.Event, declared.score.Flat.Flat, declared.score.Measure.Measure, declared.score.Voice.Voice, declared.score.Seat.Seat, GoodScore.clef_at, Times.flats_of}
-use Rattle.mus_stems.{specs.{declared.{heads.{Last.Last, Stand.Stand}, plans.StemPlan.StemPlan, stills.Still.Still}, Beams.{beams, is_joined}, Ends.{run_end, stands_up}, Heads.{Taken, gives_way, shift_of, shifted, shifts_of, stand_of, taken}, Plans.{first_id, plan_of, plans_along, plans_of_runs, run_plans, stems_of}, Stills.{flags_of, still_of, stills}}, proofs.RunLaws.runs_are_maximal}
-use Rattle.mus_drawn.specs.{declared.{drawn.{DrawnEvent.DrawnEvent, DrawnMeasure.DrawnMeasure, Style.Style}, standing.Standing.Standing}, Drawn.{clefs_from, drawn_events, drawn_measure, drawn_measures, drawn_voice, standing_after, standing_behind, standing_of, style_of}}
+use Rattle.mus_stems.{specs.{declared.{heads.{Last.Last, Stand.Stand}, plans.StemPlan.StemPlan, stills.Still.Still}, Beams.{beams, is_joined}, Ends.{run_end, stands_up}, Heads.{Taken, gives_way, shift_of, shifted, shifts_of, stand_of, taken}, Plans.{first_id, plan_of, plans_along, plans_of_runs, run_plans, stems_of}, Stills.{clefs_from, flags_of, still_of, stills}}, proofs.RunLaws.runs_are_maximal}
+use Rattle.mus_drawn.specs.{declared.{drawn.{DrawnEvent.DrawnEvent, DrawnMeasure.DrawnMeasure, Style.Style}, standing.Standing.Standing}, Drawn.{drawn_events, drawn_measure, drawn_measures, drawn_voice, standing_after, standing_behind, standing_of, style_of}}
 
 pub record IsPlanOf (e : Event) (p : StemPlan) : Type 0 where
   pub flags : p.flags ≡ flags_of e.value.base

@@ -1,4 +1,5 @@
 pub mod ArcLaws
+pub mod BareLaws
 pub mod EventLaws
 pub mod HeadLaws
 pub mod PieceLaws

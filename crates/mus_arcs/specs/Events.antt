@@ -1,5 +1,5 @@
 -- The events of a voice, each with its measure.
-use Rattle.std.specs.Prelude.{ℕ, suc, List, [], ◌∷◌, ◌++◌, map}
+use Rattle.std.specs.{Prelude.{ℕ, suc, Bool, false, not, ◌==◌, ◌&&◌, List, [], ◌∷◌, ◌++◌, map}, List.list_all}
 use Rattle.mus_score.specs.{declared.score.Event.Event, declared.score.Measure.Measure, declared.score.Voice.Voice, declared.score.Music.Music, declared.score.Music.TheOpen.Music-F, declared.score.Music.TheFolds.fold-Music, Times.flats_of}
 use Rattle.mus_arcs.specs.declared.events.EventAt.{EventAt}
 
@@ -38,3 +38,15 @@ events_in body = join (map events_within body)
 abbrev pub walked_from : ℕ → List Measure → List EventAt
 walked_from number [] = []
 walked_from number (measure ∷ measures) = map (at_measure number) (events_in measure.body) ++ walked_from (suc number) measures
+
+-- an event at which neither a slur nor a tie begins
+abbrev pub is_bare_event : Event → Bool
+is_bare_event e = e.begins == 0 && list_all (λ h. not h.tied) e.heads
+
+abbrev pub bare_step : Music-F Bool → Bool
+bare_step (Music-F.Note e) = is_bare_event e
+bare_step (Music-F.Rest e) = is_bare_event e
+bare_step _ = false
+
+abbrev pub is_bare : Music → Bool
+is_bare = fold-Music Bool bare_step

@@ -1,6 +1,6 @@
-ghost use Rattle.std.specs.{Prelude.◌≡◌, Prelude.◌++◌, Prelude.◌∷◌, Prelude.[], Prelude.◌≤◌, Prelude.length, Prelude.map, Prelude.IfOk, Prelude.OnOk, List.All};
+ghost use Rattle.std.specs.{Prelude.◌≡◌, Prelude.◌++◌, Prelude.◌∷◌, Prelude.[], Prelude.◌≤◌, Prelude.not, Prelude.length, Prelude.map, Prelude.IfOk, Prelude.OnOk, List.{All, list_all}};
 ghost use Rattle.mus_score.specs.GoodScore.{IsGoodVoice};
-ghost use Rattle.mus_arcs.specs.Events.{at_measure, events_in, events_of_voice, events_within, walked_from};
+ghost use Rattle.mus_arcs.specs.Events.{at_measure, events_in, events_of_voice, events_within, is_bare, is_bare_event, walked_from};
 
 use mus_score::{Event, Head, Measure, Music, Voice};
 use mus_units::{Few, Memory, Row};
@@ -85,4 +85,41 @@ fn put_event(
         heads: e.heads.copy(alloc)?,
     })?;
     Ok(())
+}
+
+fn are_untied(heads: &[Head]) -> bool
+    ensures { result ≡ list_all (λ h. not h.tied) heads.now }
+{
+    heads.iter().all(|head| !head.tied)
+}
+
+/// Whether neither a slur nor a tie begins at an event.
+fn is_bare_event(e: &Event) -> bool
+    ensures { result ≡ is_bare_event e.now }
+{
+    e.begins == 0 && are_untied(e.heads.as_slice())
+}
+
+/// Whether a node is an event at which no arc begins.
+fn is_bare(m: &Music) -> bool
+    ensures { result ≡ is_bare m.now }
+{
+    match m {
+        Music::Note(e) => is_bare_event(e),
+        Music::Rest(e) => is_bare_event(e),
+        _ => false,
+    }
+}
+
+fn is_bare_body(body: &[Music]) -> bool
+    ensures { result ≡ list_all is_bare body.now }
+{
+    body.iter().all(|m| is_bare(m))
+}
+
+/// Whether all nodes of measures are events at which no arc begins. Takes no memory.
+pub(crate) fn are_bare(measures: &[Measure]) -> bool
+    ensures { result ≡ list_all (λ m. list_all is_bare m.body) measures.now }
+{
+    measures.iter().all(|m| is_bare_body(m.body.as_slice()))
 }

@@ -3,7 +3,7 @@ ghost use Rattle.mus_units.specs.Good.{same_letter};
 ghost use Rattle.mus_score.specs.GoodScore.{IsGoodVoice};
 ghost use Rattle.mus_arcs.specs.{Arcs.{AreArcsOf, arcs_of, copies, has_pitch, open_ends, slur, slurs, slurs_at, spot, tie, ties_at, ties_from}, Events.events_of_voice};
 
-use crate::events::{EventAt, events_of_voice};
+use crate::events::{EventAt, are_bare, events_of_voice};
 use mus_score::{Head, Voice};
 use mus_units::{Memory, Pitch, Row};
 use std::alloc::Global;
@@ -35,14 +35,17 @@ pub struct Spot {
 /// first; a pair on one event and what has no partner is no arc. A tied head
 /// pairs with one of its letter and octave in the very next event of the voice,
 /// graces aside.
+#[tactic(auto, using(crate::proofs::BareLaws::no_arcs, crate::proofs::BareLaws::are_arcs))]
 pub fn arcs(alloc: Global, v: &Voice) -> Result<Row<Arc>, Memory>
     requires { IsGoodVoice v.now }
     ensures arcs { IfOk result (λ arcs. AreArcsOf (events_of_voice v.now) arcs) }
     ensures value { IfOk result (λ arcs. arcs ≡ arcs_of (events_of_voice v.now)) }
 {
+    if are_bare(v.measures.as_slice()) {
+        return Ok(Row::new(alloc));
+    }
     let events = events_of_voice(alloc, v)?;
-    let arcs = arcs_among(alloc, events.as_slice())?;
-    Ok(arcs)
+    arcs_among(alloc, events.as_slice())
 }
 
 /// The arcs of events, found from the last event back.

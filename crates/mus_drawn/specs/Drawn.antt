@@ -1,10 +1,10 @@
 -- A voice as it is drawn: its events one after the other, each with what is in force there, its place
 -- in time and its stem plan; and how it gives way to other voices on its staff.
 use Rattle.std.specs.Prelude.{ℕ, ◌+◌, ℤ, pos, negsuc, Bool, true, false, is_some, List, [], ◌∷◌, Option, Some, None, unwrap_or}
-use Rattle.mus_units.specs.{declared.pitch.Clef.Clef, declared.key.Key.Key, declared.key.Sign.Sign, declared.note.Wish.Wish}
+use Rattle.mus_units.specs.{declared.key.Key.Key, declared.key.Sign.Sign, declared.note.Wish.Wish}
 use Rattle.mus_score.specs.{declared.score.Changes.Changes, declared.score.Flat.Flat, declared.score.Measure.Measure, declared.score.Voice.Voice, declared.score.Seat.Seat, GoodScore.clef_at, Times.flats_of}
 use Rattle.mus_arcs.specs.{Arcs.arcs_of, Events.events_of_voice}
-use Rattle.mus_stems.specs.{declared.plans.StemPlan.StemPlan, Plans.stems_of}
+use Rattle.mus_stems.specs.{declared.plans.StemPlan.StemPlan, Plans.stems_of, Stills.clefs_from}
 use Rattle.mus_drawn.specs.declared.{standing.Standing.Standing, drawn.DrawnEvent.DrawnEvent, drawn.DrawnMeasure.DrawnMeasure, drawn.DrawnVoice.DrawnVoice, drawn.Opening.Opening, drawn.Style.Style}
 
 -- Clef, key and meter in force are those of the last event that names them, else those with which the
@@ -18,11 +18,6 @@ standing_after now ch = record { clef = unwrap_or ch.clef now.clef; key = unwrap
 abbrev pub standing_behind : Standing → List Flat → Standing
 standing_behind now [] = now
 standing_behind now (f ∷ fs) = standing_behind (standing_after now f.event.changes) fs
-
--- the clef at each event
-abbrev pub clefs_from : Clef → List Flat → List Clef
-clefs_from clef [] = []
-clefs_from clef (f ∷ fs) = clef_at clef f.event ∷ clefs_from (clef_at clef f.event) fs
 
 -- the signs of the key before an event that changes it
 abbrev pub old_signs : Key → Option Key → List Sign

@@ -2,14 +2,14 @@ ghost use Rattle.std.specs.Prelude.{◌≡◌, ◌≤◌, ◌*◌, ◌++◌, ◌
 ghost use Rattle.mus_units.specs.Good.{IsGoodKey};
 ghost use Rattle.mus_score.specs.{Good.{IsGoodBody, flat_count, IsGoodFlat, flat_weight, longest_ticks, total_ticks}, Times.flats_of, GoodScore.{AreInReach, IsGoodEvent, IsGoodVoice, events_of}};
 ghost use Rattle.mus_stems.specs.Plans.{stems_of, AllEndsNear};
-ghost use Rattle.mus_drawn.specs.{Drawn.{standing_after, standing_behind, clefs_from, drawn_event, drawn_events, drawn_measure, drawn_measures, drawn_voice, raise_of, style_of, wish_in}, Good.{AllCanDraw, IsGoodMeasure, AreGoodMeasures}};
+ghost use Rattle.mus_drawn.specs.{Drawn.{standing_after, standing_behind, drawn_event, drawn_events, drawn_measure, drawn_measures, drawn_voice, raise_of, style_of, wish_in}, Good.{AllCanDraw, IsGoodMeasure, AreGoodMeasures}};
 
 use crate::drawn::{DrawnEvent, DrawnMeasure, DrawnVoice, Style};
-use crate::standing::{Standing, change, clefs_from, old_signs, opening_of, standing_of};
+use crate::standing::{Standing, change, old_signs, opening_of, standing_of};
 use mus_arcs::arcs;
 use mus_score::{Flat, Measure, Seat, Voice, flatten};
 use mus_stems::{StemPlan, stems};
-use mus_units::{Clef, Memory, Row, Wish};
+use mus_units::{Memory, Row, Wish};
 use std::alloc::Global;
 
 /// The way of the stems of a voice: on a shared staff up for the first and down for the others, where
@@ -96,27 +96,8 @@ fn draw_events<'a>(
     Ok(out)
 }
 
-/// The stem plans of the events of a measure that begins in a clef.
-#[tactic(auto, using(crate::proofs::Reaches::can_stand))]
-fn plans_of(
-    alloc: Global,
-    wish: Wish,
-    clef: Clef,
-    flats: &[Flat<'_>],
-) -> Result<Row<StemPlan>, Memory>
-    requires reach { AreInReach clef flats.now }
-    requires each { All IsGoodFlat flats.now }
-    requires few { sum_by flat_weight flats.now ≤ 50000 }
-    ensures plans { IfOk result (λ r. r ≡ stems_of wish flats.now (clefs_from clef flats.now)) }
-    ensures each { IfOk result (λ r. length r ≡ length flats.now) }
-    ensures ends { IfOk result AllEndsNear }
-{
-    let clefs = clefs_from(alloc, clef, flats)?;
-    stems(alloc, flats, clefs.as_slice(), wish)
-}
-
 /// A measure as it is drawn; `now` is what is in force before it, and then behind.
-#[tactic(auto, unfolding(crate::specs::Drawn::drawn_measure))]
+#[tactic(auto, unfolding(crate::specs::Drawn::drawn_measure), using(crate::proofs::Reaches::can_stand))]
 fn draw_measure<'a>(
     alloc: Global,
     style: Style,
@@ -134,7 +115,7 @@ fn draw_measure<'a>(
 {
     let flats = flatten(alloc, m.body.as_slice())?;
     let opening = opening_of(alloc, now, flats.as_slice())?;
-    let plans = plans_of(alloc, style.wish, now.clef, flats.as_slice())?;
+    let plans = stems(alloc, flats.as_slice(), now.clef, style.wish)?;
     Ok(DrawnMeasure {
         seat: style.seat,
         opening,

@@ -1,5 +1,5 @@
-ghost use Rattle.std.specs.Prelude.{◌≡◌, IfOk, OnOk, length};
-ghost use Rattle.mus_drawn.specs.Drawn.{standing_of, standing_after, clefs_from, old_signs, opening_at, opening_of};
+ghost use Rattle.std.specs.Prelude.{◌≡◌, IfOk, OnOk};
+ghost use Rattle.mus_drawn.specs.Drawn.{standing_of, standing_after, old_signs, opening_at, opening_of};
 
 use crate::drawn::Opening;
 use mus_score::{Changes, Flat, Voice};
@@ -25,17 +25,6 @@ pub fn standing_of(alloc: Global, v: &Voice) -> Result<Standing, Memory>
     })
 }
 
-/// The same as what is in force.
-pub fn copy_standing(alloc: Global, now: &Standing) -> Result<Standing, Memory>
-    ensures { IfOk result (λ s. s ≡ now.now) }
-{
-    Ok(Standing {
-        clef: now.clef,
-        key: now.key.copy(alloc)?,
-        meter: now.meter,
-    })
-}
-
 /// Changes what is in force.
 #[inline(always)]
 pub fn change(alloc: Global, now: &mut Standing, changes: &Changes) -> Result<(), Memory>
@@ -47,20 +36,6 @@ pub fn change(alloc: Global, now: &mut Standing, changes: &Changes) -> Result<()
     now.clef = changes.clef.unwrap_or(now.clef);
     now.meter = changes.meter.unwrap_or(now.meter);
     Ok(())
-}
-
-/// The clefs of events, the first of which stands behind `clef`.
-pub fn clefs_from(alloc: Global, first: Clef, flats: &[Flat<'_>]) -> Result<Row<Clef>, Memory>
-    ensures clefs { IfOk result (λ r. r ≡ clefs_from first flats.now) }
-    ensures each { IfOk result (λ r. length r ≡ length flats.now) }
-{
-    let mut clefs = Row::with_room(alloc, flats.len())?;
-    let mut clef = first;
-    for flat in flats {
-        clef = flat.event().changes.clef.unwrap_or(clef);
-        clefs.push(clef)?;
-    }
-    Ok(clefs)
 }
 
 /// The signs of the key before an event that changes it.
@@ -88,7 +63,11 @@ fn opening(now: Standing, anew: bool) -> Opening
 pub fn opening_of(alloc: Global, before: &Standing, flats: &[Flat<'_>]) -> Result<Opening, Memory>
     ensures { IfOk result (λ o. o ≡ opening_of before.now flats.now) }
 {
-    let mut now = copy_standing(alloc, before)?;
+    let mut now = Standing {
+        clef: before.clef,
+        key: before.key.copy(alloc)?,
+        meter: before.meter,
+    };
     let [flat, ..] = flats else {
         return Ok(opening(now, false));
     };

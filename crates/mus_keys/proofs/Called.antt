@@ -1,10 +1,10 @@
 -- The voices of a score call for the columns that they have as they are drawn.
 use Rattle.std.{proofs.{Common.{◌≡◌, ◌∙◌, ℕ, zero, suc, ◌+◌, ◌-◌, ◌<◌, Bool, true, false, not, ◌&&◌, ◌||◌, nat_le, if◌then◌else◌, List, [], ◌∷◌, ◌++◌, length, map, take, drop, Option, Some, None, refl, sym, ap, arith}, lemmas.List.Sums.sum_by-cons}, specs.{List.{All, flat_map}, Prelude.{is_some, unwrap_or}}}
 use Rattle.mus_units.specs.{declared.key.Key.Key, declared.key.Meter.Meter, declared.note.Wish.Wish, declared.pitch.Clef.Clef}
-use Rattle.mus_score.specs.{declared.score.Flat.Flat, declared.score.Measure.Measure, declared.score.Score.Score, declared.score.Voice.Voice, Good.total_ticks, GoodScore.clef_at, GoodScore.IsGoodScore, Seats.is_lower, Times.flats_of}
-use Rattle.mus_stems.{specs.declared.plans.StemPlan.StemPlan, specs.Plans.stems_of, specs.Stills.stills, proofs.EndLaws.plans_length}
+use Rattle.mus_score.specs.{declared.score.Flat.Flat, declared.score.Measure.Measure, declared.score.Score.Score, declared.score.Voice.Voice, Good.total_ticks, GoodScore.IsGoodScore, Seats.is_lower, Times.flats_of}
+use Rattle.mus_stems.{specs.declared.plans.StemPlan.StemPlan, specs.Plans.stems_of, specs.Stills.clefs_from, specs.Stills.stills, proofs.EndLaws.plans_length}
 use Rattle.mus_time.{proofs.Places.{further_places, places_of}, specs.{Onsets.timeline_of, Keys.{all_keys, AreKeys, bar_key, event_keys, events_keys, first_keys, grace_keys, has_entries, head_key, IsInSystem, key_at, key_has_mark, keys_by, measure_keys, measures_keys, meter_has_mark, signed_after, signed_behind, signed_through, voice_keys}, declared.keys.{Class.Class, ColumnKey.ColumnKey}}}
-use Rattle.mus_drawn.specs.{declared.{drawn.{DrawnVoice.DrawnVoice, Style.Style}, standing.Standing.Standing}, Drawn.{clefs_from, drawn_events, drawn_measure, drawn_measures, drawn_voice, old_signs, standing_after, standing_behind, standing_of, style_of}}
+use Rattle.mus_drawn.specs.{declared.{drawn.{DrawnVoice.DrawnVoice, Style.Style}, standing.Standing.Standing}, Drawn.{drawn_events, drawn_measure, drawn_measures, drawn_voice, old_signs, standing_after, standing_behind, standing_of, style_of}}
 use Rattle.mus_keys.specs.Columns.{events_columns, keys_called, measures_columns, staff_columns, voice_columns}
 
 -- ---- the columns of drawn events
@@ -37,13 +37,9 @@ events_same style m tick in_head signed now before (f ∷ fs) (p ∷ ps) s t lon
     ∙ ap (λ t. event_keys m tick in_head (nat_le 1 (length (old_signs now.key f.event.changes.key))) f ++ t) more
 
 -- ---- those of drawn measures
-clefs_length : (clef : Clef) (fs : List Flat) → length (clefs_from clef fs) ≡ length fs
-clefs_length clef [] = refl
-clefs_length clef (f ∷ fs) = ap suc (clefs_length (clef_at clef f.event) fs)
-
 plans_count : (wish : Wish) (clef : Clef) (fs : List Flat) → length (stems_of wish fs (clefs_from clef fs)) ≡ length fs
 unfolding stems_of
-plans_count wish clef fs = plans_length wish (stills fs (clefs_from clef fs)) _ fs (clefs_from clef fs) refl refl (clefs_length clef fs)
+plans_count wish clef fs = plans_length wish (stills fs (clefs_from clef fs)) _ fs clef refl refl
 
 measure_same : (m : ℕ) (in_head signed : Bool) (style : Style) (now : Standing) (x : Measure) → signed ≡ has_entries now.key
     → events_keys m in_head signed [] (flats_of x.body) ≡ events_columns m in_head (drawn_measure style now x).events

@@ -1,7 +1,7 @@
 -- The own ends of what `stems_of` gives are in range, and there is a plan for each event.
 use Rattle.std.{proofs.{Common.{◌≡◌, ℕ, ℤ, pos, negsuc, ◌≤ℤ◌, Bool, true, false, List, [], ◌∷◌, length, suc, ap, ◌∙◌, refl, subst, sym, arith}, lemmas.Int.{ints, clamps}}, specs.List.AllByRecursion}
 use Rattle.mus_units.specs.{declared.note.Wish.Wish, declared.pitch.Clef.Clef}
-use Rattle.mus_stems.{specs.{declared.{heads.Stand.Stand, stills.Still.Still, plans.StemPlan.StemPlan}, Heads.{AllNear, lowest, highest}, Stills.{stills, IsGoodStill, AllGood}, Beams.{is_joined, beams}, Ends.{upper_end, lower_end, outer_end, own_end, stands_up, run_end}, Plans.{IsEndNear, plan_of, plans_along, run_plans, first_id, plans_of_runs, AllEndsNear}}, proofs.{Ranges.{InRange, low_near, high_near}, RunLaws.{all_in_runs, all_append, runs_length}, Taking.stills_length}}
+use Rattle.mus_stems.{specs.{declared.{heads.Stand.Stand, stills.Still.Still, plans.StemPlan.StemPlan}, Heads.{AllNear, lowest, highest}, Stills.{clefs_from, stills, IsGoodStill, AllGood}, Beams.{is_joined, beams}, Ends.{upper_end, lower_end, outer_end, own_end, stands_up, run_end}, Plans.{IsEndNear, plan_of, plans_along, run_plans, first_id, plans_of_runs, AllEndsNear}}, proofs.{Ranges.{InRange, low_near, high_near}, RunLaws.{all_in_runs, all_append, runs_length}, Taking.stills_length}}
 use Rattle.mus_score.specs.declared.score.Flat.{Flat}
 
 IsEnd : ℤ → Type 0
@@ -39,5 +39,5 @@ pub run_length : (wish : Wish) (r : List Still) → length (run_plans wish r) �
 unfolding run_plans
 run_length wish r = along_length (stands_up wish r) (run_end (stands_up wish r) r) (first_id r) r
 
-pub plans_length : (wish : Wish) (es : List Still) (plans : List StemPlan) (fs : List Flat) (cs : List Clef) → plans ≡ plans_of_runs wish (beams es) → es ≡ stills fs cs → length cs ≡ length fs → length plans ≡ length fs
-plans_length wish es plans fs cs e f h = ap (λ t. length t) e ∙ runs_length is_joined (run_plans wish) (run_length wish) es ∙ ap (λ t. length t) f ∙ stills_length fs cs h
+pub plans_length : (wish : Wish) (es : List Still) (plans : List StemPlan) (fs : List Flat) (clef : Clef) → plans ≡ plans_of_runs wish (beams es) → es ≡ stills fs (clefs_from clef fs) → length plans ≡ length fs
+plans_length wish es plans fs clef e f = ap (λ t. length t) e ∙ runs_length is_joined (run_plans wish) (run_length wish) es ∙ ap (λ t. length t) f ∙ stills_length clef fs

@@ -1,8 +1,8 @@
 -- What is taken from events that can be drawn is good.
-use Rattle.std.proofs.Common.{◌≡◌, ◌≤◌, List, [], ◌∷◌, length, map, refl, subst, sym, ap, suc, arith}
+use Rattle.std.proofs.Common.{◌≡◌, ◌≤◌, List, [], ◌∷◌, length, map, refl, subst, sym, ap, suc}
 use Rattle.mus_units.specs.{declared.pitch.Clef.Clef, declared.note.Head.Head}
-use Rattle.mus_score.specs.declared.score.Flat.{Flat}
-use Rattle.mus_stems.specs.{declared.stills.Still.Still, Heads.stand_of, Stills.still_of, Stills.stills, Stills.CanStand, Stills.AllCanStand, Stills.IsGoodStill, Stills.AllGood}
+use Rattle.mus_score.specs.{declared.score.Flat.Flat, GoodScore.clef_at}
+use Rattle.mus_stems.specs.{declared.stills.Still.Still, Heads.stand_of, Stills.still_of, Stills.clefs_from, Stills.stills, Stills.CanStand, Stills.AllCanStand, Stills.IsGoodStill, Stills.AllGood}
 
 length-stands : (c : Clef) (hs : List Head) → length (map (stand_of c) hs) ≡ length hs
 length-stands c [] = refl
@@ -20,7 +20,6 @@ all_good (f ∷ fs) (c ∷ cs) can = (still_is_good f c can.0, all_good fs cs ca
 pub stills_are_good : (es : List Still) (fs : List Flat) (cs : List Clef) → es ≡ stills fs cs → AllCanStand fs cs → AllGood es
 stills_are_good es fs cs e can = subst AllGood (sym e) (all_good fs cs can)
 
-pub stills_length : (fs : List Flat) (cs : List Clef) → length cs ≡ length fs → length (stills fs cs) ≡ length fs
-stills_length [] cs h = refl
-stills_length (f ∷ fs) [] h = h
-stills_length (f ∷ fs) (c ∷ cs) h = ap suc (stills_length fs cs (omega (arith, h)))
+pub stills_length : (clef : Clef) (fs : List Flat) → length (stills fs (clefs_from clef fs)) ≡ length fs
+stills_length clef [] = refl
+stills_length clef (f ∷ fs) = ap suc (stills_length (clef_at clef f.event) fs)

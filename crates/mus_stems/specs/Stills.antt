@@ -2,7 +2,7 @@
 -- where its heads stand in its clef.
 use Rattle.std.specs.{Prelude.{ℕ, ◌≤◌, Bool, true, false, ⊤, List, [], ◌∷◌, length, map}, List.AllByRecursion}
 use Rattle.mus_units.specs.{declared.value.Base.Base, declared.pitch.Clef.Clef}
-use Rattle.mus_score.specs.declared.score.Flat.{Flat}
+use Rattle.mus_score.specs.{declared.score.Flat.Flat, GoodScore.clef_at}
 use Rattle.mus_stems.specs.{declared.stills.Still.Still, Heads.AllNear, Heads.stand_of}
 
 -- the flags of a base: one for 1/8, one more for each halving
@@ -21,6 +21,11 @@ is_short _ = true
 
 unfoldable pub still_of : Flat → Clef → Still
 still_of f c = record { id = f.event.id; base = f.event.value.base; dots = f.event.value.dots; parted = f.event.parted; stands = map (stand_of c) f.event.heads }
+
+-- the clef at each event
+abbrev pub clefs_from : Clef → List Flat → List Clef
+clefs_from clef [] = []
+clefs_from clef (f ∷ fs) = clef_at clef f.event ∷ clefs_from (clef_at clef f.event) fs
 
 -- events, each in its own clef
 abbrev pub stills : List Flat → List Clef → List Still

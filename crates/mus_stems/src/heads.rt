@@ -21,7 +21,7 @@ pub struct Last {
 
 /// Where a head stands in a clef.
 #[tactic(auto, unfolding(crate::specs::Heads::stand_of))]
-fn stand_at(clef: Clef, head: Head) -> Stand
+pub fn stand_at(clef: Clef, head: Head) -> Stand
     requires { IsNear (stand_of clef head) }
     ensures { result ≡ stand_of clef head }
 {

@@ -42,7 +42,7 @@ fn ledger_above(k: u32) -> i32
 }
 
 /// Even heights from -2 down to the lowest head, as dy.
-fn put_below(out: &mut Row<i32>, low: i32) -> Result<(), Memory>
+pub fn put_below(out: &mut Row<i32>, low: i32) -> Result<(), Memory>
     requires near { negsuc 13 ≤ℤ low }
     ensures { OnOk result (out.new ≡ out.old ++ lines_of line_below 0 (lines_below low)) }
 {
@@ -53,7 +53,7 @@ fn put_below(out: &mut Row<i32>, low: i32) -> Result<(), Memory>
 }
 
 /// Even heights from 10 up to the highest head, as dy.
-fn put_above(out: &mut Row<i32>, high: i32) -> Result<(), Memory>
+pub fn put_above(out: &mut Row<i32>, high: i32) -> Result<(), Memory>
     requires near { high ≤ℤ pos 22 }
     ensures { OnOk result (out.new ≡ out.old ++ lines_of line_above 0 (lines_above high)) }
 {

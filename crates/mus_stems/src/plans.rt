@@ -1,5 +1,5 @@
 ghost use Rattle.std.specs.Prelude.{◌≡◌, ◌++◌, ◌∷◌, [], ◌≤◌, length, IfOk, OnOk};
-ghost use Rattle.mus_stems.specs.{Stills.{IsGoodStill, AllGood, AllCanStand, stills}, Beams.beams, Plans.{first_id, plan_of, plans_along, run_plans, plans_of_runs, stems_of, ArePlans, AllEndsNear}};
+ghost use Rattle.mus_stems.specs.{Stills.{IsGoodStill, AllGood, AllCanStand, clefs_from, stills}, Beams.beams, Plans.{first_id, plan_of, plans_along, run_plans, plans_of_runs, stems_of, ArePlans, AllEndsNear}};
 
 use crate::beams::more_in_run;
 use crate::dots::{Spot, dot_dx, put_dots};
@@ -7,7 +7,7 @@ use crate::ends::{
     carries_stem, end_of_run, highest_head, lowest_head, own_end_of, run_points_up, stem_from,
 };
 use crate::heads::shifts_for;
-use crate::ledgers::ledgers_for;
+use crate::ledgers::{put_above, put_below};
 use crate::signs::{sign_dx, signs_for};
 use crate::stills::{Still, flags_for, stills_for};
 use mus_score::Flat;
@@ -52,7 +52,7 @@ fn id_of_run(run: &[Still]) -> u32
 }
 
 /// Puts the plan of one event behind others.
-#[tactic(auto, unfolding(crate::specs::Plans::plan_of))]
+#[tactic(auto, unfolding(crate::specs::Plans::plan_of, crate::specs::Ledgers::ledgers_of))]
 fn put_plan(
     alloc: Global,
     out: &mut Row<StemPlan>,
@@ -67,7 +67,9 @@ fn put_plan(
     let stands = e.stands.as_slice();
     let shifts = shifts_for(alloc, up, stands)?;
     let signs = signs_for(alloc, sign_dx(shifts.as_slice()), stands)?;
-    let ledgers = ledgers_for(alloc, lowest_head(stands), highest_head(stands))?;
+    let mut ledgers = Row::new(alloc);
+    put_below(&mut ledgers, lowest_head(stands))?;
+    put_above(&mut ledgers, highest_head(stands))?;
     let mut dots = Row::new(alloc);
     put_dots(&mut dots, dot_dx(shifts.as_slice()), e.dots, stands)?;
     out.push(StemPlan {
@@ -135,23 +137,22 @@ fn put_all_runs(
 
 /// The stem plans of the events of one measure of one voice, one for each event in their order.
 ///
-/// `clefs` has the clef of each event, `wish` is the way of stems that the voice asks for. Each head
-/// stands at a height of -14 to 22 in its clef.
+/// `first` is the clef in force before them, `wish` the way of stems that the voice asks for. Each
+/// head stands at a height of -14 to 22 in its clef.
 #[tactic(auto, using(crate::proofs::Taking::stills_are_good, crate::proofs::PlanLaws::are_plans, crate::proofs::EndLaws::ends_near, crate::proofs::EndLaws::plans_length), unfolding(crate::specs::Plans::stems_of))]
 pub fn stems(
     alloc: Global,
     events: &[Flat<'_>],
-    clefs: &[Clef],
+    first: Clef,
     wish: Wish,
 ) -> Result<Row<StemPlan>, Memory>
-    requires clefs { length clefs.now ≡ length events.now }
-    requires good { AllCanStand events.now clefs.now }
-    ensures value { IfOk result (λ plans. plans ≡ stems_of wish events.now clefs.now) }
+    requires { AllCanStand events.now (clefs_from first events.now) }
+    ensures value { IfOk result (λ plans. plans ≡ stems_of wish events.now (clefs_from first events.now)) }
     ensures each { IfOk result (λ plans. length plans ≡ length events.now) }
     ensures ends { IfOk result AllEndsNear }
-    ensures plans { IfOk result (ArePlans wish (stills events.now clefs.now)) }
+    ensures plans { IfOk result (ArePlans wish (stills events.now (clefs_from first events.now))) }
 {
-    let stills = stills_for(alloc, events, clefs)?;
+    let stills = stills_for(alloc, events, first)?;
     let mut plans = Row::with_room(alloc, events.len())?;
     put_all_runs(alloc, &mut plans, wish, stills.as_slice())?;
     Ok(plans)

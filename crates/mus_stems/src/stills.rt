@@ -1,7 +1,7 @@
-ghost use Rattle.std.specs.Prelude.{◌≡◌, ◌≤◌, length, IfOk};
-ghost use Rattle.mus_stems.specs.Stills.{flags_of, is_short, still_of, stills, CanStand, AllCanStand};
+ghost use Rattle.std.specs.Prelude.{◌≡◌, IfOk};
+ghost use Rattle.mus_stems.specs.Stills.{flags_of, is_short, still_of, stills, clefs_from, CanStand, AllCanStand};
 
-use crate::heads::{Stand, stands};
+use crate::heads::{Stand, stand_at, stands};
 use mus_score::Flat;
 use mus_units::{Base, Clef, Few, Memory, Row};
 use std::alloc::Global;
@@ -52,19 +52,23 @@ fn take_still(alloc: Global, flat: &Flat<'_>, clef: Clef) -> Result<Still, Memor
         base: event.value.base,
         dots: event.value.dots,
         parted: event.parted,
-        stands: stands(alloc, clef, event.heads.as_slice())?,
+        stands: match event.heads.as_slice() {
+            [head] => Few::one(stand_at(clef, *head)),
+            heads => stands(alloc, clef, heads)?,
+        },
     })
 }
 
-/// What is taken from events, each in its own clef.
-pub fn stills_for(alloc: Global, events: &[Flat<'_>], clefs: &[Clef]) -> Result<Row<Still>, Memory>
-    requires clefs { length clefs.now ≡ length events.now }
-    requires good { AllCanStand events.now clefs.now }
-    ensures { IfOk result (λ s. s ≡ stills events.now clefs.now) }
+/// What is taken from events, each in its own clef, the first of which stands behind `first`.
+pub fn stills_for(alloc: Global, events: &[Flat<'_>], first: Clef) -> Result<Row<Still>, Memory>
+    requires { AllCanStand events.now (clefs_from first events.now) }
+    ensures { IfOk result (λ s. s ≡ stills events.now (clefs_from first events.now)) }
 {
     let mut out = Row::with_room(alloc, events.len())?;
-    for (event, clef) in events.iter().zip(clefs) {
-        out.push(take_still(alloc, event, *clef)?)?;
+    let mut clef = first;
+    for flat in events {
+        clef = flat.event().changes.clef.unwrap_or(clef);
+        out.push(take_still(alloc, flat, clef)?)?;
     }
     Ok(out)
 }

@@ -2,7 +2,7 @@
 
 ghost use Rattle.std.specs.Prelude.{◌≡◌, IsTrue, All, length, map};
 ghost use Rattle.mus_score.specs.{Good.IsGoodBody, GoodScore.IsGoodScore, GoodScore.IsGoodVoice};
-ghost use Rattle.mus_stems.specs.{Heads.{AllNear, IsNear, stand_of}, Stills.{AllCanStand, CanStand}};
+ghost use Rattle.mus_stems.specs.{Heads.{AllNear, IsNear, stand_of}, Stills.{AllCanStand, CanStand, clefs_from}};
 
 use case_texts::Report;
 use mus_score::{Flat, Measure, Score, Voice, flatten};
@@ -79,20 +79,21 @@ fn can_stand(flat: &Flat<'_>, clef: Clef) -> bool
     heads.len() <= 50000 && flat.event().value.dots <= 3 && are_near(heads, clef)
 }
 
-/// Whether each event can stand in its clef.
-pub(crate) fn can_all_stand(events: &[Flat<'_>], clefs: &[Clef]) -> bool
-    requires { length clefs.now ≡ length events.now }
-    ensures { IsTrue result → AllCanStand events.now clefs.now }
+/// Whether each event can stand in its clef, where `first` is in force before them.
+pub(crate) fn can_all_stand(events: &[Flat<'_>], first: Clef) -> bool
+    ensures { IsTrue result → AllCanStand events.now (clefs_from first events.now) }
 {
-    for (event, clef) in events.iter().zip(clefs) {
-        if !can_stand(event, *clef) {
+    let mut clef = first;
+    for flat in events {
+        clef = flat.event().changes.clef.unwrap_or(clef);
+        if !can_stand(flat, clef) {
             return false;
         }
     }
     true
 }
 
-/// The plans of a measure in one clef.
+/// The plans of a measure that begins in a clef.
 fn put_measure_plans(
     out: &mut Report,
     measure: &Measure,
@@ -103,11 +104,10 @@ fn put_measure_plans(
 {
     let alloc = out.alloc;
     let events = flatten(alloc, measure.body.as_slice())?;
-    let clefs = vec![in alloc; clef; events.len()]?;
-    if !can_all_stand(events.as_slice(), &clefs) {
+    if !can_all_stand(events.as_slice(), clef) {
         return out.next(b"another clef\n");
     }
-    let plans = stems(alloc, events.as_slice(), &clefs, wish)?;
+    let plans = stems(alloc, events.as_slice(), clef, wish)?;
     put_plans(out, plans.as_slice())
 }
 

@@ -71,11 +71,10 @@ fn put_measure_slopes(
 {
     let alloc = out.alloc;
     let events = flatten(alloc, measure.body.as_slice())?;
-    let clefs = vec![in alloc; voice.clef; events.len()]?;
-    if !can_all_stand(events.as_slice(), &clefs) {
+    if !can_all_stand(events.as_slice(), voice.clef) {
         return out.next(b"another clef\n");
     }
-    let plans = stems(alloc, events.as_slice(), &clefs, voice.stem)?;
+    let plans = stems(alloc, events.as_slice(), voice.clef, voice.stem)?;
     put_sloped(out, plans.as_slice(), at)
 }
 

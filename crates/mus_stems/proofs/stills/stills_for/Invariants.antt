@@ -1,9 +1,9 @@
-use Rattle.std.proofs.Common.{◌≡◌, ◌++◌, length, drop}
-use Rattle.mus_stems.specs.Stills.{stills, AllCanStand}
+use Rattle.std.proofs.Common.{◌≡◌, ◌++◌, drop}
+use Rattle.mus_stems.specs.Stills.{clefs_from, stills, AllCanStand}
 use Rattle.mus_stems.proofs.stills.stills_for.Given as goal
 
-abbrev pub invariant-loop-event : goal.invariant-loop-event
-invariant-loop-event l = record {
-  good : AllCanStand (drop (length l.yielded) l.events) (drop (length l.yielded) l.clefs);
-  stills : l.out ++ stills (drop (length l.yielded) l.events) (drop (length l.yielded) l.clefs) ≡ stills l.events l.clefs;
+abbrev pub invariant-loop-flat : goal.invariant-loop-flat
+invariant-loop-flat l = record {
+  good : AllCanStand (drop l.flat-index l.events) (clefs_from l.clef (drop l.flat-index l.events));
+  stills : l.out ++ stills (drop l.flat-index l.events) (clefs_from l.clef (drop l.flat-index l.events)) ≡ stills l.events (clefs_from l.fn.first l.events);
 }

@@ -1,9 +1,8 @@
-use Rattle.std.proofs.Common.{◌≤◌, length, drop}
-use Rattle.mus_stems.specs.Stills.{AllCanStand}
+use Rattle.std.proofs.Common.{drop}
+use Rattle.mus_stems.specs.Stills.{AllCanStand, clefs_from}
 use Rattle.setting_tests.proofs.plans.can_all_stand.Given as goal
 
-abbrev pub invariant-loop-event : goal.invariant-loop-event
-invariant-loop-event l = record {
-  within : length l.yielded ≤ length l.events;
-  rest : AllCanStand (drop (length l.yielded) l.events) (drop (length l.yielded) l.clefs) → AllCanStand l.events l.clefs;
+abbrev pub invariant-loop-flat : goal.invariant-loop-flat
+invariant-loop-flat l = record {
+  rest : AllCanStand (drop l.flat-index l.events) (clefs_from l.clef (drop l.flat-index l.events)) → AllCanStand l.events (clefs_from l.fn.first l.events);
 }
