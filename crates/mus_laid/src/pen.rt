@@ -1,10 +1,11 @@
-ghost use Rattle.std.specs.Prelude.{◌≡◌, ◌∷◌, [], OnOk};
+ghost use Rattle.std.specs.Prelude.{◌≡◌, ◌++◌, ◌∷◌, [], OnOk};
 ghost use Rattle.mus_time.specs.{Order.rank_of, Ranks.AreRanked};
 ghost use Rattle.mus_laid.specs.Ranked.{ink_at, inked};
 
 use crate::drawn::{Drawn, Ink};
 use crate::laid::{Laid, Mark};
-use mus_time::{ColumnKey, next_rank};
+use crate::ranking::found_at;
+use mus_time::{ColumnKey, rank_of};
 use mus_units::{Memory, Row};
 use std::alloc::Global;
 
@@ -39,6 +40,17 @@ fn ink_at(rank: u32, ink: Ink) -> Mark
     }
 }
 
+/// Adds a mark behind others; where they have room, nothing is asked of memory.
+fn put_laid(marks: &mut Row<Laid>, laid: Laid) -> Result<(), Memory>
+    ensures { OnOk result (marks.new ≡ marks.old ++ laid ∷ []) }
+{
+    if marks.items.len() < marks.items.capacity() {
+        marks.items.push_reserved(laid);
+        return Ok(());
+    }
+    marks.push(laid)
+}
+
 impl Pen {
     /// A pen that has laid nothing, at the first column.
     pub fn new(alloc: Global) -> Pen
@@ -57,17 +69,19 @@ impl Pen {
         ensures rank { self.new.rank ≡ rank_of keys.now key }
         ensures marks { self.new.marks ≡ self.old.marks }
     {
-        let mut near = self.rank as usize + 1;
-        self.rank = next_rank(keys, &mut near, key);
+        let next = self.rank as usize + 1;
+        self.rank = match found_at(keys, next, key) {
+            Some(rank) => rank,
+            None => rank_of(keys, key),
+        };
     }
 
     /// Lays what is drawn in the column. The only error is want of memory.
     pub fn put(&mut self, drawn: Drawn) -> Result<(), Memory>
         ensures { OnOk result (self.new ≡ inked self.old (drawn ∷ [])) }
     {
-        self.marks.push(Laid {
-            mark: ink_at(self.rank, drawn.ink),
-            lane: drawn.lane,
-        })
+        let mark = ink_at(self.rank, drawn.ink);
+        let lane = drawn.lane;
+        put_laid(&mut self.marks, Laid { mark, lane })
     }
 }

@@ -1,11 +1,39 @@
-ghost use Rattle.std.specs.Prelude.{◌≡◌, ◌++◌, map, OnOk};
-ghost use Rattle.mus_time.specs.Ranks.{AreRanked};
+ghost use Rattle.std.specs.Prelude.{◌≡◌, ◌++◌, map, IfSome, OnOk};
+ghost use Rattle.mus_time.specs.{Order.rank_of, Ranks.AreRanked};
 ghost use Rattle.mus_laid.specs.Ranked.{bridge_at, span_at};
 
 use crate::drawn::{Bridge, Span};
 use crate::laid::{Laid, Lane, Mark};
-use mus_time::{ColumnKey, next_rank};
+use mus_time::{ColumnKey, rank_of};
 use mus_units::{Memory, Row};
+
+/// How many columns are looked at before one is searched for.
+const NEAR: usize = 16;
+
+/// The rank of a column, if that is at this place among the keys.
+pub(crate) fn found_at(keys: &[ColumnKey], place: usize, key: ColumnKey) -> Option<u32>
+    requires { AreRanked keys.now }
+    ensures { IfSome result (λ rank. rank ≡ rank_of keys.now key) }
+{
+    match keys.get(place) {
+        Some(found) if *found == key => Some(place as u32),
+        _ => None,
+    }
+}
+
+/// The rank of a column, which mostly is few places behind that of another.
+fn rank_behind(keys: &[ColumnKey], other: u32, key: ColumnKey) -> u32
+    requires { AreRanked keys.now }
+    ensures { result ≡ rank_of keys.now key }
+{
+    let other = other as usize;
+    for place in other..other + NEAR {
+        if let Some(rank) = found_at(keys, place, key) {
+            return rank;
+        }
+    }
+    rank_of(keys, key)
+}
 
 fn span_at(first: u32, last: u32, span: Span) -> Mark
     ensures { result ≡ span_at first last span }
@@ -38,10 +66,10 @@ pub fn put_bridges(
     requires { AreRanked keys.now }
     ensures { OnOk result (out.new ≡ out.old ++ map (bridge_at keys.now) bridges.now) }
 {
-    let mut near = 0;
+    let mut first = 0;
     for bridge in bridges {
-        let first = next_rank(keys, &mut near, bridge.first);
-        let last = next_rank(keys, &mut near, bridge.last);
+        first = rank_behind(keys, first, bridge.first);
+        let last = rank_behind(keys, first, bridge.last);
         out.push(Laid {
             mark: span_at(first, last, bridge.span),
             lane: Lane::Loose,
