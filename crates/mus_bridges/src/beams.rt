@@ -1,42 +1,16 @@
-ghost use Rattle.std.specs.Prelude.{◌≡◌, ◌≤◌, ◌+◌, ◌++◌, length, map, flat_map, IfOk, OnOk};
+ghost use Rattle.std.specs.Prelude.{◌≡◌, ◌≤◌, ◌+◌, ◌++◌, length, flat_map, OnOk};
 ghost use Rattle.mus_drawn.specs.Good.{AreGoodDrawn, AreGoodMeasures, IsGoodDrawn};
-ghost use Rattle.mus_bridges.specs.{Beams.beam_marks, Bridges.{stem_at, beams_between, beam_over, event_grace_beam, grace_beams_between}};
+ghost use Rattle.mus_bridges.specs.Bridges.{beams_between, beam_over, event_grace_beam, grace_beams_between};
 
-use crate::stems::{Stem, put_beams, stem_of};
+use crate::stems::put_beams;
 use mus_drawn::{DrawnEvent, DrawnMeasure};
 use mus_ink::{group_of, put_grace_beam};
-use mus_keys::note_key;
 use mus_laid::Bridge;
 use mus_time::{Class, ColumnKey};
 use mus_units::{Memory, Row};
-use std::alloc::Global;
-
-/// What the beams of a measure need of its events.
-fn stems_at(alloc: Global, measure: u32, events: &[DrawnEvent<'_>]) -> Result<Row<Stem>, Memory>
-    ensures { IfOk result (λ r. r ≡ map (stem_at measure) events.now) }
-{
-    let mut stems = Row::with_room(alloc, events.len())?;
-    for e in events {
-        stems.push(stem_of(note_key(measure, e), &e.plan, e.plan.to))?;
-    }
-    Ok(stems)
-}
-
-fn put_measure_beams(
-    alloc: Global,
-    out: &mut Row<Bridge>,
-    measure: u32,
-    events: &[DrawnEvent<'_>],
-) -> Result<(), Memory>
-    ensures { OnOk result (out.new ≡ out.old ++ beam_marks (map (stem_at measure) events.now)) }
-{
-    let stems = stems_at(alloc, measure, events)?;
-    put_beams(out, stems.as_slice())
-}
 
 /// Draws the beams of notes of measures from the number `a` on.
 pub(crate) fn put_beams_between(
-    alloc: Global,
     out: &mut Row<Bridge>,
     a: u32,
     measures: &[DrawnMeasure<'_>],
@@ -46,7 +20,7 @@ pub(crate) fn put_beams_between(
 {
     let mut measure = a;
     for d in measures {
-        put_measure_beams(alloc, out, measure, d.events.as_slice())?;
+        put_beams(out, measure, d.events.as_slice())?;
         measure += 1;
     }
     Ok(())

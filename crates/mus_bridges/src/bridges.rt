@@ -8,12 +8,10 @@ use mus_drawn::DrawnVoice;
 use mus_keys::Frame;
 use mus_laid::Bridge;
 use mus_units::{Memory, Row};
-use std::alloc::Global;
 
 /// Draws what a voice has between the columns of a system: the beams of its notes, those of its graces,
 /// and its arcs. The only error is want of memory.
 pub fn put_bridges_of(
-    alloc: Global,
     out: &mut Row<Bridge>,
     frame: &Frame<'_>,
     v: &DrawnVoice<'_>,
@@ -24,7 +22,7 @@ pub fn put_bridges_of(
 {
     let all = v.measures.as_slice();
     let measures = &all[frame.a as usize..frame.b as usize];
-    put_beams_between(alloc, out, frame.a, measures)?;
+    put_beams_between(out, frame.a, measures)?;
     put_grace_beams_between(out, frame.a, measures)?;
     put_arcs_between(out, frame, all, v.arcs.as_slice())
 }

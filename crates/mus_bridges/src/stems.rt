@@ -1,11 +1,11 @@
-ghost use Rattle.std.specs.Prelude.{◌≡◌, ◌-◌, ◌++◌, OnOk};
-ghost use Rattle.mus_stems.specs.Slope.{with_end};
-ghost use Rattle.mus_bridges.specs.Beams.{stem_of, way_of, goes_on, last_at, level_from, levels_from, levels_before, beams_at, beams_from, beam_marks};
+ghost use Rattle.std.specs.Prelude.{◌≡◌, ◌-◌, ◌++◌, map, OnOk};
+ghost use Rattle.mus_bridges.specs.{Beams.{stem_of, way_of, goes_on, last_at, level_from, levels_from, levels_before, beams_at, beams_from, beam_marks}, Bridges.stem_at};
 
+use mus_drawn::DrawnEvent;
 use mus_ink::drawing::put_beam;
 use mus_ink::stems::lower_edge;
+use mus_keys::note_key;
 use mus_laid::Bridge;
-use mus_stems::StemPlan;
 use mus_time::{ColumnKey, is_same};
 use mus_units::{Memory, Row, Way};
 
@@ -20,17 +20,17 @@ pub struct Stem {
     pub flags: u8,
 }
 
-/// What beams need of an event in the column of a key, whose stem ends at `to`.
+/// What beams need of an event of a measure.
 #[tactic(auto, unfolding(crate::specs::Beams::stem_of))]
-pub fn stem_of(key: ColumnKey, plan: &StemPlan, to: i32) -> Stem
-    ensures { result ≡ stem_of key (with_end plan.now to) }
+fn stem_at(measure: u32, e: &DrawnEvent<'_>) -> Stem
+    ensures { result ≡ stem_at measure e.now }
 {
     Stem {
-        key,
-        up: plan.up,
-        to,
-        group: plan.group,
-        flags: plan.flags,
+        key: note_key(measure, e),
+        up: e.plan.up,
+        to: e.plan.to,
+        group: e.plan.group,
+        flags: e.plan.flags,
     }
 }
 
@@ -48,15 +48,16 @@ fn goes_on(level: u8, p: Stem, q: Stem) -> bool
 }
 
 /// The last event of the run at a level that an event is in, among those behind it.
-fn last_at(level: u8, p: Stem, behind: &[Stem]) -> Stem
-    ensures { result ≡ last_at level p behind.now }
+fn last_at(level: u8, measure: u32, p: Stem, behind: &[DrawnEvent<'_>]) -> Stem
+    ensures { result ≡ last_at level p (map (stem_at measure) behind.now) }
 {
     let mut last = p;
-    for q in behind {
-        if !goes_on(level, last, *q) {
+    for e in behind {
+        let q = stem_at(measure, e);
+        if !goes_on(level, last, q) {
             return last;
         }
-        last = *q;
+        last = q;
     }
     last
 }
@@ -74,25 +75,20 @@ fn put_level(out: &mut Row<Bridge>, level: u8, p: Stem, q: Stem) -> Result<(), M
     put_beam(out, way(p.up), p.key, q.key, from, to)
 }
 
-fn put_level_at(out: &mut Row<Bridge>, level: u8, p: Stem, behind: &[Stem]) -> Result<(), Memory>
-    ensures { OnOk result (out.new ≡ out.old ++ level_from level p (last_at level p behind.now)) }
-{
-    put_level(out, level, p, last_at(level, p, behind))
-}
-
 /// Draws the beams from one level to below another of the runs that begin at an event.
 #[tactic(auto, using(crate::proofs::LevelLaws::levels_step, std::proofs::lemmas::Grind::common_steps))]
 fn put_levels(
     out: &mut Row<Bridge>,
     level: u8,
     flags: u8,
+    measure: u32,
     p: Stem,
-    behind: &[Stem],
+    behind: &[DrawnEvent<'_>],
 ) -> Result<(), Memory>
-    ensures { OnOk result (out.new ≡ out.old ++ levels_from level (flags - level) p behind.now) }
+    ensures { OnOk result (out.new ≡ out.old ++ levels_from level (flags - level) p (map (stem_at measure) behind.now)) }
 {
     for k in level..flags {
-        put_level_at(out, k, p, behind)?;
+        put_level(out, k, p, last_at(k, measure, p, behind))?;
     }
     Ok(())
 }
@@ -110,25 +106,31 @@ fn put_beams_at(
     out: &mut Row<Bridge>,
     group: u32,
     flags: u8,
+    measure: u32,
     p: Stem,
-    behind: &[Stem],
+    behind: &[DrawnEvent<'_>],
 ) -> Result<(), Memory>
-    ensures { OnOk result (out.new ≡ out.old ++ beams_at group flags p behind.now) }
+    ensures { OnOk result (out.new ≡ out.old ++ beams_at group flags p (map (stem_at measure) behind.now)) }
 {
-    put_levels(out, levels_before(p, group, flags), p.flags, p, behind)
+    let level = levels_before(p, group, flags);
+    put_levels(out, level, p.flags, measure, p, behind)
 }
 
-/// Draws the beams of the events of a measure, whose keys differ: by the first event that each
-/// joins, then by level.
+/// Draws the beams of the events of a measure: by the first event that each joins, then by level.
 #[tactic(auto, unfolding(crate::specs::Beams::beam_marks))]
-pub fn put_beams(out: &mut Row<Bridge>, stems: &[Stem]) -> Result<(), Memory>
-    ensures { OnOk result (out.new ≡ out.old ++ beam_marks stems.now) }
+pub fn put_beams(
+    out: &mut Row<Bridge>,
+    measure: u32,
+    events: &[DrawnEvent<'_>],
+) -> Result<(), Memory>
+    ensures { OnOk result (out.new ≡ out.old ++ beam_marks (map (stem_at measure) events.now)) }
 {
-    let mut rest = stems;
+    let mut rest = events;
     let mut group = 0;
     let mut flags = 0;
-    while let Some((p, behind)) = rest.split_first() {
-        put_beams_at(out, group, flags, *p, behind)?;
+    while let [e, behind @ ..] = rest {
+        let p = stem_at(measure, e);
+        put_beams_at(out, group, flags, measure, p, behind)?;
         group = p.group;
         flags = p.flags;
         rest = behind;

@@ -1,9 +1,9 @@
--- Voices that are tilted all at once: what they keep, how they are put back, and the staves that they stand on.
-use Rattle.std.{proofs.{Common.{◌≡◌, ◌∙◌, ℕ, ℤ, ◌-◌, ◌≤◌, List, [], ◌∷◌, length, sum, map, drop, refl, sym, ap, subst, arith}, lemmas.{List.{length-take, Elements.{All-map, recursion_from_All}}, Simd.map-map}}, specs.List.{All, AllByRecursion, slice_index_or, slice_range}}
+-- Voices that are tilted all at once: what they keep, and the staves that they stand on.
+use Rattle.std.{proofs.{Common.{◌≡◌, ◌∙◌, ℕ, ℤ, List, [], ◌∷◌, length, sum, map, refl, sym, ap, subst}, lemmas.{List.{Elements.{All-map}}, Simd.map-map}}, specs.List.{All, slice_index_or, slice_range}}
 use Rattle.mus_score.specs.Seats.{grouped}
 use Rattle.mus_time.specs.declared.keys.ColumnKey.{ColumnKey}
 use Rattle.mus_drawn.specs.{declared.drawn.DrawnVoice.DrawnVoice, Good.AreGoodMeasures}
-use Rattle.mus_marks.{specs.{Staff.{staff_marks, verses_on}, System.stands_lower, Tilt.{over, plain_ends, sloped_over, tilted_staff, voice_ended, voice_tilted}}, proofs.{Ending.{ended_back, ended_good, ended_length, sloped_length}, Groups.grouped_map}}
+use Rattle.mus_marks.{specs.{Staff.{staff_marks, verses_on}, System.stands_lower, Tilt.{over, sloped_over, tilted_staff, voice_ended, voice_tilted}}, proofs.{Ending.{ended_good, ended_length}, Groups.grouped_map}}
 
 over_own : {A B : Type 0} (f : B → A → A) (g : A → B) (xs : List A) → over f (map g xs) xs ≡ map (λ x. f (g x) x) xs
 over_own f g [] = refl
@@ -25,18 +25,6 @@ module _ (keys : List ColumnKey) (at : List ℤ) (a b : ℕ) where
 
   pub tilted_verses : (vs ws : List DrawnVoice) → ws ≡ map (voice_tilted keys at a b) vs → verses_on ws ≡ verses_on vs
   tilted_verses vs ws is = ap verses_on is ∙ ap sum (map-map (λ v. v.verses) (voice_tilted keys at a b) vs)
-
-  back : (vs : List DrawnVoice) → AllByRecursion (λ v. a ≤ length v.measures) vs → over (voice_ended a) (map (λ v. plain_ends (slice_range v.measures a b)) vs) (map (voice_tilted keys at a b) vs) ≡ vs
-  back [] long = refl
-  back (v ∷ vs) long =
-      let ends = sloped_over keys at a (slice_range v.measures a b) in
-      let some = sloped_length keys at a (slice_range v.measures a b) in
-      let few = length-take (b - a) (drop a v.measures) in
-      ap (λ t. t ∷ over (voice_ended a) (map (λ w. plain_ends (slice_range w.measures a b)) vs) (map (voice_tilted keys at a b) vs)) (ended_back a (b - a) ends v long.0 (omega (arith, some, few)))
-      ∙ ap (λ t. v ∷ t) (back vs long.1)
-
-  pub put_back : (vs : List DrawnVoice) → All (λ v. a ≤ length v.measures) vs → over (voice_ended a) (map (λ v. plain_ends (slice_range v.measures a b)) vs) (map (voice_tilted keys at a b) vs) ≡ vs
-  put_back vs long = back vs (recursion_from_All (λ v. a ≤ length v.measures) vs long)
 
   -- the staves of tilted voices are the tilted staves
   pub staves_tilted : (lengths : List ℕ) (vs : List DrawnVoice) → map (staff_marks keys lengths a b) (grouped stands_lower (map (voice_tilted keys at a b) vs)) ≡ map (tilted_staff keys lengths at a b) (grouped stands_lower vs)

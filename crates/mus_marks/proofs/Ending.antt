@@ -1,46 +1,27 @@
 -- Events with other ends: the walks that write them, what stays as it was, and how it is undone.
 use Rattle.std.{proofs.{Common.{◌≡◌, ◌∙◌, ℕ, zero, suc, ℤ, pos, ◌+◌, ◌<◌, ◌≤◌, List, [], ◌∷◌, ◌++◌, length, get_or, set, take, drop, map, refl, sym, ap, subst, arith}, lemmas.List.{length-map, map-append, set-get_or, take-append-drop, Elements.{All-from_recursion, recursion_from_All}}}, specs.List.{All, AllByRecursion}}
-use Rattle.mus_time.specs.declared.keys.ColumnKey.{ColumnKey}
 use Rattle.mus_stems.proofs.RunLaws.{all_append, all_drop, all_take}
 use Rattle.mus_drawn.specs.{declared.drawn.DrawnEvent.DrawnEvent, declared.drawn.DrawnMeasure.DrawnMeasure, declared.drawn.DrawnVoice.DrawnVoice, Good.AreGoodMeasures, Good.IsGoodDrawn, Good.IsGoodMeasure}
-use Rattle.mus_marks.{specs.Tilt.event_ended, specs.Tilt.measure_ended, specs.Tilt.over, specs.Tilt.plain_ends, specs.Tilt.sloped_over, specs.Tilt.voice_ended, proofs.Parts.Fits, proofs.Parts.FitsEvent, proofs.Parts.FitsMeasure}
+use Rattle.mus_marks.{specs.Tilt.{end_left, event_ended, measure_ended, measure_left, over, voice_ended, voice_left}, proofs.Parts.Fits, proofs.Parts.FitsEvent, proofs.Parts.FitsMeasure}
 
 -- ---- f of each element and what a list has for it
 module _ {A B : Type 0} (f : B → A → A) where
-  written : (ts : List B) (xs : List A) (i : ℕ) (t : B) (d : A) → i < length ts → t ≡ get_or ts i t → i < length xs
-      → set (over f (take i ts) xs) i (f t (get_or (over f (take i ts) xs) i d)) ≡ over f (take (suc i) ts) xs
-  written [] xs i t d some at inside = absurd (omega (arith, some))
-  written (u ∷ ts) [] i t d some at inside = absurd (omega (arith, inside))
-  written (u ∷ ts) (y ∷ xs) zero t d some at inside = ap (λ z. f z y ∷ xs) at
-  written (u ∷ ts) (y ∷ xs) (suc i) t d some at inside = ap (λ z. f u y ∷ z) (written ts xs i t d (omega (arith, some)) at (omega (arith, inside)))
-
   all_taken : (ts : List B) (i : ℕ) → length ts ≤ i → take i ts ≡ ts
   all_taken [] zero h = refl
   all_taken [] (suc i) h = refl
   all_taken (t ∷ ts) zero h = absurd (omega (arith, h))
   all_taken (t ∷ ts) (suc i) h = ap (λ z. t ∷ z) (all_taken ts i (omega (arith, h)))
 
-  -- a turn of a walk, where the list has something and where it has nothing, and the end of the walk
-  pub turn_some : (ts : List B) (xs ys zs : List A) (i : ℕ) (t : B) (y d : A) → ys ≡ over f (take i ts) xs → i < length ts → t ≡ get_or ts i t → i < length xs → y ≡ f t (get_or ys i d) → zs ≡ set ys i y
-      → zs ≡ over f (take (i + 1) ts) xs
-  turn_some ts xs ys zs i t y d so_far some at inside made put =
-      let e : suc i ≡ i + 1 = omega arith in
-      put ∙ ap (set ys i) made ∙ ap (λ z. set z i (f t (get_or z i d))) so_far ∙ written ts xs i t d some at inside ∙ ap (λ n. over f (take n ts) xs) e
-
-  pub turn_none : (ts : List B) (xs ys zs : List A) (i : ℕ) (d : A) → ys ≡ over f (take i ts) xs → length ts ≤ i → zs ≡ set ys i (get_or ys i d) → zs ≡ over f (take (i + 1) ts) xs
-  turn_none ts xs ys zs i d so_far none same =
-      same ∙ set-get_or ys i d ∙ so_far ∙ ap (λ z. over f z xs) (all_taken ts i none ∙ sym (all_taken ts (i + 1) (omega (arith, none))))
+  enough : (ts : List B) (xs : List A) (n : ℕ) → length xs ≤ n → over f (take n ts) xs ≡ over f ts xs
+  enough [] xs zero h = refl
+  enough [] xs (suc n) h = refl
+  enough (t ∷ ts) [] zero h = refl
+  enough (t ∷ ts) [] (suc n) h = refl
+  enough (t ∷ ts) (x ∷ xs) zero h = absurd (omega (arith, h))
+  enough (t ∷ ts) (x ∷ xs) (suc n) h = ap (λ z. f t x ∷ z) (enough ts xs n (omega (arith, h)))
 
   pub walk_done : (ts : List B) (xs ys : List A) (n : ℕ) → ys ≡ over f (take n ts) xs → length xs ≤ n → ys ≡ over f ts xs
-  walk_done ts xs ys n so_far h = so_far ∙ by ts xs n h
-    where
-      by : (ts : List B) (xs : List A) (n : ℕ) → length xs ≤ n → over f (take n ts) xs ≡ over f ts xs
-      by [] xs zero h = refl
-      by [] xs (suc n) h = refl
-      by (t ∷ ts) [] zero h = refl
-      by (t ∷ ts) [] (suc n) h = refl
-      by (t ∷ ts) (x ∷ xs) zero h = absurd (omega (arith, h))
-      by (t ∷ ts) (x ∷ xs) (suc n) h = ap (λ z. f t x ∷ z) (by ts xs n (omega (arith, h)))
+  walk_done ts xs ys n so_far h = so_far ∙ enough ts xs n h
 
   -- what f keeps of an element stays
   over_map : {C : Type 0} (h : A → C) → ((t : B) (x : A) → h (f t x) ≡ h x) → (ts : List B) (xs : List A) → map h (over f ts xs) ≡ map h xs
@@ -48,20 +29,55 @@ module _ {A B : Type 0} (f : B → A → A) where
   over_map h same (t ∷ ts) [] = refl
   over_map h same (t ∷ ts) (x ∷ xs) = ap (λ z. z ∷ map h (over f ts xs)) (same t x) ∙ ap (λ z. h x ∷ z) (over_map h same ts xs)
 
+  pub over_count : (ts : List B) (xs : List A) → length (over f ts xs) ≡ length xs
+  over_count [] xs = refl
+  over_count (t ∷ ts) [] = refl
+  over_count (t ∷ ts) (x ∷ xs) = ap suc (over_count ts xs)
+
   over_all : (P : A → Type 0) → ((t : B) (x : A) → P x → P (f t x)) → (ts : List B) (xs : List A) → AllByRecursion P xs → AllByRecursion P (over f ts xs)
   over_all P keeps [] xs all = all
   over_all P keeps (t ∷ ts) [] all = tt
   over_all P keeps (t ∷ ts) (x ∷ xs) all = (keeps t x all.0, over_all P keeps ts xs all.1)
 
-  -- a second walk undoes a first one
-  over_back : (g : A → B) → ((x : A) → f (g x) x ≡ x) → ((t : B) (x : A) → f (g x) (f t x) ≡ x) → (n : ℕ) (ts : List B) (xs : List A) → length ts ≤ n → over f (map g (take n xs)) (over f ts xs) ≡ xs
-  over_back g own back zero [] xs h = refl
-  over_back g own back zero (t ∷ ts) xs h = absurd (omega (arith, h))
-  over_back g own back (suc n) [] [] h = refl
-  over_back g own back (suc n) (t ∷ ts) [] h = refl
-  over_back g own back (suc n) [] (x ∷ xs) h = ap (λ z. z ∷ over f (map g (take n xs)) xs) (own x) ∙ ap (λ z. x ∷ z) (over_back g own back n [] xs (omega arith))
-  over_back g own back (suc n) (t ∷ ts) (x ∷ xs) h =
-      ap (λ z. z ∷ over f (map g (take n xs)) (over f ts xs)) (back t x) ∙ ap (λ z. x ∷ z) (over_back g own back n ts xs (omega (arith, h)))
+-- ---- two lists that are changed by one another: g is what an element leaves in the other list
+module _ {A B : Type 0} (f : B → A → A) (g : A → B → B) where
+  written : (ts : List B) (xs : List A) (i : ℕ) (t : B) (x : A) → i < length ts → i < length xs
+      → set (over f (take i ts) xs) i (f (get_or (over g (take i xs) ts) i t) (get_or (over f (take i ts) xs) i x)) ≡ over f (take (suc i) ts) xs
+  written [] xs i t x some inside = absurd (omega (arith, some))
+  written (u ∷ ts) [] i t x some inside = absurd (omega (arith, inside))
+  written (u ∷ ts) (y ∷ xs) zero t x some inside = refl
+  written (u ∷ ts) (y ∷ xs) (suc i) t x some inside = ap (λ z. f u y ∷ z) (written ts xs i t x (omega (arith, some)) (omega (arith, inside)))
+
+  turn : (ts us : List B) (xs ys zs : List A) (i : ℕ) (t : B) (y x : A) → ys ≡ over f (take i ts) xs → us ≡ over g (take i xs) ts → i < length ts → i < length xs
+      → y ≡ f (get_or us i t) (get_or ys i x) → zs ≡ set ys i y → zs ≡ over f (take (i + 1) ts) xs
+  turn ts us xs ys zs i t y x so_far left some inside made put =
+      let e : suc i ≡ i + 1 = omega arith in
+      put ∙ ap (set ys i) made ∙ ap (λ z. set z i (f (get_or us i t) (get_or z i x))) so_far
+      ∙ ap (λ z. set (over f (take i ts) xs) i (f (get_or z i t) (get_or (over f (take i ts) xs) i x))) left ∙ written ts xs i t x some inside ∙ ap (λ n. over f (take n ts) xs) e
+
+  undone : ((t : B) (x : A) → f (g x t) (f t x) ≡ x) → (ts : List B) (xs : List A) → over f (over g xs ts) (over f ts xs) ≡ xs
+  undone back [] [] = refl
+  undone back [] (x ∷ xs) = refl
+  undone back (t ∷ ts) [] = refl
+  undone back (t ∷ ts) (x ∷ xs) = ap (λ z. z ∷ over f (over g xs ts) (over f ts xs)) (back t x) ∙ ap (λ z. x ∷ z) (undone back ts xs)
+
+-- two walks side by side, behind i turns; a turn where the second list has something, and where it has nothing
+abbrev pub Exchanged : {A B : Type 0} → (B → A → A) → (A → B → B) → ℕ → List B → List A → List B → List A → Type 0
+Exchanged f g i ts xs us ys = (ys ≡ over f (take i ts) xs) × (us ≡ over g (take i xs) ts)
+
+module _ {A B : Type 0} (f : B → A → A) (g : A → B → B) (ts us vs : List B) (xs ys zs : List A) (i : ℕ) where
+  pub turn_some : (u t : B) (y x : A) → Exchanged f g i ts xs us ys → i < length us → i < length xs
+      → y ≡ f (get_or us i t) (get_or ys i x) → u ≡ g (get_or ys i x) (get_or us i t) → zs ≡ set ys i y → vs ≡ set us i u → Exchanged f g (i + 1) ts xs vs zs
+  turn_some u t y x both some inside made leaves put taken =
+      let count = ap length both.1 ∙ over_count g (take i xs) ts in
+      (turn f g ts us xs ys zs i t y x both.0 both.1 (omega (arith, some, count)) inside made put, turn g f xs ys ts us vs i x u t both.1 both.0 inside (omega (arith, some, count)) leaves taken)
+
+  pub turn_none : (x : A) → Exchanged f g i ts xs us ys → length us ≤ i → zs ≡ set ys i (get_or ys i x) → vs ≡ us → Exchanged f g (i + 1) ts xs vs zs
+  turn_none x both none same kept =
+      let count = ap length both.1 ∙ over_count g (take i xs) ts in (
+        same ∙ set-get_or ys i x ∙ both.0 ∙ ap (λ z. over f z xs) (all_taken f ts i (omega (arith, none, count)) ∙ sym (all_taken f ts (i + 1) (omega (arith, none, count)))),
+        kept ∙ both.1 ∙ enough g xs ts i (omega (arith, none, count)) ∙ sym (enough g xs ts (i + 1) (omega (arith, none, count))),
+      )
 
 -- ---- events and measures: all ends at 0
 abbrev pub flat_event : DrawnEvent → DrawnEvent
@@ -73,11 +89,8 @@ flat_measure d = record d { events = map flat_event d.events }
 flat_ended : (ends : List ℤ) (d : DrawnMeasure) → flat_measure (measure_ended ends d) ≡ flat_measure d
 flat_ended ends d = ap (λ es. record d { events = es }) (over_map event_ended flat_event (λ to e. refl) ends d.events)
 
-events_back : (ends : List ℤ) (es : List DrawnEvent) → over event_ended (map (λ e. e.plan.to) es) (over event_ended ends es) ≡ es
-events_back [] [] = refl
-events_back (to ∷ ends) [] = refl
-events_back [] (e ∷ es) = ap (λ z. e ∷ z) (events_back [] es)
-events_back (to ∷ ends) (e ∷ es) = ap (λ z. e ∷ z) (events_back ends es)
+measure_back : (ends : List ℤ) (d : DrawnMeasure) → measure_ended (measure_left d ends) (measure_ended ends d) ≡ d
+measure_back ends d = ap (λ es. record d { events = es }) (undone event_ended end_left (λ to e. refl) ends d.events)
 
 -- ---- a voice, from measure a on
 module _ {A : Type 0} where
@@ -110,20 +123,33 @@ ended_good = all_ended IsGoodMeasure (λ ends d good. record {
 pub ended_fits : (verses a : ℕ) (ends : List (List ℤ)) (v : DrawnVoice) → Fits verses v.measures → Fits verses (voice_ended a ends v).measures
 ended_fits verses = all_ended (FitsMeasure verses) (λ ends d fits. (fits.0, over_all event_ended (FitsEvent verses) (λ to e h. h) ends d.events fits.1))
 
-pub ended_back : (a n : ℕ) (ends : List (List ℤ)) (v : DrawnVoice) → a ≤ length v.measures → length ends ≤ n → voice_ended a (plain_ends (take n (drop a v.measures))) (voice_ended a ends v) ≡ v
-ended_back a n ends v within few =
+ended_back : (a : ℕ) (ends : List (List ℤ)) (v : DrawnVoice) → a ≤ length v.measures → voice_ended a (voice_left a v ends) (voice_ended a ends v) ≡ v
+ended_back a ends v within =
     let ms = v.measures in
     let both = seam a ms (over measure_ended ends (drop a ms)) within in
-    let plain = plain_ends (take n (drop a ms)) in
-    ap (λ z. record v { measures = z ++ over measure_ended plain (drop a (voice_ended a ends v).measures) }) both.0
-    ∙ ap (λ z. record v { measures = take a ms ++ over measure_ended plain z }) both.1
-    ∙ ap (λ z. record v { measures = take a ms ++ z })
-    (over_back measure_ended (λ d. map (λ e. e.plan.to) d.events) (λ d. ap (λ es. record d { events = es }) (events_back [] d.events)) (λ es d. ap (λ es. record d { events = es }) (events_back es d.events)) n ends (drop a ms) few)
+    let left = voice_left a v ends in
+    ap (λ z. record v { measures = z ++ over measure_ended left (drop a (voice_ended a ends v).measures) }) both.0
+    ∙ ap (λ z. record v { measures = take a ms ++ over measure_ended left z }) both.1
+    ∙ ap (λ z. record v { measures = take a ms ++ z }) (undone measure_ended measure_left measure_back ends (drop a ms))
     ∙ ap (λ z. record v { measures = z }) (take-append-drop a ms)
 
-pub sloped_length : (keys : List ColumnKey) (at : List ℤ) (m : ℕ) (ds : List DrawnMeasure) → length (sloped_over keys at m ds) ≡ length ds
-sloped_length keys at m [] = refl
-sloped_length keys at m (d ∷ ds) = ap suc (sloped_length keys at (m + 1) ds)
+voices_back : (a : ℕ) (ends : List (List (List ℤ))) (vs : List DrawnVoice) → AllByRecursion (λ v. a ≤ length v.measures) vs
+    → over (voice_ended a) (over (voice_left a) vs ends) (over (voice_ended a) ends vs) ≡ vs
+voices_back a [] [] long = refl
+voices_back a [] (v ∷ vs) long = refl
+voices_back a (t ∷ ts) [] long = refl
+voices_back a (t ∷ ts) (v ∷ vs) long =
+    ap (λ z. z ∷ over (voice_ended a) (over (voice_left a) vs ts) (over (voice_ended a) ts vs)) (ended_back a t v long.0) ∙ ap (λ z. v ∷ z) (voices_back a ts vs long.1)
+
+pub whole : {A : Type 0} (n : ℕ) (xs ys : List A) → length xs ≡ n → take n (xs ++ ys) ≡ xs
+whole zero [] ys h = refl
+whole zero (x ∷ xs) ys h = absurd (omega (arith, h))
+whole (suc n) [] ys h = absurd (omega (arith, h))
+whole (suc n) (x ∷ xs) ys h = ap (λ z. x ∷ z) (whole n xs ys (omega (arith, h)))
+
+pub put_back : (a : ℕ) (ends left : List (List (List ℤ))) (vs ws us : List DrawnVoice) → All (λ v. a ≤ length v.measures) vs → ws ≡ over (voice_ended a) ends vs → left ≡ over (voice_left a) vs ends → us ≡ over (voice_ended a) left ws → us ≡ vs
+put_back a ends left vs ws us long put leaves again =
+    again ∙ ap (over (voice_ended a) left) put ∙ ap (λ z. over (voice_ended a) z (over (voice_ended a) ends vs)) leaves ∙ voices_back a ends vs (recursion_from_All (λ v. a ≤ length v.measures) vs long)
 
 -- voices whose measures have other ends have as many
 pub ended_long : (a : ℕ) (ends : List (List (List ℤ))) (vs ws : List DrawnVoice) → All (λ v. a ≤ length v.measures) vs → ws ≡ over (voice_ended a) ends vs → All (λ v. a ≤ length v.measures) ws

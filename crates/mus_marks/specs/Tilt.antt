@@ -31,10 +31,6 @@ abbrev pub sloped_over : List ColumnKey → List ℤ → ℕ → List DrawnMeasu
 sloped_over keys at m [] = []
 sloped_over keys at m (d ∷ ds) = ends_over keys at m d.events ∷ sloped_over keys at (m + 1) ds
 
--- the ends that events of measures have without a slope
-abbrev pub plain_ends : List DrawnMeasure → List (List ℤ)
-plain_ends ds = map (λ d. map (λ e. e.plan.to) d.events) ds
-
 -- f of each element and what a list has for it; where this is lacking, the rest as they are
 abbrev pub over : {A B : Type 0} → (B → A → A) → List B → List A → List A
 over f [] xs = xs
@@ -51,6 +47,16 @@ measure_ended ends d = record d { events = over event_ended ends d.events }
 -- a voice whose measures have other ends from number a on, as far as there are any
 abbrev pub voice_ended : ℕ → List (List ℤ) → DrawnVoice → DrawnVoice
 voice_ended a ends v = record v { measures = take a v.measures ++ over measure_ended ends (drop a v.measures) }
+
+-- the ends that are left of others where these were put in: those that were there before
+abbrev pub end_left : DrawnEvent → ℤ → ℤ
+end_left e to = e.plan.to
+
+abbrev pub measure_left : DrawnMeasure → List ℤ → List ℤ
+measure_left d ends = over end_left d.events ends
+
+abbrev pub voice_left : ℕ → DrawnVoice → List (List ℤ) → List (List ℤ)
+voice_left a v ends = over measure_left (drop a v.measures) ends
 
 -- measures a to b - 1 of a voice tilted, all others as they are
 abbrev pub voice_tilted : List ColumnKey → List ℤ → ℕ → ℕ → DrawnVoice → DrawnVoice

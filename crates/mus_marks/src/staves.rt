@@ -16,6 +16,9 @@ use mus_laid::{Bridge, Laid, Pen, StaffMarks, by_columns, put_bridges, staff_hei
 use mus_units::{Memory, Row};
 use std::alloc::Global;
 
+/// How many beams and arcs most measures have at most; room for so many is made at once.
+const BRIDGES_OF_MEASURE: usize = 4;
+
 /// Lays what a voice has in the columns of a system, with syllables and texts where their place is
 /// known.
 fn put_own_part(
@@ -44,9 +47,10 @@ fn bridges_on(
     requires good { All (λ v. AreGoodMeasures v.measures) voices.now }
     ensures { IfOk result (λ r. r ≡ flat_map (bridges_of frame.now.lengths.now frame.now.a frame.now.b) voices.now) }
 {
-    let mut out = Row::new(alloc);
+    let measures = (frame.b - frame.a) as usize;
+    let mut out = Row::with_room(alloc, measures * BRIDGES_OF_MEASURE)?;
     for v in voices {
-        put_bridges_of(alloc, &mut out, frame, v)?;
+        put_bridges_of(&mut out, frame, v)?;
     }
     Ok(out)
 }

@@ -4,7 +4,7 @@ ghost use Rattle.mus_time.specs.{Keys.IsInSystem, Onsets.timeline_of, Ranks.AreR
 ghost use Rattle.mus_drawn.specs.{Drawn.drawn_voice, Good.AreGoodMeasures};
 ghost use Rattle.mus_stems.specs.Slope.{anchor_of};
 ghost use Rattle.mus_laid.specs.{Boxes.AreGoodMarks, Shapes.AreAlike};
-ghost use Rattle.mus_marks.specs.{Staff.{CoversLines, verses_on}, System.{IsCall, stands_lower}, Tilt.{CanTilt, AllCanTilt, ends_over, sloped_over, plain_ends, over, event_ended, measure_ended, voice_ended, tilted_staff, AreAbscissas, IsTilted}};
+ghost use Rattle.mus_marks.specs.{Staff.{CoversLines, verses_on}, System.{IsCall, stands_lower}, Tilt.{CanTilt, AllCanTilt, ends_over, sloped_over, over, event_ended, end_left, measure_ended, measure_left, voice_ended, voice_left, tilted_staff, AreAbscissas, IsTilted}};
 
 use crate::staves::staves;
 use mus_drawn::{DrawnEvent, DrawnMeasure, DrawnVoice};
@@ -15,6 +15,10 @@ use mus_stems::{Anchor, ends_for};
 use mus_time::{ColumnKey, Timeline, next_rank};
 use mus_units::{Memory, Row};
 use std::alloc::Global;
+use std::mem;
+
+/// How many events most measures have at most; room for so many is made at once.
+const EVENTS_OF_MEASURE: usize = 16;
 
 /// What the line of its beam takes from an event.
 #[tactic(auto, unfolding(mus_stems::specs::Slope::anchor_of))]
@@ -29,9 +33,10 @@ fn anchor_at(at: &[i64], rank: u32, e: &DrawnEvent<'_>) -> Anchor
     }
 }
 
-/// The ends of the events of a measure on the lines of their beams.
+/// The ends of the events of a measure on the lines of their beams; `anchors` is room to work in.
 fn ends_over(
     alloc: Global,
+    anchors: &mut Row<Anchor>,
     keys: &[ColumnKey],
     near: &mut usize,
     at: &[i64],
@@ -43,7 +48,7 @@ fn ends_over(
     ensures { IfOk result (λ r. r ≡ ends_over keys.now at.now measure d.now.events) }
 {
     let events = d.events.as_slice();
-    let mut anchors = Row::with_room(alloc, events.len())?;
+    anchors.items.clear();
     for e in events {
         let rank = next_rank(keys, near, note_key(measure, e));
         anchors.push(anchor_at(at, rank, e))?;
@@ -65,90 +70,12 @@ fn sloped_over(
     ensures { IfOk result (λ r. r ≡ sloped_over keys.now at.now a measures.now) }
 {
     let mut ends = Row::with_room(alloc, measures.len())?;
+    let mut anchors = Row::with_room(alloc, EVENTS_OF_MEASURE)?;
     let (mut measure, mut near) = (a, 0);
     for d in measures {
-        ends.push(ends_over(alloc, keys, &mut near, at, measure, d)?)?;
+        let own = ends_over(alloc, &mut anchors, keys, &mut near, at, measure, d)?;
+        ends.push(own)?;
         measure += 1;
-    }
-    Ok(ends)
-}
-
-fn plain_ends_of(alloc: Global, events: &[DrawnEvent<'_>]) -> Result<Row<i32>, Memory>
-    ensures { IfOk result (λ r. r ≡ map (λ e. e.plan.to) events.now) }
-{
-    let mut ends = Row::with_room(alloc, events.len())?;
-    for e in events {
-        ends.push(e.plan.to)?;
-    }
-    Ok(ends)
-}
-
-/// The ends that the events of measures have.
-fn plain_ends(alloc: Global, measures: &[DrawnMeasure<'_>]) -> Result<Row<Row<i32>>, Memory>
-    ensures { IfOk result (λ r. r ≡ plain_ends measures.now) }
-{
-    let mut ends = Row::with_room(alloc, measures.len())?;
-    for d in measures {
-        ends.push(plain_ends_of(alloc, d.events.as_slice())?)?;
-    }
-    Ok(ends)
-}
-
-fn end_event(e: &mut DrawnEvent<'_>, to: &i32)
-    ensures { e.exit.now ≡ event_ended to.now e.entry.now }
-{
-    e.plan.to = *to;
-}
-
-/// Gives events other ends.
-fn end_events(events: &mut [DrawnEvent<'_>], ends: &[i32])
-    ensures { events.new ≡ over event_ended ends.now events.old }
-{
-    for (i, e) in events.iter_mut().enumerate() {
-        if let Some(to) = ends.get(i) {
-            end_event(e, to);
-        }
-    }
-}
-
-fn end_measure(d: &mut DrawnMeasure<'_>, ends: &Row<i32>)
-    ensures { d.new ≡ measure_ended ends.now d.old }
-{
-    end_events(d.events.items.as_mut_slice(), ends.as_slice());
-}
-
-/// Gives the events of measures other ends.
-fn end_measures(measures: &mut [DrawnMeasure<'_>], ends: &[Row<i32>])
-    ensures { measures.new ≡ over measure_ended ends.now measures.old }
-{
-    for (i, d) in measures.iter_mut().enumerate() {
-        if let Some(own) = ends.get(i) {
-            end_measure(d, own);
-        }
-    }
-}
-
-/// Gives the events of a voice other ends, from measure `a` on.
-fn end_voice(v: &mut DrawnVoice<'_>, a: u32, ends: &[Row<i32>])
-    requires { a ≤ length v.old.measures }
-    ensures { v.new ≡ voice_ended a ends.now v.old }
-{
-    end_measures(&mut v.measures.items.as_mut_slice()[a as usize..], ends);
-}
-
-/// The ends that the events of voices have in a system.
-fn plain_voices(
-    alloc: Global,
-    frame: &Frame<'_>,
-    voices: &[DrawnVoice<'_>],
-) -> Result<Row<Row<Row<i32>>>, Memory>
-    requires { All (λ v. length v.measures ≡ length frame.now.lengths.now) voices.now }
-    ensures { IfOk result (λ r. r ≡ map (λ v. plain_ends (slice_range v.measures frame.now.a frame.now.b)) voices.now) }
-{
-    let mut ends = Row::with_room(alloc, voices.len())?;
-    for v in voices {
-        let measures = &v.measures.as_slice()[frame.a as usize..frame.b as usize];
-        ends.push(plain_ends(alloc, measures)?)?;
     }
     Ok(ends)
 }
@@ -172,14 +99,65 @@ fn sloped_voices(
     Ok(ends)
 }
 
-/// Gives the events of voices other ends, from measure `a` on.
-fn end_voices(voices: &mut [DrawnVoice<'_>], a: u32, ends: &[Row<Row<i32>>])
+/// Exchanges the end of an event for another.
+fn exchange_end(e: &mut DrawnEvent<'_>, to: &mut i32)
+    ensures event { e.exit.now ≡ event_ended to.entry.now e.entry.now }
+    ensures end { to.exit.now ≡ end_left e.entry.now to.entry.now }
+{
+    mem::swap(&mut e.plan.to, to);
+}
+
+/// Exchanges the ends of events for others.
+fn exchange_ends(events: &mut [DrawnEvent<'_>], ends: &mut [i32])
+    ensures events { events.new ≡ over event_ended ends.old events.old }
+    ensures ends { ends.new ≡ over end_left events.old ends.old }
+{
+    for (i, e) in events.iter_mut().enumerate() {
+        if i < ends.len() {
+            exchange_end(e, &mut ends[i]);
+        }
+    }
+}
+
+fn exchange_measure(d: &mut DrawnMeasure<'_>, ends: &mut Row<i32>)
+    ensures measure { d.new ≡ measure_ended ends.old d.old }
+    ensures ends { ends.new ≡ measure_left d.old ends.old }
+{
+    let events = d.events.items.as_mut_slice();
+    exchange_ends(events, ends.items.as_mut_slice());
+}
+
+/// Exchanges the ends of the events of measures for others.
+fn exchange_measures(measures: &mut [DrawnMeasure<'_>], ends: &mut [Row<i32>])
+    ensures measures { measures.new ≡ over measure_ended ends.old measures.old }
+    ensures ends { ends.new ≡ over measure_left measures.old ends.old }
+{
+    for (i, d) in measures.iter_mut().enumerate() {
+        if i < ends.len() {
+            exchange_measure(d, &mut ends[i]);
+        }
+    }
+}
+
+/// Exchanges the ends of the events of a voice for others, from measure `a` on.
+fn exchange_voice(v: &mut DrawnVoice<'_>, a: u32, ends: &mut Row<Row<i32>>)
+    requires { a ≤ length v.old.measures }
+    ensures voice { v.new ≡ voice_ended a ends.old v.old }
+    ensures ends { ends.new ≡ voice_left a v.old ends.old }
+{
+    let measures = &mut v.measures.items.as_mut_slice()[a as usize..];
+    exchange_measures(measures, ends.items.as_mut_slice());
+}
+
+/// Exchanges the ends of the events of voices for others, from measure `a` on.
+fn exchange_voices(voices: &mut [DrawnVoice<'_>], a: u32, ends: &mut [Row<Row<i32>>])
     requires { All (λ v. a ≤ length v.measures) voices.old }
-    ensures { voices.new ≡ over (voice_ended a) ends.now voices.old }
+    ensures voices { voices.new ≡ over (voice_ended a) ends.old voices.old }
+    ensures ends { ends.new ≡ over (voice_left a) voices.old ends.old }
 {
     for (i, v) in voices.iter_mut().enumerate() {
-        if let Some(own) = ends.get(i) {
-            end_voice(v, a, own.as_slice());
+        if i < ends.len() {
+            exchange_voice(v, a, &mut ends[i]);
         }
     }
 }
@@ -199,11 +177,10 @@ fn tilted_staves(
     ensures staves { IfOk result (λ r. r ≡ map (tilted_staff frame.now.keys.now frame.now.lengths.now at.now frame.now.a frame.now.b) (grouped stands_lower voices.old)) }
     ensures lines { IfOk result (All CoversLines) }
 {
-    let plain = plain_voices(alloc, frame, voices)?;
-    let sloped = sloped_voices(alloc, frame, at, voices)?;
-    end_voices(voices, frame.a, sloped.as_slice());
+    let mut ends = sloped_voices(alloc, frame, at, voices)?;
+    exchange_voices(voices, frame.a, ends.items.as_mut_slice());
     let staves = staves(alloc, frame, voices);
-    end_voices(voices, frame.a, plain.as_slice());
+    exchange_voices(voices, frame.a, ends.items.as_mut_slice());
     staves
 }
 

@@ -223,7 +223,7 @@ pub fn ends_for(alloc: Global, events: &[Anchor]) -> Result<Row<i32>, Memory>
     requires rise { RisesInBeams events.now }
     ensures { IfOk result (λ ends. ends ≡ sloped_ends events.now) }
 {
-    let mut out = Row::new(alloc);
+    let mut out = Row::with_room(alloc, events.len())?;
     let mut rest = events;
     while let Some((a, more)) = rest.split_first() {
         let n = more_in_beam(a, more);

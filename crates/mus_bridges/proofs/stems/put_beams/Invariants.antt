@@ -1,9 +1,9 @@
-use Rattle.std.proofs.Common.{◌≡◌, ◌++◌, length}
-use Rattle.mus_bridges.specs.Beams.{beams_from}
+use Rattle.std.proofs.Common.{◌≡◌, ◌++◌, length, map}
+use Rattle.mus_bridges.specs.{Beams.beams_from, Bridges.stem_at}
 use Rattle.mus_bridges.proofs.stems.put_beams.Given as goal
 
-abbrev pub invariant-loop-p : goal.invariant-loop-p
-invariant-loop-p l = l.out ++ beams_from l.group l.flags l.rest ≡ l.fn.out ++ beams_from 0 0 l.stems
+abbrev pub invariant-loop-rest : goal.invariant-loop-rest
+invariant-loop-rest l = l.out ++ beams_from l.group l.flags (map (stem_at l.measure) l.rest) ≡ l.fn.out ++ beams_from 0 0 (map (stem_at l.measure) l.events)
 
-abbrev pub decreases-loop-p : goal.decreases-loop-p
-decreases-loop-p l = length l.rest
+abbrev pub decreases-loop-rest : goal.decreases-loop-rest
+decreases-loop-rest l = length l.rest
