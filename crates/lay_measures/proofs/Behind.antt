@@ -1,31 +1,19 @@
 -- Behind its head, a measure that begins without a change has the columns that it has in a system which began before.
-use Rattle.std.{proofs.{Common.{◌≡◌, ◌∙◌, ℕ, zero, suc, ◌+◌, ◌-◌, ◌<◌, ◌≤◌, ◌==◌, ◌&&◌, not, Bool, true, false, if◌then◌else◌, List, [], ◌∷◌, ◌++◌, length, map, take, drop, Option, Some, None, refl, sym, ap, subst, arith}, lemmas.{Bool.Decides.nat_tests, List.{append-nil, drop-map, Elements.{All-from_recursion, All-nil, recursion_from_All}, Sums.AllPass-from_list_all}}}, specs.List.{AllByRecursion, list_all, slice_get, slice_index, slice_range}}
-use Rattle.mus_score.specs.{declared.score.Score.Score, GoodScore.IsGoodScore, Seats.is_lower}
-use Rattle.mus_time.{specs.{declared.{keys.{Class.Class, ColumnKey.ColumnKey}, times.Timeline.Timeline}, Keys.{AreKeys, has_features, head_key}, Onsets.{length_at, timeline_of}, Order.{Rises, class_number, is_below, rank_of}, Ranks.rank_at}, proofs.{Places.length_is, RankLaws.rank_at_place}}
+use Rattle.std.{proofs.{Common.{◌≡◌, ◌∙◌, ℕ, ◌+◌, ◌-◌, ◌<◌, ◌≤◌, ◌==◌, ◌&&◌, not, Bool, true, false, if◌then◌else◌, List, [], ◌∷◌, ◌++◌, length, map, drop, Option, Some, None, refl, sym, ap, subst, arith}, lemmas.{Bool.Decides.nat_tests, List.{append-nil, Elements.{All-from_recursion, All-nil, recursion_from_All}, Sums.AllPass-from_list_all}}}, specs.List.{AllByRecursion, Contains, flat_map, list_all, slice_index, slice_range}}
+use Rattle.mus_score.specs.{declared.score.{Score.Score, Voice.Voice}, GoodScore.IsGoodScore, Seats.is_lower}
+use Rattle.mus_time.{specs.{declared.{keys.{Class.Class, ColumnKey.ColumnKey}, times.Timeline.Timeline}, Keys.{AreKeys, IsInSystem, has_features, head_key, voice_keys}, Onsets.{length_at, timeline_of}, Order.{Rises, class_number, is_below, rank_of}, Ranks.rank_at}, proofs.{Places.length_is, RankLaws.rank_at_place}}
 use Rattle.mus_laid.specs.{declared.drawn.Drawn.Drawn, declared.laid.{Laid.Laid, StaffMarks.StaffMarks}, Ranked.drawn_at}
 use Rattle.mus_ink.specs.Bars.{bar_marks}
 use Rattle.mus_drawn.specs.{declared.drawn.{DrawnEvent.DrawnEvent, DrawnMeasure.DrawnMeasure, DrawnVoice.DrawnVoice}, Drawn.drawn_voice}
-use Rattle.mus_keys.specs.Columns.{keys_called}
-use Rattle.mus_marks.{specs.{declared.events.Place.Place, Events.{bar_part, change_part, changes_nothing, event_marks, events_marks, graces_part, levels_behind, levels_in, measures_marks, note_part, note_rank, words_part}, Staff.{columns_part, head_part}, System.{drawn_staves, stands_lower}}, proofs.{Groups.grouped_all, Unchanged.nothing_marks}}
+use Rattle.mus_keys.{specs.Columns.keys_called, proofs.Called.{called_places, called_same}}
+use Rattle.mus_marks.{specs.{declared.events.Place.Place, Events.{bar_part, change_part, changes_nothing, event_marks, events_marks, graces_part, levels_behind, levels_in, measures_marks, note_part, note_rank, words_part}, Staff.{columns_part, head_part}, System.{drawn_staves, stands_lower}}, proofs.{Groups.grouped_all, Inside.head_inside, Unchanged.nothing_marks}}
 use Rattle.lay_columns.{specs.{declared.column.Column.Column, Columns.columns_of, Joining.{AreJoined, IsBelow, StavesJoin, moved}, Reaches.rank_of as mark_rank}, proofs.JoinLaws.{behind_same, marks_join}}
-use Rattle.lay_measures.{specs.Measures.{AreMeasureColumns, begins_plain, first_plain, fixed_place, is_plain, keys_in, measure_part, measure_staff, parts_from, staff_of_columns}, proofs.{Joined.{HasMeasures, all_weaker, both_joined, voices_fit}, KeyLaws.slice_long, Ranks.{IsPlaced, measures_in, slice_fit}, Slots.{AreBelow, head_laid, head_slots, lay_below, lay_moved, measures_laid, measures_slots, slot}}}
+use Rattle.lay_measures.{specs.Measures.{AreMeasureColumns, begins_plain, first_plain, fixed_place, keys_in, measure_part, measure_staff, parts_from, staff_of_columns}, proofs.{HeadKeys.{ArePlain, one_plain, own_keys}, Joined.{HasMeasures, all_weaker, both_joined, voices_fit}, KeyLaws.slice_long, Ranks.{IsPlaced, measures_in, slice_fit}, Slots.{AreBelow, head_laid, head_slots, lay_below, lay_moved, measures_laid, measures_slots, slot}}}
 
 -- ---- what a change would draw
 change_same : (keys : List ColumnKey) (m : ℕ) (lower : Bool) (e : DrawnEvent) → changes_nothing e.flat.event.changes ≡ true → change_part keys m true e ≡ change_part keys m lower e
 change_same keys m true e h = refl
 change_same keys m false e h = ap (map (drawn_at (rank_at keys m e.tick Class.Change 0))) (sym (nothing_marks e.clef e.old e.flat.event.changes h))
-
-abbrev ArePlain : List DrawnMeasure → Type 0
-ArePlain ds = AllByRecursion (λ d. first_plain d.events ≡ true) ds
-
-one_plain : (m n : ℕ) (ds : List DrawnMeasure) → n ≡ 1 → is_plain (slice_get ds m) ≡ true → ArePlain (take n (drop m ds))
-one_plain m n ds one h = subst (λ k. ArePlain (take k (drop m ds))) (sym one) (by m ds h)
-  where
-    by : (m : ℕ) (ds : List DrawnMeasure) → is_plain (slice_get ds m) ≡ true → ArePlain (take 1 (drop m ds))
-    by zero [] h = tt
-    by (suc m) [] h = tt
-    by zero (d ∷ ds) h = (h, tt)
-    by (suc m) (d ∷ ds) h = by m ds h
 
 events_same : (keys : List ColumnKey) (place : Option Place) (m : ℕ) (es : List DrawnEvent) → first_plain es ≡ true → events_marks keys place m true 0 0 es ≡ events_marks keys place m false 0 0 es
 unfolding event_marks
@@ -106,21 +94,27 @@ module _ (lengths : List ℕ) (m n : ℕ) (some : 1 ≤ m) (within : m < n) (own
   staves_behind (vs ∷ staves) h = (parts_behind 1 vs h.0, staves_behind staves h.1)
 
 -- ---- the columns behind the head
-pub of_behind : (s : Score) (t : Timeline) (m : ℕ) (verses : List ℕ) (columns : List Column) (own : List ColumnKey) → IsGoodScore s → t ≡ timeline_of s → 1 ≤ m → m < s.measures
-    → AreKeys own (keys_called false s t.lengths m) → keys_in columns ≡ head_key m ∷ own → list_all (begins_plain m) (map drawn_voice s.voices) ≡ true
-    → AreMeasureColumns true s t m verses columns → AreMeasureColumns false s t m verses (drop 1 columns)
-of_behind s t m verses columns own good timed some within called same plain are =
-    let lengths = t.lengths in let staves = drawn_staves s in let voices = map drawn_voice s.voices in
-    let own_keys : keys_in (drop 1 columns) ≡ own = sym (drop-map (λ c. c.key) 1 columns) ∙ ap (drop 1) same in
-    let rise = subst Rises same are.keys.rise in
+some_voice : (f : Voice → List ColumnKey) (k : ColumnKey) (vs : List Voice) → Contains (flat_map f vs) k → 1 ≤ length vs
+some_voice f k [] (i, inside, is) = absurd (omega (arith, inside))
+some_voice f k (v ∷ vs) has = omega arith
+
+pub of_behind : (s : Score) (t : Timeline) (m : ℕ) (verses : List ℕ) (column : Column) (columns : List Column) → IsGoodScore s → t ≡ timeline_of s → 1 ≤ m → m < s.measures
+    → list_all (begins_plain m) (map drawn_voice s.voices) ≡ true → AreMeasureColumns true s t m verses (column ∷ columns) → AreMeasureColumns false s t m verses columns
+of_behind s t m verses column columns good timed some within plain are =
+    let lengths = t.lengths in let staves = drawn_staves s in let voices = map drawn_voice s.voices in let own = keys_in columns in let keys = column.key ∷ own in
+    let each = recursion_from_All (λ v. begins_plain m v ≡ true) voices (AllPass-from_list_all (begins_plain m) voices plain) in
+    let places = called_places true s m keys good within (subst (λ z. AreKeys keys (keys_called true s z.lengths m)) timed are.keys) in
+    let from = all_weaker (IsInSystem (timeline_of s).lengths m (m + 1)) (λ k. m ≤ k.measure) (λ k h. h.from) keys (recursion_from_All (IsInSystem (timeline_of s).lengths m (m + 1)) keys places) in
+    let head = head_inside s lengths m (m + 1) keys good (some_voice (voice_keys lengths m (m + 1)) column.key s.voices (are.keys.only column.key (0, omega arith, refl))) are.keys in
+    let called = own_keys lengths m some voices column.key own each from head (subst (AreKeys keys) (called_same true s lengths m) are.keys) in
+    let rise = subst (λ k. Rises (k ∷ own)) called.0 are.keys.rise in
     let long = λ (k : ℕ) (h : k < s.measures). subst (λ z. length_at s.voices k ≤ slice_index z.lengths k) (sym timed) (omega (arith, length_is s k h)) in
     let fit = grouped_all stands_lower (λ v. HasMeasures lengths s.measures v × (begins_plain m v ≡ true)) voices
     (both_pass (HasMeasures lengths s.measures) (λ v. begins_plain m v ≡ true) voices
-    (voices_fit lengths s.measures s.voices (recursion_from_All (λ v. length v.measures ≡ s.measures) s.voices good.measures) long) (recursion_from_All (λ v. begins_plain m v ≡ true) voices (AllPass-from_list_all (begins_plain m) voices plain))) in
+    (voices_fit lengths s.measures s.voices (recursion_from_All (λ v. length v.measures ≡ s.measures) s.voices good.measures) long) each) in
     record {
-      keys = subst (λ ks. AreKeys ks (keys_called false s lengths m)) (sym own_keys) called;
-      value = ap (drop 1) (are.value ∙ ap (λ ks. columns_of ks (map (measure_staff true ks lengths m) staves) lengths verses) same)
+      keys = subst (AreKeys own) (sym (called_same false s lengths m)) called.1;
+      value = ap (drop 1) (are.value ∙ ap (λ k. columns_of (k ∷ own) (map (measure_staff true (k ∷ own) lengths m) staves) lengths verses) called.0)
           ∙ behind_same (map (measure_staff true (head_key m ∷ own) lengths m) staves) (map (heads lengths m s.measures some within own rise) staves) (map (measure_staff false own lengths m) staves) lengths verses
-          1 0 own (staves_behind lengths m s.measures some within own rise staves fit)
-          ∙ sym (ap (λ ks. columns_of ks (map (measure_staff false ks lengths m) staves) lengths verses) own_keys);
+          1 0 own (staves_behind lengths m s.measures some within own rise staves fit);
     }

@@ -54,7 +54,7 @@ keys_from lengths m signed (x ∷ xs) ys some =
     ∙ sym (append_assoc (events_keys m true signed [] fs) (key_at m (slice_index lengths m) Class.Bar 0 ∷ measures_keys lengths (m + 1) false (signed_through signed fs) xs)
     (measures_keys lengths (m + length (x ∷ xs)) false (signed_behind signed (x ∷ xs)) ys))
 
-keys_by_more : (lower : Bool) (xs ys : List ColumnKey) → keys_by lower (xs ++ ys) ≡ keys_by lower xs ++ keys_by lower ys
+pub keys_by_more : (lower : Bool) (xs ys : List ColumnKey) → keys_by lower (xs ++ ys) ≡ keys_by lower xs ++ keys_by lower ys
 keys_by_more true xs ys = filter-append is_for_each xs ys
 keys_by_more false xs ys = refl
 
@@ -76,8 +76,8 @@ voice_more lengths a b v h w =
     ap (keys_by (is_lower v.seat)) all ∙ keys_by_more (is_lower v.seat) (all_keys lengths a b v) more
 
 -- ---- voice by voice
-module _ (f g h : Voice → List ColumnKey) (k : ColumnKey) where
-  parts : (vs : List Voice) → AllByRecursion (λ v. h v ≡ f v ++ g v) vs → Contains (flat_map h vs) k → Contains (flat_map f vs) k ⊎ Contains (flat_map g vs) k
+module _ {X : Type 0} (f g h : X → List ColumnKey) (k : ColumnKey) where
+  pub parts : (vs : List X) → AllByRecursion (λ v. h v ≡ f v ++ g v) vs → Contains (flat_map h vs) k → Contains (flat_map f vs) k ⊎ Contains (flat_map g vs) k
   parts [] is has = inl has
   parts (v ∷ vs) is has = by (Contains-append_cases (h v) (flat_map h vs) k has) (λ i. parts vs is.1 i)
     where
@@ -94,7 +94,7 @@ module _ (f g h : Voice → List ColumnKey) (k : ColumnKey) where
       by (inl i) rest = own (Contains-append_cases (f v) (g v) k (subst (λ t. Contains t k) is.0 i))
       by (inr i) rest = more (rest i)
 
-  of_front : (vs : List Voice) → AllByRecursion (λ v. h v ≡ f v ++ g v) vs → Contains (flat_map f vs) k → Contains (flat_map h vs) k
+  of_front : (vs : List X) → AllByRecursion (λ v. h v ≡ f v ++ g v) vs → Contains (flat_map f vs) k → Contains (flat_map h vs) k
   of_front [] is has = has
   of_front (v ∷ vs) is has = by (Contains-append_cases (f v) (flat_map f vs) k has) (λ i. of_front vs is.1 i)
     where
@@ -102,7 +102,7 @@ module _ (f g h : Voice → List ColumnKey) (k : ColumnKey) where
       by (inl i) rest = Contains-append_left (h v) (flat_map h vs) k (subst (λ t. Contains t k) (sym is.0) (Contains-append_left (f v) (g v) k i))
       by (inr i) rest = Contains-append_right (h v) (flat_map h vs) k (rest i)
 
-  of_behind : (vs : List Voice) → AllByRecursion (λ v. h v ≡ f v ++ g v) vs → Contains (flat_map g vs) k → Contains (flat_map h vs) k
+  pub of_behind : (vs : List X) → AllByRecursion (λ v. h v ≡ f v ++ g v) vs → Contains (flat_map g vs) k → Contains (flat_map h vs) k
   of_behind [] is has = has
   of_behind (v ∷ vs) is has = by (Contains-append_cases (g v) (flat_map g vs) k has) (λ i. of_behind vs is.1 i)
     where

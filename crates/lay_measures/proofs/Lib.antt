@@ -1,5 +1,6 @@
 mod Behind
 pub mod Facts
+mod HeadKeys
 mod Joined
 mod KeyLaws
 mod Ranks

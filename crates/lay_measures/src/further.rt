@@ -1,17 +1,16 @@
-ghost use Rattle.std.specs.{Prelude.{◌≡◌, ◌<◌, ◌-◌, ◌==◌, ◌∷◌, true, All, IfOk, length, map}, List.list_all};
+ghost use Rattle.std.specs.{Prelude.{◌≡◌, ◌<◌, ◌-◌, ◌==◌, true, All, IfOk, length, map}, List.list_all};
 ghost use Rattle.mus_score.specs.GoodScore.{IsGoodScore};
-ghost use Rattle.mus_time.specs.{Keys.head_key, Onsets.timeline_of};
+ghost use Rattle.mus_time.specs.Onsets.{timeline_of};
 ghost use Rattle.mus_drawn.specs.{Drawn.drawn_voice, Good.AreGoodMeasures};
 ghost use Rattle.mus_marks.specs.System.{drawn_staves};
-ghost use Rattle.lay_measures.specs.Measures.{AreMeasureColumns, begins_plain, first_plain, keys_in};
+ghost use Rattle.lay_measures.specs.Measures.{AreMeasureColumns, begins_plain, first_plain};
 
 use crate::measures::measure_columns;
 use lay_columns::Column;
 use mus_drawn::{DrawnEvent, DrawnVoice};
-use mus_keys::measure_keys;
 use mus_marks::changes_nothing;
 use mus_score::Score;
-use mus_time::{Class, ColumnKey, Timeline};
+use mus_time::Timeline;
 use mus_units::{Memory, Row};
 use std::alloc::Global;
 
@@ -39,39 +38,6 @@ fn begin_plain(m: u32, voices: &[DrawnVoice<'_>]) -> bool
     ensures { result ≡ list_all (begins_plain m) voices.now }
 {
     voices.iter().all(|v| begins_plain(m, v))
-}
-
-/// Whether columns have these keys.
-fn have_keys(columns: &[Column], keys: &[ColumnKey]) -> bool
-    ensures { result ≡ true → keys_in columns.now ≡ keys.now }
-{
-    let mut rest = keys;
-    for column in columns {
-        let Some((key, behind)) = rest.split_first() else {
-            return false;
-        };
-        if column.key != *key {
-            return false;
-        }
-        rest = behind;
-    }
-    rest.is_empty()
-}
-
-/// Whether columns have the key of the head of measure `m`, and then these.
-fn follow_head(m: u32, columns: &[Column], keys: &[ColumnKey]) -> bool
-    ensures { result ≡ true → keys_in columns.now ≡ head_key m ∷ keys.now }
-{
-    let head = ColumnKey {
-        measure: m,
-        tick: 0,
-        class: Class::Head,
-        place: 0,
-    };
-    match columns {
-        [] => false,
-        [first, behind @ ..] => first.key == head && have_keys(behind, keys),
-    }
 }
 
 fn copy_columns(alloc: Global, columns: &[Column]) -> Result<Row<Column>, Memory>
@@ -112,8 +78,7 @@ pub fn further_columns(
     if m == 0 {
         return copy_columns(alloc, begun);
     }
-    let keys = measure_keys(alloc, s, voices, t, m, false)?;
-    if follow_head(m, begun, keys.as_slice()) && begin_plain(m, voices) {
+    if !begun.is_empty() && begin_plain(m, voices) {
         return copy_columns(alloc, &begun[1..]);
     }
     measure_columns(alloc, s, voices, t, m - 1, m, verses)

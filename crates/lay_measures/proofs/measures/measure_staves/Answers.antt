@@ -1,4 +1,4 @@
-use Rattle.std.{proofs.{Common.{◌≡◌, ◌≤◌, ◌-◌, length-drop, ◌∙◌, ◌+◌, ◌++◌, ◌∷◌, [], length, sym, ap, subst, arith}, lemmas.List.Elements.All-drop}, specs.List.All}
+use Rattle.std.{proofs.{Common.{◌≡◌, length-drop, ◌∙◌, ◌+◌, ◌++◌, ◌∷◌, [], length, sym, ap, subst, arith}, lemmas.List.Elements.All-drop}, specs.List.All}
 use Rattle.mus_drawn.specs.Good.{AreGoodMeasures}
 use Rattle.mus_marks.{specs.Staff.verses_on, specs.System.stands_lower, proofs.Groups.group_turn, proofs.Groups.rest_from, proofs.Parts.verses_drop, proofs.Parts.verses_take}
 use Rattle.lay_measures.specs.Measures.{measure_staff}

@@ -1,4 +1,4 @@
-use Rattle.std.proofs.Common.{◌≤◌, ◌-◌, length, length-drop, ◌∙◌, ◌+◌, ◌++◌, ◌∷◌, [], ap, arith}
+use Rattle.std.proofs.Common.{length, length-drop, ◌∙◌, ◌+◌, ◌++◌, ◌∷◌, [], ap, arith}
 use Rattle.mus_marks.{specs.Staff.verses_on, specs.System.stands_lower, proofs.Groups.group_turn, proofs.Groups.rest_from, proofs.Parts.verses_drop, proofs.Parts.verses_take}
 use Rattle.lay_measures.proofs.staves.staff_verses.Goals as goal
 
