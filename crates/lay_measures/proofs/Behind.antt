@@ -1,14 +1,14 @@
 -- Behind its head, a measure that begins without a change has the columns that it has in a system which began before.
-use Rattle.std.{proofs.{Common.{◌≡◌, ◌∙◌, ℕ, ◌+◌, ◌-◌, ◌<◌, ◌≤◌, ◌==◌, ◌&&◌, not, Bool, true, false, if◌then◌else◌, List, [], ◌∷◌, ◌++◌, length, map, drop, Option, Some, None, refl, sym, ap, subst, arith}, lemmas.{Bool.Decides.nat_tests, List.{append-nil, Elements.{All-from_recursion, All-nil, recursion_from_All}, Sums.AllPass-from_list_all}}}, specs.List.{AllByRecursion, Contains, flat_map, list_all, slice_index, slice_range}}
+use Rattle.std.{proofs.{Common.{◌≡◌, ◌∙◌, ℕ, ◌+◌, ◌-◌, ◌<◌, ◌≤◌, ◌==◌, ◌&&◌, not, Bool, true, false, if◌then◌else◌, min, List, [], ◌∷◌, ◌++◌, length, map, drop, Option, Some, None, refl, sym, ap, subst, arith}, lemmas.{Bool.Decides.nat_tests, List.{append-nil, Elements.{All-from_recursion, All-nil, recursion_from_All}, Sums.AllPass-from_list_all}}}, specs.List.{AllByRecursion, Contains, flat_map, list_all, slice_index, slice_range}}
 use Rattle.mus_score.specs.{declared.score.{Score.Score, Voice.Voice}, GoodScore.IsGoodScore, Seats.is_lower}
-use Rattle.mus_time.{specs.{declared.{keys.{Class.Class, ColumnKey.ColumnKey}, times.Timeline.Timeline}, Keys.{AreKeys, IsInSystem, has_features, head_key, voice_keys}, Onsets.{length_at, timeline_of}, Order.{Rises, class_number, is_below, rank_of}, Ranks.rank_at}, proofs.{Places.length_is, RankLaws.rank_at_place}}
+use Rattle.mus_time.{specs.{declared.{keys.{Class.Class, ColumnKey.ColumnKey}, times.Timeline.Timeline}, Keys.{AreKeys, IsInSystem, has_features, head_key, measure_keys, voice_keys}, Onsets.{length_at, timeline_of}, Order.{Rises, class_number, is_below, rank_of}, Ranks.rank_at}, proofs.{Places.length_is, RankLaws.rank_at_place}}
 use Rattle.mus_laid.specs.{declared.drawn.Drawn.Drawn, declared.laid.{Laid.Laid, StaffMarks.StaffMarks}, Ranked.drawn_at}
 use Rattle.mus_ink.specs.Bars.{bar_marks}
 use Rattle.mus_drawn.specs.{declared.drawn.{DrawnEvent.DrawnEvent, DrawnMeasure.DrawnMeasure, DrawnVoice.DrawnVoice}, Drawn.drawn_voice}
 use Rattle.mus_keys.{specs.Columns.keys_called, proofs.Called.{called_places, called_same}}
 use Rattle.mus_marks.{specs.{declared.events.Place.Place, Events.{bar_part, change_part, changes_nothing, event_marks, events_marks, graces_part, levels_behind, levels_in, measures_marks, note_part, note_rank, words_part}, Staff.{columns_part, head_part}, System.{drawn_staves, stands_lower}}, proofs.{Groups.grouped_all, Inside.head_inside, Unchanged.nothing_marks}}
 use Rattle.lay_columns.{specs.{declared.column.Column.Column, Columns.columns_of, Joining.{AreJoined, IsBelow, StavesJoin, moved}, Reaches.rank_of as mark_rank}, proofs.JoinLaws.{behind_same, marks_join}}
-use Rattle.lay_measures.{specs.Measures.{AreMeasureColumns, begins_plain, first_plain, fixed_place, keys_in, measure_part, measure_staff, parts_from, staff_of_columns}, proofs.{HeadKeys.{ArePlain, one_plain, own_keys}, Joined.{HasMeasures, all_weaker, both_joined, voices_fit}, KeyLaws.slice_long, Ranks.{IsPlaced, measures_in, slice_fit}, Slots.{AreBelow, head_laid, head_slots, lay_below, lay_moved, measures_laid, measures_slots, slot}}}
+use Rattle.lay_measures.{specs.Measures.{AreFurther, AreMeasureColumns, begins_plain, first_plain, fixed_place, keys_in, measure_part, measure_staff, parts_from, staff_of_columns}, proofs.{HeadKeys.{ArePlain, one_plain, own_keys}, Joined.{HasMeasures, all_weaker, both_joined, voices_fit}, KeyLaws.slice_long, Ranks.{IsPlaced, measures_in, slice_fit}, Slots.{AreBelow, head_laid, head_slots, lay_below, lay_moved, measures_laid, measures_slots, slot}}}
 
 -- ---- what a change would draw
 change_same : (keys : List ColumnKey) (m : ℕ) (lower : Bool) (e : DrawnEvent) → changes_nothing e.flat.event.changes ≡ true → change_part keys m true e ≡ change_part keys m lower e
@@ -98,7 +98,7 @@ some_voice : (f : Voice → List ColumnKey) (k : ColumnKey) (vs : List Voice) �
 some_voice f k [] (i, inside, is) = absurd (omega (arith, inside))
 some_voice f k (v ∷ vs) has = omega arith
 
-pub of_behind : (s : Score) (t : Timeline) (m : ℕ) (verses : List ℕ) (column : Column) (columns : List Column) → IsGoodScore s → t ≡ timeline_of s → 1 ≤ m → m < s.measures
+of_behind : (s : Score) (t : Timeline) (m : ℕ) (verses : List ℕ) (column : Column) (columns : List Column) → IsGoodScore s → t ≡ timeline_of s → 1 ≤ m → m < s.measures
     → list_all (begins_plain m) (map drawn_voice s.voices) ≡ true → AreMeasureColumns true s t m verses (column ∷ columns) → AreMeasureColumns false s t m verses columns
 of_behind s t m verses column columns good timed some within plain are =
     let lengths = t.lengths in let staves = drawn_staves s in let voices = map drawn_voice s.voices in let own = keys_in columns in let keys = column.key ∷ own in
@@ -118,3 +118,26 @@ of_behind s t m verses column columns good timed some within plain are =
           ∙ behind_same (map (measure_staff true (head_key m ∷ own) lengths m) staves) (map (heads lengths m s.measures some within own rise) staves) (map (measure_staff false own lengths m) staves) lengths verses
           1 0 own (staves_behind lengths m s.measures some within own rise staves fit);
     }
+
+min_one : (m : ℕ) → 1 ≤ m → 1 ≡ min m 1
+min_one m h = grind (arith, h)
+
+apart : (m : ℕ) → 1 ≤ m → ((m - 1) == m) ≡ false
+apart m h = grind (arith, nat_tests, h)
+
+-- without voices there is no column
+none_behind : (s : Score) (t : Timeline) (m : ℕ) (verses : List ℕ) (vs : List Voice) → s.voices ≡ vs → IsGoodScore s → AreMeasureColumns true s t m verses [] → AreMeasureColumns false s t m verses []
+none_behind s t m verses [] none good are = record { keys = subst (λ vs. AreKeys [] (flat_map (measure_keys t.lengths m) vs)) (sym none) (record { rise = tt; all = λ k h. h; only = λ k h. h }); value = refl }
+none_behind s t m verses (v ∷ vs) some good are = let count = ap (λ vs. length vs) some in absurd (omega (arith, (head_inside s t.lengths m (m + 1) [] good (omega (arith, count)) are.keys).1))
+
+pub plain_further : (s : Score) (t : Timeline) (m : ℕ) (verses : List ℕ) → IsGoodScore s → t ≡ timeline_of s → 1 ≤ m → m < s.measures → list_all (begins_plain m) (map drawn_voice s.voices) ≡ true → AreFurther s t m verses None
+plain_further s t m verses good timed some within plain begun are =
+    let one : 1 ≡ min m 1 = min_one m some in
+    subst (λ n. AreMeasureColumns ((m - 1) == m) s t m verses (drop n begun)) one (subst (λ b. AreMeasureColumns b s t m verses (drop 1 begun)) (sym (apart m some)) (by begun are))
+  where
+    by : (begun : List Column) → AreMeasureColumns true s t m verses begun → AreMeasureColumns false s t m verses (drop 1 begun)
+    by [] are = none_behind s t m verses s.voices refl good are
+    by (column ∷ columns) are = of_behind s t m verses column columns good timed some within plain are
+
+pub own_further : (s : Score) (t : Timeline) (m : ℕ) (verses : List ℕ) (own : List Column) → AreMeasureColumns ((m - 1) == m) s t m verses own → AreFurther s t m verses (Some own)
+own_further s t m verses own are _ _ = are

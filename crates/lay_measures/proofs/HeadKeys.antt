@@ -7,7 +7,7 @@ use Rattle.mus_time.{specs.{declared.keys.{Class.Class, ColumnKey.ColumnKey}, Ke
 use Rattle.mus_drawn.specs.declared.drawn.{DrawnEvent.DrawnEvent, DrawnMeasure.DrawnMeasure, DrawnVoice.DrawnVoice}
 use Rattle.mus_keys.specs.Columns.{events_columns, has_old, measures_columns, note_key, staff_columns}
 use Rattle.mus_marks.specs.Events.{changes_nothing}
-use Rattle.lay_measures.{specs.Measures.{begins_plain, first_plain, is_plain}, proofs.KeyLaws.{keys_by_more, of_behind, parts}}
+use Rattle.lay_measures.{specs.Measures.{begins_plain, first_plain, is_plain}, proofs.{Joined.all_weaker, KeyLaws.{keys_by_more, of_behind, parts}}}
 
 -- ---- measures that begin without a change
 abbrev pub ArePlain : List DrawnMeasure → Type 0
@@ -101,10 +101,6 @@ module _ (lengths : List ℕ) (m : ℕ) where
       ∙ ap (λ t. kept (head_key m ∷ t)) (measures_plain ds (one_plain m (m + 1 - m) v.measures (omega arith) h))
       ∙ keys_by_more (is_lower v.seat) (head_key m ∷ []) (measures_columns lengths m false ds)
 
-  each_plain : 1 ≤ m → (vs : List DrawnVoice) → AllByRecursion (λ v. begins_plain m v ≡ true) vs → AllByRecursion (λ v. begun v ≡ heads v ++ own v) vs
-  each_plain some [] h = tt
-  each_plain some (v ∷ vs) h = (voice_plain some v h.0, each_plain some vs h.1)
-
   -- ---- the head has the least key
   not_before : (k : ColumnKey) → m ≤ k.measure → is_below k (head_key m) ≡ false
   unfolding is_below
@@ -126,7 +122,7 @@ module _ (lengths : List ℕ) (m : ℕ) where
   )
     where
       voices : AllByRecursion (λ v. begun v ≡ heads v ++ own v) vs
-      voices = each_plain some vs plain
+      voices = all_weaker (λ v. begins_plain m v ≡ true) (λ v. begun v ≡ heads v ++ own v) (voice_plain some) vs plain
 
       least : rank_of (k ∷ ks) (head_key m) ≡ 0
       least = none_before (k ∷ ks) from

@@ -1,6 +1,6 @@
 -- The columns of one measure: in a system that begins with it, and in one that began before. Heights, and what texts stand in a
 -- column before, are of no account to columns, so that syllables and texts stand in a place that is always the same.
-use Rattle.std.specs.Prelude.{◌≡◌, ℕ, pos, ◌+◌, Bool, true, false, List, [], ◌∷◌, ◌++◌, map, slice_get, slice_range, Option, Some, None}
+use Rattle.std.specs.Prelude.{◌≡◌, ℕ, pos, ◌+◌, ◌-◌, ◌==◌, Bool, true, false, List, [], ◌∷◌, ◌++◌, drop, map, min, slice_get, slice_range, Option, Some, None}
 use Rattle.mus_score.specs.declared.score.Score.{Score}
 use Rattle.mus_time.specs.{declared.keys.Class.Class, declared.keys.ColumnKey.ColumnKey, declared.times.Timeline.Timeline, Keys.AreKeys}
 use Rattle.mus_laid.specs.{declared.laid.Laid.Laid, declared.laid.StaffMarks.StaffMarks}
@@ -53,6 +53,16 @@ keys_in columns = map (λ c. c.key) columns
 pub record AreMeasureColumns (begins : Bool) (s : Score) (t : Timeline) (m : ℕ) (verses : List ℕ) (columns : List Column) : Type 0 where
   pub keys : AreKeys (keys_in columns) (keys_called begins s t.lengths m)
   pub value : columns ≡ columns_of (keys_in columns) (map (measure_staff begins (keys_in columns) t.lengths m) (drawn_staves s)) t.lengths verses
+
+-- those of measure m in a system that begins with the measure before it, if there is one: they have their own, or stand behind the head
+-- of those in a system that begins with m
+abbrev pub further_of : ℕ → List Column → Option (List Column) → List Column
+further_of m begun None = drop (min m 1) begun
+further_of m begun (Some own) = own
+
+abbrev pub AreFurther : Score → Timeline → ℕ → List ℕ → Option (List Column) → Type 0
+AreFurther s t m verses own =
+    (begun : List Column) → AreMeasureColumns true s t m verses begun → AreMeasureColumns ((m - 1) == m) s t m verses (further_of m begun own)
 
 -- the last column is that of a bar
 pub record EndWithBar (columns : List Column) : Type 0 where

@@ -1,9 +1,9 @@
-ghost use Rattle.std.specs.{Prelude.{◌≡◌, ◌<◌, ◌-◌, ◌==◌, true, All, IfOk, length, map}, List.list_all};
+ghost use Rattle.std.specs.{Prelude.{◌≡◌, ◌<◌, true, All, IfOk, length, map}, List.list_all};
 ghost use Rattle.mus_score.specs.GoodScore.{IsGoodScore};
 ghost use Rattle.mus_time.specs.Onsets.{timeline_of};
 ghost use Rattle.mus_drawn.specs.{Drawn.drawn_voice, Good.AreGoodMeasures};
 ghost use Rattle.mus_marks.specs.System.{drawn_staves};
-ghost use Rattle.lay_measures.specs.Measures.{AreMeasureColumns, begins_plain, first_plain};
+ghost use Rattle.lay_measures.specs.Measures.{AreFurther, begins_plain, first_plain, further_of};
 
 use crate::measures::measure_columns;
 use lay_columns::Column;
@@ -40,23 +40,9 @@ fn begin_plain(m: u32, voices: &[DrawnVoice<'_>]) -> bool
     voices.iter().all(|v| begins_plain(m, v))
 }
 
-fn copy_columns(alloc: Global, columns: &[Column]) -> Result<Row<Column>, Memory>
-    ensures { IfOk result (λ r. r ≡ columns.now) }
-{
-    let mut copies = Row::with_room(alloc, columns.len())?;
-    for column in columns {
-        copies.push(Column {
-            key: column.key,
-            reaches: column.reaches.copy(alloc)?,
-            natural: column.natural,
-        })?;
-    }
-    Ok(copies)
-}
-
-/// The columns of measure `m` in a system that begins with the measure before it, if there is one, as
-/// `measure_columns` gives them; `begun` has those in a system that begins with it. What both have is
-/// copied. The only error is want of memory.
+/// The columns of measure `m` in a system that begins with the measure before it, as `measure_columns`
+/// gives them, where they aren't those of a system that begins with `m` itself, behind its head. The
+/// only error is want of memory.
 pub fn further_columns(
     alloc: Global,
     s: &Score,
@@ -64,22 +50,31 @@ pub fn further_columns(
     t: &Timeline,
     m: u32,
     verses: &[u8],
-    begun: &[Column],
-) -> Result<Row<Column>, Memory>
+) -> Result<Option<Row<Column>>, Memory>
     requires good { IsGoodScore s.now }
     requires times { t.now ≡ timeline_of s.now }
     requires within { m < s.now.measures }
     requires voices { voices.now ≡ map drawn_voice s.now.voices }
     requires drawn { All (λ v. AreGoodMeasures v.measures) voices.now }
     requires counts { length verses.now ≡ length (drawn_staves s.now) }
-    requires begun { AreMeasureColumns true s.now t.now m verses.now begun.now }
-    ensures { IfOk result (AreMeasureColumns ((m - 1) == m) s.now t.now m verses.now) }
+    ensures { IfOk result (AreFurther s.now t.now m verses.now) }
 {
-    if m == 0 {
-        return copy_columns(alloc, begun);
+    if m == 0 || begin_plain(m, voices) {
+        return Ok(None);
     }
-    if !begun.is_empty() && begin_plain(m, voices) {
-        return copy_columns(alloc, &begun[1..]);
+    Ok(Some(measure_columns(alloc, s, voices, t, m - 1, m, verses)?))
+}
+
+/// The columns of measure `m` in a system that begins with the measure before it, if there is one:
+/// `own`, as `further_columns` gives them, or those in a system that begins with `m`, behind its head.
+pub fn further_of<'a>(m: u32, begun: &'a [Column], own: &'a Option<Row<Column>>) -> &'a [Column]
+    ensures { result.now ≡ further_of m begun.now own.now }
+{
+    match own {
+        Some(own) => own.as_slice(),
+        None => match begun {
+            [_, behind @ ..] if m > 0 => behind,
+            _ => begun,
+        },
     }
-    measure_columns(alloc, s, voices, t, m - 1, m, verses)
 }

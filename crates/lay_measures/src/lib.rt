@@ -7,7 +7,7 @@ pub mod law;
 pub mod measures;
 pub mod staves;
 
-pub use further::further_columns;
+pub use further::{further_columns, further_of};
 pub use law::measures_join;
 pub use measures::measure_columns;
 pub use staves::staff_verses;

@@ -8,6 +8,7 @@
 pub mod breaks;
 pub mod costs;
 pub mod forces;
+pub mod lent;
 mod maker;
 mod marks;
 pub mod rows;
@@ -17,6 +18,7 @@ pub mod spans;
 pub use breaks::break_of;
 pub use costs::Spans;
 pub use forces::badness;
+pub use lent::Lent;
 pub use rows::places_of;
 pub use seen::Seen;
 pub use spans::{columns_in, spans_of};

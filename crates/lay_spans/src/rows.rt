@@ -3,6 +3,7 @@ ghost use Rattle.lay_springs.specs.{Fit.most_columns, Place.{reach_at, length_at
 ghost use Rattle.lay_spans.specs.{Columns.measures_from, Columns.AreMeasures, Rows.IsRowFrom, Rows.row_spans, Rows.rows_spans, SpanList.FitsAt, SpanList.StandsAt};
 
 use crate::forces::badness;
+use crate::lent::Lent;
 use crate::seen::Seen;
 use lay_breaks::Span;
 use lay_springs::{Progress, Spaced, Spring, fit_within, most_columns};
@@ -51,7 +52,7 @@ fn greatest_force<C: Spaced + Spring>(
 /// The columns of measure `m` in a system that begins at bar `a`.
 pub(crate) fn measure<'a, C>(
     starts: &'a [Row<C>],
-    others: &'a [Row<C>],
+    others: &'a [Lent<'a, C>],
     a: usize,
     m: usize,
 ) -> &'a [C]
@@ -63,7 +64,8 @@ pub(crate) fn measure<'a, C>(
     if m == a {
         starts[a].as_slice()
     } else {
-        others[m].as_slice()
+        let lent = &others[m];
+        lent.columns
     }
 }
 
@@ -85,10 +87,10 @@ pub(crate) fn see<'a, C: Spaced>(
 /// behind a forced bar. Each search for a force goes on from where the one before left its columns,
 /// and takes no memory: room for all columns that can stand within the width is reserved before
 /// the first.
-pub(crate) fn row_from<C: Spaced + Spring>(
+pub(crate) fn row_from<'a, C: Spaced + Spring>(
     alloc: Global,
-    starts: &[Row<C>],
-    others: &[Row<C>],
+    starts: &'a [Row<C>],
+    others: &'a [Lent<'a, C>],
     gaps: &[u32],
     width: u32,
     marks: &[bool],

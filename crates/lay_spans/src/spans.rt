@@ -3,6 +3,7 @@ ghost use Rattle.lay_breaks.specs.Spans.{AreSpans};
 ghost use Rattle.lay_spans.specs.{Columns.AreMeasures, Columns.span_columns, Forced.is_forced, SpanList.IsSpanList};
 
 use crate::costs::Spans;
+use crate::lent::Lent;
 use crate::maker::SpanMaker;
 use crate::marks::marks_of;
 use crate::rows::{list_rows, measure, see};
@@ -25,11 +26,11 @@ use std::thread::Threads;
 ///
 /// The spans from the bars of either half are found side by side where
 /// threads can be made. They don't depend on it.
-pub fn spans_of<R: Threads + Sync, C: Spaced + Spring + Sync>(
+pub fn spans_of<'a, R: Threads + Sync, C: Spaced + Spring + Sync>(
     rt: &R,
     alloc: Global,
-    starts: &[Row<C>],
-    others: &[Row<C>],
+    starts: &'a [Row<C>],
+    others: &'a [Lent<'a, C>],
     gaps: &[u32],
     width: u32,
     forced: &[u32],
@@ -61,7 +62,7 @@ pub fn spans_of<R: Threads + Sync, C: Spaced + Spring + Sync>(
 pub fn columns_in<'a, C: Spaced>(
     alloc: Global,
     starts: &'a [Row<C>],
-    others: &'a [Row<C>],
+    others: &'a [Lent<'a, C>],
     a: usize,
     b: usize,
 ) -> Result<Row<Seen<'a, C>>, Memory>

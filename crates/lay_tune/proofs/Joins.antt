@@ -1,12 +1,12 @@
 -- The columns of each measure are what spans of measures are tried with, and those of the systems.
-use Rattle.std.{proofs.{Math.Seq.get_or-append_seam, Common.{◌≡◌, ◌∙◌, ℕ, suc, ◌+◌, ◌-◌, ◌<◌, ◌≤◌, ◌==◌, false, List, [], ◌∷◌, ◌++◌, length, length-append, take, drop, flat_map, get_or, refl, sym, ap, subst, arith}, lemmas.{Bool.Decides.nat_tests, List.{get_or-drop, get_or-take, length-map, length-drop, length-take-le}}}, specs.List.All}
+use Rattle.std.{proofs.{Math.Seq.get_or-append_seam, Common.{◌≡◌, ◌∙◌, ℕ, suc, ◌+◌, ◌-◌, ◌<◌, ◌≤◌, ◌==◌, true, false, Option, None, List, [], ◌∷◌, ◌++◌, length, length-append, take, drop, flat_map, get_or, refl, sym, ap, subst, arith}, lemmas.{Bool.Decides.nat_tests, List.{get_or-drop, get_or-take, length-map, length-drop, length-take-le}}}, specs.List.{All, slice_index_or}}
 use Rattle.mus_score.specs.{declared.score.Score.Score, GoodScore.IsGoodScore}
 use Rattle.mus_time.specs.{declared.times.Timeline.Timeline, Onsets.timeline_of}
 use Rattle.lay_columns.specs.{declared.column.Column.Column, Columns.StandsWhereDue, Columns.column_reach, Lanes.gaps_of, Reaches.stands_always}
 use Rattle.mus_marks.specs.{Staff.verses_on, System.drawn_staves}
-use Rattle.lay_measures.{specs.{Measures.AreMeasureColumns, Measures.EndWithBar, Law.AreColumnsFrom, Law.MeasuresJoin}, proofs.Facts.{measure_bar, measure_stands}}
+use Rattle.lay_measures.{specs.{Measures.AreFurther, Measures.AreMeasureColumns, Measures.EndWithBar, Measures.further_of, Law.AreColumnsFrom, Law.MeasuresJoin}, proofs.Facts.{measure_bar, measure_stands}}
 use Rattle.lay_spans.{specs.Columns.EndsInAll, specs.Columns.measures_from, proofs.Adding.ends_so, proofs.Growing.each_more}
-use Rattle.lay_tune.specs.{Measures.EachMeasure, Measures.IsMeasure, Spans.AreColumnsOf, Spans.system_columns, Spans.verses_of}
+use Rattle.lay_tune.specs.{Measures.EachFurther, Measures.EachMeasure, Measures.IsMeasure, Spans.AreColumnsOf, Spans.system_columns, Spans.verses_of}
 
 -- columns that end with a bar end in each lane
 bar_ends : (verses : List ℕ) (columns : List Column) → EndWithBar columns → All (StandsWhereDue verses) columns
@@ -40,6 +40,27 @@ measure_more P n rows columns h p =
       count = omega arith;
       each = λ m less. each_more P rows columns [] (λ m less. h.each m (omega arith)) (subst (λ i. P i columns) (sym h.count) p) m (omega arith);
     }
+
+pub further_more : (s : Score) (n : ℕ) (own : List (Option (List Column))) (more : Option (List Column))
+    → EachFurther s n own → AreFurther s (timeline_of s) n (verses_of s) more → EachFurther s (n + 1) (own ++ more ∷ [])
+further_more s n own more h p =
+    let k = h.count in
+    let l = length-append own (more ∷ []) in
+    let P = λ (m : ℕ) (o : Option (List Column)). AreFurther s (timeline_of s) m (verses_of s) o in
+    record {
+      count = omega arith;
+      each = λ m less. each_more P own more None (λ m less. h.each m (omega arith)) (subst (λ i. P i more) (sym h.count) p) m (omega arith);
+    }
+
+-- the columns of measure m in a system that begins with the measure before it, by what it has of its own
+pub other_of : (s : Score) (m : ℕ) (starts : List (List Column)) (own : List (Option (List Column))) → IsGoodScore s → 1 ≤ length s.voices → m < s.measures
+    → EachMeasure (λ m. IsMeasure s m m) s.measures starts → EachFurther s s.measures own → IsMeasure s (m - 1) m (further_of m (slice_index_or starts m []) (slice_index_or own m None))
+other_of s m starts own good some within begun h =
+    measure_of s (timeline_of s) (m - 1) m (verses_of s) _ good refl refl some within
+    (h.each m within (get_or starts m []) (subst (λ b. AreMeasureColumns b s (timeline_of s) m (verses_of s) (get_or starts m [])) (itself m) (begun.each m within).called))
+  where
+    itself : (m : ℕ) → (m == m) ≡ true
+    itself m = grind (arith, nat_tests)
 
 -- a measure behind the first of a system has the same columns wherever the system began
 abbrev AreBehind : Score → ℕ → List Column → Type 0

@@ -9,14 +9,14 @@ ghost use Rattle.lay_spans.specs.Columns.{AreMeasures};
 ghost use Rattle.lay_tune.specs.declared.layout.LayoutError.TheVariants as errors;
 ghost use Rattle.lay_tune.specs.{Breakings.IsLeastBreaking, Layout.{IsCauseIn, layout_error}, Spans.{AreColumnsOf, AreSpansOf, is_forced_in, score_gaps, verses_of}, Systems.{Beside, EachSpan, IsSetSystem, IsStack}};
 
-use crate::measures::columns_of_measures;
+use crate::measures::{columns_of_measures, others_of};
 use crate::systems::{Systems, set_systems};
 use eng_halves::Jobs;
 use lay_breaks::{BreakError, Breaking, Span};
 use lay_columns::{Column, gaps_of};
 use lay_measures::{measures_join, staff_verses};
 use lay_pages::Heights;
-use lay_spans::{break_of, places_of, spans_of};
+use lay_spans::{Lent, break_of, places_of, spans_of};
 use lay_springs::Placed;
 use mus_drawn::DrawnVoice;
 use mus_laid::SystemMarks;
@@ -67,15 +67,15 @@ fn layout_error(error: BreakError) -> LayoutError
 
 /// The layout by the columns of each measure: `starts` has them as they stand where the measure
 /// begins a system, `others` where it doesn't.
-fn lay_out_measures<R: Threads + Sync>(
+fn lay_out_measures<'a, R: Threads + Sync>(
     rt: &R,
     alloc: Global,
     s: &Score,
     voices: &mut [DrawnVoice<'_>],
     t: &Timeline,
     verses: &[u8],
-    starts: &[Row<Column>],
-    others: &[Row<Column>],
+    starts: &'a [Row<Column>],
+    others: &'a [Lent<'a, Column>],
     width: u32,
     jobs: Jobs,
 ) -> Result<Layout, LayoutError>
@@ -181,7 +181,8 @@ pub fn lay_out<R: Threads + Sync>(
     let verses = counts.as_slice();
     let voices = drawn.items.as_mut_slice();
     let columns = columns_of_measures(alloc, s, voices, &t, verses)?;
-    let (starts, others) = (columns.starts.as_slice(), columns.others.as_slice());
+    let further = others_of(alloc, s, &columns)?;
+    let (starts, others) = (columns.starts.as_slice(), further.as_slice());
     measures_join();
     lay_out_measures(
         rt, alloc, s, voices, &t, verses, starts, others, width, jobs,

@@ -2,22 +2,23 @@ ghost use Rattle.std.specs.Prelude.{◌≡◌, ◌≤◌, ◌<◌, ◌-◌, All,
 ghost use Rattle.mus_score.specs.GoodScore.{IsGoodScore};
 ghost use Rattle.mus_time.specs.Onsets.{timeline_of};
 ghost use Rattle.mus_drawn.specs.{Drawn.drawn_voice, Good.AreGoodMeasures};
-ghost use Rattle.lay_tune.specs.{Measures.EachMeasure, Measures.IsMeasure, Spans.verses_of};
+ghost use Rattle.lay_tune.specs.{Measures.{EachFurther, EachMeasure, IsMeasure}, Spans.verses_of};
 
 use lay_columns::Column;
-use lay_measures::{further_columns, measure_columns};
+use lay_measures::{further_columns, further_of, measure_columns};
+use lay_spans::Lent;
 use mus_drawn::DrawnVoice;
 use mus_score::Score;
 use mus_time::Timeline;
 use mus_units::{Memory, Row};
 use std::alloc::Global;
 
-/// The columns of each measure, as they stand in a system that begins with it, and in one that begins
-/// with the measure before it.
+/// The columns of each measure, as they stand in a system that begins with it; and its own in one that
+/// begins with the measure before it, where they aren't those behind the head.
 #[derive(Drop)]
 pub(crate) struct MeasureColumns {
     pub(crate) starts: Row<Row<Column>>,
-    pub(crate) others: Row<Row<Column>>,
+    pub(crate) own: Row<Option<Row<Column>>>,
 }
 
 /// The columns of all measures.
@@ -35,16 +36,38 @@ pub(crate) fn columns_of_measures(
     requires verses { verses.now ≡ verses_of s.now }
     requires heard { 0 < s.now.measures → 1 ≤ length s.now.voices }
     ensures starts { IfOk result (λ r. EachMeasure (λ m. IsMeasure s.now m m) s.now.measures r.starts) }
-    ensures others { IfOk result (λ r. EachMeasure (λ m. IsMeasure s.now (m - 1) m) s.now.measures r.others) }
+    ensures own { IfOk result (λ r. EachFurther s.now s.now.measures r.own) }
 {
     let measures = s.measures as usize;
     let mut starts = Row::with_room(alloc, measures)?;
-    let mut others = Row::with_room(alloc, measures)?;
+    let mut own = Row::with_room(alloc, measures)?;
     for m in 0..s.measures {
         let begun = measure_columns(alloc, s, voices, t, m, m, verses)?;
-        let further = further_columns(alloc, s, voices, t, m, verses, begun.as_slice())?;
+        let further = further_columns(alloc, s, voices, t, m, verses)?;
         starts.push(begun)?;
-        others.push(further)?;
+        own.push(further)?;
     }
-    Ok(MeasureColumns { starts, others })
+    Ok(MeasureColumns { starts, own })
+}
+
+/// The columns of each measure in a system that begins with the measure before it, if there is one.
+pub(crate) fn others_of<'a>(
+    alloc: Global,
+    s: &Score,
+    columns: &'a MeasureColumns,
+) -> Result<Row<Lent<'a, Column>>, Memory>
+    requires good { IsGoodScore s.now }
+    requires heard { 0 < s.now.measures → 1 ≤ length s.now.voices }
+    requires starts { EachMeasure (λ m. IsMeasure s.now m m) s.now.measures columns.now.starts }
+    requires own { EachFurther s.now s.now.measures columns.now.own }
+    ensures { IfOk result (EachMeasure (λ m. IsMeasure s.now (m - 1) m) s.now.measures) }
+{
+    let (starts, own) = (columns.starts.as_slice(), columns.own.as_slice());
+    let mut others = Row::with_room(alloc, starts.len())?;
+    for m in 0..s.measures {
+        let begun = starts[m as usize].as_slice();
+        let columns = further_of(m, begun, &own[m as usize]);
+        others.push(Lent { columns })?;
+    }
+    Ok(others)
 }

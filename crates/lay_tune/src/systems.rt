@@ -8,7 +8,7 @@ ghost use Rattle.lay_tune.specs.{Spans.{AreColumnsOf, score_gaps}, Systems.{AllS
 use crate::gaps::gaps_between;
 use lay_columns::Column;
 use lay_pages::{Heights, stack};
-use lay_spans::{Seen, columns_in};
+use lay_spans::{Lent, Seen, columns_in};
 use lay_springs::{Placed, fit, justify};
 use mus_drawn::DrawnVoice;
 use mus_laid::SystemMarks;
@@ -49,13 +49,13 @@ struct SetSystem {
 
 /// The system of measures `a` to `b` - 1, by the columns of each measure; the voices are left as
 /// they were.
-fn set_system(
+fn set_system<'a>(
     alloc: Global,
     s: &Score,
     voices: &mut [DrawnVoice<'_>],
     t: &Timeline,
-    starts: &[Row<Column>],
-    others: &[Row<Column>],
+    starts: &'a [Row<Column>],
+    others: &'a [Lent<'a, Column>],
     gaps: &[u32],
     width: u32,
     a: u32,
@@ -107,13 +107,13 @@ pub(crate) struct Systems {
 }
 
 /// The systems of the breaking that ends its spans at `breaks`, by the columns of each measure.
-pub(crate) fn set_systems(
+pub(crate) fn set_systems<'a>(
     alloc: Global,
     s: &Score,
     voices: &mut [DrawnVoice<'_>],
     t: &Timeline,
-    starts: &[Row<Column>],
-    others: &[Row<Column>],
+    starts: &'a [Row<Column>],
+    others: &'a [Lent<'a, Column>],
     gaps: &[u32],
     width: u32,
     breaks: &[u32],

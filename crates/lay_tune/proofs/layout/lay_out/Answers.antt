@@ -10,6 +10,6 @@ staff_verses-requires g c =
 pub lay_out_measures-requires-clause-columns : goal.lay_out_measures-requires-clause-columns
 lay_out_measures-requires-clause-columns g c κs within =
     subst (λ others. AreColumnsOf c.args.s.now c.as_slice-starts.result.now others) (sym c.as_slice-others.ensures)
-    (subst (λ starts. AreColumnsOf c.args.s.now starts c.in_ok-columns.columns.others) (sym c.as_slice-starts.ensures)
-    (columns_join c.measures_join.ensures c.args.s.now c.in_ok-columns.columns.starts c.in_ok-columns.columns.others c.requires.good
-    c.in_ok-columns.ensures.starts c.in_ok-columns.ensures.others))
+    (subst (λ starts. AreColumnsOf c.args.s.now starts c.in_ok-further.further) (sym c.as_slice-starts.ensures)
+    (columns_join c.measures_join.ensures c.args.s.now c.in_ok-columns.columns.starts c.in_ok-further.further c.requires.good
+    c.in_ok-columns.ensures.starts c.in_ok-further.ensures))
