@@ -6,7 +6,7 @@ use Rattle.mus_laid.specs.{declared.laid.StaffMarks.StaffMarks, declared.laid.Sy
 use Rattle.mus_marks.specs.{Staff.staff_marks, Staff.verses_on, System.drawn_staves}
 use Rattle.lay_springs.{specs.Fit.StandsInAll, specs.Place.reach_at, proofs.Placing.reach_is}
 use Rattle.lay_columns.{specs.declared.column.Column.Column, specs.Columns.StandsWhereDue, specs.Columns.column_reach, specs.Columns.columns_of, specs.Lanes.gaps_of, specs.Reaches.stands_always, proofs.Facts.columns_keys, proofs.Facts.columns_stand}
-use Rattle.lay_tune.{specs.Spans.IsSystem, specs.Spans.score_gaps, specs.Spans.system_columns, specs.Spans.verses_of, proofs.Within.columns_count, proofs.Within.system_count}
+use Rattle.lay_tune.{specs.Spans.IsSystem, specs.Spans.score_gaps, specs.Spans.system_columns, specs.Spans.verses_of, proofs.Within.system_count}
 use Rattle.lay_apart.proofs.EndKeys.{first_class, last_class, some_keys}
 
 module _ (keys : List ColumnKey) (staves : List StaffMarks) (lengths verses : List ℕ) where
@@ -20,7 +20,8 @@ module _ (keys : List ColumnKey) (staves : List StaffMarks) (lengths verses : Li
   pub stands_at : (i : ℕ) → i < length keys → length verses ≡ length staves → ((d : ColumnKey) → stands_always (get_or keys i d).class ≡ true)
       → StandsInAll (reach_at column_reach columns i) (length (gaps_of verses))
   stands_at i l same always lane m =
-      let inside : i < length columns = subst (λ n. i < n) (sym (columns_count keys staves lengths verses)) l in
+      let count : length columns ≡ length keys = sym (length-map columns (λ c. c.key)) ∙ ap (λ ks. length ks) (columns_keys staves lengths verses 0 keys) in
+      let inside : i < length columns = subst (λ n. i < n) (sym count) l in
       let column = get_or columns i no_column in
       let key : get_or keys i no_column.key ≡ column.key =
       ap (λ ks. get_or ks i no_column.key) (sym (columns_keys staves lengths verses 0 keys)) ∙ get_or-map (λ c. c.key) columns i no_column no_column.key inside in

@@ -17,8 +17,7 @@ pub mod spans;
 
 pub use breaks::break_of;
 pub use costs::Spans;
-pub use forces::badness;
+pub use forces::{badness, most_force};
 pub use lent::Lent;
-pub use rows::places_of;
 pub use seen::Seen;
 pub use spans::{columns_in, spans_of};

@@ -10,15 +10,6 @@ use lay_springs::{Progress, Spaced, Spring, fit_within, most_columns};
 use mus_units::{Memory, Row};
 use std::alloc::Global;
 
-/// Room for placing the columns of any span that fits within a width: a place for each column
-/// that can stand there and for each lane.
-pub fn places_of(alloc: Global, width: u32, lanes: usize) -> Result<Vec<i64>, Memory>
-    requires { lanes < 2 ^ 32 }
-    ensures { IfOk result (λ places. length places.items ≡ most_columns width + lanes) }
-{
-    Ok(vec![in alloc; 0; most_columns(width) + lanes]?)
-}
-
 /// The greatest force of 0 to `most` at which the columns end within the width. None exactly where
 /// they can't stand within it; more than `most_columns` never can.
 fn greatest_force<C: Spaced + Spring>(

@@ -10,7 +10,7 @@ use crate::rows::{list_rows, measure, see};
 use crate::seen::Seen;
 use eng_halves::Jobs;
 use lay_rows::make_rows;
-use lay_springs::{Spaced, Spring};
+use lay_springs::{Spaced, Spring, most_columns};
 use mus_units::{Memory, Row};
 use std::alloc::Global;
 use std::thread::Threads;
@@ -58,11 +58,13 @@ pub fn spans_of<'a, R: Threads + Sync, C: Spaced + Spring + Sync>(
     Ok(Spans { list, rows })
 }
 
-/// The columns of the span from bar `a` to bar `b`, as `spans_of` has it, in order.
+/// The columns of the span from bar `a` to bar `b`, as `spans_of` has it, in order. Room for all
+/// columns that can stand within the width is reserved first.
 pub fn columns_in<'a, C: Spaced>(
     alloc: Global,
     starts: &'a [Row<C>],
     others: &'a [Lent<'a, C>],
+    width: u32,
     a: usize,
     b: usize,
 ) -> Result<Row<Seen<'a, C>>, Memory>
@@ -71,7 +73,7 @@ pub fn columns_in<'a, C: Spaced>(
     requires same { length others.now ≡ length starts.now }
     ensures { IfOk result (λ seen. map (λ s. s.column.now) seen ≡ span_columns starts.now others.now a b) }
 {
-    let mut seen = Row::new(alloc);
+    let mut seen = Row::with_room(alloc, most_columns(width))?;
     for m in a..b {
         see(&mut seen, measure(starts, others, a, m))?;
     }

@@ -64,38 +64,14 @@ pub fn most_columns(width: u32) -> usize
     width as usize / 100 + 1
 }
 
-/// The greatest force of 0 to 2048 at which the columns end within the width, in u.
-/// None exactly where their end at force 0 passes it. Takes no memory: `scratch`
-/// has a place for each column and for each lane. It tries at most 13 forces.
-pub fn fit<C: Spaced + Spring>(
-    cols: &[C],
-    gaps: &[u32],
-    width: u32,
-    scratch: &mut [i64],
-) -> Option<u16>
-    requires some { 0 < length cols.now }
-    requires few { length cols.now ≤ 2 ^ 26 }
-    requires lanes { length gaps.now < 2 ^ 32 }
-    requires narrow { (lane : ℕ) → lane < length gaps.now → slice_index gaps.now lane ≤ 2 ^ 20 }
-    requires room { length cols.now + length gaps.now ≤ length scratch.old }
-    ensures bound { IfSome result (λ f. f ≤ 2048) }
-    ensures fits { IfSome result (Fits (length cols.now) (reach_at C.reach_of cols.now) gaps.now (length_at C.length_of cols.now) width) }
-    ensures greatest { IfSome result (λ f. (g : ℕ) → f < g → g ≤ 2048
-        → CanStand (length cols.now) (reach_at C.reach_of cols.now) gaps.now (length_at C.length_of cols.now) width g → ⊥) }
-    ensures none { IfNone result (Passes (length cols.now) (reach_at C.reach_of cols.now) gaps.now (length_at C.length_of cols.now) width 0) }
-{
-    let (at, rest) = scratch.split_at_mut(cols.len());
-    let front = &mut rest[..gaps.len()];
-    fit_within(cols, gaps, width, 2048, at, front, &mut Progress::none())
-}
-
-/// The greatest force of 0 to `most` at which the columns end within the width, as
-/// `fit` finds it where `most` is 2048. It tries the highest force that is left, as far as at
-/// most 13 forces in all leave it the choice. Where the columns end past the width, the springs
+/// The greatest force of 0 to `most` at which the columns end within the width, in u.
+/// None exactly where their end at force 0 passes it. It tries the highest force that is left, as far
+/// as at most 13 forces in all leave it the choice. Where the columns end past the width, the springs
 /// that alone hold neighbors apart tell how far the force has to fall at least.
 ///
 /// `at` has a place for each column and `front` one for each lane. A search for columns that
 /// continue others goes on from where `placed` tells that those stand, if it begins at their force.
+/// Takes no memory.
 pub fn fit_within<C: Spaced + Spring>(
     cols: &[C],
     gaps: &[u32],
@@ -134,7 +110,7 @@ pub fn fit_within<C: Spaced + Spring>(
     if low == 0 { None } else { Some(low - 1) }
 }
 
-/// A law of `fit`: a list of columns that continues another, and whose last column
+/// A law of `fit_within`: a list of columns that continues another, and whose last column
 /// stands in each lane, never has a greater force, and doesn't fit where the other
 /// doesn't. Does nothing.
 pub fn longer_fits_less<C: Spaced + Spring>()

@@ -12,7 +12,7 @@ pub mod margin;
 pub mod progress;
 pub mod traits;
 
-pub use forces::{fit, fit_within, longer_fits_less, most_columns};
+pub use forces::{fit_within, longer_fits_less, most_columns};
 pub use least::place;
 pub use margin::{Placed, justify};
 pub use progress::Progress;

@@ -1,12 +1,11 @@
-ghost use Rattle.std.specs.Prelude.{◌≡◌, ◌+◌, ◌*◌, ◌^◌, ◌<◌, ◌≤◌, ◌-◌, ◌/◌, ℕ, ℤ, pos, ◌+ℤ◌, ◌≤ℤ◌, true, false, IfOk, length, slice_index, slice_index_or};
-ghost use Rattle.lay_springs.specs.{Fit.{IsEndOf, Fits, IsSet, is_ragged, counted}, Place.{reach_at, length_at, IsPlace, StandApart}};
+ghost use Rattle.std.specs.Prelude.{◌≡◌, ◌+◌, ◌*◌, ◌^◌, ◌<◌, ◌≤◌, ◌-◌, ◌/◌, ℕ, ℤ, pos, ◌+ℤ◌, ◌≤ℤ◌, true, false, length, slice_index, slice_index_or};
+ghost use Rattle.lay_springs.specs.{Fit.{IsEndOf, Fits, IsSet, is_ragged, counted}, Place.{reach_at, length_at, IsPlace, HasPlaced, StandApart}};
 
 use crate::forces::end_of;
-use crate::least::{place, settle};
+use crate::least::settle;
 use crate::progress::Progress;
 use crate::traits::{Spaced, Spring};
-use mus_units::{Memory, Row};
-use std::alloc::Global;
+use mus_units::Row;
 
 /// Where columns stand, in u, and the force that counts. A ragged system ends where
 /// its force leaves it.
@@ -67,6 +66,7 @@ fn set<C: Spaced + Spring>(
     force: u16,
     at: &mut [i64],
     front: &mut [i64],
+    placed: Progress,
 )
     requires some { 0 < length cols.now }
     requires few { length cols.now ≤ 2 ^ 26 }
@@ -74,11 +74,12 @@ fn set<C: Spaced + Spring>(
     requires narrow { (lane : ℕ) → lane < length gaps.now → slice_index gaps.now lane ≤ 2 ^ 20 }
     requires room { length at.old ≡ length cols.now }
     requires one_each { length front.old ≡ length gaps.now }
+    requires placed { HasPlaced (length cols.now) (reach_at C.reach_of cols.now) gaps.now (length_at C.length_of cols.now) placed at.old front.old }
     requires fits { Fits (length cols.now) (reach_at C.reach_of cols.now) gaps.now (length_at C.length_of cols.now) width force }
     ensures set { IsSet (length cols.now) (reach_at C.reach_of cols.now) gaps.now (length_at C.length_of cols.now) width force at.new }
     ensures apart { StandApart (length cols.now) (reach_at C.reach_of cols.now) gaps.now (length_at C.length_of cols.now force) at.new }
 {
-    settle(cols, gaps, force, at, front, Progress::none());
+    settle(cols, gaps, force, at, front, placed);
     if cols.len() == 1 {
         return;
     }
@@ -86,44 +87,51 @@ fn set<C: Spaced + Spring>(
     spread(at, rest);
 }
 
-/// The columns at the force that `fit` gave, set to the width: column k of n moves
+/// The columns at a force at which they end within the width, set to it: column k of n moves
 /// right by `rest * k / (n - 1)`, where `rest` is what the width leaves past the end. A
 /// last system at a force of 256 or more is ragged, and stands as placed at 256.
+///
+/// `at` has a place for each column and `front` one for each lane. Where `placed` tells that columns
+/// stand there at the force that counts, they aren't placed again. Takes no memory.
 pub fn justify<C: Spaced + Spring>(
-    alloc: Global,
     cols: &[C],
     gaps: &[u32],
     width: u32,
     force: u16,
     last: bool,
-) -> Result<Placed, Memory>
+    at: Vec<i64>,
+    front: &mut [i64],
+    placed: Progress,
+) -> Placed
     requires some { 0 < length cols.now }
     requires few { length cols.now ≤ 2 ^ 26 }
     requires lanes { length gaps.now < 2 ^ 32 }
     requires narrow { (lane : ℕ) → lane < length gaps.now → slice_index gaps.now lane ≤ 2 ^ 20 }
+    requires room { length at.items ≡ length cols.now }
+    requires one_each { length front.old ≡ length gaps.now }
+    requires placed { HasPlaced (length cols.now) (reach_at C.reach_of cols.now) gaps.now (length_at C.length_of cols.now) placed at.items front.old }
     requires fits { Fits (length cols.now) (reach_at C.reach_of cols.now) gaps.now (length_at C.length_of cols.now) width force }
-    ensures ragged { IfOk result (λ p. p.ragged ≡ is_ragged last force) }
-    ensures force { IfOk result (λ p. p.force ≡ counted last force) }
-    ensures loose { IfOk result (λ p. p.ragged ≡ true
-        → IsPlace (length cols.now) (reach_at C.reach_of cols.now) gaps.now (length_at C.length_of cols.now p.force) p.at) }
-    ensures set { IfOk result (λ p. p.ragged ≡ false
-        → IsSet (length cols.now) (reach_at C.reach_of cols.now) gaps.now (length_at C.length_of cols.now) width p.force p.at) }
-    ensures apart { IfOk result (λ p. StandApart (length cols.now) (reach_at C.reach_of cols.now) gaps.now (length_at C.length_of cols.now p.force) p.at) }
+    ensures ragged { result.ragged ≡ is_ragged last force }
+    ensures force { result.force ≡ counted last force }
+    ensures loose { result.ragged ≡ true
+        → IsPlace (length cols.now) (reach_at C.reach_of cols.now) gaps.now (length_at C.length_of cols.now result.force) result.at }
+    ensures set { result.ragged ≡ false
+        → IsSet (length cols.now) (reach_at C.reach_of cols.now) gaps.now (length_at C.length_of cols.now) width result.force result.at }
+    ensures apart { StandApart (length cols.now) (reach_at C.reach_of cols.now) gaps.now (length_at C.length_of cols.now result.force) result.at }
 {
+    let mut at = at;
     if last && force >= 256 {
-        let at = place(alloc, cols, gaps, 256)?;
-        return Ok(Placed {
+        settle(cols, gaps, 256, &mut at, front, placed);
+        return Placed {
             force: 256,
             ragged: true,
-            at,
-        });
+            at: Row { items: at },
+        };
     }
-    let mut at = vec![in alloc; 0; cols.len()]?;
-    let mut front = vec![in alloc; 0; gaps.len()]?;
-    set(cols, gaps, width, force, &mut at, &mut front);
-    Ok(Placed {
+    set(cols, gaps, width, force, &mut at, front, placed);
+    Placed {
         force,
         ragged: false,
         at: Row { items: at },
-    })
+    }
 }

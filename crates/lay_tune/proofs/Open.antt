@@ -1,78 +1,48 @@
 -- The spans of a score, and what stands open to a breaking of them.
-use Rattle.std.{proofs.{Common.{◌≡◌, ℕ, ◌+◌, ◌-◌, ◌<◌, ◌≤◌, ◌*◌, ◌^◌, ◌==◌, not, List, [], ◌∷◌, length, map, Option, Some, None, IsSome, sym, ◌∙◌, ap, subst, refl, arith}, lemmas.{Bool.true≢false, List.{length-map, Elements.All-from_recursion, Sums.sum-map}}}, specs.List.{All, AllByRecursion, filter, sum_by}}
+use Rattle.std.{proofs.{Common.{◌≡◌, ℕ, ◌-◌, ◌<◌, ◌≤◌, ◌*◌, ◌^◌, ◌==◌, not, Bool, List, [], ◌∷◌, length, map, Option, Some, None, IsSome, sym, ◌∙◌, ap, subst, refl, arith}, lemmas.{Bool.true≢false, List.{length-map, Elements.All-from_recursion, Sums.sum-map}}}, specs.List.{All, AllByRecursion, filter, sum_by}}
 use Rattle.mus_score.specs.{declared.score.Score.Score, declared.score.Voice.Voice, GoodScore.IsGoodScore, Seats.grouped, Seats.is_lower, Seats.stands_lower as lower}
 use Rattle.mus_laid.specs.{declared.laid.StaffMarks.StaffMarks, declared.laid.SystemMarks.SystemMarks}
 use Rattle.mus_drawn.specs.{declared.drawn.DrawnVoice.DrawnVoice, Drawn.drawn_voice}
 use Rattle.mus_marks.{specs.Staff.verses_on, specs.System.drawn_staves, specs.System.stands_lower, proofs.Fitting.few_verses, proofs.Groups.grouped_map}
 use Rattle.lay_columns.specs.{declared.column.Column.Column, Column.length_rises, Columns.column_reach}
-use Rattle.lay_springs.{specs.{Place.{length_at, reach_at}, Fit.{Passes, most_columns}}, proofs.{Longer.{cannot_stand, stand_few, stands}, Ends.length_rises as lengths_rise}}
+use Rattle.lay_springs.{specs.{Place.{length_at, reach_at}, Fit.{Passes}}, proofs.{Longer.{cannot_stand, stand_few, stands}, Ends.length_rises as lengths_rise}}
 use Rattle.lay_breaks.specs.{declared.costs.Span.Span, declared.breaking.BreakError.BreakError, Answers.IsCause, Breaking.FitsFrom, Breaking.IsChosen, Breaking.IsReached, Breaking.NoneLegal, Breaking.RisesFrom, Breaking.last_from, Spans.AreSpans, Spans.listed}
 use Rattle.lay_spans.{specs.Badness.badness_of, specs.Columns.AreMeasures, specs.Columns.span_columns, specs.Forced.is_forced, specs.SpanList.IsSpanList, proofs.Adding.columns_some}
-use Rattle.lay_tune.{proofs.StaffCounts.{count_grouped, few_groups, none_more}, specs.{Spans.{AreColumnsOf, AreSpansOf, CanStandIn, IsForceOf, IsSystem, column_length, is_forced_in, score_gaps, system_columns, verses_of}, Layout.{IsCauseIn, layout_error}, Systems.{AllSpans, CanBeSet, HaveForce, gaps_between}}}
+use Rattle.lay_tune.{proofs.StaffCounts.{count_grouped, few_groups, none_more}, specs.{Spans.{AreColumnsOf, AreSpansOf, CanStandIn, IsForceOf, column_length, score_gaps, system_columns, verses_of}, Layout.{IsCauseIn, layout_error}, Systems.{AllSpans, CanBeSet, HaveForce, gaps_between}}}
 
 -- columns that have a force don't pass the width at force 0
-pub never_passes : (gaps : List ℕ) (width : ℕ) (columns : List Column) → HaveForce gaps width columns
+pub never_passes : (gaps : List ℕ) (width : ℕ) (last : Bool) (cost : ℕ) (columns : List Column) → HaveForce gaps width last cost columns
     → Passes (length columns) (reach_at column_reach columns) gaps (length_at column_length columns) width 0 → ⊥
-never_passes gaps width columns h p =
-    let force = h.pressed.0 in
-    cannot_stand (length columns) (reach_at column_reach columns) gaps (length_at column_length columns) width 0 force h.some
-    (lengths_rise column_length columns 0 force (λ c. length_rises c.natural 0 force (omega arith)))
-    p (stands (length columns) (reach_at column_reach columns) gaps (length_at column_length columns) width force h.pressed.1.fits)
-
--- the spans of the columns of measures are those of the score
-pub spans_are : (s : Score) (width : ℕ) (starts others : List (List Column)) (spans : List Span)
-    → length starts ≡ s.measures → AreColumnsOf s starts others
-    → IsSpanList column_reach column_length (score_gaps s) width starts others (is_forced_in s) spans
-    → AreSpansOf s width spans
-spans_are s width starts others spans count join h = record {
-  each = λ a b v l m e.
-      let k = h.each a b v l (omega arith) e in
-      record {
-        free = k.free;
-        pressed = (
-          k.pressed.0,
-          subst (λ n. v ≡ badness_of (b == n) k.pressed.0) count k.pressed.2,
-          λ marks is. subst (λ columns. IsForceOf (score_gaps s) width columns k.pressed.0) (sym (join a b marks l m is)) k.pressed.1,
-        );
-      };
-  fits = λ a b marks l m free is stand.
-      h.fits a b l (omega arith) free (subst (λ columns. CanStandIn (score_gaps s) width columns) (join a b marks l m is) stand);
-}
+never_passes gaps width last cost columns h p =
+    cannot_stand (length columns) (reach_at column_reach columns) gaps (length_at column_length columns) width 0 h.pressed.0 h.some
+    (lengths_rise column_length columns 0 h.pressed.0 (λ c. length_rises c.natural 0 h.pressed.0 (omega arith)))
+    p (stands (length columns) (reach_at column_reach columns) gaps (length_at column_length columns) width h.pressed.0 h.pressed.1.fits)
 
 pub some_of : (o : Option ℕ) → IsSome o → (v : ℕ) × (o ≡ Some v)
 some_of None e = absurd (true≢false (sym e))
 some_of (Some v) e = (v, refl)
 
--- columns that a force presses are few
-force_few : (gaps : List ℕ) (width : ℕ) (columns : List Column) (force : ℕ) → 0 < length columns → IsForceOf gaps width columns force
-    → length columns ≤ most_columns width
-force_few gaps width columns force some h =
-    stand_few (length columns) (reach_at column_reach columns) gaps (length_at column_length columns) width force some
-    (stands (length columns) (reach_at column_reach columns) gaps (length_at column_length columns) width force h.fits)
-
--- a listed span can be set where there is room for the columns that can stand within the width
-pub span_open : (s : Score) (width room : ℕ) (starts others : List (List Column)) (spans : List Span) (lanes : ℕ)
+-- a listed span can be set
+pub span_open : (s : Score) (width : ℕ) (starts others : List (List Column)) (spans : List Span) (lanes : ℕ)
     → length starts ≡ s.measures → AreMeasures column_reach lanes starts others → AreColumnsOf s starts others → AreSpansOf s width spans
-    → width < 2 ^ 32 → most_columns width + length (score_gaps s) ≤ room
-    → (a b : ℕ) → a < b → b ≤ s.measures → IsSome (listed spans a b) → CanBeSet s width room a b
-span_open s width room starts others spans lanes count measures join h narrow roomy a b l m some =
+    → width < 2 ^ 32 → (a b : ℕ) → a < b → b ≤ s.measures → IsSome (listed spans a b) → CanBeSet s width (listed spans) a b
+span_open s width starts others spans lanes count measures join h narrow a b l m some =
     let v = some_of (listed spans a b) some in
     let cost = h.each a b v.0 l m v.1 in
     let begun = measures.begun a (omega arith) in
     let first : 0 < length (span_columns starts others a b) = columns_some starts others a b l begun in
-    let some : (marks : SystemMarks) → IsSystem s a b marks → 0 < length (system_columns s marks) =
-    λ marks is. subst (λ columns. 0 < length columns) (sym (join a b marks l m is)) first in
-    let few : (marks : SystemMarks) → IsSystem s a b marks → length (system_columns s marks) ≤ most_columns width =
-    λ marks is. force_few (score_gaps s) width (system_columns s marks) cost.pressed.0 (some marks is) (cost.pressed.2 marks is) in
     record {
       rises = l;
       within = m;
-      columns = λ marks is. record {
-        some = some marks is;
-        few = let k = few marks is in omega (arith, k, narrow);
-        pressed = (cost.pressed.0, cost.pressed.2 marks is);
-      };
-      places = λ marks is. let k = few marks is in omega (arith, k, roomy);
+      cost = v.0;
+      costs_so = v.1;
+      columns = λ marks is.
+          let columns = system_columns s marks in
+          let force = cost.pressed.2 marks is in
+          let some = subst (λ columns. 0 < length columns) (sym (join a b marks l m is)) first in
+          let few = stand_few (length columns) (reach_at column_reach columns) (score_gaps s) (length_at column_length columns) width cost.pressed.0 some
+          (stands (length columns) (reach_at column_reach columns) (score_gaps s) (length_at column_length columns) width cost.pressed.0 force.fits) in
+          record { some = some; few = omega (arith, few, narrow); pressed = (cost.pressed.0, force, cost.pressed.1) };
     }
 
 pub past_last : (a : ℕ) (bs : List ℕ) → RisesFrom a bs → a ≤ last_from a bs
@@ -86,42 +56,45 @@ all_open P cost n h a (b ∷ bs) r f l =
     let p = past_last b bs r.1 in
     (h a b r.0 (omega arith) f.0, all_open P cost n h b bs r.1 f.1 l)
 
--- the chosen breaking can be set
-pub chosen_open : (s : Score) (width room : ℕ) (starts others : List (List Column)) (spans : List Span) (lanes : ℕ) (breaks : List ℕ)
-    → length starts ≡ s.measures → AreMeasures column_reach lanes starts others → AreColumnsOf s starts others → AreSpansOf s width spans
-    → width < 2 ^ 32 → most_columns width + length (score_gaps s) ≤ room
-    → IsChosen (listed spans) (is_forced_in s) s.measures breaks
-    → AllSpans (CanBeSet s width room) 0 breaks
-chosen_open s width room starts others spans lanes breaks count measures join h narrow roomy chosen =
-    let ends = chosen.legal.ends in
-    all_open (CanBeSet s width room) (listed spans) s.measures
-    (λ a b l m some. span_open s width room starts others spans lanes count measures join h narrow roomy a b l m some)
-    0 breaks chosen.legal.rises chosen.legal.fits (omega arith)
-
--- the same where gaps and forced bars were read off the score
+-- the spans of the columns of measures are those of the score
 pub spans_read : (s : Score) (width : ℕ) (starts others : List (List Column)) (spans : List Span) (gaps forced : List ℕ)
     → length starts ≡ s.measures → gaps ≡ score_gaps s → forced ≡ s.forced → AreColumnsOf s starts others
     → IsSpanList column_reach column_length gaps width starts others (is_forced (length starts) forced) spans
     → AreSpansOf s width spans
 spans_read s width starts others spans gaps forced count is all join h =
-    spans_are s width starts others spans count join
-    (subst (λ n. IsSpanList column_reach column_length (score_gaps s) width starts others (is_forced n s.forced) spans) count
+    let these = subst (λ n. IsSpanList column_reach column_length (score_gaps s) width starts others (is_forced n s.forced) spans) count
     (subst (λ bars. IsSpanList column_reach column_length (score_gaps s) width starts others (is_forced (length starts) bars) spans) all
-    (subst (λ these. IsSpanList column_reach column_length these width starts others (is_forced (length starts) forced) spans) is h)))
+    (subst (λ these. IsSpanList column_reach column_length these width starts others (is_forced (length starts) forced) spans) is h)) in
+    record {
+      each = λ a b v l m e.
+          let k = these.each a b v l (omega arith) e in
+          record {
+            free = k.free;
+            pressed = (
+              k.pressed.0,
+              subst (λ n. v ≡ badness_of (b == n) k.pressed.0) count k.pressed.2,
+              λ marks is. subst (λ columns. IsForceOf (score_gaps s) width columns k.pressed.0) (sym (join a b marks l m is)) k.pressed.1,
+            );
+          };
+      fits = λ a b marks l m free is stand.
+          these.fits a b l (omega arith) free (subst (λ columns. CanStandIn (score_gaps s) width columns) (join a b marks l m is) stand);
+    }
 
-pub chosen_read : (s : Score) (width room : ℕ) (starts others : List (List Column)) (spans : List Span) (gaps forced breaks bars : List ℕ)
+-- the chosen breaking can be set
+pub chosen_read : (s : Score) (width : ℕ) (starts others : List (List Column)) (spans : List Span) (gaps forced breaks bars : List ℕ)
     → length starts ≡ s.measures → gaps ≡ score_gaps s → forced ≡ s.forced → bars ≡ breaks
     → AreMeasures column_reach (length (score_gaps s)) starts others → AreColumnsOf s starts others
     → IsSpanList column_reach column_length gaps width starts others (is_forced (length starts) forced) spans
-    → width < 2 ^ 32 → most_columns width + length gaps ≤ room
-    → IsChosen (listed spans) (is_forced s.measures forced) s.measures breaks
-    → AllSpans (CanBeSet s width room) 0 bars
-chosen_read s width room starts others spans gaps forced breaks bars count is all ends measures join h narrow roomy chosen =
-    subst (λ these. AllSpans (CanBeSet s width room) 0 these) (sym ends)
-    (chosen_open s width room starts others spans (length (score_gaps s)) breaks count measures join
-    (spans_read s width starts others spans gaps forced count is all join h)
-    narrow (subst (λ these. most_columns width + length these ≤ room) is roomy)
-    (subst (λ these. IsChosen (listed spans) (is_forced s.measures these) s.measures breaks) all chosen))
+    → width < 2 ^ 32 → IsChosen (listed spans) (is_forced s.measures forced) s.measures breaks
+    → AllSpans (CanBeSet s width (listed spans)) 0 bars
+chosen_read s width starts others spans gaps forced breaks bars count is all ends measures join h narrow chosen =
+    let exact = spans_read s width starts others spans gaps forced count is all join h in
+    let legal = (subst (λ these. IsChosen (listed spans) (is_forced s.measures these) s.measures breaks) all chosen).legal in
+    let last = legal.ends in
+    subst (λ these. AllSpans (CanBeSet s width (listed spans)) 0 these) (sym ends)
+    (all_open (CanBeSet s width (listed spans)) (listed spans) s.measures
+    (λ a b l m some. span_open s width starts others spans (length (score_gaps s)) count measures join exact narrow a b l m some)
+    0 breaks legal.rises legal.fits (omega arith))
 
 -- no way among the listed spans is none in the score
 pub cause_read : (s : Score) (width : ℕ) (spans : List Span) (forced : List ℕ) (error : BreakError)

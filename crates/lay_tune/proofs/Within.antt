@@ -1,12 +1,12 @@
 -- Columns that stand apart rise from 0, and those of a system end within the width.
-use Rattle.std.proofs.{Common.{◌≡◌, ◌∙◌, sym, ap, subst, refl, inl, inr, ℕ, zero, suc, ◌+◌, ◌-◌, ◌*◌, ◌/◌, ◌<◌, ◌≤◌, ◌==◌, ◌^◌, ℤ, pos, ◌+ℤ◌, ◌≤ℤ◌, Bool, true, false, List, length, map, Option, Some, Result, Ok, Err, IfOk, arith}, lemmas.{Bool.{cases_lt, Decides.nat_tests}, Int.ints, List.length-map}}
+use Rattle.std.proofs.{Common.{◌≡◌, ◌∙◌, sym, ap, subst, refl, inl, inr, ℕ, if◌then◌else◌, ◌+◌, ◌-◌, ◌*◌, ◌/◌, ◌<◌, ◌≤◌, ◌==◌, ◌^◌, ℤ, pos, ◌+ℤ◌, ◌≤ℤ◌, min, Bool, true, false, List, length, map, Option, Some, arith}, lemmas.{Bool.{cases_lt, true≢false, Decides.nat_tests}, Int.ints, List.length-map}}
 use Rattle.mus_score.specs.declared.score.Score.{Score}
-use Rattle.mus_time.specs.{declared.keys.ColumnKey.ColumnKey, Keys.called_keys, Onsets.timeline_of}
-use Rattle.mus_laid.specs.{declared.laid.StaffMarks.StaffMarks, declared.laid.SystemMarks.SystemMarks}
+use Rattle.mus_time.specs.{Keys.called_keys, Onsets.timeline_of}
+use Rattle.mus_laid.specs.{declared.laid.SystemMarks.SystemMarks}
 use Rattle.mus_marks.{specs.Tilt.AreAbscissas, proofs.OneList.same_keys}
-use Rattle.lay_springs.{specs.{declared.{traits.Reach.Reach, margin.Placed.Placed}, Fit.{Fits, IsSet, counted, is_ragged}, Place.{IsPlace, StandApart, length_at, reach_at}}, proofs.{Ends.{apart_down, length_rises as lengths_rise}, Longer.rises}}
-use Rattle.lay_columns.{specs.declared.column.Column.Column, specs.Column.length_rises, specs.Columns.column_reach, specs.Columns.columns_of, proofs.Facts.columns_keys}
-use Rattle.lay_spans.{specs.Columns.span_columns, proofs.Fitting.seen_as}
+use Rattle.lay_springs.{specs.{declared.{traits.Reach.Reach, margin.Placed.Placed}, Fit.{Fits, IsSet, counted, is_ragged}, Place.{IsPlace, StandApart, length_at, reach_at}}, proofs.{Ends.{apart_down, length_rises as lengths_rise}, Longer.{rises, stands}}}
+use Rattle.lay_columns.{specs.declared.column.Column.Column, specs.Column.length_rises, specs.Columns.column_reach, proofs.Facts.columns_keys}
+use Rattle.lay_spans.{specs.Badness.{badness_at}, specs.Columns.span_columns, specs.SpanList.StandsAt, proofs.Fitting.seen_as}
 use Rattle.lay_tune.{specs.{Spans.{AreColumnsOf, IsForceOf, IsSystem, column_length, score_gaps, system_columns, verses_of}, Systems.{CanBeSet, HaveForce, IsJustified, IsPlaced, StandWithin, x_at}}, proofs.Called.has_system}
 
 -- the last of n columns stands within the width, and reaches no further
@@ -103,39 +103,76 @@ justified_count gaps width last columns p h = by p.ragged refl
     by false is = (h.set is).count
 
 -- ---- columns that stand elsewhere
-pub justified_seen : {D E : Type 0} (f : D → Column) (gaps : List ℕ) (width : ℕ) (last : Bool) (seen : List D) (force : ℕ) (r : Result Placed E)
-    → IsForceOf gaps width (map f seen) force → IfOk r (λ p. p.ragged ≡ is_ragged last force) → IfOk r (λ p. p.force ≡ counted last force)
-    → IfOk r (λ p. p.ragged ≡ true → IsPlace (length seen) (reach_at (λ s lane. column_reach (f s) lane) seen) gaps (length_at (λ s force. column_length (f s) force) seen p.force) p.at)
-    → IfOk r (λ p. p.ragged ≡ false → IsSet (length seen) (reach_at (λ s lane. column_reach (f s) lane) seen) gaps (length_at (λ s force. column_length (f s) force) seen) width p.force p.at)
-    → IfOk r (λ p. StandApart (length seen) (reach_at (λ s lane. column_reach (f s) lane) seen) gaps (length_at (λ s force. column_length (f s) force) seen p.force) p.at)
-    → IfOk r (IsJustified gaps width last (map f seen))
-justified_seen f gaps width last seen force (Err e) pressed ragged counted loose set apart = tt
-justified_seen f gaps width last seen force (Ok p) pressed ragged counted loose set apart = record {
+pub justified_seen : {D : Type 0} (f : D → Column) (gaps : List ℕ) (width : ℕ) (last : Bool) (seen : List D) (force : ℕ) (p : Placed)
+    → IsForceOf gaps width (map f seen) force → p.ragged ≡ is_ragged last force → p.force ≡ counted last force
+    → (p.ragged ≡ true → IsPlace (length seen) (reach_at (λ s lane. column_reach (f s) lane) seen) gaps (length_at (λ s force. column_length (f s) force) seen p.force) p.at)
+    → (p.ragged ≡ false → IsSet (length seen) (reach_at (λ s lane. column_reach (f s) lane) seen) gaps (length_at (λ s force. column_length (f s) force) seen) width p.force p.at)
+    → StandApart (length seen) (reach_at (λ s lane. column_reach (f s) lane) seen) gaps (length_at (λ s force. column_length (f s) force) seen p.force) p.at
+    → IsJustified gaps width last (map f seen) p
+justified_seen f gaps width last seen force p pressed ragged counted loose set apart = record {
   pressed = (force, pressed, counted, ragged);
   loose = λ is. subst (λ T. T) (seen_as f column_reach column_length (λ n r l. IsPlace n r gaps (l p.force) p.at) seen (map f seen) refl) (loose is);
   set = λ is. subst (λ T. T) (seen_as f column_reach column_length (λ n r l. IsSet n r gaps l width p.force p.at) seen (map f seen) refl) (set is);
   apart = subst (λ T. T) (seen_as f column_reach column_length (λ n r l. StandApart n r gaps (l p.force) p.at) seen (map f seen) refl) apart;
 }
 
--- ---- the columns of a system
-pub columns_count : (keys : List ColumnKey) (staves : List StaffMarks) (lengths verses : List ℕ) → length (columns_of keys staves lengths verses) ≡ length keys
-columns_count keys staves lengths verses =
-    sym (length-map (columns_of keys staves lengths verses) (λ c. c.key)) ∙ ap (λ ks. length ks) (columns_keys staves lengths verses 0 keys)
+ragged_last : (last : Bool) (force : ℕ) → is_ragged last force ≡ true → (last ≡ true) × (256 ≤ force)
+ragged_last false force e = absurd (true≢false (sym e))
+ragged_last true force e = (refl, grind (arith, nat_tests))
 
+-- the greatest force that was tried counts as the columns' own, where none that costs so much is above all that were tried
+pub counts_same : (gaps : List ℕ) (width : ℕ) (last : Bool) (cost : ℕ) (columns : List Column) (most found : ℕ)
+    → (h : HaveForce gaps width last cost columns) → most ≤ 2048
+    → ((f : ℕ) → f ≤ 2048 → badness_at f ≤ cost → f ≤ most) → (cost ≡ 0 → most ≡ 256) → found ≤ most
+    → Fits (length columns) (reach_at column_reach columns) gaps (length_at column_length columns) width found
+    → ((g : ℕ) → found < g → g ≤ most → StandsAt column_reach column_length gaps width g columns → ⊥)
+    → (counted last found ≡ counted last h.pressed.0) × (is_ragged last found ≡ is_ragged last h.pressed.0)
+counts_same gaps width last cost columns most found h small high natural bound fits greatest = by (is_ragged last h.pressed.0) refl
+  where
+    weaker : (g : ℕ) → g ≤ h.pressed.0 → StandsAt column_reach column_length gaps width g columns
+    weaker g l =
+        let at = stands (length columns) (reach_at column_reach columns) gaps (length_at column_length columns) width h.pressed.0 h.pressed.1.fits in
+        let apart = apart_down (length columns) (reach_at column_reach columns) gaps (length_at column_length columns g) (length_at column_length columns h.pressed.0) at.y
+        (lengths_rise column_length columns g h.pressed.0 (λ c. length_rises c.natural g h.pressed.0 l)) at.apart in
+        record { y = at.y; apart = apart; past = at.past; reaches = at.reaches }
+
+    least : found ≡ min h.pressed.0 most
+    least = elim (cases_lt found (min h.pressed.0 most)) [
+      | inl less ↦ absurd (greatest (min h.pressed.0 most) less (omega arith) (weaker (min h.pressed.0 most) (omega arith)))
+      | inr low ↦ elim (cases_lt h.pressed.0 found) [
+        | inl less ↦ absurd (h.pressed.1.greatest found less (omega arith) (stands (length columns) (reach_at column_reach columns) gaps (length_at column_length columns) width found fits))
+        | inr high ↦ omega (arith, low, high, bound)
+      ]
+    ]
+
+    by : (b : Bool) → is_ragged last h.pressed.0 ≡ b → (counted last found ≡ counted last h.pressed.0) × (is_ragged last found ≡ is_ragged last h.pressed.0)
+    by false e =
+        let costs = h.pressed.2 ∙ ap (λ b. badness_at (if b then 256 else h.pressed.0)) e in
+        let own = high h.pressed.0 h.pressed.1.bound (subst (λ v. badness_at h.pressed.0 ≤ v) (sym costs) (omega arith)) in
+        let same : found ≡ h.pressed.0 = omega (arith, own, least) in
+        (ap (counted last) same, ap (is_ragged last) same)
+    by true e =
+        let ends = ragged_last last h.pressed.0 e in
+        let all = natural (h.pressed.2 ∙ ap (λ b. badness_at (if b then 256 else h.pressed.0)) e) in
+        let same : found ≡ 256 = omega (arith, ends.1, all, least) in
+        let ragged : is_ragged last found ≡ true = rw (same, ends.0) refl in
+        (ap (λ b. if b then 256 else found) ragged ∙ sym (ap (λ b. if b then 256 else h.pressed.0) e), ragged ∙ sym e)
+
+-- ---- the columns of a system
 pub system_count : (s : Score) (m : SystemMarks) → length (system_columns s m) ≡ length m.keys
-system_count s m = columns_count m.keys m.staves (timeline_of s).lengths (verses_of s)
+system_count s m =
+    sym (length-map (system_columns s m) (λ c. c.key)) ∙ ap (λ ks. length ks) (columns_keys m.staves (timeline_of s).lengths (verses_of s) 0 m.keys)
 
 -- what is known of a span that can be set, by the columns of its measures
-pub span_set : {s : Score} {width room a b : ℕ} {gaps : List ℕ} (starts others : List (List Column)) (columns : List Column)
-    → CanBeSet s width room a b → AreColumnsOf s starts others → gaps ≡ score_gaps s → columns ≡ span_columns starts others a b
-    → HaveForce gaps width columns × (length columns + length gaps ≤ room)
-    × ((p : Placed) → IsJustified gaps width (b == s.measures) columns p → IsPlaced s width (has_system s a b).0 p)
-span_set {s} {width} {room} {a} {b} {gaps} starts others columns fits join are is =
+pub span_set : {s : Score} {width a b : ℕ} {costs : ℕ → ℕ → Option ℕ} {gaps : List ℕ} (starts others : List (List Column)) (columns : List Column)
+    → (fits : CanBeSet s width costs a b) → AreColumnsOf s starts others → gaps ≡ score_gaps s → columns ≡ span_columns starts others a b
+    → HaveForce gaps width (b == s.measures) fits.cost columns × ((p : Placed) → IsJustified gaps width (b == s.measures) columns p → IsPlaced s width (has_system s a b).0 p)
+span_set {s} {width} {a} {b} {costs} {gaps} starts others columns fits join are is =
     let m = (has_system s a b).0 in
     let call = (has_system s a b).1 in
     let same : system_columns s (has_system s a b).0 ≡ columns = join a b m fits.rises fits.within call ∙ sym is in (
-      subst (λ gs. HaveForce gs width columns) (sym are) (subst (HaveForce (score_gaps s) width) same (fits.columns m call)),
-      let places = fits.places m call in let lanes = ap (λ gs. length gs) are in let count = ap (λ cs. length cs) same in omega arith,
+      subst (λ gs. HaveForce gs width (b == s.measures) fits.cost columns) (sym are)
+          (subst (HaveForce (score_gaps s) width (b == s.measures) fits.cost) same (fits.columns m call)),
       λ p h. subst (λ gs. IsJustified gs width (m.b == s.measures) (system_columns s m) p) are
           (subst (λ b. IsJustified gaps width (b == s.measures) (system_columns s m) p) (sym call.to)
           (subst (λ cs. IsJustified gaps width (b == s.measures) cs p) (sym same) h)),

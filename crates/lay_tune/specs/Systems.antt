@@ -1,11 +1,12 @@
 -- The systems of a breaking: where their columns stand, and their staves under one another.
-use Rattle.std.specs.Prelude.{◌≡◌, ⊤, ℕ, ◌+◌, ◌<◌, ◌≤◌, ◌==◌, ◌^◌, Bool, true, false, not, ℤ, pos, ◌-ℤ◌, ◌≤ℤ◌, ◌<ℤ◌, List, [], ◌∷◌, length, map, filter, drop, slice_index_or}
+use Rattle.std.specs.Prelude.{◌≡◌, ⊤, ℕ, ◌+◌, ◌<◌, ◌≤◌, ◌==◌, ◌^◌, Bool, true, false, not, ℤ, pos, ◌-ℤ◌, ◌≤ℤ◌, ◌<ℤ◌, List, [], ◌∷◌, length, map, filter, drop, Option, Some, slice_index_or}
 use Rattle.mus_score.specs.{declared.score.Score.Score, declared.score.Voice.Voice, Seats.stands_lower}
 use Rattle.mus_time.specs.Onsets.{timeline_of}
 use Rattle.mus_laid.specs.{declared.laid.SystemMarks.SystemMarks, Shapes.AreAlike}
 use Rattle.mus_marks.specs.Tilt.{IsTilted}
 use Rattle.lay_columns.specs.{declared.column.Column.Column, Columns.column_reach}
 use Rattle.lay_springs.specs.{declared.margin.Placed.Placed, Place.IsPlace, Place.StandApart, Place.length_at, Place.reach_at, Fit.IsSet, Fit.counted, Fit.is_ragged}
+use Rattle.lay_spans.specs.Badness.{badness_of}
 use Rattle.lay_pages.specs.{declared.stacking.Heights.Heights, Stacking.AreStacked}
 use Rattle.lay_tune.specs.Spans.{IsForceOf, IsSystem, column_length, score_gaps, system_columns}
 
@@ -54,18 +55,19 @@ pub record IsStack (s : Score) (m : SystemMarks) (h : Heights) : Type 0 where
   pub low : pos 0 ≤ℤ h.height
   pub high : h.height ≤ℤ pos (2 ^ 40)
 
--- Columns that can be placed.
-pub record HaveForce (gaps : List ℕ) (width : ℕ) (columns : List Column) : Type 0 where
+-- Columns that can be placed, and whose force costs so much.
+pub record HaveForce (gaps : List ℕ) (width : ℕ) (last : Bool) (cost : ℕ) (columns : List Column) : Type 0 where
   pub some : 0 < length columns
   pub few : length columns ≤ 2 ^ 26
-  pub pressed : (force : ℕ) × IsForceOf gaps width columns force
+  pub pressed : (force : ℕ) × IsForceOf gaps width columns force × (cost ≡ badness_of last force)
 
--- A span whose columns can be placed, and need no more than `room` places: one for each column and for each lane.
-pub record CanBeSet (s : Score) (width room a b : ℕ) : Type 0 where
+-- A span that costs something, and whose columns can be placed with a force that costs so much.
+pub record CanBeSet (s : Score) (width : ℕ) (costs : ℕ → ℕ → Option ℕ) (a b : ℕ) : Type 0 where
   pub rises : a < b
   pub within : b ≤ s.measures
-  pub columns : (m : SystemMarks) → IsSystem s a b m → HaveForce (score_gaps s) width (system_columns s m)
-  pub places : (m : SystemMarks) → IsSystem s a b m → length (system_columns s m) + length (score_gaps s) ≤ room
+  pub cost : ℕ
+  pub costs_so : costs a b ≡ Some cost
+  pub columns : (m : SystemMarks) → IsSystem s a b m → HaveForce (score_gaps s) width (b == s.measures) cost (system_columns s m)
 
 -- each span of a breaking, the first of which begins at bar a
 abbrev pub AllSpans : (ℕ → ℕ → Type 0) → ℕ → List ℕ → Type 0

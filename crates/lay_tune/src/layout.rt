@@ -16,7 +16,7 @@ use lay_breaks::{BreakError, Breaking, Span};
 use lay_columns::{Column, gaps_of};
 use lay_measures::{measures_join, staff_verses};
 use lay_pages::Heights;
-use lay_spans::{Lent, break_of, places_of, spans_of};
+use lay_spans::{Lent, break_of, spans_of};
 use lay_springs::Placed;
 use mus_drawn::DrawnVoice;
 use mus_laid::SystemMarks;
@@ -102,7 +102,6 @@ fn lay_out_measures<'a, R: Threads + Sync>(
 {
     let gaps = gaps_of(alloc, verses)?;
     let forced = s.forced.as_slice();
-    let mut places = places_of(alloc, width, gaps.len())?;
     let spans = spans_of(
         rt,
         alloc,
@@ -132,7 +131,7 @@ fn lay_out_measures<'a, R: Threads + Sync>(
         gaps.as_slice(),
         width,
         breaks,
-        places.as_mut_slice(),
+        &spans,
     )?;
     Ok(Layout {
         breaking,
@@ -149,8 +148,7 @@ fn lay_out_measures<'a, R: Threads + Sync>(
 /// a ragged last one.
 ///
 /// A score without voices has no measure. A score of no measures has the empty breaking. `NoWay`
-/// comes exactly where no breaking is legal. Room for placing columns is reserved before the first
-/// force is searched for, so that no search wants memory.
+/// comes exactly where no breaking is legal. No search for a force wants memory.
 ///
 /// The spans are found by so many jobs; the layout doesn't depend on it.
 pub fn lay_out<R: Threads + Sync>(

@@ -3,13 +3,15 @@ ghost use Rattle.mus_score.specs.GoodScore.{IsGoodScore};
 ghost use Rattle.mus_time.specs.Onsets.{timeline_of};
 ghost use Rattle.mus_drawn.specs.{Drawn.drawn_voice, Good.AreGoodMeasures};
 ghost use Rattle.mus_laid.specs.Boxes.{AreGoodMarks};
+ghost use Rattle.lay_breaks.specs.Spans.{listed};
 ghost use Rattle.lay_tune.specs.{Spans.{AreColumnsOf, score_gaps}, Systems.{AllSpans, Beside, CanBeSet, EachSpan, HaveForce, IsJustified, IsSetSystem, IsStack}};
 
 use crate::gaps::gaps_between;
+use lay_breaks::Costs;
 use lay_columns::Column;
 use lay_pages::{Heights, stack};
-use lay_spans::{Lent, Seen, columns_in};
-use lay_springs::{Placed, fit, justify};
+use lay_spans::{Lent, Seen, Spans, columns_in, most_force};
+use lay_springs::{Placed, Progress, fit_within, justify};
 use mus_drawn::DrawnVoice;
 use mus_laid::SystemMarks;
 use mus_marks::tilt_of;
@@ -18,25 +20,29 @@ use mus_time::Timeline;
 use mus_units::{Memory, Row};
 use std::alloc::Global;
 
-/// The columns pressed with their greatest force, and set to the width.
+/// The columns pressed with their greatest force, by what their span costs, and set to the width.
 fn press(
     alloc: Global,
     columns: &[Seen<Column>],
     gaps: &[u32],
     width: u32,
     last: bool,
-    scratch: &mut [i64],
+    cost: u64,
 ) -> Result<Placed, Memory>
     requires lanes { length gaps.now < 2 ^ 32 }
     requires narrow { (lane : ℕ) → lane < length gaps.now → slice_index gaps.now lane ≤ 2 ^ 20 }
-    requires fits { HaveForce gaps.now width (map (λ s. s.column.now) columns.now) }
-    requires room { length columns.now + length gaps.now ≤ length scratch.old }
+    requires fits { HaveForce gaps.now width last cost (map (λ s. s.column.now) columns.now) }
     ensures { IfOk result (IsJustified gaps.now width last (map (λ s. s.column.now) columns.now)) }
 {
-    let Some(force) = fit(columns, gaps, width, scratch) else {
+    let mut at = vec![in alloc; 0; columns.len()]?;
+    let mut ends = vec![in alloc; 0; gaps.len()]?;
+    let front = ends.as_mut_slice();
+    let mut placed = Progress::none();
+    let most = most_force(cost);
+    let Some(force) = fit_within(columns, gaps, width, most, &mut at, front, &mut placed) else {
         unreachable!();
     };
-    justify(alloc, columns, gaps, width, force, last)
+    Ok(justify(columns, gaps, width, force, last, at, front, placed))
 }
 
 /// A system: its marks, tilted over where its columns stand, and how its staves are stacked.
@@ -60,7 +66,7 @@ fn set_system<'a>(
     width: u32,
     a: u32,
     b: u32,
-    scratch: &mut [i64],
+    spans: &Spans,
 ) -> Result<SetSystem, Memory>
     requires good { IsGoodScore s.now }
     requires times { t.now ≡ timeline_of s.now }
@@ -72,21 +78,19 @@ fn set_system<'a>(
     requires gaps { gaps.now ≡ score_gaps s.now }
     requires lanes { length gaps.now < 2 ^ 32 }
     requires narrow { (lane : ℕ) → lane < length gaps.now → slice_index gaps.now lane ≤ 2 ^ 20 }
-    requires fits { CanBeSet s.now width (length scratch.old) a b }
+    requires bars { length spans.now.rows.rows ≡ s.now.measures }
+    requires fits { CanBeSet s.now width (listed spans.now.list) a b }
     ensures kept { voices.new ≡ voices.old }
     ensures system { IfOk result (λ set. IsSetSystem s.now width a b set.marks set.placed) }
     ensures heights { IfOk result (λ set. IsStack s.now set.marks set.heights) }
     ensures good { IfOk result (λ set. All (λ staff. AreGoodMarks staff.marks) set.marks.staves) }
 {
-    let columns = columns_in(alloc, starts, others, a as usize, b as usize)?;
-    let placed = press(
-        alloc,
-        columns.as_slice(),
-        gaps,
-        width,
-        b == s.measures,
-        scratch,
-    )?;
+    let Some(cost) = spans.rows.cost(a, b) else {
+        unreachable!();
+    };
+    let last = b == s.measures;
+    let seen = columns_in(alloc, starts, others, width, a as usize, b as usize)?;
+    let placed = press(alloc, seen.as_slice(), gaps, width, last, cost)?;
     let marks = tilt_of(alloc, s, voices, t, a, b, placed.at.as_slice())?;
     let between = gaps_between(alloc, s.voices.as_slice())?;
     let heights = stack(alloc, &marks, between.as_slice())?;
@@ -117,7 +121,7 @@ pub(crate) fn set_systems<'a>(
     gaps: &[u32],
     width: u32,
     breaks: &[u32],
-    scratch: &mut [i64],
+    spans: &Spans,
 ) -> Result<Systems, Memory>
     requires good { IsGoodScore s.now }
     requires times { t.now ≡ timeline_of s.now }
@@ -129,7 +133,8 @@ pub(crate) fn set_systems<'a>(
     requires gaps { gaps.now ≡ score_gaps s.now }
     requires lanes { length gaps.now < 2 ^ 32 }
     requires narrow { (lane : ℕ) → lane < length gaps.now → slice_index gaps.now lane ≤ 2 ^ 20 }
-    requires fits { AllSpans (CanBeSet s.now width (length scratch.old)) 0 breaks.now }
+    requires bars { length spans.now.rows.rows ≡ s.now.measures }
+    requires fits { AllSpans (CanBeSet s.now width (listed spans.now.list)) 0 breaks.now }
     ensures systems { IfOk result (λ r. EachSpan (IsSetSystem s.now width) 0 breaks.now r.marks r.placed) }
     ensures heights { IfOk result (λ r. Beside (IsStack s.now) r.marks r.heights) }
     ensures good { IfOk result (λ r. All (λ m. All (λ staff. AreGoodMarks staff.marks) m.staves) r.marks) }
@@ -140,7 +145,7 @@ pub(crate) fn set_systems<'a>(
     let mut a = 0;
     for b in breaks {
         let set = set_system(
-            alloc, s, voices, t, starts, others, gaps, width, a, *b, scratch,
+            alloc, s, voices, t, starts, others, gaps, width, a, *b, spans,
         )?;
         marks.push(set.marks)?;
         placed.push(set.placed)?;

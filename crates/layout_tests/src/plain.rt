@@ -1,12 +1,12 @@
 //! Columns in two lanes, placed and pressed, and the badness of forces.
 
-ghost use Rattle.std.specs.Prelude.{◌+◌, ◌≤◌, ◌<◌, length};
+ghost use Rattle.std.specs.Prelude.{◌≤◌, ◌<◌, length};
 
 use answer_texts::{count_at, number_at, numbers_of, put_placed};
 use case_texts::{Case, Report};
 use lay_columns::Column;
 use lay_spans::badness;
-use lay_springs::{Progress, Reach, fit, fit_within, justify, place};
+use lay_springs::{Progress, Reach, fit_within, justify, place};
 use mus_time::{Class, ColumnKey};
 use mus_units::{Memory, Row};
 use std::alloc::Global;
@@ -65,25 +65,31 @@ fn put_places(out: &mut Report, columns: &[Column], force: u16) -> Result<(), Me
     out.end_line()
 }
 
-/// Columns set to a width at the greatest force that fits.
-fn put_set(
+/// The greatest force of 0 to `most` at which columns end within a width; or the columns set to it, where it
+/// is told whether they are the last.
+fn put_fit(
     out: &mut Report,
     columns: &[Column],
     width: u32,
-    last: bool,
-    scratch: &mut [i64],
+    most: u32,
+    last: Option<bool>,
 ) -> Result<(), Memory>
     requires some { 0 < length columns.now }
     requires few { length columns.now ≤ 200000 }
-    requires room { length columns.now + 2 ≤ length scratch.old }
 {
-    match fit(columns, &GAPS, width, scratch) {
-        Some(force) => {
-            let placed = justify(out.alloc, columns, &GAPS, width, force, last)?;
-            put_placed(out, &placed)
-        }
-        None => put_force(out, None),
-    }
+    let most = u16::try_from(most).unwrap_or(0).min(2048);
+    let mut at = vec![in out.alloc; 0i64; columns.len()]?;
+    let front = &mut [0i64; 2];
+    let mut placed = Progress::none();
+    let found = fit_within(columns, &GAPS, width, most, &mut at, front, &mut placed);
+    let Some(last) = last else {
+        return put_force(out, found);
+    };
+    let Some(force) = found else {
+        return put_force(out, None);
+    };
+    let set = justify(columns, &GAPS, width, force, last, at, front, placed);
+    put_placed(out, &set)
 }
 
 /// The value of a call on plain columns: `place F`, `fit W`, `within W M` with the greatest force that may be
@@ -96,20 +102,12 @@ pub(crate) fn put_plain(out: &mut Report, case: Case<'_>) -> Result<(), Memory> 
     if columns.is_empty() || columns.len() > 1000 {
         return out.next(b"no columns\n");
     }
-    let mut places = vec![in out.alloc; 0i64; columns.len() + 2]?;
-    let scratch = places.as_mut_slice();
     match case.call {
         "place" => put_places(out, columns, u16::try_from(first).unwrap_or(0)),
-        "fit" => put_force(out, fit(columns, &GAPS, first, scratch)),
-        "within" => {
-            let most = u16::try_from(second).unwrap_or(0).min(2048);
-            let (at, front) = scratch.split_at_mut(columns.len());
-            let mut placed = Progress::none();
-            let force = fit_within(columns, &GAPS, first, most, at, front, &mut placed);
-            put_force(out, force)
-        }
-        "set" => put_set(out, columns, first, false, scratch),
-        _ => put_set(out, columns, first, true, scratch),
+        "fit" => put_fit(out, columns, first, 2048, None),
+        "within" => put_fit(out, columns, first, second, None),
+        "set" => put_fit(out, columns, first, 2048, Some(false)),
+        _ => put_fit(out, columns, first, 2048, Some(true)),
     }
 }
 

@@ -45,8 +45,5 @@ pub returns-clause-apart : goal.returns-clause-apart
 returns-clause-apart g c =
     set_apart (length c.args.cols.now) (reach_at g.C.Spaced.reach_of c.args.cols.now) c.args.gaps.now (length_at g.C.Spring.length_of c.args.cols.now) c.args.width c.args.force _ c.requires.some (returns-clause-set g c)
 
-pub settle-requires-clause-placed : goal.settle-requires-clause-placed
-settle-requires-clause-placed g c = c.none.ensures _ _ _ _ _ _
-
 pub spread-requires-clause-small : goal.spread-requires-clause-small
 spread-requires-clause-small g c = λ k l. c.settle.ensures.small k (let same = c.settle.auto.at in let room = c.requires.room in omega arith)

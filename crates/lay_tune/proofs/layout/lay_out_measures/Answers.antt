@@ -16,12 +16,6 @@ returns-in-Err-clause-no_way g c =
     c.requires.columns c.in_ok-spans.ensures.exact)
     c.in-Err.ensures.no_way)
 
-pub places_of-requires : goal.places_of-requires
-places_of-requires g c =
-    let few = few_lanes c.args.s.now c.args.verses.now c.in_ok-gaps.gaps c.requires.good c.requires.verses c.in_ok-gaps.ensures.few in
-    let count = c.len.ensures in
-    omega (arith, few, count)
-
 pub spans_of-requires-clause-lanes : goal.spans_of-requires-clause-lanes
 spans_of-requires-clause-lanes g c κs within =
     subst (λ gaps. length gaps < 4294967296) (sym c.as_slice.ensures)
@@ -34,16 +28,11 @@ set_systems-requires-clause-lanes g c =
 
 pub set_systems-requires-clause-fits : goal.set_systems-requires-clause-fits
 set_systems-requires-clause-fits g c =
-    let reserved = c.in_ok-places.ensures in
-    let lanes = c.len.ensures in
-    let read = ap (λ gaps. length gaps) c.as_slice.ensures in
-    let lent = ap (λ places. length places) c.as_mut_slice.ensures.value in
-    let narrow = c.ranges.width.fits in
-    chosen_read c.args.s.now c.args.width (length c.as_mut_slice.result.now) c.args.starts.now c.args.others.now c.in_ok-spans.spans.list
+    chosen_read c.args.s.now c.args.width c.args.starts.now c.args.others.now c.in_ok-spans.spans.list
     c.as_slice.result.now c.as_slice-forced.result.now c.in-Ok.breaking.breaks c.as_slice-breaks.result.now
     c.requires.count (c.as_slice.ensures ∙ c.in_ok-gaps.ensures.value ∙ ap gaps_of c.requires.verses) c.as_slice-forced.ensures
     c.as_slice-breaks.ensures c.requires.measures c.requires.columns c.in_ok-spans.ensures.exact
-    (omega arith) (omega arith) c.in-Ok.ensures.chosen
+    (let narrow = c.ranges.width.fits in omega arith) c.in-Ok.ensures.chosen
 
 pub returns-clause-spans : goal.returns-clause-spans
 returns-clause-spans g c =

@@ -1,24 +1,21 @@
-use Rattle.std.proofs.{Common.◌∙◌, Common.map, Common.subst, Common.sym, Common.ap, Common.arith, Common.length, lemmas.List.length-map}
+use Rattle.std.proofs.{Common.◌≡◌, Common.◌==◌, Common.◌∙◌, Common.map, Common.subst, Common.sym, Common.ap, Common.arith, Common.length, lemmas.List.length-map, lemmas.Option.same_Some}
 use Rattle.mus_marks.specs.{System.IsCall, System.drawn_staves, Tilt.AreAbscissas, Tilt.IsTilted, Tilt.tilted_staff}
-use Rattle.lay_tune.{specs.Systems.gaps_between, proofs.Called.has_system, proofs.Open.gaps_count, proofs.Open.staves_count, proofs.Rows.good_staves, proofs.Within.abscissas_of, proofs.Within.span_set}
+use Rattle.lay_tune.{specs.Systems.HaveForce, specs.Systems.gaps_between, proofs.Called.has_system, proofs.Open.gaps_count, proofs.Open.staves_count, proofs.Rows.good_staves, proofs.Within.abscissas_of, proofs.Within.span_set}
 use Rattle.lay_tune.proofs.systems.set_system.Goals as goal
 
 pub press-requires-clause-fits : goal.press-requires-clause-fits
 press-requires-clause-fits c =
+    let cost : c.requires.fits.cost ≡ c.in-Some.cost =
+    same_Some c.requires.fits.cost c.in-Some.cost (sym c.requires.fits.costs_so ∙ (sym (c.args.spans.now.same c.args.a c.args.b) ∙ (sym c.cost.ensures ∙ c.in-Some.is))) in
+    subst (λ cost. HaveForce c.args.gaps.now c.args.width (c.args.b == c.args.s.now.measures) cost (map (λ s. s.column.now) c.as_slice.result.now)) cost
     (span_set c.args.starts.now c.args.others.now (map (λ s. s.column.now) c.as_slice.result.now) c.requires.fits c.requires.columns c.requires.gaps
-    (ap (map (λ s. s.column.now)) c.as_slice.ensures ∙ c.in_ok-columns.ensures)).0
-
-pub press-requires-clause-room : goal.press-requires-clause-room
-press-requires-clause-room c =
-    let seen = length-map c.as_slice.result.now (λ s. s.column.now) in
-    let room = (span_set c.args.starts.now c.args.others.now (map (λ s. s.column.now) c.as_slice.result.now) c.requires.fits c.requires.columns c.requires.gaps
-    (ap (map (λ s. s.column.now)) c.as_slice.ensures ∙ c.in_ok-columns.ensures)).1 in omega arith
+    (ap (map (λ s. s.column.now)) c.as_slice.ensures ∙ c.in_ok-seen.ensures)).0
 
 pub tilt_of-requires-clause-places : goal.tilt_of-requires-clause-places
 tilt_of-requires-clause-places c =
     let s = c.args.s.now in
     let placed = (span_set c.args.starts.now c.args.others.now (map (λ s. s.column.now) c.as_slice.result.now) c.requires.fits c.requires.columns c.requires.gaps
-    (ap (map (λ s. s.column.now)) c.as_slice.ensures ∙ c.in_ok-columns.ensures)).2 c.in_ok-placed.placed c.in_ok-placed.ensures in
+    (ap (map (λ s. s.column.now)) c.as_slice.ensures ∙ c.in_ok-seen.ensures)).1 c.in_ok-placed.placed c.in_ok-placed.ensures in
     let narrow = c.ranges.width.fits in
     let flat = has_system s c.args.a c.args.b in
     subst (λ at. AreAbscissas s c.args.t.now c.args.a c.args.b at) (sym c.as_slice-2.ensures)
@@ -48,7 +45,7 @@ returns-clause-system c =
       flat = flat.0;
       called = flat.1;
       placed = (span_set c.args.starts.now c.args.others.now (map (λ s. s.column.now) c.as_slice.result.now) c.requires.fits c.requires.columns c.requires.gaps
-          (ap (map (λ s. s.column.now)) c.as_slice.ensures ∙ c.in_ok-columns.ensures)).2 c.in_ok-placed.placed c.in_ok-placed.ensures;
+          (ap (map (λ s. s.column.now)) c.as_slice.ensures ∙ c.in_ok-seen.ensures)).1 c.in_ok-placed.placed c.in_ok-placed.ensures;
       tilted = subst (λ t. IsTilted s t c.args.a c.args.b c.in_ok-placed.placed.at tilted.marks) c.requires.times
           (subst (λ at. IsTilted s c.args.t.now c.args.a c.args.b at tilted.marks) c.as_slice-2.ensures tilted.ensures.tilted);
       alike = tilted.ensures.alike flat.0 (subst (λ t. IsCall s t c.args.a c.args.b flat.0) (sym c.requires.times) flat.1);

@@ -1,6 +1,7 @@
 use Rattle.std.{proofs.{Common.{◌≡◌, ◌∙◌, ℕ, ◌+◌, ◌<◌, ◌≤◌, List, [], ◌∷◌, ◌++◌, drop, length, slice_index_or, sym, subst, arith}, lemmas.List.{append-nil, drop_all, drop_more, Elements.{All-append, All-cons, All-nil}}}, specs.List.All}
 use Rattle.mus_laid.specs.{Boxes.AreGoodMarks, declared.laid.SystemMarks.SystemMarks}
 use Rattle.lay_springs.specs.declared.margin.Placed.{Placed}
+use Rattle.lay_breaks.specs.Spans.{listed}
 use Rattle.lay_tune.{specs.Systems.AllSpans, specs.Systems.Beside, specs.Systems.CanBeSet, specs.Systems.EachSpan, specs.Systems.IsSetSystem, specs.Systems.IsStack, proofs.Rows.beside_more, proofs.Rows.span_more}
 use Rattle.lay_tune.proofs.systems.set_systems.Goals as goal
 
@@ -30,8 +31,7 @@ loop-b-preserved c =
       good = subst (λ marks. All Good marks) (sym c.in_ok-push.ensures.ok)
           (All-append Good c.loop-b.marks (c.in_ok-set.set.marks ∷ []) c.loop-b.invariant.good
           (All-cons Good c.in_ok-set.set.marks [] c.in_ok-set.ensures.good (All-nil Good)));
-      fits = subst (λ room. AllSpans (CanBeSet s c.args.width room) b (drop (i + 1) breaks)) (sym c.set_system.auto.scratch)
-          (subst (λ bs. AllSpans (CanBeSet s c.args.width (length c.loop-b.scratch)) c.loop-b.a bs) next c.loop-b.invariant.fits).1;
+      fits = (subst (λ bs. AllSpans (CanBeSet s c.args.width (listed c.args.spans.now.list)) c.loop-b.a bs) next c.loop-b.invariant.fits).1;
     }
 
 pub returns-clause-systems : goal.returns-clause-systems

@@ -1,7 +1,8 @@
-use Rattle.std.{proofs.Common.{◌≡◌, ◌++◌, List, drop, length, map}, specs.List.All}
+use Rattle.std.{proofs.Common.{◌≡◌, ◌++◌, List, drop, map}, specs.List.All}
 use Rattle.mus_laid.specs.{declared.laid.SystemMarks.SystemMarks, Boxes.AreGoodMarks}
 use Rattle.mus_drawn.specs.Drawn.{drawn_voice}
 use Rattle.lay_springs.specs.declared.margin.Placed.{Placed}
+use Rattle.lay_breaks.specs.Spans.{listed}
 use Rattle.lay_tune.specs.Systems.{AllSpans, Beside, CanBeSet, EachSpan, IsSetSystem, IsStack}
 use Rattle.lay_tune.proofs.systems.set_systems.Given as goal
 
@@ -12,5 +13,5 @@ invariant-loop-b l = record {
       → EachSpan (IsSetSystem l.s l.width) 0 l.breaks (l.marks ++ more) (l.placed ++ at);
   heights : Beside (IsStack l.s) l.marks l.heights;
   good : All (λ m. All (λ staff. AreGoodMarks staff.marks) m.staves) l.marks;
-  fits : AllSpans (CanBeSet l.s l.width (length l.scratch)) l.a (drop l.b-index l.breaks);
+  fits : AllSpans (CanBeSet l.s l.width (listed l.spans.list)) l.a (drop l.b-index l.breaks);
 }
