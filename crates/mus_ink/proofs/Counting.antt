@@ -1,7 +1,7 @@
--- One more of what is counted.
-use Rattle.std.proofs.Common.{◌≡◌, ℕ, suc, ◌+◌, ◌-◌, ◌*◌, ◌<◌, ℤ, pos, Bool, ◌∷◌, refl, arith}
-use Rattle.mus_units.specs.declared.glyph.Glyph.{Glyph}
-use Rattle.mus_ink.specs.{Drawing.{glyph, loose_glyph}, Distances.{dot_side, dot_step, rest_dot_line}, Kinds.{flag_glyph, stub_glyph}, Stems.{stem_dx, flag_dy, flag_marks, lower_edge, stub_marks}, Rests.{raised, short_dy, short_rests, rest_dots}}
+-- One more of what is counted, and nothing of what isn't there.
+use Rattle.std.{proofs.Common.{◌≡◌, ℕ, suc, ◌+◌, ◌-◌, ◌*◌, ◌<◌, ℤ, pos, Bool, true, ◌&&◌, List, [], ◌∷◌, ◌++◌, Option, Some, None, is_none, refl, arith}, specs.List.list_all}
+use Rattle.mus_units.specs.declared.{glyph.Glyph.Glyph, note.Head.Head, pitch.Alter.Alter, pitch.Clef.Clef}
+use Rattle.mus_ink.specs.{Drawing.{glyph, loose_glyph}, Distances.{dot_side, dot_step, rest_dot_line}, Kinds.{flag_glyph, stub_glyph}, Notes.{dy_of, sign_mark, sign_marks}, Stems.{stem_dx, flag_dy, flag_marks, lower_edge, stub_marks}, Rests.{raised, short_dy, short_rests, rest_dots}}
 
 pub one_less : (k n : ℕ) → k < n → n - k ≡ suc (n - (k + 1))
 one_less k n lt = omega arith
@@ -21,3 +21,12 @@ rests_step g top k n lt = rw (one_less k n lt) refl
 pub dots_step : (raise : ℤ) (k n : ℕ) → k < n →
     rest_dots raise k (n - k) ≡ glyph Glyph.Dt (pos (dot_side + dot_step * k)) (raised raise (pos rest_dot_line)) ∷ rest_dots raise (k + 1) (n - (k + 1))
 dots_step raise k n lt = rw (one_less k n lt) refl
+
+pub no_signs : (c : Clef) (hs : List Head) (dxs : List (Option ℤ)) → list_all (λ h. is_none h.sign) hs ≡ true → sign_marks c hs dxs ≡ []
+no_signs c [] dxs e = refl
+no_signs c (h ∷ hs) [] e = refl
+no_signs c (h ∷ hs) (dx ∷ dxs) e = by h.sign (no_signs c hs dxs) e
+  where
+    by : (sign : Option Alter) → (list_all (λ h. is_none h.sign) hs ≡ true → sign_marks c hs dxs ≡ []) → (is_none sign && list_all (λ h. is_none h.sign) hs) ≡ true → sign_mark (dy_of c h) sign dx ++ sign_marks c hs dxs ≡ []
+    by None more e = more e
+    by (Some a) more e = grind (arith, e)

@@ -1,4 +1,4 @@
-ghost use Rattle.std.specs.Prelude.{◌≡◌, ◌∷◌, [], OnOk};
+ghost use Rattle.std.specs.{Prelude.{◌≡◌, ◌∷◌, [], OnOk}, List.list_all, Option.is_none};
 ghost use Rattle.mus_units.specs.Pitch.{height_of};
 ghost use Rattle.mus_ink.specs.{Drawing.{cut, glyph}, Notes.{dy_of, highest_dy, lowest_dy, sign_mark, sign_marks, ledger_marks, note_heads, dot_marks, heads_marks}};
 ghost use Rattle.mus_laid.specs.Ranked.{inked};
@@ -46,19 +46,13 @@ pub fn lowest_dy(clef: Clef, first: i32, heads: &[Head]) -> i32
 }
 
 /// Draws the sign before a head, if there is one.
-fn put_sign(pen: &mut Pen, dy: i32, sign: Option<Alter>, dx: Option<i32>) -> Result<(), Memory>
-    ensures { OnOk result (pen.new ≡ inked pen.old (sign_mark dy sign dx)) }
-{
-    match (sign, dx) {
-        (Some(alter), Some(dx)) => put_glyph(pen, sign_glyph(alter), dx, dy),
-        _ => Ok(()),
-    }
-}
-
 fn put_sign_of(pen: &mut Pen, clef: Clef, head: Head, dx: Option<i32>) -> Result<(), Memory>
     ensures { OnOk result (pen.new ≡ inked pen.old (sign_mark (dy_of clef head) head.sign dx)) }
 {
-    put_sign(pen, head_dy(clef, head), head.sign, dx)
+    match (head.sign, dx) {
+        (Some(alter), Some(dx)) => put_glyph(pen, sign_glyph(alter), dx, head_dy(clef, head)),
+        _ => Ok(()),
+    }
 }
 
 /// Draws the signs before heads, in the order of the heads; `places` has the dx of each.
@@ -82,6 +76,27 @@ pub fn put_signs(
     Ok(())
 }
 
+fn have_no_sign(heads: &[Head]) -> bool
+    ensures { result ≡ list_all (λ h. is_none h.sign) heads.now }
+{
+    heads.iter().all(|head| head.sign.is_none())
+}
+
+/// Draws the signs before heads, of which most have none.
+fn put_signs_if(
+    pen: &mut Pen,
+    clef: Clef,
+    heads: &[Head],
+    places: &[Option<i32>],
+) -> Result<(), Memory>
+    ensures { OnOk result (pen.new ≡ inked pen.old (sign_marks clef heads.now places.now)) }
+{
+    if have_no_sign(heads) {
+        return Ok(());
+    }
+    put_signs(pen, clef, heads, places)
+}
+
 /// Draws ledger lines.
 pub fn put_ledgers(pen: &mut Pen, ledgers: &[i32]) -> Result<(), Memory>
     ensures { OnOk result (pen.new ≡ inked pen.old (ledger_marks ledgers.now)) }
@@ -90,12 +105,6 @@ pub fn put_ledgers(pen: &mut Pen, ledgers: &[i32]) -> Result<(), Memory>
         put_glyph(pen, Glyph::Lg, 0, *dy)?;
     }
     Ok(())
-}
-
-fn put_one_head(pen: &mut Pen, clef: Clef, sort: Glyph, head: Head, dx: i32) -> Result<(), Memory>
-    ensures { OnOk result (pen.new ≡ inked pen.old (glyph sort dx (dy_of clef head) ∷ [])) }
-{
-    put_glyph(pen, sort, dx, head_dy(clef, head))
 }
 
 /// Draws heads, each with its shift.
@@ -113,7 +122,7 @@ fn put_heads(
         let Some((dx, others)) = shifts.split_first() else {
             return Ok(());
         };
-        put_one_head(pen, clef, sort, *head, *dx)?;
+        put_glyph(pen, sort, *dx, head_dy(clef, *head))?;
         rest = more;
         shifts = others;
     }
@@ -140,7 +149,7 @@ pub fn put_heads_of(
 ) -> Result<(), Memory>
     ensures { OnOk result (pen.new ≡ inked pen.old (heads_marks clef base heads.now plan.now)) }
 {
-    put_signs(pen, clef, heads, plan.signs.as_slice())?;
+    put_signs_if(pen, clef, heads, plan.signs.as_slice())?;
     put_ledgers(pen, plan.ledgers.as_slice())?;
     put_heads(pen, clef, head_glyph(base), heads, plan.shifts.as_slice())?;
     put_dots(pen, plan.dots.as_slice())

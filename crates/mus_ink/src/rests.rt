@@ -32,19 +32,13 @@ fn short_dy(top: i32, k: u8) -> i32
     cut(i64::from(top) - REST_STEP * i64::from(k))
 }
 
-fn put_short_rest(pen: &mut Pen, sort: Glyph, top: i32, k: u8) -> Result<(), Memory>
-    ensures { OnOk result (pen.new ≡ inked pen.old (glyph sort (pos 0) (short_dy top k) ∷ [])) }
-{
-    put_glyph(pen, sort, 0, short_dy(top, k))
-}
-
 /// Draws a rest shorter than a quarter, a part for each flag.
 #[tactic(auto, using(crate::proofs::Counting::rests_step, std::proofs::lemmas::Grind::common_steps))]
 fn put_short_rests(pen: &mut Pen, sort: Glyph, top: i32, flags: u8) -> Result<(), Memory>
     ensures { OnOk result (pen.new ≡ inked pen.old (short_rests sort top 0 flags)) }
 {
     for k in 0..flags {
-        put_short_rest(pen, sort, top, k)?;
+        put_glyph(pen, sort, 0, short_dy(top, k))?;
     }
     Ok(())
 }
@@ -65,19 +59,13 @@ fn put_rest_glyphs(pen: &mut Pen, raise: i32, base: Base, flags: u8) -> Result<(
     }
 }
 
-fn put_rest_dot(pen: &mut Pen, raise: i32, k: u8) -> Result<(), Memory>
-    ensures { OnOk result (pen.new ≡ inked pen.old (glyph Dt (pos (dot_side + dot_step * k)) (raised raise (pos rest_dot_line)) ∷ [])) }
-{
-    let dx = DOT_SIDE + DOT_STEP * i32::from(k);
-    put_glyph(pen, Glyph::Dt, dx, raised(raise, REST_DOT_LINE))
-}
-
 #[tactic(auto, using(crate::proofs::Counting::dots_step, std::proofs::lemmas::Grind::common_steps))]
 fn put_rest_dots(pen: &mut Pen, raise: i32, dots: u8) -> Result<(), Memory>
     ensures { OnOk result (pen.new ≡ inked pen.old (rest_dots raise 0 dots)) }
 {
     for k in 0..dots {
-        put_rest_dot(pen, raise, k)?;
+        let dx = DOT_SIDE + DOT_STEP * i32::from(k);
+        put_glyph(pen, Glyph::Dt, dx, raised(raise, REST_DOT_LINE))?;
     }
     Ok(())
 }

@@ -38,19 +38,13 @@ fn flag_dy(up: bool, to: i32, k: u8) -> i32
     }
 }
 
-fn put_flag(pen: &mut Pen, up: bool, to: i32, k: u8) -> Result<(), Memory>
-    ensures { OnOk result (pen.new ≡ inked pen.old (glyph (flag_glyph up) (stem_dx up) (flag_dy up to k) ∷ [])) }
-{
-    put_glyph(pen, flag_glyph(up), stem_dx(up), flag_dy(up, to, k))
-}
-
 /// Draws the flags of an event without a beam.
 #[tactic(auto, using(crate::proofs::Counting::flags_step, std::proofs::lemmas::Grind::common_steps))]
 fn put_flags(pen: &mut Pen, up: bool, to: i32, flags: u8) -> Result<(), Memory>
     ensures { OnOk result (pen.new ≡ inked pen.old (flag_marks up to 0 flags)) }
 {
     for k in 0..flags {
-        put_flag(pen, up, to, k)?;
+        put_glyph(pen, flag_glyph(up), stem_dx(up), flag_dy(up, to, k))?;
     }
     Ok(())
 }
@@ -67,12 +61,6 @@ pub fn lower_edge(up: bool, to: i32, level: u8) -> i32
     }
 }
 
-fn put_stub(pen: &mut Pen, first: bool, up: bool, to: i32, k: u8) -> Result<(), Memory>
-    ensures { OnOk result (pen.new ≡ inked pen.old (loose_glyph (stub_glyph first) (stem_dx up) (lower_edge up to k) ∷ [])) }
-{
-    put_loose_glyph(pen, stub_glyph(first), stem_dx(up), lower_edge(up, to, k))
-}
-
 /// Draws the stubs of an event in a beam, from a level on.
 #[tactic(auto, using(crate::proofs::Counting::stubs_step, std::proofs::lemmas::Grind::common_steps))]
 fn put_stubs(
@@ -86,7 +74,7 @@ fn put_stubs(
     ensures { OnOk result (pen.new ≡ inked pen.old (stub_marks first up to level (flags - level))) }
 {
     for k in level..flags {
-        put_stub(pen, first, up, to, k)?;
+        put_loose_glyph(pen, stub_glyph(first), stem_dx(up), lower_edge(up, to, k))?;
     }
     Ok(())
 }
