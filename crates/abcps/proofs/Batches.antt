@@ -37,12 +37,7 @@ pub running_written : (plan : Plan) (paper : Paper) (outcomes : List Outcome) (g
 running_written plan paper outcomes given r s press told refused count running =
     let both = length-append given (done_pages r.press) in
     let before = running.count in
-    record {
-      pressed = press running.pressed;
-      told = told ∙ running.told;
-      refused = refused ∙ running.refused;
-      count = omega (arith, both, count, before);
-    }
+    record { pressed = press running.pressed; told = told ∙ running.told; refused = refused ∙ running.refused; count = omega (arith, both, count, before) }
 
 -- a tune is counted from 1
 abbrev pub IsCounted : TuneText → Type 0

@@ -103,14 +103,7 @@ module _ (alone : CallsOne) (either : NeverBoth) (words : List (List ℕ)) (i o 
 
   -- an input that was refused
   refused_with : (c : Command) (text : List ℕ) (s : Status) → WasRefused c s text o e → IsRefused c s text o e
-  refused_with c text s r = record {
-    refusal = r.0;
-    refuses = r.1;
-    uncalled = λ called calls. either c text called r.0 calls r.1;
-    ends = r.2;
-    quiet = r.3;
-    told = r.4;
-  }
+  refused_with c text s r = record { refusal = r.0; refuses = r.1; uncalled = λ called calls. either c text called r.0 calls r.1; ends = r.2; quiet = r.3; told = r.4 }
 
   -- a command that refuses its input reads it
   refused_reads : (c : Command) (text : List ℕ) (refusal : Refusal) → Refuses c text refusal → IsReader c

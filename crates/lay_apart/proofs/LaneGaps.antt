@@ -65,10 +65,6 @@ number_of count lanes.Below keeps has = (2, record { is = refl; low = omega arit
 number_of count (Lane.Verse n) keeps (low, high) =
     let e : suc (1 + n) ≡ 2 + n = omega arith in (
       2 + n,
-      record {
-        is = verse_number n low;
-        low = omega (arith, high);
-        gap = subst (λ k. slice_index (staff_gaps count) k ≡ 300) e (gap_behind count (1 + n) (omega (arith, high)));
-      },
+      record { is = verse_number n low; low = omega (arith, high); gap = subst (λ k. slice_index (staff_gaps count) k ≡ 300) e (gap_behind count (1 + n) (omega (arith, high))) },
     )
 number_of count Lane.Loose keeps has = absurd keeps

@@ -125,11 +125,7 @@ stands_in reaches all lane l =
 -- ---- each column
 module _ (staves : List StaffMarks) (lengths verses : List ℕ) where
   abbrev column_at : ℕ → ColumnKey → List ColumnKey → Column
-  column_at rank key behind = record {
-    key = key;
-    reaches = reaches_of (stands_always key.class) rank staves verses;
-    natural = natural_of key behind lengths;
-  }
+  column_at rank key behind = record { key = key; reaches = reaches_of (stands_always key.class) rank staves verses; natural = natural_of key behind lengths }
 
   all_columns : (P : Column → Type 0) → ((rank : ℕ) (key : ColumnKey) (behind : List ColumnKey) → P (column_at rank key behind))
       → (rank : ℕ) (keys : List ColumnKey) → All P (columns_from rank keys staves lengths verses)

@@ -52,11 +52,7 @@ row_stood always (o ∷ row) (suc place) box =
 module _ (lengths : List ℕ) where
   abbrev made : (ℕ → Bool → List (Option Reach)) → ℕ → List ColumnKey → List Column
   made f rank [] = []
-  made f rank (key ∷ behind) = record {
-    key = key;
-    reaches = f rank (stands_always key.class);
-    natural = natural_of key behind lengths;
-  } ∷ made f (rank + 1) behind
+  made f rank (key ∷ behind) = record { key = key; reaches = f rank (stands_always key.class); natural = natural_of key behind lengths } ∷ made f (rank + 1) behind
 
   made_same : (f g : ℕ → Bool → List (Option Reach)) (rank : ℕ) (keys : List ColumnKey) → ((k : ℕ) (always : Bool) → rank ≤ k → f k always ≡ g k always)
       → made f rank keys ≡ made g rank keys

@@ -1,5 +1,4 @@
--- The columns of a system: one for each key, with its reach in each lane and the natural length of
--- the spring behind it.
+-- The columns of a system: one for each key, with its reach in each lane and the natural length of the spring behind it.
 use Rattle.std.specs.Prelude.{◌≡◌, ℕ, ◌+◌, ◌*◌, ◌/◌, ◌<◌, ◌≤◌, ◌⊎◌, pos, neg_ℤ, ◌≤ℤ◌, true, List, [], ◌∷◌, length, All, Contains, Option, Some, IfSome, option_and_then, slice_get}
 use Rattle.mus_time.specs.declared.keys.ColumnKey.{ColumnKey}
 use Rattle.mus_laid.specs.{Boxes.sides_of, declared.boxes.Sides.Sides, declared.laid.Laid.Laid, declared.laid.StaffMarks.StaffMarks}

@@ -5,8 +5,7 @@ use Rattle.mus_time.specs.declared.keys.ColumnKey.{ColumnKey}
 use Rattle.mus_laid.specs.{declared.laid.Laid.Laid, declared.laid.Mark.Mark, declared.laid.StaffMarks.StaffMarks}
 use Rattle.lay_columns.specs.{Columns.columns_of, Reaches.boxes_at, Reaches.rank_of}
 
--- the marks of a staff have the boxes of the first marks in the first n columns, and behind them
--- the boxes of the second
+-- the marks of a staff have the boxes of the first marks in the first n columns, and behind them the boxes of the second
 pub record AreJoined (n : ℕ) (joined first second : List Laid) : Type 0 where
   pub front : (rank lane : ℕ) → rank < n → boxes_at rank lane joined ≡ boxes_at rank lane first
   pub behind : (rank lane : ℕ) → boxes_at (n + rank) lane joined ≡ boxes_at rank lane second

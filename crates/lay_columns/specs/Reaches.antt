@@ -1,5 +1,4 @@
--- How far a column reaches in a lane: as far as the boxes of its marks there, to the left and to the
--- right, at least 0, and cut at 2^20.
+-- How far a column reaches in a lane: as far as the boxes of its marks there, to the left and to the right, at least 0, and cut at 2^20.
 use Rattle.std.specs.{Prelude.{ℕ, ℤ, pos, negsuc, ◌+◌, min, Bool, true, false, ◌&&◌, ◌==◌, if◌then◌else◌, List, [], ◌∷◌, ◌++◌, map, filter_map, Option, Some, None}, List.range_with_len}
 use Rattle.mus_time.specs.{Onsets.greatest, declared.keys.Class.Class}
 use Rattle.mus_laid.specs.{Boxes.sides_of, declared.boxes.Sides.Sides, declared.laid.Mark.Mark, declared.laid.Laid.Laid, declared.laid.StaffMarks.StaffMarks}
@@ -38,10 +37,7 @@ boxes_at rank lane marks = filter_map (box_at rank lane) marks
 -- as far as the furthest box; none without a box
 abbrev pub reach_over : List Sides → Option Reach
 reach_over [] = None
-reach_over (box ∷ boxes) = Some (record {
-  left = greatest (map (λ s. left_of s.left) (box ∷ boxes));
-  right = greatest (map (λ s. right_of s.right) (box ∷ boxes));
-})
+reach_over (box ∷ boxes) = Some (record { left = greatest (map (λ s. left_of s.left) (box ∷ boxes)); right = greatest (map (λ s. right_of s.right) (box ∷ boxes)) })
 
 abbrev pub drawn_reach : List Laid → ℕ → ℕ → Option Reach
 drawn_reach marks rank lane = reach_over (boxes_at rank lane marks)

@@ -10,11 +10,7 @@ AreGoodStaves staves = All (λ s. AreGoodMarks s.marks) staves
 
 -- a column without marks, in some lanes
 abbrev pub bare_column : ColumnKey → ℕ → ℕ → Column
-bare_column key natural lanes = record {
-  key = key;
-  reaches = replicate lanes (standing (stands_always key.class) None);
-  natural = natural;
-}
+bare_column key natural lanes = record { key = key; reaches = replicate lanes (standing (stands_always key.class) None); natural = natural }
 
 abbrev pub bare_columns : List ColumnKey → List ℕ → ℕ → List Column
 bare_columns [] lengths lanes = []
@@ -30,11 +26,7 @@ widened_row row place box =
     if nat_lt place (length row) then slice_set row place (Some (widened (slice_index_or row place None) box)) else row
 
 abbrev pub widened_column : Column → ℕ → Sides → Column
-widened_column column place box = record {
-  key = column.key;
-  reaches = widened_row column.reaches place box;
-  natural = column.natural;
-}
+widened_column column place box = record { key = column.key; reaches = widened_row column.reaches place box; natural = column.natural }
 
 abbrev pub with_widened : List Column → ℕ → ℕ → Sides → Option Column → List Column
 with_widened columns rank place box None = columns

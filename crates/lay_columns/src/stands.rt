@@ -116,17 +116,6 @@ impl Reaches {
         }
         Ok(())
     }
-
-    /// The same reaches.
-    pub fn copy(&self, alloc: Global) -> Result<Reaches, Memory>
-        ensures { IfOk result (λ it. it ≡ self.now) }
-    {
-        let held = match &self.held {
-            Held::Single(single) => Held::Single(*single),
-            Held::Row(row) => Held::Row(row.copy(alloc)?),
-        };
-        Ok(Reaches { held })
-    }
 }
 
 /// A reach more, in a lane: in place where there was none or one of the same lane, else as a row.

@@ -1,5 +1,5 @@
 ghost use Rattle.std.specs.Prelude.{◌≡◌, All, length, map, IfOk};
-ghost use Rattle.lay_columns.specs.{Reaches.stands_always, Columns.columns_of, Columns.CoverMarks, Columns.IsSmall, Columns.IsUncut, Columns.StandsWhereDue, Lanes.gaps_of, Widened.AreGoodStaves, Widened.bare_column, Widened.bare_columns};
+ghost use Rattle.lay_columns.specs.{Reaches.stands_always, Columns.columns_of, Columns.CoverMarks, Columns.IsSmall, Columns.IsUncut, Columns.StandsWhereDue, Lanes.gaps_of, Widened.AreGoodStaves, Widened.bare_columns};
 
 use crate::column::Column;
 use crate::lanes::lanes_of;
@@ -18,17 +18,7 @@ fn stands_always(class: Class) -> bool
     matches!(class, Class::Head | Class::First | Class::Bar)
 }
 
-/// A column before any mark, with all its lanes.
-fn bare_column(alloc: Global, key: ColumnKey, natural: u32, lanes: usize) -> Result<Column, Memory>
-    ensures { IfOk result (λ c. c ≡ bare_column key natural lanes) }
-{
-    Ok(Column {
-        key,
-        reaches: Reaches::bare(alloc, stands_always(key.class), lanes)?,
-        natural,
-    })
-}
-
+/// Columns before any mark, with all their lanes.
 fn bare_columns(
     alloc: Global,
     keys: &[ColumnKey],
@@ -39,8 +29,11 @@ fn bare_columns(
 {
     let mut out = Row::with_room(alloc, keys.len())?;
     for (rank, key) in keys.iter().enumerate() {
-        let natural = natural_of(*key, &keys[rank + 1..], lengths);
-        out.push(bare_column(alloc, *key, natural, lanes)?)?;
+        out.push(Column {
+            key: *key,
+            reaches: Reaches::bare(alloc, stands_always(key.class), lanes)?,
+            natural: natural_of(*key, &keys[rank + 1..], lengths),
+        })?;
     }
     Ok(out)
 }

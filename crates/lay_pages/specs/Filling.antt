@@ -87,8 +87,7 @@ abbrev pub CanFollow : Option Standing → Type 0
 CanFollow None = ⊤
 CanFollow (Some last) = IsEnd last
 
--- the block with which the first group begins that is higher than a page; `tied` says that a block
--- before is tied to the first here
+-- the block with which the first group begins that is higher than a page; `tied` says that a block before is tied to the first here
 abbrev pub tall_by : Bool → ℕ → Option ℕ → Option ℕ
 tall_by true number others = Some number
 tall_by false number others = others

@@ -1,5 +1,4 @@
--- The staves of a system under one another. Heights are counted from the top of the block, and
--- are negative below it.
+-- The staves of a system under one another. Heights are counted from the top of the block, and are negative below it.
 use Rattle.std.specs.Prelude.{◌≡◌, ⊤, ℕ, suc, ◌+◌, ℤ, pos, negsuc, ◌+ℤ◌, ◌-ℤ◌, ◌≤ℤ◌, List, [], ◌∷◌}
 use Rattle.mus_laid.specs.declared.laid.StaffMarks.{StaffMarks}
 

@@ -32,10 +32,9 @@ pub struct TitleBlock {
     pub height: u64,
 }
 
-/// The title block of a tune on a body that is `width` u wide: the titles in the
-/// middle, big; the composers at the right; the tempo at the left. A row is cut to
-/// what the width holds and to 60 characters; a text of which nothing is printed
-/// has no row.
+/// The title block of a tune on a body that is `width` u wide: the titles in the middle, big; the
+/// composers at the right; the tempo at the left. A row is cut to what the width holds and to 60
+/// characters; a text of which nothing is printed has no row.
 pub fn title_block(
     alloc: Global,
     width: u32,

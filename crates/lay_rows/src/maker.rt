@@ -9,8 +9,7 @@ use std::thread::Threads;
 
 /// A table of costs that is made row by row.
 ///
-/// What a row is made from the maker holds itself, so that several threads may
-/// share it.
+/// What a row is made from the maker holds itself, so that several threads may share it.
 pub trait RowMaker {
     ghost use Rattle.std.specs.Prelude.{◌≡◌, ◌<◌, ◌≤◌, ◌^◌, ℕ, List, All, IfOk};
 

@@ -1,5 +1,4 @@
--- What is called for is drawn: an event, a grace, a bar and a head have a mark, and a change has one
--- just where it changes what is drawn.
+-- What is called for is drawn: an event, a grace, a bar and a head have a mark, and a change has one just where it changes what is drawn.
 use Rattle.std.proofs.{Common.{◌≡◌, ◌∙◌, ℕ, zero, suc, ℤ, ◌+◌, ◌*◌, ◌≤◌, Bool, true, false, ◌||◌, nat_le, List, [], ◌∷◌, ◌++◌, length, Option, Some, None, is_some, refl, ap, arith}, lemmas.Bool.Decides.nat_tests}
 use Rattle.mus_units.specs.declared.{glyph.Glyph.Glyph, key.Key.Key, key.Meter.Meter, key.Sign.Sign, note.Bar.Bar, note.Head.Head, pitch.Clef.Clef, value.Base.Base}
 use Rattle.mus_score.specs.{declared.score.Changes.Changes, declared.score.Event.Event, declared.score.Look.Look}

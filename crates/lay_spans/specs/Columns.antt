@@ -16,8 +16,7 @@ pub record EndsInAll {C : Type 0} (reach : C → ℕ → Option Reach) (lanes : 
   pub some : 0 < length columns
   pub last : StandsInAll (reach_at reach columns (length columns - 1)) lanes
 
--- the columns of the measures of a tune: each measure has some, and those that don't begin a system end with one that
--- stands in each lane
+-- the columns of the measures of a tune: each measure has some, and those that don't begin a system end with one that stands in each lane
 pub record AreMeasures {C : Type 0} (reach : C → ℕ → Option Reach) (lanes : ℕ) (starts others : List (List C)) : Type 0 where
   pub same : length others ≡ length starts
   pub few : length starts ≤ 4000

@@ -10,6 +10,9 @@ use lay_springs::{Progress, Spaced, Spring, fit_within, most_columns};
 use mus_units::{Memory, Row};
 use std::alloc::Global;
 
+/// How many columns most spans have that are tried; room for so many is made at once.
+pub(crate) const MOST_OFTEN: usize = 64;
+
 /// The greatest force of 0 to `most` at which the columns end within the width. None exactly where
 /// they can't stand within it; more than `most_columns` never can.
 fn greatest_force<C: Spaced + Spring>(
@@ -73,11 +76,10 @@ pub(crate) fn see<'a, C: Spaced>(
     Ok(())
 }
 
-/// What the spans from bar `a` cost, from the shortest to the longest that fits. It adds
-/// one measure's columns at a time, and stops at the first span that doesn't fit or
-/// behind a forced bar. Each search for a force goes on from where the one before left its columns,
-/// and takes no memory: room for all columns that can stand within the width is reserved before
-/// the first.
+/// What the spans from bar `a` cost, from the shortest to the longest that fits. It adds one
+/// measure's columns at a time, and stops at the first span that doesn't fit or behind a forced
+/// bar. Each search for a force goes on from where the one before left its columns, and takes no
+/// memory.
 pub(crate) fn row_from<'a, C: Spaced + Spring>(
     alloc: Global,
     starts: &'a [Row<C>],
@@ -95,11 +97,11 @@ pub(crate) fn row_from<'a, C: Spaced + Spring>(
     ensures { IfOk result (λ row. IsRowFrom C.reach_of C.length_of gaps.now width starts.now others.now
         (λ b. slice_index_or marks.now b false) a row) }
 {
-    let mut at = Vec::with_capacity(alloc, most_columns(width))?;
+    let mut at = Vec::with_capacity(alloc, MOST_OFTEN)?;
     let mut ends = vec![in alloc; 0; gaps.len()]?;
     let front = ends.as_mut_slice();
     let placed = &mut Progress::none();
-    let mut seen = Row::with_room(alloc, most_columns(width))?;
+    let mut seen = Row::with_room(alloc, MOST_OFTEN)?;
     let mut row = Row::new(alloc);
     let mut most = 2048;
     for m in a..starts.len() {

@@ -6,11 +6,11 @@ use crate::costs::Spans;
 use crate::lent::Lent;
 use crate::maker::SpanMaker;
 use crate::marks::marks_of;
-use crate::rows::{list_rows, measure, see};
+use crate::rows::{MOST_OFTEN, list_rows, measure, see};
 use crate::seen::Seen;
 use eng_halves::Jobs;
 use lay_rows::make_rows;
-use lay_springs::{Spaced, Spring, most_columns};
+use lay_springs::{Spaced, Spring};
 use mus_units::{Memory, Row};
 use std::alloc::Global;
 use std::thread::Threads;
@@ -21,8 +21,7 @@ use std::thread::Threads;
 /// `starts` has the columns of each measure in a system that begins with it, and
 /// `others` in one that doesn't; the span from bar a to bar b has the measures a to
 /// b - 1, counted from 0. A span with a forced bar strictly inside isn't listed.
-/// Bars in `forced` that the tune doesn't have count for nothing. The spans from each bar
-/// have room for placing columns that is reserved before their first search for a force.
+/// Bars in `forced` that the tune doesn't have count for nothing.
 ///
 /// The spans from the bars of either half are found side by side where
 /// threads can be made. They don't depend on it.
@@ -58,13 +57,11 @@ pub fn spans_of<'a, R: Threads + Sync, C: Spaced + Spring + Sync>(
     Ok(Spans { list, rows })
 }
 
-/// The columns of the span from bar `a` to bar `b`, as `spans_of` has it, in order. Room for all
-/// columns that can stand within the width is reserved first.
+/// The columns of the span from bar `a` to bar `b`, as `spans_of` has it, in order.
 pub fn columns_in<'a, C: Spaced>(
     alloc: Global,
     starts: &'a [Row<C>],
     others: &'a [Lent<'a, C>],
-    width: u32,
     a: usize,
     b: usize,
 ) -> Result<Row<Seen<'a, C>>, Memory>
@@ -73,7 +70,7 @@ pub fn columns_in<'a, C: Spaced>(
     requires same { length others.now ≡ length starts.now }
     ensures { IfOk result (λ seen. map (λ s. s.column.now) seen ≡ span_columns starts.now others.now a b) }
 {
-    let mut seen = Row::with_room(alloc, most_columns(width))?;
+    let mut seen = Row::with_room(alloc, MOST_OFTEN)?;
     for m in a..b {
         see(&mut seen, measure(starts, others, a, m))?;
     }

@@ -110,9 +110,8 @@ pub fn fit_within<C: Spaced + Spring>(
     if low == 0 { None } else { Some(low - 1) }
 }
 
-/// A law of `fit_within`: a list of columns that continues another, and whose last column
-/// stands in each lane, never has a greater force, and doesn't fit where the other
-/// doesn't. Does nothing.
+/// A law of `fit_within`: a list of columns that continues another, and whose last column stands in
+/// each lane, never has a greater force, and doesn't fit where the other doesn't. Does nothing.
 pub fn longer_fits_less<C: Spaced + Spring>()
     ensures { LongerFitsLess C.reach_of C.length_of }
 {}

@@ -63,6 +63,22 @@ fn advance_each<C: Spaced>(col: &C, at: i64, front: &mut [i64])
     }
 }
 
+/// Takes note of a column at `at`, in the one lane in which it stands, or in each.
+fn advance<C: Spaced>(col: &C, at: i64, front: &mut [i64])
+    requires lanes { length front.old < 2 ^ 32 }
+    requires begins { pos 0 ≤ℤ at }
+    requires small { at ≤ℤ pos (2 ^ 62) }
+    ensures { (lane : ℕ) → lane < length front.old
+        → Advances (C.reach_of col.now lane) at (slice_index_or front.old lane (pos 0)) (slice_index_or front.new lane (pos 0)) }
+{
+    match col.lone() {
+        Some(Stand { lane, reach }) if (lane as usize) < front.len() => {
+            front[lane as usize] = advanced(Some(reach), at, front[lane as usize]);
+        }
+        _ => advance_each(col, at, front),
+    }
+}
+
 /// The front of a lane after a column at `at` that reaches so far in it.
 fn advanced(reach: Option<Reach>, at: i64, front: i64) -> i64
     requires begins { pos 0 ≤ℤ at }
@@ -114,6 +130,13 @@ fn first_of<C: Spaced>(col: &C, lanes: usize) -> i64
     ensures inside { IsInside (C.reach_of col.now) lanes result }
     ensures least { (v : ℤ) → pos 0 ≤ℤ v → IsInside (C.reach_of col.now) lanes v → result ≤ℤ v }
 {
+    if let Some(Stand { lane, reach }) = col.lone() {
+        return if (lane as usize) < lanes {
+            i64::from(reach.left)
+        } else {
+            0
+        };
+    }
     let mut first = 0;
     for lane in 0..lanes {
         let Some(s) = col.reach(lane as u32) else {
@@ -196,7 +219,7 @@ fn begun<C: Spaced + Spring>(
     empty_fronts(front);
     let first = first_of(&cols[0], gaps.len());
     at[0] = first;
-    advance_each(&cols[0], first, front);
+    advance(&cols[0], first, front);
     Progress {
         force,
         count: 1,
@@ -268,10 +291,9 @@ fn empty_fronts(front: &mut [i64])
     }
 }
 
-/// The least list of abscissas at a force, in u: pointwise least among all lists
-/// that begin at 0 or past it, keep each lane's gap between the reaches of every
-/// two columns that stand in it, leave 100 between neighbours and keep each spring.
-/// One pass over the columns.
+/// The least list of abscissas at a force, in u: pointwise least among all lists that begin at 0 or
+/// past it, keep each lane's gap between the reaches of every two columns that stand in it, leave
+/// 100 between neighbours and keep each spring. One pass over the columns.
 pub fn place<C: Spaced + Spring>(
     alloc: Global,
     cols: &[C],

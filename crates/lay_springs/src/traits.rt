@@ -1,7 +1,6 @@
 ghost use Rattle.std.specs.Prelude.{◌≡◌, ◌*◌, ◌/◌, ◌^◌, ◌<◌, ◌≤◌, ℕ, Option, IfSome};
 
-/// How far a column reaches to the left and to the right of its abscissa in a
-/// lane, in u.
+/// How far a column reaches to the left and to the right of its abscissa in a lane, in u.
 #[derive(Clone, Copy, PartialEq, Eq)]
 pub struct Reach {
     pub left: u32,
@@ -22,8 +21,7 @@ pub trait Spaced {
     // the reach in a lane, where the column stands in it
     ghost reach_of: { Self → ℕ → Option Reach };
 
-    /// The reach in a lane; None exactly where the column doesn't stand in it. Takes no
-    /// memory.
+    /// The reach in a lane; None exactly where the column doesn't stand in it. Takes no memory.
     fn reach(&self, lane: u32) -> Option<Reach>
         ensures { result ≡ reach_of self.now lane };
 

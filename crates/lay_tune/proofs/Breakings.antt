@@ -35,10 +35,7 @@ module _ (s : Score) (width : ℕ) where
 
   -- a span that costs something can be a system
   pub cost_can_be : (a b v : ℕ) → IsSpanCost s width a b v → CanBeSystem s width a b
-  cost_can_be a b v cost = record {
-    free = cost.free;
-    stands = λ m is. can_stand (score_gaps s) width (system_columns s m) cost.pressed.0 (cost.pressed.2 m is);
-  }
+  cost_can_be a b v cost = record { free = cost.free; stands = λ m is. can_stand (score_gaps s) width (system_columns s m) cost.pressed.0 (cost.pressed.2 m is) }
 
   module _ (spans : List Span) (exact : AreSpansOf s width spans) where
     -- the spans of a breaking among those that are listed
@@ -71,20 +68,10 @@ module _ (s : Score) (width : ℕ) where
 
     -- the legal breakings of the score are those into the listed spans
     pub legal_in : (breaks : List ℕ) → IsLegal (listed spans) (is_forced_in s) breaks s.measures → IsLegalIn s width breaks
-    legal_in breaks h = record {
-      rises = h.rises;
-      ends = h.ends;
-      every_forced = h.every_forced;
-      fits = let e = h.ends in all_can_be 0 breaks h.rises (omega (arith, e)) h.fits;
-    }
+    legal_in breaks h = record { rises = h.rises; ends = h.ends; every_forced = h.every_forced; fits = let e = h.ends in all_can_be 0 breaks h.rises (omega (arith, e)) h.fits }
 
     pub legal_listed : (breaks : List ℕ) → IsLegalIn s width breaks → IsLegal (listed spans) (is_forced_in s) breaks s.measures
-    legal_listed breaks h = record {
-      rises = h.rises;
-      ends = h.ends;
-      every_forced = h.every_forced;
-      fits = let e = h.ends in all_fit 0 breaks h.rises (omega (arith, e)) h.fits;
-    }
+    legal_listed breaks h = record { rises = h.rises; ends = h.ends; every_forced = h.every_forced; fits = let e = h.ends in all_fit 0 breaks h.rises (omega (arith, e)) h.fits }
 
     -- what they cost is what is listed
     legal_cost : (breaks : List ℕ) → IsLegal (listed spans) (is_forced_in s) breaks s.measures → CostTogether s width 0 breaks (sum_from (listed spans) 0 breaks)

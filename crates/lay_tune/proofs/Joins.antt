@@ -36,10 +36,7 @@ pub measure_more : (P : ℕ → List Column → Type 0) (n : ℕ) (rows : List (
 measure_more P n rows columns h p =
     let k = h.count in
     let l = length-append rows (columns ∷ []) in
-    record {
-      count = omega arith;
-      each = λ m less. each_more P rows columns [] (λ m less. h.each m (omega arith)) (subst (λ i. P i columns) (sym h.count) p) m (omega arith);
-    }
+    record { count = omega arith; each = λ m less. each_more P rows columns [] (λ m less. h.each m (omega arith)) (subst (λ i. P i columns) (sym h.count) p) m (omega arith) }
 
 pub further_more : (s : Score) (n : ℕ) (own : List (Option (List Column))) (more : Option (List Column))
     → EachFurther s n own → AreFurther s (timeline_of s) n (verses_of s) more → EachFurther s (n + 1) (own ++ more ∷ [])
@@ -47,10 +44,7 @@ further_more s n own more h p =
     let k = h.count in
     let l = length-append own (more ∷ []) in
     let P = λ (m : ℕ) (o : Option (List Column)). AreFurther s (timeline_of s) m (verses_of s) o in
-    record {
-      count = omega arith;
-      each = λ m less. each_more P own more None (λ m less. h.each m (omega arith)) (subst (λ i. P i more) (sym h.count) p) m (omega arith);
-    }
+    record { count = omega arith; each = λ m less. each_more P own more None (λ m less. h.each m (omega arith)) (subst (λ i. P i more) (sym h.count) p) m (omega arith) }
 
 -- the columns of measure m in a system that begins with the measure before it, by what it has of its own
 pub other_of : (s : Score) (m : ℕ) (starts : List (List Column)) (own : List (Option (List Column))) → IsGoodScore s → 1 ≤ length s.voices → m < s.measures

@@ -63,10 +63,7 @@ module _ (n : ℕ) (reach : ℕ → ℕ → Option Reach) (gaps : List ℕ) (spr
       let whole : rest * (n - 1) / (n - 1) ≡ rest = share_whole rest (n - 1) (omega arith) in
       let there = rw whole at (m.4 (n - 1) (omega arith)) in
       let comes_to = m.3 in
-      record {
-        past = let a = m.2.past in omega (arith, ints);
-        reaches = λ lane r l e. let a = m.2.reaches lane r l e in omega (arith, ints);
-      }
+      record { past = let a = m.2.past in omega (arith, ints); reaches = λ lane r l e. let a = m.2.reaches lane r l e in omega (arith, ints) }
 
   pub set_within : (at : List ℤ) → 0 < n → ((i : ℕ) → spring weak i ≤ spring force i)
       → Fits n reach gaps spring width force → IsSet n reach gaps spring width weak at → EndsWithin n reach gaps width at

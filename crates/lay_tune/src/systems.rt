@@ -89,7 +89,7 @@ fn set_system<'a>(
         unreachable!();
     };
     let last = b == s.measures;
-    let seen = columns_in(alloc, starts, others, width, a as usize, b as usize)?;
+    let seen = columns_in(alloc, starts, others, a as usize, b as usize)?;
     let placed = press(alloc, seen.as_slice(), gaps, width, last, cost)?;
     let marks = tilt_of(alloc, s, voices, t, a, b, placed.at.as_slice())?;
     let between = gaps_between(alloc, s.voices.as_slice())?;

@@ -31,10 +31,9 @@ pub struct Spot {
 /// The slurs and ties of a voice, by their first event; at one event slurs before
 /// ties, the outer slur first, ties by head.
 ///
-/// Each end of a slur pairs with the last unpaired start, at one event the starts
-/// first; a pair on one event and what has no partner is no arc. A tied head
-/// pairs with one of its letter and octave in the very next event of the voice,
-/// graces aside.
+/// Each end of a slur pairs with the last unpaired start, at one event the starts first; a pair on
+/// one event and what has no partner is no arc. A tied head pairs with one of its letter and octave
+/// in the very next event of the voice, graces aside.
 #[tactic(auto, using(crate::proofs::BareLaws::no_arcs, crate::proofs::BareLaws::are_arcs))]
 pub fn arcs(alloc: Global, v: &Voice) -> Result<Row<Arc>, Memory>
     requires { IsGoodVoice v.now }

@@ -234,10 +234,7 @@ none_before k [] = refl
 none_before k (p ∷ ps) = ap (λ b. skip b (runs (joins k) (p ∷ ps))) (and_right ((p.group == 0) && nat_lt k p.flags) (nat_lt k 0) (le-ltb k 0 (omega arith)))
 
 are_levels : (es : List Stem) → AreLevels es (levels_of 0 0 es)
-are_levels es = record {
-  runs = λ k rs a. levels_are k 0 0 es ∙ ap (λ t. long_runs k t) (none_before k es ∙ sym (maximal_runs (joins k) es rs a));
-  order = by_first 0 0 es;
-}
+are_levels es = record { runs = λ k rs a. levels_are k 0 0 es ∙ ap (λ t. long_runs k t) (none_before k es ∙ sym (maximal_runs (joins k) es rs a)); order = by_first 0 0 es }
 
 -- where the events stand at keys of their own, a beam is drawn exactly where the run goes on
 last_is_other : (k : ℕ) (p q : Stem) (qs : List Stem) → OfOtherKeys p (q ∷ qs) → same_key p.key (last_at k q qs).key ≡ false

@@ -7,8 +7,7 @@ use Rattle.mus_arcs.specs.{Arcs.arcs_of, Events.events_of_voice}
 use Rattle.mus_stems.specs.{declared.plans.StemPlan.StemPlan, Plans.stems_of, Stills.clefs_from}
 use Rattle.mus_drawn.specs.declared.{standing.Standing.Standing, drawn.DrawnEvent.DrawnEvent, drawn.DrawnMeasure.DrawnMeasure, drawn.DrawnVoice.DrawnVoice, drawn.Opening.Opening, drawn.Style.Style}
 
--- Clef, key and meter in force are those of the last event that names them, else those with which the
--- voice begins.
+-- Clef, key and meter in force are those of the last event that names them, else those with which the voice begins.
 abbrev pub standing_of : Voice → Standing
 standing_of v = record { clef = v.clef; key = v.key; meter = v.meter }
 

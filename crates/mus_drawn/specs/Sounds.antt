@@ -48,12 +48,7 @@ all_heads f = grace_heads f ++ f.event.heads
 
 -- an event behind those before it in its measure, at whose beginning `now` is in force
 abbrev pub seen : Standing → List Flat → Flat → Seen
-seen now front f = record {
-  id = f.event.id;
-  heads = f.event.heads;
-  said = flat_map all_heads front ++ grace_heads f;
-  signs = (standing_behind now (front ++ f ∷ [])).key.signs;
-}
+seen now front f = record { id = f.event.id; heads = f.event.heads; said = flat_map all_heads front ++ grace_heads f; signs = (standing_behind now (front ++ f ∷ [])).key.signs }
 
 abbrev pub seen_from : Standing → List Flat → List Flat → List Seen
 seen_from now front [] = []

@@ -38,17 +38,8 @@ span_good first last (Span.Arc from to bulge) = tt
 -- a text is good where it has few characters, and all else is
 pub goods : (verses : ℕ) (keys : List ColumnKey) → OfLaid verses keys IsGood
 goods verses keys = record {
-  of_marks = λ r. record {
-    of_glyph = λ g dx dy. tt;
-    of_loose = λ g dx dy. tt;
-    of_stem = λ dx from to. tt;
-    of_meter = meter r;
-  };
-  of_words = λ r. record {
-    of_syllable = λ low n t verse shown. shown_few t shown;
-    of_above = λ dy t shown. shown_few t shown;
-    of_below = λ dy t shown. shown_few t shown;
-  };
+  of_marks = λ r. record { of_glyph = λ g dx dy. tt; of_loose = λ g dx dy. tt; of_stem = λ dx from to. tt; of_meter = meter r };
+  of_words = λ r. record { of_syllable = λ low n t verse shown. shown_few t shown; of_above = λ dy t shown. shown_few t shown; of_below = λ dy t shown. shown_few t shown };
   of_bridge = λ b. span_good _ _ b.span;
 }
 

@@ -1,6 +1,5 @@
--- The marks of events and of the measures that they are in, but for beams and arcs: the change before
--- an event, its graces, the event itself, and its syllables and texts. What each part draws is said without a place;
--- here it comes into its column.
+-- The marks of events and of the measures that they are in, but for beams and arcs: the change before an event, its graces, the event
+-- itself, and its syllables and texts. What each part draws is said without a place; here it comes into its column.
 use Rattle.std.specs.Prelude.{ℕ, ◌+◌, Bool, true, false, ◌&&◌, ◌||◌, ◌==◌, is_none, if◌then◌else◌, List, [], ◌∷◌, ◌++◌, map, slice_index_or, Option, Some, None}
 use Rattle.mus_units.specs.declared.pitch.Clef.{Clef}
 use Rattle.mus_score.specs.{declared.score.Changes.Changes, declared.score.Event.Event, declared.score.Flat.Flat, Seats.is_lower}

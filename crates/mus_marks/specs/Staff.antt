@@ -70,10 +70,7 @@ text_below r x = stands_at r x && is_words x.mark && is_below_staff x.lane
 
 -- the texts that a column has behind those of a part, where it had some before
 abbrev pub texts_with : Texts → List Laid → ℕ → Texts
-texts_with before part r = record {
-  above = before.above + count_by (text_above r) part;
-  below = before.below + count_by (text_below r) part;
-}
+texts_with before part r = record { above = before.above + count_by (text_above r) part; below = before.below + count_by (text_below r) part }
 
 -- of n columns
 abbrev pub texts_behind : ℕ → List Texts → List Laid → List Texts

@@ -1,5 +1,4 @@
--- What a score calls for in a system of measures a to b - 1: the columns that its voices stand in, and
--- for each staff, in order, its marks.
+-- What a score calls for in a system of measures a to b - 1: the columns that its voices stand in, and for each staff, in order, its marks.
 use Rattle.std.specs.Prelude.{◌≡◌, ℕ, Bool, List, map}
 use Rattle.mus_score.specs.{declared.score.Score.Score, Seats.grouped, Seats.is_lower}
 use Rattle.mus_time.specs.{declared.times.Timeline.Timeline, Keys.AreKeys, Keys.called_keys}

@@ -15,8 +15,7 @@ shown_ending (Some t) = shown t
 abbrev pub shown_number : ℕ → List (List ℕ)
 shown_number p = shown (decimal p)
 
--- on one side of the staff, below it or above: a fingering stands above, a dynamic mark below, and other
--- decorations are no text
+-- on one side of the staff, below it or above: a fingering stands above, a dynamic mark below, and other decorations are no text
 abbrev pub shown_deco : Bool → Deco → List (List ℕ)
 shown_deco false (Deco.Above t) = shown t
 shown_deco true (Deco.Below t) = shown t

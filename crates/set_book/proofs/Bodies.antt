@@ -39,13 +39,7 @@ parted breaks _ line lines _ e no_lines = absurd cc
 parted breaks _ line lines _ e (one_line other more first others given here behind is) =
     let same : other ≡ line = cc in
     let rest : more ≡ lines = cc in
-    record {
-      first = first;
-      others = others;
-      here = subst (λ l. LineGives breaks l first) same here;
-      behind = subst (λ ls. BodyGives breaks ls others) rest behind;
-      is = is;
-    }
+    record { first = first; others = others; here = subst (λ l. LineGives breaks l first) same here; behind = subst (λ ls. BodyGives breaks ls others) rest behind; is = is }
 
 nothing_given : (breaks : Breaks) (all : List Line) (given : List Given) → all ≡ [] → BodyGives breaks all given → given ≡ []
 nothing_given breaks _ _ e no_lines = refl

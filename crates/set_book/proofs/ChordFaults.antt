@@ -1,5 +1,4 @@
--- What stands behind a bracket that opens no chord, or behind a brace that opens no grace group,
--- has one fault.
+-- What stands behind a bracket that opens no chord, or behind a brace that opens no grace group, has one fault.
 use Rattle.std.{proofs.{Common.{◌≡◌, ◌∙◌, refl, sym, ap, subst, ℕ, suc, List, [], ◌∷◌, ◌++◌, length, Bool, true, false, None, ◌⊎◌, inl, inr}, lemmas.Bool.true≢false}, specs.{Prelude.◌==◌, List.list_all}}
 use Rattle.abc_lines.specs.declared.fault.FaultKind.TheVariants.{BadByte, Unclosed}
 use Rattle.abc_notes.{specs.{Graces.{GracePart, GraceLeads, part_has_length, IsGraceOwn, GraceFlawed, HasSlash, is_slash_byte, is_in_grace, GraceFault, grace_unclosed, grace_open, grace_flawed}, declared.part.Flaw.Flaw, Runs.begins, Parts.{HasNone, leads_here, leads_on}, Items.{Inner, inner_then, StandsInside, has_length, IsBadByte, InnerFlawed, inner_at, item_class}, Chords.{InnerLeads, is_inside, ChordFault, chord_unclosed, chord_open, chord_headless, chord_flawed}}, proofs.{PartLaws.none_of, InnerLaws.inner_reader, CutLaws.{inner_append, all_parts}, GraceLaws.part_reader}}

@@ -242,12 +242,4 @@ called_system s a b =
     (m.0, record { is = m.1; only = λ other is. one_system s a b other m.0 is m.1 })
 
 pub have_one_outcome : HaveOneOutcome
-have_one_outcome = record {
-  set = set_once;
-  fault = fault_once;
-  apart = never_both;
-  outcomes = outcomes_once;
-  score = one_music;
-  scored = no_refusal;
-  system = called_system;
-}
+have_one_outcome = record { set = set_once; fault = fault_once; apart = never_both; outcomes = outcomes_once; score = one_music; scored = no_refusal; system = called_system }

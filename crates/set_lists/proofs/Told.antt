@@ -87,7 +87,4 @@ pub outcomes_are_listable : OutcomesAreListable
 outcomes_are_listable terms tunes os h = all_listable terms tunes os h
 
 pub lists_the_set : ListsTheSet
-lists_the_set terms tunes os h rise = record {
-  entries = entries terms tunes os 0 0 h rise (omega arith);
-  lines = refl;
-}
+lists_the_set terms tunes os h rise = record { entries = entries terms tunes os 0 0 h rise (omega arith); lines = refl }

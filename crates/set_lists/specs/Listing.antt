@@ -8,14 +8,7 @@ use Rattle.set_book.specs.declared.outcome.Outcome.{Outcome}
 
 -- what is listed of a tune
 abbrev pub entry_of : ℕ → SetTune → Entry
-entry_of ordinal t = record {
-  tune = ordinal;
-  bars = t.score.measures;
-  spans = t.spans;
-  breaks = t.breaking.breaks;
-  total = t.breaking.total;
-  potentials = t.breaking.potentials;
-}
+entry_of ordinal t = record { tune = ordinal; bars = t.score.measures; spans = t.spans; breaks = t.breaking.breaks; total = t.breaking.total; potentials = t.breaking.potentials }
 
 -- a tune with a fault has no entry
 abbrev pub result_entry : ℕ → Result SetTune Fault → Option Entry

@@ -38,10 +38,7 @@ result_set terms tune (Ok t) h = (tune, terms.defaults, terms.manner, h)
 result_set terms tune (Err fault) h = tt
 
 outcome_set : (terms : Terms) (tune : TuneText) (o : Outcome) → 1 ≤ tune.ordinal → IsOutcome terms tune o → IsSetUnder terms.paper o
-outcome_set terms tune o some h = record {
-  result = result_set terms tune o.result h.result;
-  ordinal = subst (λ n. 1 ≤ n) (sym h.ordinal) some;
-}
+outcome_set terms tune o some h = record { result = result_set terms tune o.result h.result; ordinal = subst (λ n. 1 ≤ n) (sym h.ordinal) some }
 
 pub set_outcomes : (terms : Terms) (tunes : List TuneText) (outcomes : List Outcome) → All (λ tune. 1 ≤ tune.ordinal) tunes
     → AreOutcomes terms tunes outcomes → All (IsSetUnder terms.paper) outcomes

@@ -46,11 +46,7 @@ all_standing paper outcomes set good =
     let none = all_fit (height_of paper) outcomes (each_fits paper outcomes set) in
     let within = within_from (height_of paper) (record { page = 0; down = 0 }) (all_blocks outcomes) good (ready_first (height_of paper) (all_blocks outcomes) none) in
     let filled = filled_so (height_of paper) (all_blocks outcomes) good in
-    record {
-      within = within;
-      stacked = filled_stacked (height_of paper) (all_blocks outcomes) (spots_of (height_of paper) (all_blocks outcomes)) within filled;
-      filled = filled;
-    }
+    record { within = within; stacked = filled_stacked (height_of paper) (all_blocks outcomes) (spots_of (height_of paper) (all_blocks outcomes)) within filled; filled = filled }
 
 -- where they are parted, too
 planned_spots : (paper : Paper) (outcomes : List Outcome) (spots : List Spot) → IsEvenPlan paper outcomes spots → all_spots (Plan.At spots) paper outcomes ≡ spots

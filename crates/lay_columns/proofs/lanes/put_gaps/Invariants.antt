@@ -2,7 +2,4 @@ use Rattle.std.proofs.Common.{◌≡◌, ◌++◌, ◌∷◌, ◌-◌, ◌≤◌
 use Rattle.lay_columns.proofs.lanes.put_gaps.Given as goal
 
 abbrev pub invariant-loop : goal.invariant-loop
-invariant-loop l = record {
-  begun : 1 ≤ l.counter;
-  gaps : l.out ≡ l.fn.out ++ 100 ∷ replicate (l.counter - 1) 300;
-}
+invariant-loop l = record { begun : 1 ≤ l.counter; gaps : l.out ≡ l.fn.out ++ 100 ∷ replicate (l.counter - 1) 300 }

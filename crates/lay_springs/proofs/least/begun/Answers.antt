@@ -25,9 +25,9 @@ returns-clause-placed g c = record {
       let fits : FitsSigned w64 c.first_of-first.result = record { sfits = c.first_of-first.type_inv } in
       let same : to_z w64 (of_z w64 c.first_of-first.result) ≡ c.first_of-first.result = to_z-of_z w64 c.first_of-first.result fits in
       let top = bound g (goal.at.returns-clause-placed g c).After-first_of-first in
-      let moves = rw same at c.advance_each.ensures in
+      let moves = rw same at c.advance.ensures in
       rw same (front_more (reach_at g.C.Spaced.reach_of c.args.cols.now) (length c.args.gaps.now) 0 c.first_of-first.result
-      c.args.at.now (slice_set c.args.at.now 0 c.first_of-first.result) c.empty_fronts.new.front c.advance_each.new.front
+      c.args.at.now (slice_set c.args.at.now 0 c.first_of-first.result) c.empty_fronts.new.front c.advance.new.front
       (λ k l. absurd (omega arith))
       (get_or-set_same c.args.at.now 0 c.first_of-first.result (pos 0) (omega arith))
       (omega (arith, ints))

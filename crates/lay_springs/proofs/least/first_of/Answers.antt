@@ -4,7 +4,7 @@ use Rattle.lay_springs.proofs.least.first_of.Goals as goal
 
 pub loop-lane-preserved : goal.loop-lane-preserved
 loop-lane-preserved g c =
-    let here : g.C.Spaced.reach_of c.args.col.now c.loop-lane.lane ≡ Some c.in-Some.s = sym c.reach.ensures ∙ c.in-Some.is in
+    let here : g.C.Spaced.reach_of c.args.col.now c.loop-lane.lane ≡ Some c.in-Some-reach.s = sym c.reach.ensures ∙ c.in-Some-reach.is in
     let i = c.loop-lane.invariant in
     let e = c.larger-first.ensures in
     record {
