@@ -39,8 +39,7 @@ pub enum Span {
     Arc { from: i32, to: i32, bulge: i32 },
 }
 
-/// A beam or an arc from the column of one key to that of another. It is in no lane that holds it
-/// apart.
+/// A beam or an arc from the column of one key to that of another. It is in no lane that holds it apart.
 #[derive(Clone, Copy, PartialEq, Eq)]
 pub struct Bridge {
     pub first: ColumnKey,

@@ -1,4 +1,4 @@
-ghost use Rattle.std.specs.Prelude.{◌≡◌, ◌++◌, ◌∷◌, [], OnOk};
+ghost use Rattle.std.specs.Prelude.{◌≡◌, ◌∷◌, [], OnOk};
 ghost use Rattle.mus_time.specs.{Order.rank_of, Ranks.AreRanked};
 ghost use Rattle.mus_laid.specs.Ranked.{ink_at, inked};
 
@@ -40,17 +40,6 @@ fn ink_at(rank: u32, ink: Ink) -> Mark
     }
 }
 
-/// Adds a mark behind others; where they have room, nothing is asked of memory.
-fn put_laid(marks: &mut Row<Laid>, laid: Laid) -> Result<(), Memory>
-    ensures { OnOk result (marks.new ≡ marks.old ++ laid ∷ []) }
-{
-    if marks.items.len() < marks.items.capacity() {
-        marks.items.push_reserved(laid);
-        return Ok(());
-    }
-    marks.push(laid)
-}
-
 impl Pen {
     /// A pen that has laid nothing, at the first column.
     pub fn new(alloc: Global) -> Pen
@@ -64,6 +53,7 @@ impl Pen {
     }
 
     /// Goes to the column of a key.
+    #[inline(always)]
     pub fn go_to(&mut self, keys: &[ColumnKey], key: ColumnKey)
         requires { AreRanked keys.now }
         ensures rank { self.new.rank ≡ rank_of keys.now key }
@@ -77,11 +67,12 @@ impl Pen {
     }
 
     /// Lays what is drawn in the column. The only error is want of memory.
+    #[inline(always)]
     pub fn put(&mut self, drawn: Drawn) -> Result<(), Memory>
         ensures { OnOk result (self.new ≡ inked self.old (drawn ∷ [])) }
     {
         let mark = ink_at(self.rank, drawn.ink);
         let lane = drawn.lane;
-        put_laid(&mut self.marks, Laid { mark, lane })
+        self.marks.push(Laid { mark, lane })
     }
 }

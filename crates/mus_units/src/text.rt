@@ -210,7 +210,23 @@ impl<T> Row<T> {
     }
 
     /// Adds one value at the end; at an error the row is as it was.
+    #[inline(always)]
     pub fn push(&mut self, item: T) -> Result<(), Memory>
+    where
+        T: Drop,
+        ensures ok { OnOk result (self.new ≡ self.old ++ item ∷ []) }
+        ensures err { OnErr result (self.new ≡ self.old) }
+    {
+        if self.items.len() < self.items.capacity() {
+            self.items.push_reserved(item);
+            return Ok(());
+        }
+        self.push_growing(item)
+    }
+
+    /// Adds one value at the end of a row that has no room for it yet.
+    #[inline(never)]
+    fn push_growing(&mut self, item: T) -> Result<(), Memory>
     where
         T: Drop,
         ensures ok { OnOk result (self.new ≡ self.old ++ item ∷ []) }
