@@ -2,8 +2,8 @@
 use Rattle.std.{proofs.{Common.{◌≡◌, ℕ, zero, suc, ℤ, pos, negsuc, neg_ℤ, ◌≤ℤ◌, ◌⊎◌, ◌+◌, ◌<◌, ◌≤◌, Bool, List, [], ◌∷◌, ◌++◌, map, length, Option, Some, None, refl, sym, ap, ◌∙◌, subst, arith, inl, inr, option_and_then, option_map, slice_get, get_or}, lemmas.{Bool.cases_lt, Int.ints, List.{length-map, FromFn.{length-map-range_with_len, get_or-map-range_with_len}}, Option.{none-some, same_Some, slice_get-get_or, slice_get-map}}}, specs.List.Contains}
 use Rattle.mus_time.specs.{Onsets.greatest, declared.keys.ColumnKey.ColumnKey}
 use Rattle.mus_laid.specs.{declared.boxes.Sides.Sides, declared.laid.Laid.Laid, declared.laid.StaffMarks.StaffMarks}
-use Rattle.lay_springs.{specs.{declared.traits.Reach.Reach, Place.reach_at}, proofs.Longer.get_front}
-use Rattle.lay_columns.{specs.{declared.column.Column.Column, Column.{most_reach, reach_in}, Columns.{column_reach, columns_from, CoverMarks, Covers}, Lanes.{lane_count, lane_start}, Reaches.{box_at, boxes_at, drawn_reach, drawn_row, left_of, reach_over, reaches_of, right_of, staff_reaches, standing, stands_always}}, proofs.{Facts.{near_all, near_over, reach_same}, Rows.box_is}}
+use Rattle.lay_springs.{specs.{declared.traits.Reach.Reach, Place.reach_at, Stands.{most_reach, reach_in}}, proofs.Longer.get_front}
+use Rattle.lay_columns.{specs.{declared.column.Column.Column, Columns.{column_reach, columns_from, CoverMarks, Covers}, Lanes.{lane_count, lane_start}, Reaches.{box_at, boxes_at, drawn_reach, drawn_row, left_of, reach_over, reaches_of, right_of, staff_reaches, standing, stands_always}}, proofs.{Facts.{near_all, near_over, reach_same}, Rows.box_is}}
 
 -- ---- boxes
 abbrev taken : List Sides → Option Sides → List Sides
@@ -67,10 +67,8 @@ covered rank lane box marks laid (k, l, at) e =
     let right = furthest (λ s. right_of s.right) rank lane box marks k laid l e' in
     by (some_box rank lane box marks k laid l e') left right
   where
-    by : (b : Sides) × (bs : List Sides) × (boxes_at rank lane marks ≡ b ∷ bs)
-        → left_of box.left ≤ greatest (map (λ s. left_of s.left) (boxes_at rank lane marks))
-        → right_of box.right ≤ greatest (map (λ s. right_of s.right) (boxes_at rank lane marks))
-        → (reach : Reach) × (drawn_reach marks rank lane ≡ Some reach) × Covers reach box
+    by : (b : Sides) × (bs : List Sides) × (boxes_at rank lane marks ≡ b ∷ bs) → left_of box.left ≤ greatest (map (λ s. left_of s.left) (boxes_at rank lane marks))
+        → right_of box.right ≤ greatest (map (λ s. right_of s.right) (boxes_at rank lane marks)) → (reach : Reach) × (drawn_reach marks rank lane ≡ Some reach) × Covers reach box
     by (b, bs, q) left right =
         let near = near_over (b ∷ bs) in
         let left' = subst (λ t. left_of box.left ≤ greatest (map (λ s. left_of s.left) t)) q left in
@@ -111,8 +109,7 @@ lane_at always rank (x ∷ staves) (v ∷ verses) zero lane count staff e f l =
     let long : lane < length (staff_reaches always rank x.marks v) = subst (λ t. lane < t) (sym (row_long always rank x.marks v)) l' in
     let place : 0 + lane ≡ lane = omega arith in
     ap (λ t. slice_get (staff_reaches always rank x.marks v ++ reaches_of always rank staves verses) t) place
-    ∙ get_front (staff_reaches always rank x.marks v) (reaches_of always rank staves verses) lane long
-    ∙ row_at always rank lane x.marks v l'
+    ∙ get_front (staff_reaches always rank x.marks v) (reaches_of always rank staves verses) lane long ∙ row_at always rank lane x.marks v l'
     ∙ ap (λ t. Some (standing always (drawn_reach t.marks rank lane))) x_is
 lane_at always rank (x ∷ staves) (v ∷ verses) (suc s) lane count staff e f l =
     let long = row_long always rank x.marks v in
@@ -154,7 +151,6 @@ module _ (staves : List StaffMarks) (lengths verses : List ℕ) where
         ap (λ t. option_and_then (λ c. column_reach c (lane_start verses s + lane)) t) at_column
             ∙ ap (λ t. reach_in t (lane_start verses s + lane)) (reaches ∙ ap (λ t. reaches_of always t staves verses) start)
             ∙ reach_same (reaches_of always rank staves verses) (lane_start verses s + lane) (near_all always rank staves verses)
-            ∙ ap (λ t. option_and_then (λ o. o) t) (lane_at always rank staves verses s lane count staff at_staff at_count lane_inside)
-            ∙ ap (standing always) drawn,
+            ∙ ap (λ t. option_and_then (λ o. o) t) (lane_at always rank staves verses s lane count staff at_staff at_count lane_inside) ∙ ap (standing always) drawn,
         covers,
       )

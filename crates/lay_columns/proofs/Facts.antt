@@ -2,8 +2,8 @@
 use Rattle.std.{proofs.{Common.{◌≡◌, ℕ, ℤ, pos, negsuc, ◌+◌, ◌-◌, ◌*◌, ◌/◌, ◌^◌, ◌≤◌, min, Bool, true, false, List, [], ◌∷◌, map, length, Option, Some, None, IfSome, refl, sym, ap, ◌∙◌, subst, arith, if◌then◌else◌, option_and_then, slice_get, get_or}, lemmas.{List.{length-append, length-map, length-replicate, Elements.{All-append, All-cons, All-map, All-nil}, FromFn.length-map-range_with_len}, Option.{slice_get-get_or, slice_get_within, get_or_from_slice_get}}}, specs.List.{All, find, range_with_len}}
 use Rattle.mus_time.specs.{Onsets.greatest, declared.keys.ColumnKey.ColumnKey}
 use Rattle.mus_laid.specs.{declared.boxes.Sides.Sides, declared.laid.Laid.Laid, declared.laid.StaffMarks.StaffMarks}
-use Rattle.lay_springs.specs.{declared.traits.Reach.Reach, Fit.StandsInAll}
-use Rattle.lay_columns.specs.{declared.column.Column.Column, Column.{cut_reach, length_at, most_reach, reach_in}, Columns.{columns_from, IsNear, IsSmall, IsUncut, StandsWhereDue}, Lanes.{gaps_of, lane_count, staff_gaps}, Naturals.{is_note, is_note_of, natural_for, natural_of, tick_or_end}, Reaches.{drawn_reach, drawn_row, left_of, reach_over, reaches_of, right_of, staff_reaches, standing, stands_always}}
+use Rattle.lay_springs.specs.{declared.traits.Reach.Reach, Fit.StandsInAll, Stands.{cut_reach, most_reach, reach_in}}
+use Rattle.lay_columns.specs.{declared.column.Column.Column, Column.length_at, Columns.{columns_from, IsNear, IsSmall, IsUncut, StandsWhereDue}, Lanes.{gaps_of, lane_count, staff_gaps}, Naturals.{is_note, is_note_of, natural_for, natural_of, tick_or_end}, Reaches.{drawn_reach, drawn_row, left_of, reach_over, reaches_of, right_of, staff_reaches, standing, stands_always}}
 
 -- ---- small
 left_near : (z : ℤ) → left_of z ≤ most_reach
@@ -62,8 +62,7 @@ cut_same reach h =
     let r : min reach.right (2 ^ 20) ≡ reach.right = let n = h.1 in omega (arith, n) in
     rw (l, r) refl
 
-pub reach_same : (reaches : List (Option Reach)) (lane : ℕ) → All (λ o. IfSome o IsNear) reaches
-    → reach_in reaches lane ≡ option_and_then (λ o. o) (slice_get reaches lane)
+pub reach_same : (reaches : List (Option Reach)) (lane : ℕ) → All (λ o. IfSome o IsNear) reaches → reach_in reaches lane ≡ option_and_then (λ o. o) (slice_get reaches lane)
 unfolding reach_in
 reach_same reaches lane all = by (slice_get reaches lane) refl
   where
@@ -149,8 +148,7 @@ module _ (staves : List StaffMarks) (lengths verses : List ℕ) where
     spring = λ force. spring_same _ force (natural_small key behind lengths);
   }) 0 keys
 
-  pub columns_long : (keys : List ColumnKey) → length verses ≡ length staves
-      → All (λ c. length c.reaches ≡ length (gaps_of verses)) (columns_from 0 keys staves lengths verses)
+  pub columns_long : (keys : List ColumnKey) → length verses ≡ length staves → All (λ c. length c.reaches ≡ length (gaps_of verses)) (columns_from 0 keys staves lengths verses)
   columns_long keys h = all_columns (λ c. length c.reaches ≡ length (gaps_of verses))
       (λ rank key behind. reaches_long (stands_always key.class) rank staves verses h) 0 keys
 

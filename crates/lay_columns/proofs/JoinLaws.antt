@@ -121,16 +121,14 @@ marks_join n first second loose below free = record {
   front = λ rank lane l.
       filter_map-append (box_at rank lane) (first ++ map (moved n) second) loose
       ∙ ap (λ t. t ++ boxes_at rank lane loose) (filter_map-append (box_at rank lane) first (map (moved n) second))
-      ∙ ap (λ t. boxes_at rank lane first ++ t ++ boxes_at rank lane loose) (none_moved n rank lane second l)
-      ∙ ap (λ t. boxes_at rank lane first ++ [] ++ t) (loose_none rank lane)
+      ∙ ap (λ t. boxes_at rank lane first ++ t ++ boxes_at rank lane loose) (none_moved n rank lane second l) ∙ ap (λ t. boxes_at rank lane first ++ [] ++ t) (loose_none rank lane)
       ∙ append-nil (boxes_at rank lane first ++ []) ∙ append-nil (boxes_at rank lane first);
   behind = λ rank lane.
       filter_map-append (box_at (n + rank) lane) (first ++ map (moved n) second) loose
       ∙ ap (λ t. t ++ boxes_at (n + rank) lane loose) (filter_map-append (box_at (n + rank) lane) first (map (moved n) second))
       ∙ ap (λ t. boxes_at (n + rank) lane first ++ boxes_at (n + rank) lane (map (moved n) second) ++ t) (loose_none (n + rank) lane)
       ∙ append-nil (boxes_at (n + rank) lane first ++ boxes_at (n + rank) lane (map (moved n) second))
-      ∙ ap (λ t. t ++ boxes_at (n + rank) lane (map (moved n) second)) (first_none rank lane)
-      ∙ boxes_moved n rank lane second;
+      ∙ ap (λ t. t ++ boxes_at (n + rank) lane (map (moved n) second)) (first_none rank lane) ∙ boxes_moved n rank lane second;
 }
   where
     loose_none : (rank lane : ℕ) → boxes_at rank lane loose ≡ []

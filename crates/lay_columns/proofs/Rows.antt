@@ -39,8 +39,7 @@ module _ {X : Type 0} where
   same_range f g n d h = fill_by_all g (map f (range_with_len 0 n)) n d (length-map-range_with_len f 0 n)
       (λ k l. get_or-map-range_with_len f 0 n k k d l (omega arith) ∙ h k l)
 
-  set_range : (f g : ℕ → X) (n i : ℕ) (y : X) → i < n → g i ≡ y → ((k : ℕ) → k < n → k ≢ i → f k ≡ g k)
-      → set (map f (range_with_len 0 n)) i y ≡ map g (range_with_len 0 n)
+  set_range : (f g : ℕ → X) (n i : ℕ) (y : X) → i < n → g i ≡ y → ((k : ℕ) → k < n → k ≢ i → f k ≡ g k) → set (map f (range_with_len 0 n)) i y ≡ map g (range_with_len 0 n)
   set_range f g n i y l e h = fill_by_all g (set (map f (range_with_len 0 n)) i y) n y
       (length-set (map f (range_with_len 0 n)) i y ∙ length-map-range_with_len f 0 n)
       (λ k m. elim (cases_eq k i) [

@@ -27,9 +27,7 @@ row_behind : (front row : List (Option Reach)) (place : ℕ) (box : Sides) → w
 row_behind [] row place box = ap (λ t. widened_row row t box) (omega arith)
 row_behind (x ∷ front) row place box =
     let e : suc (length front) + place ≡ suc (length front + place) = omega arith in
-    ap (λ t. widened_row (x ∷ (front ++ row)) t box) e
-    ∙ row_next x (front ++ row) (length front + place) box
-    ∙ ap (λ t. x ∷ t) (row_behind front row place box)
+    ap (λ t. widened_row (x ∷ (front ++ row)) t box) e ∙ row_next x (front ++ row) (length front + place) box ∙ ap (λ t. x ∷ t) (row_behind front row place box)
 
 widened_stood : (always : Bool) (o : Option Reach) (box : Sides) → widened (standing always o) box ≡ widened o box
 widened_stood always (Some reach) box = refl
@@ -44,8 +42,7 @@ row_stood always [] place box = let e : nat_lt place 0 ≡ false = grind arith i
 row_stood always (o ∷ row) zero box =
     rw (inside (length (map (standing always) row)), inside (length row)) (ap (λ t. Some t ∷ map (standing always) row) (widened_stood always o box))
 row_stood always (o ∷ row) (suc place) box =
-    row_next (standing always o) (map (standing always) row) place box
-    ∙ ap (λ t. standing always o ∷ t) (row_stood always row place box)
+    row_next (standing always o) (map (standing always) row) place box ∙ ap (λ t. standing always o ∷ t) (row_stood always row place box)
     ∙ sym (ap (λ t. map (standing always) t) (row_next o row place box))
 
 -- ---- columns whose reaches are told by their rank
@@ -97,8 +94,7 @@ module _ (lengths : List ℕ) where
     frame_widened marks more k place box always l e =
         let stood = map (standing always) (drawn_row marks lanes k) in
         let inside : place < length stood = subst (λ t. place < t) (sym (length-map (drawn_row marks lanes k) (standing always) ∙ row_length marks lanes k)) l in
-        ap (λ t. widened_row (framed marks k always) (t + place) box) (sym (long k always))
-        ∙ row_behind (front k always) (stood ++ back always) place box
+        ap (λ t. widened_row (framed marks k always) (t + place) box) (sym (long k always)) ∙ row_behind (front k always) (stood ++ back always) place box
         ∙ ap (λ t. front k always ++ t) (row_front stood (back always) place box inside)
         ∙ ap (λ t. front k always ++ (t ++ back always)) (row_stood always (drawn_row marks lanes k) place box ∙ ap (λ t. map (standing always) t) e)
 
@@ -150,8 +146,7 @@ module _ (lengths : List ℕ) where
     marks_from : (done marks : List Laid) → widened_by_marks (made (framed done) 0 keys) start lanes marks ≡ made (framed (done ++ marks)) 0 keys
     marks_from done [] = ap (λ t. made (framed t) 0 keys) (sym (append-nil done))
     marks_from done (laid ∷ marks) =
-        ap (λ t. widened_by_marks t start lanes marks) (mark_more done laid)
-        ∙ marks_from (done ++ laid ∷ []) marks
+        ap (λ t. widened_by_marks t start lanes marks) (mark_more done laid) ∙ marks_from (done ++ laid ∷ []) marks
         ∙ ap (λ t. made (framed t) 0 keys) (append_assoc done (laid ∷ []) marks)
 
   -- ---- staff by staff
@@ -212,6 +207,5 @@ module _ (lengths : List ℕ) where
   pub columns_are : (keys : List ColumnKey) (staves : List StaffMarks) (verses : List ℕ) → length verses ≡ length staves
       → widened_by_staves (bare_columns keys lengths (lanes_of verses)) 0 staves verses ≡ columns_of keys staves lengths verses
   columns_are keys staves verses h =
-      ap (λ t. widened_by_staves t 0 staves verses) (bare_made (lanes_of verses) 0 keys)
-      ∙ staves_from keys (λ k always. []) 0 (λ k always. refl) staves verses h
+      ap (λ t. widened_by_staves t 0 staves verses) (bare_made (lanes_of verses) 0 keys) ∙ staves_from keys (λ k always. []) 0 (λ k always. refl) staves verses h
       ∙ from_made staves verses 0 keys

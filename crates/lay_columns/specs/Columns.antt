@@ -2,8 +2,8 @@
 use Rattle.std.specs.Prelude.{◌≡◌, ℕ, ◌+◌, ◌*◌, ◌/◌, ◌<◌, ◌≤◌, ◌⊎◌, pos, neg_ℤ, ◌≤ℤ◌, true, List, [], ◌∷◌, length, All, Contains, Option, Some, IfSome, option_and_then, slice_get}
 use Rattle.mus_time.specs.declared.keys.ColumnKey.{ColumnKey}
 use Rattle.mus_laid.specs.{Boxes.sides_of, declared.boxes.Sides.Sides, declared.laid.Laid.Laid, declared.laid.StaffMarks.StaffMarks}
-use Rattle.lay_springs.specs.{declared.traits.Reach.Reach, Fit.StandsInAll, Place.reach_at}
-use Rattle.lay_columns.specs.{declared.column.Column.Column, Column.length_at, Column.most_reach, Column.reach_in, Lanes.gaps_of, Lanes.lane_count, Lanes.lane_number, Lanes.lane_start, Naturals.natural_of, Reaches.rank_of, Reaches.reaches_of, Reaches.stands_always}
+use Rattle.lay_springs.specs.{declared.traits.Reach.Reach, Fit.StandsInAll, Place.reach_at, Stands.{most_reach, reach_in}}
+use Rattle.lay_columns.specs.{declared.column.Column.Column, Column.length_at, Lanes.gaps_of, Lanes.lane_count, Lanes.lane_number, Lanes.lane_start, Naturals.natural_of, Reaches.rank_of, Reaches.reaches_of, Reaches.stands_always}
 
 -- keys from some rank on
 abbrev pub columns_from : ℕ → List ColumnKey → List StaffMarks → List ℕ → List ℕ → List Column
@@ -23,17 +23,13 @@ column_reach column lane = reach_in column.reaches lane
 
 -- a reach covers a box, or is cut
 abbrev pub Covers : Reach → Sides → Type 0
-Covers reach box = ((neg_ℤ box.left ≤ℤ pos reach.left) ⊎ (reach.left ≡ most_reach))
-    × ((box.right ≤ℤ pos reach.right) ⊎ (reach.right ≡ most_reach))
+Covers reach box = ((neg_ℤ box.left ≤ℤ pos reach.left) ⊎ (reach.left ≡ most_reach)) × ((box.right ≤ℤ pos reach.right) ⊎ (reach.right ≡ most_reach))
 
 -- each mark with a box is covered by the reach of its column in its lane
 abbrev pub CoverMarks : List StaffMarks → List ℕ → List Column → Type 0
 CoverMarks staves verses columns =
-    (s rank lane count : ℕ) (staff : StaffMarks) (laid : Laid) (box : Sides)
-    → slice_get staves s ≡ Some staff → slice_get verses s ≡ Some count → Contains staff.marks laid
-    → rank_of laid.mark ≡ Some rank → rank < length columns
-    → lane_number laid.lane ≡ Some lane → lane < lane_count count
-    → sides_of laid.mark ≡ Some box
+    (s rank lane count : ℕ) (staff : StaffMarks) (laid : Laid) (box : Sides) → slice_get staves s ≡ Some staff → slice_get verses s ≡ Some count → Contains staff.marks laid
+    → rank_of laid.mark ≡ Some rank → rank < length columns → lane_number laid.lane ≡ Some lane → lane < lane_count count → sides_of laid.mark ≡ Some box
     → (reach : Reach) × (reach_at column_reach columns rank (lane_start verses s + lane) ≡ Some reach) × Covers reach box
 
 -- a column of a head, of the bar before the first measure or of a bar stands in each lane

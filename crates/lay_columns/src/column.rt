@@ -1,11 +1,8 @@
-ghost use Rattle.std.specs.Prelude.{◌≡◌};
-ghost use Rattle.lay_columns.specs.Column.{cut_reach, reach_in};
+ghost use Rattle.lay_springs.specs.Stands.{reach_in};
 
 use crate::stands::Reaches;
-use lay_springs::{Reach, Spaced, Spring, Stand};
+use lay_springs::{Spaced, Spring, Stands};
 use mus_time::ColumnKey;
-
-pub(crate) const MOST_REACH: u32 = 1 << 20;
 
 const MOST_NATURAL: u32 = 4000;
 
@@ -20,28 +17,13 @@ pub struct Column {
     pub natural: u32,
 }
 
-/// A reach, counted to at most 2^20.
-pub(crate) fn cut_reach(reach: Reach) -> Reach
-    ensures { result ≡ cut_reach reach }
-{
-    Reach {
-        left: reach.left.min(MOST_REACH),
-        right: reach.right.min(MOST_REACH),
-    }
-}
-
 impl Spaced for Column {
-    ghost use Rattle.lay_columns.specs.Column.{reach_in_near};
+    ghost use Rattle.lay_springs.specs.Stands.{reach_in_near};
 
     ghost reach_of = { λ c lane. reach_in c.reaches lane };
 
-    #[tactic(auto, using(crate::proofs::Lone::in_at))]
-    fn reach(&self, lane: u32) -> Option<Reach> {
-        Some(cut_reach(self.reaches.at(lane as usize)?))
-    }
-
-    fn lone(&self) -> Option<Stand> {
-        self.reaches.lone()
+    fn stands(&self) -> Stands<'_> {
+        self.reaches.stands()
     }
 
     ghost is_near = { λ c lane l. reach_in_near c.reaches lane };

@@ -2,10 +2,10 @@ ghost use Rattle.std.specs.Prelude.{◌≡◌, ◌+◌, ◌^◌, ◌<◌, OnOk, 
 ghost use Rattle.mus_laid.specs.Boxes.{AreGoodMarks, IsGoodMark};
 ghost use Rattle.lay_columns.specs.{Lanes.{lane_number, lanes_of}, Reaches.{left_of, right_of, rank_of}, Widened.{AreGoodStaves, place_of, widened, widened_row, widened_at, widened_by_mark, widened_by_marks, widened_by_staves}};
 
-use crate::column::{Column, MOST_REACH};
+use crate::column::Column;
 use crate::lanes::{lane_count, lane_number};
 use crate::stands::Reaches;
-use lay_springs::Reach;
+use lay_springs::{MOST_REACH, Reach};
 use mus_laid::{Laid, Lane, Mark, Sides, StaffMarks, sides_of};
 use mus_units::Memory;
 use std::alloc::Global;

@@ -1,10 +1,9 @@
-ghost use Rattle.std.specs.Prelude.{◌≡◌, ◌<◌, IfOk, IfSome, None, OnOk, Option, Some, length, replicate, slice_index_or, slice_set};
+ghost use Rattle.std.specs.Prelude.{◌≡◌, ◌<◌, IfOk, IfSome, None, OnOk, Option, Some, length, option_copied, replicate, slice_get, slice_index_or, slice_set};
 ghost use Rattle.std.proofs.Props.{props};
-ghost use Rattle.lay_columns.specs.{Column.reach_in, Reaches.standing};
-ghost use Rattle.lay_springs.specs.Stands.{IsLone};
+ghost use Rattle.lay_columns.specs.Reaches.{standing};
+ghost use Rattle.lay_springs.specs.Stands.{TellsReach, reach_in};
 
-use crate::column::cut_reach;
-use lay_springs::{Reach, Stand};
+use lay_springs::{Reach, Stand, Stands, cut_reach};
 use mus_units::{Memory, Row};
 use std::alloc::Global;
 use std::marker::Model;
@@ -18,11 +17,37 @@ struct Single {
     ghost inside: { IfSome reach (λ r. lane < lanes) } by { Prim.hlevel props },
 }
 
-/// Where a column stands: in a single lane or none, or as a row has it.
+/// A reach or none for each lane, in place where these are the three of a staff without verses.
+#[derive(Drop)]
+enum Lanes {
+    Three([Option<Reach>; 3]),
+    Row(Row<Option<Reach>>),
+}
+
+impl Lanes {
+    ghost use Rattle.lay_columns.specs.Stands.{reaches_of};
+
+    fn as_slice(&self) -> &[Option<Reach>]
+        ensures { result.now ≡ reaches_of self.now }
+    {
+        match self {
+            Lanes::Three(reaches) => reaches,
+            Lanes::Row(reaches) => reaches.as_slice(),
+        }
+    }
+
+    fn get(&self, lane: usize) -> Option<&Option<Reach>>
+        ensures { option_copied result ≡ slice_get (reaches_of self.now) lane }
+    {
+        self.as_slice().get(lane)
+    }
+}
+
+/// Where a column stands: in a single lane or none, or as each lane has it.
 #[derive(Drop)]
 enum Held {
     Single(Single),
-    Row(Row<Option<Reach>>),
+    Row(Lanes),
 }
 
 /// The reach of a column in each lane, None where it doesn't stand in it, which contracts see as a
@@ -59,6 +84,11 @@ impl Reaches {
             });
         }
         let here = Reach { left: 0, right: 0 };
+        if lanes == 3 {
+            return Ok(Reaches {
+                held: Held::Row(Lanes::Three([Some(here); 3])),
+            });
+        }
         let items = vec![in alloc; Some(here); lanes]?;
         Ok(Reaches::from(Row { items }))
     }
@@ -69,7 +99,7 @@ impl Reaches {
     {
         match &self.held {
             Held::Single(single) => single.lanes,
-            Held::Row(row) => row.len(),
+            Held::Row(row) => row.as_slice().len(),
         }
     }
 
@@ -88,18 +118,22 @@ impl Reaches {
         }
     }
 
-    /// The one lane in which the column stands, where it is known to stand in one alone, with the
-    /// reach there, counted to at most 2^20.
-    pub(crate) fn lone(&self) -> Option<Stand>
-        ensures { IfSome result (IsLone (reach_in self.now)) }
+    /// Where the column stands.
+    pub(crate) fn stands(&self) -> Stands<'_>
+        ensures { TellsReach result (reach_in self.now) }
     {
-        match &self.held {
-            Held::Single(single) => Some(Stand {
-                lane: u32::try_from(single.lane).ok()?,
-                reach: cut_reach(single.reach?),
-            }),
-            Held::Row(_) => None,
-        }
+        let single = match &self.held {
+            Held::Single(single) => single,
+            Held::Row(row) => return Stands::Each(row.as_slice()),
+        };
+        let Some(reach) = single.reach else {
+            return Stands::Each(&[]);
+        };
+        let Ok(lane) = u32::try_from(single.lane) else {
+            return Stands::Each(&[]);
+        };
+        let reach = cut_reach(reach);
+        Stands::Lone(Stand { lane, reach })
     }
 
     /// Puts the reach in a lane.
@@ -108,7 +142,8 @@ impl Reaches {
         ensures { OnOk result (self.new ≡ slice_set self.old lane (Some reach)) }
     {
         match &mut self.held {
-            Held::Row(row) => row.items[lane] = Some(reach),
+            Held::Row(Lanes::Three(row)) => row.as_mut_slice()[lane] = Some(reach),
+            Held::Row(Lanes::Row(row)) => row.items[lane] = Some(reach),
             Held::Single(single) => {
                 let reaches = with_reach(alloc, *single, lane, reach)?;
                 *self = reaches;
@@ -148,7 +183,7 @@ impl From<Row<Option<Reach>>> for Reaches {
 
     fn from(row: Row<Option<Reach>>) -> Reaches {
         Reaches {
-            held: Held::Row(row),
+            held: Held::Row(Lanes::Row(row)),
         }
     }
 }

@@ -4,8 +4,7 @@ use Rattle.lay_springs.specs.{declared.traits.Reach.Reach, Place.reach_at, Fit.S
 use Rattle.lay_spans.specs.Columns.{measures_from, span_columns, EndsInAll}
 
 -- a span has the columns of its first measure
-pub columns_some : {C : Type 0} (starts others : List (List C)) (a b : ℕ) → a < b → 0 < length (slice_index_or starts a [])
-    → 0 < length (span_columns starts others a b)
+pub columns_some : {C : Type 0} (starts others : List (List C)) (a b : ℕ) → a < b → 0 < length (slice_index_or starts a []) → 0 < length (span_columns starts others a b)
 columns_some {C} starts others a b l some =
     let e : b - a ≡ suc (b - (a + 1)) = omega arith in
     let n = length-append (slice_index_or starts a []) (flat_map (λ measure. measure) (take (b - (a + 1)) (drop (a + 1) others))) in
@@ -19,19 +18,15 @@ columns_more {C} starts others a m l k e =
     let next = slice_index_or (measures_from starts others a) (m - a) [] in
     let grown : take (m - a + 1) (measures_from starts others a) ≡ take (m - a) (measures_from starts others a) ++ next ∷ [] =
     take_more (measures_from starts others a) (m - a) [] (let d = length-drop (a + 1) others in omega arith) in
-    rw e1 (ap (λ ms. flat_map (λ measure. measure) ms) grown
-    ∙ flat_map-append (λ measure. measure) (take (m - a) (measures_from starts others a)) (next ∷ [])
+    rw e1 (ap (λ ms. flat_map (λ measure. measure) ms) grown ∙ flat_map-append (λ measure. measure) (take (m - a) (measures_from starts others a)) (next ∷ [])
     ∙ ap (λ r. flat_map (λ measure. measure) (take (m - a) (measures_from starts others a)) ++ r) (append-nil next))
 
 -- a measure that doesn't begin the system
-pub later_measure : {C : Type 0} (starts others : List (List C)) (a m : ℕ) → a < m
-    → slice_index_or (measures_from starts others a) (m - a) [] ≡ slice_index_or others m []
+pub later_measure : {C : Type 0} (starts others : List (List C)) (a m : ℕ) → a < m → slice_index_or (measures_from starts others a) (m - a) [] ≡ slice_index_or others m []
 later_measure starts others a m l =
     let e : m - a ≡ suc (m - (a + 1)) = omega arith in
     let f : a + 1 + (m - (a + 1)) ≡ m = omega arith in
-    ap (λ i. slice_index_or (measures_from starts others a) i []) e
-    ∙ get_or-drop (a + 1) others (m - (a + 1)) []
-    ∙ ap (λ i. get_or others i []) f
+    ap (λ i. slice_index_or (measures_from starts others a) i []) e ∙ get_or-drop (a + 1) others (m - (a + 1)) [] ∙ ap (λ i. get_or others i []) f
 
 -- the columns of a longer span continue those of a shorter one, by d measures and one more
 pub columns_continue : {C : Type 0} (starts others : List (List C)) (a b d : ℕ) → a < b → b + d < length starts → length others ≡ length starts
@@ -63,7 +58,5 @@ ends_so reach lanes xs ys h = λ lane l.
     let total = length-append xs ys in
     let e : length (xs ++ ys) - 1 ≡ length xs + (length ys - 1) = omega arith in (
       s.0,
-      ap (λ i. option_and_then (λ c. reach c lane) (slice_get (xs ++ ys) i)) e
-          ∙ ap (λ o. option_and_then (λ c. reach c lane) o) (get_back xs ys (length ys - 1))
-          ∙ s.1,
+      ap (λ i. option_and_then (λ c. reach c lane) (slice_get (xs ++ ys) i)) e ∙ ap (λ o. option_and_then (λ c. reach c lane) o) (get_back xs ys (length ys - 1)) ∙ s.1,
     )

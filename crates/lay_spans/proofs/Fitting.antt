@@ -5,8 +5,7 @@ use Rattle.lay_spans.{specs.Columns.span_columns, specs.Columns.AreMeasures, spe
 
 -- a longer span can't stand where a shorter one can't
 pub longer_stands : {C : Type 0} (reach : C → ℕ → Option Reach) (len : C → ℕ → ℕ) (gaps : List ℕ) (width force : ℕ) (starts others : List (List C)) (a b c : ℕ)
-    → AreMeasures reach (length gaps) starts others → a < b → b < c → c ≤ length starts
-    → 0 < length (span_columns starts others a b)
+    → AreMeasures reach (length gaps) starts others → a < b → b < c → c ≤ length starts → 0 < length (span_columns starts others a b)
     → StandsAt reach len gaps width force (span_columns starts others a c) → StandsAt reach len gaps width force (span_columns starts others a b)
 longer_stands reach len gaps width force starts others a b c h l m n some stands =
     let d : ℕ = c - b - 1 in
@@ -34,8 +33,7 @@ still_above reach len gaps width most starts others a m h inside l before g past
     (columns_some starts others a m some (h.begun a inside)) stands)
 
 -- Columns that stand elsewhere, by the columns that they are.
-seen_reach : {D C : Type 0} (f : D → C) (reach : C → ℕ → Option Reach) (seen : List D)
-    → reach_at (λ s lane. reach (f s) lane) seen ≡ reach_at reach (map f seen)
+seen_reach : {D C : Type 0} (f : D → C) (reach : C → ℕ → Option Reach) (seen : List D) → reach_at (λ s lane. reach (f s) lane) seen ≡ reach_at reach (map f seen)
 seen_reach f reach seen = fun_ext (λ i. fun_ext (λ lane.
     at (slice_get seen i) lane ∙ sym (ap (λ o. option_and_then (λ c. reach c lane) o) (slice_get-map f seen i))))
   where
@@ -43,8 +41,7 @@ seen_reach f reach seen = fun_ext (λ i. fun_ext (λ lane.
     at None lane = refl
     at (Some s) lane = refl
 
-seen_length : {D C : Type 0} (f : D → C) (len : C → ℕ → ℕ) (seen : List D)
-    → length_at (λ s force. len (f s) force) seen ≡ length_at len (map f seen)
+seen_length : {D C : Type 0} (f : D → C) (len : C → ℕ → ℕ) (seen : List D) → length_at (λ s force. len (f s) force) seen ≡ length_at len (map f seen)
 seen_length f len seen = fun_ext (λ force. fun_ext (λ i.
     at (slice_get seen i) force ∙ sym (ap (λ o. unwrap_or (option_map (λ c. len c force) o) 0) (slice_get-map f seen i))))
   where
@@ -53,8 +50,7 @@ seen_length f len seen = fun_ext (λ force. fun_ext (λ i.
     at (Some s) force = refl
 
 pub seen_as : {D C : Type 0} (f : D → C) (reach : C → ℕ → Option Reach) (len : C → ℕ → ℕ) (P : ℕ → (ℕ → ℕ → Option Reach) → (ℕ → ℕ → ℕ) → Type 0)
-    (seen : List D) (columns : List C) → map f seen ≡ columns
-    → P (length seen) (reach_at (λ s lane. reach (f s) lane) seen) (length_at (λ s force. len (f s) force) seen)
+    (seen : List D) (columns : List C) → map f seen ≡ columns → P (length seen) (reach_at (λ s lane. reach (f s) lane) seen) (length_at (λ s force. len (f s) force) seen)
     ≡ P (length columns) (reach_at reach columns) (length_at len columns)
 seen_as f reach len P seen columns e =
     ap (λ n. P n (reach_at (λ s lane. reach (f s) lane) seen) (length_at (λ s force. len (f s) force) seen)) (sym (length-map seen f))
@@ -64,11 +60,9 @@ seen_as f reach len P seen columns e =
 
 pub force_of : {D C : Type 0} (f : D → C) (reach : C → ℕ → Option Reach) (len : C → ℕ → ℕ) (gaps : List ℕ) (width most : ℕ)
     (seen : List D) (columns : List C) (force : ℕ) → map f seen ≡ columns → most ≤ 2048 → force ≤ most
-    → Fits (length seen) (reach_at (λ s lane. reach (f s) lane) seen) gaps (length_at (λ s g. len (f s) g) seen) width force
-    → ((g : ℕ) → force < g → g ≤ most
+    → Fits (length seen) (reach_at (λ s lane. reach (f s) lane) seen) gaps (length_at (λ s g. len (f s) g) seen) width force → ((g : ℕ) → force < g → g ≤ most
     → CanStand (length seen) (reach_at (λ s lane. reach (f s) lane) seen) gaps (length_at (λ s g. len (f s) g) seen) width g → ⊥)
-    → ((g : ℕ) → most < g → g ≤ 2048 → StandsAt reach len gaps width g columns → ⊥)
-    → IsForce reach len gaps width columns force
+    → ((g : ℕ) → most < g → g ≤ 2048 → StandsAt reach len gaps width g columns → ⊥) → IsForce reach len gaps width columns force
 force_of f reach len gaps width most seen columns force e small bound fits greatest above = record {
   bound = omega arith;
   fits = subst (λ T. T) (seen_as f reach len (λ n r l. Fits n r gaps l width force) seen columns e) fits;
@@ -87,8 +81,7 @@ passes_never reach len gaps width columns None some h =
     cannot_stand (length columns) (reach_at reach columns) gaps (length_at len columns) width 0 0 some (λ i. omega arith) h
 
 pub never_stands : {D C : Type 0} (f : D → C) (reach : C → ℕ → Option Reach) (len : C → ℕ → ℕ) (gaps : List ℕ) (width : ℕ)
-    (seen : List D) (columns : List C) → map f seen ≡ columns
-    → (StandsAt (λ s lane. reach (f s) lane) (λ s g. len (f s) g) gaps width 0 seen → ⊥)
+    (seen : List D) (columns : List C) → map f seen ≡ columns → (StandsAt (λ s lane. reach (f s) lane) (λ s g. len (f s) g) gaps width 0 seen → ⊥)
     → StandsAt reach len gaps width 0 columns → ⊥
 never_stands f reach len gaps width seen columns e never stands =
     never (subst (λ T. T) (sym (seen_as f reach len (λ n r l. CanStand n r gaps l width 0) seen columns e)) stands)

@@ -7,8 +7,7 @@ use Rattle.lay_spans.{specs.{Columns.{measures_from, span_columns, AreMeasures},
 
 -- the columns that are seen, with one measure more
 pub seen_more : {D C : Type 0} (f : D → C) (old new : List D) (starts others : List (List C)) (a m : ℕ) → a ≤ m → m < length starts → length others ≡ length starts
-    → map f old ≡ span_columns starts others a m
-    → map f new ≡ map f old ++ slice_index_or (measures_from starts others a) (m - a) []
+    → map f old ≡ span_columns starts others a m → map f new ≡ map f old ++ slice_index_or (measures_from starts others a) (m - a) []
     → map f new ≡ span_columns starts others a (m + 1)
 seen_more f old new starts others a m l k same e added =
     added ∙ ap (λ cs. cs ++ slice_index_or (measures_from starts others a) (m - a) []) e ∙ sym (columns_more starts others a m l k same)
@@ -30,8 +29,7 @@ placed_more f reach len gaps p x x' more fronts seen starts others a m l k same 
     (placed_on reach len (span_columns starts others a m) next gaps p x more fronts (omega arith) h)))
 
 -- what holds of each place of a list holds of each once one more is added
-pub each_more : {X : Type 0} (P : ℕ → X → Type 0) (xs : List X) (x d : X)
-    → ((k : ℕ) → k < length xs → P k (get_or xs k d)) → P (length xs) x
+pub each_more : {X : Type 0} (P : ℕ → X → Type 0) (xs : List X) (x d : X) → ((k : ℕ) → k < length xs → P k (get_or xs k d)) → P (length xs) x
     → (k : ℕ) → k < length (xs ++ x ∷ []) → P k (get_or (xs ++ x ∷ []) k d)
 each_more P xs x d each here k l =
     let n = length-append xs (x ∷ []) in
@@ -40,8 +38,7 @@ each_more P xs x d each here k l =
     (subst (λ y. P (length xs) y) (sym (get_or-append_seam xs x [] d)) here)
 
 pub costs_more : {C : Type 0} (reach : C → ℕ → Option Reach) (len : C → ℕ → ℕ) (gaps : List ℕ) (width : ℕ) (starts others : List (List C)) (forced : ℕ → Bool)
-    (a m : ℕ) (row : List ℕ) (v : ℕ) → a + length row ≡ m
-    → ((k : ℕ) → k < length row → IsCost reach len gaps width starts others forced a (a + 1 + k) (slice_index row k))
+    (a m : ℕ) (row : List ℕ) (v : ℕ) → a + length row ≡ m → ((k : ℕ) → k < length row → IsCost reach len gaps width starts others forced a (a + 1 + k) (slice_index row k))
     → IsCost reach len gaps width starts others forced a (m + 1) v
     → (k : ℕ) → k < length (row ++ v ∷ []) → IsCost reach len gaps width starts others forced a (a + 1 + k) (slice_index (row ++ v ∷ []) k)
 costs_more reach len gaps width starts others forced a m row v e each here =
@@ -49,9 +46,7 @@ costs_more reach len gaps width starts others forced a m row v e each here =
     each_more (λ k v. IsCost reach len gaps width starts others forced a (a + 1 + k) v) row v 0 each
     (subst (λ b. IsCost reach len gaps width starts others forced a b v) same here)
 
-pub free_more : (forced : ℕ → Bool) (a m : ℕ) → forced (m + 1) ≡ false
-    → ((f : ℕ) → a < f → f < m + 1 → forced f ≡ true → ⊥)
-    → (f : ℕ) → a < f → f < m + 1 + 1 → forced f ≡ true → ⊥
+pub free_more : (forced : ℕ → Bool) (a m : ℕ) → forced (m + 1) ≡ false → ((f : ℕ) → a < f → f < m + 1 → forced f ≡ true → ⊥) → (f : ℕ) → a < f → f < m + 1 + 1 → forced f ≡ true → ⊥
 free_more forced a m free before f l k is =
     below_or_at (λ f. a < f → forced f ≡ true → ⊥) f (m + 1) k
     (λ lt l is. before f l lt is)
@@ -62,8 +57,7 @@ free_more forced a m free before f l k is =
 pub stops_at : {C : Type 0} (reach : C → ℕ → Option Reach) (len : C → ℕ → ℕ) (gaps : List ℕ) (width : ℕ) (starts others : List (List C)) (forced : ℕ → Bool)
     (a m : ℕ) (row : List ℕ) → AreMeasures reach (length gaps) starts others → a < length starts → m < length starts → a + length row ≡ m
     → ((k : ℕ) → k < length row → IsCost reach len gaps width starts others forced a (a + 1 + k) (slice_index row k))
-    → (StandsAt reach len gaps width 0 (span_columns starts others a (m + 1)) → ⊥)
-    → IsRowFrom reach len gaps width starts others forced a row
+    → (StandsAt reach len gaps width 0 (span_columns starts others a (m + 1)) → ⊥) → IsRowFrom reach len gaps width starts others forced a row
 stops_at reach len gaps width starts others forced a m row h inside l e each never = record {
   within = omega arith;
   each = each;
@@ -79,8 +73,7 @@ stops_at reach len gaps width starts others forced a m row h inside l e each nev
 -- or behind a forced bar
 pub stops_behind : {C : Type 0} (reach : C → ℕ → Option Reach) (len : C → ℕ → ℕ) (gaps : List ℕ) (width : ℕ) (starts others : List (List C)) (forced : ℕ → Bool)
     (a m : ℕ) (row : List ℕ) → m < length starts → a + length row ≡ m + 1 → a ≤ m
-    → ((k : ℕ) → k < length row → IsCost reach len gaps width starts others forced a (a + 1 + k) (slice_index row k))
-    → forced (m + 1) ≡ true
+    → ((k : ℕ) → k < length row → IsCost reach len gaps width starts others forced a (a + 1 + k) (slice_index row k)) → forced (m + 1) ≡ true
     → IsRowFrom reach len gaps width starts others forced a row
 stops_behind reach len gaps width starts others forced a m row l e k each is = record {
   within = omega arith;
@@ -124,8 +117,7 @@ rows_tell_spans {C} reach len gaps width starts others forced rows h = record {
     out : (a b : ℕ) → a < b → a + length (slice_index_or rows a []) < b → listed (rows_spans 0 rows) a b ≡ None
     out a b l past = past_rows 0 rows a b (omega arith) (subst (λ i. a + length (slice_index_or rows i []) < b) (sym (z a)) past)
 
-    inside : (a b : ℕ) → a < b → b ≤ a + length (slice_index_or rows a [])
-        → listed (rows_spans 0 rows) a b ≡ Some (slice_index (slice_index_or rows a []) (b - (a + 1)))
+    inside : (a b : ℕ) → a < b → b ≤ a + length (slice_index_or rows a []) → listed (rows_spans 0 rows) a b ≡ Some (slice_index (slice_index_or rows a []) (b - (a + 1)))
     inside a b l within =
         in_rows 0 rows a b (omega arith) l (subst (λ i. b ≤ a + length (slice_index_or rows i [])) (sym (z a)) within)
         ∙ ap (λ i. Some (slice_index (slice_index_or rows i []) (b - (a + 1)))) (z a)
@@ -138,8 +130,7 @@ rows_tell_spans {C} reach len gaps width starts others forced rows h = record {
           | inr within ↦ absurd (none-some _ (sym is ∙ inside a b l within))
         ]
 
-    fitting : (a b : ℕ) (o : Option ℕ) → listed (rows_spans 0 rows) a b ≡ o
-        → (listed (rows_spans 0 rows) a b ≡ None → IsNoSpan reach len gaps width starts others forced a b)
+    fitting : (a b : ℕ) (o : Option ℕ) → listed (rows_spans 0 rows) a b ≡ o → (listed (rows_spans 0 rows) a b ≡ None → IsNoSpan reach len gaps width starts others forced a b)
         → (ForcedInside forced a b → ⊥) → StandsAt reach len gaps width 0 (span_columns starts others a b) → IsSome (listed (rows_spans 0 rows) a b)
     fitting a b (Some v) e stop free stands = rw e refl
     fitting a b None e stop free stands = elim (stop e) [ inl f ↦ absurd (free f) | inr never ↦ absurd (never stands) ]

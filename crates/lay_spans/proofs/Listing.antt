@@ -13,31 +13,25 @@ listed_behind a b s ss h =
     rw t refl
 
 -- the spans of a row
-pub in_row : (a b : ℕ) (row : List ℕ) (rest : List Span) (c : ℕ) → b ≤ c → c < b + length row
-    → listed (row_spans a b row ++ rest) a c ≡ Some (slice_index row (c - b))
+pub in_row : (a b : ℕ) (row : List ℕ) (rest : List Span) (c : ℕ) → b ≤ c → c < b + length row → listed (row_spans a b row ++ rest) a c ≡ Some (slice_index row (c - b))
 in_row a b [] rest c l m = absurd (omega arith)
 in_row a b (v ∷ vs) rest c l m = elim (cases_eq b c) [
   | inl e ↦ let z : c - b ≡ 0 = omega arith in rw z (listed_here a c (record { a = a; b = b; badness = v }) (row_spans a (b + 1) vs ++ rest) refl e)
   | inr d ↦
       let lt : b + 1 ≤ c = grind arith in
       let s : c - b ≡ suc (c - (b + 1)) = omega arith in
-      rw s (listed_behind a c (record { a = a; b = b; badness = v }) (row_spans a (b + 1) vs ++ rest) (λ e f. d f)
-      ∙ in_row a (b + 1) vs rest c lt (omega arith))
+      rw s (listed_behind a c (record { a = a; b = b; badness = v }) (row_spans a (b + 1) vs ++ rest) (λ e f. d f) ∙ in_row a (b + 1) vs rest c lt (omega arith))
 ]
 
-pub past_row : (a b : ℕ) (row : List ℕ) (rest : List Span) (c : ℕ) → b + length row ≤ c
-    → listed (row_spans a b row ++ rest) a c ≡ listed rest a c
+pub past_row : (a b : ℕ) (row : List ℕ) (rest : List Span) (c : ℕ) → b + length row ≤ c → listed (row_spans a b row ++ rest) a c ≡ listed rest a c
 past_row a b [] rest c l = refl
 past_row a b (v ∷ vs) rest c l =
-    listed_behind a c (record { a = a; b = b; badness = v }) (row_spans a (b + 1) vs ++ rest) (λ e f. omega arith)
-    ∙ past_row a (b + 1) vs rest c (omega arith)
+    listed_behind a c (record { a = a; b = b; badness = v }) (row_spans a (b + 1) vs ++ rest) (λ e f. omega arith) ∙ past_row a (b + 1) vs rest c (omega arith)
 
-pub other_row : (m b : ℕ) (row : List ℕ) (rest : List Span) (a c : ℕ) → (m ≡ a → ⊥)
-    → listed (row_spans m b row ++ rest) a c ≡ listed rest a c
+pub other_row : (m b : ℕ) (row : List ℕ) (rest : List Span) (a c : ℕ) → (m ≡ a → ⊥) → listed (row_spans m b row ++ rest) a c ≡ listed rest a c
 other_row m b [] rest a c d = refl
 other_row m b (v ∷ vs) rest a c d =
-    listed_behind a c (record { a = m; b = b; badness = v }) (row_spans m (b + 1) vs ++ rest) (λ e f. d e)
-    ∙ other_row m (b + 1) vs rest a c d
+    listed_behind a c (record { a = m; b = b; badness = v }) (row_spans m (b + 1) vs ++ rest) (λ e f. d e) ∙ other_row m (b + 1) vs rest a c d
 
 -- the spans of the rows from m on
 pub before_rows : (m : ℕ) (rows : List (List ℕ)) (a c : ℕ) → a < m → listed (rows_spans m rows) a c ≡ None
@@ -59,8 +53,7 @@ in_rows m (row ∷ rows) a c l k n = elim (cases_eq m a) [
       rw s (other_row m (m + 1) row (rows_spans (m + 1) rows) a c d ∙ in_rows (m + 1) rows a c lt k n')
 ]
 
-pub past_rows : (m : ℕ) (rows : List (List ℕ)) (a c : ℕ) → m ≤ a → a + length (slice_index_or rows (a - m) []) < c
-    → listed (rows_spans m rows) a c ≡ None
+pub past_rows : (m : ℕ) (rows : List (List ℕ)) (a c : ℕ) → m ≤ a → a + length (slice_index_or rows (a - m) []) < c → listed (rows_spans m rows) a c ≡ None
 past_rows m [] a c l n = refl
 past_rows m (row ∷ rows) a c l n = elim (cases_eq m a) [
   | inl e ↦ let z : a - m ≡ 0 = omega arith in let n' = rw z at n in
@@ -81,11 +74,8 @@ Before m last = MatchOption last (Unit {0}) (λ p. p.a < m)
 abbrev pub MayBegin : Option Span → ℕ → ℕ → Type 0
 MayBegin last a b = MatchOption last (b ≡ a + 1) (λ p. ((p.a < a) × (b ≡ a + 1)) ⊎ ((a ≡ p.a) × (b ≡ p.b + 1)))
 
-row_form : (n a b : ℕ) (last : Option Span) (row : List ℕ) (rest : List Span) → a < b → b + length row ≤ n + 1
-    → ((k : ℕ) → k < length row → slice_index row k ≤ 2 ^ 40)
-    → MayBegin last a b → Before (a + 1) last
-    → ((last : Option Span) → Before (a + 1) last → SpansFrom n last rest)
-    → SpansFrom n last (row_spans a b row ++ rest)
+row_form : (n a b : ℕ) (last : Option Span) (row : List ℕ) (rest : List Span) → a < b → b + length row ≤ n + 1 → ((k : ℕ) → k < length row → slice_index row k ≤ 2 ^ 40)
+    → MayBegin last a b → Before (a + 1) last → ((last : Option Span) → Before (a + 1) last → SpansFrom n last rest) → SpansFrom n last (row_spans a b row ++ rest)
 row_form n a b last [] rest l room small follows before more = more last before
 row_form n a b last (v ∷ vs) rest l room small follows before more = (
   record { rises = l; within = omega arith; small = small 0 (omega arith); follows = follows },
@@ -101,8 +91,7 @@ later : (last : Option Span) (m : ℕ) → Before m last → Before (m + 1) last
 later None m h = tt
 later (Some p) m h = let l = h in omega arith
 
-pub rows_form : (n m : ℕ) (last : Option Span) (rows : List (List ℕ))
-    → ((k : ℕ) → k < length rows → m + k + length (slice_index_or rows k []) ≤ n)
+pub rows_form : (n m : ℕ) (last : Option Span) (rows : List (List ℕ)) → ((k : ℕ) → k < length rows → m + k + length (slice_index_or rows k []) ≤ n)
     → ((k i : ℕ) → k < length rows → i < length (slice_index_or rows k []) → slice_index (slice_index_or rows k []) i ≤ 2 ^ 40)
     → Before m last → SpansFrom n last (rows_spans m rows)
 rows_form n m last [] within small before = tt
@@ -130,13 +119,10 @@ in_row_or_past rows a b l =
     let same : b - (a + 1) ≡ b - a - 1 = omega arith in
     elim (cases_lt (a + length (slice_index_or rows a [])) b) [
       | inl past ↦
-          slice_get_past row (b - a - 1) (omega arith)
-          ∙ sym (past_rows 0 rows a b (omega arith) (subst (λ i. a + length (slice_index_or rows i []) < b) (sym z) past))
+          slice_get_past row (b - a - 1) (omega arith) ∙ sym (past_rows 0 rows a b (omega arith) (subst (λ i. a + length (slice_index_or rows i []) < b) (sym z) past))
       | inr within ↦
-          slice_get-get_or row (b - a - 1) 0 (omega arith)
-          ∙ sym (in_rows 0 rows a b (omega arith) l (subst (λ i. b ≤ a + length (slice_index_or rows i [])) (sym z) within)
-          ∙ ap (λ i. Some (slice_index (slice_index_or rows i []) (b - (a + 1)))) z
-          ∙ ap (λ k. Some (slice_index row k)) same)
+          slice_get-get_or row (b - a - 1) 0 (omega arith) ∙ sym (in_rows 0 rows a b (omega arith) l (subst (λ i. b ≤ a + length (slice_index_or rows i [])) (sym z) within)
+          ∙ ap (λ i. Some (slice_index (slice_index_or rows i []) (b - (a + 1)))) z ∙ ap (λ k. Some (slice_index row k)) same)
     ]
 
 row_of : (rows : List (List ℕ)) (a k : ℕ) → option_and_then (λ row. slice_get row k) (slice_get rows a) ≡ slice_get (slice_index_or rows a []) k

@@ -49,8 +49,7 @@ module _ {C : Type 0} (reach : C → ℕ → Option Reach) (len : C → ℕ → 
   ]
 
   -- columns that a force presses can stand
-  pub can_stand : (columns : List C) (force : ℕ) → ((c : C) → len c 0 ≤ len c force) → IsForce reach len gaps width columns force
-      → StandsAt reach len gaps width 0 columns
+  pub can_stand : (columns : List C) (force : ℕ) → ((c : C) → len c 0 ≤ len c force) → IsForce reach len gaps width columns force → StandsAt reach len gaps width 0 columns
   can_stand columns force rises h =
       let spring = length_at len columns in
       let at = stands (length columns) (reach_at reach columns) gaps spring width force h.fits in record {

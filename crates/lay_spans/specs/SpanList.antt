@@ -30,9 +30,6 @@ IsNoSpan reach len gaps width starts others forced a b =
 
 -- the list has each span that fits, with what it costs, and no other
 pub record IsSpanList {C : Type 0} (reach : C → ℕ → Option Reach) (len : C → ℕ → ℕ) (gaps : List ℕ) (width : ℕ) (starts others : List (List C)) (forced : ℕ → Bool) (spans : List Span) : Type 0 where
-  pub each : (a b v : ℕ) → a < b → b ≤ length starts → listed spans a b ≡ Some v
-      → IsCost reach len gaps width starts others forced a b v
-  pub fits : (a b : ℕ) → a < b → b ≤ length starts → (ForcedInside forced a b → ⊥)
-      → StandsAt reach len gaps width 0 (span_columns starts others a b) → IsSome (listed spans a b)
-  pub stops : (a b : ℕ) → a < b → b ≤ length starts → listed spans a b ≡ None
-      → IsNoSpan reach len gaps width starts others forced a b
+  pub each : (a b v : ℕ) → a < b → b ≤ length starts → listed spans a b ≡ Some v → IsCost reach len gaps width starts others forced a b v
+  pub fits : (a b : ℕ) → a < b → b ≤ length starts → (ForcedInside forced a b → ⊥) → StandsAt reach len gaps width 0 (span_columns starts others a b) → IsSome (listed spans a b)
+  pub stops : (a b : ℕ) → a < b → b ≤ length starts → listed spans a b ≡ None → IsNoSpan reach len gaps width starts others forced a b

@@ -13,6 +13,9 @@ use std::alloc::Global;
 /// How many columns most spans have that are tried; room for so many is made at once.
 pub(crate) const MOST_OFTEN: usize = 64;
 
+/// How many spans most rows have.
+const SPANS_OFTEN: usize = 8;
+
 /// The greatest force of 0 to `most` at which the columns end within the width. None exactly where
 /// they can't stand within it; more than `most_columns` never can.
 fn greatest_force<C: Spaced + Spring>(
@@ -64,7 +67,7 @@ pub(crate) fn measure<'a, C>(
 }
 
 /// Adds columns to those that are seen.
-pub(crate) fn see<'a, C: Spaced>(
+pub(crate) fn see<'a, C: Spaced + Spring>(
     seen: &mut Row<Seen<'a, C>>,
     columns: &'a [C],
 ) -> Result<(), Memory>
@@ -76,10 +79,9 @@ pub(crate) fn see<'a, C: Spaced>(
     Ok(())
 }
 
-/// What the spans from bar `a` cost, from the shortest to the longest that fits. It adds one
-/// measure's columns at a time, and stops at the first span that doesn't fit or behind a forced
-/// bar. Each search for a force goes on from where the one before left its columns, and takes no
-/// memory.
+/// What the spans from bar `a` cost, from the shortest to the longest that fits. It adds one measure's
+/// columns at a time, and stops at the first span that doesn't fit or behind a forced bar. Each search
+/// for a force goes on from where the one before left its columns, and takes no memory.
 pub(crate) fn row_from<'a, C: Spaced + Spring>(
     alloc: Global,
     starts: &'a [Row<C>],
@@ -102,7 +104,7 @@ pub(crate) fn row_from<'a, C: Spaced + Spring>(
     let front = ends.as_mut_slice();
     let placed = &mut Progress::none();
     let mut seen = Row::with_room(alloc, MOST_OFTEN)?;
-    let mut row = Row::new(alloc);
+    let mut row = Row::with_room(alloc, SPANS_OFTEN)?;
     let mut most = 2048;
     for m in a..starts.len() {
         see(&mut seen, measure(starts, others, a, m))?;

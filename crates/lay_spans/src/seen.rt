@@ -1,39 +1,38 @@
-ghost use Rattle.std.specs.Prelude.{◌≡◌, IfSome};
+ghost use Rattle.std.specs.Prelude.{◌≡◌, ◌*◌, ◌/◌};
 ghost use Rattle.std.proofs.Props.{props};
-ghost use Rattle.lay_springs.specs.Stands.{IsLone};
+ghost use Rattle.lay_springs.specs.Stands.{TellsReach};
 
-use lay_springs::{Reach, Spaced, Spring, Stand};
+use lay_springs::{Spaced, Spring, Stands};
 
-/// A borrowed column, with the reaches and the spring of the column itself. Where it stands in one
-/// lane alone, its reach there is at hand.
+/// A borrowed column, with the reaches and the spring of the column itself: where it stands and the
+/// natural length of its spring are at hand.
 #[derive(Drop)]
-pub struct Seen<'a, C: Spaced> {
+pub struct Seen<'a, C: Spaced + Spring> {
     pub column: &'a C,
-    lone: Option<Stand>,
-    pub ghost alone: { IfSome lone (IsLone (C.reach_of column.now)) } by { Prim.hlevel props },
+    stands: Stands<'a>,
+    natural: u32,
+    pub ghost told: { TellsReach stands (C.reach_of column.now) } by { Prim.hlevel props },
+    pub ghost sprung: { natural ≡ C.length_of column.now 256 },
 }
 
-impl<'a, C: Spaced> Seen<'a, C> {
+impl<'a, C: Spaced + Spring> Seen<'a, C> {
     /// A column as it is seen.
     pub(crate) fn of(column: &'a C) -> Seen<'a, C>
         ensures { result.column.now ≡ column.now }
     {
         Seen {
             column,
-            lone: column.lone(),
+            stands: column.stands(),
+            natural: column.length(256),
         }
     }
 }
 
-impl<'a, C: Spaced> Spaced for Seen<'a, C> {
+impl<'a, C: Spaced + Spring> Spaced for Seen<'a, C> {
     ghost reach_of = { λ s lane. C.reach_of s.column.now lane };
 
-    fn reach(&self, lane: u32) -> Option<Reach> {
-        self.column.reach(lane)
-    }
-
-    fn lone(&self) -> Option<Stand> {
-        self.lone
+    fn stands(&self) -> Stands<'_> {
+        self.stands
     }
 
     ghost is_near = { λ s lane l. C.is_near s.column.now lane l };
@@ -43,7 +42,7 @@ impl<'a, C: Spaced + Spring> Spring for Seen<'a, C> {
     ghost length_of = { λ s force. C.length_of s.column.now force };
 
     fn length(&self, force: u16) -> u32 {
-        self.column.length(force)
+        self.natural * u32::from(force) / 256
     }
 
     ghost is_short = { λ s. C.is_short s.column.now };

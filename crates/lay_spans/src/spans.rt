@@ -58,7 +58,7 @@ pub fn spans_of<'a, R: Threads + Sync, C: Spaced + Spring + Sync>(
 }
 
 /// The columns of the span from bar `a` to bar `b`, as `spans_of` has it, in order.
-pub fn columns_in<'a, C: Spaced>(
+pub fn columns_in<'a, C: Spaced + Spring>(
     alloc: Global,
     starts: &'a [Row<C>],
     others: &'a [Lent<'a, C>],

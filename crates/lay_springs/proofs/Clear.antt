@@ -10,8 +10,7 @@ below_or_at P k n l p q = elim (cases_lt k n) [
 ]
 
 module _ (reach : ℕ → Option Reach) (lane : ℕ) where
-  pub inside_more : (old new : ℤ) (s : Reach) → reach lane ≡ Some s → old ≤ℤ new → pos s.left ≤ℤ new
-      → IsInside reach lane old → IsInside reach (lane + 1) new
+  pub inside_more : (old new : ℤ) (s : Reach) → reach lane ≡ Some s → old ≤ℤ new → pos s.left ≤ℤ new → IsInside reach lane old → IsInside reach (lane + 1) new
   inside_more old new s es l m h k u lt eu =
       below_or_at (λ k. reach k ≡ Some u → pos u.left ≤ℤ new) k lane lt
       (λ lt eu. let d = h k u lt eu in omega (arith, ints))
@@ -19,8 +18,7 @@ module _ (reach : ℕ → Option Reach) (lane : ℕ) where
       eu
 
 pub inside_bound : (reach : ℕ → Option Reach) (lanes : ℕ) → lanes < 4294967296
-    → ((lane : ℕ) → lane < 4294967296 → IfSome (reach lane) (λ r. (r.left ≤ 1048576) × (r.right ≤ 1048576)))
-    → IsInside reach lanes (pos 1048576)
+    → ((lane : ℕ) → lane < 4294967296 → IfSome (reach lane) (λ r. (r.left ≤ 1048576) × (r.right ≤ 1048576))) → IsInside reach lanes (pos 1048576)
 inside_bound reach lanes few near lane s l es =
     let a = rw es at (near lane (omega arith)) in
     let left = a.0 in

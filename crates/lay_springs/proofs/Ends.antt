@@ -3,8 +3,7 @@ use Rattle.std.proofs.{Common.{◌≡◌, ℕ, ◌+◌, ◌-◌, ◌*◌, ◌/�
 use Rattle.lay_springs.{specs.{declared.traits.Reach.Reach, Place.{length_at, StandApart}, Fit.{IsEndOf, EndsAt}}, proofs.Clear.below_or_at}
 
 pub end_more : (reach : ℕ → Option Reach) (lane : ℕ) (at old new : ℤ) (r : Reach) → reach lane ≡ Some r
-    → old ≤ℤ new → (at +ℤ pos r.right) ≤ℤ new → ((v : ℤ) → old ≤ℤ v → (at +ℤ pos r.right) ≤ℤ v → new ≤ℤ v)
-    → IsEndOf reach lane at old → IsEndOf reach (lane + 1) at new
+    → old ≤ℤ new → (at +ℤ pos r.right) ≤ℤ new → ((v : ℤ) → old ≤ℤ v → (at +ℤ pos r.right) ≤ℤ v → new ≤ℤ v) → IsEndOf reach lane at old → IsEndOf reach (lane + 1) at new
 end_more reach lane at old new r er le reached least h = record {
   past = let p = h.past in omega (arith, ints);
   reaches = λ k u lt eu.
@@ -27,8 +26,7 @@ apart_down n reach gaps weak strong x le h = record {
 }
 
 -- the end doesn't fall as the force rises
-pub end_down : (n : ℕ) (reach : ℕ → ℕ → Option Reach) (gaps : List ℕ) (spring : ℕ → ℕ → ℕ) (f g : ℕ) (d e : ℤ) → 0 < n
-    → ((i : ℕ) → spring f i ≤ spring g i)
+pub end_down : (n : ℕ) (reach : ℕ → ℕ → Option Reach) (gaps : List ℕ) (spring : ℕ → ℕ → ℕ) (f g : ℕ) (d e : ℤ) → 0 < n → ((i : ℕ) → spring f i ≤ spring g i)
     → EndsAt n reach gaps spring f d → EndsAt n reach gaps spring g e → d ≤ℤ e
 end_down n reach gaps spring f g d e some le a b =
     let last = a.place.least b.x (apart_down n reach gaps (spring f) (spring g) b.x le b.place.apart) (n - 1) (omega arith) in
@@ -43,8 +41,7 @@ pub spring_short : (natural force length result : ℕ) → natural ≤ 4096 → 
 spring_short natural force length result short scales small is = let most = mul-le-mul_right force short in omega arith
 
 -- the springs of a list of columns grow with the force
-pub length_rises : {C : Type 0} (len : C → ℕ → ℕ) (cols : List C) (f g : ℕ) → ((c : C) → len c f ≤ len c g)
-    → (i : ℕ) → length_at len cols f i ≤ length_at len cols g i
+pub length_rises : {C : Type 0} (len : C → ℕ → ℕ) (cols : List C) (f g : ℕ) → ((c : C) → len c f ≤ len c g) → (i : ℕ) → length_at len cols f i ≤ length_at len cols g i
 length_rises len cols f g le i = at (slice_get cols i)
   where
     at : (o : _) → unwrap_or (option_map (λ c. len c f) o) 0 ≤ unwrap_or (option_map (λ c. len c g) o) 0

@@ -1,6 +1,6 @@
 -- What stands furthest right in each lane.
-use Rattle.std.proofs.{Common.{get_or-set_same, get_or-set_other, slice_set, ◌≡◌, ℕ, ◌+◌, ◌*◌, ◌^◌, ◌<◌, ◌≤◌, inl, inr, ℤ, pos, negsuc, ◌+ℤ◌, ◌≤ℤ◌, List, length, Option, None, Some, IfSome, slice_index, slice_index_or, sym, ◌∙◌, arith, refl}, lemmas.{Bool.cases_eq, Int.ints, Option.{same_Some, none-some}}}
-use Rattle.lay_springs.{specs.{declared.traits.{Reach.Reach, Stand.Stand}, Stands.IsLone, Place.{IsClear, StandApart, IsPlacedTo, IsFront, IsPast, Advances}}, proofs.Clear.below_or_at}
+use Rattle.std.proofs.{Common.{get_or-set_same, get_or-set_other, slice_set, ◌≡◌, ℕ, ◌+◌, ◌*◌, ◌^◌, ◌<◌, ◌≤◌, inl, inr, ℤ, pos, negsuc, ◌+ℤ◌, ◌≤ℤ◌, List, length, Option, None, Some, IfSome, slice_index, slice_index_or, sym, ◌∙◌, arith, refl}, lemmas.{Bool.{cases_eq, eq-eqb, ne_eqb}, Int.ints, Option.{same_Some, none-some}}}
+use Rattle.lay_springs.{specs.{declared.traits.{Reach.Reach, Stand.Stand, Stands.Stands}, Stands.{IsLone, TellsReach}, Place.{IsClear, StandApart, IsPlacedTo, IsFront, IsPast, Advances}}, proofs.Clear.below_or_at}
 
 abbrev at : List ℤ → ℕ → ℤ
 at x k = slice_index_or x k (pos 0)
@@ -16,8 +16,7 @@ past_more reach gaps lane front old new s es l m h k u lt eu =
 
 module _ (reach : ℕ → ℕ → Option Reach) (gaps : List ℕ) (spring : ℕ → ℕ → ℕ) (force natural count j : ℕ) (x front : List ℤ)
     (placed : IsPlacedTo j reach gaps spring force natural count x) (fronts : IsFront j reach (length gaps) x front) where
-  pub front_clear : (v : ℤ) → IsPast (reach j) gaps (length gaps) front v
-      → (i : ℕ) → i < j → IsClear (reach i) (reach j) gaps (length gaps) (at x i) v
+  pub front_clear : (v : ℤ) → IsPast (reach j) gaps (length gaps) front v → (i : ℕ) → i < j → IsClear (reach i) (reach j) gaps (length gaps) (at x i) v
   front_clear v past i l lane r s lt er es =
       let c = fronts.covers lane i r lt l er in
       let low = (placed.small i l).0 in
@@ -35,8 +34,7 @@ module _ (reach : ℕ → ℕ → Option Reach) (gaps : List ℕ) (spring : ℕ 
       omega (arith, ints)
 
   pub past_bound : ((k lane : ℕ) → lane < length gaps → IfSome (reach k lane) (λ r. (r.left ≤ 1048576) × (r.right ≤ 1048576)))
-      → ((lane : ℕ) → lane < length gaps → slice_index gaps lane ≤ 1048576)
-      → IsPast (reach j) gaps (length gaps) front (pos (1048576 + 3145728 * j))
+      → ((lane : ℕ) → lane < length gaps → slice_index gaps lane ≤ 1048576) → IsPast (reach j) gaps (length gaps) front (pos (1048576 + 3145728 * j))
   past_bound near narrow lane s lt es some =
       let k = fronts.stands lane lt some in
       let l = k.2 in
@@ -91,18 +89,23 @@ module _ (reach : ℕ → ℕ → Option Reach) (lanes j : ℕ) (v : ℤ) where
           | inr q ↦ (j, r, omega arith, e, rw here q)
         ]
 
-pub front_start : (reach : ℕ → ℕ → Option Reach) (lanes : ℕ) (x front : List ℤ) → ((lane : ℕ) → lane < lanes → at front lane ≡ negsuc 0)
-    → IsFront 0 reach lanes x front
+pub front_start : (reach : ℕ → ℕ → Option Reach) (lanes : ℕ) (x front : List ℤ) → ((lane : ℕ) → lane < lanes → at front lane ≡ negsuc 0) → IsFront 0 reach lanes x front
 front_start reach lanes x front h = record {
   covers = λ lane k r lt l e. absurd (omega arith);
   stands = λ lane lt some. let e = h lane lt in absurd (omega (arith, ints));
   small = λ lane lt. let e = h lane lt in omega (arith, ints);
 }
 
+-- what tells of one lane tells that it stands there alone
+pub lone_told : (stand : Stand) (reach : ℕ → Option Reach) → TellsReach (Stands.Lone stand) reach → stand.lane < 4294967296 → IsLone reach stand
+lone_told stand reach told few = record {
+  here = let same = eq-eqb stand.lane stand.lane refl in sym (told stand.lane few) ∙ rw same refl;
+  alone = λ lane l other. let apart = ne_eqb lane stand.lane other in sym (told lane (omega arith)) ∙ rw apart refl;
+}
+
 -- a column that stands in one lane alone, at v, ends there past what stood in it before
 pub lone_noted : (reach : ℕ → Option Reach) (stand : Stand) (front : List ℤ) (v : ℤ) → IsLone reach stand → length front < 4294967296 → stand.lane < length front
-    → at front stand.lane ≤ℤ v → (lane : ℕ) → lane < length front
-    → Advances (reach lane) v (at front lane) (at (slice_set front stand.lane (v +ℤ pos stand.reach.right)) lane)
+    → at front stand.lane ≤ℤ v → (lane : ℕ) → lane < length front → Advances (reach lane) v (at front lane) (at (slice_set front stand.lane (v +ℤ pos stand.reach.right)) lane)
 lone_noted reach stand front v lone few inside behind lane l = elim (cases_eq lane stand.lane) [
   | inl same ↦ rw (same, lone.here, get_or-set_same front stand.lane (v +ℤ pos stand.reach.right) (pos 0) inside) (omega (arith, ints), omega (arith, ints), inr refl)
   | inr other ↦ rw (lone.alone lane (omega arith) other, get_or-set_other front stand.lane lane (v +ℤ pos stand.reach.right) (pos 0) other) refl

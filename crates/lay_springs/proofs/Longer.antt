@@ -11,8 +11,7 @@ stands n reach gaps spring width force h = record {
   reaches = λ lane r l e. let a = h.1.end.reaches lane r l e in let b = h.2 in omega (arith, ints);
 }
 
-pub cannot_stand : (n : ℕ) (reach : ℕ → ℕ → Option Reach) (gaps : List ℕ) (spring : ℕ → ℕ → ℕ) (width f g : ℕ) → 0 < n
-    → ((i : ℕ) → spring f i ≤ spring g i)
+pub cannot_stand : (n : ℕ) (reach : ℕ → ℕ → Option Reach) (gaps : List ℕ) (spring : ℕ → ℕ → ℕ) (width f g : ℕ) → 0 < n → ((i : ℕ) → spring f i ≤ spring g i)
     → Passes n reach gaps spring width f → CanStand n reach gaps spring width g → ⊥
 cannot_stand n reach gaps spring width f g some le p h =
     let last = p.1.place.least h.y (apart_down n reach gaps (spring f) (spring g) h.y le h.apart) (n - 1) (omega arith) in
@@ -53,9 +52,7 @@ stand_few n reach gaps spring width force some h =
 
 -- what keeps columns apart keeps the first of them apart
 pub fewer_apart : (n m : ℕ) (reach reach' : ℕ → ℕ → Option Reach) (gaps : List ℕ) (spring spring' : ℕ → ℕ) (y : List ℤ) → n ≤ m
-    → ((i lane : ℕ) → i < n → reach' i lane ≡ reach i lane)
-    → ((i : ℕ) → i < n → spring' i ≡ spring i)
-    → StandApart m reach' gaps spring' y → StandApart n reach gaps spring y
+    → ((i lane : ℕ) → i < n → reach' i lane ≡ reach i lane) → ((i : ℕ) → i < n → spring' i ≡ spring i) → StandApart m reach' gaps spring' y → StandApart n reach gaps spring y
 fewer_apart n m reach reach' gaps spring spring' y few same len h = record {
   begins = λ some. h.begins (omega arith);
   head = λ some lane s l e. h.head (omega arith) lane s l (same 0 lane some ∙ e);
@@ -65,9 +62,7 @@ fewer_apart n m reach reach' gaps spring spring' y few same len h = record {
 }
 
 pub stand_prefix : (n m : ℕ) (reach reach' : ℕ → ℕ → Option Reach) (gaps : List ℕ) (spring spring' : ℕ → ℕ → ℕ) (width force : ℕ) → 0 < n → n < m
-    → ((i lane : ℕ) → i < n → reach' i lane ≡ reach i lane)
-    → ((i : ℕ) → i < n → spring' force i ≡ spring force i)
-    → StandsInAll (reach' (m - 1)) (length gaps)
+    → ((i lane : ℕ) → i < n → reach' i lane ≡ reach i lane) → ((i : ℕ) → i < n → spring' force i ≡ spring force i) → StandsInAll (reach' (m - 1)) (length gaps)
     → CanStand m reach' gaps spring' width force → CanStand n reach gaps spring width force
 stand_prefix n m reach reach' gaps spring spring' width force some longer same len all h = record {
   y = h.y;

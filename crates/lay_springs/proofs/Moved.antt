@@ -6,8 +6,7 @@ share_rises : (rest i k d : ℕ) → 0 < d → i ≤ k → rest * i / d ≤ rest
 share_rises rest i k d pos_d l = le-div (rest * i / d) (rest * k) d pos_d (grind (arith, div-mul-le_self (rest * i) d))
 
 pub moved_apart : (n : ℕ) (reach : ℕ → ℕ → Option Reach) (gaps : List ℕ) (spring : ℕ → ℕ) (x at : List ℤ) (rest d : ℕ) → 0 < d
-    → ((k : ℕ) → k < n → slice_index_or at k (pos 0) ≡ (slice_index_or x k (pos 0) +ℤ pos (rest * k / d)))
-    → StandApart n reach gaps spring x → StandApart n reach gaps spring at
+    → ((k : ℕ) → k < n → slice_index_or at k (pos 0) ≡ (slice_index_or x k (pos 0) +ℤ pos (rest * k / d))) → StandApart n reach gaps spring x → StandApart n reach gaps spring at
 moved_apart n reach gaps spring x at rest d some move h = record {
   begins = λ l. let a = move 0 l in let b = h.begins l in omega (arith, ints);
   head = λ l lane s k e. let a = move 0 l in let b = h.head l lane s k e in omega (arith, ints);

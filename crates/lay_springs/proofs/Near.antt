@@ -6,7 +6,7 @@ parts : (a b c k : ℕ) → (a + 255 * min k a) / 256 + (b + c) / 256 ≤ b / 25
 parts a b c k = omega arith
 
 -- one spring more
-slack_more : (natural count n g drop : ℕ) → slack natural count drop + n * (g + drop) / 256 ≤ n * g / 256 + slack (natural + n) (count + 1) drop
+pub slack_more : (natural count n g drop : ℕ) → slack natural count drop + n * (g + drop) / 256 ≤ n * g / 256 + slack (natural + n) (count + 1) drop
 slack_more natural count n g drop = rw (mul-add n g drop, add-mul natural n drop) (parts (natural * drop) (n * g) (n * drop) count)
 
 pub slack_up : (natural count natural' count' drop : ℕ) → natural ≤ natural' → count ≤ count' → slack natural count drop ≤ slack natural' count' drop
@@ -15,10 +15,8 @@ slack_up natural count natural' count' drop l m = let up = mul-le-mul_right drop
 -- the next column, where the spring before it alone holds it or doesn't
 pub next_near : (natural count natural' count' n g drop : ℕ) (before next y z : ℤ)
     → (((before +ℤ pos (n * (g + drop) / 256)) ≡ next) × (natural' ≡ natural + n) × (count' ≡ count + 1))
-    ⊎ (((before +ℤ pos (n * (g + drop) / 256)) ≢ next) × (natural' ≡ natural) × (count' ≡ count))
-    → before ≤ℤ (y +ℤ pos (slack natural count drop)) → (y +ℤ pos (n * g / 256)) ≤ℤ z
-    → (before +ℤ pos (n * (g + drop) / 256)) ≤ℤ next
-    → ((w : ℤ) → (z +ℤ pos (slack natural count drop)) ≤ℤ w → (before +ℤ pos (n * (g + drop) / 256)) ≤ℤ w → next ≤ℤ w)
+    ⊎ (((before +ℤ pos (n * (g + drop) / 256)) ≢ next) × (natural' ≡ natural) × (count' ≡ count)) → before ≤ℤ (y +ℤ pos (slack natural count drop)) → (y +ℤ pos (n * g / 256)) ≤ℤ z
+    → (before +ℤ pos (n * (g + drop) / 256)) ≤ℤ next → ((w : ℤ) → (z +ℤ pos (slack natural count drop)) ≤ℤ w → (before +ℤ pos (n * (g + drop) / 256)) ≤ℤ w → next ≤ℤ w)
     → next ≤ℤ (z +ℤ pos (slack natural' count' drop))
 next_near natural count natural' count' n g drop before next y z held old spring past least = elim held [
   | inl h ↦ (

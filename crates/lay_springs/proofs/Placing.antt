@@ -8,8 +8,7 @@ at x k = slice_index_or x k (pos 0)
 
 module _ (reach : ℕ → ℕ → Option Reach) (gaps : List ℕ) (spring : ℕ → ℕ → ℕ) (force : ℕ) where
   pub placed_first : (x : List ℤ) (v : ℤ) → 0 < length x → pos 0 ≤ℤ v → IsInside (reach 0) (length gaps) v
-      → ((w : ℤ) → pos 0 ≤ℤ w → IsInside (reach 0) (length gaps) w → v ≤ℤ w) → v ≤ℤ pos 1048576
-      → IsPlacedTo 1 reach gaps spring force 0 0 (slice_set x 0 v)
+      → ((w : ℤ) → pos 0 ≤ℤ w → IsInside (reach 0) (length gaps) w → v ≤ℤ w) → v ≤ℤ pos 1048576 → IsPlacedTo 1 reach gaps spring force 0 0 (slice_set x 0 v)
   placed_first x v room begins inside least small = record {
     apart = record {
       begins = λ _. rw here begins;
@@ -29,13 +28,10 @@ module _ (reach : ℕ → ℕ → Option Reach) (gaps : List ℕ) (spring : ℕ 
 
   -- column j is placed at v
   pub placed_more : (natural count natural' count' : ℕ) (x : List ℤ) (j : ℕ) (v : ℤ) → 0 < j → j < length x → IsPlacedTo j reach gaps spring force natural count x
-      → natural ≤ natural' → count ≤ count'
-      → ((i : ℕ) → i + 1 ≡ j → (at x i +ℤ pos 100) ≤ℤ v)
-      → ((i : ℕ) → i + 1 ≡ j → (at x i +ℤ pos (spring force i)) ≤ℤ v)
+      → natural ≤ natural' → count ≤ count' → ((i : ℕ) → i + 1 ≡ j → (at x i +ℤ pos 100) ≤ℤ v) → ((i : ℕ) → i + 1 ≡ j → (at x i +ℤ pos (spring force i)) ≤ℤ v)
       → ((i : ℕ) → i < j → IsClear (reach i) (reach j) gaps (length gaps) (at x i) v)
       → ((g drop : ℕ) (y : List ℤ) → g + drop ≡ force → StandApart (j + 1) reach gaps (spring g) y → v ≤ℤ (at y j +ℤ pos (slack natural' count' drop)))
-      → (pos 0 ≤ℤ v) × (v ≤ℤ pos (1048576 + 3145728 * j))
-      → IsPlacedTo (j + 1) reach gaps spring force natural' count' (slice_set x j v)
+      → (pos 0 ≤ℤ v) × (v ≤ℤ pos (1048576 + 3145728 * j)) → IsPlacedTo (j + 1) reach gaps spring force natural' count' (slice_set x j v)
   placed_more natural count natural' count' x j v pos_j room h more many step spr clear near small = record {
     apart = record {
       begins = λ _. rw (same 0 pos_j) (h.apart.begins pos_j);
@@ -80,8 +76,7 @@ place_of n reach gaps spring force natural count x room h = record {
 pub reach_is : {C : Type 0} (reach : C → ℕ → Option Reach) (cols : List C) (i : ℕ) (c : C) → slice_get cols i ≡ Some c → reach_at reach cols i ≡ reach c
 reach_is reach cols i c e = ap (λ o lane. option_and_then (λ c. reach c lane) o) e
 
-pub length_is : {C : Type 0} (len : C → ℕ → ℕ) (cols : List C) (force i : ℕ) (c : C) → slice_get cols i ≡ Some c
-    → length_at len cols force i ≡ len c force
+pub length_is : {C : Type 0} (len : C → ℕ → ℕ) (cols : List C) (force i : ℕ) (c : C) → slice_get cols i ≡ Some c → length_at len cols force i ≡ len c force
 length_is len cols force i c e = rw e refl
 
 -- what holds of the reaches of each column holds of those of a list

@@ -29,8 +29,7 @@ pub record IsSet (n : ℕ) (reach : ℕ → ℕ → Option Reach) (gaps : List �
   pub count : length at ≡ n
   -- a lone column isn't moved
   pub alone : n ≡ 1 → at ≡ x
-  pub moved : 1 < n → (e : ℤ) × (rest : ℕ) × IsEndOf (reach (n - 1)) (length gaps) (slice_index_or x (n - 1) (pos 0)) e
-      × ((e +ℤ pos rest) ≡ pos width)
+  pub moved : 1 < n → (e : ℤ) × (rest : ℕ) × IsEndOf (reach (n - 1)) (length gaps) (slice_index_or x (n - 1) (pos 0)) e × ((e +ℤ pos rest) ≡ pos width)
       × ((k : ℕ) → k < n → slice_index_or at k (pos 0) ≡ (slice_index_or x k (pos 0) +ℤ pos (rest * k / (n - 1))))
 
 -- the force as it counts, and whether the system is ragged: only a last one is
@@ -57,8 +56,7 @@ StandsInAll reach lanes = (lane : ℕ) → lane < lanes → (s : Reach) × (reac
 
 -- a longer list of columns, whose last stands in each lane, can't stand within a width where a list that it continues can't
 abbrev pub LongerFitsLess : {C : Type 0} → (C → ℕ → Option Reach) → (C → ℕ → ℕ) → Type 0
-LongerFitsLess {C} reach len = (short rest : List C) (gaps : List ℕ) (width force : ℕ)
-    → 0 < length short → 0 < length rest
+LongerFitsLess {C} reach len = (short rest : List C) (gaps : List ℕ) (width force : ℕ) → 0 < length short → 0 < length rest
     → StandsInAll (reach_at reach (short ++ rest) (length (short ++ rest) - 1)) (length gaps)
     → CanStand (length (short ++ rest)) (reach_at reach (short ++ rest)) gaps (length_at len (short ++ rest)) width force
     → CanStand (length short) (reach_at reach short) gaps (length_at len short) width force

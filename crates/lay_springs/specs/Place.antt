@@ -31,8 +31,7 @@ pub record StandApart (n : ℕ) (reach : ℕ → ℕ → Option Reach) (gaps : L
 
 -- no list that keeps n columns apart is below x
 abbrev pub IsBelowAll : ℕ → (ℕ → ℕ → Option Reach) → List ℕ → (ℕ → ℕ) → List ℤ → Type 0
-IsBelowAll n reach gaps spring x = (y : List ℤ) → StandApart n reach gaps spring y
-    → (k : ℕ) → k < n → slice_index_or x k (pos 0) ≤ℤ slice_index_or y k (pos 0)
+IsBelowAll n reach gaps spring x = (y : List ℤ) → StandApart n reach gaps spring y → (k : ℕ) → k < n → slice_index_or x k (pos 0) ≤ℤ slice_index_or y k (pos 0)
 
 -- how far columns can come nearer where the force falls by `drop`: `count` springs alone hold neighbors apart, `natural` is the sum of
 -- their natural lengths, and each counts as whole u
@@ -58,8 +57,7 @@ pub record IsPlacedTo (j : ℕ) (reach : ℕ → ℕ → Option Reach) (gaps : L
 
 -- front has for each lane the greatest abscissa plus right reach of the first j columns in it, or a number below 0 where none stands in it
 pub record IsFront (j : ℕ) (reach : ℕ → ℕ → Option Reach) (lanes : ℕ) (x front : List ℤ) : Type 0 where
-  pub covers : (lane k : ℕ) (r : Reach) → lane < lanes → k < j → reach k lane ≡ Some r
-      → (slice_index_or x k (pos 0) +ℤ pos r.right) ≤ℤ slice_index_or front lane (pos 0)
+  pub covers : (lane k : ℕ) (r : Reach) → lane < lanes → k < j → reach k lane ≡ Some r → (slice_index_or x k (pos 0) +ℤ pos r.right) ≤ℤ slice_index_or front lane (pos 0)
   pub stands : (lane : ℕ) → lane < lanes → pos 0 ≤ℤ slice_index_or front lane (pos 0)
       → (k : ℕ) × (r : Reach) × (k < j) × (reach k lane ≡ Some r) × (slice_index_or front lane (pos 0) ≡ (slice_index_or x k (pos 0) +ℤ pos r.right))
   pub small : (lane : ℕ) → lane < lanes → slice_index_or front lane (pos 0) ≤ℤ pos (2 ^ 61)

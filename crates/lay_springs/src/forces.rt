@@ -1,8 +1,8 @@
 ghost use Rattle.std.specs.Prelude.{◌≡◌, ◌+◌, ◌^◌, ◌<◌, ◌≤◌, ℕ, ℤ, pos, ◌≤ℤ◌, IfSome, IfNone, length, slice_index, slice_index_or};
 ghost use Rattle.lay_springs.specs.{Fit.{IsEndOf, Fits, CanStand, LongerFitsLess, Passes, most_columns}, Place.{reach_at, length_at, HasPlaced}};
 
-use crate::guesses::{highest, lowered};
-use crate::least::{larger, settle};
+use crate::guesses::{highest, lowered, too_long};
+use crate::least::{larger, place_to, settle};
 use crate::progress::Progress;
 use crate::traits::{Spaced, Spring};
 
@@ -13,9 +13,10 @@ pub(crate) fn end_of<C: Spaced>(col: &C, lanes: usize, at: i64) -> i64
     requires small { at ≤ℤ pos (2 ^ 60) }
     ensures { IsEndOf (C.reach_of col.now) lanes at result }
 {
+    let stands = col.stands();
     let mut end = at;
     for lane in 0..lanes {
-        let Some(r) = col.reach(lane as u32) else {
+        let Some(r) = stands.at(lane) else {
             continue;
         };
         end = larger(end, at + i64::from(r.right));
@@ -64,10 +65,23 @@ pub fn most_columns(width: u32) -> usize
     width as usize / 100 + 1
 }
 
+/// How many columns there are up to the first from which a spring leads.
+fn head_of<C: Spring>(cols: &[C]) -> usize
+    ensures { result ≤ length cols.now }
+{
+    for j in 0..cols.len() {
+        if 0 < cols[j].length(256) {
+            return j + 1;
+        }
+    }
+    cols.len()
+}
+
 /// The greatest force of 0 to `most` at which the columns end within the width, in u.
 /// None exactly where their end at force 0 passes it. It tries the highest force that is left, as far
-/// as at most 13 forces in all leave it the choice. Where the columns end past the width, the springs
-/// that alone hold neighbors apart tell how far the force has to fall at least.
+/// as at most 15 forces in all leave it the choice. Where no column is placed, those of the head are,
+/// and it begins where the springs behind them leave the width; where the columns end past it, the
+/// springs that alone hold neighbors apart tell how far the force has to fall at least.
 ///
 /// `at` has a place for each column and `front` one for each lane. A search for columns that
 /// continue others goes on from where `placed` tells that those stand, if it begins at their force.
@@ -97,8 +111,14 @@ pub fn fit_within<C: Spaced + Spring>(
     ensures none { IfNone result (Passes (length cols.now) (reach_at C.reach_of cols.now) gaps.now (length_at C.length_of cols.now) width 0) }
 {
     let mut low = 0;
-    let mut high = most + 1;
-    let mut half = 2049;
+    let mut high = if 0 < placed.count {
+        most + 1
+    } else {
+        let head = head_of(cols);
+        *placed = place_to(cols, gaps, most, at, front, *placed, head);
+        too_long(cols, width, at, *placed)
+    };
+    let mut half = 8196;
     while low < high {
         let force = highest(low, high, half);
         half = half.div_ceil(2);

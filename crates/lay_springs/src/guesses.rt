@@ -1,7 +1,8 @@
-ghost use Rattle.std.specs.Prelude.{◌≡◌, ◌+◌, ◌*◌, ◌<◌, ◌≤◌, ◌^◌, ℕ};
-ghost use Rattle.lay_springs.specs.Place.{slack};
+ghost use Rattle.std.specs.Prelude.{◌≡◌, ◌+◌, ◌-◌, ◌*◌, ◌<◌, ◌≤◌, ◌^◌, ℕ, ℤ, List, pos, ◌+ℤ◌, ◌≤ℤ◌, length, slice_index_or};
+ghost use Rattle.lay_springs.specs.{Fit.CanStand, Place.{reach_at, length_at, slack, IsNear, StandApart}};
 
-use crate::progress::Tight;
+use crate::progress::{Progress, Tight};
+use crate::traits::{Spaced, Spring};
 
 /// A force from which on none but `force` itself lets columns end within a width that they pass
 /// by `over` at `force`; 0 only where that is 0.
@@ -23,7 +24,7 @@ pub(crate) fn lowered(force: u16, over: u64, tight: Tight) -> u16
 pub(crate) fn highest(low: u16, high: u16, half: u16) -> u16
     requires some { low < high }
     requires within { high ≤ 2049 }
-    requires short { half ≤ 2049 }
+    requires short { half ≤ 8196 }
     requires few { high < low + 2 * half }
     ensures low { low ≤ result }
     ensures high { result < high }
@@ -31,4 +32,68 @@ pub(crate) fn highest(low: u16, high: u16, half: u16) -> u16
     ensures below { result < low + half }
 {
     (high - 1).min(low + half - 1)
+}
+
+/// Where the last column stands if springs alone hold those behind the placed ones, and the springs
+/// that hold it there.
+struct Stretch {
+    end: i64,
+    springs: Tight,
+}
+
+/// Behind the columns that are placed springs alone. However the columns stand apart at that force,
+/// the last stands no nearer.
+fn stretched<C: Spaced + Spring>(cols: &[C], at: &[i64], placed: Progress) -> Stretch
+    requires few { length cols.now ≤ 2 ^ 26 }
+    requires room { length cols.now ≤ length at.now }
+    requires some { 0 < placed.count }
+    requires within { placed.count ≤ length cols.now }
+    requires tight { (placed.tight.natural ≤ 4096 * placed.count) × (placed.tight.count ≤ placed.count) }
+    requires begins { pos 0 ≤ℤ slice_index_or at.now (placed.count - 1) (pos 0) }
+    requires small { slice_index_or at.now (placed.count - 1) (pos 0) ≤ℤ pos (1048576 + 3145728 * (placed.count - 1)) }
+    requires force { placed.force ≤ 2048 }
+    ensures few { result.springs.count ≤ 2 ^ 26 }
+    ensures natural { result.springs.natural ≤ 2 ^ 38 }
+    ensures small { (pos 0 ≤ℤ result.end) × (result.end ≤ℤ pos (2 ^ 48)) }
+    ensures near { (gaps : List ℕ) → IsNear placed.count (reach_at C.reach_of cols.now) gaps (length_at C.length_of cols.now) placed.force placed.tight.natural placed.tight.count at.now
+        → (g drop : ℕ) (y : List ℤ) → g + drop ≡ placed.force → StandApart (length cols.now) (reach_at C.reach_of cols.now) gaps (length_at C.length_of cols.now g) y
+        → result.end ≤ℤ (slice_index_or y (length cols.now - 1) (pos 0) +ℤ pos (slack result.springs.natural result.springs.count drop)) }
+{
+    let mut end = at[placed.count - 1];
+    let mut springs = placed.tight;
+    for j in placed.count - 1..cols.len() - 1 {
+        end += i64::from(cols[j].length(placed.force));
+        springs.natural += u64::from(cols[j].length(256));
+        springs.count += 1;
+    }
+    Stretch { end, springs }
+}
+
+/// A force from which on, up to that of the placed columns, those and the springs behind them pass
+/// the width; one more where they don't. It is at least 1.
+pub(crate) fn too_long<C: Spaced + Spring>(
+    cols: &[C],
+    width: u32,
+    at: &[i64],
+    placed: Progress,
+) -> u16
+    requires few { length cols.now ≤ 2 ^ 26 }
+    requires room { length cols.now ≤ length at.now }
+    requires some { 0 < placed.count }
+    requires within { placed.count ≤ length cols.now }
+    requires tight { (placed.tight.natural ≤ 4096 * placed.count) × (placed.tight.count ≤ placed.count) }
+    requires begins { pos 0 ≤ℤ slice_index_or at.now (placed.count - 1) (pos 0) }
+    requires small { slice_index_or at.now (placed.count - 1) (pos 0) ≤ℤ pos (1048576 + 3145728 * (placed.count - 1)) }
+    requires force { placed.force ≤ 2048 }
+    ensures some { 0 < result }
+    ensures bound { result ≤ placed.force + 1 }
+    ensures never { (gaps : List ℕ) → IsNear placed.count (reach_at C.reach_of cols.now) gaps (length_at C.length_of cols.now) placed.force placed.tight.natural placed.tight.count at.now
+        → (f : ℕ) → result ≤ f → f ≤ placed.force → CanStand (length cols.now) (reach_at C.reach_of cols.now) gaps (length_at C.length_of cols.now) width f → ⊥ }
+{
+    let Stretch { end, springs } = stretched(cols, at, placed);
+    let width = i64::from(width);
+    if end <= width {
+        return placed.force + 1;
+    }
+    lowered(placed.force, (end - width) as u64, springs).max(1)
 }

@@ -1,8 +1,9 @@
 ghost use Rattle.std.specs.Prelude.{◌≡◌, ◌+◌, ◌*◌, ◌≢◌, ◌⊎◌, ◌^◌, ◌<◌, ◌≤◌, ℕ, ℤ, pos, negsuc, ◌+ℤ◌, ◌≤ℤ◌, IfOk, length, take, slice_index, slice_index_or, slice_set};
+ghost use Rattle.lay_springs.specs.Stands.{reach_in};
 ghost use Rattle.lay_springs.specs.Place.{reach_at, length_at, IsPlace, IsPlacedTo, IsNear, IsFront, HasPlaced, IsPast, Advances, IsInside};
 
 use crate::progress::{Progress, Tight};
-use crate::traits::{Reach, Spaced, Spring, Stand};
+use crate::traits::{Reach, Spaced, Spring, Stand, Stands, reach_in};
 use mus_units::{Memory, Row};
 use std::alloc::Global;
 
@@ -31,18 +32,18 @@ fn past_end(end: i64, room: u32, from: i64) -> i64
 }
 
 /// The least abscissa that isn't below `from` and is past what stands before it in each lane.
-fn past_each<C: Spaced>(col: &C, gaps: &[u32], front: &[i64], from: i64) -> i64
+fn past_each(row: &[Option<Reach>], gaps: &[u32], front: &[i64], from: i64) -> i64
     requires lanes { length gaps.now < 2 ^ 32 }
     requires narrow { (lane : ℕ) → lane < length gaps.now → slice_index gaps.now lane ≤ 2 ^ 20 }
     requires room { length front.now ≡ length gaps.now }
     requires small { (lane : ℕ) → lane < length gaps.now → slice_index_or front.now lane (pos 0) ≤ℤ pos (2 ^ 61) }
     ensures kept { from ≤ℤ result }
-    ensures clear { IsPast (C.reach_of col.now) gaps.now (length gaps.now) front.now result }
-    ensures least { (v : ℤ) → from ≤ℤ v → IsPast (C.reach_of col.now) gaps.now (length gaps.now) front.now v → result ≤ℤ v }
+    ensures clear { IsPast (reach_in row.now) gaps.now (length gaps.now) front.now result }
+    ensures least { (v : ℤ) → from ≤ℤ v → IsPast (reach_in row.now) gaps.now (length gaps.now) front.now v → result ≤ℤ v }
 {
     let mut next = from;
     for lane in 0..gaps.len() {
-        let Some(s) = col.reach(lane as u32) else {
+        let Some(s) = reach_in(row, lane) else {
             continue;
         };
         next = past_end(front[lane], gaps[lane] + s.left, next);
@@ -51,31 +52,15 @@ fn past_each<C: Spaced>(col: &C, gaps: &[u32], front: &[i64], from: i64) -> i64
 }
 
 /// Takes note of a column at `at`.
-fn advance_each<C: Spaced>(col: &C, at: i64, front: &mut [i64])
+fn advance_each(row: &[Option<Reach>], at: i64, front: &mut [i64])
     requires lanes { length front.old < 2 ^ 32 }
     requires begins { pos 0 ≤ℤ at }
     requires small { at ≤ℤ pos (2 ^ 62) }
     ensures { (lane : ℕ) → lane < length front.old
-        → Advances (C.reach_of col.now lane) at (slice_index_or front.old lane (pos 0)) (slice_index_or front.new lane (pos 0)) }
+        → Advances (reach_in row.now lane) at (slice_index_or front.old lane (pos 0)) (slice_index_or front.new lane (pos 0)) }
 {
     for lane in 0..front.len() {
-        front[lane] = advanced(col.reach(lane as u32), at, front[lane]);
-    }
-}
-
-/// Takes note of a column at `at`, in the one lane in which it stands, or in each.
-fn advance<C: Spaced>(col: &C, at: i64, front: &mut [i64])
-    requires lanes { length front.old < 2 ^ 32 }
-    requires begins { pos 0 ≤ℤ at }
-    requires small { at ≤ℤ pos (2 ^ 62) }
-    ensures { (lane : ℕ) → lane < length front.old
-        → Advances (C.reach_of col.now lane) at (slice_index_or front.old lane (pos 0)) (slice_index_or front.new lane (pos 0)) }
-{
-    match col.lone() {
-        Some(Stand { lane, reach }) if (lane as usize) < front.len() => {
-            front[lane as usize] = advanced(Some(reach), at, front[lane as usize]);
-        }
-        _ => advance_each(col, at, front),
+        front[lane] = advanced(reach_in(row, lane), at, front[lane]);
     }
 }
 
@@ -109,17 +94,36 @@ fn set_past<C: Spaced>(col: &C, gaps: &[u32], from: i64, front: &mut [i64]) -> i
     ensures noted { (lane : ℕ) → lane < length front.old
         → Advances (C.reach_of col.now lane) result (slice_index_or front.old lane (pos 0)) (slice_index_or front.new lane (pos 0)) }
 {
-    let Some(Stand { lane, reach }) = col.lone() else {
-        let at = past_each(col, gaps, front, from);
-        advance_each(col, at, front);
-        return at;
+    let stand = match col.stands() {
+        Stands::Lone(stand) => stand,
+        Stands::Each(row) => return set_past_each(row, gaps, from, front),
     };
-    let lane = lane as usize;
+    let lane = stand.lane as usize;
     if lane >= gaps.len() {
         return from;
     }
-    let at = past_end(front[lane], gaps[lane] + reach.left, from);
-    front[lane] = at + i64::from(reach.right);
+    let at = past_end(front[lane], gaps[lane] + stand.reach.left, from);
+    front[lane] = at + i64::from(stand.reach.right);
+    at
+}
+
+/// As `set_past`, for a column that stands as a row has it.
+#[inline(never)]
+fn set_past_each(row: &[Option<Reach>], gaps: &[u32], from: i64, front: &mut [i64]) -> i64
+    requires lanes { length gaps.now < 2 ^ 32 }
+    requires narrow { (lane : ℕ) → lane < length gaps.now → slice_index gaps.now lane ≤ 2 ^ 20 }
+    requires room { length front.old ≡ length gaps.now }
+    requires small { (lane : ℕ) → lane < length gaps.now → slice_index_or front.old lane (pos 0) ≤ℤ pos (2 ^ 61) }
+    requires begins { pos 0 ≤ℤ from }
+    requires near { from ≤ℤ pos (2 ^ 60) }
+    ensures kept { from ≤ℤ result }
+    ensures clear { IsPast (reach_in row.now) gaps.now (length gaps.now) front.old result }
+    ensures least { (v : ℤ) → from ≤ℤ v → IsPast (reach_in row.now) gaps.now (length gaps.now) front.old v → result ≤ℤ v }
+    ensures noted { (lane : ℕ) → lane < length front.old
+        → Advances (reach_in row.now lane) result (slice_index_or front.old lane (pos 0)) (slice_index_or front.new lane (pos 0)) }
+{
+    let at = past_each(row, gaps, front, from);
+    advance_each(row, at, front);
     at
 }
 
@@ -130,16 +134,17 @@ fn first_of<C: Spaced>(col: &C, lanes: usize) -> i64
     ensures inside { IsInside (C.reach_of col.now) lanes result }
     ensures least { (v : ℤ) → pos 0 ≤ℤ v → IsInside (C.reach_of col.now) lanes v → result ≤ℤ v }
 {
-    if let Some(Stand { lane, reach }) = col.lone() {
-        return if (lane as usize) < lanes {
-            i64::from(reach.left)
+    let stands = col.stands();
+    if let Stands::Lone(stand) = stands {
+        return if (stand.lane as usize) < lanes {
+            i64::from(stand.reach.left)
         } else {
             0
         };
     }
     let mut first = 0;
     for lane in 0..lanes {
-        let Some(s) = col.reach(lane as u32) else {
+        let Some(s) = stands.at(lane) else {
             continue;
         };
         first = larger(first, i64::from(s.left));
@@ -158,8 +163,44 @@ fn after(before: i64, spring: u32) -> i64
     larger(before + 100, before + i64::from(spring))
 }
 
-/// Places all columns in one pass, which keeps for each lane what stands furthest right in it. It goes
-/// on from those that are placed at this force.
+/// Places so many columns in one pass, which keeps for each lane what stands furthest right in it. It
+/// goes on from those that are placed at this force.
+pub(crate) fn place_to<C: Spaced + Spring>(
+    cols: &[C],
+    gaps: &[u32],
+    force: u16,
+    at: &mut [i64],
+    front: &mut [i64],
+    placed: Progress,
+    count: usize,
+) -> Progress
+    requires some { 0 < length cols.now }
+    requires few { length cols.now ≤ 2 ^ 26 }
+    requires lanes { length gaps.now < 2 ^ 32 }
+    requires narrow { (lane : ℕ) → lane < length gaps.now → slice_index gaps.now lane ≤ 2 ^ 20 }
+    requires room { length cols.now ≤ length at.old }
+    requires one_each { length front.old ≡ length gaps.now }
+    requires placed { HasPlaced (length cols.now) (reach_at C.reach_of cols.now) gaps.now (length_at C.length_of cols.now) placed at.old front.old }
+    requires within { count ≤ length cols.now }
+    ensures force { result.force ≡ force }
+    ensures some { 0 < result.count }
+    ensures count { count ≤ result.count }
+    ensures placed { HasPlaced (length cols.now) (reach_at C.reach_of cols.now) gaps.now (length_at C.length_of cols.now) result at.new front.new }
+{
+    let begun = begun(cols, gaps, force, at, front, placed);
+    let count = begun.count.max(count);
+    let mut tight = begun.tight;
+    for j in begun.count..count {
+        tight = place_next(cols, gaps, force, at, front, j, tight);
+    }
+    Progress {
+        force,
+        count,
+        tight,
+    }
+}
+
+/// Places all columns, as `place_to` does.
 pub(crate) fn settle<C: Spaced + Spring>(
     cols: &[C],
     gaps: &[u32],
@@ -183,16 +224,7 @@ pub(crate) fn settle<C: Spaced + Spring>(
     ensures small { (k : ℕ) → k < length cols.now
         → (pos 0 ≤ℤ slice_index_or at.new k (pos 0)) × (slice_index_or at.new k (pos 0) ≤ℤ pos (2 ^ 48)) }
 {
-    let begun = begun(cols, gaps, force, at, front, placed);
-    let mut tight = begun.tight;
-    for j in begun.count..cols.len() {
-        tight = place_next(cols, gaps, force, at, front, j, tight);
-    }
-    Progress {
-        force,
-        count: cols.len(),
-        tight,
-    }
+    place_to(cols, gaps, force, at, front, placed, cols.len())
 }
 
 /// The columns that are placed at this force; where none is, the first is placed.
@@ -216,10 +248,9 @@ fn begun<C: Spaced + Spring>(
     if 0 < placed.count && placed.force == force {
         return placed;
     }
-    empty_fronts(front);
     let first = first_of(&cols[0], gaps.len());
     at[0] = first;
-    advance(&cols[0], first, front);
+    begin_fronts(&cols[0], first, front);
     Progress {
         force,
         count: 1,
@@ -282,12 +313,16 @@ fn tightened(tight: Tight, before: i64, spring: u32, natural: u32, next: i64) ->
     }
 }
 
-/// No column stands in any lane.
-fn empty_fronts(front: &mut [i64])
-    ensures { (lane : ℕ) → lane < length front.old → slice_index_or front.new lane (pos 0) ≡ negsuc 0 }
+/// A column at `at` stands alone.
+fn begin_fronts<C: Spaced>(col: &C, at: i64, front: &mut [i64])
+    requires lanes { length front.old < 2 ^ 32 }
+    requires begins { pos 0 ≤ℤ at }
+    requires small { at ≤ℤ pos (2 ^ 62) }
+    ensures { (lane : ℕ) → lane < length front.old → Advances (C.reach_of col.now lane) at (negsuc 0) (slice_index_or front.new lane (pos 0)) }
 {
-    for f in front.iter_mut() {
-        *f = -1;
+    let stands = col.stands();
+    for lane in 0..front.len() {
+        front[lane] = advanced(stands.at(lane), at, -1);
     }
 }
 

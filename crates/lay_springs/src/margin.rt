@@ -7,8 +7,7 @@ use crate::progress::Progress;
 use crate::traits::{Spaced, Spring};
 use mus_units::Row;
 
-/// Where columns stand, in u, and the force that counts. A ragged system ends where
-/// its force leaves it.
+/// Where columns stand, in u, and the force that counts. A ragged system ends where its force leaves it.
 #[derive(Drop)]
 pub struct Placed {
     pub force: u16,

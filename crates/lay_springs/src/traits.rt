@@ -1,4 +1,8 @@
 ghost use Rattle.std.specs.Prelude.{◌≡◌, ◌*◌, ◌/◌, ◌^◌, ◌<◌, ◌≤◌, ℕ, Option, IfSome};
+ghost use Rattle.lay_springs.specs.Stands.{cut_reach, reach_in, stands_at};
+
+/// What reaches of rows are counted to.
+pub const MOST_REACH: u32 = 1 << 20;
 
 /// How far a column reaches to the left and to the right of its abscissa in a lane, in u.
 #[derive(Clone, Copy, PartialEq, Eq)]
@@ -14,21 +18,55 @@ pub struct Stand {
     pub reach: Reach,
 }
 
+/// Where a column stands: in one lane alone, or as a row has it, None where it doesn't stand in a
+/// lane; it stands in none past the row. A reach of a row is counted to at most 2^20.
+#[derive(Clone, Copy)]
+pub enum Stands<'a> {
+    Lone(Stand),
+    Each(&'a [Option<Reach>]),
+}
+
+/// A reach, counted to at most 2^20.
+pub fn cut_reach(reach: Reach) -> Reach
+    ensures { result ≡ cut_reach reach }
+{
+    Reach {
+        left: reach.left.min(MOST_REACH),
+        right: reach.right.min(MOST_REACH),
+    }
+}
+
+/// The reach that a row has in a lane, None past its last.
+#[tactic(auto, unfolding(crate::specs::Stands::reach_in))]
+pub fn reach_in(row: &[Option<Reach>], lane: usize) -> Option<Reach>
+    ensures { result ≡ reach_in row.now lane }
+{
+    Some(cut_reach((*row.get(lane)?)?))
+}
+
+impl<'a> Stands<'a> {
+    /// The reach in a lane; None exactly where the column doesn't stand in it.
+    pub(crate) fn at(&self, lane: usize) -> Option<Reach>
+        ensures { result ≡ stands_at self.now lane }
+    {
+        match self {
+            Stands::Lone(stand) if stand.lane as usize == lane => Some(stand.reach),
+            Stands::Lone(_) => None,
+            Stands::Each(row) => reach_in(row, lane),
+        }
+    }
+}
+
 /// A column that is kept apart from others by rods, lane by lane.
 pub trait Spaced {
-    ghost use Rattle.lay_springs.specs.{declared.traits.Reach.Reach, Stands.IsLone};
+    ghost use Rattle.lay_springs.specs.{declared.traits.Reach.Reach, Stands.TellsReach};
 
     // the reach in a lane, where the column stands in it
     ghost reach_of: { Self → ℕ → Option Reach };
 
-    /// The reach in a lane; None exactly where the column doesn't stand in it. Takes no memory.
-    fn reach(&self, lane: u32) -> Option<Reach>
-        ensures { result ≡ reach_of self.now lane };
-
-    /// The one lane in which the column stands, where it is known to stand in one alone. Takes no
-    /// memory.
-    fn lone(&self) -> Option<Stand>
-        ensures { IfSome result (IsLone (reach_of self.now)) };
+    /// Where the column stands. Takes no memory.
+    fn stands(&self) -> Stands<'_>
+        ensures { TellsReach result (reach_of self.now) };
 
     // no reach passes 2^20
     ghost is_near: { (c : Self) (lane : ℕ) → lane < 2 ^ 32 → IfSome (reach_of c lane) (λ r. (r.left ≤ 2 ^ 20) × (r.right ≤ 2 ^ 20)) };

@@ -5,8 +5,7 @@ use Rattle.lay_spans.{specs.Forced.is_forced, proofs.breaks.break_of.Goals.After
 use Rattle.lay_spans.proofs.breaks.break_of.Goals as goal
 
 -- what holds of the rows and the marks holds of the list and the forced bars
-over_list : (c : After-least) (P : (ℕ → ℕ → Option ℕ) → (ℕ → Bool) → Type 0)
-    → P (λ a b. cost_in c.args.spans.now.rows.rows a b) (λ b. slice_index_or c.in-Ok.marks b false)
+over_list : (c : After-least) (P : (ℕ → ℕ → Option ℕ) → (ℕ → Bool) → Type 0) → P (λ a b. cost_in c.args.spans.now.rows.rows a b) (λ b. slice_index_or c.in-Ok.marks b false)
     → P (listed c.args.spans.now.list) (is_forced c.args.n c.args.forced.now)
 over_list c P h =
     subst (λ cost. P cost (is_forced c.args.n c.args.forced.now)) (fun_ext (λ a. fun_ext (λ b. c.args.spans.now.same a b)))

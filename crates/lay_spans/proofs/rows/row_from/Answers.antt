@@ -93,8 +93,8 @@ loop-m-init g c =
     let none : span_columns c.args.starts.now c.args.others.now c.args.a c.args.a ≡ [] = ap (λ k. flat_map (λ measure. measure) (take k (measures_from c.args.starts.now c.args.others.now c.args.a))) e in
     record {
       columns = ap (λ seen. map (λ s. s.column.now) seen) c.in_ok-seen.ensures ∙ sym none;
-      count = let row = ap (λ row. length row) c.new-row.ensures in omega arith;
-      each = λ k l. let row = ap (λ row. length row) c.new-row.ensures in absurd (omega arith);
+      count = let row = ap (λ row. length row) c.in_ok-row.ensures in omega arith;
+      each = λ k l. let row = ap (λ row. length row) c.in_ok-row.ensures in absurd (omega arith);
       free = λ f l k is. absurd (omega arith);
       most = omega arith;
       room = ap (λ at. length at) c.in_ok-at.ensures.items ∙ sym (ap (λ cs. length cs) none);

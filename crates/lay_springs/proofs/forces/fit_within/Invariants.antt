@@ -7,7 +7,7 @@ invariant-loop-low g l = record {
   between : l.low ≤ l.high;
   within : l.high ≤ l.most + 1;
   few : l.high < l.low + 2 * l.half;
-  short : l.half ≤ 2049;
+  short : l.half ≤ 8196;
   room : length l.cols ≤ length l.at;
   one_each : length l.front ≡ length l.gaps;
   placed : HasPlaced (length l.cols) (reach_at g.C.Spaced.reach_of l.cols) l.gaps (length_at g.C.Spring.length_of l.cols) l.placed l.at l.front;

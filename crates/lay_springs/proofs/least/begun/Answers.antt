@@ -1,4 +1,4 @@
-use Rattle.std.{proofs.{Common.{◌≡◌, ap, subst, sym, pos, ◌≤ℤ◌, length, Some, slice_get, slice_set, arith, refl, to_z, of_z, w64, get_or-set_same}, lemmas.{Int.{ints, to_z-of_z}, Option.slice_get_read}}, specs.Prelude.FitsSigned}
+use Rattle.std.{proofs.{Common.{◌≡◌, ap, subst, sym, pos, ◌≤ℤ◌, length, Some, slice_get, slice_set, arith, refl, to_z, of_z, w64, get_or-set_same, negsuc, replicate}, lemmas.{Int.{ints, to_z-of_z}, List.get_or-replicate, Option.slice_get_read}}, specs.Prelude.FitsSigned}
 use Rattle.lay_springs.{specs.Place.{reach_at, IsInside}, proofs.{Placing.{placed_first, near_at, reach_is}, Clear.inside_bound, Fronts.{front_more, front_start}, least.begun.Goals.After-first_of-first}}
 use Rattle.lay_springs.proofs.least.begun.Goals as goal
 
@@ -25,13 +25,13 @@ returns-clause-placed g c = record {
       let fits : FitsSigned w64 c.first_of-first.result = record { sfits = c.first_of-first.type_inv } in
       let same : to_z w64 (of_z w64 c.first_of-first.result) ≡ c.first_of-first.result = to_z-of_z w64 c.first_of-first.result fits in
       let top = bound g (goal.at.returns-clause-placed g c).After-first_of-first in
-      let moves = rw same at c.advance.ensures in
+      let moves = rw same at c.begin_fronts.ensures in
       rw same (front_more (reach_at g.C.Spaced.reach_of c.args.cols.now) (length c.args.gaps.now) 0 c.first_of-first.result
-      c.args.at.now (slice_set c.args.at.now 0 c.first_of-first.result) c.empty_fronts.new.front c.advance.new.front
+      c.args.at.now (slice_set c.args.at.now 0 c.first_of-first.result) (replicate (length c.args.gaps.now) (negsuc 0)) c.begin_fronts.new.front
       (λ k l. absurd (omega arith))
       (get_or-set_same c.args.at.now 0 c.first_of-first.result (pos 0) (omega arith))
       (omega (arith, ints))
       (λ lane lt. near_at g.C.Spaced.reach_of c.args.cols.now _ lane (λ col. g.met.C.Spaced.is_near col lane (let l = c.requires.lanes in omega arith)) 0)
-      (λ lane lt. rw (ap (λ r. r lane) (reach_is g.C.Spaced.reach_of c.args.cols.now 0 c.index-cols-0-2.result col)) (moves lane (omega arith)))
-      (front_start _ _ _ _ (λ lane lt. c.empty_fronts.ensures lane (omega arith))));
+      (λ lane lt. rw (ap (λ r. r lane) (reach_is g.C.Spaced.reach_of c.args.cols.now 0 c.index-cols-0-2.result col), get_or-replicate (length c.args.gaps.now) lane (negsuc 0) (pos 0) lt) (moves lane (omega arith)))
+      (front_start _ _ _ _ (λ lane lt. get_or-replicate (length c.args.gaps.now) lane (negsuc 0) (pos 0) lt)));
 }

@@ -1,10 +1,10 @@
-use Rattle.std.proofs.{Common.◌≡◌, Common.Some, Common.arith, Common.sym, Common.◌∙◌, lemmas.Int.ints}
-use Rattle.lay_springs.proofs.Clear.{inside_more}
+use Rattle.std.proofs.{Common.◌≡◌, Common.Some, Common.arith, Common.subst, Common.sym, Common.◌∙◌, Common.w64, lemmas.Int.{ints, to_z-of_z}}
+use Rattle.lay_springs.{specs.Stands.TellsReach, proofs.{Clear.inside_more, Fronts.lone_told}}
 use Rattle.lay_springs.proofs.least.first_of.Goals as goal
 
 pub loop-lane-preserved : goal.loop-lane-preserved
 loop-lane-preserved g c =
-    let here : g.C.Spaced.reach_of c.args.col.now c.loop-lane.lane ≡ Some c.in-Some-reach.s = sym c.reach.ensures ∙ c.in-Some-reach.is in
+    let here : g.C.Spaced.reach_of c.args.col.now c.loop-lane.lane ≡ Some c.in-Some.s = sym (c.stands-stands.ensures c.loop-lane.lane (omega arith)) ∙ sym c.at.ensures ∙ c.in-Some.is in
     let i = c.loop-lane.invariant in
     let e = c.larger-first.ensures in
     record {
@@ -16,3 +16,9 @@ loop-lane-preserved g c =
           let l = e.least v (omega (arith, ints)) (omega (arith, ints)) in
           omega (arith, ints);
     }
+
+pub returns-then-stand-lanes-clause-least : goal.returns-then-stand-lanes-clause-least
+returns-then-stand-lanes-clause-least g c = λ v begins inside.
+    let lone = lone_told c.in-Lone.stand (g.C.Spaced.reach_of c.args.col.now) (subst (λ s. TellsReach s (g.C.Spaced.reach_of c.args.col.now)) c.in-Lone.is c.stands-stands.ensures) (omega arith) in
+    let left = inside c.in-Lone.stand.lane c.in-Lone.stand.reach c.if-stand-lanes.true lone.here in
+    rw (to_z-of_z w64 c.from.result (record { sfits = c.from.type_inv }), c.from.ensures) left

@@ -25,8 +25,7 @@ module _ (g : _) (c : After-set_past-next g) where
   spring_is : length_at g.C.Spring.length_of c.args.cols.now c.args.force (c.args.j - 1) ≡ c.length-spring.result
   spring_is =
       length_is g.C.Spring.length_of c.args.cols.now c.args.force (c.args.j - 1) c.index-cols-j-2.result
-      (slice_get_read c.args.cols.now (length c.args.cols.now) (c.args.j - 1) c.index-cols-j-2.result refl (omega arith) c.index-cols-j-2.is)
-      ∙ sym c.length-spring.ensures
+      (slice_get_read c.args.cols.now (length c.args.cols.now) (c.args.j - 1) c.index-cols-j-2.result refl (omega arith) c.index-cols-j-2.is) ∙ sym c.length-spring.ensures
 
   col_is : reach_at g.C.Spaced.reach_of c.args.cols.now c.args.j ≡ g.C.Spaced.reach_of c.index-cols-j-3.result
   col_is = reach_is g.C.Spaced.reach_of c.args.cols.now c.args.j c.index-cols-j-3.result

@@ -1,11 +1,18 @@
-use Rattle.std.{proofs.{Common.{◌≡◌, ◌∙◌, pos, ◌+ℤ◌, to_z, of_z, w64, arith}, lemmas.Int.{ints, to_z-of_z}}}
-use Rattle.lay_springs.proofs.{Fronts.lone_noted, least.set_past.Goals.After-from}
+use Rattle.std.{proofs.{Common.{◌≡◌, ◌<◌, ◌∙◌, subst, pos, ◌+ℤ◌, to_z, of_z, w64, arith}, lemmas.Int.{ints, to_z-of_z}}}
+use Rattle.lay_springs.specs.Stands.{IsLone, TellsReach}
+use Rattle.lay_springs.proofs.{Fronts.{lone_noted, lone_told}, least.set_past.Goals.After-from}
 use Rattle.lay_springs.proofs.least.set_past.Goals as goal
+
+inside : (g : _) (c : After-from g) → c.in-Lone.stand.lane < 4294967296
+inside g c = omega (arith, c.if-lane-gaps.false, c.requires.lanes)
+
+lone : (g : _) (c : After-from g) → IsLone (g.C.Spaced.reach_of c.args.col.now) c.in-Lone.stand
+lone g c = lone_told c.in-Lone.stand (g.C.Spaced.reach_of c.args.col.now) (subst (λ s. TellsReach s (g.C.Spaced.reach_of c.args.col.now)) c.in-Lone.is c.stands.ensures) (inside g c)
 
 pub overflow_add-front : goal.overflow_add-front
 overflow_add-front g c =
-    let high = c.requires.small c.in-Some.field-0.lane c.if-lane-gaps.false in
-    let gap = c.requires.narrow c.in-Some.field-0.lane c.if-lane-gaps.false in
+    let high = c.requires.small c.in-Lone.stand.lane c.if-lane-gaps.false in
+    let gap = c.requires.narrow c.in-Lone.stand.lane c.if-lane-gaps.false in
     let near = c.requires.near.le in
     let top = c.past_end-at.ensures.least (pos 4611686018427387904) (omega (arith, ints)) (λ some. omega (arith, ints)) in
     omega (arith, ints)
@@ -13,10 +20,28 @@ overflow_add-front g c =
 pub returns-clause-noted : goal.returns-clause-noted
 returns-clause-noted g c =
     let at = c.past_end-at.result in
-    let stand = c.in-Some.field-0 in
+    let stand = c.in-Lone.stand in
     let same : to_z w64 (of_z w64 at) ≡ at = to_z-of_z w64 at (record { sfits = c.past_end-at.type_inv }) in
     let right : to_z w64 (of_z w64 c.from.result) ≡ pos stand.reach.right = to_z-of_z w64 c.from.result (record { sfits = c.from.type_inv }) ∙ c.from.ensures in
     let fits = rw (same, right) at (overflow_add-front g (goal.at.returns-clause-noted g c).After-from) in
     rw (same, right, to_z-of_z w64 (at +ℤ pos stand.reach.right) fits)
-    (lone_noted (g.C.Spaced.reach_of c.args.col.now) stand c.args.front.now at c.in-Some.ensures (omega (arith, c.requires.room, c.requires.lanes)) (omega (arith, c.requires.room, c.if-lane-gaps.false))
+    (lone_noted (g.C.Spaced.reach_of c.args.col.now) stand c.args.front.now at (lone g (goal.at.returns-clause-noted g c).After-from) (omega (arith, c.requires.room, c.requires.lanes)) (omega (arith, c.requires.room, c.if-lane-gaps.false))
     (let begins = c.requires.begins.le in let behind = c.past_end-at.ensures.behind (omega (arith, ints)) in omega (arith, ints)))
+
+pub overflow_add-gaps : goal.overflow_add-gaps
+overflow_add-gaps g c =
+    let few : c.in-Lone.stand.lane < 4294967296 = omega (arith, c.if-lane-gaps.false, c.requires.lanes) in
+    let lone = lone_told c.in-Lone.stand (g.C.Spaced.reach_of c.args.col.now) (subst (λ s. TellsReach s (g.C.Spaced.reach_of c.args.col.now)) c.in-Lone.is c.stands.ensures) few in
+    let near = rw lone.here at (g.met.C.Spaced.is_near c.args.col.now c.in-Lone.stand.lane few) in
+    let left = near.0 in
+    let gap = c.requires.narrow c.in-Lone.stand.lane c.if-lane-gaps.false in
+    omega arith
+
+pub returns-clause-least : goal.returns-clause-least
+returns-clause-least g c = λ v from past.
+    let s = (goal.at.returns-clause-least g c).After-from in
+    let same = to_z-of_z w64 c.past_end-at.result (record { sfits = c.past_end-at.type_inv }) in
+    let begins = c.requires.begins.le in
+    let near = c.requires.near.le in
+    let high = c.requires.small c.in-Lone.stand.lane c.if-lane-gaps.false in
+    rw same (c.past_end-at.ensures.least v (omega (arith, ints)) (λ some. let here = past c.in-Lone.stand.lane c.in-Lone.stand.reach c.if-lane-gaps.false (lone g s).here (omega (arith, ints)) in omega (arith, ints)))

@@ -1,6 +1,6 @@
 use Rattle.std.proofs.Common.{◌*◌, ◌<◌, ◌≤◌, length}
 use Rattle.lay_springs.specs.Place.{reach_at, length_at, IsPlacedTo, IsFront}
-use Rattle.lay_springs.proofs.least.settle.Given as goal
+use Rattle.lay_springs.proofs.least.place_to.Given as goal
 
 abbrev pub invariant-loop-j : goal.invariant-loop-j
 invariant-loop-j g l = record {
