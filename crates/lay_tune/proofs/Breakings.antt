@@ -53,8 +53,7 @@ module _ (s : Score) (width : ℕ) where
         let m = has_system s a b in
         (exact.fits a b m.0 rises.0 (omega (arith, l, within)) h.0.free m.1 (h.0.stands m.0 m.1), all_fit b bs rises.1 within h.1)
 
-    all_cost : (a : ℕ) (bs : List ℕ) → RisesFrom a bs → last_from a bs ≤ s.measures → FitsFrom (listed spans) a bs
-        → CostTogether s width a bs (sum_from (listed spans) a bs)
+    all_cost : (a : ℕ) (bs : List ℕ) → RisesFrom a bs → last_from a bs ≤ s.measures → FitsFrom (listed spans) a bs → CostTogether s width a bs (sum_from (listed spans) a bs)
     all_cost a [] rises within h = refl
     all_cost a (b ∷ bs) rises within h =
         let l = past_last b bs rises.1 in
@@ -94,7 +93,6 @@ module _ (s : Score) (width : ℕ) where
 
 -- the same where forced bars were read off the score
 pub least_read : (s : Score) (width : ℕ) (spans : List Span) (forced breaks : List ℕ) (total : ℕ) → forced ≡ s.forced → AreSpansOf s width spans
-    → IsChosen (listed spans) (is_forced s.measures forced) s.measures breaks → total ≡ sum_from (listed spans) 0 breaks
-    → IsLeastBreaking s width breaks total
+    → IsChosen (listed spans) (is_forced s.measures forced) s.measures breaks → total ≡ sum_from (listed spans) 0 breaks → IsLeastBreaking s width breaks total
 least_read s width spans forced breaks total all exact chosen is =
     least_of s width spans exact breaks total (subst (λ these. IsChosen (listed spans) (is_forced s.measures these) s.measures breaks) all chosen) is

@@ -9,8 +9,7 @@ use Rattle.lay_spans.{specs.Columns.EndsInAll, specs.Columns.measures_from, proo
 use Rattle.lay_tune.specs.{Measures.EachFurther, Measures.EachMeasure, Measures.IsMeasure, Spans.AreColumnsOf, Spans.system_columns, Spans.verses_of}
 
 -- columns that end with a bar end in each lane
-bar_ends : (verses : List ℕ) (columns : List Column) → EndWithBar columns → All (StandsWhereDue verses) columns
-    → EndsInAll column_reach (length (gaps_of verses)) columns
+bar_ends : (verses : List ℕ) (columns : List Column) → EndWithBar columns → All (StandsWhereDue verses) columns → EndsInAll column_reach (length (gaps_of verses)) columns
 bar_ends verses columns h stands =
     let all = subst (λ cs. All (StandsWhereDue verses) cs) h.parts stands in
     let n = length-append h.front (h.last ∷ []) in
@@ -90,8 +89,7 @@ further_part s others h a i k less within =
     subst (λ row. AreBehind s (i + j) row) (sym (get_or-take k (drop i others) j [] short ∙ get_or-drop i others j [])) (h.each (i + j) (omega arith)).called)
 
 pub columns_join : MeasuresJoin → (s : Score) (starts others : List (List Column)) → IsGoodScore s
-    → EachMeasure (λ m. IsMeasure s m m) s.measures starts → EachMeasure (λ m. IsMeasure s (m - 1) m) s.measures others
-    → AreColumnsOf s starts others
+    → EachMeasure (λ m. IsMeasure s m m) s.measures starts → EachMeasure (λ m. IsMeasure s (m - 1) m) s.measures others → AreColumnsOf s starts others
 columns_join law s starts others good firsts furthers = λ a b m less within call.
     let n = furthers.count in
     let d = length-drop (a + 1) others in

@@ -59,8 +59,7 @@ all_open P cost n h a (b ∷ bs) r f l =
 -- the spans of the columns of measures are those of the score
 pub spans_read : (s : Score) (width : ℕ) (starts others : List (List Column)) (spans : List Span) (gaps forced : List ℕ)
     → length starts ≡ s.measures → gaps ≡ score_gaps s → forced ≡ s.forced → AreColumnsOf s starts others
-    → IsSpanList column_reach column_length gaps width starts others (is_forced (length starts) forced) spans
-    → AreSpansOf s width spans
+    → IsSpanList column_reach column_length gaps width starts others (is_forced (length starts) forced) spans → AreSpansOf s width spans
 spans_read s width starts others spans gaps forced count is all join h =
     let these = subst (λ n. IsSpanList column_reach column_length (score_gaps s) width starts others (is_forced n s.forced) spans) count
     (subst (λ bars. IsSpanList column_reach column_length (score_gaps s) width starts others (is_forced (length starts) bars) spans) all
@@ -85,8 +84,7 @@ pub chosen_read : (s : Score) (width : ℕ) (starts others : List (List Column))
     → length starts ≡ s.measures → gaps ≡ score_gaps s → forced ≡ s.forced → bars ≡ breaks
     → AreMeasures column_reach (length (score_gaps s)) starts others → AreColumnsOf s starts others
     → IsSpanList column_reach column_length gaps width starts others (is_forced (length starts) forced) spans
-    → width < 2 ^ 32 → IsChosen (listed spans) (is_forced s.measures forced) s.measures breaks
-    → AllSpans (CanBeSet s width (listed spans)) 0 bars
+    → width < 2 ^ 32 → IsChosen (listed spans) (is_forced s.measures forced) s.measures breaks → AllSpans (CanBeSet s width (listed spans)) 0 bars
 chosen_read s width starts others spans gaps forced breaks bars count is all ends measures join h narrow chosen =
     let exact = spans_read s width starts others spans gaps forced count is all join h in
     let legal = (subst (λ these. IsChosen (listed spans) (is_forced s.measures these) s.measures breaks) all chosen).legal in
@@ -97,10 +95,8 @@ chosen_read s width starts others spans gaps forced breaks bars count is all end
     0 breaks legal.rises legal.fits (omega arith))
 
 -- no way among the listed spans is none in the score
-pub cause_read : (s : Score) (width : ℕ) (spans : List Span) (forced : List ℕ) (error : BreakError)
-    → forced ≡ s.forced → AreSpans s.measures spans → AreSpansOf s width spans
-    → IsCause (listed spans) (is_forced s.measures forced) s.measures error
-    → IsCauseIn s width (layout_error error)
+pub cause_read : (s : Score) (width : ℕ) (spans : List Span) (forced : List ℕ) (error : BreakError) → forced ≡ s.forced → AreSpans s.measures spans → AreSpansOf s width spans
+    → IsCause (listed spans) (is_forced s.measures forced) s.measures error → IsCauseIn s width (layout_error error)
 cause_read s width spans forced (BreakError.NoWay reached) all form exact h = (
   spans,
   record {

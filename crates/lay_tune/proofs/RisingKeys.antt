@@ -76,8 +76,7 @@ put : (k : ColumnKey) (ls : List ColumnKey) → Rises ls → (keys : List Column
 put k [] rise = (k ∷ [], themselves (k ∷ []) (tt, tt))
 put k (l ∷ ls) rise = at (is_below k l) refl (is_below l k) refl (put k ls rise.1)
   where
-    at : (s : Bool) → is_below k l ≡ s → (t : Bool) → is_below l k ≡ t → (keys : List ColumnKey) × AreKeys keys (k ∷ ls)
-        → (keys : List ColumnKey) × AreKeys keys (k ∷ l ∷ ls)
+    at : (s : Bool) → is_below k l ≡ s → (t : Bool) → is_below l k ≡ t → (keys : List ColumnKey) × AreKeys keys (k ∷ ls) → (keys : List ColumnKey) × AreKeys keys (k ∷ l ∷ ls)
     at true e t f more = (k ∷ l ∷ ls, themselves (k ∷ l ∷ ls) ((e, below_further k l ls e rise.0), rise))
     at false e true f more = (l ∷ more.0, put_behind k l ls more.0 f rise.0 more.1)
     at false e false f more = (l ∷ ls, twice k l ls (neither_below k l e f) rise)

@@ -1,7 +1,7 @@
 -- Columns that stand apart rise from 0, and those of a system end within the width.
 use Rattle.std.proofs.{Common.{◌≡◌, ◌∙◌, sym, ap, subst, refl, inl, inr, ℕ, if◌then◌else◌, ◌+◌, ◌-◌, ◌*◌, ◌/◌, ◌<◌, ◌≤◌, ◌==◌, ◌^◌, ℤ, pos, ◌+ℤ◌, ◌≤ℤ◌, min, Bool, true, false, List, length, map, Option, Some, arith}, lemmas.{Bool.{cases_lt, true≢false, Decides.nat_tests}, Int.ints, List.length-map}}
 use Rattle.mus_score.specs.declared.score.Score.{Score}
-use Rattle.mus_time.specs.{Keys.called_keys, Onsets.timeline_of}
+use Rattle.mus_time.specs.{Keys.{AreKeys, called_keys}, Onsets.timeline_of}
 use Rattle.mus_laid.specs.{declared.laid.SystemMarks.SystemMarks}
 use Rattle.mus_marks.{specs.Tilt.AreAbscissas, proofs.OneList.same_keys}
 use Rattle.lay_springs.{specs.{declared.{traits.Reach.Reach, margin.Placed.Placed}, Fit.{Fits, IsSet, counted, is_ragged}, Place.{IsPlace, StandApart, length_at, reach_at}}, proofs.{Ends.{apart_down, length_rises as lengths_rise}, Longer.{rises, stands}}}
@@ -21,8 +21,7 @@ rise_to n reach gaps spring at h i k l m =
     let e : i + (k - i) ≡ k = omega arith in
     rw e at (rises n reach gaps spring at h (k - i) i (omega arith))
 
-pub stand_low : (n : ℕ) (reach : ℕ → ℕ → Option Reach) (gaps : List ℕ) (spring : ℕ → ℕ) (at : List ℤ) → StandApart n reach gaps spring at
-    → (k : ℕ) → k < n → pos 0 ≤ℤ x_at at k
+pub stand_low : (n : ℕ) (reach : ℕ → ℕ → Option Reach) (gaps : List ℕ) (spring : ℕ → ℕ) (at : List ℤ) → StandApart n reach gaps spring at → (k : ℕ) → k < n → pos 0 ≤ℤ x_at at k
 stand_low n reach gaps spring at h k l =
     let up = rise_to n reach gaps spring at h 0 k (omega arith) l in
     let first = h.begins (omega arith) in
@@ -91,8 +90,7 @@ justified_within gaps width last columns p some h = by p.ragged refl
     by false is = set_within (length columns) (reach_at column_reach columns) gaps (length_at column_length columns) width h.pressed.0 p.force p.at some rises
         h.pressed.1.fits (h.set is)
 
-pub justified_count : (gaps : List ℕ) (width : ℕ) (last : Bool) (columns : List Column) (p : Placed)
-    → IsJustified gaps width last columns p → length p.at ≡ length columns
+pub justified_count : (gaps : List ℕ) (width : ℕ) (last : Bool) (columns : List Column) (p : Placed) → IsJustified gaps width last columns p → length p.at ≡ length columns
 justified_count gaps width last columns p h = by p.ragged refl
   where
     by : (b : Bool) → p.ragged ≡ b → length p.at ≡ length columns
@@ -118,8 +116,7 @@ ragged_last false force e = absurd (true≢false (sym e))
 ragged_last true force e = (refl, grind (arith, nat_tests))
 
 -- the greatest force that was tried counts as the columns' own, where none that costs so much is above all that were tried
-pub counts_same : (gaps : List ℕ) (width : ℕ) (last : Bool) (cost : ℕ) (columns : List Column) (most found : ℕ)
-    → (h : HaveForce gaps width last cost columns) → most ≤ 2048
+pub counts_same : (gaps : List ℕ) (width : ℕ) (last : Bool) (cost : ℕ) (columns : List Column) (most found : ℕ) → (h : HaveForce gaps width last cost columns) → most ≤ 2048
     → ((f : ℕ) → f ≤ 2048 → badness_at f ≤ cost → f ≤ most) → (cost ≡ 0 → most ≡ 256) → found ≤ most
     → Fits (length columns) (reach_at column_reach columns) gaps (length_at column_length columns) width found
     → ((g : ℕ) → found < g → g ≤ most → StandsAt column_reach column_length gaps width g columns → ⊥)
@@ -164,6 +161,7 @@ system_count s m =
 pub span_set : {s : Score} {width a b : ℕ} {costs : ℕ → ℕ → Option ℕ} {gaps : List ℕ} (starts others : List (List Column)) (columns : List Column)
     → (fits : CanBeSet s width costs a b) → AreColumnsOf s starts others → gaps ≡ score_gaps s → columns ≡ span_columns starts others a b
     → HaveForce gaps width (b == s.measures) fits.cost columns × ((p : Placed) → IsJustified gaps width (b == s.measures) columns p → IsPlaced s width (has_system s a b).0 p)
+    × AreKeys (map (λ c. c.key) columns) (called_keys s (timeline_of s).lengths a b)
 span_set {s} {width} {a} {b} {costs} {gaps} starts others columns fits join are is =
     let m = (has_system s a b).0 in
     let call = (has_system s a b).1 in
@@ -173,6 +171,8 @@ span_set {s} {width} {a} {b} {costs} {gaps} starts others columns fits join are 
       λ p h. subst (λ gs. IsJustified gs width (m.b == s.measures) (system_columns s m) p) are
           (subst (λ b. IsJustified gaps width (b == s.measures) (system_columns s m) p) (sym call.to)
           (subst (λ cs. IsJustified gaps width (b == s.measures) cs p) (sym same) h)),
+      subst (λ cs. AreKeys (map (λ c. c.key) cs) (called_keys s (timeline_of s).lengths a b)) same
+          (subst (λ keys. AreKeys keys (called_keys s (timeline_of s).lengths a b)) (sym (columns_keys m.staves (timeline_of s).lengths (verses_of s) 0 m.keys)) call.keys),
     )
 
 -- they stand within the width wherever they are placed
@@ -185,8 +185,7 @@ placed_stand s width m p placed =
     (λ some. justified_within (score_gaps s) width (m.b == s.measures) columns p some placed))
 
 -- so marks can be tilted over them
-pub abscissas_of : (s : Score) (width a b : ℕ) (m : SystemMarks) (p : Placed) → width < 2 ^ 32 → IsSystem s a b m → IsPlaced s width m p
-    → AreAbscissas s (timeline_of s) a b p.at
+pub abscissas_of : (s : Score) (width a b : ℕ) (m : SystemMarks) (p : Placed) → width < 2 ^ 32 → IsSystem s a b m → IsPlaced s width m p → AreAbscissas s (timeline_of s) a b p.at
 abscissas_of s width a b m p narrow call placed =
     let stand = placed_stand s width m p placed in
     let count = stand.count_is in record {

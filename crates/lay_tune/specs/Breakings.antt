@@ -12,8 +12,7 @@ pub record CanBeSystem (s : Score) (width a b : ℕ) : Type 0 where
   pub free : ForcedInside (is_forced_in s) a b → ⊥
   pub stands : (m : SystemMarks) → IsSystem s a b m → CanStandIn (score_gaps s) width (system_columns s m)
 
--- A legal breaking of the score on a width: a rising list of bars that ends with the last, has every forced bar, and whose
--- spans can each be a system.
+-- A legal breaking of the score on a width: a rising list of bars that ends with the last, has every forced bar, and whose spans can each be a system.
 pub record IsLegalIn (s : Score) (width : ℕ) (breaks : List ℕ) : Type 0 where
   pub rises : RisesFrom 0 breaks
   pub ends : last_from 0 breaks ≡ s.measures

@@ -43,8 +43,7 @@ CanStandIn gaps width columns = StandsAt column_reach column_length gaps width 0
 -- force of the columns that the score calls for there
 pub record IsSpanCost (s : Score) (width a b v : ℕ) : Type 0 where
   pub free : ForcedInside (is_forced_in s) a b → ⊥
-  pub pressed : (force : ℕ) × (v ≡ badness_of (b == s.measures) force)
-      × ((m : SystemMarks) → IsSystem s a b m → IsForceOf (score_gaps s) width (system_columns s m) force)
+  pub pressed : (force : ℕ) × (v ≡ badness_of (b == s.measures) force) × ((m : SystemMarks) → IsSystem s a b m → IsForceOf (score_gaps s) width (system_columns s m) force)
 
 -- the list has exactly the spans of the score that fit the width and have no forced bar strictly inside, each with what it costs
 pub record AreSpansOf (s : Score) (width : ℕ) (spans : List Span) : Type 0 where
@@ -55,5 +54,4 @@ pub record AreSpansOf (s : Score) (width : ℕ) (spans : List Span) : Type 0 whe
 -- The columns of each measure, as they stand where it begins a system and where it doesn't, are those of the systems: put one
 -- after the other they are the columns of the marks that the score calls for.
 abbrev pub AreColumnsOf : Score → List (List Column) → List (List Column) → Type 0
-AreColumnsOf s starts others = (a b : ℕ) (m : SystemMarks) → a < b → b ≤ s.measures → IsSystem s a b m
-    → system_columns s m ≡ span_columns starts others a b
+AreColumnsOf s starts others = (a b : ℕ) (m : SystemMarks) → a < b → b ≤ s.measures → IsSystem s a b m → system_columns s m ≡ span_columns starts others a b

@@ -26,10 +26,8 @@ Beside P (x ∷ xs) (y ∷ ys) = P x y × Beside P xs ys
 -- Columns pressed with their greatest force, as it counts: set to the width, but for a ragged last system, which stands as placed.
 pub record IsJustified (gaps : List ℕ) (width : ℕ) (last : Bool) (columns : List Column) (p : Placed) : Type 0 where
   pub pressed : (force : ℕ) × IsForceOf gaps width columns force × (p.force ≡ counted last force) × (p.ragged ≡ is_ragged last force)
-  pub loose : p.ragged ≡ true
-      → IsPlace (length columns) (reach_at column_reach columns) gaps (length_at column_length columns p.force) p.at
-  pub set : p.ragged ≡ false
-      → IsSet (length columns) (reach_at column_reach columns) gaps (length_at column_length columns) width p.force p.at
+  pub loose : p.ragged ≡ true → IsPlace (length columns) (reach_at column_reach columns) gaps (length_at column_length columns p.force) p.at
+  pub set : p.ragged ≡ false → IsSet (length columns) (reach_at column_reach columns) gaps (length_at column_length columns) width p.force p.at
   pub apart : StandApart (length columns) (reach_at column_reach columns) gaps (length_at column_length columns p.force) p.at
 
 -- the columns of a system of the score are justified; its last system is the one that ends with it

@@ -16,7 +16,7 @@ use mus_drawn::DrawnVoice;
 use mus_laid::SystemMarks;
 use mus_marks::tilt_of;
 use mus_score::Score;
-use mus_time::Timeline;
+use mus_time::{ColumnKey, Timeline};
 use mus_units::{Memory, Row};
 use std::alloc::Global;
 
@@ -43,6 +43,17 @@ fn press(
         unreachable!();
     };
     Ok(justify(columns, gaps, width, force, last, at, front, placed))
+}
+
+/// The keys of columns.
+fn keys_in(alloc: Global, columns: &[Seen<Column>]) -> Result<Row<ColumnKey>, Memory>
+    ensures { IfOk result (λ keys. keys ≡ map (λ c. c.key) (map (λ s. s.column.now) columns.now)) }
+{
+    let mut keys = Row::with_room(alloc, columns.len())?;
+    for seen in columns {
+        keys.push(seen.column.key)?;
+    }
+    Ok(keys)
 }
 
 /// A system: its marks, tilted over where its columns stand, and how its staves are stacked.
@@ -90,8 +101,10 @@ fn set_system<'a>(
     };
     let last = b == s.measures;
     let seen = columns_in(alloc, starts, others, a as usize, b as usize)?;
-    let placed = press(alloc, seen.as_slice(), gaps, width, last, cost)?;
-    let marks = tilt_of(alloc, s, voices, t, a, b, placed.at.as_slice())?;
+    let columns = seen.as_slice();
+    let placed = press(alloc, columns, gaps, width, last, cost)?;
+    let keys = keys_in(alloc, columns)?;
+    let marks = tilt_of(alloc, s, voices, t, a, b, keys, placed.at.as_slice())?;
     let between = gaps_between(alloc, s.voices.as_slice())?;
     let heights = stack(alloc, &marks, between.as_slice())?;
     Ok(SetSystem {

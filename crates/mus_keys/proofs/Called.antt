@@ -1,9 +1,9 @@
 -- The voices of a score call for the columns that they have as they are drawn.
-use Rattle.std.{proofs.{Common.{◌≡◌, ◌∙◌, ℕ, zero, suc, ◌+◌, ◌-◌, ◌<◌, Bool, true, false, not, ◌&&◌, ◌||◌, nat_le, if◌then◌else◌, List, [], ◌∷◌, ◌++◌, length, map, take, drop, Option, Some, None, refl, sym, ap, arith}, lemmas.List.Sums.sum_by-cons}, specs.{List.{All, flat_map}, Prelude.{is_some, unwrap_or}}}
+use Rattle.std.{proofs.{Common.{◌≡◌, ◌∙◌, ℕ, zero, suc, ◌+◌, ◌-◌, ◌<◌, ◌≤◌, Bool, true, false, not, ◌&&◌, ◌||◌, nat_le, if◌then◌else◌, List, [], ◌∷◌, ◌++◌, length, map, take, drop, Option, Some, None, refl, sym, ap, subst, arith}, lemmas.List.Sums.sum_by-cons}, specs.{List.{All, flat_map}, Prelude.{is_some, unwrap_or}}}
 use Rattle.mus_units.specs.{declared.key.Key.Key, declared.key.Meter.Meter, declared.note.Wish.Wish, declared.pitch.Clef.Clef}
 use Rattle.mus_score.specs.{declared.score.Flat.Flat, declared.score.Measure.Measure, declared.score.Score.Score, declared.score.Voice.Voice, Good.total_ticks, GoodScore.IsGoodScore, Seats.is_lower, Times.flats_of}
 use Rattle.mus_stems.{specs.declared.plans.StemPlan.StemPlan, specs.Plans.stems_of, specs.Stills.clefs_from, specs.Stills.stills, proofs.EndLaws.plans_length}
-use Rattle.mus_time.{proofs.Places.{further_places, places_of}, specs.{Onsets.timeline_of, Keys.{all_keys, AreKeys, bar_key, event_keys, events_keys, first_keys, grace_keys, has_entries, head_key, IsInSystem, key_at, key_has_mark, keys_by, measure_keys, measures_keys, meter_has_mark, signed_after, signed_behind, signed_through, voice_keys}, declared.keys.{Class.Class, ColumnKey.ColumnKey}}}
+use Rattle.mus_time.{proofs.Places.{further_places, places_of}, specs.{declared.times.Timeline.Timeline, Onsets.timeline_of, Keys.{all_keys, AreKeys, bar_key, called_keys, event_keys, events_keys, first_keys, grace_keys, has_entries, head_key, IsInSystem, key_at, key_has_mark, keys_by, measure_keys, measures_keys, meter_has_mark, signed_after, signed_behind, signed_through, voice_keys}, declared.keys.{Class.Class, ColumnKey.ColumnKey}}}
 use Rattle.mus_drawn.specs.{declared.{drawn.{DrawnVoice.DrawnVoice, Style.Style}, standing.Standing.Standing}, Drawn.{drawn_events, drawn_measure, drawn_measures, drawn_voice, old_signs, standing_after, standing_behind, standing_of, style_of}}
 use Rattle.mus_keys.specs.Columns.{events_columns, keys_called, measures_columns, staff_columns, voice_columns}
 
@@ -95,6 +95,13 @@ voices_same lengths a b = each_same (voice_keys lengths a b) (staff_columns true
 pub called_same : (begins : Bool) (s : Score) (lengths : List ℕ) (m : ℕ) → keys_called begins s lengths m ≡ flat_map (staff_columns begins lengths m (m + 1)) (map drawn_voice s.voices)
 called_same true s lengths m = voices_same lengths m (m + 1) s.voices
 called_same false s lengths m = each_same (measure_keys lengths m) (staff_columns false lengths m (m + 1)) (further_same lengths m) s.voices
+
+-- the keys of a system stand in it
+pub keys_placed : (s : Score) (t : Timeline) (a b : ℕ) (keys : List ColumnKey) → t ≡ timeline_of s → IsGoodScore s → a < b → b ≤ s.measures
+    → AreKeys keys (called_keys s t.lengths a b) → All (IsInSystem t.lengths a b) keys
+keys_placed s t a b keys timed good order within are =
+    let same = ap (λ t. t.lengths) timed in
+    subst (λ ls. All (IsInSystem ls a b) keys) (sym same) (places_of s a b keys good order within (subst (λ ls. AreKeys keys (called_keys s ls a b)) same are))
 
 pub called_places : (begins : Bool) (s : Score) (m : ℕ) (keys : List ColumnKey) → IsGoodScore s → m < s.measures → AreKeys keys (keys_called begins s (timeline_of s).lengths m) → All (IsInSystem (timeline_of s).lengths m (m + 1)) keys
 called_places true s m keys good within are = places_of s m (m + 1) keys good (omega arith) (omega (arith, within)) are

@@ -1,4 +1,4 @@
 pub mod Called
 pub mod Counts
-mod Few
+pub mod Few
 pub mod Goods

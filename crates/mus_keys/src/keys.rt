@@ -209,10 +209,9 @@ pub fn measure_keys(
     Ok(rising_keys(called))
 }
 
-/// The keys of the columns of the system of measures `a` to `b` - 1, rising, each once: the head,
-/// the features before the first measure, the changes that draw something where no head does,
-/// graces, events, and bars at their measures' ends. `t` is the timeline of the score. The only error
-/// is want of memory.
+/// The keys of the columns of the system of measures `a` to `b` - 1, rising, each once: the head, the
+/// features before the first measure, the changes that draw something where no head does, graces, events,
+/// and bars at their measures' ends. `t` is the timeline of the score. The only error is want of memory.
 pub fn keys_of(
     alloc: Global,
     s: &Score,

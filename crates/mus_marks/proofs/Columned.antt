@@ -1,5 +1,4 @@
--- Lists of marks put together by columns: what holds of all marks of the lists, which marks stand in the columns, and what is
--- taken from one column.
+-- Lists of marks put together by columns: what holds of all marks of the lists, which marks stand in the columns, and what is taken from one column.
 use Rattle.std.{proofs.{Common.{◌≡◌, ◌∙◌, ℕ, zero, suc, ◌+◌, ◌<◌, Bool, true, false, cond, ◌⊎◌, inl, inr, List, [], ◌∷◌, ◌++◌, Option, Some, None, refl, sym, ap, subst, arith}, lemmas.{Bool.Decides.nat_tests, List.{append-nil, Elements.{filter_map-append, Contains-append_cases, Contains-append_left, Contains-append_right}}}}, specs.List.{AllByRecursion, Contains, cons_option, filter, filter_map, flat_map, range_with_len}}
 use Rattle.mus_stems.proofs.RunLaws.{all_append}
 use Rattle.mus_laid.specs.{declared.laid.Laid.Laid, Ranked.anchor_rank, Ranked.at_rank, Ranked.by_columns, Ranked.is_rank, Ranked.stands_at}
@@ -62,8 +61,7 @@ module _ {X : Type 0} (h : Laid → Option X) (r : ℕ) (only : (x : Laid) → s
   rank_away : (k : ℕ) (parts : List (List Laid)) → (k ≡ r → ⊥) → filter_map h (at_rank parts k) ≡ []
   rank_away k [] other = refl
   rank_away k (part ∷ parts) other =
-      filter_map-append h (filter (stands_at k) part) (at_rank parts k)
-      ∙ ap (λ t. t ++ filter_map h (at_rank parts k)) (taken_away k part other) ∙ rank_away k parts other
+      filter_map-append h (filter (stands_at k) part) (at_rank parts k) ∙ ap (λ t. t ++ filter_map h (at_rank parts k)) (taken_away k part other) ∙ rank_away k parts other
 
   ranks_away : (parts : List (List Laid)) (k n : ℕ) → r < k → filter_map h (flat_map (at_rank parts) (range_with_len k n)) ≡ []
   ranks_away parts k zero less = refl

@@ -41,7 +41,6 @@ module _ (keys : List ColumnKey) (lengths : List ℕ) (room : Room) (a b : ℕ) 
   next_part v behind rest place next part parts new whole follows front own drawn is none put so_far =
       let more = λ (p : Place). written_parts keys lengths room a b p.first p.before behind in
       let drawn_in = drawn ∙ ap (λ r. own_part keys lengths (Some (record { room = r; first = place.first; before = place.before })) a b v) own in
-      ap (λ t. t ++ more next) put ∙ append_assoc parts (part ∷ []) (more next)
-      ∙ ap (λ t. parts ++ part ∷ t) (ap more is ∙ follow v behind place part follows none)
+      ap (λ t. t ++ more next) put ∙ append_assoc parts (part ∷ []) (more next) ∙ ap (λ t. parts ++ part ∷ t) (ap more is ∙ follow v behind place part follows none)
       ∙ ap (λ o. parts ++ o ∷ written_parts keys lengths room a b (place.first + v.verses) (texts_behind (length keys) place.before o) behind) drawn_in
       ∙ ap (λ t. parts ++ written_parts keys lengths room a b place.first place.before t) (sym front) ∙ so_far

@@ -25,8 +25,7 @@ syllables_silent low n (None ∷ ws) e = syllables_silent low (n + 1) ws e
 syllables_silent low n (Some t ∷ ws) e = grind (arith, e)
 
 none_shown : (low : ℤ) (first : ℕ) (at : TextPlace) (words : List (Option (List ℕ))) (decos : List Deco) (ending : Option (List ℕ)) (tuplets : List ℕ) (mentions : List Mention)
-    → (is_none ending && length tuplets == 0 && length mentions == 0 && list_all is_none words && list_all (λ d. not (is_text d)) decos) ≡ true
-    → syllables_from low first words
+    → (is_none ending && length tuplets == 0 && length mentions == 0 && list_all is_none words && list_all (λ d. not (is_text d)) decos) ≡ true → syllables_from low first words
     ++ (above_from at.high at.above (shown_ending ending ++ flat_map shown_number tuplets ++ flat_map (shown_deco false) decos ++ flat_map (shown_mention false) mentions)
     ++ below_from at.low at.verses at.below (flat_map (shown_deco true) decos ++ flat_map (shown_mention true) mentions)) ≡ []
 none_shown low first at words decos None [] [] e =

@@ -19,8 +19,7 @@ use std::alloc::Global;
 /// How many beams and arcs most measures have at most; room for so many is made at once.
 const BRIDGES_OF_MEASURE: usize = 4;
 
-/// Lays what a voice has in the columns of a system, with syllables and texts where their place is
-/// known.
+/// Lays what a voice has in the columns of a system, with syllables and texts where their place is known.
 fn put_own_part(
     pen: &mut Pen,
     frame: &Frame<'_>,

@@ -1,6 +1,6 @@
 ghost use Rattle.std.specs.Prelude.{◌≡◌, ◌≤◌, ◌<◌, ◌+◌, length, map, pos, slice_index_or, slice_range, All, IfOk};
 ghost use Rattle.mus_score.specs.{GoodScore.IsGoodScore, Seats.grouped};
-ghost use Rattle.mus_time.specs.{Keys.IsInSystem, Onsets.timeline_of, Ranks.AreRanked};
+ghost use Rattle.mus_time.specs.{Keys.{AreKeys, IsInSystem, called_keys}, Onsets.timeline_of, Ranks.AreRanked};
 ghost use Rattle.mus_drawn.specs.{Drawn.drawn_voice, Good.AreGoodMeasures};
 ghost use Rattle.mus_stems.specs.Slope.{anchor_of};
 ghost use Rattle.mus_laid.specs.{Boxes.AreGoodMarks, Shapes.AreAlike};
@@ -184,9 +184,9 @@ fn tilted_staves(
     staves
 }
 
-/// The marks of the system of measures `a` to `b` - 1 over the abscissas of its columns, as `tilt`
-/// gives them, where the voices of the score are drawn already; these are left as they were. The only
-/// error is want of memory.
+/// The marks of the system of measures `a` to `b` - 1 over the abscissas of its columns, whose keys are
+/// `keys`, as `tilt` gives them, where the voices of the score are drawn already; these are left as they
+/// were. The only error is want of memory.
 pub fn tilt_of(
     alloc: Global,
     s: &Score,
@@ -194,6 +194,7 @@ pub fn tilt_of(
     t: &Timeline,
     a: u32,
     b: u32,
+    keys: Row<ColumnKey>,
     at: &[i64],
 ) -> Result<SystemMarks, Memory>
     requires good { IsGoodScore s.now }
@@ -202,6 +203,7 @@ pub fn tilt_of(
     requires within { b ≤ s.now.measures }
     requires voices { voices.old ≡ map drawn_voice s.now.voices }
     requires drawn { All (λ v. AreGoodMeasures v.measures) voices.old }
+    requires keys { AreKeys keys (called_keys s.now t.now.lengths a b) }
     requires places { AreAbscissas s.now t.now a b at.now }
     ensures kept { voices.new ≡ voices.old }
     ensures tilted { IfOk result (IsTilted s.now t.now a b at.now) }
@@ -210,7 +212,6 @@ pub fn tilt_of(
     ensures lines { IfOk result (λ m. All CoversLines m.staves) }
     ensures good { IfOk result (λ m. All (λ staff. AreGoodMarks staff.marks) m.staves) }
 {
-    let keys = system_keys(alloc, s, voices, t, a, b)?;
     let frame = Frame {
         keys: keys.as_slice(),
         lengths: t.lengths.as_slice(),
@@ -245,5 +246,6 @@ pub fn tilt(
     ensures good { IfOk result (λ m. All (λ staff. AreGoodMarks staff.marks) m.staves) }
 {
     let mut voices = draw_voices(alloc, s)?;
-    tilt_of(alloc, s, voices.items.as_mut_slice(), t, a, b, at)
+    let keys = system_keys(alloc, s, voices.as_slice(), t, a, b)?;
+    tilt_of(alloc, s, voices.items.as_mut_slice(), t, a, b, keys, at)
 }

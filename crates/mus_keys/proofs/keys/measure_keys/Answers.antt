@@ -16,10 +16,8 @@ pub returns-clause-keys : goal.returns-clause-keys
 returns-clause-keys c =
     let lengths = c.args.t.now.lengths in
     subst (AreKeys c.rising_keys.result)
-    (c.in_ok-called.ensures
-    ∙ ap (λ ls. flat_map (staff_columns c.args.begins ls c.args.m (c.args.m + 1)) c.args.voices.now) c.as_slice.ensures
-    ∙ ap (flat_map (staff_columns c.args.begins lengths c.args.m (c.args.m + 1))) c.requires.voices
-    ∙ sym (called_same c.args.begins c.args.s.now lengths c.args.m))
+    (c.in_ok-called.ensures ∙ ap (λ ls. flat_map (staff_columns c.args.begins ls c.args.m (c.args.m + 1)) c.args.voices.now) c.as_slice.ensures
+    ∙ ap (flat_map (staff_columns c.args.begins lengths c.args.m (c.args.m + 1))) c.requires.voices ∙ sym (called_same c.args.begins c.args.s.now lengths c.args.m))
     c.rising_keys.ensures
 
 pub returns-clause-places : goal.returns-clause-places

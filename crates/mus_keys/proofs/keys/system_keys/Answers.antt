@@ -1,6 +1,6 @@
-use Rattle.std.{proofs.Common.{◌∙◌, true, ap, subst, sym, arith}, specs.List.{All, flat_map}}
-use Rattle.mus_time.{proofs.Places.places_of, specs.Keys.{AreKeys, IsInSystem, called_keys}}
-use Rattle.mus_keys.{specs.Columns.staff_columns, proofs.{Called.voices_same, Counts.{lengths_count, voices_count}, Few.few_keys}}
+use Rattle.std.{proofs.Common.{◌∙◌, true, ap, subst, sym, arith}, specs.List.{flat_map}}
+use Rattle.mus_time.specs.Keys.{AreKeys}
+use Rattle.mus_keys.{specs.Columns.staff_columns, proofs.{Called.{keys_placed, voices_same}, Counts.{lengths_count, voices_count}, Few.few_keys}}
 use Rattle.mus_keys.proofs.keys.system_keys.Goals as goal
 
 pub keys_called-requires-clause-within : goal.keys_called-requires-clause-within
@@ -16,18 +16,13 @@ pub returns-clause-keys : goal.returns-clause-keys
 returns-clause-keys c =
     let lengths = c.args.t.now.lengths in
     subst (AreKeys c.rising_keys.result)
-    (c.in_ok-called.ensures
-    ∙ ap (λ ls. flat_map (staff_columns true ls c.args.a c.args.b) c.args.voices.now) c.as_slice.ensures
-    ∙ ap (flat_map (staff_columns true lengths c.args.a c.args.b)) c.requires.voices
-    ∙ sym (voices_same lengths c.args.a c.args.b c.args.s.now.voices))
+    (c.in_ok-called.ensures ∙ ap (λ ls. flat_map (staff_columns true ls c.args.a c.args.b) c.args.voices.now) c.as_slice.ensures
+    ∙ ap (flat_map (staff_columns true lengths c.args.a c.args.b)) c.requires.voices ∙ sym (voices_same lengths c.args.a c.args.b c.args.s.now.voices))
     c.rising_keys.ensures
 
 pub returns-clause-places : goal.returns-clause-places
 returns-clause-places c =
-    let timed = ap (λ t. t.lengths) c.requires.times in
-    subst (λ ls. All (IsInSystem ls c.args.a c.args.b) c.rising_keys.result) (sym timed)
-    (places_of c.args.s.now c.args.a c.args.b c.rising_keys.result c.requires.good c.requires.order c.requires.within
-    (subst (λ ls. AreKeys c.rising_keys.result (called_keys c.args.s.now ls c.args.a c.args.b)) timed (returns-clause-keys c)))
+    keys_placed c.args.s.now c.args.t.now c.args.a c.args.b c.rising_keys.result c.requires.times c.requires.good c.requires.order c.requires.within (returns-clause-keys c)
 
 pub returns-clause-ranked : goal.returns-clause-ranked
 returns-clause-ranked c =

@@ -24,8 +24,7 @@ returns-clause-call c = record {
   from = refl;
   to = refl;
   keys = c.in_ok-keys.ensures.keys;
-  staves = c.in_ok-staves.ensures.staves
-      ∙ ap (λ ks. map (staff_marks ks c.as_slice-2.result.now c.args.a c.args.b) (grouped stands_lower c.args.voices.now)) c.as_slice.ensures
+  staves = c.in_ok-staves.ensures.staves ∙ ap (λ ks. map (staff_marks ks c.as_slice-2.result.now c.args.a c.args.b) (grouped stands_lower c.args.voices.now)) c.as_slice.ensures
       ∙ ap (λ ls. map (staff_marks c.in_ok-keys.keys ls c.args.a c.args.b) (grouped stands_lower c.args.voices.now)) c.as_slice-2.ensures
       ∙ ap (λ vs. map (staff_marks c.in_ok-keys.keys c.args.t.now.lengths c.args.a c.args.b) (grouped stands_lower vs)) c.requires.voices;
 }
