@@ -44,31 +44,25 @@ end_one o (suc n) body = ap (λ nodes. tuplet_of o nodes none_more) (append-nil 
 -- The same below others.
 pub event_puts : (os : List Open) (o : Open) (n : ℕ) (body : List Music) (w : List Music) → o.left ≡ suc n → (f : Forest) → whole (os ++ leaving n o ∷ []) (body ++ w) f ≡ whole (os ++ o ∷ []) body (one w f)
 event_puts os o n body w e f =
-    ap finish (fill_last os (leaving n o) (filled (body ++ w) f))
-    ∙ ap (λ z. finish (fill os z)) (event_one o n body w f)
-    ∙ ap (λ k. finish (fill os (fill_one (leaving k o) (filled body (one w f))))) (sym e)
-    ∙ ap finish (sym (fill_last os o (filled body (one w f))))
+    ap finish (fill_last os (leaving n o) (filled (body ++ w) f)) ∙ ap (λ z. finish (fill os z)) (event_one o n body w f)
+    ∙ ap (λ k. finish (fill os (fill_one (leaving k o) (filled body (one w f))))) (sym e) ∙ ap finish (sym (fill_last os o (filled body (one w f))))
 
 pub group_puts : (os : List Open) (o : Open) (n p q r : ℕ) (body : List Music) → o.left ≡ suc n → (f : Forest) → whole ((os ++ leaving (suc n - r) o ∷ []) ++ record { p = p; q = q; left = r; before = body } ∷ []) [] f ≡ whole (os ++ o ∷ []) body (group p q r (cut r f).taken (cut r f).left)
 group_puts os o n p q r body e f =
     let inner : Open = record { p = p; q = q; left = r; before = body } in
     let g : Forest = group p q r (cut r f).taken (cut r f).left in
-    ap finish (fill_last (os ++ leaving (suc n - r) o ∷ []) inner (filled [] f))
-    ∙ ap finish (fill_last os (leaving (suc n - r) o) (fill_one inner (filled [] f)))
-    ∙ ap (λ z. finish (fill os z)) (group_one o n p q r body f)
-    ∙ ap (λ k. finish (fill os (fill_one (leaving k o) (filled body g)))) (sym e)
+    ap finish (fill_last (os ++ leaving (suc n - r) o ∷ []) inner (filled [] f)) ∙ ap finish (fill_last os (leaving (suc n - r) o) (fill_one inner (filled [] f)))
+    ∙ ap (λ z. finish (fill os z)) (group_one o n p q r body f) ∙ ap (λ k. finish (fill os (fill_one (leaving k o) (filled body g)))) (sym e)
     ∙ ap finish (sym (fill_last os o (filled body g)))
 
 pub close_puts : (os : List Open) (o : Open) (body : List Music) → o.left ≡ 0 → (f : Forest) → whole os (o.before ++ music.Tuplet o.p o.q body ∷ []) f ≡ whole (os ++ o ∷ []) body f
 close_puts os o body e f =
-    ap (λ z. finish (fill os z)) (sym (close_one o body f))
-    ∙ ap (λ k. finish (fill os (fill_one (leaving k o) (filled body f)))) (sym e)
+    ap (λ z. finish (fill os z)) (sym (close_one o body f)) ∙ ap (λ k. finish (fill os (fill_one (leaving k o) (filled body f)))) (sym e)
     ∙ ap finish (sym (fill_last os o (filled body f)))
 
 pub end_puts : (os : List Open) (o : Open) (body : List Music) → whole os (o.before ++ music.Tuplet o.p o.q body ∷ []) none_more ≡ whole (os ++ o ∷ []) body none_more
 end_puts os o body =
-    ap (λ z. finish (fill os z)) (sym (end_one o o.left body))
-    ∙ ap finish (sym (fill_last os o (filled body none_more)))
+    ap (λ z. finish (fill os z)) (sym (end_one o o.left body)) ∙ ap finish (sym (fill_last os o (filled body none_more)))
 
 -- As the code says it: what was popped, pushed and put.
 pub event_answer : (stack os stack' : List Open) (o : Open) (left : ℕ) (body body' : List Music) (w : List Music) → stack ≡ os ++ o ∷ [] → body' ≡ body ++ w → stack' ≡ os ++ leaving left o ∷ [] → IsReady stack → left ≡ o.left - 1 → Puts stack body stack' body' (one w)

@@ -1,5 +1,4 @@
--- What waits for an event: changes, graces, decorations, texts and an ending, of the steps that
--- stand before it behind the event before.
+-- What waits for an event: changes, graces, decorations, texts and an ending, of the steps that stand before it behind the event before.
 use Rattle.std.specs.{Prelude.{ℕ, List, [], ◌∷◌, ◌++◌, flat_map, Bool, true, false, ◌==◌, ◌||◌, if◌then◌else◌, Option, Some, None}, List.list_any}
 use Rattle.mus_units.specs.declared.note.Deco.{Deco}
 use Rattle.mus_score.specs.{declared.score.Mention.Mention, declared.score.Changes.Changes}
@@ -11,8 +10,7 @@ unfoldable pub decos_in : Step → List Deco
 decos_in (Step.Deco deco) = deco ∷ []
 decos_in _ = []
 
--- a first character of ^ < > @ is an annotation above, and _ one below, both without it; any other
--- text is a chord symbol, which stands above
+-- a first character of ^ < > @ is an annotation above, and _ one below, both without it; any other text is a chord symbol, which stands above
 abbrev pub is_above : ℕ → Bool
 is_above c = c == 94 || (c == 60 || (c == 62 || c == 64))
 
@@ -41,8 +39,7 @@ abbrev pub last_ending : Option (List ℕ) → Steps → Option (List ℕ)
 last_ending ending [] = ending
 last_ending ending (s ∷ waits) = last_ending (ending_behind s.step ending) waits
 
--- several groups of graces are one, with a slash where one of them has it; the decorations within a
--- chord come behind those that waited
+-- several groups of graces are one, with a slash where one of them has it; the decorations within a chord come behind those that waited
 unfoldable pub waiting_of : InForce → Steps → List Deco → Waiting
 waiting_of now waits inside = record {
   changes = changes_at now waits;

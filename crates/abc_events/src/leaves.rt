@@ -3,7 +3,7 @@ ghost use Rattle.mus_units.specs.Value.{value_length};
 ghost use Rattle.abc_events.specs.Leaves.{ends_at, first_part, later_head, later_part, some_more, later_parts, parts, node_of, grace_event, grace_note, grace_nodes, nodes_of, words_at};
 
 use crate::reading::with_ties;
-use crate::waits::no_changes;
+use crate::waits::{no_changes, nothing};
 use crate::written::{Waiting, Waits, Written};
 use abc_tokens::GraceChord;
 use mus_score::{Event, Look, Music};
@@ -184,6 +184,7 @@ fn put_later(
 }
 
 /// The one part of a written event that has no other.
+#[inline(always)]
 #[tactic(auto, using(crate::proofs::Heads::untied), unfolding(crate::specs::Leaves::first_part))]
 fn only_part(w: Written, waiting: Waiting, words: Row<Option<Text>>, id: u32, value: Value) -> Event
     requires { value.dots ≤ 3 }
@@ -208,23 +209,24 @@ fn only_part(w: Written, waiting: Waiting, words: Row<Option<Text>>, id: u32, va
 }
 
 /// Puts the parts of a written event, the first of which may have others.
+#[inline(never)]
 fn put_several(
     alloc: Global,
     nodes: &mut Row<Music>,
-    w: &Written,
+    w: Written,
     waiting: Waiting,
     words: Row<Option<Text>>,
     id: u32,
 ) -> Result<(), Memory>
-    requires { All (λ v. v.dots ≤ 3) w.now.values }
-    ensures { OnOk result (nodes.new ≡ nodes.old ++ map node_of (parts w.now waiting words id w.now.values)) }
+    requires { All (λ v. v.dots ≤ 3) w.values }
+    ensures { OnOk result (nodes.new ≡ nodes.old ++ map node_of (parts w waiting words id w.values)) }
 {
     let verses = words.len();
     match w.values.as_slice() {
         [value, others @ ..] => {
-            let part = first_part(alloc, w, waiting, words, id, some_more(others), *value)?;
+            let part = first_part(alloc, &w, waiting, words, id, some_more(others), *value)?;
             nodes.push(node_of(part))?;
-            put_later(alloc, nodes, w, verses, next_id(id)?, others)
+            put_later(alloc, nodes, &w, verses, next_id(id)?, others)
         }
         [] => Ok(()),
     }
@@ -266,6 +268,7 @@ fn grace_notes(alloc: Global, graces: &[GraceChord]) -> Result<Row<Music>, Memor
 }
 
 /// Puts the group of the graces that waited, where there is one.
+#[inline(never)]
 fn put_graces(
     alloc: Global,
     nodes: &mut Row<Music>,
@@ -296,6 +299,7 @@ pub fn words_at(
 }
 
 /// Puts the parts of a written event.
+#[inline(always)]
 fn put_parts(
     alloc: Global,
     nodes: &mut Row<Music>,
@@ -313,7 +317,7 @@ fn put_parts(
             nodes.push(node_of(only_part(w, waiting, words, id, value)))?;
             Ok(())
         }
-        _ => put_several(alloc, nodes, &w, waiting, words, id),
+        _ => put_several(alloc, nodes, w, waiting, words, id),
     }
 }
 
@@ -329,6 +333,9 @@ pub fn put_nodes(
     requires { All (λ v. v.dots ≤ 3) w.values }
     ensures { OnOk result (nodes.new ≡ nodes.old ++ nodes_of w waits words id) }
 {
+    if waits.is_nothing() {
+        return put_parts(alloc, nodes, w, nothing(alloc), words, id);
+    }
     let waiting = waits.whole(alloc);
     put_graces(alloc, nodes, waiting.graces.as_slice(), waiting.slash)?;
     put_parts(alloc, nodes, w, waiting, words, id)

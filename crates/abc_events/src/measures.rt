@@ -111,9 +111,8 @@ fn trees_of(
     Ok(trees)
 }
 
-/// The measures of a voice of these signs, one for each bar. `words` has a row
-/// for each written event, with a place for each verse; its words are those of
-/// the event's first part.
+/// The measures of a voice of these signs, one for each bar. `words` has a row for each written event,
+/// with a place for each verse; its words are those of the event's first part.
 pub fn measures_of(
     alloc: Global,
     signs: Row<Sign>,

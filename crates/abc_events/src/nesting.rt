@@ -56,6 +56,7 @@ fn close(alloc: Global, o: Open, body: &mut Row<Music>) -> Result<(), Memory>
 }
 
 /// Closes the innermost tuplets that take no more.
+#[inline(always)]
 fn close_full(
     alloc: Global,
     stack: &mut SmallVec<Open, 2>,

@@ -27,6 +27,7 @@ fn with_tie(tie: bool, head: Head) -> Head
 }
 
 /// Heads that are all tied, or as they are.
+#[inline(always)]
 pub fn with_ties(alloc: Global, heads: &[Head], tie: bool) -> Result<Few<Head>, Memory>
     ensures { IfOk result (λ r. r ≡ map (with_tie tie) heads.now) }
 {

@@ -97,13 +97,9 @@ fn any_tells(waits: &[Stood]) -> bool
 }
 
 /// What waits for an event, gathered from what does.
+#[inline(never)]
 #[tactic(auto, unfolding(crate::specs::Waits::waiting_of))]
-fn gathered(
-    alloc: Global,
-    now: &InForce,
-    waits: &[Stood],
-    inside: &[Deco],
-) -> Result<Waiting, Memory>
+fn gathered(alloc: Global, now: &InForce, waits: &[Stood], inside: &[Deco]) -> Result<Waits, Memory>
     ensures { IfOk result (λ w. w ≡ waiting_of now.now waits.now inside.now) }
 {
     let mut waiting = nothing(alloc);
@@ -113,11 +109,12 @@ fn gathered(
         put_waiting(alloc, &mut waiting, &s.step)?;
     }
     put_decos(alloc, &mut waiting.decos, inside)?;
-    Ok(waiting)
+    Waits::new(alloc, waiting)
 }
 
 /// What waits for an event, of what is in force there, the steps since the event
 /// before it, and the decorations within a chord.
+#[inline(always)]
 #[tactic(auto, using(crate::proofs::Idle::nothing_for))]
 pub fn waiting_of(
     alloc: Global,
@@ -130,7 +127,7 @@ pub fn waiting_of(
     if inside.is_empty() && !any_tells(waits) {
         return Ok(Waits::nothing());
     }
-    Waits::new(alloc, gathered(alloc, now, waits, inside)?)
+    gathered(alloc, now, waits, inside)
 }
 
 /// No changes.

@@ -1,4 +1,4 @@
-ghost use Rattle.std.specs.Prelude.{◌≡◌, IfOk};
+ghost use Rattle.std.specs.Prelude.{◌≡◌, true, IfOk};
 ghost use Rattle.abc_events.specs.Waits.{nothing};
 
 use crate::waits::nothing;
@@ -43,8 +43,7 @@ enum Held {
     Some(Box<Waiting>),
 }
 
-/// What waited for an event, which contracts see as a `Waiting`. Nothing takes no
-/// memory.
+/// What waited for an event, which contracts see as a `Waiting`. Nothing takes no memory.
 #[derive(Drop)]
 pub struct Waits {
     held: Held,
@@ -75,6 +74,13 @@ impl Waits {
         Ok(Waits {
             held: Held::Some(Box::new(alloc, waiting)?),
         })
+    }
+
+    /// Whether it is known that nothing waited.
+    pub(crate) fn is_nothing(&self) -> bool
+        ensures { result ≡ true → self.now ≡ nothing }
+    {
+        matches!(self.held, Held::Nothing)
     }
 
     /// What waited, as a whole.

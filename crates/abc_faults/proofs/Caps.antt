@@ -12,10 +12,7 @@ record IsCapped (few all : ℕ) : Type 0 where
   same : few ≤ 50000 → few ≡ all
 
 both : (a b x y m n : ℕ) → IsCapped a b → IsCapped x y → m ≡ a + x → n ≡ b + y → IsCapped m n
-both a b x y m n h i e f = record {
-  below = omega (arith, e, f, h.below, i.below);
-  same = λ few. omega (arith, e, f, h.same (omega arith), i.same (omega arith));
-}
+both a b x y m n h i e f = record { below = omega (arith, e, f, h.below, i.below); same = λ few. omega (arith, e, f, h.same (omega arith), i.same (omega arith)) }
 
 count_capped : (w v : Weight) → IsCapped (count_up_to (capped w) (capped v)) (count_up_to w v)
 unfolding stands_before

@@ -186,10 +186,7 @@ empty_too (f ∷ fs) gs h e = absurd (none_held f (subst (λ z. Contains z f) e 
 
 pub first_along : (xs ys : List Weight) (found : Option Fault) → IsPermutation xs ys → IsFirst (crowded ys) found → IsFirst (crowded xs) found
 first_along xs ys None same h = empty_too (crowded xs) (crowded ys) (λ f k. held_along xs ys f same k) h
-first_along xs ys (Some f) same h = record {
-  held = held_along ys xs f (IsPermutation-sym xs ys same) h.held;
-  least = λ g k. h.least g (held_along xs ys g same k);
-}
+first_along xs ys (Some f) same h = record { held = held_along ys xs f (IsPermutation-sym xs ys same) h.held; least = λ g k. h.least g (held_along xs ys g same k) }
 
 -- ---- there is one first
 level : (a b x y : ℕ) → below a b x y ≡ false → below x y a b ≡ false → (a ≡ x) × (b ≡ y)

@@ -54,16 +54,10 @@ first_append (f ∷ fs) gs = ap (earlier (Some f)) (first_append fs gs) ∙ sym 
 
 -- ---- the first of two sets together
 with_none_before : (s t : List Fault) (f : Fault) → IsLeast s f → ((g : Fault) → Contains t g → is_before g f ≡ false) → IsLeast (s ++ t) f
-with_none_before s t f h others = record {
-  held = Contains-append_left s t f h.held;
-  least = λ g in'. ⊎_elim (h.least g) (others g) (Contains-append_cases s t g in');
-}
+with_none_before s t f h others = record { held = Contains-append_left s t f h.held; least = λ g in'. ⊎_elim (h.least g) (others g) (Contains-append_cases s t g in') }
 
 behind_none_before : (s t : List Fault) (g : Fault) → IsLeast t g → ((f : Fault) → Contains s f → is_before f g ≡ false) → IsLeast (s ++ t) g
-behind_none_before s t g h others = record {
-  held = Contains-append_right s t g h.held;
-  least = λ f in'. ⊎_elim (others f) (h.least f) (Contains-append_cases s t f in');
-}
+behind_none_before s t g h others = record { held = Contains-append_right s t g h.held; least = λ f in'. ⊎_elim (others f) (h.least f) (Contains-append_cases s t f in') }
 
 -- h is not before f, and g is before f
 not_before_earlier : (f g h : Fault) → is_before g f ≡ true → is_before h f ≡ false → is_before h g ≡ false
@@ -84,10 +78,7 @@ earlier_first s t (Some f) (Some g) h i = of_two s t f g (is_before g f) refl h 
 alone : (f : Fault) → IsLeast (f ∷ []) f
 alone f =
     let P : Fault → Type 0 = λ g. is_before g f ≡ false in
-    record {
-      held = (0, omega arith, refl);
-      least = λ g in'. All-contains P (f ∷ []) g (All-cons P f [] (not_before_itself f) (All-nil P)) in';
-    }
+    record { held = (0, omega arith, refl); least = λ g in'. All-contains P (f ∷ []) g (All-cons P f [] (not_before_itself f) (All-nil P)) in' }
 
 pub first_is : (fs : List Fault) → IsFirst fs (first_of fs)
 first_is [] = refl
@@ -96,10 +87,8 @@ first_is (f ∷ fs) = earlier_first (f ∷ []) fs (Some f) (first_of fs) (alone 
 -- one more part of a set, joined to what was found before it
 pub found_more : (own rest whole : List Fault) (found mine next all : Option Fault) → whole ≡ own ++ rest → mine ≡ first_of own → next ≡ earlier found mine → earlier found (first_of whole) ≡ all → earlier next (first_of rest) ≡ all
 found_more own rest whole found mine next all parts is_mine is_next h =
-    ap (λ z. earlier z (first_of rest)) (is_next ∙ ap (earlier found) is_mine)
-    ∙ earlier_assoc found (first_of own) (first_of rest)
-    ∙ ap (earlier found) (sym (first_append own rest) ∙ ap first_of (sym parts))
-    ∙ h
+    ap (λ z. earlier z (first_of rest)) (is_next ∙ ap (earlier found) is_mine) ∙ earlier_assoc found (first_of own) (first_of rest)
+    ∙ ap (earlier found) (sym (first_append own rest) ∙ ap first_of (sym parts)) ∙ h
 
 -- the earlier of two, by the test of the code
 pub joined : (s t : List Fault) (a b : Option Fault) (f g : Fault) (x : Bool) → a ≡ Some f → b ≡ Some g → is_before g f ≡ x → IsFirst s a → IsFirst t b → IsFirst (s ++ t) (cond x (Some g) (Some f))

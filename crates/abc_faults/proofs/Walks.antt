@@ -15,8 +15,7 @@ nearest steps i at less is =
 pub grace_parts : (clef : Clef) (waits : Steps) (i : ℕ) (s : Stood) → i < length waits → s ≡ get_or waits i s → grace_faults clef (drop i waits) ≡ grace_faults_of clef s s.step ++ grace_faults clef (drop (i + 1) waits)
 grace_parts clef waits i s less is = ap (grace_faults clef) (at_front waits i s less is)
 
-pub walk_parts : (first : InForce) (steps : Steps) (i : ℕ) (at : Stood) → i < length steps → at ≡ get_or steps i at
-    → faults_in first (reverse (take i steps)) (drop i steps)
+pub walk_parts : (first : InForce) (steps : Steps) (i : ℕ) (at : Stood) → i < length steps → at ≡ get_or steps i at → faults_in first (reverse (take i steps)) (drop i steps)
     ≡ faults_of (place_at first (reverse (take i steps))) (reverse (take i steps)) at (drop (i + 1) steps) at.step ++ faults_in first (reverse (take (i + 1) steps)) (drop (i + 1) steps)
 walk_parts first steps i at less is =
     let before = reverse (take i steps) in
@@ -28,8 +27,7 @@ pub walk_done : (first : InForce) (steps : Steps) (i : ℕ) (found all : Option 
 walk_done first steps i found all done h =
     sym (earlier_none found) ∙ ap (λ z. earlier found (first_of (faults_in first (reverse (take i steps)) z))) (sym (drop_all i steps done)) ∙ h
 
-pub weigh_parts : (first : InForce) (steps : Steps) (i : ℕ) (at : Stood) → i < length steps → at ≡ get_or steps i at
-    → weights_in first (reverse (take i steps)) (drop i steps)
+pub weigh_parts : (first : InForce) (steps : Steps) (i : ℕ) (at : Stood) → i < length steps → at ≡ get_or steps i at → weights_in first (reverse (take i steps)) (drop i steps)
     ≡ weights_of (place_at first (reverse (take i steps))) (reverse (take i steps)) at (drop (i + 1) steps) at.step ++ weights_in first (reverse (take (i + 1) steps)) (drop (i + 1) steps)
 weigh_parts first steps i at less is =
     let before = reverse (take i steps) in

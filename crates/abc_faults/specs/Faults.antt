@@ -1,5 +1,4 @@
--- All faults that hold in a voice, each at its place, by each step in turn with what stands before it,
--- the nearest first, and what follows it.
+-- All faults that hold in a voice, each at its place, by each step in turn with what stands before it, the nearest first, and what follows it.
 use Rattle.std.specs.{Prelude.{ℕ, ◌+◌, ◌-◌, List, [], ◌∷◌, ◌++◌, Bool, true, false, not, ◌&&◌, ◌||◌, nat_le, nat_lt, int_lt, pos, negsuc, is_none, if◌then◌else◌, count_by, flat_map}, List.{before_first, list_any}}
 use Rattle.mus_units.specs.{declared.note.Head.Head, declared.pitch.Clef.Clef, declared.key.Meter.Meter, Pitch.height_of, Parts.parts_list}
 use Rattle.abc_lines.specs.{declared.fault.FaultKind.FaultKind, declared.fault.Fault.Fault}

@@ -114,6 +114,7 @@ fn grace_fault_of(clef: Clef, at: &Stood) -> Option<Fault>
 }
 
 /// The first fault of the graces that wait for an event, in the clef of the event.
+#[inline(always)]
 fn grace_fault(clef: Clef, waits: &[Stood]) -> Option<Fault>
     ensures { result ≡ first_of (grace_faults clef waits.now) }
 {
@@ -151,8 +152,7 @@ fn sound_fault(now: &Place, at: &Stood, s: &KeptSound, undrawable: bool) -> Opti
     earlier(found, past)
 }
 
-/// The first fault of a note, a chord or a rest. Puts its weight, behind those of
-/// its graces.
+/// The first fault of a note, a chord or a rest. Puts its weight, behind those of its graces.
 #[tactic(auto, using(crate::proofs::Firsts::first_append, crate::proofs::Caps::capped_append), unfolding(crate::specs::Faults::sound_faults, crate::specs::Weights::sound_count))]
 fn judge_sound(
     alloc: Global,
@@ -193,8 +193,7 @@ fn rest_fault(now: &Place, at: &Stood, count: u16) -> Option<Fault>
     )
 }
 
-/// The first fault of whole measure rests. Puts their weight, behind those of
-/// their graces.
+/// The first fault of whole measure rests. Puts their weight, behind those of their graces.
 #[tactic(auto, using(crate::proofs::Firsts::first_append, crate::proofs::Caps::capped_append))]
 fn judge_rests(
     weights: &mut Row<Weight>,
@@ -247,12 +246,11 @@ fn judge_step(
 }
 
 /// The first fault of a voice that begins with `first`, of those that are seen in one voice alone:
-/// tuplets that are too deep, cross or are short, broken rhythms that lack a side, lengths without
-/// parts, heads too far from the staff, whole measure rests in free meter, and measures past the
-/// two thousandth. None exactly where it has none.
-/// Puts the weights of the voice, one for each event, behind one for each group of graces that it
-/// takes: the heads of a note or a chord times its parts, 1 times its parts for a rest, n for n
-/// whole measure rests, and the heads of a group of graces, each capped at 50,001.
+/// tuplets that are too deep, cross or are short, broken rhythms that lack a side, lengths without parts,
+/// heads too far from the staff, whole measure rests in free meter, and measures past the two thousandth.
+/// None exactly where it has none. Puts the weights of the voice, one for each event, behind one for each
+/// group of graces that it takes: the heads of a note or a chord times its parts, 1 times its parts for a
+/// rest, n for n whole measure rests, and the heads of a group of graces, each capped at 50,001.
 pub fn judge_voice(
     alloc: Global,
     weights: &mut Row<Weight>,

@@ -9,17 +9,13 @@ use Rattle.abc_fields.specs.declared.directive.Breaks.{Breaks}
 use Rattle.abc_header.specs.declared.header.Header.{Header}
 
 -- one element more of a row that is made of another
-pub mapped-more : {X Y : Type 0} (f : X → Y) (xs : List X) (i : ℕ) (x : X) (done new : List Y) (y : Y)
-    → i < length xs → x ≡ get_or xs i x → new ≡ done ++ y ∷ [] → y ≡ f x
+pub mapped-more : {X Y : Type 0} (f : X → Y) (xs : List X) (i : ℕ) (x : X) (done new : List Y) (y : Y) → i < length xs → x ≡ get_or xs i x → new ≡ done ++ y ∷ [] → y ≡ f x
     → done ++ map f (drop i xs) ≡ map f xs → new ++ map f (drop (i + 1) xs) ≡ map f xs
 mapped-more f xs i x done new y inside here pushed made so_far =
     let one : i + 1 ≡ suc i = omega arith in
     let cut : drop i xs ≡ get_or xs i x ∷ drop (suc i) xs = drop-cons xs i x inside in
-    rw one (ap (λ vs. vs ++ map f (drop (suc i) xs)) pushed
-    ∙ append_assoc done (y ∷ []) (map f (drop (suc i) xs))
-    ∙ ap (λ d. done ++ d ∷ map f (drop (suc i) xs)) (made ∙ ap f here)
-    ∙ ap (λ ks. done ++ map f ks) (sym cut)
-    ∙ so_far)
+    rw one (ap (λ vs. vs ++ map f (drop (suc i) xs)) pushed ∙ append_assoc done (y ∷ []) (map f (drop (suc i) xs))
+    ∙ ap (λ d. done ++ d ∷ map f (drop (suc i) xs)) (made ∙ ap f here) ∙ ap (λ ks. done ++ map f ks) (sym cut) ∙ so_far)
 
 pub reads_nothing : (b : Body) → Reads b [] b
 reads_nothing b = record { faults = λ h. refl; items = λ h. refl }
@@ -71,10 +67,8 @@ pub stops_within : (of : Placed → List Given) (a b : Body) (all rest more : Li
     → rest ≡ x ∷ more → Stops b (of x) e → Stops a (flat_map of all) e
 stops_within of a b all rest more x TuneError.Memory faults is s = tt
 stops_within of a b all rest more x (TuneError.Fault fault) faults is s =
-    ap (λ g. first_fault (judged a.ids g)) (sym (append-nil (flat_map of all))) ∙ faults []
-    ∙ ap (λ r. first_fault (judged b.ids (flat_map of r ++ []))) is
-    ∙ ap (λ g. first_fault (judged b.ids g)) (append-nil (of x ++ flat_map of more))
-    ∙ stays b.ids (of x) (flat_map of more) fault s
+    ap (λ g. first_fault (judged a.ids g)) (sym (append-nil (flat_map of all))) ∙ faults [] ∙ ap (λ r. first_fault (judged b.ids (flat_map of r ++ []))) is
+    ∙ ap (λ g. first_fault (judged b.ids g)) (append-nil (of x ++ flat_map of more)) ∙ stays b.ids (of x) (flat_map of more) fault s
 
 -- one line more
 pub lines_more : (breaks : Breaks) (lines : List Line) (i : ℕ) (line : Line) (a b c : Body) → i < length lines → line ≡ get_or lines i line

@@ -78,8 +78,7 @@ token_given breaks line column Token.Space = step_at Step.Space line.number colu
 abbrev pub placed_given : Breaks → Line → Placed → List Given
 placed_given breaks line placed = token_given breaks line placed.column placed.token
 
--- the end of a music line: a backslash there joins the next line to it, and else it is a line
--- break where line ends are
+-- the end of a music line: a backslash there joins the next line to it, and else it is a line break where line ends are
 abbrev pub is_joined : List ℕ → Bool
 is_joined text = ends_with nat_eq text (92 ∷ [])
 
@@ -90,8 +89,7 @@ abbrev pub end_given : Breaks → Line → Option Fault → List Given
 end_given breaks line None = gives (end_item breaks line) ∷ []
 end_given breaks line (Some fault) = fails fault ∷ []
 
--- what a line gives: a field or a directive what it says, music its tokens up to its first fault
--- and then that fault, or its end
+-- what a line gives: a field or a directive what it says, music its tokens up to its first fault and then that fault, or its end
 abbrev pub MusicGives : Breaks → Line → List Given → Type 0
 MusicGives breaks line given = (tokens : List Placed) × (fault : Option Fault) × FrontOf breaks.bang line tokens fault × (given ≡ flat_map (placed_given breaks line) tokens ++ end_given breaks line fault)
 

@@ -40,11 +40,11 @@ pub fn read_body(alloc: Global, header: &Header, lines: &[Line]) -> Result<Row<I
     }
 }
 
-/// How many bytes some lines have.
+/// How many bytes some lines have, with one for the end of each.
 fn bytes_of(lines: &[Line]) -> usize {
     let mut size: usize = 0;
     for line in lines {
-        size = size.saturating_add(line.text.len());
+        size = size.saturating_add(line.text.len()).saturating_add(1);
     }
     size
 }
@@ -205,6 +205,7 @@ fn put_end(
     }
 }
 
+#[inline(always)]
 fn put_found(alloc: Global, body: &mut Body, found: Option<Item>) -> Result<(), TuneError>
     requires found { IfSome found IsGoodItem }
     requires before { All IsGoodItem body.old.items }
@@ -219,6 +220,7 @@ fn put_found(alloc: Global, body: &mut Body, found: Option<Item>) -> Result<(), 
 }
 
 /// Adds an item, or answers that it mentions a seventeenth voice.
+#[inline(always)]
 fn put_item(alloc: Global, body: &mut Body, item: Item) -> Result<(), TuneError>
     requires item { IsGoodItem item }
     requires before { All IsGoodItem body.old.items }

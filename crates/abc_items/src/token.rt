@@ -51,6 +51,7 @@ pub(crate) fn field_item(
 }
 
 /// What a field within a music line gives, or its fault.
+#[inline(never)]
 fn inline_item(
     alloc: Global,
     letter: u8,
@@ -100,6 +101,7 @@ fn product(one: u32, other: u32) -> u64
 }
 
 /// A chord has the length of its first note, times its own.
+#[inline(never)]
 fn chord(alloc: Global, chord: WrittenChord) -> Result<Sound, Memory>
     requires heads { AreGoodHeads chord.heads }
     requires len { IsGoodLen chord.len }

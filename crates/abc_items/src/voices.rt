@@ -78,6 +78,7 @@ fn ids_in(alloc: Global, voices: &[VoiceDef]) -> Result<Row<Text>, Memory>
 }
 
 /// Adds the id that an item mentions.
+#[inline(always)]
 pub(crate) fn mention_item(alloc: Global, ids: &mut Row<Text>, item: &Item) -> Result<(), Memory>
     ensures { OnOk result (ids.new ≡ ids_after ids.old item.now) }
 {
@@ -88,6 +89,7 @@ pub(crate) fn mention_item(alloc: Global, ids: &mut Row<Text>, item: &Item) -> R
     }
 }
 
+#[inline(always)]
 fn mention_step(alloc: Global, ids: &mut Row<Text>, step: &Step) -> Result<(), Memory>
     ensures { OnOk result (ids.new ≡ ids_by_step ids.old (claims step.now)) }
 {
@@ -257,7 +259,8 @@ pub fn steps_of(
     ensures value { IfOk result (λ steps. steps ≡ steps_of id.now unnamed.now items.now) }
     ensures good { All IsGoodItem items.now → IfOk result (λ steps. All IsGoodStood steps) }
 {
-    let mut steps = Row::with_room(alloc, items.len().min(1024))?;
+    let room = items.len().saturating_add(items.len() / 16);
+    let mut steps = Row::with_room(alloc, room.min(1024))?;
     let mut own = is_same(id, unnamed);
     for item in items {
         put_steps(alloc, &mut steps, id, own, item)?;

@@ -1,5 +1,4 @@
--- Clef, key, meter and unit in force at a place: those of the last field before it that names them,
--- else those that the voice begins with.
+-- Clef, key, meter and unit in force at a place: those of the last field before it that names them, else those that the voice begins with.
 use Rattle.std.specs.{Prelude.{ℕ, ◌*◌, ◌/◌, List, [], ◌∷◌, Bool, true, false, if◌then◌else◌, Option, Some, None, is_some, unwrap_or}, List.list_any}
 use Rattle.mus_units.specs.{Value.whole_note, declared.key.Sign.Sign, declared.key.Meter.Meter}
 use Rattle.mus_score.specs.declared.score.Changes.{Changes}

@@ -1,5 +1,4 @@
--- What stands before and behind a place among the steps of a voice: `before` is what stands before
--- it, the nearest first, and `behind` is what follows it.
+-- What stands before and behind a place among the steps of a voice: `before` is what stands before it, the nearest first, and `behind` is what follows it.
 use Rattle.std.specs.{Prelude.{ℕ, List, reverse, find, count_by, Bool, false, if◌then◌else◌, Option, Some, None}, List.{before_first, list_any}}
 use Rattle.abc_steps.specs.{declared.step.Stood.Stood, Kinds.is_sound, Kinds.is_note, Kinds.is_event, Kinds.is_bar, Kinds.is_broken, Kinds.is_tie, Kinds.is_slur_on, Kinds.is_slur_off, Kinds.is_parting, Kinds.is_event_or_bar, Kinds.is_left_stop, Kinds.is_tie_stop}
 
@@ -54,8 +53,7 @@ broken_before before = if is_some_sound (nearest_event before) then broken_among
 unfoldable pub broken_behind : Steps → Option Stood
 broken_behind behind = if is_some_sound (nearest_event behind) then broken_among (to_event behind) else None
 
--- The sides of a broken rhythm. On the left the nearest event, bar or other broken rhythm is an
--- event with a length, on the right the nearest event or bar.
+-- The sides of a broken rhythm. On the left the nearest event, bar or other broken rhythm is an event with a length, on the right the nearest event or bar.
 unfoldable pub has_left : Steps → Bool
 has_left before = is_some_sound (find (λ s. is_left_stop s.step) before)
 

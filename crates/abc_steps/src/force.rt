@@ -1,7 +1,7 @@
 ghost use Rattle.std.specs.{Prelude.◌≡◌, Prelude.◌≤◌, Prelude.◌^◌, Prelude.IfOk, Prelude.OnOk, Prelude.OnErr, Prelude.Option, Prelude.MatchOption, Prelude.length, Prelude.is_some, List.list_any};
 ghost use Rattle.mus_units.specs.Good.{IsGoodKey, IsGoodMeter};
 ghost use Rattle.abc_fields.specs.Keys.{key_over, IsGoodKeyText};
-ghost use Rattle.abc_steps.specs.{Force.{force_behind, has_sign, names_key, names_clef, names_meter, when, changes_at, meter_ticks}, Good.{IsGoodStep, IsGoodForce}};
+ghost use Rattle.abc_steps.specs.{declared.step.Step.Step, Force.{force_behind, has_sign, names_key, names_clef, names_meter, when, changes_at, meter_ticks}, Good.{IsGoodStep, IsGoodForce}};
 
 use crate::step::{Step, Stood};
 use abc_fields::KeyText;
@@ -32,6 +32,21 @@ fn key_over(alloc: Global, key: &Key, text: &KeyText) -> Result<Key, Memory>
     }
 }
 
+/// What is in force behind a key.
+#[inline(never)]
+#[tactic(auto, unfolding(crate::specs::Force::force_behind))]
+fn change_key(alloc: Global, now: &mut InForce, text: &KeyText) -> Result<(), Memory>
+    requires now { IsGoodForce now.old }
+    requires text { IsGoodKeyText text.now }
+    ensures value { OnOk result (now.new ≡ force_behind (Step.Key text.now) now.old) }
+    ensures good { OnOk result (IsGoodForce now.new) }
+{
+    let key = key_over(alloc, &now.key, text)?;
+    now.clef = text.clef.unwrap_or(now.clef);
+    now.key = key;
+    Ok(())
+}
+
 /// What is in force behind a step.
 #[tactic(auto, unfolding(crate::specs::Force::force_behind))]
 pub fn change_force(alloc: Global, now: &mut InForce, s: &Step) -> Result<(), Memory>
@@ -42,12 +57,7 @@ pub fn change_force(alloc: Global, now: &mut InForce, s: &Step) -> Result<(), Me
 {
     match s {
         Step::Clef(clef) => now.clef = *clef,
-        Step::Key(text) => {
-            let text = text.get();
-            let key = key_over(alloc, &now.key, text)?;
-            now.clef = text.clef.unwrap_or(now.clef);
-            now.key = key;
-        }
+        Step::Key(text) => change_key(alloc, now, text.get())?,
         Step::Meter(meter) => now.meter = *meter,
         Step::Unit(unit) => now.unit = *unit,
         _ => (),

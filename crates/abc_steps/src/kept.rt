@@ -13,8 +13,7 @@ enum Held {
     Other(Box<Sound>),
 }
 
-/// A note, a chord or a rest, which contracts see as a `Sound`. A chord alone
-/// takes memory.
+/// A note, a chord or a rest, which contracts see as a `Sound`. A chord alone takes memory.
 #[derive(Drop)]
 pub struct KeptSound {
     held: Held,

@@ -83,6 +83,7 @@ fn right_factor(broken: Option<&Stood>) -> Frac
 }
 
 /// The written length of a note, a chord or a rest, in whole notes, not reduced.
+#[inline(always)]
 #[tactic(auto, unfolding(crate::specs::Lengths::written_length))]
 pub fn written_length(unit: Frac, s: &KeptSound, before: &[Stood], behind: &[Stood]) -> Frac
     requires unit { IsGoodUnit unit }
@@ -99,6 +100,7 @@ pub fn written_length(unit: Frac, s: &KeptSound, before: &[Stood], behind: &[Sto
 }
 
 /// The parts of a length, which takes no memory where it is one value.
+#[inline(always)]
 #[tactic(auto, using(crate::proofs::Singles::one_part))]
 pub fn parts_in(alloc: Global, length: Frac) -> Result<Option<Few<Value>>, Memory>
     requires { IsLength length }

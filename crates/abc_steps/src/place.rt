@@ -34,6 +34,7 @@ pub fn beginning(alloc: Global, first: &InForce) -> Result<Place, Memory>
 }
 
 /// Moves a place behind a step.
+#[inline(always)]
 pub fn step_over(alloc: Global, now: &mut Place, s: &Stood) -> Result<(), Memory>
     requires groups { now.old.counts.groups ≤ 2 ^ 30 }
     requires further { now.old.counts.further ≤ 2 ^ 46 }

@@ -4,8 +4,7 @@ ghost use Rattle.abc_steps.specs.Tuplets.{or_default, fits, one_less, after_even
 use crate::step::Step;
 use mus_units::Meter;
 
-/// How many events the open tuplets still take: none is open, one is, or one
-/// within another.
+/// How many events the open tuplets still take: none is open, one is, or one within another.
 #[derive(Clone, Copy, PartialEq, Eq)]
 pub enum Taking {
     Nothing,
@@ -104,8 +103,7 @@ fn is_compound(meter: Meter) -> bool
     }
 }
 
-/// The `q` of a tuplet that names none: 3 or 2 by its `p`, and for 5, 7 and 9 by
-/// the meter.
+/// The `q` of a tuplet that names none: 3 or 2 by its `p`, and for 5, 7 and 9 by the meter.
 pub fn usual_q(p: u8, meter: Meter) -> u8
     ensures { result ≡ usual_q p meter }
 {
