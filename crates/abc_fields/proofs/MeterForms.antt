@@ -412,12 +412,7 @@ unit_at-takes-over s unit (Some below) e h = over_if s below unit (below_of belo
     over_if s below unit None e is h = absurd (none_is_some unit h)
     over_if s below unit (Some d) e is h =
         let half = below-takes below d e in
-        record {
-          form = over_form below;
-          good = (half.number, half.halving);
-          spelled = is;
-          meant = ap (λ n. record { num = 1; den = n }) half.value ∙ ap (λ o. unwrap_or o unit) h;
-        }
+        record { form = over_form below; good = (half.number, half.halving); spelled = is; meant = ap (λ n. record { num = 1; den = n }) half.value ∙ ap (λ o. unwrap_or o unit) h }
 
 unit_if : (s : List ℕ) (unit : Frac) (whole : Bool) → bytes_eq s (codes "1") ≡ whole → unit_at s ≡ Some unit → WritesUnit s unit
 unfolding unit_at

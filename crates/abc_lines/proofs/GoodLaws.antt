@@ -159,11 +159,7 @@ tunes-good ordinal number (line ∷ more) small =
     (λ e. tunes-good ordinal (suc number) more fewer))
 
 book-good : (ls : List Reading) → total ls ≤ 2 ^ 30 → IsGoodBook (book_from ls)
-book-good ls small = record {
-  header_rises = rises 1 _ (part-rises 1 ls);
-  header_small = omega (arith, small, part-le 1 ls);
-  tunes = tunes-good 1 1 ls small;
-}
+book-good ls small = record { header_rises = rises 1 _ (part-rises 1 ls); header_small = omega (arith, small, part-le 1 ls); tunes = tunes-good 1 1 ls small }
 
 mark-le : (bytes : List ℕ) → length (without_mark bytes) ≤ length bytes
 mark-le bytes = cond_both (starts_with nat_eq bytes byte_order_mark) (drop 3 bytes) bytes (λ t. length t ≤ length bytes) (λ e. omega (arith, length-drop 3 bytes)) (λ e. omega arith)

@@ -66,11 +66,7 @@ pub tunes-pass : (out total : List TuneText) (number : ℕ) (s line rest : List 
     Tunes out total number s → Tunes out total (number + 1) rest
 tunes-pass out total number s line rest r off is not so_far =
     let here : tunes_from (suc (length out)) number (readings s) ≡ tunes_from (suc (length out)) (suc number) (readings rest) = rw (off.readings, ← is, tunes-cons, not) refl in
-    rw add-one (record {
-      tunes = ap (λ t. out ++ t) (sym here) ∙ so_far.tunes;
-      within = omega (arith, so_far.within, off.shorter);
-      few = omega (arith, so_far.few);
-    })
+    rw add-one (record { tunes = ap (λ t. out ++ t) (sym here) ∙ so_far.tunes; within = omega (arith, so_far.within, off.shorter); few = omega (arith, so_far.few) })
 
 pub tunes-next : (out new total : List TuneText) (count number other : ℕ) (s line rest after : List ℕ) (r : Reading) (tune : TuneText) → Off s line rest → r ≡ reading line → begins_tune r ≡ true →
     count ≡ length out → tune ≡ tune_from (count + 1) number r (readings rest) → ((o : ℕ) → tunes_from o other (readings after) ≡ tunes_from o (suc number) (readings rest)) →

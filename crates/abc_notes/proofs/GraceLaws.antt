@@ -272,14 +272,7 @@ then-closes bang text c z e k =
     let a = read_cut r (part_local bang) u c z (ap (grace_part_at bang) (sym cut) ∙ e) (omega (arith, ap length k.cut, length-append k.front c)) in
     let front : a.front ≡ k.front = append_cancel_right a.front k.front c (sym a.behind ∙ k.cut) in
     let at : grace_part_at bang u ≡ Some (z.0, k.front) = a.at_cut ∙ ap (λ (x : List ℕ). Some (z.0, x)) front in
-    record {
-      front = u;
-      rest = k.rest;
-      parts = z.0 ∷ k.parts;
-      is = k.is;
-      cut = cut;
-      good = then_part u z.0 k.front k.parts (longest_of r u (z.0, k.front) at) k.good;
-    }
+    record { front = u; rest = k.rest; parts = z.0 ∷ k.parts; is = k.is; cut = cut; good = then_part u z.0 k.front k.parts (longest_of r u (z.0, k.front) at) k.good }
 
 -- ---- the last brace before which parts alone stand
 closes_there : (bang : Bool) (text : List ℕ) (n : ℕ) → closes_at bang text n ≡ true → ClosedGroup bang text (drop n text)

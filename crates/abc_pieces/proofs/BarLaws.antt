@@ -28,10 +28,7 @@ form_at-takes s =
     cond_both {A = Option (BarForm × List ℕ)} (eqb n.0 0) (cond (d.0 || ltb b.0 2) None (Some (colons b.0, b.1))) (Some (signs d.0 b.0 o.0 n.0 c.0 a.0, a.1)) (TakesIf s)
     (λ e. cond_both {A = Option (BarForm × List ℕ)} (d.0 || ltb b.0 2) None (Some (colons b.0, b.1)) (TakesIf s) (λ f. tt)
     (λ f. let p = or_parts d.0 (ltb b.0 2) f in
-    record {
-      good = ltb-false b.0 2 p.1;
-      cut = skip-takes 46 s ∙ rw p.0 (run_off-takes 58 d.1);
-    }))
+    record { good = ltb-false b.0 2 p.1; cut = skip-takes 46 s ∙ rw p.0 (run_off-takes 58 d.1) }))
     (λ e. record { good = one_up n.0 e; cut = skip-takes 46 s ∙ ap (maybe d.0 46) (run_off-takes 58 d.1 ∙ ap (copies b.0 58) (skip-takes 91 b.1 ∙ ap (maybe o.0 91) (run_off-takes 124 o.1 ∙ ap (copies n.0 124) (skip-takes 93 n.1 ∙ ap (maybe c.0 93) (run_off-takes 58 c.1))))) })
 
 -- a reading of these bytes: it ends before them, or where they end, and then it is this form

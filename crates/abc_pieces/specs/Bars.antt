@@ -28,15 +28,7 @@ is_alone dot before bracket lines close after = not dot && before == 0 && bracke
 abbrev pub meant : BarForm → Bar
 meant (signs dot before bracket lines close after) =
     let alone = is_alone dot before bracket lines close after in
-    record {
-      end = nat_lt 0 before;
-      start = nat_lt 0 after;
-      last = close && not alone;
-      initial = bracket && not alone;
-      double = nat_lt 1 lines;
-      dotted = dot;
-      unseen = alone;
-    }
+    record { end = nat_lt 0 before; start = nat_lt 0 after; last = close && not alone; initial = bracket && not alone; double = nat_lt 1 lines; dotted = dot; unseen = alone }
 meant (colons n) = record { end = true; start = true; last = false; initial = false; double = false; dotted = false; unseen = false }
 
 -- reading from left to right

@@ -68,15 +68,12 @@ sings_append xs ys cs ds a b = record {
       let r = in_row (map leaves_within xs) qs ps w in
       let s = in_row (map leaves_within ys) qs ps r.waits in
       ap (λ (z : List Leafing). map core (in_row z qs ps w).flats) (map-append leaves_within xs ys)
-      ∙ ap (map core) (row_flats-append (map leaves_within xs) (map leaves_within ys) qs ps w)
-      ∙ map-append core r.flats s.flats
-      ∙ ap (λ z. z ++ map core s.flats) (a.cores qs ps w e)
-      ∙ ap (λ z. cs ++ z) (b.cores qs ps r.waits (a.none qs ps w e));
+      ∙ ap (map core) (row_flats-append (map leaves_within xs) (map leaves_within ys) qs ps w) ∙ map-append core r.flats s.flats
+      ∙ ap (λ z. z ++ map core s.flats) (a.cores qs ps w e) ∙ ap (λ z. cs ++ z) (b.cores qs ps r.waits (a.none qs ps w e));
   none = λ qs ps w e.
       let r = in_row (map leaves_within xs) qs ps w in
       ap (λ (z : List Leafing). (in_row z qs ps w).waits.graces) (map-append leaves_within xs ys)
-      ∙ ap (λ (z : Waits). z.graces) (row_waits-append (map leaves_within xs) (map leaves_within ys) qs ps w)
-      ∙ b.none qs ps r.waits (a.none qs ps w e);
+      ∙ ap (λ (z : Waits). z.graces) (row_waits-append (map leaves_within xs) (map leaves_within ys) qs ps w) ∙ b.none qs ps r.waits (a.none qs ps w e);
 }
 
 pub sings_tuplet : (p q : ℕ) (inner : List Music) (cs : List Core) → Sings inner cs → Sings (music.Tuplet p q inner ∷ []) cs
@@ -84,12 +81,10 @@ sings_tuplet p q inner cs h =
     let is = leaves_tuplet p q inner in
     record {
       cores = λ qs ps w e.
-          ap (map core) (append-nil (leaves_within (music.Tuplet p q inner) qs ps w).flats)
-          ∙ ap (λ (l : Leafing). map core (l qs ps w).flats) is
+          ap (map core) (append-nil (leaves_within (music.Tuplet p q inner) qs ps w).flats) ∙ ap (λ (l : Leafing). map core (l qs ps w).flats) is
           ∙ h.cores (qs * q) (ps * p) (record w { tuplets = w.tuplets ++ p ∷ [] }) e;
       none = λ qs ps w e.
-          ap (λ (l : Leafing). (l qs ps w).waits.graces) is
-          ∙ h.none (qs * q) (ps * p) (record w { tuplets = w.tuplets ++ p ∷ [] }) e;
+          ap (λ (l : Leafing). (l qs ps w).waits.graces) is ∙ h.none (qs * q) (ps * p) (record w { tuplets = w.tuplets ++ p ∷ [] }) e;
     }
 
 -- ---- trees

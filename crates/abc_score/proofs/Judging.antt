@@ -140,8 +140,7 @@ meter_high (Meter.Ratio num den) good = le_trans (div-le_self (num * WHOLE) den)
 
 empty_rest : (e : Event) → e.heads ≡ [] → e.value.dots ≤ 3 → 1 ≤ e.ticks → e.ticks ≤ 99 * WHOLE → (judged_within (node_of e) outside).good ≡ true
 empty_rest e none few some less =
-    ap (λ hs. (judged_within (note_or_rest hs e) outside).good) none
-    ∙ ap (λ (j : Place → Judged). (j outside).good) (judged_rest e)
+    ap (λ hs. (judged_within (note_or_rest hs e) outside).good) none ∙ ap (λ (j : Place → Judged). (j outside).good) (judged_rest e)
     ∙ is_outer_rest e (ap length none) few some less
 
 whole_part : (now : Stand) (at : Stood) (seen : Bool) (measure : ℕ) (parted : Bool) (waiting : Waiting) (words : Words) (id : ℕ) → is_free now.force.meter ≡ false → IsGoodMeter now.force.meter

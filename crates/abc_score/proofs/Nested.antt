@@ -103,12 +103,7 @@ Fine (Taking.Two inner outer) f = FineTwo inner (outer - inner) outer f
 
 -- an event within one tuplet
 event_last : (nodes : List Music) (f : Forest) → IsGoodAt within_one nodes → HasSome within_one nodes → IsGoodAt outside (music_of f) → FineOne 1 (one nodes f)
-event_last nodes f good some fine = record {
-  open_one = omega arith;
-  taken = good_append within_one nodes [] good refl;
-  some = some_append within_one nodes [] some;
-  behind = fine;
-}
+event_last nodes f good some fine = record { open_one = omega arith; taken = good_append within_one nodes [] good refl; some = some_append within_one nodes [] some; behind = fine }
 
 event_more : (r : ℕ) (nodes : List Music) (f : Forest) → IsGoodAt within_one nodes → HasSome within_one nodes → FineOne r f → FineOne (suc r) (one nodes f)
 event_more r nodes f good some fine = record {

@@ -84,8 +84,7 @@ with_event : (n low top m : ℕ) (nodes : List Music) (ls : List Leaf) → low +
 with_event zero low top m nodes ls e from below rise others = absurd (omega (arith, e, from, below))
 with_event (suc n) low top m nodes ls e from below rise others =
     by_test (low == m) refl (λ less. with_event n (low + 1) top m nodes ls (omega (arith, e)) (omega (arith, less)) below rise others) where
-      by_test : (b : Bool) → (low == m) ≡ b
-          → (low < m → flat_map (λ k. leaf_rows (leaves_in k (Leaf.Event m nodes ∷ ls))) (range_with_len (low + 1) n) ≡ nodes ∷ leaf_rows ls)
+      by_test : (b : Bool) → (low == m) ≡ b → (low < m → flat_map (λ k. leaf_rows (leaves_in k (Leaf.Event m nodes ∷ ls))) (range_with_len (low + 1) n) ≡ nodes ∷ leaf_rows ls)
           → flat_map (λ k. leaf_rows (leaves_in k (Leaf.Event m nodes ∷ ls))) (range_with_len low (suc n)) ≡ nodes ∷ leaf_rows ls
       by_test true t more = at_own n low top m nodes ls (eqb-true low m t) e rise (others (suc n) low)
       by_test false t more = let less : low < m = omega (arith, from, eqb-false low m t) in before_own n low top m nodes ls less rise (more less)
@@ -117,11 +116,9 @@ flat_flat f g (x ∷ xs) = ap (λ z. flat_map f (g x) ++ z) (flat_flat f g xs) �
 pub measures_sing : (leaves : List Leaf) (bars : List Bar) → Rise 0 (length bars) leaves → AllByRecursion IsSung (leaf_rows leaves) → map core (events_of (measures_in leaves bars)) ≡ flat_map sung (leaf_rows leaves)
 measures_sing leaves bars rise all =
     let ks = range_with_len 0 (length bars) in
-    ap (map core) (flat_map-map (λ (m : Measure). flats_of m.body) (measure_of leaves bars) ks)
-    ∙ map_flat (λ k. flats_of (tree_of (leaves_in k leaves))) ks
+    ap (map core) (flat_map-map (λ (m : Measure). flats_of m.body) (measure_of leaves bars) ks) ∙ map_flat (λ k. flats_of (tree_of (leaves_in k leaves))) ks
     ∙ flat_same (λ k. map core (flats_of (tree_of (leaves_in k leaves)))) (λ k. flat_map sung (leaf_rows (leaves_in k leaves))) (λ k. tree_sings (leaves_in k leaves) (kept_in IsSung k leaves all)) ks
-    ∙ flat_flat sung (λ k. leaf_rows (leaves_in k leaves)) ks
-    ∙ ap (flat_map sung) (segments leaves (length bars) (length bars) 0 (omega arith) rise)
+    ∙ flat_flat sung (λ k. leaf_rows (leaves_in k leaves)) ks ∙ ap (flat_map sung) (segments leaves (length bars) (length bars) 0 (omega arith) rise)
 
 sum_each : (leaves : List Leaf) (bars : List Bar) (ks : List ℕ) → sum_by (λ (m : Measure). weight_of m.body) (map (measure_of leaves bars) ks) ≡ sum_by weight_of (flat_map (λ k. leaf_rows (leaves_in k leaves)) ks)
 sum_each leaves bars [] = refl

@@ -29,8 +29,7 @@ node_leaf (h ∷ hs) e = leaves_note e
 one_sings : (e : Event) → Sings (node_of e ∷ []) (plain e ∷ [])
 one_sings e = record {
   cores = λ qs ps w none.
-      ap (λ (l : Leafing). map core (in_row (l ∷ []) qs ps w).flats) (node_leaf e.heads e)
-      ∙ ap (λ (gs : List Event). (e, gs) ∷ []) none;
+      ap (λ (l : Leafing). map core (in_row (l ∷ []) qs ps w).flats) (node_leaf e.heads e) ∙ ap (λ (gs : List Event). (e, gs) ∷ []) none;
   none = λ qs ps w none. ap (λ (l : Leafing). (in_row (l ∷ []) qs ps w).waits.graces) (node_leaf e.heads e);
 }
 
@@ -63,8 +62,7 @@ group_sings gs slash e es =
           ∙ ap (λ (z : List Core). (e, map grace_of gs) ∷ z) (behind.cores qs ps nothing refl);
       none = λ qs ps w none.
           ap (λ (l : Leafing). (in_row (l ∷ leaves_within (node_of e) ∷ more) qs ps w).waits.graces) is_grace
-          ∙ ap (λ (l : Leafing). (in_row (grace ∷ l ∷ more) qs ps w).waits.graces) own
-          ∙ behind.none qs ps nothing refl;
+          ∙ ap (λ (l : Leafing). (in_row (grace ∷ l ∷ more) qs ps w).waits.graces) own ∙ behind.none qs ps nothing refl;
     }
 
 graced_sings : (gs : List GraceChord) (slash : Bool) (es : List Event) → 1 ≤ length es → Sings (grace_nodes gs slash ++ map node_of es) (with_graces (map grace_of gs) es)

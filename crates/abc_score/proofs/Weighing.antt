@@ -41,8 +41,7 @@ waits_weight : (waits : Steps) → heads_of_graces (flat_map (λ s. graces_in s.
 waits_weight [] = refl
 waits_weight (s ∷ waits) =
     sum_by-append (λ (g : GraceChord). length g.heads) (graces_in s.step) (flat_map (λ s. graces_in s.step) waits)
-    ∙ (ap (λ n. n + heads_of_graces (flat_map (λ s. graces_in s.step) waits)) (waits_step s s.step)
-    ∙ (ap (λ n. sum_by count (grace_weights_of s s.step) + n) (waits_weight waits)
+    ∙ (ap (λ n. n + heads_of_graces (flat_map (λ s. graces_in s.step) waits)) (waits_step s s.step) ∙ (ap (λ n. sum_by count (grace_weights_of s s.step) + n) (waits_weight waits)
     ∙ sym (sum_by-append count (grace_weights_of s s.step) (grace_weights waits))))
 
 pub waiting_weight : (now : InForce) (waits : Steps) (decos : List Deco) → heads_of_graces (waiting_of now waits decos).graces ≡ sum_by count (grace_weights waits)

@@ -97,8 +97,7 @@ measures_are header items n v = refl
 weight_is : (header : Header) (items : List Item) (n : ℕ) (v : VoiceRead) → IsGoodRead v → own_measures v ≤ n → sum_by (λ (m : Measure). weight_of m.body) (written_measures (unnamed_of header) items n v) ≡ sum_by sign_weight (signs v.first [] v.steps)
 weight_is header items n v read own =
     ap (sum_by (λ (m : Measure). weight_of m.body)) (measures_are header items n v)
-    ∙ measures_weigh (leaves_with header items v) (bars_of v.steps n) (rise_in header items n v read own)
-    ∙ leaves_weigh (words_in header items v) 0 0 (signs v.first [] v.steps)
+    ∙ measures_weigh (leaves_with header items v) (bars_of v.steps n) (rise_in header items n v read own) ∙ leaves_weigh (words_in header items v) 0 0 (signs v.first [] v.steps)
 
 pub weight_high : (header : Header) (items : List Item) (n : ℕ) (v : VoiceRead) → IsGoodRead v → own_measures v ≤ n → voice_weight (voice_of header items n v) ≤ sum_by count (voice_weights v)
 unfolding voice_of

@@ -1,5 +1,4 @@
--- What the building of a tune's score answers: the score of a body without fault, or the first
--- fault, of the body and only then of the score.
+-- What the building of a tune's score answers: the score of a body without fault, or the first fault, of the body and only then of the score.
 use Rattle.std.specs.Prelude.{◌≡◌, ◌⊎◌, ⊤, List, drop, Bool, Some, None}
 use Rattle.abc_lines.specs.{declared.book.Line.Line, declared.book.TuneText.TuneText, declared.fault.Fault.Fault, declared.fault.TuneError.TuneError}
 use Rattle.abc_header.specs.declared.header.Header.{Header}

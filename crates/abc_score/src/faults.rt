@@ -48,9 +48,8 @@ fn fault_of_voices(
     Ok(found)
 }
 
-/// The first fault of a score: of its voices, of their verses, or the place with
-/// which there are too many heads and rests. `unnamed` is the voice of what stands
-/// before any voice field.
+/// The first fault of a score: of its voices, of their verses, or the place with which there are too many
+/// heads and rests. `unnamed` is the voice of what stands before any voice field.
 pub fn fault_of_score(
     alloc: Global,
     unnamed: &[u8],

@@ -110,8 +110,7 @@ fn forced_of(alloc: Global, flow: bool, voices: &[VoiceRead], n: u32) -> Result<
     }
 }
 
-/// The score of these voices, each of which has its measures, with the bars that
-/// are forced.
+/// The score of these voices, each of which has its measures, with the bars that are forced.
 #[tactic(auto, unfolding(crate::specs::Score::score_with))]
 fn joined(
     alloc: Global,

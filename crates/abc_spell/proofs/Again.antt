@@ -118,12 +118,7 @@ tuplet_plain p q r good =
 bar_plain : (f : BarForm) → IsGood false (bar_form f) → IsPlain (Token.Bar (bar_of f))
 bar_plain f good =
     let s = same_bar f good in
-    record {
-      form = bar_form (plain_bar (bar_of f));
-      means = ap (λ (b : Bar). Some (Token.Bar b)) s.0;
-      spells = s.2;
-      exact = λ x h. bar_piece (plain_bar (bar_of f)) x s.1 h;
-    }
+    record { form = bar_form (plain_bar (bar_of f)); means = ap (λ (b : Bar). Some (Token.Bar b)) s.0; spells = s.2; exact = λ x h. bar_piece (plain_bar (bar_of f)) x s.1 h }
 
 deco_plain : (d : Deco) → GoodDeco d → IsPlain (Token.Deco d)
 deco_plain d good = record { form = named_form (name_of d); means = ap (λ (e : Deco). Some (Token.Deco e)) good.means; spells = λ x. refl; exact = λ x h. named_piece (name_of d) x good.name }

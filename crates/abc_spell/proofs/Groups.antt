@@ -349,11 +349,7 @@ notes_parts (h ∷ hs) =
     part (note_inside form) rest (note_parts hs) (inner_note form rest (head_good h (whole []) tt) (notes_stop hs)) (notes_parts hs)
 
 notes_chord : (h : Head) (hs : List Head) → IsChord false (of_parts (note_parts (h ∷ hs)) (whole []))
-notes_chord h hs = record {
-  parts = notes_parts (h ∷ hs);
-  head = refl;
-  length = tt;
-}
+notes_chord h hs = record { parts = notes_parts (h ∷ hs); head = refl; length = tt }
 
 narrower : (x : List ℕ) → begins note_goes_on x ≡ false → begins goes_on x ≡ false
 narrower [] h = refl
@@ -413,10 +409,7 @@ body_whole [] good = refl
 body_whole (c ∷ cs) good = rw (part_whole c.heads good.0) (body_whole cs good.2)
 
 pub grace_good : (slash : Bool) (body : List GraceChord) → GoodBody body → IsGrace false (plain_grace slash body)
-grace_good slash body good = record {
-  parts = body_parts body good;
-  slash_is_read = λ e. body_begins is_slash_byte body good refl (λ s b. b.slash);
-}
+grace_good slash body good = record { parts = body_parts body good; slash_is_read = λ e. body_begins is_slash_byte body good refl (λ s b. b.slash) }
 
 -- ---- what any grace group says can be written
 heads_untied : (parts : List Inner) → Untied (heads_in (map sense parts))

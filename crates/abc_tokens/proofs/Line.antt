@@ -28,12 +28,7 @@ from_read : (bang : Bool) (before : Before) (s : List ℕ) (t : Option Token) (n
 from_read bang before s t next rest None e h = absurd cc
 from_read bang before s t next rest (Some z) e h =
     let same : seen t next rest ≡ seen (meant z.0) (after z.0) z.1 = cc in
-    record {
-      form = z.0;
-      is = e ∙ ap (λ x. read z.0 x) (sym (ap (λ p. p.2) same));
-      token = ap (λ p. p.0) same;
-      tells = ap (λ p. p.1) same;
-    }
+    record { form = z.0; is = e ∙ ap (λ x. read z.0 x) (sym (ap (λ p. p.2) same)); token = ap (λ p. p.0) same; tells = ap (λ p. p.1) same }
 
 pub found : (bang : Bool) (before : Before) (s : List ℕ) (t : Option Token) (next : Before) (rest : List ℕ) → Some (seen t next rest) ≡ meaning (piece_at bang before s) → Found bang before s t next rest
 found bang before s t next rest h = from_read bang before s t next rest (piece_at bang before s) refl h

@@ -26,16 +26,13 @@ pub faults_on : (verses : List Verse) (i : ℕ) (v : Verse) → i < length verse
     → first_of (faults_from (take i verses) (drop i verses)) ≡ first_of (faults_from [] verses)
     → first_of (faults_from (take (i + 1) verses) (drop (i + 1) verses)) ≡ first_of (faults_from [] verses)
 faults_on verses i v inside here few so_far =
-    ap (λ vs. first_of (faults_from vs (drop (i + 1) verses))) (one_taken verses i v inside here)
-    ∙ (ap first_of (sym (fault_free (take i verses) (drop (i + 1) verses) v few))
+    ap (λ vs. first_of (faults_from vs (drop (i + 1) verses))) (one_taken verses i v inside here) ∙ (ap first_of (sym (fault_free (take i verses) (drop (i + 1) verses) v few))
     ∙ (ap (λ vs. first_of (faults_from (take i verses) vs)) (sym (one_left verses i v inside here)) ∙ so_far))
 
 pub fault_found : (verses : List Verse) (i : ℕ) (v : Verse) → i < length verses → v ≡ get_or verses i v → 8 ≤ number_on v.row (take i verses)
-    → first_of (faults_from (take i verses) (drop i verses)) ≡ first_of (faults_from [] verses)
-    → Some (too_many v.line) ≡ first_of (faults_from [] verses)
+    → first_of (faults_from (take i verses) (drop i verses)) ≡ first_of (faults_from [] verses) → Some (too_many v.line) ≡ first_of (faults_from [] verses)
 fault_found verses i v inside here many so_far =
-    sym (fault_here (take i verses) (drop (i + 1) verses) v many)
-    ∙ (ap (λ vs. first_of (faults_from (take i verses) vs)) (sym (one_left verses i v inside here)) ∙ so_far)
+    sym (fault_here (take i verses) (drop (i + 1) verses) v many) ∙ (ap (λ vs. first_of (faults_from (take i verses) vs)) (sym (one_left verses i v inside here)) ∙ so_far)
 
 pub counted_on : (verses : List Verse) (i k : ℕ) (v : Verse) (old new : ℕ) → i < length verses → v ≡ get_or verses i v
     → old ≡ number_on k (take i verses) → new ≡ old + cond (v.row == k) 1 0 → new ≡ number_on k (take (i + 1) verses)

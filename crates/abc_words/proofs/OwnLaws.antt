@@ -25,8 +25,7 @@ silent_print text event goes (n ∷ notes) free rest =
     (rest n.measure notes (All-tail (λ (m : NoteAt). m.event ≡ event → ⊥) n notes free))
 
 silent_skip : (event : ℕ) (goes : ℕ → List NoteAt → List Sung) (notes : List NoteAt) → IsFree event notes
-    → ((count : ℕ) (left : List NoteAt) → IsFree event left → word_of (goes count left) event ≡ None)
-    → word_of (on_first (λ note left. goes note.measure left) notes) event ≡ None
+    → ((count : ℕ) (left : List NoteAt) → IsFree event left → word_of (goes count left) event ≡ None) → word_of (on_first (λ note left. goes note.measure left) notes) event ≡ None
 silent_skip event goes [] free rest = refl
 silent_skip event goes (n ∷ notes) free rest = rest n.measure notes (All-tail (λ (m : NoteAt). m.event ≡ event → ⊥) n notes free)
 
@@ -139,11 +138,9 @@ free_of : (ends : List ℕ) (event row : ℕ) (notes : List SungNote) → All (�
 free_of ends event row notes free k d inside same = absurd (free k d inside same)
 
 pub no_words_elsewhere : (id unnamed : List ℕ) (items : List Item) (notes : List SungNote) (count event verse : ℕ) (words : List (List (Option (List ℕ))))
-    → words ≡ words_of id unnamed items notes count → All (λ n. n.event ≡ event → ⊥) notes → event < count → verse < verse_count id unnamed items
-    → word_at words event verse ≡ None
+    → words ≡ words_of id unnamed items notes count → All (λ n. n.event ≡ event → ⊥) notes → event < count → verse < verse_count id unnamed items → word_at words event verse ≡ None
 no_words_elsewhere id unnamed items notes count event verse words are free less within =
     let rows : ℕ → MusicRow = music_row (verses_of id unnamed items) (row_ends items) notes in
-    ap (λ ws. word_at ws event verse) are
-    ∙ (at_place (music_rows id unnamed items notes) (verse_count id unnamed items) count event verse less within
+    ap (λ ws. word_at ws event verse) are ∙ (at_place (music_rows id unnamed items notes) (verse_count id unnamed items) count event verse less within
     ∙ all_silent rows verse event 0 (row_count items)
     (λ row le. silent event (notes_on row (row_ends items) notes) (slice_get (rows row).texts verse) (free_elsewhere (row_ends items) event (row + 1) row notes (free_of (row_ends items) event (row + 1) notes free) (λ same. let e : row ≡ row + 1 = same in absurd (omega arith)))))

@@ -39,15 +39,13 @@ pub rows_made : (id unnamed : List ℕ) (items : List Item) (notes : List SungNo
     → verses ≡ verses_of id unnamed items → ends ≡ row_ends items → n ≡ row_count items → length start ≡ n → length texts ≡ length start → length all ≡ length texts
     → ((k : ℕ) → k < n → slice_index_or start k no_music ≡ no_music)
     → ((k : ℕ) → k < length start → slice_index_or texts k no_music ≡ with_texts (slice_index_or start k no_music) (texts_on k verses))
-    → ((k : ℕ) → k < length texts → slice_index_or all k no_music ≡ with_notes (slice_index_or texts k no_music) (notes_on k ends notes))
-    → all ≡ music_rows id unnamed items notes
+    → ((k : ℕ) → k < length texts → slice_index_or all k no_music ≡ with_notes (slice_index_or texts k no_music) (notes_on k ends notes)) → all ≡ music_rows id unnamed items notes
 rows_made id unnamed items notes verses ends n start texts all are ends_are rows long long_texts long_all empty with_them full =
     let made : all ≡ map (music_row verses ends notes) (range_with_len 0 n) =
     from_places (music_row verses ends notes) all n no_music (omega arith)
     (λ k less. filled verses ends notes k (slice_index_or start k no_music) (slice_index_or texts k no_music) (slice_index_or all k no_music)
     (empty k less) (with_them k (omega arith)) (full k (omega arith))) in
-    made ∙ (ap (λ vs. map (music_row vs ends notes) (range_with_len 0 n)) are
-    ∙ (ap (λ es. map (music_row (verses_of id unnamed items) es notes) (range_with_len 0 n)) ends_are
+    made ∙ (ap (λ vs. map (music_row vs ends notes) (range_with_len 0 n)) are ∙ (ap (λ es. map (music_row (verses_of id unnamed items) es notes) (range_with_len 0 n)) ends_are
     ∙ ap (λ m. map (music_row (verses_of id unnamed items) (row_ends items) notes) (range_with_len 0 m)) rows))
 
 -- a row without a text for a verse

@@ -65,8 +65,7 @@ fn row_from(ends: &[u32], from: usize, line: u32) -> usize
     from + ends_before(left, line)
 }
 
-/// The row of a line, looked for from that of another line on where it isn't
-/// before that.
+/// The row of a line, looked for from that of another line on where it isn't before that.
 #[tactic(auto, using(crate::proofs::Lines::row_of_later))]
 fn next_row(ends: &[u32], row: usize, last: u32, line: u32) -> usize
     requires { row ≡ row_of ends.now last }

@@ -163,9 +163,8 @@ fn first_fault(alloc: Global, verses: &[Verse], rows: usize) -> Result<Option<Fa
     Ok(None)
 }
 
-/// The fault of a voice with more than eight `w:` lines on one row: it stands at
-/// column 1 of the first that is too many. `unnamed` is the voice of what stands
-/// before any voice field.
+/// The fault of a voice with more than eight `w:` lines on one row: it stands at column 1 of the first
+/// that is too many. `unnamed` is the voice of what stands before any voice field.
 #[tactic(auto, using(crate::proofs::VerseLaws::no_words_no_fault))]
 pub fn verse_fault(
     alloc: Global,

@@ -123,10 +123,9 @@ fn words_at(
     Ok(words)
 }
 
-/// The words of so many written events of a voice: a row for each, with a place
-/// for each verse. `notes` are the notes of the voice in order; on each row of
-/// music they take the syllables of the `w:` lines of that row. `unnamed` is the
-/// voice of what stands before any voice field.
+/// The words of so many written events of a voice: a row for each, with a place for each verse. `notes`
+/// are the notes of the voice in order; on each row of music they take the syllables of the `w:` lines of
+/// that row. `unnamed` is the voice of what stands before any voice field.
 pub fn words_of(
     alloc: Global,
     id: &[u8],

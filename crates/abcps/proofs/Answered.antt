@@ -7,8 +7,7 @@ abbrev Is : Called → Called → Type 0
 Is called other = other ≡ called
 
 -- both texts were written
-answered_whole : (called : Called) (o e : Stream) (s : Status) → IsEnd s → s ≡ called.status → TookAll o called.page → TookAll e called.told
-    → IsAnswered (Is called) s o e
+answered_whole : (called : Called) (o e : Stream) (s : Status) → IsEnd s → s ≡ called.status → TookAll o called.page → TookAll e called.told → IsAnswered (Is called) s o e
 answered_whole called o e Status.Done end is page told = (called, refl, is, page, told)
 answered_whole called o e Status.SomeRefused end is page told = (called, refl, is, page, told)
 answered_whole called o e Status.NotLeast end is page told = (called, refl, is, page, told)
@@ -16,8 +15,7 @@ answered_whole called o e s end is page told = absurd end
 
 -- output has its whole text, and then errors was told its own
 pub answered_end : (called : Called) (o e : Stream) (s : Status) → IsEnd called.status → TookAll o called.page
-    → ((s ≡ called.status) × TookAll e called.told) ⊎ ((s ≡ Status.WriteFault) × TookFront e called.told)
-    → IsAnswered (Is called) s o e
+    → ((s ≡ called.status) × TookAll e called.told) ⊎ ((s ≡ Status.WriteFault) × TookFront e called.told) → IsAnswered (Is called) s o e
 answered_end called o e s end page (inl told) =
     answered_whole called o e s (subst IsEnd (sym told.0) end) told.0 page told.1
 answered_end called o e s end page (inr cut) =
@@ -45,8 +43,7 @@ answer_of c text C give o e Status.Memory (quiet, inr part) = (quiet, inr (inl (
 answer_of c text C give o e s r = absurd r
 
 -- the same of one thing that is called for
-pub answer_by : (c : Command) (text : List ℕ) (called : Called) → Calls c text called
-    → (o e : Stream) (s : Status) → IsAnswered (Is called) s o e → IsAnswer c s text o e
+pub answer_by : (c : Command) (text : List ℕ) (called : Called) → Calls c text called → (o e : Stream) (s : Status) → IsAnswered (Is called) s o e → IsAnswer c s text o e
 answer_by c text called calls o e s r = answer_of c text (Is called) (λ other is. subst (Calls c text) (sym is) calls) o e s r
 
 -- the input was refused, or memory ran out

@@ -143,8 +143,7 @@ module _ (terms : Terms) (plan : Plan) (tunes rest : List TuneText) where
       record {
         before = way.before ++ batch;
         whole =
-            append_assoc way.before batch later
-            ∙ ap (λ l. way.before ++ l) (ap (λ l. l ++ later) front ∙ ap (λ l. take n rest ++ l) back ∙ take-append-drop n rest) ∙ way.whole;
+            append_assoc way.before batch later ∙ ap (λ l. way.before ++ l) (ap (λ l. l ++ later) front ∙ ap (λ l. take n rest ++ l) back ∙ take-append-drop n rest) ∙ way.whole;
         running = record {
           outcomes = run.outcomes ++ taken.outcomes;
           given = run.given;

@@ -26,8 +26,7 @@ module _ (plan : Plan) (paper : Paper) (outcomes : List Outcome) (given pages : 
       let count = last_count in
       let all : length (sheet_of plan paper outcomes).pages ≡ m = omega (arith, count, at, end) in
       ap (λ l. numbered page_text (length given + 1) l ++ trailer (length (sheet_of plan paper outcomes).pages)) rest
-      ∙ ap (λ j. numbered page_text (length given + 1) pages ++ trailer j) all
-      ∙ ap (λ j. numbered page_text (j + 1) pages ++ trailer m) (sym at)
+      ∙ ap (λ j. numbered page_text (length given + 1) pages ++ trailer j) all ∙ ap (λ j. numbered page_text (j + 1) pages ++ trailer m) (sym at)
 
   -- the last pages were not written to their end
   pub pages_stopped : (b a : Option (List ℕ)) (n k l : ℕ) (why : Status) → k ≡ length given → WasStopped why (stream b a n l) (numbered page_text (k + 1) pages)

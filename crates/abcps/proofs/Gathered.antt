@@ -27,13 +27,11 @@ pub gathering_first : (terms : Terms) (tunes : List TuneText) → IsGathering te
 gathering_first terms tunes = record { before = []; whole = refl; gathered = record { outcomes = []; set = tt; value = refl; good = tt } }
 
 pub gathering_more : (terms : Terms) (tunes rest batch later : List TuneText) (n : ℕ) (old new : List Block) → batch ≡ take n rest → later ≡ drop n rest
-    → ((before : List TuneText) → AreGathered terms before old → AreGathered terms (before ++ batch) new) → IsGathering terms tunes rest old
-    → IsGathering terms tunes later new
+    → ((before : List TuneText) → AreGathered terms before old → AreGathered terms (before ++ batch) new) → IsGathering terms tunes rest old → IsGathering terms tunes later new
 gathering_more terms tunes rest batch later n old new front back more way = record {
   before = way.before ++ batch;
   whole =
-      append_assoc way.before batch later
-      ∙ ap (λ l. way.before ++ l) (ap (λ l. l ++ later) front ∙ ap (λ l. take n rest ++ l) back ∙ take-append-drop n rest) ∙ way.whole;
+      append_assoc way.before batch later ∙ ap (λ l. way.before ++ l) (ap (λ l. l ++ later) front ∙ ap (λ l. take n rest ++ l) back ∙ take-append-drop n rest) ∙ way.whole;
   gathered = more way.before way.gathered;
 }
 
@@ -41,8 +39,7 @@ pub none_left : (l : List TuneText) (b : Bool) → b ≡ (length l == 0) → b �
 none_left [] b tells is = refl
 none_left (tune ∷ l) b tells is = absurd (grind (arith, nat_tests))
 
-pub gathering_done : (terms : Terms) (tunes rest : List TuneText) (blocks : List Block) → rest ≡ [] → IsGathering terms tunes rest blocks
-    → AreGathered terms tunes blocks
+pub gathering_done : (terms : Terms) (tunes rest : List TuneText) (blocks : List Block) → rest ≡ [] → IsGathering terms tunes rest blocks → AreGathered terms tunes blocks
 gathering_done terms tunes rest blocks none way =
     subst (λ l. AreGathered terms l blocks) (sym (append-nil way.before) ∙ ap (λ l. way.before ++ l) (sym none) ∙ way.whole) way.gathered
 

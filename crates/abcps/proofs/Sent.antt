@@ -86,13 +86,11 @@ document_parts paper given sheet frame front =
     let rest : drop (length given) sheet.pages ≡ front.rest = ap (λ l. drop (length given) l) front.whole ∙ drop-append_seam given front.rest in
     let pages : numbered page_text 1 sheet.pages ≡ numbered page_text 1 given ++ numbered page_text (length given + 1) (drop (length given) sheet.pages) =
     let same : 1 + length given ≡ length given + 1 = omega arith in
-    ap (λ l. numbered page_text 1 l) front.whole ∙ numbered_append page_text 1 given front.rest
-    ∙ ap (λ j. numbered page_text 1 given ++ numbered page_text j front.rest) same
+    ap (λ l. numbered page_text 1 l) front.whole ∙ numbered_append page_text 1 given front.rest ∙ ap (λ j. numbered page_text 1 given ++ numbered page_text j front.rest) same
     ∙ ap (λ l. numbered page_text 1 given ++ numbered page_text (length given + 1) l) (sym rest) in
     let behind = numbered page_text (length given + 1) (drop (length given) sheet.pages) in
     let end = trailer (length sheet.pages) in
-    document_text sheet ∙ ap (λ f. prolog f ++ (numbered page_text 1 sheet.pages ++ end)) frame
-    ∙ ap (λ text. prolog (frame_of paper) ++ (text ++ end)) pages
+    document_text sheet ∙ ap (λ f. prolog f ++ (numbered page_text 1 sheet.pages ++ end)) frame ∙ ap (λ text. prolog (frame_of paper) ++ (text ++ end)) pages
     ∙ ap (λ text. prolog (frame_of paper) ++ text) (append_assoc (numbered page_text 1 given) behind end)
     ∙ sym (append_assoc (prolog (frame_of paper)) (numbered page_text 1 given) (behind ++ end))
 

@@ -74,8 +74,7 @@ by_one_job c = c
 
 -- What commands that differ in nothing but jobs call for of an input is one.
 abbrev pub CallsOne : Type 0
-CallsOne = (c d : Command) (text : List ℕ) (called other : Called) → by_one_job d ≡ by_one_job c → Calls c text called → Calls d text other
-    → other ≡ called
+CallsOne = (c d : Command) (text : List ℕ) (called other : Called) → by_one_job d ≡ by_one_job c → Calls c text called → Calls d text other → other ≡ called
 
 -- Which inputs are refused: `inspect` and `hear` refuse what no sheet spells, and `check` what is no listing, each by the number of its
 -- first line that isn't good; and `paint` refuses what the machine halts on.

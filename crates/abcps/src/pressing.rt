@@ -30,8 +30,7 @@ pub(crate) struct Running {
     writer: DocWriter,
 }
 
-/// What is left to tell of a book whose document was written: the reports of its faults, and the
-/// answer.
+/// What is left to tell of a book whose document was written: the reports of its faults, and the answer.
 #[derive(Drop)]
 pub(crate) struct Printed {
     pub(crate) told: Text,

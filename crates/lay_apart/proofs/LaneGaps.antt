@@ -26,8 +26,7 @@ place_first v verses count lane e l =
     let inside : lane < length (staff_gaps v) = subst (λ n. lane < n) (sym (gaps_long v ∙ ap lane_count e)) l in
     record {
       inside = omega (arith, both, inside);
-      gap = ap (slice_index (gaps_of (v ∷ verses))) place ∙ get_or_append_left (staff_gaps v) (gaps_of verses) 0 lane inside
-          ∙ ap (λ n. slice_index (staff_gaps n) lane) e;
+      gap = ap (slice_index (gaps_of (v ∷ verses))) place ∙ get_or_append_left (staff_gaps v) (gaps_of verses) 0 lane inside ∙ ap (λ n. slice_index (staff_gaps n) lane) e;
     }
 
 place_behind : (v : ℕ) (verses : List ℕ) (s count lane : ℕ) → IsPlaceOf verses s count lane → IsPlaceOf (v ∷ verses) (suc s) count lane

@@ -47,15 +47,13 @@ module _ (n : ℕ) (reach : ℕ → ℕ → Option Reach) (gaps : List ℕ) (spr
         subst (λ i. (x_at at i +ℤ pos r.right) ≤ℤ pos width) (sym z) (h.ends.reaches lane r m (subst (λ i. reach i lane ≡ Some r) z e))
   ]
 
-  left_covered : (k lane : ℕ) (r : Reach) (box : Sides) → width < 2 ^ 20 → k < n → lane < length gaps → reach k lane ≡ Some r → Covers r box
-      → neg_ℤ box.left ≤ℤ pos r.left
+  left_covered : (k lane : ℕ) (r : Reach) (box : Sides) → width < 2 ^ 20 → k < n → lane < length gaps → reach k lane ≡ Some r → Covers r box → neg_ℤ box.left ≤ℤ pos r.left
   left_covered k lane r box small l m e c = elim c.0 [
     | inl is ↦ is
     | inr cut ↦ absurd (cut_left (x_at at k) r.left r.right width (left_inside k lane r l m e) (right_inside k lane r l m e) small cut)
   ]
 
-  right_covered : (k lane : ℕ) (r : Reach) (box : Sides) → width < 2 ^ 20 → k < n → lane < length gaps → reach k lane ≡ Some r → Covers r box
-      → box.right ≤ℤ pos r.right
+  right_covered : (k lane : ℕ) (r : Reach) (box : Sides) → width < 2 ^ 20 → k < n → lane < length gaps → reach k lane ≡ Some r → Covers r box → box.right ≤ℤ pos r.right
   right_covered k lane r box small l m e c = elim c.1 [
     | inl is ↦ is
     | inr cut ↦ absurd (cut_right (x_at at k) r.left r.right width (left_inside k lane r l m e) (right_inside k lane r l m e) small cut)
@@ -123,8 +121,7 @@ module _ (staves : List StaffMarks) (verses : List ℕ) (columns : List Column) 
       clear_boxes (x_at at r) (x_at at q) first.right second.left from.reach.right (gap_of x.lane) to.reach.left
       (subst (λ gap. (x_at at r +ℤ pos (from.reach.right + gap + to.reach.left)) ≤ℤ x_at at q) (place.gap ∙ number.1.gap) clear) from.right to.left
 
-  one_within : (x : Laid) (r : ℕ) (box : Sides) → Contains staff.marks x → IsBoxed x r box
-      → (pos 0 ≤ℤ (x_at at r +ℤ box.left)) × ((x_at at r +ℤ box.right) ≤ℤ pos width)
+  one_within : (x : Laid) (r : ℕ) (box : Sides) → Contains staff.marks x → IsBoxed x r box → (pos 0 ≤ℤ (x_at at r +ℤ box.left)) × ((x_at at r +ℤ box.right) ≤ℤ pos width)
   one_within x r box in_x at_x =
       let number = number_of count x.lane at_x.keeps (laned x in_x) in
       let has = has_reach x r number.0 box in_x at_x.rank_is at_x.box_is number.1.is number.1.low in

@@ -25,5 +25,4 @@ pub record IsBoxed (x : Laid) (rank : ℕ) (box : Sides) : Type 0 where
 pub record AreApart (width : ℕ) (at : List ℤ) (all : List Laid) : Type 0 where
   pub apart : (x y : Laid) (r q : ℕ) (first second : Sides) → Contains all x → Contains all y → IsBoxed x r first → IsBoxed y q second
       → x.lane ≡ y.lane → r < q → ((x_at at r +ℤ first.right) +ℤ pos (gap_of x.lane)) ≤ℤ (x_at at q +ℤ second.left)
-  pub within : (x : Laid) (r : ℕ) (box : Sides) → Contains all x → IsBoxed x r box
-      → (pos 0 ≤ℤ (x_at at r +ℤ box.left)) × ((x_at at r +ℤ box.right) ≤ℤ pos width)
+  pub within : (x : Laid) (r : ℕ) (box : Sides) → Contains all x → IsBoxed x r box → (pos 0 ≤ℤ (x_at at r +ℤ box.left)) × ((x_at at r +ℤ box.right) ≤ℤ pos width)

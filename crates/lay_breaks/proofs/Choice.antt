@@ -16,12 +16,7 @@ module _ (cost : ℕ → ℕ → Option ℕ) (forced : ℕ → Bool) where
   at_zero P p (x ∷ s) b e = let l : top s < x = b.0.rises in absurd (omega arith)
 
   pub chosen_zero : IsChosenBack cost forced 0 []
-  chosen_zero = record {
-    back = tt;
-    ends = refl;
-    least = λ s b e. omega arith;
-    latest = λ s b e q. at_zero (λ s. LexAtMost s []) tt s b e;
-  }
+  chosen_zero = record { back = tt; ends = refl; least = λ s b e. omega arith; latest = λ s b e q. at_zero (λ s. LexAtMost s []) tt s b e }
 
   -- a list that ends at bar i, past 0, leads there
   pub at_more : (m i : ℕ) (P : List ℕ → Type 0) → 0 < i → i ≤ m
@@ -39,10 +34,7 @@ module _ (cost : ℕ → ℕ → Option ℕ) (forced : ℕ → Bool) where
   row_none m i from pos le h = at_more m i (λ s. ⊥) pos le h
 
   pub row_least : (m i v from : ℕ) → 0 < i → i ≤ m → IsRow cost forced m i (Some v) from → IsLeastBack cost forced i v
-  row_least m i v from pos le h = record {
-    way = (i ∷ h.way.0, (h.way.1.span, h.way.1.back), refl, h.way.3);
-    least = at_more m i (λ s. v ≤ sum_back cost s) pos le h.least;
-  }
+  row_least m i v from pos le h = record { way = (i ∷ h.way.0, (h.way.1.span, h.way.1.back), refl, h.way.3); least = at_more m i (λ s. v ≤ sum_back cost s) pos le h.least }
 
   lex_under : (s r : List ℕ) → top s < top r → LexAtMost s r
   lex_under [] r l = tt
@@ -63,11 +55,7 @@ module _ (cost : ℕ → ℕ → Option ℕ) (forced : ℕ → Bool) where
       t = c.ends ∙ sym h.way.2
 
       leads : LeadsTo cost forced m i r
-      leads = record {
-        back = c.back;
-        below = let b : top h.way.0 < m = h.way.1.below in omega (arith, t);
-        span = subst (λ t. IsSpan cost forced t i) (sym t) h.way.1.span;
-      }
+      leads = record { back = c.back; below = let b : top h.way.0 < m = h.way.1.below in omega (arith, t); span = subst (λ t. IsSpan cost forced t i) (sym t) h.way.1.span }
 
       price : (s : List ℕ) → top s ≡ a → sum_back cost (i ∷ s) ≡ sum_back cost s + unwrap_or (cost a i) 0
       price s e = rw e refl

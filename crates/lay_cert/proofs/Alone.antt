@@ -179,10 +179,7 @@ no_way p (l ∷ ls) (m ∷ ms) q fs rest g h s k e =
 
 -- the lines that lead to the end are those of the entries told
 pub told_by_lines : (text : List ℕ) (ls : List Line) (es : List Entry) → text ≡ lines_then ls [] → Leads begun ls (ended es) → IsListing text es
-told_by_lines text ls es e h = record {
-  entries = leads_good begun ls (ended es) h tt;
-  lines = e ∙ ap (λ ls. lines_then ls []) (sym (leads_lines begun ls (ended es) h tt));
-}
+told_by_lines text ls es e h = record { entries = leads_good begun ls (ended es) h tt; lines = e ∙ ap (λ ls. lines_then ls []) (sym (leads_lines begun ls (ended es) h tt)) }
 
 pub good_by_lines : GoodByLines
 good_by_lines text es = (

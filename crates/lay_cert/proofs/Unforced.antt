@@ -15,12 +15,7 @@ module _ (cost : ℕ → ℕ → Option ℕ) (forced : ℕ → Bool) (stops : (a
 pub forced_by_spans : ForcedBySpans
 forced_by_spans cost forced free stops breaks i = (
   (λ h. record { rises = h.rises; ends = h.ends; every_forced = λ f l t. absurd (true≢false (sym t)); fits = h.fits }),
-  (λ h. record {
-    rises = h.rises;
-    ends = h.ends;
-    every_forced = λ f l t. every f h l t;
-    fits = h.fits;
-  }),
+  (λ h. record { rises = h.rises; ends = h.ends; every_forced = λ f l t. every f h l t; fits = h.fits }),
 )
   where
     every : (f : ℕ) → IsLegal cost none_forced breaks i → f ≤ i → forced f ≡ true → Contains breaks f

@@ -68,8 +68,7 @@ module _ (lengths : List ℕ) (m n : ℕ) (some : 1 ≤ m) (within : m < n) (own
       let placed = measures_in lengths m (m + 1) 2 (omega arith) first m false ds (omega arith) (omega (arith, long)) (slice_fit lengths m (m + 1) v.measures fit) in
       let place = Some (fixed_place first) in
       ap (λ c. (head_part begun m ds ++ (if c then map (drawn_at (rank_at begun 0 0 Class.First 0)) (bar_marks v.first) else [])) ++ measures_marks begun lengths place m true ds) (no_first (is_lower v.seat) (has_features v.first))
-      ∙ ap (λ t. t ++ measures_marks begun lengths place m true ds) (append-nil (head_part begun m ds))
-      ∙ ap (λ t. head_part begun m ds ++ t)
+      ∙ ap (λ t. t ++ measures_marks begun lengths place m true ds) (append-nil (head_part begun m ds)) ∙ ap (λ t. head_part begun m ds ++ t)
       (measures_same begun lengths place m ds (one_plain m (m + 1 - m) v.measures (omega arith) plain) ∙ measures_laid begun first lengths m false ds
       ∙ lay_moved 1 own begun slots (all_weaker (λ x. IsPlaced lengths m (m + 1) 2 x.key) (λ x. rank_of begun x.key ≡ 1 + rank_of own x.key)
       (λ x h. let p = h.past in ap (λ c. if c then 1 + rank_of own x.key else rank_of own x.key) (past_head m x.key h.from (omega (arith, p)))) slots placed)

@@ -91,8 +91,7 @@ pub both_joined : (n : ℕ) (xs xt xu ys yt yu : List Laid) → AreJoined n xs x
 both_joined n xs xt xu ys yt yu h g = record {
   front = λ rank lane l. two rank lane xs xt ys yt (h.front rank lane l) (g.front rank lane l);
   behind = λ rank lane.
-      filter_map-append (box_at (n + rank) lane) xs ys
-      ∙ ap (λ t. t ++ boxes_at (n + rank) lane ys) (h.behind rank lane) ∙ ap (λ t. boxes_at rank lane xu ++ t) (g.behind rank lane)
+      filter_map-append (box_at (n + rank) lane) xs ys ∙ ap (λ t. t ++ boxes_at (n + rank) lane ys) (h.behind rank lane) ∙ ap (λ t. boxes_at rank lane xu ++ t) (g.behind rank lane)
       ∙ sym (filter_map-append (box_at rank lane) xu yu);
 }
   where
@@ -115,8 +114,7 @@ module _ (lengths : List ℕ) (a b n : ℕ) (front behind : List ColumnKey) (ord
       let more_in = measures_in lengths b (b + 1) 0 (omega arith) first b false ys (omega arith) (omega (arith, long')) (slice_fit lengths b (b + 1) v.measures fit) in
       columns_laid keys lengths first a v.seat v.first (slice_range v.measures a (b + 1))
       ∙ ap (λ t. lay keys (columns_slots lengths first a v.seat v.first t)) (slice_more a b v.measures (omega (arith, order)))
-      ∙ ap (lay keys) (slots_more lengths first a b v.seat v.first xs ys (omega (arith, long, order)) (omega (arith, long, order)))
-      ∙ lay_append keys begun more
+      ∙ ap (lay keys) (slots_more lengths first a b v.seat v.first xs ys (omega (arith, long, order)) (omega (arith, long, order))) ∙ lay_append keys begun more
       ∙ ap (λ t. t ++ lay keys more) (lay_same front keys begun (all_weaker (λ x. IsPlaced lengths a b 0 x.key) (λ x. rank_of keys x.key ≡ rank_of front x.key) (λ x h. rank_front b front behind x.key h.to from) begun begun_in))
       ∙ ap (λ t. lay front begun ++ t) (lay_moved (length front) behind keys more (all_weaker (λ x. IsPlaced lengths b (b + 1) 0 x.key) (λ x. rank_of keys x.key ≡ length front + rank_of behind x.key) (λ x h. rank_behind b front behind x.key h.from until) more more_in))
       ∙ ap (λ t. t ++ map (moved (length front)) (lay behind more)) (sym (columns_laid front lengths first a v.seat v.first xs))
@@ -180,8 +178,7 @@ module _ (lengths verses : List ℕ) (a b n : ℕ) (keys : List ColumnKey) (orde
       → columns_of keys (map (staff_marks keys lengths a b) staves) lengths verses ≡ columns_of keys (map (core_staff keys lengths a b) staves) lengths verses
   columns_same staves h bars =
       let drawn = columns_of keys (map (staff_marks keys lengths a b) staves) lengths verses in
-      sym (append-nil drawn)
-      ∙ sym (columns_join keys [] (map (core_staff keys lengths a b) staves) (map (staff_marks keys lengths a b) staves) (map empty staves) lengths verses
+      sym (append-nil drawn) ∙ sym (columns_join keys [] (map (core_staff keys lengths a b) staves) (map (staff_marks keys lengths a b) staves) (map empty staves) lengths verses
       (λ i d inside. All-nil (λ l. l.measure ≢ (slice_index_or keys i d).measure)) (all_drawn staves h bars))
       ∙ ap (λ ks. columns_of ks (map (core_staff keys lengths a b) staves) lengths verses) (append-nil keys)
 
@@ -245,8 +242,7 @@ module _ (s : Score) (good : IsGoodScore s) (a : ℕ) (verses : List ℕ) where
         keys ++ behind,
         keys_grow s (ticks s) a b keys behind order within all_same below above are more.keys,
         columns_more (ticks s) a b s.measures keys behind order within below above (drawn_staves s) verses fits (bars b keys (omega (arith, within)) are)
-            ∙ ap (λ t. t ++ columns_of behind (map (measure_staff false behind (ticks s) b) (drawn_staves s)) (ticks s) verses) value
-            ∙ ap (λ t. columns ++ t) (sym more.value),
+            ∙ ap (λ t. t ++ columns_of behind (map (measure_staff false behind (ticks s) b) (drawn_staves s)) (ticks s) verses) value ∙ ap (λ t. columns ++ t) (sym more.value),
       )
 
   many_more : (b : ℕ) (columns : List Column) (measures : List (List Column)) → a < b → b + length measures ≤ s.measures → AreColumns s a b verses columns → AreColumnsFrom s (timeline_of s) a b verses measures
@@ -266,8 +262,7 @@ module _ (s : Score) (good : IsGoodScore s) (a : ℕ) (verses : List ℕ) where
   system_columns b m columns order within call (keys, are, value) =
       ap (λ t. columns_of m.keys t (ticks s) verses) call.staves
       ∙ columns_same (ticks s) verses a b s.measures m.keys order within (drawn_staves s) fits (bars b m.keys within call.keys)
-      ∙ ap (λ ks. columns_of ks (map (core_staff ks (ticks s) a b) (drawn_staves s)) (ticks s) verses) (same_keys m.keys keys (called_keys s (ticks s) a b) call.keys are)
-      ∙ value
+      ∙ ap (λ ks. columns_of ks (map (core_staff ks (ticks s) a b) (drawn_staves s)) (ticks s) verses) (same_keys m.keys keys (called_keys s (ticks s) a b) call.keys are) ∙ value
 
   joined_from : (b : ℕ) (m : SystemMarks) (measures : List (List Column)) → a < b → a + length measures ≡ b → b ≤ s.measures → IsCall s (timeline_of s) a b m
       → AreColumnsFrom s (timeline_of s) a a verses measures → columns_of m.keys m.staves (ticks s) verses ≡ one_after_the_other measures

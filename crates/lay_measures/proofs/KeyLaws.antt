@@ -9,8 +9,7 @@ slice_more a b xs h =
     let e : b + 1 - a ≡ (b - a) + 1 = omega (arith, h) in
     let f : a + (b - a) ≡ b = omega (arith, h) in
     let g : 1 ≡ b + 1 - b = omega arith in
-    ap (λ k. take k (drop a xs)) e ∙ take-add (b - a) 1 (drop a xs)
-    ∙ ap (λ t. take (b - a) (drop a xs) ++ take 1 t) (drop-drop (b - a) a xs ∙ ap (λ k. drop k xs) f)
+    ap (λ k. take k (drop a xs)) e ∙ take-add (b - a) 1 (drop a xs) ∙ ap (λ t. take (b - a) (drop a xs) ++ take 1 t) (drop-drop (b - a) a xs ∙ ap (λ k. drop k xs) f)
     ∙ ap (λ k. take (b - a) (drop a xs) ++ take k (drop b xs)) g
 
 pub slice_long : {X : Type 0} (a b : ℕ) (xs : List X) → b ≤ length xs → length (slice_range xs a b) ≡ b - a

@@ -18,8 +18,7 @@ Same xs ys = (rank lane : ℕ) → boxes_at rank lane xs ≡ boxes_at rank lane 
 
 pub same_append : (xs xt ys yt : List Laid) → Same xs xt → Same ys yt → Same (xs ++ ys) (xt ++ yt)
 same_append xs xt ys yt h g rank lane =
-    filter_map-append (box_at rank lane) xs ys
-    ∙ ap (λ t. t ++ boxes_at rank lane ys) (h rank lane) ∙ ap (λ t. boxes_at rank lane xt ++ t) (g rank lane)
+    filter_map-append (box_at rank lane) xs ys ∙ ap (λ t. t ++ boxes_at rank lane ys) (h rank lane) ∙ ap (λ t. boxes_at rank lane xt ++ t) (g rank lane)
     ∙ sym (filter_map-append (box_at rank lane) xt yt)
 
 pub same_itself : (xs : List Laid) → Same xs xs
@@ -154,6 +153,5 @@ staff_same keys lengths a b vs rank lane inside =
     let bridges = staff_bridges keys lengths a b vs in
     sym (filter_map-append (box_at rank lane) (by_columns (length keys) parts) bridges
     ∙ ap (λ t. boxes_at rank lane (by_columns (length keys) parts) ++ t) (bridges_none keys (flat_map (bridges_of lengths a b) vs) rank lane)
-    ∙ append-nil (boxes_at rank lane (by_columns (length keys) parts))
-    ∙ columned_taken (box_at rank lane) rank (no_box rank lane) (length keys) parts inside
+    ∙ append-nil (boxes_at rank lane (by_columns (length keys) parts)) ∙ columned_taken (box_at rank lane) rank (no_box rank lane) (length keys) parts inside
     ∙ written_same keys lengths room a b 1 [] vs rank lane)

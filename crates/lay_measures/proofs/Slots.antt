@@ -37,8 +37,7 @@ marks_moved n q (x ∷ xs) = rw (ink_moved n q x.ink, marks_moved n q xs) refl
 pub lay_moved : (n : ℕ) (keys keys' : List ColumnKey) (xs : List Slot) → AllByRecursion (λ x. rank_of keys' x.key ≡ n + rank_of keys x.key) xs → lay keys' xs ≡ map (moved n) (lay keys xs)
 lay_moved n keys keys' [] h = refl
 lay_moved n keys keys' (x ∷ xs) h =
-    ap (λ q. map (drawn_at q) x.marks ++ lay keys' xs) h.0
-    ∙ ap (λ t. t ++ lay keys' xs) (marks_moved n (rank_of keys x.key) x.marks)
+    ap (λ q. map (drawn_at q) x.marks ++ lay keys' xs) h.0 ∙ ap (λ t. t ++ lay keys' xs) (marks_moved n (rank_of keys x.key) x.marks)
     ∙ ap (λ t. map (moved n) (map (drawn_at (rank_of keys x.key)) x.marks) ++ t) (lay_moved n keys keys' xs h.1)
     ∙ sym (map-append (moved n) (map (drawn_at (rank_of keys x.key)) x.marks) (lay keys xs))
 

@@ -17,12 +17,6 @@ one_after_the_other measures = flat_map (λ columns. columns) measures
 
 -- of the system of measures a to b - 1, for any numbers of verses
 abbrev pub MeasuresJoin : Type 0
-MeasuresJoin = (s : Score) (t : Timeline) (a b : ℕ) (m : SystemMarks) (verses : List ℕ) (measures : List (List Column))
-    → IsGoodScore s
-    → t ≡ timeline_of s
-    → a < b
-    → a + length measures ≡ b
-    → b ≤ s.measures
-    → IsCall s t a b m
-    → AreColumnsFrom s t a a verses measures
+MeasuresJoin = (s : Score) (t : Timeline) (a b : ℕ) (m : SystemMarks) (verses : List ℕ) (measures : List (List Column)) → IsGoodScore s → t ≡ timeline_of s → a < b
+    → a + length measures ≡ b → b ≤ s.measures → IsCall s t a b m → AreColumnsFrom s t a a verses measures
     → columns_of m.keys m.staves t.lengths verses ≡ one_after_the_other measures

@@ -100,7 +100,7 @@ fn measure_staves(
     requires verses { verses_on voices.now ≤ 128 }
     ensures { IfOk result (λ r. r ≡ map (measure_staff begins frame.now.keys.now frame.now.lengths.now frame.now.a) (grouped stands_lower voices.now)) }
 {
-    let mut staves = Row::new(alloc);
+    let mut staves = Row::with_room(alloc, voices.len())?;
     let mut rest = voices;
     'staves: while let [_, behind @ ..] = rest {
         let count = lower_count(behind) + 1;

@@ -1,5 +1,4 @@
--- Blocks on pages, from the top of a page down. A block that is tied to the next stands on one page
--- with it; such a run of blocks is a group.
+-- Blocks on pages, from the top of a page down. A block that is tied to the next stands on one page with it; such a run of blocks is a group.
 use Rattle.std.specs.Prelude.{◌≡◌, ◌^◌, ◌≤◌, ⊤, ℕ, suc, ◌+◌, nat_le, nat_lt, ℤ, pos, negsuc, ◌-ℤ◌, ◌≤ℤ◌, ◌<ℤ◌, Bool, true, false, not, ◌&&◌, ◌||◌, List, [], ◌∷◌, Option, Some, None}
 use Rattle.lay_pages.specs.declared.filling.{Block.Block, Spot.Spot, Place.Place, Standing.Standing, PageError.PageError}
 

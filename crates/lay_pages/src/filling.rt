@@ -13,8 +13,7 @@ pub struct Block {
     pub keep: bool,
 }
 
-/// Where a block stands: its page, from 0, and the height of its top, in u above
-/// the bottom of the body.
+/// Where a block stands: its page, from 0, and the height of its top, in u above the bottom of the body.
 #[derive(Clone, Copy, PartialEq, Eq)]
 pub struct Spot {
     pub page: u32,
@@ -236,8 +235,7 @@ fn page_behind(behind: Option<Standing>) -> u32
 /// the others and its place, and the answer the last of all. So blocks may be filled a list at a
 /// time: each list ends with a block that isn't tied to the next one.
 ///
-/// No group of the blocks is higher than a page. `Memory` comes also where there are 2^32 pages
-/// or more.
+/// No group of the blocks is higher than a page. `Memory` comes also where there are 2^32 pages or more.
 pub fn fill_behind(
     alloc: Global,
     high: u32,

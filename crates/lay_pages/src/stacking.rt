@@ -13,10 +13,9 @@ pub struct Heights {
     pub height: i64,
 }
 
-/// The staves of a system under one another: the highest mark of the first is at
-/// the top, and each next staff's highest mark lies under the lowest mark of the
-/// one before, as far as the gap before it says. There is a gap for each staff but
-/// the first, in u. The block ends at the lowest mark of the last.
+/// The staves of a system under one another: the highest mark of the first is at the top, and each next
+/// staff's highest mark lies under the lowest mark of the one before, as far as the gap before it says.
+/// There is a gap for each staff but the first, in u. The block ends at the lowest mark of the last.
 pub fn stack(alloc: Global, system: &SystemMarks, gaps: &[u32]) -> Result<Heights, Memory>
     requires few { length system.now.staves ≤ 16 }
     requires good { AreGoodStaves system.now.staves }

@@ -4,8 +4,7 @@ use Rattle.mus_laid.specs.{declared.laid.Laid.Laid, declared.laid.Mark.Mark, dec
 use Rattle.lay_shown.specs.{Ranks.AreAnchored, Ranks.AreRanked, Ranks.IsRanked, Ranks.marks_ranks, Ranks.staves_ranks, Shown.IsShown, Texts.HasPrinted}
 
 -- what holds of things holds of others that come to the same
-pub same_in : {X Y : Type 0} (f : X → Y) (P : X → Type 0) → ((x y : X) → f x ≡ f y → P x → P y)
-    → (xs ys : List X) → map f xs ≡ map f ys → All P xs → All P ys
+pub same_in : {X Y : Type 0} (f : X → Y) (P : X → Type 0) → ((x y : X) → f x ≡ f y → P x → P y) → (xs ys : List X) → map f xs ≡ map f ys → All P xs → All P ys
 same_in f P h xs ys e all k d l =
     let less : k < length xs = let a = length-map xs f in let b = length-map ys f in let c = ap (λ zs. length zs) e in omega (arith, a, b, c, l) in
     h (get_or xs k d) (get_or ys k d)
@@ -35,8 +34,7 @@ staves_shape [] = refl
 staves_shape (s ∷ staves) = ap (λ t. t ++ staves_ranks staves) (sym (ranks_shape s.marks)) ∙ ap (λ t. marks_ranks (staff_shape s) ++ t) (staves_shape staves)
 
 -- of all marks of a system
-all_same : (P : Laid → Type 0) → ((x : Laid) → P (laid_shape x) ≡ P x) → (m n : SystemMarks) → AreAlike m n
-    → All (λ s. All P s.marks) m.staves → All (λ s. All P s.marks) n.staves
+all_same : (P : Laid → Type 0) → ((x : Laid) → P (laid_shape x) ≡ P x) → (m n : SystemMarks) → AreAlike m n → All (λ s. All P s.marks) m.staves → All (λ s. All P s.marks) n.staves
 all_same P is m n same =
     same_in staff_shape (λ s. All P s.marks)
     (λ s t e. same_in laid_shape P (λ x y f h. subst (λ T. T) (is y) (subst P f (subst (λ T. T) (sym (is x)) h))) s.marks t.marks e)

@@ -64,8 +64,7 @@ change_has c old ch =
     let x = behind_clef ch.clef in
     let key = key_if c (x + entry_gap) old ch.key in
     let meter = meter_if (x + entry_step * count_if old ch.key) ch.meter in
-    either (clef_if ch.clef ++ key) meter
-    ∙ ap (λ b. b || has_some meter) (either (clef_if ch.clef) key)
+    either (clef_if ch.clef ++ key) meter ∙ ap (λ b. b || has_some meter) (either (clef_if ch.clef) key)
     ∙ rw (clef_has ch.clef, key_has c (x + entry_gap) old ch.key, meter_has (x + entry_step * count_if old ch.key) ch.meter) refl
 
 -- ---- events

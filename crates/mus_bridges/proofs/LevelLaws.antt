@@ -69,8 +69,7 @@ some_at k j (suc n) p qs low high = by (cases_lt j k) (λ l. some_at k (j + 1) n
         split ∙ (λ i. cond (other i) (level_at j p qs) [] ++ more l i)
     by (inr g) more =
         let same : j ≡ k = omega (arith, low, g) in
-        split ∙ (λ i. cond (eq-eqb j k same i) (level_at (same i) p qs) [] ++ none_at k (j + 1) n p qs (λ l. absurd (omega (arith, l, g))) i)
-        ∙ append-nil (level_at k p qs)
+        split ∙ (λ i. cond (eq-eqb j k same i) (level_at (same i) p qs) [] ++ none_at k (j + 1) n p qs (λ l. absurd (omega (arith, l, g))) i) ∙ append-nil (level_at k p qs)
 
 alone : (k j n : ℕ) (p : Stem) → filter (is_at k) (levels_at j n p []) ≡ []
 alone k j zero p = refl
@@ -134,8 +133,7 @@ unfolding levels_of goes_on_from goes_on
 levels_are k group flags [] = refl
 levels_are k group flags (p ∷ []) =
     filter_append k (levels_at (levels_before p group flags) (p.flags - levels_before p group flags) p []) []
-    ∙ ap (λ t. t ++ []) (alone k (levels_before p group flags) (p.flags - levels_before p group flags) p)
-    ∙ none (goes_on_from k group flags p)
+    ∙ ap (λ t. t ++ []) (alone k (levels_before p group flags) (p.flags - levels_before p group flags) p) ∙ none (goes_on_from k group flags p)
   where
     none : (b : Bool) → [] ≡ long_runs k (skip b ((p ∷ []) ∷ []))
     none true = refl
@@ -143,8 +141,7 @@ levels_are k group flags (p ∷ []) =
 levels_are k group flags (p ∷ q ∷ qs) =
     filter_append k here (levels_of p.group p.flags (q ∷ qs))
     ∙ ap (λ t. filter (is_at k) here ++ t) (levels_are k p.group p.flags (q ∷ qs) ∙ ap (λ t. long_runs k (skip (goes_on_from k p.group p.flags q) t)) front)
-    ∙ by (goes_on_from k group flags p) refl (cases_lt k p.flags)
-    ∙ sym (ap (λ t. long_runs k (skip (goes_on_from k group flags p) (put_before (joins k) p t))) front)
+    ∙ by (goes_on_from k group flags p) refl (cases_lt k p.flags) ∙ sym (ap (λ t. long_runs k (skip (goes_on_from k group flags p) (put_before (joins k) p t))) front)
   where
     here : List Level
     here = levels_at (levels_before p group flags) (p.flags - levels_before p group flags) p (q ∷ qs)
@@ -183,8 +180,7 @@ levels_are k group flags (p ∷ q ∷ qs) =
         ∙ two (goes_on_from k p.group p.flags q) (goes_on_from k group flags p) e
     by false e (inl has) =
         ap (λ t. t ++ long_runs k (skip (goes_on_from k p.group p.flags q) ((q ∷ r) ∷ rs))) (begins_here k group flags p (q ∷ qs) has e)
-        ∙ begun (goes_on k p q) refl (lt-ltb k p.flags has)
-        ∙ ap (λ b. long_runs k (skip b (put_before (joins k) p ((q ∷ r) ∷ rs)))) (sym e)
+        ∙ begun (goes_on k p q) refl (lt-ltb k p.flags has) ∙ ap (λ b. long_runs k (skip b (put_before (joins k) p ((q ∷ r) ∷ rs)))) (sym e)
     by false e (inr few) =
         ap (λ t. t ++ long_runs k (skip (goes_on_from k p.group p.flags q) ((q ∷ r) ∷ rs))) (begins_never k group flags p (q ∷ qs) few)
         ∙ apart (goes_on_from k p.group p.flags q) (and_right ((q.group == p.group) && nat_lt k q.flags) (nat_lt k p.flags) (le-ltb k p.flags few))

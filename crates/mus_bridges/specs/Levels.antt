@@ -1,6 +1,5 @@
 -- The levels of beams. Level k, from 0, of a beam joins each maximal run of neighbours in it that have more than k flags.
--- A run of two events or more is drawn, from its first to its last; a run of one is a stub. What is drawn comes by its
--- first events, and at one event by level.
+-- A run of two events or more is drawn, from its first to its last; a run of one is a stub. What is drawn comes by its first events, and at one event by level.
 use Rattle.std.specs.{Prelude.{◌≡◌, ℕ, ◌+◌, ◌≤◌, Bool, false, ◌&&◌, ◌==◌, nat_lt, ⊤, List, [], ◌∷◌, ◌++◌, map, filter}, List.AllByRecursion}
 use Rattle.mus_stems.specs.Runs.{AreMaximalRuns}
 use Rattle.mus_laid.specs.declared.drawn.Bridge.{Bridge}

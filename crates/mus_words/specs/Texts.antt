@@ -34,8 +34,7 @@ texts_above f =
 unfoldable pub texts_below : Flat → List (List ℕ)
 texts_below f = flat_map (shown_deco true) f.event.decos ++ flat_map (shown_mention true) f.event.mentions
 
--- texts are over one another, and k of the column are nearer to the staff: above from a gap above the highest mark
--- on, below from under the verses on
+-- texts are over one another, and k of the column are nearer to the staff: above from a gap above the highest mark on, below from under the verses on
 unfoldable pub above_dy : ℤ → ℕ → ℤ
 above_dy high k = cut ((high +ℤ pos text_gap) +ℤ pos (text_step * k))
 

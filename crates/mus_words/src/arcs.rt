@@ -39,8 +39,7 @@ fn put_arc_between(
     })
 }
 
-/// The dy of an end of a piece, by whether it and the other end are cut and where both would stand
-/// uncut.
+/// The dy of an end of a piece, by whether it and the other end are cut and where both would stand uncut.
 fn piece_dy(is_cut: bool, is_other_cut: bool, own: i32, other: i32) -> i32
     ensures { result ≡ piece_dy is_cut is_other_cut own other }
 {

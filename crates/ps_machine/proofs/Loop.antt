@@ -12,12 +12,7 @@ pub record Come (text : List ℕ) (budget count : ℕ) (calls : List Simple) (m 
   pub read : IsRead rest left fault
 
 pub come_first : (text : List ℕ) (budget : ℕ) (calls : List Simple) (m : State) (left : List Token) (fault : Option Cause) → calls ≡ [] → m ≡ first_state → IsRead (passed false text) left fault → Come text budget 0 calls m left fault
-come_first text budget calls m left fault e f r = record {
-  rest = passed false text;
-  run = rw (e, f) (here (at first_state text));
-  within = omega arith;
-  read = r;
-}
+come_first text budget calls m left fault e f r = record { rest = passed false text; run = rw (e, f) (here (at first_state text)); within = omega arith; read = r }
 
 -- the next token, and the text behind it
 record Coming (p : Place) (t : Token) (calls : List Simple) (m : State) (left : List Token) (fault : Option Cause) : Type 0 where

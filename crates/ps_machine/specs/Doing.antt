@@ -5,15 +5,7 @@ use Rattle.ps_machine.specs.{declared.state.Machine.Machine, declared.operands.B
 
 -- the state that the code keeps
 abbrev pub state_of : Machine → State
-state_of m = record {
-  stack = reverse m.stack.items;
-  names = names_of m.names;
-  made = m.made;
-  now = m.canvas.now;
-  saved = m.canvas.saved;
-  paints = m.paints;
-  pages = m.pages;
-}
+state_of m = record { stack = reverse m.stack.items; names = names_of m.names; made = m.made; now = m.canvas.now; saved = m.canvas.saved; paints = m.paints; pages = m.pages }
 
 -- what a token did, and what the run says where it stops
 abbrev pub DidOrStopped : Outcome → Result (Unit {0}) Stop → State → Type 0

@@ -160,8 +160,4 @@ prolog_taken f fr =
     rw (pg_definition f) (takes_definition (codes "pg") (pg_text f ++ codes "setfont") (pg_body f) (being with_fixed true) (record { regular = refl; good = refl; other = refl }) (pg_lexed f fr) refl) in
     let glyphs = glyphs_taken glyphs_in_order (with_pg f) refl in
     let all = both_taken (both_taken (both_taken (both_taken (both_taken (takes_comment (codes "!PS-Adobe-3.0") m refl) box) procedures_taken) definition_of_page) glyphs) (takes_comment (codes "%EndProlog") (being (all_names f) true) refl) in
-    rw (prolog_parts f) (record {
-      count = ((((0 + 0) + 43) + 3) + 3 * length glyphs_in_order) + 0;
-      few = few_tokens f;
-      takes = all;
-    })
+    rw (prolog_parts f) (record { count = ((((0 + 0) + 43) + 3) + 3 * length glyphs_in_order) + 0; few = few_tokens f; takes = all })

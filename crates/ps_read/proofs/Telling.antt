@@ -166,13 +166,7 @@ ended_good o s h m =
     let y = h.system in
     let i = Item.System o.a o.b (o.staves ++ s ∷ []) in
     open_more o.page i y.page
-    (record {
-      rising = y.rising;
-      last = y.last;
-      some = omega (arith, n);
-      joined = joined_more o.join o.staves s y.joined m;
-      good = All-push IsStaff o.staves s y.good h.staff;
-    })
+    (record { rising = y.rising; last = y.last; some = omega (arith, n); joined = joined_more o.join o.staves s y.joined m; good = All-push IsStaff o.staves s y.good h.staff })
     (order_other o.page.items i y.page.order (system_after o.a o.b (o.staves ++ s ∷ [])))
 
 tune_more : (p : OpenPage) (k : ℕ) → IsOpenPage p → IsOrdinal k → IsOpenPage (with_item p (Item.Tune k)) × IsOpenTo (p.items ++ Item.Tune k ∷ [])
@@ -291,13 +285,7 @@ step_tells (Place.Items p) (line.System a b) t m h =
 step_tells (Place.Items p) (line.Fixed text) t m h = (told t (page_front p) text (codes "grestore") h.0 m, h.1)
 step_tells (Place.System o) (line.Join top foot) t m h = (
   join_told (page_front o.page) (system_line o.a o.b) (join_line top foot) t o.join o.staves m.0 h.2 h.0,
-  record {
-    page = h.1.page;
-    rising = h.1.rising;
-    last = h.1.last;
-    joined = subst (λ ss. IsJoinedBy (Some (record { top = top; foot = foot })) ss) (sym h.2) m.1;
-    good = h.1.good;
-  },
+  record { page = h.1.page; rising = h.1.rising; last = h.1.last; joined = subst (λ ss. IsJoinedBy (Some (record { top = top; foot = foot })) ss) (sym h.2) m.1; good = h.1.good },
   h.2,
 )
 step_tells (Place.System o) (line.StaffHead k) t m h =
@@ -346,10 +334,7 @@ step_tells (Place.Trailer s) (line.Fixed text) t m h = (
       ∙ append_assoc (front s) (codes "%%Trailer\n") (count_line (length s.pages) ++ 10 ∷ []),
   h.1,
 )
-step_tells (Place.Counted s) (line.Fixed text) t m h = record {
-  good = h.1;
-  spelled = end_told s t h.0 ∙ ap (λ l. t ++ (l ++ 10 ∷ [])) (sym m);
-}
+step_tells (Place.Counted s) (line.Fixed text) t m h = record { good = h.1; spelled = end_told s t h.0 ∙ ap (λ l. t ++ (l ++ 10 ∷ [])) (sym m) }
 step_tells p l t m h = absurd m
 
 -- the lines that lead to a place tell it

@@ -16,12 +16,7 @@ stem_line x dx from to y = numbers (dx ∷ to ∷ dx ∷ from ∷ x ∷ y ∷ []
 
 -- the points at the two ends of a beam or an arc, and those above them
 unfoldable pub ends_of : ℤ → ℤ → ℤ → ℤ → Ends
-ends_of y from to rise = record {
-  left = y +ℤ from;
-  left_above = (y +ℤ from) +ℤ rise;
-  right = y +ℤ to;
-  right_above = (y +ℤ to) +ℤ rise;
-}
+ends_of y from to rise = record { left = y +ℤ from; left_above = (y +ℤ from) +ℤ rise; right = y +ℤ to; right_above = (y +ℤ to) +ℤ rise }
 
 -- the point above the left end, at p, the one above the right end, at q, the
 -- right end and the left end

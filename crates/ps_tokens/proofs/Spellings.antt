@@ -33,10 +33,7 @@ three : (a b c x y z : ℕ) (s : List ℕ) → a ≡ x → b ≡ y → c ≡ z �
 three a b c x y z s e f g = cc
 
 octal_at : (a b c z : ℕ) (s : List ℕ) → 160 ≤ z → z < 256 → a ≡ 48 + z / 64 → b ≡ 48 + z / 8 % 8 → c ≡ 48 + z % 8 → IsByte (92 ∷ a ∷ b ∷ c ∷ s) z s
-octal_at a b c z s l m e f g = record {
-  good = high_good z l m;
-  spelled = three a b c _ _ _ s e f g ∙ ap (λ x. x ++ s) (sym (shown_octal z l));
-}
+octal_at a b c z s l m e f g = record { good = high_good z l m; spelled = three a b c _ _ _ s e f g ∙ ap (λ x. x ++ s) (sym (shown_octal z l)) }
 
 lead_range : (a : ℕ) → is_lead a ≡ true → (50 ≤ a) × (a ≤ 51)
 lead_range a e = grind (arith, nat_tests)
@@ -108,10 +105,7 @@ digits_of b a s u n h e = elim (escaped_of b (a ∷ s) u h e) [
 ]
 
 broken_slash : (a : ℕ) (s : List ℕ) → is_special a ≡ false → ((b : ℕ) (t u : List ℕ) → Digits b (a ∷ (s ++ t)) u → ⊥) → IsBroken (92 ∷ a ∷ s)
-broken_slash a s n f = record {
-  no_byte = λ b t u h e. f b t u (digits_of b a (s ++ t) u n h e);
-  no_close = λ t u e. apart 92 41 (a ∷ (s ++ t)) u (λ k. omega (arith, k)) e;
-}
+broken_slash a s n f = record { no_byte = λ b t u h e. f b t u (digits_of b a (s ++ t) u n h e); no_close = λ t u e. apart 92 41 (a ∷ (s ++ t)) u (λ k. omega (arith, k)) e }
 
 second_equal : (a b x y : ℕ) (s t : List ℕ) → a ∷ b ∷ s ≡ x ∷ y ∷ t → b ≡ y
 second_equal a b x y s t e = cc

@@ -29,8 +29,7 @@ same_breaking : (breaks bars : List ℕ) (v w : ℕ) (os ps : List (Option ℕ))
 same_breaking breaks bars v w os ps e f g =
     ap (λ x. breaking_of x v os) e ∙ (ap (λ x. breaking_of bars x os) f ∙ ap (λ x. breaking_of bars w x) g)
 
-pub one_breaking : (cost : ℕ → ℕ → Option ℕ) (forced : ℕ → Bool) (n : ℕ) (x y : Breaking)
-    → IsBreaking cost forced n x → IsBreaking cost forced n y → x ≡ y
+pub one_breaking : (cost : ℕ → ℕ → Option ℕ) (forced : ℕ → Bool) (n : ℕ) (x y : Breaking) → IsBreaking cost forced n x → IsBreaking cost forced n y → x ≡ y
 one_breaking cost forced n x y h k =
     let breaks = one_is_chosen cost forced n x.breaks y.breaks h.chosen k.chosen in
     let long = h.one_each in

@@ -33,8 +33,7 @@ abbrev under : Score → SetTune → SetTune
 under s t = record t { score = s }
 
 -- the chosen breaking and its sums, over the same spans
-breaks_over : (width : ℕ) (t : SetTune) (spans : List Span) → t.spans ≡ spans → IsLaidOut width t
-    → IsBreaking (listed spans) (is_forced_in t.score) t.score.measures t.breaking
+breaks_over : (width : ℕ) (t : SetTune) (spans : List Span) → t.spans ≡ spans → IsLaidOut width t → IsBreaking (listed spans) (is_forced_in t.score) t.score.measures t.breaking
 breaks_over width t spans e h =
     subst (λ these. IsBreaking (listed these) (is_forced_in t.score) t.score.measures t.breaking) e
     (record { chosen = h.chosen; total = h.total; one_each = h.one_each; potentials = h.potentials })

@@ -63,8 +63,7 @@ first_listed : (s : Span) (ss : List Span) → listed (s ∷ ss) s.a s.b ≡ Som
 first_listed s ss = rw (has_these s.a s.b s refl refl) refl
 
 -- the first of a list is the span that is asked for, or that is listed behind it
-first_or_past : (n : ℕ) (s : Span) (ss : List Span) → SpansFrom n (Some s) ss → (a b v : ℕ) → listed (s ∷ ss) a b ≡ Some v
-    → (s ≡ span_of a b v) ⊎ IsPast s a b
+first_or_past : (n : ℕ) (s : Span) (ss : List Span) → SpansFrom n (Some s) ss → (a b v : ℕ) → listed (s ∷ ss) a b ≡ Some v → (s ≡ span_of a b v) ⊎ IsPast s a b
 first_or_past n s ss h a b v e = at (has_ends a b s) refl e
   where
     at : (t : Bool) → has_ends a b s ≡ t → (if t then Some s.badness else listed ss a b) ≡ Some v → (s ≡ span_of a b v) ⊎ IsPast s a b
@@ -81,16 +80,14 @@ behind : (n : ℕ) (s : Span) (xs ys : List Span) → SpansFrom n (Some s) xs �
     → (a b : ℕ) → listed (s ∷ xs) a b ≡ listed (s ∷ ys) a b → listed xs a b ≡ listed ys a b
 behind n s xs ys h k a b e = at (has_ends a b s) refl e
   where
-    at : (t : Bool) → has_ends a b s ≡ t → (if t then Some s.badness else listed xs a b) ≡ (if t then Some s.badness else listed ys a b)
-        → listed xs a b ≡ listed ys a b
+    at : (t : Bool) → has_ends a b s ≡ t → (if t then Some s.badness else listed xs a b) ≡ (if t then Some s.badness else listed ys a b) → listed xs a b ≡ listed ys a b
     at true is e =
         let ends = ends_are a b s is in
         let none = not_again n s xs h ∙ sym (not_again n s ys k) in
         subst (λ x. listed xs x b ≡ listed ys x b) ends.0 (subst (λ x. listed xs s.a x ≡ listed ys s.a x) ends.1 none)
     at false is e = e
 
-same_listed : (n : ℕ) (last past : Option Span) (xs ys : List Span) → SpansFrom n last xs → SpansFrom n past ys
-    → ((a b : ℕ) → listed xs a b ≡ listed ys a b) → xs ≡ ys
+same_listed : (n : ℕ) (last past : Option Span) (xs ys : List Span) → SpansFrom n last xs → SpansFrom n past ys → ((a b : ℕ) → listed xs a b ≡ listed ys a b) → xs ≡ ys
 same_listed n last past [] [] h k same = refl
 same_listed n last past [] (y ∷ ys) h k same = absurd (none-some y.badness (same y.a y.b ∙ first_listed y ys))
 same_listed n last past (x ∷ xs) [] h k same = absurd (none-some x.badness (sym (same x.a x.b) ∙ first_listed x xs))
@@ -108,8 +105,7 @@ pub listed_within : (n : ℕ) (last : Option Span) (ss : List Span) → SpansFro
 listed_within n last [] h a b v e = absurd (none-some v e)
 listed_within n last (s ∷ ss) h a b v e = at (has_ends a b s) refl (listed_within n (Some s) ss h.1 a b v) e
   where
-    at : (t : Bool) → has_ends a b s ≡ t → (listed ss a b ≡ Some v → (a < b) × (b ≤ n)) → (if t then Some s.badness else listed ss a b) ≡ Some v
-        → (a < b) × (b ≤ n)
+    at : (t : Bool) → has_ends a b s ≡ t → (listed ss a b ≡ Some v → (a < b) × (b ≤ n)) → (if t then Some s.badness else listed ss a b) ≡ Some v → (a < b) × (b ≤ n)
     at true is more e =
         let ends = ends_are a b s is in
         let rises = h.0.rises in
@@ -136,8 +132,7 @@ also s width xs ys form exact others a b v e =
     some.1 ∙ ap Some (one_cost s width a b some.0 v (others.each a b some.0 within.0 within.1 some.1) cost)
 
 -- a score has one list of the spans that fit a width
-pub one_list : (s : Score) (width : ℕ) (xs ys : List Span) → AreSpans s.measures xs → AreSpans s.measures ys
-    → AreSpansOf s width xs → AreSpansOf s width ys → xs ≡ ys
+pub one_list : (s : Score) (width : ℕ) (xs ys : List Span) → AreSpans s.measures xs → AreSpans s.measures ys → AreSpansOf s width xs → AreSpansOf s width ys → xs ≡ ys
 one_list s width xs ys formed ordered exact others =
     same_listed s.measures None None xs ys formed ordered (λ a b. agree (listed xs a b) (listed ys a b)
     (λ v. also s width xs ys formed exact others a b v) (λ v. also s width ys xs ordered others exact a b v))

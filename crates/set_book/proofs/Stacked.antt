@@ -41,8 +41,7 @@ one_stacked s m x y h k =
     same_heights x.bases y.bases x.height y.height both.0 (same_height x.height y.height both.1)
 
 -- what belongs beside things one by one, where one thing belongs beside each
-pub one_beside : {X Y : Type 0} (P : X → Y → Type 0) → ((x : X) (y z : Y) → P x y → P x z → y ≡ z)
-    → (xs : List X) (ys zs : List Y) → Beside P xs ys → Beside P xs zs → ys ≡ zs
+pub one_beside : {X Y : Type 0} (P : X → Y → Type 0) → ((x : X) (y z : Y) → P x y → P x z → y ≡ z) → (xs : List X) (ys zs : List Y) → Beside P xs ys → Beside P xs zs → ys ≡ zs
 one_beside P one [] [] [] h k = refl
 one_beside P one [] [] (z ∷ zs) h k = absurd k
 one_beside P one (x ∷ xs) (y ∷ ys) [] h k = absurd k

@@ -24,8 +24,7 @@ pub record HaveOneOutcome : Type 0 where
   -- some tunes have one list of outcomes
   pub outcomes : (terms : Terms) (tunes : List TuneText) (os ps : List Outcome) → AreOutcomes terms tunes os → AreOutcomes terms tunes ps → os ≡ ps
   -- a tune has one score
-  pub score : (tune : TuneText) (defaults : Defaults) (manner : Manner) (h k : Header) (s t : Score)
-      → HasScore tune defaults manner h s → HasScore tune defaults manner k t → s ≡ t
+  pub score : (tune : TuneText) (defaults : Defaults) (manner : Manner) (h k : Header) (s t : Score) → HasScore tune defaults manner h s → HasScore tune defaults manner k t → s ≡ t
   -- a tune that has a score has no fault of its header, its body or its score
   pub scored : (tune : TuneText) (defaults : Defaults) (manner : Manner) (h : Header) (s : Score) (f : Fault)
       → HasScore tune defaults manner h s → IsMovedRefusal tune defaults manner (TuneError.Fault f) → ⊥

@@ -22,6 +22,5 @@ put_all os old one two three e f g =
     let first = lines_then (Line.Listing ∷ []) [] in
     let last = lines_then (Line.End ∷ []) [] in
     let middle = outcomes_text os in
-    g ∙ (ap (λ t. t ++ last) (f ∙ ap (λ t. t ++ middle) e)
-    ∙ (append_assoc (old ++ first) middle last ∙ (append_assoc old first (middle ++ last)
+    g ∙ (ap (λ t. t ++ last) (f ∙ ap (λ t. t ++ middle) e) ∙ (append_assoc (old ++ first) middle last ∙ (append_assoc old first (middle ++ last)
     ∙ ap (λ t. old ++ t) (ap (λ t. first ++ (t ++ last)) (outcomes_are os) ∙ sym (in_parts (entries_of os))))))

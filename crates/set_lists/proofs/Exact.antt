@@ -39,8 +39,7 @@ module _ (one : HaveOneOutcome) (tune : TuneText) (terms : Terms) (header : Head
   laid_legal t laid =
       subst (λ s. IsLegalIn s (width_of terms.paper) t.breaking.breaks) (one.score tune terms.defaults terms.manner t.header header t.score score laid.score has) laid.layout.least.legal
 
-  told : (f : Fault) (reached : ℕ) → f.kind ≡ FaultKind.NoWay reached → IsFaultOfTune tune terms f
-      → (breaks : List ℕ) → IsLegalIn score (width_of terms.paper) breaks → ⊥
+  told : (f : Fault) (reached : ℕ) → f.kind ≡ FaultKind.NoWay reached → IsFaultOfTune tune terms f → (breaks : List ℕ) → IsLegalIn score (width_of terms.paper) breaks → ⊥
   told _ reached e (of_header f fault) breaks legal = one.scored tune terms.defaults terms.manner header score f has (inl (inl fault))
   told _ reached e (of_score h f read fault) breaks legal = one.scored tune terms.defaults terms.manner header score f has (inl (inr (h, read, fault)))
   told _ reached e (of_share f c) breaks legal = one.scored tune terms.defaults terms.manner header score f has (inr (inl c))

@@ -39,6 +39,5 @@ listed_past (s ∷ ss) (suc i) a b l h =
     listed_past ss i a b (omega (arith, l)) (λ k d from to. h (suc k) d (omega arith) (omega (arith, to)))
     ∙ sym (ap (λ t. if t then Some s.badness else listed ss a b) (other_ends a b s (h 0 s (omega arith) (omega arith))))
 
-pub badness_is : (ss : List Span) (a b : ℕ) (o : Option Span) → o ≡ find (has_ends a b) ss
-    → unwrap_or (option_map (λ s. s.badness) o) 0 ≡ unwrap_or (listed ss a b) 0
+pub badness_is : (ss : List Span) (a b : ℕ) (o : Option Span) → o ≡ find (has_ends a b) ss → unwrap_or (option_map (λ s. s.badness) o) 0 ≡ unwrap_or (listed ss a b) 0
 badness_is ss a b o e = ap (λ o. unwrap_or (option_map (λ s. s.badness) o) 0) e ∙ ap (λ o. unwrap_or o 0) (listed_is ss a b)

@@ -41,8 +41,7 @@ module _ (terms : Terms) (all : List Reading) where
       at (begins_tune line) os (λ ps g. rise_behind (line ∷ before) more (suc k) ps (omega (arith, l)) g)
       (λ g. rise_behind (line ∷ before) more k os (omega (arith, l)) g) h
     where
-      at : (t : Bool) (ps : List Outcome)
-          → ((qs : List Outcome) → AreOutcomes terms (tunes_behind all (suc (suc k)) (line ∷ before) more) qs → OrdinalsRise (suc k) qs)
+      at : (t : Bool) (ps : List Outcome) → ((qs : List Outcome) → AreOutcomes terms (tunes_behind all (suc (suc k)) (line ∷ before) more) qs → OrdinalsRise (suc k) qs)
           → (AreOutcomes terms (tunes_behind all (suc k) (line ∷ before) more) ps → OrdinalsRise k ps)
           → AreOutcomes terms (if t then tune_at all (suc k) (suc (length before)) ∷ tunes_behind all (suc (suc k)) (line ∷ before) more
           else tunes_behind all (suc k) (line ∷ before) more) ps → OrdinalsRise k ps

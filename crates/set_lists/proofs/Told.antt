@@ -11,8 +11,7 @@ use Rattle.set_book.{proofs.Spanned.listed_within, specs.{declared.outcome.Outco
 use Rattle.set_lists.specs.{Laws.{ListsTheSet, OrdinalsRise, OutcomesAreListable}, Listing.{CanBeListed, IsListable, entries_of, entry_of, result_entry}}
 
 -- ---- spans pass no forced bar
-pub unforced : (s : Score) (width : ℕ) (spans : List Span) → AreSpans s.measures spans → AreSpansOf s width spans
-    → (breaks : List ℕ) (i : ℕ)
+pub unforced : (s : Score) (width : ℕ) (spans : List Span) → AreSpans s.measures spans → AreSpansOf s width spans → (breaks : List ℕ) (i : ℕ)
     → (IsLegal (listed spans) (is_forced_in s) breaks i → IsLegal (listed spans) none_forced breaks i)
     × (IsLegal (listed spans) none_forced breaks i → IsLegal (listed spans) (is_forced_in s) breaks i)
 unforced s width spans form exact breaks i =
@@ -69,8 +68,7 @@ module _ (terms : Terms) where
   all_listable ts os h = absurd h
 
   -- the entries of outcomes whose numbers rise past k have numbers past each j up to k
-  entries : (tunes : List TuneText) (os : List Outcome) (k j : ℕ) → AreOutcomes terms tunes os → OrdinalsRise k os → j ≤ k
-      → EntriesFrom j (entries_of os)
+  entries : (tunes : List TuneText) (os : List Outcome) (k j : ℕ) → AreOutcomes terms tunes os → OrdinalsRise k os → j ≤ k → EntriesFrom j (entries_of os)
   entries [] [] k j h rise l = tt
   entries (t ∷ ts) (o ∷ os) k j h rise l =
       at o.result h.0.result (entries ts os o.ordinal o.ordinal h.1 rise.2 (omega arith))

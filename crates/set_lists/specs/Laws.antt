@@ -17,13 +17,11 @@ OrdinalsRise k (o ∷ os) = (k < o.ordinal) × (o.ordinal < 2 ^ 32) × OrdinalsR
 
 -- the numbers of the tunes of a book rise
 abbrev pub BookRises : Type 0
-BookRises = (bytes : List ℕ) (terms : Terms) (outcomes : List Outcome) → length bytes ≤ 2 ^ 30
-    → AreOutcomes terms (book_of bytes).tunes outcomes → OrdinalsRise 0 outcomes
+BookRises = (bytes : List ℕ) (terms : Terms) (outcomes : List Outcome) → length bytes ≤ 2 ^ 30 → AreOutcomes terms (book_of bytes).tunes outcomes → OrdinalsRise 0 outcomes
 
 -- what comes of tunes can be listed
 abbrev pub OutcomesAreListable : Type 0
-OutcomesAreListable = (terms : Terms) (tunes : List TuneText) (outcomes : List Outcome)
-    → AreOutcomes terms tunes outcomes → AreListable outcomes
+OutcomesAreListable = (terms : Terms) (tunes : List TuneText) (outcomes : List Outcome) → AreOutcomes terms tunes outcomes → AreListable outcomes
 
 -- what is written of tunes whose numbers rise is a listing, and it tells the tunes without a fault
 abbrev pub ListsTheSet : Type 0

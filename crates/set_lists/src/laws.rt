@@ -22,14 +22,12 @@ pub fn breakings_of_listing()
     ensures { BreakingsOfListing }
 {}
 
-/// The law that what `put_listing` writes of a book is a listing whose breakings are those of its
-/// scores.
+/// The law that what `put_listing` writes of a book is a listing whose breakings are those of its scores.
 pub fn lists_the_book()
     ensures { ListsTheBook }
 {}
 
-/// The law that a tune with a score is told to have no way exactly where its score has no legal
-/// breaking.
+/// The law that a tune with a score is told to have no way exactly where its score has no legal breaking.
 pub fn no_way_is_exact()
     ensures { NoWayIsExact }
 {

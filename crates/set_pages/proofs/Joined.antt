@@ -68,13 +68,11 @@ drawings_append outcomes more = flat_map-append outcome_drawings outcomes more
 pub spots_append : (plan : Plan) (paper : Paper) (outcomes more : List Outcome) (p : Press) (spots : List Spot) → p.behind ≡ behind_by plan paper outcomes → p.put ≡ length (all_blocks outcomes)
     → spots ≡ next_spots plan (height_of paper) p (all_blocks more) → all_spots plan paper (outcomes ++ more) ≡ all_spots plan paper outcomes ++ spots
 spots_append Plan.Filled paper outcomes more p spots behind put at =
-    ap (spots_of (height_of paper)) (blocks_append outcomes more)
-    ∙ spots_join (height_of paper) (all_blocks outcomes) (all_blocks more) (all_loose outcomes)
+    ap (spots_of (height_of paper)) (blocks_append outcomes more) ∙ spots_join (height_of paper) (all_blocks outcomes) (all_blocks more) (all_loose outcomes)
     ∙ ap (λ b. spots_of (height_of paper) (all_blocks outcomes) ++ spots_behind (height_of paper) b (all_blocks more)) (sym behind)
     ∙ ap (λ ss. spots_of (height_of paper) (all_blocks outcomes) ++ ss) (sym at)
 spots_append (Plan.At all) paper outcomes more p spots behind put at =
-    ap (λ bs. take (length bs) all) (blocks_append outcomes more)
-    ∙ ap (λ n. take n all) (length-append (all_blocks outcomes) (all_blocks more))
+    ap (λ bs. take (length bs) all) (blocks_append outcomes more) ∙ ap (λ n. take n all) (length-append (all_blocks outcomes) (all_blocks more))
     ∙ take-add (length (all_blocks outcomes)) (length (all_blocks more)) all
     ∙ ap (λ n. take (length (all_blocks outcomes)) all ++ take (length (all_blocks more)) (drop n all)) (sym put)
     ∙ ap (λ ss. take (length (all_blocks outcomes)) all ++ ss) (sym at)
@@ -82,8 +80,7 @@ spots_append (Plan.At all) paper outcomes more p spots behind put at =
 behind_append : (plan : Plan) (paper : Paper) (outcomes more : List Outcome) (p : Press) (behind : Option Standing) → p.behind ≡ behind_by plan paper outcomes
     → behind ≡ next_behind plan (height_of paper) p (all_blocks more) → behind ≡ behind_by plan paper (outcomes ++ more)
 behind_append Plan.Filled paper outcomes more p behind before at =
-    at ∙ ap (λ b. behind_after (height_of paper) b (all_blocks more)) before
-    ∙ sym (behind_join (height_of paper) (all_blocks outcomes) (all_blocks more) (all_loose outcomes))
+    at ∙ ap (λ b. behind_after (height_of paper) b (all_blocks more)) before ∙ sym (behind_join (height_of paper) (all_blocks outcomes) (all_blocks more) (all_loose outcomes))
     ∙ ap (behind_after (height_of paper) None) (sym (blocks_append outcomes more))
 behind_append (Plan.At all) paper outcomes more p behind before at = at
 

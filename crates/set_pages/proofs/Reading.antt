@@ -32,8 +32,7 @@ put_items : (width : ℕ) (p : Pages) (ds : List Drawing) (ss : List Spot) → i
 put_items width p [] ss = sym (append-nil (items_in (closed p)))
 put_items width p (d ∷ ds) [] = sym (append-nil (items_in (closed p)))
 put_items width p (d ∷ ds) (s ∷ ss) =
-    put_items width (with_drawing width p d s) ds ss
-    ∙ ap (λ l. l ++ items_at width ds ss) (more_items p (nat_lt (p.gone + length p.done) s.page) (drawn width s.top d))
+    put_items width (with_drawing width p d s) ds ss ∙ ap (λ l. l ++ items_at width ds ss) (more_items p (nat_lt (p.gone + length p.done) s.page) (drawn width s.top d))
     ∙ append_assoc (items_in (closed p)) (drawn width s.top d) (items_at width ds ss)
 
 pub page_items : (width : ℕ) (ds : List Drawing) (ss : List Spot) → length ds ≡ length ss → AreRising ss → items_in (pages_of width ds ss) ≡ items_at width ds ss

@@ -50,8 +50,7 @@ pub outcome_value : (width : ℕ) (o : Outcome) (os left : List Outcome) (rest h
 outcome_value width o os left rest here more old new whole e split ready put so_far =
     let r : AllZip IsReady (outcome_drawings o ++ all_drawings os) rest = subst (λ l. AllZip IsReady (all_drawings l) rest) e ready in
     let w : with_drawings width old (outcome_drawings o ++ all_drawings os) rest ≡ whole = subst (λ l. with_drawings width old (all_drawings l) rest ≡ whole) e so_far in
-    ap (λ q. with_drawings width q (all_drawings os) more) put
-    ∙ ap (λ l. with_drawings width (with_drawings width old (outcome_drawings o) l) (all_drawings os) more) split.front
+    ap (λ q. with_drawings width q (all_drawings os) more) put ∙ ap (λ l. with_drawings width (with_drawings width old (outcome_drawings o) l) (all_drawings os) more) split.front
     ∙ ap (λ l. with_drawings width (with_drawings width old (outcome_drawings o) (take (length (outcome_drawings o)) rest)) (all_drawings os) l) split.back
     ∙ sym (with_more IsReady width old (outcome_drawings o) (all_drawings os) rest r) ∙ w
 

@@ -102,8 +102,7 @@ run width ds ss p k n at same rising count = absurd (omega arith)
 -- all blocks put, from the first page on
 pub all_put : (width : ℕ) (ds : List Drawing) (s : Spot) (ss : List Spot) → length ds ≡ length (s ∷ ss) → AreRising (s ∷ ss) → closed (with_drawings width no_pages ds (s ∷ ss)) ≡ pages_of width ds (s ∷ ss)
 all_put width ds s ss same rising =
-    run width ds (s ∷ ss) no_pages 0 (last_page s.page ss) refl same (inl rising.0, rising.1) (omega arith)
-    ∙ ap (λ n. pages_from width ds (s ∷ ss) 0 n) (sym (count_last s ss))
+    run width ds (s ∷ ss) no_pages 0 (last_page s.page ss) refl same (inl rising.0, rising.1) (omega arith) ∙ ap (λ n. pages_from width ds (s ∷ ss) 0 n) (sym (count_last s ss))
 
 -- blocks put one after another
 pub with_more : (R : Drawing → Spot → Type 0) (width : ℕ) (p : Pages) (xs ys : List Drawing) (zs : List Spot) → AllZip R (xs ++ ys) zs

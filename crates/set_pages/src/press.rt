@@ -20,10 +20,9 @@ use set_book::Outcome;
 use std::alloc::Global;
 use std::mem::replace;
 
-/// The pages of a book while its tunes are set, one list of outcomes after another: those that are
-/// done and were not given up, what stands on the one behind them, the last block with its place
-/// where blocks are filled, and how many blocks there were. What was set need not be kept once it is
-/// pressed.
+/// The pages of a book while its tunes are set, one list of outcomes after another: those that are done
+/// and were not given up, what stands on the one behind them, the last block with its place where blocks
+/// are filled, and how many blocks there were. What was set need not be kept once it is pressed.
 #[derive(Drop)]
 pub struct Press {
     pub(crate) pages: Pages,

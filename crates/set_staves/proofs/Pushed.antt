@@ -24,6 +24,4 @@ staves_more width at top staves bases n made more all s b staff l m es eb here b
     let second : drop n bases ≡ b ∷ drop (n + 1) bases = rw (add-one, drop-cons bases n b) (ap (λ t. t ∷ drop (suc n) bases) (sym eb)) in
     ap (λ t. t ++ staves_at width at top (drop (n + 1) staves) (drop (n + 1) bases)) pushed
     ∙ append_assoc made (staff ∷ []) (staves_at width at top (drop (n + 1) staves) (drop (n + 1) bases))
-    ∙ ap (λ t. made ++ t ∷ staves_at width at top (drop (n + 1) staves) (drop (n + 1) bases)) here
-    ∙ sym (ap₂ (λ xs ys. made ++ staves_at width at top xs ys) first second)
-    ∙ before
+    ∙ ap (λ t. made ++ t ∷ staves_at width at top (drop (n + 1) staves) (drop (n + 1) bases)) here ∙ sym (ap₂ (λ xs ys. made ++ staves_at width at top xs ys) first second) ∙ before

@@ -23,8 +23,7 @@ staves_anchors : (width : ℕ) (at : List ℤ) (top : ℤ) (staves : List StaffM
 staves_anchors width at top [] bases e = refl
 staves_anchors width at top (s ∷ more) [] e = absurd (omega arith)
 staves_anchors width at top (s ∷ more) (b ∷ bases) e =
-    ap₂ (λ xs ys. xs ++ ys) (marks_anchors at s.marks) (staves_anchors width at top more bases (omega arith))
-    ∙ sym (map-append (x_at at) (marks_ranks s.marks) (staves_ranks more))
+    ap₂ (λ xs ys. xs ++ ys) (marks_anchors at s.marks) (staves_anchors width at top more bases (omega arith)) ∙ sym (map-append (x_at at) (marks_ranks s.marks) (staves_ranks more))
 
 anchors_at : (width : ℕ) (at : List ℤ) (top : ℤ) (staves : List StaffMarks) (bases : List ℤ) → length bases ≡ length staves
     → anchors (staves_at width at top staves bases) ≡ map (x_at at) (staves_ranks staves)

@@ -23,8 +23,7 @@ has_voice header items flow [] h = absurd (omega (arith, h))
 has_voice header items flow (v ∷ vs) h = omega arith
 
 -- a score with measures has a voice
-pub heard : (header : Header) (tune : TuneText) (flow : Bool) (score : Score) → IsScoreOf header tune flow score
-    → 0 < score.measures → 1 ≤ length score.voices
+pub heard : (header : Header) (tune : TuneText) (flow : Bool) (score : Score) → IsScoreOf header tune flow score → 0 < score.measures → 1 ≤ length score.voices
 heard header tune flow score h some =
     subst (λ (s : Score). 1 ≤ length s.voices) (sym h.value)
     (has_voice header h.items flow (voices_read header h.items) (subst (λ (s : Score). 0 < s.measures) h.value some))
@@ -74,8 +73,7 @@ cons_few : (o : Option (List ℕ)) (xs : List (List ℕ)) (n : ℕ) → length x
 cons_few None xs n h = omega (arith, h)
 cons_few (Some t) xs n h = omega (arith, h)
 
-given_put : (f : Field → Option (List ℕ)) (r : Result Field FaultKind) (fs : List Field) (n : ℕ) → length (filter_map f fs) ≤ n
-    → length (filter_map f (put_field r fs)) ≤ suc n
+given_put : (f : Field → Option (List ℕ)) (r : Result Field FaultKind) (fs : List Field) (n : ℕ) → length (filter_map f fs) ≤ n → length (filter_map f (put_field r fs)) ≤ suc n
 given_put f (Err kind) fs n h = omega (arith, h)
 given_put f (Ok g) fs n h = cons_few (f g) (filter_map f fs) n h
 
@@ -87,8 +85,7 @@ given_few f none (byte ∷ text) fs n h = omega (arith, given_put f (field_of (b
 size_cons : (line : Line) (lines : List Line) → size_of (line ∷ lines) ≡ length line.text + size_of lines
 size_cons line lines = sum_by-cons (λ x. x) (length line.text) (map (λ (l : Line). length l.text) lines)
 
-fields_few : (f : Field → Option (List ℕ)) → f Field.Other ≡ None → (lines : List Line)
-    → length (filter_map f (fields_of lines)) ≤ size_of lines
+fields_few : (f : Field → Option (List ℕ)) → f Field.Other ≡ None → (lines : List Line) → length (filter_map f (fields_of lines)) ≤ size_of lines
 fields_few f none [] = omega arith
 fields_few f none (line ∷ lines) =
     omega (arith, given_few f none line.text (fields_of lines) (size_of lines) (fields_few f none lines), size_cons line lines)
@@ -97,8 +94,7 @@ size_within : (n : ℕ) (lines : List Line) → size_of (take n lines) ≤ size_
 size_within (suc n) (line ∷ lines) = omega (arith, size_within n lines, size_cons line (take n lines), size_cons line lines)
 size_within n lines = omega arith
 
-few_by : (f : Field → Option (List ℕ)) → f Field.Other ≡ None → (tune : TuneText) (n : ℕ) → IsGoodTune tune
-    → length (filter_map f (fields_of (take n tune.lines))) ≤ 2 ^ 32
+few_by : (f : Field → Option (List ℕ)) → f Field.Other ≡ None → (tune : TuneText) (n : ℕ) → IsGoodTune tune → length (filter_map f (fields_of (take n tune.lines))) ≤ 2 ^ 32
 few_by f none tune n good = omega (arith, fields_few f none (take n tune.lines), size_within n tune.lines, good.small)
 
 titles_by : (tune : TuneText) (defaults : Defaults) (header : Header) (place : Option ℕ) → IsGoodTune tune → IsHeaderBy tune defaults header place

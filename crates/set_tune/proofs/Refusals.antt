@@ -10,8 +10,7 @@ use Rattle.set_tune.specs.{Terms.Terms, declared.tune.SetTune.SetTune, Blocks.bl
 pub none_some : {X : Type 0} (x : X) → None ≡ Some x → ⊥
 none_some x e = cc
 
-pub score_refused : (tune : TuneText) (terms : Terms) (e : TuneError)
-    → IsMovedRefusal tune terms.defaults terms.manner e → IsRefusal tune terms e
+pub score_refused : (tune : TuneText) (terms : Terms) (e : TuneError) → IsMovedRefusal tune terms.defaults terms.manner e → IsRefusal tune terms e
 score_refused tune terms TuneError.Memory h = tt
 score_refused tune terms (TuneError.Fault fault) (inl (inl h)) = of_header fault h
 score_refused tune terms (TuneError.Fault fault) (inl (inr (header, has, is))) = of_score header fault has is

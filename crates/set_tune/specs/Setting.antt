@@ -111,14 +111,12 @@ layout_fault tune kind = record { kind = kind; line = first_line tune.lines; col
 -- legal; and where one is, that a group of blocks is higher than the page.
 pub data IsFaultOfTune (tune : TuneText) (terms : Terms) : Fault → Type 0 where
   of_header : (fault : Fault) → header_fault tune ≡ Some fault → IsFaultOfTune tune terms fault
-  of_score : (header : Header) (fault : Fault) → HasHeader tune terms.defaults header → IsFaultOf header tune (TuneError.Fault fault)
-      → IsFaultOfTune tune terms fault
+  of_score : (header : Header) (fault : Fault) → HasHeader tune terms.defaults header → IsFaultOf header tune (TuneError.Fault fault) → IsFaultOfTune tune terms fault
   of_share : (fault : Fault) → CantDraw tune terms.defaults terms.manner fault → IsFaultOfTune tune terms fault
   of_move : CantMove tune terms.defaults terms.manner → IsFaultOfTune tune terms (layout_fault tune FaultKind.BadMove)
   no_way : (header : Header) (score : Score) (reached : ℕ) (spans : List Span) → HasScore tune terms.defaults terms.manner header score
       → IsNoWay score (width_of terms.paper) reached spans → IsFaultOfTune tune terms (layout_fault tune (FaultKind.NoWay reached))
-  too_tall : (t : SetTune) (block : ℕ) → IsLaidTune tune terms t
-      → first_tall (height_of terms.paper) (blocks_of t.title t.heights) ≡ Some block
+  too_tall : (t : SetTune) (block : ℕ) → IsLaidTune tune terms t → first_tall (height_of terms.paper) (blocks_of t.title t.heights) ≡ Some block
       → IsFaultOfTune tune terms (layout_fault tune (FaultKind.TooTall block))
 
 -- The same of the stages up to the score; want of memory says nothing.

@@ -9,6 +9,5 @@ returns c =
     let i = c.partition_point-first.result in
     let point = IsPartitionPoint-from_clause (λ s. nat_lt s.a a) spans i c.partition_point-first.ensures.partitioned
     (IsPartitionedBy-ltb (λ s. s.a) spans a (in_order c.args.bars spans c.requires)) (λ x r f h. search rules) in
-    c.badness_among.ensures
-    ∙ (ap (λ ss. badness_in ss a c.args.b) c.split_at.ensures.back
+    c.badness_among.ensures ∙ (ap (λ ss. badness_in ss a c.args.b) c.split_at.ensures.back
     ∙ ap (λ o. unwrap_or o 0) (listed_past spans i a c.args.b c.partition_point-first.ensures.bound point.0))
