@@ -6,8 +6,7 @@ use Rattle.abc_fields.{specs.Words.trimmed, specs.WordSpelling.IsBetweenBlanks, 
 -- How many at the end pass a test.
 suffix-cons : (p : ℕ → Bool) (b : ℕ) (s : List ℕ) → suffix_len p (b ∷ s) ≡ cond (suffix_len p s == length s) (length s + cond (p b) 1 0) (suffix_len p s)
 suffix-cons p b s =
-    ap (prefix_len p) (reverse-append (b ∷ []) s)
-    ∙ prefix_len-append p (reverse s) (b ∷ [])
+    ap (prefix_len p) (reverse-append (b ∷ []) s) ∙ prefix_len-append p (reverse s) (b ∷ [])
     ∙ ap (λ n. cond (suffix_len p s == n) (n + cond (p b) 1 0) (suffix_len p s)) (length-reverse s)
 
 suffix_all_if : (p : ℕ → Bool) (b : ℕ) (s : List ℕ) (all : Bool) → (suffix_len p s == length s) ≡ all → p b ≡ true → suffix_len p s ≡ length s → suffix_len p (b ∷ s) ≡ length (b ∷ s)
@@ -101,14 +100,11 @@ core-left (b ∷ core) back none all =
     let size : suffix_len is_blank ((b ∷ core) ++ back) ≡ length back = suffix-append is_blank (b ∷ core) back none all in
     let both : length ((b ∷ core) ++ back) ≡ length (b ∷ core) + length back = length-append (b ∷ core) back in
     let left : length ((b ∷ core) ++ back) - suffix_len is_blank ((b ∷ core) ++ back) ≡ length (b ∷ core) = omega (arith, size, both) in
-    ap ended (stays b (core ++ back) here)
-    ∙ ap (λ n. take n ((b ∷ core) ++ back)) left
-    ∙ take-append_seam (b ∷ core) back
+    ap ended (stays b (core ++ back) here) ∙ ap (λ n. take n ((b ∷ core) ++ back)) left ∙ take-append_seam (b ∷ core) back
 
 -- what has no blank and stands between blanks is left
 pub between-trimmed : (text core : List ℕ) → list_all (λ b. not (is_blank b)) core ≡ true → IsBetweenBlanks text core → trimmed text ≡ core
 unfolding trimmed
 between-trimmed text core none between =
-    ap (λ t. ended (behind_blanks t)) between.cut
-    ∙ ap ended (blanks-passed between.front (core ++ between.back) between.front_blank)
+    ap (λ t. ended (behind_blanks t)) between.cut ∙ ap ended (blanks-passed between.front (core ++ between.back) between.front_blank)
     ∙ core-left core between.back none between.back_blank

@@ -156,8 +156,7 @@ breaks-named text e = rw e refl
 
 pub breaks-read : (text : List ℕ) (breaks : Breaks) → SaysBreaks text breaks → breaks_of text ≡ Some breaks
 breaks-read text breaks says =
-    breaks-named text says.some
-    ∙ ap (λ b. Some (record { eol = b; dollar = has_word text (codes "$"); bang = has_word text (codes "!") })) (sym says.eol)
+    breaks-named text says.some ∙ ap (λ b. Some (record { eol = b; dollar = has_word text (codes "$"); bang = has_word text (codes "!") })) (sym says.eol)
     ∙ ap (λ b. Some (record { eol = breaks.eol; dollar = b; bang = has_word text (codes "!") })) (sym says.dollar)
     ∙ ap (λ b. Some (record { eol = breaks.eol; dollar = breaks.dollar; bang = b })) (sym says.bang)
 

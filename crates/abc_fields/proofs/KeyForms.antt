@@ -310,6 +310,4 @@ pub key-read : (text : List ℕ) (key : KeyText) → SaysKey text key → key_of
 unfolding key_of
 key-read text key says =
     ap (λ ws. key_of_begun (first_words ws)) (words-of-spelled (head_spelled says.head (map word_spelled says.forms)) text says.spelled)
-    ∙ ap key_of_begun (head-read says.head (map word_spelled says.forms) says.good_head)
-    ∙ ap (key_from (head_meant says.head)) (words-read says.forms says.good)
-    ∙ says.meant
+    ∙ ap key_of_begun (head-read says.head (map word_spelled says.forms) says.good_head) ∙ ap (key_from (head_meant says.head)) (words-read says.forms says.good) ∙ says.meant

@@ -171,8 +171,7 @@ clef_if w name read (Some clef) is e h =
     record { form = clef_word found.form; good = tt; spelled = is ∙ ap (λ t. codes "clef=" ++ t) found.spelled; meant = ap (λ c. KeyWord.Names c) found.meant ∙ some_word (KeyWord.Names clef) read h }
 
 front_if : (w : List ℕ) (read : KeyWord) (o : Option (List ℕ)) → behind (codes "clef=") w ≡ o
-    → ((alter : Alter) (letter : Letter) (lower : Bool) → w ≡ alter_spelled alter ++ letter_spelled letter lower ∷ [] → ⊥)
-    → by_clef w o ≡ Some read → IsWord w read
+    → ((alter : Alter) (letter : Letter) (lower : Bool) → w ≡ alter_spelled alter ++ letter_spelled letter lower ∷ [] → ⊥) → by_clef w o ≡ Some read → IsWord w read
 front_if w read (Some name) e no_sign h = clef_if w name read (clef_of name) (behind-takes (codes "clef=") w name e) refl h
 front_if w read None e no_sign h = name_if w read (clef_of w) refl no_sign (λ name is. none_is_some name (sym e ∙ ap (behind (codes "clef=")) is ∙ behind-clef name)) h
 
@@ -198,8 +197,7 @@ pub record AreWordsOf (ws : List (List ℕ)) (read : List KeyWord) : Type 0 wher
   pub meant : map word_meant forms ≡ read
 
 words_case : (w : List ℕ) (ws : List (List ℕ)) (read : List KeyWord) (one : Option KeyWord) (more : Option (List KeyWord)) → key_word w ≡ one → key_words ws ≡ more
-    → ((ks : List KeyWord) → key_words ws ≡ Some ks → AreWordsOf ws ks)
-    → option_and_then (λ k. option_map (λ ks. k ∷ ks) more) one ≡ Some read → AreWordsOf (w ∷ ws) read
+    → ((ks : List KeyWord) → key_words ws ≡ Some ks → AreWordsOf ws ks) → option_and_then (λ k. option_map (λ ks. k ∷ ks) more) one ≡ Some read → AreWordsOf (w ∷ ws) read
 words_case w ws read None more e f rest h = absurd (none_is_some read h)
 words_case w ws read (Some k) None e f rest h = absurd (none_is_some read h)
 words_case w ws read (Some k) (Some ks) e f rest h =

@@ -155,9 +155,7 @@ added-reaches : (terms : List (List ℕ)) (total : ℕ) → list_all is_number t
 added-reaches [] total all few = ap Some (omega arith)
 added-reaches (term ∷ terms) total all few =
     let parts = and_parts _ _ all in
-    added-on term terms total parts.0 (le-leb _ _ (omega (arith, few)))
-    ∙ added-reaches terms (total + value_of term) parts.1 (omega (arith, few))
-    ∙ ap Some (omega arith)
+    added-on term terms total parts.0 (le-leb _ _ (omega (arith, few))) ∙ added-reaches terms (total + value_of term) parts.1 (omega (arith, few)) ∙ ap Some (omega arith)
 
 -- What stands above and below.
 halving-yes : (n : ℕ) → is_halving n ≡ true → halving_of (Some n) ≡ Some n
@@ -309,8 +307,7 @@ some_is : (meter other : Meter) → Some meter ≡ Some other → meter ≡ othe
 some_is meter other h = ap (λ o. unwrap_or o other) h
 
 at_if : (s : List ℕ) (meter : Meter) (common cut none empty : Bool)
-    → bytes_eq s (codes "C") ≡ common → bytes_eq s (codes "C|") ≡ cut → bytes_eq s (codes "none") ≡ none → bytes_eq s [] ≡ empty
-    → meter_at s ≡ Some meter → WritesMeter s meter
+    → bytes_eq s (codes "C") ≡ common → bytes_eq s (codes "C|") ≡ cut → bytes_eq s (codes "none") ≡ none → bytes_eq s [] ≡ empty → meter_at s ≡ Some meter → WritesMeter s meter
 unfolding meter_at
 at_if s meter true cut none empty e f g k h = record { form = common_form; good = tt; spelled = same_bytes s (codes "C") e; meant = some_is Meter.Common meter (rw e at h) }
 at_if s meter false true none empty e f g k h = record { form = cut_form; good = tt; spelled = same_bytes s (codes "C|") f; meant = some_is Meter.Cut meter (rw (e, f) at h) }
@@ -339,8 +336,7 @@ digit_begins (d ∷ ds) (next ∷ terms) below h = digit-first d ((ds ++ 43 ∷ 
 sum-read : (terms : List (List ℕ)) (below : List ℕ) → IsGoodSum terms below → meter_at (join_with_byte 43 terms ++ 47 ∷ below) ≡ Some (Meter.Ratio (value_sum terms) (value_of below))
 sum-read [] below good = let some : 1 ≤ 0 = good.some in absurd (omega (arith, some))
 sum-read (term ∷ terms) below good =
-    digit_begins term terms below (and_parts _ _ good.numbers).0
-    ∙ plain-read (join_with_byte 43 (term ∷ terms)) below (value_sum (term ∷ terms)) (value_of below)
+    digit_begins term terms below (and_parts _ _ good.numbers).0 ∙ plain-read (join_with_byte 43 (term ∷ terms)) below (value_sum (term ∷ terms)) (value_of below)
     (joined-lacks 47 term terms (inl (omega arith)) refl good.numbers) (sum-reaches term terms good.numbers good.few) (below-reaches below good.number good.halving)
 
 open-first : (s : List ℕ) → meter_at (40 ∷ s) ≡ wrapped_ratio s
@@ -350,8 +346,7 @@ open-first s = refl
 wrapped-sum-read : (terms : List (List ℕ)) (below : List ℕ) → IsGoodSum terms below → meter_at (40 ∷ (join_with_byte 43 terms ++ 41 ∷ 47 ∷ below)) ≡ Some (Meter.Ratio (value_sum terms) (value_of below))
 wrapped-sum-read [] below good = let some : 1 ≤ 0 = good.some in absurd (omega (arith, some))
 wrapped-sum-read (term ∷ terms) below good =
-    open-first (join_with_byte 43 (term ∷ terms) ++ 41 ∷ 47 ∷ below)
-    ∙ wrapped-read (join_with_byte 43 (term ∷ terms)) below (value_sum (term ∷ terms)) (value_of below)
+    open-first (join_with_byte 43 (term ∷ terms) ++ 41 ∷ 47 ∷ below) ∙ wrapped-read (join_with_byte 43 (term ∷ terms)) below (value_sum (term ∷ terms)) (value_of below)
     (joined-lacks 41 term terms (inl (omega arith)) refl good.numbers) (sum-reaches term terms good.numbers good.few) (below-reaches below good.number good.halving)
 
 form-read : (form : MeterForm) → IsGoodMeterForm form → meter_at (meter_spelled form) ≡ Some (meter_meant form)
@@ -438,7 +433,4 @@ pub unit-read : (text : List ℕ) (unit : Frac) → SaysUnit text unit → unit_
 unfolding unit_of
 unit-read text unit says =
     let whole : unblank says.core ≡ true = ap unblank says.writes.spelled ∙ unit-unblank says.writes.form says.writes.good in
-    ap unit_at (between-trimmed text says.core whole says.between)
-    ∙ ap unit_at says.writes.spelled
-    ∙ unit-form-read says.writes.form says.writes.good
-    ∙ ap Some says.writes.meant
+    ap unit_at (between-trimmed text says.core whole says.between) ∙ ap unit_at says.writes.spelled ∙ unit-form-read says.writes.form says.writes.good ∙ ap Some says.writes.meant

@@ -2,8 +2,7 @@
 use Rattle.std.{proofs.Common.{◌≡◌, refl, ℕ, suc, ◌+◌, List, [], ◌∷◌, Bool, true, false, take, drop, arith, ◌==◌}, specs.List.slice_split}
 use Rattle.abc_fields.specs.{Numbers.place_of, Numbers.before, Numbers.from_first, Meters.is_plus, Meters.terms_after}
 
-split_more : (b : ℕ) (s : List ℕ) (plus : Bool) → (b == 43) ≡ plus
-    → slice_split is_plus s ≡ take (place_of 43 s) s ∷ terms_after (drop (place_of 43 s) s)
+split_more : (b : ℕ) (s : List ℕ) (plus : Bool) → (b == 43) ≡ plus → slice_split is_plus s ≡ take (place_of 43 s) s ∷ terms_after (drop (place_of 43 s) s)
     → slice_split is_plus (b ∷ s) ≡ take (place_of 43 (b ∷ s)) (b ∷ s) ∷ terms_after (drop (place_of 43 (b ∷ s)) (b ∷ s))
 split_more b s true e same = rw e refl
 split_more b s false e same = let more : 1 + place_of 43 s ≡ suc (place_of 43 s) = omega arith in rw (e, more, same) refl

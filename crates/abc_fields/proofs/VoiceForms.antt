@@ -234,8 +234,6 @@ good_voice id rest short closed = let few : nat_le (length id) 20 ≡ true = le-
 pub voice-read : (text : List ℕ) (voice : VoiceDef) → SaysVoice text voice → voice_of text ≡ Some voice
 unfolding voice_of
 voice-read text voice says =
-    ap voice_by_id (first-read text says.id says.rest says.first)
-    ∙ voice-good says.id says.rest (good_voice says.id says.rest says.short says.closed)
-    ∙ ap (λ ws. option_map (voice_def says.id) (voice_words ws)) says.spelled
-    ∙ ap (λ o. option_map (voice_def says.id) o) (properties-read says.forms says.good)
+    ap voice_by_id (first-read text says.id says.rest says.first) ∙ voice-good says.id says.rest (good_voice says.id says.rest says.short says.closed)
+    ∙ ap (λ ws. option_map (voice_def says.id) (voice_words ws)) says.spelled ∙ ap (λ o. option_map (voice_def says.id) o) (properties-read says.forms says.good)
     ∙ ap Some says.meant

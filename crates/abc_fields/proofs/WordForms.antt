@@ -65,16 +65,13 @@ word-first : (word rest : List ℕ) → not (is_empty word) ≡ true → list_al
 word-first [] rest some whole parts = cc
 word-first (b ∷ word) rest some whole parts =
     let here : is_blank b ≡ false = not-true (is_blank b) (and_parts _ _ whole).0 in
-    ap (word_and_rest false) (stays b (word ++ rest) here)
-    ∙ ap (λ n. cut_off n (b ∷ (word ++ rest))) (word-length (b ∷ word) rest whole parts)
-    ∙ ap (λ t. both t (drop (length (b ∷ word)) ((b ∷ word) ++ rest))) (take-append_seam (b ∷ word) rest)
-    ∙ ap (λ t. both (b ∷ word) t) (drop-append_seam (b ∷ word) rest)
+    ap (word_and_rest false) (stays b (word ++ rest) here) ∙ ap (λ n. cut_off n (b ∷ (word ++ rest))) (word-length (b ∷ word) rest whole parts)
+    ∙ ap (λ t. both t (drop (length (b ∷ word)) ((b ∷ word) ++ rest))) (take-append_seam (b ∷ word) rest) ∙ ap (λ t. both (b ∷ word) t) (drop-append_seam (b ∷ word) rest)
 
 pub first-read : (text word rest : List ℕ) → IsFirstWord text word rest → next_word false text ≡ both word rest
 unfolding next_word
 first-read text word rest first =
-    ap (λ t. word_and_rest false (behind_blanks t)) first.cut
-    ∙ ap (word_and_rest false) (blanks-passed first.blanks (word ++ rest) first.blank)
+    ap (λ t. word_and_rest false (behind_blanks t)) first.cut ∙ ap (word_and_rest false) (blanks-passed first.blanks (word ++ rest) first.blank)
     ∙ word-first word rest first.some first.whole first.parted
 
 -- All words.
@@ -117,8 +114,7 @@ unfolding next_word
 none-blank text e =
     let nothing : behind_blanks text ≡ [] = nothing-left (behind_blanks text) e in
     let whole : take (prefix_len is_blank text) text ≡ text =
-    sym (append-nil (take (prefix_len is_blank text) text))
-    ∙ ap (λ t. take (prefix_len is_blank text) text ++ t) (sym nothing)
+    sym (append-nil (take (prefix_len is_blank text) text)) ∙ ap (λ t. take (prefix_len is_blank text) text ++ t) (sym nothing)
     ∙ take-append-drop (prefix_len is_blank text) text in
     subst (λ t. list_all is_blank t ≡ true) whole (front-passes is_blank text)
 

@@ -1,6 +1,5 @@
--- What a line says, one case for each kind of field: the letter or the directive that it has, and
--- how its text is written. Where a text with the letter of a key, a meter, a unit length or a
--- voice is in no good form of that letter, the line is a fault.
+-- What a line says, one case for each kind of field: the letter or the directive that it has, and how its text is written. Where a text
+-- with the letter of a key, a meter, a unit length or a voice is in no good form of that letter, the line is a fault.
 use Prim.Native.Char.{code}
 use Rattle.std.specs.Prelude.{◌≡◌, ℕ, List, Bool, ⊤, ◌==◌, ◌||◌, IsTrue, not, codes}
 use Rattle.mus_units.specs.{declared.key.Meter.Meter, declared.key.Spread.Spread, declared.value.Frac.Frac}
@@ -46,8 +45,7 @@ DirectiveBreaks name rest breaks = (name ≡ codes "linebreak") × SaysBreaks re
 abbrev pub DirectiveSpread : List ℕ → List ℕ → Spread → Type 0
 DirectiveSpread name rest spread = (name ≡ codes "propagate-accidentals") × SaysSpread rest spread
 
--- What a directive of that name says with what follows the name; one of another name or in
--- another form says nothing.
+-- What a directive of that name says with what follows the name; one of another name or in another form says nothing.
 abbrev pub DirectiveSays : List ℕ → List ℕ → Field → Type 0
 DirectiveSays name rest (Field.Breaks breaks) = DirectiveBreaks name rest breaks
 DirectiveSays name rest (Field.Spread spread) = DirectiveSpread name rest spread

@@ -1,5 +1,4 @@
--- What a line says: its field, or its fault. The function that the code follows; what is meant is
--- in FieldSpelling.
+-- What a line says: its field, or its fault. The function that the code follows; what is meant is in FieldSpelling.
 use Prim.Native.Char.{code}
 use Rattle.std.specs.{Prelude.{◌≡◌, ℕ, List, ◌==◌, if◌then◌else◌, codes, Option, Some, None, Result, Ok, Err, ⊤}, Str.bytes_eq}
 use Rattle.mus_units.specs.{declared.key.Meter.Meter, declared.key.Spread.Spread, declared.value.Frac.Frac, Good.IsGoodMeter, Good.IsGoodUnit}

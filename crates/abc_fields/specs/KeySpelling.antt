@@ -42,8 +42,7 @@ word_spelled (clef_word clef) = codes "clef=" ++ clef_spelled clef
 word_spelled (name_word clef) = clef_spelled clef
 word_spelled (passed_word word) = word
 
--- A word that is passed over has an equals sign, is no sign and letter, and doesn't
--- begin with `clef=`.
+-- A word that is passed over has an equals sign, is no sign and letter, and doesn't begin with `clef=`.
 pub record IsPassed (word : List ℕ) : Type 0 where
   pub equals : IsTrue (list_any (λ b. b == code "=") word)
   pub no_sign : (alter : Alter) (letter : Letter) (lower : Bool) → word ≡ alter_spelled alter ++ letter_spelled letter lower ∷ [] → ⊥

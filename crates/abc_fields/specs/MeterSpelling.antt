@@ -5,9 +5,8 @@ use Rattle.std.specs.{Prelude.{◌≡◌, ℕ, ◌+◌, ◌≤◌, List, [], ◌
 use Rattle.mus_units.specs.{declared.key.Meter.Meter, declared.value.Frac.Frac, Good.is_halving}
 use Rattle.abc_fields.specs.{Numbers.is_number, Numbers.value_of, WordSpelling.IsBetweenBlanks}
 
--- A meter is C, C with a bar line, the word none or nothing; or numbers with a plus sign between
--- each two, over a number, with or without parentheses round what stands above.
--- A number is kept as the digits that write it.
+-- A meter is C, C with a bar line, the word none or nothing; or numbers with a plus sign between each two, over a number, with or without
+-- parentheses round what stands above. A number is kept as the digits that write it.
 pub data MeterForm : Type 0 where
   common_form : MeterForm
   cut_form : MeterForm

@@ -1,5 +1,4 @@
--- How clefs and voices are written: each form with its spelling, when it is good, and what it
--- means.
+-- How clefs and voices are written: each form with its spelling, when it is good, and what it means.
 use Rattle.std.specs.Prelude.{◌≡◌, ℕ, ◌≤◌, List, [], ◌∷◌, ◌++◌, false, IsTrue, ⊤, not, length, map, codes}
 use Rattle.mus_units.specs.{declared.pitch.Clef.Clef, declared.note.Wish.Wish}
 use Rattle.abc_fields.specs.{declared.voice.VoiceDef.VoiceDef, declared.voice.VoiceWord.VoiceWord, Voices.voice_def, WordSpelling.IsFirstWord, Words.properties_of, Words.ends_quoted}
@@ -65,9 +64,8 @@ property_meant (name_property clef) = VoiceWord.Names (clef_meant clef)
 property_meant (stem_property way) = VoiceWord.Asks way
 property_meant (other_property word) = VoiceWord.Passed
 
--- A voice is an id of at most 20 bytes, the first word of the text, and properties, which are
--- parted at blanks outside quotes; no quote stands open behind the id. Of several clefs the last
--- counts, and of several ways of stems.
+-- A voice is an id of at most 20 bytes, the first word of the text, and properties, which are parted at blanks outside quotes; no quote
+-- stands open behind the id. Of several clefs the last counts, and of several ways of stems.
 pub record SaysVoice (text : List ℕ) (voice : VoiceDef) : Type 0 where
   pub id : List ℕ
   pub rest : List ℕ

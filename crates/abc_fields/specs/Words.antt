@@ -1,5 +1,4 @@
--- Words of a text: what stands between its spaces and tabs. Where quotes count, what stands
--- between two of them is not parted.
+-- Words of a text: what stands between its spaces and tabs. Where quotes count, what stands between two of them is not parted.
 use Prim.Native.Char.{code}
 use Rattle.std.specs.{Prelude.{ℕ, suc, List, [], ◌∷◌, Bool, true, false, ◌==◌, ◌&&◌, not, if◌then◌else◌, filter, take, drop, length, nat_eq, Option, Some, None}, List.{onto_first, starts_with}}
 use Rattle.mus_units.specs.Bytes.{trimmed as between_blanks}
@@ -42,8 +41,7 @@ ends_quoted quoted (b ∷ s) = ends_quoted (quoted_after true quoted b) s
 unfoldable pub trimmed : List ℕ → List ℕ
 trimmed s = between_blanks s
 
--- What the code reads, one word after another: how long the word at the front is, and the word
--- with what follows it.
+-- What the code reads, one word after another: how long the word at the front is, and the word with what follows it.
 abbrev pub word_len : Bool → Bool → List ℕ → ℕ
 word_len quotes quoted [] = 0
 word_len quotes quoted (b ∷ s) = if parts_words quoted b then 0 else suc (word_len quotes (quoted_after quotes quoted b) s)

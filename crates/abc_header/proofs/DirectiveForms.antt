@@ -27,14 +27,11 @@ blanks-reversed (b ∷ s) all =
     let parts = and_parts _ _ all in
     let here : is_blank b ≡ true = parts.0 in
     let more : list_all is_blank (reverse s) ≡ true = blanks-reversed s parts.1 in
-    ap (list_all is_blank) (reverse-append (b ∷ []) s)
-    ∙ list_all-append is_blank (reverse s) (b ∷ [])
-    ∙ rw (more, here) refl
+    ap (list_all is_blank) (reverse-append (b ∷ []) s) ∙ list_all-append is_blank (reverse s) (b ∷ []) ∙ rw (more, here) refl
 
 blanks-behind : (core back : List ℕ) → BeginsBare (reverse core) → list_all is_blank back ≡ true → suffix_len is_blank (core ++ back) ≡ length back
 blanks-behind core back bare all =
-    ap (prefix_len is_blank) (reverse-append core back)
-    ∙ front-length is_blank (reverse back) (reverse core) (blanks-reversed back all) (bare-stops (reverse core) bare)
+    ap (prefix_len is_blank) (reverse-append core back) ∙ front-length is_blank (reverse back) (reverse core) (blanks-reversed back all) (bare-stops (reverse core) bare)
     ∙ length-reverse back
 
 abbrev ended : List ℕ → List ℕ
@@ -48,15 +45,12 @@ core-left (b ∷ core) back bare all =
     let size = blanks-behind (b ∷ core) back bare.1 all in
     let both = length-append (b ∷ core) back in
     let left : length ((b ∷ core) ++ back) - suffix_len is_blank ((b ∷ core) ++ back) ≡ length (b ∷ core) = omega (arith, size, both) in
-    ap ended (bare-stays (b ∷ core) back refl bare.0)
-    ∙ ap (λ n. take n ((b ∷ core) ++ back)) left
-    ∙ take-append_seam (b ∷ core) back
+    ap ended (bare-stays (b ∷ core) back refl bare.0) ∙ ap (λ n. take n ((b ∷ core) ++ back)) left ∙ take-append_seam (b ∷ core) back
 
 bare-trimmed : (text core : List ℕ) → IsBare core → IsBetweenBlanks text core → trimmed text ≡ core
 unfolding trimmed
 bare-trimmed text core bare between =
-    ap (λ t. ended (behind_blanks t)) between.cut
-    ∙ ap ended (blanks-passed between.front (core ++ between.back) between.front_blank)
+    ap (λ t. ended (behind_blanks t)) between.cut ∙ ap ended (blanks-passed between.front (core ++ between.back) between.front_blank)
     ∙ core-left core between.back bare between.back_blank
 
 -- What is left has no blank at its ends.
@@ -71,8 +65,7 @@ ended-reversed s =
     let few = suffix_len-le-length is_blank s in
     let size : length (reverse (drop n s)) ≡ suffix_len is_blank s = length-reverse (drop n s) ∙ length-drop n s ∙ omega (arith, few) in
     let parts : reverse s ≡ reverse (drop n s) ++ reverse (take n s) = ap reverse (sym (take-append-drop n s)) ∙ reverse-append (take n s) (drop n s) in
-    sym (drop-append_seam (reverse (drop n s)) (reverse (take n s)))
-    ∙ ap (λ k. drop k (reverse (drop n s) ++ reverse (take n s))) size
+    sym (drop-append_seam (reverse (drop n s)) (reverse (take n s))) ∙ ap (λ k. drop k (reverse (drop n s) ++ reverse (take n s))) size
     ∙ ap (drop (suffix_len is_blank s)) (sym parts)
 
 trimmed-bare : (text : List ℕ) → IsBare (trimmed text)
@@ -154,9 +147,7 @@ unblank-bare (b ∷ s) all = (and_parts _ _ all).0
 -- the text without the blanks at its start, from its first word on
 word-found : (text name after : List ℕ) → IsFirstWord text name after → behind_blanks text ≡ name ++ after
 word-found text name after first =
-    ap behind_blanks first.cut
-    ∙ blanks-passed first.blanks (name ++ after) first.blank
-    ∙ bare-stays name after first.some (unblank-bare name first.whole)
+    ap behind_blanks first.cut ∙ blanks-passed first.blanks (name ++ after) first.blank ∙ bare-stays name after first.some (unblank-bare name first.whole)
 
 name-read : (name after : List ℕ) → list_all unblank name ≡ true → Parts after → name_of (name ++ after) ≡ name
 unfolding name_of
@@ -173,10 +164,8 @@ directive-read line name says is =
     let word = is.named in
     let text = word-found is.text name is.after word in
     let same : bytes_eq (name_of (name ++ is.after)) name ≡ true = (bytes_eq-Decides (name_of (name ++ is.after)) name).1 (name-read name is.after word.whole word.parted) in
-    ap (λ l. rest_if name l (kind_of l)) is.led
-    ∙ ap (rest_if name (lead_spelled is.lead ++ is.text)) (lead-kind is.lead is.text)
-    ∙ ap (rest_named name) (lead-text is.lead is.text ∙ text)
-    ∙ rw same refl
+    ap (λ l. rest_if name l (kind_of l)) is.led ∙ ap (rest_if name (lead_spelled is.lead ++ is.text)) (lead-kind is.lead is.text)
+    ∙ ap (rest_named name) (lead-text is.lead is.text ∙ text) ∙ rw same refl
     ∙ ap Some (rest-read name is.after word.whole word.parted ∙ bare-trimmed is.after says is.bare is.between)
 
 record IsNamed (text name says : List ℕ) : Type 0 where

@@ -106,8 +106,7 @@ one_clear done line lines none clear (first ∷ before) other after fault e is =
 
 first_passed : (done : List Line) (line : Line) (lines : List Line) → fault_of_line done line ≡ None → first_fault (ids_of (fields_of done)) (line ∷ lines) ≡ first_fault (ids_of (fields_of (done ++ line ∷ []))) lines
 first_passed done line lines none =
-    ap (λ o. option_or o (first_fault (ids_with (ids_of (fields_of done)) (field_of line.text)) lines)) none
-    ∙ ap (λ ids. first_fault ids lines) (sym (ids-push done line))
+    ap (λ o. option_or o (first_fault (ids_with (ids_of (fields_of done)) (field_of line.text)) lines)) none ∙ ap (λ ids. first_fault ids lines) (sym (ids-push done line))
 
 first_met : (done : List Line) (line : Line) (lines : List Line) (fault : Fault) → fault_of_line done line ≡ Some fault → first_fault (ids_of (fields_of done)) (line ∷ lines) ≡ Some fault
 first_met done line lines fault some = ap (λ o. option_or o (first_fault (ids_with (ids_of (fields_of done)) (field_of line.text)) lines)) some

@@ -49,8 +49,7 @@ last-behind f (first ∷ before) after line x h = ap (λ o. option_or o (f first
 
 last-reaches : {X : Type 0} (States : Line → X → Type 0) (f : Line → Option X) → Reads States f → (lines : List Line) (x : X) → IsLastOf States lines x → last_of f lines ≡ Some x
 last-reaches States f reads lines x last =
-    ap (last_of f) last.cut
-    ∙ last-behind f last.before last.after last.line x
+    ap (last_of f) last.cut ∙ last-behind f last.before last.after last.line x
     (ap (λ o. option_or o (f last.line)) (silent-unread States f reads last.after last.silent) ∙ reads.reaches last.line x last.states)
 
 last_or_if : {X : Type 0} (States : Line → X → Type 0) (f : Line → Option X) (default : X) (lines : List Line) (o : Option X) → Reads States f → last_of f lines ≡ o → IsLastOr States default lines (unwrap_or o default)

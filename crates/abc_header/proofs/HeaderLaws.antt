@@ -92,8 +92,7 @@ once_all (f ∷ fs) ids once = once_all fs (ids_after ids f) (once_after ids f o
 voices_counted : (fs : List Field) (ids : List (List ℕ)) (id : List ℕ) → count_by (λ (def : VoiceDef). bytes_eq id def.id) (map (voice_from fs) ids) ≡ count_by (bytes_eq id) ids
 voices_counted fs [] id = refl
 voices_counted fs (i ∷ ids) id =
-    count_by-cons (λ (def : VoiceDef). bytes_eq id def.id) (voice_from fs i) (map (voice_from fs) ids)
-    ∙ ap (λ n. cond (bytes_eq id i) 1 0 + n) (voices_counted fs ids id)
+    count_by-cons (λ (def : VoiceDef). bytes_eq id def.id) (voice_from fs i) (map (voice_from fs) ids) ∙ ap (λ n. cond (bytes_eq id i) 1 0 + n) (voices_counted fs ids id)
     ∙ sym (count_by-cons (bytes_eq id) i ids)
 
 -- no two voices of fields have one id
@@ -126,15 +125,10 @@ stage_more lines i line done new known now f inside here pushed read noted none 
     ap (λ r. option_or (fault_at known line r) (first_fault (ids_with known r) (drop (suc i) lines))) read
     ∙ ap (λ o. option_or o (first_fault (ids_after known f) (drop (suc i) lines))) none in
     rw one (record {
-      fields_so_far = ap (λ fs. fs ++ fields_of (drop (suc i) lines)) pushed
-          ∙ append_assoc done (f ∷ []) (fields_of (drop (suc i) lines))
-          ∙ sym (ap (λ r. done ++ put_field r (fields_of (drop (suc i) lines))) read)
-          ∙ ap (λ s. done ++ fields_of s) (sym cut)
-          ∙ stage.fields_so_far;
-      ids_so_far = ap (λ ids. fold ids_after ids (fields_of (drop (suc i) lines))) noted
-          ∙ sym (ap (λ r. fold ids_after known (put_field r (fields_of (drop (suc i) lines)))) read)
-          ∙ ap (λ s. fold ids_after known (fields_of s)) (sym cut)
-          ∙ stage.ids_so_far;
+      fields_so_far = ap (λ fs. fs ++ fields_of (drop (suc i) lines)) pushed ∙ append_assoc done (f ∷ []) (fields_of (drop (suc i) lines))
+          ∙ sym (ap (λ r. done ++ put_field r (fields_of (drop (suc i) lines))) read) ∙ ap (λ s. done ++ fields_of s) (sym cut) ∙ stage.fields_so_far;
+      ids_so_far = ap (λ ids. fold ids_after ids (fields_of (drop (suc i) lines))) noted ∙ sym (ap (λ r. fold ids_after known (put_field r (fields_of (drop (suc i) lines)))) read)
+          ∙ ap (λ s. fold ids_after known (fields_of s)) (sym cut) ∙ stage.ids_so_far;
       fault_ahead = ap (λ ids. first_fault ids (drop (suc i) lines)) noted ∙ sym passed ∙ ap (λ s. first_fault known s) (sym cut) ∙ stage.fault_ahead;
       all_good = subst AllGood (sym pushed) (good_push done f stage.all_good good);
       few_known = few;

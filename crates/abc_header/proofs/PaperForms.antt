@@ -59,8 +59,7 @@ with-read w d (e ∷ f ∷ ds) rest few = absurd (omega (arith, few))
 behind-point : (w : ℕ) (ds rest : List ℕ) → list_all is_digit ds ≡ true → Stops is_digit rest
     → with_decimals w (take (digit_len (ds ++ rest)) (ds ++ rest)) (drop (digit_len (ds ++ rest)) (ds ++ rest)) ≡ with_decimals w ds rest
 behind-point w ds rest all stops =
-    ap (λ t. with_decimals w t (drop (digit_len (ds ++ rest)) (ds ++ rest))) (digits-taken ds rest all stops)
-    ∙ ap (λ t. with_decimals w ds t) (digits-left ds rest all stops)
+    ap (λ t. with_decimals w t (drop (digit_len (ds ++ rest)) (ds ++ rest))) (digits-taken ds rest all stops) ∙ ap (λ t. with_decimals w ds t) (digits-left ds rest all stops)
 
 abbrev read_behind : ℕ → List ℕ → Option (ℕ × List ℕ)
 read_behind w s = decimals w s (behind (codes ".") s)
@@ -69,9 +68,7 @@ decimals-read : (w : ℕ) (ds rest : List ℕ) → length ds ≤ 2 → list_all 
     → read_behind w (point_spelled ds rest) ≡ read_as (100 * w + value_of (take 2 (ds ++ codes "00"))) rest
 decimals-read w [] rest few all stops none = ap (decimals w rest) none ∙ ap (λ v. read_as v rest) (omega arith)
 decimals-read w (d ∷ ds) rest few all stops none =
-    ap (decimals w (point_spelled (d ∷ ds) rest)) (point-found ((d ∷ ds) ++ rest))
-    ∙ behind-point w (d ∷ ds) rest all stops
-    ∙ with-read w d ds rest few
+    ap (decimals w (point_spelled (d ∷ ds) rest)) (point-found ((d ∷ ds) ++ rest)) ∙ behind-point w (d ∷ ds) rest all stops ∙ with-read w d ds rest few
 
 point-stops : (ds rest : List ℕ) → Stops is_digit rest → Stops is_digit (point_spelled ds rest)
 point-stops [] rest stops = stops
@@ -227,16 +224,13 @@ form-read number unit good few =
     let small = few_points unit (value_of number.whole) (value_of (take 2 (number.decimals ++ codes "00"))) few in
     let yes : nat_le (in_points unit (hundredths number)) 100000 ≡ true = le-leb (in_points unit (hundredths number)) 100000 few in
     ap (option_and_then (λ z. option_and_then within_paper (in_units z.0 z.1))) (number-read number (unit_spelled unit) good small (unit-stops unit) (unit-pointless unit))
-    ∙ ap (option_and_then within_paper) (unit-read unit (hundredths number))
-    ∙ rw yes refl
+    ∙ ap (option_and_then within_paper) (unit-read unit (hundredths number)) ∙ rw yes refl
 
 -- and wherever one does
 pub length-read : (text : List ℕ) (size : ℕ) → WritesLength text size → length_of text ≡ Some size
 length-read text size writes =
     let same = writes.meant in
-    ap length_of writes.spelled
-    ∙ form-read writes.number writes.unit writes.good (subst (λ u. u ≤ 100000) (sym same) writes.small)
-    ∙ ap Some same
+    ap length_of writes.spelled ∙ form-read writes.number writes.unit writes.good (subst (λ u. u ≤ 100000) (sym same) writes.small) ∙ ap Some same
 
 -- The scale.
 record IsScaleBy (z : ℕ × List ℕ) (percent : ℕ) : Type 0 where
@@ -281,13 +275,10 @@ scale-form-read number good low high =
     let small : value_of number.whole ≤ 100000 = omega (arith, high) in
     let least : nat_le 40 (hundredths number) ≡ true = le-leb 40 (hundredths number) low in
     let most : nat_le (hundredths number) 150 ≡ true = le-leb (hundredths number) 150 high in
-    ap (option_and_then scale_by) (number-read number [] good small tt alone-pointless)
-    ∙ rw (least, most) refl
+    ap (option_and_then scale_by) (number-read number [] good small tt alone-pointless) ∙ rw (least, most) refl
 
 -- and wherever one does
 pub scale-read : (text : List ℕ) (percent : ℕ) → WritesScale text percent → scale_of text ≡ Some percent
 scale-read text percent writes =
     let same = writes.meant in
-    ap scale_of writes.spelled
-    ∙ scale-form-read writes.number writes.good (subst (λ v. 40 ≤ v) (sym same) writes.low) (subst (λ v. v ≤ 150) (sym same) writes.high)
-    ∙ ap Some same
+    ap scale_of writes.spelled ∙ scale-form-read writes.number writes.good (subst (λ v. 40 ≤ v) (sym same) writes.low) (subst (λ v. v ≤ 150) (sym same) writes.high) ∙ ap Some same

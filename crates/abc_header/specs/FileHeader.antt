@@ -107,8 +107,7 @@ pub record IsStatedPaper (lines : List Line) (paper : Paper) : Type 0 where
 abbrev pub HasRoom : Paper → Type 0
 HasRoom paper = (10000 ≤ width_of paper) × (10000 ≤ height_of paper)
 
--- The paper of a book whose file header has these lines: the stated one where its body has room,
--- and all the defaults where it has not.
+-- The paper of a book whose file header has these lines: the stated one where its body has room, and all the defaults where it has not.
 pub record IsPaperBy (lines : List Line) (paper : Paper) : Type 0 where
   pub stated : Paper
   pub states : IsStatedPaper lines stated

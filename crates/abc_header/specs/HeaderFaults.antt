@@ -34,8 +34,7 @@ pub record IsFirstFault (lines : List Line) (fault : Fault) : Type 0 where
   pub is : IsFaultBehind before line fault
   pub clear : AreClear before
 
--- the fault of a tune's header: of a tune without `K:` at its first line, else the first fault of
--- the lines up to the first `K:`
+-- the fault of a tune's header: of a tune without `K:` at its first line, else the first fault of the lines up to the first `K:`
 abbrev pub IsFaultBy : TuneText → Option ℕ → Fault → Type 0
 IsFaultBy tune None fault = no_key tune ≡ fault
 IsFaultBy tune (Some place) fault = IsFirstFault (head_lines tune place) fault

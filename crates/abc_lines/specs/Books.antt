@@ -23,14 +23,12 @@ is_end_of_part line = is_empty line || begins_tune line
 abbrev pub is_joining : List ℕ → Bool
 is_joining text = starts_with nat_eq text (codes "+:")
 
--- Looking backwards: here a line stands first, the line before it second, and so on.
--- No line up to it is empty or begins a tune.
+-- Looking backwards: here a line stands first, the line before it second, and so on. No line up to it is empty or begins a tune.
 abbrev pub is_in_header : List Reading → Bool
 is_in_header [] = true
 is_in_header (line ∷ before) = not (is_end_of_part line) && is_in_header before
 
--- the number of the last line at or before it that begins a tune, where no empty line stands
--- after that one
+-- the number of the last line at or before it that begins a tune, where no empty line stands after that one
 abbrev pub tune_of : List Reading → Option ℕ
 tune_of [] = None
 tune_of (line ∷ before) = if begins_tune line then Some (suc (length before)) else (if is_empty line then None else tune_of before)

@@ -1,5 +1,4 @@
--- The lines of an input: its pieces between line ends, without the carriage return at the end,
--- each in Latin-1 and without its comment.
+-- The lines of an input: its pieces between line ends, without the carriage return at the end, each in Latin-1 and without its comment.
 use Prim.Native.Char.{code}
 use Rattle.std.specs.{Prelude.{◌-◌, ◌+◌, ◌&&◌, not, ℕ, List, [], ◌∷◌, length, Bool, false, ◌==◌, if◌then◌else◌, take, drop, map, nat_eq, nat_le, codes}, List.{slice_split, suffix_len, position_or_len, prefix_len, starts_with, ends_with}, Str.{is_utf8, chars}}
 use Rattle.abc_lines.specs.{declared.reading.Reading.Reading, Kinds.is_percent_line, declared.reading.Reading.TheVariants.Empty, declared.reading.Reading.TheVariants.Comment, declared.reading.Reading.TheVariants.Written}

@@ -1,5 +1,4 @@
--- The last brace within a chord at which a grace group may end stands behind one of the shorter
--- chords that begin at the same bracket.
+-- The last brace within a chord at which a grace group may end stands behind one of the shorter chords that begin at the same bracket.
 use Rattle.std.{proofs.{Common.{◌≡◌, ℕ, suc, ◌+◌, ◌-◌, ◌≤◌, Bool, true, false, cond, eqb, List, [], ◌∷◌, ◌++◌, length, take, drop, Bor, Option, Some, None, refl, sym, ap, ◌∙◌, subst, arith, append_assoc, append-nil, not, ◌&&◌, ◌||◌, IfSome, option_map}, lemmas.{Bool.{cond_both, and_parts, eqb-true, not-true}, Option.same_Some, List.{length-append, append_cancel_right, nil_from_length}}, Math.Seq.drop-append_seam}, specs.List.list_all}
 use Rattle.abc_notes.{specs.{Graces.{GracePart, single, chorded, StandsInGrace, is_in_grace, brace_at, brace_in_chord, brace_behind, brace_between, brace_in_item, brace_in_part, inside_of_item, inside_of_part, IsItemAt, stands_behind, at_most_bytes}, declared.part.{GraceChord.GraceChord, GraceItem.GraceItem, Len.Len, ItemClass.ItemClass}, Runs.span_all, Decorations.is_name_byte, Parts.{no_part, then_part, walk, is_done, later_or}, Items.{Inner, named_inside, lone_inside, inner_then, IsInner, IsName, has_length, InnerParts, name_at, named_or, inner_at}, Chords.{is_inside, has_head, bracket_in_name, bracket_at}, Lengths.{length_then, length_at, len_of, length_read}}, proofs.{SpanLaws.span_all-takes, ItemLaws.{name_at-reads, at_class, bang_class}, PartLaws.{stands_at, longest_is, walk-none, walk-some, walk_of_parts}, LengthLaws.length_at-takes, InnerLaws.{inner_reader, inner_pair, length-length_then}, CutLaws.{inner_append, length_append, inner_local, read_cut, all_parts, lone_at, is_named, first_same}, ChordLaws.{is_lone, last_at, last_at-none, last_at-some, bracket_at-closes, bracket_within, in_name-finds, later_assoc, later_none, cut_off}, GraceLaws.{FoundPart, part_reader, ClosedGroup, brace_at-closes, none_there, chord-none, chord-some}}}
 
@@ -233,8 +232,7 @@ passing-next bang head new w bracket last next found rest behind part stage e ne
           ap (bracket_at bang) text ∙ stage.brackets u y line
           ∙ ap (λ r. later_or r (option_map (λ (m : List ℕ). m ++ u) stage.mark)) (last_at-some bang head u (part, v) at ∙ ap (later_or later) (part_own bang head part v stands.good at))
           ∙ later_assoc later (option_map (λ (m : List ℕ). m ++ v) own) (option_map (λ (m : List ℕ). m ++ u) stage.mark)
-          ∙ ap (λ r. later_or later (later_or (option_map (λ (m : List ℕ). m ++ v) own) r)) marks
-          ∙ ap (later_or later) (joined one v own stage.mark);
+          ∙ ap (λ r. later_or later (later_or (option_map (λ (m : List ℕ). m ++ v) own) r)) marks ∙ ap (later_or later) (joined one v own stage.mark);
       found = so_far;
       left = sym (ap (λ (z : List Inner × List ℕ). z.1) (walk-some (inner_reader bang) rest (part, behind) e)) ∙ stage.left;
     })
@@ -350,6 +348,5 @@ drops_in_chord bang text inside brace cut found =
 pub chord-brace : (bang : Bool) (item : GraceItem) (text brace : List ℕ) (inside : Bor (List ℕ)) → item ≡ GraceItem.Chord inside → IsItemAt bang item text → Some brace ≡ brace_in_chord bang inside.now → Some (drop (length inside.now + 1 - length brace) text) ≡ brace_in_item bang item text
 chord-brace bang item text brace inside is at some =
     let here : IsItemAt bang (GraceItem.Chord inside) text = subst (λ i. IsItemAt bang i text) is at in
-    ap Some (drops_in_chord bang text inside.now brace here.2 some)
-    ∙ ap (option_map (λ (b : List ℕ). b ++ drop (suc (length inside.now)) text)) some
+    ap Some (drops_in_chord bang text inside.now brace here.2 some) ∙ ap (option_map (λ (b : List ℕ). b ++ drop (suc (length inside.now)) text)) some
     ∙ ap (λ i. brace_in_item bang i text) (sym is)

@@ -1,5 +1,4 @@
--- Reading a part of a grace group, and a group, gives the longest; where there is none its fault
--- is found.
+-- Reading a part of a grace group, and a group, gives the longest; where there is none its fault is found.
 use Rattle.std.{proofs.{Common.{◌≡◌, ℕ, zero, suc, ◌+◌, ◌-◌, ◌≤◌, ◌<◌, Bool, true, false, cond, eqb, List, [], ◌∷◌, ◌++◌, length, take, drop, Option, Some, None, refl, sym, ap, ◌∙◌, subst, arith, inl, inr, ◌⊎◌, append_assoc, append-nil, add-one, not, ◌&&◌, ◌||◌, IfSome, option_map, MatchOption}, lemmas.{Bool.{cond_both, and_parts, eqb-true, ne_eqb, or_cases, not-true, eqb-false, or_parts}, List.{length-append, length-drop, take-append-drop, append_cancel_left, append_cancel_right, nil_from_length}, Option.same_Some}, Math.Seq.{take-append_seam, drop-append_seam}}, specs.List.list_all}
 use Rattle.mus_units.specs.declared.pitch.{Alter.Alter, Letter.Letter, Alter.TheVariants.Sharp2, Letter.TheVariants.C}
 use Rattle.abc_lines.specs.declared.fault.FaultKind.TheVariants.{Unclosed}

@@ -58,9 +58,8 @@ decos_of (part ∷ more) = deco_of part ++ decos_of more
 abbrev pub InnerLeads : Bool → List ℕ → List Inner → List ℕ → Type 0
 InnerLeads bang text parts rest = Leads Inner (StandsInside bang) text parts rest
 
--- the fault behind an opening bracket, where no chord stands: no closing bracket follows, or parts
--- alone follow up to the end; or the parts have no head up to a closing bracket; or the first fault
--- of the parts, which stop at another byte
+-- the fault behind an opening bracket, where no chord stands: no closing bracket follows, or parts alone follow up to the end; or the parts
+-- have no head up to a closing bracket; or the first fault of the parts, which stop at another byte
 pub data ChordFault (bang : Bool) : List ℕ → Flaw → Type 0 where
   chord_unclosed : (text : List ℕ) → list_all is_inside text ≡ true → ChordFault bang text (record { kind = Unclosed; left = suc (length text) })
   chord_open : (text : List ℕ) (parts : List Inner) → InnerLeads bang text parts [] → ChordFault bang text (record { kind = Unclosed; left = suc (length text) })

@@ -175,8 +175,7 @@ grace_from bang slash text (Some (brace ∷ rest)) =
 unfoldable pub grace_at : Bool → List ℕ → Option (GraceForm × List ℕ)
 grace_at bang text = let slash = skip (code "/") text in grace_from bang slash.0 slash.1 (brace_at bang slash.1)
 
--- a part as the code reads it: what it gives to the body, whether it has a length, and what stands
--- between its brackets where it is a chord
+-- a part as the code reads it: what it gives to the body, whether it has a length, and what stands between its brackets where it is a chord
 abbrev pub bodied : List GraceChord → Bool → Option (List ℕ) → List ℕ → List GraceChord × Bool × Option (List ℕ) × List ℕ
 bodied body lengthy inside rest = (body, lengthy, inside, rest)
 

@@ -1,6 +1,5 @@
--- A note: a sign or none, a letter, octave marks in any mix, and a length. A capital is in octave 4
--- and a small letter in octave 5; each prime counts one octave up and each comma one down. Then
--- reading a note from left to right.
+-- A note: a sign or none, a letter, octave marks in any mix, and a length. A capital is in octave 4 and a small letter in octave 5; each
+-- prime counts one octave up and each comma one down. Then reading a note from left to right.
 use Prim.Native.Char.{code}
 use Rattle.std.specs.{Prelude.{◌≡◌, ℕ, ℤ, pos, ◌+ℤ◌, ◌-ℤ◌, List, [], ◌∷◌, ◌++◌, Bool, true, false, ◌==◌, if◌then◌else◌, Option, Some, None, count_by}, List.list_all}
 use Rattle.mus_units.specs.declared.{pitch.{Alter.{Alter, TheVariants.{Flat2, Flat, Natural, Sharp, Sharp2}}, Letter.{Letter, TheVariants.{C, D, E, F, G, A, B}}}, note.Head.Head}

@@ -1,6 +1,5 @@
--- Text that is read part by part, each part as long as it can be: the list of parts that a text
--- is, and the first place where it has none. `Stands part text rest` says that the part stands at
--- the front of the text, with the rest behind it.
+-- Text that is read part by part, each part as long as it can be: the list of parts that a text is, and the first place where it has none.
+-- `Stands part text rest` says that the part stands at the front of the text, with the rest behind it.
 use Prim.Native.Char.{code}
 use Rattle.std.specs.Prelude.{◌≡◌, ◌≤◌, ℕ, zero, suc, List, [], ◌∷◌, length, Bool, true, false, ◌||◌, ◌==◌, Option, Some, None, MatchBool}
 use Rattle.abc_lines.specs.declared.fault.FaultKind.TheVariants.{BadLength}

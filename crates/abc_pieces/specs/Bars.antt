@@ -1,6 +1,5 @@
--- A bar: a dot or none, colons, an opening bracket or none, one or more bar signs, a closing bracket
--- or none, and colons; or two or more colons alone. Which features it has, and reading one from left
--- to right.
+-- A bar: a dot or none, colons, an opening bracket or none, one or more bar signs, a closing bracket or none, and colons; or two or more
+-- colons alone. Which features it has, and reading one from left to right.
 use Prim.Native.Char.{code}
 use Rattle.std.specs.Prelude.{ℕ, ◌≤◌, List, Bool, true, false, ◌&&◌, ◌||◌, not, nat_lt, ◌==◌, if◌then◌else◌, Option, Some, None}
 use Rattle.mus_units.specs.declared.note.Bar.{Bar}

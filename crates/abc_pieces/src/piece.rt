@@ -183,6 +183,7 @@ fn note(bytes: &[u8]) -> Option<Piece<'_>>
 }
 
 #[tactic(auto, unfolding(crate::specs::Reading::rest_read))]
+#[inline(never)]
 fn rest_piece(first: u8, bytes: &[u8]) -> Piece<'_>
     ensures read { (bang : Bool) → shown bang (Some result) ≡ meaning (rest_read first bytes.now) }
     ensures within { (n : ℕ) → found_within result.found n }
@@ -199,6 +200,7 @@ fn rest_piece(first: u8, bytes: &[u8]) -> Piece<'_>
 }
 
 #[tactic(auto, unfolding(crate::specs::Reading::gap_read))]
+#[inline(never)]
 fn gap(bytes: &[u8]) -> Piece<'_>
     ensures read { (bang : Bool) → shown bang (Some result) ≡ meaning (gap_read bytes.now) }
     ensures within { (n : ℕ) → found_within result.found n }
@@ -212,6 +214,7 @@ fn gap(bytes: &[u8]) -> Piece<'_>
 }
 
 #[tactic(auto, unfolding(crate::specs::Reading::measures_read))]
+#[inline(never)]
 fn measures(first: u8, bytes: &[u8]) -> Piece<'_>
     ensures read { (bang : Bool) → shown bang (Some result) ≡ meaning (measures_read first bytes.now) }
     ensures within { (n : ℕ) → found_within result.found n }
@@ -242,6 +245,7 @@ fn bar_piece(bytes: &[u8]) -> Option<Piece<'_>>
 
 /// A piece that begins with a dot; `rest` stands behind the dot.
 #[tactic(auto, unfolding(crate::specs::Reading::dot_read))]
+#[inline(never)]
 fn dot<'a>(bytes: &'a [u8], rest: &'a [u8]) -> Option<Piece<'a>>
     requires { bytes.now ≡ code "." ∷ rest.now }
     ensures read { (bang : Bool) → shown bang result ≡ meaning (dot_read rest.now) }
@@ -265,6 +269,7 @@ fn dot_or_bar<'a>(bytes: &'a [u8], rest: &'a [u8]) -> Piece<'a>
 }
 
 /// A piece that begins with a bracket; `rest` stands behind the bracket.
+#[inline(never)]
 fn bracket<'a>(bang: bool, bytes: &'a [u8], rest: &'a [u8]) -> Option<Piece<'a>>
     requires cut { bytes.now ≡ code "[" ∷ rest.now }
     requires small { length bytes.now ≤ 2 ^ 30 }
@@ -324,6 +329,7 @@ fn chord(bang: bool, bytes: &[u8]) -> Option<Piece<'_>>
 }
 
 #[tactic(auto, unfolding(crate::specs::Reading::grace_read))]
+#[inline(never)]
 fn grace(bang: bool, bytes: &[u8]) -> Option<Piece<'_>>
     requires { length bytes.now ≤ 2 ^ 30 }
     ensures read { shown bang result ≡ meaning (grace_read bang bytes.now) }
@@ -341,6 +347,7 @@ fn grace(bang: bool, bytes: &[u8]) -> Option<Piece<'_>>
 
 /// A piece that begins with a parenthesis.
 #[tactic(auto, unfolding(crate::specs::Reading::tuplet_read))]
+#[inline(never)]
 fn paren(bytes: &[u8]) -> Piece<'_>
     ensures read { (bang : Bool) → shown bang (Some result) ≡ meaning (or_else (tuplet_read bytes.now) (read (slur_form false) bytes.now)) }
     ensures within { (n : ℕ) → found_within result.found n }
@@ -364,6 +371,7 @@ fn paren(bytes: &[u8]) -> Piece<'_>
 }
 
 #[tactic(auto, unfolding(crate::specs::Reading::ending_read))]
+#[inline(never)]
 fn ending(bytes: &[u8]) -> Option<Piece<'_>>
     ensures read { (bang bracket : Bool) → shown bang result ≡ meaning (ending_read bracket bytes.now) }
     ensures within { (n : ℕ) → IfSome result (λ x. found_within x.found n) }
@@ -387,6 +395,7 @@ fn ending_len(bytes: &[u8]) -> usize
 }
 
 #[tactic(auto, unfolding(crate::specs::Reading::broken_read, abc_notes::specs::Runs::span))]
+#[inline(never)]
 fn broken(before: Before, first: u8, bytes: &[u8]) -> Option<Piece<'_>>
     ensures read { (bang : Bool) → shown bang result ≡ meaning (broken_read before first bytes.now) }
     ensures within { (n : ℕ) → IfSome result (λ x. found_within x.found n) }
@@ -414,6 +423,7 @@ fn same_count(byte: u8, bytes: &[u8]) -> usize
 }
 
 #[tactic(auto, unfolding(crate::specs::Reading::says_read, abc_notes::specs::Runs::span_all))]
+#[inline(never)]
 fn says(bytes: &[u8]) -> Option<Piece<'_>>
     ensures read { (bang : Bool) → shown bang result ≡ meaning (says_read bytes.now) }
     ensures within { (n : ℕ) → IfSome result (λ x. found_within x.found n) }
@@ -466,6 +476,7 @@ fn bang_piece(bang: bool, bytes: &[u8]) -> Piece<'_>
 
 /// A piece that begins with a plus sign.
 #[tactic(auto, unfolding(crate::specs::Reading::plus_read, abc_notes::specs::Runs::span_all))]
+#[inline(never)]
 fn plus(bytes: &[u8]) -> Piece<'_>
     ensures read { (bang : Bool) → shown bang (Some result) ≡ meaning (plus_read bytes.now) }
     ensures within { (n : ℕ) → found_within result.found n }

@@ -63,8 +63,7 @@ chord_plain bang f good =
     record {
       form = chord_form plain;
       means = ap (λ (list : List (Head × Len)). Some (chord_of list (decos_of (map sense plain.parts)) (len_of (len_form len)))) (chord_heads hs ds heads)
-          ∙ ap (λ (list : List Deco). Some (chord_of hs list (len_of (len_form len)))) (chord_decos hs ds decos)
-          ∙ ap (λ (k : Len). Some (chord_of hs ds k)) l.means;
+          ∙ ap (λ (list : List Deco). Some (chord_of hs list (len_of (len_form len)))) (chord_decos hs ds decos) ∙ ap (λ (k : Len). Some (chord_of hs ds k)) l.means;
       spells = λ x. ap (λ s. 91 ∷ s) (chord_spell hs ds (93 ∷ len_then len x));
       exact = λ x h. chord_piece plain x (chord_good hs ds len some heads decos l) (chord_whole hs ds) (chord_opens hs ds len some heads) h;
     }
@@ -110,8 +109,7 @@ tuplet_plain p q r good =
       means = refl;
       spells = λ x. sym (
           ap (λ ds. 40 ∷ (ds ++ (58 ∷ (number_or_empty (value_or_zero q) ++ (58 ∷ (number_or_empty (value_or_zero r) ++ x)))))) digit
-          ∙ ap (λ ds. 40 ∷ p ∷ 58 ∷ (ds ++ (58 ∷ (number_or_empty (value_or_zero r) ++ x)))) second
-          ∙ ap (λ ds. 40 ∷ p ∷ 58 ∷ (q ++ (58 ∷ (ds ++ x)))) third);
+          ∙ ap (λ ds. 40 ∷ p ∷ 58 ∷ (ds ++ (58 ∷ (number_or_empty (value_or_zero r) ++ x)))) second ∙ ap (λ ds. 40 ∷ p ∷ 58 ∷ (q ++ (58 ∷ (ds ++ x)))) third);
       exact = λ x h. tuplet_piece p q r x good h;
     }
 

@@ -115,8 +115,7 @@ heads_mean (h ∷ hs) good =
     let more = map sense (tied_parts h.0.tied (head_parts hs)) in
     let others : heads_of more ≡ hs = heads_tied h.0.tied (head_parts hs) ∙ heads_mean hs good.1 in
     ap (λ (b : Bool). with_len (tied_if b (head_of (head_form h.0 form))) (len_of form) ∷ heads_of more) (tied_is h.0.tied hs)
-    ∙ ap (λ (head : Head). with_len (tied_if h.0.tied head) (len_of form) ∷ heads_of more) (head_means h.0 form)
-    ∙ ap (λ (len : Len). with_len h.0 len ∷ heads_of more) good.0.means
+    ∙ ap (λ (head : Head). with_len (tied_if h.0.tied head) (len_of form) ∷ heads_of more) (head_means h.0 form) ∙ ap (λ (len : Len). with_len h.0 len ∷ heads_of more) good.0.means
     ∙ ap (λ (list : List (Head × Len)). h ∷ list) others
 
 heads_behind : (ds : List Deco) (ps : List Inner) → heads_of (map sense (deco_parts ds ps)) ≡ heads_of (map sense ps)

@@ -1,8 +1,7 @@
--- The one plain spelling of each token: a length is its two numbers with a slash between, an octave
--- is written by commas or primes alone, a space is one space, a line break is a dollar sign, an
--- ending is an opening bracket and its text, a decoration is its first name between exclamation
--- marks, a tuplet leaves a number that it lacks empty, and a bar has as few colons and bar signs as
--- its features allow. Each spelling is written in front of what follows it.
+-- The one plain spelling of each token: a length is its two numbers with a slash between, an octave is written by commas or primes alone, a
+-- space is one space, a line break is a dollar sign, an ending is an opening bracket and its text, a decoration is its first name between
+-- exclamation marks, a tuplet leaves a number that it lacks empty, and a bar has as few colons and bar signs as its features allow. Each
+-- spelling is written in front of what follows it.
 use Prim.Native.Char.{code}
 use Rattle.std.specs.{Prelude.{◌≡◌, ℕ, ℤ, pos, negsuc, ◌+◌, ◌-◌, List, [], ◌∷◌, ◌++◌, Bool, false, not, ◌==◌, ◌&&◌, nat_le, if◌then◌else◌, replicate, codes}, Fmt.decimal}
 use Rattle.mus_units.specs.declared.note.{Bar.Bar, Deco.{Deco, TheVariants.{Ks, Kr, Kf, Ka, Km, Kc, Kp, Kg, Kt, Ku, Kd, Kn, Below, Above, Quiet}}, Head.Head}

@@ -37,16 +37,14 @@ kind_behind Before.Other byte = None
 abbrev pub IsHere : FaultKind → List ℕ → Flaw → Type 0
 IsHere kind s flaw = flaw ≡ record { kind = kind; left = length s }
 
--- behind a bracket: an inline field that is not closed, or the fault of a chord; a bar sign and a
--- digit always make a piece there
+-- behind a bracket: an inline field that is not closed, or the fault of a chord; a bar sign and a digit always make a piece there
 abbrev pub IsBracketFlaw : Opening → Bool → ℕ → List ℕ → Flaw → Type 0
 IsBracketFlaw Opening.Bar bang byte s flaw = IsHere BadByte (byte ∷ s) flaw
 IsBracketFlaw Opening.Ending bang byte s flaw = IsHere BadByte (byte ∷ s) flaw
 IsBracketFlaw Opening.Inline bang byte s flaw = IsHere Unclosed (byte ∷ s) flaw
 IsBracketFlaw Opening.Chord bang byte s flaw = ChordFault bang s flaw
 
--- a byte at which no piece stands: a quote that is not closed, what a bracket or a brace opens, or
--- the byte itself
+-- a byte at which no piece stands: a quote that is not closed, what a bracket or a brace opens, or the byte itself
 abbrev pub IsOwnFlaw : Bool → ℕ → List ℕ → Flaw → Type 0
 IsOwnFlaw bang byte s flaw =
     MatchBool (byte == code "\"") (IsHere Unclosed (byte ∷ s) flaw)
@@ -63,8 +61,7 @@ pub data Faulty (bang : Bool) : Before → ℕ → List ℕ → Flaw → Type 0 
   stuck : (before : Before) (at byte : ℕ) (s : List ℕ) (flaw : Flaw) → HasNone Form (StandsAt bang before) (byte ∷ s) → IsLineFlaw bang before at byte s flaw → Faulty bang before at (byte ∷ s) flaw
   later : (before : Before) (at : ℕ) (s : List ℕ) (f : Form) (rest : List ℕ) (flaw : Flaw) → IsLongest Form (StandsAt bang before) s f rest → Faulty bang (after f) (length s) rest flaw → Faulty bang before at s flaw
 
--- What a line gives up to its first fault: the tokens of the pieces before it, and the fault, or
--- none where pieces stand up to the end.
+-- What a line gives up to its first fault: the tokens of the pieces before it, and the fault, or none where pieces stand up to the end.
 pub data Front (bang : Bool) (n : ℕ) : Before → ℕ → List ℕ → List Placed → Option Flaw → Type 0 where
   clear : (before : Before) (at : ℕ) → Front bang n before at [] [] None
   breaks : (before : Before) (at byte : ℕ) (s : List ℕ) (flaw : Flaw) → HasNone Form (StandsAt bang before) (byte ∷ s) → IsLineFlaw bang before at byte s flaw → Front bang n before at (byte ∷ s) [] (Some flaw)

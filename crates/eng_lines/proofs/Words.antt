@@ -64,8 +64,7 @@ cut_here b (x ∷ s) (suc i) l e h =
     same : (x b : ℕ) → x ≡ b → eqb x b ≡ true
     same x b e = grind arith
 
-pub cut_some : (b : ℕ) (s : List ℕ) (i : ℕ) → position (λ x. eqb x b) s ≡ Some i
-    → (s ≡ take i s ++ b ∷ drop (i + 1) s) × Lacks b (take i s)
+pub cut_some : (b : ℕ) (s : List ℕ) (i : ℕ) → position (λ x. eqb x b) s ≡ Some i → (s ≡ take i s ++ b ∷ drop (i + 1) s) × Lacks b (take i s)
 cut_some b s i e =
     let p = position-Some (λ x. eqb x b) s i 0 e in
     let more : i + 1 ≡ suc i = omega arith in
@@ -81,8 +80,7 @@ cut_none b s e = lacks_each b s (λ k l. elim (cases_lt (position_or_len (λ x. 
     here lt = grind arith
 
 -- where the same bytes are a number, a space and more in two ways, the two are the same
-pub one_field : (a n : ℕ) (t r s : List ℕ) → a < 2 ^ 64 → n < 2 ^ 64 → t ≡ decimal a ++ 32 ∷ r → t ≡ decimal n ++ 32 ∷ s
-    → (a ≡ n) × (r ≡ s)
+pub one_field : (a n : ℕ) (t r s : List ℕ) → a < 2 ^ 64 → n < 2 ^ 64 → t ≡ decimal a ++ 32 ∷ r → t ≡ decimal n ++ 32 ∷ s → (a ≡ n) × (r ≡ s)
 one_field a n t r s la ln e f =
     let m = one_cut 32 (decimal a) (decimal n) r s (decimal_lacks 32 a (inl (omega arith)) la) (decimal_lacks 32 n (inl (omega arith)) ln) (sym e ∙ f) in
     (decimal_injective a n la ln m.0, m.1)
@@ -91,8 +89,7 @@ pub after_prefix : (p t r s : List ℕ) → t ≡ p ++ r → t ≡ p ++ s → r 
 after_prefix p t r s e f = append_cancel_left p r s (sym e ∙ f)
 
 -- a number behind a prefix
-pub one_from : (p t rest : List ℕ) (r : Option ℕ) → t ≡ p ++ rest
-    → MatchOption r ((n : ℕ) → n < 2 ^ 32 → rest ≡ decimal n → ⊥) (λ n. (rest ≡ decimal n) × (n < 2 ^ 32))
+pub one_from : (p t rest : List ℕ) (r : Option ℕ) → t ≡ p ++ rest → MatchOption r ((n : ℕ) → n < 2 ^ 32 → rest ≡ decimal n → ⊥) (λ n. (rest ≡ decimal n) × (n < 2 ^ 32))
     → MatchOption r ((a : ℕ) → a < 2 ^ 32 → t ≡ p ++ decimal a → ⊥) (λ a. (t ≡ p ++ decimal a) × (a < 2 ^ 32))
 one_from p t rest None e h = λ a l q. h a l (after_prefix p t rest (decimal a) e q)
 one_from p t rest (Some n) e h = (e ∙ ap (λ r. p ++ r) h.0, h.1)

@@ -19,9 +19,7 @@ module _ (cost : ℕ → ℕ → Option ℕ) (forced : ℕ → Bool) where
   chosen_zero = record { back = tt; ends = refl; least = λ s b e. omega arith; latest = λ s b e q. at_zero (λ s. LexAtMost s []) tt s b e }
 
   -- a list that ends at bar i, past 0, leads there
-  pub at_more : (m i : ℕ) (P : List ℕ → Type 0) → 0 < i → i ≤ m
-      → ((r : List ℕ) → LeadsTo cost forced m i r → P (i ∷ r))
-      → (s : List ℕ) → IsBack cost forced s → top s ≡ i → P s
+  pub at_more : (m i : ℕ) (P : List ℕ → Type 0) → 0 < i → i ≤ m → ((r : List ℕ) → LeadsTo cost forced m i r → P (i ∷ r)) → (s : List ℕ) → IsBack cost forced s → top s ≡ i → P s
   at_more m i P pos le p [] b e = absurd (omega arith)
   at_more m i P pos le p (x ∷ s) b e =
       let l : top s < x = b.0.rises in
@@ -29,8 +27,7 @@ module _ (cost : ℕ → ℕ → Option ℕ) (forced : ℕ → Bool) where
       (p s (record { back = b.1; below = omega arith; span = subst (λ x. IsSpan cost forced (top s) x) e b.0 }))
 
   -- what a settled row says of bar i
-  pub row_none : (m i from : ℕ) → 0 < i → i ≤ m → IsRow cost forced m i None from
-      → (s : List ℕ) → IsBack cost forced s → top s ≡ i → ⊥
+  pub row_none : (m i from : ℕ) → 0 < i → i ≤ m → IsRow cost forced m i None from → (s : List ℕ) → IsBack cost forced s → top s ≡ i → ⊥
   row_none m i from pos le h = at_more m i (λ s. ⊥) pos le h
 
   pub row_least : (m i v from : ℕ) → 0 < i → i ≤ m → IsRow cost forced m i (Some v) from → IsLeastBack cost forced i v
@@ -42,8 +39,7 @@ module _ (cost : ℕ → ℕ → Option ℕ) (forced : ℕ → Bool) where
   lex_under (x ∷ s) (y ∷ r) l = inl l
 
   -- the chosen list to the place where the best way to bar i begins, and then i
-  pub chosen_more : (m i v a : ℕ) (r : List ℕ) → 0 < i → i ≤ m → IsRow cost forced m i (Some v) a
-      → IsChosenBack cost forced a r → IsChosenBack cost forced i (i ∷ r)
+  pub chosen_more : (m i v a : ℕ) (r : List ℕ) → 0 < i → i ≤ m → IsRow cost forced m i (Some v) a → IsChosenBack cost forced a r → IsChosenBack cost forced i (i ∷ r)
   chosen_more m i v a r pos le h c = record {
     back = (leads.span, c.back);
     ends = refl;

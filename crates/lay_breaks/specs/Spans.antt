@@ -1,6 +1,5 @@
--- Costs kept as a list of the spans that fit, by the bar at which they begin and then by the bar at which they end.
--- From each bar the list has the spans from the shortest to the longest that fits, so a span that is longer than one that
--- isn't listed isn't listed either.
+-- Costs kept as a list of the spans that fit, by the bar at which they begin and then by the bar at which they end. From each bar the list
+-- has the spans from the shortest to the longest that fits, so a span that is longer than one that isn't listed isn't listed either.
 use Rattle.std.{specs.Prelude.{◌≡◌, ℕ, ◌+◌, ◌-◌, ◌<◌, ◌≤◌, ◌^◌, ◌⊎◌, ◌==◌, ◌&&◌, Bool, true, false, List, [], ◌∷◌, Option, Some, None, MatchOption, IfSome, IsSome, if◌then◌else◌, zero, suc, refl}, proofs.{Common.{arith, sym, ◌∙◌, ap, subst, inl, inr, is_some}, lemmas.Bool.{true≢false, Decides.nat_tests}}}
 use Rattle.lay_breaks.specs.declared.costs.Span.{Span}
 

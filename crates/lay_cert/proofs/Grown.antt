@@ -4,8 +4,7 @@ use mathlib.Core.List.{append_assoc, append-nil}
 use Rattle.lay_breaks.specs.{Breaking.RisesFrom, Breaking.FitsFrom, Breaking.last_from, Breaking.IsLegal, Spans.MayFollow, Spans.SpansFrom, Spans.listed, Spans.has_ends, Spans.ends_are, declared.costs.Span.Span}
 use Rattle.lay_cert.specs.{Listing.Entry, Listing.IsEntry, Listing.EntriesFrom, Listing.none_forced, Listing.entry_lines, Listing.all_lines, Listing.potential_lines, Places.last_tune_from, Places.last_span_from, declared.lines.Line.Line}
 
-pub push_potential : (i : ℕ) (ps : List (Option ℕ)) (p : Option ℕ)
-    → potential_lines i (ps ++ p ∷ []) ≡ potential_lines i ps ++ Line.Potential (i + length ps) p ∷ []
+pub push_potential : (i : ℕ) (ps : List (Option ℕ)) (p : Option ℕ) → potential_lines i (ps ++ p ∷ []) ≡ potential_lines i ps ++ Line.Potential (i + length ps) p ∷ []
 push_potential i [] p = let e : i ≡ i + 0 = omega arith in ap (λ j. Line.Potential j p ∷ []) e
 push_potential i (q ∷ ps) p =
     let e : i + 1 + length ps ≡ i + suc (length ps) = omega arith in
@@ -15,8 +14,7 @@ pub push_entry : (es : List Entry) (e : Entry) → all_lines (es ++ e ∷ []) �
 push_entry [] e = append-nil (entry_lines e)
 push_entry (x ∷ es) e = ap (λ t. entry_lines x ++ t) (push_entry es e) ∙ sym (append_assoc (entry_lines x) (all_lines es) (entry_lines e))
 
-pub push_entries : (k : ℕ) (es : List Entry) (e : Entry) → EntriesFrom k es → last_tune_from k es < e.tune → IsEntry e
-    → EntriesFrom k (es ++ e ∷ [])
+pub push_entries : (k : ℕ) (es : List Entry) (e : Entry) → EntriesFrom k es → last_tune_from k es < e.tune → IsEntry e → EntriesFrom k (es ++ e ∷ [])
 push_entries k [] e h l is = (l, is, tt)
 push_entries k (x ∷ es) e h l is = (h.0, h.1, push_entries x.tune es e h.2 l is)
 
@@ -24,8 +22,7 @@ pub push_tune : (k : ℕ) (es : List Entry) (e : Entry) → last_tune_from k (es
 push_tune k [] e = refl
 push_tune k (x ∷ es) e = push_tune x.tune es e
 
-pub push_span : (n : ℕ) (last : Option Span) (ss : List Span) (s : Span) → SpansFrom n last ss → MayFollow n (last_span_from last ss) s
-    → SpansFrom n last (ss ++ s ∷ [])
+pub push_span : (n : ℕ) (last : Option Span) (ss : List Span) (s : Span) → SpansFrom n last ss → MayFollow n (last_span_from last ss) s → SpansFrom n last (ss ++ s ∷ [])
 push_span n last [] s h m = (m, tt)
 push_span n last (x ∷ ss) s h m = (h.0, push_span n (Some x) ss s h.1 m)
 
@@ -41,8 +38,7 @@ push_rises : (a b : ℕ) (bs : List ℕ) → RisesFrom a bs → last_from a bs <
 push_rises a b [] h l = (l, tt)
 push_rises a b (x ∷ bs) h l = (h.0, push_rises x b bs h.1 l)
 
-push_fits : (cost : ℕ → ℕ → Option ℕ) (a b : ℕ) (bs : List ℕ) → FitsFrom cost a bs → IsSome (cost (last_from a bs) b)
-    → FitsFrom cost a (bs ++ b ∷ [])
+push_fits : (cost : ℕ → ℕ → Option ℕ) (a b : ℕ) (bs : List ℕ) → FitsFrom cost a bs → IsSome (cost (last_from a bs) b) → FitsFrom cost a (bs ++ b ∷ [])
 push_fits cost a b [] h l = (l, tt)
 push_fits cost a b (x ∷ bs) h l = (h.0, push_fits cost x b bs h.1 l)
 
@@ -61,8 +57,7 @@ pub listed_within : (n : ℕ) (last : Option Span) (ss : List Span) (a b : ℕ) 
 listed_within n last [] a b h some = absurd (true≢false (sym some))
 listed_within n last (s ∷ ss) a b h some = at (has_ends a b s) refl (λ k. listed_within n (Some s) ss a b h.1 k) some
   where
-    at : (t : Bool) → has_ends a b s ≡ t → (IsSome (listed ss a b) → (a < b) × (b ≤ n))
-        → IsSome (if t then Some s.badness else listed ss a b) → (a < b) × (b ≤ n)
+    at : (t : Bool) → has_ends a b s ≡ t → (IsSome (listed ss a b) → (a < b) × (b ≤ n)) → IsSome (if t then Some s.badness else listed ss a b) → (a < b) × (b ≤ n)
     at true e more some =
         let k = ends_are a b s e in let r = h.0.rises in let w = h.0.within in (omega arith, omega arith)
     at false e more some = more some

@@ -50,8 +50,7 @@ module _ (spans : List Span) (firsts : List ℕ) (indexed : IsIndexed spans firs
   pub agrees : looked_up spans firsts a b ≡ listed spans a b
   agrees = at (slice_get spans (slice_index firsts a + (b - a - 1))) refl
     where
-      has : (s : Span) (t : Bool) → slice_get spans (slice_index firsts a + (b - a - 1)) ≡ Some s → has_ends a b s ≡ t
-          → (if t then Some s.badness else None) ≡ listed spans a b
+      has : (s : Span) (t : Bool) → slice_get spans (slice_index firsts a + (b - a - 1)) ≡ Some s → has_ends a b s ≡ t → (if t then Some s.badness else None) ≡ listed spans a b
       has s true e is = sym (found a b (slice_index firsts a + (b - a - 1)) spans s e is stands_there)
       has s false e is = nothing (ap (λ o. option_and_then (λ s. cost_if a b s) o) e ∙ ap (λ t. if t then Some s.badness else None) is) (listed spans a b) refl
 
@@ -59,8 +58,7 @@ module _ (spans : List Span) (firsts : List ℕ) (indexed : IsIndexed spans firs
       at None e = let got : looked_up spans firsts a b ≡ None = ap (λ o. option_and_then (λ s. cost_if a b s) o) e in got ∙ nothing got (listed spans a b) refl
       at (Some s) e = ap (λ o. option_and_then (λ s. cost_if a b s) o) e ∙ has s (has_ends a b s) e refl
 
-get_push : (xs : List Span) (x : Span) (i : ℕ) (t : Span) → slice_get (xs ++ x ∷ []) i ≡ Some t
-    → (slice_get xs i ≡ Some t) ⊎ ((i ≡ length xs) × (x ≡ t))
+get_push : (xs : List Span) (x : Span) (i : ℕ) (t : Span) → slice_get (xs ++ x ∷ []) i ≡ Some t → (slice_get xs i ≡ Some t) ⊎ ((i ≡ length xs) × (x ≡ t))
 get_push [] x zero t e = inr (refl, same_Some x t e)
 get_push [] x (suc i) t e = absurd (none-some t e)
 get_push (y ∷ xs) x zero t e = inl e
@@ -76,8 +74,7 @@ last_rises n s (t ∷ ss) h = at (last_span_from (Some t) ss) (last_rises n t ss
     at (Some p) h (inl k) = let l = k.0 in omega arith
     at (Some p) h (inr k) = let e = k.0 in omega arith
 
-earlier : (n : ℕ) (last : Option Span) (ss : List Span) (i : ℕ) (t : Span) → SpansFrom n last ss → slice_get ss i ≡ Some t
-    → MatchOption (last_span_from last ss) ⊥ (λ p. t.a ≤ p.a)
+earlier : (n : ℕ) (last : Option Span) (ss : List Span) (i : ℕ) (t : Span) → SpansFrom n last ss → slice_get ss i ≡ Some t → MatchOption (last_span_from last ss) ⊥ (λ p. t.a ≤ p.a)
 earlier n last [] i t h e = absurd (none-some t e)
 earlier n last (s ∷ ss) zero t h e = subst (λ t. MatchOption (last_span_from (Some s) ss) ⊥ (λ p. t.a ≤ p.a)) (same_Some s t e) (last_rises n s ss h.1)
 earlier n last (s ∷ ss) (suc i) t h e = earlier n (Some s) ss i t h.1 e
@@ -136,8 +133,7 @@ module _ (n : ℕ) (spans : List Span) (firsts : List ℕ) (s : Span) (h : AreSp
     inside = λ a. let old = indexed.inside a in let more = length-append spans (s ∷ []) in omega (arith, old, more);
   }
     where
-      behind : (o : Option Span) → last_span_from None spans ≡ o → MatchOption o (s.b ≡ s.a + 1) (λ p. IsNext p s)
-          → length spans ≡ slice_index firsts s.a + (s.b - s.a - 1)
+      behind : (o : Option Span) → last_span_from None spans ≡ o → MatchOption o (s.b ≡ s.a + 1) (λ p. IsNext p s) → length spans ≡ slice_index firsts s.a + (s.b - s.a - 1)
       behind None e f = absurd (later f)
       behind (Some p) e (inl f) = absurd (later f.1)
       behind (Some p) e (inr f) = elim (last_stands None spans p e) [

@@ -36,8 +36,7 @@ none_break es c bar h l f (Line.Total t) e m = apart _ _ refl e
 none_break es c bar h l f m e k = absurd k
 
 pub none_choosing : (es : List Entry) (c : Choosing) (raw : List ℕ) → IsChoosing c
-    → ((s : Span) → s.a < 2 ^ 32 → s.b < 2 ^ 32 → s.badness < 2 ^ 64 → raw ≡ line_text (Line.OneSpan s) → ⊥)
-    → ((bar : ℕ) → bar < 2 ^ 32 → raw ≡ line_text (Line.Choose bar) → ⊥)
+    → ((s : Span) → s.a < 2 ^ 32 → s.b < 2 ^ 32 → s.badness < 2 ^ 64 → raw ≡ line_text (Line.OneSpan s) → ⊥) → ((bar : ℕ) → bar < 2 ^ 32 → raw ≡ line_text (Line.Choose bar) → ⊥)
     → (c.at ≡ c.bars → raw ≡ line_text (Line.Total c.total) → ⊥) → NoneMayCome (choosing es (entry_of c)) raw
 none_choosing es c raw h f g k (Line.OneSpan s) e m =
     let ka = m.1.rises in let kb = m.1.within in let kc = m.1.small in let few = h.few in f s (omega arith) (omega arith) (omega arith) e
@@ -48,8 +47,7 @@ none_choosing es c raw h f g k (Line.Total t) e m =
 none_choosing es c raw h f g k l e m = absurd m
 
 -- an entry is known by its parts
-pub entry_same : (c : Choosing) (t n : ℕ) (ss : List Span) (bs : List ℕ) → c.tune ≡ t → c.bars ≡ n → c.spans ≡ ss → c.breaks ≡ bs
-    → begun_with t n ss bs ≡ entry_of c
+pub entry_same : (c : Choosing) (t n : ℕ) (ss : List Span) (bs : List ℕ) → c.tune ≡ t → c.bars ≡ n → c.spans ≡ ss → c.breaks ≡ bs → begun_with t n ss bs ≡ entry_of c
 entry_same c t n ss bs et en es eb =
     ap (λ t. begun_with t n ss bs) (sym et) ∙ (ap (λ n. begun_with c.tune n ss bs) (sym en)
     ∙ (ap (λ ss. begun_with c.tune c.bars ss bs) (sym es) ∙ ap (λ bs. begun_with c.tune c.bars c.spans bs) (sym eb)))
@@ -60,8 +58,7 @@ verdicts_more [] [] e j h t v = (t, v, tt)
 verdicts_more (x ∷ es) (k ∷ js) e j h t v = (h.0, h.1, verdicts_more es js e j h.2 t v)
 verdicts_more es js e j h t v = absurd h
 
-pub at_ended : (Q : Place → Type 0) (js : List Judged) (p : Place) → Stands Stage.Ended js p
-    → ((es : List Entry) → AreVerdicts es js → Q (ended es)) → Q p
+pub at_ended : (Q : Place → Type 0) (js : List Judged) (p : Place) → Stands Stage.Ended js p → ((es : List Entry) → AreVerdicts es js → Q (ended es)) → Q p
 at_ended Q js (ended es) h q = q es h
 at_ended Q js p h q = absurd h
 
@@ -121,8 +118,7 @@ pub ended_stage : (s : Stage) (js : List Judged) (es : List Entry) → Stands s 
 ended_stage Stage.Ended js es h = refl
 ended_stage s js es h = absurd h
 
-potential_here : (es : List Entry) (e : Entry) (v : Proving) → Proves v e
-    → MayCome (proving es e) (Line.Potential v.next (slice_index_or v.potentials v.next None))
+potential_here : (es : List Entry) (e : Entry) (v : Proving) → Proves v e → MayCome (proving es e) (Line.Potential v.next (slice_index_or v.potentials v.next None))
 potential_here es e v h = let le = h.kept.some_left in let eb = h.bars in (h.next, h.potentials v.next (omega arith))
 
 verdict_on : (e : Entry) (p : Option ℕ) (w : Verdict) → IsVerdict e w → IsVerdict (one_more e p) w

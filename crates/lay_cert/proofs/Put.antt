@@ -9,17 +9,14 @@ lines_both (l ∷ ls) ms =
     ap (λ t. line_text l ++ 10 ∷ t) (lines_both ls ms) ∙ sym (append_assoc (line_text l) (10 ∷ lines_then ls []) (lines_then ms []))
 
 -- further lines put
-pub put_both : (old now new : List ℕ) (ls ms : List Line) → now ≡ old ++ lines_then ls [] → new ≡ now ++ lines_then ms []
-    → new ≡ old ++ lines_then (ls ++ ms) []
+pub put_both : (old now new : List ℕ) (ls ms : List Line) → now ≡ old ++ lines_then ls [] → new ≡ now ++ lines_then ms [] → new ≡ old ++ lines_then (ls ++ ms) []
 put_both old now new ls ms e f = rw (f, e, lines_both ls ms) (append_assoc old (lines_then ls []) (lines_then ms []))
 
 pub put_next : {A : Type 0} (f : A → Line) (xs : List A) (i : ℕ) (d : A) (old now new : List ℕ) → i < length xs
-    → now ≡ old ++ lines_then (map f (take i xs)) [] → new ≡ now ++ lines_then (f (slice_index_or xs i d) ∷ []) []
-    → new ≡ old ++ lines_then (map f (take (i + 1) xs)) []
+    → now ≡ old ++ lines_then (map f (take i xs)) [] → new ≡ now ++ lines_then (f (slice_index_or xs i d) ∷ []) [] → new ≡ old ++ lines_then (map f (take (i + 1) xs)) []
 put_next f xs i d old now new l e g =
     put_both old now new (map f (take i xs)) (f (slice_index_or xs i d) ∷ []) e g
-    ∙ (ap (λ ls. old ++ lines_then ls []) (sym (map-append f (take i xs) (slice_index_or xs i d ∷ [])))
-    ∙ ap (λ t. old ++ lines_then (map f t) []) (sym (take_more xs i d l)))
+    ∙ (ap (λ ls. old ++ lines_then ls []) (sym (map-append f (take i xs) (slice_index_or xs i d ∷ []))) ∙ ap (λ t. old ++ lines_then (map f t) []) (sym (take_more xs i d l)))
 
 pub put_next_potential : (ps : List (Option ℕ)) (i bar : ℕ) (old now new : List ℕ) → i < length ps → bar ≡ i
     → now ≡ old ++ lines_then (potential_lines 0 (take i ps)) [] → new ≡ now ++ lines_then (Line.Potential bar (slice_index_or ps i None) ∷ []) []
@@ -48,8 +45,7 @@ entries_are (e ∷ es) = lines_both (entry_lines e) (all_lines es) ∙ ap (λ t.
 
 pub in_parts : InParts
 in_parts es =
-    lines_both (Line.Listing ∷ all_lines es) (Line.End ∷ [])
-    ∙ ap (λ t. t ++ lines_then (Line.End ∷ []) []) (lines_both (Line.Listing ∷ []) (all_lines es)
+    lines_both (Line.Listing ∷ all_lines es) (Line.End ∷ []) ∙ ap (λ t. t ++ lines_then (Line.End ∷ []) []) (lines_both (Line.Listing ∷ []) (all_lines es)
     ∙ ap (λ t. lines_then (Line.Listing ∷ []) [] ++ t) (entries_are es))
 
 bars_more : (bs : List ℕ) (b : ℕ) → bars_text (bs ++ b ∷ []) ≡ bars_text bs ++ (32 ∷ decimal b)

@@ -9,8 +9,7 @@ abbrev pub one_more : Entry → Option ℕ → Entry
 one_more e p = record { tune = e.tune; bars = e.bars; spans = e.spans; breaks = e.breaks; total = e.total; potentials = e.potentials ++ p ∷ [] }
 
 -- the potentials told are those of the first bars
-push_known : (P : ℕ → Option ℕ → Type 0) (ps : List (Option ℕ)) (p : Option ℕ)
-    → ((i : ℕ) → i < length ps → P i (slice_index_or ps i None)) → P (length ps) p
+push_known : (P : ℕ → Option ℕ → Type 0) (ps : List (Option ℕ)) (p : Option ℕ) → ((i : ℕ) → i < length ps → P i (slice_index_or ps i None)) → P (length ps) p
     → (i : ℕ) → i < length ps + 1 → P i (slice_index_or (ps ++ p ∷ []) i None)
 push_known P ps p h k i l = elim (cases_lt i (length ps)) [
   | inl lt ↦ subst (λ q. P i q) (sym (get_or_append_left ps (p ∷ []) None i lt)) (h i lt)
@@ -88,24 +87,20 @@ step_good (proving es e) (Line.Potential bar least) m h =
 step_good p l m h = absurd m
 
 -- one more line behind the entries told
-behind : (es : List Entry) (xs ys : List Line) (l : Line) → xs ≡ ys ++ l ∷ []
-    → (Line.Listing ∷ all_lines es) ++ xs ≡ ((Line.Listing ∷ all_lines es) ++ ys) ++ l ∷ []
+behind : (es : List Entry) (xs ys : List Line) (l : Line) → xs ≡ ys ++ l ∷ [] → (Line.Listing ∷ all_lines es) ++ xs ≡ ((Line.Listing ∷ all_lines es) ++ ys) ++ l ∷ []
 behind es xs ys l e = ap (λ t. (Line.Listing ∷ all_lines es) ++ t) e ∙ sym (append_assoc (Line.Listing ∷ all_lines es) ys (l ∷ []))
 
-begun_span : (tune bars : ℕ) (spans : List Span) (breaks : List ℕ) (s : Span) → breaks ≡ []
-    → Line.Tune tune bars ∷ map Line.OneSpan (spans ++ s ∷ []) ++ map Line.Choose breaks
+begun_span : (tune bars : ℕ) (spans : List Span) (breaks : List ℕ) (s : Span) → breaks ≡ [] → Line.Tune tune bars ∷ map Line.OneSpan (spans ++ s ∷ []) ++ map Line.Choose breaks
     ≡ (Line.Tune tune bars ∷ map Line.OneSpan spans ++ map Line.Choose breaks) ++ Line.OneSpan s ∷ []
 begun_span tune bars spans breaks s e =
     rw e (ap (λ t. Line.Tune tune bars ∷ t) (append-nil (map Line.OneSpan (spans ++ s ∷ []))
     ∙ (map-append Line.OneSpan spans (s ∷ []) ∙ ap (λ t. t ++ Line.OneSpan s ∷ []) (sym (append-nil (map Line.OneSpan spans))))))
 
-begun_break : (tune bars : ℕ) (spans : List Span) (breaks : List ℕ) (bar : ℕ)
-    → Line.Tune tune bars ∷ map Line.OneSpan spans ++ map Line.Choose (breaks ++ bar ∷ [])
+begun_break : (tune bars : ℕ) (spans : List Span) (breaks : List ℕ) (bar : ℕ) → Line.Tune tune bars ∷ map Line.OneSpan spans ++ map Line.Choose (breaks ++ bar ∷ [])
     ≡ (Line.Tune tune bars ∷ map Line.OneSpan spans ++ map Line.Choose breaks) ++ Line.Choose bar ∷ []
 begun_break tune bars spans breaks bar = rw (map-append Line.Choose breaks (bar ∷ [])) (simp append_assoc)
 
-proved_more : (e : Entry) (bar : ℕ) (least : Option ℕ) → bar ≡ length e.potentials
-    → entry_lines (one_more e least) ≡ entry_lines e ++ Line.Potential bar least ∷ []
+proved_more : (e : Entry) (bar : ℕ) (least : Option ℕ) → bar ≡ length e.potentials → entry_lines (one_more e least) ≡ entry_lines e ++ Line.Potential bar least ∷ []
 proved_more e bar least is =
     let at : 0 + length e.potentials ≡ bar = omega arith in
     let more = push_potential 0 e.potentials least ∙ ap (λ i. potential_lines 0 e.potentials ++ Line.Potential i least ∷ []) at in
@@ -134,8 +129,7 @@ leads_good p (l ∷ ls) q h g = leads_good (next p l) ls q h.1 (step_good p l h.
 pub leads_lines : (p : Place) (ls : List Line) (q : Place) → Leads p ls q → IsGood p → lines_of q ≡ lines_of p ++ ls
 leads_lines p [] q h g = ap lines_of (sym h) ∙ sym (append-nil (lines_of p))
 leads_lines p (l ∷ ls) q h g =
-    leads_lines (next p l) ls q h.1 (step_good p l h.0 g)
-    ∙ (ap (λ t. t ++ ls) (step_lines p l h.0 g) ∙ append_assoc (lines_of p) (l ∷ []) ls)
+    leads_lines (next p l) ls q h.1 (step_good p l h.0 g) ∙ (ap (λ t. t ++ ls) (step_lines p l h.0 g) ∙ append_assoc (lines_of p) (l ∷ []) ls)
 
 pub leads_more : (p : Place) (ls : List Line) (q : Place) (l : Line) → Leads p ls q → MayCome q l → Leads p (ls ++ l ∷ []) (next q l)
 leads_more p [] q l h m = (subst (λ p. MayCome p l) (sym h) m, ap (λ p. next p l) h)

@@ -28,8 +28,7 @@ breaks_lead es k n spans so_far (b ∷ bs) h = (
       (breaks_lead es k n spans (so_far ++ b ∷ []) bs (subst (λ i. FitsFrom (listed spans) i bs) (sym (push_last 0 b so_far)) h.1)),
 )
 
-potentials_lead : (es : List Entry) (e : Entry) (so_far : List (Option ℕ)) (q : Option ℕ) (qs : List (Option ℕ))
-    → length so_far + length qs ≡ e.bars
+potentials_lead : (es : List Entry) (e : Entry) (so_far : List (Option ℕ)) (q : Option ℕ) (qs : List (Option ℕ)) → length so_far + length qs ≡ e.bars
     → ((i : ℕ) → i < suc (length qs) → IsPotential (listed e.spans) none_forced (length so_far + i) (slice_index_or (q ∷ qs) i None))
     → Leads (proving es (told e so_far)) (potential_lines (length so_far) (q ∷ qs)) (between (es ++ told e (so_far ++ (q ∷ qs)) ∷ []))
 potentials_lead es e so_far q [] n known =

@@ -58,8 +58,7 @@ Leads p (l ∷ ls) q = MayCome p l × Leads (next p l) ls q
 -- no good line stands next, nor is this the end
 abbrev pub IsStuck : Place → List ℕ → Type 0
 IsStuck p rest =
-    ((l : Line) (more : List ℕ) → rest ≡ line_text l ++ 10 ∷ more → MayCome p l → ⊥)
-    × ((es : List Entry) → rest ≡ [] → p ≡ ended es → ⊥)
+    ((l : Line) (more : List ℕ) → rest ≡ line_text l ++ 10 ∷ more → MayCome p l → ⊥) × ((es : List Entry) → rest ≡ [] → p ≡ ended es → ⊥)
 
 -- the number of the first line that isn't good, or one past the last where all are good and the last isn't `end`
 abbrev pub IsFirstFault : List ℕ → ℕ → Type 0

@@ -16,8 +16,7 @@ places : (staves : List PlannedStaff) → map (λ (at : Sit). at.place) (sits_of
 places [] = refl
 places (staff ∷ staves) =
     map-append (λ (at : Sit). at.place) (staff_sits staff.leads staff.voices) (sits_of staves)
-    ∙ ap (λ s. s ++ map (λ (at : Sit). at.place) (sits_of staves)) (staff_places staff.leads staff.voices)
-    ∙ ap (λ s. staff.voices ++ s) (places staves)
+    ∙ ap (λ s. s ++ map (λ (at : Sit). at.place) (sits_of staves)) (staff_places staff.leads staff.voices) ∙ ap (λ s. staff.voices ++ s) (places staves)
 
 gap_near : (leads : Bool) → gap_of leads ≤ 1000
 gap_near true = omega arith

@@ -77,8 +77,7 @@ named-trees (staff_tree v vs more) behind =
     ap (λ s. v ∷ s)
     (named-voices vs (Sign.StaffEnds ∷ tree_signs more behind) ∙ ap (λ s. vs ++ s) (named-trees more behind) ∙ sym (append_assoc vs (joined (shares_of more)) (named behind)))
 named-trees (group_tree b inner more) behind =
-    named-trees inner (Sign.Ends b ∷ tree_signs more behind)
-    ∙ ap (λ s. joined (shares_of inner) ++ s) (named-trees more behind)
+    named-trees inner (Sign.Ends b ∷ tree_signs more behind) ∙ ap (λ s. joined (shares_of inner) ++ s) (named-trees more behind)
     ∙ sym (append_assoc (joined (shares_of inner)) (joined (shares_of more)) (named behind))
     ∙ ap (λ s. s ++ named behind) (sym (flat_map-append (λ vs. vs) (shares_of inner) (shares_of more)))
 
@@ -92,8 +91,7 @@ voices-staves (voice_tree v more) = ap (λ s. v ∷ s) (voices-staves more)
 voices-staves (staff_tree v vs more) = ap (λ s. v ∷ vs ++ s) (voices-staves more)
 voices-staves (group_tree b inner more) =
     flat_map-append (λ (staff : PlannedStaff). staff.voices) (group_of true (shares_of inner)) (staves_of more)
-    ∙ ap (λ s. s ++ voices_of (staves_of more)) (voices-group true (shares_of inner))
-    ∙ ap (λ s. joined (shares_of inner) ++ s) (voices-staves more)
+    ∙ ap (λ s. s ++ voices_of (staves_of more)) (voices-group true (shares_of inner)) ∙ ap (λ s. joined (shares_of inner) ++ s) (voices-staves more)
     ∙ sym (flat_map-append (λ vs. vs) (shares_of inner) (shares_of more))
 
 -- the voices of the plan are those that the signs name

@@ -147,8 +147,7 @@ voice_read ids v (b ∷ word) e some = ap (λ o. voice_sign o ∷ []) e
 
 sign-read : (ids : List (List ℕ)) (sign : Sign) (behind : List ℕ) → AreApart ids → Stands ids sign behind → signs_from ids [] (spelled ids sign ++ behind) ≡ sign ∷ signs_from ids [] behind
 sign-read ids (Sign.Voice v) behind apart stands =
-    over-word ids (id_at ids v) [] behind stands.whole
-    ∙ word-ends ids (id_at ids v) behind stands.parted
+    over-word ids (id_at ids v) [] behind stands.whole ∙ word-ends ids (id_at ids v) behind stands.parted
     ∙ ap (λ ss. ss ++ signs_from ids [] behind) (voice_read ids v (id_at ids v) (place-found ids v apart stands.known) stands.some)
 sign-read ids Sign.Stranger behind apart stands = absurd stands
 sign-read ids (Sign.Opens Bracket.Square) behind apart stands = refl
@@ -158,7 +157,5 @@ sign-read ids sign behind apart stands = refl
 pub text-read : (ids : List (List ℕ)) (ss : List Sign) (text : List ℕ) → AreApart ids → Writes ids ss text → signs_from ids [] text ≡ ss
 text-read ids [] text apart h = ap (signs_from ids []) (sym (append-nil text)) ∙ over-passed ids text [] h
 text-read ids (sign ∷ ss) text apart (behind, first, more) =
-    ap (signs_from ids []) first.cut
-    ∙ over-passed ids first.passed (spelled ids sign ++ behind) first.over
-    ∙ sign-read ids sign behind apart first.stands
+    ap (signs_from ids []) first.cut ∙ over-passed ids first.passed (spelled ids sign ++ behind) first.over ∙ sign-read ids sign behind apart first.stands
     ∙ ap (λ rest. sign ∷ rest) (text-read ids ss behind apart more)

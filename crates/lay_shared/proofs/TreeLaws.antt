@@ -44,8 +44,7 @@ inner-run (voice_tree v more) b bs leads staves behind =
     ∙ ap (λ s. run (outside (b ∷ bs) (leads_behind false (shares_of more)) s) behind) (append_assoc staves (planned leads (v ∷ []) ∷ []) (group_of false (shares_of more)))
     ∙ ap (λ l. run (outside (b ∷ bs) l (staves ++ planned leads (v ∷ []) ∷ group_of false (shares_of more))) behind) (sym (leads-append leads ((v ∷ []) ∷ []) (shares_of more)))
 inner-run (staff_tree v vs more) b bs leads staves behind =
-    voices-run (v ∷ []) vs (b ∷ bs) leads staves (Sign.StaffEnds ∷ tree_signs more behind)
-    ∙ inner-run more b bs false (staves ++ planned leads (v ∷ vs) ∷ []) behind
+    voices-run (v ∷ []) vs (b ∷ bs) leads staves (Sign.StaffEnds ∷ tree_signs more behind) ∙ inner-run more b bs false (staves ++ planned leads (v ∷ vs) ∷ []) behind
     ∙ ap (λ s. run (outside (b ∷ bs) (leads_behind false (shares_of more)) s) behind) (append_assoc staves (planned leads (v ∷ vs) ∷ []) (group_of false (shares_of more)))
     ∙ ap (λ l. run (outside (b ∷ bs) l (staves ++ planned leads (v ∷ vs) ∷ group_of false (shares_of more))) behind) (sym (leads-append leads ((v ∷ vs) ∷ []) (shares_of more)))
 inner-run (group_tree c inner more) b bs leads staves behind =
@@ -54,9 +53,7 @@ inner-run (group_tree c inner more) b bs leads staves behind =
     let same = itself c in
     let on : run (outside (c ∷ b ∷ bs) still done) (Sign.Ends c ∷ tree_signs more behind) ≡ run (outside (b ∷ bs) still done) (tree_signs more behind) =
     rw same (ap (λ l. run (outside (b ∷ bs) l done) (tree_signs more behind)) (or_false still)) in
-    inner-run inner c (b ∷ bs) leads staves (Sign.Ends c ∷ tree_signs more behind)
-    ∙ on
-    ∙ inner-run more b bs still done behind
+    inner-run inner c (b ∷ bs) leads staves (Sign.Ends c ∷ tree_signs more behind) ∙ on ∙ inner-run more b bs still done behind
     ∙ ap (λ s. run (outside (b ∷ bs) (leads_behind still (shares_of more)) s) behind)
     (append_assoc staves (group_of leads (shares_of inner)) (group_of still (shares_of more)) ∙ ap (λ s. staves ++ s) (sym (group-append leads (shares_of inner) (shares_of more))))
     ∙ ap (λ l. run (outside (b ∷ bs) l (staves ++ group_of leads (shares_of inner ++ shares_of more))) behind) (sym (leads-append leads (shares_of inner) (shares_of more)))
@@ -70,8 +67,7 @@ outer-run no_tree staves behind = ap (λ s. run (outside [] true s) behind) (sym
 outer-run (voice_tree v more) staves behind =
     outer-run more (staves ++ planned true (v ∷ []) ∷ []) behind ∙ ap (λ s. run (outside [] true s) behind) (append_assoc staves (planned true (v ∷ []) ∷ []) (staves_of more))
 outer-run (staff_tree v vs more) staves behind =
-    voices-run (v ∷ []) vs [] true staves (Sign.StaffEnds ∷ tree_signs more behind)
-    ∙ outer-run more (staves ++ planned true (v ∷ vs) ∷ []) behind
+    voices-run (v ∷ []) vs [] true staves (Sign.StaffEnds ∷ tree_signs more behind) ∙ outer-run more (staves ++ planned true (v ∷ vs) ∷ []) behind
     ∙ ap (λ s. run (outside [] true s) behind) (append_assoc staves (planned true (v ∷ vs) ∷ []) (staves_of more))
 outer-run (group_tree c inner more) staves behind =
     let still = leads_behind true (shares_of inner) in
@@ -79,9 +75,7 @@ outer-run (group_tree c inner more) staves behind =
     let same = itself c in
     let on : run (outside (c ∷ []) still done) (Sign.Ends c ∷ tree_signs more behind) ≡ run (outside [] true done) (tree_signs more behind) =
     rw same (ap (λ l. run (outside [] l done) (tree_signs more behind)) (or_true still)) in
-    inner-run inner c [] true staves (Sign.Ends c ∷ tree_signs more behind)
-    ∙ on
-    ∙ outer-run more done behind
+    inner-run inner c [] true staves (Sign.Ends c ∷ tree_signs more behind) ∙ on ∙ outer-run more done behind
     ∙ ap (λ s. run (outside [] true s) behind) (append_assoc staves (group_of true (shares_of inner)) (staves_of more))
 
 pub trees-run : (trees : Trees) → run start (tree_signs trees []) ≡ Some (staves_of trees)

@@ -16,8 +16,7 @@ in_row-events (e ∷ ms) qs ps w =
     map-append (λ f. f.event) first.flats others.flats ∙ ap (λ x. x ++ map (λ f. f.event) others.flats) (e.1 qs ps w) ∙ ap (λ x. events_within e.0 ++ x) (in_row-events ms qs ps first.waits)
 
 -- a layer, by its nodes and what is known of them
-layer : (y : Music-F ((m : Music) × Agrees m)) (qs ps : ℕ) (w : Waits)
-    → let nodes = map-Music ((m : Music) × Agrees m) Music (λ e. e.0) y in
+layer : (y : Music-F ((m : Music) × Agrees m)) (qs ps : ℕ) (w : Waits) → let nodes = map-Music ((m : Music) × Agrees m) Music (λ e. e.0) y in
     map (λ f. f.event) (leaves_step (map-Music Music Leafing leaves_within nodes) qs ps w).flats ≡ events_step (map-Music Music (List Event) events_within nodes)
 layer (Music-F.Note e) qs ps w = refl
 layer (Music-F.Rest e) qs ps w = refl

@@ -129,13 +129,11 @@ arcs_of-slurs : (events : List EventAt) → filter is_slur (arcs_of events) ≡ 
 unfolding slurs_of is_slur
 arcs_of-slurs [] = refl
 arcs_of-slurs (e ∷ events) =
-    filter-append is_slur (slurs_at e events ++ ties_at e events) (arcs_of events)
-    ∙ ap (λ x. x ++ filter is_slur (arcs_of events))
+    filter-append is_slur (slurs_at e events ++ ties_at e events) (arcs_of events) ∙ ap (λ x. x ++ filter is_slur (arcs_of events))
     (filter-append is_slur (slurs_at e events) (ties_at e events)
     ∙ ap (λ x. x ++ filter is_slur (ties_at e events)) (filter-all is_slur (slurs_at e events) (All-weaker (IsSlurFrom e.event) (λ a. is_slur a ≡ true) (λ a s. ap not s.slur) (slurs_at e events) (slurs_at-are e events)))
     ∙ ap (λ x. slurs_at e events ++ x) (filter-none is_slur (ties_at e events) (All-weaker (IsTieBehind e.event 0) (λ a. is_slur a ≡ false) (λ a t. ap not t.tie) (ties_at e events) (ties_at-are e events)))
-    ∙ append-nil (slurs_at e events))
-    ∙ ap (λ x. slurs_at e events ++ x) (arcs_of-slurs events)
+    ∙ append-nil (slurs_at e events)) ∙ ap (λ x. slurs_at e events ++ x) (arcs_of-slurs events)
 
 is_tie : Arc → Bool
 is_tie a = a.tie
@@ -144,8 +142,7 @@ arcs_of-ties : (events : List EventAt) → filter is_tie (arcs_of events) ≡ ti
 unfolding is_tie
 arcs_of-ties [] = refl
 arcs_of-ties (e ∷ events) =
-    filter-append is_tie (slurs_at e events ++ ties_at e events) (arcs_of events)
-    ∙ ap (λ x. x ++ filter is_tie (arcs_of events))
+    filter-append is_tie (slurs_at e events ++ ties_at e events) (arcs_of events) ∙ ap (λ x. x ++ filter is_tie (arcs_of events))
     (filter-append is_tie (slurs_at e events) (ties_at e events)
     ∙ ap (λ x. x ++ filter is_tie (ties_at e events)) (filter-none is_tie (slurs_at e events) (All-weaker (IsSlurFrom e.event) (λ a. is_tie a ≡ false) (λ a s. s.slur) (slurs_at e events) (slurs_at-are e events)))
     ∙ filter-all is_tie (ties_at e events) (All-weaker (IsTieBehind e.event 0) (λ a. is_tie a ≡ true) (λ a t. t.tie) (ties_at e events) (ties_at-are e events)))

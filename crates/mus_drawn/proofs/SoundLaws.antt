@@ -72,8 +72,7 @@ head_is spread (d ∷ before) e earlier h =
     let so_far = heard_along sound [] earlier in
     let tied = tied_sound (sounds_as spread before d) h.pitch [] d.heads in
     ap (λ a. record { head = h; alter = a })
-    (by_partner h.sign (partner_of (heard_before spread (d ∷ before)) so_far h.pitch) h.pitch (e.said ++ earlier) spread e.signs
-    ∙ ap (λ t. alter_by h.sign t otherwise)
+    (by_partner h.sign (partner_of (heard_before spread (d ∷ before)) so_far h.pitch) h.pitch (e.said ++ earlier) spread e.signs ∙ ap (λ t. alter_by h.sign t otherwise)
     (alter_cond (list_any (is_heard_at h.pitch) so_far) (find (is_tied_to h.pitch) (heard_before spread (d ∷ before)))
     ∙ ap (λ t. cond (list_any (is_heard_at h.pitch) so_far) None t) (tied_is (sounds_as spread before d) h.pitch [] d.heads)
     ∙ ap (λ b. cond b None tied) (any_is sound h.pitch [] earlier)))
@@ -86,8 +85,7 @@ heads_are spread before e earlier (h ∷ hs) =
     let so_far = heard_along sound [] earlier in
     let next : so_far ++ heard spread e.signs (heard_before spread before) (e.said ++ earlier) so_far h ∷ [] ≡ heard_along sound [] (earlier ++ h ∷ [])
     = ap (λ x. so_far ++ x ∷ []) (head_is spread before e earlier h) ∙ sym (along_append sound [] earlier h) in
-    (λ i. heard_from spread e.signs (heard_before spread before) (append_assoc e.said earlier (h ∷ []) i) (next i) hs)
-    ∙ heads_are spread before e (earlier ++ h ∷ []) hs
+    (λ i. heard_from spread e.signs (heard_before spread before) (append_assoc e.said earlier (h ∷ []) i) (next i) hs) ∙ heads_are spread before e (earlier ++ h ∷ []) hs
     ∙ ap (λ t. heard_along sound [] t) (append_assoc earlier (h ∷ []) hs)
 
 -- an event behind those of its measure
@@ -99,8 +97,7 @@ said_next : (front : List Flat) (f : Flat) → flat_map all_heads (front ++ f �
 said_next [] f = append-nil (all_heads f)
 said_next (g ∷ gs) f =
     let graces = flat_map (λ x. x.heads) f.graces in
-    ap (λ t. all_heads g ++ t) (said_next gs f)
-    ∙ sym (append_assoc (all_heads g) (flat_map all_heads gs ++ graces) f.event.heads)
+    ap (λ t. all_heads g ++ t) (said_next gs f) ∙ sym (append_assoc (all_heads g) (flat_map all_heads gs ++ graces) f.event.heads)
     ∙ ap (λ t. t ++ f.event.heads) (sym (append_assoc (all_heads g) (flat_map all_heads gs) graces))
 
 event_is : (spread : Spread) (now : Standing) (front : List Flat) (before : List Seen) (f : Flat) →
@@ -134,8 +131,7 @@ behind_are : (spread : Spread) (now : Standing) (front : List Flat) (before : Li
 behind_are spread now front before [] = refl
 behind_are spread now front before (f ∷ fs) =
     let h = event_is spread now front before f in
-    (λ i. heard_behind spread (sym (standing_next now front f) i) (sym (said_next front f) i) (h i) fs)
-    ∙ behind_are spread now (front ++ f ∷ []) (seen now front f ∷ before) fs
+    (λ i. heard_behind spread (sym (standing_next now front f) i) (sym (said_next front f) i) (h i) fs) ∙ behind_are spread now (front ++ f ∷ []) (seen now front f ∷ before) fs
 
 sounds_append : (voice : ℕ) (spread : Spread) (before es more : List Seen) →
     event_sounds voice spread before (es ++ more) ≡ event_sounds voice spread before es ++ event_sounds voice spread (behind before es) more

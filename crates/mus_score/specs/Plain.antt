@@ -1,5 +1,4 @@
--- A plain score: notes and rests alone, with no grace, tuplet, decoration, mention, ending, slur
--- mark, tied head or word.
+-- A plain score: notes and rests alone, with no grace, tuplet, decoration, mention, ending, slur mark, tied head or word.
 use Rattle.std.specs.{Prelude.◌==◌, Prelude.◌&&◌, Prelude.not, Prelude.List, Prelude.length, Prelude.Bool, Prelude.false, List.list_all, Option.is_none}
 use Rattle.mus_score.specs.declared.score.{Event.Event, Music.Music, Music.TheOpen.Music-F, Music.TheFolds.fold-Music, Score.Score}
 

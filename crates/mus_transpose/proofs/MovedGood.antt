@@ -37,8 +37,7 @@ pub events_moved : (m : Move) (ms : List Measure) → events_of (map (measure_by
 events_moved m [] = refl
 events_moved m (x ∷ ms) =
     ap (λ fs. fs ++ events_of (map (measure_by m) ms)) (flats_changed (event_by m) (λ e. refl) x.body)
-    ∙ ap (λ fs. map (changed_flat (event_by m)) (flats_of x.body) ++ fs) (events_moved m ms)
-    ∙ sym (map-append (changed_flat (event_by m)) (flats_of x.body) (events_of ms))
+    ∙ ap (λ fs. map (changed_flat (event_by m)) (flats_of x.body) ++ fs) (events_moved m ms) ∙ sym (map-append (changed_flat (event_by m)) (flats_of x.body) (events_of ms))
 
 change_good : (m : Move) (k : Option Key) → IfSome (option_map (key_by m) k) IsGoodKey
 change_good m None = tt

@@ -114,6 +114,7 @@ fn whole_units(num: u64, den: u64) -> Option<u128>
 
 /// The value whose length is `num / den` of a whole note. None exactly where no
 /// value has that length. Takes no memory.
+#[inline(always)]
 pub fn value_of(num: u64, den: u64) -> Option<Value>
     requires some { 1 ≤ num }
     requires above { 1 ≤ den }

@@ -32,9 +32,7 @@ turned col cols earlier = ap (λ t. t ++ earlier) (reverse_onto cols col []) ∙
 columns_law : (spread : Spread) (cols earlier : List Column) → hear_columns spread (ear_at spread earlier) cols ≡ ear_at spread (reverse cols ++ earlier)
 columns_law spread [] earlier = refl
 columns_law spread (col ∷ cols) earlier =
-    ap (λ e. hear_columns spread e cols) (column_law spread earlier col)
-    ∙ columns_law spread cols (col ∷ earlier)
-    ∙ ap (ear_at spread) (sym (turned col cols earlier))
+    ap (λ e. hear_columns spread e cols) (column_law spread earlier col) ∙ columns_law spread cols (col ∷ earlier) ∙ ap (ear_at spread) (sym (turned col cols earlier))
 
 -- the heads that the listener lists are those of the staff
 pub heard_law : (spread : Spread) (cols : List Column) → (hear_columns spread fresh cols).heard ≡ heard_of spread cols
@@ -53,8 +51,7 @@ system_more spread f systems i s ear new target inside here is before =
     let one : i + 1 ≡ suc i = omega arith in
     let rest = drop (suc i) systems in
     let cut : drop i systems ≡ s ∷ rest = drop-cons systems i s inside ∙ ap (λ l. l ∷ rest) (sym here) in
-    rw one (ap (λ e. hear_columns spread e (flat_map f rest)) is
-    ∙ sym (columns_append spread ear (f s) (flat_map f rest))
+    rw one (ap (λ e. hear_columns spread e (flat_map f rest)) is ∙ sym (columns_append spread ear (f s) (flat_map f rest))
     ∙ ap (λ l. hear_columns spread ear (flat_map f l)) (sym cut) ∙ before)
 
 -- one step of a loop over numbers from 0
@@ -63,5 +60,4 @@ pub list_more : {A : Type 0} (f : ℕ → A) (k n : ℕ) (out new target : List 
 list_more f k n out new target v inside is pushed before =
     let rest = map f (range_with_len (k + 1) (n - (k + 1))) in
     let left : n - k ≡ suc (n - (k + 1)) = omega arith in
-    ap (λ t. t ++ rest) pushed ∙ append_assoc out (v ∷ []) rest ∙ ap (λ w. out ++ (w ∷ rest)) is
-    ∙ subst (λ m. out ++ map f (range_with_len k m) ≡ target) left before
+    ap (λ t. t ++ rest) pushed ∙ append_assoc out (v ∷ []) rest ∙ ap (λ w. out ++ (w ∷ rest)) is ∙ subst (λ m. out ++ map f (range_with_len k m) ≡ target) left before

@@ -58,16 +58,14 @@ present x f (y ∷ ys) (c ∷ cs) (suc k) v s h l at is =
 -- ---- what a mark tells of each column
 nothing_one : (c : Column) → record c { notes = c.notes ++ []; ties = c.ties ++ [] } ≡ c
 nothing_one c =
-    ap (λ t. record { leads = c.leads; notes = t; ties = c.ties ++ [] }) (append-nil c.notes)
-    ∙ ap (λ t. record { leads = c.leads; notes = c.notes; ties = t }) (append-nil c.ties)
+    ap (λ t. record { leads = c.leads; notes = t; ties = c.ties ++ [] }) (append-nil c.notes) ∙ ap (λ t. record { leads = c.leads; notes = c.notes; ties = t }) (append-nil c.ties)
 
 glyph_one : (c : Column) (b : Bool) (ns : List Noted)
     → record c { notes = c.notes ++ (if b then ns else []); ties = c.ties ++ [] } ≡ (if b then record c { notes = c.notes ++ ns } else c)
 glyph_one c true ns = ap (λ t. record { leads = c.leads; notes = c.notes ++ ns; ties = t }) (append-nil c.ties)
 glyph_one c false ns = nothing_one c
 
-glyph_told : (g : Glyph) (x dx dy : ℤ) (ys : List ℤ) (cs : List Column)
-    → with_mark (PageMark.Glyph g x dx dy) ys cs ≡ at_place x (with_note (role_of g dy) dy) ys cs
+glyph_told : (g : Glyph) (x dx dy : ℤ) (ys : List ℤ) (cs : List Column) → with_mark (PageMark.Glyph g x dx dy) ys cs ≡ at_place x (with_note (role_of g dy) dy) ys cs
 glyph_told g x dx dy [] cs = refl
 glyph_told g x dx dy (y ∷ ys) [] = refl
 glyph_told g x dx dy (y ∷ ys) (c ∷ cs) =
@@ -79,10 +77,8 @@ glyph_told g x dx dy (y ∷ ys) (c ∷ cs) =
 pub glyph_passed : (g : Glyph) (x dx dy at low high : ℤ) (role : Role) (ys : List ℤ) (cs new : List Column) → at ≡ x → low ≡ dy → high ≡ dy → role ≡ role_of g low
     → new ≡ at_place at (with_note role high) ys cs → new ≡ with_mark (PageMark.Glyph g x dx dy) ys cs
 glyph_passed g x dx dy at low high role ys cs new e f h k is =
-    is ∙ ap (λ z. at_place z (with_note role high) ys cs) e
-    ∙ ap (λ r. at_place x (with_note r high) ys cs) (k ∙ ap (role_of g) f)
-    ∙ ap (λ z. at_place x (with_note (role_of g dy) z) ys cs) h
-    ∙ sym (glyph_told g x dx dy ys cs)
+    is ∙ ap (λ z. at_place z (with_note role high) ys cs) e ∙ ap (λ r. at_place x (with_note r high) ys cs) (k ∙ ap (role_of g) f)
+    ∙ ap (λ z. at_place x (with_note (role_of g dy) z) ys cs) h ∙ sym (glyph_told g x dx dy ys cs)
 
 tie_one : (c : Column) (b t : Bool) (dy : ℤ) → t ≡ true
     → record c { notes = c.notes ++ []; ties = c.ties ++ (if b && t then dy ∷ [] else []) } ≡ (if b then record c { ties = c.ties ++ dy ∷ [] } else c)
@@ -102,15 +98,12 @@ tie_told x1 x2 from to bulge (y ∷ ys) (c ∷ cs) e =
 pub tie_passed : (x1 x2 from to bulge at end passed : ℤ) (ys : List ℤ) (cs new : List Column) → is_tie bulge ≡ true → at ≡ x2 → passed ≡ end → end ≡ to -ℤ bulge
     → new ≡ at_place at (with_tie passed) ys cs → new ≡ with_mark (PageMark.Arc x1 x2 from to bulge) ys cs
 tie_passed x1 x2 from to bulge at end passed ys cs new tie e f h is =
-    is ∙ ap (λ z. at_place z (with_tie passed) ys cs) e
-    ∙ ap (λ z. at_place x2 (with_tie z) ys cs) (f ∙ h)
-    ∙ sym (tie_told x1 x2 from to bulge ys cs tie)
+    is ∙ ap (λ z. at_place z (with_tie passed) ys cs) e ∙ ap (λ z. at_place x2 (with_tie z) ys cs) (f ∙ h) ∙ sym (tie_told x1 x2 from to bulge ys cs tie)
 
 -- a mark that tells nothing
 quiet_one : (c : Column) (ns : List Noted) (ts : List ℤ) → ns ≡ [] → ts ≡ [] → record c { notes = c.notes ++ ns; ties = c.ties ++ ts } ≡ c
 quiet_one c ns ts e f =
-    ap (λ t. record { leads = c.leads; notes = c.notes ++ t; ties = c.ties ++ ts }) e
-    ∙ ap (λ t. record { leads = c.leads; notes = c.notes ++ []; ties = c.ties ++ t }) f
+    ap (λ t. record { leads = c.leads; notes = c.notes ++ t; ties = c.ties ++ ts }) e ∙ ap (λ t. record { leads = c.leads; notes = c.notes ++ []; ties = c.ties ++ t }) f
     ∙ nothing_one c
 
 quiet_told : (m : PageMark) (ys : List ℤ) (cs : List Column) → ((y : ℤ) → note_at y m ≡ []) → ((y : ℤ) → tie_at y m ≡ []) → with_mark m ys cs ≡ cs
@@ -167,9 +160,7 @@ mark_more leads ms m (y ∷ ys) =
 filled_behind : (leads : Bool) (done ms : List PageMark) (ys : List ℤ) → with_marks ms ys (columns_from leads done ys) ≡ columns_from leads (done ++ ms) ys
 filled_behind leads done [] ys = ap (λ t. columns_from leads t ys) (sym (append-nil done))
 filled_behind leads done (m ∷ ms) ys =
-    ap (with_marks ms ys) (mark_more leads done m ys)
-    ∙ filled_behind leads (done ++ m ∷ []) ms ys
-    ∙ ap (λ t. columns_from leads t ys) (append_assoc done (m ∷ []) ms)
+    ap (with_marks ms ys) (mark_more leads done m ys) ∙ filled_behind leads (done ++ m ∷ []) ms ys ∙ ap (λ t. columns_from leads t ys) (append_assoc done (m ∷ []) ms)
 
 -- one step of the loop that makes empty columns
 pub empty_more : (leads : Bool) (ys : List ℤ) (i : ℕ) (v : Column) (out new target : List Column) → i < length ys → v ≡ record { leads = leads; notes = []; ties = [] }

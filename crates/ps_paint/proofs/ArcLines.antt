@@ -27,8 +27,7 @@ quarter_right x1 x2 s =
 
 module _ (f : Frame) (ds : Names) (fr : IsFrame f) (made : Made f ds) where
   arc_runs : (p u q v x2 g x1 a : ℤ) (st : List Value) (saved : List Graphics) (ps : List Paint) (pages : List PagePaint)
-      → IsNumber p → IsNumber u → IsNumber q → IsNumber v → IsNumber x2 → IsNumber g → IsNumber x1 → IsNumber a
-      → Runs 5 ac_body
+      → IsNumber p → IsNumber u → IsNumber q → IsNumber v → IsNumber x2 → IsNumber g → IsNumber x1 → IsNumber a → Runs 5 ac_body
       (on_page f ds (whole_value a ∷ whole_value x1 ∷ whole_value g ∷ whole_value x2 ∷ whole_value v ∷ whole_value q ∷ whole_value u ∷ whole_value p ∷ st) saved ps pages)
       (on_page f ds st saved (ps ++ stroked f (move f (pos 0 +ℤ x1) (pos 0 +ℤ a)
       ∷ curve f (pos 0 +ℤ p) (pos 0 +ℤ u) (pos 0 +ℤ q) (pos 0 +ℤ v) (pos 0 +ℤ x2) (pos 0 +ℤ g) ∷ []) ∷ []) pages)

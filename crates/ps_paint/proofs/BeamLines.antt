@@ -26,8 +26,7 @@ way_word _ = record { some = omega arith; regular = refl; token = refl }
 
 module _ (f : Frame) (ds : Names) (fr : IsFrame f) (made : Made f ds) where
   beam_runs : (d x1 x2 a b up vp : ℤ) (st : List Value) (saved : List Graphics) (ps : List Paint) (pages : List PagePaint)
-      → IsEdge d → IsNumber x1 → IsNumber x2 → IsNumber a → IsNumber b → IsNumber up → IsNumber vp
-      → Runs 16 (beam_body d)
+      → IsEdge d → IsNumber x1 → IsNumber x2 → IsNumber a → IsNumber b → IsNumber up → IsNumber vp → Runs 16 (beam_body d)
       (on_page f ds (whole_value a ∷ whole_value x1 ∷ whole_value b ∷ whole_value x2 ∷ whole_value vp ∷ whole_value x2 ∷ whole_value up ∷ whole_value x1 ∷ st) saved ps pages)
       (on_page f ds st saved (ps ++ filled (move f (d +ℤ x1) (pos 0 +ℤ a) ∷ line f (d +ℤ x2) (pos 0 +ℤ b) ∷ line f (d +ℤ x2) (pos 0 +ℤ vp) ∷ line f (d +ℤ x1) (pos 0 +ℤ up) ∷ []) ∷ []) pages)
   beam_runs d x1 x2 a b up vp st saved ps pages e n1 n2 na nb nu nv =

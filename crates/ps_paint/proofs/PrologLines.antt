@@ -119,8 +119,7 @@ pg_parts o l b t p z e d = simp (append_assoc, with_first)
 pg_definition : (f : Frame) → page_line f.left f.bottom f.scale ++ 10 ∷ [] ≡ definition (codes "pg") (pg_text f ++ codes "setfont")
 unfolding page_line page_start scaling page_end pg_text numbers
 pg_definition f =
-    append_assoc (page_start ++ scaling f.left f.bottom f.scale) page_end (10 ∷ [])
-    ∙ ap (λ x. codes "/pg {" ++ x)
+    append_assoc (page_start ++ scaling f.left f.bottom f.scale) page_end (10 ∷ []) ∙ ap (λ x. codes "/pg {" ++ x)
     (pg_parts (codes "gsave 0.01 0.01 scale ") (decimal f.left) (decimal f.bottom) (codes "translate ") (percent f.scale) (codes "scale 60 setlinewidth /EngFont findfont 900 scalefont ") (codes "setfont") (codes "} def\n"))
 
 box_taken : (f : Frame) → Takes 0 (box_line f.wide f.high ++ 10 ∷ []) (being no_names false) (being no_names false)

@@ -28,8 +28,7 @@ module _ (f : Frame) (ds : Names) (fr : IsFrame f) (made : Made f ds) where
   abbrev five : ℤ → ℤ → List Seg
   five w y = two w y (pos 0) ++ two w y (pos 500) ++ two w y (pos 1000) ++ two w y (pos 1500) ++ two w y (pos 2000)
 
-  rules_run : (w y : ℤ) (st : List Value) (saved : List Graphics) (ps : List Paint) (pages : List PagePaint) → IsNumber w → IsNumber y
-      → Runs 34 sf_body
+  rules_run : (w y : ℤ) (st : List Value) (saved : List Graphics) (ps : List Paint) (pages : List PagePaint) → IsNumber w → IsNumber y → Runs 34 sf_body
       (on_page f ds (whole_value y ∷ whole_value (pos 0) ∷ whole_value (pos 0) ∷ whole_value w ∷ whole_value (pos 500) ∷ whole_value w ∷ whole_value (pos 1000) ∷ whole_value w ∷ whole_value (pos 1500) ∷ whole_value w ∷ whole_value (pos 2000) ∷ whole_value w ∷ st) saved ps pages)
       (on_page f ds st saved (ps ++ stroked f (five w y) ∷ []) pages)
   rules_run w y st saved ps pages nw ny =

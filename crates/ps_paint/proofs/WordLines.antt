@@ -76,8 +76,7 @@ module _ (f : Frame) (ds : Names) (fr : IsFrame f) (made : Made f ds) where
 
   -- from behind the gsave, with the font of the size
   places_words : (size : Size) (x y dx dy : ℤ) (words : List ℕ) (st : List Value) (saved : List Graphics) (ps : List Paint) (pages : List PagePaint)
-      → IsClose x → IsClose y → IsClose (x +ℤ dx) → IsClose (y +ℤ dy)
-      → Runs 5 (translate_name ∷ m_name ∷ show_name ∷ grestore_name ∷ [])
+      → IsClose x → IsClose y → IsClose (x +ℤ dx) → IsClose (y +ℤ dy) → Runs 5 (translate_name ∷ m_name ∷ show_name ∷ grestore_name ∷ [])
       (page ds (whole_value y ∷ whole_value x ∷ whole_value dy ∷ whole_value dx ∷ words_value words ∷ st) (corner f (height_of size)) (corner f (pos 900) ∷ saved) ps pages)
       (on_page f ds st saved (ps ++ mark_paints f y (PageMark.Words size x dx dy words)) pages)
   places_words size x y dx dy words st saved ps pages cx cy cd ce =

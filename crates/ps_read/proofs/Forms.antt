@@ -38,8 +38,7 @@ pub page_form : (l b s : ℕ) → page_line l b s ≡ PAGE_START.now ++ (decimal
 unfolding page_line page_start scaling
 page_form l b s =
     let f = percent s in let d = decimal l in let g = decimal b in let t = codes " translate " in
-    append_assoc PAGE_START.now (d ++ 32 ∷ g ++ t ++ f ++ 32 ∷ f) page_end
-    ∙ ap (λ v. PAGE_START.now ++ v)
+    append_assoc PAGE_START.now (d ++ 32 ∷ g ++ t ++ f ++ 32 ∷ f) page_end ∙ ap (λ v. PAGE_START.now ++ v)
     (append_assoc (d ++ 32 ∷ g ++ t ++ f) (32 ∷ f) page_end
     ∙ (append_assoc (d ++ 32 ∷ g ++ t) f (32 ∷ (f ++ page_end)) ∙ (append_assoc (d ++ 32 ∷ g) t (after_bottom s) ∙ append_assoc d (32 ∷ g) (t ++ after_bottom s))))
 

@@ -117,8 +117,7 @@ pub ended_text : (o : OpenSystem) (s : Staff) → IsJoinedBy o.join o.staves →
 unfolding system_text
 ended_text o s h m =
     let l = system_line o.a o.b in let ss = o.staves ++ s ∷ [] in let n = numbered staff_text 0 ss in
-    page_more o.page (Item.System o.a o.b ss)
-    ∙ ap (λ v. page_front o.page ++ v)
+    page_more o.page (Item.System o.a o.b ss) ∙ ap (λ v. page_front o.page ++ v)
     (ap (λ j. (l ++ 10 ∷ j) ++ n) (joins o.join o.staves s h m) ∙ append_assoc l (10 ∷ joining o.join) n)
 
 joined_more : (j : Option Joined) (ss : List Staff) (s : Staff) → IsJoinedBy j ss → MayEnd j ss s.y → IsJoined (ss ++ s ∷ [])
@@ -226,8 +225,7 @@ mark_told : (o : OpenSystem) (s : Staff) (m : PageMark) (t : List ℕ) → t ≡
     → t ++ (mark_line s.y m ++ 10 ∷ []) ≡ system_front (with_staff o (with_mark s m))
 unfolding mark_text
 mark_told o s m t h =
-    ap (λ t. t ++ (mark_line s.y m ++ 10 ∷ [])) (h ∙ system_more o s)
-    ∙ (append_assoc (system_front o) (staff_text (length o.staves) s) (mark_line s.y m ++ 10 ∷ [])
+    ap (λ t. t ++ (mark_line s.y m ++ 10 ∷ [])) (h ∙ system_more o s) ∙ (append_assoc (system_front o) (staff_text (length o.staves) s) (mark_line s.y m ++ 10 ∷ [])
     ∙ (ap (λ v. system_front o ++ v) (sym (marks_push (length o.staves) s m)) ∙ sym (system_more o (with_mark s m))))
 
 page_told : (p : OpenPage) (t : List ℕ) → t ≡ page_front p ++ codes "grestore\n" → t ++ (codes "showpage" ++ 10 ∷ []) ≡ front (with_page p)
@@ -330,8 +328,7 @@ step_tells (Place.Closed p) (line.Fixed text) t m h =
       },
     )
 step_tells (Place.Trailer s) (line.Fixed text) t m h = (
-  told t (front s ++ codes "%%Trailer\n") text (count_line (length s.pages)) h.0 m
-      ∙ append_assoc (front s) (codes "%%Trailer\n") (count_line (length s.pages) ++ 10 ∷ []),
+  told t (front s ++ codes "%%Trailer\n") text (count_line (length s.pages)) h.0 m ∙ append_assoc (front s) (codes "%%Trailer\n") (count_line (length s.pages) ++ 10 ∷ []),
   h.1,
 )
 step_tells (Place.Counted s) (line.Fixed text) t m h = record { good = h.1; spelled = end_told s t h.0 ∙ ap (λ l. t ++ (l ++ 10 ∷ [])) (sym m) }

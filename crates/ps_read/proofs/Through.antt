@@ -187,8 +187,7 @@ under_later : (j : Joined) (done : List Staff) (s : Staff) (y : ℤ) → IsUnder
 under_later j [] s y = tt
 under_later j (t ∷ done) s y = tt
 
-staves_way : (p : OpenPage) (a b : ℕ) (j : Joined) (done : List Staff) (s : Staff) (us : List Staff) → All IsStaff us → last_base s us ≡ j.foot
-    → 1 ≤ length done + length us
+staves_way : (p : OpenPage) (a b : ℕ) (j : Joined) (done : List Staff) (s : Staff) (us : List Staff) → All IsStaff us → last_base s us ≡ j.foot → 1 ≤ length done + length us
     → (o : OpenSystem) × (t : Staff) × Way (Place.Marks (joined_system p a b j done) s) (Place.Marks o t) (numbered staff_text (length done + 1) us)
     × EndsAs o t (with_item p (Item.System a b ((done ++ s ∷ []) ++ us)))
 staves_way p a b j done s [] h foot some = (

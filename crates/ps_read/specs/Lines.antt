@@ -1,5 +1,4 @@
--- The lines of a document, without the LF that ends each: those that stand as they are, and those with numbers or words
--- in them.
+-- The lines of a document, without the LF that ends each: those that stand as they are, and those with numbers or words in them.
 use Rattle.std.specs.Prelude.{◌≡◌, ℕ, ℤ, ◌+◌, List, [], ◌∷◌, ◌++◌, length, drop}
 use Rattle.eng_lines.specs.Lines.{Lacks}
 use Rattle.mus_units.specs.declared.glyph.Size.{Size}

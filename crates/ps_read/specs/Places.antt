@@ -35,8 +35,7 @@ abbrev pub IsUnderTop : Option Joined → List Staff → ℤ → Type 0
 IsUnderTop (Some j) [] y = (y +ℤ pos 2000) ≡ j.top
 IsUnderTop j staves y = ⊤
 
--- a system may end with a staff at y where no line joins its staves, or where it has another staff and y is the foot of
--- that line
+-- a system may end with a staff at y where no line joins its staves, or where it has another staff and y is the foot of that line
 abbrev pub MayEnd : Option Joined → List Staff → ℤ → Type 0
 MayEnd None staves y = ⊤
 MayEnd (Some j) staves y = (1 ≤ length staves) × (y ≡ j.foot)

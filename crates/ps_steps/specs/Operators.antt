@@ -1,7 +1,6 @@
--- What a token does to the state, and why it may not. A number, a string, a label and a procedure are pushed; the font's
--- line makes the font; a name calls the procedure that it was given, or else is one of the operators. An operator halts
--- where it has too few operands (Stack), else where one is of another kind (Kind), and then for what is its own. A number
--- with a point is an operand of `scale` alone.
+-- What a token does to the state, and why it may not. A number, a string, a label and a procedure are pushed; the font's line makes the
+-- font; a name calls the procedure that it was given, or else is one of the operators. An operator halts where it has too few operands
+-- (Stack), else where one is of another kind (Kind), and then for what is its own. A number with a point is an operand of `scale` alone.
 use Rattle.std.specs.{Prelude.{ℕ, zero, suc, ℤ, pos, ◌+ℤ◌, ◌*ℤ◌, int_le, int_div, int_rem, Bool, true, false, ◌&&◌, List, [], ◌∷◌, ◌++◌, codes, Option, Some, None}, Str.bytes_eq, Map.update}
 use Rattle.ps_steps.specs.{declared.{halt.Cause.Cause, paint.{Seg.Seg, Paint.Paint}}, Tokens.{Simple, whole_token, pointed_token, far_token, words_token, label_token, name_token, font_token, Token, simple_token, procedure_token}, Near.is_near, Points.current, State.{Value, whole_value, pointed_value, words_value, label_value, body_value, font_value, Graphics, Names, State}}
 

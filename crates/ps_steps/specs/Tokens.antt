@@ -29,8 +29,7 @@ is_regular b = not (is_blank b || is_delimiter b)
 abbrev pub is_skipped : ℕ → Bool
 is_skipped b = is_blank b || (b == code "%")
 
--- a text without the blanks and comments at its front; the flag says that it begins within a comment, which ends before
--- the next LF
+-- a text without the blanks and comments at its front; the flag says that it begins within a comment, which ends before the next LF
 abbrev pub passed : Bool → List ℕ → List ℕ
 passed inside [] = []
 passed true (b ∷ s) = elim (b == code "\n") [ true ↦ passed false s | false ↦ passed true s ]

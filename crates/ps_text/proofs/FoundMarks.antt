@@ -196,8 +196,7 @@ wordless_open y m rest w h e = numbers_open (mark_numbers y m) (mark_name m) res
 -- what is found behind an opening parenthesis
 pub found_words : (y : ℤ) (line rest : List ℕ) (o : Option PageMark) → line ≡ 40 ∷ rest
     → ((words : List ℕ) (zs : List ℤ) (name : List ℕ) → IsTrue (list_all is_shown words) → AllByRecursion IsNumber zs → list_all is_field name ≡ true
-    → rest ≡ flat_map shown words ++ 41 ∷ 32 ∷ (numbers zs ++ name) → o ≡ words_from words zs name)
-    → (m : PageMark) → IsPageMark y m → mark_line y m ≡ line → o ≡ Some m
+    → rest ≡ flat_map shown words ++ 41 ∷ 32 ∷ (numbers zs ++ name) → o ≡ words_from words zs name) → (m : PageMark) → IsPageMark y m → mark_line y m ≡ line → o ≡ Some m
 found_words y line rest o is reads (PageMark.Words size x dx dy words) h e =
     let all = wordless_numbers y (PageMark.Words size x dx dy words) h in
     reads words (dx ∷ dy ∷ x ∷ y ∷ []) (size_name size) h.1.shown all (name_is_field (PageMark.Words size x dx dy words)) (words_text size x dx dy y words rest (e ∙ is))

@@ -6,8 +6,7 @@ use Rattle.glyph_paths.specs.Characters.{backslash, close_parenthesis, digit, op
 abbrev pub is_special : ℕ → Bool
 is_special b = (b == open_parenthesis) || (b == close_parenthesis) || (b == backslash)
 
--- parentheses and backslashes stand after a backslash, bytes past 7E as three
--- octal digits, other bytes as they are
+-- parentheses and backslashes stand after a backslash, bytes past 7E as three octal digits, other bytes as they are
 unfoldable pub shown : ℕ → List ℕ
 shown b = if is_special b then backslash ∷ b ∷ []
     else if nat_lt b 127 then b ∷ []

@@ -18,8 +18,7 @@ stem_line x dx from to y = numbers (dx ∷ to ∷ dx ∷ from ∷ x ∷ y ∷ []
 unfoldable pub ends_of : ℤ → ℤ → ℤ → ℤ → Ends
 ends_of y from to rise = record { left = y +ℤ from; left_above = (y +ℤ from) +ℤ rise; right = y +ℤ to; right_above = (y +ℤ to) +ℤ rise }
 
--- the point above the left end, at p, the one above the right end, at q, the
--- right end and the left end
+-- the point above the left end, at p, the one above the right end, at q, the right end and the left end
 unfoldable pub points : ℤ → ℤ → ℤ → ℤ → Ends → List ℕ
 points p q x1 x2 e = numbers (p ∷ e.left_above ∷ q ∷ e.right_above ∷ x2 ∷ e.right ∷ x1 ∷ e.left ∷ [])
 

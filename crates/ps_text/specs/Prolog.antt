@@ -1,5 +1,4 @@
--- The prolog of a document: the fixed lines, the lines that give the paper, and
--- a procedure for each glyph.
+-- The prolog of a document: the fixed lines, the lines that give the paper, and a procedure for each glyph.
 use Rattle.std.specs.{Prelude.{ℕ, ◌/◌, ◌%◌, List, [], ◌∷◌, ◌++◌, codes, decimal}, List.flat_map}
 use Rattle.mus_units.specs.declared.glyph.Glyph.{Glyph}
 use Rattle.glyph_paths.specs.{Characters.digit, Characters.line_end, Characters.point, Characters.space, Names.glyphs_in_order, Procedure.procedure_text}

@@ -1,5 +1,4 @@
--- What may stand on a page: the range of each number, and for each type the
--- values that have a text.
+-- What may stand on a page: the range of each number, and for each type the values that have a text.
 use Rattle.std.specs.{Prelude.{ℕ, ℤ, pos, negsuc, ◌^◌, ◌<◌, ◌≤◌, ◌+ℤ◌, ◌<ℤ◌, ◌≤ℤ◌, Bool, ◌&&◌, ◌||◌, nat_le, IsTrue, List, [], ◌∷◌, length, All, ⊤}, List.list_all}
 use Rattle.ps_text.specs.declared.{marks.PageMark.PageMark, sheet.Frame.Frame, sheet.Staff.Staff, sheet.Item.Item, sheet.Page.Page, sheet.Sheet.Sheet}
 
@@ -40,8 +39,7 @@ pub record IsStem (y x dx from to : ℤ) : Type 0 where
   pub start : IsPlaced y x dx from
   pub end : IsOffset to
 
--- an end of a beam or an arc: a point at a height above y, and one so far
--- above that
+-- an end of a beam or an arc: a point at a height above y, and one so far above that
 pub record IsEnd (y height rise : ℤ) : Type 0 where
   pub offset : IsOffset height
   pub point : IsNumber (y +ℤ height)

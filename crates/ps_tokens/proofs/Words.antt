@@ -22,11 +22,9 @@ words_open bytes words rest s c = record {
   more = c.more ++ 41 ∷ [];
   good = all_more words c.byte s.good c.good;
   spelled =
-      ap (λ x. x ++ c.first ∷ (c.more ++ 41 ∷ [])) s.spelled
-      ∙ (append_assoc (flat_map shown words) rest (c.first ∷ (c.more ++ 41 ∷ []))
+      ap (λ x. x ++ c.first ∷ (c.more ++ 41 ∷ [])) s.spelled ∙ (append_assoc (flat_map shown words) rest (c.first ∷ (c.more ++ 41 ∷ []))
       ∙ (ap (λ x. flat_map shown words ++ x) (sym (append_assoc rest (c.first ∷ c.more) (41 ∷ [])) ∙ ap (λ x. x ++ 41 ∷ []) c.spelled)
-      ∙ (sym (append_assoc (flat_map shown words) (shown c.byte) (41 ∷ []))
-      ∙ ap (λ x. x ++ 41 ∷ []) (flat_map_more shown [] words c.byte))));
+      ∙ (sym (append_assoc (flat_map shown words) (shown c.byte) (41 ∷ [])) ∙ ap (λ x. x ++ 41 ∷ []) (flat_map_more shown [] words c.byte))));
 }
 
 -- where reading breaks off, no words stand, whatever follows

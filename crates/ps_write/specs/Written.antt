@@ -4,8 +4,7 @@ use Rattle.eng_io.specs.Causes.{Rose}
 use Rattle.ps_text.specs.Document.{heading_text}
 use Rattle.ps_write.specs.{declared.steps.DocError.DocError, declared.steps.DocWriter.DocWriter}
 
--- exactly the first bytes that the error counts went out, or, for want of
--- memory, a front of the text
+-- exactly the first bytes that the error counts went out, or, for want of memory, a front of the text
 abbrev pub WroteFront : Option (List ℕ) → Option (List ℕ) → List ℕ → DocError → Type 0
 WroteFront old new text (DocError.Write e) = Appends old new (take e.written text) × (e.written ≤ length text)
 WroteFront old new text DocError.Memory = (n : ℕ) × Appends old new (take n text) × (n ≤ length text)
@@ -15,8 +14,7 @@ abbrev pub Wrote : {T : Type 0} → Option (List ℕ) → Option (List ℕ) → 
 Wrote old new text (Ok _) = Appends old new text
 Wrote old new text (Err e) = WroteFront old new text e
 
--- a write fails only where the sink's count of faults rose, and any other answer
--- leaves the count as it was
+-- a write fails only where the sink's count of faults rose, and any other answer leaves the count as it was
 abbrev pub Counted : {T : Type 0} → ℕ → ℕ → Result T DocError → Type 0
 Counted before now (Ok _) = now ≡ before
 Counted before now (Err (DocError.Write e)) = Rose before now

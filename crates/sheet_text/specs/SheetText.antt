@@ -1,5 +1,4 @@
--- What `inspect` prints of a sheet: a line for the frame, each page, each item, each staff and each mark, and last the
--- number of pages.
+-- What `inspect` prints of a sheet: a line for the frame, each page, each item, each staff and each mark, and last the number of pages.
 use Rattle.std.specs.{Prelude.ℕ, Prelude.ℤ, Prelude.pos, Prelude.List, Prelude.[], Prelude.◌∷◌, Prelude.◌++◌, Prelude.length, Prelude.codes, Prelude.decimal, List.flat_map}
 use Rattle.mus_units.specs.declared.glyph.Size.{Size}
 use Rattle.glyph_paths.specs.Names.{glyph_name}

@@ -13,7 +13,6 @@ cost_of-requires-clause-within c =
 
 pub returns : goal.returns
 returns c =
-    c.cost_of.ensures
-    ∙ (ap (λ ss. looked_up ss c.as_slice-2.result.now c.args.choosing.now.at c.args.bar) c.as_slice.ensures
+    c.cost_of.ensures ∙ (ap (λ ss. looked_up ss c.as_slice-2.result.now c.args.choosing.now.at c.args.bar) c.as_slice.ensures
     ∙ (ap (λ fs. looked_up c.args.choosing.now.spans fs c.args.choosing.now.at c.args.bar) c.as_slice-2.ensures.value
     ∙ agrees c.args.choosing.now.spans c.args.choosing.now.firsts.items c.requires.indexed c.args.choosing.now.at c.args.bar))

@@ -4,5 +4,4 @@ use Rattle.ps_heard.proofs.columns.fill.Given as goal
 
 abbrev pub invariant-loop-mark : goal.invariant-loop-mark
 invariant-loop-mark l =
-    (with_marks (drop l.mark-index l.marks) l.places l.columns ≡ with_marks l.marks l.places (columns_from true [] l.places))
-    × (length l.columns ≡ length l.places)
+    (with_marks (drop l.mark-index l.marks) l.places l.columns ≡ with_marks l.marks l.places (columns_from true [] l.places)) × (length l.columns ≡ length l.places)
