@@ -84,7 +84,7 @@ step_drawn now before behind at (Step.Measures seen count) = All-cons IsDrawn _ 
 step_drawn now before behind at (Step.Tuplet p q r) = tuplet_drawn now p q r
 step_drawn now before behind at _ = All-nil IsDrawn
 
-signs_drawn : (first : InForce) (before behind : Steps) → All IsDrawn (signs first before behind)
+pub signs_drawn : (first : InForce) (before behind : Steps) → All IsDrawn (signs first before behind)
 signs_drawn first before [] = All-nil IsDrawn
 signs_drawn first before (at ∷ behind) = All-append IsDrawn (signs_of (place_at first before) before at behind at.step) (signs first (at ∷ before) behind) (step_drawn (place_at first before) before behind at at.step) (signs_drawn first (at ∷ before) behind)
 

@@ -12,5 +12,5 @@ pub mod written;
 
 pub use bars::{VoiceBars, bars_of, forced_bars, own_measures};
 pub use measures::measures_of;
-pub use reading::signs;
+pub use reading::{put_signs, signs};
 pub use written::{Sign, Waiting, Written};

@@ -1,19 +1,19 @@
 ghost use Rattle.std.specs.{Prelude.◌≡◌, Prelude.◌≤◌, Prelude.◌<◌, Prelude.◌^◌, Prelude.◌+◌, Prelude.◌-◌, Prelude.◌++◌, Prelude.◌∷◌, Prelude.[], Prelude.map, Prelude.length, Prelude.reverse, Prelude.unwrap_or, Prelude.true, Prelude.false, Prelude.IfOk, Prelude.OnOk, List.All};
-ghost use Rattle.mus_units.specs.{Parts.parts_list, Good.IsGoodMeter};
-ghost use Rattle.abc_steps.specs.{Looks.since_event, Looks.slurs_begun, Looks.slurs_ended, Lengths.IsLength, Good.IsGoodForce, Good.IsGoodStood, Good.IsGoodStep, Good.IsGoodSound};
+ghost use Rattle.mus_units.specs.Good.{IsGoodMeter};
+ghost use Rattle.abc_steps.specs.{Looks.since_event, Looks.slurs_begun, Looks.slurs_ended, Lengths.parts_at, declared.step.Step.Step, Good.IsGoodForce, Good.IsGoodStood, Good.IsGoodStep};
 ghost use Rattle.abc_events.specs.Signs.{with_tie, tied_heads, for_note, look_of, whole_look, parted_at, sound_written, whole_value, rest_written, further_rests, rests_of, tuplet_of, signs_of, signs, IsDrawn};
 
 use crate::waits::waiting_of;
 use crate::written::{Sign, Waits, Written};
 use abc_steps::force::meter_ticks;
 use abc_steps::kinds::is_event;
-use abc_steps::lengths::{parts_in, written_length};
+use abc_steps::lengths::parts_at;
 use abc_steps::looks::{has_parting, is_tied, since_event, slurs_begun, slurs_ended};
 use abc_steps::place::{Place, beginning, measure_of, step_over};
 use abc_steps::tuplets::{fits, or_default, usual_q};
 use abc_steps::{InForce, KeptSound, Step, Stood};
 use mus_score::Look;
-use mus_units::{Base, Few, Frac, Head, Memory, Row, Value};
+use mus_units::{Base, Few, Head, Memory, Row, Value};
 use std::alloc::Global;
 
 fn with_tie(tie: bool, head: Head) -> Head
@@ -41,6 +41,7 @@ pub fn with_ties(alloc: Global, heads: &[Head], tie: bool) -> Result<Few<Head>, 
     Ok(Few::from(tied))
 }
 
+#[inline(always)]
 fn tied_heads(alloc: Global, heads: &[Head], behind: &[Stood]) -> Result<Few<Head>, Memory>
     ensures { IfOk result (λ r. r ≡ tied_heads heads.now behind.now) }
 {
@@ -50,6 +51,7 @@ fn tied_heads(alloc: Global, heads: &[Head], behind: &[Stood]) -> Result<Few<Hea
     with_ties(alloc, heads, is_tied(behind))
 }
 
+#[inline(always)]
 fn begins(heads: &[Head], before: &[Stood]) -> u32
     requires { length before.now ≤ 2 ^ 30 }
     ensures { result ≡ for_note heads.now (slurs_begun (reverse before.now)) }
@@ -60,6 +62,7 @@ fn begins(heads: &[Head], before: &[Stood]) -> u32
     slurs_begun(before)
 }
 
+#[inline(always)]
 fn ends(heads: &[Head], behind: &[Stood]) -> u32
     requires { length behind.now ≤ 2 ^ 30 }
     ensures { result ≡ for_note heads.now (slurs_ended behind.now) }
@@ -88,17 +91,16 @@ fn whole_look(seen: bool) -> Look
     if seen { Look::Whole } else { Look::Unseen }
 }
 
-/// The parts of a length, none where it has none.
-fn values_of(alloc: Global, length: Frac) -> Result<Few<Value>, Memory>
-    requires { IsLength length }
-    ensures { IfOk result (λ r. r ≡ unwrap_or (parts_list length.num length.den) []) }
+/// The parts of what stands at a step, no part where its length has none.
+fn values_of(alloc: Global, parts: Option<Few<Value>>) -> Few<Value>
+    ensures { result ≡ unwrap_or parts [] }
 {
-    let values = parts_in(alloc, length)?;
-    Ok(values.unwrap_or(Few::from(Row::new(alloc))))
+    parts.unwrap_or(Few::from(Row::new(alloc)))
 }
 
 /// A note, a chord or a rest as it is written, for which `waits` waits.
-#[tactic(auto, unfolding(crate::specs::Signs::sound_written))]
+#[inline(always)]
+#[tactic(auto, unfolding(crate::specs::Signs::sound_written, abc_steps::specs::Lengths::parts_at))]
 fn sound_written(
     alloc: Global,
     now: &Place,
@@ -106,19 +108,17 @@ fn sound_written(
     waits: &[Stood],
     at: &Stood,
     s: &KeptSound,
+    parts: Option<Few<Value>>,
     behind: &[Stood],
 ) -> Result<Written, Memory>
     requires few { length before.now ≤ 2 ^ 30 }
     requires few_behind { length behind.now ≤ 2 ^ 30 }
     requires groups { now.now.counts.groups ≤ 2 ^ 30 }
     requires further { now.now.counts.further ≤ 2 ^ 46 }
-    requires force { IsGoodForce now.now.force }
-    requires good { IsGoodSound s.now }
+    requires parts { parts ≡ parts_at now.now.force.unit (reverse before.now) (Step.Sound s.now) behind.now }
     requires waits { waits.now ≡ since_event (reverse before.now) }
     ensures { IfOk result (λ w. w ≡ sound_written now.now (reverse before.now) at.now s.now behind.now) }
 {
-    let length = written_length(now.force.unit, s, before, behind);
-    let values = values_of(alloc, length)?;
     let heads = tied_heads(alloc, s.heads(), behind)?;
     Ok(Written {
         line: at.line,
@@ -126,7 +126,7 @@ fn sound_written(
         measure: measure_of(now),
         heads,
         look: look_of(s.seen()),
-        values,
+        values: values_of(alloc, parts),
         whole: None,
         parted: parted_at(now, waits),
         begins: begins(s.heads(), before),
@@ -196,6 +196,7 @@ fn put_further(
 }
 
 /// Puts whole measure rests.
+#[inline(never)]
 fn put_rests(
     alloc: Global,
     out: &mut Row<Sign>,
@@ -236,14 +237,16 @@ fn put_tuplet(out: &mut Row<Sign>, now: &Place, p: u8, q: u8, r: u8) -> Result<(
     })
 }
 
-/// Puts the signs of a step.
+/// Puts the signs of a step. `parts` are those of what stands at it.
+#[inline(always)]
 #[tactic(auto, unfolding(crate::specs::Signs::signs_of))]
-fn put_signs(
+pub fn put_signs(
     alloc: Global,
     out: &mut Row<Sign>,
     now: &Place,
     before: &[Stood],
     at: &Stood,
+    parts: Option<Few<Value>>,
     behind: &[Stood],
 ) -> Result<(), Memory>
     requires few { length before.now ≤ 2 ^ 30 }
@@ -251,13 +254,13 @@ fn put_signs(
     requires groups { now.now.counts.groups ≤ 2 ^ 30 }
     requires further { now.now.counts.further ≤ 2 ^ 46 }
     requires force { IsGoodForce now.now.force }
-    requires good { IsGoodStood at.now }
+    requires parts { parts ≡ parts_at now.now.force.unit (reverse before.now) at.now.step behind.now }
     ensures { OnOk result (out.new ≡ out.old ++ signs_of now.now (reverse before.now) at.now behind.now at.now.step) }
 {
     match &at.step {
         Step::Sound(s) => {
             let waits = since_event(before);
-            let written = sound_written(alloc, now, before, waits, at, s, behind)?;
+            let written = sound_written(alloc, now, before, waits, at, s, parts, behind)?;
             let waiting = waiting_of(alloc, &now.force, waits, s.decos())?;
             out.push(Sign::Event { written, waiting })
         }
@@ -275,6 +278,7 @@ fn count_events(steps: &[Stood]) -> usize {
 }
 
 /// The signs of a voice that begins with `first`, in the order of the text.
+#[inline(never)]
 pub fn signs(alloc: Global, first: &InForce, steps: &[Stood]) -> Result<Row<Sign>, Memory>
     requires few { length steps.now ≤ 2 ^ 30 }
     requires first { IsGoodForce first.now }
@@ -288,7 +292,8 @@ pub fn signs(alloc: Global, first: &InForce, steps: &[Stood]) -> Result<Row<Sign
         let (before, _) = steps.split_at(i);
         let (_, behind) = steps.split_at(i + 1);
         let at = &steps[i];
-        put_signs(alloc, &mut out, &now, before, at, behind)?;
+        let parts = parts_at(alloc, now.force.unit, before, at, behind)?;
+        put_signs(alloc, &mut out, &now, before, at, parts, behind)?;
         step_over(alloc, &mut now, at)?;
     }
     Ok(out)

@@ -3,9 +3,9 @@ use Rattle.std.proofs.{Common.{◌≡◌, ◌∙◌, sym, ap, ℕ, ◌+◌, ◌<
 use Rattle.mus_units.specs.declared.pitch.Clef.{Clef}
 use Rattle.abc_lines.specs.declared.fault.Fault.{Fault}
 use Rattle.abc_steps.specs.{declared.step.Stood.Stood, declared.force.InForce.InForce, Looks.Steps, Places.place_at}
-use Rattle.abc_faults.{specs.First.earlier, specs.First.first_of, specs.Faults.grace_faults_of, specs.Faults.grace_faults, specs.Faults.faults_of, specs.Faults.faults_in, specs.declared.weights.Weight.Weight, specs.Weights.weights_of, specs.Weights.weights_in, proofs.Firsts.earlier_none}
+use Rattle.abc_faults.{specs.First.earlier, specs.First.first_of, specs.Faults.grace_faults_of, specs.Faults.grace_faults, specs.Faults.faults_of, specs.Faults.faults_in, specs.Weights.weights_of, specs.Weights.weights_in, proofs.Firsts.earlier_none}
 
-at_front : (steps : Steps) (i : ℕ) (at : Stood) → i < length steps → at ≡ get_or steps i at → drop i steps ≡ at ∷ drop (i + 1) steps
+pub at_front : (steps : Steps) (i : ℕ) (at : Stood) → i < length steps → at ≡ get_or steps i at → drop i steps ≡ at ∷ drop (i + 1) steps
 at_front steps i at less is = drop_more steps i at less ∙ ap (λ x. x ∷ drop (i + 1) steps) (sym is)
 
 pub nearest : (steps : Steps) (i : ℕ) (at : Stood) → i < length steps → at ≡ get_or steps i at → reverse (take (i + 1) steps) ≡ at ∷ reverse (take i steps)
@@ -35,7 +35,7 @@ weigh_parts first steps i at less is =
     ap (weights_in first before) (at_front steps i at less is)
     ∙ ap (λ z. weights_of (place_at first before) before at behind at.step ++ weights_in first z behind) (sym (nearest steps i at less is))
 
--- one more part of some weights, behind what was put before it
-pub weigh_more : (own rest whole out more all : List Weight) → whole ≡ own ++ rest → more ≡ out ++ own → out ++ whole ≡ all → more ++ rest ≡ all
-weigh_more own rest whole out more all parts put e =
+-- one more part of a list, behind what was put before it
+pub part_more : {A : Type 0} (own rest whole out more all : List A) → whole ≡ own ++ rest → more ≡ out ++ own → out ++ whole ≡ all → more ++ rest ≡ all
+part_more own rest whole out more all parts put e =
     ap (λ xs. xs ++ rest) put ∙ (append_assoc out own rest ∙ (ap (λ xs. out ++ xs) (sym parts) ∙ e))

@@ -8,5 +8,5 @@ pub mod weights;
 
 pub use crowd::crowding;
 pub use first::earlier;
-pub use voice::judge_voice;
+pub use voice::judge_step;
 pub use weights::Weight;

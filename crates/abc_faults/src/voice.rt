@@ -1,19 +1,17 @@
 ghost use Rattle.std.specs.{Prelude.◌≡◌, Prelude.◌≤◌, Prelude.◌^◌, Prelude.◌++◌, Prelude.◌∷◌, Prelude.[], Prelude.length, Prelude.map, Prelude.reverse, Prelude.nat_lt, Prelude.IfOk, Prelude.OnOk, List.All};
-ghost use Rattle.abc_steps.specs.{Looks.since_event, Good.IsGoodForce, Good.IsGoodStood, Good.IsGoodSound};
-ghost use Rattle.abc_faults.specs.{First.{first_of, IsFirst}, Faults.{fault_at, fault_if, ends_tuplets, sounds_behind, misfit_of, tuplet_faults, is_off, any_off, any_grace_off, grace_faults_of, grace_faults, is_past, is_free, sound_faults_if, sound_faults, rest_faults, faults_of, faults_in}, Weights.{weight_at, capped, sound_count, grace_weights, weights_of, weights_in}};
+ghost use Rattle.abc_steps.specs.{declared.step.Step.Step, Looks.since_event, Lengths.parts_at};
+ghost use Rattle.abc_faults.specs.{First.first_of, Faults.{fault_at, fault_if, ends_tuplets, sounds_behind, misfit_of, tuplet_faults, is_off, any_off, any_grace_off, grace_faults_of, grace_faults, is_past, is_free, sound_faults_if, sound_faults, rest_faults, faults_of}, Weights.{weight_at, capped, sound_count, grace_weights, weights_of}};
 
 use crate::first::earlier;
 use crate::weights::{Weight, count_parts, put_graces, sound_count, weight_at};
 use abc_lines::{Fault, FaultKind};
 use abc_steps::kinds::is_sound;
-use abc_steps::lengths::{parts_in, written_length};
 use abc_steps::looks::{has_left, has_right, since_event};
-use abc_steps::place::{Place, beginning, measure_of, step_over};
+use abc_steps::place::{Place, measure_of};
 use abc_steps::tuplets::{fits, or_default};
-use abc_steps::{InForce, KeptSound, Step, Stood, Taking};
+use abc_steps::{KeptSound, Step, Stood, Taking};
 use abc_tokens::GraceChord;
-use mus_units::{Clef, Head, Memory, Meter, Row, height};
-use std::alloc::Global;
+use mus_units::{Clef, Few, Head, Memory, Meter, Row, Value, height};
 
 fn fault_at(kind: FaultKind, at: &Stood) -> Fault
     ensures { result ≡ fault_at kind at.now }
@@ -68,6 +66,7 @@ fn misfit_of(taking: Taking) -> FaultKind
     }
 }
 
+#[inline(never)]
 fn tuplet_fault(r: u8, taking: Taking, at: &Stood, behind: &[Stood]) -> Option<Fault>
     ensures { result ≡ first_of (tuplet_faults r taking at.now behind.now) }
 {
@@ -152,28 +151,26 @@ fn sound_fault(now: &Place, at: &Stood, s: &KeptSound, undrawable: bool) -> Opti
     earlier(found, past)
 }
 
-/// The first fault of a note, a chord or a rest. Puts its weight, behind those of its graces.
-#[tactic(auto, using(crate::proofs::Firsts::first_append, crate::proofs::Caps::capped_append), unfolding(crate::specs::Faults::sound_faults, crate::specs::Weights::sound_count))]
+/// The first fault of a note, a chord or a rest of these parts. Puts its weight, behind those of its graces.
+#[tactic(auto, using(crate::proofs::Firsts::first_append, crate::proofs::Caps::capped_append), unfolding(crate::specs::Faults::sound_faults, crate::specs::Weights::sound_count, abc_steps::specs::Lengths::parts_at))]
 fn judge_sound(
-    alloc: Global,
     weights: &mut Row<Weight>,
     now: &Place,
     before: &[Stood],
     at: &Stood,
     s: &KeptSound,
+    parts: &Option<Few<Value>>,
     behind: &[Stood],
 ) -> Result<Option<Fault>, Memory>
     requires groups { now.now.counts.groups ≤ 2 ^ 30 }
     requires further { now.now.counts.further ≤ 2 ^ 46 }
-    requires force { IsGoodForce now.now.force }
-    requires good { IsGoodSound s.now }
+    requires parts { parts.now ≡ parts_at now.now.force.unit (reverse before.now) (Step.Sound s.now) behind.now }
     ensures fault { IfOk result (λ f. f ≡ first_of (sound_faults now.now (reverse before.now) at.now s.now behind.now ++ grace_faults now.now.force.clef (since_event (reverse before.now)))) }
     ensures weights { OnOk result (weights.new ≡ weights.old ++ map capped (grace_weights (since_event (reverse before.now)) ++ weight_at (sound_count now.now (reverse before.now) s.now behind.now) at.now ∷ [])) }
 {
-    let parts = parts_in(alloc, written_length(now.force.unit, s, before, behind))?;
     let waits = since_event(before);
     put_graces(weights, waits)?;
-    weights.push(weight_at(sound_count(s, count_parts(&parts)), at))?;
+    weights.push(weight_at(sound_count(s, count_parts(parts)), at))?;
     let own = sound_fault(now, at, s, parts.is_none());
     Ok(earlier(own, grace_fault(now.force.clef, waits)))
 }
@@ -194,6 +191,7 @@ fn rest_fault(now: &Place, at: &Stood, count: u16) -> Option<Fault>
 }
 
 /// The first fault of whole measure rests. Puts their weight, behind those of their graces.
+#[inline(never)]
 #[tactic(auto, using(crate::proofs::Firsts::first_append, crate::proofs::Caps::capped_append))]
 fn judge_rests(
     weights: &mut Row<Weight>,
@@ -216,25 +214,30 @@ fn judge_rests(
     ))
 }
 
-/// The first fault of a step. Puts its weights.
+/// The first fault of a step, of those that are seen in one voice alone: tuplets that are too deep,
+/// cross or are short, broken rhythms that lack a side, lengths without parts, heads too far from the
+/// staff, whole measure rests in free meter, and measures past the two thousandth. `parts` are those
+/// of what stands at the step. Puts the weight of an event, behind one for each group of graces that it
+/// takes: the heads of a note or a chord times its parts, 1 times its parts for a rest, n for n whole
+/// measure rests, and the heads of a group of graces, each capped at 50,001.
+#[inline(always)]
 #[tactic(auto, unfolding(crate::specs::Faults::faults_of, crate::specs::Weights::weights_of))]
-fn judge_step(
-    alloc: Global,
+pub fn judge_step(
     weights: &mut Row<Weight>,
     now: &Place,
     before: &[Stood],
     at: &Stood,
+    parts: &Option<Few<Value>>,
     behind: &[Stood],
 ) -> Result<Option<Fault>, Memory>
     requires groups { now.now.counts.groups ≤ 2 ^ 30 }
     requires further { now.now.counts.further ≤ 2 ^ 46 }
-    requires force { IsGoodForce now.now.force }
-    requires good { IsGoodStood at.now }
+    requires parts { parts.now ≡ parts_at now.now.force.unit (reverse before.now) at.now.step behind.now }
     ensures fault { IfOk result (λ f. f ≡ first_of (faults_of now.now (reverse before.now) at.now behind.now at.now.step)) }
     ensures weights { OnOk result (weights.new ≡ weights.old ++ map capped (weights_of now.now (reverse before.now) at.now behind.now at.now.step)) }
 {
     match &at.step {
-        Step::Sound(s) => judge_sound(alloc, weights, now, before, at, s, behind),
+        Step::Sound(s) => judge_sound(weights, now, before, at, s, parts, behind),
         Step::Measures { seen: _, count } => judge_rests(weights, now, before, at, *count),
         Step::Tuplet { p, q: _, r } => Ok(tuplet_fault(or_default(*p, *r), now.taking, at, behind)),
         Step::Broken { right: _, dots: _ } => {
@@ -243,35 +246,4 @@ fn judge_step(
         }
         _ => Ok(None),
     }
-}
-
-/// The first fault of a voice that begins with `first`, of those that are seen in one voice alone:
-/// tuplets that are too deep, cross or are short, broken rhythms that lack a side, lengths without parts,
-/// heads too far from the staff, whole measure rests in free meter, and measures past the two thousandth.
-/// None exactly where it has none. Puts the weights of the voice, one for each event, behind one for each
-/// group of graces that it takes: the heads of a note or a chord times its parts, 1 times its parts for a
-/// rest, n for n whole measure rests, and the heads of a group of graces, each capped at 50,001.
-pub fn judge_voice(
-    alloc: Global,
-    weights: &mut Row<Weight>,
-    first: &InForce,
-    steps: &[Stood],
-) -> Result<Option<Fault>, Memory>
-    requires few { length steps.now ≤ 2 ^ 30 }
-    requires first { IsGoodForce first.now }
-    requires steps { All IsGoodStood steps.now }
-    ensures value { IfOk result (λ f. f ≡ first_of (faults_in first.now [] steps.now)) }
-    ensures first { IfOk result (λ f. IsFirst (faults_in first.now [] steps.now) f) }
-    ensures weights { OnOk result (weights.new ≡ weights.old ++ map capped (weights_in first.now [] steps.now)) }
-{
-    let mut found = None;
-    let mut now = beginning(alloc, first)?;
-    for i in 0..steps.len() {
-        let (before, _) = steps.split_at(i);
-        let (_, behind) = steps.split_at(i + 1);
-        let at = &steps[i];
-        found = earlier(found, judge_step(alloc, weights, &now, before, at, behind)?);
-        step_over(alloc, &mut now, at)?;
-    }
-    Ok(found)
 }

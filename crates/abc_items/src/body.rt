@@ -239,6 +239,7 @@ fn put_item(alloc: Global, body: &mut Body, item: Item) -> Result<(), TuneError>
 }
 
 /// Whether a voice is past the sixteenth.
+#[inline(never)]
 fn is_past(ids: &[Text], id: &[u8]) -> bool
     ensures { result ≡ nat_lt 16 (length (with_id ids.now id.now)) }
 {
@@ -249,6 +250,7 @@ fn is_past(ids: &[Text], id: &[u8]) -> bool
 }
 
 /// The fault of a voice field that mentions a seventeenth voice.
+#[inline(always)]
 fn voice_fault(ids: &[Text], item: &Item) -> Option<Fault>
     ensures { judged_as result item.now ≡ item_judged ids.now item.now }
 {

@@ -5,7 +5,7 @@ use Rattle.mus_score.specs.{declared.score.Measure.Measure, declared.score.Voice
 use Rattle.abc_header.specs.{declared.header.Header.Header, Headers.HasGoodValues}
 use Rattle.abc_steps.specs.{declared.step.Item.Item, declared.force.InForce.InForce, Good.IsGoodStood, Looks.Steps}
 use Rattle.abc_items.specs.{declared.voices.VoiceStart.VoiceStart, Voices.starts_of, Voices.unnamed_of}
-use Rattle.abc_events.{specs.{Leaf.Leaf, declared.written.Sign.Sign, Bars.{bar_of, bars_of}, Leaves.{Words, leaves_from, words_at}, Measures.{leaves_in, measure_of, measures_in}, Nesting.tree_of, Signs.{IsDrawn, signs}}, proofs.Drawn.walk_drawn}
+use Rattle.abc_events.{specs.{Leaf.Leaf, declared.written.Sign.Sign, Bars.{bar_of, bars_of}, Leaves.{Words, leaves_from, leaves_of, words_at}, Measures.{leaves_in, measure_of, measures_in}, Nesting.tree_of, Signs.{IsDrawn, signs}}, proofs.Drawn.walk_drawn}
 use Rattle.abc_faults.specs.{Faults.faults_in, Weights.crowded}
 use Rattle.abc_words.{specs.declared.music.MusicRow.MusicRow, specs.Verses.verse_count, specs.Verses.verse_fault, specs.Verses.verse_faults, specs.Words.event_words, specs.Words.music_rows, specs.Words.verse_sung, specs.Words.word_of}
 use Rattle.abc_score.{proofs.{Basics.{none_before, none_behind}, Cores.{CoresCount, CoresReach, IsGoodCore, count_of, events_of_cores, reach_of}, Frames.{length_voice, voice_framed}, Full.all_full, Nested.nested_good, Parts.{event_number, signs_count, signs_good, signs_reach, signs_sung}, Reaching.voice_reach, Rising.{own_most, voice_rise}, Rows.{leaf_rows, tree_weight, weight_of}, Segments.{Rise, measures_sing, measures_weigh}, Walks.{walk_changes, walk_parts}, Weighing.{count, leaves_weigh, not_crowded, sign_weight, signs_weigh}}, specs.{Faults.{faults_of_voices, voice_faults, voice_weights}, Framed.IsFramed, Score.{event_count, most_measures, notes_from, own_measures, score_with, sung_words, voice_of, written_measures}, Voices.{IsGoodRead, voice_read, voices_read}, declared.voices.VoiceRead.VoiceRead}}
@@ -34,6 +34,22 @@ each_words id unnamed items ss j less =
     let verses = verse_count id unnamed items in
     let within : j < event_count ss = omega (arith, less, count_is ss) in
     ap (λ (o : Option Words). length (unwrap_or o [])) (made_at (event_words rows verses) (event_count ss) 0 j within) ∙ length_words rows verses (0 + j)
+
+-- leaves that have the same words at each place are the same
+leaves_alike : (words others : List Words) (k id : ℕ) (ss : List Sign) → ((j : ℕ) → words_at words j ≡ words_at others j) → leaves_from words k id ss ≡ leaves_from others k id ss
+leaves_alike words others k id [] same = refl
+leaves_alike words others k id (Sign.Event w waiting ∷ ss) same = cc (same k, leaves_alike words others (k + 1) (id + length w.values) ss same)
+leaves_alike words others k id (Sign.Opens measure p q r ∷ ss) same = ap (λ ls. Leaf.Opens measure p q r ∷ ls) (leaves_alike words others k id ss same)
+
+no_words : (rows : List MusicRow) (events : List ℕ) (k : ℕ) → words_at [] k ≡ words_at (map (event_words rows 0) events) k
+no_words rows (event ∷ events) (suc k) = no_words rows events k
+no_words rows _ _ = refl
+
+-- without verses it is the same whether each event has an empty row of words or none
+pub leaves_unsung : (id unnamed : List ℕ) (items : List Item) (ss : List Sign) → verse_count id unnamed items ≡ 0 → leaves_of [] ss ≡ leaves_of (sung_words id unnamed items ss) ss
+unfolding sung_words
+leaves_unsung id unnamed items ss none =
+    rw none (leaves_alike [] _ 0 0 ss (no_words (music_rows id unnamed items (notes_from 0 ss)) (range_with_len 0 (event_count ss))))
 
 -- ---- a voice
 all_drawn : (first : InForce) (steps : Steps) → AllByRecursion IsDrawn (signs first [] steps)

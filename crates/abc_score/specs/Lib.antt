@@ -1,6 +1,7 @@
 pub mod Build
 pub mod Faults
 pub mod Framed
+pub mod Judged
 pub mod Order
 pub mod Score
 pub mod Voices

@@ -28,10 +28,10 @@ fn score_in(alloc: Global, header: &Header, items: &[Item], flow: bool) -> Resul
     ensures good { IfOk result IsGoodScore }
 {
     let voices = read_voices(alloc, header, items)?;
-    let fault = fault_of_score(alloc, unnamed_of(header), items, voices.as_slice())?;
-    match fault {
+    let judged = fault_of_score(alloc, unnamed_of(header), items, voices)?;
+    match judged.fault {
         Some(fault) => Err(TuneError::Fault(fault)),
-        None => Ok(score_with(alloc, header, items, flow, voices)?),
+        None => Ok(score_with(alloc, header, items, flow, judged.voices)?),
     }
 }
 

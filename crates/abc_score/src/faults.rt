@@ -1,67 +1,89 @@
 ghost use Rattle.std.specs.{Prelude.◌≡◌, Prelude.◌++◌, Prelude.[], Prelude.flat_map, Prelude.map, Prelude.IfOk, Prelude.OnOk, List.All};
 ghost use Rattle.abc_faults.specs.{First.first_of, First.IsFirst, Weights.capped};
-ghost use Rattle.abc_score.specs.{Voices.IsGoodRead, Faults.faults_of_voices, Faults.voice_faults, Faults.voice_weights, Order.DoWordsRise};
+ghost use Rattle.abc_score.specs.{Voices.IsGoodRead, Faults.faults_of_voices, Faults.voice_faults, Faults.voice_weights, Judged.{IsKept, HasKept, reads_of}, Order.DoWordsRise};
 
+use crate::keeping::{Judged, Kept, judge_voice};
 use crate::voices::VoiceRead;
-use abc_faults::{Weight, crowding, earlier, judge_voice};
+use abc_faults::{Weight, crowding, earlier};
 use abc_lines::Fault;
 use abc_steps::Item;
 use abc_words::verse_fault;
 use mus_units::{Memory, Row};
 use std::alloc::Global;
 
-/// The first fault of a voice by itself and of its verses. Puts its weights.
+/// Voices that are judged, and their first fault.
+#[derive(Drop)]
+pub struct Judgement {
+    pub fault: Option<Fault>,
+    pub voices: Row<Judged>,
+}
+
+/// The first fault of a voice by itself and of its verses, and its signs. Puts its weights.
 fn voice_fault(
     alloc: Global,
     weights: &mut Row<Weight>,
     unnamed: &[u8],
     items: &[Item],
     v: &VoiceRead,
-) -> Result<Option<Fault>, Memory>
+) -> Result<(Option<Fault>, Kept), Memory>
     requires good { IsGoodRead v.now }
     requires rise { DoWordsRise items.now }
-    ensures fault { IfOk result (λ f. f ≡ first_of (voice_faults unnamed.now items.now v.now)) }
+    ensures fault { IfOk result (λ r. r.0 ≡ first_of (voice_faults unnamed.now items.now v.now)) }
     ensures weights { OnOk result (weights.new ≡ weights.old ++ map capped (voice_weights v.now)) }
+    ensures kept { IfOk result (λ r. IsKept v.now r.1) }
 {
-    let own = judge_voice(alloc, weights, &v.first, v.steps.as_slice())?;
+    let (own, kept) = judge_voice(alloc, weights, v)?;
     let verses = verse_fault(alloc, v.start.id.as_slice(), unnamed, items)?;
-    Ok(earlier(own, verses))
+    Ok((earlier(own, verses), kept))
 }
 
-/// The first fault of voices by themselves and of their verses. Puts their weights.
-fn fault_of_voices(
+/// The first fault of voices by themselves and of their verses, and the voices with it. Puts their weights.
+fn judge_voices(
     alloc: Global,
     weights: &mut Row<Weight>,
     unnamed: &[u8],
     items: &[Item],
-    voices: &[VoiceRead],
-) -> Result<Option<Fault>, Memory>
-    requires good { All IsGoodRead voices.now }
+    voices: Row<VoiceRead>,
+) -> Result<Judgement, Memory>
+    requires good { All IsGoodRead voices }
     requires rise { DoWordsRise items.now }
-    ensures fault { IfOk result (λ f. f ≡ first_of (flat_map (voice_faults unnamed.now items.now) voices.now)) }
-    ensures weights { OnOk result (weights.new ≡ weights.old ++ map capped (flat_map voice_weights voices.now)) }
+    ensures fault { IfOk result (λ j. j.fault ≡ first_of (flat_map (voice_faults unnamed.now items.now) voices)) }
+    ensures weights { OnOk result (weights.new ≡ weights.old ++ map capped (flat_map voice_weights voices)) }
+    ensures reads { IfOk result (λ j. reads_of j.voices ≡ voices) }
+    ensures kept { IfOk result (λ j. All HasKept j.voices) }
 {
-    let mut found = None;
-    for v in voices {
-        found = earlier(found, voice_fault(alloc, weights, unnamed, items, v)?);
+    let mut fault = None;
+    let mut judged = Row::new(alloc);
+    for read in voices.items {
+        let (own, kept) = voice_fault(alloc, weights, unnamed, items, &read)?;
+        fault = earlier(fault, own);
+        judged.push(Judged { read, kept })?;
     }
-    Ok(found)
+    Ok(Judgement {
+        fault,
+        voices: judged,
+    })
 }
 
 /// The first fault of a score: of its voices, of their verses, or the place with which there are too many
-/// heads and rests. `unnamed` is the voice of what stands before any voice field.
+/// heads and rests; and the voices, judged. `unnamed` is the voice of what stands before any voice field.
 pub fn fault_of_score(
     alloc: Global,
     unnamed: &[u8],
     items: &[Item],
-    voices: &[VoiceRead],
-) -> Result<Option<Fault>, Memory>
-    requires good { All IsGoodRead voices.now }
+    voices: Row<VoiceRead>,
+) -> Result<Judgement, Memory>
+    requires good { All IsGoodRead voices }
     requires rise { DoWordsRise items.now }
-    ensures { IfOk result (λ f. IsFirst (faults_of_voices unnamed.now items.now voices.now) f) }
+    ensures fault { IfOk result (λ j. IsFirst (faults_of_voices unnamed.now items.now voices) j.fault) }
+    ensures reads { IfOk result (λ j. reads_of j.voices ≡ voices) }
+    ensures kept { IfOk result (λ j. All HasKept j.voices) }
 {
     let mut weights = Row::new(alloc);
-    let own = fault_of_voices(alloc, &mut weights, unnamed, items, voices)?;
+    let own = judge_voices(alloc, &mut weights, unnamed, items, voices)?;
     let crowd = crowding(alloc, weights)?;
-    Ok(earlier(own, crowd))
+    Ok(Judgement {
+        fault: earlier(own.fault, crowd),
+        voices: own.voices,
+    })
 }

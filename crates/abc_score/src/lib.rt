@@ -4,6 +4,7 @@
 
 pub mod building;
 pub mod faults;
+pub mod keeping;
 pub mod scores;
 pub mod sung;
 pub mod voices;

@@ -1,21 +1,41 @@
 ghost use Rattle.std.specs.{Prelude.ℕ, Prelude.◌≡◌, Prelude.◌≤◌, Prelude.length, Prelude.map, Prelude.IfOk, Prelude.None, List.All};
 ghost use Rattle.abc_header.specs.Headers.{HasGoodValues};
 ghost use Rattle.abc_items.specs.Voices.{unnamed_of};
-ghost use Rattle.abc_words.specs.Verses.{verse_fault};
-ghost use Rattle.abc_events.specs.Bars.{bars_of};
-ghost use Rattle.abc_score.specs.{Voices.read_ids, Voices.AreApart, Voices.IsGoodRead, Framed.IsFramed, Score.forced_of, Score.most_measures, Score.score_with, Score.voice_of, Score.written_measures};
+ghost use Rattle.abc_words.specs.Verses.{verse_count, verse_fault};
+ghost use Rattle.abc_events.specs.{Bars.bars_of, Leaves.leaves_of};
+ghost use Rattle.abc_score.specs.{declared.keeping.Judged.Judged, Judged.{IsKept, HasKept, reads_of}, Voices.read_ids, Voices.AreApart, Voices.IsGoodRead, Framed.IsFramed, Score.forced_of, Score.most_measures, Score.score_with, Score.sung_words, Score.voice_of, Score.written_measures};
 
+use crate::keeping::{Judged, Kept, signs_of_voice};
 use crate::sung::sung_words;
 use crate::voices::VoiceRead;
-use abc_events::{bars_of, forced_bars, measures_of, own_measures, signs};
+use abc_events::{Sign, bars_of, forced_bars, measures_of, own_measures};
 use abc_header::Header;
 use abc_items::unnamed_of;
 use abc_steps::Item;
 use abc_words::verse_count;
 use mus_score::{Measure, Score, Seat, Voice};
-use mus_units::{Bar, Memory, Row};
+use mus_units::{Bar, Memory, Row, Text};
 use std::alloc::Global;
 use std::cmp::max;
+
+/// The words of each written event of a voice of these signs, but no rows where it has no verses.
+#[tactic(auto, using(crate::proofs::Wholes::leaves_unsung))]
+fn words_where_sung(
+    alloc: Global,
+    unnamed: &[u8],
+    items: &[Item],
+    v: &VoiceRead,
+    verses: usize,
+    signs: &[Sign],
+) -> Result<Row<Row<Option<Text>>>, Memory>
+    requires { verses ≡ verse_count v.now.start.id unnamed.now items.now }
+    ensures { IfOk result (λ words. leaves_of words signs.now ≡ leaves_of (sung_words v.now.start.id unnamed.now items.now signs.now) signs.now) }
+{
+    if verses == 0 {
+        return Ok(Row::new(alloc));
+    }
+    sung_words(alloc, v.start.id.as_slice(), unnamed, items, signs)
+}
 
 /// The measures of a voice, one for each bar.
 #[tactic(auto, unfolding(crate::specs::Score::written_measures))]
@@ -25,12 +45,16 @@ fn written_measures(
     items: &[Item],
     bars: &[Bar],
     v: &VoiceRead,
+    verses: usize,
+    kept: Kept,
 ) -> Result<Row<Measure>, Memory>
-    requires { IsGoodRead v.now }
+    requires good { IsGoodRead v.now }
+    requires kept { IsKept v.now kept }
+    requires counted { verses ≡ verse_count v.now.start.id unnamed.now items.now }
     ensures { IfOk result (λ r. (n : ℕ) → bars.now ≡ bars_of v.now.steps n → r ≡ written_measures unnamed.now items.now n v.now) }
 {
-    let all = signs(alloc, &v.first, v.steps.as_slice())?;
-    let words = sung_words(alloc, v.start.id.as_slice(), unnamed, items, all.as_slice())?;
+    let all = signs_of_voice(alloc, v, kept)?;
+    let words = words_where_sung(alloc, unnamed, items, v, verses, all.as_slice())?;
     let measures = measures_of(alloc, all, words.as_slice(), bars)?;
     Ok(measures)
 }
@@ -42,15 +66,19 @@ fn voice_of(
     header: &Header,
     items: &[Item],
     n: u32,
-    v: VoiceRead,
+    judged: Judged,
 ) -> Result<Voice, Memory>
-    requires good { IsGoodRead v }
-    requires clear { verse_fault v.start.id (unnamed_of header.now) items.now ≡ None }
-    ensures { IfOk result (λ voice. voice ≡ voice_of header.now items.now n v) }
+    requires good { IsGoodRead judged.read }
+    requires kept { HasKept judged }
+    requires clear { verse_fault judged.read.start.id (unnamed_of header.now) items.now ≡ None }
+    ensures { IfOk result (λ voice. voice ≡ voice_of header.now items.now n judged.read) }
 {
+    let v = judged.read;
     let own = bars_of(alloc, v.steps.as_slice(), n)?;
-    let measures = written_measures(alloc, unnamed_of(header), items, own.bars.as_slice(), &v)?;
-    let verses = verse_count(alloc, v.start.id.as_slice(), unnamed_of(header), items)? as u8;
+    let bars = own.bars.as_slice();
+    let unnamed = unnamed_of(header);
+    let verses = verse_count(alloc, v.start.id.as_slice(), unnamed, items)?;
+    let measures = written_measures(alloc, unnamed, items, bars, &v, verses, judged.kept)?;
     let key = header.key.copy(alloc)?;
     Ok(Voice {
         id: v.start.id,
@@ -60,7 +88,7 @@ fn voice_of(
         key,
         meter: header.meter,
         stem: v.start.stem,
-        verses,
+        verses: verses as u8,
         first: own.first,
         measures,
     })
@@ -71,41 +99,42 @@ fn voices_with(
     header: &Header,
     items: &[Item],
     n: u32,
-    voices: Row<VoiceRead>,
+    voices: Row<Judged>,
 ) -> Result<Row<Voice>, Memory>
-    requires good { All IsGoodRead voices }
-    requires clear { All (λ v. verse_fault v.start.id (unnamed_of header.now) items.now ≡ None) voices }
-    ensures { IfOk result (λ r. r ≡ map (voice_of header.now items.now n) voices) }
+    requires good { All (λ (j : Judged). IsGoodRead j.read) voices }
+    requires kept { All HasKept voices }
+    requires clear { All (λ (j : Judged). verse_fault j.read.start.id (unnamed_of header.now) items.now ≡ None) voices }
+    ensures { IfOk result (λ r. r ≡ map (voice_of header.now items.now n) (reads_of voices)) }
 {
     let mut out = Row::new(alloc);
-    for v in voices.items {
-        out.push(voice_of(alloc, header, items, n, v)?)?;
+    for judged in voices.items {
+        out.push(voice_of(alloc, header, items, n, judged)?)?;
     }
     Ok(out)
 }
 
 /// How many measures the voice with most of them has.
-fn most_measures(voices: &[VoiceRead]) -> u64
-    requires { All IsGoodRead voices.now }
-    ensures { result ≡ most_measures voices.now }
+fn most_measures(voices: &[Judged]) -> u64
+    requires { All (λ (j : Judged). IsGoodRead j.read) voices.now }
+    ensures { result ≡ most_measures (reads_of voices.now) }
 {
     let mut most = 0;
-    for v in voices {
-        most = max(most, own_measures(v.steps.as_slice()));
+    for judged in voices {
+        most = max(most, own_measures(judged.read.steps.as_slice()));
     }
     most
 }
 
 /// The bars that line breaks in the first voice force.
-fn forced_of(alloc: Global, flow: bool, voices: &[VoiceRead], n: u32) -> Result<Row<u32>, Memory>
-    requires { All IsGoodRead voices.now }
-    ensures { IfOk result (λ r. r ≡ forced_of flow voices.now n) }
+fn forced_of(alloc: Global, flow: bool, voices: &[Judged], n: u32) -> Result<Row<u32>, Memory>
+    requires { All (λ (j : Judged). IsGoodRead j.read) voices.now }
+    ensures { IfOk result (λ r. r ≡ forced_of flow (reads_of voices.now) n) }
 {
     if flow {
         return Ok(Row::new(alloc));
     }
     match voices.split_first() {
-        Some((v, _)) => forced_bars(alloc, v.steps.as_slice(), n),
+        Some((judged, _)) => forced_bars(alloc, judged.read.steps.as_slice(), n),
         None => Ok(Row::new(alloc)),
     }
 }
@@ -117,12 +146,13 @@ fn joined(
     header: &Header,
     items: &[Item],
     flow: bool,
-    voices: Row<VoiceRead>,
+    voices: Row<Judged>,
 ) -> Result<Score, Memory>
-    requires good { All IsGoodRead voices }
-    requires clear { All (λ v. verse_fault v.start.id (unnamed_of header.now) items.now ≡ None) voices }
-    requires few { most_measures voices ≤ 2000 }
-    ensures { IfOk result (λ score. score ≡ score_with header.now items.now flow voices) }
+    requires good { All (λ (j : Judged). IsGoodRead j.read) voices }
+    requires kept { All HasKept voices }
+    requires clear { All (λ (j : Judged). verse_fault j.read.start.id (unnamed_of header.now) items.now ≡ None) voices }
+    requires few { most_measures (reads_of voices) ≤ 2000 }
+    ensures { IfOk result (λ score. score ≡ score_with header.now items.now flow (reads_of voices)) }
 {
     let n = most_measures(voices.as_slice()) as u32;
     let forced = forced_of(alloc, flow, voices.as_slice(), n)?;
@@ -140,15 +170,16 @@ pub fn score_with(
     header: &Header,
     items: &[Item],
     flow: bool,
-    voices: Row<VoiceRead>,
+    voices: Row<Judged>,
 ) -> Result<Score, Memory>
     requires header { HasGoodValues header.now }
-    requires good { All IsGoodRead voices }
-    requires clear { All (λ v. verse_fault v.start.id (unnamed_of header.now) items.now ≡ None) voices }
-    requires few { most_measures voices ≤ 2000 }
-    requires few_voices { length voices ≤ 16 }
-    requires apart { AreApart (read_ids voices) }
-    ensures value { IfOk result (λ score. score ≡ score_with header.now items.now flow voices) }
+    requires good { All IsGoodRead (reads_of voices) }
+    requires kept { All HasKept voices }
+    requires clear { All (λ v. verse_fault v.start.id (unnamed_of header.now) items.now ≡ None) (reads_of voices) }
+    requires few { most_measures (reads_of voices) ≤ 2000 }
+    requires few_voices { length (reads_of voices) ≤ 16 }
+    requires apart { AreApart (read_ids (reads_of voices)) }
+    ensures value { IfOk result (λ score. score ≡ score_with header.now items.now flow (reads_of voices)) }
     ensures framed { IfOk result IsFramed }
 {
     let score = joined(alloc, header, items, flow, voices)?;

@@ -1,6 +1,6 @@
 -- The written length of a note, a chord or a rest: its length times the unit and its broken factors.
-use Rattle.std.specs.Prelude.{ℕ, ◌*◌, ◌≤◌, ◌^◌, nat_le, true, false, if◌then◌else◌, Option, Some, None}
-use Rattle.mus_units.specs.declared.value.Frac.{Frac}
+use Rattle.std.specs.Prelude.{ℕ, ◌*◌, ◌≤◌, ◌^◌, List, nat_le, true, false, if◌then◌else◌, Option, Some, None}
+use Rattle.mus_units.specs.{declared.value.Frac.Frac, declared.value.Value.Value, Parts.parts_list}
 use Rattle.abc_steps.specs.{declared.step.Sound.Sound, declared.step.Stood.Stood, declared.step.Step.Step, Looks.Steps, Looks.broken_before, Looks.broken_behind}
 
 abbrev pub once : Frac
@@ -38,6 +38,11 @@ written_length unit s before behind =
     let left = left_factor (broken_behind behind) in
     let right = right_factor (broken_before before) in
     record { num = s.num * unit.num * (left.num * right.num); den = s.den * unit.den * (left.den * right.den) }
+
+-- the parts of what stands at a step: those of the length of a note, a chord or a rest, and none of any other step
+unfoldable pub parts_at : Frac → Steps → Step → Steps → Option (List Value)
+parts_at unit before (Step.Sound s) behind = let length = written_length unit s before behind in parts_list length.num length.den
+parts_at unit before _ behind = None
 
 -- Bounds: those of a factor, and those of a written length.
 pub record IsFactor (f : Frac) : Type 0 where

@@ -1,6 +1,6 @@
 ghost use Rattle.std.specs.{Prelude.{◌≡◌, ◌≤◌, ◌^◌, reverse, IfOk}, Option.option_copied};
 ghost use Rattle.mus_units.specs.{Good.IsGoodUnit, Parts.parts_list};
-ghost use Rattle.abc_steps.specs.{Good.IsGoodSound, Lengths.{long_side, short_side, left_side, right_side, left_factor, right_factor, written_length, IsFactor, IsLength}};
+ghost use Rattle.abc_steps.specs.{Good.IsGoodSound, Good.IsGoodStood, Lengths.{long_side, short_side, left_side, right_side, left_factor, right_factor, written_length, parts_at, IsFactor, IsLength}};
 
 use crate::kept::KeptSound;
 use crate::looks::{broken_before, broken_behind};
@@ -112,5 +112,26 @@ pub fn parts_in(alloc: Global, length: Frac) -> Result<Option<Few<Value>>, Memor
     match parts_of(alloc, length.num, length.den)? {
         Some(parts) => Ok(Some(Few::from(parts))),
         None => Ok(None),
+    }
+}
+
+/// The parts of what stands at a step: of the length of a note, a chord or a rest,
+/// and none of any other step.
+#[inline(always)]
+#[tactic(auto, unfolding(crate::specs::Lengths::parts_at))]
+pub fn parts_at(
+    alloc: Global,
+    unit: Frac,
+    before: &[Stood],
+    at: &Stood,
+    behind: &[Stood],
+) -> Result<Option<Few<Value>>, Memory>
+    requires unit { IsGoodUnit unit }
+    requires good { IsGoodStood at.now }
+    ensures { IfOk result (λ r. r ≡ parts_at unit (reverse before.now) at.now.step behind.now) }
+{
+    match &at.step {
+        Step::Sound(s) => parts_in(alloc, written_length(unit, s, before, behind)),
+        _ => Ok(None),
     }
 }

@@ -3,10 +3,10 @@ use Rattle.abc_faults.{specs.declared.weights.Weight.Weight, specs.First.IsFirst
 use Rattle.abc_score.specs.Faults.{voice_faults, voice_weights}
 use Rattle.abc_score.proofs.faults.fault_of_score.Goals as goal
 
-pub returns : goal.returns
-returns c =
-    let own = flat_map (voice_faults c.args.unnamed.now c.args.items.now) c.args.voices.now in
-    let weights = flat_map voice_weights c.args.voices.now in
+pub returns-clause-fault : goal.returns-clause-fault
+returns-clause-fault c =
+    let own = flat_map (voice_faults c.args.unnamed.now c.args.items.now) c.args.voices in
+    let weights = flat_map voice_weights c.args.voices in
     let of_own = subst (IsFirst own) (sym c.in_ok-own.ensures.fault) (first_is own) in
     let gathered = c.in_ok-own.ensures.weights ∙ ap (λ (ws : List Weight). ws ++ map capped weights) c.new-weights.ensures in
     let of_capped = subst (λ (ws : List Weight). IsFirst (crowded ws) c.in_ok-crowd.crowd) gathered c.in_ok-crowd.ensures.first in

@@ -9,6 +9,6 @@ returns-clause-fault c =
     let own = faults_in c.args.v.now.first [] c.args.v.now.steps in
     let verses = verse_faults c.args.v.now.start.id c.args.unnamed.now c.args.items.now in
     c.earlier.ensures.value
-    ∙ ap (λ z. earlier z c.in_ok-verses.verses) (c.in_ok-own.ensures.value ∙ ap (λ steps. first_of (faults_in c.args.v.now.first [] steps)) c.as_slice.ensures)
-    ∙ ap (earlier (first_of own)) (c.in_ok-verses.ensures ∙ ap (λ id. verse_fault id c.args.unnamed.now c.args.items.now) c.as_slice-2.ensures ∙ verse_first c.args.v.now.start.id c.args.unnamed.now c.args.items.now c.requires.rise)
+    ∙ ap (λ z. earlier z c.in_ok-verses.verses) c.in_ok-own.ensures.fault
+    ∙ ap (earlier (first_of own)) (c.in_ok-verses.ensures ∙ ap (λ id. verse_fault id c.args.unnamed.now c.args.items.now) c.as_slice.ensures ∙ verse_first c.args.v.now.start.id c.args.unnamed.now c.args.items.now c.requires.rise)
     ∙ sym (first_append own verses)
