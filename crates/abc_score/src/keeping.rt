@@ -31,7 +31,7 @@ pub struct Judged {
     pub kept: Kept,
 }
 
-/// Keeps the signs of a step, unless there are too many before it.
+/// Keeps the signs of a step. With too many before it none is kept any more.
 #[inline(always)]
 fn keep(
     alloc: Global,
@@ -50,7 +50,11 @@ fn keep(
     requires parts { parts ≡ parts_at now.now.force.unit (reverse before.now) at.now.step behind.now }
     ensures { OnOk result (kept.new.whole ≡ true → (kept.old.whole ≡ true) × (kept.new.signs ≡ kept.old.signs ++ signs_of now.now (reverse before.now) at.now behind.now at.now.step)) }
 {
+    if !kept.whole {
+        return Ok(());
+    }
     if kept.signs.len() >= MOST_KEPT {
+        kept.signs = Row::new(alloc);
         kept.whole = false;
         return Ok(());
     }
