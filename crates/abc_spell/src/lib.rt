@@ -1,5 +1,4 @@
-//! Tokens of a music line as text: each in its one plain spelling, with a
-//! backquote between two.
+//! Tokens of a music line as text: each in its one plain spelling, with a backquote between two.
 #![tactic(auto)]
 
 pub mod bar;

@@ -10,9 +10,8 @@ use abc_tokens::Token;
 use mus_units::{Memory, Text};
 use std::alloc::Global;
 
-/// The tokens in their plain spelling, a backquote between two. For tokens that
-/// some line reads as, reading that text where `!` is no line break gives them
-/// again.
+/// The tokens in their plain spelling, a backquote between two. For tokens that some line reads as,
+/// reading that text where `!` is no line break gives them again.
 pub fn spell(alloc: Global, tokens: &[Token]) -> Result<Text, Memory>
     ensures text { IfOk result (λ text. text ≡ plain_text tokens.now) }
     ensures again { IsReadable tokens.now → IfOk result (λ text. ReadsAs false text tokens.now) }

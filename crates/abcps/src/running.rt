@@ -149,10 +149,9 @@ pub fn never_both()
 /// Does what the words say. `set` reads a book of at most 8,388,608 bytes and writes its document;
 /// `systems` reads the same, and writes its systems, or the listing of its spans; `inspect` reads a
 /// document of at most 268,435,456 bytes and writes all that it shows; `check` reads a listing of as
-/// many, and writes the verdict on each of its tunes; `make` writes a generated book, and `trial`
-/// sets one and writes a line on it; `paint` reads any bytes, as many as a document may have, runs
-/// them on the machine, and writes what they paint; `hear` reads a document, and writes what its tunes
-/// sound.
+/// many, and writes the verdict on each of its tunes; `make` writes a generated book, and `trial` sets
+/// one and writes a line on it; `paint` reads any bytes, as many as a document may have, runs them on
+/// the machine, and writes what they paint; `hear` reads a document, and writes what its tunes sound.
 ///
 /// `set` reads its book whole, and then writes pages as they fill, before the tunes behind them are
 /// set; it tells faults once the document is written. Where a write fails or memory runs out while

@@ -29,8 +29,7 @@ pub enum Command {
         by: i8,
         even: bool,
     },
-    /// Read a book, and write its systems: with `table` as a listing, and -12 to 12
-    /// half steps higher.
+    /// Read a book, and write its systems: with `table` as a listing, and -12 to 12 half steps higher.
     Systems {
         flow: bool,
         table: bool,
@@ -232,8 +231,7 @@ fn take_front(words: &[String]) -> Option<(Command, &[String])>
     }
 }
 
-/// The command that the words ask for; `None` exactly where they ask for none. Takes
-/// no memory.
+/// The command that the words ask for; `None` exactly where they ask for none. Takes no memory.
 pub fn command_of(words: &[String]) -> Option<Command>
     ensures asks { IfSome result (λ c. Asks (map string_bytes words.now) c) }
     ensures ranges { IfSome result IsGoodCommand }

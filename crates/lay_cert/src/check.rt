@@ -49,9 +49,8 @@ impl From<Memory> for CertError {
 
 /// One verdict for each tune of a listing, in its order.
 ///
-/// Each sum is recomputed from the listed spans, and none is trusted. A last
-/// piece without a line feed is a line that isn't good. It takes one step for
-/// each line, and `least` once for each tune.
+/// Each sum is recomputed from the listed spans, and none is trusted. A last piece without a line feed
+/// is a line that isn't good. It takes one step for each line, and `least` once for each tune.
 pub fn check_listing(alloc: Global, bytes: &[u8]) -> Result<Row<Judged>, CertError>
     ensures judged { IfOk result (IsJudged bytes.now) }
     ensures cause { IfErr result (IsCause bytes.now) }

@@ -1,6 +1,5 @@
-//! Documents, written to a sink in steps that own the writer: `begin`, `page`
-//! for each page or `pages` for several, `finish`; and `write_document`, which
-//! takes these steps for a sheet.
+//! Documents, written to a sink in steps that own the writer: `begin`, `page` for each page or `pages`
+//! for several, `finish`; and `write_document`, which takes these steps for a sheet.
 #![tactic(auto)]
 
 pub mod batches;

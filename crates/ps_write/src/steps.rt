@@ -12,8 +12,7 @@ use thiserror::Error;
 /// Why a document was not written to its end.
 #[derive(Clone, Copy, Debug, PartialEq, Eq, Error)]
 pub enum DocError {
-    /// The sink failed, and exactly the first `written` bytes of the call's text
-    /// went out.
+    /// The sink failed, and exactly the first `written` bytes of the call's text went out.
     #[error("a document was cut off")]
     Write(WriteError),
     /// Memory ran out; the sink has a front of the call's text.
@@ -36,8 +35,7 @@ pub struct DocWriter {
     pub written: u64,
 }
 
-/// Writes a piece after `before` bytes of a document, and tells how many bytes
-/// of it there are then.
+/// Writes a piece after `before` bytes of a document, and tells how many bytes of it there are then.
 pub(crate) fn send<O: Sink>(sink: &mut O, piece: &[u8], before: u64) -> Result<u64, DocError>
     ensures wrote { Wrote (O.taken sink.old) (O.taken sink.new) piece.now result }
     ensures counts { Counted (O.faults sink.old) (O.faults sink.new) result }
@@ -53,9 +51,8 @@ pub(crate) fn send<O: Sink>(sink: &mut O, piece: &[u8], before: u64) -> Result<u
     }
 }
 
-/// Writes the prolog of a document, up to and with the line `%%EndProlog`. Write
-/// comes only where the sink's count of faults rose, Ok only where it didn't and
-/// the whole text went out.
+/// Writes the prolog of a document, up to and with the line `%%EndProlog`. Write comes only where the
+/// sink's count of faults rose, Ok only where it didn't and the whole text went out.
 pub fn begin<O: Sink>(alloc: Global, frame: &Frame, sink: &mut O) -> Result<DocWriter, DocError>
     requires { IsFrame frame.now }
     ensures wrote { Wrote (O.taken sink.old) (O.taken sink.new) (prolog frame.now) result }

@@ -7,8 +7,7 @@ use eng_io::{Sink, WriteError};
 use ps_text::Sheet;
 use std::alloc::Global;
 
-/// An error of a step that began after `before` bytes, told for the whole
-/// document.
+/// An error of a step that began after `before` bytes, told for the whole document.
 fn counted_from(before: u64, e: DocError) -> DocError
     requires { FitsError before e }
     ensures { result ≡ counted_from before e }

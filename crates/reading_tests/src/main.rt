@@ -1,9 +1,8 @@
-//! Runs the calls that read a book up to its tokens, fields, headers and paper, and those on
-//! values, pitches and keys that they stand on; then those that make a score and those that ask of
-//! one: its events with their durations and onsets, the keys of columns, slurs and ties, syllables
-//! on notes, the score moved. Each line of the tables in its folder is a case: a call, an argument,
-//! and an input, which for a score is mostly a book of one tune. It is written again with the
-//! call's value below it.
+//! Runs the calls that read a book up to its tokens, fields, headers and paper, and those on values,
+//! pitches and keys that they stand on; then those that make a score and those that ask of one: its
+//! events with their durations and onsets, the keys of columns, slurs and ties, syllables on notes, the
+//! score moved. Each line of the tables in its folder is a case: a call, an argument, and an input,
+//! which for a score is mostly a book of one tune. It is written again with the call's value below it.
 #![tactic(auto)]
 
 mod arcs;
