@@ -8,6 +8,7 @@ use crate::bytes::digits_off;
 use crate::part::Len;
 
 /// A length at the front, which may be empty, and what follows.
+#[inline(always)]
 #[tactic(auto, unfolding(crate::specs::Lengths::length_at))]
 pub fn length_at(bytes: &[u8]) -> (Len, &[u8])
     ensures { let read = length_at bytes.now in length_read result.0 result.1.now ≡ length_read (len_of read.0) read.1 }
